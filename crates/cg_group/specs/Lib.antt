@@ -1,0 +1,5 @@
+pub mod Reasons
+pub mod State
+pub mod Ready
+pub mod Events
+pub mod Refusals

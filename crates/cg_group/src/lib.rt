@@ -1,0 +1,12 @@
+//! The group layer: configurations, ordered messages, deliveries, partitions and merges.
+#![tactic(auto)]
+
+mod delivery;
+mod error;
+mod phase;
+mod reason;
+
+pub use delivery::{Delivery, DeliveryList, Handed, HandedList};
+pub use error::GroupErr;
+pub use phase::Phase;
+pub use reason::Reason;

@@ -1,0 +1,91 @@
+ghost use Rattle.std.specs.Prelude.{◌≡◌};
+ghost use Rattle.cg_group.specs.Reasons.{reason_number, reason_value};
+
+use cg_base::ReplicaId;
+
+/// Why an event isn't admitted. Whoever asks for the event tests some of them, and the group the others.
+#[derive(Clone, Copy, Debug, PartialEq, Eq)]
+pub enum Reason {
+    /// The replica isn't up.
+    NotUp(ReplicaId),
+    /// The replica isn't regular in a configuration.
+    NotRegular(ReplicaId),
+    /// The replica has no message without a place.
+    NothingToOrder(ReplicaId),
+    /// The configuration has no such place.
+    NoSuchPlace(u64),
+    /// The replica has received the place before.
+    AlreadyReceived(u64),
+    /// Fewer places are ready than are to be delivered: so many.
+    NotReady(u64),
+    /// The lowest replica that isn't in the configuration of the lowest one named.
+    NotOneConfiguration(ReplicaId),
+    /// The lowest replica that must be named and isn't.
+    NotTogether(ReplicaId),
+    /// No replica is named.
+    EmptySet,
+    /// The replica is up, or has begun, already.
+    AlreadyUp(ReplicaId),
+    /// The replica hasn't begun, or no event has named it.
+    UnknownReplica(ReplicaId),
+    /// An event has named the identifier before.
+    IdUsed(ReplicaId),
+    /// The joiner is no server yet.
+    JoinNotGreen(ReplicaId),
+    /// The replica has left for good.
+    HasLeft(ReplicaId),
+    /// The replica lacks an earlier place of the same sender: the earliest.
+    EarlierMissing(u64),
+    /// The replica is regular in a configuration.
+    StillRegular(ReplicaId),
+}
+
+impl Reason {
+    /// The number that is printed for the reason.
+    pub fn number(&self) -> u8
+        ensures { result ≡ reason_number self.now }
+    {
+        match self {
+            Reason::NotUp(_) => 1,
+            Reason::NotRegular(_) => 2,
+            Reason::NothingToOrder(_) => 3,
+            Reason::NoSuchPlace(_) => 4,
+            Reason::AlreadyReceived(_) => 5,
+            Reason::NotReady(_) => 6,
+            Reason::NotOneConfiguration(_) => 7,
+            Reason::NotTogether(_) => 8,
+            Reason::EmptySet => 9,
+            Reason::AlreadyUp(_) => 10,
+            Reason::UnknownReplica(_) => 11,
+            Reason::IdUsed(_) => 12,
+            Reason::JoinNotGreen(_) => 13,
+            Reason::HasLeft(_) => 14,
+            Reason::EarlierMissing(_) => 15,
+            Reason::StillRegular(_) => 16,
+        }
+    }
+
+    /// The value that is printed behind the number, where there is one.
+    pub fn value(&self) -> Option<u64>
+        ensures { result ≡ reason_value self.now }
+    {
+        match self {
+            Reason::NotUp(id)
+            | Reason::NotRegular(id)
+            | Reason::NothingToOrder(id)
+            | Reason::NotOneConfiguration(id)
+            | Reason::NotTogether(id)
+            | Reason::AlreadyUp(id)
+            | Reason::UnknownReplica(id)
+            | Reason::IdUsed(id)
+            | Reason::JoinNotGreen(id)
+            | Reason::HasLeft(id)
+            | Reason::StillRegular(id) => Some(u64::from(id.get())),
+            Reason::NoSuchPlace(n)
+            | Reason::AlreadyReceived(n)
+            | Reason::NotReady(n)
+            | Reason::EarlierMissing(n) => Some(*n),
+            Reason::EmptySet => None,
+        }
+    }
+}
