@@ -1,0 +1,7 @@
+pub mod Agreement
+pub mod EntryText
+pub mod LineText
+pub mod Number
+pub mod Replica
+pub mod Schedule
+pub mod World

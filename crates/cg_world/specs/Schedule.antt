@@ -1,0 +1,77 @@
+-- The small form of a schedule's lines.
+use Rattle.std.specs.Prelude.{ℕ, ◌==◌, nat_lt, Bool, true, false, ◌||◌, ◌&&◌, not, if◌then◌else◌, List, [], ◌∷◌, codes, Option, Some, None}
+use Rattle.std.specs.Str.{bytes_eq}
+use Rattle.cg_base.specs.Text.{pieces_of}
+use Rattle.cg_base.specs.Sets.{with_member}
+use Rattle.cg_base.specs.Weights.{each_once}
+use Rattle.cg_world.specs.Number.{number_up_to}
+use Rattle.cg_world.specs.declared.event.Event.{Event}
+use Rattle.cg_world.specs.declared.event.Event.TheVariants.{Start, End}
+use Rattle.cg_world.specs.declared.event.Reading.{Reading}
+use Rattle.cg_world.specs.declared.event.Reading.TheVariants as reading
+use Rattle.cg_world.specs.declared.event.Place.{Place}
+
+-- the place of the first line
+abbrev pub first_place : Place
+first_place = record { started = false; ended = false }
+
+-- the event ends the schedule
+abbrev pub is_end : Event → Bool
+is_end (Start set) = false
+is_end End = true
+
+-- the place behind a line with that event
+abbrev pub place_after : Place → Event → Place
+place_after place (Start set) = record place { started = true }
+place_after place End = record place { ended = true }
+
+abbrev pub is_built : List ℕ → Bool
+is_built word = bytes_eq word (codes "start") || bytes_eq word (codes "end")
+
+-- the words of events that aren't there yet
+abbrev pub is_unbuilt : List ℕ → Bool
+is_unbuilt word =
+    bytes_eq word (codes "split") || bytes_eq word (codes "merge") || bytes_eq word (codes "request") || bytes_eq word (codes "weak")
+    || bytes_eq word (codes "dirty") || bytes_eq word (codes "order") || bytes_eq word (codes "recover") || bytes_eq word (codes "show")
+    || bytes_eq word (codes "gather") || bytes_eq word (codes "receive") || bytes_eq word (codes "deliver") || bytes_eq word (codes "rounds")
+    || bytes_eq word (codes "stop") || bytes_eq word (codes "fail") || bytes_eq word (codes "join") || bytes_eq word (codes "leave")
+    || bytes_eq word (codes "transfer")
+
+-- the first event is `start`, no later one is, and nothing follows `end`
+abbrev pub is_misplaced : Place → List ℕ → Bool
+is_misplaced place word = place.ended || same_test (bytes_eq word (codes "start")) place.started where
+  same_test : Bool → Bool → Bool
+  same_test true b = b
+  same_test false b = not b
+
+-- what comes of a token that may spell a number
+abbrev pub if_number : {A B : Type 0} → Option A → B → (A → B) → B
+if_number None otherwise more = otherwise
+if_number (Some n) otherwise more = more n
+
+-- identifiers, each above the one before, put into the set
+abbrev pub ids_of : ℕ → List ℕ → List (List ℕ) → Option (List ℕ)
+ids_of last set [] = Some set
+ids_of last set (token ∷ tokens) =
+    if_number (number_up_to 32 token) None (λ n. if nat_lt last n then ids_of n (with_member set n) tokens else None)
+
+abbrev pub end_of : List (List ℕ) → Reading
+end_of [] = reading.Event End
+end_of (token ∷ tokens) = reading.Malformed
+
+-- what stands behind the word of a built event
+abbrev pub event_of : List ℕ → List (List ℕ) → Reading
+event_of word tokens =
+    if bytes_eq word (codes "start") then if_number (ids_of 0 [] tokens) reading.Malformed (λ set. reading.Event (Start (each_once set)))
+    else end_of tokens
+
+abbrev pub reading_at : Place → List (List ℕ) → Reading
+reading_at place [] = reading.Malformed
+reading_at place (word ∷ tokens) =
+    if (not (is_unbuilt word) && not (is_built word)) || is_misplaced place word then reading.Malformed
+    else if is_unbuilt word then reading.Unsupported
+    else event_of word tokens
+
+-- what a line is, at its place
+abbrev pub reading_of : Place → List ℕ → Reading
+reading_of place line = reading_at place (pieces_of 32 line)

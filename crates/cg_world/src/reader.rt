@@ -1,0 +1,93 @@
+ghost use Rattle.std.specs.Prelude.{◌≡◌, ◌||◌, ◌&&◌, not, []};
+ghost use Rattle.std.specs.Str.{bytes_eq};
+ghost use Rattle.cg_base.specs.Text.{pieces_of};
+ghost use Rattle.cg_world.specs.Schedule.{is_unbuilt, is_built, is_misplaced, ids_of, event_of, reading_of};
+
+use crate::number::read_number;
+use crate::{Event, Place, Reading};
+use cg_base::{IdSet, Pieces, ReplicaId, WeightSet};
+
+fn is_built_word(word: &[u8]) -> bool
+    ensures { result ≡ is_built word.now }
+{
+    word == b"start".as_slice() || word == b"end".as_slice()
+}
+
+fn is_unbuilt_word(word: &[u8]) -> bool
+    ensures { result ≡ is_unbuilt word.now }
+{
+    word == b"split".as_slice()
+        || word == b"merge".as_slice()
+        || word == b"request".as_slice()
+        || word == b"weak".as_slice()
+        || word == b"dirty".as_slice()
+        || word == b"order".as_slice()
+        || word == b"recover".as_slice()
+        || word == b"show".as_slice()
+        || word == b"gather".as_slice()
+        || word == b"receive".as_slice()
+        || word == b"deliver".as_slice()
+        || word == b"rounds".as_slice()
+        || word == b"stop".as_slice()
+        || word == b"fail".as_slice()
+        || word == b"join".as_slice()
+        || word == b"leave".as_slice()
+        || word == b"transfer".as_slice()
+}
+
+fn is_misplaced_word(place: &Place, word: &[u8]) -> bool
+    ensures { result ≡ is_misplaced place.now word.now }
+{
+    place.ended || (word == b"start".as_slice()) == place.started
+}
+
+// identifiers, ascending
+fn read_ids(words: &mut Pieces) -> Option<IdSet>
+    ensures { result ≡ ids_of 0 [] words.old }
+{
+    let mut set = IdSet::empty();
+    let mut last = 0u64;
+    while let Some(word) = words.next() {
+        let number = read_number(word, 32)?;
+        if number <= last {
+            return None;
+        }
+        set.add(ReplicaId::known(number as u8));
+        last = number;
+    }
+    Some(set)
+}
+
+// what stands behind the word of a built event
+fn read_event(word: &[u8], words: &mut Pieces) -> Reading
+    ensures { result ≡ event_of word.now words.old }
+{
+    if word == b"start".as_slice() {
+        return match read_ids(words) {
+            Some(set) => Reading::Event(Event::Start(WeightSet::of(&set))),
+            None => Reading::Malformed,
+        };
+    }
+    match words.next() {
+        Some(_) => Reading::Malformed,
+        None => Reading::Event(Event::End),
+    }
+}
+
+/// What a line is, without its end, at its place in the schedule.
+pub fn read_line(place: &Place, line: &[u8]) -> Reading
+    ensures { result ≡ reading_of place.now line.now }
+{
+    let mut words = Pieces::new(line, b' ');
+    let Some(word) = words.next() else {
+        return Reading::Malformed;
+    };
+    let is_unbuilt = is_unbuilt_word(word);
+    if (!is_unbuilt && !is_built_word(word)) || is_misplaced_word(place, word) {
+        return Reading::Malformed;
+    }
+    if is_unbuilt {
+        return Reading::Unsupported;
+    }
+    read_event(word, &mut words)
+}

@@ -1,0 +1,5 @@
+pub mod GoingOn
+pub mod Happening
+pub mod Lines
+pub mod RunFacts
+pub mod TakeLemmas

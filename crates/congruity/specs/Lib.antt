@@ -1,0 +1,5 @@
+pub mod Outcome
+pub mod Produced
+pub mod Putting
+pub mod Status
+pub mod Taking

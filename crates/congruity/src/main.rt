@@ -1,0 +1,58 @@
+//! The program: replays a schedule on its replicas, and reports what each step shows.
+//!
+//! `run` is the top call. What it puts and how it ends is `outcome` of its words, of the bytes taken and of how the
+//! taking ended (specs/Outcome.antt), and that outcome's steps are a run of the world. `main` makes the adapters over
+//! the standard input and output.
+#![tactic(auto)]
+
+mod arg_text;
+mod progress;
+mod putting;
+mod replay;
+mod run;
+mod status;
+mod steps;
+mod tail;
+mod taking;
+
+use arg_text::ArgText;
+use cg_base::{Bytes, NoMemory};
+use cg_io::{StdSink, StdSource};
+use run::run;
+use std::alloc::Global;
+use std::process::ExitCode;
+use std::{env, io};
+
+fn word_of(alloc: Global, text: &str) -> Result<ArgText, NoMemory> {
+    let bytes = Vec::from_slice(alloc, text.as_bytes())?;
+    Ok(ArgText::new(Bytes::from_vec(bytes)))
+}
+
+// The words behind the program's name. Where the system gives them as no texts, one word that is no command stands for
+// them all.
+fn words_of(rt: &(impl env::Env + AllocGlobal)) -> Result<Vec<ArgText>, NoMemory> {
+    let mut words = Vec::new(rt.alloc());
+    let Ok(args) = env::args(rt) else {
+        let mut bytes = Bytes::new(rt.alloc());
+        bytes.push(0xFF)?;
+        words.push(ArgText::new(bytes))?;
+        return Ok(words);
+    };
+    for arg in args.skip(1) {
+        words.push(word_of(rt.alloc(), arg.as_str())?)?;
+    }
+    Ok(words)
+}
+
+fn main(rt: HostRuntime) -> ExitCode {
+    let Ok(words) = words_of(&rt) else {
+        return ExitCode::from(7);
+    };
+    let mut input = StdSource::new(rt.reader());
+    let mut output = StdSink::new(io::writer(&rt));
+    let status = run(rt.alloc(), &words, &mut input, &mut output);
+    ExitCode::from(status.number())
+}
+
+#[cfg(test)]
+mod tests;

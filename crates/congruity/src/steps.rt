@@ -1,0 +1,82 @@
+ghost use Rattle.std.specs.Prelude.{◌≡◌, ◌<◌, ◌^◌, MatchResult, Ok, Err};
+ghost use Rattle.cg_world.specs.World.{Moved};
+ghost use Rattle.congruity.specs.Produced.{stepped, happened};
+ghost use Rattle.congruity.specs.Putting.{Performs};
+
+use crate::progress::Progress;
+use crate::putting::{finish, put_step};
+use crate::status::{Limit, Status};
+use cg_io::Sink;
+use cg_world::{Entry, Event, Place, Stepped, World};
+use std::alloc::Global;
+
+// The step of an event that was admitted, from the place and the count before it to this world.
+fn count_step<K: Sink>(
+    alloc: Global,
+    output: &mut K,
+    line: u64,
+    event: &Event,
+    world: World,
+    entry: Entry,
+    place: Place,
+    count: u64,
+) -> Result<Progress, Status>
+    requires { K.faults output.old < 2 ^ 62 }
+    ensures { (s : Progress) → s.place ≡ place → s.count ≡ count → Performs (stepped line event.now (record { entry = entry; world = world }) s)
+        (K.held output.old) (K.held output.new) (K.faults output.old) (K.faults output.new) result }
+{
+    if count >= 2_000_000 {
+        let status = Status::Limit {
+            line,
+            what: Limit::Steps,
+        };
+        return Err(finish(alloc, output, status, count, line));
+    }
+    match put_step(alloc, output, count + 1, &entry) {
+        Ok(()) => Ok(Progress {
+            world,
+            place: place.after(event),
+            count: count + 1,
+        }),
+        Err(status) => Err(status),
+    }
+}
+
+/// The event of a line happens.
+pub fn perform<K: Sink>(
+    alloc: Global,
+    output: &mut K,
+    line: u64,
+    event: &Event,
+    progress: Progress,
+) -> Result<Progress, Status>
+    requires { K.faults output.old < 2 ^ 62 }
+    ensures { Performs (happened line event.now progress)
+        (K.held output.old) (K.held output.new) (K.faults output.old) (K.faults output.new) result }
+{
+    let Progress {
+        world,
+        place,
+        count,
+    } = progress;
+    if event.is_end() {
+        return Ok(Progress {
+            world,
+            place: place.after(event),
+            count,
+        });
+    }
+    match world.step(alloc, event) {
+        Stepped::Done { world, entry } => {
+            count_step(alloc, output, line, event, world, entry, place, count)
+        }
+        Stepped::Refused {
+            world: _same,
+            reason,
+        } => {
+            let status = Status::Refused { line, reason };
+            Err(finish(alloc, output, status, count, line))
+        }
+        Stepped::NoMemory => Err(Status::NoMemory),
+    }
+}

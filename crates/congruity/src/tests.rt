@@ -1,0 +1,120 @@
+use crate::arg_text::ArgText;
+use crate::run::run;
+use crate::status::{Limit, Status};
+use cg_base::Bytes;
+use cg_group::Reason;
+use cg_io::{MemSink, MemSource};
+use std::alloc::{AllocError, Global};
+use std::test::Fail;
+
+// The status of a run, and what it put.
+fn run_on(
+    alloc: Global,
+    words: &[&str],
+    input: &[u8],
+    takes: &[u64],
+    puts: &[u64],
+) -> Result<(Status, Vec<u8>), AllocError> {
+    let mut args = Vec::new(alloc);
+    for word in words {
+        let bytes = word.as_bytes().to_vec(alloc)?;
+        args.push(ArgText::new(Bytes::from_vec(bytes)))?;
+    }
+    let mut source = MemSource::new(input.to_vec(alloc)?, takes.to_vec(alloc)?);
+    let mut sink = MemSink::new(alloc, puts.to_vec(alloc)?);
+    let status = run(alloc, &args, &mut source, &mut sink);
+    Ok((status, sink.bytes().to_vec(alloc)?))
+}
+
+#[test]
+fn small_inputs_have_their_findings(rt: HostRuntime) -> Result<(), Fail> {
+    let table = [
+        ("", "no end 0\n", Status::NoEnd { lines: 0 }),
+        ("end\n", "syntax 1 0\n", Status::Syntax { line: 1, reason: 0 }),
+        ("start\n", "refused 1 9\n", Status::Refused { line: 1, reason: Reason::EmptySet }),
+        ("start 2 1\n", "syntax 1 0\n", Status::Syntax { line: 1, reason: 0 }),
+        ("start 33\n", "syntax 1 0\n", Status::Syntax { line: 1, reason: 0 }),
+        ("start 1  2\n", "syntax 1 0\n", Status::Syntax { line: 1, reason: 0 }),
+        ("start 1", "syntax 1 0\n", Status::Syntax { line: 1, reason: 0 }),
+        ("transfer 1\n", "syntax 1 0\n", Status::Syntax { line: 1, reason: 0 }),
+    ];
+    for (input, text, wanted) in table {
+        let (status, put) = run_on(rt.alloc(), &["replay"], input.as_bytes(), &[], &[])?;
+        assert_eq!(rt; status, wanted, "after {input:?}");
+        assert_eq!(rt; put.as_slice(), text.as_bytes(), "after {input:?}");
+    }
+    Ok(())
+}
+
+#[test]
+fn what_stood_before_a_finding_stays_put(rt: HostRuntime) -> Result<(), Fail> {
+    let line = "1 NonPrim - g0 w0 p0@0{1} a0 v- y- r[] o[] x{} b0\n";
+    let table = [
+        ("start 1\n", "no end 1\n"),
+        ("start 1\nend\n", "end 1\n"),
+        ("start 1\nend\nend\n", "syntax 3 0\n"),
+        ("start 1\nstart 1\n", "syntax 2 0\n"),
+        ("start 1\nmerge 1\n", "unsupported 2\n"),
+        ("start 1\nweak 1 get \"x\n", "unsupported 2\n"),
+        ("start 1\nStart\n", "syntax 2 0\n"),
+    ];
+    for (input, tail) in table {
+        let (_, put) = run_on(rt.alloc(), &["replay"], input.as_bytes(), &[], &[])?;
+        let text = format!(in rt.alloc(); "= 1\n{line}{tail}")?;
+        assert_eq!(rt; put.as_slice(), text.as_bytes(), "after {input:?}");
+    }
+    Ok(())
+}
+
+#[test]
+fn words_that_are_no_command_put_the_usage_line(rt: HostRuntime) -> Result<(), Fail> {
+    for words in [[].as_slice(), ["replay", "now"].as_slice(), ["Replay"].as_slice(), ["help"].as_slice()] {
+        let (status, put) = run_on(rt.alloc(), words, b"start 1\nend\n", &[], &[])?;
+        assert_eq!(rt; status, Status::Usage);
+        assert_eq!(rt; put.as_slice(), b"usage: congruity replay\n".as_slice());
+    }
+    Ok(())
+}
+
+#[test]
+fn a_failed_take_is_told_behind_the_lines_taken(rt: HostRuntime) -> Result<(), Fail> {
+    let (status, put) = run_on(rt.alloc(), &["replay"], b"start 1\nend\n", &[1], &[])?;
+    assert_eq!(rt; status, Status::ReadFault);
+    assert_eq!(rt; put.as_slice(), b"read fault 0\n".as_slice());
+    let (status, put) = run_on(rt.alloc(), &["replay"], b"start 1\nend\n", &[2], &[])?;
+    assert_eq!(rt; status, Status::ReadFault);
+    assert!(rt; put.as_slice().ends_with(b"\nread fault 2\n"));
+    Ok(())
+}
+
+#[test]
+fn a_failed_put_ends_the_run_with_what_was_put_before(rt: HostRuntime) -> Result<(), Fail> {
+    let (status, put) = run_on(rt.alloc(), &["replay"], b"start 1\nend\n", &[], &[1])?;
+    assert_eq!(rt; status, Status::WriteFault);
+    assert_eq!(rt; put.as_slice(), b"".as_slice());
+    let (status, put) = run_on(rt.alloc(), &["replay"], b"start 1\nend\n", &[], &[2])?;
+    assert_eq!(rt; status, Status::WriteFault);
+    assert!(rt; put.as_slice().starts_with(b"= 1\n1 NonPrim"));
+    assert!(rt; put.as_slice().ends_with(b"b0\n"));
+    Ok(())
+}
+
+// So many bytes of one kind, and then a line feed.
+fn line_of(alloc: Global, byte: u8, count: usize) -> Result<Vec<u8>, AllocError> {
+    let mut line = vec![in alloc; byte; count]?;
+    line.push(b'\n')?;
+    Ok(line)
+}
+
+#[test]
+fn each_limit_comes_one_byte_past_it(rt: HostRuntime) -> Result<(), Fail> {
+    let alloc = rt.alloc();
+    let longest = line_of(alloc, b'a', 32_768)?;
+    let (status, _) = run_on(alloc, &["replay"], &longest, &[], &[])?;
+    assert_eq!(rt; status, Status::Syntax { line: 1, reason: 0 });
+    let longer = line_of(alloc, b'a', 32_769)?;
+    let (status, put) = run_on(alloc, &["replay"], &longer, &[], &[])?;
+    assert_eq!(rt; status, Status::Limit { line: 1, what: Limit::Line });
+    assert_eq!(rt; put.as_slice(), b"limit 1 line\n".as_slice());
+    Ok(())
+}
