@@ -125,8 +125,8 @@ impl WeightSet {
         ensures { result ≡ total self.now }
     {
         let mut sum = 0;
-        for m in self.iter() {
-            sum += u32::from(m.weight);
+        for weight in self.weights.iter() {
+            sum += u32::from(*weight);
         }
         sum
     }
@@ -136,9 +136,9 @@ impl WeightSet {
         ensures { result ≡ total_of self.now present.now }
     {
         let mut sum = 0;
-        for m in self.iter() {
-            if present.contains(m.id) {
-                sum += u32::from(m.weight);
+        for (place, weight) in self.weights.iter().enumerate() {
+            if present.contains(ReplicaId::known(place as u8 + 1)) {
+                sum += u32::from(*weight);
             }
         }
         sum
@@ -148,18 +148,21 @@ impl WeightSet {
 /// The members of a set with their weights, ascending.
 #[derive(Clone, Copy, Debug)]
 pub struct Weights {
-    set: WeightSet,
+    weights: [u8; 32],
     left: IdSet,
 }
 
 impl WeightSet {
     ghost use Rattle.cg_base.specs.Iterators.{weights_left};
+    ghost use Rattle.cg_base.specs.Weights.{IsWeightSet};
 
+    /// The members with their weights, ascending.
     pub fn iter(&self) -> Weights
-        ensures { weights_left result ≡ self.now }
+        ensures items { weights_left result ≡ self.now }
+        ensures set { IsWeightSet self.now }
     {
         Weights {
-            set: *self,
+            weights: self.weights,
             left: self.ids(),
         }
     }
@@ -176,11 +179,10 @@ impl Iterator for Weights {
     ghost remaining = { item_count weights_left };
 
     fn next(&mut self) -> Option<Weighted> {
-        let id = self.left.least()?;
-        self.left.remove(id);
+        let id = self.left.take_least()?;
         Some(Weighted {
             id,
-            weight: self.set.weight(id),
+            weight: self.weights[usize::from(id.get() - 1)],
         })
     }
 }
