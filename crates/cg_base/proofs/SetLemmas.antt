@@ -1,5 +1,5 @@
 -- What is in a set that is made from others, and that it is a set.
-use Rattle.std.proofs.Common.{◌≡◌, ℕ, zero, suc, ◌+◌, ◌-◌, ◌<◌, ◌≤◌, ◌≢◌, ◌||◌, ◌&&◌, List, [], ◌∷◌, map, filter, fold, cond, Bool, not, true, false, eqb, ltb, refl, sym, ap, ◌∙◌, arith, inl, inr}
+use Rattle.std.proofs.Common.{◌≡◌, ℕ, zero, suc, ◌+◌, ◌-◌, ◌<◌, ◌≤◌, ◌≢◌, ◌||◌, ◌&&◌, List, [], ◌∷◌, length, map, filter, fold, cond, Bool, not, true, false, eqb, ltb, refl, sym, ap, subst, ◌∙◌, arith, inl, inr, Option, Some, None}
 use Rattle.std.proofs.lemmas.Bool.{cases_eq, cases_order, cases_Bool, eq-eqb, ne_eqb, lt-ltb, le-ltb, eqb-true}
 use Rattle.cg_base.specs.Sets.{IsSet, Ascends, has, with_member, without_member, union, common, without, least}
 
@@ -155,3 +155,23 @@ without_member-least p set low ascends =
     filter-all p (q ∷ set) low lt ascends =
         let above : low ≤ q = ascends.0 in
         filter-keeps (λ q. not (eqb q p)) q set (ap not (ne_eqb q p (λ e. omega arith))) ∙ ap (λ s. q ∷ s) (filter-all p set (suc q) (omega arith) ascends.2)
+
+-- a set is its least member and the others
+pub least-first : (set : List ℕ) (low p : ℕ) → Ascends low set → Some p ≡ least set → set ≡ p ∷ without_member set p
+least-first [] low p ascends first = absurd (cc)
+least-first (q ∷ set) low p ascends first =
+    let same : p ≡ q = cc in
+    let P : ℕ → Type 0 = λ x. q ∷ set ≡ x ∷ without_member (q ∷ set) x in
+    subst P (sym same) (ap (λ s. q ∷ s) (sym (without_member-least q set low ascends)))
+
+-- no set has more members than there are identifiers
+pub length-Ascends : (set : List ℕ) (low : ℕ) → low ≤ 33 → Ascends low set → length set + low ≤ 33
+length-Ascends [] low small ascends = omega arith
+length-Ascends (p ∷ set) low small ascends =
+    let above : low ≤ p = ascends.0 in
+    let high : p ≤ 32 = ascends.1 in
+    let rest : length set + suc p ≤ 33 = length-Ascends set (suc p) (omega arith) ascends.2 in
+    omega arith
+
+pub length-IsSet : (set : List ℕ) → IsSet set → length set ≤ 32
+length-IsSet set is_set = let most : length set + 1 ≤ 33 = length-Ascends set 1 (omega arith) is_set.ascends in omega arith

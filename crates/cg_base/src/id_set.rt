@@ -118,11 +118,7 @@ impl IdSet {
         ensures value { result ≡ length self.now }
         ensures set { IsSet self.now }
     {
-        let mut count = 0;
-        for _ in self.iter() {
-            count += 1;
-        }
-        count
+        self.iter().count() as u8
     }
 
     pub fn is_empty(&self) -> bool
@@ -175,7 +171,9 @@ impl IdSet {
         ensures items { members_left result ≡ self.now }
         ensures set { IsSet self.now }
     {
-        Members { left: *self }
+        Members {
+            left: IdSet { word: self.word },
+        }
     }
 }
 
