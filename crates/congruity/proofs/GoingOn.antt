@@ -53,13 +53,13 @@ pub GoesOn-part : (whole p : Produced) (more : Progress → Produced) (h h1 h2 :
 GoesOn-part whole p more h h1 h2 s g none is put =
     let q = more p.progress in
     let goes : GoesOn whole h h2 q =
-        record {
-          made = g.made ++ p.steps;
-          appended = rw (report_text-append g.made p.steps) (Appends-twice h h1 h2 (report_text g.made) (report_text p.steps) g.appended put);
-          same =
-              g.same ∙ ap (prepend g.made) (and_then-none p more none)
-              ∙ ap (λ steps. record { steps = steps; found = q.found; progress = q.progress }) (sym (append_assoc g.made p.steps q.steps));
-        } in
+    record {
+      made = g.made ++ p.steps;
+      appended = rw (report_text-append g.made p.steps) (Appends-twice h h1 h2 (report_text g.made) (report_text p.steps) g.appended put);
+      same =
+          g.same ∙ ap (prepend g.made) (and_then-none p more none)
+          ∙ ap (λ steps. record { steps = steps; found = q.found; progress = q.progress }) (sym (append_assoc g.made p.steps q.steps));
+    } in
     rw is goes
 
 -- what is put of a part begins what is put of that part and the rest
@@ -114,7 +114,7 @@ GoesOn-stop whole p h h1 h2 f f' status.NoMemory g s =
 GoesOn-stop whole p h h1 h2 f f' other g s =
     let found : status_of whole ≡ Some other = ap status_of g.same ∙ s.0 in
     let put : Appends h h2 (text_of whole) =
-        rw (text_of-whole whole p g.made g.same) (Appends-twice h h1 h2 (report_text g.made) (text_of p) g.appended s.1) in
+    rw (text_of-whole whole p g.made g.same) (Appends-twice h h1 h2 (report_text g.made) (text_of p) g.appended s.1) in
     (found, put)
 
 -- nothing was put, and memory was refused

@@ -81,10 +81,10 @@ and_then p more = by_finding p.found where
 abbrev pub stepped : ℕ → Event → Moved → Progress → Produced
 stepped n event m s =
     if nat_lt s.count 2000000 then record {
-        steps = record { number = s.count + 1; event = event; entry = m.entry; world = m.world } ∷ [];
-        found = None;
-        progress = record { world = m.world; place = place_after s.place event; count = s.count + 1 };
-      }
+      steps = record { number = s.count + 1; event = event; entry = m.entry; world = m.world } ∷ [];
+      found = None;
+      progress = record { world = m.world; place = place_after s.place event; count = s.count + 1 };
+    }
     else ended_with (status.Limit n Steps) n s
 
 -- an event that is admitted makes its step; another ends the run

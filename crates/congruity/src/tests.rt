@@ -5,6 +5,7 @@ use cg_base::Bytes;
 use cg_group::Reason;
 use cg_io::{MemSink, MemSource};
 use std::alloc::{AllocError, Global};
+use std::process::Abort;
 use std::test::Fail;
 
 // The status of a run, and what it put.
@@ -30,13 +31,44 @@ fn run_on(
 fn small_inputs_have_their_findings(rt: HostRuntime) -> Result<(), Fail> {
     let table = [
         ("", "no end 0\n", Status::NoEnd { lines: 0 }),
-        ("end\n", "syntax 1 0\n", Status::Syntax { line: 1, reason: 0 }),
-        ("start\n", "refused 1 9\n", Status::Refused { line: 1, reason: Reason::EmptySet }),
-        ("start 2 1\n", "syntax 1 0\n", Status::Syntax { line: 1, reason: 0 }),
-        ("start 33\n", "syntax 1 0\n", Status::Syntax { line: 1, reason: 0 }),
-        ("start 1  2\n", "syntax 1 0\n", Status::Syntax { line: 1, reason: 0 }),
-        ("start 1", "syntax 1 0\n", Status::Syntax { line: 1, reason: 0 }),
-        ("transfer 1\n", "syntax 1 0\n", Status::Syntax { line: 1, reason: 0 }),
+        (
+            "end\n",
+            "syntax 1 0\n",
+            Status::Syntax { line: 1, reason: 0 },
+        ),
+        (
+            "start\n",
+            "refused 1 9\n",
+            Status::Refused {
+                line: 1,
+                reason: Reason::EmptySet,
+            },
+        ),
+        (
+            "start 2 1\n",
+            "syntax 1 0\n",
+            Status::Syntax { line: 1, reason: 0 },
+        ),
+        (
+            "start 33\n",
+            "syntax 1 0\n",
+            Status::Syntax { line: 1, reason: 0 },
+        ),
+        (
+            "start 1  2\n",
+            "syntax 1 0\n",
+            Status::Syntax { line: 1, reason: 0 },
+        ),
+        (
+            "start 1",
+            "syntax 1 0\n",
+            Status::Syntax { line: 1, reason: 0 },
+        ),
+        (
+            "transfer 1\n",
+            "syntax 1 0\n",
+            Status::Syntax { line: 1, reason: 0 },
+        ),
     ];
     for (input, text, wanted) in table {
         let (status, put) = run_on(rt.alloc(), &["replay"], input.as_bytes(), &[], &[])?;
@@ -66,14 +98,20 @@ fn what_stood_before_a_finding_stays_put(rt: HostRuntime) -> Result<(), Fail> {
     Ok(())
 }
 
+// The words put the usage line, and nothing is taken.
+fn puts_usage(rt: &(impl Abort + AllocGlobal), words: &[&str]) -> Result<(), Fail> {
+    let (status, put) = run_on(rt.alloc(), words, b"start 1\nend\n", &[1], &[])?;
+    assert_eq!(rt; status, Status::Usage);
+    assert_eq!(rt; put.as_slice(), b"usage: congruity replay\n".as_slice());
+    Ok(())
+}
+
 #[test]
 fn words_that_are_no_command_put_the_usage_line(rt: HostRuntime) -> Result<(), Fail> {
-    for words in [[].as_slice(), ["replay", "now"].as_slice(), ["Replay"].as_slice(), ["help"].as_slice()] {
-        let (status, put) = run_on(rt.alloc(), words, b"start 1\nend\n", &[], &[])?;
-        assert_eq!(rt; status, Status::Usage);
-        assert_eq!(rt; put.as_slice(), b"usage: congruity replay\n".as_slice());
-    }
-    Ok(())
+    puts_usage(&rt, &[])?;
+    puts_usage(&rt, &["replay", "now"])?;
+    puts_usage(&rt, &["Replay"])?;
+    puts_usage(&rt, &["help"])
 }
 
 #[test]
@@ -114,7 +152,13 @@ fn each_limit_comes_one_byte_past_it(rt: HostRuntime) -> Result<(), Fail> {
     assert_eq!(rt; status, Status::Syntax { line: 1, reason: 0 });
     let longer = line_of(alloc, b'a', 32_769)?;
     let (status, put) = run_on(alloc, &["replay"], &longer, &[], &[])?;
-    assert_eq!(rt; status, Status::Limit { line: 1, what: Limit::Line });
+    assert_eq!(rt;
+        status,
+        Status::Limit {
+            line: 1,
+            what: Limit::Line
+        }
+    );
     assert_eq!(rt; put.as_slice(), b"limit 1 line\n".as_slice());
     Ok(())
 }
