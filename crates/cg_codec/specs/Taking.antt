@@ -9,10 +9,10 @@ use Rattle.cg_codec.specs.Reading.{Unread, Reading}
 abbrev pub unread_of : Fields → Unread
 unread_of fields = record { at = fields.place; bytes = fields.rest.now }
 
--- the call gave what reading gives, seen by a view, and the reader stands behind it; after a fault the reader is as before
+-- the call gave what reading gives, seen by a view, and the reader stands behind it; after a fault, which is one of the bytes, the reader is as before
 abbrev pub Takes : {X Y : Type 0} → (X → Y) → Reading Y → Unread → Unread → Result X CodecFault → Type 0
 Takes view reading old new (Ok x) = reading old ≡ Ok (view x, new)
-Takes view reading old new (Err fault) = (reading old ≡ Err fault) × (new ≡ old)
+Takes view reading old new (Err fault) = (reading old ≡ Err fault) × (new ≡ old) × (fault ≢ NoMemory)
 
 -- the same of a call that takes memory: want of it says nothing of the bytes
 abbrev pub TakesWithMemory : {X Y : Type 0} → (X → Y) → Reading Y → Unread → Unread → Result X CodecFault → Type 0
