@@ -1,0 +1,4 @@
+mod Digits
+mod Scanning
+mod Texts
+mod Unquoting
