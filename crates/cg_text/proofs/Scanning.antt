@@ -8,7 +8,7 @@ use Rattle.cg_text.specs.Tokens.{is_blank, is_separator, is_mark, tokens_from, t
 -- ---- a byte at a time
 
 -- a byte that is one of two
-one_of : (P : ℕ → Type 0) (byte x y : ℕ) → (eqb byte x || eqb byte y) ≡ true → P x → P y → P byte
+pub one_of : (P : ℕ → Type 0) (byte x y : ℕ) → (eqb byte x || eqb byte y) ≡ true → P x → P y → P byte
 one_of P byte x y either at_x at_y = by_x (eqb byte x) refl
   where
     by_y : (b : Bool) → eqb byte y ≡ b → eqb byte x ≡ false → P byte
@@ -18,6 +18,10 @@ one_of P byte x y either at_x at_y = by_x (eqb byte x) refl
     by_x : (b : Bool) → eqb byte x ≡ b → P byte
     by_x true e = rw (eqb-true byte x e) at_x
     by_x false e = by_y (eqb byte y) refl e
+
+pub tokens-none : tokens [] ≡ []
+unfolding tokens_from
+tokens-none = refl
 
 pub tokens-blank : (byte : ℕ) (bytes : List ℕ) → is_blank byte ≡ true → tokens (byte ∷ bytes) ≡ tokens bytes
 unfolding tokens_from
@@ -36,29 +40,29 @@ unfolding tokens_from
 tokens-word byte bytes no_blank no_separator no_quote = rw (no_blank, no_separator, no_quote) refl
 
 -- a word goes on with each byte that is no mark, and stands before a mark or the end
-word-goes_on : (word : List ℕ) (byte : ℕ) (bytes : List ℕ) → is_mark byte ≡ false → tokens_from (InWord word) (byte ∷ bytes) ≡ tokens_from (InWord (word ++ byte ∷ [])) bytes
+pub word-goes_on : (word : List ℕ) (byte : ℕ) (bytes : List ℕ) → is_mark byte ≡ false → tokens_from (InWord word) (byte ∷ bytes) ≡ tokens_from (InWord (word ++ byte ∷ [])) bytes
 unfolding tokens_from
 word-goes_on word byte bytes no_mark = rw no_mark refl
 
-word-stops : (word : List ℕ) (byte : ℕ) (bytes : List ℕ) → is_mark byte ≡ true → tokens_from (InWord word) (byte ∷ bytes) ≡ word ∷ tokens (byte ∷ bytes)
+pub word-stops : (word : List ℕ) (byte : ℕ) (bytes : List ℕ) → is_mark byte ≡ true → tokens_from (InWord word) (byte ∷ bytes) ≡ word ∷ tokens (byte ∷ bytes)
 unfolding tokens_from
 word-stops word byte bytes mark = rw mark refl
 
-word-ends : (word : List ℕ) → tokens_from (InWord word) [] ≡ word ∷ tokens []
+pub word-ends : (word : List ℕ) → tokens_from (InWord word) [] ≡ word ∷ tokens []
 unfolding tokens_from
 word-ends word = refl
 
 -- a text goes on up to the byte that ends it
-text-goes_on : (text : List ℕ) (is_escaped : Bool) (byte : ℕ) (bytes : List ℕ) → ends_text is_escaped byte ≡ false
+pub text-goes_on : (text : List ℕ) (is_escaped : Bool) (byte : ℕ) (bytes : List ℕ) → ends_text is_escaped byte ≡ false
     → tokens_from (InText text is_escaped) (byte ∷ bytes) ≡ tokens_from (InText (text ++ byte ∷ []) (escapes is_escaped byte)) bytes
 unfolding tokens_from
 text-goes_on text is_escaped byte bytes goes = rw goes refl
 
-text-stops : (text : List ℕ) (is_escaped : Bool) (byte : ℕ) (bytes : List ℕ) → ends_text is_escaped byte ≡ true → tokens_from (InText text is_escaped) (byte ∷ bytes) ≡ (text ++ byte ∷ []) ∷ tokens bytes
+pub text-stops : (text : List ℕ) (is_escaped : Bool) (byte : ℕ) (bytes : List ℕ) → ends_text is_escaped byte ≡ true → tokens_from (InText text is_escaped) (byte ∷ bytes) ≡ (text ++ byte ∷ []) ∷ tokens bytes
 unfolding tokens_from
 text-stops text is_escaped byte bytes stops = rw stops refl
 
-text-ends : (text : List ℕ) (is_escaped : Bool) → tokens_from (InText text is_escaped) [] ≡ text ∷ tokens []
+pub text-ends : (text : List ℕ) (is_escaped : Bool) → tokens_from (InText text is_escaped) [] ≡ text ∷ tokens []
 unfolding tokens_from
 text-ends text is_escaped = refl
 

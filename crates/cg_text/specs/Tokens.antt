@@ -1,5 +1,6 @@
 -- The tokens of a line, each as its bytes stand there: bare words, quoted texts with their quotes, semicolons and question marks.
-use Rattle.std.specs.Prelude.{ℕ, ◌==◌, Bool, true, false, ◌||◌, List, [], ◌∷◌, ◌++◌, Option, Some, None, if◌then◌else◌}
+use Rattle.std.specs.Prelude.{ℕ, ◌==◌, Bool, true, false, ◌||◌, not, List, [], ◌∷◌, ◌++◌, Option, Some, None, if◌then◌else◌}
+use Rattle.std.specs.List.{list_all}
 use Rattle.cg_text.specs.Quoted.{quoted_text, ends_text, escapes}
 
 -- a space or a tab
@@ -81,3 +82,13 @@ token_of (byte ∷ bytes) =
     else if byte == 59 then Semicolon
     else if byte == 63 then QuestionMark
     else Bare (byte ∷ bytes)
+
+-- a bare word
+abbrev pub is_word : List ℕ → Bool
+is_word [] = false
+is_word (byte ∷ bytes) = list_all (λ b. not (is_mark b)) (byte ∷ bytes)
+
+-- a word may end before these bytes
+abbrev pub ends_word : List ℕ → Bool
+ends_word [] = true
+ends_word (byte ∷ bytes) = is_mark byte

@@ -23,11 +23,11 @@ pub enum TextFault {
 }
 
 impl TextFault {
-    ghost use Rattle.cg_text.specs.Fault.{fault_number};
+    ghost use Rattle.cg_text.specs.Fault.{text_fault_number};
 
     /// The number of a fault of the bytes.
     pub fn number(&self) -> Option<u8>
-        ensures { result ≡ fault_number self.now }
+        ensures { result ≡ text_fault_number self.now }
     {
         match self {
             TextFault::NotANumber => Some(1),

@@ -3,7 +3,7 @@
 ghost use Rattle.std.specs.Prelude.{◌≡◌, ◌+◌, ◌<◌, ◌++◌, flat_map, length, take, drop, false, OnOk, OnErr, Ok, Err, if◌then◌else◌};
 ghost use Rattle.std.specs.Option.{ok_or};
 ghost use Rattle.std.specs.Str.{is_utf8};
-ghost use Rattle.cg_text.specs.Fault.{Gives};
+ghost use Rattle.cg_text.specs.Fault.{Reads};
 ghost use Rattle.cg_text.specs.Quoted.{is_special, is_control, ends_text, escapes, is_refused, onto, kept, closed, escaped, quoted, read_quoted, text_between, text_up_to_quote};
 
 use crate::{TextFault, Txt};
@@ -13,7 +13,7 @@ use std::alloc::Global;
 /// The text of at most `max` bytes that the bytes spell between quotes. There `"` is written `\"` and
 /// `\` is written `\\`; no other escape exists, and a byte below 0x20 or 0x7F doesn't stand.
 pub fn read_quoted(alloc: Global, t: &[u8], max: u64) -> Result<Txt, TextFault>
-    ensures { Gives (λ text. text) (read_quoted max t.now) result }
+    ensures { Reads (λ text. text) (read_quoted max t.now) result }
 {
     let text = text_of(unquoted(alloc, t)?)?;
     if text.len() as u64 > max {
@@ -34,7 +34,7 @@ fn text_of(bytes: Vec<u8>) -> Result<Txt, TextFault>
 
 // the bytes that stand between the quotes
 fn unquoted(alloc: Global, t: &[u8]) -> Result<Vec<u8>, TextFault>
-    ensures { Gives (λ v. v.items) (ok_or (text_between t.now) TextFault.BadQuote) result }
+    ensures { Reads (λ v. v.items) (ok_or (text_between t.now) TextFault.BadQuote) result }
 {
     match t {
         [b'"', inner @ ..] => unescaped(alloc, inner),
@@ -44,7 +44,7 @@ fn unquoted(alloc: Global, t: &[u8]) -> Result<Vec<u8>, TextFault>
 
 // the bytes up to the closing quote
 fn unescaped(alloc: Global, inner: &[u8]) -> Result<Vec<u8>, TextFault>
-    ensures { Gives (λ v. v.items) (ok_or (text_up_to_quote false inner.now) TextFault.BadQuote) result }
+    ensures { Reads (λ v. v.items) (ok_or (text_up_to_quote false inner.now) TextFault.BadQuote) result }
 {
     let mut text = Vec::new(alloc);
     let mut is_escaped = false;
@@ -64,7 +64,7 @@ fn unescaped(alloc: Global, inner: &[u8]) -> Result<Vec<u8>, TextFault>
 // the text, if nothing stands behind the place where it was closed
 fn if_last(i: usize, inner: &[u8], text: Vec<u8>) -> Result<Vec<u8>, TextFault>
     requires { i < length inner.now }
-    ensures { Gives (λ v. v.items) (ok_or (onto text.items (closed (drop (i + 1) inner.now))) TextFault.BadQuote) result }
+    ensures { Reads (λ v. v.items) (ok_or (onto text.items (closed (drop (i + 1) inner.now))) TextFault.BadQuote) result }
 {
     if i + 1 == inner.len() {
         Ok(text)

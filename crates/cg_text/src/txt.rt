@@ -9,7 +9,7 @@ use std::cmp::Ordering;
 use std::marker::Model;
 
 /// A text in UTF-8. Clauses see its bytes, by which it is compared.
-#[derive(Drop)]
+#[derive(Debug, Drop)]
 pub struct Txt {
     text: String,
 }
