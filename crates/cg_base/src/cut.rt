@@ -12,9 +12,9 @@ pub struct Cut {
 }
 
 impl Model for Cut {
-    ghost use Rattle.std.specs.Prelude.{◌≡◌, ℕ, List, length};
+    ghost use Rattle.std.specs.Prelude.{ℕ, ◌^◌, List};
     ghost use Rattle.cg_base.specs.declared.action_id.ActionId.{ActionId};
-    ghost use Rattle.cg_base.specs.Slots.{held, top, array_slot, array_of};
+    ghost use Rattle.cg_base.specs.Slots.{held, IsArray, top, array_slot, array_of};
     ghost use Rattle.cg_base.specs.Cuts.{index_in};
     ghost use Rattle.cg_base.specs.SlotLaws.{array_of-indexes};
 
@@ -22,7 +22,7 @@ impl Model for Cut {
 
     ghost view = { λ c. held top (array_slot c.indexes) };
 
-    ghost invariant = { λ c. length c.indexes ≡ 32 };
+    ghost invariant = { λ c. IsArray c.indexes (2 ^ 64) };
 
     ghost inverse = { λ cut. record { indexes = array_of (index_in cut) } };
 
@@ -83,11 +83,11 @@ impl Cut {
     pub fn least(&self, o: &Cut) -> Cut
         ensures { result ≡ least_cut self.now o.now }
     {
-        let mut cut = *self;
-        for (index, other) in cut.indexes.iter_mut().zip(o.indexes.iter()) {
-            *index = (*index).min(*other);
+        let mut indexes = self.indexes;
+        for (place, index) in o.indexes.iter().enumerate() {
+            indexes[place] = indexes[place].min(*index);
         }
-        cut
+        Cut { indexes }
     }
 
     /// Of each creator the greater index.
@@ -124,18 +124,21 @@ impl Cut {
 /// The name of each creator's last action in a cut, ascending by creator.
 #[derive(Clone, Copy, Debug)]
 pub struct Tops {
-    cut: Cut,
+    indexes: [u64; 32],
     left: IdSet,
 }
 
 impl Cut {
     ghost use Rattle.cg_base.specs.Iterators.{tops_left};
+    ghost use Rattle.cg_base.specs.Cuts.{IsCut};
 
+    /// The name of each creator's last action, ascending.
     pub fn iter(&self) -> Tops
-        ensures { tops_left result ≡ self.now }
+        ensures items { tops_left result ≡ self.now }
+        ensures cut { IsCut self.now }
     {
         Tops {
-            cut: *self,
+            indexes: self.indexes,
             left: self.creators(),
         }
     }
@@ -152,11 +155,10 @@ impl Iterator for Tops {
     ghost remaining = { item_count tops_left };
 
     fn next(&mut self) -> Option<ActionId> {
-        let creator = self.left.least()?;
-        self.left.remove(creator);
+        let creator = self.left.take_least()?;
         Some(ActionId {
             creator,
-            index: self.cut.get(creator),
+            index: self.indexes[usize::from(creator.get() - 1)],
         })
     }
 }

@@ -1,4 +1,4 @@
-ghost use Rattle.std.specs.Prelude.{◌≡◌, [], length};
+ghost use Rattle.std.specs.Prelude.{◌≡◌, [], ◌∷◌, length, MatchOption};
 
 use crate::ReplicaId;
 use std::marker::Model;
@@ -118,11 +118,7 @@ impl IdSet {
         ensures value { result ≡ length self.now }
         ensures set { IsSet self.now }
     {
-        let mut count = 0;
-        for _ in self.iter() {
-            count += 1;
-        }
-        count
+        self.iter().count() as u8
     }
 
     pub fn is_empty(&self) -> bool
@@ -145,9 +141,18 @@ impl IdSet {
     pub fn after(&self, id: ReplicaId) -> Option<ReplicaId>
         ensures { result ≡ next_after self.now id }
     {
-        let low = u64::from(self.word) >> id.get() << id.get();
-        let above = IdSet { word: low as u32 };
-        above.least()
+        let above = u64::from(self.word) & (u64::MAX << id.get());
+        let others = IdSet { word: above as u32 };
+        others.least()
+    }
+
+    // the least member, which then is none any more
+    pub(crate) fn take_least(&mut self) -> Option<ReplicaId>
+        ensures { MatchOption result ((self.old ≡ []) × (self.new ≡ [])) (λ id. self.old ≡ id ∷ self.new) }
+    {
+        let id = self.least()?;
+        self.word &= !(1 << u32::from(id.get() - 1));
+        Some(id)
     }
 }
 
@@ -159,11 +164,16 @@ pub struct Members {
 
 impl IdSet {
     ghost use Rattle.cg_base.specs.Iterators.{members_left};
+    ghost use Rattle.cg_base.specs.Sets.{IsSet};
 
+    /// The members, ascending.
     pub fn iter(&self) -> Members
-        ensures { members_left result ≡ self.now }
+        ensures items { members_left result ≡ self.now }
+        ensures set { IsSet self.now }
     {
-        Members { left: *self }
+        Members {
+            left: IdSet { word: self.word },
+        }
     }
 }
 
@@ -178,8 +188,6 @@ impl Iterator for Members {
     ghost remaining = { item_count members_left };
 
     fn next(&mut self) -> Option<ReplicaId> {
-        let id = self.left.least()?;
-        self.left.remove(id);
-        Some(id)
+        self.left.take_least()
     }
 }

@@ -12,9 +12,9 @@ pub struct WeightSet {
 }
 
 impl Model for WeightSet {
-    ghost use Rattle.std.specs.Prelude.{◌≡◌, ℕ, List, length};
+    ghost use Rattle.std.specs.Prelude.{ℕ, List};
     ghost use Rattle.cg_base.specs.declared.weighted.Weighted.{Weighted};
-    ghost use Rattle.cg_base.specs.Slots.{held, weighted, array_slot, array_of};
+    ghost use Rattle.cg_base.specs.Slots.{held, IsArray, weighted, array_slot, array_of};
     ghost use Rattle.cg_base.specs.Weights.{weight_in};
     ghost use Rattle.cg_base.specs.SlotLaws.{array_of-weights};
 
@@ -22,7 +22,7 @@ impl Model for WeightSet {
 
     ghost view = { λ s. held weighted (array_slot s.weights) };
 
-    ghost invariant = { λ s. length s.weights ≡ 32 };
+    ghost invariant = { λ s. IsArray s.weights 256 };
 
     ghost inverse = { λ set. record { weights = array_of (weight_in set) } };
 
@@ -125,8 +125,8 @@ impl WeightSet {
         ensures { result ≡ total self.now }
     {
         let mut sum = 0;
-        for m in self.iter() {
-            sum += u32::from(m.weight);
+        for weight in self.weights.iter() {
+            sum += u32::from(*weight);
         }
         sum
     }
@@ -136,9 +136,9 @@ impl WeightSet {
         ensures { result ≡ total_of self.now present.now }
     {
         let mut sum = 0;
-        for m in self.iter() {
-            if present.contains(m.id) {
-                sum += u32::from(m.weight);
+        for (place, weight) in self.weights.iter().enumerate() {
+            if present.contains(ReplicaId::known(place as u8 + 1)) {
+                sum += u32::from(*weight);
             }
         }
         sum
@@ -148,18 +148,21 @@ impl WeightSet {
 /// The members of a set with their weights, ascending.
 #[derive(Clone, Copy, Debug)]
 pub struct Weights {
-    set: WeightSet,
+    weights: [u8; 32],
     left: IdSet,
 }
 
 impl WeightSet {
     ghost use Rattle.cg_base.specs.Iterators.{weights_left};
+    ghost use Rattle.cg_base.specs.Weights.{IsWeightSet};
 
+    /// The members with their weights, ascending.
     pub fn iter(&self) -> Weights
-        ensures { weights_left result ≡ self.now }
+        ensures items { weights_left result ≡ self.now }
+        ensures set { IsWeightSet self.now }
     {
         Weights {
-            set: *self,
+            weights: self.weights,
             left: self.ids(),
         }
     }
@@ -176,11 +179,10 @@ impl Iterator for Weights {
     ghost remaining = { item_count weights_left };
 
     fn next(&mut self) -> Option<Weighted> {
-        let id = self.left.least()?;
-        self.left.remove(id);
+        let id = self.left.take_least()?;
         Some(Weighted {
             id,
-            weight: self.set.weight(id),
+            weight: self.weights[usize::from(id.get()) - 1],
         })
     }
 }
