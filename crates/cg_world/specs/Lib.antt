@@ -1,7 +1,6 @@
 pub mod Agreement
 pub mod EntryText
 pub mod LineText
-pub mod Number
 pub mod Replica
 pub mod Schedule
 pub mod World

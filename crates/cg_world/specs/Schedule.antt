@@ -1,10 +1,11 @@
 -- The small form of a schedule's lines.
-use Rattle.std.specs.Prelude.{ℕ, ◌==◌, nat_lt, Bool, true, false, ◌||◌, ◌&&◌, not, if◌then◌else◌, List, [], ◌∷◌, codes, Option, Some, None}
+use Rattle.std.specs.Prelude.{ℕ, ◌==◌, nat_lt, nat_le, Bool, true, false, ◌||◌, ◌&&◌, not, if◌then◌else◌, List, [], ◌∷◌, codes, Option, Some, None, Result, Ok, Err}
 use Rattle.std.specs.Str.{bytes_eq}
 use Rattle.cg_base.specs.Text.{pieces_of}
 use Rattle.cg_base.specs.Sets.{with_member}
 use Rattle.cg_base.specs.Weights.{each_once}
-use Rattle.cg_world.specs.Number.{number_up_to}
+use Rattle.cg_text.specs.declared.fault.TextFault.{TextFault}
+use Rattle.cg_text.specs.Numbers.{read_u64}
 use Rattle.cg_world.specs.declared.event.Event.{Event}
 use Rattle.cg_world.specs.declared.event.Event.TheVariants.{Start, End}
 use Rattle.cg_world.specs.declared.event.Reading.{Reading}
@@ -43,6 +44,15 @@ is_misplaced place word = place.ended || same_test (bytes_eq word (codes "start"
   same_test : Bool → Bool → Bool
   same_test true b = b
   same_test false b = not b
+
+-- a number that was read, where it is at most max
+abbrev pub at_most : ℕ → Result ℕ TextFault → Option ℕ
+at_most max (Ok n) = if nat_le n max then Some n else None
+at_most max (Err fault) = None
+
+-- the number up to max that a token spells
+abbrev pub number_up_to : ℕ → List ℕ → Option ℕ
+number_up_to max token = at_most max (read_u64 token)
 
 -- what comes of a token that may spell a number
 abbrev pub if_number : {A B : Type 0} → Option A → B → (A → B) → B

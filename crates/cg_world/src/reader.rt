@@ -1,11 +1,11 @@
 ghost use Rattle.std.specs.Prelude.{◌≡◌, ◌||◌, ◌&&◌, not, []};
 ghost use Rattle.std.specs.Str.{bytes_eq};
 ghost use Rattle.cg_base.specs.Text.{pieces_of};
-ghost use Rattle.cg_world.specs.Schedule.{is_unbuilt, is_built, is_misplaced, ids_of, event_of, reading_of};
+ghost use Rattle.cg_world.specs.Schedule.{is_unbuilt, is_built, is_misplaced, number_up_to, ids_of, event_of, reading_of};
 
-use crate::number::read_number;
 use crate::{Event, Place, Reading};
 use cg_base::{IdSet, Pieces, ReplicaId, WeightSet};
+use cg_text::read_u64;
 
 fn is_built_word(word: &[u8]) -> bool
     ensures { result ≡ is_built word.now }
@@ -39,6 +39,16 @@ fn is_misplaced_word(place: &Place, word: &[u8]) -> bool
     ensures { result ≡ is_misplaced place.now word.now }
 {
     place.ended || (word == b"start".as_slice()) == place.started
+}
+
+// a number up to max
+fn read_number(token: &[u8], max: u64) -> Option<u64>
+    ensures { result ≡ number_up_to max token.now }
+{
+    match read_u64(token) {
+        Ok(number) if number <= max => Some(number),
+        _ => None,
+    }
 }
 
 // identifiers, ascending
