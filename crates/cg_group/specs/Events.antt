@@ -3,11 +3,12 @@ use Rattle.std.specs.Prelude.{ℕ, suc, ◌+◌, ◌==◌, not, List, [], ◌∷
 use Rattle.std.specs.List.{list_any}
 use Rattle.std.specs.Option.{option_map_or}
 use Rattle.cg_base.specs.Lists.{above_up_to, at_place, greatest}
+use Rattle.cg_base.specs.Sets.{with_member}
 use Rattle.cg_group.specs.declared.phase.Phase.TheVariants.{Alone, Regular, Transitional}
 use Rattle.cg_group.specs.declared.delivery.Delivery.{Delivery}
 use Rattle.cg_group.specs.declared.delivery.Delivery.TheVariants.{Message, Transitional as TransitionalIn, Regular as RegularIn}
 use Rattle.cg_group.specs.declared.delivery.Handed.{Handed}
-use Rattle.cg_group.specs.State.{Configuration, Standing, GroupState, standing_of, configuration, regular_in, phase_of, home, delivered_to, unordered_of, has_received, set_standing, set_configuration}
+use Rattle.cg_group.specs.State.{Configuration, Standing, GroupState, standing_of, configuration, regular_in, phase_of, home, delivered_to, unordered_of, has_received, set_standing, set_configuration, changed_at}
 
 -- the group after an event, and what it hands out, ascending by replica
 pub record Outcome (M : Type 0) : Type 0 where
@@ -38,11 +39,11 @@ module _ {M : Type 0} where
 
   -- a member has received a place
   unfoldable pub with_receipt : Configuration M → ℕ → ℕ → Configuration M
-  with_receipt c p place = if has_received c p place then c else record c { received = c.received ++ record { member = p; place = place } ∷ [] }
+  with_receipt c p place = record c { received = changed_at (λ set. with_member set p) c.received place }
 
   -- a message at the end of the ordered ones, received by its sender
   unfoldable pub with_message : Configuration M → ℕ → M → Configuration M
-  with_message c p m = with_receipt (record c { ordered = c.ordered ++ record { from = p; message = m } ∷ [] }) p (suc (length c.ordered))
+  with_message c p m = record c { ordered = c.ordered ++ record { from = p; message = m } ∷ []; received = c.received ++ (p ∷ []) ∷ [] }
 
   -- the oldest of a replica's messages gets the next place
   unfoldable pub order_from : GroupState M → Standing M → List M → GroupState M

@@ -3,3 +3,5 @@ pub mod State
 pub mod Ready
 pub mod Events
 pub mod Refusals
+pub mod History
+pub mod Synchrony

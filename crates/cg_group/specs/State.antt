@@ -1,8 +1,8 @@
 -- The group: its configurations, and where each replica that is up stands. M is the type of messages.
-use Rattle.std.specs.Prelude.{ℕ, pred, ◌==◌, nat_lt, Bool, not, ◌&&◌, List, [], ◌∷◌, Option, find, is_some, if◌then◌else◌}
-use Rattle.std.specs.List.{list_any}
+use Rattle.std.specs.Prelude.{ℕ, pred, ◌==◌, nat_lt, Bool, false, not, List, [], ◌∷◌, Option, find, is_some, if◌then◌else◌}
 use Rattle.std.specs.Option.{option_map_or}
 use Rattle.cg_base.specs.Lists.{at_place}
+use Rattle.cg_base.specs.Sets.{has}
 use Rattle.cg_group.specs.declared.phase.Phase.{Phase}
 use Rattle.cg_group.specs.declared.phase.Phase.TheVariants.{Down, Regular}
 
@@ -11,16 +11,11 @@ pub record Sent (M : Type 0) : Type 0 where
   pub from : ℕ
   pub message : M
 
--- a member has received a place
-pub record Receipt : Type 0 where
-  pub member : ℕ
-  pub place : ℕ
-
--- a configuration: its members, the messages that were ordered in it, and who has received which place
+-- a configuration: its members, the messages that were ordered in it, and the set of those who have received each place
 pub record Configuration (M : Type 0) : Type 0 where
   pub members : List ℕ
   pub ordered : List (Sent M)
-  pub received : List Receipt
+  pub received : List (List ℕ)
 
 -- a replica that is up: its phase, how many places of its configuration it was handed, and its messages without a place
 pub record Standing (M : Type 0) : Type 0 where
@@ -38,6 +33,11 @@ pub record GroupState (M : Type 0) : Type 0 where
 abbrev pub regular_in : Phase → ℕ
 regular_in (Regular conf) = conf
 regular_in _ = 0
+
+-- the list with the element at a place, counted from 1, changed
+abbrev pub changed_at : {X : Type 0} → (X → X) → List X → ℕ → List X
+changed_at change [] place = []
+changed_at change (x ∷ list) place = if place == 1 then change x ∷ list else x ∷ changed_at change list (pred place)
 
 module _ {M : Type 0} where
   -- no replica is up, and there is no configuration
@@ -82,7 +82,7 @@ module _ {M : Type 0} where
 
   -- the member has received the place
   unfoldable pub has_received : Configuration M → ℕ → ℕ → Bool
-  has_received c p place = list_any (λ r. (r.member == p) && (r.place == place)) c.received
+  has_received c p place = option_map_or (λ set. has set p) (at_place c.received place) false
 
   -- the replicas with one of them as given
   abbrev pub with_standing : List (Standing M) → Standing M → List (Standing M)
@@ -96,11 +96,6 @@ module _ {M : Type 0} where
   unfoldable pub set_standing : GroupState M → Standing M → GroupState M
   set_standing g s = record g { replicas = with_standing g.replicas s }
 
-  -- the list with the element at the place, counted from 1, replaced
-  abbrev pub replace_at : List (Configuration M) → ℕ → Configuration M → List (Configuration M)
-  replace_at [] place new = []
-  replace_at (c ∷ list) place new = if place == 1 then new ∷ list else c ∷ replace_at list (pred place) new
-
   -- a group with the configuration of a number as given
   unfoldable pub set_configuration : GroupState M → ℕ → Configuration M → GroupState M
-  set_configuration g conf c = record g { configurations = replace_at g.configurations conf c }
+  set_configuration g conf c = record g { configurations = changed_at (λ old. c) g.configurations conf }

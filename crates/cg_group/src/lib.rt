@@ -3,10 +3,12 @@
 
 mod delivery;
 mod error;
+mod law;
 mod phase;
 mod reason;
 
 pub use delivery::{Delivery, DeliveryList, Handed, HandedList};
 pub use error::GroupErr;
+pub use law::virtually_synchronous;
 pub use phase::Phase;
 pub use reason::Reason;

@@ -1,7 +1,7 @@
 use cg_base::IdSet;
 
 /// Where a replica stands in the group. A configuration goes by its number, from 1.
-#[derive(Drop)]
+#[derive(Clone, Copy, Debug, PartialEq, Eq)]
 pub enum Phase {
     /// It isn't up.
     Down,

@@ -1,0 +1,130 @@
+-- What a call that isn't refused may rely on.
+use Rattle.std.proofs.Common.{◌≡◌, ℕ, zero, suc, ◌+◌, ◌<◌, ◌≤◌, ◌⊎◌, Bool, true, false, cond, ◌&&◌, ◌||◌, not, List, [], ◌∷◌, ◌++◌, length, Option, Some, None, IsTrue, refl, sym, ap, ap₂, subst, ◌∙◌, arith, eq-eqb, eqb-true, inl, inr, ⊎_elim, fold, filter, map, find, max, is_some, option_map, nat_lt, ltb-false, if◌then◌else◌}
+use Rattle.std.specs.Prelude.{◌==◌}
+use Rattle.std.specs.List.{list_any, list_all}
+use Rattle.std.specs.Option.{option_map_or}
+use Rattle.std.proofs.lemmas.Bool.{cases_Bool, cases_eq, cond-true, cond-false, eqb-false, and_parts, and_from, or_cases, or_left, or_right, not_from_false, not-false, not-true, cases_lt}
+use Rattle.cg_base.specs.Lists.{first_some, greatest}
+use Rattle.cg_base.specs.Sets.{has, same_set, is_within, least}
+use Rattle.cg_group.specs.declared.phase.Phase.{Phase}
+use Rattle.cg_group.specs.declared.phase.Phase.TheVariants.{Down, Alone, Regular, Transitional}
+use Rattle.cg_group.specs.declared.reason.Reason.{Reason}
+use Rattle.cg_group.specs.State.{Configuration, Standing, GroupState, standing_of, configuration, phase_of, delivered_to, unordered_of, home, regular_in, is_up, is_regular}
+use Rattle.cg_group.specs.Ready.{ready}
+use Rattle.cg_group.specs.Refusals.{refuse, any_of, not_up, not_regular, no_such_place, not_ready, not_one_configuration, still_regular, not_together, is_together, same_phase, empty_set, order_refusal, receive_refusal, deliver_refusal, split_refusal, merge_refusal}
+use Rattle.cg_group.specs.Events.{furthest}
+use Rattle.cg_group.proofs.Each.{Each, Each-at, Each-has, Each-weaker}
+
+pub first_none : {X : Type 0} (o : Option X) (rest : List (Option X)) → first_some (o ∷ rest) ≡ None → (o ≡ None) × (first_some rest ≡ None)
+first_none None rest e = (refl, e)
+first_none (Some x) rest e = absurd cc
+
+pub refuse_none : (b : Bool) (r : Reason) → refuse b r ≡ None → b ≡ false
+refuse_none true r e = absurd cc
+refuse_none false r e = refl
+
+first_none_each : {X : Type 0} (test : ℕ → Option X) (set : List ℕ) → first_some (map test set) ≡ None → Each (λ q. test q ≡ None) set
+first_none_each test [] e = tt
+first_none_each test (p ∷ set) e = let both = first_none (test p) (map test set) e in (both.0, first_none_each test set both.1)
+
+pub any_none : (test : ℕ → Option Reason) (set : List ℕ) → any_of test set ≡ None → (q : ℕ) → has set q ≡ true → test q ≡ None
+any_none test set e q m = Each-at (λ q. test q ≡ None) set q (first_none_each test set e) m
+
+find_none : {X : Type 0} (test : X → Bool) (xs : List X) → find test xs ≡ None → Each (λ x. test x ≡ false) xs
+find_none test [] e = tt
+find_none test (x ∷ xs) e = ⊎_elim
+    (λ y. absurd (let clash : Some x ≡ None = sym (cond-true (test x) (Some x) (find test xs) y) ∙ e in cc))
+    (λ n. (n, find_none test xs (sym (cond-false (test x) (Some x) (find test xs) n) ∙ e))) (cases_Bool (test x))
+
+option_map_none : {X Y : Type 0} (f : X → Y) (o : Option X) → option_map f o ≡ None → o ≡ None
+option_map_none f None e = refl
+option_map_none f (Some x) e = absurd cc
+
+-- the greatest of some numbers is at least each, and one of them or the first
+greatest_from : (f : ℕ → ℕ) (set : List ℕ) (a : ℕ) →
+    (a ≤ fold max a (map f set)) × ((q : ℕ) → has set q ≡ true → f q ≤ fold max a (map f set)) ×
+    ((fold max a (map f set) ≡ a) ⊎ ((q : ℕ) × (has set q ≡ true) × (fold max a (map f set) ≡ f q)))
+greatest_from f [] a = (omega arith, (λ q m. absurd (let clash : false ≡ true = m in cc)), inl refl)
+greatest_from f (p ∷ set) a =
+    let rest = greatest_from f set (max a (f p)) in (
+      (let le = rest.0 in omega arith),
+      (λ q m. ⊎_elim (λ here. let e = ap f (eqb-true p q here) in let le = rest.0 in omega arith) (λ there. rest.1 q there) (or_cases (p == q) (has set q) m)),
+      ⊎_elim
+          (λ e. ⊎_elim
+          (λ (lt : a < f p). inr (p, or_here p, e ∙ (let m : max a (f p) ≡ f p = omega arith in m)))
+          (λ (ge : f p ≤ a). inl (e ∙ (let m : max a (f p) ≡ a = omega arith in m))) (cases_lt a (f p)))
+          (λ w. inr (w.0, or_right (p == w.0) (has set w.0) w.1, w.2)) rest.2,
+    )
+  where
+    or_here : (p : ℕ) → has (p ∷ set) p ≡ true
+    or_here p = or_left (p == p) (has set p) (eq-eqb p p refl)
+
+is_within-more : (t : List ℕ) (s : List ℕ) → Each (λ q. has t q ≡ true) s → is_within s t ≡ true
+is_within-more t [] e = refl
+is_within-more t (p ∷ s) e = and_from (has t p) (is_within s t) e.0 (is_within-more t s e.1)
+
+pub same_set_refl : (s : List ℕ) → same_set s s ≡ true
+same_set_refl s = let w = is_within-more s s (Each-has s) in and_from (is_within s s) (is_within s s) w w
+
+pub list_any_in : (t : ℕ → Bool) (set : List ℕ) (p : ℕ) → has set p ≡ true → t p ≡ true → list_any t set ≡ true
+list_any_in t [] p m e = absurd (let clash : false ≡ true = m in cc)
+list_any_in t (q ∷ set) p m e = ⊎_elim
+    (λ here. or_left (t q) (list_any t set) (ap t (eqb-true q p here) ∙ e))
+    (λ there. or_right (t q) (list_any t set) (list_any_in t set p there e)) (or_cases (q == p) (has set p) m)
+
+module _ {M : Type 0} where
+  pub up_standing : (g : GroupState M) (p : ℕ) → not_up g p ≡ None → (s : Standing M) × (standing_of g p ≡ Some s)
+  up_standing g p e = by_option (standing_of g p) refl (not-false (is_up g p) (refuse_none (not (is_up g p)) (Reason.NotUp p) e))
+    where
+      by_option : (o : Option (Standing M)) → standing_of g p ≡ o → is_some (standing_of g p) ≡ true → (s : Standing M) × (standing_of g p ≡ Some s)
+      by_option None e y = absurd (let clash : false ≡ true = sym (ap is_some e) ∙ y in cc)
+      by_option (Some s) e y = (s, e)
+
+  pub regular_home : (g : GroupState M) (p : ℕ) → not_regular g p ≡ None → 0 < regular_in (phase_of g p)
+  regular_home g p e =
+      let ne : (regular_in (phase_of g p) ≡ 0 → ⊥) = eqb-false (regular_in (phase_of g p)) 0 (not-true (regular_in (phase_of g p) == 0) (not-false (is_regular g p) (refuse_none (not (is_regular g p)) (Reason.NotRegular p) e))) in
+      omega arith
+
+  pub not_regular_now : (g : GroupState M) (p : ℕ) → still_regular g p ≡ None → regular_in (phase_of g p) ≡ 0
+  not_regular_now g p e = eqb-true (regular_in (phase_of g p)) 0 (not-false (regular_in (phase_of g p) == 0) (refuse_none (is_regular g p) (Reason.StillRegular p) e))
+
+  pub one_configuration : (g : GroupState M) (set : List ℕ) → not_one_configuration g set ≡ None → (p q : ℕ) → has set p ≡ true → has set q ≡ true →
+      regular_in (phase_of g p) ≡ regular_in (phase_of g q)
+  one_configuration g [] e p q m n = absurd (let clash : false ≡ true = m in cc)
+  one_configuration g (r ∷ set) e p q m n = alike p m ∙ sym (alike q n)
+    where
+      each : Each (λ q. not (regular_in (phase_of g q) == regular_in (phase_of g r)) ≡ false) set
+      each = find_none (λ q. not (regular_in (phase_of g q) == regular_in (phase_of g r))) set
+          (option_map_none Reason.NotOneConfiguration (find (λ q. not (regular_in (phase_of g q) == regular_in (phase_of g r))) set) e)
+
+      alike : (p : ℕ) → has (r ∷ set) p ≡ true → regular_in (phase_of g p) ≡ regular_in (phase_of g r)
+      alike p m = ⊎_elim (λ here. ap (λ z. regular_in (phase_of g z)) (sym (eqb-true r p here)))
+          (λ there. eqb-true (regular_in (phase_of g p)) (regular_in (phase_of g r))
+          (not-false (regular_in (phase_of g p) == regular_in (phase_of g r)) (Each-at (λ q. not (regular_in (phase_of g q) == regular_in (phase_of g r)) ≡ false) set p each there)))
+          (or_cases (r == p) (has set p) m)
+
+  found_in : (replicas : List (Standing M)) (q : ℕ) (s : Standing M) → find (λ s. s.id == q) replicas ≡ Some s → has (map (λ s. s.id) replicas) q ≡ true
+  found_in [] q s e = absurd cc
+  found_in (x ∷ replicas) q s e = ⊎_elim
+      (λ y. or_left (x.id == q) (has (map (λ s. s.id) replicas) q) y)
+      (λ n. or_right (x.id == q) (has (map (λ s. s.id) replicas) q) (found_in replicas q s (sym (cond-false (x.id == q) (Some x) (find (λ s. s.id == q) replicas) n) ∙ e)))
+      (cases_Bool (x.id == q))
+
+  -- whoever parted together with one that is merged is merged too, or has left
+  pub all_together : (g : GroupState M) (set left : List ℕ) → not_together g set left ≡ None → (p q : ℕ) (s : Standing M) → has set p ≡ true → standing_of g q ≡ Some s →
+      same_phase (phase_of g p) (phase_of g q) ≡ true → has set q ≡ false → has left q ≡ false → ⊥
+  unfolding standing_of
+  all_together g set left e p q s m up same out stays =
+      let test : ℕ → Bool = λ q. is_together g set q && not (has set q) && not (has left q) in
+      let none : test q ≡ false =
+      Each-at (λ q. test q ≡ false) (map (λ s. s.id) g.replicas) q
+      (find_none test (map (λ s. s.id) g.replicas) (option_map_none Reason.NotTogether (find test (map (λ s. s.id) g.replicas)) e)) (found_in g.replicas q s up) in
+      let some : test q ≡ true =
+      and_from (is_together g set q && not (has set q)) (not (has left q))
+      (and_from (is_together g set q) (not (has set q)) (list_any_in (λ p. same_phase (phase_of g p) (phase_of g q)) set p m same) (not_from_false (has set q) out))
+      (not_from_false (has left q) stays) in
+      let clash : true ≡ false = sym some ∙ none in cc
+
+  pub furthest_is : (g : GroupState M) (set : List ℕ) →
+      ((q : ℕ) → has set q ≡ true → delivered_to g q ≤ furthest g set) × ((furthest g set ≡ 0) ⊎ ((q : ℕ) × (has set q ≡ true) × (furthest g set ≡ delivered_to g q)))
+  furthest_is g set = let w = greatest_from (delivered_to g) set 0 in (w.1, w.2)
