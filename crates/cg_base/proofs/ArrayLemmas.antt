@@ -1,11 +1,11 @@
 -- What arrays of 32 slots hold, whole and as far as a loop has come.
-use Rattle.std.proofs.Common.{◌≡◌, ℕ, zero, suc, ◌+◌, ◌-◌, ◌^◌, ◌<◌, ◌≤◌, ◌≢◌, List, [], ◌∷◌, ◌++◌, length, map, replicate, cond, true, false, eqb, ltb, get_or, set, refl, sym, ap, ◌∙◌, arith, inl, inr}
+use Rattle.std.proofs.Common.{◌≡◌, ℕ, zero, suc, ◌+◌, ◌-◌, ◌<◌, ◌≤◌, ◌≢◌, List, [], ◌∷◌, ◌++◌, length, map, replicate, get_or, set, refl, sym, ap, ◌∙◌, arith, inl, inr}
 use Rattle.std.proofs.Math.ListN.{length-set}
 use Rattle.std.proofs.lemmas.List.{get_or-set_same, get_or-set_other}
-use Rattle.std.proofs.lemmas.Bool.{cases_eq, cases_lt, eq-eqb, ne_eqb}
-use Rattle.cg_base.specs.Sets.{IsId, Ascends, with_member}
+use Rattle.std.proofs.lemmas.Bool.{cases_eq}
+use Rattle.cg_base.specs.Sets.{IsId, with_member}
 use Rattle.cg_base.specs.Slots.{held_from, held, IsArray, array_slot}
-use Rattle.cg_base.specs.SlotLaws.{Tells, held_from-empty, held_from-filled}
+use Rattle.cg_base.specs.SlotLaws.{held_from-empty, held_from-filled}
 use Rattle.cg_base.proofs.SetLemmas.{with_member-later}
 
 -- ---- arrays

@@ -1,5 +1,5 @@
 -- Cuts: the index of a creator's last action after a change.
-use Rattle.std.proofs.Common.{◌≡◌, ℕ, zero, suc, ◌+◌, ◌-◌, ◌^◌, ◌<◌, ◌≤◌, ◌≢◌, List, [], ◌∷◌, map, filter, fold, cond, Bool, not, true, false, eqb, ltb, min, max, set, refl, sym, ap, ◌∙◌, arith, inl, inr}
+use Rattle.std.proofs.Common.{◌≡◌, ℕ, zero, suc, ◌-◌, ◌^◌, ◌<◌, ◌≤◌, ◌≢◌, List, [], ◌∷◌, map, filter, cond, Bool, not, true, false, eqb, min, max, set, refl, sym, ap, ◌∙◌, arith, inl, inr}
 use Rattle.std.specs.Bool.{Decides}
 use Rattle.std.specs.Cmp.Lexicographic.{pointwise, pointwise_decides}
 use Rattle.std.proofs.lemmas.Bool.{cases_eq, cases_order, cases_Bool, eq-eqb, ne_eqb, lt-ltb, le-ltb, eqb-true, and_parts, and_from, false_from_ne_true}
@@ -7,9 +7,9 @@ use Rattle.std.proofs.lemmas.Slice.Eq.{bytes_eq-Decides}
 use Rattle.cg_base.specs.declared.action_id.ActionId.{ActionId}
 use Rattle.cg_base.specs.Ids.{same_id}
 use Rattle.cg_base.specs.Sets.{IsId, Ascends, with_member}
-use Rattle.cg_base.specs.Cuts.{IsCut, NameActions, index_in, with_top, raise, cut_of, creators_in, lesser_top, least_cut, greatest_cut}
+use Rattle.cg_base.specs.Cuts.{IsCut, NameActions, index_in, with_top, raise, creators_in, lesser_top, least_cut}
 use Rattle.cg_base.specs.Slots.{held_from, held, IsArray, top, array_slot, array_of}
-use Rattle.cg_base.specs.SlotLaws.{value_in, held_from-empty, held_from-filled, indexes_tell, Ascends-held, index_in-value_in, index_in-held, array_of-indexes}
+use Rattle.cg_base.specs.SlotLaws.{held_from-empty, held_from-filled, indexes_tell, Ascends-held, index_in-value_in, index_in-held, array_of-indexes}
 use Rattle.cg_base.proofs.Canonical.{EachMade, held-is}
 use Rattle.cg_base.proofs.SetLemmas.{Ascends-below, Ascends-with_member}
 use Rattle.cg_base.proofs.ArrayLemmas.{zeros, array_slot-zeros, array_slot-set_same, array_slot-set_other}
@@ -43,7 +43,7 @@ each_made (t ∷ cut) named = (refl, named.0, each_made cut named.2)
 pub tops_of_is : (slots : List ℕ) (cut : List ActionId) → IsCut cut → ((p : ℕ) → 1 ≤ p → p ≤ 32 → array_slot slots p ≡ index_in cut p) → tops_of slots ≡ cut
 tops_of_is slots cut is_cut same =
     held-is top (λ t. t.creator) (λ t. t.index) (array_slot slots) cut is_cut.ascends (each_made cut is_cut.named)
-      (λ p low high. same p low high ∙ index_in-value_in cut p)
+    (λ p low high. same p low high ∙ index_in-value_in cut p)
 
 pub tops_of-zeros : tops_of (zeros 32) ≡ []
 tops_of-zeros = tops_of_is (zeros 32) [] (record { ascends = tt; named = tt }) (λ p low high. array_slot-zeros p)
@@ -67,21 +67,21 @@ index_in-with_top [] id low p ascends = elim (cases_eq id.creator p) [
 ]
 index_in-with_top (t ∷ cut) id low p ascends = elim (cases_order id.creator t.creator) [
   | inl same ↦ rw (eq-eqb t.creator id.creator (sym same)) (elim (cases_eq id.creator p) [
-      | inl here ↦ rw (eq-eqb id.creator p here, eq-eqb t.creator p (sym same ∙ here))
-      | inr other ↦ rw (ne_eqb id.creator p other, ne_eqb t.creator p (λ e. other (same ∙ e)))
-    ])
+    | inl here ↦ rw (eq-eqb id.creator p here, eq-eqb t.creator p (sym same ∙ here))
+    | inr other ↦ rw (ne_eqb id.creator p other, ne_eqb t.creator p (λ e. other (same ∙ e)))
+  ])
   | inr apart ↦ elim apart [
-      | inl front ↦ rw (ne_eqb t.creator id.creator (λ e. omega arith), lt-ltb id.creator t.creator front) (elim (cases_eq id.creator p) [
-          | inl here ↦
-              let later : index_in cut p ≡ 0 = index_in-before cut (suc t.creator) p ascends.2 (omega arith) in
-              rw (eq-eqb id.creator p here, ne_eqb t.creator p (λ e. omega arith)) (omega arith)
-          | inr other ↦ rw (ne_eqb id.creator p other)
-        ])
-      | inr later ↦ rw (ne_eqb t.creator id.creator (λ e. omega arith), le-ltb id.creator t.creator (omega arith)) (elim (cases_eq t.creator p) [
-          | inl here ↦ rw (eq-eqb t.creator p here, ne_eqb id.creator p (λ e. omega arith))
-          | inr other ↦ rw (ne_eqb t.creator p other) (index_in-with_top cut id (suc t.creator) p ascends.2)
-        ])
-    ]
+    | inl front ↦ rw (ne_eqb t.creator id.creator (λ e. omega arith), lt-ltb id.creator t.creator front) (elim (cases_eq id.creator p) [
+      | inl here ↦
+          let later : index_in cut p ≡ 0 = index_in-before cut (suc t.creator) p ascends.2 (omega arith) in
+          rw (eq-eqb id.creator p here, ne_eqb t.creator p (λ e. omega arith)) (omega arith)
+      | inr other ↦ rw (ne_eqb id.creator p other)
+    ])
+    | inr later ↦ rw (ne_eqb t.creator id.creator (λ e. omega arith), le-ltb id.creator t.creator (omega arith)) (elim (cases_eq t.creator p) [
+      | inl here ↦ rw (eq-eqb t.creator p here, ne_eqb id.creator p (λ e. omega arith))
+      | inr other ↦ rw (ne_eqb t.creator p other) (index_in-with_top cut id (suc t.creator) p ascends.2)
+    ])
+  ]
 ]
 
 pub creators_in-with_top : (cut : List ActionId) (id : ActionId) → creators_in (with_top cut id) ≡ with_member (creators_in cut) id.creator
@@ -89,10 +89,10 @@ creators_in-with_top [] id = refl
 creators_in-with_top (t ∷ cut) id = elim (cases_order id.creator t.creator) [
   | inl same ↦ rw (eq-eqb t.creator id.creator (sym same), eq-eqb id.creator t.creator same)
   | inr apart ↦ elim apart [
-      | inl front ↦ rw (ne_eqb t.creator id.creator (λ e. omega arith), ne_eqb id.creator t.creator (λ e. omega arith), lt-ltb id.creator t.creator front)
-      | inr later ↦ rw (ne_eqb t.creator id.creator (λ e. omega arith), ne_eqb id.creator t.creator (λ e. omega arith), le-ltb id.creator t.creator (omega arith))
-          (ap (λ s. t.creator ∷ s) (creators_in-with_top cut id))
-    ]
+    | inl front ↦ rw (ne_eqb t.creator id.creator (λ e. omega arith), ne_eqb id.creator t.creator (λ e. omega arith), lt-ltb id.creator t.creator front)
+    | inr later ↦ rw (ne_eqb t.creator id.creator (λ e. omega arith), ne_eqb id.creator t.creator (λ e. omega arith), le-ltb id.creator t.creator (omega arith))
+        (ap (λ s. t.creator ∷ s) (creators_in-with_top cut id))
+  ]
 ]
 
 NameActions-with_top : (cut : List ActionId) (id : ActionId) → 1 ≤ id.index → id.index < 2 ^ 64 → NameActions cut → NameActions (with_top cut id)
@@ -103,10 +103,10 @@ NameActions-with_top (t ∷ cut) id some small named =
     elim (cases_order id.creator t.creator) [
       | inl same ↦ rw (eq-eqb t.creator id.creator (sym same)) (omega arith, omega arith, named.2)
       | inr apart ↦ elim apart [
-          | inl front ↦ rw (ne_eqb t.creator id.creator (λ e. omega arith), lt-ltb id.creator t.creator front) (some, small, named)
-          | inr later ↦ rw (ne_eqb t.creator id.creator (λ e. omega arith), le-ltb id.creator t.creator (omega arith))
-              (low, high, NameActions-with_top cut id some small named.2)
-        ]
+        | inl front ↦ rw (ne_eqb t.creator id.creator (λ e. omega arith), lt-ltb id.creator t.creator front) (some, small, named)
+        | inr later ↦ rw (ne_eqb t.creator id.creator (λ e. omega arith), le-ltb id.creator t.creator (omega arith))
+            (low, high, NameActions-with_top cut id some small named.2)
+      ]
     ]
 
 pub raise-0 : (cut : List ActionId) (id : ActionId) → id.index ≡ 0 → raise cut id ≡ cut
@@ -119,9 +119,9 @@ raise-some cut id some = rw (ne_eqb id.index 0 some)
 pub index_in-raise : (cut : List ActionId) (id : ActionId) (p : ℕ) → IsCut cut → index_in (raise cut id) p ≡ cond (eqb id.creator p) (max (index_in cut p) id.index) (index_in cut p)
 index_in-raise cut id p is_cut = elim (cases_eq id.index 0) [
   | inl none ↦ rw (raise-0 cut id none) (elim (cases_eq id.creator p) [
-      | inl here ↦ rw (eq-eqb id.creator p here) (omega arith)
-      | inr other ↦ rw (ne_eqb id.creator p other)
-    ])
+    | inl here ↦ rw (eq-eqb id.creator p here) (omega arith)
+    | inr other ↦ rw (ne_eqb id.creator p other)
+  ])
   | inr some ↦ rw (raise-some cut id some) (index_in-with_top cut id 1 p is_cut.ascends)
 ]
 
@@ -129,9 +129,9 @@ pub IsCut-raise : (cut : List ActionId) (id : ActionId) → IsId id.creator → 
 IsCut-raise cut id is_id small is_cut = elim (cases_eq id.index 0) [
   | inl none ↦ rw (raise-0 cut id none) is_cut
   | inr some ↦ rw (raise-some cut id some) (record {
-      ascends = rw (creators_in-with_top cut id) (Ascends-with_member (creators_in cut) 1 id.creator is_id.0 is_id.1 is_cut.ascends);
-      named = NameActions-with_top cut id (omega arith) small is_cut.named;
-    })
+    ascends = rw (creators_in-with_top cut id) (Ascends-with_member (creators_in cut) 1 id.creator is_id.0 is_id.1 is_cut.ascends);
+    named = NameActions-with_top cut id (omega arith) small is_cut.named;
+  })
 ]
 
 pub tops_of-set : (slots : List ℕ) (p n : ℕ) → IsArray slots (2 ^ 64) → IsId p → array_slot slots p < n → n < 2 ^ 64
@@ -140,12 +140,12 @@ tops_of-set slots p n array is_id higher small =
     let id : ActionId = record { creator = p; index = n } in
     let is_cut = IsCut-tops_of slots array in
     tops_of_is (set slots (p - 1) n) (raise (tops_of slots) id) (IsCut-raise (tops_of slots) id is_id small is_cut)
-      (λ k low high. sym (index_in-raise (tops_of slots) id k is_cut ∙ elim (cases_eq p k) [
-        | inl same ↦
-            let old : index_in (tops_of slots) k ≡ array_slot slots p = index_in-tops_of slots k low high ∙ ap (array_slot slots) (sym same) in
-            rw (eq-eqb p k same, ← same) (let most : max (index_in (tops_of slots) p) n ≡ n = rw (index_in-tops_of slots p is_id.0 is_id.1) (omega arith) in most ∙ sym (array_slot-set_same slots (2 ^ 64) p n array is_id))
-        | inr apart ↦ rw (ne_eqb p k apart) (index_in-tops_of slots k low high ∙ sym (array_slot-set_other slots p k n is_id.0 low (λ e. apart (sym e))))
-      ]))
+    (λ k low high. sym (index_in-raise (tops_of slots) id k is_cut ∙ elim (cases_eq p k) [
+      | inl same ↦
+          let old : index_in (tops_of slots) k ≡ array_slot slots p = index_in-tops_of slots k low high ∙ ap (array_slot slots) (sym same) in
+          rw (eq-eqb p k same, ← same) (let most : max (index_in (tops_of slots) p) n ≡ n = rw (index_in-tops_of slots p is_id.0 is_id.1) (omega arith) in most ∙ sym (array_slot-set_same slots (2 ^ 64) p n array is_id))
+      | inr apart ↦ rw (ne_eqb p k apart) (index_in-tops_of slots k low high ∙ sym (array_slot-set_other slots p k n is_id.0 low (λ e. apart (sym e))))
+    ]))
 
 -- a cut that is as far already stays as it is
 pub raise-same : (slots : List ℕ) (p n : ℕ) → IsArray slots (2 ^ 64) → IsId p → n ≤ array_slot slots p → n < 2 ^ 64
@@ -154,10 +154,10 @@ raise-same slots p n array is_id lower small =
     let id : ActionId = record { creator = p; index = n } in
     let is_cut = IsCut-tops_of slots array in
     tops_of_is slots (raise (tops_of slots) id) (IsCut-raise (tops_of slots) id is_id small is_cut)
-      (λ k low high. sym (index_in-raise (tops_of slots) id k is_cut ∙ elim (cases_eq p k) [
-        | inl same ↦ rw (eq-eqb p k same, ← same, index_in-tops_of slots p is_id.0 is_id.1) (omega arith)
-        | inr apart ↦ rw (ne_eqb p k apart) (index_in-tops_of slots k low high)
-      ]))
+    (λ k low high. sym (index_in-raise (tops_of slots) id k is_cut ∙ elim (cases_eq p k) [
+      | inl same ↦ rw (eq-eqb p k same, ← same, index_in-tops_of slots p is_id.0 is_id.1) (omega arith)
+      | inr apart ↦ rw (ne_eqb p k apart) (index_in-tops_of slots k low high)
+    ]))
 
 -- ---- of two cuts
 
@@ -188,11 +188,11 @@ index_in-naming (t ∷ cut) low p ascends =
     let rest : index_in (naming cut) p ≡ index_in cut p = index_in-naming cut (suc t.creator) p ascends.2 in
     elim (cases_eq t.index 0) [
       | inl none ↦ rw (naming-drops t cut none) (elim (cases_eq t.creator p) [
-          | inl same ↦
-              let later : index_in cut p ≡ 0 = index_in-before cut (suc t.creator) p ascends.2 (omega arith) in
-              rw (eq-eqb t.creator p same) (rest ∙ later ∙ sym none)
-          | inr apart ↦ rw (ne_eqb t.creator p apart) rest
-        ])
+        | inl same ↦
+            let later : index_in cut p ≡ 0 = index_in-before cut (suc t.creator) p ascends.2 (omega arith) in
+            rw (eq-eqb t.creator p same) (rest ∙ later ∙ sym none)
+        | inr apart ↦ rw (ne_eqb t.creator p apart) rest
+      ])
       | inr some ↦ rw (naming-keeps t cut some) (ap (λ n. cond (eqb t.creator p) t.index n) rest)
     ]
 
@@ -229,16 +229,16 @@ pub tops_of-least : (a b m : List ℕ) → IsArray a (2 ^ 64) → ((p : ℕ) →
 tops_of-least a b m array lesser =
     let is_cut = IsCut-tops_of a array in
     tops_of_is m (least_cut (tops_of a) (tops_of b)) (IsCut-least_cut (tops_of a) (tops_of b) is_cut)
-      (λ p low high. lesser p low high ∙ sym (index_in-least_cut (tops_of a) (tops_of b) p is_cut ∙ rw (index_in-tops_of a p low high, index_in-tops_of b p low high)))
+    (λ p low high. lesser p low high ∙ sym (index_in-least_cut (tops_of a) (tops_of b) p is_cut ∙ rw (index_in-tops_of a p low high, index_in-tops_of b p low high)))
 
 -- ---- the same cut
 
 same_id-Decides : (m n : ActionId) → Decides (same_id m n) (m ≡ n)
-same_id-Decides m n =
-    ( (λ e. let parts = and_parts (eqb m.creator n.creator) (eqb m.index n.index) e in
-        λ i. record { creator = eqb-true m.creator n.creator parts.0 i; index = eqb-true m.index n.index parts.1 i })
-    , (λ e. and_from (eqb m.creator n.creator) (eqb m.index n.index) (eq-eqb m.creator n.creator (ap (λ x. x.creator) e)) (eq-eqb m.index n.index (ap (λ x. x.index) e)))
-    )
+same_id-Decides m n = (
+  (λ e. let parts = and_parts (eqb m.creator n.creator) (eqb m.index n.index) e in
+      λ i. record { creator = eqb-true m.creator n.creator parts.0 i; index = eqb-true m.index n.index parts.1 i }),
+  (λ e. and_from (eqb m.creator n.creator) (eqb m.index n.index) (eq-eqb m.creator n.creator (ap (λ x. x.creator) e)) (eq-eqb m.index n.index (ap (λ x. x.index) e))),
+)
 
 pub tops_of-same : (a b : List ℕ) (r : Bool) → IsArray a (2 ^ 64) → IsArray b (2 ^ 64) → r ≡ pointwise eqb a b → r ≡ pointwise same_id (tops_of a) (tops_of b)
 tops_of-same a b r a_array b_array is =

@@ -5,3 +5,4 @@ pub mod WordLemmas
 pub mod ArrayLemmas
 pub mod WeightLemmas
 pub mod CutLemmas
+pub mod TextLemmas

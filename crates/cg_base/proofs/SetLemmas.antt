@@ -1,6 +1,6 @@
 -- What is in a set that is made from others, and that it is a set.
-use Rattle.std.proofs.Common.{◌≡◌, ℕ, zero, suc, ◌+◌, ◌-◌, ◌<◌, ◌≤◌, ◌≢◌, ◌||◌, ◌&&◌, List, [], ◌∷◌, length, map, filter, fold, cond, Bool, not, true, false, eqb, ltb, refl, sym, ap, subst, ◌∙◌, arith, inl, inr, Option, Some, None}
-use Rattle.std.proofs.lemmas.Bool.{cases_eq, cases_order, cases_Bool, eq-eqb, ne_eqb, lt-ltb, le-ltb, eqb-true}
+use Rattle.std.proofs.Common.{◌≡◌, ℕ, suc, ◌+◌, ◌<◌, ◌≤◌, ◌||◌, ◌&&◌, List, [], ◌∷◌, length, filter, Bool, not, true, false, eqb, refl, sym, ap, subst, ◌∙◌, arith, inl, inr, Some}
+use Rattle.std.proofs.lemmas.Bool.{cases_eq, cases_order, cases_Bool, eq-eqb, ne_eqb, lt-ltb, le-ltb}
 use Rattle.cg_base.specs.Sets.{IsSet, Ascends, has, with_member, without_member, union, common, without, least}
 
 -- ---- ascending lists

@@ -1,5 +1,5 @@
 -- Sets with weights: what a member weighs after a change, and sums.
-use Rattle.std.proofs.Common.{◌≡◌, ℕ, zero, suc, ◌+◌, ◌-◌, ◌*◌, ◌<◌, ◌≤◌, ◌≢◌, ◌&&◌, ◌||◌, List, [], ◌∷◌, ◌++◌, length, map, filter, fold, cond, Bool, not, true, false, eqb, ltb, set, refl, sym, ap, subst, ◌∙◌, arith, inl, inr, append_assoc, append-nil}
+use Rattle.std.proofs.Common.{◌≡◌, ℕ, zero, suc, ◌+◌, ◌-◌, ◌<◌, ◌≤◌, ◌≢◌, ◌||◌, List, [], ◌∷◌, ◌++◌, filter, fold, cond, Bool, not, true, false, eqb, set, refl, sym, ap, ◌∙◌, arith, inl, inr, append_assoc, append-nil}
 use Rattle.std.specs.List.{sum_by}
 use Rattle.std.specs.Bool.{Decides}
 use Rattle.std.specs.Cmp.Lexicographic.{pointwise, pointwise_decides}
@@ -8,12 +8,12 @@ use Rattle.std.proofs.lemmas.List.Sums.{sum_by-append}
 use Rattle.std.proofs.lemmas.List.Elements.{filter-append}
 use Rattle.std.proofs.lemmas.Slice.Eq.{bytes_eq-Decides}
 use Rattle.cg_base.specs.declared.weighted.Weighted.{Weighted}
-use Rattle.cg_base.specs.Sets.{IsSet, IsId, Ascends, has, with_member, least}
+use Rattle.cg_base.specs.Sets.{IsSet, IsId, Ascends, has, with_member}
 use Rattle.cg_base.specs.Weights.{IsWeightSet, Weigh, same_weighted, ids, weight_in, with_weight, each_once, total, total_of}
 use Rattle.cg_base.specs.Slots.{held_from, held, IsArray, weighted, array_slot, array_of}
-use Rattle.cg_base.specs.SlotLaws.{value_in, held_from-empty, held_from-filled, weights_tell, Ascends-held, weight_in-value_in, weight_in-held, array_of-weights}
-use Rattle.cg_base.proofs.Canonical.{EachMade, held-is, held-same}
-use Rattle.cg_base.proofs.SetLemmas.{has-before, Ascends-with_member, filter-keeps, filter-drops}
+use Rattle.cg_base.specs.SlotLaws.{held_from-empty, held_from-filled, weights_tell, Ascends-held, weight_in-value_in, weight_in-held, array_of-weights}
+use Rattle.cg_base.proofs.Canonical.{EachMade, held-is}
+use Rattle.cg_base.proofs.SetLemmas.{Ascends-with_member}
 use Rattle.cg_base.proofs.ArrayLemmas.{zeros, array_slot-zeros, array_slot-set_same, array_slot-set_other, held_from-more_empty, held_from-more_filled}
 
 -- the members that the slots of an array weigh

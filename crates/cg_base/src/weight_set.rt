@@ -182,7 +182,7 @@ impl Iterator for Weights {
         let id = self.left.take_least()?;
         Some(Weighted {
             id,
-            weight: self.weights[usize::from(id.get() - 1)],
+            weight: self.weights[usize::from(id.get()) - 1],
         })
     }
 }

@@ -1,4 +1,4 @@
-use Rattle.std.proofs.Common.{◌≡◌, ◌+◌, ◌∙◌, ap, map, refl, sym, arith}
+use Rattle.std.proofs.Common.{◌∙◌, ap, refl, arith}
 use Rattle.cg_base.specs.Slots.{held_from, top, array_slot}
 use Rattle.cg_base.specs.Sets.{with_member}
 use Rattle.cg_base.specs.Cuts.{creators_in}

@@ -1,4 +1,4 @@
-use Rattle.std.proofs.Common.{◌≡◌, refl}
+use Rattle.std.proofs.Common.{refl}
 use Rattle.cg_base.specs.Slots.{top, array_slot}
 use Rattle.cg_base.proofs.ArrayLemmas.{map-held}
 use Rattle.cg_base.proofs.CutLemmas.{IsCut-tops_of}

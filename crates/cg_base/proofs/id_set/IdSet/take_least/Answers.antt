@@ -1,4 +1,4 @@
-use Rattle.std.proofs.Common.{◌≡◌, ◌∙◌, Some, sym}
+use Rattle.std.proofs.Common.{◌≡◌, Some}
 use Rattle.cg_base.specs.Sets.{least}
 use Rattle.cg_base.specs.SlotLaws.{Ascends-members}
 use Rattle.cg_base.proofs.WordLemmas.{members, members-clear}

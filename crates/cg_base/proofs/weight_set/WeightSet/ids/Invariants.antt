@@ -1,4 +1,4 @@
-use Rattle.std.proofs.Common.{◌≡◌, ◌≤◌, map, length}
+use Rattle.std.proofs.Common.{◌≡◌}
 use Rattle.cg_base.specs.Slots.{held_from, weighted, array_slot}
 use Rattle.cg_base.specs.Weights.{ids}
 use Rattle.cg_base.proofs.weight_set.WeightSet.ids.Given as goal

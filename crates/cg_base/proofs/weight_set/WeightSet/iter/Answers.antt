@@ -1,4 +1,4 @@
-use Rattle.std.proofs.Common.{◌≡◌, ◌∙◌, ap, map, refl, sym}
+use Rattle.std.proofs.Common.{refl}
 use Rattle.cg_base.specs.Slots.{weighted, array_slot}
 use Rattle.cg_base.proofs.ArrayLemmas.{map-held}
 use Rattle.cg_base.proofs.WeightLemmas.{IsWeightSet-weights_of}

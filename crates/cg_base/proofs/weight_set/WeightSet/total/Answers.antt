@@ -1,4 +1,4 @@
-use Rattle.std.proofs.Common.{◌≡◌, ◌∙◌, ◌+◌, ℕ, ap, refl, sym, arith}
+use Rattle.std.proofs.Common.{◌∙◌, ap, refl, arith}
 use Rattle.cg_base.specs.Slots.{held_from, weighted, array_slot}
 use Rattle.cg_base.specs.Weights.{total}
 use Rattle.cg_base.proofs.ArrayLemmas.{array_slot-place, held_from-all}

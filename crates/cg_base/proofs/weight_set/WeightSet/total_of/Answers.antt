@@ -1,4 +1,4 @@
-use Rattle.std.proofs.Common.{◌≡◌, ◌∙◌, ◌+◌, true, false, ap, refl, sym, arith, cond, get_or}
+use Rattle.std.proofs.Common.{◌≡◌, ◌∙◌, ◌+◌, true, false, ap, refl, sym, arith, get_or}
 use Rattle.cg_base.specs.Sets.{has}
 use Rattle.cg_base.specs.Slots.{held_from, weighted, array_slot}
 use Rattle.cg_base.specs.Weights.{total_of}
