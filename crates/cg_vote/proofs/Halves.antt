@@ -1,6 +1,6 @@
 -- Two quorums of one set share a member of it: else those in the one and those in the other would weigh no more than all.
-use Rattle.std.proofs.Common.{◌≡◌, ℕ, ◌+◌, ◌*◌, ◌<◌, ◌≤◌, Bool, true, false, cond, ◌&&◌, List, [], ◌∷◌, refl, arith, ◌⊎◌, inl, inr, eqb}
-use Rattle.std.specs.List.{filter, sum_by, list_any}
+use Rattle.std.proofs.Common.{◌≡◌, ℕ, ◌+◌, ◌*◌, ◌<◌, ◌≤◌, true, false, cond, ◌&&◌, List, [], ◌∷◌, refl, arith, ◌⊎◌, inl, inr, eqb}
+use Rattle.std.specs.List.{filter, sum_by}
 use Rattle.std.proofs.lemmas.Bool.{ltb-true, eqb-true, eq-eqb, or_cases, or_left, or_right, and_parts, cases_Bool}
 use Rattle.std.proofs.lemmas.List.Sums.{sum_by-cons}
 use Rattle.cg_base.specs.declared.weighted.Weighted.{Weighted}
