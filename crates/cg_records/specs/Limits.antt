@@ -1,9 +1,10 @@
 -- Which values a record may have.
-use Rattle.std.specs.Prelude.{ℕ, ◌^◌, ◌<◌, ◌≤◌, List, [], ◌∷◌, Option, Some, None, length}
+use Rattle.std.specs.Prelude.{ℕ, ◌^◌, ◌<◌, ◌≤◌, List, [], ◌∷◌, Option, length}
 use Rattle.cg_base.specs.declared.action_id.ActionId.{ActionId}
 use Rattle.cg_base.specs.Sets.{IsId, IsSet, Ascends}
 use Rattle.cg_base.specs.Weights.{IsWeightSet}
 use Rattle.cg_base.specs.Cuts.{creators_in}
+use Rattle.cg_codec.specs.Laws.{HasOptional}
 use Rattle.cg_records.specs.declared.primary.Primary.{Primary}
 use Rattle.cg_records.specs.declared.vulnerable.Vulnerable.{Vulnerable}
 use Rattle.cg_records.specs.declared.yellow.Yellow.{Yellow}
@@ -21,20 +22,15 @@ IsIndex n = (1 ≤ n) × (n < 2 ^ 63)
 abbrev pub IsName : ActionId → Type 0
 IsName id = IsId id.creator × IsIndex id.index
 
--- each of them names an action
-abbrev pub AreNames : List ActionId → Type 0
-AreNames [] = Unit {0}
-AreNames (id ∷ ids) = IsName id × AreNames ids
-
--- each of them has an index
-abbrev pub HaveIndexes : List ActionId → Type 0
-HaveIndexes [] = Unit {0}
-HaveIndexes (id ∷ ids) = IsIndex id.index × HaveIndexes ids
+-- it holds of each of them
+abbrev pub Each : {X : Type 0} → (X → Type 0) → List X → Type 0
+Each P [] = Unit {0}
+Each P (x ∷ xs) = P x × Each P xs
 
 -- a cut whose indexes are small
 pub record IsSmallCut (cut : List ActionId) : Type 0 where
   pub ascends : Ascends 1 (creators_in cut)
-  pub indexes : HaveIndexes cut
+  pub indexes : Each (λ top. IsIndex top.index) cut
 
 -- what a primary component may be
 pub record IsPrimary (p : Primary) : Type 0 where
@@ -50,13 +46,12 @@ pub record IsVulnerable (v : Vulnerable) : Type 0 where
   pub bits : IsSet v.bits
 
 abbrev pub IsMaybeVulnerable : Option Vulnerable → Type 0
-IsMaybeVulnerable None = Unit {0}
-IsMaybeVulnerable (Some v) = IsVulnerable v
+IsMaybeVulnerable v = HasOptional IsVulnerable v
 
 -- what a yellow list may be
 pub record IsYellow (y : Yellow) : Type 0 where
   pub short : length y.list < 2 ^ 32
-  pub names : AreNames y.list
+  pub names : Each IsName y.list
 
 -- what the stable part of a replica may be
 pub record IsStable (s : Stable) : Type 0 where

@@ -19,11 +19,9 @@ pub fn records_are_exact()
     ensures maybe_vulnerable { IsField IsMaybeVulnerable (optional spelled_vulnerable) take_maybe_vulnerable }
     ensures yellow { IsField IsYellow spelled_yellow take_yellow }
     ensures stable { IsField IsStable spelled_stable take_stable }
-{
-}
+{}
 
 /// The same of bytes that are all of a record: those that spell it are read as it, and no others are.
 pub fn all_bytes_are_stable()
     ensures { IsWhole IsStable spelled_stable take_stable }
-{
-}
+{}

@@ -12,6 +12,8 @@ mod numbers;
 mod primary;
 mod sets;
 mod stable;
+#[cfg(test)]
+mod tests;
 mod vulnerable;
 mod yellow;
 
@@ -21,5 +23,7 @@ pub use numbers::{take_id, take_number};
 pub use primary::{Primary, put_prim, take_prim};
 pub use sets::{put_set, put_weight_set, take_set, take_weight_set};
 pub use stable::{Stable, put_stable, take_stable};
-pub use vulnerable::{Vulnerable, put_maybe_vulnerable, put_vulnerable, take_maybe_vulnerable, take_vulnerable};
+pub use vulnerable::{
+    Vulnerable, put_maybe_vulnerable, put_vulnerable, take_maybe_vulnerable, take_vulnerable,
+};
 pub use yellow::{Yellow, put_yellow, take_yellow};

@@ -8,7 +8,7 @@ ghost use Rattle.cg_records.specs.Reading.{take_vulnerable as reading_vulnerable
 use crate::numbers::take_number;
 use crate::sets::{put_set, take_set};
 use cg_base::{IdSet, NoMemory};
-use cg_codec::{CodecFault, Fields, put_truth, put_u64};
+use cg_codec::{CodecFault, Fields, put_u8, put_u64};
 
 /// An attempt to install a primary component that may have come to its end at others: its configuration, the index of the
 /// primary component that it was made from, its members, and those of them whose record of it is known.
@@ -96,9 +96,9 @@ fn write_maybe_vulnerable(out: &mut Vec<u8>, v: &Option<Vulnerable>) -> Result<(
     ensures err { OnErr result (KeepsFront out.old.items out.new.items) }
 {
     match v {
-        None => put_truth(out, false),
+        None => put_u8(out, 0),
         Some(v) => {
-            put_truth(out, true)?;
+            put_u8(out, 1)?;
             put_vulnerable(out, v)
         }
     }

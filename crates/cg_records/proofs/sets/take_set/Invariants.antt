@@ -1,11 +1,7 @@
-use Rattle.std.proofs.Common.{◌≡◌, ◌++◌, OnOk, OnErr, ℕ, ◌+◌, ◌-◌, ◌*◌, ◌<◌, ◌≤◌, length}
-use Rattle.cg_base.specs.Text.{KeepsFront}
-use Rattle.cg_codec.specs.Taking.{unread_of, Takes}
-use Rattle.cg_records.specs.Bytes.{spelled_set, spelled_weight_set, spelled_weighted}
-use Rattle.cg_records.specs.Reading.{take_set as reading_set}
-use Rattle.cg_records.specs.Reading.{take_weight_set as reading_weight_set}
-use Rattle.cg_records.specs.Reading.{take_weighted_above as weighted_above}
+use Rattle.cg_codec.specs.Taking.{unread_of}
+use Rattle.cg_records.specs.Reading.{take_set, take_id_above, last_of}
+use Rattle.cg_records.proofs.ItemLoops.{ReadSoFar}
 use Rattle.cg_records.proofs.sets.take_set.Given as goal
 
 abbrev pub invariant-members : goal.invariant-members
-invariant-members l = ?
+invariant-members l = ReadSoFar (λ taken. take_id_above (last_of taken)) (take_set (unread_of l.f)) l.count l.counter l.last l.set l.set (unread_of l.after)
