@@ -35,7 +35,7 @@ IsCut-tops_of slots array = record {
   named = NameActions-held_from (array_slot slots) 32 1 (λ p. array.small (p - 1));
 }
 
-each_made : (cut : List ActionId) → NameActions cut → EachMade top (λ t. t.creator) (λ t. t.index) cut
+pub each_made : (cut : List ActionId) → NameActions cut → EachMade top (λ t. t.creator) (λ t. t.index) cut
 each_made [] named = tt
 each_made (t ∷ cut) named = (refl, named.0, each_made cut named.2)
 

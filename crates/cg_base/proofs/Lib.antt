@@ -6,3 +6,6 @@ pub mod ArrayLemmas
 pub mod WeightLemmas
 pub mod CutLemmas
 pub mod TextLemmas
+pub mod SetFacts
+pub mod WeightFacts
+pub mod CutFacts

@@ -38,7 +38,7 @@ IsWeightSet-weights_of slots array = record {
   weigh = Weigh-held_from (array_slot slots) 32 1 (λ p. array.small (p - 1));
 }
 
-each_made : (set : List Weighted) → Weigh set → EachMade weighted (λ m. m.id) (λ m. m.weight) set
+pub each_made : (set : List Weighted) → Weigh set → EachMade weighted (λ m. m.id) (λ m. m.weight) set
 each_made [] weigh = tt
 each_made (m ∷ set) weigh = (refl, weigh.0, each_made set weigh.2)
 

@@ -25,7 +25,7 @@ value_in-has (q ∷ set) p = elim (cases_eq q p) [
   | inr apart ↦ rw (ne_eqb q p apart) (value_in-has set p)
 ]
 
-each_made : (set : List ℕ) → EachMade member (λ q. q) (λ _. 1) set
+pub each_made : (set : List ℕ) → EachMade member (λ q. q) (λ _. 1) set
 each_made [] = tt
 each_made (p ∷ set) = (refl, omega arith, each_made set)
 
