@@ -1,5 +1,5 @@
 -- Each record is exactly its spelling, by the laws on fields.
-use Rattle.std.proofs.Common.{◌≡◌, ℕ, suc, ◌+◌, ◌-◌, ◌^◌, ◌<◌, ◌≤◌, Bool, true, ◌&&◌, ltb, leb, List, [], ◌∷◌, ◌++◌, length, map, refl, sym, ap, ◌∙◌, arith}
+use Rattle.std.proofs.Common.{◌≡◌, ℕ, suc, ◌-◌, ◌^◌, ◌<◌, ◌≤◌, Bool, true, ◌&&◌, ltb, leb, List, [], ◌∷◌, ◌++◌, length, map, refl, sym, ap, ◌∙◌, arith}
 use Rattle.std.specs.Prelude.{Option}
 use Rattle.std.proofs.lemmas.Bool.{ltb-true, leb-true, lt-ltb, le-leb, and_parts, and_from}
 use Rattle.std.proofs.lemmas.List.{length-map}
@@ -12,7 +12,7 @@ use Rattle.cg_base.specs.SlotLaws.{map-itself}
 use Rattle.cg_base.proofs.SetLemmas.{length-Ascends}
 use Rattle.cg_codec.specs.Fields.{byte, number64, truth, list, optional}
 use Rattle.cg_codec.specs.Reading.{Reading, ◌>>=◌, done, only, take_u8, take_u64, take_truth, take_list}
-use Rattle.cg_codec.specs.Laws.{IsField, IsWhole, EachBehind, HasOptional}
+use Rattle.cg_codec.specs.Laws.{IsField, IsWhole, EachBehind}
 use Rattle.cg_codec.proofs.FieldLaws.{field_has, field_only, field_bind, field_map, field_optional, field_whole}
 use Rattle.cg_codec.proofs.PlainFields.{IsBelow, u8_field, u64_field, truth_field, count_field}
 use Rattle.cg_codec.proofs.ListLaws.{field_list}

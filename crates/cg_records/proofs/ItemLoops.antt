@@ -1,5 +1,5 @@
 -- Loops that read items whose keys ascend.
-use Rattle.std.proofs.Common.{◌≡◌, ℕ, suc, ◌+◌, ◌-◌, ◌<◌, ◌≤◌, List, [], ◌∷◌, ◌++◌, Result, Ok, refl, sym, ◌∙◌, arith}
+use Rattle.std.proofs.Common.{◌≡◌, ℕ, suc, ◌+◌, ◌-◌, ◌<◌, List, [], ◌∷◌, ◌++◌, Result, Ok, refl, sym, arith}
 use Rattle.std.proofs.lemmas.List.Sums.{fold_push}
 use Rattle.cg_codec.specs.declared.fault.CodecFault.{CodecFault}
 use Rattle.cg_codec.specs.Reading.{Unread, Reading, take_items}

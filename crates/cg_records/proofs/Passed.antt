@@ -1,5 +1,5 @@
 -- What a field that was read has passed.
-use Rattle.std.proofs.Common.{◌≡◌, ℕ, ◌^◌, ◌<◌, ◌≤◌, true, ◌&&◌, ltb, leb, Ok, arith}
+use Rattle.std.proofs.Common.{◌≡◌, ℕ, ◌^◌, ◌<◌, ◌≤◌, ◌&&◌, ltb, leb, Ok}
 use Rattle.std.proofs.lemmas.Bool.{ltb-true, leb-true, and_parts}
 use Rattle.cg_base.specs.declared.action_id.ActionId.{ActionId}
 use Rattle.cg_base.specs.declared.weighted.Weighted.{Weighted}

@@ -1,7 +1,7 @@
 ghost use Rattle.std.specs.Prelude.{◌≡◌, ◌++◌, ◌^◌, ◌<◌, length, OnOk, OnErr};
 ghost use Rattle.cg_base.specs.Text.{KeepsFront};
 ghost use Rattle.cg_codec.specs.Reading.{whole};
-ghost use Rattle.cg_codec.specs.Taking.{unread_of, TakesWithMemory, Gives};
+ghost use Rattle.cg_codec.specs.Taking.{unread_of, TakesWithMemory, Decodes};
 ghost use Rattle.cg_records.specs.Bytes.{spelled_stable};
 ghost use Rattle.cg_records.specs.Reading.{take_stable as reading_stable};
 
@@ -36,7 +36,7 @@ impl Stable {
 
     /// The value that the bytes spell.
     pub fn decode(alloc: Global, bytes: &[u8]) -> Result<Stable, CodecFault>
-        ensures { Gives (λ x. x) (whole reading_stable bytes.now) result }
+        ensures { Decodes (λ x. x) (whole reading_stable bytes.now) result }
     {
         let mut f = Fields::new(bytes);
         let s = take_stable(alloc, &mut f)?;

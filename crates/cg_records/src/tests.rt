@@ -83,7 +83,9 @@ fn the_first_fault_from_the_left_is_found(rt: HostRuntime) {
     ];
     for (place, byte, at) in changed {
         let mut bytes = BYTES;
-        bytes[place] = byte;
+        if let Some(b) = bytes.get_mut(place) {
+            *b = byte;
+        }
         assert_eq!(rt;
             fault_of(rt.alloc(), &bytes),
             Some(CodecFault::Bad { at }),

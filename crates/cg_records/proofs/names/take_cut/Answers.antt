@@ -1,4 +1,4 @@
-use Rattle.std.proofs.Common.{◌≡◌, ◌≢◌, ◌<◌, ◌≤◌, Ok, Err, ◌∷◌, [], ◌++◌, refl, ◌∙◌, arith}
+use Rattle.std.proofs.Common.{◌≡◌, ◌≢◌, Ok, Err, ◌∷◌, [], ◌++◌, refl, ◌∙◌, arith}
 use Rattle.std.proofs.lemmas.Result.{err_from_is_err_and}
 use Rattle.cg_base.specs.Cuts.{creators_in}
 use Rattle.cg_codec.specs.declared.fault.CodecFault.TheVariants.{NoMemory}

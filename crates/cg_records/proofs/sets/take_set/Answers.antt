@@ -1,7 +1,7 @@
 use Rattle.std.proofs.Common.{◌≡◌, ◌≢◌, ◌<◌, Ok, Err, ◌∷◌, [], ◌++◌, refl, ◌∙◌, arith}
 use Rattle.std.proofs.lemmas.Result.{err_from_is_err_and}
 use Rattle.cg_codec.specs.declared.fault.CodecFault.TheVariants.{NoMemory}
-use Rattle.cg_codec.specs.Reading.{take_items, take_count}
+use Rattle.cg_codec.specs.Reading.{take_count}
 use Rattle.cg_codec.specs.Taking.{unread_of}
 use Rattle.cg_codec.proofs.Items.{items_stop, items_end}
 use Rattle.cg_records.specs.Reading.{take_set, take_id_above, last_of}
