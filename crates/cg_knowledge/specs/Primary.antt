@@ -1,5 +1,5 @@
 -- The last primary component that the members know of.
-use Rattle.std.specs.Prelude.{ℕ, ◌==◌, Bool, List, [], Option, map, filter}
+use Rattle.std.specs.Prelude.{ℕ, ◌==◌, Bool, List, [], map, filter}
 use Rattle.std.specs.Option.{option_map_or}
 use Rattle.cg_base.specs.Lists.{greatest}
 use Rattle.cg_records.specs.declared.primary.Primary.{Primary}

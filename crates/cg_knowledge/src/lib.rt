@@ -10,6 +10,8 @@ mod knowledge;
 mod members;
 mod primary;
 mod summary;
+#[cfg(test)]
+mod tests;
 mod verdict;
 mod vulnerable;
 mod yellow;
