@@ -1,7 +1,6 @@
 -- A text between quotes is read as it is printed, and no other way.
-use Rattle.std.proofs.Common.{◌≡◌, ℕ, zero, suc, ◌<◌, ◌≤◌, Bool, true, false, cond, eqb, List, [], ◌∷◌, ◌++◌, length, Option, Some, None, refl, sym, ap, subst, ◌∙◌, append_assoc, arith, ◌&&◌, ◌||◌, not, ◌⊎◌, inl, inr}
-use Rattle.std.specs.Prelude.{flat_map, option_and_then, nat_le}
-use Rattle.std.specs.List.{list_all}
+use Rattle.std.proofs.Common.{◌≡◌, ℕ, ◌≤◌, Bool, true, false, cond, eqb, List, [], ◌∷◌, ◌++◌, length, Option, Some, None, refl, sym, ap, append_assoc, ◌&&◌, ◌||◌, not, ◌⊎◌, inl, inr}
+use Rattle.std.specs.Prelude.{flat_map, nat_le}
 use Rattle.std.specs.Str.{IsUtf8, is_utf8}
 use Rattle.std.proofs.lemmas.Bool.{eqb-true, leb-true, le-leb}
 use Rattle.std.proofs.lemmas.List.Concat.{flat_map-cons}
@@ -9,7 +8,7 @@ use Rattle.std.proofs.lemmas.Option.{cond_some, none-some, same_Some, option_and
 use Rattle.std.proofs.lemmas.Str.{IsUtf8-from_is_utf8, is_utf8-from_IsUtf8}
 use Rattle.cg_text.specs.declared.fault.TextFault.TheVariants.{BadQuote, TooLong}
 use Rattle.cg_text.specs.Fault.{IsSpelling}
-use Rattle.cg_text.specs.Quoted.{is_special, is_control, escaped, quoted, is_printable, closed, onto, kept, ends_text, escapes, is_refused, text_up_to_quote, text_between, if_text, quoted_text, read_quoted}
+use Rattle.cg_text.specs.Quoted.{is_special, is_control, escaped, quoted, is_printable, closed, onto, kept, text_up_to_quote, text_between, if_text, quoted_text, read_quoted}
 use Rattle.cg_text.proofs.NumberLaws.{fitting-ok}
 use Rattle.cg_text.proofs.Scanning.{one_of}
 

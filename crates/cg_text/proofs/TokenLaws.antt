@@ -1,14 +1,11 @@
 -- The tokens of a line that was printed token by token.
-use Rattle.std.proofs.Common.{◌≡◌, ℕ, Bool, true, false, eqb, List, [], ◌∷◌, ◌++◌, length, refl, sym, ap, ◌∙◌, append_assoc, ◌&&◌, ◌||◌, not}
-use Rattle.std.specs.Prelude.{flat_map}
+use Rattle.std.proofs.Common.{◌≡◌, ℕ, Bool, true, false, eqb, List, [], ◌∷◌, ◌++◌, refl, sym, ap, ◌∙◌, append_assoc, ◌&&◌, ◌||◌, not}
 use Rattle.std.specs.List.{list_all}
 use Rattle.std.specs.Str.{IsUtf8}
-use Rattle.std.proofs.lemmas.Bool.{eqb-true}
 use Rattle.std.proofs.lemmas.List.{append-nil}
-use Rattle.std.proofs.lemmas.List.Concat.{flat_map-cons}
 use Rattle.cg_text.specs.Quoted.{is_special, escaped, quoted, is_printable}
 use Rattle.cg_text.specs.Tokens.{is_blank, is_separator, is_mark, tokens_from, tokens, InWord, InText, is_word, ends_word, token_of, Bare, Quoted}
-use Rattle.cg_text.proofs.Scanning.{one_of, tokens-word, word-goes_on, word-stops, word-ends, text-goes_on, text-stops, text-ends, tokens-text}
+use Rattle.cg_text.proofs.Scanning.{tokens-word, word-goes_on, word-stops, word-ends, text-goes_on, text-stops, tokens-text}
 use Rattle.cg_text.proofs.QuotedLaws.{rest_of, rest_of-cons, quoted_text-again}
 
 -- a first part that holds, and the others
