@@ -1,0 +1,4 @@
+pub mod Ascending
+pub mod Passed
+pub mod ItemLoops
+pub mod Exact
