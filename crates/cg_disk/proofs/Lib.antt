@@ -1,0 +1,7 @@
+mod Counting
+mod Images
+mod Moments
+mod Strikes
+mod Tearing
+mod Undoing
+mod Writing
