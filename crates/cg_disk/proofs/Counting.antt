@@ -94,12 +94,15 @@ stops m n cut a b called faults struck strike = record {
   faults = faults;
   untold = λ none. absurd (cc);
   told = λ d is.
-      let told : state_of m ≡ d = cc in
-      (state_of n, refl, record {
-        blow = Stops;
-        struck = ap (λ s. blow_at s.strike n.calls) (sym told) ∙ struck;
-        left = (λ i. record { a = a i; b = b i; strike = strike i }) ∙ ap (λ s. after_blow Stops cut n.calls s) told;
-      });
+      let told : state_of m ≡ d = cc in (
+        state_of n,
+        refl,
+        record {
+          blow = Stops;
+          struck = ap (λ s. blow_at s.strike n.calls) (sym told) ∙ struck;
+          left = (λ i. record { a = a i; b = b i; strike = strike i }) ∙ ap (λ s. after_blow Stops cut n.calls s) told;
+        },
+      );
 }
 
 -- what was settled
@@ -160,12 +163,15 @@ module _ (m n : ModelDisk) (settles : Settles m n) where
     faults = faults;
     untold = λ none. absurd (cc);
     told = λ d is.
-        let told : state_of m ≡ d = cc in
-        (state_of n, refl, record {
-          blow = Fails;
-          struck = ap (λ s. blow_at s.strike n.calls) (sym told) ∙ struck;
-          left = (λ i. record { a = clean_a i; b = clean_b i; strike = strike i }) ∙ ap (λ s. after_blow Fails cut n.calls s) told;
-        });
+        let told : state_of m ≡ d = cc in (
+          state_of n,
+          refl,
+          record {
+            blow = Fails;
+            struck = ap (λ s. blow_at s.strike n.calls) (sym told) ∙ struck;
+            left = (λ i. record { a = clean_a i; b = clean_b i; strike = strike i }) ∙ ap (λ s. after_blow Fails cut n.calls s) told;
+          },
+        );
   }
 
 -- writes settled after a call that left the sides as they were

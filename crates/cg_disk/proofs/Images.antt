@@ -1,9 +1,9 @@
 -- What each fill leaves of a side is one of the images that a crash may leave.
-use Rattle.std.proofs.Common.{◌≡◌, inl, inr, ⊎_elim, ℕ, suc, zero, ◌+◌, ◌≤◌, ◌<◌, Bool, true, false, List, [], ◌∷◌, length, get_or, Option, Some, None, refl, sym, ◌∙◌, ap, arith}
+use Rattle.std.proofs.Common.{◌≡◌, inl, inr, ⊎_elim, ℕ, suc, zero, ◌+◌, ◌≤◌, ◌<◌, Bool, true, false, List, [], ◌∷◌, length, get_or, drop, Option, Some, None, refl, sym, ◌∙◌, ap, arith}
 use Rattle.std.specs.List.{slice_get}
 use Rattle.std.specs.Bool.{if◌then◌else◌}
-use Rattle.std.proofs.lemmas.List.{ext_get_or}
-use Rattle.std.proofs.lemmas.Option.{slice_get_cases}
+use Rattle.std.proofs.lemmas.List.{ext_get_or, drop_more}
+use Rattle.std.proofs.lemmas.Option.{slice_get_cases, slice_get-get_or, slice_get_past}
 use Rattle.cg_disk.specs.State.{SideState, LeavesSide, is_unsynced, fill_place, filled_from, filled}
 
 -- what the bytes from a place on come to
@@ -69,3 +69,23 @@ seen_leaves s grown = record { no_shorter = grown; no_longer = omega arith; same
 pub only_seen : (s : SideState) (c : List ℕ) → s.unsynced ≡ [] → s.old ≡ s.seen → LeavesSide s c → c ≡ s.seen
 only_seen s c none same left =
     ext_get_or 0 c s.seen (let e = ap length same in omega (arith, left.no_shorter, left.no_longer, e)) (λ k inside. left.same k inside (ap (λ ranges. is_unsynced ranges k) none))
+
+-- one place more of what a fill leaves
+module _ (s : SideState) (place : ℕ) (seen : List ℕ) (inside : place < length seen) where
+  opened : (fill : List ℕ) → filled_from s place (drop place seen) fill ≡ filled_from s place (get_or seen place 0 ∷ drop (place + 1) seen) fill
+  opened fill = ap (λ (l : List ℕ). filled_from s place l fill) (drop_more seen place 0 inside)
+
+  next : suc place ≡ place + 1
+  next = omega arith
+
+  pub fill_kept : (fill : List ℕ) → is_unsynced s.unsynced place ≡ false → filled_from s place (drop place seen) fill ≡ get_or seen place 0 ∷ filled_from s (place + 1) (drop (place + 1) seen) fill
+  fill_kept fill free = opened fill ∙ (λ i. if free i then fill_place fill (slice_get s.old place) (filled_from s (suc place) (drop (place + 1) seen)) else get_or seen place 0 ∷ filled_from s (next i) (drop (place + 1) seen) fill)
+
+  pub fill_next : (byte : ℕ) (fill : List ℕ) → is_unsynced s.unsynced place ≡ true → filled_from s place (drop place seen) (byte ∷ fill) ≡ byte ∷ filled_from s (place + 1) (drop (place + 1) seen) fill
+  fill_next byte fill written = opened (byte ∷ fill) ∙ (λ i. if written i then byte ∷ filled_from s (next i) (drop (place + 1) seen) fill else get_or seen place 0 ∷ filled_from s (suc place) (drop (place + 1) seen) (byte ∷ fill))
+
+  pub fill_old : place < length s.old → is_unsynced s.unsynced place ≡ true → filled_from s place (drop place seen) [] ≡ get_or s.old place 0 ∷ filled_from s (place + 1) (drop (place + 1) seen) []
+  fill_old there written = opened [] ∙ (λ i. if written i then fill_place [] (slice_get-get_or s.old place 0 there i) (filled_from s (next i) (drop (place + 1) seen)) else get_or seen place 0 ∷ filled_from s (suc place) (drop (place + 1) seen) [])
+
+  pub fill_ends : length s.old ≤ place → is_unsynced s.unsynced place ≡ true → filled_from s place (drop place seen) [] ≡ []
+  fill_ends past written = opened [] ∙ (λ i. if written i then fill_place [] (slice_get_past s.old place past i) (filled_from s (suc place) (drop (place + 1) seen)) else get_or seen place 0 ∷ filled_from s (suc place) (drop (place + 1) seen) [])

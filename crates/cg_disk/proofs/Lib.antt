@@ -1,6 +1,9 @@
 mod Counting
+mod Crashing
+mod Filling
 mod Images
 mod Moments
+mod Places
 mod Strikes
 mod Tearing
 mod Undoing

@@ -26,15 +26,20 @@ marks_of m = reverse m.past.items
 abbrev pub state_of : ModelDisk → DiskState
 state_of m = record { a = side_of m.a; b = side_of m.b; strike = strike_of m.calls m.armed }
 
-abbrev pub view_of : ModelDisk → DiskView
-view_of m = record {
-  reads = shown (state_of m);
-  may_leave = Leaves (side_of m.a) (side_of m.b);
-  left_since = MayHaveLeft (side_of m.a) (side_of m.b) m.calls m.begun (marks_of m);
-  time = m.calls;
-  faults = m.faults;
-  state = Some (state_of m);
+-- what contracts see of a disk with these sides, this strike, so many calls and faults, so many calls before the last
+-- `begin`, and these marks since
+abbrev pub view_with : SideState → SideState → Option Strike → ℕ → ℕ → ℕ → List Mark → DiskView
+view_with a b strike calls faults begun marks = record {
+  reads = record { a = a.seen; b = b.seen };
+  may_leave = Leaves a b;
+  left_since = MayHaveLeft a b calls begun marks;
+  time = calls;
+  faults = faults;
+  state = Some (record { a = a; b = b; strike = strike });
 }
+
+abbrev pub view_of : ModelDisk → DiskView
+view_of m = view_with (side_of m.a) (side_of m.b) (strike_of m.calls m.armed) m.calls m.faults m.begun (marks_of m)
 
 -- both sides, the marks and the moments answered for are as before
 pub record SameSides (old new : ModelDisk) : Type 0 where

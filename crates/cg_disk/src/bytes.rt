@@ -19,7 +19,12 @@ pub fn overwrite(bytes: &mut Vec<u8>, place: usize, new: &[u8]) -> Result<(), No
 }
 
 /// The bytes that a write of this many at a place writes over.
-pub fn written_over(alloc: Global, bytes: &[u8], place: usize, count: usize) -> Result<Vec<u8>, NoMemory>
+pub fn written_over(
+    alloc: Global,
+    bytes: &[u8],
+    place: usize,
+    count: usize,
+) -> Result<Vec<u8>, NoMemory>
     requires { place ≤ length bytes.now }
     ensures { IfOk result (λ over. over.items ≡ take (min count (length bytes.now - place)) (drop place bytes.now)) }
 {

@@ -17,7 +17,7 @@ pub struct ModelSide {
 
 impl ModelSide {
     ghost use Rattle.std.specs.Prelude.{IfOk};
-    ghost use Rattle.cg_disk.specs.State.{wrote_side, unsynced_from, filled};
+    ghost use Rattle.cg_disk.specs.State.{wrote_side, is_unsynced, unsynced_from, filled};
     ghost use Rattle.cg_disk.specs.Model.{side_of};
 
     /// A side with these bytes, all of them synced.
@@ -66,13 +66,20 @@ impl ModelSide {
         Ok(old)
     }
 
+    // Whether a place was written since the last sync.
+    fn was_written(&self, place: usize) -> bool
+        ensures { result ≡ is_unsynced (side_of self.now).unsynced place }
+    {
+        is_among(&self.unsynced, place)
+    }
+
     /// How many places were written since the last sync.
     pub fn unsynced_places(&self) -> usize
         ensures { result ≡ unsynced_from (side_of self.now) 0 self.now.bytes.items }
     {
         let mut count = 0;
         for place in 0..self.bytes.len() {
-            if is_among(&self.unsynced, place) {
+            if self.was_written(place) {
                 count += 1;
             }
         }
@@ -85,13 +92,13 @@ impl ModelSide {
     {
         let old = self.old(alloc)?;
         let mut bytes = Vec::new(alloc);
-        let mut rest = fill;
+        let mut used = 0;
         for (place, byte) in self.bytes.iter().enumerate() {
-            if !is_among(&self.unsynced, place) {
+            if !self.was_written(place) {
                 bytes.push(*byte)?;
-            } else if let [first, others @ ..] = rest {
-                bytes.push(*first)?;
-                rest = others;
+            } else if used < fill.len() {
+                bytes.push(fill[used])?;
+                used += 1;
             } else if place < old.len() {
                 bytes.push(old[place])?;
             } else {

@@ -30,7 +30,10 @@ pub fn before_write(alloc: Global, bytes: &[u8], written: &Written) -> Result<Ve
 pub fn is_among(writes: &[Written], place: usize) -> bool
     ensures { result ≡ is_unsynced (ranges writes.now) place }
 {
-    writes
-        .iter()
-        .any(|w| w.place <= place && place - w.place < w.count)
+    for w in writes {
+        if w.place <= place && place - w.place < w.count {
+            return true;
+        }
+    }
+    false
 }
