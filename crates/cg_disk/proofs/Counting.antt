@@ -1,19 +1,18 @@
 -- What a call of a disk in memory shows of it.
-use Rattle.std.proofs.Common.{◌≡◌, inl, inr, ⊎_elim, ◌⊎◌, ℕ, suc, ◌≤◌, ◌<◌, List, [], ◌∷◌, length, drop, reverse, Some, None, Result, Ok, Err, refl, sym, ◌∙◌, ap, subst, arith}
+use Rattle.std.proofs.Common.{◌≡◌, inl, inr, ⊎_elim, ℕ, suc, ◌≤◌, ◌<◌, List, [], ◌∷◌, drop, reverse, Some, None, Result, Ok, Err, refl, sym, ◌∙◌, ap, subst, arith}
 use Rattle.cg_disk.specs.Sides.{Image}
-use Rattle.cg_disk.specs.State.{SideState, DiskState, Blow, Fails, Stops, Leaves, LeavesSide, blow_at, after_blow, synced_side, synced, looked, shown, unsynced_from}
+use Rattle.cg_disk.specs.State.{SideState, DiskState, Fails, Stops, Leaves, LeavesSide, blow_at, after_blow, synced_side, looked, shown, unsynced_from}
 use Rattle.cg_disk.specs.Writes.{Only}
-use Rattle.cg_disk.specs.Undo.{undone, side_after}
+use Rattle.cg_disk.specs.Undo.{side_after}
 use Rattle.cg_disk.specs.Armed.{strike_of}
-use Rattle.cg_disk.specs.Past.{HadLeft, MayHaveLeft, last_call, settled_a, settled_b}
-use Rattle.cg_disk.specs.Model.{writes_of, side_of, marks_of, state_of, view_of, SameSides, IsMarked, IsClear, Settles, IsCounted, IsStopped, FailsOnce, Counts}
+use Rattle.cg_disk.specs.Past.{MayHaveLeft, last_call}
+use Rattle.cg_disk.specs.Model.{writes_of, side_of, marks_of, state_of, view_of, SameSides, IsMarked, IsClear, Settles, IsCounted, Counts}
 use Rattle.cg_disk.specs.Calls as calls
 use Rattle.std.proofs.lemmas.Bool.Decides.{nat_tests}
 use Rattle.cg_disk.specs.declared.armed.Armed.{Armed}
 use Rattle.cg_disk.specs.declared.armed.Armed.TheVariants.{Nothing, Failure, Stop}
 use Rattle.cg_disk.specs.declared.disk.DiskFault.{DiskFault}
 use Rattle.cg_disk.specs.declared.disk.DiskFault.TheVariants.{Failed, NoMemory}
-use Rattle.cg_disk.specs.declared.written.Written.{Written}
 use Rattle.cg_disk.specs.declared.mark.Mark.{Mark}
 use Rattle.cg_disk.specs.declared.model_side.ModelSide.{ModelSide}
 use Rattle.cg_disk.specs.declared.model_disk.ModelDisk.{ModelDisk}

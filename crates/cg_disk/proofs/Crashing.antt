@@ -1,11 +1,10 @@
 -- What a crash leaves of a disk in memory.
-use Rattle.std.proofs.Common.{◌≡◌, ℕ, ◌-◌, min, List, [], length, take, drop, Option, Some, None, refl, sym, ◌∙◌, ap, subst, length-drop}
+use Rattle.std.proofs.Common.{◌≡◌, ℕ, ◌-◌, min, List, length, take, drop, Option, Some, None, sym, ◌∙◌, ap, subst, length-drop}
 use Rattle.std.proofs.lemmas.List.{take_all, drop_min}
 use Rattle.cg_disk.specs.Sides.{Image}
-use Rattle.cg_disk.specs.State.{SideState, Strike, Leaves, LeavesSide, filled, left_by, synced_side, unsynced_from}
-use Rattle.cg_disk.specs.Writes.{Only}
+use Rattle.cg_disk.specs.State.{SideState, Strike, Leaves, left_by, synced_side}
 use Rattle.cg_disk.specs.View.{IsAtRest}
-use Rattle.cg_disk.specs.Crashes.{IsCrashed, clean_side, clean_disk}
+use Rattle.cg_disk.specs.Crashes.{IsCrashed, clean_side}
 use Rattle.cg_disk.specs.Model.{side_of, state_of, view_of, view_with}
 use Rattle.cg_disk.specs.declared.mark.Mark.{Mark}
 use Rattle.cg_disk.specs.declared.model_disk.ModelDisk.{ModelDisk}

@@ -1,5 +1,5 @@
 -- A step of filling a side: the bytes so far, and what the fill leaves of the rest.
-use Rattle.std.proofs.Common.{◌≡◌, ℕ, ◌+◌, ◌≤◌, ◌<◌, true, false, List, [], ◌∷◌, ◌++◌, length, get_or, drop, refl, sym, ◌∙◌, ap, append_assoc}
+use Rattle.std.proofs.Common.{◌≡◌, ℕ, ◌+◌, ◌≤◌, ◌<◌, true, false, List, [], ◌∷◌, ◌++◌, length, get_or, drop, sym, ◌∙◌, ap, append_assoc}
 use Rattle.std.proofs.lemmas.List.{drop_more, drop_all, append-nil}
 use Rattle.cg_disk.specs.State.{SideState, is_unsynced, filled_from}
 use Rattle.cg_disk.proofs.Images.{fill_kept, fill_next, fill_old, fill_ends}

@@ -1,7 +1,7 @@
 -- When a call is struck.
-use Rattle.std.proofs.Common.{◌≡◌, ℕ, suc, ◌+◌, Some, None, refl, ◌∙◌, ap, arith}
+use Rattle.std.proofs.Common.{◌≡◌, ℕ, suc, ◌+◌, Some, ◌∙◌, ap, arith}
 use Rattle.std.proofs.lemmas.Bool.Decides.{nat_tests}
-use Rattle.cg_disk.specs.State.{Blow, Strike, Fails, blow_at}
+use Rattle.cg_disk.specs.State.{Blow, Fails, blow_at}
 use Rattle.cg_disk.specs.Armed.{strike_of}
 use Rattle.cg_disk.specs.declared.armed.Armed.{Armed}
 use Rattle.cg_disk.specs.declared.armed.Armed.TheVariants.{Failure}

@@ -1,5 +1,5 @@
 -- A write and what is kept of it give the bytes before.
-use Rattle.std.proofs.Common.{◌≡◌, ℕ, ◌+◌, ◌-◌, ◌≤◌, min, List, [], ◌∷◌, ◌++◌, length, take, drop, reverse, Result, Ok, Err, refl, sym, is_ok, IsOk, if◌then◌else◌, ◌∙◌, ap, arith, append_assoc, length-append, length-drop, take-append-drop}
+use Rattle.std.proofs.Common.{◌≡◌, ℕ, ◌+◌, ◌-◌, ◌≤◌, min, List, [], ◌∷◌, ◌++◌, length, take, drop, reverse, Result, Ok, Err, sym, is_ok, IsOk, if◌then◌else◌, ◌∙◌, ap, arith, append_assoc, length-append, length-drop, take-append-drop}
 use Rattle.std.proofs.lemmas.List.{take_at, drop_at, take_min, drop-drop, reverse-append, length-take-le}
 use Rattle.cg_disk.specs.Writes.{overwritten}
 use Rattle.cg_disk.specs.State.{wrote_side}

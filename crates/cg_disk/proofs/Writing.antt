@@ -1,9 +1,9 @@
 -- What a write to a disk in memory shows of it.
-use Rattle.std.proofs.Common.{◌≡◌, ℕ, suc, ◌+◌, ◌≤◌, List, length, refl, sym, ◌∙◌, ap, subst}
+use Rattle.std.proofs.Common.{◌≡◌, ℕ, suc, ◌≤◌, List, length, refl, sym, ◌∙◌, ap, subst}
 use Rattle.cg_disk.specs.Sides.{Image, bytes_of}
-use Rattle.cg_disk.specs.State.{SideState, DiskState, Leaves, LeavesSide, wrote_side, wrote, shown}
-use Rattle.cg_disk.specs.Writes.{Torn, TornSide, Follows}
-use Rattle.cg_disk.specs.Model.{side_of, marks_of, state_of, view_of, SameSides, IsWritten}
+use Rattle.cg_disk.specs.State.{SideState, DiskState, Leaves, wrote, shown}
+use Rattle.cg_disk.specs.Writes.{TornSide, Follows}
+use Rattle.cg_disk.specs.Model.{side_of, state_of, view_of, SameSides, IsWritten}
 use Rattle.cg_disk.specs.Calls as calls
 use Rattle.cg_disk.specs.declared.disk.Side.{Side}
 use Rattle.cg_disk.specs.declared.disk.Side.TheVariants.{A, B}

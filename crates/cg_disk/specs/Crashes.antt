@@ -1,5 +1,5 @@
 -- A new disk in memory, what is armed on it, and what a crash leaves of it.
-use Rattle.std.specs.Prelude.{◌≡◌, ℕ, ◌+◌, ◌↔◌, List, [], Option, Some, None, IfSome}
+use Rattle.std.specs.Prelude.{◌≡◌, ℕ, ◌+◌, ◌↔◌, List, [], Some, None, IfSome}
 use Rattle.std.specs.Option.{option_map}
 use Rattle.cg_disk.specs.Sides.{Image}
 use Rattle.cg_disk.specs.State.{SideState, DiskState, Blow, left_by}

@@ -1,8 +1,8 @@
 -- A disk in memory has a view of a disk.
-use Rattle.std.specs.Prelude.{◌≡◌, ℕ, suc, ◌+◌, ◌<◌, ◌⊎◌, IfSome, refl}
+use Rattle.std.specs.Prelude.{ℕ, ◌<◌, IfSome, refl}
 use Rattle.std.proofs.Common.{inl, inr, arith}
 use Rattle.cg_disk.specs.Sides.{Image}
-use Rattle.cg_disk.specs.State.{SideState, Strike, Leaves}
+use Rattle.cg_disk.specs.State.{SideState, Leaves}
 use Rattle.cg_disk.specs.View.{IsView}
 use Rattle.cg_disk.specs.Armed.{strike_of}
 use Rattle.cg_disk.specs.Past.{MayHaveLeft}

@@ -1,7 +1,6 @@
 -- A disk in memory as contracts see it.
-use Rattle.std.specs.Prelude.{◌≡◌, ℕ, ◌+◌, ◌<◌, ◌⊎◌, suc, Option, Some, None, Result, Ok, Err, List, [], ◌∷◌, reverse}
-use Rattle.cg_disk.specs.Sides.{Image}
-use Rattle.cg_disk.specs.State.{SideState, DiskState, Blow, Strike, Fails, Stops, shown, Leaves, blow_at, synced_side, wrote}
+use Rattle.std.specs.Prelude.{◌≡◌, ℕ, ◌⊎◌, suc, Option, Some, None, Result, Ok, Err, List, [], ◌∷◌, reverse}
+use Rattle.cg_disk.specs.State.{SideState, DiskState, Strike, Fails, Stops, Leaves, blow_at, wrote}
 use Rattle.cg_disk.specs.View.{DiskView}
 use Rattle.cg_disk.specs.Undo.{side_after}
 use Rattle.cg_disk.specs.Armed.{strike_of}

@@ -1,6 +1,6 @@
 -- What a disk that tells its state tells of it: what it held at the last sync, the places written since, and the call
 -- that is to be struck next.
-use Rattle.std.specs.Prelude.{◌≡◌, ℕ, suc, ◌+◌, ◌≤◌, ◌<◌, ◌==◌, Bool, true, false, nat_le, nat_lt, ◌&&◌, List, [], ◌∷◌, length, drop, Option, Some, None, slice_get, slice_index, if◌then◌else◌}
+use Rattle.std.specs.Prelude.{◌≡◌, ℕ, suc, ◌+◌, ◌≤◌, ◌<◌, ◌==◌, Bool, false, nat_le, nat_lt, ◌&&◌, List, [], ◌∷◌, length, drop, Option, Some, None, slice_get, slice_index, if◌then◌else◌}
 use Rattle.std.specs.List.{list_any}
 use Rattle.cg_disk.specs.Sides.{Image}
 use Rattle.cg_disk.specs.Writes.{overwritten}

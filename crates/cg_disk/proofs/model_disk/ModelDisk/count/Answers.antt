@@ -1,4 +1,4 @@
-use Rattle.std.proofs.Common.{rules, arith, inl, inr, ⊎_elim, ap, ◌∙◌}
+use Rattle.std.proofs.Common.{arith, inl, inr, ⊎_elim, ap}
 use Rattle.cg_disk.specs.Armed.{strike_of}
 use Rattle.cg_disk.proofs.Strikes.{failure_hit}
 use Rattle.cg_disk.proofs.model_disk.ModelDisk.count.Goals as goal

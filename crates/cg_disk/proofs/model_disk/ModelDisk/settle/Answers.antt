@@ -1,6 +1,5 @@
-use Rattle.std.proofs.Common.{◌≡◌, rules, inl, ap, ◌∙◌, reverse, refl}
+use Rattle.std.proofs.Common.{rules, inl, ap, ◌∙◌, reverse, refl}
 use Rattle.cg_disk.specs.declared.mark.Mark.{Mark}
-use Rattle.cg_disk.specs.declared.written.Written.{Written}
 use Rattle.cg_disk.proofs.Undoing.{reverse_push}
 use Rattle.cg_disk.proofs.model_disk.ModelDisk.settle.Goals as goal
 

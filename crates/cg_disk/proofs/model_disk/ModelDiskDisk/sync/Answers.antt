@@ -1,4 +1,4 @@
-use Rattle.std.proofs.Common.{Err, ◌∙◌}
+use Rattle.std.proofs.Common.{◌∙◌}
 use Rattle.cg_disk.proofs.Counting.{looks_from, has_images, settles_after, settled_only, settled_looks}
 use Rattle.cg_disk.proofs.model_disk.ModelDiskDisk.sync.Goals as goal
 

@@ -1,6 +1,6 @@
-use Rattle.std.proofs.Common.{◌≡◌, ℕ, ◌+◌, ◌<◌, ◌≤◌, length, true, false, refl, sym, ◌∙◌, ap, arith}
+use Rattle.std.proofs.Common.{◌≡◌, ℕ, ◌<◌, length, true, false, sym, ◌∙◌, ap, arith}
 use Rattle.std.specs.Bool.{if◌then◌else◌}
-use Rattle.cg_disk.specs.State.{is_unsynced, unsynced_from}
+use Rattle.cg_disk.specs.State.{is_unsynced}
 use Rattle.cg_disk.specs.Model.{side_of}
 use Rattle.cg_disk.proofs.Places.{count_step}
 use Rattle.cg_disk.proofs.model_side.ModelSide.unsynced_places.Goals as goal
