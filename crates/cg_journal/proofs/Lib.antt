@@ -1,0 +1,7 @@
+mod AddSteps
+mod Adding
+mod Both
+mod Fills
+mod Moments
+mod Putting
+mod Reading

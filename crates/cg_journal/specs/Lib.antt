@@ -1,0 +1,4 @@
+pub mod Records
+pub mod Strikes
+pub mod Put
+pub mod Adds

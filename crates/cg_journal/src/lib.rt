@@ -1,0 +1,5 @@
+//! Records on the sides of a disk.
+#![tactic(auto)]
+
+mod add;
+mod put;
