@@ -133,12 +133,12 @@ module _ (side : Side) (end : ℕ) (bodies : List (List ℕ)) (body : List ℕ) 
 
   module _ (mid : DiskView) where
     -- the first write or its sync is struck
-    first_lost : (call : ℕ) → IsCut side end (framed body) call old mid → IsLostIn call side (end - 1) (records old.reads) (option_map (added side body) (records old.reads)) old mid
+    first_lost : (call : ℕ) → IsCut side end (framed body) call old mid → IsLostIn 0 call side (end - 1) (records old.reads) (option_map (added side body) (records old.reads)) old mid
     first_lost call cut =
         let few : (1 ≤ call) × (call ≤ 2) = ⊎_elim (λ one. (omega arith, omega arith)) (λ two. (omega arith, omega arith)) cut.first_or_second in
         record {
           struck = cut.struck;
-          time = cut.time;
+          time = omega (arith, cut.time);
           within = (few.0, omega (arith, few.1));
           gates = λ c left. first_gates c (cut.images c left);
           early = λ _ c left. (first_image c (cut.images c left)).0;
@@ -280,7 +280,7 @@ module _ (side : Side) (end : ℕ) (bodies : List (List ℕ)) (body : List ℕ) 
               (λ one. is_gate (end - 1) place (sym (ap (λ r. is_unsynced r place) one) ∙ hit))
               (told blow by)
 
-        second_lost : (call : ℕ) → IsCut side (end - 1) (1 ∷ []) call mid new → IsLostIn (2 + call) side (end - 1) (records old.reads) (option_map (added side body) (records old.reads)) old new
+        second_lost : (call : ℕ) → IsCut side (end - 1) (1 ∷ []) call mid new → IsLostIn 0 (2 + call) side (end - 1) (records old.reads) (option_map (added side body) (records old.reads)) old new
         second_lost call cut =
             let few : (1 ≤ call) × (call ≤ 2) = ⊎_elim (λ one. (omega arith, omega arith)) (λ two. (omega arith, omega arith)) cut.first_or_second in
             record {

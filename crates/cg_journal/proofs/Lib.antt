@@ -1,6 +1,8 @@
 mod AddSteps
 mod Adding
+mod Appending
 mod Both
+mod Closing
 mod Fills
 mod Moments
 mod Putting

@@ -45,10 +45,10 @@ pub record IsCutShort (side : Side) (gate call : ℕ) (before after : Option Rec
   pub only_gate : 2 < call → (place : ℕ) → is_unsynced (state_on side e).unsynced place ≡ true → place ≡ gate
   pub other_synced : 2 < call → (state_on (opposite side) e).unsynced ≡ []
 
--- one of the four calls was struck
-pub record IsLostIn (call : ℕ) (side : Side) (gate : ℕ) (before after : Option Records) (old new : DiskView) : Type 0 where
+-- behind so many earlier calls one of the four was struck
+pub record IsLostIn (earlier call : ℕ) (side : Side) (gate : ℕ) (before after : Option Records) (old new : DiskView) : Type 0 where
   pub struck : IsStruck old new
-  pub time : new.time ≡ old.time + call
+  pub time : new.time ≡ old.time + earlier + call
   pub within : (1 ≤ call) × (call ≤ 4)
   pub gates : (c : Image) → new.may_leave c → GateDecides side gate before after c
   pub early : call ≤ 2 → (c : Image) → new.may_leave c → records c ≡ before
@@ -77,5 +77,5 @@ pub record IsNotAdded (side : Side) (end : ℕ) (bodies : List (List ℕ)) (old 
 
 abbrev pub Adds : {T : Type 0} → Side → ℕ → List (List ℕ) → List ℕ → DiskView → DiskView → Result T DiskFault → Type 0
 Adds side end bodies body old new (Ok _) = IsAdded side end bodies body old new
-Adds side end bodies body old new (Err Failed) = (call : ℕ) × IsLostIn call side (end - 1) (records old.reads) (option_map (added side body) (records old.reads)) old new
+Adds side end bodies body old new (Err Failed) = (call : ℕ) × IsLostIn 0 call side (end - 1) (records old.reads) (option_map (added side body) (records old.reads)) old new
 Adds side end bodies body old new (Err NoMemory) = IsNotAdded side end bodies old new

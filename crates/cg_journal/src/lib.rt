@@ -2,4 +2,9 @@
 #![tactic(auto)]
 
 mod add;
+mod close;
+mod ends;
+mod framed;
+mod journal;
 mod put;
+pub use journal::{AppendErr, Journal};

@@ -24,7 +24,7 @@ returns-in-Ok-clause-moments g c = λ bodies body has is short.
     let new = g.D.Disk.view c.put-in-Ok.new.disk in
     let P = IsEither (records old.reads) (option_map (added side body) (records old.reads)) in
     let first = subst (λ l. IsPut side end l old mid) is c.in-Ok.ensures.puts in
-    let run = weakened old mid (TornSide side end (length c.args.record.now) old.reads) P c.put.ensures.moments
+    let run = weakened old mid (TornSide side end (length c.args.bytes.now) old.reads) P c.put.ensures.moments
         (λ x torn. first_either side end bodies body short old has x (subst (λ l. TornSide side end (length l) old.reads x) is torn)) in
     chained old mid new P (TornSide side (end - 1) 1 mid.reads) run c.put-in-Ok.ensures.moments
     (second_either side end bodies body short old has mid first (g.met.D.Disk.is_view c.put.new.disk))
@@ -41,5 +41,5 @@ returns-in-Err-clause-moments g c = λ bodies body has is short.
     let end = c.args.end in
     let old = g.D.Disk.view c.args.disk.now in
     let P = IsEither (records old.reads) (option_map (added side body) (records old.reads)) in
-    weakened old (g.D.Disk.view c.put.new.disk) (TornSide side end (length c.args.record.now) old.reads) P c.put.ensures.moments
+    weakened old (g.D.Disk.view c.put.new.disk) (TornSide side end (length c.args.bytes.now) old.reads) P c.put.ensures.moments
     (λ x torn. first_either side end bodies body short old has x (subst (λ l. TornSide side end (length l) old.reads x) is torn))

@@ -1,0 +1,74 @@
+//! A journal on the two sides of a disk.
+ghost use Rattle.std.specs.Prelude.{◌≡◌, ℕ, ◌+◌, ◌<◌, ◌≤◌, ◌^◌, List, length};
+ghost use Rattle.cg_journal.specs.Records.{records};
+
+use crate::add::add;
+use crate::ends::Ends;
+use crate::framed::framed;
+use cg_base::NoMemory;
+use cg_disk::{Disk, DiskFault, Side};
+use std::alloc::Global;
+use std::marker::Model;
+
+/// Records on both sides of a disk, at rest. Clauses see its disk.
+#[derive(Drop)]
+pub struct Journal<D: Disk> {
+    disk: D,
+    ends: Ends,
+}
+
+impl<D: Disk> Model for Journal<D> {
+    ghost use Rattle.cg_journal.specs.Held.{IsJournal};
+
+    ghost Value = { D };
+
+    ghost view = { λ j. j.disk };
+
+    ghost invariant = { λ j. IsJournal (D.view j.disk) j.ends };
+}
+
+/// What ended an append or a restart.
+#[derive(Drop)]
+pub enum AppendErr<D: Disk> {
+    Lost(D),
+    NoMemory(Journal<D>),
+}
+
+impl<D: Disk> Journal<D> {
+    ghost use Rattle.cg_journal.specs.Answers.{Appends, EachMoment, with_record};
+    ghost use Rattle.cg_journal.specs.Adds.{IsEither};
+
+    /// Adds a record on a side, in four device calls.
+    pub fn append(self, alloc: Global, side: Side, body: &[u8]) -> Result<Journal<D>, AppendErr<D>>
+        requires calls { (D.view self).time + 4 ≤ 2 ^ 62 }
+        requires short { length body.now < 2 ^ 32 }
+
+        ensures ends { Appends D.view side body.now (D.view self) result }
+
+        // At each moment every image stands for the records before, or for those with the new one.
+        ensures moments { EachMoment D.view (IsEither (records (D.view self).reads) (with_record side body.now (D.view self))) (D.view self) result }
+    {
+        let Journal { mut disk, ends } = self;
+        let bytes = match framed(alloc, body) {
+            Ok(bytes) => bytes,
+            Err(_) => return Err(AppendErr::NoMemory(Journal { disk, ends })),
+        };
+        let end = ends.on(side);
+        match add(&mut disk, side, end, &bytes) {
+            Ok(()) => Ok(Journal {
+                disk,
+                ends: ends.with(side, end + 5 + body.len() as u64),
+            }),
+            Err(DiskFault::Failed) => Err(AppendErr::Lost(disk)),
+            Err(DiskFault::NoMemory) => Err(AppendErr::NoMemory(Journal { disk, ends })),
+        }
+    }
+
+    /// Its disk. It takes no memory.
+    pub fn into_disk(self) -> D
+        ensures { result ≡ self }
+    {
+        let Journal { disk, .. } = self;
+        disk
+    }
+}
