@@ -28,7 +28,7 @@ gate_early Fails call fill early = grind (arith, nat_tests)
 gate_early Stops call fill early = grind (arith, nat_tests)
 
 -- a state whose strike is told
-some_state : (state : Option DiskState) (strike : Option Strike) → option_map (λ (x : DiskState). x.strike) state ≡ Some strike → (s : DiskState) × (state ≡ Some s) × (s.strike ≡ strike)
+pub some_state : (state : Option DiskState) (strike : Option Strike) → option_map (λ (x : DiskState). x.strike) state ≡ Some strike → (s : DiskState) × (state ≡ Some s) × (s.strike ≡ strike)
 some_state None strike is = cc
 some_state (Some s) strike is = (s, refl, cc)
 

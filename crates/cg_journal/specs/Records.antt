@@ -23,6 +23,12 @@ number_at bytes = from_be_bytes w32 (take 4 bytes)
 abbrev pub framed : List ℕ → List ℕ
 framed body = number32 (length body) ++ body ++ 0 ∷ []
 
+-- a record as it stands there
+pub record IsFramed (bytes : List ℕ) : Type 0 where
+  pub body : List ℕ
+  pub is : bytes ≡ framed body
+  pub short : length body < 2 ^ 32
+
 -- open records
 abbrev pub spelled : List (List ℕ) → List ℕ
 spelled [] = []

@@ -1,8 +1,9 @@
 //! A journal on the two sides of a disk.
 ghost use Rattle.std.specs.Prelude.{◌≡◌, ℕ, ◌+◌, ◌<◌, ◌≤◌, ◌^◌, List, length};
-ghost use Rattle.cg_journal.specs.Records.{records};
+ghost use Rattle.cg_journal.specs.Records.{records, framed, IsFramed};
 
 use crate::add::add;
+use crate::close::close;
 use crate::ends::Ends;
 use crate::framed::framed;
 use cg_base::NoMemory;
@@ -35,7 +36,7 @@ pub enum AppendErr<D: Disk> {
 }
 
 impl<D: Disk> Journal<D> {
-    ghost use Rattle.cg_journal.specs.Answers.{Appends, EachMoment, with_record};
+    ghost use Rattle.cg_journal.specs.Answers.{Appends, Restarts, ClosesSide, EachMoment, IsRestarting, with_record, without_records};
     ghost use Rattle.cg_journal.specs.Adds.{IsEither};
 
     /// Adds a record on a side, in four device calls.
@@ -48,16 +49,63 @@ impl<D: Disk> Journal<D> {
         // At each moment every image stands for the records before, or for those with the new one.
         ensures moments { EachMoment D.view (IsEither (records (D.view self).reads) (with_record side body.now (D.view self))) (D.view self) result }
     {
-        let Journal { mut disk, ends } = self;
+        match framed(alloc, body) {
+            Ok(bytes) => self.append_framed(side, &bytes),
+            Err(_) => Err(AppendErr::NoMemory(self)),
+        }
+    }
+
+    /// Puts a record in place of all those of a side, in six device calls.
+    pub fn restart(self, alloc: Global, side: Side, body: &[u8]) -> Result<Journal<D>, AppendErr<D>>
+        requires calls { (D.view self).time + 6 ≤ 2 ^ 62 }
+        requires short { length body.now < 2 ^ 32 }
+
+        ensures ends { Restarts D.view side body.now (D.view self) result }
+
+        // At each moment every image has the records before on that side, or none, or the new one alone.
+        ensures moments { EachMoment D.view (IsRestarting side body.now (D.view self)) (D.view self) result }
+    {
         let bytes = match framed(alloc, body) {
             Ok(bytes) => bytes,
-            Err(_) => return Err(AppendErr::NoMemory(Journal { disk, ends })),
+            Err(_) => return Err(AppendErr::NoMemory(self)),
         };
+        match self.closed(side) {
+            Ok(journal) => journal.append_framed(side, &bytes),
+            Err(fault) => Err(fault),
+        }
+    }
+
+    // Adds a record that is spelled here.
+    fn append_framed(self, side: Side, bytes: &[u8]) -> Result<Journal<D>, AppendErr<D>>
+        requires calls { (D.view self).time + 4 ≤ 2 ^ 62 }
+        requires framed { IsFramed bytes.now }
+        ensures ends { (body : List ℕ) → bytes.now ≡ framed body → length body < 2 ^ 32 → Appends D.view side body (D.view self) result }
+        ensures moments { (body : List ℕ) → bytes.now ≡ framed body → length body < 2 ^ 32
+            → EachMoment D.view (IsEither (records (D.view self).reads) (with_record side body (D.view self))) (D.view self) result }
+    {
+        let Journal { mut disk, ends } = self;
         let end = ends.on(side);
-        match add(&mut disk, side, end, &bytes) {
+        match add(&mut disk, side, end, bytes) {
             Ok(()) => Ok(Journal {
                 disk,
-                ends: ends.with(side, end + 5 + body.len() as u64),
+                ends: ends.with(side, end + bytes.len() as u64),
+            }),
+            Err(DiskFault::Failed) => Err(AppendErr::Lost(disk)),
+            Err(DiskFault::NoMemory) => Err(AppendErr::NoMemory(Journal { disk, ends })),
+        }
+    }
+
+    // Takes the records of a side away.
+    fn closed(self, side: Side) -> Result<Journal<D>, AppendErr<D>>
+        requires calls { (D.view self).time + 2 ≤ 2 ^ 62 }
+        ensures ends { ClosesSide D.view side (D.view self) result }
+        ensures moments { EachMoment D.view (IsEither (records (D.view self).reads) (without_records side (D.view self))) (D.view self) result }
+    {
+        let Journal { mut disk, ends } = self;
+        match close(&mut disk, side, ends.on(side)) {
+            Ok(()) => Ok(Journal {
+                disk,
+                ends: ends.with(side, 9),
             }),
             Err(DiskFault::Failed) => Err(AppendErr::Lost(disk)),
             Err(DiskFault::NoMemory) => Err(AppendErr::NoMemory(Journal { disk, ends })),
