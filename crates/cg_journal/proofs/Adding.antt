@@ -15,7 +15,7 @@ length-front bodies = length-append header (spelled bodies)
 pub length-framed : (body : List ℕ) → length (framed body) ≡ 5 + length body
 length-framed body = omega (arith, length-append (number32 (length body) ++ body) (0 ∷ []), length-append (number32 (length body)) body, length-number32 (length body))
 
-spelled-push : (bodies : List (List ℕ)) (body : List ℕ) (more : List ℕ) → spelled (bodies ++ body ∷ []) ++ more ≡ spelled bodies ++ 1 ∷ (number32 (length body) ++ body ++ more)
+pub spelled-push : (bodies : List (List ℕ)) (body : List ℕ) (more : List ℕ) → spelled (bodies ++ body ∷ []) ++ more ≡ spelled bodies ++ 1 ∷ (number32 (length body) ++ body ++ more)
 spelled-push [] body more = ap (λ (l : List ℕ). 1 ∷ (l ++ more)) (append-nil (number32 (length body) ++ body))
 spelled-push (b ∷ bodies) body more =
     ap (λ (l : List ℕ). 1 ∷ l) (append_assoc (number32 (length b) ++ b) (spelled (bodies ++ body ∷ [])) more

@@ -4,6 +4,8 @@ mod Appending
 mod Both
 mod Closing
 mod Fills
+mod Looking
 mod Moments
+mod Parsing
 mod Putting
 mod Reading

@@ -12,7 +12,7 @@ pub length-number32 : (n : ℕ) → length (number32 n) ≡ 4
 unfolding number32
 length-number32 n = refl
 
-number_at-number32 : (n : ℕ) (more : List ℕ) → n < 2 ^ 32 → number_at (number32 n ++ more) ≡ n
+pub number_at-number32 : (n : ℕ) (more : List ℕ) → n < 2 ^ 32 → number_at (number32 n ++ more) ≡ n
 unfolding number32 number_at
 number_at-number32 n more short = from_be_bytes-to_be_bytes_4 n short
 
@@ -20,7 +20,7 @@ pub closed_gate : (gate : ℕ) → gate ≢ 1 → (gate == 1) ≡ false
 closed_gate gate closed = grind (arith, nat_tests)
 
 -- a body that fits
-body_here : (size : ℕ) (front body more : List ℕ) (f : List ℕ → Option (List (List ℕ))) → length front ≡ 4 → size ≡ length body → 1 ≤ length more → body_and size (front ++ (body ++ more)) f ≡ option_map (λ bodies. body ∷ bodies) (f more)
+pub body_here : (size : ℕ) (front body more : List ℕ) (f : List ℕ → Option (List (List ℕ))) → length front ≡ 4 → size ≡ length body → 1 ≤ length more → body_and size (front ++ (body ++ more)) f ≡ option_map (λ bodies. body ∷ bodies) (f more)
 body_here size front body more f four is gate =
     let fits : nat_lt (4 + size) (length (front ++ (body ++ more))) ≡ true = grind (arith, nat_tests, length-append front (body ++ more), length-append body more) in
     let here : take size (drop 4 (front ++ (body ++ more))) ≡ body = ap (take size) (drop_at front (body ++ more) 4 four) ∙ take_at body more size (sym is) in
@@ -44,7 +44,7 @@ pub count_le : (bodies : List (List ℕ)) → length bodies ≤ length (spelled 
 count_le [] = omega arith
 count_le (body ∷ bodies) = omega (arith, count_le bodies, length-append (number32 (length body) ++ body) (spelled bodies))
 
-from_header : (tail : List ℕ) → bodies_of (header ++ tail) ≡ bodies_from (length (header ++ tail)) tail
+pub from_header : (tail : List ℕ) → bodies_of (header ++ tail) ≡ bodies_from (length (header ++ tail)) tail
 unfolding bodies_of
 from_header tail = refl
 

@@ -5,3 +5,6 @@ pub mod Adds
 pub mod Closes
 pub mod Held
 pub mod Answers
+pub mod Reads
+pub mod Fresh
+pub mod Opens

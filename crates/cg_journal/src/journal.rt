@@ -5,8 +5,12 @@ ghost use Rattle.cg_journal.specs.Records.{records, framed, IsFramed};
 use crate::add::add;
 use crate::close::close;
 use crate::ends::Ends;
+use crate::format::format_sides;
 use crate::framed::framed;
-use cg_base::NoMemory;
+use crate::load::load;
+use crate::open::{FormatErr, JournalOpen};
+use crate::parse::parse_both;
+use cg_base::BytesList;
 use cg_disk::{Disk, DiskFault, Side};
 use std::alloc::Global;
 use std::marker::Model;
@@ -38,6 +42,52 @@ pub enum AppendErr<D: Disk> {
 impl<D: Disk> Journal<D> {
     ghost use Rattle.cg_journal.specs.Answers.{Appends, Restarts, ClosesSide, EachMoment, IsRestarting, with_record, without_records};
     ghost use Rattle.cg_journal.specs.Adds.{IsEither};
+    ghost use Rattle.cg_journal.specs.Opens.{Formats, Opens};
+    ghost use Rattle.cg_journal.specs.Held.{end_of};
+    ghost use Rattle.cg_journal.specs.Records.{Records, on_side};
+    ghost use Rattle.cg_disk.specs.Calls.{Begins};
+    ghost use Rattle.std.specs.Prelude.{Some};
+
+    /// Makes a journal without records, in three device calls: on each side the header and a closed gate, and a sync.
+    /// After an error the disk may be no journal.
+    pub fn format(mut disk: D) -> Result<Journal<D>, FormatErr<D>>
+        requires { (D.view disk).time + 3 ≤ 2 ^ 62 }
+        ensures { Formats D.view (D.view disk) result }
+    {
+        match format_sides(&mut disk) {
+            Ok(()) => Ok(Journal {
+                disk,
+                ends: Ends { a: 9, b: 9 },
+            }),
+            Err(DiskFault::Failed) => Err(FormatErr::Lost(disk)),
+            Err(DiskFault::NoMemory) => Err(FormatErr::NoMemory(disk)),
+        }
+    }
+
+    /// Opens a journal, with the bodies of its records on side A and on side B, in five device calls: a sync, the two
+    /// sizes, and one read of each side.
+    pub fn open(alloc: Global, mut disk: D) -> Result<(Journal<D>, BytesList, BytesList), JournalOpen<D>>
+        requires { (D.view disk).time + 5 ≤ 2 ^ 62 }
+        ensures { Opens D.view (D.view disk) result }
+    {
+        let (a, b) = match load(&mut disk, alloc) {
+            Ok(sides) => sides,
+            Err(DiskFault::Failed) => return Err(JournalOpen::Lost(disk)),
+            Err(DiskFault::NoMemory) => return Err(JournalOpen::NoMemory(disk)),
+        };
+        match parse_both(alloc, &a, &b) {
+            Ok(Some((a, b))) => Ok((
+                Journal {
+                    disk,
+                    ends: Ends { a: a.end, b: b.end },
+                },
+                a.bodies,
+                b.bodies,
+            )),
+            Ok(None) => Err(JournalOpen::NotAJournal(disk)),
+            Err(_) => Err(JournalOpen::NoMemory(disk)),
+        }
+    }
 
     /// Adds a record on a side, in four device calls.
     pub fn append(self, alloc: Global, side: Side, body: &[u8]) -> Result<Journal<D>, AppendErr<D>>
@@ -110,6 +160,20 @@ impl<D: Disk> Journal<D> {
             Err(DiskFault::Failed) => Err(AppendErr::Lost(disk)),
             Err(DiskFault::NoMemory) => Err(AppendErr::NoMemory(Journal { disk, ends })),
         }
+    }
+
+    /// Where the records of a side end: the place just past the gate behind the last one. It takes no memory.
+    pub fn length(&self, side: Side) -> u64
+        ensures { (r : Records) → records (D.view self.now).reads ≡ Some r → result ≡ end_of (on_side side r) }
+    {
+        self.ends.on(side)
+    }
+
+    /// The disk's `begin`.
+    pub fn begin(&mut self)
+        ensures { Begins (D.view self.old) (D.view self.new) }
+    {
+        self.disk.begin();
     }
 
     /// Its disk. It takes no memory.
