@@ -18,7 +18,7 @@ use Rattle.cg_journal.proofs.Reading.{reads_as}
 use Rattle.cg_journal.proofs.Both.{put_this, put_other, records_same, records_emptied}
 
 -- what stands behind the header and a gate
-closed_behind : (side rest : List ℕ) (gate : ℕ) → side ≡ header ++ gate ∷ rest → gate ≢ 1 → HasRecords side 9 []
+pub closed_behind : (side rest : List ℕ) (gate : ℕ) → side ≡ header ++ gate ∷ rest → gate ≢ 1 → HasRecords side 9 []
 closed_behind side rest gate is shut = record { gate = gate; rest = rest; spelled_out = is; closed = shut; short = tt; ends = refl }
 
 -- the first gate of a side that has records is open

@@ -6,6 +6,7 @@ mod Closing
 mod Fills
 mod Looking
 mod Moments
+mod Opening
 mod Parsing
 mod Putting
 mod Reading

@@ -15,7 +15,7 @@ use Rattle.cg_journal.specs.Put.{put_on, IsPut, IsCut, IsCutState, CutBy, IsKept
 use Rattle.cg_journal.proofs.Moments.{started, goes_on, torn_side_same, armed_at, ahead_of}
 
 -- a write leaves the strike as it is
-wrote_strike : (side : Side) (place : ℕ) (bytes : List ℕ) (s : DiskState) → (wrote side place bytes s).strike ≡ s.strike
+pub wrote_strike : (side : Side) (place : ℕ) (bytes : List ℕ) (s : DiskState) → (wrote side place bytes s).strike ≡ s.strike
 wrote_strike A place bytes s = refl
 wrote_strike B place bytes s = refl
 
