@@ -46,6 +46,7 @@ struck_more old mid new first later second = record {
       let found = second.reached next.0 next.1 in
       (found.0, sym next.2 ∙ found.1, found.2);
 }
+
 -- what a told disk shows after a write
 shown_wrote : (side : Side) (place : ℕ) (bytes : List ℕ) (s : DiskState) → shown (wrote side place bytes s) ≡ put_on side place bytes (shown s)
 shown_wrote A place bytes s = refl
@@ -146,16 +147,19 @@ module _ (side : Side) (end : ℕ) (bodies : List (List ℕ)) (body : List ℕ) 
           reads = cut.has.reads;
           told = λ s is.
               let told = cut.told s is in
-              let fills : IfSome (Some told.0) (λ e. (fill : List ℕ) → mid.may_leave (left_by e fill)) = subst (λ x. IfSome x (λ e. (fill : List ℕ) → mid.may_leave (left_by e fill))) told.1 cut.has.fills in
-              (told.0, told.1, record {
-                strike = told.2.strike;
-                armed = told.2.armed;
-                fills = λ fill.
-                    (first_image (left_by told.0 fill) (cut.images (left_by told.0 fill) (fills fill))).0
-                    ∙ (λ i. if sym (gate_early told.2.strike.blow call fill few.1) i then option_map (added side body) (records old.reads) else records old.reads);
-                only_gate = λ late. absurd (omega (arith, few.1));
-                other_synced = λ late. absurd (omega (arith, few.1));
-              });
+              let fills : IfSome (Some told.0) (λ e. (fill : List ℕ) → mid.may_leave (left_by e fill)) = subst (λ x. IfSome x (λ e. (fill : List ℕ) → mid.may_leave (left_by e fill))) told.1 cut.has.fills in (
+                told.0,
+                told.1,
+                record {
+                  strike = told.2.strike;
+                  armed = told.2.armed;
+                  fills = λ fill.
+                      (first_image (left_by told.0 fill) (cut.images (left_by told.0 fill) (fills fill))).0
+                      ∙ (λ i. if sym (gate_early told.2.strike.blow call fill few.1) i then option_map (added side body) (records old.reads) else records old.reads);
+                  only_gate = λ late. absurd (omega (arith, few.1));
+                  other_synced = λ late. absurd (omega (arith, few.1));
+                },
+              );
         }
 
     first_kept : IsKept old mid → IsNotAdded side end bodies old mid
@@ -215,7 +219,7 @@ module _ (side : Side) (end : ℕ) (bodies : List (List ℕ)) (body : List ℕ) 
         open_has : HasRecords (bytes_of side c) (end + 5 + length body) (bodies ++ body ∷ [])
         open_has =
             let this : bytes_of side c ≡ overwritten (overwritten (bytes_of side old.reads) end (framed body)) (end - 1) (1 ∷ []) =
-                ap (bytes_of side) opened ∙ put_this side (end - 1) (1 ∷ []) mid.reads ∙ ap (λ (l : List ℕ). overwritten l (end - 1) (1 ∷ [])) mid_this in
+            ap (bytes_of side) opened ∙ put_this side (end - 1) (1 ∷ []) mid.reads ∙ ap (λ (l : List ℕ). overwritten l (end - 1) (1 ∷ [])) mid_this in
             subst (λ x. HasRecords x (end + 5 + length body) (bodies ++ body ∷ [])) (sym this) (gate_written (bytes_of side old.reads) end bodies has body body_short)
 
         open_records : records c ≡ option_map (added side body) (records old.reads)
@@ -297,14 +301,17 @@ module _ (side : Side) (end : ℕ) (bodies : List (List ℕ)) (body : List ℕ) 
                   let clean : IsSynced next.0 = subst (λ x. IfSome x IsSynced) next.1 put.rest.clean in
                   let shows : shown next.0 ≡ mid.reads = subst (λ x. IfSome x (λ y. shown y ≡ mid.reads)) next.1 is_mid.shows in
                   let told = cut.told next.0 next.1 in
-                  let fills : IfSome (Some told.0) (λ e. (fill : List ℕ) → new.may_leave (left_by e fill)) = subst (λ x. IfSome x (λ e. (fill : List ℕ) → new.may_leave (left_by e fill))) told.1 cut.has.fills in
-                  (told.0, told.1, record {
-                    strike = told.2.strike;
-                    armed = sym next.2 ∙ told.2.armed;
-                    fills = told_fills call cut next.0 told.0 clean shows fills told.2.strike.blow told.2.left;
-                    only_gate = λ late. told_gate call cut next.0 told.0 clean shows fills told.2.strike.blow told.2.left;
-                    other_synced = λ late. (cut_unsynced side (end - 1) call told.2.strike.blow next.0 told.0 clean cut.first_or_second told.2.left).1;
-                  });
+                  let fills : IfSome (Some told.0) (λ e. (fill : List ℕ) → new.may_leave (left_by e fill)) = subst (λ x. IfSome x (λ e. (fill : List ℕ) → new.may_leave (left_by e fill))) told.1 cut.has.fills in (
+                    told.0,
+                    told.1,
+                    record {
+                      strike = told.2.strike;
+                      armed = sym next.2 ∙ told.2.armed;
+                      fills = told_fills call cut next.0 told.0 clean shows fills told.2.strike.blow told.2.left;
+                      only_gate = λ late. told_gate call cut next.0 told.0 clean shows fills told.2.strike.blow told.2.left;
+                      other_synced = λ late. (cut_unsynced side (end - 1) call told.2.strike.blow next.0 told.0 clean cut.first_or_second told.2.left).1;
+                    },
+                  );
             }
 
         pub add_done : {T : Type 0} (r : Result T DiskFault) → Puts side (end - 1) (1 ∷ []) mid new r → Adds side end bodies body old new r

@@ -112,8 +112,8 @@ module _ (side : List ℕ) (end : ℕ) (bodies : List (List ℕ)) (has : HasReco
         let start : take (end - 1) c ≡ front bodies = torn.before ∙ ap (take (end - 1)) staged_is ∙ take_at (front bodies) _ (end - 1) before_gate in
         let inside : end - 1 < length c = omega (arith, torn.no_shorter, ap length staged_is, length-append (front bodies) (has.gate ∷ (framed body ++ drop (end + length (framed body)) side)), before_gate) in
         let tail : drop (end - 1 + 1) c ≡ framed body ++ drop (end + length (framed body)) side =
-            torn.after ∙ ap (drop (end - 1 + 1)) (staged_is ∙ sym (append_assoc (front bodies) (has.gate ∷ []) (framed body ++ drop (end + length (framed body)) side)))
-            ∙ drop_at (front bodies ++ has.gate ∷ []) _ (end - 1 + 1) (omega (arith, length-closed, next)) in
+        torn.after ∙ ap (drop (end - 1 + 1)) (staged_is ∙ sym (append_assoc (front bodies) (has.gate ∷ []) (framed body ++ drop (end + length (framed body)) side)))
+        ∙ drop_at (front bodies ++ has.gate ∷ []) _ (end - 1 + 1) (omega (arith, length-closed, next)) in
         sym (take-append-drop (end - 1) c)
         ∙ ap (λ (l : List ℕ). l ++ drop (end - 1) c) start
         ∙ ap (λ (l : List ℕ). front bodies ++ l) (drop_more c (end - 1) 0 inside ∙ ap (λ (l : List ℕ). get_or c (end - 1) 0 ∷ l) tail)

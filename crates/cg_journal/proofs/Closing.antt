@@ -42,7 +42,7 @@ gate_torn side c begins torn =
     let front : take 8 c ≡ header = torn.before ∙ ap (take 8) begins.is in
     let behind : drop 9 c ≡ begins.rest = torn.after ∙ ap (drop 9) begins.is in
     let whole : c ≡ header ++ get_or c 8 0 ∷ begins.rest =
-        sym (take-append-drop 8 c) ∙ ap (λ (l : List ℕ). l ++ drop 8 c) front ∙ ap (λ (l : List ℕ). header ++ l) (drop_more c 8 0 inside ∙ ap (λ (l : List ℕ). get_or c 8 0 ∷ l) behind) in
+    sym (take-append-drop 8 c) ∙ ap (λ (l : List ℕ). l ++ drop 8 c) front ∙ ap (λ (l : List ℕ). header ++ l) (drop_more c 8 0 inside ∙ ap (λ (l : List ℕ). get_or c 8 0 ∷ l) behind) in
     ⊎_elim
     (λ is_one. inl (whole ∙ ap (λ g. header ++ g ∷ begins.rest) is_one ∙ sym begins.is))
     (λ not_one. inr (closed_behind c begins.rest (get_or c 8 0) whole not_one))

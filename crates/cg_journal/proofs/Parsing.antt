@@ -131,7 +131,7 @@ module _ (side : List ℕ) where
         whole : drop (gate + 1) side ≡ number32 (length body) ++ body ++ drop (gate + (5 + size)) side
         whole =
             let front : number32 (length body) ≡ take 4 (drop (gate + 1) side) =
-                number32-number_at (drop (gate + 1) side) (length body) (omega (arith, fit)) (λ i. subst (λ n. n < 256) (sym (get_or-drop (gate + 1) side i 0)) (small (gate + 1 + i))) (long ∙ is) in
+            number32-number_at (drop (gate + 1) side) (length body) (omega (arith, fit)) (λ i. subst (λ n. n < 256) (sym (get_or-drop (gate + 1) side i 0)) (small (gate + 1 + i))) (long ∙ is) in
             sym (take-append-drop 4 (drop (gate + 1) side))
             ∙ (λ i. sym front i ++ drop 4 (drop (gate + 1) side))
             ∙ ap (λ (l : List ℕ). number32 (length body) ++ l) (sym (take-append-drop size (drop 4 (drop (gate + 1) side))) ∙ (λ i. sym here i ++ drop size (drop 4 (drop (gate + 1) side))) ∙ ap (λ (l : List ℕ). body ++ l) (drop-drop size 4 (drop (gate + 1) side) ∙ behind_body))

@@ -38,30 +38,36 @@ module _ (side : Side) (place : ℕ) (bytes : List ℕ) where
         subst (λ x. TornSide side place (length bytes) x c) (rest.only from.0 from.1) from.2
 
     first_struck : calls.HasImages mid → calls.Fails (wrote side place bytes) old mid → (n : ℕ) × IsCut side place bytes n old mid
-    first_struck has fails = (1, record {
-      struck = record {
-        faults = fails.faults;
-        later = omega (arith, fails.time);
-        reached = λ s is.
+    first_struck has fails = (
+      1,
+      record {
+        struck = record {
+          faults = fails.faults;
+          later = omega (arith, fails.time);
+          reached = λ s is.
+              let told = fails.told s is in
+              let armed = armed_at s.strike mid.time told.2.blow told.2.struck in
+              (armed.0, armed.1, armed.2);
+        };
+        time = omega (arith, fails.time);
+        first_or_second = inl refl;
+        images = torn_images;
+        reads = λ two. absurd (omega arith);
+        has = has;
+        told = λ s is.
             let told = fails.told s is in
             let armed = armed_at s.strike mid.time told.2.blow told.2.struck in
-            (armed.0, armed.1, armed.2);
-      };
-      time = omega (arith, fails.time);
-      first_or_second = inl refl;
-      images = torn_images;
-      reads = λ two. absurd (omega arith);
-      has = has;
-      told = λ s is.
-          let told = fails.told s is in
-          let armed = armed_at s.strike mid.time told.2.blow told.2.struck in
-          let clean : IsSynced s = subst (λ x. IfSome x IsSynced) is rest.clean in
-          (told.0, told.1, record {
-            strike = armed.0;
-            armed = armed.1;
-            left = subst (λ blow. CutBy blow s (wrote side place bytes s) 1 told.0) (sym armed.3) (cut_first told.2.blow mid.time s told.0 clean told.2.left);
-          });
-    })
+            let clean : IsSynced s = subst (λ x. IfSome x IsSynced) is rest.clean in (
+              told.0,
+              told.1,
+              record {
+                strike = armed.0;
+                armed = armed.1;
+                left = subst (λ blow. CutBy blow s (wrote side place bytes s) 1 told.0) (sym armed.3) (cut_first told.2.blow mid.time s told.0 clean told.2.left);
+              },
+            );
+      },
+    )
 
     kept : calls.IsUnchanged old mid → IsKept old mid
     kept same = record {
@@ -106,31 +112,37 @@ module _ (side : Side) (place : ℕ) (bytes : List ℕ) where
       }
 
       second_struck : calls.Fails looked mid new → (n : ℕ) × IsCut side place bytes n old new
-      second_struck fails = (2, record {
-        struck = record {
-          faults = omega (arith, first.faults, fails.faults);
-          later = omega (arith, first.time, fails.time);
-          reached = λ s is.
+      second_struck fails = (
+        2,
+        record {
+          struck = record {
+            faults = omega (arith, first.faults, fails.faults);
+            later = omega (arith, first.time, fails.time);
+            reached = λ s is.
+                let next : mid.state ≡ Some (wrote side place bytes s) = first.state ∙ ap (option_map (wrote side place bytes)) is in
+                let told = fails.told (wrote side place bytes s) next in
+                let armed = armed_at (wrote side place bytes s).strike new.time told.2.blow told.2.struck in
+                (armed.0, sym (wrote_strike side place bytes s) ∙ armed.1, armed.2);
+          };
+          time = omega (arith, first.time, fails.time);
+          first_or_second = inr refl;
+          images = λ c left. torn_images c (looks.images c left);
+          reads = λ two. reads_new;
+          has = has;
+          told = λ s is.
               let next : mid.state ≡ Some (wrote side place bytes s) = first.state ∙ ap (option_map (wrote side place bytes)) is in
               let told = fails.told (wrote side place bytes s) next in
-              let armed = armed_at (wrote side place bytes s).strike new.time told.2.blow told.2.struck in
-              (armed.0, sym (wrote_strike side place bytes s) ∙ armed.1, armed.2);
-        };
-        time = omega (arith, first.time, fails.time);
-        first_or_second = inr refl;
-        images = λ c left. torn_images c (looks.images c left);
-        reads = λ two. reads_new;
-        has = has;
-        told = λ s is.
-            let next : mid.state ≡ Some (wrote side place bytes s) = first.state ∙ ap (option_map (wrote side place bytes)) is in
-            let told = fails.told (wrote side place bytes s) next in
-            let armed = armed_at (wrote side place bytes s).strike new.time told.2.blow told.2.struck in
-            (told.0, told.1, record {
-              strike = armed.0;
-              armed = sym (wrote_strike side place bytes s) ∙ armed.1;
-              left = subst (λ blow. CutBy blow s (wrote side place bytes s) 2 told.0) (sym armed.3) (cut_second told.2.blow new.time s told.0 told.2.left);
-            });
-      })
+              let armed = armed_at (wrote side place bytes s).strike new.time told.2.blow told.2.struck in (
+                told.0,
+                told.1,
+                record {
+                  strike = armed.0;
+                  armed = sym (wrote_strike side place bytes s) ∙ armed.1;
+                  left = subst (λ blow. CutBy blow s (wrote side place bytes s) 2 told.0) (sym armed.3) (cut_second told.2.blow new.time s told.0 told.2.left);
+                },
+              );
+        },
+      )
 
       pub put_synced : {T : Type 0} (r : Result T DiskFault) → place + length bytes < 2 ^ 63 → OnOk r (Only mid.reads new.may_leave) → calls.Ends synced looked mid new r → (IsErrOf r NoMemory → ⊥) → Puts side place bytes old new r
       put_synced (Ok x) short durable ends never = is_put short durable ends

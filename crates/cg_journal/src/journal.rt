@@ -11,7 +11,7 @@ use crate::load::load;
 use crate::open::{FormatErr, JournalOpen};
 use crate::parse::parse_both;
 use cg_base::BytesList;
-use cg_disk::{Disk, DiskFault, Side};
+use cg_disk::{Disk, DiskFault, ModelDisk, Side};
 use std::alloc::Global;
 use std::marker::Model;
 
@@ -66,7 +66,10 @@ impl<D: Disk> Journal<D> {
 
     /// Opens a journal, with the bodies of its records on side A and on side B, in five device calls: a sync, the two
     /// sizes, and one read of each side.
-    pub fn open(alloc: Global, mut disk: D) -> Result<(Journal<D>, BytesList, BytesList), JournalOpen<D>>
+    pub fn open(
+        alloc: Global,
+        mut disk: D,
+    ) -> Result<(Journal<D>, BytesList, BytesList), JournalOpen<D>>
         requires { (D.view disk).time + 5 ≤ 2 ^ 62 }
         ensures { Opens D.view (D.view disk) result }
     {
@@ -182,5 +185,34 @@ impl<D: Disk> Journal<D> {
     {
         let Journal { disk, .. } = self;
         disk
+    }
+}
+
+/// The three calls of a disk in memory, passed on to it.
+impl Journal<ModelDisk> {
+    ghost use Rattle.cg_disk.specs.State.{Fails, Stops};
+    ghost use Rattle.cg_disk.specs.Crashes.{Arms};
+
+    /// Arms the nth next device call, n at least 1, to fail once.
+    pub fn fail_at(&mut self, n: u64)
+        requires { 1 ≤ n }
+        ensures { Arms Fails n (⟦<ModelDisk as Disk>⟧.view self.old) (⟦<ModelDisk as Disk>⟧.view self.new) }
+    {
+        self.disk.fail_at(n);
+    }
+
+    /// Arms a stop inside the nth next device call, n at least 1.
+    pub fn stop_at(&mut self, n: u64)
+        requires { 1 ≤ n }
+        ensures { Arms Stops n (⟦<ModelDisk as Disk>⟧.view self.old) (⟦<ModelDisk as Disk>⟧.view self.new) }
+    {
+        self.disk.stop_at(n);
+    }
+
+    /// The device calls made so far.
+    pub fn calls(&self) -> u64
+        ensures { result ≡ (⟦<ModelDisk as Disk>⟧.view self.now).time }
+    {
+        self.disk.calls()
     }
 }

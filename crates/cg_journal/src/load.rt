@@ -53,7 +53,12 @@ fn sizes<D: Disk>(disk: &mut D) -> Result<(u64, u64), DiskFault>
     }
 }
 
-fn contents<D: Disk>(disk: &mut D, alloc: Global, a: u64, b: u64) -> Result<(Vec<u8>, Vec<u8>), DiskFault>
+fn contents<D: Disk>(
+    disk: &mut D,
+    alloc: Global,
+    a: u64,
+    b: u64,
+) -> Result<(Vec<u8>, Vec<u8>), DiskFault>
     requires calls { (D.view disk.old).time + 2 ≤ 2 ^ 62 }
     requires rest { IsAtRest (D.view disk.old) }
     requires a { a ≡ length (D.view disk.old).reads.a }

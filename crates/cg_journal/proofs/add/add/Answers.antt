@@ -25,7 +25,7 @@ returns-in-Ok-clause-moments g c = λ bodies body has is short.
     let P = IsEither (records old.reads) (option_map (added side body) (records old.reads)) in
     let first = subst (λ l. IsPut side end l old mid) is c.in-Ok.ensures.puts in
     let run = weakened old mid (TornSide side end (length c.args.bytes.now) old.reads) P c.put.ensures.moments
-        (λ x torn. first_either side end bodies body short old has x (subst (λ l. TornSide side end (length l) old.reads x) is torn)) in
+    (λ x torn. first_either side end bodies body short old has x (subst (λ l. TornSide side end (length l) old.reads x) is torn)) in
     chained old mid new P (TornSide side (end - 1) 1 mid.reads) run c.put-in-Ok.ensures.moments
     (second_either side end bodies body short old has mid first (g.met.D.Disk.is_view c.put.new.disk))
 

@@ -26,7 +26,7 @@ loop-gate-preserved c =
     let size : c.size_at-size.result ≡ number_at (drop (gate + 1) side) = c.size_at-size.ensures ∙ ap number_at rest in
     let plain : 4 + c.size_at-size.result - 4 ≡ c.size_at-size.result = omega arith in
     let here : c.in_ok-from_slice.field-0 ≡ take c.size_at-size.result (drop 4 (drop (gate + 1) side)) =
-        c.in_ok-from_slice.ensures ∙ (λ i. take (plain i) (drop 4 (rest i))) in
+    c.in_ok-from_slice.ensures ∙ (λ i. take (plain i) (drop 4 (rest i))) in
     subst (λ l. IsReadTo side (gate + (5 + c.size_at-size.result)) l) (sym c.in_ok-push.ensures.items)
     (read_more side gate c.loop-gate.bodies.items c.loop-gate.invariant c.loop-gate-test.true c.size_at-size.result c.in_ok-from_slice.field-0 fits size here (λ i. omega (arith, c.type_inv.side i)) (omega (arith, c.size_at-size.type_inv)))
 

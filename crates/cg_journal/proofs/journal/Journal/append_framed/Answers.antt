@@ -10,7 +10,7 @@ use Rattle.cg_journal.proofs.Appending.{append_held, append_done, append_lost, a
 use Rattle.cg_journal.proofs.journal.Journal.append_framed.Goals as goal
 
 pub invariant_of-result : goal.invariant_of-result
-invariant_of-result g c = 
+invariant_of-result g c =
     let body = c.requires.framed.body in
     let is = c.requires.framed.is in
     let short = c.requires.framed.short in
@@ -57,7 +57,7 @@ returns-in-Err-Failed-clause-ends g c = λ body is short.
     let has = subst (λ n. HasRecords (bytes_of side old.reads) n bodies) (sym c.on-end.ensures) (held.on side).has in
     let lost = subst (λ f. Adds {T = Unit {0}} side c.on-end.result bodies body old new (Err f)) c.in-Err-Failed.field-0-is (c.in-Err-Failed.ensures.adds bodies body has is short) in
     let at : IsLostIn 0 lost.0 side (end_on side c.self.inside.ends - 1) (records old.reads) (with_record side body old) old new =
-        subst (λ n. IsLostIn 0 lost.0 side (n - 1) (records old.reads) (with_record side body old) old new) c.on-end.ensures lost.1 in
+    subst (λ n. IsLostIn 0 lost.0 side (n - 1) (records old.reads) (with_record side body old) old new) c.on-end.ensures lost.1 in
     subst (λ d. IsLostAppend side body (g.D.Disk.view d) new) c.self.view_is
     (append_lost side body old new c.self.inside.ends held bodies lost.0 (held.on side).has at)
 
@@ -73,7 +73,7 @@ returns-in-Err-Failed-clause-moments g c = λ body is short.
     (c.add.ensures.moments bodies body has is short)
 
 pub invariant_of-result-in-Err-NoMemory : goal.invariant_of-result-in-Err-NoMemory
-invariant_of-result-in-Err-NoMemory g c = 
+invariant_of-result-in-Err-NoMemory g c =
     let body = c.requires.framed.body in
     let is = c.requires.framed.is in
     let short = c.requires.framed.short in
@@ -84,7 +84,7 @@ invariant_of-result-in-Err-NoMemory g c =
     let bodies = (held.on side).bodies in
     let has = subst (λ n. HasRecords (bytes_of side old.reads) n bodies) (sym c.on-end.ensures) (held.on side).has in
     let none = subst (λ n. IsNotAdded side n bodies old new) c.on-end.ensures
-        (subst (λ f. Adds {T = Unit {0}} side c.on-end.result bodies body old new (Err f)) c.in-Err-NoMemory.field-0-is (c.in-Err-NoMemory.ensures.adds bodies body has is short)) in
+    (subst (λ f. Adds {T = Unit {0}} side c.on-end.result bodies body old new (Err f)) c.in-Err-NoMemory.field-0-is (c.in-Err-NoMemory.ensures.adds bodies body has is short)) in
     refused_held side body old new c.self.inside.ends held bodies none
 
 pub returns-in-Err-NoMemory-clause-ends : goal.returns-in-Err-NoMemory-clause-ends
@@ -96,7 +96,7 @@ returns-in-Err-NoMemory-clause-ends g c = λ body is short.
     let bodies = (held.on side).bodies in
     let has = subst (λ n. HasRecords (bytes_of side old.reads) n bodies) (sym c.on-end.ensures) (held.on side).has in
     let none = subst (λ n. IsNotAdded side n bodies old new) c.on-end.ensures
-        (subst (λ f. Adds {T = Unit {0}} side c.on-end.result bodies body old new (Err f)) c.in-Err-NoMemory.field-0-is (c.in-Err-NoMemory.ensures.adds bodies body has is short)) in
+    (subst (λ f. Adds {T = Unit {0}} side c.on-end.result bodies body old new (Err f)) c.in-Err-NoMemory.field-0-is (c.in-Err-NoMemory.ensures.adds bodies body has is short)) in
     subst (λ d. IsRefused (λ r. r ≡ records (g.D.Disk.view d).reads) 2 (g.D.Disk.view d) new) c.self.view_is
     (append_refused side body old new c.self.inside.ends held bodies none)
 

@@ -11,7 +11,7 @@ use Rattle.cg_journal.proofs.Appending.{closed_held, closed_done, kept_held, kep
 use Rattle.cg_journal.proofs.journal.Journal.closed.Goals as goal
 
 pub invariant_of-result : goal.invariant_of-result
-invariant_of-result g c = 
+invariant_of-result g c =
     let side = c.args.side in
     let old = g.D.Disk.view c.self.inside.disk in
     let new = g.D.Disk.view c.close.new.disk in
@@ -21,7 +21,7 @@ invariant_of-result g c =
     subst (λ e. IsJournal new e) (sym c.with.ensures) (closed_held side old new c.self.inside.ends held (c.in-Ok.ensures.closes bodies has))
 
 pub returns-in-Ok-clause-ends : goal.returns-in-Ok-clause-ends
-returns-in-Ok-clause-ends g c = 
+returns-in-Ok-clause-ends g c =
     let side = c.args.side in
     let old = g.D.Disk.view c.self.inside.disk in
     let new = g.D.Disk.view c.close.new.disk in
@@ -31,7 +31,7 @@ returns-in-Ok-clause-ends g c =
     subst (λ d. IsDone (without_records side (g.D.Disk.view d)) 2 (g.D.Disk.view d) new) c.self.view_is (closed_done side old new c.self.inside.ends held (c.in-Ok.ensures.closes bodies has))
 
 pub returns-in-Ok-clause-moments : goal.returns-in-Ok-clause-moments
-returns-in-Ok-clause-moments g c = 
+returns-in-Ok-clause-moments g c =
     let side = c.args.side in
     let old = g.D.Disk.view c.self.inside.disk in
     let new = g.D.Disk.view c.close.new.disk in
@@ -42,7 +42,7 @@ returns-in-Ok-clause-moments g c =
     (c.close.ensures.moments bodies has)
 
 pub returns-in-Err-Failed-clause-ends : goal.returns-in-Err-Failed-clause-ends
-returns-in-Err-Failed-clause-ends g c = 
+returns-in-Err-Failed-clause-ends g c =
     let side = c.args.side in
     let old = g.D.Disk.view c.self.inside.disk in
     let new = g.D.Disk.view c.close.new.disk in
@@ -53,7 +53,7 @@ returns-in-Err-Failed-clause-ends g c =
     subst (λ d. (call : ℕ) × IsLostClosing call (records (g.D.Disk.view d).reads) (without_records side (g.D.Disk.view d)) (g.D.Disk.view d) new) c.self.view_is lost
 
 pub returns-in-Err-Failed-clause-moments : goal.returns-in-Err-Failed-clause-moments
-returns-in-Err-Failed-clause-moments g c = 
+returns-in-Err-Failed-clause-moments g c =
     let side = c.args.side in
     let old = g.D.Disk.view c.self.inside.disk in
     let new = g.D.Disk.view c.close.new.disk in
@@ -64,7 +64,7 @@ returns-in-Err-Failed-clause-moments g c =
     (c.close.ensures.moments bodies has)
 
 pub invariant_of-result-in-Err-NoMemory : goal.invariant_of-result-in-Err-NoMemory
-invariant_of-result-in-Err-NoMemory g c = 
+invariant_of-result-in-Err-NoMemory g c =
     let side = c.args.side in
     let old = g.D.Disk.view c.self.inside.disk in
     let new = g.D.Disk.view c.close.new.disk in
@@ -75,7 +75,7 @@ invariant_of-result-in-Err-NoMemory g c =
     kept_held old new c.self.inside.ends held kept
 
 pub returns-in-Err-NoMemory-clause-ends : goal.returns-in-Err-NoMemory-clause-ends
-returns-in-Err-NoMemory-clause-ends g c = 
+returns-in-Err-NoMemory-clause-ends g c =
     let side = c.args.side in
     let old = g.D.Disk.view c.self.inside.disk in
     let new = g.D.Disk.view c.close.new.disk in
@@ -86,7 +86,7 @@ returns-in-Err-NoMemory-clause-ends g c =
     subst (λ d. IsRefused (λ r. r ≡ records (g.D.Disk.view d).reads) 0 (g.D.Disk.view d) new) c.self.view_is (kept_refused old new kept)
 
 pub returns-in-Err-NoMemory-clause-moments : goal.returns-in-Err-NoMemory-clause-moments
-returns-in-Err-NoMemory-clause-moments g c = 
+returns-in-Err-NoMemory-clause-moments g c =
     let side = c.args.side in
     let old = g.D.Disk.view c.self.inside.disk in
     let new = g.D.Disk.view c.close.new.disk in
