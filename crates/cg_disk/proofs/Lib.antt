@@ -1,0 +1,10 @@
+mod Counting
+mod Crashing
+mod Filling
+mod Images
+mod Moments
+mod Places
+mod Strikes
+mod Tearing
+mod Undoing
+mod Writing

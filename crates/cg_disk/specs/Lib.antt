@@ -1,0 +1,11 @@
+pub mod Sides
+pub mod Writes
+pub mod State
+pub mod View
+pub mod Calls
+pub mod Crashes
+pub mod Undo
+pub mod Armed
+pub mod Past
+pub mod Model
+pub mod Law

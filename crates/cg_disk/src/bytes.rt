@@ -1,0 +1,33 @@
+//! Writes to bytes in memory.
+ghost use Rattle.std.specs.Prelude.{◌≡◌, ◌+◌, ◌<◌, ◌≤◌, ◌^◌, ◌-◌, min, length, OnOk, OnErr, IfOk, take, drop};
+ghost use Rattle.cg_disk.specs.Writes.{overwritten};
+
+use cg_base::NoMemory;
+use std::alloc::Global;
+
+/// Writes over the bytes from a place on, and past their end.
+pub fn overwrite(bytes: &mut Vec<u8>, place: usize, new: &[u8]) -> Result<(), NoMemory>
+    requires { place ≤ length bytes.old.items }
+    ensures ok { OnOk result (bytes.new.items ≡ overwritten bytes.old.items place new.now) }
+    ensures err { OnErr result (bytes.new.items ≡ bytes.old.items) }
+    ensures short { OnOk result (place + length new.now < 2 ^ 63) }
+{
+    let over = new.len().min(bytes.len() - place);
+    bytes.extend_from_slice(&new[over..])?;
+    bytes[place..place + over].copy_from_slice(&new[..over]);
+    Ok(())
+}
+
+/// The bytes that a write of this many at a place writes over.
+pub fn written_over(
+    alloc: Global,
+    bytes: &[u8],
+    place: usize,
+    count: usize,
+) -> Result<Vec<u8>, NoMemory>
+    requires { place ≤ length bytes.now }
+    ensures { IfOk result (λ over. over.items ≡ take (min count (length bytes.now - place)) (drop place bytes.now)) }
+{
+    let over = count.min(bytes.len() - place);
+    Ok(bytes[place..place + over].to_vec(alloc)?)
+}

@@ -1,0 +1,241 @@
+//! A disk in memory.
+ghost use Rattle.std.specs.Prelude.{◌≡◌, ◌+◌, ◌<◌, ◌≤◌, ◌^◌, [], length, OnOk, OnErr, reverse, vec_len, vec_capacity};
+ghost use Rattle.cg_disk.specs.Past.{last_call};
+
+use crate::armed::Armed;
+use crate::mark::Mark;
+use crate::model_side::ModelSide;
+use crate::{Disk, DiskFault, Side};
+use cg_base::NoMemory;
+use std::alloc::Global;
+use std::mem::replace;
+
+#[cfg(test)]
+mod tests;
+
+/// A disk in memory whose calls can be made to fail. It keeps what it needs to tell what a crash may have left at each
+/// moment since the last `begin`: each mark has the writes that it settled, with the bytes that they wrote over.
+#[derive(Drop)]
+pub struct ModelDisk {
+    alloc: Global,
+    a: ModelSide,
+    b: ModelSide,
+    armed: Armed,
+    calls: u64,
+    faults: u64,
+    begun: u64,
+    past: Vec<Mark>,
+    ghost counted: { (faults ≤ calls) × (begun ≤ calls) × (last_call (reverse past.items) ≤ calls) },
+    ghost room: { 0 < vec_len a.unsynced + vec_len b.unsynced → vec_len past < vec_capacity past },
+}
+
+impl ModelDisk {
+    ghost use Rattle.cg_disk.specs.Model.{view_of, Settles, Counts, IsWritten, SameSides};
+    ghost use Rattle.std.specs.Prelude.{IsErrOf};
+    ghost use Rattle.cg_disk.specs.Calls.{Looks, Ends, HasImages};
+    ghost use Rattle.cg_disk.specs.State.{looked, Fails, Stops};
+    ghost use Rattle.cg_disk.specs.Crashes.{IsNew, Arms, IsCrashed};
+    ghost use Rattle.std.specs.Prelude.{IfOk};
+    ghost use Rattle.cg_disk.specs.Sides.{bytes_of};
+
+    /// Both sides empty, nothing armed.
+    pub fn new(alloc: Global) -> ModelDisk
+        ensures { IsNew (⟦<ModelDisk as Disk>⟧.view result) }
+    {
+        ModelDisk {
+            alloc,
+            a: ModelSide::new(alloc, Vec::new(alloc)),
+            b: ModelSide::new(alloc, Vec::new(alloc)),
+            armed: Armed::Nothing,
+            calls: 0,
+            faults: 0,
+            begun: 0,
+            past: Vec::new(alloc),
+        }
+    }
+
+    /// Arms the nth next call, n at least 1, to fail once, in place of what was armed.
+    pub fn fail_at(&mut self, n: u64)
+        requires { 1 ≤ n }
+        ensures { Arms Fails n (⟦<ModelDisk as Disk>⟧.view self.old) (⟦<ModelDisk as Disk>⟧.view self.new) }
+    {
+        self.armed = Armed::Failure(n - 1);
+    }
+
+    /// Arms a stop inside the nth next call, n at least 1, in place of what was armed. That call and each later one fail.
+    pub fn stop_at(&mut self, n: u64)
+        requires { 1 ≤ n }
+        ensures { Arms Stops n (⟦<ModelDisk as Disk>⟧.view self.old) (⟦<ModelDisk as Disk>⟧.view self.new) }
+    {
+        self.armed = Armed::Stop(n - 1);
+    }
+
+    /// The device calls made so far.
+    pub fn calls(&self) -> u64
+        ensures { result ≡ (⟦<ModelDisk as Disk>⟧.view self.now).time }
+    {
+        self.calls
+    }
+
+    /// The disk after a crash. The fill goes into the places that were written since the last sync, side A before
+    /// side B, ascending on each; what is left of it isn't used. Where it ends old bytes stay, and a place without one
+    /// ends its side.
+    pub fn image(self, fill: &[u8]) -> Result<ModelDisk, NoMemory>
+        ensures { IfOk result (λ disk. IsCrashed fill.now (⟦<ModelDisk as Disk>⟧.view self) (⟦<ModelDisk as Disk>⟧.view disk)) }
+    {
+        let used = self.a.unsynced_places().min(fill.len());
+        let a = self.a.filled(self.alloc, fill)?;
+        let b = self.b.filled(self.alloc, &fill[used..])?;
+        Ok(ModelDisk {
+            alloc: self.alloc,
+            a: ModelSide::new(self.alloc, a),
+            b: ModelSide::new(self.alloc, b),
+            armed: Armed::Nothing,
+            calls: self.calls,
+            faults: self.faults,
+            begun: self.calls,
+            past: Vec::new(self.alloc),
+        })
+    }
+
+    // Lets all writes count as synced from here on.
+    fn settle(&mut self)
+        ensures settles { Settles self.old self.new }
+        ensures armed { self.new.armed ≡ self.old.armed }
+        ensures calls { self.new.calls ≡ self.old.calls }
+        ensures faults { self.new.faults ≡ self.old.faults }
+    {
+        if self.a.unsynced.is_empty() && self.b.unsynced.is_empty() {
+            return;
+        }
+        let mark = Mark {
+            call: self.calls,
+            a: replace(&mut self.a.unsynced, Vec::new(self.alloc)),
+            b: replace(&mut self.b.unsynced, Vec::new(self.alloc)),
+        };
+        match self.past.push(mark) {
+            Ok(()) => (),
+            Err(_) => unreachable!(),
+        }
+    }
+
+    // Counts a call, and strikes it where that is armed.
+    fn count(&mut self) -> Result<(), DiskFault>
+        requires { self.old.calls < 2 ^ 62 }
+        ensures { Counts self.old self.new result }
+    {
+        self.calls += 1;
+        match self.armed {
+            Armed::Nothing => Ok(()),
+            Armed::Failure(0) => {
+                self.armed = Armed::Nothing;
+                self.faults += 1;
+                self.settle();
+                Err(DiskFault::Failed)
+            }
+            Armed::Failure(others) => {
+                self.armed = Armed::Failure(others - 1);
+                Ok(())
+            }
+            Armed::Stop(0) => {
+                self.faults += 1;
+                Err(DiskFault::Failed)
+            }
+            Armed::Stop(others) => {
+                self.armed = Armed::Stop(others - 1);
+                Ok(())
+            }
+        }
+    }
+
+    // A call that only looks.
+    fn look(&mut self) -> Result<(), DiskFault>
+        requires { self.old.calls < 2 ^ 62 }
+        ensures looks { Looks (view_of self.old) (view_of self.new) }
+        ensures ends { Ends looked looked (view_of self.old) (view_of self.new) result }
+        ensures images { HasImages (view_of self.new) }
+        ensures no_memory { IsErrOf result DiskFault.NoMemory → ⊥ }
+    {
+        self.count()
+    }
+
+    // Writes to a side, without a call.
+    fn put(&mut self, side: Side, place: usize, bytes: &[u8]) -> Result<(), NoMemory>
+        requires { place ≤ length (bytes_of side (view_of self.old).reads) }
+        ensures ok { OnOk result (IsWritten side place bytes.now self.old self.new) }
+        ensures err { OnErr result (SameSides self.old self.new) }
+        ensures short { OnOk result (place + length bytes.now < 2 ^ 63) }
+        ensures armed { self.new.armed ≡ self.old.armed }
+        ensures calls { self.new.calls ≡ self.old.calls }
+        ensures faults { self.new.faults ≡ self.old.faults }
+    {
+        self.past.reserve(1)?;
+        match side {
+            Side::A => self.a.write(self.alloc, place, bytes),
+            Side::B => self.b.write(self.alloc, place, bytes),
+        }
+    }
+
+    // What a read gives of a side.
+    fn bytes(&self, side: Side) -> &[u8]
+        ensures { result.now ≡ bytes_of side (view_of self.now).reads }
+    {
+        match side {
+            Side::A => &self.a.bytes,
+            Side::B => &self.b.bytes,
+        }
+    }
+}
+
+impl Disk for ModelDisk {
+    ghost use Rattle.cg_disk.specs.Model.{view_of};
+    ghost use Rattle.cg_disk.specs.Law.{is_view_of};
+
+    ghost view = { view_of };
+
+    ghost is_view = { is_view_of };
+
+    fn size(&mut self, side: Side) -> Result<u64, DiskFault> {
+        match self.look() {
+            Ok(()) => Ok(self.bytes(side).len() as u64),
+            Err(fault) => Err(fault),
+        }
+    }
+
+    fn read(&mut self, side: Side, place: u64, buf: &mut [u8]) -> Result<(), DiskFault> {
+        match self.look() {
+            Ok(()) => {
+                let from = place as usize;
+                buf.copy_from_slice(&self.bytes(side)[from..from + buf.len()]);
+                Ok(())
+            }
+            Err(fault) => Err(fault),
+        }
+    }
+
+    fn write_at(&mut self, side: Side, place: u64, bytes: &[u8]) -> Result<(), DiskFault> {
+        // A failed write writes nothing; one in which the disk stops may have written anything in its range.
+        if self.armed.fails_next() {
+            return self.count();
+        }
+        match self.put(side, place as usize, bytes) {
+            Ok(()) => self.count(),
+            Err(_) => Err(DiskFault::NoMemory),
+        }
+    }
+
+    fn sync(&mut self) -> Result<(), DiskFault> {
+        match self.count() {
+            Ok(()) => {
+                self.settle();
+                Ok(())
+            }
+            Err(fault) => Err(fault),
+        }
+    }
+
+    fn begin(&mut self) {
+        self.past.clear();
+        self.begun = self.calls;
+    }
+}
