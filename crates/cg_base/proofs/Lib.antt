@@ -1,0 +1,4 @@
+pub mod Cutting
+pub mod Canonical
+pub mod SetLemmas
+pub mod WordLemmas

@@ -1,0 +1,19 @@
+use Rattle.std.proofs.Common.{◌≡◌, ℕ, List, [], ◌∷◌, ◌++◌, append_assoc, sym, ap, ◌∙◌, rules}
+use Rattle.std.proofs.lemmas.List.{append-nil}
+use Rattle.std.specs.List.{flat_map}
+use Rattle.std.specs.Fmt.{decimal}
+use Rattle.cg_base.specs.Iterators.{members_left}
+use Rattle.cg_base.proofs.text.put_members.Goals as goal
+
+-- nothing is left to write at the end
+joined : (f : ℕ → List ℕ) (old mid out text left at_end : List ℕ) → mid ≡ old ++ text → out ++ flat_map f at_end ≡ mid ++ flat_map f left
+    → at_end ≡ [] → out ≡ old ++ (text ++ flat_map f left)
+joined f old mid out text left at_end m whole none =
+    sym (append-nil out) ∙ (rw none at whole) ∙ ap (λ x. x ++ flat_map f left) m ∙ append_assoc old text (flat_map f left)
+
+pub returns : goal.returns
+returns c =
+    let whole : c.args.set ≡ c.in-Some.first ∷ members_left c.into_iter-id-iterator.result = search rules in
+    let none : members_left c.loop-id.id-iterator ≡ [] = search rules in
+    let head : c.put_number.new.out.items ≡ c.args.out.now.items ++ decimal c.in-Some.first = search rules in
+    rw whole (joined (λ y. 44 ∷ decimal y) c.args.out.now.items c.put_number.new.out.items c.loop-id.out.items (decimal c.in-Some.first) (members_left c.into_iter-id-iterator.result) (members_left c.loop-id.id-iterator) head c.loop-id.invariant none)

@@ -1,0 +1,9 @@
+pub mod Lists
+pub mod Sets
+pub mod Weights
+pub mod Ids
+pub mod Cuts
+pub mod Slots
+pub mod SlotLaws
+pub mod Iterators
+pub mod Text
