@@ -1,0 +1,5 @@
+pub mod FieldLaws
+pub mod Items
+pub mod ListLaws
+pub mod PlainFields
+mod Texts

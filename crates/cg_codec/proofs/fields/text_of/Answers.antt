@@ -1,0 +1,9 @@
+use Rattle.std.proofs.lemmas.Str.{is_utf8-from_IsUtf8}
+use Rattle.cg_codec.proofs.Texts.{is_utf8-otherwise}
+use Rattle.cg_codec.proofs.fields.text_of.Goals as goal
+
+pub returns-in-Ok : goal.returns-in-Ok
+returns-in-Ok c = (is_utf8-from_IsUtf8 _ c.in-Ok.ensures.cases.1, c.in-Ok.ensures.cases.0)
+
+pub returns-in-Err : goal.returns-in-Err
+returns-in-Err c = is_utf8-otherwise _ c.in-Err.ensures.cases.0

@@ -1,0 +1,45 @@
+//! Why bytes could not be read or written.
+
+ghost use Rattle.std.specs.Prelude.{◌≡◌};
+ghost use Rattle.cg_codec.specs.declared.fault.CodecFault.TheVariants.{NoMemory as OutOfMemory};
+
+use cg_base::NoMemory;
+use std::alloc::{AllocError, AllocFailed};
+
+/// Why a value can't be read from bytes: the first fault from the left.
+/// Places count from 0, over all the bytes that the reader was made of.
+#[derive(Clone, Copy, Debug, PartialEq, Eq)]
+pub enum CodecFault {
+    /// The bytes end in the field whose first byte is at this place.
+    Short { at: u64 },
+    /// The field whose first byte is at this place has no such value.
+    Bad { at: u64 },
+    /// Bytes follow the last field. The first of them is at this place.
+    Rest { at: u64 },
+    /// Memory was refused, which says nothing of the bytes.
+    NoMemory,
+}
+
+impl From<NoMemory> for CodecFault {
+    ghost from_gives = { λ _ fault. fault ≡ OutOfMemory };
+
+    fn from(_: NoMemory) -> CodecFault {
+        CodecFault::NoMemory
+    }
+}
+
+impl From<AllocError> for CodecFault {
+    ghost from_gives = { λ _ fault. fault ≡ OutOfMemory };
+
+    fn from(_: AllocError) -> CodecFault {
+        CodecFault::NoMemory
+    }
+}
+
+impl<T: Drop> From<AllocFailed<T>> for CodecFault {
+    ghost from_gives = { λ _ fault. fault ≡ OutOfMemory };
+
+    fn from(_: AllocFailed<T>) -> CodecFault {
+        CodecFault::NoMemory
+    }
+}
