@@ -2,3 +2,7 @@ pub mod Cutting
 pub mod Canonical
 pub mod SetLemmas
 pub mod WordLemmas
+pub mod ArrayLemmas
+pub mod WeightLemmas
+pub mod CutLemmas
+pub mod TextLemmas

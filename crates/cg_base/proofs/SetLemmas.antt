@@ -1,6 +1,6 @@
 -- What is in a set that is made from others, and that it is a set.
-use Rattle.std.proofs.Common.{◌≡◌, ℕ, zero, suc, ◌+◌, ◌-◌, ◌<◌, ◌≤◌, ◌≢◌, ◌||◌, ◌&&◌, List, [], ◌∷◌, length, map, filter, fold, cond, Bool, not, true, false, eqb, ltb, refl, sym, ap, subst, ◌∙◌, arith, inl, inr, Option, Some, None}
-use Rattle.std.proofs.lemmas.Bool.{cases_eq, cases_order, cases_Bool, eq-eqb, ne_eqb, lt-ltb, le-ltb, eqb-true}
+use Rattle.std.proofs.Common.{◌≡◌, ℕ, suc, ◌+◌, ◌<◌, ◌≤◌, ◌||◌, ◌&&◌, List, [], ◌∷◌, length, filter, Bool, not, true, false, eqb, refl, sym, ap, subst, ◌∙◌, arith, inl, inr, Some}
+use Rattle.std.proofs.lemmas.Bool.{cases_eq, cases_order, cases_Bool, eq-eqb, ne_eqb, lt-ltb, le-ltb}
 use Rattle.cg_base.specs.Sets.{IsSet, Ascends, has, with_member, without_member, union, common, without, least}
 
 -- ---- ascending lists
@@ -52,13 +52,13 @@ eqb-either_way a b = elim (cases_eq a b) [
   | inr apart ↦ ne_eqb a b apart ∙ sym (ne_eqb b a (λ e. apart (sym e)))
 ]
 
-with_member-same : (q : ℕ) (set : List ℕ) (p : ℕ) → p ≡ q → with_member (q ∷ set) p ≡ q ∷ set
+pub with_member-same : (q : ℕ) (set : List ℕ) (p : ℕ) → p ≡ q → with_member (q ∷ set) p ≡ q ∷ set
 with_member-same q set p same = rw (eq-eqb p q same)
 
-with_member-front : (q : ℕ) (set : List ℕ) (p : ℕ) → p < q → with_member (q ∷ set) p ≡ p ∷ q ∷ set
+pub with_member-front : (q : ℕ) (set : List ℕ) (p : ℕ) → p < q → with_member (q ∷ set) p ≡ p ∷ q ∷ set
 with_member-front q set p lt = rw (ne_eqb p q (λ e. omega arith), lt-ltb p q lt)
 
-with_member-later : (q : ℕ) (set : List ℕ) (p : ℕ) → q < p → with_member (q ∷ set) p ≡ q ∷ with_member set p
+pub with_member-later : (q : ℕ) (set : List ℕ) (p : ℕ) → q < p → with_member (q ∷ set) p ≡ q ∷ with_member set p
 with_member-later q set p lt = rw (ne_eqb p q (λ e. omega arith), le-ltb p q (omega arith))
 
 pub has-with_member : (set : List ℕ) (p k : ℕ) → has (with_member set p) k ≡ (has set k || eqb p k)

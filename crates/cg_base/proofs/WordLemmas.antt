@@ -1,14 +1,14 @@
 -- What a word of 32 bits says of its members.
-use Rattle.std.proofs.Common.{◌≡◌, ℕ, zero, suc, ◌+◌, ◌-◌, ◌*◌, ◌%◌, ◌/◌, ◌^◌, ◌<◌, ◌≤◌, ◌≢◌, ◌||◌, ◌&&◌, List, [], ◌∷◌, length, map, filter, cond, Bool, not, true, false, eqb, ltb, min, max, refl, sym, ap, ◌∙◌, arith, inl, inr, bit_and, bit_or, w32, Option, Some, None}
+use Rattle.std.proofs.Common.{◌≡◌, ℕ, zero, suc, ◌+◌, ◌-◌, ◌*◌, ◌%◌, ◌^◌, ◌<◌, ◌≤◌, ◌≢◌, ◌||◌, ◌&&◌, List, [], ◌∷◌, length, filter, cond, Bool, not, true, false, eqb, ltb, min, max, refl, sym, ap, ◌∙◌, arith, inl, inr, bit_and, bit_or, w32, Some}
 use Rattle.std.specs.Int.{bit_at, bit_not, trailing_zeros}
 use Rattle.std.specs.List.{list_all}
 use Rattle.std.specs.Cmp.Lexicographic.{pointwise}
 use mir.Val.{bits}
-use Rattle.std.proofs.lemmas.Bool.{cases_eq, cases_lt, cases_order, cases_Bool, eq-eqb, ne_eqb, lt-ltb, le-ltb, eqb-true, false_from_ne_true}
+use Rattle.std.proofs.lemmas.Bool.{cases_eq, cases_lt, cases_Bool, eq-eqb, ne_eqb, lt-ltb, le-ltb, false_from_ne_true}
 use Rattle.std.proofs.lemmas.List.{nil_from_length}
 use Rattle.std.proofs.lemmas.Nat.Bits.{bit_at_or, bit_at_and, bit_at-lt, bit_at_not, bit_at-zero, bit_at_set_same, bit_at_set_other, bit_at_clear_same, bit_at_clear_other, bit_at-trailing_zeros, bit_at_mask_inside, bit_at_mask_below}
 use Rattle.std.proofs.lemmas.Slice.Eq.{bytes_eq-Decides}
-use Rattle.cg_base.specs.Sets.{IsSet, IsId, Ascends, has, with_member, without_member, union, common, without, is_within, least, next_after}
+use Rattle.cg_base.specs.Sets.{IsSet, IsId, Ascends, has, with_member, without_member, union, common, without, least}
 use Rattle.cg_base.specs.Slots.{held_from, held, member, bit_slot, word_of}
 use Rattle.cg_base.specs.SlotLaws.{value_in, map-itself, held_from-empty, held_from-filled, word_tells, value_in-held, Ascends-members, word_of-held}
 use Rattle.cg_base.proofs.Canonical.{EachMade, held-is}

@@ -1,5 +1,5 @@
 -- Slots give back what was put in them. The models of sets, weights and cuts rest on these laws.
-use Rattle.std.proofs.Common.{◌≡◌, ℕ, zero, suc, ◌+◌, ◌-◌, ◌^◌, ◌<◌, ◌≤◌, ◌≢◌, List, [], ◌∷◌, length, map, cond, drop-cons, true, false, eqb, max, drop, refl, sym, ap, ◌∙◌, arith, ◌⊎◌, inl, inr}
+use Rattle.std.proofs.Common.{◌≡◌, ℕ, zero, suc, ◌+◌, ◌-◌, ◌^◌, ◌<◌, ◌≤◌, ◌≢◌, List, [], ◌∷◌, length, map, cond, drop-cons, true, false, eqb, max, drop, refl, sym, ap, ◌∙◌, arith, inl, inr}
 use Rattle.std.specs.Int.{bit_at}
 use Rattle.std.proofs.lemmas.List.{drop_all}
 use Rattle.std.proofs.lemmas.Bool.{cases_eq, cases_lt, eq-eqb, ne_eqb}
@@ -8,7 +8,7 @@ use Rattle.cg_base.specs.declared.action_id.ActionId.{ActionId}
 use Rattle.cg_base.specs.declared.weighted.Weighted.{Weighted}
 use Rattle.cg_base.specs.Lists.{count_up}
 use Rattle.cg_base.specs.Sets.{Ascends, every_replica}
-use Rattle.cg_base.specs.Slots.{held_from, held, member, weighted, top, bit_slot, array_slot, word_of, array_of}
+use Rattle.cg_base.specs.Slots.{held_from, held, IsArray, member, weighted, top, bit_slot, array_slot, word_of, array_of}
 use Rattle.cg_base.specs.Weights.{weight_in}
 use Rattle.cg_base.specs.Cuts.{index_in}
 
@@ -189,8 +189,8 @@ weight_in-held slot p low high = weight_in-value_in (held weighted slot) p ∙ v
 pub index_in-held : (slot : ℕ → ℕ) (p : ℕ) → 1 ≤ p → p ≤ 32 → index_in (held top slot) p ≡ slot p
 index_in-held slot p low high = index_in-value_in (held top slot) p ∙ value_in-held top (λ t. t.creator) (λ t. t.index) slot (indexes_tell slot) p low high
 
-pub array_of-weights : (slots : List ℕ) → length slots ≡ 32 → array_of (weight_in (held weighted (array_slot slots))) ≡ slots
-array_of-weights slots long = array_of-slots slots _ long (weight_in-held (array_slot slots))
+pub array_of-weights : (slots : List ℕ) → IsArray slots 256 → array_of (weight_in (held weighted (array_slot slots))) ≡ slots
+array_of-weights slots array = array_of-slots slots _ array.long (weight_in-held (array_slot slots))
 
-pub array_of-indexes : (slots : List ℕ) → length slots ≡ 32 → array_of (index_in (held top (array_slot slots))) ≡ slots
-array_of-indexes slots long = array_of-slots slots _ long (index_in-held (array_slot slots))
+pub array_of-indexes : (slots : List ℕ) → IsArray slots (2 ^ 64) → array_of (index_in (held top (array_slot slots))) ≡ slots
+array_of-indexes slots array = array_of-slots slots _ array.long (index_in-held (array_slot slots))

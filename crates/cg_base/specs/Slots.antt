@@ -1,5 +1,5 @@
 -- How sets, weights and cuts lie in slots, one for each replica. A slot that holds 0 is empty.
-use Rattle.std.specs.Prelude.{ℕ, zero, suc, ◌+◌, ◌-◌, ◌^◌, ◌==◌, List, [], ◌∷◌, map, bit_or, slice_index, if◌then◌else◌}
+use Rattle.std.specs.Prelude.{◌≡◌, ℕ, zero, suc, ◌-◌, ◌^◌, ◌<◌, ◌==◌, List, [], ◌∷◌, length, map, bit_or, slice_index, if◌then◌else◌}
 use Rattle.std.specs.Int.{bit_at}
 use Rattle.cg_base.specs.declared.action_id.ActionId.{ActionId}
 use Rattle.cg_base.specs.declared.weighted.Weighted.{Weighted}
@@ -22,6 +22,11 @@ bit_slot word p = bit_at word (p - 1)
 
 abbrev pub array_slot : List ℕ → ℕ → ℕ
 array_slot slots p = slice_index slots (p - 1)
+
+-- the array has a slot for each replica, and each holds less than the limit
+pub record IsArray (slots : List ℕ) (limit : ℕ) : Type 0 where
+  pub long : length slots ≡ 32
+  pub small : (k : ℕ) → slice_index slots k < limit
 
 -- what a filled slot stands for
 abbrev pub member : ℕ → ℕ → ℕ

@@ -12,9 +12,9 @@ pub struct Cut {
 }
 
 impl Model for Cut {
-    ghost use Rattle.std.specs.Prelude.{◌≡◌, ℕ, List, length};
+    ghost use Rattle.std.specs.Prelude.{ℕ, ◌^◌, List};
     ghost use Rattle.cg_base.specs.declared.action_id.ActionId.{ActionId};
-    ghost use Rattle.cg_base.specs.Slots.{held, top, array_slot, array_of};
+    ghost use Rattle.cg_base.specs.Slots.{held, IsArray, top, array_slot, array_of};
     ghost use Rattle.cg_base.specs.Cuts.{index_in};
     ghost use Rattle.cg_base.specs.SlotLaws.{array_of-indexes};
 
@@ -22,7 +22,7 @@ impl Model for Cut {
 
     ghost view = { λ c. held top (array_slot c.indexes) };
 
-    ghost invariant = { λ c. length c.indexes ≡ 32 };
+    ghost invariant = { λ c. IsArray c.indexes (2 ^ 64) };
 
     ghost inverse = { λ cut. record { indexes = array_of (index_in cut) } };
 

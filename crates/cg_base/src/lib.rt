@@ -13,6 +13,8 @@ mod no_memory;
 mod pieces;
 mod replica_id;
 mod row;
+#[cfg(test)]
+mod tests;
 mod text;
 mod weight_set;
 mod weighted;

@@ -12,9 +12,9 @@ pub struct WeightSet {
 }
 
 impl Model for WeightSet {
-    ghost use Rattle.std.specs.Prelude.{◌≡◌, ℕ, List, length};
+    ghost use Rattle.std.specs.Prelude.{ℕ, List};
     ghost use Rattle.cg_base.specs.declared.weighted.Weighted.{Weighted};
-    ghost use Rattle.cg_base.specs.Slots.{held, weighted, array_slot, array_of};
+    ghost use Rattle.cg_base.specs.Slots.{held, IsArray, weighted, array_slot, array_of};
     ghost use Rattle.cg_base.specs.Weights.{weight_in};
     ghost use Rattle.cg_base.specs.SlotLaws.{array_of-weights};
 
@@ -22,7 +22,7 @@ impl Model for WeightSet {
 
     ghost view = { λ s. held weighted (array_slot s.weights) };
 
-    ghost invariant = { λ s. length s.weights ≡ 32 };
+    ghost invariant = { λ s. IsArray s.weights 256 };
 
     ghost inverse = { λ set. record { weights = array_of (weight_in set) } };
 
@@ -182,7 +182,7 @@ impl Iterator for Weights {
         let id = self.left.take_least()?;
         Some(Weighted {
             id,
-            weight: self.weights[usize::from(id.get() - 1)],
+            weight: self.weights[usize::from(id.get()) - 1],
         })
     }
 }

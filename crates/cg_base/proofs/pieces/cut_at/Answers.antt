@@ -1,4 +1,4 @@
-use Rattle.std.proofs.Common.{◌+◌, length, arith, add-one}
+use Rattle.std.proofs.Common.{arith, add-one}
 use Rattle.std.proofs.lemmas.List.{take_rest}
 use Rattle.cg_base.proofs.Cutting.{pieces_of-cut, pieces_of-none}
 use Rattle.cg_base.proofs.pieces.cut_at.Goals as goal

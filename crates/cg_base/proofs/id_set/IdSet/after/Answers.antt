@@ -10,5 +10,5 @@ returns c =
     let id = c.args.id in
     let within : id ≤ 64 = let most = c.get.ensures.range.1 in omega arith in
     let above : c.least.result ≡ least (members (bit_and w (2 ^ 64 - 2 ^ id))) =
-      rw (c.from.ensures, c.get.ensures.value, ones_shl 64 id within) at c.least.ensures in
+    rw (c.from.ensures, c.get.ensures.value, ones_shl 64 id within) at c.least.ensures in
     rw (← c.self.view_is) (above ∙ ap least (members-above w id c.get.ensures.range.1))

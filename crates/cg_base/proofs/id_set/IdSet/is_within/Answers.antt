@@ -12,4 +12,4 @@ returns c =
     let b = c.o.inside.word in
     let least : bit_and a (bit_not w32 b) < 2 ^ 32 = let small : a < 2 ^ 32 = c.self.invariant in omega (arith, small, and_le_l a (bit_not w32 b)) in
     rw (← c.self.view_is, ← c.o.view_is)
-      (members-empty (bit_and a (bit_not w32 b)) least ∙ ap (λ s. eqb (length s) 0) (members-and_not a b c.o.invariant) ∙ length-filter_none (has (members b)) (members a))
+    (members-empty (bit_and a (bit_not w32 b)) least ∙ ap (λ s. eqb (length s) 0) (members-and_not a b c.o.invariant) ∙ length-filter_none (has (members b)) (members a))

@@ -1,0 +1,35 @@
+-- What stands at the front of a text that grows.
+use Rattle.std.proofs.Common.{◌≡◌, ℕ, List, [], ◌∷◌, ◌++◌, length, take, ap, ◌∙◌, refl}
+use Rattle.std.specs.Prelude.{Result, Ok, Err, OnErr}
+use Rattle.std.proofs.Math.Seq.{take-append_seam}
+use Rattle.cg_base.specs.Text.{KeepsFront}
+
+-- what holds in any case holds where a call failed
+pub OnErr_from : {T E : Type 0} (r : Result T E) {P : Type 0} → P → OnErr r P
+OnErr_from (Ok x) p = tt
+OnErr_from (Err e) p = p
+
+pub KeepsFront-grown : (before more : List ℕ) → KeepsFront before (before ++ more)
+KeepsFront-grown before more = take-append_seam before more
+
+pub KeepsFront-through : (a b c : List ℕ) → KeepsFront a b → KeepsFront b c → KeepsFront a c
+KeepsFront-through [] b c ab bc = refl
+KeepsFront-through (x ∷ a) [] c ab bc = absurd (cc)
+KeepsFront-through (x ∷ a) (y ∷ b) [] ab bc = absurd (cc)
+KeepsFront-through (x ∷ a) (y ∷ b) (z ∷ c) ab bc =
+    let first : y ≡ x = cc in
+    let second : z ≡ y = cc in
+    let rest : take (length a) b ≡ a = cc in
+    let more : take (length b) c ≡ b = cc in
+    ap (λ n. n ∷ take (length a) c) (second ∙ first) ∙ ap (λ s. x ∷ s) (KeepsFront-through a b c rest more)
+
+-- a text that keeps a longer front keeps a shorter one
+pub KeepsFront-less : (before more now : List ℕ) → KeepsFront (before ++ more) now → KeepsFront before now
+KeepsFront-less before more now keeps = KeepsFront-through before (before ++ more) now (KeepsFront-grown before more) keeps
+
+-- what was put at the end of a text leaves its front
+pub KeepsFront-put : (before now more : List ℕ) → KeepsFront before now → KeepsFront before (now ++ more)
+KeepsFront-put before now more keeps = KeepsFront-through before now (now ++ more) keeps (KeepsFront-grown now more)
+
+pub KeepsFront-is : (a b more : List ℕ) → b ≡ a ++ more → KeepsFront a b
+KeepsFront-is a b more is = rw is (KeepsFront-grown a more)
