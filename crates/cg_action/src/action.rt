@@ -10,10 +10,7 @@ use std::alloc::Global;
 #[derive(Drop)]
 pub enum Kind {
     /// Runs at most 16 commands, and then asks the query. Without commands there is a query.
-    Update {
-        cmds: CmdList,
-        query: Option<Query>,
-    },
+    Update { cmds: CmdList, query: Option<Query> },
     /// Makes the replica a server that counts with this weight, from 1.
     Join(ReplicaId, u8),
     /// Takes the server out.

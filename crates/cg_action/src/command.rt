@@ -10,11 +10,19 @@ use std::alloc::Global;
 #[derive(Drop)]
 pub enum Cmd {
     /// Sets the key to the value.
-    Put { key: Txt, value: Value },
+    Put {
+        key: Txt,
+        value: Value,
+    },
     /// Removes the key, if it is there.
-    Del { key: Txt },
+    Del {
+        key: Txt,
+    },
     /// Adds to the key's number.
-    Inc { key: Txt, by: i64 },
+    Inc {
+        key: Txt,
+        by: i64,
+    },
     /// Sets the key to the value where it has the wanted value, or where it is absent for `None`.
     Cas {
         key: Txt,
@@ -28,7 +36,10 @@ pub enum Cmd {
         amount: i64,
     },
     /// Fails where the key doesn't have the wanted value, or isn't absent for `None`.
-    Need { key: Txt, want: Option<Value> },
+    Need {
+        key: Txt,
+        want: Option<Value>,
+    },
 }
 
 /// Commands in the order in which they run.

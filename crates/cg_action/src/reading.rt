@@ -324,7 +324,11 @@ fn take_query_or_none(alloc: Global, fields: &mut Fields) -> Result<Option<Query
 
 // the query behind the commands, of which there may be none where it is
 #[tactic(auto, unfolding(crate::specs::Reading::query_behind))]
-fn take_query_behind(alloc: Global, fields: &mut Fields, cmds: &[Cmd]) -> Result<Option<Query>, CodecFault>
+fn take_query_behind(
+    alloc: Global,
+    fields: &mut Fields,
+    cmds: &[Cmd],
+) -> Result<Option<Query>, CodecFault>
     ensures { TakesWithMemory (λ q. q) (query_behind cmds.now) (unread_of fields.old) (unread_of fields.new) result }
 {
     let mut after = *fields;
