@@ -2,3 +2,4 @@ pub mod Limits
 pub mod Bytes
 pub mod Reading
 pub mod Print
+pub mod Laws

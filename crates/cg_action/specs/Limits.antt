@@ -1,8 +1,9 @@
 -- What an action may be: the limits of its parts.
-use Rattle.std.specs.Prelude.{◌≡◌, ℕ, ◌==◌, ◌<◌, ◌≤◌, ◌^◌, Bool, true, not, ◌||◌, List, length, All, ℤ, pos, ◌≤ℤ◌, FitsSigned, Option, Some, None, is_some}
+use Rattle.std.specs.Prelude.{◌≡◌, ℕ, ◌==◌, ◌<◌, ◌≤◌, ◌^◌, Bool, true, not, ◌||◌, List, length, All, ℤ, pos, ◌≤ℤ◌, FitsSigned, Option, is_some}
 use Rattle.std.specs.Int.{w64}
 use Rattle.std.specs.Str.{IsUtf8}
 use Rattle.cg_base.specs.Sets.{IsId}
+use Rattle.cg_codec.specs.Laws.{HasOptional}
 use Rattle.cg_base.specs.declared.action_id.ActionId.{ActionId}
 use Rattle.cg_action.specs.declared.value.Value.{Value}
 use Rattle.cg_action.specs.declared.value.Value.TheVariants.{Text, Int}
@@ -32,8 +33,7 @@ IsValue (Int n) = FitsSigned w64 n
 
 -- a value, or none
 abbrev pub IsWant : Option Value → Type 0
-IsWant None = Unit {0}
-IsWant (Some v) = IsValue v
+IsWant = HasOptional IsValue
 
 abbrev pub IsCommand : Cmd → Type 0
 IsCommand (Put key value) = IsKey key × IsValue value
@@ -48,10 +48,6 @@ IsQuery (Get key) = IsKey key
 IsQuery (Keys prefix) = IsPrefix prefix
 IsQuery Count = Unit {0}
 
-abbrev pub IsQueryOrNone : Option Query → Type 0
-IsQueryOrNone None = Unit {0}
-IsQueryOrNone (Some q) = IsQuery q
-
 -- there is a command or a query
 abbrev pub does_something : List Cmd → Option Query → Bool
 does_something cmds query = not (length cmds == 0) || is_some query
@@ -60,7 +56,7 @@ does_something cmds query = not (length cmds == 0) || is_some query
 pub record IsUpdate (cmds : List Cmd) (query : Option Query) : Type 0 where
   pub few : length cmds ≤ 16
   pub each : All IsCommand cmds
-  pub asks : IsQueryOrNone query
+  pub asks : HasOptional IsQuery query
   pub does : does_something cmds query ≡ true
 
 -- a joiner has a weight from 1 to 255

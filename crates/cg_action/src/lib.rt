@@ -7,6 +7,7 @@
 
 mod action;
 mod command;
+mod laws;
 mod print;
 mod query;
 mod reading;
@@ -15,6 +16,7 @@ mod writing;
 
 pub use action::{Action, ActionList, Kind, copy_actions};
 pub use command::{Cmd, CmdList};
+pub use laws::{actions_are_exact, spellings_stand_apart};
 pub use print::print_kind;
 pub use query::Query;
 pub use reading::{decode, take_action, take_action_id, take_value};

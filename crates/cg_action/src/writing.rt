@@ -2,8 +2,9 @@
 
 ghost use Rattle.std.specs.Prelude.{◌≡◌, ◌≤◌, ◌++◌, length, All, OnOk, OnErr, IfSome};
 ghost use Rattle.cg_base.specs.Text.{KeepsFront};
+ghost use Rattle.cg_codec.specs.Laws.{HasOptional};
 ghost use Rattle.cg_codec.specs.Fields.{byte, list, optional, text};
-ghost use Rattle.cg_action.specs.Limits.{IsAction, IsActionId, IsKey, IsValue, IsWant, IsCommand, IsQuery, IsQueryOrNone, IsUpdate, IsKind};
+ghost use Rattle.cg_action.specs.Limits.{IsAction, IsActionId, IsKey, IsValue, IsWant, IsCommand, IsQuery, IsUpdate, IsKind};
 ghost use Rattle.cg_action.specs.Bytes.{spelled_id, spelled_value, spelled_want, spelled_command, spelled_query, spelled_join, spelled_kind, spelled_action};
 
 use crate::{Action, Cmd, Kind, Query, Value};
@@ -198,7 +199,7 @@ fn write_query(out: &mut Vec<u8>, query: &Query) -> Result<(), NoMemory>
 }
 
 fn write_query_or_none(out: &mut Vec<u8>, query: &Option<Query>) -> Result<(), NoMemory>
-    requires { IsQueryOrNone query.now }
+    requires { HasOptional IsQuery query.now }
     ensures ok { OnOk result (out.new.items ≡ out.old.items ++ optional spelled_query query.now) }
     ensures err { OnErr result (KeepsFront out.old.items out.new.items) }
 {
