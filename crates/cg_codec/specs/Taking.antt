@@ -25,6 +25,6 @@ Ends left (Ok _) = left.bytes ≡ []
 Ends left (Err fault) = (fault ≡ Rest left.at) × (left.bytes ≢ [])
 
 -- the call gave what reading all of the bytes gives, seen by a view, unless memory was refused
-abbrev pub Gives : {X Y : Type 0} → (X → Y) → Result Y CodecFault → Result X CodecFault → Type 0
-Gives view read (Ok x) = read ≡ Ok (view x)
-Gives view read (Err fault) = fault ≢ NoMemory → read ≡ Err fault
+abbrev pub Decodes : {X Y : Type 0} → (X → Y) → Result Y CodecFault → Result X CodecFault → Type 0
+Decodes view read (Ok x) = read ≡ Ok (view x)
+Decodes view read (Err fault) = fault ≢ NoMemory → read ≡ Err fault

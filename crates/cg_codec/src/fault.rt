@@ -20,6 +20,22 @@ pub enum CodecFault {
     NoMemory,
 }
 
+impl CodecFault {
+    ghost use Rattle.cg_codec.specs.Fault.{codec_fault_number};
+
+    /// The number of a fault of the bytes.
+    pub fn number(&self) -> Option<u8>
+        ensures { result ≡ codec_fault_number self.now }
+    {
+        match self {
+            CodecFault::Short { .. } => Some(1),
+            CodecFault::Bad { .. } => Some(2),
+            CodecFault::Rest { .. } => Some(3),
+            CodecFault::NoMemory => None,
+        }
+    }
+}
+
 impl From<NoMemory> for CodecFault {
     ghost from_gives = { λ _ fault. fault ≡ OutOfMemory };
 

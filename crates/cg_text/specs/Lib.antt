@@ -1,0 +1,5 @@
+pub mod Order
+pub mod Fault
+pub mod Numbers
+pub mod Quoted
+pub mod Tokens
