@@ -22,3 +22,6 @@ pub use query::Query;
 pub use reading::{decode, take_action, take_action_id, take_value};
 pub use value::Value;
 pub use writing::{encode, put_action, put_action_id, put_value};
+
+#[cfg(test)]
+mod tests;

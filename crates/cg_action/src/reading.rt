@@ -2,7 +2,7 @@
 
 ghost use Rattle.std.specs.Prelude.{IfOk};
 ghost use Rattle.cg_codec.specs.Reading.{whole, take_text, take_optional};
-ghost use Rattle.cg_codec.specs.Taking.{unread_of, Takes, TakesWithMemory, Gives};
+ghost use Rattle.cg_codec.specs.Taking.{unread_of, Takes, TakesWithMemory, Decodes};
 ghost use Rattle.cg_action.specs.Limits.{IsAction};
 ghost use Rattle.cg_action.specs.Reading.{byte_between, number_from, id_reading, key_reading, value_of_tag, value_reading, want_of_tag, want_reading, amount_reading, put_reading, del_reading, inc_reading, cas_reading, move_reading, need_reading, command_of_tag, command_reading, query_of_tag, query_reading, commands_reading, query_behind, update_reading, heavy_join_reading, kind_of_tag, kind_reading, action_reading};
 
@@ -14,7 +14,7 @@ use std::alloc::Global;
 
 /// Reads an action that is all of the bytes.
 pub fn decode(alloc: Global, bytes: &[u8]) -> Result<Action, CodecFault>
-    ensures read { Gives (λ a. a) (whole action_reading bytes.now) result }
+    ensures read { Decodes (λ a. a) (whole action_reading bytes.now) result }
     ensures within { IfOk result IsAction }
 {
     let mut fields = Fields::new(bytes);
