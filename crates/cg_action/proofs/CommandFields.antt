@@ -1,7 +1,7 @@
 -- Commands and queries as fields.
-use Rattle.std.proofs.Common.{◌≡◌, ℕ, zero, suc, ◌+◌, ◌<◌, ◌≤◌, List, [], ◌++◌, refl, append_assoc, arith}
+use Rattle.std.proofs.Common.{◌≡◌, ℕ, zero, suc, ◌≤◌, List, [], ◌++◌, refl, append_assoc, arith}
 use Rattle.std.proofs.lemmas.List.{append-nil}
-use Rattle.std.specs.Prelude.{ℤ, pos, ◌≤ℤ◌, FitsSigned, Option, Some, None}
+use Rattle.std.specs.Prelude.{ℤ, pos, ◌≤ℤ◌, FitsSigned, Option, None}
 use Rattle.std.specs.Int.{w64}
 use Rattle.cg_codec.specs.Fields.{byte, signed64, text}
 use Rattle.cg_codec.specs.Reading.{done, take_i64, take_text, ◌>>=◌}
@@ -9,7 +9,7 @@ use Rattle.cg_codec.specs.Laws.{IsField}
 use Rattle.cg_codec.proofs.FieldLaws.{field_done, field_has}
 use Rattle.cg_codec.proofs.PlainFields.{i64_field}
 use Rattle.cg_action.specs.declared.value.Value.{Value}
-use Rattle.cg_action.specs.declared.value.Value.TheVariants.{Text, Int}
+use Rattle.cg_action.specs.declared.value.Value.TheVariants.{Int}
 use Rattle.cg_action.specs.declared.command.Cmd.{Cmd}
 use Rattle.cg_action.specs.declared.command.Cmd.TheVariants.{Put, Del, Inc, Cas, Move, Need}
 use Rattle.cg_action.specs.declared.query.Query.{Query}

@@ -1,13 +1,13 @@
 -- What actions do, and actions, as fields.
-use Rattle.std.proofs.Common.{◌≡◌, ◌≢◌, ℕ, zero, suc, ◌+◌, ◌<◌, ◌≤◌, ◌^◌, Bool, true, false, cond, eqb, List, [], ◌∷◌, ◌++◌, length, refl, sym, ap, ◌∙◌, append_assoc, arith, inl, inr, ◌⊎◌}
+use Rattle.std.proofs.Common.{◌≡◌, ◌≢◌, ℕ, zero, suc, ◌<◌, ◌≤◌, ◌^◌, Bool, true, false, cond, eqb, List, [], ◌∷◌, ◌++◌, length, refl, sym, append_assoc, arith}
 use Rattle.std.proofs.lemmas.List.{append-nil}
 use Rattle.std.proofs.lemmas.Bool.{eqb-true, eqb-false}
 use Rattle.std.proofs.lemmas.List.Elements.{All-cons, All-tail}
-use Rattle.std.specs.Prelude.{All, Option, Some, None}
+use Rattle.std.specs.Prelude.{All, Option, None}
 use Rattle.cg_base.specs.Sets.{IsId}
 use Rattle.cg_base.specs.declared.action_id.ActionId.{ActionId}
 use Rattle.cg_codec.specs.Fields.{byte, number64, list, optional}
-use Rattle.cg_codec.specs.Reading.{done, only, take_optional, take_list, ◌>>=◌}
+use Rattle.cg_codec.specs.Reading.{done, take_optional, ◌>>=◌}
 use Rattle.cg_codec.specs.Laws.{IsField, EachBehind, HasOptional}
 use Rattle.cg_codec.proofs.FieldLaws.{field_has, field_only, field_bind, field_optional}
 use Rattle.cg_codec.proofs.ListLaws.{field_list}
@@ -17,8 +17,8 @@ use Rattle.cg_action.specs.declared.query.Query.{Query}
 use Rattle.cg_action.specs.declared.action.Kind.{Kind}
 use Rattle.cg_action.specs.declared.action.Kind.TheVariants.{Update, Join, Leave}
 use Rattle.cg_action.specs.declared.action.Action.{Action}
-use Rattle.cg_action.specs.Limits.{does_something, IsCommand, IsQuery, IsUpdate, IsKind, IsActionId, IsAction}
-use Rattle.cg_action.specs.Bytes.{spelled_command, spelled_query, spelled_join, spelled_kind, spelled_id, spelled_action}
+use Rattle.cg_action.specs.Limits.{does_something, IsCommand, IsQuery, IsKind, IsActionId, IsAction}
+use Rattle.cg_action.specs.Bytes.{spelled_command, spelled_query, spelled_kind, spelled_id, spelled_action}
 use Rattle.cg_action.specs.Reading.{byte_between, number_from, id_reading, command_reading, query_reading, commands_reading, query_behind, update_reading, heavy_join_reading, kind_of_tag, kind_reading, action_reading}
 use Rattle.cg_action.proofs.Shapes.{field_says, field_one, field_two, field_three, field_tagged, between_field}
 use Rattle.cg_action.proofs.ValueFields.{replica_field, number_field, id_field}

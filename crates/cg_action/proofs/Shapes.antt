@@ -1,8 +1,8 @@
 -- Fields of one, two and three parts, and of a tag with what is behind it.
-use Rattle.std.proofs.Common.{◌≡◌, ℕ, ◌+◌, ◌<◌, ◌≤◌, Bool, true, List, [], ◌++◌, length, refl, sym, ap, ◌∙◌, append_assoc, arith}
+use Rattle.std.proofs.Common.{◌≡◌, ℕ, ◌+◌, ◌<◌, ◌≤◌, true, List, [], ◌++◌, length, refl, sym, ap, ◌∙◌, arith}
 use Rattle.std.proofs.lemmas.List.{append-nil}
 use Rattle.cg_codec.specs.Fields.{byte}
-use Rattle.cg_codec.specs.Reading.{Unread, Reading, done, only, take_u8, ◌>>=◌}
+use Rattle.cg_codec.specs.Reading.{Unread, Reading, done, take_u8, ◌>>=◌}
 use Rattle.cg_codec.specs.Laws.{IsField}
 use Rattle.cg_codec.proofs.FieldLaws.{field_done, field_has, field_only, field_bind, given}
 use Rattle.cg_codec.proofs.PlainFields.{u8_field}

@@ -1,5 +1,5 @@
 -- Names of actions, keys and values as fields.
-use Rattle.std.proofs.Common.{◌≡◌, ℕ, zero, suc, ◌+◌, ◌<◌, ◌≤◌, ◌^◌, Bool, true, List, [], ◌++◌, length, refl, arith, rules}
+use Rattle.std.proofs.Common.{◌≡◌, ℕ, zero, suc, ◌<◌, ◌≤◌, ◌^◌, true, List, [], ◌++◌, length, refl, arith, rules}
 use Rattle.std.proofs.lemmas.List.{append-nil}
 use Rattle.std.specs.Prelude.{ℤ, pos, negsuc, ◌≤ℤ◌, FitsSigned, Option, Some, None}
 use Rattle.std.specs.Int.{w64}
@@ -7,13 +7,13 @@ use Rattle.std.specs.Str.{IsUtf8}
 use Rattle.cg_base.specs.Sets.{IsId}
 use Rattle.cg_base.specs.declared.action_id.ActionId.{ActionId}
 use Rattle.cg_codec.specs.Fields.{byte, number64, signed64, text}
-use Rattle.cg_codec.specs.Reading.{done, only, take_u64, take_i64, take_text, ◌>>=◌}
+use Rattle.cg_codec.specs.Reading.{done, take_u64, take_i64, take_text, ◌>>=◌}
 use Rattle.cg_codec.specs.Laws.{IsField}
 use Rattle.cg_codec.proofs.FieldLaws.{field_done, field_has, field_only}
 use Rattle.cg_codec.proofs.PlainFields.{u64_field, i64_field, text_field}
 use Rattle.cg_action.specs.declared.value.Value.{Value}
 use Rattle.cg_action.specs.declared.value.Value.TheVariants.{Text, Int}
-use Rattle.cg_action.specs.Limits.{IsTextWithin, IsKey, IsPrefix, IsValue, IsWant, IsActionId}
+use Rattle.cg_action.specs.Limits.{IsTextWithin, IsKey, IsValue, IsWant, IsActionId}
 use Rattle.cg_action.specs.Bytes.{spelled_id, spelled_value, spelled_want}
 use Rattle.cg_action.specs.Reading.{is_number, number_from, byte_between, id_reading, is_key, key_reading, value_of_tag, value_reading, want_of_tag, want_reading, is_amount, amount_reading}
 use Rattle.cg_action.proofs.Shapes.{field_says, field_one, field_two, field_tagged, between_field}

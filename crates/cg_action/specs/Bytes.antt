@@ -1,5 +1,5 @@
 -- Actions in bytes. Each kind of value begins with a tag.
-use Rattle.std.specs.Prelude.{ℕ, suc, zero, ◌==◌, List, ◌++◌, Option, Some, None, if◌then◌else◌}
+use Rattle.std.specs.Prelude.{ℕ, ◌==◌, List, ◌++◌, Option, Some, None, if◌then◌else◌}
 use Rattle.cg_codec.specs.Fields.{byte, number64, signed64, text, list, optional}
 use Rattle.cg_base.specs.declared.action_id.ActionId.{ActionId}
 use Rattle.cg_action.specs.declared.value.Value.{Value}

@@ -1,5 +1,5 @@
 -- What an action may be: the limits of its parts.
-use Rattle.std.specs.Prelude.{◌≡◌, ℕ, ◌==◌, ◌<◌, ◌≤◌, ◌^◌, Bool, true, not, ◌||◌, List, length, All, ℤ, pos, ◌≤ℤ◌, FitsSigned, Option, is_some}
+use Rattle.std.specs.Prelude.{◌≡◌, ℕ, ◌==◌, ◌<◌, ◌≤◌, ◌^◌, Bool, true, not, ◌||◌, List, length, All, pos, ◌≤ℤ◌, FitsSigned, Option, is_some}
 use Rattle.std.specs.Int.{w64}
 use Rattle.std.specs.Str.{IsUtf8}
 use Rattle.cg_base.specs.Sets.{IsId}

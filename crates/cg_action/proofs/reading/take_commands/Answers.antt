@@ -1,4 +1,4 @@
-use Rattle.std.proofs.Common.{◌≡◌, [], rules}
+use Rattle.std.proofs.Common.{◌≡◌, rules}
 use Rattle.cg_codec.specs.Taking.{unread_of}
 use Rattle.cg_codec.proofs.Items.{items_go_on, items_end}
 use Rattle.cg_action.specs.Reading.{command_reading, commands_reading}
