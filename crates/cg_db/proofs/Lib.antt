@@ -1,0 +1,5 @@
+pub mod TextOrder
+pub mod MapLemmas
+pub mod ViewLemmas
+pub mod PlanLemmas
+pub mod KeyLemmas

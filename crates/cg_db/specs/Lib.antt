@@ -1,0 +1,5 @@
+pub mod Map
+pub mod View
+pub mod Apply
+pub mod Plan
+pub mod Find
