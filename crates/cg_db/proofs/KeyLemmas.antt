@@ -1,12 +1,12 @@
 -- The keys of a database, and what a sort makes of the keys of a map.
-use Rattle.std.proofs.Common.{◌≡◌, ℕ, zero, suc, ◌+◌, ◌<◌, ◌≤◌, Bool, true, false, cond, ◌&&◌, ◌||◌, List, [], ◌∷◌, ◌++◌, length, get_or, take, drop, refl, sym, ap, ◌∙◌, add-one, true≢false, arith}
-use Rattle.std.specs.Prelude.{Option, Some, None, is_some, map, filter, flat_map, String, pos, IsSorted, IsPermutation, nat_eq}
+use Rattle.std.proofs.Common.{◌≡◌, ℕ, zero, suc, ◌+◌, ◌<◌, Bool, true, false, cond, ◌&&◌, ◌||◌, List, [], ◌∷◌, ◌++◌, length, drop, refl, sym, ap, ◌∙◌, add-one, arith}
+use Rattle.std.specs.Prelude.{Option, Some, None, is_some, map, filter, flat_map, String, pos, IsSorted, IsPermutation}
 use Rattle.std.specs.String.{string_bytes, string_eq}
 use Rattle.std.specs.Str.{bytes_eq}
 use Rattle.std.proofs.lemmas.List.{append-nil}
 use Rattle.std.specs.List.{slice_get, list_any, IsDistinct, AllByRecursion}
 use Rattle.std.specs.Map.{lookup, keys_of}
-use Rattle.std.specs.Ordering.{nat_cmp, is_lt}
+use Rattle.std.specs.Ordering.{nat_cmp}
 use Rattle.std.specs.Cmp.Lexicographic.{slice_cmp}
 use Rattle.std.proofs.lemmas.Map.Keys.{IsDistinct-head, IsDistinct-tail, IsDistinct-cons, IsDistinct-IsPermutation}
 use Rattle.std.proofs.lemmas.List.Sorted.{list_any-IsPermutation}
@@ -16,8 +16,8 @@ use Rattle.cg_action.specs.declared.value.Value.TheVariants.{Int}
 use Rattle.cg_db.specs.declared.entry.DbEntry.{DbEntry}
 use Rattle.cg_db.specs.Map.{IsBefore, Ascends, value_of, put, keys}
 use Rattle.cg_db.specs.View.{of_entries, entry_at}
-use Rattle.cg_db.proofs.TextOrder.{same-is, same-refl, same-sym, before-trans, before-apart, before-other}
-use Rattle.cg_db.proofs.MapLemmas.{entry, no_value, some, IsBefore-through, Ascends-filter, same_at_each_key, length-put}
+use Rattle.cg_db.proofs.TextOrder.{same-is, same-refl, same-sym, before-apart, before-other}
+use Rattle.cg_db.proofs.MapLemmas.{entry, some, IsBefore-through, Ascends-filter, same_at_each_key, length-put}
 use Rattle.cg_db.proofs.ViewLemmas.{Ascends-of_entries, value_of-of_entries, same_flipped}
 
 -- ---- texts as a database, in which each has one and the same value

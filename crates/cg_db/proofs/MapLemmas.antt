@@ -1,11 +1,11 @@
 -- What a database has at its keys, and that this says which one it is.
-use Rattle.std.proofs.Common.{◌≡◌, ℕ, suc, Bool, true, false, cond, not, List, [], ◌∷◌, ◌++◌, length, refl, sym, ap, ◌∙◌, true≢false}
-use Rattle.std.specs.Prelude.{Option, Some, None, filter, map}
+use Rattle.std.proofs.Common.{◌≡◌, ℕ, suc, Bool, true, false, cond, not, List, [], ◌∷◌, length, refl, sym, ap, ◌∙◌, true≢false}
+use Rattle.std.specs.Prelude.{Option, Some, None, filter}
 use Rattle.cg_text.specs.Order.{same_text, text_before}
 use Rattle.cg_action.specs.declared.value.Value.{Value}
 use Rattle.cg_db.specs.declared.entry.DbEntry.{DbEntry}
-use Rattle.cg_db.specs.Map.{IsBefore, Ascends, value_of, put, remove, keys}
-use Rattle.cg_db.proofs.TextOrder.{same-is, same-refl, same-sym, before-trans, before-back, before-apart, before-other}
+use Rattle.cg_db.specs.Map.{IsBefore, Ascends, value_of, put, remove}
+use Rattle.cg_db.proofs.TextOrder.{same-is, same-refl, before-trans, before-apart, before-other}
 
 abbrev pub entry : List ℕ → Value → DbEntry
 entry key value = record { key = key; value = value }

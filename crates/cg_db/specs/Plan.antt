@@ -8,7 +8,7 @@ use Rattle.cg_db.specs.declared.plan.Change.{Change}
 use Rattle.cg_db.specs.declared.plan.Step.{Step}
 use Rattle.cg_db.specs.declared.plan.Step.TheVariants.{Goes, Fails, Overflows as Exceeds}
 use Rattle.cg_db.specs.Map.{put, remove}
-use Rattle.cg_db.specs.Apply.{Ran, Changed, Aborts, Overflows, Applied}
+use Rattle.cg_db.specs.Apply.{Ran, Changed, Aborts, Overflows}
 
 -- the database with what a key is to have
 abbrev pub set_option : List DbEntry → List ℕ → Option Value → List DbEntry

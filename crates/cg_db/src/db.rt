@@ -36,7 +36,7 @@ impl Model for Db {
 }
 
 impl Db {
-    ghost use Rattle.cg_db.specs.Map.{value_of};
+    ghost use Rattle.cg_db.specs.Map.{value_of, Ascends};
     ghost use Rattle.cg_db.specs.Apply.{Changed, apply, run_commands};
     ghost use Rattle.cg_db.specs.Find.{answer, keys_from};
 
@@ -100,7 +100,8 @@ impl Db {
 
     /// The entries, ascending by key.
     pub fn entries(&self) -> Result<EntryList, NoMemory>
-        ensures { IfOk result (λ entries. entries ≡ self.now) }
+        ensures value { IfOk result (λ entries. entries ≡ self.now) }
+        ensures ascends { IfOk result Ascends }
     {
         let mut entries = Row::new(self.alloc);
         for key in self.keys_from("")? {

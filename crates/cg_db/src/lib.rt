@@ -16,3 +16,6 @@ pub use answer::Answer;
 pub use db::Db;
 pub use effect::Effect;
 pub use entry::{DbEntry, EntryList, TxtList};
+
+#[cfg(test)]
+mod tests;

@@ -1,7 +1,6 @@
-use Rattle.std.proofs.Common.{◌≡◌, [], ◌∷◌, ◌≤◌, length, sym, ap, ◌∙◌, rules, arith}
+use Rattle.std.proofs.Common.{◌≡◌, [], ◌∷◌, length, sym, ap, ◌∙◌, rules, arith}
 use Rattle.std.proofs.lemmas.List.{nil_from_length}
 use Rattle.std.specs.Vec.Iter.{into_iter_items}
-use Rattle.indexmap.specs.IndexMap.{spare}
 use Rattle.cg_db.specs.View.{of_entries}
 use Rattle.cg_db.specs.Plan.{with_changes}
 use Rattle.cg_db.proofs.PlanLemmas.{written_more, written_all}

@@ -1,7 +1,6 @@
 use Rattle.std.proofs.Common.{◌≡◌, ◌+◌, ◌<◌, ◌≤◌, length, drop, sym, ◌∙◌, arith}
-use Rattle.cg_db.specs.declared.plan.Step.TheVariants.{Goes, Fails, Overflows as Exceeds}
 use Rattle.cg_db.specs.Apply.{Changed, Aborts, Overflows, run_command, run_commands}
-use Rattle.cg_db.specs.Plan.{with_changes, ran}
+use Rattle.cg_db.specs.Plan.{with_changes}
 use Rattle.cg_db.proofs.PlanLemmas.{run_more, run_aborts, run_overflows, run_end}
 use Rattle.cg_db.proofs.plan.plan.Goals as goal
 
