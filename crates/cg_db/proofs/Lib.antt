@@ -3,3 +3,4 @@ pub mod MapLemmas
 pub mod ViewLemmas
 pub mod PlanLemmas
 pub mod KeyLemmas
+pub mod LimitLaws

@@ -121,7 +121,7 @@ fits_i64-from : (z : ℤ) → FitsSigned w64 z → fits_i64 z ≡ true
 fits_i64-from (pos n) fits = lt-ltb n (2 ^ 63) (omega (arith, ints))
 fits_i64-from (negsuc n) fits = lt-ltb n (2 ^ 63) (omega (arith, ints))
 
-fits_i64-to : (z : ℤ) → fits_i64 z ≡ true → FitsSigned w64 z
+pub fits_i64-to : (z : ℤ) → fits_i64 z ≡ true → FitsSigned w64 z
 fits_i64-to (pos n) e = let lt = ltb-true n (2 ^ 63) e in grind (arith, ints)
 fits_i64-to (negsuc n) e = let lt = ltb-true n (2 ^ 63) e in grind (arith, ints)
 

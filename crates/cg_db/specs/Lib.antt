@@ -3,3 +3,4 @@ pub mod View
 pub mod Apply
 pub mod Plan
 pub mod Find
+pub mod Limits

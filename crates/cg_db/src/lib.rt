@@ -10,12 +10,14 @@ mod answer;
 mod db;
 mod effect;
 mod entry;
+mod laws;
 mod plan;
 
 pub use answer::Answer;
 pub use db::Db;
 pub use effect::Effect;
 pub use entry::{DbEntry, EntryList, TxtList};
+pub use laws::entries_stay_within_limits;
 
 #[cfg(test)]
 mod tests;
