@@ -1,5 +1,0 @@
-pub mod Limits
-pub mod Bytes
-pub mod Reading
-pub mod Print
-pub mod Laws

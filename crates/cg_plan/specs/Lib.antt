@@ -1,4 +1,0 @@
-pub mod Items
-pub mod Plan
-pub mod Place
-pub mod Progress
