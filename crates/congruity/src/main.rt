@@ -32,11 +32,15 @@ fn word_of(alloc: Global, text: &str) -> Result<ArgText, NoMemory> {
 // them all.
 fn words_of(rt: &(impl env::Env + AllocGlobal)) -> Result<Vec<ArgText>, NoMemory> {
     let mut words = Vec::new(rt.alloc());
-    let Ok(args) = env::args(rt) else {
-        let mut bytes = Bytes::new(rt.alloc());
-        bytes.push(0xFF)?;
-        words.push(ArgText::new(bytes))?;
-        return Ok(words);
+    let args = match env::args(rt) {
+        Ok(args) => args,
+        Err(error) if error.kind() == io::ErrorKind::OutOfMemory => return Err(NoMemory),
+        Err(_) => {
+            let mut bytes = Bytes::new(rt.alloc());
+            bytes.push(0xFF)?;
+            words.push(ArgText::new(bytes))?;
+            return Ok(words);
+        }
     };
     for arg in args.skip(1) {
         words.push(word_of(rt.alloc(), arg.as_str())?)?;
