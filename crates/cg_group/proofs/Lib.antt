@@ -15,3 +15,6 @@ pub mod Tests
 pub mod Handing
 pub mod Changing
 pub mod Synchronous
+pub mod LogFacts
+pub mod RosterFacts
+pub mod GroupFacts

@@ -3,12 +3,21 @@
 
 mod delivery;
 mod error;
+mod group;
 mod law;
+mod log;
+mod member;
 mod phase;
+mod place;
+mod placed;
 mod reason;
+mod roster;
+mod try_clone;
 
 pub use delivery::{Delivery, DeliveryList, Handed, HandedList};
 pub use error::GroupErr;
+pub use group::Group;
 pub use law::virtually_synchronous;
 pub use phase::Phase;
 pub use reason::Reason;
+pub use try_clone::TryClone;

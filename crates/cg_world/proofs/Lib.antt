@@ -1,0 +1,6 @@
+mod Formed
+mod Handed
+mod Lists
+mod Pictures
+mod Primaries
+mod Settling

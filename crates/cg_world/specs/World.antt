@@ -1,41 +1,96 @@
 -- The world, the step that it takes with an event, and runs of steps.
-use Rattle.std.specs.Prelude.{◌≡◌, ℕ, ◌==◌, List, [], ◌∷◌, map, length, Option, Some, None, if◌then◌else◌}
+use Rattle.std.specs.Prelude.{◌≡◌, ℕ, ◌==◌, Bool, List, [], ◌∷◌, ◌++◌, map, find, fold, length, is_some, not, Option, Some, None, if◌then◌else◌}
+use Rattle.std.specs.Option.{option_map_or}
 use Rattle.cg_base.specs.declared.weighted.Weighted.{Weighted}
+use Rattle.cg_base.specs.Lists.{first_some}
 use Rattle.cg_base.specs.Weights.{ids}
+use Rattle.cg_text.specs.Order.{same_text}
+use Rattle.cg_group.specs.declared.delivery.Handed.{Handed}
 use Rattle.cg_group.specs.declared.reason.Reason.{Reason}
-use Rattle.cg_group.specs.declared.reason.Reason.TheVariants.{EmptySet}
+use Rattle.cg_group.specs.declared.reason.Reason.TheVariants.{EmptySet, UnknownReplica}
+use Rattle.cg_group.specs.State.{no_group}
+use Rattle.cg_group.specs.Events.{Outcome, come_up, send_all, gather, deliver, merge}
+use Rattle.cg_group.specs.Refusals.{refuse, deliver_refusal, merge_refusal}
 use Rattle.cg_world.specs.declared.event.Event.{Event}
-use Rattle.cg_world.specs.declared.event.Event.TheVariants.{Start, End}
+use Rattle.cg_world.specs.declared.event.Event.TheVariants.{Start, Merge, Gather, Deliver, Rounds, End}
 use Rattle.cg_world.specs.declared.entry.Entry.{Entry}
+use Rattle.cg_world.specs.declared.line.Line.{Line}
+use Rattle.cg_world.specs.declared.replica.Replica.{Replica}
+use Rattle.cg_world.specs.declared.replica.Turn.{Turn}
 use Rattle.cg_world.specs.declared.world.World.{World}
 use Rattle.cg_world.specs.declared.world.Stepped.{Stepped}
 use Rattle.cg_world.specs.declared.world.Stepped.TheVariants as stepped
-use Rattle.cg_world.specs.Replica.{fresh, line_of}
+use Rattle.cg_world.specs.LineText.{line_text}
+use Rattle.cg_world.specs.Message.{bytes_of}
+use Rattle.cg_world.specs.Replica.{fresh, turn_of, line_of}
 
--- no replica has begun
+-- the world before its start
 abbrev pub before_start : World
-before_start = record { replicas = [] }
+before_start = record { group = no_group; replicas = [] }
+
+-- the replica, where it has begun
+abbrev pub replica_of : World → ℕ → Option Replica
+replica_of w p = find (λ r. r.id == p) w.replicas
+
+-- the replica hasn't begun
+abbrev pub unknown : World → ℕ → Option Reason
+unknown w p = refuse (not (is_some (replica_of w p))) (UnknownReplica p)
 
 -- the reason by which an event isn't admitted, if there is one
-abbrev pub first_refusal : World → Event → Option Reason
-first_refusal w (Start set) = if length set == 0 then Some EmptySet else None
-first_refusal w End = None
+unfoldable pub first_refusal : World → Event → Option Reason
+first_refusal w (Start set) = refuse (length set == 0) EmptySet
+first_refusal w (Merge set) = merge_refusal w.group set []
+first_refusal w (Deliver p count) = first_some (unknown w p ∷ deliver_refusal w.group p count ∷ [])
+first_refusal w other = None
 
 -- what a step shows, and the world after it
 pub record Moved : Type 0 where
   pub entry : Entry
   pub world : World
 
--- these replicas begin, and each is shown
-abbrev pub begun : List Weighted → Moved
-begun set =
-    let replicas = map (fresh set) (ids set) in
-    record { entry = record { lines = map line_of replicas }; world = record { replicas = replicas } }
+-- nothing is shown
+abbrev pub silently : World → Moved
+silently w = record { entry = record { lines = [] }; world = w }
 
--- the step of an admitted event
-abbrev pub world_step : World → Event → Moved
-world_step w (Start set) = begun set
-world_step w End = record { entry = record { lines = [] }; world = w }
+-- these replicas begin, and each is shown
+abbrev pub begun : List Weighted → World → Moved
+begun set w =
+    let replicas = map (fresh set) (ids set) in
+    record { entry = record { lines = map line_of replicas }; world = record { group = fold come_up w.group (ids set); replicas = replicas } }
+
+-- the replicas with one of them as given
+abbrev pub with_replica : List Replica → Replica → List Replica
+with_replica replicas new = map (λ r. if r.id == new.id then new else r) replicas
+
+-- the line of a replica, where its text differs from what it was
+abbrev pub news : Replica → Replica → List Line
+news old new = if same_text (line_text (line_of old)) (line_text (line_of new)) then [] else line_of new ∷ []
+
+-- an event has ended at a replica: it says what it has to say, and is shown where its line is another one
+unfoldable pub after_turn : Moved → Replica → Turn → Moved
+after_turn m old t =
+    let w = m.world in
+    record {
+      entry = record { lines = m.entry.lines ++ news old t.replica };
+      world = record { group = send_all w.group old.id (map bytes_of t.sent); replicas = with_replica w.replicas t.replica };
+    }
+
+-- a replica takes what is handed to it
+abbrev pub hand : Moved → Handed (List ℕ) → Moved
+hand m h = option_map_or (λ r. after_turn m r (turn_of r h.list)) (replica_of m.world h.to) m
+
+-- each replica takes what the group hands to it, ascending
+abbrev pub hand_out : World → Outcome (List ℕ) → Moved
+hand_out w o = fold hand (silently (record w { group = o.group })) o.handed
+
+-- the step of an admitted event; rounds are steps of their own
+unfoldable pub world_step : World → Event → Moved
+world_step w (Start set) = begun set w
+world_step w (Merge set) = hand_out w (merge w.group set)
+world_step w Gather = silently (record w { group = gather w.group })
+world_step w (Deliver p count) = hand_out w (deliver w.group p count)
+world_step w (Rounds n) = silently w
+world_step w End = silently w
 
 -- what comes of an event: its step, or exactly the reason by which it isn't admitted
 abbrev pub Steps : World → Event → Stepped → Type 0

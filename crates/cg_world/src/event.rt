@@ -1,10 +1,18 @@
-use cg_base::WeightSet;
+use cg_base::{IdSet, ReplicaId, WeightSet};
 
-/// What a line of the schedule asks for.
+/// What a line of the schedule asks for, or one step of what it asks for.
 #[derive(Clone, Copy, Debug)]
 pub enum Event {
     /// These replicas begin, each alone, as the servers of one database.
     Start(WeightSet),
+    /// These replicas come into a new configuration.
+    Merge(IdSet),
+    /// Each replica's messages are ordered, oldest first, and received by all.
+    Gather,
+    /// The next so many places of its configuration are handed to the replica.
+    Deliver { to: ReplicaId, count: u64 },
+    /// So many passes: all messages are gathered, and then each replica is handed what is ready.
+    Rounds(u64),
     /// The schedule ends.
     End,
 }
@@ -31,15 +39,18 @@ pub enum Reading {
     Malformed,
 }
 
-/// What stood before a line.
-#[derive(Clone, Copy, Debug, PartialEq, Eq)]
+/// What stood before a line: the replicas that have begun, and whether they came together, and whether the end stood.
+#[derive(Clone, Copy, Debug)]
 pub struct Place {
+    pub begun: IdSet,
     pub started: bool,
+    pub merged: bool,
     pub ended: bool,
 }
 
 impl Place {
     ghost use Rattle.std.specs.Prelude.{◌≡◌};
+    ghost use Rattle.cg_base.specs.Weights.{ids};
     ghost use Rattle.cg_world.specs.Schedule.{first_place, place_after};
 
     /// The place of the first line.
@@ -47,7 +58,9 @@ impl Place {
         ensures { result ≡ first_place }
     {
         Place {
+            begun: IdSet::empty(),
             started: false,
+            merged: false,
             ended: false,
         }
     }
@@ -57,14 +70,20 @@ impl Place {
         ensures { result ≡ place_after self event.now }
     {
         match event {
-            Event::Start(_) => Place {
+            Event::Start(set) => Place {
+                begun: set.ids(),
                 started: true,
-                ended: self.ended,
+                ..self
+            },
+            Event::Merge(_) => Place {
+                merged: true,
+                ..self
             },
             Event::End => Place {
-                started: self.started,
                 ended: true,
+                ..self
             },
+            _ => self,
         }
     }
 }

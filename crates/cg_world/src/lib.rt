@@ -9,10 +9,12 @@
 mod entry;
 mod entry_text;
 mod event;
+mod message;
 mod line;
 mod line_text;
 mod reader;
 mod replica;
+mod state;
 mod world;
 
 pub use entry::Entry;
@@ -21,5 +23,7 @@ pub use event::{Event, Place, Reading};
 pub use line::{Line, Primary, ShownPhase, StateName, UpLine, View, Vulnerable, Yellow};
 pub use line_text::put_line;
 pub use reader::read_line;
-pub use replica::Replica;
+pub use message::Message;
+pub use replica::{Replica, Turn};
+pub use state::State;
 pub use world::{Stepped, World};

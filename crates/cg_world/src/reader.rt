@@ -1,7 +1,7 @@
 ghost use Rattle.std.specs.Prelude.{◌≡◌, ◌||◌, ◌&&◌, not, []};
 ghost use Rattle.std.specs.Str.{bytes_eq};
 ghost use Rattle.cg_base.specs.Text.{pieces_of};
-ghost use Rattle.cg_world.specs.Schedule.{is_unbuilt, is_built, is_misplaced, number_up_to, ids_of, event_of, reading_of};
+ghost use Rattle.cg_world.specs.Schedule.{is_unbuilt, is_built, is_misplaced, number_up_to, ids_of, start_of, merge_of, rounds_of, end_of, event_of, reading_of};
 
 use crate::{Event, Place, Reading};
 use cg_base::{IdSet, Pieces, ReplicaId, WeightSet};
@@ -10,14 +10,16 @@ use cg_text::read_u64;
 fn is_built_word(word: &[u8]) -> bool
     ensures { result ≡ is_built word.now }
 {
-    word == b"start".as_slice() || word == b"end".as_slice()
+    word == b"start".as_slice()
+        || word == b"merge".as_slice()
+        || word == b"rounds".as_slice()
+        || word == b"end".as_slice()
 }
 
 fn is_unbuilt_word(word: &[u8]) -> bool
     ensures { result ≡ is_unbuilt word.now }
 {
     word == b"split".as_slice()
-        || word == b"merge".as_slice()
         || word == b"request".as_slice()
         || word == b"weak".as_slice()
         || word == b"dirty".as_slice()
@@ -27,7 +29,6 @@ fn is_unbuilt_word(word: &[u8]) -> bool
         || word == b"gather".as_slice()
         || word == b"receive".as_slice()
         || word == b"deliver".as_slice()
-        || word == b"rounds".as_slice()
         || word == b"stop".as_slice()
         || word == b"fail".as_slice()
         || word == b"join".as_slice()
@@ -68,19 +69,64 @@ fn read_ids(words: &mut Pieces) -> Option<IdSet>
     Some(set)
 }
 
-// what stands behind the word of a built event
-fn read_event(word: &[u8], words: &mut Pieces) -> Reading
-    ensures { result ≡ event_of word.now words.old }
+fn read_start(words: &mut Pieces) -> Reading
+    ensures { result ≡ start_of words.old }
 {
-    if word == b"start".as_slice() {
-        return match read_ids(words) {
-            Some(set) => Reading::Event(Event::Start(WeightSet::of(&set))),
-            None => Reading::Malformed,
-        };
+    match read_ids(words) {
+        Some(set) => Reading::Event(Event::Start(WeightSet::of(&set))),
+        None => Reading::Malformed,
     }
+}
+
+fn read_merge(place: &Place, words: &mut Pieces) -> Reading
+    ensures { result ≡ merge_of place.now words.old }
+{
+    let Some(set) = read_ids(words) else {
+        return Reading::Unsupported;
+    };
+    if !place.merged && set == place.begun {
+        Reading::Event(Event::Merge(set))
+    } else {
+        Reading::Unsupported
+    }
+}
+
+fn read_rounds(words: &mut Pieces) -> Reading
+    ensures { result ≡ rounds_of words.old }
+{
+    let Some(token) = words.next() else {
+        return Reading::Malformed;
+    };
+    if words.next().is_some() {
+        return Reading::Malformed;
+    }
+    match read_number(token, 1_000_000) {
+        None | Some(0) => Reading::Malformed,
+        Some(n) => Reading::Event(Event::Rounds(n)),
+    }
+}
+
+fn read_end(words: &mut Pieces) -> Reading
+    ensures { result ≡ end_of words.old }
+{
     match words.next() {
         Some(_) => Reading::Malformed,
         None => Reading::Event(Event::End),
+    }
+}
+
+// what stands behind the word of a built event
+fn read_event(place: &Place, word: &[u8], words: &mut Pieces) -> Reading
+    ensures { result ≡ event_of place.now word.now words.old }
+{
+    if word == b"start".as_slice() {
+        read_start(words)
+    } else if word == b"merge".as_slice() {
+        read_merge(place, words)
+    } else if word == b"rounds".as_slice() {
+        read_rounds(words)
+    } else {
+        read_end(words)
     }
 }
 
@@ -99,5 +145,5 @@ pub fn read_line(place: &Place, line: &[u8]) -> Reading
     if is_unbuilt {
         return Reading::Unsupported;
     }
-    read_event(word, &mut words)
+    read_event(place, word, &mut words)
 }
