@@ -1,16 +1,21 @@
 //! The group layer: configurations, ordered messages, deliveries, partitions and merges.
 #![tactic(auto)]
 
+mod deliveries;
+mod outgoing;
 mod delivery;
 mod error;
 mod group;
 mod law;
 mod log;
+mod logs;
 mod member;
+mod merging;
 mod phase;
 mod place;
 mod placed;
 mod reason;
+mod refusals;
 mod roster;
 mod try_clone;
 

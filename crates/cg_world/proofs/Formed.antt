@@ -192,6 +192,7 @@ joined test ordered p m set h q t =
   where
     or_first : (x y : Bool) → x ≡ true → (x || y) ≡ true
     or_first x y h = rw h refl
+
     both : (x y : Bool) → (x && y) ≡ true → x ≡ true
     both true y h = refl
     both false y h = absurd cc

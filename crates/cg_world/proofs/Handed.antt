@@ -121,8 +121,10 @@ one-more S C r d t servers lt at =
   where
     s : Sent M
     s = get_or C.ordered d nobody
+
     set : ids t.replica.servers ≡ S
     set = ap ids at.servers ∙ servers
+
     next : State
     next = next_state (ids t.replica.servers) t.replica.state s.from (message_in s.message)
 

@@ -1,6 +1,8 @@
-mod Formed
-mod Handed
-mod Lists
-mod Pictures
-mod Primaries
-mod Settling
+pub mod Coming
+pub mod Formed
+pub mod Handed
+pub mod Lists
+pub mod Names
+pub mod Pictures
+pub mod Primaries
+pub mod Settling

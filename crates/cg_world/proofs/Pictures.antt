@@ -50,6 +50,7 @@ order-none g p e = by_standing (standing_of g p) refl
   where
     by_messages : (s : Standing M) → s.unordered ≡ [] → order_from g s s.unordered ≡ g
     by_messages s u = rw u refl
+
     by_standing : (o : Option (Standing M)) → standing_of g p ≡ o → option_map_or (λ s. order_from g s s.unordered) o g ≡ g
     by_standing None h = refl
     by_standing (Some s) h = by_messages s (sym (ap (λ o. option_map_or (λ (s : Standing M). s.unordered) o []) h) ∙ e)
@@ -119,11 +120,12 @@ order-some g p m rest one r u = by_found (found g p 1 r)
         let D = with_message C s.id m in
         let le : 1 ≤ length g1.configurations = subst (λ (cs : List (Configuration M)). 1 ≤ length cs) (sym (configurations-set_standing g (record s { unordered = rest }))) (omega (arith, one)) in
         let id = standing_id g p s h in
-        subst (λ c. Wanted (set_configuration g1 c (with_message (configuration g c) s.id m))) (sym conf)
-        (pic-configured g1 D le
-        ∙ ap (λ (P : Pic). record P { members = D.members; ordered = D.ordered }) (pic-waiting g p s rest h)
-        ∙ ap (λ z. record (record (pic g) { unordered = put (unordered_of g) p rest }) { ordered = C.ordered ++ record { from = z; message = m } ∷ [] }) id,
-        count-set_configuration g1 1 D ∙ ap length (configurations-set_standing g (record s { unordered = rest })) ∙ one)
+        subst (λ c. Wanted (set_configuration g1 c (with_message (configuration g c) s.id m))) (sym conf) (
+          pic-configured g1 D le
+              ∙ ap (λ (P : Pic). record P { members = D.members; ordered = D.ordered }) (pic-waiting g p s rest h)
+              ∙ ap (λ z. record (record (pic g) { unordered = put (unordered_of g) p rest }) { ordered = C.ordered ++ record { from = z; message = m } ∷ [] }) id,
+          count-set_configuration g1 1 D ∙ ap length (configurations-set_standing g (record s { unordered = rest })) ∙ one,
+        )
 
     by_found : (s : Standing M) × (standing_of g p ≡ Some s) → Wanted (option_map_or (λ s. order_from g s s.unordered) (standing_of g p) g)
     by_found (s, h) =
@@ -135,13 +137,15 @@ pub receive-same : (g : GroupState M) (p place : ℕ) → length g.configuration
     (pic (receive g p place) ≡ pic g) × (length (receive g p place).configurations ≡ 1)
 unfolding receive pic with_receipt
 receive-same g p place one (inl z) =
-    subst (λ c. (pic (set_configuration g c (with_receipt (configuration g c) p place)) ≡ pic g) × (length (set_configuration g c (with_receipt (configuration g c) p place)).configurations ≡ 1)) (sym z)
-    (ap pic (set_configuration-zero g (with_receipt (configuration g 0) p place)),
-    ap (λ (g : GroupState M). length g.configurations) (set_configuration-zero g (with_receipt (configuration g 0) p place)) ∙ one)
+    subst (λ c. (pic (set_configuration g c (with_receipt (configuration g c) p place)) ≡ pic g) × (length (set_configuration g c (with_receipt (configuration g c) p place)).configurations ≡ 1)) (sym z) (
+      ap pic (set_configuration-zero g (with_receipt (configuration g 0) p place)),
+      ap (λ (g : GroupState M). length g.configurations) (set_configuration-zero g (with_receipt (configuration g 0) p place)) ∙ one,
+    )
 receive-same g p place one (inr z) =
-    subst (λ c. (pic (set_configuration g c (with_receipt (configuration g c) p place)) ≡ pic g) × (length (set_configuration g c (with_receipt (configuration g c) p place)).configurations ≡ 1)) (sym z)
-    (pic-configured g (with_receipt (configuration g 1) p place) (omega (arith, one)),
-    count-set_configuration g 1 (with_receipt (configuration g 1) p place) ∙ one)
+    subst (λ c. (pic (set_configuration g c (with_receipt (configuration g c) p place)) ≡ pic g) × (length (set_configuration g c (with_receipt (configuration g c) p place)).configurations ≡ 1)) (sym z) (
+      pic-configured g (with_receipt (configuration g 1) p place) (omega (arith, one)),
+      count-set_configuration g 1 (with_receipt (configuration g 1) p place) ∙ one,
+    )
 
 -- a message of a replica that is regular waits
 send-waits : (g : GroupState M) (p c : ℕ) (m : M) → phase_of g p ≡ Regular (suc c) →
@@ -151,14 +155,17 @@ send-waits g p c m r = by_found (found g p (suc c) r)
   where
     Wanted : GroupState M → Type 0
     Wanted g' = (pic g' ≡ waiting (pic g) p (m ∷ [])) × (g'.configurations ≡ g.configurations)
+
     sent_one : (s : Standing M) → standing_of g p ≡ Some s → Wanted (if regular_in s.phase == 0 then g else with_waiting g s (s.unordered ++ m ∷ []))
     sent_one s h =
         let conf : regular_in s.phase ≡ suc c = ap regular_in (sym (phase_found g p s h) ∙ r) in
         let other : (suc c == 0) ≡ false = ne_eqb (suc c) 0 (λ z. omega (arith, z)) in
         subst (λ z. Wanted (if z == 0 then g else with_waiting g s (s.unordered ++ m ∷ []))) (sym conf)
-        (subst (λ b. Wanted (if b then g else with_waiting g s (s.unordered ++ m ∷ []))) (sym other)
-        (pic-waiting g p s (s.unordered ++ m ∷ []) h ∙ ap (λ w. record (pic g) { unordered = put (unordered_of g) p (w ++ m ∷ []) }) (sym (unordered_found g p s h)),
-        configurations-set_standing g (record s { unordered = s.unordered ++ m ∷ [] })))
+        (subst (λ b. Wanted (if b then g else with_waiting g s (s.unordered ++ m ∷ []))) (sym other) (
+          pic-waiting g p s (s.unordered ++ m ∷ []) h ∙ ap (λ w. record (pic g) { unordered = put (unordered_of g) p (w ++ m ∷ []) }) (sym (unordered_found g p s h)),
+          configurations-set_standing g (record s { unordered = s.unordered ++ m ∷ [] }),
+        ))
+
     by_found : (s : Standing M) × (standing_of g p ≡ Some s) → Wanted (send_from g (standing_of g p) m)
     by_found (s, h) = subst (λ o. Wanted (send_from g o m)) (sym h) (sent_one s h)
 
@@ -168,7 +175,6 @@ twice false x v w = refl
 
 put-twice : {X : Type 0} (f : ℕ → X) (k : ℕ) (v w : X) (q : ℕ) → put (put f k v) k w q ≡ put f k w q
 put-twice f k v w q = twice (q == k) (f q) v w
-
 
 put-here : {X : Type 0} (f : ℕ → X) (k : ℕ) (v : X) → put f k v k ≡ v
 put-here f k v = cond-true (k == k) v (f k) (eq-eqb k k refl)
@@ -199,25 +205,30 @@ delivered-counted g p c n r = by_found (found g p c r)
   where
     Wanted : GroupState M → Type 0
     Wanted g' = (pic g' ≡ counted (pic g) p n) × (g'.configurations ≡ g.configurations)
+
     counted_one : (s : Standing M) → standing_of g p ≡ Some s → Wanted (set_standing g (record s { delivered = n }))
     counted_one s h =
         let id = standing_id g p s h in
-        let new : Standing M = record s { delivered = n } in
-        (same_pic (pic (set_standing g new)) (counted (pic g) p n)
-        (λ q. phase_of-set g new q ∙ put_as (phase_of g) s.id p s.phase id q ∙ put-own (phase_of g) p s.phase (phase_found g p s h) q)
-        (λ q. delivered_to-set g new q ∙ put_as (delivered_to g) s.id p n id q)
-        (λ q. unordered_of-set g new q ∙ put_as (unordered_of g) s.id p s.unordered id q ∙ put-own (unordered_of g) p s.unordered (unordered_found g p s h) q)
-        (ap (λ (c : Configuration M). c.members) (configuration-set_standing g new 1))
-        (ap (λ (c : Configuration M). c.ordered) (configuration-set_standing g new 1)),
-        configurations-set_standing g new)
+        let new : Standing M = record s { delivered = n } in (
+          same_pic (pic (set_standing g new)) (counted (pic g) p n)
+              (λ q. phase_of-set g new q ∙ put_as (phase_of g) s.id p s.phase id q ∙ put-own (phase_of g) p s.phase (phase_found g p s h) q)
+              (λ q. delivered_to-set g new q ∙ put_as (delivered_to g) s.id p n id q)
+              (λ q. unordered_of-set g new q ∙ put_as (unordered_of g) s.id p s.unordered id q ∙ put-own (unordered_of g) p s.unordered (unordered_found g p s h) q)
+              (ap (λ (c : Configuration M). c.members) (configuration-set_standing g new 1))
+              (ap (λ (c : Configuration M). c.ordered) (configuration-set_standing g new 1)),
+          configurations-set_standing g new,
+        )
+
     by_found : (s : Standing M) × (standing_of g p ≡ Some s) → Wanted (option_map_or (λ s. set_standing g (record s { delivered = n })) (standing_of g p) g)
     by_found (s, h) = subst (λ o. Wanted (option_map_or (λ s. set_standing g (record s { delivered = n })) o g)) (sym h) (counted_one s h)
 
 or_first : (x y : Bool) → x ≡ true → (x || y) ≡ true
 or_first x y h = rw h refl
+
 or_second : (x y : Bool) → y ≡ true → (x || y) ≡ true
 or_second true y h = refl
 or_second false y h = h
+
 or_none : (x y : Bool) → x ≡ false → y ≡ false → (x || y) ≡ false
 or_none x y h k = rw (h, k) refl
 
@@ -236,20 +247,24 @@ begins-regular set conf g q = by_cases set g (standing_of g q) refl
   where
     new : Option (Standing M)
     new = Some (record { id = q; phase = Regular conf; delivered = 0; unordered = [] })
+
     once : (p : ℕ) (g : GroupState M) → (p == q) ≡ true → standing_of (become_regular conf g p) q ≡ new
     once p g y =
         let e = eqb-true p q y in
         standing_of-set g (record { id = p; phase = Regular conf; delivered = 0; unordered = [] }) q
         ∙ cond-true (q == p) (Some (record { id = p; phase = Regular conf; delivered = 0; unordered = [] })) (standing_of g q) (eq-eqb q p (sym e))
         ∙ ap (λ z. Some (record { id = z; phase = Regular conf; delivered = 0; unordered = [] })) e
+
     other : (p : ℕ) (g : GroupState M) → (p == q) ≡ false → standing_of (become_regular conf g p) q ≡ standing_of g q
     other p g n =
         standing_of-set g (record { id = p; phase = Regular conf; delivered = 0; unordered = [] }) q
         ∙ cond-false (q == p) (Some (record { id = p; phase = Regular conf; delivered = 0; unordered = [] })) (standing_of g q) (ne_eqb q p (λ e. eqb-false p q n (sym e)))
+
     stays : (set : List ℕ) (g : GroupState M) → standing_of g q ≡ new → standing_of (fold (become_regular conf) g set) q ≡ new
     stays [] g e = e
     stays (p ∷ set) g e =
         stays set (become_regular conf g p) (⊎_elim (λ y. once p g y) (λ n. other p g n ∙ e) (cases_Bool (p == q)))
+
     by_cases : (set : List ℕ) (g : GroupState M) (o : Option (Standing M)) → standing_of g q ≡ o →
         ((has set q ≡ true) × (standing_of (fold (become_regular conf) g set) q ≡ new)) ⊎ ((has set q ≡ false) × (standing_of (fold (become_regular conf) g set) q ≡ o))
     by_cases [] g o e = inr (refl, e)

@@ -31,7 +31,8 @@ use Rattle.cg_world.specs.declared.replica.Turn.{Turn}
 use Rattle.cg_world.specs.declared.world.World.{World}
 use Rattle.cg_world.specs.Message.{message_in}
 use Rattle.cg_world.specs.Replica.{fresh, next_state, states_heard, announcements_heard, handle, turn_of, state_name, shown_phase, prim_in, view_of, line_of}
-use Rattle.cg_world.specs.World.{Moved, Step, silently, before_start, replica_of, with_replica, news, after_turn, hand, hand_out, world_step, first_refusal}
+use Rattle.cg_world.specs.declared.handing.Moved.{Moved}
+use Rattle.cg_world.specs.World.{Step, silently, before_start, replica_of, with_replica, news, after_turn, hand, hand_out, world_step, first_refusal}
 use Rattle.cg_world.specs.Shown.{all_up_lines}
 use Rattle.cg_world.specs.Agreement.{MayStand, IsRunFrom, OnePrimary}
 use Rattle.cg_world.proofs.Lists.{Each-contains, Each-map, Each-found, Each-flat_map, fold-keeps, Each-present}
@@ -127,9 +128,11 @@ step-Kept S w Gather may k some = (k, tt, some)
 step-Kept S w (Deliver p count) may k some =
     hand_out-Kept S w (deliver w.group p count)
     (let from = Rattle.cg_group.specs.State.delivered_to w.group p in
-    let places = above_up_to from (from + count) in
-    (Each-flat_map (λ (place : ℕ). Unit {0}) Fits (delivery_at (Rattle.cg_group.specs.State.home w.group p)) (λ place u. messages-fit (Rattle.cg_group.specs.State.home w.group p) place) places
-    (Each-all (λ (place : ℕ). Unit {0}) (λ place. tt) places), tt)) k some
+    let places = above_up_to from (from + count) in (
+      Each-flat_map (λ (place : ℕ). Unit {0}) Fits (delivery_at (Rattle.cg_group.specs.State.home w.group p)) (λ place u. messages-fit (Rattle.cg_group.specs.State.home w.group p) place) places
+          (Each-all (λ (place : ℕ). Unit {0}) (λ place. tt) places),
+      tt,
+    )) k some
 step-Kept S w (Rounds n) may k some = (k, tt, some)
 step-Kept S w End may k some = (k, tt, some)
 
@@ -157,6 +160,7 @@ begun-Kept set admitted = (
     nonempty : (xs : List Weighted) → (length xs == 0) ≡ false → 0 < length (map (fresh set) (ids xs))
     nonempty [] e = absurd cc
     nonempty (x ∷ xs) e = omega arith
+
     some : 0 < length (map (fresh set) (ids set))
     some = nonempty set (refuse_none (length set == 0) Rattle.cg_group.specs.declared.reason.Reason.TheVariants.EmptySet admitted)
 

@@ -19,7 +19,7 @@ use Rattle.cg_group.specs.declared.phase.Phase.{Phase}
 use Rattle.cg_group.specs.declared.phase.Phase.TheVariants.{Down, Alone, Regular, Transitional}
 use Rattle.cg_group.specs.declared.reason.Reason.{Reason}
 use Rattle.cg_group.specs.declared.reason.Reason.TheVariants.{NotRegular, NotReady, EmptySet}
-use Rattle.cg_group.specs.State.{Configuration, Standing, GroupState, Sent, no_group, standing_of, configuration, no_configuration, phase_of, delivered_to, unordered_of, regular_in, home, is_regular}
+use Rattle.cg_group.specs.State.{Configuration, Standing, GroupState, Sent, no_group, standing_of, configuration, no_configuration, phase_of, delivered_to, unordered_of, regular_in, home, is_regular, is_up}
 use Rattle.cg_group.specs.Ready.{ready_in, ready, all_received}
 use Rattle.cg_group.specs.Events.{come_up, send_all, order, order_all, receive, receive_all, regulars, gather, with_delivered, deliveries_at, deliver, become_regular, merge}
 use Rattle.cg_group.specs.Refusals.{not_up, not_regular, not_ready, deliver_refusal, refuse}
@@ -40,7 +40,8 @@ use Rattle.cg_world.specs.declared.replica.Turn.{Turn}
 use Rattle.cg_world.specs.declared.world.World.{World}
 use Rattle.cg_world.specs.Message.{bytes_of, message_in}
 use Rattle.cg_world.specs.Replica.{fresh, turn_of}
-use Rattle.cg_world.specs.World.{Moved, Step, silently, before_start, replica_of, unknown, with_replica, news, after_turn, hand, hand_out, world_step, first_refusal}
+use Rattle.cg_world.specs.declared.handing.Moved.{Moved}
+use Rattle.cg_world.specs.World.{Step, silently, brought_up, before_start, replica_of, unknown, with_replica, news, after_turn, hand, hand_out, world_step, first_refusal}
 use Rattle.cg_world.specs.Quiet.{is_quiet_at, is_quiet, is_reg_prim, is_in_primary, IsSettled}
 use Rattle.cg_world.specs.Agreement.{MayStand, IsRunFrom, QuietSettles}
 use Rattle.cg_world.proofs.Lists.{Each-contains, Each-map, Each-found, fold-keeps}
@@ -122,17 +123,20 @@ admitted-deliver w p count e =
     let up = first_none (deliver_refusal w.group p count) [] known.1 in
     let regular = first_none (not_up w.group p) (not_regular w.group p ∷ not_ready w.group p count ∷ []) up.0 in
     let ready_now = first_none (not_regular w.group p) (not_ready w.group p count ∷ []) regular.1 in
-    let enough = first_none (not_ready w.group p count) [] ready_now.1 in
-    (begun (replica_of w p) refl (refuse_none (not (is_some (replica_of w p))) (Rattle.cg_group.specs.declared.reason.Reason.TheVariants.UnknownReplica p) known.0),
-    not_not (is_regular w.group p) (refuse_none (not (is_regular w.group p)) (NotRegular p) ready_now.0),
-    within (ready w.group p) count (refuse_none (Rattle.std.specs.Prelude.nat_lt (ready w.group p) count) (NotReady (ready w.group p)) enough.0))
+    let enough = first_none (not_ready w.group p count) [] ready_now.1 in (
+      begun (replica_of w p) refl (refuse_none (not (is_some (replica_of w p))) (Rattle.cg_group.specs.declared.reason.Reason.TheVariants.UnknownReplica p) known.0),
+      not_not (is_regular w.group p) (refuse_none (not (is_regular w.group p)) (NotRegular p) ready_now.0),
+      within (ready w.group p) count (refuse_none (Rattle.std.specs.Prelude.nat_lt (ready w.group p) count) (NotReady (ready w.group p)) enough.0),
+    )
   where
     begun : (o : Option Replica) → replica_of w p ≡ o → not (is_some o) ≡ false → (r : Replica) × (replica_of w p ≡ Some r)
     begun None s n = absurd cc
     begun (Some r) s n = (r, s)
+
     not_not : (b : Bool) → not b ≡ false → b ≡ true
     not_not true n = refl
     not_not false n = absurd cc
+
     within : (a b : ℕ) → Rattle.std.specs.Prelude.nat_lt a b ≡ false → b ≤ a
     within a b e = let not_less = ltb-false a b e in omega (arith, not_less)
 
@@ -179,7 +183,6 @@ deliver-kept S w p count admitted t = ⊎_elim inside (λ out. absurd (is_regula
         (sym own.begun)
         (subst (λ z. Together S (record { group = send_all g1 z (map bytes_of T.sent); replicas = with_replica w.replicas T.replica })) (sym id) together)
 
-
 -- ---- coming together
 
 -- a replica that waits to be handed the configuration
@@ -215,6 +218,7 @@ formed-one S p rest set m member once f =
   where
     w : World
     w = m.world
+
     P : Pic
     P = pic w.group
 
@@ -342,20 +346,28 @@ merge-formed S standings replicas a =
   where
     w : World
     w = record { group = record { configurations = []; replicas = standings }; replicas = replicas }
+
     C : Configuration M
     C = record { members = S; ordered = []; received = [] }
+
     made : GroupState M
     made = record { configurations = C ∷ []; replicas = standings }
+
     g1 : GroupState M
     g1 = fold (become_regular 1) made S
+
     some : 0 < length S
     some = subst (λ s. 0 < length s) a.named (subst (λ n. 0 < n) (sym (length-map replicas (λ (r : Replica). r.id))) a.some)
+
     first : configuration g1 1 ≡ C
     first = ap (λ cs. option_map_or (λ c. c) (Rattle.cg_base.specs.Lists.at_place cs 1) no_configuration) (configurations-begin S 1 made)
+
     stands : (q : ℕ) → (has S q ≡ true) → standing_of g1 q ≡ Some (record { id = q; phase = Regular 1; delivered = 0; unordered = [] })
     stands q here = ⊎_elim (λ k. k.1) (λ k. absurd (let clash : true ≡ false = sym here ∙ k.0 in cc)) (begins-regular S 1 made q)
+
     stays : (q : ℕ) → (has S q ≡ false) → standing_of g1 q ≡ standing_of made q
     stays q out = ⊎_elim (λ k. absurd (let clash : true ≡ false = sym k.0 ∙ out in cc)) (λ k. k.1) (begins-regular S 1 made q)
+
     forming : Forming S S (record w { group = g1 })
     forming = record {
       one = ap length (configurations-begin S 1 made);
@@ -367,14 +379,17 @@ merge-formed S standings replicas a =
       );
       each = λ q here.
           let r = find-named (λ r. ids r.servers ≡ S) replicas q (subst (λ s. has s q ≡ true) (sym a.named) here) a.servers in
-          inl (here, record {
-            replica = r.0;
-            begun = r.1.0;
-            servers = r.1.1;
-            regular = ap (λ o. option_map_or (λ (s : Standing M). s.phase) o Down) (stands q here);
-            delivered = ap (λ o. option_map_or (λ (s : Standing M). s.delivered) o 0) (stands q here);
-            unordered = ap (λ o. option_map_or (λ (s : Standing M). s.unordered) o []) (stands q here);
-          });
+          inl (
+            here,
+            record {
+              replica = r.0;
+              begun = r.1.0;
+              servers = r.1.1;
+              regular = ap (λ o. option_map_or (λ (s : Standing M). s.phase) o Down) (stands q here);
+              delivered = ap (λ o. option_map_or (λ (s : Standing M). s.delivered) o 0) (stands q here);
+              unordered = ap (λ o. option_map_or (λ (s : Standing M). s.unordered) o []) (stands q here);
+            },
+          );
     }
 
 merge-kept : (S set : List ℕ) (w : World) → MayStand w (Merge set) → Apart S w → Together S (world_step w (Merge set)).world
@@ -393,21 +408,26 @@ Alones g = (g.configurations ≡ []) × ((q : ℕ) → (regular_in (phase_of g q
 come_up-alone : (g : GroupState M) (p : ℕ) → Alones g → Alones (come_up g p)
 unfolding come_up
 come_up-alone g p a =
-    let new : Standing M = record { id = p; phase = Alone; delivered = 0; unordered = [] } in
-    (configurations-set_standing g new ∙ a.0,
-    λ q. (ap regular_in (phase_of-set g new q) ∙ at_either (q == p) (phase_of g q) (a.1 q).0, unordered_of-set g new q ∙ none_either (q == p) (unordered_of g q) (a.1 q).1))
+    let new : Standing M = record { id = p; phase = Alone; delivered = 0; unordered = [] } in (
+      configurations-set_standing g new ∙ a.0,
+      λ q. (ap regular_in (phase_of-set g new q) ∙ at_either (q == p) (phase_of g q) (a.1 q).0, unordered_of-set g new q ∙ none_either (q == p) (unordered_of g q) (a.1 q).1),
+    )
   where
     at_either : (b : Bool) (x : Phase) → regular_in x ≡ 0 → regular_in (if b then Alone else x) ≡ 0
     at_either true x e = refl
     at_either false x e = e
+
     none_either : (b : Bool) (x : List M) → x ≡ [] → (if b then [] else x) ≡ []
     none_either true x e = refl
     none_either false x e = e
 
-start-apart : (set : List Weighted) → IsSet (ids set) → first_refusal before_start (Start set) ≡ None → Apart (ids set) (world_step before_start (Start set)).world
+brought_up-alone : (g : GroupState M) (p : ℕ) → Alones g → Alones (brought_up g p)
+brought_up-alone g p a = cond_both (is_up g p) g (come_up g p) Alones (λ y. a) (λ n. come_up-alone g p a)
+
+pub start-apart : (set : List Weighted) → IsSet (ids set) → first_refusal before_start (Start set) ≡ None → Apart (ids set) (world_step before_start (Start set)).world
 unfolding world_step first_refusal standing_of
 start-apart set is_set admitted =
-    let alone = each-kept Alones come_up (λ g p a. come_up-alone g p a) (ids set) no_group (refl, λ q. (refl, refl)) in
+    let alone = each-kept Alones brought_up (λ g p a. brought_up-alone g p a) (ids set) no_group (refl, λ q. (refl, refl)) in
     record {
       none = alone.0;
       alone = alone.1;
@@ -420,6 +440,7 @@ start-apart set is_set admitted =
     named : (xs : List ℕ) → map (λ (r : Replica). r.id) (map (fresh set) xs) ≡ xs
     named [] = refl
     named (x ∷ xs) = ap (λ z. x ∷ z) (named xs)
+
     nonempty : (xs : List Weighted) → (length xs == 0) ≡ false → 0 < length (map (fresh set) (ids xs))
     nonempty [] e = absurd cc
     nonempty (x ∷ xs) e = omega arith
@@ -494,11 +515,14 @@ quiet-settled S w t quiet =
   where
     f : Formed S (pic w.group) (replica_of w)
     f = t.formed
+
     ordered : List (Sent M)
     ordered = (configuration w.group 1).ordered
+
     members_quiet : list_all (is_quiet_at w.group 1) S ≡ true
     members_quiet = subst (λ s. list_all (is_quiet_at w.group 1) s ≡ true) f.members
         (and_parts (list_all (is_quiet_at w.group 1) (configuration w.group 1).members) (list_all (all_received (configuration w.group 1)) (above_up_to 0 (length ordered))) quiet).0
+
     parts : (q : ℕ) → has S q ≡ true → (unordered_of w.group q ≡ []) × (delivered_to w.group q ≡ length ordered)
     parts q here =
         let all = all_has (is_quiet_at w.group 1) S members_quiet q here in
@@ -509,13 +533,16 @@ quiet-settled S w t quiet =
         empty : (xs : List M) → length xs ≡ 0 → xs ≡ []
         empty [] e = refl
         empty (x ∷ xs) e = absurd (omega (arith, e))
+
     reached : (q : ℕ) (here : has S q ≡ true) → (f.each q here).replica.state ≡ after S ordered
     reached q here =
         (f.each q here).state ∙ ap (λ n. after S (take n ordered)) (parts q here).1 ∙ ap (after S) (take-length ordered)
+
     said : (q : ℕ) → has S q ≡ true → ordered_from q ordered ≡ map bytes_of (said_in (after S ordered))
     said q here =
         sym (append-nil (ordered_from q ordered)) ∙ ap (λ u. ordered_from q ordered ++ u) (sym (parts q here).0)
         ∙ (f.each q here).said ∙ ap (λ s. map bytes_of (said_in s)) (reached q here)
+
     settled : (q : ℕ) → has S q ≡ true → is_in_primary w q ≡ true
     settled q here =
         ap (λ o. option_map_or (λ (r : Replica). is_reg_prim r.state) o false) (f.each q here).begun

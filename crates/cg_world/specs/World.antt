@@ -8,7 +8,7 @@ use Rattle.cg_text.specs.Order.{same_text}
 use Rattle.cg_group.specs.declared.delivery.Handed.{Handed}
 use Rattle.cg_group.specs.declared.reason.Reason.{Reason}
 use Rattle.cg_group.specs.declared.reason.Reason.TheVariants.{EmptySet, UnknownReplica}
-use Rattle.cg_group.specs.State.{no_group}
+use Rattle.cg_group.specs.State.{GroupState, no_group, is_up}
 use Rattle.cg_group.specs.Events.{Outcome, come_up, send_all, gather, deliver, merge}
 use Rattle.cg_group.specs.Refusals.{refuse, deliver_refusal, merge_refusal}
 use Rattle.cg_world.specs.declared.event.Event.{Event}
@@ -17,6 +17,7 @@ use Rattle.cg_world.specs.declared.entry.Entry.{Entry}
 use Rattle.cg_world.specs.declared.line.Line.{Line}
 use Rattle.cg_world.specs.declared.replica.Replica.{Replica}
 use Rattle.cg_world.specs.declared.replica.Turn.{Turn}
+use Rattle.cg_world.specs.declared.handing.Moved.{Moved}
 use Rattle.cg_world.specs.declared.world.World.{World}
 use Rattle.cg_world.specs.declared.world.Stepped.{Stepped}
 use Rattle.cg_world.specs.declared.world.Stepped.TheVariants as stepped
@@ -43,24 +44,27 @@ first_refusal w (Merge set) = merge_refusal w.group set []
 first_refusal w (Deliver p count) = first_some (unknown w p ∷ deliver_refusal w.group p count ∷ [])
 first_refusal w other = None
 
--- what a step shows, and the world after it
-pub record Moved : Type 0 where
-  pub entry : Entry
-  pub world : World
-
 -- nothing is shown
 abbrev pub silently : World → Moved
 silently w = record { entry = record { lines = [] }; world = w }
+
+-- a replica comes up, where it isn't up
+abbrev pub brought_up : GroupState (List ℕ) → ℕ → GroupState (List ℕ)
+brought_up g p = if is_up g p then g else come_up g p
 
 -- these replicas begin, and each is shown
 abbrev pub begun : List Weighted → World → Moved
 begun set w =
     let replicas = map (fresh set) (ids set) in
-    record { entry = record { lines = map line_of replicas }; world = record { group = fold come_up w.group (ids set); replicas = replicas } }
+    record { entry = record { lines = map line_of replicas }; world = record { group = fold brought_up w.group (ids set); replicas = replicas } }
+
+-- the new one in place of a replica with its identifier
+abbrev pub replaced : Replica → Replica → Replica
+replaced new r = if r.id == new.id then new else r
 
 -- the replicas with one of them as given
 abbrev pub with_replica : List Replica → Replica → List Replica
-with_replica replicas new = map (λ r. if r.id == new.id then new else r) replicas
+with_replica replicas new = map (replaced new) replicas
 
 -- the line of a replica, where its text differs from what it was
 abbrev pub news : Replica → Replica → List Line

@@ -1,11 +1,12 @@
-ghost use Rattle.std.specs.Prelude.{◌≡◌, OnOk, IfOk};
-
+ghost use Rattle.std.specs.Prelude.{◌≡◌, OnOk, IfOk, map, ◌++◌, ◌∷◌, []};
 ghost use Rattle.cg_base.specs.Sets.{with_member};
 ghost use Rattle.cg_world.specs.Message.{message_in};
 ghost use Rattle.cg_base.specs.Weights.{ids};
 ghost use Rattle.cg_world.specs.Replica.{fresh, states_heard, announcements_heard, hear_state, hear_announcement, next_state, announced_in, announces, come_into, enter, handle, turn_of, state_name, shown_phase, prim_in, attempt_index_in, attempt, vulnerable_in, view_of, line_of};
 
-use crate::{Line, Message, Primary, ShownPhase, State, StateName, UpLine, View, Vulnerable, Yellow};
+use crate::{
+    Line, Message, Primary, ShownPhase, State, StateName, UpLine, View, Vulnerable, Yellow,
+};
 use cg_base::{IdList, IdSet, NoMemory, ReplicaId, Row, WeightSet};
 use cg_group::Delivery;
 use std::alloc::Global;
@@ -27,16 +28,29 @@ pub struct Turn {
 }
 
 impl Replica {
-    /// A replica that has just begun, alone, among these servers.
-    pub fn fresh(id: ReplicaId, servers: &WeightSet) -> Replica
-        ensures { result ≡ fresh servers.now id }
+    /// Replicas that have just begun: all these servers, ascending.
+    pub fn fresh_all(alloc: Global, servers: &WeightSet) -> Result<Row<Replica>, NoMemory>
+        ensures { IfOk result (λ replicas. replicas ≡ map (fresh servers.now) (ids servers.now)) }
     {
-        Replica {
-            id,
-            servers: *servers,
-            state: State::NonPrim,
+        let mut replicas = Row::new(alloc);
+        for id in servers.ids().iter() {
+            push_fresh(&mut replicas, id, servers)?;
         }
+        Ok(replicas)
     }
+}
+
+// one more replica that has just begun, alone, among these servers
+fn push_fresh(
+    replicas: &mut Row<Replica>,
+    id: ReplicaId,
+    servers: &WeightSet,
+) -> Result<(), NoMemory>
+    ensures { OnOk result (replicas.new ≡ replicas.old ++ fresh servers.now id ∷ []) }
+{
+    let state = State::NonPrim;
+    let servers = *servers;
+    replicas.push(Replica { id, servers, state })
 }
 
 impl State {
@@ -75,7 +89,11 @@ impl State {
         ensures { result ≡ hear_state servers.now self.now from }
     {
         match self {
-            State::ExchangeStates { conf, heard } => states_heard(servers, *conf, with(heard, from)),
+            State::ExchangeStates { conf, heard } => states_heard(
+                servers,
+                *conf,
+                with(heard, from),
+            ),
             _ => *self,
         }
     }
@@ -265,7 +283,10 @@ impl Turn {
         ensures { OnOk result (self.new ≡ come_into self.old (next_state (ids self.old.replica.servers) self.old.replica.state from (message_in bytes.now))) }
     {
         let servers = self.replica.servers.ids();
-        let state = self.replica.state.after(&servers, from, Message::read(bytes));
+        let state = self
+            .replica
+            .state
+            .after(&servers, from, Message::read(bytes));
         self.come_into(state)
     }
 

@@ -1,5 +1,5 @@
 -- A run that goes on part by part: the steps made so far, and what the rest produces, make the whole.
-use Rattle.std.proofs.Common.{◌≡◌, ℕ, ◌+◌, ◌<◌, List, [], ◌∷◌, ◌++◌, append_assoc, Option, Some, None, refl, sym, ap, ◌∙◌, option_map}
+use Rattle.std.proofs.Common.{◌≡◌, ℕ, ◌+◌, ◌<◌, List, [], ◌∷◌, ◌++◌, append_assoc, Option, Some, None, refl, sym, ap, subst, subst₂, ◌∙◌, option_map, Result, Ok, Err}
 use Rattle.std.proofs.lemmas.List.{append-nil}
 use Rattle.std.specs.Io.KnownBytes.{Appends}
 use Rattle.cg_io.specs.Outside.{AppendsFront}
@@ -10,7 +10,7 @@ use Rattle.congruity.specs.declared.status.Status.{Status}
 use Rattle.congruity.specs.declared.status.Status.TheVariants as status
 use Rattle.congruity.specs.Status.{tail_text}
 use Rattle.congruity.specs.Produced.{Finding, Produced, with_tail, text_of, status_of, prepend, and_then}
-use Rattle.congruity.specs.Putting.{StopsWith, Stopped, GoesOn}
+use Rattle.congruity.specs.Putting.{StopsWith, Stopped, Performs, GoesOn}
 
 Appends-none : (h : Option (List ℕ)) → Appends h h []
 Appends-none None = tt
@@ -120,3 +120,20 @@ GoesOn-stop whole p h h1 h2 f f' other g s =
 -- nothing was put, and memory was refused
 pub Stopped-nothing : (p : Produced) (h : Option (List ℕ)) (f : ℕ) → Stopped p h h f f status.NoMemory
 Stopped-nothing p h f = record { front = []; rest = text_of p; whole = refl; grown = Appends-none h }
+
+-- a part was put, and the next one performs
+pub Performs-and_then : (p : Produced) (more : Progress → Produced) (h h1 h2 : Option (List ℕ)) (f f1 f2 : ℕ) (s : Progress) (result : Result Progress Status)
+    → p.found ≡ None → s ≡ p.progress → Appends h h1 (report_text p.steps) → f1 ≡ f → Performs (more s) h1 h2 f1 f2 result → Performs (and_then p more) h h2 f f2 result
+Performs-and_then p more h h1 h2 f f1 f2 s (Ok next) none is put same (found, there, more_put, faults) =
+    let q = more p.progress in
+    let joined = and_then-none p more none in
+    let rest = ap more is in (
+      ap (λ (p : Produced). p.found) joined ∙ ap (λ (p : Produced). p.found) (sym rest) ∙ found,
+      there ∙ ap (λ (p : Produced). p.progress) rest ∙ sym (ap (λ (p : Produced). p.progress) joined),
+      subst (Appends h h2) (sym (ap (λ (p : Produced). report_text p.steps) joined ∙ report_text-append p.steps q.steps))
+          (Appends-twice h h1 h2 (report_text p.steps) (report_text q.steps) put (subst (λ (q : Produced). Appends h1 h2 (report_text q.steps)) rest more_put)),
+      faults ∙ same,
+    )
+Performs-and_then p more h h1 h2 f f1 f2 s (Err st) none is put same ended =
+    let goes : GoesOn (and_then p more) h h1 (more p.progress) = record { made = p.steps; appended = put; same = and_then-none p more none } in
+    GoesOn-stop (and_then p more) (more p.progress) h h1 h2 f f2 st goes (subst₂ (λ (s : Progress) (f : ℕ). Stopped (more s) h1 h2 f f2 st) is same ended)

@@ -11,7 +11,8 @@ use Rattle.congruity.specs.declared.progress.Progress.{Progress}
 use Rattle.congruity.specs.declared.status.Status.TheVariants as status
 use Rattle.congruity.specs.declared.status.Limit.{Limit}
 use Rattle.congruity.specs.declared.status.Limit.TheVariants as limit
-use Rattle.congruity.specs.Produced.{Produced, before_all, went_on, ended_with, and_then, happened}
+use Rattle.congruity.specs.Produced.{Produced, before_all, went_on, ended_with, and_then}
+use Rattle.congruity.specs.Rounds.{happened}
 
 -- what line n comes to that reads so
 abbrev pub read_outcome : ℕ → Reading → Progress → Produced

@@ -3,8 +3,9 @@
 use Rattle.std.specs.Prelude.{ℕ, ◌+◌, nat_lt, List, [], ◌∷◌, ◌++◌, Option, Some, None, option_map, if◌then◌else◌}
 use Rattle.cg_group.specs.declared.reason.Reason.{Reason}
 use Rattle.cg_world.specs.declared.event.Event.{Event}
-use Rattle.cg_world.specs.Schedule.{first_place, is_end, place_after}
-use Rattle.cg_world.specs.World.{Moved, Step, Refusal, before_start, first_refusal, world_step}
+use Rattle.cg_world.specs.Schedule.{first_place, place_after}
+use Rattle.cg_world.specs.declared.handing.Moved.{Moved}
+use Rattle.cg_world.specs.World.{Step, Refusal, before_start, first_refusal, world_step}
 use Rattle.cg_world.specs.EntryText.{report_text}
 use Rattle.congruity.specs.declared.progress.Progress.{Progress}
 use Rattle.congruity.specs.declared.status.Status.{Status}
@@ -92,8 +93,6 @@ abbrev pub unless_refused : Option Reason → ℕ → Event → Progress → Pro
 unless_refused None n event s = stepped n event (world_step s.world event) s
 unless_refused (Some reason) n event s = refused_with n event reason s
 
--- the event of line n happens; the end is no step
-abbrev pub happened : ℕ → Event → Progress → Produced
-happened n event s =
-    if is_end event then went_on (record { world = s.world; place = place_after s.place event; count = s.count })
-    else unless_refused (first_refusal s.world event) n event s
+-- one step of line n, where its event is admitted
+abbrev pub one_step : ℕ → Event → Progress → Produced
+one_step n event s = unless_refused (first_refusal s.world event) n event s

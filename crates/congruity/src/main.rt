@@ -9,6 +9,7 @@ mod arg_text;
 mod progress;
 mod putting;
 mod replay;
+mod rounds;
 mod run;
 mod status;
 mod steps;

@@ -6,8 +6,8 @@ ghost use Rattle.congruity.specs.Putting.{Stopped, Performs};
 
 use crate::progress::{Ending, Progress};
 use crate::putting::finish;
+use crate::rounds::perform;
 use crate::status::{Limit, Status};
-use crate::steps::perform;
 use cg_base::Pieces;
 use cg_io::Sink;
 use cg_world::{Reading, read_line};

@@ -1,6 +1,6 @@
 ghost use Rattle.std.specs.Prelude.{◌≡◌, ◌<◌, ◌^◌, MatchResult, Ok, Err};
-ghost use Rattle.cg_world.specs.World.{Moved};
-ghost use Rattle.congruity.specs.Produced.{stepped, happened};
+ghost use Rattle.cg_world.specs.declared.handing.Moved.{Moved};
+ghost use Rattle.congruity.specs.Produced.{stepped, one_step};
 ghost use Rattle.congruity.specs.Putting.{Performs};
 
 use crate::progress::Progress;
@@ -42,8 +42,8 @@ fn count_step<K: Sink>(
     }
 }
 
-/// The event of a line happens.
-pub fn perform<K: Sink>(
+/// One step of a line, where its event is admitted.
+pub fn take_step<K: Sink>(
     alloc: Global,
     output: &mut K,
     line: u64,
@@ -51,7 +51,7 @@ pub fn perform<K: Sink>(
     progress: Progress,
 ) -> Result<Progress, Status>
     requires { K.faults output.old < 2 ^ 62 }
-    ensures { Performs (happened line event.now progress)
+    ensures { Performs (one_step line event.now progress)
         (K.held output.old) (K.held output.new) (K.faults output.old) (K.faults output.new) result }
 {
     let Progress {
@@ -59,13 +59,6 @@ pub fn perform<K: Sink>(
         place,
         count,
     } = progress;
-    if event.is_end() {
-        return Ok(Progress {
-            world,
-            place: place.after(event),
-            count,
-        });
-    }
     match world.step(alloc, event) {
         Stepped::Done { world, entry } => {
             count_step(alloc, output, line, event, world, entry, place, count)

@@ -2,7 +2,7 @@ use Rattle.std.proofs.Common.{◌≡◌, [], true, false, rules}
 use Rattle.congruity.specs.declared.progress.Ending.TheVariants.{Open}
 use Rattle.congruity.specs.Outcome.{outcome, is_replay}
 use Rattle.congruity.proofs.GoingOn.{Stopped-nothing}
-use Rattle.congruity.proofs.RunFacts.{outcome-is_run, outcome-refused_exactly}
+use Rattle.congruity.proofs.RunFacts.{outcome-is_run, outcome-refused_exactly, outcome-one_primary, outcome-quiet_settles}
 use Rattle.congruity.proofs.TakeLemmas.{Consumes-none, outcome-usage, outcome-replay}
 use Rattle.congruity.proofs.run.run.Goals as goal
 
@@ -18,6 +18,8 @@ returns-then-not-is_replay_command g c =
       put = rw (outcome-usage words other) c.finish.ensures;
       is_run = outcome-is_run words [] Open;
       refused_exactly = outcome-refused_exactly words [] Open;
+      one_primary = outcome-one_primary words [] Open;
+      quiet_settles = outcome-quiet_settles words [] Open;
     }
 
 pub returns-in-Ok : goal.returns-in-Ok
@@ -33,6 +35,8 @@ returns-in-Ok g c =
       put = rw (outcome-replay words t.bytes t.ending replays, ← c.as_slice.ensures) c.replay.ensures;
       is_run = outcome-is_run words t.bytes t.ending;
       refused_exactly = outcome-refused_exactly words t.bytes t.ending;
+      one_primary = outcome-one_primary words t.bytes t.ending;
+      quiet_settles = outcome-quiet_settles words t.bytes t.ending;
     }
 
 pub returns-in-Err : goal.returns-in-Err
@@ -47,4 +51,6 @@ returns-in-Err g c =
       put = Stopped-nothing (outcome words t Open) (g.K.Sink.held c.args.output.now) (g.K.Sink.faults c.args.output.now);
       is_run = outcome-is_run words t Open;
       refused_exactly = outcome-refused_exactly words t Open;
+      one_primary = outcome-one_primary words t Open;
+      quiet_settles = outcome-quiet_settles words t Open;
     }

@@ -1,0 +1,127 @@
+ghost use Rattle.std.specs.Prelude.{◌≡◌, ◌<◌, ◌^◌};
+ghost use Rattle.congruity.specs.Rounds.{deliver_ready, deliveries, one_pass, passes, happened};
+ghost use Rattle.congruity.specs.Putting.{Performs};
+
+use crate::progress::Progress;
+use crate::status::Status;
+use crate::steps::take_step;
+use cg_base::{IdSet, ReplicaId};
+use cg_io::Sink;
+use cg_world::Event;
+use std::alloc::Global;
+
+// What is ready at a replica is handed to it.
+fn deliver_ready<K: Sink>(
+    alloc: Global,
+    output: &mut K,
+    line: u64,
+    to: ReplicaId,
+    progress: Progress,
+) -> Result<Progress, Status>
+    requires { K.faults output.old < 2 ^ 62 }
+    ensures { Performs (deliver_ready line to progress)
+        (K.held output.old) (K.held output.new) (K.faults output.old) (K.faults output.new) result }
+{
+    let count = progress.world.ready(to);
+    if count == 0 {
+        return Ok(progress);
+    }
+    let event = Event::Deliver { to, count };
+    take_step(alloc, output, line, &event, progress)
+}
+
+// What is ready at each of these replicas, when its turn comes.
+fn deliver_to_each<K: Sink>(
+    alloc: Global,
+    output: &mut K,
+    line: u64,
+    set: &IdSet,
+    progress: Progress,
+) -> Result<Progress, Status>
+    requires { K.faults output.old < 2 ^ 62 }
+    ensures { Performs (deliveries line set.now progress)
+        (K.held output.old) (K.held output.new) (K.faults output.old) (K.faults output.new) result }
+{
+    let mut progress = progress;
+    for to in set.iter() {
+        match deliver_ready(alloc, output, line, to, progress) {
+            Ok(next) => progress = next,
+            Err(status) => return Err(status),
+        }
+    }
+    Ok(progress)
+}
+
+// The replicas that have begun.
+fn begun_in(progress: &Progress) -> IdSet
+    ensures { result ≡ progress.now.place.begun }
+{
+    progress.place.begun
+}
+
+// All messages are gathered, and then each replica is handed what is ready.
+fn make_pass<K: Sink>(
+    alloc: Global,
+    output: &mut K,
+    line: u64,
+    progress: Progress,
+) -> Result<Progress, Status>
+    requires { K.faults output.old < 2 ^ 62 }
+    ensures { Performs (one_pass line progress)
+        (K.held output.old) (K.held output.new) (K.faults output.old) (K.faults output.new) result }
+{
+    let begun = begun_in(&progress);
+    let event = Event::Gather;
+    match take_step(alloc, output, line, &event, progress) {
+        Ok(next) => deliver_to_each(alloc, output, line, &begun, next),
+        Err(status) => Err(status),
+    }
+}
+
+// So many passes.
+fn make_passes<K: Sink>(
+    alloc: Global,
+    output: &mut K,
+    line: u64,
+    count: u64,
+    progress: Progress,
+) -> Result<Progress, Status>
+    requires { K.faults output.old < 2 ^ 62 }
+    ensures { Performs (passes line count progress)
+        (K.held output.old) (K.held output.new) (K.faults output.old) (K.faults output.new) result }
+{
+    let mut progress = progress;
+    for made in 0..count {
+        match make_pass(alloc, output, line, progress) {
+            Ok(next) => progress = next,
+            Err(status) => return Err(status),
+        }
+    }
+    Ok(progress)
+}
+
+/// The event of a line happens.
+pub fn perform<K: Sink>(
+    alloc: Global,
+    output: &mut K,
+    line: u64,
+    event: &Event,
+    progress: Progress,
+) -> Result<Progress, Status>
+    requires { K.faults output.old < 2 ^ 62 }
+    ensures { Performs (happened line event.now progress)
+        (K.held output.old) (K.held output.new) (K.faults output.old) (K.faults output.new) result }
+{
+    match event {
+        Event::End => Ok(Progress {
+            world: progress.world,
+            place: progress.place.after(event),
+            count: progress.count,
+        }),
+        Event::Rounds(count) => make_passes(alloc, output, line, *count, progress),
+        Event::Start(_) => take_step(alloc, output, line, event, progress),
+        Event::Merge(_) => take_step(alloc, output, line, event, progress),
+        Event::Gather => take_step(alloc, output, line, event, progress),
+        Event::Deliver { .. } => take_step(alloc, output, line, event, progress),
+    }
+}
