@@ -160,12 +160,13 @@ record Stays (s : Progress) (p : Produced) : Type 0 where
 Stays-one_step : (n : ℕ) (event : Event) (s : Progress) → Agrees s → MayCome s.place event → place_after s.place event ≡ s.place → Stays s (one_step n event s)
 Stays-one_step n event s a m same = record { holds = Holds-one_step n event s a m; place = by_refusal (first_refusal s.world event) } where
   by_limit : (b : Bool) (m : Moved) → (cond b (record {
-      steps = record { number = s.count + 1; event = event; entry = m.entry; world = m.world } ∷ [];
-      found = None;
-      progress = record { world = m.world; place = place_after s.place event; count = s.count + 1 };
-    }) (ended_with (status.Limit n Steps) n s)).progress.place ≡ s.place
+    steps = record { number = s.count + 1; event = event; entry = m.entry; world = m.world } ∷ [];
+    found = None;
+    progress = record { world = m.world; place = place_after s.place event; count = s.count + 1 };
+  }) (ended_with (status.Limit n Steps) n s)).progress.place ≡ s.place
   by_limit true m = same
   by_limit false m = refl
+
   by_refusal : (o : Option Reason) → (unless_refused o n event s).progress.place ≡ s.place
   by_refusal None = by_limit (nat_lt s.count 2000000) (world_step s.world event)
   by_refusal (Some reason) = refl
