@@ -22,3 +22,5 @@ pub mod FirstReasons
 pub mod UpFacts
 pub mod DeliveryFacts
 pub mod LogsFacts
+pub mod OrderFacts
+pub mod RoomFacts
