@@ -1,12 +1,10 @@
 -- Which events a line can be read as at its place.
 use Rattle.std.proofs.Common.{◌≡◌, ℕ, suc, ◌≤◌, ◌<◌, ◌⊎◌, ⊎_elim, Bool, true, false, cond, not, ◌&&◌, ◌||◌, List, [], ◌∷◌, Option, Some, None, Result, Ok, Err, refl, sym, ap, subst, ◌∙◌, arith, map, codes, if◌then◌else◌, rules}
-use Rattle.std.specs.Prelude.{◌==◌, nat_lt, nat_le, nat_eq}
+use Rattle.std.specs.Prelude.{◌==◌, nat_lt, nat_le}
 use Rattle.std.specs.Str.{bytes_eq}
-use Rattle.std.specs.Cmp.Lexicographic.{pointwise}
-use Rattle.std.proofs.lemmas.Bool.{cond_both, cases_Bool, ltb-true, leb-true, and_parts}
+use Rattle.std.proofs.lemmas.Bool.{cond_both, ltb-true, leb-true, and_parts}
 use Rattle.std.proofs.lemmas.Bool.Decides.{Decides-eqb}
 use Rattle.std.proofs.lemmas.Slice.Eq.{slice_eq-Decides}
-use Rattle.cg_base.specs.declared.weighted.Weighted.{Weighted}
 use Rattle.cg_base.specs.Sets.{IsSet, with_member}
 use Rattle.cg_base.specs.Weights.{ids, each_once}
 use Rattle.cg_base.specs.Text.{pieces_of}
@@ -14,7 +12,7 @@ use Rattle.cg_base.proofs.SetFacts.{IsSet-with_member}
 use Rattle.cg_text.specs.declared.fault.TextFault.{TextFault}
 use Rattle.cg_text.specs.Numbers.{read_u64}
 use Rattle.cg_world.specs.declared.event.Event.{Event}
-use Rattle.cg_world.specs.declared.event.Event.TheVariants.{Start, Merge, Gather, Deliver, Rounds, End}
+use Rattle.cg_world.specs.declared.event.Event.TheVariants.{Start, Merge, Rounds, End}
 use Rattle.cg_world.specs.declared.event.Reading.{Reading}
 use Rattle.cg_world.specs.declared.event.Reading.TheVariants as reading
 use Rattle.cg_world.specs.declared.event.Place.{Place}

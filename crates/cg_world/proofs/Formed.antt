@@ -1,23 +1,20 @@
 -- What stands once all replicas have come together: each replica's state is what the messages that it was handed make of
 -- it, and it has said what its state says that it has.
-use Rattle.std.proofs.Common.{◌≡◌, ℕ, zero, suc, ◌+◌, ◌<◌, ◌≤◌, ◌⊎◌, inl, inr, ⊎_elim, Bool, true, false, cond, ◌||◌, ◌&&◌, List, [], ◌∷◌, ◌++◌, length, take, drop, append-nil, append_assoc, length-append, Option, Some, None, refl, sym, ap, subst, ◌∙◌, arith, map, fold, filter, if◌then◌else◌, eq-eqb, eqb-true}
+use Rattle.std.proofs.Common.{◌≡◌, ℕ, ◌≤◌, ◌⊎◌, inl, inr, ⊎_elim, Bool, true, false, cond, ◌||◌, ◌&&◌, List, [], ◌∷◌, ◌++◌, length, take, drop, append-nil, append_assoc, length-append, Option, Some, None, refl, sym, ap, subst, ◌∙◌, arith, map, fold, filter, if◌then◌else◌, eq-eqb}
 use Rattle.std.specs.Prelude.{◌==◌}
-use Rattle.std.specs.List.{list_any, list_all}
-use Rattle.std.specs.Option.{option_to_list}
-use Rattle.std.proofs.lemmas.Bool.{cases_Bool, cases_eq, cond_both, cond-true, cond-false, ne_eqb, eqb-false, or_cases, or_right, or_left}
+use Rattle.std.specs.List.{list_any}
+use Rattle.std.proofs.lemmas.Bool.{cases_eq, cond_both, ne_eqb, or_cases, or_right}
 use Rattle.std.proofs.lemmas.List.{take-append-le, take-append-drop}
 use Rattle.std.proofs.lemmas.List.Folds.{list_any-append}
 use Rattle.std.proofs.lemmas.List.Sums.{fold-append}
 use Rattle.cg_base.specs.Sets.{has, with_member, is_within}
 use Rattle.cg_base.specs.Weights.{ids}
 use Rattle.cg_base.proofs.SetLemmas.{has-with_member}
-use Rattle.cg_base.proofs.SetFacts.{is_within-from}
-use Rattle.cg_group.specs.declared.phase.Phase.{Phase}
-use Rattle.cg_group.specs.declared.phase.Phase.TheVariants.{Down, Alone, Regular, Transitional}
+use Rattle.cg_group.specs.declared.phase.Phase.TheVariants.{Regular}
 use Rattle.cg_group.specs.State.{Sent, regular_in}
 use Rattle.cg_group.specs.Synchrony.{ordered_from}
 use Rattle.cg_group.proofs.Picture.{put}
-use Rattle.cg_group.proofs.Lookups.{put-own, put-other, put-same}
+use Rattle.cg_group.proofs.Lookups.{put-other, put-same}
 use Rattle.std.proofs.lemmas.List.Elements.{filter-append}
 use Rattle.std.proofs.lemmas.List.{map-append}
 use Rattle.cg_world.specs.declared.message.Message.{Message}
@@ -26,7 +23,7 @@ use Rattle.cg_world.specs.declared.state.State.{State}
 use Rattle.cg_world.specs.declared.state.State.TheVariants.{NonPrim, ExchangeStates, Construct, RegPrim}
 use Rattle.cg_world.specs.declared.replica.Replica.{Replica}
 use Rattle.cg_world.specs.Message.{bytes_of, message_in}
-use Rattle.cg_world.specs.Replica.{next_state, states_heard, announcements_heard, announces}
+use Rattle.cg_world.specs.Replica.{next_state}
 use Rattle.cg_world.proofs.Pictures.{M, Pic, moved}
 
 -- the state behind an ordered message

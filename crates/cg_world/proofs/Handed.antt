@@ -1,22 +1,19 @@
 -- A replica that is handed the next messages of its configuration, and replicas that come into one together.
-use Rattle.std.proofs.Common.{◌≡◌, ℕ, zero, suc, ◌+◌, ◌-◌, ◌<◌, ◌≤◌, ◌⊎◌, inl, inr, ⊎_elim, Bool, true, false, cond, ◌||◌, List, [], ◌∷◌, ◌++◌, length, take, get_or, append-nil, append_assoc, Option, Some, None, refl, sym, ap, subst, ◌∙◌, arith, map, find, fold, flat_map, if◌then◌else◌, eq-eqb, eqb-true}
-use Rattle.std.specs.Prelude.{◌==◌, slice_get}
+use Rattle.std.proofs.Common.{◌≡◌, ℕ, zero, suc, ◌+◌, ◌-◌, ◌<◌, ◌≤◌, ⊎_elim, true, false, List, [], ◌∷◌, ◌++◌, length, take, get_or, append-nil, append_assoc, Option, Some, None, refl, sym, ap, subst, ◌∙◌, arith, map, find, fold, flat_map, if◌then◌else◌, eq-eqb, eqb-true}
+use Rattle.std.specs.Prelude.{◌==◌}
 use Rattle.std.specs.Option.{option_map_or, option_to_list}
 use Rattle.std.proofs.Math.Seq.{take-suc}
-use Rattle.std.proofs.lemmas.Bool.{cases_Bool, cases_eq, cond_both, cond-true, cond-false, ne_eqb, eqb-false}
+use Rattle.std.proofs.lemmas.Bool.{cases_Bool, cases_eq, cond_both, cond-true, cond-false, ne_eqb}
 use Rattle.std.proofs.lemmas.List.{map-append}
 use Rattle.std.proofs.lemmas.List.Sums.{fold-append}
 use Rattle.std.proofs.lemmas.Option.{slice_get-get_or}
-use Rattle.cg_base.specs.Lists.{at_place, count_up, above_up_to}
+use Rattle.cg_base.specs.Lists.{count_up, above_up_to}
 use Rattle.cg_base.specs.Sets.{has, with_member, is_within}
 use Rattle.cg_base.specs.Weights.{ids}
-use Rattle.cg_group.specs.declared.delivery.Delivery.{Delivery}
-use Rattle.cg_group.specs.declared.delivery.Delivery.TheVariants.{Message as Handed, Transitional as TransitionalIn, Regular as RegularIn}
-use Rattle.cg_group.specs.declared.phase.Phase.TheVariants.{Regular}
-use Rattle.cg_group.specs.State.{Configuration, Sent, regular_in}
+use Rattle.cg_group.specs.declared.delivery.Delivery.TheVariants.{Message as Handed}
+use Rattle.cg_group.specs.State.{Configuration, Sent}
 use Rattle.cg_group.specs.Events.{delivery_at, deliveries_at}
 use Rattle.cg_group.specs.Synchrony.{ordered_from}
-use Rattle.cg_group.proofs.Picture.{put}
 use Rattle.cg_group.proofs.Lookups.{put-other, put-same}
 use Rattle.cg_world.specs.declared.message.Message.{Message}
 use Rattle.cg_world.specs.declared.message.Message.TheVariants.{State as StateMessage, Complete}
@@ -28,7 +25,7 @@ use Rattle.cg_world.specs.Message.{bytes_of, message_in}
 use Rattle.cg_world.specs.Replica.{next_state, announces, handle, turn_of}
 use Rattle.cg_world.specs.World.{with_replica}
 use Rattle.cg_world.proofs.Pictures.{M, Pic, waiting, counted}
-use Rattle.cg_world.proofs.Formed.{heard, after, after-more, said_in, Member, Formed}
+use Rattle.cg_world.proofs.Formed.{after, after-more, said_in, Member, Formed}
 
 -- ---- one replica among others
 

@@ -1,6 +1,6 @@
 -- What holds of each element of a list that is changed, searched or shown.
-use Rattle.std.proofs.Common.{◌≡◌, ℕ, zero, suc, ◌<◌, Bool, true, false, cond, List, [], ◌∷◌, ◌++◌, length, Option, Some, None, refl, sym, ap, subst, ◌∙◌, arith, map, find, flat_map, fold, Contains, if◌then◌else◌}
-use Rattle.std.proofs.lemmas.Bool.{cond_both, cases_Bool, cond-true, cond-false}
+use Rattle.std.proofs.Common.{◌≡◌, zero, suc, Bool, List, [], ◌∷◌, Option, Some, None, refl, subst, arith, map, find, flat_map, fold, Contains}
+use Rattle.std.proofs.lemmas.Bool.{cond_both}
 use Rattle.cg_base.specs.Lists.{present}
 use Rattle.cg_group.proofs.Each.{Each, Each-append}
 

@@ -1,5 +1,5 @@
 -- What steps leave of the replicas that have begun, and of there being no configuration yet.
-use Rattle.std.proofs.Common.{◌≡◌, ℕ, ◌+◌, ◌<◌, Bool, true, false, cond, List, [], ◌∷◌, ◌++◌, length, Option, Some, None, refl, sym, ap, ap₂, subst, ◌∙◌, arith, map, fold, if◌then◌else◌, eqb-true}
+use Rattle.std.proofs.Common.{◌≡◌, ℕ, ◌+◌, ◌<◌, List, [], ◌∷◌, ◌++◌, length, Option, Some, None, refl, sym, ap, ap₂, ◌∙◌, map, fold, eqb-true}
 use Rattle.std.specs.Prelude.{◌==◌}
 use Rattle.std.specs.Option.{option_map_or}
 use Rattle.std.proofs.lemmas.Bool.{cond_both}
@@ -10,9 +10,9 @@ use Rattle.cg_base.specs.Weights.{ids}
 use Rattle.cg_group.specs.declared.delivery.Handed.{Handed as HandedTo}
 use Rattle.cg_group.specs.State.{Configuration, Standing, GroupState, standing_of, configuration, phase_of, home, regular_in, unordered_of, delivered_to, set_standing, set_configuration, changed_at}
 use Rattle.cg_group.specs.Events.{Outcome, send_from, send, send_all, order_from, order, order_all, receive, receive_all, regulars, gather, with_delivered, deliver, merge}
-use Rattle.cg_group.proofs.Each.{Each, Each-all}
+use Rattle.cg_group.proofs.Each.{Each-all}
 use Rattle.cg_group.proofs.Lookups.{configurations-set_standing}
-use Rattle.cg_world.specs.declared.event.Event.TheVariants.{Start, Merge, Gather, Deliver, Rounds, End}
+use Rattle.cg_world.specs.declared.event.Event.TheVariants.{Start, Merge, Deliver}
 use Rattle.cg_world.specs.declared.replica.Replica.{Replica}
 use Rattle.cg_world.specs.declared.world.World.{World}
 use Rattle.cg_world.specs.Replica.{turn_of}

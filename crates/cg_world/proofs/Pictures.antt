@@ -1,18 +1,16 @@
 -- A group with one configuration, as functions of the replica; and what each call of the group makes of it.
-use Rattle.std.proofs.Common.{◌≡◌, ℕ, zero, suc, ◌+◌, ◌<◌, ◌≤◌, ◌⊎◌, inl, inr, ⊎_elim, Bool, true, false, ◌||◌, cond, List, [], ◌∷◌, ◌++◌, length, append-nil, append_assoc, Option, Some, None, refl, sym, ap, subst, ◌∙◌, arith, map, fold, if◌then◌else◌, eq-eqb, eqb-true}
+use Rattle.std.proofs.Common.{◌≡◌, ℕ, suc, ◌≤◌, ◌⊎◌, inl, inr, ⊎_elim, Bool, true, false, ◌||◌, cond, List, [], ◌∷◌, ◌++◌, length, append-nil, append_assoc, Option, Some, None, refl, sym, ap, subst, ◌∙◌, arith, fold, if◌then◌else◌, eq-eqb, eqb-true}
 use Rattle.std.specs.Prelude.{◌==◌}
 use Rattle.std.specs.Option.{option_map_or}
-use Rattle.std.proofs.lemmas.Bool.{cases_Bool, cases_eq, cond-true, cond-false, ne_eqb, eqb-false}
+use Rattle.std.proofs.lemmas.Bool.{cases_Bool, cond-true, cond-false, ne_eqb, eqb-false}
 use Rattle.cg_base.specs.Sets.{has}
 use Rattle.cg_group.specs.declared.phase.Phase.{Phase}
-use Rattle.cg_group.specs.declared.phase.Phase.TheVariants.{Down, Alone, Regular, Transitional}
+use Rattle.cg_group.specs.declared.phase.Phase.TheVariants.{Down, Regular}
 use Rattle.cg_group.specs.State.{Configuration, Standing, GroupState, Sent, standing_of, configuration, phase_of, delivered_to, unordered_of, regular_in, set_standing, set_configuration}
-use Rattle.cg_group.specs.Events.{come_up, send_from, send, send_all, order_from, order, receive, order_all, receive_all, gather, regulars, with_delivered, with_message, with_receipt, become_regular}
+use Rattle.cg_group.specs.Events.{send_from, send, send_all, order_from, order, receive, with_delivered, with_message, with_receipt, become_regular}
 use Rattle.cg_group.proofs.Picture.{put}
 use Rattle.cg_group.proofs.Sound.{standing_id}
-use Rattle.cg_group.proofs.Lookups.{at-cond, put-own, standing_of-set, phase_of-set, delivered_to-set, unordered_of-set, configuration-set_standing, configurations-set_standing, standing_of-set_configuration, configuration-set, count-set_configuration, set_configuration-zero}
-use Rattle.cg_group.proofs.Each.{Each, Each-all}
-use Rattle.cg_world.proofs.Lists.{fold-keeps}
+use Rattle.cg_group.proofs.Lookups.{put-own, standing_of-set, phase_of-set, delivered_to-set, unordered_of-set, configuration-set_standing, configurations-set_standing, standing_of-set_configuration, configuration-set, count-set_configuration, set_configuration-zero}
 
 -- messages are bytes
 abbrev pub M : Type 0

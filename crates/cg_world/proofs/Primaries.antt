@@ -1,20 +1,19 @@
 -- No primary index names two components: each line shows a primary component that its replica's state says, and all
 -- replicas have the servers of one start and are in one configuration.
-use Rattle.std.proofs.Common.{◌≡◌, ℕ, zero, suc, ◌+◌, ◌<◌, Bool, true, false, cond, List, [], ◌∷◌, ◌++◌, length, Option, Some, None, refl, sym, ap, subst, ◌∙◌, arith, map, find, flat_map, fold, Contains, if◌then◌else◌}
+use Rattle.std.proofs.Common.{◌≡◌, ℕ, suc, ◌+◌, ◌<◌, false, List, [], ◌∷◌, length, Option, Some, None, refl, sym, ap, subst, ◌∙◌, arith, map, flat_map, fold, if◌then◌else◌}
 use Rattle.std.specs.Prelude.{◌==◌}
 use Rattle.std.specs.Option.{option_map_or}
-use Rattle.std.proofs.lemmas.Bool.{cond_both, cases_Bool}
+use Rattle.std.proofs.lemmas.Bool.{cond_both}
 use Rattle.std.proofs.lemmas.List.{length-map}
 use Rattle.cg_base.specs.declared.weighted.Weighted.{Weighted}
-use Rattle.cg_base.specs.Lists.{present, at_place, above_up_to}
+use Rattle.cg_base.specs.Lists.{at_place, above_up_to}
 use Rattle.cg_base.specs.Sets.{with_member, is_within}
 use Rattle.cg_base.specs.Weights.{ids}
 use Rattle.cg_group.specs.declared.delivery.Delivery.{Delivery}
 use Rattle.cg_group.specs.declared.delivery.Delivery.TheVariants.{Message as Handed, Transitional as TransitionalIn, Regular as RegularIn}
 use Rattle.cg_group.specs.declared.delivery.Handed.{Handed as HandedTo}
 use Rattle.cg_group.specs.State.{Configuration, Sent}
-use Rattle.cg_group.specs.Events.{Outcome, delivery_at, deliveries_at, deliver, merge}
-use Rattle.cg_group.specs.Refusals.{refuse}
+use Rattle.cg_group.specs.Events.{Outcome, delivery_at, deliver, merge}
 use Rattle.cg_group.proofs.Each.{Each, Each-append, Each-all}
 use Rattle.cg_group.proofs.Tests.{refuse_none}
 use Rattle.cg_world.specs.declared.event.Event.{Event}
@@ -30,9 +29,9 @@ use Rattle.cg_world.specs.declared.replica.Replica.{Replica}
 use Rattle.cg_world.specs.declared.replica.Turn.{Turn}
 use Rattle.cg_world.specs.declared.world.World.{World}
 use Rattle.cg_world.specs.Message.{message_in}
-use Rattle.cg_world.specs.Replica.{fresh, next_state, states_heard, announcements_heard, handle, turn_of, state_name, shown_phase, prim_in, view_of, line_of}
+use Rattle.cg_world.specs.Replica.{fresh, next_state, handle, turn_of, state_name, shown_phase, prim_in, view_of, line_of}
 use Rattle.cg_world.specs.declared.handing.Moved.{Moved}
-use Rattle.cg_world.specs.World.{Step, silently, before_start, replica_of, with_replica, news, after_turn, hand, hand_out, world_step, first_refusal}
+use Rattle.cg_world.specs.World.{Step, silently, before_start, replica_of, news, after_turn, hand, hand_out, world_step, first_refusal}
 use Rattle.cg_world.specs.Shown.{all_up_lines}
 use Rattle.cg_world.specs.Agreement.{MayStand, IsRunFrom, OnePrimary}
 use Rattle.cg_world.proofs.Lists.{Each-contains, Each-map, Each-found, Each-flat_map, fold-keeps, Each-present}

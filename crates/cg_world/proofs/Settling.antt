@@ -1,10 +1,10 @@
 -- A configuration that is quiet is settled: what stands before and after all replicas have come together, through each
 -- step of a run.
-use Rattle.std.proofs.Common.{◌≡◌, ℕ, zero, suc, ◌+◌, ◌-◌, ◌<◌, ◌≤◌, ◌⊎◌, inl, inr, ⊎_elim, Bool, true, false, cond, ◌||◌, ◌&&◌, not, List, [], ◌∷◌, ◌++◌, length, take, append-nil, Option, Some, None, is_some, IsTrue, refl, sym, ap, subst, ◌∙◌, arith, map, find, fold, filter, Contains, if◌then◌else◌, eq-eqb, eqb-true, ltb-false}
+use Rattle.std.proofs.Common.{◌≡◌, ℕ, suc, ◌+◌, ◌-◌, ◌<◌, ◌≤◌, ◌⊎◌, inl, inr, ⊎_elim, Bool, true, false, ◌||◌, ◌&&◌, not, List, [], ◌∷◌, ◌++◌, length, take, append-nil, Option, Some, None, is_some, IsTrue, refl, sym, ap, subst, ◌∙◌, arith, map, find, fold, if◌then◌else◌, eq-eqb, eqb-true, ltb-false}
 use Rattle.std.specs.Prelude.{◌==◌}
 use Rattle.std.specs.List.{list_any, list_all}
 use Rattle.std.specs.Option.{option_map_or}
-use Rattle.std.proofs.lemmas.Bool.{cases_Bool, cases_eq, cond_both, cond-true, cond-false, ne_eqb, eqb-false, and_parts, and_from, or_cases}
+use Rattle.std.proofs.lemmas.Bool.{cases_Bool, cases_eq, cond_both, cond-true, cond-false, ne_eqb, and_parts, and_from, or_cases}
 use Rattle.std.proofs.Math.Seq.{take-length}
 use Rattle.std.proofs.lemmas.List.{length-map}
 use Rattle.cg_base.specs.declared.weighted.Weighted.{Weighted}
@@ -14,21 +14,19 @@ use Rattle.cg_base.specs.Weights.{ids}
 use Rattle.cg_base.proofs.SetLemmas.{has-before}
 use Rattle.cg_base.proofs.SetFacts.{is_within-from}
 use Rattle.cg_group.specs.declared.delivery.Delivery.TheVariants.{Regular as RegularIn}
-use Rattle.cg_group.specs.declared.delivery.Handed.{Handed as HandedTo}
 use Rattle.cg_group.specs.declared.phase.Phase.{Phase}
-use Rattle.cg_group.specs.declared.phase.Phase.TheVariants.{Down, Alone, Regular, Transitional}
+use Rattle.cg_group.specs.declared.phase.Phase.TheVariants.{Down, Alone, Regular}
 use Rattle.cg_group.specs.declared.reason.Reason.{Reason}
 use Rattle.cg_group.specs.declared.reason.Reason.TheVariants.{NotRegular, NotReady, EmptySet}
 use Rattle.cg_group.specs.State.{Configuration, Standing, GroupState, Sent, no_group, standing_of, configuration, no_configuration, phase_of, delivered_to, unordered_of, regular_in, home, is_regular, is_up}
 use Rattle.cg_group.specs.Ready.{ready_in, ready, all_received}
 use Rattle.cg_group.specs.Events.{come_up, send_all, order, order_all, receive, receive_all, regulars, gather, with_delivered, deliveries_at, deliver, become_regular, merge}
-use Rattle.cg_group.specs.Refusals.{not_up, not_regular, not_ready, deliver_refusal, refuse}
+use Rattle.cg_group.specs.Refusals.{not_up, not_regular, not_ready, deliver_refusal}
 use Rattle.cg_group.specs.Synchrony.{ordered_from}
 use Rattle.cg_group.specs.History.{NamesOnce}
 use Rattle.cg_group.proofs.Each.{Each, Each-all}
 use Rattle.cg_group.proofs.Lookups.{put-other, put-same, phase_of-set, unordered_of-set, configurations-set_standing}
 use Rattle.cg_group.proofs.Places.{ready_in-within}
-use Rattle.cg_group.proofs.Sound.{regular_phase}
 use Rattle.cg_group.proofs.Tests.{first_none, refuse_none}
 use Rattle.cg_world.specs.declared.event.Event.{Event}
 use Rattle.cg_world.specs.declared.event.Event.TheVariants.{Start, Merge, Gather, Deliver, Rounds, End}
@@ -36,15 +34,14 @@ use Rattle.cg_world.specs.declared.message.Message.TheVariants.{State as StateMe
 use Rattle.cg_world.specs.declared.state.State.{State}
 use Rattle.cg_world.specs.declared.state.State.TheVariants.{NonPrim, ExchangeStates, Construct, RegPrim}
 use Rattle.cg_world.specs.declared.replica.Replica.{Replica}
-use Rattle.cg_world.specs.declared.replica.Turn.{Turn}
 use Rattle.cg_world.specs.declared.world.World.{World}
 use Rattle.cg_world.specs.Message.{bytes_of, message_in}
 use Rattle.cg_world.specs.Replica.{fresh, turn_of}
 use Rattle.cg_world.specs.declared.handing.Moved.{Moved}
-use Rattle.cg_world.specs.World.{Step, silently, brought_up, before_start, replica_of, unknown, with_replica, news, after_turn, hand, hand_out, world_step, first_refusal}
+use Rattle.cg_world.specs.World.{Step, silently, brought_up, before_start, replica_of, unknown, with_replica, after_turn, hand, hand_out, world_step, first_refusal}
 use Rattle.cg_world.specs.Quiet.{is_quiet_at, is_quiet, is_reg_prim, is_in_primary, IsSettled}
 use Rattle.cg_world.specs.Agreement.{MayStand, IsRunFrom, QuietSettles}
-use Rattle.cg_world.proofs.Lists.{Each-contains, Each-map, Each-found, fold-keeps}
+use Rattle.cg_world.proofs.Lists.{Each-contains, Each-map}
 use Rattle.cg_world.proofs.Pictures.{M, Pic, pic, waiting, counted, order-none, order-some, receive-same, send_all-waits, delivered-counted, configurations-begin, begins-regular}
 use Rattle.cg_world.proofs.Formed.{after, said_in, tells, is_state, is_complete, Hears, Member, Formed, formed-moved}
 use Rattle.cg_world.proofs.Handed.{find-other, find-new, found_id, TurnAt, turn-at, formed-handed}

@@ -1,12 +1,12 @@
 -- When a configuration is quiet, and what then stands in it.
-use Rattle.std.specs.Prelude.{◌≡◌, ℕ, ◌==◌, Bool, true, false, ◌&&◌, length, IsTrue, Option, List}
+use Rattle.std.specs.Prelude.{ℕ, ◌==◌, Bool, true, false, ◌&&◌, length, IsTrue, List}
 use Rattle.std.specs.List.{list_all}
 use Rattle.std.specs.Option.{option_map_or}
 use Rattle.cg_base.specs.Lists.{above_up_to}
 use Rattle.cg_group.specs.State.{GroupState, configuration, phase_of, regular_in, delivered_to, unordered_of}
 use Rattle.cg_group.specs.Ready.{all_received}
 use Rattle.cg_world.specs.declared.state.State.{State}
-use Rattle.cg_world.specs.declared.state.State.TheVariants.{NonPrim, ExchangeStates, Construct, RegPrim}
+use Rattle.cg_world.specs.declared.state.State.TheVariants.{RegPrim}
 use Rattle.cg_world.specs.declared.world.World.{World}
 use Rattle.cg_world.specs.World.{replica_of}
 

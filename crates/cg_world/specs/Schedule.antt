@@ -8,7 +8,7 @@ use Rattle.cg_base.specs.Weights.{each_once, ids}
 use Rattle.cg_text.specs.declared.fault.TextFault.{TextFault}
 use Rattle.cg_text.specs.Numbers.{read_u64}
 use Rattle.cg_world.specs.declared.event.Event.{Event}
-use Rattle.cg_world.specs.declared.event.Event.TheVariants.{Start, Merge, Gather, Deliver, Rounds, End}
+use Rattle.cg_world.specs.declared.event.Event.TheVariants.{Start, Merge, Rounds, End}
 use Rattle.cg_world.specs.declared.event.Reading.{Reading}
 use Rattle.cg_world.specs.declared.event.Reading.TheVariants as reading
 use Rattle.cg_world.specs.declared.event.Place.{Place}

@@ -1,5 +1,5 @@
 -- A run that goes on part by part: the steps made so far, and what the rest produces, make the whole.
-use Rattle.std.proofs.Common.{◌≡◌, ℕ, ◌+◌, ◌<◌, List, [], ◌∷◌, ◌++◌, append_assoc, Option, Some, None, refl, sym, ap, subst, subst₂, ◌∙◌, option_map, Result, Ok, Err}
+use Rattle.std.proofs.Common.{◌≡◌, ℕ, List, [], ◌∷◌, ◌++◌, append_assoc, Option, Some, None, refl, sym, ap, subst, subst₂, ◌∙◌, option_map, Result, Ok, Err}
 use Rattle.std.proofs.lemmas.List.{append-nil}
 use Rattle.std.specs.Io.KnownBytes.{Appends}
 use Rattle.cg_io.specs.Outside.{AppendsFront}
@@ -10,7 +10,7 @@ use Rattle.congruity.specs.declared.status.Status.{Status}
 use Rattle.congruity.specs.declared.status.Status.TheVariants as status
 use Rattle.congruity.specs.Status.{tail_text}
 use Rattle.congruity.specs.Produced.{Finding, Produced, with_tail, text_of, status_of, prepend, and_then}
-use Rattle.congruity.specs.Putting.{StopsWith, Stopped, Performs, GoesOn}
+use Rattle.congruity.specs.Putting.{Stopped, Performs, GoesOn}
 
 Appends-none : (h : Option (List ℕ)) → Appends h h []
 Appends-none None = tt

@@ -1,5 +1,5 @@
 -- The lines of an input, one after the other.
-use Rattle.std.proofs.Common.{◌≡◌, ℕ, ◌+◌, List, [], ◌∷◌, length, Bool, true, false, refl, sym, Option}
+use Rattle.std.proofs.Common.{◌≡◌, ℕ, ◌+◌, List, [], ◌∷◌, length, true, false, refl, Option}
 use Rattle.std.proofs.lemmas.Bool.{true≢false, false≢true}
 use Rattle.cg_base.specs.Text.{is_nil}
 use Rattle.congruity.specs.declared.progress.Ending.{Ending}

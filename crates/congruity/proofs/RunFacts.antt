@@ -10,14 +10,13 @@ use Rattle.cg_world.specs.declared.event.Event.TheVariants.{Start, Merge, Gather
 use Rattle.cg_world.specs.Schedule.{place_after, reading_of}
 use Rattle.cg_world.specs.declared.handing.Moved.{Moved}
 use Rattle.cg_world.specs.World.{Step, Refusal, before_start, first_refusal, world_step, world_after}
-use Rattle.cg_world.specs.Agreement.{MayStand, IsRunFrom, ComesAfter, RefusedExactly, OnePrimary, QuietSettles}
+use Rattle.cg_world.specs.Agreement.{MayStand, IsRunFrom, RefusedExactly, OnePrimary, QuietSettles}
 use Rattle.cg_world.proofs.Primaries.{run-one_primary}
 use Rattle.cg_world.proofs.Settling.{run-quiet_settles}
 use Rattle.cg_world.proofs.Names.{start-begun, merge-names, deliver-names, gather-none, deliver-none}
 use Rattle.cg_world.proofs.Coming.{MayCome, read-may_come}
 use Rattle.cg_world.specs.declared.replica.Replica.{Replica}
 use Rattle.std.proofs.lemmas.List.{length-map}
-use Rattle.cg_base.specs.Sets.{IsSet}
 use Rattle.cg_base.specs.Weights.{ids}
 use Rattle.cg_group.specs.Ready.{ready}
 use Rattle.congruity.specs.declared.progress.Ending.{Ending}
@@ -27,7 +26,7 @@ use Rattle.congruity.specs.declared.status.Status.{Status}
 use Rattle.congruity.specs.declared.status.Status.TheVariants as status
 use Rattle.congruity.specs.declared.status.Limit.{Limit}
 use Rattle.congruity.specs.declared.status.Limit.TheVariants.{Steps}
-use Rattle.congruity.specs.Produced.{Finding, Produced, before_all, refusal_in, refusal_of, went_on, ended_with, refused_with, prepend, and_then, stepped, unless_refused, one_step}
+use Rattle.congruity.specs.Produced.{Finding, Produced, before_all, refusal_of, went_on, ended_with, refused_with, and_then, stepped, unless_refused, one_step}
 use Rattle.congruity.specs.Rounds.{deliver_ready, deliveries, one_pass, passes, happened}
 use Rattle.congruity.specs.Outcome.{read_outcome, limit_of, unless_passed, whole_line, at_end, cut_line, last_piece, replayed, outcome, is_replay}
 use Rattle.cg_base.specs.Text.{pieces_of}

@@ -1,5 +1,5 @@
 -- What a run comes to, as a function of its words, of the bytes taken and of how the taking ended.
-use Rattle.std.specs.Prelude.{ℕ, ◌+◌, ◌-◌, nat_lt, Bool, true, false, if◌then◌else◌, List, [], ◌∷◌, length, codes, Option, Some, None}
+use Rattle.std.specs.Prelude.{ℕ, ◌+◌, ◌-◌, nat_lt, Bool, false, if◌then◌else◌, List, [], ◌∷◌, length, codes, Option, Some, None}
 use Rattle.std.specs.Str.{bytes_eq}
 use Rattle.cg_base.specs.Text.{pieces_of}
 use Rattle.cg_world.specs.declared.event.Reading.{Reading}

@@ -1,5 +1,5 @@
 -- How what was taken stands to the bytes that the input had left, and what a run is.
-use Rattle.std.specs.Prelude.{◌≡◌, ◌<◌, ℕ, List, ◌++◌, length, Option, Some, None, Result, MatchResult, MatchOption}
+use Rattle.std.specs.Prelude.{◌≡◌, ◌<◌, ℕ, List, ◌++◌, length, Option, Result, MatchResult, MatchOption}
 use Rattle.std.specs.Io.KnownBytes.{Consumes, IsAtEnd}
 use Rattle.cg_base.specs.declared.no_memory.NoMemory.{NoMemory}
 use Rattle.cg_world.specs.World.{before_start}

@@ -86,7 +86,8 @@ fn what_stood_before_a_finding_stays_put(rt: HostRuntime) -> Result<(), Fail> {
         ("start 1\nend\n", "end 1\n"),
         ("start 1\nend\nend\n", "syntax 3 0\n"),
         ("start 1\nstart 1\n", "syntax 2 0\n"),
-        ("start 1\nmerge 1\n", "unsupported 2\n"),
+        ("start 1\nmerge 2\n", "unsupported 2\n"),
+        ("start 1\nsplit 1\n", "unsupported 2\n"),
         ("start 1\nweak 1 get \"x\n", "unsupported 2\n"),
         ("start 1\nStart\n", "syntax 2 0\n"),
     ];
@@ -160,5 +161,60 @@ fn each_limit_comes_one_byte_past_it(rt: HostRuntime) -> Result<(), Fail> {
         }
     );
     assert_eq!(rt; put.as_slice(), b"limit 1 line\n".as_slice());
+    Ok(())
+}
+
+const TEN_STEPS: &str = "= 1
+1 NonPrim - g0 w0 p0@0{1,2,3} a0 v- y- r[] o[] x{} b0
+2 NonPrim - g0 w0 p0@0{1,2,3} a0 v- y- r[] o[] x{} b0
+3 NonPrim - g0 w0 p0@0{1,2,3} a0 v- y- r[] o[] x{} b0
+= 2
+1 ExchangeStates c1 g0 w0 p0@0{1,2,3} a0 v- y- r[] o[] x{} b0
+2 ExchangeStates c1 g0 w0 p0@0{1,2,3} a0 v- y- r[] o[] x{} b0
+3 ExchangeStates c1 g0 w0 p0@0{1,2,3} a0 v- y- r[] o[] x{} b0
+= 4
+1 Construct c1 g0 w0 p0@0{1,2,3} a1 v1/0{1,2,3}{1} y- r[] o[] x{} b0
+= 5
+2 Construct c1 g0 w0 p0@0{1,2,3} a1 v1/0{1,2,3}{2} y- r[] o[] x{} b0
+= 6
+3 Construct c1 g0 w0 p0@0{1,2,3} a1 v1/0{1,2,3}{3} y- r[] o[] x{} b0
+= 8
+1 RegPrim c1 g0 w0 p1@1{1,2,3} a0 v1/0{1,2,3}{1} y- r[] o[] x{} b0
+= 9
+2 RegPrim c1 g0 w0 p1@1{1,2,3} a0 v1/0{1,2,3}{2} y- r[] o[] x{} b0
+= 10
+3 RegPrim c1 g0 w0 p1@1{1,2,3} a0 v1/0{1,2,3}{3} y- r[] o[] x{} b0
+";
+
+#[test]
+fn three_replicas_form_a_primary_component(rt: HostRuntime) -> Result<(), Fail> {
+    let input = b"start 1 2 3\nmerge 1 2 3\nrounds 2\nend\n";
+    let (status, put) = run_on(rt.alloc(), &["replay"], input, &[], &[])?;
+    assert_eq!(rt; status, Status::Done);
+    let text = format!(in rt.alloc(); "{TEN_STEPS}end 10\n")?;
+    assert_eq!(rt; put.as_slice(), text.as_bytes());
+    Ok(())
+}
+
+#[test]
+fn passes_make_their_steps(rt: HostRuntime) -> Result<(), Fail> {
+    let table = [
+        ("start 1 2\nrounds 3\nend\n", "end 4\n"),
+        ("start 1\nmerge 1\nrounds 2\nend\n", "end 6\n"),
+        ("start 1\nmerge 1\nrounds 3\nend\n", "end 7\n"),
+        ("start 1\nrounds 1\nmerge 1\nrounds 2\nend\n", "end 7\n"),
+        ("start 1\nmerge 1\nmerge 1\n", "unsupported 3\n"),
+        ("start 1\nrounds 0\n", "syntax 2 0\n"),
+        ("start 1\nrounds 1000001\n", "syntax 2 0\n"),
+        ("start 1\nrounds 1 1\n", "syntax 2 0\n"),
+        ("rounds 1\n", "syntax 1 0\n"),
+    ];
+    for (input, tail) in table {
+        let (_, put) = run_on(rt.alloc(), &["replay"], input.as_bytes(), &[], &[])?;
+        assert!(rt;
+            put.as_slice().ends_with(tail.as_bytes()),
+            "after {input:?}"
+        );
+    }
     Ok(())
 }

@@ -1,6 +1,6 @@
 use Rattle.std.proofs.Common.{◌≡◌, ◌+◌, length, None, sym, subst, ◌∙◌}
 use Rattle.cg_world.specs.declared.event.Reading.{Reading}
-use Rattle.congruity.specs.Outcome.{read_outcome, limit_of, whole_line}
+use Rattle.congruity.specs.Outcome.{read_outcome, limit_of}
 use Rattle.congruity.specs.Putting.{Performs}
 use Rattle.congruity.proofs.replay.perform_line.Goals as goal
 

@@ -1,4 +1,4 @@
-use Rattle.std.proofs.Common.{◌≡◌, ℕ, ◌+◌, ◌∷◌, length, true, false, sym, ◌∙◌, arith}
+use Rattle.std.proofs.Common.{◌≡◌, ◌+◌, length, true, false, sym, ◌∙◌, arith}
 use Rattle.cg_base.specs.Text.{pieces_of, is_nil}
 use Rattle.congruity.specs.Produced.{before_all, and_then}
 use Rattle.congruity.specs.Outcome.{whole_line, last_piece, replayed}
