@@ -1,0 +1,4 @@
+mod CommandSteps
+mod Fronts
+mod HexSteps
+mod Texts

@@ -1,0 +1,6 @@
+pub mod Fault
+pub mod Reading
+pub mod Part
+pub mod Command
+pub mod Line
+pub mod Print
