@@ -17,9 +17,15 @@ pub enum Event {
         query: Option<Query>,
     },
     /// A client asks the replica what its green actions answer.
-    Weak { p: ReplicaId, query: Query },
+    Weak {
+        p: ReplicaId,
+        query: Query,
+    },
     /// A client asks the replica what all its actions answer.
-    Dirty { p: ReplicaId, query: Query },
+    Dirty {
+        p: ReplicaId,
+        query: Query,
+    },
     /// The replica's next sent message gets the next place in its configuration.
     Order(ReplicaId),
     /// The replica comes back from its disk.
@@ -33,9 +39,15 @@ pub enum Event {
     /// The schedule ends.
     End,
     /// The replica receives the message at the place, from 1.
-    Receive { p: ReplicaId, place: u64 },
+    Receive {
+        p: ReplicaId,
+        place: u64,
+    },
     /// The replica's group layer hands it the next messages, so many.
-    Deliver { p: ReplicaId, count: u64 },
+    Deliver {
+        p: ReplicaId,
+        count: u64,
+    },
     /// Messages are ordered, received and delivered everywhere, so often.
     Rounds(u64),
     /// The replica crashes at its so manyth next disk call, or at once for 0; `fill` says what is left of what
@@ -46,7 +58,10 @@ pub enum Event {
         fill: Bytes,
     },
     /// The replica's so manyth next disk call fails.
-    Fail { p: ReplicaId, call: u64 },
+    Fail {
+        p: ReplicaId,
+        call: u64,
+    },
     /// The replica is asked to let the joiner in as a server with this weight.
     Join {
         p: ReplicaId,
@@ -54,7 +69,10 @@ pub enum Event {
         weight: u8,
     },
     /// The replica is asked to let the server leave.
-    Leave { p: ReplicaId, server: ReplicaId },
+    Leave {
+        p: ReplicaId,
+        server: ReplicaId,
+    },
     /// The replica hands the joiner its snapshot, at most so many pieces of it.
     Transfer {
         p: ReplicaId,

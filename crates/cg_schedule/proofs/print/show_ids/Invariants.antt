@@ -9,5 +9,5 @@ use Rattle.cg_schedule.proofs.print.show_ids.Given as goal
 abbrev pub invariant-loop-p : goal.invariant-loop-p
 invariant-loop-p l = record {
   whole : l.out.items ++ flat_map id_behind (members_left l.p-iterator) ≡ l.initial.out.items ++ flat_map id_behind (members_left l.initial.p-iterator);
-  front : KeepsFront l.initial.out.items l.out.items
+  front : KeepsFront l.initial.out.items l.out.items;
 }

@@ -9,5 +9,5 @@ use Rattle.cg_schedule.proofs.print.show_members.Given as goal
 abbrev pub invariant-loop-m : goal.invariant-loop-m
 invariant-loop-m l = record {
   whole : l.out.items ++ flat_map member_behind (weights_left l.m-iterator) ≡ l.initial.out.items ++ flat_map member_behind (weights_left l.initial.m-iterator);
-  front : KeepsFront l.initial.out.items l.out.items
+  front : KeepsFront l.initial.out.items l.out.items;
 }
