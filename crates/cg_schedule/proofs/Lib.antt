@@ -1,4 +1,11 @@
+mod CommandParts
 mod CommandSteps
+mod FillParts
 mod Fronts
 mod HexSteps
+mod MemberParts
+mod PartLaws
+mod SetParts
 mod Texts
+mod TokenParts
+mod UpdateParts

@@ -4,3 +4,4 @@ pub mod Part
 pub mod Command
 pub mod Line
 pub mod Print
+pub mod Limits
