@@ -1,5 +1,6 @@
 mod CommandParts
 mod CommandSteps
+mod EventParts
 mod FillParts
 mod Fronts
 mod HexSteps

@@ -51,6 +51,29 @@ abbrev pub is_start : Word → Bool
 is_start Start = true
 is_start _ = false
 
+-- the word of an event
+abbrev pub event_word : Event → Word
+event_word (event.Start set) = Start
+event_word (event.Split set) = Split
+event_word (event.Merge set) = Merge
+event_word (event.Request p cmds query) = Request
+event_word (event.Weak p query) = Weak
+event_word (event.Dirty p query) = Dirty
+event_word (event.Order p) = Order
+event_word (event.Recover p) = Recover
+event_word (event.Show p) = Show
+event_word event.ShowOrder = Show
+event_word event.Gather = Gather
+event_word event.End = End
+event_word (event.Receive p place) = Receive
+event_word (event.Deliver p count) = Deliver
+event_word (event.Rounds count) = Rounds
+event_word (event.Stop p call fill) = Stop
+event_word (event.Fail p call) = Fail
+event_word (event.Join p joiner weight) = Join
+event_word (event.Leave p server) = Leave
+event_word (event.Transfer p joiner pieces) = Transfer
+
 -- the first line's place: neither start nor end has stood
 abbrev pub first_place : Place
 first_place = record { started = false; ended = false }
