@@ -4,8 +4,11 @@ mod EventParts
 mod FillParts
 mod Fronts
 mod HexSteps
+mod LineLaws
+mod LineTokens
 mod MemberParts
 mod PartLaws
+mod QuotedUtf8
 mod SetParts
 mod Texts
 mod TokenParts

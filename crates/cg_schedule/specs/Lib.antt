@@ -5,3 +5,4 @@ pub mod Command
 pub mod Line
 pub mod Print
 pub mod Limits
+pub mod Laws

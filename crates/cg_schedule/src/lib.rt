@@ -9,6 +9,7 @@
 mod command;
 mod event;
 mod fault;
+mod laws;
 mod part;
 mod place;
 mod print;
@@ -17,6 +18,7 @@ mod word;
 
 pub use event::Event;
 pub use fault::LineFault;
+pub use laws::{lines_are_exact, printed_lines_are_read};
 pub use place::Place;
 pub use print::print_line;
 pub use reader::Reader;
