@@ -1,5 +1,5 @@
 -- Each event is read as its parts are spelled.
-use Rattle.std.proofs.Common.{◌≡◌, ℕ, ◌^◌, ◌<◌, Bool, true, false, cond, List, [], ◌∷◌, ◌++◌, Option, Result, Ok, Err, refl, ap, ◌∙◌, arith, codes}
+use Rattle.std.proofs.Common.{◌≡◌, ℕ, ◌^◌, ◌<◌, Bool, true, false, cond, List, [], ◌∷◌, ◌++◌, Result, Ok, Err, refl, ◌∙◌, arith, codes}
 use Rattle.std.specs.Prelude.{decimal, map}
 use Rattle.cg_base.specs.declared.weighted.Weighted.{Weighted}
 use Rattle.cg_base.specs.Sets.{IsSet}
@@ -17,7 +17,7 @@ use Rattle.cg_schedule.specs.Command.{Update, query_reading, update_reading}
 use Rattle.cg_schedule.specs.Line.{event_word, ids, weights, start_reading, split_reading, merge_reading, request_reading, weak_reading, dirty_reading, order_reading, recover_reading, shown, show_reading, receive_reading, deliver_reading, rounds_reading, stop_reading, fail_reading, join_reading, leave_reading, transfer_reading, event_reading}
 use Rattle.cg_schedule.specs.Print.{fill_text}
 use Rattle.cg_schedule.specs.Limits.{IsWithin, IsCount, IsMember, IsFill, IsQuery, IsUpdate, IsEvent}
-use Rattle.cg_schedule.proofs.PartLaws.{Anything, Nothing, IsPart, Makes, given, lifted-ok, ended-ok, part-token, made, bound, ends_with, whole-again, whole-found}
+use Rattle.cg_schedule.proofs.PartLaws.{Anything, Nothing, IsPart, Makes, given, lifted-ok, ended-ok, part-token, made, bound, whole-again, whole-found}
 use Rattle.cg_schedule.proofs.TokenParts.{TextFacts, same_text-true, number_token}
 use Rattle.cg_schedule.proofs.MemberParts.{weighted_token}
 use Rattle.cg_schedule.proofs.FillParts.{fill_token}

@@ -1,5 +1,5 @@
 -- A step of the loop over pairs of digits.
-use Rattle.std.proofs.Common.{◌≡◌, ℕ, List, [], ◌∷◌, ◌++◌, Option, Some, Result, sym, ap, ◌∙◌}
+use Rattle.std.proofs.Common.{◌≡◌, ℕ, List, [], ◌∷◌, ◌++◌, Some, Result, ap, ◌∙◌}
 use Rattle.cg_schedule.specs.declared.fault.LineFault.{LineFault}
 use Rattle.cg_schedule.specs.Part.{hex_digit, hex_byte, hex_bytes, if_byte}
 

@@ -1,7 +1,7 @@
 -- A line reads as an event exactly where its tokens are those of the event's printed line.
 use Rattle.std.proofs.Common.{◌≡◌, ℕ, ◌^◌, ◌<◌, ◌≤◌, Bool, true, false, cond, List, [], ◌∷◌, ◌++◌, Option, Some, None, Result, Ok, Err, refl, sym, ap, ◌∙◌, arith, codes}
-use Rattle.std.specs.Prelude.{decimal, map, find}
-use Rattle.std.specs.Str.{IsUtf8, is_utf8}
+use Rattle.std.specs.Prelude.{decimal, find}
+use Rattle.std.specs.Str.{is_utf8}
 use Rattle.std.proofs.lemmas.List.{append-nil}
 use Rattle.std.proofs.lemmas.Str.{is_utf8-from_IsUtf8}
 use Rattle.cg_base.specs.declared.weighted.Weighted.{Weighted}
@@ -13,9 +13,9 @@ use Rattle.cg_schedule.specs.declared.event.Event.TheVariants as event
 use Rattle.cg_schedule.specs.declared.word.Word.{Word}
 use Rattle.cg_schedule.specs.declared.word.Word.TheVariants.{Start, Split, Merge, Request, Weak, Dirty, Order, Recover, Show, Gather, End, Receive, Deliver, Rounds, Stop, Fail, Join, Leave, Transfer}
 use Rattle.cg_schedule.specs.declared.place.Place.{Place}
-use Rattle.cg_schedule.specs.Fault.{not_utf8, unknown_word, misplaced}
+use Rattle.cg_schedule.specs.Fault.{not_utf8, misplaced}
 use Rattle.cg_schedule.specs.Reading.{whole}
-use Rattle.cg_schedule.specs.Line.{word_text, every_word, word_of, event_word, fits, placed, opening_of, opening, event_reading, some_event, reading_behind, reading}
+use Rattle.cg_schedule.specs.Line.{word_text, every_word, word_of, event_word, fits, placed, opening_of, opening, event_reading, some_event, reading_behind}
 use Rattle.cg_schedule.specs.Print.{line_of, fill_text}
 use Rattle.cg_schedule.specs.Limits.{IsEvent}
 use Rattle.cg_schedule.specs.Laws.{MayStand, ReadsAs, Reads}

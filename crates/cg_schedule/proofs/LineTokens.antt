@@ -1,6 +1,6 @@
 -- The tokens of a printed line are those of its event.
-use Rattle.std.proofs.Common.{◌≡◌, ℕ, zero, suc, ◌+◌, ◌/◌, ◌%◌, ◌^◌, ◌<◌, ◌≤◌, Bool, true, false, cond, eqb, ltb, List, [], ◌∷◌, ◌++◌, length, Option, Some, None, refl, sym, ap, ap₂, subst, ◌∙◌, append_assoc, arith, codes}
-use Rattle.std.specs.Prelude.{ℤ, pos, negsuc, decimal, map, not, ◌&&◌, nat_le, FitsSigned}
+use Rattle.std.proofs.Common.{◌≡◌, ℕ, suc, ◌+◌, ◌/◌, ◌%◌, ◌^◌, ◌<◌, ◌≤◌, Bool, true, false, cond, eqb, ltb, List, [], ◌∷◌, ◌++◌, length, Option, Some, None, refl, sym, ap, ◌∙◌, append_assoc, arith, codes}
+use Rattle.std.specs.Prelude.{ℤ, pos, negsuc, decimal, map, not, nat_le, FitsSigned}
 use Rattle.std.specs.Fmt.{signed_decimal}
 use Rattle.std.specs.Int.{w64}
 use Rattle.std.specs.List.{flat_map, list_all}
@@ -25,7 +25,7 @@ use Rattle.cg_action.specs.declared.query.Query.{Query}
 use Rattle.cg_action.specs.declared.query.Query.TheVariants.{Get, Keys, Count}
 use Rattle.cg_action.specs.Print.{value_text, want_text, command_text, query_text, next_text, commands_text, update_text}
 use Rattle.cg_schedule.specs.Print.{hex_glyph, hex_text, fill_text}
-use Rattle.cg_schedule.specs.Limits.{IsWithin, IsPrintable, IsValue, IsWant, IsCommand, AreCommands, IsQuery, IsUpdate, IsMember, AreBytes, IsFill}
+use Rattle.cg_schedule.specs.Limits.{IsValue, IsWant, IsCommand, AreCommands, IsQuery, IsUpdate, AreBytes}
 use Rattle.cg_schedule.proofs.TokenParts.{TextFacts}
 use Rattle.cg_schedule.proofs.MemberParts.{list_all-also, decimal-digits}
 use Rattle.cg_schedule.proofs.CommandParts.{command_tokens, query_tokens}
@@ -240,7 +240,7 @@ line_parts facts {X} Has text one a ta (x ∷ xs) each l =
     let next = line_gap facts a (text x) ta (text x ∷ []) l (one x each.0) in
     let more = line_parts facts Has text one ((a ++ codes " ") ++ text x) (ta ++ text x ∷ []) xs each.1 next in
     let grouped : a ++ ((codes " " ++ text x) ++ flat_map (λ (y : X). codes " " ++ text y) xs) ≡ ((a ++ codes " ") ++ text x) ++ flat_map (λ (y : X). codes " " ++ text y) xs =
-        sym (append_assoc a (codes " " ++ text x) (flat_map (λ (y : X). codes " " ++ text y) xs)) ∙ ap (λ (t : List ℕ). t ++ flat_map (λ (y : X). codes " " ++ text y) xs) (sym (append_assoc a (codes " ") (text x))) in
+    sym (append_assoc a (codes " " ++ text x) (flat_map (λ (y : X). codes " " ++ text y) xs)) ∙ ap (λ (t : List ℕ). t ++ flat_map (λ (y : X). codes " " ++ text y) xs) (sym (append_assoc a (codes " ") (text x))) in
     rw (grouped, ← append_assoc ta (text x ∷ []) (map text xs)) more
 
 pub ids_each : (low : ℕ) (set : List ℕ) → Ascends low set → Each (λ (p : ℕ). p ≤ 32) set

@@ -1,19 +1,18 @@
 -- Identifiers with weights are read as they are spelled.
-use Rattle.std.proofs.Common.{◌≡◌, ℕ, ◌^◌, ◌<◌, ◌≤◌, Bool, true, false, cond, eqb, List, [], ◌∷◌, ◌++◌, length, Option, Some, None, Result, Ok, Err, refl, sym, ap, ◌∙◌, arith}
-use Rattle.std.specs.Prelude.{decimal, ◌&&◌, not, nat_lt}
-use Rattle.std.specs.List.{list_all, slice_split, onto_first, join_with_byte}
+use Rattle.std.proofs.Common.{◌≡◌, ℕ, ◌^◌, ◌<◌, Bool, true, false, cond, eqb, List, [], ◌∷◌, ◌++◌, length, Some, None, Result, Ok, Err, refl, sym, ap, ◌∙◌, arith}
+use Rattle.std.specs.Prelude.{decimal, not}
+use Rattle.std.specs.List.{list_all, slice_split, join_with_byte}
 use Rattle.std.proofs.lemmas.Bool.{eqb-true, eqb-false, ne_eqb, leb-true, and_parts, and_from, not-true}
 use Rattle.std.proofs.lemmas.List.{append-nil, nil_from_length}
 use Rattle.std.proofs.lemmas.List.Splits.{join_with_byte-slice_split}
 use Rattle.cg_base.specs.declared.weighted.Weighted.{Weighted}
 use Rattle.cg_base.specs.Text.{weighted_text, pieces_of}
-use Rattle.cg_text.specs.declared.fault.TextFault.{TextFault}
 use Rattle.cg_text.specs.declared.fault.TextFault.TheVariants.{NotANumber, TooLarge}
 use Rattle.cg_text.specs.Fault.{fitting}
-use Rattle.cg_text.specs.Numbers.{is_digit, value_of_digits, is_plain, plain_number, fits_u64, read_u64}
+use Rattle.cg_text.specs.Numbers.{is_digit, value_of_digits, is_plain, fits_u64, read_u64}
 use Rattle.cg_schedule.specs.declared.fault.LineFault.{LineFault}
 use Rattle.cg_schedule.specs.Fault.{bad_number}
-use Rattle.cg_schedule.specs.Part.{number, weight_of, with_weight, weighted_of, weighted}
+use Rattle.cg_schedule.specs.Part.{number, with_weight, weighted_of, weighted}
 use Rattle.cg_schedule.specs.Limits.{IsWithin, IsMember}
 use Rattle.cg_schedule.proofs.PartLaws.{IsToken}
 use Rattle.cg_schedule.proofs.TokenParts.{TextFacts, number_token}
@@ -98,8 +97,12 @@ weighted_token facts = record { again = λ m has. again m has (eqb m.weight 1) r
       let id = identifiers.again m.id has.0 in
       let not_one = eqb-false m.weight 1 more in
       let weight = weights.again m.weight (omega (arith, has.1.0, not_one), has.1.1) in
-      rw (slice_split-cut (λ byte. eqb byte 42) (decimal m.id) 42 (decimal m.weight) (no_star m.id (omega (arith, has.0.1))) refl,
-          slice_split-alone (λ byte. eqb byte 42) (decimal m.weight) (no_star m.weight (omega (arith, has.1.1))), id, weight) refl
+      rw (
+        slice_split-cut (λ byte. eqb byte 42) (decimal m.id) 42 (decimal m.weight) (no_star m.id (omega (arith, has.0.1))) refl,
+        slice_split-alone (λ byte. eqb byte 42) (decimal m.weight) (no_star m.weight (omega (arith, has.1.1))),
+        id,
+        weight,
+      ) refl
 
   found : (m : Weighted) (token : List ℕ) (pieces : List (List ℕ)) → pieces_of 42 token ≡ pieces → weighted_of pieces ≡ Ok m → IsMember m × (token ≡ weighted_text m.id m.weight)
   found m token [] split e = absurd cc

@@ -1,9 +1,8 @@
 -- How the spelling of a line's parts and their reading belong together.
-use Rattle.std.proofs.Common.{◌≡◌, ℕ, Bool, true, false, cond, List, [], ◌∷◌, ◌++◌, Result, Ok, Err, refl, sym, ap, subst, ◌∙◌, append_assoc}
+use Rattle.std.proofs.Common.{◌≡◌, ℕ, List, [], ◌∷◌, ◌++◌, Result, Ok, Err, refl, sym, ap, ◌∙◌, append_assoc}
 use Rattle.std.proofs.lemmas.List.{append-nil}
 use Rattle.cg_schedule.specs.declared.fault.LineFault.{LineFault}
-use Rattle.cg_schedule.specs.Fault.{missing_part}
-use Rattle.cg_schedule.specs.Reading.{Reading, go_on, ◌>>=◌, done, token_part, lifted, part, at_end, ended, whole}
+use Rattle.cg_schedule.specs.Reading.{Reading, go_on, ◌>>=◌, done, lifted, part, at_end, ended, whole}
 
 -- what a reading gives
 abbrev pub Given : Type 0 → Type 0

@@ -1,5 +1,5 @@
 -- Sets are read as they are spelled.
-use Rattle.std.proofs.Common.{◌≡◌, ℕ, suc, ◌<◌, ◌≤◌, ◌^◌, Bool, true, false, cond, ltb, List, [], ◌∷◌, ◌++◌, Result, Ok, Err, refl, sym, ap, ◌∙◌, append_assoc, arith}
+use Rattle.std.proofs.Common.{◌≡◌, ℕ, suc, ◌<◌, ◌≤◌, Bool, true, false, cond, ltb, List, [], ◌∷◌, ◌++◌, Result, Ok, Err, refl, sym, ap, ◌∙◌, append_assoc, arith}
 use Rattle.std.specs.Prelude.{decimal, map}
 use Rattle.std.proofs.lemmas.List.{append-nil}
 use Rattle.std.proofs.lemmas.Bool.{ne_eqb, le-ltb, lt-ltb, ltb-true}
@@ -11,8 +11,8 @@ use Rattle.cg_schedule.specs.declared.fault.LineFault.{LineFault}
 use Rattle.cg_schedule.specs.Fault.{bad_list}
 use Rattle.cg_schedule.specs.Part.{number, weighted}
 use Rattle.cg_schedule.specs.Line.{ids_behind, ids, weights_behind, weights}
-use Rattle.cg_schedule.specs.Limits.{IsWithin, IsMember}
-use Rattle.cg_schedule.proofs.PartLaws.{Nothing, Given, Found, IsToken, IsPart, gives, given}
+use Rattle.cg_schedule.specs.Limits.{IsWithin}
+use Rattle.cg_schedule.proofs.PartLaws.{Nothing, Given, IsToken, IsPart, given}
 use Rattle.cg_schedule.proofs.TokenParts.{TextFacts, number_token}
 use Rattle.cg_schedule.proofs.MemberParts.{weighted_token}
 

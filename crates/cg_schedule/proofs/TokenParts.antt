@@ -1,30 +1,24 @@
 -- Each part that is one token is read as it is spelled.
-use Rattle.std.proofs.Common.{◌≡◌, ℕ, suc, ◌+◌, ◌*◌, ◌/◌, ◌%◌, ◌^◌, ◌<◌, ◌≤◌, Bool, true, false, cond, eqb, ltb, leb, List, [], ◌∷◌, ◌++◌, length, Option, Some, None, Result, Ok, Err, refl, sym, ap, subst, ◌∙◌, arith, codes, length-append}
-use Rattle.std.specs.Prelude.{ℤ, pos, negsuc, ◌≤ℤ◌, nat_le, decimal, FitsSigned, ◌&&◌, not}
+use Rattle.std.proofs.Common.{◌≡◌, ℕ, ◌^◌, ◌<◌, ◌≤◌, Bool, true, false, cond, List, [], ◌∷◌, length, Option, Some, None, Result, Ok, Err, refl, ap, arith, codes}
+use Rattle.std.specs.Prelude.{ℤ, pos, negsuc, ◌≤ℤ◌, nat_le, decimal, FitsSigned, ◌&&◌}
 use Rattle.std.specs.Fmt.{signed_decimal}
 use Rattle.std.specs.Int.{w64}
 use Rattle.std.specs.Str.{IsUtf8}
-use Rattle.std.specs.List.{list_all, flat_map, slice_split, join_with_byte}
-use Rattle.std.proofs.lemmas.Bool.{eqb-true, eqb-false, ne_eqb, leb-true, le-leb, lt-leb, lt-ltb, le-ltb, ltb-true, ltb-false, and_parts, and_from, and_right, not-true}
+use Rattle.std.proofs.lemmas.Bool.{ne_eqb, leb-true, le-leb, and_parts}
 use Rattle.std.proofs.lemmas.Int.{ints}
-use Rattle.std.proofs.lemmas.List.{append-nil, nil_from_length}
-use Rattle.std.proofs.lemmas.List.Splits.{join_with_byte-slice_split}
 use Rattle.std.proofs.lemmas.Slice.Eq.{bytes_eq-Decides}
-use Rattle.cg_base.specs.declared.weighted.Weighted.{Weighted}
-use Rattle.cg_base.specs.Text.{weighted_text, pieces_of}
 use Rattle.cg_text.specs.declared.fault.TextFault.{TextFault}
-use Rattle.cg_text.specs.declared.fault.TextFault.TheVariants.{NotANumber, TooLarge}
-use Rattle.cg_text.specs.Fault.{IsSpelling, fitting}
+use Rattle.cg_text.specs.Fault.{IsSpelling}
 use Rattle.cg_text.specs.Order.{same_text}
-use Rattle.cg_text.specs.Numbers.{is_digit, value_of_digits, is_plain, plain_number, fits_u64, read_u64, read_i64}
+use Rattle.cg_text.specs.Numbers.{read_u64, read_i64}
 use Rattle.cg_text.specs.Quoted.{quoted, is_printable, read_quoted}
 use Rattle.cg_action.specs.declared.value.Value.{Value}
 use Rattle.cg_action.specs.declared.value.Value.TheVariants.{Text, Int}
 use Rattle.cg_action.specs.Print.{value_text, want_text}
 use Rattle.cg_schedule.specs.declared.fault.LineFault.{LineFault}
 use Rattle.cg_schedule.specs.Fault.{bad_number, bad_text}
-use Rattle.cg_schedule.specs.Part.{in_range, number, signed, integer, not_negative, amount, weight_of, with_weight, weighted_of, weighted, long_enough, text, is_quoted, text_value, number_value, value, some_value, want}
-use Rattle.cg_schedule.specs.Limits.{IsWithin, IsPrintable, IsValue, IsWant, IsMember}
+use Rattle.cg_schedule.specs.Part.{in_range, number, signed, integer, not_negative, amount, long_enough, text, is_quoted, text_value, number_value, value, some_value, want}
+use Rattle.cg_schedule.specs.Limits.{IsWithin, IsPrintable, IsValue, IsWant}
 use Rattle.cg_schedule.proofs.PartLaws.{IsToken}
 
 -- what is known of the spelling of numbers and texts

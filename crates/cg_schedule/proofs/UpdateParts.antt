@@ -1,18 +1,17 @@
 -- What a request asks is read as it is spelled.
-use Rattle.std.proofs.Common.{◌≡◌, ℕ, zero, suc, ◌<◌, ◌≤◌, Bool, true, false, cond, List, [], ◌∷◌, ◌++◌, length, Option, Some, None, Ok, Err, refl, sym, ap, ◌∙◌, append_assoc, arith, codes}
+use Rattle.std.proofs.Common.{◌≡◌, ℕ, zero, suc, ◌<◌, Bool, true, false, cond, List, [], ◌∷◌, ◌++◌, length, Option, Some, None, Ok, Err, refl, ap, ◌∙◌, append_assoc, arith, codes}
 use Rattle.std.proofs.lemmas.List.{append-nil}
 use Rattle.std.specs.List.{flat_map}
 use Rattle.std.proofs.lemmas.Bool.{ne_eqb}
 use Rattle.cg_action.specs.Limits.{does_something}
-use Rattle.cg_text.specs.Order.{same_text}
 use Rattle.cg_action.specs.declared.command.Cmd.{Cmd}
 use Rattle.cg_action.specs.declared.command.Cmd.TheVariants.{Put, Del, Inc, Cas, Move, Need}
 use Rattle.cg_action.specs.declared.query.Query.{Query}
 use Rattle.cg_schedule.specs.Fault.{extra_part}
-use Rattle.cg_schedule.specs.Reading.{Reading, go_on, ◌>>=◌, done, token_part}
-use Rattle.cg_schedule.specs.Command.{Update, command_of, query_reading, with_query, is_semicolon, is_question_mark, behind_commands, commands, update_of, update_reading}
+use Rattle.cg_schedule.specs.Reading.{Reading, go_on, ◌>>=◌, token_part}
+use Rattle.cg_schedule.specs.Command.{Update, query_reading, with_query, is_semicolon, is_question_mark, behind_commands, commands, update_of, update_reading}
 use Rattle.cg_schedule.specs.Limits.{IsCommand, AreCommands, IsQuery, IsAsked, IsUpdate}
-use Rattle.cg_schedule.proofs.PartLaws.{Anything, Nothing, Given, Found, IsPart, Makes, gives, given, go_on-ok, made}
+use Rattle.cg_schedule.proofs.PartLaws.{Anything, Nothing, IsPart, Makes, gives, given, go_on-ok, made}
 use Rattle.cg_schedule.proofs.TokenParts.{TextFacts, same_text-true}
 use Rattle.cg_schedule.proofs.CommandParts.{command_tokens, command_reading, command_is, query_tokens, query_is}
 

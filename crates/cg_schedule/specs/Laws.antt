@@ -1,5 +1,5 @@
 -- Which lines read as an event.
-use Rattle.std.specs.Prelude.{◌≡◌, ℕ, true, false, List, Option, Some, Ok}
+use Rattle.std.specs.Prelude.{◌≡◌, ℕ, true, false, List, Some, Ok}
 use Rattle.std.specs.Str.{is_utf8}
 use Rattle.cg_text.specs.Tokens.{tokens, is_passed_over}
 use Rattle.cg_schedule.specs.declared.event.Event.{Event}

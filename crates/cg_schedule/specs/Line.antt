@@ -1,5 +1,5 @@
 -- The line of a schedule: which event it reads as, or why it is refused.
-use Rattle.std.specs.Prelude.{ℕ, ◌==◌, nat_lt, Bool, true, false, not, ◌&&◌, ◌||◌, List, [], ◌∷◌, Option, Some, None, Result, Ok, Err, codes, find, if◌then◌else◌}
+use Rattle.std.specs.Prelude.{ℕ, nat_lt, Bool, true, false, not, ◌&&◌, List, [], ◌∷◌, Option, Some, None, Result, Ok, Err, codes, find, if◌then◌else◌}
 use Rattle.std.specs.Str.{is_utf8}
 use Rattle.cg_base.specs.declared.weighted.Weighted.{Weighted}
 use Rattle.cg_base.specs.Sets.{with_member}
@@ -13,7 +13,7 @@ use Rattle.cg_schedule.specs.declared.word.Word.{Word}
 use Rattle.cg_schedule.specs.declared.word.Word.TheVariants.{Start, Split, Merge, Request, Weak, Dirty, Order, Recover, Show, Gather, End, Receive, Deliver, Rounds, Stop, Fail, Join, Leave, Transfer}
 use Rattle.cg_schedule.specs.declared.place.Place.{Place}
 use Rattle.cg_schedule.specs.Fault.{not_utf8, unknown_word, bad_list, misplaced}
-use Rattle.cg_schedule.specs.Reading.{Reading, go_on, ◌>>=◌, done, lifted, token_part, whole}
+use Rattle.cg_schedule.specs.Reading.{Reading, ◌>>=◌, done, lifted, token_part, whole}
 use Rattle.cg_schedule.specs.Part.{number, weighted, number_part, id_part, count_part, weighted_part, fill_part}
 use Rattle.cg_schedule.specs.Command.{query_reading, update_reading}
 

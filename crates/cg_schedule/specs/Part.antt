@@ -1,5 +1,5 @@
 -- What one token of a line may be.
-use Rattle.std.specs.Prelude.{ℕ, ◌+◌, ◌-◌, ◌*◌, ◌==◌, nat_lt, nat_le, Bool, true, false, ◌&&◌, ◌||◌, List, [], ◌∷◌, ◌++◌, Option, Some, None, Result, Ok, Err, ℤ, pos, negsuc, codes, length, if◌then◌else◌}
+use Rattle.std.specs.Prelude.{ℕ, ◌+◌, ◌-◌, ◌*◌, ◌==◌, nat_lt, nat_le, Bool, false, ◌&&◌, ◌||◌, List, [], ◌∷◌, ◌++◌, Option, Some, None, Result, Ok, Err, ℤ, pos, negsuc, codes, length, if◌then◌else◌}
 use Rattle.cg_base.specs.declared.weighted.Weighted.{Weighted}
 use Rattle.cg_base.specs.Text.{pieces_of}
 use Rattle.cg_text.specs.declared.fault.TextFault.{TextFault}
@@ -9,7 +9,7 @@ use Rattle.cg_text.specs.Quoted.{read_quoted}
 use Rattle.cg_action.specs.declared.value.Value.{Value}
 use Rattle.cg_action.specs.declared.value.Value.TheVariants.{Text, Int}
 use Rattle.cg_schedule.specs.declared.fault.LineFault.{LineFault}
-use Rattle.cg_schedule.specs.Fault.{missing_part, bad_number, bad_text}
+use Rattle.cg_schedule.specs.Fault.{bad_number, bad_text}
 use Rattle.cg_schedule.specs.Reading.{Reading, part}
 
 -- a number that was read, where it is in its range
