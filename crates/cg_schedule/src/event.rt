@@ -6,27 +6,21 @@ use cg_base::{Bytes, IdSet, ReplicaId, WeightSet};
 pub enum Event {
     /// These replicas begin, each alone, as the servers of one database.
     Start(WeightSet),
-    /// These replicas, which are of one configuration, go on by themselves in its transitional phase.
+    /// These replicas, all regular in one configuration, come into its transitional phase together.
     Split(IdSet),
-    /// These replicas begin a new configuration together.
+    /// A new configuration of these replicas is made.
     Merge(IdSet),
-    /// A client asks the replica to run at most 16 commands, and then the query.
+    /// A client asks the replica to run at most 16 commands, and then to answer the query.
     Request {
         p: ReplicaId,
         cmds: CmdList,
         query: Option<Query>,
     },
-    /// A client asks the replica what its green actions answer.
-    Weak {
-        p: ReplicaId,
-        query: Query,
-    },
-    /// A client asks the replica what all its actions answer.
-    Dirty {
-        p: ReplicaId,
-        query: Query,
-    },
-    /// The replica's next sent message gets the next place in its configuration.
+    /// A client asks the replica for the answer of its green actions.
+    Weak { p: ReplicaId, query: Query },
+    /// A client asks the replica for the answer of all actions that it knows.
+    Dirty { p: ReplicaId, query: Query },
+    /// The oldest unordered message of the replica gets the next place in its configuration.
     Order(ReplicaId),
     /// The replica comes back from its disk.
     Recover(ReplicaId),
@@ -34,46 +28,34 @@ pub enum Event {
     Show(ReplicaId),
     /// The global order is shown.
     ShowOrder,
-    /// Every replica receives all messages, as far as it can.
+    /// Each regular replica orders all that it sent, and then each receives all that it lacks.
     Gather,
     /// The schedule ends.
     End,
-    /// The replica receives the message at the place, from 1.
-    Receive {
-        p: ReplicaId,
-        place: u64,
-    },
-    /// The replica's group layer hands it the next messages, so many.
-    Deliver {
-        p: ReplicaId,
-        count: u64,
-    },
-    /// Messages are ordered, received and delivered everywhere, so often.
+    /// The replica receives the message at the place, counted from 1.
+    Receive { p: ReplicaId, place: u64 },
+    /// The replica is handed so many of the next messages.
+    Deliver { p: ReplicaId, count: u64 },
+    /// So many passes: a gather, and then each replica is handed what is ready for it.
     Rounds(u64),
-    /// The replica crashes at its so manyth next disk call, or at once for 0; `fill` says what is left of what
-    /// was not synced.
+    /// The replica crashes in the device call of this number, counted from the next one as 1, or at once for 0.
+    /// `fill` decides what is left of bytes that were not synced.
     Stop {
         p: ReplicaId,
         call: u64,
         fill: Bytes,
     },
-    /// The replica's so manyth next disk call fails.
-    Fail {
-        p: ReplicaId,
-        call: u64,
-    },
-    /// The replica is asked to let the joiner in as a server with this weight.
+    /// The device call of this number, counted from the next one as 1, fails once.
+    Fail { p: ReplicaId, call: u64 },
+    /// The replica creates the join of a new server with this weight.
     Join {
         p: ReplicaId,
         joiner: ReplicaId,
         weight: u8,
     },
-    /// The replica is asked to let the server leave.
-    Leave {
-        p: ReplicaId,
-        server: ReplicaId,
-    },
-    /// The replica hands the joiner its snapshot, at most so many pieces of it.
+    /// The replica creates the leave of a server.
+    Leave { p: ReplicaId, server: ReplicaId },
+    /// The joiner is handed so many of the next pieces of the replica's snapshot.
     Transfer {
         p: ReplicaId,
         joiner: ReplicaId,
