@@ -1,0 +1,15 @@
+mod CommandParts
+mod CommandSteps
+mod EventParts
+mod FillParts
+mod Fronts
+mod HexSteps
+mod LineLaws
+mod LineTokens
+mod MemberParts
+mod PartLaws
+mod QuotedUtf8
+mod SetParts
+mod Texts
+mod TokenParts
+mod UpdateParts

@@ -1,0 +1,28 @@
+//! The schedule: events, and the lines that spell them.
+//!
+//! `specs/Line.antt` defines how a line reads: a function of its tokens and of whether `start` and `end` have stood,
+//! which gives an event, nothing for a line that is passed over, or one of nine reasons. `Reader` answers exactly that.
+//! `print_line` writes the one printed form of an event. `laws` says that reading and printing belong together. What
+//! events do, and which of them are admitted, is left to the layers above.
+#![tactic(auto)]
+
+mod command;
+mod event;
+mod fault;
+mod laws;
+mod part;
+mod place;
+mod print;
+mod reader;
+mod word;
+
+pub use event::Event;
+pub use fault::LineFault;
+pub use laws::{lines_are_exact, printed_lines_are_read};
+pub use place::Place;
+pub use print::print_line;
+pub use reader::Reader;
+pub use word::Word;
+
+#[cfg(test)]
+mod tests;
