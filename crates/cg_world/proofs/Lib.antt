@@ -1,4 +1,3 @@
-pub mod Coming
 pub mod Formed
 pub mod Handed
 pub mod Lists

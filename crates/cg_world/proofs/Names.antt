@@ -12,7 +12,7 @@ use Rattle.cg_group.specs.State.{Configuration, Standing, GroupState, standing_o
 use Rattle.cg_group.specs.Events.{Outcome, send_from, send, send_all, order_from, order, order_all, receive, receive_all, regulars, gather, with_delivered, deliver, merge}
 use Rattle.cg_group.proofs.Each.{Each-all}
 use Rattle.cg_group.proofs.Lookups.{configurations-set_standing}
-use Rattle.cg_world.specs.declared.event.Event.TheVariants.{Start, Merge, Deliver}
+use Rattle.cg_schedule.specs.declared.event.Event.TheVariants.{Start, Merge, Deliver}
 use Rattle.cg_world.specs.declared.replica.Replica.{Replica}
 use Rattle.cg_world.specs.declared.world.World.{World}
 use Rattle.cg_world.specs.Replica.{turn_of}
@@ -75,7 +75,7 @@ set-none : (g : GroupState M) (c : ℕ) (C : Configuration M) → g.configuratio
 unfolding set_configuration
 set-none g c C e = ap (λ cs. changed_at (λ old. C) cs c) e
 
-order-none : (g : GroupState M) (p : ℕ) → g.configurations ≡ [] → (order g p).configurations ≡ []
+pub order-none : (g : GroupState M) (p : ℕ) → g.configurations ≡ [] → (order g p).configurations ≡ []
 unfolding order order_from
 order-none g p e = by_standing (standing_of g p) where
   by_messages : (s : Standing M) (ms : List M) → (order_from g s ms).configurations ≡ []
@@ -88,7 +88,7 @@ order-none g p e = by_standing (standing_of g p) where
   by_standing None = e
   by_standing (Some s) = by_messages s s.unordered
 
-receive-none : (g : GroupState M) (p place : ℕ) → g.configurations ≡ [] → (receive g p place).configurations ≡ []
+pub receive-none : (g : GroupState M) (p place : ℕ) → g.configurations ≡ [] → (receive g p place).configurations ≡ []
 unfolding receive
 receive-none g p place e =
     set-none g (regular_in (phase_of g p)) (Rattle.cg_group.specs.Events.with_receipt (configuration g (regular_in (phase_of g p))) p place) e

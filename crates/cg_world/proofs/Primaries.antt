@@ -16,8 +16,8 @@ use Rattle.cg_group.specs.State.{Configuration, Sent}
 use Rattle.cg_group.specs.Events.{Outcome, delivery_at, deliver, merge}
 use Rattle.cg_group.proofs.Each.{Each, Each-append, Each-all}
 use Rattle.cg_group.proofs.Tests.{refuse_none}
-use Rattle.cg_world.specs.declared.event.Event.{Event}
-use Rattle.cg_world.specs.declared.event.Event.TheVariants.{Start, Merge, Gather, Deliver, Rounds, End}
+use Rattle.cg_schedule.specs.declared.event.Event.{Event}
+use Rattle.cg_schedule.specs.declared.event.Event.TheVariants.{Start, Merge, Order, Gather, Receive, Deliver, Rounds, End}
 use Rattle.cg_world.specs.declared.line.Line.{Line}
 use Rattle.cg_world.specs.declared.line.UpLine.{UpLine}
 use Rattle.cg_world.specs.declared.line.Primary.{Primary}
@@ -132,8 +132,7 @@ step-Kept S w (Deliver p count) may k some =
           (Each-all (λ (place : ℕ). Unit {0}) (λ place. tt) places),
       tt,
     )) k some
-step-Kept S w (Rounds n) may k some = (k, tt, some)
-step-Kept S w End may k some = (k, tt, some)
+step-Kept S w other may k some = (k, tt, some)
 
 lines_of : List Step → List Line
 lines_of steps = flat_map (λ s. s.entry.lines) steps
@@ -217,10 +216,7 @@ first-shown s steps (Start set) e run =
     let kept = subst (Kept set) (sym moved) (begun-Kept set admitted) in
     (set, Each-append (IsShown set) s.entry.lines (lines_of steps) kept.1 (run-shown set s.world 1 steps run.4 kept.0 kept.2))
 first-shown s steps (Merge set) e run = let may = rw e at run.1 in absurd (omega (arith, may.0))
-first-shown s steps Gather e run = let may = rw e at run.1 in absurd (omega (arith, may))
-first-shown s steps (Deliver p count) e run = let may = rw e at run.1 in absurd (omega (arith, may))
-first-shown s steps (Rounds n) e run = let may = rw e at run.1 in absurd (omega (arith, may))
-first-shown s steps End e run = let may = rw e at run.1 in absurd (omega (arith, may))
+first-shown s steps other e run = let may = rw e at run.1 in absurd (omega (arith, may))
 
 pub run-one_primary : (steps : List Step) → IsRunFrom before_start 0 steps → OnePrimary steps
 run-one_primary [] run a b (k, lt, is) y same = absurd (omega (arith, lt))

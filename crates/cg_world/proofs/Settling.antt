@@ -21,15 +21,15 @@ use Rattle.cg_group.specs.declared.reason.Reason.TheVariants.{NotRegular, NotRea
 use Rattle.cg_group.specs.State.{Configuration, Standing, GroupState, Sent, no_group, standing_of, configuration, no_configuration, phase_of, delivered_to, unordered_of, regular_in, home, is_regular, is_up}
 use Rattle.cg_group.specs.Ready.{ready_in, ready, all_received}
 use Rattle.cg_group.specs.Events.{come_up, send_all, order, order_all, receive, receive_all, regulars, gather, with_delivered, deliveries_at, deliver, become_regular, merge}
-use Rattle.cg_group.specs.Refusals.{not_up, not_regular, not_ready, deliver_refusal}
+use Rattle.cg_group.specs.Refusals.{not_up, not_regular, nothing_to_order, no_such_place, already_received, earlier_missing, not_ready, order_refusal, receive_refusal, deliver_refusal, refuse}
 use Rattle.cg_group.specs.Synchrony.{ordered_from}
 use Rattle.cg_group.specs.History.{NamesOnce}
 use Rattle.cg_group.proofs.Each.{Each, Each-all}
 use Rattle.cg_group.proofs.Lookups.{put-other, put-same, phase_of-set, unordered_of-set, configurations-set_standing}
 use Rattle.cg_group.proofs.Places.{ready_in-within}
 use Rattle.cg_group.proofs.Tests.{first_none, refuse_none}
-use Rattle.cg_world.specs.declared.event.Event.{Event}
-use Rattle.cg_world.specs.declared.event.Event.TheVariants.{Start, Merge, Gather, Deliver, Rounds, End}
+use Rattle.cg_schedule.specs.declared.event.Event.{Event}
+use Rattle.cg_schedule.specs.declared.event.Event.TheVariants.{Start, Merge, Order, Gather, Receive, Deliver, Rounds, End}
 use Rattle.cg_world.specs.declared.message.Message.TheVariants.{State as StateMessage, Complete}
 use Rattle.cg_world.specs.declared.state.State.{State}
 use Rattle.cg_world.specs.declared.state.State.TheVariants.{NonPrim, ExchangeStates, Construct, RegPrim}
@@ -136,6 +136,27 @@ admitted-deliver w p count e =
 
     within : (a b : ℕ) → Rattle.std.specs.Prelude.nat_lt a b ≡ false → b ≤ a
     within a b e = let not_less = ltb-false a b e in omega (arith, not_less)
+
+not_not : (b : Bool) → not b ≡ false → b ≡ true
+not_not true n = refl
+not_not false n = absurd cc
+
+admitted-order : (w : World) (p : ℕ) → first_refusal w (Order p) ≡ None → is_regular w.group p ≡ true
+unfolding first_refusal order_refusal
+admitted-order w p e =
+    let group = first_none (order_refusal w.group p) [] (first_none (unknown w p) (order_refusal w.group p ∷ []) e).1 in
+    let up = first_none (not_up w.group p) (not_regular w.group p ∷ nothing_to_order w.group p ∷ []) group.0 in
+    let regular = first_none (not_regular w.group p) (nothing_to_order w.group p ∷ []) up.1 in
+    not_not (is_regular w.group p) (refuse_none (not (is_regular w.group p)) (NotRegular p) regular.0)
+
+admitted-receive : (w : World) (p place : ℕ) → first_refusal w (Receive p place) ≡ None → is_regular w.group p ≡ true
+unfolding first_refusal receive_refusal
+admitted-receive w p place e =
+    let rest = no_such_place w.group p place ∷ already_received w.group p place ∷ earlier_missing w.group p place ∷ [] in
+    let group = first_none (receive_refusal w.group p place) [] (first_none (unknown w p) (receive_refusal w.group p place ∷ []) e).1 in
+    let up = first_none (not_up w.group p) (not_regular w.group p ∷ rest) group.0 in
+    let regular = first_none (not_regular w.group p) rest up.1 in
+    not_not (is_regular w.group p) (refuse_none (not (is_regular w.group p)) (NotRegular p) regular.0)
 
 is_regular-in : (g : GroupState M) (p : ℕ) → is_regular g p ≡ true → regular_in (phase_of g p) ≡ 0 → ⊥
 is_regular-in g p r z = let clash : false ≡ true = sym (ap not (eq-eqb (regular_in (phase_of g p)) 0 z)) ∙ r in cc
@@ -453,8 +474,9 @@ apart-step S w (Start set) may ok a = absurd (let none : length w.replicas ≡ 0
 apart-step S w (Merge set) may ok a = inr (merge-kept S set w may a)
 apart-step S w Gather may ok a = inl (subst (λ g. Apart S (record w { group = g })) (sym (gather-alone w.group a.alone)) a)
 apart-step S w (Deliver p count) may ok a = absurd (is_regular-in w.group p (admitted-deliver w p count ok).1 (a.alone p).0)
-apart-step S w (Rounds n) may ok a = inl a
-apart-step S w End may ok a = inl a
+apart-step S w (Order p) may ok a = absurd (is_regular-in w.group p (admitted-order w p ok) (a.alone p).0)
+apart-step S w (Receive p place) may ok a = absurd (is_regular-in w.group p (admitted-receive w p place ok) (a.alone p).0)
+apart-step S w other may ok a = inl a
 
 together-step : (S : List ℕ) (w : World) (e : Event) → MayStand w e → first_refusal w e ≡ None → Together S w → Together S (world_step w e).world
 unfolding world_step
@@ -465,8 +487,11 @@ together-step S w (Merge set) may ok t =
 together-step S w Gather may ok t =
     let kept = gather-kept S (replica_of w) w.group (t.one, t.formed) in record { one = kept.0; formed = kept.1 }
 together-step S w (Deliver p count) may ok t = deliver-kept S w p count ok t
-together-step S w (Rounds n) may ok t = t
-together-step S w End may ok t = t
+together-step S w (Order p) may ok t =
+    let kept = order-kept S (replica_of w) w.group p (t.one, t.formed) in record { one = kept.0; formed = kept.1 }
+together-step S w (Receive p place) may ok t =
+    let kept = receive-kept S (replica_of w) w.group p place (t.one, t.formed) in record { one = kept.0; formed = kept.1 }
+together-step S w other may ok t = t
 
 -- ---- quiet
 
@@ -567,10 +592,7 @@ first-stands s steps (Start set) e run =
     let first : Stands (ids set) s.world = subst (Stands (ids set)) (sym (ap (λ (m : Moved). m.world) moved)) (inl a) in
     (ids set, (first, stands-run (ids set) s.world 1 steps run.4 first))
 first-stands s steps (Merge set) e run = let may = rw e at run.1 in absurd (omega (arith, may.0))
-first-stands s steps Gather e run = let may = rw e at run.1 in absurd (omega (arith, may))
-first-stands s steps (Deliver p count) e run = let may = rw e at run.1 in absurd (omega (arith, may))
-first-stands s steps (Rounds n) e run = let may = rw e at run.1 in absurd (omega (arith, may))
-first-stands s steps End e run = let may = rw e at run.1 in absurd (omega (arith, may))
+first-stands s steps other e run = let may = rw e at run.1 in absurd (omega (arith, may))
 
 pub run-quiet_settles : (steps : List Step) → IsRunFrom before_start 0 steps → QuietSettles steps
 run-quiet_settles [] run s conf (k, lt, is) pos le quiet = absurd (omega (arith, lt))

@@ -2,8 +2,8 @@
 use Rattle.std.specs.Prelude.{◌≡◌, ℕ, suc, ◌<◌, ◌≤◌, List, [], ◌∷◌, ◌++◌, Option, Some, None, Contains, IsTrue, length, map}
 use Rattle.cg_base.specs.Sets.{IsSet}
 use Rattle.cg_base.specs.Weights.{ids}
-use Rattle.cg_world.specs.declared.event.Event.{Event}
-use Rattle.cg_world.specs.declared.event.Event.TheVariants.{Start, Merge}
+use Rattle.cg_schedule.specs.declared.event.Event.{Event}
+use Rattle.cg_schedule.specs.declared.event.Event.TheVariants.{Start, Merge}
 use Rattle.cg_world.specs.declared.line.UpLine.{UpLine}
 use Rattle.cg_world.specs.declared.world.World.{World}
 use Rattle.cg_world.specs.World.{Step, Refusal, before_start, first_refusal, world_step, world_after}

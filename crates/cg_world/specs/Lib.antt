@@ -4,6 +4,5 @@ pub mod LineText
 pub mod Message
 pub mod Replica
 pub mod Quiet
-pub mod Schedule
 pub mod Shown
 pub mod World

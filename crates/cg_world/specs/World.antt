@@ -9,10 +9,10 @@ use Rattle.cg_group.specs.declared.delivery.Handed.{Handed}
 use Rattle.cg_group.specs.declared.reason.Reason.{Reason}
 use Rattle.cg_group.specs.declared.reason.Reason.TheVariants.{EmptySet, UnknownReplica}
 use Rattle.cg_group.specs.State.{GroupState, no_group, is_up}
-use Rattle.cg_group.specs.Events.{Outcome, come_up, send_all, gather, deliver, merge}
-use Rattle.cg_group.specs.Refusals.{refuse, deliver_refusal, merge_refusal}
-use Rattle.cg_world.specs.declared.event.Event.{Event}
-use Rattle.cg_world.specs.declared.event.Event.TheVariants.{Start, Merge, Gather, Deliver, Rounds, End}
+use Rattle.cg_group.specs.Events.{Outcome, come_up, send_all, order, receive, gather, deliver, merge}
+use Rattle.cg_group.specs.Refusals.{refuse, order_refusal, receive_refusal, deliver_refusal, merge_refusal}
+use Rattle.cg_schedule.specs.declared.event.Event.{Event}
+use Rattle.cg_schedule.specs.declared.event.Event.TheVariants.{Start, Merge, Order, Gather, Receive, Deliver}
 use Rattle.cg_world.specs.declared.entry.Entry.{Entry}
 use Rattle.cg_world.specs.declared.line.Line.{Line}
 use Rattle.cg_world.specs.declared.replica.Replica.{Replica}
@@ -41,6 +41,8 @@ unknown w p = refuse (not (is_some (replica_of w p))) (UnknownReplica p)
 unfoldable pub first_refusal : World → Event → Option Reason
 first_refusal w (Start set) = refuse (length set == 0) EmptySet
 first_refusal w (Merge set) = merge_refusal w.group set []
+first_refusal w (Order p) = first_some (unknown w p ∷ order_refusal w.group p ∷ [])
+first_refusal w (Receive p place) = first_some (unknown w p ∷ receive_refusal w.group p place ∷ [])
 first_refusal w (Deliver p count) = first_some (unknown w p ∷ deliver_refusal w.group p count ∷ [])
 first_refusal w other = None
 
@@ -87,14 +89,15 @@ hand m h = option_map_or (λ r. after_turn m r (turn_of r h.list)) (replica_of m
 abbrev pub hand_out : World → Outcome (List ℕ) → Moved
 hand_out w o = fold hand (silently (record w { group = o.group })) o.handed
 
--- the step of an admitted event; rounds are steps of their own
+-- the step of an admitted event; rounds are steps of their own, and an event that isn't built yet does nothing
 unfoldable pub world_step : World → Event → Moved
 world_step w (Start set) = begun set w
 world_step w (Merge set) = hand_out w (merge w.group set)
 world_step w Gather = silently (record w { group = gather w.group })
 world_step w (Deliver p count) = hand_out w (deliver w.group p count)
-world_step w (Rounds n) = silently w
-world_step w End = silently w
+world_step w (Order p) = silently (record w { group = order w.group p })
+world_step w (Receive p place) = silently (record w { group = receive w.group p place })
+world_step w other = silently w
 
 -- what comes of an event: its step, or exactly the reason by which it isn't admitted
 abbrev pub Steps : World → Event → Stepped → Type 0

@@ -2,14 +2,15 @@ ghost use Rattle.std.specs.Prelude.{◌≡◌, map, fold, is_some, IfOk, OnOk};
 ghost use Rattle.cg_base.specs.Weights.{ids};
 ghost use Rattle.cg_group.specs.Ready.{ready};
 ghost use Rattle.cg_group.specs.Events.{come_up};
-ghost use Rattle.cg_world.specs.declared.event.Event.TheVariants.{Start, Merge, Gather, Deliver};
+ghost use Rattle.cg_schedule.specs.declared.event.Event.TheVariants.{Start, Merge, Order, Gather, Receive, Deliver};
 ghost use Rattle.cg_world.specs.Replica.{fresh, line_of};
 ghost use Rattle.cg_world.specs.World.{before_start, brought_up, begun, world_step, Steps};
 
 use crate::handing::{Moved, find, hand, hand_out};
-use crate::{Entry, Event, Line, Replica};
+use crate::{Entry, Line, Replica};
 use cg_base::{IdSet, NoMemory, ReplicaId, Row, WeightSet};
 use cg_group::{Group, GroupErr, Handed, Reason};
+use cg_schedule::Event;
 use std::alloc::Global;
 
 /// The group, and the replicas that have begun, ascending.
@@ -46,7 +47,8 @@ impl World {
         self.group.ready(p)
     }
 
-    /// The step of an event in this world. Rounds are steps of their own: as an event they do nothing.
+    /// The step of an event in this world. Rounds are steps of their own: as an event they do nothing, and so does an
+    /// event that isn't built yet.
     #[tactic(auto, unfolding(crate::specs::World::world_step, crate::specs::World::first_refusal))]
     pub fn step(self, alloc: Global, event: &Event) -> Stepped
         ensures { Steps self event.now result }
@@ -54,9 +56,11 @@ impl World {
         match event {
             Event::Start(set) => start(alloc, self, set),
             Event::Merge(set) => merge(alloc, self, *set),
+            Event::Order(p) => order(alloc, self, *p),
             Event::Gather => gather(alloc, self),
-            Event::Deliver { to, count } => deliver(alloc, self, *to, *count),
-            Event::Rounds(_) | Event::End => Stepped::Done {
+            Event::Receive { p, place } => receive(alloc, self, *p, *place),
+            Event::Deliver { p, count } => deliver(alloc, self, *p, *count),
+            _ => Stepped::Done {
                 world: self,
                 entry: silent(alloc),
             },
@@ -196,6 +200,58 @@ fn deliver(alloc: Global, world: World, to: ReplicaId, count: u64) -> Stepped
                 Err(NoMemory) => Stepped::NoMemory,
             }
         }
+        Err(GroupErr::Refused(reason)) => Stepped::Refused {
+            world: World { group, replicas },
+            reason,
+        },
+        Err(GroupErr::NoMemory) => Stepped::NoMemory,
+    }
+}
+
+// a replica's oldest message is ordered
+#[tactic(auto, unfolding(crate::specs::World::world_step, crate::specs::World::first_refusal))]
+fn order(alloc: Global, world: World, p: ReplicaId) -> Stepped
+    ensures { Steps world (Order p) result }
+{
+    if find(world.replicas.as_slice(), p).is_none() {
+        return Stepped::Refused {
+            world,
+            reason: Reason::UnknownReplica(p),
+        };
+    }
+    let World { group, replicas } = world;
+    let mut group = group;
+    match group.order(p) {
+        Ok(_place) => Stepped::Done {
+            world: World { group, replicas },
+            entry: silent(alloc),
+        },
+        Err(GroupErr::Refused(reason)) => Stepped::Refused {
+            world: World { group, replicas },
+            reason,
+        },
+        Err(GroupErr::NoMemory) => Stepped::NoMemory,
+    }
+}
+
+// a replica receives the message at a place
+#[tactic(auto, unfolding(crate::specs::World::world_step, crate::specs::World::first_refusal))]
+fn receive(alloc: Global, world: World, p: ReplicaId, place: u64) -> Stepped
+    ensures { Steps world (Receive p place) result }
+{
+    if find(world.replicas.as_slice(), p).is_none() {
+        return Stepped::Refused {
+            world,
+            reason: Reason::UnknownReplica(p),
+        };
+    }
+    let World { group, replicas } = world;
+    let mut group = group;
+    match group.receive(p, place) {
+        Ok(()) => Stepped::Done {
+            world: World { group, replicas },
+            entry: silent(alloc),
+        },
         Err(GroupErr::Refused(reason)) => Stepped::Refused {
             world: World { group, replicas },
             reason,

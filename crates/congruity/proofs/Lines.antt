@@ -1,11 +1,17 @@
 -- The lines of an input, one after the other.
-use Rattle.std.proofs.Common.{◌≡◌, ℕ, ◌+◌, List, [], ◌∷◌, length, true, false, refl, Option}
+use Rattle.std.proofs.Common.{◌≡◌, ℕ, ◌+◌, List, [], ◌∷◌, length, true, false, refl, Option, Result}
 use Rattle.std.proofs.lemmas.Bool.{true≢false, false≢true}
 use Rattle.cg_base.specs.Text.{is_nil}
 use Rattle.congruity.specs.declared.progress.Ending.{Ending}
 use Rattle.congruity.specs.declared.progress.Progress.{Progress}
-use Rattle.congruity.specs.Produced.{Produced, and_then}
-use Rattle.congruity.specs.Outcome.{whole_line, last_piece, replayed}
+use Rattle.cg_schedule.specs.declared.event.Event.{Event}
+use Rattle.cg_schedule.specs.declared.fault.LineFault.{LineFault}
+use Rattle.cg_schedule.specs.declared.word.Word.{Word}
+use Rattle.cg_schedule.specs.Reading.{whole}
+use Rattle.cg_schedule.specs.Line.{opening, event_reading}
+use Rattle.congruity.specs.declared.status.Status.TheVariants as status
+use Rattle.congruity.specs.Produced.{Produced, is_supported, ended_with, and_then}
+use Rattle.congruity.specs.Outcome.{is_built, supported_outcome, event_outcome, word_outcome, opened_outcome, line_outcome, whole_line, last_piece, replayed}
 use Rattle.congruity.specs.Putting.{GoesOn}
 
 replayed-last : (n at : ℕ) (line : List ℕ) (rest : List (List ℕ)) (how : Ending) (s : Progress) → is_nil rest ≡ true
@@ -28,3 +34,24 @@ pub GoesOn-line : (whole : Produced) (h h1 : Option (List ℕ)) (n at : ℕ) (pi
     → GoesOn whole h h1 (replayed n at pieces how s) → pieces ≡ line ∷ rest → is_nil rest ≡ false
     → GoesOn whole h h1 (and_then (whole_line n at line s) (replayed (n + 1) (at + length line + 1) rest how))
 GoesOn-line whole h h1 n at pieces line rest how s g is more = rw (is, replayed-more n at line rest how s more) at g
+
+-- an event that isn't built
+pub supported-no : (n : ℕ) (event : Event) (s : Progress) → is_supported s.stage event ≡ false → supported_outcome n event s ≡ ended_with (status.Unsupported n) n s
+unfolding supported_outcome
+supported-no n event s e = rw e refl
+
+-- a word that isn't built, and what one comes to that is
+pub word-unbuilt : (n : ℕ) (word : Word) (tokens : List (List ℕ)) (s : Progress) → is_built word ≡ false → word_outcome n word tokens s ≡ ended_with (status.Unsupported n) n s
+unfolding word_outcome
+word-unbuilt n word tokens s e = rw e refl
+
+pub word-read : (n : ℕ) (word : Word) (tokens : List (List ℕ)) (s : Progress) (r : Result Event LineFault) → is_built word ≡ true → whole (event_reading word) tokens ≡ r
+    → word_outcome n word tokens s ≡ event_outcome n r s
+unfolding word_outcome
+word-read n word tokens s r e is = rw (e, is) refl
+
+-- a line that begins so
+pub line-opened : (n : ℕ) (line : List ℕ) (s : Progress) (r : Result (Option (Word × List (List ℕ))) LineFault) → opening s.reader line ≡ r
+    → line_outcome n line s ≡ opened_outcome n r s
+unfolding line_outcome
+line-opened n line s r is = rw is refl

@@ -1,9 +1,8 @@
 -- What the event of a line comes to: one step, or the passes that it asks for; the end is no step.
 use Rattle.std.specs.Prelude.{ℕ, zero, suc, ◌==◌, List, [], ◌∷◌, if◌then◌else◌}
 use Rattle.cg_group.specs.Ready.{ready}
-use Rattle.cg_world.specs.declared.event.Event.{Event}
-use Rattle.cg_world.specs.declared.event.Event.TheVariants.{Start, Merge, Gather, Deliver, Rounds, End}
-use Rattle.cg_world.specs.Schedule.{place_after}
+use Rattle.cg_schedule.specs.declared.event.Event.{Event}
+use Rattle.cg_schedule.specs.declared.event.Event.TheVariants.{Gather, Deliver, Rounds, End}
 use Rattle.congruity.specs.declared.progress.Progress.{Progress}
 use Rattle.congruity.specs.Produced.{Produced, went_on, and_then, one_step}
 
@@ -18,7 +17,7 @@ deliveries n (p ∷ set) s = and_then (deliver_ready n p s) (deliveries n set)
 
 -- all messages are gathered, and then each replica is handed what is ready
 abbrev pub one_pass : ℕ → Progress → Produced
-one_pass n s = and_then (one_step n Gather s) (deliveries n s.place.begun)
+one_pass n s = and_then (one_step n Gather s) (deliveries n s.stage.begun)
 
 -- so many passes
 abbrev pub passes : ℕ → ℕ → Progress → Produced
@@ -26,10 +25,7 @@ passes n zero s = went_on s
 passes n (suc count) s = and_then (one_pass n s) (passes n count)
 
 -- the event of line n happens
-abbrev pub happened : ℕ → Event → Progress → Produced
-happened n End s = went_on (record s { place = place_after s.place End })
+unfoldable pub happened : ℕ → Event → Progress → Produced
+happened n End s = went_on s
 happened n (Rounds count) s = passes n count s
-happened n (Start set) s = one_step n (Start set) s
-happened n (Merge set) s = one_step n (Merge set) s
-happened n Gather s = one_step n Gather s
-happened n (Deliver p count) s = one_step n (Deliver p count) s
+happened n other s = one_step n other s

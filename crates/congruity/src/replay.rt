@@ -1,7 +1,7 @@
 ghost use Rattle.std.specs.Prelude.{◌≡◌, ◌<◌, ◌^◌, ◌+◌, ◌≤◌, length, IfOk};
 ghost use Rattle.cg_base.specs.Text.{pieces_of};
 ghost use Rattle.congruity.specs.Produced.{before_all};
-ghost use Rattle.congruity.specs.Outcome.{read_outcome, limit_of, whole_line, at_end, cut_line, last_piece, replayed};
+ghost use Rattle.congruity.specs.Outcome.{unreadable, is_built, supported_outcome, word_outcome, line_outcome, without_return, limit_of, whole_line, at_end, cut_line, last_piece, replayed};
 ghost use Rattle.congruity.specs.Putting.{Stopped, Performs};
 
 use crate::progress::{Ending, Progress};
@@ -10,30 +10,148 @@ use crate::rounds::perform;
 use crate::status::{Limit, Status};
 use cg_base::Pieces;
 use cg_io::Sink;
-use cg_world::{Reading, read_line};
+use cg_schedule::{Event, LineFault, Word};
+use cg_text::Words;
 use std::alloc::Global;
 
-fn perform_reading<K: Sink>(
+// A line can't be read.
+fn refuse_line<K: Sink>(
     alloc: Global,
     output: &mut K,
     line: u64,
-    reading: &Reading,
+    fault: LineFault,
+    count: u64,
+) -> Status
+    requires { K.faults output.old < 2 ^ 62 }
+    ensures { (s : Progress) → s.count ≡ count → Stopped (unreadable line fault s)
+        (K.held output.old) (K.held output.new) (K.faults output.old) (K.faults output.new) result }
+{
+    match fault {
+        LineFault::Syntax(reason) => {
+            let status = Status::Syntax { line, reason };
+            finish(alloc, output, status, count, line)
+        }
+        LineFault::NoMemory => Status::NoMemory,
+    }
+}
+
+// The word is that of an event which is built.
+fn is_built(word: Word) -> bool
+    ensures { result ≡ is_built word }
+{
+    match word {
+        Word::Start | Word::Merge | Word::Order | Word::Gather => true,
+        Word::Receive | Word::Deliver | Word::Rounds | Word::End => true,
+        _ => false,
+    }
+}
+
+// The event of a line happens, where it is built.
+#[tactic(auto, unfolding(crate::specs::Outcome::supported_outcome))]
+fn perform_supported<K: Sink>(
+    alloc: Global,
+    output: &mut K,
+    line: u64,
+    event: &Event,
     progress: Progress,
 ) -> Result<Progress, Status>
     requires { K.faults output.old < 2 ^ 62 }
-    ensures { Performs (read_outcome line reading.now progress)
+    ensures { Performs (supported_outcome line event.now progress)
         (K.held output.old) (K.held output.new) (K.faults output.old) (K.faults output.new) result }
 {
-    match reading {
-        Reading::Event(event) => perform(alloc, output, line, event, progress),
-        Reading::Malformed => {
-            let status = Status::Syntax { line, reason: 0 };
-            Err(finish(alloc, output, status, progress.count, line))
+    if !progress.stage.supports(event) {
+        let status = Status::Unsupported { line };
+        return Err(finish(alloc, output, status, progress.count, line));
+    }
+    perform(alloc, output, line, event, progress)
+}
+
+// The event of a line, which the reader has read.
+fn perform_read<K: Sink>(
+    alloc: Global,
+    output: &mut K,
+    line: u64,
+    event: Event,
+    progress: Progress,
+) -> Result<Progress, Status>
+    requires { K.faults output.old < 2 ^ 62 }
+    ensures { Performs (supported_outcome line event progress)
+        (K.held output.old) (K.held output.new) (K.faults output.old) (K.faults output.new) result }
+{
+    perform_supported(alloc, output, line, &event, progress)
+}
+
+// A line that begins with the word, before these tokens.
+#[tactic(auto, unfolding(crate::specs::Outcome::word_outcome))]
+fn perform_word<K: Sink>(
+    alloc: Global,
+    output: &mut K,
+    line: u64,
+    word: Word,
+    words: Words,
+    progress: Progress,
+) -> Result<Progress, Status>
+    requires { K.faults output.old < 2 ^ 62 }
+    ensures { Performs (word_outcome line word words.entry progress)
+        (K.held output.old) (K.held output.new) (K.faults output.old) (K.faults output.new) result }
+{
+    if !is_built(word) {
+        let status = Status::Unsupported { line };
+        return Err(finish(alloc, output, status, progress.count, line));
+    }
+    let Progress {
+        world,
+        reader,
+        stage,
+        count,
+    } = progress;
+    let mut reader = reader;
+    match reader.finish_line(alloc, word, words) {
+        Ok(event) => {
+            let progress = Progress {
+                world,
+                reader,
+                stage,
+                count,
+            };
+            perform_read(alloc, output, line, event, progress)
         }
-        Reading::Unsupported => {
-            let status = Status::Unsupported { line };
-            Err(finish(alloc, output, status, progress.count, line))
+        Err(LineFault::Syntax(reason)) => {
+            let status = Status::Syntax { line, reason };
+            Err(finish(alloc, output, status, count, line))
         }
+        Err(LineFault::NoMemory) => Err(Status::NoMemory),
+    }
+}
+
+// A line, without its end.
+#[tactic(auto, unfolding(crate::specs::Outcome::line_outcome))]
+fn perform_text<K: Sink>(
+    alloc: Global,
+    output: &mut K,
+    number: u64,
+    line: &[u8],
+    progress: Progress,
+) -> Result<Progress, Status>
+    requires { K.faults output.old < 2 ^ 62 }
+    ensures { Performs (line_outcome number line.now progress)
+        (K.held output.old) (K.held output.new) (K.faults output.old) (K.faults output.new) result }
+{
+    match progress.reader.begin_line(line) {
+        Ok(None) => Ok(progress),
+        Ok(Some((word, words))) => perform_word(alloc, output, number, word, words, progress),
+        Err(fault) => Err(refuse_line(alloc, output, number, fault, progress.count)),
+    }
+}
+
+// A line without the carriage return before its line feed.
+fn without_return(line: &[u8]) -> &[u8]
+    ensures { result.now ≡ without_return line.now }
+{
+    if line.ends_with(b"\r") {
+        &line[..line.len() - 1]
+    } else {
+        line
     }
 }
 
@@ -72,31 +190,26 @@ fn perform_line<K: Sink>(
             let status = Status::Limit { line: number, what };
             Err(finish(alloc, output, status, progress.count, number))
         }
-        None => {
-            let reading = read_line(&progress.place, line);
-            perform_reading(alloc, output, number, &reading, progress)
-        }
+        None => perform_text(alloc, output, number, without_return(line), progress),
     }
 }
 
-// Nothing stands behind the last line's end.
+// Nothing stands behind so many lines.
 fn close_at_end<K: Sink>(
     alloc: Global,
     output: &mut K,
-    number: u64,
+    lines: u64,
     ending: Ending,
     progress: &Progress,
 ) -> Status
-    requires few_faults { K.faults output.old < 2 ^ 62 }
-    requires counted { 1 ≤ number }
-    ensures { Stopped (at_end number ending progress.now)
+    requires { K.faults output.old < 2 ^ 62 }
+    ensures { Stopped (at_end lines ending progress.now)
         (K.held output.old) (K.held output.new) (K.faults output.old) (K.faults output.new) result }
 {
-    let lines = number - 1;
     let count = progress.count;
     match ending {
         Ending::Ended => {
-            if progress.place.ended {
+            if progress.reader.place().ended {
                 finish(alloc, output, Status::Done, count, lines)
             } else {
                 finish(alloc, output, Status::NoEnd { lines }, count, lines)
@@ -107,29 +220,26 @@ fn close_at_end<K: Sink>(
     }
 }
 
-// A line without its end.
+// A last line without its end.
 fn close_in_line<K: Sink>(
     alloc: Global,
     output: &mut K,
     number: u64,
+    line: &[u8],
     ending: Ending,
-    progress: &Progress,
+    progress: Progress,
 ) -> Status
     requires few_faults { K.faults output.old < 2 ^ 62 }
     requires counted { 1 ≤ number }
-    ensures { Stopped (cut_line number ending progress.now)
+    ensures { Stopped (cut_line number line.now ending progress)
         (K.held output.old) (K.held output.new) (K.faults output.old) (K.faults output.new) result }
 {
-    let count = progress.count;
     match ending {
-        Ending::Ended => {
-            let status = Status::Syntax {
-                line: number,
-                reason: 0,
-            };
-            finish(alloc, output, status, count, number)
-        }
-        Ending::Failed => finish(alloc, output, Status::ReadFault, count, number - 1),
+        Ending::Ended => match perform_text(alloc, output, number, line, progress) {
+            Ok(next) => close_at_end(alloc, output, number, Ending::Ended, &next),
+            Err(status) => status,
+        },
+        Ending::Failed => finish(alloc, output, Status::ReadFault, progress.count, number - 1),
         Ending::Open => Status::NoMemory,
     }
 }
@@ -142,23 +252,23 @@ fn close<K: Sink>(
     at: usize,
     rest: &[u8],
     ending: Ending,
-    progress: &Progress,
+    progress: Progress,
 ) -> Status
     requires few_faults { K.faults output.old < 2 ^ 62 }
     requires within { at ≤ 8388608 }
     requires counted { 1 ≤ number }
-    ensures { Stopped (last_piece number at rest.now ending progress.now)
+    ensures { Stopped (last_piece number at rest.now ending progress)
         (K.held output.old) (K.held output.new) (K.faults output.old) (K.faults output.new) result }
 {
     if rest.is_empty() {
-        return close_at_end(alloc, output, number, ending, progress);
+        return close_at_end(alloc, output, number - 1, ending, &progress);
     }
     match passed_limit(number, rest.len(), at + rest.len()) {
         Some(what) => {
             let status = Status::Limit { line: number, what };
             finish(alloc, output, status, progress.count, number)
         }
-        None => close_in_line(alloc, output, number, ending, progress),
+        None => close_in_line(alloc, output, number, rest, ending, progress),
     }
 }
 
@@ -174,7 +284,7 @@ pub fn replay<K: Sink>(alloc: Global, output: &mut K, bytes: &[u8], ending: Endi
     let mut at = 0usize;
     while let Some(line) = pieces.next() {
         if pieces.is_empty() {
-            return close(alloc, output, number, at, line, ending, &progress);
+            return close(alloc, output, number, at, line, ending, progress);
         }
         match perform_line(alloc, output, number, at, line, progress) {
             Ok(next) => progress = next,

@@ -1,4 +1,6 @@
 ghost use Rattle.std.specs.Prelude.{◌≡◌, ◌<◌, ◌^◌};
+ghost use Rattle.cg_schedule.specs.declared.event.Event.TheVariants.{Gather};
+ghost use Rattle.congruity.specs.Produced.{one_step};
 ghost use Rattle.congruity.specs.Rounds.{deliver_ready, deliveries, one_pass, passes, happened};
 ghost use Rattle.congruity.specs.Putting.{Performs};
 
@@ -7,7 +9,7 @@ use crate::status::Status;
 use crate::steps::take_step;
 use cg_base::{IdSet, ReplicaId};
 use cg_io::Sink;
-use cg_world::Event;
+use cg_schedule::Event;
 use std::alloc::Global;
 
 // What is ready at a replica is handed to it.
@@ -26,7 +28,7 @@ fn deliver_ready<K: Sink>(
     if count == 0 {
         return Ok(progress);
     }
-    let event = Event::Deliver { to, count };
+    let event = Event::Deliver { p: to, count };
     take_step(alloc, output, line, &event, progress)
 }
 
@@ -54,9 +56,24 @@ fn deliver_to_each<K: Sink>(
 
 // The replicas that have begun.
 fn begun_in(progress: &Progress) -> IdSet
-    ensures { result ≡ progress.now.place.begun }
+    ensures { result ≡ progress.now.stage.begun }
 {
-    progress.place.begun
+    progress.stage.begun
+}
+
+// All messages are gathered.
+fn gather<K: Sink>(
+    alloc: Global,
+    output: &mut K,
+    line: u64,
+    progress: Progress,
+) -> Result<Progress, Status>
+    requires { K.faults output.old < 2 ^ 62 }
+    ensures { Performs (one_step line Gather progress)
+        (K.held output.old) (K.held output.new) (K.faults output.old) (K.faults output.new) result }
+{
+    let event = Event::Gather;
+    take_step(alloc, output, line, &event, progress)
 }
 
 // All messages are gathered, and then each replica is handed what is ready.
@@ -71,8 +88,7 @@ fn make_pass<K: Sink>(
         (K.held output.old) (K.held output.new) (K.faults output.old) (K.faults output.new) result }
 {
     let begun = begun_in(&progress);
-    let event = Event::Gather;
-    match take_step(alloc, output, line, &event, progress) {
+    match gather(alloc, output, line, progress) {
         Ok(next) => deliver_to_each(alloc, output, line, &begun, next),
         Err(status) => Err(status),
     }
@@ -101,6 +117,7 @@ fn make_passes<K: Sink>(
 }
 
 /// The event of a line happens.
+#[tactic(auto, unfolding(crate::specs::Rounds::happened))]
 pub fn perform<K: Sink>(
     alloc: Global,
     output: &mut K,
@@ -113,15 +130,8 @@ pub fn perform<K: Sink>(
         (K.held output.old) (K.held output.new) (K.faults output.old) (K.faults output.new) result }
 {
     match event {
-        Event::End => Ok(Progress {
-            world: progress.world,
-            place: progress.place.after(event),
-            count: progress.count,
-        }),
+        Event::End => Ok(progress),
         Event::Rounds(count) => make_passes(alloc, output, line, *count, progress),
-        Event::Start(_) => take_step(alloc, output, line, event, progress),
-        Event::Merge(_) => take_step(alloc, output, line, event, progress),
-        Event::Gather => take_step(alloc, output, line, event, progress),
-        Event::Deliver { .. } => take_step(alloc, output, line, event, progress),
+        _ => take_step(alloc, output, line, event, progress),
     }
 }

@@ -8,6 +8,7 @@ use crate::replay::replay;
 use crate::status::Status;
 use crate::taking::take_all;
 use cg_io::{Sink, Source};
+use cg_schedule::lines_are_exact;
 use std::alloc::Global;
 
 fn is_replay_command(words: &[ArgText]) -> bool
@@ -31,6 +32,7 @@ pub fn run<S: Source, K: Sink>(
     ensures { RunsAs words.now (S.left input.old) (S.left input.new) (S.faults input.old) (S.faults input.new)
         (K.held output.old) (K.held output.new) (K.faults output.old) (K.faults output.new) result }
 {
+    lines_are_exact();
     if !is_replay_command(words) {
         return finish(alloc, output, Status::Usage, 0, 0);
     }

@@ -3,14 +3,15 @@ ghost use Rattle.cg_world.specs.declared.handing.Moved.{Moved};
 ghost use Rattle.congruity.specs.Produced.{stepped, one_step};
 ghost use Rattle.congruity.specs.Putting.{Performs};
 
-use crate::progress::Progress;
+use crate::progress::{Progress, Stage};
 use crate::putting::{finish, put_step};
 use crate::status::{Limit, Status};
 use cg_io::Sink;
-use cg_world::{Entry, Event, Place, Stepped, World};
+use cg_schedule::{Event, Reader};
+use cg_world::{Entry, Stepped, World};
 use std::alloc::Global;
 
-// The step of an event that was admitted, from the place and the count before it to this world.
+// The step of an event that was admitted, from how far the run had come before it to this world.
 fn count_step<K: Sink>(
     alloc: Global,
     output: &mut K,
@@ -18,11 +19,12 @@ fn count_step<K: Sink>(
     event: &Event,
     world: World,
     entry: Entry,
-    place: Place,
+    reader: Reader,
+    stage: Stage,
     count: u64,
 ) -> Result<Progress, Status>
     requires { K.faults output.old < 2 ^ 62 }
-    ensures { (s : Progress) → s.place ≡ place → s.count ≡ count → Performs (stepped line event.now (record { entry = entry; world = world }) s)
+    ensures { (s : Progress) → s.reader ≡ reader → s.stage ≡ stage → s.count ≡ count → Performs (stepped line event.now (record { entry = entry; world = world }) s)
         (K.held output.old) (K.held output.new) (K.faults output.old) (K.faults output.new) result }
 {
     if count >= 2_000_000 {
@@ -35,7 +37,8 @@ fn count_step<K: Sink>(
     match put_step(alloc, output, count + 1, &entry) {
         Ok(()) => Ok(Progress {
             world,
-            place: place.after(event),
+            reader,
+            stage: stage.after(event),
             count: count + 1,
         }),
         Err(status) => Err(status),
@@ -56,12 +59,15 @@ pub fn take_step<K: Sink>(
 {
     let Progress {
         world,
-        place,
+        reader,
+        stage,
         count,
     } = progress;
     match world.step(alloc, event) {
         Stepped::Done { world, entry } => {
-            count_step(alloc, output, line, event, world, entry, place, count)
+            count_step(
+                alloc, output, line, event, world, entry, reader, stage, count,
+            )
         }
         Stepped::Refused {
             world: _same,

@@ -31,11 +31,7 @@ fn run_on(
 fn small_inputs_have_their_findings(rt: HostRuntime) -> Result<(), Fail> {
     let table = [
         ("", "no end 0\n", Status::NoEnd { lines: 0 }),
-        (
-            "end\n",
-            "syntax 1 0\n",
-            Status::Syntax { line: 1, reason: 0 },
-        ),
+        ("# nothing\n\n", "no end 2\n", Status::NoEnd { lines: 2 }),
         (
             "start\n",
             "refused 1 9\n",
@@ -45,29 +41,44 @@ fn small_inputs_have_their_findings(rt: HostRuntime) -> Result<(), Fail> {
             },
         ),
         (
+            "end\n",
+            "syntax 1 9\n",
+            Status::Syntax { line: 1, reason: 9 },
+        ),
+        (
             "start 2 1\n",
-            "syntax 1 0\n",
-            Status::Syntax { line: 1, reason: 0 },
+            "syntax 1 8\n",
+            Status::Syntax { line: 1, reason: 8 },
         ),
         (
             "start 33\n",
-            "syntax 1 0\n",
-            Status::Syntax { line: 1, reason: 0 },
+            "syntax 1 5\n",
+            Status::Syntax { line: 1, reason: 5 },
         ),
         (
-            "start 1  2\n",
-            "syntax 1 0\n",
-            Status::Syntax { line: 1, reason: 0 },
+            "start 01\n",
+            "syntax 1 5\n",
+            Status::Syntax { line: 1, reason: 5 },
         ),
         (
-            "start 1",
-            "syntax 1 0\n",
-            Status::Syntax { line: 1, reason: 0 },
+            "start 1;\n",
+            "syntax 1 5\n",
+            Status::Syntax { line: 1, reason: 5 },
+        ),
+        (
+            "start 1*1\n",
+            "syntax 1 5\n",
+            Status::Syntax { line: 1, reason: 5 },
         ),
         (
             "transfer 1\n",
-            "syntax 1 0\n",
-            Status::Syntax { line: 1, reason: 0 },
+            "syntax 1 9\n",
+            Status::Syntax { line: 1, reason: 9 },
+        ),
+        (
+            "Start 1\n",
+            "syntax 1 2\n",
+            Status::Syntax { line: 1, reason: 2 },
         ),
     ];
     for (input, text, wanted) in table {
@@ -84,12 +95,20 @@ fn what_stood_before_a_finding_stays_put(rt: HostRuntime) -> Result<(), Fail> {
     let table = [
         ("start 1\n", "no end 1\n"),
         ("start 1\nend\n", "end 1\n"),
-        ("start 1\nend\nend\n", "syntax 3 0\n"),
-        ("start 1\nstart 1\n", "syntax 2 0\n"),
+        ("start 1\nend", "end 1\n"),
+        ("start 1\r\nend\r\n", "end 1\n"),
+        ("  start\t1 \nend\n# over\n\n", "end 1\n"),
+        ("start 1\nend\nend\n", "syntax 3 9\n"),
+        ("start 1\nstart 1\n", "syntax 2 9\n"),
+        ("start 1\nStart\n", "syntax 2 2\n"),
+        ("start 1\nrounds\n", "syntax 2 3\n"),
+        ("start 1\nrounds 1 2\n", "syntax 2 4\n"),
+        ("start 1\nmerge 1 1\n", "syntax 2 8\n"),
         ("start 1\nmerge 2\n", "unsupported 2\n"),
         ("start 1\nsplit 1\n", "unsupported 2\n"),
         ("start 1\nweak 1 get \"x\n", "unsupported 2\n"),
-        ("start 1\nStart\n", "syntax 2 0\n"),
+        ("start 1\norder 2\n", "refused 2 11 2\n"),
+        ("start 1\norder 1\n", "refused 2 2 1\n"),
     ];
     for (input, tail) in table {
         let (_, put) = run_on(rt.alloc(), &["replay"], input.as_bytes(), &[], &[])?;
@@ -150,7 +169,7 @@ fn each_limit_comes_one_byte_past_it(rt: HostRuntime) -> Result<(), Fail> {
     let alloc = rt.alloc();
     let longest = line_of(alloc, b'a', 32_768)?;
     let (status, _) = run_on(alloc, &["replay"], &longest, &[], &[])?;
-    assert_eq!(rt; status, Status::Syntax { line: 1, reason: 0 });
+    assert_eq!(rt; status, Status::Syntax { line: 1, reason: 2 });
     let longer = line_of(alloc, b'a', 32_769)?;
     let (status, put) = run_on(alloc, &["replay"], &longer, &[], &[])?;
     assert_eq!(rt;
@@ -204,16 +223,41 @@ fn passes_make_their_steps(rt: HostRuntime) -> Result<(), Fail> {
         ("start 1\nmerge 1\nrounds 3\nend\n", "end 7\n"),
         ("start 1\nrounds 1\nmerge 1\nrounds 2\nend\n", "end 7\n"),
         ("start 1\nmerge 1\nmerge 1\n", "unsupported 3\n"),
-        ("start 1\nrounds 0\n", "syntax 2 0\n"),
-        ("start 1\nrounds 1000001\n", "syntax 2 0\n"),
-        ("start 1\nrounds 1 1\n", "syntax 2 0\n"),
-        ("rounds 1\n", "syntax 1 0\n"),
+        ("start 1\nrounds 0\n", "syntax 2 5\n"),
+        ("start 1\nrounds 1000001\n", "syntax 2 5\n"),
+        ("rounds 1\n", "syntax 1 9\n"),
     ];
     for (input, tail) in table {
         let (_, put) = run_on(rt.alloc(), &["replay"], input.as_bytes(), &[], &[])?;
         assert!(rt;
             put.as_slice().ends_with(tail.as_bytes()),
             "after {input:?}"
+        );
+    }
+    Ok(())
+}
+
+#[test]
+fn the_events_of_the_group_have_their_refusals(rt: HostRuntime) -> Result<(), Fail> {
+    let table = [
+        ("order 1\norder 1\n", "refused 4 3 1\n"),
+        ("receive 2 1\n", "refused 3 4 1\n"),
+        ("order 1\nreceive 1 1\n", "refused 4 5 1\n"),
+        ("deliver 1 1\n", "refused 3 6 0\n"),
+        ("deliver 3 1\n", "refused 3 11 3\n"),
+        ("order 1\nreceive 2 1\ndeliver 2 2\n", "refused 5 6 1\n"),
+        (
+            "order 1\norder 2\nreceive 2 1\ndeliver 1 1\nend\n",
+            "end 6\n",
+        ),
+        ("gather\ndeliver 2 2\nend\n", "b0\nend 4\n"),
+    ];
+    for (lines, tail) in table {
+        let input = format!(in rt.alloc(); "start 1 2\nmerge 1 2\n{lines}")?;
+        let (_, put) = run_on(rt.alloc(), &["replay"], input.as_bytes(), &[], &[])?;
+        assert!(rt;
+            put.as_slice().ends_with(tail.as_bytes()),
+            "after {lines:?}"
         );
     }
     Ok(())

@@ -1,6 +1,6 @@
 use Rattle.std.proofs.Common.{ℕ, List, subst}
 use Rattle.congruity.specs.Putting.{Performs}
-use Rattle.cg_world.specs.declared.event.Event.TheVariants.{Gather}
+use Rattle.cg_schedule.specs.declared.event.Event.TheVariants.{Gather}
 use Rattle.congruity.specs.Produced.{one_step}
 use Rattle.congruity.specs.Rounds.{deliveries}
 use Rattle.congruity.proofs.GoingOn.{Stopped-and_then, Performs-and_then}
@@ -10,7 +10,7 @@ pub returns-in-Err : goal.returns-in-Err
 returns-in-Err g c =
     let n = c.args.line in
     let s = c.args.progress in
-    Stopped-and_then (one_step n Gather s) (deliveries n s.place.begun) (g.K.Sink.held c.args.output.now) (g.K.Sink.held c.take_step.new.output) (g.K.Sink.faults c.args.output.now) (g.K.Sink.faults c.take_step.new.output) c.in-Err.status c.in-Err.ensures
+    Stopped-and_then (one_step n Gather s) (deliveries n s.stage.begun) (g.K.Sink.held c.args.output.now) (g.K.Sink.held c.gather.new.output) (g.K.Sink.faults c.args.output.now) (g.K.Sink.faults c.gather.new.output) c.in-Err.status c.in-Err.ensures
 
 pub returns-in-Ok : goal.returns-in-Ok
 returns-in-Ok g c =
@@ -18,6 +18,6 @@ returns-in-Ok g c =
     let s = c.args.progress in
     let done = c.in-Ok.ensures in
     let set = c.begun_in-begun.ensures in
-    Performs-and_then (one_step n Gather s) (deliveries n s.place.begun) (g.K.Sink.held c.args.output.now) (g.K.Sink.held c.take_step.new.output) (g.K.Sink.held c.deliver_to_each.new.output)
-    (g.K.Sink.faults c.args.output.now) (g.K.Sink.faults c.take_step.new.output) (g.K.Sink.faults c.deliver_to_each.new.output) c.in-Ok.next c.deliver_to_each.result done.0 done.1 done.2 done.3
-    (subst (λ (set : List ℕ). Performs (deliveries n set c.in-Ok.next) (g.K.Sink.held c.take_step.new.output) (g.K.Sink.held c.deliver_to_each.new.output) (g.K.Sink.faults c.take_step.new.output) (g.K.Sink.faults c.deliver_to_each.new.output) c.deliver_to_each.result) set c.deliver_to_each.ensures)
+    Performs-and_then (one_step n Gather s) (deliveries n s.stage.begun) (g.K.Sink.held c.args.output.now) (g.K.Sink.held c.gather.new.output) (g.K.Sink.held c.deliver_to_each.new.output)
+    (g.K.Sink.faults c.args.output.now) (g.K.Sink.faults c.gather.new.output) (g.K.Sink.faults c.deliver_to_each.new.output) c.in-Ok.next c.deliver_to_each.result done.0 done.1 done.2 done.3
+    (subst (λ (set : List ℕ). Performs (deliveries n set c.in-Ok.next) (g.K.Sink.held c.gather.new.output) (g.K.Sink.held c.deliver_to_each.new.output) (g.K.Sink.faults c.gather.new.output) (g.K.Sink.faults c.deliver_to_each.new.output) c.deliver_to_each.result) set c.deliver_to_each.ensures)

@@ -16,10 +16,10 @@ returns-then-not-is_replay_command g c =
       consumed = Consumes-none (g.S.Source.left c.args.input.now);
       cause = tt;
       put = rw (outcome-usage words other) c.finish.ensures;
-      is_run = outcome-is_run words [] Open;
-      refused_exactly = outcome-refused_exactly words [] Open;
-      one_primary = outcome-one_primary words [] Open;
-      quiet_settles = outcome-quiet_settles words [] Open;
+      is_run = outcome-is_run words [] Open c.lines_are_exact.ensures.event;
+      refused_exactly = outcome-refused_exactly words [] Open c.lines_are_exact.ensures.event;
+      one_primary = outcome-one_primary words [] Open c.lines_are_exact.ensures.event;
+      quiet_settles = outcome-quiet_settles words [] Open c.lines_are_exact.ensures.event;
     }
 
 pub returns-in-Ok : goal.returns-in-Ok
@@ -33,10 +33,10 @@ returns-in-Ok g c =
       consumed = c.in-Ok.ensures.0;
       cause = c.in-Ok.ensures.1;
       put = rw (outcome-replay words t.bytes t.ending replays, ← c.as_slice.ensures) c.replay.ensures;
-      is_run = outcome-is_run words t.bytes t.ending;
-      refused_exactly = outcome-refused_exactly words t.bytes t.ending;
-      one_primary = outcome-one_primary words t.bytes t.ending;
-      quiet_settles = outcome-quiet_settles words t.bytes t.ending;
+      is_run = outcome-is_run words t.bytes t.ending c.lines_are_exact.ensures.event;
+      refused_exactly = outcome-refused_exactly words t.bytes t.ending c.lines_are_exact.ensures.event;
+      one_primary = outcome-one_primary words t.bytes t.ending c.lines_are_exact.ensures.event;
+      quiet_settles = outcome-quiet_settles words t.bytes t.ending c.lines_are_exact.ensures.event;
     }
 
 pub returns-in-Err : goal.returns-in-Err
@@ -49,8 +49,8 @@ returns-in-Err g c =
       consumed = c.in-Err.ensures.1;
       cause = tt;
       put = Stopped-nothing (outcome words t Open) (g.K.Sink.held c.args.output.now) (g.K.Sink.faults c.args.output.now);
-      is_run = outcome-is_run words t Open;
-      refused_exactly = outcome-refused_exactly words t Open;
-      one_primary = outcome-one_primary words t Open;
-      quiet_settles = outcome-quiet_settles words t Open;
+      is_run = outcome-is_run words t Open c.lines_are_exact.ensures.event;
+      refused_exactly = outcome-refused_exactly words t Open c.lines_are_exact.ensures.event;
+      one_primary = outcome-one_primary words t Open c.lines_are_exact.ensures.event;
+      quiet_settles = outcome-quiet_settles words t Open c.lines_are_exact.ensures.event;
     }
