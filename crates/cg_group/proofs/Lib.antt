@@ -15,3 +15,4 @@ pub mod Tests
 pub mod Handing
 pub mod Changing
 pub mod Synchronous
+pub mod LogFacts

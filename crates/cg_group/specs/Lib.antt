@@ -5,3 +5,4 @@ pub mod Events
 pub mod Refusals
 pub mod History
 pub mod Synchrony
+pub mod Logs

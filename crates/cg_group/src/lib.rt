@@ -4,11 +4,16 @@
 mod delivery;
 mod error;
 mod law;
+mod log;
+mod member;
 mod phase;
+mod placed;
 mod reason;
+mod try_clone;
 
 pub use delivery::{Delivery, DeliveryList, Handed, HandedList};
 pub use error::GroupErr;
 pub use law::virtually_synchronous;
 pub use phase::Phase;
 pub use reason::Reason;
+pub use try_clone::TryClone;

@@ -1,0 +1,14 @@
+use Rattle.std.proofs.Common.{◌≡◌, sym, ◌∙◌, ap, subst, rules, Some, None, option_map, false, refl}
+use Rattle.std.specs.Option.{option_map_or}
+use Rattle.cg_base.specs.Sets.{has}
+use Rattle.cg_group.specs.State.{has_received}
+use Rattle.cg_group.proofs.LogFacts.{has_received-at}
+use Rattle.cg_group.proofs.log.Log.has_received.Goals as goal
+
+pub returns-in-Some : goal.returns-in-Some
+returns-in-Some g c =
+    rw (← c.self.view_is, has_received-at c.self.inside.members c.self.inside.ordered.items c.args.p c.args.place, ← c.as_slice.ensures.value, ← c.placed_at.ensures, c.in-Some.is) c.contains.ensures.value
+
+pub returns-in-None : goal.returns-in-None
+returns-in-None g c =
+    rw (← c.self.view_is, has_received-at c.self.inside.members c.self.inside.ordered.items c.args.p c.args.place, ← c.as_slice.ensures.value, ← c.placed_at.ensures, c.in-None.is) refl

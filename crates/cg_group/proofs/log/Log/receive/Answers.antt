@@ -1,0 +1,22 @@
+use Rattle.std.proofs.Common.{◌≡◌, ◌<◌, ◌+◌, ◌-◌, suc, length, sym, ◌∙◌, ap, subst, refl, arith}
+use Rattle.std.proofs.Math.ListN.{get_or}
+use Rattle.std.specs.Vec.{vec_len}
+use Rattle.cg_group.specs.State.{Configuration}
+use Rattle.cg_group.specs.Events.{with_receipt}
+use Rattle.cg_group.proofs.LogFacts.{configuration_of-set, with_receipt-beyond, with_receipt-none, marked}
+use Rattle.cg_group.proofs.log.Log.receive.Goals as goal
+
+pub returns-then-place-eq0-clause-value : goal.returns-then-place-eq0-clause-value
+returns-then-place-eq0-clause-value g c = rw c.if-place-eq0.true (with_receipt-none c.args.self.now.configuration c.args.p)
+
+pub returns-then-place-len-clause-value : goal.returns-then-place-len-clause-value
+returns-then-place-len-clause-value g c =
+    rw (← c.self.view_is) (with_receipt-beyond c.self.inside.members c.self.inside.ordered.items c.args.p c.args.place (omega arith))
+
+pub returns-clause-value : goal.returns-clause-value
+returns-clause-value g c =
+    let place : suc (c.args.place - 1) ≡ c.args.place = omega arith in
+    rw (← c.self.view_is)
+    (configuration_of-set c.self.inside.members c.self.inside.ordered.items c.args.p (c.args.place - 1) _ c.index_mut-placed.result.now (omega arith)
+    (ap (λ set. record c.index_mut-placed.result.now { received = set }) c.add.ensures ∙ ap (marked c.args.p) c.index_mut-placed.ensures.value)
+    ∙ ap (with_receipt _ c.args.p) place)
