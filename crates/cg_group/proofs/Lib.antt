@@ -16,3 +16,4 @@ pub mod Handing
 pub mod Changing
 pub mod Synchronous
 pub mod LogFacts
+pub mod RosterFacts

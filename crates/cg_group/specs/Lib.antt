@@ -6,3 +6,4 @@ pub mod Refusals
 pub mod History
 pub mod Synchrony
 pub mod Logs
+pub mod Rosters

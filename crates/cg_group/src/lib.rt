@@ -7,8 +7,10 @@ mod law;
 mod log;
 mod member;
 mod phase;
+mod place;
 mod placed;
 mod reason;
+mod roster;
 mod try_clone;
 
 pub use delivery::{Delivery, DeliveryList, Handed, HandedList};

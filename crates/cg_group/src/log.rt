@@ -5,6 +5,7 @@ ghost use Rattle.cg_group.specs.State.{has_received};
 ghost use Rattle.cg_group.specs.Ready.{ready_in};
 ghost use Rattle.cg_group.specs.Events.{with_message, with_receipt};
 
+use crate::place::at_place;
 use crate::placed::Placed;
 use cg_base::{IdSet, NoMemory, ReplicaId};
 use std::alloc::Global;
@@ -24,16 +25,6 @@ impl<M> Model for Log<M> {
     ghost Value = { Stored M };
 
     ghost view = { λ l. record { configuration = configuration_of l.members l.ordered.items; room = vec_capacity l.ordered - vec_len l.ordered } };
-}
-
-// the message of a place
-fn placed_at<M>(ordered: &[Placed<M>], place: u64) -> Option<&Placed<M>>
-    ensures { option_copied result ≡ at_place ordered.now place }
-{
-    if place == 0 {
-        return None;
-    }
-    ordered.get((place - 1) as usize)
 }
 
 // the room is there, so no memory is taken
@@ -108,7 +99,7 @@ impl<M> Log<M> {
     pub(crate) fn has_received(&self, p: ReplicaId, place: u64) -> bool
         ensures { result ≡ has_received self.now.configuration p place }
     {
-        match placed_at(self.ordered.as_slice(), place) {
+        match at_place(self.ordered.as_slice(), place) {
             Some(placed) => placed.received.contains(p),
             None => false,
         }

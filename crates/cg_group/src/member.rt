@@ -81,6 +81,7 @@ impl<M> Member<M> {
         M: Drop,
         ensures ok { OnOk result (self.new ≡ record self.old { unordered = self.old.unordered ++ message ∷ [] }) }
         ensures err { OnErr result (self.new ≡ self.old) }
+        ensures id { self.new.id ≡ self.old.id }
     {
         self.unordered.push_back(message)?;
         Ok(())
@@ -88,7 +89,8 @@ impl<M> Member<M> {
 
     /// The oldest message without a place leaves, if there is one.
     pub(crate) fn take_oldest(&mut self) -> Option<M>
-        ensures { MatchOption result
+        ensures id { self.new.id ≡ self.old.id }
+        ensures taken { MatchOption result
             ((self.old.unordered ≡ []) × (self.new ≡ self.old))
             (λ m. (self.old.unordered ≡ m ∷ self.new.unordered) × (self.new ≡ record self.old { unordered = self.new.unordered })) }
     {

@@ -1,0 +1,155 @@
+ghost use Rattle.std.specs.Prelude.{◌≡◌, [], ◌∷◌, ◌==◌, nat_lt, not, true, List, filter, position, is_some, OnOk, OnErr, MatchOption};
+ghost use Rattle.std.specs.Option.{option_copied};
+ghost use Rattle.std.specs.List.{prefix_len};
+ghost use Rattle.cg_base.specs.Sets.{IsId};
+ghost use Rattle.cg_group.specs.State.{Standing, with_standing};
+ghost use Rattle.cg_group.specs.Rosters.{found, changing, waiting, handed_so_far, with_unordered};
+
+use crate::member::Member;
+use crate::Phase;
+use cg_base::{NoMemory, ReplicaId};
+use std::alloc::Global;
+use std::marker::Model;
+
+/// The replicas that are up, ascending.
+#[derive(Drop)]
+pub(crate) struct Roster<M> {
+    members: Vec<Member<M>>,
+}
+
+impl<M> Model for Roster<M> {
+    ghost use Rattle.std.specs.Prelude.{List};
+    ghost use Rattle.cg_group.specs.State.{Standing};
+    ghost use Rattle.cg_group.specs.Rosters.{IsRoster};
+
+    ghost Value = { List (Standing M) };
+
+    ghost view = { λ r. r.members.items };
+
+    ghost invariant = { λ r. IsRoster r.members.items };
+}
+
+// where a replica stands, from 0
+fn position_of<M>(members: &[Member<M>], p: ReplicaId) -> Option<usize>
+    ensures { result ≡ position (λ s. s.id == p) members.now }
+{
+    members.iter().position(|m| m.id() == p)
+}
+
+// where a replica that isn't up belongs, from 0
+fn place_for<M>(members: &[Member<M>], p: ReplicaId) -> usize
+    ensures place { result ≡ prefix_len (λ s. nat_lt s.id p) members.now }
+    ensures range { IsId p }
+{
+    let number = p.get();
+    members.iter().take_while(|m| m.id().get() < number).count()
+}
+
+impl<M> Roster<M> {
+    pub(crate) fn new(alloc: Global) -> Roster<M>
+        ensures { result ≡ [] }
+    {
+        Roster {
+            members: Vec::new(alloc),
+        }
+    }
+
+    pub(crate) fn find(&self, p: ReplicaId) -> Option<&Member<M>>
+        ensures { option_copied result ≡ found self.now p }
+    {
+        self.members.as_slice().iter().find(|m| m.id() == p)
+    }
+
+    pub(crate) fn as_slice(&self) -> &[Member<M>]
+        ensures { result.now ≡ self.now }
+    {
+        self.members.as_slice()
+    }
+
+    /// A replica that isn't up comes up.
+    pub(crate) fn add(&mut self, member: Member<M>) -> Result<(), NoMemory>
+    where
+        M: Drop,
+        requires { found self.old member.id ≡ None }
+        ensures ok { OnOk result (self.new ≡ with_standing self.old member) }
+        ensures err { OnErr result (self.new ≡ self.old) }
+    {
+        let place = place_for(self.members.as_slice(), member.id());
+        self.members.insert(place, member)?;
+        Ok(())
+    }
+
+    /// A replica goes down, where it is up.
+    pub(crate) fn remove(&mut self, p: ReplicaId)
+    where
+        M: Drop,
+        ensures { self.new ≡ filter (λ s. not (s.id == p)) self.old }
+    {
+        match position_of(self.members.as_slice(), p) {
+            Some(i) => {
+                let _gone = self.members.remove(i);
+            }
+            None => {}
+        }
+    }
+
+    /// A message of a replica that is up waits for a place.
+    pub(crate) fn send(&mut self, p: ReplicaId, message: M) -> Result<(), NoMemory>
+    where
+        M: Drop,
+        ensures ok { OnOk result (self.new ≡ changing (λ s. waiting s message) self.old p) }
+        ensures err { OnErr result (self.new ≡ self.old) }
+    {
+        match position_of(self.members.as_slice(), p) {
+            Some(i) => {
+                let member = &mut self.members[i];
+                member.send(message)
+            }
+            None => Ok(()),
+        }
+    }
+
+    /// The oldest message of a replica leaves, if there is one.
+    pub(crate) fn take_oldest(&mut self, p: ReplicaId) -> Option<M>
+        ensures { MatchOption result
+            (self.new ≡ self.old)
+            (λ m. (s : Standing M) × (rest : List M) × (found self.old p ≡ Some s) × (s.unordered ≡ m ∷ rest) × (self.new ≡ with_standing self.old (with_unordered s rest))) }
+    {
+        match position_of(self.members.as_slice(), p) {
+            Some(i) => {
+                let member = &mut self.members[i];
+                member.take_oldest()
+            }
+            None => None,
+        }
+    }
+
+    /// A replica that is up was handed so many places.
+    pub(crate) fn hand_out(&mut self, p: ReplicaId, count: u64)
+        ensures { self.new ≡ changing (λ s. handed_so_far s count) self.old p }
+    {
+        match position_of(self.members.as_slice(), p) {
+            Some(i) => {
+                let member = &mut self.members[i];
+                member.hand_out(count);
+            }
+            None => {}
+        }
+    }
+
+    /// A replica that is up goes into another phase.
+    pub(crate) fn enter(&mut self, p: ReplicaId, phase: Phase, delivered: u64)
+    where
+        M: Drop,
+        requires { is_some (found self.old p) ≡ true }
+        ensures { self.new ≡ with_standing self.old (record { id = p; phase = phase; delivered = delivered; unordered = [] }) }
+    {
+        match position_of(self.members.as_slice(), p) {
+            Some(i) => {
+                let member = &mut self.members[i];
+                member.enter(phase, delivered);
+            }
+            None => {}
+        }
+    }
+}
