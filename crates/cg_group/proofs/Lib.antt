@@ -17,3 +17,4 @@ pub mod Changing
 pub mod Synchronous
 pub mod LogFacts
 pub mod RosterFacts
+pub mod GroupFacts

@@ -1,16 +1,18 @@
 -- A configuration in memory, after a message more and after a receipt.
-use Rattle.std.proofs.Common.{◌≡◌, ℕ, zero, suc, pred, ◌<◌, ◌≤◌, Bool, true, false, cond, List, [], ◌∷◌, ◌++◌, length, Option, Some, None, refl, sym, ap, ap₂, subst, ◌∙◌, arith, eqb, map, option_map, get_or, if◌then◌else◌, inl, inr, ⊎_elim}
+use Rattle.std.proofs.Common.{◌+◌, ◌-◌, ◌&&◌, one-add, ◌≡◌, ℕ, zero, suc, pred, ◌<◌, ◌≤◌, Bool, true, false, cond, List, [], ◌∷◌, ◌++◌, length, Option, Some, None, refl, sym, ap, ap₂, subst, ◌∙◌, arith, eqb, map, option_map, get_or, if◌then◌else◌, inl, inr, ⊎_elim}
 use Rattle.std.specs.Prelude.{◌==◌}
 use Rattle.std.proofs.Math.ListN.{set}
 use Rattle.std.proofs.lemmas.List.{map-append}
 use Rattle.std.proofs.lemmas.Option.{slice_get-map}
 use Rattle.std.proofs.lemmas.Bool.{cases_eq, cond-true, cond-false, cases_Bool, ne_eqb}
 use Rattle.std.specs.Option.{option_map_or}
-use Rattle.cg_base.specs.Lists.{at_place}
+use Rattle.std.specs.List.{list_all, prefix_len}
+use Rattle.cg_base.specs.Lists.{at_place, above_up_to, count_up}
 use Rattle.cg_base.specs.Sets.{has, with_member}
 use Rattle.cg_group.specs.declared.placed.Placed.{Placed}
-use Rattle.cg_group.specs.State.{Configuration, Sent, changed_at, has_received}
+use Rattle.cg_group.specs.State.{Configuration, Sent, no_configuration, changed_at, has_received}
 use Rattle.cg_group.specs.Events.{with_message, with_receipt}
+use Rattle.cg_group.specs.Ready.{all_received, ready_in}
 use Rattle.cg_group.specs.Logs.{sent_of, configuration_of}
 
 module _ {X Y : Type 0} where
@@ -38,6 +40,10 @@ module _ {X Y : Type 0} where
       (λ n. ap (map f) (cond-false (place == 1) (change x ∷ xs) (x ∷ changed_at change xs (pred place)) n)
       ∙ ap (λ z. f x ∷ z) (map-changed_at_same f change e xs (pred place)))
       (cases_Bool (place == 1))
+
+pub list_all_same : {X : Type 0} (t u : X → Bool) → ((x : X) → t x ≡ u x) → (xs : List X) → list_all t xs ≡ list_all u xs
+list_all_same t u e [] = refl
+list_all_same t u e (x ∷ xs) = ap₂ (λ a b. a && b) (e x) (list_all_same t u e xs)
 
 module _ {X : Type 0} where
   -- writing the changed element is the change
@@ -103,3 +109,31 @@ module _ {M : Type 0} where
       by_option : (o : Option (Placed M)) → option_map_or (λ set. has set p) (option_map (λ (x : Placed M). x.received) o) false ≡ option_map_or (λ (x : Placed M). has x.received p) o false
       by_option None = refl
       by_option (Some x) = refl
+
+  pub all_received-at_place : (members : List ℕ) (ordered : List (Placed M)) (place : ℕ) (x : Placed M) → at_place ordered place ≡ Some x →
+      all_received (configuration_of members ordered) place ≡ list_all (has x.received) members
+  unfolding all_received
+  all_received-at_place members ordered place x e =
+      list_all_same (λ q. has_received (configuration_of members ordered) q place) (has x.received)
+      (λ q. has_received-at members ordered q place ∙ ap (λ o. option_map_or (λ (y : Placed M). has y.received q) o false) e) members
+
+-- the numbers above one of them
+pub above_up_to-next : (low high : ℕ) → low < high → above_up_to low high ≡ suc low ∷ above_up_to (suc low) high
+above_up_to-next low high lt = let e : high - low ≡ suc (high - suc low) = omega arith in ap (count_up (suc low)) e
+
+pub above_up_to-none : (low high : ℕ) → high ≤ low → above_up_to low high ≡ []
+above_up_to-none low high le = let e : high - low ≡ 0 = omega arith in ap (count_up (suc low)) e
+
+pub prefix-goes_on : (test : ℕ → Bool) (low high : ℕ) → low < high → test (suc low) ≡ true →
+    prefix_len test (above_up_to low high) ≡ suc (prefix_len test (above_up_to (suc low) high))
+prefix-goes_on test low high lt e =
+    ap (prefix_len test) (above_up_to-next low high lt)
+    ∙ cond-true (test (suc low)) (1 + prefix_len test (above_up_to (suc low) high)) 0 e ∙ one-add (prefix_len test (above_up_to (suc low) high))
+
+pub prefix-ends : (test : ℕ → Bool) (low high : ℕ) → low < high → test (suc low) ≡ false → prefix_len test (above_up_to low high) ≡ 0
+prefix-ends test low high lt e =
+    ap (prefix_len test) (above_up_to-next low high lt) ∙ cond-false (test (suc low)) (1 + prefix_len test (above_up_to (suc low) high)) 0 e
+
+pub ready_in-nowhere : (M : Type 0) (delivered : ℕ) → ready_in (no_configuration {M = M}) delivered ≡ 0
+unfolding ready_in
+ready_in-nowhere M delivered = ap (prefix_len (all_received (no_configuration {M = M}))) (above_up_to-none delivered 0 (omega arith))

@@ -3,6 +3,7 @@
 
 mod delivery;
 mod error;
+mod group;
 mod law;
 mod log;
 mod member;
@@ -15,6 +16,7 @@ mod try_clone;
 
 pub use delivery::{Delivery, DeliveryList, Handed, HandedList};
 pub use error::GroupErr;
+pub use group::Group;
 pub use law::virtually_synchronous;
 pub use phase::Phase;
 pub use reason::Reason;

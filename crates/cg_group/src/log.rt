@@ -2,7 +2,7 @@ ghost use Rattle.std.specs.Prelude.{◌≡◌, ◌<◌, ◌≤◌, ◌+◌, [], 
 ghost use Rattle.std.specs.Option.{option_copied};
 ghost use Rattle.cg_base.specs.Lists.{at_place};
 ghost use Rattle.cg_group.specs.State.{has_received};
-ghost use Rattle.cg_group.specs.Ready.{ready_in};
+ghost use Rattle.cg_group.specs.Ready.{ready_in, all_received};
 ghost use Rattle.cg_group.specs.Events.{with_message, with_receipt};
 
 use crate::place::at_place;
@@ -101,6 +101,33 @@ impl<M> Log<M> {
     {
         match at_place(self.ordered.as_slice(), place) {
             Some(placed) => placed.received.contains(p),
+            None => false,
+        }
+    }
+
+    /// How many places in a row behind the first ones every member has received.
+    pub(crate) fn ready(&self, delivered: u64) -> u64
+        ensures { result ≡ ready_in self.now.configuration delivered }
+    {
+        let len = self.ordered.len() as u64;
+        let mut place = delivered;
+        while place < len {
+            if !self.is_received_by_all(place + 1) {
+                return place - delivered;
+            }
+            place += 1;
+        }
+        place - delivered
+    }
+
+    // every member has received the place
+    fn is_received_by_all(&self, place: u64) -> bool
+        requires from { 1 ≤ place }
+        requires to { place ≤ length self.now.configuration.ordered }
+        ensures { result ≡ all_received self.now.configuration place }
+    {
+        match at_place(self.ordered.as_slice(), place) {
+            Some(placed) => self.members.is_within(&placed.received),
             None => false,
         }
     }

@@ -1,0 +1,31 @@
+-- A group in memory: its configurations stand in a row of logs.
+use Rattle.std.proofs.Common.{◌≡◌, ℕ, zero, suc, ◌<◌, ◌≤◌, Bool, true, false, cond, List, [], ◌∷◌, ◌++◌, length, Option, Some, None, refl, sym, ap, ap₂, subst, ◌∙◌, arith, map, option_map, Bor, MatchOption}
+use Rattle.std.specs.Option.{option_map_or, option_copied}
+use Rattle.cg_base.specs.Lists.{at_place}
+use Rattle.cg_group.specs.State.{Configuration, Standing, GroupState, no_configuration, configuration}
+use Rattle.cg_group.specs.Logs.{Stored, configurations_of}
+use Rattle.cg_group.proofs.LogFacts.{at_place-map}
+
+module _ {M : Type 0} where
+  -- the group of these logs and replicas
+  abbrev pub group_of : List (Stored M) → List (Standing M) → GroupState M
+  group_of logs replicas = record { configurations = configurations_of logs; replicas = replicas }
+
+  pub configuration-of : (logs : List (Stored M)) (replicas : List (Standing M)) (conf : ℕ) →
+      configuration (group_of logs replicas) conf ≡ option_map_or (λ s. s.configuration) (at_place logs conf) no_configuration
+  unfolding configuration
+  configuration-of logs replicas conf =
+      ap (λ o. option_map_or (λ (c : Configuration M). c) o no_configuration) (at_place-map (λ (s : Stored M). s.configuration) logs conf) ∙ by_option (at_place logs conf)
+    where
+      by_option : (o : Option (Stored M)) →
+          option_map_or (λ (c : Configuration M). c) (option_map (λ (s : Stored M). s.configuration) o) no_configuration ≡ option_map_or (λ (s : Stored M). s.configuration) o no_configuration
+      by_option None = refl
+      by_option (Some s) = refl
+
+  -- the log that stands at a configuration's number is the configuration, and where none stands there is none
+  pub log_there : (logs : List (Stored M)) (replicas : List (Standing M)) (conf : ℕ) (r : Option (Bor (Stored M))) → option_copied r ≡ at_place logs conf →
+      MatchOption r (configuration (group_of logs replicas) conf ≡ no_configuration) (λ log. configuration (group_of logs replicas) conf ≡ log.now.configuration)
+  log_there logs replicas conf None e =
+      configuration-of logs replicas conf ∙ ap (λ o. option_map_or (λ (s : Stored M). s.configuration) o no_configuration) (sym e)
+  log_there logs replicas conf (Some log) e =
+      configuration-of logs replicas conf ∙ ap (λ o. option_map_or (λ (s : Stored M). s.configuration) o no_configuration) (sym e)

@@ -1,0 +1,138 @@
+ghost use Rattle.std.specs.Prelude.{◌≡◌, false, [], length, IfOk, OnOk, OnErr, MatchOption};
+ghost use Rattle.std.specs.Option.{option_copied};
+ghost use Rattle.cg_group.specs.State.{GroupState, no_group, no_configuration, standing_of, is_up, is_regular, regular_in, phase_of, delivered_to, home};
+ghost use Rattle.cg_group.specs.Ready.{ready};
+ghost use Rattle.cg_group.specs.Events.{come_up, go_down, send, order, receive, gather, deliver, split, merge};
+ghost use Rattle.cg_group.specs.Refusals.{order_refusal, receive_refusal, deliver_refusal, split_refusal, merge_refusal, IsAnswer};
+
+use crate::log::Log;
+use crate::member::Member;
+use crate::place::at_place;
+use crate::roster::Roster;
+use crate::{Delivery, GroupErr, Handed, Phase, TryClone};
+use cg_base::{Bytes, IdSet, NoMemory, ReplicaId, Row};
+use std::alloc::Global;
+use std::marker::Model;
+
+/// The group: its configurations, and the replicas that are up. A replica that was never added isn't up.
+///
+/// A configuration goes by its number, from 1, and a message by its place in its configuration, from 1. After a
+/// refusal and after want of memory the group is as before the call.
+#[derive(Drop)]
+pub struct Group<M = Bytes> {
+    alloc: Global,
+    logs: Vec<Log<M>>,
+    roster: Roster<M>,
+}
+
+impl<M> Model for Group<M> {
+    ghost use Rattle.cg_group.specs.State.{GroupState};
+    ghost use Rattle.cg_group.specs.Logs.{configurations_of};
+
+    ghost Value = { GroupState M };
+
+    ghost view = { λ g. record { configurations = configurations_of g.logs.items; replicas = g.roster } };
+}
+
+impl<M> Group<M> {
+    /// No replica is up, and there is no configuration.
+    pub fn new(alloc: Global) -> Group<M>
+        ensures { result ≡ no_group }
+    {
+        Group {
+            alloc,
+            logs: Vec::new(alloc),
+            roster: Roster::new(alloc),
+        }
+    }
+
+    /// Where the replica stands, `Down` where it isn't up.
+    pub fn phase(&self, p: ReplicaId) -> Phase
+        ensures { result ≡ phase_of self.now p }
+    {
+        match self.standing(p) {
+            Some(member) => member.phase(),
+            None => Phase::Down,
+        }
+    }
+
+    /// How many places in a row may be delivered to the replica next, 0 where it isn't regular.
+    pub fn ready(&self, p: ReplicaId) -> u64
+        ensures { result ≡ ready self.now p }
+    {
+        match self.home(p) {
+            Some(log) => log.ready(self.delivered(p)),
+            None => 0,
+        }
+    }
+
+    // the replica, where it is up
+    #[tactic(auto, unfolding(crate::specs::State::standing_of))]
+    fn standing(&self, p: ReplicaId) -> Option<&Member<M>>
+        ensures { option_copied result ≡ standing_of self.now p }
+    {
+        self.roster.find(p)
+    }
+
+    // the configuration in which the replica is regular, 0 for none
+    fn regular_in(&self, p: ReplicaId) -> u64
+        ensures { result ≡ regular_in (phase_of self.now p) }
+    {
+        match self.standing(p) {
+            Some(member) => member.regular_in(),
+            None => 0,
+        }
+    }
+
+    // how many places of its configuration the replica was handed
+    fn delivered(&self, p: ReplicaId) -> u64
+        ensures { result ≡ delivered_to self.now p }
+    {
+        match self.standing(p) {
+            Some(member) => member.delivered(),
+            None => 0,
+        }
+    }
+
+    // the configuration in which the replica is regular
+    fn home(&self, p: ReplicaId) -> Option<&Log<M>>
+        ensures { MatchOption result (home self.now p ≡ no_configuration) (λ log. home self.now p ≡ log.now.configuration) }
+    {
+        at_place(self.logs.as_slice(), self.regular_in(p))
+    }
+}
+
+impl<M: Drop> Group<M> {
+    /// The replica comes up, and is alone. It wasn't up.
+    #[tactic(auto, unfolding(crate::specs::State::standing_of, crate::specs::State::set_standing, crate::specs::Events::come_up))]
+    pub fn add(&mut self, p: ReplicaId) -> Result<(), NoMemory>
+        requires { is_up self.old p ≡ false }
+        ensures ok { OnOk result (self.new ≡ come_up self.old p) }
+        ensures err { OnErr result (self.new ≡ self.old) }
+    {
+        self.roster.add(Member::alone(self.alloc, p))
+    }
+
+    /// The replica goes down, where it is up: it leaves its phase, and its messages without a place are dropped. What it has
+    /// received stays received. It takes no memory.
+    #[tactic(auto, unfolding(crate::specs::Events::go_down))]
+    pub fn down(&mut self, p: ReplicaId)
+        ensures { self.new ≡ go_down self.old p }
+    {
+        self.roster.remove(p);
+    }
+
+    /// A message of a regular replica waits for a place, behind those that wait already; of any other replica it is dropped.
+    /// The answer says whether it waits.
+    #[tactic(auto, unfolding(crate::specs::State::standing_of, crate::specs::State::set_standing, crate::specs::Events::send, crate::specs::Events::send_from))]
+    pub fn send(&mut self, p: ReplicaId, message: M) -> Result<bool, NoMemory>
+        ensures ok { IfOk result (λ waits. (waits ≡ is_regular self.old p) × (self.new ≡ send self.old p message)) }
+        ensures err { OnErr result (self.new ≡ self.old) }
+    {
+        if self.regular_in(p) == 0 {
+            return Ok(false);
+        }
+        self.roster.send(p, message)?;
+        Ok(true)
+    }
+}
