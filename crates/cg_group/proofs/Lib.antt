@@ -18,3 +18,5 @@ pub mod Synchronous
 pub mod LogFacts
 pub mod RosterFacts
 pub mod GroupFacts
+pub mod FirstReasons
+pub mod UpFacts

@@ -1,9 +1,9 @@
 -- The replicas that are up, ascending, and what one of them does.
-use Rattle.std.specs.Prelude.{ℕ, ◌==◌, not, List, [], ◌∷◌, ◌++◌, Option, Some, None, map, filter, find}
+use Rattle.std.specs.Prelude.{◌≡◌, ℕ, ◌==◌, true, not, List, [], ◌∷◌, ◌++◌, Option, Some, None, map, filter, find}
 use Rattle.std.specs.Option.{option_map_or}
 use Rattle.cg_base.specs.Sets.{Ascends}
 use Rattle.cg_group.specs.declared.phase.Phase.{Phase}
-use Rattle.cg_group.specs.State.{Standing, with_standing}
+use Rattle.cg_group.specs.State.{Standing, GroupState, with_standing, is_up}
 
 module _ {M : Type 0} where
   -- the identifiers
@@ -33,3 +33,8 @@ module _ {M : Type 0} where
   -- the replicas with the found one changed, where it is up
   abbrev pub changing : (Standing M → Standing M) → List (Standing M) → ℕ → List (Standing M)
   changing change replicas p = option_map_or (λ s. with_standing replicas (change s)) (found replicas p) replicas
+
+  -- each of the replicas is up
+  abbrev pub AllUp : GroupState M → List ℕ → Type 0
+  AllUp g [] = Unit {0}
+  AllUp g (p ∷ set) = (is_up g p ≡ true) × AllUp g set

@@ -1,8 +1,8 @@
-ghost use Rattle.std.specs.Prelude.{◌≡◌, false, [], length, IfOk, OnOk, OnErr, MatchOption};
+ghost use Rattle.std.specs.Prelude.{◌≡◌, true, false, [], ◌∷◌, ◌++◌, suc, length, IfOk, OnOk, OnErr, MatchOption};
 ghost use Rattle.std.specs.Option.{option_copied};
 ghost use Rattle.cg_group.specs.State.{GroupState, no_group, no_configuration, standing_of, is_up, is_regular, regular_in, phase_of, delivered_to, home};
 ghost use Rattle.cg_group.specs.Ready.{ready};
-ghost use Rattle.cg_group.specs.Events.{come_up, go_down, send, order, receive, gather, deliver, split, merge};
+ghost use Rattle.cg_group.specs.Events.{become_regular, come_up, go_down, send, order, receive, gather, deliver, split, merge};
 ghost use Rattle.cg_group.specs.Refusals.{order_refusal, receive_refusal, deliver_refusal, split_refusal, merge_refusal, IsAnswer};
 
 use crate::log::Log;
@@ -64,6 +64,38 @@ impl<M> Group<M> {
             Some(log) => log.ready(self.delivered(p)),
             None => 0,
         }
+    }
+
+    /// The replica is up.
+    pub fn is_up(&self, p: ReplicaId) -> bool
+        ensures { result ≡ is_up self.now p }
+    {
+        self.standing(p).is_some()
+    }
+
+    /// The replica is regular in a configuration.
+    pub fn is_regular(&self, p: ReplicaId) -> bool
+        ensures { result ≡ is_regular self.now p }
+    {
+        self.regular_in(p) != 0
+    }
+
+    pub(crate) fn alloc(&self) -> Global {
+        self.alloc
+    }
+
+    // the number that the next configuration gets
+    pub(crate) fn next_conf(&self) -> u64
+        ensures { result ≡ suc (length self.now.configurations) }
+    {
+        self.logs.len() as u64 + 1
+    }
+
+    // the replicas that are up, ascending
+    pub(crate) fn members(&self) -> &[Member<M>]
+        ensures { result.now ≡ self.now.replicas }
+    {
+        self.roster.as_slice()
     }
 
     // the replica, where it is up
@@ -134,5 +166,24 @@ impl<M: Drop> Group<M> {
         }
         self.roster.send(p, message)?;
         Ok(true)
+    }
+
+    // a replica that is up begins the regular phase of a configuration
+    #[tactic(auto, unfolding(crate::specs::State::standing_of, crate::specs::State::set_standing, crate::specs::Events::become_regular))]
+    pub(crate) fn become_regular(&mut self, p: ReplicaId, conf: u64)
+        requires { is_up self.old p ≡ true }
+        ensures { self.new ≡ become_regular conf self.old p }
+    {
+        self.roster.enter(p, Phase::Regular { conf }, 0);
+    }
+
+    // a new configuration of these members
+    pub(crate) fn open(&mut self, members: IdSet) -> Result<(), NoMemory>
+        ensures ok { OnOk result
+            (self.new ≡ record self.old { configurations = self.old.configurations ++ record { members = members; ordered = []; received = [] } ∷ [] }) }
+        ensures err { OnErr result (self.new ≡ self.old) }
+    {
+        self.logs.push(Log::new(self.alloc, members))?;
+        Ok(())
     }
 }

@@ -7,10 +7,12 @@ mod group;
 mod law;
 mod log;
 mod member;
+mod merging;
 mod phase;
 mod place;
 mod placed;
 mod reason;
+mod refusals;
 mod roster;
 mod try_clone;
 

@@ -1,0 +1,96 @@
+ghost use Rattle.std.specs.Prelude.{◌≡◌, ◌&&◌, not};
+ghost use Rattle.cg_base.specs.Sets.{has};
+ghost use Rattle.cg_group.specs.Refusals.{any_of, not_up, not_regular, still_regular, is_together, not_together, same_phase, merge_refusal};
+
+use crate::{Group, Phase, Reason};
+use cg_base::{IdSet, ReplicaId};
+
+// the two are transitional in one configuration with one set
+fn same_phase(a: &Phase, b: &Phase) -> bool
+    ensures { result ≡ same_phase a.now b.now }
+{
+    match (a, b) {
+        (Phase::Transitional { conf, set }, Phase::Transitional { conf: other_conf, set: other_set }) => {
+            conf == other_conf && (set.is_within(other_set) && other_set.is_within(set))
+        }
+        _ => false,
+    }
+}
+
+impl<M> Group<M> {
+    // the first of the replicas that isn't up
+    fn first_down(&self, set: &IdSet) -> Option<Reason>
+        ensures { result ≡ any_of (not_up self.now) set.now }
+    {
+        for p in set.iter() {
+            if !self.is_up(p) {
+                return Some(Reason::NotUp(p));
+            }
+        }
+        None
+    }
+
+    // the first of the replicas that is regular
+    fn first_regular(&self, set: &IdSet) -> Option<Reason>
+        ensures { result ≡ any_of (still_regular self.now) set.now }
+    {
+        for p in set.iter() {
+            if self.is_regular(p) {
+                return Some(Reason::StillRegular(p));
+            }
+        }
+        None
+    }
+
+    // the replica came into its transitional configuration together with one of the set, and neither has left it
+    fn is_together(&self, set: &IdSet, q: ReplicaId) -> bool
+        ensures { result ≡ is_together self.now set.now q }
+    {
+        let phase = self.phase(q);
+        for p in set.iter() {
+            if same_phase(&self.phase(p), &phase) {
+                return true;
+            }
+        }
+        false
+    }
+
+    // the replica must be merged with the set, and isn't in it
+    fn is_missing(&self, set: &IdSet, left: &IdSet, q: ReplicaId) -> bool
+        ensures { result ≡ (is_together self.now set.now q && not (has set.now q) && not (has left.now q)) }
+    {
+        !set.contains(q) && !left.contains(q) && self.is_together(set, q)
+    }
+
+    // the first replica that must be merged with the set and isn't in it
+    fn first_missing(&self, set: &IdSet, left: &IdSet) -> Option<Reason>
+        ensures { result ≡ not_together self.now set.now left.now }
+    {
+        for member in self.members() {
+            let q = member.id();
+            if self.is_missing(set, left, q) {
+                return Some(Reason::NotTogether(q));
+            }
+        }
+        None
+    }
+
+    // why the replicas can't be the members of a new configuration
+    pub(crate) fn merge_refusal(&self, set: &IdSet, left: &IdSet) -> Option<Reason>
+        ensures { result ≡ merge_refusal self.now set.now left.now }
+    {
+        match set.least() {
+            None => return Some(Reason::EmptySet),
+            Some(_) => {}
+        }
+        match self.first_down(set) {
+            Some(reason) => return Some(reason),
+            None => {}
+        }
+        match self.first_regular(set) {
+            Some(reason) => return Some(reason),
+            None => {}
+        }
+        self.first_missing(set, left)
+    }
+}
