@@ -12,3 +12,9 @@ module _ {X : Type 0} where
   pub first_last : (o : Option X) → first_some (o ∷ []) ≡ o
   first_last None = refl
   first_last (Some x) = refl
+
+  -- two tests in one
+  pub first_two : (a b : Option X) (rest : List (Option X)) → first_some (a ∷ b ∷ rest) ≡ first_some (first_some (a ∷ b ∷ []) ∷ rest)
+  first_two None None rest = refl
+  first_two None (Some x) rest = refl
+  first_two (Some x) b rest = refl

@@ -20,3 +20,4 @@ pub mod RosterFacts
 pub mod GroupFacts
 pub mod FirstReasons
 pub mod UpFacts
+pub mod DeliveryFacts

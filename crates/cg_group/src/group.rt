@@ -1,8 +1,8 @@
-ghost use Rattle.std.specs.Prelude.{◌≡◌, true, false, [], ◌∷◌, ◌++◌, suc, length, IfOk, OnOk, OnErr, MatchOption};
+ghost use Rattle.std.specs.Prelude.{◌≡◌, ◌+◌, ◌<◌, ◌^◌, true, false, [], ◌∷◌, ◌++◌, suc, length, IfOk, OnOk, OnErr, MatchOption};
 ghost use Rattle.std.specs.Option.{option_copied};
 ghost use Rattle.cg_group.specs.State.{GroupState, no_group, no_configuration, standing_of, is_up, is_regular, regular_in, phase_of, delivered_to, home};
 ghost use Rattle.cg_group.specs.Ready.{ready};
-ghost use Rattle.cg_group.specs.Events.{become_regular, come_up, go_down, send, order, receive, gather, deliver, split, merge};
+ghost use Rattle.cg_group.specs.Events.{with_delivered, become_regular, come_up, go_down, send, order, receive, gather, deliver, split, merge};
 ghost use Rattle.cg_group.specs.Refusals.{order_refusal, receive_refusal, deliver_refusal, split_refusal, merge_refusal, IsAnswer};
 
 use crate::log::Log;
@@ -58,10 +58,12 @@ impl<M> Group<M> {
 
     /// How many places in a row may be delivered to the replica next, 0 where it isn't regular.
     pub fn ready(&self, p: ReplicaId) -> u64
-        ensures { result ≡ ready self.now p }
+        ensures count { result ≡ ready self.now p }
+        ensures fits { delivered_to self.now p + result < 2 ^ 64 }
     {
+        let delivered = self.delivered(p);
         match self.home(p) {
-            Some(log) => log.ready(self.delivered(p)),
+            Some(log) => log.ready(delivered),
             None => 0,
         }
     }
@@ -117,7 +119,7 @@ impl<M> Group<M> {
     }
 
     // how many places of its configuration the replica was handed
-    fn delivered(&self, p: ReplicaId) -> u64
+    pub(crate) fn delivered(&self, p: ReplicaId) -> u64
         ensures { result ≡ delivered_to self.now p }
     {
         match self.standing(p) {
@@ -127,7 +129,7 @@ impl<M> Group<M> {
     }
 
     // the configuration in which the replica is regular
-    fn home(&self, p: ReplicaId) -> Option<&Log<M>>
+    pub(crate) fn home(&self, p: ReplicaId) -> Option<&Log<M>>
         ensures { MatchOption result (home self.now p ≡ no_configuration) (λ log. home self.now p ≡ log.now.configuration) }
     {
         at_place(self.logs.as_slice(), self.regular_in(p))
@@ -185,5 +187,13 @@ impl<M: Drop> Group<M> {
     {
         self.logs.push(Log::new(self.alloc, members))?;
         Ok(())
+    }
+
+    // a replica that is up was handed so many places
+    #[tactic(auto, unfolding(crate::specs::State::standing_of, crate::specs::State::set_standing))]
+    pub(crate) fn hand_out(&mut self, p: ReplicaId, count: u64)
+        ensures { self.new ≡ with_delivered self.old p count }
+    {
+        self.roster.hand_out(p, count);
     }
 }

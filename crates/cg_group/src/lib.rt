@@ -1,6 +1,8 @@
 //! The group layer: configurations, ordered messages, deliveries, partitions and merges.
 #![tactic(auto)]
 
+mod deliveries;
+mod outgoing;
 mod delivery;
 mod error;
 mod group;

@@ -1,7 +1,8 @@
-ghost use Rattle.std.specs.Prelude.{◌≡◌, ◌<◌, ◌≤◌, ◌+◌, [], ◌==◌, ◌∷◌, ◌++◌, length, OnOk, OnErr, vec_len, vec_capacity};
-ghost use Rattle.std.specs.Option.{option_copied};
+ghost use Rattle.std.specs.Prelude.{◌≡◌, ◌<◌, ◌≤◌, ◌+◌, ◌^◌, [], ◌==◌, ◌∷◌, ◌++◌, length, OnOk, OnErr, vec_len, vec_capacity};
+ghost use Rattle.std.specs.Option.{option_copied, option_map};
 ghost use Rattle.cg_base.specs.Lists.{at_place};
 ghost use Rattle.cg_group.specs.State.{has_received};
+ghost use Rattle.cg_group.specs.Logs.{sent_of};
 ghost use Rattle.cg_group.specs.Ready.{ready_in, all_received};
 ghost use Rattle.cg_group.specs.Events.{with_message, with_receipt};
 
@@ -96,6 +97,13 @@ impl<M> Log<M> {
         placed.received.add(p);
     }
 
+    /// The message of a place, with its sender.
+    pub(crate) fn get(&self, place: u64) -> Option<&Placed<M>>
+        ensures { option_map sent_of (option_copied result) ≡ at_place self.now.configuration.ordered place }
+    {
+        at_place(self.ordered.as_slice(), place)
+    }
+
     pub(crate) fn has_received(&self, p: ReplicaId, place: u64) -> bool
         ensures { result ≡ has_received self.now.configuration p place }
     {
@@ -107,7 +115,8 @@ impl<M> Log<M> {
 
     /// How many places in a row behind the first ones every member has received.
     pub(crate) fn ready(&self, delivered: u64) -> u64
-        ensures { result ≡ ready_in self.now.configuration delivered }
+        ensures count { result ≡ ready_in self.now.configuration delivered }
+        ensures fits { delivered + result < 2 ^ 64 }
     {
         let len = self.ordered.len() as u64;
         let mut place = delivered;

@@ -1,6 +1,8 @@
-ghost use Rattle.std.specs.Prelude.{◌≡◌, ◌&&◌, not};
+ghost use Rattle.std.specs.Prelude.{◌≡◌, ◌+◌, ◌<◌, ◌^◌, ◌&&◌, not, [], ◌∷◌, None};
+ghost use Rattle.cg_base.specs.Lists.{first_some};
 ghost use Rattle.cg_base.specs.Sets.{has};
-ghost use Rattle.cg_group.specs.Refusals.{any_of, not_up, not_regular, still_regular, is_together, not_together, same_phase, merge_refusal};
+ghost use Rattle.cg_group.specs.State.{delivered_to};
+ghost use Rattle.cg_group.specs.Refusals.{any_of, not_up, not_regular, still_regular, is_together, not_together, same_phase, deliver_refusal, merge_refusal};
 
 use crate::{Group, Phase, Reason};
 use cg_base::{IdSet, ReplicaId};
@@ -92,5 +94,34 @@ impl<M> Group<M> {
             None => {}
         }
         self.first_missing(set, left)
+    }
+
+    // the replica isn't up, or isn't regular
+    fn not_regular(&self, p: ReplicaId) -> Option<Reason>
+        ensures { result ≡ first_some (not_up self.now p ∷ not_regular self.now p ∷ []) }
+    {
+        if !self.is_up(p) {
+            return Some(Reason::NotUp(p));
+        }
+        if !self.is_regular(p) {
+            return Some(Reason::NotRegular(p));
+        }
+        None
+    }
+
+    // why the replica can't be handed so many places
+    pub(crate) fn deliver_refusal(&self, p: ReplicaId, k: u64) -> Option<Reason>
+        ensures reason { result ≡ deliver_refusal self.now p k }
+        ensures fits { result ≡ None → delivered_to self.now p + k < 2 ^ 64 }
+    {
+        match self.not_regular(p) {
+            Some(reason) => return Some(reason),
+            None => {}
+        }
+        let ready = self.ready(p);
+        if ready < k {
+            return Some(Reason::NotReady(ready));
+        }
+        None
     }
 }

@@ -7,9 +7,9 @@ use Rattle.cg_group.specs.Ready.{all_received, ready_in}
 use Rattle.cg_group.proofs.LogFacts.{prefix-goes_on, prefix-ends, above_up_to-none}
 use Rattle.cg_group.proofs.log.Log.ready.Goals as goal
 
-pub returns-then-not-is_received_by_all : goal.returns-then-not-is_received_by_all
+pub returns-then-not-is_received_by_all-clause-count : goal.returns-then-not-is_received_by_all-clause-count
 unfolding ready_in
-returns-then-not-is_received_by_all g c =
+returns-then-not-is_received_by_all-clause-count g c =
     let t = all_received c.args.self.now.configuration in
     let long : c.len-len.result ≡ length c.args.self.now.configuration.ordered = rw (← c.self.view_is, length-map) (omega arith) in
     let here : t (suc c.loop-place.place) ≡ false = rw add-one at (sym c.is_received_by_all.ensures ∙ c.if-not-is_received_by_all.true) in
@@ -23,9 +23,9 @@ loop-place-preserved g c =
     let goes_on = prefix-goes_on t c.loop-place.place c.len-len.result c.loop-place-test.true here in
     (omega (arith, c.loop-place.invariant.0), rw add-one (omega (arith, goes_on, c.loop-place.invariant.0, c.loop-place.invariant.1)))
 
-pub returns : goal.returns
+pub returns-clause-count : goal.returns-clause-count
 unfolding ready_in
-returns g c =
+returns-clause-count g c =
     let t = all_received c.args.self.now.configuration in
     let long : c.len-len.result ≡ length c.args.self.now.configuration.ordered = rw (← c.self.view_is, length-map) (omega arith) in
     let ends = ap (prefix_len t) (above_up_to-none c.loop-place.place c.len-len.result c.loop-place-test.false) in
