@@ -3,14 +3,10 @@ use Rattle.std.proofs.Common.{◌≡◌, ℕ, zero, suc, ◌<◌, ◌≤◌, Boo
 use Rattle.std.specs.Option.{option_map_or, option_copied}
 use Rattle.cg_base.specs.Lists.{at_place}
 use Rattle.cg_group.specs.State.{Configuration, Standing, GroupState, no_configuration, configuration}
-use Rattle.cg_group.specs.Logs.{Stored, configurations_of}
+use Rattle.cg_group.specs.Logs.{Stored, configurations_of, group_of, RoomFor}
 use Rattle.cg_group.proofs.LogFacts.{at_place-map}
 
 module _ {M : Type 0} where
-  -- the group of these logs and replicas
-  abbrev pub group_of : List (Stored M) → List (Standing M) → GroupState M
-  group_of logs replicas = record { configurations = configurations_of logs; replicas = replicas }
-
   pub configuration-of : (logs : List (Stored M)) (replicas : List (Standing M)) (conf : ℕ) →
       configuration (group_of logs replicas) conf ≡ option_map_or (λ s. s.configuration) (at_place logs conf) no_configuration
   unfolding configuration

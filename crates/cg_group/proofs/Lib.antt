@@ -21,3 +21,4 @@ pub mod GroupFacts
 pub mod FirstReasons
 pub mod UpFacts
 pub mod DeliveryFacts
+pub mod LogsFacts

@@ -8,6 +8,7 @@ mod error;
 mod group;
 mod law;
 mod log;
+mod logs;
 mod member;
 mod merging;
 mod phase;

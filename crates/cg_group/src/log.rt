@@ -58,6 +58,7 @@ impl<M> Log<M> {
     /// Makes room for that many more messages.
     pub(crate) fn reserve(&mut self, count: usize) -> Result<(), NoMemory>
         ensures same { self.new.configuration ≡ self.old.configuration }
+        ensures kept { self.old.room ≤ self.new.room }
         ensures room { OnOk result (count ≤ self.new.room) }
     {
         self.ordered.reserve(count)?;

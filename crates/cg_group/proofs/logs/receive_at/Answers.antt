@@ -1,0 +1,16 @@
+use Rattle.std.proofs.Common.{◌≡◌, ap, ◌∙◌}
+use Rattle.cg_group.specs.Logs.{Stored}
+use Rattle.cg_group.specs.Events.{with_receipt}
+use Rattle.cg_group.proofs.LogsFacts.{written, written_nowhere, written_beyond}
+use Rattle.cg_group.proofs.logs.receive_at.Goals as goal
+
+pub returns-then-conf-eq0 : goal.returns-then-conf-eq0
+returns-then-conf-eq0 g c = written_nowhere (λ x. with_receipt x c.args.p c.args.place) c.args.logs.now c.args.conf c.if-conf-eq0.true
+
+pub returns-then-conf-logs : goal.returns-then-conf-logs
+returns-then-conf-logs g c = written_beyond (λ x. with_receipt x c.args.p c.args.place) c.args.logs.now c.args.conf c.if-conf-logs.true
+
+pub returns : goal.returns
+returns g c =
+    written (λ x. with_receipt x c.args.p c.args.place) c.args.logs.now c.args.conf c.index-logs-conf.result c.receive.new.self c.if-conf-eq0.false c.if-conf-logs.false
+    c.receive.ensures.value
