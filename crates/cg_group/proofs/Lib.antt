@@ -22,3 +22,4 @@ pub mod FirstReasons
 pub mod UpFacts
 pub mod DeliveryFacts
 pub mod LogsFacts
+pub mod OrderFacts

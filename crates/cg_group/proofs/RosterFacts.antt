@@ -1,8 +1,8 @@
 -- The replicas that are up, after one of them has changed, has come up or has gone down.
-use Rattle.std.proofs.Common.{◌≡◌, ℕ, zero, suc, ◌<◌, ◌≤◌, Bool, true, false, cond, not, List, [], ◌∷◌, length, Option, Some, None, refl, sym, ap, subst, ◌∙◌, arith, eqb, eqb-true, map, filter, find, fold, position, take, drop, ◌++◌, ◌+◌, MatchOption, one-add, Result, Ok, Err, OnOk, get_or, if◌then◌else◌, inl, inr, ⊎_elim, is_some, nat_lt}
+use Rattle.std.proofs.Common.{◌≡◌, ℕ, zero, suc, ◌<◌, ◌≤◌, Bool, true, false, cond, not, List, [], ◌∷◌, length, Option, Some, None, refl, sym, ap, subst, ◌∙◌, arith, eqb, eqb-true, map, filter, find, fold, position, take, drop, ◌++◌, ◌+◌, MatchOption, one-add, append_assoc, Result, Ok, Err, OnOk, get_or, if◌then◌else◌, inl, inr, ⊎_elim, is_some, nat_lt}
 use Rattle.std.specs.Prelude.{◌==◌}
 use Rattle.std.proofs.Math.ListN.{set}
-use Rattle.std.proofs.lemmas.List.{set-get_or}
+use Rattle.std.proofs.lemmas.List.{set-get_or, append-nil}
 use Rattle.std.specs.List.{insert, remove, prefix_len}
 use Rattle.std.proofs.Math.Seq.{map-set_same}
 use Rattle.std.specs.List.{position_or_len, slice_get}
@@ -14,8 +14,8 @@ use Rattle.std.proofs.lemmas.Option.{slice_get-get_or, slice_get_past}
 use Rattle.std.proofs.lemmas.Bool.{cases_Bool, cases_order, cases_lt, cond-true, cond-false, eq-eqb, ne_eqb, eqb-false, lt-ltb, le-ltb}
 use Rattle.cg_base.specs.Sets.{Ascends, IsId, with_member, without_member}
 use Rattle.cg_base.proofs.SetLemmas.{Ascends-with_member, Ascends-filter, filter-keeps, filter-drops, with_member-same, with_member-front, with_member-later, has-before}
-use Rattle.cg_group.specs.State.{Standing, with_standing}
-use Rattle.cg_group.specs.Rosters.{ids_of, IsRoster, found, changing}
+use Rattle.cg_group.specs.State.{Standing, with_standing, regular_in}
+use Rattle.cg_group.specs.Rosters.{ids_of, IsRoster, found, changing, waits_of, regulars_of}
 
 -- what follows where a call is done
 pub ok_then : {T E : Type 0} {P Q : Type 0} (r : Result T E) → (P → Q) → OnOk r P → OnOk r Q
@@ -166,9 +166,56 @@ module _ {M : Type 0} where
       position (λ s. s.id == p) replicas ≡ Some i → IsRoster replicas → new.id ≡ (get_or replicas i d).id →
       MatchOption result (((get_or replicas i d).unordered ≡ []) × (new ≡ get_or replicas i d))
       (λ m. ((get_or replicas i d).unordered ≡ m ∷ new.unordered) × (new ≡ record (get_or replicas i d) { unordered = new.unordered })) →
-      MatchOption result (set replicas i new ≡ replicas)
+      MatchOption result ((set replicas i new ≡ replicas) × (waits_of replicas p ≡ []))
       (λ m. (s : Standing M) × (rest : List M) × (found replicas p ≡ Some s) × (s.unordered ≡ m ∷ rest) × (set replicas i new ≡ with_standing replicas (record s { unordered = rest })))
-  taken_there None replicas p i d new at roster same h = ap (set replicas i) h.1 ∙ set-get_or replicas i d
+  taken_there None replicas p i d new at roster same h =
+      (ap (set replicas i) h.1 ∙ set-get_or replicas i d, ap (λ o. option_map_or (λ (s : Standing M). s.unordered) o []) (found_there replicas p i d at).2 ∙ h.0)
   taken_there (Some m) replicas p i d new at roster same h =
       let w = found_there replicas p i d at in
       (get_or replicas i d, new.unordered, w.2, h.0, set-with_standing replicas 1 i new d roster.ascends w.0 (sym same) ∙ ap (with_standing replicas) h.1)
+
+-- each is below the number
+AllBelow : ℕ → List ℕ → Type 0
+AllBelow p [] = Unit {0}
+AllBelow p (q ∷ set) = (q < p) × AllBelow p set
+
+below_more : (set : List ℕ) (low p : ℕ) → low ≤ p → AllBelow low set → AllBelow (suc p) set
+unfolding AllBelow
+below_more [] low p le below = tt
+below_more (q ∷ set) low p le below = (let lt : q < low = below.0 in omega arith, below_more set low p le below.1)
+
+below_append : (set : List ℕ) (p : ℕ) → AllBelow (suc p) set → AllBelow (suc p) (set ++ p ∷ [])
+unfolding AllBelow
+below_append [] p below = (omega arith, tt)
+below_append (q ∷ set) p below = (below.0, below_append set p below.1)
+
+-- a member above all others stands last
+with_member-last : (set : List ℕ) (low p : ℕ) → low ≤ p → AllBelow low set → with_member set p ≡ set ++ p ∷ []
+unfolding AllBelow
+with_member-last [] low p le below = refl
+with_member-last (q ∷ set) low p le below =
+    let lt : q < low = below.0 in with_member-later q set p (omega arith) ∙ ap (λ z. q ∷ z) (with_member-last set low p le below.1)
+
+module _ {M : Type 0} where
+  -- the set, with a replica that is regular
+  abbrev pub with_regular : List ℕ → Standing M → List ℕ
+  with_regular set s = if regular_in s.phase == 0 then set else with_member set s.id
+
+  regulars_from : (replicas : List (Standing M)) (set : List ℕ) (low : ℕ) → AllBelow low set → Ascends low (ids_of replicas) →
+      fold with_regular set replicas ≡ set ++ regulars_of replicas
+  regulars_from [] set low below ascends = sym (append-nil set)
+  regulars_from (s ∷ replicas) set low below ascends =
+      let above : low ≤ s.id = ascends.0 in
+      ⊎_elim
+      (λ y. ap (λ z. fold with_regular z replicas) (cond-true (regular_in s.phase == 0) set (with_member set s.id) y)
+      ∙ regulars_from replicas set (suc s.id) (below_more set low s.id above below) ascends.2
+      ∙ ap (λ z. set ++ map (λ s. s.id) z) (sym (filter-drops (λ (s : Standing M). not (regular_in s.phase == 0)) s replicas (ap not y))))
+      (λ n. ap (λ z. fold with_regular z replicas) (cond-false (regular_in s.phase == 0) set (with_member set s.id) n ∙ with_member-last set low s.id above below)
+      ∙ regulars_from replicas (set ++ s.id ∷ []) (suc s.id) (below_append set s.id (below_more set low s.id above below)) ascends.2
+      ∙ append_assoc set (s.id ∷ []) (regulars_of replicas)
+      ∙ ap (λ z. set ++ map (λ s. s.id) z) (sym (filter-keeps (λ (s : Standing M). not (regular_in s.phase == 0)) s replicas (ap not n))))
+      (cases_Bool (regular_in s.phase == 0))
+
+  pub regulars-all : (replicas : List (Standing M)) → IsRoster replicas → fold with_regular [] replicas ≡ regulars_of replicas
+  unfolding AllBelow
+  regulars-all replicas roster = regulars_from replicas [] 1 tt roster.ascends

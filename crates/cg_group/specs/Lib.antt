@@ -5,5 +5,5 @@ pub mod Events
 pub mod Refusals
 pub mod History
 pub mod Synchrony
-pub mod Logs
 pub mod Rosters
+pub mod Logs

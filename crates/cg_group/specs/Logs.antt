@@ -1,8 +1,10 @@
 -- How a configuration lies in memory.
-use Rattle.std.specs.Prelude.{◌≡◌, ℕ, ◌≤◌, List, map, Some}
-use Rattle.cg_base.specs.Lists.{at_place}
+use Rattle.std.specs.Prelude.{◌≡◌, ℕ, ◌≤◌, length, List, [], ◌∷◌, map, fold, Some}
+use Rattle.cg_base.specs.Lists.{at_place, above_up_to}
 use Rattle.cg_group.specs.declared.placed.Placed.{Placed}
 use Rattle.cg_group.specs.State.{Configuration, Sent, Standing, GroupState}
+use Rattle.cg_group.specs.Events.{with_receipt}
+use Rattle.cg_group.specs.Rosters.{conf_of}
 
 -- a configuration, and how many more messages it takes without more memory
 pub record Stored (M : Type 0) : Type 0 where
@@ -30,3 +32,12 @@ module _ {M : Type 0} where
   -- the configuration of a number takes so many more messages without more memory
   abbrev pub RoomFor : List (Stored M) → ℕ → ℕ → Type 0
   RoomFor logs conf n = (s : Stored M) → at_place logs conf ≡ Some s → n ≤ s.room
+
+  -- the configuration of each of these replicas takes so many more messages without more memory
+  abbrev pub RoomForAll : List (Stored M) → List (Standing M) → ℕ → List ℕ → Type 0
+  RoomForAll logs replicas n [] = Unit {0}
+  RoomForAll logs replicas n (p ∷ set) = RoomFor logs (conf_of replicas p) n × RoomForAll logs replicas n set
+
+  -- a member has received every place
+  abbrev pub with_all_receipts : Configuration M → ℕ → Configuration M
+  with_all_receipts c p = fold (λ c place. with_receipt c p place) c (above_up_to 0 (length c.ordered))

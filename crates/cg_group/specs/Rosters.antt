@@ -1,9 +1,9 @@
 -- The replicas that are up, ascending, and what one of them does.
-use Rattle.std.specs.Prelude.{◌≡◌, ℕ, ◌==◌, true, not, List, [], ◌∷◌, ◌++◌, Option, Some, None, map, filter, find}
+use Rattle.std.specs.Prelude.{◌≡◌, ℕ, ◌==◌, true, not, ◌+◌, length, List, [], ◌∷◌, ◌++◌, Option, Some, None, map, filter, find}
 use Rattle.std.specs.Option.{option_map_or}
 use Rattle.cg_base.specs.Sets.{Ascends}
-use Rattle.cg_group.specs.declared.phase.Phase.{Phase}
-use Rattle.cg_group.specs.State.{Standing, GroupState, with_standing, is_up}
+use Rattle.cg_group.specs.declared.phase.Phase.TheVariants.{Down}
+use Rattle.cg_group.specs.State.{Standing, GroupState, with_standing, is_up, regular_in}
 
 module _ {M : Type 0} where
   -- the identifiers
@@ -33,6 +33,23 @@ module _ {M : Type 0} where
   -- the replicas with the found one changed, where it is up
   abbrev pub changing : (Standing M → Standing M) → List (Standing M) → ℕ → List (Standing M)
   changing change replicas p = option_map_or (λ s. with_standing replicas (change s)) (found replicas p) replicas
+
+  -- the replica's messages without a place
+  abbrev pub waits_of : List (Standing M) → ℕ → List M
+  waits_of replicas p = option_map_or (λ s. s.unordered) (found replicas p) []
+
+  -- the configuration in which the replica is regular, 0 for none
+  abbrev pub conf_of : List (Standing M) → ℕ → ℕ
+  conf_of replicas p = regular_in (option_map_or (λ s. s.phase) (found replicas p) Down)
+
+  -- the replicas that are regular, ascending
+  abbrev pub regulars_of : List (Standing M) → List ℕ
+  regulars_of replicas = map (λ s. s.id) (filter (λ s. not (regular_in s.phase == 0)) replicas)
+
+  -- how many messages of these replicas wait for a place
+  abbrev pub pending : List (Standing M) → List ℕ → ℕ
+  pending replicas [] = 0
+  pending replicas (p ∷ set) = length (waits_of replicas p) + pending replicas set
 
   -- each of the replicas is up
   abbrev pub AllUp : GroupState M → List ℕ → Type 0

@@ -1,13 +1,13 @@
-ghost use Rattle.std.specs.Prelude.{◌≡◌, [], ◌∷◌, ◌==◌, nat_lt, not, true, List, filter, position, is_some, OnOk, OnErr, MatchOption};
+ghost use Rattle.std.specs.Prelude.{◌≡◌, [], ◌∷◌, ◌==◌, nat_lt, not, length, if◌then◌else◌, true, List, filter, position, is_some, OnOk, OnErr, MatchOption};
 ghost use Rattle.std.specs.Option.{option_copied};
 ghost use Rattle.std.specs.List.{prefix_len};
-ghost use Rattle.cg_base.specs.Sets.{IsId};
-ghost use Rattle.cg_group.specs.State.{Standing, with_standing};
-ghost use Rattle.cg_group.specs.Rosters.{found, changing, waiting, handed_so_far, with_unordered};
+ghost use Rattle.cg_base.specs.Sets.{IsId, with_member};
+ghost use Rattle.cg_group.specs.State.{Standing, with_standing, regular_in};
+ghost use Rattle.cg_group.specs.Rosters.{found, changing, waiting, handed_so_far, with_unordered, waits_of, conf_of, regulars_of};
 
 use crate::member::Member;
 use crate::Phase;
-use cg_base::{NoMemory, ReplicaId};
+use cg_base::{IdSet, NoMemory, ReplicaId};
 use std::alloc::Global;
 use std::marker::Model;
 
@@ -36,6 +36,17 @@ fn position_of<M>(members: &[Member<M>], p: ReplicaId) -> Option<usize>
     members.iter().position(|m| m.id() == p)
 }
 
+// the set, with a replica that is regular
+fn with_regular<M>(set: IdSet, member: &Member<M>) -> IdSet
+    ensures { result ≡ (if regular_in member.now.phase == 0 then set else with_member set member.now.id) }
+{
+    let mut more = set;
+    if member.regular_in() != 0 {
+        more.add(member.id());
+    }
+    more
+}
+
 // where a replica that isn't up belongs, from 0
 fn place_for<M>(members: &[Member<M>], p: ReplicaId) -> usize
     ensures place { result ≡ prefix_len (λ s. nat_lt s.id p) members.now }
@@ -58,6 +69,37 @@ impl<M> Roster<M> {
         ensures { option_copied result ≡ found self.now p }
     {
         self.members.as_slice().iter().find(|m| m.id() == p)
+    }
+
+    /// The configuration in which a replica is regular, 0 for none.
+    pub(crate) fn regular_in(&self, p: ReplicaId) -> u64
+        ensures { result ≡ conf_of self.now p }
+    {
+        match self.find(p) {
+            Some(member) => member.regular_in(),
+            None => 0,
+        }
+    }
+
+    /// How many messages of a replica wait for a place.
+    pub(crate) fn waiting(&self, p: ReplicaId) -> usize
+        ensures { result ≡ length (waits_of self.now p) }
+    {
+        match self.find(p) {
+            Some(member) => member.unordered(),
+            None => 0,
+        }
+    }
+
+    /// The replicas that are regular.
+    pub(crate) fn regulars(&self) -> IdSet
+        ensures { result ≡ regulars_of self.now }
+    {
+        let mut regulars = IdSet::empty();
+        for member in self.members.as_slice() {
+            regulars = with_regular(regulars, member);
+        }
+        regulars
     }
 
     pub(crate) fn as_slice(&self) -> &[Member<M>]
@@ -112,7 +154,7 @@ impl<M> Roster<M> {
     /// The oldest message of a replica leaves, if there is one.
     pub(crate) fn take_oldest(&mut self, p: ReplicaId) -> Option<M>
         ensures { MatchOption result
-            (self.new ≡ self.old)
+            ((self.new ≡ self.old) × (waits_of self.old p ≡ []))
             (λ m. (s : Standing M) × (rest : List M) × (found self.old p ≡ Some s) × (s.unordered ≡ m ∷ rest) × (self.new ≡ with_standing self.old (with_unordered s rest))) }
     {
         match position_of(self.members.as_slice(), p) {
