@@ -23,3 +23,4 @@ pub mod UpFacts
 pub mod DeliveryFacts
 pub mod LogsFacts
 pub mod OrderFacts
+pub mod RoomFacts

@@ -5,7 +5,9 @@ ghost use Rattle.cg_group.specs.Ready.{ready};
 ghost use Rattle.cg_group.specs.Events.{with_delivered, become_regular, come_up, go_down, send, order, receive, gather, deliver, split, merge};
 ghost use Rattle.cg_group.specs.Refusals.{order_refusal, receive_refusal, deliver_refusal, split_refusal, merge_refusal, IsAnswer};
 
+use crate::gathering::{self, order_oldest};
 use crate::log::Log;
+use crate::logs::reserve_at;
 use crate::member::Member;
 use crate::place::at_place;
 use crate::roster::Roster;
@@ -80,6 +82,16 @@ impl<M> Group<M> {
         ensures { result ≡ is_regular self.now p }
     {
         self.regular_in(p) != 0
+    }
+
+    // the last place of the configuration in which the replica is regular
+    pub(crate) fn last_place(&self, p: ReplicaId) -> u64
+        ensures { result ≡ length (home self.now p).ordered }
+    {
+        match self.home(p) {
+            Some(log) => log.len() as u64,
+            None => 0,
+        }
     }
 
     pub(crate) fn alloc(&self) -> Global {
@@ -195,5 +207,31 @@ impl<M: Drop> Group<M> {
         ensures { self.new ≡ with_delivered self.old p count }
     {
         self.roster.hand_out(p, count);
+    }
+
+    /// Each regular replica, ascending, orders all its messages, oldest first; then each of them receives every place of its
+    /// configuration.
+    pub fn gather(&mut self) -> Result<(), NoMemory>
+        ensures ok { OnOk result (self.new ≡ gather self.old) }
+        ensures err { OnErr result (self.new ≡ self.old) }
+    {
+        gathering::gather(&mut self.logs, &mut self.roster)
+    }
+
+    // the oldest message of a replica gets the next place, where it has one
+    pub(crate) fn order_next(&mut self, p: ReplicaId) -> Result<(), NoMemory>
+        ensures ok { OnOk result (self.new ≡ order self.old p) }
+        ensures err { OnErr result (self.new ≡ self.old) }
+    {
+        reserve_at(&mut self.logs, self.roster.regular_in(p), 1)?;
+        order_oldest(&mut self.logs, &mut self.roster, p);
+        Ok(())
+    }
+
+    // a replica has received a place
+    pub(crate) fn receive_place(&mut self, p: ReplicaId, place: u64)
+        ensures { self.new ≡ receive self.old p place }
+    {
+        gathering::receive_place(&mut self.logs, &self.roster, p, place);
     }
 }

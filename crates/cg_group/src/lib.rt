@@ -5,6 +5,7 @@ mod deliveries;
 mod outgoing;
 mod delivery;
 mod error;
+mod gathering;
 mod group;
 mod law;
 mod log;

@@ -2,7 +2,7 @@ ghost use Rattle.std.specs.Prelude.{◌≡◌, ◌<◌, ◌≤◌, ◌+◌, ◌^
 ghost use Rattle.std.specs.Option.{option_copied, option_map};
 ghost use Rattle.cg_base.specs.Lists.{at_place};
 ghost use Rattle.cg_group.specs.State.{has_received};
-ghost use Rattle.cg_group.specs.Logs.{sent_of};
+ghost use Rattle.cg_group.specs.Logs.{sent_of, with_all_receipts};
 ghost use Rattle.cg_group.specs.Ready.{ready_in, all_received};
 ghost use Rattle.cg_group.specs.Events.{with_message, with_receipt};
 
@@ -96,6 +96,17 @@ impl<M> Log<M> {
         }
         let placed = &mut self.ordered[(place - 1) as usize];
         placed.received.add(p);
+    }
+
+    /// A member has received every place.
+    pub(crate) fn receive_all(&mut self, p: ReplicaId)
+        ensures value { self.new.configuration ≡ with_all_receipts self.old.configuration p }
+        ensures room { self.new.room ≡ self.old.room }
+    {
+        let len = self.ordered.len() as u64;
+        for place in 0..len {
+            self.receive(p, place + 1);
+        }
     }
 
     /// The message of a place, with its sender.

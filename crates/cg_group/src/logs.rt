@@ -2,7 +2,7 @@
 ghost use Rattle.std.specs.Prelude.{◌≡◌, ℕ, suc, OnOk};
 ghost use Rattle.cg_group.specs.State.{changed_at};
 ghost use Rattle.cg_group.specs.Events.{with_message, with_receipt};
-ghost use Rattle.cg_group.specs.Logs.{RoomFor, configurations_of};
+ghost use Rattle.cg_group.specs.Logs.{RoomFor, configurations_of, with_all_receipts};
 
 use crate::log::Log;
 use cg_base::{NoMemory, ReplicaId};
@@ -51,4 +51,18 @@ pub(crate) fn receive_at<M>(logs: &mut [Log<M>], conf: u64, p: ReplicaId, place:
     }
     let log = &mut logs[(conf - 1) as usize];
     log.receive(p, place);
+}
+
+// a member has received every place
+pub(crate) fn receive_all_at<M>(logs: &mut [Log<M>], conf: u64, p: ReplicaId)
+    ensures { configurations_of logs.new ≡ changed_at (λ c. with_all_receipts c p) (configurations_of logs.old) conf }
+{
+    if conf == 0 {
+        return;
+    }
+    if conf > logs.len() as u64 {
+        return;
+    }
+    let log = &mut logs[(conf - 1) as usize];
+    log.receive_all(p);
 }
