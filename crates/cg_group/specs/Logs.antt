@@ -1,8 +1,12 @@
 -- How a configuration lies in memory.
-use Rattle.std.specs.Prelude.{◌≡◌, ℕ, ◌≤◌, length, List, [], ◌∷◌, map, fold, Some}
-use Rattle.cg_base.specs.Lists.{at_place, above_up_to}
+use Rattle.std.specs.Prelude.{◌≡◌, ℕ, ◌≤◌, ◌-◌, length, List, [], ◌∷◌, map, fold, find, Option, Some, is_none}
+use Rattle.cg_base.specs.Lists.{at_place, above_up_to, first_some}
+use Rattle.std.specs.Option.{option_map}
 use Rattle.cg_group.specs.declared.placed.Placed.{Placed}
-use Rattle.cg_group.specs.State.{Configuration, Sent, Standing, GroupState}
+use Rattle.cg_group.specs.State.{Configuration, Sent, Standing, GroupState, has_received}
+use Rattle.cg_group.specs.declared.reason.Reason.{Reason}
+use Rattle.cg_group.specs.declared.reason.Reason.TheVariants.{NoSuchPlace, AlreadyReceived, EarlierMissing}
+use Rattle.cg_group.specs.Refusals.{refuse, is_missing}
 use Rattle.cg_group.specs.Events.{with_receipt}
 use Rattle.cg_group.specs.Rosters.{conf_of}
 
@@ -41,3 +45,12 @@ module _ {M : Type 0} where
   -- a member has received every place
   abbrev pub with_all_receipts : Configuration M → ℕ → Configuration M
   with_all_receipts c p = fold (λ c place. with_receipt c p place) c (above_up_to 0 (length c.ordered))
+
+  -- why a member can't receive a place
+  abbrev pub place_refusal : Configuration M → ℕ → ℕ → Option Reason
+  place_refusal c p place = first_some (
+    refuse (is_none (at_place c.ordered place)) (NoSuchPlace place)
+    ∷ refuse (has_received c p place) (AlreadyReceived place)
+    ∷ option_map EarlierMissing (find (is_missing c p place) (above_up_to 0 (place - 1)))
+    ∷ []
+  )

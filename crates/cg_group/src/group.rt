@@ -1,6 +1,6 @@
 ghost use Rattle.std.specs.Prelude.{◌≡◌, ◌+◌, ◌<◌, ◌^◌, true, false, [], ◌∷◌, ◌++◌, suc, length, IfOk, OnOk, OnErr, MatchOption};
 ghost use Rattle.std.specs.Option.{option_copied};
-ghost use Rattle.cg_group.specs.State.{GroupState, no_group, no_configuration, standing_of, is_up, is_regular, regular_in, phase_of, delivered_to, home};
+ghost use Rattle.cg_group.specs.State.{GroupState, no_group, no_configuration, standing_of, is_up, is_regular, regular_in, phase_of, delivered_to, unordered_of, home};
 ghost use Rattle.cg_group.specs.Ready.{ready};
 ghost use Rattle.cg_group.specs.Events.{with_delivered, become_regular, come_up, go_down, send, order, receive, gather, deliver, split, merge};
 ghost use Rattle.cg_group.specs.Refusals.{order_refusal, receive_refusal, deliver_refusal, split_refusal, merge_refusal, IsAnswer};
@@ -82,6 +82,16 @@ impl<M> Group<M> {
         ensures { result ≡ is_regular self.now p }
     {
         self.regular_in(p) != 0
+    }
+
+    /// How many messages of the replica wait for a place.
+    pub fn waiting(&self, p: ReplicaId) -> usize
+        ensures { result ≡ length (unordered_of self.now p) }
+    {
+        match self.standing(p) {
+            Some(member) => member.unordered(),
+            None => 0,
+        }
     }
 
     // the last place of the configuration in which the replica is regular

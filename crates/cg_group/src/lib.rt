@@ -16,8 +16,10 @@ mod phase;
 mod place;
 mod placed;
 mod reason;
+mod receipts;
 mod refusals;
 mod roster;
+mod steps;
 mod try_clone;
 
 pub use delivery::{Delivery, DeliveryList, Handed, HandedList};

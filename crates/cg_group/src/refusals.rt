@@ -2,7 +2,7 @@ ghost use Rattle.std.specs.Prelude.{◌≡◌, ◌+◌, ◌<◌, ◌^◌, ◌&&�
 ghost use Rattle.cg_base.specs.Lists.{first_some};
 ghost use Rattle.cg_base.specs.Sets.{has};
 ghost use Rattle.cg_group.specs.State.{delivered_to};
-ghost use Rattle.cg_group.specs.Refusals.{any_of, not_up, not_regular, still_regular, is_together, not_together, same_phase, deliver_refusal, merge_refusal};
+ghost use Rattle.cg_group.specs.Refusals.{any_of, not_up, not_regular, still_regular, is_together, not_together, same_phase, order_refusal, receive_refusal, deliver_refusal, merge_refusal};
 
 use crate::{Group, Phase, Reason};
 use cg_base::{IdSet, ReplicaId};
@@ -123,5 +123,33 @@ impl<M> Group<M> {
             return Some(Reason::NotReady(ready));
         }
         None
+    }
+
+    // why the replica's oldest message can't be ordered
+    pub(crate) fn order_refusal(&self, p: ReplicaId) -> Option<Reason>
+        ensures { result ≡ order_refusal self.now p }
+    {
+        match self.not_regular(p) {
+            Some(reason) => return Some(reason),
+            None => {}
+        }
+        if self.waiting(p) == 0 {
+            return Some(Reason::NothingToOrder(p));
+        }
+        None
+    }
+
+    // why the replica can't receive the place
+    pub(crate) fn receive_refusal(&self, p: ReplicaId, place: u64) -> Option<Reason>
+        ensures { result ≡ receive_refusal self.now p place }
+    {
+        match self.not_regular(p) {
+            Some(reason) => return Some(reason),
+            None => {}
+        }
+        match self.home(p) {
+            Some(log) => log.place_refusal(p, place),
+            None => Some(Reason::NoSuchPlace(place)),
+        }
     }
 }

@@ -1,0 +1,58 @@
+ghost use Rattle.std.specs.Prelude.{◌≡◌, ◌-◌, ◌==◌, ◌&&◌, not, find};
+ghost use Rattle.cg_base.specs.Lists.{above_up_to};
+ghost use Rattle.cg_group.specs.State.{has_received};
+ghost use Rattle.cg_group.specs.Refusals.{is_missing, sender_at};
+ghost use Rattle.cg_group.specs.Logs.{place_refusal};
+
+use crate::Reason;
+use crate::log::Log;
+use cg_base::ReplicaId;
+
+impl<M> Log<M> {
+    /// Why a member can't receive a place: there is no such place, it has received it, or it lacks an earlier place of the same sender.
+    pub(crate) fn place_refusal(&self, p: ReplicaId, place: u64) -> Option<Reason>
+        ensures { result ≡ place_refusal self.now.configuration p place }
+    {
+        match self.get(place) {
+            None => return Some(Reason::NoSuchPlace(place)),
+            Some(_) => {}
+        }
+        if self.has_received(p, place) {
+            return Some(Reason::AlreadyReceived(place));
+        }
+        match self.first_missing(p, place) {
+            Some(earlier) => Some(Reason::EarlierMissing(earlier)),
+            None => None,
+        }
+    }
+
+    // the earliest place of the same sender that the member lacks
+    fn first_missing(&self, p: ReplicaId, place: u64) -> Option<u64>
+        ensures { result ≡ find (is_missing self.now.configuration p place) (above_up_to 0 (place - 1)) }
+    {
+        let sender = self.sender(place);
+        for earlier in 1..place {
+            if self.lacks(p, sender, earlier) {
+                return Some(earlier);
+            }
+        }
+        None
+    }
+
+    // the sender of the message at a place, where there is one
+    fn sender(&self, place: u64) -> u8
+        ensures { result ≡ sender_at self.now.configuration place }
+    {
+        match self.get(place) {
+            Some(placed) => placed.from.get(),
+            None => 0,
+        }
+    }
+
+    // the place is of that sender, and the member lacks it
+    fn lacks(&self, p: ReplicaId, sender: u8, place: u64) -> bool
+        ensures { result ≡ ((sender_at self.now.configuration place == sender) && not (has_received self.now.configuration p place)) }
+    {
+        self.sender(place) == sender && !self.has_received(p, place)
+    }
+}
