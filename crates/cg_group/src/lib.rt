@@ -12,6 +12,7 @@ mod log;
 mod logs;
 mod member;
 mod merging;
+mod parting;
 mod phase;
 mod place;
 mod placed;
