@@ -83,7 +83,7 @@ module _ {M : Type 0} where
   -- one more replica, or one that was there
   pub IsRoster-with_standing : (replicas : List (Standing M)) (new : Standing M) → IsId new.id → IsRoster replicas → IsRoster (with_standing replicas new)
   IsRoster-with_standing replicas new is_id roster = record {
-    ascends = subst (Ascends 1) (sym (ids_of-with_standing replicas new)) (Ascends-with_member (ids_of replicas) 1 new.id is_id.0 is_id.1 roster.ascends)
+    ascends = subst (Ascends 1) (sym (ids_of-with_standing replicas new)) (Ascends-with_member (ids_of replicas) 1 new.id is_id.0 is_id.1 roster.ascends);
   }
 
   -- a replica that stands at a place is written again
@@ -101,7 +101,7 @@ module _ {M : Type 0} where
 
   pub IsRoster-filter : (replicas : List (Standing M)) (p : ℕ) → IsRoster replicas → IsRoster (filter (λ s. not (s.id == p)) replicas)
   IsRoster-filter replicas p roster = record {
-    ascends = subst (Ascends 1) (sym (ids_of-filter replicas p)) (Ascends-filter (λ q. not (q == p)) (ids_of replicas) 1 roster.ascends)
+    ascends = subst (Ascends 1) (sym (ids_of-filter replicas p)) (Ascends-filter (λ q. not (q == p)) (ids_of replicas) 1 roster.ascends);
   }
 
   -- the found replica is written again, changed

@@ -253,6 +253,7 @@ impl<M: Drop> Group<M> {
     {
         let conf = self.regular_in(p);
         let delivered = self.delivered(p);
-        self.roster.enter(p, Phase::Transitional { conf, set: *set }, delivered);
+        self.roster
+            .enter(p, Phase::Transitional { conf, set: *set }, delivered);
     }
 }

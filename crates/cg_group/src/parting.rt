@@ -27,7 +27,13 @@ impl<M> Log<M> {
 
 impl<M: Drop + TryClone> Log<M> {
     // puts the message of a place that one of the replicas has received
-    fn put_if_received(&self, alloc: Global, set: &IdSet, place: u64, out: &mut Vec<Delivery<M>>) -> Result<(), NoMemory>
+    fn put_if_received(
+        &self,
+        alloc: Global,
+        set: &IdSet,
+        place: u64,
+        out: &mut Vec<Delivery<M>>,
+    ) -> Result<(), NoMemory>
         ensures { OnOk result (out.new.items ≡ out.old.items
             ++ (if list_any (λ q. has_received self.now.configuration q place) set.now then delivery_at self.now.configuration place else [])) }
     {
@@ -38,7 +44,13 @@ impl<M: Drop + TryClone> Log<M> {
     }
 
     // puts the messages behind the first ones that one of the replicas has received
-    fn put_later(&self, alloc: Global, set: &IdSet, first: u64, out: &mut Vec<Delivery<M>>) -> Result<(), NoMemory>
+    fn put_later(
+        &self,
+        alloc: Global,
+        set: &IdSet,
+        first: u64,
+        out: &mut Vec<Delivery<M>>,
+    ) -> Result<(), NoMemory>
         ensures { OnOk result (out.new.items ≡ out.old.items
             ++ deliveries_at self.now.configuration (transitional_places self.now.configuration set.now first)) }
     {
@@ -111,7 +123,13 @@ impl<M: Drop + TryClone> Group<M> {
     }
 
     // puts the messages of a replica's configuration behind the first ones that one of the set has received
-    fn put_later(&self, p: ReplicaId, set: &IdSet, first: u64, out: &mut Vec<Delivery<M>>) -> Result<(), NoMemory>
+    fn put_later(
+        &self,
+        p: ReplicaId,
+        set: &IdSet,
+        first: u64,
+        out: &mut Vec<Delivery<M>>,
+    ) -> Result<(), NoMemory>
         ensures { OnOk result (out.new.items ≡ out.old.items ++ deliveries_at (home self.now p) (transitional_places (home self.now p) set.now first)) }
     {
         match self.home(p) {

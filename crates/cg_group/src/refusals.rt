@@ -14,9 +14,13 @@ fn same_phase(a: &Phase, b: &Phase) -> bool
     ensures { result ≡ same_phase a.now b.now }
 {
     match (a, b) {
-        (Phase::Transitional { conf, set }, Phase::Transitional { conf: other_conf, set: other_set }) => {
-            conf == other_conf && (set.is_within(other_set) && other_set.is_within(set))
-        }
+        (
+            Phase::Transitional { conf, set },
+            Phase::Transitional {
+                conf: other_conf,
+                set: other_set,
+            },
+        ) => { conf == other_conf && (set.is_within(other_set) && other_set.is_within(set)) }
         _ => false,
     }
 }

@@ -8,6 +8,7 @@ enter_regular-requires g c = rw c.in_ok-open.ensures.ok (AllUp-opened c.args.sel
 
 pub returns-clause-ok : goal.returns-clause-ok
 unfolding merge
-returns-clause-ok g c =
-    (rw (c.enter_regular.ensures, c.in_ok-open.ensures.ok, c.next_conf-conf.ensures) refl,
-    c.from_vec.ensures ∙ rw (← c.next_conf-conf.ensures) c.in_ok-handed.ensures)
+returns-clause-ok g c = (
+  rw (c.enter_regular.ensures, c.in_ok-open.ensures.ok, c.next_conf-conf.ensures) refl,
+  c.from_vec.ensures ∙ rw (← c.next_conf-conf.ensures) c.in_ok-handed.ensures,
+)

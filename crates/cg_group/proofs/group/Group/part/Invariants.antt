@@ -5,6 +5,6 @@ use Rattle.cg_group.specs.Rosters.{AllUp}
 use Rattle.cg_group.proofs.group.Group.part.Given as goal
 
 abbrev pub invariant-loop-p : goal.invariant-loop-p
-invariant-loop-p g l = 
+invariant-loop-p g l =
     (fold (become_transitional l.set) l.self (members_left l.p-iterator) ≡ fold (become_transitional l.set) l.initial.self l.set)
     × AllUp l.self (members_left l.p-iterator)

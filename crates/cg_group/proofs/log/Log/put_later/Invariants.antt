@@ -6,6 +6,6 @@ use Rattle.cg_group.specs.Events.{deliveries_at}
 use Rattle.cg_group.proofs.log.Log.put_later.Given as goal
 
 abbrev pub invariant-loop-place : goal.invariant-loop-place
-invariant-loop-place g l = 
+invariant-loop-place g l =
     l.out.items ++ deliveries_at l.self.configuration (filter (λ place. list_any (λ q. has_received l.self.configuration q place) l.set) (above_up_to l.place l.len))
     ≡ l.initial.out.items ++ deliveries_at l.self.configuration (filter (λ place. list_any (λ q. has_received l.self.configuration q place) l.set) (above_up_to l.fn.first l.len))

@@ -7,9 +7,10 @@ use Rattle.cg_group.proofs.log.Log.receive_all.Goals as goal
 
 pub loop-place-preserved : goal.loop-place-preserved
 loop-place-preserved g c =
-    let value = rw add-one at c.receive.ensures.value in
-    (rw add-one
-    (ap (λ x. fold (λ y place. with_receipt y c.args.p place) x (above_up_to (suc c.loop-place.place) c.len-len.result)) value
-    ∙ ap (fold (λ y place. with_receipt y c.args.p place) c.loop-place.self.configuration) (sym (above_up_to-next c.loop-place.place c.len-len.result c.loop-place-test.true))
-    ∙ c.loop-place.invariant.0),
-    c.receive.ensures.room ∙ c.loop-place.invariant.1)
+    let value = rw add-one at c.receive.ensures.value in (
+      rw add-one
+          (ap (λ x. fold (λ y place. with_receipt y c.args.p place) x (above_up_to (suc c.loop-place.place) c.len-len.result)) value
+          ∙ ap (fold (λ y place. with_receipt y c.args.p place) c.loop-place.self.configuration) (sym (above_up_to-next c.loop-place.place c.len-len.result c.loop-place-test.true))
+          ∙ c.loop-place.invariant.0),
+      c.receive.ensures.room ∙ c.loop-place.invariant.1,
+    )
