@@ -1,8 +1,8 @@
 -- Room for messages, as it is made and used.
-use Rattle.std.proofs.Common.{◌≡◌, ℕ, suc, ◌+◌, ◌<◌, ◌≤◌, List, [], ◌∷◌, ◌++◌, length, refl, sym, ap, subst, ◌∙◌, arith}
+use Rattle.std.proofs.Common.{ℕ, ◌+◌, ◌≤◌, List, [], ◌∷◌, ◌++◌, sym, subst, arith}
 use Rattle.cg_group.specs.State.{Standing}
 use Rattle.cg_group.specs.Logs.{Stored, RoomFor, RoomForAll}
-use Rattle.cg_group.specs.Rosters.{conf_of, waits_of, pending}
+use Rattle.cg_group.specs.Rosters.{conf_of, pending}
 use Rattle.cg_group.proofs.OrderFacts.{Stays}
 
 module _ {M : Type 0} where

@@ -119,10 +119,10 @@ fn put_answer(out: &mut Vec<u8>, answer: Result<Row<Handed>, GroupErr>) -> Resul
     }
 }
 
-fn put_refusal<T: Drop>(out: &mut Vec<u8>, answer: Result<T, GroupErr>) -> Result<(), NoMemory> {
-    match answer {
-        Ok(_) => Ok(()),
-        Err(error) => put_refused(out, error),
+fn put_refusal(out: &mut Vec<u8>, error: Option<GroupErr>) -> Result<(), NoMemory> {
+    match error {
+        Some(error) => put_refused(out, error),
+        None => Ok(()),
     }
 }
 
@@ -146,13 +146,11 @@ fn perform(
             let _waits = group.send(p, message)?;
             Ok(())
         }
-        b'o' => put_refusal(out, group.order(id(first(next(words))))),
+        b'o' => put_refusal(out, group.order(id(first(next(words)))).err()),
         b'r' => {
             let p = id(first(next(words)));
-            put_refusal(
-                out,
-                group.receive(p, u64::from(first(next(words)).saturating_sub(b'0'))),
-            )
+            let place = u64::from(first(next(words)).saturating_sub(b'0'));
+            put_refusal(out, group.receive(p, place).err())
         }
         b'g' => group.gather(),
         b'd' => {

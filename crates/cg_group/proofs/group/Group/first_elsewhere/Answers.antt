@@ -1,4 +1,4 @@
-use Rattle.std.proofs.Common.{◌≡◌, ◌∙◌, sym, ap, ℕ, not, find}
+use Rattle.std.proofs.Common.{◌∙◌, sym, ap, not, find}
 use Rattle.std.specs.Prelude.{◌==◌}
 use Rattle.std.specs.Option.{option_map}
 use Rattle.cg_group.specs.declared.reason.Reason.TheVariants.{NotOneConfiguration}

@@ -1,8 +1,8 @@
-use Rattle.std.proofs.Common.{◌≡◌, ◌++◌, ◌∷◌, sym, ap, ◌∙◌}
+use Rattle.std.proofs.Common.{◌++◌, ◌∷◌, ap, ◌∙◌}
 use Rattle.cg_base.specs.Lists.{above_up_to}
 use Rattle.cg_group.specs.declared.delivery.Delivery.TheVariants.{Transitional}
 use Rattle.cg_group.specs.State.{home, regular_in, phase_of, delivered_to}
-use Rattle.cg_group.specs.Events.{deliveries_at, transitional_places, handed_in_split, furthest}
+use Rattle.cg_group.specs.Events.{deliveries_at, transitional_places, handed_in_split}
 use Rattle.cg_group.proofs.DeliveryFacts.{three_parts}
 use Rattle.cg_group.proofs.group.Group.hand_split.Goals as goal
 

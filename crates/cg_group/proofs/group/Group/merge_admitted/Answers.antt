@@ -1,5 +1,5 @@
-use Rattle.std.proofs.Common.{◌≡◌, ap, ◌∙◌, sym, refl, fold, length, suc, map, ◌∷◌, []}
-use Rattle.cg_group.specs.Events.{become_regular, merge}
+use Rattle.std.proofs.Common.{◌∙◌, refl}
+use Rattle.cg_group.specs.Events.{merge}
 use Rattle.cg_group.proofs.UpFacts.{AllUp-opened}
 use Rattle.cg_group.proofs.group.Group.merge_admitted.Goals as goal
 

@@ -1,4 +1,4 @@
-use Rattle.std.proofs.Common.{◌≡◌, ◌∙◌, sym}
+use Rattle.std.proofs.Common.{◌∙◌, sym}
 use Rattle.cg_group.proofs.UpFacts.{AllUp-split}
 use Rattle.cg_group.proofs.group.Group.split.Goals as goal
 

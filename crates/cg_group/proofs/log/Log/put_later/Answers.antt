@@ -1,4 +1,4 @@
-use Rattle.std.proofs.Common.{◌≡◌, ◌+◌, ◌++◌, suc, ℕ, Bool, filter, ap, ◌∙◌, add-one}
+use Rattle.std.proofs.Common.{◌++◌, ℕ, Bool, filter, ap, ◌∙◌, add-one}
 use Rattle.std.specs.List.{list_any}
 use Rattle.cg_base.specs.Lists.{above_up_to}
 use Rattle.cg_group.specs.State.{has_received}

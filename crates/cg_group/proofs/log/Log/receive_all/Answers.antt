@@ -1,6 +1,5 @@
-use Rattle.std.proofs.Common.{◌≡◌, ◌+◌, suc, ap, sym, ◌∙◌, fold, add-one}
+use Rattle.std.proofs.Common.{suc, ap, sym, ◌∙◌, fold, add-one}
 use Rattle.cg_base.specs.Lists.{above_up_to}
-use Rattle.cg_group.specs.State.{Configuration}
 use Rattle.cg_group.specs.Events.{with_receipt}
 use Rattle.cg_group.proofs.LogFacts.{above_up_to-next}
 use Rattle.cg_group.proofs.log.Log.receive_all.Goals as goal
