@@ -1,18 +1,17 @@
 -- The invariant stays when replicas leave their configuration together, and when a new one begins.
-use Rattle.std.proofs.Common.{◌≡◌, ℕ, zero, suc, ◌+◌, ◌-◌, ◌<◌, ◌≤◌, ◌⊎◌, Bool, true, false, cond, ◌&&◌, ◌||◌, not, List, [], ◌∷◌, ◌++◌, length, Option, Some, None, IsTrue, refl, sym, ap, ap₂, subst, ◌∙◌, arith, eq-eqb, eqb-true, inl, inr, ⊎_elim, fold, filter, flat_map, map, find, append-nil, length-append, is_some, if◌then◌else◌}
+use Rattle.std.proofs.Common.{◌≡◌, ℕ, zero, suc, ◌+◌, ◌<◌, ◌≤◌, ◌⊎◌, Bool, true, false, cond, ◌&&◌, ◌||◌, not, List, [], ◌∷◌, ◌++◌, length, Option, Some, None, refl, sym, ap, ap₂, subst, ◌∙◌, arith, eq-eqb, eqb-true, inl, inr, ⊎_elim, fold, map, length-append, is_some, if◌then◌else◌}
 use Rattle.std.specs.Prelude.{◌==◌}
 use Rattle.std.specs.Option.{option_map_or}
-use Rattle.std.proofs.lemmas.Bool.{cases_Bool, cases_eq, cond-true, cond-false, ne_eqb, eqb-false, and_parts, and_from, and_left, or_left, or_right, or_cases, not_from_false}
+use Rattle.std.proofs.lemmas.Bool.{cases_Bool, cases_eq, cond-true, cond-false, ne_eqb, eqb-false, and_from, and_left, or_left, or_right, not_from_false}
 use Rattle.std.proofs.lemmas.Option.{same_Some}
-use Rattle.cg_base.specs.Lists.{above_up_to, at_place, first_some}
+use Rattle.cg_base.specs.Lists.{above_up_to, at_place}
 use Rattle.cg_base.specs.Sets.{has, same_set}
 use Rattle.cg_group.specs.declared.delivery.Delivery.{Delivery}
 use Rattle.cg_group.specs.declared.delivery.Delivery.TheVariants.{Transitional as TransitionalIn, Regular as RegularIn}
 use Rattle.cg_group.specs.declared.delivery.Handed.{Handed}
 use Rattle.cg_group.specs.declared.phase.Phase.{Phase}
 use Rattle.cg_group.specs.declared.phase.Phase.TheVariants.{Down, Alone, Regular, Transitional}
-use Rattle.cg_group.specs.declared.reason.Reason.{Reason}
-use Rattle.cg_group.specs.State.{Configuration, Standing, GroupState, no_configuration, standing_of, configuration, phase_of, delivered_to, unordered_of, home, regular_in, is_up, set_standing}
+use Rattle.cg_group.specs.State.{Configuration, Standing, GroupState, no_configuration, standing_of, configuration, phase_of, delivered_to, unordered_of, regular_in, set_standing}
 use Rattle.cg_group.specs.Ready.{all_received}
 use Rattle.cg_group.specs.Events.{deliveries_at, transitional_places, furthest, handed_in_split, become_transitional, split, become_regular, merge}
 use Rattle.cg_group.specs.Refusals.{not_up, not_regular, not_one_configuration, still_regular, not_together, empty_set, any_of, same_phase, split_refusal, merge_refusal}
@@ -22,10 +21,10 @@ use Rattle.cg_group.proofs.Picture.{Picture, Holds, EndsBy, put, conf_in, handed
 use Rattle.cg_group.proofs.PartingTogether.{parted_together}
 use Rattle.cg_group.proofs.Closing.{closed}
 use Rattle.cg_group.proofs.Opening.{opened}
-use Rattle.cg_group.proofs.Lookups.{at-cond, same_both, put-other, put-same, standing_of-set, configuration-set_standing, configurations-set_standing}
+use Rattle.cg_group.proofs.Lookups.{at-cond, same_both, put-other, put-same, standing_of-set, configurations-set_standing}
 use Rattle.cg_group.proofs.Diaries.{Booked, AreMessages-at, noted_parting, Booked-now, stay_in-now, Booked-ended, stay_in-ended, noted_begin, Booked-begun, stay_in-begun, handed_to-map}
-use Rattle.cg_group.proofs.Sound.{Sound, Sends, picture, same_picture, regular_phase, ticked}
-use Rattle.cg_group.proofs.Tests.{first_none, any_none, up_standing, regular_home, not_regular_now, one_configuration, same_set_refl, all_together, furthest_is}
+use Rattle.cg_group.proofs.Sound.{Sound, picture, same_picture, regular_phase, ticked}
+use Rattle.cg_group.proofs.Admitted.{first_none, any_none, regular_home, not_regular_now, one_configuration, same_set_refl, all_together, furthest_is}
 use Rattle.cg_group.proofs.Handing.{Sends-fewer}
 
 some_member : (set : List ℕ) → empty_set set ≡ None → (p : ℕ) × (has set p ≡ true)

@@ -1,13 +1,11 @@
 -- The invariant stays when replicas leave what they are in: they go down, or on to what comes next.
-use Rattle.std.proofs.Common.{◌≡◌, ℕ, zero, suc, ◌+◌, ◌-◌, ◌<◌, ◌≤◌, ◌⊎◌, Bool, true, false, ◌&&◌, not, List, [], ◌∷◌, ◌++◌, length, Option, Some, None, IsTrue, refl, sym, ap, ap₂, subst, subst₂, ◌∙◌, arith, eqb-true, eq-eqb, length-append, inl, inr, ⊎_elim, if◌then◌else◌}
+use Rattle.std.proofs.Common.{◌≡◌, ℕ, suc, ◌<◌, ◌≤◌, ◌⊎◌, Bool, true, false, ◌&&◌, not, List, [], length, Some, None, refl, sym, ap, subst, ◌∙◌, arith, eqb-true, eq-eqb, inl, inr, ⊎_elim}
 use Rattle.std.specs.Prelude.{◌==◌}
-use Rattle.std.proofs.lemmas.Bool.{cond_both, and_parts, and_from, cases_Bool, cases_eq, cond-true, cond-false, and_left, not-true, eqb-false, ne_eqb, not_from_false}
+use Rattle.std.proofs.lemmas.Bool.{cond_both, and_parts, and_from, cases_Bool, cases_eq, cond-false, and_left, not-true, eqb-false, ne_eqb, not_from_false}
 use Rattle.cg_base.specs.Sets.{has}
 use Rattle.cg_base.specs.Lists.{above_up_to}
-use Rattle.cg_group.specs.declared.delivery.Delivery.{Delivery}
 use Rattle.cg_group.specs.declared.phase.Phase.{Phase}
 use Rattle.cg_group.specs.declared.phase.Phase.TheVariants.{Down, Alone, Regular, Transitional}
-use Rattle.cg_group.specs.State.{Configuration, has_received}
 use Rattle.cg_group.specs.Ready.{all_received}
 use Rattle.cg_group.specs.Events.{deliveries_at, transitional_places}
 use Rattle.cg_group.specs.History.{Parting, Way, Never, Here, WentDown, WentOn, Stay, going, was_there}

@@ -1,15 +1,14 @@
 -- The invariant stays when a replica is handed the next places.
-use Rattle.std.proofs.Common.{◌≡◌, ℕ, suc, ◌+◌, ◌<◌, ◌≤◌, ◌⊎◌, Bool, true, false, ◌&&◌, not, List, [], ◌∷◌, ◌++◌, length, Option, Some, None, IsTrue, refl, sym, ap, ap₂, subst, subst₂, ◌∙◌, arith, eqb-true, eq-eqb, length-append, inl, inr, ⊎_elim, if◌then◌else◌}
+use Rattle.std.proofs.Common.{◌≡◌, ℕ, ◌+◌, ◌<◌, ◌≤◌, ◌⊎◌, Bool, true, ◌&&◌, List, [], ◌++◌, length, Some, None, refl, sym, ap, ap₂, subst, subst₂, ◌∙◌, arith, eqb-true, eq-eqb, length-append, ⊎_elim}
 use Rattle.std.specs.Prelude.{◌==◌}
 use Rattle.std.proofs.lemmas.Bool.{cond_both, and_parts, cases_eq, cases_lt, ne_eqb, cond-true, cond-false, and_left}
 use Rattle.cg_base.specs.Sets.{has}
 use Rattle.cg_base.specs.Lists.{above_up_to}
 use Rattle.cg_group.specs.declared.delivery.Delivery.{Delivery}
-use Rattle.cg_group.specs.declared.phase.Phase.TheVariants.{Down, Alone, Regular, Transitional}
-use Rattle.cg_group.specs.State.{Configuration, has_received}
+use Rattle.cg_group.specs.declared.phase.Phase.TheVariants.{Regular}
 use Rattle.cg_group.specs.Ready.{all_received}
 use Rattle.cg_group.specs.Events.{deliveries_at, transitional_places}
-use Rattle.cg_group.specs.History.{Parting, Way, Never, Here, WentDown, WentOn, Stay, was_there}
+use Rattle.cg_group.specs.History.{Parting, Never, Here, Stay, was_there}
 use Rattle.cg_group.specs.Synchrony.{EndedBefore}
 use Rattle.cg_group.proofs.Places.{deliveries_at-add}
 use Rattle.cg_group.proofs.Picture.{Picture, Holds, EndsBy, put, handed_more, touched, conf_in}

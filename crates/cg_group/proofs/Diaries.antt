@@ -1,8 +1,8 @@
 -- What a diary has after a replica is handed messages, a parting or a regular configuration, or goes down.
-use Rattle.std.proofs.Common.{◌≡◌, ℕ, zero, suc, ◌+◌, ◌<◌, ◌≤◌, ◌⊎◌, Bool, true, false, cond, ◌&&◌, ◌||◌, not, List, [], ◌∷◌, ◌++◌, length, Option, Some, None, IsTrue, refl, sym, ap, ap₂, subst, ◌∙◌, arith, eq-eqb, eqb-true, inl, inr, ⊎_elim, fold, filter, flat_map, map, append-nil, append_assoc, is_some, is_none, if◌then◌else◌}
+use Rattle.std.proofs.Common.{◌≡◌, ℕ, ◌<◌, Bool, true, false, cond, ◌&&◌, ◌||◌, not, List, [], ◌∷◌, ◌++◌, Option, Some, None, refl, sym, ap, subst, ◌∙◌, arith, eq-eqb, eqb-true, ⊎_elim, fold, filter, flat_map, map, append-nil, append_assoc, is_none, if◌then◌else◌}
 use Rattle.std.specs.Prelude.{◌==◌}
 use Rattle.std.specs.Option.{option_map_or}
-use Rattle.std.proofs.lemmas.Bool.{cases_Bool, cases_eq, cond-true, cond-false, ne_eqb, eqb-false, and_from, not_from_false, or_left, or_right, or_cases}
+use Rattle.std.proofs.lemmas.Bool.{cases_Bool, cond-true, cond-false, ne_eqb, eqb-false, and_from, not_from_false}
 use Rattle.std.proofs.lemmas.List.Sums.{fold-append}
 use Rattle.cg_base.specs.Lists.{at_place}
 use Rattle.cg_base.specs.Sets.{has}
@@ -11,7 +11,7 @@ use Rattle.cg_group.specs.declared.delivery.Delivery.TheVariants.{Message, Trans
 use Rattle.cg_group.specs.declared.delivery.Handed.{Handed}
 use Rattle.cg_group.specs.State.{Configuration, Sent}
 use Rattle.cg_group.specs.Events.{delivery_at, deliveries_at}
-use Rattle.cg_group.specs.History.{Parting, Way, Never, Here, WentDown, WentOn, Stay, Diary, no_stay, stay_in, stay_with, with_stray, note, note_message, may_part, parted, ended, going, fresh, may_begin, note_regular, was_there, handed_to, NamesOnce}
+use Rattle.cg_group.specs.History.{Parting, Way, WentOn, Stay, Diary, no_stay, stay_in, stay_with, with_stray, note, may_part, parted, ended, going, fresh, may_begin, handed_to, NamesOnce}
 use Rattle.cg_group.proofs.Lookups.{at-cond}
 use Rattle.cg_group.proofs.Picture.{handed_more, handed_parting}
 

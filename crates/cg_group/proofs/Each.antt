@@ -1,5 +1,5 @@
 -- What holds of each element of a list, by recursion; and lists made from it.
-use Rattle.std.proofs.Common.{◌≡◌, ℕ, zero, suc, ◌+◌, ◌-◌, ◌<◌, ◌≤◌, Bool, true, false, cond, ◌&&◌, ◌||◌, List, [], ◌∷◌, ◌++◌, filter, flat_map, map, length, refl, sym, ap, ap₂, ◌∙◌, arith, append_assoc, inl, inr, subst, eq-eqb, eqb-true, true≢false, ⊎_elim}
+use Rattle.std.proofs.Common.{◌≡◌, ℕ, zero, suc, ◌+◌, ◌-◌, ◌<◌, ◌≤◌, Bool, true, false, ◌||◌, List, [], ◌∷◌, ◌++◌, filter, flat_map, length, refl, sym, ap, ap₂, arith, subst, eq-eqb, eqb-true, true≢false, ⊎_elim}
 use Rattle.std.specs.List.{list_any, list_all}
 use Rattle.cg_base.specs.Lists.{count_up, above_up_to}
 use Rattle.std.specs.Prelude.{◌==◌}

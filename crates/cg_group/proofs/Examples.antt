@@ -1,13 +1,11 @@
 -- Small runs, computed.
-use Rattle.std.proofs.Common.{◌≡◌, ℕ, List, [], ◌∷◌, Option, Some, None, refl, Bool, true}
-use Rattle.std.specs.Prelude.{is_none}
-use Rattle.cg_group.specs.declared.delivery.Delivery.{Delivery}
+use Rattle.std.proofs.Common.{◌≡◌, ℕ, List, [], ◌∷◌, Some, refl}
 use Rattle.cg_group.specs.declared.delivery.Delivery.TheVariants.{Message}
 use Rattle.cg_group.specs.State.{standing_of, configuration, has_received, set_standing, set_configuration}
 use Rattle.cg_group.specs.Ready.{all_received, ready_in}
 use Rattle.cg_group.specs.Events.{come_up, go_down, send_from, send, order_from, order, receive, order_all, receive_all, gather, deliver, handed_in_split, become_transitional, split, become_regular, merge, with_receipt, with_message, transitional_places, delivery_at}
 use Rattle.cg_group.specs.Refusals.{order_refusal, receive_refusal, deliver_refusal, split_refusal, merge_refusal}
-use Rattle.cg_group.specs.History.{Call, Add, Fall, SendFrom, OrderNext, ReceiveAt, GatherAll, DeliverNext, SplitOff, MergeInto, Parting, Stay, Here, WentOn, Run, diary_after, outcome_of, step, beginning, run_from}
+use Rattle.cg_group.specs.History.{Call, Add, SendFrom, OrderNext, ReceiveAt, DeliverNext, SplitOff, MergeInto, WentOn, diary_after, outcome_of, step, beginning, run_from}
 use Rattle.cg_group.specs.Synchrony.{stay_of}
 
 -- three messages, of which 2 received the first and the third, and 1 all; 1 and 2 part; both are handed 1 and 3

@@ -1,5 +1,5 @@
 -- The first reason that is there.
-use Rattle.std.proofs.Common.{◌≡◌, List, [], ◌∷◌, Option, Some, None, refl, sym, ap, ◌∙◌}
+use Rattle.std.proofs.Common.{◌≡◌, List, [], ◌∷◌, Option, Some, None, refl, ap}
 use Rattle.cg_base.specs.Lists.{first_some}
 
 module _ {X : Type 0} where

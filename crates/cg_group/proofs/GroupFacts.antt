@@ -1,9 +1,9 @@
 -- A group in memory: its configurations stand in a row of logs.
-use Rattle.std.proofs.Common.{◌≡◌, ℕ, zero, suc, ◌<◌, ◌≤◌, Bool, true, false, cond, List, [], ◌∷◌, ◌++◌, length, Option, Some, None, refl, sym, ap, ap₂, subst, ◌∙◌, arith, map, option_map, Bor, MatchOption}
+use Rattle.std.proofs.Common.{◌≡◌, ℕ, List, Option, Some, None, refl, sym, ap, ◌∙◌, option_map, Bor, MatchOption}
 use Rattle.std.specs.Option.{option_map_or, option_copied}
 use Rattle.cg_base.specs.Lists.{at_place}
-use Rattle.cg_group.specs.State.{Configuration, Standing, GroupState, no_configuration, configuration}
-use Rattle.cg_group.specs.Logs.{Stored, configurations_of, group_of, RoomFor}
+use Rattle.cg_group.specs.State.{Configuration, Standing, no_configuration, configuration}
+use Rattle.cg_group.specs.Logs.{Stored, group_of}
 use Rattle.cg_group.proofs.LogFacts.{at_place-map}
 
 module _ {M : Type 0} where

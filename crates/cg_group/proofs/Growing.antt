@@ -1,15 +1,15 @@
 -- The invariant stays when a configuration grows.
-use Rattle.std.proofs.Common.{◌≡◌, ℕ, suc, ◌<◌, ◌≤◌, ◌⊎◌, Bool, true, false, ◌&&◌, not, List, [], ◌∷◌, ◌++◌, length, Option, Some, None, IsTrue, refl, sym, ap, subst, ◌∙◌, arith, eqb-true, length-append, if◌then◌else◌}
+use Rattle.std.proofs.Common.{◌≡◌, ℕ, ◌<◌, ◌≤◌, true, length, Some, None, sym, ap, subst, ◌∙◌, arith, eqb-true, length-append}
 use Rattle.std.specs.Prelude.{◌==◌}
 use Rattle.std.proofs.lemmas.Bool.{cond_both}
 use Rattle.cg_base.specs.Sets.{has}
 use Rattle.cg_base.specs.Lists.{above_up_to}
-use Rattle.cg_group.specs.declared.phase.Phase.TheVariants.{Down, Alone, Regular, Transitional}
+use Rattle.cg_group.specs.declared.phase.Phase.TheVariants.{Regular}
 use Rattle.cg_group.specs.State.{Configuration, has_received}
 use Rattle.cg_group.specs.Ready.{all_received}
 use Rattle.cg_group.specs.Events.{deliveries_at, transitional_places}
-use Rattle.cg_group.specs.History.{Parting, Way, Never, Here, WentDown, WentOn, Stay, was_there}
-use Rattle.cg_group.proofs.Each.{Each, Each-weaker, Each-above}
+use Rattle.cg_group.specs.History.{Parting, Never, was_there}
+use Rattle.cg_group.proofs.Each.{Each-weaker, Each-above}
 use Rattle.cg_group.proofs.Places.{deliveries_at-more, transitional_places-more, Each-transitional, all_received-kept}
 use Rattle.cg_group.proofs.Picture.{Picture, Holds, Grows, put}
 

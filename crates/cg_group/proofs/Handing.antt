@@ -1,29 +1,28 @@
 -- The invariant stays when a replica comes up, goes down, or is handed the next places.
-use Rattle.std.proofs.Common.{◌≡◌, ℕ, zero, suc, ◌+◌, ◌-◌, ◌<◌, ◌≤◌, ◌⊎◌, Bool, true, false, cond, ◌&&◌, ◌||◌, not, List, [], ◌∷◌, ◌++◌, length, Option, Some, None, IsTrue, refl, sym, ap, ap₂, subst, ◌∙◌, arith, eq-eqb, eqb-true, inl, inr, ⊎_elim, fold, filter, flat_map, map, find, append-nil, is_some, if◌then◌else◌, nat_lt, ltb-false}
+use Rattle.std.proofs.Common.{◌≡◌, ℕ, suc, ◌+◌, ◌-◌, ◌<◌, ◌≤◌, Bool, true, false, cond, ◌&&◌, not, List, [], ◌∷◌, ◌++◌, length, Option, Some, None, refl, sym, ap, ap₂, subst, ◌∙◌, arith, eq-eqb, eqb-true, inl, inr, ⊎_elim, fold, flat_map, append-nil, is_some, if◌then◌else◌, nat_lt, ltb-false}
 use Rattle.std.specs.Prelude.{◌==◌}
 use Rattle.std.specs.Option.{option_map_or}
-use Rattle.std.proofs.lemmas.Bool.{cases_Bool, cases_eq, cond-true, cond-false, ne_eqb, eqb-false, and_parts, and_from, and_left, or_left, or_right, not_from_false}
-use Rattle.cg_base.specs.Lists.{above_up_to, at_place, first_some}
-use Rattle.cg_base.specs.Sets.{has}
+use Rattle.std.proofs.lemmas.Bool.{cases_Bool, cond-true, cond-false, ne_eqb, and_left}
+use Rattle.cg_base.specs.Lists.{above_up_to}
 use Rattle.cg_group.specs.declared.delivery.Delivery.{Delivery}
 use Rattle.cg_group.specs.declared.delivery.Handed.{Handed}
 use Rattle.cg_group.specs.declared.phase.Phase.{Phase}
-use Rattle.cg_group.specs.declared.phase.Phase.TheVariants.{Down, Alone, Regular, Transitional}
+use Rattle.cg_group.specs.declared.phase.Phase.TheVariants.{Down, Alone, Regular}
 use Rattle.cg_group.specs.declared.reason.Reason.{Reason}
-use Rattle.cg_group.specs.State.{Configuration, Standing, GroupState, no_configuration, standing_of, configuration, phase_of, delivered_to, unordered_of, home, regular_in, is_up, set_standing}
-use Rattle.cg_group.specs.Ready.{all_received, ready_in, ready}
+use Rattle.cg_group.specs.State.{Configuration, Standing, GroupState, standing_of, configuration, phase_of, delivered_to, unordered_of, regular_in, is_up, set_standing}
+use Rattle.cg_group.specs.Ready.{ready_in, ready}
 use Rattle.cg_group.specs.Events.{come_up, go_down, with_delivered, deliver, deliveries_at}
 use Rattle.cg_group.specs.Refusals.{not_up, not_regular, not_ready, deliver_refusal}
-use Rattle.cg_group.specs.History.{Parting, Way, Never, Here, WentDown, WentOn, Diary, Stay, stay_in, ended, going, note, handed_to}
-use Rattle.cg_group.specs.Synchrony.{Begins, EndedBefore, ordered_from}
+use Rattle.cg_group.specs.History.{Way, WentDown, Diary, Stay, stay_in, ended, going, note, handed_to}
+use Rattle.cg_group.specs.Synchrony.{Begins, ordered_from}
 use Rattle.cg_group.proofs.Places.{length-deliveries_at, ready-all_received, ready_in-within}
-use Rattle.cg_group.proofs.Picture.{Picture, Holds, put, conf_in, handed_more, touched}
+use Rattle.cg_group.proofs.Picture.{Holds, put, conf_in, handed_more, touched}
 use Rattle.cg_group.proofs.Delivering.{delivered}
 use Rattle.cg_group.proofs.Closing.{closed}
-use Rattle.cg_group.proofs.Lookups.{eqb_comm, at-cond, same_both, put-own, put-other, put-same, standing_of-set, phase_of-set, delivered_to-set, unordered_of-set, configuration-set_standing, configurations-set_standing, standing_of-down}
+use Rattle.cg_group.proofs.Lookups.{eqb_comm, at-cond, put-own, phase_of-set, delivered_to-set, unordered_of-set, configuration-set_standing, configurations-set_standing, standing_of-down}
 use Rattle.cg_group.proofs.Diaries.{Booked, AreMessages-at, noted_regular, Booked-now, stay_in-now, Booked-ended, stay_in-ended}
 use Rattle.cg_group.proofs.Sound.{Sound, Sends, picture, same_picture, regular_phase, standing_id, ticked}
-use Rattle.cg_group.proofs.Tests.{first_none, refuse_none, up_standing, regular_home}
+use Rattle.cg_group.proofs.Admitted.{first_none, refuse_none, up_standing, regular_home}
 
 module _ {M : Type 0} where
   -- what was sent and ordered, when some are regular no longer

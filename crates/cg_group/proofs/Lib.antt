@@ -11,7 +11,7 @@ pub mod Lookups
 pub mod Diaries
 pub mod Sound
 pub mod Ordering
-pub mod Tests
+pub mod Admitted
 pub mod Handing
 pub mod Changing
 pub mod Synchronous

@@ -1,15 +1,12 @@
 -- What a group shows after a change of one replica, of one configuration, or of a set of replicas.
-use Rattle.std.proofs.Common.{◌≡◌, ℕ, zero, suc, pred, ◌+◌, ◌-◌, ◌<◌, ◌≤◌, ◌⊎◌, Bool, true, false, cond, ◌&&◌, not, List, [], ◌∷◌, ◌++◌, length, Option, Some, None, IsTrue, refl, sym, ap, ap₂, subst, subst₂, ◌∙◌, arith, eqb-true, eq-eqb, inl, inr, ⊎_elim, filter, find, map, fold, option_map, if◌then◌else◌, nat_lt}
+use Rattle.std.proofs.Common.{◌≡◌, ℕ, zero, suc, pred, ◌<◌, ◌≤◌, Bool, true, false, cond, not, List, [], ◌∷◌, length, Option, Some, None, refl, sym, ap, subst, ◌∙◌, arith, eqb-true, eq-eqb, ⊎_elim, filter, find, option_map, if◌then◌else◌, nat_lt}
 use Rattle.std.specs.Prelude.{◌==◌}
 use Rattle.std.specs.Option.{option_map_or}
-use Rattle.std.proofs.lemmas.Bool.{cond_both, cases_Bool, cases_eq, cond-true, cond-false, ne_eqb, eqb-false, or_cases, or_from}
+use Rattle.std.proofs.lemmas.Bool.{cond_both, cases_Bool, cases_eq, cond-true, cond-false, ne_eqb, eqb-false}
 use Rattle.cg_base.specs.Lists.{at_place}
-use Rattle.cg_base.specs.Sets.{has}
-use Rattle.cg_group.specs.declared.phase.Phase.{Phase}
-use Rattle.cg_group.specs.declared.phase.Phase.TheVariants.{Down, Alone, Regular, Transitional}
-use Rattle.cg_group.specs.State.{Configuration, Standing, GroupState, no_configuration, standing_of, configuration, phase_of, delivered_to, unordered_of, regular_in, set_standing, set_configuration, with_standing, changed_at}
-use Rattle.cg_group.specs.Events.{become_transitional, become_regular, go_down}
-use Rattle.cg_group.specs.History.{NamesOnce}
+use Rattle.cg_group.specs.declared.phase.Phase.TheVariants.{Down}
+use Rattle.cg_group.specs.State.{Configuration, Standing, GroupState, no_configuration, standing_of, configuration, phase_of, delivered_to, unordered_of, set_standing, set_configuration, with_standing, changed_at}
+use Rattle.cg_group.specs.Events.{go_down}
 use Rattle.cg_group.proofs.Places.{at_place-within}
 use Rattle.cg_group.proofs.Picture.{put}
 

@@ -1,16 +1,15 @@
 -- The invariant stays when a new configuration begins.
-use Rattle.std.proofs.Common.{◌≡◌, ℕ, zero, suc, ◌+◌, ◌-◌, ◌<◌, ◌≤◌, ◌⊎◌, Bool, true, false, ◌&&◌, not, List, [], ◌∷◌, ◌++◌, length, Option, Some, None, IsTrue, refl, sym, ap, ap₂, subst, subst₂, ◌∙◌, arith, eqb-true, eq-eqb, length-append, inl, inr, ⊎_elim, if◌then◌else◌}
+use Rattle.std.proofs.Common.{◌≡◌, ℕ, zero, suc, ◌<◌, ◌≤◌, ◌⊎◌, Bool, true, false, ◌&&◌, List, [], length, Some, None, refl, sym, ap, subst, subst₂, ◌∙◌, arith, eq-eqb, ⊎_elim, if◌then◌else◌}
 use Rattle.std.specs.Prelude.{◌==◌}
-use Rattle.std.proofs.lemmas.Bool.{cond_both, and_parts, and_from, cases_Bool, cases_eq, cond-true, cond-false, and_left, and_right, ne_eqb}
+use Rattle.std.proofs.lemmas.Bool.{and_from, cases_Bool, cases_eq, cond-true, cond-false, and_left, and_right, ne_eqb}
 use Rattle.cg_base.specs.Sets.{has}
 use Rattle.cg_base.specs.Lists.{above_up_to}
-use Rattle.cg_group.specs.declared.delivery.Delivery.{Delivery}
 use Rattle.cg_group.specs.declared.phase.Phase.{Phase}
-use Rattle.cg_group.specs.declared.phase.Phase.TheVariants.{Down, Alone, Regular, Transitional}
+use Rattle.cg_group.specs.declared.phase.Phase.TheVariants.{Regular, Transitional}
 use Rattle.cg_group.specs.State.{Configuration, has_received}
 use Rattle.cg_group.specs.Ready.{all_received}
 use Rattle.cg_group.specs.Events.{deliveries_at, transitional_places}
-use Rattle.cg_group.specs.History.{Parting, Way, Never, Here, WentDown, WentOn, Stay, fresh, was_there}
+use Rattle.cg_group.specs.History.{Parting, Never, Here, WentOn, Stay, fresh, was_there}
 use Rattle.cg_group.specs.Synchrony.{EndedBefore}
 use Rattle.cg_group.proofs.Picture.{Picture, Holds, EndsBy, put, touched, conf_in}
 

@@ -1,22 +1,22 @@
 -- The invariant stays when messages are sent, ordered and received.
-use Rattle.std.proofs.Common.{◌≡◌, ℕ, zero, suc, ◌+◌, ◌<◌, ◌≤◌, ◌⊎◌, Bool, true, false, cond, ◌&&◌, ◌||◌, not, List, [], ◌∷◌, ◌++◌, length, Option, Some, None, IsTrue, refl, sym, ap, ap₂, subst, ◌∙◌, arith, eq-eqb, eqb-true, inl, inr, ⊎_elim, fold, filter, map, find, append-nil, append_assoc, length-append, is_some, if◌then◌else◌}
+use Rattle.std.proofs.Common.{◌≡◌, ℕ, ◌<◌, ◌≤◌, Bool, true, false, cond, ◌&&◌, not, List, [], ◌∷◌, ◌++◌, length, Option, Some, None, refl, sym, ap, ap₂, subst, ◌∙◌, arith, eq-eqb, eqb-true, ⊎_elim, fold, filter, map, append-nil, append_assoc, if◌then◌else◌}
 use Rattle.std.specs.Prelude.{◌==◌}
 use Rattle.std.specs.Option.{option_map_or}
-use Rattle.std.proofs.lemmas.Bool.{cases_Bool, cases_eq, cond-true, cond-false, ne_eqb, eqb-false, and_parts, and_left, and_right, or_cases, or_left, or_right}
+use Rattle.std.proofs.lemmas.Bool.{cases_Bool, cases_eq, cond-true, cond-false, ne_eqb, eqb-false, and_parts, and_right}
 use Rattle.std.proofs.lemmas.List.{map-append}
 use Rattle.std.proofs.lemmas.List.Elements.{filter-append}
 use Rattle.cg_base.specs.Lists.{above_up_to}
 use Rattle.cg_group.specs.declared.phase.Phase.{Phase}
-use Rattle.cg_group.specs.declared.phase.Phase.TheVariants.{Down, Alone, Regular, Transitional}
-use Rattle.cg_group.specs.State.{Configuration, Standing, Sent, GroupState, standing_of, configuration, phase_of, delivered_to, unordered_of, home, regular_in, has_received, set_standing, set_configuration}
+use Rattle.cg_group.specs.declared.phase.Phase.TheVariants.{Down, Regular}
+use Rattle.cg_group.specs.State.{Configuration, Standing, Sent, GroupState, standing_of, configuration, phase_of, delivered_to, unordered_of, home, regular_in, set_standing, set_configuration}
 use Rattle.cg_group.specs.Events.{send_from, send, with_receipt, with_message, order_from, order, receive, order_all, receive_all, gather, regulars}
-use Rattle.cg_group.specs.History.{Diary, Stay, stay_in}
+use Rattle.cg_group.specs.History.{Diary}
 use Rattle.cg_group.specs.Synchrony.{Begins, ordered_from}
-use Rattle.cg_group.proofs.Each.{Each, Each-weaker, Each-above}
-use Rattle.cg_group.proofs.Picture.{Picture, Holds, Grows, put, conf_in}
+use Rattle.cg_group.proofs.Each.{Each, Each-above}
+use Rattle.cg_group.proofs.Picture.{Holds, Grows, put, conf_in}
 use Rattle.cg_group.proofs.Growing.{grown}
 use Rattle.cg_group.proofs.Diaries.{Booked}
-use Rattle.cg_group.proofs.Lookups.{put-own, put-other, put-same, standing_of-set, phase_of-set, delivered_to-set, unordered_of-set, configuration-set_standing, configurations-set_standing, standing_of-set_configuration, configuration-set, count-set_configuration, set_configuration-zero}
+use Rattle.cg_group.proofs.Lookups.{put-own, put-other, put-same, phase_of-set, delivered_to-set, unordered_of-set, configuration-set_standing, configurations-set_standing, standing_of-set_configuration, configuration-set, count-set_configuration, set_configuration-zero}
 use Rattle.cg_group.proofs.Sound.{Sound, Sends, Sends-grown, picture, same_picture, regular_phase, standing_id, ordered-receipt, level-receipt, Grows-receipt, level-message, ordered-message, Grows-message}
 
 module _ {M : Type 0} where

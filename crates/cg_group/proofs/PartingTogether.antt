@@ -1,5 +1,5 @@
 -- The invariant stays when replicas leave their configuration together.
-use Rattle.std.proofs.Common.{◌≡◌, ℕ, suc, ◌+◌, ◌-◌, ◌<◌, ◌≤◌, ◌⊎◌, Bool, true, false, ◌&&◌, not, List, [], ◌∷◌, ◌++◌, length, Option, Some, None, IsTrue, refl, sym, ap, ap₂, subst, subst₂, ◌∙◌, arith, eqb-true, eq-eqb, length-append, inl, inr, ⊎_elim, if◌then◌else◌}
+use Rattle.std.proofs.Common.{◌≡◌, ℕ, ◌<◌, ◌≤◌, ◌⊎◌, Bool, true, false, ◌&&◌, List, [], ◌++◌, length, Some, None, refl, sym, ap, subst, ◌∙◌, arith, eqb-true, eq-eqb, length-append, ⊎_elim, if◌then◌else◌}
 use Rattle.std.specs.Prelude.{◌==◌}
 use Rattle.std.proofs.lemmas.Bool.{cond_both, and_parts, and_from, cases_Bool, cond-true, cond-false, and_left}
 use Rattle.std.proofs.lemmas.Option.{same_Some}
@@ -7,14 +7,13 @@ use Rattle.cg_base.specs.Sets.{has}
 use Rattle.cg_base.specs.Lists.{above_up_to}
 use Rattle.cg_group.specs.declared.delivery.Delivery.{Delivery}
 use Rattle.cg_group.specs.declared.phase.Phase.{Phase}
-use Rattle.cg_group.specs.declared.phase.Phase.TheVariants.{Down, Alone, Regular, Transitional}
-use Rattle.cg_group.specs.State.{Configuration, has_received}
+use Rattle.cg_group.specs.declared.phase.Phase.TheVariants.{Regular, Transitional}
 use Rattle.cg_group.specs.Ready.{all_received}
 use Rattle.cg_group.specs.Events.{deliveries_at, transitional_places}
-use Rattle.cg_group.specs.History.{Parting, Way, Never, Here, WentDown, WentOn, Stay, was_there}
+use Rattle.cg_group.specs.History.{Parting, Never, Here, WentOn, Stay, was_there}
 use Rattle.cg_group.specs.Synchrony.{EndedBefore}
 use Rattle.cg_group.proofs.Places.{deliveries_at-add, length-deliveries_at}
-use Rattle.cg_group.proofs.Picture.{Picture, Holds, EndsBy, put, handed_parting, touched, conf_in}
+use Rattle.cg_group.proofs.Picture.{Picture, Holds, EndsBy, handed_parting, touched, conf_in}
 
 module _ {M : Type 0} (P : Picture M) (h : Holds P) (set : List ℕ) (k K : ℕ) (later : List (Delivery M))
     (regular : (q : ℕ) → has set q ≡ true → P.phase q ≡ Regular k)

@@ -1,10 +1,10 @@
 -- What the law's invariant speaks of, and the invariant.
-use Rattle.std.proofs.Common.{◌≡◌, ℕ, suc, ◌<◌, ◌≤◌, ◌⊎◌, Bool, true, false, ◌&&◌, not, List, [], ◌∷◌, ◌++◌, length, Option, Some, None, IsTrue, if◌then◌else◌}
+use Rattle.std.proofs.Common.{◌≡◌, ℕ, ◌<◌, ◌≤◌, ◌⊎◌, Bool, true, List, [], ◌++◌, length, Some, None, if◌then◌else◌}
 use Rattle.std.specs.Prelude.{◌==◌}
 use Rattle.cg_base.specs.Sets.{has}
 use Rattle.cg_base.specs.Lists.{above_up_to}
 use Rattle.cg_group.specs.declared.phase.Phase.{Phase}
-use Rattle.cg_group.specs.declared.phase.Phase.TheVariants.{Down, Alone, Regular, Transitional}
+use Rattle.cg_group.specs.declared.phase.Phase.TheVariants.{Regular, Transitional}
 use Rattle.cg_group.specs.State.{Configuration, has_received}
 use Rattle.cg_group.specs.Ready.{all_received}
 use Rattle.cg_group.specs.Events.{deliveries_at, transitional_places}

@@ -1,8 +1,8 @@
 -- Room for messages, as it is made and used.
-use Rattle.std.proofs.Common.{◌≡◌, ℕ, suc, ◌+◌, ◌<◌, ◌≤◌, List, [], ◌∷◌, ◌++◌, length, refl, sym, ap, subst, ◌∙◌, arith}
+use Rattle.std.proofs.Common.{ℕ, ◌+◌, ◌≤◌, List, [], ◌∷◌, ◌++◌, sym, subst, arith}
 use Rattle.cg_group.specs.State.{Standing}
 use Rattle.cg_group.specs.Logs.{Stored, RoomFor, RoomForAll}
-use Rattle.cg_group.specs.Rosters.{conf_of, waits_of, pending}
+use Rattle.cg_group.specs.Rosters.{conf_of, pending}
 use Rattle.cg_group.proofs.OrderFacts.{Stays}
 
 module _ {M : Type 0} where
@@ -30,6 +30,7 @@ module _ {M : Type 0} where
   pub RoomForAll-used : (logs after : List (Stored M)) (before now : List (Standing M)) (used n m : ℕ) (set : List ℕ) → Stays before now →
       ((k n : ℕ) → RoomFor logs k (used + n) → RoomFor after k n) → m ≤ n → RoomForAll logs before (used + n) set → RoomForAll after now m set
   RoomForAll-used logs after before now used n m [] stays kept le all = tt
-  RoomForAll-used logs after before now used n m (p ∷ set) stays kept le all =
-      (subst (λ k. RoomFor after k m) (sym (stays.confs p)) (room_less after (conf_of before p) n m le (kept (conf_of before p) n all.0)),
-      RoomForAll-used logs after before now used n m set stays kept le all.1)
+  RoomForAll-used logs after before now used n m (p ∷ set) stays kept le all = (
+    subst (λ k. RoomFor after k m) (sym (stays.confs p)) (room_less after (conf_of before p) n m le (kept (conf_of before p) n all.0)),
+    RoomForAll-used logs after before now used n m set stays kept le all.1,
+  )

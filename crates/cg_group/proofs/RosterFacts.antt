@@ -1,5 +1,5 @@
 -- The replicas that are up, after one of them has changed, has come up or has gone down.
-use Rattle.std.proofs.Common.{◌≡◌, ℕ, zero, suc, ◌<◌, ◌≤◌, Bool, true, false, cond, not, List, [], ◌∷◌, length, Option, Some, None, refl, sym, ap, subst, ◌∙◌, arith, eqb, eqb-true, map, filter, find, fold, position, take, drop, ◌++◌, ◌+◌, MatchOption, one-add, append_assoc, Result, Ok, Err, OnOk, get_or, if◌then◌else◌, inl, inr, ⊎_elim, is_some, nat_lt}
+use Rattle.std.proofs.Common.{◌≡◌, ℕ, zero, suc, ◌<◌, ◌≤◌, cond, not, List, [], ◌∷◌, length, Option, Some, None, refl, sym, ap, subst, ◌∙◌, arith, eqb-true, map, filter, fold, position, ◌++◌, ◌+◌, MatchOption, one-add, append_assoc, Result, Ok, Err, OnOk, get_or, if◌then◌else◌, inl, inr, ⊎_elim, nat_lt}
 use Rattle.std.specs.Prelude.{◌==◌}
 use Rattle.std.proofs.Math.ListN.{set}
 use Rattle.std.proofs.lemmas.List.{set-get_or, append-nil}
@@ -11,9 +11,9 @@ use Rattle.std.proofs.lemmas.List.Quantifiers.{position-Some}
 use Rattle.std.proofs.lemmas.List.Folds.{find_at}
 use Rattle.std.proofs.lemmas.List.Sums.{position_or_len_is}
 use Rattle.std.proofs.lemmas.Option.{slice_get-get_or, slice_get_past}
-use Rattle.std.proofs.lemmas.Bool.{cases_Bool, cases_order, cases_lt, cond-true, cond-false, eq-eqb, ne_eqb, eqb-false, lt-ltb, le-ltb}
+use Rattle.std.proofs.lemmas.Bool.{cases_Bool, cases_order, cases_lt, cond-true, cond-false, eq-eqb, ne_eqb, lt-ltb, le-ltb}
 use Rattle.cg_base.specs.Sets.{Ascends, IsId, with_member, without_member}
-use Rattle.cg_base.proofs.SetLemmas.{Ascends-with_member, Ascends-filter, filter-keeps, filter-drops, with_member-same, with_member-front, with_member-later, has-before}
+use Rattle.cg_base.proofs.SetLemmas.{Ascends-with_member, Ascends-filter, filter-keeps, filter-drops, with_member-same, with_member-front, with_member-later}
 use Rattle.cg_group.specs.State.{Standing, with_standing, regular_in}
 use Rattle.cg_group.specs.Rosters.{ids_of, IsRoster, found, changing, waits_of, regulars_of}
 
@@ -83,7 +83,7 @@ module _ {M : Type 0} where
   -- one more replica, or one that was there
   pub IsRoster-with_standing : (replicas : List (Standing M)) (new : Standing M) → IsId new.id → IsRoster replicas → IsRoster (with_standing replicas new)
   IsRoster-with_standing replicas new is_id roster = record {
-    ascends = subst (Ascends 1) (sym (ids_of-with_standing replicas new)) (Ascends-with_member (ids_of replicas) 1 new.id is_id.0 is_id.1 roster.ascends)
+    ascends = subst (Ascends 1) (sym (ids_of-with_standing replicas new)) (Ascends-with_member (ids_of replicas) 1 new.id is_id.0 is_id.1 roster.ascends);
   }
 
   -- a replica that stands at a place is written again
@@ -101,7 +101,7 @@ module _ {M : Type 0} where
 
   pub IsRoster-filter : (replicas : List (Standing M)) (p : ℕ) → IsRoster replicas → IsRoster (filter (λ s. not (s.id == p)) replicas)
   IsRoster-filter replicas p roster = record {
-    ascends = subst (Ascends 1) (sym (ids_of-filter replicas p)) (Ascends-filter (λ q. not (q == p)) (ids_of replicas) 1 roster.ascends)
+    ascends = subst (Ascends 1) (sym (ids_of-filter replicas p)) (Ascends-filter (λ q. not (q == p)) (ids_of replicas) 1 roster.ascends);
   }
 
   -- the found replica is written again, changed

@@ -1,25 +1,23 @@
 -- The law's invariant over a group with the diaries, and what keeps it in a group alone: a sent message, an order, a receipt.
-use Rattle.std.proofs.Common.{◌≡◌, ℕ, zero, suc, ◌+◌, ◌<◌, ◌≤◌, ◌⊎◌, Bool, true, false, cond, ◌&&◌, ◌||◌, not, List, [], ◌∷◌, ◌++◌, length, Option, Some, None, IsTrue, refl, sym, ap, ap₂, subst, ◌∙◌, arith, eq-eqb, eqb-true, inl, inr, ⊎_elim, fold, filter, map, find, option_map, append-nil, append_assoc, length-append, is_some, if◌then◌else◌}
+use Rattle.std.proofs.Common.{◌≡◌, ℕ, suc, ◌<◌, ◌≤◌, Bool, true, false, cond, ◌&&◌, ◌||◌, List, [], ◌∷◌, ◌++◌, length, Option, Some, None, refl, sym, ap, ap₂, subst, ◌∙◌, arith, eqb-true, ⊎_elim, find, option_map, append-nil, length-append, is_some}
 use Rattle.std.specs.Prelude.{◌==◌}
 use Rattle.std.specs.Option.{option_map_or}
-use Rattle.std.proofs.lemmas.Bool.{cases_Bool, cases_eq, cond-true, cond-false, ne_eqb, eqb-false, and_left, and_right, or_left, cases_lt, false_from_ne_true}
+use Rattle.std.proofs.lemmas.Bool.{cases_Bool, cases_eq, cond-true, cond-false, ne_eqb, and_left, and_right, or_left, cases_lt, false_from_ne_true}
 use Rattle.std.proofs.lemmas.Option.{same_Some}
-use Rattle.cg_base.specs.Lists.{above_up_to, at_place}
+use Rattle.cg_base.specs.Lists.{at_place}
 use Rattle.cg_base.specs.Sets.{has, with_member}
 use Rattle.cg_base.proofs.SetLemmas.{has-with_member}
 use Rattle.cg_group.specs.declared.phase.Phase.{Phase}
 use Rattle.cg_group.specs.declared.phase.Phase.TheVariants.{Down, Alone, Regular, Transitional}
-use Rattle.cg_group.specs.State.{Configuration, Standing, Sent, GroupState, standing_of, configuration, phase_of, delivered_to, unordered_of, home, regular_in, has_received, set_standing, set_configuration}
-use Rattle.cg_group.specs.Events.{send_from, send, with_receipt, with_message, order_from, order, receive, order_all, receive_all, gather, regulars}
-use Rattle.cg_group.specs.History.{Diary, Stay, stay_in}
+use Rattle.cg_group.specs.State.{Configuration, Standing, GroupState, standing_of, configuration, phase_of, delivered_to, unordered_of, regular_in, has_received}
+use Rattle.cg_group.specs.Events.{with_receipt, with_message}
+use Rattle.cg_group.specs.History.{Diary, stay_in}
 use Rattle.cg_group.specs.Synchrony.{Begins, ordered_from}
-use Rattle.cg_group.proofs.Each.{Each, Each-weaker, Each-above}
 use Rattle.cg_group.proofs.Places.{at_place-append, at_place-within, at_place-past, at_place-last}
-use Rattle.cg_group.proofs.Picture.{Picture, Holds, Grows, put, conf_in}
-use Rattle.cg_group.proofs.Growing.{grown}
+use Rattle.cg_group.proofs.Picture.{Picture, Holds, Grows, conf_in}
 use Rattle.cg_group.proofs.Closing.{EndsBy-more}
 use Rattle.cg_group.proofs.Diaries.{Booked}
-use Rattle.cg_group.proofs.Lookups.{eqb_comm, at_place-changed, length-changed_at, standing_of-set, phase_of-set, delivered_to-set, unordered_of-set, configuration-set_standing, configurations-set_standing, standing_of-set_configuration, configuration-set, count-set_configuration, set_configuration-zero}
+use Rattle.cg_group.proofs.Lookups.{eqb_comm, at_place-changed, length-changed_at}
 
 -- a phase of a configuration is regular in it
 pub regular_phase : (x : Phase) (c : ℕ) → regular_in x ≡ c → 0 < c → x ≡ Regular c

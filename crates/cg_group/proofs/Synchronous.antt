@@ -1,29 +1,27 @@
 -- The law: each call keeps the invariant, and the invariant gives virtual synchrony.
-use Rattle.std.proofs.Common.{◌≡◌, ℕ, zero, suc, ◌+◌, ◌-◌, ◌<◌, ◌≤◌, ◌⊎◌, Bool, true, false, cond, ◌&&◌, ◌||◌, not, List, [], ◌∷◌, ◌++◌, length, Option, Some, None, IsTrue, refl, sym, ap, ap₂, subst, ◌∙◌, arith, eq-eqb, eqb-true, inl, inr, ⊎_elim, fold, filter, append-nil, is_some}
+use Rattle.std.proofs.Common.{◌≡◌, ℕ, zero, suc, ◌+◌, ◌-◌, ◌<◌, ◌≤◌, ◌⊎◌, Bool, true, false, not, List, [], ◌∷◌, ◌++◌, length, Option, Some, None, refl, sym, ap, subst, ◌∙◌, arith, eq-eqb, eqb-true, inl, inr, ⊎_elim, filter, append-nil, is_some}
 use Rattle.std.specs.Prelude.{◌==◌}
 use Rattle.std.specs.List.{list_any}
 use Rattle.std.specs.Option.{option_map_or}
-use Rattle.std.proofs.lemmas.Bool.{cases_Bool, cases_eq, cases_lt, cond-true, cond-false, ne_eqb, eqb-false, or_left, or_right, or_cases, cond_both}
-use Rattle.cg_base.specs.Lists.{above_up_to, count_up, at_place, first_some}
+use Rattle.std.proofs.lemmas.Bool.{cases_eq, cases_lt, cond-true, or_left, or_right, or_cases, cond_both}
+use Rattle.cg_base.specs.Lists.{above_up_to, count_up, at_place}
 use Rattle.cg_base.specs.Sets.{has}
 use Rattle.cg_group.specs.declared.delivery.Delivery.{Delivery}
 use Rattle.cg_group.specs.declared.delivery.Delivery.TheVariants.{Message, Transitional as TransitionalIn, Regular as RegularIn}
-use Rattle.cg_group.specs.declared.phase.Phase.{Phase}
-use Rattle.cg_group.specs.declared.phase.Phase.TheVariants.{Down, Alone, Regular, Transitional}
-use Rattle.cg_group.specs.State.{Configuration, Sent, Standing, GroupState, no_group, no_configuration, standing_of, configuration, phase_of, delivered_to, home, regular_in, is_up, has_received}
-use Rattle.cg_group.specs.Ready.{all_received}
-use Rattle.cg_group.specs.Events.{deliveries_at, delivery_at, transitional_places, receive}
+use Rattle.cg_group.specs.declared.phase.Phase.TheVariants.{Down, Regular}
+use Rattle.cg_group.specs.State.{Configuration, Sent, Standing, GroupState, no_group, no_configuration, standing_of, configuration, phase_of, home, has_received}
+use Rattle.cg_group.specs.Events.{deliveries_at, delivery_at, transitional_places}
 use Rattle.cg_group.specs.Refusals.{not_up, not_regular, no_such_place, already_received, earlier_missing, refuse, receive_refusal}
 use Rattle.cg_group.specs.History.{Call, Add, Fall, SendFrom, OrderNext, ReceiveAt, GatherAll, DeliverNext, SplitOff, MergeInto, Parting, Way, Never, Here, WentDown, WentOn, Diary, Stay, Run, stay_in, no_stay, was_there, diary_after, outcome_of, MayCall, step, beginning, run_from, MayCallAll}
 use Rattle.cg_group.specs.Synchrony.{IsVirtuallySynchronous, AlwaysSynchronous, IsDownThere, AscendsAbove, places_of, later_of}
-use Rattle.cg_group.proofs.Each.{Each, Each-weaker, Each-filter, Each-has, Each-at, Each-count_up, Each-above}
+use Rattle.cg_group.proofs.Each.{Each, Each-weaker, Each-above}
 use Rattle.cg_group.proofs.Places.{at_place-within, all_received-at, Each-transitional}
 use Rattle.cg_group.proofs.Picture.{Picture, Holds, conf_in}
-use Rattle.cg_group.proofs.Lookups.{at-cond, same_both}
+use Rattle.cg_group.proofs.Lookups.{same_both}
 use Rattle.cg_group.proofs.Diaries.{Booked}
-use Rattle.cg_group.proofs.Sound.{Sound, Sends, picture, same_picture, Sound-ticked}
+use Rattle.cg_group.proofs.Sound.{Sound, picture, same_picture, Sound-ticked}
 use Rattle.cg_group.proofs.Ordering.{order_sound, receive_sound, gather_sound, send_sound}
-use Rattle.cg_group.proofs.Tests.{first_none, refuse_none, list_any_in}
+use Rattle.cg_group.proofs.Admitted.{first_none, list_any_in}
 use Rattle.cg_group.proofs.Handing.{up_sound, down_sound, deliver_sound}
 use Rattle.cg_group.proofs.Changing.{in_phase, split_sound, merge_sound}
 

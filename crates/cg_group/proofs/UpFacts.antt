@@ -1,15 +1,14 @@
 -- Whoever is up stays up as others, or they themselves, go into another phase.
-use Rattle.std.proofs.Common.{◌≡◌, ℕ, Bool, true, false, cond, List, [], ◌∷◌, Option, Some, None, refl, sym, ap, ◌∙◌, is_some, not, inl, inr, ⊎_elim, map}
+use Rattle.std.proofs.Common.{◌≡◌, ℕ, Bool, true, false, cond, List, [], ◌∷◌, Option, Some, None, refl, ap, ◌∙◌, is_some, not, map}
 use Rattle.std.specs.Prelude.{◌==◌}
-use Rattle.std.proofs.lemmas.Bool.{cases_Bool, cond-true, cond-false, not-false}
-use Rattle.cg_base.specs.Lists.{first_some}
+use Rattle.std.proofs.lemmas.Bool.{not-false}
 use Rattle.cg_group.specs.declared.phase.Phase.TheVariants.{Regular, Transitional}
 use Rattle.cg_group.specs.declared.reason.Reason.TheVariants.{NotUp}
 use Rattle.cg_group.specs.State.{Configuration, Standing, GroupState, is_up, standing_of, set_standing, phase_of, regular_in, delivered_to}
 use Rattle.cg_group.specs.Events.{become_regular, become_transitional}
 use Rattle.cg_group.specs.Refusals.{any_of, not_up, empty_set, merge_refusal, split_refusal}
 use Rattle.cg_group.specs.Rosters.{AllUp}
-use Rattle.cg_group.proofs.Tests.{first_none, refuse_none}
+use Rattle.cg_group.proofs.Admitted.{first_none, refuse_none}
 use Rattle.cg_group.proofs.Lookups.{standing_of-set}
 
 module _ {M : Type 0} where

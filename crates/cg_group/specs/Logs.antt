@@ -49,8 +49,8 @@ module _ {M : Type 0} where
   -- why a member can't receive a place
   abbrev pub place_refusal : Configuration M → ℕ → ℕ → Option Reason
   place_refusal c p place = first_some (
-    refuse (is_none (at_place c.ordered place)) (NoSuchPlace place)
-    ∷ refuse (has_received c p place) (AlreadyReceived place)
-    ∷ option_map EarlierMissing (find (is_missing c p place) (above_up_to 0 (place - 1)))
-    ∷ []
-  )
+      refuse (is_none (at_place c.ordered place)) (NoSuchPlace place)
+      ∷ refuse (has_received c p place) (AlreadyReceived place)
+      ∷ option_map EarlierMissing (find (is_missing c p place) (above_up_to 0 (place - 1)))
+      ∷ []
+      )

@@ -1,5 +1,5 @@
 -- The replicas that are up, ascending, and what one of them does.
-use Rattle.std.specs.Prelude.{◌≡◌, ℕ, ◌==◌, true, not, ◌+◌, length, List, [], ◌∷◌, ◌++◌, Option, Some, None, map, filter, find}
+use Rattle.std.specs.Prelude.{◌≡◌, ℕ, ◌==◌, true, not, ◌+◌, length, List, [], ◌∷◌, ◌++◌, Option, map, filter, find}
 use Rattle.std.specs.Option.{option_map_or}
 use Rattle.cg_base.specs.Sets.{Ascends}
 use Rattle.cg_group.specs.declared.phase.Phase.TheVariants.{Down}

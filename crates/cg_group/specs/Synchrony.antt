@@ -5,10 +5,10 @@ use Rattle.cg_base.specs.Lists.{above_up_to}
 use Rattle.cg_group.specs.declared.delivery.Delivery.{Delivery}
 use Rattle.cg_group.specs.declared.delivery.Delivery.TheVariants.{Message}
 use Rattle.cg_group.specs.declared.phase.Phase.TheVariants.{Regular}
-use Rattle.cg_group.specs.State.{Configuration, Sent, configuration, phase_of}
+use Rattle.cg_group.specs.State.{Sent, configuration, phase_of}
 use Rattle.cg_group.specs.Ready.{all_received}
 use Rattle.cg_group.specs.Events.{deliveries_at, transitional_places}
-use Rattle.cg_group.specs.History.{Call, Parting, Way, Never, Here, WentDown, WentOn, Stay, Run, stay_in, was_there, beginning, run_from, MayCallAll}
+use Rattle.cg_group.specs.History.{Call, Parting, Way, WentDown, WentOn, Stay, Run, stay_in, was_there, beginning, run_from, MayCallAll}
 
 -- the stay ended before the call of that number
 abbrev pub EndedBefore : ℕ → Way → Type 0

@@ -10,7 +10,12 @@ use std::alloc::Global;
 impl<M: Drop + TryClone> Log<M> {
     /// Puts the message of a place behind what is handed out already, where there is such a place.
     #[tactic(auto, unfolding(crate::specs::Events::delivery_at))]
-    pub(crate) fn put_delivery(&self, alloc: Global, place: u64, out: &mut Vec<Delivery<M>>) -> Result<(), NoMemory>
+    pub(crate) fn put_delivery(
+        &self,
+        alloc: Global,
+        place: u64,
+        out: &mut Vec<Delivery<M>>,
+    ) -> Result<(), NoMemory>
         ensures { OnOk result (out.new.items ≡ out.old.items ++ delivery_at self.now.configuration place) }
     {
         match self.get(place) {
@@ -25,7 +30,13 @@ impl<M: Drop + TryClone> Log<M> {
     }
 
     /// Puts the messages of the places above `from` and up to `to` behind what is handed out already.
-    pub(crate) fn put_deliveries(&self, alloc: Global, from: u64, to: u64, out: &mut Vec<Delivery<M>>) -> Result<(), NoMemory>
+    pub(crate) fn put_deliveries(
+        &self,
+        alloc: Global,
+        from: u64,
+        to: u64,
+        out: &mut Vec<Delivery<M>>,
+    ) -> Result<(), NoMemory>
         ensures { OnOk result (out.new.items ≡ out.old.items ++ deliveries_at self.now.configuration (above_up_to from to)) }
     {
         for place in from..to {

@@ -62,7 +62,12 @@ fn pending<M>(roster: &Roster<M>, set: &IdSet) -> Option<usize>
 }
 
 // makes room in the configuration of each of these replicas
-fn reserve_for_all<M>(logs: &mut [Log<M>], roster: &Roster<M>, set: &IdSet, count: usize) -> Result<(), NoMemory>
+fn reserve_for_all<M>(
+    logs: &mut [Log<M>],
+    roster: &Roster<M>,
+    set: &IdSet,
+    count: usize,
+) -> Result<(), NoMemory>
     ensures same { configurations_of logs.new ≡ configurations_of logs.old }
     ensures room { OnOk result (RoomForAll logs.new roster.now count set.now) }
 {

@@ -2,7 +2,7 @@ ghost use Rattle.std.specs.Prelude.{◌≡◌, ◌+◌, ◌<◌, ◌^◌, true, 
 ghost use Rattle.std.specs.Option.{option_copied};
 ghost use Rattle.cg_group.specs.State.{GroupState, no_group, no_configuration, standing_of, is_up, is_regular, regular_in, phase_of, delivered_to, unordered_of, home};
 ghost use Rattle.cg_group.specs.Ready.{ready};
-ghost use Rattle.cg_group.specs.Events.{with_delivered, become_regular, come_up, go_down, send, order, receive, gather, deliver, split, merge};
+ghost use Rattle.cg_group.specs.Events.{with_delivered, become_regular, become_transitional, come_up, go_down, send, order, receive, gather, deliver, split, merge};
 ghost use Rattle.cg_group.specs.Refusals.{order_refusal, receive_refusal, deliver_refusal, split_refusal, merge_refusal, IsAnswer};
 
 use crate::gathering::{self, order_oldest};
@@ -131,7 +131,7 @@ impl<M> Group<M> {
     }
 
     // the configuration in which the replica is regular, 0 for none
-    fn regular_in(&self, p: ReplicaId) -> u64
+    pub(crate) fn regular_in(&self, p: ReplicaId) -> u64
         ensures { result ≡ regular_in (phase_of self.now p) }
     {
         match self.standing(p) {
@@ -243,5 +243,17 @@ impl<M: Drop> Group<M> {
         ensures { self.new ≡ receive self.old p place }
     {
         gathering::receive_place(&mut self.logs, &self.roster, p, place);
+    }
+
+    // a replica that is up leaves its configuration together with the set
+    #[tactic(auto, unfolding(crate::specs::State::standing_of, crate::specs::State::set_standing, crate::specs::Events::become_transitional))]
+    pub(crate) fn become_transitional(&mut self, p: ReplicaId, set: &IdSet)
+        requires { is_up self.old p ≡ true }
+        ensures { self.new ≡ become_transitional set.now self.old p }
+    {
+        let conf = self.regular_in(p);
+        let delivered = self.delivered(p);
+        self.roster
+            .enter(p, Phase::Transitional { conf, set: *set }, delivered);
     }
 }

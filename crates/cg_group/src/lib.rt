@@ -2,7 +2,6 @@
 #![tactic(auto)]
 
 mod deliveries;
-mod outgoing;
 mod delivery;
 mod error;
 mod gathering;
@@ -12,6 +11,8 @@ mod log;
 mod logs;
 mod member;
 mod merging;
+mod outgoing;
+mod parting;
 mod phase;
 mod place;
 mod placed;
@@ -20,6 +21,8 @@ mod receipts;
 mod refusals;
 mod roster;
 mod steps;
+#[cfg(test)]
+mod tests;
 mod try_clone;
 
 pub use delivery::{Delivery, DeliveryList, Handed, HandedList};

@@ -9,7 +9,12 @@ use cg_base::{IdSet, NoMemory, ReplicaId, Row};
 use std::alloc::Global;
 
 // a replica is handed a regular configuration
-fn hand_regular<M: Drop>(alloc: Global, to: ReplicaId, conf: u64, set: IdSet) -> Result<Handed<M>, NoMemory>
+fn hand_regular<M: Drop>(
+    alloc: Global,
+    to: ReplicaId,
+    conf: u64,
+    set: IdSet,
+) -> Result<Handed<M>, NoMemory>
     ensures { IfOk result (λ handed. handed ≡ record { to = to; list = RegularIn conf set ∷ [] }) }
 {
     let mut list = Row::new(alloc);
@@ -18,7 +23,11 @@ fn hand_regular<M: Drop>(alloc: Global, to: ReplicaId, conf: u64, set: IdSet) ->
 }
 
 // each member of the set is handed the regular configuration
-fn hand_regular_to_all<M: Drop>(alloc: Global, conf: u64, set: &IdSet) -> Result<Vec<Handed<M>>, NoMemory>
+fn hand_regular_to_all<M: Drop>(
+    alloc: Global,
+    conf: u64,
+    set: &IdSet,
+) -> Result<Vec<Handed<M>>, NoMemory>
     ensures { IfOk result (λ handed. handed.items ≡ map (λ p. record { to = p; list = RegularIn conf set.now ∷ [] }) set.now) }
 {
     let mut handed = Vec::new(alloc);

@@ -40,7 +40,13 @@ impl<M: Drop + TryClone> Group<M> {
     }
 
     // puts the messages of a replica's configuration above the first place and up to the second behind what is handed out already
-    pub(crate) fn put_deliveries(&self, p: ReplicaId, from: u64, to: u64, out: &mut Vec<Delivery<M>>) -> Result<(), NoMemory>
+    pub(crate) fn put_deliveries(
+        &self,
+        p: ReplicaId,
+        from: u64,
+        to: u64,
+        out: &mut Vec<Delivery<M>>,
+    ) -> Result<(), NoMemory>
         ensures { OnOk result (out.new.items ≡ out.old.items ++ deliveries_at (home self.now p) (above_up_to from to)) }
     {
         match self.home(p) {

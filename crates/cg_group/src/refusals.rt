@@ -1,8 +1,10 @@
-ghost use Rattle.std.specs.Prelude.{◌≡◌, ◌+◌, ◌<◌, ◌^◌, ◌&&◌, not, [], ◌∷◌, None};
+ghost use Rattle.std.specs.Prelude.{◌≡◌, ◌+◌, ◌<◌, ◌^◌, ◌&&◌, ◌==◌, find, not, [], ◌∷◌, None};
 ghost use Rattle.cg_base.specs.Lists.{first_some};
 ghost use Rattle.cg_base.specs.Sets.{has};
-ghost use Rattle.cg_group.specs.State.{delivered_to};
-ghost use Rattle.cg_group.specs.Refusals.{any_of, not_up, not_regular, still_regular, is_together, not_together, same_phase, order_refusal, receive_refusal, deliver_refusal, merge_refusal};
+ghost use Rattle.cg_group.specs.State.{delivered_to, regular_in, phase_of};
+ghost use Rattle.cg_group.specs.declared.reason.Reason.TheVariants.{NotOneConfiguration};
+ghost use Rattle.std.specs.Option.{option_map};
+ghost use Rattle.cg_group.specs.Refusals.{any_of, not_up, not_regular, still_regular, is_together, not_together, same_phase, order_refusal, receive_refusal, deliver_refusal, split_refusal, merge_refusal, not_one_configuration};
 
 use crate::{Group, Phase, Reason};
 use cg_base::{IdSet, ReplicaId};
@@ -12,9 +14,13 @@ fn same_phase(a: &Phase, b: &Phase) -> bool
     ensures { result ≡ same_phase a.now b.now }
 {
     match (a, b) {
-        (Phase::Transitional { conf, set }, Phase::Transitional { conf: other_conf, set: other_set }) => {
-            conf == other_conf && (set.is_within(other_set) && other_set.is_within(set))
-        }
+        (
+            Phase::Transitional { conf, set },
+            Phase::Transitional {
+                conf: other_conf,
+                set: other_set,
+            },
+        ) => { conf == other_conf && (set.is_within(other_set) && other_set.is_within(set)) }
         _ => false,
     }
 }
@@ -151,5 +157,58 @@ impl<M> Group<M> {
             Some(log) => log.place_refusal(p, place),
             None => Some(Reason::NoSuchPlace(place)),
         }
+    }
+
+    // the first of the replicas that isn't regular
+    fn first_not_regular(&self, set: &IdSet) -> Option<Reason>
+        ensures { result ≡ any_of (not_regular self.now) set.now }
+    {
+        for p in set.iter() {
+            if !self.is_regular(p) {
+                return Some(Reason::NotRegular(p));
+            }
+        }
+        None
+    }
+
+    // the first of the replicas that isn't in the configuration of the lowest
+    fn first_elsewhere(&self, set: &IdSet) -> Option<Reason>
+        ensures { result ≡ not_one_configuration self.now set.now }
+    {
+        match set.least() {
+            Some(least) => self.first_outside(set, self.regular_in(least)),
+            None => None,
+        }
+    }
+
+    // the first of the replicas that isn't in that configuration
+    fn first_outside(&self, set: &IdSet, conf: u64) -> Option<Reason>
+        ensures { result ≡ option_map NotOneConfiguration (find (λ q. not (regular_in (phase_of self.now q) == conf)) set.now) }
+    {
+        for q in set.iter() {
+            if self.regular_in(q) != conf {
+                return Some(Reason::NotOneConfiguration(q));
+            }
+        }
+        None
+    }
+
+    // why the replicas can't leave their configuration together
+    pub(crate) fn split_refusal(&self, set: &IdSet) -> Option<Reason>
+        ensures { result ≡ split_refusal self.now set.now }
+    {
+        match set.least() {
+            None => return Some(Reason::EmptySet),
+            Some(_) => {}
+        }
+        match self.first_down(set) {
+            Some(reason) => return Some(reason),
+            None => {}
+        }
+        match self.first_not_regular(set) {
+            Some(reason) => return Some(reason),
+            None => {}
+        }
+        self.first_elsewhere(set)
     }
 }

@@ -5,8 +5,8 @@ ghost use Rattle.cg_base.specs.Sets.{IsId, with_member};
 ghost use Rattle.cg_group.specs.State.{Standing, with_standing, regular_in};
 ghost use Rattle.cg_group.specs.Rosters.{found, changing, waiting, handed_so_far, with_unordered, waits_of, conf_of, regulars_of};
 
-use crate::member::Member;
 use crate::Phase;
+use crate::member::Member;
 use cg_base::{IdSet, NoMemory, ReplicaId};
 use std::alloc::Global;
 use std::marker::Model;

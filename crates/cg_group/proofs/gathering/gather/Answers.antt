@@ -1,4 +1,4 @@
-use Rattle.std.proofs.Common.{◌≡◌, List, ap, sym, ◌∙◌, fold}
+use Rattle.std.proofs.Common.{List, ap, ◌∙◌, fold}
 use Rattle.cg_group.specs.State.{GroupState, Configuration}
 use Rattle.cg_group.specs.Events.{order_all, receive_all, regulars, gather}
 use Rattle.cg_group.specs.Logs.{group_of}

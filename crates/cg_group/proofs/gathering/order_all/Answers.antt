@@ -1,4 +1,4 @@
-use Rattle.std.proofs.Common.{◌≡◌, ◌≤◌, ◌+◌, ◌-◌, ℕ, suc, length, ap, sym, subst, ◌∙◌, arith, add-one}
+use Rattle.std.proofs.Common.{◌≡◌, ◌+◌, ◌-◌, suc, length, ap, sym, subst, ◌∙◌, arith, add-one}
 use Rattle.cg_group.specs.State.{GroupState}
 use Rattle.cg_group.specs.Events.{order}
 use Rattle.cg_group.specs.Logs.{RoomFor, group_of}

@@ -1,4 +1,4 @@
-use Rattle.std.proofs.Common.{◌≡◌, sym}
+use Rattle.std.proofs.Common.{sym}
 use Rattle.cg_group.specs.Logs.{group_of}
 use Rattle.cg_group.proofs.OrderFacts.{order_taken, order_nothing}
 use Rattle.cg_group.proofs.gathering.order_oldest.Goals as goal

@@ -1,4 +1,3 @@
-use Rattle.std.proofs.Common.{◌≡◌}
 use Rattle.cg_group.proofs.OrderFacts.{received_there}
 use Rattle.cg_group.proofs.gathering.receive_place.Goals as goal
 

@@ -1,4 +1,3 @@
-use Rattle.cg_group.specs.Synchrony.{AlwaysSynchronous}
 use Rattle.cg_group.proofs.Synchronous.{always}
 use Rattle.cg_group.proofs.law.virtually_synchronous.Goals as goal
 

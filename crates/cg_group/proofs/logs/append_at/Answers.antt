@@ -1,5 +1,4 @@
-use Rattle.std.proofs.Common.{◌≡◌, ◌≤◌, ◌-◌, suc, ap, ◌∙◌, subst, arith}
-use Rattle.cg_group.specs.Logs.{Stored}
+use Rattle.std.proofs.Common.{◌-◌, suc, ap, arith}
 use Rattle.cg_group.specs.Events.{with_message}
 use Rattle.cg_group.proofs.LogsFacts.{written, written_nowhere, written_beyond, room_written, room_at}
 use Rattle.cg_group.proofs.logs.append_at.Goals as goal

@@ -1,5 +1,4 @@
-use Rattle.std.proofs.Common.{◌≡◌}
-use Rattle.cg_group.specs.Logs.{Stored, with_all_receipts}
+use Rattle.cg_group.specs.Logs.{with_all_receipts}
 use Rattle.cg_group.proofs.LogsFacts.{written, written_nowhere, written_beyond}
 use Rattle.cg_group.proofs.logs.receive_all_at.Goals as goal
 

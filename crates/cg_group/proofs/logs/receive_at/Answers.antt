@@ -1,5 +1,3 @@
-use Rattle.std.proofs.Common.{◌≡◌, ap, ◌∙◌}
-use Rattle.cg_group.specs.Logs.{Stored}
 use Rattle.cg_group.specs.Events.{with_receipt}
 use Rattle.cg_group.proofs.LogsFacts.{written, written_nowhere, written_beyond}
 use Rattle.cg_group.proofs.logs.receive_at.Goals as goal

@@ -1,5 +1,4 @@
-use Rattle.std.proofs.Common.{◌≡◌, ◌≤◌, ◌-◌, suc, ap, ◌∙◌, arith, map}
-use Rattle.cg_group.specs.Logs.{Stored, configurations_of}
+use Rattle.std.proofs.Common.{◌-◌, ap, arith}
 use Rattle.cg_group.proofs.LogsFacts.{room_written, room_made}
 use Rattle.std.proofs.Math.Seq.{map-set_same}
 use Rattle.cg_group.proofs.logs.reserve_at.Goals as goal

@@ -1,6 +1,5 @@
 use Rattle.std.proofs.Common.{◌≡◌, ◌++◌, [], ◌∷◌, map}
 use Rattle.cg_base.specs.Iterators.{members_left}
-use Rattle.cg_group.specs.declared.delivery.Handed.{Handed}
 use Rattle.cg_group.specs.declared.delivery.Delivery.TheVariants.{Regular}
 use Rattle.cg_group.proofs.merging.hand_regular_to_all.Given as goal
 

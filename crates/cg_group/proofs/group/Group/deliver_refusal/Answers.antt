@@ -1,9 +1,9 @@
-use Rattle.std.proofs.Common.{◌≡◌, [], ◌∷◌, Some, None, sym, ap, ◌∙◌, nat_lt}
+use Rattle.std.proofs.Common.{[], ◌∷◌, sym, ap, ◌∙◌, nat_lt}
 use Rattle.std.proofs.lemmas.Bool.{lt-ltb, le-ltb}
 use Rattle.cg_base.specs.Lists.{first_some}
 use Rattle.cg_group.specs.declared.reason.Reason.TheVariants.{NotReady}
 use Rattle.cg_group.specs.Refusals.{not_up, not_regular, not_ready, deliver_refusal, refuse}
-use Rattle.cg_group.proofs.FirstReasons.{first_here, first_later, first_last, first_two}
+use Rattle.cg_group.proofs.FirstReasons.{first_here, first_later, first_two}
 use Rattle.cg_group.proofs.group.Group.deliver_refusal.Goals as goal
 
 pub returns-in-Some-clause-reason : goal.returns-in-Some-clause-reason

@@ -1,4 +1,4 @@
-use Rattle.std.proofs.Common.{◌≡◌, ◌∙◌, sym}
+use Rattle.std.proofs.Common.{◌∙◌, sym}
 use Rattle.cg_group.proofs.UpFacts.{AllUp-merge}
 use Rattle.cg_group.proofs.group.Group.merge.Goals as goal
 

@@ -1,4 +1,4 @@
-use Rattle.std.proofs.Common.{◌≡◌, [], ◌∷◌, Some, None, sym, ap, ◌∙◌, is_none}
+use Rattle.std.proofs.Common.{sym, ap, ◌∙◌, is_none}
 use Rattle.cg_group.specs.declared.reason.Reason.TheVariants.{EmptySet}
 use Rattle.cg_group.specs.Refusals.{empty_set, refuse, any_of, not_up, still_regular, not_together, merge_refusal}
 use Rattle.cg_group.proofs.FirstReasons.{first_here, first_later, first_last}

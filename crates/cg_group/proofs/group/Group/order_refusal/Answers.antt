@@ -1,10 +1,10 @@
-use Rattle.std.proofs.Common.{◌≡◌, [], ◌∷◌, Some, None, sym, ap, ◌∙◌, length}
+use Rattle.std.proofs.Common.{[], ◌∷◌, sym, ap, ◌∙◌}
 use Rattle.std.proofs.lemmas.Bool.{eq-eqb, ne_eqb}
 use Rattle.std.specs.Prelude.{◌==◌}
 use Rattle.cg_base.specs.Lists.{first_some}
 use Rattle.cg_group.specs.declared.reason.Reason.TheVariants.{NothingToOrder}
 use Rattle.cg_group.specs.Refusals.{not_up, not_regular, nothing_to_order, order_refusal, refuse}
-use Rattle.cg_group.proofs.FirstReasons.{first_here, first_later, first_last, first_two}
+use Rattle.cg_group.proofs.FirstReasons.{first_here, first_later, first_two}
 use Rattle.cg_group.proofs.group.Group.order_refusal.Goals as goal
 
 pub returns-in-Some : goal.returns-in-Some

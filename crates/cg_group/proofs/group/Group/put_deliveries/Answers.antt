@@ -1,7 +1,6 @@
-use Rattle.std.proofs.Common.{◌≡◌, ◌++◌, sym, ap, ◌∙◌}
+use Rattle.std.proofs.Common.{sym}
 use Rattle.std.proofs.lemmas.List.{append-nil}
 use Rattle.cg_base.specs.Lists.{above_up_to}
-use Rattle.cg_group.specs.Events.{deliveries_at}
 use Rattle.cg_group.proofs.DeliveryFacts.{deliveries-nowhere}
 use Rattle.cg_group.proofs.group.Group.put_deliveries.Goals as goal
 

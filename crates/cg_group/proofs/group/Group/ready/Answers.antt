@@ -1,4 +1,4 @@
-use Rattle.std.proofs.Common.{◌≡◌, sym, ◌∙◌, ap}
+use Rattle.std.proofs.Common.{sym, ◌∙◌, ap}
 use Rattle.cg_group.specs.State.{delivered_to}
 use Rattle.cg_group.specs.Ready.{ready_in}
 use Rattle.cg_group.proofs.LogFacts.{ready_in-nowhere}

@@ -1,7 +1,6 @@
-use Rattle.std.proofs.Common.{◌≡◌, [], ◌∷◌, Some, None, sym, ap, ◌∙◌, is_none}
+use Rattle.std.proofs.Common.{[], ◌∷◌, sym, ap, ◌∙◌, is_none}
 use Rattle.cg_base.specs.Lists.{first_some, at_place}
 use Rattle.cg_group.specs.declared.reason.Reason.TheVariants.{NoSuchPlace}
-use Rattle.cg_group.specs.State.{home}
 use Rattle.cg_group.specs.Refusals.{not_up, not_regular, no_such_place, receive_refusal, refuse}
 use Rattle.cg_group.specs.Logs.{place_refusal}
 use Rattle.cg_group.proofs.LogFacts.{no_place}

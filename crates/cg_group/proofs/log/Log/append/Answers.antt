@@ -1,8 +1,5 @@
-use Rattle.std.proofs.Common.{◌≡◌, ◌++◌, ◌∷◌, [], sym, ◌∙◌, ap, subst}
+use Rattle.std.proofs.Common.{◌∙◌, ap}
 use Rattle.cg_base.specs.Sets.{with_member}
-use Rattle.cg_group.specs.declared.placed.Placed.{Placed}
-use Rattle.cg_group.specs.Logs.{configuration_of}
-use Rattle.cg_group.specs.Events.{with_message}
 use Rattle.cg_group.proofs.LogFacts.{configuration_of-appended}
 use Rattle.cg_group.proofs.log.Log.append.Goals as goal
 

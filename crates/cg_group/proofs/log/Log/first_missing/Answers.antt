@@ -1,7 +1,7 @@
 use Rattle.std.proofs.Common.{◌≡◌, ◌-◌, suc, ℕ, Bool, Some, false, find, sym, ap, ◌∙◌, arith, add-one}
 use Rattle.std.proofs.lemmas.Bool.{cond-false}
 use Rattle.cg_base.specs.Lists.{count_up}
-use Rattle.cg_group.specs.Refusals.{is_missing, sender_at}
+use Rattle.cg_group.specs.Refusals.{is_missing}
 use Rattle.cg_group.proofs.log.Log.first_missing.Goals as goal
 
 pub loop-earlier-preserved : goal.loop-earlier-preserved

@@ -1,7 +1,4 @@
-use Rattle.std.proofs.Common.{◌≡◌, sym, ◌∙◌, ap, subst, rules, Some, None, option_map, false, refl}
-use Rattle.std.specs.Option.{option_map_or}
-use Rattle.cg_base.specs.Sets.{has}
-use Rattle.cg_group.specs.State.{has_received}
+use Rattle.std.proofs.Common.{refl}
 use Rattle.cg_group.proofs.LogFacts.{has_received-at}
 use Rattle.cg_group.proofs.log.Log.has_received.Goals as goal
 

@@ -1,6 +1,4 @@
-use Rattle.std.proofs.Common.{◌≡◌, ◌+◌, ◌++◌, suc, add-one}
-use Rattle.cg_base.specs.Lists.{above_up_to}
-use Rattle.cg_group.specs.Events.{deliveries_at}
+use Rattle.std.proofs.Common.{add-one}
 use Rattle.cg_group.proofs.DeliveryFacts.{deliveries-next}
 use Rattle.cg_group.proofs.log.Log.put_deliveries.Goals as goal
 

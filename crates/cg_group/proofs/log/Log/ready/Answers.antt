@@ -1,8 +1,6 @@
-use Rattle.std.proofs.Common.{◌≡◌, ◌+◌, ◌-◌, ◌≤◌, suc, true, false, length, sym, ◌∙◌, ap, refl, arith, add-one}
+use Rattle.std.proofs.Common.{◌≡◌, suc, true, false, length, sym, ◌∙◌, ap, arith, add-one}
 use Rattle.std.specs.List.{prefix_len}
 use Rattle.std.proofs.lemmas.List.{length-map}
-use Rattle.cg_base.specs.Lists.{above_up_to}
-use Rattle.cg_group.specs.Logs.{sent_of}
 use Rattle.cg_group.specs.Ready.{all_received, ready_in}
 use Rattle.cg_group.proofs.LogFacts.{prefix-goes_on, prefix-ends, above_up_to-none}
 use Rattle.cg_group.proofs.log.Log.ready.Goals as goal

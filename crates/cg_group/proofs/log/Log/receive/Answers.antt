@@ -1,7 +1,4 @@
-use Rattle.std.proofs.Common.{◌≡◌, ◌<◌, ◌+◌, ◌-◌, suc, length, sym, ◌∙◌, ap, subst, refl, arith}
-use Rattle.std.proofs.Math.ListN.{get_or}
-use Rattle.std.specs.Vec.{vec_len}
-use Rattle.cg_group.specs.State.{Configuration}
+use Rattle.std.proofs.Common.{◌≡◌, ◌-◌, suc, ◌∙◌, ap, arith}
 use Rattle.cg_group.specs.Events.{with_receipt}
 use Rattle.cg_group.proofs.LogFacts.{configuration_of-set, with_receipt-beyond, with_receipt-none, marked}
 use Rattle.cg_group.proofs.log.Log.receive.Goals as goal

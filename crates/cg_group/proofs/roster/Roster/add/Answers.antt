@@ -1,9 +1,6 @@
-use Rattle.std.proofs.Common.{◌≡◌, ℕ, [], sym, ◌∙◌, ap, subst, refl, arith, Some, None, position, Ok, Err, OnOk, false, true, is_some}
-use Rattle.std.specs.List.{prefix_len}
-use Rattle.std.proofs.Math.ListN.{length}
+use Rattle.std.proofs.Common.{arith}
 use Rattle.std.proofs.lemmas.List.Sums.{prefix_len-le-length}
 use Rattle.std.specs.Prelude.{nat_lt}
-use Rattle.cg_group.specs.Rosters.{found}
 use Rattle.cg_group.proofs.RosterFacts.{IsRoster-with_standing, insert-with_standing}
 use Rattle.cg_group.proofs.roster.Roster.add.Goals as goal
 

@@ -1,7 +1,5 @@
-use Rattle.std.proofs.Common.{◌≡◌, ℕ, [], sym, ◌∙◌, ap, subst, refl, arith, Some, None, position, Ok, Err, OnOk, false, true, is_some}
-use Rattle.std.proofs.Math.ListN.{set, get_or}
+use Rattle.std.proofs.Common.{◌≡◌, [], sym, ◌∙◌, ap, false, true, is_some}
 use Rattle.cg_group.specs.State.{with_standing}
-use Rattle.cg_group.specs.Rosters.{found}
 use Rattle.cg_group.proofs.RosterFacts.{IsRoster-set, set-with_standing, found_there, found_nowhere}
 use Rattle.cg_group.proofs.roster.Roster.enter.Goals as goal
 

@@ -1,4 +1,4 @@
-use Rattle.std.proofs.Common.{◌≡◌, ℕ, sym, ◌∙◌, ap, subst, refl, arith, Some, None, position}
+use Rattle.std.proofs.Common.{sym, ◌∙◌, ap}
 use Rattle.cg_group.specs.Rosters.{handed_so_far}
 use Rattle.cg_group.proofs.RosterFacts.{IsRoster-set, changed_there, changed_nowhere}
 use Rattle.cg_group.proofs.roster.Roster.hand_out.Goals as goal

@@ -1,6 +1,5 @@
-use Rattle.std.proofs.Common.{◌≡◌, [], sym, ◌∙◌, ap, fold, drop, arith}
+use Rattle.std.proofs.Common.{sym, ◌∙◌, ap, fold}
 use Rattle.std.proofs.lemmas.List.{drop_all}
-use Rattle.cg_group.specs.Rosters.{regulars_of}
 use Rattle.cg_group.proofs.RosterFacts.{regulars-all, with_regular}
 use Rattle.cg_group.proofs.roster.Roster.regulars.Goals as goal
 

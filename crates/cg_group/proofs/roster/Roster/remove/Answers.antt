@@ -1,4 +1,4 @@
-use Rattle.std.proofs.Common.{◌≡◌, ℕ, [], sym, ◌∙◌, ap, subst, refl, arith, Some, None, position, Ok, Err, OnOk, false, true, is_some}
+use Rattle.std.proofs.Common.{sym, ◌∙◌}
 use Rattle.cg_group.proofs.RosterFacts.{IsRoster-filter, remove-filter, filter-nowhere, found_there, found_nowhere}
 use Rattle.cg_group.proofs.roster.Roster.remove.Goals as goal
 

@@ -1,4 +1,4 @@
-use Rattle.std.proofs.Common.{◌≡◌, ℕ, [], sym, ◌∙◌, ap, subst, refl, arith, Some, None, position, Ok, Err, OnOk, false, true, is_some}
+use Rattle.std.proofs.Common.{◌≡◌, sym, ◌∙◌, ap}
 use Rattle.cg_group.specs.Rosters.{waiting}
 use Rattle.cg_group.proofs.RosterFacts.{IsRoster-set, changed_there, changed_nowhere, ok_then}
 use Rattle.cg_group.proofs.roster.Roster.send.Goals as goal

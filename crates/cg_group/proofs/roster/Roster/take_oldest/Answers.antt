@@ -1,7 +1,6 @@
-use Rattle.std.proofs.Common.{◌≡◌, ℕ, [], sym, ◌∙◌, ap, subst, refl, arith, Some, None, position, Ok, Err, OnOk, false, true, is_some}
+use Rattle.std.proofs.Common.{[], sym, ◌∙◌, ap, refl}
 use Rattle.cg_group.proofs.RosterFacts.{IsRoster-set, taken_there, found_nowhere}
 use Rattle.std.specs.Option.{option_map_or}
-use Rattle.cg_group.specs.State.{Standing}
 use Rattle.cg_group.proofs.roster.Roster.take_oldest.Goals as goal
 
 pub invariant_of-self : goal.invariant_of-self

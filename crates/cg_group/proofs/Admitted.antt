@@ -1,19 +1,15 @@
 -- What a call that isn't refused may rely on.
-use Rattle.std.proofs.Common.{◌≡◌, ℕ, zero, suc, ◌+◌, ◌<◌, ◌≤◌, ◌⊎◌, Bool, true, false, cond, ◌&&◌, ◌||◌, not, List, [], ◌∷◌, ◌++◌, length, Option, Some, None, IsTrue, refl, sym, ap, ap₂, subst, ◌∙◌, arith, eq-eqb, eqb-true, inl, inr, ⊎_elim, fold, filter, map, find, max, is_some, option_map, nat_lt, ltb-false, if◌then◌else◌}
+use Rattle.std.proofs.Common.{◌≡◌, ℕ, ◌<◌, ◌≤◌, ◌⊎◌, Bool, true, false, ◌&&◌, not, List, [], ◌∷◌, Option, Some, None, refl, sym, ap, ◌∙◌, arith, eq-eqb, eqb-true, inl, inr, ⊎_elim, fold, map, find, max, is_some, option_map}
 use Rattle.std.specs.Prelude.{◌==◌}
-use Rattle.std.specs.List.{list_any, list_all}
-use Rattle.std.specs.Option.{option_map_or}
-use Rattle.std.proofs.lemmas.Bool.{cases_Bool, cases_eq, cond-true, cond-false, eqb-false, and_parts, and_from, or_cases, or_left, or_right, not_from_false, not-false, not-true, cases_lt}
-use Rattle.cg_base.specs.Lists.{first_some, greatest}
-use Rattle.cg_base.specs.Sets.{has, same_set, is_within, least}
-use Rattle.cg_group.specs.declared.phase.Phase.{Phase}
-use Rattle.cg_group.specs.declared.phase.Phase.TheVariants.{Down, Alone, Regular, Transitional}
+use Rattle.std.specs.List.{list_any}
+use Rattle.std.proofs.lemmas.Bool.{cases_Bool, cond-true, cond-false, eqb-false, and_from, or_cases, or_left, or_right, not_from_false, not-false, not-true, cases_lt}
+use Rattle.cg_base.specs.Lists.{first_some}
+use Rattle.cg_base.specs.Sets.{has, same_set, is_within}
 use Rattle.cg_group.specs.declared.reason.Reason.{Reason}
-use Rattle.cg_group.specs.State.{Configuration, Standing, GroupState, standing_of, configuration, phase_of, delivered_to, unordered_of, home, regular_in, is_up, is_regular}
-use Rattle.cg_group.specs.Ready.{ready}
-use Rattle.cg_group.specs.Refusals.{refuse, any_of, not_up, not_regular, no_such_place, not_ready, not_one_configuration, still_regular, not_together, is_together, same_phase, empty_set, order_refusal, receive_refusal, deliver_refusal, split_refusal, merge_refusal}
+use Rattle.cg_group.specs.State.{Standing, GroupState, standing_of, phase_of, delivered_to, regular_in, is_up, is_regular}
+use Rattle.cg_group.specs.Refusals.{refuse, any_of, not_up, not_regular, not_one_configuration, still_regular, not_together, is_together, same_phase}
 use Rattle.cg_group.specs.Events.{furthest}
-use Rattle.cg_group.proofs.Each.{Each, Each-at, Each-has, Each-weaker}
+use Rattle.cg_group.proofs.Each.{Each, Each-at, Each-has}
 
 pub first_none : {X : Type 0} (o : Option X) (rest : List (Option X)) → first_some (o ∷ rest) ≡ None → (o ≡ None) × (first_some rest ≡ None)
 first_none None rest e = (refl, e)
