@@ -1,0 +1,22 @@
+//! What the members of a configuration know together, from their summaries: who left and who remains, the last primary
+//! component, the attempt index, the common yellow list, what becomes of each vulnerable record, and whether those who
+//! remain may form the next primary component.
+//!
+//! `decide` is one function of all summaries at once (`specs/Verdict.antt`), in whatever order they stand. When the
+//! summaries are all there, and what follows from the verdict, is left to the layers above.
+#![tactic(auto)]
+
+mod knowledge;
+mod members;
+mod primary;
+mod summary;
+#[cfg(test)]
+mod tests;
+mod verdict;
+mod vulnerable;
+mod yellow;
+
+pub use knowledge::decide;
+pub use members::{gone, most_updated, remaining, senders};
+pub use summary::Summary;
+pub use verdict::{Verdict, VulnerableList};

@@ -1,0 +1,75 @@
+-- Following a plan item by item.
+use Rattle.std.proofs.Common.{◌≡◌, ℕ, zero, suc, ◌+◌, ◌<◌, ◌≤◌, List, [], ◌∷◌, length, take, get_or, Some, true, eqb, refl, sym, ap, ◌∙◌, arith, inl, inr}
+use Rattle.std.specs.Prelude.{slice_get, ◌↔◌}
+use Rattle.std.proofs.lemmas.Bool.{eq-eqb, eqb-true, ne_eqb, and_from, and_parts, le-leb, lt-leb, cases_eq}
+use Rattle.std.proofs.lemmas.List.Sums.{fold_more}
+use Rattle.cg_plan.specs.declared.parts.Item.{Item}
+use Rattle.cg_plan.specs.declared.parts.Item.TheVariants.{Green, Red}
+use Rattle.cg_plan.specs.declared.parts.Turn.{Turn}
+use Rattle.cg_plan.specs.declared.parts.Sent.{Sent}
+use Rattle.cg_plan.specs.Items.{same_item, items_of_plan}
+use Rattle.cg_plan.specs.Progress.{Progress, begun, next_item, is_wanted, after_item, after_items, is_done}
+
+pub same_item-itself : (i : Item) → same_item i i ≡ true
+same_item-itself (Green at) = eq-eqb at at refl
+same_item-itself (Red id) = and_from (eqb id.creator id.creator) (eqb id.index id.index) (eq-eqb id.creator id.creator refl) (eq-eqb id.index id.index refl)
+
+abbrev named : ℕ → ℕ → Item
+named creator index = Red (record { creator = creator; index = index })
+
+pub same_item-is : (a b : Item) → same_item a b ≡ true → a ≡ b
+same_item-is (Green at) (Green at') e = ap Green (eqb-true at at' e)
+same_item-is (Green at) (Red id) e = absurd (cc)
+same_item-is (Red id) (Green at) e = absurd (cc)
+same_item-is (Red id) (Red id') e =
+    let parts = and_parts (eqb id.creator id'.creator) (eqb id.index id'.index) e in
+    ap (λ c. named c id.index) (eqb-true id.creator id'.creator parts.0) ∙ ap (named id'.creator) (eqb-true id.index id'.index parts.1)
+
+pub same_item-tells : (a b : Item) → (same_item a b ≡ true) ↔ (a ≡ b)
+same_item-tells a b = (same_item-is a b, λ e. rw e (same_item-itself b))
+
+wanted-itself : (s : Sent) → is_wanted (Some s) s.sender s.item ≡ true
+wanted-itself s = and_from (eqb s.sender s.sender) (same_item s.item s.item) (eq-eqb s.sender s.sender refl) (same_item-itself s.item)
+
+abbrev at : List Turn → ℕ → Progress
+at plan n = record { turns = plan; accepted = n }
+
+-- the item at its turn is accepted
+after-next : (plan : List Turn) (n : ℕ) (s : Sent) → slice_get (items_of_plan plan) n ≡ Some s → after_item (at plan n) s.sender s.item ≡ at plan (n + 1)
+unfolding next_item
+after-next plan n s here = rw (here, wanted-itself s) refl
+
+no_item : (xs : List Sent) → length xs ≡ 0 → xs ≡ []
+no_item [] e = refl
+no_item (x ∷ xs) e = absurd (omega arith)
+
+-- a list with a first element has one to read
+some_item : (xs : List Sent) (n : ℕ) → n < length xs → (s : Sent) × (slice_get xs n ≡ Some s)
+some_item [] n lt = absurd (omega arith)
+some_item (x ∷ xs) zero lt = (x, refl)
+some_item (x ∷ xs) (suc n) lt = some_item xs n (omega arith)
+
+pub follows : (plan : List Turn) (n : ℕ) → n ≤ length (items_of_plan plan) → after_items (begun plan) (take n (items_of_plan plan)) ≡ at plan n
+follows plan zero le = refl
+follows plan (suc n) le =
+    let items = items_of_plan plan in
+    let lt : n < length items = omega arith in
+    let here = some_item items n lt in
+    let s = here.0 in
+    let before = follows plan n (omega arith) in
+    let read : get_or items n s ≡ s = get_or_from items n s here.1 in
+    let next : n + 1 ≡ suc n = omega arith in
+    let step = fold_more (λ q t. after_item q t.sender t.item) (begun plan) items n s lt in
+    ap (λ k. after_items (begun plan) (take k items)) (sym next) ∙ step ∙ rw (before, read) (after-next plan n s here.1) ∙ ap (at plan) next
+  where
+    get_or_from : (xs : List Sent) (k : ℕ) (s : Sent) → slice_get xs k ≡ Some s → get_or xs k s ≡ s
+    get_or_from [] k s e = refl
+    get_or_from (x ∷ xs) zero s e = cc
+    get_or_from (x ∷ xs) (suc k) s e = get_or_from xs k s e
+
+pub ends : (plan : List Turn) (n : ℕ) → n ≤ length (items_of_plan plan) → is_done (at plan n) ≡ eqb n (length (items_of_plan plan))
+unfolding is_done
+ends plan n le = elim (cases_eq n (length (items_of_plan plan))) [
+  | inl all ↦ le-leb _ _ (omega arith) ∙ sym (eq-eqb _ _ all)
+  | inr less ↦ lt-leb _ _ (omega arith) ∙ sym (ne_eqb _ _ less)
+]

@@ -1,0 +1,52 @@
+-- The items of a plan: what each part of it has, in order, and from whom.
+use Rattle.std.specs.Prelude.{ℕ, ◌+◌, ◌-◌, ◌≤◌, ◌==◌, Bool, false, List, map, flat_map}
+use Rattle.cg_base.specs.Ids.{same_id}
+use Rattle.cg_base.specs.Lists.{above_up_to}
+use Rattle.cg_plan.specs.declared.parts.Item.{Item}
+use Rattle.cg_plan.specs.declared.parts.Item.TheVariants.{Green, Red}
+use Rattle.cg_plan.specs.declared.parts.Part.{Part}
+use Rattle.cg_plan.specs.declared.parts.Part.TheVariants.{Greens, Reds}
+use Rattle.cg_plan.specs.declared.parts.Turn.{Turn}
+use Rattle.cg_plan.specs.declared.parts.Sent.{Sent}
+
+-- the two are one item
+abbrev pub same_item : Item → Item → Bool
+same_item (Green at) (Green at') = at == at'
+same_item (Red id) (Red id') = same_id id id'
+same_item _ _ = false
+
+-- the red item of a creator with that index
+abbrev pub red_item : ℕ → ℕ → Item
+red_item creator index = Red (record { creator = creator; index = index })
+
+-- the items of a part, in order
+abbrev pub items_of : Part → List Item
+items_of (Greens from to) = map Green (above_up_to (from - 1) to)
+items_of (Reds creator from to) = map (red_item creator) (above_up_to (from - 1) to)
+
+-- the part has an item
+abbrev pub IsFilled : Part → Type 0
+IsFilled (Greens from to) = (1 ≤ from) × (from ≤ to)
+IsFilled (Reds creator from to) = (1 ≤ from) × (from ≤ to)
+
+-- how many items a part has
+abbrev pub size_of : Part → ℕ
+size_of (Greens from to) = to - (from - 1)
+size_of (Reds creator from to) = to - (from - 1)
+
+-- the item behind so many others of a part
+abbrev pub item_behind : Part → ℕ → Item
+item_behind (Greens from to) made = Green (from + made)
+item_behind (Reds creator from to) made = red_item creator (from + made)
+
+-- an item with its sender
+abbrev pub sent_by : ℕ → Item → Sent
+sent_by sender item = record { sender = sender; item = item }
+
+-- the items of a part, each with the part's sender
+abbrev pub items_of_turn : Turn → List Sent
+items_of_turn turn = map (sent_by turn.sender) (items_of turn.part)
+
+-- the items of a plan, in order
+unfoldable pub items_of_plan : List Turn → List Sent
+items_of_plan plan = flat_map items_of_turn plan
