@@ -5,6 +5,7 @@ use std::alloc::Global;
 use std::test::Fail;
 
 /// A message in bytes, and the place of the first byte of each of its fields.
+#[derive(Clone, Copy)]
 struct Row<'a> {
     bytes: &'a [u8],
     starts: &'a [u64],
