@@ -1,0 +1,5 @@
+pub mod Limits
+pub mod Bytes
+pub mod Reading
+pub mod Print
+pub mod Laws

@@ -1,0 +1,27 @@
+//! Actions: what a client asks of the database, or that a server joins or leaves.
+//!
+//! An action has one spelling in bytes, and what it does has one printed form. `specs/Limits.antt` says which
+//! actions there are: each of these is read again as it was written, and nothing else is read. Where bytes have no
+//! reading, the fault is the first from the left. What actions make of a database is left to the layers above.
+#![tactic(auto)]
+
+mod action;
+mod command;
+mod laws;
+mod print;
+mod query;
+mod reading;
+mod value;
+mod writing;
+
+pub use action::{Action, ActionList, Kind, copy_actions};
+pub use command::{Cmd, CmdList};
+pub use laws::{actions_are_exact, spellings_stand_apart};
+pub use print::print_kind;
+pub use query::Query;
+pub use reading::{decode, take_action, take_action_id, take_value};
+pub use value::Value;
+pub use writing::{encode, put_action, put_action_id, put_value};
+
+#[cfg(test)]
+mod tests;

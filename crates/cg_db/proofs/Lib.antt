@@ -1,0 +1,6 @@
+pub mod TextOrder
+pub mod MapLemmas
+pub mod ViewLemmas
+pub mod PlanLemmas
+pub mod KeyLemmas
+pub mod LimitLaws

@@ -1,0 +1,6 @@
+pub mod Map
+pub mod View
+pub mod Apply
+pub mod Plan
+pub mod Find
+pub mod Limits

@@ -1,0 +1,51 @@
+-- A database: the list of its entries, ascending by key, each key once.
+use Rattle.std.specs.Prelude.{◌≡◌, ℕ, Bool, true, false, not, List, [], ◌∷◌, Option, Some, None, map, filter, if◌then◌else◌}
+use Rattle.std.specs.Ordering.{int_eq}
+use Rattle.cg_text.specs.Order.{same_text, text_before}
+use Rattle.cg_action.specs.declared.value.Value.{Value}
+use Rattle.cg_action.specs.declared.value.Value.TheVariants.{Text, Int}
+use Rattle.cg_db.specs.declared.entry.DbEntry.{DbEntry}
+
+-- the first of the keys comes after the given one
+abbrev pub IsBefore : List ℕ → List DbEntry → Type 0
+IsBefore key [] = Unit {0}
+IsBefore key (entry ∷ db) = text_before key entry.key ≡ true
+
+-- the keys ascend strictly
+abbrev pub Ascends : List DbEntry → Type 0
+Ascends [] = Unit {0}
+Ascends (entry ∷ db) = IsBefore entry.key db × Ascends db
+
+-- the value of a key, if it is there
+abbrev pub value_of : List DbEntry → List ℕ → Option Value
+value_of [] key = None
+value_of (entry ∷ db) key = if same_text key entry.key then Some entry.value else value_of db key
+
+-- the database with the key set to the value
+abbrev pub put : List DbEntry → List ℕ → Value → List DbEntry
+put [] key value = record { key = key; value = value } ∷ []
+put (entry ∷ db) key value =
+    if same_text key entry.key then record { key = key; value = value } ∷ db
+    else if text_before key entry.key then record { key = key; value = value } ∷ entry ∷ db
+    else entry ∷ put db key value
+
+-- the database without the key
+abbrev pub remove : List DbEntry → List ℕ → List DbEntry
+remove db key = filter (λ entry. not (same_text key entry.key)) db
+
+abbrev pub keys : List DbEntry → List (List ℕ)
+keys db = map (λ entry. entry.key) db
+
+-- the two values are one
+abbrev pub same_value : Value → Value → Bool
+same_value (Text s) (Text t) = same_text s t
+same_value (Int x) (Int y) = int_eq x y
+same_value (Text s) (Int y) = false
+same_value (Int x) (Text t) = false
+
+-- the two values are one, or both are absent
+abbrev pub same_option : Option Value → Option Value → Bool
+same_option None None = true
+same_option (Some v) (Some w) = same_value v w
+same_option None (Some w) = false
+same_option (Some v) None = false

@@ -1,0 +1,35 @@
+-- The changes that an action makes, before they are written.
+use Rattle.std.specs.Prelude.{ℕ, List, Option, Some, None, fold}
+use Rattle.cg_action.specs.declared.value.Value.{Value}
+use Rattle.cg_db.specs.declared.entry.DbEntry.{DbEntry}
+use Rattle.cg_db.specs.declared.effect.Effect.{Effect}
+use Rattle.cg_db.specs.declared.effect.Effect.TheVariants.{Done, Aborted, Range}
+use Rattle.cg_db.specs.declared.plan.Change.{Change}
+use Rattle.cg_db.specs.declared.plan.Step.{Step}
+use Rattle.cg_db.specs.declared.plan.Step.TheVariants.{Goes, Fails, Overflows as Exceeds}
+use Rattle.cg_db.specs.Map.{put, remove}
+use Rattle.cg_db.specs.Apply.{Ran, Changed, Aborts, Overflows}
+
+-- the database with what a key is to have
+abbrev pub set_option : List DbEntry → List ℕ → Option Value → List DbEntry
+set_option db key (Some value) = put db key value
+set_option db key None = remove db key
+
+abbrev pub changed : List DbEntry → Change → List DbEntry
+changed db change = set_option db change.key change.value
+
+-- the database with the changes made in order
+unfoldable pub with_changes : List DbEntry → List Change → List DbEntry
+with_changes db changes = fold changed db changes
+
+-- how a command ended that led to this database
+abbrev pub ran : Step → List DbEntry → Ran
+ran Goes db = Changed db
+ran Fails db = Aborts
+ran Exceeds db = Overflows
+
+-- what an action with this effect leaves of two databases, the one before it and the one after its commands
+abbrev pub left_by : Effect → List DbEntry → List DbEntry → List DbEntry
+left_by Done old new = new
+left_by (Aborted place) old new = old
+left_by (Range place) old new = old

@@ -1,0 +1,230 @@
+ghost use Rattle.std.specs.Prelude.{◌≡◌, ◌≤◌, ◌<◌, ◌+◌, ◌++◌, [], ◌∷◌, length, drop, filter, All, Some, IfOk, OnOk, OnErr};
+ghost use Rattle.std.specs.Option.{option_copied};
+ghost use Rattle.indexmap.specs.IndexMap.{spare};
+ghost use Rattle.cg_text.specs.Order.{begins_with};
+ghost use Rattle.cg_db.specs.Find.{answer_of};
+ghost use Rattle.cg_db.specs.View.{of_entries, entry_at};
+ghost use Rattle.cg_db.specs.Plan.{changed, with_changes};
+ghost use Rattle.cg_action.specs.Limits.{IsAction, IsCommand};
+
+use crate::plan::{Change, plan};
+use crate::{Answer, DbEntry, Effect, EntryList};
+use cg_action::{Action, Cmd, Kind, Query, Value};
+use cg_base::{NoMemory, Row};
+use cg_text::Txt;
+use indexmap::IndexMap;
+use std::alloc::Global;
+use std::marker::Model;
+
+type Map = IndexMap<String, Value>;
+
+/// A database. Clauses see its entries, ascending by key.
+#[derive(Drop)]
+pub struct Db {
+    map: Map,
+    alloc: Global,
+}
+
+impl Model for Db {
+    ghost use Rattle.std.specs.Prelude.{List};
+    ghost use Rattle.cg_db.specs.declared.entry.DbEntry.{DbEntry};
+    ghost use Rattle.cg_db.specs.View.{of_entries};
+
+    ghost Value = { List DbEntry };
+
+    ghost view = { λ db. of_entries db.map.entries };
+}
+
+impl Db {
+    ghost use Rattle.cg_db.specs.Map.{value_of, Ascends};
+    ghost use Rattle.cg_db.specs.Apply.{Changed, apply, run_commands};
+    ghost use Rattle.cg_db.specs.Find.{answer, keys_from};
+
+    /// A database without entries.
+    pub fn new(alloc: Global) -> Db
+        ensures { result ≡ [] }
+    {
+        Db {
+            map: IndexMap::new(alloc),
+            alloc,
+        }
+    }
+
+    /// Applies an action. Where one of its commands fails, or memory is refused, nothing is changed.
+    pub fn apply(&mut self, a: &Action) -> Result<Effect, NoMemory>
+        requires { IsAction a.now }
+        ensures ok { IfOk result (λ effect. apply self.old a.now ≡ record { db = self.new; effect = effect }) }
+        ensures err { OnErr result (self.new ≡ self.old) }
+    {
+        match &a.kind {
+            Kind::Update { cmds, .. } => self.run(cmds.as_slice()),
+            Kind::Join(..) => Ok(Effect::Done),
+            Kind::Leave(_) => Ok(Effect::Done),
+        }
+    }
+
+    fn run(&mut self, cmds: &[Cmd]) -> Result<Effect, NoMemory>
+        requires few { length cmds.now ≤ 16 }
+        requires each { All IsCommand cmds.now }
+        ensures ok { IfOk result (λ effect. run_commands self.old 0 cmds.now (Changed self.old) ≡ record { db = self.new; effect = effect }) }
+        ensures err { OnErr result (self.new ≡ self.old) }
+    {
+        let mut changes = Vec::new(self.alloc);
+        let effect = plan(self, &mut changes, cmds)?;
+        match effect {
+            Effect::Done => {
+                write(&mut self.map, changes)?;
+                Ok(Effect::Done)
+            }
+            Effect::Aborted(place) => Ok(Effect::Aborted(place)),
+            Effect::Range(place) => Ok(Effect::Range(place)),
+        }
+    }
+
+    /// What a query finds.
+    pub fn answer(&self, q: &Query) -> Result<Answer, NoMemory>
+        ensures { IfOk result (λ found. found ≡ answer self.now q.now) }
+    {
+        match q {
+            Query::Get(key) => match self.value(key.as_str()) {
+                None => Ok(Answer::Absent),
+                Some(value) => answer_of(self.alloc, value),
+            },
+            Query::Keys(prefix) => {
+                let keys = self.keys_from(prefix.as_str())?;
+                Ok(Answer::Keys(Row::from_vec(keys)))
+            }
+            Query::Count => Ok(Answer::Count(self.count())),
+        }
+    }
+
+    /// The entries, ascending by key.
+    pub fn entries(&self) -> Result<EntryList, NoMemory>
+        ensures value { IfOk result (λ entries. entries ≡ self.now) }
+        ensures ascends { IfOk result Ascends }
+    {
+        let mut entries = Row::new(self.alloc);
+        for key in self.keys_from("")? {
+            self.push_entry(&mut entries, key)?;
+        }
+        Ok(entries)
+    }
+
+    /// Another database with the same entries.
+    pub fn copy(&self) -> Result<Db, NoMemory>
+        ensures { IfOk result (λ copy. copy ≡ self.now) }
+    {
+        let mut map = IndexMap::new(self.alloc);
+        let mut left = self.map.len();
+        while left > 0 {
+            left -= 1;
+            copy_entry(self.alloc, &self.map, left, &mut map)?;
+        }
+        Ok(Db {
+            map,
+            alloc: self.alloc,
+        })
+    }
+
+    // the key with its value, if it is there
+    fn push_entry(&self, entries: &mut EntryList, key: Txt) -> Result<(), NoMemory>
+        ensures { OnOk result (entries.new ≡ entries.old ++ entry_at key (value_of self.now key)) }
+    {
+        let Some(value) = self.value(key.as_str()) else {
+            return Ok(());
+        };
+        let value = value.copy(self.alloc)?;
+        entries.push(DbEntry { key, value })
+    }
+
+    // the keys that begin with the prefix, ascending
+    fn keys_from(&self, prefix: &str) -> Result<Vec<Txt>, NoMemory>
+        ensures { IfOk result (λ found. found.items ≡ keys_from self.now prefix.now) }
+    {
+        let mut found = Vec::new(self.alloc);
+        for key in self.map.keys() {
+            push_if(self.alloc, &mut found, key.as_str(), prefix)?;
+        }
+        found.sort()?;
+        Ok(found)
+    }
+
+    fn count(&self) -> u64
+        ensures { result ≡ length self.now }
+    {
+        self.map.len() as u64
+    }
+
+    pub(crate) fn alloc(&self) -> Global {
+        self.alloc
+    }
+
+    pub(crate) fn value(&self, key: &str) -> Option<&Value>
+        ensures { option_copied result ≡ value_of self.now key.now }
+    {
+        self.map.get(key)
+    }
+}
+
+fn answer_of(alloc: Global, value: &Value) -> Result<Answer, NoMemory>
+    ensures { IfOk result (λ found. found ≡ answer_of (Some value.now)) }
+{
+    match value {
+        Value::Text(text) => Ok(Answer::Text(text.copy(alloc)?)),
+        Value::Int(number) => Ok(Answer::Int(*number)),
+    }
+}
+
+// the key, if it begins with the prefix
+fn push_if(alloc: Global, found: &mut Vec<Txt>, key: &str, prefix: &str) -> Result<(), NoMemory>
+    ensures { OnOk result (found.new.items ≡ found.old.items ++ filter (λ k. begins_with k prefix.now) (key.now ∷ [])) }
+{
+    if !key.as_bytes().starts_with(prefix.as_bytes()) {
+        return Ok(());
+    }
+    let key = Txt::new(alloc, key)?;
+    found.push(key)?;
+    Ok(())
+}
+
+// a copy of the entry at a place, in front of those that stand behind it
+fn copy_entry(alloc: Global, from: &Map, place: usize, to: &mut Map) -> Result<(), NoMemory>
+    requires { place < length from.now.entries }
+    ensures { OnOk result (of_entries to.old.entries ≡ of_entries (drop (place + 1) from.now.entries) → of_entries to.new.entries ≡ of_entries (drop place from.now.entries)) }
+{
+    let Some((key, value)) = from.get_index(place) else {
+        return Ok(());
+    };
+    let key = String::from_str(alloc, key.as_str())?;
+    let value = value.copy(alloc)?;
+    to.insert(key, value)?;
+    Ok(())
+}
+
+// all of the changes, or none where memory is refused
+fn write(map: &mut Map, changes: Vec<Change>) -> Result<(), NoMemory>
+    ensures ok { OnOk result (of_entries map.new.entries ≡ with_changes (of_entries map.old.entries) changes.items) }
+    ensures err { OnErr result (map.new.entries ≡ map.old.entries) }
+{
+    map.reserve(changes.len())?;
+    for change in changes {
+        write_one(map, change);
+    }
+    Ok(())
+}
+
+fn write_one(map: &mut Map, change: Change)
+    requires { 0 < spare map.old }
+    ensures changed { of_entries map.new.entries ≡ changed (of_entries map.old.entries) change }
+    ensures room { spare map.old ≤ spare map.new + 1 }
+{
+    let Change { key, value } = change;
+    match value {
+        Some(value) => {
+            let _ = map.insert(key.into_string(), value);
+        }
+        None => {
+            let _ = map.swap_remove(key.as_str());
+        }
+    }
+}

@@ -1,0 +1,16 @@
+use cg_action::Value;
+use cg_base::Row;
+use cg_text::Txt;
+
+/// A key with its value.
+#[derive(Drop)]
+pub struct DbEntry {
+    pub key: Txt,
+    pub value: Value,
+}
+
+/// Entries, in order.
+pub type EntryList = Row<DbEntry>;
+
+/// Texts, in order.
+pub type TxtList = Row<Txt>;

@@ -1,0 +1,23 @@
+//! The database: what actions make of it, and what queries find in it.
+//!
+//! A database is a finite map from keys to values; clauses see its entries, ascending by key. `specs/Apply.antt` says
+//! what an action makes of one, and `specs/Find.antt` what a query finds. An action is worked out before anything is
+//! written, so that one which fails, or for which there is no memory, changes nothing. Which actions are applied, and
+//! in which order, is left to the layers above.
+#![tactic(auto)]
+
+mod answer;
+mod db;
+mod effect;
+mod entry;
+mod laws;
+mod plan;
+
+pub use answer::Answer;
+pub use db::Db;
+pub use effect::Effect;
+pub use entry::{DbEntry, EntryList, TxtList};
+pub use laws::entries_stay_within_limits;
+
+#[cfg(test)]
+mod tests;

@@ -1,0 +1,193 @@
+//! What an action is going to change, worked out before anything is written.
+
+ghost use Rattle.std.specs.Prelude.{◌≡◌, ◌≤◌, ◌≤ℤ◌, pos, length, All, IfOk, OnOk};
+ghost use Rattle.std.specs.Option.{option_copied};
+ghost use Rattle.cg_action.specs.Limits.{IsCommand};
+ghost use Rattle.cg_action.specs.declared.command.Cmd.TheVariants.{Cas, Move};
+ghost use Rattle.cg_db.specs.Map.{value_of, same_value, same_option};
+ghost use Rattle.cg_db.specs.Apply.{Changed, number_of, add_to, move_number, run_command, run_commands};
+ghost use Rattle.cg_db.specs.Plan.{set_option, with_changes, ran, left_by};
+
+use crate::{Db, Effect};
+use cg_action::{Cmd, Value};
+use cg_base::NoMemory;
+use cg_text::Txt;
+
+/// What a key is going to have; `None` takes it out.
+#[derive(Drop)]
+pub(crate) struct Change {
+    pub(crate) key: Txt,
+    pub(crate) value: Option<Value>,
+}
+
+/// How a command ended.
+#[derive(Clone, Copy, Debug, PartialEq, Eq)]
+pub(crate) enum Step {
+    Goes,
+    Fails,
+    Overflows,
+}
+
+/// Works out the changes of the commands, behind changes that aren't written yet.
+pub(crate) fn plan(db: &Db, changes: &mut Vec<Change>, cmds: &[Cmd]) -> Result<Effect, NoMemory>
+    requires few { length cmds.now ≤ 16 }
+    requires each { All IsCommand cmds.now }
+    ensures { IfOk result (λ effect. run_commands db.now 0 cmds.now (Changed (with_changes db.now changes.old.items))
+        ≡ record { db = left_by effect db.now (with_changes db.now changes.new.items); effect = effect }) }
+{
+    for (i, cmd) in cmds.iter().enumerate() {
+        let place = i as u8 + 1;
+        match run_command(db, changes, cmd)? {
+            Step::Goes => {}
+            Step::Fails => return Ok(Effect::Aborted(place)),
+            Step::Overflows => return Ok(Effect::Range(place)),
+        }
+    }
+    Ok(Effect::Done)
+}
+
+fn run_command(db: &Db, changes: &mut Vec<Change>, cmd: &Cmd) -> Result<Step, NoMemory>
+    requires { IsCommand cmd.now }
+    ensures { IfOk result (λ step. run_command (with_changes db.now changes.old.items) cmd.now ≡ ran step (with_changes db.now changes.new.items)) }
+{
+    match cmd {
+        Cmd::Put { key, value } => {
+            let value = value.copy(db.alloc())?;
+            set(db, changes, key, Some(value))?;
+            Ok(Step::Goes)
+        }
+        Cmd::Del { key } => {
+            set(db, changes, key, None)?;
+            Ok(Step::Goes)
+        }
+        Cmd::Inc { key, by } => add(db, changes, key, *by),
+        Cmd::Cas { key, want, value } => swap(db, changes, key, want, value),
+        Cmd::Move {
+            source,
+            target,
+            amount,
+        } => move_amount(db, changes, source, target, *amount),
+        Cmd::Need { key, want } => {
+            if has(db, changes.as_slice(), key, want) {
+                Ok(Step::Goes)
+            } else {
+                Ok(Step::Fails)
+            }
+        }
+    }
+}
+
+// one more change
+fn set(db: &Db, changes: &mut Vec<Change>, key: &Txt, value: Option<Value>) -> Result<(), NoMemory>
+    ensures { OnOk result (with_changes db.now changes.new.items ≡ set_option (with_changes db.now changes.old.items) key.now value) }
+{
+    let key = key.copy(db.alloc())?;
+    changes.push(Change { key, value })?;
+    Ok(())
+}
+
+fn add(db: &Db, changes: &mut Vec<Change>, key: &Txt, by: i64) -> Result<Step, NoMemory>
+    ensures { IfOk result (λ step. add_to (with_changes db.now changes.old.items) key.now by ≡ ran step (with_changes db.now changes.new.items)) }
+{
+    let Some(number) = number_in(db, changes.as_slice(), key) else {
+        return Ok(Step::Fails);
+    };
+    let Some(sum) = number.checked_add(by) else {
+        return Ok(Step::Overflows);
+    };
+    set(db, changes, key, Some(Value::Int(sum)))?;
+    Ok(Step::Goes)
+}
+
+// sets the key where it has what is wanted
+fn swap(
+    db: &Db,
+    changes: &mut Vec<Change>,
+    key: &Txt,
+    want: &Option<Value>,
+    value: &Value,
+) -> Result<Step, NoMemory>
+    ensures { IfOk result (λ step. run_command (with_changes db.now changes.old.items) (Cas key.now want.now value.now) ≡ ran step (with_changes db.now changes.new.items)) }
+{
+    if !has(db, changes.as_slice(), key, want) {
+        return Ok(Step::Goes);
+    }
+    let value = value.copy(db.alloc())?;
+    set(db, changes, key, Some(value))?;
+    Ok(Step::Goes)
+}
+
+// The target may be the source: its number is read behind the first change.
+fn move_amount(
+    db: &Db,
+    changes: &mut Vec<Change>,
+    source: &Txt,
+    target: &Txt,
+    amount: i64,
+) -> Result<Step, NoMemory>
+    requires { pos 0 ≤ℤ amount }
+    ensures { IfOk result (λ step. run_command (with_changes db.now changes.old.items) (Move source.now target.now amount) ≡ ran step (with_changes db.now changes.new.items)) }
+{
+    let Some(number) = number_in(db, changes.as_slice(), source) else {
+        return Ok(Step::Fails);
+    };
+    if number < amount {
+        return Ok(Step::Fails);
+    }
+    set(db, changes, source, Some(Value::Int(number - amount)))?;
+    add(db, changes, target, amount)
+}
+
+// what a key has behind the changes
+fn value_in<'a>(db: &'a Db, changes: &'a [Change], key: &Txt) -> Option<&'a Value>
+    ensures { option_copied result ≡ value_of (with_changes db.now changes.now) key.now }
+{
+    let mut value = db.value(key.as_str());
+    for change in changes {
+        if *key == change.key {
+            value = change.value.as_ref();
+        }
+    }
+    value
+}
+
+// the number of a key behind the changes, 0 where it is absent; None says that it has a text
+fn number_in(db: &Db, changes: &[Change], key: &Txt) -> Option<i64>
+    ensures { result ≡ number_of (value_of (with_changes db.now changes.now) key.now) }
+{
+    match value_in(db, changes, key) {
+        None => Some(0),
+        Some(value) => match value {
+            Value::Int(number) => Some(*number),
+            Value::Text(_) => None,
+        },
+    }
+}
+
+// the key has what is wanted behind the changes
+fn has(db: &Db, changes: &[Change], key: &Txt, want: &Option<Value>) -> bool
+    ensures { result ≡ same_option (value_of (with_changes db.now changes.now) key.now) want.now }
+{
+    match value_in(db, changes, key) {
+        None => want.is_none(),
+        Some(value) => match want {
+            None => false,
+            Some(wanted) => same_value(value, wanted),
+        },
+    }
+}
+
+fn same_value(value: &Value, other: &Value) -> bool
+    ensures { result ≡ same_value value.now other.now }
+{
+    match value {
+        Value::Text(text) => match other {
+            Value::Text(other) => text == other,
+            Value::Int(_) => false,
+        },
+        Value::Int(number) => match other {
+            Value::Text(_) => false,
+            Value::Int(other) => *number == *other,
+        },
+    }
+}

@@ -1,0 +1,5 @@
+use Rattle.cg_members.proofs.MemberLaws.{members_of-more}
+use Rattle.cg_members.proofs.laws.members_follow_greens.Goals as goal
+
+pub returns : goal.returns
+returns c = members_of-more

@@ -1,0 +1,20 @@
+use Rattle.std.proofs.Common.{◌≡◌, ◌-◌, set, arith}
+use Rattle.std.proofs.lemmas.List.{get_or-set_same}
+use Rattle.cg_base.proofs.ArrayLemmas.{array_slot-set_other}
+use Rattle.cg_base.proofs.WeightLemmas.{IsWeightSet-with_weight}
+use Rattle.cg_members.proofs.ServerLemmas.{map_with-put}
+use Rattle.cg_members.proofs.server_set.ServerSet.put.Goals as goal
+
+pub returns : goal.returns
+returns c =
+    let lines = c.self.inside.lines in
+    let weights = c.self.inside.weights in
+    let id = c.args.id in
+    let place : c.from.result ≡ id - 1 = omega arith in
+    rw (← c.self.view_is, c.put.ensures, place)
+    (map_with-put lines (set lines (id - 1) c.args.line) weights (record { id = id; weight = c.args.weight }) c.args.line 1 (omega arith) c.self.invariant.ascends
+    (get_or-set_same lines (id - 1) c.args.line 0 (omega arith))
+    (λ k low apart. array_slot-set_other lines id k c.args.line c.get.ensures.range.0 low apart))
+
+pub invariant_of-self : goal.invariant_of-self
+invariant_of-self c = rw c.put.ensures (IsWeightSet-with_weight c.self.inside.weights (record { id = c.args.id; weight = c.args.weight }) c.get.ensures.range c.requires (omega arith) c.self.invariant)

@@ -1,0 +1,3 @@
+pub mod View
+pub mod Servers
+pub mod Laws

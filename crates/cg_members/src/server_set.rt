@@ -1,0 +1,193 @@
+ghost use Rattle.std.specs.Prelude.{◌≡◌, ◌≤◌, [], map};
+ghost use Rattle.cg_members.specs.View.{lesser};
+
+use crate::Server;
+use cg_base::{IdSet, ReplicaId, WeightSet, Weights};
+use std::marker::Model;
+
+/// Servers, each with its line and its weight. Clauses see the list of them, ascending.
+#[derive(Drop)]
+pub struct ServerSet {
+    weights: WeightSet,
+    // place p - 1 has the line of p, where p is a server
+    lines: [u64; 32],
+}
+
+impl Model for ServerSet {
+    ghost use Rattle.std.specs.Prelude.{List, map};
+    ghost use Rattle.cg_members.specs.declared.server.Server.{Server};
+    ghost use Rattle.cg_base.specs.Weights.{IsWeightSet};
+    ghost use Rattle.cg_members.specs.View.{server_with};
+
+    ghost Value = { List Server };
+
+    ghost view = { λ s. map (server_with s.lines) s.weights };
+
+    ghost invariant = { λ s. IsWeightSet s.weights };
+}
+
+impl ServerSet {
+    ghost use Rattle.cg_members.specs.Servers.{server_ids, is_among, line_of, weight_of, first_line, with_server, without_server, with_line, least_line};
+
+    pub fn empty() -> ServerSet
+        ensures { result ≡ [] }
+    {
+        ServerSet {
+            weights: WeightSet::empty(),
+            lines: [0; 32],
+        }
+    }
+
+    /// These members, each with line 0.
+    pub fn of(set: WeightSet) -> ServerSet
+        ensures { result ≡ map first_line set }
+    {
+        // it says that the set is one
+        let _members = set.iter();
+        ServerSet {
+            weights: set,
+            lines: [0; 32],
+        }
+    }
+
+    /// Other servers that are the same.
+    pub fn copy(&self) -> ServerSet
+        ensures { result ≡ self.now }
+    {
+        ServerSet {
+            weights: self.weights,
+            lines: self.lines,
+        }
+    }
+
+    /// Makes the replica a server with this line and this weight, which take the place of those that it had.
+    pub fn put(&mut self, id: ReplicaId, line: u64, weight: u8)
+        requires { 1 ≤ weight }
+        ensures { self.new ≡ with_server self.old (record { id = id; line = line; weight = weight }) }
+    {
+        self.weights.put(id, weight);
+        self.lines[usize::from(id.get() - 1)] = line;
+    }
+
+    pub fn remove(&mut self, id: ReplicaId)
+        ensures { self.new ≡ without_server self.old id }
+    {
+        let mut kept = WeightSet::empty();
+        for member in self.weights.iter() {
+            if member.id != id {
+                kept.put(member.id, member.weight);
+            }
+        }
+        self.weights = kept;
+    }
+
+    /// Raises a server's line to the given one. It never lowers; a replica that is no server stays none.
+    pub fn raise(&mut self, id: ReplicaId, line: u64)
+        ensures { self.new ≡ map (with_line id line) self.old }
+    {
+        let place = usize::from(id.get() - 1);
+        self.lines[place] = self.lines[place].max(line);
+    }
+
+    pub fn contains(&self, id: ReplicaId) -> bool
+        ensures { result ≡ is_among self.now id }
+    {
+        self.weights.contains(id)
+    }
+
+    /// 0 where the replica is no server.
+    pub fn weight(&self, id: ReplicaId) -> u8
+        ensures { result ≡ weight_of self.now id }
+    {
+        self.weights.weight(id)
+    }
+
+    /// 0 where the replica is no server.
+    pub fn line(&self, id: ReplicaId) -> u64
+        ensures { result ≡ line_of self.now id }
+    {
+        if self.weights.contains(id) {
+            self.lines[usize::from(id.get() - 1)]
+        } else {
+            0
+        }
+    }
+
+    /// The servers without their lines and weights.
+    pub fn ids(&self) -> IdSet
+        ensures { result ≡ server_ids self.now }
+    {
+        self.weights.ids()
+    }
+
+    /// The least of the lines, if there is a server.
+    pub fn least_line(&self) -> Option<u64>
+        ensures { result ≡ least_line self.now }
+    {
+        let mut least = None;
+        for member in self.weights.iter() {
+            let line = self.lines[usize::from(member.id.get() - 1)];
+            least = lesser(least, line);
+        }
+        least
+    }
+}
+
+fn lesser(least: Option<u64>, line: u64) -> Option<u64>
+    ensures { result ≡ lesser least line }
+{
+    match least {
+        None => Some(line),
+        Some(other) => {
+            if line < other {
+                Some(line)
+            } else {
+                Some(other)
+            }
+        }
+    }
+}
+
+/// The servers of a set, ascending.
+#[derive(Drop)]
+pub struct Servers {
+    weights: Weights,
+    lines: [u64; 32],
+}
+
+impl ServerSet {
+    ghost use Rattle.cg_members.specs.View.{servers_left};
+    ghost use Rattle.cg_members.specs.Servers.{AreServers};
+
+    /// The servers, ascending. It also says what every set of servers is.
+    pub fn iter(&self) -> Servers
+        ensures items { servers_left result ≡ self.now }
+        ensures servers { AreServers self.now }
+    {
+        Servers {
+            weights: self.weights.iter(),
+            lines: self.lines,
+        }
+    }
+}
+
+impl Iterator for Servers {
+    type Item = Server;
+
+    ghost use Rattle.std.specs.Iterator.{YieldsFirst, item_count};
+    ghost use Rattle.cg_members.specs.View.{servers_left};
+
+    ghost next_gives = { YieldsFirst servers_left };
+
+    ghost remaining = { item_count servers_left };
+
+    fn next(&mut self) -> Option<Server> {
+        let member = self.weights.next()?;
+        let id = member.id;
+        Some(Server {
+            id,
+            line: self.lines[usize::from(id.get() - 1)],
+            weight: member.weight,
+        })
+    }
+}
