@@ -27,7 +27,7 @@ use Rattle.cg_group.specs.History.{NamesOnce}
 use Rattle.cg_group.proofs.Each.{Each, Each-all}
 use Rattle.cg_group.proofs.Lookups.{put-other, put-same, phase_of-set, unordered_of-set, configurations-set_standing}
 use Rattle.cg_group.proofs.Places.{ready_in-within}
-use Rattle.cg_group.proofs.Tests.{first_none, refuse_none}
+use Rattle.cg_group.proofs.Admitted.{first_none, refuse_none}
 use Rattle.cg_schedule.specs.declared.event.Event.{Event}
 use Rattle.cg_schedule.specs.declared.event.Event.TheVariants.{Start, Merge, Order, Gather, Receive, Deliver, Rounds, End}
 use Rattle.cg_world.specs.declared.message.Message.TheVariants.{State as StateMessage, Complete}
