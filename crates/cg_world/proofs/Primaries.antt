@@ -17,7 +17,7 @@ use Rattle.cg_group.specs.Events.{Outcome, delivery_at, deliver, merge}
 use Rattle.cg_group.proofs.Each.{Each, Each-append, Each-all}
 use Rattle.cg_group.proofs.Admitted.{refuse_none}
 use Rattle.cg_schedule.specs.declared.event.Event.{Event}
-use Rattle.cg_schedule.specs.declared.event.Event.TheVariants.{Start, Merge, Order, Gather, Receive, Deliver, Rounds, End}
+use Rattle.cg_schedule.specs.declared.event.Event.TheVariants.{Start, Merge, Gather, Deliver}
 use Rattle.cg_world.specs.declared.line.Line.{Line}
 use Rattle.cg_world.specs.declared.line.UpLine.{UpLine}
 use Rattle.cg_world.specs.declared.line.Primary.{Primary}

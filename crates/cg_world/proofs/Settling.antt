@@ -21,7 +21,7 @@ use Rattle.cg_group.specs.declared.reason.Reason.TheVariants.{NotRegular, NotRea
 use Rattle.cg_group.specs.State.{Configuration, Standing, GroupState, Sent, no_group, standing_of, configuration, no_configuration, phase_of, delivered_to, unordered_of, regular_in, home, is_regular, is_up}
 use Rattle.cg_group.specs.Ready.{ready_in, ready, all_received}
 use Rattle.cg_group.specs.Events.{come_up, send_all, order, order_all, receive, receive_all, regulars, gather, with_delivered, deliveries_at, deliver, become_regular, merge}
-use Rattle.cg_group.specs.Refusals.{not_up, not_regular, nothing_to_order, no_such_place, already_received, earlier_missing, not_ready, order_refusal, receive_refusal, deliver_refusal, refuse}
+use Rattle.cg_group.specs.Refusals.{not_up, not_regular, nothing_to_order, no_such_place, already_received, earlier_missing, not_ready, order_refusal, receive_refusal, deliver_refusal}
 use Rattle.cg_group.specs.Synchrony.{ordered_from}
 use Rattle.cg_group.specs.History.{NamesOnce}
 use Rattle.cg_group.proofs.Each.{Each, Each-all}
@@ -29,7 +29,7 @@ use Rattle.cg_group.proofs.Lookups.{put-other, put-same, phase_of-set, unordered
 use Rattle.cg_group.proofs.Places.{ready_in-within}
 use Rattle.cg_group.proofs.Admitted.{first_none, refuse_none}
 use Rattle.cg_schedule.specs.declared.event.Event.{Event}
-use Rattle.cg_schedule.specs.declared.event.Event.TheVariants.{Start, Merge, Order, Gather, Receive, Deliver, Rounds, End}
+use Rattle.cg_schedule.specs.declared.event.Event.TheVariants.{Start, Merge, Order, Gather, Receive, Deliver}
 use Rattle.cg_world.specs.declared.message.Message.TheVariants.{State as StateMessage, Complete}
 use Rattle.cg_world.specs.declared.state.State.{State}
 use Rattle.cg_world.specs.declared.state.State.TheVariants.{NonPrim, ExchangeStates, Construct, RegPrim}

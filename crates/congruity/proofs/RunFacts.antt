@@ -11,7 +11,6 @@ use Rattle.cg_schedule.specs.declared.event.Event.TheVariants.{Start, Merge, Ord
 use Rattle.cg_schedule.specs.declared.fault.LineFault.{LineFault}
 use Rattle.cg_schedule.specs.declared.place.Place.{Place}
 use Rattle.cg_schedule.specs.declared.word.Word.{Word}
-use Rattle.cg_schedule.specs.declared.word.Word.TheVariants as Word
 use Rattle.cg_schedule.specs.Limits.{IsEvent}
 use Rattle.cg_schedule.specs.Laws.{Reads, ReadsAs}
 use Rattle.cg_schedule.specs.Reading.{whole}
@@ -34,7 +33,7 @@ use Rattle.congruity.specs.declared.status.Status.{Status}
 use Rattle.congruity.specs.declared.status.Status.TheVariants as status
 use Rattle.congruity.specs.declared.status.Limit.{Limit}
 use Rattle.congruity.specs.declared.status.Limit.TheVariants.{Steps}
-use Rattle.congruity.specs.Produced.{Finding, Produced, stage_after, same_ids, is_supported, before_all, refusal_in, refusal_of, went_on, ended_with, refused_with, prepend, and_then, stepped, unless_refused, one_step}
+use Rattle.congruity.specs.Produced.{Finding, Produced, stage_after, same_ids, is_supported, before_all, refusal_of, went_on, ended_with, refused_with, and_then, stepped, unless_refused, one_step}
 use Rattle.congruity.specs.Rounds.{deliver_ready, deliveries, one_pass, passes, happened}
 use Rattle.congruity.specs.Outcome.{reason_of, is_built, supported_outcome, event_outcome, word_outcome, opened_outcome, line_outcome, without_return, limit_of, unless_passed, whole_line, at_end, cut_line, last_piece, replayed, outcome, is_replay}
 use Rattle.cg_base.specs.Text.{pieces_of}
