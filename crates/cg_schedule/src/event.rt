@@ -17,9 +17,15 @@ pub enum Event {
         query: Option<Query>,
     },
     /// A client asks the replica for the answer of its green actions.
-    Weak { p: ReplicaId, query: Query },
+    Weak {
+        p: ReplicaId,
+        query: Query,
+    },
     /// A client asks the replica for the answer of all actions that it knows.
-    Dirty { p: ReplicaId, query: Query },
+    Dirty {
+        p: ReplicaId,
+        query: Query,
+    },
     /// The oldest unordered message of the replica gets the next place in its configuration.
     Order(ReplicaId),
     /// The replica comes back from its disk.
@@ -33,9 +39,15 @@ pub enum Event {
     /// The schedule ends.
     End,
     /// The replica receives the message at the place, counted from 1.
-    Receive { p: ReplicaId, place: u64 },
+    Receive {
+        p: ReplicaId,
+        place: u64,
+    },
     /// The replica is handed so many of the next messages.
-    Deliver { p: ReplicaId, count: u64 },
+    Deliver {
+        p: ReplicaId,
+        count: u64,
+    },
     /// So many passes: a gather, and then each replica is handed what is ready for it.
     Rounds(u64),
     /// The replica crashes in the device call of this number, counted from the next one as 1, or at once for 0.
@@ -46,7 +58,10 @@ pub enum Event {
         fill: Bytes,
     },
     /// The device call of this number, counted from the next one as 1, fails once.
-    Fail { p: ReplicaId, call: u64 },
+    Fail {
+        p: ReplicaId,
+        call: u64,
+    },
     /// The replica creates the join of a new server with this weight.
     Join {
         p: ReplicaId,
@@ -54,7 +69,10 @@ pub enum Event {
         weight: u8,
     },
     /// The replica creates the leave of a server.
-    Leave { p: ReplicaId, server: ReplicaId },
+    Leave {
+        p: ReplicaId,
+        server: ReplicaId,
+    },
     /// The joiner is handed so many of the next pieces of the replica's snapshot.
     Transfer {
         p: ReplicaId,

@@ -15,8 +15,8 @@ fn fault_of(alloc: Global, line: &[u8]) -> Option<LineFault> {
 }
 
 // each of the lines is refused by the reason
-fn refuses(rt: &(impl Abort + AllocGlobal), reason: u8, lines: &[&str]) {
-    for line in lines {
+fn refuses(rt: &(impl Abort + AllocGlobal), reason: u8, lines: &str) {
+    for line in lines.lines() {
         let fault = fault_of(rt.alloc(), line.as_bytes());
         assert_eq!(rt; fault, Some(LineFault::Syntax(reason)), "{line}");
     }
@@ -31,8 +31,8 @@ fn printed(alloc: Global, line: &[u8]) -> Result<Vec<u8>, Fail> {
 }
 
 // each of the lines is an event, and is its printed form
-fn stands(rt: &(impl Abort + AllocGlobal), lines: &[&str]) -> Result<(), Fail> {
-    for line in lines {
+fn stands(rt: &(impl Abort + AllocGlobal), lines: &str) -> Result<(), Fail> {
+    for line in lines.lines() {
         let out = printed(rt.alloc(), line.as_bytes())?;
         assert_eq!(rt; out.as_slice(), line.as_bytes(), "{line}");
     }
@@ -68,20 +68,12 @@ fn an_example_of_each_reason(rt: HostRuntime) {
 }
 
 #[test]
-fn lines_that_are_passed_over(rt: HostRuntime) -> Result<(), Fail> {
+fn lines_that_are_passed_over(rt: HostRuntime) {
     let alloc = rt.alloc();
     let lines: [&[u8]; 6] = [b"", b" \t ", b"#", b"\t# end", b" #\xff", b"#start 1"];
     for line in lines {
         assert!(rt; matches!(read(alloc, line), Ok(None)), "{line:?}");
     }
-    // they stand before the first event and behind the last one
-    let mut reader = Reader::new();
-    assert!(rt; reader.read_line(alloc, b"# first")?.is_none());
-    assert!(rt; reader.read_line(alloc, b"start")?.is_some());
-    assert!(rt; reader.read_line(alloc, b"end")?.is_some());
-    assert!(rt; reader.read_line(alloc, b" ")?.is_none());
-    assert!(rt; reader.place().ended);
-    Ok(())
 }
 
 #[test]
@@ -107,20 +99,17 @@ fn words_of_no_event(rt: HostRuntime) {
     refuses(
         &rt,
         2,
-        &[
-            ";",
-            "?",
-            "\"end\"",
-            "\"end",
-            "ends",
-            "en",
-            "END",
-            "end\r",
-            "1",
-            "show_order",
-            "-",
-            "compare 1 2",
-        ],
+        ";\n\
+         ?\n\
+         \"end\"\n\
+         \"end\n\
+         ends\n\
+         en\n\
+         END\n\
+         1\n\
+         show_order\n\
+         -\n\
+         compare 1 2",
     );
 }
 
@@ -129,34 +118,32 @@ fn parts_that_are_missing(rt: HostRuntime) {
     refuses(
         &rt,
         3,
-        &[
-            "request",
-            "request 1",
-            "request 1 ?",
-            "request 1 ? get",
-            "request 1 put",
-            "request 1 del",
-            "request 1 inc \"k\"",
-            "request 1 cas \"k\" absent",
-            "request 1 move \"a\" \"b\"",
-            "request 1 need \"k\"",
-            "request 1 del \"k\";",
-            "request 1 del \"k\" ?",
-            "weak 1",
-            "dirty 1 keys",
-            "order",
-            "recover",
-            "show",
-            "receive 1",
-            "deliver 1",
-            "rounds",
-            "stop 1",
-            "stop 1 0",
-            "fail 1",
-            "join 1",
-            "leave 1",
-            "transfer 1 2",
-        ],
+        "request\n\
+         request 1\n\
+         request 1 ?\n\
+         request 1 ? get\n\
+         request 1 put\n\
+         request 1 del\n\
+         request 1 inc \"k\"\n\
+         request 1 cas \"k\" absent\n\
+         request 1 move \"a\" \"b\"\n\
+         request 1 need \"k\"\n\
+         request 1 del \"k\";\n\
+         request 1 del \"k\" ?\n\
+         weak 1\n\
+         dirty 1 keys\n\
+         order\n\
+         recover\n\
+         show\n\
+         receive 1\n\
+         deliver 1\n\
+         rounds\n\
+         stop 1\n\
+         stop 1 0\n\
+         fail 1\n\
+         join 1\n\
+         leave 1\n\
+         transfer 1 2",
     );
 }
 
@@ -165,24 +152,22 @@ fn parts_that_are_too_many(rt: HostRuntime) {
     refuses(
         &rt,
         4,
-        &[
-            "gather ;",
-            "end 1",
-            "show order 1",
-            "show 1 order",
-            "order 1 2",
-            "receive 1 2 3",
-            "request 1 del \"k\" 1",
-            "request 1 del \"k\" del \"k\"",
-            "request 1 inc \"k\" 1\"x\"",
-            "request 1 ? count ;",
-            "request 1 ? count ? count",
-            "request 1 del \"k\" ? get \"k\" \"k\"",
-            "weak 1 count count",
-            "stop 1 0 - -",
-            "join 1 2 3",
-            "transfer 1 2 3 4",
-        ],
+        "gather ;\n\
+         end 1\n\
+         show order 1\n\
+         show 1 order\n\
+         order 1 2\n\
+         receive 1 2 3\n\
+         request 1 del \"k\" 1\n\
+         request 1 del \"k\" del \"k\"\n\
+         request 1 inc \"k\" 1\"x\"\n\
+         request 1 ? count ;\n\
+         request 1 ? count ? count\n\
+         request 1 del \"k\" ? get \"k\" \"k\"\n\
+         weak 1 count count\n\
+         stop 1 0 - -\n\
+         join 1 2 3\n\
+         transfer 1 2 3 4",
     );
 }
 
@@ -191,31 +176,29 @@ fn numbers_of_no_kind(rt: HostRuntime) {
     refuses(
         &rt,
         5,
-        &[
-            "split 1 ;",
-            "merge ?",
-            "split \"1\"",
-            "request;1",
-            "order 0",
-            "order 33",
-            "order +1",
-            "order one",
-            "order ;",
-            "order 18446744073709551617",
-            "show all",
-            "show \"order\"",
-            "receive 1 0",
-            "receive 1 1000001",
-            "deliver 1 -1",
-            "rounds 0",
-            "rounds 1000001",
-            "stop 1 1000001 -",
-            "stop 1 -1 -",
-            "fail 1 0",
-            "fail 1 ?",
-            "leave 1 2*3",
-            "transfer 1 2 0",
-        ],
+        "split 1 ;\n\
+         merge ?\n\
+         split \"1\"\n\
+         request;1\n\
+         order 0\n\
+         order 33\n\
+         order +1\n\
+         order one\n\
+         order ;\n\
+         order 18446744073709551617\n\
+         show all\n\
+         show \"order\"\n\
+         receive 1 0\n\
+         receive 1 1000001\n\
+         deliver 1 -1\n\
+         rounds 0\n\
+         rounds 1000001\n\
+         stop 1 1000001 -\n\
+         stop 1 -1 -\n\
+         fail 1 0\n\
+         fail 1 ?\n\
+         leave 1 2*3\n\
+         transfer 1 2 0",
     );
 }
 
@@ -224,25 +207,23 @@ fn values_of_no_kind(rt: HostRuntime) {
     refuses(
         &rt,
         5,
-        &[
-            "request 1 put \"k\" v",
-            "request 1 put \"k\" absent",
-            "request 1 put \"k\" ;",
-            "request 1 put \"k\" 9223372036854775808",
-            "request 1 put \"k\" -0",
-            "request 1 inc \"k\" \"1\"",
-            "request 1 inc \"k\" 1.5",
-            "request 1 cas \"k\" Absent 1",
-            "request 1 cas \"k\" ; 1",
-            "request 1 move \"a\" \"b\" -1",
-            "request 1 need \"k\" absent1",
-        ],
+        "request 1 put \"k\" v\n\
+         request 1 put \"k\" absent\n\
+         request 1 put \"k\" ;\n\
+         request 1 put \"k\" 9223372036854775808\n\
+         request 1 put \"k\" -0\n\
+         request 1 inc \"k\" \"1\"\n\
+         request 1 inc \"k\" 1.5\n\
+         request 1 cas \"k\" Absent 1\n\
+         request 1 cas \"k\" ; 1\n\
+         request 1 move \"a\" \"b\" -1\n\
+         request 1 need \"k\" absent1",
     );
 }
 
 // a first line is refused by the reason
-fn refuses_first(rt: &(impl Abort + AllocGlobal), reason: u8, lines: &[&str]) {
-    for line in lines {
+fn refuses_first(rt: &(impl Abort + AllocGlobal), reason: u8, lines: &str) {
+    for line in lines.lines() {
         let fault = Reader::new().read_line(rt.alloc(), line.as_bytes()).err();
         assert_eq!(rt; fault, Some(LineFault::Syntax(reason)), "{line}");
     }
@@ -253,37 +234,33 @@ fn weights_of_no_kind(rt: HostRuntime) {
     refuses_first(
         &rt,
         5,
-        &[
-            "start 1*1",
-            "start 1*0",
-            "start 1*256",
-            "start 1*02",
-            "start 1*",
-            "start *2",
-            "start 1*2*3",
-            "start 0*2",
-            "start 33*2",
-            "start 1**2",
-            "start 1*-2",
-            "start \"1\"",
-            "start 1 * 2",
-            "start 2 1*1",
-        ],
+        "start 1*1\n\
+         start 1*0\n\
+         start 1*256\n\
+         start 1*02\n\
+         start 1*\n\
+         start *2\n\
+         start 1*2*3\n\
+         start 0*2\n\
+         start 33*2\n\
+         start 1**2\n\
+         start 1*-2\n\
+         start \"1\"\n\
+         start 1 * 2\n\
+         start 2 1*1",
     );
     refuses(
         &rt,
         5,
-        &[
-            "join 1 2*1",
-            "join 1 2*256",
-            "join 1 2*",
-            "join 1 2*2*2",
-            "join 1 33*2",
-            "join 1*2 2",
-            "split 1*2",
-            "merge 1*2",
-            "leave 1*2 1",
-        ],
+        "join 1 2*1\n\
+         join 1 2*256\n\
+         join 1 2*\n\
+         join 1 2*2*2\n\
+         join 1 33*2\n\
+         join 1*2 2\n\
+         split 1*2\n\
+         merge 1*2\n\
+         leave 1*2 1",
     );
 }
 
@@ -292,23 +269,21 @@ fn texts_of_no_kind(rt: HostRuntime) {
     refuses(
         &rt,
         6,
-        &[
-            "weak 1 get x",
-            "weak 1 get ;",
-            "weak 1 get \"\"",
-            "weak 1 get \"a\\n\"",
-            "weak 1 get \"a\tb\"",
-            "weak 1 get \"a\u{7f}\"",
-            "weak 1 get \"a\\\"",
-            "dirty 1 keys 1",
-            "request 1 put x 1",
-            "request 1 put ? 1",
-            "request 1 put \"x\" \"y",
-            "request 1 del absent",
-            "request 1 need \"k\" \"\\z\"",
-            "request 1 move \"a\" b 1",
-            "request 1 ? get \"",
-        ],
+        "weak 1 get x\n\
+         weak 1 get ;\n\
+         weak 1 get \"\"\n\
+         weak 1 get \"a\\n\"\n\
+         weak 1 get \"a\tb\"\n\
+         weak 1 get \"a\u{7f}\"\n\
+         weak 1 get \"a\\\"\n\
+         dirty 1 keys 1\n\
+         request 1 put x 1\n\
+         request 1 put ? 1\n\
+         request 1 put \"x\" \"y\n\
+         request 1 del absent\n\
+         request 1 need \"k\" \"\\z\"\n\
+         request 1 move \"a\" b 1\n\
+         request 1 ? get \"",
     );
 }
 
@@ -317,19 +292,17 @@ fn bytes_of_a_stop_of_no_kind(rt: HostRuntime) {
     refuses(
         &rt,
         6,
-        &[
-            "stop 1 0 ;",
-            "stop 1 0 ?",
-            "stop 1 0 \"00\"",
-            "stop 1 0 0",
-            "stop 1 0 000",
-            "stop 1 0 0A",
-            "stop 1 0 0g",
-            "stop 1 0 --",
-            "stop 1 0 -0",
-            "stop 1 0 0x00",
-            "stop 1 0 0:",
-        ],
+        "stop 1 0 ;\n\
+         stop 1 0 ?\n\
+         stop 1 0 \"00\"\n\
+         stop 1 0 0\n\
+         stop 1 0 000\n\
+         stop 1 0 0A\n\
+         stop 1 0 0g\n\
+         stop 1 0 --\n\
+         stop 1 0 -0\n\
+         stop 1 0 0x00\n\
+         stop 1 0 0:",
     );
 }
 
@@ -338,23 +311,21 @@ fn words_of_no_command(rt: HostRuntime) {
     refuses(
         &rt,
         7,
-        &[
-            "request 1 ;",
-            "request 1 \"put\"",
-            "request 1 get \"x\"",
-            "request 1 Put \"x\" 1",
-            "request 1 del \"k\" ; ;",
-            "request 1 del \"k\" ; ? count",
-            "request 1 del \"k\" ; count",
-            "request 1 ? del \"k\"",
-            "request 1 ? ? count",
-            "request 1 1",
-            "weak 1 ? count",
-            "weak 1 put \"x\" 1",
-            "weak 1 Count",
-            "dirty 1 \"get\"",
-            "dirty 1 ;",
-        ],
+        "request 1 ;\n\
+         request 1 \"put\"\n\
+         request 1 get \"x\"\n\
+         request 1 Put \"x\" 1\n\
+         request 1 del \"k\" ; ;\n\
+         request 1 del \"k\" ; ? count\n\
+         request 1 del \"k\" ; count\n\
+         request 1 ? del \"k\"\n\
+         request 1 ? ? count\n\
+         request 1 1\n\
+         weak 1 ? count\n\
+         weak 1 put \"x\" 1\n\
+         weak 1 Count\n\
+         dirty 1 \"get\"\n\
+         dirty 1 ;",
     );
 }
 
@@ -363,15 +334,19 @@ fn lists_that_do_not_ascend(rt: HostRuntime) {
     refuses(
         &rt,
         8,
-        &[
-            "split 1 1",
-            "merge 1 3 2",
-            "split 2 1",
-            "merge 32 32",
-            "split 1 2 3 1",
-        ],
+        "split 1 1\n\
+         merge 1 3 2\n\
+         split 2 1\n\
+         merge 32 32\n\
+         split 1 2 3 1",
     );
-    refuses_first(&rt, 8, &["start 1 1", "start 2*3 1*3", "start 1*3 1"]);
+    refuses_first(
+        &rt,
+        8,
+        "start 1 1\n\
+         start 2*3 1*3\n\
+         start 1*3 1",
+    );
 }
 
 #[test]
@@ -396,53 +371,30 @@ fn the_first_part_at_fault_decides(rt: HostRuntime) {
 }
 
 #[test]
-fn places_of_words(rt: HostRuntime) -> Result<(), Fail> {
+fn places_of_words(rt: HostRuntime) {
     let alloc = rt.alloc();
+    let rows: [(&[u8], Option<LineFault>); 15] = [
+        (b"# first", None),
+        (b"gather", Some(LineFault::MISPLACED)),
+        (b"end", Some(LineFault::MISPLACED)),
+        (b"ends", Some(LineFault::UNKNOWN_WORD)),
+        (b"start 2 1", Some(LineFault::BAD_LIST)),
+        (b"start 1 2", None),
+        (b"start x", Some(LineFault::MISPLACED)),
+        (b"end 1", Some(LineFault::EXTRA_PART)),
+        (b"end\r", Some(LineFault::UNKNOWN_WORD)),
+        (b"end", None),
+        (b"# end", None),
+        (b"end", Some(LineFault::MISPLACED)),
+        (b"start", Some(LineFault::MISPLACED)),
+        (b"x", Some(LineFault::UNKNOWN_WORD)),
+        (b"\xff", Some(LineFault::NOT_UTF8)),
+    ];
     let mut reader = Reader::new();
-    assert_eq!(rt;
-        reader.read_line(alloc, b"gather").err(),
-        Some(LineFault::MISPLACED)
-    );
-    assert_eq!(rt;
-        reader.read_line(alloc, b"end").err(),
-        Some(LineFault::MISPLACED)
-    );
-    assert_eq!(rt;
-        reader.read_line(alloc, b"ends").err(),
-        Some(LineFault::UNKNOWN_WORD)
-    );
-    assert_eq!(rt;
-        reader.read_line(alloc, b"start 2 1").err(),
-        Some(LineFault::BAD_LIST)
-    );
-    assert_eq!(rt; reader.place(), Place::first());
-    assert!(rt; reader.read_line(alloc, b"start 1 2")?.is_some());
-    assert_eq!(rt;
-        reader.read_line(alloc, b"start x").err(),
-        Some(LineFault::MISPLACED)
-    );
-    assert_eq!(rt;
-        reader.read_line(alloc, b"end 1").err(),
-        Some(LineFault::EXTRA_PART)
-    );
-    assert!(rt; reader.read_line(alloc, b"end")?.is_some());
-    assert_eq!(rt;
-        reader.read_line(alloc, b"end").err(),
-        Some(LineFault::MISPLACED)
-    );
-    assert_eq!(rt;
-        reader.read_line(alloc, b"start").err(),
-        Some(LineFault::MISPLACED)
-    );
-    assert_eq!(rt;
-        reader.read_line(alloc, b"x").err(),
-        Some(LineFault::UNKNOWN_WORD)
-    );
-    assert_eq!(rt;
-        reader.read_line(alloc, b"\xff").err(),
-        Some(LineFault::NOT_UTF8)
-    );
-    Ok(())
+    for (line, fault) in rows {
+        assert_eq!(rt; reader.read_line(alloc, line).err(), fault, "{line:?}");
+    }
+    assert!(rt; reader.place().ended);
 }
 
 #[test]
@@ -465,31 +417,29 @@ fn a_line_in_two_calls(rt: HostRuntime) -> Result<(), Fail> {
 fn events_as_they_are_printed(rt: HostRuntime) -> Result<(), Fail> {
     stands(
         &rt,
-        &[
-            "split",
-            "split 1 2 32",
-            "merge",
-            "merge 7",
-            "order 1",
-            "recover 32",
-            "show 10",
-            "show order",
-            "gather",
-            "end",
-            "receive 1 1",
-            "receive 1 1000000",
-            "deliver 2 9",
-            "rounds 1000000",
-            "stop 1 0 -",
-            "stop 1 1000000 00",
-            "stop 3 4 00ff09af",
-            "fail 1 1000000",
-            "join 1 2",
-            "join 1 2*2",
-            "join 32 31*255",
-            "leave 1 1",
-            "transfer 1 2 1000000",
-        ],
+        "split\n\
+         split 1 2 32\n\
+         merge\n\
+         merge 7\n\
+         order 1\n\
+         recover 32\n\
+         show 10\n\
+         show order\n\
+         gather\n\
+         end\n\
+         receive 1 1\n\
+         receive 1 1000000\n\
+         deliver 2 9\n\
+         rounds 1000000\n\
+         stop 1 0 -\n\
+         stop 1 1000000 00\n\
+         stop 3 4 00ff09af\n\
+         fail 1 1000000\n\
+         join 1 2\n\
+         join 1 2*2\n\
+         join 32 31*255\n\
+         leave 1 1\n\
+         transfer 1 2 1000000",
     )?;
     let start = Reader::new().read_line(rt.alloc(), b"start 1*3 2 32*255")?;
     let event = start.ok_or("no event")?;
@@ -503,26 +453,24 @@ fn events_as_they_are_printed(rt: HostRuntime) -> Result<(), Fail> {
 fn requests_as_they_are_printed(rt: HostRuntime) -> Result<(), Fail> {
     stands(
         &rt,
-        &[
-            "request 1 ? count",
-            "request 1 ? keys \"\"",
-            "request 1 ? get \"a b\"",
-            "request 1 put \"x\" 1",
-            "request 1 put \"x\" \"1\"",
-            "request 1 put \"x\" \"\"",
-            "request 1 put \"\u{e9}\" \"a\\\"b\\\\c;?\"",
-            "request 1 del \"x\"",
-            "request 1 inc \"x\" -9223372036854775808",
-            "request 1 cas \"x\" absent 0",
-            "request 1 cas \"x\" \"absent\" -1",
-            "request 1 move \"a\" \"a\" 0",
-            "request 1 need \"x\" absent",
-            "request 1 need \"x\" 9223372036854775807",
-            "request 1 del \"a\"; del \"a\"; del \"b\" ? get \"a\"",
-            "weak 1 get \"x\"",
-            "weak 32 count",
-            "dirty 2 keys \"k\"",
-        ],
+        "request 1 ? count\n\
+         request 1 ? keys \"\"\n\
+         request 1 ? get \"a b\"\n\
+         request 1 put \"x\" 1\n\
+         request 1 put \"x\" \"1\"\n\
+         request 1 put \"x\" \"\"\n\
+         request 1 put \"\u{e9}\" \"a\\\"b\\\\c;?\"\n\
+         request 1 del \"x\"\n\
+         request 1 inc \"x\" -9223372036854775808\n\
+         request 1 cas \"x\" absent 0\n\
+         request 1 cas \"x\" \"absent\" -1\n\
+         request 1 move \"a\" \"a\" 0\n\
+         request 1 need \"x\" absent\n\
+         request 1 need \"x\" 9223372036854775807\n\
+         request 1 del \"a\"; del \"a\"; del \"b\" ? get \"a\"\n\
+         weak 1 get \"x\"\n\
+         weak 32 count\n\
+         dirty 2 keys \"k\"",
     )
 }
 
@@ -554,26 +502,40 @@ fn blanks_stand_anywhere_between_tokens(rt: HostRuntime) -> Result<(), Fail> {
     Ok(())
 }
 
+// the fault of a line of 16 commands and what stands behind them
+fn fault_behind(alloc: Global, more: &[u8]) -> Result<Option<LineFault>, AllocError> {
+    let mut line = repeated(alloc, b"request 1 del \"a\"", b"; del \"a\"", 15)?;
+    line.extend_from_slice(more)?;
+    Ok(fault_of(alloc, line.as_slice()))
+}
+
 #[test]
 fn at_most_16_commands(rt: HostRuntime) -> Result<(), Fail> {
-    let alloc = rt.alloc();
-    let whole = repeated(alloc, b"request 1 del \"a\"", b"; del \"a\"", 15)?;
-    let out = printed(alloc, whole.as_slice())?;
-    assert_eq!(rt; out.as_slice(), whole.as_slice());
-    let rows: [(&[u8], LineFault); 5] = [
-        (b";", LineFault::MISSING_PART),
-        (b"; del \"a\"", LineFault::BAD_LIST),
-        (b"; need", LineFault::BAD_LIST),
-        (b"; set \"a\"", LineFault::BAD_COMMAND),
-        (b" del", LineFault::EXTRA_PART),
+    let rows: [(&[u8], Option<LineFault>); 7] = [
+        (b"", None),
+        (b" ? count", None),
+        (b";", Some(LineFault::MISSING_PART)),
+        (b"; del \"a\"", Some(LineFault::BAD_LIST)),
+        (b"; need", Some(LineFault::BAD_LIST)),
+        (b"; set \"a\"", Some(LineFault::BAD_COMMAND)),
+        (b" del", Some(LineFault::EXTRA_PART)),
     ];
     for (more, fault) in rows {
-        let line = repeated(alloc, whole.as_slice(), more, 1)?;
-        assert_eq!(rt; fault_of(alloc, line.as_slice()), Some(fault), "{more:?}");
+        assert_eq!(rt; fault_behind(rt.alloc(), more)?, fault, "{more:?}");
     }
-    let asked = repeated(alloc, whole.as_slice(), b" ? count", 1)?;
-    assert!(rt; read(alloc, asked.as_slice())?.is_some());
     Ok(())
+}
+
+// the fault of a line of so many bytes `x` between its front and its back
+fn fault_of_long(
+    alloc: Global,
+    front: &[u8],
+    count: usize,
+    back: &[u8],
+) -> Result<Option<LineFault>, AllocError> {
+    let mut line = repeated(alloc, front, b"x", count)?;
+    line.extend_from_slice(back)?;
+    Ok(fault_of(alloc, line.as_slice()))
 }
 
 #[test]
@@ -586,17 +548,20 @@ fn lengths_of_texts(rt: HostRuntime) -> Result<(), Fail> {
         (b"request 1 need \"k\" \"", b"\" ? count", 1024),
     ];
     for (front, back, longest) in rows {
-        let mut line = repeated(alloc, front, b"x", longest)?;
-        line.extend_from_slice(back)?;
-        assert!(rt; read(alloc, line.as_slice())?.is_some(), "{front:?}");
-        let mut longer = repeated(alloc, front, b"x", longest)?;
-        longer.extend_from_slice(b"x")?;
-        longer.extend_from_slice(back)?;
         assert_eq!(rt;
-            fault_of(alloc, longer.as_slice()),
-            Some(LineFault::BAD_TEXT)
+            fault_of_long(alloc, front, longest, back)?,
+            None,
+            "{front:?}"
         );
+        let longer = fault_of_long(alloc, front, longest + 1, back)?;
+        assert_eq!(rt; longer, Some(LineFault::BAD_TEXT), "{front:?}");
     }
+    Ok(())
+}
+
+#[test]
+fn lengths_of_the_bytes_of_a_stop(rt: HostRuntime) -> Result<(), Fail> {
+    let alloc = rt.alloc();
     let fill = repeated(alloc, b"stop 1 0 ", b"0f", 4096)?;
     let out = printed(alloc, fill.as_slice())?;
     assert_eq!(rt; out.as_slice(), fill.as_slice());
