@@ -1,0 +1,9 @@
+pub mod RowLemmas
+pub mod CutRises
+pub mod RunLemmas
+pub mod FlagLemmas
+pub mod RedLemmas
+pub mod FindLemmas
+pub mod Soundness
+pub mod Renaming
+pub mod Marking

@@ -1,0 +1,39 @@
+use Rattle.std.proofs.Common.{◌≡◌, ◌∙◌, ◌<◌, ◌^◌, suc, ap, sym, subst, arith}
+use Rattle.cg_base.specs.declared.action_id.ActionId.{ActionId}
+use Rattle.cg_base.specs.Cuts.{index_in}
+use Rattle.cg_queue.specs.declared.mark.Mark.TheVariants.{Placed}
+use Rattle.cg_queue.specs.Queue.{Marks, marked_yellow, and_yellow}
+use Rattle.cg_queue.specs.Body.{seen, parts_of, IsSound}
+use Rattle.cg_queue.proofs.Soundness.{both-sound, both-view}
+use Rattle.cg_queue.proofs.Marking.{red-placed}
+use Rattle.cg_queue.proofs.queue.Queue.mark_yellow.Goals as goal
+
+pub invariant_of-self : goal.invariant_of-self
+invariant_of-self c = subst IsSound (sym c.in_default.ensures.err) c.self.invariant
+
+pub returns-in_default : goal.returns-in_default
+returns-in_default c = ap seen c.in_default.ensures.err ∙ c.self.view_is
+
+pub invariant_of-self-2 : goal.invariant_of-self-2
+invariant_of-self-2 c =
+    let b = parts_of c.self.inside.body in
+    let a = c.args.a in
+    let same = c.name_of-id.ensures.value in
+    let small : a.id.index < 2 ^ 64 = subst (λ (id : ActionId). id.index < 2 ^ 64) same c.name_of-id.ensures.small in
+    let index : c.name_of-id.result.index ≡ a.id.index = ap (λ (n : ActionId). n.index) same in
+    let cut : c.get-known.result ≡ index_in b.red_cut a.id.creator = c.get-known.ensures.value ∙ ap (λ (n : ActionId). index_in b.red_cut n.creator) same in
+    let next : a.id.index ≡ suc (index_in b.red_cut a.id.creator) = omega arith in
+    subst IsSound (sym c.in-Ok-add_yellow.ensures.ok) (both-sound b a c.self.invariant c.name_of-id.ensures.creator small next)
+
+pub returns : goal.returns
+returns c =
+    let b = parts_of c.self.inside.body in
+    let a = c.args.a in
+    let same = c.name_of-id.ensures.value in
+    let small : a.id.index < 2 ^ 64 = subst (λ (id : ActionId). id.index < 2 ^ 64) same c.name_of-id.ensures.small in
+    let index : c.name_of-id.result.index ≡ a.id.index = ap (λ (n : ActionId). n.index) same in
+    let cut : c.get-known.result ≡ index_in b.red_cut a.id.creator = c.get-known.ensures.value ∙ ap (λ (n : ActionId). index_in b.red_cut n.creator) same in
+    let next : a.id.index ≡ suc (index_in b.red_cut a.id.creator) = omega arith in
+    ap (λ q. marked_yellow q a) (sym c.self.view_is)
+    ∙ ap (and_yellow a.id) (red-placed (seen b) a next)
+    ∙ ap (Marks Placed) (sym (ap seen c.in-Ok-add_yellow.ensures.ok ∙ both-view b a c.self.invariant c.name_of-id.ensures.creator small next))

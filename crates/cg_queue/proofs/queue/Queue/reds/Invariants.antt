@@ -1,0 +1,7 @@
+use Rattle.std.proofs.Common.{◌≡◌, ◌++◌, ◌-◌}
+use Rattle.cg_queue.specs.Lanes.{rows_of}
+use Rattle.cg_queue.specs.Body.{reds_from, all_reds}
+use Rattle.cg_queue.proofs.queue.Queue.reds.Given as goal
+
+abbrev pub invariant-loop-place : goal.invariant-loop-place
+invariant-loop-place l = l.list ++ reds_from (rows_of l.self-inside.body.reds) (32 - l.place) l.place ≡ all_reds (rows_of l.self-inside.body.reds)

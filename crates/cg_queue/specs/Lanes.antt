@@ -1,0 +1,31 @@
+-- Things in a row for each place.
+use Rattle.std.specs.Prelude.{ℕ, zero, suc, ◌==◌, Bool, List, [], ◌∷◌, if◌then◌else◌}
+use Rattle.std.specs.VecDeque.{deque_items}
+use Rattle.cg_queue.specs.declared.red.Red.{Red}
+use Rattle.cg_queue.specs.declared.lanes.Lanes.{Lanes}
+
+-- what stands in the row of a place, which is empty behind the last row
+abbrev pub lane_at : {R X : Type 0} → (R → List X) → List R → ℕ → List X
+lane_at items [] k = []
+lane_at items (row ∷ rows) zero = items row
+lane_at items (row ∷ rows) (suc k) = lane_at items rows k
+
+-- the row of each place
+abbrev pub rows_of : {T : Type 0} → Lanes T → ℕ → List T
+rows_of lanes = lane_at deque_items lanes.rows.items
+
+-- the rows with another one at a place
+abbrev pub with_lane : {X : Type 0} → (ℕ → List X) → ℕ → List X → ℕ → List X
+with_lane lanes place row k = if k == place then row else lanes k
+
+-- all but the last
+abbrev pub front_of : {X : Type 0} → List X → List X
+front_of [] = []
+front_of (x ∷ []) = []
+front_of (x ∷ y ∷ xs) = x ∷ front_of (y ∷ xs)
+
+-- the red actions with another flag on the one at a place
+abbrev pub marked_at : List Red → ℕ → Bool → List Red
+marked_at [] i flag = []
+marked_at (r ∷ reds) zero flag = record r { is_yellow = flag } ∷ reds
+marked_at (r ∷ reds) (suc i) flag = r ∷ marked_at reds i flag

@@ -1,0 +1,250 @@
+//! How the actions of a queue are kept. `IsSound` in `specs/Body.antt` says what is always so of a body between two calls
+//! of the queue.
+
+ghost use Rattle.std.specs.Prelude.{◌≡◌, ◌+◌, ◌<◌, ◌-◌, ◌^◌, suc, length, fold, IsSome, OnOk, OnErr};
+ghost use Rattle.cg_base.specs.Sets.{IsId};
+ghost use Rattle.cg_base.specs.Cuts.{IsCut};
+ghost use Rattle.cg_queue.specs.Lanes.{rows_of};
+ghost use Rattle.cg_queue.specs.Body.{parts_of, flag_of, no_parts, BeginsWell, added_red, with_name, flagged, added_green, settled, cleared, dropped, renamed, flag_name, is_above, lane_of};
+ghost use Rattle.std.specs.Prelude.{filter, slice_get, ℕ, [], ◌∷◌, ◌++◌, true, ◌⊎◌};
+
+use crate::lanes::Lanes;
+use crate::red::Red;
+use cg_action::Action;
+use cg_base::{ActionId, Cut, NoMemory};
+use std::alloc::Global;
+use std::collections::VecDeque;
+use std::mem;
+
+#[derive(Drop)]
+pub(crate) struct Body {
+    pub(crate) white: u64,
+    /// The kept greens, in order.
+    pub(crate) greens: VecDeque<Action>,
+    pub(crate) green_cut: Cut,
+    pub(crate) red_cut: Cut,
+    /// Each creator's reds, by index.
+    pub(crate) reds: Lanes<Red>,
+    /// Where each creator's kept greens stand in the order of all greens, from 1.
+    pub(crate) places: Lanes<u64>,
+    /// The yellow names, and some that have become green since.
+    pub(crate) yellow: Vec<ActionId>,
+    /// How many of the yellow names have become green, less than half of them.
+    pub(crate) stale: usize,
+}
+
+pub(crate) fn empty_body(alloc: Global, white: u64, cut: Cut) -> Body
+    ensures parts { parts_of result ≡ no_parts white cut }
+    ensures cut { IsCut cut }
+{
+    // it says that the cut is one
+    let _tops = cut.iter();
+    Body {
+        white,
+        greens: VecDeque::new(alloc),
+        green_cut: cut,
+        red_cut: cut,
+        reds: Lanes::new(alloc),
+        places: Lanes::new(alloc),
+        yellow: Vec::new(alloc),
+        stale: 0,
+    }
+}
+
+/// The place of a creator's rows.
+pub(crate) fn lane_of(id: &ActionId) -> usize
+    ensures value { result ≡ lane_of id.now }
+    ensures within { result < 32 }
+    ensures creator { IsId id.now.creator }
+{
+    usize::from(id.creator.get() - 1)
+}
+
+pub(crate) fn name_of(a: &Action) -> ActionId
+    ensures value { result ≡ a.now.id }
+    ensures creator { IsId a.now.id.creator }
+    ensures small { result.index < 2 ^ 64 }
+{
+    let creator = a.id.creator;
+    // it says which numbers creators have
+    let _number = creator.get();
+    ActionId {
+        creator,
+        index: number(a.id.index),
+    }
+}
+
+// it says which numbers there are
+fn number(n: u64) -> u64
+    ensures value { result ≡ n }
+    ensures small { result < 2 ^ 64 }
+{
+    n
+}
+
+/// The red action at a place is yellow, or there is none.
+pub(crate) fn is_flagged(body: &Body, place: usize, i: usize) -> bool
+    ensures { result ≡ flag_of (slice_get (rows_of body.now.reds place) i) }
+{
+    match body.reds.get(place, i) {
+        Some(red) => red.is_yellow,
+        None => true,
+    }
+}
+
+/// The creator's first red action is yellow.
+pub(crate) fn starts_yellow(body: &Body, id: &ActionId) -> bool {
+    match body.reds.get(lane_of(id), 0) {
+        Some(red) => red.is_yellow,
+        None => false,
+    }
+}
+
+/// A creator's next action, as red.
+pub(crate) fn add_red(body: &mut Body, a: Action, is_yellow: bool) -> Result<(), NoMemory>
+    ensures ok { OnOk result (parts_of body.new ≡ added_red (parts_of body.old) a is_yellow) }
+    ensures err { OnErr result (parts_of body.new ≡ parts_of body.old) }
+{
+    let id = name_of(&a);
+    let place = lane_of(&id);
+    let red = Red {
+        action: a,
+        is_yellow,
+    };
+    body.reds.push(place, red)?;
+    body.red_cut.raise(id.creator, id.index);
+    Ok(())
+}
+
+/// A creator's next action, as red and yellow.
+pub(crate) fn add_yellow(body: &mut Body, a: Action) -> Result<(), NoMemory>
+    ensures ok { OnOk result (parts_of body.new ≡ added_red (with_name (parts_of body.old) a.id) a true) }
+    ensures err { OnErr result (parts_of body.new ≡ parts_of body.old) }
+{
+    body.yellow.push(name_of(&a))?;
+    match add_red(body, a, true) {
+        Ok(()) => Ok(()),
+        Err(fault) => {
+            let _ = body.yellow.pop();
+            Err(fault)
+        }
+    }
+}
+
+/// A red action that isn't yellow becomes yellow.
+pub(crate) fn add_name(
+    body: &mut Body,
+    id: &ActionId,
+    place: usize,
+    i: usize,
+) -> Result<(), NoMemory>
+    ensures ok { OnOk result (parts_of body.new ≡ flagged (with_name (parts_of body.old) id.now) place i) }
+    ensures err { OnErr result (parts_of body.new ≡ parts_of body.old) }
+{
+    body.yellow.push(*id)?;
+    body.reds.mark(place, i, true);
+    Ok(())
+}
+
+/// A creator's next green action.
+pub(crate) fn add_green(body: &mut Body, a: Action) -> Result<(), NoMemory>
+    requires { body.old.white + length body.old.greens.items < 2 ^ 62 }
+    ensures ok { OnOk result (parts_of body.new ≡ added_green (parts_of body.old) a) }
+    ensures err { OnErr result (parts_of body.new ≡ parts_of body.old) }
+{
+    let id = name_of(&a);
+    let place = lane_of(&id);
+    let at = body.white + body.greens.len() as u64 + 1;
+    body.places.push(place, at)?;
+    match push_green(body, a) {
+        Ok(()) => {
+            settle_green(body, &id, place);
+            Ok(())
+        }
+        Err(fault) => {
+            body.places.drop_last(place);
+            Err(fault)
+        }
+    }
+}
+
+fn push_green(body: &mut Body, a: Action) -> Result<(), NoMemory>
+    ensures ok { OnOk result (parts_of body.new ≡ record (parts_of body.old) { greens = body.old.greens.items ++ a ∷ [] }) }
+    ensures err { OnErr result (parts_of body.new ≡ parts_of body.old) }
+{
+    body.greens.push_back(a)?;
+    Ok(())
+}
+
+// the creator's next action is green, and red no more
+fn settle_green(body: &mut Body, id: &ActionId, place: usize)
+    ensures { parts_of body.new ≡ settled (parts_of body.old) id.now place }
+{
+    body.reds.drop_first(place);
+    body.green_cut.raise(id.creator, id.index);
+    body.red_cut.raise(id.creator, id.index);
+}
+
+/// A yellow name has become green: once they are half of the list, all such names leave it.
+pub(crate) fn forget_green(body: &mut Body)
+    ensures { (parts_of body.new ≡ parts_of body.old) ⊎ (parts_of body.new ≡ cleared (parts_of body.old)) }
+{
+    if body.stale < body.yellow.len() / 2 {
+        body.stale += 1;
+        return;
+    }
+    keep_above(&mut body.yellow, &body.green_cut);
+    body.stale = 0;
+}
+
+fn keep_above(list: &mut Vec<ActionId>, cut: &Cut)
+    ensures { list.new.items ≡ filter (is_above cut.now) list.old.items }
+{
+    list.retain(|id| cut.get(id.creator) < id.index);
+}
+
+/// The first green is discarded, if there is one.
+pub(crate) fn drop_green(body: &mut Body)
+    requires { body.old.white < 2 ^ 62 }
+    ensures value { parts_of body.new ≡ dropped (parts_of body.old) }
+    ensures creator { BeginsWell body.old.greens.items }
+{
+    let Some(action) = body.greens.pop_front() else {
+        return;
+    };
+    body.places.drop_first(lane_of(&name_of(&action)));
+    body.white += 1;
+}
+
+/// These names are the yellow list.
+pub(crate) fn rename(body: &mut Body, list: Vec<ActionId>)
+    ensures { parts_of body.new ≡ renamed (parts_of body.old) list.items }
+{
+    flag_names(
+        &mut body.reds,
+        &body.green_cut,
+        body.yellow.as_slice(),
+        false,
+    );
+    flag_names(&mut body.reds, &body.green_cut, list.as_slice(), true);
+    body.yellow = list;
+    body.stale = 0;
+}
+
+fn flag_names(reds: &mut Lanes<Red>, cut: &Cut, list: &[ActionId], is_yellow: bool)
+    ensures { rows_of reds.new ≡ fold (flag_name cut.now is_yellow) (rows_of reds.old) list.now }
+{
+    for id in list {
+        flag_one(reds, cut, id, is_yellow);
+    }
+}
+
+fn flag_one(reds: &mut Lanes<Red>, cut: &Cut, id: &ActionId, is_yellow: bool)
+    ensures { rows_of reds.new ≡ flag_name cut.now is_yellow (rows_of reds.old) id.now }
+{
+    let green = cut.get(id.creator);
+    if green < id.index {
+        let place = lane_of(id);
+        reds.mark(place, (id.index - green - 1) as usize, is_yellow);
+    }
+}

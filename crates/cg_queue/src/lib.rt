@@ -1,0 +1,19 @@
+//! The actions that a replica knows: green ones in their order, red ones, and which of these are yellow.
+//!
+//! A `Queue` is seen as the greens that it keeps with the number of those discarded before them, the reds by name, the
+//! yellow names in their order, and the cuts, which count the discarded too. `specs/Queue.antt` says what each mark
+//! makes of it. No call costs more than the length of what it is given or answers: an action is found by its index among
+//! its creator's, and never searched for. When an action may be marked, and what it does, is left to the layers above.
+#![tactic(auto)]
+
+mod body;
+mod lanes;
+mod mark;
+mod queue;
+mod red;
+
+pub use mark::{Mark, QueueFault};
+pub use queue::Queue;
+
+#[cfg(test)]
+mod tests;

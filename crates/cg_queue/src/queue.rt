@@ -1,0 +1,337 @@
+ghost use Rattle.std.specs.Prelude.{◌≡◌, ◌≤◌, ◌<◌, ◌-◌, ◌^◌, ◌++◌, ◌∷◌, [], suc, drop, length, IfOk, OnOk, OnErr};
+ghost use Rattle.std.specs.Option.{option_copied};
+ghost use Rattle.cg_base.specs.Cuts.{index_in};
+ghost use Rattle.cg_queue.specs.Lanes.{rows_of};
+ghost use Rattle.cg_queue.specs.Body.{actions_in};
+
+use crate::body::{
+    Body, add_green, add_name, add_red, add_yellow, drop_green, empty_body, forget_green,
+    is_flagged, lane_of, name_of, rename, starts_yellow,
+};
+use crate::lanes::{Lanes, item_in};
+use crate::red::Red;
+use crate::{Mark, QueueFault};
+use cg_action::{Action, ActionList};
+use cg_base::{ActionId, Cut, IdList, NoMemory, Row};
+use std::alloc::Global;
+use std::collections::VecDeque;
+use std::marker::Model;
+
+/// The actions that a replica knows.
+#[derive(Drop)]
+pub struct Queue {
+    body: Body,
+    alloc: Global,
+}
+
+impl Model for Queue {
+    ghost use Rattle.cg_queue.specs.Queue.{QueueView};
+    ghost use Rattle.cg_queue.specs.Body.{parts_of, seen, IsSound};
+
+    ghost Value = { QueueView };
+
+    ghost view = { λ q. seen (parts_of q.body) };
+
+    ghost invariant = { λ q. IsSound (parts_of q.body) };
+}
+
+impl Queue {
+    ghost use Rattle.cg_queue.specs.Queue.{Answers, AreReds, resumed, marked_red, marked_yellow, marked_green, green_count, discarded, with_yellow, names_of, action_of};
+    ghost use Rattle.cg_base.specs.Ids.{names};
+
+    /// A queue that knows no action.
+    pub fn new(alloc: Global) -> Queue
+        ensures { result ≡ resumed 0 [] }
+    {
+        Queue::resume(alloc, 0, Cut::zero())
+    }
+
+    /// A queue that knows no action but those that were discarded: so many greens, of each creator those up to the cut.
+    pub fn resume(alloc: Global, white: u64, cut: Cut) -> Queue
+        requires { white ≤ 2 ^ 62 }
+        ensures { result ≡ resumed white cut }
+    {
+        Queue {
+            body: empty_body(alloc, white, cut),
+            alloc,
+        }
+    }
+
+    /// Marks an action red, where it is its creator's next one. Known says exactly that its index is at most the red
+    /// cut, and Gap that it is above the next one.
+    pub fn mark_red(&mut self, a: Action) -> Result<Mark, QueueFault>
+        ensures { Answers (marked_red self.old a) self.old self.new result }
+    {
+        let id = name_of(&a);
+        let cut = self.body.red_cut.get(id.creator);
+        if id.index <= cut {
+            return Ok(Mark::Known);
+        }
+        if id.index - 1 > cut {
+            return Err(QueueFault::Gap { cut });
+        }
+        let Ok(()) = add_red(&mut self.body, a, false) else {
+            return Err(QueueFault::NoMemory);
+        };
+        Ok(Mark::Placed)
+    }
+
+    /// Marks an action red as `mark_red` does, and puts its name at the end of the yellow list, where it is neither green
+    /// nor yellow.
+    pub fn mark_yellow(&mut self, a: Action) -> Result<Mark, QueueFault>
+        ensures { Answers (marked_yellow self.old a) self.old self.new result }
+    {
+        let id = name_of(&a);
+        let known = self.body.red_cut.get(id.creator);
+        if id.index <= known {
+            return match self.name_known(&id) {
+                Ok(()) => Ok(Mark::Known),
+                Err(_) => Err(QueueFault::NoMemory),
+            };
+        }
+        if id.index - 1 > known {
+            return Err(QueueFault::Gap { cut: known });
+        }
+        let Ok(()) = add_yellow(&mut self.body, a) else {
+            return Err(QueueFault::NoMemory);
+        };
+        Ok(Mark::Placed)
+    }
+
+    // a known action's name comes to the end of the yellow list, where it is neither green nor yellow
+    fn name_known(&mut self, id: &ActionId) -> Result<(), NoMemory>
+        requires { id.now.index ≤ index_in self.old.red_cut id.now.creator }
+        ensures ok { OnOk result (self.new ≡ with_yellow self.old id.now) }
+        ensures err { OnErr result (self.new ≡ self.old) }
+    {
+        let green = self.body.green_cut.get(id.creator);
+        if id.index <= green {
+            return Ok(());
+        }
+        let place = lane_of(id);
+        let i = (id.index - green - 1) as usize;
+        if is_flagged(&self.body, place, i) {
+            return Ok(());
+        }
+        let Ok(()) = add_name(&mut self.body, id, place, i) else {
+            return Err(NoMemory);
+        };
+        Ok(())
+    }
+
+    /// Marks an action green at a place, counted from 1 and at most the next one. At the next place it is its creator's
+    /// next green one; it is then no more red or yellow. Known says exactly that the place is at most the count.
+    pub fn mark_green(&mut self, at: u64, a: Action) -> Result<Mark, QueueFault>
+        requires place { at ≤ suc (green_count self.old) }
+        requires few { green_count self.old < 2 ^ 62 }
+        requires next { at ≡ suc (green_count self.old) → a.id.index ≡ suc (index_in self.old.green_cut a.id.creator) }
+        ensures { Answers (marked_green self.old at a) self.old self.new result }
+    {
+        if at <= self.green_count() {
+            return Ok(Mark::Known);
+        }
+        let was_yellow = starts_yellow(&self.body, &name_of(&a));
+        match add_green(&mut self.body, a) {
+            Ok(()) => {
+                if was_yellow {
+                    forget_green(&mut self.body);
+                }
+                Ok(Mark::Placed)
+            }
+            Err(_) => Err(QueueFault::NoMemory),
+        }
+    }
+
+    /// These names, each that of a red action and none twice, are the yellow list.
+    pub fn set_yellow(&mut self, list: &IdList) -> Result<(), NoMemory>
+        requires { AreReds self.old list.now }
+        ensures ok { OnOk result (self.new ≡ record self.old { yellow = list.now }) }
+        ensures err { OnErr result (self.new ≡ self.old) }
+    {
+        let names = Vec::from_slice(self.alloc, list.as_slice())?;
+        rename(&mut self.body, names);
+        Ok(())
+    }
+
+    /// Discards the greens up to this count.
+    pub fn discard_white(&mut self, n: u64)
+        requires more { self.old.white ≤ n }
+        requires there { n ≤ green_count self.old }
+        ensures { self.new ≡ discarded self.old n }
+    {
+        while self.white_count() < n {
+            self.discard_first();
+        }
+    }
+
+    fn discard_first(&mut self)
+        requires { self.old.white < green_count self.old }
+        ensures { self.new ≡ discarded self.old (suc self.old.white) }
+    {
+        drop_green(&mut self.body);
+    }
+
+    /// The greens from a place on, which isn't discarded.
+    pub fn greens_from(&self, at: u64) -> Result<ActionList, NoMemory>
+        requires { self.now.white < at }
+        ensures { IfOk result (λ list. list ≡ drop (at - suc self.now.white) self.now.greens) }
+    {
+        let first = (at - self.body.white - 1) as usize;
+        copy_greens(self.alloc, &self.body.greens, first)
+    }
+
+    /// The reds, by name.
+    pub fn reds(&self) -> Result<ActionList, NoMemory>
+        ensures { IfOk result (λ list. list ≡ self.now.reds) }
+    {
+        let mut list = Row::new(self.alloc);
+        for place in 0..32 {
+            copy_reds(self.alloc, &self.body.reds, place, &mut list)?;
+        }
+        Ok(list)
+    }
+
+    /// The yellow names, in their order.
+    pub fn yellow(&self) -> Result<IdList, NoMemory>
+        ensures { IfOk result (λ list. list ≡ self.now.yellow) }
+    {
+        let mut list = Row::new(self.alloc);
+        for id in self.body.yellow.as_slice() {
+            if self.body.green_cut.get(id.creator) < id.index {
+                list.push(*id)?;
+            }
+        }
+        Ok(list)
+    }
+
+    /// The action of a name, if it is kept.
+    pub fn get(&self, id: ActionId) -> Option<&Action>
+        ensures { option_copied result ≡ action_of self.now id }
+    {
+        let place = lane_of(&id);
+        let green = self.body.green_cut.get(id.creator);
+        if green < id.index {
+            return match self.body.reds.get(place, (id.index - green - 1) as usize) {
+                Some(red) => Some(&red.action),
+                None => None,
+            };
+        }
+        let kept = self.body.places.len(place) as u64;
+        let behind = green - id.index;
+        if kept <= behind {
+            return None;
+        }
+        match self.body.places.get(place, (kept - behind - 1) as usize) {
+            Some(at) => item_in(&self.body.greens, (*at - self.body.white - 1) as usize),
+            None => None,
+        }
+    }
+
+    /// The name is one of a red action.
+    pub fn is_red(&self, id: ActionId) -> bool
+        ensures { result ≡ names (names_of self.now.reds) id }
+    {
+        let place = lane_of(&id);
+        let cut = self.body.green_cut.get(id.creator);
+        if cut >= id.index {
+            return false;
+        }
+        let i = (id.index - cut - 1) as usize;
+        i < self.body.reds.len(place)
+    }
+
+    /// How far each creator's actions are known: red or green, discarded ones too.
+    pub fn red_cut(&self) -> Cut
+        ensures { result ≡ self.now.red_cut }
+    {
+        self.body.red_cut
+    }
+
+    /// How far each creator's actions are green, discarded ones too.
+    pub fn green_cut(&self) -> Cut
+        ensures { result ≡ self.now.green_cut }
+    {
+        self.body.green_cut
+    }
+
+    /// The number of greens, discarded ones counted.
+    pub fn green_count(&self) -> u64
+        ensures count { result ≡ green_count self.now }
+        ensures most { result ≤ 2 ^ 62 }
+    {
+        self.body.white + self.body.greens.len() as u64
+    }
+
+    /// The number of greens that are discarded.
+    pub fn white_count(&self) -> u64
+        ensures { result ≡ self.now.white }
+    {
+        self.body.white
+    }
+}
+
+// the greens from a place on, counted from 0
+fn copy_greens(
+    alloc: Global,
+    greens: &VecDeque<Action>,
+    first: usize,
+) -> Result<ActionList, NoMemory>
+    ensures { IfOk result (λ list. list ≡ drop first greens.now.items) }
+{
+    let mut list = Row::new(alloc);
+    for i in first..greens.len() {
+        push_green_at(alloc, greens, i, &mut list)?;
+    }
+    Ok(list)
+}
+
+// the reds at a place, behind those that are listed
+fn copy_reds(
+    alloc: Global,
+    reds: &Lanes<Red>,
+    place: usize,
+    list: &mut ActionList,
+) -> Result<(), NoMemory>
+    ensures { OnOk result (list.new ≡ list.old ++ actions_in (rows_of reds.now place)) }
+{
+    for i in 0..reds.len(place) {
+        push_red_at(alloc, reds, place, i, list)?;
+    }
+    Ok(())
+}
+
+fn push_green_at(
+    alloc: Global,
+    greens: &VecDeque<Action>,
+    i: usize,
+    list: &mut ActionList,
+) -> Result<(), NoMemory>
+    ensures { OnOk result (list.new ++ drop (suc i) greens.now.items ≡ list.old ++ drop i greens.now.items) }
+{
+    match item_in(greens, i) {
+        Some(action) => push_copy(alloc, action, list),
+        None => Ok(()),
+    }
+}
+
+fn push_red_at(
+    alloc: Global,
+    reds: &Lanes<Red>,
+    place: usize,
+    i: usize,
+    list: &mut ActionList,
+) -> Result<(), NoMemory>
+    ensures { OnOk result (list.new ++ actions_in (drop (suc i) (rows_of reds.now place)) ≡ list.old ++ actions_in (drop i (rows_of reds.now place))) }
+{
+    match reds.get(place, i) {
+        Some(red) => push_copy(alloc, &red.action, list),
+        None => Ok(()),
+    }
+}
+
+fn push_copy(alloc: Global, action: &Action, list: &mut ActionList) -> Result<(), NoMemory>
+    ensures { OnOk result (list.new ≡ list.old ++ action.now ∷ []) }
+{
+    let action = action.copy(alloc)?;
+    list.push(action)
+}
