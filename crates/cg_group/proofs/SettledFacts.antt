@@ -1,5 +1,5 @@
 -- The first places of a configuration, which every member has received.
-use Rattle.std.proofs.Common.{◌≡◌, ℕ, zero, suc, ◌+◌, ◌-◌, ◌<◌, ◌≤◌, Bool, true, false, cond, List, [], ◌∷◌, ◌++◌, length, Option, Some, None, refl, sym, ap, subst, ◌∙◌, arith, map, fold, find, option_map, inl, inr, ⊎_elim, ◌⊎◌}
+use Rattle.std.proofs.Common.{◌≡◌, ℕ, zero, suc, ◌+◌, ◌-◌, ◌<◌, ◌≤◌, Bool, true, false, not, ◌&&◌, cond, List, [], ◌∷◌, ◌++◌, length, Option, Some, None, refl, sym, ap, subst, ◌∙◌, arith, map, fold, find, option_map, inl, inr, ⊎_elim, ◌⊎◌}
 use Rattle.std.specs.Prelude.{◌==◌}
 use Rattle.std.proofs.Math.ListN.{set, get_or}
 use Rattle.std.specs.List.{slice_get, list_all, prefix_len}
@@ -35,6 +35,11 @@ with_member-there low (q ∷ set) p ascends there = ⊎_elim
 pub is_within-more : (s t : List ℕ) (p : ℕ) → is_within s t ≡ true → is_within s (with_member t p) ≡ true
 is_within-more s t p within =
     is_within-from s (with_member t p) (λ q there. has-with_member t p q ∙ or_left (has t q) (p == q) (is_within-has s t q within there))
+
+-- what isn't lacked isn't missing
+pub and_not : (a b : Bool) → b ≡ true → (a && not b) ≡ false
+and_not true b e = ap not e
+and_not false b e = refl
 
 -- what holds of no place before
 pub find-skip : (test : ℕ → Bool) (from to : ℕ) → ((place : ℕ) → 0 < place → place ≤ from → test place ≡ false) →

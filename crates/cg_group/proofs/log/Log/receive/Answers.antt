@@ -15,5 +15,5 @@ returns-clause-value g c =
     let place : suc (c.args.place - 1) ≡ c.args.place = omega arith in
     rw (← c.self.view_is)
     (configuration_of-set c.self.inside.members c.self.inside.ordered.items c.args.p (c.args.place - 1) _ c.index_mut-placed.result.now (omega arith)
-    (ap (λ set. record c.index_mut-placed.result.now { received = set }) c.add.ensures ∙ ap (marked c.args.p) c.index_mut-placed.ensures.value)
+    (c.add_receipt.ensures.value ∙ ap (marked c.args.p) c.index_mut-placed.ensures.value)
     ∙ ap (with_receipt _ c.args.p) place)
