@@ -26,7 +26,7 @@ with_member-there low [] p ascends there = absurd (let clash : false ≡ true = 
 with_member-there low (q ∷ set) p ascends there = ⊎_elim
     (λ (same : q ≡ p). with_member-same q set p (sym same))
     (λ (ne : q ≡ p → ⊥).
-    let rest : has set p ≡ true = sym (ap (λ b. cond b true (has set p)) (ne_eqb q p ne)) ∙ there in
+    let rest : has set p ≡ true = rw (ne_eqb q p ne) at there in
     let above = has-within set (suc q) p ascends.2 rest in
     with_member-later q set p (omega (arith, above.0)) ∙ ap (λ z. q ∷ z) (with_member-there (suc q) set p ascends.2 rest))
     (cases_eq q p)
@@ -127,6 +127,11 @@ module _ {M : Type 0} where
         (slice_get-written ordered k i y z d lt e);
   }
 
+  none_within : (xs : List (Placed M)) (i : ℕ) → i < length xs → slice_get xs i ≡ None → ⊥
+  none_within [] i lt e = absurd (omega arith)
+  none_within (y ∷ xs) zero lt e = cc
+  none_within (y ∷ xs) (suc i) lt e = none_within xs i (omega arith) e
+
   -- each of the first places every member has received
   pub settled-all_received : (members : List ℕ) (ordered : List (Placed M)) (n place : ℕ) → IsSettled members ordered n → 0 < place → place ≤ n →
       all_received (configuration_of members ordered) place ≡ true
@@ -138,11 +143,6 @@ module _ {M : Type 0} where
       by_option : (o : Option (Placed M)) → slice_get ordered i ≡ o → i < length ordered → all_received (configuration_of members ordered) (suc i) ≡ true
       by_option None e lt = absurd (none_within ordered i lt e)
       by_option (Some x) e lt = all_received-at_place members ordered (suc i) x e ∙ (settled.received i x (omega arith) e).1
-
-      none_within : (xs : List (Placed M)) (i : ℕ) → i < length xs → slice_get xs i ≡ None → ⊥
-      none_within [] i lt e = omega arith
-      none_within (y ∷ xs) zero lt e = cc
-      none_within (y ∷ xs) (suc i) lt e = none_within xs i (omega arith) e
 
   -- what is known of a place before, and of a member
   settled_at : (members : List ℕ) (ordered : List (Placed M)) (n place : ℕ) (x : Placed M) → IsSettled members ordered n → 0 < place → place ≤ n → at_place ordered place ≡ Some x →
