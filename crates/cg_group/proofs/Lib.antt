@@ -24,3 +24,4 @@ pub mod DeliveryFacts
 pub mod LogsFacts
 pub mod OrderFacts
 pub mod RoomFacts
+pub mod SettledFacts

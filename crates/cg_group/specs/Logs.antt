@@ -1,6 +1,7 @@
 -- How a configuration lies in memory.
-use Rattle.std.specs.Prelude.{◌≡◌, ℕ, ◌≤◌, ◌-◌, length, List, [], ◌∷◌, map, fold, find, Option, Some, is_none}
+use Rattle.std.specs.Prelude.{◌≡◌, ℕ, ◌≤◌, ◌<◌, ◌-◌, true, slice_get, length, List, [], ◌∷◌, map, fold, find, Option, Some, is_none}
 use Rattle.cg_base.specs.Lists.{at_place, above_up_to, first_some}
+use Rattle.cg_base.specs.Sets.{IsSet, is_within}
 use Rattle.std.specs.Option.{option_map}
 use Rattle.cg_group.specs.declared.placed.Placed.{Placed}
 use Rattle.cg_group.specs.State.{Configuration, Sent, Standing, GroupState, has_received}
@@ -24,6 +25,11 @@ module _ {M : Type 0} where
   abbrev pub configuration_of : List ℕ → List (Placed M) → Configuration M
   configuration_of members ordered =
       record { members = members; ordered = map sent_of ordered; received = map (λ p. p.received) ordered }
+
+  -- every member has received each of the first places, so many
+  pub record IsSettled (members : List ℕ) (ordered : List (Placed M)) (n : ℕ) : Type 0 where
+    pub within : n ≤ length ordered
+    pub received : (i : ℕ) (x : Placed M) → i < n → slice_get ordered i ≡ Some x → IsSet x.received × (is_within members x.received ≡ true)
 
   -- the configurations alone
   abbrev pub configurations_of : List (Stored M) → List (Configuration M)

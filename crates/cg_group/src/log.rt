@@ -1,8 +1,9 @@
-ghost use Rattle.std.specs.Prelude.{◌≡◌, ◌<◌, ◌≤◌, ◌+◌, ◌^◌, [], ◌==◌, ◌∷◌, ◌++◌, length, OnOk, OnErr, vec_len, vec_capacity};
+ghost use Rattle.std.specs.Prelude.{◌≡◌, ℕ, true, ◌<◌, ◌≤◌, ◌+◌, ◌^◌, [], ◌==◌, ◌∷◌, ◌++◌, length, OnOk, OnErr, vec_len, vec_capacity};
 ghost use Rattle.std.specs.Option.{option_copied, option_map};
 ghost use Rattle.cg_base.specs.Lists.{at_place};
+ghost use Rattle.cg_base.specs.Sets.{IsSet, with_member, is_within};
 ghost use Rattle.cg_group.specs.State.{has_received};
-ghost use Rattle.cg_group.specs.Logs.{sent_of, with_all_receipts};
+ghost use Rattle.cg_group.specs.Logs.{sent_of, with_all_receipts, IsSettled};
 ghost use Rattle.cg_group.specs.Ready.{ready_in, all_received};
 ghost use Rattle.cg_group.specs.Events.{with_message, with_receipt};
 
@@ -17,15 +18,19 @@ use std::marker::Model;
 pub(crate) struct Log<M> {
     members: IdSet,
     ordered: Vec<Placed<M>>,
+    // every member has received each of the first places, so many
+    settled: usize,
 }
 
 impl<M> Model for Log<M> {
     ghost use Rattle.std.specs.Prelude.{◌-◌, vec_len, vec_capacity};
-    ghost use Rattle.cg_group.specs.Logs.{Stored, configuration_of};
+    ghost use Rattle.cg_group.specs.Logs.{Stored, IsSettled, configuration_of};
 
     ghost Value = { Stored M };
 
     ghost view = { λ l. record { configuration = configuration_of l.members l.ordered.items; room = vec_capacity l.ordered - vec_len l.ordered } };
+
+    ghost invariant = { λ l. IsSettled l.members l.ordered.items l.settled };
 }
 
 // the room is there, so no memory is taken
@@ -38,6 +43,38 @@ fn push_in_room<T: Drop>(items: &mut Vec<T>, item: T)
     let _done = items.push(item);
 }
 
+// the receiver is among those who have received the place, which are a set
+fn add_receipt<M>(placed: &mut Placed<M>, p: ReplicaId)
+    ensures value { placed.new ≡ record placed.old { received = with_member placed.old.received p } }
+    ensures set { IsSet placed.new.received }
+{
+    placed.received.add(p);
+    let _is_there = placed.received.contains(p);
+}
+
+// each of the members is among those who have received a place
+fn is_complete(received: &IdSet, members: &IdSet) -> bool
+    ensures within { result ≡ true → is_within members.now received.now ≡ true }
+    ensures set { IsSet received.now }
+{
+    received.count() >= members.count() && members.is_within(received)
+}
+
+// how many of the first places every member has received, from so many on
+fn settled_from<M>(members: &IdSet, ordered: &[Placed<M>], from: usize) -> usize
+    requires { from ≤ length ordered.now }
+    ensures { IsSettled members.now ordered.now from → IsSettled members.now ordered.now result }
+{
+    let mut place = from;
+    while place < ordered.len() {
+        if !is_complete(&ordered[place].received, members) {
+            return place;
+        }
+        place += 1;
+    }
+    place
+}
+
 impl<M> Log<M> {
     pub(crate) fn new(alloc: Global, members: IdSet) -> Log<M>
         ensures { result.configuration ≡ record { members = members; ordered = []; received = [] } }
@@ -45,6 +82,7 @@ impl<M> Log<M> {
         Log {
             members,
             ordered: Vec::new(alloc),
+            settled: 0,
         }
     }
 
@@ -81,6 +119,7 @@ impl<M> Log<M> {
             received,
         };
         push_in_room(&mut self.ordered, placed);
+        self.settled = settled_from(&self.members, self.ordered.as_slice(), self.settled);
     }
 
     /// A member has received a place, where there is such a place.
@@ -95,7 +134,28 @@ impl<M> Log<M> {
             return;
         }
         let placed = &mut self.ordered[(place - 1) as usize];
-        placed.received.add(p);
+        add_receipt(placed, p);
+        self.settled = settled_from(&self.members, self.ordered.as_slice(), self.settled);
+    }
+
+    /// So many of the first places every member has received.
+    pub(crate) fn settled(&self) -> usize
+        ensures within { result ≤ length self.now.configuration.ordered }
+        ensures received { (place : ℕ) → 0 < place → place ≤ result → all_received self.now.configuration place ≡ true }
+    {
+        self.settled
+    }
+
+    /// So many of the first places the replica is known to have received.
+    pub(crate) fn received_by(&self, p: ReplicaId) -> usize
+        ensures within { result ≤ length self.now.configuration.ordered }
+        ensures received { (place : ℕ) → 0 < place → place ≤ result → has_received self.now.configuration p place ≡ true }
+        ensures same { (place : ℕ) → 0 < place → place ≤ result → with_receipt self.now.configuration p place ≡ self.now.configuration }
+    {
+        if !self.members.contains(p) {
+            return 0;
+        }
+        self.settled
     }
 
     /// A member has received every place.
@@ -103,8 +163,9 @@ impl<M> Log<M> {
         ensures value { self.new.configuration ≡ with_all_receipts self.old.configuration p }
         ensures room { self.new.room ≡ self.old.room }
     {
+        let from = self.received_by(p) as u64;
         let len = self.ordered.len() as u64;
-        for place in 0..len {
+        for place in from..len {
             self.receive(p, place + 1);
         }
     }
@@ -131,7 +192,7 @@ impl<M> Log<M> {
         ensures fits { delivered + result < 2 ^ 64 }
     {
         let len = self.ordered.len() as u64;
-        let mut place = delivered;
+        let mut place = delivered.max(self.settled() as u64);
         while place < len {
             if !self.is_received_by_all(place + 1) {
                 return place - delivered;

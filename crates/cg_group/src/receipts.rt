@@ -31,9 +31,9 @@ impl<M> Log<M> {
         ensures { result ≡ find (is_missing self.now.configuration p place) (above_up_to 0 (place - 1)) }
     {
         let sender = self.sender(place);
-        for earlier in 1..place {
-            if self.lacks(p, sender, earlier) {
-                return Some(earlier);
+        for before in self.received_by(p) as u64..place.saturating_sub(1) {
+            if self.lacks(p, sender, before + 1) {
+                return Some(before + 1);
             }
         }
         None

@@ -1,6 +1,7 @@
 use Rattle.std.proofs.Common.{◌∙◌, ap}
 use Rattle.cg_base.specs.Sets.{with_member}
 use Rattle.cg_group.proofs.LogFacts.{configuration_of-appended}
+use Rattle.cg_group.proofs.SettledFacts.{IsSettled-append}
 use Rattle.cg_group.proofs.log.Log.append.Goals as goal
 
 pub returns-clause-value : goal.returns-clause-value
@@ -8,3 +9,8 @@ returns-clause-value g c =
     rw (← c.self.view_is, c.push_in_room.ensures.items)
     (configuration_of-appended c.self.inside.members c.self.inside.ordered.items c.args.from c.args.message _
     (ap (λ set. record { from = c.args.from; message = c.args.message; received = set }) (c.add.ensures ∙ ap (λ set. with_member set c.args.from) c.empty-received.ensures)))
+
+pub invariant_of-self : goal.invariant_of-self
+invariant_of-self g c =
+    let next = rw c.as_slice.ensures.value at c.settled_from-self-inside.ensures in
+    next (rw c.push_in_room.ensures.items (IsSettled-append c.self.inside.members c.self.inside.ordered.items _ c.self.inside.settled c.self.invariant))

@@ -1,6 +1,9 @@
 use Rattle.std.proofs.Common.{◌≡◌, suc, true, false, length, sym, ◌∙◌, ap, arith, add-one}
 use Rattle.std.specs.List.{prefix_len}
 use Rattle.std.proofs.lemmas.List.{length-map}
+use Rattle.std.proofs.lemmas.Bool.{cases_lt}
+use Rattle.cg_group.proofs.SettledFacts.{prefix-skip}
+use Rattle.std.proofs.Common.{⊎_elim, ◌<◌, ◌≤◌}
 use Rattle.cg_group.specs.Ready.{all_received, ready_in}
 use Rattle.cg_group.proofs.LogFacts.{prefix-goes_on, prefix-ends, above_up_to-none}
 use Rattle.cg_group.proofs.log.Log.ready.Goals as goal
@@ -28,3 +31,18 @@ returns-clause-count g c =
     let long : c.len-len.result ≡ length c.args.self.now.configuration.ordered = rw (← c.self.view_is, length-map) (omega arith) in
     let ends = ap (prefix_len t) (above_up_to-none c.loop-place.place c.len-len.result c.loop-place-test.false) in
     rw (← long) (omega (arith, ends, c.loop-place.invariant.1))
+
+pub loop-place-init : goal.loop-place-init
+loop-place-init g c =
+    let t = all_received c.args.self.now.configuration in
+    let long : c.len-len.result ≡ length c.args.self.now.configuration.ordered = rw (← c.self.view_is, length-map) (omega arith) in (
+      omega arith,
+      ⊎_elim
+          (λ (lt : c.args.delivered < c.settled.result).
+          let most : c.max-place.result ≡ c.settled.result = omega arith in
+          rw most (sym (prefix-skip t c.args.delivered c.settled.result c.len-len.result (omega arith) (omega (arith, c.settled.ensures.within))
+          (λ place above le. c.settled.ensures.received place (omega arith) le))))
+          (λ (ge : c.settled.result ≤ c.args.delivered).
+          let most : c.max-place.result ≡ c.args.delivered = omega arith in rw most (omega arith))
+          (cases_lt c.args.delivered c.settled.result),
+    )

@@ -1,6 +1,8 @@
 use Rattle.std.proofs.Common.{◌≡◌, ◌-◌, suc, ◌∙◌, ap, arith}
 use Rattle.cg_group.specs.Events.{with_receipt}
 use Rattle.cg_group.proofs.LogFacts.{configuration_of-set, with_receipt-beyond, with_receipt-none, marked}
+use Rattle.cg_group.proofs.SettledFacts.{IsSettled-receipt}
+use Rattle.cg_base.specs.Sets.{with_member}
 use Rattle.cg_group.proofs.log.Log.receive.Goals as goal
 
 pub returns-then-place-eq0-clause-value : goal.returns-then-place-eq0-clause-value
@@ -15,5 +17,12 @@ returns-clause-value g c =
     let place : suc (c.args.place - 1) ≡ c.args.place = omega arith in
     rw (← c.self.view_is)
     (configuration_of-set c.self.inside.members c.self.inside.ordered.items c.args.p (c.args.place - 1) _ c.index_mut-placed.result.now (omega arith)
-    (ap (λ set. record c.index_mut-placed.result.now { received = set }) c.add.ensures ∙ ap (marked c.args.p) c.index_mut-placed.ensures.value)
+    (c.add_receipt.ensures.value ∙ ap (marked c.args.p) c.index_mut-placed.ensures.value)
     ∙ ap (with_receipt _ c.args.p) place)
+
+pub invariant_of-self : goal.invariant_of-self
+invariant_of-self g c =
+    let next = rw c.as_slice.ensures.value at c.settled_from-self-inside.ensures in
+    next
+    (IsSettled-receipt c.self.inside.members c.self.inside.ordered.items (c.args.place - 1) c.self.inside.settled c.args.p _ c.index_mut-placed.result.now (omega arith) c.self.invariant
+    (ap (λ x. x.received) c.add_receipt.ensures.value ∙ ap (λ x. with_member x.received c.args.p) c.index_mut-placed.ensures.value) c.add_receipt.ensures.set)
