@@ -1,10 +1,10 @@
 -- The first places of a configuration, which every member has received.
-use Rattle.std.proofs.Common.{◌≡◌, ℕ, zero, suc, ◌+◌, ◌-◌, ◌<◌, ◌≤◌, Bool, true, false, not, ◌&&◌, cond, List, [], ◌∷◌, ◌++◌, length, Option, Some, None, refl, sym, ap, subst, ◌∙◌, arith, map, fold, find, option_map, inl, inr, ⊎_elim, ◌⊎◌}
+use Rattle.std.proofs.Common.{◌≡◌, ℕ, zero, suc, ◌+◌, ◌-◌, ◌<◌, ◌≤◌, Bool, true, false, not, ◌&&◌, List, [], ◌∷◌, ◌++◌, length, Option, Some, None, refl, sym, ap, subst, ◌∙◌, arith, fold, find, option_map, inl, inr, ⊎_elim, ◌⊎◌}
 use Rattle.std.specs.Prelude.{◌==◌}
 use Rattle.std.proofs.Math.ListN.{set, get_or}
-use Rattle.std.specs.List.{slice_get, list_all, prefix_len}
+use Rattle.std.specs.List.{slice_get, prefix_len}
 use Rattle.std.specs.Option.{option_map_or}
-use Rattle.std.proofs.lemmas.Bool.{cases_Bool, cases_lt, cases_eq, cond-true, cond-false, eq-eqb, ne_eqb, or_left, or_right, or_cases}
+use Rattle.std.proofs.lemmas.Bool.{cases_lt, cases_eq, cond-false, ne_eqb, or_left}
 use Rattle.std.proofs.lemmas.List.{length-append, length-set}
 use Rattle.std.proofs.lemmas.Option.{slice_get-get_or}
 use Rattle.cg_base.specs.Lists.{at_place, above_up_to}
@@ -12,7 +12,7 @@ use Rattle.cg_base.specs.Sets.{IsSet, Ascends, has, with_member, is_within}
 use Rattle.cg_base.proofs.SetLemmas.{with_member-same, with_member-later, has-within, has-with_member}
 use Rattle.cg_base.proofs.SetFacts.{is_within-has, is_within-from}
 use Rattle.cg_group.specs.declared.placed.Placed.{Placed}
-use Rattle.cg_group.specs.State.{Configuration, has_received, changed_at}
+use Rattle.cg_group.specs.State.{Configuration, has_received}
 use Rattle.cg_group.specs.Ready.{all_received}
 use Rattle.cg_group.specs.Events.{with_receipt}
 use Rattle.cg_group.specs.Logs.{IsSettled, configuration_of}

@@ -1,4 +1,4 @@
-use Rattle.std.proofs.Common.{◌≡◌, ◌≤◌, ◌+◌, suc, true, sym, ◌∙◌, arith, add-one}
+use Rattle.std.proofs.Common.{arith, add-one}
 use Rattle.cg_group.proofs.SettledFacts.{IsSettled-next}
 use Rattle.cg_group.proofs.log.settled_from.Goals as goal
 

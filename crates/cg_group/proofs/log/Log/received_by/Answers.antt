@@ -1,4 +1,4 @@
-use Rattle.std.proofs.Common.{◌≡◌, true, sym, ◌∙◌}
+use Rattle.std.proofs.Common.{sym, ◌∙◌}
 use Rattle.cg_group.proofs.SettledFacts.{settled-has, settled-same}
 use Rattle.cg_group.proofs.log.Log.received_by.Goals as goal
 

@@ -1,4 +1,3 @@
-use Rattle.std.proofs.Common.{◌≡◌}
 use Rattle.cg_group.proofs.SettledFacts.{settled-all_received}
 use Rattle.cg_group.proofs.log.Log.settled.Goals as goal
 
