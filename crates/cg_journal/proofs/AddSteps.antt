@@ -1,5 +1,5 @@
 -- The two writes that add a record.
-use Rattle.std.proofs.Common.{◌≡◌, ◌≢◌, inl, inr, ⊎_elim, ◌⊎◌, ℕ, suc, ◌+◌, ◌-◌, ◌^◌, ◌≤◌, ◌<◌, ◌==◌, ◌&&◌, nat_lt, Bool, true, false, List, [], ◌∷◌, ◌++◌, length, get_or, take, drop, Option, Some, None, IfSome, Result, Ok, Err, refl, sym, ◌∙◌, ap, subst, arith, length-append}
+use Rattle.std.proofs.Common.{◌≡◌, ◌≢◌, inl, inr, ⊎_elim, ◌⊎◌, ℕ, ◌+◌, ◌-◌, ◌^◌, ◌≤◌, ◌<◌, true, false, List, [], ◌∷◌, ◌++◌, length, get_or, take, drop, Option, Some, None, IfSome, Result, Ok, Err, refl, sym, ◌∙◌, ap, subst, arith, length-append}
 use Rattle.std.specs.Bool.{if◌then◌else◌}
 use Rattle.std.specs.Option.{option_map}
 use Rattle.std.proofs.lemmas.List.{length-take-le}
@@ -8,16 +8,15 @@ use Rattle.std.proofs.lemmas.Bool.Decides.{nat_tests}
 use Rattle.cg_disk.specs.Sides.{Image, bytes_of, opposite}
 use Rattle.cg_disk.specs.Writes.{Torn, TornSide, overwritten}
 use Rattle.cg_disk.specs.State.{SideState, DiskState, Strike, Blow, Fails, Stops, is_unsynced, left_by, shown, synced_side, wrote, wrote_side, Range, filled, unsynced_from}
-use Rattle.cg_disk.specs.View.{DiskView, IsView, IsAtRest, IsSynced, LeavesOnly}
-use Rattle.cg_disk.specs.Calls.{HasImages}
+use Rattle.cg_disk.specs.View.{DiskView, IsView, IsSynced}
 use Rattle.cg_disk.specs.declared.disk.Side.{Side}
 use Rattle.cg_disk.specs.declared.disk.Side.TheVariants.{A, B}
 use Rattle.cg_disk.specs.declared.disk.DiskFault.{DiskFault}
 use Rattle.cg_disk.specs.declared.disk.DiskFault.TheVariants.{Failed, NoMemory}
 use Rattle.cg_journal.specs.Records.{Records, HasRecords, records, bodies_of, added, framed}
-use Rattle.cg_journal.specs.Strikes.{strike_of, IsUnstruck, IsStruck}
-use Rattle.cg_journal.specs.Put.{put_on, IsPut, IsCut, IsCutState, CutBy, IsKept, Puts}
-use Rattle.cg_journal.specs.Adds.{state_on, IsEither, GateDecides, opens, gate_stands, IsCutShort, IsLostIn, IsAdded, IsNotAdded, Adds}
+use Rattle.cg_journal.specs.Strikes.{IsUnstruck, IsStruck}
+use Rattle.cg_journal.specs.Put.{put_on, IsPut, IsCut, CutBy, IsKept, Puts}
+use Rattle.cg_journal.specs.Adds.{state_on, IsEither, GateDecides, gate_stands, IsLostIn, IsAdded, IsNotAdded, Adds}
 use Rattle.cg_journal.proofs.Reading.{reads_as}
 use Rattle.cg_journal.proofs.Adding.{same_front, gate_of_same, take_staged, torn_open, torn_shut, gate_written, length-framed, end_within}
 use Rattle.cg_journal.proofs.Both.{put_this, put_other, records_same, records_added}

@@ -1,11 +1,11 @@
 -- What a journal keeps of its disk when a record was added.
-use Rattle.std.proofs.Common.{◌≡◌, ◌⊎◌, inl, inr, ⊎_elim, ℕ, ◌+◌, ◌-◌, ◌^◌, ◌≤◌, ◌<◌, List, [], ◌∷◌, ◌++◌, length, Option, Some, None, Result, Ok, Err, refl, sym, ◌∙◌, ap, subst, arith, lit<}
+use Rattle.std.proofs.Common.{◌≡◌, inr, ⊎_elim, ℕ, ◌+◌, ◌-◌, List, [], ◌∷◌, ◌++◌, length, Option, Some, None, Result, Ok, Err, refl, sym, ◌∙◌, ap, subst, arith, lit<}
 use Rattle.std.specs.Option.{option_map}
 use Rattle.cg_disk.specs.Sides.{Image, bytes_of, opposite}
-use Rattle.cg_disk.specs.View.{DiskView, IsAtRest, LeavesOnly}
+use Rattle.cg_disk.specs.View.{DiskView}
 use Rattle.cg_disk.specs.declared.disk.Side.{Side}
 use Rattle.cg_disk.specs.declared.disk.Side.TheVariants.{A, B}
-use Rattle.cg_journal.specs.Records.{Records, HasRecords, records, both, bodies_of, spelled, added, emptied, on_side}
+use Rattle.cg_journal.specs.Records.{Records, HasRecords, records, both, bodies_of, added, emptied, on_side}
 use Rattle.cg_disk.specs.State.{DiskState}
 use Rattle.cg_journal.specs.Put.{IsKept}
 use Rattle.cg_journal.specs.Closes.{IsClosed}
@@ -15,10 +15,9 @@ use Rattle.cg_journal.proofs.Both.{records_emptied}
 use Rattle.cg_journal.proofs.AddSteps.{some_state, unstruck_more, struck_more}
 use Rattle.cg_journal.specs.Adds.{IsLostIn, IsAdded, IsNotAdded}
 use Rattle.cg_journal.specs.Held.{end_of, end_on, with_end, Ended, IsJournal}
-use Rattle.cg_journal.specs.Answers.{with_record, without_records, with_record_alone, IsDone, IsRefused, IsGateOf, IsLostAppend, IsLostRestart, Appends, Restarts}
+use Rattle.cg_journal.specs.Answers.{with_record, without_records, with_record_alone, IsDone, IsRefused, IsLostAppend, IsLostRestart, Appends, Restarts}
 use Rattle.cg_journal.specs.declared.ends.Ends.{Ends}
 use Rattle.cg_journal.proofs.Reading.{reads_as}
-use Rattle.cg_journal.proofs.Adding.{end_within}
 
 -- the bodies of one side
 bodies_on : (a b : Option (List (List ℕ))) (r : Records) → both a b ≡ Some r → (a ≡ Some r.a) × (b ≡ Some r.b)

@@ -1,11 +1,11 @@
 -- The records of both sides, from those of one.
-use Rattle.std.proofs.Common.{◌≡◌, ℕ, List, [], ◌∷◌, ◌++◌, length, Option, Some, None, refl, sym, ◌∙◌, ap}
+use Rattle.std.proofs.Common.{◌≡◌, ℕ, List, [], ◌∷◌, ◌++◌, Option, Some, None, refl, sym, ◌∙◌}
 use Rattle.std.specs.Option.{option_map}
-use Rattle.cg_disk.specs.Sides.{Image, bytes_of, with_bytes, opposite}
+use Rattle.cg_disk.specs.Sides.{Image, bytes_of, opposite}
 use Rattle.cg_disk.specs.Writes.{overwritten}
 use Rattle.cg_disk.specs.declared.disk.Side.{Side}
 use Rattle.cg_disk.specs.declared.disk.Side.TheVariants.{A, B}
-use Rattle.cg_journal.specs.Records.{Records, records, both, bodies_of, added, emptied}
+use Rattle.cg_journal.specs.Records.{records, both, bodies_of, added, emptied}
 use Rattle.cg_journal.specs.Put.{put_on}
 
 pub put_this : (side : Side) (place : ℕ) (bytes : List ℕ) (image : Image) → bytes_of side (put_on side place bytes image) ≡ overwritten (bytes_of side image) place bytes

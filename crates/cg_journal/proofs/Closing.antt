@@ -1,17 +1,17 @@
 -- The first gate of a side is closed.
-use Rattle.std.proofs.Common.{◌≡◌, ◌≢◌, inl, inr, ⊎_elim, ◌⊎◌, ℕ, suc, ◌+◌, ◌≤◌, ◌<◌, List, [], ◌∷◌, ◌++◌, length, get_or, take, drop, Option, Some, None, IfSome, Result, Ok, Err, refl, sym, ◌∙◌, ap, subst, arith, take-append-drop, length-append}
+use Rattle.std.proofs.Common.{◌≡◌, ◌≢◌, inl, inr, ⊎_elim, ◌⊎◌, ℕ, ◌+◌, ◌≤◌, ◌<◌, List, [], ◌∷◌, ◌++◌, length, get_or, take, drop, Option, Some, None, IfSome, Result, Ok, Err, refl, sym, ◌∙◌, ap, subst, arith, take-append-drop, length-append}
 use Rattle.std.specs.Option.{option_map}
 use Rattle.std.proofs.lemmas.List.{drop_more, append-nil}
 use Rattle.std.proofs.lemmas.Bool.{cases_eq}
 use Rattle.cg_disk.specs.Sides.{Image, bytes_of, opposite}
 use Rattle.cg_disk.specs.Writes.{Torn, TornSide, overwritten}
 use Rattle.cg_disk.specs.State.{DiskState, left_by}
-use Rattle.cg_disk.specs.View.{DiskView, IsAtRest}
+use Rattle.cg_disk.specs.View.{DiskView}
 use Rattle.cg_disk.specs.declared.disk.Side.{Side}
 use Rattle.cg_disk.specs.declared.disk.DiskFault.{DiskFault}
 use Rattle.cg_disk.specs.declared.disk.DiskFault.TheVariants.{Failed, NoMemory}
-use Rattle.cg_journal.specs.Records.{Records, header, spelled, number32, HasRecords, records, bodies_of, emptied}
-use Rattle.cg_journal.specs.Put.{put_on, IsPut, IsCut, IsKept, Puts}
+use Rattle.cg_journal.specs.Records.{header, spelled, number32, HasRecords, records, bodies_of, emptied}
+use Rattle.cg_journal.specs.Put.{IsPut, IsCut, Puts}
 use Rattle.cg_journal.specs.Adds.{IsEither}
 use Rattle.cg_journal.specs.Closes.{IsClosed, IsLostClosing, Closes}
 use Rattle.cg_journal.proofs.Reading.{reads_as}

@@ -1,14 +1,13 @@
 -- Runs of calls that only look, or sync.
-use Rattle.std.proofs.Common.{◌≡◌, ℕ, suc, ◌+◌, ◌≤◌, Option, Some, None, IfSome, Result, Ok, Err, IsErrOf, OnOk, refl, sym, ◌∙◌, ap, subst, arith}
+use Rattle.std.proofs.Common.{◌≡◌, ℕ, ◌+◌, ◌≤◌, Option, Some, None, IfSome, Result, Ok, Err, IsErrOf, OnOk, refl, sym, ◌∙◌, ap, subst, arith}
 use Rattle.std.specs.Option.{option_map}
-use Rattle.cg_disk.specs.Sides.{Image}
 use Rattle.cg_disk.specs.Writes.{Only}
-use Rattle.cg_disk.specs.State.{DiskState, Strike, looked, synced}
-use Rattle.cg_disk.specs.View.{DiskView, IsView, IsAtRest, IsSynced, LeavesOnly}
+use Rattle.cg_disk.specs.State.{DiskState, looked, synced}
+use Rattle.cg_disk.specs.View.{DiskView, IsView, IsAtRest, IsSynced}
 use Rattle.cg_disk.specs.Calls as calls
 use Rattle.cg_disk.specs.declared.disk.DiskFault.{DiskFault}
 use Rattle.cg_disk.specs.declared.disk.DiskFault.TheVariants.{Failed, NoMemory}
-use Rattle.cg_journal.specs.Strikes.{strike_of, IsUnstruck, IsStruck}
+use Rattle.cg_journal.specs.Strikes.{IsUnstruck, IsStruck}
 use Rattle.cg_journal.specs.Reads.{IsReadOnly, IsRead, IsReadStruck, IsReadRefused, Reads}
 use Rattle.cg_journal.proofs.Moments.{started, goes_on, chained, armed_at, ahead_of}
 use Rattle.cg_journal.proofs.AddSteps.{unstruck_more, struck_more}

@@ -1,13 +1,13 @@
 -- How a run of device calls goes on.
-use Rattle.std.proofs.Common.{◌≡◌, inl, inr, ⊎_elim, ◌⊎◌, ℕ, suc, ◌≤◌, ◌<◌, Option, Some, None, IfSome, refl, sym, ◌∙◌, ap, subst, arith}
+use Rattle.std.proofs.Common.{◌≡◌, inl, inr, ⊎_elim, ℕ, ◌≤◌, ◌<◌, Option, Some, None, IfSome, refl, arith}
 use Rattle.std.specs.Option.{option_map}
-use Rattle.cg_disk.specs.Sides.{Image, bytes_of, opposite}
-use Rattle.cg_disk.specs.Writes.{Torn, TornSide, Follows, Only}
+use Rattle.cg_disk.specs.Sides.{Image, bytes_of}
+use Rattle.cg_disk.specs.Writes.{Torn, TornSide}
 use Rattle.cg_disk.specs.State.{DiskState, Strike, Blow, blow_at}
-use Rattle.cg_disk.specs.View.{DiskView, IsView, IsAtRest, LeavesOnly}
-use Rattle.cg_disk.specs.Calls.{Elapses, Looks}
+use Rattle.cg_disk.specs.View.{DiskView, IsView, LeavesOnly}
+use Rattle.cg_disk.specs.Calls.{Elapses}
 use Rattle.cg_disk.specs.declared.disk.Side.{Side}
-use Rattle.std.proofs.Common.{List, length, max}
+use Rattle.std.proofs.Common.{List}
 use Rattle.std.proofs.lemmas.Bool.Decides.{nat_tests}
 use Rattle.cg_journal.specs.Strikes.{strike_of}
 

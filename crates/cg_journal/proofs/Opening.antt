@@ -1,5 +1,5 @@
 -- A journal made, and one opened.
-use Rattle.std.proofs.Common.{◌≡◌, ℕ, ◌+◌, ◌^◌, ◌≤◌, ◌<◌, List, [], ◌∷◌, ◌++◌, length, Option, Some, None, IfSome, Result, Ok, Err, IsErrOf, OnOk, refl, sym, ◌∙◌, ap, subst, arith, lit<}
+use Rattle.std.proofs.Common.{◌≡◌, ℕ, ◌^◌, ◌<◌, List, [], ◌∷◌, ◌++◌, length, Option, Some, None, IfSome, Result, Ok, Err, IsErrOf, OnOk, refl, sym, ◌∙◌, ap, subst, arith}
 use Rattle.std.specs.Option.{option_map}
 use Rattle.cg_disk.specs.Sides.{Image, bytes_of, with_bytes}
 use Rattle.cg_disk.specs.Writes.{Only, overwritten}
@@ -10,10 +10,10 @@ use Rattle.cg_disk.specs.declared.disk.Side.{Side}
 use Rattle.cg_disk.specs.declared.disk.Side.TheVariants.{A, B}
 use Rattle.cg_disk.specs.declared.disk.DiskFault.{DiskFault}
 use Rattle.cg_disk.specs.declared.disk.DiskFault.TheVariants.{Failed, NoMemory}
-use Rattle.cg_journal.specs.Records.{Records, header, HasRecords, records, both, bodies_of, on_side}
+use Rattle.cg_journal.specs.Records.{header, HasRecords, both}
 use Rattle.cg_journal.specs.Strikes.{IsUnstruck}
 use Rattle.cg_journal.specs.Held.{Ended, IsJournal, end_on}
-use Rattle.cg_journal.specs.Fresh.{IsFresh, IsLostWithin, IsRefusedWithin, FormatsSides}
+use Rattle.cg_journal.specs.Fresh.{IsFresh, FormatsSides}
 use Rattle.cg_journal.specs.Answers.{IsDone}
 use Rattle.cg_journal.specs.Opens.{no_records}
 use Rattle.cg_journal.specs.declared.ends.Ends.{Ends}

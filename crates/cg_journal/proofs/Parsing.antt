@@ -1,14 +1,13 @@
 -- A side read from its front.
-use Rattle.std.proofs.Common.{◌≡◌, ◌≢◌, ⊎_elim, ℕ, zero, suc, ◌+◌, ◌-◌, ◌^◌, ◌≤◌, ◌<◌, ◌==◌, nat_lt, Bool, true, false, not, List, [], ◌∷◌, ◌++◌, length, get_or, take, drop, Option, Some, None, refl, sym, ◌∙◌, ap, subst, arith, append_assoc, length-append, length-take, length-drop, take-append-drop}
+use Rattle.std.proofs.Common.{◌≡◌, ◌≢◌, ⊎_elim, ℕ, zero, suc, ◌+◌, ◌^◌, ◌≤◌, ◌<◌, nat_lt, Bool, true, false, not, List, [], ◌∷◌, ◌++◌, length, get_or, take, drop, None, refl, sym, ◌∙◌, ap, subst, arith, append_assoc, length-append, length-drop, take-append-drop}
 use Rattle.std.specs.Bool.{if◌then◌else◌}
 use Rattle.std.specs.Option.{option_map}
-use Rattle.std.specs.Int.{to_be_bytes, from_be_bytes, w32}
+use Rattle.std.specs.Int.{from_be_bytes, w32}
 use Rattle.std.specs.Str.{bytes_eq}
-use Rattle.std.proofs.lemmas.List.{take_at, drop_at, drop-drop, drop_more, length-take-le, get_or-take, get_or-drop, get_or_past, drop_all}
+use Rattle.std.proofs.lemmas.List.{drop-drop, drop_more, length-take-le, get_or-take, get_or-drop, get_or_past, drop_all}
 use Rattle.std.proofs.lemmas.Nat.{be_bytes_4}
 use Rattle.std.proofs.lemmas.Bool.{cases_lt}
 use Rattle.std.proofs.lemmas.Bool.Decides.{nat_tests}
-use Rattle.std.proofs.lemmas.Slice.Eq.{bytes_eq-Decides}
 use Rattle.cg_journal.specs.Records.{header, number32, number_at, spelled, AreShort, HasRecords, body_and, bodies_from, bodies_of}
 use Rattle.cg_journal.proofs.Reading.{body_here, length-number32, number_at-number32, from_header}
 use Rattle.cg_journal.proofs.Adding.{spelled-push, short-push}

@@ -1,17 +1,16 @@
 -- A write and its sync on a disk at rest.
-use Rattle.std.proofs.Common.{◌≡◌, inl, inr, ⊎_elim, ◌⊎◌, ℕ, suc, ◌+◌, ◌≤◌, ◌<◌, ◌^◌, List, length, Option, Some, None, IfSome, Result, Ok, Err, OnOk, IsErrOf, refl, sym, ◌∙◌, ap, subst, arith}
+use Rattle.std.proofs.Common.{◌≡◌, inl, inr, ℕ, ◌+◌, ◌≤◌, ◌<◌, ◌^◌, List, length, Option, Some, None, IfSome, Result, Ok, Err, OnOk, IsErrOf, refl, sym, ◌∙◌, ap, subst, arith}
 use Rattle.std.specs.Option.{option_map}
-use Rattle.cg_disk.specs.Sides.{Image, bytes_of, with_bytes}
-use Rattle.cg_disk.specs.Writes.{TornSide, Follows, Only, overwritten}
-use Rattle.cg_disk.specs.State.{SideState, DiskState, Strike, Blow, Fails, Stops, blow_at, after_blow, synced_side, synced, looked, wrote}
+use Rattle.cg_disk.specs.Sides.{Image}
+use Rattle.cg_disk.specs.Writes.{TornSide, Follows, Only}
+use Rattle.cg_disk.specs.State.{DiskState, Blow, Fails, Stops, after_blow, synced, looked, wrote}
 use Rattle.cg_disk.specs.View.{DiskView, IsView, IsAtRest, IsSynced, LeavesOnly}
 use Rattle.cg_disk.specs.Calls as calls
 use Rattle.cg_disk.specs.declared.disk.Side.{Side}
 use Rattle.cg_disk.specs.declared.disk.Side.TheVariants.{A, B}
 use Rattle.cg_disk.specs.declared.disk.DiskFault.{DiskFault}
 use Rattle.cg_disk.specs.declared.disk.DiskFault.TheVariants.{Failed, NoMemory}
-use Rattle.cg_journal.specs.Strikes.{strike_of, IsUnstruck, IsStruck}
-use Rattle.cg_journal.specs.Put.{put_on, IsPut, IsCut, IsCutState, CutBy, IsKept, Puts}
+use Rattle.cg_journal.specs.Put.{put_on, IsPut, IsCut, CutBy, IsKept, Puts}
 use Rattle.cg_journal.proofs.Moments.{started, goes_on, torn_side_same, armed_at, ahead_of}
 
 -- a write leaves the strike as it is

@@ -1,5 +1,5 @@
 -- A record added on a side: what is so when it is done, when it is struck, and when memory was refused.
-use Rattle.std.specs.Prelude.{◌≡◌, ◌≢◌, ◌⊎◌, ℕ, ◌+◌, ◌-◌, ◌^◌, ◌≤◌, ◌<◌, ◌==◌, nat_lt, Bool, true, false, ◌&&◌, List, [], ◌∷◌, ◌++◌, length, Option, Some, None, Result, Ok, Err, slice_index, if◌then◌else◌}
+use Rattle.std.specs.Prelude.{◌≡◌, ◌≢◌, ◌⊎◌, ℕ, ◌+◌, ◌-◌, ◌^◌, ◌≤◌, ◌<◌, ◌==◌, nat_lt, Bool, true, false, ◌&&◌, List, [], ◌∷◌, ◌++◌, length, Option, Some, Result, Ok, Err, slice_index, if◌then◌else◌}
 use Rattle.std.specs.Option.{option_map}
 use Rattle.cg_disk.specs.Sides.{Image, bytes_of, opposite}
 use Rattle.cg_disk.specs.State.{SideState, DiskState, Strike, Blow, Fails, Stops, is_unsynced, left_by}

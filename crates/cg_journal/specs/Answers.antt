@@ -1,11 +1,11 @@
 -- What the calls of a journal answer.
-use Rattle.std.specs.Prelude.{◌≡◌, ◌⊎◌, ℕ, ◌+◌, ◌≤◌, List, [], Option, Some, Result, Ok, Err}
+use Rattle.std.specs.Prelude.{◌≡◌, ◌⊎◌, ℕ, ◌+◌, ◌≤◌, List, Option, Some, Result, Ok, Err}
 use Rattle.std.specs.Option.{option_map}
 use Rattle.cg_disk.specs.Sides.{Image}
 use Rattle.cg_disk.specs.View.{DiskView, IsAtRest, LeavesOnly}
 use Rattle.cg_disk.specs.declared.disk.Side.{Side}
 use Rattle.cg_journal.specs.Records.{Records, records, added, emptied, on_side}
-use Rattle.cg_journal.specs.Strikes.{IsUnstruck, IsStruck}
+use Rattle.cg_journal.specs.Strikes.{IsUnstruck}
 use Rattle.cg_journal.specs.Adds.{IsEither, IsLostIn}
 use Rattle.cg_journal.specs.Closes.{IsLostClosing}
 use Rattle.cg_journal.specs.Held.{end_of}

@@ -1,5 +1,5 @@
 -- What a journal keeps of its disk.
-use Rattle.std.specs.Prelude.{◌≡◌, ℕ, ◌+◌, ◌^◌, ◌<◌, List, length}
+use Rattle.std.specs.Prelude.{ℕ, ◌+◌, ◌^◌, ◌<◌, List, length}
 use Rattle.cg_disk.specs.Sides.{bytes_of}
 use Rattle.cg_disk.specs.View.{DiskView, IsAtRest}
 use Rattle.cg_disk.specs.declared.disk.Side.{Side}

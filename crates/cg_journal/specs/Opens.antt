@@ -1,11 +1,9 @@
 -- What the making and the opening of a journal answer.
-use Rattle.std.specs.Prelude.{◌≡◌, ℕ, ◌+◌, ◌≤◌, List, [], Option, Some, None, Result, Ok, Err}
-use Rattle.cg_disk.specs.Sides.{Image}
-use Rattle.cg_disk.specs.View.{DiskView, IsAtRest, LeavesOnly}
+use Rattle.std.specs.Prelude.{◌≡◌, ℕ, List, [], Option, Some, None, Result, Ok, Err}
+use Rattle.cg_disk.specs.View.{DiskView}
 use Rattle.cg_journal.specs.Records.{Records, records}
-use Rattle.cg_journal.specs.Strikes.{IsUnstruck, IsStruck}
 use Rattle.cg_journal.specs.Fresh.{IsLostWithin, IsRefusedWithin}
-use Rattle.cg_journal.specs.Reads.{IsReadOnly, IsRead, IsReadStruck, IsReadRefused}
+use Rattle.cg_journal.specs.Reads.{IsRead, IsReadStruck, IsReadRefused}
 use Rattle.cg_journal.specs.Answers.{IsDone}
 use Rattle.cg_journal.specs.declared.open.FormatErr.{FormatErr}
 use Rattle.cg_journal.specs.declared.open.FormatErr.TheVariants.{Lost as FormatLost, NoMemory as FormatNoMemory}

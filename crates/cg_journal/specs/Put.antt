@@ -1,9 +1,9 @@
 -- A write and its sync on a disk at rest.
-use Rattle.std.specs.Prelude.{◌≡◌, ◌⊎◌, ℕ, ◌+◌, ◌^◌, ◌<◌, List, length, Option, Some, None, Result, Ok, Err}
+use Rattle.std.specs.Prelude.{◌≡◌, ◌⊎◌, ℕ, ◌+◌, ◌^◌, ◌<◌, List, length, Some, Result, Ok, Err}
 use Rattle.cg_disk.specs.Sides.{Image, bytes_of, with_bytes}
 use Rattle.cg_disk.specs.Writes.{TornSide, overwritten}
 use Rattle.cg_disk.specs.State.{DiskState, Strike, Blow, Fails, Stops, synced_side, wrote}
-use Rattle.cg_disk.specs.View.{DiskView, IsAtRest, LeavesOnly}
+use Rattle.cg_disk.specs.View.{DiskView, IsAtRest}
 use Rattle.cg_disk.specs.Calls.{HasImages}
 use Rattle.cg_disk.specs.declared.disk.Side.{Side}
 use Rattle.cg_disk.specs.declared.disk.DiskFault.{DiskFault}

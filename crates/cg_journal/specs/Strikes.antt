@@ -1,5 +1,5 @@
 -- How calls that make device calls go past a strike that is armed, or reach it.
-use Rattle.std.specs.Prelude.{◌≡◌, ℕ, ◌<◌, Option, Some, None, IfSome}
+use Rattle.std.specs.Prelude.{◌≡◌, ◌<◌, Option, Some, IfSome}
 use Rattle.std.specs.Option.{option_map}
 use Rattle.cg_disk.specs.State.{DiskState, Strike}
 use Rattle.cg_disk.specs.View.{DiskView}

@@ -5,10 +5,11 @@ ghost use Rattle.cg_journal.specs.Records.{framed};
 use cg_base::NoMemory;
 use std::alloc::Global;
 
+// The byte of a closed gate; any but 1 is.
 const CLOSED: u8 = 0;
 
-#[tactic(auto, unfolding(crate::specs::Records::number32))]
 /// The length of the body, the body, and the closed gate of the next record.
+#[tactic(auto, unfolding(crate::specs::Records::number32))]
 pub fn framed(alloc: Global, body: &[u8]) -> Result<Vec<u8>, NoMemory>
     requires { length body.now < 2 ^ 32 }
     ensures { IfOk result (λ bytes. bytes.items ≡ framed body.now) }

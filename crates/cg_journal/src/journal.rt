@@ -35,7 +35,9 @@ impl<D: Disk> Model for Journal<D> {
 /// What ended an append or a restart.
 #[derive(Drop)]
 pub enum AppendErr<D: Disk> {
+    /// A device call failed. The disk's images stand for the records before or after.
     Lost(D),
+    /// Memory was refused, and no device call failed.
     NoMemory(Journal<D>),
 }
 

@@ -4,6 +4,7 @@ use cg_disk::Disk;
 /// What ended the formatting of a disk.
 #[derive(Drop)]
 pub enum FormatErr<D: Disk> {
+    /// A device call failed.
     Lost(D),
     NoMemory(D),
 }
@@ -11,7 +12,9 @@ pub enum FormatErr<D: Disk> {
 /// What ended the opening of a journal.
 #[derive(Drop)]
 pub enum JournalOpen<D: Disk> {
+    /// A device call failed.
     Lost(D),
+    /// A side is shorter than nine bytes, lacks the header, or ends in a record that doesn't fit.
     NotAJournal(D),
     NoMemory(D),
 }

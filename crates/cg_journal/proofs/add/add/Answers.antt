@@ -1,7 +1,7 @@
-use Rattle.std.proofs.Common.{◌≡◌, ◌+◌, ◌-◌, [], ◌∷◌, List, ℕ, length, Err, sym, ap, subst}
+use Rattle.std.proofs.Common.{◌-◌, length, Err, subst}
 use Rattle.std.specs.Option.{option_map}
 use Rattle.cg_disk.specs.Writes.{TornSide}
-use Rattle.cg_journal.specs.Records.{framed, records, added}
+use Rattle.cg_journal.specs.Records.{records, added}
 use Rattle.cg_journal.specs.Put.{IsPut, Puts}
 use Rattle.cg_journal.specs.Adds.{IsEither}
 use Rattle.cg_journal.proofs.Moments.{chained, weakened}

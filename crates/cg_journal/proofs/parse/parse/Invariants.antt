@@ -1,4 +1,4 @@
-use Rattle.std.proofs.Common.{◌-◌, length, map}
+use Rattle.std.proofs.Common.{◌-◌, length}
 use Rattle.cg_journal.proofs.Parsing.{IsReadTo}
 use Rattle.cg_journal.proofs.parse.parse.Given as goal
 

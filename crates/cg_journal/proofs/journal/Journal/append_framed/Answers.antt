@@ -1,7 +1,7 @@
-use Rattle.std.proofs.Common.{◌≡◌, ◌+◌, ◌-◌, ◌^◌, ◌<◌, List, ℕ, length, Ok, Err, sym, ◌∙◌, ap, subst, arith}
+use Rattle.std.proofs.Common.{◌≡◌, ◌+◌, ◌-◌, length, Err, sym, ◌∙◌, ap, subst, arith}
 use Rattle.cg_disk.specs.Sides.{bytes_of}
 use Rattle.cg_disk.specs.View.{LeavesOnly}
-use Rattle.cg_journal.specs.Records.{HasRecords, framed, records}
+use Rattle.cg_journal.specs.Records.{HasRecords, records}
 use Rattle.cg_journal.specs.Adds.{Adds, IsEither, IsAdded, IsNotAdded, IsLostIn}
 use Rattle.cg_journal.specs.Held.{end_on, with_end, IsJournal}
 use Rattle.cg_journal.specs.Answers.{with_record, IsDone, IsRefused, IsLostAppend}

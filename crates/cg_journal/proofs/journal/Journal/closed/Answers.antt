@@ -1,11 +1,11 @@
-use Rattle.std.proofs.Common.{◌≡◌, ℕ, ◌+◌, List, Err, sym, ◌∙◌, ap, subst}
+use Rattle.std.proofs.Common.{◌≡◌, ℕ, Err, sym, subst}
 use Rattle.cg_disk.specs.Sides.{bytes_of}
 use Rattle.cg_disk.specs.View.{LeavesOnly}
 use Rattle.cg_journal.specs.Records.{HasRecords, records}
 use Rattle.cg_journal.specs.Adds.{IsEither}
 use Rattle.cg_journal.specs.Put.{IsKept}
-use Rattle.cg_journal.specs.Closes.{IsClosed, IsLostClosing, Closes}
-use Rattle.cg_journal.specs.Held.{end_on, with_end, IsJournal}
+use Rattle.cg_journal.specs.Closes.{IsLostClosing, Closes}
+use Rattle.cg_journal.specs.Held.{IsJournal}
 use Rattle.cg_journal.specs.Answers.{without_records, IsDone, IsRefused}
 use Rattle.cg_journal.proofs.Appending.{closed_held, closed_done, kept_held, kept_refused}
 use Rattle.cg_journal.proofs.journal.Journal.closed.Goals as goal
