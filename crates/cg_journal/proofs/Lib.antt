@@ -1,0 +1,12 @@
+mod AddSteps
+mod Adding
+mod Appending
+mod Both
+mod Closing
+mod Fills
+mod Looking
+mod Moments
+mod Opening
+mod Parsing
+mod Putting
+mod Reading

@@ -1,0 +1,9 @@
+use Rattle.std.proofs.Common.{◌-◌, length}
+use Rattle.cg_journal.proofs.Parsing.{IsReadTo}
+use Rattle.cg_journal.proofs.parse.parse.Given as goal
+
+abbrev pub invariant-loop-gate : goal.invariant-loop-gate
+invariant-loop-gate l = IsReadTo l.side l.gate l.bodies.items
+
+abbrev pub decreases-loop-gate : goal.decreases-loop-gate
+decreases-loop-gate l = length l.side - l.gate

@@ -1,0 +1,10 @@
+pub mod Records
+pub mod Strikes
+pub mod Put
+pub mod Adds
+pub mod Closes
+pub mod Held
+pub mod Answers
+pub mod Reads
+pub mod Fresh
+pub mod Opens

@@ -1,0 +1,23 @@
+//! Records on the two sides of a disk, each behind a gate.
+//!
+//! The one contract: at each moment of an append every image that a crash may leave stands for the records before it or
+//! for those with the new one, after Ok for the latter, and after a fault the byte at the new record's gate decides.
+//! A restart says the same of one record in place of a side's others. Clauses see a journal as its disk, and its records
+//! as what the bytes of a side spell. What a body means is left to the store above.
+#![tactic(auto)]
+
+mod add;
+mod close;
+mod ends;
+mod format;
+mod framed;
+mod journal;
+mod load;
+mod open;
+mod parse;
+mod put;
+#[cfg(test)]
+mod tests;
+
+pub use journal::{AppendErr, Journal};
+pub use open::{FormatErr, JournalOpen};

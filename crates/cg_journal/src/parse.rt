@@ -1,0 +1,78 @@
+//! The records that the bytes of a side spell.
+ghost use Rattle.std.specs.Prelude.{◌≡◌, ◌+◌, ◌<◌, ◌≤◌, ◌^◌, nat_lt, None, Some, length, IfOk, MatchOption};
+ghost use Rattle.cg_journal.specs.Records.{HasRecords, both, bodies_of, number_at};
+
+use cg_base::{Bytes, BytesList, NoMemory};
+use std::alloc::Global;
+
+/// The bytes at the front of a side.
+pub const HEADER: [u8; 8] = *b"CGRUITY2";
+
+/// The byte of an open gate.
+pub const OPEN: u8 = 1;
+
+/// The records of a side, and where they end.
+#[derive(Drop)]
+pub struct Parsed {
+    pub bodies: BytesList,
+    pub end: u64,
+}
+
+/// Reads a side from its front. There is no answer where it isn't the side of a journal.
+pub fn parse(alloc: Global, side: &[u8]) -> Result<Option<Parsed>, NoMemory>
+    ensures read { IfOk result (λ parsed. MatchOption parsed (bodies_of side.now ≡ None) (λ p. bodies_of side.now ≡ Some p.bodies)) }
+    ensures end { IfOk result (λ parsed. MatchOption parsed (⊥ → ⊥) (λ p. HasRecords side.now p.end p.bodies)) }
+{
+    if side.len() < 9 {
+        return Ok(None);
+    }
+    if side[..8] != HEADER[..] {
+        return Ok(None);
+    }
+    let mut bodies = Vec::new(alloc);
+    let mut gate = 8;
+    while side[gate] == OPEN {
+        let rest = &side[gate + 1..];
+        if !fits(rest) {
+            return Ok(None);
+        }
+        let size = size_at(rest) as usize;
+        bodies.push(Bytes::from_slice(alloc, &rest[4..4 + size])?)?;
+        gate += 5 + size;
+    }
+    Ok(Some(Parsed {
+        bodies: BytesList::from_vec(bodies),
+        end: gate as u64 + 1,
+    }))
+}
+
+// The length of a body.
+fn size_at(bytes: &[u8]) -> u32
+    requires { 4 ≤ length bytes.now }
+    ensures { result ≡ number_at bytes.now }
+{
+    u32::from_be_bytes([bytes[0], bytes[1], bytes[2], bytes[3]])
+}
+
+// Whether the length, the body and the gate behind it lie in these bytes.
+fn fits(bytes: &[u8]) -> bool
+    ensures { result ≡ nat_lt (4 + number_at bytes.now) (length bytes.now) }
+{
+    bytes.len() >= 4 && 4 + (size_at(bytes) as usize) < bytes.len()
+}
+
+/// Reads both sides. There is no answer where one of them isn't the side of a journal.
+pub fn parse_both(alloc: Global, a: &[u8], b: &[u8]) -> Result<Option<(Parsed, Parsed)>, NoMemory>
+    ensures read { IfOk result (λ parsed. MatchOption parsed (both (bodies_of a.now) (bodies_of b.now) ≡ None) (λ p. both (bodies_of a.now) (bodies_of b.now) ≡ Some (record { a = p.0.bodies; b = p.1.bodies }))) }
+    ensures end_a { IfOk result (λ parsed. MatchOption parsed (⊥ → ⊥) (λ p. HasRecords a.now p.0.end p.0.bodies)) }
+    ensures end_b { IfOk result (λ parsed. MatchOption parsed (⊥ → ⊥) (λ p. HasRecords b.now p.1.end p.1.bodies)) }
+{
+    let parsed_a = match parse(alloc, a)? {
+        Some(parsed) => parsed,
+        None => return Ok(None),
+    };
+    match parse(alloc, b)? {
+        Some(parsed_b) => Ok(Some((parsed_a, parsed_b))),
+        None => Ok(None),
+    }
+}
