@@ -1,23 +1,97 @@
 -- The text of a step.
-use Rattle.std.specs.Prelude.{ℕ, List, [], ◌∷◌, ◌++◌, decimal, codes}
+use Rattle.std.specs.Prelude.{ℕ, ◌==◌, Bool, ◌&&◌, List, [], ◌∷◌, ◌++◌, Option, Some, None, decimal, codes, length, if◌then◌else◌}
 use Rattle.std.specs.List.{flat_map}
+use Rattle.std.specs.Fmt.{signed_decimal}
+use Rattle.cg_base.specs.Text.{id_text, id_list_text}
+use Rattle.cg_text.specs.Quoted.{quoted}
+use Rattle.cg_action.specs.Print.{value_text, kind_text}
+use Rattle.cg_db.specs.declared.answer.Answer.{Answer}
+use Rattle.cg_db.specs.declared.answer.Answer.TheVariants.{Absent, Text, Int, Keys, Count}
+use Rattle.cg_db.specs.declared.effect.Effect.{Effect}
+use Rattle.cg_db.specs.declared.effect.Effect.TheVariants.{Done, Aborted, Range}
+use Rattle.cg_db.specs.declared.entry.DbEntry.{DbEntry}
 use Rattle.cg_world.specs.declared.line.Line.{Line}
+use Rattle.cg_world.specs.declared.entry.Made.{Made}
+use Rattle.cg_world.specs.declared.entry.Placed.{Placed}
+use Rattle.cg_world.specs.declared.entry.Reply.{Reply}
+use Rattle.cg_world.specs.declared.entry.Shown.{Shown}
+use Rattle.cg_world.specs.declared.entry.Shown.TheVariants.{Greens, Database, All}
 use Rattle.cg_world.specs.declared.entry.Entry.{Entry}
 use Rattle.cg_world.specs.World.{Step}
 use Rattle.cg_world.specs.LineText.{line_text}
 
--- a line with its end
+-- an action that is shown as made, with what it does
+abbrev pub made_text : Made → List ℕ
+made_text m = codes "made " ++ id_text m.id ++ codes " " ++ kind_text m.kind
+
+-- a place of the order
+abbrev pub order_text : Placed → List ℕ
+order_text o = codes "order " ++ decimal o.place ++ codes " " ++ id_text o.id
+
+-- what an action did
+abbrev pub effect_text : Effect → List ℕ
+effect_text Done = codes "done"
+effect_text (Aborted place) = codes "aborted " ++ decimal place
+effect_text (Range place) = codes "range " ++ decimal place
+
+-- a key behind others
+abbrev pub next_key_text : List ℕ → List ℕ
+next_key_text key = codes " " ++ quoted key
+
+-- what a query found
+abbrev pub answer_text : Answer → List ℕ
+answer_text Absent = codes "absent"
+answer_text (Text t) = quoted t
+answer_text (Int n) = signed_decimal n
+answer_text (Keys keys) = codes "keys" ++ flat_map next_key_text keys
+answer_text (Count n) = codes "count " ++ decimal n
+
+-- the answer behind an effect, where there is one
+abbrev pub answered_text : Option Answer → List ℕ
+answered_text None = []
+answered_text (Some a) = codes " ? " ++ answer_text a
+
+abbrev pub reply_text : Reply → List ℕ
+reply_text r = codes "reply " ++ id_text r.id ++ codes " " ++ effect_text r.effect ++ answered_text r.answer
+
+-- an entry of a database, behind others
+abbrev pub next_entry_text : DbEntry → List ℕ
+next_entry_text e = codes " " ++ quoted e.key ++ codes "=" ++ value_text e.value
+
+-- what was asked to be shown
+abbrev pub shown_text : Shown → List ℕ
+shown_text (Greens p list) = codes "greens " ++ decimal p ++ codes " " ++ id_list_text list
+shown_text (Database p entries) = codes "db " ++ decimal p ++ flat_map next_entry_text entries
+shown_text (All list) = codes "all " ++ id_list_text list
+
+-- each with its end
+
+abbrev pub made_line : Made → List ℕ
+made_line m = made_text m ++ codes "\n"
+
+abbrev pub order_line : Placed → List ℕ
+order_line o = order_text o ++ codes "\n"
+
 abbrev pub ended_line : Line → List ℕ
-ended_line l = line_text l ++ 10 ∷ []
+ended_line l = line_text l ++ codes "\n"
 
--- nothing, or the step's number and the lines
-abbrev pub numbered : ℕ → List Line → List ℕ
-numbered step [] = []
-numbered step (l ∷ ls) = codes "= " ++ decimal step ++ codes "\n" ++ flat_map ended_line (l ∷ ls)
+abbrev pub reply_line : Reply → List ℕ
+reply_line r = reply_text r ++ codes "\n"
 
--- what a step puts
+abbrev pub shown_line : Shown → List ℕ
+shown_line s = shown_text s ++ codes "\n"
+
+-- all of it
+abbrev pub body_text : Entry → List ℕ
+body_text e = flat_map made_line e.made ++ flat_map order_line e.orders ++ flat_map ended_line e.lines ++ flat_map reply_line e.replies ++ flat_map shown_line e.shown
+
+-- nothing is shown
+abbrev pub is_silent : Entry → Bool
+is_silent e = (length e.made == 0) && (length e.orders == 0) && (length e.lines == 0) && (length e.replies == 0) && (length e.shown == 0)
+
+-- what a step puts: nothing, or its number and what it shows
 abbrev pub entry_text : ℕ → Entry → List ℕ
-entry_text step e = numbered step e.lines
+entry_text step e = if is_silent e then [] else codes "= " ++ decimal step ++ codes "\n" ++ body_text e
 
 -- the report of a run, without its tail
 abbrev pub report_text : List Step → List ℕ

@@ -6,9 +6,9 @@ use Rattle.cg_world.specs.declared.line.StateName.{StateName}
 use Rattle.cg_world.specs.declared.line.StateName.TheVariants.{RegPrim, TransPrim, ExchangeStates, ExchangeActions, Construct, No, Un, NonPrim, Left}
 use Rattle.cg_world.specs.declared.line.ShownPhase.{ShownPhase}
 use Rattle.cg_world.specs.declared.line.ShownPhase.TheVariants.{Alone, Regular, Transitional}
-use Rattle.cg_world.specs.declared.line.Primary.{Primary}
-use Rattle.cg_world.specs.declared.line.Vulnerable.{Vulnerable}
-use Rattle.cg_world.specs.declared.line.Yellow.{Yellow}
+use Rattle.cg_records.specs.declared.primary.Primary.{Primary}
+use Rattle.cg_records.specs.declared.vulnerable.Vulnerable.{Vulnerable}
+use Rattle.cg_records.specs.declared.yellow.Yellow.{Yellow}
 use Rattle.cg_world.specs.declared.line.View.{View}
 use Rattle.cg_world.specs.declared.line.UpLine.{UpLine}
 use Rattle.cg_world.specs.declared.line.Line.{Line}

@@ -1,8 +1,49 @@
 use crate::Line;
-use cg_base::Row;
+use cg_action::Kind;
+use cg_base::{ActionId, IdList, ReplicaId, Row};
+use cg_db::{Answer, Effect, EntryList};
 
-/// All that a step shows: the lines of the replicas that differ from their last ones, ascending.
+/// An action that is shown as made: its name, and what it does.
+#[derive(Drop)]
+pub struct Made {
+    pub id: ActionId,
+    pub kind: Kind,
+}
+
+/// A place of the global order, counted from 1, and the name of its action.
+#[derive(Clone, Copy, Debug)]
+pub struct Placed {
+    pub place: u64,
+    pub id: ActionId,
+}
+
+/// What a client is told of its request: what the action did, and what its query finds behind it.
+#[derive(Drop)]
+pub struct Reply {
+    pub id: ActionId,
+    pub effect: Effect,
+    pub answer: Option<Answer>,
+}
+
+/// What an event asks to be shown.
+#[derive(Drop)]
+pub enum Shown {
+    /// A replica's green actions, in order.
+    Greens { p: ReplicaId, list: IdList },
+    /// A replica's database, ascending by key.
+    Database { p: ReplicaId, entries: EntryList },
+    /// The global order.
+    All(IdList),
+}
+
+/// All that a step shows, part by part: the actions made in it; the places of the global order that a replica was the
+/// first to reach; the lines of the replicas that differ from their last ones, ascending; the replies given; and what
+/// its event asked for.
 #[derive(Drop)]
 pub struct Entry {
+    pub made: Row<Made>,
+    pub orders: Row<Placed>,
     pub lines: Row<Line>,
+    pub replies: Row<Reply>,
+    pub shown: Row<Shown>,
 }

@@ -1,4 +1,5 @@
-use cg_base::{IdList, IdSet, ReplicaId, WeightSet};
+use cg_base::{IdList, IdSet, ReplicaId};
+use cg_records::{Primary, Vulnerable, Yellow};
 
 /// The state of a replica.
 #[derive(Clone, Copy, Debug, PartialEq, Eq)]
@@ -20,32 +21,6 @@ pub enum ShownPhase {
     Alone,
     Regular(u64),
     Transitional(u64),
-}
-
-/// A primary component: its index, the number of the configuration that it was made in, and its members with their weights.
-#[derive(Clone, Copy, Debug)]
-pub struct Primary {
-    pub index: u64,
-    pub conf: u64,
-    pub set: WeightSet,
-}
-
-/// The record of an attempt to make a primary component: the number of its configuration, the index that it was made
-/// from, its members, and those of them that are known to hold the record too.
-#[derive(Clone, Copy, Debug, PartialEq, Eq)]
-pub struct Vulnerable {
-    pub attempt: u64,
-    pub from: u64,
-    pub set: IdSet,
-    pub bits: IdSet,
-}
-
-/// Actions that were delivered in a transitional configuration of a primary component, in order, and whether the list is
-/// known to be whole.
-#[derive(Drop)]
-pub struct Yellow {
-    pub valid: bool,
-    pub list: IdList,
 }
 
 /// What a replica's line shows of what it holds.
