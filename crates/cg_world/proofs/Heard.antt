@@ -76,13 +76,13 @@ announcements-both : (S : List ℕ) (conf : ℕ) (heard : List ℕ) (P : State �
 announcements-both S conf heard P r c = cond_both (is_within S heard) (RegPrim conf) (Construct conf heard) P (λ y. r) (λ n. c)
 
 -- what a message may make of a state that waits
-hear_state-both : (S : List ℕ) (conf : ℕ) (heard : List ℕ) (from : ℕ) (s : Summary) (P : State → Type 0) →
+pub hear_state-both : (S : List ℕ) (conf : ℕ) (heard : List ℕ) (from : ℕ) (s : Summary) (P : State → Type 0) →
     P (ExchangeStates conf heard) → P (Construct conf []) → P (ExchangeStates conf (with_member heard from)) → P (hear_state S (ExchangeStates conf heard) from s)
 hear_state-both S conf heard from s P same c e =
     cond_both ((s.id == from) && (s.conf == conf)) (states_heard S conf (with_member heard from)) (ExchangeStates conf heard) P
     (λ y. states-both S conf (with_member heard from) P c e) (λ n. same)
 
-hear_announcement-both : (S : List ℕ) (conf : ℕ) (heard : List ℕ) (from id in_conf : ℕ) (P : State → Type 0) →
+pub hear_announcement-both : (S : List ℕ) (conf : ℕ) (heard : List ℕ) (from id in_conf : ℕ) (P : State → Type 0) →
     P (Construct conf heard) → P (RegPrim conf) → P (Construct conf (with_member heard from)) → P (hear_announcement S (Construct conf heard) from id in_conf)
 hear_announcement-both S conf heard from id in_conf P same r c =
     cond_both ((id == from) && (in_conf == conf)) (announcements_heard S conf (with_member heard from)) (Construct conf heard) P
@@ -160,7 +160,7 @@ after-kept S P kept ordered n p =
 
 -- actions only come to those that are there
 abbrev pub Front : List Action → List Action → Type 0
-Front as bs = (rest : List Action) × (bs ≡ as ++ rest)
+Front xs ys = (rest : List Action) × (ys ≡ xs ++ rest)
 
 learned-front : (S : List ℕ) (k : Known) (from : ℕ) (m : Option Msg) → Front k.acts (learned_of S k from m).acts
 learned-front S k from None = ([], sym (append-nil k.acts))
@@ -176,7 +176,7 @@ fold-front S [] k = ([], sym (append-nil k.acts))
 fold-front S (s ∷ ordered) k =
     let one = learned-front S k s.from (message_in s.message) in
     let more = fold-front S ordered (learned S k s) in
-    (one.0 ++ more.0, more.1 ∙ ap (λ as. as ++ more.0) one.1 ∙ append_assoc k.acts one.0 more.0)
+    (one.0 ++ more.0, more.1 ∙ ap (λ xs. xs ++ more.0) one.1 ∙ append_assoc k.acts one.0 more.0)
 
 pub after-front : (S : List ℕ) (ordered : List (Sent M)) (n : ℕ) → Front (after S (take n ordered)).acts (after S ordered).acts
 after-front S ordered n =

@@ -1,0 +1,6 @@
+pub mod Heard
+pub mod Lists
+pub mod Numbered
+pub mod Pictures
+pub mod Said
+pub mod Wire
