@@ -1,6 +1,11 @@
+pub mod Acted
+pub mod Formed
 pub mod Heard
 pub mod Lists
 pub mod Numbered
 pub mod Pictures
 pub mod Said
+pub mod Telling
+pub mod Together
+pub mod Turns
 pub mod Wire
