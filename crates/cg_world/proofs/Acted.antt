@@ -20,7 +20,7 @@ use Rattle.cg_world.specs.Replica.{Turn, begin, is_reg_prim, create, buffer, ask
 use Rattle.cg_world.specs.World.{new_in_order}
 use Rattle.cg_world.proofs.Numbered.{AreNumbered}
 use Rattle.cg_world.proofs.Pictures.{M, Pic, waiting, counted}
-use Rattle.cg_world.proofs.Heard.{Known, after, after-front}
+use Rattle.cg_world.proofs.Heard.{Known, Front, after, after-front}
 use Rattle.cg_world.proofs.Said.{action_msgs, voiced, IsEarly, voiced-more}
 use Rattle.cg_world.proofs.Formed.{Knows, Member, Formed, Reached, member-kept}
 use Rattle.cg_world.proofs.Turns.{new_actions, made_line, with_created, create-all, new_actions-length, new_actions-numbered, new_actions-limits, TurnAt, turn-begins}
@@ -218,14 +218,8 @@ drop-front [] ys = refl
 drop-front (x ∷ xs) ys = drop-front xs ys
 
 -- what is known behind fewer messages is a front of what is known behind more
-front-of : (S : List ℕ) (ordered : List (Sent M)) (a b : ℕ) → a ≤ b → (rest : List ActionId) × (names_of (after S (take b ordered)).acts ≡ names_of (after S (take a ordered)).acts ++ rest)
-unfolding names_of
-front-of S ordered a b le =
-    let front = after-front S (take b ordered) a in
-    let same : take a (take b ordered) ≡ take a ordered = take-take a b ordered le in
-    (map (λ (a : Action). a.id) front.0,
-    ap (map (λ (a : Action). a.id)) front.1 ∙ map-append (λ (a : Action). a.id) (after S (take a (take b ordered))).acts front.0
-    ∙ ap (λ o. map (λ (a : Action). a.id) (after S o).acts ++ map (λ (a : Action). a.id) front.0) same)
+pub acts-front : (S : List ℕ) (ordered : List (Sent M)) (a b : ℕ) → a ≤ b → Front (after S (take a ordered)).acts (after S (take b ordered)).acts
+acts-front S ordered a b le = subst (λ o. Front (after S o).acts (after S (take b ordered)).acts) (take-take a b ordered le) (after-front S (take b ordered) a)
   where
     take-take : (a b : ℕ) (xs : List (Sent M)) → a ≤ b → take a (take b xs) ≡ take a xs
     take-take zero b xs le = refl
@@ -233,7 +227,13 @@ front-of S ordered a b le =
     take-take (suc a) (suc b) [] le = refl
     take-take (suc a) (suc b) (x ∷ xs) le = ap (λ z. x ∷ z) (take-take a b xs (omega (arith, le)))
 
-le_or_lt : (a b : ℕ) → (a ≤ b) ⊎ (b < a)
+front-of : (S : List ℕ) (ordered : List (Sent M)) (a b : ℕ) → a ≤ b → (rest : List ActionId) × (names_of (after S (take b ordered)).acts ≡ names_of (after S (take a ordered)).acts ++ rest)
+unfolding names_of
+front-of S ordered a b le =
+    let front = acts-front S ordered a b le in
+    (map (λ (a : Action). a.id) front.0, ap (map (λ (a : Action). a.id)) front.1 ∙ map-append (λ (a : Action). a.id) (after S (take a ordered)).acts front.0)
+
+pub le_or_lt : (a b : ℕ) → (a ≤ b) ⊎ (b < a)
 le_or_lt zero b = inl (omega arith)
 le_or_lt (suc a) zero = inr (omega arith)
 le_or_lt (suc a) (suc b) = ⊎_elim (λ le. inl (omega (arith, le))) (λ lt. inr (omega (arith, lt))) (le_or_lt a b)

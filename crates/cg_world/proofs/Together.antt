@@ -22,7 +22,7 @@ use Rattle.cg_group.specs.Refusals.{not_up, not_regular, nothing_to_order, no_su
 use Rattle.cg_group.specs.Synchrony.{ordered_from}
 use Rattle.cg_group.proofs.Each.{Each}
 use Rattle.cg_group.proofs.Picture.{put}
-use Rattle.cg_group.proofs.Lookups.{put-own}
+use Rattle.cg_group.proofs.Lookups.{put-own, put-same}
 use Rattle.cg_group.proofs.Places.{ready_in-within}
 use Rattle.cg_group.proofs.Admitted.{first_none, refuse_none}
 use Rattle.cg_schedule.specs.declared.event.Event.TheVariants.{Request, Order, Receive, Deliver}
@@ -35,9 +35,9 @@ use Rattle.cg_world.specs.Replica.{Turn, begin, is_reg_prim, create, buffer, ask
 use Rattle.cg_world.specs.World.{no_entry, silently, replica_of, unknown, with_replica, new_in_order, with_turn, after_turn, ask, hand, hand_out, world_step, first_refusal}
 use Rattle.cg_world.proofs.Numbered.{made_by, total-bound, set-small}
 use Rattle.cg_world.proofs.Pictures.{M, Pic, pic, same_pic, waiting, counted, order-none, order-some, receive-same, send_all-waits, delivered-counted}
-use Rattle.cg_world.proofs.Telling.{find-other, find-new, found_id, answers}
+use Rattle.cg_world.proofs.Telling.{find-other, find-new, found_id, names-with, answers}
 use Rattle.cg_world.proofs.Wire.{Exact}
-use Rattle.cg_world.proofs.Heard.{Known, after, after-front, after-one, InOne, acts_in}
+use Rattle.cg_world.proofs.Heard.{Known, after, after-front, after-one, InOne, HasEarned, after-earned, acts_in}
 use Rattle.cg_world.proofs.Said.{acts_in-append, acts_in-voiced, member-is_id}
 use Rattle.cg_world.proofs.Formed.{Knows, Member, Formed, Reached, member-kept, formed-moved, reached-moved}
 use Rattle.cg_world.proofs.Turns.{TurnAt, turn-at}
@@ -47,15 +47,15 @@ pub record Together (W : List Weighted) (n : ℕ) (made : ℕ → List Action) (
   pub one : length w.group.configurations ≡ 1
   pub formed : Formed W n made (pic w.group) (replica_of w)
   pub reached : Reached W (pic w.group) w.order
+  pub named : map (λ r. r.id) w.replicas ≡ ids W
 
 -- what stands behind an event at one replica
-pub record ActedAt (W : List Weighted) (n : ℕ) (made : ℕ → List Action) (Behind : (ℕ → List Action) → World → Type 0) (w : World) (m : Moved) (p : ℕ) : Type 0 where
+pub record ActedAt (W : List Weighted) (n : ℕ) (made : ℕ → List Action) (Behind : (ℕ → List Action) → World → Type 0) (w : World) (m : Moved) (p : ℕ) (acts : List Action) : Type 0 where
   pub old : Replica
   pub turn : Turn
   pub new : List Action
   pub first : Known
   pub known : Known
-  pub acts : List Action
   pub begun : replica_of w p ≡ Some old
   pub id : old.id ≡ p
   pub servers : old.servers ≡ W
@@ -64,6 +64,8 @@ pub record ActedAt (W : List Weighted) (n : ℕ) (made : ℕ → List Action) (B
   pub order : m.world.order ≡ w.order ++ new_in_order w.order turn.replica
   pub short : length old.greens ≤ length w.order
   pub knew : Knows old first
+  pub earned : HasEarned known
+  pub traced : (known.acts ≡ []) ⊎ (known.acts ≡ (after (ids W) (take ((pic m.world.group).delivered p) (pic m.world.group).ordered)).acts)
   pub ended : Ended W n (made p) new known old turn
   pub grown : known.acts ≡ first.acts ++ acts
   pub replies : turn.replies ≡ answers p (fold_actions first.acts) acts
@@ -228,7 +230,7 @@ module _ (exact : Exact) (W : List Weighted) (set : IsWeightSet W) (n n' : ℕ) 
       Ended W n' (made p) new (after (ids W) (take d (pic w.group).ordered)) own.replica turn →
       (acts : List Action) → (after (ids W) (take d (pic w.group).ordered)).acts ≡ (after (ids W) (take ((pic w.group).delivered p) (pic w.group).ordered)).acts ++ acts →
       turn.replies ≡ answers p (fold_actions (after (ids W) (take ((pic w.group).delivered p) (pic w.group).ordered)).acts) acts →
-      ActedAt W n' made (λ made w. Together W n' made w) w (after_turn (silently (record w { group = g1 })) own.replica turn) p
+      ActedAt W n' made (λ made w. Together W n' made w) w (after_turn (silently (record w { group = g1 })) own.replica turn) p acts
   unfolding after_turn pic
   acted t p d member g1 same_conf pictured le own turn new end acts grown replies = record {
     old = own.replica;
@@ -236,7 +238,6 @@ module _ (exact : Exact) (W : List Weighted) (set : IsWeightSet W) (n n' : ℕ) 
     new = new;
     first = after (ids W) (take ((pic w.group).delivered p) (pic w.group).ordered);
     known = after (ids W) (take d (pic w.group).ordered);
-    acts = acts;
     begun = own.begun;
     id = own.id;
     servers = own.servers;
@@ -245,6 +246,8 @@ module _ (exact : Exact) (W : List Weighted) (set : IsWeightSet W) (n n' : ℕ) 
     order = refl;
     short = greens-short W (pic w.group) w.order ((pic w.group).delivered p) own.replica t.reached (t.reached.behind p member) own.knows.greens;
     knew = own.knows;
+    earned = after-earned (ids W) (take d (pic w.group).ordered);
+    traced = inr (subst (λ z. (after (ids W) (take d (pic w.group).ordered)).acts ≡ (after (ids W) (take ((pic (send_all g1 z turn.sent)).delivered p) (pic (send_all g1 z turn.sent)).ordered)).acts) (sym own.id) traced);
     ended = end;
     grown = grown;
     replies = replies;
@@ -258,6 +261,11 @@ module _ (exact : Exact) (W : List Weighted) (set : IsWeightSet W) (n n' : ℕ) 
 
     pictured_now : pic g2 ≡ waiting (counted (pic w.group) p d) p turn.sent
     pictured_now = waits.0 ∙ ap (λ P. waiting P p turn.sent) pictured
+
+    traced : (after (ids W) (take d (pic w.group).ordered)).acts ≡ (after (ids W) (take ((pic g2).delivered p) (pic g2).ordered)).acts
+    traced =
+        ap (λ k. (after (ids W) (take k (pic w.group).ordered)).acts) (sym (put-same (pic w.group).delivered p d))
+        ∙ ap (λ (P : Pic). (after (ids W) (take (P.delivered p) P.ordered)).acts) (sym pictured_now)
 
     new_id : turn.replica.id ≡ p
     new_id = end.id ∙ own.id
@@ -275,16 +283,18 @@ module _ (exact : Exact) (W : List Weighted) (set : IsWeightSet W) (n n' : ℕ) 
           (find-new w.replicas turn.replica own.replica (subst (λ z. find (λ (r : Replica). r.id == z) w.replicas ≡ Some own.replica) (sym new_id) own.begun))));
       reached = subst (λ P. Reached W P (w.order ++ new_in_order w.order turn.replica)) (sym pictured_now)
           (reached-acted W (pic w.group) w.order p d turn.sent turn.replica t.reached le end.knows.greens);
+      named = names-with w.replicas turn.replica ∙ t.named;
     }
 
-  pub deliver-acted : (p count : ℕ) → first_refusal w (Deliver p count) ≡ None → Together W n made w → ActedAt W n' made (λ made w. Together W n' made w) w (world_step w (Deliver p count)) p
+  pub deliver-acted : (p count : ℕ) → first_refusal w (Deliver p count) ≡ None → Together W n made w →
+      (acts : List Action) × ActedAt W n' made (λ made w. Together W n' made w) w (world_step w (Deliver p count)) p acts
   unfolding pic
   deliver-acted p count admitted t = ⊎_elim inside (λ out. absurd (is_regular-in w.group p (admitted-deliver w p count admitted).1 (t.formed.outside p out).0)) (cases_Bool (has (ids W) p))
     where
       bounded : (d k n : ℕ) → d ≤ n → (r : ℕ) → k ≤ r → r ≤ n - d → d + k ≤ n
       bounded d k n le r kr rn = omega arith
 
-      inside : has (ids W) p ≡ true → ActedAt W n' made (λ made w. Together W n' made w) w (world_step w (Deliver p count)) p
+      inside : has (ids W) p ≡ true → (acts : List Action) × ActedAt W n' made (λ made w. Together W n' made w) w (world_step w (Deliver p count)) p acts
       inside member =
           let ok = admitted-deliver w p count admitted in
           let own = t.formed.each p member in
@@ -306,9 +316,9 @@ module _ (exact : Exact) (W : List Weighted) (set : IsWeightSet W) (n n' : ℕ) 
           let replies : (settle T).replies ≡ answers p (fold_actions (after (ids W) (take d C.ordered)).acts) at.acts =
           settled-replies T ∙ at.replies ∙ ap (λ q. answers q (fold_actions (after (ids W) (take d C.ordered)).acts) at.acts) own.id in
           let counted_here = delivered-counted g p 1 (d + count) own.regular in
-          subst (λ m. ActedAt W n' made (λ made w. Together W n' made w) w m p)
+          (at.acts, subst (λ m. ActedAt W n' made (λ made w. Together W n' made w) w m p at.acts)
           (ap (λ c. after_turn (silently (record w { group = with_delivered g p (d + count) })) r (turn_of r (deliveries_at c (above_up_to d (d + count))))) (sym homely) ∙ sym (step-deliver w p count r own.begun))
-          (acted t p (d + count) member (with_delivered g p (d + count)) counted_here.1 counted_here.0 le own (settle T) end.0 end.1 at.acts at.grown replies)
+          (acted t p (d + count) member (with_delivered g p (d + count)) counted_here.1 counted_here.0 le own (settle T) end.0 end.1 at.acts at.grown replies))
         where
           created-replies : (kinds : List Kind) (t : Turn) → (fold create t kinds).replies ≡ t.replies
           created-replies [] t = refl
@@ -318,7 +328,7 @@ module _ (exact : Exact) (W : List Weighted) (set : IsWeightSet W) (n n' : ℕ) 
           settled-replies t = cond_both (is_reg_prim t.replica.state) (fold create (Rattle.cg_world.specs.Replica.emptied t) t.replica.buffered) t (λ u. u.replies ≡ t.replies) (λ y. created-replies t.replica.buffered (Rattle.cg_world.specs.Replica.emptied t)) (λ n. refl)
 
   pub request-acted : (p : ℕ) (kind : Kind) → suc n ≤ n' → IsKind kind → ((r : Replica) × (replica_of w p ≡ Some r)) → has (ids W) p ≡ true → Together W n made w →
-      ActedAt W n' made (λ made w. Together W n' made w) w (ask w p kind) p
+      ActedAt W n' made (λ made w. Together W n' made w) w (ask w p kind) p []
   unfolding pic
   request-acted p kind more is known member t =
       let own = t.formed.each p member in
@@ -333,7 +343,7 @@ module _ (exact : Exact) (W : List Weighted) (set : IsWeightSet W) (n n' : ℕ) 
       let end = ended-asked W n' (made p) r (subst (λ q. Rattle.cg_world.proofs.Numbered.AreNumbered q (made p)) (sym own.id) own.numbered) own.created own.limits
       (after (ids W) (take d C.ordered)) kind own.servers own.knows own.early own.emptied own.kinds is (subst IsId (sym own.id) (member-is_id W p set member)) line
       (let sum = own.few in omega (arith, sum, more)) (omega (arith, few)) in
-      subst (λ m. ActedAt W n' made (λ made w. Together W n' made w) w m p) (sym (step-request w p kind r own.begun))
+      subst (λ m. ActedAt W n' made (λ made w. Together W n' made w) w m p []) (sym (step-request w p kind r own.begun))
       (acted t p d member g refl same own.within own (asked r kind) end.0 end.1 [] (sym (append-nil (after (ids W) (take d C.ordered)).acts)) (silent r))
     where
       silent : (r : Replica) → (asked r kind).replies ≡ []
