@@ -287,7 +287,7 @@ module _ (exact : Exact) (steps : List Step) (run : IsRunFrom before_start 0 ste
       passed : IsPassed earlier s id.creator (suc (length before)) → Contains (map (λ r. r.id) s.entry.replies) id
       passed pass = ⊎_elim (λ none. absurd (never (none.1 id.creator) pass)) (λ g. passed-at g.0 g.1 pass) v.change.answered
 
-  once : (s : Step) (before between after : List Reply) (r again : Reply) → Contains steps s → s.entry.replies ≡ before ++ r ∷ between ++ again ∷ after → r.id ≡ again.id → ⊥
+  once : (s : Step) (before between after : List Reply) (r again : Reply) → Contains steps s → s.entry.replies ≡ before ++ r ∷ (between ++ again ∷ after) → r.id ≡ again.id → ⊥
   once s before between after r again there is same = by_answered v.change.answered
     where
       at : (earlier later : List Step) × (steps ≡ earlier ++ s ∷ later)
