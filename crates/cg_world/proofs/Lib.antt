@@ -1,3 +1,4 @@
+pub mod Counting
 pub mod Heard
 pub mod Lists
 pub mod Numbered
