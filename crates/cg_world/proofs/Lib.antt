@@ -2,12 +2,14 @@ pub mod Acted
 pub mod Agreed
 pub mod Booked
 pub mod Coming
+pub mod Counting
 pub mod Formed
 pub mod Heard
 pub mod Lists
 pub mod Names
 pub mod Numbered
 pub mod Pictures
+pub mod Places
 pub mod Primaries
 pub mod Quieting
 pub mod Running

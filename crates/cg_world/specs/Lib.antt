@@ -2,7 +2,9 @@ pub mod Agreement
 pub mod EntryText
 pub mod LineText
 pub mod Message
-pub mod Replica
+pub mod Parts
 pub mod Quiet
+pub mod Replica
 pub mod Shown
+pub mod Turn
 pub mod World

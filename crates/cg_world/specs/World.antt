@@ -7,6 +7,7 @@ use Rattle.cg_base.specs.Lists.{first_some}
 use Rattle.cg_base.specs.Weights.{ids}
 use Rattle.cg_action.specs.declared.action.Kind.{Kind}
 use Rattle.cg_action.specs.declared.action.Kind.TheVariants.{Update}
+use Rattle.cg_action.specs.Limits.{IsUpdate}
 use Rattle.cg_group.specs.declared.delivery.Handed.{Handed}
 use Rattle.cg_group.specs.declared.reason.Reason.{Reason}
 use Rattle.cg_group.specs.declared.reason.Reason.TheVariants.{EmptySet, UnknownReplica}
@@ -160,3 +161,8 @@ world_after w (s ∷ steps) = world_after s.world steps
 pub record Refusal : Type 0 where
   pub event : Event
   pub reason : Reason
+
+-- what is requested is within the limits of an action
+abbrev pub MayAsk : Event → Type 0
+MayAsk (Request p cmds query) = IsUpdate cmds query
+MayAsk other = Unit {0}

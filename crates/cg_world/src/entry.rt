@@ -1,7 +1,10 @@
+ghost use Rattle.std.specs.Prelude.{◌≡◌};
+
 use crate::Line;
 use cg_action::Kind;
 use cg_base::{ActionId, IdList, ReplicaId, Row};
 use cg_db::{Answer, Effect, EntryList};
+use std::alloc::Global;
 
 /// An action that is shown as made: its name, and what it does.
 #[derive(Drop)]
@@ -46,4 +49,58 @@ pub struct Entry {
     pub lines: Row<Line>,
     pub replies: Row<Reply>,
     pub shown: Row<Shown>,
+}
+
+impl Entry {
+    ghost use Rattle.cg_world.specs.World.{no_entry};
+    ghost use Rattle.cg_world.specs.EntryText.{is_silent};
+
+    pub(crate) fn is_silent(&self) -> bool
+        ensures { result ≡ is_silent self.now }
+    {
+        self.made.is_empty()
+            && self.orders.is_empty()
+            && self.lines.is_empty()
+            && self.replies.is_empty()
+            && self.shown.is_empty()
+    }
+
+    /// Nothing is shown.
+    pub(crate) fn silent(alloc: Global) -> Entry
+        ensures { result ≡ no_entry }
+    {
+        Entry {
+            made: Row::new(alloc),
+            orders: Row::new(alloc),
+            lines: Row::new(alloc),
+            replies: Row::new(alloc),
+            shown: Row::new(alloc),
+        }
+    }
+
+    /// These lines are shown.
+    pub(crate) fn of_lines(alloc: Global, lines: Row<Line>) -> Entry
+        ensures { result ≡ record no_entry { lines = lines } }
+    {
+        Entry {
+            made: Row::new(alloc),
+            orders: Row::new(alloc),
+            lines,
+            replies: Row::new(alloc),
+            shown: Row::new(alloc),
+        }
+    }
+
+    /// What was asked for is shown.
+    pub(crate) fn of_shown(alloc: Global, shown: Row<Shown>) -> Entry
+        ensures { result ≡ record no_entry { shown = shown } }
+    {
+        Entry {
+            made: Row::new(alloc),
+            orders: Row::new(alloc),
+            lines: Row::new(alloc),
+            replies: Row::new(alloc),
+            shown,
+        }
+    }
 }

@@ -1,0 +1,77 @@
+ghost use Rattle.std.specs.Prelude.{◌≡◌, ◌++◌, OnOk, codes, decimal};
+ghost use Rattle.std.specs.List.{flat_map};
+ghost use Rattle.cg_action.specs.Print.{value_text};
+ghost use Rattle.cg_world.specs.EntryText.{next_entry_text, shown_text, shown_line};
+
+use crate::Shown;
+use cg_action::Value;
+use cg_base::{NoMemory, put, put_id_list, put_number};
+use cg_db::DbEntry;
+use cg_text::{put_i64, put_quoted};
+
+pub(crate) fn put_all_shown(out: &mut Vec<u8>, shown: &[Shown]) -> Result<(), NoMemory>
+    ensures { OnOk result (out.new.items ≡ out.old.items ++ flat_map shown_line shown.now) }
+{
+    for one in shown {
+        put_ended(out, one)?;
+    }
+    Ok(())
+}
+
+// what was asked to be shown, with its end
+fn put_ended(out: &mut Vec<u8>, shown: &Shown) -> Result<(), NoMemory>
+    ensures { OnOk result (out.new.items ≡ out.old.items ++ shown_line shown.now) }
+{
+    put_shown(out, shown)?;
+    put(out, b"\n")
+}
+
+fn put_shown(out: &mut Vec<u8>, shown: &Shown) -> Result<(), NoMemory>
+    ensures { OnOk result (out.new.items ≡ out.old.items ++ shown_text shown.now) }
+{
+    match shown {
+        Shown::Greens { p, list } => {
+            put(out, b"greens ")?;
+            put_number(out, u64::from(p.get()))?;
+            put(out, b" ")?;
+            put_id_list(out, list.as_slice())
+        }
+        Shown::Database { p, entries } => {
+            put(out, b"db ")?;
+            put_number(out, u64::from(p.get()))?;
+            put_entries(out, entries.as_slice())
+        }
+        Shown::All(list) => {
+            put(out, b"all ")?;
+            put_id_list(out, list.as_slice())
+        }
+    }
+}
+
+fn put_entries(out: &mut Vec<u8>, entries: &[DbEntry]) -> Result<(), NoMemory>
+    ensures { OnOk result (out.new.items ≡ out.old.items ++ flat_map next_entry_text entries.now) }
+{
+    for entry in entries {
+        put_next_entry(out, entry)?;
+    }
+    Ok(())
+}
+
+// an entry of a database, behind others
+fn put_next_entry(out: &mut Vec<u8>, entry: &DbEntry) -> Result<(), NoMemory>
+    ensures { OnOk result (out.new.items ≡ out.old.items ++ next_entry_text entry.now) }
+{
+    put(out, b" ")?;
+    put_quoted(out, &entry.key)?;
+    put(out, b"=")?;
+    put_value(out, &entry.value)
+}
+
+fn put_value(out: &mut Vec<u8>, value: &Value) -> Result<(), NoMemory>
+    ensures { OnOk result (out.new.items ≡ out.old.items ++ value_text value.now) }
+{
+    match value {
+        Value::Text(t) => put_quoted(out, t),
+        Value::Int(n) => put_i64(out, *n),
+    }
+}
