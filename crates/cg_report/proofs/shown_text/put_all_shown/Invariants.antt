@@ -1,6 +1,6 @@
 use Rattle.std.proofs.Common.{◌≡◌, ◌++◌, take}
 use Rattle.std.specs.List.{flat_map}
-use Rattle.cg_world.specs.EntryText.{shown_line}
+use Rattle.cg_report.specs.EntryText.{shown_line}
 use Rattle.cg_world.proofs.shown_text.put_all_shown.Given as goal
 
 abbrev pub invariant-loop-one : goal.invariant-loop-one

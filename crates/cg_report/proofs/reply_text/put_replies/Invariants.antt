@@ -1,6 +1,6 @@
 use Rattle.std.proofs.Common.{◌≡◌, ◌++◌, take}
 use Rattle.std.specs.List.{flat_map}
-use Rattle.cg_world.specs.EntryText.{reply_line}
+use Rattle.cg_report.specs.EntryText.{reply_line}
 use Rattle.cg_world.proofs.reply_text.put_replies.Given as goal
 
 abbrev pub invariant-loop-one : goal.invariant-loop-one

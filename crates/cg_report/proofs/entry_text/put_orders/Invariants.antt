@@ -1,6 +1,6 @@
 use Rattle.std.proofs.Common.{◌≡◌, ◌++◌, take}
 use Rattle.std.specs.List.{flat_map}
-use Rattle.cg_world.specs.EntryText.{order_line}
+use Rattle.cg_report.specs.EntryText.{order_line}
 use Rattle.cg_world.proofs.entry_text.put_orders.Given as goal
 
 abbrev pub invariant-loop-one : goal.invariant-loop-one

@@ -1,6 +1,6 @@
 use Rattle.std.proofs.Common.{◌≡◌, ◌++◌, take}
 use Rattle.std.specs.List.{flat_map}
-use Rattle.cg_world.specs.EntryText.{ended_line}
+use Rattle.cg_report.specs.EntryText.{ended_line}
 use Rattle.cg_world.proofs.entry_text.put_lines.Given as goal
 
 abbrev pub invariant-loop-line : goal.invariant-loop-line
