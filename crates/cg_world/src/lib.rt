@@ -17,6 +17,8 @@ mod reply_text;
 mod request;
 mod shown_text;
 mod state;
+#[cfg(test)]
+mod tests;
 mod turn;
 mod world;
 
