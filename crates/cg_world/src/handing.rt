@@ -66,12 +66,7 @@ pub(crate) fn hand(alloc: Global, moved: Moved, handed: &Handed) -> Result<Moved
 }
 
 /// A replica is asked to do something.
-pub(crate) fn ask(
-    alloc: Global,
-    moved: Moved,
-    p: ReplicaId,
-    kind: Kind,
-) -> Result<Moved, NoMemory>
+pub(crate) fn ask(alloc: Global, moved: Moved, p: ReplicaId, kind: Kind) -> Result<Moved, NoMemory>
     requires { IsKind kind }
     ensures { IfOk result (λ m. m ≡ asking moved p kind) }
 {

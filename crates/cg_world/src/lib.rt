@@ -11,6 +11,8 @@ mod messages;
 mod replica;
 mod request;
 mod state;
+#[cfg(test)]
+mod tests;
 mod turn;
 mod world;
 

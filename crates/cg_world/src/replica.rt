@@ -151,12 +151,7 @@ fn push_fresh(
 }
 
 // the names of a replica's actions above the first and up to the last index
-fn own_actions(
-    alloc: Global,
-    creator: ReplicaId,
-    first: u64,
-    last: u64,
-) -> Result<IdList, NoMemory>
+fn own_actions(alloc: Global, creator: ReplicaId, first: u64, last: u64) -> Result<IdList, NoMemory>
     ensures { IfOk result (λ own. own ≡ map (action_name creator) (above_up_to first last)) }
 {
     let mut own = IdList::new(alloc);

@@ -199,12 +199,7 @@ impl Replica {
         }
     }
 
-    fn come_into(
-        &mut self,
-        alloc: Global,
-        out: &mut Outputs,
-        state: State,
-    ) -> Result<(), NoMemory>
+    fn come_into(&mut self, alloc: Global, out: &mut Outputs, state: State) -> Result<(), NoMemory>
         ensures { OnOk result (ended self.new out.new ≡ come_into (ended self.old out.old) state) }
     {
         announce(alloc, &mut out.sent, self.id, &self.state, &state)?;

@@ -9,8 +9,8 @@ ghost use Rattle.cg_report.specs.declared.entry.Shown.TheVariants.{All};
 ghost use Rattle.cg_world.specs.Replica.{fresh, line_of};
 ghost use Rattle.cg_world.specs.World.{before_start, ask, brought_up, begun, shown_of, world_step, Steps, MayAsk};
 
-use crate::handing::{Moved, ask, hand, hand_out, find, has_begun};
 use crate::Replica;
+use crate::handing::{Moved, ask, find, hand, hand_out, has_begun};
 use cg_action::{Cmd, CmdList, Kind, Query};
 use cg_base::{IdList, IdSet, NoMemory, ReplicaId, Row, WeightSet};
 use cg_group::{Group, GroupErr, Handed, Reason};
