@@ -1,5 +1,9 @@
 -- A replica at its place in the world: what comes of an event at it.
-use Rattle.std.proofs.Common.{◌≡◌, ℕ, zero, suc, ◌<◌, ◌==◌, true, false, List, [], ◌∷◌, ◌++◌, length, Option, Some, None, refl, sym, ap, subst, ◌∙◌, arith, eqb-true, find, fold, position, get_or, set}
+use Rattle.std.proofs.Common.{◌≡◌, ℕ, zero, suc, ◌<◌, ◌≤◌, ◌==◌, cond, nat_lt, ⊎_elim, true, false, List, [], ◌∷◌, ◌++◌, length, Option, Some, None, refl, sym, ap, subst, ◌∙◌, arith, eqb-true, find, fold, position, get_or, set}
+use Rattle.std.proofs.lemmas.Bool.{cases_lt}
+use Rattle.std.proofs.lemmas.Bool.{lt-ltb}
+use Rattle.std.proofs.lemmas.Bool.{cond-true}
+use Rattle.std.proofs.lemmas.List.{get_or-set_same}
 use Rattle.std.specs.List.{position_or_len, slice_get}
 use Rattle.std.proofs.lemmas.Bool.{cond_both}
 use Rattle.std.proofs.lemmas.Option.{slice_get-get_or, slice_get_past}
@@ -23,7 +27,6 @@ use Rattle.cg_world.specs.Replica.{Turn, create, buffer, begin, asked, settle, e
 use Rattle.cg_world.specs.World.{with_replica, after_turn, hand, new_in_order}
 use Rattle.cg_world.specs.Turn.{ended}
 use Rattle.cg_world.specs.Parts.{entry_after, shared_after, moved_of, asking}
-use Rattle.cg_group.proofs.RosterFacts.{le_from_test}
 
 -- ---- a replica keeps its name
 
@@ -73,6 +76,10 @@ pub found_nowhere : (replicas : List Replica) (p : ℕ) → position (λ r. r.id
 found_nowhere replicas p e =
     find_at (λ (r : Replica). r.id == p) replicas ∙ slice_get_past replicas (position_or_len (λ r. r.id == p) replicas)
     (le_from_test (position_or_len (λ r. r.id == p) replicas) (length replicas) e)
+  where
+    le_from_test : (k n : ℕ) → cond (nat_lt k n) (Some k) None ≡ None → n ≤ k
+    le_from_test k n e = ⊎_elim
+        (λ (lt : k < n). absurd (let clash : Some k ≡ None = sym (cond-true (nat_lt k n) (Some k) None (lt-ltb k n lt)) ∙ e in cc)) (λ le. le) (cases_lt k n)
 
 set_first : (replicas : List Replica) (i : ℕ) (new d : Replica) → i < length replicas → ((get_or replicas i d).id == new.id) ≡ true →
     ((k : ℕ) → k < i → ((get_or replicas k d).id == new.id) ≡ false) → set replicas i new ≡ with_replica replicas new
@@ -84,6 +91,19 @@ set_first (r ∷ replicas) (suc i) new d lt here before =
 pub set_there : (replicas : List Replica) (i : ℕ) (new d : Replica) → position (λ r. r.id == new.id) replicas ≡ Some i → set replicas i new ≡ with_replica replicas new
 set_there replicas i new d e =
     let w = position-Some (λ (r : Replica). r.id == new.id) replicas i d e in set_first replicas i new d w.0 w.1 w.2
+
+get_or-any : (replicas : List Replica) (i : ℕ) (d e : Replica) → i < length replicas → get_or replicas i d ≡ get_or replicas i e
+get_or-any [] i d e lt = absurd (omega (arith, lt))
+get_or-any (r ∷ replicas) zero d e lt = refl
+get_or-any (r ∷ replicas) (suc i) d e lt = get_or-any replicas i d e (omega (arith, lt))
+
+-- what is read there
+pub read_there : (replicas : List Replica) (p i : ℕ) (x d : Replica) → position (λ r. r.id == p) replicas ≡ Some i → x ≡ get_or replicas i x → x ≡ get_or replicas i d
+read_there replicas p i x d e is = is ∙ get_or-any replicas i x d (position-Some (λ (r : Replica). r.id == p) replicas i d e).0
+
+-- what is read there after a write
+pub written_there : (replicas : List Replica) (p i : ℕ) (x new : Replica) → position (λ r. r.id == p) replicas ≡ Some i → x ≡ get_or (set replicas i new) i x → x ≡ new
+written_there replicas p i x new e is = is ∙ get_or-set_same replicas i new x (position-Some (λ (r : Replica). r.id == p) replicas i new e).0
 
 -- ---- what comes of an event at it
 

@@ -115,11 +115,11 @@ one-of f P (x ∷ xs) (b ∷ before) y rest e each = one-of f P xs before y rest
 
 member-from : (low : ℕ) (set : List ℕ) (q : ℕ) → Ascends low set → has set q ≡ true → (low ≤ q) × (q ≤ 32)
 member-from low [] q a h = absurd cc
-member-from low (p ∷ set) q a h = by_place (or_cases (p == q) (has set q) h)
+member-from low (p ∷ set) q a h = by_place (λ there. member-from (suc p) set q a.2 there) (or_cases (p == q) (has set q) h)
   where
-    by_place : ((p == q) ≡ true) ⊎ (has set q ≡ true) → (low ≤ q) × (q ≤ 32)
-    by_place (inl here) = let same = eqb-true p q here in let le = a.0 in let small = a.1 in (omega (arith, same, le), omega (arith, same, small))
-    by_place (inr there) = let rest = member-from (suc p) set q a.2 there in let le = a.0 in let above = rest.0 in (omega (arith, le, above), rest.1)
+    by_place : (has set q ≡ true → (suc p ≤ q) × (q ≤ 32)) → ((p == q) ≡ true) ⊎ (has set q ≡ true) → (low ≤ q) × (q ≤ 32)
+    by_place later (inl here) = let same = eqb-true p q here in let le = a.0 in let small = a.1 in (omega (arith, same, le), omega (arith, same, small))
+    by_place later (inr there) = let rest = later there in let le = a.0 in let above = rest.0 in (omega (arith, le, above), rest.1)
 
 pub member-is_id : (W : List Weighted) (q : ℕ) → IsWeightSet W → has (ids W) q ≡ true → IsId q
 member-is_id W q set h = member-from 1 (ids W) q set.ascends h
@@ -152,6 +152,10 @@ acts_in-append xs ys = flat_map-both (λ m. action_in (message_in m)) xs ys
     flat_map-both : (f : M → List Action) (xs ys : List M) → flat_map f (xs ++ ys) ≡ flat_map f xs ++ flat_map f ys
     flat_map-both f [] ys = refl
     flat_map-both f (x ∷ xs) ys = ap (λ z. f x ++ z) (flat_map-both f xs ys) ∙ sym (append_assoc (f x) (flat_map f xs) (flat_map f ys))
+
+pub acts_in-none : acts_in [] ≡ []
+unfolding acts_in
+acts_in-none = refl
 
 pub acts_in-one : (m : M) (o : Option Msg) → message_in m ≡ o → acts_in (m ∷ []) ≡ action_in o
 unfolding acts_in

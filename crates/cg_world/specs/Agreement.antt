@@ -95,7 +95,7 @@ pub record FoldAnswers (steps : List Step) : Type 0 where
       order_of (through earlier s) ≡ before ++ id ∷ after →
       Contains (map (λ r. r.id) s.entry.replies) id ↔ IsPassed earlier s id.creator (suc (length before))
   pub once : (s : Step) (before between after : List Reply) (r again : Reply) → Contains steps s →
-      s.entry.replies ≡ before ++ r ∷ between ++ again ∷ after → r.id ≡ again.id → ⊥
+      s.entry.replies ≡ before ++ r ∷ (between ++ again ∷ after) → r.id ≡ again.id → ⊥
 
 -- No primary index names two components, and only members of one make the order longer.
 pub record OnePrimary (steps : List Step) : Type 0 where
