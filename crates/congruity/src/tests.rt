@@ -287,7 +287,8 @@ refused 2 11 2
 
 #[test]
 fn a_lone_replica_answers_with_the_text(rt: HostRuntime) -> Result<(), Fail> {
-    let input = b"start 1\nmerge 1\nrounds 2\nrequest 1 put \"x\" \"hi\" ? get \"x\"\nrounds 1\nend\n";
+    let input =
+        b"start 1\nmerge 1\nrounds 2\nrequest 1 put \"x\" \"hi\" ? get \"x\"\nrounds 1\nend\n";
     let (status, put) = run_on(rt.alloc(), &["replay"], input, &[], &[])?;
     assert_eq!(rt; status, Status::Done);
     let text = "= 9
@@ -321,7 +322,10 @@ fn a_failed_need_and_a_sum_past_the_range_change_nothing(rt: HostRuntime) -> Res
     let text = from_utf8(&put)?;
     assert!(rt; text.contains("\nreply 1:2 done\n= 20\n"), "{text}");
     assert!(rt; text.contains("\nreply 2:1 aborted 1\n= "), "{text}");
-    assert!(rt; text.contains("\nreply 3:1 range 2 ? absent\n= 27\n"), "{text}");
+    assert!(rt;
+        text.contains("\nreply 3:1 range 2 ? absent\n= 27\n"),
+        "{text}"
+    );
     assert!(rt; text.ends_with("\ndb 1 \"x\"=2\nend 27\n"), "{text}");
     Ok(())
 }
