@@ -14,11 +14,11 @@ use Rattle.cg_db.specs.declared.entry.DbEntry.{DbEntry}
 use Rattle.cg_db.specs.Apply.{apply, fold_actions}
 use Rattle.cg_db.specs.Find.{answer, query_of}
 use Rattle.cg_group.proofs.Each.{Each}
-use Rattle.cg_world.specs.declared.entry.Reply.{Reply}
-use Rattle.cg_world.specs.declared.entry.Shown.TheVariants.{Greens, Database, All}
-use Rattle.cg_world.specs.declared.line.Line.{Line}
-use Rattle.cg_world.specs.declared.line.StateName.TheVariants.{RegPrim}
-use Rattle.cg_world.specs.declared.line.UpLine.{UpLine}
+use Rattle.cg_report.specs.declared.entry.Reply.{Reply}
+use Rattle.cg_report.specs.declared.entry.Shown.TheVariants.{Greens, Database, All}
+use Rattle.cg_report.specs.declared.line.Line.{Line}
+use Rattle.cg_report.specs.declared.line.StateName.TheVariants.{RegPrim}
+use Rattle.cg_report.specs.declared.line.UpLine.{UpLine}
 use Rattle.cg_world.specs.declared.replica.Replica.{Replica}
 use Rattle.cg_world.specs.declared.world.World.{World}
 use Rattle.cg_world.specs.Replica.{up_line_of, reply_to}

@@ -30,8 +30,8 @@ use Rattle.cg_group.proofs.Picture.{put}
 use Rattle.cg_group.proofs.Lookups.{put-other, put-same, phase_of-set, unordered_of-set, configurations-set_standing}
 use Rattle.cg_group.proofs.Admitted.{refuse_none}
 use Rattle.cg_schedule.specs.declared.event.Event.TheVariants.{Start, Merge}
-use Rattle.cg_world.specs.declared.line.Line.{Line}
-use Rattle.cg_world.specs.declared.entry.Placed.{Placed}
+use Rattle.cg_report.specs.declared.line.Line.{Line}
+use Rattle.cg_report.specs.declared.entry.Placed.{Placed}
 use Rattle.cg_world.specs.declared.replica.Replica.{Replica}
 use Rattle.cg_world.specs.declared.state.State.TheVariants.{NonPrim, ExchangeStates}
 use Rattle.cg_world.specs.declared.world.World.{World}

@@ -23,8 +23,8 @@ use Rattle.cg_group.proofs.Admitted.{refuse_none}
 use Rattle.cg_schedule.specs.declared.event.Event.{Event}
 use Rattle.cg_schedule.specs.declared.event.Event.TheVariants.{Start, Merge, Request, Deliver}
 use Rattle.cg_world.specs.declared.handing.Moved.{Moved}
-use Rattle.cg_world.specs.declared.line.Line.{Line}
-use Rattle.cg_world.specs.declared.line.UpLine.{UpLine}
+use Rattle.cg_report.specs.declared.line.Line.{Line}
+use Rattle.cg_report.specs.declared.line.UpLine.{UpLine}
 use Rattle.cg_world.specs.declared.replica.Replica.{Replica}
 use Rattle.cg_world.specs.declared.state.State.{State}
 use Rattle.cg_world.specs.declared.state.State.TheVariants.{NonPrim, ExchangeStates, Construct, RegPrim}

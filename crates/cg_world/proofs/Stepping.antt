@@ -22,19 +22,20 @@ use Rattle.cg_group.proofs.Picture.{put}
 use Rattle.cg_group.proofs.Lookups.{put-other, put-same}
 use Rattle.cg_schedule.specs.declared.event.Event.{Event}
 use Rattle.cg_schedule.specs.declared.event.Event.TheVariants.{Start, Merge, Request, Order, Show, ShowOrder, Gather, Receive, Deliver}
-use Rattle.cg_world.specs.declared.entry.Made.{Made}
-use Rattle.cg_world.specs.declared.entry.Shown.{Shown}
-use Rattle.cg_world.specs.declared.entry.Shown.TheVariants.{Greens, Database, All}
-use Rattle.cg_world.specs.declared.line.Line.{Line}
-use Rattle.cg_world.specs.declared.line.UpLine.{UpLine}
-use Rattle.cg_world.specs.declared.line.StateName.TheVariants.{RegPrim as NamedRegPrim}
+use Rattle.cg_report.specs.declared.entry.Made.{Made}
+use Rattle.cg_report.specs.declared.entry.Shown.{Shown}
+use Rattle.cg_report.specs.declared.entry.Shown.TheVariants.{Greens, Database, All}
+use Rattle.cg_report.specs.declared.line.Line.{Line}
+use Rattle.cg_report.specs.declared.line.UpLine.{UpLine}
+use Rattle.cg_report.specs.declared.line.StateName.TheVariants.{RegPrim as NamedRegPrim}
 use Rattle.cg_world.specs.declared.state.State.{State}
 use Rattle.cg_world.specs.declared.state.State.TheVariants.{NonPrim, ExchangeStates, Construct, RegPrim}
 use Rattle.cg_world.specs.declared.replica.Replica.{Replica}
 use Rattle.cg_world.specs.declared.world.World.{World}
 use Rattle.cg_world.specs.declared.handing.Moved.{Moved}
 use Rattle.cg_world.specs.Replica.{Turn, fresh, is_reg_prim, state_name, up_line_of, line_of}
-use Rattle.cg_world.specs.World.{Step, no_entry, silently, showing, before_start, replica_of, with_replica, news, new_in_order, placed_from, with_turn, world_step, first_refusal}
+use Rattle.cg_world.specs.World.{Step, silently, showing, before_start, replica_of, with_replica, news, new_in_order, placed_from, with_turn, world_step, first_refusal}
+use Rattle.cg_report.specs.EntryText.{no_entry}
 use Rattle.cg_world.specs.Shown.{order_lines, order_of, made_names, lines_in, last_up, position_of, made_at, made_of, made_action}
 use Rattle.cg_world.specs.Agreement.{MayStand, IsRunFrom, may_move}
 use Rattle.cg_world.proofs.Lists.{Each-contains}

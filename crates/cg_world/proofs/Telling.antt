@@ -19,13 +19,13 @@ use Rattle.cg_db.specs.Apply.{apply}
 use Rattle.cg_group.proofs.Each.{Each, count_up-add}
 use Rattle.cg_records.specs.declared.primary.Primary.{Primary}
 use Rattle.cg_records.specs.declared.vulnerable.Vulnerable.{Vulnerable}
-use Rattle.cg_world.specs.declared.entry.Made.{Made}
-use Rattle.cg_world.specs.declared.entry.Placed.{Placed}
-use Rattle.cg_world.specs.declared.entry.Reply.{Reply}
-use Rattle.cg_world.specs.declared.line.Line.{Line}
-use Rattle.cg_world.specs.declared.line.ShownPhase.{ShownPhase}
-use Rattle.cg_world.specs.declared.line.StateName.{StateName}
-use Rattle.cg_world.specs.declared.line.UpLine.{UpLine}
+use Rattle.cg_report.specs.declared.entry.Made.{Made}
+use Rattle.cg_report.specs.declared.entry.Placed.{Placed}
+use Rattle.cg_report.specs.declared.entry.Reply.{Reply}
+use Rattle.cg_report.specs.declared.line.Line.{Line}
+use Rattle.cg_report.specs.declared.line.ShownPhase.{ShownPhase}
+use Rattle.cg_report.specs.declared.line.StateName.{StateName}
+use Rattle.cg_report.specs.declared.line.UpLine.{UpLine}
 use Rattle.cg_world.specs.declared.mark.Mark.{Mark}
 use Rattle.cg_world.specs.declared.replica.Replica.{Replica}
 use Rattle.cg_world.specs.declared.state.State.{State}

@@ -26,13 +26,14 @@ use Rattle.cg_group.proofs.Lookups.{put-own, put-same}
 use Rattle.cg_group.proofs.Places.{ready_in-within}
 use Rattle.cg_group.proofs.Admitted.{first_none, refuse_none}
 use Rattle.cg_schedule.specs.declared.event.Event.TheVariants.{Request, Order, Receive, Deliver}
-use Rattle.cg_world.specs.declared.entry.Entry.{Entry}
-use Rattle.cg_world.specs.declared.entry.Reply.{Reply}
+use Rattle.cg_report.specs.declared.entry.Entry.{Entry}
+use Rattle.cg_report.specs.declared.entry.Reply.{Reply}
 use Rattle.cg_world.specs.declared.replica.Replica.{Replica}
 use Rattle.cg_world.specs.declared.world.World.{World}
 use Rattle.cg_world.specs.declared.handing.Moved.{Moved}
 use Rattle.cg_world.specs.Replica.{Turn, begin, is_reg_prim, create, buffer, asked, settle, handle, turn_of}
-use Rattle.cg_world.specs.World.{no_entry, silently, replica_of, unknown, with_replica, new_in_order, with_turn, after_turn, ask, hand, hand_out, world_step, first_refusal}
+use Rattle.cg_world.specs.World.{silently, replica_of, unknown, with_replica, new_in_order, with_turn, after_turn, ask, hand, hand_out, world_step, first_refusal}
+use Rattle.cg_report.specs.EntryText.{no_entry}
 use Rattle.cg_world.proofs.Numbered.{made_by, total-bound, set-small}
 use Rattle.cg_world.proofs.Pictures.{M, Pic, pic, same_pic, waiting, counted, order-none, order-some, receive-same, send_all-waits, delivered-counted}
 use Rattle.cg_world.proofs.Telling.{find-other, find-new, found_id, names-with, answers}

@@ -25,8 +25,8 @@ use Rattle.cg_group.specs.declared.delivery.Delivery.TheVariants.{Message as Han
 use Rattle.cg_group.specs.State.{Configuration, Sent}
 use Rattle.cg_group.specs.Events.{delivery_at, deliveries_at}
 use Rattle.cg_group.proofs.Each.{Each}
-use Rattle.cg_world.specs.declared.entry.Made.{Made}
-use Rattle.cg_world.specs.declared.entry.Reply.{Reply}
+use Rattle.cg_report.specs.declared.entry.Made.{Made}
+use Rattle.cg_report.specs.declared.entry.Reply.{Reply}
 use Rattle.cg_world.specs.declared.replica.Replica.{Replica}
 use Rattle.cg_world.specs.declared.state.State.{State}
 use Rattle.cg_world.specs.Message.{message_in}

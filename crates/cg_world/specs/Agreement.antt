@@ -11,11 +11,11 @@ use Rattle.cg_db.specs.Apply.{apply, fold_actions}
 use Rattle.cg_db.specs.Find.{answer, query_of}
 use Rattle.cg_schedule.specs.declared.event.Event.{Event}
 use Rattle.cg_schedule.specs.declared.event.Event.TheVariants.{Start, Merge, Request, Deliver}
-use Rattle.cg_world.specs.declared.entry.Reply.{Reply}
-use Rattle.cg_world.specs.declared.entry.Shown.TheVariants.{Greens, Database, All}
-use Rattle.cg_world.specs.declared.line.Line.{Line}
-use Rattle.cg_world.specs.declared.line.StateName.TheVariants.{RegPrim}
-use Rattle.cg_world.specs.declared.line.UpLine.{UpLine}
+use Rattle.cg_report.specs.declared.entry.Reply.{Reply}
+use Rattle.cg_report.specs.declared.entry.Shown.TheVariants.{Greens, Database, All}
+use Rattle.cg_report.specs.declared.line.Line.{Line}
+use Rattle.cg_report.specs.declared.line.StateName.TheVariants.{RegPrim}
+use Rattle.cg_report.specs.declared.line.UpLine.{UpLine}
 use Rattle.cg_world.specs.declared.world.World.{World}
 use Rattle.cg_world.specs.World.{Step, Refusal, before_start, first_refusal, world_step, world_after}
 use Rattle.cg_world.specs.Shown.{order_lines, order_of, made_names, all_up_lines, position_of, made_action, made_actions, ordered_actions}

@@ -1,10 +1,9 @@
 pub mod Agreement
-pub mod EntryText
-pub mod LineText
 pub mod Message
 pub mod Parts
 pub mod Quiet
 pub mod Replica
+pub mod Report
 pub mod Shown
 pub mod Turn
 pub mod World

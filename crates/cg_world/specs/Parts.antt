@@ -5,9 +5,9 @@ use Rattle.cg_action.specs.declared.action.Kind.{Kind}
 use Rattle.cg_group.specs.Events.{send_all}
 use Rattle.cg_world.specs.declared.handing.Moved.{Moved}
 use Rattle.cg_world.specs.declared.handing.Shared.{Shared}
-use Rattle.cg_world.specs.declared.entry.Entry.{Entry}
+use Rattle.cg_report.specs.declared.entry.Entry.{Entry}
 use Rattle.cg_base.specs.declared.action_id.ActionId.{ActionId}
-use Rattle.cg_world.specs.declared.line.Line.{Line}
+use Rattle.cg_report.specs.declared.line.Line.{Line}
 use Rattle.cg_world.specs.declared.mark.Mark.{Mark}
 use Rattle.cg_world.specs.declared.replica.Replica.{Replica}
 use Rattle.cg_world.specs.Replica.{Turn, asked, mark_of, same_mark, line_of}

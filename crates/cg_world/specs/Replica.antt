@@ -18,15 +18,15 @@ use Rattle.cg_wire.specs.declared.message.Msg.TheVariants.{Action as ActionMessa
 use Rattle.cg_wire.specs.Bytes.{spelled_msg}
 use Rattle.cg_group.specs.declared.delivery.Delivery.{Delivery}
 use Rattle.cg_group.specs.declared.delivery.Delivery.TheVariants.{Message as Handed, Transitional as TransitionalIn, Regular as RegularIn}
-use Rattle.cg_world.specs.declared.entry.Made.{Made}
-use Rattle.cg_world.specs.declared.entry.Reply.{Reply}
-use Rattle.cg_world.specs.declared.line.StateName.{StateName}
-use Rattle.cg_world.specs.declared.line.StateName.TheVariants as name
-use Rattle.cg_world.specs.declared.line.ShownPhase.{ShownPhase}
-use Rattle.cg_world.specs.declared.line.ShownPhase.TheVariants.{Alone, Regular}
-use Rattle.cg_world.specs.declared.line.View.{View}
-use Rattle.cg_world.specs.declared.line.UpLine.{UpLine}
-use Rattle.cg_world.specs.declared.line.Line.{Line}
+use Rattle.cg_report.specs.declared.entry.Made.{Made}
+use Rattle.cg_report.specs.declared.entry.Reply.{Reply}
+use Rattle.cg_report.specs.declared.line.StateName.{StateName}
+use Rattle.cg_report.specs.declared.line.StateName.TheVariants as name
+use Rattle.cg_report.specs.declared.line.ShownPhase.{ShownPhase}
+use Rattle.cg_report.specs.declared.line.ShownPhase.TheVariants.{Alone, Regular}
+use Rattle.cg_report.specs.declared.line.View.{View}
+use Rattle.cg_report.specs.declared.line.UpLine.{UpLine}
+use Rattle.cg_report.specs.declared.line.Line.{Line}
 use Rattle.cg_world.specs.declared.state.State.{State}
 use Rattle.cg_world.specs.declared.state.State.TheVariants.{NonPrim, ExchangeStates, Construct, RegPrim}
 use Rattle.cg_world.specs.declared.replica.Replica.{Replica}

@@ -5,10 +5,10 @@ use Rattle.cg_base.specs.declared.action_id.ActionId.{ActionId}
 use Rattle.cg_base.specs.Ids.{same_id}
 use Rattle.cg_base.specs.Lists.{present}
 use Rattle.cg_action.specs.declared.action.Action.{Action}
-use Rattle.cg_world.specs.declared.entry.Made.{Made}
-use Rattle.cg_world.specs.declared.entry.Placed.{Placed}
-use Rattle.cg_world.specs.declared.line.Line.{Line}
-use Rattle.cg_world.specs.declared.line.UpLine.{UpLine}
+use Rattle.cg_report.specs.declared.entry.Made.{Made}
+use Rattle.cg_report.specs.declared.entry.Placed.{Placed}
+use Rattle.cg_report.specs.declared.line.Line.{Line}
+use Rattle.cg_report.specs.declared.line.UpLine.{UpLine}
 use Rattle.cg_world.specs.World.{Step}
 
 -- the order lines

@@ -16,11 +16,12 @@ use Rattle.cg_group.specs.Events.{Outcome, come_up, send_all, order, receive, ga
 use Rattle.cg_group.specs.Refusals.{refuse, order_refusal, receive_refusal, deliver_refusal, merge_refusal}
 use Rattle.cg_schedule.specs.declared.event.Event.{Event}
 use Rattle.cg_schedule.specs.declared.event.Event.TheVariants.{Start, Merge, Request, Order, Show, ShowOrder, Gather, Receive, Deliver}
-use Rattle.cg_world.specs.declared.entry.Entry.{Entry}
-use Rattle.cg_world.specs.declared.entry.Placed.{Placed}
-use Rattle.cg_world.specs.declared.entry.Shown.{Shown}
-use Rattle.cg_world.specs.declared.entry.Shown.TheVariants.{Greens, Database, All}
-use Rattle.cg_world.specs.declared.line.Line.{Line}
+use Rattle.cg_report.specs.EntryText.{no_entry}
+use Rattle.cg_report.specs.declared.entry.Entry.{Entry}
+use Rattle.cg_report.specs.declared.entry.Placed.{Placed}
+use Rattle.cg_report.specs.declared.entry.Shown.{Shown}
+use Rattle.cg_report.specs.declared.entry.Shown.TheVariants.{Greens, Database, All}
+use Rattle.cg_report.specs.declared.line.Line.{Line}
 use Rattle.cg_world.specs.declared.replica.Replica.{Replica}
 use Rattle.cg_world.specs.declared.handing.Moved.{Moved}
 use Rattle.cg_world.specs.declared.world.World.{World}
@@ -52,9 +53,6 @@ first_refusal w (Deliver p count) = first_some (unknown w p ∷ deliver_refusal 
 first_refusal w other = None
 
 -- nothing is shown
-abbrev pub no_entry : Entry
-no_entry = record { made = []; orders = []; lines = []; replies = []; shown = [] }
-
 abbrev pub silently : World → Moved
 silently w = record { entry = no_entry; world = w }
 

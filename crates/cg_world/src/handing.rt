@@ -7,10 +7,11 @@ ghost use Rattle.cg_world.specs.Turn.{ended};
 ghost use Rattle.cg_world.specs.Parts.{news_of, entry_after, shared_after, moved_of, asking};
 
 use crate::turn::Outputs;
-use crate::{Entry, Line, Made, Mark, Placed, Replica, Reply, World};
+use crate::{Mark, Replica, World};
 use cg_action::Kind;
 use cg_base::{ActionId, BytesList, IdList, NoMemory, ReplicaId, Row};
 use cg_group::{Group, Handed};
+use cg_report::{Entry, Made, Placed, Reply};
 use std::alloc::Global;
 
 /// What a step shows, and the world after it.
@@ -65,12 +66,7 @@ pub(crate) fn hand(alloc: Global, moved: Moved, handed: &Handed) -> Result<Moved
 }
 
 /// A replica is asked to do something.
-pub(crate) fn ask(
-    alloc: Global,
-    moved: Moved,
-    p: ReplicaId,
-    kind: Kind,
-) -> Result<Moved, NoMemory>
+pub(crate) fn ask(alloc: Global, moved: Moved, p: ReplicaId, kind: Kind) -> Result<Moved, NoMemory>
     requires { IsKind kind }
     ensures { IfOk result (λ m. m ≡ asking moved p kind) }
 {

@@ -4,10 +4,11 @@ ghost use Rattle.cg_base.specs.Lists.{above_up_to};
 ghost use Rattle.cg_world.specs.Replica.{fresh, action_name};
 
 use crate::messages::first_primary;
-use crate::{Line, Mark, Request, State, UpLine, View};
+use crate::{Mark, Request, State};
 use cg_base::{ActionId, IdList, IdSet, NoMemory, ReplicaId, Row, WeightSet};
 use cg_db::Db;
 use cg_records::{Primary, Vulnerable, Yellow};
+use cg_report::{Line, UpLine, View};
 use std::alloc::Global;
 
 /// A replica.
@@ -150,12 +151,7 @@ fn push_fresh(
 }
 
 // the names of a replica's actions above the first and up to the last index
-fn own_actions(
-    alloc: Global,
-    creator: ReplicaId,
-    first: u64,
-    last: u64,
-) -> Result<IdList, NoMemory>
+fn own_actions(alloc: Global, creator: ReplicaId, first: u64, last: u64) -> Result<IdList, NoMemory>
     ensures { IfOk result (λ own. own ≡ map (action_name creator) (above_up_to first last)) }
 {
     let mut own = IdList::new(alloc);

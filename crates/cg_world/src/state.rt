@@ -2,9 +2,9 @@ ghost use Rattle.std.specs.Prelude.{◌≡◌};
 ghost use Rattle.cg_base.specs.Sets.{with_member};
 ghost use Rattle.cg_world.specs.Replica.{states_heard, announcements_heard};
 
-use crate::{ShownPhase, StateName};
 use cg_base::{IdSet, ReplicaId};
 use cg_knowledge::Summary;
+use cg_report::{ShownPhase, StateName};
 
 /// The state of a replica, with what it keeps in that state alone.
 #[derive(Clone, Copy, Debug, PartialEq, Eq)]

@@ -11,11 +11,12 @@ ghost use Rattle.cg_world.specs.Replica.{announces, announced_in, reply_to};
 ghost use Rattle.cg_world.specs.Turn.{ended, nothing};
 
 use crate::messages::{action_message, announcement, read, state_message};
-use crate::{Made, Replica, Reply, Request, State};
+use crate::{Replica, Request, State};
 use cg_action::{Action, Kind};
 use cg_base::{ActionId, BytesList, IdSet, NoMemory, ReplicaId, Row};
 use cg_db::{Answer, Db, Effect};
 use cg_group::Delivery;
+use cg_report::{Made, Reply};
 use cg_wire::Msg;
 use std::alloc::Global;
 use std::mem::replace;
@@ -198,12 +199,7 @@ impl Replica {
         }
     }
 
-    fn come_into(
-        &mut self,
-        alloc: Global,
-        out: &mut Outputs,
-        state: State,
-    ) -> Result<(), NoMemory>
+    fn come_into(&mut self, alloc: Global, out: &mut Outputs, state: State) -> Result<(), NoMemory>
         ensures { OnOk result (ended self.new out.new ≡ come_into (ended self.old out.old) state) }
     {
         announce(alloc, &mut out.sent, self.id, &self.state, &state)?;

@@ -5,15 +5,16 @@ ghost use Rattle.cg_action.specs.declared.action.Kind.TheVariants.{Update};
 ghost use Rattle.cg_group.specs.Ready.{ready};
 ghost use Rattle.cg_group.specs.Events.{come_up};
 ghost use Rattle.cg_schedule.specs.declared.event.Event.TheVariants.{Start, Merge, Request, Show, ShowOrder, Order, Gather, Receive, Deliver};
-ghost use Rattle.cg_world.specs.declared.entry.Shown.TheVariants.{All};
+ghost use Rattle.cg_report.specs.declared.entry.Shown.TheVariants.{All};
 ghost use Rattle.cg_world.specs.Replica.{fresh, line_of};
 ghost use Rattle.cg_world.specs.World.{before_start, ask, brought_up, begun, shown_of, world_step, Steps, MayAsk};
 
-use crate::handing::{Moved, ask, hand, hand_out, find, has_begun};
-use crate::{Entry, Line, Replica, Shown};
+use crate::Replica;
+use crate::handing::{Moved, ask, find, hand, hand_out, has_begun};
 use cg_action::{Cmd, CmdList, Kind, Query};
 use cg_base::{IdList, IdSet, NoMemory, ReplicaId, Row, WeightSet};
 use cg_group::{Group, GroupErr, Handed, Reason};
+use cg_report::{Entry, Line, Shown};
 use cg_schedule::Event;
 use std::alloc::Global;
 

@@ -1,6 +1,6 @@
 -- What a step comes to that the world takes, and how passes and deliveries go on.
 use Rattle.std.proofs.Common.{◌≡◌, ℕ, suc, ◌+◌, ◌-◌, ◌<◌, List, ◌∷◌, refl, sym, ap, arith}
-use Rattle.cg_world.specs.declared.entry.Entry.{Entry}
+use Rattle.cg_report.specs.declared.entry.Entry.{Entry}
 use Rattle.cg_schedule.specs.declared.event.Event.{Event}
 use Rattle.cg_world.specs.declared.world.World.{World}
 use Rattle.cg_world.specs.declared.world.Stepped.TheVariants as answer

@@ -9,7 +9,7 @@ use Rattle.cg_schedule.specs.declared.event.Event.TheVariants.{Start, Merge}
 use Rattle.cg_schedule.specs.Line.{first_place}
 use Rattle.cg_world.specs.declared.handing.Moved.{Moved}
 use Rattle.cg_world.specs.World.{Step, Refusal, before_start, first_refusal, world_step}
-use Rattle.cg_world.specs.EntryText.{report_text}
+use Rattle.cg_world.specs.Report.{report_text}
 use Rattle.congruity.specs.declared.progress.Stage.{Stage}
 use Rattle.congruity.specs.declared.progress.Progress.{Progress}
 use Rattle.congruity.specs.declared.status.Status.{Status}

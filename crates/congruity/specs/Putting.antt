@@ -3,7 +3,7 @@ use Rattle.std.specs.Prelude.{◌≡◌, ◌<◌, ℕ, List, Option, Some, None,
 use Rattle.std.specs.Io.KnownBytes.{Appends}
 use Rattle.cg_io.specs.Outside.{AppendsFront}
 use Rattle.cg_world.specs.World.{Step}
-use Rattle.cg_world.specs.EntryText.{report_text}
+use Rattle.cg_world.specs.Report.{report_text}
 use Rattle.congruity.specs.Produced.{Produced, prepend, text_of, status_of}
 use Rattle.congruity.specs.declared.progress.Progress.{Progress}
 use Rattle.congruity.specs.declared.status.Status.{Status}

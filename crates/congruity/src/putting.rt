@@ -1,6 +1,6 @@
 ghost use Rattle.std.specs.Prelude.{◌≡◌, ◌<◌, ◌^◌, OnOk, IfErr, Some};
 ghost use Rattle.std.specs.Io.KnownBytes.{Appends};
-ghost use Rattle.cg_world.specs.EntryText.{entry_text};
+ghost use Rattle.cg_report.specs.EntryText.{entry_text};
 ghost use Rattle.congruity.specs.Status.{tail_text};
 ghost use Rattle.congruity.specs.Putting.{CutShort, StopsWith, IsFinding};
 

@@ -1,6 +1,6 @@
 ghost use Rattle.std.specs.Prelude.{◌≡◌, ◌++◌, OnOk};
 ghost use Rattle.std.specs.List.{flat_map};
-ghost use Rattle.cg_world.specs.EntryText.{made_line, order_line, ended_line, body_text, entry_text};
+ghost use Rattle.cg_report.specs.EntryText.{made_line, order_line, ended_line, body_text, entry_text};
 
 use crate::line_text::put_line;
 use crate::reply_text::put_replies;

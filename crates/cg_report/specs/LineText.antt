@@ -2,16 +2,16 @@
 use Rattle.std.specs.Prelude.{ℕ, Bool, true, false, List, [], ◌∷◌, ◌++◌, decimal, codes, Option, Some, None}
 use Rattle.cg_base.specs.declared.action_id.ActionId.{ActionId}
 use Rattle.cg_base.specs.Text.{set_text, weight_set_text, id_list_text}
-use Rattle.cg_world.specs.declared.line.StateName.{StateName}
-use Rattle.cg_world.specs.declared.line.StateName.TheVariants.{RegPrim, TransPrim, ExchangeStates, ExchangeActions, Construct, No, Un, NonPrim, Left}
-use Rattle.cg_world.specs.declared.line.ShownPhase.{ShownPhase}
-use Rattle.cg_world.specs.declared.line.ShownPhase.TheVariants.{Alone, Regular, Transitional}
+use Rattle.cg_report.specs.declared.line.StateName.{StateName}
+use Rattle.cg_report.specs.declared.line.StateName.TheVariants.{RegPrim, TransPrim, ExchangeStates, ExchangeActions, Construct, No, Un, NonPrim, Left}
+use Rattle.cg_report.specs.declared.line.ShownPhase.{ShownPhase}
+use Rattle.cg_report.specs.declared.line.ShownPhase.TheVariants.{Alone, Regular, Transitional}
 use Rattle.cg_records.specs.declared.primary.Primary.{Primary}
 use Rattle.cg_records.specs.declared.vulnerable.Vulnerable.{Vulnerable}
 use Rattle.cg_records.specs.declared.yellow.Yellow.{Yellow}
-use Rattle.cg_world.specs.declared.line.View.{View}
-use Rattle.cg_world.specs.declared.line.UpLine.{UpLine}
-use Rattle.cg_world.specs.declared.line.Line.{Line}
+use Rattle.cg_report.specs.declared.line.View.{View}
+use Rattle.cg_report.specs.declared.line.UpLine.{UpLine}
+use Rattle.cg_report.specs.declared.line.Line.{Line}
 
 abbrev pub state_text : StateName → List ℕ
 state_text RegPrim = codes "RegPrim"

@@ -1,7 +1,7 @@
 ghost use Rattle.std.specs.Prelude.{◌≡◌, ◌++◌, OnOk, codes, decimal};
 ghost use Rattle.std.specs.List.{flat_map};
 ghost use Rattle.cg_action.specs.Print.{value_text};
-ghost use Rattle.cg_world.specs.EntryText.{next_entry_text, shown_text, shown_line};
+ghost use Rattle.cg_report.specs.EntryText.{next_entry_text, shown_text, shown_line};
 
 use crate::Shown;
 use cg_action::Value;

@@ -1,5 +1,5 @@
 -- The text of a step.
-use Rattle.std.specs.Prelude.{ℕ, ◌==◌, Bool, ◌&&◌, List, [], ◌∷◌, ◌++◌, Option, Some, None, decimal, codes, length, if◌then◌else◌}
+use Rattle.std.specs.Prelude.{ℕ, ◌==◌, Bool, ◌&&◌, List, [], ◌++◌, Option, Some, None, decimal, codes, length, if◌then◌else◌}
 use Rattle.std.specs.List.{flat_map}
 use Rattle.std.specs.Fmt.{signed_decimal}
 use Rattle.cg_base.specs.Text.{id_text, id_list_text}
@@ -10,15 +10,14 @@ use Rattle.cg_db.specs.declared.answer.Answer.TheVariants.{Absent, Text, Int, Ke
 use Rattle.cg_db.specs.declared.effect.Effect.{Effect}
 use Rattle.cg_db.specs.declared.effect.Effect.TheVariants.{Done, Aborted, Range}
 use Rattle.cg_db.specs.declared.entry.DbEntry.{DbEntry}
-use Rattle.cg_world.specs.declared.line.Line.{Line}
-use Rattle.cg_world.specs.declared.entry.Made.{Made}
-use Rattle.cg_world.specs.declared.entry.Placed.{Placed}
-use Rattle.cg_world.specs.declared.entry.Reply.{Reply}
-use Rattle.cg_world.specs.declared.entry.Shown.{Shown}
-use Rattle.cg_world.specs.declared.entry.Shown.TheVariants.{Greens, Database, All}
-use Rattle.cg_world.specs.declared.entry.Entry.{Entry}
-use Rattle.cg_world.specs.World.{Step}
-use Rattle.cg_world.specs.LineText.{line_text}
+use Rattle.cg_report.specs.declared.line.Line.{Line}
+use Rattle.cg_report.specs.declared.entry.Made.{Made}
+use Rattle.cg_report.specs.declared.entry.Placed.{Placed}
+use Rattle.cg_report.specs.declared.entry.Reply.{Reply}
+use Rattle.cg_report.specs.declared.entry.Shown.{Shown}
+use Rattle.cg_report.specs.declared.entry.Shown.TheVariants.{Greens, Database, All}
+use Rattle.cg_report.specs.declared.entry.Entry.{Entry}
+use Rattle.cg_report.specs.LineText.{line_text}
 
 -- an action that is shown as made, with what it does
 abbrev pub made_text : Made → List ℕ
@@ -86,13 +85,12 @@ abbrev pub body_text : Entry → List ℕ
 body_text e = flat_map made_line e.made ++ flat_map order_line e.orders ++ flat_map ended_line e.lines ++ flat_map reply_line e.replies ++ flat_map shown_line e.shown
 
 -- nothing is shown
+abbrev pub no_entry : Entry
+no_entry = record { made = []; orders = []; lines = []; replies = []; shown = [] }
+
 abbrev pub is_silent : Entry → Bool
 is_silent e = (length e.made == 0) && (length e.orders == 0) && (length e.lines == 0) && (length e.replies == 0) && (length e.shown == 0)
 
 -- what a step puts: nothing, or its number and what it shows
 abbrev pub entry_text : ℕ → Entry → List ℕ
 entry_text step e = if is_silent e then [] else codes "= " ++ decimal step ++ codes "\n" ++ body_text e
-
--- the report of a run, without its tail
-abbrev pub report_text : List Step → List ℕ
-report_text steps = flat_map (λ s. entry_text s.number s.entry) steps

@@ -52,8 +52,8 @@ pub struct Entry {
 }
 
 impl Entry {
-    ghost use Rattle.cg_world.specs.World.{no_entry};
-    ghost use Rattle.cg_world.specs.EntryText.{is_silent};
+    ghost use Rattle.cg_report.specs.EntryText.{no_entry};
+    ghost use Rattle.cg_report.specs.EntryText.{is_silent};
 
     pub(crate) fn is_silent(&self) -> bool
         ensures { result ≡ is_silent self.now }
@@ -66,7 +66,7 @@ impl Entry {
     }
 
     /// Nothing is shown.
-    pub(crate) fn silent(alloc: Global) -> Entry
+    pub fn silent(alloc: Global) -> Entry
         ensures { result ≡ no_entry }
     {
         Entry {
@@ -79,7 +79,7 @@ impl Entry {
     }
 
     /// These lines are shown.
-    pub(crate) fn of_lines(alloc: Global, lines: Row<Line>) -> Entry
+    pub fn of_lines(alloc: Global, lines: Row<Line>) -> Entry
         ensures { result ≡ record no_entry { lines = lines } }
     {
         Entry {
@@ -92,7 +92,7 @@ impl Entry {
     }
 
     /// What was asked for is shown.
-    pub(crate) fn of_shown(alloc: Global, shown: Row<Shown>) -> Entry
+    pub fn of_shown(alloc: Global, shown: Row<Shown>) -> Entry
         ensures { result ≡ record no_entry { shown = shown } }
     {
         Entry {

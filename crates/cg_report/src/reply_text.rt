@@ -1,6 +1,6 @@
 ghost use Rattle.std.specs.Prelude.{◌≡◌, ◌++◌, OnOk, codes, decimal};
 ghost use Rattle.std.specs.List.{flat_map};
-ghost use Rattle.cg_world.specs.EntryText.{effect_text, next_key_text, answer_text, answered_text, reply_line};
+ghost use Rattle.cg_report.specs.EntryText.{effect_text, next_key_text, answer_text, answered_text, reply_line};
 
 use crate::Reply;
 use cg_base::{NoMemory, put, put_id, put_number};

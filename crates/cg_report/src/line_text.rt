@@ -1,5 +1,5 @@
 ghost use Rattle.std.specs.Prelude.{◌≡◌, ◌++◌, OnOk, decimal};
-ghost use Rattle.cg_world.specs.LineText.{state_text, phase_text, prim_text, vulnerable_text, yellow_text, counts_text, components_text, actions_text, view_text, up_text, line_text};
+ghost use Rattle.cg_report.specs.LineText.{state_text, phase_text, prim_text, vulnerable_text, yellow_text, counts_text, components_text, actions_text, view_text, up_text, line_text};
 
 use crate::{Line, ShownPhase, StateName, UpLine, View};
 use cg_base::{NoMemory, put, put_id_list, put_number, put_set, put_weight_set};
