@@ -1,3 +1,4 @@
+pub mod Asked
 pub mod GoingOn
 pub mod Happening
 pub mod Lines

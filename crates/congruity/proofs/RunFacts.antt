@@ -1,30 +1,28 @@
 -- The steps of what a run comes to are a run of the world, and a refusal is that of the world's tests.
-use Rattle.std.proofs.Common.{◌≡◌, ℕ, zero, suc, ◌+◌, ◌<◌, ◌==◌, nat_lt, List, [], ◌∷◌, ◌++◌, length, Option, Some, None, Bool, true, false, cond, refl, sym, ap, ◌∙◌, arith, length-append, ◌-◌, subst, map, not, ◌↔◌, Result, Ok, Err}
-use Rattle.std.proofs.lemmas.Bool.{and_parts}
+use Rattle.std.proofs.Common.{◌≡◌, ℕ, zero, suc, ◌+◌, ◌<◌, ◌==◌, nat_lt, List, [], ◌∷◌, ◌++◌, length, Option, Some, None, Bool, true, false, cond, refl, sym, ap, ◌∙◌, arith, length-append, ◌-◌, subst, map, not, Result, Ok, Err}
+use Rattle.std.proofs.lemmas.Bool.{and_parts, ltb-true}
 use Rattle.std.proofs.lemmas.Bool.Decides.{Decides-eqb}
 use Rattle.std.proofs.lemmas.Slice.Eq.{slice_eq-Decides}
 use Rattle.cg_base.specs.declared.weighted.Weighted.{Weighted}
-use Rattle.cg_base.specs.Sets.{IsSet}
 use Rattle.cg_group.specs.declared.reason.Reason.{Reason}
 use Rattle.cg_schedule.specs.declared.event.Event.{Event}
-use Rattle.cg_schedule.specs.declared.event.Event.TheVariants.{Start, Merge, Order, Gather, Receive, Deliver, Rounds, End}
+use Rattle.cg_schedule.specs.declared.event.Event.TheVariants.{Start, Merge, Request, Order, Gather, Receive, Deliver, Rounds, End}
 use Rattle.cg_schedule.specs.declared.fault.LineFault.{LineFault}
 use Rattle.cg_schedule.specs.declared.place.Place.{Place}
 use Rattle.cg_schedule.specs.declared.word.Word.{Word}
 use Rattle.cg_schedule.specs.Limits.{IsEvent}
-use Rattle.cg_schedule.specs.Laws.{Reads, ReadsAs}
 use Rattle.cg_schedule.specs.Reading.{whole}
-use Rattle.cg_schedule.specs.Line.{event_word, fits, opening, event_reading, some_event, reading_behind, place_after}
+use Rattle.cg_schedule.specs.Line.{event_word, fits, opening, event_reading, place_after}
 use Rattle.cg_world.specs.declared.world.World.{World}
 use Rattle.cg_world.specs.declared.handing.Moved.{Moved}
-use Rattle.cg_world.specs.World.{Step, Refusal, before_start, first_refusal, world_step, world_after}
-use Rattle.cg_world.specs.Agreement.{MayStand, IsRunFrom, RefusedExactly, OnePrimary, QuietSettles}
-use Rattle.cg_world.proofs.Primaries.{run-one_primary}
-use Rattle.cg_world.proofs.Settling.{run-quiet_settles}
-use Rattle.cg_world.proofs.Names.{start-begun, merge-names, deliver-names, order-none, gather-none, receive-none, deliver-none}
+use Rattle.cg_world.specs.World.{Step, Refusal, before_start, first_refusal, world_step, world_after, MayAsk}
+use Rattle.cg_world.specs.Agreement.{MayStand, IsRunFrom, RefusedExactly, Agreement}
+use Rattle.cg_world.proofs.Agreed.{run-agrees}
+use Rattle.cg_world.proofs.Names.{start-begun, merge-names, deliver-names, request-names, order-none, gather-none, receive-none, deliver-none, request-none}
+use Rattle.cg_world.proofs.Wire.{Exact}
 use Rattle.cg_world.specs.declared.replica.Replica.{Replica}
 use Rattle.std.proofs.lemmas.List.{length-map}
-use Rattle.cg_base.specs.Weights.{ids}
+use Rattle.cg_base.specs.Weights.{ids, IsWeightSet}
 use Rattle.cg_group.specs.Ready.{ready}
 use Rattle.congruity.specs.declared.progress.Ending.{Ending}
 use Rattle.congruity.specs.declared.progress.Ending.TheVariants.{Ended, Failed, Open}
@@ -37,6 +35,7 @@ use Rattle.congruity.specs.Produced.{Finding, Produced, stage_after, same_ids, i
 use Rattle.congruity.specs.Rounds.{deliver_ready, deliveries, one_pass, passes, happened}
 use Rattle.congruity.specs.Outcome.{reason_of, is_built, supported_outcome, event_outcome, word_outcome, opened_outcome, line_outcome, without_return, limit_of, unless_passed, whole_line, at_end, cut_line, last_piece, replayed, outcome, is_replay}
 use Rattle.cg_base.specs.Text.{pieces_of}
+use Rattle.congruity.proofs.Asked.{may_ask, ExactLines, reads_of}
 use Rattle.congruity.proofs.GoingOn.{and_then-some}
 
 -- the world refuses the event so
@@ -69,7 +68,7 @@ IsRunFrom-append w n [] b p q =
 IsRunFrom-append w n (s ∷ a) b p q =
     let same : n + length (s ∷ a) ≡ suc n + length a = omega arith in
     let there = rw same at q in
-    (p.0, p.1, p.2, p.3, IsRunFrom-append s.world (suc n) a b p.4 there)
+    (p.0, p.1, p.2, p.3, p.4, IsRunFrom-append s.world (suc n) a b p.5 there)
 
 Holds-went_on : (s s' : Progress) → s'.world ≡ s.world → s'.count ≡ s.count → Agrees s' → Holds s (went_on s')
 Holds-went_on s s' w c a = record { is_run = tt; world = w; count = c ∙ omega arith; refused = tt; agrees = λ e. a }
@@ -89,7 +88,7 @@ Holds-stepped n event s may admitted a = by_limit (nat_lt s.count 2000000) refl 
   by_limit : (b : Bool) → nat_lt s.count 2000000 ≡ b → Holds s (stepped n event (world_step s.world event) s)
   by_limit true e =
       rw e record {
-        is_run = (omega arith, may, admitted, refl, tt);
+        is_run = (omega arith, ltb-true s.count 2000000 e, may, admitted, refl, tt);
         world = refl;
         count = omega arith;
         refused = tt;
@@ -145,15 +144,18 @@ IsOther (Start set) = ⊥
 IsOther (Merge set) = ⊥
 IsOther other = Unit {0}
 
-other_stands : (w : World) (e : Event) → IsOther e → 0 < length w.replicas → MayStand w e
-other_stands w (Start set) o some = absurd o
-other_stands w (Merge set) o some = absurd o
-other_stands w other o some = some
+other_stands : (w : World) (e : Event) → IsOther e → MayAsk e → 0 < length w.replicas → MayStand w e
+other_stands w (Start set) o asks some = absurd o
+other_stands w (Merge set) o asks some = absurd o
+other_stands w (Request p cmds query) o asks some = (some, asks)
+other_stands w other o asks some = some
 
 other_behind : (s : Progress) (e : Event) → IsOther e → Agrees s → s.reader.started ≡ true → Agrees (behind e s)
 unfolding world_step
 other_behind s (Start set) o a started = absurd o
 other_behind s (Merge set) o a started = absurd o
+other_behind s (Request p cmds query) o a started =
+    kept_behind s (Request p cmds query) a started refl (request-names s.world p cmds query) (λ e. request-none s.world p cmds query (a.apart e))
 other_behind s (Order p) o a started = kept_behind s (Order p) a started refl refl (λ e. order-none s.world.group p (a.apart e))
 other_behind s Gather o a started = kept_behind s Gather a started refl refl (λ e. gather-none s.world.group (a.apart e))
 other_behind s (Receive p place) o a started = kept_behind s (Receive p place) a started refl refl (λ e. receive-none s.world.group p place (a.apart e))
@@ -165,9 +167,9 @@ record Stays (s : Progress) (p : Produced) : Type 0 where
   pub holds : Holds s p
   pub reader : p.progress.reader ≡ s.reader
 
-Stays-one_step : (n : ℕ) (event : Event) (s : Progress) → IsOther event → Agrees s → s.reader.started ≡ true → Stays s (one_step n event s)
-Stays-one_step n event s o a started = record {
-  holds = Holds-one_step n event s (other_stands s.world event o (a.begun started).0) (λ ok. other_behind s event o a started);
+Stays-one_step : (n : ℕ) (event : Event) (s : Progress) → IsOther event → MayAsk event → Agrees s → s.reader.started ≡ true → Stays s (one_step n event s)
+Stays-one_step n event s o asks a started = record {
+  holds = Holds-one_step n event s (other_stands s.world event o asks (a.begun started).0) (λ ok. other_behind s event o a started);
   reader = by_refusal (first_refusal s.world event);
 } where
   by_limit : (b : Bool) (m : Moved) → (cond b (record {
@@ -198,7 +200,7 @@ Stays-deliver_ready : (n p : ℕ) (s : Progress) → Agrees s → s.reader.start
 Stays-deliver_ready n p s a started = by_count (ready s.world.group p == 0) where
   by_count : (b : Bool) → Stays s (cond b (went_on s) (one_step n (Deliver p (ready s.world.group p)) s))
   by_count true = Stays-went_on s a
-  by_count false = Stays-one_step n (Deliver p (ready s.world.group p)) s tt a started
+  by_count false = Stays-one_step n (Deliver p (ready s.world.group p)) s tt tt a started
 
 Stays-deliveries : (n : ℕ) (set : List ℕ) (s : Progress) → Agrees s → s.reader.started ≡ true → Stays s (deliveries n set s)
 Stays-deliveries n [] s a started = Stays-went_on s a
@@ -209,7 +211,7 @@ Stays-deliveries n (p ∷ set) s a started =
 
 Stays-one_pass : (n : ℕ) (s : Progress) → Agrees s → s.reader.started ≡ true → Stays s (one_pass n s)
 Stays-one_pass n s a started =
-    let one = Stays-one_step n Gather s tt a started in
+    let one = Stays-one_step n Gather s tt tt a started in
     let q = one_step n Gather s in
     Stays-and_then s q (deliveries n s.stage.begun) one (λ e. Stays-deliveries n s.stage.begun q.progress (one.holds.agrees e) (started_behind s q one started))
 
@@ -248,12 +250,12 @@ not_true : (b : Bool) → not b ≡ true → b ≡ false
 not_true true h = absurd cc
 not_true false h = refl
 
-start-holds : (n : ℕ) (set : List Weighted) (s : Progress) → Agrees s → s.reader.started ≡ false → IsSet (ids set) → Holds s (one_step n (Start set) (moved (Start set) s))
-start-holds n set s a fresh is_set =
+start-holds : (n : ℕ) (set : List Weighted) (s : Progress) → Agrees s → s.reader.started ≡ false → IsWeightSet set → Holds s (one_step n (Start set) (moved (Start set) s))
+start-holds n set s a fresh is =
     Holds-moved s (Start set) (one_step n (Start set) (moved (Start set) s))
-    (Holds-one_step n (Start set) (moved (Start set) s) (a.before fresh, is_set)
+    (Holds-one_step n (Start set) (moved (Start set) s) (a.before fresh, is)
     (λ ok.
-    let begun = start-begun set is_set (subst (λ (w : World). first_refusal w (Start set) ≡ None) (a.before fresh) ok) in
+    let begun = start-begun set (subst (λ (w : World). first_refusal w (Start set) ≡ None) (a.before fresh) ok) in
     let there = subst (λ (w : World). (0 < length (world_step w (Start set)).world.replicas) × (map (λ r. r.id) (world_step w (Start set)).world.replicas ≡ ids set)
     × ((world_step w (Start set)).world.group.configurations ≡ [])) (sym (a.before fresh)) begun in
     record { before = λ e. absurd cc; begun = λ e. (there.0, there.1); apart = λ e. there.2 }))
@@ -271,7 +273,7 @@ merge-holds n set s a started = by_support (is_supported s.stage (Merge set)) re
 
 Holds-read : (n : ℕ) (e : Event) (s : Progress) → Agrees s → fits s.reader (event_word e) ≡ true → IsEvent e → Holds s (supported_outcome n e (moved e s))
 unfolding supported_outcome happened
-Holds-read n (Start set) s a fit within = start-holds n set s a (fresh s.reader fit) (record { ascends = within.ascends }) where
+Holds-read n (Start set) s a fit within = start-holds n set s a (fresh s.reader fit) within where
   fresh : (p : Place) → fits p Word.Start ≡ true → p.started ≡ false
   fresh p e = not_true p.started (and_parts (not p.ended) (not p.started) e).1
 Holds-read n (Merge set) s a fit within = merge-holds n set s a (and_parts (not s.reader.ended) s.reader.started fit).1
@@ -281,19 +283,14 @@ Holds-read n (Rounds count) s a fit within =
     (Stays-passes n count (moved (Rounds count) s) (other_agrees s (Rounds count) tt a) (and_parts (not s.reader.ended) s.reader.started fit).1).holds
 Holds-read n other s a fit within =
     Holds-moved s other (one_step n other (moved other s))
-    (Stays-one_step n other (moved other s) tt (other_agrees s other tt a) (and_parts (not s.reader.ended) s.reader.started fit).1).holds
+    (Stays-one_step n other (moved other s) tt (may_ask other within) (other_agrees s other tt a) (and_parts (not s.reader.ended) s.reader.started fit).1).holds
 
--- lines read as events exactly as the schedule's law says
-abbrev pub Exact : Type 0
-Exact = (place : Place) (line : List ℕ) (e : Event) → (Reads place line e) ↔ (ReadsAs place line e)
-
-Holds-line : (n : ℕ) (line : List ℕ) (s : Progress) → Exact → Agrees s → Holds s (line_outcome n line s)
+Holds-line : (n : ℕ) (line : List ℕ) (s : Progress) → ExactLines → Agrees s → Holds s (line_outcome n line s)
 unfolding line_outcome word_outcome
 Holds-line n line s exact a = by_opening (opening s.reader line) refl where
   by_event : (o : Word × List (List ℕ)) → opening s.reader line ≡ Ok (Some o) → (r : Result Event LineFault) → whole (event_reading o.0) o.1 ≡ r → Holds s (event_outcome n r s)
   by_event o is (Ok e) e_is =
-      let reads : Reads s.reader line e = ap reading_behind is ∙ ap some_event e_is in
-      let reads_as = (exact s.reader line e).0 reads in
+      let reads_as = (exact s.reader line e).0 (reads_of s.reader line o e is e_is) in
       Holds-read n e s a reads_as.may_stand reads_as.within
   by_event o is (Err fault) e_is = Holds-ended_with (status.Syntax n (reason_of fault)) n s
 
@@ -319,23 +316,23 @@ Holds-at_end n Ended s a = by_end s.reader.ended where
 Holds-at_end n Failed s a = Holds-ended_with status.ReadFault n s
 Holds-at_end n Open s a = Holds-went_on s s refl refl a
 
-Holds-cut_line : (n : ℕ) (line : List ℕ) (how : Ending) (s : Progress) → Exact → Agrees s → Holds s (cut_line n line how s)
+Holds-cut_line : (n : ℕ) (line : List ℕ) (how : Ending) (s : Progress) → ExactLines → Agrees s → Holds s (cut_line n line how s)
 Holds-cut_line n line Ended s exact a =
     let h = Holds-line n line s exact a in
     Holds-and_then s (line_outcome n line s) (at_end n Ended) h (λ e. Holds-at_end n Ended (line_outcome n line s).progress (h.agrees e))
 Holds-cut_line n line Failed s exact a = Holds-ended_with status.ReadFault (n - 1) s
 Holds-cut_line n line Open s exact a = Holds-went_on s s refl refl a
 
-Holds-last_piece : (n at : ℕ) (piece : List ℕ) (how : Ending) (s : Progress) → Exact → Agrees s → Holds s (last_piece n at piece how s)
+Holds-last_piece : (n at : ℕ) (piece : List ℕ) (how : Ending) (s : Progress) → ExactLines → Agrees s → Holds s (last_piece n at piece how s)
 Holds-last_piece n at [] how s exact a = Holds-at_end (n - 1) how s a
 Holds-last_piece n at (b ∷ bs) how s exact a =
     Holds-unless_passed (limit_of n (length (b ∷ bs)) (at + length (b ∷ bs))) n s (cut_line n (b ∷ bs) how s) (Holds-cut_line n (b ∷ bs) how s exact a)
 
-Holds-whole_line : (n at : ℕ) (line : List ℕ) (s : Progress) → Exact → Agrees s → Holds s (whole_line n at line s)
+Holds-whole_line : (n at : ℕ) (line : List ℕ) (s : Progress) → ExactLines → Agrees s → Holds s (whole_line n at line s)
 Holds-whole_line n at line s exact a =
     Holds-unless_passed (limit_of n (length line) (at + length line + 1)) n s (line_outcome n (without_return line) s) (Holds-line n (without_return line) s exact a)
 
-Holds-replayed : (n at : ℕ) (pieces : List (List ℕ)) (how : Ending) (s : Progress) → Exact → Agrees s → Holds s (replayed n at pieces how s)
+Holds-replayed : (n at : ℕ) (pieces : List (List ℕ)) (how : Ending) (s : Progress) → ExactLines → Agrees s → Holds s (replayed n at pieces how s)
 Holds-replayed n at [] how s exact a = Holds-went_on s s refl refl a
 Holds-replayed n at (rest ∷ []) how s exact a = Holds-last_piece n at rest how s exact a
 Holds-replayed n at (line ∷ next ∷ more) how s exact a =
@@ -347,22 +344,22 @@ Holds-replayed n at (line ∷ next ∷ more) how s exact a =
 agrees_first : Agrees before_all
 agrees_first = record { before = λ e. refl; begun = λ e. absurd cc; apart = λ e. refl }
 
-Holds-outcome : (words : List (List ℕ)) (taken : List ℕ) (how : Ending) → Exact → Holds before_all (outcome words taken how)
+Holds-outcome : (words : List (List ℕ)) (taken : List ℕ) (how : Ending) → ExactLines → Holds before_all (outcome words taken how)
 Holds-outcome words taken how exact = by_words (is_replay words) where
   by_words : (b : Bool) → Holds before_all (cond b (replayed 1 0 (pieces_of 10 taken) how before_all) (ended_with status.Usage 0 before_all))
   by_words true = Holds-replayed 1 0 (pieces_of 10 taken) how before_all exact agrees_first
   by_words false = Holds-ended_with status.Usage 0 before_all
 
-pub outcome-is_run : (words : List (List ℕ)) (taken : List ℕ) (how : Ending) → Exact → IsRunFrom before_start 0 (outcome words taken how).steps
+pub outcome-is_run : (words : List (List ℕ)) (taken : List ℕ) (how : Ending) → ExactLines → IsRunFrom before_start 0 (outcome words taken how).steps
 outcome-is_run words taken how exact = (Holds-outcome words taken how exact).is_run
 
 -- each step of a run was admitted
 admitted-in : (w : World) (n : ℕ) (steps earlier : List Step) (s : Step) (later : List Step) → IsRunFrom w n steps → steps ≡ earlier ++ s ∷ later
     → first_refusal (world_after w earlier) s.event ≡ None
-admitted-in w n steps [] s later run is = let here = rw is at run in here.2
-admitted-in w n steps (e ∷ earlier) s later run is = let here = rw is at run in admitted-in e.world (suc n) (earlier ++ s ∷ later) earlier s later here.4 refl
+admitted-in w n steps [] s later run is = let here = rw is at run in here.3
+admitted-in w n steps (e ∷ earlier) s later run is = let here = rw is at run in admitted-in e.world (suc n) (earlier ++ s ∷ later) earlier s later here.5 refl
 
-pub outcome-refused_exactly : (words : List (List ℕ)) (taken : List ℕ) (how : Ending) → Exact → RefusedExactly (outcome words taken how).steps (refusal_of (outcome words taken how))
+pub outcome-refused_exactly : (words : List (List ℕ)) (taken : List ℕ) (how : Ending) → ExactLines → RefusedExactly (outcome words taken how).steps (refusal_of (outcome words taken how))
 outcome-refused_exactly words taken how exact =
     let h = Holds-outcome words taken how exact in
     let p = outcome words taken how in
@@ -371,8 +368,5 @@ outcome-refused_exactly words taken how exact =
       reason = λ r is. (let there = rw is at h.refused in rw h.world at there);
     }
 
-pub outcome-one_primary : (words : List (List ℕ)) (taken : List ℕ) (how : Ending) → Exact → OnePrimary (outcome words taken how).steps
-outcome-one_primary words taken how exact = run-one_primary (outcome words taken how).steps (outcome-is_run words taken how exact)
-
-pub outcome-quiet_settles : (words : List (List ℕ)) (taken : List ℕ) (how : Ending) → Exact → QuietSettles (outcome words taken how).steps
-outcome-quiet_settles words taken how exact = run-quiet_settles (outcome words taken how).steps (outcome-is_run words taken how exact)
+pub outcome-agrees : (words : List (List ℕ)) (taken : List ℕ) (how : Ending) → ExactLines → Exact → Agreement (outcome words taken how).steps
+outcome-agrees words taken how lines messages = run-agrees messages (outcome words taken how).steps (outcome-is_run words taken how lines)

@@ -7,7 +7,7 @@ use Rattle.cg_schedule.specs.declared.event.Event.{Event}
 use Rattle.cg_schedule.specs.declared.fault.LineFault.{LineFault}
 use Rattle.cg_schedule.specs.declared.fault.LineFault.TheVariants.{Syntax, NoMemory}
 use Rattle.cg_schedule.specs.declared.word.Word.{Word}
-use Rattle.cg_schedule.specs.declared.word.Word.TheVariants.{Start, Merge, Order, Gather, Receive, Deliver, Rounds, End}
+use Rattle.cg_schedule.specs.declared.word.Word.TheVariants.{Start, Merge, Request, Order, Show, Gather, Receive, Deliver, Rounds, End}
 use Rattle.cg_schedule.specs.Reading.{whole}
 use Rattle.cg_schedule.specs.Line.{opening, event_reading, place_after}
 use Rattle.congruity.specs.declared.progress.Ending.{Ending}
@@ -32,7 +32,9 @@ unreadable n fault s = ended_with (status.Syntax n (reason_of fault)) n s
 abbrev pub is_built : Word → Bool
 is_built Start = true
 is_built Merge = true
+is_built Request = true
 is_built Order = true
+is_built Show = true
 is_built Gather = true
 is_built Receive = true
 is_built Deliver = true

@@ -3,7 +3,7 @@ use Rattle.std.specs.Prelude.{◌≡◌, ◌<◌, ℕ, List, ◌++◌, length, O
 use Rattle.std.specs.Io.KnownBytes.{Consumes, IsAtEnd}
 use Rattle.cg_base.specs.declared.no_memory.NoMemory.{NoMemory}
 use Rattle.cg_world.specs.World.{before_start}
-use Rattle.cg_world.specs.Agreement.{IsRunFrom, RefusedExactly, OnePrimary, QuietSettles}
+use Rattle.cg_world.specs.Agreement.{IsRunFrom, RefusedExactly, Agreement}
 use Rattle.congruity.specs.declared.progress.Ending.{Ending}
 use Rattle.congruity.specs.declared.progress.Ending.TheVariants.{Ended, Failed, Open}
 use Rattle.congruity.specs.declared.progress.Taken.{Taken}
@@ -37,8 +37,9 @@ TakesAll left left' faults faults' result =
     (λ _. (taken : List ℕ) × Consumes left left' taken)
 
 -- A run took some bytes, the taking ended in some way, and what was put and the status are those that these come to. The
--- steps are those of a run of the world, an event was refused exactly by the reason of its first test that fails, no
--- primary index names two components, and a configuration that is quiet is settled.
+-- steps are those of a run of the world, an event was refused exactly by the reason of its first test that fails, and the
+-- steps agree: on one order, whose prefix each replica has, on each creator's actions in it, on the answers of its
+-- actions, on the primary component of each index, and on what is settled.
 pub record RunsAs (words : List (List ℕ)) (left left' : Option (List ℕ)) (takes takes' : ℕ) (held held' : Option (List ℕ)) (puts puts' : ℕ) (status : Status) : Type 0 where
   pub taken : List ℕ
   pub ending : Ending
@@ -47,5 +48,4 @@ pub record RunsAs (words : List (List ℕ)) (left left' : Option (List ℕ)) (ta
   pub put : Stopped (outcome words taken ending) held held' puts puts' status
   pub is_run : IsRunFrom before_start 0 (outcome words taken ending).steps
   pub refused_exactly : RefusedExactly (outcome words taken ending).steps (refusal_of (outcome words taken ending))
-  pub one_primary : OnePrimary (outcome words taken ending).steps
-  pub quiet_settles : QuietSettles (outcome words taken ending).steps
+  pub agrees : Agreement (outcome words taken ending).steps

@@ -1,5 +1,8 @@
-ghost use Rattle.std.specs.Prelude.{◌≡◌, ◌<◌, ◌^◌, ◌+◌, ◌≤◌, length, IfOk};
+ghost use Rattle.std.specs.Prelude.{◌≡◌, ◌<◌, ◌^◌, ◌+◌, ◌≤◌, length, IfOk, Ok};
 ghost use Rattle.cg_base.specs.Text.{pieces_of};
+ghost use Rattle.cg_schedule.specs.Line.{event_reading};
+ghost use Rattle.cg_schedule.specs.Reading.{whole};
+ghost use Rattle.cg_world.specs.World.{MayAsk};
 ghost use Rattle.congruity.specs.Produced.{before_all};
 ghost use Rattle.congruity.specs.Outcome.{unreadable, is_built, supported_outcome, word_outcome, line_outcome, without_return, limit_of, whole_line, at_end, cut_line, last_piece, replayed};
 ghost use Rattle.congruity.specs.Putting.{Stopped, Performs};
@@ -10,7 +13,7 @@ use crate::rounds::perform;
 use crate::status::{Limit, Status};
 use cg_base::Pieces;
 use cg_io::Sink;
-use cg_schedule::{Event, LineFault, Word};
+use cg_schedule::{Event, LineFault, Word, lines_are_exact};
 use cg_text::Words;
 use std::alloc::Global;
 
@@ -42,6 +45,7 @@ fn is_built(word: Word) -> bool
     match word {
         Word::Start | Word::Merge | Word::Order | Word::Gather => true,
         Word::Receive | Word::Deliver | Word::Rounds | Word::End => true,
+        Word::Request | Word::Show => true,
         _ => false,
     }
 }
@@ -55,7 +59,8 @@ fn perform_supported<K: Sink>(
     event: &Event,
     progress: Progress,
 ) -> Result<Progress, Status>
-    requires { K.faults output.old < 2 ^ 62 }
+    requires few_faults { K.faults output.old < 2 ^ 62 }
+    requires asks { MayAsk event.now }
     ensures { Performs (supported_outcome line event.now progress)
         (K.held output.old) (K.held output.new) (K.faults output.old) (K.faults output.new) result }
 {
@@ -74,7 +79,8 @@ fn perform_read<K: Sink>(
     event: Event,
     progress: Progress,
 ) -> Result<Progress, Status>
-    requires { K.faults output.old < 2 ^ 62 }
+    requires few_faults { K.faults output.old < 2 ^ 62 }
+    requires asks { MayAsk event }
     ensures { Performs (supported_outcome line event progress)
         (K.held output.old) (K.held output.new) (K.faults output.old) (K.faults output.new) result }
 {
@@ -91,7 +97,8 @@ fn perform_word<K: Sink>(
     words: Words,
     progress: Progress,
 ) -> Result<Progress, Status>
-    requires { K.faults output.old < 2 ^ 62 }
+    requires few_faults { K.faults output.old < 2 ^ 62 }
+    requires asks { (event : Event) → whole (event_reading word) words ≡ Ok event → MayAsk event }
     ensures { Performs (word_outcome line word words.entry progress)
         (K.held output.old) (K.held output.new) (K.faults output.old) (K.faults output.new) result }
 {
@@ -137,6 +144,7 @@ fn perform_text<K: Sink>(
     ensures { Performs (line_outcome number line.now progress)
         (K.held output.old) (K.held output.new) (K.faults output.old) (K.faults output.new) result }
 {
+    lines_are_exact();
     match progress.reader.begin_line(line) {
         Ok(None) => Ok(progress),
         Ok(Some((word, words))) => perform_word(alloc, output, number, word, words, progress),

@@ -1,5 +1,6 @@
 ghost use Rattle.std.specs.Prelude.{◌≡◌, ◌<◌, ◌^◌};
 ghost use Rattle.cg_schedule.specs.declared.event.Event.TheVariants.{Gather};
+ghost use Rattle.cg_world.specs.World.{MayAsk};
 ghost use Rattle.congruity.specs.Produced.{one_step};
 ghost use Rattle.congruity.specs.Rounds.{deliver_ready, deliveries, one_pass, passes, happened};
 ghost use Rattle.congruity.specs.Putting.{Performs};
@@ -125,7 +126,8 @@ pub fn perform<K: Sink>(
     event: &Event,
     progress: Progress,
 ) -> Result<Progress, Status>
-    requires { K.faults output.old < 2 ^ 62 }
+    requires few_faults { K.faults output.old < 2 ^ 62 }
+    requires asks { MayAsk event.now }
     ensures { Performs (happened line event.now progress)
         (K.held output.old) (K.held output.new) (K.faults output.old) (K.faults output.new) result }
 {

@@ -1,5 +1,6 @@
 ghost use Rattle.std.specs.Prelude.{◌≡◌, ◌<◌, ◌^◌, MatchResult, Ok, Err};
 ghost use Rattle.cg_world.specs.declared.handing.Moved.{Moved};
+ghost use Rattle.cg_world.specs.World.{MayAsk};
 ghost use Rattle.congruity.specs.Produced.{stepped, one_step};
 ghost use Rattle.congruity.specs.Putting.{Performs};
 
@@ -53,7 +54,8 @@ pub fn take_step<K: Sink>(
     event: &Event,
     progress: Progress,
 ) -> Result<Progress, Status>
-    requires { K.faults output.old < 2 ^ 62 }
+    requires few_faults { K.faults output.old < 2 ^ 62 }
+    requires asks { MayAsk event.now }
     ensures { Performs (one_step line event.now progress)
         (K.held output.old) (K.held output.new) (K.faults output.old) (K.faults output.new) result }
 {

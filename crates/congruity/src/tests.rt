@@ -6,6 +6,7 @@ use cg_group::Reason;
 use cg_io::{MemSink, MemSource};
 use std::alloc::{AllocError, Global};
 use std::process::Abort;
+use std::str::from_utf8;
 use std::test::Fail;
 
 // The status of a run, and what it put.
@@ -215,6 +216,120 @@ fn three_replicas_form_a_primary_component(rt: HostRuntime) -> Result<(), Fail> 
     Ok(())
 }
 
+const TWO_REQUESTS: &str = "start 1 2 3
+merge 1 2 3
+rounds 2
+request 1 put \"x\" 1
+request 2 inc \"x\" 4 ? get \"x\"
+rounds 1
+show order
+end
+";
+
+const ANSWERS: &str = "= 11
+made 1:1 put \"x\" 1
+1 RegPrim c1 g0 w0 p1@1{1,2,3} a0 v1/0{1,2,3}{1} y- r[] o[1:1] x{} b0
+= 12
+made 2:1 inc \"x\" 4 ? get \"x\"
+2 RegPrim c1 g0 w0 p1@1{1,2,3} a0 v1/0{1,2,3}{2} y- r[] o[2:1] x{} b0
+= 14
+order 1 1:1
+order 2 2:1
+1 RegPrim c1 g2 w0 p1@1{1,2,3} a0 v1/0{1,2,3}{1} y- r[] o[] x{} b0
+reply 1:1 done
+= 15
+2 RegPrim c1 g2 w0 p1@1{1,2,3} a0 v1/0{1,2,3}{2} y- r[] o[] x{} b0
+reply 2:1 done ? 5
+= 16
+3 RegPrim c1 g2 w0 p1@1{1,2,3} a0 v1/0{1,2,3}{3} y- r[] o[] x{} b0
+= 17
+all [1:1,2:1]
+";
+
+#[test]
+fn two_requests_are_ordered_and_answered(rt: HostRuntime) -> Result<(), Fail> {
+    let (status, put) = run_on(rt.alloc(), &["replay"], TWO_REQUESTS.as_bytes(), &[], &[])?;
+    assert_eq!(rt; status, Status::Done);
+    let text = format!(in rt.alloc(); "{TEN_STEPS}{ANSWERS}end 17\n")?;
+    assert_eq!(rt; put.as_slice(), text.as_bytes());
+    Ok(())
+}
+
+#[test]
+fn what_was_put_before_the_third_put_failed_stays(rt: HostRuntime) -> Result<(), Fail> {
+    let (status, put) = run_on(rt.alloc(), &["replay"], TWO_REQUESTS.as_bytes(), &[], &[3])?;
+    assert_eq!(rt; status, Status::WriteFault);
+    let text = "= 1
+1 NonPrim - g0 w0 p0@0{1,2,3} a0 v- y- r[] o[] x{} b0
+2 NonPrim - g0 w0 p0@0{1,2,3} a0 v- y- r[] o[] x{} b0
+3 NonPrim - g0 w0 p0@0{1,2,3} a0 v- y- r[] o[] x{} b0
+= 2
+1 ExchangeStates c1 g0 w0 p0@0{1,2,3} a0 v- y- r[] o[] x{} b0
+2 ExchangeStates c1 g0 w0 p0@0{1,2,3} a0 v- y- r[] o[] x{} b0
+3 ExchangeStates c1 g0 w0 p0@0{1,2,3} a0 v- y- r[] o[] x{} b0
+";
+    assert_eq!(rt; put.as_slice(), text.as_bytes());
+    Ok(())
+}
+
+#[test]
+fn a_request_of_a_replica_that_has_not_begun_is_refused(rt: HostRuntime) -> Result<(), Fail> {
+    let input = b"start 1\nrequest 2 put \"x\" 1\n";
+    let (status, put) = run_on(rt.alloc(), &["replay"], input, &[], &[])?;
+    assert_eq!(rt; status.number(), 3);
+    let text = "= 1
+1 NonPrim - g0 w0 p0@0{1} a0 v- y- r[] o[] x{} b0
+refused 2 11 2
+";
+    assert_eq!(rt; put.as_slice(), text.as_bytes());
+    Ok(())
+}
+
+#[test]
+fn a_lone_replica_answers_with_the_text(rt: HostRuntime) -> Result<(), Fail> {
+    let input =
+        b"start 1\nmerge 1\nrounds 2\nrequest 1 put \"x\" \"hi\" ? get \"x\"\nrounds 1\nend\n";
+    let (status, put) = run_on(rt.alloc(), &["replay"], input, &[], &[])?;
+    assert_eq!(rt; status, Status::Done);
+    let text = "= 9
+order 1 1:1
+1 RegPrim c1 g1 w0 p1@1{1} a0 v1/0{1}{1} y- r[] o[] x{} b0
+reply 1:1 done ? \"hi\"
+end 9
+";
+    assert!(rt; put.as_slice().ends_with(text.as_bytes()));
+    Ok(())
+}
+
+const GUARDS: &str = "start 1 2 3
+merge 1 2 3
+rounds 2
+request 1 put \"x\" 1
+rounds 1
+request 1 need \"x\" 1; put \"x\" 2
+request 2 need \"x\" 1; put \"x\" 3
+rounds 1
+request 3 put \"n\" 9223372036854775807; inc \"n\" 1 ? get \"n\"
+rounds 1
+show 1
+end
+";
+
+#[test]
+fn a_failed_need_and_a_sum_past_the_range_change_nothing(rt: HostRuntime) -> Result<(), Fail> {
+    let (status, put) = run_on(rt.alloc(), &["replay"], GUARDS.as_bytes(), &[], &[])?;
+    assert_eq!(rt; status, Status::Done);
+    let text = from_utf8(&put)?;
+    assert!(rt; text.contains("\nreply 1:2 done\n= 20\n"), "{text}");
+    assert!(rt; text.contains("\nreply 2:1 aborted 1\n= "), "{text}");
+    assert!(rt;
+        text.contains("\nreply 3:1 range 2 ? absent\n= 27\n"),
+        "{text}"
+    );
+    assert!(rt; text.ends_with("\ndb 1 \"x\"=2\nend 27\n"), "{text}");
+    Ok(())
+}
+
 #[test]
 fn passes_make_their_steps(rt: HostRuntime) -> Result<(), Fail> {
     let table = [
@@ -255,6 +370,29 @@ fn the_events_of_the_group_have_their_refusals(rt: HostRuntime) -> Result<(), Fa
     for (lines, tail) in table {
         let input = format!(in rt.alloc(); "start 1 2\nmerge 1 2\n{lines}")?;
         let (_, put) = run_on(rt.alloc(), &["replay"], input.as_bytes(), &[], &[])?;
+        assert!(rt;
+            put.as_slice().ends_with(tail.as_bytes()),
+            "after {lines:?}"
+        );
+    }
+    Ok(())
+}
+
+#[test]
+fn requests_have_their_places_in_the_group(rt: HostRuntime) -> Result<(), Fail> {
+    let once = "request 1 put \"x\" 1\n";
+    let one = format!(in rt.alloc(); "{once}receive 2 7\n")?;
+    let two = format!(in rt.alloc(); "{once}{once}order 1\norder 1\nreceive 2 8\n")?;
+    let four = format!(in rt.alloc(); "{once}{once}{once}{once}gather\ndeliver 2 5\n")?;
+    let table = [
+        (one.as_str(), "\nrefused 5 4 7\n"),
+        (two.as_str(), "\nrefused 8 15 7\n"),
+        (four.as_str(), "\nrefused 9 6 4\n"),
+    ];
+    for (lines, tail) in table {
+        let input = format!(in rt.alloc(); "start 1 2 3\nmerge 1 2 3\nrounds 2\n{lines}")?;
+        let (status, put) = run_on(rt.alloc(), &["replay"], input.as_bytes(), &[], &[])?;
+        assert_eq!(rt; status.number(), 3, "after {lines:?}");
         assert!(rt;
             put.as_slice().ends_with(tail.as_bytes()),
             "after {lines:?}"

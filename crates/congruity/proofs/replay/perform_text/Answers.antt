@@ -1,7 +1,15 @@
-use Rattle.std.proofs.Common.{◌≡◌, Err, refl, sym, ◌∙◌}
+use Rattle.std.proofs.Common.{◌≡◌, ℕ, List, Ok, Err, Some, refl, sym, ap, ◌∙◌}
+use Rattle.cg_schedule.specs.declared.word.Word.{Word}
 use Rattle.cg_schedule.specs.Line.{opening}
+use Rattle.congruity.proofs.Asked.{may_ask_read}
 use Rattle.congruity.proofs.Lines.{line-opened}
 use Rattle.congruity.proofs.replay.perform_text.Goals as goal
+
+pub perform_word-requires-clause-asks : goal.perform_word-requires-clause-asks
+perform_word-requires-clause-asks g c =
+    let o : Word × List (List ℕ) = (c.in-Ok-Some.word, c.in-Ok-Some.words) in
+    let is : opening c.args.progress.reader c.args.line.now ≡ Ok (Some o) = sym c.begin_line.ensures ∙ c.in-Ok-Some.is ∙ ap Ok c.in-Ok-Some.field-0-is in
+    λ event read. may_ask_read c.lines_are_exact.ensures.event c.args.progress.reader c.args.line.now o event is read
 
 pub returns-in-Err : goal.returns-in-Err
 returns-in-Err g c =

@@ -2,7 +2,7 @@ use Rattle.std.proofs.Common.{◌≡◌, [], true, false, rules}
 use Rattle.congruity.specs.declared.progress.Ending.TheVariants.{Open}
 use Rattle.congruity.specs.Outcome.{outcome, is_replay}
 use Rattle.congruity.proofs.GoingOn.{Stopped-nothing}
-use Rattle.congruity.proofs.RunFacts.{outcome-is_run, outcome-refused_exactly, outcome-one_primary, outcome-quiet_settles}
+use Rattle.congruity.proofs.RunFacts.{outcome-is_run, outcome-refused_exactly, outcome-agrees}
 use Rattle.congruity.proofs.TakeLemmas.{Consumes-none, outcome-usage, outcome-replay}
 use Rattle.congruity.proofs.run.run.Goals as goal
 
@@ -18,8 +18,7 @@ returns-then-not-is_replay_command g c =
       put = rw (outcome-usage words other) c.finish.ensures;
       is_run = outcome-is_run words [] Open c.lines_are_exact.ensures.event;
       refused_exactly = outcome-refused_exactly words [] Open c.lines_are_exact.ensures.event;
-      one_primary = outcome-one_primary words [] Open c.lines_are_exact.ensures.event;
-      quiet_settles = outcome-quiet_settles words [] Open c.lines_are_exact.ensures.event;
+      agrees = outcome-agrees words [] Open c.lines_are_exact.ensures.event c.messages_are_exact.ensures.whole;
     }
 
 pub returns-in-Ok : goal.returns-in-Ok
@@ -35,8 +34,7 @@ returns-in-Ok g c =
       put = rw (outcome-replay words t.bytes t.ending replays, ← c.as_slice.ensures) c.replay.ensures;
       is_run = outcome-is_run words t.bytes t.ending c.lines_are_exact.ensures.event;
       refused_exactly = outcome-refused_exactly words t.bytes t.ending c.lines_are_exact.ensures.event;
-      one_primary = outcome-one_primary words t.bytes t.ending c.lines_are_exact.ensures.event;
-      quiet_settles = outcome-quiet_settles words t.bytes t.ending c.lines_are_exact.ensures.event;
+      agrees = outcome-agrees words t.bytes t.ending c.lines_are_exact.ensures.event c.messages_are_exact.ensures.whole;
     }
 
 pub returns-in-Err : goal.returns-in-Err
@@ -51,6 +49,5 @@ returns-in-Err g c =
       put = Stopped-nothing (outcome words t Open) (g.K.Sink.held c.args.output.now) (g.K.Sink.faults c.args.output.now);
       is_run = outcome-is_run words t Open c.lines_are_exact.ensures.event;
       refused_exactly = outcome-refused_exactly words t Open c.lines_are_exact.ensures.event;
-      one_primary = outcome-one_primary words t Open c.lines_are_exact.ensures.event;
-      quiet_settles = outcome-quiet_settles words t Open c.lines_are_exact.ensures.event;
+      agrees = outcome-agrees words t Open c.lines_are_exact.ensures.event c.messages_are_exact.ensures.whole;
     }
