@@ -7,7 +7,7 @@ use Rattle.cg_action.specs.declared.command.Cmd.TheVariants.{Put, Inc, Need}
 use Rattle.cg_action.specs.declared.query.Query.TheVariants.{Get}
 use Rattle.cg_schedule.specs.declared.event.Event.{Event}
 use Rattle.cg_schedule.specs.declared.event.Event.TheVariants.{Start, Merge, Request, Show, Rounds}
-use Rattle.cg_worked.specs.Playing.{unweighted, last_line, step_count, refusal}
+use Rattle.cg_worked.specs.Playing.{unweighted, events_of, last_line, step_count, refusal}
 use Rattle.cg_worked.specs.Computing.{cases_compute}
 
 abbrev guards : List Event
@@ -24,6 +24,24 @@ guards =
     Rounds 1 ∷
     Show 1 ∷
     []
+
+guards-lines :
+    events_of (
+    "start 1 2 3" ∷
+    "merge 1 2 3" ∷
+    "rounds 2" ∷
+    "request 1 put \"x\" 1" ∷
+    "rounds 1" ∷
+    "request 1 need \"x\" 1; put \"x\" 2" ∷
+    "request 2 need \"x\" 1; put \"x\" 3" ∷
+    "rounds 1" ∷
+    "request 3 put \"n\" 9223372036854775807; inc \"n\" 1 ? get \"n\"" ∷
+    "rounds 1" ∷
+    "show 1" ∷
+    [])
+    ≡ Some guards
+unfolding cases_compute
+guards-lines = refl
 
 guards-19-last : last_line guards 19 ≡ Some (codes "reply 1:2 done")
 unfolding cases_compute

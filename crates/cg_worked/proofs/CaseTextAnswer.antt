@@ -6,7 +6,7 @@ use Rattle.cg_action.specs.declared.command.Cmd.TheVariants.{Put}
 use Rattle.cg_action.specs.declared.query.Query.TheVariants.{Get}
 use Rattle.cg_schedule.specs.declared.event.Event.{Event}
 use Rattle.cg_schedule.specs.declared.event.Event.TheVariants.{Start, Merge, Request, Rounds}
-use Rattle.cg_worked.specs.Playing.{unweighted, has_line, last_line, step_count, refusal}
+use Rattle.cg_worked.specs.Playing.{unweighted, events_of, has_line, last_line, step_count, refusal}
 use Rattle.cg_worked.specs.Computing.{cases_compute}
 
 abbrev text_answer : List Event
@@ -17,6 +17,18 @@ text_answer =
     Request 1 (Put (codes "x") (Text (codes "hi")) ∷ []) (Some (Get (codes "x"))) ∷
     Rounds 1 ∷
     []
+
+text_answer-lines :
+    events_of (
+    "start 1" ∷
+    "merge 1" ∷
+    "rounds 2" ∷
+    "request 1 put \"x\" \"hi\" ? get \"x\"" ∷
+    "rounds 1" ∷
+    [])
+    ≡ Some text_answer
+unfolding cases_compute
+text_answer-lines = refl
 
 text_answer-6-a : has_line text_answer 6 (codes "1 RegPrim c1 g0 w0 p1@1{1} a0 v1/0{1}{1} y- r[] o[] x{} b0") ≡ true
 unfolding cases_compute

@@ -16,3 +16,6 @@ mod CaseCompared
 mod CaseCounted
 mod CaseTwoAlternate
 mod CaseThreeAlternate
+mod CaseKeysListed
+mod CaseFiveAlternate
+mod CaseFourAlternate

@@ -1,5 +1,5 @@
 -- A schedule, played by the steps of the world, and what is told of it.
-use Rattle.std.specs.Prelude.{ℕ, zero, suc, ◌==◌, Bool, true, false, List, [], ◌∷◌, ◌++◌, Option, Some, None, map, fold, codes, decimal}
+use Rattle.std.specs.Prelude.{ℕ, zero, suc, ◌==◌, Bool, true, false, List, [], ◌∷◌, ◌++◌, Option, Some, None, Result, Ok, Err, map, fold, codes, decimal, option_map}
 use Rattle.std.specs.List.{flat_map, list_any}
 use Rattle.std.specs.Str.{encode_utf8_all}
 use Prim.Native.String.{String}
@@ -10,6 +10,9 @@ use Rattle.cg_group.specs.declared.reason.Reason.{Reason}
 use Rattle.cg_group.specs.Ready.{ready}
 use Rattle.cg_group.specs.Reasons.{reason_number, reason_value}
 use Rattle.cg_schedule.specs.declared.event.Event.{Event}
+use Rattle.cg_schedule.specs.declared.fault.LineFault.{LineFault}
+use Rattle.cg_schedule.specs.declared.place.Place.{Place}
+use Rattle.cg_schedule.specs.Line.{first_place, reading, place_behind}
 use Rattle.cg_schedule.specs.declared.event.Event.TheVariants.{Gather, Deliver, Rounds}
 use Rattle.cg_world.specs.declared.handing.Moved.{Moved}
 use Rattle.cg_world.specs.declared.world.World.{World}
@@ -121,10 +124,6 @@ last_line events number = last_of (step_lines events number)
 
 -- ---- words in which the cases are written
 
--- replicas of weight 1
-abbrev pub unweighted : List ℕ → List Weighted
-unweighted set = map (λ id. record { id = id; weight = 1 }) set
-
 -- the bytes of a text
 abbrev pub utf8 : String → List ℕ
 utf8 text = encode_utf8_all (codes text)
@@ -133,3 +132,23 @@ utf8 text = encode_utf8_all (codes text)
 abbrev pub written : List String → List ℕ
 written [] = []
 written (line ∷ lines) = utf8 line ++ 10 ∷ written lines
+
+-- replicas of weight 1
+abbrev pub unweighted : List ℕ → List Weighted
+unweighted set = map (λ id. record { id = id; weight = 1 }) set
+
+-- an event that was read, before the others; a line that is refused reads as none
+abbrev pub event_before : Result (Option Event) LineFault → Option (List Event) → Option (List Event)
+event_before (Ok None) events = events
+event_before (Ok (Some e)) events = option_map (λ list. e ∷ list) events
+event_before (Err fault) events = None
+
+-- the events that lines read as in a place
+abbrev pub events_from : Place → List String → Option (List Event)
+events_from place [] = Some []
+events_from place (line ∷ lines) =
+    let read = reading place (utf8 line) in event_before read (events_from (place_behind place read) lines)
+
+-- the events that the lines of a schedule read as, where none is refused
+abbrev pub events_of : List String → Option (List Event)
+events_of lines = events_from first_place lines
