@@ -4,7 +4,8 @@ use Rattle.std.proofs.lemmas.List.{append-nil}
 use Rattle.std.specs.Io.KnownBytes.{Appends}
 use Rattle.cg_io.specs.Outside.{AppendsFront}
 use Rattle.cg_world.specs.World.{Step}
-use Rattle.cg_report.specs.EntryText.{entry_text, report_text}
+use Rattle.cg_report.specs.EntryText.{entry_text}
+use Rattle.cg_world.specs.Report.{report_text}
 use Rattle.congruity.specs.declared.progress.Progress.{Progress}
 use Rattle.congruity.specs.declared.status.Status.{Status}
 use Rattle.congruity.specs.declared.status.Status.TheVariants as status

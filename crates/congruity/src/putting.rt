@@ -7,7 +7,7 @@ ghost use Rattle.congruity.specs.Putting.{CutShort, StopsWith, IsFinding};
 use crate::status::Status;
 use crate::tail::put_tail;
 use cg_io::{IoFault, Sink};
-use cg_world::{Entry, put_entry};
+use cg_report::{Entry, put_entry};
 use std::alloc::Global;
 
 // Puts a text, unless it is empty.

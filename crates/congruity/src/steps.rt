@@ -8,8 +8,9 @@ use crate::progress::{Progress, Stage};
 use crate::putting::{finish, put_step};
 use crate::status::{Limit, Status};
 use cg_io::Sink;
+use cg_report::Entry;
 use cg_schedule::{Event, Reader};
-use cg_world::{Entry, Stepped, World};
+use cg_world::{Stepped, World};
 use std::alloc::Global;
 
 // The step of an event that was admitted, from how far the run had come before it to this world.
