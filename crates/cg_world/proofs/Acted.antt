@@ -1,11 +1,11 @@
 -- What stands behind an event at one member: a request, or messages that it was handed.
-use Rattle.std.proofs.Common.{◌≡◌, ℕ, zero, suc, ◌+◌, ◌<◌, ◌≤◌, ◌^◌, ◌⊎◌, inl, inr, ⊎_elim, Bool, true, false, List, [], ◌∷◌, ◌++◌, length, take, drop, append-nil, append_assoc, length-append, Option, Some, None, refl, sym, ap, subst, ◌∙◌, arith, map, fold, if◌then◌else◌}
-use Rattle.std.proofs.lemmas.Bool.{cases_Bool, cases_eq, cond-true, cond-false}
-use Rattle.std.proofs.lemmas.List.{map-append, length-map}
+use Rattle.std.proofs.Common.{◌≡◌, ℕ, zero, suc, ◌+◌, ◌<◌, ◌≤◌, ◌^◌, ◌⊎◌, inl, inr, ⊎_elim, Bool, true, false, List, [], ◌∷◌, ◌++◌, length, take, drop, append-nil, append_assoc, length-append, Option, Some, refl, sym, ap, subst, ◌∙◌, arith, map, fold, if◌then◌else◌}
+use Rattle.std.proofs.lemmas.Bool.{cases_eq}
+use Rattle.std.proofs.lemmas.List.{map-append}
 use Rattle.cg_base.specs.declared.action_id.ActionId.{ActionId}
 use Rattle.cg_base.specs.declared.weighted.Weighted.{Weighted}
 use Rattle.cg_base.specs.Sets.{IsId, has}
-use Rattle.cg_base.specs.Weights.{ids, IsWeightSet}
+use Rattle.cg_base.specs.Weights.{ids}
 use Rattle.cg_action.specs.declared.action.Action.{Action}
 use Rattle.cg_action.specs.declared.action.Kind.{Kind}
 use Rattle.cg_action.specs.Limits.{IsAction, IsKind}
@@ -108,10 +108,11 @@ module _ (W : List Weighted) (n : ℕ) (made : List Action) (r : Replica) (numbe
       few_now = let one = at.created in let two = ap length at.buffered in omega (arith, few, one, two)
 
       by_state : (b : Bool) → is_reg_prim t.replica.state ≡ b → (new : List Action) × Ended W n made new k r (if b then fold create (emptied t) t.replica.buffered else t)
-      by_state true prim =
-          (new_actions (emptied t).replica t.replica.buffered,
-          subst (Ended W n made (new_actions (emptied t).replica t.replica.buffered) k r) (sym (create-all t.replica.buffered (emptied t)))
-          (ended-created first k t t.replica.buffered at prim within id line few_now small))
+      by_state true prim = (
+        new_actions (emptied t).replica t.replica.buffered,
+        subst (Ended W n made (new_actions (emptied t).replica t.replica.buffered) k r) (sym (create-all t.replica.buffered (emptied t)))
+            (ended-created first k t t.replica.buffered at prim within id line few_now small),
+      )
       by_state false none = ([], ended-plain first k t at (λ y. absurd (let clash : true ≡ false = sym y ∙ none in cc)) within few_now)
 
   -- a request
@@ -124,25 +125,29 @@ module _ (W : List Weighted) (n : ℕ) (made : List Action) (r : Replica) (numbe
 
       by_state : (b : Bool) → is_reg_prim r.state ≡ b → (new : List Action) × Ended W n made new k r (if b then create (begin r) kind else buffer (begin r) kind)
       by_state true prim =
-          let nothing : begin r ≡ emptied (begin r) = λ i. begin (record r { buffered = emptied_is prim i }) in
-          (new_actions (emptied (begin r)).replica (kind ∷ []),
-          subst (Ended W n made (new_actions (emptied (begin r)).replica (kind ∷ [])) k r) (sym (ap (λ t. create t kind) nothing ∙ create-all (kind ∷ []) (emptied (begin r))))
-          (ended-created k k (begin r) (kind ∷ []) at prim (is, tt) id line (omega (arith, few)) small))
-      by_state false none = ([], record {
-        id = refl;
-        servers = servers;
-        knows = record { state = knows.state; greens = knows.greens; db = knows.db; delivered = knows.delivered };
-        said = append-nil (voiced W r.id r.state made) ∙ ap (voiced W r.id r.state) (sym (append-nil made));
-        numbered = subst (AreNumbered r.id) (sym (append-nil made)) numbered;
-        created = created ∙ ap length (sym (append-nil made));
-        limits = subst (Each IsAction) (sym (append-nil made)) limits;
-        kinds = Each-append IsKind r.buffered (kind ∷ []) kinds (is, tt);
-        early = λ n. append-nil made ∙ early n;
-        emptied = λ y. absurd (let clash : true ≡ false = sym y ∙ none in cc);
-        few = (let more = length-append r.buffered (kind ∷ []) in omega (arith, few, more));
-        lines = refl;
-        green_lines = tt;
-      })
+          let nothing : begin r ≡ emptied (begin r) = λ i. begin (record r { buffered = emptied_is prim i }) in (
+            new_actions (emptied (begin r)).replica (kind ∷ []),
+            subst (Ended W n made (new_actions (emptied (begin r)).replica (kind ∷ [])) k r) (sym (ap (λ t. create t kind) nothing ∙ create-all (kind ∷ []) (emptied (begin r))))
+                (ended-created k k (begin r) (kind ∷ []) at prim (is, tt) id line (omega (arith, few)) small),
+          )
+      by_state false none = (
+        [],
+        record {
+          id = refl;
+          servers = servers;
+          knows = record { state = knows.state; greens = knows.greens; db = knows.db; delivered = knows.delivered };
+          said = append-nil (voiced W r.id r.state made) ∙ ap (voiced W r.id r.state) (sym (append-nil made));
+          numbered = subst (AreNumbered r.id) (sym (append-nil made)) numbered;
+          created = created ∙ ap length (sym (append-nil made));
+          limits = subst (Each IsAction) (sym (append-nil made)) limits;
+          kinds = Each-append IsKind r.buffered (kind ∷ []) kinds (is, tt);
+          early = λ n. append-nil made ∙ early n;
+          emptied = λ y. absurd (let clash : true ≡ false = sym y ∙ none in cc);
+          few = (let more = length-append r.buffered (kind ∷ []) in omega (arith, few, more));
+          lines = refl;
+          green_lines = tt;
+        },
+      )
 
 -- ---- the picture behind it
 

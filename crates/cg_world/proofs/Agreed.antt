@@ -8,7 +8,7 @@ use Rattle.std.proofs.lemmas.List.Elements.{filter-append}
 use Rattle.std.proofs.lemmas.List.Sums.{fold-append}
 use Rattle.cg_base.specs.declared.action_id.ActionId.{ActionId}
 use Rattle.cg_base.specs.Ids.{same_id}
-use Rattle.cg_base.specs.Lists.{count_up, present}
+use Rattle.cg_base.specs.Lists.{count_up}
 use Rattle.cg_action.specs.declared.action.Action.{Action}
 use Rattle.cg_db.specs.declared.entry.DbEntry.{DbEntry}
 use Rattle.cg_db.specs.Apply.{apply, fold_actions}
@@ -16,24 +16,21 @@ use Rattle.cg_db.specs.Find.{answer, query_of}
 use Rattle.cg_group.proofs.Each.{Each}
 use Rattle.cg_report.specs.declared.entry.Reply.{Reply}
 use Rattle.cg_report.specs.declared.entry.Shown.TheVariants.{Greens, Database, All}
-use Rattle.cg_report.specs.declared.line.Line.{Line}
-use Rattle.cg_report.specs.declared.line.StateName.TheVariants.{RegPrim}
 use Rattle.cg_report.specs.declared.line.UpLine.{UpLine}
 use Rattle.cg_world.specs.declared.replica.Replica.{Replica}
 use Rattle.cg_world.specs.declared.world.World.{World}
-use Rattle.cg_world.specs.Replica.{up_line_of, reply_to}
+use Rattle.cg_world.specs.Replica.{up_line_of}
 use Rattle.cg_world.specs.World.{Step, before_start, replica_of}
-use Rattle.cg_world.specs.Shown.{order_lines, order_of, made_names, position_of, made_of, made_action, made_actions, ordered_actions}
-use Rattle.cg_world.specs.Quiet.{is_quiet, IsSettled}
-use Rattle.cg_world.specs.Agreement.{IsRunFrom, ComesAfter, through, OrderGrows, may_move, Prefix, CreatorOrder, IsPassed, FoldAnswers, OnePrimary, QuietSettles, Agreement}
+use Rattle.cg_world.specs.Shown.{order_of, made_names, position_of, made_of, made_action, made_actions, ordered_actions}
+use Rattle.cg_world.specs.Agreement.{IsRunFrom, ComesAfter, through, OrderGrows, Prefix, CreatorOrder, IsPassed, FoldAnswers, OnePrimary, QuietSettles, Agreement}
 use Rattle.cg_world.proofs.Lists.{Each-contains}
 use Rattle.cg_world.proofs.Numbered.{own_in, IsOrdered, own-names, placed-once, numbered-at, found-all, Each-front}
-use Rattle.cg_world.proofs.Telling.{answers, answers-names, answers-at, Told, split-at, contains-at, contains-map, contains-filter, contains-filter-in, unmap}
+use Rattle.cg_world.proofs.Telling.{answers-names, answers-at, split-at, contains-at, contains-map, contains-filter, contains-filter-in, unmap}
 use Rattle.cg_world.proofs.Wire.{Exact}
 use Rattle.cg_world.proofs.Heard.{Front}
 use Rattle.cg_world.proofs.Primaries.{run-one}
 use Rattle.cg_world.proofs.Running.{names_in, Stands, greens_in, IsShownOf, Gave, Change}
-use Rattle.cg_world.proofs.Booked.{Book, Fine, fine-with, fine-of, Seen, run-seen, run-fine}
+use Rattle.cg_world.proofs.Booked.{Fine, fine-with, fine-of, Seen, run-seen, run-fine}
 use Rattle.cg_world.proofs.Quieting.{quiet-settles}
 
 -- a replica's position in the order is the number of its greens

@@ -1,9 +1,7 @@
 -- The actions of the global order, and what each step of a run is behind the steps before it.
-use Rattle.std.proofs.Common.{◌≡◌, ℕ, zero, suc, ◌+◌, ◌<◌, ◌≤◌, ◌⊎◌, inl, inr, ⊎_elim, Bool, true, false, not, List, [], ◌∷◌, ◌++◌, length, take, append-nil, append_assoc, length-append, Option, Some, None, option_map, refl, sym, ap, ap₂, subst, ◌∙◌, arith, map, find, filter, fold, Contains, if◌then◌else◌, eq-eqb, eqb-true}
+use Rattle.std.proofs.Common.{◌≡◌, ℕ, suc, ◌⊎◌, inl, inr, ⊎_elim, true, false, List, [], ◌∷◌, ◌++◌, length, take, append-nil, append_assoc, Some, None, refl, sym, ap, subst, ◌∙◌, arith, map, find, Contains, eq-eqb}
 use Rattle.std.specs.Prelude.{◌==◌}
-use Rattle.std.specs.Option.{option_map_or}
-use Rattle.std.proofs.lemmas.Bool.{cases_Bool, cases_eq, cond_both, ne_eqb}
-use Rattle.std.proofs.lemmas.List.{map-append, length-map}
+use Rattle.std.proofs.lemmas.Bool.{cases_Bool}
 use Rattle.std.proofs.lemmas.List.Elements.{filter-append}
 use Rattle.cg_base.specs.declared.action_id.ActionId.{ActionId}
 use Rattle.cg_base.specs.declared.weighted.Weighted.{Weighted}
@@ -12,50 +10,27 @@ use Rattle.cg_base.specs.Lists.{count_up}
 use Rattle.cg_base.specs.Sets.{has}
 use Rattle.cg_base.specs.Weights.{ids, IsWeightSet}
 use Rattle.cg_action.specs.declared.action.Action.{Action}
-use Rattle.cg_action.specs.declared.action.Kind.TheVariants.{Update}
-use Rattle.cg_db.specs.declared.entry.DbEntry.{DbEntry}
 use Rattle.cg_db.specs.Apply.{fold_actions}
-use Rattle.cg_group.specs.Events.{gather, order, receive}
-use Rattle.cg_group.specs.State.{GroupState}
-use Rattle.cg_group.proofs.Each.{Each, Each-weaker, filter_none}
-use Rattle.cg_group.proofs.Picture.{put}
-use Rattle.cg_group.proofs.Lookups.{put-other, put-same}
+use Rattle.cg_group.proofs.Each.{Each}
 use Rattle.cg_schedule.specs.declared.event.Event.{Event}
-use Rattle.cg_schedule.specs.declared.event.Event.TheVariants.{Start, Merge, Request, Order, Show, ShowOrder, Gather, Receive, Deliver}
-use Rattle.cg_report.specs.declared.entry.Made.{Made}
-use Rattle.cg_report.specs.declared.entry.Shown.{Shown}
-use Rattle.cg_report.specs.declared.entry.Shown.TheVariants.{Greens, Database, All}
-use Rattle.cg_report.specs.declared.line.Line.{Line}
-use Rattle.cg_report.specs.declared.line.UpLine.{UpLine}
-use Rattle.cg_report.specs.declared.line.StateName.TheVariants.{RegPrim as NamedRegPrim}
-use Rattle.cg_world.specs.declared.state.State.{State}
-use Rattle.cg_world.specs.declared.state.State.TheVariants.{NonPrim, ExchangeStates, Construct, RegPrim}
+use Rattle.cg_schedule.specs.declared.event.Event.TheVariants.{Start, Merge, Request}
 use Rattle.cg_world.specs.declared.replica.Replica.{Replica}
 use Rattle.cg_world.specs.declared.world.World.{World}
 use Rattle.cg_world.specs.declared.handing.Moved.{Moved}
-use Rattle.cg_world.specs.Replica.{Turn, fresh, is_reg_prim, state_name, up_line_of, line_of}
-use Rattle.cg_world.specs.World.{Step, silently, showing, before_start, replica_of, with_replica, news, new_in_order, placed_from, with_turn, world_step, first_refusal}
-use Rattle.cg_report.specs.EntryText.{no_entry}
-use Rattle.cg_world.specs.Shown.{order_lines, order_of, made_names, lines_in, last_up, position_of, made_at, made_of, made_action}
-use Rattle.cg_world.specs.Agreement.{MayStand, IsRunFrom, may_move}
+use Rattle.cg_world.specs.World.{Step, before_start, replica_of, world_step, first_refusal}
+use Rattle.cg_world.specs.Shown.{order_lines, made_names, lines_in, made_of, made_action}
+use Rattle.cg_world.specs.Agreement.{IsRunFrom}
 use Rattle.cg_world.proofs.Lists.{Each-contains}
 use Rattle.cg_world.proofs.Numbered.{AreNumbered, made_by, own_in, IsOrdered, numbered-front, find-numbered, find-own, own-names, numbered-ordered, own-empty, Each-back}
 use Rattle.cg_world.proofs.Pictures.{pic}
-use Rattle.cg_world.proofs.Telling.{find-other, find-new, found_id, answers, Told, told-turn, told-begun, order_lines-more, lines_in-more, order_of-more, made_of-more, made_of-names, split-at, contains-at, contains-map, contains-filter, contains-filter-in}
+use Rattle.cg_world.proofs.Telling.{Told, told-begun, made_of-names, split-at, contains-at, contains-map, contains-filter, contains-filter-in}
 use Rattle.cg_world.proofs.Wire.{Exact}
-use Rattle.cg_world.proofs.Heard.{Known, HasEarned, after, after-front}
-use Rattle.cg_world.proofs.Said.{numbered-named}
-use Rattle.cg_world.proofs.Formed.{Knows}
-use Rattle.cg_world.proofs.Turns.{made_line}
+use Rattle.cg_world.proofs.Heard.{after, after-front}
 use Rattle.cg_world.proofs.Acted.{acts-front}
-use Rattle.cg_world.proofs.Together.{Together, ActedAt, formed-later, made-parts, gather-kept, order-kept, receive-kept, admitted-request, admitted-deliver, admitted-order, admitted-receive, is_regular-in, deliver-acted, request-acted}
-use Rattle.cg_world.proofs.Coming.{Apart, IsWaiting, IsIdle, apart-later, gather-alone, found-has, request-apart, merge-kept, MergedSoFar, merge-shows, start-apart}
-
-use Rattle.cg_world.proofs.Running.{names_in, Phase, Stands, greens_in, IsShownOf, Answered, Change, step_to, still, acted, told-more, made-none, no_element}
-
-use Rattle.cg_world.specs.Agreement.{step_limit}
+use Rattle.cg_world.proofs.Together.{Together, made-parts}
+use Rattle.cg_world.proofs.Coming.{Apart, IsWaiting, start-apart}
+use Rattle.cg_world.proofs.Running.{names_in, Phase, Stands, greens_in, Change, step_to, told-more, no_element}
 use Rattle.cg_world.proofs.Heard.{Front, acts_in}
-use Rattle.cg_world.proofs.Formed.{Reached}
 use Rattle.cg_world.proofs.Stepping.{greens-none, begun-member, stands-step}
 
 -- the actions of the global order: each was shown as made, and each replica's greens and database are those of a front of them
@@ -94,7 +69,7 @@ some_replica : (r s : Replica) → Some r ≡ Some s → r ≡ s
 some_replica r s e = cc
 
 module _ (exact : Exact) (W : List Weighted) (set : IsWeightSet W) (n : ℕ) (steps : List Step) (w : World) (made : ℕ → List Action) (t : Together W n made w)
-  (shown : (q : ℕ) → has (ids W) q ≡ true → made_by q (made_of steps) ≡ made q) where
+    (shown : (q : ℕ) → has (ids W) q ≡ true → made_by q (made_of steps) ≡ made q) where
   S : List ℕ
   S = ids W
 

@@ -2,12 +2,12 @@
 use Rattle.std.proofs.Common.{◌≡◌, ℕ, zero, suc, ◌+◌, ◌<◌, ◌≤◌, ◌^◌, ◌⊎◌, inl, inr, ⊎_elim, Bool, true, false, ◌||◌, not, List, [], ◌∷◌, ◌++◌, length, drop, take, append-nil, Option, Some, None, refl, sym, ap, ap₂, subst, ◌∙◌, arith, map, find, fold, if◌then◌else◌, eq-eqb, eqb-true}
 use Rattle.std.specs.Prelude.{◌==◌}
 use Rattle.std.specs.Option.{option_map_or}
-use Rattle.std.proofs.lemmas.Bool.{cases_Bool, cases_eq, cond_both, cond-true, cond-false, ne_eqb, or_cases}
+use Rattle.std.proofs.lemmas.Bool.{cases_Bool, cases_eq, cond_both, cond-true, cond-false, ne_eqb}
 use Rattle.std.proofs.lemmas.List.{length-map}
 use Rattle.cg_base.specs.declared.action_id.ActionId.{ActionId}
 use Rattle.cg_base.specs.declared.weighted.Weighted.{Weighted}
 use Rattle.cg_base.specs.Lists.{above_up_to}
-use Rattle.cg_base.specs.Sets.{IsId, has, is_within, IsSet, Ascends}
+use Rattle.cg_base.specs.Sets.{has, is_within, Ascends}
 use Rattle.cg_base.specs.Weights.{ids, IsWeightSet}
 use Rattle.cg_base.proofs.SetLemmas.{has-before}
 use Rattle.cg_action.specs.declared.action.Action.{Action}
@@ -15,13 +15,12 @@ use Rattle.cg_action.specs.declared.action.Kind.{Kind}
 use Rattle.cg_action.specs.Limits.{IsAction, IsKind}
 use Rattle.cg_wire.specs.declared.message.Msg.TheVariants.{State as StateMessage}
 use Rattle.cg_wire.specs.Bytes.{spelled_msg}
-use Rattle.cg_group.specs.declared.delivery.Delivery.{Delivery}
 use Rattle.cg_group.specs.declared.delivery.Delivery.TheVariants.{Regular as RegularIn}
 use Rattle.cg_group.specs.declared.delivery.Handed.{Handed as HandedTo}
 use Rattle.cg_group.specs.declared.phase.Phase.{Phase}
 use Rattle.cg_group.specs.declared.phase.Phase.TheVariants.{Down, Alone, Regular}
 use Rattle.cg_group.specs.declared.reason.Reason.TheVariants.{EmptySet}
-use Rattle.cg_group.specs.State.{Configuration, Standing, GroupState, Sent, no_group, standing_of, configuration, no_configuration, phase_of, delivered_to, unordered_of, regular_in, home, is_up}
+use Rattle.cg_group.specs.State.{Configuration, Standing, GroupState, no_group, standing_of, configuration, no_configuration, phase_of, unordered_of, regular_in, is_up}
 use Rattle.cg_group.specs.Events.{come_up, send_all, order, order_all, receive, receive_all, regulars, gather, become_regular, merge}
 use Rattle.cg_group.specs.Synchrony.{ordered_from}
 use Rattle.cg_group.specs.History.{NamesOnce}

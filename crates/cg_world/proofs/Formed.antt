@@ -1,8 +1,8 @@
 -- What stands once all replicas have come together: each replica holds what the messages that it was handed make of it, and
 -- it has said what its state and its actions say that it has.
-use Rattle.std.proofs.Common.{◌≡◌, ℕ, suc, ◌+◌, ◌≤◌, ◌<◌, ◌⊎◌, inl, inr, ⊎_elim, Bool, true, false, List, [], ◌∷◌, ◌++◌, length, take, append-nil, append_assoc, length-append, Option, Some, None, refl, sym, ap, subst, ◌∙◌, arith, map, filter, if◌then◌else◌, eq-eqb}
+use Rattle.std.proofs.Common.{◌≡◌, ℕ, ◌+◌, ◌≤◌, ⊎_elim, Bool, true, false, List, [], ◌∷◌, ◌++◌, length, take, append-nil, append_assoc, length-append, Option, Some, refl, sym, ap, subst, ◌∙◌, arith, map, if◌then◌else◌, eq-eqb}
 use Rattle.std.specs.Prelude.{◌==◌}
-use Rattle.std.proofs.lemmas.Bool.{cases_eq, cond-true, cond-false, ne_eqb}
+use Rattle.std.proofs.lemmas.Bool.{cases_eq, cond-true, ne_eqb}
 use Rattle.std.proofs.lemmas.List.{take-append-le}
 use Rattle.std.proofs.lemmas.List.Elements.{filter-append}
 use Rattle.cg_base.specs.declared.action_id.ActionId.{ActionId}
@@ -16,19 +16,19 @@ use Rattle.cg_wire.specs.declared.message.Msg.{Msg}
 use Rattle.cg_wire.specs.declared.message.Msg.TheVariants.{Action as ActionMessage, State as StateMessage, GreenItem, RedItem, Cpc}
 use Rattle.cg_wire.specs.Bytes.{spelled_msg}
 use Rattle.cg_group.specs.declared.phase.Phase.TheVariants.{Regular}
-use Rattle.cg_group.specs.State.{Sent, regular_in}
+use Rattle.cg_group.specs.State.{regular_in}
 use Rattle.cg_group.specs.Synchrony.{ordered_from}
 use Rattle.cg_group.proofs.Each.{Each, Each-append}
 use Rattle.cg_group.proofs.Picture.{put}
 use Rattle.cg_group.proofs.Lookups.{put-other, put-same}
 use Rattle.cg_world.specs.declared.replica.Replica.{Replica}
 use Rattle.cg_world.specs.declared.state.State.{State}
-use Rattle.cg_world.specs.Message.{message_in, first_summary}
+use Rattle.cg_world.specs.Message.{message_in}
 use Rattle.cg_world.specs.Replica.{is_reg_prim, next_state}
 use Rattle.cg_world.proofs.Numbered.{AreNumbered, made_by}
 use Rattle.cg_world.proofs.Pictures.{M, Pic, moved}
 use Rattle.cg_world.proofs.Wire.{Exact, read_again}
-use Rattle.cg_world.proofs.Heard.{Known, learned_of, learned, after, after-more, InOne, after-one, is_past, past-kept, prim-kept, after-kept, acts_in, Hears, grown, ordered_from-more, hears-state, hears-complete, hears-action}
+use Rattle.cg_world.proofs.Heard.{Known, learned_of, after, after-more, InOne, after-one, is_past, past-kept, prim-kept, after-kept, acts_in, Hears, grown, ordered_from-more, hears-state, hears-complete, hears-action}
 use Rattle.cg_world.proofs.Said.{said_in, action_msgs, voiced, IsEarly, IsSaid, voiced-each, one-of, said-within, acts_in-append, acts_in-none, acts_in-one}
 
 -- the replica holds what is known

@@ -1,26 +1,23 @@
 -- What ordered messages make of a member: its state, and the actions that it marks green.
-use Rattle.std.proofs.Common.{◌≡◌, ℕ, ◌⊎◌, inl, inr, Bool, true, false, cond, ◌||◌, ◌&&◌, List, [], ◌∷◌, ◌++◌, take, drop, append-nil, append_assoc, Option, Some, None, refl, sym, ap, subst, ◌∙◌, arith, map, fold, filter, flat_map, if◌then◌else◌, eq-eqb}
+use Rattle.std.proofs.Common.{◌≡◌, ℕ, ◌⊎◌, inl, inr, Bool, true, false, ◌||◌, ◌&&◌, List, [], ◌∷◌, ◌++◌, take, drop, append-nil, append_assoc, Option, Some, None, refl, sym, ap, subst, ◌∙◌, map, fold, filter, flat_map, if◌then◌else◌, eq-eqb}
 use Rattle.std.specs.Prelude.{◌==◌}
 use Rattle.std.specs.List.{list_any}
-use Rattle.std.proofs.lemmas.Bool.{cond_both, cond-true, or_cases, or_right, ne_eqb}
+use Rattle.std.proofs.lemmas.Bool.{cond_both, cond-true, or_cases, or_right}
 use Rattle.std.proofs.lemmas.List.{take-append-drop, map-append}
 use Rattle.std.proofs.lemmas.List.Elements.{filter-append}
 use Rattle.std.proofs.lemmas.List.Folds.{list_any-append}
 use Rattle.std.proofs.lemmas.List.Sums.{fold-append}
-use Rattle.cg_base.specs.declared.weighted.Weighted.{Weighted}
 use Rattle.cg_base.specs.Sets.{has, with_member, is_within}
-use Rattle.cg_base.specs.Weights.{ids}
 use Rattle.cg_base.proofs.SetLemmas.{has-with_member}
 use Rattle.cg_action.specs.declared.action.Action.{Action}
 use Rattle.cg_knowledge.specs.declared.summary.Summary.{Summary}
 use Rattle.cg_wire.specs.declared.message.Msg.{Msg}
 use Rattle.cg_wire.specs.declared.message.Msg.TheVariants.{Action as ActionMessage, State as StateMessage, GreenItem, RedItem, Cpc}
-use Rattle.cg_wire.specs.Bytes.{spelled_msg}
 use Rattle.cg_group.specs.State.{Sent}
 use Rattle.cg_group.specs.Synchrony.{ordered_from}
 use Rattle.cg_world.specs.declared.state.State.{State}
 use Rattle.cg_world.specs.declared.state.State.TheVariants.{NonPrim, ExchangeStates, Construct, RegPrim}
-use Rattle.cg_world.specs.Message.{message_in, first_summary}
+use Rattle.cg_world.specs.Message.{message_in}
 use Rattle.cg_world.specs.Replica.{is_reg_prim, states_heard, announcements_heard, hear_state, hear_announcement, next_state}
 use Rattle.cg_world.proofs.Pictures.{M}
 

@@ -1,5 +1,5 @@
 -- A configuration that is quiet is settled.
-use Rattle.std.proofs.Common.{◌≡◌, ℕ, zero, suc, ◌+◌, ◌<◌, ◌≤◌, ◌⊎◌, inl, inr, ⊎_elim, Bool, true, false, ◌||◌, ◌&&◌, List, [], ◌∷◌, ◌++◌, length, take, append-nil, Option, Some, None, IsTrue, refl, sym, ap, subst, ◌∙◌, arith, map, eq-eqb, eqb-true}
+use Rattle.std.proofs.Common.{◌≡◌, ℕ, ◌<◌, ◌≤◌, inl, inr, ⊎_elim, Bool, true, false, ◌||◌, ◌&&◌, List, [], ◌∷◌, ◌++◌, length, take, append-nil, Some, IsTrue, refl, sym, ap, subst, ◌∙◌, arith, eq-eqb, eqb-true}
 use Rattle.std.specs.Prelude.{◌==◌}
 use Rattle.std.specs.List.{list_any, list_all}
 use Rattle.std.specs.Option.{option_map_or}
@@ -7,13 +7,12 @@ use Rattle.std.proofs.lemmas.Bool.{and_parts, and_from, or_cases}
 use Rattle.std.proofs.Math.Seq.{take-length}
 use Rattle.cg_base.specs.declared.weighted.Weighted.{Weighted}
 use Rattle.cg_base.specs.Lists.{above_up_to}
-use Rattle.cg_base.specs.Sets.{has, is_within}
+use Rattle.cg_base.specs.Sets.{has}
 use Rattle.cg_base.specs.Weights.{ids, IsWeightSet}
 use Rattle.cg_base.proofs.SetFacts.{is_within-from}
 use Rattle.cg_action.specs.declared.action.Action.{Action}
 use Rattle.cg_wire.specs.declared.message.Msg.TheVariants.{State as StateMessage, Cpc}
-use Rattle.cg_wire.specs.Bytes.{spelled_msg}
-use Rattle.cg_group.specs.State.{Configuration, Sent, configuration, phase_of, delivered_to, unordered_of, regular_in}
+use Rattle.cg_group.specs.State.{Sent, configuration, phase_of, delivered_to, unordered_of, regular_in}
 use Rattle.cg_group.specs.Ready.{all_received}
 use Rattle.cg_group.specs.Synchrony.{ordered_from}
 use Rattle.cg_world.specs.declared.replica.Replica.{Replica}
@@ -27,9 +26,9 @@ use Rattle.cg_world.specs.Quiet.{is_quiet_at, is_quiet, is_settled, is_settled_a
 use Rattle.cg_world.proofs.Numbered.{made_by}
 use Rattle.cg_world.proofs.Pictures.{M, pic}
 use Rattle.cg_world.proofs.Wire.{Exact, read_again}
-use Rattle.cg_world.proofs.Heard.{Known, after, after-one, InOne, acts_in, tells, is_state, is_complete, Hears}
+use Rattle.cg_world.proofs.Heard.{after, after-one, InOne, acts_in, tells, is_state, is_complete, Hears}
 use Rattle.cg_world.proofs.Said.{voiced, said-within, acts_in-none}
-use Rattle.cg_world.proofs.Formed.{Knows, Member, Formed}
+use Rattle.cg_world.proofs.Formed.{Knows, Formed}
 use Rattle.cg_world.proofs.Together.{Together, made-parts}
 use Rattle.cg_world.proofs.Running.{Phase, Stands}
 
@@ -45,8 +44,10 @@ module _ (exact : Exact) (W : List Weighted) (set : IsWeightSet W) (ordered : Li
   unfolding tells
   told-complete conf heard one said =
       ap (list_any (λ m. is_complete (message_in m))) said
-      ∙ rw (read_again exact (StateMessage (first_summary W q conf)) (said-within W q (RegPrim 1) (StateMessage (first_summary W q conf)) set member (ap (first_summary W q) one)),
-      read_again exact (Cpc q conf) (said-within W q (RegPrim 1) (Cpc q conf) set member (refl, one, refl))) refl
+      ∙ rw (
+        read_again exact (StateMessage (first_summary W q conf)) (said-within W q (RegPrim 1) (StateMessage (first_summary W q conf)) set member (ap (first_summary W q) one)),
+        read_again exact (Cpc q conf) (said-within W q (RegPrim 1) (Cpc q conf) set member (refl, one, refl)),
+      ) refl
 
 -- all members have been handed all messages, and have said nothing that isn't among them
 quiet-primary : (exact : Exact) (W : List Weighted) (set : IsWeightSet W) (ordered : List (Sent M)) (made : ℕ → List Action) (state : State) → InOne state → Hears (ids W) ordered state →

@@ -1,28 +1,20 @@
 -- What stands after each step of a run, and what each step has changed and shown.
-use Rattle.std.proofs.Common.{◌≡◌, ℕ, zero, suc, ◌+◌, ◌<◌, ◌≤◌, ◌⊎◌, inl, inr, ⊎_elim, Bool, true, false, not, List, [], ◌∷◌, ◌++◌, length, take, append-nil, append_assoc, length-append, Option, Some, None, option_map, refl, sym, ap, ap₂, subst, ◌∙◌, arith, map, find, filter, fold, Contains, if◌then◌else◌, eq-eqb, eqb-true}
+use Rattle.std.proofs.Common.{◌≡◌, ℕ, zero, suc, ◌<◌, ◌≤◌, ◌⊎◌, inl, inr, ⊎_elim, true, false, List, [], ◌∷◌, ◌++◌, length, take, append-nil, length-append, Some, option_map, refl, sym, ap, ap₂, subst, ◌∙◌, arith, map, find, Contains, eq-eqb}
 use Rattle.std.specs.Prelude.{◌==◌}
 use Rattle.std.specs.Option.{option_map_or}
-use Rattle.std.proofs.lemmas.Bool.{cases_Bool, cases_eq, cond_both, ne_eqb}
-use Rattle.std.proofs.lemmas.List.{map-append, length-map}
+use Rattle.std.proofs.lemmas.Bool.{cases_eq, cond_both, ne_eqb}
+use Rattle.std.proofs.lemmas.List.{map-append}
 use Rattle.std.proofs.lemmas.List.Elements.{filter-append}
 use Rattle.cg_base.specs.declared.action_id.ActionId.{ActionId}
 use Rattle.cg_base.specs.declared.weighted.Weighted.{Weighted}
-use Rattle.cg_base.specs.Ids.{same_id}
-use Rattle.cg_base.specs.Lists.{count_up}
 use Rattle.cg_base.specs.Sets.{has}
-use Rattle.cg_base.specs.Weights.{ids, IsWeightSet}
+use Rattle.cg_base.specs.Weights.{ids}
 use Rattle.cg_action.specs.declared.action.Action.{Action}
-use Rattle.cg_action.specs.declared.action.Kind.TheVariants.{Update}
-use Rattle.cg_db.specs.declared.entry.DbEntry.{DbEntry}
 use Rattle.cg_db.specs.Apply.{fold_actions}
-use Rattle.cg_group.specs.Events.{gather, order, receive}
-use Rattle.cg_group.specs.State.{GroupState}
 use Rattle.cg_group.proofs.Each.{Each, Each-weaker, filter_none}
 use Rattle.cg_group.proofs.Picture.{put}
 use Rattle.cg_group.proofs.Lookups.{put-other, put-same}
 use Rattle.cg_schedule.specs.declared.event.Event.{Event}
-use Rattle.cg_schedule.specs.declared.event.Event.TheVariants.{Start, Merge, Request, Order, Show, ShowOrder, Gather, Receive, Deliver}
-use Rattle.cg_report.specs.declared.entry.Made.{Made}
 use Rattle.cg_report.specs.declared.entry.Shown.{Shown}
 use Rattle.cg_report.specs.declared.entry.Shown.TheVariants.{Greens, Database, All}
 use Rattle.cg_report.specs.declared.line.Line.{Line}
@@ -34,22 +26,18 @@ use Rattle.cg_world.specs.declared.replica.Replica.{Replica}
 use Rattle.cg_world.specs.declared.world.World.{World}
 use Rattle.cg_world.specs.declared.handing.Moved.{Moved}
 use Rattle.cg_world.specs.Replica.{Turn, fresh, is_reg_prim, state_name, up_line_of, line_of}
-use Rattle.cg_world.specs.World.{Step, silently, showing, before_start, replica_of, with_replica, news, new_in_order, placed_from, with_turn, world_step, first_refusal}
+use Rattle.cg_world.specs.World.{Step, replica_of, with_replica, news, new_in_order}
 use Rattle.cg_report.specs.EntryText.{no_entry}
-use Rattle.cg_world.specs.Shown.{order_lines, order_of, made_names, lines_in, last_up, position_of, made_at, made_of, made_action}
-use Rattle.cg_world.specs.Agreement.{MayStand, IsRunFrom, may_move}
-use Rattle.cg_world.proofs.Lists.{Each-contains}
-use Rattle.cg_world.proofs.Numbered.{AreNumbered, made_by, own_in, IsOrdered, numbered-front, find-numbered, find-own, own-names, numbered-ordered, own-empty, Each-back}
+use Rattle.cg_world.specs.Shown.{order_lines, lines_in, position_of, made_at, made_of}
+use Rattle.cg_world.specs.Agreement.{may_move}
+use Rattle.cg_world.proofs.Numbered.{made_by, Each-back}
 use Rattle.cg_world.proofs.Pictures.{pic}
-use Rattle.cg_world.proofs.Telling.{find-other, find-new, found_id, answers, Told, told-turn, told-begun, order_lines-more, lines_in-more, order_of-more, made_of-more, made_of-names, split-at, contains-at, contains-map, contains-filter, contains-filter-in}
-use Rattle.cg_world.proofs.Wire.{Exact}
-use Rattle.cg_world.proofs.Heard.{Known, HasEarned, after, after-front}
+use Rattle.cg_world.proofs.Telling.{find-other, find-new, answers, Told, told-turn, order_lines-more, lines_in-more, made_of-more}
+use Rattle.cg_world.proofs.Heard.{HasEarned, after}
 use Rattle.cg_world.proofs.Said.{numbered-named}
-use Rattle.cg_world.proofs.Formed.{Knows}
 use Rattle.cg_world.proofs.Turns.{made_line}
-use Rattle.cg_world.proofs.Acted.{acts-front}
-use Rattle.cg_world.proofs.Together.{Together, ActedAt, formed-later, made-parts, gather-kept, order-kept, receive-kept, admitted-request, admitted-deliver, admitted-order, admitted-receive, is_regular-in, deliver-acted, request-acted}
-use Rattle.cg_world.proofs.Coming.{Apart, IsWaiting, IsIdle, apart-later, gather-alone, found-has, request-apart, merge-kept, MergedSoFar, merge-shows, start-apart}
+use Rattle.cg_world.proofs.Together.{Together, ActedAt}
+use Rattle.cg_world.proofs.Coming.{IsIdle}
 
 abbrev pub names_in : List Action → List ActionId
 names_in acts = map (λ a. a.id) acts
@@ -189,17 +177,20 @@ acted W n n' steps w k e m p acts Behind st phase a moves = (
   record {
     grows = λ q. ⊎_elim (λ here. subst (λ z. length (greens_in w z) ≤ length (greens_in m.world z)) (sym here) grown) (λ ne. subst (λ g. length (greens_in w q) ≤ length g) (sym (others q ne)) (omega arith)) (cases_eq q p);
     moves = λ q none. ⊎_elim (λ ne. others q ne) (λ idle. ⊎_elim (λ here. subst (λ z. greens_in m.world z ≡ greens_in w z) (sym here) (unmoved idle)) (λ ne. others q ne) (cases_eq q p)) (moves q none);
-    answered = inr (p, record {
-      before = a.first.acts;
-      acts = acts;
-      greens_before = greens_was;
-      greens_after = greens_is;
-      replies = ap (λ x. x.replies) a.entry ∙ a.replies;
-      others = others;
-      replica = a.turn.replica;
-      begun = mine;
-      traced = ⊎_elim (λ none. inl (sym a.grown ∙ none)) (λ e. inr (sym a.grown ∙ e)) a.traced;
-    });
+    answered = inr (
+      p,
+      record {
+        before = a.first.acts;
+        acts = acts;
+        greens_before = greens_was;
+        greens_after = greens_is;
+        replies = ap (λ x. x.replies) a.entry ∙ a.replies;
+        others = others;
+        replica = a.turn.replica;
+        begun = mine;
+        traced = ⊎_elim (λ none. inl (sym a.grown ∙ none)) (λ e. inr (sym a.grown ∙ e)) a.traced;
+      },
+    );
     longer = λ l up there is more count. line_is l up (news-of a.old a.turn.replica l (subst (λ ls. Contains ls l) (ap (λ x. x.lines) a.entry) there)) is count;
     shows = λ x there. absurd (no_element x (subst (λ l. Contains l x) (ap (λ x. x.shown) a.entry) there));
   },

@@ -1,21 +1,20 @@
 -- What a member has said in the first configuration: its state, its announcement, and its actions.
-use Rattle.std.proofs.Common.{◌≡◌, ◌≢◌, ℕ, zero, suc, ◌+◌, ◌<◌, ◌≤◌, ◌⊎◌, inl, inr, Bool, true, false, List, [], ◌∷◌, ◌++◌, length, append-nil, append_assoc, Option, Some, None, refl, sym, ap, subst, ◌∙◌, arith, map, flat_map, if◌then◌else◌, eqb-true}
+use Rattle.std.proofs.Common.{◌≡◌, ℕ, zero, suc, ◌≤◌, ◌⊎◌, inl, inr, true, false, List, [], ◌∷◌, ◌++◌, length, append-nil, append_assoc, Option, refl, sym, ap, subst, ◌∙◌, arith, map, flat_map, eqb-true}
 use Rattle.std.specs.Prelude.{◌==◌}
 use Rattle.std.proofs.lemmas.Bool.{cases_Bool, or_cases}
-use Rattle.std.proofs.lemmas.List.{map-append, length-map}
+use Rattle.std.proofs.lemmas.List.{map-append}
 use Rattle.cg_base.specs.declared.action_id.ActionId.{ActionId}
 use Rattle.cg_base.specs.declared.weighted.Weighted.{Weighted}
 use Rattle.cg_base.specs.Lists.{count_up}
-use Rattle.cg_base.specs.Sets.{IsId, IsSet, Ascends, has}
+use Rattle.cg_base.specs.Sets.{IsId, Ascends, has}
 use Rattle.cg_base.specs.Weights.{ids, IsWeightSet}
 use Rattle.cg_action.specs.declared.action.Action.{Action}
 use Rattle.cg_action.specs.Limits.{IsAction}
-use Rattle.cg_records.specs.Limits.{IsPrimary, IsYellow, IsSmallCut}
 use Rattle.cg_wire.specs.declared.message.Msg.{Msg}
 use Rattle.cg_wire.specs.declared.message.Msg.TheVariants.{Action as ActionMessage, State as StateMessage, GreenItem, RedItem, Cpc}
 use Rattle.cg_wire.specs.Bytes.{spelled_msg}
 use Rattle.cg_wire.specs.Limits.{IsSummary, IsMsg}
-use Rattle.cg_group.proofs.Each.{Each, Each-append, Each-weaker}
+use Rattle.cg_group.proofs.Each.{Each, Each-append}
 use Rattle.cg_world.specs.declared.state.State.{State}
 use Rattle.cg_world.specs.declared.state.State.TheVariants.{NonPrim, ExchangeStates, Construct, RegPrim}
 use Rattle.cg_world.specs.Message.{message_in, first_summary}
@@ -170,11 +169,15 @@ unfolding acts_in
 acts_in-said exact W q NonPrim set h i = refl
 acts_in-said exact W q (ExchangeStates conf heard) set h i = rw (read_again exact (StateMessage (first_summary W q conf)) (said-within W q (RegPrim 1) (StateMessage (first_summary W q conf)) set h (ap (first_summary W q) i))) refl
 acts_in-said exact W q (Construct conf heard) set h i =
-    rw (read_again exact (StateMessage (first_summary W q conf)) (said-within W q (RegPrim 1) (StateMessage (first_summary W q conf)) set h (ap (first_summary W q) i)),
-    read_again exact (Cpc q conf) (said-within W q (RegPrim 1) (Cpc q conf) set h (refl, i, refl))) refl
+    rw (
+      read_again exact (StateMessage (first_summary W q conf)) (said-within W q (RegPrim 1) (StateMessage (first_summary W q conf)) set h (ap (first_summary W q) i)),
+      read_again exact (Cpc q conf) (said-within W q (RegPrim 1) (Cpc q conf) set h (refl, i, refl)),
+    ) refl
 acts_in-said exact W q (RegPrim conf) set h i =
-    rw (read_again exact (StateMessage (first_summary W q conf)) (said-within W q (RegPrim 1) (StateMessage (first_summary W q conf)) set h (ap (first_summary W q) i)),
-    read_again exact (Cpc q conf) (said-within W q (RegPrim 1) (Cpc q conf) set h (refl, i, refl))) refl
+    rw (
+      read_again exact (StateMessage (first_summary W q conf)) (said-within W q (RegPrim 1) (StateMessage (first_summary W q conf)) set h (ap (first_summary W q) i)),
+      read_again exact (Cpc q conf) (said-within W q (RegPrim 1) (Cpc q conf) set h (refl, i, refl)),
+    ) refl
 
 acts_in-made : Exact → (made : List Action) → Each IsAction made → acts_in (map spelled_msg (action_msgs made)) ≡ made
 unfolding acts_in

@@ -1,47 +1,42 @@
 -- All replicas have come together: what each event does then.
-use Rattle.std.proofs.Common.{◌≡◌, ℕ, zero, suc, ◌+◌, ◌-◌, ◌*◌, ◌<◌, ◌≤◌, ◌^◌, ◌⊎◌, inl, inr, ⊎_elim, Bool, true, false, not, List, [], ◌∷◌, ◌++◌, length, take, append-nil, length-append, Option, Some, None, is_some, refl, sym, ap, subst, ◌∙◌, arith, map, find, fold, if◌then◌else◌, eq-eqb, ltb-false}
+use Rattle.std.proofs.Common.{◌≡◌, ℕ, suc, ◌+◌, ◌-◌, ◌<◌, ◌≤◌, ◌^◌, ◌⊎◌, inl, inr, ⊎_elim, Bool, true, false, not, List, [], ◌∷◌, ◌++◌, length, take, append-nil, length-append, Option, Some, None, is_some, refl, sym, ap, subst, ◌∙◌, arith, map, find, fold, eq-eqb, ltb-false}
 use Rattle.std.specs.Prelude.{◌==◌}
 use Rattle.std.specs.Option.{option_map_or}
 use Rattle.std.proofs.lemmas.Bool.{cases_Bool, cond_both}
 use Rattle.cg_base.specs.declared.action_id.ActionId.{ActionId}
 use Rattle.cg_base.specs.declared.weighted.Weighted.{Weighted}
-use Rattle.cg_base.specs.Lists.{above_up_to, first_some}
-use Rattle.cg_base.specs.Sets.{IsId, IsSet, has}
+use Rattle.cg_base.specs.Lists.{above_up_to}
+use Rattle.cg_base.specs.Sets.{IsId, has}
 use Rattle.cg_base.specs.Weights.{ids, IsWeightSet}
 use Rattle.cg_action.specs.declared.action.Action.{Action}
 use Rattle.cg_action.specs.declared.action.Kind.{Kind}
-use Rattle.cg_action.specs.Limits.{IsAction, IsKind}
+use Rattle.cg_action.specs.Limits.{IsKind}
 use Rattle.cg_db.specs.Apply.{fold_actions}
-use Rattle.cg_group.specs.declared.phase.Phase.TheVariants.{Regular}
-use Rattle.cg_group.specs.declared.reason.Reason.{Reason}
 use Rattle.cg_group.specs.declared.reason.Reason.TheVariants.{NotRegular, NotReady, UnknownReplica}
-use Rattle.cg_group.specs.State.{Configuration, GroupState, configuration, phase_of, delivered_to, unordered_of, regular_in, home, is_regular}
+use Rattle.cg_group.specs.State.{GroupState, configuration, phase_of, delivered_to, unordered_of, regular_in, home, is_regular}
 use Rattle.cg_group.specs.Ready.{ready_in, ready}
 use Rattle.cg_group.specs.Events.{send_all, order, order_all, receive, receive_all, regulars, gather, with_delivered, deliveries_at, deliver}
 use Rattle.cg_group.specs.Refusals.{not_up, not_regular, nothing_to_order, no_such_place, already_received, earlier_missing, not_ready, order_refusal, receive_refusal, deliver_refusal}
 use Rattle.cg_group.specs.Synchrony.{ordered_from}
-use Rattle.cg_group.proofs.Each.{Each}
 use Rattle.cg_group.proofs.Picture.{put}
 use Rattle.cg_group.proofs.Lookups.{put-own, put-same}
 use Rattle.cg_group.proofs.Places.{ready_in-within}
 use Rattle.cg_group.proofs.Admitted.{first_none, refuse_none}
 use Rattle.cg_schedule.specs.declared.event.Event.TheVariants.{Request, Order, Receive, Deliver}
-use Rattle.cg_report.specs.declared.entry.Entry.{Entry}
-use Rattle.cg_report.specs.declared.entry.Reply.{Reply}
 use Rattle.cg_world.specs.declared.replica.Replica.{Replica}
 use Rattle.cg_world.specs.declared.world.World.{World}
 use Rattle.cg_world.specs.declared.handing.Moved.{Moved}
 use Rattle.cg_world.specs.Replica.{Turn, begin, is_reg_prim, create, buffer, asked, settle, handle, turn_of}
-use Rattle.cg_world.specs.World.{silently, replica_of, unknown, with_replica, new_in_order, with_turn, after_turn, ask, hand, hand_out, world_step, first_refusal}
+use Rattle.cg_world.specs.World.{silently, replica_of, unknown, with_replica, new_in_order, with_turn, after_turn, ask, world_step, first_refusal}
 use Rattle.cg_report.specs.EntryText.{no_entry}
 use Rattle.cg_world.proofs.Numbered.{made_by, total-bound, set-small}
 use Rattle.cg_world.proofs.Pictures.{M, Pic, pic, same_pic, waiting, counted, order-none, order-some, receive-same, send_all-waits, delivered-counted}
-use Rattle.cg_world.proofs.Telling.{find-other, find-new, found_id, names-with, answers}
+use Rattle.cg_world.proofs.Telling.{find-other, find-new, names-with, answers}
 use Rattle.cg_world.proofs.Wire.{Exact}
 use Rattle.cg_world.proofs.Heard.{Known, after, after-front, after-one, InOne, HasEarned, after-earned, acts_in}
 use Rattle.cg_world.proofs.Said.{acts_in-append, acts_in-voiced, member-is_id}
 use Rattle.cg_world.proofs.Formed.{Knows, Member, Formed, Reached, member-kept, formed-moved, reached-moved}
-use Rattle.cg_world.proofs.Turns.{TurnAt, turn-at}
+use Rattle.cg_world.proofs.Turns.{turn-at}
 use Rattle.cg_world.proofs.Acted.{Ended, ended-settled, ended-asked, formed-acted, reached-acted, greens-short}
 
 pub record Together (W : List Weighted) (n : ℕ) (made : ℕ → List Action) (w : World) : Type 0 where
@@ -316,10 +311,12 @@ module _ (exact : Exact) (W : List Weighted) (set : IsWeightSet W) (n n' : ℕ) 
           (let sum = own.few in omega (arith, sum, later)) (omega (arith, few)) in
           let replies : (settle T).replies ≡ answers p (fold_actions (after (ids W) (take d C.ordered)).acts) at.acts =
           settled-replies T ∙ at.replies ∙ ap (λ q. answers q (fold_actions (after (ids W) (take d C.ordered)).acts) at.acts) own.id in
-          let counted_here = delivered-counted g p 1 (d + count) own.regular in
-          (at.acts, subst (λ m. ActedAt W n' made (λ made w. Together W n' made w) w m p at.acts)
-          (ap (λ c. after_turn (silently (record w { group = with_delivered g p (d + count) })) r (turn_of r (deliveries_at c (above_up_to d (d + count))))) (sym homely) ∙ sym (step-deliver w p count r own.begun))
-          (acted t p (d + count) member (with_delivered g p (d + count)) counted_here.1 counted_here.0 le own (settle T) end.0 end.1 at.acts at.grown replies))
+          let counted_here = delivered-counted g p 1 (d + count) own.regular in (
+            at.acts,
+            subst (λ m. ActedAt W n' made (λ made w. Together W n' made w) w m p at.acts)
+                (ap (λ c. after_turn (silently (record w { group = with_delivered g p (d + count) })) r (turn_of r (deliveries_at c (above_up_to d (d + count))))) (sym homely) ∙ sym (step-deliver w p count r own.begun))
+                (acted t p (d + count) member (with_delivered g p (d + count)) counted_here.1 counted_here.0 le own (settle T) end.0 end.1 at.acts at.grown replies),
+          )
         where
           created-replies : (kinds : List Kind) (t : Turn) → (fold create t kinds).replies ≡ t.replies
           created-replies [] t = refl

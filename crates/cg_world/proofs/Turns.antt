@@ -1,14 +1,13 @@
 -- What comes of the messages that a member is handed, and of the requests that it creates.
-use Rattle.std.proofs.Common.{◌≡◌, ℕ, zero, suc, ◌+◌, ◌-◌, ◌<◌, ◌≤◌, ◌^◌, ◌⊎◌, inl, inr, ⊎_elim, Bool, true, false, cond, List, [], ◌∷◌, ◌++◌, length, take, get_or, append-nil, append_assoc, length-append, Option, Some, None, refl, sym, ap, ap₂, subst, ◌∙◌, arith, map, fold, filter, flat_map, if◌then◌else◌}
+use Rattle.std.proofs.Common.{◌≡◌, ℕ, zero, suc, ◌+◌, ◌-◌, ◌<◌, ◌≤◌, ◌^◌, ◌⊎◌, inl, inr, Bool, true, false, List, [], ◌∷◌, ◌++◌, length, take, get_or, append-nil, append_assoc, length-append, Option, Some, None, refl, sym, ap, subst, ◌∙◌, arith, map, fold, flat_map, if◌then◌else◌}
 use Rattle.std.specs.Prelude.{◌==◌}
 use Rattle.std.specs.Option.{option_map_or}
 use Rattle.std.proofs.Math.Seq.{take-suc}
-use Rattle.std.proofs.lemmas.Bool.{cases_Bool, cond_both, cond-true, cond-false}
-use Rattle.std.proofs.lemmas.List.{map-append, length-map}
+use Rattle.std.proofs.lemmas.Bool.{cases_Bool, cond-true, cond-false}
+use Rattle.std.proofs.lemmas.List.{map-append}
 use Rattle.std.proofs.lemmas.List.Elements.{filter-append}
 use Rattle.std.proofs.lemmas.List.Sums.{fold-append}
 use Rattle.std.proofs.lemmas.Option.{slice_get-get_or}
-use Rattle.cg_base.specs.declared.action_id.ActionId.{ActionId}
 use Rattle.cg_base.specs.declared.weighted.Weighted.{Weighted}
 use Rattle.cg_base.specs.Lists.{count_up, above_up_to}
 use Rattle.cg_base.specs.Sets.{IsId}
@@ -26,16 +25,15 @@ use Rattle.cg_group.specs.State.{Configuration, Sent}
 use Rattle.cg_group.specs.Events.{delivery_at, deliveries_at}
 use Rattle.cg_group.proofs.Each.{Each}
 use Rattle.cg_report.specs.declared.entry.Made.{Made}
-use Rattle.cg_report.specs.declared.entry.Reply.{Reply}
 use Rattle.cg_world.specs.declared.replica.Replica.{Replica}
 use Rattle.cg_world.specs.declared.state.State.{State}
 use Rattle.cg_world.specs.Message.{message_in}
-use Rattle.cg_world.specs.Replica.{Turn, begin, is_reg_prim, next_state, announces, come_into, next_action, create, emptied, settle, reply_to, delivered_with, replies_to, mark_green, hear_action, hear, handle, turn_of}
+use Rattle.cg_world.specs.Replica.{Turn, begin, is_reg_prim, next_state, announces, come_into, next_action, create, reply_to, delivered_with, replies_to, mark_green, hear, handle}
 use Rattle.cg_world.proofs.Numbered.{AreNumbered, numbered-more, made_by}
 use Rattle.cg_world.proofs.Pictures.{M}
 use Rattle.cg_world.proofs.Telling.{answers, answers-append}
-use Rattle.cg_world.proofs.Heard.{Known, learned_of, learned, after, after-more, prim-kept}
-use Rattle.cg_world.proofs.Said.{action_msgs, voiced, IsEarly, voiced-next, voiced-more}
+use Rattle.cg_world.proofs.Heard.{Known, learned_of, after, after-more, prim-kept}
+use Rattle.cg_world.proofs.Said.{action_msgs, voiced, IsEarly, voiced-next}
 use Rattle.cg_world.proofs.Formed.{Knows}
 
 -- ---- requests that are created

@@ -1,5 +1,5 @@
 -- What is spelled of a message within the limits is read again.
-use Rattle.std.proofs.Common.{◌≡◌, Option, Some, ap}
+use Rattle.std.proofs.Common.{◌≡◌, Some, ap}
 use Rattle.cg_codec.specs.Laws.{IsWhole}
 use Rattle.cg_wire.specs.declared.message.Msg.{Msg}
 use Rattle.cg_wire.specs.Limits.{IsMsg}
