@@ -8,8 +8,8 @@ use crate::progress::{Progress, Stage};
 use crate::putting::{finish, put_step};
 use crate::status::{Limit, Status};
 use cg_io::Sink;
-use cg_schedule::{Event, Reader};
 use cg_report::Entry;
+use cg_schedule::{Event, Reader};
 use cg_world::{Stepped, World};
 use std::alloc::Global;
 
