@@ -19,3 +19,5 @@ mod CaseThreeAlternate
 mod CaseKeysListed
 mod CaseFiveAlternate
 mod CaseFourAlternate
+mod CaseStatesOneByOne
+mod CaseLoneAlternate

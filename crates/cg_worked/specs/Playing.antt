@@ -1,4 +1,5 @@
--- A schedule, played by the steps of the world, and what is told of it.
+-- A schedule, played by the steps of the world, and what is told of it. The program plays schedules so too, by definitions of
+-- its own; these are the same in few lines, since a crate can't cite a program.
 use Rattle.std.specs.Prelude.{ℕ, zero, suc, ◌==◌, Bool, true, false, List, [], ◌∷◌, ◌++◌, Option, Some, None, Result, Ok, Err, map, fold, codes, decimal, option_map}
 use Rattle.std.specs.List.{flat_map, list_any}
 use Rattle.std.specs.Str.{encode_utf8_all}
@@ -10,10 +11,10 @@ use Rattle.cg_group.specs.declared.reason.Reason.{Reason}
 use Rattle.cg_group.specs.Ready.{ready}
 use Rattle.cg_group.specs.Reasons.{reason_number, reason_value}
 use Rattle.cg_schedule.specs.declared.event.Event.{Event}
+use Rattle.cg_schedule.specs.declared.event.Event.TheVariants.{Gather, Deliver, Rounds}
 use Rattle.cg_schedule.specs.declared.fault.LineFault.{LineFault}
 use Rattle.cg_schedule.specs.declared.place.Place.{Place}
 use Rattle.cg_schedule.specs.Line.{first_place, reading, place_behind}
-use Rattle.cg_schedule.specs.declared.event.Event.TheVariants.{Gather, Deliver, Rounds}
 use Rattle.cg_world.specs.declared.handing.Moved.{Moved}
 use Rattle.cg_world.specs.declared.world.World.{World}
 use Rattle.cg_world.specs.World.{Step, before_start, first_refusal, world_step}
@@ -89,11 +90,12 @@ step_count events = (played events).count
 abbrev pub refusal : List Event → Option Reason
 refusal events = (played events).stopped
 
--- the number that is printed for it, and the value behind
+-- the value that is printed behind the number of a reason
 abbrev pub value_words : Option ℕ → List ℕ
 value_words None = []
 value_words (Some value) = codes " " ++ decimal value
 
+-- the number and the value
 abbrev pub reason_words : Option Reason → List ℕ
 reason_words None = []
 reason_words (Some reason) = decimal (reason_number reason) ++ value_words (reason_value reason)
@@ -138,7 +140,7 @@ written (line ∷ lines) = utf8 line ++ 10 ∷ written lines
 abbrev pub unweighted : List ℕ → List Weighted
 unweighted set = map (λ id. record { id = id; weight = 1 }) set
 
--- an event that was read, before the others; a line that is refused reads as none
+-- an event that was read, before the others; there are none where a line is refused
 abbrev pub event_before : Result (Option Event) LineFault → Option (List Event) → Option (List Event)
 event_before (Ok None) events = events
 event_before (Ok (Some e)) events = option_map (λ list. e ∷ list) events
