@@ -128,7 +128,7 @@ few-none turns current made none place = let few = place.few in rw none at few
 
 -- ---- the part that begins at a place
 
-size-filled : (part : Part) → IsFilled part → 1 ≤ size_of part
+pub size-filled : (part : Part) → IsFilled part → 1 ≤ size_of part
 size-filled (Greens from to) filled = let one : 1 ≤ from = filled.0 in let le : from ≤ to = filled.1 in omega arith
 size-filled (Reds creator from to) filled = let one : 1 ≤ from = filled.0 in let le : from ≤ to = filled.1 in omega arith
 

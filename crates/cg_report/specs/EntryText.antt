@@ -15,7 +15,7 @@ use Rattle.cg_report.specs.declared.entry.Made.{Made}
 use Rattle.cg_report.specs.declared.entry.Placed.{Placed}
 use Rattle.cg_report.specs.declared.entry.Reply.{Reply}
 use Rattle.cg_report.specs.declared.entry.Shown.{Shown}
-use Rattle.cg_report.specs.declared.entry.Shown.TheVariants.{Greens, Database, All}
+use Rattle.cg_report.specs.declared.entry.Shown.TheVariants.{Weak, Dirty, Pieces, Greens, Database, All}
 use Rattle.cg_report.specs.declared.entry.Entry.{Entry}
 use Rattle.cg_report.specs.LineText.{line_text}
 
@@ -57,8 +57,19 @@ reply_text r = codes "reply " ++ id_text r.id ++ codes " " ++ effect_text r.effe
 abbrev pub next_entry_text : DbEntry → List ℕ
 next_entry_text e = codes " " ++ quoted e.key ++ codes "=" ++ value_text e.value
 
+-- the answer to a query that wasn't ordered
+abbrev pub asked_text : List ℕ → ℕ → Answer → List ℕ
+asked_text word p a = word ++ decimal p ++ codes " " ++ answer_text a
+
+-- how much of a snapshot was taken
+abbrev pub pieces_text : ℕ → ℕ → ℕ → List ℕ
+pieces_text joiner taken whole = codes "pieces " ++ decimal joiner ++ codes " " ++ decimal taken ++ codes "/" ++ decimal whole
+
 -- what was asked to be shown
 abbrev pub shown_text : Shown → List ℕ
+shown_text (Weak p a) = asked_text (codes "weak ") p a
+shown_text (Dirty p a) = asked_text (codes "dirty ") p a
+shown_text (Pieces joiner taken whole) = pieces_text joiner taken whole
 shown_text (Greens p list) = codes "greens " ++ decimal p ++ codes " " ++ id_list_text list
 shown_text (Database p entries) = codes "db " ++ decimal p ++ flat_map next_entry_text entries
 shown_text (All list) = codes "all " ++ id_list_text list

@@ -1,2 +1,3 @@
 pub mod EntryText
 pub mod LineText
+pub mod Same

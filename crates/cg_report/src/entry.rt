@@ -31,6 +31,16 @@ pub struct Reply {
 /// What an event asks to be shown.
 #[derive(Drop)]
 pub enum Shown {
+    /// What the replica's green actions answer.
+    Weak { p: ReplicaId, answer: Answer },
+    /// What all actions that the replica knows answer.
+    Dirty { p: ReplicaId, answer: Answer },
+    /// How many pieces of a snapshot the joiner has taken, and of how many.
+    Pieces {
+        joiner: ReplicaId,
+        taken: u64,
+        all: u64,
+    },
     /// A replica's green actions, in order.
     Greens { p: ReplicaId, list: IdList },
     /// A replica's database, ascending by key.

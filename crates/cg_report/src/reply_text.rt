@@ -57,7 +57,7 @@ fn put_answered(out: &mut Vec<u8>, answer: &Option<Answer>) -> Result<(), NoMemo
     }
 }
 
-fn put_answer(out: &mut Vec<u8>, answer: &Answer) -> Result<(), NoMemory>
+pub(crate) fn put_answer(out: &mut Vec<u8>, answer: &Answer) -> Result<(), NoMemory>
     ensures { OnOk result (out.new.items ≡ out.old.items ++ answer_text answer.now) }
 {
     match answer {

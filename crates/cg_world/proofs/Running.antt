@@ -62,6 +62,7 @@ abbrev pub IsShownOf : World → Shown → Type 0
 IsShownOf w (Greens p list) = (r : Replica) × ((replica_of w p ≡ Some r) × (list ≡ r.greens))
 IsShownOf w (Database p entries) = (r : Replica) × ((replica_of w p ≡ Some r) × (entries ≡ r.db))
 IsShownOf w (All list) = list ≡ w.order
+IsShownOf w other = ⊥
 
 -- replies were given at one replica, to the actions that it has marked green
 pub record Gave (W : List Weighted) (w : World) (s : Step) (p : ℕ) : Type 0 where
