@@ -92,7 +92,8 @@ impl Cmd {
     }
 }
 
-pub(crate) fn copy_commands(alloc: Global, cmds: &[Cmd]) -> Result<CmdList, NoMemory>
+/// Other commands that are the same.
+pub fn copy_commands(alloc: Global, cmds: &[Cmd]) -> Result<CmdList, NoMemory>
     ensures { IfOk result (λ list. list ≡ cmds.now) }
 {
     let mut copies = Row::new(alloc);

@@ -15,10 +15,10 @@ mod value;
 mod writing;
 
 pub use action::{Action, ActionList, Kind, copy_actions};
-pub use command::{Cmd, CmdList};
+pub use command::{Cmd, CmdList, copy_commands};
 pub use laws::{actions_are_exact, spellings_stand_apart};
-pub use print::print_kind;
-pub use query::Query;
+pub use print::{print_kind, print_value};
+pub use query::{Query, copy_query};
 pub use reading::{decode, take_action, take_action_id, take_value};
 pub use value::Value;
 pub use writing::{encode, put_action, put_action_id, put_value};

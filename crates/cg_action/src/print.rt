@@ -23,6 +23,17 @@ pub fn print_kind(k: &Kind, out: &mut Vec<u8>) -> Result<(), NoMemory>
     shown
 }
 
+/// Puts a value as lines show it. Where memory is refused nothing is put.
+pub fn print_value(value: &Value, out: &mut Vec<u8>) -> Result<(), NoMemory>
+    ensures ok { OnOk result (out.new.items ≡ out.old.items ++ value_text value.now) }
+    ensures err { OnErr result (out.new.items ≡ out.old.items) }
+{
+    match value {
+        Value::Text(t) => put_quoted(out, t),
+        Value::Int(n) => put_i64(out, *n),
+    }
+}
+
 // Each of these leaves what was there in front of what it put before memory was refused.
 
 fn show_kind(out: &mut Vec<u8>, kind: &Kind) -> Result<(), NoMemory>
@@ -87,7 +98,7 @@ fn show_command(out: &mut Vec<u8>, cmd: &Cmd) -> Result<(), NoMemory>
     match cmd {
         Cmd::Put { key, value } => {
             show_word(out, b"put ", key)?;
-            show_value(out, value)
+            print_value(value, out)
         }
         Cmd::Del { key } => {
             put(out, b"del ")?;
@@ -132,7 +143,7 @@ fn show_swap(out: &mut Vec<u8>, want: &Option<Value>, value: &Value) -> Result<(
 {
     show_want(out, want)?;
     put(out, b" ")?;
-    show_value(out, value)
+    print_value(value, out)
 }
 
 fn show_moved(out: &mut Vec<u8>, target: &Txt, amount: i64) -> Result<(), NoMemory>
@@ -150,17 +161,7 @@ fn show_want(out: &mut Vec<u8>, want: &Option<Value>) -> Result<(), NoMemory>
 {
     match want {
         None => put(out, b"absent"),
-        Some(value) => show_value(out, value),
-    }
-}
-
-fn show_value(out: &mut Vec<u8>, value: &Value) -> Result<(), NoMemory>
-    ensures ok { OnOk result (out.new.items ≡ out.old.items ++ value_text value.now) }
-    ensures err { OnErr result (KeepsFront out.old.items out.new.items) }
-{
-    match value {
-        Value::Text(t) => put_quoted(out, t),
-        Value::Int(n) => put_i64(out, *n),
+        Some(value) => print_value(value, out),
     }
 }
 

@@ -28,7 +28,8 @@ impl Query {
     }
 }
 
-pub(crate) fn copy_query(alloc: Global, query: &Option<Query>) -> Result<Option<Query>, NoMemory>
+/// Another query that is the same, or none.
+pub fn copy_query(alloc: Global, query: &Option<Query>) -> Result<Option<Query>, NoMemory>
     ensures { IfOk result (λ copy. copy ≡ query.now) }
 {
     match query {

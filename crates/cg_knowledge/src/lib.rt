@@ -18,5 +18,8 @@ mod yellow;
 
 pub use knowledge::decide;
 pub use members::{gone, most_updated, remaining, senders};
+pub use primary::{known_attempt, known_primary};
 pub use summary::Summary;
 pub use verdict::{Verdict, VulnerableList};
+pub use vulnerable::decided;
+pub use yellow::common_yellow;

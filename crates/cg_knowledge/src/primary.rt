@@ -37,7 +37,7 @@ fn lowest_of_newest(summaries: &[Summary]) -> Option<&Summary>
 
 /// The known primary component: that of the lowest member with the greatest primary index.
 #[tactic(auto, unfolding(crate::specs::Primary::known_primary))]
-pub(crate) fn known_primary(summaries: &[Summary]) -> Primary
+pub fn known_primary(summaries: &[Summary]) -> Primary
     ensures { result ≡ known_primary_of summaries.now }
 {
     match lowest_of_newest(summaries) {
@@ -52,7 +52,7 @@ pub(crate) fn known_primary(summaries: &[Summary]) -> Primary
 
 /// The known attempt index: the greatest of the members with the greatest primary index.
 #[tactic(auto, unfolding(crate::specs::Primary::newest, crate::specs::Primary::known_attempt))]
-pub(crate) fn known_attempt(summaries: &[Summary]) -> u64
+pub fn known_attempt(summaries: &[Summary]) -> u64
     ensures { result ≡ known_attempt_of summaries.now }
 {
     let index = newest_index(summaries);

@@ -84,11 +84,11 @@ fn is_cleared(summaries: &[Summary], v: &Vulnerable) -> bool
         || is_ended_by_all(summaries, v)
 }
 
-/// What becomes of a record.
-fn decided(summaries: &[Summary], known: Option<Vulnerable>) -> Option<Vulnerable>
-    ensures { result ≡ decided_of summaries.now known }
+/// What becomes of a record, that of a member or another one: None where it is cleared or absent.
+pub fn decided(summaries: &[Summary], known: &Option<Vulnerable>) -> Option<Vulnerable>
+    ensures { result ≡ decided_of summaries.now known.now }
 {
-    let v = known?;
+    let v = (*known)?;
     if is_cleared(summaries, &v) {
         return None;
     }
@@ -107,7 +107,7 @@ pub(crate) fn records_of(alloc: Global, summaries: &[Summary]) -> Result<Vulnera
 {
     let mut records = VulnerableList::new(alloc);
     for s in summaries {
-        records.push(decided(summaries, s.vulnerable))?;
+        records.push(decided(summaries, &s.vulnerable))?;
     }
     Ok(records)
 }

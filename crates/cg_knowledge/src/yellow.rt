@@ -83,7 +83,7 @@ fn common_names(alloc: Global, summaries: &[Summary], list: &[ActionId]) -> Resu
 
 /// The yellow actions that the members have in common.
 #[tactic(auto, unfolding(crate::specs::Yellow::common_yellow))]
-pub(crate) fn common_yellow(alloc: Global, summaries: &[Summary]) -> Result<Yellow, NoMemory>
+pub fn common_yellow(alloc: Global, summaries: &[Summary]) -> Result<Yellow, NoMemory>
     ensures { IfOk result (λ y. y ≡ common_yellow_of summaries.now) }
 {
     match lowest_of_group(summaries) {

@@ -1,6 +1,7 @@
 ghost use Rattle.std.specs.Prelude.{◌≡◌, ◌≤◌, ◌<◌, ◌-◌, ◌^◌, ◌++◌, ◌∷◌, [], suc, drop, length, IfOk, OnOk, OnErr};
 ghost use Rattle.std.specs.Option.{option_copied};
 ghost use Rattle.cg_base.specs.Cuts.{index_in};
+ghost use Rattle.cg_base.specs.Lists.{at_place};
 ghost use Rattle.cg_queue.specs.Lanes.{rows_of};
 ghost use Rattle.cg_queue.specs.Body.{actions_in};
 
@@ -178,6 +179,16 @@ impl Queue {
     {
         let first = (at - self.body.white - 1) as usize;
         copy_greens(self.alloc, &self.body.greens, first)
+    }
+
+    /// The green action at a place, counted from 1, if it is kept. It is found at once.
+    pub fn green_at(&self, at: u64) -> Option<&Action>
+        ensures { option_copied result ≡ at_place self.now.greens (at - self.now.white) }
+    {
+        if at <= self.body.white {
+            return None;
+        }
+        item_in(&self.body.greens, (at - self.body.white - 1) as usize)
     }
 
     /// The reds, by name.

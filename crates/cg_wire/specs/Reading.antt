@@ -1,6 +1,7 @@
 -- How messages are read, field by field from the left.
-use Rattle.std.specs.Prelude.{ℕ, ◌==◌, if◌then◌else◌}
-use Rattle.cg_codec.specs.Reading.{Reading, ◌>>=◌, done}
+use Rattle.std.specs.Prelude.{ℕ, ◌==◌, List, Option, Some, None, Result, Ok, Err, if◌then◌else◌}
+use Rattle.cg_codec.specs.declared.fault.CodecFault.{CodecFault}
+use Rattle.cg_codec.specs.Reading.{Reading, ◌>>=◌, done, whole}
 use Rattle.cg_action.specs.Reading.{byte_between, action_reading}
 use Rattle.cg_records.specs.Reading.{take_number, take_id_above, take_set, take_cut, take_prim, take_maybe_vulnerable, take_yellow}
 use Rattle.cg_knowledge.specs.declared.summary.Summary.{Summary}
@@ -72,3 +73,12 @@ msg_of_tag tag =
 -- a message
 unfoldable pub msg_reading : Reading Msg
 msg_reading = byte_between 1 4 >>= msg_of_tag
+
+-- the message that was read, if one was
+abbrev pub read_of : Result Msg CodecFault → Option Msg
+read_of (Ok m) = Some m
+read_of (Err fault) = None
+
+-- the message that all of the bytes spell, if they spell one
+unfoldable pub message_in : List ℕ → Option Msg
+message_in bytes = read_of (whole msg_reading bytes)

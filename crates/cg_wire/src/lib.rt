@@ -15,5 +15,5 @@ mod writing;
 
 pub use laws::{messages_are_exact, messages_stand_apart};
 pub use message::Msg;
-pub use reading::decode;
+pub use reading::{decode, read_message};
 pub use writing::encode;

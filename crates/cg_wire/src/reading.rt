@@ -1,14 +1,16 @@
 //! Messages from bytes.
 
-ghost use Rattle.std.specs.Prelude.{◌≡◌};
+ghost use Rattle.std.specs.Prelude.{◌≡◌, IfOk, IfSome};
 ghost use Rattle.cg_codec.specs.Reading.{whole};
 ghost use Rattle.cg_codec.specs.Taking.{unread_of, Takes, TakesWithMemory, Decodes};
 ghost use Rattle.cg_action.specs.Reading.{byte_between};
-ghost use Rattle.cg_wire.specs.Reading.{summary_reading, green_item_reading, red_item_reading, item_of_tag, item_reading, action_msg_reading, state_reading, cpc_reading, msg_of_tag, msg_reading};
+ghost use Rattle.cg_wire.specs.Reading.{summary_reading, green_item_reading, red_item_reading, item_of_tag, item_reading, action_msg_reading, state_reading, cpc_reading, msg_of_tag, msg_reading, message_in};
+ghost use Rattle.cg_wire.specs.Limits.{IsMsg};
 ghost use Rattle.cg_wire.specs.Laws.{GivesSpelled};
 
 use crate::Msg;
 use cg_action::take_action;
+use cg_base::NoMemory;
 use cg_codec::{CodecFault, Fields};
 use cg_knowledge::Summary;
 use cg_records::{
@@ -22,6 +24,19 @@ pub fn decode(alloc: Global, bytes: &[u8]) -> Result<Msg, CodecFault>
     ensures exact { GivesSpelled bytes.now result }
 {
     read_all(alloc, bytes)
+}
+
+/// The message that all of the bytes spell, if they spell one.
+#[tactic(auto, unfolding(crate::specs::Reading::message_in))]
+pub fn read_message(alloc: Global, bytes: &[u8]) -> Result<Option<Msg>, NoMemory>
+    ensures value { IfOk result (λ m. m ≡ message_in bytes.now) }
+    ensures limits { IfOk result (λ m. IfSome m IsMsg) }
+{
+    match decode(alloc, bytes) {
+        Ok(m) => Ok(Some(m)),
+        Err(CodecFault::NoMemory) => Err(NoMemory),
+        Err(_) => Ok(None),
+    }
 }
 
 fn read_all(alloc: Global, bytes: &[u8]) -> Result<Msg, CodecFault>
