@@ -1,0 +1,33 @@
+ghost use Rattle.std.specs.Prelude.{◌≡◌, IfOk, map};
+ghost use Rattle.cg_letter.specs.Letter.{opened};
+
+use crate::Letter;
+use cg_base::{NoMemory, Row};
+use cg_group::{Delivery, DeliveryList};
+use std::alloc::Global;
+
+// what is handed over, with its message in bytes
+fn opened(one: Delivery<Letter>) -> Delivery
+    ensures { result ≡ opened one }
+{
+    match one {
+        Delivery::Message { place, from, bytes } => Delivery::Message {
+            place,
+            from,
+            bytes: bytes.into_bytes(),
+        },
+        Delivery::Transitional { conf, set } => Delivery::Transitional { conf, set },
+        Delivery::Regular { conf, set } => Delivery::Regular { conf, set },
+    }
+}
+
+/// All that is handed to a replica, with the messages in bytes.
+pub fn open_all(alloc: Global, list: Row<Delivery<Letter>>) -> Result<DeliveryList, NoMemory>
+    ensures { IfOk result (λ all. all ≡ map opened list) }
+{
+    let mut all = Row::new(alloc);
+    for one in list.into_vec() {
+        all.push(opened(one))?;
+    }
+    Ok(all)
+}
