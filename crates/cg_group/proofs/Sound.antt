@@ -1,23 +1,22 @@
 -- The law's invariant over a group with the diaries, and what keeps it in a group alone: a sent message, an order, a receipt.
-use Rattle.std.proofs.Common.{◌≡◌, ℕ, suc, ◌<◌, ◌≤◌, Bool, true, false, cond, ◌&&◌, ◌||◌, List, [], ◌∷◌, ◌++◌, length, Option, Some, None, refl, sym, ap, ap₂, subst, ◌∙◌, arith, eqb-true, ⊎_elim, find, option_map, append-nil, length-append, is_some}
+use Rattle.std.proofs.Common.{◌≡◌, ℕ, suc, ◌<◌, ◌≤◌, Bool, true, false, cond, ◌&&◌, ◌||◌, List, [], ◌∷◌, ◌++◌, length, Option, Some, None, refl, sym, ap, ap₂, subst, ◌∙◌, arith, eqb-true, ⊎_elim, option_map, append-nil, length-append, is_some}
 use Rattle.std.specs.Prelude.{◌==◌}
 use Rattle.std.specs.Option.{option_map_or}
 use Rattle.std.proofs.lemmas.Bool.{cases_Bool, cases_eq, cond-true, cond-false, ne_eqb, and_left, and_right, or_left, cases_lt, false_from_ne_true}
-use Rattle.std.proofs.lemmas.Option.{same_Some}
 use Rattle.cg_base.specs.Lists.{at_place}
 use Rattle.cg_base.specs.Sets.{has, with_member}
-use Rattle.cg_base.proofs.SetLemmas.{has-with_member}
+use Rattle.cg_base.specs.SetLaws.{has-with_member}
 use Rattle.cg_group.specs.declared.phase.Phase.{Phase}
 use Rattle.cg_group.specs.declared.phase.Phase.TheVariants.{Down, Alone, Regular, Transitional}
-use Rattle.cg_group.specs.State.{Configuration, Standing, GroupState, standing_of, configuration, phase_of, delivered_to, unordered_of, regular_in, has_received}
+use Rattle.cg_group.specs.State.{Configuration, GroupState, configuration, phase_of, delivered_to, unordered_of, regular_in, has_received}
 use Rattle.cg_group.specs.Events.{with_receipt, with_message}
 use Rattle.cg_group.specs.History.{Diary, stay_in}
 use Rattle.cg_group.specs.Synchrony.{Begins, ordered_from}
-use Rattle.cg_group.proofs.Places.{at_place-append, at_place-within, at_place-past, at_place-last}
+use Rattle.cg_group.specs.PlaceLaws.{at_place-append, at_place-within, at_place-past, at_place-last}
 use Rattle.cg_group.proofs.Picture.{Picture, Holds, Grows, conf_in}
 use Rattle.cg_group.proofs.Closing.{EndsBy-more}
 use Rattle.cg_group.proofs.Diaries.{Booked}
-use Rattle.cg_group.proofs.Lookups.{eqb_comm, at_place-changed, length-changed_at}
+use Rattle.cg_group.specs.LookupLaws.{eqb_comm, at_place-changed, length-changed_at}
 
 -- a phase of a configuration is regular in it
 pub regular_phase : (x : Phase) (c : ℕ) → regular_in x ≡ c → 0 < c → x ≡ Regular c
@@ -106,19 +105,6 @@ module _ {M : Type 0} where
 
   pub Sound-ticked : (g : GroupState M) (diary : ℕ → Diary M) (sent : ℕ → ℕ → List M) (time : ℕ) → Sound g diary sent time → Sound g diary sent (suc time)
   Sound-ticked g diary sent time s = record { holds = ticked (picture g diary time) s.holds; books = s.books; sends = s.sends }
-
-  -- a replica that is found is the one that is looked for
-  found_id : (replicas : List (Standing M)) (q : ℕ) (s : Standing M) → find (λ s. s.id == q) replicas ≡ Some s → s.id ≡ q
-  found_id [] q s e = absurd cc
-  found_id (x ∷ replicas) q s e = ⊎_elim
-      (λ y. let same : x ≡ s = same_Some x s (sym (cond-true (x.id == q) (Some x) (find (λ s. s.id == q) replicas) y) ∙ e) in
-      subst (λ (z : Standing M). z.id ≡ q) same (eqb-true x.id q y))
-      (λ n. found_id replicas q s (sym (cond-false (x.id == q) (Some x) (find (λ s. s.id == q) replicas) n) ∙ e))
-      (cases_Bool (x.id == q))
-
-  pub standing_id : (g : GroupState M) (q : ℕ) (s : Standing M) → standing_of g q ≡ Some s → s.id ≡ q
-  unfolding standing_of
-  standing_id g q s e = found_id g.replicas q s e
 
   -- one more receipt
   pub has_received-receipt : (C : Configuration M) (p place q at : ℕ) → 0 < place → place ≤ length C.received →

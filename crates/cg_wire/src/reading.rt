@@ -7,7 +7,7 @@ ghost use Rattle.cg_action.specs.Reading.{byte_between};
 ghost use Rattle.cg_wire.specs.Reading.{summary_reading, green_item_reading, red_item_reading, item_of_tag, item_reading, action_msg_reading, state_reading, cpc_reading, msg_of_tag, msg_reading};
 ghost use Rattle.cg_wire.specs.Laws.{GivesSpelled};
 
-use crate::Msg;
+use crate::{Msg, messages_are_exact};
 use cg_action::take_action;
 use cg_codec::{CodecFault, Fields};
 use cg_knowledge::Summary;
@@ -21,6 +21,7 @@ pub fn decode(alloc: Global, bytes: &[u8]) -> Result<Msg, CodecFault>
     ensures read { Decodes (λ m. m) (whole msg_reading bytes.now) result }
     ensures exact { GivesSpelled bytes.now result }
 {
+    messages_are_exact();
     read_all(alloc, bytes)
 }
 
