@@ -68,15 +68,6 @@ pub record Holds {M : Type 0} (P : Picture M) : Type 0 where
   pub earlier : (q c : ℕ) → EndsBy P.time (P.stay q c).way
 
 module _ {M : Type 0} where
-  -- the configuration of one number has grown, by what one regular member did
-  pub record Grows (p : ℕ) (C D : Configuration M) : Type 0 where
-    pub members : D.members ≡ C.members
-    pub rest : List (Rattle.cg_group.specs.State.Sent M)
-    pub ordered : D.ordered ≡ C.ordered ++ rest
-    pub kept : (q place : ℕ) → has_received C q place ≡ true → has_received D q place ≡ true
-    pub others : (q place : ℕ) → (q ≡ p → ⊥) → has_received D q place ≡ has_received C q place
-    pub bounded : (q place : ℕ) → has_received D q place ≡ true → place ≤ length D.ordered
-
   -- a replica is handed messages in its regular phase
   abbrev pub handed_more : List (Rattle.cg_group.specs.declared.delivery.Delivery.Delivery M) → Stay M → Stay M
   handed_more messages s = record s { regular = s.regular ++ messages }

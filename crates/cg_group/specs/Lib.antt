@@ -11,3 +11,4 @@ pub mod EachLaws
 pub mod PlaceLaws
 pub mod LookupLaws
 pub mod RefusalLaws
+pub mod GrownLaws
