@@ -2,7 +2,7 @@
 use Rattle.std.proofs.Common.{◌≡◌, ℕ, List, ◌++◌, append_assoc, ap, ◌∙◌}
 use Rattle.std.specs.Prelude.{Result, Ok, Err, OnErr}
 use Rattle.cg_base.specs.Text.{KeepsFront}
-use Rattle.cg_base.proofs.TextLemmas.{KeepsFront-less}
+use Rattle.cg_base.specs.TextLaws.{KeepsFront-less}
 
 pub grown_twice : (before x one y two : List ℕ) → one ≡ before ++ x → two ≡ one ++ y → two ≡ before ++ (x ++ y)
 grown_twice before x one y two first second = second ∙ ap (λ s. s ++ y) first ∙ append_assoc before x y

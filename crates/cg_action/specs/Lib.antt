@@ -3,3 +3,4 @@ pub mod Bytes
 pub mod Reading
 pub mod Print
 pub mod Laws
+pub mod ShapeLaws

@@ -7,7 +7,8 @@ use Rattle.cg_base.specs.Cuts.{IsCut, NameActions, index_in, raise, cut_of, crea
 use Rattle.cg_base.specs.Slots.{top}
 use Rattle.cg_base.specs.SlotLaws.{index_in-value_in}
 use Rattle.cg_base.proofs.Canonical.{held-is}
-use Rattle.cg_base.proofs.CutLemmas.{index_in-before, index_in-raise, IsCut-raise, each_made}
+use Rattle.cg_base.specs.CutLaws.{index_in-before, index_in-raise, IsCut-raise}
+use Rattle.cg_base.proofs.CutLemmas.{each_made}
 
 pub IsSet-creators_in : (cut : List ActionId) → IsCut cut → IsSet (creators_in cut)
 IsSet-creators_in cut is_cut = record { ascends = is_cut.ascends }

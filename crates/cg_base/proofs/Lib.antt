@@ -1,11 +1,9 @@
 pub mod Cutting
 pub mod Canonical
-pub mod SetLemmas
 pub mod WordLemmas
 pub mod ArrayLemmas
 pub mod WeightLemmas
 pub mod CutLemmas
-pub mod TextLemmas
 pub mod SetFacts
 pub mod WeightFacts
 pub mod CutFacts

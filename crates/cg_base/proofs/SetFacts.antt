@@ -5,7 +5,7 @@ use Rattle.cg_base.specs.Sets.{IsSet, IsId, has, with_member, without_member, un
 use Rattle.cg_base.specs.Slots.{member}
 use Rattle.cg_base.specs.SlotLaws.{value_in, map-itself}
 use Rattle.cg_base.proofs.Canonical.{held-is}
-use Rattle.cg_base.proofs.SetLemmas.{has-within, Ascends-with_member, Ascends-filter, Ascends-union, with_member-front, with_member-later}
+use Rattle.cg_base.specs.SetLaws.{has-within, Ascends-with_member, Ascends-filter, Ascends-union, with_member-front, with_member-later, is_within-has, is_within-from}
 use Rattle.cg_base.proofs.WordLemmas.{value_in-has, each_made}
 
 -- ---- what is a set
@@ -44,27 +44,8 @@ same_members s t is_s is_t same =
 
 -- ---- one set within another
 
-pub is_within-has : (s t : List ℕ) (p : ℕ) → is_within s t ≡ true → has s p ≡ true → has t p ≡ true
-is_within-has [] t p within here = absurd (cc)
-is_within-has (q ∷ s) t p within here =
-    let parts = and_parts (has t q) (is_within s t) within in
-    elim (or_cases (eqb q p) (has s p) here) [
-      | inl same ↦ let e : q ≡ p = eqb-true q p same in rw e at parts.0
-      | inr later ↦ is_within-has s t p parts.1 later
-    ]
-
 or_true : (a b : Bool) → a ≡ true → (a || b) ≡ true
 or_true a b e = rw e
-
-or_rest : (a b : Bool) → b ≡ true → (a || b) ≡ true
-or_rest true b e = refl
-or_rest false b e = e
-
-pub is_within-from : (s t : List ℕ) → ((p : ℕ) → has s p ≡ true → has t p ≡ true) → is_within s t ≡ true
-is_within-from [] t each = refl
-is_within-from (q ∷ s) t each =
-    and_from (has t q) (is_within s t) (each q (or_true (eqb q q) (has s q) (eq-eqb q q refl)))
-    (is_within-from s t (λ p here. each p (or_rest (eqb q p) (has s p) here)))
 
 -- two sets are one where each is within the other
 pub same_set-is : (s t : List ℕ) → IsSet s → IsSet t → same_set s t ≡ true → s ≡ t

@@ -8,7 +8,7 @@ use Rattle.cg_base.specs.Weights.{IsWeightSet, Weigh, ids, weight_in, each_once,
 use Rattle.cg_base.specs.Slots.{weighted}
 use Rattle.cg_base.specs.SlotLaws.{weight_in-value_in}
 use Rattle.cg_base.proofs.Canonical.{held-is}
-use Rattle.cg_base.proofs.SetLemmas.{length-Ascends, has-union, has-common}
+use Rattle.cg_base.specs.SetLaws.{length-Ascends, has-union, has-common}
 use Rattle.cg_base.proofs.WeightLemmas.{each_made}
 
 -- ---- each with weight 1

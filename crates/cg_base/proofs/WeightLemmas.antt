@@ -3,18 +3,19 @@ use Rattle.std.proofs.Common.{◌≡◌, ℕ, zero, suc, ◌+◌, ◌-◌, ◌<�
 use Rattle.std.specs.List.{sum_by}
 use Rattle.std.specs.Bool.{Decides}
 use Rattle.std.specs.Cmp.Lexicographic.{pointwise, pointwise_decides}
-use Rattle.std.proofs.lemmas.Bool.{cases_eq, cases_order, cases_Bool, eq-eqb, ne_eqb, lt-ltb, le-ltb, eqb-true, and_parts, and_from, or_right, or_cases, false_from_ne_true}
+use Rattle.std.proofs.lemmas.Bool.{cases_eq, cases_Bool, eq-eqb, ne_eqb, le-ltb, eqb-true, and_parts, and_from, or_right, or_cases, false_from_ne_true}
 use Rattle.std.proofs.lemmas.List.Sums.{sum_by-append}
 use Rattle.std.proofs.lemmas.List.Elements.{filter-append}
 use Rattle.std.proofs.lemmas.Slice.Eq.{bytes_eq-Decides}
 use Rattle.cg_base.specs.declared.weighted.Weighted.{Weighted}
-use Rattle.cg_base.specs.Sets.{IsSet, IsId, Ascends, has, with_member}
+use Rattle.cg_base.specs.Sets.{IsSet, IsId, Ascends, has}
 use Rattle.cg_base.specs.Weights.{IsWeightSet, Weigh, same_weighted, ids, weight_in, with_weight, each_once, total, total_of}
 use Rattle.cg_base.specs.Slots.{held_from, held, IsArray, weighted, array_slot, array_of}
 use Rattle.cg_base.specs.SlotLaws.{held_from-empty, held_from-filled, weights_tell, Ascends-held, weight_in-value_in, weight_in-held, array_of-weights}
 use Rattle.cg_base.proofs.Canonical.{EachMade, held-is}
-use Rattle.cg_base.proofs.SetLemmas.{Ascends-with_member}
-use Rattle.cg_base.proofs.ArrayLemmas.{zeros, array_slot-zeros, array_slot-set_same, array_slot-set_other, held_from-more_empty, held_from-more_filled}
+use Rattle.cg_base.specs.ArrayLaws.{zeros, array_slot-zeros, array_slot-set_same, array_slot-set_other}
+use Rattle.cg_base.proofs.ArrayLemmas.{held_from-more_empty, held_from-more_filled}
+use Rattle.cg_base.specs.WeightLaws.{weight_in-with_weight, IsWeightSet-with_weight}
 
 -- the members that the slots of an array weigh
 abbrev pub weights_of : List ℕ → List Weighted
@@ -52,48 +53,6 @@ pub weights_of-zeros : weights_of (zeros 32) ≡ []
 weights_of-zeros = weights_of_is (zeros 32) [] (record { ascends = tt; weigh = tt }) (λ p low high. array_slot-zeros p)
 
 -- ---- a member's weight
-
-pub weight_in-with_weight : (set : List Weighted) (n : Weighted) (p : ℕ) → weight_in (with_weight set n) p ≡ cond (eqb n.id p) n.weight (weight_in set p)
-weight_in-with_weight [] n p = refl
-weight_in-with_weight (m ∷ set) n p = elim (cases_order n.id m.id) [
-  | inl same ↦ rw (eq-eqb n.id m.id same) (elim (cases_eq n.id p) [
-    | inl here ↦ rw (eq-eqb n.id p here)
-    | inr other ↦ rw (ne_eqb n.id p other, ne_eqb m.id p (λ e. other (same ∙ e)))
-  ])
-  | inr apart ↦ elim apart [
-    | inl front ↦ rw (ne_eqb n.id m.id (λ e. omega arith), lt-ltb n.id m.id front)
-    | inr later ↦ rw (ne_eqb n.id m.id (λ e. omega arith), le-ltb n.id m.id (omega arith)) (elim (cases_eq m.id p) [
-      | inl here ↦ rw (eq-eqb m.id p here, ne_eqb n.id p (λ e. omega arith))
-      | inr other ↦ rw (ne_eqb m.id p other) (weight_in-with_weight set n p)
-    ])
-  ]
-]
-
-pub ids-with_weight : (set : List Weighted) (n : Weighted) → ids (with_weight set n) ≡ with_member (ids set) n.id
-ids-with_weight [] n = refl
-ids-with_weight (m ∷ set) n = elim (cases_order n.id m.id) [
-  | inl same ↦ rw (eq-eqb n.id m.id same) (ap (λ p. p ∷ ids set) same)
-  | inr apart ↦ elim apart [
-    | inl front ↦ rw (ne_eqb n.id m.id (λ e. omega arith), lt-ltb n.id m.id front)
-    | inr later ↦ rw (ne_eqb n.id m.id (λ e. omega arith), le-ltb n.id m.id (omega arith)) (ap (λ s. m.id ∷ s) (ids-with_weight set n))
-  ]
-]
-
-Weigh-with_weight : (set : List Weighted) (n : Weighted) → 1 ≤ n.weight → n.weight ≤ 255 → Weigh set → Weigh (with_weight set n)
-Weigh-with_weight [] n some most weigh = (some, most, tt)
-Weigh-with_weight (m ∷ set) n some most weigh = elim (cases_order n.id m.id) [
-  | inl same ↦ rw (eq-eqb n.id m.id same) (some, most, weigh.2)
-  | inr apart ↦ elim apart [
-    | inl front ↦ rw (ne_eqb n.id m.id (λ e. omega arith), lt-ltb n.id m.id front) (some, most, weigh)
-    | inr later ↦ rw (ne_eqb n.id m.id (λ e. omega arith), le-ltb n.id m.id (omega arith)) (weigh.0, weigh.1, Weigh-with_weight set n some most weigh.2)
-  ]
-]
-
-pub IsWeightSet-with_weight : (set : List Weighted) (n : Weighted) → IsId n.id → 1 ≤ n.weight → n.weight ≤ 255 → IsWeightSet set → IsWeightSet (with_weight set n)
-IsWeightSet-with_weight set n is_id some most is_set = record {
-  ascends = rw (ids-with_weight set n) (Ascends-with_member (ids set) 1 n.id is_id.0 is_id.1 is_set.ascends);
-  weigh = Weigh-with_weight set n some most is_set.weigh;
-}
 
 pub weights_of-set : (slots : List ℕ) (p n : ℕ) → IsArray slots 256 → IsId p → 1 ≤ n → n ≤ 255
     → weights_of (set slots (p - 1) n) ≡ with_weight (weights_of slots) (record { id = p; weight = n })

@@ -12,7 +12,7 @@ use Rattle.cg_base.specs.Sets.{IsSet, IsId, Ascends, has, with_member, without_m
 use Rattle.cg_base.specs.Slots.{held_from, held, member, bit_slot, word_of}
 use Rattle.cg_base.specs.SlotLaws.{value_in, map-itself, held_from-empty, held_from-filled, word_tells, value_in-held, Ascends-members, word_of-held}
 use Rattle.cg_base.proofs.Canonical.{EachMade, held-is}
-use Rattle.cg_base.proofs.SetLemmas.{has-with_member, Ascends-with_member, has-filter, Ascends-filter, has-union, Ascends-union, has-common, has-without, has-without_member}
+use Rattle.cg_base.specs.SetLaws.{has-with_member, Ascends-with_member, has-filter, Ascends-filter, has-union, Ascends-union, has-common, has-without, has-without_member}
 
 -- the members of a word
 abbrev pub members : ℕ → List ℕ

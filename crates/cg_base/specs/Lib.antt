@@ -7,3 +7,9 @@ pub mod Slots
 pub mod SlotLaws
 pub mod Iterators
 pub mod Text
+pub mod IdLaws
+pub mod SetLaws
+pub mod ArrayLaws
+pub mod WeightLaws
+pub mod CutLaws
+pub mod TextLaws

@@ -1,5 +1,1 @@
-pub mod FieldLaws
-pub mod Items
-pub mod ListLaws
-pub mod PlainFields
 mod Texts

@@ -3,3 +3,7 @@ pub mod Fields
 pub mod Reading
 pub mod Taking
 pub mod Laws
+pub mod FieldLaws
+pub mod PlainLaws
+pub mod ItemLaws
+pub mod ListLaws

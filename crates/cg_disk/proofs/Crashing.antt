@@ -1,5 +1,5 @@
 -- What a crash leaves of a disk in memory.
-use Rattle.std.proofs.Common.{◌≡◌, ℕ, ◌-◌, min, List, length, take, drop, Option, Some, None, sym, ◌∙◌, ap, subst, length-drop}
+use Rattle.std.proofs.Common.{◌≡◌, ℕ, ◌-◌, min, List, length, take, drop, Option, Some, None, sym, ◌∙◌, ap, subst, length-drop, arith}
 use Rattle.std.proofs.lemmas.List.{take_all, drop_min}
 use Rattle.cg_disk.specs.Sides.{Image}
 use Rattle.cg_disk.specs.State.{SideState, Strike, Leaves, left_by, synced_side}
@@ -10,7 +10,6 @@ use Rattle.cg_disk.specs.declared.mark.Mark.{Mark}
 use Rattle.cg_disk.specs.declared.model_disk.ModelDisk.{ModelDisk}
 use Rattle.cg_disk.proofs.Images.{only_seen}
 use Rattle.cg_disk.proofs.Counting.{has_images}
-use Rattle.std.proofs.Common.{arith}
 
 module _ (a b : SideState) (calls faults begun : ℕ) (marks : List Mark) where
   -- where everything is synced a crash leaves what a read gives

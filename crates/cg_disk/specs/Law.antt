@@ -1,5 +1,5 @@
 -- A disk in memory has a view of a disk.
-use Rattle.std.specs.Prelude.{ℕ, ◌<◌, IfSome, refl}
+use Rattle.std.specs.Prelude.{ℕ, ◌<◌, IfSome, refl, List}
 use Rattle.std.proofs.Common.{inl, inr, arith}
 use Rattle.cg_disk.specs.Sides.{Image}
 use Rattle.cg_disk.specs.State.{SideState, Leaves}
@@ -11,7 +11,6 @@ use Rattle.cg_disk.specs.declared.armed.Armed.{Armed}
 use Rattle.cg_disk.specs.declared.armed.Armed.TheVariants.{Nothing, Failure, Stop}
 use Rattle.cg_disk.specs.declared.mark.Mark.{Mark}
 use Rattle.cg_disk.specs.declared.model_disk.ModelDisk.{ModelDisk}
-use Rattle.std.specs.Prelude.{List}
 
 -- what is armed is still to come
 is_ahead : (calls : ℕ) (armed : Armed) → IfSome (strike_of calls armed) (λ strike. calls < strike.call)

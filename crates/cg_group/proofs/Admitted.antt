@@ -7,17 +7,10 @@ use Rattle.cg_base.specs.Lists.{first_some}
 use Rattle.cg_base.specs.Sets.{has, same_set, is_within}
 use Rattle.cg_group.specs.declared.reason.Reason.{Reason}
 use Rattle.cg_group.specs.State.{Standing, GroupState, standing_of, phase_of, delivered_to, regular_in, is_up, is_regular}
-use Rattle.cg_group.specs.Refusals.{refuse, any_of, not_up, not_regular, not_one_configuration, still_regular, not_together, is_together, same_phase}
+use Rattle.cg_group.specs.Refusals.{any_of, not_up, not_regular, not_one_configuration, still_regular, not_together, is_together, same_phase}
 use Rattle.cg_group.specs.Events.{furthest}
-use Rattle.cg_group.proofs.Each.{Each, Each-at, Each-has}
-
-pub first_none : {X : Type 0} (o : Option X) (rest : List (Option X)) → first_some (o ∷ rest) ≡ None → (o ≡ None) × (first_some rest ≡ None)
-first_none None rest e = (refl, e)
-first_none (Some x) rest e = absurd cc
-
-pub refuse_none : (b : Bool) (r : Reason) → refuse b r ≡ None → b ≡ false
-refuse_none true r e = absurd cc
-refuse_none false r e = refl
+use Rattle.cg_group.specs.EachLaws.{Each, Each-at, Each-has}
+use Rattle.cg_group.specs.RefusalLaws.{first_none, refuse_none}
 
 first_none_each : {X : Type 0} (test : ℕ → Option X) (set : List ℕ) → first_some (map test set) ≡ None → Each (λ q. test q ≡ None) set
 first_none_each test [] e = tt

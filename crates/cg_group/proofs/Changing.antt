@@ -17,14 +17,15 @@ use Rattle.cg_group.specs.Events.{deliveries_at, transitional_places, furthest, 
 use Rattle.cg_group.specs.Refusals.{not_up, not_regular, not_one_configuration, still_regular, not_together, empty_set, any_of, same_phase, split_refusal, merge_refusal}
 use Rattle.cg_group.specs.History.{Parting, Way, Never, Here, WentDown, WentOn, Diary, Stay, stay_in, ended, going, fresh, note, may_begin, was_there, handed_to, NamesOnce}
 use Rattle.cg_group.specs.Synchrony.{Begins, EndedBefore, ordered_from}
-use Rattle.cg_group.proofs.Picture.{Picture, Holds, EndsBy, put, conf_in, handed_parting, touched}
+use Rattle.cg_group.proofs.Picture.{Picture, Holds, EndsBy, conf_in, handed_parting, touched}
+use Rattle.cg_group.specs.LookupLaws.{put, at-cond, same_both, put-other, put-same, standing_of-set, configurations-set_standing}
 use Rattle.cg_group.proofs.PartingTogether.{parted_together}
 use Rattle.cg_group.proofs.Closing.{closed}
 use Rattle.cg_group.proofs.Opening.{opened}
-use Rattle.cg_group.proofs.Lookups.{at-cond, same_both, put-other, put-same, standing_of-set, configurations-set_standing}
 use Rattle.cg_group.proofs.Diaries.{Booked, AreMessages-at, noted_parting, Booked-now, stay_in-now, Booked-ended, stay_in-ended, noted_begin, Booked-begun, stay_in-begun, handed_to-map}
 use Rattle.cg_group.proofs.Sound.{Sound, picture, same_picture, regular_phase, ticked}
-use Rattle.cg_group.proofs.Admitted.{first_none, any_none, regular_home, not_regular_now, one_configuration, same_set_refl, all_together, furthest_is}
+use Rattle.cg_group.specs.RefusalLaws.{first_none}
+use Rattle.cg_group.proofs.Admitted.{any_none, regular_home, not_regular_now, one_configuration, same_set_refl, all_together, furthest_is}
 use Rattle.cg_group.proofs.Handing.{Sends-fewer}
 
 some_member : (set : List ℕ) → empty_set set ≡ None → (p : ℕ) × (has set p ≡ true)

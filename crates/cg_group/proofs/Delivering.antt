@@ -10,8 +10,9 @@ use Rattle.cg_group.specs.Ready.{all_received}
 use Rattle.cg_group.specs.Events.{deliveries_at, transitional_places}
 use Rattle.cg_group.specs.History.{Parting, Never, Here, Stay, was_there}
 use Rattle.cg_group.specs.Synchrony.{EndedBefore}
-use Rattle.cg_group.proofs.Places.{deliveries_at-add}
-use Rattle.cg_group.proofs.Picture.{Picture, Holds, EndsBy, put, handed_more, touched, conf_in}
+use Rattle.cg_group.specs.PlaceLaws.{deliveries_at-add}
+use Rattle.cg_group.proofs.Picture.{Picture, Holds, EndsBy, handed_more, touched, conf_in}
+use Rattle.cg_group.specs.LookupLaws.{put}
 
 module _ {M : Type 0} (P : Picture M) (h : Holds P) (p k n : ℕ) (ms : List (Delivery M)) (regular : P.phase p ≡ Regular k)
     (many : length ms ≡ n) (fits : P.count p + n ≤ length (P.conf k).ordered)

@@ -12,7 +12,7 @@ use Rattle.cg_group.specs.declared.delivery.Handed.{Handed}
 use Rattle.cg_group.specs.State.{Configuration, Sent}
 use Rattle.cg_group.specs.Events.{delivery_at, deliveries_at}
 use Rattle.cg_group.specs.History.{Parting, Way, WentOn, Stay, Diary, no_stay, stay_in, stay_with, with_stray, note, may_part, parted, ended, going, fresh, may_begin, handed_to, NamesOnce}
-use Rattle.cg_group.proofs.Lookups.{at-cond}
+use Rattle.cg_group.specs.LookupLaws.{at-cond}
 use Rattle.cg_group.proofs.Picture.{handed_more, handed_parting}
 
 module _ {M : Type 0} where

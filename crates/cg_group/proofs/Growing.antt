@@ -9,9 +9,11 @@ use Rattle.cg_group.specs.State.{Configuration, has_received}
 use Rattle.cg_group.specs.Ready.{all_received}
 use Rattle.cg_group.specs.Events.{deliveries_at, transitional_places}
 use Rattle.cg_group.specs.History.{Parting, Never, was_there}
-use Rattle.cg_group.proofs.Each.{Each-weaker, Each-above}
-use Rattle.cg_group.proofs.Places.{deliveries_at-more, transitional_places-more, Each-transitional, all_received-kept}
-use Rattle.cg_group.proofs.Picture.{Picture, Holds, Grows, put}
+use Rattle.cg_group.specs.EachLaws.{Each-weaker, Each-above}
+use Rattle.cg_group.specs.PlaceLaws.{deliveries_at-more, transitional_places-more, Each-transitional, all_received-kept}
+use Rattle.cg_group.proofs.Picture.{Picture, Holds}
+use Rattle.cg_group.specs.GrownLaws.{Grows}
+use Rattle.cg_group.specs.LookupLaws.{put}
 
 module _ {M : Type 0} (P : Picture M) (h : Holds P) (p k : ℕ) (D : Configuration M) (regular : P.phase p ≡ Regular k) (g : Grows p (P.conf k) D) where
   -- what holds of the configuration of a number holds of it when it has grown

@@ -15,14 +15,15 @@ use Rattle.cg_group.specs.Events.{come_up, go_down, with_delivered, deliver, del
 use Rattle.cg_group.specs.Refusals.{not_up, not_regular, not_ready, deliver_refusal}
 use Rattle.cg_group.specs.History.{Way, WentDown, Diary, Stay, stay_in, ended, going, note, handed_to}
 use Rattle.cg_group.specs.Synchrony.{Begins, ordered_from}
-use Rattle.cg_group.proofs.Places.{length-deliveries_at, ready-all_received, ready_in-within}
-use Rattle.cg_group.proofs.Picture.{Holds, put, conf_in, handed_more, touched}
+use Rattle.cg_group.specs.PlaceLaws.{length-deliveries_at, ready-all_received, ready_in-within}
+use Rattle.cg_group.proofs.Picture.{Holds, conf_in, handed_more, touched}
+use Rattle.cg_group.specs.LookupLaws.{put, eqb_comm, at-cond, put-own, phase_of-set, delivered_to-set, unordered_of-set, configuration-set_standing, configurations-set_standing, standing_of-down, standing_id}
 use Rattle.cg_group.proofs.Delivering.{delivered}
 use Rattle.cg_group.proofs.Closing.{closed}
-use Rattle.cg_group.proofs.Lookups.{eqb_comm, at-cond, put-own, phase_of-set, delivered_to-set, unordered_of-set, configuration-set_standing, configurations-set_standing, standing_of-down}
 use Rattle.cg_group.proofs.Diaries.{Booked, AreMessages-at, noted_regular, Booked-now, stay_in-now, Booked-ended, stay_in-ended}
-use Rattle.cg_group.proofs.Sound.{Sound, Sends, picture, same_picture, regular_phase, standing_id, ticked}
-use Rattle.cg_group.proofs.Admitted.{first_none, refuse_none, up_standing, regular_home}
+use Rattle.cg_group.proofs.Sound.{Sound, Sends, picture, same_picture, regular_phase, ticked}
+use Rattle.cg_group.specs.RefusalLaws.{first_none, refuse_none}
+use Rattle.cg_group.proofs.Admitted.{up_standing, regular_home}
 
 module _ {M : Type 0} where
   -- what was sent and ordered, when some are regular no longer

@@ -11,7 +11,8 @@ use Rattle.cg_group.specs.Ready.{all_received}
 use Rattle.cg_group.specs.Events.{deliveries_at, transitional_places}
 use Rattle.cg_group.specs.History.{Parting, Never, Here, WentOn, Stay, fresh, was_there}
 use Rattle.cg_group.specs.Synchrony.{EndedBefore}
-use Rattle.cg_group.proofs.Picture.{Picture, Holds, EndsBy, put, touched, conf_in}
+use Rattle.cg_group.proofs.Picture.{Picture, Holds, EndsBy, touched, conf_in}
+use Rattle.cg_group.specs.LookupLaws.{put}
 
 module _ {M : Type 0} (P : Picture M) (h : Holds P) (set : List ℕ)
     (out : (q : ℕ) → has set q ≡ true → conf_in (P.phase q) ≡ 0) where

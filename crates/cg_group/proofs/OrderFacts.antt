@@ -1,17 +1,15 @@
 -- What ordering and receiving do to a group in memory.
-use Rattle.std.proofs.Common.{◌⊎◌, ◌≡◌, ℕ, zero, suc, pred, ◌-◌, ◌<◌, ◌≤◌, List, [], ◌∷◌, length, Option, Some, None, refl, sym, ap, ◌∙◌, arith, fold, inl, inr, ⊎_elim}
+use Rattle.std.proofs.Common.{◌⊎◌, ◌≡◌, ℕ, zero, suc, pred, ◌-◌, ◌<◌, ◌≤◌, List, [], ◌∷◌, length, Option, Some, None, refl, sym, ap, ◌∙◌, arith, fold, inl, inr, ⊎_elim, eqb-true}
 use Rattle.std.specs.Prelude.{◌==◌}
 use Rattle.std.specs.Option.{option_map_or}
 use Rattle.std.proofs.lemmas.Bool.{cases_Bool, cases_eq, cond-true, cond-false, eqb-false, eq-eqb, ne_eqb}
-use Rattle.std.proofs.Common.{eqb-true}
 use Rattle.cg_base.specs.Lists.{at_place, above_up_to}
 use Rattle.cg_group.specs.declared.phase.Phase.TheVariants.{Down}
 use Rattle.cg_group.specs.State.{Configuration, Standing, GroupState, no_configuration, configuration, standing_of, set_standing, set_configuration, phase_of, unordered_of, home, regular_in, changed_at, with_standing}
 use Rattle.cg_group.specs.Events.{with_message, with_receipt, order, order_from, order_all, receive, receive_all}
 use Rattle.cg_group.specs.Logs.{Stored, configurations_of, group_of, with_all_receipts}
 use Rattle.cg_group.specs.Rosters.{found, waits_of, conf_of, with_unordered}
-use Rattle.cg_group.proofs.Picture.{put}
-use Rattle.cg_group.proofs.Lookups.{standing_of-set}
+use Rattle.cg_group.specs.LookupLaws.{put, standing_of-set}
 
 -- only what stands there is changed
 at_next : {X : Type 0} (x : X) (xs : List X) (k : ℕ) → (k ≡ 1 → ⊥) → (z : X) → at_place xs (pred k) ≡ Some z → at_place (x ∷ xs) k ≡ Some z

@@ -12,7 +12,7 @@ use Rattle.cg_group.specs.Ready.{all_received}
 use Rattle.cg_group.specs.Events.{deliveries_at, transitional_places}
 use Rattle.cg_group.specs.History.{Parting, Never, Here, WentOn, Stay, was_there}
 use Rattle.cg_group.specs.Synchrony.{EndedBefore}
-use Rattle.cg_group.proofs.Places.{deliveries_at-add, length-deliveries_at}
+use Rattle.cg_group.specs.PlaceLaws.{deliveries_at-add, length-deliveries_at}
 use Rattle.cg_group.proofs.Picture.{Picture, Holds, EndsBy, handed_parting, touched, conf_in}
 
 module _ {M : Type 0} (P : Picture M) (h : Holds P) (set : List ℕ) (k K : ℕ) (later : List (Delivery M))

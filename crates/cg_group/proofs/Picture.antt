@@ -1,6 +1,5 @@
 -- What the law's invariant speaks of, and the invariant.
 use Rattle.std.proofs.Common.{◌≡◌, ℕ, ◌<◌, ◌≤◌, ◌⊎◌, Bool, true, List, [], ◌++◌, length, Some, None, if◌then◌else◌}
-use Rattle.std.specs.Prelude.{◌==◌}
 use Rattle.cg_base.specs.Sets.{has}
 use Rattle.cg_base.specs.Lists.{above_up_to}
 use Rattle.cg_group.specs.declared.phase.Phase.{Phase}
@@ -68,21 +67,7 @@ pub record Holds {M : Type 0} (P : Picture M) : Type 0 where
   pub bounded : (q c place : ℕ) → has_received (P.conf c) q place ≡ true → place ≤ length (P.conf c).ordered
   pub earlier : (q c : ℕ) → EndsBy P.time (P.stay q c).way
 
-module _ {X : Type 0} where
-  -- a function with one value as given
-  abbrev pub put : (ℕ → X) → ℕ → X → ℕ → X
-  put f k v q = if q == k then v else f q
-
 module _ {M : Type 0} where
-  -- the configuration of one number has grown, by what one regular member did
-  pub record Grows (p : ℕ) (C D : Configuration M) : Type 0 where
-    pub members : D.members ≡ C.members
-    pub rest : List (Rattle.cg_group.specs.State.Sent M)
-    pub ordered : D.ordered ≡ C.ordered ++ rest
-    pub kept : (q place : ℕ) → has_received C q place ≡ true → has_received D q place ≡ true
-    pub others : (q place : ℕ) → (q ≡ p → ⊥) → has_received D q place ≡ has_received C q place
-    pub bounded : (q place : ℕ) → has_received D q place ≡ true → place ≤ length D.ordered
-
   -- a replica is handed messages in its regular phase
   abbrev pub handed_more : List (Rattle.cg_group.specs.declared.delivery.Delivery.Delivery M) → Stay M → Stay M
   handed_more messages s = record s { regular = s.regular ++ messages }

@@ -9,15 +9,14 @@ use Rattle.std.proofs.lemmas.List.{length-append, length-set}
 use Rattle.std.proofs.lemmas.Option.{slice_get-get_or}
 use Rattle.cg_base.specs.Lists.{at_place, above_up_to}
 use Rattle.cg_base.specs.Sets.{IsSet, Ascends, has, with_member, is_within}
-use Rattle.cg_base.proofs.SetLemmas.{with_member-same, with_member-later, has-within, has-with_member}
-use Rattle.cg_base.proofs.SetFacts.{is_within-has, is_within-from}
+use Rattle.cg_base.specs.SetLaws.{with_member-same, with_member-later, has-within, has-with_member, is_within-has, is_within-from}
 use Rattle.cg_group.specs.declared.placed.Placed.{Placed}
 use Rattle.cg_group.specs.State.{Configuration, has_received}
 use Rattle.cg_group.specs.Ready.{all_received}
 use Rattle.cg_group.specs.Events.{with_receipt}
 use Rattle.cg_group.specs.Logs.{IsSettled, configuration_of}
 use Rattle.cg_group.proofs.LogFacts.{above_up_to-next, above_up_to-none, all_received-at_place, has_received-at, prefix-goes_on, at_place-map}
-use Rattle.cg_group.proofs.Places.{at_place-within}
+use Rattle.cg_group.specs.PlaceLaws.{at_place-within}
 use Rattle.cg_group.proofs.OrderFacts.{changed_at-here, changed_at-itself}
 
 -- a member that is there already

@@ -14,14 +14,15 @@ use Rattle.cg_group.specs.Events.{deliveries_at, delivery_at, transitional_place
 use Rattle.cg_group.specs.Refusals.{not_up, not_regular, no_such_place, already_received, earlier_missing, refuse, receive_refusal}
 use Rattle.cg_group.specs.History.{Call, Add, Fall, SendFrom, OrderNext, ReceiveAt, GatherAll, DeliverNext, SplitOff, MergeInto, Parting, Way, Never, Here, WentDown, WentOn, Diary, Stay, Run, stay_in, no_stay, was_there, diary_after, outcome_of, MayCall, step, beginning, run_from, MayCallAll}
 use Rattle.cg_group.specs.Synchrony.{IsVirtuallySynchronous, AlwaysSynchronous, IsDownThere, AscendsAbove, places_of, later_of}
-use Rattle.cg_group.proofs.Each.{Each, Each-weaker, Each-above}
-use Rattle.cg_group.proofs.Places.{at_place-within, all_received-at, Each-transitional}
+use Rattle.cg_group.specs.EachLaws.{Each, Each-weaker, Each-above}
+use Rattle.cg_group.specs.PlaceLaws.{at_place-within, all_received-at, Each-transitional}
 use Rattle.cg_group.proofs.Picture.{Picture, Holds, conf_in}
-use Rattle.cg_group.proofs.Lookups.{same_both}
+use Rattle.cg_group.specs.LookupLaws.{same_both}
 use Rattle.cg_group.proofs.Diaries.{Booked}
 use Rattle.cg_group.proofs.Sound.{Sound, picture, same_picture, Sound-ticked}
 use Rattle.cg_group.proofs.Ordering.{order_sound, receive_sound, gather_sound, send_sound}
-use Rattle.cg_group.proofs.Admitted.{first_none, list_any_in}
+use Rattle.cg_group.specs.RefusalLaws.{first_none}
+use Rattle.cg_group.proofs.Admitted.{list_any_in}
 use Rattle.cg_group.proofs.Handing.{up_sound, down_sound, deliver_sound}
 use Rattle.cg_group.proofs.Changing.{in_phase, split_sound, merge_sound}
 

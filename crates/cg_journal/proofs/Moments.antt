@@ -1,5 +1,5 @@
 -- How a run of device calls goes on.
-use Rattle.std.proofs.Common.{◌≡◌, inl, inr, ⊎_elim, ℕ, ◌≤◌, ◌<◌, Option, Some, None, IfSome, refl, arith}
+use Rattle.std.proofs.Common.{◌≡◌, inl, inr, ⊎_elim, ℕ, ◌≤◌, ◌<◌, Option, Some, None, IfSome, refl, arith, List}
 use Rattle.std.specs.Option.{option_map}
 use Rattle.cg_disk.specs.Sides.{Image, bytes_of}
 use Rattle.cg_disk.specs.Writes.{Torn, TornSide}
@@ -7,7 +7,6 @@ use Rattle.cg_disk.specs.State.{DiskState, Strike, Blow, blow_at}
 use Rattle.cg_disk.specs.View.{DiskView, IsView, LeavesOnly}
 use Rattle.cg_disk.specs.Calls.{Elapses}
 use Rattle.cg_disk.specs.declared.disk.Side.{Side}
-use Rattle.std.proofs.Common.{List}
 use Rattle.std.proofs.lemmas.Bool.Decides.{nat_tests}
 use Rattle.cg_journal.specs.Strikes.{strike_of}
 

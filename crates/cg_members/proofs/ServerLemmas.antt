@@ -7,8 +7,8 @@ use Rattle.cg_base.specs.Sets.{Ascends, has}
 use Rattle.cg_base.specs.Slots.{array_slot}
 use Rattle.cg_base.specs.Weights.{IsWeightSet, Weigh, ids, weight_in, with_weight}
 use Rattle.cg_base.specs.Lists.{least_of}
-use Rattle.cg_base.proofs.ArrayLemmas.{zeros, array_slot-zeros}
-use Rattle.cg_base.proofs.SetLemmas.{Ascends-below}
+use Rattle.cg_base.specs.ArrayLaws.{zeros, array_slot-zeros}
+use Rattle.cg_base.specs.SetLaws.{Ascends-below}
 use Rattle.cg_members.specs.View.{server_with, lesser}
 use Rattle.cg_members.specs.Servers.{server_ids, is_among, weight_of, line_of, first_line, with_server, without_server, with_line, AreServers, Count}
 

@@ -1,3 +1,4 @@
 pub mod View
 pub mod Servers
 pub mod Laws
+pub mod MemberLaws

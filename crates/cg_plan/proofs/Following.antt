@@ -1,29 +1,14 @@
 -- Following a plan item by item.
 use Rattle.std.proofs.Common.{◌≡◌, ℕ, zero, suc, ◌+◌, ◌<◌, ◌≤◌, List, [], ◌∷◌, length, take, get_or, Some, true, eqb, refl, sym, ap, ◌∙◌, arith, inl, inr}
 use Rattle.std.specs.Prelude.{slice_get, ◌↔◌}
-use Rattle.std.proofs.lemmas.Bool.{eq-eqb, eqb-true, ne_eqb, and_from, and_parts, le-leb, lt-leb, cases_eq}
+use Rattle.std.proofs.lemmas.Bool.{eq-eqb, ne_eqb, and_from, le-leb, lt-leb, cases_eq}
 use Rattle.std.proofs.lemmas.List.Sums.{fold_more}
 use Rattle.cg_plan.specs.declared.parts.Item.{Item}
-use Rattle.cg_plan.specs.declared.parts.Item.TheVariants.{Green, Red}
 use Rattle.cg_plan.specs.declared.parts.Turn.{Turn}
 use Rattle.cg_plan.specs.declared.parts.Sent.{Sent}
 use Rattle.cg_plan.specs.Items.{same_item, items_of_plan}
 use Rattle.cg_plan.specs.Progress.{Progress, begun, next_item, is_wanted, after_item, after_items, is_done}
-
-pub same_item-itself : (i : Item) → same_item i i ≡ true
-same_item-itself (Green at) = eq-eqb at at refl
-same_item-itself (Red id) = and_from (eqb id.creator id.creator) (eqb id.index id.index) (eq-eqb id.creator id.creator refl) (eq-eqb id.index id.index refl)
-
-abbrev named : ℕ → ℕ → Item
-named creator index = Red (record { creator = creator; index = index })
-
-pub same_item-is : (a b : Item) → same_item a b ≡ true → a ≡ b
-same_item-is (Green at) (Green at') e = ap Green (eqb-true at at' e)
-same_item-is (Green at) (Red id) e = absurd (cc)
-same_item-is (Red id) (Green at) e = absurd (cc)
-same_item-is (Red id) (Red id') e =
-    let parts = and_parts (eqb id.creator id'.creator) (eqb id.index id'.index) e in
-    ap (λ c. named c id.index) (eqb-true id.creator id'.creator parts.0) ∙ ap (named id'.creator) (eqb-true id.index id'.index parts.1)
+use Rattle.cg_plan.specs.PlanLaws.{same_item-itself, same_item-is}
 
 pub same_item-tells : (a b : Item) → (same_item a b ≡ true) ↔ (a ≡ b)
 same_item-tells a b = (same_item-is a b, λ e. rw e (same_item-itself b))

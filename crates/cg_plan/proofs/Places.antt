@@ -1,10 +1,9 @@
 -- A place in a plan, and the items before and behind it.
-use Rattle.std.proofs.Common.{◌≡◌, ℕ, zero, suc, ◌+◌, ◌-◌, ◌<◌, ◌≤◌, List, [], ◌∷◌, ◌++◌, length, map, take, drop, get_or, Some, None, true, false, cond, eqb, ltb, leb, inl, inr, refl, sym, ap, ◌∙◌, arith, length-append}
+use Rattle.std.proofs.Common.{◌≡◌, ℕ, zero, suc, ◌+◌, ◌-◌, ◌<◌, ◌≤◌, List, [], ◌∷◌, ◌++◌, length, map, take, drop, get_or, Some, None, false, eqb, ltb, leb, inl, inr, refl, sym, ap, ◌∙◌, arith, length-append}
 use Rattle.std.specs.Prelude.{slice_get, Option, IsSome}
-use Rattle.std.proofs.lemmas.Bool.{false≢true, lt-ltb, le-ltb, lt-leb, le-leb, eq-eqb, ne_eqb, cases_lt}
+use Rattle.std.proofs.lemmas.Bool.{false≢true, le-ltb, lt-leb, le-leb, eq-eqb, ne_eqb, cases_lt}
 use Rattle.std.proofs.lemmas.List.{length-map, append-nil, nil_from_length, drop_all}
-use Rattle.std.proofs.lemmas.List.Concat.{flat_map-cons}
-use Rattle.cg_base.specs.Lists.{count_up, above_up_to}
+use Rattle.cg_base.specs.Lists.{count_up}
 use Rattle.cg_plan.specs.declared.parts.Item.TheVariants.{Green}
 use Rattle.cg_plan.specs.declared.parts.Part.{Part}
 use Rattle.cg_plan.specs.declared.parts.Part.TheVariants.{Greens, Reds}
@@ -12,6 +11,7 @@ use Rattle.cg_plan.specs.declared.parts.Turn.{Turn}
 use Rattle.cg_plan.specs.Items.{red_item, items_of, sent_by, items_of_turn, items_of_plan, IsFilled, size_of, item_behind}
 use Rattle.cg_plan.specs.Place.{AreFilled, MadeFew, IsPlace, items_before}
 use Rattle.cg_plan.specs.Progress.{Progress, begun, turn_of}
+use Rattle.cg_plan.specs.PlanLaws.{length-items, length-turn, size-filled, items-cons}
 
 -- ---- the parts from a place on
 
@@ -26,17 +26,6 @@ pub opened : (turns rest : List Turn) (current : ℕ) (turn : Turn) → rest ≡
 opened turns rest current turn from some is = sym from ∙ first-is rest turn some is
 
 -- ---- the items of one part
-
-length-count_up : (n first : ℕ) → length (count_up first n) ≡ n
-length-count_up zero first = refl
-length-count_up (suc n) first = ap suc (length-count_up n (suc first))
-
-pub length-items : (part : Part) → length (items_of part) ≡ size_of part
-length-items (Greens from to) = length-map (above_up_to (from - 1) to) Green ∙ length-count_up (to - (from - 1)) (suc (from - 1))
-length-items (Reds creator from to) = length-map (above_up_to (from - 1) to) (red_item creator) ∙ length-count_up (to - (from - 1)) (suc (from - 1))
-
-pub length-turn : (turn : Turn) → length (items_of_turn turn) ≡ size_of turn.part
-length-turn turn = length-map (items_of turn.part) (sent_by turn.sender) ∙ length-items turn.part
 
 get-count_up : {X : Type 0} (f : ℕ → X) (n first k : ℕ) → k < n → slice_get (map f (count_up first n)) k ≡ Some (f (first + k))
 get-count_up f zero first k lt = absurd (omega arith)
@@ -61,10 +50,6 @@ get-items (Reds creator from to) made filled few =
     get-count_up (red_item creator) (to - (from - 1)) (suc (from - 1)) made few ∙ ap (λ m. Some (red_item creator m)) same
 
 -- ---- the items of all parts
-
-pub items-cons : (turn : Turn) (turns : List Turn) → items_of_plan (turn ∷ turns) ≡ items_of_turn turn ++ items_of_plan turns
-unfolding items_of_plan
-items-cons turn turns = flat_map-cons items_of_turn turn turns
 
 items-none : items_of_plan [] ≡ []
 unfolding items_of_plan
@@ -128,10 +113,6 @@ few-none turns current made none place = let few = place.few in rw none at few
 
 -- ---- the part that begins at a place
 
-pub size-filled : (part : Part) → IsFilled part → 1 ≤ size_of part
-size-filled (Greens from to) filled = let one : 1 ≤ from = filled.0 in let le : from ≤ to = filled.1 in omega arith
-size-filled (Reds creator from to) filled = let one : 1 ≤ from = filled.0 in let le : from ≤ to = filled.1 in omega arith
-
 turn_of-past : (turn : Turn) (turns : List Turn) (me n : ℕ) → 1 ≤ length (items_of turn.part) → turn_of (turn ∷ turns) me (length (items_of turn.part) + n) ≡ turn_of turns me n
 unfolding turn_of
 turn_of-past turn turns me n some = past (length (items_of turn.part)) some refl
@@ -156,21 +137,6 @@ turn_of-place (turn ∷ turns) me (suc current) made filled =
     let before : length (items_of_plan (turn ∷ take current turns)) + made ≡ length front + (length more + made) = omega (arith, ap length (items-cons turn (take current turns)), size, length-append (items_of_turn turn) more) in
     let some : 1 ≤ length front = omega (arith, length-items turn.part, size-filled turn.part filled.0) in
     ap (turn_of (turn ∷ turns) me) before ∙ turn_of-past turn turns me (length more + made) some ∙ rest
-
-pub turn_of-none : (me made : ℕ) → turn_of [] me made ≡ None
-unfolding turn_of
-turn_of-none me made = refl
-
-pub turn_of-begun : (turn : Turn) (turns : List Turn) (me : ℕ) → turn_of (turn ∷ turns) me 0 ≡ cond (eqb turn.sender me) (Some turn.part) None
-unfolding turn_of
-turn_of-begun turn turns me = refl
-
-pub turn_of-under_way : (turn : Turn) (turns : List Turn) (me made : ℕ) → 1 ≤ made → made < size_of turn.part → turn_of (turn ∷ turns) me made ≡ None
-unfolding turn_of
-turn_of-under_way turn turns me zero some few = absurd (omega arith)
-turn_of-under_way turn turns me (suc made) some few =
-    let within : ltb (suc made) (length (items_of turn.part)) ≡ true = lt-ltb _ _ (omega (arith, length-items turn.part)) in
-    rw within refl
 
 -- ---- the next place
 

@@ -1,12 +1,14 @@
 -- Cuts that are raised by one action, and names behind a cut.
-use Rattle.std.proofs.Common.{◌≡◌, ℕ, suc, ◌<◌, ◌≤◌, ◌≢◌, ◌||◌, ◌⊎◌, List, [], ◌∷◌, ◌++◌, filter, cond, max, Bool, not, true, false, eqb, refl, sym, ap, ◌∙◌, arith, inl, inr}
-use Rattle.std.proofs.lemmas.Bool.{cases_eq, cases_lt, cases_Bool, eq-eqb, ne_eqb, lt-ltb, le-ltb, or_from}
+use Rattle.std.proofs.Common.{◌≡◌, ℕ, suc, ◌<◌, ◌≤◌, ◌≢◌, ◌||◌, ◌⊎◌, List, [], ◌∷◌, ◌++◌, filter, cond, max, Bool, not, true, false, refl, sym, ap, ◌∙◌, arith, inl, inr}
+use Rattle.std.proofs.lemmas.Bool.{cases_eq, cases_lt, cases_Bool, eq-eqb, ne_eqb, le-ltb, or_from}
 use Rattle.cg_base.specs.declared.action_id.ActionId.{ActionId}
 use Rattle.cg_base.specs.Ids.{same_id, names}
 use Rattle.cg_base.specs.Sets.{IsId}
 use Rattle.cg_base.specs.Cuts.{IsCut, index_in, raise}
-use Rattle.cg_base.proofs.CutLemmas.{index_in-raise}
+use Rattle.cg_base.specs.CutLaws.{index_in-raise}
 use Rattle.cg_queue.specs.Body.{is_above, AreKnown}
+use Rattle.cg_base.specs.IdLaws.{same_id-false, same_id-true}
+use Rattle.cg_queue.specs.MarkLaws.{is_above-true}
 
 module _ (cut : List ActionId) (id : ActionId) (is_cut : IsCut cut) where
   pub raise-same : (p : ℕ) → id.creator ≡ p → index_in (raise cut id) p ≡ max (index_in cut p) id.index
@@ -22,16 +24,6 @@ module _ (cut : List ActionId) (id : ActionId) (is_cut : IsCut cut) where
   ]
 
 -- ---- names
-
-pub same_id-false : (a b : ActionId) → (a.creator ≢ b.creator) ⊎ (a.index ≢ b.index) → same_id a b ≡ false
-same_id-false a b (inl apart) = rw (ne_eqb a.creator b.creator apart)
-same_id-false a b (inr apart) = elim (cases_Bool (eqb a.creator b.creator)) [
-  | inl same ↦ rw (same, ne_eqb a.index b.index apart)
-  | inr other ↦ rw other
-]
-
-pub same_id-true : (a b : ActionId) → a.creator ≡ b.creator → a.index ≡ b.index → same_id a b ≡ true
-same_id-true a b creators indexes = rw (eq-eqb a.creator b.creator creators, eq-eqb a.index b.index indexes)
 
 pub names-more : (ids : List ActionId) (id x : ActionId) → names (ids ++ id ∷ []) x ≡ (names ids x || same_id x id)
 names-more [] id x = or_none (same_id x id)
@@ -91,9 +83,6 @@ names-unknown cut (y ∷ ids) id known above =
     ]) (names-unknown cut ids id known.2 above)
 
 -- ---- names behind a cut
-
-pub is_above-true : (cut : List ActionId) (id : ActionId) → index_in cut id.creator < id.index → is_above cut id ≡ true
-is_above-true cut id lt = lt-ltb (index_in cut id.creator) id.index lt
 
 pub is_above-false : (cut : List ActionId) (id : ActionId) → id.index ≤ index_in cut id.creator → is_above cut id ≡ false
 is_above-false cut id le = le-ltb (index_in cut id.creator) id.index le

@@ -11,7 +11,7 @@ use Rattle.cg_action.specs.declared.action.Action.{Action}
 use Rattle.cg_queue.specs.declared.red.Red.{Red}
 use Rattle.cg_queue.specs.Queue.{action_of, names_of}
 use Rattle.cg_queue.specs.Body.{Parts, seen, Run, Follows, places_of, actions_in, reds_from, all_reds, IsSound, lane_of}
-use Rattle.cg_queue.proofs.CutRises.{same_id-false, same_id-true}
+use Rattle.cg_base.specs.IdLaws.{same_id-false, same_id-true}
 use Rattle.cg_queue.proofs.RedLemmas.{is_named, names-all}
 use Rattle.cg_queue.proofs.Soundness.{low_of, runs_of, has_lane}
 

@@ -7,7 +7,9 @@ use Rattle.cg_base.specs.Cuts.{index_in}
 use Rattle.cg_queue.specs.declared.red.Red.{Red}
 use Rattle.cg_queue.specs.Lanes.{marked_at}
 use Rattle.cg_queue.specs.Body.{Run, Flagged, is_above}
-use Rattle.cg_queue.proofs.CutRises.{names-other, names-last, names-above, is_above-true, same_id-false}
+use Rattle.cg_queue.proofs.CutRises.{names-other, names-last, names-above}
+use Rattle.cg_queue.specs.MarkLaws.{is_above-true}
+use Rattle.cg_base.specs.IdLaws.{same_id-false}
 
 -- the name is that of none of the actions
 abbrev pub IsOutside : ActionId → ℕ → ℕ → ℕ → Type 0

@@ -6,4 +6,3 @@ pub mod RedLemmas
 pub mod FindLemmas
 pub mod Soundness
 pub mod Renaming
-pub mod Marking

@@ -9,7 +9,7 @@ use Rattle.cg_queue.specs.Lanes.{with_lane}
 use Rattle.cg_queue.specs.Queue.{with_red, without_action, names_of}
 use Rattle.cg_queue.specs.Body.{Run, actions_in, reds_from, all_reds}
 use Rattle.cg_queue.proofs.RowLemmas.{with_lane-same, with_lane-other, filter-join, map-more}
-use Rattle.cg_queue.proofs.CutRises.{same_id-false, same_id-true}
+use Rattle.cg_base.specs.IdLaws.{same_id-false, same_id-true}
 
 -- ---- other rows don't matter
 

@@ -9,7 +9,8 @@ use Rattle.cg_queue.specs.Lanes.{marked_at}
 use Rattle.cg_queue.specs.Queue.{AreReds}
 use Rattle.cg_queue.specs.Body.{Parts, seen, all_reds, actions_in, is_above, Run, Flagged, AreKnown, IsSound, lane_of, flag_name, renamed}
 use Rattle.cg_queue.proofs.RowLemmas.{with_lane-same, with_lane-other, same_length, append-nothing}
-use Rattle.cg_queue.proofs.CutRises.{is_above-true, is_above-false}
+use Rattle.cg_queue.specs.MarkLaws.{is_above-true}
+use Rattle.cg_queue.proofs.CutRises.{is_above-false}
 use Rattle.cg_queue.proofs.RunLemmas.{Run-marked, actions_in-marked}
 use Rattle.cg_queue.proofs.FlagLemmas.{OnlyFlagged, OnlyFlagged-from, OnlyFlagged-others, OnlyFlagged-unmarked, Flagged-none, Flagged-others, Flagged-marked}
 use Rattle.cg_queue.proofs.RedLemmas.{IsNamed, is_named, all_reds-same}

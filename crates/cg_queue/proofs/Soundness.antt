@@ -6,15 +6,15 @@ use Rattle.cg_base.specs.declared.action_id.ActionId.{ActionId}
 use Rattle.cg_base.specs.Ids.{same_id, names}
 use Rattle.cg_base.specs.Sets.{IsId}
 use Rattle.cg_base.specs.Cuts.{IsCut, index_in, raise}
-use Rattle.cg_base.proofs.CutLemmas.{IsCut-raise}
+use Rattle.cg_base.specs.CutLaws.{IsCut-raise}
 use Rattle.cg_action.specs.declared.action.Action.{Action}
 use Rattle.cg_queue.specs.declared.red.Red.{Red}
 use Rattle.cg_queue.specs.Lanes.{with_lane, marked_at}
 use Rattle.cg_queue.specs.Queue.{with_yellow, placed_red, placed_green, with_red, without_action, discarded, resumed}
 use Rattle.cg_queue.specs.Body.{Parts, seen, all_reds, reds_from, no_parts, BeginsWell, actions_in, is_above, flag_of, Run, Follows, places_of, Flagged, IsLane, IsSound, lane_of, added_red, with_name, flagged, added_green, cleared, dropped, dropped_from}
-use Rattle.cg_queue.proofs.Marking.{yellow-added}
+use Rattle.cg_queue.specs.MarkLaws.{yellow-added, is_above-true}
 use Rattle.cg_queue.proofs.RowLemmas.{with_lane-same, with_lane-other, same_lanes, length-more, filter-more, filter-twice}
-use Rattle.cg_queue.proofs.CutRises.{raise-same, raise-other, raise-rises, AreKnown-rise, AreKnown-more, AreKnown-filter, names-unknown, is_above-true, names-above, above-raised}
+use Rattle.cg_queue.proofs.CutRises.{raise-same, raise-other, raise-rises, AreKnown-rise, AreKnown-more, AreKnown-filter, names-unknown, names-above, above-raised}
 use Rattle.cg_queue.proofs.RunLemmas.{Run-more, Run-less, Run-marked, length-marked, actions_in-marked, marked-last, length-less, Follows-more, Follows-others, places_of-more, places_of-others}
 use Rattle.cg_queue.proofs.FlagLemmas.{Flagged-others, Flagged-marked, Flagged-append, Flagged-less, Flagged-above}
 use Rattle.cg_queue.proofs.RedLemmas.{all_reds-added, all_reds-dropped, all_reds-same}

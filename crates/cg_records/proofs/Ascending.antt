@@ -1,5 +1,5 @@
 -- What comes last into an ascending list comes at its end.
-use Rattle.std.proofs.Common.{◌≡◌, ℕ, ◌<◌, ◌≤◌, ◌≢◌, List, [], ◌∷◌, ◌++◌, map, refl, ap, arith}
+use Rattle.std.proofs.Common.{◌≡◌, ℕ, ◌<◌, ◌≤◌, ◌≢◌, List, [], ◌∷◌, ◌++◌, refl, arith}
 use Rattle.std.proofs.lemmas.Bool.{ne_eqb, le-ltb}
 use Rattle.cg_base.specs.declared.action_id.ActionId.{ActionId}
 use Rattle.cg_base.specs.declared.weighted.Weighted.{Weighted}
@@ -45,7 +45,3 @@ pub raise-last : (cut : List ActionId) (id : ActionId) → 1 ≤ id.index → Al
 raise-last cut id one below =
     let some : id.index ≢ 0 = λ e. omega arith in
     rw (ne_eqb id.index 0 some) (with_top-last cut id below)
-
-pub map-push : {X : Type 0} (key : X → ℕ) (xs : List X) (x : X) → map key (xs ++ x ∷ []) ≡ map key xs ++ key x ∷ []
-map-push key [] x = refl
-map-push key (y ∷ xs) x = ap (λ ks. key y ∷ ks) (map-push key xs x)

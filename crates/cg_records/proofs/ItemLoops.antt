@@ -1,14 +1,11 @@
 -- Loops that read items whose keys ascend.
 use Rattle.std.proofs.Common.{◌≡◌, ℕ, suc, ◌+◌, ◌-◌, ◌<◌, List, [], ◌∷◌, ◌++◌, Result, Ok, refl, sym, arith}
-use Rattle.std.proofs.lemmas.List.Sums.{fold_push}
 use Rattle.cg_codec.specs.declared.fault.CodecFault.{CodecFault}
 use Rattle.cg_codec.specs.Reading.{Unread, Reading, take_items}
-use Rattle.cg_codec.proofs.Items.{items_go_on}
+use Rattle.cg_codec.specs.ItemLaws.{items_go_on}
 use Rattle.cg_records.specs.Reading.{last_of}
 use Rattle.cg_records.proofs.Ascending.{AllBelow, AllBelow-more, AllBelow-push}
-
-pub last_of-push : (ps : List ℕ) (p : ℕ) → last_of (ps ++ p ∷ []) ≡ p
-last_of-push ps p = fold_push (λ _ q. q) 0 ps p
+use Rattle.cg_records.specs.RecordLaws.{last_of-push}
 
 -- i of the items were read, with these keys
 pub record ReadSoFar {X : Type 0} (item : List X → Reading X) (total : Result (List X × Unread) CodecFault) (count i last : ℕ) (keys : List ℕ) (taken : List X) (left : Unread) : Type 0 where

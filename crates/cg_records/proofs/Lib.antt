@@ -1,4 +1,3 @@
 pub mod Ascending
 pub mod Passed
 pub mod ItemLoops
-pub mod Exact

@@ -4,7 +4,7 @@ use Rattle.std.proofs.lemmas.Bool.{ltb-true, leb-true, and_parts}
 use Rattle.cg_base.specs.declared.action_id.ActionId.{ActionId}
 use Rattle.cg_base.specs.declared.weighted.Weighted.{Weighted}
 use Rattle.cg_codec.specs.Reading.{Unread, ◌>>=◌, done, take_u8, take_u64}
-use Rattle.cg_codec.proofs.FieldLaws.{passed-ok, go_on-ok, given}
+use Rattle.cg_codec.specs.FieldLaws.{passed-ok, go_on-ok, given}
 use Rattle.cg_records.specs.Reading.{take_id_above, take_index, take_weight, take_weighted_above, take_name_above}
 
 pub id_above-ok : (last id : ℕ) (old new : Unread) → take_id_above last old ≡ Ok (id, new) → (last < id) × (id ≤ 32)

@@ -6,14 +6,14 @@ use Rattle.cg_base.specs.Sets.{IsId, IsSet}
 use Rattle.cg_codec.specs.Fields.{byte, number64, optional}
 use Rattle.cg_codec.specs.Reading.{Reading, ◌>>=◌, done}
 use Rattle.cg_codec.specs.Laws.{IsField}
-use Rattle.cg_codec.proofs.FieldLaws.{field_bind, field_map}
+use Rattle.cg_codec.specs.FieldLaws.{field_bind, field_map}
 use Rattle.cg_records.specs.declared.primary.Primary.{Primary}
 use Rattle.cg_records.specs.declared.vulnerable.Vulnerable.{Vulnerable}
 use Rattle.cg_records.specs.declared.yellow.Yellow.{Yellow}
 use Rattle.cg_records.specs.Limits.{IsNumber, IsSmallCut, IsPrimary, IsMaybeVulnerable, IsYellow}
 use Rattle.cg_records.specs.Bytes.{spelled_set, spelled_cut, spelled_prim, spelled_vulnerable, spelled_yellow}
 use Rattle.cg_records.specs.Reading.{take_number, take_id_above, take_set, take_cut, take_prim, take_maybe_vulnerable, take_yellow}
-use Rattle.cg_records.proofs.Exact.{any_id_field, number_field, prim_field, maybe_vulnerable_field, yellow_field, cut_field, set_field}
+use Rattle.cg_records.specs.RecordLaws.{any_id_field, number_field, prim_field, maybe_vulnerable_field, yellow_field, cut_field, set_field}
 use Rattle.cg_knowledge.specs.declared.summary.Summary.{Summary}
 use Rattle.cg_wire.specs.Limits.{IsSummary}
 use Rattle.cg_wire.specs.Bytes.{spelled_summary}

@@ -2,7 +2,7 @@
 use Rattle.std.proofs.Common.{◌≡◌, ℕ, ◌+◌, List, ◌++◌, length, Ok, refl, subst, append_assoc, length-append, arith}
 use Rattle.cg_codec.specs.Reading.{Unread, Reading, ◌>>=◌, done}
 use Rattle.cg_codec.specs.Laws.{Found, IsField}
-use Rattle.cg_codec.proofs.FieldLaws.{Took-bytes, Took-then, go_on-ok, same_pair}
+use Rattle.cg_codec.specs.FieldLaws.{Took-bytes, Took-then, go_on-ok, same_pair}
 
 -- a variant with one part
 pub variant_of_one : {X Y : Type 0} (into : X → Y) (HasX : X → Type 0) (first : X → List ℕ) (reading : Reading X) (HasY : Y → Type 0) (spelling : Y → List ℕ)

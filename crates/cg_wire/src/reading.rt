@@ -8,7 +8,7 @@ ghost use Rattle.cg_wire.specs.Reading.{summary_reading, green_item_reading, red
 ghost use Rattle.cg_wire.specs.Limits.{IsMsg};
 ghost use Rattle.cg_wire.specs.Laws.{GivesSpelled};
 
-use crate::Msg;
+use crate::{Msg, messages_are_exact};
 use cg_action::take_action;
 use cg_base::NoMemory;
 use cg_codec::{CodecFault, Fields};
@@ -23,6 +23,7 @@ pub fn decode(alloc: Global, bytes: &[u8]) -> Result<Msg, CodecFault>
     ensures read { Decodes (λ m. m) (whole msg_reading bytes.now) result }
     ensures exact { GivesSpelled bytes.now result }
 {
+    messages_are_exact();
     read_all(alloc, bytes)
 }
 

@@ -12,9 +12,8 @@ use Rattle.cg_action.specs.Limits.{IsAction, IsKind}
 use Rattle.cg_wire.specs.Bytes.{spelled_msg}
 use Rattle.cg_group.specs.State.{Sent}
 use Rattle.cg_group.specs.Synchrony.{ordered_from}
-use Rattle.cg_group.proofs.Each.{Each, Each-append}
-use Rattle.cg_group.proofs.Picture.{put}
-use Rattle.cg_group.proofs.Lookups.{put-other, put-same}
+use Rattle.cg_group.specs.EachLaws.{Each, Each-append}
+use Rattle.cg_group.specs.LookupLaws.{put, put-other, put-same}
 use Rattle.cg_world.specs.declared.replica.Replica.{Replica}
 use Rattle.cg_world.specs.Replica.{Turn, begin, is_reg_prim, create, buffer, asked, emptied, settle}
 use Rattle.cg_world.specs.World.{new_in_order}

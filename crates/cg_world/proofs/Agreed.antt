@@ -13,7 +13,7 @@ use Rattle.cg_action.specs.declared.action.Action.{Action}
 use Rattle.cg_db.specs.declared.entry.DbEntry.{DbEntry}
 use Rattle.cg_db.specs.Apply.{apply, fold_actions}
 use Rattle.cg_db.specs.Find.{answer, query_of}
-use Rattle.cg_group.proofs.Each.{Each}
+use Rattle.cg_group.specs.EachLaws.{Each}
 use Rattle.cg_report.specs.declared.entry.Reply.{Reply}
 use Rattle.cg_report.specs.declared.entry.Shown.TheVariants.{Greens, Database, All}
 use Rattle.cg_report.specs.declared.line.UpLine.{UpLine}

@@ -11,7 +11,7 @@ use Rattle.cg_base.specs.Sets.{has}
 use Rattle.cg_base.specs.Weights.{ids, IsWeightSet}
 use Rattle.cg_action.specs.declared.action.Action.{Action}
 use Rattle.cg_db.specs.Apply.{fold_actions}
-use Rattle.cg_group.proofs.Each.{Each}
+use Rattle.cg_group.specs.EachLaws.{Each}
 use Rattle.cg_schedule.specs.declared.event.Event.{Event}
 use Rattle.cg_schedule.specs.declared.event.Event.TheVariants.{Start, Merge, Request}
 use Rattle.cg_world.specs.declared.replica.Replica.{Replica}
@@ -25,12 +25,11 @@ use Rattle.cg_world.proofs.Numbered.{AreNumbered, made_by, own_in, IsOrdered, nu
 use Rattle.cg_world.proofs.Pictures.{pic}
 use Rattle.cg_world.proofs.Telling.{Told, told-begun, made_of-names, split-at, contains-at, contains-map, contains-filter, contains-filter-in}
 use Rattle.cg_world.proofs.Wire.{Exact}
-use Rattle.cg_world.proofs.Heard.{after, after-front}
+use Rattle.cg_world.proofs.Heard.{after, after-front, Front, acts_in}
 use Rattle.cg_world.proofs.Acted.{acts-front}
 use Rattle.cg_world.proofs.Together.{Together, made-parts}
 use Rattle.cg_world.proofs.Coming.{Apart, IsWaiting, start-apart}
 use Rattle.cg_world.proofs.Running.{names_in, Phase, Stands, greens_in, Change, step_to, told-more, no_element}
-use Rattle.cg_world.proofs.Heard.{Front, acts_in}
 use Rattle.cg_world.proofs.Stepping.{greens-none, begun-member, stands-step}
 
 -- the actions of the global order: each was shown as made, and each replica's greens and database are those of a front of them

@@ -9,7 +9,7 @@ use Rattle.cg_base.specs.declared.weighted.Weighted.{Weighted}
 use Rattle.cg_base.specs.Lists.{above_up_to}
 use Rattle.cg_base.specs.Sets.{has, is_within, Ascends}
 use Rattle.cg_base.specs.Weights.{ids, IsWeightSet}
-use Rattle.cg_base.proofs.SetLemmas.{has-before}
+use Rattle.cg_base.specs.SetLaws.{has-before}
 use Rattle.cg_action.specs.declared.action.Action.{Action}
 use Rattle.cg_action.specs.declared.action.Kind.{Kind}
 use Rattle.cg_action.specs.Limits.{IsAction, IsKind}
@@ -24,10 +24,9 @@ use Rattle.cg_group.specs.State.{Configuration, Standing, GroupState, no_group, 
 use Rattle.cg_group.specs.Events.{come_up, send_all, order, order_all, receive, receive_all, regulars, gather, become_regular, merge}
 use Rattle.cg_group.specs.Synchrony.{ordered_from}
 use Rattle.cg_group.specs.History.{NamesOnce}
-use Rattle.cg_group.proofs.Each.{Each, Each-all, Each-weaker}
-use Rattle.cg_group.proofs.Picture.{put}
-use Rattle.cg_group.proofs.Lookups.{put-other, put-same, phase_of-set, unordered_of-set, configurations-set_standing}
-use Rattle.cg_group.proofs.Admitted.{refuse_none}
+use Rattle.cg_group.specs.EachLaws.{Each, Each-all, Each-weaker}
+use Rattle.cg_group.specs.LookupLaws.{put, put-other, put-same, phase_of-set, unordered_of-set, configurations-set_standing}
+use Rattle.cg_group.specs.RefusalLaws.{refuse_none}
 use Rattle.cg_schedule.specs.declared.event.Event.TheVariants.{Start, Merge}
 use Rattle.cg_report.specs.declared.line.Line.{Line}
 use Rattle.cg_report.specs.declared.entry.Placed.{Placed}

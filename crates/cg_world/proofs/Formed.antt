@@ -18,9 +18,8 @@ use Rattle.cg_wire.specs.Bytes.{spelled_msg}
 use Rattle.cg_group.specs.declared.phase.Phase.TheVariants.{Regular}
 use Rattle.cg_group.specs.State.{regular_in}
 use Rattle.cg_group.specs.Synchrony.{ordered_from}
-use Rattle.cg_group.proofs.Each.{Each, Each-append}
-use Rattle.cg_group.proofs.Picture.{put}
-use Rattle.cg_group.proofs.Lookups.{put-other, put-same}
+use Rattle.cg_group.specs.EachLaws.{Each, Each-append}
+use Rattle.cg_group.specs.LookupLaws.{put, put-other, put-same}
 use Rattle.cg_world.specs.declared.replica.Replica.{Replica}
 use Rattle.cg_world.specs.declared.state.State.{State}
 use Rattle.cg_world.specs.Message.{message_in}

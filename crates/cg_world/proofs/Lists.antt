@@ -2,7 +2,7 @@
 use Rattle.std.proofs.Common.{◌≡◌, zero, suc, Bool, List, [], ◌∷◌, Option, Some, None, refl, subst, arith, map, find, flat_map, fold, Contains}
 use Rattle.std.proofs.lemmas.Bool.{cond_both}
 use Rattle.cg_base.specs.Lists.{present}
-use Rattle.cg_group.proofs.Each.{Each, Each-append}
+use Rattle.cg_group.specs.EachLaws.{Each, Each-append}
 
 module _ {X : Type 0} where
   pub Each-contains : (P : X → Type 0) (xs : List X) (x : X) → Each P xs → Contains xs x → P x

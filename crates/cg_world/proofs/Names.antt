@@ -14,9 +14,9 @@ use Rattle.cg_group.specs.declared.phase.Phase.TheVariants.{Alone}
 use Rattle.cg_group.specs.declared.reason.Reason.TheVariants.{EmptySet}
 use Rattle.cg_group.specs.State.{Configuration, Standing, GroupState, no_group, is_up, standing_of, configuration, phase_of, home, regular_in, unordered_of, delivered_to, set_standing, set_configuration, changed_at}
 use Rattle.cg_group.specs.Events.{Outcome, come_up, send_from, send, send_all, order_from, order, order_all, receive, receive_all, regulars, gather, with_message, with_receipt, with_delivered, deliveries_at, deliver, merge}
-use Rattle.cg_group.proofs.Admitted.{refuse_none}
-use Rattle.cg_group.proofs.Each.{Each-all}
-use Rattle.cg_group.proofs.Lookups.{configurations-set_standing}
+use Rattle.cg_group.specs.RefusalLaws.{refuse_none}
+use Rattle.cg_group.specs.EachLaws.{Each-all}
+use Rattle.cg_group.specs.LookupLaws.{configurations-set_standing}
 use Rattle.cg_schedule.specs.declared.event.Event.TheVariants.{Start, Merge, Request, Deliver}
 use Rattle.cg_world.specs.declared.handing.Moved.{Moved}
 use Rattle.cg_world.specs.declared.replica.Replica.{Replica}

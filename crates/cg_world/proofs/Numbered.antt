@@ -7,9 +7,9 @@ use Rattle.cg_base.specs.declared.action_id.ActionId.{ActionId}
 use Rattle.cg_base.specs.Ids.{same_id}
 use Rattle.cg_base.specs.Lists.{count_up, present}
 use Rattle.cg_base.specs.Sets.{has, IsSet}
-use Rattle.cg_base.proofs.SetLemmas.{length-IsSet}
+use Rattle.cg_base.specs.SetLaws.{length-IsSet}
 use Rattle.cg_action.specs.declared.action.Action.{Action}
-use Rattle.cg_group.proofs.Each.{Each}
+use Rattle.cg_group.specs.EachLaws.{Each}
 
 -- the actions are the replica's, numbered from 1 on
 abbrev pub AreNumbered : ℕ → List Action → Type 0

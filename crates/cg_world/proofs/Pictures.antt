@@ -8,9 +8,7 @@ use Rattle.cg_group.specs.declared.phase.Phase.{Phase}
 use Rattle.cg_group.specs.declared.phase.Phase.TheVariants.{Down, Regular}
 use Rattle.cg_group.specs.State.{Configuration, Standing, GroupState, Sent, standing_of, configuration, phase_of, delivered_to, unordered_of, regular_in, set_standing, set_configuration}
 use Rattle.cg_group.specs.Events.{send_from, send, send_all, order_from, order, receive, with_delivered, with_message, with_receipt, become_regular}
-use Rattle.cg_group.proofs.Picture.{put}
-use Rattle.cg_group.proofs.Sound.{standing_id}
-use Rattle.cg_group.proofs.Lookups.{put-own, standing_of-set, phase_of-set, delivered_to-set, unordered_of-set, configuration-set_standing, configurations-set_standing, standing_of-set_configuration, configuration-set, count-set_configuration, set_configuration-zero}
+use Rattle.cg_group.specs.LookupLaws.{put, standing_id, put-own, standing_of-set, phase_of-set, delivered_to-set, unordered_of-set, configuration-set_standing, configurations-set_standing, standing_of-set_configuration, configuration-set, count-set_configuration, set_configuration-zero}
 
 -- messages are bytes
 abbrev pub M : Type 0

@@ -18,8 +18,8 @@ use Rattle.cg_group.specs.declared.delivery.Handed.{Handed as HandedTo}
 use Rattle.cg_group.specs.declared.reason.Reason.TheVariants.{EmptySet}
 use Rattle.cg_group.specs.State.{Configuration, Sent, delivered_to, home}
 use Rattle.cg_group.specs.Events.{Outcome, delivery_at, deliver, merge}
-use Rattle.cg_group.proofs.Each.{Each, Each-append, Each-all}
-use Rattle.cg_group.proofs.Admitted.{refuse_none}
+use Rattle.cg_group.specs.EachLaws.{Each, Each-append, Each-all}
+use Rattle.cg_group.specs.RefusalLaws.{refuse_none}
 use Rattle.cg_schedule.specs.declared.event.Event.{Event}
 use Rattle.cg_schedule.specs.declared.event.Event.TheVariants.{Start, Merge, Request, Deliver}
 use Rattle.cg_world.specs.declared.handing.Moved.{Moved}

@@ -9,7 +9,7 @@ use Rattle.cg_base.specs.declared.weighted.Weighted.{Weighted}
 use Rattle.cg_base.specs.Lists.{above_up_to}
 use Rattle.cg_base.specs.Sets.{has}
 use Rattle.cg_base.specs.Weights.{ids, IsWeightSet}
-use Rattle.cg_base.proofs.SetFacts.{is_within-from}
+use Rattle.cg_base.specs.SetLaws.{is_within-from}
 use Rattle.cg_action.specs.declared.action.Action.{Action}
 use Rattle.cg_wire.specs.declared.message.Msg.TheVariants.{State as StateMessage, Cpc}
 use Rattle.cg_group.specs.State.{Sent, configuration, phase_of, delivered_to, unordered_of, regular_in}

@@ -11,9 +11,8 @@ use Rattle.cg_base.specs.Sets.{has}
 use Rattle.cg_base.specs.Weights.{ids}
 use Rattle.cg_action.specs.declared.action.Action.{Action}
 use Rattle.cg_db.specs.Apply.{fold_actions}
-use Rattle.cg_group.proofs.Each.{Each, Each-weaker, filter_none}
-use Rattle.cg_group.proofs.Picture.{put}
-use Rattle.cg_group.proofs.Lookups.{put-other, put-same}
+use Rattle.cg_group.specs.EachLaws.{Each, Each-weaker, filter_none}
+use Rattle.cg_group.specs.LookupLaws.{put, put-other, put-same}
 use Rattle.cg_schedule.specs.declared.event.Event.{Event}
 use Rattle.cg_report.specs.declared.entry.Shown.{Shown}
 use Rattle.cg_report.specs.declared.entry.Shown.TheVariants.{Greens, Database, All}

@@ -14,7 +14,7 @@ use Rattle.cg_wire.specs.declared.message.Msg.{Msg}
 use Rattle.cg_wire.specs.declared.message.Msg.TheVariants.{Action as ActionMessage, State as StateMessage, GreenItem, RedItem, Cpc}
 use Rattle.cg_wire.specs.Bytes.{spelled_msg}
 use Rattle.cg_wire.specs.Limits.{IsSummary, IsMsg}
-use Rattle.cg_group.proofs.Each.{Each, Each-append}
+use Rattle.cg_group.specs.EachLaws.{Each, Each-append}
 use Rattle.cg_world.specs.declared.state.State.{State}
 use Rattle.cg_world.specs.declared.state.State.TheVariants.{NonPrim, ExchangeStates, Construct, RegPrim}
 use Rattle.cg_world.specs.Message.{message_in, first_summary}

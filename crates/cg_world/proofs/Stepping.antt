@@ -9,7 +9,7 @@ use Rattle.cg_action.specs.declared.action.Action.{Action}
 use Rattle.cg_action.specs.declared.action.Kind.TheVariants.{Update}
 use Rattle.cg_group.specs.Events.{gather, order, receive}
 use Rattle.cg_group.specs.State.{GroupState}
-use Rattle.cg_group.proofs.Each.{Each}
+use Rattle.cg_group.specs.EachLaws.{Each}
 use Rattle.cg_schedule.specs.declared.event.Event.{Event}
 use Rattle.cg_schedule.specs.declared.event.Event.TheVariants.{Start, Merge, Request, Order, Show, ShowOrder, Gather, Receive, Deliver}
 use Rattle.cg_report.specs.declared.entry.Shown.{Shown}

@@ -14,7 +14,7 @@ use Rattle.cg_base.specs.Weights.{ids, IsWeightSet}
 use Rattle.cg_action.specs.declared.action.Action.{Action}
 use Rattle.cg_db.specs.declared.entry.DbEntry.{DbEntry}
 use Rattle.cg_db.specs.Apply.{apply}
-use Rattle.cg_group.proofs.Each.{Each, count_up-add}
+use Rattle.cg_group.specs.EachLaws.{Each, count_up-add}
 use Rattle.cg_records.specs.declared.primary.Primary.{Primary}
 use Rattle.cg_records.specs.declared.vulnerable.Vulnerable.{Vulnerable}
 use Rattle.cg_report.specs.declared.entry.Made.{Made}

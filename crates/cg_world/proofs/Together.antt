@@ -18,10 +18,9 @@ use Rattle.cg_group.specs.Ready.{ready_in, ready}
 use Rattle.cg_group.specs.Events.{send_all, order, order_all, receive, receive_all, regulars, gather, with_delivered, deliveries_at, deliver}
 use Rattle.cg_group.specs.Refusals.{not_up, not_regular, nothing_to_order, no_such_place, already_received, earlier_missing, not_ready, order_refusal, receive_refusal, deliver_refusal}
 use Rattle.cg_group.specs.Synchrony.{ordered_from}
-use Rattle.cg_group.proofs.Picture.{put}
-use Rattle.cg_group.proofs.Lookups.{put-own, put-same}
-use Rattle.cg_group.proofs.Places.{ready_in-within}
-use Rattle.cg_group.proofs.Admitted.{first_none, refuse_none}
+use Rattle.cg_group.specs.LookupLaws.{put, put-own, put-same}
+use Rattle.cg_group.specs.PlaceLaws.{ready_in-within}
+use Rattle.cg_group.specs.RefusalLaws.{first_none, refuse_none}
 use Rattle.cg_schedule.specs.declared.event.Event.TheVariants.{Request, Order, Receive, Deliver}
 use Rattle.cg_world.specs.declared.replica.Replica.{Replica}
 use Rattle.cg_world.specs.declared.world.World.{World}

@@ -23,7 +23,7 @@ use Rattle.cg_wire.specs.Bytes.{spelled_msg}
 use Rattle.cg_group.specs.declared.delivery.Delivery.TheVariants.{Message as Handed}
 use Rattle.cg_group.specs.State.{Configuration, Sent}
 use Rattle.cg_group.specs.Events.{delivery_at, deliveries_at}
-use Rattle.cg_group.proofs.Each.{Each}
+use Rattle.cg_group.specs.EachLaws.{Each}
 use Rattle.cg_report.specs.declared.entry.Made.{Made}
 use Rattle.cg_world.specs.declared.replica.Replica.{Replica}
 use Rattle.cg_world.specs.declared.state.State.{State}

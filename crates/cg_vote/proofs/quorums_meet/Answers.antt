@@ -1,6 +1,6 @@
 use Rattle.std.proofs.Common.{refl}
 use Rattle.cg_vote.specs.Quorum.{is_quorum}
-use Rattle.cg_vote.proofs.Halves.{meet}
+use Rattle.cg_vote.specs.QuorumLaws.{meet}
 use Rattle.cg_vote.proofs.quorums_meet.Goals as goal
 
 pub returns-clause-meet : goal.returns-clause-meet

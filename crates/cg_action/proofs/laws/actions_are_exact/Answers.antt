@@ -1,4 +1,4 @@
-use Rattle.cg_codec.proofs.FieldLaws.{field_whole}
+use Rattle.cg_codec.specs.FieldLaws.{field_whole}
 use Rattle.cg_action.specs.Limits.{IsAction}
 use Rattle.cg_action.specs.Bytes.{spelled_action}
 use Rattle.cg_action.specs.Reading.{action_reading}

@@ -1,6 +1,6 @@
 use Rattle.std.proofs.Common.{take}
 use Rattle.std.specs.List.{flat_map}
-use Rattle.cg_base.proofs.TextLemmas.{OnErr_from}
+use Rattle.cg_base.specs.TextLaws.{OnErr_from}
 use Rattle.cg_action.specs.Print.{command_text, next_text}
 use Rattle.cg_action.proofs.Fronts.{front_after}
 use Rattle.cg_action.proofs.print.show_commands.Goals as goal

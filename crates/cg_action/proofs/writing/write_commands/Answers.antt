@@ -1,6 +1,6 @@
 use Rattle.std.proofs.Common.{length, take}
 use Rattle.std.specs.List.{flat_map}
-use Rattle.cg_base.proofs.TextLemmas.{OnErr_from}
+use Rattle.cg_base.specs.TextLaws.{OnErr_from}
 use Rattle.cg_codec.specs.Fields.{number32}
 use Rattle.cg_action.specs.Bytes.{spelled_command}
 use Rattle.cg_action.proofs.Fronts.{front_after}

@@ -1,7 +1,7 @@
 use Rattle.std.proofs.Common.{[], ◌∷◌, take, rules}
 use Rattle.std.specs.List.{flat_map}
 use Rattle.cg_base.specs.Text.{KeepsFront, id_text}
-use Rattle.cg_base.proofs.TextLemmas.{OnErr_from, KeepsFront-is, KeepsFront-through}
+use Rattle.cg_base.specs.TextLaws.{OnErr_from, KeepsFront-is, KeepsFront-through}
 use Rattle.cg_base.proofs.text.put_id_list.Goals as goal
 
 -- each step leaves what stood there before at the front

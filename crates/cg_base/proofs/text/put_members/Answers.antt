@@ -4,7 +4,7 @@ use Rattle.std.specs.List.{flat_map}
 use Rattle.std.specs.Fmt.{decimal}
 use Rattle.cg_base.specs.Iterators.{members_left}
 use Rattle.cg_base.specs.Text.{KeepsFront}
-use Rattle.cg_base.proofs.TextLemmas.{OnErr_from, KeepsFront-is, KeepsFront-through}
+use Rattle.cg_base.specs.TextLaws.{OnErr_from, KeepsFront-is, KeepsFront-through}
 use Rattle.cg_base.proofs.text.put_members.Goals as goal
 
 -- nothing is left to write at the end

@@ -4,7 +4,7 @@ use Rattle.std.specs.List.{flat_map}
 use Rattle.cg_base.specs.declared.weighted.Weighted.{Weighted}
 use Rattle.cg_base.specs.Iterators.{weights_left}
 use Rattle.cg_base.specs.Text.{KeepsFront, weighted_text}
-use Rattle.cg_base.proofs.TextLemmas.{OnErr_from, KeepsFront-is, KeepsFront-through}
+use Rattle.cg_base.specs.TextLaws.{OnErr_from, KeepsFront-is, KeepsFront-through}
 use Rattle.cg_base.proofs.text.put_weights.Goals as goal
 
 -- nothing is left to write at the end

@@ -1,4 +1,4 @@
-use Rattle.cg_codec.proofs.PlainFields.{u8_field, u32_field, u64_field, i64_field, truth_field, count_field, text_field}
+use Rattle.cg_codec.specs.PlainLaws.{u8_field, u32_field, u64_field, i64_field, truth_field, count_field, text_field}
 use Rattle.cg_codec.proofs.laws.fields_are_exact.Goals as goal
 
 pub returns : goal.returns

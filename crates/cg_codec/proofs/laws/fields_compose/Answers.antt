@@ -1,9 +1,9 @@
 use Rattle.std.proofs.Common.{◌<◌, ◌^◌}
 use Rattle.cg_codec.specs.Fields.{number64}
 use Rattle.cg_codec.specs.Reading.{take_u64}
-use Rattle.cg_codec.proofs.FieldLaws.{field_optional, field_whole}
-use Rattle.cg_codec.proofs.ListLaws.{field_list}
-use Rattle.cg_codec.proofs.PlainFields.{u64_field, truth_field, count_field}
+use Rattle.cg_codec.specs.FieldLaws.{field_optional, field_whole}
+use Rattle.cg_codec.specs.ListLaws.{field_list}
+use Rattle.cg_codec.specs.PlainLaws.{u64_field, truth_field, count_field}
 use Rattle.cg_codec.proofs.laws.fields_compose.Goals as goal
 
 pub returns : goal.returns

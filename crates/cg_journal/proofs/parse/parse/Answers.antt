@@ -1,6 +1,5 @@
-use Rattle.std.proofs.Common.{◌≡◌, ◌+◌, ◌-◌, ℕ, nat_lt, true, List, length, drop, take, sym, ◌∙◌, ap, subst, arith}
+use Rattle.std.proofs.Common.{◌≡◌, ◌+◌, ◌-◌, ℕ, nat_lt, true, List, length, drop, take, sym, ◌∙◌, ap, subst, arith, Some}
 use Rattle.std.proofs.lemmas.List.{take_rest}
-use Rattle.std.proofs.Common.{Some}
 use Rattle.cg_journal.specs.Records.{header, number_at}
 use Rattle.std.specs.Str.{bytes_eq}
 use Rattle.cg_journal.proofs.Reading.{reads_as}

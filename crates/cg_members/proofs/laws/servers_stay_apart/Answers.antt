@@ -1,4 +1,4 @@
-use Rattle.cg_members.proofs.MemberLaws.{members_of-apart}
+use Rattle.cg_members.specs.MemberLaws.{members_of-apart}
 use Rattle.cg_members.proofs.laws.servers_stay_apart.Goals as goal
 
 pub returns : goal.returns

@@ -1,6 +1,7 @@
 use Rattle.std.proofs.Common.{◌≡◌, ◌≤◌, drop, sym, ◌∙◌, true, false, eqb, arith}
 use Rattle.std.proofs.lemmas.Bool.{eq-eqb, ne_eqb}
-use Rattle.cg_plan.proofs.Places.{opened, ended, few-here, turn_of-place, turn_of-none, turn_of-begun, turn_of-under_way}
+use Rattle.cg_plan.proofs.Places.{opened, ended, few-here, turn_of-place}
+use Rattle.cg_plan.specs.PlanLaws.{turn_of-none, turn_of-begun, turn_of-under_way}
 use Rattle.cg_plan.proofs.place.part_at.Goals as goal
 use Rattle.cg_plan.proofs.place.part_at.Goals.{else-made-eq0-via-then-made-eq0+else-get, else-made-eq0-via-else-made-eq0}
 

@@ -1,7 +1,7 @@
 use Rattle.std.proofs.Common.{◌≡◌, ◌∙◌, ◌+◌, ◌++◌, ◌∷◌, [], ℕ, suc, drop, length, ap, arith}
 use Rattle.cg_base.specs.declared.action_id.ActionId.{ActionId}
 use Rattle.cg_base.specs.Cuts.{raise}
-use Rattle.cg_base.proofs.TextLemmas.{OnErr_from}
+use Rattle.cg_base.specs.TextLaws.{OnErr_from}
 use Rattle.cg_queue.specs.Lanes.{rows_of, with_lane, front_of}
 use Rattle.cg_queue.specs.Body.{Parts, lane_of, settled}
 use Rattle.cg_queue.proofs.RowLemmas.{lanes-undone}

@@ -1,6 +1,6 @@
 use Rattle.std.proofs.Common.{◌≡◌, ◌∙◌, ◌++◌, ◌∷◌, [], ap}
 use Rattle.cg_base.specs.Cuts.{raise}
-use Rattle.cg_base.proofs.TextLemmas.{OnErr_from}
+use Rattle.cg_base.specs.TextLaws.{OnErr_from}
 use Rattle.cg_queue.specs.declared.red.Red.{Red}
 use Rattle.cg_queue.specs.Lanes.{rows_of, with_lane}
 use Rattle.cg_queue.specs.Body.{lane_of}

@@ -2,7 +2,7 @@ use Rattle.std.proofs.Common.{◌≡◌, ◌∙◌, ◌-◌, suc, ap, arith}
 use Rattle.cg_base.specs.Cuts.{index_in}
 use Rattle.cg_queue.specs.Lanes.{rows_of, with_lane, marked_at}
 use Rattle.cg_queue.specs.Body.{lane_of}
-use Rattle.cg_queue.proofs.CutRises.{is_above-true}
+use Rattle.cg_queue.specs.MarkLaws.{is_above-true}
 use Rattle.cg_queue.proofs.body.flag_one.Goals as goal
 
 pub returns-then-green-id : goal.returns-then-green-id

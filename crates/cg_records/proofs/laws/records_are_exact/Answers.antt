@@ -1,4 +1,4 @@
-use Rattle.cg_records.proofs.Exact.{number_field, any_id_field, set_field, weight_set_field, cut_field, prim_field, vulnerable_field, maybe_vulnerable_field, yellow_field, stable_field}
+use Rattle.cg_records.specs.RecordLaws.{number_field, any_id_field, set_field, weight_set_field, cut_field, prim_field, vulnerable_field, maybe_vulnerable_field, yellow_field, stable_field}
 use Rattle.cg_records.proofs.laws.records_are_exact.Goals as goal
 
 pub returns-clause-number : goal.returns-clause-number

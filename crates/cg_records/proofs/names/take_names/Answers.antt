@@ -2,7 +2,7 @@ use Rattle.std.proofs.Common.{◌≡◌, ◌-◌, ◌^◌, Ok, Err, ◌∷◌, [
 use Rattle.std.proofs.lemmas.Result.{err_from_is_err_and}
 use Rattle.cg_codec.specs.Reading.{take_count}
 use Rattle.cg_codec.specs.Taking.{unread_of}
-use Rattle.cg_codec.proofs.Items.{items_go_on, items_stop, items_end}
+use Rattle.cg_codec.specs.ItemLaws.{items_go_on, items_stop, items_end}
 use Rattle.cg_records.specs.Reading.{take_names, take_name_above}
 use Rattle.cg_records.proofs.names.take_names.Goals as goal
 

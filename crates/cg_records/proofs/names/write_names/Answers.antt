@@ -1,7 +1,7 @@
 use Rattle.std.proofs.Common.{rules, take, length}
 use Rattle.cg_base.specs.Text.{KeepsFront}
 use Rattle.std.specs.List.{flat_map}
-use Rattle.cg_base.proofs.TextLemmas.{OnErr_from, KeepsFront-is, KeepsFront-through}
+use Rattle.cg_base.specs.TextLaws.{OnErr_from, KeepsFront-is, KeepsFront-through}
 use Rattle.cg_codec.specs.Fields.{number32}
 use Rattle.cg_records.specs.Bytes.{spelled_name}
 use Rattle.cg_records.proofs.names.write_names.Goals as goal

@@ -3,7 +3,7 @@ use Rattle.std.proofs.lemmas.Result.{err_from_is_err_and}
 use Rattle.cg_codec.specs.declared.fault.CodecFault.TheVariants.{NoMemory}
 use Rattle.cg_codec.specs.Reading.{take_count}
 use Rattle.cg_codec.specs.Taking.{unread_of}
-use Rattle.cg_codec.proofs.Items.{items_stop, items_end}
+use Rattle.cg_codec.specs.ItemLaws.{items_stop, items_end}
 use Rattle.cg_records.specs.Reading.{take_set, take_id_above, last_of}
 use Rattle.cg_records.proofs.Ascending.{AllBelow-more, with_member-last}
 use Rattle.cg_records.proofs.Passed.{id_above-ok}

@@ -1,5 +1,5 @@
 use Rattle.cg_base.specs.Text.{KeepsFront}
-use Rattle.cg_base.proofs.TextLemmas.{OnErr_from, KeepsFront-is, KeepsFront-through}
+use Rattle.cg_base.specs.TextLaws.{OnErr_from, KeepsFront-is, KeepsFront-through}
 use Rattle.cg_schedule.proofs.print.show_ids.Goals as goal
 
 -- each step leaves what stood there before at the front

@@ -1,6 +1,6 @@
 use Rattle.std.proofs.Common.{codes}
 use Rattle.cg_base.specs.Text.{KeepsFront}
-use Rattle.cg_base.proofs.TextLemmas.{OnErr_from, KeepsFront-is, KeepsFront-through}
+use Rattle.cg_base.specs.TextLaws.{OnErr_from, KeepsFront-is, KeepsFront-through}
 use Rattle.cg_schedule.proofs.print.show_members.Goals as goal
 
 -- each step leaves what stood there before at the front

@@ -6,4 +6,4 @@ use Rattle.cg_wire.proofs.reading.decode.Goals as goal
 pub returns-clause-exact : goal.returns-clause-exact
 returns-clause-exact c =
     let fits : AreBytes c.args.bytes.now = λ i. search rules in
-    given_is_spelled c.args.bytes.now c.read_all.result fits c.read_all.ensures
+    given_is_spelled c.messages_are_exact.ensures.whole c.args.bytes.now c.read_all.result fits c.read_all.ensures

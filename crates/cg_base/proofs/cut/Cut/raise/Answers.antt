@@ -1,5 +1,5 @@
 use Rattle.std.proofs.Common.{◌≡◌, ◌-◌, ◌<◌, ◌≤◌, ◌^◌, get_or, arith}
-use Rattle.cg_base.proofs.ArrayLemmas.{IsArray-set}
+use Rattle.cg_base.specs.ArrayLaws.{IsArray-set}
 use Rattle.cg_base.proofs.CutLemmas.{tops_of-set, raise-same}
 use Rattle.cg_base.proofs.cut.Cut.raise.Goals as goal
 

@@ -1,5 +1,5 @@
 use Rattle.std.proofs.Common.{◌^◌, arith}
-use Rattle.cg_base.proofs.ArrayLemmas.{IsArray-zeros}
+use Rattle.cg_base.specs.ArrayLaws.{IsArray-zeros}
 use Rattle.cg_base.proofs.CutLemmas.{tops_of-zeros}
 use Rattle.cg_base.proofs.cut.Cut.zero.Goals as goal
 

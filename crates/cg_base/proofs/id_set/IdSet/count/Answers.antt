@@ -1,6 +1,6 @@
 use Rattle.std.proofs.Common.{◌≤◌, inl, length, arith}
 use Rattle.cg_base.specs.Iterators.{members_left}
-use Rattle.cg_base.proofs.SetLemmas.{length-IsSet}
+use Rattle.cg_base.specs.SetLaws.{length-IsSet}
 use Rattle.cg_base.proofs.id_set.IdSet.count.Goals as goal
 
 pub count-requires-clause-fits : goal.count-requires-clause-fits

@@ -2,7 +2,7 @@ use Rattle.std.proofs.Common.{◌≡◌, Some}
 use Rattle.cg_base.specs.Sets.{least}
 use Rattle.cg_base.specs.SlotLaws.{Ascends-members}
 use Rattle.cg_base.proofs.WordLemmas.{members, members-clear}
-use Rattle.cg_base.proofs.SetLemmas.{least-first}
+use Rattle.cg_base.specs.SetLaws.{least-first}
 use Rattle.cg_base.proofs.id_set.IdSet.take_least.Goals as goal
 
 pub returns : goal.returns

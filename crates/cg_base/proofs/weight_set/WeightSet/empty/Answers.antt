@@ -1,4 +1,4 @@
-use Rattle.cg_base.proofs.ArrayLemmas.{IsArray-zeros}
+use Rattle.cg_base.specs.ArrayLaws.{IsArray-zeros}
 use Rattle.cg_base.proofs.WeightLemmas.{weights_of-zeros}
 use Rattle.std.proofs.Common.{arith}
 use Rattle.cg_base.proofs.weight_set.WeightSet.empty.Goals as goal

@@ -1,5 +1,5 @@
 use Rattle.std.proofs.Common.{arith}
-use Rattle.cg_base.proofs.ArrayLemmas.{IsArray-set}
+use Rattle.cg_base.specs.ArrayLaws.{IsArray-set}
 use Rattle.cg_base.proofs.WeightLemmas.{weights_of-set}
 use Rattle.cg_base.proofs.weight_set.WeightSet.put.Goals as goal
 

@@ -1,8 +1,7 @@
-use Rattle.std.proofs.Common.{sym, ◌∙◌, ap}
+use Rattle.std.proofs.Common.{sym, ◌∙◌, ap, List}
 use Rattle.cg_disk.specs.State.{is_unsynced}
 use Rattle.cg_disk.specs.Undo.{ranges}
 use Rattle.cg_disk.specs.declared.written.Written.{Written}
-use Rattle.std.proofs.Common.{List}
 use Rattle.cg_disk.proofs.Places.{among_reverse}
 use Rattle.cg_disk.proofs.model_side.ModelSide.was_written.Goals as goal
 

@@ -1,7 +1,7 @@
 use Rattle.std.proofs.Common.{sym, ◌∙◌, ap, arith}
 use Rattle.std.specs.Option.{option_copied}
 use Rattle.std.proofs.lemmas.List.{length-map}
-use Rattle.cg_group.proofs.Places.{at_place-within}
+use Rattle.cg_group.specs.PlaceLaws.{at_place-within}
 use Rattle.cg_group.proofs.LogFacts.{all_received-at_place}
 use Rattle.cg_group.proofs.log.Log.is_received_by_all.Goals as goal
 

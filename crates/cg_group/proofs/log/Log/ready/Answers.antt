@@ -1,9 +1,8 @@
-use Rattle.std.proofs.Common.{◌≡◌, suc, true, false, length, sym, ◌∙◌, ap, arith, add-one}
+use Rattle.std.proofs.Common.{◌≡◌, suc, true, false, length, sym, ◌∙◌, ap, arith, add-one, ⊎_elim, ◌<◌, ◌≤◌}
 use Rattle.std.specs.List.{prefix_len}
 use Rattle.std.proofs.lemmas.List.{length-map}
 use Rattle.std.proofs.lemmas.Bool.{cases_lt}
 use Rattle.cg_group.proofs.SettledFacts.{prefix-skip}
-use Rattle.std.proofs.Common.{⊎_elim, ◌<◌, ◌≤◌}
 use Rattle.cg_group.specs.Ready.{all_received, ready_in}
 use Rattle.cg_group.proofs.LogFacts.{prefix-goes_on, prefix-ends, above_up_to-none}
 use Rattle.cg_group.proofs.log.Log.ready.Goals as goal

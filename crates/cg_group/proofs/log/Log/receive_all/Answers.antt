@@ -1,5 +1,4 @@
-use Rattle.std.proofs.Common.{suc, ap, sym, ◌∙◌, fold, add-one}
-use Rattle.std.proofs.Common.{refl, arith}
+use Rattle.std.proofs.Common.{suc, ap, sym, ◌∙◌, fold, add-one, refl, arith}
 use Rattle.std.proofs.lemmas.List.{length-map}
 use Rattle.cg_group.proofs.SettledFacts.{fold-skip}
 use Rattle.cg_base.specs.Lists.{above_up_to}

@@ -1,7 +1,7 @@
 use Rattle.std.proofs.Common.{◌≡◌, ◌-◌, set, arith}
 use Rattle.std.proofs.lemmas.List.{get_or-set_same}
-use Rattle.cg_base.proofs.ArrayLemmas.{array_slot-set_other}
-use Rattle.cg_base.proofs.WeightLemmas.{IsWeightSet-with_weight}
+use Rattle.cg_base.specs.ArrayLaws.{array_slot-set_other}
+use Rattle.cg_base.specs.WeightLaws.{IsWeightSet-with_weight}
 use Rattle.cg_members.proofs.ServerLemmas.{map_with-put}
 use Rattle.cg_members.proofs.server_set.ServerSet.put.Goals as goal
 

@@ -1,7 +1,7 @@
 use Rattle.std.proofs.Common.{◌≡◌, ◌∙◌, ◌-◌, max, set, get_or, ap, arith}
 use Rattle.std.proofs.lemmas.List.{get_or-set_same}
 use Rattle.cg_base.specs.Slots.{array_slot}
-use Rattle.cg_base.proofs.ArrayLemmas.{array_slot-set_other}
+use Rattle.cg_base.specs.ArrayLaws.{array_slot-set_other}
 use Rattle.cg_members.proofs.ServerLemmas.{map_with-raise}
 use Rattle.cg_members.proofs.server_set.ServerSet.raise.Goals as goal
 

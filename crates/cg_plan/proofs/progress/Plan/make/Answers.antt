@@ -1,7 +1,7 @@
 use Rattle.cg_plan.specs.Plan.{plan_of}
 use Rattle.cg_plan.specs.Place.{AreFilled}
 use Rattle.cg_plan.proofs.Places.{place-first, begun-is}
-use Rattle.cg_plan.proofs.Filled.{plan-filled}
+use Rattle.cg_plan.specs.FilledLaws.{plan-filled}
 use Rattle.cg_plan.proofs.progress.Plan.make.Goals as goal
 
 pub invariant_of-result : goal.invariant_of-result

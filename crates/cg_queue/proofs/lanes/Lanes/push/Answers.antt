@@ -1,5 +1,5 @@
 use Rattle.std.proofs.Common.{◌∙◌, ◌<◌, ◌++◌, ◌∷◌, [], length, sym, ap, arith}
-use Rattle.cg_base.proofs.TextLemmas.{OnErr_from}
+use Rattle.cg_base.specs.TextLaws.{OnErr_from}
 use Rattle.std.specs.VecDeque.{deque_items}
 use Rattle.cg_queue.specs.Lanes.{with_lane, lane_at}
 use Rattle.cg_queue.proofs.RowLemmas.{lane_at-get, lanes-set, lanes-left, lanes-same}

@@ -5,7 +5,7 @@ use Rattle.cg_queue.specs.declared.mark.Mark.TheVariants.{Placed}
 use Rattle.cg_queue.specs.Queue.{Marks, marked_green, green_count}
 use Rattle.cg_queue.specs.Body.{seen, parts_of, IsSound}
 use Rattle.cg_queue.proofs.Soundness.{green-sound, green-seen, cleared-sound, cleared-seen}
-use Rattle.cg_queue.proofs.Marking.{green-placed}
+use Rattle.cg_queue.specs.MarkLaws.{green-placed}
 use Rattle.cg_queue.proofs.queue.Queue.mark_green.Goals as goal
 
 pub invariant_of-self : goal.invariant_of-self

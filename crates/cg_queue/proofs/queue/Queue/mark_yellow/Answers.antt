@@ -5,7 +5,7 @@ use Rattle.cg_queue.specs.declared.mark.Mark.TheVariants.{Placed}
 use Rattle.cg_queue.specs.Queue.{Marks, marked_yellow, and_yellow}
 use Rattle.cg_queue.specs.Body.{seen, parts_of, IsSound}
 use Rattle.cg_queue.proofs.Soundness.{both-sound, both-view}
-use Rattle.cg_queue.proofs.Marking.{red-placed}
+use Rattle.cg_queue.specs.MarkLaws.{red-placed}
 use Rattle.cg_queue.proofs.queue.Queue.mark_yellow.Goals as goal
 
 pub invariant_of-self : goal.invariant_of-self

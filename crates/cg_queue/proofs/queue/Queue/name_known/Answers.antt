@@ -5,7 +5,7 @@ use Rattle.cg_base.specs.Cuts.{index_in}
 use Rattle.cg_queue.specs.Queue.{with_yellow}
 use Rattle.cg_queue.specs.Body.{seen, parts_of, IsSound, flag_of, lane_of, flagged, with_name}
 use Rattle.cg_queue.proofs.Soundness.{red-flag, red-named-sound, red-named-seen}
-use Rattle.cg_queue.proofs.Marking.{yellow-kept, yellow-added}
+use Rattle.cg_queue.specs.MarkLaws.{yellow-kept, yellow-added}
 use Rattle.cg_queue.proofs.queue.Queue.name_known.Goals as goal
 
 pub returns-then-is_flagged-clause-ok : goal.returns-then-is_flagged-clause-ok

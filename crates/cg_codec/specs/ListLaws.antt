@@ -6,7 +6,7 @@ use Rattle.std.proofs.lemmas.List.Concat.{flat_map-cons}
 use Rattle.cg_codec.specs.Fields.{number32, list}
 use Rattle.cg_codec.specs.Reading.{Unread, Reading, take_count, take_items, take_list}
 use Rattle.cg_codec.specs.Laws.{AreBytes, Took, Found, IsField, EachBehind}
-use Rattle.cg_codec.proofs.FieldLaws.{Took-bytes, Took-then, Took-none, go_on-ok, given}
+use Rattle.cg_codec.specs.FieldLaws.{Took-bytes, Took-then, Took-none, go_on-ok, given}
 
 -- items that were read behind others
 record FoundItems {X : Type 0} (Has : List X → X → Type 0) (spelling : X → List ℕ) (taken : List X) (n : ℕ) (ys : List X) (old new : Unread) : Type 0 where

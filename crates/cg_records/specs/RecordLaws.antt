@@ -1,5 +1,6 @@
 -- Each record is exactly its spelling, by the laws on fields.
 use Rattle.std.proofs.Common.{◌≡◌, ℕ, suc, ◌-◌, ◌^◌, ◌<◌, ◌≤◌, Bool, true, ◌&&◌, ltb, leb, List, [], ◌∷◌, ◌++◌, length, map, refl, sym, ap, ◌∙◌, arith}
+use Rattle.std.proofs.lemmas.List.Sums.{fold_push}
 use Rattle.std.specs.Prelude.{Option}
 use Rattle.std.proofs.lemmas.Bool.{ltb-true, leb-true, lt-ltb, le-leb, and_parts, and_from}
 use Rattle.std.proofs.lemmas.List.{length-map}
@@ -9,13 +10,13 @@ use Rattle.cg_base.specs.Sets.{IsId, IsSet, Ascends}
 use Rattle.cg_base.specs.Weights.{ids, Weigh, IsWeightSet}
 use Rattle.cg_base.specs.Cuts.{creators_in}
 use Rattle.cg_base.specs.SlotLaws.{map-itself}
-use Rattle.cg_base.proofs.SetLemmas.{length-Ascends}
+use Rattle.cg_base.specs.SetLaws.{length-Ascends}
 use Rattle.cg_codec.specs.Fields.{byte, number64, truth, list, optional}
 use Rattle.cg_codec.specs.Reading.{Reading, ◌>>=◌, done, only, take_u8, take_u64, take_truth, take_list}
 use Rattle.cg_codec.specs.Laws.{IsField, IsWhole, EachBehind}
-use Rattle.cg_codec.proofs.FieldLaws.{field_has, field_only, field_bind, field_map, field_optional, field_whole}
-use Rattle.cg_codec.proofs.PlainFields.{IsBelow, u8_field, u64_field, truth_field, count_field}
-use Rattle.cg_codec.proofs.ListLaws.{field_list}
+use Rattle.cg_codec.specs.FieldLaws.{field_has, field_only, field_bind, field_map, field_optional, field_whole}
+use Rattle.cg_codec.specs.PlainLaws.{IsBelow, u8_field, u64_field, truth_field, count_field}
+use Rattle.cg_codec.specs.ListLaws.{field_list}
 use Rattle.cg_records.specs.declared.primary.Primary.{Primary}
 use Rattle.cg_records.specs.declared.vulnerable.Vulnerable.{Vulnerable}
 use Rattle.cg_records.specs.declared.yellow.Yellow.{Yellow}
@@ -23,8 +24,15 @@ use Rattle.cg_records.specs.declared.stable.Stable.{Stable}
 use Rattle.cg_records.specs.Limits.{IsNumber, IsIndex, IsName, Each, IsSmallCut, IsPrimary, IsVulnerable, IsMaybeVulnerable, IsYellow, IsStable}
 use Rattle.cg_records.specs.Bytes.{spelled_set, spelled_name, spelled_names, spelled_cut, spelled_weighted, spelled_weight_set, spelled_prim, spelled_vulnerable, spelled_yellow, spelled_stable}
 use Rattle.cg_records.specs.Reading.{take_number, take_index, take_id_above, last_of, take_set, take_weight, take_weighted_above, take_weight_set, take_name_above, take_cut, take_names, take_prim, take_vulnerable, take_maybe_vulnerable, take_yellow, take_stable}
-use Rattle.cg_records.proofs.Ascending.{map-push}
-use Rattle.cg_records.proofs.ItemLoops.{last_of-push}
+
+-- ---- what comes last
+
+pub last_of-push : (ps : List ℕ) (p : ℕ) → last_of (ps ++ p ∷ []) ≡ p
+last_of-push ps p = fold_push (λ _ q. q) 0 ps p
+
+pub map-push : {X : Type 0} (key : X → ℕ) (xs : List X) (x : X) → map key (xs ++ x ∷ []) ≡ map key xs ++ key x ∷ []
+map-push key [] x = refl
+map-push key (y ∷ xs) x = ap (λ ks. key y ∷ ks) (map-push key xs x)
 
 -- ---- numbers
 

@@ -1,11 +1,13 @@
 -- Fields of one, two and three parts, and of a tag with what is behind it.
 use Rattle.std.proofs.Common.{◌≡◌, ℕ, ◌+◌, ◌<◌, ◌≤◌, true, List, [], ◌++◌, length, refl, sym, ap, ◌∙◌, arith}
+use Rattle.std.specs.Prelude.{nat_le}
+use Rattle.std.proofs.lemmas.Bool.{and_parts, and_from, leb-true, le-leb}
 use Rattle.std.proofs.lemmas.List.{append-nil}
 use Rattle.cg_codec.specs.Fields.{byte}
 use Rattle.cg_codec.specs.Reading.{Unread, Reading, done, take_u8, ◌>>=◌}
 use Rattle.cg_codec.specs.Laws.{IsField}
-use Rattle.cg_codec.proofs.FieldLaws.{field_done, field_has, field_only, field_bind, given}
-use Rattle.cg_codec.proofs.PlainFields.{u8_field}
+use Rattle.cg_codec.specs.FieldLaws.{field_done, field_has, field_only, field_bind, given}
+use Rattle.cg_codec.specs.PlainLaws.{u8_field}
 use Rattle.cg_action.specs.Laws.{IsFrontOfNoOther}
 use Rattle.cg_action.specs.Reading.{is_between, byte_between}
 
@@ -75,10 +77,10 @@ between_field low high small =
     (λ n has. is_between-true low high n has.1) (λ n has. (omega arith, between-true low high n has.0 has.1)) (field_only (λ n. n < 256) byte take_u8 (is_between low high) u8_field)
   where
     is_between-true : (low high n : ℕ) → is_between low high n ≡ true → (low ≤ n) × (n ≤ high)
-    is_between-true low high n e = grind arith
+    is_between-true low high n e = let both = and_parts (nat_le low n) (nat_le n high) e in (leb-true low n both.0, leb-true n high both.1)
 
     between-true : (low high n : ℕ) → low ≤ n → n ≤ high → is_between low high n ≡ true
-    between-true low high n l h = grind arith
+    between-true low high n l h = and_from (nat_le low n) (nat_le n high) (le-leb low n l) (le-leb n high h)
 
 -- a tag, and what is behind it
 pub field_tagged : {Y : Type 0} (tag : Y → ℕ) (low high : ℕ) (HasY : Y → Type 0) (behind : Y → List ℕ) (spelling : Y → List ℕ) (next : ℕ → Reading Y) → high < 256

@@ -1,7 +1,7 @@
 -- What is in a set that is made from others, and that it is a set.
 use Rattle.std.proofs.Common.{◌≡◌, ℕ, suc, ◌+◌, ◌<◌, ◌≤◌, ◌||◌, ◌&&◌, List, [], ◌∷◌, length, filter, Bool, not, true, false, eqb, refl, sym, ap, subst, ◌∙◌, arith, inl, inr, Some}
-use Rattle.std.proofs.lemmas.Bool.{cases_eq, cases_order, cases_Bool, eq-eqb, ne_eqb, lt-ltb, le-ltb}
-use Rattle.cg_base.specs.Sets.{IsSet, Ascends, has, with_member, without_member, union, common, without, least}
+use Rattle.std.proofs.lemmas.Bool.{cases_eq, cases_order, cases_Bool, eq-eqb, ne_eqb, lt-ltb, le-ltb, eqb-true, and_parts, and_from, or_cases, or_left, or_right}
+use Rattle.cg_base.specs.Sets.{IsSet, Ascends, has, with_member, without_member, union, common, without, least, is_within}
 
 -- ---- ascending lists
 
@@ -175,3 +175,20 @@ length-Ascends (p ∷ set) low small ascends =
 
 pub length-IsSet : (set : List ℕ) → IsSet set → length set ≤ 32
 length-IsSet set is_set = let most : length set + 1 ≤ 33 = length-Ascends set 1 (omega arith) is_set.ascends in omega arith
+
+-- ---- one set within another
+
+pub is_within-has : (s t : List ℕ) (p : ℕ) → is_within s t ≡ true → has s p ≡ true → has t p ≡ true
+is_within-has [] t p within here = absurd (cc)
+is_within-has (q ∷ s) t p within here =
+    let parts = and_parts (has t q) (is_within s t) within in
+    elim (or_cases (eqb q p) (has s p) here) [
+      | inl same ↦ let e : q ≡ p = eqb-true q p same in rw e at parts.0
+      | inr later ↦ is_within-has s t p parts.1 later
+    ]
+
+pub is_within-from : (s t : List ℕ) → ((p : ℕ) → has s p ≡ true → has t p ≡ true) → is_within s t ≡ true
+is_within-from [] t each = refl
+is_within-from (q ∷ s) t each =
+    and_from (has t q) (is_within s t) (each q (or_left (eqb q q) (has s q) (eq-eqb q q refl)))
+    (is_within-from s t (λ p here. each p (or_right (eqb q p) (has s p) here)))

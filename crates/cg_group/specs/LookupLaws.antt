@@ -1,5 +1,6 @@
 -- What a group shows after a change of one replica, of one configuration, or of a set of replicas.
 use Rattle.std.proofs.Common.{◌≡◌, ℕ, zero, suc, pred, ◌<◌, ◌≤◌, Bool, true, false, cond, not, List, [], ◌∷◌, length, Option, Some, None, refl, sym, ap, subst, ◌∙◌, arith, eqb-true, eq-eqb, ⊎_elim, filter, find, option_map, if◌then◌else◌, nat_lt}
+use Rattle.std.proofs.lemmas.Option.{same_Some}
 use Rattle.std.specs.Prelude.{◌==◌}
 use Rattle.std.specs.Option.{option_map_or}
 use Rattle.std.proofs.lemmas.Bool.{cond_both, cases_Bool, cases_eq, cond-true, cond-false, ne_eqb, eqb-false}
@@ -7,8 +8,7 @@ use Rattle.cg_base.specs.Lists.{at_place}
 use Rattle.cg_group.specs.declared.phase.Phase.TheVariants.{Down}
 use Rattle.cg_group.specs.State.{Configuration, Standing, GroupState, no_configuration, standing_of, configuration, phase_of, delivered_to, unordered_of, set_standing, set_configuration, with_standing, changed_at}
 use Rattle.cg_group.specs.Events.{go_down}
-use Rattle.cg_group.proofs.Places.{at_place-within}
-use Rattle.cg_group.proofs.Picture.{put}
+use Rattle.cg_group.specs.PlaceLaws.{at_place-within}
 
 -- a function of a choice is a choice of its values
 pub at-cond : {X Y : Type 0} (f : X → Y) (b : Bool) (x y : X) → f (cond b x y) ≡ cond b (f x) (f y)
@@ -30,6 +30,10 @@ shifted c k ne = ⊎_elim
     (λ n. ne_eqb (suc k) (pred c) n ∙ sym (ne_eqb (suc (suc k)) c (λ e. n (omega arith)))) (cases_eq (suc k) (pred c))
 
 module _ {X : Type 0} where
+  -- a function with one value as given
+  abbrev pub put : (ℕ → X) → ℕ → X → ℕ → X
+  put f k v q = if q == k then v else f q
+
   -- a value that a function has at one place already changes nothing there
   pub put-own : (f : ℕ → X) (k : ℕ) (v : X) → f k ≡ v → (q : ℕ) → put f k v q ≡ f q
   put-own f k v e q = ⊎_elim
@@ -167,3 +171,16 @@ module _ {M : Type 0} where
   pub standing_of-down : (g : GroupState M) (p q : ℕ) → standing_of (go_down g p) q ≡ put (standing_of g) p None q
   unfolding standing_of go_down
   standing_of-down g p q = found-without g.replicas p q
+
+  -- a replica that is found is the one that is looked for
+  found_id : (replicas : List (Standing M)) (q : ℕ) (s : Standing M) → find (λ s. s.id == q) replicas ≡ Some s → s.id ≡ q
+  found_id [] q s e = absurd cc
+  found_id (x ∷ replicas) q s e = ⊎_elim
+      (λ y. let same : x ≡ s = same_Some x s (sym (cond-true (x.id == q) (Some x) (find (λ s. s.id == q) replicas) y) ∙ e) in
+      subst (λ (z : Standing M). z.id ≡ q) same (eqb-true x.id q y))
+      (λ n. found_id replicas q s (sym (cond-false (x.id == q) (Some x) (find (λ s. s.id == q) replicas) n) ∙ e))
+      (cases_Bool (x.id == q))
+
+  pub standing_id : (g : GroupState M) (q : ℕ) (s : Standing M) → standing_of g q ≡ Some s → s.id ≡ q
+  unfolding standing_of
+  standing_id g q s e = found_id g.replicas q s e

@@ -3,7 +3,8 @@ use Rattle.std.proofs.Common.{◌≡◌, ℕ, zero, suc, ◌+◌, ◌^◌, ◌<�
 use Rattle.std.specs.Int.{Width, w32, w64, byte_len, from_be_bytes, to_be_bytes, cast_signed, cast_unsigned}
 use Rattle.std.specs.Prelude.{ℤ, ◌==◌, nat_lt, nat_le, if◌then◌else◌}
 use Rattle.std.specs.Str.{IsUtf8, is_utf8}
-use Rattle.std.proofs.lemmas.Int.{ints, of_z-to_z, to_z-of_z}
+use Rattle.std.proofs.Math.Facts.{sfits_to_z, Fits-of_z}
+use Rattle.std.proofs.lemmas.Int.{of_z-to_z, to_z-of_z}
 use Rattle.std.proofs.lemmas.Str.{IsUtf8-from_is_utf8, is_utf8-from_IsUtf8}
 use mir.Val.{SFits}
 use Rattle.std.proofs.lemmas.Bool.{cases_lt, ltb-true, ltb-false, le-ltb, leb-true, le-leb}
@@ -14,7 +15,7 @@ use Rattle.cg_codec.specs.declared.fault.CodecFault.TheVariants.{Short, Bad}
 use Rattle.cg_codec.specs.Fields.{byte, number32, number64, signed64, truth, text}
 use Rattle.cg_codec.specs.Reading.{Unread, behind, byte_of, take_number, take_u8, take_u32, take_u64, take_i64, take_truth, take_count, take_text, text_bytes, only}
 use Rattle.cg_codec.specs.Laws.{AreBytes, Took, Found, IsField}
-use Rattle.cg_codec.proofs.FieldLaws.{Took-then, same_pair, go_on-ok, given, guarded, gives, field_has, field_only, field_map}
+use Rattle.cg_codec.specs.FieldLaws.{Took-then, same_pair, go_on-ok, given, guarded, gives, field_has, field_only, field_map}
 
 abbrev pub IsBelow : ℕ → ℕ → Type 0
 IsBelow limit n = n < limit
@@ -104,10 +105,10 @@ u64_field = record {
 
 -- the number that a two's complement is, and back
 signed_of : (n : ℕ) → n < 2 ^ 64 → SFits w64 (cast_signed w64 n) × (cast_unsigned w64 (cast_signed w64 n) ≡ n)
-signed_of n lt = (grind (arith, ints), of_z-to_z w64 n lt)
+signed_of n lt = (sfits_to_z (record { fits = lt }), of_z-to_z w64 n lt)
 
 unsigned_of : (z : ℤ) → SFits w64 z → (cast_unsigned w64 z < 2 ^ 64) × (cast_signed w64 (cast_unsigned w64 z) ≡ z)
-unsigned_of z fits = (grind (arith, ints), to_z-of_z w64 z fits)
+unsigned_of z fits = ((Fits-of_z fits).fits, to_z-of_z w64 z fits)
 
 pub i64_field : IsField (SFits w64) signed64 take_i64
 unfolding signed64 take_i64

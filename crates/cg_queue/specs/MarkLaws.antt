@@ -1,14 +1,17 @@
 -- Which way a mark goes.
-use Rattle.std.proofs.Common.{◌≡◌, ℕ, suc, ◌<◌, ◌≤◌, [], ◌∷◌, ◌++◌, Bool, true, false, refl, arith}
+use Rattle.std.proofs.Common.{◌≡◌, ℕ, suc, ◌<◌, ◌≤◌, List, [], ◌∷◌, ◌++◌, Bool, true, false, refl, arith}
 use Rattle.std.specs.Prelude.{nat_lt, cond, not, ◌&&◌}
-use Rattle.std.proofs.lemmas.Bool.{eq-eqb, le-leb, lt-leb}
+use Rattle.std.proofs.lemmas.Bool.{eq-eqb, le-leb, lt-leb, lt-ltb}
 use Rattle.cg_base.specs.declared.action_id.ActionId.{ActionId}
 use Rattle.cg_base.specs.Ids.{names}
 use Rattle.cg_base.specs.Cuts.{index_in}
 use Rattle.cg_action.specs.declared.action.Action.{Action}
 use Rattle.cg_queue.specs.declared.mark.Mark.TheVariants.{Placed, Known}
+use Rattle.cg_queue.specs.Body.{is_above}
 use Rattle.cg_queue.specs.Queue.{QueueView, Marks, placed_red, marked_red, placed_green, marked_green, green_count, with_yellow}
-use Rattle.cg_queue.proofs.CutRises.{is_above-true}
+
+pub is_above-true : (cut : List ActionId) (id : ActionId) → index_in cut id.creator < id.index → is_above cut id ≡ true
+is_above-true cut id lt = lt-ltb (index_in cut id.creator) id.index lt
 
 pub red-known : (q : QueueView) (a : Action) → a.id.index ≤ index_in q.red_cut a.id.creator → marked_red q a ≡ Marks Known q
 red-known q a le = rw (le-leb a.id.index (index_in q.red_cut a.id.creator) le)
