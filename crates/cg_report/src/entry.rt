@@ -32,9 +32,15 @@ pub struct Reply {
 #[derive(Drop)]
 pub enum Shown {
     /// What the replica's green actions answer.
-    Weak { p: ReplicaId, answer: Answer },
+    Weak {
+        p: ReplicaId,
+        answer: Answer,
+    },
     /// What all actions that the replica knows answer.
-    Dirty { p: ReplicaId, answer: Answer },
+    Dirty {
+        p: ReplicaId,
+        answer: Answer,
+    },
     /// How many pieces of a snapshot the joiner has taken, and of how many.
     Pieces {
         joiner: ReplicaId,
@@ -42,9 +48,15 @@ pub enum Shown {
         all: u64,
     },
     /// A replica's green actions, in order.
-    Greens { p: ReplicaId, list: IdList },
+    Greens {
+        p: ReplicaId,
+        list: IdList,
+    },
     /// A replica's database, ascending by key.
-    Database { p: ReplicaId, entries: EntryList },
+    Database {
+        p: ReplicaId,
+        entries: EntryList,
+    },
     /// The global order.
     All(IdList),
 }
