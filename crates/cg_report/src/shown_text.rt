@@ -1,14 +1,13 @@
 ghost use Rattle.std.specs.Prelude.{◌≡◌, ◌++◌, OnOk, codes, decimal};
 ghost use Rattle.std.specs.List.{flat_map};
-ghost use Rattle.cg_action.specs.Print.{value_text};
 ghost use Rattle.cg_report.specs.EntryText.{next_entry_text, answer_text, asked_text, pieces_text, shown_text, shown_line};
 
 use crate::Shown;
 use crate::reply_text::put_answer;
-use cg_action::Value;
+use cg_action::print_value;
 use cg_base::{NoMemory, put, put_id_list, put_number};
 use cg_db::{Answer, DbEntry};
-use cg_text::{put_i64, put_quoted};
+use cg_text::put_quoted;
 
 pub(crate) fn put_all_shown(out: &mut Vec<u8>, shown: &[Shown]) -> Result<(), NoMemory>
     ensures { OnOk result (out.new.items ≡ out.old.items ++ flat_map shown_line shown.now) }
@@ -91,14 +90,5 @@ fn put_next_entry(out: &mut Vec<u8>, entry: &DbEntry) -> Result<(), NoMemory>
     put(out, b" ")?;
     put_quoted(out, &entry.key)?;
     put(out, b"=")?;
-    put_value(out, &entry.value)
-}
-
-fn put_value(out: &mut Vec<u8>, value: &Value) -> Result<(), NoMemory>
-    ensures { OnOk result (out.new.items ≡ out.old.items ++ value_text value.now) }
-{
-    match value {
-        Value::Text(t) => put_quoted(out, t),
-        Value::Int(n) => put_i64(out, *n),
-    }
+    print_value(&entry.value, out)
 }

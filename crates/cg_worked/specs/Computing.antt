@@ -10,7 +10,7 @@ use Rattle.cg_action.specs.Reading.{byte_between, number_from, id_reading, key_r
 use Rattle.cg_db.specs.Apply.{run_commands}
 use Rattle.cg_records.specs.Reading.{take_number, take_index, take_id_above, take_set, take_weight, take_weighted_above, take_weight_set, take_name_above, take_cut, take_names, take_prim, take_vulnerable, take_maybe_vulnerable, take_yellow}
 use Rattle.cg_records.specs.Bytes.{spelled_set, spelled_name, spelled_names, spelled_cut, spelled_weighted, spelled_weight_set, spelled_prim, spelled_vulnerable, spelled_yellow}
-use Rattle.cg_wire.specs.Reading.{summary_reading, green_item_reading, red_item_reading, item_of_tag, item_reading, action_msg_reading, state_reading, cpc_reading, msg_of_tag, msg_reading}
+use Rattle.cg_wire.specs.Reading.{summary_reading, green_item_reading, red_item_reading, item_of_tag, item_reading, action_msg_reading, state_reading, cpc_reading, msg_of_tag, msg_reading, message_in}
 use Rattle.cg_wire.specs.Bytes.{spelled_summary, spelled_msg}
 use Rattle.cg_group.specs.State.{standing_of, configuration, has_received, set_standing, set_configuration}
 use Rattle.cg_group.specs.Ready.{all_received, ready_in}
@@ -19,7 +19,6 @@ use Rattle.cg_group.specs.Refusals.{order_refusal, receive_refusal, deliver_refu
 use Rattle.cg_schedule.specs.Part.{number, integer, amount, weighted, text as text_of_schedule, value, want, fill, number_part, id_part, count_part, integer_part, amount_part, weighted_part, text_part, value_part, want_part, fill_part}
 use Rattle.cg_schedule.specs.Command.{put_reading as put_reading_of_schedule, del_reading as del_reading_of_schedule, inc_reading as inc_reading_of_schedule, cas_reading as cas_reading_of_schedule, move_reading as move_reading_of_schedule, need_reading as need_reading_of_schedule, command_of, query_of, query_reading as query_reading_of_schedule, with_query, commands, update_of, update_reading as update_reading_of_schedule}
 use Rattle.cg_schedule.specs.Line.{word_of, opening, ids, weights, start_reading, split_reading, merge_reading, request_reading, weak_reading, dirty_reading, order_reading, recover_reading, show_reading, receive_reading, deliver_reading, rounds_reading, stop_reading, fail_reading, join_reading, leave_reading, transfer_reading, event_reading}
-use Rattle.cg_world.specs.Message.{message_in}
 use Rattle.cg_world.specs.World.{first_refusal, after_turn, world_step}
 
 unfoldable pub std_computes : ⊤

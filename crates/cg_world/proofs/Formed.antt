@@ -22,7 +22,7 @@ use Rattle.cg_group.specs.EachLaws.{Each, Each-append}
 use Rattle.cg_group.specs.LookupLaws.{put, put-other, put-same}
 use Rattle.cg_world.specs.declared.replica.Replica.{Replica}
 use Rattle.cg_world.specs.declared.state.State.{State}
-use Rattle.cg_world.specs.Message.{message_in}
+use Rattle.cg_wire.specs.Reading.{message_in}
 use Rattle.cg_world.specs.Replica.{is_reg_prim, next_state}
 use Rattle.cg_world.proofs.Numbered.{AreNumbered, made_by}
 use Rattle.cg_world.proofs.Pictures.{M, Pic, moved}

@@ -17,7 +17,7 @@ use Rattle.cg_group.specs.State.{Sent}
 use Rattle.cg_group.specs.Synchrony.{ordered_from}
 use Rattle.cg_world.specs.declared.state.State.{State}
 use Rattle.cg_world.specs.declared.state.State.TheVariants.{NonPrim, ExchangeStates, Construct, RegPrim}
-use Rattle.cg_world.specs.Message.{message_in}
+use Rattle.cg_wire.specs.Reading.{message_in}
 use Rattle.cg_world.specs.Replica.{is_reg_prim, states_heard, announcements_heard, hear_state, hear_announcement, next_state}
 use Rattle.cg_world.proofs.Pictures.{M}
 

@@ -19,7 +19,7 @@ use Rattle.cg_world.specs.declared.handing.Moved.{Moved}
 use Rattle.cg_world.specs.declared.handing.Shared.{Shared}
 use Rattle.cg_world.specs.declared.replica.Replica.{Replica}
 use Rattle.cg_world.specs.declared.turn.Outputs.{Outputs}
-use Rattle.cg_world.specs.Message.{message_in}
+use Rattle.cg_wire.specs.Reading.{message_in}
 use Rattle.cg_world.specs.Replica.{Turn, create, buffer, begin, asked, settle, emptied, is_reg_prim, mark_green, hear_action, hear, handle, turn_of, mark_of}
 use Rattle.cg_world.specs.World.{with_replica, after_turn, hand, new_in_order}
 use Rattle.cg_world.specs.Turn.{ended}

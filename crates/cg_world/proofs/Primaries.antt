@@ -29,7 +29,7 @@ use Rattle.cg_world.specs.declared.replica.Replica.{Replica}
 use Rattle.cg_world.specs.declared.state.State.{State}
 use Rattle.cg_world.specs.declared.state.State.TheVariants.{NonPrim, ExchangeStates, Construct, RegPrim}
 use Rattle.cg_world.specs.declared.world.World.{World}
-use Rattle.cg_world.specs.Message.{message_in}
+use Rattle.cg_wire.specs.Reading.{message_in}
 use Rattle.cg_world.specs.Replica.{Turn, fresh, begin, is_reg_prim, create, buffer, asked, emptied, settle, mark_green, hear, handle, turn_of, prim_in, mark_of, same_mark, up_line_of, line_of}
 use Rattle.cg_world.specs.Shown.{all_up_lines, lines_in}
 use Rattle.cg_world.specs.World.{Step, silently, before_start, replica_of, news, after_turn, hand, hand_out, world_step, first_refusal}

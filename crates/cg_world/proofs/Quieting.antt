@@ -19,7 +19,8 @@ use Rattle.cg_world.specs.declared.replica.Replica.{Replica}
 use Rattle.cg_world.specs.declared.state.State.{State}
 use Rattle.cg_world.specs.declared.state.State.TheVariants.{NonPrim, ExchangeStates, Construct, RegPrim}
 use Rattle.cg_world.specs.declared.world.World.{World}
-use Rattle.cg_world.specs.Message.{message_in, first_summary}
+use Rattle.cg_wire.specs.Reading.{message_in}
+use Rattle.cg_world.specs.Message.{first_summary}
 use Rattle.cg_world.specs.Replica.{is_reg_prim}
 use Rattle.cg_world.specs.World.{replica_of}
 use Rattle.cg_world.specs.Quiet.{is_quiet_at, is_quiet, is_settled, is_settled_at, IsSettled}

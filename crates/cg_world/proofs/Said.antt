@@ -17,7 +17,8 @@ use Rattle.cg_wire.specs.Limits.{IsSummary, IsMsg}
 use Rattle.cg_group.specs.EachLaws.{Each, Each-append}
 use Rattle.cg_world.specs.declared.state.State.{State}
 use Rattle.cg_world.specs.declared.state.State.TheVariants.{NonPrim, ExchangeStates, Construct, RegPrim}
-use Rattle.cg_world.specs.Message.{message_in, first_summary}
+use Rattle.cg_wire.specs.Reading.{message_in}
+use Rattle.cg_world.specs.Message.{first_summary}
 use Rattle.cg_world.specs.Replica.{is_reg_prim, next_state, announces}
 use Rattle.cg_world.proofs.Numbered.{AreNumbered}
 use Rattle.cg_world.proofs.Pictures.{M}

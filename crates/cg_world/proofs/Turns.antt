@@ -27,7 +27,7 @@ use Rattle.cg_group.specs.EachLaws.{Each}
 use Rattle.cg_report.specs.declared.entry.Made.{Made}
 use Rattle.cg_world.specs.declared.replica.Replica.{Replica}
 use Rattle.cg_world.specs.declared.state.State.{State}
-use Rattle.cg_world.specs.Message.{message_in}
+use Rattle.cg_wire.specs.Reading.{message_in}
 use Rattle.cg_world.specs.Replica.{Turn, begin, is_reg_prim, next_state, announces, come_into, next_action, create, reply_to, delivered_with, replies_to, mark_green, hear, handle}
 use Rattle.cg_world.proofs.Numbered.{AreNumbered, numbered-more, made_by}
 use Rattle.cg_world.proofs.Pictures.{M}

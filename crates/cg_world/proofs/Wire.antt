@@ -4,8 +4,7 @@ use Rattle.cg_codec.specs.Laws.{IsWhole}
 use Rattle.cg_wire.specs.declared.message.Msg.{Msg}
 use Rattle.cg_wire.specs.Limits.{IsMsg}
 use Rattle.cg_wire.specs.Bytes.{spelled_msg}
-use Rattle.cg_wire.specs.Reading.{msg_reading}
-use Rattle.cg_world.specs.Message.{read_of, message_in}
+use Rattle.cg_wire.specs.Reading.{msg_reading, read_of, message_in}
 
 -- messages are exactly their spellings
 abbrev pub Exact : Type 0

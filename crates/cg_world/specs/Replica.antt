@@ -31,7 +31,8 @@ use Rattle.cg_world.specs.declared.state.State.{State}
 use Rattle.cg_world.specs.declared.state.State.TheVariants.{NonPrim, ExchangeStates, Construct, RegPrim}
 use Rattle.cg_world.specs.declared.replica.Replica.{Replica}
 use Rattle.cg_world.specs.declared.mark.Mark.{Mark}
-use Rattle.cg_world.specs.Message.{message_in, first_primary, first_summary}
+use Rattle.cg_wire.specs.Reading.{message_in}
+use Rattle.cg_world.specs.Message.{first_primary, first_summary}
 
 -- a replica that has just begun
 abbrev pub fresh : List Weighted → ℕ → Replica

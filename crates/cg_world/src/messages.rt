@@ -1,35 +1,20 @@
 //! What replicas say to one another, in bytes.
 
-ghost use Rattle.std.specs.Prelude.{◌≡◌, ◌≤◌, IfOk, IfSome};
+ghost use Rattle.std.specs.Prelude.{◌≡◌, ◌≤◌, IfOk};
 ghost use Rattle.cg_action.specs.Limits.{IsKind};
-ghost use Rattle.cg_wire.specs.Limits.{IsMsg};
 ghost use Rattle.cg_wire.specs.Bytes.{spelled_msg};
 ghost use Rattle.cg_wire.specs.declared.message.Msg.TheVariants.{Action as ActionMessage, State as StateMessage, Cpc};
-ghost use Rattle.cg_world.specs.Message.{message_in, first_summary, first_primary};
+ghost use Rattle.cg_world.specs.Message.{first_summary, first_primary};
 
 use cg_action::{Action, Kind};
 use cg_base::{ActionId, Bytes, Cut, IdSet, NoMemory, ReplicaId, WeightSet};
-use cg_codec::CodecFault;
 use cg_knowledge::Summary;
 use cg_records::{Primary, Yellow};
-use cg_wire::{Msg, decode, encode};
+use cg_wire::{Msg, encode};
 use std::alloc::Global;
 
 // every number in a message is below this one
 const LIMIT: u64 = 1 << 63;
-
-/// The message that the bytes spell, if they spell one.
-#[tactic(auto, unfolding(crate::specs::Message::message_in))]
-pub(crate) fn read(alloc: Global, bytes: &[u8]) -> Result<Option<Msg>, NoMemory>
-    ensures value { IfOk result (λ m. m ≡ message_in bytes.now) }
-    ensures limits { IfOk result (λ m. IfSome m IsMsg) }
-{
-    match decode(alloc, bytes) {
-        Ok(m) => Ok(Some(m)),
-        Err(CodecFault::NoMemory) => Err(NoMemory),
-        Err(_) => Ok(None),
-    }
-}
 
 /// What a replica tells as it comes from its start into a configuration.
 pub(crate) fn state_message(

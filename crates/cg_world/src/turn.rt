@@ -6,18 +6,18 @@ ghost use Rattle.cg_action.specs.Limits.{IsKind, IsAction};
 ghost use Rattle.cg_db.specs.Apply.{apply};
 ghost use Rattle.cg_db.specs.Find.{answer, query_of};
 ghost use Rattle.cg_wire.specs.Limits.{IsMsg};
-ghost use Rattle.cg_world.specs.Message.{message_in};
+ghost use Rattle.cg_wire.specs.Reading.{message_in};
 ghost use Rattle.cg_world.specs.Replica.{announces, announced_in, reply_to};
 ghost use Rattle.cg_world.specs.Turn.{ended, nothing};
 
-use crate::messages::{action_message, announcement, read, state_message};
+use crate::messages::{action_message, announcement, state_message};
 use crate::{Replica, Request, State};
 use cg_action::{Action, Kind};
 use cg_base::{ActionId, BytesList, IdSet, NoMemory, ReplicaId, Row};
 use cg_db::{Answer, Db, Effect};
 use cg_group::Delivery;
 use cg_report::{Made, Reply};
-use cg_wire::Msg;
+use cg_wire::{Msg, read_message};
 use std::alloc::Global;
 use std::mem::replace;
 
@@ -161,7 +161,7 @@ impl Replica {
     ) -> Result<(), NoMemory>
         ensures { OnOk result (ended self.new out.new ≡ hear (ended self.old out.old) from (message_in bytes.now)) }
     {
-        match read(alloc, bytes)? {
+        match read_message(alloc, bytes)? {
             Some(message) => self.hear_message(alloc, out, from, &message),
             None => Ok(()),
         }

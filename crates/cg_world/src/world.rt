@@ -11,7 +11,7 @@ ghost use Rattle.cg_world.specs.World.{before_start, ask, brought_up, begun, sho
 
 use crate::Replica;
 use crate::handing::{Moved, ask, find, hand, hand_out, has_begun};
-use cg_action::{Cmd, CmdList, Kind, Query};
+use cg_action::{CmdList, Kind, Query, copy_commands, copy_query};
 use cg_base::{IdList, IdSet, NoMemory, ReplicaId, Row, WeightSet};
 use cg_group::{Group, GroupErr, Handed, Reason};
 use cg_report::{Entry, Line, Shown};
@@ -227,28 +227,9 @@ fn ask_copied(
 fn copied(alloc: Global, cmds: &CmdList, query: &Option<Query>) -> Result<Kind, NoMemory>
     ensures { IfOk result (λ kind. kind ≡ Update cmds.now query.now) }
 {
-    let cmds = copied_commands(alloc, cmds.as_slice())?;
-    let query = copied_query(alloc, query)?;
+    let cmds = copy_commands(alloc, cmds.as_slice())?;
+    let query = copy_query(alloc, query)?;
     Ok(Kind::Update { cmds, query })
-}
-
-fn copied_commands(alloc: Global, cmds: &[Cmd]) -> Result<CmdList, NoMemory>
-    ensures { IfOk result (λ list. list ≡ cmds.now) }
-{
-    let mut copies = Row::new(alloc);
-    for cmd in cmds {
-        copies.push(cmd.copy(alloc)?)?;
-    }
-    Ok(copies)
-}
-
-fn copied_query(alloc: Global, query: &Option<Query>) -> Result<Option<Query>, NoMemory>
-    ensures { IfOk result (λ copy. copy ≡ query.now) }
-{
-    match query {
-        Some(query) => Ok(Some(query.copy(alloc)?)),
-        None => Ok(None),
-    }
 }
 
 // the replica shows its green actions and its database
