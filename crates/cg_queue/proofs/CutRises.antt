@@ -87,6 +87,28 @@ names-unknown cut (y ∷ ids) id known above =
 pub is_above-false : (cut : List ActionId) (id : ActionId) → id.index ≤ index_in cut id.creator → is_above cut id ≡ false
 is_above-false cut id le = le-ltb (index_in cut id.creator) id.index le
 
+-- a name up to the cut isn't one behind it
+pub names-below : (cut ids : List ActionId) (id : ActionId) → is_above cut id ≡ false → names (filter (is_above cut) ids) id ≡ false
+names-below cut [] id below = refl
+names-below cut (y ∷ ids) id below = elim (cases_Bool (is_above cut y)) [
+  | inl passes ↦ rw passes (or_from (same_id id y) (names (filter (is_above cut) ids) id) (other y passes) (names-below cut ids id below))
+  | inr fails ↦ rw fails (names-below cut ids id below)
+]
+  where
+    other : (y : ActionId) → is_above cut y ≡ true → same_id id y ≡ false
+    other y passes = elim (cases_eq id.creator y.creator) [
+      | inl same ↦ elim (cases_eq id.index y.index) [
+        | inl equal ↦
+            let there : is_above cut y ≡ false = rw (same, equal) at below in
+            absurd (never (sym passes ∙ there))
+        | inr differ ↦ same_id-false id y (inr differ)
+      ]
+      | inr apart ↦ same_id-false id y (inl apart)
+    ]
+      where
+        never : true ≡ false → ⊥
+        never e = cc
+
 pub names-above : (cut ids : List ActionId) (id : ActionId) → is_above cut id ≡ true → names (filter (is_above cut) ids) id ≡ names ids id
 names-above cut [] id above = refl
 names-above cut (y ∷ ids) id above = elim (cases_Bool (is_above cut y)) [

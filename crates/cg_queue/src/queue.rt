@@ -251,6 +251,22 @@ impl Queue {
         i < self.body.reds.len(place)
     }
 
+    /// The name is one of a yellow action. It is found at once.
+    pub fn is_yellow(&self, id: ActionId) -> bool
+        ensures { result ≡ names self.now.yellow id }
+    {
+        let known = self.body.red_cut.get(id.creator);
+        if known < id.index {
+            return false;
+        }
+        let cut = self.body.green_cut.get(id.creator);
+        if cut >= id.index {
+            return false;
+        }
+        let place = lane_of(&id);
+        is_flagged(&self.body, place, (id.index - cut - 1) as usize)
+    }
+
     /// How far each creator's actions are known: red or green, discarded ones too.
     pub fn red_cut(&self) -> Cut
         ensures { result ≡ self.now.red_cut }

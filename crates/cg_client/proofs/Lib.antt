@@ -1,0 +1,4 @@
+pub mod Keeping
+pub mod Lasts
+pub mod Lines
+pub mod Weighing

@@ -1,0 +1,10 @@
+pub mod Replica
+pub mod Turn
+pub mod Drafts
+pub mod Kept
+pub mod Standing
+pub mod Marks
+pub mod Requests
+pub mod Summary
+pub mod Install
+pub mod Queries

@@ -1,0 +1,136 @@
+ghost use Rattle.std.specs.Prelude.{◌≡◌, ◌++◌, ◌∷◌, [], OnOk};
+ghost use Rattle.cg_action.specs.Limits.{IsAction, IsActionId};
+ghost use Rattle.cg_records.specs.Limits.{Each};
+ghost use Rattle.cg_wire.specs.Limits.{IsMsg};
+ghost use Rattle.cg_client.specs.Drafts.{no_parts};
+
+use crate::DraftParts;
+use crate::actions::Actions;
+use crate::messages::Messages;
+use crate::names::Names;
+use cg_action::ActionList;
+use cg_base::{IdList, NoMemory, Row};
+use cg_report::Reply;
+use cg_wire::Msg;
+use std::alloc::Global;
+use std::marker::Model;
+
+/// The event under way: what it has brought about so far. It has to be spent, by a commit that takes it apart or by
+/// `abandon`. Clauses see its parts.
+pub struct Draft {
+    pub(crate) known: Actions,
+    pub(crate) green: Names,
+    pub(crate) made: Actions,
+    pub(crate) sent: Messages,
+    pub(crate) replies: Row<Reply>,
+    pub(crate) marked_own: bool,
+}
+
+impl Model for Draft {
+    ghost use Rattle.cg_client.specs.declared.parts.DraftParts.{DraftParts};
+
+    ghost Value = { DraftParts };
+
+    ghost view = { λ d. record { known = d.known; green = d.green; made = d.made; sent = d.sent; replies = d.replies; marked_own = d.marked_own } };
+}
+
+impl Draft {
+    /// An event begins.
+    pub fn new(alloc: Global) -> Draft
+        ensures { result ≡ no_parts }
+    {
+        Draft {
+            known: Actions::new(alloc),
+            green: Names::new(alloc),
+            made: Actions::new(alloc),
+            sent: Messages::new(alloc),
+            replies: Row::new(alloc),
+            marked_own: false,
+        }
+    }
+
+    /// A message is to be sent.
+    pub fn send(&mut self, m: Msg) -> Result<(), NoMemory>
+        requires { IsMsg m }
+        ensures { OnOk result (self.new ≡ record self.old { sent = self.old.sent ++ m ∷ [] }) }
+    {
+        self.sent.push(m)
+    }
+
+    /// The actions newly known, in the order of their marks.
+    pub fn known(&self) -> &ActionList
+        ensures value { result.now ≡ self.now.known }
+        ensures each { Each IsAction self.now.known }
+    {
+        self.known.list()
+    }
+
+    /// The names newly green, in order.
+    pub fn green(&self) -> &IdList
+        ensures value { result.now ≡ self.now.green }
+        ensures each { Each IsActionId self.now.green }
+    {
+        self.green.list()
+    }
+
+    /// The actions made.
+    pub fn made(&self) -> &ActionList
+        ensures value { result.now ≡ self.now.made }
+        ensures each { Each IsAction self.now.made }
+    {
+        self.made.list()
+    }
+
+    /// The messages to be sent.
+    pub fn sent(&self) -> &Row<Msg>
+        ensures value { result.now ≡ self.now.sent }
+        ensures each { Each IsMsg self.now.sent }
+    {
+        self.sent.list()
+    }
+
+    /// The replies to be given.
+    pub fn replies(&self) -> &Row<Reply>
+        ensures { result.now ≡ self.now.replies }
+    {
+        &self.replies
+    }
+
+    /// Own actions that weren't delivered became red.
+    pub fn marked_own(&self) -> bool
+        ensures { result ≡ self.now.marked_own }
+    {
+        self.marked_own
+    }
+
+    /// All of it, for a commit. It takes no memory.
+    pub fn into_parts(self) -> DraftParts
+        ensures value { result ≡ self }
+        ensures known { Each IsAction self.known }
+        ensures green { Each IsActionId self.green }
+        ensures made { Each IsAction self.made }
+        ensures sent { Each IsMsg self.sent }
+    {
+        let Draft {
+            known,
+            green,
+            made,
+            sent,
+            replies,
+            marked_own,
+        } = self;
+        DraftParts {
+            known: known.into_list(),
+            green: green.into_list(),
+            made: made.into_list(),
+            sent: sent.into_list(),
+            replies,
+            marked_own,
+        }
+    }
+
+    /// The event comes to nothing, as after `NoMemory`.
+    pub fn abandon(self) {
+        let _ = self.into_parts();
+    }
+}

@@ -1,0 +1,75 @@
+ghost use Rattle.std.specs.Prelude.{◌≡◌, ◌<◌, ◌^◌, suc};
+ghost use Rattle.cg_action.specs.Limits.{IsAction};
+ghost use Rattle.cg_client.specs.Replica.{fresh_held, created, last_index};
+
+use crate::entries::Entries;
+use crate::kept::Kept;
+use crate::known::Known;
+use crate::own::Own;
+use crate::servers::Servers;
+use crate::standing::Standing;
+use crate::waiting::Waiting;
+use cg_base::{ActionId, Cut, ReplicaId, Row, WeightSet};
+use std::alloc::Global;
+use std::marker::Model;
+
+/// What a replica holds in every state. Clauses see it as a `Held`.
+#[derive(Drop)]
+pub struct Core {
+    pub(crate) id: ReplicaId,
+    pub(crate) queue: Known,
+    pub(crate) yellow_valid: bool,
+    pub(crate) own: Own,
+    pub(crate) db: Entries,
+    pub(crate) members: Servers,
+    pub(crate) standing: Standing,
+    pub(crate) buffered: Row<Kept>,
+    pub(crate) owed: Waiting<ActionId>,
+    pub(crate) alloc: Global,
+}
+
+impl Model for Core {
+    ghost use Rattle.cg_client.specs.Replica.{Held};
+
+    ghost Value = { Held };
+
+    ghost view = { λ c. record { id = c.id; queue = c.queue; yellow_valid = c.yellow_valid; own = c.own; db = c.db; members = c.members; prim = c.standing.prim; attempt_index = c.standing.attempt_index; vulnerable = c.standing.vulnerable; buffered = c.buffered; owed = c.owed } };
+}
+
+// so many of a replica's actions, and so many greens, fit no memory
+pub(crate) const MOST: u64 = 4611686018427387904;
+
+impl Core {
+    /// What a new replica holds, among the servers of the start.
+    pub fn fresh(alloc: Global, id: ReplicaId, servers: &WeightSet) -> Core
+        ensures { result ≡ fresh_held id servers.now }
+    {
+        Core {
+            id,
+            queue: Known::resume(alloc, 0, Cut::zero()),
+            yellow_valid: false,
+            own: Own::new(alloc),
+            db: Entries::new(alloc),
+            members: Servers::start(*servers),
+            standing: Standing::start(*servers),
+            buffered: Row::new(alloc),
+            owed: Waiting::new(alloc),
+            alloc,
+        }
+    }
+
+    pub(crate) fn last_created(&self) -> u64
+        ensures { result ≡ created self.now }
+    {
+        self.queue.red_cut().get(self.id).max(last_index(&self.own))
+    }
+}
+
+fn last_index(own: &Own) -> u64
+    ensures { result ≡ last_index own.now }
+{
+    match own.last() {
+        Some(a) => a.id.index,
+        None => 0,
+    }
+}

@@ -1,0 +1,173 @@
+//! The installation of a primary component.
+ghost use Rattle.std.specs.Prelude.{◌≡◌, ◌∷◌, ◌++◌, [], fold, map, option_map, OnOk, IfOk, Some, Option};
+ghost use Rattle.std.specs.Option.{option_to_list};
+ghost use Rattle.cg_action.specs.Limits.{IsAction};
+ghost use Rattle.cg_records.specs.Limits.{Each};
+ghost use Rattle.cg_queue.specs.Queue.{action_of};
+ghost use Rattle.cg_client.specs.Replica.{State};
+ghost use Rattle.cg_client.specs.Turn.{with_held};
+ghost use Rattle.cg_client.specs.Marks.{mark_green};
+ghost use Rattle.cg_client.specs.Install.{actions_named, valid_yellow, yellow_green, reds_green, with_prim, weighted, prim_after, install};
+ghost use Rattle.cg_client.specs.Drafts.{turn_with};
+
+use crate::actions::Actions;
+use crate::known::Known;
+use crate::servers::Servers;
+use crate::standing::Standing;
+use crate::{Core, Draft};
+use cg_action::ActionList;
+use cg_base::{ActionId, IdSet, NoMemory, Row, WeightSet};
+use cg_records::Primary;
+use std::alloc::Global;
+use std::marker::Model;
+
+impl Core {
+    fn green_all(&mut self, draft: &mut Draft, actions: ActionList) -> Result<(), NoMemory>
+        requires { Each IsAction actions }
+        ensures { OnOk result ((state : State) → turn_with self.new state draft.new ≡ fold mark_green (turn_with self.old state draft.old) actions) }
+    {
+        for a in actions.into_vec() {
+            self.mark_green(draft, a)?;
+        }
+        Ok(())
+    }
+
+    fn reds_green(&mut self, draft: &mut Draft) -> Result<(), NoMemory>
+        ensures { OnOk result ((state : State) → turn_with self.new state draft.new ≡ reds_green (turn_with self.old state draft.old)) }
+    {
+        let reds = self.queue.reds()?;
+        self.green_all(draft, reds)
+    }
+
+    fn yellow_green(&mut self, draft: &mut Draft) -> Result<(), NoMemory>
+        ensures { OnOk result ((state : State) → turn_with self.new state draft.new ≡ yellow_green (turn_with self.old state draft.old)) }
+    {
+        if !self.yellow_valid {
+            return Ok(());
+        }
+        let yellow = self.queue.yellow()?;
+        let actions = actions_named(self.alloc, &self.queue, yellow.as_slice())?;
+        self.green_all(draft, actions.into_list())
+    }
+
+    fn set_prim(&mut self, prim: Primary) -> Result<(), NoMemory>
+        ensures { OnOk result (self.new ≡ with_prim self.old prim) }
+    {
+        self.queue.set_yellow(&Row::new(self.alloc))?;
+        self.yellow_valid = false;
+        self.standing = Standing::of(prim, 0, self.standing.vulnerable())?;
+        Ok(())
+    }
+
+    // the primary component that the attempt forms
+    fn prim_after(&self) -> Result<Primary, NoMemory>
+        ensures { IfOk result (λ prim. prim ≡ prim_after self.now self.now.vulnerable) }
+    {
+        let prim = self.standing.prim();
+        let Some(v) = self.standing.vulnerable() else {
+            return Ok(prim);
+        };
+        // so many primary components fit no memory
+        let Some(index) = prim.index.checked_add(1) else {
+            return Err(NoMemory);
+        };
+        Ok(Primary {
+            index,
+            conf: v.attempt,
+            set: weigh(&self.members, &v.set),
+        })
+    }
+
+    // the yellow actions become green, and then the other reds; the weights are those before
+    #[tactic(auto, unfolding(crate::specs::Install::install))]
+    fn install(&mut self, draft: &mut Draft) -> Result<(), NoMemory>
+        ensures { OnOk result ((state : State) → turn_with self.new state draft.new ≡ install (turn_with self.old state draft.old)) }
+    {
+        let prim = self.prim_after()?;
+        self.mark_all(draft, prim)
+    }
+
+    fn mark_all(&mut self, draft: &mut Draft, prim: Primary) -> Result<(), NoMemory>
+        ensures { OnOk result ((state : State) → (let done = reds_green (yellow_green (turn_with self.old state draft.old)) in
+            turn_with self.new state draft.new ≡ with_held done (with_prim done.replica.held prim))) }
+    {
+        self.yellow_green(draft)?;
+        self.reds_green(draft)?;
+        self.set_prim(prim)
+    }
+}
+
+/// An attempt that was installed here. Clauses see what the replica holds behind it. `RegPrim` and `TransPrim` behind an
+/// installation are made of it alone.
+#[derive(Drop)]
+pub struct Installed {
+    core: Core,
+}
+
+impl Model for Installed {
+    ghost use Rattle.cg_client.specs.Replica.{Held};
+
+    ghost Value = { Held };
+
+    ghost view = { λ i. i.core };
+}
+
+impl Installed {
+    /// Installs the attempt whose members have all been heard: the yellow actions become green, where the yellow list
+    /// counts, and then the other reds.
+    pub fn make(mut core: Core, draft: &mut Draft, heard: IdSet) -> Result<Installed, NoMemory>
+        requires { option_map (λ v. v.set) core.vulnerable ≡ Some heard }
+        ensures { IfOk result (λ i. (state : State) → turn_with i state draft.new ≡ install (turn_with core state draft.old)) }
+    {
+        core.install(draft)?;
+        Ok(Installed { core })
+    }
+
+    /// What the replica holds. It takes no memory.
+    pub fn into_core(self) -> Core
+        ensures { result ≡ self }
+    {
+        let Installed { core } = self;
+        core
+    }
+}
+
+/// The kept actions of these names, in the order of the names.
+pub(crate) fn actions_named(
+    alloc: Global,
+    queue: &Known,
+    ids: &[ActionId],
+) -> Result<Actions, NoMemory>
+    ensures { IfOk result (λ list. list ≡ actions_named queue.now ids.now) }
+{
+    let mut list = Actions::new(alloc);
+    for id in ids {
+        push_named(alloc, queue, *id, &mut list)?;
+    }
+    Ok(list)
+}
+
+fn push_named(
+    alloc: Global,
+    queue: &Known,
+    id: ActionId,
+    list: &mut Actions,
+) -> Result<(), NoMemory>
+    ensures { OnOk result (list.new ≡ list.old ++ option_to_list (action_of queue.now id)) }
+{
+    match queue.get(id) {
+        Some(a) => list.push(a.copy(alloc)?),
+        None => Ok(()),
+    }
+}
+
+// the members of an attempt, each with the weight that it has as a server, and 1 where it is none
+fn weigh(members: &Servers, set: &IdSet) -> WeightSet
+    ensures { result ≡ weighted members.now set.now }
+{
+    let mut weighted = WeightSet::empty();
+    for id in set.iter() {
+        weighted.put(id, members.weight(id).max(1));
+    }
+    weighted
+}

@@ -1,0 +1,167 @@
+//! The actions that are known, each within the limits of an action.
+ghost use Rattle.std.specs.Prelude.{◌≡◌, ◌≤◌, ◌<◌, ◌^◌, ◌-◌, suc, IfOk, IfSome, IsSome, OnOk, OnErr};
+ghost use Rattle.std.specs.Option.{option_copied};
+ghost use Rattle.cg_base.specs.Cuts.{index_in};
+ghost use Rattle.cg_base.specs.Ids.{names};
+ghost use Rattle.cg_base.specs.Lists.{at_place};
+ghost use Rattle.cg_action.specs.Limits.{IsAction};
+ghost use Rattle.cg_records.specs.Limits.{Each, IsIndex, IsName, IsSmallCut};
+ghost use Rattle.cg_queue.specs.Queue.{Answers, AreReds, resumed, marked_red, marked_yellow, marked_green, discarded, green_count, action_of, names_of};
+
+use cg_action::{Action, ActionList};
+use cg_base::{ActionId, Cut, IdList, NoMemory};
+use cg_queue::{Mark, Queue, QueueFault};
+use std::alloc::Global;
+use std::marker::Model;
+
+/// A queue. Clauses see what it holds.
+#[derive(Drop)]
+pub(crate) struct Known {
+    queue: Queue,
+}
+
+impl Model for Known {
+    ghost use Rattle.cg_queue.specs.Queue.{QueueView};
+    ghost use Rattle.cg_client.specs.Kept.{AreKept};
+
+    ghost Value = { QueueView };
+
+    ghost view = { λ k. k.queue };
+
+    ghost invariant = { λ k. AreKept k.queue };
+}
+
+impl Known {
+    pub(crate) fn resume(alloc: Global, white: u64, cut: Cut) -> Known
+        requires few { white ≤ 2 ^ 62 }
+        requires cut { Each (λ top. IsIndex top.index) cut }
+        ensures { result ≡ resumed white cut }
+    {
+        Known {
+            queue: Queue::resume(alloc, white, cut),
+        }
+    }
+
+    pub(crate) fn mark_red(&mut self, a: Action) -> Result<Mark, QueueFault>
+        requires { IsAction a }
+        ensures { Answers (marked_red self.old a) self.old self.new result }
+    {
+        self.queue.mark_red(a)
+    }
+
+    pub(crate) fn mark_yellow(&mut self, a: Action) -> Result<Mark, QueueFault>
+        requires { IsAction a }
+        ensures { Answers (marked_yellow self.old a) self.old self.new result }
+    {
+        self.queue.mark_yellow(a)
+    }
+
+    pub(crate) fn mark_green(&mut self, at: u64, a: Action) -> Result<Mark, QueueFault>
+        requires action { IsAction a }
+        requires place { at ≤ suc (green_count self.old) }
+        requires few { green_count self.old < 2 ^ 62 }
+        requires next { at ≡ suc (green_count self.old) → a.id.index ≡ suc (index_in self.old.green_cut a.id.creator) }
+        ensures { Answers (marked_green self.old at a) self.old self.new result }
+    {
+        self.queue.mark_green(at, a)
+    }
+
+    pub(crate) fn set_yellow(&mut self, list: &IdList) -> Result<(), NoMemory>
+        requires { AreReds self.old list.now }
+        ensures { OnOk result (self.new ≡ record self.old { yellow = list.now }) }
+    {
+        self.queue.set_yellow(list)
+    }
+
+    pub(crate) fn discard_white(&mut self, n: u64)
+        requires more { self.old.white ≤ n }
+        requires there { n ≤ green_count self.old }
+        ensures { self.new ≡ discarded self.old n }
+    {
+        self.queue.discard_white(n);
+    }
+
+    pub(crate) fn greens(&self) -> Result<ActionList, NoMemory>
+        ensures value { IfOk result (λ list. list ≡ self.now.greens) }
+        ensures each { Each IsAction self.now.greens }
+    {
+        // its clause bounds the white count
+        let _count = self.queue.green_count();
+        self.queue.greens_from(self.queue.white_count() + 1)
+    }
+
+    pub(crate) fn reds(&self) -> Result<ActionList, NoMemory>
+        ensures value { IfOk result (λ list. list ≡ self.now.reds) }
+        ensures each { Each IsAction self.now.reds }
+    {
+        self.queue.reds()
+    }
+
+    pub(crate) fn yellow(&self) -> Result<IdList, NoMemory>
+        ensures value { IfOk result (λ list. list ≡ self.now.yellow) }
+        ensures each { Each IsName self.now.yellow }
+    {
+        self.queue.yellow()
+    }
+
+    pub(crate) fn get(&self, id: ActionId) -> Option<&Action>
+        ensures value { option_copied result ≡ action_of self.now id }
+        ensures action { IfSome (action_of self.now id) IsAction }
+    {
+        self.queue.get(id)
+    }
+
+    pub(crate) fn green_at(&self, at: u64) -> Option<&Action>
+        ensures value { option_copied result ≡ at_place self.now.greens (at - self.now.white) }
+        ensures action { IfSome (at_place self.now.greens (at - self.now.white)) IsAction }
+        ensures small { IsSome result → at ≤ 2 ^ 62 }
+    {
+        if at > self.green_count() {
+            return None;
+        }
+        self.queue.green_at(at)
+    }
+
+    pub(crate) fn is_yellow(&self, id: ActionId) -> bool
+        ensures { result ≡ names self.now.yellow id }
+    {
+        self.queue.is_yellow(id)
+    }
+
+    pub(crate) fn is_red(&self, id: ActionId) -> bool
+        ensures { result ≡ names (names_of self.now.reds) id }
+    {
+        self.queue.is_red(id)
+    }
+
+    pub(crate) fn red_cut(&self) -> Cut
+        ensures value { result ≡ self.now.red_cut }
+        ensures small { IsSmallCut self.now.red_cut }
+    {
+        let cut = self.queue.red_cut();
+        let _tops = cut.iter();
+        cut
+    }
+
+    pub(crate) fn green_cut(&self) -> Cut
+        ensures value { result ≡ self.now.green_cut }
+        ensures small { IsSmallCut self.now.green_cut }
+    {
+        let cut = self.queue.green_cut();
+        let _tops = cut.iter();
+        cut
+    }
+
+    pub(crate) fn green_count(&self) -> u64
+        ensures count { result ≡ green_count self.now }
+        ensures most { result ≤ 2 ^ 62 }
+    {
+        self.queue.green_count()
+    }
+
+    pub(crate) fn white_count(&self) -> u64
+        ensures { result ≡ self.now.white }
+    {
+        self.queue.white_count()
+    }
+}

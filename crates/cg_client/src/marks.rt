@@ -1,0 +1,250 @@
+//! The marks of actions.
+ghost use Rattle.std.specs.Prelude.{◌≡◌, ◌<◌, ◌≤◌, ◌^◌, ◌==◌, ◌++◌, ◌∷◌, [], suc, IsTrue, OnOk, IfOk, option_map};
+ghost use Rattle.cg_base.specs.Cuts.{index_in};
+ghost use Rattle.cg_base.specs.Ids.{same_id};
+ghost use Rattle.cg_action.specs.Limits.{IsAction};
+ghost use Rattle.cg_db.specs.Apply.{apply};
+ghost use Rattle.cg_db.specs.Find.{answer, query_of};
+ghost use Rattle.cg_client.specs.Drafts.{turn_with};
+ghost use Rattle.cg_client.specs.Replica.{State, created};
+ghost use Rattle.cg_client.specs.Marks.{is_unmade, can_be_green, after_first, after_owed, is_first, given_to, unknown_in, place_green, mark_green, mark_green_at, mark_red, mark_yellow, marked};
+ghost use Rattle.cg_queue.specs.Queue.{green_count, placed_green, marked_red, marked_yellow};
+
+use crate::actions::Actions;
+use crate::entries::Entries;
+use crate::held::MOST;
+use crate::known::Known;
+use crate::own::Own;
+use crate::waiting::Waiting;
+use crate::{Core, Draft};
+use cg_action::{Action, Kind};
+use cg_base::{ActionId, NoMemory, Row};
+use cg_db::{Answer, Effect};
+use cg_queue::{Mark, QueueFault};
+use cg_report::Reply;
+use std::alloc::Global;
+
+pub(crate) fn name_of(a: &Action) -> ActionId
+    ensures { result ≡ a.now.id }
+{
+    a.id
+}
+
+fn is_next(index: u64, cut: u64) -> bool
+    ensures value { result ≡ (index == suc cut) }
+    ensures equal { IsTrue result → index ≡ suc cut }
+{
+    index > cut && index - cut == 1
+}
+
+pub(crate) fn drop_own(own: &mut Own, id: &ActionId)
+    ensures { own.new ≡ after_first own.old id.now }
+{
+    let is_first = match own.first() {
+        Some(a) => a.id == *id,
+        None => false,
+    };
+    if is_first {
+        own.drop_first();
+    }
+}
+
+fn is_owed(owed: &Waiting<ActionId>, id: &ActionId) -> bool
+    ensures { result ≡ is_first owed.now id.now }
+{
+    match owed.first() {
+        Some(first) => *first == *id,
+        None => false,
+    }
+}
+
+impl Core {
+    #[tactic(auto, unfolding(crate::specs::Marks::is_unmade))]
+    fn is_unmade(&self, a: &Action) -> bool
+        ensures { result ≡ is_unmade self.now a.now }
+    {
+        a.id.creator == self.id && self.last_created() < a.id.index
+    }
+
+    #[tactic(auto, unfolding(crate::specs::Marks::can_be_green))]
+    fn can_be_green(&self, a: &Action) -> bool
+        ensures value { result ≡ can_be_green self.now a.now }
+        ensures next { IsTrue result → a.now.id.index ≡ suc (index_in self.now.queue.green_cut a.now.id.creator) }
+    {
+        is_next(a.id.index, self.queue.green_cut().get(a.id.creator)) && !self.is_unmade(a)
+    }
+
+    /// Marks an action red, where it is the next of its creator.
+    #[tactic(auto, unfolding(crate::specs::Marks::mark_red))]
+    pub fn mark_red(&mut self, draft: &mut Draft, a: Action) -> Result<(), NoMemory>
+        requires { IsAction a }
+        ensures { OnOk result ((state : State) → turn_with self.new state draft.new ≡ mark_red (turn_with self.old state draft.old) a) }
+    {
+        if self.is_unmade(&a) {
+            return Ok(());
+        }
+        self.place_red(draft, a)
+    }
+
+    pub(crate) fn place_red(&mut self, draft: &mut Draft, a: Action) -> Result<(), NoMemory>
+        requires { IsAction a }
+        ensures { OnOk result ((state : State) → turn_with self.new state draft.new ≡ marked (turn_with self.old state draft.old) a (marked_red self.old.queue a)) }
+    {
+        let id = name_of(&a);
+        let copy = a.copy(self.alloc)?;
+        match self.queue.mark_red(a) {
+            Ok(Mark::Placed) => {
+                drop_own(&mut self.own, &id);
+                draft.known.push(copy)
+            }
+            Ok(Mark::Known) => Ok(()),
+            Err(QueueFault::Gap { .. }) => Ok(()),
+            Err(QueueFault::NoMemory) => Err(NoMemory),
+        }
+    }
+
+    /// Marks an action red, and yellow.
+    #[tactic(auto, unfolding(crate::specs::Marks::mark_yellow))]
+    pub fn mark_yellow(&mut self, draft: &mut Draft, a: Action) -> Result<(), NoMemory>
+        requires { IsAction a }
+        ensures { OnOk result ((state : State) → turn_with self.new state draft.new ≡ mark_yellow (turn_with self.old state draft.old) a) }
+    {
+        if self.is_unmade(&a) {
+            return Ok(());
+        }
+        self.place_yellow(draft, a)
+    }
+
+    fn place_yellow(&mut self, draft: &mut Draft, a: Action) -> Result<(), NoMemory>
+        requires { IsAction a }
+        ensures { OnOk result ((state : State) → turn_with self.new state draft.new ≡ marked (turn_with self.old state draft.old) a (marked_yellow self.old.queue a)) }
+    {
+        let id = name_of(&a);
+        let copy = a.copy(self.alloc)?;
+        match self.queue.mark_yellow(a) {
+            Ok(Mark::Placed) => {
+                drop_own(&mut self.own, &id);
+                draft.known.push(copy)
+            }
+            Ok(Mark::Known) => Ok(()),
+            Err(QueueFault::Gap { .. }) => Ok(()),
+            Err(QueueFault::NoMemory) => Err(NoMemory),
+        }
+    }
+
+    /// Marks an action green at the next place, where it is the next green one of its creator.
+    #[tactic(auto, unfolding(crate::specs::Marks::mark_green))]
+    pub fn mark_green(&mut self, draft: &mut Draft, a: Action) -> Result<(), NoMemory>
+        requires { IsAction a }
+        ensures { OnOk result ((state : State) → turn_with self.new state draft.new ≡ mark_green (turn_with self.old state draft.old) a) }
+    {
+        if !self.can_be_green(&a) {
+            return Ok(());
+        }
+        self.place_green(draft, a)
+    }
+
+    /// Marks an action green at a place, where that is the next one.
+    pub fn mark_green_at(&mut self, draft: &mut Draft, at: u64, a: Action) -> Result<(), NoMemory>
+        requires { IsAction a }
+        ensures { OnOk result ((state : State) → turn_with self.new state draft.new ≡ mark_green_at (turn_with self.old state draft.old) at a) }
+    {
+        if !is_next(at, self.queue.green_count()) {
+            return Ok(());
+        }
+        self.mark_green(draft, a)
+    }
+
+    #[tactic(auto, unfolding(crate::specs::Marks::place_green))]
+    fn place_green(&mut self, draft: &mut Draft, a: Action) -> Result<(), NoMemory>
+        requires action { IsAction a }
+        requires next { a.id.index ≡ suc (index_in self.old.queue.green_cut a.id.creator) }
+        ensures { OnOk result ((state : State) → turn_with self.new state draft.new ≡ place_green (turn_with self.old state draft.old) a) }
+    {
+        let count = self.queue.green_count();
+        if count >= MOST {
+            return Err(NoMemory);
+        }
+        let id = name_of(&a);
+        note_unknown(self.alloc, &self.queue, &mut draft.known, &a)?;
+        draft.green.push(id)?;
+        let effect = self.db.apply(&a)?;
+        reply(&self.db, &mut self.owed, &mut draft.replies, &a, effect)?;
+        drop_own(&mut self.own, &id);
+        self.members.note_green(count + 1, &a);
+        put_green(&mut self.queue, count + 1, a)
+    }
+}
+
+// the action is one more of those that are newly known, where it wasn't known
+fn note_unknown(
+    alloc: Global,
+    queue: &Known,
+    known: &mut Actions,
+    a: &Action,
+) -> Result<(), NoMemory>
+    requires { IsAction a.now }
+    ensures { OnOk result (known.new ≡ known.old ++ unknown_in queue.now a.now) }
+{
+    if queue.red_cut().get(a.id.creator) < a.id.index {
+        known.push(a.copy(alloc)?)?;
+    }
+    Ok(())
+}
+
+pub(crate) fn drop_owed(owed: &mut Waiting<ActionId>, id: &ActionId)
+    ensures { owed.new ≡ after_owed owed.old id.now }
+{
+    if is_owed(owed, id) {
+        owed.drop_first();
+    }
+}
+
+fn answer_to(db: &Entries, kind: &Kind) -> Result<Option<Answer>, NoMemory>
+    ensures { IfOk result (λ found. found ≡ option_map (answer db.now) (query_of kind.now)) }
+{
+    match kind {
+        Kind::Update { query, .. } => match query {
+            Some(query) => {
+                let found = db.answer(query)?;
+                Ok(Some(found))
+            }
+            None => Ok(None),
+        },
+        Kind::Join(..) => Ok(None),
+        Kind::Leave(_) => Ok(None),
+    }
+}
+
+// the reply is given where it is owed
+fn reply(
+    db: &Entries,
+    owed: &mut Waiting<ActionId>,
+    replies: &mut Row<Reply>,
+    a: &Action,
+    effect: Effect,
+) -> Result<(), NoMemory>
+    ensures owed { OnOk result (owed.new ≡ after_owed owed.old a.now.id) }
+    ensures replies { OnOk result (replies.new ≡ replies.old ++ given_to owed.old a.now (record { db = db.now; effect = effect })) }
+{
+    let id = name_of(a);
+    if is_owed(owed, &id) {
+        let answer = answer_to(db, &a.kind)?;
+        replies.push(Reply { id, effect, answer })?;
+    }
+    drop_owed(owed, &id);
+    Ok(())
+}
+
+pub(crate) fn put_green(queue: &mut Known, at: u64, a: Action) -> Result<(), NoMemory>
+    requires action { IsAction a }
+    requires place { at ≡ suc (green_count queue.old) }
+    requires few { green_count queue.old < 2 ^ 62 }
+    requires next { a.id.index ≡ suc (index_in queue.old.green_cut a.id.creator) }
+    ensures { OnOk result (queue.new ≡ placed_green queue.old a) }
+{
+    match queue.mark_green(at, a) {
+        Ok(_) => Ok(()),
+        Err(_) => Err(NoMemory),
+    }
+}

@@ -1,0 +1,119 @@
+//! The own actions that weren't delivered yet.
+ghost use Rattle.std.specs.Prelude.{◌≡◌, ◌<◌, ◌∷◌, ◌++◌, ◌-◌, [], suc, drop, length, slice_get, OnOk, IfOk, IfSome};
+ghost use Rattle.std.specs.Option.{option_copied};
+ghost use Rattle.cg_base.specs.Text.{is_nil};
+ghost use Rattle.cg_action.specs.Limits.{IsAction};
+ghost use Rattle.cg_queue.specs.Queue.{names_of};
+ghost use Rattle.cg_records.specs.Limits.{Each};
+
+use crate::waiting::Waiting;
+use cg_action::Action;
+use cg_base::{IdList, NoMemory, Row};
+use std::alloc::Global;
+use std::collections::VecDeque;
+use std::marker::Model;
+
+/// Actions that wait. Clauses see the list of them; each is within the limits of an action.
+#[derive(Drop)]
+pub(crate) struct Own {
+    actions: Waiting<Action>,
+}
+
+impl Model for Own {
+    ghost use Rattle.std.specs.Prelude.{List};
+    ghost use Rattle.cg_action.specs.declared.action.Action.{Action};
+    ghost use Rattle.cg_action.specs.Limits.{IsAction};
+    ghost use Rattle.cg_records.specs.Limits.{Each};
+
+    ghost Value = { List Action };
+
+    ghost view = { λ o. o.actions };
+
+    ghost invariant = { λ o. Each IsAction o.actions };
+}
+
+impl Own {
+    pub(crate) fn new(alloc: Global) -> Own
+        ensures { result ≡ [] }
+    {
+        Own {
+            actions: Waiting::new(alloc),
+        }
+    }
+
+    pub(crate) fn push(&mut self, a: Action) -> Result<(), NoMemory>
+        requires { IsAction a }
+        ensures { OnOk result (self.new ≡ self.old ++ a ∷ []) }
+    {
+        self.actions.push(a)
+    }
+
+    pub(crate) fn first(&self) -> Option<&Action>
+        ensures { option_copied result ≡ slice_get self.now 0 }
+    {
+        self.actions.first()
+    }
+
+    pub(crate) fn last(&self) -> Option<&Action>
+        ensures { option_copied result ≡ slice_get self.now (length self.now - 1) }
+    {
+        self.actions.last()
+    }
+
+    /// The action at a place, counted from 0.
+    pub(crate) fn get(&self, i: usize) -> Option<&Action>
+        ensures value { option_copied result ≡ slice_get self.now i }
+        ensures action { IfSome (slice_get self.now i) IsAction }
+        ensures each { Each IsAction self.now }
+    {
+        self.actions.get(i)
+    }
+
+    pub(crate) fn len(&self) -> usize
+        ensures { result ≡ length self.now }
+    {
+        self.actions.len()
+    }
+
+    /// The names of the actions.
+    pub(crate) fn names(&self, alloc: Global) -> Result<IdList, NoMemory>
+        ensures { IfOk result (λ ids. ids ≡ names_of self.now) }
+    {
+        let mut ids = Row::new(alloc);
+        for i in 0..self.len() {
+            self.push_name(i, &mut ids)?;
+        }
+        Ok(ids)
+    }
+
+    fn push_name(&self, i: usize, ids: &mut IdList) -> Result<(), NoMemory>
+        requires { i < length self.now }
+        ensures { OnOk result (ids.new ++ names_of (drop (suc i) self.now) ≡ ids.old ++ names_of (drop i self.now)) }
+    {
+        match self.get(i) {
+            Some(a) => ids.push(a.id),
+            None => Ok(()),
+        }
+    }
+
+    pub(crate) fn is_empty(&self) -> bool
+        ensures { result ≡ is_nil self.now }
+    {
+        self.actions.is_empty()
+    }
+
+    pub(crate) fn drop_first(&mut self)
+        ensures { self.new ≡ drop 1 self.old }
+    {
+        self.actions.drop_first();
+    }
+
+    /// The actions themselves. It takes no memory.
+    pub(crate) fn into_actions(self) -> VecDeque<Action>
+        ensures value { result.items ≡ self }
+        ensures each { Each IsAction self }
+    {
+        let Own { actions } = self;
+        actions.into_deque()
+    }
+}

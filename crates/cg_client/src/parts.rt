@@ -1,0 +1,17 @@
+use cg_action::ActionList;
+use cg_base::{IdList, Row};
+use cg_report::Reply;
+use cg_wire::Msg;
+
+/// What an event has brought about: the actions newly known, in the order of their marks; the names newly green, in
+/// order; the actions made; the messages to be sent; the replies to be given; and whether own actions that weren't
+/// delivered became red.
+#[derive(Drop)]
+pub struct DraftParts {
+    pub known: ActionList,
+    pub green: IdList,
+    pub made: ActionList,
+    pub sent: Row<Msg>,
+    pub replies: Row<Reply>,
+    pub marked_own: bool,
+}

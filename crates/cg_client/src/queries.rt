@@ -1,0 +1,108 @@
+//! Queries that aren't ordered, and what a replica shows of itself.
+ghost use Rattle.std.specs.Prelude.{◌≡◌, ◌++◌, ◌∷◌, [], fold, filter, not, OnOk, IfOk};
+ghost use Rattle.cg_base.specs.Ids.{names};
+ghost use Rattle.cg_action.specs.Limits.{IsAction};
+ghost use Rattle.cg_records.specs.Limits.{Each};
+ghost use Rattle.cg_queue.specs.Queue.{names_of};
+ghost use Rattle.cg_client.specs.Queries.{weak_answer, dirty_answer, behind, plain_reds, view_of};
+
+use crate::Core;
+use crate::actions::Actions;
+use crate::entries::Entries;
+use crate::install::actions_named;
+use crate::known::Known;
+use crate::marks::name_of;
+use cg_action::{Action, Query};
+use cg_base::{IdList, NoMemory, Row};
+use cg_db::Answer;
+use cg_records::Yellow;
+use cg_report::View;
+use std::alloc::Global;
+
+impl Core {
+    /// What the greens answer.
+    pub fn weak(&self, q: &Query) -> Result<Answer, NoMemory>
+        ensures { IfOk result (λ found. found ≡ weak_answer self.now q.now) }
+    {
+        self.db.answer(q)
+    }
+
+    /// What all actions that the replica knows answer. It works on a copy of the database.
+    pub fn dirty(&self, q: &Query) -> Result<Answer, NoMemory>
+        ensures { IfOk result (λ found. found ≡ dirty_answer self.now q.now) }
+    {
+        let yellow = self.queue.yellow()?;
+        let mut actions = actions_named(self.alloc, &self.queue, yellow.as_slice())?;
+        add_plain_reds(&self.queue, &mut actions)?;
+        let mut db = self.db.copy()?;
+        apply_all(&mut db, actions)?;
+        db.answer(q)
+    }
+
+    /// What its line shows.
+    #[tactic(auto, unfolding(crate::specs::Queries::view_of))]
+    pub fn view(&self) -> Result<View, NoMemory>
+        ensures { IfOk result (λ v. v ≡ view_of self.now) }
+    {
+        let list = self.queue.yellow()?;
+        let mut reds = Actions::new(self.alloc);
+        add_plain_reds(&self.queue, &mut reds)?;
+        Ok(View {
+            green_count: self.queue.green_count(),
+            white_count: self.queue.white_count(),
+            prim: self.standing.prim(),
+            attempt_index: self.standing.attempt_index(),
+            vulnerable: self.standing.vulnerable(),
+            reds: names_of(self.alloc, reds.list().as_slice())?,
+            yellow: Yellow {
+                valid: self.yellow_valid,
+                list,
+            },
+            own: self.own.names(self.alloc)?,
+            left: self.members.left(),
+            buffered: self.buffered.len() as u64,
+        })
+    }
+}
+
+// the reds whose names aren't yellow come behind the others, by name
+fn add_plain_reds(queue: &Known, list: &mut Actions) -> Result<(), NoMemory>
+    ensures { OnOk result (list.new ≡ list.old ++ plain_reds queue.now) }
+{
+    let reds = queue.reds()?;
+    for a in reds.into_vec() {
+        push_plain(queue, a, list)?;
+    }
+    Ok(())
+}
+
+fn push_plain(queue: &Known, a: Action, list: &mut Actions) -> Result<(), NoMemory>
+    requires { IsAction a }
+    ensures { OnOk result (list.new ≡ list.old ++ filter (λ a. not (names queue.now.yellow a.id)) (a ∷ [])) }
+{
+    if queue.is_yellow(name_of(&a)) {
+        return Ok(());
+    }
+    list.push(a)
+}
+
+// the database behind these actions
+fn apply_all(db: &mut Entries, actions: Actions) -> Result<(), NoMemory>
+    ensures { OnOk result (db.new ≡ behind db.old actions) }
+{
+    for a in actions.into_list().into_vec() {
+        let _ = db.apply(&a)?;
+    }
+    Ok(())
+}
+
+/// The names of these actions.
+pub(crate) fn names_of(alloc: Global, actions: &[Action]) -> Result<IdList, NoMemory>
+    ensures { IfOk result (λ ids. ids ≡ names_of actions.now) }
+{
+    let mut ids = Row::new(alloc);
+    for a in actions {
+        ids.push(a.id)?;
+    }
+    Ok(ids)
+}

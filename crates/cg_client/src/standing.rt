@@ -1,0 +1,125 @@
+ghost use Rattle.std.specs.Prelude.{◌≡◌, ◌<◌, ◌^◌, IsTrue, None, IfOk};
+ghost use Rattle.cg_records.specs.Limits.{IsNumber, IsPrimary, IsMaybeVulnerable};
+
+use cg_base::{NoMemory, WeightSet};
+use cg_records::{Primary, Vulnerable};
+use std::marker::Model;
+
+/// What is known of primary components: the last one, how many attempts there were since, and the record of an attempt
+/// that others may have installed. Its numbers are below 2 ^ 63.
+#[derive(Drop)]
+pub(crate) struct Standing {
+    prim: Primary,
+    attempt_index: u64,
+    vulnerable: Option<Vulnerable>,
+}
+
+impl Model for Standing {
+    ghost use Rattle.cg_client.specs.Standing.{StandingView, IsStanding};
+
+    ghost Value = { StandingView };
+
+    ghost view = { λ s. record { prim = s.prim; attempt_index = s.attempt_index; vulnerable = s.vulnerable } };
+
+    ghost invariant = { λ s. IsStanding (record { prim = s.prim; attempt_index = s.attempt_index; vulnerable = s.vulnerable }) };
+}
+
+pub(crate) fn is_number(n: u64) -> bool
+    ensures { IsTrue result → IsNumber n }
+{
+    n < LIMIT
+}
+
+fn is_prim(prim: &Primary) -> bool
+    ensures { IsTrue result → IsPrimary prim.now }
+{
+    // its clause says that the members are a set with weights
+    let _members = prim.set.iter();
+    is_number(prim.index) && is_number(prim.conf)
+}
+
+fn is_record(v: &Option<Vulnerable>) -> bool
+    ensures { IsTrue result → IsMaybeVulnerable v.now }
+{
+    match v {
+        None => true,
+        Some(v) => {
+            // their clauses say that these are sets
+            let _set = v.set.count();
+            let _bits = v.bits.count();
+            is_number(v.attempt) && is_number(v.from)
+        }
+    }
+}
+
+// numbers from here on have no bytes
+const LIMIT: u64 = 9223372036854775808;
+
+impl Standing {
+    /// Before the first primary component: these are its members.
+    pub(crate) fn start(set: WeightSet) -> Standing
+        ensures { result ≡ record { prim = record { index = 0; conf = 0; set = set }; attempt_index = 0; vulnerable = None } }
+    {
+        let _members = set.iter();
+        Standing {
+            prim: Primary {
+                index: 0,
+                conf: 0,
+                set,
+            },
+            attempt_index: 0,
+            vulnerable: None,
+        }
+    }
+
+    /// It takes no memory. A number too great for its bytes is refused.
+    pub(crate) fn of(
+        prim: Primary,
+        attempt_index: u64,
+        vulnerable: Option<Vulnerable>,
+    ) -> Result<Standing, NoMemory>
+        ensures { IfOk result (λ s. s ≡ record { prim = prim; attempt_index = attempt_index; vulnerable = vulnerable }) }
+    {
+        if !is_prim(&prim) {
+            return Err(NoMemory);
+        }
+        if !is_number(attempt_index) {
+            return Err(NoMemory);
+        }
+        if !is_record(&vulnerable) {
+            return Err(NoMemory);
+        }
+        Ok(Standing {
+            prim,
+            attempt_index,
+            vulnerable,
+        })
+    }
+
+    pub(crate) fn prim(&self) -> Primary
+        ensures value { result ≡ self.now.prim }
+        ensures limits { IsPrimary self.now.prim }
+    {
+        self.prim
+    }
+
+    pub(crate) fn attempt_index(&self) -> u64
+        ensures value { result ≡ self.now.attempt_index }
+        ensures limits { IsNumber self.now.attempt_index }
+    {
+        self.attempt_index
+    }
+
+    pub(crate) fn vulnerable(&self) -> Option<Vulnerable>
+        ensures value { result ≡ self.now.vulnerable }
+        ensures limits { IsMaybeVulnerable self.now.vulnerable }
+    {
+        self.vulnerable
+    }
+
+    pub(crate) fn forget_record(&mut self)
+        ensures { self.new ≡ record self.old { vulnerable = None } }
+    {
+        self.vulnerable = None;
+    }
+}

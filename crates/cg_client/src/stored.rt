@@ -1,0 +1,164 @@
+//! What a store rebuilds and changes: a replica from the parts of a checkpoint, and each part of a change.
+ghost use Rattle.std.specs.Prelude.{◌≡◌, ◌≤◌, ◌<◌, ◌^◌, ◌++◌, ◌∷◌, [], suc, max, false, OnOk, IfOk};
+ghost use Rattle.std.specs.Option.{unwrap_or};
+ghost use Rattle.cg_base.specs.Cuts.{index_in};
+ghost use Rattle.cg_action.specs.Limits.{IsAction};
+ghost use Rattle.cg_db.specs.Limits.{AreEntries};
+ghost use Rattle.cg_records.specs.Limits.{Each, IsIndex, IsNumber, IsStable};
+ghost use Rattle.cg_queue.specs.Queue.{resumed, placed_red, placed_green, discarded, green_count};
+ghost use Rattle.cg_members.specs.Servers.{white_line};
+ghost use Rattle.cg_client.specs.Marks.{after_first, with_green};
+ghost use Rattle.cg_client.specs.Replica.{created, yellow_of};
+
+use crate::Core;
+use crate::entries::Entries;
+use crate::held::MOST;
+use crate::known::Known;
+use crate::marks::{drop_owed, drop_own, name_of, put_green};
+use crate::own::Own;
+use crate::servers::Servers;
+use crate::standing::{Standing, is_number};
+use crate::telling::LONG;
+use crate::waiting::Waiting;
+use cg_action::Action;
+use cg_base::{Cut, NoMemory, ReplicaId, Row};
+use cg_db::Db;
+use cg_members::Members;
+use cg_records::{Primary, Stable, Vulnerable, Yellow};
+use std::alloc::Global;
+
+impl Core {
+    /// What a replica holds that knows no action but those that were discarded: so many greens, of each creator those up
+    /// to the cut. The database and the members are what all greens have made of them, those still to be put among them.
+    /// A number of the primary component or of the record that has no bytes is refused.
+    pub fn stored(
+        alloc: Global,
+        id: ReplicaId,
+        white: u64,
+        cut: Cut,
+        db: Db,
+        members: Members,
+        prim: Primary,
+        attempt_index: u64,
+        vulnerable: Option<Vulnerable>,
+    ) -> Result<Core, NoMemory>
+        requires white { white ≤ 2 ^ 62 }
+        requires cut { Each (λ top. IsIndex top.index) cut }
+        requires db { AreEntries db }
+        requires lines { Each (λ server. IsNumber server.line) members.servers }
+        ensures { IfOk result (λ core. core ≡ record { id = id; queue = resumed white cut; yellow_valid = false; own = []; db = db; members = members; prim = prim; attempt_index = attempt_index; vulnerable = vulnerable; buffered = []; owed = [] }) }
+    {
+        Ok(Core {
+            id,
+            queue: Known::resume(alloc, white, cut),
+            yellow_valid: false,
+            own: Own::new(alloc),
+            db: Entries::of(db),
+            members: Servers::of(members),
+            standing: Standing::of(prim, attempt_index, vulnerable)?,
+            buffered: Row::new(alloc),
+            owed: Waiting::new(alloc),
+            alloc,
+        })
+    }
+
+    /// Puts a kept green action behind those that stand; the database and the members have it already.
+    pub fn put_green(&mut self, a: Action) -> Result<(), NoMemory>
+        requires action { IsAction a }
+        requires next { a.id.index ≡ suc (index_in self.old.queue.green_cut a.id.creator) }
+        ensures { OnOk result (self.new ≡ record self.old { queue = placed_green self.old.queue a }) }
+    {
+        let count = self.queue.green_count();
+        if count >= MOST {
+            return Err(NoMemory);
+        }
+        put_green(&mut self.queue, count + 1, a)
+    }
+
+    /// An action becomes known as red, the next of its creator. Where it is the first own one, it is waited for no more.
+    pub fn know(&mut self, a: Action) -> Result<(), NoMemory>
+        requires action { IsAction a }
+        requires next { a.id.index ≡ suc (index_in self.old.queue.red_cut a.id.creator) }
+        ensures { OnOk result (self.new ≡ record self.old { queue = placed_red self.old.queue a; own = after_first self.old.own a.id }) }
+    {
+        let id = name_of(&a);
+        drop_own(&mut self.own, &id);
+        put_red(&mut self.queue, a)
+    }
+
+    /// An action becomes green at the next place, the next green one of its creator; no reply is given.
+    pub fn turn_green(&mut self, a: Action) -> Result<(), NoMemory>
+        requires action { IsAction a }
+        requires next { a.id.index ≡ suc (index_in self.old.queue.green_cut a.id.creator) }
+        ensures { OnOk result (self.new ≡ with_green self.old a) }
+    {
+        let count = self.queue.green_count();
+        if count >= MOST {
+            return Err(NoMemory);
+        }
+        let id = name_of(&a);
+        let _ = self.db.apply(&a)?;
+        drop_owed(&mut self.owed, &id);
+        drop_own(&mut self.own, &id);
+        self.members.note_green(count + 1, &a);
+        put_green(&mut self.queue, count + 1, a)
+    }
+
+    /// The action is one more of the replica's own, which wasn't delivered yet; no reply is owed.
+    pub fn make(&mut self, a: Action) -> Result<(), NoMemory>
+        requires { IsAction a }
+        ensures { OnOk result (self.new ≡ record self.old { own = self.old.own ++ a ∷ [] }) }
+    {
+        self.own.push(a)
+    }
+
+    /// The white count rises to the white line, where that is greater, and the greens up to it are discarded.
+    pub fn whiten(&mut self) -> Result<(), NoMemory>
+        ensures { OnOk result (self.new ≡ record self.old { queue = discarded self.old.queue (max self.old.queue.white (unwrap_or (white_line self.old.members) 0)) }) }
+    {
+        let white = self.queue.white_count();
+        let line = self.members.white_line().unwrap_or(0).max(white);
+        // no line is above the green count
+        if line > self.queue.green_count() {
+            return Err(NoMemory);
+        }
+        self.queue.discard_white(line);
+        Ok(())
+    }
+
+    /// What stands in each record of a commit.
+    pub fn stable(&self) -> Result<Stable, NoMemory>
+        ensures value { IfOk result (λ s. s ≡ record { prim = self.now.prim; attempt_index = self.now.attempt_index; vulnerable = self.now.vulnerable; yellow = yellow_of self.now; created = created self.now }) }
+        ensures limits { IfOk result IsStable }
+    {
+        let list = self.queue.yellow()?;
+        if list.len() >= LONG {
+            return Err(NoMemory);
+        }
+        let created = self.last_created();
+        if !is_number(created) {
+            return Err(NoMemory);
+        }
+        Ok(Stable {
+            prim: self.standing.prim(),
+            attempt_index: self.standing.attempt_index(),
+            vulnerable: self.standing.vulnerable(),
+            yellow: Yellow {
+                valid: self.yellow_valid,
+                list,
+            },
+            created,
+        })
+    }
+}
+
+fn put_red(queue: &mut Known, a: Action) -> Result<(), NoMemory>
+    requires action { IsAction a }
+    requires next { a.id.index ≡ suc (index_in queue.old.red_cut a.id.creator) }
+    ensures { OnOk result (queue.new ≡ placed_red queue.old a) }
+{
+    match queue.mark_red(a) {
+        Ok(_) => Ok(()),
+        Err(_) => Err(NoMemory),
+    }
+}
