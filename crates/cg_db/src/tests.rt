@@ -1,290 +1,233 @@
+//! Scenarios as texts: an action, what comes of it, and the database behind it.
+//!
+//! Keys stand bare and texts between quotes; `by` stands in front of what is added or moved.
+
 use super::*;
-use cg_action::{Query, Value, decode};
-use cg_text::{Txt, put_i64, put_quoted};
+use cg_action::{Query, decode, print_value};
+use cg_base::{put, put_number};
+use cg_codec::put_u32;
+use cg_text::{Txt, put_i64, put_quoted, read_i64};
 use std::alloc::Global;
 use std::test::Fail;
 
-// the front of an action, up to the tag of what it does
+// 1:1 with green line 0, up to the tag of what it does
 const NAMED: &[u8; 17] = b"\x01\0\0\0\0\0\0\0\x01\0\0\0\0\0\0\0\0";
 
-// puts "v" at "t", 5 at "n", the least number at "l" and the greatest at "h"
-const FOUR: &[u8] =
-    b"\x01\0\0\0\x04\x01\0\0\0\x01t\x01\0\0\0\x01v\x01\0\0\0\x01n\x02\0\0\0\0\0\0\0\x05\x01\0\0\0\x01l\x02\x80\0\0\0\0\0\0\0\x01\0\0\0\x01h\x02\x7f\xff\xff\xff\xff\xff\xff\xff\0";
+// the words of the commands, with their tags
+const COMMANDS: [(&str, u8); 6] = [
+    ("put", 1),
+    ("del", 2),
+    ("inc", 3),
+    ("cas", 4),
+    ("move", 5),
+    ("need", 6),
+];
 
-// puts "b", "ab", "a", "\u{e9}" and "aba", and takes "b" out
-const FIVE: &[u8] =
-    b"\x01\0\0\0\x06\x01\0\0\0\x01b\x02\0\0\0\0\0\0\0\x01\x01\0\0\0\x02ab\x02\0\0\0\0\0\0\0\x02\x01\0\0\0\x01a\x02\0\0\0\0\0\0\0\x03\x01\0\0\0\x02\xc3\xa9\x02\0\0\0\0\0\0\0\x04\x01\0\0\0\x03aba\x02\0\0\0\0\0\0\0\x05\x02\0\0\0\x01b\0";
+// what stands in the database before each line of EFFECTS
+const START: &str =
+    r#"put t "v" ; put n 5 ; put l -9223372036854775808 ; put h 9223372036854775807"#;
 
-fn run(alloc: Global, db: &mut Db, what: &[u8]) -> Result<Effect, Fail> {
+const EFFECTS: &str = r#"put n "w" -> done h=9223372036854775807 l=-9223372036854775808 n="w" t="v"
+put q 1 -> done h=9223372036854775807 l=-9223372036854775808 n=5 q=1 t="v"
+del n -> done h=9223372036854775807 l=-9223372036854775808 t="v"
+del q -> done h=9223372036854775807 l=-9223372036854775808 n=5 t="v"
+inc n by 3 -> done h=9223372036854775807 l=-9223372036854775808 n=8 t="v"
+inc q by 3 -> done h=9223372036854775807 l=-9223372036854775808 n=5 q=3 t="v"
+inc q by 0 -> done h=9223372036854775807 l=-9223372036854775808 n=5 q=0 t="v"
+inc t by 0 -> aborted 1 h=9223372036854775807 l=-9223372036854775808 n=5 t="v"
+inc h by 1 -> range 1 h=9223372036854775807 l=-9223372036854775808 n=5 t="v"
+inc l by -1 -> range 1 h=9223372036854775807 l=-9223372036854775808 n=5 t="v"
+inc h by -9223372036854775808 -> done h=-1 l=-9223372036854775808 n=5 t="v"
+cas n 5 "w" -> done h=9223372036854775807 l=-9223372036854775808 n="w" t="v"
+cas n 6 "w" -> done h=9223372036854775807 l=-9223372036854775808 n=5 t="v"
+cas n "5" "w" -> done h=9223372036854775807 l=-9223372036854775808 n=5 t="v"
+cas n absent 1 -> done h=9223372036854775807 l=-9223372036854775808 n=5 t="v"
+cas q absent 1 -> done h=9223372036854775807 l=-9223372036854775808 n=5 q=1 t="v"
+cas q 1 2 -> done h=9223372036854775807 l=-9223372036854775808 n=5 t="v"
+cas t "v" 2 -> done h=9223372036854775807 l=-9223372036854775808 n=5 t=2
+move n q by 3 -> done h=9223372036854775807 l=-9223372036854775808 n=2 q=3 t="v"
+move n q by 6 -> aborted 1 h=9223372036854775807 l=-9223372036854775808 n=5 t="v"
+move t n by 0 -> aborted 1 h=9223372036854775807 l=-9223372036854775808 n=5 t="v"
+move n t by 1 -> aborted 1 h=9223372036854775807 l=-9223372036854775808 n=5 t="v"
+move n h by 1 -> range 1 h=9223372036854775807 l=-9223372036854775808 n=5 t="v"
+move l n by 0 -> aborted 1 h=9223372036854775807 l=-9223372036854775808 n=5 t="v"
+move n n by 3 -> done h=9223372036854775807 l=-9223372036854775808 n=5 t="v"
+move q q by 0 -> done h=9223372036854775807 l=-9223372036854775808 n=5 q=0 t="v"
+move q n by 0 -> done h=9223372036854775807 l=-9223372036854775808 n=5 q=0 t="v"
+move h l by 9223372036854775807 -> done h=0 l=-1 n=5 t="v"
+need n 5 -> done h=9223372036854775807 l=-9223372036854775808 n=5 t="v"
+need n 6 -> aborted 1 h=9223372036854775807 l=-9223372036854775808 n=5 t="v"
+need n absent -> aborted 1 h=9223372036854775807 l=-9223372036854775808 n=5 t="v"
+need q absent -> done h=9223372036854775807 l=-9223372036854775808 n=5 t="v"
+need q 0 -> aborted 1 h=9223372036854775807 l=-9223372036854775808 n=5 t="v"
+need t "v" -> done h=9223372036854775807 l=-9223372036854775808 n=5 t="v"
+put q 1 ; need n 6 -> aborted 2 h=9223372036854775807 l=-9223372036854775808 n=5 t="v"
+inc n by 1 ; del t ; inc h by 1 ; put q 1 -> range 3 h=9223372036854775807 l=-9223372036854775808 n=5 t="v"
+del t ; inc t by 2 ; inc t by 2 -> done h=9223372036854775807 l=-9223372036854775808 n=5 t=4"#;
+
+fn put_key(bytes: &mut Vec<u8>, key: &[u8]) -> Result<(), Fail> {
+    put_u32(bytes, u32::try_from(key.len())?)?;
+    Ok(put(bytes, key)?)
+}
+
+// a word as an action's bytes have it
+fn put_word(bytes: &mut Vec<u8>, word: &str) -> Result<(), Fail> {
+    for (command, tag) in COMMANDS {
+        if word == command {
+            return Ok(bytes.push(tag)?);
+        }
+    }
+    if word == "absent" {
+        return Ok(bytes.push(0)?);
+    }
+    match word.as_bytes() {
+        [b'"', text @ .., b'"'] => {
+            bytes.push(1)?;
+            put_key(bytes, text)
+        }
+        [b'-' | b'0'..=b'9', ..] => {
+            bytes.push(2)?;
+            Ok(cg_codec::put_i64(bytes, read_i64(word.as_bytes())?)?)
+        }
+        key => put_key(bytes, key),
+    }
+}
+
+fn put_commands(bytes: &mut Vec<u8>, commands: &str) -> Result<(), Fail> {
+    let mut is_amount = false;
+    for word in commands.split_whitespace() {
+        if is_amount {
+            cg_codec::put_i64(bytes, read_i64(word.as_bytes())?)?;
+        } else if word != "by" && word != ";" {
+            put_word(bytes, word)?;
+        }
+        is_amount = word == "by";
+    }
+    Ok(())
+}
+
+fn count_of(commands: &str) -> u32 {
+    let mut count = 1u32;
+    for byte in commands.as_bytes() {
+        if *byte == b';' {
+            count = count.saturating_add(1);
+        }
+    }
+    count
+}
+
+fn run(alloc: Global, db: &mut Db, commands: &str) -> Result<Effect, Fail> {
     let mut bytes = Vec::from_slice(alloc, NAMED)?;
-    bytes.extend_from_slice(what)?;
+    bytes.push(1)?;
+    put_u32(&mut bytes, count_of(commands))?;
+    put_commands(&mut bytes, commands)?;
+    bytes.push(0)?;
     let action = decode(alloc, bytes.as_slice())?;
     Ok(db.apply(&action)?)
 }
 
-fn shown(alloc: Global, db: &Db) -> Result<Vec<u8>, Fail> {
-    let mut out = Vec::new(alloc);
-    for entry in db.entries()?.as_slice() {
-        put_quoted(&mut out, &entry.key)?;
-        out.push(b'=')?;
-        match &entry.value {
-            Value::Text(text) => put_quoted(&mut out, text)?,
-            Value::Int(number) => put_i64(&mut out, *number)?,
+fn put_effect(out: &mut Vec<u8>, effect: Effect) -> Result<(), Fail> {
+    match effect {
+        Effect::Done => Ok(put(out, b"done")?),
+        Effect::Aborted(place) => {
+            put(out, b"aborted ")?;
+            Ok(put_number(out, u64::from(place))?)
         }
-        out.push(b' ')?;
+        Effect::Range(place) => {
+            put(out, b"range ")?;
+            Ok(put_number(out, u64::from(place))?)
+        }
     }
-    Ok(out)
 }
 
-fn keys(alloc: Global, db: &Db, prefix: &str) -> Result<Vec<u8>, Fail> {
+// the effect of the commands, and what stands in the database behind them
+fn seen(alloc: Global, db: &mut Db, commands: &str) -> Result<Vec<u8>, Fail> {
     let mut out = Vec::new(alloc);
-    if let Answer::Keys(keys) = db.answer(&Query::Keys(Txt::new(alloc, prefix)?))? {
-        for key in keys.as_slice() {
-            put_quoted(&mut out, key)?;
-        }
+    put_effect(&mut out, run(alloc, db, commands)?)?;
+    for entry in db.entries()?.as_slice() {
+        put(&mut out, b" ")?;
+        put(&mut out, entry.key.as_str().as_bytes())?;
+        put(&mut out, b"=")?;
+        print_value(&entry.value, &mut out)?;
     }
     Ok(out)
 }
 
 #[test]
-fn every_command_and_effect(rt: HostRuntime) -> Result<(), Fail> {
+fn commands_have_their_effects(rt: HostRuntime) -> Result<(), Fail> {
     let alloc = rt.alloc();
     let mut start = Db::new(alloc);
-    assert_eq!(rt; run(alloc, &mut start, FOUR)?, Effect::Done);
-    let rows: [(&[u8], Effect, &str); 39] = [
-        (
-            b"\x01\0\0\0\x01\x01\0\0\0\x01n\x01\0\0\0\x01w\0",
-            Effect::Done,
-            "\"h\"=9223372036854775807 \"l\"=-9223372036854775808 \"n\"=\"w\" \"t\"=\"v\" ",
-        ),
-        (
-            b"\x01\0\0\0\x01\x01\0\0\0\x01q\x02\0\0\0\0\0\0\0\x01\0",
-            Effect::Done,
-            "\"h\"=9223372036854775807 \"l\"=-9223372036854775808 \"n\"=5 \"q\"=1 \"t\"=\"v\" ",
-        ),
-        (
-            b"\x01\0\0\0\x01\x02\0\0\0\x01n\0",
-            Effect::Done,
-            "\"h\"=9223372036854775807 \"l\"=-9223372036854775808 \"t\"=\"v\" ",
-        ),
-        (
-            b"\x01\0\0\0\x01\x02\0\0\0\x01q\0",
-            Effect::Done,
-            "\"h\"=9223372036854775807 \"l\"=-9223372036854775808 \"n\"=5 \"t\"=\"v\" ",
-        ),
-        (
-            b"\x01\0\0\0\x01\x03\0\0\0\x01n\0\0\0\0\0\0\0\x03\0",
-            Effect::Done,
-            "\"h\"=9223372036854775807 \"l\"=-9223372036854775808 \"n\"=8 \"t\"=\"v\" ",
-        ),
-        (
-            b"\x01\0\0\0\x01\x03\0\0\0\x01q\0\0\0\0\0\0\0\x03\0",
-            Effect::Done,
-            "\"h\"=9223372036854775807 \"l\"=-9223372036854775808 \"n\"=5 \"q\"=3 \"t\"=\"v\" ",
-        ),
-        (
-            b"\x01\0\0\0\x01\x03\0\0\0\x01q\0\0\0\0\0\0\0\0\0",
-            Effect::Done,
-            "\"h\"=9223372036854775807 \"l\"=-9223372036854775808 \"n\"=5 \"q\"=0 \"t\"=\"v\" ",
-        ),
-        (
-            b"\x01\0\0\0\x01\x03\0\0\0\x01t\0\0\0\0\0\0\0\0\0",
-            Effect::Aborted(1),
-            "\"h\"=9223372036854775807 \"l\"=-9223372036854775808 \"n\"=5 \"t\"=\"v\" ",
-        ),
-        (
-            b"\x01\0\0\0\x01\x03\0\0\0\x01h\0\0\0\0\0\0\0\x01\0",
-            Effect::Range(1),
-            "\"h\"=9223372036854775807 \"l\"=-9223372036854775808 \"n\"=5 \"t\"=\"v\" ",
-        ),
-        (
-            b"\x01\0\0\0\x01\x03\0\0\0\x01l\xff\xff\xff\xff\xff\xff\xff\xff\0",
-            Effect::Range(1),
-            "\"h\"=9223372036854775807 \"l\"=-9223372036854775808 \"n\"=5 \"t\"=\"v\" ",
-        ),
-        (
-            b"\x01\0\0\0\x01\x03\0\0\0\x01h\x80\0\0\0\0\0\0\0\0",
-            Effect::Done,
-            "\"h\"=-1 \"l\"=-9223372036854775808 \"n\"=5 \"t\"=\"v\" ",
-        ),
-        (
-            b"\x01\0\0\0\x01\x04\0\0\0\x01n\x02\0\0\0\0\0\0\0\x05\x01\0\0\0\x01w\0",
-            Effect::Done,
-            "\"h\"=9223372036854775807 \"l\"=-9223372036854775808 \"n\"=\"w\" \"t\"=\"v\" ",
-        ),
-        (
-            b"\x01\0\0\0\x01\x04\0\0\0\x01n\x02\0\0\0\0\0\0\0\x06\x01\0\0\0\x01w\0",
-            Effect::Done,
-            "\"h\"=9223372036854775807 \"l\"=-9223372036854775808 \"n\"=5 \"t\"=\"v\" ",
-        ),
-        (
-            b"\x01\0\0\0\x01\x04\0\0\0\x01n\x01\0\0\0\x015\x01\0\0\0\x01w\0",
-            Effect::Done,
-            "\"h\"=9223372036854775807 \"l\"=-9223372036854775808 \"n\"=5 \"t\"=\"v\" ",
-        ),
-        (
-            b"\x01\0\0\0\x01\x04\0\0\0\x01n\0\x02\0\0\0\0\0\0\0\x01\0",
-            Effect::Done,
-            "\"h\"=9223372036854775807 \"l\"=-9223372036854775808 \"n\"=5 \"t\"=\"v\" ",
-        ),
-        (
-            b"\x01\0\0\0\x01\x04\0\0\0\x01q\0\x02\0\0\0\0\0\0\0\x01\0",
-            Effect::Done,
-            "\"h\"=9223372036854775807 \"l\"=-9223372036854775808 \"n\"=5 \"q\"=1 \"t\"=\"v\" ",
-        ),
-        (
-            b"\x01\0\0\0\x01\x04\0\0\0\x01q\x02\0\0\0\0\0\0\0\x01\x02\0\0\0\0\0\0\0\x02\0",
-            Effect::Done,
-            "\"h\"=9223372036854775807 \"l\"=-9223372036854775808 \"n\"=5 \"t\"=\"v\" ",
-        ),
-        (
-            b"\x01\0\0\0\x01\x04\0\0\0\x01t\x01\0\0\0\x01v\x02\0\0\0\0\0\0\0\x02\0",
-            Effect::Done,
-            "\"h\"=9223372036854775807 \"l\"=-9223372036854775808 \"n\"=5 \"t\"=2 ",
-        ),
-        (
-            b"\x01\0\0\0\x01\x05\0\0\0\x01n\0\0\0\x01q\0\0\0\0\0\0\0\x03\0",
-            Effect::Done,
-            "\"h\"=9223372036854775807 \"l\"=-9223372036854775808 \"n\"=2 \"q\"=3 \"t\"=\"v\" ",
-        ),
-        (
-            b"\x01\0\0\0\x01\x05\0\0\0\x01n\0\0\0\x01q\0\0\0\0\0\0\0\x06\0",
-            Effect::Aborted(1),
-            "\"h\"=9223372036854775807 \"l\"=-9223372036854775808 \"n\"=5 \"t\"=\"v\" ",
-        ),
-        (
-            b"\x01\0\0\0\x01\x05\0\0\0\x01t\0\0\0\x01n\0\0\0\0\0\0\0\0\0",
-            Effect::Aborted(1),
-            "\"h\"=9223372036854775807 \"l\"=-9223372036854775808 \"n\"=5 \"t\"=\"v\" ",
-        ),
-        (
-            b"\x01\0\0\0\x01\x05\0\0\0\x01n\0\0\0\x01t\0\0\0\0\0\0\0\x01\0",
-            Effect::Aborted(1),
-            "\"h\"=9223372036854775807 \"l\"=-9223372036854775808 \"n\"=5 \"t\"=\"v\" ",
-        ),
-        (
-            b"\x01\0\0\0\x01\x05\0\0\0\x01n\0\0\0\x01h\0\0\0\0\0\0\0\x01\0",
-            Effect::Range(1),
-            "\"h\"=9223372036854775807 \"l\"=-9223372036854775808 \"n\"=5 \"t\"=\"v\" ",
-        ),
-        (
-            b"\x01\0\0\0\x01\x05\0\0\0\x01l\0\0\0\x01n\0\0\0\0\0\0\0\0\0",
-            Effect::Aborted(1),
-            "\"h\"=9223372036854775807 \"l\"=-9223372036854775808 \"n\"=5 \"t\"=\"v\" ",
-        ),
-        (
-            b"\x01\0\0\0\x01\x05\0\0\0\x01n\0\0\0\x01n\0\0\0\0\0\0\0\x03\0",
-            Effect::Done,
-            "\"h\"=9223372036854775807 \"l\"=-9223372036854775808 \"n\"=5 \"t\"=\"v\" ",
-        ),
-        (
-            b"\x01\0\0\0\x01\x05\0\0\0\x01q\0\0\0\x01q\0\0\0\0\0\0\0\0\0",
-            Effect::Done,
-            "\"h\"=9223372036854775807 \"l\"=-9223372036854775808 \"n\"=5 \"q\"=0 \"t\"=\"v\" ",
-        ),
-        (
-            b"\x01\0\0\0\x01\x05\0\0\0\x01q\0\0\0\x01n\0\0\0\0\0\0\0\0\0",
-            Effect::Done,
-            "\"h\"=9223372036854775807 \"l\"=-9223372036854775808 \"n\"=5 \"q\"=0 \"t\"=\"v\" ",
-        ),
-        (
-            b"\x01\0\0\0\x01\x05\0\0\0\x01h\0\0\0\x01l\x7f\xff\xff\xff\xff\xff\xff\xff\0",
-            Effect::Done,
-            "\"h\"=0 \"l\"=-1 \"n\"=5 \"t\"=\"v\" ",
-        ),
-        (
-            b"\x01\0\0\0\x01\x06\0\0\0\x01n\x02\0\0\0\0\0\0\0\x05\0",
-            Effect::Done,
-            "\"h\"=9223372036854775807 \"l\"=-9223372036854775808 \"n\"=5 \"t\"=\"v\" ",
-        ),
-        (
-            b"\x01\0\0\0\x01\x06\0\0\0\x01n\x02\0\0\0\0\0\0\0\x06\0",
-            Effect::Aborted(1),
-            "\"h\"=9223372036854775807 \"l\"=-9223372036854775808 \"n\"=5 \"t\"=\"v\" ",
-        ),
-        (
-            b"\x01\0\0\0\x01\x06\0\0\0\x01n\0\0",
-            Effect::Aborted(1),
-            "\"h\"=9223372036854775807 \"l\"=-9223372036854775808 \"n\"=5 \"t\"=\"v\" ",
-        ),
-        (
-            b"\x01\0\0\0\x01\x06\0\0\0\x01q\0\0",
-            Effect::Done,
-            "\"h\"=9223372036854775807 \"l\"=-9223372036854775808 \"n\"=5 \"t\"=\"v\" ",
-        ),
-        (
-            b"\x01\0\0\0\x01\x06\0\0\0\x01q\x02\0\0\0\0\0\0\0\0\0",
-            Effect::Aborted(1),
-            "\"h\"=9223372036854775807 \"l\"=-9223372036854775808 \"n\"=5 \"t\"=\"v\" ",
-        ),
-        (
-            b"\x01\0\0\0\x01\x06\0\0\0\x01t\x01\0\0\0\x01v\0",
-            Effect::Done,
-            "\"h\"=9223372036854775807 \"l\"=-9223372036854775808 \"n\"=5 \"t\"=\"v\" ",
-        ),
-        (
-            b"\x01\0\0\0\x02\x01\0\0\0\x01q\x02\0\0\0\0\0\0\0\x01\x06\0\0\0\x01n\x02\0\0\0\0\0\0\0\x06\0",
-            Effect::Aborted(2),
-            "\"h\"=9223372036854775807 \"l\"=-9223372036854775808 \"n\"=5 \"t\"=\"v\" ",
-        ),
-        (
-            b"\x01\0\0\0\x04\x03\0\0\0\x01n\0\0\0\0\0\0\0\x01\x02\0\0\0\x01t\x03\0\0\0\x01h\0\0\0\0\0\0\0\x01\x01\0\0\0\x01q\x02\0\0\0\0\0\0\0\x01\0",
-            Effect::Range(3),
-            "\"h\"=9223372036854775807 \"l\"=-9223372036854775808 \"n\"=5 \"t\"=\"v\" ",
-        ),
-        (
-            b"\x01\0\0\0\x03\x02\0\0\0\x01t\x03\0\0\0\x01t\0\0\0\0\0\0\0\x02\x03\0\0\0\x01t\0\0\0\0\0\0\0\x02\0",
-            Effect::Done,
-            "\"h\"=9223372036854775807 \"l\"=-9223372036854775808 \"n\"=5 \"t\"=4 ",
-        ),
-        (
-            b"\x02\x05",
-            Effect::Done,
-            "\"h\"=9223372036854775807 \"l\"=-9223372036854775808 \"n\"=5 \"t\"=\"v\" ",
-        ),
-        (
-            b"\x03\x05",
-            Effect::Done,
-            "\"h\"=9223372036854775807 \"l\"=-9223372036854775808 \"n\"=5 \"t\"=\"v\" ",
-        ),
-    ];
-    for (what, effect, entries) in rows {
+    assert_eq!(rt; run(alloc, &mut start, START)?, Effect::Done);
+    for line in EFFECTS.lines() {
+        let (commands, expected) = line.split_once(" -> ").ok_or("no arrow")?;
         let mut db = start.copy()?;
-        assert_eq!(rt; run(alloc, &mut db, what)?, effect, "{what:?}");
-        assert_eq!(rt;
-            shown(alloc, &db)?.as_slice(),
-            entries.as_bytes(),
-            "{what:?}"
-        );
+        let out = seen(alloc, &mut db, commands)?;
+        assert_eq!(rt; out.as_slice(), expected.as_bytes(), "{line}");
     }
     Ok(())
 }
 
 #[test]
-fn queries(rt: HostRuntime) -> Result<(), Fail> {
+fn a_join_and_a_leave_change_nothing(rt: HostRuntime) -> Result<(), Fail> {
     let alloc = rt.alloc();
     let mut db = Db::new(alloc);
-    run(alloc, &mut db, FIVE)?;
-    match db.answer(&Query::Count)? {
-        Answer::Count(count) => assert_eq!(rt; count, 4),
-        _ => assert!(rt; false, "count"),
+    run(alloc, &mut db, "put n 5")?;
+    for tag in [2, 3] {
+        let mut bytes = Vec::from_slice(alloc, NAMED)?;
+        bytes.extend_from_slice(&[tag, 5])?;
+        let action = decode(alloc, bytes.as_slice())?;
+        assert_eq!(rt; db.apply(&action)?, Effect::Done);
+        assert_eq!(rt; db.entries()?.len(), 1);
     }
-    match db.answer(&Query::Get(Txt::new(alloc, "ab")?))? {
-        Answer::Int(number) => assert_eq!(rt; number, 2),
-        _ => assert!(rt; false, "get"),
+    Ok(())
+}
+
+const ENTRIES: &str = "put b 1 ; put ab 2 ; put a 3 ; put \u{e9} 4 ; put aba 5 ; del b";
+
+const FOUND: &str = "count -> 4
+get ab -> 2
+get b -> absent
+keys  -> keys a ab aba \u{e9}
+keys ab -> keys ab aba
+keys abc -> keys";
+
+fn query_of(alloc: Global, text: &str) -> Result<Query, Fail> {
+    if let Some(key) = text.strip_prefix("get ") {
+        return Ok(Query::Get(Txt::new(alloc, key)?));
     }
-    match db.answer(&Query::Get(Txt::new(alloc, "b")?))? {
-        Answer::Absent => {}
-        _ => assert!(rt; false, "get of an absent key"),
+    if let Some(prefix) = text.strip_prefix("keys ") {
+        return Ok(Query::Keys(Txt::new(alloc, prefix)?));
     }
-    assert_eq!(rt;
-        keys(alloc, &db, "")?.as_slice(),
-        "\"a\"\"ab\"\"aba\"\"\u{e9}\"".as_bytes()
-    );
-    assert_eq!(rt;
-        keys(alloc, &db, "ab")?.as_slice(),
-        "\"ab\"\"aba\"".as_bytes()
-    );
-    assert_eq!(rt; keys(alloc, &db, "abc")?.as_slice(), "".as_bytes());
+    Ok(Query::Count)
+}
+
+fn found(alloc: Global, db: &Db, query: &str) -> Result<Vec<u8>, Fail> {
+    let mut out = Vec::new(alloc);
+    match db.answer(&query_of(alloc, query)?)? {
+        Answer::Absent => put(&mut out, b"absent")?,
+        Answer::Int(number) => put_i64(&mut out, number)?,
+        Answer::Text(text) => put_quoted(&mut out, &text)?,
+        Answer::Count(count) => put_number(&mut out, count)?,
+        Answer::Keys(keys) => {
+            put(&mut out, b"keys")?;
+            for key in keys.as_slice() {
+                put(&mut out, b" ")?;
+                put(&mut out, key.as_str().as_bytes())?;
+            }
+        }
+    }
+    Ok(out)
+}
+
+#[test]
+fn queries_find_what_stands(rt: HostRuntime) -> Result<(), Fail> {
+    let alloc = rt.alloc();
+    let mut db = Db::new(alloc);
+    run(alloc, &mut db, ENTRIES)?;
+    for line in FOUND.lines() {
+        let (query, expected) = line.split_once(" -> ").ok_or("no arrow")?;
+        let out = found(alloc, &db, query)?;
+        assert_eq!(rt; out.as_slice(), expected.as_bytes(), "{line}");
+    }
     Ok(())
 }

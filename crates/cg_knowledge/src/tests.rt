@@ -1,528 +1,338 @@
+//! Verdicts worked by hand, as texts: what a case shows, a line for each summary, and the verdict.
+//!
+//! A summary is its member with what it tells: its primary component as index, configuration and members; the attempt
+//! index; the record as attempt, from, members and bits; the yellow list, which is valid but for `invalid`; how many
+//! actions are green, and how far those of a creator are; who left. What isn't written is 0 or empty. Behind the arrow
+//! stand the bits of each summary's record, where it stays.
+
 use crate::{Summary, Verdict, decide};
-use cg_base::{ActionId, Cut, IdList, IdSet, NoMemory, ReplicaId, WeightSet};
+use cg_base::{
+    ActionId, Cut, IdList, IdSet, NoMemory, ReplicaId, WeightSet, put, put_id_list, put_number,
+    put_set, put_weight_set,
+};
 use cg_records::{Primary, Vulnerable, Yellow};
 use std::alloc::Global;
 use std::test::Fail;
 
-/// Numbers stand for sets and lists by their digits: 124 is {1,2,4}, and 1122 is 1:1, 2:2. A yellow list ends in 9 where
-/// it is valid. A summary is: identifier; index, configuration and members of its primary component; attempt index;
-/// attempt, from, members and bits of its record, all 0 where it has none; yellow list; green count, green cut; left.
-/// An identifier of 0 stands for no summary.
-struct Case {
-    members: [[u64; 13]; 4],
-    /// Index, configuration and members of the primary component; attempt index; yellow list; gone; quorum.
-    verdict: [u64; 7],
-    /// The bits of each record that stays, 0 where none does.
-    records: [u64; 4],
-}
+const CASES: &str = "# two records that stay get the bits of both
+2 prim=1/1/1,2,3 record=2/1/1,2,4/2
+3 prim=1/1/1,2,3
+4 prim=1/1/1,2,3 record=2/1/1,2,4/4
+-> 1/1 {1,2,3}, attempt 0, no yellow [], gone {}, no quorum, records {2,4} none {2,4}
+# a replica alone in its set
+1 prim=0/0/1
+-> 0/0 {1}, attempt 0, no yellow [], gone {}, quorum, records none
+# more than half
+1 prim=1/1/1,2,3
+2 prim=1/1/1,2,3
+-> 1/1 {1,2,3}, attempt 0, no yellow [], gone {}, quorum, records none none
+# less than half
+3 prim=1/1/1,2,3
+-> 1/1 {1,2,3}, attempt 0, no yellow [], gone {}, no quorum, records none
+# half with the least member
+1 prim=1/1/1,2,3,4
+2 prim=1/1/1,2,3,4
+-> 1/1 {1,2,3,4}, attempt 0, no yellow [], gone {}, quorum, records none none
+# half without it
+3 prim=1/1/1,2,3,4
+4 prim=1/1/1,2,3,4
+-> 1/1 {1,2,3,4}, attempt 0, no yellow [], gone {}, no quorum, records none none
+# the lowest member of the newest has the primary component, and the greatest attempt index counts
+1 prim=1/1/1,2,3 attempt=9
+2 prim=2/5/2,3 attempt=3
+3 prim=2/6/2,3 attempt=7
+-> 2/5 {2,3}, attempt 7, no yellow [], gone {}, quorum, records none none none
+# the same in another order
+3 prim=2/6/2,3 attempt=7
+2 prim=2/5/2,3 attempt=3
+1 prim=1/1/1,2,3 attempt=9
+-> 2/5 {2,3}, attempt 7, no yellow [], gone {}, quorum, records none none none
+# of two with as many greens the lower one says who left
+1 prim=1/1/1,2 green=5
+2 prim=1/1/1,2 green=5 left=1
+-> 1/1 {1,2}, attempt 0, no yellow [], gone {}, quorum, records none none
+# one with more greens says who left
+1 prim=1/1/1,2 green=5
+2 prim=1/1/1,2 green=6 left=1
+-> 1/1 {1,2}, attempt 0, no yellow [], gone {1}, no quorum, records none none
+# those who left and are no members are passed over
+1 prim=1/1/1,2 green=3 left=3,4
+2 prim=1/1/1,2
+-> 1/1 {1,2}, attempt 0, no yellow [], gone {}, quorum, records none none
+# the only member has left
+1 prim=1/1/1,2 left=1
+-> 1/1 {1,2}, attempt 0, no yellow [], gone {1}, no quorum, records none
+# all members have left
+1 prim=1/1/1,2 green=2 left=1,2
+2 prim=1/1/1,2
+-> 1/1 {1,2}, attempt 0, no yellow [], gone {1,2}, no quorum, records none none
+# two later primary components clear a record
+1 prim=3/9/1,2 record=2/1/1,2,3/1
+2 prim=3/9/1,2 record=2/1/1,2,3/2
+-> 3/9 {1,2}, attempt 0, no yellow [], gone {}, quorum, records none none
+# its own primary component clears none
+1 prim=2/2/1,2 record=2/1/1,2,3/1
+2 prim=2/2/1,2 record=2/1/1,2,3/2
+-> 2/2 {1,2}, attempt 0, no yellow [], gone {}, no quorum, records {1,2} {1,2}
+# that of another attempt clears it
+1 prim=2/7/1,2 record=2/1/1,2,3/1
+2 prim=2/7/1,2 record=2/1/1,2,3/2
+-> 2/7 {1,2}, attempt 0, no yellow [], gone {}, quorum, records none none
+# a member of the attempt without a record clears it
+1 prim=1/1/1,2 record=2/1/1,2/1
+2 prim=1/1/1,2
+-> 1/1 {1,2}, attempt 0, no yellow [], gone {}, quorum, records none none
+# and so does one with a record of another attempt
+1 prim=1/1/1,2 record=2/1/1,2/1
+2 prim=1/1/1,2 record=3/1/1,2/2
+-> 1/1 {1,2}, attempt 0, no yellow [], gone {}, quorum, records none none
+# one that was no member of the attempt does not
+1 prim=1/1/1,2 record=2/1/1,3/1
+2 prim=1/1/1,2
+-> 1/1 {1,2}, attempt 0, no yellow [], gone {}, no quorum, records {1} none
+# the bits of all members of the attempt clear it
+1 prim=1/1/1,2 record=2/1/1,2/1
+2 prim=1/1/1,2 record=2/1/1,2/2
+-> 1/1 {1,2}, attempt 0, no yellow [], gone {}, quorum, records none none
+# also where they are of absent ones
+1 prim=1/1/1,2 record=2/1/1,2,3/1,3
+2 prim=1/1/1,2 record=2/1/1,2,3/2
+-> 1/1 {1,2}, attempt 0, no yellow [], gone {}, quorum, records none none
+# bits of another attempt do not count
+1 prim=1/1/1,4 record=2/1/1,2,3/1,2
+4 prim=1/1/1,4 record=5/1/4,5/3
+-> 1/1 {1,4}, attempt 0, no yellow [], gone {}, no quorum, records {1,2} {3}
+# a member that left counts as present
+1 prim=1/1/1,2 record=2/1/1,2/1 left=2
+2 prim=1/1/1,2
+-> 1/1 {1,2}, attempt 0, no yellow [], gone {2}, quorum, records none none
+# the record of one that left stays too
+1 prim=1/1/1,2 left=2
+2 prim=1/1/1,2 record=3/1/2,5/2
+-> 1/1 {1,2}, attempt 0, no yellow [], gone {2}, no quorum, records none {2}
+# a record outside of the last primary component stays
+1 prim=1/1/1,2,3
+2 prim=1/1/1,2,3
+4 prim=1/1/1,2,3 record=2/1/4,5/4
+-> 1/1 {1,2,3}, attempt 0, no yellow [], gone {}, no quorum, records none none {4}
+# one yellow list
+1 prim=1/1/1,2 yellow=1:1,2:1
+2 prim=1/1/1,2
+-> 1/1 {1,2}, attempt 0, yellow [1:1,2:1], gone {}, quorum, records none none
+# two yellow lists, in the order of the lower member
+1 prim=1/1/1,2 yellow=1:1,2:1,3:1
+2 prim=1/1/1,2 yellow=3:1,1:1
+-> 1/1 {1,2}, attempt 0, yellow [1:1,3:1], gone {}, quorum, records none none
+# the same in another order
+2 prim=1/1/1,2 yellow=3:1,1:1
+1 prim=1/1/1,2 yellow=1:1,2:1,3:1
+-> 1/1 {1,2}, attempt 0, yellow [1:1,3:1], gone {}, quorum, records none none
+# three yellow lists
+1 prim=1/1/1,2,3 yellow=1:1,2:1,3:1
+2 prim=1/1/1,2,3 yellow=2:1,3:1
+3 prim=1/1/1,2,3 yellow=3:1,2:1
+-> 1/1 {1,2,3}, attempt 0, yellow [2:1,3:1], gone {}, quorum, records none none none
+# nothing in common
+1 prim=1/1/1,2 yellow=1:1
+2 prim=1/1/1,2 yellow=2:1
+-> 1/1 {1,2}, attempt 0, yellow [], gone {}, quorum, records none none
+# what the most updated member has green is left out
+1 prim=1/1/1,2 yellow=1:1,2:1
+2 prim=1/1/1,2 green=4 cut=1:1
+-> 1/1 {1,2}, attempt 0, yellow [2:1], gone {}, quorum, records none none
+# what another one has green is not
+1 prim=1/1/1,2 yellow=2:1 green=3
+2 prim=1/1/1,2 green=1 cut=2:1
+-> 1/1 {1,2}, attempt 0, yellow [2:1], gone {}, quorum, records none none
+# an older valid list does not count
+1 prim=1/1/1,2 yellow=1:1
+2 prim=2/2/1,2
+-> 2/2 {1,2}, attempt 0, no yellow [], gone {}, quorum, records none none
+# an empty valid list
+1 prim=1/1/1,2 yellow=
+2 prim=1/1/1,2
+-> 1/1 {1,2}, attempt 0, yellow [], gone {}, quorum, records none none
+# an invalid list does not count
+1 prim=1/1/1,2 invalid=1:1
+2 prim=1/1/1,2
+-> 1/1 {1,2}, attempt 0, no yellow [], gone {}, quorum, records none none
+# a later action of a creator is not green
+1 prim=1/1/1,2 yellow=1:2 green=1 cut=1:1
+-> 1/1 {1,2}, attempt 0, yellow [1:2], gone {}, quorum, records none";
 
-const NONE: [u64; 13] = [0; 13];
-
-const CASES: [Case; 36] = [
-    // two records that stay get the bits of both
-    Case {
-        members: [
-            [2, 1, 1, 123, 0, 2, 1, 124, 2, 0, 0, 0, 0],
-            [3, 1, 1, 123, 0, 0, 0, 0, 0, 0, 0, 0, 0],
-            [4, 1, 1, 123, 0, 2, 1, 124, 4, 0, 0, 0, 0],
-            NONE,
-        ],
-        verdict: [1, 1, 123, 0, 0, 0, 0],
-        records: [24, 0, 24, 0],
-    },
-    // a replica alone in its set
-    Case {
-        members: [[1, 0, 0, 1, 0, 0, 0, 0, 0, 0, 0, 0, 0], NONE, NONE, NONE],
-        verdict: [0, 0, 1, 0, 0, 0, 1],
-        records: [0, 0, 0, 0],
-    },
-    // more than half
-    Case {
-        members: [
-            [1, 1, 1, 123, 0, 0, 0, 0, 0, 0, 0, 0, 0],
-            [2, 1, 1, 123, 0, 0, 0, 0, 0, 0, 0, 0, 0],
-            NONE,
-            NONE,
-        ],
-        verdict: [1, 1, 123, 0, 0, 0, 1],
-        records: [0, 0, 0, 0],
-    },
-    // less than half
-    Case {
-        members: [[3, 1, 1, 123, 0, 0, 0, 0, 0, 0, 0, 0, 0], NONE, NONE, NONE],
-        verdict: [1, 1, 123, 0, 0, 0, 0],
-        records: [0, 0, 0, 0],
-    },
-    // half with the least member
-    Case {
-        members: [
-            [1, 1, 1, 1234, 0, 0, 0, 0, 0, 0, 0, 0, 0],
-            [2, 1, 1, 1234, 0, 0, 0, 0, 0, 0, 0, 0, 0],
-            NONE,
-            NONE,
-        ],
-        verdict: [1, 1, 1234, 0, 0, 0, 1],
-        records: [0, 0, 0, 0],
-    },
-    // half without it
-    Case {
-        members: [
-            [3, 1, 1, 1234, 0, 0, 0, 0, 0, 0, 0, 0, 0],
-            [4, 1, 1, 1234, 0, 0, 0, 0, 0, 0, 0, 0, 0],
-            NONE,
-            NONE,
-        ],
-        verdict: [1, 1, 1234, 0, 0, 0, 0],
-        records: [0, 0, 0, 0],
-    },
-    // the lowest member of the newest has the primary component, and the greatest attempt index counts
-    Case {
-        members: [
-            [1, 1, 1, 123, 9, 0, 0, 0, 0, 0, 0, 0, 0],
-            [2, 2, 5, 23, 3, 0, 0, 0, 0, 0, 0, 0, 0],
-            [3, 2, 6, 23, 7, 0, 0, 0, 0, 0, 0, 0, 0],
-            NONE,
-        ],
-        verdict: [2, 5, 23, 7, 0, 0, 1],
-        records: [0, 0, 0, 0],
-    },
-    // the same in another order
-    Case {
-        members: [
-            [3, 2, 6, 23, 7, 0, 0, 0, 0, 0, 0, 0, 0],
-            [2, 2, 5, 23, 3, 0, 0, 0, 0, 0, 0, 0, 0],
-            [1, 1, 1, 123, 9, 0, 0, 0, 0, 0, 0, 0, 0],
-            NONE,
-        ],
-        verdict: [2, 5, 23, 7, 0, 0, 1],
-        records: [0, 0, 0, 0],
-    },
-    // of two with as many greens the lower one says who left
-    Case {
-        members: [
-            [1, 1, 1, 12, 0, 0, 0, 0, 0, 0, 5, 0, 0],
-            [2, 1, 1, 12, 0, 0, 0, 0, 0, 0, 5, 0, 1],
-            NONE,
-            NONE,
-        ],
-        verdict: [1, 1, 12, 0, 0, 0, 1],
-        records: [0, 0, 0, 0],
-    },
-    // one with more greens says who left
-    Case {
-        members: [
-            [1, 1, 1, 12, 0, 0, 0, 0, 0, 0, 5, 0, 0],
-            [2, 1, 1, 12, 0, 0, 0, 0, 0, 0, 6, 0, 1],
-            NONE,
-            NONE,
-        ],
-        verdict: [1, 1, 12, 0, 0, 1, 0],
-        records: [0, 0, 0, 0],
-    },
-    // those who left and are no members are passed over
-    Case {
-        members: [
-            [1, 1, 1, 12, 0, 0, 0, 0, 0, 0, 3, 0, 34],
-            [2, 1, 1, 12, 0, 0, 0, 0, 0, 0, 0, 0, 0],
-            NONE,
-            NONE,
-        ],
-        verdict: [1, 1, 12, 0, 0, 0, 1],
-        records: [0, 0, 0, 0],
-    },
-    // the only member has left
-    Case {
-        members: [[1, 1, 1, 12, 0, 0, 0, 0, 0, 0, 0, 0, 1], NONE, NONE, NONE],
-        verdict: [1, 1, 12, 0, 0, 1, 0],
-        records: [0, 0, 0, 0],
-    },
-    // all members have left
-    Case {
-        members: [
-            [1, 1, 1, 12, 0, 0, 0, 0, 0, 0, 2, 0, 12],
-            [2, 1, 1, 12, 0, 0, 0, 0, 0, 0, 0, 0, 0],
-            NONE,
-            NONE,
-        ],
-        verdict: [1, 1, 12, 0, 0, 12, 0],
-        records: [0, 0, 0, 0],
-    },
-    // two later primary components clear a record
-    Case {
-        members: [
-            [1, 3, 9, 12, 0, 2, 1, 123, 1, 0, 0, 0, 0],
-            [2, 3, 9, 12, 0, 2, 1, 123, 2, 0, 0, 0, 0],
-            NONE,
-            NONE,
-        ],
-        verdict: [3, 9, 12, 0, 0, 0, 1],
-        records: [0, 0, 0, 0],
-    },
-    // its own primary component clears none
-    Case {
-        members: [
-            [1, 2, 2, 12, 0, 2, 1, 123, 1, 0, 0, 0, 0],
-            [2, 2, 2, 12, 0, 2, 1, 123, 2, 0, 0, 0, 0],
-            NONE,
-            NONE,
-        ],
-        verdict: [2, 2, 12, 0, 0, 0, 0],
-        records: [12, 12, 0, 0],
-    },
-    // that of another attempt clears it
-    Case {
-        members: [
-            [1, 2, 7, 12, 0, 2, 1, 123, 1, 0, 0, 0, 0],
-            [2, 2, 7, 12, 0, 2, 1, 123, 2, 0, 0, 0, 0],
-            NONE,
-            NONE,
-        ],
-        verdict: [2, 7, 12, 0, 0, 0, 1],
-        records: [0, 0, 0, 0],
-    },
-    // a member of the attempt without a record clears it
-    Case {
-        members: [
-            [1, 1, 1, 12, 0, 2, 1, 12, 1, 0, 0, 0, 0],
-            [2, 1, 1, 12, 0, 0, 0, 0, 0, 0, 0, 0, 0],
-            NONE,
-            NONE,
-        ],
-        verdict: [1, 1, 12, 0, 0, 0, 1],
-        records: [0, 0, 0, 0],
-    },
-    // and so does one with a record of another attempt
-    Case {
-        members: [
-            [1, 1, 1, 12, 0, 2, 1, 12, 1, 0, 0, 0, 0],
-            [2, 1, 1, 12, 0, 3, 1, 12, 2, 0, 0, 0, 0],
-            NONE,
-            NONE,
-        ],
-        verdict: [1, 1, 12, 0, 0, 0, 1],
-        records: [0, 0, 0, 0],
-    },
-    // one that was no member of the attempt does not
-    Case {
-        members: [
-            [1, 1, 1, 12, 0, 2, 1, 13, 1, 0, 0, 0, 0],
-            [2, 1, 1, 12, 0, 0, 0, 0, 0, 0, 0, 0, 0],
-            NONE,
-            NONE,
-        ],
-        verdict: [1, 1, 12, 0, 0, 0, 0],
-        records: [1, 0, 0, 0],
-    },
-    // the bits of all members of the attempt clear it
-    Case {
-        members: [
-            [1, 1, 1, 12, 0, 2, 1, 12, 1, 0, 0, 0, 0],
-            [2, 1, 1, 12, 0, 2, 1, 12, 2, 0, 0, 0, 0],
-            NONE,
-            NONE,
-        ],
-        verdict: [1, 1, 12, 0, 0, 0, 1],
-        records: [0, 0, 0, 0],
-    },
-    // also where they are of absent ones
-    Case {
-        members: [
-            [1, 1, 1, 12, 0, 2, 1, 123, 13, 0, 0, 0, 0],
-            [2, 1, 1, 12, 0, 2, 1, 123, 2, 0, 0, 0, 0],
-            NONE,
-            NONE,
-        ],
-        verdict: [1, 1, 12, 0, 0, 0, 1],
-        records: [0, 0, 0, 0],
-    },
-    // bits of another attempt do not count
-    Case {
-        members: [
-            [1, 1, 1, 14, 0, 2, 1, 123, 12, 0, 0, 0, 0],
-            [4, 1, 1, 14, 0, 5, 1, 45, 3, 0, 0, 0, 0],
-            NONE,
-            NONE,
-        ],
-        verdict: [1, 1, 14, 0, 0, 0, 0],
-        records: [12, 3, 0, 0],
-    },
-    // a member that left counts as present
-    Case {
-        members: [
-            [1, 1, 1, 12, 0, 2, 1, 12, 1, 0, 0, 0, 2],
-            [2, 1, 1, 12, 0, 0, 0, 0, 0, 0, 0, 0, 0],
-            NONE,
-            NONE,
-        ],
-        verdict: [1, 1, 12, 0, 0, 2, 1],
-        records: [0, 0, 0, 0],
-    },
-    // the record of one that left stays too
-    Case {
-        members: [
-            [1, 1, 1, 12, 0, 0, 0, 0, 0, 0, 0, 0, 2],
-            [2, 1, 1, 12, 0, 3, 1, 25, 2, 0, 0, 0, 0],
-            NONE,
-            NONE,
-        ],
-        verdict: [1, 1, 12, 0, 0, 2, 0],
-        records: [0, 2, 0, 0],
-    },
-    // a record outside of the last primary component stays
-    Case {
-        members: [
-            [1, 1, 1, 123, 0, 0, 0, 0, 0, 0, 0, 0, 0],
-            [2, 1, 1, 123, 0, 0, 0, 0, 0, 0, 0, 0, 0],
-            [4, 1, 1, 123, 0, 2, 1, 45, 4, 0, 0, 0, 0],
-            NONE,
-        ],
-        verdict: [1, 1, 123, 0, 0, 0, 0],
-        records: [0, 0, 4, 0],
-    },
-    // one yellow list
-    Case {
-        members: [
-            [1, 1, 1, 12, 0, 0, 0, 0, 0, 11219, 0, 0, 0],
-            [2, 1, 1, 12, 0, 0, 0, 0, 0, 0, 0, 0, 0],
-            NONE,
-            NONE,
-        ],
-        verdict: [1, 1, 12, 0, 11219, 0, 1],
-        records: [0, 0, 0, 0],
-    },
-    // two yellow lists, in the order of the lower member
-    Case {
-        members: [
-            [1, 1, 1, 12, 0, 0, 0, 0, 0, 1121319, 0, 0, 0],
-            [2, 1, 1, 12, 0, 0, 0, 0, 0, 31119, 0, 0, 0],
-            NONE,
-            NONE,
-        ],
-        verdict: [1, 1, 12, 0, 11319, 0, 1],
-        records: [0, 0, 0, 0],
-    },
-    // the same in another order
-    Case {
-        members: [
-            [2, 1, 1, 12, 0, 0, 0, 0, 0, 31119, 0, 0, 0],
-            [1, 1, 1, 12, 0, 0, 0, 0, 0, 1121319, 0, 0, 0],
-            NONE,
-            NONE,
-        ],
-        verdict: [1, 1, 12, 0, 11319, 0, 1],
-        records: [0, 0, 0, 0],
-    },
-    // three yellow lists
-    Case {
-        members: [
-            [1, 1, 1, 123, 0, 0, 0, 0, 0, 1121319, 0, 0, 0],
-            [2, 1, 1, 123, 0, 0, 0, 0, 0, 21319, 0, 0, 0],
-            [3, 1, 1, 123, 0, 0, 0, 0, 0, 31219, 0, 0, 0],
-            NONE,
-        ],
-        verdict: [1, 1, 123, 0, 21319, 0, 1],
-        records: [0, 0, 0, 0],
-    },
-    // nothing in common
-    Case {
-        members: [
-            [1, 1, 1, 12, 0, 0, 0, 0, 0, 119, 0, 0, 0],
-            [2, 1, 1, 12, 0, 0, 0, 0, 0, 219, 0, 0, 0],
-            NONE,
-            NONE,
-        ],
-        verdict: [1, 1, 12, 0, 9, 0, 1],
-        records: [0, 0, 0, 0],
-    },
-    // what the most updated member has green is left out
-    Case {
-        members: [
-            [1, 1, 1, 12, 0, 0, 0, 0, 0, 11219, 0, 0, 0],
-            [2, 1, 1, 12, 0, 0, 0, 0, 0, 0, 4, 11, 0],
-            NONE,
-            NONE,
-        ],
-        verdict: [1, 1, 12, 0, 219, 0, 1],
-        records: [0, 0, 0, 0],
-    },
-    // what another one has green is not
-    Case {
-        members: [
-            [1, 1, 1, 12, 0, 0, 0, 0, 0, 219, 3, 0, 0],
-            [2, 1, 1, 12, 0, 0, 0, 0, 0, 0, 1, 21, 0],
-            NONE,
-            NONE,
-        ],
-        verdict: [1, 1, 12, 0, 219, 0, 1],
-        records: [0, 0, 0, 0],
-    },
-    // an older valid list does not count
-    Case {
-        members: [
-            [1, 1, 1, 12, 0, 0, 0, 0, 0, 119, 0, 0, 0],
-            [2, 2, 2, 12, 0, 0, 0, 0, 0, 0, 0, 0, 0],
-            NONE,
-            NONE,
-        ],
-        verdict: [2, 2, 12, 0, 0, 0, 1],
-        records: [0, 0, 0, 0],
-    },
-    // an empty valid list
-    Case {
-        members: [
-            [1, 1, 1, 12, 0, 0, 0, 0, 0, 9, 0, 0, 0],
-            [2, 1, 1, 12, 0, 0, 0, 0, 0, 0, 0, 0, 0],
-            NONE,
-            NONE,
-        ],
-        verdict: [1, 1, 12, 0, 9, 0, 1],
-        records: [0, 0, 0, 0],
-    },
-    // an invalid list does not count
-    Case {
-        members: [
-            [1, 1, 1, 12, 0, 0, 0, 0, 0, 118, 0, 0, 0],
-            [2, 1, 1, 12, 0, 0, 0, 0, 0, 0, 0, 0, 0],
-            NONE,
-            NONE,
-        ],
-        verdict: [1, 1, 12, 0, 0, 0, 1],
-        records: [0, 0, 0, 0],
-    },
-    // a later action of a creator is not green
-    Case {
-        members: [
-            [1, 1, 1, 12, 0, 0, 0, 0, 0, 129, 1, 11, 0],
-            NONE,
-            NONE,
-            NONE,
-        ],
-        verdict: [1, 1, 12, 0, 129, 0, 1],
-        records: [0, 0, 0, 0],
-    },
-];
-
-fn id(digit: u64) -> Option<ReplicaId> {
-    ReplicaId::new((digit % 10) as u8)
-}
-
-fn set_of(digits: u64) -> IdSet {
+// the replicas of a list as `1,2`, each below 10
+fn set_of(text: &str) -> IdSet {
     let mut set = IdSet::empty();
-    for unit in [1, 10, 100, 1_000] {
-        if let Some(id) = id(digits / unit) {
+    for character in text.as_bytes() {
+        if let Some(id) = ReplicaId::new(character.saturating_sub(b'0')) {
             set.add(id);
         }
     }
     set
 }
 
-fn list_of(alloc: Global, digits: u64) -> Result<IdList, NoMemory> {
+fn id_of(text: &str) -> Result<ReplicaId, Fail> {
+    Ok(ReplicaId::new(text.parse()?).ok_or("no replica")?)
+}
+
+fn name_of(text: &str) -> Result<ActionId, Fail> {
+    let (creator, index) = text.split_once(':').ok_or("no name")?;
+    Ok(ActionId {
+        creator: id_of(creator)?,
+        index: index.parse()?,
+    })
+}
+
+// the names of a list as `1:1,2:2`
+fn names_of(alloc: Global, text: &str) -> Result<IdList, Fail> {
     let mut list = IdList::new(alloc);
-    for unit in [10_000, 100, 1] {
-        if let Some(creator) = id(digits / unit / 10) {
-            let index = digits / unit % 10;
-            list.push(ActionId { creator, index })?;
-        }
+    let mut left = text;
+    for _ in 0..text.len() {
+        let Some((first, others)) = left.split_once(',') else {
+            break;
+        };
+        list.push(name_of(first)?)?;
+        left = others;
+    }
+    if !left.is_empty() {
+        list.push(name_of(left)?)?;
     }
     Ok(list)
 }
 
-fn cut_of(digits: u64) -> Cut {
-    let mut cut = Cut::zero();
-    if let Some(creator) = id(digits / 10) {
-        cut.raise(creator, digits % 10);
-    }
-    cut
-}
-
-fn record_of(m: &[u64; 13]) -> Option<Vulnerable> {
-    if m[5] == 0 {
-        return None;
-    }
-    Some(Vulnerable {
-        attempt: m[5],
-        from: m[6],
-        set: set_of(m[7]),
-        bits: set_of(m[8]),
+fn primary_of(text: &str) -> Result<Primary, Fail> {
+    let (index, rest) = text.split_once('/').ok_or("no index")?;
+    let (conf, set) = rest.split_once('/').ok_or("no configuration")?;
+    Ok(Primary {
+        index: index.parse()?,
+        conf: conf.parse()?,
+        set: WeightSet::of(&set_of(set)),
     })
 }
 
-fn summary_of(alloc: Global, m: &[u64; 13], id: ReplicaId) -> Result<Summary, NoMemory> {
-    let set = WeightSet::of(&set_of(m[3]));
-    let list = list_of(alloc, m[9] / 10)?;
-    Ok(Summary {
+fn record_of(text: &str) -> Result<Vulnerable, Fail> {
+    let (attempt, rest) = text.split_once('/').ok_or("no attempt")?;
+    let (from, sets) = rest.split_once('/').ok_or("no from")?;
+    let (set, bits) = sets.split_once('/').ok_or("no bits")?;
+    Ok(Vulnerable {
+        attempt: attempt.parse()?,
+        from: from.parse()?,
+        set: set_of(set),
+        bits: set_of(bits),
+    })
+}
+
+fn cut_of(text: &str) -> Result<Cut, Fail> {
+    let name = name_of(text)?;
+    let mut cut = Cut::zero();
+    cut.raise(name.creator, name.index);
+    Ok(cut)
+}
+
+fn blank(alloc: Global, id: ReplicaId) -> Summary {
+    Summary {
         id,
         conf: 9,
         prim: Primary {
-            index: m[1],
-            conf: m[2],
-            set,
+            index: 0,
+            conf: 0,
+            set: WeightSet::empty(),
         },
-        attempt_index: m[4],
-        vulnerable: record_of(m),
+        attempt_index: 0,
+        vulnerable: None,
         yellow: Yellow {
-            valid: m[9] % 10 == 9,
-            list,
+            valid: false,
+            list: IdList::new(alloc),
         },
-        green_count: m[10],
-        green_cut: cut_of(m[11]),
+        green_count: 0,
+        green_cut: Cut::zero(),
         red_cut: Cut::zero(),
-        left: set_of(m[12]),
-    })
+        left: IdSet::empty(),
+    }
 }
 
-fn verdict_of(alloc: Global, case: &Case) -> Result<Verdict, NoMemory> {
-    let mut summaries = Vec::new(alloc);
-    for m in &case.members {
-        if let Some(id) = id(m[0]) {
-            let summary = summary_of(alloc, m, id)?;
-            summaries.push(summary)?;
+fn tell(alloc: Global, s: &mut Summary, part: &str) -> Result<(), Fail> {
+    let (what, text) = part.split_once('=').ok_or("no part")?;
+    match what {
+        "prim" => s.prim = primary_of(text)?,
+        "attempt" => s.attempt_index = text.parse()?,
+        "record" => s.vulnerable = Some(record_of(text)?),
+        "green" => s.green_count = text.parse()?,
+        "cut" => s.green_cut = cut_of(text)?,
+        "left" => s.left = set_of(text),
+        _ => {
+            s.yellow = Yellow {
+                valid: what == "yellow",
+                list: names_of(alloc, text)?,
+            }
         }
     }
-    decide(alloc, &summaries)
+    Ok(())
 }
 
-fn has_records(verdict: &Verdict, want: &[u64; 4]) -> bool {
-    let mut same = true;
-    for (bits, record) in want.iter().zip(verdict.vulnerable.as_slice()) {
-        same = same
-            && match record {
-                None => *bits == 0,
-                Some(v) => v.bits == set_of(*bits),
-            };
+fn summary_of(alloc: Global, line: &str) -> Result<Summary, Fail> {
+    let (id, parts) = line.split_once(' ').ok_or("no member")?;
+    let mut summary = blank(alloc, id_of(id)?);
+    for part in parts.split_whitespace() {
+        tell(alloc, &mut summary, part)?;
     }
-    same
+    Ok(summary)
 }
 
-fn is_as_wanted(alloc: Global, verdict: &Verdict, want: &[u64; 7]) -> Result<bool, NoMemory> {
-    let prim = Primary {
-        index: want[0],
-        conf: want[1],
-        set: WeightSet::of(&set_of(want[2])),
+fn put_records(out: &mut Vec<u8>, verdict: &Verdict) -> Result<(), NoMemory> {
+    put(out, b", records")?;
+    for record in verdict.vulnerable.as_slice() {
+        put(out, b" ")?;
+        match record {
+            None => put(out, b"none")?,
+            Some(v) => put_set(out, v.bits)?,
+        }
+    }
+    Ok(())
+}
+
+fn text_of(alloc: Global, verdict: &Verdict) -> Result<Vec<u8>, NoMemory> {
+    let mut out = Vec::new(alloc);
+    put_number(&mut out, verdict.prim.index)?;
+    put(&mut out, b"/")?;
+    put_number(&mut out, verdict.prim.conf)?;
+    put(&mut out, b" ")?;
+    put_weight_set(&mut out, &verdict.prim.set)?;
+    put(&mut out, b", attempt ")?;
+    put_number(&mut out, verdict.attempt_index)?;
+    let yellow: &[u8] = if verdict.yellow.valid {
+        b", yellow "
+    } else {
+        b", no yellow "
     };
-    let list = list_of(alloc, want[4] / 10)?;
-    Ok(
-        verdict.prim == prim
-            && verdict.attempt_index == want[3]
-            && verdict.yellow.valid == (want[4] % 10 == 9)
-            && verdict.yellow.list == list
-            && verdict.gone == set_of(want[5])
-            && verdict.quorum == (want[6] == 1),
-    )
+    put(&mut out, yellow)?;
+    put_id_list(&mut out, verdict.yellow.list.as_slice())?;
+    put(&mut out, b", gone ")?;
+    put_set(&mut out, verdict.gone)?;
+    let quorum: &[u8] = if verdict.quorum {
+        b", quorum"
+    } else {
+        b", no quorum"
+    };
+    put(&mut out, quorum)?;
+    put_records(&mut out, verdict)?;
+    Ok(out)
 }
 
 #[test]
 fn verdicts_worked_by_hand(rt: HostRuntime) -> Result<(), Fail> {
-    for (place, case) in CASES.iter().enumerate() {
-        let verdict = verdict_of(rt.alloc(), case)?;
-        assert!(rt;
-            is_as_wanted(rt.alloc(), &verdict, &case.verdict)?,
-            "the verdict of case {place}"
-        );
-        assert!(rt;
-            has_records(&verdict, &case.records),
-            "the records of case {place}"
-        );
+    let alloc = rt.alloc();
+    let mut summaries = Vec::new(alloc);
+    for line in CASES.lines() {
+        if line.starts_with('#') {
+            summaries = Vec::new(alloc);
+        } else if let Some(expected) = line.strip_prefix("-> ") {
+            let verdict = decide(alloc, &summaries)?;
+            let out = text_of(alloc, &verdict)?;
+            assert_eq!(rt; out.as_slice(), expected.as_bytes(), "{line}");
+        } else {
+            summaries.push(summary_of(alloc, line)?)?;
+        }
     }
     Ok(())
 }
