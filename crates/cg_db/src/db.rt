@@ -3,12 +3,13 @@ ghost use Rattle.std.specs.Option.{option_copied};
 ghost use Rattle.indexmap.specs.IndexMap.{spare};
 ghost use Rattle.cg_text.specs.Order.{begins_with};
 ghost use Rattle.cg_db.specs.Find.{answer_of};
+ghost use Rattle.cg_db.specs.Map.{put};
 ghost use Rattle.cg_db.specs.View.{of_entries, entry_at};
 ghost use Rattle.cg_db.specs.Plan.{changed, with_changes};
 ghost use Rattle.cg_action.specs.Limits.{IsAction, IsCommand};
 
 use crate::plan::{Change, plan};
-use crate::{Answer, DbEntry, Effect, EntryList};
+use crate::{Answer, DbEntry, Effect, EntryList, TxtList};
 use cg_action::{Action, Cmd, Kind, Query, Value};
 use cg_base::{NoMemory, Row};
 use cg_text::Txt;
@@ -36,7 +37,7 @@ impl Model for Db {
 }
 
 impl Db {
-    ghost use Rattle.cg_db.specs.Map.{value_of, Ascends};
+    ghost use Rattle.cg_db.specs.Map.{value_of, Ascends, keys, put};
     ghost use Rattle.cg_db.specs.Apply.{Changed, apply, run_commands};
     ghost use Rattle.cg_db.specs.Find.{answer, keys_from};
 
@@ -126,6 +127,22 @@ impl Db {
         })
     }
 
+    /// The keys, ascending.
+    pub fn keys(&self) -> Result<TxtList, NoMemory>
+        ensures { IfOk result (λ found. found ≡ keys self.now) }
+    {
+        let found = self.keys_from("")?;
+        Ok(Row::from_vec(found))
+    }
+
+    /// Sets a key to a value. Where memory is refused nothing is changed.
+    pub fn put(&mut self, key: Txt, value: Value) -> Result<(), NoMemory>
+        ensures ok { OnOk result (self.new ≡ put self.old key value) }
+        ensures err { OnErr result (self.new ≡ self.old) }
+    {
+        put_entry(&mut self.map, key, value)
+    }
+
     // the key with its value, if it is there
     fn push_entry(&self, entries: &mut EntryList, key: Txt) -> Result<(), NoMemory>
         ensures { OnOk result (entries.new ≡ entries.old ++ entry_at key (value_of self.now key)) }
@@ -149,8 +166,10 @@ impl Db {
         Ok(found)
     }
 
-    fn count(&self) -> u64
-        ensures { result ≡ length self.now }
+    /// The number of entries. It also says that they ascend.
+    pub fn count(&self) -> u64
+        ensures value { result ≡ length self.now }
+        ensures ascends { Ascends self.now }
     {
         self.map.len() as u64
     }
@@ -159,7 +178,8 @@ impl Db {
         self.alloc
     }
 
-    pub(crate) fn value(&self, key: &str) -> Option<&Value>
+    /// The value of a key, if it is there.
+    pub fn value(&self, key: &str) -> Option<&Value>
         ensures { option_copied result ≡ value_of self.now key.now }
     {
         self.map.get(key)
@@ -184,6 +204,14 @@ fn push_if(alloc: Global, found: &mut Vec<Txt>, key: &str, prefix: &str) -> Resu
     }
     let key = Txt::new(alloc, key)?;
     found.push(key)?;
+    Ok(())
+}
+
+fn put_entry(map: &mut Map, key: Txt, value: Value) -> Result<(), NoMemory>
+    ensures ok { OnOk result (of_entries map.new.entries ≡ put (of_entries map.old.entries) key value) }
+    ensures err { OnErr result (of_entries map.new.entries ≡ of_entries map.old.entries) }
+{
+    map.insert(key.into_string(), value)?;
     Ok(())
 }
 

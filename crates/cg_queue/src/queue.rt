@@ -1,9 +1,9 @@
-ghost use Rattle.std.specs.Prelude.{◌≡◌, ◌≤◌, ◌<◌, ◌-◌, ◌^◌, ◌++◌, ◌∷◌, [], suc, drop, length, IfOk, OnOk, OnErr};
+ghost use Rattle.std.specs.Prelude.{◌≡◌, ◌≤◌, ◌<◌, ◌-◌, ◌^◌, ◌++◌, ◌∷◌, [], suc, drop, length, slice_get, IfOk, OnOk, OnErr, MatchOption};
 ghost use Rattle.std.specs.Option.{option_copied};
 ghost use Rattle.cg_base.specs.Cuts.{index_in};
 ghost use Rattle.cg_base.specs.Lists.{at_place};
 ghost use Rattle.cg_queue.specs.Lanes.{rows_of};
-ghost use Rattle.cg_queue.specs.Body.{actions_in};
+ghost use Rattle.cg_queue.specs.Body.{actions_in, all_reds};
 
 use crate::body::{
     Body, add_green, add_name, add_red, add_yellow, drop_green, empty_body, forget_green,
@@ -202,6 +202,20 @@ impl Queue {
         Ok(list)
     }
 
+    /// A red, by its place among them by name, counted from 0.
+    pub fn red_at(&self, i: usize) -> Option<&Action>
+        ensures { option_copied result ≡ slice_get self.now.reds i }
+    {
+        red_in(&self.body.reds, i)
+    }
+
+    /// The number of reds. None says that there are 2^32 or more.
+    pub fn red_count(&self) -> Option<u32>
+        ensures { MatchOption result (2 ^ 32 ≤ length self.now.reds) (λ count. count ≡ length self.now.reds) }
+    {
+        count_in(&self.body.reds)
+    }
+
     /// The yellow names, in their order.
     pub fn yellow(&self) -> Result<IdList, NoMemory>
         ensures { IfOk result (λ list. list ≡ self.now.yellow) }
@@ -295,6 +309,44 @@ impl Queue {
     {
         self.body.white
     }
+}
+
+// the red at a place among all, by name
+fn red_in(reds: &Lanes<Red>, i: usize) -> Option<&Action>
+    ensures { option_copied result ≡ slice_get (all_reds (rows_of reds.now)) i }
+{
+    let mut left = i;
+    for place in 0..32 {
+        let count = reds.len(place);
+        if left < count {
+            return action_at(reds, place, left);
+        }
+        left -= count;
+    }
+    None
+}
+
+fn action_at(reds: &Lanes<Red>, place: usize, i: usize) -> Option<&Action>
+    ensures { option_copied result ≡ slice_get (actions_in (rows_of reds.now place)) i }
+{
+    match reds.get(place, i) {
+        Some(red) => Some(&red.action),
+        None => None,
+    }
+}
+
+fn count_in(reds: &Lanes<Red>) -> Option<u32>
+    ensures { MatchOption result (2 ^ 32 ≤ length (all_reds (rows_of reds.now))) (λ count. count ≡ length (all_reds (rows_of reds.now))) }
+{
+    let mut count: usize = 0;
+    for place in 0..32 {
+        let more = reds.len(place);
+        if more > u32::MAX as usize - count {
+            return None;
+        }
+        count += more;
+    }
+    Some(count as u32)
 }
 
 // the greens from a place on, counted from 0

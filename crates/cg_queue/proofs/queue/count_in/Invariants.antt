@@ -1,0 +1,8 @@
+use Rattle.std.proofs.Common.{◌≡◌, ◌+◌, ◌-◌, ◌<◌, ◌^◌, length}
+use Rattle.cg_queue.specs.Lanes.{rows_of}
+use Rattle.cg_queue.specs.Body.{reds_from, all_reds}
+use Rattle.cg_queue.proofs.queue.count_in.Given as goal
+
+-- so many so far, and those that are left make the whole
+abbrev pub invariant-loop-place : goal.invariant-loop-place
+invariant-loop-place l = (l.count + length (reds_from (rows_of l.reds) (32 - l.place) l.place) ≡ length (all_reds (rows_of l.reds))) × (l.count < 2 ^ 32)
