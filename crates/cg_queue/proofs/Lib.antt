@@ -6,3 +6,4 @@ pub mod RedLemmas
 pub mod FindLemmas
 pub mod Soundness
 pub mod Renaming
+pub mod ShownReds
