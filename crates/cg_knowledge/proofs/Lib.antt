@@ -1,1 +1,3 @@
 pub mod Filtered
+mod LawProofs
+mod MostUpdated

@@ -7,6 +7,7 @@
 #![tactic(auto)]
 
 mod knowledge;
+mod laws;
 mod members;
 mod primary;
 mod summary;
@@ -17,6 +18,7 @@ mod vulnerable;
 mod yellow;
 
 pub use knowledge::decide;
+pub use laws::{common_yellow_stands_in_each, deciders_meet, most_updated_leads};
 pub use members::{gone, most_updated, remaining, senders};
 pub use primary::{known_attempt, known_primary};
 pub use summary::Summary;

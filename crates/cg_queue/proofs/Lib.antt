@@ -7,3 +7,4 @@ pub mod FindLemmas
 pub mod Soundness
 pub mod Renaming
 mod Places
+pub mod ShownReds

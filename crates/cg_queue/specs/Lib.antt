@@ -2,3 +2,4 @@ pub mod Lanes
 pub mod Queue
 pub mod Body
 pub mod MarkLaws
+pub mod Shown

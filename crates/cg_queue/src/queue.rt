@@ -38,6 +38,7 @@ impl Model for Queue {
 
 impl Queue {
     ghost use Rattle.cg_queue.specs.Queue.{Answers, AreReds, resumed, marked_red, marked_yellow, marked_green, green_count, discarded, with_yellow, names_of, action_of};
+    ghost use Rattle.cg_queue.specs.Shown.{IsShown};
     ghost use Rattle.cg_base.specs.Ids.{names};
 
     /// A queue that knows no action.
@@ -281,9 +282,11 @@ impl Queue {
         is_flagged(&self.body, place, (id.index - cut - 1) as usize)
     }
 
-    /// How far each creator's actions are known: red or green, discarded ones too.
+    /// How far each creator's actions are known: red or green, discarded ones too. The reds are exactly those between the
+    /// green cut and this one, and what is yellow is red.
     pub fn red_cut(&self) -> Cut
-        ensures { result ≡ self.now.red_cut }
+        ensures value { result ≡ self.now.red_cut }
+        ensures shown { IsShown self.now }
     {
         self.body.red_cut
     }

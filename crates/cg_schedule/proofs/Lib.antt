@@ -2,7 +2,6 @@ mod CommandParts
 mod CommandSteps
 mod EventParts
 mod FillParts
-mod Fronts
 mod HexSteps
 mod LineLaws
 mod LineTokens

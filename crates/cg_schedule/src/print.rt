@@ -1,16 +1,12 @@
 //! The printed form of events.
 
 ghost use Rattle.std.specs.Prelude.{◌≡◌, ◌<◌, ◌++◌, codes, decimal, flat_map, OnOk, OnErr};
-ghost use Rattle.std.specs.Fmt.{signed_decimal};
 ghost use Rattle.cg_base.specs.Text.{KeepsFront, weighted_text};
-ghost use Rattle.cg_text.specs.Quoted.{quoted};
-ghost use Rattle.cg_action.specs.Print.{value_text, want_text, command_text, query_text, next_text, commands_text, update_text};
 ghost use Rattle.cg_schedule.specs.Print.{id_behind, member_behind, hex_glyph, hex_text, fill_text, line_of};
 
 use crate::Event;
-use cg_action::{Cmd, Query, Value};
+use cg_action::{print_query, print_update};
 use cg_base::{IdSet, NoMemory, ReplicaId, WeightSet, Weighted, put, put_number, put_weighted};
-use cg_text::{Txt, put_i64, put_quoted};
 
 /// Puts the line of the event at the end, without the line's end. Where memory is refused nothing is put.
 pub fn print_line(e: &Event, out: &mut Vec<u8>) -> Result<(), NoMemory>
@@ -37,15 +33,15 @@ fn show_event(out: &mut Vec<u8>, event: &Event) -> Result<(), NoMemory>
         Event::Merge(set) => show_ids(out, b"merge", set),
         Event::Request { p, cmds, query } => {
             show_id(out, b"request ", *p)?;
-            show_update(out, cmds.as_slice(), query)
+            print_update(cmds.as_slice(), query, out)
         }
         Event::Weak { p, query } => {
             show_id(out, b"weak ", *p)?;
-            show_query(out, query)
+            print_query(query, out)
         }
         Event::Dirty { p, query } => {
             show_id(out, b"dirty ", *p)?;
-            show_query(out, query)
+            print_query(query, out)
         }
         Event::Order(p) => show_last_id(out, b"order ", *p),
         Event::Recover(p) => show_last_id(out, b"recover ", *p),
@@ -170,143 +166,4 @@ fn hex_glyph(n: u8) -> u8
     ensures { result ≡ hex_glyph n }
 {
     if n < 10 { b'0' + n } else { b'a' + (n - 10) }
-}
-
-fn show_update(out: &mut Vec<u8>, cmds: &[Cmd], query: &Option<Query>) -> Result<(), NoMemory>
-    ensures ok { OnOk result (out.new.items ≡ out.old.items ++ update_text cmds.now query.now) }
-    ensures err { OnErr result (KeepsFront out.old.items out.new.items) }
-{
-    let Some(query) = query else {
-        return show_commands(out, cmds);
-    };
-    if cmds.is_empty() {
-        put(out, b"? ")?;
-        return show_query(out, query);
-    }
-    show_commands(out, cmds)?;
-    put(out, b" ? ")?;
-    show_query(out, query)
-}
-
-fn show_commands(out: &mut Vec<u8>, cmds: &[Cmd]) -> Result<(), NoMemory>
-    ensures ok { OnOk result (out.new.items ≡ out.old.items ++ commands_text cmds.now) }
-    ensures err { OnErr result (KeepsFront out.old.items out.new.items) }
-{
-    let Some((first, others)) = cmds.split_first() else {
-        return Ok(());
-    };
-    show_command(out, first)?;
-    for cmd in others {
-        show_next(out, cmd)?;
-    }
-    Ok(())
-}
-
-fn show_next(out: &mut Vec<u8>, cmd: &Cmd) -> Result<(), NoMemory>
-    ensures ok { OnOk result (out.new.items ≡ out.old.items ++ next_text cmd.now) }
-    ensures err { OnErr result (KeepsFront out.old.items out.new.items) }
-{
-    put(out, b"; ")?;
-    show_command(out, cmd)
-}
-
-fn show_command(out: &mut Vec<u8>, cmd: &Cmd) -> Result<(), NoMemory>
-    ensures ok { OnOk result (out.new.items ≡ out.old.items ++ command_text cmd.now) }
-    ensures err { OnErr result (KeepsFront out.old.items out.new.items) }
-{
-    match cmd {
-        Cmd::Put { key, value } => {
-            show_word(out, b"put ", key)?;
-            show_value(out, value)
-        }
-        Cmd::Del { key } => {
-            put(out, b"del ")?;
-            put_quoted(out, key)
-        }
-        Cmd::Inc { key, by } => {
-            show_word(out, b"inc ", key)?;
-            put_i64(out, *by)
-        }
-        Cmd::Cas { key, want, value } => {
-            show_word(out, b"cas ", key)?;
-            show_swap(out, want, value)
-        }
-        Cmd::Move {
-            source,
-            target,
-            amount,
-        } => {
-            show_word(out, b"move ", source)?;
-            show_moved(out, target, *amount)
-        }
-        Cmd::Need { key, want } => {
-            show_word(out, b"need ", key)?;
-            show_want(out, want)
-        }
-    }
-}
-
-// a word and a key, each with a blank behind it
-fn show_word(out: &mut Vec<u8>, word: &[u8], key: &Txt) -> Result<(), NoMemory>
-    ensures ok { OnOk result (out.new.items ≡ out.old.items ++ word.now ++ quoted key.now ++ codes " ") }
-    ensures err { OnErr result (KeepsFront out.old.items out.new.items) }
-{
-    put(out, word)?;
-    put_quoted(out, key)?;
-    put(out, b" ")
-}
-
-fn show_swap(out: &mut Vec<u8>, want: &Option<Value>, value: &Value) -> Result<(), NoMemory>
-    ensures ok { OnOk result (out.new.items ≡ out.old.items ++ want_text want.now ++ codes " " ++ value_text value.now) }
-    ensures err { OnErr result (KeepsFront out.old.items out.new.items) }
-{
-    show_want(out, want)?;
-    put(out, b" ")?;
-    show_value(out, value)
-}
-
-fn show_moved(out: &mut Vec<u8>, target: &Txt, amount: i64) -> Result<(), NoMemory>
-    ensures ok { OnOk result (out.new.items ≡ out.old.items ++ quoted target.now ++ codes " " ++ signed_decimal amount) }
-    ensures err { OnErr result (KeepsFront out.old.items out.new.items) }
-{
-    put_quoted(out, target)?;
-    put(out, b" ")?;
-    put_i64(out, amount)
-}
-
-fn show_want(out: &mut Vec<u8>, want: &Option<Value>) -> Result<(), NoMemory>
-    ensures ok { OnOk result (out.new.items ≡ out.old.items ++ want_text want.now) }
-    ensures err { OnErr result (KeepsFront out.old.items out.new.items) }
-{
-    match want {
-        None => put(out, b"absent"),
-        Some(value) => show_value(out, value),
-    }
-}
-
-fn show_value(out: &mut Vec<u8>, value: &Value) -> Result<(), NoMemory>
-    ensures ok { OnOk result (out.new.items ≡ out.old.items ++ value_text value.now) }
-    ensures err { OnErr result (KeepsFront out.old.items out.new.items) }
-{
-    match value {
-        Value::Text(t) => put_quoted(out, t),
-        Value::Int(n) => put_i64(out, *n),
-    }
-}
-
-fn show_query(out: &mut Vec<u8>, query: &Query) -> Result<(), NoMemory>
-    ensures ok { OnOk result (out.new.items ≡ out.old.items ++ query_text query.now) }
-    ensures err { OnErr result (KeepsFront out.old.items out.new.items) }
-{
-    match query {
-        Query::Get(key) => {
-            put(out, b"get ")?;
-            put_quoted(out, key)
-        }
-        Query::Keys(prefix) => {
-            put(out, b"keys ")?;
-            put_quoted(out, prefix)
-        }
-        Query::Count => put(out, b"count"),
-    }
 }
