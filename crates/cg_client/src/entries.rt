@@ -64,6 +64,13 @@ impl Entries {
         Ok(Entries { db })
     }
 
+    pub(crate) fn db(&self) -> &Db
+        ensures value { result.now ≡ self.now }
+        ensures limits { AreEntries self.now }
+    {
+        &self.db
+    }
+
     pub(crate) fn list(&self) -> Result<EntryList, NoMemory>
         ensures value { IfOk result (λ list. list ≡ self.now) }
         ensures ascends { IfOk result Ascends }

@@ -6,6 +6,7 @@ ghost use Rattle.cg_base.specs.Ids.{names};
 ghost use Rattle.cg_base.specs.Lists.{at_place};
 ghost use Rattle.cg_action.specs.Limits.{IsAction};
 ghost use Rattle.cg_records.specs.Limits.{Each, IsIndex, IsName, IsSmallCut};
+ghost use Rattle.cg_client.specs.Kept.{AreKept};
 ghost use Rattle.cg_queue.specs.Queue.{Answers, AreReds, resumed, marked_red, marked_yellow, marked_green, discarded, green_count, action_of, names_of};
 
 use cg_action::{Action, ActionList};
@@ -79,6 +80,13 @@ impl Known {
         ensures { self.new ≡ discarded self.old n }
     {
         self.queue.discard_white(n);
+    }
+
+    pub(crate) fn queue(&self) -> &Queue
+        ensures value { result.now ≡ self.now }
+        ensures kept { AreKept self.now }
+    {
+        &self.queue
     }
 
     pub(crate) fn greens(&self) -> Result<ActionList, NoMemory>

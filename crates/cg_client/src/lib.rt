@@ -12,6 +12,7 @@ mod held;
 mod install;
 mod kept;
 mod known;
+mod lent;
 mod marks;
 mod messages;
 mod names;
@@ -32,6 +33,3 @@ pub use held::Core;
 pub use install::Installed;
 pub use parts::DraftParts;
 pub use request::Request;
-
-#[cfg(test)]
-mod tests;
