@@ -1,0 +1,91 @@
+-- What is found in a chronicle behind a turn.
+use Rattle.std.proofs.Common.{◌≡◌, ℕ, Bool, true, false, cond, List, [], ◌∷◌, ◌++◌, Option, Some, None, find, refl, sym, ap, ◌∙◌, eqb-true, eq-eqb, option_map, if◌then◌else◌, nat_lt, ◌&&◌}
+use Rattle.std.specs.Prelude.{◌==◌}
+use Rattle.std.specs.Option.{option_map_or}
+use Rattle.std.proofs.lemmas.Bool.{cond-true, cond-false, cond_both, ne_eqb, eqb-false}
+use Rattle.cg_client.specs.Replica.{Replica}
+use Rattle.cg_client.specs.Turn.{Turn}
+use Rattle.cg_step.specs.Crash.{Disk}
+use Rattle.cg_group.specs.LookupLaws.{at-cond}
+use Rattle.cg_agree.specs.World.{Life, Seat, World, seat_of, with_seat, set_life}
+use Rattle.cg_agree.specs.Chronicle.{Past, Told, Attempt, Chronicle}
+use Rattle.cg_agree.specs.Looks.{past_of, greens_of, told_in}
+use Rattle.cg_agree.specs.Small.{after_turn, newly_green, with_greens, with_past, changed_attempt, with_installer, told_with}
+use Rattle.cg_agree.proofs.Keyed.{found-changed, find-append}
+
+-- the choices behind a changed seat
+chosen : {X : Type 0} (a b x y : Bool) (new old rest with_new : X) → (a ≡ true → x ≡ y) → (a ≡ false → x ≡ true → y ≡ false) →
+    with_new ≡ cond y new rest → cond a (cond y new rest) (cond b (cond y new (cond x old rest)) (cond x old with_new)) ≡ cond y new (cond x old rest)
+chosen true b x true new old rest with_new s o e = refl
+chosen true b true false new old rest with_new s o e = absurd (let clash : true ≡ false = s refl in cc)
+chosen true b false false new old rest with_new s o e = refl
+chosen false true x y new old rest with_new s o e = refl
+chosen false false true true new old rest with_new s o e = absurd (let clash : true ≡ false = o refl refl in cc)
+chosen false false true false new old rest with_new s o e = refl
+chosen false false false y new old rest with_new s o e = e
+
+abbrev seat_in : List Seat → ℕ → Option Seat
+seat_in seats q = find (λ s. s.id == q) seats
+
+found-seat : (seats : List Seat) (new : Seat) (q : ℕ) → seat_in (with_seat seats new) q ≡ (if new.id == q then Some new else seat_in seats q)
+found-seat [] new q = refl
+found-seat (s ∷ seats) new q =
+    at-cond (λ z. seat_in z q) (s.id == new.id) (new ∷ seats) (if nat_lt new.id s.id then new ∷ s ∷ seats else s ∷ with_seat seats new)
+    ∙ ap (cond (s.id == new.id) (seat_in (new ∷ seats) q)) (at-cond (λ z. seat_in z q) (nat_lt new.id s.id) (new ∷ s ∷ seats) (s ∷ with_seat seats new))
+    ∙ chosen (s.id == new.id) (nat_lt new.id s.id) (s.id == q) (new.id == q) (Some new) (Some s) (seat_in seats q) (seat_in (with_seat seats new) q)
+    (λ same. ap (λ z. z == q) (eqb-true s.id new.id same))
+    (λ other here. ne_eqb new.id q (λ e. eqb-false s.id new.id other (eqb-true s.id q here ∙ sym e)))
+    (found-seat seats new q)
+
+-- one seat has another life, and every other one is as before
+pub seat_of-set : (w : World) (p : ℕ) (life : Life) (q : ℕ) → seat_of (set_life w p life) q ≡ cond (p == q) (Some (record { id = p; life = life })) (seat_of w q)
+seat_of-set w p life q = found-seat w.seats (record { id = p; life = life }) q
+
+-- the replica whose turn it is has more greens, and every other one what it had
+pub past_of-turn : (c : Chronicle) (p : ℕ) (r : Replica) (disk : Disk) (t : Turn) (q : ℕ) →
+    past_of (after_turn c p r disk t) q ≡ cond (q == p) (option_map (with_greens (newly_green r t.replica)) (past_of c q)) (past_of c q)
+past_of-turn c p r disk t q = found-changed (λ (x : Past). x.id) (with_greens (newly_green r t.replica)) (λ x. refl) p c.pasts q
+
+pub greens_of-other : (c : Chronicle) (p : ℕ) (r : Replica) (disk : Disk) (t : Turn) (q : ℕ) → (q ≡ p → ⊥) → greens_of (after_turn c p r disk t) q ≡ greens_of c q
+greens_of-other c p r disk t q other =
+    ap (λ (o : Option Past). option_map_or (λ x. x.greens) o [])
+    (past_of-turn c p r disk t q ∙ cond-false (q == p) (option_map (with_greens (newly_green r t.replica)) (past_of c q)) (past_of c q) (ne_eqb q p other))
+
+pub greens_of-own : (c : Chronicle) (p : ℕ) (r : Replica) (disk : Disk) (t : Turn) (x : Past) → past_of c p ≡ Some x →
+    greens_of (after_turn c p r disk t) p ≡ greens_of c p ++ newly_green r t.replica
+greens_of-own c p r disk t x is =
+    let new = newly_green r t.replica in
+    ap (λ (o : Option Past). option_map_or (λ x. x.greens) o [])
+    (past_of-turn c p r disk t p ∙ cond-true (p == p) (option_map (with_greens new) (past_of c p)) (past_of c p) (eq-eqb p p refl) ∙ ap (option_map (with_greens new)) is)
+    ∙ ap (λ (o : Option Past). option_map_or (λ x. x.greens) o [] ++ new) (sym is)
+
+-- a replica that begins has its past, and every other one what it had
+pub past-begun : (pasts : List Past) (new : Past) (q : ℕ) → find (λ x. x.id == new.id) pasts ≡ None → find (λ x. x.id == q) (with_past pasts new) ≡ cond (new.id == q) (Some new) (find (λ x. x.id == q) pasts)
+past-begun [] new q absent = refl
+past-begun (x ∷ pasts) new q absent =
+    let found : List Past → Option Past = λ list. find (λ x. x.id == q) list in
+    let other : (x.id == new.id) ≡ false = not-first (x.id == new.id) x (find (λ x. x.id == new.id) pasts) absent in
+    let rest = past-begun pasts new q (sym (cond-false (x.id == new.id) (Some x) (find (λ x. x.id == new.id) pasts) other) ∙ absent) in
+    at-cond found (nat_lt new.id x.id) (new ∷ x ∷ pasts) (x ∷ with_past pasts new)
+    ∙ cond_both (nat_lt new.id x.id) (found (new ∷ x ∷ pasts)) (found (x ∷ with_past pasts new)) (λ o. o ≡ cond (new.id == q) (Some new) (found (x ∷ pasts)))
+    (λ y. refl)
+    (λ n. ap (cond (x.id == q) (Some x)) rest
+    ∙ swapped (x.id == q) (new.id == q) (Some x) (Some new) (found pasts) (λ h. ne_eqb new.id q (λ e. eqb-false x.id new.id other (eqb-true x.id q h ∙ sym e)))) where
+      not-first : (b : Bool) (x : Past) (o : Option Past) → cond b (Some x) o ≡ None → b ≡ false
+      not-first true x o e = absurd (let clash : Some x ≡ None = e in cc)
+      not-first false x o e = refl
+
+      swapped : (a b : Bool) (x y o : Option Past) → (a ≡ true → b ≡ false) → cond a x (cond b y o) ≡ cond b y (cond a x o)
+      swapped true true x y o h = absurd (let clash : true ≡ false = h refl in cc)
+      swapped true false x y o h = refl
+      swapped false b x y o h = refl
+
+-- what was told stays
+pub told_in-turn : (c : Chronicle) (p : ℕ) (r : Replica) (disk : Disk) (t : Turn) (conf q : ℕ) (x : Told) → told_in c conf q ≡ Some x →
+    told_in (after_turn c p r disk t) conf q ≡ Some x
+told_in-turn c p r disk t conf q x is = find-append (λ (y : Told). (y.summary.conf == conf) && (y.summary.id == q)) c.told (told_with (greens_of c p) t.sent) x is
+
+-- the attempts behind an installation
+pub attempt_of-installed : (attempts : List Attempt) (p conf q : ℕ) →
+    find (λ a. a.conf == q) (changed_attempt (with_installer p) conf attempts) ≡ cond (q == conf) (option_map (with_installer p) (find (λ a. a.conf == q) attempts)) (find (λ a. a.conf == q) attempts)
+attempt_of-installed attempts p conf q = found-changed (λ (a : Attempt). a.conf) (with_installer p) (λ a. refl) conf attempts q

@@ -1,0 +1,59 @@
+-- Every small step keeps the net facts: each of them, from the whole invariant.
+use Rattle.std.proofs.Common.{◌≡◌, true}
+use Rattle.cg_agree.specs.Chronicle.{Chronicle}
+use Rattle.cg_agree.specs.Facts.{Invariant}
+use Rattle.cg_agree.specs.FactsNet.{PhaseSound, ReceiptsInside, SenderClosed, HandedReceived, UnorderedRegular, MembersBegun, PastLeft, ReceiptsFixed, Seated, NetFacts}
+use Rattle.cg_agree.specs.Small.{Small, small_step}
+use Rattle.cg_agree.specs.Smalls.{may_make}
+use Rattle.cg_agree.proofs.BegunKept.{members_begun-kept}
+use Rattle.cg_agree.proofs.FixedKept.{receipts_fixed-kept}
+use Rattle.cg_agree.proofs.GroupKept.{group-kept}
+use Rattle.cg_agree.proofs.GroupSound.{GroupSound, sound-of, inside-of, closed-of}
+use Rattle.cg_agree.proofs.PastKept.{past_left-kept}
+use Rattle.cg_agree.proofs.SeatedKept.{seated-kept}
+use Rattle.cg_agree.proofs.UnorderedKept.{unordered_regular-kept}
+
+pub group-of : (c : Chronicle) → Invariant c → GroupSound c
+group-of c i = sound-of c i.net.phase_sound i.net.receipts_inside i.net.sender_closed i.net.handed_received
+
+pub fixed-in : (c : Chronicle) (s : Small) → Invariant c → may_make c s ≡ true → ReceiptsFixed c (small_step c s)
+fixed-in c s i m = receipts_fixed-kept c s i.net.seated m (group-of c i)
+
+pub net-kept : (c : Chronicle) (s : Small) → Invariant c → may_make c s ≡ true → NetFacts (small_step c s)
+net-kept c s i m =
+    let d = small_step c s in
+    let group = group-kept c s i.net.seated m (group-of c i) in
+    record {
+      seated = seated-kept c s i.net.seated i.net.phase_sound i.replica.mode_data m;
+      phase_sound = group.phases;
+      receipts_inside = inside-of d group;
+      sender_closed = closed-of d group;
+      handed_received = group.handed;
+      unordered_regular = unordered_regular-kept c s m i.net.unordered_regular;
+      members_begun = members_begun-kept c s i.net.seated (group-of c i) i.replica.cores i.replica.disk_behind i.replica.mode_data m i.net.members_begun;
+      past_left = past_left-kept c s i.net.seated (group-of c i) i.replica.mode_data m i.net.past_left;
+    }
+
+pub phase_sound-in : (c : Chronicle) (s : Small) → Invariant c → may_make c s ≡ true → PhaseSound (small_step c s)
+phase_sound-in c s i m = (net-kept c s i m).phase_sound
+
+pub receipts_inside-in : (c : Chronicle) (s : Small) → Invariant c → may_make c s ≡ true → ReceiptsInside (small_step c s)
+receipts_inside-in c s i m = (net-kept c s i m).receipts_inside
+
+pub sender_closed-in : (c : Chronicle) (s : Small) → Invariant c → may_make c s ≡ true → SenderClosed (small_step c s)
+sender_closed-in c s i m = (net-kept c s i m).sender_closed
+
+pub handed_received-in : (c : Chronicle) (s : Small) → Invariant c → may_make c s ≡ true → HandedReceived (small_step c s)
+handed_received-in c s i m = (net-kept c s i m).handed_received
+
+pub unordered_regular-in : (c : Chronicle) (s : Small) → Invariant c → may_make c s ≡ true → UnorderedRegular (small_step c s)
+unordered_regular-in c s i m = (net-kept c s i m).unordered_regular
+
+pub members_begun-in : (c : Chronicle) (s : Small) → Invariant c → may_make c s ≡ true → MembersBegun (small_step c s)
+members_begun-in c s i m = (net-kept c s i m).members_begun
+
+pub past_left-in : (c : Chronicle) (s : Small) → Invariant c → may_make c s ≡ true → PastLeft (small_step c s)
+past_left-in c s i m = (net-kept c s i m).past_left
+
+pub seated-in : (c : Chronicle) (s : Small) → Invariant c → may_make c s ≡ true → Seated (small_step c s)
+seated-in c s i m = (net-kept c s i m).seated

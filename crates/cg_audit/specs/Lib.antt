@@ -1,0 +1,14 @@
+pub mod Same
+pub mod Through
+pub mod TestsLists
+pub mod TestsNet
+pub mod TestsTalk
+pub mod TestsReplica
+pub mod TestsExchange
+pub mod TestsAttempts
+pub mod TestsGreens
+pub mod TestsBooks
+pub mod TestsWorlds
+pub mod Fact
+pub mod Audit
+pub mod Computing

@@ -1,0 +1,5 @@
+pub mod Attempt
+pub mod Construct
+pub mod No
+pub mod Un
+pub mod Steps

@@ -1,0 +1,151 @@
+ghost use Rattle.std.specs.Prelude.{◌≡◌, [], Some, IfOk};
+ghost use Rattle.cg_action.specs.Limits.{IsKind};
+ghost use Rattle.cg_report.specs.declared.line.StateName.TheVariants.{Construct as ConstructName};
+ghost use Rattle.cg_wire.specs.Reading.{message_in};
+ghost use Rattle.cg_client.specs.declared.parts.DraftParts.{DraftParts};
+ghost use Rattle.cg_client.specs.Requests.{kind_of, request};
+ghost use Rattle.cg_construct.specs.Attempt.{attempt_of, in_construct};
+ghost use Rattle.cg_construct.specs.Construct.{construct_on_cpc, construct_on_message, construct_on_read, construct_on};
+ghost use Rattle.cg_construct.specs.Steps.{turn_after};
+
+use crate::attempt::{attempt_set, is_announced, set_of_attempt};
+use crate::{ConstructStep, No};
+use cg_base::{IdSet, NoMemory, ReplicaId};
+use cg_client::{Core, Draft, Installed, Request};
+use cg_group::Delivery;
+use cg_report::StateName;
+use cg_wire::{Msg, read_message};
+use std::marker::Model;
+
+/// A member that has announced an attempt, whose record it keeps. Clauses see what it holds, the attempt's configuration
+/// and who has announced it.
+#[derive(Drop)]
+pub struct Construct {
+    core: Core,
+    conf: u64,
+    heard: IdSet,
+}
+
+impl Model for Construct {
+    ghost use Rattle.std.specs.Prelude.{◌≡◌, Some};
+    ghost use Rattle.cg_construct.specs.Attempt.{Attempt, attempt_of};
+
+    ghost Value = { Attempt };
+
+    ghost view = { λ s. record { held = s.core; conf = s.conf; heard = s.heard } };
+
+    ghost invariant = { λ s. attempt_of s.core ≡ Some s.conf };
+}
+
+impl Construct {
+    /// The attempt of a configuration, which the core's record tells of, was announced.
+    pub fn enter(core: Core, conf: u64) -> Construct
+        requires { attempt_of core ≡ Some conf }
+        ensures { result ≡ record { held = core; conf = conf; heard = [] } }
+    {
+        Construct {
+            core,
+            conf,
+            heard: IdSet::empty(),
+        }
+    }
+
+    /// One delivery. A transitional configuration takes no memory.
+    pub fn deliver(self, draft: &mut Draft, d: &Delivery) -> Result<ConstructStep, NoMemory>
+        ensures { IfOk result (λ step. turn_after step draft.new ≡ construct_on (in_construct self draft.old) self.conf self.heard d.now) }
+    {
+        match d {
+            Delivery::Message { from, bytes, .. } => self.hear(draft, *from, bytes.as_slice()),
+            Delivery::Transitional { .. } => {
+                let Construct { core, conf, heard } = self;
+                Ok(ConstructStep::No(No::cut_short(core, conf, heard)))
+            }
+            Delivery::Regular { .. } => Ok(ConstructStep::Construct(self)),
+        }
+    }
+
+    fn hear(
+        self,
+        draft: &mut Draft,
+        from: ReplicaId,
+        bytes: &[u8],
+    ) -> Result<ConstructStep, NoMemory>
+        ensures { IfOk result (λ step. turn_after step draft.new ≡ construct_on_read (in_construct self draft.old) self.conf self.heard from (message_in bytes.now)) }
+    {
+        match read_message(self.core.alloc(), bytes)? {
+            Some(message) => self.hear_message(draft, from, message),
+            None => Ok(ConstructStep::Construct(self)),
+        }
+    }
+
+    #[tactic(auto, unfolding(crate::specs::Construct::construct_on_message))]
+    fn hear_message(
+        self,
+        draft: &mut Draft,
+        from: ReplicaId,
+        message: Msg,
+    ) -> Result<ConstructStep, NoMemory>
+        ensures { IfOk result (λ step. turn_after step draft.new ≡ construct_on_message (in_construct self draft.old) self.conf self.heard from message) }
+    {
+        match message {
+            Msg::Cpc { id, conf } => self.hear_cpc(draft, from, id, conf),
+            Msg::Action(_) => Ok(ConstructStep::Construct(self)),
+            Msg::State(_) => Ok(ConstructStep::Construct(self)),
+            Msg::GreenItem { .. } => Ok(ConstructStep::Construct(self)),
+            Msg::RedItem(_) => Ok(ConstructStep::Construct(self)),
+        }
+    }
+
+    fn hear_cpc(
+        self,
+        draft: &mut Draft,
+        from: ReplicaId,
+        id: ReplicaId,
+        of_conf: u64,
+    ) -> Result<ConstructStep, NoMemory>
+        ensures { IfOk result (λ step. turn_after step draft.new ≡ construct_on_cpc (in_construct self draft.old) self.conf self.heard from id of_conf) }
+    {
+        let Construct {
+            core,
+            conf,
+            mut heard,
+        } = self;
+        if !is_announced(&core, conf, from, id, of_conf) {
+            return Ok(ConstructStep::Construct(Construct { core, conf, heard }));
+        }
+        heard.add(from);
+        if !attempt_set(&core).is_within(&heard) {
+            return Ok(ConstructStep::Construct(Construct { core, conf, heard }));
+        }
+        let set = set_of_attempt(&core, conf);
+        let installed = Installed::make(core, draft, set)?;
+        Ok(ConstructStep::Installed(installed))
+    }
+
+    /// A request is kept.
+    pub fn request(self, r: Request) -> Result<Construct, NoMemory>
+        requires { IsKind (kind_of r) }
+        ensures { IfOk result (λ s. (draft : DraftParts) → in_construct s draft ≡ request (in_construct self draft) (kind_of r)) }
+    {
+        let Construct {
+            mut core,
+            conf,
+            heard,
+        } = self;
+        core.keep(r.into_kind())?;
+        Ok(Construct { core, conf, heard })
+    }
+
+    pub fn name(&self) -> StateName
+        ensures { result ≡ ConstructName }
+    {
+        StateName::Construct
+    }
+
+    /// What it holds.
+    pub fn core(&self) -> &Core
+        ensures { result.now ≡ self.now.held }
+    {
+        &self.core
+    }
+}

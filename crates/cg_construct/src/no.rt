@@ -1,0 +1,139 @@
+ghost use Rattle.std.specs.Prelude.{◌≡◌, Some, IfOk};
+ghost use Rattle.cg_action.specs.Limits.{IsKind};
+ghost use Rattle.cg_report.specs.declared.line.StateName.TheVariants.{No as NoName};
+ghost use Rattle.cg_wire.specs.Reading.{message_in};
+ghost use Rattle.cg_client.specs.declared.parts.DraftParts.{DraftParts};
+ghost use Rattle.cg_client.specs.Requests.{kind_of, request};
+ghost use Rattle.cg_construct.specs.Attempt.{attempt_of, in_no};
+ghost use Rattle.cg_construct.specs.No.{no_on_cpc, no_on_message, no_on_read, no_on};
+ghost use Rattle.cg_construct.specs.Steps.{turn_after};
+
+use crate::attempt::{attempt_set, is_announced};
+use crate::{ConstructStep, Un};
+use cg_base::{IdSet, NoMemory, ReplicaId};
+use cg_client::{Core, Draft, Request};
+use cg_group::Delivery;
+use cg_report::StateName;
+use cg_wire::{Msg, read_message};
+use std::marker::Model;
+
+/// A member whose attempt was cut short before all announcements had come. Clauses see what it holds, the attempt's
+/// configuration and who has announced it.
+#[derive(Drop)]
+pub struct No {
+    core: Core,
+    conf: u64,
+    heard: IdSet,
+}
+
+impl Model for No {
+    ghost use Rattle.std.specs.Prelude.{◌≡◌, Some};
+    ghost use Rattle.cg_construct.specs.Attempt.{Attempt, attempt_of};
+
+    ghost Value = { Attempt };
+
+    ghost view = { λ s. record { held = s.core; conf = s.conf; heard = s.heard } };
+
+    ghost invariant = { λ s. attempt_of s.core ≡ Some s.conf };
+}
+
+impl No {
+    /// The attempt was cut short, when these members had announced it.
+    pub(crate) fn cut_short(core: Core, conf: u64, heard: IdSet) -> No
+        requires { attempt_of core ≡ Some conf }
+        ensures { result ≡ record { held = core; conf = conf; heard = heard } }
+    {
+        No { core, conf, heard }
+    }
+
+    /// One delivery.
+    pub fn deliver(self, draft: &mut Draft, d: &Delivery) -> Result<ConstructStep, NoMemory>
+        ensures { IfOk result (λ step. turn_after step draft.new ≡ no_on (in_no self draft.old) self.conf self.heard d.now) }
+    {
+        match d {
+            Delivery::Message { from, bytes, .. } => self.hear(draft, *from, bytes.as_slice()),
+            Delivery::Transitional { .. } => Ok(ConstructStep::No(self)),
+            Delivery::Regular { conf, set } => {
+                let No { mut core, .. } = self;
+                core.forget_record();
+                Ok(ConstructStep::Exchange {
+                    core,
+                    conf: *conf,
+                    set: *set,
+                })
+            }
+        }
+    }
+
+    fn hear(
+        self,
+        draft: &mut Draft,
+        from: ReplicaId,
+        bytes: &[u8],
+    ) -> Result<ConstructStep, NoMemory>
+        ensures { IfOk result (λ step. turn_after step draft.new ≡ no_on_read (in_no self draft.old) self.conf self.heard from (message_in bytes.now)) }
+    {
+        match read_message(self.core.alloc(), bytes)? {
+            Some(message) => Ok(self.hear_message(from, message)),
+            None => Ok(ConstructStep::No(self)),
+        }
+    }
+
+    #[tactic(auto, unfolding(crate::specs::No::no_on_message))]
+    fn hear_message(self, from: ReplicaId, message: Msg) -> ConstructStep
+        ensures { (draft : DraftParts) → turn_after result draft ≡ no_on_message (in_no self draft) self.conf self.heard from message }
+    {
+        match message {
+            Msg::Cpc { id, conf } => self.hear_cpc(from, id, conf),
+            Msg::Action(_) => ConstructStep::No(self),
+            Msg::State(_) => ConstructStep::No(self),
+            Msg::GreenItem { .. } => ConstructStep::No(self),
+            Msg::RedItem(_) => ConstructStep::No(self),
+        }
+    }
+
+    fn hear_cpc(self, from: ReplicaId, id: ReplicaId, of_conf: u64) -> ConstructStep
+        ensures { (draft : DraftParts) → turn_after result draft ≡ no_on_cpc (in_no self draft) self.conf self.heard from id of_conf }
+    {
+        let No {
+            core,
+            conf,
+            mut heard,
+        } = self;
+        if !is_announced(&core, conf, from, id, of_conf) {
+            return ConstructStep::No(No { core, conf, heard });
+        }
+        heard.add(from);
+        if !attempt_set(&core).is_within(&heard) {
+            return ConstructStep::No(No { core, conf, heard });
+        }
+        ConstructStep::Un(Un::announced(core, conf))
+    }
+
+    /// A request is kept.
+    pub fn request(self, r: Request) -> Result<No, NoMemory>
+        requires { IsKind (kind_of r) }
+        ensures { IfOk result (λ s. (draft : DraftParts) → in_no s draft ≡ request (in_no self draft) (kind_of r)) }
+    {
+        let No {
+            mut core,
+            conf,
+            heard,
+        } = self;
+        core.keep(r.into_kind())?;
+        Ok(No { core, conf, heard })
+    }
+
+    pub fn name(&self) -> StateName
+        ensures { result ≡ NoName }
+    {
+        StateName::No
+    }
+
+    /// What it holds.
+    pub fn core(&self) -> &Core
+        ensures { result.now ≡ self.now.held }
+    {
+        &self.core
+    }
+}

@@ -1,0 +1,6 @@
+pub mod States
+pub mod NonPrim
+pub mod PlanEnd
+pub mod ExchangeActions
+pub mod ExchangeStates
+pub mod Steps

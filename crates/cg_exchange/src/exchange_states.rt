@@ -1,0 +1,212 @@
+ghost use Rattle.std.specs.Prelude.{◌≡◌, IfOk};
+ghost use Rattle.cg_action.specs.Limits.{IsKind};
+ghost use Rattle.cg_report.specs.declared.line.StateName.TheVariants.{ExchangeStates as ExchangeStatesName};
+ghost use Rattle.cg_wire.specs.Reading.{message_in};
+ghost use Rattle.cg_client.specs.declared.parts.DraftParts.{DraftParts};
+ghost use Rattle.cg_client.specs.Drafts.{turn_with};
+ghost use Rattle.cg_client.specs.Replica.{State};
+ghost use Rattle.cg_client.specs.Requests.{kind_of, request};
+ghost use Rattle.cg_client.specs.Summary.{enter_exchange};
+ghost use Rattle.cg_exchange.specs.ExchangeActions.{go_on};
+ghost use Rattle.cg_exchange.specs.ExchangeStates.{is_usable, with_heard, exchange_states_on_summary, exchange_states_on_message, exchange_states_on_read, exchange_states_on};
+ghost use Rattle.cg_exchange.specs.States.{in_states};
+ghost use Rattle.cg_exchange.specs.Steps.{turn_after, HasRecord};
+
+use crate::{ExchangeActions, ExchangeStep, NonPrim};
+use cg_base::{IdSet, NoMemory, ReplicaId, Row};
+use cg_client::{Core, Draft, Request};
+use cg_group::Delivery;
+use cg_knowledge::{Summary, senders};
+use cg_plan::Plan;
+use cg_report::StateName;
+use cg_wire::{Msg, read_message};
+use std::marker::Model;
+
+/// A member that waits for what the others hold. Clauses see what it holds itself, the configuration with its members, and
+/// the summaries that were heard.
+#[derive(Drop)]
+pub struct ExchangeStates {
+    core: Core,
+    conf: u64,
+    set: IdSet,
+    heard: Row<Summary>,
+}
+
+impl Model for ExchangeStates {
+    ghost use Rattle.cg_exchange.specs.States.{Waiting};
+
+    ghost Value = { Waiting };
+
+    ghost view = { λ s. record { held = s.core; conf = s.conf; set = s.set; heard = s.heard } };
+}
+
+// the summary is its sender's, of this configuration, and the sender's first one here
+fn is_usable(conf: u64, heard: &[Summary], from: ReplicaId, s: &Summary) -> bool
+    ensures { result ≡ is_usable conf heard.now from s.now }
+{
+    s.id.get() == from.get() && s.conf == conf && !senders(heard).contains(from)
+}
+
+// the plan of these summaries is made, and none of its items was accepted
+fn begin_plan(
+    core: Core,
+    draft: &mut Draft,
+    conf: u64,
+    heard: Row<Summary>,
+) -> Result<ExchangeStep, NoMemory>
+    ensures turn { IfOk result (λ step. (state : State) → turn_after step draft.new ≡ go_on (turn_with core state draft.old) conf heard 0) }
+    ensures record { IfOk result HasRecord }
+{
+    let plan = Plan::make(core.alloc(), heard.as_slice())?;
+    ExchangeActions::follow(core, draft, conf, heard, plan)
+}
+
+impl ExchangeStates {
+    /// A configuration with these members begins: the own actions that weren't delivered become red, and the others are
+    /// told what this member holds.
+    pub fn enter(
+        core: Core,
+        draft: &mut Draft,
+        conf: u64,
+        set: IdSet,
+    ) -> Result<ExchangeStates, NoMemory>
+        ensures { IfOk result (λ s. (state : State) → in_states s draft.new ≡ enter_exchange (turn_with core state draft.old) conf set) }
+    {
+        let mut core = core;
+        core.enter_exchange(draft, conf, set)?;
+        let heard = Row::new(core.alloc());
+        Ok(ExchangeStates {
+            core,
+            conf,
+            set,
+            heard,
+        })
+    }
+
+    /// One delivery.
+    pub fn deliver(self, draft: &mut Draft, d: &Delivery) -> Result<ExchangeStep, NoMemory>
+        ensures turn { IfOk result (λ step. turn_after step draft.new ≡ exchange_states_on (in_states self draft.old) self.conf self.set self.heard d.now) }
+        ensures record { IfOk result HasRecord }
+    {
+        match d {
+            Delivery::Message { from, bytes, .. } => self.hear(draft, *from, bytes.as_slice()),
+            Delivery::Transitional { .. } => {
+                let ExchangeStates { core, .. } = self;
+                Ok(ExchangeStep::Non(NonPrim::of(core, false)))
+            }
+            Delivery::Regular { .. } => Ok(ExchangeStep::States(self)),
+        }
+    }
+
+    fn hear(
+        self,
+        draft: &mut Draft,
+        from: ReplicaId,
+        bytes: &[u8],
+    ) -> Result<ExchangeStep, NoMemory>
+        ensures turn { IfOk result (λ step. turn_after step draft.new ≡ exchange_states_on_read (in_states self draft.old) self.conf self.set self.heard from (message_in bytes.now)) }
+        ensures record { IfOk result HasRecord }
+    {
+        match read_message(self.core.alloc(), bytes)? {
+            Some(message) => self.hear_message(draft, from, message),
+            None => Ok(ExchangeStep::States(self)),
+        }
+    }
+
+    #[tactic(auto, unfolding(crate::specs::ExchangeStates::exchange_states_on_message))]
+    fn hear_message(
+        self,
+        draft: &mut Draft,
+        from: ReplicaId,
+        message: Msg,
+    ) -> Result<ExchangeStep, NoMemory>
+        ensures turn { IfOk result (λ step. turn_after step draft.new ≡ exchange_states_on_message (in_states self draft.old) self.conf self.set self.heard from message) }
+        ensures record { IfOk result HasRecord }
+    {
+        match message {
+            Msg::State(summary) => self.hear_summary(draft, from, summary),
+            Msg::Action(_) => Ok(ExchangeStep::States(self)),
+            Msg::GreenItem { .. } => Ok(ExchangeStep::States(self)),
+            Msg::RedItem(_) => Ok(ExchangeStep::States(self)),
+            Msg::Cpc { .. } => Ok(ExchangeStep::States(self)),
+        }
+    }
+
+    fn hear_summary(
+        self,
+        draft: &mut Draft,
+        from: ReplicaId,
+        s: Summary,
+    ) -> Result<ExchangeStep, NoMemory>
+        ensures turn { IfOk result (λ step. turn_after step draft.new ≡ exchange_states_on_summary (in_states self draft.old) self.conf self.set self.heard from s) }
+        ensures record { IfOk result HasRecord }
+    {
+        if !is_usable(self.conf, self.heard.as_slice(), from, &s) {
+            return Ok(ExchangeStep::States(self));
+        }
+        let ExchangeStates {
+            core,
+            conf,
+            set,
+            mut heard,
+        } = self;
+        heard.push(s)?;
+        ExchangeStates {
+            core,
+            conf,
+            set,
+            heard,
+        }
+        .go_on(draft)
+    }
+
+    // with the summaries of all members the plan is made; else more are waited for
+    fn go_on(self, draft: &mut Draft) -> Result<ExchangeStep, NoMemory>
+        ensures turn { IfOk result (λ step. (state : State) → turn_after step draft.new ≡ with_heard (turn_with self.held state draft.old) self.conf self.set self.heard) }
+        ensures record { IfOk result HasRecord }
+    {
+        if !self.set.is_within(&senders(self.heard.as_slice())) {
+            return Ok(ExchangeStep::States(self));
+        }
+        let ExchangeStates {
+            core,
+            conf,
+            heard,
+            ..
+        } = self;
+        begin_plan(core, draft, conf, heard)
+    }
+
+    /// A request is kept.
+    pub fn request(self, r: Request) -> Result<ExchangeStates, NoMemory>
+        requires { IsKind (kind_of r) }
+        ensures { IfOk result (λ s. (draft : DraftParts) → in_states s draft ≡ request (in_states self draft) (kind_of r)) }
+    {
+        let ExchangeStates {
+            mut core,
+            conf,
+            set,
+            heard,
+        } = self;
+        core.keep(r.into_kind())?;
+        Ok(ExchangeStates {
+            core,
+            conf,
+            set,
+            heard,
+        })
+    }
+
+    pub fn name(&self) -> StateName
+        ensures { result ≡ ExchangeStatesName }
+    {
+        StateName::ExchangeStates
+    }
+
+    /// What it holds.
+    pub fn core(&self) -> &Core
+        ensures { result.now ≡ self.now.held }
+    {
+        &self.core
+    }
+}

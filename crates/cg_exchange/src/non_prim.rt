@@ -1,0 +1,142 @@
+ghost use Rattle.std.specs.Prelude.{◌≡◌, false, IfOk};
+ghost use Rattle.cg_action.specs.Limits.{IsKind};
+ghost use Rattle.cg_report.specs.declared.line.StateName.TheVariants.{NonPrim as NonPrimName};
+ghost use Rattle.cg_wire.specs.Limits.{IsMsg};
+ghost use Rattle.cg_wire.specs.Reading.{message_in};
+ghost use Rattle.cg_client.specs.Requests.{kind_of, request, settle};
+ghost use Rattle.cg_exchange.specs.NonPrim.{non_prim_on_message, non_prim_on_read, non_prim_on};
+ghost use Rattle.cg_exchange.specs.States.{in_non_prim};
+ghost use Rattle.cg_exchange.specs.Steps.{turn_after, HasRecord};
+
+use crate::{ExchangeStates, ExchangeStep};
+use cg_base::NoMemory;
+use cg_client::{Core, Draft, Request};
+use cg_group::Delivery;
+use cg_report::StateName;
+use cg_wire::{Msg, read_message};
+use std::marker::Model;
+
+/// A member of no primary component. Clauses see what it holds, and whether it is in a regular configuration.
+#[derive(Drop)]
+pub struct NonPrim {
+    core: Core,
+    regular: bool,
+}
+
+impl Model for NonPrim {
+    ghost use Rattle.cg_exchange.specs.States.{Outside};
+
+    ghost Value = { Outside };
+
+    ghost view = { λ s. record { held = s.core; regular = s.regular } };
+}
+
+impl NonPrim {
+    /// The replica has come up, and is alone.
+    pub fn recovered(core: Core) -> NonPrim
+        ensures { result ≡ record { held = core; regular = false } }
+    {
+        NonPrim {
+            core,
+            regular: false,
+        }
+    }
+
+    /// The member of a configuration in which no primary component was formed.
+    pub(crate) fn of(core: Core, regular: bool) -> NonPrim
+        ensures { result ≡ record { held = core; regular = regular } }
+    {
+        NonPrim { core, regular }
+    }
+
+    /// One delivery.
+    pub fn deliver(self, draft: &mut Draft, d: &Delivery) -> Result<ExchangeStep, NoMemory>
+        ensures turn { IfOk result (λ step. turn_after step draft.new ≡ non_prim_on (in_non_prim self draft.old) d.now) }
+        ensures record { IfOk result HasRecord }
+    {
+        match d {
+            Delivery::Message { bytes, .. } => {
+                let next = self.hear(draft, bytes.as_slice())?;
+                Ok(ExchangeStep::Non(next))
+            }
+            Delivery::Transitional { .. } => {
+                let NonPrim { core, .. } = self;
+                Ok(ExchangeStep::Non(NonPrim {
+                    core,
+                    regular: false,
+                }))
+            }
+            Delivery::Regular { conf, set } => {
+                let NonPrim { core, .. } = self;
+                let next = ExchangeStates::enter(core, draft, *conf, *set)?;
+                Ok(ExchangeStep::States(next))
+            }
+        }
+    }
+
+    fn hear(self, draft: &mut Draft, bytes: &[u8]) -> Result<NonPrim, NoMemory>
+        ensures { IfOk result (λ s. in_non_prim s draft.new ≡ non_prim_on_read (in_non_prim self draft.old) (message_in bytes.now)) }
+    {
+        match read_message(self.core.alloc(), bytes)? {
+            Some(message) => self.hear_message(draft, message),
+            None => Ok(self),
+        }
+    }
+
+    #[tactic(auto, unfolding(crate::specs::NonPrim::non_prim_on_message))]
+    fn hear_message(self, draft: &mut Draft, message: Msg) -> Result<NonPrim, NoMemory>
+        requires { IsMsg message }
+        ensures { IfOk result (λ s. in_non_prim s draft.new ≡ non_prim_on_message (in_non_prim self draft.old) message) }
+    {
+        let NonPrim { mut core, regular } = self;
+        match message {
+            Msg::Action(a) => {
+                core.mark_red(draft, a)?;
+                Ok(NonPrim { core, regular })
+            }
+            Msg::State(_) => Ok(NonPrim { core, regular }),
+            Msg::GreenItem { .. } => Ok(NonPrim { core, regular }),
+            Msg::RedItem(_) => Ok(NonPrim { core, regular }),
+            Msg::Cpc { .. } => Ok(NonPrim { core, regular }),
+        }
+    }
+
+    /// A request is created in a regular configuration, else it is kept.
+    pub fn request(self, draft: &mut Draft, r: Request) -> Result<NonPrim, NoMemory>
+        requires { IsKind (kind_of r) }
+        ensures { IfOk result (λ s. in_non_prim s draft.new ≡ request (in_non_prim self draft.old) (kind_of r)) }
+    {
+        let NonPrim { mut core, regular } = self;
+        if !regular {
+            core.keep(r.into_kind())?;
+            return Ok(NonPrim { core, regular });
+        }
+        core.create(draft, r.into_kind())?;
+        Ok(NonPrim { core, regular })
+    }
+
+    /// The event ends: in a regular configuration the requests that are kept are created, in their order.
+    pub fn settle(self, draft: &mut Draft) -> Result<NonPrim, NoMemory>
+        ensures { IfOk result (λ s. in_non_prim s draft.new ≡ settle (in_non_prim self draft.old)) }
+    {
+        let NonPrim { mut core, regular } = self;
+        if !regular {
+            return Ok(NonPrim { core, regular });
+        }
+        core.create_kept(draft)?;
+        Ok(NonPrim { core, regular })
+    }
+
+    pub fn name(&self) -> StateName
+        ensures { result ≡ NonPrimName }
+    {
+        StateName::NonPrim
+    }
+
+    /// What it holds.
+    pub fn core(&self) -> &Core
+        ensures { result.now ≡ self.now.held }
+    {
+        &self.core
+    }
+}

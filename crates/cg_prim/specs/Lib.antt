@@ -1,0 +1,3 @@
+pub mod RegPrim
+pub mod TransPrim
+pub mod Steps

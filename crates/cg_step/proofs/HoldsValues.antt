@@ -1,0 +1,264 @@
+-- What holds of what a replica holds, where other things change than its actions: values, own actions, the white count.
+use Rattle.std.proofs.Common.{◌≡◌, ℕ, zero, suc, ◌+◌, ◌-◌, ◌<◌, ◌≤◌, List, [], ◌∷◌, ◌++◌, length, drop, fold, map, max, Bool, true, false, not, refl, sym, ap, ◌∙◌, subst, arith, inl, inr, if◌then◌else◌, eqb-true, nat_lt, nat_le}
+use Rattle.std.specs.Prelude.{◌==◌, Option}
+use Rattle.std.specs.Option.{unwrap_or}
+use Rattle.std.specs.List.{list_all}
+use Rattle.std.proofs.lemmas.Bool.{cases_eq, cases_order, cases_Bool, eq-eqb, le-ltb, le-leb, and_parts, and_from, or_from}
+use Rattle.cg_base.specs.declared.action_id.ActionId.{ActionId}
+use Rattle.cg_base.specs.declared.weighted.Weighted.{Weighted}
+use Rattle.cg_base.specs.Ids.{same_id, names}
+use Rattle.cg_base.specs.Cuts.{index_in, raise}
+use Rattle.cg_action.specs.declared.action.Action.{Action}
+use Rattle.cg_action.specs.declared.action.Kind.{Kind}
+use Rattle.cg_members.specs.declared.server.Server.{Server}
+use Rattle.cg_members.specs.Servers.{white_line, least_line}
+use Rattle.cg_members.specs.Laws.{AreApart, NoLineAbove}
+use Rattle.cg_queue.specs.Queue.{QueueView, names_of, green_count, with_yellow}
+use Rattle.cg_records.specs.declared.primary.Primary.{Primary}
+use Rattle.cg_records.specs.declared.vulnerable.Vulnerable.{Vulnerable}
+use Rattle.cg_client.specs.Replica.{Held, fresh_held, created, last_index}
+use Rattle.cg_exchange.specs.PlanEnd.{with_name, usable_names}
+use Rattle.cg_stored.specs.Stored.{white_at, whiten}
+use Rattle.cg_stored.specs.Change.{is_distinct, are_yellow}
+use Rattle.cg_stored.specs.Checkpoint.{indexes_of}
+use Rattle.cg_step.specs.Holds.{run_on, cut_behind, Rising, CountsTo, Holds}
+use Rattle.cg_base.specs.IdLaws.{same_id-true, same_id-false}
+use Rattle.cg_step.proofs.CutRaise.{rising-raise, index-same}
+use Rattle.cg_step.proofs.RunFacts.{run_on-next}
+use Rattle.cg_step.proofs.RunMarks.{run-head, run-rest, run-names}
+use Rattle.cg_step.proofs.HoldsMarks.{are_of, are_red, names-behind, rising-red}
+use Rattle.cg_step.proofs.Apart.{apart-starting}
+
+-- what is held with other values
+abbrev pub with_values_of : Held → List ActionId → Bool → Primary → ℕ → Option Vulnerable → List Kind → Held
+with_values_of h yellow valid prim index v buffered =
+    let q = h.queue in
+    record h { queue = record q { yellow = yellow }; yellow_valid = valid; prim = prim; attempt_index = index; vulnerable = v; buffered = buffered }
+
+pub holds-values : (h : Held) (yellow : List ActionId) (valid : Bool) (prim : Primary) (index : ℕ) (v : Option Vulnerable) (buffered : List Kind) →
+    are_yellow h.queue yellow ≡ true → Holds h → Holds (with_values_of h yellow valid prim index v buffered)
+holds-values h yellow valid prim index v buffered red is = record {
+  rising = is.rising;
+  greens = is.greens;
+  count = is.count;
+  red_cut = is.red_cut;
+  reds = is.reds;
+  by_name = is.by_name;
+  own = is.own;
+  mine = is.mine;
+  yellow = red;
+  members = is.members;
+}
+
+-- ---- yellow names
+
+all-behind : (p : ActionId → Bool) (ids : List ActionId) (id : ActionId) → list_all p ids ≡ true → p id ≡ true → list_all p (ids ++ id ∷ []) ≡ true
+all-behind p [] id every last = and_from (p id) true last refl
+all-behind p (x ∷ ids) id every last = let parts = and_parts (p x) (list_all p ids) every in and_from (p x) (list_all p (ids ++ id ∷ [])) parts.0 (all-behind p ids id parts.1 last)
+
+names-apart : (ids : List ActionId) (id x : ActionId) → same_id x id ≡ false → names ids x ≡ false → names (ids ++ id ∷ []) x ≡ false
+names-apart [] id x apart none = or_from (same_id x id) false apart refl
+names-apart (y ∷ ids) id x apart none = elim (cases_Bool (same_id x y)) [
+  | inl here ↦ absurd (let clash : true ≡ false = rw here at none in cc)
+  | inr other ↦ rw other (names-apart ids id x apart (rw other at none))
+]
+
+distinct-behind : (ids : List ActionId) (id : ActionId) → is_distinct ids ≡ true → names ids id ≡ false → is_distinct (ids ++ id ∷ []) ≡ true
+distinct-behind [] id distinct new = refl
+distinct-behind (x ∷ ids) id distinct new =
+    let parts = and_parts (not (names ids x)) (is_distinct ids) distinct in
+    elim (cases_Bool (same_id id x)) [
+      | inl here ↦ absurd (let clash : true ≡ false = rw here at new in cc)
+      | inr other ↦
+          and_from (not (names (ids ++ id ∷ []) x)) (is_distinct (ids ++ id ∷ []))
+          (ap not (names-apart ids id x (turned x other) (none (names ids x) parts.0))) (distinct-behind ids id parts.1 (rw other at new))
+    ]
+  where
+    none : (b : Bool) → not b ≡ true → b ≡ false
+    none true e = absurd (let clash : false ≡ true = e in cc)
+    none false e = refl
+
+    turned : (x : ActionId) → same_id id x ≡ false → same_id x id ≡ false
+    turned x other = elim (cases_eq x.creator id.creator) [
+      | inl same ↦ elim (cases_eq x.index id.index) [
+        | inl equal ↦ absurd (let clash : true ≡ false = sym (same_id-true id x (sym same) (sym equal)) ∙ other in cc)
+        | inr differ ↦ same_id-false x id (inr differ)
+      ]
+      | inr differ ↦ same_id-false x id (inl differ)
+    ]
+
+yellow-behind : (q : QueueView) (ids : List ActionId) (id : ActionId) → are_yellow q ids ≡ true → names (names_of q.reds) id ≡ true → names ids id ≡ false → are_yellow q (ids ++ id ∷ []) ≡ true
+yellow-behind q ids id yellow red new =
+    let parts = and_parts (is_distinct ids) (are_red (names_of q.reds) ids) yellow in
+    and_from (is_distinct (ids ++ id ∷ [])) (are_red (names_of q.reds) (ids ++ id ∷ [])) (distinct-behind ids id parts.0 new)
+    (all-behind (names (names_of q.reds)) ids id parts.1 red)
+
+usable-from : (q : QueueView) (list ids : List ActionId) → are_yellow q list ≡ true → are_yellow q (fold (with_name q) list ids) ≡ true
+usable-from q list [] yellow = yellow
+usable-from q list (id ∷ ids) yellow = usable-from q (with_name q list id) ids (elim (cases_Bool (names (names_of q.reds) id)) [
+  | inl red ↦ elim (cases_Bool (names list id)) [
+    | inl there ↦ rw (red, there) yellow
+    | inr new ↦ rw (red, new) (yellow-behind q list id yellow red new)
+  ]
+  | inr other ↦ rw other yellow
+])
+
+pub usable-yellow : (q : QueueView) (ids : List ActionId) → are_yellow q (usable_names q ids) ≡ true
+unfolding usable_names
+usable-yellow q ids = usable-from q [] ids refl
+
+-- a name that is known comes to the yellow ones
+pub record Yellowed (q : QueueView) (id : ActionId) : Type 0 where
+  pub list : List ActionId
+  pub is : with_yellow q id ≡ record q { yellow = list }
+  pub yellow : are_yellow q list ≡ true
+
+pub yellowed : (h : Held) (id : ActionId) → Holds h → id.index ≤ index_in h.queue.red_cut id.creator → Yellowed h.queue id
+yellowed h id is le =
+    let gc = h.queue.green_cut in
+    elim (cases_Bool (nat_lt (index_in gc id.creator) id.index)) [
+      | inl above ↦ elim (cases_Bool (names h.queue.yellow id)) [
+        | inl there ↦ record { list = h.queue.yellow; is = rw (above, there) refl; yellow = is.yellow }
+        | inr new ↦ record {
+          list = h.queue.yellow ++ id ∷ [];
+          is = rw (above, new) refl;
+          yellow = yellow-behind h.queue h.queue.yellow id is.yellow (red above) new;
+        }
+      ]
+      | inr below ↦ record { list = h.queue.yellow; is = rw below refl; yellow = is.yellow }
+    ]
+  where
+    red : nat_lt (index_in h.queue.green_cut id.creator) id.index ≡ true → names (names_of h.queue.reds) id ≡ true
+    red above =
+        run-names h.queue.green_cut (names_of h.queue.reds) id is.rising is.reds
+        ∙ and_from (nat_lt (index_in h.queue.green_cut id.creator) id.index) (nat_le id.index (index_in (cut_behind h.queue.green_cut (names_of h.queue.reds)) id.creator))
+        above (ap (λ c. nat_le id.index (index_in c id.creator)) (sym is.red_cut) ∙ le-leb id.index (index_in h.queue.red_cut id.creator) le)
+
+-- ---- own actions
+
+-- behind a run of own actions the last index is the creator's
+last-above : (cut : List ActionId) (me : ℕ) (a : Action) (own : List Action) → Rising 0 cut → run_on cut (names_of (a ∷ own)) ≡ true → are_of me (a ∷ own) ≡ true →
+    index_in cut me < last_index (a ∷ own)
+last-above cut me a [] rising run mine =
+    let next : a.id.index ≡ suc (index_in cut a.id.creator) = run-head cut a.id [] run in
+    let of_me : a.id.creator ≡ me = eqb-true a.id.creator me (and_parts (a.id.creator == me) true mine).0 in
+    let here : index_in cut a.id.creator ≡ index_in cut me = ap (index_in cut) of_me in
+    omega arith
+last-above cut me a (b ∷ own) rising run mine =
+    let parts = and_parts (a.id.creator == me) (are_of me (b ∷ own)) mine in
+    let of_me : a.id.creator ≡ me = eqb-true a.id.creator me parts.0 in
+    let reached : index_in (raise cut a.id) me ≡ max (index_in cut me) a.id.index = index-same cut a.id rising me of_me in
+    let rest = last-above (raise cut a.id) me b own (rising-raise cut a.id rising) (run-rest cut a.id (names_of (b ∷ own)) run) parts.1 in
+    omega arith
+
+pub created-behind : (cut : List ActionId) (me : ℕ) (own : List Action) → Rising 0 cut → run_on cut (names_of own) ≡ true → are_of me own ≡ true →
+    index_in (cut_behind cut (names_of own)) me ≡ max (index_in cut me) (last_index own)
+created-behind cut me [] rising run mine = omega arith
+created-behind cut me (a ∷ []) rising run mine =
+    index-same cut a.id rising me (eqb-true a.id.creator me (and_parts (a.id.creator == me) true mine).0)
+created-behind cut me (a ∷ b ∷ own) rising run mine =
+    let parts = and_parts (a.id.creator == me) (are_of me (b ∷ own)) mine in
+    let of_me : a.id.creator ≡ me = eqb-true a.id.creator me parts.0 in
+    let reached : index_in (raise cut a.id) me ≡ max (index_in cut me) a.id.index = index-same cut a.id rising me of_me in
+    let rest_run = run-rest cut a.id (names_of (b ∷ own)) run in
+    let above = last-above (raise cut a.id) me b own (rising-raise cut a.id rising) rest_run parts.1 in
+    let rest = created-behind (raise cut a.id) me (b ∷ own) (rising-raise cut a.id rising) rest_run parts.1 in
+    rest ∙ (let most : max (index_in (raise cut a.id) me) (last_index (b ∷ own)) ≡ max (index_in cut me) (last_index (b ∷ own)) = omega arith in most)
+
+mine-behind : (me : ℕ) (own : List Action) (a : Action) → are_of me own ≡ true → a.id.creator ≡ me → are_of me (own ++ a ∷ []) ≡ true
+mine-behind me [] a mine of_me = and_from (a.id.creator == me) true (eq-eqb a.id.creator me of_me) refl
+mine-behind me (b ∷ own) a mine of_me =
+    let parts = and_parts (b.id.creator == me) (are_of me own) mine in
+    and_from (b.id.creator == me) (are_of me (own ++ a ∷ [])) parts.0 (mine-behind me own a parts.1 of_me)
+
+-- one more own action
+abbrev pub with_made : Held → Action → List ActionId → Held
+with_made h a owed = record h { own = h.own ++ a ∷ []; owed = owed }
+
+pub holds-made : (h : Held) (a : Action) (owed : List ActionId) → a.id.creator ≡ h.id → a.id.index ≡ suc (created h) → Holds h → Holds (with_made h a owed)
+holds-made h a owed mine next is =
+    let behind = created-behind h.queue.red_cut h.id h.own (rising-red h is) is.own is.mine in
+    let last : a.id.index ≡ suc (index_in (cut_behind h.queue.red_cut (names_of h.own)) a.id.creator) =
+    next ∙ ap suc (sym behind) ∙ ap (λ p. suc (index_in (cut_behind h.queue.red_cut (names_of h.own)) p)) (sym mine) in
+    record {
+      rising = is.rising;
+      greens = is.greens;
+      count = is.count;
+      red_cut = is.red_cut;
+      reds = is.reds;
+      by_name = is.by_name;
+      own = ap (run_on h.queue.red_cut) (names-behind h.own a) ∙ run_on-next h.queue.red_cut (names_of h.own) a.id is.own last;
+      mine = mine-behind h.id h.own a is.mine mine;
+      yellow = is.yellow;
+      members = is.members;
+    }
+
+-- ---- the white count
+
+least-below : (n : ℕ) (ns : List ℕ) → fold (λ m k. if nat_lt k m then k else m) n ns ≤ n
+least-below n [] = omega arith
+least-below n (k ∷ ns) = elim (cases_Bool (nat_lt k n)) [
+  | inl lt ↦ rw lt (let rest = least-below k ns in let less : k ≤ n = below lt in omega arith)
+  | inr not_lt ↦ rw not_lt (least-below n ns)
+] where
+  below : nat_lt k n ≡ true → k ≤ n
+  below lt = elim (cases_order k n) [
+    | inl same ↦ omega arith
+    | inr apart ↦ elim apart [ inl less ↦ omega arith | inr more ↦ absurd (let clash : true ≡ false = sym lt ∙ le-ltb k n (omega arith) in cc) ]
+  ]
+
+line-below : (n : ℕ) (servers : List Server) → NoLineAbove n servers → unwrap_or (least_line servers) 0 ≤ n
+line-below n [] lines = omega arith
+line-below n (s ∷ servers) lines =
+    let first : s.line ≤ n = lines.0 in
+    let least : fold (λ m k. if nat_lt k m then k else m) s.line (map (λ (x : Server). x.line) servers) ≤ s.line = least-below s.line (map (λ (x : Server). x.line) servers) in
+    omega arith
+
+dropped : (n : ℕ) (xs : List Action) → n ≤ length xs → n + length (drop n xs) ≡ length xs
+dropped zero xs le = omega arith
+dropped (suc n) [] le = absurd (omega arith)
+dropped (suc n) (x ∷ xs) le = let rest = dropped n xs (omega arith) in omega arith
+
+counts-drop : (n : ℕ) (xs : List Action) (p last : ℕ) → CountsTo last (indexes_of xs p) → CountsTo last (indexes_of (drop n xs) p)
+counts-drop zero xs p last counts = counts
+counts-drop (suc n) [] p last counts = tt
+counts-drop (suc n) (x ∷ xs) p last counts = counts-drop n xs p last (elim (cases_Bool (x.id.creator == p)) [
+  | inl here ↦ (let both : CountsTo last (x.id.index ∷ indexes_of xs p) = rw here at counts in both.2)
+  | inr other ↦ (rw other at counts)
+])
+
+pub holds-whiten : (h : Held) → Holds h → Holds (whiten h)
+unfolding whiten
+holds-whiten h is =
+    let lines : unwrap_or (white_line h.members) 0 ≤ green_count h.queue = line-below (green_count h.queue) h.members.servers is.members.lines in
+    let enough : white_at h - h.queue.white ≤ length h.queue.greens = omega arith in
+    let kept = dropped (white_at h - h.queue.white) h.queue.greens enough in
+    let counted : green_count h.queue ≡ white_at h + length (drop (white_at h - h.queue.white) h.queue.greens) = omega arith in
+    record {
+      rising = is.rising;
+      greens = λ p. counts-drop (white_at h - h.queue.white) h.queue.greens p (index_in h.queue.green_cut p) (is.greens p);
+      count = is.count ∙ counted;
+      red_cut = is.red_cut;
+      reds = is.reds;
+      by_name = is.by_name;
+      own = is.own;
+      mine = is.mine;
+      yellow = is.yellow;
+      members = subst (AreApart h.members) counted is.members;
+    }
+
+-- ---- a new replica
+
+pub holds-fresh : (id : ℕ) (set : List Weighted) → Holds (fresh_held id set)
+holds-fresh id set = record {
+  rising = tt;
+  greens = λ p. tt;
+  count = refl;
+  red_cut = refl;
+  reds = refl;
+  by_name = refl;
+  own = refl;
+  mine = refl;
+  yellow = refl;
+  members = apart-starting set;
+}

@@ -1,0 +1,17 @@
+mod IdFacts
+mod CutRaise
+mod RunFacts
+mod RunMarks
+mod Apart
+mod HoldsMarks
+mod HoldsValues
+mod Rows
+mod Knowing
+mod Commuting
+mod Led
+mod Steps
+mod SameValues
+mod Recording
+mod Settling
+mod Opening
+mod Following

@@ -1,0 +1,9 @@
+pub mod Holds
+pub mod Step
+pub mod Hearing
+pub mod HearingLaws
+pub mod Recorded
+pub mod Following
+pub mod Commit
+pub mod Crash
+pub mod Computing

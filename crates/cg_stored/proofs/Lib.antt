@@ -1,0 +1,8 @@
+mod Steps
+mod ListFields
+mod ChangeFields
+mod ServerFields
+mod EntryFields
+mod CheckpointFields
+mod Agreeing
+mod StandingLaws

@@ -1,0 +1,148 @@
+ghost use Rattle.std.specs.Prelude.{◌≡◌, ◌++◌, ◌+◌, ◌<◌, ◌^◌, IsTrue, OnOk, OnErr, IfOk};
+ghost use Rattle.cg_base.specs.Text.{KeepsFront};
+ghost use Rattle.cg_codec.specs.Reading.{whole};
+ghost use Rattle.cg_codec.specs.Taking.{unread_of, TakesWithMemory, Decodes};
+ghost use Rattle.cg_action.specs.Limits.{IsAction, IsActionId};
+ghost use Rattle.cg_records.specs.Limits.{Each, IsStable};
+ghost use Rattle.cg_stored.specs.Change.{spelled_change, change_with};
+ghost use Rattle.cg_stored.specs.Limits.{IsChange};
+ghost use Rattle.cg_stored.specs.Reading.{change_reading};
+ghost use Rattle.cg_stored.specs.Laws.{GivesChange, FindsChange};
+
+use crate::lists::{put_actions, put_ids, take_actions, take_ids};
+use cg_action::{Action, ActionList};
+use cg_base::{ActionId, IdList, NoMemory};
+use cg_codec::{CodecFault, Fields};
+use cg_records::{Stable, put_stable, take_stable};
+use std::alloc::Global;
+
+/// What a commit changes of what stands on the disk.
+#[derive(Drop)]
+pub struct Change {
+    /// The new values of what may change at any time.
+    pub stable: Stable,
+    /// The actions newly known, in the order of their marks.
+    pub known: ActionList,
+    /// The names newly green, in order.
+    pub green: IdList,
+    /// The actions newly made.
+    pub made: ActionList,
+}
+
+impl Change {
+    /// Puts it at the end.
+    pub fn encode(&self, out: &mut Vec<u8>) -> Result<(), NoMemory>
+        requires { IsChange self.now }
+        ensures ok { OnOk result (out.new.items ≡ out.old.items ++ spelled_change self.now) }
+        ensures err { OnErr result (out.new.items ≡ out.old.items) }
+    {
+        let known = self.known.as_slice();
+        let made = self.made.as_slice();
+        put_change(out, &self.stable, &[], known, self.green.as_slice(), made)
+    }
+}
+
+/// Puts a change at the end, of which the newly known actions are those of two lists, one behind the other. Lists of 2^32
+/// things or more are refused as want of memory.
+pub fn put_change(
+    out: &mut Vec<u8>,
+    stable: &Stable,
+    unwritten: &[Action],
+    known: &[Action],
+    green: &[ActionId],
+    made: &[Action],
+) -> Result<(), NoMemory>
+    requires stable { IsStable stable.now }
+    requires unwritten { Each IsAction unwritten.now }
+    requires known { Each IsAction known.now }
+    requires green { Each IsActionId green.now }
+    requires made { Each IsAction made.now }
+    ensures ok { OnOk result (out.new.items ≡ out.old.items ++ spelled_change (change_with stable.now (unwritten.now ++ known.now) green.now made.now)) }
+    ensures within { OnOk result (IsChange (change_with stable.now (unwritten.now ++ known.now) green.now made.now)) }
+    ensures err { OnErr result (out.new.items ≡ out.old.items) }
+{
+    if !are_short(unwritten.len(), known.len(), green.len(), made.len()) {
+        return Err(NoMemory);
+    }
+    let before = out.len();
+    let put = write_change(out, stable, unwritten, known, green, made);
+    if put.is_err() {
+        out.truncate(before);
+    }
+    put
+}
+
+// two lists as one, and two others, are shorter than 2^32
+fn are_short(first: usize, second: usize, green: usize, made: usize) -> bool
+    ensures { IsTrue result → (first + second < 2 ^ 32) × (green < 2 ^ 32) × (made < 2 ^ 32) }
+{
+    let most = u32::MAX as usize;
+    first <= most && second <= most - first && green <= most && made <= most
+}
+
+#[tactic(auto, unfolding(crate::specs::Change::spelled_change))]
+fn write_change(
+    out: &mut Vec<u8>,
+    stable: &Stable,
+    unwritten: &[Action],
+    known: &[Action],
+    green: &[ActionId],
+    made: &[Action],
+) -> Result<(), NoMemory>
+    requires { IsChange (change_with stable.now (unwritten.now ++ known.now) green.now made.now) }
+    ensures ok { OnOk result (out.new.items ≡ out.old.items ++ spelled_change (change_with stable.now (unwritten.now ++ known.now) green.now made.now)) }
+    ensures err { OnErr result (KeepsFront out.old.items out.new.items) }
+{
+    put_stable(out, stable)?;
+    put_actions(out, unwritten, known)?;
+    put_ids(out, green)?;
+    put_actions(out, &[], made)
+}
+
+/// The change that all of the bytes spell. Where they spell none, the first fault from the left.
+pub fn decode_change(alloc: Global, bytes: &[u8]) -> Result<Change, CodecFault>
+    ensures read { Decodes (λ c. c) (whole change_reading bytes.now) result }
+    ensures exact { GivesChange bytes.now result }
+{
+    read_all(alloc, bytes)
+}
+
+fn read_all(alloc: Global, bytes: &[u8]) -> Result<Change, CodecFault>
+    ensures { Decodes (λ c. c) (whole change_reading bytes.now) result }
+{
+    let mut fields = Fields::new(bytes);
+    let change = take_change(alloc, &mut fields)?;
+    fields.finish()?;
+    Ok(change)
+}
+
+/// The change that all of the bytes are, if they are one.
+pub fn read_change(alloc: Global, bytes: &[u8]) -> Result<Option<Change>, NoMemory>
+    ensures { IfOk result (FindsChange bytes.now) }
+{
+    match decode_change(alloc, bytes) {
+        Ok(change) => Ok(Some(change)),
+        Err(fault) => match fault.number() {
+            Some(_) => Ok(None),
+            None => Err(NoMemory),
+        },
+    }
+}
+
+#[tactic(auto, unfolding(crate::specs::Reading::change_reading))]
+fn take_change(alloc: Global, fields: &mut Fields<'_>) -> Result<Change, CodecFault>
+    ensures { TakesWithMemory (λ c. c) change_reading (unread_of fields.old) (unread_of fields.new) result }
+{
+    let mut after = *fields;
+    let stable = take_stable(alloc, &mut after)?;
+    let known = take_actions(alloc, &mut after)?;
+    let green = take_ids(alloc, &mut after)?;
+    let made = take_actions(alloc, &mut after)?;
+    *fields = after;
+    Ok(Change {
+        stable,
+        known,
+        green,
+        made,
+    })
+}

@@ -1,0 +1,21 @@
+//! What stands on a replica's disk, in bytes: a checkpoint of all that it held, and the changes that commits made since.
+//!
+//! Each has one spelling (`specs/Change.antt`, `specs/Checkpoint.antt`). What is within the limits is read again as it was
+//! written, and nothing else is read. Records are put from borrowed parts, so that nothing is copied. Which records stand
+//! on which side, and when one is written, is left to the layers above.
+#![tactic(auto)]
+
+mod agreement;
+mod change;
+mod checkpoint;
+mod entries;
+mod kept;
+mod laws;
+mod lists;
+mod servers;
+mod writing;
+
+pub use change::{Change, decode_change, put_change, read_change};
+pub use checkpoint::{Checkpoint, Kept, Reached, decode_checkpoint, read_checkpoint};
+pub use laws::{agreement_is_tested, changes_are_exact, checkpoints_are_exact, parts_are_exact};
+pub use writing::put_checkpoint;
