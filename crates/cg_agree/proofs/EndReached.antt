@@ -81,7 +81,7 @@ leader-of P (s ∷ heard) (Some best) is each =
     leader-of P heard (leader (Some best) s) (cond_both (leads s best) (Some s) (Some best) (λ o. IfSome o P) (λ y. each.0) (λ n. is)) each.1
 
 -- and is one of them
-best-of : (P : Summary → Type 0) (heard : List Summary) (best : Summary) → most_updated heard ≡ Some best → OfEach P heard → P best
+pub best-of : (P : Summary → Type 0) (heard : List Summary) (best : Summary) → most_updated heard ≡ Some best → OfEach P heard → P best
 unfolding most_updated
 best-of P heard best e each = subst (λ o. IfSome o P) e (leader-of P heard None tt each)
 

@@ -140,13 +140,13 @@ not-exchange conf t me =
 
 -- ---- summaries that were heard
 
-front-told : (c : Chronicle) (conf : ℕ) (xs ys : List Summary) → Front xs ys → AreTold c conf ys → AreTold c conf xs
+pub front-told : (c : Chronicle) (conf : ℕ) (xs ys : List Summary) → Front xs ys → AreTold c conf ys → AreTold c conf xs
 front-told c conf [] ys front are = tt
 front-told c conf (x ∷ xs) [] front are = absurd front
 front-told c conf (x ∷ xs) (y ∷ ys) front are =
     (subst (λ z. summaries_of (told_in c conf z.id) ≡ z ∷ []) (sym front.0) are.0, front-told c conf xs ys front.1 are.1)
 
-heard-more : (list : List (Sent Msg)) (t : Talk) → Front t.heard (fold hears t list).heard
+pub heard-more : (list : List (Sent Msg)) (t : Talk) → Front t.heard (fold hears t list).heard
 heard-more [] t = Front-refl t.heard
 heard-more (s ∷ list) t = Front-trans t.heard (hears t s).heard (fold hears (hears t s) list).heard (one s.from s.message) (heard-more list (hears t s)) where
   one : (from : ℕ) (m : Msg) → Front t.heard (hears_from t from m).heard

@@ -164,8 +164,16 @@ pub mod GivenKept
 pub mod SeatedKept
 pub mod NetFactsKept
 pub mod PartHeld
-pub mod AnswerFrom
 pub mod LinesTold
 pub mod WhiteBelow
+pub mod PlanItems
 pub mod AttemptFactsKept
+pub mod KnownBounds
+pub mod PlanProgress
+pub mod ToldBeside
+pub mod PartsOwn
+pub mod MessageThere
+pub mod KnownEnd
+pub mod ExchangeThere
+pub mod AnswersOwn
 pub mod ShapeKept

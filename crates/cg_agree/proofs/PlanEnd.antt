@@ -171,7 +171,7 @@ told-each c conf P each (s ∷ heard) told = (one (told_in c conf s.id) refl tol
     first d (x ∷ xs) = x
 
 -- a member's own summary is what it told
-own-told : (c : Chronicle) (p conf : ℕ) (mine : Told) → told_in c conf p ≡ Some mine → (q : ℕ) (t : Told) → told_in c conf q ≡ Some t → t.summary.id ≡ p → t.summary ≡ mine.summary
+pub own-told : (c : Chronicle) (p conf : ℕ) (mine : Told) → told_in c conf p ≡ Some mine → (q : ℕ) (t : Told) → told_in c conf q ≡ Some t → t.summary.id ≡ p → t.summary ≡ mine.summary
 own-told c p conf mine found q t e id =
     let named : t.summary.id ≡ q = eqb-true t.summary.id q (and_parts (t.summary.conf == conf) (t.summary.id == q) (find-holds (λ (t : Told). (t.summary.conf == conf) && (t.summary.id == q)) c.told t e)).1 in
     let same : Some t ≡ Some mine = sym e ∙ ap (told_in c conf) (sym named ∙ id) ∙ found in

@@ -9,8 +9,8 @@ use Rattle.cg_agree.specs.Small.{Small, Starts, Makes, Enters, Orders, Receives,
 use Rattle.cg_agree.specs.Smalls.{may_make, is_running}
 use Rattle.cg_agree.proofs.ActsCreated.{talk-settles, talk-asks}
 use Rattle.cg_agree.proofs.ActsOrdered.{talk-orders}
-use Rattle.cg_agree.proofs.HandsAll.{KnowsAtEnd, talk-hands}
-use Rattle.cg_agree.proofs.HandsKept.{CanAnswer}
+use Rattle.cg_agree.proofs.AnswersOwn.{can-answer-there, knows-at-end}
+use Rattle.cg_agree.proofs.HandsAll.{talk-hands}
 use Rattle.cg_agree.proofs.LeavesTalk.{talk-parts}
 use Rattle.cg_agree.proofs.OneSteps.{may-join}
 use Rattle.cg_agree.proofs.TalkAlone.{talk-crashes, talk-recovers, talk-copies, talk-joins, talk-starts}
@@ -18,43 +18,38 @@ use Rattle.cg_agree.proofs.TalkEnters.{talk-enters}
 use Rattle.cg_agree.proofs.TalkMakes.{talk-makes}
 use Rattle.cg_agree.proofs.TalkQuiet.{talk-receives, talk-commits}
 
--- what a member has to hold where a place is handed to it: what it is to send, and at the end of the plan all that some member knew
-abbrev pub IsPrepared : Chronicle → Small → Type 0
-IsPrepared c (Hands p) = CanAnswer c p × KnowsAtEnd c p
-IsPrepared c _ = Unit {0}
-
-pub talk-kept : (c : Chronicle) (s : Small) → Invariant c → may_make c s ≡ true → IsPrepared c s → TalkFacts (small_step c s)
+pub talk-kept : (c : Chronicle) (s : Small) → Invariant c → may_make c s ≡ true → TalkFacts (small_step c s)
 unfolding may_make
-talk-kept c (Starts set) i m ready = talk-starts c set i.talk
-talk-kept c (Makes set) i m ready = talk-makes c set i.net.phase_sound i.talk
-talk-kept c (Enters p) i m ready = talk-enters c p i.net.phase_sound (i.replica.mode_data p) m i.talk
-talk-kept c (Orders p) i m ready = talk-orders c p i.net.phase_sound i.net.receipts_inside m i.talk
-talk-kept c (Receives p place) i m ready = talk-receives c p place i.net.phase_sound m i.talk
-talk-kept c (Hands p) i m ready =
-    talk-hands c p i.net.phase_sound i.replica.mode_data i.attempt.attempt_shape i.replica.cores i.exchange.summary_of_sender m ready.0 ready.1 i.talk
-talk-kept c (Leaves p set own places) i m ready = talk-parts c p set own places i.net.phase_sound i.replica.mode_data i.attempt.attempt_shape m i.talk
-talk-kept c (Asks p kind) i m ready = talk-asks c p kind i.net.phase_sound i.replica.mode_data i.replica.cores i.talk
-talk-kept c (Settles p) i m ready = talk-settles c p i.net.phase_sound i.replica.mode_data i.replica.cores i.talk
-talk-kept c (Commits p) i m ready = talk-commits c p i.talk
-talk-kept c (Crashes p) i m ready = talk-crashes c p m i.talk
-talk-kept c (Recovers p) i m ready = talk-recovers c p i.net.seated (and_parts (has_begun c.world p) (not (is_running c p)) m).0 i.talk
-talk-kept c (Copies p joiner) i m ready = talk-copies c p joiner i.talk
-talk-kept c (Joins joiner) i m ready = talk-joins c joiner (may-join c joiner m) i.talk
+talk-kept c (Starts set) i m = talk-starts c set i.talk
+talk-kept c (Makes set) i m = talk-makes c set i.net.phase_sound i.talk
+talk-kept c (Enters p) i m = talk-enters c p i.net.phase_sound (i.replica.mode_data p) m i.talk
+talk-kept c (Orders p) i m = talk-orders c p i.net.phase_sound i.net.receipts_inside m i.talk
+talk-kept c (Receives p place) i m = talk-receives c p place i.net.phase_sound m i.talk
+talk-kept c (Hands p) i m =
+    talk-hands c p i.net.phase_sound i.replica.mode_data i.attempt.attempt_shape i.replica.cores i.exchange.summary_of_sender m (can-answer-there c p i) (knows-at-end c p i) i.talk
+talk-kept c (Leaves p set own places) i m = talk-parts c p set own places i.net.phase_sound i.replica.mode_data i.attempt.attempt_shape m i.talk
+talk-kept c (Asks p kind) i m = talk-asks c p kind i.net.phase_sound i.replica.mode_data i.replica.cores i.talk
+talk-kept c (Settles p) i m = talk-settles c p i.net.phase_sound i.replica.mode_data i.replica.cores i.talk
+talk-kept c (Commits p) i m = talk-commits c p i.talk
+talk-kept c (Crashes p) i m = talk-crashes c p m i.talk
+talk-kept c (Recovers p) i m = talk-recovers c p i.net.seated (and_parts (has_begun c.world p) (not (is_running c p)) m).0 i.talk
+talk-kept c (Copies p joiner) i m = talk-copies c p joiner i.talk
+talk-kept c (Joins joiner) i m = talk-joins c joiner (may-join c joiner m) i.talk
 
-pub talk_legal-kept : (c : Chronicle) (s : Small) → Invariant c → may_make c s ≡ true → IsPrepared c s → TalkLegal (small_step c s)
-talk_legal-kept c s i m ready = (talk-kept c s i m ready).talk_legal
+pub talk_legal-kept : (c : Chronicle) (s : Small) → Invariant c → may_make c s ≡ true → TalkLegal (small_step c s)
+talk_legal-kept c s i m = (talk-kept c s i m).talk_legal
 
-pub sent_iff_due-kept : (c : Chronicle) (s : Small) → Invariant c → may_make c s ≡ true → IsPrepared c s → SentIffDue (small_step c s)
-sent_iff_due-kept c s i m ready = (talk-kept c s i m ready).sent_iff_due
+pub sent_iff_due-kept : (c : Chronicle) (s : Small) → Invariant c → may_make c s ≡ true → SentIffDue (small_step c s)
+sent_iff_due-kept c s i m = (talk-kept c s i m).sent_iff_due
 
-pub heard_is_told-kept : (c : Chronicle) (s : Small) → Invariant c → may_make c s ≡ true → IsPrepared c s → HeardIsTold (small_step c s)
-heard_is_told-kept c s i m ready = (talk-kept c s i m ready).heard_is_told
+pub heard_is_told-kept : (c : Chronicle) (s : Small) → Invariant c → may_make c s ≡ true → HeardIsTold (small_step c s)
+heard_is_told-kept c s i m = (talk-kept c s i m).heard_is_told
 
-pub mode_fits-kept : (c : Chronicle) (s : Small) → Invariant c → may_make c s ≡ true → IsPrepared c s → ModeFits (small_step c s)
-mode_fits-kept c s i m ready = (talk-kept c s i m ready).mode_fits
+pub mode_fits-kept : (c : Chronicle) (s : Small) → Invariant c → may_make c s ≡ true → ModeFits (small_step c s)
+mode_fits-kept c s i m = (talk-kept c s i m).mode_fits
 
-pub content-kept : (c : Chronicle) (s : Small) → Invariant c → may_make c s ≡ true → IsPrepared c s → Content (small_step c s)
-content-kept c s i m ready = (talk-kept c s i m ready).content
+pub content-kept : (c : Chronicle) (s : Small) → Invariant c → may_make c s ≡ true → Content (small_step c s)
+content-kept c s i m = (talk-kept c s i m).content
 
-pub acts_numbered-kept : (c : Chronicle) (s : Small) → Invariant c → may_make c s ≡ true → IsPrepared c s → ActsNumbered (small_step c s)
-acts_numbered-kept c s i m ready = (talk-kept c s i m ready).acts_numbered
+pub acts_numbered-kept : (c : Chronicle) (s : Small) → Invariant c → may_make c s ≡ true → ActsNumbered (small_step c s)
+acts_numbered-kept c s i m = (talk-kept c s i m).acts_numbered

@@ -5,8 +5,11 @@ use cg_wire::{Msg, decode};
 use std::alloc::Global;
 use std::test::Fail;
 
-fn announcement(alloc: Global, conf: u64) -> Result<Letter, Fail> {
+fn announcement(alloc: Global, conf: u32) -> Result<Letter, Fail> {
     let id = ReplicaId::known(2);
+    // said of each identifier by this call
+    let _number = id.get();
+    let conf = u64::from(conf);
     Ok(Letter::seal(alloc, &Msg::Cpc { id, conf })?)
 }
 
