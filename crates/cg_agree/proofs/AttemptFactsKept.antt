@@ -5,7 +5,7 @@ use Rattle.cg_agree.specs.Chronicle.{Chronicle}
 use Rattle.cg_agree.specs.FactsTalk.{TalkLegal, SentIffDue, ModeFits}
 use Rattle.cg_agree.specs.FactsReplica.{IsModeData, DiskBehind}
 use Rattle.cg_agree.specs.FactsExchange.{ExchangeProgress}
-use Rattle.cg_agree.specs.FactsAttempts.{LevelsStand, AnnouncedEntered, InstalledAnnounced, ActInstalled, RecordOfAttempt, InstalledIndex, BitsWitness, OneAttempt}
+use Rattle.cg_agree.specs.FactsAttempts.{LevelsStand, AnnouncedEntered, InstalledAnnounced, ActInstalled, RecordOfAttempt, InstalledIndex, BitsWitness, DeadEvidence, OneAttempt}
 use Rattle.cg_agree.specs.Facts.{Invariant}
 use Rattle.cg_agree.specs.Played.{AtRest}
 use Rattle.cg_agree.specs.Small.{Small, small_step}
@@ -14,6 +14,7 @@ use Rattle.cg_agree.proofs.GroupKept.{phase_sound-kept}
 use Rattle.cg_agree.proofs.AttemptSteps.{group-of}
 use Rattle.cg_agree.proofs.RecordKept.{record-kept}
 use Rattle.cg_agree.proofs.OneAttemptKept.{one_attempt-kept}
+use Rattle.cg_agree.proofs.DeadEvidenceKept.{dead_evidence-kept}
 use Rattle.cg_agree.proofs.LevelsOpen.{installed_announced-kept}
 use Rattle.cg_agree.proofs.LevelsKept.{levels_stand-kept}
 use Rattle.cg_agree.proofs.InstalledIndexKept.{installed_index-kept}
@@ -29,7 +30,7 @@ pub record IsSaidNow (d : Chronicle) : Type 0 where
   pub modes : ModeFits d
   pub progress : ExchangeProgress d
 
--- the facts about attempts and levels, but for what an attempt is made of and when one is over
+-- the facts about attempts and levels, but for what an attempt is made of
 pub record AttemptsNow (d : Chronicle) : Type 0 where
   pub mode_data : (p : ℕ) → IfSome (replica_of d.world p) (IsModeData d p)
   pub disk_behind : DiskBehind d
@@ -40,6 +41,7 @@ pub record AttemptsNow (d : Chronicle) : Type 0 where
   pub record_of_attempt : RecordOfAttempt d
   pub installed_index : InstalledIndex d
   pub bits_witness : BitsWitness d
+  pub dead_evidence : DeadEvidence d
   pub one_attempt : OneAttempt d
 
 -- Each small step keeps them.
@@ -47,15 +49,18 @@ pub attempts-now : (c : Chronicle) (s : Small) → Invariant c → may_make c s 
 attempts-now c s i may rest said =
     let sound = phase_sound-kept c s i.net.seated may (group-of c i) in
     let modes = mode_data-kept c s i may in
+    let announcers = announced_entered-kept c s i may sound said.says said.modes modes in
+    let announced = installed_announced-kept c s i may in
     record {
       mode_data = modes;
       disk_behind = disk_behind-kept c s i.net.seated may i.replica.disk_behind;
       levels_stand = levels_stand-kept c s i may;
-      announced_entered = announced_entered-kept c s i may sound said.says said.modes modes;
-      installed_announced = installed_announced-kept c s i may;
+      announced_entered = announcers;
+      installed_announced = announced;
       act_installed = act_installed-kept c s i may sound said.legal said.says said.modes modes;
       record_of_attempt = record-kept c s i may;
       installed_index = installed_index-kept c s i may rest;
       bits_witness = bits-kept c s i may said.progress;
+      dead_evidence = dead_evidence-kept c s i may rest announcers announced said.modes;
       one_attempt = one_attempt-kept c s i may;
     }

@@ -177,3 +177,8 @@ pub mod KnownEnd
 pub mod ExchangeThere
 pub mod AnswersOwn
 pub mod ShapeKept
+pub mod DeadNow
+pub mod RecordsMove
+pub mod EnteredBefore
+pub mod EnteredDead
+pub mod DeadEvidenceKept
