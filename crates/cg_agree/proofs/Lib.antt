@@ -182,3 +182,6 @@ pub mod RecordsMove
 pub mod EnteredBefore
 pub mod EnteredDead
 pub mod DeadEvidenceKept
+pub mod ExchangeStill
+pub mod ExchangeSmalls
+pub mod ExchangeBehind
