@@ -1,5 +1,2 @@
 mod Fronts
-pub mod KindFields
-pub mod CommandFields
 mod Taken
-pub mod ValueFields

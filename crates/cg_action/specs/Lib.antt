@@ -4,3 +4,6 @@ pub mod Reading
 pub mod Print
 pub mod Laws
 pub mod ShapeLaws
+pub mod ValueLaws
+pub mod CommandLaws
+pub mod KindLaws

@@ -4,6 +4,3 @@ pub mod WordLemmas
 pub mod ArrayLemmas
 pub mod WeightLemmas
 pub mod CutLemmas
-pub mod SetFacts
-pub mod WeightFacts
-pub mod CutFacts

@@ -1,5 +1,5 @@
 -- A cut that is raised: the index of each creator in it.
-use Rattle.std.proofs.Common.{◌≡◌, ℕ, suc, ◌^◌, ◌<◌, ◌≤◌, ◌≢◌, List, [], ◌∷◌, cond, eqb, max, refl, sym, ap, ◌∙◌, arith, inl, inr}
+use Rattle.std.proofs.Common.{◌≡◌, ℕ, suc, ◌^◌, ◌<◌, ◌≤◌, ◌≢◌, List, [], ◌∷◌, fold, cond, eqb, max, refl, sym, ap, ◌∙◌, arith, inl, inr}
 use Rattle.std.proofs.lemmas.Bool.{cases_eq, cases_order, eq-eqb, ne_eqb, lt-ltb, le-ltb}
 use Rattle.cg_base.specs.declared.action_id.ActionId.{ActionId}
 use Rattle.cg_base.specs.Sets.{IsId, Ascends, with_member}
@@ -86,3 +86,12 @@ IsCut-raise cut id is_id small is_cut = elim (cases_eq id.index 0) [
     named = NameActions-with_top cut id (omega arith) small is_cut.named;
   })
 ]
+
+-- each name is one of a replica, and fits 64 bits
+abbrev pub AreNames : List ActionId → Type 0
+AreNames [] = Unit {0}
+AreNames (id ∷ ids) = IsId id.creator × (id.index < 2 ^ 64) × AreNames ids
+
+pub IsCut-raised : (cut ids : List ActionId) → IsCut cut → AreNames ids → IsCut (fold raise cut ids)
+IsCut-raised cut [] is_cut are = is_cut
+IsCut-raised cut (id ∷ ids) is_cut are = IsCut-raised (raise cut id) ids (IsCut-raise cut id are.0 are.1 is_cut) are.2

@@ -1,4 +1,4 @@
 pub mod Keeping
-pub mod Lasts
+pub mod Naming
 pub mod Lines
 pub mod Weighing

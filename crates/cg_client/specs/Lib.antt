@@ -8,3 +8,4 @@ pub mod Requests
 pub mod Summary
 pub mod Install
 pub mod Queries
+pub mod ReplicaLaws

@@ -16,8 +16,9 @@ use Rattle.cg_action.specs.declared.value.Value.TheVariants.{Int}
 use Rattle.cg_db.specs.declared.entry.DbEntry.{DbEntry}
 use Rattle.cg_db.specs.Map.{IsBefore, Ascends, value_of, put, keys}
 use Rattle.cg_db.specs.View.{of_entries, entry_at}
-use Rattle.cg_db.proofs.TextOrder.{same-is, same-refl, same-sym, before-apart, before-other}
-use Rattle.cg_db.proofs.MapLemmas.{entry, some, IsBefore-through, Ascends-filter, same_at_each_key, length-put}
+use Rattle.cg_db.specs.TextOrderLaws.{same-is, same-sym, before-other}
+use Rattle.cg_db.specs.EntryLaws.{found_all}
+use Rattle.cg_db.proofs.MapLemmas.{entry, some, Ascends-filter, same_at_each_key, length-put}
 use Rattle.cg_db.proofs.ViewLemmas.{Ascends-of_entries, value_of-of_entries, same_flipped}
 
 -- ---- texts as a database, in which each has one and the same value
@@ -163,31 +164,6 @@ length-of_entries (e ∷ es) apart =
 pub all_begin : (ts : List (List ℕ)) → filter (λ k. begins_with k []) ts ≡ ts
 all_begin [] = refl
 all_begin (t ∷ ts) = ap (λ us. t ∷ us) (all_begin ts)
-
--- the database has these entries
-Has : List DbEntry → List DbEntry → Type 0
-Has db [] = Unit {0}
-Has db (e ∷ es) = (value_of db e.key ≡ Some e.value) × Has db es
-
-Has-behind : (e : DbEntry) (db es : List DbEntry) → IsBefore e.key es → Ascends es → Has db es → Has (e ∷ db) es
-unfolding Has
-Has-behind e db [] first up has = tt
-Has-behind e db (f ∷ es) first up has =
-    let other : same_text f.key e.key ≡ false = same-sym e.key f.key false (before-apart e.key f.key first) in
-    (rw other has.0, Has-behind e db es (IsBefore-through e.key f.key es first up.0) up.1 has.1)
-
-Has-itself : (db : List DbEntry) → Ascends db → Has db db
-unfolding Has
-Has-itself [] up = tt
-Has-itself (e ∷ db) up = (rw (same-refl e.key) refl, Has-behind e db db up.0 up.1 (Has-itself db up.1))
-
-found_each : (db es : List DbEntry) → Has db es → flat_map (λ key. entry_at key (value_of db key)) (keys es) ≡ es
-unfolding Has
-found_each db [] has = refl
-found_each db (e ∷ es) has = rw (has.0, found_each db es has.1) refl
-
-pub found_all : (db : List DbEntry) → Ascends db → flat_map (λ key. entry_at key (value_of db key)) (keys db) ≡ db
-found_all db up = found_each db db (Has-itself db up)
 
 pub entries_are : (db entries : List DbEntry) (left all : List (List ℕ)) → entries ++ flat_map (λ key. entry_at key (value_of db key)) left ≡ flat_map (λ key. entry_at key (value_of db key)) all
     → left ≡ [] → all ≡ filter (λ k. begins_with k []) (keys db) → Ascends db → entries ≡ db

@@ -1,4 +1,3 @@
-pub mod TextOrder
 pub mod MapLemmas
 pub mod ViewLemmas
 pub mod PlanLemmas

@@ -5,7 +5,8 @@ use Rattle.cg_text.specs.Order.{same_text, text_before}
 use Rattle.cg_action.specs.declared.value.Value.{Value}
 use Rattle.cg_db.specs.declared.entry.DbEntry.{DbEntry}
 use Rattle.cg_db.specs.Map.{IsBefore, Ascends, value_of, put, remove}
-use Rattle.cg_db.proofs.TextOrder.{same-is, same-refl, before-trans, before-apart, before-other}
+use Rattle.cg_db.specs.TextOrderLaws.{same-is, same-refl, before-apart, before-other}
+use Rattle.cg_db.specs.EntryLaws.{IsBefore-through}
 
 abbrev pub entry : List ℕ → Value → DbEntry
 entry key value = record { key = key; value = value }
@@ -83,11 +84,6 @@ Ascends-put_at e db key value up rest false false s b = (IsBefore-put db e.key k
 pub Ascends-put : (db : List DbEntry) (key : List ℕ) (value : Value) → Ascends db → Ascends (put db key value)
 Ascends-put [] key value up = (tt, tt)
 Ascends-put (e ∷ db) key value up = Ascends-put_at e db key value up (Ascends-put db key value up.1) (same_text key e.key) (text_before key e.key) refl refl
-
--- what is before a text is before those behind it
-pub IsBefore-through : (low mid : List ℕ) (db : List DbEntry) → text_before low mid ≡ true → IsBefore mid db → IsBefore low db
-IsBefore-through low mid [] first next = tt
-IsBefore-through low mid (e ∷ db) first next = before-trans low mid e.key first next
 
 -- a key before the first has no value
 pub value_of-before : (db : List DbEntry) (key : List ℕ) → IsBefore key db → Ascends db → value_of db key ≡ None

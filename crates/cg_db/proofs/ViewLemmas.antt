@@ -12,7 +12,7 @@ use Rattle.cg_db.specs.declared.entry.DbEntry.{DbEntry}
 use Rattle.cg_db.specs.Map.{Ascends, value_of}
 use Rattle.cg_db.specs.View.{of_entries}
 use Rattle.cg_db.specs.Plan.{set_option}
-use Rattle.cg_db.proofs.TextOrder.{same-sym}
+use Rattle.cg_db.specs.TextOrderLaws.{same-sym}
 use Rattle.cg_db.proofs.MapLemmas.{value_of-put, value_of-remove, Ascends-put, Ascends-filter, same_at_each_key}
 
 pub Ascends-of_entries : {Z : Type 0} (es : List (String Z × Value)) → Ascends (of_entries es)

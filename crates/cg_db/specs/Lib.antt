@@ -4,3 +4,5 @@ pub mod Apply
 pub mod Plan
 pub mod Find
 pub mod Limits
+pub mod TextOrderLaws
+pub mod EntryLaws

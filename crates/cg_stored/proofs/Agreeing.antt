@@ -1,5 +1,5 @@
 -- When the parts of a checkpoint agree.
-use Rattle.std.proofs.Common.{◌≡◌, ◌≢◌, ℕ, zero, suc, ◌+◌, ◌-◌, ◌^◌, ◌<◌, ◌≤◌, max, Bool, true, false, cond, not, ◌&&◌, ◌||◌, eqb, ltb, leb, List, [], ◌∷◌, ◌++◌, length, drop, get_or, refl, sym, ap, subst, ◌∙◌, arith}
+use Rattle.std.proofs.Common.{◌≡◌, ◌≢◌, ℕ, zero, suc, ◌+◌, ◌-◌, ◌<◌, ◌≤◌, max, Bool, true, false, cond, ◌&&◌, ◌||◌, eqb, ltb, leb, List, [], ◌∷◌, length, drop, get_or, refl, sym, ap, ◌∙◌, arith}
 use Rattle.std.specs.Prelude.{map, filter, fold, sum_by, nat_eq, Option, Some, None}
 use Rattle.std.specs.List.{list_all, list_any}
 use Rattle.std.specs.Cmp.Lexicographic.{pointwise, same_text}
@@ -7,24 +7,23 @@ use Rattle.std.specs.Option.{option_map_or}
 use Rattle.std.proofs.lemmas.Option.{slice_get-get_or}
 use Rattle.std.proofs.Math.Seq.{drop-cons}
 use Rattle.std.proofs.lemmas.List.{drop_all}
-use Rattle.std.proofs.lemmas.Bool.{eqb-true, eqb-false, ltb-true, leb-true, lt-ltb, le-leb, and_parts, and_from}
+use Rattle.std.proofs.lemmas.Bool.{eqb-true, eqb-false, ltb-true, and_parts, and_from}
 use Rattle.cg_base.specs.declared.action_id.ActionId.{ActionId}
 use Rattle.cg_base.specs.Ids.{same_id, names}
-use Rattle.cg_base.specs.Cuts.{index_in, raise, with_top, creators_in, IsCut, NameActions}
+use Rattle.cg_base.specs.Cuts.{index_in, raise, with_top}
 use Rattle.cg_base.specs.Lists.{count_up, above_up_to}
 use Rattle.cg_base.specs.Sets.{IsId, every_replica}
 use Rattle.cg_action.specs.declared.action.Action.{Action}
 use Rattle.cg_action.specs.Limits.{IsAction}
-use Rattle.cg_queue.specs.Queue.{QueueView, green_count, names_of}
+use Rattle.cg_queue.specs.Queue.{green_count, names_of}
 use Rattle.cg_client.specs.Replica.{last_index, created}
-use Rattle.cg_client.proofs.Lasts.{last_index-get}
-use Rattle.cg_records.specs.Limits.{Each, IsIndex, IsName, IsSmallCut}
+use Rattle.cg_client.specs.ReplicaLaws.{last_index-get}
+use Rattle.cg_records.specs.Limits.{Each, IsIndex, IsName}
 use Rattle.cg_stored.specs.declared.checkpoint.Checkpoint.{Checkpoint}
-use Rattle.cg_stored.specs.Stored.{Stored}
 use Rattle.cg_stored.specs.Change.{is_distinct, are_yellow}
-use Rattle.cg_stored.specs.Checkpoint.{parts_of, indexes_of, count_to, counts_up, is_by_name, are_own, is_present, Agrees}
+use Rattle.cg_stored.specs.Checkpoint.{indexes_of, counts_up, is_by_name, is_present}
 use Rattle.cg_stored.specs.Limits.{AreParts}
-use Rattle.cg_stored.specs.Parts.{next_index, red_cut_of, queue_in, stored_in, Fits, is_between_cuts, greens_agree, yellow_agrees, names_agree, do_agree}
+use Rattle.cg_stored.specs.Parts.{next_index, red_cut_of, queue_in, stored_in, Fits, is_between_cuts, greens_agree, yellow_agrees, do_agree}
 
 -- ---- red names
 

@@ -1,6 +1,6 @@
 -- The entries of a database as a field, and the loops that read and write them.
-use Rattle.std.proofs.Common.{◌≡◌, ℕ, suc, ◌+◌, ◌-◌, ◌^◌, ◌<◌, ◌≤◌, Bool, true, false, cond, ltb, List, [], ◌∷◌, ◌++◌, length, take, Result, Ok, Err, refl, sym, ap, subst, ◌∙◌, append_assoc, arith}
-use Rattle.std.specs.Prelude.{Option, Some, None, flat_map, fold}
+use Rattle.std.proofs.Common.{◌≡◌, ℕ, ◌+◌, ◌-◌, ◌^◌, ◌<◌, ◌≤◌, Bool, true, false, cond, ltb, List, [], ◌∷◌, ◌++◌, length, take, Result, Ok, Err, refl, sym, ap, subst, ◌∙◌, arith}
+use Rattle.std.specs.Prelude.{Option, Some, flat_map}
 use Rattle.std.proofs.lemmas.Grind.{flat_map-append}
 use Rattle.std.proofs.lemmas.List.Concat.{flat_map-cons}
 use Rattle.std.proofs.lemmas.List.Sums.{fold_push}
@@ -9,7 +9,7 @@ use Rattle.std.proofs.lemmas.Str.{IsUtf8-from_is_utf8}
 use Rattle.cg_codec.specs.declared.fault.CodecFault.{CodecFault}
 use Rattle.cg_codec.specs.declared.fault.CodecFault.TheVariants.{Short, Bad}
 use Rattle.cg_codec.specs.Fields.{text, list}
-use Rattle.cg_codec.specs.Reading.{Unread, behind, ◌>>=◌, done, only, take_count, text_bytes, take_text, take_items, take_list}
+use Rattle.cg_codec.specs.Reading.{Unread, behind, ◌>>=◌, done, take_count, text_bytes, take_text, take_items, take_list}
 use Rattle.cg_codec.specs.Laws.{IsField, EachBehind}
 use Rattle.cg_codec.specs.FieldLaws.{field_has, field_only, gives, go_on-ok, passed-ok, given}
 use Rattle.cg_codec.specs.ItemLaws.{items_go_on}
@@ -21,16 +21,16 @@ use Rattle.cg_action.specs.Limits.{IsKey, IsValue}
 use Rattle.cg_action.specs.Bytes.{spelled_value}
 use Rattle.cg_action.specs.Reading.{is_key, key_reading, value_reading}
 use Rattle.cg_action.specs.ShapeLaws.{field_two}
-use Rattle.cg_action.proofs.ValueFields.{key_field, value_field}
+use Rattle.cg_action.specs.ValueLaws.{key_field, value_field}
 use Rattle.cg_db.specs.declared.entry.DbEntry.{DbEntry}
 use Rattle.cg_db.specs.Map.{IsBefore, Ascends, value_of, put, keys}
-use Rattle.cg_db.specs.Limits.{IsEntry, AreEntries}
+use Rattle.cg_db.specs.Limits.{AreEntries}
 use Rattle.cg_db.specs.View.{entry_at}
-use Rattle.cg_db.proofs.KeyLemmas.{found_all}
-use Rattle.cg_db.proofs.TextOrder.{same-sym, before-trans, before-back, before-apart}
+use Rattle.cg_db.specs.EntryLaws.{found_all}
+use Rattle.cg_db.specs.TextOrderLaws.{same-sym, before-trans, before-back, before-apart}
 use Rattle.cg_records.specs.Limits.{Each}
 use Rattle.cg_stored.specs.Checkpoint.{spelled_entry}
-use Rattle.cg_stored.specs.Limits.{IsShort, IsDatabase}
+use Rattle.cg_stored.specs.Limits.{IsDatabase}
 use Rattle.cg_stored.specs.Reading.{last_key, key_behind_reading, entry_reading, entries_reading}
 
 -- ---- an entry

@@ -13,8 +13,8 @@ use Rattle.cg_action.specs.declared.action.Action.{Action}
 use Rattle.cg_action.specs.Limits.{IsActionId, IsAction}
 use Rattle.cg_action.specs.Bytes.{spelled_id, spelled_action}
 use Rattle.cg_action.specs.Reading.{id_reading, action_reading}
-use Rattle.cg_action.proofs.ValueFields.{id_field}
-use Rattle.cg_action.proofs.KindFields.{action_field}
+use Rattle.cg_action.specs.ValueLaws.{id_field}
+use Rattle.cg_action.specs.KindLaws.{action_field}
 use Rattle.cg_records.specs.Limits.{Each}
 use Rattle.cg_stored.specs.Kept.{spelled_next}
 use Rattle.cg_stored.specs.Limits.{IsShort, AreActions}

@@ -1,5 +1,5 @@
 -- Members as fields, and the loop that reads servers.
-use Rattle.std.proofs.Common.{◌≡◌, ◌≢◌, ℕ, suc, ◌<◌, ◌≤◌, Bool, true, ltb, List, [], ◌∷◌, ◌++◌, length, Ok, refl, sym, ap, ◌∙◌, arith}
+use Rattle.std.proofs.Common.{◌≡◌, ◌≢◌, ℕ, suc, ◌<◌, ◌≤◌, true, ltb, List, [], ◌∷◌, ◌++◌, length, Ok, refl, ap, ◌∙◌, arith}
 use Rattle.std.proofs.lemmas.Bool.{ltb-true, lt-ltb, ne_eqb, le-ltb}
 use Rattle.std.proofs.lemmas.List.{length-map}
 use Rattle.cg_base.specs.Sets.{IsId, IsSet, Ascends}
@@ -18,7 +18,7 @@ use Rattle.cg_records.specs.Limits.{IsNumber, Each}
 use Rattle.cg_records.specs.Bytes.{spelled_set}
 use Rattle.cg_records.specs.Reading.{take_number, take_id_above, last_of, take_set}
 use Rattle.cg_records.specs.RecordLaws.{any_id_field, number_field, set_field, map-push, last_of-push}
-use Rattle.cg_records.proofs.Ascending.{AllBelow}
+use Rattle.cg_records.specs.AscendingLaws.{AllBelow}
 use Rattle.cg_stored.specs.Checkpoint.{spelled_server}
 use Rattle.cg_stored.specs.Limits.{AreMembers}
 use Rattle.cg_stored.specs.Reading.{id_behind_reading, weight_reading, server_reading, servers_reading, members_reading}

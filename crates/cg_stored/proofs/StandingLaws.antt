@@ -1,10 +1,10 @@
 -- Checkpoints and changes are exactly their bytes.
-use Rattle.std.proofs.Common.{◌≡◌, ℕ, ◌^◌, ◌<◌, ◌≤◌, Bool, true, false, cond, List, [], ◌∷◌, ◌++◌, length, Result, Ok, Err, refl, sym, ap, subst, ◌∙◌, arith}
-use Rattle.std.specs.Prelude.{Option, Some, None, option_and_then, fold}
+use Rattle.std.proofs.Common.{◌≡◌, ℕ, ◌^◌, ◌<◌, Bool, true, false, cond, List, [], ◌∷◌, Result, Ok, Err, refl, sym, ap, subst, ◌∙◌, arith}
+use Rattle.std.specs.Prelude.{Option, Some, None, option_and_then}
 use Rattle.cg_base.specs.declared.action_id.ActionId.{ActionId}
-use Rattle.cg_base.specs.Cuts.{raise, IsCut, NameActions}
+use Rattle.cg_base.specs.Cuts.{IsCut, NameActions}
 use Rattle.cg_base.specs.Sets.{IsId}
-use Rattle.cg_base.proofs.CutFacts.{AreNames, IsCut-raised}
+use Rattle.cg_base.specs.CutLaws.{AreNames, IsCut-raised}
 use Rattle.cg_codec.specs.declared.fault.CodecFault.{CodecFault}
 use Rattle.cg_codec.specs.Reading.{whole}
 use Rattle.cg_codec.specs.Laws.{AreBytes}
@@ -15,13 +15,13 @@ use Rattle.cg_client.specs.Replica.{created}
 use Rattle.cg_records.specs.Limits.{Each, IsIndex, IsNumber, IsSmallCut, IsStable}
 use Rattle.cg_stored.specs.declared.change.Change.{Change}
 use Rattle.cg_stored.specs.declared.checkpoint.Checkpoint.{Checkpoint}
-use Rattle.cg_stored.specs.Stored.{Stored, stable_of}
+use Rattle.cg_stored.specs.Stored.{Stored}
 use Rattle.cg_stored.specs.Change.{spelled_change}
 use Rattle.cg_stored.specs.Checkpoint.{spelled_parts, parts_of, spelled_checkpoint, Agrees}
 use Rattle.cg_stored.specs.Limits.{IsChange, IsStored, AreParts}
 use Rattle.cg_stored.specs.Reading.{change_reading, checkpoint_reading}
 use Rattle.cg_stored.specs.Parts.{red_cut_of, stored_in, Fits, do_agree, checkpoint_of, read_value, change_in, Saved, saved_in, saved_of, checkpoint_in}
-use Rattle.cg_stored.specs.Laws.{IsCheckpoint, AreSaved, FindsChange, FindsCheckpoint}
+use Rattle.cg_stored.specs.Laws.{IsCheckpoint, FindsChange, FindsCheckpoint}
 use Rattle.cg_stored.proofs.ChangeFields.{change_whole}
 use Rattle.cg_stored.proofs.CheckpointFields.{parts_whole}
 use Rattle.cg_stored.proofs.Agreeing.{fits-agree, agree-fits, small-raised}

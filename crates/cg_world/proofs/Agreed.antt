@@ -1,5 +1,5 @@
 -- What the steps of a run agree on.
-use Rattle.std.proofs.Common.{◌≡◌, ℕ, zero, suc, ◌+◌, ◌<◌, ◌≤◌, ◌⊎◌, ◌↔◌, inl, inr, ⊎_elim, Bool, true, false, List, [], ◌∷◌, ◌++◌, length, take, append-nil, append_assoc, length-append, Option, Some, None, option_map, IsTrue, refl, sym, ap, subst, ◌∙◌, arith, map, filter, find, fold, Contains, eq-eqb, eqb-true}
+use Rattle.std.proofs.Common.{◌≡◌, ℕ, suc, ◌+◌, ◌<◌, ◌≤◌, ◌⊎◌, ◌↔◌, inl, inr, ⊎_elim, Bool, true, false, List, [], ◌∷◌, ◌++◌, length, take, append-nil, append_assoc, length-append, Option, Some, None, option_map, refl, sym, ap, subst, ◌∙◌, arith, map, filter, find, fold, Contains, eq-eqb, eqb-true}
 use Rattle.std.specs.Prelude.{◌==◌}
 use Rattle.std.specs.Option.{option_map_or}
 use Rattle.std.proofs.lemmas.Bool.{cases_eq}
@@ -23,13 +23,13 @@ use Rattle.cg_world.specs.Replica.{up_line_of}
 use Rattle.cg_world.specs.World.{Step, before_start, replica_of}
 use Rattle.cg_world.specs.Shown.{order_of, made_names, position_of, made_of, made_action, made_actions, ordered_actions}
 use Rattle.cg_world.specs.Agreement.{IsRunFrom, ComesAfter, through, OrderGrows, Prefix, CreatorOrder, IsPassed, FoldAnswers, OnePrimary, QuietSettles, Agreement}
-use Rattle.cg_world.proofs.Lists.{Each-contains}
+use Rattle.cg_world.specs.ListLaws.{Each-contains}
 use Rattle.cg_world.proofs.Numbered.{own_in, IsOrdered, own-names, placed-once, numbered-at, found-all, Each-front}
 use Rattle.cg_world.proofs.Telling.{answers-names, answers-at, split-at, contains-at, contains-map, contains-filter, contains-filter-in, unmap}
 use Rattle.cg_world.proofs.Wire.{Exact}
 use Rattle.cg_world.proofs.Heard.{Front}
 use Rattle.cg_world.proofs.Primaries.{run-one}
-use Rattle.cg_world.proofs.Running.{names_in, Stands, greens_in, IsShownOf, Gave, Change}
+use Rattle.cg_world.proofs.Running.{names_in, greens_in, IsShownOf, Gave}
 use Rattle.cg_world.proofs.Booked.{Fine, fine-with, fine-of, Seen, run-seen, run-fine}
 use Rattle.cg_world.proofs.Quieting.{quiet-settles}
 

@@ -20,8 +20,8 @@ use Rattle.cg_world.specs.declared.handing.Moved.{Moved}
 use Rattle.cg_world.specs.World.{Step, before_start, replica_of, world_step, first_refusal}
 use Rattle.cg_world.specs.Shown.{order_lines, made_names, lines_in, made_of, made_action}
 use Rattle.cg_world.specs.Agreement.{IsRunFrom}
-use Rattle.cg_world.proofs.Lists.{Each-contains}
-use Rattle.cg_world.proofs.Numbered.{AreNumbered, made_by, own_in, IsOrdered, numbered-front, find-numbered, find-own, own-names, numbered-ordered, own-empty, Each-back}
+use Rattle.cg_world.specs.ListLaws.{Each-contains}
+use Rattle.cg_world.proofs.Numbered.{AreNumbered, made_by, own_in, IsOrdered, numbered-front, find-numbered, find-own, own-names, numbered-ordered, own-empty}
 use Rattle.cg_world.proofs.Pictures.{pic}
 use Rattle.cg_world.proofs.Telling.{Told, told-begun, made_of-names, split-at, contains-at, contains-map, contains-filter, contains-filter-in}
 use Rattle.cg_world.proofs.Wire.{Exact}
@@ -61,7 +61,7 @@ book-idle W n steps w a = record {
   ordered = nothing-ordered;
   found = tt;
   made = tt;
-  own = λ p r s. let i = Rattle.cg_world.proofs.Lists.Each-found (IsWaiting W n) (λ (r : Replica). r.id == p) w.replicas r a.each s in ([], [], (refl, i.greens, i.db));
+  own = λ p r s. let i = Rattle.cg_world.specs.ListLaws.Each-found (IsWaiting W n) (λ (r : Replica). r.id == p) w.replicas r a.each s in ([], [], (refl, i.greens, i.db));
 }
 
 some_replica : (r s : Replica) → Some r ≡ Some s → r ≡ s

@@ -1,5 +1,5 @@
 -- Before all replicas have come together, and their coming together.
-use Rattle.std.proofs.Common.{◌≡◌, ℕ, zero, suc, ◌+◌, ◌<◌, ◌≤◌, ◌^◌, ◌⊎◌, inl, inr, ⊎_elim, Bool, true, false, ◌||◌, not, List, [], ◌∷◌, ◌++◌, length, drop, take, append-nil, Option, Some, None, refl, sym, ap, ap₂, subst, ◌∙◌, arith, map, find, fold, if◌then◌else◌, eq-eqb, eqb-true}
+use Rattle.std.proofs.Common.{◌≡◌, ℕ, zero, suc, ◌+◌, ◌<◌, ◌≤◌, ◌^◌, ◌⊎◌, inl, inr, ⊎_elim, Bool, true, false, ◌||◌, List, [], ◌∷◌, ◌++◌, length, drop, take, append-nil, Option, Some, None, refl, sym, ap, ap₂, subst, ◌∙◌, arith, map, find, fold, if◌then◌else◌, eq-eqb}
 use Rattle.std.specs.Prelude.{◌==◌}
 use Rattle.std.specs.Option.{option_map_or}
 use Rattle.std.proofs.lemmas.Bool.{cases_Bool, cases_eq, cond_both, cond-true, cond-false, ne_eqb}
@@ -38,10 +38,11 @@ use Rattle.cg_world.specs.Message.{first_summary}
 use Rattle.cg_world.specs.Replica.{Turn, begin, fresh, is_reg_prim, buffer, asked, create, turn_of}
 use Rattle.cg_world.specs.World.{silently, brought_up, before_start, replica_of, with_replica, new_in_order, after_turn, ask, hand, hand_out, world_step, first_refusal}
 use Rattle.cg_world.specs.Agreement.{MayStand}
-use Rattle.cg_world.proofs.Lists.{Each-map, Each-found, fold-keeps}
+use Rattle.cg_world.specs.NameLaws.{names-with}
+use Rattle.cg_world.specs.ListLaws.{Each-map, Each-found, fold-keeps}
 use Rattle.cg_world.proofs.Numbered.{AreNumbered}
 use Rattle.cg_world.proofs.Pictures.{M, Pic, pic, waiting, send_all-waits, configurations-begin, begins-regular}
-use Rattle.cg_world.proofs.Telling.{find-other, find-new, found_id, names-with, Each-with, Told, told-turn}
+use Rattle.cg_world.proofs.Telling.{find-other, find-new, found_id, Each-with, Told, told-turn}
 use Rattle.cg_world.proofs.Heard.{Known, after, acts_in, tells, Hears}
 use Rattle.cg_world.proofs.Said.{member-is_id}
 use Rattle.cg_world.proofs.Formed.{Knows, Member, member-kept}

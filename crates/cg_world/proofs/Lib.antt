@@ -5,8 +5,6 @@ pub mod Coming
 pub mod Counting
 pub mod Formed
 pub mod Heard
-pub mod Lists
-pub mod Names
 pub mod Numbered
 pub mod Pictures
 pub mod Places

@@ -35,7 +35,7 @@ use Rattle.cg_world.specs.Shown.{all_up_lines, lines_in}
 use Rattle.cg_world.specs.World.{Step, silently, before_start, replica_of, news, after_turn, hand, hand_out, world_step, first_refusal}
 use Rattle.cg_world.specs.Agreement.{MayStand, IsRunFrom}
 use Rattle.cg_world.proofs.Heard.{InOne, one-kept}
-use Rattle.cg_world.proofs.Lists.{Each-contains, Each-map, Each-found, Each-flat_map, fold-keeps, Each-present}
+use Rattle.cg_world.specs.ListLaws.{Each-contains, Each-map, Each-found, Each-flat_map, fold-keeps, Each-present}
 use Rattle.cg_world.proofs.Telling.{Each-with, length-with}
 
 abbrev Of : List Weighted → Replica → Type 0

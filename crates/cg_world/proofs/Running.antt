@@ -24,7 +24,7 @@ use Rattle.cg_world.specs.declared.state.State.TheVariants.{NonPrim, ExchangeSta
 use Rattle.cg_world.specs.declared.replica.Replica.{Replica}
 use Rattle.cg_world.specs.declared.world.World.{World}
 use Rattle.cg_world.specs.declared.handing.Moved.{Moved}
-use Rattle.cg_world.specs.Replica.{Turn, fresh, is_reg_prim, state_name, up_line_of, line_of}
+use Rattle.cg_world.specs.Replica.{is_reg_prim, state_name, up_line_of, line_of}
 use Rattle.cg_world.specs.World.{Step, replica_of, with_replica, news, new_in_order}
 use Rattle.cg_report.specs.EntryText.{no_entry}
 use Rattle.cg_world.specs.Shown.{order_lines, lines_in, position_of, made_at, made_of}

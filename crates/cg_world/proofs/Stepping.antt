@@ -17,10 +17,9 @@ use Rattle.cg_report.specs.declared.entry.Shown.TheVariants.{Greens, Database, A
 use Rattle.cg_world.specs.declared.replica.Replica.{Replica}
 use Rattle.cg_world.specs.declared.world.World.{World}
 use Rattle.cg_world.specs.declared.handing.Moved.{Moved}
-use Rattle.cg_world.specs.World.{Step, silently, showing, before_start, replica_of, with_replica, news, new_in_order, placed_from, with_turn, world_step, first_refusal}
+use Rattle.cg_world.specs.World.{Step, silently, replica_of, world_step, first_refusal}
 use Rattle.cg_world.specs.Shown.{order_lines, lines_in}
 use Rattle.cg_world.specs.Agreement.{MayStand}
-use Rattle.cg_world.proofs.Lists.{Each-contains}
 use Rattle.cg_world.proofs.Numbered.{made_by}
 use Rattle.cg_world.proofs.Pictures.{pic}
 use Rattle.cg_world.proofs.Telling.{found_id, Told}
@@ -36,7 +35,7 @@ greens-none P none w p each = by_replica (replica_of w p) refl
   where
     by_replica : (o : Option Replica) → replica_of w p ≡ o → option_map_or (λ (r : Replica). r.greens) o [] ≡ []
     by_replica None s = refl
-    by_replica (Some r) s = none r (Rattle.cg_world.proofs.Lists.Each-found P (λ (r : Replica). r.id == p) w.replicas r each s)
+    by_replica (Some r) s = none r (Rattle.cg_world.specs.ListLaws.Each-found P (λ (r : Replica). r.id == p) w.replicas r each s)
 
 merged : (W : List Weighted) (set : IsWeightSet W) (n n' : ℕ) (steps : List Step) (w : World) (k : ℕ) (servers : List ℕ) → n ≤ n' → (st : Stands W n steps w) → IsIdle W n st.made w → MayStand w (Merge servers) →
     Stands W n' (steps ++ step_to k (Merge servers) (world_step w (Merge servers)) ∷ []) (world_step w (Merge servers)).world × Change W w (step_to k (Merge servers) (world_step w (Merge servers)))

@@ -70,13 +70,6 @@ found_id (x ∷ replicas) q r e =
     some_same : (a b : Replica) → Some a ≡ Some b → a ≡ b
     some_same a b h = cc
 
-pub names-with : (replicas : List Replica) (new : Replica) → map (λ r. r.id) (with_replica replicas new) ≡ map (λ r. r.id) replicas
-names-with [] new = refl
-names-with (r ∷ replicas) new =
-    cond_both (r.id == new.id) (new ∷ replicas) (r ∷ with_replica replicas new) (λ (rs : List Replica). map (λ r. r.id) rs ≡ r.id ∷ map (λ r. r.id) replicas)
-    (λ y. ap (λ k. k ∷ map (λ (r : Replica). r.id) replicas) (sym (eqb-true r.id new.id y)))
-    (λ n. ap (λ z. r.id ∷ z) (names-with replicas new))
-
 pub length-with : (replicas : List Replica) (new : Replica) → length (with_replica replicas new) ≡ length replicas
 length-with [] new = refl
 length-with (r ∷ replicas) new =

@@ -30,7 +30,8 @@ use Rattle.cg_world.specs.World.{silently, replica_of, unknown, with_replica, ne
 use Rattle.cg_report.specs.EntryText.{no_entry}
 use Rattle.cg_world.proofs.Numbered.{made_by, total-bound, set-small}
 use Rattle.cg_world.proofs.Pictures.{M, Pic, pic, same_pic, waiting, counted, order-none, order-some, receive-same, send_all-waits, delivered-counted}
-use Rattle.cg_world.proofs.Telling.{find-other, find-new, names-with, answers}
+use Rattle.cg_world.specs.NameLaws.{names-with}
+use Rattle.cg_world.proofs.Telling.{find-other, find-new, answers}
 use Rattle.cg_world.proofs.Wire.{Exact}
 use Rattle.cg_world.proofs.Heard.{Known, after, after-front, after-one, InOne, HasEarned, after-earned, acts_in}
 use Rattle.cg_world.proofs.Said.{acts_in-append, acts_in-voiced, member-is_id}

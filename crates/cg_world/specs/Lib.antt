@@ -7,3 +7,6 @@ pub mod Report
 pub mod Shown
 pub mod Turn
 pub mod World
+pub mod ListLaws
+pub mod NameLaws
+pub mod Laws

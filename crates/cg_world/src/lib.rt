@@ -6,6 +6,7 @@
 #![tactic(auto)]
 
 mod handing;
+mod laws;
 mod mark;
 mod messages;
 mod replica;
@@ -17,6 +18,7 @@ mod turn;
 mod world;
 
 pub use handing::{Moved, Shared};
+pub use laws::runs_agree;
 pub use mark::Mark;
 pub use replica::Replica;
 pub use request::Request;

@@ -17,9 +17,8 @@ use Rattle.cg_world.specs.declared.world.World.{World}
 use Rattle.cg_world.specs.declared.handing.Moved.{Moved}
 use Rattle.cg_world.specs.World.{Step, Refusal, before_start, first_refusal, world_step, world_after, MayAsk}
 use Rattle.cg_world.specs.Agreement.{MayStand, IsRunFrom, RefusedExactly, Agreement}
-use Rattle.cg_world.proofs.Agreed.{run-agrees}
-use Rattle.cg_world.proofs.Names.{start-begun, merge-names, deliver-names, request-names, order-none, gather-none, receive-none, deliver-none, request-none}
-use Rattle.cg_world.proofs.Wire.{Exact}
+use Rattle.cg_world.specs.Laws.{RunsAgree}
+use Rattle.cg_world.specs.NameLaws.{start-begun, merge-names, deliver-names, request-names, order-none, gather-none, receive-none, deliver-none, request-none}
 use Rattle.cg_world.specs.declared.replica.Replica.{Replica}
 use Rattle.std.proofs.lemmas.List.{length-map}
 use Rattle.cg_base.specs.Weights.{ids, IsWeightSet}
@@ -368,5 +367,5 @@ outcome-refused_exactly words taken how exact =
       reason = λ r is. (let there = rw is at h.refused in rw h.world at there);
     }
 
-pub outcome-agrees : (words : List (List ℕ)) (taken : List ℕ) (how : Ending) → ExactLines → Exact → Agreement (outcome words taken how).steps
-outcome-agrees words taken how lines messages = run-agrees messages (outcome words taken how).steps (outcome-is_run words taken how lines)
+pub outcome-agrees : (words : List (List ℕ)) (taken : List ℕ) (how : Ending) → ExactLines → RunsAgree → Agreement (outcome words taken how).steps
+outcome-agrees words taken how lines agree = agree (outcome words taken how).steps (outcome-is_run words taken how lines)

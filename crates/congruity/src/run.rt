@@ -9,7 +9,7 @@ use crate::status::Status;
 use crate::taking::take_all;
 use cg_io::{Sink, Source};
 use cg_schedule::lines_are_exact;
-use cg_wire::messages_are_exact;
+use cg_world::runs_agree;
 use std::alloc::Global;
 
 fn is_replay_command(words: &[ArgText]) -> bool
@@ -34,7 +34,7 @@ pub fn run<S: Source, K: Sink>(
         (K.held output.old) (K.held output.new) (K.faults output.old) (K.faults output.new) result }
 {
     lines_are_exact();
-    messages_are_exact();
+    runs_agree();
     if !is_replay_command(words) {
         return finish(alloc, output, Status::Usage, 0, 0);
     }

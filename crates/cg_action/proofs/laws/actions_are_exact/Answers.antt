@@ -2,9 +2,9 @@ use Rattle.cg_codec.specs.FieldLaws.{field_whole}
 use Rattle.cg_action.specs.Limits.{IsAction}
 use Rattle.cg_action.specs.Bytes.{spelled_action}
 use Rattle.cg_action.specs.Reading.{action_reading}
-use Rattle.cg_action.proofs.ValueFields.{id_field, value_field}
-use Rattle.cg_action.proofs.CommandFields.{command_field, query_field}
-use Rattle.cg_action.proofs.KindFields.{action_field}
+use Rattle.cg_action.specs.ValueLaws.{id_field, value_field}
+use Rattle.cg_action.specs.CommandLaws.{command_field, query_field}
+use Rattle.cg_action.specs.KindLaws.{action_field}
 use Rattle.cg_action.proofs.laws.actions_are_exact.Goals as goal
 
 pub returns : goal.returns

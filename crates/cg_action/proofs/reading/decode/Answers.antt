@@ -5,7 +5,7 @@ use Rattle.cg_codec.specs.FieldLaws.{field_whole}
 use Rattle.cg_action.specs.Limits.{IsAction}
 use Rattle.cg_action.specs.Bytes.{spelled_action}
 use Rattle.cg_action.specs.Reading.{action_reading}
-use Rattle.cg_action.proofs.KindFields.{action_field}
+use Rattle.cg_action.specs.KindLaws.{action_field}
 use Rattle.cg_action.proofs.reading.decode.Goals as goal
 
 pub returns-clause-within : goal.returns-clause-within

@@ -1,5 +1,5 @@
 use Rattle.std.proofs.Common.{refl}
-use Rattle.cg_client.proofs.Lasts.{last_index-get}
+use Rattle.cg_client.specs.ReplicaLaws.{last_index-get}
 use Rattle.cg_client.proofs.held.last_index.Goals as goal
 
 -- src/held.rt:60:1

@@ -6,10 +6,10 @@ use Rattle.cg_codec.specs.Reading.{take_count}
 use Rattle.cg_codec.specs.Taking.{unread_of}
 use Rattle.cg_codec.specs.ItemLaws.{items_stop, items_end}
 use Rattle.cg_records.specs.Reading.{take_cut, take_name_above, last_of}
-use Rattle.cg_records.proofs.Ascending.{AllBelow-more, raise-last}
+use Rattle.cg_records.specs.AscendingLaws.{AllBelow-more, raise-last}
 use Rattle.cg_records.specs.RecordLaws.{map-push}
 use Rattle.cg_records.proofs.Passed.{name_above-ok}
-use Rattle.cg_records.proofs.ItemLoops.{ReadSoFar-none, ReadSoFar-more}
+use Rattle.cg_records.specs.ItemLoopLaws.{ReadSoFar-none, ReadSoFar-more}
 use Rattle.cg_records.proofs.names.take_cut.Goals as goal
 
 pub tops-init : goal.tops-init

@@ -1,7 +1,7 @@
 use Rattle.cg_base.specs.Cuts.{creators_in}
 use Rattle.cg_codec.specs.Taking.{unread_of}
 use Rattle.cg_records.specs.Reading.{take_cut, take_name_above, last_of}
-use Rattle.cg_records.proofs.ItemLoops.{ReadSoFar}
+use Rattle.cg_records.specs.ItemLoopLaws.{ReadSoFar}
 use Rattle.cg_records.proofs.names.take_cut.Given as goal
 
 abbrev pub invariant-tops : goal.invariant-tops

@@ -1,6 +1,6 @@
 use Rattle.cg_codec.specs.Taking.{unread_of}
 use Rattle.cg_records.specs.Reading.{take_set, take_id_above, last_of}
-use Rattle.cg_records.proofs.ItemLoops.{ReadSoFar}
+use Rattle.cg_records.specs.ItemLoopLaws.{ReadSoFar}
 use Rattle.cg_records.proofs.sets.take_set.Given as goal
 
 abbrev pub invariant-members : goal.invariant-members

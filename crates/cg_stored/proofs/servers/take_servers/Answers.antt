@@ -6,9 +6,9 @@ use Rattle.cg_codec.specs.Taking.{unread_of}
 use Rattle.cg_codec.specs.ItemLaws.{items_stop, items_end}
 use Rattle.cg_members.specs.Servers.{server_ids}
 use Rattle.cg_records.specs.Reading.{last_of}
-use Rattle.cg_records.proofs.Ascending.{AllBelow-more}
+use Rattle.cg_records.specs.AscendingLaws.{AllBelow-more}
 use Rattle.cg_records.specs.RecordLaws.{map-push}
-use Rattle.cg_records.proofs.ItemLoops.{ReadSoFar-none, ReadSoFar-more}
+use Rattle.cg_records.specs.ItemLoopLaws.{ReadSoFar-none, ReadSoFar-more}
 use Rattle.cg_stored.specs.Reading.{server_reading, servers_reading}
 use Rattle.cg_stored.proofs.ServerFields.{server-ok, with_server-last}
 use Rattle.cg_stored.proofs.servers.take_servers.Goals as goal

@@ -1,7 +1,7 @@
 use Rattle.cg_codec.specs.Taking.{unread_of}
 use Rattle.cg_members.specs.Servers.{server_ids}
 use Rattle.cg_records.specs.Reading.{last_of}
-use Rattle.cg_records.proofs.ItemLoops.{ReadSoFar}
+use Rattle.cg_records.specs.ItemLoopLaws.{ReadSoFar}
 use Rattle.cg_stored.specs.Reading.{server_reading, servers_reading}
 use Rattle.cg_stored.proofs.servers.take_servers.Given as goal
 

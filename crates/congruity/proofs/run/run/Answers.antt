@@ -18,7 +18,7 @@ returns-then-not-is_replay_command g c =
       put = rw (outcome-usage words other) c.finish.ensures;
       is_run = outcome-is_run words [] Open c.lines_are_exact.ensures.event;
       refused_exactly = outcome-refused_exactly words [] Open c.lines_are_exact.ensures.event;
-      agrees = outcome-agrees words [] Open c.lines_are_exact.ensures.event c.messages_are_exact.ensures.whole;
+      agrees = outcome-agrees words [] Open c.lines_are_exact.ensures.event c.runs_agree.ensures;
     }
 
 pub returns-in-Ok : goal.returns-in-Ok
@@ -34,7 +34,7 @@ returns-in-Ok g c =
       put = rw (outcome-replay words t.bytes t.ending replays, ← c.as_slice.ensures) c.replay.ensures;
       is_run = outcome-is_run words t.bytes t.ending c.lines_are_exact.ensures.event;
       refused_exactly = outcome-refused_exactly words t.bytes t.ending c.lines_are_exact.ensures.event;
-      agrees = outcome-agrees words t.bytes t.ending c.lines_are_exact.ensures.event c.messages_are_exact.ensures.whole;
+      agrees = outcome-agrees words t.bytes t.ending c.lines_are_exact.ensures.event c.runs_agree.ensures;
     }
 
 pub returns-in-Err : goal.returns-in-Err
@@ -49,5 +49,5 @@ returns-in-Err g c =
       put = Stopped-nothing (outcome words t Open) (g.K.Sink.held c.args.output.now) (g.K.Sink.faults c.args.output.now);
       is_run = outcome-is_run words t Open c.lines_are_exact.ensures.event;
       refused_exactly = outcome-refused_exactly words t Open c.lines_are_exact.ensures.event;
-      agrees = outcome-agrees words t Open c.lines_are_exact.ensures.event c.messages_are_exact.ensures.whole;
+      agrees = outcome-agrees words t Open c.lines_are_exact.ensures.event c.runs_agree.ensures;
     }

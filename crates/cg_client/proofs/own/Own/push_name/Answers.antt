@@ -1,6 +1,6 @@
 use Rattle.std.proofs.Common.{suc, drop}
 use Rattle.cg_queue.specs.Queue.{names_of}
-use Rattle.cg_client.proofs.Lasts.{names-step, none-within, put-front}
+use Rattle.cg_client.proofs.Naming.{names-step, none-within, put-front}
 use Rattle.cg_client.proofs.own.Own.push_name.Goals as goal
 
 pub returns-in-Some : goal.returns-in-Some

@@ -18,7 +18,7 @@ use Rattle.cg_action.specs.Limits.{IsKey, IsPrefix, IsValue, IsWant, IsCommand, 
 use Rattle.cg_action.specs.Bytes.{spelled_value, spelled_want, spelled_command, spelled_query}
 use Rattle.cg_action.specs.Reading.{key_reading, value_reading, want_reading, amount_reading, put_reading, del_reading, inc_reading, cas_reading, move_reading, need_reading, command_of_tag, command_reading, query_of_tag, query_reading}
 use Rattle.cg_action.specs.ShapeLaws.{field_says, field_one, field_two, field_three, field_tagged}
-use Rattle.cg_action.proofs.ValueFields.{key_field, text_within_field, value_field, want_field, amount_field}
+use Rattle.cg_action.specs.ValueLaws.{key_field, text_within_field, value_field, want_field, amount_field}
 
 abbrev command_tag : Cmd → ℕ
 command_tag (Put key value) = 1

@@ -1,19 +1,9 @@
--- The last of some actions, and their names one after another.
-use Rattle.std.specs.Prelude.{◌≡◌, refl, ℕ, zero, suc, ◌-◌, ◌<◌, List, [], ◌∷◌, ◌++◌, Some, None, Result, Ok, Err, OnOk, drop, slice_get, length}
+-- The names of some actions, one after another.
+use Rattle.std.specs.Prelude.{◌≡◌, refl, ℕ, zero, suc, ◌<◌, List, [], ◌∷◌, ◌++◌, Some, None, Result, Ok, Err, OnOk, drop, slice_get, length}
 use Rattle.std.proofs.Common.{arith, append_assoc}
 use Rattle.cg_base.specs.declared.action_id.ActionId.{ActionId}
-use Rattle.std.specs.Option.{option_map_or}
 use Rattle.cg_action.specs.declared.action.Action.{Action}
 use Rattle.cg_queue.specs.Queue.{names_of}
-use Rattle.cg_client.specs.Replica.{last_index}
-
-pub last_index-get : (own : List Action) → option_map_or (λ a. a.id.index) (slice_get own (length own - 1)) 0 ≡ last_index own
-last_index-get [] = refl
-last_index-get (a ∷ []) = refl
-last_index-get (a ∷ b ∷ rest) =
-    let whole : length (a ∷ b ∷ rest) - 1 ≡ suc (length rest) = omega arith in
-    let less : length (b ∷ rest) - 1 ≡ length rest = omega arith in
-    rw whole (rw less at (last_index-get (b ∷ rest)))
 
 pub names-step : (own : List Action) (i : ℕ) (a : Action) → Some a ≡ slice_get own i → names_of (drop i own) ≡ a.id ∷ names_of (drop (suc i) own)
 names-step [] i a e = absurd (cc)

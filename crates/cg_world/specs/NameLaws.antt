@@ -1,5 +1,5 @@
 -- What steps leave of the replicas that have begun, and of there being no configuration yet.
-use Rattle.std.proofs.Common.{◌≡◌, ℕ, ◌+◌, ◌<◌, false, List, [], ◌∷◌, ◌++◌, length, Option, Some, None, refl, ap, ◌∙◌, arith, map, fold}
+use Rattle.std.proofs.Common.{◌≡◌, ℕ, ◌+◌, ◌<◌, false, List, [], ◌∷◌, ◌++◌, length, Option, Some, None, refl, sym, ap, ◌∙◌, arith, map, fold, eqb-true}
 use Rattle.std.specs.Prelude.{◌==◌}
 use Rattle.std.specs.Option.{option_map_or}
 use Rattle.std.proofs.lemmas.Bool.{cond_both}
@@ -22,13 +22,21 @@ use Rattle.cg_world.specs.declared.handing.Moved.{Moved}
 use Rattle.cg_world.specs.declared.replica.Replica.{Replica}
 use Rattle.cg_world.specs.declared.world.World.{World}
 use Rattle.cg_world.specs.Replica.{Turn, fresh, asked, turn_of}
-use Rattle.cg_world.specs.World.{silently, before_start, replica_of, brought_up, after_turn, hand, hand_out, first_refusal, world_step}
-use Rattle.cg_world.proofs.Lists.{fold-keeps}
-use Rattle.cg_world.proofs.Pictures.{M}
-use Rattle.cg_world.proofs.Telling.{names-with}
+use Rattle.cg_world.specs.World.{silently, before_start, with_replica, replica_of, brought_up, after_turn, hand, hand_out, first_refusal, world_step}
+use Rattle.cg_world.specs.ListLaws.{fold-keeps}
+
+abbrev M : Type 0
+M = List ℕ
 
 abbrev names : List Replica → List ℕ
 names replicas = map (λ r. r.id) replicas
+
+pub names-with : (replicas : List Replica) (new : Replica) → map (λ r. r.id) (with_replica replicas new) ≡ map (λ r. r.id) replicas
+names-with [] new = refl
+names-with (r ∷ replicas) new =
+    cond_both (r.id == new.id) (new ∷ replicas) (r ∷ with_replica replicas new) (λ (rs : List Replica). map (λ r. r.id) rs ≡ r.id ∷ map (λ r. r.id) replicas)
+    (λ y. ap (λ k. k ∷ map (λ (r : Replica). r.id) replicas) (sym (eqb-true r.id new.id y)))
+    (λ n. ap (λ z. r.id ∷ z) (names-with replicas new))
 
 -- a replica that takes a turn keeps its place
 taken-names : (m : Moved) (turn : Replica → Turn) (o : Option Replica) → names (option_map_or (λ r. after_turn m r (turn r)) o m).world.replicas ≡ names m.world.replicas

@@ -21,8 +21,8 @@ use Rattle.cg_action.specs.Limits.{does_something, IsCommand, IsQuery, IsKind, I
 use Rattle.cg_action.specs.Bytes.{spelled_command, spelled_query, spelled_kind, spelled_id, spelled_action}
 use Rattle.cg_action.specs.Reading.{byte_between, number_from, id_reading, command_reading, query_reading, commands_reading, query_behind, update_reading, heavy_join_reading, kind_of_tag, kind_reading, action_reading}
 use Rattle.cg_action.specs.ShapeLaws.{field_says, field_one, field_two, field_three, field_tagged, between_field}
-use Rattle.cg_action.proofs.ValueFields.{replica_field, number_field, id_field}
-use Rattle.cg_action.proofs.CommandFields.{command_field, query_field}
+use Rattle.cg_action.specs.ValueLaws.{replica_field, number_field, id_field}
+use Rattle.cg_action.specs.CommandLaws.{command_field, query_field}
 
 -- ---- commands and their query
 
