@@ -1,6 +1,6 @@
-ghost use Rattle.std.specs.Prelude.{◌≡◌, ◌≤◌, ◌<◌, ◌^◌, ◌+◌, Some, drop, vec_len, length, [], OnOk, IsErrOf, min, IsErr, ◌↔◌, Contains};
-ghost use Rattle.std.specs.Io.KnownBytes.{Appends, Keeps};
-ghost use Rattle.cg_io.specs.Outside.{Takes, TakeCause, PutCause, AppendsFront};
+ghost use Rattle.std.specs.Prelude.{◌≡◌, ◌≤◌, ◌<◌, ◌^◌, ◌+◌, Some, vec_len, length, [], OnOk, IsErrOf, IsErr, ◌↔◌, Contains};
+ghost use Rattle.cg_io.specs.Outside.{Takes, TakeCause, PutsAll, PutsNothing, PutCause};
+ghost use Rattle.cg_io.specs.Memory.{from_place, kept};
 
 use crate::front::copy_front;
 use crate::{Failed, IoFault, Sink, Source};
@@ -20,8 +20,7 @@ pub struct MemSource {
 impl MemSource {
     /// The takes named by `fail`, counted from 1, fail.
     pub fn new(bytes: Vec<u8>, fail: Vec<u64>) -> MemSource
-        ensures left { ⟦<MemSource as Source>⟧.left result ≡ Some bytes.items }
-        ensures faults { ⟦<MemSource as Source>⟧.faults result ≡ 0 }
+        ensures view { ⟦<MemSource as Source>⟧.view result ≡ from_place 0 bytes.items 0 }
         ensures fail { result.fail.items ≡ fail.items }
         ensures calls { result.calls ≡ 0 }
     {
@@ -36,15 +35,13 @@ impl MemSource {
 }
 
 impl Source for MemSource {
-    ghost left = { λ s. Some (drop s.place s.bytes.items) };
-
-    ghost faults = { λ s. s.faults };
+    ghost view = { λ s. from_place s.place s.bytes.items s.faults };
 
     fn take(&mut self, buf: &mut [u8]) -> Result<usize, Failed>
         requires room { 0 < length buf.old }
         requires few_faults { self.old.faults < 2 ^ 62 }
-        ensures bytes { Takes (Some (drop self.old.place self.old.bytes.items)) (Some (drop self.new.place self.new.bytes.items)) result buf.new }
-        ensures cause { TakeCause self.old.faults self.new.faults result }
+        ensures bytes { Takes (from_place self.old.place self.old.bytes.items self.old.faults) (from_place self.new.place self.new.bytes.items self.new.faults) result buf.new }
+        ensures cause { TakeCause (from_place self.old.place self.old.bytes.items self.old.faults) (from_place self.new.place self.new.bytes.items self.new.faults) result }
         ensures chosen { self.old.calls < 2 ^ 62 → IsErr result ↔ Contains self.old.fail.items (self.old.calls + 1) }
         ensures counted { self.old.calls < 2 ^ 62 → self.new.calls ≡ self.old.calls + 1 }
         ensures kept { self.new.fail ≡ self.old.fail }
@@ -72,8 +69,7 @@ pub struct MemSink {
 impl MemSink {
     /// The puts named by `fail`, counted from 1, fail, and put nothing.
     pub fn new(alloc: Global, fail: Vec<u64>) -> MemSink
-        ensures held { ⟦<MemSink as Sink>⟧.held result ≡ Some [] }
-        ensures faults { ⟦<MemSink as Sink>⟧.faults result ≡ 0 }
+        ensures view { ⟦<MemSink as Sink>⟧.view result ≡ kept [] 0 }
         ensures fail { result.fail.items ≡ fail.items }
         ensures calls { result.calls ≡ 0 }
     {
@@ -87,23 +83,21 @@ impl MemSink {
 
     /// The bytes put so far.
     pub fn bytes(&self) -> &[u8]
-        ensures { ⟦<MemSink as Sink>⟧.held self.now ≡ Some result.now }
+        ensures { (⟦<MemSink as Sink>⟧.view self.now).held ≡ Some result.now }
     {
         self.bytes.as_slice()
     }
 }
 
 impl Sink for MemSink {
-    ghost held = { λ s. Some s.bytes.items };
-
-    ghost faults = { λ s. s.faults };
+    ghost view = { λ s. kept s.bytes.items s.faults };
 
     fn put(&mut self, _alloc: Global, part: &[u8]) -> Result<(), IoFault>
         requires few_faults { self.old.faults < 2 ^ 62 }
-        ensures ok { OnOk result (Appends (Some self.old.bytes.items) (Some self.new.bytes.items) part.now) }
-        ensures failed { IsErrOf result IoFault.Failed → Keeps (Some self.old.bytes.items) (Some self.new.bytes.items) }
-        ensures no_memory { IsErrOf result IoFault.NoMemory → Keeps (Some self.old.bytes.items) (Some self.new.bytes.items) }
-        ensures cause { PutCause self.old.faults self.new.faults result }
+        ensures ok { OnOk result (PutsAll (kept self.old.bytes.items self.old.faults) (kept self.new.bytes.items self.new.faults) part.now) }
+        ensures failed { IsErrOf result IoFault.Failed → PutsNothing (kept self.old.bytes.items self.old.faults) (kept self.new.bytes.items self.new.faults) }
+        ensures no_memory { IsErrOf result IoFault.NoMemory → PutsNothing (kept self.old.bytes.items self.old.faults) (kept self.new.bytes.items self.new.faults) }
+        ensures cause { PutCause (kept self.old.bytes.items self.old.faults) (kept self.new.bytes.items self.new.faults) result }
         ensures chosen { self.old.calls < 2 ^ 62 → IsErrOf result IoFault.Failed ↔ Contains self.old.fail.items (self.old.calls + 1) }
         ensures counted { self.old.calls < 2 ^ 62 → self.new.calls ≡ self.old.calls + 1 }
         ensures kept { self.new.fail ≡ self.old.fail }

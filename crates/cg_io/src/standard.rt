@@ -13,16 +13,14 @@ pub struct StdSource<R: Read> {
 
 impl<R: Read> StdSource<R> {
     pub fn new(inner: R) -> StdSource<R>
-        ensures { ⟦<StdSource<R> as Source>⟧.faults result ≡ 0 }
+        ensures { ⟦<StdSource<R> as Source>⟧.view result ≡ record { left = None; faults = 0 } }
     {
         StdSource { inner, faults: 0 }
     }
 }
 
 impl<R: Read> Source for StdSource<R> {
-    ghost left = { λ _. None };
-
-    ghost faults = { λ s. s.faults };
+    ghost view = { λ s. record { left = None; faults = s.faults } };
 
     /// One read.
     fn take(&mut self, buf: &mut [u8]) -> Result<usize, Failed> {
@@ -45,7 +43,7 @@ pub struct StdSink<W: Write> {
 
 impl<W: Write> StdSink<W> {
     pub fn new(inner: W) -> StdSink<W>
-        ensures { ⟦<StdSink<W> as Sink>⟧.faults result ≡ 0 }
+        ensures { ⟦<StdSink<W> as Sink>⟧.view result ≡ record { held = None; faults = 0 } }
     {
         StdSink { inner, faults: 0 }
     }
@@ -62,9 +60,7 @@ impl<W: Write> StdSink<W> {
 }
 
 impl<W: Write> Sink for StdSink<W> {
-    ghost held = { λ _. None };
-
-    ghost faults = { λ s. s.faults };
+    ghost view = { λ s. record { held = None; faults = s.faults } };
 
     /// Repeats write until the part is out.
     fn put(&mut self, _alloc: Global, part: &[u8]) -> Result<(), IoFault> {

@@ -1,29 +1,11 @@
 -- A query alone is an action too; messages that are gathered and not delivered change nothing.
-use Rattle.std.specs.Prelude.{◌≡◌, List, [], ◌∷◌, Some, None, pos, negsuc, codes}
+use Rattle.std.specs.Prelude.{◌≡◌, [], ◌∷◌}
 use mathlib.Core.Path.{refl}
-use Rattle.cg_action.specs.declared.value.Value.TheVariants.{Int}
-use Rattle.cg_action.specs.declared.command.Cmd.TheVariants.{Put, Inc}
-use Rattle.cg_action.specs.declared.query.Query.TheVariants.{Count}
-use Rattle.cg_schedule.specs.declared.event.Event.{Event}
-use Rattle.cg_schedule.specs.declared.event.Event.TheVariants.{Start, Merge, Request, Gather, Rounds}
-use Rattle.cg_worked.specs.Playing.{unweighted, events_of, report, step_count, refusal, written}
+use Rattle.cg_worked.specs.Replaying.{replayed_text, written}
 use Rattle.cg_worked.specs.Computing.{cases_compute}
 
-abbrev counted : List Event
-counted =
-    Start (unweighted (1 ∷ 2 ∷ [])) ∷
-    Merge (1 ∷ 2 ∷ []) ∷
-    Rounds 2 ∷
-    Request 2 (Inc (codes "z") (pos 7) ∷ []) None ∷
-    Rounds 2 ∷
-    Rounds 2 ∷
-    Request 2 [] (Some Count) ∷
-    Request 2 (Put (codes "z") (Int (negsuc 8)) ∷ []) None ∷
-    Gather ∷
-    []
-
-counted-lines :
-    events_of (
+counted :
+    replayed_text (
     "start 1 2" ∷
     "merge 1 2" ∷
     "rounds 2" ∷
@@ -33,13 +15,9 @@ counted-lines :
     "request 2 ? count" ∷
     "request 2 put \"z\" -9" ∷
     "gather" ∷
+    "end" ∷
     [])
-    ≡ Some counted
-unfolding cases_compute
-counted-lines = refl
-
-counted-report :
-    report counted ≡ written (
+    ≡ written (
     "= 1" ∷
     "1 NonPrim - g0 w0 p0@0{1,2} a0 v- y- r[] o[] x{} b0" ∷
     "2 NonPrim - g0 w0 p0@0{1,2} a0 v- y- r[] o[] x{} b0" ∷
@@ -69,14 +47,7 @@ counted-report :
     "= 17" ∷
     "made 2:3 put \"z\" -9" ∷
     "2 RegPrim c1 g1 w0 p1@1{1,2} a0 v1/0{1,2}{2} y- r[] o[2:2,2:3] x{} b0" ∷
+    "end 18" ∷
     [])
 unfolding cases_compute
-counted-report = refl
-
-counted-steps : step_count counted ≡ 18
-unfolding cases_compute
-counted-steps = refl
-
-counted-admitted : refusal counted ≡ None
-unfolding cases_compute
-counted-admitted = refl
+counted = refl

@@ -1,39 +1,11 @@
 -- Five replicas: requests that are kept, actions that are aborted, and at the end a place that was received before.
-use Rattle.std.specs.Prelude.{◌≡◌, List, [], ◌∷◌, Some, None, pos, negsuc, codes}
+use Rattle.std.specs.Prelude.{◌≡◌, [], ◌∷◌}
 use mathlib.Core.Path.{refl}
-use Rattle.cg_action.specs.declared.value.Value.TheVariants.{Text, Int}
-use Rattle.cg_action.specs.declared.command.Cmd.TheVariants.{Put, Del, Inc, Cas, Move, Need}
-use Rattle.cg_action.specs.declared.query.Query.TheVariants.{Get, Count}
-use Rattle.cg_group.specs.declared.reason.Reason.TheVariants.{AlreadyReceived}
-use Rattle.cg_schedule.specs.declared.event.Event.{Event}
-use Rattle.cg_schedule.specs.declared.event.Event.TheVariants.{Start, Merge, Request, Gather, Receive, Deliver, Rounds}
-use Rattle.cg_worked.specs.Playing.{utf8, unweighted, events_of, report, refusal, refusal_words, written}
+use Rattle.cg_worked.specs.Replaying.{replayed_text, written}
 use Rattle.cg_worked.specs.Computing.{cases_compute}
 
-abbrev five_alternate : List Event
-five_alternate =
-    Start (unweighted (1 ∷ 2 ∷ 3 ∷ 4 ∷ 5 ∷ [])) ∷
-    Merge (1 ∷ 2 ∷ 3 ∷ 4 ∷ 5 ∷ []) ∷
-    Gather ∷
-    Deliver 1 5 ∷
-    Request 2 (Inc (codes "b") (negsuc 1) ∷ []) (Some Count) ∷
-    Gather ∷
-    Deliver 1 1 ∷
-    Request 4 (Del (codes "a") ∷ Put (codes "z") (Int (pos 52)) ∷ Put (codes "abc") (Int (pos 72)) ∷ Move (codes "b") (codes "b") (pos 9223372036854775807) ∷ Inc (codes "a") (pos 2) ∷ Inc (codes "ab") (pos 3) ∷ Move (codes "b") (codes "x") (pos 9223372036854775807) ∷ Inc (codes "z") (pos 1) ∷ Inc (codes "ab") (pos 6) ∷ Need (codes "x") (Some (Int (negsuc 2))) ∷ Put (codes "a") (Int (pos 61)) ∷ Put (codes "y") (Int (pos 40)) ∷ Cas (codes "a") (Some (Int (pos 9))) (Int (pos 2)) ∷ Put (codes "ab") (Int (pos 98)) ∷ Cas (codes "z") None (Int (pos 83)) ∷ Put (codes "x") (Text (codes "-1")) ∷ []) None ∷
-    Request 4 (Inc (codes "b") (pos 11) ∷ Inc (codes "a") (pos 2) ∷ Move (codes "z") (codes "x") (pos 9223372036854775807) ∷ Need (codes "y") (Some (Int (negsuc 0))) ∷ []) None ∷
-    Deliver 3 6 ∷
-    Deliver 2 6 ∷
-    Request 2 (Move (codes "z") (codes "x") (pos 0) ∷ []) (Some (Get (codes "z"))) ∷
-    Rounds 1 ∷
-    Request 4 (Cas (codes "ab") None (Int (pos 29)) ∷ []) None ∷
-    Rounds 3 ∷
-    Request 1 (Need (codes "z") None ∷ Need (codes "z") None ∷ Inc (codes "x") (pos 3) ∷ Put (codes "x") (Int (pos 79)) ∷ Put (codes "z") (Int (negsuc 5)) ∷ Move (codes "y") (codes "a") (pos 1) ∷ Inc (codes "z") (negsuc 1) ∷ Put (codes "ab") (Int (pos 0)) ∷ Inc (codes "ab") (pos 2) ∷ Need (codes "y") None ∷ Put (codes "a") (Int (negsuc 7)) ∷ Put (codes "z") (Int (pos 64)) ∷ Del (codes "k2") ∷ Put (codes "z") (Text (utf8 "\u{80}")) ∷ Inc (codes "ab") (pos 9) ∷ Cas (codes "a") (Some (Int (negsuc 9223372036854775806))) (Text (codes "back\\slash")) ∷ []) None ∷
-    Request 2 (Inc (codes "x") (pos 11) ∷ Inc (codes "z") (pos 1) ∷ []) None ∷
-    Receive 1 7 ∷
-    []
-
-five_alternate-lines :
-    events_of (
+five_alternate :
+    replayed_text (
     "start 1 2 3 4 5" ∷
     "merge 1 2 3 4 5" ∷
     "gather" ∷
@@ -52,13 +24,9 @@ five_alternate-lines :
     "request 1 need \"z\" absent; need \"z\" absent; inc \"x\" 3; put \"x\" 79; put \"z\" -6; move \"y\" \"a\" 1; inc \"z\" -2; put \"ab\" 0; inc \"ab\" 2; need \"y\" absent; put \"a\" -8; put \"z\" 64; del \"k2\"; put \"z\" \"\u{80}\"; inc \"ab\" 9; cas \"a\" -9223372036854775807 \"back\\\\slash\"" ∷
     "request 2 inc \"x\" 11; inc \"z\" 1" ∷
     "receive 1 7" ∷
+    "end" ∷
     [])
-    ≡ Some five_alternate
-unfolding cases_compute
-five_alternate-lines = refl
-
-five_alternate-report :
-    report five_alternate ≡ written (
+    ≡ written (
     "= 1" ∷
     "1 NonPrim - g0 w0 p0@0{1,2,3,4,5} a0 v- y- r[] o[] x{} b0" ∷
     "2 NonPrim - g0 w0 p0@0{1,2,3,4,5} a0 v- y- r[] o[] x{} b0" ∷
@@ -132,14 +100,7 @@ five_alternate-report :
     "= 34" ∷
     "made 2:3 inc \"x\" 11; inc \"z\" 1" ∷
     "2 RegPrim c1 g5 w0 p1@1{1,2,3,4,5} a0 v1/0{1,2,3,4,5}{2} y- r[] o[2:3] x{} b0" ∷
+    "refused 18 5 7" ∷
     [])
 unfolding cases_compute
-five_alternate-report = refl
-
-five_alternate-refused : refusal five_alternate ≡ Some (AlreadyReceived 7)
-unfolding cases_compute
-five_alternate-refused = refl
-
-five_alternate-reason : refusal_words five_alternate ≡ codes "5 7"
-unfolding cases_compute
-five_alternate-reason = refl
+five_alternate = refl

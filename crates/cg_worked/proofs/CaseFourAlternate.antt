@@ -1,79 +1,11 @@
 -- A long run of four replicas: requests that are kept, a sum past the range, and replies far behind their requests.
-use Rattle.std.specs.Prelude.{◌≡◌, List, [], ◌∷◌, Some, None, pos, negsuc, codes}
+use Rattle.std.specs.Prelude.{◌≡◌, [], ◌∷◌}
 use mathlib.Core.Path.{refl}
-use Rattle.cg_action.specs.declared.value.Value.TheVariants.{Int}
-use Rattle.cg_action.specs.declared.command.Cmd.TheVariants.{Put, Inc}
-use Rattle.cg_action.specs.declared.query.Query.TheVariants.{Get}
-use Rattle.cg_schedule.specs.declared.event.Event.{Event}
-use Rattle.cg_schedule.specs.declared.event.Event.TheVariants.{Start, Merge, Request, ShowOrder, Rounds}
-use Rattle.cg_worked.specs.Playing.{unweighted, events_of, report, step_count, refusal, written}
+use Rattle.cg_worked.specs.Replaying.{replayed_text, written}
 use Rattle.cg_worked.specs.Computing.{cases_compute}
 
-abbrev four_alternate : List Event
-four_alternate =
-    Start (unweighted (8 ∷ 18 ∷ 21 ∷ 27 ∷ [])) ∷
-    Merge (8 ∷ 18 ∷ 21 ∷ 27 ∷ []) ∷
-    Rounds 1 ∷
-    Request 27 (Inc (codes "z~") (pos 82) ∷ []) None ∷
-    Request 21 (Inc (codes "y") (pos 82) ∷ []) (Some (Get (codes "k1"))) ∷
-    Request 21 (Put (codes "a") (Int (pos 72)) ∷ []) (Some (Get (codes "z~"))) ∷
-    Rounds 2 ∷
-    Request 21 (Inc (codes "it's") (negsuc 9223372036854775807) ∷ []) None ∷
-    ShowOrder ∷
-    Request 18 (Inc (codes "it's") (negsuc 0) ∷ []) None ∷
-    Request 8 (Put (codes "long-key") (Int (negsuc 0)) ∷ []) (Some (Get (codes "z~"))) ∷
-    Request 8 (Inc (codes "y") (negsuc 9223372036854775807) ∷ []) (Some (Get (codes "k1"))) ∷
-    Request 8 (Put (codes "a") (Int (pos 24)) ∷ []) None ∷
-    Request 18 (Inc (codes "a") (pos 9223372036854775806) ∷ []) None ∷
-    Request 21 (Inc (codes "k1") (pos 62) ∷ []) None ∷
-    Request 27 (Inc (codes "k1") (negsuc 0) ∷ []) None ∷
-    ShowOrder ∷
-    Request 18 (Inc (codes "z~") (pos 86) ∷ []) None ∷
-    Request 27 (Put (codes "x") (Int (pos 67)) ∷ []) (Some (Get (codes "y"))) ∷
-    ShowOrder ∷
-    ShowOrder ∷
-    Request 18 (Inc (codes "x") (pos 55) ∷ []) (Some (Get (codes "it's"))) ∷
-    Request 8 (Inc (codes "long-key") (pos 39) ∷ []) None ∷
-    Request 21 (Put (codes "z~") (Int (pos 62)) ∷ []) (Some (Get (codes "a"))) ∷
-    Request 8 (Put (codes "x") (Int (negsuc 0)) ∷ []) None ∷
-    Request 21 (Inc (codes "x") (pos 41) ∷ []) (Some (Get (codes "a"))) ∷
-    Request 21 (Put (codes "z~") (Int (negsuc 5)) ∷ []) (Some (Get (codes "k1"))) ∷
-    ShowOrder ∷
-    Request 18 (Put (codes "a") (Int (pos 56)) ∷ []) None ∷
-    ShowOrder ∷
-    Rounds 3 ∷
-    Request 27 (Inc (codes "a") (pos 43) ∷ []) (Some (Get (codes "it's"))) ∷
-    Rounds 1 ∷
-    Request 8 (Put (codes "k1") (Int (pos 15)) ∷ []) None ∷
-    Request 27 (Put (codes "z~") (Int (pos 48)) ∷ []) None ∷
-    ShowOrder ∷
-    Request 8 (Put (codes "it's") (Int (pos 96)) ∷ []) None ∷
-    ShowOrder ∷
-    ShowOrder ∷
-    Request 18 (Put (codes "x") (Int (pos 81)) ∷ []) None ∷
-    Request 8 (Put (codes "y") (Int (pos 30)) ∷ []) None ∷
-    Request 8 (Put (codes "a") (Int (pos 85)) ∷ []) None ∷
-    Request 27 (Put (codes "z~") (Int (pos 0)) ∷ []) None ∷
-    Request 27 (Inc (codes "x") (pos 80) ∷ []) None ∷
-    Request 27 (Inc (codes "y") (pos 89) ∷ []) None ∷
-    Rounds 1 ∷
-    Request 27 (Put (codes "long-key") (Int (pos 50)) ∷ []) None ∷
-    Request 27 (Put (codes "it's") (Int (pos 82)) ∷ []) None ∷
-    Request 8 (Inc (codes "a") (negsuc 9223372036854775807) ∷ []) None ∷
-    Request 8 (Put (codes "it's") (Int (pos 31)) ∷ []) None ∷
-    Request 21 (Inc (codes "z~") (pos 76) ∷ []) (Some (Get (codes "k1"))) ∷
-    Request 27 (Inc (codes "x") (pos 16) ∷ []) None ∷
-    Rounds 3 ∷
-    Rounds 2 ∷
-    Request 18 (Put (codes "it's") (Int (pos 3)) ∷ []) None ∷
-    Request 27 (Inc (codes "x") (pos 75) ∷ []) (Some (Get (codes "it's"))) ∷
-    Request 8 (Inc (codes "z~") (pos 65) ∷ []) None ∷
-    Request 8 (Inc (codes "x") (pos 14) ∷ []) (Some (Get (codes "z~"))) ∷
-    Rounds 2 ∷
-    []
-
-four_alternate-lines :
-    events_of (
+four_alternate :
+    replayed_text (
     "start 8 18 21 27" ∷
     "merge 8 18 21 27" ∷
     "rounds 1" ∷
@@ -133,13 +65,9 @@ four_alternate-lines :
     "request 8 inc \"z~\" 65" ∷
     "request 8 inc \"x\" 14 ? get \"z~\"" ∷
     "rounds 2" ∷
+    "end" ∷
     [])
-    ≡ Some four_alternate
-unfolding cases_compute
-four_alternate-lines = refl
-
-four_alternate-report :
-    report four_alternate ≡ written (
+    ≡ written (
     "= 1" ∷
     "8 NonPrim - g0 w0 p0@0{8,18,21,27} a0 v- y- r[] o[] x{} b0" ∷
     "18 NonPrim - g0 w0 p0@0{8,18,21,27} a0 v- y- r[] o[] x{} b0" ∷
@@ -432,14 +360,7 @@ four_alternate-report :
     "= 97" ∷
     "27 RegPrim c1 g40 w0 p1@1{8,18,21,27} a0 v1/0{8,18,21,27}{27} y- r[] o[] x{} b0" ∷
     "reply 27:12 done ? 3" ∷
+    "end 98" ∷
     [])
 unfolding cases_compute
-four_alternate-report = refl
-
-four_alternate-steps : step_count four_alternate ≡ 98
-unfolding cases_compute
-four_alternate-steps = refl
-
-four_alternate-admitted : refusal four_alternate ≡ None
-unfolding cases_compute
-four_alternate-admitted = refl
+four_alternate = refl

@@ -1,31 +1,11 @@
 -- A request that comes before the primary component is formed is kept, and made once it is formed.
-use Rattle.std.specs.Prelude.{◌≡◌, List, [], ◌∷◌, Some, None, pos, negsuc, codes}
+use Rattle.std.specs.Prelude.{◌≡◌, [], ◌∷◌}
 use mathlib.Core.Path.{refl}
-use Rattle.cg_action.specs.declared.value.Value.TheVariants.{Text}
-use Rattle.cg_action.specs.declared.command.Cmd.TheVariants.{Put, Del, Inc, Cas, Move, Need}
-use Rattle.cg_action.specs.declared.query.Query.TheVariants.{Get}
-use Rattle.cg_schedule.specs.declared.event.Event.{Event}
-use Rattle.cg_schedule.specs.declared.event.Event.TheVariants.{Start, Merge, Request, Order, Gather, Receive, Rounds}
-use Rattle.cg_worked.specs.Playing.{utf8, unweighted, events_of, report, step_count, refusal, written}
+use Rattle.cg_worked.specs.Replaying.{replayed_text, written}
 use Rattle.cg_worked.specs.Computing.{cases_compute}
 
-abbrev kept_request : List Event
-kept_request =
-    Start (unweighted (1 ∷ 2 ∷ 3 ∷ [])) ∷
-    Merge (1 ∷ 2 ∷ 3 ∷ []) ∷
-    Order 2 ∷
-    Request 2 (Inc (codes "z") (negsuc 2) ∷ []) None ∷
-    Request 1 (Move (codes "a") (codes "x") (pos 1) ∷ Need (codes "a") None ∷ Inc (codes "z") (pos 4) ∷ Inc (codes "\\") (pos 11) ∷ Cas (codes "x") (Some (Text (codes "v"))) (Text (codes "absent")) ∷ Put (codes "\"") (Text (codes "yes \"no\"")) ∷ Put (codes "k1") (Text (utf8 "\u{80}")) ∷ Del (codes "y") ∷ Inc (codes "x") (pos 1) ∷ Put (codes "x") (Text (codes "; ? #")) ∷ Put (codes "z") (Text (codes "hi")) ∷ Inc (utf8 "é") (pos 3) ∷ Put (utf8 "日本") (Text (codes "back\\slash")) ∷ Cas (codes "a") (Some (Text (codes "hi"))) (Text (codes "; ? #")) ∷ Put (codes "b") (Text (codes "hi")) ∷ Inc (codes "x") (pos 8) ∷ []) None ∷
-    Receive 1 1 ∷
-    Request 2 (Inc (codes "k2") (negsuc 0) ∷ []) None ∷
-    Rounds 2 ∷
-    Rounds 3 ∷
-    Request 3 (Inc (codes "y") (pos 11) ∷ []) (Some (Get (codes "x"))) ∷
-    Gather ∷
-    []
-
-kept_request-lines :
-    events_of (
+kept_request :
+    replayed_text (
     "start 1 2 3" ∷
     "merge 1 2 3" ∷
     "order 2" ∷
@@ -37,13 +17,9 @@ kept_request-lines :
     "rounds 3" ∷
     "request 3 inc \"y\" 11 ?\tget \"x\"" ∷
     "gather" ∷
+    "end" ∷
     [])
-    ≡ Some kept_request
-unfolding cases_compute
-kept_request-lines = refl
-
-kept_request-report :
-    report kept_request ≡ written (
+    ≡ written (
     "= 1" ∷
     "1 NonPrim - g0 w0 p0@0{1,2,3} a0 v- y- r[] o[] x{} b0" ∷
     "2 NonPrim - g0 w0 p0@0{1,2,3} a0 v- y- r[] o[] x{} b0" ∷
@@ -88,14 +64,7 @@ kept_request-report :
     "= 22" ∷
     "made 3:1 inc \"y\" 11 ? get \"x\"" ∷
     "3 RegPrim c1 g3 w0 p1@1{1,2,3} a0 v1/0{1,2,3}{3} y- r[] o[3:1] x{} b0" ∷
+    "end 23" ∷
     [])
 unfolding cases_compute
-kept_request-report = refl
-
-kept_request-steps : step_count kept_request ≡ 23
-unfolding cases_compute
-kept_request-steps = refl
-
-kept_request-admitted : refusal kept_request ≡ None
-unfolding cases_compute
-kept_request-admitted = refl
+kept_request = refl

@@ -1,67 +1,11 @@
 -- A long run of a replica alone: what is added to a text, or moved from a key that has too little, is aborted at its place.
-use Rattle.std.specs.Prelude.{◌≡◌, List, [], ◌∷◌, Some, None, pos, negsuc, codes}
+use Rattle.std.specs.Prelude.{◌≡◌, [], ◌∷◌}
 use mathlib.Core.Path.{refl}
-use Rattle.cg_action.specs.declared.value.Value.TheVariants.{Text, Int}
-use Rattle.cg_action.specs.declared.command.Cmd.TheVariants.{Put, Del, Inc, Cas, Move, Need}
-use Rattle.cg_action.specs.declared.query.Query.TheVariants.{Get, Keys, Count}
-use Rattle.cg_schedule.specs.declared.event.Event.{Event}
-use Rattle.cg_schedule.specs.declared.event.Event.TheVariants.{Start, Merge, Request, ShowOrder, Rounds}
-use Rattle.cg_worked.specs.Playing.{utf8, unweighted, events_of, report, step_count, refusal, written}
+use Rattle.cg_worked.specs.Replaying.{replayed_text, written}
 use Rattle.cg_worked.specs.Computing.{cases_compute}
 
-abbrev lone_alternate : List Event
-lone_alternate =
-    Start (unweighted (1 ∷ [])) ∷
-    Merge (1 ∷ []) ∷
-    Rounds 2 ∷
-    Request 1 (Put (codes "b") (Text (utf8 "\u{10ffff}")) ∷ []) None ∷
-    Rounds 1 ∷
-    Request 1 (Need (codes "z") (Some (Text (codes "; ? #"))) ∷ []) None ∷
-    Rounds 3 ∷
-    Request 1 (Move (codes "y") (codes "z") (pos 3) ∷ []) (Some (Get (codes "x"))) ∷
-    Rounds 3 ∷
-    ShowOrder ∷
-    Request 1 (Cas (codes "ab") (Some (Text [])) (Int (pos 93)) ∷ Inc (codes "ab") (pos 2) ∷ Inc (codes "b") (pos 5) ∷ []) (Some (Get (codes "ab"))) ∷
-    Rounds 1 ∷
-    Request 1 (Inc (codes "abc") (pos 10) ∷ Inc (codes "b") (pos 11) ∷ []) (Some (Keys [])) ∷
-    Request 1 (Inc (codes "y") (pos 10) ∷ Inc (codes "z") (pos 8) ∷ []) None ∷
-    Request 1 (Move (codes "ab") (codes "x") (pos 0) ∷ []) None ∷
-    Rounds 1 ∷
-    Request 1 (Inc (codes "a") (pos 12) ∷ []) None ∷
-    Request 1 (Inc (codes "b") (pos 6) ∷ []) None ∷
-    Request 1 (Inc (codes "a") (pos 0) ∷ []) (Some (Get (codes "z"))) ∷
-    Request 1 (Inc (codes "y") (negsuc 1) ∷ []) None ∷
-    Rounds 1 ∷
-    Request 1 (Inc (codes "ab") (negsuc 0) ∷ []) None ∷
-    Rounds 1 ∷
-    Request 1 (Inc (codes "y") (pos 5) ∷ []) None ∷
-    Request 1 [] (Some (Get (codes "x"))) ∷
-    Request 1 (Move (codes "ab") (codes "ab") (pos 3) ∷ []) None ∷
-    Request 1 (Inc (codes "b") (pos 2) ∷ Cas (codes "a") None (Text (utf8 "üß")) ∷ Inc (codes "x") (pos 5) ∷ Put (codes "ab") (Int (pos 60)) ∷ Inc (codes "z") (pos 4) ∷ Need (codes "z") None ∷ Inc (codes "ab") (negsuc 1) ∷ Inc (codes "x") (pos 7) ∷ Cas (codes "k1") None (Int (pos 42)) ∷ Need (codes "x") None ∷ Del (codes "ab") ∷ Del (codes "b") ∷ Put (codes "a") (Int (pos 32)) ∷ Put (codes "a") (Int (pos 56)) ∷ Move (codes "z") (codes "y") (pos 1) ∷ Inc (codes "y") (negsuc 9223372036854775807) ∷ []) None ∷
-    Rounds 3 ∷
-    Rounds 3 ∷
-    Rounds 1 ∷
-    Request 1 (Put (codes "a") (Int (pos 63)) ∷ []) None ∷
-    Request 1 (Inc (codes "x") (pos 9) ∷ []) None ∷
-    Request 1 (Inc (codes "b") (pos 4) ∷ []) None ∷
-    Request 1 (Inc (codes "a") (pos 4) ∷ []) None ∷
-    Request 1 [] (Some (Keys (codes "q"))) ∷
-    Request 1 (Put (codes "z") (Text (utf8 "\u{80}")) ∷ []) None ∷
-    Rounds 2 ∷
-    Request 1 (Del (codes "x") ∷ []) (Some Count) ∷
-    Request 1 (Del (codes "y") ∷ []) None ∷
-    Request 1 (Inc (codes "y") (negsuc 0) ∷ []) (Some (Get (codes "a"))) ∷
-    Request 1 (Move (codes "a") (codes "z") (pos 2) ∷ []) None ∷
-    Rounds 3 ∷
-    Request 1 (Inc (codes "z") (pos 5) ∷ Inc (codes "k1") (pos 6) ∷ []) (Some (Get (codes "abc"))) ∷
-    Request 1 [] (Some (Get (codes "z"))) ∷
-    Request 1 (Put (codes "x") (Int (pos 51)) ∷ []) (Some (Keys (codes "q"))) ∷
-    Request 1 (Put (codes "y") (Int (pos 25)) ∷ []) None ∷
-    Request 1 (Put (codes "abc") (Int (pos 97)) ∷ []) (Some (Get (codes "ab"))) ∷
-    []
-
-lone_alternate-lines :
-    events_of (
+lone_alternate :
+    replayed_text (
     "start 1" ∷
     "merge 1" ∷
     "rounds 2" ∷
@@ -109,13 +53,9 @@ lone_alternate-lines :
     "request 1 put \"x\" 51 ? keys \"q\"" ∷
     "request 1 put \"y\" 25" ∷
     "request 1 put \"abc\" 97 ? get \"ab\"" ∷
+    "end" ∷
     [])
-    ≡ Some lone_alternate
-unfolding cases_compute
-lone_alternate-lines = refl
-
-lone_alternate-report :
-    report lone_alternate ≡ written (
+    ≡ written (
     "= 1" ∷
     "1 NonPrim - g0 w0 p0@0{1} a0 v- y- r[] o[] x{} b0" ∷
     "= 2" ∷
@@ -291,14 +231,7 @@ lone_alternate-report :
     "= 71" ∷
     "made 1:31 put \"abc\" 97 ? get \"ab\"" ∷
     "1 RegPrim c1 g26 w0 p1@1{1} a0 v1/0{1}{1} y- r[] o[1:27,1:28,1:29,1:30,1:31] x{} b0" ∷
+    "end 71" ∷
     [])
 unfolding cases_compute
-lone_alternate-report = refl
-
-lone_alternate-steps : step_count lone_alternate ≡ 71
-unfolding cases_compute
-lone_alternate-steps = refl
-
-lone_alternate-admitted : refusal lone_alternate ≡ None
-unfolding cases_compute
-lone_alternate-admitted = refl
+lone_alternate = refl

@@ -1,27 +1,11 @@
 -- Replicas of other numbers than 1 to 3. An action is green at a replica that was handed it, not yet at its creator.
-use Rattle.std.specs.Prelude.{◌≡◌, List, [], ◌∷◌, Some, None, pos, codes}
+use Rattle.std.specs.Prelude.{◌≡◌, [], ◌∷◌}
 use mathlib.Core.Path.{refl}
-use Rattle.cg_action.specs.declared.value.Value.TheVariants.{Int}
-use Rattle.cg_action.specs.declared.command.Cmd.TheVariants.{Put}
-use Rattle.cg_schedule.specs.declared.event.Event.{Event}
-use Rattle.cg_schedule.specs.declared.event.Event.TheVariants.{Start, Merge, Request, Show, Gather, Deliver, Rounds}
-use Rattle.cg_worked.specs.Playing.{unweighted, events_of, report, step_count, refusal, written}
+use Rattle.cg_worked.specs.Replaying.{replayed_text, written}
 use Rattle.cg_worked.specs.Computing.{cases_compute}
 
-abbrev other_names : List Event
-other_names =
-    Start (unweighted (6 ∷ 7 ∷ 21 ∷ [])) ∷
-    Merge (6 ∷ 7 ∷ 21 ∷ []) ∷
-    Rounds 2 ∷
-    Gather ∷
-    Request 7 (Put (codes "k1") (Int (pos 6)) ∷ []) None ∷
-    Gather ∷
-    Show 7 ∷
-    Deliver 6 1 ∷
-    []
-
-other_names-lines :
-    events_of (
+other_names :
+    replayed_text (
     "start 6 7 21" ∷
     "merge 6 7 21" ∷
     "rounds 2" ∷
@@ -30,13 +14,9 @@ other_names-lines :
     "gather" ∷
     "show 7" ∷
     "deliver 6 1" ∷
+    "end" ∷
     [])
-    ≡ Some other_names
-unfolding cases_compute
-other_names-lines = refl
-
-other_names-report :
-    report other_names ≡ written (
+    ≡ written (
     "= 1" ∷
     "6 NonPrim - g0 w0 p0@0{6,7,21} a0 v- y- r[] o[] x{} b0" ∷
     "7 NonPrim - g0 w0 p0@0{6,7,21} a0 v- y- r[] o[] x{} b0" ∷
@@ -66,14 +46,7 @@ other_names-report :
     "= 15" ∷
     "order 1 7:1" ∷
     "6 RegPrim c1 g1 w0 p1@1{6,7,21} a0 v1/0{6,7,21}{6} y- r[] o[] x{} b0" ∷
+    "end 15" ∷
     [])
 unfolding cases_compute
-other_names-report = refl
-
-other_names-steps : step_count other_names ≡ 15
-unfolding cases_compute
-other_names-steps = refl
-
-other_names-admitted : refusal other_names ≡ None
-unfolding cases_compute
-other_names-admitted = refl
+other_names = refl

@@ -1,31 +1,11 @@
 -- A replica is shown, and the order; two actions of one replica are answered in the order in which they were made.
-use Rattle.std.specs.Prelude.{◌≡◌, List, [], ◌∷◌, Some, None, pos, negsuc, codes}
+use Rattle.std.specs.Prelude.{◌≡◌, [], ◌∷◌}
 use mathlib.Core.Path.{refl}
-use Rattle.cg_action.specs.declared.value.Value.TheVariants.{Int}
-use Rattle.cg_action.specs.declared.command.Cmd.TheVariants.{Put, Inc}
-use Rattle.cg_action.specs.declared.query.Query.TheVariants.{Get}
-use Rattle.cg_schedule.specs.declared.event.Event.{Event}
-use Rattle.cg_schedule.specs.declared.event.Event.TheVariants.{Start, Merge, Request, Show, ShowOrder, Rounds}
-use Rattle.cg_worked.specs.Playing.{unweighted, events_of, report, step_count, refusal, written}
+use Rattle.cg_worked.specs.Replaying.{replayed_text, written}
 use Rattle.cg_worked.specs.Computing.{cases_compute}
 
-abbrev shown : List Event
-shown =
-    Start (unweighted (1 ∷ 2 ∷ 3 ∷ [])) ∷
-    Merge (1 ∷ 2 ∷ 3 ∷ []) ∷
-    Rounds 3 ∷
-    Show 1 ∷
-    Rounds 3 ∷
-    Request 1 (Inc (codes "a") (negsuc 0) ∷ []) (Some (Get (codes "z"))) ∷
-    Request 1 (Put (codes "z") (Int (pos 83)) ∷ []) None ∷
-    ShowOrder ∷
-    Rounds 1 ∷
-    Rounds 1 ∷
-    Request 1 (Put (codes "b") (Int (pos 21)) ∷ []) None ∷
-    []
-
-shown-lines :
-    events_of (
+shown :
+    replayed_text (
     "start 1 2 3" ∷
     "merge 1 2 3" ∷
     "rounds 3" ∷
@@ -37,13 +17,9 @@ shown-lines :
     "rounds 1" ∷
     "rounds 1" ∷
     "request 1 put \"b\" 21" ∷
+    "end" ∷
     [])
-    ≡ Some shown
-unfolding cases_compute
-shown-lines = refl
-
-shown-report :
-    report shown ≡ written (
+    ≡ written (
     "= 1" ∷
     "1 NonPrim - g0 w0 p0@0{1,2,3} a0 v- y- r[] o[] x{} b0" ∷
     "2 NonPrim - g0 w0 p0@0{1,2,3} a0 v- y- r[] o[] x{} b0" ∷
@@ -88,14 +64,7 @@ shown-report :
     "= 24" ∷
     "made 1:3 put \"b\" 21" ∷
     "1 RegPrim c1 g2 w0 p1@1{1,2,3} a0 v1/0{1,2,3}{1} y- r[] o[1:3] x{} b0" ∷
+    "end 24" ∷
     [])
 unfolding cases_compute
-shown-report = refl
-
-shown-steps : step_count shown ≡ 24
-unfolding cases_compute
-shown-steps = refl
-
-shown-admitted : refusal shown ≡ None
-unfolding cases_compute
-shown-admitted = refl
+shown = refl

@@ -1,51 +1,11 @@
 -- A longer run of three replicas, which ends at a place that was received before.
-use Rattle.std.specs.Prelude.{◌≡◌, List, [], ◌∷◌, Some, None, pos, codes}
+use Rattle.std.specs.Prelude.{◌≡◌, [], ◌∷◌}
 use mathlib.Core.Path.{refl}
-use Rattle.cg_action.specs.declared.value.Value.TheVariants.{Int}
-use Rattle.cg_action.specs.declared.command.Cmd.TheVariants.{Put, Del, Inc, Cas, Move}
-use Rattle.cg_action.specs.declared.query.Query.TheVariants.{Get, Count}
-use Rattle.cg_group.specs.declared.reason.Reason.TheVariants.{AlreadyReceived}
-use Rattle.cg_schedule.specs.declared.event.Event.{Event}
-use Rattle.cg_schedule.specs.declared.event.Event.TheVariants.{Start, Merge, Request, Order, Show, ShowOrder, Gather, Receive, Deliver, Rounds}
-use Rattle.cg_worked.specs.Playing.{unweighted, events_of, report, refusal, refusal_words, written}
+use Rattle.cg_worked.specs.Replaying.{replayed_text, written}
 use Rattle.cg_worked.specs.Computing.{cases_compute}
 
-abbrev three_alternate : List Event
-three_alternate =
-    Start (unweighted (1 ∷ 2 ∷ 3 ∷ [])) ∷
-    Merge (1 ∷ 2 ∷ 3 ∷ []) ∷
-    Rounds 2 ∷
-    Gather ∷
-    Gather ∷
-    Gather ∷
-    Request 2 (Inc (codes "b") (pos 4) ∷ []) None ∷
-    Request 1 (Move (codes "x") (codes "z") (pos 9223372036854775807) ∷ []) None ∷
-    Gather ∷
-    Request 2 (Put (codes "a") (Int (pos 54)) ∷ Put (codes "a") (Int (pos 40)) ∷ Put (codes "abc") (Int (pos 81)) ∷ []) None ∷
-    Gather ∷
-    ShowOrder ∷
-    Request 3 (Del (codes "x") ∷ []) (Some (Get (codes "b"))) ∷
-    Deliver 3 3 ∷
-    Order 3 ∷
-    Deliver 2 3 ∷
-    Show 1 ∷
-    ShowOrder ∷
-    Receive 1 10 ∷
-    Request 1 (Inc (codes "abc") (pos 12) ∷ []) (Some Count) ∷
-    Deliver 1 1 ∷
-    Deliver 1 2 ∷
-    Receive 2 10 ∷
-    Request 3 (Cas (codes "b") None (Int (pos 8)) ∷ []) None ∷
-    Deliver 3 1 ∷
-    Deliver 1 1 ∷
-    Gather ∷
-    Deliver 3 2 ∷
-    Gather ∷
-    Receive 2 3 ∷
-    []
-
-three_alternate-lines :
-    events_of (
+three_alternate :
+    replayed_text (
     "start 1 2 3" ∷
     "merge 1 2 3" ∷
     "rounds 2" ∷
@@ -76,13 +36,9 @@ three_alternate-lines :
     "deliver 3 2" ∷
     "gather" ∷
     "receive 2 3" ∷
+    "end" ∷
     [])
-    ≡ Some three_alternate
-unfolding cases_compute
-three_alternate-lines = refl
-
-three_alternate-report :
-    report three_alternate ≡ written (
+    ≡ written (
     "= 1" ∷
     "1 NonPrim - g0 w0 p0@0{1,2,3} a0 v- y- r[] o[] x{} b0" ∷
     "2 NonPrim - g0 w0 p0@0{1,2,3} a0 v- y- r[] o[] x{} b0" ∷
@@ -153,14 +109,7 @@ three_alternate-report :
     "order 6 3:2" ∷
     "3 RegPrim c1 g6 w0 p1@1{1,2,3} a0 v1/0{1,2,3}{3} y- r[] o[] x{} b0" ∷
     "reply 3:2 done" ∷
+    "refused 30 5 3" ∷
     [])
 unfolding cases_compute
-three_alternate-report = refl
-
-three_alternate-refused : refusal three_alternate ≡ Some (AlreadyReceived 3)
-unfolding cases_compute
-three_alternate-refused = refl
-
-three_alternate-reason : refusal_words three_alternate ≡ codes "5 3"
-unfolding cases_compute
-three_alternate-reason = refl
+three_alternate = refl

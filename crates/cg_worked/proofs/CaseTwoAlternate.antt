@@ -1,62 +1,12 @@
 -- A longer run of two replicas: an action that is aborted at its second command, keys that are listed, replies to an action
 -- that another replica has marked green before.
-use Rattle.std.specs.Prelude.{◌≡◌, List, [], ◌∷◌, Some, None, pos, negsuc, codes}
+use Rattle.std.specs.Prelude.{◌≡◌, [], ◌∷◌}
 use mathlib.Core.Path.{refl}
-use Rattle.cg_action.specs.declared.value.Value.TheVariants.{Int}
-use Rattle.cg_action.specs.declared.command.Cmd.TheVariants.{Put, Del, Inc, Move, Need}
-use Rattle.cg_action.specs.declared.query.Query.TheVariants.{Get, Keys}
-use Rattle.cg_schedule.specs.declared.event.Event.{Event}
-use Rattle.cg_schedule.specs.declared.event.Event.TheVariants.{Start, Merge, Request, Order, Show, Gather, Receive, Deliver, Rounds}
-use Rattle.cg_worked.specs.Playing.{unweighted, events_of, report, step_count, refusal, written}
+use Rattle.cg_worked.specs.Replaying.{replayed_text, written}
 use Rattle.cg_worked.specs.Computing.{cases_compute}
 
-abbrev two_alternate : List Event
-two_alternate =
-    Start (unweighted (1 ∷ 2 ∷ [])) ∷
-    Merge (1 ∷ 2 ∷ []) ∷
-    Rounds 2 ∷
-    Gather ∷
-    Request 1 (Inc (codes "z") (pos 12) ∷ Need (codes "a") (Some (Int (pos 26))) ∷ []) (Some (Get (codes "a"))) ∷
-    Gather ∷
-    Deliver 2 1 ∷
-    Gather ∷
-    Deliver 1 1 ∷
-    Gather ∷
-    Rounds 3 ∷
-    Rounds 1 ∷
-    Rounds 1 ∷
-    Gather ∷
-    Rounds 2 ∷
-    Request 1 (Del (codes "ab") ∷ []) (Some (Keys [])) ∷
-    Gather ∷
-    Deliver 2 1 ∷
-    Gather ∷
-    Show 1 ∷
-    Request 2 (Inc (codes "x") (pos 1) ∷ []) (Some (Keys (codes "x"))) ∷
-    Request 1 (Put (codes "z") (Int (pos 83)) ∷ Inc (codes "y") (negsuc 2) ∷ []) None ∷
-    Gather ∷
-    Deliver 2 2 ∷
-    Deliver 1 2 ∷
-    Request 1 (Del (codes "ab") ∷ []) None ∷
-    Order 1 ∷
-    Deliver 1 1 ∷
-    Receive 2 9 ∷
-    Request 2 (Put (codes "a") (Int (pos 0)) ∷ []) None ∷
-    Deliver 1 1 ∷
-    Gather ∷
-    Rounds 3 ∷
-    Request 2 (Put (codes "x") (Int (pos 62)) ∷ []) (Some (Get (codes "b"))) ∷
-    Gather ∷
-    Deliver 2 1 ∷
-    Deliver 1 1 ∷
-    Request 1 (Inc (codes "ab") (negsuc 9223372036854775807) ∷ []) None ∷
-    Request 1 (Move (codes "x") (codes "x") (pos 0) ∷ []) (Some (Keys (codes "ab"))) ∷
-    Gather ∷
-    Request 2 (Inc (codes "y") (negsuc 2) ∷ []) (Some (Get (codes "a"))) ∷
-    []
-
-two_alternate-lines :
-    events_of (
+two_alternate :
+    replayed_text (
     "start 1 2" ∷
     "merge 1 2" ∷
     "rounds 2" ∷
@@ -98,13 +48,9 @@ two_alternate-lines :
     "request 1 move \"x\" \"x\" 0 ? keys \"ab\"" ∷
     "gather" ∷
     "request 2 inc \"y\" -3 ? get \"a\"" ∷
+    "end" ∷
     [])
-    ≡ Some two_alternate
-unfolding cases_compute
-two_alternate-lines = refl
-
-two_alternate-report :
-    report two_alternate ≡ written (
+    ≡ written (
     "= 1" ∷
     "1 NonPrim - g0 w0 p0@0{1,2} a0 v- y- r[] o[] x{} b0" ∷
     "2 NonPrim - g0 w0 p0@0{1,2} a0 v- y- r[] o[] x{} b0" ∷
@@ -188,14 +134,7 @@ two_alternate-report :
     "= 53" ∷
     "made 2:4 inc \"y\" -3 ? get \"a\"" ∷
     "2 RegPrim c1 g7 w0 p1@1{1,2} a0 v1/0{1,2}{2} y- r[] o[2:4] x{} b0" ∷
+    "end 53" ∷
     [])
 unfolding cases_compute
-two_alternate-report = refl
-
-two_alternate-steps : step_count two_alternate ≡ 53
-unfolding cases_compute
-two_alternate-steps = refl
-
-two_alternate-admitted : refusal two_alternate ≡ None
-unfolding cases_compute
-two_alternate-admitted = refl
+two_alternate = refl

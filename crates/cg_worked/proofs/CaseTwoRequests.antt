@@ -1,28 +1,12 @@
 -- Three replicas form a primary component, and two requests are ordered and answered. The second finds what the first has
 -- written, and is answered with what it has itself made of that.
-use Rattle.std.specs.Prelude.{◌≡◌, List, [], ◌∷◌, Some, None, pos, codes}
+use Rattle.std.specs.Prelude.{◌≡◌, [], ◌∷◌}
 use mathlib.Core.Path.{refl}
-use Rattle.cg_action.specs.declared.value.Value.TheVariants.{Int}
-use Rattle.cg_action.specs.declared.command.Cmd.TheVariants.{Put, Inc}
-use Rattle.cg_action.specs.declared.query.Query.TheVariants.{Get}
-use Rattle.cg_schedule.specs.declared.event.Event.{Event}
-use Rattle.cg_schedule.specs.declared.event.Event.TheVariants.{Start, Merge, Request, ShowOrder, Rounds}
-use Rattle.cg_worked.specs.Playing.{unweighted, events_of, report, step_count, refusal, written}
+use Rattle.cg_worked.specs.Replaying.{replayed_text, written}
 use Rattle.cg_worked.specs.Computing.{cases_compute}
 
-abbrev two_requests : List Event
-two_requests =
-    Start (unweighted (1 ∷ 2 ∷ 3 ∷ [])) ∷
-    Merge (1 ∷ 2 ∷ 3 ∷ []) ∷
-    Rounds 2 ∷
-    Request 1 (Put (codes "x") (Int (pos 1)) ∷ []) None ∷
-    Request 2 (Inc (codes "x") (pos 4) ∷ []) (Some (Get (codes "x"))) ∷
-    Rounds 1 ∷
-    ShowOrder ∷
-    []
-
-two_requests-lines :
-    events_of (
+two_requests :
+    replayed_text (
     "start 1 2 3" ∷
     "merge 1 2 3" ∷
     "rounds 2" ∷
@@ -30,13 +14,9 @@ two_requests-lines :
     "request 2 inc \"x\" 4 ? get \"x\"" ∷
     "rounds 1" ∷
     "show order" ∷
+    "end" ∷
     [])
-    ≡ Some two_requests
-unfolding cases_compute
-two_requests-lines = refl
-
-two_requests-report :
-    report two_requests ≡ written (
+    ≡ written (
     "= 1" ∷
     "1 NonPrim - g0 w0 p0@0{1,2,3} a0 v- y- r[] o[] x{} b0" ∷
     "2 NonPrim - g0 w0 p0@0{1,2,3} a0 v- y- r[] o[] x{} b0" ∷
@@ -75,14 +55,7 @@ two_requests-report :
     "3 RegPrim c1 g2 w0 p1@1{1,2,3} a0 v1/0{1,2,3}{3} y- r[] o[] x{} b0" ∷
     "= 17" ∷
     "all [1:1,2:1]" ∷
+    "end 17" ∷
     [])
 unfolding cases_compute
-two_requests-report = refl
-
-two_requests-steps : step_count two_requests ≡ 17
-unfolding cases_compute
-two_requests-steps = refl
-
-two_requests-admitted : refusal two_requests ≡ None
-unfolding cases_compute
-two_requests-admitted = refl
+two_requests = refl

@@ -21,3 +21,6 @@ mod CaseFiveAlternate
 mod CaseFourAlternate
 mod CaseStatesOneByOne
 mod CaseLoneAlternate
+mod CaseTails
+mod CaseLimits
+mod Refuted

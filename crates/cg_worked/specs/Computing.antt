@@ -20,6 +20,8 @@ use Rattle.cg_schedule.specs.Part.{number, integer, amount, weighted, text as te
 use Rattle.cg_schedule.specs.Command.{put_reading as put_reading_of_schedule, del_reading as del_reading_of_schedule, inc_reading as inc_reading_of_schedule, cas_reading as cas_reading_of_schedule, move_reading as move_reading_of_schedule, need_reading as need_reading_of_schedule, command_of, query_of, query_reading as query_reading_of_schedule, with_query, commands, update_of, update_reading as update_reading_of_schedule}
 use Rattle.cg_schedule.specs.Line.{word_of, opening, ids, weights, start_reading, split_reading, merge_reading, request_reading, weak_reading, dirty_reading, order_reading, recover_reading, show_reading, receive_reading, deliver_reading, rounds_reading, stop_reading, fail_reading, join_reading, leave_reading, transfer_reading, event_reading}
 use Rattle.cg_world.specs.World.{first_refusal, after_turn, world_step}
+use Rattle.cg_run.specs.Rounds.{happened}
+use Rattle.cg_run.specs.Outcome.{supported_outcome, word_outcome, line_outcome}
 
 unfoldable pub std_computes : ⊤
 unfolding chars is_utf8 digits encode_utf8
@@ -61,6 +63,10 @@ unfoldable pub world_computes : ⊤
 unfolding message_in first_refusal after_turn world_step
 world_computes = tt
 
+unfoldable pub run_computes : ⊤
+unfolding happened supported_outcome word_outcome line_outcome
+run_computes = tt
+
 unfoldable pub cases_compute : ⊤
-unfolding std_computes text_computes codec_computes action_computes db_computes records_computes wire_computes group_computes schedule_computes world_computes
+unfolding std_computes text_computes codec_computes action_computes db_computes records_computes wire_computes group_computes schedule_computes world_computes run_computes
 cases_compute = tt

@@ -1,2 +1,2 @@
 pub mod Computing
-pub mod Playing
+pub mod Replaying

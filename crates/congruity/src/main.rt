@@ -1,25 +1,11 @@
 //! The program: replays a schedule on its replicas, and reports what each step shows.
 //!
-//! `run` is the top call. What it puts and how it ends is `outcome` of its words, of the bytes taken and of how the
-//! taking ended (specs/Outcome.antt), and that outcome's steps are a run of the world. `main` makes the adapters over
-//! the standard input and output.
+//! `run` of `cg_run` is the top call; `main` gives it the words and makes the adapters over the standard input and output.
 #![tactic(auto)]
 
-mod arg_text;
-mod progress;
-mod putting;
-mod replay;
-mod rounds;
-mod run;
-mod status;
-mod steps;
-mod tail;
-mod taking;
-
-use arg_text::ArgText;
 use cg_base::{Bytes, NoMemory};
 use cg_io::{StdSink, StdSource};
-use run::run;
+use cg_run::{ArgText, run};
 use std::alloc::Global;
 use std::process::ExitCode;
 use std::{env, io};
@@ -58,6 +44,3 @@ fn main(rt: HostRuntime) -> ExitCode {
     let status = run(rt.alloc(), &words, &mut input, &mut output);
     ExitCode::from(status.number())
 }
-
-#[cfg(test)]
-mod tests;

@@ -1,0 +1,21 @@
+-- What a step comes to that the world takes, and how passes and deliveries go on.
+use Rattle.std.proofs.Common.{◌≡◌, ℕ, suc, ◌+◌, ◌-◌, ◌<◌, List, ◌∷◌, refl, sym, ap, arith}
+use Rattle.cg_report.specs.declared.entry.Entry.{Entry}
+use Rattle.cg_schedule.specs.declared.event.Event.{Event}
+use Rattle.cg_world.specs.declared.world.World.{World}
+use Rattle.cg_world.specs.declared.world.Stepped.TheVariants as answer
+use Rattle.cg_world.specs.World.{Steps}
+use Rattle.cg_run.specs.declared.progress.Progress.{Progress}
+use Rattle.cg_run.specs.Produced.{and_then, stepped, one_step}
+use Rattle.cg_run.specs.Rounds.{deliver_ready, deliveries, one_pass, passes}
+
+pub one_step-done : (n : ℕ) (event : Event) (s : Progress) (after : World) (entry : Entry) → Steps s.world event (answer.Done after entry)
+    → one_step n event s ≡ stepped n event (record { entry = entry; world = after }) s
+one_step-done n event s after entry steps = rw steps.0 (ap (λ m. stepped n event m s) (sym steps.1))
+
+pub passes-step : (n count made : ℕ) (s : Progress) → made < count → passes n (count - made) s ≡ and_then (one_pass n s) (passes n (count - (made + 1)))
+passes-step n count made s lt = let e : count - made ≡ suc (count - (made + 1)) = omega arith in rw e
+
+-- a replica's turn, and then those of the others
+pub deliveries-step : (n : ℕ) (set : List ℕ) (p : ℕ) (left : List ℕ) (s : Progress) → set ≡ p ∷ left → deliveries n set s ≡ and_then (deliver_ready n p s) (deliveries n left)
+deliveries-step n set p left s e = rw e refl

@@ -1,0 +1,7 @@
+pub mod Asked
+pub mod GoingOn
+pub mod Happening
+pub mod Lines
+pub mod RunFacts
+pub mod TakeLemmas
+pub mod Spared

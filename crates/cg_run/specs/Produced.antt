@@ -1,0 +1,121 @@
+-- What a part of a run comes to. Parts follow one another: the steps of the first come before those of the next, and the
+-- first finding ends the run.
+use Rattle.std.specs.Cmp.Lexicographic.{pointwise}
+use Rattle.std.specs.Prelude.{ℕ, ◌+◌, nat_lt, nat_eq, Bool, true, false, not, ◌&&◌, List, [], ◌∷◌, ◌++◌, Option, Some, None, option_map, if◌then◌else◌}
+use Rattle.cg_group.specs.declared.reason.Reason.{Reason}
+use Rattle.cg_base.specs.Weights.{ids}
+use Rattle.cg_schedule.specs.declared.event.Event.{Event}
+use Rattle.cg_schedule.specs.declared.event.Event.TheVariants.{Start, Merge}
+use Rattle.cg_schedule.specs.Line.{first_place}
+use Rattle.cg_world.specs.declared.handing.Moved.{Moved}
+use Rattle.cg_world.specs.World.{Step, Refusal, before_start, first_refusal, world_step}
+use Rattle.cg_world.specs.Report.{report_text}
+use Rattle.cg_run.specs.declared.progress.Stage.{Stage}
+use Rattle.cg_run.specs.declared.progress.Progress.{Progress}
+use Rattle.cg_run.specs.declared.status.Status.{Status}
+use Rattle.cg_run.specs.declared.status.Status.TheVariants as status
+use Rattle.cg_run.specs.declared.status.Limit.TheVariants.{Steps}
+use Rattle.cg_run.specs.Status.{tail_text}
+
+-- what ends a run: its status, the whole lines gone through, and the refusal, where it is one
+pub record Finding : Type 0 where
+  pub status : Status
+  pub lines : ℕ
+  pub refused : Option Refusal
+
+-- the steps that a part makes, the finding that ends the run in it, if one does, and how far the run has come behind it
+pub record Produced : Type 0 where
+  pub steps : List Step
+  pub found : Option Finding
+  pub progress : Progress
+
+-- nobody has begun
+abbrev pub first_stage : Stage
+first_stage = record { begun = []; merged = false }
+
+-- the stage behind an event
+abbrev pub stage_after : Stage → Event → Stage
+stage_after stage (Start set) = record stage { begun = ids set }
+stage_after stage (Merge set) = record stage { merged = true }
+stage_after stage other = stage
+
+-- two sets are one
+abbrev pub same_ids : List ℕ → List ℕ → Bool
+same_ids = pointwise nat_eq
+
+-- the event is built: one merge of all replicas is, so far
+abbrev pub is_supported : Stage → Event → Bool
+is_supported stage (Merge set) = not stage.merged && same_ids set stage.begun
+is_supported stage other = true
+
+-- before the first line
+abbrev pub before_all : Progress
+before_all = record { world = before_start; reader = first_place; stage = first_stage; count = 0 }
+
+-- a report with the tail of the finding, where there is one
+abbrev pub with_tail : List ℕ → Option Finding → ℕ → List ℕ
+with_tail report None count = report
+with_tail report (Some f) count = report ++ tail_text f.status count f.lines
+
+-- what a part puts: the report of its steps, and the tail where it ends the run
+abbrev pub text_of : Produced → List ℕ
+text_of p = with_tail (report_text p.steps) p.found p.progress.count
+
+-- the status of a part that ends the run
+abbrev pub status_of : Produced → Option Status
+status_of p = option_map (λ f. f.status) p.found
+
+-- the refusal that ends the run, where one does
+abbrev pub refusal_in : Option Finding → Option Refusal
+refusal_in None = None
+refusal_in (Some f) = f.refused
+
+abbrev pub refusal_of : Produced → Option Refusal
+refusal_of p = refusal_in p.found
+
+-- nothing is found and no step is made
+abbrev pub went_on : Progress → Produced
+went_on s = record { steps = []; found = None; progress = s }
+
+-- the run ends with a status, so many whole lines having been gone through
+abbrev pub ended_with : Status → ℕ → Progress → Produced
+ended_with status lines s = record { steps = []; found = Some record { status = status; lines = lines; refused = None }; progress = s }
+
+-- the event of line n isn't admitted
+abbrev pub refused_with : ℕ → Event → Reason → Progress → Produced
+refused_with n event reason s =
+    record {
+      steps = [];
+      found = Some record { status = status.Refused n reason; lines = n; refused = Some record { event = event; reason = reason } };
+      progress = s;
+    }
+
+-- these steps come first
+abbrev pub prepend : List Step → Produced → Produced
+prepend steps p = record { steps = steps ++ p.steps; found = p.found; progress = p.progress }
+
+-- what comes after, unless the run has ended
+abbrev pub and_then : Produced → (Progress → Produced) → Produced
+and_then p more = by_finding p.found where
+  by_finding : Option Finding → Produced
+  by_finding None = prepend p.steps (more p.progress)
+  by_finding (Some f) = p
+
+-- a step is made, unless there are too many; what it moves to is given, and its line's number
+abbrev pub stepped : ℕ → Event → Moved → Progress → Produced
+stepped n event m s =
+    if nat_lt s.count 2000000 then record {
+      steps = record { number = s.count + 1; event = event; entry = m.entry; world = m.world } ∷ [];
+      found = None;
+      progress = record s { world = m.world; stage = stage_after s.stage event; count = s.count + 1 };
+    }
+    else ended_with (status.Limit n Steps) n s
+
+-- an event that is admitted makes its step; another ends the run
+abbrev pub unless_refused : Option Reason → ℕ → Event → Progress → Produced
+unless_refused None n event s = stepped n event (world_step s.world event) s
+unless_refused (Some reason) n event s = refused_with n event reason s
+
+-- one step of line n, where its event is admitted
+abbrev pub one_step : ℕ → Event → Progress → Produced
+one_step n event s = unless_refused (first_refusal s.world event) n event s

@@ -1,0 +1,53 @@
+-- How what was put stands to what a part of a run produces.
+use Rattle.std.specs.Prelude.{◌≡◌, ◌+◌, ℕ, List, Option, Some, None, Result, MatchResult, ⊤}
+use Rattle.cg_io.specs.Outside.{SinkView, PutsAll, PutsFront}
+use Rattle.cg_world.specs.World.{Step}
+use Rattle.cg_world.specs.Report.{report_text}
+use Rattle.cg_run.specs.Produced.{Produced, prepend, text_of, status_of}
+use Rattle.cg_run.specs.declared.progress.Progress.{Progress}
+use Rattle.cg_run.specs.declared.status.Status.{Status}
+use Rattle.cg_run.specs.declared.status.Status.TheVariants as status
+
+-- the text was put, without a fault
+pub record Puts (old new : SinkView) (text : List ℕ) : Type 0 where
+  pub all : PutsAll old new text
+  pub no_fault : new.faults ≡ old.faults
+
+-- some front of the text was put, with so many faults
+pub record PutsPart (old new : SinkView) (text : List ℕ) (faults : ℕ) : Type 0 where
+  pub front : PutsFront old new text
+  pub counted : new.faults ≡ old.faults + faults
+
+-- putting the text was cut short, by a fault or for want of memory
+abbrev pub CutShort : List ℕ → SinkView → SinkView → Status → Type 0
+CutShort text old new status.WriteFault = PutsPart old new text 1
+CutShort text old new status.NoMemory = PutsPart old new text 0
+CutShort text old new other = ⊥
+
+-- the run has ended with this status: it is what was found, and all of the text was put, or putting was cut short
+abbrev pub StopsWith : List ℕ → Option Status → SinkView → SinkView → Status → Type 0
+StopsWith text found old new status.WriteFault = PutsPart old new text 1
+StopsWith text found old new status.NoMemory = PutsPart old new text 0
+StopsWith text found old new other = (found ≡ Some other) × Puts old new text
+
+abbrev pub Stopped : Produced → SinkView → SinkView → Status → Type 0
+Stopped p old new status = StopsWith (text_of p) (status_of p) old new status
+
+-- a part of a run was put and the run goes on, or it has ended
+abbrev pub Performs : Produced → SinkView → SinkView → Result Progress Status → Type 0
+Performs p old new result =
+    MatchResult result
+    (λ s. (p.found ≡ None) × (s ≡ p.progress) × Puts old new (report_text p.steps))
+    (λ status. Stopped p old new status)
+
+-- a status that a run can find
+abbrev pub IsFinding : Status → Type 0
+IsFinding status.WriteFault = ⊥
+IsFinding status.NoMemory = ⊥
+IsFinding other = ⊤
+
+-- what was put since is the report of the steps made since, and the rest is still to come
+pub record GoesOn (whole : Produced) (old new : SinkView) (rest : Produced) : Type 0 where
+  pub made : List Step
+  pub put : Puts old new (report_text made)
+  pub same : whole ≡ prepend made rest

@@ -1,0 +1,55 @@
+-- The numbers of the statuses, and the tail that each puts.
+use Rattle.std.specs.Prelude.{ℕ, List, [], ◌∷◌, ◌++◌, codes, decimal, Option, Some, None}
+use Rattle.cg_group.specs.declared.reason.Reason.{Reason}
+use Rattle.cg_group.specs.Reasons.{reason_number, reason_value}
+use Rattle.cg_run.specs.declared.status.Status.{Status}
+use Rattle.cg_run.specs.declared.status.Status.TheVariants as status
+use Rattle.cg_run.specs.declared.status.Limit.{Limit}
+use Rattle.cg_run.specs.declared.status.Limit.TheVariants as limit
+
+abbrev pub status_number : Status → ℕ
+status_number status.Done = 0
+status_number status.Usage = 1
+status_number (status.Syntax line reason) = 2
+status_number (status.Refused line reason) = 3
+status_number status.ReadFault = 4
+status_number status.WriteFault = 5
+status_number (status.Limit line what) = 6
+status_number status.NoMemory = 7
+status_number (status.NoEnd lines) = 8
+status_number (status.Unsupported line) = 9
+
+-- how many puts have failed in a run with this status
+abbrev pub write_faults : Status → ℕ
+write_faults status.WriteFault = 1
+write_faults other = 0
+
+abbrev pub limit_text : Limit → List ℕ
+limit_text limit.Line = codes "line"
+limit_text limit.Input = codes "input"
+limit_text limit.Lines = codes "lines"
+limit_text limit.Steps = codes "steps"
+
+-- the printed value of a reason, where it has one
+abbrev pub value_text : Option ℕ → List ℕ
+value_text None = []
+value_text (Some value) = codes " " ++ decimal value
+
+abbrev pub refused_text : Reason → List ℕ
+refused_text reason = codes " " ++ decimal (reason_number reason) ++ value_text (reason_value reason)
+
+-- the last line of the report, after so many steps and whole lines
+abbrev pub tail_line : Status → ℕ → ℕ → List ℕ
+tail_line status.Done steps lines = codes "end " ++ decimal steps
+tail_line status.Usage steps lines = codes "usage: congruity replay"
+tail_line (status.Syntax line reason) steps lines = codes "syntax " ++ decimal line ++ codes " " ++ decimal reason
+tail_line (status.Refused line reason) steps lines = codes "refused " ++ decimal line ++ refused_text reason
+tail_line status.ReadFault steps lines = codes "read fault " ++ decimal lines
+tail_line status.WriteFault steps lines = []
+tail_line (status.Limit line what) steps lines = codes "limit " ++ decimal line ++ codes " " ++ limit_text what
+tail_line status.NoMemory steps lines = []
+tail_line (status.NoEnd all) steps lines = codes "no end " ++ decimal all
+tail_line (status.Unsupported line) steps lines = codes "unsupported " ++ decimal line
+
+abbrev pub tail_text : Status → ℕ → ℕ → List ℕ
+tail_text status steps lines = tail_line status steps lines ++ 10 ∷ []

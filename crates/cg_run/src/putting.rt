@@ -1,0 +1,70 @@
+ghost use Rattle.std.specs.Prelude.{◌<◌, ◌^◌, OnOk, IfErr, Some};
+ghost use Rattle.cg_report.specs.EntryText.{entry_text};
+ghost use Rattle.cg_run.specs.Status.{tail_text};
+ghost use Rattle.cg_run.specs.Putting.{Puts, CutShort, StopsWith, IsFinding};
+
+use crate::status::Status;
+use crate::tail::put_tail;
+use cg_io::{IoFault, Sink};
+use cg_report::{Entry, put_entry};
+use std::alloc::Global;
+
+// Puts a text, unless it is empty.
+fn put_text<K: Sink>(alloc: Global, output: &mut K, text: &[u8]) -> Result<(), Status>
+    requires { (K.view output.old).faults < 2 ^ 62 }
+    ensures ok { OnOk result (Puts (K.view output.old) (K.view output.new) text.now) }
+    ensures cut { IfErr result (λ status.
+        CutShort text.now (K.view output.old) (K.view output.new) status) }
+{
+    if text.is_empty() {
+        return Ok(());
+    }
+    match output.put(alloc, text) {
+        Ok(()) => Ok(()),
+        Err(IoFault::Failed) => Err(Status::WriteFault),
+        Err(IoFault::NoMemory) => Err(Status::NoMemory),
+    }
+}
+
+/// Ends a run with what was found behind so many steps and whole lines: puts the tail. What is answered is the status
+/// found, unless the put was cut short.
+pub fn finish<K: Sink>(
+    alloc: Global,
+    output: &mut K,
+    status: Status,
+    steps: u64,
+    lines: u64,
+) -> Status
+    requires few_faults { (K.view output.old).faults < 2 ^ 62 }
+    requires finding { IsFinding status }
+    ensures { StopsWith (tail_text status steps lines) (Some status)
+        (K.view output.old) (K.view output.new) result }
+{
+    let mut text = Vec::new(alloc);
+    if put_tail(&mut text, &status, steps, lines).is_err() {
+        return Status::NoMemory;
+    }
+    match put_text(alloc, output, &text) {
+        Ok(()) => status,
+        Err(other) => other,
+    }
+}
+
+/// Puts what a step shows.
+pub fn put_step<K: Sink>(
+    alloc: Global,
+    output: &mut K,
+    number: u64,
+    entry: &Entry,
+) -> Result<(), Status>
+    requires { (K.view output.old).faults < 2 ^ 62 }
+    ensures ok { OnOk result (Puts (K.view output.old) (K.view output.new) (entry_text number entry.now)) }
+    ensures cut { IfErr result (λ status.
+        CutShort (entry_text number entry.now) (K.view output.old) (K.view output.new) status) }
+{
+    let mut text = Vec::new(alloc);
+    if put_entry(&mut text, number, entry).is_err() {
+        return Err(Status::NoMemory);
+    }
+    put_text(alloc, output, &text)
+}

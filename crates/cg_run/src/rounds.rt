@@ -1,0 +1,139 @@
+ghost use Rattle.std.specs.Prelude.{◌≡◌, ◌<◌, ◌^◌};
+ghost use Rattle.cg_schedule.specs.declared.event.Event.TheVariants.{Gather};
+ghost use Rattle.cg_world.specs.World.{MayAsk};
+ghost use Rattle.cg_run.specs.Produced.{one_step};
+ghost use Rattle.cg_run.specs.Rounds.{deliver_ready, deliveries, one_pass, passes, happened};
+ghost use Rattle.cg_run.specs.Putting.{Performs};
+
+use crate::progress::Progress;
+use crate::status::Status;
+use crate::steps::take_step;
+use cg_base::{IdSet, ReplicaId};
+use cg_io::Sink;
+use cg_schedule::Event;
+use std::alloc::Global;
+
+// What is ready at a replica is handed to it.
+fn deliver_ready<K: Sink>(
+    alloc: Global,
+    output: &mut K,
+    line: u64,
+    to: ReplicaId,
+    progress: Progress,
+) -> Result<Progress, Status>
+    requires { (K.view output.old).faults < 2 ^ 62 }
+    ensures { Performs (deliver_ready line to progress)
+        (K.view output.old) (K.view output.new) result }
+{
+    let count = progress.world.ready(to);
+    if count == 0 {
+        return Ok(progress);
+    }
+    let event = Event::Deliver { p: to, count };
+    take_step(alloc, output, line, &event, progress)
+}
+
+// What is ready at each of these replicas, when its turn comes.
+fn deliver_to_each<K: Sink>(
+    alloc: Global,
+    output: &mut K,
+    line: u64,
+    set: &IdSet,
+    progress: Progress,
+) -> Result<Progress, Status>
+    requires { (K.view output.old).faults < 2 ^ 62 }
+    ensures { Performs (deliveries line set.now progress)
+        (K.view output.old) (K.view output.new) result }
+{
+    let mut progress = progress;
+    for to in set.iter() {
+        match deliver_ready(alloc, output, line, to, progress) {
+            Ok(next) => progress = next,
+            Err(status) => return Err(status),
+        }
+    }
+    Ok(progress)
+}
+
+// The replicas that have begun.
+fn begun_in(progress: &Progress) -> IdSet
+    ensures { result ≡ progress.now.stage.begun }
+{
+    progress.stage.begun
+}
+
+// All messages are gathered.
+fn gather<K: Sink>(
+    alloc: Global,
+    output: &mut K,
+    line: u64,
+    progress: Progress,
+) -> Result<Progress, Status>
+    requires { (K.view output.old).faults < 2 ^ 62 }
+    ensures { Performs (one_step line Gather progress)
+        (K.view output.old) (K.view output.new) result }
+{
+    let event = Event::Gather;
+    take_step(alloc, output, line, &event, progress)
+}
+
+// All messages are gathered, and then each replica is handed what is ready.
+fn make_pass<K: Sink>(
+    alloc: Global,
+    output: &mut K,
+    line: u64,
+    progress: Progress,
+) -> Result<Progress, Status>
+    requires { (K.view output.old).faults < 2 ^ 62 }
+    ensures { Performs (one_pass line progress)
+        (K.view output.old) (K.view output.new) result }
+{
+    let begun = begun_in(&progress);
+    match gather(alloc, output, line, progress) {
+        Ok(next) => deliver_to_each(alloc, output, line, &begun, next),
+        Err(status) => Err(status),
+    }
+}
+
+// So many passes.
+fn make_passes<K: Sink>(
+    alloc: Global,
+    output: &mut K,
+    line: u64,
+    count: u64,
+    progress: Progress,
+) -> Result<Progress, Status>
+    requires { (K.view output.old).faults < 2 ^ 62 }
+    ensures { Performs (passes line count progress)
+        (K.view output.old) (K.view output.new) result }
+{
+    let mut progress = progress;
+    for made in 0..count {
+        match make_pass(alloc, output, line, progress) {
+            Ok(next) => progress = next,
+            Err(status) => return Err(status),
+        }
+    }
+    Ok(progress)
+}
+
+/// The event of a line happens.
+#[tactic(auto, unfolding(crate::specs::Rounds::happened))]
+pub fn perform<K: Sink>(
+    alloc: Global,
+    output: &mut K,
+    line: u64,
+    event: &Event,
+    progress: Progress,
+) -> Result<Progress, Status>
+    requires few_faults { (K.view output.old).faults < 2 ^ 62 }
+    requires asks { MayAsk event.now }
+    ensures { Performs (happened line event.now progress)
+        (K.view output.old) (K.view output.new) result }
+{
+    match event {
+        Event::End => Ok(progress),
+        Event::Rounds(count) => make_passes(alloc, output, line, *count, progress),
+        _ => take_step(alloc, output, line, event, progress),
+    }
+}

@@ -1,6 +1,0 @@
-pub mod Asked
-pub mod GoingOn
-pub mod Happening
-pub mod Lines
-pub mod RunFacts
-pub mod TakeLemmas

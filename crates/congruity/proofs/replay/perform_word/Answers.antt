@@ -1,9 +1,0 @@
-use Rattle.std.proofs.Common.{◌≡◌, false, rules}
-use Rattle.congruity.specs.Outcome.{is_built}
-use Rattle.congruity.proofs.Lines.{word-unbuilt}
-use Rattle.congruity.proofs.replay.perform_word.Goals as goal
-
-pub returns-then-not-is_built : goal.returns-then-not-is_built
-returns-then-not-is_built g c =
-    let no : is_built c.args.word ≡ false = search rules in
-    rw (word-unbuilt c.args.line c.args.word c.args.words c.args.progress no) c.finish.ensures
