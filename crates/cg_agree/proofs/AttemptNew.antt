@@ -166,7 +166,11 @@ module _ (old : Replica) where
   of-message (NonPrim regular) from (GreenItem at a) t e is = tracked-at t (NonPrim regular) e is
   of-message (NonPrim regular) from (RedItem a) t e is = tracked-at t (NonPrim regular) e is
   of-message (NonPrim regular) from (Cpc id of_conf) t e is = tracked-at t (NonPrim regular) e is
-  of-message Left from m t e is = tracked-at t Left e is
+  of-message Left from (ActionMsg a) t e is = tracked-at t Left e is
+  of-message Left from (StateMsg s) t e is = tracked-at t Left e is
+  of-message Left from (GreenItem at a) t e is = tracked-at t Left e is
+  of-message Left from (RedItem a) t e is = tracked-at t Left e is
+  of-message Left from (Cpc id of_conf) t e is = tracked-at t Left e is
 
   of-transitional : (state : State) (t : Turn) → t.replica.state ≡ state → IsTracked old state t.replica.held → IsTrackedIn old (on_transitional state t)
   unfolding on_transitional

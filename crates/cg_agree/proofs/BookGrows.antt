@@ -151,7 +151,6 @@ pub settle-counted : (book : List Action) (old : Held) (t : Turn) → IsCounted 
 unfolding create_kept
 settle-counted book old t is = at (is_creating t.replica.state) where
   at : (b : Bool) → IsCounted book old (cond b (create_kept t) t)
-  unfolding create_kept
   at true = creates-counted book old t.replica.held.buffered (empty_buffer t) (buffered-counted book old t [] is)
   at false = is
 

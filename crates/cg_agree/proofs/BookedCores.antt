@@ -74,25 +74,27 @@ module _ (P : Action → Type 0) where
   each-messages (StateMsg s ∷ list) each = each-messages list each.1
   each-messages (Cpc id conf ∷ list) each = each-messages list each.1
 
+  sent-one : (m : Msg) (rest : List Action) (R : Type 0) → (Each P rest → R) → Each P (cons_option (action_in m) rest) → OfMessage P m × R
+  sent-one (ActionMsg a) rest R go each = (each.0, go each.1)
+  sent-one (GreenItem at a) rest R go each = (each.0, go each.1)
+  sent-one (RedItem a) rest R go each = (each.0, go each.1)
+  sent-one (StateMsg s) rest R go each = (tt, go each)
+  sent-one (Cpc id conf) rest R go each = (tt, go each)
+
   sent-each : (list : List (Sent Msg)) → Each P (filter_map (λ s. action_in s.message) list) → Each (λ s. OfMessage P s.message) list
   sent-each [] each = tt
-  sent-each (s ∷ list) each = at s.message each where
-    at : (m : Msg) → Each P (cons_option (action_in m) (filter_map (λ s. action_in s.message) list)) → OfMessage P m × Each (λ s. OfMessage P s.message) list
-    at (ActionMsg a) each = (each.0, sent-each list each.1)
-    at (GreenItem at a) each = (each.0, sent-each list each.1)
-    at (RedItem a) each = (each.0, sent-each list each.1)
-    at (StateMsg s) each = (tt, sent-each list each)
-    at (Cpc id conf) each = (tt, sent-each list each)
+  sent-each (s ∷ list) each = sent-one s.message (filter_map (λ s. action_in s.message) list) (Each (λ s. OfMessage P s.message) list) (λ e. sent-each list e) each
+
+  one-sent : (m : Msg) (rest : List Action) → Each P rest → OfMessage P m → Each P (cons_option (action_in m) rest)
+  one-sent (ActionMsg a) rest each is = (is, each)
+  one-sent (GreenItem at a) rest each is = (is, each)
+  one-sent (RedItem a) rest each is = (is, each)
+  one-sent (StateMsg s) rest each is = each
+  one-sent (Cpc id conf) rest each is = each
 
   each-sent : (list : List (Sent Msg)) → Each (λ s. OfMessage P s.message) list → Each P (filter_map (λ s. action_in s.message) list)
   each-sent [] each = tt
-  each-sent (s ∷ list) each = at s.message each.0 where
-    at : (m : Msg) → OfMessage P m → Each P (cons_option (action_in m) (filter_map (λ s. action_in s.message) list))
-    at (ActionMsg a) is = (is, each-sent list each.1)
-    at (GreenItem at a) is = (is, each-sent list each.1)
-    at (RedItem a) is = (is, each-sent list each.1)
-    at (StateMsg s) is = each-sent list each.1
-    at (Cpc id conf) is = each-sent list each.1
+  each-sent (s ∷ list) each = one-sent s.message (filter_map (λ s. action_in s.message) list) (each-sent list each.1) each.0
 
 pub placed-booked : (c : Chronicle) → MadeOnce c → (conf : ℕ) → Each (λ s. OfMessage (IsNamed c.book) s.message) (ordered_in c conf)
 placed-booked c made conf = sent-each (IsNamed c.book) (ordered_in c conf) (each-booked c (filter_map (λ s. action_in s.message) (ordered_in c conf)) (made.in_messages conf))

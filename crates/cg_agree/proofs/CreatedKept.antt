@@ -3,6 +3,7 @@ use Rattle.std.proofs.Common.{◌≡◌, ℕ, suc, ◌-◌, ◌≤◌, max, Bool
 use Rattle.std.proofs.lemmas.Bool.{cases_eq, cases_order, cases_Bool}
 use Rattle.cg_group.specs.EachLaws.{Each-all}
 use Rattle.cg_base.specs.declared.action_id.ActionId.{ActionId}
+use Rattle.cg_base.specs.declared.weighted.Weighted.{Weighted}
 use Rattle.cg_base.specs.Cuts.{index_in, raise}
 use Rattle.cg_base.specs.Ids.{same_id}
 use Rattle.cg_action.specs.declared.action.Action.{Action}
@@ -19,7 +20,7 @@ use Rattle.cg_client.specs.Summary.{redden, forget_own, own_to_red}
 use Rattle.cg_agree.specs.FactsReplica.{run_on, cut_behind}
 use Rattle.cg_agree.proofs.CutRaise.{Rising, index-same, index-other, index-rises, rising-raise, rising-behind, behind-rises, raise-below}
 use Rattle.cg_agree.proofs.RunMarks.{run-head, run-rest}
-use Rattle.cg_agree.proofs.HeldMarks.{are_of, are-after, own-after}
+use Rattle.cg_agree.proofs.HeldMarks.{IsOneself, rising-green, rising-red, are_of, are-after, own-after}
 use Rattle.cg_agree.proofs.HeldTurns.{created-behind}
 use Rattle.cg_agree.proofs.OneValue.{same-from}
 use Rattle.cg_agree.proofs.DiskAhead.{OwnRuns, LeftOwn, left-own, made-by}
@@ -31,6 +32,7 @@ pub record HasCreated (old h : Held) : Type 0 where
   pub created : created h ≡ created old
   pub own : OwnRuns h
   pub green : Rising 0 h.queue.green_cut
+  pub red : (p : ℕ) → index_in old.queue.red_cut p ≤ index_in h.queue.red_cut p
   pub below : (p : ℕ) → index_in h.queue.green_cut p ≤ index_in h.queue.red_cut p
 
 pub record StaysCreated (old : Held) (t : Turn) : Type 0 where
@@ -66,6 +68,7 @@ known-created old h a next made is =
       created = left.made ∙ is.created;
       own = record { rising = runs.rising; run = runs.run; mine = runs.mine };
       green = is.green;
+      red = λ p. (let up = index-rises h.queue.red_cut a.id is.own.rising p in let low = is.red p in omega arith);
       below = λ p. (let up = index-rises h.queue.red_cut a.id is.own.rising p in let low = is.below p in omega arith);
     }
 
@@ -92,6 +95,7 @@ green-created old h a next made is =
       created = same ∙ is.created;
       own = record { rising = runs.rising; run = runs.run; mine = runs.mine };
       green = rising-raise h.queue.green_cut a.id is.green;
+      red = λ p. (let up = index-rises h.queue.red_cut a.id is.own.rising p in let low = is.red p in omega arith);
       below = both-rise;
     } where
       same : max (index_in (raise h.queue.red_cut a.id) h.id) (last_index (after_first h.own a.id)) ≡ created h
@@ -165,6 +169,12 @@ own-created old t p =
           mine = ap (are_of new.id) all.own;
         };
         green = subst (Rising 0) (sym all.green_cut) is.green;
+        red = λ q. (
+            let up = behind-rises h.queue.red_cut (names_of h.own) q is.own.rising in
+            let low = is.red q in
+            let r : index_in new.queue.red_cut q ≡ index_in (cut_behind h.queue.red_cut (names_of h.own)) q = ap (λ c. index_in c q) all.red_cut in
+            omega arith
+        );
         below = λ q. (
             let up = behind-rises h.queue.red_cut (names_of h.own) q is.own.rising in
             let low = is.below q in
@@ -199,5 +209,17 @@ created-rule old = record {
     created = is.created;
     own = record { rising = is.own.rising; run = is.own.run; mine = is.own.mine };
     green = is.green;
+    red = is.red;
     below = is.below;
   }
+
+-- as a turn begins
+pub created-first : (start : List Weighted) (h : Held) (all : List Action) → IsOneself start h all → HasCreated h h
+created-first start h all is = record {
+  id = refl;
+  created = refl;
+  own = record { rising = rising-red start h all is; run = is.contiguous.own; mine = is.contiguous.mine };
+  green = rising-green start h all is;
+  red = λ q. omega arith;
+  below = λ q. subst (λ cut. index_in h.queue.green_cut q ≤ index_in cut q) (sym is.made_of.red_cut) (behind-rises h.queue.green_cut (names_of h.queue.reds) q (rising-green start h all is));
+}

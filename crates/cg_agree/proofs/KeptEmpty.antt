@@ -12,7 +12,7 @@ use Rattle.cg_wire.specs.declared.message.Msg.TheVariants.{Action as ActionMsg, 
 use Rattle.cg_client.specs.Replica.{Held, State, RegPrim, TransPrim, ExchangeStates, ExchangeActions, Construct, No, Un, NonPrim, Left, Replica}
 use Rattle.cg_client.specs.Turn.{Turn, begin}
 use Rattle.cg_client.specs.Marks.{marked, place_green}
-use Rattle.cg_client.specs.Requests.{is_creating, create, create_kept, empty_buffer, buffer, settle, request_in, request}
+use Rattle.cg_client.specs.Requests.{is_creating, next_action, create, create_kept, empty_buffer, buffer, settle, request_in, request}
 use Rattle.cg_client.specs.Summary.{redden, forget_own, own_to_red}
 use Rattle.cg_step.specs.Recorded.{OfMessage}
 use Rattle.cg_step.specs.Step.{Input, Deliveries, Asks, replica_step, take}
@@ -157,7 +157,7 @@ step-empty r (Asks kind) is = asked-empty r kind is
 more-made : (list : List Kind) (t : Turn) → (fold create t list).made ≡ [] → t.made ≡ []
 unfolding create
 more-made [] t e = e
-more-made (kind ∷ list) t e = absurd (nil-more t.made _ (more-made list (create t kind) e))
+more-made (kind ∷ list) t e = absurd (nil-more t.made (next_action t.replica.held kind) (more-made list (create t kind) e))
 
 with-buffer : (old h : Held) (list : List Kind) → IsFurther old h × OwnRuns h → (let new = record h { buffered = list } in IsFurther old new × OwnRuns new)
 with-buffer old h list is = (
@@ -166,18 +166,17 @@ with-buffer old h list is = (
 )
 
 kept-behind : (old : Held) (t : Turn) → StaysBehind old t → StaysBehind old (create_kept t)
-unfolding create_kept
+unfolding create_kept create
 kept-behind old t p u = at t.replica.held.buffered u where
   at : (list : List Kind) → IsUnnoted (fold create (empty_buffer t) list) →
       IsFurther old (fold create (empty_buffer t) list).replica.held × OwnRuns (fold create (empty_buffer t) list).replica.held
   at [] u = with-buffer old t.replica.held [] (p (record { marked_own = u.marked_own; green = u.green; made = u.made }))
   at (kind ∷ list) u = absurd (nothing-made list u.made) where
     nothing-made : (list : List Kind) → (fold create (create (empty_buffer t) kind) list).made ≡ [] → ⊥
-    unfolding create
-    nothing-made list e = nil-more t.made _ (more-made list (create (empty_buffer t) kind) e)
+    nothing-made list e = nil-more t.made (next_action (empty_buffer t).replica.held kind) (more-made list (create (empty_buffer t) kind) e)
 
 pub step-behind : (r : Replica) (input : Input) → OwnRuns r.held → StaysBehind r.held (replica_step r input)
-unfolding replica_step
+unfolding replica_step create
 step-behind r (Deliveries list) own = settled (fold take (begin r) list)
     (of-deliveries (StaysBehind r.held) (λ a. Unit {0}) (stays-rule r.held) (begin r) list (anything list) (λ u. (further-refl r.held, own)))
   where
@@ -193,8 +192,7 @@ step-behind r (Asks kind) own = at r.state where
   made : StaysBehind r.held (create t kind)
   made u = absurd (nothing u.made) where
     nothing : (create t kind).made ≡ [] → ⊥
-    unfolding create
-    nothing e = nil-more {X = Action} [] _ e
+    nothing e = nil-more t.made (next_action t.replica.held kind) e
 
   kept : StaysBehind r.held (buffer t kind)
   kept u = with-buffer r.held r.held (r.held.buffered ++ kind ∷ []) (further-refl r.held, own)

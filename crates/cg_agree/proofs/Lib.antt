@@ -201,3 +201,11 @@ pub mod BookGrows
 pub mod BookedCores
 pub mod BookCounts
 pub mod MadeOnceKept
+pub mod NothingStands
+pub mod AlwaysRests
+pub mod SummariesKept
+pub mod KnowsOn
+pub mod GreensFront
+pub mod SummariesInside
+pub mod SummaryOfSenderKept
+pub mod CopiesBooked

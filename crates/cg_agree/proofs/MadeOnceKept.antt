@@ -36,21 +36,22 @@ use Rattle.cg_agree.specs.Played.{AtRest}
 use Rattle.cg_agree.specs.Small.{Small, Starts, Makes, Enters, Orders, Receives, Hands, Leaves, Asks, Settles, Commits, Crashes, Recovers, Copies, Joins, small_step, start, newly_green, turning, turning_as, after_turn, take_all, coming, handed_next, leaving, take_request, take_newest, take_next, take_parting, newest_conf, commit_as, crash_as, recover_as, copy_as, join_with}
 use Rattle.cg_agree.specs.Smalls.{may_make, is_set}
 use Rattle.cg_agree.proofs.CutRaise.{behind-rises}
-use Rattle.cg_agree.proofs.HeldMarks.{IsOneself, rising-green, rising-red}
+use Rattle.cg_agree.proofs.RunFacts.{cut_behind-append}
+use Rattle.cg_agree.proofs.HeldMarks.{IsOneself, rising-red}
 use Rattle.cg_agree.proofs.CoresKept.{TurnKeeps, cores-weaker, held-known}
 use Rattle.cg_agree.proofs.CoresSmall.{StepKeeps, cores-kept, ready-of}
 use Rattle.cg_agree.proofs.DiskBehindKept.{disk_behind-kept}
 use Rattle.cg_agree.proofs.NetFactsKept.{seated-in}
 use Rattle.cg_agree.proofs.AttemptSteps.{group-of}
 use Rattle.cg_agree.proofs.OneSteps.{may-join}
-use Rattle.cg_agree.proofs.SeatedKept.{nothing-before}
+use Rattle.cg_agree.proofs.BegunKept.{nothing-before}
 use Rattle.cg_agree.proofs.DiskAhead.{OwnRuns}
 use Rattle.cg_agree.proofs.KeptEmpty.{anything}
 use Rattle.cg_agree.proofs.TurnRows.{OfDelivery, of-deliveries}
 use Rattle.cg_agree.proofs.MessagesKept.{TurnSays, StepSays, waits-kept, placed-kept}
-use Rattle.cg_agree.proofs.CreatedKept.{HasCreated, StaysCreated, created-rule}
+use Rattle.cg_agree.proofs.CreatedKept.{StaysCreated, created-rule, created-first}
 use Rattle.cg_agree.proofs.BookedRows.{HoldsFine, AllFine, each-drop, fine-rule, create-fine, kept-fine}
-use Rattle.cg_agree.proofs.BookGrows.{IsNamed, cut_of, IsCounted, named-more, named-all, settle-counted, request-counted, counted-first}
+use Rattle.cg_agree.proofs.BookGrows.{IsNamed, cut_of, rising-of, IsCounted, named-more, named-all, settle-counted, request-counted, counted-first}
 use Rattle.cg_agree.proofs.BookedCores.{FineHeld, JoinersBooked, cores-booked, booked-closed, placed-booked, waiting-booked, greens-booked, memory-booked, disk-booked, copies-booked, messages-booked, waits-booked}
 use Rattle.cg_agree.proofs.BookCounts.{BookCounts, counts-same, counts-turning, book-turn, counts-commit, counts-crash, counts-recover, counts-join, counts-start}
 
@@ -178,7 +179,7 @@ module _ (c : Chronicle) (i : Invariant c) (joiners : JoinersBooked c) where
     takes-sound list come =
         let t = take_all list (begin r) in
         let Fine = IsNamed (c.book ++ t.made) in
-        let created_now = of-deliveries (StaysCreated r.held) (λ a. Unit {0}) (created-rule r.held) (begin r) list (anything list) (record { held = as-held; made = refl }) in
+        let created_now = of-deliveries (StaysCreated r.held) (λ a. Unit {0}) (created-rule r.held) (begin r) list (anything list) (record { held = created-first c.start r.held (greens_of c p) oneself; made = refl }) in
         let same : c.book ++ t.made ≡ c.book = ap (λ xs. c.book ++ xs) created_now.made ∙ append-nil c.book in
         record {
           fine = of-deliveries (AllFine Fine) Fine (fine-rule Fine) (begin r) list
@@ -190,16 +191,7 @@ module _ (c : Chronicle) (i : Invariant c) (joiners : JoinersBooked c) where
             others = λ q apart. ap (λ xs. index_in (cut_of xs) q) same;
             own = created_now.held.own;
           };
-        } where
-          as-held : HasCreated r.held r.held
-          as-held = record {
-            id = refl;
-            created = refl;
-            own = own;
-            green = rising-green c.start r.held (greens_of c p) oneself;
-            below = λ q. subst (λ cut. index_in r.held.queue.green_cut q ≤ index_in cut q) (sym core.made_of.red_cut)
-                (behind-rises r.held.queue.green_cut (names_of r.held.queue.reds) q (rising-green c.start r.held (greens_of c p) oneself));
-          }
+        }
 
     first : IsCounted c.book r.held (begin r)
     first = counted-first c.book r counts.numbered count own
@@ -256,7 +248,7 @@ module _ (c : Chronicle) (i : Invariant c) (joiners : JoinersBooked c) where
   handed-come : (p : ℕ) → Each (λ s. OfMessage (IsNamed c.book) s.message) (home c.world.group p).ordered
   handed-come p = placed-booked c i.replica.made_once (regular_in (phase_of c.world.group p))
 
-  at-some : {X : Type 0} (o : Option X) (change : X → Chronicle) → ((x : X) → o ≡ Some x → (change x).book ≡ c.book × BookCounts (change x)) → (option_map_or change o c).book ≡ c.book × BookCounts (option_map_or change o c)
+  at-some : {X : Type 0} (o : Option X) (change : X → Chronicle) → ((x : X) → o ≡ Some x → ((change x).book ≡ c.book) × BookCounts (change x)) → ((option_map_or change o c).book ≡ c.book) × BookCounts (option_map_or change o c)
   at-some None change each = (refl, counts)
   at-some (Some x) change each = each x refl
 
@@ -343,3 +335,21 @@ made_once-kept c s i joiners may rest =
       },
       record { copied = copies-booked d now; unbegun = step.counts.unbegun },
     )
+
+-- What a replica has created is never fewer.
+pub created-grows : (c : Chronicle) (s : Small) (i : Invariant c) → JoinersBooked c → may_make c s ≡ true → AtRest c s → (p : ℕ) (old new : Held) →
+    core_of c p ≡ Some old → core_of (small_step c s) p ≡ Some new → created old ≤ created new
+created-grows c s i joiners may rest p old new before behind =
+    let d = small_step c s in
+    let step = step-sound c i joiners s may rest in
+    let was : index_in (cut_of c.book) p ≡ created old = subst (λ (o : Option Held). IfSome o (λ h. index_in (cut_of c.book) p ≡ created h)) before (i.replica.made_once.counted p) in
+    let is : index_in (cut_of d.book) p ≡ created new = subst (λ (o : Option Held). IfSome o (λ h. index_in (cut_of d.book) p ≡ created h)) behind (step.counts.counted p) in
+    let more = step.grown.more in
+    let grown : cut_of d.book ≡ cut_behind (cut_of c.book) (names_of more) = ap cut_of step.grown.is ∙ ap (cut_behind []) (names-both c.book more) ∙ cut_behind-append [] (names_of c.book) (names_of more) in
+    let up : index_in (cut_of c.book) p ≤ index_in (cut_behind (cut_of c.book) (names_of more)) p = behind-rises (cut_of c.book) (names_of more) p (rising-of c.book) in
+    let same : index_in (cut_of d.book) p ≡ index_in (cut_behind (cut_of c.book) (names_of more)) p = ap (λ cut. index_in cut p) grown in
+    omega arith
+  where
+    names-both : (xs ys : List Action) → names_of (xs ++ ys) ≡ names_of xs ++ names_of ys
+    names-both [] ys = refl
+    names-both (x ∷ xs) ys = ap (λ list. x.id ∷ list) (names-both xs ys)

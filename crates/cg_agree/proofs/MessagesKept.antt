@@ -62,7 +62,6 @@ module _ (P : Msg → Type 0) where
   unfolding send send_from
   waits-send g p m is w = at (standing_of g p) refl where
     at : (o : Option (Standing Msg)) → standing_of g p ≡ o → DoWait (send_from g o m)
-    unfolding send_from
     at None e = w
     at (Some s) e =
         let new : Standing Msg = record s { unordered = s.unordered ++ m ∷ [] } in
@@ -77,7 +76,6 @@ module _ (P : Msg → Type 0) where
   unfolding order order_from
   waits-order g p w = at (standing_of g p) refl where
     from : (s : Standing Msg) (list : List Msg) → Each P list → DoWait (order_from g s list)
-    unfolding order_from
     from s [] each = w
     from s (m ∷ rest) each =
         let conf = regular_in s.phase in

@@ -1,5 +1,5 @@
 -- Behind each event every replica is at rest with its disk, where it was before it.
-use Rattle.std.proofs.Common.{◌⊎◌, ◌≡◌, ℕ, zero, suc, ◌+◌, ◌≤◌, Bool, true, false, cond, List, [], ◌∷◌, ◌++◌, map, flat_map, fold, find, length, Option, Some, None, IfSome, refl, sym, ap, ◌∙◌, subst, inl, inr, option_and_then, if◌then◌else◌}
+use Rattle.std.proofs.Common.{◌⊎◌, ◌≡◌, ℕ, zero, suc, ◌+◌, ◌≤◌, min, Bool, true, false, cond, List, [], ◌∷◌, ◌++◌, map, flat_map, fold, find, length, Option, Some, None, IfSome, refl, sym, ap, ◌∙◌, subst, inl, inr, option_and_then, if◌then◌else◌}
 use Rattle.std.specs.Prelude.{◌==◌}
 use Rattle.std.specs.Option.{option_map_or}
 use Rattle.std.proofs.lemmas.Bool.{cond_both}
@@ -35,7 +35,7 @@ use Rattle.cg_agree.proofs.TurnWorlds.{up_seat}
 use Rattle.cg_agree.proofs.DiskAhead.{OwnRuns}
 use Rattle.cg_agree.proofs.AttemptNew.{HasNoRecordYet, IsNewConf, IsNewIn}
 use Rattle.cg_agree.proofs.LivesRest.{LifeRests, SeatRests, turn-rests, recovered-rests, begun-rests}
-use Rattle.cg_agree.proofs.WorldTurns.{TakesTurn, IsBehind, hand-behind, handed-behind}
+use Rattle.cg_agree.proofs.WorldTurns.{TakesTurn, IsBehind, hand-behind, from-same, handed-behind}
 
 -- there are greens of which a replica holds what they make
 pub record IsCoreOf (start : List Weighted) (h : Held) : Type 0 where
@@ -134,22 +134,14 @@ module _ (start : List Weighted) (w : World) (rests : (q : ℕ) → RestsAt w q)
         subst SeatRests (sym turn.behind) (turn-rests turn.replica turn.disk turn.input (subst SeatRests turn.before (rests p)) own.0 own.1 new)
   ]
 
-  asked : (v : World) (p : ℕ) (kind : Kind) (q : ℕ) → v.seats ≡ w.seats → v.group ≡ w.group → RestsAt (ask v p kind).world q
-  asked v p kind q seats group =
+  -- the world with another group
+  of-group : (g : GroupState Msg) (v : World) (p : ℕ) → IsBehind (BringsNew w) (record w { group = g }) v p → RestsAt v p
+  of-group g v p is = of-turn v p (from-same (BringsNew w) w (record w { group = g }) v p refl is)
+
+  asked : (v : World) (p : ℕ) (kind : Kind) (q : ℕ) → v.seats ≡ w.seats → RestsAt (ask v p kind).world q
+  asked v p kind q seats =
       of-turn (ask v p kind).world q
-      (from-named (hand-behind (BringsNew w) (quietly v) p (AsksOf kind) (λ r e. tt) q)) where
-        from-named : IsBehind (BringsNew w) v (ask v p kind).world q → IsBehind (BringsNew w) w (ask v p kind).world q
-        from-named is = elim is [
-          | inl same ↦ inl (same ∙ ap (λ (list : List Seat). find (λ s. s.id == q) list) seats)
-          | inr turn ↦ inr (record {
-              replica = turn.replica;
-              disk = turn.disk;
-              input = turn.input;
-              of = turn.of;
-              before = sym (ap (λ (list : List Seat). find (λ s. s.id == q) list) seats) ∙ turn.before;
-              behind = turn.behind;
-            })
-        ]
+      (from-same (BringsNew w) w v (ask v p kind).world q (ap (λ (list : List Seat). find (λ s. s.id == q) list) seats) (hand-behind (BringsNew w) (quietly v) p (AsksOf kind) (λ r e. tt) q))
 
   came-up : (p q : ℕ) → RestsAt (recover w p).world q
   came-up p q = at (seat_of w p) refl where
@@ -186,7 +178,7 @@ module _ (start : List Weighted) (w : World) (rests : (q : ℕ) → RestsAt w q)
   transferred p joiner pieces q = at (replica_of w p) where
     at : (o : Option Replica) → RestsAt (option_map_or (λ r. take_pieces w (snapshot_for w p joiner r) pieces) o (quietly w)).world q
     at None = rests q
-    at (Some r) = joined-rests (snapshot_for w p joiner r) _ q
+    at (Some r) = (let s = snapshot_for w p joiner r in joined-rests s (min (piece_count s.content) (s.taken + pieces)) q)
 
   some-of : (x y : Replica) → Some x ≡ Some y → x ≡ y
   some-of x y e = ap (λ (o : Option Replica). option_map_or (λ r. r) o x) e
@@ -196,13 +188,13 @@ module _ (start : List Weighted) (w : World) (rests : (q : ℕ) → RestsAt w q)
   unfolding world_step happens ended split merge deliver
   event-rests (Start set) may q = begun-all set (ids set) w q (rests q)
   event-rests (Split set) may q =
-      of-turn (hand_out w (split w.group set)).world q
+      of-group (split w.group set).group (hand_out w (split w.group set)).world q
       (handed-behind (BringsNew w) (map (handed_in_split w.group set) set) (quietly (record w { group = (split w.group set).group })) 1
       (handed-ids (handed_in_split w.group set) (split-to w.group set) set 1 (rising-set-list 1 set may.1.ascends))
       (each-handed (BringsNew w) (handed_in_split w.group set) (λ p r e. split-new r w.group set p) set) q)
   event-rests (Merge set) may q =
       let f : ℕ → Handed Msg = λ p. record { to = p; list = RegularIn next set ∷ [] } in
-      of-turn (hand_out w (merge w.group set)).world q
+      of-group (merge w.group set).group (hand_out w (merge w.group set)).world q
       (handed-behind (BringsNew w) (map f set) (quietly (record w { group = (merge w.group set).group })) 1
       (handed-ids f (λ p. refl) set 1 (rising-set-list 1 set may.1.ascends))
       (each-handed (BringsNew w) f (λ p r e. (no-record p r e, tt)) set) q)
@@ -216,7 +208,7 @@ module _ (start : List Weighted) (w : World) (rests : (q : ℕ) → RestsAt w q)
         at : (o : Option Seat) → option_and_then (λ s. running s.life) o ≡ Some r → SeatSteps start next o → is_record_of next r.held.vulnerable ≡ false
         at None is own = absurd (let clash : None ≡ Some r = is in cc)
         at (Some s) is own = life s.life is own
-  event-rests (Request p cmds query) may q = asked w p (Update cmds query) q refl refl
+  event-rests (Request p cmds query) may q = asked w p (Update cmds query) q refl
   event-rests (Weak p query) may q = rests q
   event-rests (Dirty p query) may q = rests q
   event-rests (Order p) may q = rests q
@@ -230,12 +222,12 @@ module _ (start : List Weighted) (w : World) (rests : (q : ℕ) → RestsAt w q)
       let g = w.group in
       let from = delivered_to g p in
       let list = deliveries_at (home g p) (above_up_to from (from + count)) in
-      of-turn (hand_out w (deliver g p count)).world q
+      of-group (deliver g p count).group (hand_out w (deliver g p count)).world q
       (hand-behind (BringsNew w) (quietly (record w { group = (deliver g p count).group })) p (Deliveries list) (λ r e. places-new r (home g p) (above_up_to from (from + count))) q)
   event-rests (Rounds count) may q = absurd may
   event-rests (Stop p zero fill) may q = stopped p q
   event-rests (Stop p (suc call) fill) may q = armed p (record { call = suc call; fault = StopWith fill }) q
   event-rests (Fail p call) may q = armed p (record { call = call; fault = FailOnce }) q
-  event-rests (Join p joiner weight) may q = asked (name_also w joiner) p (JoinKind joiner weight) q refl refl
-  event-rests (Leave p server) may q = asked w p (LeaveKind server) q refl refl
+  event-rests (Join p joiner weight) may q = asked (name_also w joiner) p (JoinKind joiner weight) q refl
+  event-rests (Leave p server) may q = asked w p (LeaveKind server) q refl
   event-rests (Transfer p joiner pieces) may q = transferred p joiner pieces q

@@ -24,10 +24,10 @@ use Rattle.cg_agree.specs.Admission.{first_refusal}
 use Rattle.cg_agree.specs.Run.{MayStand}
 use Rattle.cg_agree.specs.Chronicle.{Attempt, Chronicle}
 use Rattle.cg_agree.specs.Fronts.{Front, IsSomeWith}
-use Rattle.cg_agree.specs.Looks.{greens_of, stood_of, ordered_in, conf_at, attempt_of, on_disk, disk_held}
+use Rattle.cg_agree.specs.Looks.{greens_of, stood_of, members_in, ordered_in, conf_at, attempt_of, on_disk, disk_held}
 use Rattle.cg_agree.specs.Talk.{Talk, is_full, is_through, is_announced, state_behind, state_in}
 use Rattle.cg_agree.specs.Levels.{is_record_of}
-use Rattle.cg_agree.specs.FactsTalk.{IsTransitional, IsStateIn}
+use Rattle.cg_agree.specs.FactsTalk.{handed_talk, IsTransitional, IsStateIn}
 use Rattle.cg_agree.specs.FactsExchange.{HasRecord, IsRecord}
 use Rattle.cg_agree.specs.FactsReplica.{run_on, cut_behind, GoesOn, IsCore, IsAsOnDisk, is_attempting, is_primary, has_entered, IsCounted, IsModeData, ReplicaRests}
 use Rattle.cg_agree.specs.Facts.{Invariant}
@@ -56,10 +56,10 @@ module _ (c : Chronicle) (i : Invariant c) (q : ℕ) (r : Replica) (here : repli
   mode = subst (λ (o : Option Replica). IfSome o (IsModeData c q)) here (i.replica.mode_data q)
 
   -- where no attempt is listed, or the replica hasn't entered it, it has no record of it
-  unrecorded : (conf : ℕ) → IfSome (attempt_of c conf) (λ a. has_entered a r.held.id ≡ false × IsCounted a r) → is_record_of conf r.held.vulnerable ≡ false
+  unrecorded : (conf : ℕ) → IfSome (attempt_of c conf) (λ a. (has_entered a r.held.id ≡ false) × IsCounted a r) → is_record_of conf r.held.vulnerable ≡ false
   unrecorded conf counted = at r.held.vulnerable refl where
     of_attempt : (v : Vulnerable) (o : Option Attempt) → attempt_of c conf ≡ o → r.held.vulnerable ≡ Some v → (v.attempt == conf) ≡ true → IsSomeWith o (λ a. IsRecord a v) →
-        IfSome o (λ a. has_entered a r.held.id ≡ false × IsCounted a r) → ⊥
+        IfSome o (λ a. (has_entered a r.held.id ≡ false) × IsCounted a r) → ⊥
     of_attempt v None found e same is counted = is
     of_attempt v (Some a) found e same is counted =
         let named : a.conf ≡ conf = eqb-true a.conf conf (find-holds (λ (a : Attempt). a.conf == conf) c.attempts a found) in
@@ -77,22 +77,22 @@ module _ (c : Chronicle) (i : Invariant c) (q : ℕ) (r : Replica) (here : repli
 
   outside : (conf : ℕ) → conf_at (phase_of c.world.group q) ≡ conf → is_attempting r.state ≡ false → is_primary r.state ≡ false → is_record_of conf r.held.vulnerable ≡ false
   outside conf at_conf idle other = unrecorded conf (each (attempt_of c conf) (subst (λ n. IfSome (attempt_of c n) (λ a. IsCounted a r)) at_conf mode.counted)) where
-    each : (o : Option Attempt) → IfSome o (λ a. IsCounted a r) → IfSome o (λ a. has_entered a r.held.id ≡ false × IsCounted a r)
+    each : (o : Option Attempt) → IfSome o (λ a. IsCounted a r) → IfSome o (λ a. (has_entered a r.held.id ≡ false) × IsCounted a r)
     each None is = tt
     each (Some a) is = (is.entered ∙ ap₂ (λ x y. x || y) idle other, is)
 
   -- nobody has a record of the attempt of a configuration that isn't made
   pub unrecorded-next : is_record_of (suc (length c.world.group.configurations)) r.held.vulnerable ≡ false
+  unfolding configuration
   unrecorded-next = unrecorded next (none (attempt_of c next) refl) where
     next : ℕ
     next = suc (length c.world.group.configurations)
 
     unsaid : ordered_in c next ≡ []
-    unfolding configuration
     unsaid = ap (λ (o : Option (Configuration Msg)). (option_map_or (λ c. c) o no_configuration).ordered)
         (at_place-past c.world.group.configurations next (let less : length c.world.group.configurations < suc (length c.world.group.configurations) = omega arith in less))
 
-    none : (o : Option Attempt) → attempt_of c next ≡ o → IfSome o (λ a. has_entered a r.held.id ≡ false × IsCounted a r)
+    none : (o : Option Attempt) → attempt_of c next ≡ o → IfSome o (λ a. (has_entered a r.held.id ≡ false) × IsCounted a r)
     none None e = tt
     none (Some a) e = absurd (let said = said-attempt c next a i e in let few : length (ordered_in c next) ≡ 0 = ap length unsaid in omega arith)
 
@@ -140,7 +140,7 @@ module _ (c : Chronicle) (i : Invariant c) (q : ℕ) (r : Replica) (here : repli
     parted conf Left is = tt
 
     by_phase : (x : Phase) → phase_of c.world.group q ≡ x → IsStateIn c q x r → HasNoRecordYet r r.state
-    by_phase (Regular conf) e is = in_regular conf e r.state refl (ap (λ s. conf_of_exchange s conf) is ∙ exchanges-here _ conf _ q)
+    by_phase (Regular conf) e is = in_regular conf e r.state refl (ap (λ s. conf_of_exchange s conf) is ∙ exchanges-here (members_in c conf) conf (handed_talk c conf q) q)
     by_phase (Transitional conf set) e is = parted conf r.state is
     by_phase DownPhase e is = subst (HasNoRecordYet r) (sym is) tt
     by_phase Alone e is = subst (HasNoRecordYet r) (sym is) tt

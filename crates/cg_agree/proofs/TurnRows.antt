@@ -1,5 +1,5 @@
 -- A fact of a turn that each change of it keeps is kept by every row of the table, and by the deliveries of an event.
-use Rattle.std.proofs.Common.{◌≡◌, ℕ, suc, ◌<◌, List, [], ◌∷◌, ◌++◌, fold, find, cond, Bool, true, false, not, Option, Some, None, refl, sym, ap, ◌∙◌, subst, arith, inl, inr, if◌then◌else◌, eqb-true, nat_lt}
+use Rattle.std.proofs.Common.{◌≡◌, ℕ, suc, ◌<◌, List, [], ◌∷◌, ◌++◌, fold, find, length, cond, Bool, true, false, not, Option, Some, None, refl, sym, ap, ◌∙◌, subst, arith, inl, inr, if◌then◌else◌, eqb-true, nat_lt}
 use Rattle.std.specs.Prelude.{◌==◌}
 use Rattle.std.specs.Option.{option_to_list}
 use Rattle.std.proofs.lemmas.Bool.{cases_order, cases_Bool, ne_eqb, lt-leb, and_parts}
@@ -339,7 +339,11 @@ module _ (P : Turn → Type 0) (Fine : Action → Type 0) (rule : IsRule P Fine)
   of-on_message (NonPrim regular) from (GreenItem at a) t fine p = p
   of-on_message (NonPrim regular) from (RedItem a) t fine p = p
   of-on_message (NonPrim regular) from (Cpc id of_conf) t fine p = p
-  of-on_message Left from m t fine p = p
+  of-on_message Left from (ActionMsg a) t fine p = p
+  of-on_message Left from (StateMsg s) t fine p = p
+  of-on_message Left from (GreenItem at a) t fine p = p
+  of-on_message Left from (RedItem a) t fine p = p
+  of-on_message Left from (Cpc id of_conf) t fine p = p
 
   pub of-on_transitional : (state : State) (t : Turn) → P t → P (on_transitional state t)
   unfolding on_transitional

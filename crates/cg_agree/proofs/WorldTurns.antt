@@ -37,12 +37,10 @@ module _ (Q : ℕ → Input → Type 0) where
   unfolding hand
   hand-behind go q input of p = at (seat_of go.world q) refl where
     up : (r : Replica) (disk : Disk) → seat_of go.world q ≡ Some (up_seat q r disk) → IsBehind Q go.world (hand go q input).world p
-    unfolding hand
     up r disk seat =
         let end = end_event disk r.held (replica_step r input) in
         let leads = hand-leads go q r disk input seat in
         let seats = leads.seats ∙ seats-ended go.world go.world.group q (replica_step r input) end in
-        let now : seat_of (hand go q input).world p ≡ _ = ap (λ (list : List Seat). find (λ s. s.id == p) list) seats ∙ seat_of-set go.world q (life_at end) p in
         elim (cases_eq q p) [
           | inl same ↦ inr (subst (λ (n : ℕ). TakesTurn Q go.world (hand go q input).world n) same (record {
               replica = r;
@@ -53,11 +51,8 @@ module _ (Q : ℕ → Input → Type 0) where
               behind = ap (λ (list : List Seat). find (λ s. s.id == q) list) seats ∙ seat_of-set go.world q (life_at end) q
                   ∙ cond-true (q == q) (Some (record { id = q; life = life_at end })) (seat_of go.world q) (eq-eqb q q refl);
             }))
-          | inr apart ↦ inl (now ∙ cond-false (q == p) (Some (record { id = q; life = life_at end })) (seat_of go.world p) (ne_eqb q p apart))
+          | inr apart ↦ inl (ap (λ (list : List Seat). find (λ s. s.id == p) list) seats ∙ seat_of-set go.world q (life_at end) p ∙ cond-false (q == p) (Some (record { id = q; life = life_at end })) (seat_of go.world p) (ne_eqb q p apart))
         ]
-
-    stays : (w : World) → w ≡ go.world → seat_of w p ≡ seat_of go.world p
-    stays w e = ap (λ (x : World). seat_of x p) e
 
     at : (o : Option Seat) → seat_of go.world q ≡ o → IsBehind Q go.world (hand go q input).world p
     at None e = inl (ap (λ (o : Option Seat). seat_of (option_map_or (λ s. hand_to go q input s.life) o go).world p) e)
@@ -66,7 +61,7 @@ module _ (Q : ℕ → Input → Type 0) where
       life (Up r disk) is = up r disk (e ∙ (λ i. Some (record { id = seat-id go.world q s e i; life = is i })))
       life (Down disk green) is = inl (ap (λ (o : Option Seat). seat_of (option_map_or (λ s. hand_to go q input s.life) o go).world p) e ∙ ap (λ (l : Life). seat_of (hand_to go q input l).world p) is)
 
-  from-same : (w v u : World) (p : ℕ) → seat_of v p ≡ seat_of w p → IsBehind Q v u p → IsBehind Q w u p
+  pub from-same : (w v u : World) (p : ℕ) → seat_of v p ≡ seat_of w p → IsBehind Q v u p → IsBehind Q w u p
   from-same w v u p same is = elim is [
     | inl stays ↦ inl (stays ∙ same)
     | inr turn ↦ inr (record { replica = turn.replica; disk = turn.disk; input = turn.input; of = turn.of; before = sym same ∙ turn.before; behind = turn.behind })
