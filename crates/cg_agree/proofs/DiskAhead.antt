@@ -5,6 +5,7 @@ use Rattle.std.proofs.lemmas.Bool.{cases_eq, eq-eqb, ltb-false, and_parts}
 use Rattle.cg_group.specs.EachLaws.{Each, Each-all}
 use Rattle.cg_base.specs.declared.action_id.ActionId.{ActionId}
 use Rattle.cg_base.specs.Cuts.{index_in, raise}
+use Rattle.cg_base.specs.Ids.{same_id}
 use Rattle.cg_base.specs.IdLaws.{same_id-true, same_id-false}
 use Rattle.cg_base.specs.Text.{is_nil}
 use Rattle.cg_action.specs.declared.action.Action.{Action}
@@ -87,7 +88,7 @@ own-next old b rest is fewer =
 -- what is left of the own actions behind a mark
 pub record LeftOwn (old : List Action) (red : List ActionId) (me : ℕ) (own left : List Action) (id : ActionId) : Type 0 where
   pub made : max (index_in (raise red id) me) (last_index left) ≡ max (index_in red me) (last_index own)
-  pub own : left ≡ drop (length old - length left) old
+  pub later : left ≡ drop (length old - length left) old
   pub fewer : length left ≤ length old
 
 abbrev pub later_own : List Action → List Action → Type 0
@@ -108,7 +109,7 @@ left-own old red me [] id rising run mine next made later = elim (cases_eq id.cr
       let at : index_in red id.creator ≡ index_in red me = ap (index_in red) same in
       let le : id.index ≤ max (index_in red me) 0 = made same in
       absurd (omega arith)
-  | inr apart ↦ record { made = ap (λ n. max n 0) (index-other red id rising me apart); own = later.0; fewer = later.1 }
+  | inr apart ↦ record { made = ap (λ n. max n 0) (index-other red id rising me apart); later = later.0; fewer = later.1 }
 ]
 left-own old red me (b ∷ own) id rising run mine next made later =
     let parts = and_parts (b.id.creator == me) (are_of me own) mine in
@@ -122,18 +123,18 @@ left-own old red me (b ∷ own) id rising run mine next made later =
           subst (λ (xs : List Action). LeftOwn old red me (b ∷ own) xs id) (sym (after-here b own id (same_id-true b.id id (of_me ∙ sym same) (ap (λ (x : ActionId). x.index) one))))
           (record {
             made = ap (λ x. max (index_in (raise red x) me) (last_index own)) (sym one) ∙ sym rest ∙ behind;
-            own = own-next old b own later.0 later.1;
+            later = own-next old b own later.0 later.1;
             fewer = let le = later.1 in omega arith;
           })
       | inr apart ↦
           subst (λ (xs : List Action). LeftOwn old red me (b ∷ own) xs id) (sym (after-there b own id (same_id-false b.id id (inl (λ e. apart (sym e ∙ of_me))))))
-          (record { made = ap (λ n. max n (last_index (b ∷ own))) (index-other red id rising me apart); own = later.0; fewer = later.1 })
+          (record { made = ap (λ n. max n (last_index (b ∷ own))) (index-other red id rising me apart); later = later.0; fewer = later.1 })
     ]
 
 -- who hasn't created it doesn't know it
 pub made-by : (h : Held) (a : Action) → is_unmade h a ≡ false → a.id.creator ≡ h.id → a.id.index ≤ created h
 unfolding is_unmade
-made-by h a no same = ltb-false (created h) a.id.index (sym (ap (λ b. b && nat_lt (created h) a.id.index) (eq-eqb a.id.creator h.id same)) ∙ no)
+made-by h a made same = ltb-false (created h) a.id.index (sym (ap (λ b. b && nat_lt (created h) a.id.index) (eq-eqb a.id.creator h.id same)) ∙ made)
 
 further-known : (old h : Held) (a : Action) → a.id.index ≡ suc (index_in h.queue.red_cut a.id.creator) → is_unmade h a ≡ false → IsFurther old h → OwnRuns h →
     (let new = record h { queue = placed_red h.queue a; own = after_first h.own a.id } in IsFurther old new × OwnRuns new)
@@ -145,7 +146,7 @@ further-known old h a next made is runs =
         green_cut = is.green_cut;
         red = λ creator. (let up = index-rises h.queue.red_cut a.id runs.rising creator in let low = is.red creator in omega arith);
         created = left.made ∙ is.created;
-        own = left.own;
+        own = left.later;
         fewer = left.fewer;
       },
       record {
@@ -263,13 +264,17 @@ keeping-of old t none =
       values = not-false (same_values old t.replica.held) (or-second ((t.marked_own || g) || m) v none);
     }
 
-drop-both : {X : Type 0} (m n : ℕ) (xs : List X) → drop n (drop m xs) ≡ drop (m + n) xs
-drop-both zero n xs = refl
-drop-both (suc m) n [] = nothing n where
-  nothing : {X : Type 0} (n : ℕ) → drop n ([] {A = X}) ≡ []
-  nothing zero = refl
-  nothing (suc n) = refl
-drop-both (suc m) n (x ∷ xs) = drop-both m n xs
+abbrev no_actions : List Action
+no_actions = []
+
+drop-none : (n : ℕ) → drop n no_actions ≡ []
+drop-none zero = refl
+drop-none (suc n) = refl
+
+drop-both : (m n : ℕ) (xs : List Action) → drop n (drop m xs) ≡ drop (m + n) xs
+drop-both zero n xs = ap (λ k. drop k xs) (let same : n ≡ 0 + n = omega arith in same)
+drop-both (suc m) n [] = drop-none n ∙ sym (drop-none (suc m + n))
+drop-both (suc m) n (x ∷ xs) = drop-both m n xs ∙ ap (λ k. drop k (x ∷ xs)) (let same : suc (m + n) ≡ suc m + n = omega arith in same)
 
 drop-fewer : {X : Type 0} (n : ℕ) (xs : List X) → length (drop n xs) ≤ length xs
 drop-fewer zero xs = omega arith

@@ -105,7 +105,7 @@ goes-some (Some x) change c each = each x
 -- Greens go on at their end.
 pub greens-go_on : (c : Chronicle) (s : Small) → Invariant c → may_make c s ≡ true → AtRest c s → GreensGoOn c (small_step c s)
 unfolding small_step may_make
-greens-go_on c (Starts set) i may rest p =
+greens-go_on c (Starts set) i may rest = λ p.
     let before = nothing-before c i.net.seated (and_parts (is_nil c.world.seats) (is_set (ids set)) may).0 in
     subst (λ (x : Chronicle). Front (greens_of x p) (greens_of (start c set) p)) (sym before) tt
 greens-go_on c (Makes set) i may rest = none-changed c (small_step c (Makes set)) refl

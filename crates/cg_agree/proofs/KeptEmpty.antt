@@ -94,16 +94,16 @@ empty-in h (NonPrim false) e = tt
 empty-in h Left e = e
 
 resting : (h : Held) (state : State) → is_creating state ≡ false → (is_left_state state ≡ true → h.buffered ≡ []) → IsEmptyIn h state
-resting h RegPrim no left = absurd (let clash : true ≡ false = no in cc)
-resting h TransPrim no left = tt
-resting h (ExchangeStates conf set heard) no left = tt
-resting h (ExchangeActions conf heard accepted) no left = tt
-resting h (Construct conf heard) no left = tt
-resting h (No conf heard) no left = tt
-resting h Un no left = tt
-resting h (NonPrim true) no left = absurd (let clash : true ≡ false = no in cc)
-resting h (NonPrim false) no left = tt
-resting h Left no left = left refl
+resting h RegPrim idle left = absurd (let clash : true ≡ false = idle in cc)
+resting h TransPrim idle left = tt
+resting h (ExchangeStates conf set heard) idle left = tt
+resting h (ExchangeActions conf heard accepted) idle left = tt
+resting h (Construct conf heard) idle left = tt
+resting h (No conf heard) idle left = tt
+resting h Un idle left = tt
+resting h (NonPrim true) idle left = absurd (let clash : true ≡ false = idle in cc)
+resting h (NonPrim false) idle left = tt
+resting h Left idle left = left refl
 
 left-empty : (h : Held) (state : State) → IsEmptyIn h state → is_left_state state ≡ true → h.buffered ≡ []
 left-empty h Left is e = is
@@ -131,7 +131,7 @@ asked-empty r kind is = at r.state refl is where
   made none = empty-in (create t kind).replica.held (create t kind).replica.state (created-buffer (kind ∷ []) t ∙ none)
 
   kept : (state : State) → r.state ≡ state → is_creating state ≡ false → is_left_state state ≡ false → IsEmptyIn (buffer t kind).replica.held r.state
-  kept state e no apart = subst (λ s. IsEmptyIn (buffer t kind).replica.held s) (sym e) (resting (buffer t kind).replica.held state no (λ y. absurd (let clash : true ≡ false = sym y ∙ apart in cc)))
+  kept state e idle apart = subst (λ s. IsEmptyIn (buffer t kind).replica.held s) (sym e) (resting (buffer t kind).replica.held state idle (λ y. absurd (let clash : true ≡ false = sym y ∙ apart in cc)))
 
   at : (state : State) → r.state ≡ state → IsEmptyIn r.held state → IsEmptyIn (request_in state t kind).replica.held (request_in state t kind).replica.state
   at RegPrim e i = made i

@@ -127,8 +127,8 @@ turn-rests r disk input rests own none new = end-cases disk r.held t (λ e. Life
   empty = step-empty r input rests.0
 
   kept : commits r.held t ≡ false → (d : Disk) → d.content ≡ disk.content → IsAtRest t.replica d.content
-  kept no d is =
-      let keeping = keeping-of r.held t no in
+  kept quiet d is =
+      let keeping = keeping-of r.held t quiet in
       let further = step-behind r input own keeping.unnoted in
       subst (IsAtRest t.replica) (sym is) (
         empty,

@@ -1,5 +1,5 @@
 -- A name stands for one action, everywhere, behind each small step.
-use Rattle.std.proofs.Common.{◌≡◌, ℕ, zero, suc, ◌≤◌, Bool, true, false, cond, not, List, [], ◌∷◌, ◌++◌, find, length, append-nil, Option, Some, None, IfSome, refl, sym, ap, ap₂, ◌∙◌, subst, option_and_then, option_map, is_some}
+use Rattle.std.proofs.Common.{◌≡◌, ℕ, zero, suc, ◌≤◌, Bool, true, false, cond, not, List, [], ◌∷◌, ◌++◌, find, length, append-nil, Option, Some, None, IfSome, refl, sym, ap, ap₂, ◌∙◌, subst, option_and_then, option_map, is_some, arith}
 use Rattle.std.specs.Prelude.{◌==◌, slice_get}
 use Rattle.std.specs.Option.{option_map_or}
 use Rattle.std.proofs.lemmas.Bool.{and_parts, not-true}
@@ -48,7 +48,7 @@ use Rattle.cg_agree.proofs.BegunKept.{nothing-before}
 use Rattle.cg_agree.proofs.DiskAhead.{OwnRuns}
 use Rattle.cg_agree.proofs.KeptEmpty.{anything}
 use Rattle.cg_agree.proofs.TurnRows.{OfDelivery, of-deliveries}
-use Rattle.cg_agree.proofs.MessagesKept.{TurnSays, StepSays, waits-kept, placed-kept}
+use Rattle.cg_agree.proofs.MessagesKept.{DoWait, ArePlaced, TurnSays, StepSays, waits-kept, placed-kept}
 use Rattle.cg_agree.proofs.CreatedKept.{StaysCreated, created-rule, created-first}
 use Rattle.cg_agree.proofs.BookedRows.{HoldsFine, AllFine, each-drop, fine-rule, create-fine, kept-fine}
 use Rattle.cg_agree.proofs.BookGrows.{IsNamed, cut_of, rising-of, IsCounted, named-more, named-all, settle-counted, request-counted, counted-first}
@@ -322,8 +322,8 @@ made_once-kept c s i joiners may rest =
     let behind = disk_behind-kept c s i.net.seated may i.replica.disk_behind in
     let now : OfCores d (FineHeld d.book) = cores-kept (FineHeld d.book) c s (ready-of c i.net.seated i.replica.disk_behind) may (booked-closed d.book) step.keeps before in
     let said = message-weaker (IsNamed c.book) (IsNamed d.book) more in
-    let waits = λ q. Each-weaker (OfMessage (IsNamed c.book)) (OfMessage (IsNamed d.book)) said (unordered_of c.world.group q) (waiting-booked c i.replica.made_once q) in
-    let placed = λ conf. Each-weaker (λ (x : Sent Msg). OfMessage (IsNamed c.book) x.message) (λ x. OfMessage (IsNamed d.book) x.message) (λ x. said x.message) (ordered_in c conf) (placed-booked c i.replica.made_once conf) in (
+    let waits : DoWait (OfMessage (IsNamed d.book)) c.world.group = λ q. Each-weaker (OfMessage (IsNamed c.book)) (OfMessage (IsNamed d.book)) said (unordered_of c.world.group q) (waiting-booked c i.replica.made_once q) in
+    let placed : ArePlaced (OfMessage (IsNamed d.book)) c = λ conf. Each-weaker (λ (x : Sent Msg). OfMessage (IsNamed c.book) x.message) (λ x. OfMessage (IsNamed d.book) x.message) (λ x. said x.message) (ordered_in c conf) (placed-booked c i.replica.made_once conf) in (
       record {
         numbered = step.counts.numbered;
         counted = step.counts.counted;

@@ -191,20 +191,20 @@ module _ (P : Msg → Type 0) where
   -- And of each that has a place.
   pub placed-kept : (c : Chronicle) (s : Small) → Seated c → may_make c s ≡ true → GroupSound c → DoWait c.world.group → ArePlaced c → ArePlaced (small_step c s)
   unfolding small_step may_make
-  placed-kept c (Starts set) seats m old w placed k = of-conf (conf_of (small_step c (Starts set)) k) (conf_of c k) (confs-begun c set (ids set) c.world k) (placed k)
-  placed-kept c (Makes set) seats m old w placed k = elim (made-is c.world.group set k) [
+  placed-kept c (Starts set) seats m old w placed = λ k. of-conf (conf_of (small_step c (Starts set)) k) (conf_of c k) (confs-begun c set (ids set) c.world k) (placed k)
+  placed-kept c (Makes set) seats m old w placed = λ k. elim (made-is c.world.group set k) [
     | inl same ↦ of-conf (conf_of (small_step c (Makes set)) k) (conf_of c k) same (placed k)
     | inr new ↦ of-conf (conf_of (small_step c (Makes set)) k) (record { members = set; ordered = []; received = [] }) new.1 tt
   ]
   placed-kept c (Enters p) seats m old w placed = same-placed c (small_step c (Enters p)) (enters-step c p old.phases (may-enter c p m).comes).stands.conf placed
-  placed-kept c (Orders p) seats m old w placed k =
+  placed-kept c (Orders p) seats m old w placed = λ k.
       let next = orders-now c p old.phases (λ k. (old.confs k).places) m in
       let step = orders-conf c p next.conf next.stands next.message next.rest next.at in
       let waited = subst (Each P) next.at.waited (waiting-here c.world.group p next.stands next.at.standing w) in
       of-conf (conf_of (small_step c (Orders p)) k) (cond (k == next.conf) (with_message (conf_of c next.conf) p next.message) (conf_of c k)) (step.changed k)
       (cond_both (k == next.conf) (with_message (conf_of c next.conf) p next.message) (conf_of c k) (λ x. AreSaid x.ordered)
       (λ y. message-placed (conf_of c next.conf) p next.message waited.0 (placed next.conf)) (λ n. placed k))
-  placed-kept c (Receives p place) seats m old w placed k =
+  placed-kept c (Receives p place) seats m old w placed = λ k.
       let next = receives-now c p place old.phases m in
       let step = receives-conf c p place next in
       of-conf (conf_of (small_step c (Receives p place)) k) (cond (k == next.conf) (with_receipt (conf_of c next.conf) p place) (conf_of c k)) (step.changed k)

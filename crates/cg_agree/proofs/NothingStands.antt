@@ -1,8 +1,8 @@
 -- Before the start there is nothing to tell: the empty chronicle stands beside the empty world.
-use Rattle.std.proofs.Common.{◌≡◌, ℕ, zero, suc, ◌≤◌, ◌<◌, true, false, List, [], ◌∷◌, length, filter_map, Option, None, refl, sym, ap, ◌∙◌, subst, arith, IsTrue}
+use Rattle.std.proofs.Common.{◌≡◌, ℕ, zero, suc, ◌≤◌, ◌<◌, true, false, List, [], ◌∷◌, ◌++◌, length, filter_map, Option, None, refl, sym, ap, ap₂, ◌∙◌, subst, arith, IsTrue}
 use Rattle.cg_base.specs.Sets.{has}
 use Rattle.cg_action.specs.declared.action.Action.{Action}
-use Rattle.cg_knowledge.specs.Members.{remaining}
+use Rattle.cg_knowledge.specs.Members.{senders, remaining}
 use Rattle.cg_wire.specs.declared.message.Msg.{Msg}
 use Rattle.cg_group.specs.State.{Sent, Configuration, configuration, no_configuration, standing_of, has_received}
 use Rattle.cg_agree.specs.World.{no_world}
@@ -49,8 +49,7 @@ unfolding standing_of
 waits-none conf p = refl
 
 said-none : (conf p : ℕ) → said_in no_chronicle conf p ≡ []
-unfolding standing_of
-said-none conf p = ap (placed_of p) (ordered-none conf)
+said-none conf p = ap₂ (λ (xs : List (Sent Msg)) ys. placed_of p xs ++ ys) (ordered-none conf) (waits-none conf p)
 
 never : {A : Type 0} → false ≡ true → A
 never e = absurd (let clash : false ≡ true = e in cc)
@@ -78,6 +77,10 @@ net = record {
   past_left = record { member = λ conf p e. never e; left = λ conf p earlier e less. never e };
 }
 
+nobody-remains : (p : ℕ) → has (remaining []) p ≡ false
+unfolding remaining senders
+nobody-remains p = refl
+
 talk : TalkFacts no_chronicle
 unfolding standing_of
 talk = record {
@@ -90,7 +93,7 @@ talk = record {
   mode_fits = λ p. tt;
   content = λ conf p. tt;
   acts_numbered = record {
-    said = λ conf p ended remains. never (sym (ap (λ t. has (remaining t.heard) p) (heard-none conf)) ∙ remains);
+    said = λ conf p ended remains. never (sym (nobody-remains p) ∙ sym (ap (λ t. has (remaining t.heard) p) (heard-none conf)) ∙ remains);
     handed = λ p. tt;
   };
 }

@@ -104,6 +104,7 @@ module _ (c : Chronicle) (i : Invariant c) (q : ℕ) (r : Replica) (here : repli
   conf_of_exchange _ other = other
 
   exchanges-here : (set : List ℕ) (conf : ℕ) (t : Talk) (me : ℕ) → conf_of_exchange (state_in set conf t me) conf ≡ conf
+  unfolding conf_of_exchange
   exchanges-here set conf t me =
       cond_both (not (is_full set t)) (ExchangeStates conf set t.heard) (if not (is_through t) then ExchangeActions conf t.heard t.accepted else state_behind conf t me) (λ s. conf_of_exchange s conf ≡ conf)
       (λ y. refl)
@@ -116,6 +117,7 @@ module _ (c : Chronicle) (i : Invariant c) (q : ℕ) (r : Replica) (here : repli
       (λ n. cond_both (is_announced t) RegPrim (Construct conf t.announced) (λ s. conf_of_exchange s conf ≡ conf) (λ y. refl) (λ n. refl)))))
 
   pub no-record-yet : HasNoRecordYet r r.state
+  unfolding conf_of_exchange
   no-record-yet = by_phase (phase_of c.world.group q) refl (subst (λ (o : Option Replica). IfSome o (IsStateIn c q (phase_of c.world.group q))) here (i.talk.mode_fits q)) where
     in_regular : (conf : ℕ) → phase_of c.world.group q ≡ Regular conf → (state : State) → r.state ≡ state → conf_of_exchange state conf ≡ conf → HasNoRecordYet r state
     in_regular conf phase (ExchangeStates at set heard) e same = outside at (ap conf_at phase ∙ sym same) (ap is_attempting e) (ap is_primary e)

@@ -146,7 +146,7 @@ module _ (c : Chronicle) (i : Invariant c) (conf : ℕ) (some : 0 < conf) where
 
   pub commit-goal : (p : ℕ) (s : Seat) → seat_of c.world p ≡ Some s → (l : Life) → s.life ≡ l → Goal (commit_as c p l)
   commit-goal p s e (Down disk green) is = goal-same
-  commit-goal p s e (Up r disk) is inside =
+  commit-goal p s e (Up r disk) is = λ inside.
       let new : Life = Up (whitened r) (record disk { content = stored_of (whiten r.held) }) in
       let seat = seat-of c p s (Up r disk) is e in
       lives-one (commit_as c p (Up r disk)) p new (λ q. seat_of-set c.world p new q)

@@ -2,7 +2,7 @@
 use Rattle.std.proofs.Common.{◌≡◌, ℕ, zero, suc, ◌+◌, ◌-◌, ◌≤◌, ◌<◌, Bool, true, false, cond, ◌&&◌, List, [], ◌∷◌, ◌++◌, append-nil, drop, length, length-append, Option, Some, None, IfSome, refl, sym, ap, ap₂, ◌∙◌, subst, arith, inl, inr, option_and_then, option_map, eqb-true, eq-eqb}
 use Rattle.std.specs.Prelude.{◌==◌}
 use Rattle.std.specs.Option.{option_map_or}
-use Rattle.std.proofs.lemmas.Bool.{cases_Bool, cases_eq, cases_lt, cond-true, and_parts}
+use Rattle.std.proofs.lemmas.Bool.{cases_Bool, cases_eq, cases_lt, cond-true, cond-false, ne_eqb, and_parts}
 use Rattle.std.proofs.lemmas.List.{length-drop}
 use Rattle.cg_base.specs.Cuts.{index_in}
 use Rattle.cg_base.specs.Lists.{at_place}
@@ -24,7 +24,7 @@ use Rattle.cg_agree.specs.World.{Life, Up, Down, Seat, running, seat_of, replica
 use Rattle.cg_agree.specs.Chronicle.{Told, Attempt, Chronicle, no_chronicle}
 use Rattle.cg_agree.specs.Fronts.{Front, IsSomeWith}
 use Rattle.cg_agree.specs.Looks.{greens_of, told_in, ordered_in, is_member, top_of, no_attempt, attempt_of, attempt_at, installation}
-use Rattle.cg_agree.specs.Levels.{is_installed, prim_at}
+use Rattle.cg_agree.specs.Levels.{is_installed, prim_of, prim_at}
 use Rattle.cg_agree.specs.FactsNet.{Seated}
 use Rattle.cg_agree.specs.FactsReplica.{IsCore, cut_behind}
 use Rattle.cg_agree.specs.FactsExchange.{IsRecord, HasRecord, IsSummary, KnowsLevels}
@@ -217,7 +217,7 @@ module _ (c : Chronicle) (i : Invariant c) (p : ℕ) (may : may_make c (Enters p
   -- the configuration of a level's attempt, and 0 for the start
   earlier-prim : (level : ℕ) → level ≤ top_of c → 0 < next → (prim_at c level).conf < next
   earlier-prim zero le some = some
-  earlier-prim (suc level) le some = opened (at_place c.levels (suc level)) refl (i.attempt.levels_stand.opened level (omega arith)) where
+  earlier-prim (suc level) le some = subst (λ (x : Primary). x.conf < next) (sym (cond-false (suc level == 0) (let x : Primary = record { index = 0; conf = 0; set = c.start } in x) (prim_of c (suc level) (attempt_at c (suc level))) (ne_eqb (suc level) 0 (λ e. (let clash : suc level ≡ 0 = e in cc))))) (opened (at_place c.levels (suc level)) refl (i.attempt.levels_stand.opened level (omega arith))) where
     opened : (o : Option ℕ) → at_place c.levels (suc level) ≡ o → IsSomeWith o (λ conf. IsSomeWith (attempt_of c conf) (λ a. (a.from ≡ level) × (is_installed a ≡ true))) → (attempt_at c (suc level)).conf < next
     opened None e is = absurd is
     opened (Some conf) e is = found (attempt_of c conf) refl is where
@@ -228,8 +228,18 @@ module _ (c : Chronicle) (i : Invariant c) (p : ℕ) (may : may_make c (Enters p
           let here : attempt_at c (suc level) ≡ a = ap (λ (o : Option ℕ). option_map_or (λ a. a) (option_and_then (attempt_of c) o) (no_attempt c.start)) e ∙ ap (λ (o : Option Attempt). option_map_or (λ a. a) o (no_attempt c.start)) f in
           subst (λ n. n < next) (sym (ap (λ (x : Attempt). x.conf) here ∙ named)) (earlier-attempt conf a f)
 
+  -- the newest configuration has members
+  some-conf : 0 < next
+  unfolding configuration
+  some-conf = elim (cases_lt 0 next) [
+    | inl some ↦ some
+    | inr few ↦ (let none : next ≡ 0 = omega arith in absurd (let clash : true ≡ false = sym now.may.member ∙ ap (λ n. is_member c n p) none ∙ nobody in cc))
+  ] where
+    nobody : is_member c 0 p ≡ false
+    nobody = refl
+
   recorded-there : (v : Option Vulnerable) → HasRecord c now.replica.held.id now.replica.held.prim.index v → option_map_or (λ v. v.attempt) v 0 < next
-  recorded-there None is = let some : 0 < next = omega arith in some
+  recorded-there None is = some-conf
   recorded-there (Some v) is = at (attempt_of c v.attempt) refl is.2 where
     at : (o : Option Attempt) → attempt_of c v.attempt ≡ o → IsSomeWith o (λ a. IsRecord a v) → v.attempt < next
     at None e is = absurd is
@@ -245,16 +255,6 @@ module _ (c : Chronicle) (i : Invariant c) (p : ℕ) (may : may_make c (Enters p
   left-record Un v is = is
   left-record (NonPrim regular) v is = is
   left-record Left v is = is
-
-  -- the newest configuration has members
-  some-conf : 0 < next
-  unfolding configuration
-  some-conf = elim (cases_lt 0 next) [
-    | inl some ↦ some
-    | inr few ↦ (let none : next ≡ 0 = omega arith in absurd (let clash : true ≡ false = sym now.may.member ∙ ap (λ n. is_member c n p) none ∙ nobody in cc))
-  ] where
-    nobody : is_member c 0 p ≡ false
-    nobody = refl
 
   here : replica_of c.world p ≡ Some now.replica
   here = ap (λ (o : Option Seat). option_and_then (λ s. running s.life) o) now.seat

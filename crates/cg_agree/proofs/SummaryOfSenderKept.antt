@@ -86,9 +86,9 @@ module _ (c : Chronicle) (i : Invariant c) (conf p : ℕ) (t : Told) (told : tol
   inside-step (Starts set) may rest other =
       let before = nothing-before c i.net.seated (and_parts (is_nil c.world.seats) (is_set (ids set)) may).0 in
       absurd (let clash : None ≡ Some t = sym (ap (λ (x : Chronicle). told_in x conf p) before) ∙ told in cc)
-  inside-step (Makes set) may rest other inside q r e is = lives-same c i conf number-told (small_step c (Makes set)) q r refl (inside q) e is
-  inside-step (Orders q') may rest other inside q r e is = lives-same c i conf number-told (small_step c (Orders q')) q r refl (inside q) e is
-  inside-step (Receives q' place) may rest other inside q r e is = lives-same c i conf number-told (small_step c (Receives q' place)) q r refl (inside q) e is
+  inside-step (Makes set) may rest other = λ inside q r e is. lives-same c i conf number-told (small_step c (Makes set)) q r refl (inside q) e is
+  inside-step (Orders q') may rest other = λ inside q r e is. lives-same c i conf number-told (small_step c (Orders q')) q r refl (inside q) e is
+  inside-step (Receives q' place) may rest other = λ inside q r e is. lives-same c i conf number-told (small_step c (Receives q' place)) q r refl (inside q) e is
   inside-step (Hands q) may rest other =
       let g = c.world.group in
       lives-turning c i conf number-told (handed_next c q) q (take_next g q) refl
@@ -106,7 +106,7 @@ module _ (c : Chronicle) (i : Invariant c) (conf p : ℕ) (t : Told) (told : tol
   inside-step (Recovers q) may rest other = goal-some c i conf number-told (seat_of c.world q) (λ s. recover_as c s.life) (goal-same c i conf number-told) (λ s e. recovered-goal s e s.life refl) where
     recovered-goal : (s : Seat) → seat_of c.world q ≡ Some s → (l : Life) → s.life ≡ l → Goal c i conf number-told (recover_as c l)
     recovered-goal s e (Up r disk) life = goal-same c i conf number-told
-    recovered-goal s e (Down disk green) life inside =
+    recovered-goal s e (Down disk green) life = λ inside.
         let seat = seat-of c q s (Down disk green) life e in
         let own : disk.content.id ≡ q = subst (λ (o : Option Held). IfSome o (λ h. h.id ≡ q)) (ap (λ (o : Option Seat). option_map (λ s. on_disk s.life) o) seat) (i.net.seated.disk q) in
         let new : Life = Up (recovered disk) (disk_recovered disk) in
@@ -123,11 +123,11 @@ module _ (c : Chronicle) (i : Invariant c) (conf p : ℕ) (t : Told) (told : tol
   inside-phases (Starts set) m other =
       let before = nothing-before c i.net.seated (and_parts (is_nil c.world.seats) (is_set (ids set)) m).0 in
       absurd (let clash : None ≡ Some t = sym (ap (λ (x : Chronicle). told_in x conf p) before) ∙ told in cc)
-  inside-phases (Makes set) m other q is = in-same c i conf number-told (small_step c (Makes set)) q (phase-made c (small_step c (Makes set)) set refl (λ q. refl) q) is
-  inside-phases (Orders x) m other q is =
+  inside-phases (Makes set) m other = λ q is. in-same c i conf number-told (small_step c (Makes set)) q (phase-made c (small_step c (Makes set)) set refl (λ q. refl) q) is
+  inside-phases (Orders x) m other = λ q is.
       let next = orders-now c x i.net.phase_sound (λ k. i.net.receipts_inside.places k) m in
       in-same c i conf number-told (small_step c (Orders x)) q ((orders-conf c x next.conf next.stands next.message next.rest next.at).phase q) is
-  inside-phases (Receives x place) m other q is =
+  inside-phases (Receives x place) m other = λ q is.
       let next = receives-now c x place i.net.phase_sound m in in-same c i conf number-told (small_step c (Receives x place)) q ((receives-conf c x place next).phase q) is
   inside-phases (Hands x) m other = in-one c i conf number-told _ x _ _ true (hands-step c x i.net.phase_sound (and_parts _ _ m).0) (λ e. e)
   inside-phases (Leaves x set own places) m other =
