@@ -147,7 +147,7 @@ counts-recover c p own core s e (Down disk green) life is =
 -- ---- joiners
 
 -- a name that was found is one of the names
-found-name : (book : List Action) (id : ActionId) (a : Action) → named_in book id ≡ Some a → names (names_of book) id ≡ true
+pub found-name : (book : List Action) (id : ActionId) (a : Action) → named_in book id ≡ Some a → names (names_of book) id ≡ true
 found-name [] id a e = absurd (let clash : None ≡ Some a = e in cc)
 found-name (x ∷ book) id a e = elim (cases_Bool (same_id x.id id)) [
   | inl here ↦ ap (λ b. b || names (names_of book) id) (let one = same-from x.id id here in subst (λ (y : ActionId). same_id id y ≡ true) (sym one) (same-self id))

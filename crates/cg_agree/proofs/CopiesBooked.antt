@@ -15,7 +15,9 @@ use Rattle.cg_agree.specs.Chronicle.{Past, Attempt, Chronicle}
 use Rattle.cg_agree.specs.Fronts.{Front}
 use Rattle.cg_agree.specs.Looks.{greens_of, stood_of, past_of, on_disk, disk_held, snapshot_of, copied_for, is_in, top_of, attempt_of, attempt_at, left_count}
 use Rattle.cg_agree.specs.Levels.{line_at, count_in, reached_at}
-use Rattle.cg_agree.specs.FactsReplica.{MadeOnce}
+use Rattle.cg_agree.specs.FactsNet.{Seated}
+use Rattle.cg_agree.specs.FactsReplica.{DiskBehind, MadeOnce}
+use Rattle.cg_agree.specs.FactsGreens.{OneOrder}
 use Rattle.cg_agree.specs.Facts.{Invariant}
 use Rattle.cg_agree.specs.Played.{AtRest}
 use Rattle.cg_agree.specs.Small.{Small, small_step}
@@ -48,8 +50,8 @@ greatest-from f (p ∷ set) m = elim (greatest-from f set (max m (f p))) [
 
 -- ---- what a replica has green is a front of the newest level's line
 
-greens-on_line : (c : Chronicle) → Invariant c → (q : ℕ) → Front (greens_of c q) (line_at c (top_of c))
-greens-on_line c i q = at (replica_of c.world q) refl (i.green.one_order.memory q) where
+pub greens-on_line : (c : Chronicle) → OneOrder c → DiskBehind c → Seated c → (q : ℕ) → Front (greens_of c q) (line_at c (top_of c))
+greens-on_line c order behind seated q = at (replica_of c.world q) refl (order.memory q) where
   from_disk : (o : Option Held) → disk_held c.world q ≡ o → IfSome o (λ h. Front (stood_of c q) (line_at c (top_of c)) × (length (stood_of c q) ≤ reached_at c (top_of c))) → greens_of c q ≡ stood_of c q →
       Front (greens_of c q) (line_at c (top_of c))
   from_disk (Some h) e is same = subst (λ xs. Front xs (line_at c (top_of c))) (sym same) is.0
@@ -60,10 +62,10 @@ greens-on_line c i q = at (replica_of c.world q) refl (i.green.one_order.memory 
 
     nothing : (o : Option Past) → past_of c q ≡ o → greens_of c q ≡ []
     nothing None n = ap (λ (o : Option Past). option_map_or (λ x. x.greens) o []) n
-    nothing (Some x) n = absurd (let clash : true ≡ false = sym (ap is_some n) ∙ i.net.seated.past q ∙ begun (seat_of c.world q) e in cc)
+    nothing (Some x) n = absurd (let clash : true ≡ false = sym (ap is_some n) ∙ seated.past q ∙ begun (seat_of c.world q) e in cc)
 
   at : (o : Option Replica) → replica_of c.world q ≡ o → IfSome o (λ r. Front (greens_of c q) (line_at c (top_of c)) × (length (greens_of c q) ≤ reached_at c (top_of c))) → Front (greens_of c q) (line_at c (top_of c))
-  at None e is = from_disk (disk_held c.world q) refl (i.green.one_order.disk q) (i.replica.disk_behind.down q e)
+  at None e is = from_disk (disk_held c.world q) refl (order.disk q) (behind.down q e)
   at (Some r) e is = is.0
 
 -- so many greens of that line some replica has
@@ -72,7 +74,7 @@ reached-there c i [] front within = tt
 reached-there c i (x ∷ list) front within = at (top_of c) refl where
   booked : (q : ℕ) → length (x ∷ list) ≤ length (greens_of c q) → Each (IsNamed c.book) (x ∷ list)
   booked q le =
-      front-each (IsNamed c.book) (x ∷ list) (greens_of c q) (Front-of_both (x ∷ list) (greens_of c q) (line_at c (top_of c)) front (greens-on_line c i q) le)
+      front-each (IsNamed c.book) (x ∷ list) (greens_of c q) (Front-of_both (x ∷ list) (greens_of c q) (line_at c (top_of c)) front (greens-on_line c i.green.one_order i.replica.disk_behind i.net.seated q) le)
       (each-booked c (greens_of c q) (i.replica.made_once.in_greens q))
 
   -- a member has so many, or had as it left

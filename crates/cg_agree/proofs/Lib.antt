@@ -209,3 +209,8 @@ pub mod GreensFront
 pub mod SummariesInside
 pub mod SummaryOfSenderKept
 pub mod CopiesBooked
+pub mod LinesGreens
+pub mod GreenMembers
+pub mod LinesMade
+pub mod LinesFollow
+pub mod LinesBelowKept
