@@ -109,7 +109,7 @@ follows-rule old = record {
 pub takes-follow : (r : Replica) (list : List (Delivery Msg)) → FollowsGreens r.held (take_all list (begin r)).replica.held
 takes-follow r list = of-deliveries (λ t. FollowsGreens r.held t.replica.held) (λ a. Unit {0}) (follows-rule r.held) (begin r) list (anything list) (follows-first r.held)
 
-creates-same : (list : List Kind) (t : Turn) → SameMembers t.replica.held (fold create t list).replica.held
+pub creates-same : (list : List Kind) (t : Turn) → SameMembers t.replica.held (fold create t list).replica.held
 unfolding create
 creates-same [] t = record { greens = refl; members = refl; white = refl }
 creates-same (kind ∷ list) t = let rest = creates-same list (create t kind) in record { greens = rest.greens; members = rest.members; white = rest.white }

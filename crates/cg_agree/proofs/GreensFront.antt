@@ -67,25 +67,32 @@ turn-goes c b p part i seats pasts = at (seat_of b.world p) refl where
 
 -- ---- one replica's past changes
 
-past-goes : (c d : Chronicle) (change : Past → Past) (p : ℕ) → ((x : Past) → (change x).id ≡ x.id) → d.pasts ≡ changed_past change p c.pasts → greens-in (option_map change (past_of c p)) ≡ greens_of c p → GreensGoOn c d
-past-goes c d change p keeps pasts same q = same-front c d q (ap (λ xs. greens-in (find (λ (x : Past). x.id == q) xs)) pasts ∙ elim (cases_eq p q) [
+past-same : (c d : Chronicle) (change : Past → Past) (p : ℕ) → ((x : Past) → (change x).id ≡ x.id) → d.pasts ≡ changed_past change p c.pasts → greens-in (option_map change (past_of c p)) ≡ greens_of c p →
+    (q : ℕ) → greens_of d q ≡ greens_of c q
+past-same c d change p keeps pasts same q = ap (λ xs. greens-in (find (λ (x : Past). x.id == q) xs)) pasts ∙ elim (cases_eq p q) [
   | inl here ↦ subst (λ n. greens-in (find (λ (x : Past). x.id == n) (changed_past change p c.pasts)) ≡ greens_of c n) here (ap greens-in (past-here change keeps c p) ∙ same)
   | inr apart ↦ ap greens-in (past-there change keeps c p q apart)
-])
+]
 
-commit-goes : (c : Chronicle) (p : ℕ) (l : Life) → GreensGoOn c (commit_as c p l)
-commit-goes c p (Down disk green) = none-changed c c refl
-commit-goes c p (Up r disk) = past-goes c (commit_as c p (Up r disk)) written p (λ x. refl) refl (same (past_of c p)) where
+pub commit-same : (c : Chronicle) (p : ℕ) (l : Life) (q : ℕ) → greens_of (commit_as c p l) q ≡ greens_of c q
+commit-same c p (Down disk green) q = refl
+commit-same c p (Up r disk) q = past-same c (commit_as c p (Up r disk)) written p (λ x. refl) refl (same (past_of c p)) q where
   same : (o : Option Past) → greens-in (option_map written o) ≡ greens-in o
   same None = refl
   same (Some x) = refl
 
-crash-goes : (c : Chronicle) (p : ℕ) → greens_of c p ≡ stood_of c p → (l : Life) → GreensGoOn c (crash_as c p l)
-crash-goes c p agree (Down disk green) = none-changed c c refl
-crash-goes c p agree (Up r disk) = past-goes c (crash_as c p (Up r disk)) struck p (λ x. refl) refl (same (past_of c p) ∙ sym agree) where
+pub crash-same : (c : Chronicle) (p : ℕ) → greens_of c p ≡ stood_of c p → (l : Life) (q : ℕ) → greens_of (crash_as c p l) q ≡ greens_of c q
+crash-same c p agree (Down disk green) q = refl
+crash-same c p agree (Up r disk) q = past-same c (crash_as c p (Up r disk)) struck p (λ x. refl) refl (same (past_of c p) ∙ sym agree) q where
   same : (o : Option Past) → greens-in (option_map struck o) ≡ option_map_or (λ x. x.stood) o []
   same None = refl
   same (Some x) = refl
+
+commit-goes : (c : Chronicle) (p : ℕ) (l : Life) → GreensGoOn c (commit_as c p l)
+commit-goes c p l q = same-front c (commit_as c p l) q (commit-same c p l q)
+
+crash-goes : (c : Chronicle) (p : ℕ) → greens_of c p ≡ stood_of c p → (l : Life) → GreensGoOn c (crash_as c p l)
+crash-goes c p agree l q = same-front c (crash_as c p l) q (crash-same c p agree l q)
 
 recover-goes : (c : Chronicle) (l : Life) → GreensGoOn c (recover_as c l)
 recover-goes c (Up r disk) = none-changed c c refl

@@ -214,3 +214,5 @@ pub mod GreenMembers
 pub mod LinesMade
 pub mod LinesFollow
 pub mod LinesBelowKept
+pub mod TellersStill
+pub mod TellersKept
