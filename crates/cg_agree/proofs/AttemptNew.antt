@@ -1,15 +1,12 @@
 -- A turn that ends within an attempt began within it, with the same reds; or the attempt is new, and so is its record.
-use Rattle.std.proofs.Common.{◌⊎◌, ◌≡◌, ℕ, suc, Bool, true, false, cond, List, [], ◌∷◌, ◌++◌, fold, Option, Some, None, refl, sym, ap, ◌∙◌, subst, inl, inr, if◌then◌else◌, eq-eqb}
-use Rattle.std.specs.Prelude.{◌==◌}
+use Rattle.std.proofs.Common.{◌⊎◌, ◌≡◌, ℕ, suc, Bool, true, false, cond, List, [], ◌∷◌, ◌++◌, fold, Option, Some, None, refl, sym, ap, ◌∙◌, subst, inl, inr, eq-eqb}
 use Rattle.cg_group.specs.EachLaws.{Each}
 use Rattle.cg_base.specs.Sets.{has, is_within, with_member}
-use Rattle.cg_action.specs.declared.action.Action.{Action}
 use Rattle.cg_action.specs.declared.action.Kind.{Kind}
 use Rattle.cg_records.specs.declared.vulnerable.Vulnerable.{Vulnerable}
 use Rattle.cg_knowledge.specs.declared.summary.Summary.{Summary}
 use Rattle.cg_knowledge.specs.Members.{gone, senders}
 use Rattle.cg_knowledge.specs.Verdict.{decides}
-use Rattle.cg_plan.specs.declared.parts.Part.{Part}
 use Rattle.cg_plan.specs.Plan.{plan_of}
 use Rattle.cg_plan.specs.Progress.{is_done, turn_of}
 use Rattle.cg_wire.specs.declared.message.Msg.{Msg}
@@ -17,17 +14,16 @@ use Rattle.cg_wire.specs.declared.message.Msg.TheVariants.{Action as ActionMsg, 
 use Rattle.cg_group.specs.declared.delivery.Delivery.{Delivery}
 use Rattle.cg_group.specs.declared.delivery.Delivery.TheVariants.{Message, Transitional as TransitionalIn, Regular as RegularIn}
 use Rattle.cg_client.specs.Replica.{Held, State, RegPrim, TransPrim, ExchangeStates, ExchangeActions, Construct, No, Un, NonPrim, Left, Replica}
-use Rattle.cg_client.specs.Turn.{Turn, begin, with_held, go_to, send}
+use Rattle.cg_client.specs.Turn.{Turn, begin, with_held, go_to}
 use Rattle.cg_client.specs.Marks.{mark_red, mark_yellow, mark_green}
 use Rattle.cg_client.specs.Requests.{is_creating, create_kept, settle, empty_buffer, create, buffer, request_in, request}
 use Rattle.cg_client.specs.Summary.{enter_exchange}
 use Rattle.cg_client.specs.Install.{install}
-use Rattle.cg_prim.specs.TransPrim.{end_prim}
 use Rattle.cg_exchange.specs.PlanEnd.{take_over, attempt, decide, end_plan}
 use Rattle.cg_exchange.specs.ExchangeActions.{take_item, send_part, progress, go_on, is_next, exchange_actions_on_item}
 use Rattle.cg_exchange.specs.ExchangeStates.{is_usable, with_heard, exchange_states_on_summary}
-use Rattle.cg_construct.specs.Construct.{attempt_set, is_announced, construct_with, construct_on_cpc}
-use Rattle.cg_construct.specs.No.{no_record, no_with, no_on_cpc}
+use Rattle.cg_construct.specs.Construct.{attempt_set, is_announced, construct_with}
+use Rattle.cg_construct.specs.No.{no_with}
 use Rattle.cg_step.specs.Commit.{same_values}
 use Rattle.cg_step.specs.Step.{Input, Deliveries, Asks, replica_step, on_message, on_transitional, on_regular, take}
 use Rattle.cg_agree.specs.Fronts.{IsSomeWith}

@@ -1,5 +1,5 @@
 -- The book runs on and counts what each replica has created, behind each small step; who hasn't begun has nothing in it.
-use Rattle.std.proofs.Common.{◌≡◌, ℕ, zero, suc, ◌≤◌, max, Bool, true, false, cond, ◌&&◌, ◌||◌, List, [], ◌∷◌, ◌++◌, find, Option, Some, None, IfSome, refl, sym, ap, ◌∙◌, subst, arith, inl, inr, option_and_then, option_map, is_some, nat_lt}
+use Rattle.std.proofs.Common.{◌≡◌, ℕ, zero, suc, ◌≤◌, max, true, false, cond, ◌&&◌, ◌||◌, List, [], ◌∷◌, ◌++◌, find, Option, Some, None, IfSome, refl, sym, ap, ◌∙◌, subst, arith, inl, inr, option_and_then, option_map, is_some, nat_lt}
 use Rattle.std.specs.Prelude.{◌==◌, nat_le}
 use Rattle.std.specs.Option.{option_map_or}
 use Rattle.std.proofs.lemmas.Bool.{cases_Bool, cases_eq, cond-true, cond-false, and_parts, and_from, or_right, eq-eqb, lt-ltb, le-leb, leb-true, ne_eqb}
@@ -10,17 +10,17 @@ use Rattle.cg_base.specs.Cuts.{index_in}
 use Rattle.cg_base.specs.Ids.{same_id, names}
 use Rattle.cg_action.specs.declared.action.Action.{Action}
 use Rattle.cg_queue.specs.Queue.{names_of}
-use Rattle.cg_client.specs.Replica.{Held, Replica, NonPrim, created, fresh_held}
+use Rattle.cg_client.specs.Replica.{Held, Replica, NonPrim, created}
 use Rattle.cg_client.specs.Turn.{Turn, begin}
 use Rattle.cg_stored.specs.Stored.{stored_of, whiten, recover}
 use Rattle.cg_step.specs.Crash.{Disk, crash_now, new_disk, recovered, disk_recovered}
-use Rattle.cg_agree.specs.World.{Life, Up, Down, Seat, World, Snapshot, running, seat_of, replica_of, has_begun}
+use Rattle.cg_agree.specs.World.{Life, Up, Down, Seat, running, seat_of, replica_of, has_begun}
 use Rattle.cg_agree.specs.Attempts.{held_in}
 use Rattle.cg_agree.specs.Step.{joined, without_snapshot}
 use Rattle.cg_agree.specs.Chronicle.{Chronicle, no_chronicle}
 use Rattle.cg_agree.specs.Looks.{core_of, disk_held, on_disk, stood_of, copied_for, OfCores}
 use Rattle.cg_agree.specs.Small.{start, turning, turning_as, after_turn, commit_as, crash_as, recover_as, join_with}
-use Rattle.cg_agree.specs.FactsReplica.{run_on, cut_behind, GoesOn, IsAsOnDisk, IsCore}
+use Rattle.cg_agree.specs.FactsReplica.{run_on, GoesOn, IsAsOnDisk, IsCore}
 use Rattle.cg_agree.specs.Played.{IsWritten}
 use Rattle.cg_agree.proofs.RunMarks.{run-names}
 use Rattle.cg_agree.proofs.HeldMarks.{IsOneself}

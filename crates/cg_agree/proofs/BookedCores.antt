@@ -1,5 +1,5 @@
 -- That each action which a replica, its disk or a snapshot has is the one of its name, as a fact of all cores; and of all messages.
-use Rattle.std.proofs.Common.{◌≡◌, ℕ, ◌-◌, true, false, List, [], ◌∷◌, ◌++◌, drop, filter_map, Option, Some, None, IfSome, refl, sym, ap, ◌∙◌, subst, option_and_then, option_map, is_some}
+use Rattle.std.proofs.Common.{◌≡◌, ℕ, ◌-◌, true, false, List, [], ◌∷◌, ◌++◌, filter_map, Option, Some, None, IfSome, refl, sym, ap, ◌∙◌, subst, option_map, is_some}
 use Rattle.std.specs.Option.{option_map_or}
 use Rattle.std.specs.List.{cons_option}
 use Rattle.cg_group.specs.EachLaws.{Each, Each-append}
@@ -10,9 +10,9 @@ use Rattle.cg_wire.specs.declared.message.Msg.TheVariants.{Action as ActionMsg, 
 use Rattle.cg_group.specs.State.{Sent, unordered_of}
 use Rattle.cg_client.specs.Replica.{Held, Replica, NonPrim}
 use Rattle.cg_client.specs.Turn.{begin}
-use Rattle.cg_stored.specs.Stored.{stored_of, whiten, white_at, recover}
+use Rattle.cg_stored.specs.Stored.{whiten, white_at, recover}
 use Rattle.cg_step.specs.Recorded.{OfMessage}
-use Rattle.cg_agree.specs.World.{Seat, Snapshot, running, seat_of, replica_of, has_begun}
+use Rattle.cg_agree.specs.World.{Seat, Snapshot, seat_of, replica_of, has_begun}
 use Rattle.cg_agree.specs.Step.{joined}
 use Rattle.cg_agree.specs.Chronicle.{Past, Chronicle}
 use Rattle.cg_agree.specs.Fronts.{Front}

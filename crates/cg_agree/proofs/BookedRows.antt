@@ -1,5 +1,5 @@
 -- What holds of each action that comes holds of all that a replica holds and says through a turn.
-use Rattle.std.proofs.Common.{◌≡◌, ℕ, zero, suc, ◌-◌, Bool, true, false, not, List, [], ◌∷◌, ◌++◌, fold, filter, find, drop, flat_map, Option, Some, None, refl, sym, ap, ◌∙◌, subst, inl, inr, option_map, if◌then◌else◌, nat_lt}
+use Rattle.std.proofs.Common.{◌≡◌, ℕ, zero, suc, ◌-◌, Bool, not, List, [], ◌∷◌, ◌++◌, fold, find, drop, flat_map, Some, None, refl, sym, ◌∙◌, subst, option_map, if◌then◌else◌}
 use Rattle.std.specs.Prelude.{◌==◌, nat_le}
 use Rattle.std.specs.Option.{option_to_list}
 use Rattle.std.proofs.lemmas.Bool.{cond_both}
@@ -10,9 +10,8 @@ use Rattle.cg_base.specs.Lists.{at_place}
 use Rattle.cg_group.specs.EachLaws.{Each, Each-append, Each-filter}
 use Rattle.cg_action.specs.declared.action.Action.{Action}
 use Rattle.cg_action.specs.declared.action.Kind.{Kind}
-use Rattle.cg_queue.specs.Queue.{QueueView, Marks, Gaps, with_red, placed_red, without_action, marked_red, action_of}
+use Rattle.cg_queue.specs.Queue.{QueueView, Marks, Gaps, with_red, placed_red}
 use Rattle.cg_queue.specs.declared.mark.Mark.TheVariants.{Placed, Known}
-use Rattle.cg_plan.specs.declared.parts.Part.{Part}
 use Rattle.cg_plan.specs.declared.parts.Item.{Item}
 use Rattle.cg_plan.specs.declared.parts.Item.TheVariants.{Green, Red}
 use Rattle.cg_plan.specs.Items.{items_of}

@@ -1,8 +1,8 @@
 -- What a joiner is to begin with was made: it is a front of what some replica has green.
-use Rattle.std.proofs.Common.{◌⊎◌, ◌≡◌, ℕ, zero, suc, ◌≤◌, ◌<◌, max, Bool, true, false, cond, ◌||◌, List, [], ◌∷◌, map, fold, length, Option, Some, None, IfSome, refl, sym, ap, ◌∙◌, subst, arith, inl, inr, option_map, is_some}
+use Rattle.std.proofs.Common.{◌⊎◌, ◌≡◌, ℕ, zero, suc, ◌≤◌, max, true, false, ◌||◌, List, [], ◌∷◌, map, fold, length, Option, Some, None, IfSome, refl, sym, ap, ◌∙◌, subst, arith, inl, inr, option_map, is_some}
 use Rattle.std.specs.Prelude.{◌==◌}
 use Rattle.std.specs.Option.{option_map_or}
-use Rattle.std.proofs.lemmas.Bool.{cases_Bool, cases_eq, cases_lt, cond_both, eq-eqb, or_right}
+use Rattle.std.proofs.lemmas.Bool.{cases_lt, cond_both, eq-eqb, or_right}
 use Rattle.cg_group.specs.EachLaws.{Each}
 use Rattle.cg_base.specs.Lists.{greatest}
 use Rattle.cg_base.specs.Sets.{has}
@@ -10,10 +10,9 @@ use Rattle.cg_base.specs.Cuts.{index_in}
 use Rattle.cg_action.specs.declared.action.Action.{Action}
 use Rattle.cg_client.specs.Replica.{Held, Replica}
 use Rattle.cg_agree.specs.World.{Seat, Snapshot, seat_of, replica_of, has_begun}
-use Rattle.cg_agree.specs.Step.{joined}
 use Rattle.cg_agree.specs.Chronicle.{Past, Attempt, Chronicle}
 use Rattle.cg_agree.specs.Fronts.{Front}
-use Rattle.cg_agree.specs.Looks.{greens_of, stood_of, past_of, on_disk, disk_held, snapshot_of, copied_for, is_in, top_of, attempt_of, attempt_at, left_count}
+use Rattle.cg_agree.specs.Looks.{greens_of, stood_of, past_of, on_disk, disk_held, snapshot_of, copied_for, is_in, top_of, attempt_of, left_count}
 use Rattle.cg_agree.specs.Levels.{line_at, count_in, reached_at}
 use Rattle.cg_agree.specs.FactsNet.{Seated}
 use Rattle.cg_agree.specs.FactsReplica.{DiskBehind, MadeOnce}
@@ -23,7 +22,6 @@ use Rattle.cg_agree.specs.Played.{AtRest}
 use Rattle.cg_agree.specs.Small.{Small, small_step}
 use Rattle.cg_agree.specs.Smalls.{may_make}
 use Rattle.cg_agree.proofs.FrontFacts.{Front-of_both}
-use Rattle.cg_agree.proofs.HandSays.{find-holds}
 use Rattle.cg_agree.proofs.ReachWorld.{opened-at, opened-attempt}
 use Rattle.cg_agree.proofs.BookGrows.{IsNamed, cut_of}
 use Rattle.cg_agree.proofs.BookedCores.{JoinersBooked, each-booked, front-each}

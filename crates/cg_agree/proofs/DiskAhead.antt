@@ -1,8 +1,8 @@
 -- A turn that marks nothing but delivered actions red, and creates nothing: what is held goes on from what was held.
-use Rattle.std.proofs.Common.{◌≡◌, ℕ, zero, suc, ◌+◌, ◌-◌, ◌≤◌, max, Bool, true, false, not, ◌&&◌, ◌||◌, List, [], ◌∷◌, ◌++◌, fold, drop, length, Option, Some, None, refl, sym, ap, ap₂, ◌∙◌, subst, arith, inl, inr, eqb-true, nat_lt}
+use Rattle.std.proofs.Common.{◌≡◌, ℕ, zero, suc, ◌+◌, ◌-◌, ◌≤◌, max, Bool, true, false, not, ◌&&◌, ◌||◌, List, [], ◌∷◌, ◌++◌, fold, drop, length, Option, refl, sym, ap, ◌∙◌, subst, arith, inl, inr, eqb-true, nat_lt}
 use Rattle.std.specs.Prelude.{◌==◌}
 use Rattle.std.proofs.lemmas.Bool.{cases_eq, eq-eqb, ltb-false, and_parts}
-use Rattle.cg_group.specs.EachLaws.{Each, Each-all}
+use Rattle.cg_group.specs.EachLaws.{Each-all}
 use Rattle.cg_base.specs.declared.action_id.ActionId.{ActionId}
 use Rattle.cg_base.specs.Cuts.{index_in, raise}
 use Rattle.cg_base.specs.Ids.{same_id}
@@ -15,13 +15,13 @@ use Rattle.cg_queue.specs.declared.mark.Mark.TheVariants.{Placed, Known}
 use Rattle.cg_records.specs.declared.primary.Primary.{Primary}
 use Rattle.cg_records.specs.declared.vulnerable.Vulnerable.{Vulnerable}
 use Rattle.cg_records.specs.declared.yellow.Yellow.{Yellow}
-use Rattle.cg_client.specs.Replica.{Held, Replica, last_index, created}
+use Rattle.cg_client.specs.Replica.{Held, last_index, created}
 use Rattle.cg_client.specs.Turn.{Turn}
-use Rattle.cg_client.specs.Marks.{is_unmade, after_first, newly_known, marked, place_green}
+use Rattle.cg_client.specs.Marks.{is_unmade, after_first, marked, place_green}
 use Rattle.cg_client.specs.Summary.{redden, forget_own, own_to_red}
 use Rattle.cg_step.specs.Commit.{same_values, commits}
-use Rattle.cg_agree.specs.FactsReplica.{run_on, cut_behind, GoesOn}
-use Rattle.cg_agree.proofs.CutRaise.{Rising, same_name, index-same, index-other, index-rises, rising-raise}
+use Rattle.cg_agree.specs.FactsReplica.{run_on, GoesOn}
+use Rattle.cg_agree.proofs.CutRaise.{Rising, same_name, index-other, index-rises, rising-raise}
 use Rattle.cg_agree.proofs.RunMarks.{run-head, run-rest}
 use Rattle.cg_agree.proofs.HeldMarks.{are_of, are-after, own-after}
 use Rattle.cg_agree.proofs.HeldTurns.{created-behind}

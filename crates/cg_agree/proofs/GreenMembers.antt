@@ -1,21 +1,15 @@
 -- Through a turn the servers are what the greens make of them, and no green is discarded: whatever comes, and for every core.
-use Rattle.std.proofs.Common.{◌≡◌, ℕ, zero, suc, ◌+◌, ◌-◌, ◌≤◌, max, Bool, true, false, cond, List, [], ◌∷◌, ◌++◌, append_assoc, append-nil, drop, fold, length, length-append, Option, Some, None, IfSome, refl, sym, ap, ap₂, ◌∙◌, subst, arith, option_and_then, if◌then◌else◌}
+use Rattle.std.proofs.Common.{◌≡◌, ℕ, suc, ◌+◌, Bool, true, false, cond, List, [], ◌∷◌, ◌++◌, append_assoc, append-nil, drop, fold, length, length-append, refl, sym, ap, ap₂, ◌∙◌, arith, if◌then◌else◌}
 use Rattle.std.specs.Prelude.{◌==◌, nat_le}
-use Rattle.std.specs.Option.{unwrap_or}
 use Rattle.std.proofs.lemmas.Bool.{cond_both}
-use Rattle.cg_group.specs.EachLaws.{Each, Each-all}
-use Rattle.cg_base.specs.declared.weighted.Weighted.{Weighted}
+use Rattle.cg_group.specs.EachLaws.{Each-all}
 use Rattle.cg_base.specs.Cuts.{index_in}
 use Rattle.cg_action.specs.declared.action.Action.{Action}
 use Rattle.cg_action.specs.declared.action.Kind.{Kind}
-use Rattle.cg_members.specs.declared.server.Server.{Server}
 use Rattle.cg_members.specs.declared.members.Members.{Members}
-use Rattle.cg_members.specs.Servers.{is_server, is_among, line_of, least_line, white_line, starting, after_green, after_greens, members_of}
+use Rattle.cg_members.specs.Servers.{after_green, after_greens}
 use Rattle.cg_queue.specs.Queue.{Marks, Gaps, placed_red, green_count}
 use Rattle.cg_queue.specs.declared.mark.Mark.TheVariants.{Placed, Known}
-use Rattle.cg_records.specs.declared.primary.Primary.{Primary}
-use Rattle.cg_records.specs.declared.vulnerable.Vulnerable.{Vulnerable}
-use Rattle.cg_base.specs.declared.action_id.ActionId.{ActionId}
 use Rattle.cg_wire.specs.declared.message.Msg.{Msg}
 use Rattle.cg_group.specs.declared.delivery.Delivery.{Delivery}
 use Rattle.cg_client.specs.Replica.{Held, State, RegPrim, TransPrim, ExchangeStates, ExchangeActions, Construct, No, Un, NonPrim, Left, Replica}

@@ -1,8 +1,8 @@
 -- The greens of each replica go on at their end, behind each small step.
-use Rattle.std.proofs.Common.{◌≡◌, ℕ, Bool, true, false, cond, List, [], ◌∷◌, ◌++◌, find, Option, Some, None, refl, sym, ap, ◌∙◌, subst, inl, inr, option_map, is_some}
+use Rattle.std.proofs.Common.{◌≡◌, ℕ, true, false, List, [], ◌++◌, find, Option, Some, None, refl, sym, ap, ◌∙◌, subst, inl, inr, option_map, is_some}
 use Rattle.std.specs.Prelude.{◌==◌}
 use Rattle.std.specs.Option.{option_map_or}
-use Rattle.std.proofs.lemmas.Bool.{cases_eq, cond-true, cond-false, ne_eqb, eq-eqb, and_parts}
+use Rattle.std.proofs.lemmas.Bool.{cases_eq, cond-false, ne_eqb, and_parts}
 use Rattle.cg_base.specs.Text.{is_nil}
 use Rattle.cg_base.specs.Weights.{ids}
 use Rattle.cg_action.specs.declared.action.Action.{Action}
@@ -11,11 +11,11 @@ use Rattle.cg_client.specs.Turn.{Turn, begin}
 use Rattle.cg_client.specs.Requests.{settle}
 use Rattle.cg_step.specs.Crash.{Disk}
 use Rattle.cg_agree.specs.World.{Life, Up, Down, Seat, seat_of, replica_of, has_begun}
-use Rattle.cg_agree.specs.Chronicle.{Past, Chronicle, no_chronicle}
+use Rattle.cg_agree.specs.Chronicle.{Past, Chronicle}
 use Rattle.cg_agree.specs.Fronts.{Front}
 use Rattle.cg_agree.specs.Looks.{past_of, greens_of, stood_of, snapshot_of, copied_for}
 use Rattle.cg_agree.specs.Facts.{Invariant}
-use Rattle.cg_agree.specs.Played.{AtRest, IsWritten}
+use Rattle.cg_agree.specs.Played.{AtRest}
 use Rattle.cg_agree.specs.Small.{Small, Starts, Makes, Enters, Orders, Receives, Hands, Leaves, Asks, Settles, Commits, Crashes, Recovers, Copies, Joins, small_step, start, changed_past, written, struck, new_past, turning, turning_as, newly_green, after_turn, coming, handed_next, leaving, take_newest, take_next, take_parting, take_request, commit_as, crash_as, recover_as, copy_as, join_with}
 use Rattle.cg_agree.specs.Smalls.{may_make, is_set}
 use Rattle.cg_agree.proofs.FrontFacts.{Front-refl, Front-append}

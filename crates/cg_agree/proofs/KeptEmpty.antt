@@ -1,5 +1,5 @@
 -- Who creates keeps no request behind an event, and who has left keeps none; and what is held goes on through a replica's whole step.
-use Rattle.std.proofs.Common.{◌≡◌, ℕ, Bool, true, false, cond, List, [], ◌∷◌, ◌++◌, fold, Option, Some, None, refl, sym, ap, ◌∙◌, subst, if◌then◌else◌}
+use Rattle.std.proofs.Common.{◌≡◌, Bool, true, false, cond, List, [], ◌∷◌, ◌++◌, fold, refl, sym, ap, ◌∙◌, subst}
 use Rattle.cg_group.specs.EachLaws.{Each, Each-all}
 use Rattle.cg_action.specs.declared.action.Action.{Action}
 use Rattle.cg_action.specs.declared.action.Kind.{Kind}
@@ -18,7 +18,7 @@ use Rattle.cg_step.specs.Recorded.{OfMessage}
 use Rattle.cg_step.specs.Step.{Input, Deliveries, Asks, replica_step, take}
 use Rattle.cg_agree.specs.World.{is_left_state}
 use Rattle.cg_agree.specs.FactsReplica.{IsEmptyIn}
-use Rattle.cg_agree.proofs.TurnValues.{even-own_to_red, even-create_kept, even-create}
+use Rattle.cg_agree.proofs.TurnValues.{even-own_to_red}
 use Rattle.cg_agree.proofs.TurnRows.{IsRule, OfDelivery, of-deliveries}
 use Rattle.cg_agree.proofs.DiskAhead.{IsUnnoted, IsFurther, OwnRuns, StaysBehind, further-refl, nil-more, stays-rule}
 

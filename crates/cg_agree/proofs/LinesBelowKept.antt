@@ -1,18 +1,17 @@
 -- A server's line is no higher than its greens, in everybody's books: behind each small step.
-use Rattle.std.proofs.Common.{◌≡◌, ℕ, zero, suc, ◌+◌, ◌-◌, ◌≤◌, Bool, true, false, cond, ◌||◌, List, [], ◌∷◌, ◌++◌, append-nil, drop, find, fold, map, length, Option, Some, None, IfSome, refl, sym, ap, ap₂, ◌∙◌, subst, arith, inl, inr, option_and_then, option_map, is_some, eq-eqb, eqb-true}
+use Rattle.std.proofs.Common.{◌≡◌, ℕ, suc, ◌+◌, ◌≤◌, Bool, true, false, cond, ◌||◌, List, [], ◌∷◌, drop, find, fold, map, length, Option, Some, None, IfSome, refl, sym, ap, ◌∙◌, subst, arith, inl, inr, option_and_then, eq-eqb, eqb-true}
 use Rattle.std.specs.Prelude.{◌==◌}
 use Rattle.std.specs.Option.{option_map_or}
-use Rattle.std.proofs.lemmas.Bool.{cases_Bool, cond-true, and_parts, or_cases, or_right}
+use Rattle.std.proofs.lemmas.Bool.{cond-true, and_parts, or_cases, or_right}
 use Rattle.std.proofs.lemmas.List.{length-drop}
 use Rattle.cg_group.specs.EachLaws.{Each, Each-append, Each-weaker}
 use Rattle.cg_base.specs.declared.weighted.Weighted.{Weighted}
-use Rattle.cg_base.specs.Cuts.{index_in}
 use Rattle.cg_base.specs.Sets.{has}
 use Rattle.cg_base.specs.Text.{is_nil}
 use Rattle.cg_base.specs.Weights.{ids}
 use Rattle.cg_action.specs.declared.action.Action.{Action}
 use Rattle.cg_action.specs.declared.action.Kind.{Kind}
-use Rattle.cg_members.specs.Servers.{is_among, is_server, was_ever, line_of, first_line, starting, members_of}
+use Rattle.cg_members.specs.Servers.{is_among, was_ever, first_line, starting, members_of}
 use Rattle.cg_queue.specs.Queue.{green_count, names_of}
 use Rattle.cg_wire.specs.declared.message.Msg.{Msg}
 use Rattle.cg_group.specs.declared.delivery.Delivery.{Delivery}
@@ -23,18 +22,17 @@ use Rattle.cg_client.specs.Replica.{Held, State, RegPrim, TransPrim, ExchangeSta
 use Rattle.cg_client.specs.Turn.{Turn, begin}
 use Rattle.cg_client.specs.Requests.{is_creating, next_action, create, create_kept, empty_buffer, buffer, settle, request_in, request}
 use Rattle.cg_step.specs.Crash.{Disk, new_disk}
-use Rattle.cg_agree.specs.World.{Life, Up, Down, Seat, Snapshot, World, running, seat_of, replica_of, has_begun}
+use Rattle.cg_agree.specs.World.{Life, Up, Down, Seat, World, running, seat_of, replica_of, has_begun}
 use Rattle.cg_agree.specs.Step.{joined, name_also, begin_replica}
 use Rattle.cg_agree.specs.Chronicle.{Chronicle, no_chronicle}
 use Rattle.cg_agree.specs.Fronts.{Front}
-use Rattle.cg_agree.specs.Looks.{greens_of, stood_of, disk_held, snapshot_of, copied_for, top_of, OfCores}
+use Rattle.cg_agree.specs.Looks.{greens_of, stood_of, disk_held, snapshot_of, copied_for, top_of}
 use Rattle.cg_agree.specs.Levels.{line_at, reached_at}
-use Rattle.cg_agree.specs.FactsNet.{Seated}
-use Rattle.cg_agree.specs.FactsReplica.{run_on, AreBelow, IsLined, LinesBelow, IsCore, IsModeData, MadeOnce, DiskBehind}
+use Rattle.cg_agree.specs.FactsReplica.{run_on, AreBelow, IsLined, LinesBelow, IsCore, IsModeData}
 use Rattle.cg_agree.specs.FactsGreens.{OneOrder}
 use Rattle.cg_agree.specs.Facts.{Invariant}
 use Rattle.cg_agree.specs.Played.{AtRest}
-use Rattle.cg_agree.specs.Small.{Small, Starts, Makes, Enters, Orders, Receives, Hands, Leaves, Asks, Settles, Commits, Crashes, Recovers, Copies, Joins, small_step, start, turning, turning_as, after_turn, coming, handed_next, leaving, take_all, take_newest, take_next, take_parting, take_request, newest_conf, commit_as, crash_as, recover_as, copy_as, join_with}
+use Rattle.cg_agree.specs.Small.{Small, Starts, Makes, Enters, Orders, Receives, Hands, Leaves, Asks, Settles, Commits, Crashes, Recovers, Copies, Joins, small_step, start, turning, turning_as, coming, handed_next, leaving, take_all, take_newest, take_next, take_parting, take_request, newest_conf, commit_as, crash_as, recover_as, copy_as, join_with}
 use Rattle.cg_agree.specs.Smalls.{may_make, is_set}
 use Rattle.cg_agree.proofs.CoresKept.{seat-of}
 use Rattle.cg_agree.proofs.CoresSmall.{start-cores}
@@ -52,8 +50,8 @@ use Rattle.cg_agree.proofs.HeldMarks.{IsOneself}
 use Rattle.cg_agree.proofs.LinesTold.{first-lines}
 use Rattle.cg_agree.proofs.LinesFollow.{FollowsAll, NotStart, follow-kept}
 use Rattle.cg_agree.proofs.LinesMade.{below-each, each-below, lined}
-use Rattle.cg_agree.proofs.BookGrows.{IsNamed, cut_of}
-use Rattle.cg_agree.proofs.BookedCores.{JoinersBooked, each-booked, front-each}
+use Rattle.cg_agree.proofs.BookGrows.{IsNamed}
+use Rattle.cg_agree.proofs.BookedCores.{each-booked, front-each}
 use Rattle.cg_agree.proofs.CopiesBooked.{UnbegunMadeNone, greens-on_line, joiners-booked}
 use Rattle.cg_agree.proofs.MadeOnceKept.{made_once-kept}
 

@@ -1,43 +1,27 @@
 -- Servers are those of the greens, and the white count is below each line, in every core: behind each small step.
-use Rattle.std.proofs.Common.{◌≡◌, ℕ, zero, suc, ◌+◌, ◌-◌, ◌≤◌, ◌<◌, max, Bool, true, false, cond, not, List, [], ◌∷◌, ◌++◌, append-nil, drop, find, fold, map, length, Option, Some, None, IfSome, refl, sym, ap, ap₂, ◌∙◌, subst, arith, inl, inr, option_and_then, option_map, is_some, eq-eqb, eqb-true}
-use Rattle.std.specs.Prelude.{◌==◌}
-use Rattle.std.specs.Option.{option_map_or, unwrap_or}
-use Rattle.std.proofs.lemmas.Bool.{cases_Bool, cases_eq, cond-true, cond_both, and_parts, or_cases}
+use Rattle.std.proofs.Common.{◌≡◌, ℕ, suc, ◌+◌, ◌≤◌, true, false, List, [], ◌∷◌, ◌++◌, drop, length, Option, Some, None, IfSome, sym, ap, ap₂, ◌∙◌, subst, arith, option_and_then}
 use Rattle.std.proofs.lemmas.List.{length-drop}
-use Rattle.cg_group.specs.EachLaws.{Each, Each-append, Each-weaker}
 use Rattle.cg_base.specs.declared.weighted.Weighted.{Weighted}
-use Rattle.cg_base.specs.Cuts.{index_in}
-use Rattle.cg_base.specs.Sets.{has}
-use Rattle.cg_base.specs.Text.{is_nil}
-use Rattle.cg_base.specs.Weights.{ids}
 use Rattle.cg_action.specs.declared.action.Action.{Action}
-use Rattle.cg_action.specs.declared.action.Kind.{Kind}
 use Rattle.cg_members.specs.declared.members.Members.{Members}
-use Rattle.cg_members.specs.Servers.{is_among, is_server, was_ever, line_of, first_line, starting, after_greens, members_of}
+use Rattle.cg_members.specs.Servers.{is_server, line_of, starting, after_greens, members_of}
 use Rattle.cg_queue.specs.Queue.{green_count}
-use Rattle.cg_wire.specs.declared.message.Msg.{Msg}
-use Rattle.cg_group.specs.declared.delivery.Delivery.{Delivery}
 use Rattle.cg_group.specs.declared.delivery.Delivery.TheVariants.{Transitional as TransitionalIn, Regular as RegularIn}
 use Rattle.cg_group.specs.State.{configuration, home, delivered_to, regular_in, phase_of}
 use Rattle.cg_group.specs.Events.{delivery_at, deliveries_at}
-use Rattle.cg_client.specs.Replica.{Held, State, RegPrim, TransPrim, ExchangeStates, ExchangeActions, Construct, No, Un, NonPrim, Left, Replica, fresh_held}
+use Rattle.cg_client.specs.Replica.{Held, NonPrim, Replica}
 use Rattle.cg_client.specs.Turn.{Turn, begin}
-use Rattle.cg_client.specs.Requests.{is_creating, next_action, create, create_kept, empty_buffer, buffer, settle, request_in, request}
-use Rattle.cg_stored.specs.Stored.{whiten, white_at, recover}
-use Rattle.cg_step.specs.Crash.{Disk}
-use Rattle.cg_agree.specs.World.{Life, Up, Down, Seat, Snapshot, running, seat_of, replica_of, has_begun}
+use Rattle.cg_client.specs.Requests.{settle}
+use Rattle.cg_stored.specs.Stored.{whiten, recover}
+use Rattle.cg_agree.specs.World.{Seat, running, replica_of}
 use Rattle.cg_agree.specs.Step.{joined}
-use Rattle.cg_agree.specs.Chronicle.{Chronicle, no_chronicle}
-use Rattle.cg_agree.specs.Fronts.{Front}
-use Rattle.cg_agree.specs.Looks.{greens_of, stood_of, disk_held, snapshot_of, copied_for, top_of, OfCores}
-use Rattle.cg_agree.specs.Levels.{line_at, reached_at}
-use Rattle.cg_agree.specs.FactsReplica.{AreBelow, IsLined, LinesBelow, IsCore, MadeOnce, DiskBehind}
-use Rattle.cg_agree.specs.FactsGreens.{OneOrder}
+use Rattle.cg_agree.specs.Chronicle.{Chronicle}
+use Rattle.cg_agree.specs.Looks.{greens_of, stood_of, disk_held, snapshot_of, copied_for, OfCores}
+use Rattle.cg_agree.specs.FactsReplica.{IsLined, IsCore}
 use Rattle.cg_agree.specs.Facts.{Invariant}
-use Rattle.cg_agree.specs.Played.{AtRest}
-use Rattle.cg_agree.specs.Small.{Small, Starts, Makes, Enters, Orders, Receives, Hands, Leaves, Asks, Settles, Commits, Crashes, Recovers, Copies, Joins, small_step, newly_green, turning, turning_as, coming, handed_next, leaving, take_all, take_newest, take_next, take_parting, take_request, newest_conf}
-use Rattle.cg_agree.specs.Smalls.{may_make, is_set}
-use Rattle.cg_agree.proofs.CoresKept.{IsClosed, TurnKeeps, cores-weaker}
+use Rattle.cg_agree.specs.Small.{Small, Starts, Makes, Enters, Orders, Receives, Hands, Leaves, Asks, Settles, Commits, Crashes, Recovers, Copies, Joins, small_step, newly_green, take_newest, take_next, take_parting, take_request, newest_conf}
+use Rattle.cg_agree.specs.Smalls.{may_make}
+use Rattle.cg_agree.proofs.CoresKept.{IsClosed, TurnKeeps}
 use Rattle.cg_agree.proofs.CoresSmall.{StepKeeps, cores-kept, ready-of}
 use Rattle.cg_agree.proofs.GreenMembers.{FollowsGreens, greens-behind, own-same, takes-follow, settles-follow, asks-follow, newly-more}
 use Rattle.cg_agree.proofs.LinesGreens.{lines-above}

@@ -1,6 +1,6 @@
 -- A replica is at rest with its disk: what stands there is what it holds, but for reds, and who creates keeps no request. Its whole
 -- step ends so, and it begins so.
-use Rattle.std.proofs.Common.{◌≡◌, ℕ, suc, ◌-◌, ◌≤◌, Bool, true, false, List, [], ◌∷◌, ◌++◌, fold, drop, length, Option, Some, None, IfSome, refl, sym, ap, ◌∙◌, subst, arith, option_and_then, option_map, if◌then◌else◌}
+use Rattle.std.proofs.Common.{◌≡◌, ℕ, suc, ◌-◌, ◌≤◌, true, false, List, [], ◌∷◌, fold, drop, length, Option, Some, None, IfSome, refl, sym, ap, ◌∙◌, subst, arith, option_and_then, option_map, if◌then◌else◌}
 use Rattle.std.specs.Prelude.{◌==◌, nat_le}
 use Rattle.std.proofs.lemmas.Bool.{cond_both}
 use Rattle.cg_base.specs.Cuts.{index_in}
@@ -15,7 +15,7 @@ use Rattle.cg_client.specs.Summary.{redden, forget_own, own_to_red}
 use Rattle.cg_stored.specs.Stored.{stored_of, whiten, recover}
 use Rattle.cg_step.specs.Commit.{commits}
 use Rattle.cg_step.specs.Step.{Input, replica_step}
-use Rattle.cg_step.specs.Crash.{Disk, Ended, Runs, Crashes as EndsInCrash, whitened, end_event, recovered}
+use Rattle.cg_step.specs.Crash.{Disk, whitened, end_event, recovered}
 use Rattle.cg_agree.specs.World.{Life, Up, Down, Seat, running}
 use Rattle.cg_agree.specs.Looks.{on_disk}
 use Rattle.cg_agree.specs.FactsReplica.{GoesOn, IsAsOnDisk, IsEmptyIn}

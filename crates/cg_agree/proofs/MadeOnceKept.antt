@@ -1,12 +1,10 @@
 -- A name stands for one action, everywhere, behind each small step.
-use Rattle.std.proofs.Common.{◌≡◌, ℕ, zero, suc, ◌≤◌, Bool, true, false, cond, not, List, [], ◌∷◌, ◌++◌, find, length, append-nil, Option, Some, None, IfSome, refl, sym, ap, ap₂, ◌∙◌, subst, option_and_then, option_map, is_some, arith}
+use Rattle.std.proofs.Common.{◌≡◌, ℕ, zero, suc, ◌≤◌, Bool, true, false, cond, List, [], ◌∷◌, ◌++◌, find, length, append-nil, Option, Some, None, IfSome, refl, sym, ap, ◌∙◌, subst, option_and_then, option_map, arith}
 use Rattle.std.specs.Prelude.{◌==◌, slice_get}
 use Rattle.std.specs.Option.{option_map_or}
-use Rattle.std.proofs.lemmas.Bool.{and_parts, not-true}
+use Rattle.std.proofs.lemmas.Bool.{and_parts}
 use Rattle.cg_group.specs.EachLaws.{Each, Each-append, Each-weaker}
-use Rattle.cg_base.specs.declared.weighted.Weighted.{Weighted}
 use Rattle.cg_base.specs.Cuts.{index_in}
-use Rattle.cg_base.specs.Lists.{at_place}
 use Rattle.cg_base.specs.Text.{is_nil}
 use Rattle.cg_base.specs.Weights.{ids}
 use Rattle.cg_action.specs.declared.action.Action.{Action}
@@ -16,24 +14,22 @@ use Rattle.cg_wire.specs.declared.message.Msg.{Msg}
 use Rattle.cg_wire.specs.declared.message.Msg.TheVariants.{Action as ActionMsg, State as StateMsg, GreenItem, RedItem, Cpc}
 use Rattle.cg_group.specs.declared.delivery.Delivery.{Delivery}
 use Rattle.cg_group.specs.declared.delivery.Delivery.TheVariants.{Message, Transitional as TransitionalIn, Regular as RegularIn}
-use Rattle.cg_group.specs.State.{Sent, Configuration, GroupState, configuration, home, delivered_to, regular_in, phase_of, unordered_of}
+use Rattle.cg_group.specs.State.{Sent, Configuration, configuration, home, delivered_to, regular_in, phase_of, unordered_of}
 use Rattle.cg_group.specs.Events.{delivery_at, deliveries_at}
 use Rattle.cg_client.specs.Replica.{Held, State, RegPrim, TransPrim, ExchangeStates, ExchangeActions, Construct, No, Un, NonPrim, Left, Replica, created}
-use Rattle.cg_client.specs.Turn.{Turn, begin, with_held}
-use Rattle.cg_client.specs.Requests.{is_creating, create, create_kept, buffer, settle, request_in, request}
+use Rattle.cg_client.specs.Turn.{Turn, begin}
+use Rattle.cg_client.specs.Requests.{is_creating, create_kept, buffer, settle, request_in, request}
 use Rattle.cg_step.specs.Recorded.{OfMessage}
-use Rattle.cg_step.specs.Step.{take}
 use Rattle.cg_step.specs.Crash.{Disk}
-use Rattle.cg_agree.specs.World.{Life, Up, Down, Seat, Snapshot, running, seat_of, replica_of, has_begun}
+use Rattle.cg_agree.specs.World.{Life, Up, Down, Seat, Snapshot, running, seat_of, replica_of}
 use Rattle.cg_agree.specs.Attempts.{held_in}
 use Rattle.cg_agree.specs.Step.{joined}
-use Rattle.cg_agree.specs.Chronicle.{Chronicle, no_chronicle}
-use Rattle.cg_agree.specs.Looks.{greens_of, core_of, conf_of, ordered_in, snapshot_of, copied_for, OfCores}
-use Rattle.cg_agree.specs.FactsNet.{Seated}
-use Rattle.cg_agree.specs.FactsReplica.{run_on, cut_behind, DiskBehind, MadeOnce, IsCore, IsModeData}
+use Rattle.cg_agree.specs.Chronicle.{Chronicle}
+use Rattle.cg_agree.specs.Looks.{greens_of, core_of, ordered_in, snapshot_of, copied_for, OfCores}
+use Rattle.cg_agree.specs.FactsReplica.{run_on, cut_behind, MadeOnce, IsCore, IsModeData}
 use Rattle.cg_agree.specs.Facts.{Invariant}
 use Rattle.cg_agree.specs.Played.{AtRest}
-use Rattle.cg_agree.specs.Small.{Small, Starts, Makes, Enters, Orders, Receives, Hands, Leaves, Asks, Settles, Commits, Crashes, Recovers, Copies, Joins, small_step, start, newly_green, turning, turning_as, after_turn, take_all, coming, handed_next, leaving, take_request, take_newest, take_next, take_parting, newest_conf, commit_as, crash_as, recover_as, copy_as, join_with}
+use Rattle.cg_agree.specs.Small.{Small, Starts, Makes, Enters, Orders, Receives, Hands, Leaves, Asks, Settles, Commits, Crashes, Recovers, Copies, Joins, small_step, start, newly_green, turning, turning_as, take_all, coming, handed_next, leaving, take_request, take_newest, take_next, take_parting, newest_conf, commit_as, crash_as, recover_as, copy_as, join_with}
 use Rattle.cg_agree.specs.Smalls.{may_make, is_set}
 use Rattle.cg_agree.proofs.CutRaise.{behind-rises}
 use Rattle.cg_agree.proofs.RunFacts.{cut_behind-append}

@@ -1,13 +1,13 @@
 -- What holds of each message that is said holds of every message in the group, behind each small step.
-use Rattle.std.proofs.Common.{◌≡◌, ℕ, zero, suc, ◌≤◌, true, false, cond, not, List, [], ◌∷◌, ◌++◌, length, fold, Option, Some, None, refl, sym, ap, ◌∙◌, subst, arith, inl, inr, eqb-true}
+use Rattle.std.proofs.Common.{◌≡◌, ℕ, suc, true, cond, not, List, [], ◌∷◌, ◌++◌, fold, Option, Some, None, refl, sym, subst, inl, inr}
 use Rattle.std.specs.Prelude.{◌==◌}
 use Rattle.std.specs.Option.{option_map_or}
-use Rattle.std.proofs.lemmas.Bool.{cases_Bool, cond_both, cond-true, cond-false, and_parts, not-true}
+use Rattle.std.proofs.lemmas.Bool.{cond_both, and_parts, not-true}
 use Rattle.cg_base.specs.declared.weighted.Weighted.{Weighted}
 use Rattle.cg_base.specs.Weights.{ids}
 use Rattle.cg_wire.specs.declared.message.Msg.{Msg}
 use Rattle.cg_group.specs.declared.phase.Phase.TheVariants.{Alone, Regular, Transitional}
-use Rattle.cg_group.specs.State.{Sent, Configuration, Standing, GroupState, configuration, no_configuration, standing_of, unordered_of, regular_in, phase_of, set_standing, set_configuration, delivered_to}
+use Rattle.cg_group.specs.State.{Sent, Configuration, Standing, GroupState, configuration, standing_of, unordered_of, regular_in, phase_of, set_standing, set_configuration, delivered_to}
 use Rattle.cg_group.specs.Events.{come_up, go_down, send_from, send, send_all, order_from, order, receive, with_message, with_receipt, with_delivered, become_regular}
 use Rattle.cg_group.specs.EachLaws.{Each, Each-append}
 use Rattle.cg_group.specs.LookupLaws.{unordered_of-set, standing_of-down, standing_of-set_configuration}

@@ -1,17 +1,15 @@
 -- Before the start there is nothing to tell: the empty chronicle stands beside the empty world.
-use Rattle.std.proofs.Common.{◌≡◌, ℕ, zero, suc, ◌≤◌, ◌<◌, true, false, List, [], ◌∷◌, ◌++◌, length, filter_map, Option, None, refl, sym, ap, ap₂, ◌∙◌, subst, arith, IsTrue}
+use Rattle.std.proofs.Common.{◌≡◌, ℕ, zero, suc, true, false, List, [], ◌++◌, length, filter_map, refl, sym, ap, ap₂, ◌∙◌, subst, arith}
 use Rattle.cg_base.specs.Sets.{has}
-use Rattle.cg_action.specs.declared.action.Action.{Action}
 use Rattle.cg_knowledge.specs.Members.{senders, remaining}
 use Rattle.cg_wire.specs.declared.message.Msg.{Msg}
 use Rattle.cg_group.specs.State.{Sent, Configuration, configuration, no_configuration, standing_of, has_received}
 use Rattle.cg_agree.specs.World.{no_world}
-use Rattle.cg_agree.specs.Chronicle.{Chronicle, no_chronicle}
+use Rattle.cg_agree.specs.Chronicle.{no_chronicle}
 use Rattle.cg_agree.specs.Looks.{conf_of, members_in, ordered_in, placed_of, waiting_in, said_in, is_regular_in}
 use Rattle.cg_agree.specs.Talk.{talk_of, no_talk, is_legal, announcer_in, act_in, action_in}
-use Rattle.cg_agree.specs.FactsLists.{ListFacts}
-use Rattle.cg_agree.specs.FactsNet.{Seated, PhaseSound, ReceiptsInside, NetFacts}
-use Rattle.cg_agree.specs.FactsTalk.{TalkLegal, AreTold, whole_talk, TalkFacts}
+use Rattle.cg_agree.specs.FactsNet.{NetFacts}
+use Rattle.cg_agree.specs.FactsTalk.{AreTold, whole_talk, TalkFacts}
 use Rattle.cg_agree.specs.FactsReplica.{AreBooked, ReplicaFacts}
 use Rattle.cg_agree.specs.FactsExchange.{ExchangeFacts}
 use Rattle.cg_agree.specs.FactsAttempts.{AttemptFacts}

@@ -1,41 +1,38 @@
 -- Behind each event every replica is at rest with its disk, where it was before it.
-use Rattle.std.proofs.Common.{◌⊎◌, ◌≡◌, ℕ, zero, suc, ◌+◌, ◌≤◌, min, Bool, true, false, cond, List, [], ◌∷◌, ◌++◌, map, flat_map, fold, find, length, Option, Some, None, IfSome, refl, sym, ap, ◌∙◌, subst, inl, inr, option_and_then, if◌then◌else◌}
+use Rattle.std.proofs.Common.{◌≡◌, ℕ, zero, suc, ◌+◌, ◌≤◌, min, false, List, [], ◌∷◌, ◌++◌, map, fold, find, length, Option, Some, None, refl, sym, ap, subst, inl, inr, option_and_then}
 use Rattle.std.specs.Prelude.{◌==◌}
 use Rattle.std.specs.Option.{option_map_or}
 use Rattle.std.proofs.lemmas.Bool.{cond_both}
 use Rattle.cg_base.specs.declared.weighted.Weighted.{Weighted}
 use Rattle.cg_base.specs.Lists.{at_place, above_up_to}
-use Rattle.cg_base.specs.Sets.{IsSet}
 use Rattle.cg_base.specs.Weights.{ids}
 use Rattle.cg_action.specs.declared.action.Action.{Action}
 use Rattle.cg_action.specs.declared.action.Kind.{Kind}
 use Rattle.cg_action.specs.declared.action.Kind.TheVariants.{Update, Join as JoinKind, Leave as LeaveKind}
 use Rattle.cg_wire.specs.declared.message.Msg.{Msg}
 use Rattle.cg_group.specs.declared.delivery.Handed.{Handed}
-use Rattle.cg_group.specs.declared.delivery.Delivery.{Delivery}
 use Rattle.cg_group.specs.declared.delivery.Delivery.TheVariants.{Message, Transitional as TransitionalIn, Regular as RegularIn}
 use Rattle.cg_group.specs.State.{Sent, Configuration, GroupState, configuration, regular_in, phase_of, delivered_to, home}
-use Rattle.cg_group.specs.Events.{Outcome, delivery_at, deliveries_at, transitional_places, furthest, handed_in_split, deliver, split, merge}
+use Rattle.cg_group.specs.Events.{delivery_at, deliveries_at, transitional_places, furthest, handed_in_split, deliver, split, merge}
 use Rattle.cg_group.specs.EachLaws.{Each, Each-append}
 use Rattle.cg_client.specs.Replica.{Held, Replica, fresh}
-use Rattle.cg_step.specs.Step.{Input, Deliveries, Asks as AsksOf, replica_step}
-use Rattle.cg_step.specs.Crash.{Disk, FailOnce, StopWith, Strike, crash_now, new_disk, recovered, disk_recovered}
+use Rattle.cg_step.specs.Step.{Input, Deliveries, Asks as AsksOf}
+use Rattle.cg_step.specs.Crash.{FailOnce, StopWith, Strike, crash_now, new_disk, recovered, disk_recovered}
 use Rattle.cg_schedule.specs.declared.event.Event.{Event}
 use Rattle.cg_schedule.specs.declared.event.Event.TheVariants.{Start, Split, Merge, Request, Weak, Dirty, Order, Recover, Show, ShowOrder, Gather, End, Receive, Deliver, Rounds, Stop, Fail, Join, Leave, Transfer}
-use Rattle.cg_agree.specs.World.{Life, Up, Down, Seat, World, running, seat_of, replica_of, set_life, bring_up, bring_down, Snapshot}
+use Rattle.cg_agree.specs.World.{Life, Up, Down, Seat, World, running, seat_of, replica_of, set_life, bring_up, Snapshot}
 use Rattle.cg_agree.specs.Show.{ended}
 use Rattle.cg_agree.specs.Run.{MayStand}
 use Rattle.cg_agree.specs.Levels.{is_record_of}
-use Rattle.cg_agree.specs.Step.{quietly, hand_over, hand, hand_out, ask, name_also, begin_replica, arm_at, arm, crash_at, stop, recover_from, recover, joined, piece_count, snapshot_for, without_snapshot, with_pieces, take_pieces, transfer, happens, world_step}
+use Rattle.cg_agree.specs.Step.{quietly, hand_out, ask, name_also, begin_replica, arm_at, arm, crash_at, recover_from, recover, joined, piece_count, snapshot_for, without_snapshot, with_pieces, take_pieces, transfer, happens, world_step}
 use Rattle.cg_agree.specs.FactsLists.{IsRising}
 use Rattle.cg_agree.proofs.ChronicleFacts.{seat_of-set}
-use Rattle.cg_agree.proofs.HeldMarks.{IsOneself, rising-red}
+use Rattle.cg_agree.proofs.HeldMarks.{IsOneself}
 use Rattle.cg_agree.proofs.MadeSplit.{rising-set-list}
-use Rattle.cg_agree.proofs.TurnWorlds.{up_seat}
 use Rattle.cg_agree.proofs.DiskAhead.{OwnRuns}
 use Rattle.cg_agree.proofs.AttemptNew.{HasNoRecordYet, IsNewConf, IsNewIn}
 use Rattle.cg_agree.proofs.LivesRest.{LifeRests, SeatRests, turn-rests, recovered-rests, begun-rests}
-use Rattle.cg_agree.proofs.WorldTurns.{TakesTurn, IsBehind, hand-behind, from-same, handed-behind}
+use Rattle.cg_agree.proofs.WorldTurns.{IsBehind, hand-behind, from-same, handed-behind}
 
 -- there are greens of which a replica holds what they make
 pub record IsCoreOf (start : List Weighted) (h : Held) : Type 0 where

@@ -1,45 +1,31 @@
 -- Who told a summary has all of it still; and in its configuration it knows all that it knew: behind each small step.
-use Rattle.std.proofs.Common.{◌≡◌, ℕ, zero, suc, ◌≤◌, ◌<◌, Bool, true, false, cond, not, ◌&&◌, List, [], ◌∷◌, ◌++◌, find, length, Option, Some, None, IfSome, refl, sym, ap, ap₂, ◌∙◌, subst, arith, inl, inr, option_and_then, option_map, is_some, eq-eqb, eqb-true}
+use Rattle.std.proofs.Common.{◌≡◌, ℕ, ◌<◌, Bool, true, false, cond, not, List, [], ◌∷◌, find, Option, Some, None, IfSome, refl, sym, ap, ◌∙◌, subst, inl, inr, option_and_then, eq-eqb}
 use Rattle.std.specs.Prelude.{◌==◌}
 use Rattle.std.specs.Option.{option_map_or}
-use Rattle.std.proofs.lemmas.Bool.{cases_Bool, cases_eq, cond-true, cond-false, and_parts, ne_eqb, not-true}
+use Rattle.std.proofs.lemmas.Bool.{cases_eq, cond-true, cond-false, ne_eqb}
 use Rattle.cg_group.specs.EachLaws.{Each, Each-append}
-use Rattle.cg_base.specs.Cuts.{index_in}
 use Rattle.cg_base.specs.Lists.{at_place}
-use Rattle.cg_action.specs.declared.action.Action.{Action}
-use Rattle.cg_action.specs.declared.action.Kind.{Kind}
 use Rattle.cg_wire.specs.declared.message.Msg.{Msg}
-use Rattle.cg_group.specs.declared.delivery.Delivery.{Delivery}
-use Rattle.cg_group.specs.declared.delivery.Delivery.TheVariants.{Message, Transitional as TransitionalIn, Regular as RegularIn}
+use Rattle.cg_group.specs.declared.delivery.Delivery.TheVariants.{Message}
 use Rattle.cg_group.specs.declared.phase.Phase.{Phase}
 use Rattle.cg_group.specs.declared.phase.Phase.TheVariants.{Down as DownPhase, Alone, Regular, Transitional}
-use Rattle.cg_group.specs.State.{Sent, Configuration, GroupState, configuration, home, delivered_to, regular_in, phase_of, is_regular}
+use Rattle.cg_group.specs.State.{Sent, Configuration, regular_in, phase_of}
 use Rattle.cg_group.specs.Events.{delivery_at, deliveries_at}
-use Rattle.cg_client.specs.Replica.{Held, Replica, created}
+use Rattle.cg_client.specs.Replica.{Replica}
 use Rattle.cg_client.specs.Turn.{Turn, begin}
-use Rattle.cg_client.specs.Requests.{settle}
 use Rattle.cg_stored.specs.Stored.{stored_of, whiten}
 use Rattle.cg_step.specs.Crash.{Disk, whitened, crash_now}
-use Rattle.cg_agree.specs.World.{Life, Up, Down, Seat, running, seat_of, replica_of, has_begun}
-use Rattle.cg_agree.specs.Chronicle.{Told, Chronicle, no_chronicle}
-use Rattle.cg_agree.specs.Fronts.{Front}
-use Rattle.cg_agree.specs.Looks.{greens_of, told_in, core_of, is_at, is_in, ordered_in}
+use Rattle.cg_agree.specs.World.{Life, Up, Down, Seat, running, seat_of, replica_of}
+use Rattle.cg_agree.specs.Chronicle.{Chronicle}
+use Rattle.cg_agree.specs.Looks.{greens_of, is_at, is_in}
 use Rattle.cg_agree.specs.FactsReplica.{IsCore}
-use Rattle.cg_agree.specs.FactsExchange.{IsOutdone, KnowsAsMuch, SummaryOfSender}
 use Rattle.cg_agree.specs.Facts.{Invariant}
-use Rattle.cg_agree.specs.Played.{AtRest}
-use Rattle.cg_agree.specs.Small.{Small, Starts, Makes, Enters, Orders, Receives, Hands, Leaves, Asks, Settles, Commits, Crashes, Recovers, Copies, Joins, small_step, turning, turning_as, after_turn, coming, handed_next, leaving, take_all, take_newest, take_next, take_parting, take_request, newest_conf, commit_as, crash_as, recover_as, copy_as, join_with}
-use Rattle.cg_agree.specs.Smalls.{may_make, is_running, is_set}
-use Rattle.cg_agree.proofs.HeldMarks.{IsOneself}
-use Rattle.cg_agree.proofs.AttemptSteps.{group-of}
-use Rattle.cg_agree.proofs.BegunKept.{nothing-before}
-use Rattle.cg_agree.proofs.GroupKept.{orders-conf, receives-conf, leaving-regular}
-use Rattle.cg_agree.proofs.NextThere.{orders-now, receives-now}
-use Rattle.cg_agree.proofs.OneSteps.{OneStep, turns-step, hands-step, leaves-step, commits-step, copies-step, crashes-step, recovers-step, joins-step, may-join}
+use Rattle.cg_agree.specs.Small.{turning, turning_as, after_turn, commit_as, crash_as}
+use Rattle.cg_agree.proofs.OneSteps.{OneStep}
 use Rattle.cg_agree.proofs.ChronicleFacts.{seat_of-set}
 use Rattle.cg_agree.proofs.CoresKept.{seat-of}
 use Rattle.cg_agree.proofs.CreatedKept.{HasCreated, created-first}
-use Rattle.cg_agree.proofs.KnowsOn.{IsInside, GoesOnKnowing, knowing-same, knows-on, takes-knowing, settles-knowing, asks-knowing, whitened-knowing}
+use Rattle.cg_agree.proofs.KnowsOn.{IsInside, GoesOnKnowing, knowing-same, whitened-knowing}
 
 -- ---- the replica and its phase before the step
 

@@ -1,8 +1,8 @@
 -- A summary fits the greens that its sender had, and what it says of primary components stands: behind each small step.
-use Rattle.std.proofs.Common.{◌≡◌, ℕ, zero, suc, ◌+◌, ◌-◌, ◌≤◌, ◌<◌, Bool, true, false, cond, ◌&&◌, List, [], ◌∷◌, ◌++◌, append-nil, drop, length, length-append, Option, Some, None, IfSome, refl, sym, ap, ap₂, ◌∙◌, subst, arith, inl, inr, option_and_then, option_map, eqb-true, eq-eqb}
+use Rattle.std.proofs.Common.{◌≡◌, ℕ, zero, suc, ◌+◌, ◌≤◌, ◌<◌, true, false, cond, ◌&&◌, List, [], ◌∷◌, ◌++◌, append-nil, drop, length, length-append, Option, Some, None, IfSome, refl, sym, ap, ap₂, ◌∙◌, subst, arith, inl, inr, option_and_then, eqb-true, eq-eqb}
 use Rattle.std.specs.Prelude.{◌==◌}
 use Rattle.std.specs.Option.{option_map_or}
-use Rattle.std.proofs.lemmas.Bool.{cases_Bool, cases_eq, cases_lt, cond-true, cond-false, ne_eqb, and_parts}
+use Rattle.std.proofs.lemmas.Bool.{cases_Bool, cases_lt, cond-true, cond-false, ne_eqb, and_parts}
 use Rattle.std.proofs.lemmas.List.{length-drop}
 use Rattle.cg_base.specs.Cuts.{index_in}
 use Rattle.cg_base.specs.Lists.{at_place}
@@ -10,27 +10,22 @@ use Rattle.cg_base.specs.Weights.{ids}
 use Rattle.cg_base.specs.Text.{is_nil}
 use Rattle.cg_action.specs.declared.action.Action.{Action}
 use Rattle.cg_members.specs.Servers.{members_of}
-use Rattle.cg_queue.specs.Queue.{green_count, names_of}
+use Rattle.cg_queue.specs.Queue.{names_of}
 use Rattle.cg_records.specs.declared.primary.Primary.{Primary}
 use Rattle.cg_records.specs.declared.vulnerable.Vulnerable.{Vulnerable}
 use Rattle.cg_wire.specs.declared.message.Msg.{Msg}
 use Rattle.cg_group.specs.State.{Configuration, configuration, no_configuration}
 use Rattle.cg_group.specs.PlaceLaws.{at_place-past}
 use Rattle.cg_client.specs.Replica.{Held, State, RegPrim, TransPrim, ExchangeStates, ExchangeActions, Construct, No, Un, NonPrim, Left, Replica}
-use Rattle.cg_client.specs.Turn.{Turn, begin}
 use Rattle.cg_client.specs.Summary.{summary_of}
-use Rattle.cg_step.specs.Crash.{Disk}
-use Rattle.cg_agree.specs.World.{Life, Up, Down, Seat, running, seat_of, replica_of}
-use Rattle.cg_agree.specs.Chronicle.{Told, Attempt, Chronicle, no_chronicle}
+use Rattle.cg_agree.specs.World.{Up, Seat, running, seat_of, replica_of}
+use Rattle.cg_agree.specs.Chronicle.{Told, Attempt, Chronicle}
 use Rattle.cg_agree.specs.Fronts.{Front, IsSomeWith}
 use Rattle.cg_agree.specs.Looks.{greens_of, told_in, ordered_in, is_member, top_of, no_attempt, attempt_of, attempt_at, installation}
 use Rattle.cg_agree.specs.Levels.{is_installed, prim_of, prim_at}
-use Rattle.cg_agree.specs.FactsNet.{Seated}
-use Rattle.cg_agree.specs.FactsReplica.{IsCore, cut_behind}
 use Rattle.cg_agree.specs.FactsExchange.{IsRecord, HasRecord, IsSummary, KnowsLevels}
-use Rattle.cg_agree.specs.FactsAttempts.{LevelsStand}
 use Rattle.cg_agree.specs.Facts.{Invariant}
-use Rattle.cg_agree.specs.Small.{Small, Starts, Makes, Enters, Orders, Receives, Hands, Leaves, Asks, Settles, Commits, Crashes, Recovers, Copies, Joins, small_step, coming, take_newest, newest_conf, newly_green, after_turn}
+use Rattle.cg_agree.specs.Small.{Small, Starts, Makes, Enters, Orders, Receives, Hands, Leaves, Asks, Settles, Commits, Crashes, Recovers, Copies, Joins, small_step, coming, newest_conf}
 use Rattle.cg_agree.specs.Smalls.{may_make, is_set}
 use Rattle.cg_agree.proofs.CutRaise.{behind-rises}
 use Rattle.cg_agree.proofs.HeldMarks.{IsOneself, rising-green}
@@ -42,14 +37,13 @@ use Rattle.cg_agree.proofs.HandSays.{find-holds}
 use Rattle.cg_agree.proofs.DeadKept.{said-attempt}
 use Rattle.cg_agree.proofs.BegunKept.{nothing-before}
 use Rattle.cg_agree.proofs.ToldKept.{IsUntold, told-same, told_in-same}
-use Rattle.cg_agree.proofs.PastKept.{EntersNow, enters-now, entry_turn, entry_told, enters-is, told_in-enters, summary-id}
+use Rattle.cg_agree.proofs.PastKept.{EntersNow, enters-now, entry_turn, entry_told, enters-is, told_in-enters}
 use Rattle.cg_agree.proofs.EntryGreens.{entry-greens, nothing-new}
 use Rattle.cg_agree.proofs.TurnParts.{record_left, HasCome, newest-come}
 use Rattle.cg_agree.proofs.LevelsKept.{start-kept, prim-kept, levels_stand-kept}
-use Rattle.cg_agree.proofs.SameAttempt.{SameAttempt}
 use Rattle.cg_agree.proofs.ReachWorld.{levels-kept, level-kept}
 use Rattle.cg_agree.proofs.AttemptsGrow.{attempts-grow}
-use Rattle.cg_agree.proofs.RecordKept.{recorded-later, record-kept}
+use Rattle.cg_agree.proofs.RecordKept.{recorded-later}
 
 -- ---- what was told stays, and what is told by one that enters
 

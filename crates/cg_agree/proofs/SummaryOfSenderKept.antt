@@ -1,33 +1,30 @@
 -- A summary is of its sender, as it was: behind each small step.
-use Rattle.std.proofs.Common.{◌≡◌, ℕ, zero, suc, ◌≤◌, ◌<◌, max, Bool, true, false, cond, not, ◌&&◌, List, [], ◌∷◌, find, length, Option, Some, None, IfSome, refl, sym, ap, ap₂, ◌∙◌, subst, arith, inl, inr, option_and_then, option_map, is_some, is_none, eq-eqb, eqb-true}
+use Rattle.std.proofs.Common.{◌≡◌, ℕ, suc, ◌<◌, max, true, false, cond, not, [], ◌∷◌, Option, Some, None, IfSome, refl, sym, ap, ap₂, ◌∙◌, subst, arith, inl, inr, option_and_then, option_map, is_some, is_none, eq-eqb, eqb-true}
 use Rattle.std.specs.Prelude.{◌==◌}
 use Rattle.std.specs.Option.{option_map_or}
-use Rattle.std.proofs.lemmas.Bool.{cases_Bool, cases_eq, cases_lt, cond-true, cond-false, and_parts, and_from, ne_eqb, not-true}
+use Rattle.std.proofs.lemmas.Bool.{cases_eq, cases_lt, cond-true, cond-false, and_parts, ne_eqb, not-true}
 use Rattle.cg_base.specs.Cuts.{index_in}
-use Rattle.cg_base.specs.Sets.{has}
 use Rattle.cg_base.specs.Weights.{ids}
 use Rattle.cg_base.specs.Text.{is_nil}
-use Rattle.cg_group.specs.declared.phase.Phase.{Phase}
-use Rattle.cg_group.specs.declared.phase.Phase.TheVariants.{Down as DownPhase, Alone, Regular, Transitional}
-use Rattle.cg_group.specs.State.{Configuration, configuration, home, delivered_to, regular_in, phase_of}
+use Rattle.cg_group.specs.declared.phase.Phase.TheVariants.{Down as DownPhase, Alone, Regular}
+use Rattle.cg_group.specs.State.{configuration, home, delivered_to, regular_in, phase_of}
 use Rattle.cg_group.specs.Events.{come_up, delivery_at, deliveries_at}
 use Rattle.cg_group.specs.declared.delivery.Delivery.TheVariants.{Transitional as TransitionalIn}
 use Rattle.cg_client.specs.Replica.{Held, State, ExchangeStates, Replica, last_index, created}
-use Rattle.cg_client.specs.Turn.{Turn, begin}
 use Rattle.cg_client.specs.Requests.{settle}
 use Rattle.cg_client.specs.Summary.{summary_of}
-use Rattle.cg_step.specs.Crash.{Disk, new_disk, recovered, disk_recovered}
+use Rattle.cg_step.specs.Crash.{new_disk, recovered, disk_recovered}
 use Rattle.cg_agree.specs.World.{Life, Up, Down, Seat, running, seat_of, replica_of, has_begun}
 use Rattle.cg_agree.specs.Attempts.{held_in}
 use Rattle.cg_agree.specs.Step.{joined, without_snapshot}
-use Rattle.cg_agree.specs.Chronicle.{Told, Chronicle, no_chronicle}
+use Rattle.cg_agree.specs.Chronicle.{Told, Chronicle}
 use Rattle.cg_agree.specs.Fronts.{Front}
-use Rattle.cg_agree.specs.Looks.{greens_of, told_in, core_of, snapshot_of, is_at, is_in, is_member, on_disk, disk_held}
+use Rattle.cg_agree.specs.Looks.{greens_of, told_in, core_of, snapshot_of, is_at, is_in, is_member, on_disk}
 use Rattle.cg_agree.specs.FactsReplica.{HasModeData, IsModeData}
 use Rattle.cg_agree.specs.FactsExchange.{IsOutdone, HasMadeNothing, KnowsAsMuch, SummaryOfSender}
 use Rattle.cg_agree.specs.Facts.{Invariant}
 use Rattle.cg_agree.specs.Played.{AtRest}
-use Rattle.cg_agree.specs.Small.{Small, Starts, Makes, Enters, Orders, Receives, Hands, Leaves, Asks, Settles, Commits, Crashes, Recovers, Copies, Joins, small_step, coming, handed_next, leaving, take_newest, take_next, take_parting, take_request, newest_conf, commit_as, crash_as, recover_as, copy_as, join_with}
+use Rattle.cg_agree.specs.Small.{Small, Starts, Makes, Enters, Orders, Receives, Hands, Leaves, Asks, Settles, Commits, Crashes, Recovers, Copies, Joins, small_step, handed_next, leaving, take_next, take_parting, take_request, newest_conf, commit_as, crash_as, recover_as, copy_as, join_with}
 use Rattle.cg_agree.specs.Smalls.{may_make, is_running, is_set}
 use Rattle.cg_agree.proofs.FrontFacts.{Front-refl, Front-trans}
 use Rattle.cg_agree.proofs.ChronicleFacts.{seat_of-set}
@@ -49,7 +46,7 @@ use Rattle.cg_agree.proofs.BookedCores.{JoinersBooked}
 use Rattle.cg_agree.proofs.CopiesBooked.{UnbegunMadeNone, joiners-booked}
 use Rattle.cg_agree.proofs.MadeOnceKept.{created-grows}
 use Rattle.cg_agree.proofs.KnowsOn.{knows-on, takes-knowing, settles-knowing, asks-knowing}
-use Rattle.cg_agree.proofs.SummariesKept.{told-by, new_held, up-entered, greens-entered, fits-kept, knows-kept}
+use Rattle.cg_agree.proofs.SummariesKept.{told-by, up-entered, greens-entered, fits-kept, knows-kept}
 use Rattle.cg_agree.proofs.SummariesInside.{LivesOn, Goal, goal-same, goal-some, lives-same, in-same, in-one, lives-turning, parted-in, inside-place, inside-places, first-of, commit-goal, crash-goal, alone-goal}
 
 never : {A : Type 0} → false ≡ true → A

@@ -1,12 +1,11 @@
 -- Who told something in a configuration in which nothing has a place yet, and in no later one, has the greens that it had then: behind each
 -- small step.
-use Rattle.std.proofs.Common.{◌≡◌, ℕ, zero, suc, ◌+◌, ◌≤◌, ◌<◌, Bool, true, false, cond, not, ◌&&◌, List, [], ◌∷◌, ◌++◌, length, Option, Some, None, IfSome, refl, sym, ap, ap₂, ◌∙◌, subst, arith, inl, inr, option_and_then, eqb-true}
+use Rattle.std.proofs.Common.{◌≡◌, ℕ, ◌<◌, Bool, true, false, cond, not, ◌&&◌, List, [], ◌∷◌, ◌++◌, length, Option, Some, None, refl, sym, ap, ◌∙◌, subst, arith, inl, inr, option_and_then, eqb-true}
 use Rattle.std.specs.Prelude.{◌==◌}
 use Rattle.std.specs.Option.{option_map_or}
-use Rattle.std.proofs.lemmas.Bool.{cases_Bool, cases_eq, cases_lt, cond-true, cond-false, and_parts, not-true}
+use Rattle.std.proofs.lemmas.Bool.{cases_Bool, cond-true, cond-false, and_parts, not-true}
 use Rattle.cg_base.specs.Weights.{ids}
 use Rattle.cg_base.specs.Text.{is_nil}
-use Rattle.cg_action.specs.declared.action.Action.{Action}
 use Rattle.cg_wire.specs.declared.message.Msg.{Msg}
 use Rattle.cg_group.specs.State.{Sent, Configuration, configuration, no_configuration}
 use Rattle.cg_group.specs.PlaceLaws.{at_place-past}
@@ -16,7 +15,7 @@ use Rattle.cg_client.specs.Replica.{Replica}
 use Rattle.cg_client.specs.Turn.{begin}
 use Rattle.cg_step.specs.Crash.{Disk}
 use Rattle.cg_agree.specs.World.{Up, Seat, running, seat_of, has_begun}
-use Rattle.cg_agree.specs.Chronicle.{Told, Chronicle, no_chronicle}
+use Rattle.cg_agree.specs.Chronicle.{Told, Chronicle}
 use Rattle.cg_agree.specs.Looks.{greens_of, told_in, conf_of, ordered_in}
 use Rattle.cg_agree.specs.Facts.{Invariant}
 use Rattle.cg_agree.specs.Played.{AtRest}
@@ -29,7 +28,7 @@ use Rattle.cg_agree.proofs.FixedKept.{confs-begun}
 use Rattle.cg_agree.proofs.NextThere.{orders-now, receives-now}
 use Rattle.cg_agree.proofs.OneSteps.{turns-step, hands-step, leaves-step, enters-step, commits-step, copies-step, crashes-step, recovers-step, joins-step, may-join, may-enter}
 use Rattle.cg_agree.proofs.ToldKept.{IsUntold, told-same, told_in-same}
-use Rattle.cg_agree.proofs.PastKept.{EntersNow, enters-now, entry_turn, entry_told, enters-is, told_in-enters, summary-id}
+use Rattle.cg_agree.proofs.PastKept.{EntersNow, enters-now, entry_told, told_in-enters}
 use Rattle.cg_agree.proofs.EntryGreens.{entry-greens, nothing-new}
 use Rattle.cg_agree.proofs.TellersStill.{TellersStill, turn-same, greens-stay}
 

@@ -1,34 +1,32 @@
 -- Who told something in a configuration in which nothing has a place yet, and in no later one, has the greens that it had then.
-use Rattle.std.proofs.Common.{◌≡◌, ℕ, zero, suc, ◌≤◌, ◌<◌, Bool, true, false, cond, not, ◌&&◌, List, [], ◌∷◌, ◌++◌, append-nil, drop, find, fold, length, Option, Some, None, IfSome, refl, sym, ap, ap₂, ◌∙◌, subst, arith, inl, inr, option_and_then, option_map, is_some, eq-eqb, eqb-true}
+use Rattle.std.proofs.Common.{◌≡◌, ℕ, zero, suc, ◌<◌, Bool, true, false, cond, List, [], ◌∷◌, ◌++◌, append-nil, find, fold, Option, Some, None, IfSome, refl, sym, ap, ap₂, ◌∙◌, subst, inl, inr, is_some, eq-eqb}
 use Rattle.std.specs.Prelude.{◌==◌, slice_get}
 use Rattle.std.specs.Option.{option_map_or}
-use Rattle.std.proofs.lemmas.Bool.{cases_Bool, cases_eq, cases_order, cond-true, cond-false, cond_both, and_parts, ne_eqb}
-use Rattle.cg_base.specs.Lists.{at_place}
+use Rattle.std.proofs.lemmas.Bool.{cases_eq, cases_order, cond-false, and_parts, ne_eqb}
 use Rattle.cg_base.specs.Text.{is_nil}
 use Rattle.cg_base.specs.Weights.{ids}
 use Rattle.cg_action.specs.declared.action.Action.{Action}
 use Rattle.cg_action.specs.declared.action.Kind.{Kind}
 use Rattle.cg_wire.specs.declared.message.Msg.{Msg}
-use Rattle.cg_group.specs.State.{Sent, Configuration, configuration, no_configuration, home, regular_in, phase_of, delivered_to, is_regular}
-use Rattle.cg_group.specs.Events.{with_message, with_receipt, delivery_at, deliveries_at}
+use Rattle.cg_group.specs.State.{Sent, Configuration, configuration, home, regular_in, phase_of, delivered_to, is_regular}
+use Rattle.cg_group.specs.Events.{delivery_at, deliveries_at}
 use Rattle.cg_group.specs.declared.delivery.Delivery.TheVariants.{Message, Transitional as TransitionalIn}
 use Rattle.cg_group.specs.declared.phase.Phase.{Phase}
 use Rattle.cg_group.specs.declared.phase.Phase.TheVariants.{Down as DownPhase, Alone, Regular, Transitional}
-use Rattle.cg_client.specs.Replica.{Held, State, RegPrim, TransPrim, ExchangeStates, ExchangeActions, Construct, No, Un, NonPrim, Left, Replica}
+use Rattle.cg_client.specs.Replica.{State, RegPrim, TransPrim, ExchangeStates, ExchangeActions, Construct, No, Un, NonPrim, Left, Replica}
 use Rattle.cg_client.specs.Turn.{Turn, begin}
 use Rattle.cg_client.specs.Requests.{is_creating, create_kept, empty_buffer, request_in, settle}
 use Rattle.cg_step.specs.Step.{on_transitional, take}
 use Rattle.cg_step.specs.Crash.{Disk}
-use Rattle.cg_agree.specs.World.{Life, Up, Down, Seat, running, seat_of, replica_of, has_begun}
-use Rattle.cg_agree.specs.Chronicle.{Past, Told, Chronicle, no_chronicle}
+use Rattle.cg_agree.specs.World.{Life, Up, Down, Seat, seat_of, replica_of, has_begun}
+use Rattle.cg_agree.specs.Chronicle.{Past, Told, Chronicle}
 use Rattle.cg_agree.specs.Fronts.{IsSomeWith}
-use Rattle.cg_agree.specs.Looks.{past_of, greens_of, told_in, conf_of, ordered_in, is_at, is_regular_at, is_regular_in, is_in, snapshot_of, copied_for}
+use Rattle.cg_agree.specs.Looks.{past_of, greens_of, told_in, ordered_in, is_at, is_regular_at, is_regular_in, snapshot_of, copied_for}
 use Rattle.cg_agree.specs.FactsExchange.{IsInExchange}
 use Rattle.cg_agree.specs.Facts.{Invariant}
 use Rattle.cg_agree.specs.Played.{AtRest}
-use Rattle.cg_agree.specs.Small.{Small, Starts, Makes, Enters, Orders, Receives, Hands, Leaves, Asks, Settles, Commits, Crashes, Recovers, Copies, Joins, small_step, new_past, turning, turning_as, after_turn, newly_green, coming, handed_next, leaving, take_newest, take_next, take_parting, take_request, newest_conf, commit_as, crash_as, recover_as, copy_as, join_with}
-use Rattle.cg_agree.specs.Smalls.{may_make, is_set, is_running}
-use Rattle.cg_agree.proofs.FrontFacts.{same_from_Front}
+use Rattle.cg_agree.specs.Small.{Small, Starts, Makes, Enters, Orders, Receives, Hands, Leaves, Asks, Settles, Commits, Crashes, Recovers, Copies, Joins, small_step, new_past, turning, turning_as, after_turn, newly_green, handed_next, leaving, take_next, take_parting, take_request, commit_as, crash_as, recover_as, copy_as, join_with}
+use Rattle.cg_agree.specs.Smalls.{may_make, is_set}
 use Rattle.cg_agree.proofs.ChronicleFacts.{greens_of-other, past-begun}
 use Rattle.cg_agree.proofs.CoresKept.{seat-of, greens-turn}
 use Rattle.cg_agree.proofs.GreensFront.{commit-same, crash-same}
@@ -36,7 +34,7 @@ use Rattle.cg_agree.proofs.GroupKept.{leaving-regular}
 use Rattle.cg_agree.proofs.BegunKept.{nothing-before}
 use Rattle.cg_agree.proofs.ToldKept.{IsUntold}
 use Rattle.cg_agree.proofs.OneSteps.{regular-is_up, may-join}
-use Rattle.cg_agree.proofs.HandsNow.{HandsNow, hands-now, hands-regular}
+use Rattle.cg_agree.proofs.HandsNow.{hands-now, hands-regular}
 use Rattle.cg_agree.proofs.HandsKept.{regular-phase}
 use Rattle.cg_agree.proofs.EntryGreens.{nothing-new}
 use Rattle.cg_agree.proofs.GreenMembers.{creates-same}

@@ -1,5 +1,5 @@
 -- A fact of a turn that each change of it keeps is kept by every row of the table, and by the deliveries of an event.
-use Rattle.std.proofs.Common.{◌≡◌, ℕ, suc, ◌+◌, ◌<◌, List, [], ◌∷◌, ◌++◌, fold, find, length, cond, Bool, true, false, not, ◌&&◌, Option, Some, None, refl, sym, ap, ◌∙◌, subst, arith, inl, inr, if◌then◌else◌, eqb-true, nat_lt}
+use Rattle.std.proofs.Common.{◌≡◌, ℕ, suc, ◌+◌, ◌<◌, List, [], ◌∷◌, ◌++◌, fold, find, length, cond, Bool, true, false, not, ◌&&◌, Option, Some, None, refl, sym, subst, arith, inl, inr, if◌then◌else◌, eqb-true, nat_lt}
 use Rattle.std.specs.Prelude.{◌==◌}
 use Rattle.std.specs.Option.{option_to_list}
 use Rattle.std.proofs.lemmas.Bool.{cases_order, cases_Bool, ne_eqb, lt-leb, and_parts}
@@ -30,7 +30,7 @@ use Rattle.cg_client.specs.Replica.{Held, State, RegPrim, TransPrim, ExchangeSta
 use Rattle.cg_client.specs.Turn.{Turn, with_held, go_to, send}
 use Rattle.cg_client.specs.Marks.{is_unmade, newly_known, marked, mark_red, mark_yellow, can_be_green, place_green, mark_green, mark_green_at}
 use Rattle.cg_client.specs.Requests.{empty_buffer}
-use Rattle.cg_client.specs.Summary.{own_to_red, summary_of, tell, enter_exchange}
+use Rattle.cg_client.specs.Summary.{own_to_red, summary_of, enter_exchange}
 use Rattle.cg_client.specs.Install.{actions_named, valid_yellow, yellow_green, reds_green, prim_after, install}
 use Rattle.cg_prim.specs.TransPrim.{end_prim}
 use Rattle.cg_exchange.specs.PlanEnd.{usable_names, take_over, begin_attempt, attempt, decide, end_plan}

@@ -1,5 +1,5 @@
 -- Where the seat of a replica leads in an event in which replicas take turns: it takes its own turn, or its seat stays.
-use Rattle.std.proofs.Common.{◌⊎◌, ◌≡◌, ℕ, suc, ◌≤◌, ◌<◌, Bool, true, false, List, [], ◌∷◌, map, fold, find, Option, Some, None, refl, sym, ap, ◌∙◌, subst, arith, inl, inr, eq-eqb}
+use Rattle.std.proofs.Common.{◌⊎◌, ◌≡◌, ℕ, suc, ◌<◌, List, [], ◌∷◌, map, fold, find, Option, Some, None, refl, sym, ap, ◌∙◌, subst, arith, inl, inr, eq-eqb}
 use Rattle.std.specs.Prelude.{◌==◌}
 use Rattle.std.specs.Option.{option_map_or}
 use Rattle.std.proofs.lemmas.Bool.{cases_eq, cond-true, cond-false, ne_eqb}
@@ -7,10 +7,9 @@ use Rattle.cg_wire.specs.declared.message.Msg.{Msg}
 use Rattle.cg_group.specs.declared.delivery.Handed.{Handed}
 use Rattle.cg_group.specs.EachLaws.{Each}
 use Rattle.cg_client.specs.Replica.{Replica}
-use Rattle.cg_client.specs.Turn.{Turn}
 use Rattle.cg_step.specs.Step.{Input, Deliveries, replica_step}
 use Rattle.cg_step.specs.Crash.{Disk, end_event}
-use Rattle.cg_agree.specs.World.{Life, Up, Down, Seat, World, seat_of, set_life}
+use Rattle.cg_agree.specs.World.{Life, Up, Down, Seat, World, seat_of}
 use Rattle.cg_agree.specs.Show.{Going}
 use Rattle.cg_agree.specs.Step.{hand_to, hand, hand_over}
 use Rattle.cg_agree.specs.FactsLists.{IsRising}
