@@ -169,7 +169,7 @@ cut-within book all p run runs each = at (index_in (cut_of all) p) refl where
   at (suc n) e =
       let id : ActionId = record { creator = p; index = suc n } in
       let there : names (names_of all) id ≡ true = run-names [] (names_of all) id tt runs
-          ∙ and_from (nat_lt 0 (suc n)) (nat_le (suc n) (index_in (cut_of all) p)) (lt-ltb 0 (suc n) (omega arith)) (le-leb (suc n) (index_in (cut_of all) p) (omega arith)) in
+      ∙ and_from (nat_lt 0 (suc n)) (nat_le (suc n) (index_in (cut_of all) p)) (lt-ltb 0 (suc n) (omega arith)) (le-leb (suc n) (index_in (cut_of all) p) (omega arith)) in
       let known : (nat_lt 0 (suc n) && nat_le (suc n) (index_in (cut_of book) p)) ≡ true = sym (run-names [] (names_of book) id tt run) ∙ names-booked book all id each there in
       leb-true (suc n) (index_in (cut_of book) p) (and_parts (nat_lt 0 (suc n)) (nat_le (suc n) (index_in (cut_of book) p)) known).1
 
@@ -195,11 +195,11 @@ counts-start set =
       at p o e memory disk = subst (λ (o : Option Seat). IfSome (core_in o) (λ h. 0 ≡ created h)) (sym e)
           (of_seat o (subst (λ (o : Option Seat). IfSome (option_and_then (λ s. running s.life) o) (λ r. created r.held ≡ 0)) e memory)
           (subst (λ (o : Option Seat). IfSome (option_map (λ s. on_disk s.life) o) (λ h. created h ≡ 0)) e disk)) where
-        of_life : (l : Life) → IfSome (running l) (λ r. created r.held ≡ 0) → created (on_disk l) ≡ 0 → 0 ≡ created (held_in l)
-        of_life (Up r disk) memory content = sym memory
-        of_life (Down disk green) memory content = sym content
+            of_life : (l : Life) → IfSome (running l) (λ r. created r.held ≡ 0) → created (on_disk l) ≡ 0 → 0 ≡ created (held_in l)
+            of_life (Up r disk) memory content = sym memory
+            of_life (Down disk green) memory content = sym content
 
-        of_seat : (o : Option Seat) → IfSome (option_and_then (λ s. running s.life) o) (λ r. created r.held ≡ 0) → IfSome (option_map (λ s. on_disk s.life) o) (λ h. created h ≡ 0) →
-            IfSome (core_in o) (λ h. 0 ≡ created h)
-        of_seat None memory disk = tt
-        of_seat (Some s) memory disk = of_life s.life memory disk
+            of_seat : (o : Option Seat) → IfSome (option_and_then (λ s. running s.life) o) (λ r. created r.held ≡ 0) → IfSome (option_map (λ s. on_disk s.life) o) (λ h. created h ≡ 0) →
+                IfSome (core_in o) (λ h. 0 ≡ created h)
+            of_seat None memory disk = tt
+            of_seat (Some s) memory disk = of_life s.life memory disk

@@ -174,14 +174,14 @@ own-created old t p =
             let low = is.red q in
             let r : index_in new.queue.red_cut q ≡ index_in (cut_behind h.queue.red_cut (names_of h.own)) q = ap (λ c. index_in c q) all.red_cut in
             omega arith
-        );
+            );
         below = λ q. (
             let up = behind-rises h.queue.red_cut (names_of h.own) q is.own.rising in
             let low = is.below q in
             let g : index_in new.queue.green_cut q ≡ index_in h.queue.green_cut q = ap (λ c. index_in c q) all.green_cut in
             let r : index_in new.queue.red_cut q ≡ index_in (cut_behind h.queue.red_cut (names_of h.own)) q = ap (λ c. index_in c q) all.red_cut in
             omega arith
-        );
+            );
       };
       made = all.made ∙ p.made;
     }

@@ -216,3 +216,4 @@ pub mod LinesFollow
 pub mod LinesBelowKept
 pub mod TellersStill
 pub mod TellersKept
+pub mod LinesReached

@@ -45,10 +45,10 @@ follows-all c r new all core white f =
     let more = newly-more r new f in (
       f.members ∙ ap₂ (λ m n. after_greens m n f.more) core.made_of.members place ∙ sym (greens-behind (starting c.start) 1 all f.more) ∙ ap (λ ys. members_of c.start (all ++ ys)) (sym more),
       (λ q server.
-      let above = lines-above f.more h.members (green_count h.queue) h.queue.white (omega arith) white q (sym (ap (λ (m : Members). is_server m q) f.members) ∙ server) in
-      let line : line_of new.held.members.servers q ≡ line_of (after_greens h.members (suc (green_count h.queue)) f.more).servers q = ap (λ (m : Members). line_of m.servers q) f.members in
-      let same = f.white in
-      omega arith),
+          let above = lines-above f.more h.members (green_count h.queue) h.queue.white (omega arith) white q (sym (ap (λ (m : Members). is_server m q) f.members) ∙ server) in
+          let line : line_of new.held.members.servers q ≡ line_of (after_greens h.members (suc (green_count h.queue)) f.more).servers q = ap (λ (m : Members). line_of m.servers q) f.members in
+          let same = f.white in
+          omega arith),
     )
 
 follows-closed : (start : List Weighted) → IsClosed (FollowsAll start)
@@ -57,14 +57,16 @@ follows-closed start = record {
   whitened = λ h all is. (is.0, λ q server. (let low = is.1 q server in let least = white-line-below h.members q server in omega arith));
   stored = λ h all is. (is.0, is.1);
   recovers = λ h all is. (
-      let same = own-same (begin (record { held = h; state = NonPrim false })) in
-      (same.members ∙ is.0, λ q server. (
-          let low = is.1 q (sym (ap (λ (m : Members). is_server m q) same.members) ∙ server) in
-          let line = ap (λ (m : Members). line_of m.servers q) same.members in
-          let white = same.white in
-          omega arith
-      ))
-  );
+      let same = own-same (begin (record { held = h; state = NonPrim false })) in (
+        same.members ∙ is.0,
+        λ q server. (
+            let low = is.1 q (sym (ap (λ (m : Members). is_server m q) same.members) ∙ server) in
+            let line = ap (λ (m : Members). line_of m.servers q) same.members in
+            let white = same.white in
+            omega arith
+            ),
+      )
+      );
   joins = λ p h all is. (is.0, is.1);
 }
 

@@ -163,10 +163,10 @@ stays-kind m place q (Join joiner weight) was =
     (λ n is. elim (among-with-back m.servers new q is) [
       | inl same ↦ absurd (let clash : true ≡ false = sym was ∙ ap (was_ever m) (sym (eqb-true joiner q same)) ∙ n in cc)
       | inr there ↦ record {
-          server = there;
-          line = line-with m.servers new q ∙ cond-false (joiner == q) place (line_of m.servers q)
-              (ne_eqb joiner q (λ e. (let clash : true ≡ false = sym was ∙ ap (was_ever m) (sym e) ∙ n in cc)));
-        }
+        server = there;
+        line = line-with m.servers new q ∙ cond-false (joiner == q) place (line_of m.servers q)
+            (ne_eqb joiner q (λ e. (let clash : true ≡ false = sym was ∙ ap (was_ever m) (sym e) ∙ n in cc)));
+      }
     ])
 stays-kind m place q (Leave server) was =
     let gone : Members = record { servers = without_server m.servers server; left = with_member m.left server } in

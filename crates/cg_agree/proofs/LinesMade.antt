@@ -1,16 +1,13 @@
 -- The lines that greens make of servers are below the greens of each, where the book, the order and the members are as they are to be.
-use Rattle.std.proofs.Common.{◌⊎◌, ◌≡◌, ℕ, zero, suc, ◌+◌, ◌≤◌, ◌<◌, min, max, Bool, true, false, cond, not, ◌&&◌, ◌||◌, List, [], ◌∷◌, ◌++◌, find, fold, map, length, Option, Some, None, IfSome, refl, sym, ap, ap₂, ◌∙◌, subst, arith, inl, inr, option_and_then, option_map, is_some, nat_lt, eqb-true, if◌then◌else◌}
+use Rattle.std.proofs.Common.{◌≡◌, ℕ, ◌+◌, ◌≤◌, ◌<◌, Bool, true, false, ◌||◌, List, [], ◌∷◌, fold, map, length, Option, Some, None, IfSome, refl, sym, ap, ◌∙◌, subst, arith, inl, inr, nat_lt, eqb-true, if◌then◌else◌}
 use Rattle.std.specs.Prelude.{◌==◌, nat_le}
-use Rattle.std.specs.Option.{option_map_or, unwrap_or}
+use Rattle.std.specs.Option.{unwrap_or}
 use Rattle.std.proofs.lemmas.Bool.{cases_Bool, cases_lt, cond-true, cond-false, and_parts, leb-true, ltb-true, ltb-false, cond_both, false_from_ne_true}
-use Rattle.cg_group.specs.EachLaws.{Each, Each-append, Each-weaker}
+use Rattle.cg_group.specs.EachLaws.{Each}
 use Rattle.cg_base.specs.declared.action_id.ActionId.{ActionId}
-use Rattle.cg_base.specs.declared.weighted.Weighted.{Weighted}
 use Rattle.cg_base.specs.Cuts.{index_in}
-use Rattle.cg_base.specs.Ids.{same_id, names}
+use Rattle.cg_base.specs.Ids.{same_id}
 use Rattle.cg_base.specs.Lists.{least_of}
-use Rattle.cg_base.specs.Weights.{ids}
-use Rattle.cg_base.specs.Sets.{has}
 use Rattle.cg_action.specs.declared.action.Action.{Action}
 use Rattle.cg_members.specs.declared.server.Server.{Server}
 use Rattle.cg_members.specs.declared.members.Members.{Members}
@@ -24,9 +21,8 @@ use Rattle.cg_agree.specs.Levels.{line_at}
 use Rattle.cg_client.specs.Replica.{Held}
 use Rattle.cg_agree.specs.FactsExchange.{AreReached}
 use Rattle.cg_agree.specs.FactsReplica.{run_on, AreBelow, join_from, IsLined}
-use Rattle.cg_agree.proofs.FrontFacts.{Front-of_both, Front-length}
+use Rattle.cg_agree.proofs.FrontFacts.{Front-of_both}
 use Rattle.cg_agree.proofs.RunMarks.{run-names}
-use Rattle.cg_agree.proofs.OneValue.{same-from}
 use Rattle.cg_agree.proofs.LinesTold.{JoinsBelow, greens-below, first-lines}
 use Rattle.cg_agree.proofs.LinesGreens.{join-within, join-front, ever-joined, line-first}
 use Rattle.cg_agree.proofs.BookGrows.{named_in, IsNamed, cut_of}
@@ -41,7 +37,7 @@ found-fine Fine (x ∷ book) id a each e = elim (cases_Bool (same_id x.id id)) [
   | inr other ↦ found-fine Fine book id a each.1 (sym (cond-false (same_id x.id id) (Some x) (named_in book id) other) ∙ e)
 ]
 
-named-fine : (Fine : Action → Type 0) (book list : List Action) → Each Fine book → Each (IsNamed book) list → Each Fine list
+pub named-fine : (Fine : Action → Type 0) (book list : List Action) → Each Fine book → Each (IsNamed book) list → Each Fine list
 named-fine Fine book [] each named = tt
 named-fine Fine book (a ∷ list) each named = (found-fine Fine book a.id a each named.0, named-fine Fine book list each named.1)
 
@@ -64,16 +60,16 @@ module _ (d : Chronicle) (numbered : run_on [] (names_of d.book) ≡ true) (acti
   others-made [] q none named = tt
   others-made (a ∷ list) q none named = (
     (λ same.
-    let there = sym (run-names [] (names_of d.book) a.id tt numbered) ∙ found-name d.book a.id a named.0 in
-    let parts = and_parts (nat_lt 0 a.id.index) (nat_le a.id.index (index_in (cut_of d.book) a.id.creator)) there in
-    let some = ltb-true 0 a.id.index parts.0 in
-    let few = leb-true a.id.index (index_in (cut_of d.book) a.id.creator) parts.1 in
-    let zero_there : index_in (cut_of d.book) a.id.creator ≡ 0 = ap (index_in (cut_of d.book)) same ∙ unbegun q none in
-    omega arith),
+        let there = sym (run-names [] (names_of d.book) a.id tt numbered) ∙ found-name d.book a.id a named.0 in
+        let parts = and_parts (nat_lt 0 a.id.index) (nat_le a.id.index (index_in (cut_of d.book) a.id.creator)) there in
+        let some = ltb-true 0 a.id.index parts.0 in
+        let few = leb-true a.id.index (index_in (cut_of d.book) a.id.creator) parts.1 in
+        let zero_there : index_in (cut_of d.book) a.id.creator ≡ 0 = ap (index_in (cut_of d.book)) same ∙ unbegun q none in
+        omega arith),
     others-made list q none named.1,
   )
 
-  reached : (list : List Action) (q : ℕ) → Each (λ a. a.green_line ≤ length (greens_of d a.id.creator)) list → AreReached q (length (greens_of d q)) list
+  pub reached : (list : List Action) (q : ℕ) → Each (λ a. a.green_line ≤ length (greens_of d a.id.creator)) list → AreReached q (length (greens_of d q)) list
   reached [] q each = tt
   reached (a ∷ list) q each = (at (a.id.creator == q) refl, reached list q each.1) where
     at : (b : Bool) → (a.id.creator == q) ≡ b → When b (a.green_line ≤ length (greens_of d q))
@@ -81,7 +77,7 @@ module _ (d : Chronicle) (numbered : run_on [] (names_of d.book) ≡ true) (acti
     at false e = tt
 
   -- its first join is no higher than its greens
-  joined : (list : List Action) (q : ℕ) → has_begun d.world q ≡ true → Front list (line_at d (top_of d)) → JoinsBelow (starting d.start) 0 list q (length (greens_of d q))
+  pub joined : (list : List Action) (q : ℕ) → has_begun d.world q ≡ true → Front list (line_at d (top_of d)) → JoinsBelow (starting d.start) 0 list q (length (greens_of d q))
   joined list q begun front = elim (cases_Bool (was_ever (starting d.start) q)) [
     | inl was ↦ inl was
     | inr not_first ↦ inr (elim (ever-joined (stood_of d q) (starting d.start) 0 q (ever q begun)) [

@@ -224,7 +224,7 @@ module _ (c : Chronicle) (i : Invariant c) (joiners : JoinersBooked c) where
               (Each-weaker (IsNamed c.book) (IsNamed (c.book ++ t.made)) (named-more c.book t.made) (greens_of c p) (held p r disk seat).1)
               (each-drop (IsNamed (c.book ++ t.made)) (length r.held.queue.greens) t.replica.held.queue.greens is.held.greens),
         )
-    );
+        );
     says = λ r disk seat. subst (λ (list : List Action). Each (OfMessage (IsNamed list)) (part (begin r)).sent) (sym (book-is r disk seat)) (sound r disk seat).fine.sent;
     counts = counts-turning c b p part seats book (λ r disk seat. (named p r disk seat, (sound r disk seat).counted)) counts;
   } where
@@ -301,9 +301,12 @@ module _ (c : Chronicle) (i : Invariant c) (joiners : JoinersBooked c) where
       let all = at-some (replica_of c.world p) (copy_as c p joiner) (λ r e. (refl, counts-same c (copy_as c p joiner r) refl refl counts)) in
       record { grown = grown-none c (small_step c (Copies p joiner)) all.0; keeps = tt; says = tt; counts = all.1 }
   step-sound (Joins joiner) may rest =
-      let all = at-some (snapshot_of c.world joiner) (λ s. join_with c joiner s.content) (λ s e. (refl, counts-join c joiner s.content (may-join c joiner may).fresh
-      (subst (λ (o : Option Snapshot). IfSome o (λ s. IsCore c (joined joiner s.content).held (copied_for c joiner))) e (i.replica.cores.snapshot joiner))
-      (subst (λ (o : Option Snapshot). IfSome o (λ s. Each (IsNamed c.book) (copied_for c joiner))) e (joiners.copied joiner)) counts)) in
+      let all = at-some (snapshot_of c.world joiner) (λ s. join_with c joiner s.content) (λ s e. (
+        refl,
+        counts-join c joiner s.content (may-join c joiner may).fresh
+            (subst (λ (o : Option Snapshot). IfSome o (λ s. IsCore c (joined joiner s.content).held (copied_for c joiner))) e (i.replica.cores.snapshot joiner))
+            (subst (λ (o : Option Snapshot). IfSome o (λ s. Each (IsNamed c.book) (copied_for c joiner))) e (joiners.copied joiner)) counts,
+      )) in
       record { grown = grown-none c (small_step c (Joins joiner)) all.0; keeps = tt; says = tt; counts = all.1 }
 
 -- Each small step keeps it.

@@ -221,18 +221,18 @@ module _ (c : Chronicle) (w : World) (stands : StandsBeside c w) where
         greens-agree d v facts same q agrees = at (replica_of d.world q) refl (disk_held d.world q) refl
             (subst (λ (o : Option Replica). IfSome o (λ r. IfSome (disk_held d.world q) (λ disk. GoesOn r.held disk × IsAsOnDisk r.held disk r.state))) (same.running q)
             (subst (λ (h : Option Held). IfSome (replica_of v q) (λ r. IfSome h (λ disk. GoesOn r.held disk × IsAsOnDisk r.held disk r.state))) (same.disk q) agrees)) where
-          seated : (r : Replica) → replica_of d.world q ≡ Some r → disk_held d.world q ≡ None → ⊥
-          seated r runs none = in_seat (seat_of d.world q) runs none where
-            in_seat : (o : Option Seat) → option_and_then (λ s. running s.life) o ≡ Some r → option_map (λ s. on_disk s.life) o ≡ None → ⊥
-            in_seat None runs none = let clash : None ≡ Some r = runs in cc
-            in_seat (Some s) runs none = let clash : Some (on_disk s.life) ≡ None = none in cc
+              seated : (r : Replica) → replica_of d.world q ≡ Some r → disk_held d.world q ≡ None → ⊥
+              seated r runs none = in_seat (seat_of d.world q) runs none where
+                in_seat : (o : Option Seat) → option_and_then (λ s. running s.life) o ≡ Some r → option_map (λ s. on_disk s.life) o ≡ None → ⊥
+                in_seat None runs none = let clash : None ≡ Some r = runs in cc
+                in_seat (Some s) runs none = let clash : Some (on_disk s.life) ≡ None = none in cc
 
-          at : (o : Option Replica) → replica_of d.world q ≡ o → (h : Option Held) → disk_held d.world q ≡ h → IfSome o (λ r. IfSome h (λ disk. GoesOn r.held disk × IsAsOnDisk r.held disk r.state)) →
-              greens_of d q ≡ stood_of d q
-          at None e h f is = facts.replica.disk_behind.down q e
-          at (Some r) e None f is = absurd (seated r e f)
-          at (Some r) e (Some h) f is =
-              let memory = subst (λ (o : Option Replica). IfSome o (λ r. IsCore d r.held (greens_of d q))) e (facts.replica.cores.memory q) in
-              let disk = subst (λ (o : Option Held). IfSome o (λ h. IsCore d h (stood_of d q))) f (facts.replica.cores.disk q) in
-              same-by_cut (stood_of d q) (greens_of d q) (facts.replica.disk_behind.behind q) memory.contiguous.greens
-              (sym memory.made_of.green_cut ∙ is.0.green ∙ disk.made_of.green_cut)
+              at : (o : Option Replica) → replica_of d.world q ≡ o → (h : Option Held) → disk_held d.world q ≡ h → IfSome o (λ r. IfSome h (λ disk. GoesOn r.held disk × IsAsOnDisk r.held disk r.state)) →
+                  greens_of d q ≡ stood_of d q
+              at None e h f is = facts.replica.disk_behind.down q e
+              at (Some r) e None f is = absurd (seated r e f)
+              at (Some r) e (Some h) f is =
+                  let memory = subst (λ (o : Option Replica). IfSome o (λ r. IsCore d r.held (greens_of d q))) e (facts.replica.cores.memory q) in
+                  let disk = subst (λ (o : Option Held). IfSome o (λ h. IsCore d h (stood_of d q))) f (facts.replica.cores.disk q) in
+                  same-by_cut (stood_of d q) (greens_of d q) (facts.replica.disk_behind.behind q) memory.contiguous.greens
+                  (sym memory.made_of.green_cut ∙ is.0.green ∙ disk.made_of.green_cut)

@@ -148,9 +148,9 @@ pub alone-goal : (c : Chronicle) (conf : ℕ) (d : Chronicle) (p : ℕ) (life : 
 alone-goal c conf d p life seat out inside q r e is = elim (cases_eq p q) [
   | inl same ↦ absurd (let clash : true ≡ false = sym is ∙ ap (is_in d conf) (sym same) ∙ out in cc)
   | inr apart ↦ record {
-      old = r;
-      before = sym (ap (λ (o : Option Seat). option_and_then (λ s. running s.life) o) (seat q ∙ cond-false (p == q) (Some (record { id = p; life = life })) (seat_of c.world q) (ne_eqb p q apart))) ∙ e;
-      inside = inside q is;
-      on = knowing-same r;
-    }
+    old = r;
+    before = sym (ap (λ (o : Option Seat). option_and_then (λ s. running s.life) o) (seat q ∙ cond-false (p == q) (Some (record { id = p; life = life })) (seat_of c.world q) (ne_eqb p q apart))) ∙ e;
+    inside = inside q is;
+    on = knowing-same r;
+  }
 ]

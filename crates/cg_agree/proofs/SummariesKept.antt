@@ -190,7 +190,7 @@ module _ (c : Chronicle) (i : Invariant c) (p : ℕ) (may : may_make c (Enters p
     | inr far ↦ absurd (
         let said = said-attempt c conf a i e in
         unsaid conf far said
-    )
+        )
   ] where
     newest-unsaid : is_nil (ordered_in c next) ≡ true
     newest-unsaid = now.may.unsaid

@@ -199,7 +199,7 @@ module _ (c : Chronicle) (i : Invariant c) (conf p : ℕ) (t : Told) (told : tol
         let n = hands-now c q i may in
         let here : n.conf ≡ conf = regular-here n.conf (ap (λ x. is_regular_in c n.conf x) same ∙ ap (is_regular_at n.conf) n.regular ∙ eq-eqb n.conf n.conf refl) (ap (λ x. is_some (replica_of c.world x)) same ∙ up-of q (hands-regular c q may)) in
         let clash : None ≡ Some n.next = sym (ap (λ xs. slice_get xs (delivered_to c.world.group q)) (ap (ordered_in c) here ∙ none)) ∙ n.found in cc
-    )
+        )
   ]
   greens-stay (Leaves q set own places) may rest untold none =
       let regular = leaving-regular c q set own places may in
@@ -217,9 +217,9 @@ module _ (c : Chronicle) (i : Invariant c) (conf p : ℕ) (t : Told) (told : tol
   greens-stay (Joins joiner) may rest untold none = some-same (snapshot_of c.world joiner) (λ s. join_with c joiner s.content) (λ s.
       ap greens-of (past-begun c.pasts (new_past (copied_for c joiner) joiner) p (nothing (past_of c joiner) (i.net.seated.past joiner ∙ (may-join c joiner may).fresh)) ∙ cond-false (joiner == p) (Some (new_past (copied_for c joiner) joiner)) (past_of c p)
       (ne_eqb joiner p (λ e. (let clash : true ≡ false = sym begun-here ∙ ap (has_begun c.world) (sym e) ∙ (may-join c joiner may).fresh in cc))))) where
-    greens-of : Option Past → List Action
-    greens-of o = option_map_or (λ x. x.greens) o []
+        greens-of : Option Past → List Action
+        greens-of o = option_map_or (λ x. x.greens) o []
 
-    nothing : (o : Option Past) → is_some o ≡ false → o ≡ None
-    nothing None e = refl
-    nothing (Some s) e = absurd (let clash : true ≡ false = e in cc)
+        nothing : (o : Option Past) → is_some o ≡ false → o ≡ None
+        nothing None e = refl
+        nothing (Some s) e = absurd (let clash : true ≡ false = e in cc)

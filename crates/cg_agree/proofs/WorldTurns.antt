@@ -42,14 +42,14 @@ module _ (Q : ℕ → Input → Type 0) where
         let seats = leads.seats ∙ seats-ended go.world go.world.group q (replica_step r input) end in
         elim (cases_eq q p) [
           | inl same ↦ inr (subst (λ (n : ℕ). TakesTurn Q go.world (hand go q input).world n) same (record {
-              replica = r;
-              disk = disk;
-              input = input;
-              of = of;
-              before = seat;
-              behind = ap (λ (list : List Seat). find (λ s. s.id == q) list) seats ∙ seat_of-set go.world q (life_at end) q
-                  ∙ cond-true (q == q) (Some (record { id = q; life = life_at end })) (seat_of go.world q) (eq-eqb q q refl);
-            }))
+            replica = r;
+            disk = disk;
+            input = input;
+            of = of;
+            before = seat;
+            behind = ap (λ (list : List Seat). find (λ s. s.id == q) list) seats ∙ seat_of-set go.world q (life_at end) q
+                ∙ cond-true (q == q) (Some (record { id = q; life = life_at end })) (seat_of go.world q) (eq-eqb q q refl);
+          }))
           | inr apart ↦ inl (ap (λ (list : List Seat). find (λ s. s.id == p) list) seats ∙ seat_of-set go.world q (life_at end) p ∙ cond-false (q == p) (Some (record { id = q; life = life_at end })) (seat_of go.world p) (ne_eqb q p apart))
         ]
 
