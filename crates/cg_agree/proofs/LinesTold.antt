@@ -18,7 +18,7 @@ use Rattle.cg_agree.proofs.EverServer.{ever-green, among-raised}
 
 -- ---- one line
 
-line-with : (servers : List Server) (new : Server) (q : ℕ) → line_of (with_server servers new) q ≡ cond (new.id == q) new.line (line_of servers q)
+pub line-with : (servers : List Server) (new : Server) (q : ℕ) → line_of (with_server servers new) q ≡ cond (new.id == q) new.line (line_of servers q)
 line-with [] new q = refl
 line-with (s ∷ servers) new q =
     cond_both (new.id == s.id) (new ∷ servers) (if nat_lt new.id s.id then new ∷ s ∷ servers else s ∷ with_server servers new) (λ xs. line_of xs q ≡ cond (new.id == q) new.line (line_of (s ∷ servers) q))
@@ -74,7 +74,7 @@ line-raised (s ∷ servers) p line q count own le =
 -- ---- behind greens
 
 -- a member is known already, or its first join is no higher
-abbrev JoinsBelow : Members → ℕ → List Action → ℕ → ℕ → Type 0
+abbrev pub JoinsBelow : Members → ℕ → List Action → ℕ → ℕ → Type 0
 JoinsBelow m base greens q count = (was_ever m q ≡ true) ⊎ (join_from base greens q ≤ count)
 
 kind-below : (m : Members) (base q count : ℕ) (a : Action) (greens : List Action) → JoinsBelow m base (a ∷ greens) q count → line_of m.servers q ≤ count → line_of (after_kind m (suc base) a.kind).servers q ≤ count
@@ -123,7 +123,7 @@ below-next m base q count a greens (inr le) = ⊎_elim
           let behind = after_kind m (suc base) a.kind in
           ap (λ b. b || has behind.left q) (among-raised behind.servers a.id.creator (min a.green_line (suc base)) q) ∙ was
 
-greens-below : (greens : List Action) (m : Members) (base q count : ℕ) → JoinsBelow m base greens q count → AreReached q count greens → line_of m.servers q ≤ count →
+pub greens-below : (greens : List Action) (m : Members) (base q count : ℕ) → JoinsBelow m base greens q count → AreReached q count greens → line_of m.servers q ≤ count →
     line_of (after_greens m (suc base) greens).servers q ≤ count
 greens-below [] m base q count below reached le = le
 greens-below (a ∷ greens) m base q count below reached le =
@@ -135,7 +135,7 @@ greens-below (a ∷ greens) m base q count below reached le =
       mine true e low = low
       mine false e low = absurd (let clash : false ≡ true = e in cc)
 
-first-lines : (set : List Weighted) (q : ℕ) → line_of (map first_line set) q ≡ 0
+pub first-lines : (set : List Weighted) (q : ℕ) → line_of (map first_line set) q ≡ 0
 first-lines [] q = refl
 first-lines (w ∷ set) q = cond_both (w.id == q) 0 (line_of (map first_line set) q) (λ n. n ≡ 0) (λ y. refl) (λ n. first-lines set q)
 
