@@ -91,7 +91,7 @@ greens-request t kind = at t.replica.state where
 
 -- ---- what a turn leaves of the others, and makes of its replica
 
-greens-turning : (c : Chronicle) (p : ℕ) (part : Turn → Turn) (q : ℕ) → (q == p) ≡ false → greens_of (turning c p part) q ≡ greens_of c q
+pub greens-turning : (c : Chronicle) (p : ℕ) (part : Turn → Turn) (q : ℕ) → (q == p) ≡ false → greens_of (turning c p part) q ≡ greens_of c q
 greens-turning c p part q other = at (seat_of c.world p) where
   life : (l : Life) → greens_of (turning_as c p part l) q ≡ greens_of c q
   life (Up r disk) = greens_of-other c p r disk (part (begin r)) q (eqb-false q p other)
@@ -112,7 +112,7 @@ module _ (c : Chronicle) (p : ℕ) (part : Turn → Turn) (r : Replica) (disk : 
       ap (λ (x : Chronicle). greens_of x p) (turn-is c p part r disk seat) ∙ greens-turn c p r disk (part (begin r)) pasts seat
       ∙ ap (λ xs. greens_of c p ++ xs) (nothing-new r (part (begin r)).replica same) ∙ append-nil (greens_of c p)
 
-stays-told : (c d : Chronicle) → d.told ≡ c.told → ToldStays c d
+pub stays-told : (c d : Chronicle) → d.told ≡ c.told → ToldStays c d
 stays-told c d same conf q t e = told_in-same c d same conf q ∙ e
 
 -- ---- each step
