@@ -1,9 +1,9 @@
 -- The members of an attempt hold its parts behind each small step, where each action is the one of its name and nobody knows an action
 -- whose creator is no replica.
-use Rattle.std.proofs.Common.{◌⊎◌, ◌≡◌, ℕ, Bool, true, false, cond, not, ◌&&◌, List, [], ◌∷◌, ◌++◌, find, fold, Option, Some, None, IfSome, is_some, refl, sym, ap, ap₂, ◌∙◌, subst, inl, inr, eqb-true, eq-eqb, append-nil, option_map, option_and_then, false_from_ne_true}
+use Rattle.std.proofs.Common.{◌⊎◌, ◌≡◌, ℕ, Bool, true, false, cond, not, ◌&&◌, List, [], ◌∷◌, ◌++◌, length, find, fold, Option, Some, None, IfSome, is_some, refl, sym, ap, ap₂, ◌∙◌, subst, inl, inr, eqb-true, eq-eqb, append-nil, option_map, option_and_then}
 use Rattle.std.specs.Prelude.{suc, ◌==◌}
 use Rattle.std.specs.Option.{option_map_or}
-use Rattle.std.proofs.lemmas.Bool.{cond-true, cond-false, and_parts, eqb-false, ne_eqb}
+use Rattle.std.proofs.lemmas.Bool.{cond-true, cond-false, and_parts, eqb-false, ne_eqb, false_from_ne_true}
 use Rattle.cg_base.specs.declared.weighted.Weighted.{Weighted}
 use Rattle.cg_base.specs.Text.{is_nil}
 use Rattle.cg_base.specs.Weights.{ids}
@@ -75,16 +75,19 @@ use Rattle.cg_agree.proofs.TurnParts.{never-both, settle-quiet, request-quiet, n
 abbrev greens-in : Option Past → List Action
 greens-in o = option_map_or (λ x. x.greens) o []
 
+-- what is found in a list is found where it goes on
+found-more : (t : Action → Bool) (book more : List Action) (x : Action) → find t book ≡ Some x → find t (book ++ more) ≡ Some x
+found-more t [] more x e = absurd (let clash : None ≡ Some x = e in cc)
+found-more t (y ∷ book) more x e = at (t y) e (λ rest. found-more t book more x rest) where
+  at : (b : Bool) → cond b (Some y) (find t book) ≡ Some x → (find t book ≡ Some x → find t (book ++ more) ≡ Some x) → cond b (Some y) (find t (book ++ more)) ≡ Some x
+  at true e rest = e
+  at false e rest = rest e
+
 -- the actions that are booked stay so
 more-booked : (c d : Chronicle) (more : List Action) → d.book ≡ c.book ++ more → (xs : List Action) → AreBooked c xs → AreBooked d xs
 more-booked c d more is [] are = tt
-more-booked c d more is (x ∷ xs) are = (ap (find (λ (a : Action). same_id a.id x.id)) is ∙ found c.book are.0, more-booked c d more is xs are.1) where
-  found : (book : List Action) → find (λ (a : Action). same_id a.id x.id) book ≡ Some x → find (λ (a : Action). same_id a.id x.id) (book ++ more) ≡ Some x
-  found [] e = absurd (let clash : None ≡ Some x = e in cc)
-  found (y ∷ book) e = at (same_id y.id x.id) e where
-    at : (b : Bool) → cond b (Some y) (find (λ (a : Action). same_id a.id x.id) book) ≡ Some x → cond b (Some y) (find (λ (a : Action). same_id a.id x.id) (book ++ more)) ≡ Some x
-    at true e = e
-    at false e = found book e
+more-booked c d more is (x ∷ xs) are =
+    (ap (find (λ (a : Action). same_id a.id x.id)) is ∙ found-more (λ (a : Action). same_id a.id x.id) c.book more x are.0, more-booked c d more is xs are.1)
 
 installed-not : (state : State) → is_primary state ≡ true → is_attempting state ≡ false
 installed-not state primary = false_from_ne_true (is_attempting state) (λ attempting. never-both state attempting primary)

@@ -2,7 +2,7 @@
 use Rattle.std.proofs.Common.{◌⊎◌, ◌≡◌, ℕ, suc, zero, Bool, true, false, cond, not, List, [], ◌∷◌, ◌++◌, drop, filter, find, Option, Some, None, IfSome, refl, sym, ap, ap₂, ◌∙◌, subst, ⊎_elim, eqb-true}
 use Rattle.std.specs.Prelude.{◌==◌}
 use Rattle.std.specs.Option.{option_map_or, option_to_list}
-use Rattle.std.proofs.lemmas.Bool.{cases_eq, cases_Bool, ne_eqb}
+use Rattle.std.proofs.lemmas.Bool.{cases_eq, cond_both, ne_eqb}
 use Rattle.cg_base.specs.declared.action_id.ActionId.{ActionId}
 use Rattle.cg_base.specs.Ids.{names, same_id}
 use Rattle.cg_action.specs.declared.action.Action.{Action}
@@ -74,17 +74,14 @@ booked-drop c (suc n) (x ∷ xs) are = booked-drop c n xs are.1
 
 booked-filter : (c : Chronicle) (t : Action → Bool) (xs : List Action) → AreBooked c xs → AreBooked c (filter t xs)
 booked-filter c t [] are = tt
-booked-filter c t (x ∷ xs) are = at (t x) where
-  at : (b : Bool) → AreBooked c (cond b (x ∷ filter t xs) (filter t xs))
-  at true = (are.0, booked-filter c t xs are.1)
-  at false = booked-filter c t xs are.1
+booked-filter c t (x ∷ xs) are = cond_both (t x) (x ∷ filter t xs) (filter t xs) (AreBooked c) (λ y. (are.0, booked-filter c t xs are.1)) (λ n. booked-filter c t xs are.1)
 
 booked-found : (c : Chronicle) (t : Action → Bool) (xs : List Action) (a : Action) → AreBooked c xs → find t xs ≡ Some a → booked c a.id ≡ Some a
 booked-found c t [] a are e = absurd (let clash : None ≡ Some a = e in cc)
-booked-found c t (x ∷ xs) a are e = at (t x) e where
-  at : (b : Bool) → cond b (Some x) (find t xs) ≡ Some a → booked c a.id ≡ Some a
-  at true e = subst (λ (y : Action). booked c y.id ≡ Some y) (some-is x a e) are.0
-  at false e = booked-found c t xs a are.1 e
+booked-found c t (x ∷ xs) a are e = at (t x) e (λ rest. booked-found c t xs a are.1 rest) where
+  at : (b : Bool) → cond b (Some x) (find t xs) ≡ Some a → (find t xs ≡ Some a → booked c a.id ≡ Some a) → booked c a.id ≡ Some a
+  at true e rest = subst (λ (y : Action). booked c y.id ≡ Some y) (some-is x a e) are.0
+  at false e rest = rest e
 
 booked-named : (c : Chronicle) (q : QueueView) (ids : List ActionId) → AreBooked c (q.greens ++ q.reds) → AreBooked c (actions_named q ids)
 booked-named c q [] are = tt

@@ -146,10 +146,10 @@ none-green (a ∷ actions) id e =
 
 find-behind : (xs ys : List Action) (t : Action → Bool) → find t xs ≡ None → find t (xs ++ ys) ≡ find t ys
 find-behind [] ys t none = refl
-find-behind (x ∷ xs) ys t none = at (t x) refl none where
-  at : (b : Bool) → t x ≡ b → (if b then Some x else find t xs) ≡ None → (if b then Some x else find t (xs ++ ys)) ≡ find t ys
-  at true e none = absurd (let clash : Some x ≡ None = none in cc)
-  at false e none = find-behind xs ys t none
+find-behind (x ∷ xs) ys t none = at (t x) none (λ rest. find-behind xs ys t rest) where
+  at : (b : Bool) → (if b then Some x else find t xs) ≡ None → (find t xs ≡ None → find t (xs ++ ys) ≡ find t ys) → (if b then Some x else find t (xs ++ ys)) ≡ find t ys
+  at true none rest = absurd (let clash : Some x ≡ None = none in cc)
+  at false none rest = rest none
 
 names-drop : (n : ℕ) (xs : List Action) (id : ActionId) → names (names_of xs) id ≡ false → names (names_of (drop n xs)) id ≡ false
 names-drop zero xs id e = e

@@ -20,15 +20,17 @@ ascend-rest : (x : ActionId) (ids : List ActionId) → ascend (x ∷ ids) ≡ tr
 ascend-rest x [] up = refl
 ascend-rest x (y ∷ ids) up = (and_parts (id_before x y) (ascend (y ∷ ids)) up).1
 
+-- what comes behind a later name comes behind this one
+each-later : (x y : ActionId) (ids : List ActionId) → id_before x y ≡ true → Each (λ z. id_before y z ≡ true) ids → Each (λ z. id_before x z ≡ true) ids
+each-later x y [] before each = tt
+each-later x y (z ∷ ids) before each = (before-trans x y z before each.0, each-later x y ids before each.1)
+
 -- a name comes before each that follows
 ascend-each : (x : ActionId) (ids : List ActionId) → ascend (x ∷ ids) ≡ true → Each (λ y. id_before x y ≡ true) ids
 ascend-each x [] up = tt
 ascend-each x (y ∷ ids) up =
     let parts = and_parts (id_before x y) (ascend (y ∷ ids)) up in
-    (parts.0, more ids (ascend-each y ids parts.1)) where
-      more : (ids : List ActionId) → Each (λ z. id_before y z ≡ true) ids → Each (λ z. id_before x z ≡ true) ids
-      more [] each = tt
-      more (z ∷ ids) each = (before-trans x y z (and_parts (id_before x y) (ascend (y ∷ ids)) up).0 each.0, more ids each.1)
+    (parts.0, each-later x y ids parts.0 (ascend-each y ids parts.1))
 
 pub same-parts : (x y : ActionId) → same_id x y ≡ true → x ≡ y
 same-parts x y e = let parts = and_parts (x.creator == y.creator) (x.index == y.index) e in same_name x y (eqb-true x.creator y.creator parts.0) (eqb-true x.index y.index parts.1)
@@ -52,37 +54,41 @@ named-later x y (z ∷ ids) each e = ⊎_elim
     (λ there. named-later x y ids each.1 there)
     (or_cases (same_id y z) (names ids y) e)
 
+-- a name that is first in order doesn't stand among the others
+absent : (x : ActionId) (ids : List ActionId) → ascend (x ∷ ids) ≡ true → names ids x ≡ false
+absent x ids up = ⊎_elim (λ there. (let later = named-later x x ids (ascend-each x ids up) there in absurd (before-apart x x later later))) (λ none. none) (cases_Bool (names ids x))
+
+-- the first of two lists in order with the same names is one
+same-first : (x y : ActionId) (xs ys : List ActionId) → ascend (x ∷ xs) ≡ true → ascend (y ∷ ys) ≡ true → ((id : ActionId) → names (x ∷ xs) id ≡ names (y ∷ ys) id) → x ≡ y
+same-first x y xs ys up down same =
+    let mine : names (y ∷ ys) x ≡ true = sym (same x) ∙ or_left (same_id x x) (names xs x) (same-itself x) in
+    let other : names (x ∷ xs) y ≡ true = same y ∙ or_left (same_id y y) (names ys y) (same-itself y) in
+    ⊎_elim
+    (λ (here : same_id x y ≡ true). same-parts x y here)
+    (λ (later : names ys x ≡ true). ⊎_elim
+    (λ (here : same_id y x ≡ true). sym (same-parts y x here))
+    (λ (there : names xs y ≡ true). absurd (before-apart y x (named-later y x ys (ascend-each y ys down) later) (named-later x y xs (ascend-each x xs up) there)))
+    (or_cases (same_id y x) (names xs y) other))
+    (or_cases (same_id x y) (names ys x) mine)
+
+-- and so have the others the same names
+same-rest : (x y : ActionId) (xs ys : List ActionId) → ascend (x ∷ xs) ≡ true → ascend (y ∷ ys) ≡ true → ((id : ActionId) → names (x ∷ xs) id ≡ names (y ∷ ys) id) → x ≡ y → (id : ActionId) → names xs id ≡ names ys id
+same-rest x y xs ys up down same e id = ⊎_elim
+    (λ (here : same_id id x ≡ true).
+    let me : id ≡ x = same-parts id x here in
+    ap (names xs) me ∙ absent x xs up ∙ sym (ap (names ys) (me ∙ e) ∙ absent y ys down))
+    (λ (apart : same_id id x ≡ false).
+    sym (ap (λ b. b || names xs id) apart) ∙ same id ∙ ap (λ b. b || names ys id) (ap (same_id id) (sym e) ∙ apart))
+    (cases_Bool (same_id id x))
+
 -- two lists in order that have the same names are one
 pub same-ascending : (xs ys : List ActionId) → ascend xs ≡ true → ascend ys ≡ true → ((id : ActionId) → names xs id ≡ names ys id) → xs ≡ ys
 same-ascending [] [] up down same = refl
 same-ascending [] (y ∷ ys) up down same = absurd (let clash : false ≡ true = same y ∙ or_left (same_id y y) (names ys y) (same-itself y) in cc)
 same-ascending (x ∷ xs) [] up down same = absurd (let clash : false ≡ true = sym (same x) ∙ or_left (same_id x x) (names xs x) (same-itself x) in cc)
 same-ascending (x ∷ xs) (y ∷ ys) up down same =
-    let mine : names (y ∷ ys) x ≡ true = sym (same x) ∙ or_left (same_id x x) (names xs x) (same-itself x) in
-    let other : names (x ∷ xs) y ≡ true = same y ∙ or_left (same_id y y) (names ys y) (same-itself y) in
-    ⊎_elim
-    (λ (here : same_id x y ≡ true). at (same-parts x y here))
-    (λ (later : names ys x ≡ true). ⊎_elim
-    (λ (here : same_id y x ≡ true). at (sym (same-parts y x here)))
-    (λ (there : names xs y ≡ true). absurd (before-apart y x (named-later y x ys (ascend-each y ys down) later) (named-later x y xs (ascend-each x xs up) there)))
-    (or_cases (same_id y x) (names xs y) other))
-    (or_cases (same_id x y) (names ys x) mine)
-  where
-    -- a name that isn't the first stands among the others or not at all
-    absent : (x : ActionId) (ids : List ActionId) → ascend (x ∷ ids) ≡ true → names ids x ≡ false
-    absent x ids up = ⊎_elim (λ there. absurd (before-apart x x (named-later x x ids (ascend-each x ids up) there) (named-later x x ids (ascend-each x ids up) there))) (λ none. none) (cases_Bool (names ids x))
-
-    rest : x ≡ y → (id : ActionId) → names xs id ≡ names ys id
-    rest e id = ⊎_elim
-        (λ (here : same_id id x ≡ true).
-        let me : id ≡ x = same-parts id x here in
-        ap (names xs) me ∙ absent x xs up ∙ sym (ap (names ys) (me ∙ e) ∙ absent y ys down))
-        (λ (apart : same_id id x ≡ false).
-        sym (ap (λ b. b || names xs id) apart) ∙ same id ∙ ap (λ b. b || names ys id) (ap (same_id id) (sym e) ∙ apart))
-        (cases_Bool (same_id id x))
-
-    at : x ≡ y → x ∷ xs ≡ y ∷ ys
-    at e = ap₂ (λ z zs. z ∷ zs) e (same-ascending xs ys (ascend-rest x xs up) (ascend-rest y ys down) (rest e))
+    let e = same-first x y xs ys up down same in
+    ap₂ (λ z zs. z ∷ zs) e (same-ascending xs ys (ascend-rest x xs up) (ascend-rest y ys down) (same-rest x y xs ys up down same e))
 
 -- ---- the names between two cuts
 

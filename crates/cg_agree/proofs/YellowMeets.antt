@@ -1,9 +1,9 @@
 -- The common yellow list as a plan ends: its names go on behind the most updated member's greens, each the next of its creator.
-use Rattle.std.proofs.Common.{◌⊎◌, ◌≡◌, ℕ, suc, ◌<◌, ◌≤◌, Bool, true, false, not, ◌&&◌, List, [], ◌∷◌, ◌++◌, max, min, filter, fold, Option, Some, None, refl, sym, ap, ap₂, ◌∙◌, subst, ⊎_elim, arith, eqb-true, leb-true, append-nil}
+use Rattle.std.proofs.Common.{◌⊎◌, ◌≡◌, ℕ, suc, ◌<◌, ◌≤◌, Bool, true, false, not, ◌&&◌, List, [], ◌∷◌, ◌++◌, max, min, filter, fold, Option, Some, None, refl, sym, ap, ap₂, ◌∙◌, subst, ⊎_elim, inl, inr, arith, append-nil}
 use Rattle.std.specs.Prelude.{◌==◌, nat_lt, nat_le}
 use Rattle.std.specs.Option.{option_map_or}
 use Rattle.std.specs.List.{list_all}
-use Rattle.std.proofs.lemmas.Bool.{cases_eq, cases_lt, cases_Bool, cond-true, cond-false, cond_both, and_parts, and_from, not-true, lt-ltb, le-leb, ltb-true, leb-false}
+use Rattle.std.proofs.lemmas.Bool.{cases_eq, cases_lt, cases_Bool, cond-true, cond-false, cond_both, and_parts, and_from, not-true, lt-ltb, le-leb, leb-true, leb-false}
 use Rattle.std.proofs.lemmas.List.{append_assoc}
 use Rattle.cg_base.specs.declared.action_id.ActionId.{ActionId}
 use Rattle.cg_base.specs.Cuts.{index_in, raise}
@@ -28,22 +28,22 @@ use Rattle.cg_agree.proofs.RunMarks.{run-head, run-rest, run-from, run-names, na
 pub run-part : (P : ActionId → Bool) (base bound : ℕ → ℕ) → ((id : ActionId) → P id ≡ true → (base id.creator < id.index) × (id.index ≤ bound id.creator)) →
     ((id : ActionId) → base id.creator < id.index → id.index ≤ bound id.creator → P id ≡ true) → (ids cut now : List ActionId) → Rising 0 cut → Rising 0 now →
     ((p : ℕ) → index_in now p ≡ max (base p) (min (index_in cut p) (bound p))) → run_on cut ids ≡ true → run_on now (filter P ids) ≡ true
-run-part P base bound yes so [] cut now rising up is run = refl
-run-part P base bound yes so (id ∷ ids) cut now rising up is run =
+run-part P base bound inside so [] cut now rising up is run = refl
+run-part P base bound inside so (id ∷ ids) cut now rising up is run =
     let next = run-head cut id ids run in
     let rest = run-rest cut id ids run in
     ⊎_elim
     (λ (keeps : P id ≡ true).
-    let low = (yes id keeps).0 in
-    let high = (yes id keeps).1 in
+    let low = (inside id keeps).0 in
+    let high = (inside id keeps).1 in
     let here = is id.creator in
     let at : id.index ≡ suc (index_in now id.creator) = omega arith in
     ap (run_on now) (cond-true (P id) (id ∷ filter P ids) (filter P ids) keeps)
     ∙ run-from now id (filter P ids) at
-    (run-part P base bound yes so ids (raise cut id) (raise now id) (rising-raise cut id rising) (rising-raise now id up) (λ p. taken low high next p (cases_eq id.creator p)) rest))
+    (run-part P base bound inside so ids (raise cut id) (raise now id) (rising-raise cut id rising) (rising-raise now id up) (λ p. taken low high next p (cases_eq id.creator p)) rest))
     (λ (drops : P id ≡ false).
     ap (run_on now) (cond-false (P id) (id ∷ filter P ids) (filter P ids) drops)
-    ∙ run-part P base bound yes so ids (raise cut id) now (rising-raise cut id rising) up (λ p. left drops next p (cases_eq id.creator p)) rest)
+    ∙ run-part P base bound inside so ids (raise cut id) now (rising-raise cut id rising) up (λ p. left drops next p (cases_eq id.creator p)) rest)
     (cases_Bool (P id))
   where
     taken : base id.creator < id.index → id.index ≤ bound id.creator → id.index ≡ suc (index_in cut id.creator) → (p : ℕ) → (id.creator ≡ p) ⊎ (id.creator ≡ p → ⊥) →
