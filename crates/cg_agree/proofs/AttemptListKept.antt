@@ -84,7 +84,7 @@ found-more t (y ∷ book) more x e = at (t y) e (λ rest. found-more t book more
   at false e rest = rest e
 
 -- the actions that are booked stay so
-more-booked : (c d : Chronicle) (more : List Action) → d.book ≡ c.book ++ more → (xs : List Action) → AreBooked c xs → AreBooked d xs
+pub more-booked : (c d : Chronicle) (more : List Action) → d.book ≡ c.book ++ more → (xs : List Action) → AreBooked c xs → AreBooked d xs
 more-booked c d more is [] are = tt
 more-booked c d more is (x ∷ xs) are =
     (ap (find (λ (a : Action). same_id a.id x.id)) is ∙ found-more (λ (a : Action). same_id a.id x.id) c.book more x are.0, more-booked c d more is xs are.1)

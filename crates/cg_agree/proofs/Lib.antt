@@ -200,3 +200,4 @@ pub mod ListStill
 pub mod ListEntered
 pub mod AttemptListKept
 pub mod AttemptsAll
+pub mod PartsBookedKept
