@@ -1,6 +1,6 @@
 -- The members of an attempt hold its parts behind each small step, where each action is the one of its name and nobody knows an action
 -- whose creator is no replica.
-use Rattle.std.proofs.Common.{◌⊎◌, ◌≡◌, ℕ, Bool, true, false, cond, not, ◌&&◌, List, [], ◌∷◌, ◌++◌, length, find, fold, Option, Some, None, IfSome, is_some, refl, sym, ap, ap₂, ◌∙◌, subst, inl, inr, eqb-true, eq-eqb, append-nil, option_map, option_and_then}
+use Rattle.std.proofs.Common.{◌≡◌, ℕ, Bool, true, false, cond, not, List, [], ◌∷◌, ◌++◌, length, find, fold, Option, Some, None, IfSome, is_some, refl, sym, ap, ◌∙◌, subst, inl, inr, eq-eqb, option_map, option_and_then}
 use Rattle.std.specs.Prelude.{suc, ◌==◌}
 use Rattle.std.specs.Option.{option_map_or}
 use Rattle.std.proofs.lemmas.Bool.{cond-true, cond-false, and_parts, eqb-false, ne_eqb, false_from_ne_true}
@@ -12,22 +12,21 @@ use Rattle.cg_action.specs.declared.action.Action.{Action}
 use Rattle.cg_knowledge.specs.declared.summary.Summary.{Summary}
 use Rattle.cg_action.specs.declared.action.Kind.{Kind}
 use Rattle.cg_wire.specs.declared.message.Msg.{Msg}
-use Rattle.cg_group.specs.declared.phase.Phase.{Phase}
 use Rattle.cg_group.specs.declared.phase.Phase.TheVariants.{Down as DownPhase, Alone, Regular, Transitional}
 use Rattle.cg_group.specs.State.{GroupState, set_configuration, phase_of, delivered_to, regular_in, is_up, standing_of}
 use Rattle.cg_group.specs.Events.{with_receipt}
-use Rattle.cg_client.specs.Replica.{Held, State, Construct, Replica, fresh}
+use Rattle.cg_client.specs.Replica.{State, Replica, fresh}
 use Rattle.cg_client.specs.Turn.{Turn, begin}
 use Rattle.cg_client.specs.Requests.{settle}
 use Rattle.cg_stored.specs.Stored.{stored_of, whiten}
-use Rattle.cg_step.specs.Crash.{Disk, new_disk, crash_now, recovered, disk_recovered}
-use Rattle.cg_agree.specs.World.{Life, Up, Down, Seat, running, Snapshot, World, seat_of, replica_of, has_begun, is_left}
+use Rattle.cg_step.specs.Crash.{new_disk, crash_now, recovered, disk_recovered}
+use Rattle.cg_agree.specs.World.{Life, Up, Down, Seat, running, Snapshot, World, replica_of, has_begun, is_left}
 use Rattle.cg_agree.specs.Step.{begin_replica, joined, name_also}
 use Rattle.cg_agree.specs.Chronicle.{Past, Attempt, Chronicle, no_chronicle}
 use Rattle.cg_agree.specs.Fronts.{IsSomeWith}
-use Rattle.cg_agree.specs.Looks.{conf_of, past_of, greens_of, stood_of, conf_at, attempt_of, copied_for, snapshot_of}
+use Rattle.cg_agree.specs.Looks.{conf_of, past_of, greens_of, stood_of, conf_at, attempt_of, copied_for}
 use Rattle.cg_agree.specs.FactsAttempts.{HoldsParts, AttemptList}
-use Rattle.cg_agree.specs.FactsReplica.{booked, AreBooked, MadeOnce, IsCore, IsModeData, HasModeData, IsInAttempt, is_attempting, is_primary}
+use Rattle.cg_agree.specs.FactsReplica.{AreBooked, IsCore, IsModeData, HasModeData, IsInAttempt, is_attempting, is_primary}
 use Rattle.cg_agree.specs.Facts.{Invariant}
 use Rattle.cg_agree.specs.Small.{Small, Starts, Makes, Enters, Orders, Receives, Hands, Leaves, Asks, Settles, Commits, Crashes, Recovers, Copies, Joins, new_past, written, struck, newest_conf, turning, take_newest, take_next, take_parting, take_request, coming, handed_next, leaving, with_group, commit_as, crash_as, recover_as, copy_as, join_with, start, small_step}
 use Rattle.cg_agree.specs.Smalls.{may_make, is_running, is_set}
@@ -40,14 +39,13 @@ use Rattle.cg_agree.proofs.CoreKept.{cores_core-kept}
 use Rattle.cg_agree.proofs.CoresKept.{past-here, past-there}
 use Rattle.cg_agree.proofs.ExchangeBehind.{up-now, greens-same}
 use Rattle.cg_agree.proofs.ExchangeSmalls.{greens-turning, replica-behind, greens-behind, stays-told}
-use Rattle.cg_agree.proofs.ExchangeStill.{OneMoves}
 use Rattle.cg_agree.proofs.GroupKept.{leaving-regular}
 use Rattle.cg_agree.proofs.GroupSound.{phase-made}
 use Rattle.cg_agree.proofs.HandsKept.{regular-phase, regular-up, seated}
 use Rattle.cg_agree.proofs.HandsNow.{HandsNow, hands-now, hands-regular, hand-turned, new, running-now}
 use Rattle.cg_agree.proofs.HeldCommit.{white-oneself}
 use Rattle.cg_agree.proofs.HeldMarks.{IsOneself}
-use Rattle.cg_agree.proofs.ListEntered.{PartsBooked, parts-booked, entered-held}
+use Rattle.cg_agree.proofs.ListEntered.{PartsBooked, AreHeldBooked, parts-booked, entered-held}
 use Rattle.cg_agree.proofs.ListStill.{ListAt, WasIn, list-still, list-none, list-some, list-same, list-quiet, one-list, whitened-parts}
 use Rattle.cg_agree.proofs.ModeHeld.{is_exchanging}
 use Rattle.cg_agree.proofs.ModeKept.{mode_data-kept}
@@ -56,10 +54,10 @@ use Rattle.cg_agree.proofs.OneStands.{stands-refl, stands-up, stands-down}
 use Rattle.cg_agree.proofs.OneSteps.{turns-step, hands-step, leaves-step, enters-step, may-join, seat-there}
 use Rattle.cg_agree.proofs.OneselfWorld.{HavePasts}
 use Rattle.cg_agree.proofs.OrdersWorld.{ordered-step, step-is, behind}
-use Rattle.cg_agree.proofs.PartingActs.{PartedBy, parting-by}
+use Rattle.cg_agree.proofs.PartingActs.{parting-by}
 use Rattle.cg_agree.proofs.PartsKept.{AllReplicas}
 use Rattle.cg_agree.proofs.PartsNamed.{KnowsReplicas}
-use Rattle.cg_agree.proofs.PastKept.{EntersNow, enters-now}
+use Rattle.cg_agree.proofs.PastKept.{enters-now}
 use Rattle.cg_agree.proofs.PlanEnd.{AtPlanEnd, plan-end, is_behind}
 use Rattle.cg_agree.proofs.PlanThere.{end-fits}
 use Rattle.cg_agree.proofs.RecordKept.{turn-is}
@@ -69,7 +67,7 @@ use Rattle.cg_agree.proofs.TalkAlone.{replica-set, recovered-state}
 use Rattle.cg_agree.proofs.TalkQuiet.{replica-turning}
 use Rattle.cg_agree.proofs.ToldKept.{told-same}
 use Rattle.cg_agree.proofs.ToldStays.{told-entered}
-use Rattle.cg_agree.proofs.TurnKinds.{IsQuiet, HasInstalled, HasDecided, HasAttempted, EndsWith, Turned, Quiet, Installs, Decides, Attempts}
+use Rattle.cg_agree.proofs.TurnKinds.{IsQuiet, HasAttempted, EndsWith, Turned, Quiet, Installs, Decides, Attempts}
 use Rattle.cg_agree.proofs.TurnParts.{never-both, settle-quiet, request-quiet, newest-come}
 
 abbrev greens-in : Option Past → List Action
@@ -290,7 +288,7 @@ module _ (c : Chronicle) (i : Invariant c) where
 
   -- ---- a place is handed
 
-  module _ (p : ℕ) (may : may_make c (Hands p) ≡ true) (n : HandsNow c p) (replicas : AllReplicas c) (old-booked : PartsBooked c) (once : MadeOnce (small_step c (Hands p))) where
+  module _ (p : ℕ) (may : may_make c (Hands p) ≡ true) (n : HandsNow c p) (replicas : AllReplicas c) (old-booked : PartsBooked c) (once : AreHeldBooked (small_step c (Hands p))) where
     abbrev d : Chronicle
     d = small_step c (Hands p)
 
@@ -376,7 +374,7 @@ starts-list c set is = subst (λ (x : Chronicle). AttemptList (start x set)) (sy
     (λ q. (let d = start no_chronicle set in list-none d q (replica_of d.world q) refl (fresh-none set (ids set) no_chronicle.world (λ q. tt) q)))
 
 -- Each small step keeps it.
-pub attempt_list-kept : (c : Chronicle) (s : Small) → Invariant c → may_make c s ≡ true → AllReplicas c → PartsBooked c → MadeOnce (small_step c s) → AttemptList (small_step c s)
+pub attempt_list-kept : (c : Chronicle) (s : Small) → Invariant c → may_make c s ≡ true → AllReplicas c → PartsBooked c → AreHeldBooked (small_step c s) → AttemptList (small_step c s)
 unfolding small_step may_make
 attempt_list-kept c (Starts set) i may replicas parts once = starts-list c set (nothing-before c i.net.seated (and_parts (is_nil c.world.seats) (is_set (ids set)) may).0)
 attempt_list-kept c (Makes set) i may replicas parts once = makes-list c i set

@@ -3,8 +3,7 @@
 use Rattle.std.proofs.Common.{◌≡◌, true}
 use Rattle.cg_agree.specs.Chronicle.{Chronicle}
 use Rattle.cg_agree.specs.FactsAttempts.{AttemptFacts}
-use Rattle.cg_agree.specs.FactsReplica.{IsCore, MadeOnce}
-use Rattle.cg_agree.specs.FactsExchange.{ExchangeProgress}
+use Rattle.cg_agree.specs.FactsReplica.{IsCore}
 use Rattle.cg_agree.specs.Facts.{Invariant}
 use Rattle.cg_agree.specs.Looks.{OfCores}
 use Rattle.cg_agree.specs.Played.{AtRest}
@@ -14,7 +13,7 @@ use Rattle.cg_agree.proofs.AttemptFactsKept.{IsSaidNow, AttemptsNow, attempts-no
 use Rattle.cg_agree.proofs.AttemptListKept.{attempt_list-kept}
 use Rattle.cg_agree.proofs.CoreKept.{Fits, cores_core-kept}
 use Rattle.cg_agree.proofs.ExchangeKept.{exchange_progress-kept}
-use Rattle.cg_agree.proofs.ListEntered.{PartsBooked}
+use Rattle.cg_agree.proofs.ListEntered.{PartsBooked, AreHeldBooked}
 use Rattle.cg_agree.proofs.PartsKept.{AllReplicas, attempt_shape-kept}
 use Rattle.cg_agree.proofs.PlanThere.{end-fits}
 use Rattle.cg_agree.proofs.TalkFactsKept.{talk_legal-kept, sent_iff_due-kept, mode_fits-kept}
@@ -53,12 +52,12 @@ cores-kept-all c s i may = cores_core-kept c s i may (fits-now c s i)
 pub attempts-kept-all : (c : Chronicle) (s : Small) → Invariant c → may_make c s ≡ true → AtRest c s → AttemptsNow (small_step c s)
 attempts-kept-all c s i may rest = attempts-now c s i may rest (said-now c s i may)
 
--- what the parts of attempts ask for: nobody knows an action whose creator is no replica; the parts are of actions of their names
--- before the step, and all actions are behind it
+-- what the parts of attempts ask for: nobody knows an action whose creator is no replica; each action of the parts is the one of its
+-- name before the step, and each that a replica holds is behind it
 pub record PartsAsk (c : Chronicle) (s : Small) : Type 0 where
   pub replicas : AllReplicas c
   pub parts : PartsBooked c
-  pub once : MadeOnce (small_step c s)
+  pub once : AreHeldBooked (small_step c s)
 
 -- All of them.
 pub attempt_facts-kept : (c : Chronicle) (s : Small) → Invariant c → may_make c s ≡ true → AtRest c s → PartsAsk c s → AttemptFacts (small_step c s)

@@ -1,20 +1,16 @@
 -- A member that begins an attempt at the end of its plan: it has the most updated member's greens, knows all that some member knew, and
 -- has the common yellow list.
-use Rattle.std.proofs.Common.{◌⊎◌, ◌≡◌, ℕ, suc, Bool, true, false, not, ◌&&◌, List, [], ◌∷◌, ◌++◌, Option, Some, None, IfSome, refl, sym, ap, ap₂, ◌∙◌, subst, ⊎_elim, eqb-true}
-use Rattle.std.specs.Prelude.{◌==◌, option_and_then}
+use Rattle.std.proofs.Common.{◌≡◌, ℕ, suc, true, false, List, [], Option, Some, None, IfSome, refl, sym, ap, ◌∙◌, subst, eqb-true}
+use Rattle.std.specs.Prelude.{option_and_then}
 use Rattle.std.specs.Option.{option_map_or}
 use Rattle.std.proofs.lemmas.Bool.{and_parts, false_from_ne_true}
 use Rattle.cg_base.specs.Cuts.{index_in}
 use Rattle.cg_base.specs.Sets.{has}
-use Rattle.cg_action.specs.declared.action.Action.{Action}
 use Rattle.cg_queue.specs.Queue.{names_of}
 use Rattle.cg_knowledge.specs.declared.summary.Summary.{Summary}
 use Rattle.cg_knowledge.specs.Members.{gone, most_updated}
 use Rattle.cg_knowledge.specs.Yellow.{common_yellow}
-use Rattle.cg_client.specs.Replica.{Held, State, Construct, Replica, yellow_of}
-use Rattle.cg_client.specs.Turn.{begin}
-use Rattle.cg_step.specs.Step.{on_message}
-use Rattle.cg_agree.specs.World.{replica_of}
+use Rattle.cg_client.specs.Replica.{State, Construct, Replica, yellow_of}
 use Rattle.cg_agree.specs.Chronicle.{Told, Chronicle}
 use Rattle.cg_agree.specs.Fronts.{IsSomeWith}
 use Rattle.cg_agree.specs.Looks.{greens_of, told_in, is_regular_at, members_in}

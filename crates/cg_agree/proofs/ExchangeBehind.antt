@@ -1,12 +1,12 @@
 -- A member that is in no exchange, to whom a place is handed: what it took over at the end of its plan it has still.
-use Rattle.std.proofs.Common.{◌≡◌, ℕ, suc, Bool, true, false, cond, not, List, [], ◌∷◌, ◌++◌, take, Option, Some, None, IfSome, refl, sym, ap, ap₂, ◌∙◌, subst, eqb-true, eq-eqb}
+use Rattle.std.proofs.Common.{◌≡◌, ℕ, suc, Bool, true, false, cond, not, List, [], ◌∷◌, take, Option, Some, IfSome, refl, sym, ap, ap₂, ◌∙◌, subst, eqb-true, eq-eqb}
 use Rattle.std.specs.Prelude.{◌==◌, nat_le}
 use Rattle.std.specs.Option.{option_map_or}
 use Rattle.std.proofs.lemmas.Bool.{cond-true, cond_both}
 use Rattle.cg_base.specs.Cuts.{index_in}
 use Rattle.cg_base.specs.Sets.{has, is_within, with_member}
 use Rattle.cg_action.specs.declared.action.Action.{Action}
-use Rattle.cg_queue.specs.Queue.{Marking, Marks, Gaps, marked_red, placed_red}
+use Rattle.cg_queue.specs.Queue.{Marks, Gaps, marked_red, placed_red}
 use Rattle.cg_queue.specs.declared.mark.Mark.TheVariants.{Placed, Known}
 use Rattle.cg_knowledge.specs.declared.summary.Summary.{Summary}
 use Rattle.cg_records.specs.declared.yellow.Yellow.{Yellow}

@@ -1,12 +1,12 @@
 -- A member in an exchange, to whom a place is handed: what it holds as the plan goes on, and at its end with and without a quorum.
-use Rattle.std.proofs.Common.{◌⊎◌, ◌≡◌, ℕ, zero, suc, ◌≤◌, Bool, true, false, cond, not, ◌&&◌, List, [], ◌∷◌, ◌++◌, length, drop, take, Option, Some, None, IfSome, refl, sym, ap, ap₂, ◌∙◌, subst, ⊎_elim, arith}
-use Rattle.std.specs.Prelude.{◌==◌, option_and_then}
-use Rattle.std.proofs.lemmas.Bool.{cases_Bool, cond_both, and_parts, cond-true, cond-false}
-use Rattle.cg_base.specs.Sets.{has, is_within}
+use Rattle.std.proofs.Common.{◌≡◌, ℕ, zero, suc, ◌≤◌, true, false, List, [], ◌∷◌, ◌++◌, length, drop, Option, Some, None, refl, sym, ap, ap₂, ◌∙◌, subst, arith}
+use Rattle.std.specs.Prelude.{option_and_then}
+use Rattle.std.proofs.lemmas.Bool.{cond_both}
+use Rattle.cg_base.specs.Sets.{has}
 use Rattle.cg_action.specs.declared.action.Action.{Action}
 use Rattle.cg_records.specs.declared.yellow.Yellow.{Yellow}
 use Rattle.cg_knowledge.specs.declared.summary.Summary.{Summary}
-use Rattle.cg_knowledge.specs.Members.{senders, gone, most_updated}
+use Rattle.cg_knowledge.specs.Members.{gone, most_updated}
 use Rattle.cg_knowledge.specs.Vulnerable.{decided}
 use Rattle.cg_knowledge.specs.Verdict.{decides}
 use Rattle.cg_knowledge.specs.Yellow.{common_yellow}
@@ -22,7 +22,7 @@ use Rattle.cg_agree.specs.Chronicle.{Told, Chronicle}
 use Rattle.cg_agree.specs.Fronts.{Front, Either, IsSomeWith}
 use Rattle.cg_agree.specs.Looks.{told_in}
 use Rattle.cg_agree.specs.FactsTalk.{handed_talk}
-use Rattle.cg_agree.specs.FactsExchange.{HoldsStill, IsUnmoved, IsGoingOn, HasTakenOver, best_told, IsInExchange}
+use Rattle.cg_agree.specs.FactsExchange.{IsUnmoved, IsGoingOn, HasTakenOver, best_told, IsInExchange}
 use Rattle.cg_agree.proofs.FrontFacts.{split_by_Front}
 
 -- ---- lists

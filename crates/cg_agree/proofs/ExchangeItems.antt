@@ -1,8 +1,7 @@
 -- A member in an exchange, to whom a place is handed: it holds what it told as the first item is waited for, and goes on behind each item.
-use Rattle.std.proofs.Common.{◌⊎◌, ◌≡◌, ℕ, suc, ◌≤◌, Bool, true, false, List, [], ◌∷◌, ◌++◌, length, drop, take, min, max, Option, Some, None, IfSome, refl, sym, ap, ◌∙◌, subst, ⊎_elim, arith}
-use Rattle.std.specs.Prelude.{◌==◌, slice_get}
+use Rattle.std.proofs.Common.{◌≡◌, ℕ, suc, ◌≤◌, true, false, List, [], ◌++◌, length, drop, take, Option, Some, sym, ap, ◌∙◌, subst, ⊎_elim, arith}
+use Rattle.std.specs.Prelude.{slice_get}
 use Rattle.std.proofs.lemmas.Bool.{cases_Bool}
-use Rattle.cg_base.specs.declared.action_id.ActionId.{ActionId}
 use Rattle.cg_base.specs.Sets.{has, is_within}
 use Rattle.cg_action.specs.declared.action.Action.{Action}
 use Rattle.cg_queue.specs.Queue.{names_of}
@@ -15,11 +14,11 @@ use Rattle.cg_group.specs.declared.phase.Phase.TheVariants.{Regular}
 use Rattle.cg_group.specs.State.{Sent, phase_of, delivered_to}
 use Rattle.cg_client.specs.Replica.{Held, ExchangeActions, Replica}
 use Rattle.cg_client.specs.Turn.{Turn, begin}
-use Rattle.cg_exchange.specs.ExchangeActions.{mark_item, take_item}
+use Rattle.cg_exchange.specs.ExchangeActions.{take_item}
 use Rattle.cg_agree.specs.World.{replica_of}
 use Rattle.cg_agree.specs.Chronicle.{Told, Chronicle}
 use Rattle.cg_agree.specs.Fronts.{Either, IsSomeWith}
-use Rattle.cg_agree.specs.Looks.{greens_of, told_in, members_in, ordered_in}
+use Rattle.cg_agree.specs.Looks.{greens_of, members_in, ordered_in}
 use Rattle.cg_agree.specs.Talk.{Talk, is_full, is_through}
 use Rattle.cg_agree.specs.Facts.{Invariant}
 use Rattle.cg_agree.specs.FactsReplica.{cut_behind}
@@ -29,10 +28,10 @@ use Rattle.cg_agree.proofs.ExchangeHands.{EndsAs, grown-front}
 use Rattle.cg_agree.proofs.ExchangeStill.{holds-still}
 use Rattle.cg_agree.proofs.ExchangeThere.{id, core, oneself, heard_before, in_exchange, best, near, best-is, unmoved-behind, unmoved-gone, going-at, before-greens, greens-count, take-gone, take-here, white-item}
 use Rattle.cg_agree.proofs.FrontFacts.{take-Front, Front-takes}
-use Rattle.cg_agree.proofs.HeldMarks.{IsOneself, rising-green}
-use Rattle.cg_agree.proofs.PlanProgress.{IsBehind, greens_there, length-taken}
+use Rattle.cg_agree.proofs.HeldMarks.{rising-green}
+use Rattle.cg_agree.proofs.PlanProgress.{IsBehind, greens_there}
 use Rattle.cg_agree.proofs.PlanThere.{ended-there}
-use Rattle.cg_agree.proofs.ToldBeside.{told-fits, told-front, IsBest}
+use Rattle.cg_agree.proofs.ToldBeside.{told-fits, told-front}
 use Rattle.cg_agree.proofs.TurnValues.{even-take_item}
 use Rattle.cg_agree.proofs.YellowItems.{above_green, IsStillYellow, above-all, yellow-item}
 

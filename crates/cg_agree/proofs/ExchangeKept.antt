@@ -1,7 +1,6 @@
 -- What members hold in exchanges, behind each small step.
-use Rattle.std.proofs.Common.{◌⊎◌, ◌≡◌, ℕ, suc, ◌≤◌, Bool, true, false, cond, not, ◌&&◌, List, [], ◌∷◌, ◌++◌, length, drop, take, min, max, Option, Some, None, IfSome, refl, sym, ap, ap₂, ◌∙◌, subst, ⊎_elim, arith, if◌then◌else◌}
-use Rattle.std.specs.Prelude.{◌==◌, nat_le}
-use Rattle.std.proofs.lemmas.Bool.{cases_Bool, cond_both, and_parts, cond-true, cond-false}
+use Rattle.std.proofs.Common.{◌≡◌, ℕ, suc, true, false, not, List, [], ◌∷◌, ◌++◌, Option, Some, None, IfSome, refl, sym, ap, ap₂, ◌∙◌, subst, ⊎_elim, if◌then◌else◌}
+use Rattle.std.proofs.lemmas.Bool.{cases_Bool, cond_both, and_parts, cond-true}
 use Rattle.cg_base.specs.Sets.{has, is_within}
 use Rattle.cg_action.specs.declared.action.Action.{Action}
 use Rattle.cg_knowledge.specs.declared.summary.Summary.{Summary}
@@ -14,20 +13,20 @@ use Rattle.cg_plan.specs.Plan.{plan_of}
 use Rattle.cg_plan.specs.Progress.{is_done, is_wanted, next_item, turn_of}
 use Rattle.cg_wire.specs.declared.message.Msg.{Msg}
 use Rattle.cg_wire.specs.declared.message.Msg.TheVariants.{Action as ActionMsg, State as StateMsg, GreenItem, RedItem, Cpc}
-use Rattle.cg_client.specs.Replica.{Held, State, RegPrim, TransPrim, ExchangeStates, ExchangeActions, Construct, No, Un, NonPrim, Left, Replica}
+use Rattle.cg_client.specs.Replica.{State, RegPrim, ExchangeStates, ExchangeActions, Construct, NonPrim, Left, Replica}
 use Rattle.cg_client.specs.Turn.{Turn, begin, go_to, with_held}
 use Rattle.cg_client.specs.Requests.{empty_buffer}
 use Rattle.cg_exchange.specs.ExchangeStates.{is_usable, with_heard}
-use Rattle.cg_exchange.specs.ExchangeActions.{progress, is_next, mark_item, take_item, send_part, go_on}
+use Rattle.cg_exchange.specs.ExchangeActions.{progress, take_item, send_part, go_on}
 use Rattle.cg_exchange.specs.PlanEnd.{take_over, attempt, decide, end_plan}
 use Rattle.cg_step.specs.Step.{on_message}
 use Rattle.cg_agree.specs.World.{replica_of}
 use Rattle.cg_agree.specs.Chronicle.{Told, Chronicle}
-use Rattle.cg_agree.specs.Fronts.{Front, Either, IsSomeWith}
-use Rattle.cg_agree.specs.Looks.{greens_of, told_in, members_in, ordered_in, is_regular_in}
+use Rattle.cg_agree.specs.Fronts.{Either, IsSomeWith}
+use Rattle.cg_agree.specs.Looks.{greens_of, told_in, members_in, is_regular_in}
 use Rattle.cg_agree.specs.Talk.{Talk, hears_from, is_full, is_through, is_announced, is_due, state_behind, state_in}
 use Rattle.cg_agree.specs.FactsTalk.{AreTold, handed_talk}
-use Rattle.cg_agree.specs.FactsExchange.{HoldsStill, IsUnmoved, IsGoingOn, best_told, IsInExchange, ExchangeProgress}
+use Rattle.cg_agree.specs.FactsExchange.{IsUnmoved, IsGoingOn, IsInExchange, ExchangeProgress}
 use Rattle.cg_agree.specs.Facts.{Invariant}
 use Rattle.cg_agree.specs.Small.{Small, Starts, Makes, Enters, Orders, Receives, Hands, Leaves, Asks, Settles, Commits, Crashes, Recovers, Copies, Joins, newly_green, take_next, handed_next, small_step}
 use Rattle.cg_agree.specs.Smalls.{may_make}

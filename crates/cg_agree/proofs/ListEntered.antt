@@ -1,5 +1,5 @@
 -- A member that enters an attempt holds its parts, where each action of them is the one of its name.
-use Rattle.std.proofs.Common.{◌⊎◌, ◌≡◌, ℕ, suc, zero, Bool, true, false, cond, not, List, [], ◌∷◌, ◌++◌, drop, filter, find, Option, Some, None, IfSome, refl, sym, ap, ap₂, ◌∙◌, subst, ⊎_elim, eqb-true}
+use Rattle.std.proofs.Common.{◌≡◌, ℕ, suc, zero, Bool, true, false, cond, not, List, [], ◌∷◌, ◌++◌, drop, filter, find, Option, Some, None, IfSome, refl, sym, ap, ap₂, ◌∙◌, subst, ⊎_elim, eqb-true}
 use Rattle.std.specs.Prelude.{◌==◌}
 use Rattle.std.specs.Option.{option_map_or, option_to_list}
 use Rattle.std.proofs.lemmas.Bool.{cases_eq, cond_both, ne_eqb}
@@ -8,7 +8,7 @@ use Rattle.cg_base.specs.Ids.{names, same_id}
 use Rattle.cg_action.specs.declared.action.Action.{Action}
 use Rattle.cg_queue.specs.Queue.{QueueView, names_of, action_of}
 use Rattle.cg_knowledge.specs.declared.summary.Summary.{Summary}
-use Rattle.cg_client.specs.Replica.{Held, State, Construct, Replica}
+use Rattle.cg_client.specs.Replica.{Replica}
 use Rattle.cg_client.specs.Install.{actions_named, valid_yellow}
 use Rattle.cg_client.specs.Queries.{plain_reds}
 use Rattle.cg_agree.specs.World.{replica_of}
@@ -17,10 +17,9 @@ use Rattle.cg_agree.specs.Fronts.{IsSomeWith}
 use Rattle.cg_agree.specs.Looks.{greens_of, attempt_of}
 use Rattle.cg_agree.specs.FactsAttempts.{IsAttempt, AreParts, HoldsParts}
 use Rattle.cg_agree.specs.FactsExchange.{best_told}
-use Rattle.cg_agree.specs.FactsReplica.{booked, AreBooked, MadeOnce, IsMadeOf, is_attempting}
-use Rattle.cg_agree.specs.FactsTalk.{whole_talk}
+use Rattle.cg_agree.specs.FactsReplica.{booked, AreBooked, is_attempting}
 use Rattle.cg_agree.specs.Facts.{Invariant}
-use Rattle.cg_agree.specs.Small.{Small, Hands, with_entrant, with_installer, with_leaver, take_next, handed_next, small_step}
+use Rattle.cg_agree.specs.Small.{Hands, with_entrant, with_installer, with_leaver, take_next, handed_next, small_step}
 use Rattle.cg_agree.specs.Smalls.{may_make}
 use Rattle.cg_agree.proofs.AttemptSteps.{IsHanded, attempt-step}
 use Rattle.cg_agree.proofs.AttemptsCame.{Begins, Came, Stayed, WasLeft, WasEntered, WasInstalled, WasMade, came}
@@ -28,8 +27,8 @@ use Rattle.cg_agree.proofs.AttemptsGrow.{grown-leaver}
 use Rattle.cg_agree.proofs.ExchangeBehind.{told-now}
 use Rattle.cg_agree.proofs.ExchangeHands.{best-same}
 use Rattle.cg_agree.proofs.HandSays.{find-holds}
-use Rattle.cg_agree.proofs.HandsNow.{HandsNow, hands-now}
-use Rattle.cg_agree.proofs.PartsKept.{AllReplicas, HasBegun, has-begun}
+use Rattle.cg_agree.proofs.HandsNow.{hands-now}
+use Rattle.cg_agree.proofs.PartsKept.{HasBegun, has-begun}
 use Rattle.cg_agree.proofs.PartsNamed.{KnowsReplicas}
 use Rattle.cg_agree.proofs.SameAttempt.{SameAttempt, same-refl}
 use Rattle.cg_agree.proofs.TalkQuiet.{replica-turning}
@@ -37,6 +36,11 @@ use Rattle.cg_agree.proofs.TalkQuiet.{replica-turning}
 -- the actions of each attempt's parts are those of their names
 abbrev pub PartsBooked : Chronicle → Type 0
 PartsBooked c = (conf : ℕ) → IfSome (attempt_of c conf) (λ a. AreBooked c (a.yellow ++ a.reds))
+
+-- so are those that replicas hold
+pub record AreHeldBooked (c : Chronicle) : Type 0 where
+  pub in_greens : (p : ℕ) → AreBooked c (greens_of c p)
+  pub in_memory : (p : ℕ) → IfSome (replica_of c.world p) (λ r. AreBooked c (r.held.queue.reds ++ r.held.own))
 
 -- ---- actions of names
 
@@ -91,7 +95,7 @@ booked-named c q (id ∷ ids) are = booked-both c (option_to_list (action_of q i
   at (Some a) e = (booked-found c (λ (x : Action). same_id x.id id) (q.greens ++ q.reds) a are e, tt)
 
 -- what a replica holds of its parts is of actions of their names
-pub parts-booked : (d : Chronicle) (p : ℕ) (r : Replica) → MadeOnce d → replica_of d.world p ≡ Some r → r.held.queue.greens ≡ drop r.held.queue.white (greens_of d p) →
+pub parts-booked : (d : Chronicle) (p : ℕ) (r : Replica) → AreHeldBooked d → replica_of d.world p ≡ Some r → r.held.queue.greens ≡ drop r.held.queue.white (greens_of d p) →
     AreBooked d (valid_yellow r.held) × AreBooked d (plain_reds r.held.queue)
 parts-booked d p r once up kept =
     let q = r.held.queue in

@@ -1,9 +1,9 @@
 -- A member of an attempt holds the attempt's parts still, where what it holds of them and its greens are as before.
-use Rattle.std.proofs.Common.{◌⊎◌, ◌≡◌, ℕ, Bool, true, false, List, [], ◌∷◌, ◌++◌, drop, find, filter, flat_map, Option, Some, None, IfSome, refl, sym, ap, ap₂, ◌∙◌, subst, ⊎_elim, inl, inr, arith, eqb-true, eq-eqb, option_and_then, if◌then◌else◌}
+use Rattle.std.proofs.Common.{◌≡◌, ℕ, Bool, true, false, List, [], ◌∷◌, ◌++◌, drop, find, Option, Some, None, IfSome, refl, sym, ap, ap₂, ◌∙◌, subst, ⊎_elim, arith, eqb-true, if◌then◌else◌}
 use Rattle.std.specs.Prelude.{◌==◌, nat_le, nat_lt, not, ◌&&◌, ◌||◌, suc, zero, ◌≤◌, ◌<◌}
 use Rattle.std.specs.Option.{option_to_list}
 use Rattle.std.specs.List.{list_all}
-use Rattle.std.proofs.lemmas.Bool.{cases_Bool, cond-true, cond-false, and_parts, not-true, leb-true, leb-false}
+use Rattle.std.proofs.lemmas.Bool.{cases_Bool, cond-false, and_parts, not-true, leb-true, leb-false}
 use Rattle.cg_base.specs.declared.action_id.ActionId.{ActionId}
 use Rattle.cg_base.specs.declared.weighted.Weighted.{Weighted}
 use Rattle.cg_base.specs.Cuts.{index_in}
@@ -21,13 +21,13 @@ use Rattle.cg_agree.specs.Chronicle.{Attempt, Chronicle}
 use Rattle.cg_agree.specs.Fronts.{When, IsSomeWith}
 use Rattle.cg_agree.specs.Looks.{greens_of, conf_at, attempt_of}
 use Rattle.cg_agree.specs.FactsAttempts.{HoldsParts, AttemptList}
-use Rattle.cg_agree.specs.FactsReplica.{run_on, cut_behind, is_attempting}
+use Rattle.cg_agree.specs.FactsReplica.{cut_behind, is_attempting}
 use Rattle.cg_agree.proofs.EndCuts.{run-above}
 use Rattle.cg_agree.proofs.ExchangeStill.{OneMoves}
 use Rattle.cg_agree.proofs.HeldMarks.{IsOneself}
 use Rattle.cg_agree.proofs.NamesAscend.{same-parts}
 use Rattle.cg_agree.proofs.RunMarks.{run-names}
-use Rattle.cg_agree.proofs.SameAttempt.{SameAttempt, KeepsAttempts}
+use Rattle.cg_agree.proofs.SameAttempt.{KeepsAttempts}
 use Rattle.cg_agree.proofs.TurnKinds.{IsQuiet}
 
 -- what a member holds of its attempt

@@ -1,6 +1,6 @@
 -- The parts of each attempt are of actions of their names, behind each small step: the book only grows, and of an attempt that is made
 -- in the step they are what its first member holds.
-use Rattle.std.proofs.Common.{◌≡◌, ℕ, true, List, [], ◌∷◌, ◌++◌, Option, Some, None, IfSome, refl, sym, ap, ◌∙◌, subst, append-nil, option_map}
+use Rattle.std.proofs.Common.{◌≡◌, ℕ, true, List, [], ◌++◌, Option, Some, None, IfSome, refl, sym, ap, ◌∙◌, subst, append-nil}
 use Rattle.std.specs.Option.{option_map_or}
 use Rattle.cg_action.specs.declared.action.Action.{Action}
 use Rattle.cg_client.specs.Replica.{Replica}
@@ -8,10 +8,10 @@ use Rattle.cg_client.specs.Requests.{settle}
 use Rattle.cg_client.specs.Turn.{Turn, begin}
 use Rattle.cg_client.specs.Install.{valid_yellow}
 use Rattle.cg_client.specs.Queries.{plain_reds}
-use Rattle.cg_agree.specs.World.{Life, Up, Down, Seat, Snapshot, seat_of, replica_of}
+use Rattle.cg_agree.specs.World.{Life, Up, Down, Seat, seat_of, replica_of}
 use Rattle.cg_agree.specs.Chronicle.{Attempt, Chronicle}
 use Rattle.cg_agree.specs.Looks.{greens_of, attempt_of, snapshot_of}
-use Rattle.cg_agree.specs.FactsReplica.{AreBooked, IsCore, MadeOnce}
+use Rattle.cg_agree.specs.FactsReplica.{AreBooked, IsCore}
 use Rattle.cg_agree.specs.Facts.{Invariant}
 use Rattle.cg_agree.specs.Small.{Small, Starts, Makes, Enters, Orders, Receives, Hands, Leaves, Asks, Settles, Commits, Crashes, Recovers, Copies, Joins, with_leaver, turning, turning_as, coming, handed_next, leaving, take_newest, take_next, take_parting, take_request, commit_as, crash_as, recover_as, copy_as, join_with, small_step}
 use Rattle.cg_agree.specs.Smalls.{may_make}
@@ -20,7 +20,7 @@ use Rattle.cg_agree.proofs.AttemptSteps.{attempt-step}
 use Rattle.cg_agree.proofs.AttemptsCame.{Came, Stayed, WasLeft, WasEntered, WasInstalled, WasMade, came}
 use Rattle.cg_agree.proofs.AttemptsAll.{cores-kept-all}
 use Rattle.cg_agree.proofs.AttemptsGrow.{grown-leaver}
-use Rattle.cg_agree.proofs.ListEntered.{PartsBooked, parts-booked, booked-both}
+use Rattle.cg_agree.proofs.ListEntered.{PartsBooked, AreHeldBooked, parts-booked, booked-both}
 
 -- ---- the book
 
@@ -79,7 +79,7 @@ book-grows c (Joins joiner) = book-found c (snapshot_of c.world joiner) (λ s. j
 
 -- ---- the parts
 
-pub parts_booked-kept : (c : Chronicle) (s : Small) → Invariant c → may_make c s ≡ true → MadeOnce (small_step c s) → PartsBooked c → PartsBooked (small_step c s)
+pub parts_booked-kept : (c : Chronicle) (s : Small) → Invariant c → may_make c s ≡ true → AreHeldBooked (small_step c s) → PartsBooked c → PartsBooked (small_step c s)
 parts_booked-kept c s i may once old conf = at (attempt_of (small_step c s) conf) refl where
   grown : (a : Attempt) → attempt_of c conf ≡ Some a → AreBooked (small_step c s) (a.yellow ++ a.reds)
   grown a found =

@@ -1,6 +1,6 @@
 -- The parts of an attempt that is made in a small step, and with them what an attempt is.
-use Rattle.std.proofs.Common.{◌≡◌, ℕ, true, false, List, [], ◌∷◌, Option, Some, None, IfSome, refl, sym, ap, ap₂, ◌∙◌, subst}
-use Rattle.std.specs.Prelude.{◌==◌, option_and_then}
+use Rattle.std.proofs.Common.{◌≡◌, ℕ, true, List, [], ◌∷◌, Option, Some, None, IfSome, refl, sym, ap, ◌∙◌, subst}
+use Rattle.std.specs.Prelude.{option_and_then}
 use Rattle.std.specs.Option.{option_map_or}
 use Rattle.std.proofs.lemmas.Bool.{and_parts}
 use Rattle.cg_base.specs.declared.weighted.Weighted.{Weighted}
@@ -8,33 +8,28 @@ use Rattle.cg_base.specs.Sets.{has}
 use Rattle.cg_base.specs.Text.{is_nil}
 use Rattle.cg_base.specs.Weights.{ids}
 use Rattle.cg_action.specs.declared.action.Action.{Action}
-use Rattle.cg_queue.specs.Queue.{names_of}
 use Rattle.cg_knowledge.specs.declared.summary.Summary.{Summary}
-use Rattle.cg_knowledge.specs.Members.{senders, remaining}
+use Rattle.cg_knowledge.specs.Members.{senders}
 use Rattle.cg_knowledge.specs.Primary.{newest_index, known_primary}
-use Rattle.cg_knowledge.specs.Yellow.{common_yellow}
 use Rattle.cg_client.specs.Replica.{Replica}
-use Rattle.cg_client.specs.Install.{valid_yellow}
-use Rattle.cg_client.specs.Queries.{plain_reds}
 use Rattle.cg_agree.specs.World.{replica_of}
-use Rattle.cg_agree.specs.Attempts.{new_attempt}
 use Rattle.cg_agree.specs.Chronicle.{Told, Attempt, Chronicle, no_chronicle}
 use Rattle.cg_agree.specs.Fronts.{IsSomeWith}
 use Rattle.cg_agree.specs.Looks.{greens_of, told_in, ordered_in, attempt_of}
-use Rattle.cg_agree.specs.FactsAttempts.{AreParts, AttemptShape, red_names}
+use Rattle.cg_agree.specs.FactsAttempts.{AreParts, AttemptShape}
 use Rattle.cg_agree.specs.FactsExchange.{best_told}
 use Rattle.cg_agree.specs.FactsTalk.{whole_talk, TalkLegal}
 use Rattle.cg_agree.specs.Facts.{Invariant}
-use Rattle.cg_agree.specs.Small.{Small, Starts, Makes, Enters, Orders, Receives, Hands, Leaves, Asks, Settles, Commits, Crashes, Recovers, Copies, Joins, with_entrant, start, small_step}
+use Rattle.cg_agree.specs.Small.{Small, Starts, Makes, Enters, Orders, Receives, Hands, Leaves, Asks, Settles, Commits, Crashes, Recovers, Copies, Joins, start, small_step}
 use Rattle.cg_agree.specs.Smalls.{may_make, is_set}
 use Rattle.cg_agree.proofs.AttemptSteps.{IsHanded, attempt-step}
 use Rattle.cg_agree.proofs.AttemptsCame.{Begins, Came, Stayed, WasLeft, WasEntered, WasInstalled, WasMade, came}
 use Rattle.cg_agree.proofs.BegunKept.{nothing-before}
-use Rattle.cg_agree.proofs.BuiltThere.{Built, built}
+use Rattle.cg_agree.proofs.BuiltThere.{built}
 use Rattle.cg_agree.proofs.DeadKept.{said-by}
 use Rattle.cg_agree.proofs.ExchangeBehind.{up-now, told-now}
 use Rattle.cg_agree.proofs.ExchangeHands.{best-same}
-use Rattle.cg_agree.proofs.HandsNow.{HandsNow, hands-now, new, running-now}
+use Rattle.cg_agree.proofs.HandsNow.{hands-now, new, running-now}
 use Rattle.cg_agree.proofs.Knowledge.{some-sender, known-of}
 use Rattle.cg_agree.proofs.EndCovers.{OfEach}
 use Rattle.cg_agree.proofs.LevelsKept.{NotStart, start-kept}
@@ -43,7 +38,7 @@ use Rattle.cg_agree.proofs.PartsNamed.{KnowsReplicas, PartsNamed, parts-named}
 use Rattle.cg_agree.proofs.PlanEnd.{AtPlanEnd}
 use Rattle.cg_agree.proofs.ShapeKept.{MadeParts, same-end, shape-kept}
 use Rattle.cg_agree.proofs.ToldStays.{told-stays}
-use Rattle.cg_agree.proofs.TurnKinds.{HasAttempted, new_record}
+use Rattle.cg_agree.proofs.TurnKinds.{HasAttempted}
 
 -- in no configuration does anybody know an action whose creator is no replica
 abbrev pub AllReplicas : Chronicle → Type 0

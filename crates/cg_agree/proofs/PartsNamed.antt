@@ -1,5 +1,5 @@
 -- The parts of an attempt at a member that begins it: their names follow from the summaries.
-use Rattle.std.proofs.Common.{◌⊎◌, ◌≡◌, ℕ, zero, suc, ◌≤◌, ◌<◌, Bool, true, false, cond, not, ◌&&◌, List, [], ◌∷◌, ◌++◌, map, filter, find, flat_map, fold, Option, Some, None, is_some, refl, sym, ap, ap₂, ◌∙◌, subst, ⊎_elim, arith, eq-eqb}
+use Rattle.std.proofs.Common.{◌≡◌, ℕ, zero, suc, ◌≤◌, ◌<◌, Bool, true, false, cond, not, List, [], ◌∷◌, ◌++◌, filter, flat_map, fold, Option, Some, None, is_some, refl, sym, ap, ap₂, ◌∙◌, subst, ⊎_elim, arith, eq-eqb}
 use Rattle.std.specs.Prelude.{◌==◌, nat_lt}
 use Rattle.std.specs.Option.{option_map_or, option_to_list}
 use Rattle.std.specs.List.{list_all}
@@ -22,7 +22,7 @@ use Rattle.cg_client.specs.Install.{actions_named, valid_yellow}
 use Rattle.cg_client.specs.Queries.{plain_reds}
 use Rattle.cg_agree.specs.FactsAttempts.{names_between, red_names}
 use Rattle.cg_agree.specs.FactsLists.{IsRising}
-use Rattle.cg_agree.specs.FactsReplica.{run_on, cut_behind}
+use Rattle.cg_agree.specs.FactsReplica.{cut_behind}
 use Rattle.cg_agree.specs.Talk.{known_up_to}
 use Rattle.cg_agree.proofs.HandSays.{find-holds}
 use Rattle.cg_agree.proofs.HeldMarks.{IsOneself, are_within, rising-green}

@@ -1,16 +1,14 @@
 -- As a plan ends a member that remains has all greens of the most updated one, and takes the common yellow list over whole.
-use Rattle.std.proofs.Common.{◌⊎◌, ◌≡◌, ℕ, suc, ◌≤◌, Bool, true, false, not, ◌&&◌, List, [], ◌∷◌, ◌++◌, length, take, Option, Some, None, IfSome, refl, sym, ap, ap₂, ◌∙◌, subst, ⊎_elim, arith, leb-true}
-use Rattle.std.specs.Prelude.{◌==◌, slice_get, nat_le}
-use Rattle.std.proofs.lemmas.Bool.{cases_Bool, and_parts}
-use Rattle.cg_base.specs.declared.action_id.ActionId.{ActionId}
+use Rattle.std.proofs.Common.{◌≡◌, ℕ, suc, ◌≤◌, true, false, List, [], ◌∷◌, length, take, Some, refl, sym, ap, ◌∙◌, subst, ⊎_elim, arith, leb-true}
+use Rattle.std.specs.Prelude.{slice_get}
+use Rattle.std.proofs.lemmas.Bool.{cases_Bool}
 use Rattle.cg_base.specs.Cuts.{index_in}
 use Rattle.cg_base.specs.Sets.{has, is_within}
 use Rattle.cg_action.specs.declared.action.Action.{Action}
 use Rattle.cg_queue.specs.Queue.{names_of}
 use Rattle.cg_knowledge.specs.declared.summary.Summary.{Summary}
 use Rattle.cg_knowledge.specs.Members.{senders, gone}
-use Rattle.cg_knowledge.specs.Yellow.{yellow_group, common_yellow}
-use Rattle.cg_plan.specs.declared.parts.Item.TheVariants.{Green, Red}
+use Rattle.cg_knowledge.specs.Yellow.{common_yellow}
 use Rattle.cg_plan.specs.Items.{items_of_plan}
 use Rattle.cg_plan.specs.Plan.{plan_of}
 use Rattle.cg_plan.specs.Progress.{is_done}
@@ -24,12 +22,12 @@ use Rattle.cg_exchange.specs.ExchangeActions.{progress, mark_item, take_item}
 use Rattle.cg_exchange.specs.PlanEnd.{usable_names}
 use Rattle.cg_agree.specs.World.{replica_of}
 use Rattle.cg_agree.specs.Chronicle.{Told, Chronicle}
-use Rattle.cg_agree.specs.Looks.{greens_of, told_in, members_in, ordered_in}
+use Rattle.cg_agree.specs.Looks.{members_in, ordered_in}
 use Rattle.cg_agree.specs.Talk.{Talk, hears_from, is_full, is_through, state_behind, state_in}
 use Rattle.cg_agree.specs.Facts.{Invariant}
 use Rattle.cg_agree.specs.FactsReplica.{run_on, cut_behind}
 use Rattle.cg_agree.specs.FactsTalk.{AreTold, handed_talk}
-use Rattle.cg_agree.proofs.AnswersOwn.{due-green, due-red, still, few-summary, ended-known}
+use Rattle.cg_agree.proofs.AnswersOwn.{due-green, due-red, still, ended-known}
 use Rattle.cg_agree.proofs.ClearedDead.{IsToldIn, each-told}
 use Rattle.cg_agree.proofs.CoreKept.{has_all, done_count, EndFits}
 use Rattle.cg_agree.proofs.CutRaise.{Rising, rising-behind}
@@ -37,9 +35,9 @@ use Rattle.cg_agree.proofs.EndCovers.{OfEach, of_each-weaker}
 use Rattle.cg_agree.proofs.EndQuorum.{both-each}
 use Rattle.cg_agree.proofs.EndReached.{best-bounds}
 use Rattle.cg_agree.proofs.ExchangeThere.{id, state, heard_before, heard_behind, in_exchange, in-states, in-actions, best, near, unmoved-behind, behind-green, behind-red, take-here, front-cut}
-use Rattle.cg_agree.proofs.HandsNow.{HandsNow, running-now}
+use Rattle.cg_agree.proofs.HandsNow.{running-now}
 use Rattle.cg_agree.proofs.HeldExchange.{FitsCommon}
-use Rattle.cg_agree.proofs.HeldMarks.{IsOneself, are_within, rising-green}
+use Rattle.cg_agree.proofs.HeldMarks.{are_within, rising-green}
 use Rattle.cg_agree.proofs.KnownBounds.{known-each}
 use Rattle.cg_agree.proofs.PlanEnd.{told-each, ended-behind}
 use Rattle.cg_agree.proofs.PlanItems.{plan-greens}

@@ -1,5 +1,5 @@
 -- What was told stays in each small step.
-use Rattle.std.proofs.Common.{◌⊎◌, ◌≡◌, ℕ, Bool, true, false, cond, ◌&&◌, Option, Some, None, sym, ap, ap₂, ◌∙◌, ⊎_elim, eqb-true}
+use Rattle.std.proofs.Common.{◌≡◌, ℕ, true, false, ◌&&◌, Option, Some, sym, ap, ap₂, ◌∙◌, ⊎_elim, eqb-true}
 use Rattle.std.specs.Prelude.{◌==◌, is_none}
 use Rattle.std.proofs.lemmas.Bool.{cases_Bool, cond-false, and_parts}
 use Rattle.cg_agree.specs.Chronicle.{Told, Chronicle}
