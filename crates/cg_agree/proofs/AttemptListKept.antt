@@ -18,6 +18,8 @@ use Rattle.cg_group.specs.Events.{with_receipt}
 use Rattle.cg_client.specs.Replica.{State, Replica, fresh}
 use Rattle.cg_client.specs.Turn.{Turn, begin}
 use Rattle.cg_client.specs.Requests.{settle}
+use Rattle.cg_client.specs.Install.{valid_yellow}
+use Rattle.cg_client.specs.Queries.{plain_reds}
 use Rattle.cg_stored.specs.Stored.{stored_of, whiten}
 use Rattle.cg_step.specs.Crash.{new_disk, crash_now, recovered, disk_recovered}
 use Rattle.cg_agree.specs.World.{Life, Up, Down, Seat, running, Snapshot, World, replica_of, has_begun, is_left}
@@ -33,9 +35,9 @@ use Rattle.cg_agree.specs.Smalls.{may_make, is_running, is_set}
 use Rattle.cg_agree.proofs.AttemptSteps.{IsHanded}
 use Rattle.cg_agree.proofs.AttemptsCame.{Begins}
 use Rattle.cg_agree.proofs.AttemptsTurn.{ends-exchanging, ends-beside}
+use Rattle.cg_agree.proofs.BookedParts.{new-booked}
 use Rattle.cg_agree.proofs.BegunKept.{nothing-before}
 use Rattle.cg_agree.proofs.ChronicleFacts.{past-begun}
-use Rattle.cg_agree.proofs.CoreKept.{cores_core-kept}
 use Rattle.cg_agree.proofs.CoresKept.{past-here, past-there}
 use Rattle.cg_agree.proofs.ExchangeBehind.{up-now, greens-same}
 use Rattle.cg_agree.proofs.ExchangeSmalls.{greens-turning, replica-behind, greens-behind, stays-told}
@@ -45,7 +47,7 @@ use Rattle.cg_agree.proofs.HandsKept.{regular-phase, regular-up, seated}
 use Rattle.cg_agree.proofs.HandsNow.{HandsNow, hands-now, hands-regular, hand-turned, new, running-now}
 use Rattle.cg_agree.proofs.HeldCommit.{white-oneself}
 use Rattle.cg_agree.proofs.HeldMarks.{IsOneself}
-use Rattle.cg_agree.proofs.ListEntered.{PartsBooked, AreHeldBooked, parts-booked, entered-held}
+use Rattle.cg_agree.proofs.ListEntered.{PartsBooked, entered-held}
 use Rattle.cg_agree.proofs.ListStill.{ListAt, WasIn, list-still, list-none, list-some, list-same, list-quiet, one-list, whitened-parts}
 use Rattle.cg_agree.proofs.ModeHeld.{is_exchanging}
 use Rattle.cg_agree.proofs.ModeKept.{mode_data-kept}
@@ -59,7 +61,6 @@ use Rattle.cg_agree.proofs.PartsKept.{AllReplicas}
 use Rattle.cg_agree.proofs.PartsNamed.{KnowsReplicas}
 use Rattle.cg_agree.proofs.PastKept.{enters-now}
 use Rattle.cg_agree.proofs.PlanEnd.{AtPlanEnd, plan-end, is_behind}
-use Rattle.cg_agree.proofs.PlanThere.{end-fits}
 use Rattle.cg_agree.proofs.RecordKept.{turn-is}
 use Rattle.cg_agree.proofs.SameAttempt.{KeepsAttempts, keeps-refl, keeps-left, attempts-kept}
 use Rattle.cg_agree.proofs.SmallTalk.{receive-is, receive-same}
@@ -288,7 +289,7 @@ module _ (c : Chronicle) (i : Invariant c) where
 
   -- ---- a place is handed
 
-  module _ (p : ℕ) (may : may_make c (Hands p) ≡ true) (n : HandsNow c p) (replicas : AllReplicas c) (old-booked : PartsBooked c) (once : AreHeldBooked (small_step c (Hands p))) where
+  module _ (p : ℕ) (may : may_make c (Hands p) ≡ true) (n : HandsNow c p) (replicas : AllReplicas c) (old-booked : PartsBooked c) where
     abbrev d : Chronicle
     d = small_step c (Hands p)
 
@@ -325,8 +326,9 @@ module _ (c : Chronicle) (i : Invariant c) where
           all = refl;
           exchanging = subst (λ (o : Option Replica). IfSome o (λ r. is_exchanging r.state ≡ true)) (sym (running-now c p i n)) (ends-exchanging n.replica.state n.next.message conf heard ends);
         } in
-        let core : IsCore d (new c p i n).held (greens_of d p) = subst (λ (o : Option Replica). IfSome o (λ r. IsCore d r.held (greens_of d p))) after ((cores_core-kept c (Hands p) i may (end-fits c p i)).memory p) in
-        let own = parts-booked d p (new c p i n) once after core.made_of.kept in
+        let booked = new-booked c p i may n (ends-exchanging n.replica.state n.next.message conf heard ends) in
+        let own : AreBooked d (valid_yellow (new c p i n).held) × AreBooked d (plain_reds (new c p i n).held.queue) =
+        (book-more (valid_yellow (new c p i n).held) booked.0, book-more (plain_reds (new c p i n).held.queue) booked.1) in
         let mode = subst (λ (o : Option Replica). IfSome o (IsModeData d p)) after (mode_data-kept c (Hands p) i may p) in
         let at_conf : conf_at (phase_of d.world.group p) ≡ conf = ap conf_at phase-now ∙ end.0 in
         let attempt : IsInAttempt (new c p i n).held (attempt_of d conf) =
@@ -374,19 +376,19 @@ starts-list c set is = subst (λ (x : Chronicle). AttemptList (start x set)) (sy
     (λ q. (let d = start no_chronicle set in list-none d q (replica_of d.world q) refl (fresh-none set (ids set) no_chronicle.world (λ q. tt) q)))
 
 -- Each small step keeps it.
-pub attempt_list-kept : (c : Chronicle) (s : Small) → Invariant c → may_make c s ≡ true → AllReplicas c → PartsBooked c → AreHeldBooked (small_step c s) → AttemptList (small_step c s)
+pub attempt_list-kept : (c : Chronicle) (s : Small) → Invariant c → may_make c s ≡ true → AllReplicas c → PartsBooked c → AttemptList (small_step c s)
 unfolding small_step may_make
-attempt_list-kept c (Starts set) i may replicas parts once = starts-list c set (nothing-before c i.net.seated (and_parts (is_nil c.world.seats) (is_set (ids set)) may).0)
-attempt_list-kept c (Makes set) i may replicas parts once = makes-list c i set
-attempt_list-kept c (Enters p) i may replicas parts once = enters-list c i p may
-attempt_list-kept c (Orders p) i may replicas parts once = orders-list c i p may
-attempt_list-kept c (Receives p place) i may replicas parts once = receives-list c i p place may
-attempt_list-kept c (Hands p) i may replicas parts once = hands-list c i p may (hands-now c p i may) replicas parts once
-attempt_list-kept c (Leaves p set own places) i may replicas parts once = leaves-list c i p set own places may
-attempt_list-kept c (Asks p kind) i may replicas parts once = asks-list c i p kind may
-attempt_list-kept c (Settles p) i may replicas parts once = settles-list c i p may
-attempt_list-kept c (Commits p) i may replicas parts once = commits-list c i p may
-attempt_list-kept c (Crashes p) i may replicas parts once = crashes-list c i p may
-attempt_list-kept c (Recovers p) i may replicas parts once = recovers-list c i p may
-attempt_list-kept c (Copies p joiner) i may replicas parts once = copies-list c i p joiner
-attempt_list-kept c (Joins joiner) i may replicas parts once = joins-list c i joiner may
+attempt_list-kept c (Starts set) i may replicas parts = starts-list c set (nothing-before c i.net.seated (and_parts (is_nil c.world.seats) (is_set (ids set)) may).0)
+attempt_list-kept c (Makes set) i may replicas parts = makes-list c i set
+attempt_list-kept c (Enters p) i may replicas parts = enters-list c i p may
+attempt_list-kept c (Orders p) i may replicas parts = orders-list c i p may
+attempt_list-kept c (Receives p place) i may replicas parts = receives-list c i p place may
+attempt_list-kept c (Hands p) i may replicas parts = hands-list c i p may (hands-now c p i may) replicas parts
+attempt_list-kept c (Leaves p set own places) i may replicas parts = leaves-list c i p set own places may
+attempt_list-kept c (Asks p kind) i may replicas parts = asks-list c i p kind may
+attempt_list-kept c (Settles p) i may replicas parts = settles-list c i p may
+attempt_list-kept c (Commits p) i may replicas parts = commits-list c i p may
+attempt_list-kept c (Crashes p) i may replicas parts = crashes-list c i p may
+attempt_list-kept c (Recovers p) i may replicas parts = recovers-list c i p may
+attempt_list-kept c (Copies p joiner) i may replicas parts = copies-list c i p joiner
+attempt_list-kept c (Joins joiner) i may replicas parts = joins-list c i joiner may

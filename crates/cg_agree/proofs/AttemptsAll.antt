@@ -13,7 +13,7 @@ use Rattle.cg_agree.proofs.AttemptFactsKept.{IsSaidNow, AttemptsNow, attempts-no
 use Rattle.cg_agree.proofs.AttemptListKept.{attempt_list-kept}
 use Rattle.cg_agree.proofs.CoreKept.{Fits, cores_core-kept}
 use Rattle.cg_agree.proofs.ExchangeKept.{exchange_progress-kept}
-use Rattle.cg_agree.proofs.ListEntered.{PartsBooked, AreHeldBooked}
+use Rattle.cg_agree.proofs.ListEntered.{PartsBooked}
 use Rattle.cg_agree.proofs.PartsKept.{AllReplicas, attempt_shape-kept}
 use Rattle.cg_agree.proofs.PlanThere.{end-fits}
 use Rattle.cg_agree.proofs.TalkFactsKept.{talk_legal-kept, sent_iff_due-kept, mode_fits-kept}
@@ -52,20 +52,19 @@ cores-kept-all c s i may = cores_core-kept c s i may (fits-now c s i)
 pub attempts-kept-all : (c : Chronicle) (s : Small) → Invariant c → may_make c s ≡ true → AtRest c s → AttemptsNow (small_step c s)
 attempts-kept-all c s i may rest = attempts-now c s i may rest (said-now c s i may)
 
--- what the parts of attempts ask for: nobody knows an action whose creator is no replica; each action of the parts is the one of its
--- name before the step, and each that a replica holds is behind it
-pub record PartsAsk (c : Chronicle) (s : Small) : Type 0 where
+-- what the parts of attempts ask for before the step: nobody knows an action whose creator is no replica, and each action of the parts
+-- is the one of its name
+pub record PartsAsk (c : Chronicle) : Type 0 where
   pub replicas : AllReplicas c
   pub parts : PartsBooked c
-  pub once : AreHeldBooked (small_step c s)
 
 -- All of them.
-pub attempt_facts-kept : (c : Chronicle) (s : Small) → Invariant c → may_make c s ≡ true → AtRest c s → PartsAsk c s → AttemptFacts (small_step c s)
+pub attempt_facts-kept : (c : Chronicle) (s : Small) → Invariant c → may_make c s ≡ true → AtRest c s → PartsAsk c → AttemptFacts (small_step c s)
 attempt_facts-kept c s i may rest ask =
     let now = attempts-kept-all c s i may rest in
     record {
       attempt_shape = attempt_shape-kept c s i may (talk_legal-kept c s i may) ask.replicas;
-      attempt_list = attempt_list-kept c s i may ask.replicas ask.parts ask.once;
+      attempt_list = attempt_list-kept c s i may ask.replicas ask.parts;
       levels_stand = now.levels_stand;
       announced_entered = now.announced_entered;
       installed_announced = now.installed_announced;

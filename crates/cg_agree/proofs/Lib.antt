@@ -201,3 +201,4 @@ pub mod ListEntered
 pub mod AttemptListKept
 pub mod AttemptsAll
 pub mod PartsBookedKept
+pub mod BookedParts

@@ -1,15 +1,12 @@
 -- A member that enters an attempt holds its parts, where each action of them is the one of its name.
-use Rattle.std.proofs.Common.{◌≡◌, ℕ, suc, zero, Bool, true, false, cond, not, List, [], ◌∷◌, ◌++◌, drop, filter, find, Option, Some, None, IfSome, refl, sym, ap, ap₂, ◌∙◌, subst, ⊎_elim, eqb-true}
+use Rattle.std.proofs.Common.{◌≡◌, ℕ, true, false, List, ◌++◌, Option, Some, IfSome, refl, sym, ap, ◌∙◌, subst, ⊎_elim, eqb-true}
 use Rattle.std.specs.Prelude.{◌==◌}
-use Rattle.std.specs.Option.{option_map_or, option_to_list}
-use Rattle.std.proofs.lemmas.Bool.{cases_eq, cond_both, ne_eqb}
-use Rattle.cg_base.specs.declared.action_id.ActionId.{ActionId}
-use Rattle.cg_base.specs.Ids.{names, same_id}
+use Rattle.std.specs.Option.{option_map_or}
+use Rattle.std.proofs.lemmas.Bool.{cases_eq, ne_eqb}
 use Rattle.cg_action.specs.declared.action.Action.{Action}
-use Rattle.cg_queue.specs.Queue.{QueueView, names_of, action_of}
 use Rattle.cg_knowledge.specs.declared.summary.Summary.{Summary}
 use Rattle.cg_client.specs.Replica.{Replica}
-use Rattle.cg_client.specs.Install.{actions_named, valid_yellow}
+use Rattle.cg_client.specs.Install.{valid_yellow}
 use Rattle.cg_client.specs.Queries.{plain_reds}
 use Rattle.cg_agree.specs.World.{replica_of}
 use Rattle.cg_agree.specs.Chronicle.{Told, Attempt, Chronicle}
@@ -17,12 +14,13 @@ use Rattle.cg_agree.specs.Fronts.{IsSomeWith}
 use Rattle.cg_agree.specs.Looks.{greens_of, attempt_of}
 use Rattle.cg_agree.specs.FactsAttempts.{IsAttempt, AreParts, HoldsParts}
 use Rattle.cg_agree.specs.FactsExchange.{best_told}
-use Rattle.cg_agree.specs.FactsReplica.{booked, AreBooked, is_attempting}
+use Rattle.cg_agree.specs.FactsReplica.{AreBooked, is_attempting}
 use Rattle.cg_agree.specs.Facts.{Invariant}
 use Rattle.cg_agree.specs.Small.{Hands, with_entrant, with_installer, with_leaver, take_next, handed_next, small_step}
 use Rattle.cg_agree.specs.Smalls.{may_make}
 use Rattle.cg_agree.proofs.AttemptSteps.{IsHanded, attempt-step}
 use Rattle.cg_agree.proofs.AttemptsCame.{Begins, Came, Stayed, WasLeft, WasEntered, WasInstalled, WasMade, came}
+use Rattle.cg_agree.proofs.BookedParts.{same-booked, booked-left, booked-right}
 use Rattle.cg_agree.proofs.AttemptsGrow.{grown-leaver}
 use Rattle.cg_agree.proofs.ExchangeBehind.{told-now}
 use Rattle.cg_agree.proofs.ExchangeHands.{best-same}
@@ -37,75 +35,8 @@ use Rattle.cg_agree.proofs.TalkQuiet.{replica-turning}
 abbrev pub PartsBooked : Chronicle → Type 0
 PartsBooked c = (conf : ℕ) → IfSome (attempt_of c conf) (λ a. AreBooked c (a.yellow ++ a.reds))
 
--- so are those that replicas hold
-pub record AreHeldBooked (c : Chronicle) : Type 0 where
-  pub in_greens : (p : ℕ) → AreBooked c (greens_of c p)
-  pub in_memory : (p : ℕ) → IfSome (replica_of c.world p) (λ r. AreBooked c (r.held.queue.reds ++ r.held.own))
-
--- ---- actions of names
-
 some-is : {X : Type 0} (x y : X) → Some x ≡ Some y → x ≡ y
 some-is x y e = ap (λ o. option_map_or (λ z. z) o x) e
-
--- of actions that are those of their names the names tell which they are
-pub same-booked : (c : Chronicle) (xs ys : List Action) → AreBooked c xs → AreBooked c ys → names_of xs ≡ names_of ys → xs ≡ ys
-same-booked c [] [] one two same = refl
-same-booked c [] (y ∷ ys) one two same = absurd (let clash : [] ≡ y.id ∷ names_of ys = same in cc)
-same-booked c (x ∷ xs) [] one two same = absurd (let clash : x.id ∷ names_of xs ≡ [] = same in cc)
-same-booked c (x ∷ xs) (y ∷ ys) one two same =
-    let id : x.id ≡ y.id = ap (first x.id) same in
-    ap₂ (λ z zs. z ∷ zs) (some-is x y (sym one.0 ∙ ap (booked c) id ∙ two.0)) (same-booked c xs ys one.1 two.1 (ap (drop 1) same)) where
-      first : ActionId → List ActionId → ActionId
-      first d [] = d
-      first d (z ∷ zs) = z
-
-pub booked-left : (c : Chronicle) (xs ys : List Action) → AreBooked c (xs ++ ys) → AreBooked c xs
-booked-left c [] ys are = tt
-booked-left c (x ∷ xs) ys are = (are.0, booked-left c xs ys are.1)
-
-pub booked-right : (c : Chronicle) (xs ys : List Action) → AreBooked c (xs ++ ys) → AreBooked c ys
-booked-right c [] ys are = are
-booked-right c (x ∷ xs) ys are = booked-right c xs ys are.1
-
-pub booked-both : (c : Chronicle) (xs ys : List Action) → AreBooked c xs → AreBooked c ys → AreBooked c (xs ++ ys)
-booked-both c [] ys one two = two
-booked-both c (x ∷ xs) ys one two = (one.0, booked-both c xs ys one.1 two)
-
-booked-drop : (c : Chronicle) (n : ℕ) (xs : List Action) → AreBooked c xs → AreBooked c (drop n xs)
-booked-drop c zero xs are = are
-booked-drop c (suc n) [] are = tt
-booked-drop c (suc n) (x ∷ xs) are = booked-drop c n xs are.1
-
-booked-filter : (c : Chronicle) (t : Action → Bool) (xs : List Action) → AreBooked c xs → AreBooked c (filter t xs)
-booked-filter c t [] are = tt
-booked-filter c t (x ∷ xs) are = cond_both (t x) (x ∷ filter t xs) (filter t xs) (AreBooked c) (λ y. (are.0, booked-filter c t xs are.1)) (λ n. booked-filter c t xs are.1)
-
-booked-found : (c : Chronicle) (t : Action → Bool) (xs : List Action) (a : Action) → AreBooked c xs → find t xs ≡ Some a → booked c a.id ≡ Some a
-booked-found c t [] a are e = absurd (let clash : None ≡ Some a = e in cc)
-booked-found c t (x ∷ xs) a are e = at (t x) e (λ rest. booked-found c t xs a are.1 rest) where
-  at : (b : Bool) → cond b (Some x) (find t xs) ≡ Some a → (find t xs ≡ Some a → booked c a.id ≡ Some a) → booked c a.id ≡ Some a
-  at true e rest = subst (λ (y : Action). booked c y.id ≡ Some y) (some-is x a e) are.0
-  at false e rest = rest e
-
-booked-named : (c : Chronicle) (q : QueueView) (ids : List ActionId) → AreBooked c (q.greens ++ q.reds) → AreBooked c (actions_named q ids)
-booked-named c q [] are = tt
-booked-named c q (id ∷ ids) are = booked-both c (option_to_list (action_of q id)) (actions_named q ids) (at (action_of q id) refl) (booked-named c q ids are) where
-  at : (o : Option Action) → action_of q id ≡ o → AreBooked c (option_to_list o)
-  at None e = tt
-  at (Some a) e = (booked-found c (λ (x : Action). same_id x.id id) (q.greens ++ q.reds) a are e, tt)
-
--- what a replica holds of its parts is of actions of their names
-pub parts-booked : (d : Chronicle) (p : ℕ) (r : Replica) → AreHeldBooked d → replica_of d.world p ≡ Some r → r.held.queue.greens ≡ drop r.held.queue.white (greens_of d p) →
-    AreBooked d (valid_yellow r.held) × AreBooked d (plain_reds r.held.queue)
-parts-booked d p r once up kept =
-    let q = r.held.queue in
-    let memory : AreBooked d (q.reds ++ r.held.own) = subst (λ (o : Option Replica). IfSome o (λ r. AreBooked d (r.held.queue.reds ++ r.held.own))) up (once.in_memory p) in
-    let reds = booked-left d q.reds r.held.own memory in
-    let greens : AreBooked d q.greens = subst (AreBooked d) (sym kept) (booked-drop d q.white (greens_of d p) (once.in_greens p)) in
-    (yellow q r.held.yellow_valid (booked-both d q.greens q.reds greens reds), booked-filter d (λ a. not (names q.yellow a.id)) q.reds reds) where
-      yellow : (q : QueueView) (b : Bool) → AreBooked d (q.greens ++ q.reds) → AreBooked d (cond b (actions_named q q.yellow) [])
-      yellow q true are = booked-named d q q.yellow are
-      yellow q false are = tt
 
 -- ---- a member that enters
 

@@ -10,17 +10,20 @@ use Rattle.cg_client.specs.Install.{valid_yellow}
 use Rattle.cg_client.specs.Queries.{plain_reds}
 use Rattle.cg_agree.specs.World.{Life, Up, Down, Seat, seat_of, replica_of}
 use Rattle.cg_agree.specs.Chronicle.{Attempt, Chronicle}
-use Rattle.cg_agree.specs.Looks.{greens_of, attempt_of, snapshot_of}
-use Rattle.cg_agree.specs.FactsReplica.{AreBooked, IsCore}
+use Rattle.cg_agree.specs.Looks.{attempt_of, snapshot_of}
+use Rattle.cg_agree.specs.FactsReplica.{AreBooked}
 use Rattle.cg_agree.specs.Facts.{Invariant}
 use Rattle.cg_agree.specs.Small.{Small, Starts, Makes, Enters, Orders, Receives, Hands, Leaves, Asks, Settles, Commits, Crashes, Recovers, Copies, Joins, with_leaver, turning, turning_as, coming, handed_next, leaving, take_newest, take_next, take_parting, take_request, commit_as, crash_as, recover_as, copy_as, join_with, small_step}
 use Rattle.cg_agree.specs.Smalls.{may_make}
 use Rattle.cg_agree.proofs.AttemptListKept.{more-booked}
 use Rattle.cg_agree.proofs.AttemptSteps.{attempt-step}
 use Rattle.cg_agree.proofs.AttemptsCame.{Came, Stayed, WasLeft, WasEntered, WasInstalled, WasMade, came}
-use Rattle.cg_agree.proofs.AttemptsAll.{cores-kept-all}
+use Rattle.cg_agree.proofs.BookedParts.{booked-both, new-booked}
+use Rattle.cg_agree.proofs.ExchangeBehind.{up-now}
+use Rattle.cg_agree.proofs.HandsNow.{hands-now, new, running-now}
 use Rattle.cg_agree.proofs.AttemptsGrow.{grown-leaver}
-use Rattle.cg_agree.proofs.ListEntered.{PartsBooked, AreHeldBooked, parts-booked, booked-both}
+use Rattle.cg_agree.proofs.ListEntered.{PartsBooked}
+use Rattle.cg_agree.proofs.ModeHeld.{is_exchanging}
 
 -- ---- the book
 
@@ -77,10 +80,13 @@ book-grows c (Recovers p) = book-found c (seat_of c.world p) (λ s. recover_as c
 book-grows c (Copies p joiner) = book-found c (replica_of c.world p) (copy_as c p joiner) (λ r. refl)
 book-grows c (Joins joiner) = book-found c (snapshot_of c.world joiner) (λ s. join_with c joiner s.content) (λ s. refl)
 
+some-is : {X : Type 0} (x y : X) → Some x ≡ Some y → x ≡ y
+some-is x y e = ap (λ o. option_map_or (λ z. z) o x) e
+
 -- ---- the parts
 
-pub parts_booked-kept : (c : Chronicle) (s : Small) → Invariant c → may_make c s ≡ true → AreHeldBooked (small_step c s) → PartsBooked c → PartsBooked (small_step c s)
-parts_booked-kept c s i may once old conf = at (attempt_of (small_step c s) conf) refl where
+pub parts_booked-kept : (c : Chronicle) (s : Small) → Invariant c → may_make c s ≡ true → PartsBooked c → PartsBooked (small_step c s)
+parts_booked-kept c s i may old conf = at (attempt_of (small_step c s) conf) refl where
   grown : (a : Attempt) → attempt_of c conf ≡ Some a → AreBooked (small_step c s) (a.yellow ++ a.reds)
   grown a found =
       let g = book-grows c s in
@@ -96,10 +102,15 @@ parts_booked-kept c s i may once old conf = at (attempt_of (small_step c s) conf
   of_came b (WasInstalled p r new' ins done here is levels core moved) =
       subst (λ (x : Attempt). AreBooked (small_step c s) (x.yellow ++ x.reds)) (sym is) (grown ins.a (ap (attempt_of c) here ∙ ins.found))
   of_came b (WasMade none p heard r new' begins greens is moved handed) =
-      let core : IsCore (small_step c s) new'.held (greens_of (small_step c s) p) =
-      subst (λ (o : Option Replica). IfSome o (λ r. IsCore (small_step c s) r.held (greens_of (small_step c s) p))) moved ((cores-kept-all c s i may).memory p) in
-      let own = parts-booked (small_step c s) p new' once moved core.made_of.kept in
-      subst (λ (x : Attempt). AreBooked (small_step c s) (x.yellow ++ x.reds)) (sym is) (booked-both (small_step c s) (valid_yellow new'.held) (plain_reds new'.held.queue) own.0 own.1)
+      let n = hands-now c p i handed.may in
+      let now : new' ≡ new c p i n = some-is new' (new c p i n) (sym moved ∙ ap (λ (x : Chronicle). replica_of x.world p) handed.step ∙ up-now c p i handed.may n) in
+      let exchanging : is_exchanging n.replica.state ≡ true = subst (λ (o : Option Replica). IfSome o (λ r. is_exchanging r.state ≡ true)) (running-now c p i n) handed.exchanging in
+      let own = new-booked c p i handed.may n exchanging in
+      let g = book-grows c s in
+      let parts : AreBooked (small_step c s) (valid_yellow new'.held ++ plain_reds new'.held.queue) =
+      more-booked c (small_step c s) g.more g.book (valid_yellow new'.held ++ plain_reds new'.held.queue)
+      (subst (λ (x : Replica). AreBooked c (valid_yellow x.held ++ plain_reds x.held.queue)) (sym now) (booked-both c (valid_yellow (new c p i n).held) (plain_reds (new c p i n).held.queue) own.0 own.1)) in
+      subst (λ (x : Attempt). AreBooked (small_step c s) (x.yellow ++ x.reds)) (sym is) parts
 
   at : (o : Option Attempt) → attempt_of (small_step c s) conf ≡ o → IfSome o (λ a. AreBooked (small_step c s) (a.yellow ++ a.reds))
   at None e = tt
