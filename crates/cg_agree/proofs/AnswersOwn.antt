@@ -115,7 +115,7 @@ module _ (c : Chronicle) (p : ℕ) (i : Invariant c) (conf : ℕ) (r : Replica) 
   mine = (in_exchange c p i conf r s regular runs next).mine
 
   -- who tells a summary finds not all told
-  few-summary : (x : Summary) → s.message ≡ StateMsg x → is_full members before ≡ false
+  pub few-summary : (x : Summary) → s.message ≡ StateMsg x → is_full members before ≡ false
   few-summary x is =
       let told = subst (λ m. may_say members conf before s.from m ≡ true) is (may c p i conf r s regular runs next) in
       let outer = and_parts ((has members s.from && (x.id == s.from)) && (x.conf == conf)) (not (has (senders before.heard) s.from)) told in
@@ -124,15 +124,15 @@ module _ (c : Chronicle) (p : ℕ) (i : Invariant c) (conf : ℕ) (r : Replica) 
       not_full members before s.from first.0 (not-true (has (senders before.heard) s.from) outer.1)
 
   -- a green item is due where it is handed
-  due-green : (place : ℕ) (a : Action) → s.message ≡ GreenItem place a → is_due members before s.from (Green place) ≡ true
+  pub due-green : (place : ℕ) (a : Action) → s.message ≡ GreenItem place a → is_due members before s.from (Green place) ≡ true
   due-green place a is = subst (λ m. may_say members conf before s.from m ≡ true) is (may c p i conf r s regular runs next)
 
   -- so is a red item
-  due-red : (a : Action) → s.message ≡ RedItem a → is_due members before s.from (Red a.id) ≡ true
+  pub due-red : (a : Action) → s.message ≡ RedItem a → is_due members before s.from (Red a.id) ≡ true
   due-red a is = subst (λ m. may_say members conf before s.from m ≡ true) is (may c p i conf r s regular runs next)
 
   -- among the summaries nothing has changed at the member
-  still : is_full members before ≡ false → IsUnmoved mine r.held (greens_of c p)
+  pub still : is_full members before ≡ false → IsUnmoved mine r.held (greens_of c p)
   still few = subst (IsInExchange c conf mine r.held (greens_of c p)) (in-states c p i conf r s regular runs next few) (in_exchange c p i conf r s regular runs next).holds
 
   -- ---- what it is to send
@@ -194,12 +194,12 @@ module _ (c : Chronicle) (p : ℕ) (i : Invariant c) (conf : ℕ) (r : Replica) 
   -- ---- what it knows at the end
 
   -- a plan that is through has no more items than were accepted
-  through-all : (t : Talk) → is_through t ≡ true → length (items_of_plan (plan_of t.heard)) ≤ t.accepted
+  pub through-all : (t : Talk) → is_through t ≡ true → length (items_of_plan (plan_of t.heard)) ≤ t.accepted
   unfolding is_done
   through-all t e = leb-true (length (items_of_plan (plan_of t.heard))) t.accepted e
 
   -- behind all items it knows what some member knew
-  ended-known : (heard : List Summary) (k : ℕ) (are : AreTold c conf heard) (full : is_within members (senders heard) ≡ true) (here : has (gone heard) p ≡ false) (h : Held) →
+  pub ended-known : (heard : List Summary) (k : ℕ) (are : AreTold c conf heard) (full : is_within members (senders heard) ≡ true) (here : has (gone heard) p ≡ false) (h : Held) →
       IsBehind c.start heard (near c p i conf r s regular runs next heard are full here).0 k (best c p i conf r s regular runs next heard are full).best mine h →
       length (items_of_plan (plan_of heard)) ≤ k → (creator : ℕ) → index_in h.queue.red_cut creator ≡ known_up_to heard creator
   ended-known heard k are full here h is all creator =

@@ -30,6 +30,8 @@ use Rattle.cg_agree.specs.Facts.{Invariant}
 use Rattle.cg_agree.specs.Small.{Small, Starts, Makes, Enters, Orders, Receives, Hands, Leaves, Asks, Settles, Commits, Crashes, Recovers, Copies, Joins, turning, newly_green, struck, changed_attempt, with_leaver, entering, installing, opened_by, attempts_behind, levels_behind, coming, take_newest, handed_next, take_next, leaving, take_parting, take_request, commit_as, crash_as, recover_as, copy_as, join_with, newest_conf, small_step}
 use Rattle.cg_agree.specs.Smalls.{may_make, is_running}
 use Rattle.cg_agree.proofs.CoresKept.{greens-turn, past-here}
+use Rattle.cg_agree.proofs.ModeHeld.{is_exchanging}
+use Rattle.cg_agree.proofs.OneselfWorld.{HavePasts}
 use Rattle.cg_agree.proofs.ChronicleFacts.{seat_of-set}
 use Rattle.cg_agree.specs.Attempts.{held_in}
 use Rattle.cg_agree.proofs.HandSays.{find-holds, remains-unless_gone}
@@ -38,7 +40,7 @@ use Rattle.cg_agree.proofs.ConfSound.{by_all}
 use Rattle.cg_agree.proofs.TalkEarly.{all-member}
 use Rattle.cg_agree.proofs.FrontFacts.{Front-take}
 use Rattle.cg_agree.proofs.Announced.{announced-front, announced-within, announced-place, placed-some}
-use Rattle.cg_agree.proofs.AttemptsTurn.{ends-beside, quiet-neither, decided-neither, come-neither, neither-attempts, neither-levels, attempted-attempts, attempted-levels, installed-attempts, installed-levels}
+use Rattle.cg_agree.proofs.AttemptsTurn.{ends-exchanging, ends-beside, quiet-neither, decided-neither, come-neither, neither-attempts, neither-levels, attempted-attempts, attempted-levels, installed-attempts, installed-levels}
 use Rattle.cg_agree.proofs.TurnKinds.{IsQuiet, HasInstalled, HasAttempted, new_record, Turned, Quiet, Installs, Decides, Attempts}
 use Rattle.cg_agree.proofs.TurnParts.{settle-quiet, request-quiet, newest-come}
 use Rattle.cg_agree.proofs.PartingActs.{IsActAt, PartedBy, parting-by}
@@ -258,6 +260,13 @@ module _ (c : Chronicle) (i : Invariant c) (p : ℕ) (set' : List ℕ) (own : �
 
 -- ---- all small steps
 
+-- a place is handed to a member, which has these greens then
+pub record IsHanded (c d : Chronicle) (p : ℕ) (greens : List Action) : Type 0 where
+  pub step : d ≡ small_step c (Hands p)
+  pub may : may_make c (Hands p) ≡ true
+  pub all : greens ≡ greens_of d p
+  pub exchanging : IfSome (replica_of c.world p) (λ r. is_exchanging r.state ≡ true)
+
 pub data AttemptStep (c : Chronicle) (d : Chronicle) : Type 0 where
   -- nothing
   Same : (attempts : d.attempts ≡ c.attempts) (levels : d.levels ≡ c.levels) → AttemptStep c d
@@ -268,7 +277,7 @@ pub data AttemptStep (c : Chronicle) (d : Chronicle) : Type 0 where
   Begun : (p conf : ℕ) (heard : List Summary) (r new : Replica) (end : AtPlanEnd c p r conf heard) (id : r.held.id ≡ p) (begun : HasAttempted conf heard r new)
       (up : replica_of c.world p ≡ Some r) (greens : List Action)
       (attempts : d.attempts ≡ entering greens new.held c.attempts (Some (new_record conf heard r.held.id))) (levels : d.levels ≡ c.levels)
-      (beside : (is_attempting r.state ≡ false) × (is_primary r.state ≡ false)) (moved : replica_of d.world p ≡ Some new) → AttemptStep c d
+      (beside : (is_attempting r.state ≡ false) × (is_primary r.state ≡ false)) (moved : replica_of d.world p ≡ Some new) (handed : IsHanded c d p greens) → AttemptStep c d
   -- a member installs its attempt
   Installed : (p : ℕ) (r new : Replica) (installing' : Installing c p r) (done : HasInstalled r new)
       (attempts : d.attempts ≡ installing p c.attempts (Some (own_record installing'.a p))) (levels : d.levels ≡ c.levels ++ opened_by c (Some (own_record installing'.a p)))
@@ -277,18 +286,20 @@ pub data AttemptStep (c : Chronicle) (d : Chronicle) : Type 0 where
 -- the attempts and the levels behind a turn
 pub record TurnNotes (c d : Chronicle) (olds : List Attempt) (p : ℕ) (r new : Replica) : Type 0 where
   pub greens : List Action
+  pub all : greens ≡ greens_of d p
   pub attempts : d.attempts ≡ attempts_behind olds p greens r new
   pub levels : d.levels ≡ levels_behind c r new
   pub core : core_of d p ≡ Some new.held
   pub moved : replica_of d.world p ≡ Some new
 
-turn-notes : (c b d : Chronicle) (p : ℕ) (part : Turn → Turn) (r : Replica) (disk : Disk) → b.levels ≡ c.levels → b.attempts ≡ c.attempts → d ≡ turning b p part → seat_of b.world p ≡ Some (record { id = p; life = Up r disk }) →
+turn-notes : (c b d : Chronicle) (p : ℕ) (part : Turn → Turn) (r : Replica) (disk : Disk) → HavePasts b → b.levels ≡ c.levels → b.attempts ≡ c.attempts → d ≡ turning b p part → seat_of b.world p ≡ Some (record { id = p; life = Up r disk }) →
     TurnNotes c d c.attempts p r (part (begin r)).replica
-turn-notes c b d p part r disk levels attempts is seat =
+turn-notes c b d p part r disk pasts levels attempts is seat =
     let t = part (begin r) in
     let whole = is ∙ turn-is b p part r disk seat in
     record {
       greens = greens_of b p ++ newly_green r t.replica;
+      all = sym (ap (λ (x : Chronicle). greens_of x p) whole ∙ greens-turn b p r disk t pasts seat);
       attempts = ap (λ (x : Chronicle). x.attempts) whole ∙ ap (λ xs. attempts_behind xs p (greens_of b p ++ newly_green r t.replica) r t.replica) attempts;
       levels = ap (λ (x : Chronicle). x.levels) whole ∙ (λ i. (let e : Chronicle = record c { attempts = attempts i; levels = levels i } in levels_behind e r t.replica));
       core = ap (λ (x : Chronicle). core_of x p) whole ∙ ap (λ (o : Option Seat). option_map (λ s. held_in s.life) o) (seat_of-set b.world p (Up t.replica disk) p
@@ -307,8 +318,8 @@ installed-step c d p r new notes ins done =
     Installed p r new ins done (notes.attempts ∙ installed-attempts c.attempts p notes.greens r new done ∙ ap (installing p c.attempts) ins.mine)
     (notes.levels ∙ installed-levels c r new done ∙ ap (λ v. c.levels ++ opened_by c v) ins.mine) notes.core notes.moved
 
-hands-attempt_step : (c d : Chronicle) (p : ℕ) (i : Invariant c) (may : may_make c (Hands p) ≡ true) (n : HandsNow c p) → TurnNotes c d c.attempts p n.replica (new c p i n) → AttemptStep c d
-hands-attempt_step c d p i may n notes = at (hand-turned c p i n) where
+hands-attempt_step : (c d : Chronicle) (p : ℕ) (i : Invariant c) (may : may_make c (Hands p) ≡ true) (n : HandsNow c p) → d ≡ small_step c (Hands p) → TurnNotes c d c.attempts p n.replica (new c p i n) → AttemptStep c d
+hands-attempt_step c d p i may n step notes = at (hand-turned c p i n) where
   at : Turned n.replica (new c p i n) n.next.message → AttemptStep c d
   at (Quiet quiet) = quiet-step c d p n.replica (new c p i n) notes quiet
   at (Installs done) = installed-step c d p n.replica (new c p i n) notes (hands-installing c i p may n done) done
@@ -319,7 +330,12 @@ hands-attempt_step c d p i may n notes = at (hand-turned c p i n) where
       let end = plan-end c p i n conf heard ends attempted.remains (ap is_behind attempted.state) in
       Begun p conf heard n.replica (new c p i n) (subst (λ k. AtPlanEnd c p n.replica k heard) end.0 end.1) n.data_of.id attempted (running-now c p i n) notes.greens
       (notes.attempts ∙ attempted-attempts n.next.message conf heard c.attempts p notes.greens n.replica (new c p i n) ends attempted)
-      (notes.levels ∙ attempted-levels c n.next.message conf heard n.replica (new c p i n) ends attempted) (ends-beside n.replica.state n.next.message conf heard ends) notes.moved
+      (notes.levels ∙ attempted-levels c n.next.message conf heard n.replica (new c p i n) ends attempted) (ends-beside n.replica.state n.next.message conf heard ends) notes.moved (record {
+        step = step;
+        may = may;
+        all = notes.all;
+        exchanging = subst (λ (o : Option Replica). IfSome o (λ r. is_exchanging r.state ≡ true)) (sym (running-now c p i n)) (ends-exchanging n.replica.state n.next.message conf heard ends);
+      })
 
 leaves-attempt_step : (c d : Chronicle) (p : ℕ) (set' : List ℕ) (own : ℕ) (places : List ℕ) (i : Invariant c) (may : may_make c (Leaves p set' own places) ≡ true) (r : Replica) → replica_of c.world p ≡ Some r →
     TurnNotes c d c.attempts p r (take_parting c.world.group p set' places (begin r)).replica → AttemptStep c d
@@ -373,19 +389,19 @@ attempt-step c (Orders p) i may = Same refl refl
 attempt-step c (Receives p place) i may = Same refl refl
 attempt-step c (Hands p) i may =
     let n = hands-now c p i may in
-    hands-attempt_step c (turning (handed_next c p) p (take_next c.world.group p)) p i may n (turn-notes c (handed_next c p) (turning (handed_next c p) p (take_next c.world.group p)) p (take_next c.world.group p) n.replica n.disk refl refl refl n.seat)
+    hands-attempt_step c (turning (handed_next c p) p (take_next c.world.group p)) p i may n refl (turn-notes c (handed_next c p) (turning (handed_next c p) p (take_next c.world.group p)) p (take_next c.world.group p) n.replica n.disk i.net.seated.past refl refl refl n.seat)
 attempt-step c (Leaves p set' own places) i may =
     let sits = seated c.world p (i.net.phase_sound.up p ∙ regular-up c.world.group p (leaving-regular c p set' own places may)) in
     leaves-attempt_step c (turning (leaving c p set' own) p (take_parting c.world.group p set' places)) p set' own places i may sits.replica (ap (λ (o : Option Seat). option_and_then (λ s. running s.life) o) sits.seat)
-    (turn-notes c (leaving c p set' own) (turning (leaving c p set' own) p (take_parting c.world.group p set' places)) p (take_parting c.world.group p set' places) sits.replica sits.disk refl refl refl sits.seat)
+    (turn-notes c (leaving c p set' own) (turning (leaving c p set' own) p (take_parting c.world.group p set' places)) p (take_parting c.world.group p set' places) sits.replica sits.disk i.net.seated.past refl refl refl sits.seat)
 attempt-step c (Asks p kind) i may =
     let sits = runs c p (and_parts (is_running c p) (not (is_left c.world p)) may).0 in
     quiet-step c (turning c p (take_request kind)) p sits.replica (take_request kind (begin sits.replica)).replica
-    (turn-notes c c (turning c p (take_request kind)) p (take_request kind) sits.replica sits.disk refl refl refl sits.seat) (request-quiet kind sits.replica)
+    (turn-notes c c (turning c p (take_request kind)) p (take_request kind) sits.replica sits.disk i.net.seated.past refl refl refl sits.seat) (request-quiet kind sits.replica)
 attempt-step c (Settles p) i may =
     let sits = runs c p may in
     quiet-step c (turning c p settle) p sits.replica (settle (begin sits.replica)).replica
-    (turn-notes c c (turning c p settle) p settle sits.replica sits.disk refl refl refl sits.seat) (settle-quiet sits.replica)
+    (turn-notes c c (turning c p settle) p settle sits.replica sits.disk i.net.seated.past refl refl refl sits.seat) (settle-quiet sits.replica)
 attempt-step c (Commits p) i may = noted-none (seat_of c.world p) (λ s. commit_as c p s.life) c (λ s. commit-none c p s.life)
 attempt-step c (Crashes p) i may = noted-none (seat_of c.world p) (λ s. crash_as c p s.life) c (λ s. crash-goes c p s.life)
 attempt-step c (Recovers p) i may = noted-none (seat_of c.world p) (λ s. recover_as c s.life) c (λ s. recover-none c s.life)

@@ -27,7 +27,7 @@ use Rattle.cg_agree.proofs.TurnKinds.{HasInstalled, HasAttempted, new_record}
 use Rattle.cg_agree.proofs.AttemptsGrow.{grown-leaver, grown-entrant}
 use Rattle.cg_agree.proofs.AttemptsTurn.{at_conf, entered-now, installing-now}
 use Rattle.cg_agree.proofs.PlanEnd.{AtPlanEnd}
-use Rattle.cg_agree.proofs.AttemptSteps.{group-of, Installing, AttemptStep, Same, Goes, Begun, Installed, attempt-step}
+use Rattle.cg_agree.proofs.AttemptSteps.{group-of, Installing, IsHanded, AttemptStep, Same, Goes, Begun, Installed, attempt-step}
 use Rattle.cg_agree.proofs.DeadKept.{said-attempt, dead-still, installing-alive}
 
 -- a member begins an attempt at the end of a plan
@@ -47,7 +47,7 @@ pub data Came (c d : Chronicle) (conf : ℕ) (b : Attempt) : Type 0 where
   WasInstalled : (p : ℕ) (r new : Replica) (ins : Installing c p r) (done : HasInstalled r new) (here : conf ≡ ins.conf) (now : b ≡ with_installer p ins.a)
       (levels : d.levels ≡ c.levels ++ opened_by c (Some (own_record ins.a p))) (core : core_of d p ≡ Some new.held) (moved : replica_of d.world p ≡ Some new) → Came c d conf b
   WasMade : (none : attempt_of c conf ≡ None) (p : ℕ) (heard : List Summary) (r new : Replica) (begins : Begins c p conf heard r new) (greens : List Action)
-      (now : b ≡ with_entrant new.held.id (new_attempt greens new.held (new_record conf heard r.held.id))) (moved : replica_of d.world p ≡ Some new) → Came c d conf b
+      (now : b ≡ with_entrant new.held.id (new_attempt greens new.held (new_record conf heard r.held.id))) (moved : replica_of d.world p ≡ Some new) (handed : IsHanded c d p greens) → Came c d conf b
 
 some-is : {X : Type 0} (x y : X) → Some x ≡ Some y → x ≡ y
 some-is x y e = ap (λ o. option_map_or (λ z. z) o x) e
@@ -67,7 +67,7 @@ came c d conf b (Goes p n attempts levels low) e =
       at (Some a) is (inl here) e =
           let now : Some (with_leaver p n a) ≡ Some b = sym (cond-true (conf == conf_at (phase_of c.world.group p)) (option_map (with_leaver p n) (attempt_of c conf)) (attempt_of c conf) here ∙ ap (option_map (with_leaver p n)) is) ∙ e in
           WasLeft a is p n (eqb-true conf (conf_at (phase_of c.world.group p)) here) (sym (some-is (with_leaver p n a) b now)) low
-came c d conf b (Begun p k heard r new end id begun up greens attempts levels beside moved) e =
+came c d conf b (Begun p k heard r new end id begun up greens attempts levels beside moved handed) e =
     let v = new_record k heard r.held.id in
     let entered = entered-now c.attempts greens new.held v in
     elim (cases_Bool (conf == k)) [
@@ -78,7 +78,7 @@ came c d conf b (Begun p k heard r new end id begun up greens attempts levels be
           elim entered.whose [
             | inl found ↦ WasEntered entered.first (ap (at_conf c.attempts) same ∙ found) p heard r new (begins-at same) (sym (some-is (with_entrant new.held.id entered.first) b now)) moved
             | inr made ↦ WasMade (ap (at_conf c.attempts) same ∙ made.0) p heard r new (begins-at same) greens
-                (sym (some-is (with_entrant new.held.id entered.first) b now) ∙ ap (with_entrant new.held.id) made.1 ∙ ap (λ n. with_entrant new.held.id (new_attempt greens new.held (new_record n heard r.held.id))) (sym same)) moved
+                (sym (some-is (with_entrant new.held.id entered.first) b now) ∙ ap (with_entrant new.held.id) made.1 ∙ ap (λ n. with_entrant new.held.id (new_attempt greens new.held (new_record n heard r.held.id))) (sym same)) moved handed
           ]
     ]
   where
@@ -128,7 +128,7 @@ dead-kept c s i may conf a b found now dead = at (came c (small_step c s) conf b
       still (subst (SameAttempt a) (sym is) (subst (λ y. SameAttempt a (with_entrant new.held.id y)) me (grown-entrant new.held.id a).same)) (ap is_installed is ∙ ap is_installed (sym me))
   at (WasInstalled p r new ins done here is levels core moved) =
       absurd (let clash : true ≡ false = sym dead ∙ ap (is_dead c) (same ins.a (ap (at_conf c.attempts) here ∙ ins.found)) ∙ installing-alive c i p r ins in cc)
-  at (WasMade none p heard r new begins greens is moved) = absurd (let clash : None ≡ Some a = sym none ∙ found in cc)
+  at (WasMade none p heard r new begins greens is moved handed) = absurd (let clash : None ≡ Some a = sym none ∙ found in cc)
 
 -- ---- one attempt is made at a time
 
@@ -136,7 +136,7 @@ dead-kept c s i may conf a b found now dead = at (came c (small_step c s) conf b
 pub begun_conf : (c d : Chronicle) → AttemptStep c d → ℕ
 begun_conf c d (Same attempts levels) = 0
 begun_conf c d (Goes p n attempts levels low) = 0
-begun_conf c d (Begun p conf heard r new end id begun up greens attempts levels beside moved) = conf
+begun_conf c d (Begun p conf heard r new end id begun up greens attempts levels beside moved handed) = conf
 begun_conf c d (Installed p r new ins done attempts levels core moved) = 0
 
 not-none : (o : Option Attempt) (f : Attempt → Attempt) (b : Bool) (x : Attempt) → o ≡ None → cond b (option_map f o) o ≡ Some x → ⊥
@@ -150,7 +150,7 @@ made-there c d (Same attempts levels) conf b none e = absurd (let clash : None �
 made-there c d (Goes p n attempts levels low) conf b none e =
     absurd (not-none (attempt_of c conf) (with_leaver p n) (conf == conf_at (phase_of c.world.group p)) b none
     (sym (ap (λ xs. at_conf xs conf) attempts ∙ found-changed (λ (a : Attempt). a.conf) (with_leaver p n) (λ a. (grown-leaver p n a).same.conf) (conf_at (phase_of c.world.group p)) c.attempts conf) ∙ e))
-made-there c d (Begun p k heard r new end id begun up greens attempts levels beside moved) conf b none e =
+made-there c d (Begun p k heard r new end id begun up greens attempts levels beside moved handed) conf b none e =
     let entered = entered-now c.attempts greens new.held (new_record k heard r.held.id) in
     elim (cases_Bool (conf == k)) [
       | inl here ↦ eqb-true conf k here

@@ -14,6 +14,7 @@ use Rattle.cg_agree.specs.Chronicle.{Attempt, Chronicle}
 use Rattle.cg_agree.specs.FactsReplica.{is_attempting, is_primary}
 use Rattle.cg_agree.specs.Small.{changed_attempt, with_entrant, with_installer, entering, installing, opened_by, attempts_behind, levels_behind, is_entry, is_installation}
 use Rattle.cg_agree.proofs.Keyed.{found-changed, find-none}
+use Rattle.cg_agree.proofs.ModeHeld.{is_exchanging}
 use Rattle.cg_agree.proofs.TurnKinds.{IsQuiet, HasInstalled, HasDecided, HasAttempted, new_record, EndsWith}
 use Rattle.cg_agree.proofs.TurnParts.{never-both, HasCome}
 
@@ -58,6 +59,18 @@ pub neither-levels : (c : Chronicle) (old new : Replica) → IsNeither old new �
 neither-levels c old new is = rw is.installation refl
 
 -- ---- an entry
+
+-- a message ends a plan in an exchange
+pub ends-exchanging : (state : State) (m : Msg) (conf : ℕ) (heard : List Summary) → EndsWith state m conf heard → is_exchanging state ≡ true
+ends-exchanging (ExchangeStates at set all) m conf heard ends = refl
+ends-exchanging (ExchangeActions at all accepted) m conf heard ends = refl
+ends-exchanging RegPrim m conf heard ends = absurd ends
+ends-exchanging TransPrim m conf heard ends = absurd ends
+ends-exchanging (Construct at all) m conf heard ends = absurd ends
+ends-exchanging (No at all) m conf heard ends = absurd ends
+ends-exchanging Un m conf heard ends = absurd ends
+ends-exchanging (NonPrim regular) m conf heard ends = absurd ends
+ends-exchanging Left m conf heard ends = absurd ends
 
 -- a state in which a plan ends
 pub ends-beside : (state : State) (m : Msg) (conf : ℕ) (heard : List Summary) → EndsWith state m conf heard → (is_attempting state ≡ false) × (is_primary state ≡ false)

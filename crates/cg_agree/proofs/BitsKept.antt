@@ -118,7 +118,7 @@ module _ (c : Chronicle) (s : Small) (i : Invariant c) (may : may_make c s ≡ t
             | inl old ↦ ap (λ (x : Attempt). has x.installed q) mine ∙ old
             | inr this ↦ absurd (let clash : true ≡ false = sym (ap (is_at conf) ins.regular ∙ eq-eqb ins.conf conf (sym here)) ∙ ap (is_in c conf) (eqb-true p q this) ∙ out in cc)
           ])
-      at b (WasMade none p heard r new begins greens now moved) grown = absurd (let clash : None ≡ Some a = sym none ∙ found in cc)
+      at b (WasMade none p heard r new begins greens now moved handed) grown = absurd (let clash : None ≡ Some a = sym none ∙ found in cc)
 
   pub bits-still : (count more index high : ℕ) (but : List ℕ) (v : Option Vulnerable) → count ≤ more → index ≤ high → AreWitnessed c count index but v → AreWitnessed (small_step c s) more high but v
   bits-still count more index high but None le higher is = tt

@@ -3,7 +3,7 @@
 use Rattle.std.proofs.Common.{◌≡◌, ℕ, suc, Bool, true, false, cond, not, List, [], ◌∷◌, ◌++◌, length, drop, Option, Some, None, IfSome, refl, sym, ap, ◌∙◌, subst, arith}
 use Rattle.std.specs.Prelude.{option_and_then}
 use Rattle.std.specs.Option.{option_map_or}
-use Rattle.std.proofs.lemmas.Bool.{cond-false, and_parts}
+use Rattle.std.proofs.lemmas.Bool.{cond-false, cond_both, and_parts}
 use Rattle.std.proofs.lemmas.List.Sums.{fold-append}
 use Rattle.cg_base.specs.declared.weighted.Weighted.{Weighted}
 use Rattle.cg_base.specs.Lists.{at_place}
@@ -85,10 +85,15 @@ abbrev pub done_count : State → ℕ
 done_count (ExchangeActions at heard accepted) = suc accepted
 done_count _ = 0
 
+-- with the message all summaries are heard
+abbrev pub has_all : State → Msg → Bool
+has_all (ExchangeStates conf set heard) (StateMsg s) = is_within set (senders (heard ++ s ∷ []))
+has_all _ _ = true
+
 -- what the end of a plan needs of the member: the common yellow list fits
 abbrev pub EndFits : Chronicle → ℕ → Type 0
 EndFits c p =
-    (n : HandsNow c p) (conf : ℕ) (heard : List Summary) → EndsWith n.replica.state n.next.message conf heard → has (gone heard) n.replica.held.id ≡ false →
+    (n : HandsNow c p) (conf : ℕ) (heard : List Summary) → EndsWith n.replica.state n.next.message conf heard → has_all n.replica.state n.next.message ≡ true → has (gone heard) n.replica.held.id ≡ false →
     is_done (progress heard (done_count n.replica.state)) ≡ true → FitsCommon (mark_item (begin n.replica) n.next.message).replica.held heard
 
 choice : (start : List Weighted) (all : List Action) (h : Held) (b : Bool) (u v : Turn) → Grows start h u.replica.held all → Grows start h v.replica.held all → Grows start h (cond b u v).replica.held all
@@ -97,14 +102,14 @@ choice start all h false u v one two = two
 
 -- a summary, in the state in which these are taken
 summary-grows : (start : List Weighted) (all : List Action) (t : Turn) (conf : ℕ) (set : List ℕ) (heard : List Summary) (from : ℕ) (s : Summary) →
-    (has (gone (heard ++ s ∷ [])) t.replica.held.id ≡ false → is_done (progress (heard ++ s ∷ []) 0) ≡ true → FitsCommon t.replica.held (heard ++ s ∷ [])) → IsOneself start t.replica.held all →
+    (is_within set (senders (heard ++ s ∷ [])) ≡ true → has (gone (heard ++ s ∷ [])) t.replica.held.id ≡ false → is_done (progress (heard ++ s ∷ []) 0) ≡ true → FitsCommon t.replica.held (heard ++ s ∷ [])) → IsOneself start t.replica.held all →
     Grows start t.replica.held (on_message (ExchangeStates conf set heard) from (StateMsg s) t).replica.held all
 unfolding on_message
 summary-grows start all t conf set heard from s fits is =
     let more = heard ++ s ∷ [] in
     choice start all t.replica.held (is_usable conf heard from s) (with_heard t conf set more) t
-    (choice start all t.replica.held (is_within set (senders more)) (go_on t conf more 0) (go_to t (ExchangeStates conf set more))
-    (go-on-grows conf more 0 start all t (λ done here. fits here done) is) (grows-none start t.replica.held t.replica.held all refl is))
+    (cond_both (is_within set (senders more)) (go_on t conf more 0) (go_to t (ExchangeStates conf set more)) (λ u. Grows start t.replica.held u.replica.held all)
+    (λ full. go-on-grows conf more 0 start all t (λ done here. fits full here done) is) (λ few. grows-none start t.replica.held t.replica.held all refl is))
     (keeps-none start all t is)
 
 -- an item
@@ -126,21 +131,21 @@ item-grows start all t conf heard accepted from m fits is =
 
 -- whatever is handed to a member that isn't in its transitional phase
 handed-grows : (start : List Weighted) (all : List Action) (state : State) (from : ℕ) (m : Msg) (t : Turn) → t.replica.state ≡ state → (state ≡ TransPrim → ⊥) →
-    ((conf : ℕ) (heard : List Summary) → EndsWith state m conf heard → has (gone heard) t.replica.held.id ≡ false → is_done (progress heard (done_count state)) ≡ true → FitsCommon (mark_item t m).replica.held heard) →
+    ((conf : ℕ) (heard : List Summary) → EndsWith state m conf heard → has_all state m ≡ true → has (gone heard) t.replica.held.id ≡ false → is_done (progress heard (done_count state)) ≡ true → FitsCommon (mark_item t m).replica.held heard) →
     IsOneself start t.replica.held all → Grows start t.replica.held (on_message state from m t).replica.held all
 unfolding on_message
 handed-grows start all RegPrim from m t at apart fits is = message-grows RegPrim from m start all t refl tt is
 handed-grows start all TransPrim from m t at apart fits is = absurd (apart refl)
 handed-grows start all (ExchangeStates conf set heard) from (StateMsg s) t at apart fits is =
-    summary-grows start all t conf set heard from s (λ here done. fits conf (heard ++ s ∷ []) (refl, refl) here done) is
+    summary-grows start all t conf set heard from s (λ full here done. fits conf (heard ++ s ∷ []) (refl, refl) full here done) is
 handed-grows start all (ExchangeStates conf set heard) from (ActionMsg a) t at apart fits is = keeps-none start all t is
 handed-grows start all (ExchangeStates conf set heard) from (GreenItem place a) t at apart fits is = keeps-none start all t is
 handed-grows start all (ExchangeStates conf set heard) from (RedItem a) t at apart fits is = keeps-none start all t is
 handed-grows start all (ExchangeStates conf set heard) from (Cpc id of_conf) t at apart fits is = keeps-none start all t is
 handed-grows start all (ExchangeActions conf heard accepted) from (GreenItem place a) t at apart fits is =
-    item-grows start all t conf heard accepted from (GreenItem place a) (λ here done. fits conf heard (refl, refl) here done) is
+    item-grows start all t conf heard accepted from (GreenItem place a) (λ here done. fits conf heard (refl, refl) refl here done) is
 handed-grows start all (ExchangeActions conf heard accepted) from (RedItem a) t at apart fits is =
-    item-grows start all t conf heard accepted from (RedItem a) (λ here done. fits conf heard (refl, refl) here done) is
+    item-grows start all t conf heard accepted from (RedItem a) (λ here done. fits conf heard (refl, refl) refl here done) is
 handed-grows start all (ExchangeActions conf heard accepted) from (ActionMsg a) t at apart fits is = keeps-none start all t is
 handed-grows start all (ExchangeActions conf heard accepted) from (StateMsg s) t at apart fits is = keeps-none start all t is
 handed-grows start all (ExchangeActions conf heard accepted) from (Cpc id of_conf) t at apart fits is = keeps-none start all t is
@@ -283,7 +288,7 @@ next-grows c p i n fits is =
     (sym (found-now c p i n))
     (handed-grows c.start (greens_of c p) n.replica.state n.next.from n.next.message (begin n.replica) refl
     (λ trans. (let clash : true ≡ false = sym (ap is_trans trans) ∙ ap is_trans n.state ∙ never-trans (members_in c n.conf) n.conf (handed_talk c n.conf p) p in cc))
-    (λ conf heard ends here done. fits n conf heard ends here done) is)
+    (λ conf heard ends full here done. fits n conf heard ends full here done) is)
 
 leave-grows : (c : Chronicle) (p : ℕ) (i : Invariant c) (set places : List ℕ) (r : Replica) → replica_of c.world p ≡ Some r → IsOneself c.start r.held (greens_of c p) →
     Grows c.start r.held (take_parting c.world.group p set places (begin r)).replica.held (greens_of c p)

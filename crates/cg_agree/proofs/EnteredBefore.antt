@@ -55,7 +55,7 @@ how-entered c d i conf p b (WasEntered a found q heard r new begins now moved) i
     ]
 how-entered c d i conf p b (WasInstalled q r new ins done here now levels core moved) is =
     Before ins.a (ap (attempt_of c) here ∙ ins.found) (subst (SameAttempt ins.a) (sym now) (grown-installer q ins.a).same) (ap (λ (x : Attempt). has x.entered p) (sym now) ∙ is)
-how-entered c d i conf p b (WasMade none q heard r new begins greens now moved) is =
+how-entered c d i conf p b (WasMade none q heard r new begins greens now moved handed) is =
     elim (or_cases (has [] p) (eqb new.held.id p) (sym (has-with_member [] new.held.id p) ∙ ap (λ (x : Attempt). has x.entered p) (sym now) ∙ is)) [
       | inl was ↦ absurd (let clash : false ≡ true = was in cc)
       | inr mine ↦ begun-now c d conf p q b heard r new begins (ap (λ (x : Attempt). x.set) now) moved (sym (holder c q conf heard r new begins) ∙ eqb-true new.held.id p mine)

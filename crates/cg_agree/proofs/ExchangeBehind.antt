@@ -1,12 +1,12 @@
 -- A member that is in no exchange, to whom a place is handed: what it took over at the end of its plan it has still.
-use Rattle.std.proofs.Common.{◌≡◌, ℕ, suc, Bool, true, false, cond, not, List, [], ◌∷◌, ◌++◌, take, Option, Some, None, IfSome, refl, sym, ap, ap₂, ◌∙◌, subst, eqb-true, eq-eqb}
+use Rattle.std.proofs.Common.{◌≡◌, ℕ, suc, Bool, true, false, cond, not, List, [], ◌∷◌, take, Option, Some, IfSome, refl, sym, ap, ap₂, ◌∙◌, subst, eqb-true, eq-eqb}
 use Rattle.std.specs.Prelude.{◌==◌, nat_le}
 use Rattle.std.specs.Option.{option_map_or}
 use Rattle.std.proofs.lemmas.Bool.{cond-true, cond_both}
 use Rattle.cg_base.specs.Cuts.{index_in}
 use Rattle.cg_base.specs.Sets.{has, is_within, with_member}
 use Rattle.cg_action.specs.declared.action.Action.{Action}
-use Rattle.cg_queue.specs.Queue.{Marking, Marks, Gaps, marked_red, placed_red}
+use Rattle.cg_queue.specs.Queue.{Marks, Gaps, marked_red, placed_red}
 use Rattle.cg_queue.specs.declared.mark.Mark.TheVariants.{Placed, Known}
 use Rattle.cg_knowledge.specs.declared.summary.Summary.{Summary}
 use Rattle.cg_records.specs.declared.yellow.Yellow.{Yellow}
@@ -37,6 +37,7 @@ use Rattle.cg_agree.specs.Smalls.{may_make}
 use Rattle.cg_agree.proofs.ExchangeSmalls.{replica-behind, greens-behind}
 use Rattle.cg_agree.proofs.ExchangeStill.{ProgressAt, some-still, best-still}
 use Rattle.cg_agree.proofs.HandsNow.{HandsNow, hands-regular, new, behind, count, found-now, hand-state, running-now, whole-through}
+use Rattle.cg_agree.proofs.ModeHeld.{is_exchanging}
 use Rattle.cg_agree.proofs.OneSteps.{hands-step}
 use Rattle.cg_agree.proofs.PlanEnd.{is_behind, behind-ended}
 use Rattle.cg_agree.proofs.ToldKept.{told-same, told_in-same}
@@ -146,12 +147,6 @@ free-held d conf t h all (ExchangeStates at set heard) free = absurd (let clash 
 free-held d conf t h all (ExchangeActions at heard accepted) free = absurd (let clash : false ≡ true = free in cc)
 free-held d conf t h all (NonPrim regular) free = absurd (let clash : false ≡ true = free in cc)
 free-held d conf t h all Left free = absurd (let clash : false ≡ true = free in cc)
-
--- the states of an exchange
-abbrev pub is_exchanging : State → Bool
-is_exchanging (ExchangeStates conf set heard) = true
-is_exchanging (ExchangeActions conf heard accepted) = true
-is_exchanging _ = false
 
 -- a quiet one of a regular configuration
 abbrev is_regular_now : State → Bool

@@ -11,9 +11,9 @@ use Rattle.cg_action.specs.declared.action.Kind.{Kind}
 use Rattle.cg_wire.specs.declared.message.Msg.{Msg}
 use Rattle.cg_group.specs.declared.phase.Phase.{Phase}
 use Rattle.cg_group.specs.declared.phase.Phase.TheVariants.{Down as DownPhase, Alone, Regular, Transitional}
-use Rattle.cg_group.specs.State.{GroupState, Configuration, set_configuration, Standing, standing_of, phase_of, delivered_to, regular_in, is_up}
+use Rattle.cg_group.specs.State.{GroupState, Configuration, set_configuration, standing_of, phase_of, delivered_to, regular_in, is_up}
 use Rattle.cg_group.specs.Events.{with_receipt}
-use Rattle.cg_client.specs.Replica.{Held, State, RegPrim, TransPrim, ExchangeStates, ExchangeActions, Construct, No, Un, NonPrim, Left, Replica}
+use Rattle.cg_client.specs.Replica.{State, RegPrim, TransPrim, ExchangeStates, ExchangeActions, Construct, No, Un, NonPrim, Left, Replica}
 use Rattle.cg_client.specs.Turn.{Turn, begin}
 use Rattle.cg_client.specs.Requests.{settle, is_creating, create, create_kept, empty_buffer, request_in, request}
 use Rattle.cg_client.specs.Summary.{summary_of}
@@ -23,12 +23,12 @@ use Rattle.cg_agree.specs.World.{Life, Up, Down, Seat, running, Snapshot, World,
 use Rattle.cg_agree.specs.Step.{begin_replica, joined}
 use Rattle.cg_agree.specs.Chronicle.{Past, Told, Chronicle, no_chronicle}
 use Rattle.cg_agree.specs.Fronts.{IsSomeWith}
-use Rattle.cg_agree.specs.Looks.{conf_of, past_of, greens_of, told_in, is_regular_at, is_regular_in, copied_for, snapshot_of}
+use Rattle.cg_agree.specs.Looks.{conf_of, past_of, greens_of, told_in, is_regular_at, is_regular_in, copied_for}
 use Rattle.cg_agree.specs.Talk.{talk_of}
 use Rattle.cg_agree.specs.FactsReplica.{IsModeData}
 use Rattle.cg_agree.specs.FactsExchange.{IsUnmoved, IsInExchange, ExchangeProgress}
 use Rattle.cg_agree.specs.Facts.{Invariant}
-use Rattle.cg_agree.specs.Small.{Small, Starts, Makes, Enters, Orders, Receives, Hands, Leaves, Asks, Settles, Commits, Crashes, Recovers, Copies, Joins, new_past, written, struck, newly_green, newest_conf, after_turn, turning_as, turning, take_newest, take_next, take_parting, take_request, coming, handed_next, leaving, with_group, commit_as, crash_as, recover_as, copy_as, join_with, start, small_step}
+use Rattle.cg_agree.specs.Small.{Small, Starts, Makes, Enters, Orders, Receives, Hands, Leaves, Asks, Settles, Commits, Crashes, Recovers, Copies, Joins, new_past, written, struck, newest_conf, turning_as, turning, take_newest, take_next, take_parting, take_request, coming, handed_next, leaving, with_group, commit_as, crash_as, recover_as, copy_as, join_with, start, small_step}
 use Rattle.cg_agree.specs.Smalls.{may_make, is_running, is_set}
 use Rattle.cg_agree.proofs.BegunKept.{nothing-before}
 use Rattle.cg_agree.proofs.ChronicleFacts.{greens_of-other, past-begun}
@@ -42,12 +42,12 @@ use Rattle.cg_agree.proofs.HandsKept.{seated}
 use Rattle.cg_agree.proofs.HandsNow.{hands-regular}
 use Rattle.cg_agree.proofs.ModeHeld.{SameLists, lists-settle, lists-request}
 use Rattle.cg_agree.proofs.NextThere.{orders-now, receives-now}
-use Rattle.cg_agree.proofs.OneStands.{Stands, stands-refl, stands-up, stands-down}
+use Rattle.cg_agree.proofs.OneStands.{stands-refl, stands-up, stands-down}
 use Rattle.cg_agree.proofs.OneSteps.{turns-step, hands-step, leaves-step, enters-step, may-join, seat-there}
 use Rattle.cg_agree.proofs.OneselfWorld.{HavePasts}
 use Rattle.cg_agree.proofs.OrdersTalk.{handed-same}
 use Rattle.cg_agree.proofs.OrdersWorld.{ordered-step, step-is, behind}
-use Rattle.cg_agree.proofs.PastKept.{EntersNow, enters-now, entry_turn, entry_told, enters-is, told_in-enters}
+use Rattle.cg_agree.proofs.PastKept.{EntersNow, enters-now, entry_turn, entry_told, told_in-enters}
 use Rattle.cg_agree.proofs.RecordKept.{turn-is}
 use Rattle.cg_agree.proofs.SmallTalk.{receive-is, receive-same}
 use Rattle.cg_agree.proofs.TalkAlone.{replica-set}
@@ -91,7 +91,7 @@ greens-request t kind = at t.replica.state where
 
 -- ---- what a turn leaves of the others, and makes of its replica
 
-greens-turning : (c : Chronicle) (p : ℕ) (part : Turn → Turn) (q : ℕ) → (q == p) ≡ false → greens_of (turning c p part) q ≡ greens_of c q
+pub greens-turning : (c : Chronicle) (p : ℕ) (part : Turn → Turn) (q : ℕ) → (q == p) ≡ false → greens_of (turning c p part) q ≡ greens_of c q
 greens-turning c p part q other = at (seat_of c.world p) where
   life : (l : Life) → greens_of (turning_as c p part l) q ≡ greens_of c q
   life (Up r disk) = greens_of-other c p r disk (part (begin r)) q (eqb-false q p other)
@@ -112,7 +112,7 @@ module _ (c : Chronicle) (p : ℕ) (part : Turn → Turn) (r : Replica) (disk : 
       ap (λ (x : Chronicle). greens_of x p) (turn-is c p part r disk seat) ∙ greens-turn c p r disk (part (begin r)) pasts seat
       ∙ ap (λ xs. greens_of c p ++ xs) (nothing-new r (part (begin r)).replica same) ∙ append-nil (greens_of c p)
 
-stays-told : (c d : Chronicle) → d.told ≡ c.told → ToldStays c d
+pub stays-told : (c d : Chronicle) → d.told ≡ c.told → ToldStays c d
 stays-told c d same conf q t e = told_in-same c d same conf q ∙ e
 
 -- ---- each step

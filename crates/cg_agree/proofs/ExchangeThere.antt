@@ -82,7 +82,7 @@ white-item t heard m = cond_both (has (gone heard) t.replica.held.id) t (mark_it
 -- ---- fronts
 
 -- a front of greens has no higher cut
-front-cut : (xs ys : List Action) (creator : ℕ) → Front xs ys → index_in (cut_behind [] (names_of xs)) creator ≤ index_in (cut_behind [] (names_of ys)) creator
+pub front-cut : (xs ys : List Action) (creator : ℕ) → Front xs ys → index_in (cut_behind [] (names_of xs)) creator ≤ index_in (cut_behind [] (names_of ys)) creator
 front-cut xs ys creator front =
     let ids = names_of xs in
     let all = names_of ys in
@@ -263,7 +263,7 @@ module _ (c : Chronicle) (p : ℕ) (i : Invariant c) (conf : ℕ) (r : Replica) 
   -- ---- behind an item
 
   -- so many greens there are behind so many items
-  greens-count : (heard : List Summary) (k : ℕ) (are : AreTold c conf heard) (full : is_within set (senders heard) ≡ true) (here : has (gone heard) p ≡ false) →
+  pub greens-count : (heard : List Summary) (k : ℕ) (are : AreTold c conf heard) (full : is_within set (senders heard) ≡ true) (here : has (gone heard) p ≡ false) →
       greens_behind heard k (best heard are full).best.summary in_exchange.mine.summary ≡ greens_there (near heard are full here).0 k (best heard are full).best in_exchange.mine
   greens-count heard k are full here =
       ap (λ (o : Option ℕ). (let low = option_map_or (λ n. n) o 0 in
@@ -279,7 +279,7 @@ module _ (c : Chronicle) (p : ℕ) (i : Invariant c) (conf : ℕ) (r : Replica) 
       }
 
   -- the most updated member told that itself
-  best-is : (heard : List Summary) (b : IsBest c i conf heard) → best_told c conf heard ≡ Some b.best
+  pub best-is : (heard : List Summary) (b : IsBest c i conf heard) → best_told c conf heard ≡ Some b.best
   best-is heard b = ap (λ (o : Option Summary). option_and_then (λ s. told_in c conf s.id) o) b.most ∙ b.found
 
   -- a member that has left has changed nothing
@@ -290,7 +290,7 @@ module _ (c : Chronicle) (p : ℕ) (i : Invariant c) (conf : ℕ) (r : Replica) 
       (ap (has (gone talk_before.heard)) id ∙ left) holds
 
   -- a member that remains goes on
-  going-at : (full : is_full set talk_before ≡ true) → is_through talk_before ≡ false → has (gone talk_before.heard) p ≡ false →
+  pub going-at : (full : is_full set talk_before ≡ true) → is_through talk_before ≡ false → has (gone talk_before.heard) p ≡ false →
       IsGoingOn talk_before.heard talk_before.accepted (best talk_before.heard heard_before full).best in_exchange.mine r.held (greens_of c p)
   going-at full yet here =
       let holds = subst (IsInExchange c conf in_exchange.mine r.held (greens_of c p)) (in-actions full yet) in_exchange.holds in
@@ -311,7 +311,7 @@ module _ (c : Chronicle) (p : ℕ) (i : Invariant c) (conf : ℕ) (r : Replica) 
       (greens-count talk_before.heard talk_before.accepted heard_before full here)
 
   -- who remains takes an item
-  take-here : (m : Msg) → has (gone talk_before.heard) p ≡ false → take_item (begin r) talk_before.heard m ≡ mark_item (begin r) m
+  pub take-here : (m : Msg) → has (gone talk_before.heard) p ≡ false → take_item (begin r) talk_before.heard m ≡ mark_item (begin r) m
   take-here m here = cond-false (has (gone talk_before.heard) r.held.id) (begin r) (mark_item (begin r) m) (ap (has (gone talk_before.heard)) id ∙ here)
 
   -- who has left takes none

@@ -90,7 +90,7 @@ installed_index-kept c s i may rest = record {
   of_came conf p b h (WasEntered a found q heard r new begins made moved) now is =
       let from = ap (λ (x : Attempt). x.from) made in
       let lt = before conf p a h found now (ap (λ (x : Attempt). has x.installed p) (sym made) ∙ is) in omega (arith, from, lt)
-  of_came conf p b h (WasMade none q heard r new begins greens made moved) now is = absurd (let clash : true ≡ false = sym is ∙ ap (λ (x : Attempt). has x.installed p) made in cc)
+  of_came conf p b h (WasMade none q heard r new begins greens made moved handed) now is = absurd (let clash : true ≡ false = sym is ∙ ap (λ (x : Attempt). has x.installed p) made in cc)
   of_came conf p b h (WasInstalled q r new ins done here made levels core moved) now is =
       let from = ap (λ (x : Attempt). x.from) made in
       elim (or_cases (has ins.a.installed p) (eqb q p) (sym (has-with_member ins.a.installed q p) ∙ ap (λ (x : Attempt). has x.installed p) (sym made) ∙ is)) [
@@ -121,7 +121,7 @@ installed_index-kept c s i may rest = record {
   counted-came conf p b (WasEntered a found q heard r new begins made moved) = subst (λ (x : Attempt). left_count x p ≤ length (greens_of (small_step c s) p)) (sym made) (counted-before conf p a found)
   counted-came conf p b (WasInstalled q r new ins done here made levels core moved) =
       subst (λ (x : Attempt). left_count x p ≤ length (greens_of (small_step c s) p)) (sym made) (counted-before conf p ins.a (ap (attempt_of c) here ∙ ins.found))
-  counted-came conf p b (WasMade none q heard r new begins greens made moved) = subst (λ (x : Attempt). left_count x p ≤ length (greens_of (small_step c s) p)) (sym made) (omega arith)
+  counted-came conf p b (WasMade none q heard r new begins greens made moved handed) = subst (λ (x : Attempt). left_count x p ≤ length (greens_of (small_step c s) p)) (sym made) (omega arith)
 
   counted : (conf p : ℕ) (o : Option Attempt) → attempt_of (small_step c s) conf ≡ o → IfSome o (λ a. left_count a p ≤ length (greens_of (small_step c s) p))
   counted conf p None e = tt

@@ -50,7 +50,7 @@ use Rattle.cg_agree.proofs.LevelsOpen.{opened-kept, opens-kept, place-within, so
 
 -- ---- the servers of the start stay
 
-abbrev NotStart : Small → Type 0
+abbrev pub NotStart : Small → Type 0
 NotStart (Starts set) = ⊥
 NotStart _ = Unit {0}
 

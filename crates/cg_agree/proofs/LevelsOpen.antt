@@ -113,7 +113,7 @@ pub data LevelStep (c d : Chronicle) : Type 0 where
 pub level-step : (c d : Chronicle) → AttemptStep c d → LevelStep c d
 level-step c d (Same attempts levels) = NoMore levels
 level-step c d (Goes p n attempts levels low) = NoMore levels
-level-step c d (Begun p k heard r new end id begun up greens attempts levels beside moved) = NoMore levels
+level-step c d (Begun p k heard r new end id begun up greens attempts levels beside moved handed) = NoMore levels
 level-step c d (Installed p r new ins done attempts levels core moved) =
     let found : attempt_of c ins.a.conf ≡ Some ins.a = ap (attempt_of c) (ins-conf c p r ins) ∙ ins.found in
     let test : option_map_or is_installed (attempt_of c ins.a.conf) true ≡ is_installed ins.a = ap (λ (o : Option Attempt). option_map_or is_installed o true) found in
@@ -199,7 +199,7 @@ opens-kept c s i may conf = at (attempt_of (small_step c s) conf) refl where
         | inl old ↦ before ins.a (ap (attempt_of c) here ∙ ins.found) old
         | inr none ↦ first p r ins levels here none
       ])
-  of_came b (WasMade none p heard r new begins greens now moved) is = absurd (let clash : true ≡ false = sym is ∙ ap is_installed now in cc)
+  of_came b (WasMade none p heard r new begins greens now moved handed) is = absurd (let clash : true ≡ false = sym is ∙ ap is_installed now in cc)
 
   at : (o : Option Attempt) → attempt_of (small_step c s) conf ≡ o → IfSome o (λ a. When (is_installed a) (at_place (small_step c s).levels (suc a.from) ≡ Some conf))
   at None now = tt
@@ -230,7 +230,7 @@ installed_announced-kept c s i may conf q is = at (attempt_of (small_step c s) c
   of_came b (WasLeft a found p n here now low) is member =
       known a found (sym (same-left p n a) ∙ ap is_installed (sym now) ∙ is) (ap (λ l. has l q) (sym (grown-leaver p n a).same.set) ∙ ap (λ (x : Attempt). has x.set q) (sym now) ∙ member)
   of_came b (WasEntered a found p heard r new begins now moved) is member = known a found (ap is_installed (sym now) ∙ is) (ap (λ (x : Attempt). has x.set q) (sym now) ∙ member)
-  of_came b (WasMade none p heard r new begins greens now moved) is member = absurd (let clash : true ≡ false = sym is ∙ ap is_installed now in cc)
+  of_came b (WasMade none p heard r new begins greens now moved handed) is member = absurd (let clash : true ≡ false = sym is ∙ ap is_installed now in cc)
   of_came b (WasInstalled p r new ins done here now levels core moved) is member = by_why ins.why where
     here_found : attempt_of c conf ≡ Some ins.a
     here_found = ap (attempt_of c) here ∙ ins.found

@@ -1,6 +1,6 @@
 -- What a summary says of greens agrees with what everybody else of its configuration has told: the lines of its sender's actions, and the
 -- sender's join where it is no server of the start. Behind each small step.
-use Rattle.std.proofs.Common.{◌≡◌, ℕ, ◌≤◌, ◌<◌, true, false, ◌&&◌, List, [], ◌∷◌, length, Option, Some, None, IfSome, refl, sym, ap, ◌∙◌, subst, arith, inl, inr, is_some, eqb-true, eq-eqb}
+use Rattle.std.proofs.Common.{◌≡◌, ℕ, ◌≤◌, ◌<◌, true, false, ◌&&◌, List, [], ◌∷◌, length, Option, Some, None, IfSome, refl, sym, ap, ◌∙◌, subst, arith, inl, inr, ⊎_elim, is_some, eqb-true, eq-eqb}
 use Rattle.std.specs.Prelude.{◌==◌}
 use Rattle.std.specs.Option.{option_map_or}
 use Rattle.std.proofs.lemmas.Bool.{cases_eq, cond-true, cond-false, and_parts, ne_eqb}
@@ -10,7 +10,7 @@ use Rattle.cg_members.specs.Servers.{line_of, starting, members_of}
 use Rattle.cg_agree.specs.World.{has_begun}
 use Rattle.cg_agree.specs.Chronicle.{Told, Chronicle}
 use Rattle.cg_agree.specs.Looks.{greens_of, told_in, ordered_in, is_member}
-use Rattle.cg_agree.specs.FactsExchange.{AreReached, IsSummary}
+use Rattle.cg_agree.specs.FactsExchange.{AreReached, HasReached, IsSummary, SummaryLines, TellersStill}
 use Rattle.cg_agree.specs.Facts.{Invariant}
 use Rattle.cg_agree.specs.Small.{Small, Starts, Makes, Enters, Orders, Receives, Hands, Leaves, Asks, Settles, Commits, Crashes, Recovers, Copies, Joins, small_step, newest_conf}
 use Rattle.cg_agree.specs.Smalls.{may_make}
@@ -20,14 +20,13 @@ use Rattle.cg_agree.proofs.ToldKept.{IsUntold, told-same, told_in-same}
 use Rattle.cg_agree.proofs.PastKept.{EntersNow, enters-now, entry_told, told_in-enters}
 use Rattle.cg_agree.proofs.BookedCores.{each-booked}
 use Rattle.cg_agree.proofs.CopiesBooked.{greens-on_line}
-use Rattle.cg_agree.proofs.LinesTold.{JoinsBelow, greens-below, first-lines}
+use Rattle.cg_agree.proofs.LinesTold.{JoinsBelow, joins-below, greens-below, first-lines}
 use Rattle.cg_agree.proofs.LinesMade.{below-each, named-fine, reached, joined}
 use Rattle.cg_agree.proofs.LinesBelowKept.{Beginnings}
 use Rattle.cg_agree.proofs.LevelsKept.{start-kept}
 use Rattle.cg_agree.proofs.SummariesKept.{start-told, fits-kept}
-use Rattle.cg_agree.proofs.TellersStill.{TellersStill}
 
--- as SummaryLines has it, but for joins of servers of the start
+-- as SummaryLines has it, with the join as it is used
 pub record ReachedBy (start : List Weighted) (by of : Told) : Type 0 where
   pub lines : AreReached of.summary.id of.summary.green_count by.greens
   pub joins : JoinsBelow (starting start) 0 by.greens of.summary.id of.summary.green_count
@@ -154,3 +153,30 @@ lines_reached-kept c (Crashes p) i first tellers may = reached-later c (Crashes 
 lines_reached-kept c (Recovers p) i first tellers may = reached-later c (Recovers p) i may tt
 lines_reached-kept c (Copies p joiner) i first tellers may = reached-later c (Copies p joiner) i may tt
 lines_reached-kept c (Joins joiner) i first tellers may = reached-later c (Joins joiner) i may tt
+
+-- ---- and so in the form of the fact
+
+lines-had : (c : Chronicle) → SummaryLines c → LinesReached c
+lines-had c told conf p q by of e f =
+    let here = subst (λ (o : Option Told). IfSome o (λ by. IfSome (told_in c conf q) (HasReached c.start by))) e (told conf p q) in
+    let has = subst (λ (o : Option Told). IfSome o (HasReached c.start by)) f here in
+    record { lines = has.lines; joins = joins-below c.start by of has }
+
+has-reached : (start : List Weighted) (by of : Told) → ReachedBy start by of → HasReached start by of
+has-reached start by of r = record {
+  lines = r.lines;
+  joined = λ none. ⊎_elim (λ was. absurd (let clash : true ≡ false = sym was ∙ none in cc)) (λ le. le) r.joins;
+}
+
+lines-told : (d : Chronicle) → LinesReached d → SummaryLines d
+lines-told d reached conf p q = at (told_in d conf p) refl where
+  inner : (by : Told) → told_in d conf p ≡ Some by → (o : Option Told) → told_in d conf q ≡ o → IfSome o (HasReached d.start by)
+  inner by e None f = tt
+  inner by e (Some of) f = has-reached d.start by of (reached conf p q by of e f)
+
+  at : (o : Option Told) → told_in d conf p ≡ o → IfSome o (λ by. IfSome (told_in d conf q) (HasReached d.start by))
+  at None e = tt
+  at (Some by) e = inner by e (told_in d conf q) refl
+
+pub summary_lines-kept : (c : Chronicle) (s : Small) → Invariant c → Beginnings c → TellersStill c → may_make c s ≡ true → SummaryLines (small_step c s)
+summary_lines-kept c s i first tellers may = lines-told (small_step c s) (lines_reached-kept c s i first tellers may (lines-had c i.exchange.summary_lines))

@@ -139,9 +139,12 @@ pub first-lines : (set : List Weighted) (q : ℕ) → line_of (map first_line se
 first-lines [] q = refl
 first-lines (w ∷ set) q = cond_both (w.id == q) 0 (line_of (map first_line set) q) (λ n. n ≡ 0) (λ y. refl) (λ n. first-lines set q)
 
+pub joins-below : (start : List Weighted) (by of : Told) → HasReached start by of → JoinsBelow (starting start) 0 by.greens of.summary.id of.summary.green_count
+joins-below start by of reached = ⊎_elim inl (λ none. inr (reached.joined none)) (cases_Bool (was_ever (starting start) of.summary.id))
+
 -- the line of one that told, by the greens of another that told
-pub line-told : (start : List Weighted) (by of : Told) → HasReached start by of → is_server (members_of start by.greens) of.summary.id ≡ true →
+pub line-told : (start : List Weighted) (by of : Told) → HasReached start by of →
     line_of (members_of start by.greens).servers of.summary.id ≤ of.summary.green_count
-line-told start by of reached server =
-    greens-below by.greens (starting start) 0 of.summary.id of.summary.green_count (inr (reached.joined server)) reached.lines
+line-told start by of reached =
+    greens-below by.greens (starting start) 0 of.summary.id of.summary.green_count (joins-below start by of reached) reached.lines
     (let none = first-lines start of.summary.id in omega arith)

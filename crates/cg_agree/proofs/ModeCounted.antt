@@ -185,7 +185,7 @@ module _ (c : Chronicle) (s : Small) (i : Invariant c) (may : may_make c s ≡ t
         as-old ins.a b (ap (attempt_of c) here ∙ ins.found) (ap (λ (x : Attempt). x.conf) now) (ap (λ (x : Attempt). has x.entered q) now)
         (ap (λ (x : Attempt). has x.installed q) now ∙ other-member ins.a.installed p q (ne_eqb p q apart))
   ]
-  of_came b (WasMade none p heard t fresh begins greens now moved) = elim (cases_eq p q) [
+  of_came b (WasMade none p heard t fresh begins greens now moved handed) = elim (cases_eq p q) [
     | inl same ↦
         let this : new ≡ fresh = same-one new fresh (sym after ∙ ap (replica_of (small_step c s).world) (sym same) ∙ moved) in
         subst (IsCounted b) (sym this) (counted-attempted k heard t fresh b (new_attempt greens fresh.held (new_record k heard t.held.id)) begins.begun now refl)

@@ -215,7 +215,7 @@ none-unsaid c s i may conf unsaid_there = at (attempt_of (small_step c s) conf) 
   of_came b (WasLeft a found p n here now low) = unsaid_there (said-attempt c conf a i found)
   of_came b (WasEntered a found p heard r new' begins now moved) = unsaid_there (said-attempt c conf a i found)
   of_came b (WasInstalled p r new' ins done here now levels core moved) = unsaid_there (said-attempt c conf ins.a i (ap (attempt_of c) here ∙ ins.found))
-  of_came b (WasMade none p heard r new' begins greens now moved) = unsaid_there (said-by (ordered_in c conf) p (ap (λ l. has (senders l) p) begins.end.whole ∙ begins.end.listed))
+  of_came b (WasMade none p heard r new' begins greens now moved handed) = unsaid_there (said-by (ordered_in c conf) p (ap (λ l. has (senders l) p) begins.end.whole ∙ begins.end.listed))
 
   at : (o : Option Attempt) → attempt_of (small_step c s) conf ≡ o → attempt_of (small_step c s) conf ≡ None
   at None e = e

@@ -1,11 +1,11 @@
 -- Before the start there is nothing to tell: the empty chronicle stands beside the empty world.
-use Rattle.std.proofs.Common.{◌≡◌, ℕ, zero, suc, true, false, List, [], ◌++◌, length, filter_map, refl, sym, ap, ap₂, ◌∙◌, subst, arith}
+use Rattle.std.proofs.Common.{◌≡◌, ℕ, zero, suc, true, false, List, [], ◌++◌, length, filter_map, Option, Some, None, refl, sym, ap, ap₂, ◌∙◌, subst, arith}
 use Rattle.cg_base.specs.Sets.{has}
 use Rattle.cg_knowledge.specs.Members.{senders, remaining}
 use Rattle.cg_wire.specs.declared.message.Msg.{Msg}
 use Rattle.cg_group.specs.State.{Sent, Configuration, configuration, no_configuration, standing_of, has_received}
 use Rattle.cg_agree.specs.World.{no_world}
-use Rattle.cg_agree.specs.Chronicle.{no_chronicle}
+use Rattle.cg_agree.specs.Chronicle.{Told, no_chronicle}
 use Rattle.cg_agree.specs.Looks.{conf_of, members_in, ordered_in, placed_of, waiting_in, said_in, is_regular_in}
 use Rattle.cg_agree.specs.Talk.{talk_of, no_talk, is_legal, announcer_in, act_in, action_in}
 use Rattle.cg_agree.specs.FactsNet.{NetFacts}
@@ -111,13 +111,18 @@ replica = record {
     in_messages = λ conf. subst (λ (xs : List (Sent Msg)). AreBooked no_chronicle (filter_map (λ s. action_in s.message) xs)) (sym (ordered-none conf)) tt;
     in_waiting = λ p. tt;
   };
+  origins = record { unbegun = λ p none. refl; starters = λ p was. never was; parts = λ conf. tt };
   lines_below = record { actions = tt; cores = record { memory = λ p. tt; disk = λ p. tt; snapshot = λ joiner. tt } };
 }
+
+abbrev no_told : Option Told
+no_told = None
 
 exchange : ExchangeFacts no_chronicle
 exchange = record {
   summary_of_sender = record { fits = λ conf p. tt; levels = λ conf p. tt; outdone = λ conf p. tt; inside = λ conf p e. tt };
   summary_lines = λ conf p q. tt;
+  tellers_still = λ conf p t told nothing last. absurd (let none : no_told ≡ Some t = told in cc);
   exchange_progress = λ conf p e. never (sym (irregular conf p) ∙ e);
 }
 

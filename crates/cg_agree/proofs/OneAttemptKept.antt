@@ -177,7 +177,7 @@ old-or-made c d conf b (Stayed found) = Old b found refl
 old-or-made c d conf b (WasLeft a found p n here now low) = Old a found (ap (λ (x : Attempt). x.from) now ∙ (grown-leaver p n a).same.from)
 old-or-made c d conf b (WasEntered a found p heard r new begins now moved) = Old a found (ap (λ (x : Attempt). x.from) now)
 old-or-made c d conf b (WasInstalled p r new ins done here now levels core moved) = Old ins.a (ap (attempt_of c) here ∙ ins.found) (ap (λ (x : Attempt). x.from) now)
-old-or-made c d conf b (WasMade none p heard r new begins greens now moved) =
+old-or-made c d conf b (WasMade none p heard r new begins greens now moved handed) =
     Made none p heard r new begins (ap (λ (x : Attempt). x.from) now) (ap (λ (x : Attempt). x.conf) now) (ap (λ (x : Attempt). x.set) now) (ap (λ (x : Attempt). x.installed) now)
 
 -- Of two attempts from one index the earlier one is over, behind each small step.

@@ -49,7 +49,7 @@ green-held start h all place made above within =
       mapped (Some x) a e = refl
 
 -- a name of a red action is found
-name-found : (xs ys : List Action) (id : ActionId) → names (names_of ys) id ≡ true → is_some (find (λ a. same_id a.id id) (xs ++ ys)) ≡ true
+pub name-found : (xs ys : List Action) (id : ActionId) → names (names_of ys) id ≡ true → is_some (find (λ a. same_id a.id id) (xs ++ ys)) ≡ true
 name-found [] [] id e = absurd (let clash : false ≡ true = e in cc)
 name-found [] (y ∷ ys) id e = ⊎_elim
     (λ (here : same_id id y.id ≡ true).

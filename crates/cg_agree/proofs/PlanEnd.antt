@@ -32,7 +32,7 @@ use Rattle.cg_agree.proofs.HandsNow.{HandsNow, new, set, before, count, behind, 
 abbrev Choice : Bool → State → State → State
 Choice b x y = if b then x else y
 
-ended-behind : (conf : ℕ) (t : Talk) (me : ℕ) (m : Msg) (at : ℕ) (heard : List Summary) → EndsWith (state_behind conf t me) m at heard → ⊥
+pub ended-behind : (conf : ℕ) (t : Talk) (me : ℕ) (m : Msg) (at : ℕ) (heard : List Summary) → EndsWith (state_behind conf t me) m at heard → ⊥
 ended-behind conf t me m at heard ends = one (has (gone t.heard) me) ends where
   three : (b : Bool) → EndsWith (Choice b RegPrim (Construct conf t.announced)) m at heard → ⊥
   three true e = e

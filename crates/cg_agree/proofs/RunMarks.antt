@@ -153,7 +153,7 @@ taken-out cut (x ∷ ids) id rising at_next run =
 
 -- ---- names in order
 
-before-parts : (a b : ActionId) → id_before a b ≡ true → (a.creator < b.creator) ⊎ ((a.creator ≡ b.creator) × (a.index < b.index))
+pub before-parts : (a b : ActionId) → id_before a b ≡ true → (a.creator < b.creator) ⊎ ((a.creator ≡ b.creator) × (a.index < b.index))
 before-parts a b before = elim (cases_order a.creator b.creator) [
   | inl same ↦ elim (cases_order a.index b.index) [
     | inl e ↦ absurd (clash (sym (rw (le-ltb a.creator b.creator (omega arith), eq-eqb a.creator b.creator same, le-ltb a.index b.index (omega arith)) at before)))
@@ -171,13 +171,13 @@ before-parts a b before = elim (cases_order a.creator b.creator) [
     clash : true ≡ false → ⊥
     clash e = cc
 
-before-creator : (a b : ActionId) → a.creator < b.creator → id_before a b ≡ true
+pub before-creator : (a b : ActionId) → a.creator < b.creator → id_before a b ≡ true
 before-creator a b lt = rw (lt-ltb a.creator b.creator lt) refl
 
-before-index : (a b : ActionId) → a.creator ≡ b.creator → a.index < b.index → id_before a b ≡ true
+pub before-index : (a b : ActionId) → a.creator ≡ b.creator → a.index < b.index → id_before a b ≡ true
 before-index a b same lt = rw (le-ltb a.creator b.creator (omega arith), eq-eqb a.creator b.creator same, lt-ltb a.index b.index lt) refl
 
-before-trans : (a b c : ActionId) → id_before a b ≡ true → id_before b c ≡ true → id_before a c ≡ true
+pub before-trans : (a b c : ActionId) → id_before a b ≡ true → id_before b c ≡ true → id_before a c ≡ true
 before-trans a b c f g = elim (before-parts a b f) [
   | inl lt ↦ elim (before-parts b c g) [
     | inl more ↦ before-creator a c (omega arith)

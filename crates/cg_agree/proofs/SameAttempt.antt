@@ -119,7 +119,7 @@ at-some (Some x) change c each = each x
 keeps-turning : (c : Chronicle) (p : ℕ) (part : Turn → Turn) → KeepsAttempts c.attempts (turning c p part).attempts
 keeps-turning c p part = at-some (seat_of c.world p) (λ s. turning_as c p part s.life) c (λ s. keeps-turning_as c p part s.life)
 
-keeps-left : (c : Chronicle) (p count : ℕ) → KeepsAttempts c.attempts (changed_attempt (with_leaver p count) (conf_at (phase_of c.world.group p)) c.attempts)
+pub keeps-left : (c : Chronicle) (p count : ℕ) → KeepsAttempts c.attempts (changed_attempt (with_leaver p count) (conf_at (phase_of c.world.group p)) c.attempts)
 keeps-left c p count = keeps-changed (with_leaver p count) (same-leaver p count) (conf_at (phase_of c.world.group p)) c.attempts
 
 keeps-commit_as : (c : Chronicle) (p : ℕ) (life : Life) → KeepsAttempts c.attempts (commit_as c p life).attempts

@@ -161,7 +161,7 @@ module _ (c : Chronicle) (s : Small) (i : Invariant c) (may : may_make c s ≡ t
       let old = shape-of conf ins.a found in
       subst (IsAttempt d conf) (sym is) (still conf ins.a (with_installer p ins.a) found (record { conf = refl; from = refl; set = refl; greens = refl; yellow = refl; reds = refl })
       old.entered (within-more ins.a.installed ins.a.entered p old.installed (entered-installing c i p r ins done.before)))
-  of_came conf b now (WasMade none p heard r new' begins greens is moved) =
+  of_came conf b now (WasMade none p heard r new' begins greens is moved handed) =
       let end = same-end c s i may legal conf (said-by (ordered_in c conf) p (ap (λ l. has (senders l) p) begins.end.whole ∙ begins.end.listed)) begins.end.ended in
       let level = known-level c i p conf r heard begins.end in
       let low = level.0 in

@@ -102,7 +102,7 @@ talk-crashes c p up old =
 
 -- ---- a recovery
 
-recovered-state : (disk : Disk) → (recovered disk).state ≡ NonPrim false
+pub recovered-state : (disk : Disk) → (recovered disk).state ≡ NonPrim false
 unfolding recover
 recovered-state disk = own-state (begin (record { held = disk.content; state = NonPrim false }))
 

@@ -17,6 +17,7 @@ use Rattle.cg_step.specs.Crash.{Disk}
 use Rattle.cg_agree.specs.World.{Up, Seat, running, seat_of, has_begun}
 use Rattle.cg_agree.specs.Chronicle.{Told, Chronicle}
 use Rattle.cg_agree.specs.Looks.{greens_of, told_in, conf_of, ordered_in}
+use Rattle.cg_agree.specs.FactsExchange.{TellersStill}
 use Rattle.cg_agree.specs.Facts.{Invariant}
 use Rattle.cg_agree.specs.Played.{AtRest}
 use Rattle.cg_agree.specs.Small.{Small, Starts, Makes, Enters, Orders, Receives, Hands, Leaves, Asks, Settles, Commits, Crashes, Recovers, Copies, Joins, small_step, newly_green, coming, take_newest, newest_conf, take_request}
@@ -30,7 +31,7 @@ use Rattle.cg_agree.proofs.OneSteps.{turns-step, hands-step, leaves-step, enters
 use Rattle.cg_agree.proofs.ToldKept.{IsUntold, told-same, told_in-same}
 use Rattle.cg_agree.proofs.PastKept.{EntersNow, enters-now, entry_told, told_in-enters}
 use Rattle.cg_agree.proofs.EntryGreens.{entry-greens, nothing-new}
-use Rattle.cg_agree.proofs.TellersStill.{TellersStill, turn-same, greens-stay}
+use Rattle.cg_agree.proofs.TellersStill.{turn-same, greens-stay}
 
 -- ---- a configuration without messages had none before
 

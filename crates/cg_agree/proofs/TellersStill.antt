@@ -94,11 +94,6 @@ parted-greens Left t = refl
 
 -- ---- who told something there
 
--- p's greens are those that it told, where no later configuration has heard it
-abbrev pub TellersStill : Chronicle → Type 0
-TellersStill c =
-    (conf p : ℕ) (t : Told) → told_in c conf p ≡ Some t → ordered_in c conf ≡ [] → ((later : ℕ) → conf < later → told_in c later p ≡ None) → greens_of c p ≡ t.greens
-
 module _ (c : Chronicle) (i : Invariant c) (conf p : ℕ) (t : Told) (told : told_in c conf p ≡ Some t) (last : (later : ℕ) → conf < later → told_in c later p ≡ None) where
   -- where it is regular it has told something, so that is its configuration
   regular-here : (k : ℕ) → is_regular_in c k p ≡ true → is_some (replica_of c.world p) ≡ true → k ≡ conf

@@ -54,7 +54,7 @@ module _ (c : Chronicle) (heard : List Summary) (by : Told) (h : Held) (all : Li
       let server : is_server (members_of c.start by.greens) s.id ≡ true = ⊎_elim (λ is. is)
       (λ was. absurd (let clash : true ≡ false = sym was ∙ gone_not in cc)) (or_cases (is_server (members_of c.start by.greens) s.id) (has (members_of c.start by.greens).left s.id) seen.ever) in
       let name : seen.of.summary.id ≡ s.id = ap (λ x. x.id) seen.is in
-      let line = line-told c.start by seen.of seen.reached (ap (is_server (members_of c.start by.greens)) name ∙ server) in
+      let line = line-told c.start by seen.of seen.reached in
       let low : line_of (members_of c.start by.greens).servers s.id ≤ s.green_count =
       subst (λ i. line_of (members_of c.start by.greens).servers i ≤ s.green_count) name (subst (λ k. line_of (members_of c.start by.greens).servers seen.of.summary.id ≤ k) (ap (λ x. x.green_count) seen.is) line) in
       let white : h.queue.white ≤ line_of (members_of c.start by.greens).servers s.id =

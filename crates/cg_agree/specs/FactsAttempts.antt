@@ -5,7 +5,7 @@ use Rattle.cg_base.specs.declared.action_id.ActionId.{ActionId}
 use Rattle.cg_base.specs.Cuts.{index_in}
 use Rattle.cg_base.specs.Ids.{names}
 use Rattle.cg_base.specs.Lists.{at_place, above_up_to}
-use Rattle.cg_base.specs.Sets.{has, is_within, every_replica}
+use Rattle.cg_base.specs.Sets.{has, is_within}
 use Rattle.cg_action.specs.declared.action.Action.{Action}
 use Rattle.cg_queue.specs.Queue.{names_of}
 use Rattle.cg_records.specs.declared.vulnerable.Vulnerable.{Vulnerable}
@@ -15,6 +15,7 @@ use Rattle.cg_knowledge.specs.Members.{remaining, most_updated}
 use Rattle.cg_knowledge.specs.Primary.{newest_index}
 use Rattle.cg_knowledge.specs.Yellow.{common_yellow}
 use Rattle.cg_knowledge.specs.Verdict.{decides}
+use Rattle.cg_plan.specs.Plan.{creators}
 use Rattle.cg_group.specs.State.{phase_of}
 use Rattle.cg_client.specs.Replica.{Held, State, No}
 use Rattle.cg_client.specs.Install.{valid_yellow}
@@ -38,7 +39,7 @@ names_between heard best creator =
 
 abbrev pub red_names : List Summary → List ActionId
 red_names heard =
-    option_map_or (λ best. filter (λ id. not (names (common_yellow heard).list id)) (flat_map (names_between heard best) every_replica))
+    option_map_or (λ best. filter (λ id. not (names (common_yellow heard).list id)) (flat_map (names_between heard best) (creators heard)))
     (most_updated heard) []
 
 -- its parts follow from the summaries of its configuration

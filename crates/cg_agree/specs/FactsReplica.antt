@@ -10,7 +10,7 @@ use Rattle.cg_action.specs.declared.action.Action.{Action}
 use Rattle.cg_action.specs.declared.action.Kind.{Kind}
 use Rattle.cg_action.specs.declared.action.Kind.TheVariants.{Join}
 use Rattle.cg_db.specs.Apply.{fold_actions}
-use Rattle.cg_members.specs.Servers.{members_of, is_server, line_of}
+use Rattle.cg_members.specs.Servers.{members_of, is_server, was_ever, line_of, starting}
 use Rattle.cg_queue.specs.Queue.{names_of}
 use Rattle.cg_records.specs.declared.vulnerable.Vulnerable.{Vulnerable}
 use Rattle.cg_group.specs.declared.phase.Phase.{Phase}
@@ -182,6 +182,13 @@ pub record MadeOnce (c : Chronicle) : Type 0 where
   pub in_messages : (conf : ℕ) → AreBooked c (filter_map (λ s. action_in s.message) (ordered_in c conf))
   pub in_waiting : (p : ℕ) → AreBooked c (filter_map action_in (unordered_of c.world.group p))
 
+-- who hasn't begun has made nothing; the servers of the start have begun; and each action of an attempt's parts is the one of
+-- its name, also where no member holds it any more
+pub record Origins (c : Chronicle) : Type 0 where
+  pub unbegun : (p : ℕ) → has_begun c.world p ≡ false → index_in (cut_behind [] (names_of c.book)) p ≡ 0
+  pub starters : (p : ℕ) → was_ever (starting c.start) p ≡ true → has_begun c.world p ≡ true
+  pub parts : (conf : ℕ) → IfSome (attempt_of c conf) (λ a. AreBooked c (a.yellow ++ a.reds))
+
 -- ---- lines
 
 -- the green line of each action is no higher than its creator's greens
@@ -222,6 +229,7 @@ pub record ReplicaFacts (c : Chronicle) : Type 0 where
   pub mode_data : (p : ℕ) → IfSome (replica_of c.world p) (IsModeData c p)
   pub disk_behind : DiskBehind c
   pub made_once : MadeOnce c
+  pub origins : Origins c
   pub lines_below : LinesBelow c
 
 -- and those at the end of a step
