@@ -33,3 +33,6 @@ pub use held::Core;
 pub use install::Installed;
 pub use parts::DraftParts;
 pub use request::Request;
+
+#[cfg(test)]
+mod tests;
