@@ -1,5 +1,5 @@
 -- What is found at each key of a database: its entries.
-use Rattle.std.proofs.Common.{◌≡◌, true, false, List, [], ◌∷◌, refl}
+use Rattle.std.proofs.Common.{◌≡◌, ℕ, true, false, List, [], ◌∷◌, refl}
 use Rattle.std.specs.Prelude.{Some, flat_map}
 use Rattle.cg_text.specs.Order.{same_text, text_before}
 use Rattle.cg_db.specs.declared.entry.DbEntry.{DbEntry}
