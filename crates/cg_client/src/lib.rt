@@ -16,6 +16,7 @@ mod lent;
 mod marks;
 mod messages;
 mod names;
+mod overlay;
 mod own;
 mod parts;
 mod queries;
