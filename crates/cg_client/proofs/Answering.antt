@@ -12,8 +12,8 @@ use Rattle.cg_action.specs.declared.query.Query.TheVariants.{Get, Keys as KeysOf
 use Rattle.cg_db.specs.declared.answer.Answer.{Answer}
 use Rattle.cg_db.specs.declared.answer.Answer.TheVariants.{Keys, Count}
 use Rattle.cg_db.specs.declared.entry.DbEntry.{DbEntry}
-use Rattle.cg_db.specs.Map.{IsBefore, Ascends, value_of, put, keys}
-use Rattle.cg_db.specs.Find.{answer, answer_of, keys_from}
+use Rattle.cg_db.specs.Map.{IsBefore, Ascends, value_of, keys}
+use Rattle.cg_db.specs.Find.{answer, answer_of}
 use Rattle.cg_db.specs.TextOrderLaws.{same-refl}
 use Rattle.cg_db.specs.EntryLaws.{IsBefore-through}
 use Rattle.cg_client.specs.Queries.{behind}

@@ -1,6 +1,6 @@
 -- Actions whose keys are all chosen, in a database and in its part at the chosen keys.
-use Rattle.std.proofs.Common.{◌≡◌, ℕ, suc, Bool, true, false, cond, not, List, [], ◌∷◌, ◌++◌, refl, sym, ap, subst, ◌∙◌}
-use Rattle.std.specs.Prelude.{Option, Some, None, fold, flat_map, ℤ, ◌+ℤ◌, ◌-ℤ◌, int_lt}
+use Rattle.std.proofs.Common.{◌≡◌, ℕ, suc, Bool, true, false, cond, not, List, [], ◌∷◌, refl, sym, ap, subst, ◌∙◌}
+use Rattle.std.specs.Prelude.{Option, Some, None, ℤ, ◌+ℤ◌, ◌-ℤ◌, int_lt}
 use Rattle.cg_text.specs.Numbers.{fits_i64}
 use Rattle.cg_action.specs.declared.value.Value.{Value}
 use Rattle.cg_action.specs.declared.value.Value.TheVariants.{Int}

@@ -1,11 +1,11 @@
 -- A database in two parts, the entries at some keys and the others: what is written at these keys is written in the one part.
-use Rattle.std.proofs.Common.{◌≡◌, ℕ, suc, Bool, true, false, cond, not, List, [], ◌∷◌, length, refl, sym, ap, ◌∙◌, true≢false}
-use Rattle.std.specs.Prelude.{Option, Some, None, is_some, filter, fold}
+use Rattle.std.proofs.Common.{◌≡◌, ℕ, Bool, true, false, cond, not, List, [], ◌∷◌, refl, sym, ap, ◌∙◌, true≢false}
+use Rattle.std.specs.Prelude.{Option, Some, None, filter, fold}
 use Rattle.cg_text.specs.Order.{same_text, text_before}
 use Rattle.cg_action.specs.declared.value.Value.{Value}
 use Rattle.cg_db.specs.declared.entry.DbEntry.{DbEntry}
 use Rattle.cg_db.specs.Map.{IsBefore, Ascends, value_of, put, remove}
-use Rattle.cg_db.specs.TextOrderLaws.{same-is, same-refl, same-sym, before-apart, before-back, before-other}
+use Rattle.cg_db.specs.TextOrderLaws.{same-is, same-sym, before-apart, before-back, before-other}
 use Rattle.cg_db.specs.EntryLaws.{IsBefore-through}
 
 -- the entries at the keys that a test chooses

@@ -8,7 +8,7 @@
 //! go, and those of 7 add 1 to "k". Each but those of 6 asks what stands at "k". The replica is 1, and server 2 has a
 //! weight of 5.
 
-ghost use Rattle.std.specs.Prelude.{◌≡◌, suc, IfOk, IsTrue};
+ghost use Rattle.std.specs.Prelude.{◌≡◌, ◌∷◌, [], suc, IfOk, IsTrue};
 ghost use Rattle.cg_base.specs.Cuts.{index_in};
 ghost use Rattle.cg_action.specs.Limits.{IsAction, IsKind};
 
@@ -167,23 +167,23 @@ made -> [1:1,1:2], 3 sent, own red
 event -> 0 0 [] [1:1,1:2] [] | [] []
 exchange 9 1,2 -> 0 0 [] [1:1,1:2] [] | [] []
 made -> [], 1 sent
-over 3:1 -> no red
-over 1:3 -> no red
+over 3:1 -> no
+over 1:3 -> no
 over 1:2 -> 0 0 [1:2] [1:1] [] | [] []
 line -> 1 NonPrim - g0 w0 p0@0{1,2*5,3} a4 v- y![1:2] r[1:1] o[] x{} b0
 attempt 3 1,2 -> 0 0 [1:2] [1:1] [] | [] []
 line -> 1 NonPrim - g0 w0 p0@0{1,2*5,3} a5 v3/0{1,2}{1} y![1:2] r[1:1] o[] x{} b0
 green 1:1 -> 0 1 [1:2] [] [] | [] [1:1]
-over 1:1 -> no red";
+over 1:1 -> no";
 
 // A replica from the parts of a checkpoint: five discarded actions of its own, and attempt index 2.
 const STORED: &str = "stored -> 5 5 [] [] [] | [] []
-put 1:7 -> not the next
+put 1:7 -> no
 put 1:6 -> 5 6 [] [] [] | [] []
-know 2:2 -> not the next
+know 2:2 -> no
 know 2:1 -> 5 6 [] [2:1] [] | [] []
 know 2:2 -> 5 6 [] [2:1,2:2] [] | [] []
-turn 2:2 -> not the next
+turn 2:2 -> no
 turn 2:1 -> 5 7 [] [2:2] [] | [] []
 make 1:7 -> 5 7 [] [2:2] [1:7] | [] []
 make 1:8 -> 5 7 [] [2:2] [1:7,1:8] | [] []
@@ -322,13 +322,6 @@ fn mark(core: &mut Core, draft: &mut Draft, word: &str, rest: &str) -> Result<()
     }
 }
 
-fn is_mark(word: &str) -> bool {
-    matches!(
-        word,
-        "red" | "yellow" | "green" | "place" | "create" | "deliver"
-    )
-}
-
 fn exchange(core: &mut Core, draft: &mut Draft, rest: &str) -> Result<(), Fail> {
     let (conf, set) = rest.split_once(' ').ok_or("no set")?;
     Ok(core.enter_exchange(draft, conf.parse()?, set_of(set))?)
@@ -365,10 +358,6 @@ fn pass(core: &mut Core, draft: &mut Draft, word: &str, rest: &str) -> Result<()
     }
 }
 
-fn is_pass(word: &str) -> bool {
-    matches!(word, "exchange" | "install" | "event")
-}
-
 fn keep(core: &mut Core, name: &str) -> Result<(), Fail> {
     Ok(core.keep(kind(core.alloc(), name)?)?)
 }
@@ -401,13 +390,6 @@ fn turn(core: &mut Core, word: &str, rest: &str) -> Result<(), Fail> {
         _ => core.empty_buffer(),
     }
     Ok(())
-}
-
-fn is_turn(word: &str) -> bool {
-    matches!(
-        word,
-        "keep" | "attempt" | "stored" | "whiten" | "end" | "forget" | "empty"
-    )
 }
 
 fn is_behind(a: &Action, cut: &Cut) -> bool
@@ -450,30 +432,37 @@ fn make(core: &mut Core, name: &str) -> Result<bool, Fail> {
     Ok(true)
 }
 
+fn only_name(alloc: Global, name: ActionId) -> Result<Yellow, Fail>
+    ensures { IfOk result (λ yellow. yellow.list ≡ name ∷ []) }
+{
+    let mut list = Row::new(alloc);
+    list.push(name)?;
+    Ok(Yellow { valid: true, list })
+}
+
+// the name alone is taken over as a yellow list that counts, with attempt index 4
+fn over(core: &mut Core, name: &str) -> Result<bool, Fail> {
+    let id = named(name)?;
+    let fits = core.is_red(ActionId {
+        creator: id.creator,
+        index: id.index,
+    });
+    if fits {
+        let yellow = only_name(core.alloc(), id)?;
+        let prim = core.prim();
+        core.take_over(prim, 4, None, &yellow)?;
+    }
+    Ok(fits)
+}
+
 fn fill(core: &mut Core, word: &str, rest: &str) -> Result<bool, Fail> {
     match word {
         "put" => put_green(core, rest),
         "turn" => turn_green(core, rest),
         "know" => know(core, rest),
+        "over" => over(core, rest),
         _ => make(core, rest),
     }
-}
-
-fn is_fill(word: &str) -> bool {
-    matches!(word, "put" | "turn" | "know" | "make")
-}
-
-// the name alone is taken over as a yellow list that counts, with attempt index 4
-fn over(core: &mut Core, name: &str) -> Result<bool, Fail> {
-    let name = named(name)?;
-    if !core.is_red(name) {
-        return Ok(false);
-    }
-    let mut list = Row::new(core.alloc());
-    list.push(name)?;
-    let yellow = Yellow { valid: true, list };
-    core.take_over(core.prim(), 4, None, &yellow)?;
-    Ok(true)
 }
 
 fn put_names(alloc: Global, out: &mut Vec<u8>, actions: &[Action]) -> Result<(), Fail> {
@@ -616,32 +605,17 @@ fn put_all(core: &Core, draft: &Draft, out: &mut Vec<u8>) -> Result<(), Fail> {
     put_draft(core.alloc(), draft, out)
 }
 
-// a change, or why there is none
-fn change(
-    core: &mut Core,
-    draft: &mut Draft,
-    word: &str,
-    rest: &str,
-    out: &mut Vec<u8>,
-) -> Result<(), Fail> {
-    if is_mark(word) {
-        mark(core, draft, word, rest)?;
-    } else if is_pass(word) {
-        pass(core, draft, word, rest)?;
-    } else if is_turn(word) {
-        turn(core, word, rest)?;
-    } else if is_fill(word) {
-        if !fill(core, word, rest)? {
-            return Ok(put(out, b"not the next")?);
+// a change; no is said where it can't be asked for
+fn change(core: &mut Core, draft: &mut Draft, word: &str, rest: &str) -> Result<bool, Fail> {
+    match word {
+        "red" | "yellow" | "green" | "place" | "create" | "deliver" => {
+            mark(core, draft, word, rest)?;
         }
-    } else if !over(core, rest)? {
-        return Ok(put(out, b"no red")?);
+        "exchange" | "install" | "event" => pass(core, draft, word, rest)?,
+        "put" | "turn" | "know" | "make" | "over" => return fill(core, word, rest),
+        _ => turn(core, word, rest)?,
     }
-    put_all(core, draft, out)
-}
-
-fn is_change(word: &str) -> bool {
-    word == "over" || is_mark(word) || is_pass(word) || is_turn(word) || is_fill(word)
+    Ok(true)
 }
 
 fn call(
@@ -651,13 +625,19 @@ fn call(
     rest: &str,
     out: &mut Vec<u8>,
 ) -> Result<(), Fail> {
-    if is_change(word) {
-        return change(core, draft, word, rest, out);
-    }
     match word {
         "made" => put_made(core.alloc(), draft, out),
         "replies" => put_replies(draft, out),
-        _ => show(core, word, rest, out),
+        "line" | "stable" | "lent" | "greens" | "kept" | "at" | "get" | "keys" | "count" => {
+            show(core, word, rest, out)
+        }
+        _ => {
+            if change(core, draft, word, rest)? {
+                put_all(core, draft, out)
+            } else {
+                put_truth(out, false)
+            }
+        }
     }
 }
 
