@@ -9,3 +9,4 @@ pub mod Summary
 pub mod Install
 pub mod Queries
 pub mod ReplicaLaws
+pub mod Overlay

@@ -57,13 +57,6 @@ impl Entries {
         self.db.answer(q)
     }
 
-    pub(crate) fn copy(&self) -> Result<Entries, NoMemory>
-        ensures { IfOk result (λ copy. copy ≡ self.now) }
-    {
-        let db = self.db.copy()?;
-        Ok(Entries { db })
-    }
-
     pub(crate) fn db(&self) -> &Db
         ensures value { result.now ≡ self.now }
         ensures limits { AreEntries self.now }

@@ -16,6 +16,7 @@ mod lent;
 mod marks;
 mod messages;
 mod names;
+mod overlay;
 mod own;
 mod parts;
 mod queries;
@@ -33,3 +34,6 @@ pub use held::Core;
 pub use install::Installed;
 pub use parts::DraftParts;
 pub use request::Request;
+
+#[cfg(test)]
+mod tests;

@@ -1,17 +1,17 @@
 //! Queries that aren't ordered, and what a replica shows of itself.
-ghost use Rattle.std.specs.Prelude.{◌≡◌, ◌++◌, ◌∷◌, [], fold, filter, not, OnOk, IfOk};
+ghost use Rattle.std.specs.Prelude.{◌≡◌, ◌++◌, ◌∷◌, [], filter, not, OnOk, IfOk};
 ghost use Rattle.cg_base.specs.Ids.{names};
 ghost use Rattle.cg_action.specs.Limits.{IsAction};
 ghost use Rattle.cg_records.specs.Limits.{Each};
 ghost use Rattle.cg_queue.specs.Queue.{names_of};
-ghost use Rattle.cg_client.specs.Queries.{weak_answer, dirty_answer, behind, plain_reds, view_of};
+ghost use Rattle.cg_client.specs.Queries.{weak_answer, dirty_answer, plain_reds, view_of};
 
 use crate::Core;
 use crate::actions::Actions;
-use crate::entries::Entries;
 use crate::install::actions_named;
 use crate::known::Known;
 use crate::marks::name_of;
+use crate::overlay::answer_behind;
 use cg_action::{Action, Query};
 use cg_base::{IdList, NoMemory, Row};
 use cg_db::Answer;
@@ -27,16 +27,15 @@ impl Core {
         self.db.answer(q)
     }
 
-    /// What all actions that the replica knows answer. It works on a copy of the database.
+    /// What all actions that the replica knows answer. It copies the red actions and, of the database, what stands at the
+    /// keys that they name.
     pub fn dirty(&self, q: &Query) -> Result<Answer, NoMemory>
         ensures { IfOk result (λ found. found ≡ dirty_answer self.now q.now) }
     {
         let yellow = self.queue.yellow()?;
         let mut actions = actions_named(self.alloc, &self.queue, yellow.as_slice())?;
         add_plain_reds(&self.queue, &mut actions)?;
-        let mut db = self.db.copy()?;
-        apply_all(&mut db, actions)?;
-        db.answer(q)
+        answer_behind(self.alloc, self.db.db(), actions, q)
     }
 
     /// What its line shows.
@@ -84,16 +83,6 @@ fn push_plain(queue: &Known, a: Action, list: &mut Actions) -> Result<(), NoMemo
         return Ok(());
     }
     list.push(a)
-}
-
-// the database behind these actions
-fn apply_all(db: &mut Entries, actions: Actions) -> Result<(), NoMemory>
-    ensures { OnOk result (db.new ≡ behind db.old actions) }
-{
-    for a in actions.into_list().into_vec() {
-        let _ = db.apply(&a)?;
-    }
-    Ok(())
 }
 
 /// The names of these actions.

@@ -3,7 +3,7 @@ use Rattle.std.specs.Vec.Iter.{into_iter_items}
 use Rattle.cg_action.specs.Limits.{IsAction}
 use Rattle.cg_records.specs.Limits.{Each}
 use Rattle.cg_client.specs.Queries.{behind}
-use Rattle.cg_client.proofs.queries.apply_all.Given as goal
+use Rattle.cg_client.proofs.overlay.apply_all.Given as goal
 
 -- those that are left lead to where all lead
 abbrev pub invariant-loop-a : goal.invariant-loop-a

@@ -1,0 +1,11 @@
+use Rattle.std.proofs.Common.{◌≡◌, rules}
+use Rattle.cg_client.specs.Queries.{behind}
+use Rattle.cg_client.specs.Overlay.{named_part}
+use Rattle.cg_client.proofs.Answering.{answered_ok}
+use Rattle.cg_client.proofs.overlay.answer_behind.Goals as goal
+
+pub returns : goal.returns
+returns c =
+    let part : c.in_ok-before.before ≡ named_part c.args.db.now c.args.actions = search rules in
+    let applied : c.apply_all.new.db ≡ behind c.in_ok-before.before c.args.actions = search rules in
+    answered_ok c.args.db.now c.in_ok-before.before c.apply_all.new.db c.args.actions c.args.q.now c.answer_with.result c.answer_with.ensures part applied c.count-count.ensures.ascends
