@@ -1,4 +1,4 @@
-ghost use Rattle.std.specs.Prelude.{◌≡◌, [], Some, IfOk};
+ghost use Rattle.std.specs.Prelude.{◌≡◌, [], Some, IsTrue, IsOk, IfOk};
 ghost use Rattle.cg_action.specs.Limits.{IsKind};
 ghost use Rattle.cg_report.specs.declared.line.StateName.TheVariants.{Construct as ConstructName};
 ghost use Rattle.cg_wire.specs.Reading.{message_in};
@@ -6,7 +6,8 @@ ghost use Rattle.cg_client.specs.declared.parts.DraftParts.{DraftParts};
 ghost use Rattle.cg_client.specs.Requests.{kind_of, request};
 ghost use Rattle.cg_construct.specs.Attempt.{attempt_of, in_construct};
 ghost use Rattle.cg_construct.specs.Construct.{construct_on_cpc, construct_on_message, construct_on_read, construct_on};
-ghost use Rattle.cg_construct.specs.Steps.{turn_after};
+ghost use Rattle.cg_prim.specs.Steps.{is_transitional};
+ghost use Rattle.cg_construct.specs.Steps.{turn_after, HasLimits};
 
 use crate::attempt::{attempt_set, is_announced, set_of_attempt};
 use crate::{ConstructStep, No};
@@ -52,7 +53,9 @@ impl Construct {
 
     /// One delivery. A transitional configuration takes no memory.
     pub fn deliver(self, draft: &mut Draft, d: &Delivery) -> Result<ConstructStep, NoMemory>
-        ensures { IfOk result (λ step. turn_after step draft.new ≡ construct_on (in_construct self draft.old) self.conf self.heard d.now) }
+        ensures turn { IfOk result (λ step. turn_after step draft.new ≡ construct_on (in_construct self draft.old) self.conf self.heard d.now) }
+        ensures limits { IfOk result HasLimits }
+        ensures memory { IsTrue (is_transitional d.now) → IsOk result }
     {
         match d {
             Delivery::Message { from, bytes, .. } => self.hear(draft, *from, bytes.as_slice()),
@@ -70,7 +73,8 @@ impl Construct {
         from: ReplicaId,
         bytes: &[u8],
     ) -> Result<ConstructStep, NoMemory>
-        ensures { IfOk result (λ step. turn_after step draft.new ≡ construct_on_read (in_construct self draft.old) self.conf self.heard from (message_in bytes.now)) }
+        ensures turn { IfOk result (λ step. turn_after step draft.new ≡ construct_on_read (in_construct self draft.old) self.conf self.heard from (message_in bytes.now)) }
+        ensures limits { IfOk result HasLimits }
     {
         match read_message(self.core.alloc(), bytes)? {
             Some(message) => self.hear_message(draft, from, message),
@@ -85,7 +89,8 @@ impl Construct {
         from: ReplicaId,
         message: Msg,
     ) -> Result<ConstructStep, NoMemory>
-        ensures { IfOk result (λ step. turn_after step draft.new ≡ construct_on_message (in_construct self draft.old) self.conf self.heard from message) }
+        ensures turn { IfOk result (λ step. turn_after step draft.new ≡ construct_on_message (in_construct self draft.old) self.conf self.heard from message) }
+        ensures limits { IfOk result HasLimits }
     {
         match message {
             Msg::Cpc { id, conf } => self.hear_cpc(draft, from, id, conf),
@@ -103,7 +108,8 @@ impl Construct {
         id: ReplicaId,
         of_conf: u64,
     ) -> Result<ConstructStep, NoMemory>
-        ensures { IfOk result (λ step. turn_after step draft.new ≡ construct_on_cpc (in_construct self draft.old) self.conf self.heard from id of_conf) }
+        ensures turn { IfOk result (λ step. turn_after step draft.new ≡ construct_on_cpc (in_construct self draft.old) self.conf self.heard from id of_conf) }
+        ensures limits { IfOk result HasLimits }
     {
         let Construct {
             core,

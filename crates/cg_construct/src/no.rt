@@ -6,7 +6,7 @@ ghost use Rattle.cg_client.specs.declared.parts.DraftParts.{DraftParts};
 ghost use Rattle.cg_client.specs.Requests.{kind_of, request};
 ghost use Rattle.cg_construct.specs.Attempt.{attempt_of, in_no};
 ghost use Rattle.cg_construct.specs.No.{no_on_cpc, no_on_message, no_on_read, no_on};
-ghost use Rattle.cg_construct.specs.Steps.{turn_after};
+ghost use Rattle.cg_construct.specs.Steps.{turn_after, HasLimits};
 
 use crate::attempt::{attempt_set, is_announced};
 use crate::{ConstructStep, Un};
@@ -48,7 +48,8 @@ impl No {
 
     /// One delivery.
     pub fn deliver(self, draft: &mut Draft, d: &Delivery) -> Result<ConstructStep, NoMemory>
-        ensures { IfOk result (λ step. turn_after step draft.new ≡ no_on (in_no self draft.old) self.conf self.heard d.now) }
+        ensures turn { IfOk result (λ step. turn_after step draft.new ≡ no_on (in_no self draft.old) self.conf self.heard d.now) }
+        ensures limits { IfOk result HasLimits }
     {
         match d {
             Delivery::Message { from, bytes, .. } => self.hear(draft, *from, bytes.as_slice()),
@@ -71,7 +72,8 @@ impl No {
         from: ReplicaId,
         bytes: &[u8],
     ) -> Result<ConstructStep, NoMemory>
-        ensures { IfOk result (λ step. turn_after step draft.new ≡ no_on_read (in_no self draft.old) self.conf self.heard from (message_in bytes.now)) }
+        ensures turn { IfOk result (λ step. turn_after step draft.new ≡ no_on_read (in_no self draft.old) self.conf self.heard from (message_in bytes.now)) }
+        ensures limits { IfOk result HasLimits }
     {
         match read_message(self.core.alloc(), bytes)? {
             Some(message) => Ok(self.hear_message(from, message)),
@@ -81,7 +83,8 @@ impl No {
 
     #[tactic(auto, unfolding(crate::specs::No::no_on_message))]
     fn hear_message(self, from: ReplicaId, message: Msg) -> ConstructStep
-        ensures { (draft : DraftParts) → turn_after result draft ≡ no_on_message (in_no self draft) self.conf self.heard from message }
+        ensures turn { (draft : DraftParts) → turn_after result draft ≡ no_on_message (in_no self draft) self.conf self.heard from message }
+        ensures limits { HasLimits result }
     {
         match message {
             Msg::Cpc { id, conf } => self.hear_cpc(from, id, conf),
@@ -93,7 +96,8 @@ impl No {
     }
 
     fn hear_cpc(self, from: ReplicaId, id: ReplicaId, of_conf: u64) -> ConstructStep
-        ensures { (draft : DraftParts) → turn_after result draft ≡ no_on_cpc (in_no self draft) self.conf self.heard from id of_conf }
+        ensures turn { (draft : DraftParts) → turn_after result draft ≡ no_on_cpc (in_no self draft) self.conf self.heard from id of_conf }
+        ensures limits { HasLimits result }
     {
         let No {
             core,

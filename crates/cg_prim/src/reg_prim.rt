@@ -1,4 +1,4 @@
-ghost use Rattle.std.specs.Prelude.{◌≡◌, IfOk};
+ghost use Rattle.std.specs.Prelude.{◌≡◌, IsTrue, IsOk, IfOk};
 ghost use Rattle.cg_action.specs.Limits.{IsKind};
 ghost use Rattle.cg_report.specs.declared.line.StateName.TheVariants.{RegPrim as RegPrimName};
 ghost use Rattle.cg_wire.specs.Limits.{IsMsg};
@@ -7,7 +7,7 @@ ghost use Rattle.cg_client.specs.Replica.{RegPrim as RegPrimState, State};
 ghost use Rattle.cg_client.specs.Drafts.{turn_with};
 ghost use Rattle.cg_client.specs.Requests.{kind_of, request, settle};
 ghost use Rattle.cg_prim.specs.RegPrim.{reg_prim_on_message, reg_prim_on_read, reg_prim_on};
-ghost use Rattle.cg_prim.specs.Steps.{turn_after};
+ghost use Rattle.cg_prim.specs.Steps.{turn_after, is_transitional};
 
 use crate::{PrimStep, TransPrim};
 use cg_base::NoMemory;
@@ -43,7 +43,8 @@ impl RegPrim {
 
     /// One delivery. A transitional configuration takes no memory.
     pub fn deliver(self, draft: &mut Draft, d: &Delivery) -> Result<PrimStep, NoMemory>
-        ensures { IfOk result (λ step. turn_after step draft.new ≡ reg_prim_on (turn_with self RegPrimState draft.old) d.now) }
+        ensures turn { IfOk result (λ step. turn_after step draft.new ≡ reg_prim_on (turn_with self RegPrimState draft.old) d.now) }
+        ensures memory { IsTrue (is_transitional d.now) → IsOk result }
     {
         match d {
             Delivery::Message { bytes, .. } => {

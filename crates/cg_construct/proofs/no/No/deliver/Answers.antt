@@ -4,7 +4,7 @@ use Rattle.cg_construct.specs.No.{no_record}
 use Rattle.cg_construct.proofs.Entering.{from_any_state}
 use Rattle.cg_construct.proofs.no.No.deliver.Goals as goal
 
-pub returns-in-Regular : goal.returns-in-Regular
-returns-in-Regular c =
+pub returns-in-Regular-clause-turn : goal.returns-in-Regular-clause-turn
+returns-in-Regular-clause-turn c =
     let held : c.forget_record.new.self ≡ no_record c.args.self.held = cc in
     rw (held, c.in-Regular.is) (from_any_state (no_record c.args.self.held) (No c.args.self.conf c.args.self.heard) Un c.args.draft.now c.in-Regular.conf c.in-Regular.set)
