@@ -9,7 +9,7 @@ use Rattle.cg_group.specs.State.{Configuration}
 use Rattle.cg_agree.specs.Chronicle.{Past, Told, Attempt, Chronicle}
 use Rattle.cg_audit.specs.TestsNet.{receipts_inside}
 use Rattle.cg_audit.specs.TestsTalk.{sent_iff_due}
-use Rattle.cg_audit.specs.TestsReplica.{made_of_greens, made_once, disk_behind}
+use Rattle.cg_audit.specs.TestsReplica.{made_of_greens, made_once, origins, disk_behind}
 use Rattle.cg_audit.specs.TestsExchange.{summary_of_sender}
 use Rattle.cg_audit.specs.TestsAttempts.{attempt_shape, levels_stand}
 use Rattle.cg_audit.specs.TestsGreens.{one_order, primary_greens}
@@ -57,6 +57,10 @@ unreceived c =
     let w = c.world in let g = w.group in
     record c { world = record w { group = record g { configurations = map emptied g.configurations } } }
 
+-- a fourth server was there from the start
+abbrev widened : Chronicle → Chronicle
+widened c = record c { start = unweighted (1 ∷ 2 ∷ 3 ∷ 4 ∷ []) }
+
 abbrev printed_otherwise : Chronicle → Chronicle
 printed_otherwise c = let w = c.world in record c { world = record w { order = reverse w.order } }
 
@@ -65,7 +69,7 @@ abbrev any_passes : Chronicle → Bool
 any_passes c =
     one_order (turned_round c) || made_of_greens (turned_round c) || primary_greens (turned_round c) || disk_behind (turned_round c)
     || levels_stand (uninstalled c) || attempt_shape (narrowed c) || sent_iff_due (untold c) || summary_of_sender (overcounted c)
-    || made_once (unbooked c) || receipts_inside (unreceived c) || order_book (printed_otherwise c)
+    || made_once (unbooked c) || origins (widened c) || receipts_inside (unreceived c) || order_book (printed_otherwise c)
 
 damages_are_seen : any_passes (tried two_greens).chronicle ≡ false
 unfolding cases_compute

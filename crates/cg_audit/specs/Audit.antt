@@ -14,13 +14,13 @@ use Rattle.cg_agree.specs.Smalls.{may_make, smalls_in}
 use Rattle.cg_audit.specs.TestsLists.{seats_rise, standings_rise, receivers_rise, joiners_are_servers}
 use Rattle.cg_audit.specs.TestsNet.{seated, phase_sound, receipts_inside, sender_closed, handed_received, unordered_regular, members_begun, past_left, receipts_fixed}
 use Rattle.cg_audit.specs.TestsTalk.{talk_legal, sent_iff_due, heard_is_told, mode_fits, content, acts_numbered}
-use Rattle.cg_audit.specs.TestsReplica.{made_of_greens, contiguous, yellow_closed, mode_data, disk_behind, made_once, lines_below, disk_agrees, buffer_empty}
-use Rattle.cg_audit.specs.TestsExchange.{summary_of_sender, summary_lines, exchange_progress}
+use Rattle.cg_audit.specs.TestsReplica.{made_of_greens, contiguous, yellow_closed, mode_data, disk_behind, made_once, origins, lines_below, disk_agrees, buffer_empty}
+use Rattle.cg_audit.specs.TestsExchange.{summary_of_sender, summary_lines, tellers_still, exchange_progress}
 use Rattle.cg_audit.specs.TestsAttempts.{attempt_shape, attempt_list, levels_stand, announced_entered, installed_announced, act_installed, record_of_attempt, installed_index, bits_witness, dead_evidence, one_attempt}
 use Rattle.cg_audit.specs.TestsGreens.{begins_with, primary_greens, installed_count, spine, one_order, trans_coverage, coverage}
 use Rattle.cg_audit.specs.TestsBooks.{lists_grow, order_book, made_book}
 use Rattle.cg_audit.specs.TestsWorlds.{is_same, at_rest, may_stand}
-use Rattle.cg_audit.specs.Fact.{Fact, SeatsRise, StandingsRise, ReceiversRise, JoinersAreServers, Seated, PhaseSound, ReceiptsInside, SenderClosed, HandedReceived, UnorderedRegular, MembersBegun, PastLeft, TalkLegal, SentIffDue, HeardIsTold, ModeFits, Content, ActsNumbered, MadeOfGreens, Contiguous, YellowClosed, ModeData, DiskBehind, MadeOnce, LinesBelow, SummaryOfSender, SummaryLines, ExchangeProgress, AttemptShape, AttemptList, LevelsStand, AnnouncedEntered, InstalledAnnounced, ActInstalled, RecordOfAttempt, InstalledIndex, BitsWitness, DeadEvidence, OneAttempt, BeginsWith, PrimaryGreens, InstalledCount, Spine, OneOrder, TransCoverage, Coverage, ReceiptsFixed, ListsGrow, DiskAgrees, BufferEmpty, OrderBook, MadeBook, MayMake, AtRest, IsSame, MayStand, IsAdmitted}
+use Rattle.cg_audit.specs.Fact.{Fact, SeatsRise, StandingsRise, ReceiversRise, JoinersAreServers, Seated, PhaseSound, ReceiptsInside, SenderClosed, HandedReceived, UnorderedRegular, MembersBegun, PastLeft, TalkLegal, SentIffDue, HeardIsTold, ModeFits, Content, ActsNumbered, MadeOfGreens, Contiguous, YellowClosed, ModeData, DiskBehind, MadeOnce, Origins, LinesBelow, SummaryOfSender, SummaryLines, TellersStill, ExchangeProgress, AttemptShape, AttemptList, LevelsStand, AnnouncedEntered, InstalledAnnounced, ActInstalled, RecordOfAttempt, InstalledIndex, BitsWitness, DeadEvidence, OneAttempt, BeginsWith, PrimaryGreens, InstalledCount, Spine, OneOrder, TransCoverage, Coverage, ReceiptsFixed, ListsGrow, DiskAgrees, BufferEmpty, OrderBook, MadeBook, MayMake, AtRest, IsSame, MayStand, IsAdmitted}
 
 -- the fact, where its test fails
 abbrev pub unless : Fact → Bool → List Fact
@@ -51,13 +51,13 @@ abbrev failing_replica : Chronicle → List Fact
 failing_replica c =
     unless MadeOfGreens (made_of_greens c) ++ unless Contiguous (contiguous c) ++ unless YellowClosed (yellow_closed c)
     ++ unless ModeData (mode_data c) ++ unless DiskBehind (disk_behind c) ++ unless MadeOnce (made_once c)
-    ++ unless LinesBelow (lines_below c)
+    ++ unless Origins (origins c) ++ unless LinesBelow (lines_below c)
 
 -- those of summaries and exchanges
 abbrev failing_exchange : Chronicle → List Fact
 failing_exchange c =
     unless SummaryOfSender (summary_of_sender c) ++ unless SummaryLines (summary_lines c)
-    ++ unless ExchangeProgress (exchange_progress c)
+    ++ unless TellersStill (tellers_still c) ++ unless ExchangeProgress (exchange_progress c)
 
 -- those of attempts
 abbrev failing_attempt : Chronicle → List Fact

@@ -28,9 +28,11 @@ pub data Fact : Type 0 where
   ModeData : Fact
   DiskBehind : Fact
   MadeOnce : Fact
+  Origins : Fact
   LinesBelow : Fact
   SummaryOfSender : Fact
   SummaryLines : Fact
+  TellersStill : Fact
   ExchangeProgress : Fact
   AttemptShape : Fact
   AttemptList : Fact

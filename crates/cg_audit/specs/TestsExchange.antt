@@ -1,13 +1,14 @@
 -- Tests of the facts about summaries and exchanges.
-use Rattle.std.specs.Prelude.{ℕ, ◌==◌, nat_lt, nat_le, max, Bool, true, ◌&&◌, List, [], Option, Some, None, filter, take, length, if◌then◌else◌}
+use Rattle.std.specs.Prelude.{ℕ, ◌==◌, nat_lt, nat_le, max, Bool, true, not, ◌&&◌, is_none, List, [], Option, Some, None, filter, take, length, if◌then◌else◌}
 use Rattle.std.specs.List.{list_all}
 use Rattle.std.specs.Bool.{beq}
 use Rattle.std.specs.Option.{option_map_or}
 use Rattle.cg_base.specs.Cuts.{index_in}
 use Rattle.cg_base.specs.Ids.{same_ids}
 use Rattle.cg_base.specs.Sets.{has, is_within}
+use Rattle.cg_base.specs.Text.{is_nil}
 use Rattle.cg_action.specs.declared.action.Action.{Action}
-use Rattle.cg_members.specs.Servers.{members_of, is_server}
+use Rattle.cg_members.specs.Servers.{members_of, was_ever, starting}
 use Rattle.cg_queue.specs.Queue.{names_of}
 use Rattle.cg_records.specs.Same.{same_prim, same_record, same_yellow}
 use Rattle.cg_records.specs.declared.vulnerable.Vulnerable.{Vulnerable}
@@ -19,14 +20,14 @@ use Rattle.cg_knowledge.specs.Vulnerable.{decided}
 use Rattle.cg_client.specs.Replica.{Held, State, RegPrim, TransPrim, ExchangeStates, ExchangeActions, NonPrim, Left, Replica, yellow_of, created}
 use Rattle.cg_agree.specs.World.{replica_of}
 use Rattle.cg_agree.specs.Chronicle.{Told, Attempt, Chronicle}
-use Rattle.cg_agree.specs.Looks.{greens_of, core_of, told_in, is_in, is_regular_in, attempt_of, attempt_at, installation}
+use Rattle.cg_agree.specs.Looks.{greens_of, core_of, ordered_in, told_in, is_in, is_regular_in, attempt_of, attempt_at, installation}
 use Rattle.cg_agree.specs.Levels.{prim_at}
 use Rattle.cg_agree.specs.FactsTalk.{handed_talk}
 use Rattle.cg_agree.specs.FactsReplica.{run_on, cut_behind, join_from}
 use Rattle.cg_agree.specs.FactsExchange.{greens_behind, red_behind, best_told}
 use Rattle.cg_agree.specs.Smalls.{implies}
 use Rattle.cg_audit.specs.Same.{same_actions, front_actions, same_numbers}
-use Rattle.cg_audit.specs.Through.{if_some, is_some_with, for_replicas, for_both}
+use Rattle.cg_audit.specs.Through.{if_some, is_some_with, for_replicas, for_confs, for_both}
 
 abbrev is_record : Attempt → Vulnerable → Bool
 is_record a v = (v.from == a.from) && same_numbers v.set a.set && is_within v.bits a.entered
@@ -70,6 +71,10 @@ summary_of_sender c =
     for_both c (λ conf p. if_some (told_in c conf p) (λ t. is_summary c t && knows_levels c t && if_some (core_of c p) (is_outdone c t)
     && implies (is_in c conf p) (if_some (replica_of c.world p) (knows_as_much c t))))
 
+-- it has told something in no later configuration
+abbrev tells_nothing_later : Chronicle → ℕ → ℕ → Bool
+tells_nothing_later c conf p = for_confs c (λ later. implies (nat_lt conf later) (is_none (told_in c later p)))
+
 abbrev are_reached : ℕ → ℕ → List Action → Bool
 are_reached p count greens = list_all (λ a. implies (a.id.creator == p) (nat_le a.green_line count)) greens
 
@@ -77,7 +82,12 @@ abbrev pub summary_lines : Chronicle → Bool
 summary_lines c =
     for_both c (λ conf p. if_some (told_in c conf p) (λ by. for_replicas c (λ q. if_some (told_in c conf q) (λ of.
     are_reached q of.summary.green_count by.greens
-    && implies (is_server (members_of c.start by.greens) q) (nat_le (join_from 0 by.greens q) of.summary.green_count)))))
+    && implies (not (was_ever (starting c.start) q)) (nat_le (join_from 0 by.greens q) of.summary.green_count)))))
+
+abbrev pub tellers_still : Chronicle → Bool
+tellers_still c =
+    for_both c (λ conf p. if_some (told_in c conf p) (λ t. implies (is_nil (ordered_in c conf) && tells_nothing_later c conf p)
+    (same_actions (greens_of c p) t.greens)))
 
 abbrev holds_still : Told → Held → Bool
 holds_still t h =

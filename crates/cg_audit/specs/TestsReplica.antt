@@ -8,7 +8,7 @@ use Rattle.cg_base.specs.Ids.{same_ids}
 use Rattle.cg_base.specs.Text.{is_nil}
 use Rattle.cg_action.specs.declared.action.Action.{Action}
 use Rattle.cg_db.specs.Apply.{fold_actions}
-use Rattle.cg_members.specs.Servers.{members_of}
+use Rattle.cg_members.specs.Servers.{members_of, starting}
 use Rattle.cg_queue.specs.Queue.{names_of}
 use Rattle.cg_records.specs.Same.{same_prim, same_record}
 use Rattle.cg_group.specs.declared.phase.Phase.{Phase}
@@ -127,6 +127,12 @@ made_once c =
     && if_some (replica_of c.world p) (λ r. are_booked c (r.held.queue.reds ++ r.held.own))
     && if_some (disk_held c.world p) (λ h. are_booked c (h.queue.reds ++ h.own)))
     && for_confs c (λ conf. are_booked c (filter_map (λ s. action_in s.message) (ordered_in c conf)))
+
+-- who is named by the book has begun, and so have the servers of the start; and the parts of attempts are booked
+abbrev pub origins : Chronicle → Bool
+origins c =
+    list_all (λ a. has_begun c.world a.id.creator) c.book && list_all (λ s. has_begun c.world s.id) (starting c.start).servers
+    && for_confs c (λ conf. if_some (attempt_of c conf) (λ a. are_booked c (a.yellow ++ a.reds)))
 
 abbrev is_lined : Chronicle → Held → List Action → Bool
 is_lined c h greens =
