@@ -1,0 +1,55 @@
+-- The record of a checkpoint is read as the state that it was made of.
+use Rattle.std.proofs.Common.{◌≡◌, ℕ, suc, List, Option, Some, refl, sym, ◌∙◌, ap, lit<}
+use Rattle.cg_journal.specs.Records.{Records}
+use Rattle.cg_records.specs.Limits.{IsNumber}
+use Rattle.cg_client.specs.Replica.{Held}
+use Rattle.cg_stored.specs.Stored.{Stored, stored_of}
+use Rattle.cg_stored.specs.Checkpoint.{spelled_checkpoint, Agrees}
+use Rattle.cg_stored.specs.Limits.{IsStored}
+use Rattle.cg_stored.specs.Parts.{checkpoint_in}
+use Rattle.cg_stored.specs.Laws.{IsCheckpoint}
+use Rattle.cg_store.specs.Stands.{Standing, stands_for}
+use Rattle.cg_store.specs.Calls.{IsSaved}
+use Rattle.cg_store.proofs.Owner.{standing-id}
+
+abbrev pub ReadsAgain : Type 0
+ReadsAgain = (id : ℕ) (bytes : List ℕ) (generation : ℕ) (s : Stored) → IsCheckpoint id bytes generation s → checkpoint_in id bytes ≡ Some (record { generation = generation; content = s })
+
+-- what is kept in memory alone has no bytes
+pub same_spelling : (generation : ℕ) (h : Held) → spelled_checkpoint generation (stored_of h) ≡ spelled_checkpoint generation h
+unfolding spelled_checkpoint
+same_spelling generation h = refl
+
+stored_still : (h : Held) → IsStored h → IsStored (stored_of h)
+stored_still h is = record {
+  id = is.id;
+  stable = is.stable;
+  queue = is.queue;
+  members = is.members;
+  short = is.short;
+  entries = is.entries;
+  ascends = is.ascends;
+  own = is.own;
+}
+
+read_again : ReadsAgain → (id generation : ℕ) (h : Held) → h.id ≡ id → (bytes : List ℕ) → bytes ≡ spelled_checkpoint generation h → IsNumber generation → IsStored h → Agrees (stored_of h) →
+    checkpoint_in id bytes ≡ Some (record { generation = generation; content = stored_of h })
+read_again again id generation h same bytes is small within agrees = again id bytes generation (stored_of h) (record {
+  spelled = is ∙ sym (same_spelling generation h);
+  small = small;
+  of = same;
+  is = stored_still h within;
+  agrees = agrees;
+})
+
+pub saved : ReadsAgain → (id : ℕ) (found : Option Records) (u : Standing) → stands_for id found ≡ Some u → (h : Held) → stored_of h ≡ u.content → (bytes : List ℕ) → bytes ≡ spelled_checkpoint (suc u.generation) h →
+    IsNumber (suc u.generation) → IsStored h → Agrees (stored_of h) → checkpoint_in id bytes ≡ Some (record { generation = suc u.generation; content = u.content })
+saved again id found u stands h held bytes is small within agrees =
+    read_again again id (suc u.generation) h (ap (λ (s : Stored). s.id) held ∙ standing-id id found u stands) bytes is small within agrees
+    ∙ ap (λ (s : Stored). Some (record { generation = suc u.generation; content = s })) held
+
+pub same_bytes : (u : Standing) (h : Held) → stored_of h ≡ u.content → (bytes : List ℕ) → bytes ≡ spelled_checkpoint (suc u.generation) h → bytes ≡ spelled_checkpoint (suc u.generation) u.content
+same_bytes u h held bytes is = is ∙ sym (same_spelling (suc u.generation) h) ∙ ap (spelled_checkpoint (suc u.generation)) held
+
+pub first_saved : ReadsAgain → (id : ℕ) (h : Held) → h.id ≡ id → (bytes : List ℕ) → bytes ≡ spelled_checkpoint 1 h → IsStored h → Agrees (stored_of h) → IsSaved id bytes (stored_of h)
+first_saved again id h same bytes is within agrees = read_again again id 1 h same bytes is (lit< tt) within agrees

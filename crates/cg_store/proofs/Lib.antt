@@ -1,0 +1,13 @@
+mod Standing
+mod Owner
+mod Writing
+mod Committing
+mod Rebuilding
+mod Replaying
+mod Outcome
+mod Following
+mod Chosen
+mod Appending
+mod Ending
+mod Checkpointing
+mod Opened

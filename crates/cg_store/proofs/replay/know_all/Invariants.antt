@@ -1,0 +1,10 @@
+use Rattle.std.proofs.Common.{◌≡◌, Some}
+use Rattle.std.specs.Vec.Iter.{into_iter_items}
+use Rattle.cg_action.specs.Limits.{IsAction}
+use Rattle.cg_records.specs.Limits.{Each}
+use Rattle.cg_stored.specs.Change.{know, all_of}
+use Rattle.cg_store.proofs.replay.know_all.Given as goal
+
+-- those that are left lead to what all lead to
+abbrev pub invariant-loop-a : goal.invariant-loop-a
+invariant-loop-a l = (all_of know (Some l.core) (into_iter_items l.a-iterator) ≡ all_of know (Some l.fn.core) l.fn.known) × Each IsAction (into_iter_items l.a-iterator)

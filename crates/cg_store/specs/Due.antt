@@ -1,0 +1,57 @@
+-- When an event is to be written, seen from the values on the disk and those behind the event.
+use Rattle.std.specs.Prelude.{◌≡◌, ◌==◌, ◌<◌, ◌^◌, Bool, true, false, not, ◌&&◌, ◌||◌, List, ◌++◌, length, Option, Some, None}
+use Rattle.cg_base.specs.Text.{is_nil}
+use Rattle.cg_action.specs.declared.action.Action.{Action}
+use Rattle.cg_records.specs.Same.{same_prim, same_record, same_yellow}
+use Rattle.cg_records.specs.declared.stable.Stable.{Stable}
+use Rattle.cg_client.specs.Replica.{Held, State}
+use Rattle.cg_client.specs.declared.parts.DraftParts.{DraftParts}
+use Rattle.cg_stored.specs.Stored.{Stored, stable_of, whiten}
+use Rattle.cg_stored.specs.Change.{spelled_change, change_with}
+use Rattle.cg_stored.specs.Limits.{IsChange}
+use Rattle.cg_step.specs.Commit.{commits}
+use Rattle.cg_client.specs.Drafts.{turn_with}
+use Rattle.cg_store.specs.Stands.{Standing, led_by, led}
+use Rattle.cg_store.specs.declared.due.Due.{Due}
+
+abbrev pub same_stable : Stable → Stable → Bool
+same_stable old new =
+    same_prim old.prim new.prim && (old.attempt_index == new.attempt_index) && same_record old.vulnerable new.vulnerable
+    && same_yellow old.yellow new.yellow
+
+abbrev pub is_due : Stable → Stable → DraftParts → Bool
+is_due old new d = d.marked_own || not (is_nil d.green) || not (is_nil d.made) || not (same_stable old new)
+
+-- the record of the event, and the values in it
+pub record IsRecord (unwritten : List Action) (h new : Held) (d : DraftParts) (due : Due) : Type 0 where
+  pub values : due.values ≡ stable_of h
+  pub body : due.body ≡ spelled_change (change_with (stable_of h) (unwritten ++ d.known) d.green d.made)
+  pub within : IsChange (change_with (stable_of h) (unwritten ++ d.known) d.green d.made)
+  pub short : length due.body < 2 ^ 32
+  pub whitened : new ≡ whiten h
+
+-- all that an event writes was made ready, where it is to be written
+abbrev pub IsPrepared : Stable → List Action → Held → Held → DraftParts → Option Due → Type 0
+IsPrepared values unwritten h new d None = (is_due values (stable_of h) d ≡ false) × (new ≡ h)
+IsPrepared values unwritten h new d (Some due) = (is_due values (stable_of h) d ≡ true) × IsRecord unwritten h new d due
+
+-- the same, seen from what stands on the disk
+abbrev pub IsReady : Stored → List Action → Held → Held → DraftParts → State → Option Due → Type 0
+IsReady s unwritten h new d state None = (commits s (turn_with h state d) ≡ false) × (new ≡ h)
+IsReady s unwritten h new d state (Some due) = (commits s (turn_with h state d) ≡ true) × IsRecord unwritten h new d due
+
+-- the record leads from what the disk stands for to a state with these values
+pub record IsLed (u : Standing) (due : Due) : Type 0 where
+  pub state : Stored
+  pub leads : led_by u.content due.body ≡ Some state
+  pub values : due.values ≡ stable_of state
+
+-- what the disk stands for behind the record, if there is one
+abbrev pub IsBehind : Standing → Option Due → Standing → Type 0
+IsBehind u None v = Unit {0}
+IsBehind u (Some due) v = (s : Stored) × (led_by u.content due.body ≡ Some s) × (v ≡ led u due.body s)
+
+-- one of two statements, by whether there is a record
+abbrev pub WhetherDue : Option Due → Type 0 → Type 0 → Type 0
+WhetherDue None A B = B
+WhetherDue (Some due) A B = A

@@ -1,0 +1,93 @@
+-- How a disk is opened.
+use Rattle.std.specs.Prelude.{◌≡◌, ℕ, suc, ◌==◌, nat_lt, Bool, true, false, List, [], ◌∷◌, drop, Option, Some, None, Result, Ok, Err, if◌then◌else◌}
+use Rattle.cg_disk.specs.View.{DiskView}
+use Rattle.cg_disk.specs.declared.disk.Side.{Side}
+use Rattle.cg_disk.specs.declared.disk.Side.TheVariants.{A, B}
+use Rattle.cg_journal.specs.Records.{Records, records}
+use Rattle.cg_journal.specs.Reads.{IsRead, IsReadStruck, IsReadRefused}
+use Rattle.cg_records.specs.Limits.{IsNumber}
+use Rattle.cg_client.specs.Replica.{Held}
+use Rattle.cg_stored.specs.Stored.{Stored, stable_of}
+use Rattle.cg_stored.specs.Parts.{Saved, saved_in, stored_in, checkpoint_in}
+use Rattle.cg_stored.specs.Laws.{AreSaved}
+use Rattle.cg_stored.specs.declared.checkpoint.Checkpoint.{Checkpoint}
+use Rattle.cg_store.specs.Stands.{Standing, Stands, stands_for, standing_in, led_by_all}
+use Rattle.cg_store.specs.Kept.{Kept}
+use Rattle.cg_store.specs.declared.finding.Found.{Found}
+use Rattle.cg_store.specs.declared.finding.Front.{Front}
+use Rattle.cg_store.specs.declared.errors.OpenErr.{OpenErr}
+use Rattle.cg_store.specs.declared.errors.OpenErr.TheVariants.{Lost, NotAStore, NoMemory}
+
+-- a test of what was put into a state, and the state behind it
+abbrev pub Follows : Option Stored → Held → Bool → Type 0
+Follows next new true = next ≡ Some new
+Follows next new false = next ≡ None
+
+-- the checkpoint at the front of a side
+abbrev pub first_on : ℕ → List (List ℕ) → Option Saved
+first_on id [] = None
+first_on id (body ∷ changes) = checkpoint_in id body
+
+abbrev pub FindsFirst : ℕ → List (List ℕ) → Option Checkpoint → Type 0
+FindsFirst id bodies None = first_on id bodies ≡ None
+FindsFirst id bodies (Some p) = (first_on id bodies ≡ Some (saved_in id p)) × AreSaved id p
+
+-- the one with the greater generation, the first one where the two are equal
+abbrev pub front : Side → Checkpoint → Front
+front side first = record { side = side; first = first }
+
+abbrev pub greater : Option Checkpoint → Option Checkpoint → Option Front
+greater None None = None
+greater (Some a) None = Some (front A a)
+greater None (Some b) = Some (front B b)
+greater (Some a) (Some b) = if nat_lt a.generation b.generation then Some (front B b) else Some (front A a)
+
+-- the changes behind a checkpoint were put into what it stands for
+pub record IsReplayed (id : ℕ) (side : Side) (first : Checkpoint) (changes : List (List ℕ)) (f : Found) : Type 0 where
+  pub side_is : f.side ≡ side
+  pub generation_is : f.generation ≡ first.generation
+  pub leads : led_by_all (Some (stored_in id first)) changes ≡ Some f.core
+  pub values : f.values ≡ stable_of f.core
+  pub small : IsNumber f.generation
+
+abbrev pub Replays : ℕ → Side → Checkpoint → List (List ℕ) → Option Found → Type 0
+Replays id side first changes None = led_by_all (Some (stored_in id first)) changes ≡ None
+Replays id side first changes (Some f) = IsReplayed id side first changes f
+
+-- what these records stand for was found
+pub record IsFound (id : ℕ) (r : Records) (f : Found) : Type 0 where
+  pub size : ℕ
+  pub stands : standing_in id r ≡ Some (record { side = f.side; generation = f.generation; size = size; content = f.core })
+  pub values : f.values ≡ stable_of f.core
+  pub small : IsNumber f.generation
+
+abbrev pub Finds : ℕ → Records → Option Found → Type 0
+Finds id r None = standing_in id r ≡ None
+Finds id r (Some f) = IsFound id r f
+
+-- the same with the store of the journal that has them
+abbrev pub Resumes : {D : Type 0} → ℕ → D → Records → Result (Kept D × Held) (OpenErr D) → Type 0
+Resumes id journal r (Ok opened) = (u : Standing) × (standing_in id r ≡ Some u) × (opened.1 ≡ u.content) × (opened.0 ≡ record { disk = journal; id = id; unwritten = [] })
+Resumes id journal r (Err (Lost disk)) = ⊥
+Resumes id journal r (Err (NotAStore disk)) = (disk ≡ journal) × (standing_in id r ≡ None)
+Resumes id journal r (Err (NoMemory disk)) = disk ≡ journal
+
+-- the store of a disk that stands for a state, and the core that holds it
+pub record IsOpened {D : Type 0} (view : D → DiskView) (id : ℕ) (old : DiskView) (store : Kept D) (core : Held) : Type 0 where
+  pub standing : Standing
+  pub stands : Stands id old.reads standing
+  pub core_is : core ≡ standing.content
+  pub id_is : store.id ≡ id
+  pub unwritten : store.unwritten ≡ []
+  pub read : IsRead 5 old (view store.disk)
+
+-- the disk stands for no state of this replica
+pub record IsNoStore (id : ℕ) (old new : DiskView) : Type 0 where
+  pub stands_for_none : stands_for id (records old.reads) ≡ None
+  pub read : IsRead 5 old new
+
+abbrev pub OpensStore : {D : Type 0} → (D → DiskView) → ℕ → DiskView → Result (Kept D × Held) (OpenErr D) → Type 0
+OpensStore view id old (Ok opened) = IsOpened view id old opened.0 opened.1
+OpensStore view id old (Err (Lost disk)) = IsReadStruck 5 old (view disk)
+OpensStore view id old (Err (NotAStore disk)) = IsNoStore id old (view disk)
+OpensStore view id old (Err (NoMemory disk)) = IsReadRefused 5 old (view disk)

@@ -1,0 +1,146 @@
+//! What the records of a disk stand for.
+ghost use Rattle.std.specs.Prelude.{◌≡◌, drop, Some, IfOk};
+ghost use Rattle.cg_journal.specs.Records.{on_side};
+ghost use Rattle.cg_stored.specs.Laws.{AreSaved};
+ghost use Rattle.cg_store.specs.Stands.{led_by_all};
+ghost use Rattle.cg_store.specs.Opening.{Follows, FindsFirst, greater, Replays, Finds};
+
+use crate::rebuild::rebuild;
+use crate::replay::follow;
+use cg_base::{Bytes, NoMemory, ReplicaId};
+use cg_client::Core;
+use cg_disk::Side;
+use cg_records::Stable;
+use cg_stored::{Checkpoint, read_checkpoint};
+use std::alloc::Global;
+
+/// The side in use, the generation of its checkpoint, the values that stand there, and all that the replica holds.
+#[derive(Drop)]
+pub(crate) struct Found {
+    pub(crate) side: Side,
+    pub(crate) generation: u64,
+    pub(crate) values: Stable,
+    pub(crate) core: Core,
+}
+
+/// What the records of the two sides stand for, if they stand for a state of this replica.
+pub(crate) fn find(
+    alloc: Global,
+    id: ReplicaId,
+    a: &[Bytes],
+    b: &[Bytes],
+) -> Result<Option<Found>, NoMemory>
+    ensures { IfOk result (Finds id (record { a = a.now; b = b.now })) }
+{
+    let first_a = first_of(alloc, id, a)?;
+    let first_b = first_of(alloc, id, b)?;
+    match greater(first_a, first_b) {
+        Some(front) => {
+            let changes = behind_first(bodies_on(front.side, a, b));
+            replay(alloc, id, front, changes)
+        }
+        None => Ok(None),
+    }
+}
+
+/// The checkpoint at the front of a side.
+#[derive(Drop)]
+pub(crate) struct Front {
+    side: Side,
+    first: Checkpoint,
+}
+
+fn bodies_on<'a>(side: Side, a: &'a [Bytes], b: &'a [Bytes]) -> &'a [Bytes]
+    ensures { result.now ≡ on_side side (record { a = a.now; b = b.now }) }
+{
+    match side {
+        Side::A => a,
+        Side::B => b,
+    }
+}
+
+// the checkpoint at the front of a side
+fn first_of(alloc: Global, id: ReplicaId, bodies: &[Bytes]) -> Result<Option<Checkpoint>, NoMemory>
+    ensures { IfOk result (FindsFirst id bodies.now) }
+{
+    match bodies.first() {
+        Some(body) => read_checkpoint(alloc, id, body.as_slice()),
+        None => Ok(None),
+    }
+}
+
+fn behind_first(bodies: &[Bytes]) -> &[Bytes]
+    ensures { result.now ≡ drop 1 bodies.now }
+{
+    match bodies.split_first() {
+        Some((_, changes)) => changes,
+        None => bodies,
+    }
+}
+
+fn greater(a: Option<Checkpoint>, b: Option<Checkpoint>) -> Option<Front>
+    ensures { result ≡ greater a b }
+{
+    match (a, b) {
+        (None, None) => None,
+        (Some(first), None) => Some(Front {
+            side: Side::A,
+            first,
+        }),
+        (None, Some(first)) => Some(Front {
+            side: Side::B,
+            first,
+        }),
+        (Some(a), Some(b)) => {
+            if a.generation < b.generation {
+                Some(Front {
+                    side: Side::B,
+                    first: b,
+                })
+            } else {
+                Some(Front {
+                    side: Side::A,
+                    first: a,
+                })
+            }
+        }
+    }
+}
+
+fn replay(
+    alloc: Global,
+    id: ReplicaId,
+    front: Front,
+    changes: &[Bytes],
+) -> Result<Option<Found>, NoMemory>
+    requires { AreSaved id front.first }
+    ensures { IfOk result (Replays id front.side front.first changes.now) }
+{
+    let Front { side, first } = front;
+    let generation = first.generation;
+    let mut core = rebuild(alloc, id, first)?;
+    let fits = follow_all(alloc, &mut core, changes)?;
+    if !fits {
+        return Ok(None);
+    }
+    let values = core.stable()?;
+    Ok(Some(Found {
+        side,
+        generation,
+        values,
+        core,
+    }))
+}
+
+// Puts all records into what the replica holds, where each is a change that fits.
+fn follow_all(alloc: Global, core: &mut Core, changes: &[Bytes]) -> Result<bool, NoMemory>
+    ensures { IfOk result (Follows (led_by_all (Some core.old) changes.now) core.new) }
+{
+    for body in changes {
+        let fits = follow(alloc, core, body.as_slice())?;
+        if !fits {
+            return Ok(false);
+        }
+    }
+    Ok(true)
+}

@@ -1,0 +1,59 @@
+ghost use Rattle.std.specs.Prelude.{◌≡◌, ◌<◌, ◌^◌, ◌++◌, length, IfOk};
+ghost use Rattle.cg_action.specs.Limits.{IsAction};
+ghost use Rattle.cg_records.specs.Limits.{Each, IsStable};
+ghost use Rattle.cg_stored.specs.Change.{spelled_change, change_with};
+ghost use Rattle.cg_stored.specs.Checkpoint.{spelled_checkpoint};
+ghost use Rattle.cg_stored.specs.Limits.{IsChange, IsStored};
+
+use cg_action::Action;
+use cg_base::NoMemory;
+use cg_client::{Core, Draft};
+use cg_records::Stable;
+use cg_stored::{put_change, put_checkpoint};
+use std::alloc::Global;
+
+// a longer record has no length in four bytes
+const LONGEST: usize = 4294967295;
+
+/// The record of a change, with the red marks that stand in no record first.
+pub(crate) fn change_record(
+    alloc: Global,
+    stable: &Stable,
+    unwritten: &[Action],
+    draft: &Draft,
+) -> Result<Vec<u8>, NoMemory>
+    requires stable { IsStable stable.now }
+    requires unwritten { Each IsAction unwritten.now }
+    ensures spelled { IfOk result (λ bytes. bytes.items ≡ spelled_change (change_with stable.now (unwritten.now ++ draft.now.known) draft.now.green draft.now.made)) }
+    ensures within { IfOk result (λ bytes. IsChange (change_with stable.now (unwritten.now ++ draft.now.known) draft.now.green draft.now.made)) }
+    ensures short { IfOk result (λ bytes. length bytes.items < 2 ^ 32) }
+{
+    let mut bytes = Vec::new(alloc);
+    let known = draft.known().as_slice();
+    let green = draft.green().as_slice();
+    let made = draft.made().as_slice();
+    put_change(&mut bytes, stable, unwritten, known, green, made)?;
+    if bytes.len() > LONGEST {
+        return Err(NoMemory);
+    }
+    Ok(bytes)
+}
+
+/// The record of a checkpoint.
+pub(crate) fn checkpoint_record(
+    alloc: Global,
+    generation: u64,
+    core: &Core,
+) -> Result<Vec<u8>, NoMemory>
+    requires { generation < 2 ^ 63 }
+    ensures spelled { IfOk result (λ bytes. bytes.items ≡ spelled_checkpoint generation core.now) }
+    ensures within { IfOk result (λ bytes. IsStored core.now) }
+    ensures short { IfOk result (λ bytes. length bytes.items < 2 ^ 32) }
+{
+    let mut bytes = Vec::new(alloc);
+    put_checkpoint(&mut bytes, generation, core)?;
+    if bytes.len() > LONGEST {
+        return Err(NoMemory);
+    }
+    Ok(bytes)
+}

@@ -1,0 +1,568 @@
+//! A replica's store, and the calls that write.
+ghost use Rattle.std.specs.Prelude.{◌≡◌, ◌+◌, ◌<◌, ◌≤◌, ◌^◌, ◌⊎◌, suc, [], nat_lt};
+ghost use Rattle.std.specs.Prelude.{IfOk, OnOk, length};
+ghost use Rattle.cg_disk.specs.Sides.{opposite};
+ghost use Rattle.cg_stored.specs.Stored.{stable_of};
+ghost use Rattle.cg_stored.specs.Checkpoint.{spelled_checkpoint};
+ghost use Rattle.cg_stored.specs.Limits.{IsStored};
+ghost use Rattle.cg_store.specs.Calls.{paired as answer_with, commit_fault as fault_of};
+ghost use Rattle.cg_client.specs.Drafts.{turn_with};
+ghost use Rattle.cg_client.specs.Replica.{State};
+
+use crate::due::{Due, prepare};
+use crate::finding::{Found, find};
+use crate::letters::seal_all;
+use crate::records::checkpoint_record;
+use crate::unwritten::Unwritten;
+use crate::{CommitErr, OpenErr, Outputs};
+use cg_action::ActionList;
+use cg_base::{BytesList, NoMemory, ReplicaId, Row};
+use cg_client::{Core, Draft, DraftParts};
+use cg_disk::{Disk, ModelDisk, Side};
+use cg_journal::{AppendErr, FormatErr, Journal, JournalOpen};
+use cg_letter::Letter;
+use cg_records::Stable;
+use cg_stored::{changes_are_exact, checkpoints_are_exact};
+use std::alloc::Global;
+use std::marker::Model;
+
+/// A replica's disk, at rest. Clauses see the disk, whose it is, and the red marks that stand in no record of it; what the
+/// disk stands for is a function of its bytes.
+#[derive(Drop)]
+pub struct Store<D: Disk> {
+    journal: Journal<D>,
+    id: ReplicaId,
+    // the side in use, and the generation of its checkpoint
+    side: Side,
+    generation: u64,
+    // the values that stand on the disk
+    values: Stable,
+    unwritten: Unwritten,
+}
+
+impl<D: Disk> Model for Store<D> {
+    ghost use Rattle.cg_store.specs.Kept.{Kept, IsStore};
+
+    ghost Value = { Kept D };
+
+    ghost view = { λ s. record { disk = s.journal; id = s.id; unwritten = s.unwritten } };
+
+    ghost invariant = { λ s. IsStore (D.view s.journal) s.id s.side s.generation s.values };
+}
+
+// the generation of the last checkpoint that has bytes
+const LAST: u64 = 9223372036854775807;
+
+// a side longer than this is followed by a checkpoint on the other side
+const LIMIT: u64 = 1048576;
+
+fn other(side: Side) -> Side
+    ensures { result ≡ opposite side }
+{
+    match side {
+        Side::A => Side::B,
+        Side::B => Side::A,
+    }
+}
+
+// What the first record has, and its bytes.
+fn first_record(alloc: Global, core: &Core) -> Result<(Stable, Vec<u8>), NoMemory>
+    ensures values { IfOk result (λ r. r.0 ≡ stable_of core.now) }
+    ensures spelled { IfOk result (λ r. r.1.items ≡ spelled_checkpoint 1 core.now) }
+    ensures within { OnOk result (IsStored core.now) }
+    ensures short { IfOk result (λ r. length r.1.items < 2 ^ 32) }
+{
+    let values = core.stable()?;
+    let body = checkpoint_record(alloc, 1, core)?;
+    Ok((values, body))
+}
+
+fn commit_fault<D: Disk>(fault: AppendErr<D>) -> CommitErr<D>
+    ensures { result ≡ fault_of fault }
+{
+    match fault {
+        AppendErr::Lost(disk) => CommitErr::Lost(disk),
+        AppendErr::NoMemory(journal) => CommitErr::NoMemory(journal.into_disk()),
+    }
+}
+
+// The answer of a call, with what is given out behind it.
+fn paired<D: Disk>(
+    answer: Result<Store<D>, CommitErr<D>>,
+    outputs: Outputs,
+) -> Result<(Store<D>, Outputs), CommitErr<D>>
+    ensures { result ≡ answer_with answer outputs }
+{
+    match answer {
+        Ok(store) => Ok((store, outputs)),
+        Err(fault) => Err(fault),
+    }
+}
+
+impl<D: Disk> Store<D> {
+    ghost use Rattle.std.specs.Prelude.{IfOk, OnOk, IfSome, Some, true, ◌&&◌, length, ℕ, if◌then◌else◌};
+    ghost use Rattle.cg_action.specs.Limits.{IsAction};
+    ghost use Rattle.cg_disk.specs.Calls.{Begins as DiskBegins};
+    ghost use Rattle.cg_journal.specs.Records.{records};
+    ghost use Rattle.cg_journal.specs.Opens.{no_records};
+    ghost use Rattle.cg_stored.specs.Limits.{IsStored};
+    ghost use Rattle.cg_records.specs.Limits.{Each, IsNumber};
+    ghost use Rattle.cg_step.specs.Commit.{commits};
+    ghost use Rattle.cg_stored.specs.Stored.{Stored, stored_of, stable_of, whiten};
+    ghost use Rattle.cg_stored.specs.Change.{IsRecorded};
+    ghost use Rattle.cg_stored.specs.Checkpoint.{Agrees, size_limit, spelled_checkpoint};
+    ghost use Rattle.cg_stored.specs.Parts.{checkpoint_in};
+    ghost use Rattle.cg_store.specs.Stands.{Standing, Stands, begun, created, moved, committed, checkpointed};
+    ghost use Rattle.cg_store.specs.Answers.{EachMoment};
+    ghost use Rattle.cg_store.specs.Due.{IsReady, IsLed, IsBehind, WhetherDue};
+    ghost use Rattle.cg_disk.specs.View.{IsAtRest};
+    ghost use Rattle.cg_store.specs.Opening.{Resumes, OpensStore};
+    ghost use Rattle.cg_store.specs.Calls.{Whether, Creates, Writes, Commits, KeepsMarks, Keeps, Moves, EndsWritten, FollowsUp, IsEither, IsOneOfThree, IsSaved, IsFirst, Begins};
+
+    /// Ends an event: what it changes of what stands on the disk is written in four device calls, and the core's white
+    /// count is raised. Where nothing of it is to be written no call is made, and its red marks are kept for the next
+    /// record. After an error the core is to be let go.
+    pub fn commit(self, core: &mut Core, draft: Draft) -> Result<(Store<D>, Outputs), CommitErr<D>>
+        requires calls { (D.view self.disk).time + 4 ≤ 2 ^ 62 }
+
+        // The event's record leads from what the disk stands for to what the commit leaves.
+        requires recorded { (u : Standing) (state : State) → Stands self.id (D.view self.disk).reads u → IsRecorded u.content self.unwritten (turn_with core.old state draft) }
+
+        ensures ends { (u : Standing) (state : State) → Stands self.id (D.view self.disk).reads u →
+            (let t = turn_with core.old state draft in
+            Whether (commits u.content t) (Commits D.view self u (committed self.unwritten t u) draft result) (Keeps self draft result)) }
+
+        ensures core { (u : Standing) (state : State) → Stands self.id (D.view self.disk).reads u →
+            OnOk result (core.new ≡ (if commits u.content (turn_with core.old state draft) then whiten core.old else core.old)) }
+
+        ensures time { IfOk result (λ done. (D.view done.0.disk).time ≤ (D.view self.disk).time + 4) }
+
+        // At each moment every image stands for the state before, or for the one behind the commit.
+        ensures moments { (u : Standing) (state : State) → Stands self.id (D.view self.disk).reads u →
+            EachMoment D.view (λ done. done.0.disk) (IsEither self.id u (committed self.unwritten (turn_with core.old state draft) u)) (D.view self.disk) result }
+    {
+        changes_are_exact();
+        let alloc = core.alloc();
+        match self.ready(alloc, core, &draft) {
+            Ok((letters, due)) => self.finish(alloc, draft.into_parts(), letters, due),
+            Err(_) => {
+                draft.abandon();
+                Err(CommitErr::NoMemory(self.into_disk()))
+            }
+        }
+    }
+
+    /// Ends an event as a replica's step does: with its commit, where one is due, and behind a commit that leaves its side
+    /// too long with a checkpoint on the other side. After an error the core is to be let go.
+    pub fn end_event(
+        self,
+        core: &mut Core,
+        draft: Draft,
+    ) -> Result<(Store<D>, Outputs), CommitErr<D>>
+        requires calls { (D.view self.disk).time + 10 ≤ 2 ^ 62 }
+        requires recorded { (u : Standing) (state : State) → Stands self.id (D.view self.disk).reads u → IsRecorded u.content self.unwritten (turn_with core.old state draft) }
+
+        // What a commit leaves has a checkpoint.
+        requires agrees { Agrees (stored_of (whiten core.old)) }
+
+        ensures ends { (u : Standing) (state : State) → Stands self.id (D.view self.disk).reads u →
+            (let t = turn_with core.old state draft in
+            Whether (commits u.content t) (EndsWritten D.view self u (committed self.unwritten t u) draft result) (Keeps self draft result)) }
+
+        ensures core { (u : Standing) (state : State) → Stands self.id (D.view self.disk).reads u →
+            OnOk result (core.new ≡ (if commits u.content (turn_with core.old state draft) then whiten core.old else core.old)) }
+
+        // At each moment every image stands for the state before, or for the one behind the commit.
+        ensures moments { (u : Standing) (state : State) → Stands self.id (D.view self.disk).reads u →
+            (let v = committed self.unwritten (turn_with core.old state draft) u in
+            EachMoment D.view (λ done. done.0.disk) (IsOneOfThree self.id u v (checkpointed v)) (D.view self.disk) result) }
+    {
+        // its clause says that the disk stands for a state
+        let _id = self.id();
+        match self.commit(core, draft) {
+            Ok((store, outputs)) => store.follow_up(core, outputs),
+            Err(fault) => Err(fault),
+        }
+    }
+
+    // The checkpoint behind an event that was written and left its side too long.
+    fn follow_up(self, core: &Core, outputs: Outputs) -> Result<(Store<D>, Outputs), CommitErr<D>>
+        requires calls { (D.view self.disk).time + 6 ≤ 2 ^ 62 }
+        requires held { (u : Standing) → Stands self.id (D.view self.disk).reads u → outputs.written ≡ true → stored_of core.now ≡ u.content }
+        requires agrees { outputs.written ≡ true → Agrees (stored_of core.now) }
+        ensures ends { (u : Standing) → Stands self.id (D.view self.disk).reads u → FollowsUp D.view self u outputs result }
+        ensures moments { (u : Standing) → Stands self.id (D.view self.disk).reads u →
+            EachMoment D.view (λ done. done.0.disk) (IsEither self.id u (checkpointed u)) (D.view self.disk) result }
+    {
+        // its clauses say that the disk stands for a state, and is at rest
+        let _id = self.id();
+        if self.is_to_follow(&outputs) {
+            paired(self.checkpoint(core), outputs)
+        } else {
+            Ok((self, outputs))
+        }
+    }
+
+    fn is_to_follow(&self, outputs: &Outputs) -> bool
+        ensures { (u : Standing) → Stands self.now.id (D.view self.now.disk).reads u → result ≡ (outputs.now.written && nat_lt size_limit u.size) }
+    {
+        outputs.written && self.is_long()
+    }
+
+    // All that an event needs before its first device call.
+    fn ready(
+        &self,
+        alloc: Global,
+        core: &mut Core,
+        draft: &Draft,
+    ) -> Result<(Row<Letter>, Option<Due>), NoMemory>
+        ensures letters { IfOk result (λ r. r.0 ≡ draft.now.sent) }
+        ensures short { IfOk result (λ r. IfSome r.1 (λ x. length x.body < 2 ^ 32)) }
+        ensures due { IfOk result (λ r. (u : Standing) (state : State) → Stands self.now.id (D.view self.now.disk).reads u →
+            IsReady u.content self.now.unwritten core.old core.new draft.now state r.1) }
+    {
+        let letters = seal_all(alloc, draft.sent().as_slice())?;
+        let unwritten = self.unwritten.as_slice();
+        let due = prepare(alloc, &self.values, unwritten, core, draft)?;
+        Ok((letters, due))
+    }
+
+    fn finish(
+        self,
+        alloc: Global,
+        parts: DraftParts,
+        letters: Row<Letter>,
+        due: Option<Due>,
+    ) -> Result<(Store<D>, Outputs), CommitErr<D>>
+        requires calls { (D.view self.disk).time + 4 ≤ 2 ^ 62 }
+        requires letters { letters ≡ parts.sent }
+        requires known { Each IsAction parts.known }
+        requires short { IfSome due (λ x. length x.body < 2 ^ 32) }
+        requires leads { (u : Standing) → Stands self.id (D.view self.disk).reads u → IfSome due (IsLed u) }
+        ensures ends { (u : Standing) (v : Standing) → Stands self.id (D.view self.disk).reads u → IsBehind u due v →
+            WhetherDue due (Commits D.view self u v parts result) (Keeps self parts result) }
+        ensures time { IfOk result (λ done. (D.view done.0.disk).time ≤ (D.view self.disk).time + 4) }
+        ensures moments { (u : Standing) (v : Standing) → Stands self.id (D.view self.disk).reads u → IsBehind u due v →
+            EachMoment D.view (λ done. done.0.disk) (IsEither self.id u v) (D.view self.disk) result }
+    {
+        let DraftParts {
+            known,
+            green,
+            made,
+            replies,
+            ..
+        } = parts;
+        let outputs = Outputs {
+            made,
+            sent: letters,
+            replies,
+            green,
+            written: due.is_some(),
+        };
+        match due {
+            Some(due) => paired(self.write(alloc, due), outputs),
+            None => paired(self.keep_marks(known), outputs),
+        }
+    }
+
+    // Writes the record of an event.
+    fn write(self, alloc: Global, due: Due) -> Result<Store<D>, CommitErr<D>>
+        requires calls { (D.view self.disk).time + 4 ≤ 2 ^ 62 }
+        requires short { length due.body < 2 ^ 32 }
+        requires leads { (u : Standing) → Stands self.id (D.view self.disk).reads u → IsLed u due }
+        ensures ends { (u : Standing) (v : Standing) → Stands self.id (D.view self.disk).reads u → IsBehind u (Some due) v → Writes D.view self u v result }
+        ensures time { IfOk result (λ s. (D.view s.disk).time ≤ (D.view self.disk).time + 4) }
+        ensures moments { (u : Standing) (v : Standing) → Stands self.id (D.view self.disk).reads u → IsBehind u (Some due) v →
+            EachMoment D.view (λ s. s.disk) (IsEither self.id u v) (D.view self.disk) result }
+    {
+        let Store {
+            journal,
+            id,
+            side,
+            generation,
+            ..
+        } = self;
+        let Due { body, values } = due;
+        match journal.append(alloc, side, body.as_slice()) {
+            Ok(journal) => Ok(Store {
+                journal,
+                id,
+                side,
+                generation,
+                values,
+                unwritten: Unwritten::new(alloc),
+            }),
+            Err(fault) => Err(commit_fault(fault)),
+        }
+    }
+
+    // Keeps red marks that are not to be written yet.
+    fn keep_marks(self, known: ActionList) -> Result<Store<D>, CommitErr<D>>
+        requires { Each IsAction known }
+        ensures ends { KeepsMarks self known result }
+        ensures moments { (u : Standing) (v : Standing) → Stands self.id (D.view self.disk).reads u →
+            EachMoment D.view (λ s. s.disk) (IsEither self.id u v) (D.view self.disk) result }
+    {
+        let mut store = self;
+        match store.unwritten.add_all(known) {
+            Ok(()) => Ok(store),
+            Err(_) => Err(CommitErr::NoMemory(store.into_disk())),
+        }
+    }
+
+    /// Writes the state in one checkpoint on the other side, in six device calls. No state is changed by it.
+    pub fn checkpoint(self, core: &Core) -> Result<Store<D>, CommitErr<D>>
+        requires calls { (D.view self.disk).time + 6 ≤ 2 ^ 62 }
+
+        // The core holds what the disk stands for, as behind a commit.
+        requires held { (u : Standing) → Stands self.id (D.view self.disk).reads u → stored_of core.now ≡ u.content }
+        requires agrees { Agrees (stored_of core.now) }
+
+        ensures ends { (u : Standing) → Stands self.id (D.view self.disk).reads u → Moves D.view self u (checkpointed u) result }
+
+        // At each moment every image stands for this state, in the records before or in the new one.
+        ensures moments { (u : Standing) → Stands self.id (D.view self.disk).reads u →
+            EachMoment D.view (λ s. s.disk) (IsEither self.id u (checkpointed u)) (D.view self.disk) result }
+    {
+        checkpoints_are_exact();
+        let alloc = core.alloc();
+        match self.next_record(alloc, core) {
+            Ok(body) => self.restart(alloc, &body),
+            Err(_) => Err(CommitErr::NoMemory(self.into_disk())),
+        }
+    }
+
+    // The checkpoint that is next.
+    fn next_record(&self, alloc: Global, core: &Core) -> Result<Vec<u8>, NoMemory>
+        ensures small { OnOk result ((u : Standing) → Stands self.now.id (D.view self.now.disk).reads u → IsNumber (suc u.generation)) }
+        ensures spelled { IfOk result (λ bytes. (u : Standing) → Stands self.now.id (D.view self.now.disk).reads u → bytes.items ≡ spelled_checkpoint (suc u.generation) core.now) }
+        ensures within { OnOk result (IsStored core.now) }
+        ensures short { IfOk result (λ bytes. length bytes.items < 2 ^ 32) }
+    {
+        // so many checkpoints fit no disk
+        if self.generation >= LAST {
+            return Err(NoMemory);
+        }
+        checkpoint_record(alloc, self.generation + 1, core)
+    }
+
+    fn restart(self, alloc: Global, body: &[u8]) -> Result<Store<D>, CommitErr<D>>
+        requires calls { (D.view self.disk).time + 6 ≤ 2 ^ 62 }
+        requires short { length body.now < 2 ^ 32 }
+        requires small { (u : Standing) → Stands self.id (D.view self.disk).reads u → IsNumber (suc u.generation) }
+        requires saved { (u : Standing) → Stands self.id (D.view self.disk).reads u → checkpoint_in self.id body.now ≡ Some (record { generation = suc u.generation; content = u.content }) }
+        ensures ends { (u : Standing) → Stands self.id (D.view self.disk).reads u → Moves D.view self u (moved u body.now) result }
+        ensures moments { (u : Standing) → Stands self.id (D.view self.disk).reads u →
+            EachMoment D.view (λ s. s.disk) (IsEither self.id u (moved u body.now)) (D.view self.disk) result }
+    {
+        let Store {
+            journal,
+            id,
+            side,
+            generation,
+            values,
+            unwritten,
+        } = self;
+        let side = other(side);
+        match journal.restart(alloc, side, body) {
+            Ok(journal) => Ok(Store {
+                journal,
+                id,
+                side,
+                generation: generation + 1,
+                values,
+                unwritten,
+            }),
+            Err(fault) => Err(commit_fault(fault)),
+        }
+    }
+
+    /// The store of a new disk, which stands for what the core holds, in seven device calls. After an error the disk may be
+    /// no store.
+    pub fn create(disk: D, core: &Core) -> Result<Store<D>, CommitErr<D>>
+        requires calls { (D.view disk).time + 7 ≤ 2 ^ 62 }
+        requires agrees { Agrees (stored_of core.now) }
+        ensures { Creates D.view core.now.id (created (stored_of core.now)) (D.view disk) result }
+    {
+        checkpoints_are_exact();
+        let alloc = core.alloc();
+        match first_record(alloc, core) {
+            Ok((values, body)) => Store::format(alloc, disk, core.id(), values, &body),
+            Err(_) => Err(CommitErr::NoMemory(disk)),
+        }
+    }
+
+    fn format(
+        alloc: Global,
+        disk: D,
+        id: ReplicaId,
+        values: Stable,
+        body: &[u8],
+    ) -> Result<Store<D>, CommitErr<D>>
+        requires calls { (D.view disk).time + 7 ≤ 2 ^ 62 }
+        requires short { length body.now < 2 ^ 32 }
+        requires first { IsFirst id body.now values }
+        ensures { (s : Stored) → IsSaved id body.now s → Creates D.view id (begun body.now s) (D.view disk) result }
+    {
+        match Journal::format(disk) {
+            Ok(journal) => Store::first(alloc, journal, id, values, body),
+            Err(FormatErr::Lost(disk)) => Err(CommitErr::Lost(disk)),
+            Err(FormatErr::NoMemory(disk)) => Err(CommitErr::NoMemory(disk)),
+        }
+    }
+
+    // Writes the first checkpoint.
+    fn first(
+        alloc: Global,
+        journal: Journal<D>,
+        id: ReplicaId,
+        values: Stable,
+        body: &[u8],
+    ) -> Result<Store<D>, CommitErr<D>>
+        requires calls { (D.view journal).time + 4 ≤ 2 ^ 62 }
+        requires empty { records (D.view journal).reads ≡ Some no_records }
+        requires short { length body.now < 2 ^ 32 }
+        requires first { IsFirst id body.now values }
+        ensures { (s : Stored) → IsSaved id body.now s → Begins D.view id (begun body.now s) (D.view journal) result }
+    {
+        match journal.append(alloc, Side::A, body) {
+            Ok(journal) => Ok(Store {
+                journal,
+                id,
+                side: Side::A,
+                generation: 1,
+                values,
+                unwritten: Unwritten::new(alloc),
+            }),
+            Err(AppendErr::Lost(disk)) => Err(CommitErr::Lost(disk)),
+            Err(AppendErr::NoMemory(journal)) => Err(CommitErr::NoMemory(journal.into_disk())),
+        }
+    }
+
+    /// Opens the disk of a replica, in five device calls, with what it held at its last commit. `NotAStore` says that the
+    /// disk stands for no state of this replica.
+    pub fn open(alloc: Global, disk: D, id: ReplicaId) -> Result<(Store<D>, Core), OpenErr<D>>
+        requires { (D.view disk).time + 5 ≤ 2 ^ 62 }
+        ensures { OpensStore D.view id (D.view disk) result }
+    {
+        match Journal::open(alloc, disk) {
+            Ok((journal, a, b)) => Store::open_journal(alloc, journal, id, &a, &b),
+            Err(JournalOpen::Lost(disk)) => Err(OpenErr::Lost(disk)),
+            Err(JournalOpen::NotAJournal(disk)) => Err(OpenErr::NotAStore(disk)),
+            Err(JournalOpen::NoMemory(disk)) => Err(OpenErr::NoMemory(disk)),
+        }
+    }
+
+    // The store of a journal with these records.
+    fn open_journal(
+        alloc: Global,
+        journal: Journal<D>,
+        id: ReplicaId,
+        a: &BytesList,
+        b: &BytesList,
+    ) -> Result<(Store<D>, Core), OpenErr<D>>
+        requires records { records (D.view journal).reads ≡ Some (record { a = a.now; b = b.now }) }
+        requires rest { IsAtRest (D.view journal) }
+        ensures { Resumes id journal (record { a = a.now; b = b.now }) result }
+    {
+        match find(alloc, id, a.as_slice(), b.as_slice()) {
+            Ok(Some(found)) => {
+                let Found {
+                    side,
+                    generation,
+                    values,
+                    core,
+                } = found;
+                let store = Store {
+                    journal,
+                    id,
+                    side,
+                    generation,
+                    values,
+                    unwritten: Unwritten::new(alloc),
+                };
+                Ok((store, core))
+            }
+            Ok(None) => Err(OpenErr::NotAStore(journal.into_disk())),
+            Err(_) => Err(OpenErr::NoMemory(journal.into_disk())),
+        }
+    }
+
+    /// The side in use is so long that a checkpoint is to follow. It takes no memory.
+    pub fn is_long(&self) -> bool
+        ensures { (u : Standing) → Stands self.now.id (D.view self.now.disk).reads u → result ≡ nat_lt size_limit u.size }
+    {
+        self.journal.length(self.side) > LIMIT
+    }
+
+    /// Keeps the red marks of a recovery for the next record; nothing else of the event counts.
+    pub fn keep(self, draft: Draft) -> Result<Store<D>, CommitErr<D>>
+        ensures { KeepsMarks self draft.known result }
+    {
+        self.keep_marks(draft.into_parts().known)
+    }
+
+    /// Whose store it is. It takes no memory.
+    pub fn id(&self) -> ReplicaId
+        ensures value { result ≡ self.now.id }
+
+        // The disk stands for a state of this replica, and nothing on it is unsynced.
+        ensures stands { (u : Standing) × Stands self.now.id (D.view self.now.disk).reads u }
+        ensures rest { IsAtRest (D.view self.now.disk) }
+    {
+        self.id
+    }
+
+    /// Its disk. It takes no memory.
+    pub fn into_disk(self) -> D
+        ensures disk { result ≡ self.disk }
+
+        // Nothing is unsynced between two calls.
+        ensures rest { IsAtRest (D.view self.disk) }
+    {
+        let Store { journal, .. } = self;
+        journal.into_disk()
+    }
+
+    /// The disk's `begin`. It takes no memory.
+    pub fn begin(&mut self)
+        ensures disk { DiskBegins (D.view self.old.disk) (D.view self.new.disk) }
+        ensures id { self.new.id ≡ self.old.id }
+        ensures unwritten { self.new.unwritten ≡ self.old.unwritten }
+    {
+        self.journal.begin();
+    }
+}
+
+/// The three calls of a disk in memory, passed on to it.
+impl Store<ModelDisk> {
+    ghost use Rattle.cg_disk.specs.State.{Fails, Stops};
+    ghost use Rattle.cg_disk.specs.Crashes.{Arms};
+
+    /// Arms the nth next device call, n at least 1, to fail once.
+    pub fn fail_at(&mut self, n: u64)
+        requires { 1 ≤ n }
+        ensures disk { Arms Fails n (⟦<ModelDisk as Disk>⟧.view self.old.disk) (⟦<ModelDisk as Disk>⟧.view self.new.disk) }
+        ensures id { self.new.id ≡ self.old.id }
+        ensures unwritten { self.new.unwritten ≡ self.old.unwritten }
+    {
+        self.journal.fail_at(n);
+    }
+
+    /// Arms a stop inside the nth next device call, n at least 1.
+    pub fn stop_at(&mut self, n: u64)
+        requires { 1 ≤ n }
+        ensures disk { Arms Stops n (⟦<ModelDisk as Disk>⟧.view self.old.disk) (⟦<ModelDisk as Disk>⟧.view self.new.disk) }
+        ensures id { self.new.id ≡ self.old.id }
+        ensures unwritten { self.new.unwritten ≡ self.old.unwritten }
+    {
+        self.journal.stop_at(n);
+    }
+
+    /// The device calls made so far.
+    pub fn calls(&self) -> u64
+        ensures { result ≡ (⟦<ModelDisk as Disk>⟧.view self.now.disk).time }
+    {
+        self.journal.calls()
+    }
+}
