@@ -1,0 +1,90 @@
+//! What is seen of a replica, and of what an event has brought about, as text.
+//!
+//! The replica's line is that of a report, with `-` in place of the phase, of which the states don't know. Behind it stand
+//! the names newly green, those that got a reply, and the messages that are sent, where there are any.
+
+use super::bench::{Member, core_of, name_of};
+use cg_base::{IdList, NoMemory, put, put_id, put_id_list, put_number};
+use cg_client::DraftParts;
+use cg_report::{Line, Reply, ShownPhase, UpLine, put_line};
+use cg_wire::Msg;
+use std::alloc::Global;
+
+/// The line of a replica.
+pub(super) fn put_member(out: &mut Vec<u8>, member: &Member) -> Result<(), NoMemory> {
+    let core = core_of(member);
+    let view = core.view()?;
+    let up = UpLine {
+        state: name_of(member),
+        phase: ShownPhase::Alone,
+        view,
+    };
+    let line = Line {
+        id: core.id(),
+        up: Some(up),
+    };
+    put_line(out, &line)
+}
+
+fn put_names(out: &mut Vec<u8>, word: &[u8], names: &IdList) -> Result<(), NoMemory> {
+    if names.is_empty() {
+        return Ok(());
+    }
+    put(out, word)?;
+    put_id_list(out, names.as_slice())
+}
+
+fn answered(alloc: Global, replies: &[Reply]) -> Result<IdList, NoMemory> {
+    let mut names = IdList::new(alloc);
+    for reply in replies {
+        names.push(reply.id)?;
+    }
+    Ok(names)
+}
+
+fn put_message(out: &mut Vec<u8>, message: &Msg) -> Result<(), NoMemory> {
+    match message {
+        Msg::Action(a) => {
+            put(out, b" action ")?;
+            put_id(out, a.id)
+        }
+        Msg::State(_) => put(out, b" state"),
+        Msg::GreenItem { at, action } => {
+            put(out, b" green ")?;
+            put_number(out, *at)?;
+            put(out, b" ")?;
+            put_id(out, action.id)
+        }
+        Msg::RedItem(a) => {
+            put(out, b" red ")?;
+            put_id(out, a.id)
+        }
+        Msg::Cpc { conf, .. } => {
+            put(out, b" ready in ")?;
+            put_number(out, *conf)
+        }
+    }
+}
+
+fn put_sent(out: &mut Vec<u8>, sent: &[Msg]) -> Result<(), NoMemory> {
+    if sent.is_empty() {
+        return Ok(());
+    }
+    put(out, b" sends")?;
+    for message in sent {
+        put_message(out, message)?;
+    }
+    Ok(())
+}
+
+/// What an event has brought about.
+pub(super) fn put_parts(
+    alloc: Global,
+    out: &mut Vec<u8>,
+    parts: &DraftParts,
+) -> Result<(), NoMemory> {
+    put_names(out, b" green ", &parts.green)?;
+    let names = answered(alloc, parts.replies.as_slice())?;
+    put_names(out, b" reply ", &names)?;
+    put_sent(out, parts.sent.as_slice())
+}
