@@ -1,7 +1,7 @@
 -- What a store answers when its journal has appended a record, and when it has restarted the other side.
-use Rattle.std.proofs.Common.{◌≡◌, ◌⊎◌, inl, inr, ⊎_elim, ℕ, suc, ◌+◌, ◌≤◌, List, Option, Some, None, Result, Ok, Err, refl, sym, ◌∙◌, ap, subst, arith}
+use Rattle.std.proofs.Common.{◌≡◌, ◌⊎◌, inl, inr, ⊎_elim, ℕ, suc, List, Some, Err, sym, ◌∙◌, ap, subst, arith}
 use Rattle.std.specs.Option.{option_map}
-use Rattle.cg_disk.specs.Sides.{Image, opposite}
+use Rattle.cg_disk.specs.Sides.{opposite}
 use Rattle.cg_disk.specs.View.{DiskView, LeavesOnly}
 use Rattle.cg_disk.specs.declared.disk.Side.{Side}
 use Rattle.cg_disk.specs.declared.disk.Side.TheVariants.{A}
@@ -15,17 +15,17 @@ use Rattle.cg_journal.specs.declared.journal.AppendErr.{AppendErr}
 use Rattle.cg_journal.specs.declared.journal.AppendErr.TheVariants.{Lost as AppendLost, NoMemory as AppendNoMemory}
 use Rattle.cg_records.specs.Limits.{IsNumber}
 use Rattle.cg_records.specs.declared.stable.Stable.{Stable}
-use Rattle.cg_stored.specs.Stored.{Stored, stable_of}
+use Rattle.cg_stored.specs.Stored.{Stored}
 use Rattle.cg_stored.specs.Checkpoint.{size_with, empty_size}
 use Rattle.cg_stored.specs.Parts.{checkpoint_in}
-use Rattle.cg_store.specs.Stands.{led_by, Standing, stands_for, Stands, led, moved, begun}
+use Rattle.cg_store.specs.Stands.{Standing, stands_for, Stands, moved, begun}
 use Rattle.cg_store.specs.Kept.{Kept, IsStore}
 use Rattle.cg_store.specs.Answers.{IsReached, IsRefused, IsLost, EachMoment}
 use Rattle.cg_store.specs.Due.{IsLed, IsBehind}
 use Rattle.cg_store.specs.Calls.{IsEither, IsSaved, IsFirst, Writes, Moves, commit_fault}
 use Rattle.cg_store.specs.declared.due.Due.{Due}
 use Rattle.cg_store.proofs.Standing.{stands_added, stands_emptied, stands_moved, stands_begun}
-use Rattle.cg_store.proofs.Writing.{one_standing, either_of, reached, lost, lost_closing, refused, weakened}
+use Rattle.cg_store.proofs.Writing.{one_standing, either_of, reached, lost, lost_closing, weakened}
 
 -- a store's own record of what its disk stands for
 abbrev pub standing_at : (side : Side) (generation size : ℕ) (content : Stored) → Standing

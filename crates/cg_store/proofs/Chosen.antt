@@ -5,12 +5,11 @@ use Rattle.std.specs.Option.{option_map}
 use Rattle.cg_disk.specs.declared.disk.Side.{Side}
 use Rattle.cg_disk.specs.declared.disk.Side.TheVariants.{A, B}
 use Rattle.cg_journal.specs.Records.{Records, on_side}
-use Rattle.cg_stored.specs.Stored.{Stored}
-use Rattle.cg_stored.specs.Parts.{saved_in, stored_in}
+use Rattle.cg_stored.specs.Parts.{saved_in}
 use Rattle.cg_stored.specs.Laws.{AreSaved}
 use Rattle.cg_stored.specs.declared.checkpoint.Checkpoint.{Checkpoint}
-use Rattle.cg_store.specs.Stands.{Live, led_by_all, size_of, live_from, live_on, Standing, standing_on, chosen, standing_in}
-use Rattle.cg_store.specs.Opening.{front, first_on, FindsFirst, greater, IsReplayed, Replays, IsFound, Finds}
+use Rattle.cg_store.specs.Stands.{Live, size_of, live_from, live_on, standing_on, chosen, standing_in}
+use Rattle.cg_store.specs.Opening.{front, first_on, FindsFirst, greater, Replays, Finds}
 use Rattle.cg_store.specs.declared.finding.Found.{Found}
 use Rattle.cg_store.specs.declared.finding.Front.{Front}
 

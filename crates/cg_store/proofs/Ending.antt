@@ -1,17 +1,17 @@
 -- The end of an event: its commit, and the checkpoint behind it.
-use Rattle.std.proofs.Common.{◌≡◌, ◌⊎◌, inl, inr, ⊎_elim, ℕ, List, [], Bool, true, false, Option, Some, Result, Ok, Err, refl, sym, ◌∙◌, ap, subst, arith, nat_lt, ◌&&◌}
+use Rattle.std.proofs.Common.{◌≡◌, inl, inr, ⊎_elim, Bool, true, false, Result, Ok, Err, refl, sym, ◌∙◌, ap, subst, nat_lt, ◌&&◌}
 use Rattle.std.specs.Prelude.{if◌then◌else◌}
 use Rattle.cg_disk.specs.Sides.{Image}
 use Rattle.cg_disk.specs.View.{DiskView, LeavesOnly}
 use Rattle.cg_journal.specs.Records.{records}
 use Rattle.cg_client.specs.Replica.{Held}
 use Rattle.cg_client.specs.declared.parts.DraftParts.{DraftParts}
-use Rattle.cg_stored.specs.Stored.{Stored, stored_of, whiten}
+use Rattle.cg_stored.specs.Stored.{stored_of, whiten}
 use Rattle.cg_stored.specs.Checkpoint.{Agrees, size_limit}
 use Rattle.cg_store.specs.Stands.{Standing, stands_for, Stands, checkpointed}
 use Rattle.cg_store.specs.Kept.{Kept}
 use Rattle.cg_store.specs.Answers.{IsReached, EachMoment}
-use Rattle.cg_store.specs.Calls.{Whether, outputs_of, Commits, Keeps, Moves, EndsLong, EndsWritten, FollowsUp, IsEither, IsOneOfThree, paired}
+use Rattle.cg_store.specs.Calls.{Whether, Commits, Keeps, Moves, EndsLong, EndsWritten, FollowsUp, IsEither, IsOneOfThree, paired}
 use Rattle.cg_store.specs.declared.outputs.Outputs.{Outputs}
 use Rattle.cg_store.specs.declared.errors.CommitErr.{CommitErr}
 use Rattle.cg_store.specs.declared.errors.CommitErr.TheVariants.{Lost, NoMemory}

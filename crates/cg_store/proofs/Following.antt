@@ -1,20 +1,18 @@
 -- A checkpoint behind a commit, seen from before the commit.
-use Rattle.std.proofs.Common.{◌≡◌, ◌⊎◌, inl, inr, ⊎_elim, ℕ, ◌+◌, ◌≤◌, ◌<◌, List, [], Bool, true, false, Option, Some, None, Result, Ok, Err, IfSome, refl, sym, ◌∙◌, ap, subst, arith, nat_lt, ◌&&◌}
+use Rattle.std.proofs.Common.{◌≡◌, ◌⊎◌, inl, inr, ⊎_elim, ℕ, ◌+◌, ◌≤◌, [], true, Option, Some, None, Result, Ok, Err, refl, sym, ◌∙◌, ap, subst, arith}
 use Rattle.std.specs.Option.{option_map}
 use Rattle.cg_disk.specs.Sides.{Image}
 use Rattle.cg_disk.specs.State.{DiskState, Strike}
 use Rattle.cg_disk.specs.View.{DiskView, LeavesOnly}
 use Rattle.cg_journal.specs.Strikes.{IsUnstruck, IsStruck}
 use Rattle.cg_client.specs.declared.parts.DraftParts.{DraftParts}
-use Rattle.cg_stored.specs.Checkpoint.{size_limit}
-use Rattle.cg_store.specs.Stands.{Standing, Stands, checkpointed}
+use Rattle.cg_store.specs.Stands.{Standing, checkpointed}
 use Rattle.cg_store.specs.Kept.{Kept}
-use Rattle.cg_store.specs.Answers.{IsReached, IsRefused, IsCutShort, IsLost, EachMoment}
-use Rattle.cg_store.specs.Calls.{Whether, outputs_of, Writes, Commits, Moves, EndsLong, EndsWritten, IsEither, IsOneOfThree, paired}
+use Rattle.cg_store.specs.Answers.{IsReached, IsRefused, IsLost}
+use Rattle.cg_store.specs.Calls.{outputs_of, Moves, EndsLong, paired}
 use Rattle.cg_store.specs.declared.outputs.Outputs.{Outputs}
 use Rattle.cg_store.specs.declared.errors.CommitErr.{CommitErr}
 use Rattle.cg_store.specs.declared.errors.CommitErr.TheVariants.{Lost, NoMemory}
-use Rattle.cg_store.proofs.Writing.{weakened}
 
 some_state : (state : Option DiskState) (strike : Option Strike) → option_map (λ (x : DiskState). x.strike) state ≡ Some strike → (s : DiskState) × (state ≡ Some s) × (s.strike ≡ strike)
 some_state None strike is = cc

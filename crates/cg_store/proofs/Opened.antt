@@ -1,12 +1,12 @@
 -- What the opening of a journal and the state found in it make of the opening of a store.
-use Rattle.std.proofs.Common.{◌≡◌, ℕ, ◌+◌, ◌≤◌, Option, Some, None, Result, Ok, Err, sym, ◌∙◌, ap, subst, arith}
+use Rattle.std.proofs.Common.{◌≡◌, ℕ, Option, Some, Result, Ok, Err, sym, ◌∙◌, ap, subst, arith}
 use Rattle.cg_disk.specs.View.{DiskView}
 use Rattle.cg_journal.specs.Records.{Records, records}
 use Rattle.cg_journal.specs.Reads.{IsRead, IsReadRefused}
 use Rattle.cg_client.specs.Replica.{Held}
 use Rattle.cg_store.specs.Stands.{stands_for}
 use Rattle.cg_store.specs.Kept.{Kept}
-use Rattle.cg_store.specs.Opening.{Resumes, IsOpened, IsNoStore, OpensStore}
+use Rattle.cg_store.specs.Opening.{Resumes, OpensStore}
 use Rattle.cg_store.specs.declared.errors.OpenErr.{OpenErr}
 use Rattle.cg_store.specs.declared.errors.OpenErr.TheVariants.{Lost, NotAStore, NoMemory}
 

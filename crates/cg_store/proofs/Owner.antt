@@ -1,19 +1,19 @@
 -- Whose state a disk stands for: changes and checkpoints keep the replica.
-use Rattle.std.proofs.Common.{◌≡◌, ℕ, List, [], ◌∷◌, ◌++◌, Bool, true, false, Option, Some, None, refl, sym, ◌∙◌, ap, subst}
+use Rattle.std.proofs.Common.{◌≡◌, ℕ, List, [], ◌∷◌, ◌++◌, Bool, true, false, Option, Some, None, refl, sym, ◌∙◌, ap}
 use Rattle.std.specs.Prelude.{option_and_then, if◌then◌else◌}
 use Rattle.std.specs.Option.{option_map}
 use Rattle.cg_base.specs.declared.action_id.ActionId.{ActionId}
 use Rattle.cg_action.specs.declared.action.Action.{Action}
 use Rattle.cg_queue.specs.Queue.{action_of}
 use Rattle.cg_records.specs.declared.stable.Stable.{Stable}
-use Rattle.cg_client.specs.Replica.{Held, created}
+use Rattle.cg_client.specs.Replica.{Held}
 use Rattle.cg_client.specs.Marks.{with_green, after_first}
 use Rattle.cg_queue.specs.Queue.{placed_red}
-use Rattle.cg_stored.specs.Stored.{Stored, stored_of, whiten}
+use Rattle.cg_stored.specs.Stored.{Stored, whiten}
 use Rattle.cg_stored.specs.declared.change.Change.{Change}
 use Rattle.cg_stored.specs.declared.checkpoint.Checkpoint.{Checkpoint}
-use Rattle.cg_stored.specs.Change.{fits_known, know, turn_green, green_by_name, make, all_of, are_yellow, put_values, with_values, after_change}
-use Rattle.cg_stored.specs.Parts.{Saved, saved_of, saved_in, do_agree, stored_in, change_in, checkpoint_in}
+use Rattle.cg_stored.specs.Change.{fits_known, know, turn_green, green_by_name, make, all_of, put_values, with_values, after_change}
+use Rattle.cg_stored.specs.Parts.{Saved, saved_of, saved_in, do_agree, change_in, checkpoint_in}
 use Rattle.cg_store.specs.Stands.{led_by, led_by_all, Live, live_from, live_on, Standing, stands_for}
 use Rattle.cg_journal.specs.Records.{Records}
 use Rattle.cg_store.proofs.Standing.{standing_parts}

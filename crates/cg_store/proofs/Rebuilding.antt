@@ -1,7 +1,7 @@
 -- What the parts of a checkpoint make, put in one after another.
-use Rattle.std.proofs.Common.{◌⊎◌, ◌≡◌, ◌≢◌, ◌^◌, ℕ, ◌<◌, ◌≤◌, List, [], ◌∷◌, ◌++◌, Bool, true, false, ◌&&◌, ◌||◌, fold, filter, append-nil, append_assoc, refl, sym, ap, ◌∙◌, subst, arith, inl, inr, if◌then◌else◌, nat_lt, eqb-true}
+use Rattle.std.proofs.Common.{◌⊎◌, ◌≡◌, ◌≢◌, ◌^◌, ℕ, ◌<◌, ◌≤◌, List, [], ◌∷◌, ◌++◌, Bool, true, false, fold, append-nil, append_assoc, refl, sym, ap, ◌∙◌, subst, arith, inl, inr, if◌then◌else◌, nat_lt, eqb-true}
 use Rattle.std.specs.Prelude.{◌==◌}
-use Rattle.std.proofs.lemmas.Bool.{cases_eq, cases_order, eq-eqb, ne_eqb, lt-ltb, le-ltb, and_parts}
+use Rattle.std.proofs.lemmas.Bool.{cases_eq, cases_order, eq-eqb, ne_eqb, le-ltb, and_parts}
 use Rattle.cg_base.specs.declared.action_id.ActionId.{ActionId}
 use Rattle.cg_base.specs.Ids.{same_id, id_before}
 use Rattle.std.specs.Cmp.Lexicographic.{pointwise}
@@ -11,7 +11,6 @@ use Rattle.cg_action.specs.declared.action.Action.{Action}
 use Rattle.cg_queue.specs.Queue.{QueueView, names_of, with_red, resumed}
 use Rattle.cg_client.specs.Replica.{Held}
 use Rattle.cg_stored.specs.declared.checkpoint.Checkpoint.{Checkpoint}
-use Rattle.cg_stored.specs.Stored.{Stored}
 use Rattle.cg_stored.specs.Change.{put_values}
 use Rattle.cg_stored.specs.Checkpoint.{is_by_name}
 use Rattle.cg_stored.specs.Parts.{stored_in}

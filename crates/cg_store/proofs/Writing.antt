@@ -1,27 +1,17 @@
 -- What the calls of the journal make of what the disk stands for.
-use Rattle.std.proofs.Common.{◌≡◌, ◌⊎◌, inl, inr, ⊎_elim, ℕ, suc, ◌+◌, ◌≤◌, ◌<◌, List, [], ◌∷◌, ◌++◌, length, Bool, true, false, Option, Some, None, Result, Ok, Err, IfSome, refl, sym, ◌∙◌, ap, subst, arith}
+use Rattle.std.proofs.Common.{◌≡◌, inl, inr, ⊎_elim, ℕ, ◌+◌, ◌≤◌, List, Bool, true, false, Option, Some, None, IfSome, refl, sym, ◌∙◌, ap, subst, arith}
 use Rattle.std.specs.Prelude.{if◌then◌else◌}
-use Rattle.std.specs.Option.{option_map}
-use Rattle.cg_disk.specs.Sides.{Image, opposite}
-use Rattle.cg_disk.specs.State.{DiskState, Strike, left_by}
+use Rattle.cg_disk.specs.Sides.{Image}
+use Rattle.cg_disk.specs.State.{left_by}
 use Rattle.cg_disk.specs.View.{DiskView, IsView, IsAtRest, LeavesOnly}
 use Rattle.cg_disk.specs.declared.disk.Side.{Side}
-use Rattle.cg_disk.specs.declared.disk.Side.TheVariants.{A, B}
-use Rattle.cg_journal.specs.Records.{Records, records, added, emptied}
+use Rattle.cg_journal.specs.Records.{Records, records}
 use Rattle.cg_journal.specs.Adds.{IsLostIn, IsEither as IsOneOf, gate_stands}
 use Rattle.cg_journal.specs.Closes.{IsLostClosing}
-use Rattle.cg_journal.specs.Answers.{with_record, without_records, with_record_alone, IsDone, IsRefused as IsJournalRefused, IsLostAppend, IsLostRestart, IsRestarting, Restarts}
-use Rattle.cg_journal.specs.declared.journal.AppendErr.TheVariants.{Lost as AppendLost, NoMemory as AppendNoMemory}
-use Rattle.cg_records.specs.declared.stable.Stable.{Stable}
-use Rattle.cg_stored.specs.Stored.{Stored, stable_of}
-use Rattle.cg_stored.specs.Checkpoint.{size_with, empty_size}
-use Rattle.cg_stored.specs.Parts.{checkpoint_in}
-use Rattle.cg_store.specs.Stands.{led_by, Standing, stands_for, Stands, led, moved, begun}
-use Rattle.cg_store.specs.Kept.{Kept, IsStore}
-use Rattle.cg_store.specs.Answers.{IsReached, IsRefused, Decides, IsCutShort, IsLost}
-use Rattle.cg_store.specs.Calls.{IsEither, Moves}
-use Rattle.cg_store.specs.declared.errors.CommitErr.TheVariants.{Lost, NoMemory}
-use Rattle.cg_store.proofs.Standing.{stands_added, stands_emptied, stands_moved, stands_begun}
+use Rattle.cg_journal.specs.Answers.{IsDone}
+use Rattle.cg_store.specs.Stands.{Standing, stands_for, Stands}
+use Rattle.cg_store.specs.Answers.{IsReached, IsRefused, IsCutShort, IsLost}
+use Rattle.cg_store.specs.Calls.{IsEither}
 
 -- ---- one state
 

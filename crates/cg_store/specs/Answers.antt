@@ -1,5 +1,5 @@
 -- How the calls of a store that write a record end: when it stands, when a call was struck, when memory was refused.
-use Rattle.std.specs.Prelude.{◌≡◌, ◌≢◌, ◌⊎◌, ℕ, ◌+◌, ◌≤◌, List, Some, Result, Ok, Err, slice_index, if◌then◌else◌}
+use Rattle.std.specs.Prelude.{◌≡◌, ◌≢◌, ℕ, ◌+◌, ◌≤◌, List, Some, Result, Ok, Err, slice_index, if◌then◌else◌}
 use Rattle.cg_disk.specs.Sides.{Image, bytes_of}
 use Rattle.cg_disk.specs.State.{DiskState, Strike, left_by}
 use Rattle.cg_disk.specs.View.{DiskView, IsAtRest, LeavesOnly}

@@ -1,13 +1,12 @@
 -- What a store keeps.
-use Rattle.std.specs.Prelude.{◌≡◌, ℕ, List, Some}
+use Rattle.std.specs.Prelude.{◌≡◌, ℕ, List}
 use Rattle.cg_action.specs.declared.action.Action.{Action}
 use Rattle.cg_disk.specs.View.{DiskView, IsAtRest}
 use Rattle.cg_disk.specs.declared.disk.Side.{Side}
-use Rattle.cg_journal.specs.Records.{records}
 use Rattle.cg_records.specs.Limits.{IsNumber}
 use Rattle.cg_records.specs.declared.stable.Stable.{Stable}
 use Rattle.cg_stored.specs.Stored.{Stored, stable_of}
-use Rattle.cg_store.specs.Stands.{Standing, Stands}
+use Rattle.cg_store.specs.Stands.{Stands}
 
 -- a store: its disk, whose it is, and the red marks that stand in no record of it
 pub record Kept (D : Type 0) : Type 0 where

@@ -1,5 +1,5 @@
 use Rattle.std.proofs.Common.{sym, ◌∙◌, ap, drop}
-use Rattle.cg_store.proofs.Chosen.{chosen_first, none_chosen, if_ok_finds}
+use Rattle.cg_store.proofs.Chosen.{chosen_first, if_ok_finds}
 use Rattle.cg_store.proofs.finding.find.Goals as goal
 
 pub replay-requires : goal.replay-requires

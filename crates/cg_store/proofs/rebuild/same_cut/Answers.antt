@@ -1,6 +1,4 @@
-use Rattle.std.proofs.Common.{◌≡◌, true, sym, ◌∙◌, rules}
-use Rattle.std.specs.Cmp.Lexicographic.{pointwise}
-use Rattle.cg_base.specs.Ids.{same_id}
+use Rattle.std.proofs.Common.{sym, ◌∙◌}
 use Rattle.cg_store.proofs.Rebuilding.{same_cuts}
 use Rattle.cg_store.proofs.rebuild.same_cut.Goals as goal
 

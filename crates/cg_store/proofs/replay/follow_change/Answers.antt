@@ -1,5 +1,4 @@
-use Rattle.std.proofs.Common.{◌≡◌, Some, None, true, false, subst}
-use Rattle.cg_client.specs.Replica.{Held}
+use Rattle.std.proofs.Common.{◌≡◌, Some, None, subst}
 use Rattle.cg_stored.specs.Change.{know, green_by_name, make, all_of, with_values, after_change}
 use Rattle.cg_store.specs.Opening.{Follows}
 use Rattle.cg_store.proofs.Replaying.{unknown_none, ungreen_none, unmade_none, all_fit, if_ok_follows}

@@ -1,6 +1,6 @@
-use Rattle.std.proofs.Common.{◌≡◌, ℕ, suc, List, sym, ◌∙◌, ap, subst}
+use Rattle.std.proofs.Common.{◌∙◌, subst}
 use Rattle.cg_journal.specs.Records.{records}
-use Rattle.cg_store.specs.Stands.{Standing, Stands, moved, checkpointed}
+use Rattle.cg_store.specs.Stands.{moved}
 use Rattle.cg_store.specs.Answers.{EachMoment}
 use Rattle.cg_store.specs.Calls.{Moves, IsEither}
 use Rattle.cg_store.proofs.Checkpointing.{saved, same_bytes}

@@ -1,6 +1,6 @@
-use Rattle.std.proofs.Common.{◌≡◌, ℕ, suc, List, sym, ◌∙◌, ap, subst, lit<}
+use Rattle.std.proofs.Common.{sym, ◌∙◌, subst}
 use Rattle.cg_stored.specs.Stored.{stored_of}
-use Rattle.cg_store.specs.Stands.{begun, created}
+use Rattle.cg_store.specs.Stands.{begun}
 use Rattle.cg_store.specs.Calls.{Creates}
 use Rattle.cg_store.proofs.Checkpointing.{first_saved, same_spelling}
 use Rattle.cg_store.proofs.store.Store.create.Goals as goal

@@ -1,8 +1,8 @@
-use Rattle.std.proofs.Common.{◌≡◌, List, Ok, Err, Some, refl, sym, ◌∙◌, ap, subst}
+use Rattle.std.proofs.Common.{refl}
 use Rattle.cg_client.specs.Drafts.{turn_with}
-use Rattle.cg_client.specs.Replica.{State, Left}
+use Rattle.cg_client.specs.Replica.{Left}
 use Rattle.cg_step.specs.Commit.{commits}
-use Rattle.cg_store.specs.Stands.{Standing, Stands, committed}
+use Rattle.cg_store.specs.Stands.{committed}
 use Rattle.cg_store.proofs.Committing.{OnOk_from}
 use Rattle.cg_store.proofs.Ending.{held_behind, agrees_behind, ends_from, moments_from, ends_failed, moments_failed}
 use Rattle.cg_store.proofs.store.Store.end_event.Goals as goal

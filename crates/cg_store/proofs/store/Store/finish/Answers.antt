@@ -1,10 +1,9 @@
-use Rattle.std.proofs.Common.{◌≡◌, true, false, Some, None, IfSome, refl, sym, subst, rules}
-use Rattle.cg_store.specs.Stands.{Standing, Stands}
+use Rattle.std.proofs.Common.{◌≡◌, true, IfSome, sym, subst, rules}
 use Rattle.cg_store.specs.Kept.{Kept}
 use Rattle.cg_store.specs.Answers.{EachMoment}
 use Rattle.cg_store.specs.Due.{IsLed, IsBehind, WhetherDue}
 use Rattle.cg_store.specs.Calls.{Commits, Keeps, IsEither}
-use Rattle.cg_store.proofs.Committing.{paired_writes, paired_keeps, paired_moments}
+use Rattle.cg_store.proofs.Committing.{paired_writes, paired_moments}
 use Rattle.cg_store.proofs.store.Store.finish.Goals as goal
 
 pub write-requires-clause-leads : goal.write-requires-clause-leads

@@ -1,10 +1,8 @@
-use Rattle.std.proofs.Common.{◌≡◌, List, Ok, sym, subst, inl, nat_lt, ◌&&◌}
+use Rattle.std.proofs.Common.{sym, subst, nat_lt}
 use Rattle.std.proofs.lemmas.Bool.{and_parts}
 use Rattle.cg_stored.specs.Checkpoint.{size_limit}
-use Rattle.cg_store.specs.Stands.{Standing, Stands, checkpointed}
-use Rattle.cg_store.specs.Calls.{Whether, Moves, paired, IsEither, FollowsUp}
+use Rattle.cg_store.specs.Calls.{FollowsUp}
 use Rattle.cg_store.proofs.Ending.{follows_long, follows_short}
-use Rattle.cg_store.proofs.Writing.{unmoved, stands_at_rest}
 use Rattle.cg_store.proofs.store.Store.follow_up.Goals as goal
 
 pub returns-then-is_to_follow-clause-ends : goal.returns-then-is_to_follow-clause-ends

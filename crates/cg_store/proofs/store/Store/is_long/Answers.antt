@@ -1,5 +1,4 @@
-use Rattle.std.proofs.Common.{◌≡◌, nat_lt, sym, ◌∙◌, ap, subst}
-use Rattle.cg_journal.specs.Records.{on_side}
+use Rattle.std.proofs.Common.{◌≡◌, nat_lt, ap, subst}
 use Rattle.cg_stored.specs.Checkpoint.{size_limit}
 use Rattle.cg_store.specs.Stands.{Standing, Stands}
 use Rattle.cg_store.proofs.Appending.{its_side}

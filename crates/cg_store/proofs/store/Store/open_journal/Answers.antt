@@ -1,4 +1,4 @@
-use Rattle.std.proofs.Common.{refl, sym, subst, Some}
+use Rattle.std.proofs.Common.{refl, subst}
 use Rattle.cg_store.specs.Opening.{Finds, IsFound}
 use Rattle.cg_store.proofs.store.Store.open_journal.Goals as goal
 

@@ -1,4 +1,4 @@
-use Rattle.std.proofs.Common.{◌≡◌, sym, ◌∙◌, ap, subst}
+use Rattle.std.proofs.Common.{sym, ◌∙◌, ap, subst}
 use Rattle.cg_client.specs.Replica.{State}
 use Rattle.cg_stored.specs.Stored.{stable_of}
 use Rattle.cg_store.specs.Stands.{Standing, Stands}

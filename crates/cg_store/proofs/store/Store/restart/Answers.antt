@@ -1,16 +1,14 @@
-use Rattle.std.proofs.Common.{◌≡◌, ℕ, suc, ◌+◌, List, [], Err, refl, sym, ◌∙◌, ap, subst, arith}
+use Rattle.std.proofs.Common.{◌≡◌, suc, ◌+◌, Err, sym, subst, arith}
 use Rattle.std.specs.Prelude.{Some}
 use Rattle.cg_disk.specs.Sides.{opposite}
 use Rattle.cg_disk.specs.View.{LeavesOnly}
 use Rattle.cg_journal.specs.Answers.{with_record_alone, IsDone, IsRestarting, Restarts, EachMoment as EachJournalMoment}
-use Rattle.cg_journal.specs.declared.journal.AppendErr.TheVariants.{Lost as AppendLost, NoMemory as AppendNoMemory}
 use Rattle.cg_records.specs.Limits.{IsNumber}
 use Rattle.cg_stored.specs.Parts.{checkpoint_in}
 use Rattle.cg_store.specs.Stands.{Standing, Stands, moved}
 use Rattle.cg_store.specs.Kept.{Kept, IsStore}
 use Rattle.cg_store.specs.Answers.{EachMoment}
 use Rattle.cg_store.specs.Calls.{IsEither, Moves}
-use Rattle.cg_store.specs.declared.errors.CommitErr.TheVariants.{Lost, NoMemory}
 use Rattle.cg_store.proofs.Appending.{standing_at, moved_held, moved_moments, moved_fails, moved_fails_moments}
 use Rattle.cg_store.proofs.store.Store.restart.Goals as goal
 

@@ -1,4 +1,4 @@
-use Rattle.std.proofs.Common.{◌≡◌, List, [], Err, refl, sym, ◌∙◌, ap, subst, arith}
+use Rattle.std.proofs.Common.{◌≡◌, [], Err, refl, sym, subst}
 use Rattle.cg_journal.specs.Records.{records}
 use Rattle.cg_journal.specs.Adds.{IsEither as IsOneOf}
 use Rattle.cg_journal.specs.Answers.{with_record, IsDone, Appends, EachMoment as EachJournalMoment}
