@@ -11,11 +11,13 @@ use Rattle.cg_agree.specs.Small.{Small, Starts, Makes, Enters, Orders, Receives,
 use Rattle.cg_agree.specs.Smalls.{may_make}
 use Rattle.cg_agree.proofs.AttemptFactsKept.{IsSaidNow, AttemptsNow, attempts-now}
 use Rattle.cg_agree.proofs.AttemptListKept.{attempt_list-kept}
+use Rattle.cg_agree.proofs.CountsMove.{left_out-kept}
 use Rattle.cg_agree.proofs.CoreKept.{Fits, cores_core-kept}
 use Rattle.cg_agree.proofs.ExchangeKept.{exchange_progress-kept}
 use Rattle.cg_agree.proofs.ListEntered.{PartsBooked}
 use Rattle.cg_agree.proofs.PartsKept.{attempt_shape-kept}
 use Rattle.cg_agree.proofs.PlanThere.{end-fits}
+use Rattle.cg_agree.proofs.YellowValidKept.{yellow_valid-kept}
 use Rattle.cg_agree.proofs.TalkFactsKept.{talk_legal-kept, sent_iff_due-kept, mode_fits-kept}
 
 -- what is said, and what members hold in exchanges, behind each small step
@@ -63,6 +65,8 @@ attempt_facts-kept c s i may rest ask =
     record {
       attempt_shape = attempt_shape-kept c s i may (talk_legal-kept c s i may);
       attempt_list = attempt_list-kept c s i may ask.parts;
+      yellow_valid = yellow_valid-kept c s i may i.attempt.yellow_valid;
+      left_out = left_out-kept c s i may rest i.attempt.left_out;
       levels_stand = now.levels_stand;
       announced_entered = now.announced_entered;
       installed_announced = now.installed_announced;

@@ -88,7 +88,7 @@ stood-turning c p part q = at (seat_of c.world p) where
   at None = refl
   at (Some s) = life s.life
 
-start-turning : (c : Chronicle) (p : ℕ) (part : Turn → Turn) → (turning c p part).start ≡ c.start
+pub start-turning : (c : Chronicle) (p : ℕ) (part : Turn → Turn) → (turning c p part).start ≡ c.start
 start-turning c p part = at (seat_of c.world p) where
   life : (l : Life) → (turning_as c p part l).start ≡ c.start
   life (Up r disk) = refl
@@ -314,7 +314,7 @@ told-before : (c d : Chronicle) → d.told ≡ c.told → d.start ≡ c.start �
 told-before c d told start old k q =
     subst (λ o. IfSome o (WasEver d.start q)) (sym (told_in-same c d told k q)) (subst (λ st. IfSome (told_in c k q) (WasEver st q)) (sym start) (old.told k q))
 
-start-joins : (c : Chronicle) (joiner : ℕ) → (small_step c (Joins joiner)).start ≡ c.start
+pub start-joins : (c : Chronicle) (joiner : ℕ) → (small_step c (Joins joiner)).start ≡ c.start
 unfolding small_step
 start-joins c joiner = at (snapshot_of c.world joiner) where
   at : (o : Option Snapshot) → (option_map_or (λ s. join_with c joiner s.content) o c).start ≡ c.start

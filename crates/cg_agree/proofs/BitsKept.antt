@@ -61,13 +61,13 @@ use Rattle.cg_agree.proofs.ChronicleFacts.{seat_of-set}
 -- ---- a witness stays one
 
 -- who is in no phase of the configuration doesn't leave it, and doesn't install there
-in-at : (conf : ℕ) (phase : Phase) → 0 < conf → conf ≡ conf_at phase → is_at conf phase ≡ true
+pub in-at : (conf : ℕ) (phase : Phase) → 0 < conf → conf ≡ conf_at phase → is_at conf phase ≡ true
 in-at conf Down some here = absurd (omega arith)
 in-at conf Alone some here = absurd (omega arith)
 in-at conf (Regular k) some here = eq-eqb k conf (sym here)
 in-at conf (Transitional k set) some here = eq-eqb k conf (sym here)
 
-leaver-other : (p n q : ℕ) (a : Attempt) → (p == q) ≡ false → left_count (with_leaver p n a) q ≡ left_count a q
+pub leaver-other : (p n q : ℕ) (a : Attempt) → (p == q) ≡ false → left_count (with_leaver p n a) q ≡ left_count a q
 leaver-other p n q a other =
     cond_both (has a.entered p) (record a { left = a.left ++ record { member = p; count = n } ∷ [] }) a (λ (x : Attempt). left_count x q ≡ left_count a q)
     (λ y. ap (λ (o : Option Leaving). option_map_or (λ l. l.count) o 0) (behind a.left)) (λ n. refl) where

@@ -98,7 +98,7 @@ pub record IsCounted (book : List Action) (old : Held) (t : Turn) : Type 0 where
   pub own : OwnRuns t.replica.held
 
 -- one action more
-all-own : (me : ℕ) (own : List Action) (a : Action) → are_of me own ≡ true → a.id.creator ≡ me → are_of me (own ++ a ∷ []) ≡ true
+pub all-own : (me : ℕ) (own : List Action) (a : Action) → are_of me own ≡ true → a.id.creator ≡ me → are_of me (own ++ a ∷ []) ≡ true
 all-own me [] a mine of_me = and_from (a.id.creator == me) true (eq-eqb a.id.creator me of_me) refl
 all-own me (b ∷ own) a mine of_me =
     let parts = and_parts (b.id.creator == me) (are_of me own) mine in

@@ -29,12 +29,12 @@ use Rattle.cg_agree.proofs.MadeOnceKept.{made_once-kept}
 
 -- ---- the greatest of numbers is one of them
 
-record IsReached (f : ℕ → ℕ) (set : List ℕ) (n : ℕ) : Type 0 where
+pub record IsReached (f : ℕ → ℕ) (set : List ℕ) (n : ℕ) : Type 0 where
   pub by : ℕ
   pub there : has set by ≡ true
   pub is : f by ≡ n
 
-greatest-from : (f : ℕ → ℕ) (set : List ℕ) (m : ℕ) → (fold max m (map f set) ≡ m) ⊎ IsReached f set (fold max m (map f set))
+pub greatest-from : (f : ℕ → ℕ) (set : List ℕ) (m : ℕ) → (fold max m (map f set) ≡ m) ⊎ IsReached f set (fold max m (map f set))
 greatest-from f [] m = inl refl
 greatest-from f (p ∷ set) m = elim (greatest-from f set (max m (f p))) [
   | inr on ↦ inr (record { by = on.by; there = or_right (p == on.by) (has set on.by) on.there; is = on.is })

@@ -29,6 +29,15 @@ pub record IsClosed (Q : Held → List Action → Type 0) : Type 0 where
   pub recovers : (h : Held) (all : List Action) → Q h all → Q (recover_disk h).replica.held all
   pub joins : (p : ℕ) (h : Held) (all : List Action) → Q h all → Q (joined p h).held all
 
+-- but for a joiner's
+pub record IsHeldClosed (Q : Held → List Action → Type 0) : Type 0 where
+  pub whitened : (h : Held) (all : List Action) → Q h all → Q (whiten h) all
+  pub stored : (h : Held) (all : List Action) → Q h all → Q (stored_of h) all
+  pub recovers : (h : Held) (all : List Action) → Q h all → Q (recover_disk h).replica.held all
+
+pub held-closed : (Q : Held → List Action → Type 0) → IsClosed Q → IsHeldClosed Q
+held-closed Q closed = record { whitened = closed.whitened; stored = closed.stored; recovers = closed.recovers }
+
 -- a weaker fact
 pub cores-weaker : (P Q : Held → List Action → Type 0) (c : Chronicle) → ((h : Held) (all : List Action) → P h all → Q h all) → OfCores c P → OfCores c Q
 cores-weaker P Q c weaker f = record {
@@ -138,7 +147,7 @@ struck-greens : (o : Option Past) → greens-in (option_map struck o) ≡ stood-
 struck-greens None = refl
 struck-greens (Some x) = refl
 
-pub commit-cores : (Q : Held → List Action → Type 0) (c : Chronicle) (p : ℕ) → IsClosed Q → OfCores c Q → OfCores (commit c p) Q
+pub commit-cores : (Q : Held → List Action → Type 0) (c : Chronicle) (p : ℕ) → IsHeldClosed Q → OfCores c Q → OfCores (commit c p) Q
 commit-cores Q c p closed f = at (seat_of c.world p) refl where
   done : (r : Replica) (disk : Disk) → seat_of c.world p ≡ Some (record { id = p; life = Up r disk }) → OfCores (commit_as c p (Up r disk)) Q
   done r disk seat =
@@ -190,7 +199,7 @@ crash-cores Q c p left f = at (seat_of c.world p) refl left where
 
 -- of a replica that is down what is noted as green is what stands on its disk
 pub recover-cores : (Q : Held → List Action → Type 0) (c : Chronicle) (p : ℕ) → ((q : ℕ) → IfSome (disk_held c.world q) (λ h. h.id ≡ q)) →
-    ((q : ℕ) → replica_of c.world q ≡ None → greens_of c q ≡ stood_of c q) → IsClosed Q → OfCores c Q → OfCores (recover c p) Q
+    ((q : ℕ) → replica_of c.world q ≡ None → greens_of c q ≡ stood_of c q) → IsHeldClosed Q → OfCores c Q → OfCores (recover c p) Q
 recover-cores Q c p own down closed f = at (seat_of c.world p) refl where
   done : (disk : Disk) (green : List ActionId) → seat_of c.world p ≡ Some (record { id = p; life = Down disk green }) → OfCores (recover_as c (Down disk green)) Q
   done disk green seat =
@@ -215,12 +224,12 @@ recover-cores Q c p own down closed f = at (seat_of c.world p) refl where
   at None e = f
   at (Some s) e = life s s.life refl e
 
-pub copy-cores : (Q : Held → List Action → Type 0) (c : Chronicle) (p joiner : ℕ) → IsClosed Q → OfCores c Q → OfCores (copy c p joiner) Q
-copy-cores Q c p joiner closed f = at (replica_of c.world p) (f.memory p) where
+pub copy-cores : (Q : Held → List Action → Type 0) (c : Chronicle) (p joiner : ℕ) → ((h : Held) (all : List Action) → Q h all → Q (joined joiner h).held all) → OfCores c Q → OfCores (copy c p joiner) Q
+copy-cores Q c p joiner joins f = at (replica_of c.world p) (f.memory p) where
   taken : (r : Replica) → Q r.held (greens_of c p) → (q : ℕ) →
       (let d = copy_as c p joiner r in IfSome (snapshot_of d.world q) (λ s. Q (joined q s.content).held (copied_for d q)))
   taken r is q = elim (cases_eq joiner q) [
-    | inl same ↦ rw (eq-eqb joiner q same) (closed.joins q r.held (greens_of c p) is)
+    | inl same ↦ rw (eq-eqb joiner q same) (subst (λ n. Q (joined n r.held).held (greens_of c p)) same (joins r.held (greens_of c p) is))
     | inr apart ↦ rw (ne_eqb joiner q apart)
         (subst (λ (o : Option Snapshot). IfSome o (λ s. Q (joined q s.content).held (option_map_or (λ x. x.greens) (find (λ x. x.joiner == q) (filter (λ x. not (x.joiner == joiner)) c.copies)) [])))
         (sym (found-without (λ (s : Snapshot). s.joiner) joiner q c.world.snapshots apart))

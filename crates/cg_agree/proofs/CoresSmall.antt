@@ -23,7 +23,7 @@ use Rattle.cg_agree.specs.FactsReplica.{DiskBehind}
 use Rattle.cg_agree.proofs.CrashCopies.{crash-left}
 use Rattle.cg_agree.proofs.OneselfWorld.{HavePasts, reseated}
 use Rattle.cg_agree.proofs.OneselfCopies.{found-without}
-use Rattle.cg_agree.proofs.CoresKept.{IsClosed, TurnKeeps, turning-cores, commit-cores, crash-cores, recover-cores, copy-cores, SnapshotsKeep}
+use Rattle.cg_agree.proofs.CoresKept.{IsClosed, IsHeldClosed, held-closed, TurnKeeps, turning-cores, commit-cores, crash-cores, recover-cores, copy-cores, SnapshotsKeep}
 
 -- ---- a joiner begins
 
@@ -166,28 +166,52 @@ nil-is : {X : Type 0} (xs : List X) → is_nil xs ≡ true → xs ≡ []
 nil-is [] e = refl
 nil-is (x ∷ xs) e = absurd (let clash : false ≡ true = e in cc)
 
-pub cores-kept : (Q : Held → List Action → Type 0) (c : Chronicle) (s : Small) → IsReady c → may_make c s ≡ true → IsClosed Q → StepKeeps c s Q → OfCores c Q → OfCores (small_step c s) Q
+-- what a new copy has to keep
+abbrev pub JoinsKeep : Chronicle → Small → (Held → List Action → Type 0) → Type 0
+JoinsKeep c (Copies p joiner) Q = (h : Held) (all : List Action) → Q h all → Q (joined joiner h).held all
+JoinsKeep c _ Q = Unit {0}
+
+joins-all : (c : Chronicle) (s : Small) (Q : Held → List Action → Type 0) → IsClosed Q → JoinsKeep c s Q
+joins-all c (Copies p joiner) Q closed = closed.joins joiner
+joins-all c (Starts set) Q closed = tt
+joins-all c (Makes set) Q closed = tt
+joins-all c (Enters p) Q closed = tt
+joins-all c (Orders p) Q closed = tt
+joins-all c (Receives p place) Q closed = tt
+joins-all c (Hands p) Q closed = tt
+joins-all c (Leaves p set own places) Q closed = tt
+joins-all c (Asks p kind) Q closed = tt
+joins-all c (Settles p) Q closed = tt
+joins-all c (Commits p) Q closed = tt
+joins-all c (Crashes p) Q closed = tt
+joins-all c (Recovers p) Q closed = tt
+joins-all c (Joins joiner) Q closed = tt
+
+pub cores-kept-given : (Q : Held → List Action → Type 0) (c : Chronicle) (s : Small) → IsReady c → may_make c s ≡ true → IsHeldClosed Q → JoinsKeep c s Q → StepKeeps c s Q → OfCores c Q → OfCores (small_step c s) Q
 unfolding small_step may_make
-cores-kept Q c (Starts set) ready may closed keeps f = subst (λ (c : Chronicle). OfCores (start c set) Q) (sym (ready.before (nil-is c.world.seats (and_parts (is_nil c.world.seats) (is_set (ids set)) may).0))) (start-cores Q set keeps)
-cores-kept Q c (Makes set) ready may closed keeps f = record { memory = f.memory; disk = f.disk; snapshot = f.snapshot }
-cores-kept Q c (Enters p) ready may closed keeps f = turning-cores Q (coming c p) p (take_newest c.world.group) ready.pasts keeps (record { memory = f.memory; disk = f.disk; snapshot = f.snapshot })
-cores-kept Q c (Orders p) ready may closed keeps f = record { memory = f.memory; disk = f.disk; snapshot = f.snapshot }
-cores-kept Q c (Receives p place) ready may closed keeps f = record { memory = f.memory; disk = f.disk; snapshot = f.snapshot }
-cores-kept Q c (Hands p) ready may closed keeps f = turning-cores Q (handed_next c p) p (take_next c.world.group p) ready.pasts keeps (record { memory = f.memory; disk = f.disk; snapshot = f.snapshot })
-cores-kept Q c (Leaves p set own places) ready may closed keeps f = turning-cores Q (leaving c p set own) p (take_parting c.world.group p set places) ready.pasts keeps (record { memory = f.memory; disk = f.disk; snapshot = f.snapshot })
-cores-kept Q c (Asks p kind) ready may closed keeps f = turning-cores Q c p (take_request kind) ready.pasts keeps f
-cores-kept Q c (Settles p) ready may closed keeps f = turning-cores Q c p settle ready.pasts keeps f
-cores-kept Q c (Commits p) ready may closed keeps f = commit-cores Q c p closed f
-cores-kept Q c (Crashes p) ready may closed keeps f = crash-cores Q c p left f where
+cores-kept-given Q c (Starts set) ready may closed joins keeps f = subst (λ (c : Chronicle). OfCores (start c set) Q) (sym (ready.before (nil-is c.world.seats (and_parts (is_nil c.world.seats) (is_set (ids set)) may).0))) (start-cores Q set keeps)
+cores-kept-given Q c (Makes set) ready may closed joins keeps f = record { memory = f.memory; disk = f.disk; snapshot = f.snapshot }
+cores-kept-given Q c (Enters p) ready may closed joins keeps f = turning-cores Q (coming c p) p (take_newest c.world.group) ready.pasts keeps (record { memory = f.memory; disk = f.disk; snapshot = f.snapshot })
+cores-kept-given Q c (Orders p) ready may closed joins keeps f = record { memory = f.memory; disk = f.disk; snapshot = f.snapshot }
+cores-kept-given Q c (Receives p place) ready may closed joins keeps f = record { memory = f.memory; disk = f.disk; snapshot = f.snapshot }
+cores-kept-given Q c (Hands p) ready may closed joins keeps f = turning-cores Q (handed_next c p) p (take_next c.world.group p) ready.pasts keeps (record { memory = f.memory; disk = f.disk; snapshot = f.snapshot })
+cores-kept-given Q c (Leaves p set own places) ready may closed joins keeps f = turning-cores Q (leaving c p set own) p (take_parting c.world.group p set places) ready.pasts keeps (record { memory = f.memory; disk = f.disk; snapshot = f.snapshot })
+cores-kept-given Q c (Asks p kind) ready may closed joins keeps f = turning-cores Q c p (take_request kind) ready.pasts keeps f
+cores-kept-given Q c (Settles p) ready may closed joins keeps f = turning-cores Q c p settle ready.pasts keeps f
+cores-kept-given Q c (Commits p) ready may closed joins keeps f = commit-cores Q c p closed f
+cores-kept-given Q c (Crashes p) ready may closed joins keeps f = crash-cores Q c p left f where
   left : SnapshotsKeep (crash c p) Q
   left joiner = elim (ready.left p joiner) [
     | inl none ↦ subst (λ (o : Option Snapshot). IfSome o (λ s. Q (joined joiner s.content).held (copied_for (crash c p) joiner))) (sym none) tt
     | inr same ↦ subst (λ (o : Option Snapshot). IfSome o (λ s. Q (joined joiner s.content).held (copied_for (crash c p) joiner))) (sym same.0)
         (subst (λ xs. IfSome (snapshot_of c.world joiner) (λ s. Q (joined joiner s.content).held xs)) (sym same.1) (f.snapshot joiner))
   ]
-cores-kept Q c (Recovers p) ready may closed keeps f = recover-cores Q c p ready.own ready.down closed f
-cores-kept Q c (Copies p joiner) ready may closed keeps f = copy-cores Q c p joiner closed f
-cores-kept Q c (Joins joiner) ready may closed keeps f = join-cores Q c joiner ready.pasts may f
+cores-kept-given Q c (Recovers p) ready may closed joins keeps f = recover-cores Q c p ready.own ready.down closed f
+cores-kept-given Q c (Copies p joiner) ready may closed joins keeps f = copy-cores Q c p joiner joins f
+cores-kept-given Q c (Joins joiner) ready may closed joins keeps f = join-cores Q c joiner ready.pasts may f
+
+pub cores-kept : (Q : Held → List Action → Type 0) (c : Chronicle) (s : Small) → IsReady c → may_make c s ≡ true → IsClosed Q → StepKeeps c s Q → OfCores c Q → OfCores (small_step c s) Q
+cores-kept Q c s ready may closed keeps f = cores-kept-given Q c s ready may (held-closed Q closed) (joins-all c s Q closed) keeps f
 
 -- the facts make it ready
 pub ready-of : (c : Chronicle) → Seated c → DiskBehind c → IsReady c

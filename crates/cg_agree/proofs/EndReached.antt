@@ -106,7 +106,7 @@ module _ (c : Chronicle) (p : ℕ) (i : Invariant c) (may : may_make c (Hands p)
       ∙ ap (λ (o : Option Seat). option_and_then (λ s. running s.life) o) (seat_of-set (handed_next c p).world p (Up (new c p i n) n.disk) p
       ∙ cond-true (p == p) (Some (record { id = p; life = Up (new c p i n) n.disk })) (seat_of c.world p) (eq-eqb p p refl))
 
-  greens-now : greens_of d p ≡ greens_of c p ++ newly_green n.replica (new c p i n)
+  pub greens-now : greens_of d p ≡ greens_of c p ++ newly_green n.replica (new c p i n)
   greens-now = ap (λ (x : Chronicle). greens_of x p) turn-now ∙ greens-turn (handed_next c p) p n.replica n.disk (take_next c.world.group p (begin n.replica)) i.net.seated.past n.seat
 
   regular-now : is_regular_in d conf p ≡ true
@@ -137,14 +137,14 @@ module _ (c : Chronicle) (p : ℕ) (i : Invariant c) (may : may_make c (Hands p)
   told = each-told c conf heard end.each
 
   -- what the best of them told, and that the member has its greens now
-  record Best : Type 0 where
+  pub record Best : Type 0 where
     pub summary : Summary
     pub most : most_updated heard ≡ Some summary
     pub told_by : Told
     pub found : told_in c conf summary.id ≡ Some told_by
     pub greens : greens_of d p ≡ told_by.greens
 
-  best-now : Best
+  pub best-now : Best
   best-now = of_told (told_in d conf p) (subst (λ (s : State). IsSomeWith (told_in d conf p) (λ t. IsInExchange d conf t (new c p i n).held (greens_of d p) s)) decided.state
       (subst (λ (o : Option Replica). IfSome o (λ r. IsSomeWith (told_in d conf p) (λ t. IsInExchange d conf t r.held (greens_of d p) r.state))) up-now (progress conf p regular-now))) where
         of_best : (t : Told) (o : Option Summary) → most_updated heard ≡ o → IsSomeWith (option_and_then (λ s. told_in d conf s.id) o) (λ best. HasTakenOver heard best t (new c p i n).held (greens_of d p)) → Best

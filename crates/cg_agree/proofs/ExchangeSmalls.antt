@@ -68,14 +68,14 @@ greens-creates : (list : List Kind) (t : Turn) → (fold create t list).replica.
 greens-creates [] t = refl
 greens-creates (kind ∷ list) t = greens-creates list (create t kind) ∙ greens-create t kind
 
-greens-settle : (t : Turn) → (settle t).replica.held.queue.greens ≡ t.replica.held.queue.greens
+pub greens-settle : (t : Turn) → (settle t).replica.held.queue.greens ≡ t.replica.held.queue.greens
 unfolding create_kept
 greens-settle t = at (is_creating t.replica.state) where
   at : (b : Bool) → (cond b (create_kept t) t).replica.held.queue.greens ≡ t.replica.held.queue.greens
   at true = greens-creates t.replica.held.buffered (empty_buffer t)
   at false = refl
 
-greens-request : (t : Turn) (kind : Kind) → (request t kind).replica.held.queue.greens ≡ t.replica.held.queue.greens
+pub greens-request : (t : Turn) (kind : Kind) → (request t kind).replica.held.queue.greens ≡ t.replica.held.queue.greens
 greens-request t kind = at t.replica.state where
   at : (state : State) → (request_in state t kind).replica.held.queue.greens ≡ t.replica.held.queue.greens
   at RegPrim = greens-create t kind

@@ -2,7 +2,7 @@
 use Rattle.std.proofs.Common.{◌≡◌, ℕ, zero, suc, pred, Bool, true, false, not, List, [], ◌∷◌, ◌++◌, Option, Some, None, map, filter, fold, sym, subst, arith}
 use Rattle.std.specs.Prelude.{◌==◌}
 use Rattle.std.specs.Option.{option_map_or}
-use Rattle.std.proofs.lemmas.Bool.{cond_both}
+use Rattle.std.proofs.lemmas.Bool.{cond_both, and_parts}
 use Rattle.cg_base.specs.declared.weighted.Weighted.{Weighted}
 use Rattle.cg_base.specs.Lists.{at_place}
 use Rattle.cg_base.specs.Weights.{ids}
@@ -16,7 +16,7 @@ use Rattle.cg_client.specs.Turn.{Turn, begin}
 use Rattle.cg_client.specs.Requests.{settle}
 use Rattle.cg_stored.specs.Stored.{stored_of, whiten}
 use Rattle.cg_step.specs.Crash.{Disk, new_disk, crash_now, recovered, disk_recovered}
-use Rattle.cg_agree.specs.World.{Life, Up, Down, Seat, Snapshot, World, seat_of, replica_of, set_life, bring_up}
+use Rattle.cg_agree.specs.World.{Life, Up, Down, Seat, Snapshot, World, has_begun, seat_of, replica_of, set_life, bring_up}
 use Rattle.cg_agree.specs.Step.{begin_replica, name_also, joined, without_snapshot}
 use Rattle.cg_agree.specs.Chronicle.{Chronicle}
 use Rattle.cg_agree.specs.Looks.{snapshot_of}
@@ -177,7 +177,7 @@ lists-in w (Recovers p) may is = at (seat_of w p) where
   at : (o : Option Seat) → AreLists (option_map_or (λ s. recover_in w s.life) o w)
   at None = is
   at (Some s) = life-lists s.life
-lists-in w (Copies p joiner) may is = at (replica_of w p) may where
+lists-in w (Copies p joiner) may is = at (replica_of w p) (and_parts (not (has_begun w joiner)) (option_map_or (λ (r : Replica). is_server r.held.members joiner) (replica_of w p) false) may).1 where
   at : (o : Option Replica) → option_map_or (λ (r : Replica). is_server r.held.members joiner) o false ≡ true → AreLists (option_map_or (copy_in w p joiner) o w)
   at None server = is
   at (Some r) server = record { seats = is.seats; keyed = is.keyed; served = (server, served-filtered (λ s. not (s.joiner == joiner)) w.snapshots is.served) }

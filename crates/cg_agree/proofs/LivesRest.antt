@@ -148,7 +148,7 @@ turn-rests r disk input rests own none new = end-cases disk r.held t (λ e. Life
 -- ---- who begins, and who comes up from a disk
 
 -- what a red mark leaves
-record LeavesRest (old new : Held) : Type 0 where
+pub record LeavesRest (old new : Held) : Type 0 where
   pub white : new.queue.white ≡ old.queue.white
   pub green_cut : new.queue.green_cut ≡ old.queue.green_cut
   pub yellow : new.queue.yellow ≡ old.queue.yellow
@@ -170,7 +170,7 @@ reddened-rest (a ∷ list) t =
     let rest = reddened-rest list (redden t a) in
     record { white = rest.white ∙ one.white; green_cut = rest.green_cut ∙ one.green_cut; yellow = rest.yellow ∙ one.yellow }
 
-own-rest : (t : Turn) → LeavesRest t.replica.held (own_to_red t).replica.held
+pub own-rest : (t : Turn) → LeavesRest t.replica.held (own_to_red t).replica.held
 unfolding own_to_red
 own-rest t = let rest = reddened-rest t.replica.held.own (forget_own t) in record { white = rest.white; green_cut = rest.green_cut; yellow = rest.yellow }
 

@@ -285,7 +285,7 @@ module _ (w : World) (p joiner pieces : ℕ) (r : Replica) (is : replica_of w p 
       let first : option_map_or (copy_in w p joiner) (replica_of w p) w ≡ copy_in w p joiner r = ap (λ (o : Option Replica). option_map_or (copy_in w p joiner) o w) is in
       let may : option_map_or (λ (r : Replica). is_server r.held.members joiner) (replica_of w p) false ≡ true = ap (λ (o : Option Replica). option_map_or (λ r. is_server r.held.members joiner) o false) is ∙ server in
       rw steps (
-        (may, subst (λ v. MayIn v (ending w p joiner pieces r once begun new)) (sym first) on.0),
+        (ap₂ (λ a b. not a && b) begun may, subst (λ v. MayIn v (ending w p joiner pieces r once begun new)) (sym first) on.0),
         subst (λ v. IsSame (played_in v (ending w p joiner pieces r once begun new)) event_world) (sym first)
             (event-same new (played_in (copy_in w p joiner r) (ending w p joiner pieces r once begun new)) for on.1),
       )

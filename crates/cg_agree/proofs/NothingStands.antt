@@ -130,6 +130,8 @@ attempt : AttemptFacts no_chronicle
 attempt = record {
   attempt_shape = λ conf. tt;
   attempt_list = λ p. tt;
+  yellow_valid = λ p. tt;
+  left_out = λ conf p here. refl;
   levels_stand = record { opened = λ level less. absurd (omega arith); opens = λ conf. tt; known = record { memory = λ p. tt; disk = λ p. tt; snapshot = λ joiner. tt } };
   announced_entered = λ conf p some. absurd (let none = ap (λ xs. length (filter_map announcer_in xs)) (said-none conf p) in omega arith);
   installed_announced = λ conf p e. never e;

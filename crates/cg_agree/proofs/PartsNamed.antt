@@ -33,7 +33,7 @@ use Rattle.cg_agree.proofs.YellowMeets.{reds-named}
 -- ---- yellow
 
 -- names of reds are those of the actions that they stand for
-actions-names : (q : QueueView) (ids : List ActionId) → list_all (names (names_of q.reds)) ids ≡ true → names_of (actions_named q ids) ≡ ids
+pub actions-names : (q : QueueView) (ids : List ActionId) → list_all (names (names_of q.reds)) ids ≡ true → names_of (actions_named q ids) ≡ ids
 actions-names q [] named = refl
 actions-names q (id ∷ ids) named =
     let parts = and_parts (names (names_of q.reds) id) (list_all (names (names_of q.reds)) ids) named in

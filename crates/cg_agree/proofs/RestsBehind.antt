@@ -103,7 +103,7 @@ module _ (r : Replica) where
 abbrev pub BringsNew : World → ℕ → Input → Type 0
 BringsNew w p input = (r : Replica) → replica_of w p ≡ Some r → IsNewIn r input
 
-handed-ids : (f : ℕ → Handed Msg) → ((q : ℕ) → (f q).to ≡ q) → (set : List ℕ) (low : ℕ) → IsRising low set → IsRising low (map (λ h. h.to) (map f set))
+pub handed-ids : (f : ℕ → Handed Msg) → ((q : ℕ) → (f q).to ≡ q) → (set : List ℕ) (low : ℕ) → IsRising low set → IsRising low (map (λ h. h.to) (map f set))
 handed-ids f same [] low rise = tt
 handed-ids f same (p ∷ set) low rise =
     (subst (λ n. low ≤ n) (sym (same p)) rise.0, subst (λ n. IsRising (suc n) (map (λ h. h.to) (map f set))) (sym (same p)) (handed-ids f same set (suc p) rise.1))
@@ -112,7 +112,7 @@ each-handed : (Q : ℕ → Input → Type 0) (f : ℕ → Handed Msg) → ((q : 
 each-handed Q f each [] = tt
 each-handed Q f each (p ∷ set) = (each p, each-handed Q f each set)
 
-split-to : (g : GroupState Msg) (set : List ℕ) (q : ℕ) → (handed_in_split g set q).to ≡ q
+pub split-to : (g : GroupState Msg) (set : List ℕ) (q : ℕ) → (handed_in_split g set q).to ≡ q
 unfolding handed_in_split
 split-to g set q = refl
 

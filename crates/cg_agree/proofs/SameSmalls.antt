@@ -364,7 +364,7 @@ may-same-at w v g is (Settles p) = ap is_some (is.running p)
 may-same-at w v g is (Commits p) = ap is_some (is.running p)
 may-same-at w v g is (Crashes p) = ap is_some (is.running p)
 may-same-at w v g is (Recovers p) = ap₂ (λ a (o : Option Replica). a && not (is_some o)) (begun-shared w v is p) (is.running p)
-may-same-at w v g is (Copies p joiner) = ap (λ (o : Option Replica). option_map_or (λ r. is_server r.held.members joiner) o false) (is.running p)
+may-same-at w v g is (Copies p joiner) = ap₂ (λ a (o : Option Replica). not a && option_map_or (λ r. is_server r.held.members joiner) o false) (begun-shared w v is joiner) (is.running p)
 may-same-at w v g is (Joins joiner) =
     ap₂ (λ a b. not a && b) (begun-shared w v is joiner)
     (sym (of-given (snapshot_of w joiner)) ∙ ap (λ (o : Option Given). option_map_or (λ x. is_server x.content.members joiner) o false) (first-given w.snapshots v.snapshots is.given joiner) ∙ of-given (snapshot_of v joiner)) where

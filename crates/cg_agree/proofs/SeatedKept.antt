@@ -228,7 +228,7 @@ someone c (Settles p) none sound m = (p, running-begun c p m)
 someone c (Commits p) none sound m = (p, running-begun c p m)
 someone c (Crashes p) none sound m = (p, running-begun c p m)
 someone c (Recovers p) none sound m = (p, (and_parts (has_begun c.world p) (not (is_running c p)) m).0)
-someone c (Copies p joiner) none sound m = (p, running-begun c p (given-runs (replica_of c.world p) m)) where
+someone c (Copies p joiner) none sound m = (p, running-begun c p (given-runs (replica_of c.world p) (and_parts (not (has_begun c.world joiner)) (option_map_or (λ (r : Replica). is_server r.held.members joiner) (replica_of c.world p) false) m).1)) where
   given-runs : (o : Option Replica) → option_map_or (λ r. is_server r.held.members joiner) o false ≡ true → is_some o ≡ true
   given-runs None e = e
   given-runs (Some r) e = refl

@@ -1,5 +1,5 @@
 -- Facts about attempts to form a primary component: what each makes green, who has ended it, and when it is over.
-use Rattle.std.specs.Prelude.{◌≡◌, ℕ, suc, ◌≤◌, ◌<◌, nat_le, Bool, true, false, not, ◌&&◌, List, [], ◌∷◌, Option, Some, None, map, filter, filter_map, flat_map, length, IsTrue, IfSome}
+use Rattle.std.specs.Prelude.{◌≡◌, ℕ, suc, ◌≤◌, ◌<◌, ◌==◌, nat_le, Bool, true, false, not, ◌&&◌, List, [], ◌∷◌, Option, Some, None, find, map, filter, filter_map, flat_map, length, IsTrue, IfSome}
 use Rattle.std.specs.Option.{option_map_or}
 use Rattle.cg_base.specs.declared.action_id.ActionId.{ActionId}
 use Rattle.cg_base.specs.Cuts.{index_in}
@@ -72,6 +72,16 @@ abbrev pub AttemptList : Chronicle → Type 0
 AttemptList c =
     (p : ℕ) → IfSome (replica_of c.world p) (λ r.
     When (is_attempting r.state) (IsSomeWith (attempt_of c (conf_at (phase_of c.world.group p))) (HoldsParts r.held (greens_of c p))))
+
+-- in an attempt that isn't installed names are yellow only where the yellow list is valid
+abbrev pub YellowValid : Chronicle → Type 0
+YellowValid c =
+    (p : ℕ) → IfSome (replica_of c.world p) (λ r. When (is_attempting r.state) (r.held.yellow_valid ≡ false → r.held.queue.yellow ≡ []))
+
+-- who is in an attempt's configuration isn't noted as one who has left it
+abbrev pub LeftOut : Chronicle → Type 0
+LeftOut c =
+    (conf p : ℕ) → IsTrue (is_in c conf p) → find (λ l. l.member == p) (option_map_or (λ a. a.left) (attempt_of c conf) []) ≡ None
 
 -- ---- levels
 
@@ -161,6 +171,8 @@ OneAttempt c =
 pub record AttemptFacts (c : Chronicle) : Type 0 where
   pub attempt_shape : AttemptShape c
   pub attempt_list : AttemptList c
+  pub yellow_valid : YellowValid c
+  pub left_out : LeftOut c
   pub levels_stand : LevelsStand c
   pub announced_entered : AnnouncedEntered c
   pub installed_announced : InstalledAnnounced c

@@ -97,7 +97,7 @@ may_make c (Settles p) = is_running c p
 may_make c (Commits p) = is_running c p
 may_make c (Crashes p) = is_running c p
 may_make c (Recovers p) = has_begun c.world p && not (is_running c p)
-may_make c (Copies p joiner) = option_map_or (λ r. is_server r.held.members joiner) (replica_of c.world p) false
+may_make c (Copies p joiner) = not (has_begun c.world joiner) && option_map_or (λ r. is_server r.held.members joiner) (replica_of c.world p) false
 may_make c (Joins joiner) = may_join c joiner
 
 -- ---- which ones an event is made of

@@ -16,11 +16,11 @@ use Rattle.cg_audit.specs.TestsNet.{seated, phase_sound, receipts_inside, sender
 use Rattle.cg_audit.specs.TestsTalk.{talk_legal, sent_iff_due, heard_is_told, mode_fits, content, acts_numbered}
 use Rattle.cg_audit.specs.TestsReplica.{made_of_greens, contiguous, yellow_closed, mode_data, disk_behind, made_once, origins, lines_below, disk_agrees, buffer_empty}
 use Rattle.cg_audit.specs.TestsExchange.{summary_of_sender, summary_lines, tellers_still, exchange_progress}
-use Rattle.cg_audit.specs.TestsAttempts.{attempt_shape, attempt_list, levels_stand, announced_entered, installed_announced, act_installed, record_of_attempt, installed_index, bits_witness, dead_evidence, one_attempt}
+use Rattle.cg_audit.specs.TestsAttempts.{attempt_shape, attempt_list, yellow_valid, left_out, levels_stand, announced_entered, installed_announced, act_installed, record_of_attempt, installed_index, bits_witness, dead_evidence, one_attempt}
 use Rattle.cg_audit.specs.TestsGreens.{begins_with, primary_greens, installed_count, spine, one_order, trans_coverage, coverage}
 use Rattle.cg_audit.specs.TestsBooks.{lists_grow, order_book, made_book}
 use Rattle.cg_audit.specs.TestsWorlds.{is_same, at_rest, may_stand}
-use Rattle.cg_audit.specs.Fact.{Fact, SeatsRise, StandingsRise, ReceiversRise, JoinersAreServers, Seated, PhaseSound, ReceiptsInside, SenderClosed, HandedReceived, UnorderedRegular, MembersBegun, PastLeft, TalkLegal, SentIffDue, HeardIsTold, ModeFits, Content, ActsNumbered, MadeOfGreens, Contiguous, YellowClosed, ModeData, DiskBehind, MadeOnce, Origins, LinesBelow, SummaryOfSender, SummaryLines, TellersStill, ExchangeProgress, AttemptShape, AttemptList, LevelsStand, AnnouncedEntered, InstalledAnnounced, ActInstalled, RecordOfAttempt, InstalledIndex, BitsWitness, DeadEvidence, OneAttempt, BeginsWith, PrimaryGreens, InstalledCount, Spine, OneOrder, TransCoverage, Coverage, ReceiptsFixed, ListsGrow, DiskAgrees, BufferEmpty, OrderBook, MadeBook, MayMake, AtRest, IsSame, MayStand, IsAdmitted}
+use Rattle.cg_audit.specs.Fact.{Fact, SeatsRise, StandingsRise, ReceiversRise, JoinersAreServers, Seated, PhaseSound, ReceiptsInside, SenderClosed, HandedReceived, UnorderedRegular, MembersBegun, PastLeft, TalkLegal, SentIffDue, HeardIsTold, ModeFits, Content, ActsNumbered, MadeOfGreens, Contiguous, YellowClosed, ModeData, DiskBehind, MadeOnce, Origins, LinesBelow, SummaryOfSender, SummaryLines, TellersStill, ExchangeProgress, AttemptShape, AttemptList, YellowValid, LeftOut, LevelsStand, AnnouncedEntered, InstalledAnnounced, ActInstalled, RecordOfAttempt, InstalledIndex, BitsWitness, DeadEvidence, OneAttempt, BeginsWith, PrimaryGreens, InstalledCount, Spine, OneOrder, TransCoverage, Coverage, ReceiptsFixed, ListsGrow, DiskAgrees, BufferEmpty, OrderBook, MadeBook, MayMake, AtRest, IsSame, MayStand, IsAdmitted}
 
 -- the fact, where its test fails
 abbrev pub unless : Fact → Bool → List Fact
@@ -62,7 +62,8 @@ failing_exchange c =
 -- those of attempts
 abbrev failing_attempt : Chronicle → List Fact
 failing_attempt c =
-    unless AttemptShape (attempt_shape c) ++ unless AttemptList (attempt_list c) ++ unless LevelsStand (levels_stand c)
+    unless AttemptShape (attempt_shape c) ++ unless AttemptList (attempt_list c)
+    ++ unless YellowValid (yellow_valid c) ++ unless LeftOut (left_out c) ++ unless LevelsStand (levels_stand c)
     ++ unless AnnouncedEntered (announced_entered c) ++ unless InstalledAnnounced (installed_announced c)
     ++ unless ActInstalled (act_installed c) ++ unless RecordOfAttempt (record_of_attempt c)
     ++ unless InstalledIndex (installed_index c) ++ unless BitsWitness (bits_witness c) ++ unless DeadEvidence (dead_evidence c)

@@ -36,6 +36,8 @@ pub data Fact : Type 0 where
   ExchangeProgress : Fact
   AttemptShape : Fact
   AttemptList : Fact
+  YellowValid : Fact
+  LeftOut : Fact
   LevelsStand : Fact
   AnnouncedEntered : Fact
   InstalledAnnounced : Fact

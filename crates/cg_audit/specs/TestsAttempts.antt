@@ -1,5 +1,5 @@
 -- Tests of the facts about attempts.
-use Rattle.std.specs.Prelude.{ℕ, suc, ◌==◌, nat_lt, nat_le, Bool, true, not, ◌&&◌, ◌||◌, List, [], ◌∷◌, Option, Some, None, filter_map, length}
+use Rattle.std.specs.Prelude.{ℕ, suc, ◌==◌, nat_lt, nat_le, Bool, true, not, ◌&&◌, ◌||◌, List, [], ◌∷◌, Option, Some, None, is_none, find, filter_map, length}
 use Rattle.std.specs.List.{list_all}
 use Rattle.cg_base.specs.Ids.{same_ids}
 use Rattle.cg_base.specs.Lists.{at_place, count_up}
@@ -55,6 +55,14 @@ abbrev pub attempt_list : Chronicle → Bool
 attempt_list c =
     for_replicas c (λ p. if_some (replica_of c.world p) (λ r. implies (is_attempting r.state)
     (is_some_with (attempt_of c (conf_at (phase_of c.world.group p))) (holds_parts r.held (greens_of c p)))))
+
+abbrev pub yellow_valid : Chronicle → Bool
+yellow_valid c =
+    for_replicas c (λ p. if_some (replica_of c.world p) (λ r. implies (is_attempting r.state && not r.held.yellow_valid) (is_nil r.held.queue.yellow)))
+
+abbrev pub left_out : Chronicle → Bool
+left_out c =
+    for_both c (λ conf p. implies (is_in c conf p) (if_some (attempt_of c conf) (λ a. is_none (find (λ l. l.member == p) a.left))))
 
 -- the level was opened by an attempt from the one before it
 abbrev is_opened : Chronicle → ℕ → Bool

@@ -1,0 +1,117 @@
+-- Counts behind a small step of who was out of an attempt's configuration before it, and of who is in it with the greens that it had.
+use Rattle.std.proofs.Common.{◌≡◌, ℕ, ◌+◌, ◌≤◌, ◌<◌, true, false, take, length, Option, Some, None, IfSome, eqb, sym, ap, ◌∙◌, subst, inl, inr, arith, eq-eqb, eqb-true}
+use Rattle.std.specs.Prelude.{◌==◌}
+use Rattle.std.specs.Option.{option_map_or}
+use Rattle.std.proofs.lemmas.Bool.{or_cases, cond-true, cond-false, ne_eqb}
+use Rattle.cg_base.specs.Sets.{has}
+use Rattle.cg_base.specs.SetLaws.{has-with_member}
+use Rattle.cg_group.specs.Ready.{all_received}
+use Rattle.cg_group.specs.State.{phase_of}
+use Rattle.cg_agree.specs.Chronicle.{Attempt, Chronicle}
+use Rattle.cg_agree.specs.Fronts.{When}
+use Rattle.cg_agree.specs.Looks.{greens_of, is_at, is_in, conf_of, ordered_in, received_by_all, attempt_of, left_count, installation}
+use Rattle.cg_agree.specs.Talk.{acts_in}
+use Rattle.cg_agree.specs.Levels.{count_in}
+use Rattle.cg_agree.specs.FactsReplica.{has_installed}
+use Rattle.cg_agree.specs.Facts.{Invariant}
+use Rattle.cg_agree.specs.Small.{Small, small_step}
+use Rattle.cg_agree.specs.Smalls.{may_make}
+use Rattle.cg_agree.proofs.AttemptSteps.{attempt-step, group-of}
+use Rattle.cg_agree.proofs.AttemptsCame.{Came, Stayed, WasLeft, WasEntered, WasInstalled, WasMade, came}
+use Rattle.cg_agree.proofs.AttemptsGrow.{attempts-grow}
+use Rattle.cg_agree.proofs.BitsKept.{in-at, leaver-other}
+use Rattle.cg_agree.proofs.DeadKept.{said-attempt}
+use Rattle.cg_agree.proofs.HandSays.{find-holds}
+use Rattle.cg_agree.proofs.InstalledIndexKept.{same-installed}
+use Rattle.cg_agree.proofs.OutStays.{out-stays, said-number}
+use Rattle.cg_agree.proofs.Reach.{row-within, acts-more, take-front}
+use Rattle.cg_agree.proofs.ReachSteps.{goes_on-kept}
+use Rattle.cg_agree.proofs.ReachWorld.{when-is}
+use Rattle.cg_agree.proofs.ReceivedKept.{received-kept}
+use Rattle.cg_agree.proofs.SameAttempt.{same-installation}
+
+-- within the installation and what every member has received behind it
+abbrev pub IsCountedIn : Chronicle → ℕ → Attempt → ℕ → Type 0
+IsCountedIn c conf a p =
+    (length (installation a) ≤ count_in c a p) × (count_in c a p ≤ length (installation a) + length (acts_in (take (received_by_all c conf) (ordered_in c conf))))
+
+module _ (c : Chronicle) (s : Small) (i : Invariant c) (may : may_make c s ≡ true) (conf : ℕ) (a : Attempt) (found : attempt_of c conf ≡ Some a) where
+  abbrev d : Chronicle
+  d = small_step c s
+
+  said : 0 < length (ordered_in c conf)
+  said = said-attempt c conf a i found
+
+  conf-is : a.conf ≡ conf
+  conf-is = eqb-true a.conf conf (find-holds (λ (a : Attempt). a.conf == conf) c.attempts a found)
+
+  some-is : (x y : Attempt) → Some x ≡ Some y → x ≡ y
+  some-is x y e = ap (λ o. option_map_or (λ z. z) o x) e
+
+  old : (p : ℕ) → has a.installed p ≡ true → IsCountedIn c conf a p
+  old p installed = when-is (has a.installed p) (IsCountedIn c conf a p) installed
+      (subst (λ (o : Option Attempt). IfSome o (λ a. When (has_installed a p) (IsCountedIn c conf a p))) found (i.green.installed_count conf p))
+
+  -- what every member has received doesn't fall
+  pub acts-grow : length (acts_in (take (received_by_all c conf) (ordered_in c conf))) ≤ length (acts_in (take (received_by_all d conf) (ordered_in d conf)))
+  acts-grow =
+      let on = goes_on-kept conf c s i.net.phase_sound i.net.receipts_inside may said in
+      let more = received-kept c s i.net.seated may (group-of c i) conf said in
+      let short = row-within (all_received (conf_of c conf)) (length (ordered_in c conf)) in
+      let same = ap (λ xs. length (acts_in xs)) (take-front (received_by_all c conf) (ordered_in c conf) (ordered_in d conf) on.ordered short) in
+      let le = acts-more (received_by_all c conf) (received_by_all d conf) (ordered_in d conf) more in
+      omega (arith, same, le)
+
+  -- a count that stays
+  pub count-stays : (b : Attempt) (p : ℕ) → attempt_of d conf ≡ Some b → has a.installed p ≡ true → count_in d b p ≡ count_in c a p → IsCountedIn d conf b p
+  count-stays b p now installed same =
+      let is = (attempts-grow c s).still conf a found in
+      let this : is.now ≡ b = some-is is.now b (sym is.found ∙ now) in
+      let long : length (installation b) ≡ length (installation a) = ap (λ (x : Attempt). length (installation x)) (sym this) ∙ ap length (same-installation a is.now is.grown.same) in
+      let bounds = old p installed in
+      let low = bounds.0 in
+      let high = bounds.1 in
+      let more = acts-grow in
+      ((omega (arith, long, low, same)), (omega (arith, long, high, same, more)))
+
+  conf-now : (b : Attempt) → attempt_of d conf ≡ Some b → b.conf ≡ conf
+  conf-now b now = eqb-true b.conf conf (find-holds (λ (a : Attempt). a.conf == conf) d.attempts b now)
+
+  -- who is in the configuration before and behind the step, with the same greens
+  pub inside-counted : (b : Attempt) (p : ℕ) → attempt_of d conf ≡ Some b → has a.installed p ≡ true → is_in c conf p ≡ true → is_in d conf p ≡ true → greens_of d p ≡ greens_of c p → IsCountedIn d conf b p
+  inside-counted b p now installed was is greens =
+      count-stays b p now installed
+      (cond-true (is_in d b.conf p) (length (greens_of d p)) (left_count b p) (ap (λ k. is_in d k p) (conf-now b now) ∙ is) ∙ ap length greens
+      ∙ sym (cond-true (is_in c a.conf p) (length (greens_of c p)) (left_count a p) (ap (λ k. is_in c k p) conf-is ∙ was)))
+
+  -- who was out of it before the step
+  pub outside-counted : (b : Attempt) (p : ℕ) → attempt_of d conf ≡ Some b → has b.installed p ≡ true → is_in c conf p ≡ false → IsCountedIn d conf b p
+  outside-counted b p now installed out = at (came c d conf b (attempt-step c s i may) now) where
+    out-now : is_in d conf p ≡ false
+    out-now = out-stays c s i.net.seated may (group-of c i) conf p said out
+
+    same : (x : Attempt) → attempt_of c conf ≡ Some x → a ≡ x
+    same x e = some-is a x (sym found ∙ e)
+
+    made : has a.installed p ≡ true → left_count b p ≡ left_count a p → IsCountedIn d conf b p
+    made is count =
+        count-stays b p now is
+        (cond-false (is_in d b.conf p) (length (greens_of d p)) (left_count b p) (ap (λ k. is_in d k p) (conf-now b now) ∙ out-now) ∙ count
+        ∙ sym (cond-false (is_in c a.conf p) (length (greens_of c p)) (left_count a p) (ap (λ k. is_in c k p) conf-is ∙ out)))
+
+    at : Came c d conf b → IsCountedIn d conf b p
+    at (Stayed e) = made (ap (λ (x : Attempt). has x.installed p) (same b e) ∙ installed) (ap (λ (x : Attempt). left_count x p) (sym (same b e)))
+    at (WasLeft x e q n here is low) =
+        let apart : (q == p) ≡ false = ne_eqb q p (λ this. (let clash : true ≡ false = sym (in-at conf (phase_of c.world.group q) (said-number c conf said) here) ∙ ap (is_in c conf) this ∙ out in absurd (let z = clash in cc))) in
+        made (ap (λ (x : Attempt). has x.installed p) (same x e) ∙ sym (same-installed q n p x) ∙ ap (λ (x : Attempt). has x.installed p) (sym is) ∙ installed)
+        (ap (λ (x : Attempt). left_count x p) is ∙ leaver-other q n p x apart ∙ ap (λ (x : Attempt). left_count x p) (sym (same x e)))
+    at (WasEntered x e q heard r new begins is moved) =
+        made (ap (λ (x : Attempt). has x.installed p) (same x e) ∙ ap (λ (x : Attempt). has x.installed p) (sym is) ∙ installed)
+        (ap (λ (x : Attempt). left_count x p) is ∙ ap (λ (x : Attempt). left_count x p) (sym (same x e)))
+    at (WasInstalled q r new ins done here is levels core moved) =
+        let mine = same ins.a (ap (attempt_of c) here ∙ ins.found) in
+        made (elim (or_cases (has ins.a.installed p) (eqb q p) (sym (has-with_member ins.a.installed q p) ∙ ap (λ (x : Attempt). has x.installed p) (sym is) ∙ installed)) [
+          | inl before ↦ ap (λ (x : Attempt). has x.installed p) mine ∙ before
+          | inr this ↦ absurd (let clash : true ≡ false = sym (ap (is_at conf) ins.regular ∙ eq-eqb ins.conf conf (sym here)) ∙ ap (is_in c conf) (eqb-true q p this) ∙ out in cc)
+        ]) (ap (λ (x : Attempt). left_count x p) is ∙ ap (λ (x : Attempt). left_count x p) (sym mine))
+    at (WasMade none q heard r new begins greens is moved handed) = absurd (let clash : None ≡ Some a = sym none ∙ found in cc)

@@ -1,0 +1,45 @@
+-- All facts behind each small step, from all facts before it. Two things are still asked: that counts of those who installed an attempt
+-- are within what all have received (InstalledCount, behind the step), and that who leaves a primary component in order covers its level.
+use Rattle.std.proofs.Common.{◌≡◌, true}
+use Rattle.cg_agree.specs.Chronicle.{Chronicle}
+use Rattle.cg_agree.specs.FactsGreens.{InstalledCount, GreenFacts}
+use Rattle.cg_agree.specs.Facts.{Invariant}
+use Rattle.cg_agree.specs.Played.{AtRest}
+use Rattle.cg_agree.specs.Small.{Small, small_step}
+use Rattle.cg_agree.specs.Smalls.{may_make}
+use Rattle.cg_agree.proofs.BeginsKept.{begins_with-kept}
+use Rattle.cg_agree.proofs.CoverageKept.{coverage-kept}
+use Rattle.cg_agree.proofs.FactsKept.{replica-now, exchange-now, attempt-now}
+use Rattle.cg_agree.proofs.ListsKept.{lists-kept}
+use Rattle.cg_agree.proofs.NetFactsKept.{net-kept}
+use Rattle.cg_agree.proofs.OrderNow.{lists-reach, spine-behind, one_order-behind}
+use Rattle.cg_agree.proofs.PrimaryKept.{primary_greens-kept}
+use Rattle.cg_agree.proofs.TalkFactsKept.{talk-kept}
+use Rattle.cg_agree.proofs.TransKept.{LeaverCovers, trans_coverage-kept}
+
+module _ (c : Chronicle) (s : Small) (i : Invariant c) (may : may_make c s ≡ true) (rest : AtRest c s)
+    (counts : InstalledCount (small_step c s)) (leaver : LeaverCovers c s) where
+  pub greens-now : GreenFacts (small_step c s)
+  greens-now =
+      let primary = primary_greens-kept c s i may in
+      let order = one_order-behind c s i may rest counts primary in
+      record {
+        begins_with = begins_with-kept c s i may;
+        primary_greens = primary;
+        installed_count = counts;
+        spine = spine-behind c s i may rest counts;
+        one_order = order;
+        trans_coverage = trans_coverage-kept c s i may (lists-reach c s i may rest counts) leaver;
+        coverage = coverage-kept c s i may rest order counts (lists-reach c s i may rest counts);
+      }
+
+  pub invariant-now : Invariant (small_step c s)
+  invariant-now = record {
+    lists = lists-kept c s may i.lists;
+    net = net-kept c s i may;
+    talk = talk-kept c s i may;
+    replica = replica-now c s i may rest greens-now.one_order;
+    exchange = exchange-now c s i may rest;
+    attempt = attempt-now c s i may rest;
+    green = greens-now;
+  }
