@@ -1,6 +1,6 @@
 -- What each replica holds, what stands on its disk and what a snapshot makes of its joiner covers, where it is evidence: behind each
 -- small step.
-use Rattle.std.proofs.Common.{◌⊎◌, ◌≡◌, ℕ, zero, suc, ◌≤◌, ◌<◌, Bool, true, false, cond, not, ◌&&◌, ◌||◌, List, [], ◌∷◌, ◌++◌, length, Option, Some, None, IfSome, is_some, refl, sym, ap, ◌∙◌, subst, inl, inr, arith, eq-eqb, append-nil}
+use Rattle.std.proofs.Common.{◌≡◌, ℕ, zero, suc, ◌≤◌, ◌<◌, Bool, true, false, not, ◌&&◌, ◌||◌, List, [], ◌∷◌, ◌++◌, length, Option, Some, None, IfSome, refl, sym, ap, ◌∙◌, subst, inl, inr, arith, eq-eqb, append-nil}
 use Rattle.std.specs.Prelude.{◌==◌, option_and_then}
 use Rattle.std.specs.Option.{option_map_or}
 use Rattle.std.proofs.lemmas.Bool.{cases_Bool, cases_eq, cond-true, and_parts}
@@ -14,21 +14,20 @@ use Rattle.cg_records.specs.declared.primary.Primary.{Primary}
 use Rattle.cg_records.specs.declared.vulnerable.Vulnerable.{Vulnerable}
 use Rattle.cg_group.specs.declared.phase.Phase.TheVariants.{Regular}
 use Rattle.cg_group.specs.State.{phase_of}
-use Rattle.cg_client.specs.Replica.{Held, State, NonPrim, Replica}
-use Rattle.cg_client.specs.Turn.{Turn, begin}
+use Rattle.cg_client.specs.Replica.{Held, NonPrim, Replica}
+use Rattle.cg_client.specs.Turn.{begin}
 use Rattle.cg_client.specs.Requests.{settle}
-use Rattle.cg_stored.specs.Stored.{whiten, stored_of, recover}
+use Rattle.cg_stored.specs.Stored.{whiten, recover}
 use Rattle.cg_step.specs.Crash.{Disk}
 use Rattle.cg_agree.specs.World.{Up, Seat, seat_of, replica_of, running, has_begun}
 use Rattle.cg_agree.specs.Step.{joined}
-use Rattle.cg_agree.specs.Chronicle.{Chronicle, no_chronicle}
-use Rattle.cg_agree.specs.Fronts.{When}
+use Rattle.cg_agree.specs.Chronicle.{Chronicle}
 use Rattle.cg_agree.specs.Looks.{greens_of, stood_of, disk_held, snapshot_of, copied_for, attempt_at, top_of, OfCores}
 use Rattle.cg_agree.specs.Levels.{is_evidence, is_record_of, names_with, prim_at}
 use Rattle.cg_agree.specs.FactsReplica.{IsModeData, is_primary, is_attempting}
 use Rattle.cg_agree.specs.FactsGreens.{Covers, CoversLevel}
 use Rattle.cg_agree.specs.Facts.{Invariant}
-use Rattle.cg_agree.specs.Small.{Small, Starts, Makes, Enters, Orders, Receives, Hands, Leaves, Asks, Settles, Commits, Crashes, Recovers, Copies, Joins, newly_green, coming, handed_next, leaving, take_newest, take_next, take_parting, take_request, newest_conf, copy_as, turning, small_step}
+use Rattle.cg_agree.specs.Small.{Small, Starts, Makes, Enters, Orders, Receives, Hands, Leaves, Asks, Settles, Commits, Crashes, Recovers, Copies, Joins, newly_green, coming, handed_next, leaving, take_newest, take_next, take_parting, take_request, newest_conf, copy_as, small_step}
 use Rattle.cg_agree.specs.Smalls.{may_make, is_set}
 use Rattle.cg_agree.proofs.CoresKept.{IsHeldClosed, held-known, greens-turn, cores-weaker}
 use Rattle.cg_agree.proofs.CoresSmall.{StepKeeps, JoinsKeep, ready-of, cores-kept-given}
@@ -36,20 +35,19 @@ use Rattle.cg_agree.proofs.CoversStay.{ReachShrinks, start-covers}
 use Rattle.cg_agree.proofs.EndShown.{ToldCovers}
 use Rattle.cg_agree.proofs.EntryGreens.{nothing-new}
 use Rattle.cg_agree.proofs.ExchangeSmalls.{greens-settle, greens-request, replica-behind}
-use Rattle.cg_agree.proofs.HandsNow.{HandsNow, hands-now, hands-regular}
+use Rattle.cg_agree.proofs.HandsNow.{hands-now, hands-regular}
 use Rattle.cg_agree.proofs.LevelsOpen.{when-from}
 use Rattle.cg_agree.proofs.LivesRest.{own-rest}
 use Rattle.cg_agree.proofs.ModeHeld.{lists-settle, lists-request}
 use Rattle.cg_agree.proofs.NewestLevel.{newest-level, set-members}
 use Rattle.cg_agree.proofs.OneSteps.{enters-step, hands-step}
-use Rattle.cg_agree.proofs.PartingStill.{StaysApart, parting-apart}
-use Rattle.cg_agree.proofs.PastKept.{EntersNow, enters-now}
+use Rattle.cg_agree.proofs.PartingStill.{parting-apart}
+use Rattle.cg_agree.proofs.PastKept.{enters-now}
 use Rattle.cg_agree.proofs.RecordKept.{turn-is}
 use Rattle.cg_agree.proofs.RegularCover.{attempting-covers, primary-covers, regular-covers}
 use Rattle.cg_agree.proofs.ToldCover.{CoversWhere, covers-on}
 use Rattle.cg_agree.proofs.ToldLine.{Behind}
-use Rattle.cg_agree.proofs.TurnKinds.{IsQuiet, HasInstalled}
-use Rattle.cg_agree.proofs.TurnParts.{HasParted, settle-quiet, request-quiet, parting-turned}
+use Rattle.cg_agree.proofs.TurnParts.{settle-quiet, request-quiet, parting-turned}
 use Rattle.cg_agree.proofs.TurnValues.{SameValues, even-own_to_red}
 
 -- a snapshot is taken for one who hasn't begun

@@ -8,7 +8,7 @@ use Rattle.cg_agree.specs.Chronicle.{Attempt, Chronicle}
 use Rattle.cg_agree.specs.Fronts.{Front}
 use Rattle.cg_agree.specs.Looks.{attempt_at, ordered_in, top_of}
 use Rattle.cg_agree.specs.Levels.{bound_at, reach_at, is_frozen, is_frozen_in}
-use Rattle.cg_agree.specs.FactsGreens.{CoversLevel, Covers}
+use Rattle.cg_agree.specs.FactsGreens.{CoversLevel}
 use Rattle.cg_agree.specs.Facts.{Invariant}
 use Rattle.cg_agree.specs.Small.{Small, small_step}
 use Rattle.cg_agree.specs.Smalls.{may_make}

@@ -1,11 +1,10 @@
 -- What summaries show at a plan's end, where the newest index is that of the newest level: what could become green there is among the
 -- most updated member's greens and the common yellow list.
-use Rattle.std.proofs.Common.{◌⊎◌, ◌≡◌, ℕ, suc, ◌≤◌, ◌<◌, nat_le, Bool, true, false, cond, not, ◌&&◌, ◌||◌, List, [], ◌∷◌, ◌++◌, Option, Some, None, IfSome, is_some, filter, fold, length, take, refl, sym, ap, ap₂, ◌∙◌, subst, inl, inr, arith, ◌≢◌, eq-eqb, eqb-true, append-nil}
+use Rattle.std.proofs.Common.{◌⊎◌, ◌≡◌, ℕ, suc, ◌≤◌, ◌<◌, nat_le, Bool, true, false, cond, not, ◌&&◌, ◌||◌, List, [], ◌∷◌, ◌++◌, Option, Some, None, IfSome, is_some, filter, fold, length, refl, sym, ap, ◌∙◌, subst, inl, inr, arith, ◌≢◌, eq-eqb, eqb-true, append-nil}
 use Rattle.std.specs.Prelude.{◌==◌, nat_lt}
 use Rattle.std.specs.Option.{option_map_or}
 use Rattle.std.specs.List.{list_any}
-use Rattle.std.proofs.lemmas.Bool.{cases_Bool, cases_eq, cases_lt, cond_both, cond-true, cond-false, and_parts, and_from, or_right, ne_eqb, leb-true, le-leb}
-use Rattle.cg_base.specs.declared.action_id.ActionId.{ActionId}
+use Rattle.std.proofs.lemmas.Bool.{cases_Bool, cases_eq, cases_lt, and_parts, and_from, le-leb}
 use Rattle.cg_base.specs.Sets.{has}
 use Rattle.cg_base.specs.Weights.{ids}
 use Rattle.cg_action.specs.declared.action.Action.{Action}
@@ -19,7 +18,7 @@ use Rattle.cg_vote.specs.QuorumLaws.{meet}
 use Rattle.cg_knowledge.specs.declared.summary.Summary.{Summary}
 use Rattle.cg_knowledge.specs.Members.{lowest, lower, most_updated, remaining, senders}
 use Rattle.cg_knowledge.specs.Primary.{newest, newest_index, known_primary, knows_prim}
-use Rattle.cg_knowledge.specs.Vulnerable.{decided, is_cleared}
+use Rattle.cg_knowledge.specs.Vulnerable.{decided}
 use Rattle.cg_knowledge.specs.Verdict.{all_cleared, decides}
 use Rattle.cg_knowledge.specs.Yellow.{yellow_group, yellow_of, common_yellow}
 use Rattle.cg_agree.specs.Chronicle.{Told, Attempt, Chronicle}
@@ -30,7 +29,7 @@ use Rattle.cg_agree.specs.FactsTalk.{AreTold}
 use Rattle.cg_agree.specs.FactsReplica.{run_on, cut_behind}
 use Rattle.cg_agree.specs.FactsExchange.{HasRecord, IsRecord}
 use Rattle.cg_agree.specs.FactsAttempts.{IsWitnessed, AreWitnessed, is_without}
-use Rattle.cg_agree.specs.FactsGreens.{CoversLevel, Covers}
+use Rattle.cg_agree.specs.FactsGreens.{Covers}
 use Rattle.cg_agree.proofs.ClearedDead.{IsToldIn, each-told}
 use Rattle.cg_agree.proofs.CoversStay.{covers-more}
 use Rattle.cg_agree.proofs.EndCases.{ShowsEnd, has_bit, cleared-covers}
@@ -38,13 +37,13 @@ use Rattle.cg_agree.proofs.EndCovers.{OfEach, of_each-weaker, lowest-of, CoversW
 use Rattle.cg_agree.proofs.EndCuts.{end-covers}
 use Rattle.cg_agree.proofs.EndQuorum.{FitsNewest, both-each, quorum-covers, remaining-sent}
 use Rattle.cg_agree.proofs.EndReached.{best-bounds}
-use Rattle.cg_agree.proofs.FrontFacts.{Front-append, Front-trans, Front-of_both, Front-length, Front-map, Front-take}
+use Rattle.cg_agree.proofs.FrontFacts.{Front-append, Front-trans, Front-of_both, Front-map, Front-take}
 use Rattle.cg_agree.proofs.Knowledge.{known-of, each-bounded, sender-told, IsKnown, Becomes, Cleared, Kept, becomes}
 use Rattle.cg_agree.proofs.NewestLevel.{ids-weighted, newest-level, installed-inside, prim-top, frozen-by}
 use Rattle.cg_agree.proofs.ReachFacts.{line_in}
 use Rattle.cg_agree.proofs.ReachWorld.{when-is}
 use Rattle.cg_agree.proofs.RunFacts.{run_on-append, run_on-front}
-use Rattle.cg_agree.proofs.ToldLine.{Behind, told-conf, told-id, told-fits, told-levels, told-run, told-line, told-reach, told-front}
+use Rattle.cg_agree.proofs.ToldLine.{Behind, told-conf, told-fits, told-levels, told-run, told-line, told-reach, told-front}
 
 -- evidence that was told covers
 abbrev pub ToldCovers : Chronicle → Type 0

@@ -1,5 +1,5 @@
--- All facts behind each small step, from all facts before it. Two things are still asked: that counts of those who installed an attempt
--- are within what all have received (InstalledCount, behind the step), and that who leaves a primary component in order covers its level.
+-- All facts behind each small step, from all facts before it. One thing is still asked: that who leaves a primary component in order
+-- covers its level.
 use Rattle.std.proofs.Common.{◌≡◌, true}
 use Rattle.cg_agree.specs.Chronicle.{Chronicle}
 use Rattle.cg_agree.specs.FactsGreens.{InstalledCount, GreenFacts}
@@ -10,6 +10,7 @@ use Rattle.cg_agree.specs.Smalls.{may_make}
 use Rattle.cg_agree.proofs.BeginsKept.{begins_with-kept}
 use Rattle.cg_agree.proofs.CoverageKept.{coverage-kept}
 use Rattle.cg_agree.proofs.FactsKept.{replica-now, exchange-now, attempt-now}
+use Rattle.cg_agree.proofs.InstalledCountKept.{installed_count-kept}
 use Rattle.cg_agree.proofs.ListsKept.{lists-kept}
 use Rattle.cg_agree.proofs.NetFactsKept.{net-kept}
 use Rattle.cg_agree.proofs.OrderNow.{lists-reach, spine-behind, one_order-behind}
@@ -17,8 +18,10 @@ use Rattle.cg_agree.proofs.PrimaryKept.{primary_greens-kept}
 use Rattle.cg_agree.proofs.TalkFactsKept.{talk-kept}
 use Rattle.cg_agree.proofs.TransKept.{LeaverCovers, trans_coverage-kept}
 
-module _ (c : Chronicle) (s : Small) (i : Invariant c) (may : may_make c s ≡ true) (rest : AtRest c s)
-    (counts : InstalledCount (small_step c s)) (leaver : LeaverCovers c s) where
+module _ (c : Chronicle) (s : Small) (i : Invariant c) (may : may_make c s ≡ true) (rest : AtRest c s) (leaver : LeaverCovers c s) where
+  counts : InstalledCount (small_step c s)
+  counts = installed_count-kept c s i may rest i.attempt.left_out
+
   pub greens-now : GreenFacts (small_step c s)
   greens-now =
       let primary = primary_greens-kept c s i may in

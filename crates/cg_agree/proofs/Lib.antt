@@ -250,6 +250,8 @@ pub mod PartedGreens
 pub mod GreensMove
 pub mod LeftMoves
 pub mod CountsMove
+pub mod RegularEnds
+pub mod InstalledCountKept
 pub mod ReachedGrows
 pub mod SpineNow
 pub mod OneOrderNow

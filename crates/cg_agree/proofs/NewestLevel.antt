@@ -1,10 +1,8 @@
 -- The attempt that opened the newest level: its members, and that somebody is out of its configuration who has told something later.
-use Rattle.std.proofs.Common.{◌≡◌, ℕ, zero, suc, ◌≤◌, ◌<◌, true, false, not, ◌||◌, List, [], ◌∷◌, Option, Some, None, IfSome, is_some, map, refl, sym, ap, ◌∙◌, subst, inl, inr, arith, eqb-true, cond}
+use Rattle.std.proofs.Common.{◌≡◌, ℕ, zero, suc, ◌<◌, true, false, not, ◌||◌, List, [], ◌∷◌, Option, Some, IfSome, is_some, refl, sym, ap, ◌∙◌, subst, inl, inr, arith, eqb-true}
 use Rattle.std.specs.Prelude.{◌==◌}
 use Rattle.std.specs.List.{list_all}
 use Rattle.std.proofs.lemmas.Bool.{cases_Bool, cond-false, ne_eqb}
-use Rattle.cg_base.specs.declared.weighted.Weighted.{Weighted}
-use Rattle.cg_base.specs.Lists.{at_place}
 use Rattle.cg_base.specs.Sets.{has}
 use Rattle.cg_base.specs.Weights.{ids}
 use Rattle.cg_members.specs.declared.members.Members.{Members}

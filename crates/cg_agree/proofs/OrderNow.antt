@@ -1,7 +1,7 @@
 -- The spine of levels and one order behind each small step, and what a small step leaves of counts and of what can become green. They ask
 -- for the facts before the step, and for those about members of primary components behind it.
-use Rattle.std.proofs.Common.{◌≡◌, ℕ, ◌≤◌, true, refl}
-use Rattle.cg_agree.specs.Chronicle.{Chronicle, no_chronicle}
+use Rattle.std.proofs.Common.{◌≡◌, ℕ, ◌≤◌, true}
+use Rattle.cg_agree.specs.Chronicle.{Chronicle}
 use Rattle.cg_agree.specs.Fronts.{Front}
 use Rattle.cg_agree.specs.Looks.{top_of}
 use Rattle.cg_agree.specs.Levels.{reached_at, reach_at, is_frozen}

@@ -1,6 +1,6 @@
 -- What a replica holds covers what could become green, where it is evidence: of a primary component's members none is, who attempts
 -- holds what its attempt installs, and who is in an exchange holds what it told, or what the summaries show.
-use Rattle.std.proofs.Common.{◌⊎◌, ◌≡◌, ℕ, zero, suc, ◌≤◌, ◌<◌, nat_le, Bool, true, false, cond, not, ◌&&◌, ◌||◌, List, [], ◌∷◌, ◌++◌, length, take, drop, filter, Option, Some, None, IfSome, is_some, refl, sym, ap, ap₂, ◌∙◌, subst, inl, inr, arith, eq-eqb, eqb-true, append-nil}
+use Rattle.std.proofs.Common.{◌⊎◌, ◌≡◌, ℕ, zero, suc, ◌≤◌, ◌<◌, nat_le, Bool, true, false, cond, not, ◌&&◌, ◌||◌, List, [], ◌∷◌, ◌++◌, length, drop, filter, Option, Some, None, IfSome, is_some, refl, sym, ap, ap₂, ◌∙◌, subst, inl, inr, arith, eq-eqb, eqb-true, append-nil}
 use Rattle.std.specs.Prelude.{◌==◌, nat_lt}
 use Rattle.std.specs.List.{list_all}
 use Rattle.std.proofs.lemmas.Bool.{cases_Bool, cases_eq, and_parts, and_from, not-true, leb-true, leb-false, ltb-true, ltb-false}
@@ -11,27 +11,26 @@ use Rattle.cg_base.specs.Sets.{has}
 use Rattle.cg_action.specs.declared.action.Action.{Action}
 use Rattle.cg_queue.specs.Queue.{names_of}
 use Rattle.cg_records.specs.declared.primary.Primary.{Primary}
-use Rattle.cg_records.specs.declared.vulnerable.Vulnerable.{Vulnerable}
 use Rattle.cg_records.specs.declared.yellow.Yellow.{Yellow}
 use Rattle.cg_knowledge.specs.declared.summary.Summary.{Summary}
 use Rattle.cg_knowledge.specs.Members.{gone, senders}
-use Rattle.cg_knowledge.specs.Primary.{newest_index, known_primary}
+use Rattle.cg_knowledge.specs.Primary.{newest_index}
 use Rattle.cg_knowledge.specs.Vulnerable.{decided}
 use Rattle.cg_knowledge.specs.Verdict.{decides}
 use Rattle.cg_knowledge.specs.Yellow.{common_yellow}
 use Rattle.cg_group.specs.declared.phase.Phase.{Phase}
-use Rattle.cg_group.specs.declared.phase.Phase.TheVariants.{Down, Alone, Regular, Transitional}
+use Rattle.cg_group.specs.declared.phase.Phase.TheVariants.{Regular}
 use Rattle.cg_group.specs.State.{phase_of, delivered_to}
 use Rattle.cg_client.specs.Replica.{Held, State, RegPrim, TransPrim, ExchangeStates, ExchangeActions, Construct, No, Un, NonPrim, Left, Replica}
 use Rattle.cg_client.specs.Install.{actions_named, valid_yellow}
-use Rattle.cg_agree.specs.World.{replica_of, has_begun}
+use Rattle.cg_agree.specs.World.{replica_of}
 use Rattle.cg_agree.specs.Chronicle.{Told, Attempt, Chronicle}
 use Rattle.cg_agree.specs.Fronts.{Front, When, Either, IsSomeWith}
 use Rattle.cg_agree.specs.Looks.{greens_of, told_in, is_regular_at, is_regular_in, conf_at, members_in, attempt_of, attempt_at, top_of}
 use Rattle.cg_agree.specs.Talk.{Talk, is_full, is_through, is_announced, state_in}
 use Rattle.cg_agree.specs.Levels.{reach_at, is_evidence, is_record_of, names_with}
-use Rattle.cg_agree.specs.FactsTalk.{AreTold, IsStateIn, handed_talk, whole_talk}
-use Rattle.cg_agree.specs.FactsReplica.{run_on, cut_behind, own_record, IsCore, IsInPrimary, IsInAttempt, HasModeData, IsModeData, is_primary, is_attempting}
+use Rattle.cg_agree.specs.FactsTalk.{AreTold, IsStateIn, handed_talk}
+use Rattle.cg_agree.specs.FactsReplica.{run_on, cut_behind, IsCore, IsInPrimary, IsInAttempt, HasModeData, IsModeData, is_primary, is_attempting}
 use Rattle.cg_agree.specs.FactsExchange.{HoldsStill, IsUnmoved, IsGoingOn, HasTakenOver, IsInExchange, best_told}
 use Rattle.cg_agree.specs.FactsAttempts.{HoldsParts}
 use Rattle.cg_agree.specs.FactsGreens.{Covers, CoversLevel}
@@ -40,7 +39,7 @@ use Rattle.cg_agree.proofs.CoresKept.{held-known}
 use Rattle.cg_agree.proofs.CoversStay.{start-covers, covers-more}
 use Rattle.cg_agree.proofs.EndCuts.{run-below, run-above}
 use Rattle.cg_agree.proofs.EndShown.{ToldCovers, Leads, member-shows}
-use Rattle.cg_agree.proofs.FrontFacts.{Front-trans, Front-map, split_by_Front, common-covers}
+use Rattle.cg_agree.proofs.FrontFacts.{Front-map, split_by_Front, common-covers}
 use Rattle.cg_agree.proofs.HandsNow.{whole-through}
 use Rattle.cg_agree.proofs.HeldMarks.{IsOneself, rising-green, are_within}
 use Rattle.cg_agree.proofs.Knowledge.{known-of, each-bounded, some-sender}

@@ -1,8 +1,8 @@
 -- Evidence that was told covers what could become green: every small step keeps it, and who comes into a configuration tells what covers.
-use Rattle.std.proofs.Common.{◌≡◌, ℕ, zero, suc, ◌≤◌, ◌<◌, Bool, true, false, cond, not, ◌&&◌, ◌||◌, List, [], ◌++◌, length, length-append, Option, Some, None, IfSome, refl, sym, ap, ap₂, ◌∙◌, subst, inl, inr, arith, eqb-true}
+use Rattle.std.proofs.Common.{◌≡◌, ℕ, zero, suc, ◌≤◌, ◌<◌, Bool, true, false, cond, not, ◌&&◌, ◌||◌, List, ◌++◌, length, length-append, Option, Some, None, IfSome, refl, sym, ap, ap₂, ◌∙◌, subst, inl, inr, arith, eqb-true}
 use Rattle.std.specs.Prelude.{◌==◌, option_and_then}
 use Rattle.std.specs.Option.{option_map_or}
-use Rattle.std.proofs.lemmas.Bool.{cases_Bool, cases_eq, and_parts, and_from, or_right, ne_eqb}
+use Rattle.std.proofs.lemmas.Bool.{cases_Bool, cases_eq, and_parts, and_from, ne_eqb}
 use Rattle.cg_base.specs.declared.action_id.ActionId.{ActionId}
 use Rattle.cg_base.specs.Sets.{has}
 use Rattle.cg_action.specs.declared.action.Action.{Action}
@@ -10,7 +10,7 @@ use Rattle.cg_queue.specs.Queue.{names_of}
 use Rattle.cg_records.specs.declared.primary.Primary.{Primary}
 use Rattle.cg_records.specs.declared.vulnerable.Vulnerable.{Vulnerable}
 use Rattle.cg_group.specs.State.{phase_of, configuration}
-use Rattle.cg_client.specs.Replica.{Held, State, RegPrim, TransPrim, ExchangeStates, ExchangeActions, Construct, No, Un, NonPrim, Left, Replica}
+use Rattle.cg_client.specs.Replica.{State, RegPrim, TransPrim, ExchangeStates, ExchangeActions, Construct, No, Un, NonPrim, Left, Replica}
 use Rattle.cg_client.specs.Turn.{Turn, begin, with_held}
 use Rattle.cg_client.specs.Summary.{summary_of, enter_exchange}
 use Rattle.cg_prim.specs.TransPrim.{end_prim}
@@ -18,14 +18,14 @@ use Rattle.cg_construct.specs.No.{no_record}
 use Rattle.cg_step.specs.Step.{on_regular, take}
 use Rattle.cg_agree.specs.World.{Seat, replica_of, running}
 use Rattle.cg_agree.specs.Chronicle.{Told, Attempt, Chronicle}
-use Rattle.cg_agree.specs.Fronts.{When, IsSomeWith}
+use Rattle.cg_agree.specs.Fronts.{When}
 use Rattle.cg_agree.specs.Looks.{greens_of, told_in, conf_at, attempt_of, attempt_at, top_of}
 use Rattle.cg_agree.specs.Levels.{is_evidence, is_record_of, names_with, prim_at}
 use Rattle.cg_agree.specs.FactsExchange.{KnowsLevels}
-use Rattle.cg_agree.specs.FactsReplica.{own_record, IsInAttempt, IsModeData, HasModeData}
+use Rattle.cg_agree.specs.FactsReplica.{IsInAttempt, IsModeData, HasModeData}
 use Rattle.cg_agree.specs.FactsGreens.{CoversLevel, Covers, CoversAsYellow}
 use Rattle.cg_agree.specs.Facts.{Invariant}
-use Rattle.cg_agree.specs.Small.{Small, Starts, Makes, Enters, Orders, Receives, Hands, Leaves, Asks, Settles, Commits, Crashes, Recovers, Copies, Joins, take_newest, newest_conf, small_step}
+use Rattle.cg_agree.specs.Small.{Small, Starts, Makes, Enters, Orders, Receives, Hands, Leaves, Asks, Settles, Commits, Crashes, Recovers, Copies, Joins, newest_conf, small_step}
 use Rattle.cg_agree.specs.Smalls.{may_make, is_between}
 use Rattle.cg_agree.proofs.CoresKept.{held-known}
 use Rattle.cg_agree.proofs.CoversStay.{ReachShrinks, start-covers, covers-still}
@@ -38,7 +38,7 @@ use Rattle.cg_agree.proofs.PastKept.{EntersNow, enters-now, entry_turn, entry_to
 use Rattle.cg_agree.proofs.ReachWorld.{when-is, levels-kept, level-kept}
 use Rattle.cg_agree.proofs.ToldKept.{IsUntold, told-same, told_in-same}
 use Rattle.cg_agree.proofs.ToldLine.{behind-of}
-use Rattle.cg_agree.proofs.TurnParts.{record_left, valid_left, HasCome, newest-come}
+use Rattle.cg_agree.proofs.TurnParts.{record_left, valid_left, newest-come}
 
 -- evidence that a holder of this name has, covers with these greens
 abbrev pub CoversWhere : Chronicle → ℕ → ℕ → Bool → Option Vulnerable → List Action → List ActionId → Type 0

@@ -1,5 +1,5 @@
 -- Greens that were told stand on the newest level's line, as the facts say that hold behind a small step.
-use Rattle.std.proofs.Common.{◌≡◌, ℕ, ◌≤◌, ◌<◌, true, false, ◌&&◌, List, [], length, Option, Some, None, IfSome, is_some, refl, sym, ap, subst, ◌∙◌, arith, eqb-true, option_map}
+use Rattle.std.proofs.Common.{◌≡◌, ℕ, ◌≤◌, ◌<◌, true, false, ◌&&◌, [], length, Option, Some, None, IfSome, is_some, refl, ap, subst, arith, eqb-true, option_map}
 use Rattle.std.specs.Prelude.{◌==◌}
 use Rattle.std.proofs.lemmas.Bool.{and_parts}
 use Rattle.cg_action.specs.declared.action.Action.{Action}
@@ -22,7 +22,7 @@ use Rattle.cg_agree.specs.Played.{AtRest}
 use Rattle.cg_agree.specs.Small.{Small, small_step}
 use Rattle.cg_agree.specs.Smalls.{may_make}
 use Rattle.cg_agree.proofs.FactsKept.{replica-now, exchange-now, attempt-now}
-use Rattle.cg_agree.proofs.FrontFacts.{Front-trans, Front-of_both, Front-length, Front-map}
+use Rattle.cg_agree.proofs.FrontFacts.{Front-trans, Front-of_both, Front-map}
 use Rattle.cg_agree.proofs.HandSays.{find-holds}
 use Rattle.cg_agree.proofs.NetFactsKept.{net-kept}
 use Rattle.cg_agree.proofs.OneLine.{reached-front}

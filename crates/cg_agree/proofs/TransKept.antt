@@ -1,5 +1,5 @@
 -- Who is behind a primary component covers its level: every small step keeps it, but for the one in which the member leaves.
-use Rattle.std.proofs.Common.{◌≡◌, ℕ, ◌≤◌, Bool, true, false, cond, not, ◌&&◌, List, [], ◌∷◌, ◌++◌, fold, Option, Some, None, IfSome, is_some, option_map, refl, sym, ap, ◌∙◌, subst, inl, inr, eq-eqb, eqb-true, append-nil}
+use Rattle.std.proofs.Common.{◌≡◌, ℕ, ◌≤◌, Bool, true, false, cond, not, List, [], ◌++◌, Option, Some, None, IfSome, is_some, option_map, refl, sym, ap, ◌∙◌, subst, inl, inr, eq-eqb, eqb-true}
 use Rattle.std.specs.Prelude.{◌==◌, option_and_then}
 use Rattle.std.specs.Option.{option_map_or}
 use Rattle.std.proofs.lemmas.Bool.{cases_Bool, cond-true, cond-false, and_parts, ne_eqb, eqb-false}
@@ -19,14 +19,14 @@ use Rattle.cg_client.specs.Requests.{settle}
 use Rattle.cg_stored.specs.Stored.{stored_of, whiten, recover}
 use Rattle.cg_step.specs.Crash.{Disk, new_disk, crash_now, recovered, disk_recovered}
 use Rattle.cg_agree.specs.World.{Life, Up, Down, Seat, Snapshot, seat_of, replica_of, running, has_begun, is_left}
-use Rattle.cg_agree.specs.Step.{joined, begin_replica}
+use Rattle.cg_agree.specs.Step.{joined}
 use Rattle.cg_agree.specs.Chronicle.{Past, Chronicle, no_chronicle}
-use Rattle.cg_agree.specs.Looks.{greens_of, past_of, snapshot_of, copied_for, top_of}
+use Rattle.cg_agree.specs.Looks.{greens_of, past_of, copied_for, top_of}
 use Rattle.cg_agree.specs.Talk.{Talk, is_full, is_through, is_announced, state_in}
 use Rattle.cg_agree.specs.Levels.{prim_at}
 use Rattle.cg_agree.specs.FactsGreens.{CoversLevel, CoversAsYellow, TransCoverage}
 use Rattle.cg_agree.specs.Facts.{Invariant}
-use Rattle.cg_agree.specs.Small.{Small, Starts, Makes, Enters, Orders, Receives, Hands, Leaves, Asks, Settles, Commits, Crashes, Recovers, Copies, Joins, start, coming, handed_next, leaving, take_newest, take_next, take_parting, take_request, turning, commit_as, crash_as, recover_as, copy_as, join_with, new_past, written, struck, newest_conf, small_step}
+use Rattle.cg_agree.specs.Small.{Small, Starts, Makes, Enters, Orders, Receives, Hands, Leaves, Asks, Settles, Commits, Crashes, Recovers, Copies, Joins, start, coming, handed_next, leaving, take_newest, take_next, take_parting, take_request, turning, commit_as, crash_as, recover_as, copy_as, join_with, new_past, written, struck, small_step}
 use Rattle.cg_agree.specs.Smalls.{may_make, is_set, is_running}
 use Rattle.cg_agree.proofs.BegunKept.{nothing-before}
 use Rattle.cg_agree.proofs.ChronicleFacts.{past-begun}
@@ -36,10 +36,10 @@ use Rattle.cg_agree.proofs.CoversStay.{ReachShrinks, covers-still}
 use Rattle.cg_agree.proofs.ExchangeSmalls.{greens-settle, greens-request, greens-turning, greens-behind, replica-behind}
 use Rattle.cg_agree.proofs.ExchangeStill.{StaysAs, stays-itself}
 use Rattle.cg_agree.proofs.HandsKept.{seated}
-use Rattle.cg_agree.proofs.HandsNow.{HandsNow, hands-now, hand-state, set, behind}
+use Rattle.cg_agree.proofs.HandsNow.{hands-now, hand-state, set, behind}
 use Rattle.cg_agree.proofs.ModeHeld.{SameLists, lists-settle, lists-request}
 use Rattle.cg_agree.proofs.OneSteps.{may-join, seat-there}
-use Rattle.cg_agree.proofs.PastKept.{EntersNow, enters-now}
+use Rattle.cg_agree.proofs.PastKept.{enters-now}
 use Rattle.cg_agree.proofs.TalkAlone.{replica-set}
 use Rattle.cg_agree.proofs.TalkQuiet.{replica-turning}
 use Rattle.cg_agree.proofs.TurnParts.{newest-come}
