@@ -75,7 +75,7 @@ heard-next set conf t from (GreenItem at a) full may = refl
 heard-next set conf t from (RedItem a) full may = refl
 heard-next set conf t from (Cpc id at) full may = refl
 
-heard-rest : (set : List ℕ) (conf : ℕ) (list : List (Sent Msg)) (t : Talk) → is_full set t ≡ true → is_legal set conf t list ≡ true → (fold hears t list).heard ≡ t.heard
+pub heard-rest : (set : List ℕ) (conf : ℕ) (list : List (Sent Msg)) (t : Talk) → is_full set t ≡ true → is_legal set conf t list ≡ true → (fold hears t list).heard ≡ t.heard
 heard-rest set conf [] t full legal = refl
 heard-rest set conf (s ∷ list) t full legal =
     let parts = and_parts (may_say set conf t s.from s.message) (is_legal set conf (hears t s) list) legal in

@@ -283,3 +283,4 @@ pub mod CoresCover
 pub mod CoverageKept
 pub mod TransKept
 pub mod InvariantKept
+pub mod MovesKept
