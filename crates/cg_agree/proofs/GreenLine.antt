@@ -93,7 +93,7 @@ module _ (c : Chronicle) (i : Invariant c) (q k : ℕ) (r : Replica) (up : repli
   pub conf-before : a.conf ≡ k
   conf-before = on-line.conf ∙ ap conf_at phase
 
-  in-primary : IsInPrimary c r.held k
+  pub in-primary : IsInPrimary c r.held k
   in-primary =
       let mode : IsModeData c q r = subst (λ (o : Option Replica). IfSome o (IsModeData c q)) up (i.replica.mode_data q) in
       let data_of : HasModeData c r.held (Regular k) RegPrim = subst (λ (s : State). HasModeData c r.held (Regular k) s) state (subst (λ (x : Phase). HasModeData c r.held x r.state) phase mode.data_of) in

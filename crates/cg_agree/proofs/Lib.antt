@@ -284,3 +284,9 @@ pub mod CoverageKept
 pub mod TransKept
 pub mod InvariantKept
 pub mod MovesKept
+pub mod PlacesBegin
+pub mod LeaverReach
+pub mod LeaverOutside
+pub mod LeaverStep
+pub mod YellowNext
+pub mod YellowGrows

@@ -33,7 +33,7 @@ use Rattle.cg_agree.proofs.NextThere.{orders-now, receives-now}
 use Rattle.cg_agree.proofs.OneSteps.{OneStep, turns-step, hands-step, leaves-step, enters-step, commits-step, copies-step, crashes-step, recovers-step, joins-step, may-join, may-enter}
 use Rattle.cg_agree.proofs.OrderNow.{lists-reached, lists-reach}
 use Rattle.cg_agree.proofs.TalkFactsKept.{talk_legal-kept}
-use Rattle.cg_agree.proofs.TransKept.{LeaverCovers}
+use Rattle.cg_agree.proofs.LeaverStep.{LeaverLeft}
 
 -- ---- a configuration keeps its members, or nothing is said in it
 
@@ -115,6 +115,6 @@ lists_grow-kept c s i may rest = record {
 pub moves-kept : (c : Chronicle) (s : Small) → Invariant c → may_make c s ≡ true → AtRest c s → Moves c (small_step c s)
 moves-kept c s i may rest = record { receipts_fixed = fixed-in c s i may; lists_grow = lists_grow-kept c s i may rest }
 
--- Small steps keep the facts, and take nothing back, where who leaves a primary component in order covers its level.
-pub kept-by-smalls : ((c : Chronicle) (s : Small) → Invariant c → may_make c s ≡ true → AtRest c s → LeaverCovers c s) → KeptBySmalls
-kept-by-smalls leaver c s i may rest = (invariant-now c s i may rest (leaver c s i may rest), moves-kept c s i may rest)
+-- Small steps keep the facts, and take nothing back, where of who leaves a primary component this is so.
+pub kept-by-smalls : ((c : Chronicle) (s : Small) → Invariant c → may_make c s ≡ true → AtRest c s → LeaverLeft c s) → KeptBySmalls
+kept-by-smalls left c s i may rest = (invariant-now c s i may rest (left c s i may rest), moves-kept c s i may rest)
