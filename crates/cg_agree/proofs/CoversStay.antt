@@ -28,9 +28,10 @@ none-front (suc n) ys = tt
 
 -- at the start nothing can become green
 pub start-covers : (c : Chronicle) (names : List ActionId) → CoversLevel c 0 names
-start-covers c names =
-    (ap (λ b. b || is_frozen_in c (attempt_at c 0).conf) (eq-eqb 0 0 refl),
-    subst (λ xs. Front (names_of (take (bound_at c 0) xs)) names) (sym (start-line c)) (none-front (bound_at c 0) names))
+start-covers c names = (
+  ap (λ b. b || is_frozen_in c (attempt_at c 0).conf) (eq-eqb 0 0 refl),
+  subst (λ xs. Front (names_of (take (bound_at c 0) xs)) names) (sym (start-line c)) (none-front (bound_at c 0) names),
+)
 
 -- what covers is covered by what it is a front of
 pub covers-more : (c : Chronicle) (level : ℕ) (xs ys : List ActionId) → Front xs ys → CoversLevel c level xs → CoversLevel c level ys
@@ -49,6 +50,8 @@ pub covers-still : (c : Chronicle) (s : Small) → Invariant c → may_make c s 
 covers-still c s i may shrinks zero le names is = start-covers (small_step c s) names
 covers-still c s i may shrinks (suc level) le names is =
     let d = small_step c s in
-    let frozen = frozen-stays c s (suc level) i.net.phase_sound i.net.receipts_inside may i.attempt.levels_stand (omega arith) le (level-said c i (suc level) (omega arith) le) is.0 in
-    (frozen, Front-trans (names_of (reach_at d (suc level))) (names_of (reach_at c (suc level))) names
-    (Front-map (λ (a : Action). a.id) (reach_at d (suc level)) (reach_at c (suc level)) (shrinks (suc level) le frozen)) is.1)
+    let frozen = frozen-stays c s (suc level) i.net.phase_sound i.net.receipts_inside may i.attempt.levels_stand (omega arith) le (level-said c i (suc level) (omega arith) le) is.0 in (
+      frozen,
+      Front-trans (names_of (reach_at d (suc level))) (names_of (reach_at c (suc level))) names
+          (Front-map (λ (a : Action). a.id) (reach_at d (suc level)) (reach_at c (suc level)) (shrinks (suc level) le frozen)) is.1,
+    )

@@ -89,8 +89,10 @@ none-among : (u t : Summary → Bool) (heard : List Summary) → OfEach (λ s. t
 none-among u t [] each = tt
 none-among u t (s ∷ heard) each = elim (cases_Bool (u s)) [
   | inl is ↦ (let both = subst (λ b. OfEach (λ s. t s ≡ false) (cond b (s ∷ filter u heard) (filter u heard))) is each in ((λ y. both.0), none-among u t heard both.1))
-  | inr isnt ↦ ((λ y. absurd (let clash : true ≡ false = sym y ∙ isnt in cc)),
-      none-among u t heard (subst (λ b. OfEach (λ s. t s ≡ false) (cond b (s ∷ filter u heard) (filter u heard))) isnt each))
+  | inr isnt ↦ (
+    (λ y. absurd (let clash : true ≡ false = sym y ∙ isnt in cc)),
+    none-among u t heard (subst (λ b. OfEach (λ s. t s ≡ false) (cond b (s ∷ filter u heard) (filter u heard))) isnt each),
+  )
 ]
 
 -- where nobody of the newest index has a valid list
@@ -177,14 +179,15 @@ module _ (c : Chronicle) (f : Behind c) (covered : ToldCovers c) (conf : ℕ) (h
   group-shows low e =
       let is = lowest-of (λ s. ((IsToldIn c conf s × ((s.green_count ≤ lead.summary.green_count) × (s.prim.index ≤ newest_index heard))) × ((s.prim.index == newest_index heard) ≡ true)) × (s.yellow.valid ≡ true)) (yellow_group heard) low e group in
       let told = is.0.0.0 in
-      let covers = valid-covers low told is.0.1 is.1 in
-      (covers.0,
-      end-covers heard lead.summary low (names_of b.greens) (names_of reach) (λ s. names_of (mine s)) lead.most
-      (ap (λ (x : Summary). x.green_cut) (sym lead.is) ∙ (told-fits c f conf lead.summary.id b lead.found).green_cut)
-      (run_on-front [] (names_of reach) (names_of (mine low) ++ low.yellow.list) covers.1 (run_on-of low told)) best-reach e
-      (of_each-weaker (λ s. ((IsToldIn c conf s × ((s.green_count ≤ lead.summary.green_count) × (s.prim.index ≤ newest_index heard))) × ((s.prim.index == newest_index heard) ≡ true)) × (s.yellow.valid ≡ true))
-      (λ s. CoversWith (names_of b.greens) (names_of reach) (names_of (mine s)) s.yellow.list)
-      (λ s is. record { front = Front-map (λ (x : Action). x.id) (mine s) b.greens (mine-front s is.0.0.0 is.0.0.1.0); covers = (valid-covers s is.0.0.0 is.0.1 is.1).1 }) (yellow_group heard) group))
+      let covers = valid-covers low told is.0.1 is.1 in (
+        covers.0,
+        end-covers heard lead.summary low (names_of b.greens) (names_of reach) (λ s. names_of (mine s)) lead.most
+            (ap (λ (x : Summary). x.green_cut) (sym lead.is) ∙ (told-fits c f conf lead.summary.id b lead.found).green_cut)
+            (run_on-front [] (names_of reach) (names_of (mine low) ++ low.yellow.list) covers.1 (run_on-of low told)) best-reach e
+            (of_each-weaker (λ s. ((IsToldIn c conf s × ((s.green_count ≤ lead.summary.green_count) × (s.prim.index ≤ newest_index heard))) × ((s.prim.index == newest_index heard) ≡ true)) × (s.yellow.valid ≡ true))
+            (λ s. CoversWith (names_of b.greens) (names_of reach) (names_of (mine s)) s.yellow.list)
+            (λ s is. record { front = Front-map (λ (x : Action). x.id) (mine s) b.greens (mine-front s is.0.0.0 is.0.0.1.0); covers = (valid-covers s is.0.0.0 is.0.1 is.1).1 }) (yellow_group heard) group),
+      )
 
   -- ---- where nobody has one
 

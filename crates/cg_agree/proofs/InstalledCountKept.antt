@@ -87,8 +87,10 @@ module _ (c : Chronicle) (i : Invariant c) (conf p : ℕ) (a b : Attempt) (found
             | inl old ↦ inl (ap (λ (x : Attempt). has x.installed p) (same ins.a (ap (attempt_of c) here ∙ ins.found)) ∙ old)
             | inr this ↦
                 (let mine = eqb-true q p this in
-                inr (ap (is_regular_in c conf) (sym mine) ∙ ap (is_regular_at conf) ins.regular ∙ eq-eqb ins.conf conf (sym here),
-                    ap (λ x. is_some (replica_of (small_step c s).world x)) (sym mine) ∙ ap (λ (o : Option Replica). is_some o) moved))
+                inr (
+                  ap (is_regular_in c conf) (sym mine) ∙ ap (is_regular_at conf) ins.regular ∙ eq-eqb ins.conf conf (sym here),
+                  ap (λ x. is_some (replica_of (small_step c s).world x)) (sym mine) ∙ ap (λ (o : Option Replica). is_some o) moved,
+                ))
           ]
       at (WasMade none q heard r new begins greens is moved handed) = absurd (let clash : None ≡ Some a = sym none ∙ found in cc)
 

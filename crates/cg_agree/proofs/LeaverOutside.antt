@@ -51,7 +51,6 @@ acts-split (suc n) low ordered =
     ap (λ k. acts_in (take k ordered)) e ∙ acts-split n (suc low) ordered ∙ ap (λ xs. xs ++ acts_at ordered (count_up (suc (suc low)) n)) (acts-step low ordered)
     ∙ append_assoc (acts_in (take low ordered)) (act_at ordered (suc low)) (acts_at ordered (count_up (suc (suc low)) n))
 
-
 -- so their names begin with all of these, where the yellow names do with those between
 pub row-covers : (low last : ℕ) (ordered : List (Sent Msg)) (yellow : List ActionId) → Front (names_of (acts_at ordered (above_up_to low last))) yellow →
     Front (names_of (acts_in (take last ordered))) (names_of (acts_in (take low ordered)) ++ yellow)
@@ -85,9 +84,10 @@ covers-outside c conf p level low greens yellow stands counts some le here membe
     let far : names_of (line_outside c a) ≡ first ++ names_of (acts_in (take last ordered)) = ap names_of line ∙ map-append (λ (x : Action). x.id) (installation a) (acts_in (take last ordered)) in
     let mine : names_of greens ++ yellow ≡ first ++ (names_of (acts_in (take low ordered)) ++ yellow) =
     ap (λ xs. names_of xs ++ yellow) green ∙ ap (λ xs. xs ++ yellow) (map-append (λ (x : Action). x.id) (installation a) (acts_in (take low ordered)))
-    ∙ append_assoc first (names_of (acts_in (take low ordered))) yellow in
-    (level-frozen c conf p member out level here,
-    Front-trans (names_of (reach_at c level)) (names_of (line_outside c a)) (names_of greens ++ yellow)
-    (Front-map (λ (x : Action). x.id) (reach_at c level) (line_outside c a) (reach-outside c level stands counts some le))
-    (subst (λ xs. Front xs (names_of greens ++ yellow)) (sym far) (subst (Front (first ++ names_of (acts_in (take last ordered)))) (sym mine)
-    (Front-behind first (names_of (acts_in (take last ordered))) (names_of (acts_in (take low ordered)) ++ yellow) (row-covers low last ordered yellow front)))))
+    ∙ append_assoc first (names_of (acts_in (take low ordered))) yellow in (
+      level-frozen c conf p member out level here,
+      Front-trans (names_of (reach_at c level)) (names_of (line_outside c a)) (names_of greens ++ yellow)
+          (Front-map (λ (x : Action). x.id) (reach_at c level) (line_outside c a) (reach-outside c level stands counts some le))
+          (subst (λ xs. Front xs (names_of greens ++ yellow)) (sym far) (subst (Front (first ++ names_of (acts_in (take last ordered)))) (sym mine)
+          (Front-behind first (names_of (acts_in (take last ordered))) (names_of (acts_in (take low ordered)) ++ yellow) (row-covers low last ordered yellow front)))),
+    )

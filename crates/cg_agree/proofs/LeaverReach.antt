@@ -52,8 +52,8 @@ bound-outside c a counted =
 reach-in : (c : Chronicle) (a : Attempt) → AreCounted c a → Front (take (bound_in c a) (line_in c a)) (line_outside c a)
 reach-in c a counted =
     let front : Front (line_outside c a) (line_in c a) =
-        Front-behind (installation a) (acts_in (take (received_outside c a.conf) (ordered_in c a.conf))) (acts_in (ordered_in c a.conf))
-        (acts-front (take (received_outside c a.conf) (ordered_in c a.conf)) (ordered_in c a.conf) (Front-take (received_outside c a.conf) (ordered_in c a.conf))) in
+    Front-behind (installation a) (acts_in (take (received_outside c a.conf) (ordered_in c a.conf))) (acts_in (ordered_in c a.conf))
+    (acts-front (take (received_outside c a.conf) (ordered_in c a.conf)) (ordered_in c a.conf) (Front-take (received_outside c a.conf) (ordered_in c a.conf))) in
     subst (λ xs. Front xs (line_outside c a)) (sym (take-front (bound_in c a) (line_outside c a) (line_in c a) front (bound-outside c a counted)))
     (Front-take (bound_in c a) (line_outside c a))
 

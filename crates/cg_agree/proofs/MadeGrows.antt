@@ -130,6 +130,6 @@ unfolding replica_step
 step-shown cut start r all (Deliveries list) rising is counts =
     let t = fold take (begin r) list in
     settle-shown cut rising r.held t (stays-shown cut rising r.held counts t
-        (of-deliveries (StaysCreated r.held) (λ a. Unit {0}) (created-rule r.held) (begin r) list (anything list) (record { held = created-first start r.held all is; made = refl })))
+    (of-deliveries (StaysCreated r.held) (λ a. Unit {0}) (created-rule r.held) (begin r) list (anything list) (record { held = created-first start r.held all is; made = refl })))
 step-shown cut start r all (Asks kind) rising is counts =
     request-shown cut rising r.held (begin r) kind (stays-shown cut rising r.held counts (begin r) (record { held = created-first start r.held all is; made = refl }))

@@ -34,7 +34,7 @@ module _ (p n : ℕ) where
         let skips : is_above a ≡ false = ap (λ b. b && nat_lt n a.id.index) (ne_eqb a.id.creator p other) in
         ap (λ xs. index_in (cut_behind made (names_of xs)) p) (cond-false (is_above a) (a ∷ filter is_above reds) (filter is_above reds) skips)
         ∙ above-rises reds made (raise cut a.id) up (rising-raise cut a.id rising) (run-rest cut a.id (names_of reds) run)
-            (is ∙ ap (max n) (sym (index-other cut a.id rising p other)))
+        (is ∙ ap (max n) (sym (index-other cut a.id rising p other)))
     | inl mine ↦
         let next : a.id.index ≡ suc (index_in cut a.id.creator) = run-head cut a.id (names_of reds) run in
         let here : index_in cut a.id.creator ≡ index_in cut p = ap (index_in cut) mine in
@@ -88,11 +88,11 @@ recovery-shown made start p disk all up is mine shown green =
     let same : created h ≡ created old = created-same start all t is in
     let n = index_in made p in
     let whole : created h ≡ index_in h.queue.red_cut p = (
-        let none : last_index h.own ≡ 0 = ap last_index red.own in
-        let here : index_in h.queue.red_cut h.id ≡ index_in h.queue.red_cut p = ap (index_in h.queue.red_cut) named in
-        let is : created h ≡ max (index_in h.queue.red_cut h.id) (last_index h.own) = refl in
-        omega arith
-        ) in
+    let none : last_index h.own ≡ 0 = ap last_index red.own in
+    let here : index_in h.queue.red_cut h.id ≡ index_in h.queue.red_cut p = ap (index_in h.queue.red_cut) named in
+    let is : created h ≡ max (index_in h.queue.red_cut h.id) (last_index h.own) = refl in
+    omega arith
+    ) in
     let cut : index_in h.queue.red_cut p ≡ index_in (cut_behind h.queue.green_cut (names_of h.queue.reds)) p = ap (λ c. index_in c p) grown.is.made_of.red_cut in
     let list : unshown made h ≡ filter (is_above p n) h.queue.reds = ap (λ m. filter (λ a. (a.id.creator == m) && nat_lt (index_in made m) a.id.index) h.queue.reds) named in
     let greens : index_in h.queue.green_cut p ≡ index_in old.queue.green_cut p = ap (λ c. index_in c p) (recovered-rests start disk all is).1.green in

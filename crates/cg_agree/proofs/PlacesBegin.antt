@@ -31,13 +31,15 @@ row-front low high (suc n) [] e each = absurd (let clash : false ≡ true = each
 row-front low high (suc n) (place ∷ places) e each =
     let parts = ascends low high place places e in
     let first : suc low ≡ place = ⊎_elim (λ here. sym (eqb-true place (suc low) here))
-        (λ there. absurd (let lt = parts.0 in let rest = above-low place high (suc low) places parts.1 there in omega arith))
-        (or_cases (place == suc low) (has places (suc low)) (each (suc low) (omega arith) (omega arith))) in
-    let behind : ascend_within (suc low) high places ≡ true = subst (λ x. ascend_within x high places ≡ true) (sym first) parts.1 in
-    (first, row-front (suc low) high n places behind (λ k above within. ⊎_elim
-    (λ here. absurd (let same = eqb-true place k here in omega (arith, first, same, above)))
-    (λ there. there)
-    (or_cases (place == k) (has places k) (each k (omega arith) (omega arith)))))
+    (λ there. absurd (let lt = parts.0 in let rest = above-low place high (suc low) places parts.1 there in omega arith))
+    (or_cases (place == suc low) (has places (suc low)) (each (suc low) (omega arith) (omega arith))) in
+    let behind : ascend_within (suc low) high places ≡ true = subst (λ x. ascend_within x high places ≡ true) (sym first) parts.1 in (
+      first,
+      row-front (suc low) high n places behind (λ k above within. ⊎_elim
+          (λ here. absurd (let same = eqb-true place k here in omega (arith, first, same, above)))
+          (λ there. there)
+          (or_cases (place == k) (has places k) (each k (omega arith) (omega arith)))),
+    )
 
 -- ---- what a leaver has received
 

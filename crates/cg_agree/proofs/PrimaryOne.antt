@@ -69,12 +69,13 @@ IsFoundFrom low seats s = (low ≤ s.id) × (find (λ x. x.id == s.id) seats ≡
 found-all : (seats : List Seat) (low : ℕ) → IsRising low (map (λ s. s.id) seats) → Each (IsFoundFrom low seats) seats
 found-all [] low rise = tt
 found-all (s ∷ seats) low rise =
-    let first = rise.0 in
-    ((first, cond-true (s.id == s.id) (Some s) (find (λ x. x.id == s.id) seats) (eq-eqb s.id s.id refl)),
-    Each-weaker (IsFoundFrom (suc s.id) seats) (IsFoundFrom low (s ∷ seats)) (λ x is. (
-      (let above = is.0 in omega arith),
-      cond-false (s.id == x.id) (Some s) (find (λ y. y.id == x.id) seats) (ne_eqb s.id x.id (λ e. (let above = is.0 in omega arith))) ∙ is.1,
-    )) seats (found-all seats (suc s.id) rise.1))
+    let first = rise.0 in (
+      (first, cond-true (s.id == s.id) (Some s) (find (λ x. x.id == s.id) seats) (eq-eqb s.id s.id refl)),
+      Each-weaker (IsFoundFrom (suc s.id) seats) (IsFoundFrom low (s ∷ seats)) (λ x is. (
+        (let above = is.0 in omega arith),
+        cond-false (s.id == x.id) (Some s) (find (λ y. y.id == x.id) seats) (ne_eqb s.id x.id (λ e. (let above = is.0 in omega arith))) ∙ is.1,
+      )) seats (found-all seats (suc s.id) rise.1),
+    )
 
 seat-line : (c : Chronicle) (w : World) → StandsBeside c w → (g : GroupState Msg) (s : Seat) → find (λ x. x.id == s.id) w.seats ≡ Some s → OfLine c (line_of g s)
 unfolding view_of

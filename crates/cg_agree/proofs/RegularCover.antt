@@ -224,10 +224,12 @@ module _ (c : Chronicle) (f : Behind c) (covered : ToldCovers c) (p : ℕ) (r : 
               let reach = names_of (reach_at c (top_of c)) in
               let told : run_on [] (names_of t.greens ++ t.summary.yellow.list) ≡ true =
               run_on-append [] (names_of t.greens) t.summary.yellow.list ∙ and_from (run_on [] (names_of t.greens)) (run_on (cut_behind [] (names_of t.greens)) t.summary.yellow.list)
-              (told-run c f conf p t found) (ap (λ gc. run_on gc t.summary.yellow.list) (sym fits.green_cut) ∙ fits.yellow_next) in
-              (covers.0, subst (λ ys. Front reach (names_of greens ++ ys)) (sym is.yellow)
-              (above-covers (names_of t.greens) (names_of greens) reach t.summary.yellow.list h.queue.green_cut mine.made_of.green_cut (run_on-front [] reach (names_of t.greens ++ t.summary.yellow.list) covers.1 told) more
-              (Front-map (λ (x : Action). x.id) greens (reach_at c (top_of c)) (begun-reach c f p (told-begun c f conf p t found) some)) covers.1))
+              (told-run c f conf p t found) (ap (λ gc. run_on gc t.summary.yellow.list) (sym fits.green_cut) ∙ fits.yellow_next) in (
+                covers.0,
+                subst (λ ys. Front reach (names_of greens ++ ys)) (sym is.yellow)
+                    (above-covers (names_of t.greens) (names_of greens) reach t.summary.yellow.list h.queue.green_cut mine.made_of.green_cut (run_on-front [] reach (names_of t.greens ++ t.summary.yellow.list) covers.1 told) more
+                    (Front-map (λ (x : Action). x.id) greens (reach_at c (top_of c)) (begun-reach c f p (told-begun c f conf p t found) some)) covers.1),
+              )
           at some false covers = covers-more c (top_of c) (names_of t.greens ++ []) (names_of greens ++ [])
               (subst (λ xs. Front xs (names_of greens ++ [])) (sym (append-nil (names_of t.greens))) (subst (Front (names_of t.greens)) (sym (append-nil (names_of greens))) more)) covers
 

@@ -177,7 +177,9 @@ spine-now c s i may rest out stands counts level lt = at (top-move c (small_step
         | inl same ↦ subst (λ n. Front (reach_at (small_step c s) n) (installation (attempt_at (small_step c s) (suc n))) × (is_frozen (small_step c s) n ≡ true)) (sym same)
             (let frozen = frozen-still c s i may rest out stands counts (top_of c) (omega arith) (top-frozen c (small_step c s) i o) in
             let shrinks = reach-still c s i may rest out stands counts (top_of c) (omega arith) frozen in
-            let next = ap installation (opened-now c (small_step c s) i o) in
-            (subst (Front (reach_at (small_step c s) (top_of c))) (sym next)
-            (Front-trans (reach_at (small_step c s) (top_of c)) (reach_at c (top_of c)) (installation o.installing.a) shrinks (reach-installed c (small_step c s) i o)), frozen))
+            let next = ap installation (opened-now c (small_step c s) i o) in (
+              subst (Front (reach_at (small_step c s) (top_of c))) (sym next)
+                  (Front-trans (reach_at (small_step c s) (top_of c)) (reach_at c (top_of c)) (installation o.installing.a) shrinks (reach-installed c (small_step c s) i o)),
+              frozen,
+            ))
       ]
