@@ -10,3 +10,4 @@ pub mod Install
 pub mod Queries
 pub mod ReplicaLaws
 pub mod Overlay
+pub mod Whitening

@@ -1,14 +1,13 @@
 //! What a store rebuilds and changes: a replica from the parts of a checkpoint, and each part of a change.
-ghost use Rattle.std.specs.Prelude.{◌≡◌, ◌≤◌, ◌<◌, ◌^◌, ◌++◌, ◌∷◌, [], suc, max, false, OnOk, IfOk};
-ghost use Rattle.std.specs.Option.{unwrap_or};
+ghost use Rattle.std.specs.Prelude.{◌≡◌, ◌≤◌, ◌<◌, ◌^◌, ◌++◌, ◌∷◌, ◌↔◌, [], suc, false, IsTrue, OnOk, IfOk};
 ghost use Rattle.cg_base.specs.Cuts.{index_in};
 ghost use Rattle.cg_action.specs.Limits.{IsAction};
 ghost use Rattle.cg_db.specs.Limits.{AreEntries};
 ghost use Rattle.cg_records.specs.Limits.{Each, IsIndex, IsNumber, IsStable};
-ghost use Rattle.cg_queue.specs.Queue.{resumed, placed_red, placed_green, discarded, green_count};
-ghost use Rattle.cg_members.specs.Servers.{white_line};
+ghost use Rattle.cg_queue.specs.Queue.{resumed, placed_red, placed_green, green_count};
 ghost use Rattle.cg_client.specs.Marks.{after_first, with_green};
 ghost use Rattle.cg_client.specs.Replica.{created, yellow_of};
+ghost use Rattle.cg_client.specs.Whitening.{IsLineGreen, with_white};
 
 use crate::Core;
 use crate::entries::Entries;
@@ -112,18 +111,22 @@ impl Core {
         self.own.push(a)
     }
 
-    /// The white count rises to the white line, where that is greater, and the greens up to it are discarded.
-    pub fn whiten(&mut self) -> Result<(), NoMemory>
-        ensures { OnOk result (self.new ≡ record self.old { queue = discarded self.old.queue (max self.old.queue.white (unwrap_or (white_line self.old.members) 0)) }) }
+    /// The white count rises to the white line, where that is greater, and the greens up to it are discarded. It takes no
+    /// memory.
+    pub fn whiten(&mut self)
+        requires { IsLineGreen self.old }
+        ensures { self.new ≡ with_white self.old }
     {
         let white = self.queue.white_count();
         let line = self.members.white_line().unwrap_or(0).max(white);
-        // no line is above the green count
-        if line > self.queue.green_count() {
-            return Err(NoMemory);
-        }
         self.queue.discard_white(line);
-        Ok(())
+    }
+
+    /// The white line is at most the green count, as `whiten` asks. It takes no memory.
+    pub fn is_line_green(&self) -> bool
+        ensures { IsTrue result ↔ IsLineGreen self.now }
+    {
+        self.members.white_line().unwrap_or(0) <= self.queue.green_count()
     }
 
     /// What stands in each record of a commit.

@@ -379,12 +379,20 @@ fn stored(core: &mut Core) -> Result<(), Fail> {
     Ok(())
 }
 
+fn whiten(core: &mut Core) -> Result<(), Fail> {
+    if !core.is_line_green() {
+        return Err("a line above the greens")?;
+    }
+    core.whiten();
+    Ok(())
+}
+
 fn turn(core: &mut Core, word: &str, rest: &str) -> Result<(), Fail> {
     match word {
         "keep" => keep(core, rest)?,
         "attempt" => attempt(core, rest)?,
         "stored" => stored(core)?,
-        "whiten" => core.whiten()?,
+        "whiten" => whiten(core)?,
         "end" => core.end_prim(),
         "forget" => core.forget_record(),
         _ => core.empty_buffer(),

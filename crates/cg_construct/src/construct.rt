@@ -4,6 +4,7 @@ ghost use Rattle.cg_report.specs.declared.line.StateName.TheVariants.{Construct 
 ghost use Rattle.cg_wire.specs.Reading.{message_in};
 ghost use Rattle.cg_client.specs.declared.parts.DraftParts.{DraftParts};
 ghost use Rattle.cg_client.specs.Requests.{kind_of, request};
+ghost use Rattle.cg_client.specs.Whitening.{IsLineGreen, with_white};
 ghost use Rattle.cg_construct.specs.Attempt.{attempt_of, in_construct};
 ghost use Rattle.cg_construct.specs.Construct.{construct_on_cpc, construct_on_message, construct_on_read, construct_on};
 ghost use Rattle.cg_prim.specs.Steps.{is_transitional};
@@ -146,6 +147,14 @@ impl Construct {
         ensures { result ≡ ConstructName }
     {
         StateName::Construct
+    }
+
+    /// The white count rises to the white line. It takes no memory.
+    pub fn whiten(&mut self)
+        requires { IsLineGreen self.old.held }
+        ensures { self.new ≡ record self.old { held = with_white self.old.held } }
+    {
+        self.core.whiten();
     }
 
     /// What it holds.

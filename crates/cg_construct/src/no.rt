@@ -4,6 +4,7 @@ ghost use Rattle.cg_report.specs.declared.line.StateName.TheVariants.{No as NoNa
 ghost use Rattle.cg_wire.specs.Reading.{message_in};
 ghost use Rattle.cg_client.specs.declared.parts.DraftParts.{DraftParts};
 ghost use Rattle.cg_client.specs.Requests.{kind_of, request};
+ghost use Rattle.cg_client.specs.Whitening.{IsLineGreen, with_white};
 ghost use Rattle.cg_construct.specs.Attempt.{attempt_of, in_no};
 ghost use Rattle.cg_construct.specs.No.{no_on_cpc, no_on_message, no_on_read, no_on};
 ghost use Rattle.cg_construct.specs.Steps.{turn_after, HasLimits};
@@ -132,6 +133,14 @@ impl No {
         ensures { result ≡ NoName }
     {
         StateName::No
+    }
+
+    /// The white count rises to the white line. It takes no memory.
+    pub fn whiten(&mut self)
+        requires { IsLineGreen self.old.held }
+        ensures { self.new ≡ record self.old { held = with_white self.old.held } }
+    {
+        self.core.whiten();
     }
 
     /// What it holds.

@@ -7,6 +7,7 @@ ghost use Rattle.cg_client.specs.declared.parts.DraftParts.{DraftParts};
 ghost use Rattle.cg_client.specs.Replica.{Un as UnState};
 ghost use Rattle.cg_client.specs.Drafts.{turn_with};
 ghost use Rattle.cg_client.specs.Requests.{kind_of, request};
+ghost use Rattle.cg_client.specs.Whitening.{IsLineGreen, with_white};
 ghost use Rattle.cg_construct.specs.Attempt.{attempt_of};
 ghost use Rattle.cg_construct.specs.Un.{un_on_message, un_on_read, un_on};
 ghost use Rattle.cg_construct.specs.Steps.{turn_after, HasLimits};
@@ -111,6 +112,14 @@ impl Un {
         ensures { result ≡ UnName }
     {
         StateName::Un
+    }
+
+    /// The white count rises to the white line. It takes no memory.
+    pub fn whiten(&mut self)
+        requires { IsLineGreen self.old }
+        ensures { self.new ≡ with_white self.old }
+    {
+        self.core.whiten();
     }
 
     /// What it holds.

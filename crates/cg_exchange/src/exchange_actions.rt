@@ -10,6 +10,7 @@ ghost use Rattle.cg_client.specs.declared.parts.DraftParts.{DraftParts};
 ghost use Rattle.cg_client.specs.Drafts.{turn_with};
 ghost use Rattle.cg_client.specs.Replica.{State};
 ghost use Rattle.cg_client.specs.Requests.{kind_of, request};
+ghost use Rattle.cg_client.specs.Whitening.{IsLineGreen, with_white};
 ghost use Rattle.cg_exchange.specs.ExchangeActions.{progress, take_item, go_on, exchange_actions_on_item, exchange_actions_on_message, exchange_actions_on_read, exchange_actions_on};
 ghost use Rattle.cg_exchange.specs.States.{in_actions};
 ghost use Rattle.cg_exchange.specs.Steps.{turn_after, HasRecord};
@@ -245,6 +246,14 @@ impl ExchangeActions {
         ensures { result ≡ ExchangeActionsName }
     {
         StateName::ExchangeActions
+    }
+
+    /// The white count rises to the white line. It takes no memory.
+    pub fn whiten(&mut self)
+        requires { IsLineGreen self.old.held }
+        ensures { self.new ≡ record self.old { held = with_white self.old.held } }
+    {
+        self.core.whiten();
     }
 
     /// What it holds.

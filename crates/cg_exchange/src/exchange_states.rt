@@ -7,6 +7,7 @@ ghost use Rattle.cg_client.specs.Drafts.{turn_with};
 ghost use Rattle.cg_client.specs.Replica.{State};
 ghost use Rattle.cg_client.specs.Requests.{kind_of, request};
 ghost use Rattle.cg_client.specs.Summary.{enter_exchange};
+ghost use Rattle.cg_client.specs.Whitening.{IsLineGreen, with_white};
 ghost use Rattle.cg_exchange.specs.ExchangeActions.{go_on};
 ghost use Rattle.cg_exchange.specs.ExchangeStates.{is_usable, with_heard, exchange_states_on_summary, exchange_states_on_message, exchange_states_on_read, exchange_states_on};
 ghost use Rattle.cg_exchange.specs.States.{in_states};
@@ -201,6 +202,14 @@ impl ExchangeStates {
         ensures { result ≡ ExchangeStatesName }
     {
         StateName::ExchangeStates
+    }
+
+    /// The white count rises to the white line. It takes no memory.
+    pub fn whiten(&mut self)
+        requires { IsLineGreen self.old.held }
+        ensures { self.new ≡ record self.old { held = with_white self.old.held } }
+    {
+        self.core.whiten();
     }
 
     /// What it holds.

@@ -4,6 +4,7 @@ ghost use Rattle.cg_report.specs.declared.line.StateName.TheVariants.{NonPrim as
 ghost use Rattle.cg_wire.specs.Limits.{IsMsg};
 ghost use Rattle.cg_wire.specs.Reading.{message_in};
 ghost use Rattle.cg_client.specs.Requests.{kind_of, request, settle};
+ghost use Rattle.cg_client.specs.Whitening.{IsLineGreen, with_white};
 ghost use Rattle.cg_exchange.specs.NonPrim.{non_prim_on_message, non_prim_on_read, non_prim_on};
 ghost use Rattle.cg_exchange.specs.States.{in_non_prim};
 ghost use Rattle.cg_exchange.specs.Steps.{turn_after, HasRecord};
@@ -131,6 +132,14 @@ impl NonPrim {
         ensures { result ≡ NonPrimName }
     {
         StateName::NonPrim
+    }
+
+    /// The white count rises to the white line. It takes no memory.
+    pub fn whiten(&mut self)
+        requires { IsLineGreen self.old.held }
+        ensures { self.new ≡ record self.old { held = with_white self.old.held } }
+    {
+        self.core.whiten();
     }
 
     /// What it holds.

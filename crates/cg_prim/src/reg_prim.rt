@@ -6,6 +6,7 @@ ghost use Rattle.cg_wire.specs.Reading.{message_in};
 ghost use Rattle.cg_client.specs.Replica.{RegPrim as RegPrimState, State};
 ghost use Rattle.cg_client.specs.Drafts.{turn_with};
 ghost use Rattle.cg_client.specs.Requests.{kind_of, request, settle};
+ghost use Rattle.cg_client.specs.Whitening.{IsLineGreen, with_white};
 ghost use Rattle.cg_prim.specs.RegPrim.{reg_prim_on_message, reg_prim_on_read, reg_prim_on};
 ghost use Rattle.cg_prim.specs.Steps.{turn_after, is_transitional};
 
@@ -109,6 +110,14 @@ impl RegPrim {
         ensures { result ≡ RegPrimName }
     {
         StateName::RegPrim
+    }
+
+    /// The white count rises to the white line. It takes no memory.
+    pub fn whiten(&mut self)
+        requires { IsLineGreen self.old }
+        ensures { self.new ≡ with_white self.old }
+    {
+        self.core.whiten();
     }
 
     /// What it holds.

@@ -7,6 +7,7 @@ ghost use Rattle.cg_client.specs.Replica.{TransPrim as TransPrimState, State};
 ghost use Rattle.cg_client.specs.declared.parts.DraftParts.{DraftParts};
 ghost use Rattle.cg_client.specs.Drafts.{turn_with};
 ghost use Rattle.cg_client.specs.Requests.{kind_of, request};
+ghost use Rattle.cg_client.specs.Whitening.{IsLineGreen, with_white};
 ghost use Rattle.cg_prim.specs.TransPrim.{trans_prim_on_action, trans_prim_on_message, trans_prim_on_read, trans_prim_on};
 ghost use Rattle.cg_prim.specs.Steps.{turn_after};
 
@@ -115,6 +116,14 @@ impl TransPrim {
         ensures { result ≡ TransPrimName }
     {
         StateName::TransPrim
+    }
+
+    /// The white count rises to the white line. It takes no memory.
+    pub fn whiten(&mut self)
+        requires { IsLineGreen self.old }
+        ensures { self.new ≡ with_white self.old }
+    {
+        self.core.whiten();
     }
 
     /// What it holds.

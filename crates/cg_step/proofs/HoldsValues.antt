@@ -18,7 +18,8 @@ use Rattle.cg_records.specs.declared.primary.Primary.{Primary}
 use Rattle.cg_records.specs.declared.vulnerable.Vulnerable.{Vulnerable}
 use Rattle.cg_client.specs.Replica.{Held, fresh_held, created, last_index}
 use Rattle.cg_exchange.specs.PlanEnd.{with_name, usable_names}
-use Rattle.cg_stored.specs.Stored.{white_at, whiten}
+use Rattle.cg_client.specs.Whitening.{white_at}
+use Rattle.cg_stored.specs.Stored.{whiten}
 use Rattle.cg_stored.specs.Change.{is_distinct, are_yellow}
 use Rattle.cg_stored.specs.Checkpoint.{indexes_of}
 use Rattle.cg_step.specs.Holds.{run_on, cut_behind, Rising, CountsTo, Holds}
