@@ -62,7 +62,7 @@ abbrev pub LateCovers : Chronicle → ℕ → List ℕ → ℕ → List ℕ → 
 LateCovers c p set own places =
     (r : Replica) → replica_of c.world p ≡ Some r → HasInstalled r (take_parting c.world.group p set places (begin r)).replica → TransAt (small_step c (Leaves p set own places)) p
 
-places-may : (c : Chronicle) (p : ℕ) (set : List ℕ) (own : ℕ) (places : List ℕ) → may_make c (Leaves p set own places) ≡ true →
+pub places-may : (c : Chronicle) (p : ℕ) (set : List ℕ) (own : ℕ) (places : List ℕ) → may_make c (Leaves p set own places) ≡ true →
     (ascend_within (delivered_to c.world.group p) (length (home c.world.group p).ordered) places ≡ true) × (hold_received (home c.world.group p) p (delivered_to c.world.group p) places ≡ true)
 unfolding may_make
 places-may c p set own places may =

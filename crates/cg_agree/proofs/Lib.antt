@@ -290,3 +290,6 @@ pub mod LeaverOutside
 pub mod LeaverStep
 pub mod YellowNext
 pub mod YellowGrows
+pub mod ActsNext
+pub mod LateRow
+pub mod LateCovers
