@@ -293,3 +293,5 @@ pub mod YellowGrows
 pub mod ActsNext
 pub mod LateRow
 pub mod LateCovers
+pub mod RowYellow
+pub mod LeaverLeft
