@@ -288,7 +288,6 @@ pub mod PlacesBegin
 pub mod LeaverReach
 pub mod LeaverOutside
 pub mod LeaverStep
-pub mod YellowNext
 pub mod YellowGrows
 pub mod ActsNext
 pub mod LateRow
