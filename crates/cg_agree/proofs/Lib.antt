@@ -278,6 +278,10 @@ pub mod SeatsStay
 pub mod PrimaryOne
 pub mod GreensTold
 pub mod OrderExtends
+pub mod TurnGreens
+pub mod OrderGrows
+pub mod TurnsReached
+pub mod EventsReached
 pub mod PartingStill
 pub mod CoresCover
 pub mod CoverageKept
