@@ -280,6 +280,12 @@ pub mod GreensTold
 pub mod OrderExtends
 pub mod TurnGreens
 pub mod OrderGrows
+pub mod GroupSays
+pub mod OthersShown
+pub mod OthersEvents
+pub mod OrderFits
+pub mod OthersBooked
+pub mod OrderCopies
 pub mod TurnsReached
 pub mod EventsReached
 pub mod PartingStill
