@@ -286,8 +286,12 @@ pub mod OthersEvents
 pub mod OrderFits
 pub mod OthersBooked
 pub mod OrderCopies
+pub mod CopiesOrdered
 pub mod TurnsReached
+pub mod OrderBehind
 pub mod EventsReached
+pub mod OrderTellers
+pub mod OrdersKept
 pub mod PartingStill
 pub mod CoresCover
 pub mod CoverageKept
