@@ -21,7 +21,8 @@ use Rattle.cg_client.specs.Requests.{buffer, request_in}
 use Rattle.cg_client.specs.Summary.{redden, forget_own, own_to_red, enter_exchange}
 use Rattle.cg_prim.specs.TransPrim.{end_prim}
 use Rattle.cg_construct.specs.No.{no_record}
-use Rattle.cg_stored.specs.Stored.{stored_of, white_at, whiten, recover}
+use Rattle.cg_client.specs.Whitening.{white_at}
+use Rattle.cg_stored.specs.Stored.{stored_of, whiten, recover}
 use Rattle.cg_step.specs.Step.{on_regular, take}
 use Rattle.cg_agree.specs.Small.{take_request}
 use Rattle.cg_agree.proofs.HeldMarks.{IsOneself}
