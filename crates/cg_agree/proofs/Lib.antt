@@ -310,3 +310,4 @@ pub mod EventRuns
 pub mod GreensBehind
 pub mod NamesTimes
 pub mod FoldReplies
+pub mod FoldAnswersRun

@@ -45,7 +45,7 @@ whitened-owing : (p base : ℕ) (h : Held) → IsOwing p base h → IsOwing p ba
 unfolding whiten
 whitened-owing p base h is = record { low = is.low; owed = is.owed }
 
-whitened-created : (h : Held) → created (whiten h) ≡ created h
+pub whitened-created : (h : Held) → created (whiten h) ≡ created h
 unfolding whiten
 whitened-created h = refl
 
@@ -60,7 +60,7 @@ gone : (a : Bool) → ((a && false) || false) ≡ false
 gone true = refl
 gone false = refl
 
-no-more : (a : Bool) → (a && false) ≡ false
+pub no-more : (a : Bool) → (a && false) ≡ false
 no-more true = refl
 no-more false = refl
 
@@ -108,11 +108,11 @@ module _ (always : AlwaysHolds) (tells : AlwaysTells) (earlier : List Step) (s :
 
   -- ---- what is shown as created, and as down
 
-  created-now : (p i : ℕ) (made : List ActionId) → ((i : ℕ) → names (made_ids h.made) (own_name p i) ≡ (names (made_ids []) (own_name p i) || names made (own_name p i))) →
+  pub created-now : (p i : ℕ) (made : List ActionId) → ((i : ℕ) → names (made_ids h.made) (own_name p i) ≡ (names (made_ids []) (own_name p i) || names made (own_name p i))) →
       is_created_in (own_name p i) s ≡ (names made (own_name p i) && not (is_recovery_of p s.event))
   created-now p i made said = ap (λ b. b && not (is_recovery_of p s.event)) (ap (λ (list : List Made). names (made_ids list) (own_name p i)) shows.made ∙ said i)
 
-  up-now : (p : ℕ) (r : Replica) → replica_of (world_of now) p ≡ Some r → is_down_in p s ≡ false
+  pub up-now : (p : ℕ) (r : Replica) → replica_of (world_of now) p ≡ Some r → is_down_in p s ≡ false
   up-now p r runs =
       let moved = is.world ∙ ap (λ (m : Moved). m.world) is.moved in
       let rise : IsRising 0 (map (λ s. s.id) (world_of now).seats) = subst (IsRising 0) (sym behind.stands.same.seats) behind.stands.facts.lists.seats in
@@ -206,10 +206,10 @@ module _ (always : AlwaysHolds) (tells : AlwaysTells) (earlier : List Step) (s :
     mine : OwesSo (chronicle_of earlier).start p r.held
     mine = subst (SeatOwes (chronicle_of earlier).start p) turn.before (owes-before p)
 
-    was : LivesOf earlier p r
+    pub was : LivesOf earlier p r
     was = subst (LivesAt earlier p) (ap (λ (o : Option Seat). option_and_then (λ s. running s.life) o) turn.before) (owed p).lives
 
-    says : SaysSo p was.base r.held t
+    pub says : SaysSo p was.base r.held t
     says = step-says (chronicle_of earlier).start p was.base r turn.input mine.core was.owing
 
     disk-before : turn.disk.content.owed ≡ []
@@ -218,25 +218,30 @@ module _ (always : AlwaysHolds) (tells : AlwaysTells) (earlier : List Step) (s :
     abbrev Ends : Ended → Type 0
     Ends e = seat_of h.world p ≡ Some (record { id = p; life = life_at e }) → SaidOnly h p (made_by t e) (replies_by t e) → Result p
 
+    -- its own actions that it lives since, where it runs on
+    pub turned-lives : (x : Replica) → replica_of (world_of now) p ≡ Some x → created x.held ≡ created t.replica.held → SaidOnly h p (names_of t.made) t.replies → (i : ℕ) →
+        lives_since (own_name p i) now ≡ (nat_lt was.base i && nat_le i (created x.held))
+    turned-lives x up same said i =
+        let m = created r.held in
+        let total : created x.held ≡ m + says.count = same ∙ says.reached in
+        let made : names (names_of t.made) (own_name p i) ≡ (nat_lt m i && nat_le i (m + says.count)) = ap (λ ids. names ids (own_name p i)) says.made ∙ own-named p m says.count i in
+        lives-next (own_name p i) earlier s
+        ∙ ap₂ (λ (a b : Bool). (a && not b) || is_created_in (own_name p i) s) (was.lives i) (up-now p x up)
+        ∙ ap (λ (c : Bool). ((nat_lt was.base i && nat_le i m) && true) || c)
+        (created-now p i (names_of t.made) said.made ∙ ap₂ (λ (a b : Bool). a && not b) made turn.no_recovery)
+        ∙ joined-range was.base m says.count i was.owing.low
+        ∙ ap (λ n. nat_lt was.base i && nat_le i n) (sym total)
+
     runs-on : (x : Replica) (d : Disk) → IsOwing p was.base x.held → created x.held ≡ created t.replica.held → d.content.owed ≡ [] → Ends (Runs x d)
     runs-on x d owing same none seat said =
         let now_seat = seat-now p ∙ seat in
         let up : replica_of (world_of now) p ≡ Some x = ap (λ (o : Option Seat). option_and_then (λ s. running s.life) o) now_seat in
-        let m = created r.held in
-        let total : created x.held ≡ m + says.count = same ∙ says.reached in
         record {
           disk = subst (λ (o : Option Held). IfSome o (λ h. h.owed ≡ [])) (sym (ap (λ (o : Option Seat). option_map (λ s. on_disk s.life) o) now_seat)) none;
           lives = subst (LivesAt now p) (sym up) (record {
             base = was.base;
             owing = owing;
-            lives = λ i.
-                let made : names (names_of t.made) (own_name p i) ≡ (nat_lt m i && nat_le i (m + says.count)) = ap (λ ids. names ids (own_name p i)) says.made ∙ own-named p m says.count i in
-                lives-next (own_name p i) earlier s
-                ∙ ap₂ (λ (a b : Bool). (a && not b) || is_created_in (own_name p i) s) (was.lives i) (up-now p x up)
-                ∙ ap (λ (c : Bool). ((nat_lt was.base i && nat_le i m) && true) || c)
-                (created-now p i _ said.made ∙ ap₂ (λ (a b : Bool). a && not b) made turn.no_recovery)
-                ∙ joined-range was.base m says.count i was.owing.low
-                ∙ ap (λ n. nat_lt was.base i && nat_le i n) (sym total);
+            lives = λ i. turned-lives x up same said i;
           });
         }
 

@@ -117,6 +117,13 @@ module _ (steps : List Step) (f : StandsFor steps) where
       let one = booked-shown a booked.0 name in
       ap (λ (o : Option Action). present (o ∷ map (made_action steps) (names_of list))) one ∙ ap (λ xs. a ∷ xs) (front-shown list ids front.1 shown.1 booked.1)
 
+  -- and each by itself
+  pub each-action : (list : List Action) (ids : List ActionId) → Front (names_of list) ids → Each IsShownName ids → AreBooked c list → Each (λ a. made_action steps a.id ≡ Some a) list
+  each-action [] ids front shown booked = tt
+  each-action (a ∷ list) [] front shown booked = absurd front
+  each-action (a ∷ list) (id ∷ ids) front shown booked =
+      (booked-shown a booked.0 (ap (names (made_names steps)) front.0 ∙ shown.0), each-action list ids front.1 shown.1 booked.1)
+
   pub actions-shown : (list : List Action) → Front (names_of list) (order_of steps) → AreBooked c list → made_actions steps (names_of list) ≡ list
   actions-shown list front booked = front-shown list (order_of steps) front order-shown booked
 
