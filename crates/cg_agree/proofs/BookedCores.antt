@@ -10,7 +10,8 @@ use Rattle.cg_wire.specs.declared.message.Msg.TheVariants.{Action as ActionMsg, 
 use Rattle.cg_group.specs.State.{Sent, unordered_of}
 use Rattle.cg_client.specs.Replica.{Held, Replica, NonPrim}
 use Rattle.cg_client.specs.Turn.{begin}
-use Rattle.cg_stored.specs.Stored.{whiten, white_at, recover}
+use Rattle.cg_client.specs.Whitening.{white_at}
+use Rattle.cg_stored.specs.Stored.{whiten, recover}
 use Rattle.cg_step.specs.Recorded.{OfMessage}
 use Rattle.cg_agree.specs.World.{Seat, Snapshot, seat_of, replica_of, has_begun}
 use Rattle.cg_agree.specs.Step.{joined}

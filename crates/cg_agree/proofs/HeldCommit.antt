@@ -21,7 +21,8 @@ use Rattle.cg_client.specs.Requests.{buffer, request_in}
 use Rattle.cg_client.specs.Summary.{redden, forget_own, own_to_red, enter_exchange}
 use Rattle.cg_prim.specs.TransPrim.{end_prim}
 use Rattle.cg_construct.specs.No.{no_record}
-use Rattle.cg_stored.specs.Stored.{stored_of, white_at, whiten, recover}
+use Rattle.cg_client.specs.Whitening.{white_at}
+use Rattle.cg_stored.specs.Stored.{stored_of, whiten, recover}
 use Rattle.cg_step.specs.Step.{on_regular, take}
 use Rattle.cg_agree.specs.Small.{take_request}
 use Rattle.cg_agree.proofs.HeldMarks.{IsOneself}
@@ -41,7 +42,7 @@ least-below n (k ∷ ns) = elim (cases_Bool (nat_lt k n)) [
     | inr apart ↦ elim apart [ inl less ↦ omega arith | inr more ↦ absurd (let clash : true ≡ false = sym lt ∙ le-ltb k n (omega arith) in cc) ]
   ]
 
-line-below : (n : ℕ) (servers : List Server) → NoLineAbove n servers → unwrap_or (least_line servers) 0 ≤ n
+pub line-below : (n : ℕ) (servers : List Server) → NoLineAbove n servers → unwrap_or (least_line servers) 0 ≤ n
 line-below n [] lines = omega arith
 line-below n (s ∷ servers) lines =
     let first : s.line ≤ n = lines.0 in

@@ -15,7 +15,8 @@ use Rattle.cg_group.specs.State.{phase_of}
 use Rattle.cg_client.specs.Replica.{Held, Replica}
 use Rattle.cg_client.specs.Install.{actions_named, valid_yellow}
 use Rattle.cg_client.specs.Queries.{plain_reds}
-use Rattle.cg_stored.specs.Stored.{white_at, whiten}
+use Rattle.cg_client.specs.Whitening.{white_at}
+use Rattle.cg_stored.specs.Stored.{whiten}
 use Rattle.cg_agree.specs.World.{replica_of}
 use Rattle.cg_agree.specs.Chronicle.{Attempt, Chronicle}
 use Rattle.cg_agree.specs.Fronts.{When, IsSomeWith}
