@@ -110,21 +110,24 @@ module _ (lines : List Line) (g : GroupState Msg) where
       elim (cases_Bool (is_news lines l)) [
         | inl news ↦
             let is : lines_of (s ∷ seats) ≡ l ∷ lines_of seats = cond-true (is_news lines l) (l ∷ lines_of seats) (lines_of seats) news in (
-              (above, ap (fold (latest s.id) (line_in lines s.id)) is
-                  ∙ ap (λ x. fold (latest s.id) x (lines_of seats)) (cond-true (s.id == s.id) (Some l) (line_in lines s.id) (eq-eqb s.id s.id refl))
-                  ∙ skipped seats (suc s.id) s.id rise.1 (omega arith) (Some l)),
+              (
+                above,
+                ap (fold (latest s.id) (line_in lines s.id)) is
+                    ∙ ap (λ x. fold (latest s.id) x (lines_of seats)) (cond-true (s.id == s.id) (Some l) (line_in lines s.id) (eq-eqb s.id s.id refl))
+                    ∙ skipped seats (suc s.id) s.id rise.1 (omega arith) (Some l),
+              ),
               Each-weaker (StandsIn (suc s.id) (lines_of seats)) (StandsIn low (lines_of (s ∷ seats))) (λ x there. (
                 (let far = there.0 in omega arith),
                 ap (fold (latest x.id) (line_in lines x.id)) is
-                ∙ ap (λ o. fold (latest x.id) o (lines_of seats)) (cond-false (s.id == x.id) (Some l) (line_in lines x.id) (ne_eqb s.id x.id (λ e. (let far = there.0 in omega arith))))
-                ∙ there.1,
+                    ∙ ap (λ o. fold (latest x.id) o (lines_of seats)) (cond-false (s.id == x.id) (Some l) (line_in lines x.id) (ne_eqb s.id x.id (λ e. (let far = there.0 in omega arith))))
+                    ∙ there.1,
               )) seats rest,
             )
         | inr old ↦
             let is : lines_of (s ∷ seats) ≡ lines_of seats = cond-false (is_news lines l) (l ∷ lines_of seats) (lines_of seats) old in (
               (above, ap (fold (latest s.id) (line_in lines s.id)) is ∙ skipped seats (suc s.id) s.id rise.1 (omega arith) (line_in lines s.id) ∙ news-from lines l old),
               Each-weaker (StandsIn (suc s.id) (lines_of seats)) (StandsIn low (lines_of (s ∷ seats)))
-              (λ x there. ((let far = there.0 in omega arith), ap (fold (latest x.id) (line_in lines x.id)) is ∙ there.1)) seats rest,
+                  (λ x there. ((let far = there.0 in omega arith), ap (fold (latest x.id) (line_in lines x.id)) is ∙ there.1)) seats rest,
             )
       ]
 

@@ -156,12 +156,14 @@ module _ (c : Chronicle) (w : World) (stands : StandsBeside c w) (fits : MadeFit
         let has : disk_held w p ≡ Some content = ap (λ (o : Option Seat). option_map (λ s. on_disk s.life) o) e in
         let here : disk_held c.world p ≡ Some content = sym (stands.same.disk p) ∙ has in
         let core = subst (λ (o : Option Held). IfSome o (λ h. IsCore c h (stood_of c p))) here (stands.facts.replica.cores.disk p) in
-        let id = subst (λ (o : Option Held). IfSome o (λ h. h.id ≡ p)) here (stands.facts.net.seated.disk p) in
-        (sound, record {
-          greens = stood_of c p;
-          is = record { made_of = core.made_of; contiguous = core.contiguous; yellow_closed = core.yellow_closed };
-          id = id;
-        })
+        let id = subst (λ (o : Option Held). IfSome o (λ h. h.id ≡ p)) here (stands.facts.net.seated.disk p) in (
+          sound,
+          record {
+            greens = stood_of c p;
+            is = record { made_of = core.made_of; contiguous = core.contiguous; yellow_closed = core.yellow_closed };
+            id = id;
+          },
+        )
 
   unchanged : AddsSome w [] w
   unchanged = quiet-adds w w (record { made = refl; order = refl; last = last })

@@ -326,11 +326,11 @@ recovery-adds start w p (Down disk green) well rising made is last =
       reach = elim (order-longer w.order green (green_count r.held.queue)) [
         | inl stays ↦ inl stays
         | inr longer ↦ inr (record {
-            who = p;
-            below = (let less : p < suc p = omega arith in less);
-            replica = r;
-            runs = ap (running_in g.world.seats) (sym again.id) ∙ seats.0;
-            reaches = longer;
-          })
+          who = p;
+          below = (let less : p < suc p = omega arith in less);
+          replica = r;
+          runs = ap (running_in g.world.seats) (sym again.id) ∙ seats.0;
+          reaches = longer;
+        })
       ];
     }

@@ -135,15 +135,17 @@ in-time-on earlier c w s step is =
     let below : greatest (counts_of (ups_in s.entry.lines)) ≤ length s.world.order = greatest-below (length s.world.order) (counts_of (ups_in s.entry.lines)) (each-within c w s step) in
     let grows : length w.order ≤ length s.world.order =
     subst (λ (order : List ActionId). length w.order ≤ length order) (sym (step_order w s step.moved).names) (longer w.order (map (λ o. o.id) s.entry.orders)) in
-    let adds = (step-adds c w s step told.made.fits told.made.last).1 in
-    (now, elim adds.reach [
-      | inl same ↦ omega arith
-      | inr by ↦
-          let far : length s.world.order ≤ green_count by.replica.held.queue = by.reaches in
-          let place : position_of by.who (through earlier s) ≡ green_count by.replica.held.queue = position-shown (through earlier s) s.world now.lines by.who by.replica by.runs in
-          let all = position-below (through earlier s) by.who in
-          omega arith
-    ])
+    let adds = (step-adds c w s step told.made.fits told.made.last).1 in (
+      now,
+      elim adds.reach [
+        | inl same ↦ omega arith
+        | inr by ↦
+            let far : length s.world.order ≤ green_count by.replica.held.queue = by.reaches in
+            let place : position_of by.who (through earlier s) ≡ green_count by.replica.held.queue = position-shown (through earlier s) s.world now.lines by.who by.replica by.runs in
+            let all = position-below (through earlier s) by.who in
+            omega arith
+      ],
+    )
 
 pub in-time : AlwaysHolds → (earlier : List Step) → IsRunFrom no_world 0 earlier → length (order_of earlier) ≡ greatest (map (λ up. up.view.green_count) (all_up_lines earlier))
 unfolding IsInTime

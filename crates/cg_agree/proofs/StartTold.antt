@@ -46,10 +46,13 @@ module _ (c : Chronicle) (w : World) (before : List Weighted) (same : before ≡
 
   starts : (set : List Weighted) → MayStand w (Start set) → first_refusal w (Start set) ≡ None → IsNext (Start set)
   unfolding IsNext smalls_in small_step
-  starts set may admitted = (elim begun [
-    | inl none ↦ ap (λ list. list ++ set) (same ∙ none)
-    | inr seated ↦ absurd (seated-not w (Start set) seated may set refl)
-  ], start-seated w set admitted)
+  starts set may admitted = (
+    elim begun [
+      | inl none ↦ ap (λ list. list ++ set) (same ∙ none)
+      | inr seated ↦ absurd (seated-not w (Start set) seated may set refl)
+    ],
+    start-seated w set admitted,
+  )
 
   goes-on : (e : Event) → start_in e ≡ [] → MayStand w e → IsSeated w → IsNext e
   unfolding IsNext
