@@ -68,10 +68,11 @@ running_at o = option_and_then (λ s. running s.life) o
 pub record CountGrows (moved : Bool) (a b : Option Seat) : Type 0 where
   pub more : count_at a ≤ count_at b
   pub still : moved ≡ false → count_at b ≡ count_at a
+  pub begun : is_some b ≡ true → running_at b ≡ None → is_some a ≡ true
   pub up : moved ≡ false → (r : Replica) → running_at b ≡ Some r → (count_at b ≡ 0) ⊎ ((x : Replica) × (running_at a ≡ Some x))
 
 same-grows : (moved : Bool) (a b : Option Seat) → b ≡ a → CountGrows moved a b
-same-grows moved a b e = subst (CountGrows moved a) (sym e) (record { more = (let same : count_at a ≤ count_at a = omega arith in same); still = λ none. refl; up = λ none r runs. inr (r, runs) })
+same-grows moved a b e = subst (CountGrows moved a) (sym e) (record { more = (let same : count_at a ≤ count_at a = omega arith in same); still = λ none. refl; begun = λ some down. some; up = λ none r runs. inr (r, runs) })
 
 -- what is held, and what stands on the disk with as many greens
 pub record IsEven (start : List Weighted) (p : ℕ) (h disk : Held) : Type 0 where
@@ -131,10 +132,10 @@ turn-counts start p r disk input moved even none =
       count = whitened-count start r.held t.replica.held even.greens even.is (step-follows r input)
 
       grows : (l : Life) → green_count (held_at l).queue ≡ green_count t.replica.held.queue → CountGrows moved (Some (record { id = p; life = Up r disk })) (Some (record { id = p; life = l }))
-      grows l same = record { more = (let le = step-more r input in omega arith); still = λ idle. same ∙ none idle; up = λ idle x runs. inr (r, refl) }
+      grows l same = record { more = (let le = step-more r input in omega arith); still = λ idle. same ∙ none idle; begun = λ some down. refl; up = λ idle x runs. inr (r, refl) }
 
       lost : (d : Disk) (green : List ActionId) → green_count d.content.queue ≡ green_count r.held.queue → CountGrows moved (Some (record { id = p; life = Up r disk })) (Some (record { id = p; life = Down d green }))
-      lost d green same = record { more = omega arith; still = λ idle. same; up = λ idle x runs. inr (r, refl) }
+      lost d green same = record { more = omega arith; still = λ idle. same; begun = λ some down. refl; up = λ idle x runs. inr (r, refl) }
 
 -- ---- one seat changes
 
@@ -171,6 +172,17 @@ begun-none set (p ∷ list) w none q = begun-none set list (begin_replica set w 
       let r = fresh p set in
       let new : Option Seat = Some (record { id = p; life = Up r (new_disk r.held) }) in
       ap count_at (seat_of-set (name_also w p) p (Up r (new_disk r.held)) q) ∙ cond_both (p == q) new (seat_of w q) (λ o. count_at o ≡ 0) (λ y. refl) (λ n. none q)
+
+begun-up : (set : List Weighted) (list : List ℕ) (w : World) → ((q : ℕ) → is_some (seat_of w q) ≡ true → running_at (seat_of w q) ≡ None → ⊥) → (q : ℕ) →
+    (let v = fold (begin_replica set) w list in is_some (seat_of v q) ≡ true → running_at (seat_of v q) ≡ None → ⊥)
+begun-up set [] w none q = none q
+begun-up set (p ∷ list) w none q = begun-up set list (begin_replica set w p) one q where
+  one : (q : ℕ) → is_some (seat_of (begin_replica set w p) q) ≡ true → running_at (seat_of (begin_replica set w p) q) ≡ None → ⊥
+  one q =
+      let r = fresh p set in
+      let new : Option Seat = Some (record { id = p; life = Up r (new_disk r.held) }) in
+      subst (λ (o : Option Seat). is_some o ≡ true → running_at o ≡ None → ⊥) (sym (seat_of-set (name_also w p) p (Up r (new_disk r.held)) q))
+      (cond_both (p == q) new (seat_of w q) (λ o. is_some o ≡ true → running_at o ≡ None → ⊥) (λ y some down. (let no_one : Some r ≡ None = down in cc)) (λ n. none q))
 
 module _ (start : List Weighted) (w : World) (even : (p : ℕ) → SeatEven start p (seat_of w p)) where
   Grows : World → (ℕ → Bool) → Type 0
@@ -217,14 +229,14 @@ module _ (start : List Weighted) (w : World) (even : (p : ℕ) → SeatEven star
     stopped = of-seat (crash_at w p) life where
       life : (l : Life) → seat_of w p ≡ Some (record { id = p; life = l }) → LifeEven start p l → Grows (crash_at w p l) moved
       life (Up r disk) seat now = set-to (crash_at w p (Up r disk)) (Up r disk) (Down (crash_now disk) []) seat (λ q. seat_of-set w p (Down (crash_now disk) []) q)
-          (record { more = (let same = now.same in omega arith); still = λ idle. sym now.same; up = λ idle x runs. inr (r, refl) })
+          (record { more = (let same = now.same in omega arith); still = λ idle. sym now.same; begun = λ some down. refl; up = λ idle x runs. inr (r, refl) })
       life (Down disk green) seat now = stays w moved refl
 
     armed : (strike : Strike) → Grows (option_map_or (λ s. arm_at w p strike s.life) (seat_of w p) w) moved
     armed strike = of-seat (arm_at w p strike) life where
       life : (l : Life) → seat_of w p ≡ Some (record { id = p; life = l }) → LifeEven start p l → Grows (arm_at w p strike l) moved
       life (Up r disk) seat now = set-to (arm_at w p strike (Up r disk)) (Up r disk) (Up r (record disk { armed = Some strike })) seat (λ q. seat_of-set w p (Up r (record disk { armed = Some strike })) q)
-          (record { more = (let same : green_count r.held.queue ≤ green_count r.held.queue = omega arith in same); still = λ idle. refl; up = λ idle x runs. inr (r, refl) })
+          (record { more = (let same : green_count r.held.queue ≤ green_count r.held.queue = omega arith in same); still = λ idle. refl; begun = λ some down. refl; up = λ idle x runs. inr (r, refl) })
       life (Down disk green) seat now = stays w moved refl
 
     recovered-grows : moved p ≡ true → Grows (recover w p).world moved
@@ -237,7 +249,7 @@ module _ (start : List Weighted) (w : World) (even : (p : ℕ) → SeatEven star
           let count : green_count r.held.queue ≡ green_count disk.content.queue = counted start r.held now.greens (recovered-oneself start disk.content now.greens now.is) ∙ sym (counted start disk.content now.greens now.is) in
           set-to (recover_from w (Down disk green)).world (Down disk green) (Up r (disk_recovered disk)) seat
           (λ q. seat_of-set w r.held.id (Up r (disk_recovered disk)) q ∙ ap (λ n. cond (n == q) (Some (record { id = n; life = Up r (disk_recovered disk) })) (seat_of w q)) named)
-          (record { more = (let same = count in omega arith); still = λ idle. count; up = λ idle x runs. absurd (clash (sym moves ∙ idle)) })
+          (record { more = (let same = count in omega arith); still = λ idle. count; begun = λ some down. refl; up = λ idle x runs. absurd (clash (sym moves ∙ idle)) })
 
       at : (o : Option Seat) → seat_of w p ≡ o → Grows (option_map_or (λ s. recover_from w s.life) o (quietly w)).world moved
       at None e = stays w moved refl
@@ -255,6 +267,7 @@ module _ (start : List Weighted) (w : World) (even : (p : ℕ) → SeatEven star
         (record {
           more = (let nothing : count_at (seat_of w p) ≡ 0 = absent (seat_of w p) none in omega arith);
           still = λ idle. absurd (clash (sym moves ∙ idle));
+          begun = λ some down. absurd (let no_one : Some r ≡ None = down in cc);
           up = λ idle x runs. absurd (clash (sym moves ∙ idle));
         }))
         (λ n. stays w moved refl)
@@ -320,7 +333,8 @@ module _ (c : Chronicle) (w : World) (stands : StandsBeside c w) where
       let before : (p : ℕ) → count_at (seat_of w p) ≡ 0 = (λ p. ap (λ (x : World). count_at (seat_of x p)) first) in
       let behind = begun-none set (ids set) w before q in
       let none = before q in
-      record { more = omega arith; still = λ idle. behind ∙ sym none; up = λ idle r runs. inl behind }
+      let first_up : (p : ℕ) → is_some (seat_of w p) ≡ true → running_at (seat_of w p) ≡ None → ⊥ = (λ p some down. clash (sym some ∙ ap (λ (x : World). is_some (seat_of x p)) first)) in
+      record { more = omega arith; still = λ idle. behind ∙ sym none; begun = λ some down. absurd (begun-up set (ids set) w first_up q some down); up = λ idle r runs. inl behind }
 
   happens-counts : (e : Event) → MayStand w e → first_refusal w e ≡ None → Grows c.start w even-at (happens w e).world (may_move e)
   unfolding happens split merge deliver

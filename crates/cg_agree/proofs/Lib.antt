@@ -312,3 +312,6 @@ pub mod OrderGrowsRun
 pub mod PositionsGrow
 pub mod PrefixRun
 pub mod MadeBefore
+pub mod OrderedActions
+pub mod WhiteTold
+pub mod PrefixWhite

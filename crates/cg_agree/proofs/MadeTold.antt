@@ -52,7 +52,7 @@ flat-last (x ∷ earlier) s = ap (λ list. x.entry.made ++ list) (flat-last earl
 pub names-last : (earlier : List Step) (s : Step) → made_names (through earlier s) ≡ made_names earlier ++ names_in s.entry.made
 names-last earlier s = ap (map (λ (m : Made). m.id)) (flat-last earlier s) ∙ map-append (λ (m : Made). m.id) (flat_map (λ s. s.entry.made) earlier) s.entry.made
 
-made-last : (before steps : List Step) (s : Step) → made_from before (through steps s) ≡ made_from before steps ++ map (made_at (through (before ++ steps) s)) s.entry.made
+pub made-last : (before steps : List Step) (s : Step) → made_from before (through steps s) ≡ made_from before steps ++ map (made_at (through (before ++ steps) s)) s.entry.made
 made-last before [] s =
     append-nil (map (made_at (through before s)) s.entry.made) ∙ ap (λ (xs : List Step). map (made_at (through xs s)) s.entry.made) (sym (append-nil before))
 made-last before (x ∷ steps) s =

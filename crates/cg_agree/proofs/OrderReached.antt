@@ -81,10 +81,17 @@ names-contain (x ∷ ids) id e = elim (or_cases (same_id id x) (names ids id) e)
   | inr later ↦ Contains-append_right (x ∷ []) ids id (names-contain ids id later)
 ]
 
+named-each : (steps : List Step) (c : Chronicle) (w : World) → IsMadeTold steps c w → (ids : List ActionId) → Each (λ id. 1 ≤ id.index) ids → Each (λ id. nat_le id.index (index_in w.made id.creator) ≡ true) ids →
+    Each (λ id. names (made_names steps) id ≡ true) ids
+named-each steps c w told [] some made = tt
+named-each steps c w told (id ∷ ids) some made = (made-told steps c w told id some.0 ∙ made.0, named-each steps c w told ids some.1 made.1)
+
+-- each name in the order was shown as made
+pub order-named : (steps : List Step) (c : Chronicle) (w : World) → StandsBeside c w → IsMadeTold steps c w → Each (λ id. names (made_names steps) id ≡ true) w.order
+order-named steps c w stands told =
+    named-each steps c w told w.order (run-some [] w.order (order-runs c w stands))
+    (Each-list_all (λ (x : ActionId). nat_le x.index (index_in w.made x.creator)) w.order stands.rests.order_book.made)
+
 pub ordered-made : (steps : List Step) (c : Chronicle) (w : World) → StandsBeside c w → IsMadeTold steps c w → (id : ActionId) → Contains w.order id → Contains (made_names steps) id
 ordered-made steps c w stands told id there =
-    let some : 1 ≤ id.index = each-contains (λ (x : ActionId). 1 ≤ x.index) w.order id (run-some [] w.order (order-runs c w stands)) there in
-    let made : nat_le id.index (index_in w.made id.creator) ≡ true =
-    each-contains (λ (x : ActionId). nat_le x.index (index_in w.made x.creator) ≡ true) w.order id
-    (Each-list_all (λ (x : ActionId). nat_le x.index (index_in w.made x.creator)) w.order stands.rests.order_book.made) there in
-    names-contain (made_names steps) id (made-told steps c w told id some ∙ made)
+    names-contain (made_names steps) id (each-contains (λ (x : ActionId). names (made_names steps) x ≡ true) w.order id (order-named steps c w stands told) there)

@@ -38,7 +38,7 @@ last-still p (l ∷ lines) o each =
     ]) ∙ last-still p lines o each.1
 
 module _ (earlier : List Step) (c : Chronicle) (w : World) (s : Step) (step : IsStepOf c w s) where
-  down-still : (p : ℕ) → replica_of s.world p ≡ None → last_up p (through earlier s) ≡ last_up p earlier
+  pub down-still : (p : ℕ) → replica_of s.world p ≡ None → last_up p (through earlier s) ≡ last_up p earlier
   down-still p down =
       ap (fold (last_of p) None) (lines-last earlier s) ∙ fold-append (last_of p) None (lines_in earlier) s.entry.lines
       ∙ last-still p s.entry.lines (last_up p earlier) (lines-each (IsDownLine p) c w s step seat)
@@ -78,7 +78,7 @@ pub record Moves (earlier : List Step) (s : Step) (p : ℕ) : Type 0 where
   pub still : may_move s.event p ≡ false → position_of p (through earlier s) ≡ position_of p earlier
   pub placed : position_of p (through earlier s) ≤ count_at (seat_of s.world p)
 
-step-moves : (earlier : List Step) (c : Chronicle) (w : World) (s : Step) → IsStepOf c w s → IsPlaced earlier c w → (p : ℕ) → Moves earlier s p
+pub step-moves : (earlier : List Step) (c : Chronicle) (w : World) (s : Step) → IsStepOf c w s → IsPlaced earlier c w → (p : ℕ) → Moves earlier s p
 step-moves earlier c w s step is p = elim (up-or-still earlier c w s step p) [
   | inr still ↦
       let same : position_of p (through earlier s) ≡ position_of p earlier = ap (λ (o : Option UpLine). option_map_or (λ up. up.view.green_count) o 0) still in
@@ -115,7 +115,7 @@ step-moves earlier c w s step is p = elim (up-or-still earlier c w s step p) [
   more : count_at (seat_of w p) ≤ count_at (seat_of s.world p)
   more = grows.more
 
-placed-on : (earlier : List Step) (c : Chronicle) (w : World) (s : Step) → IsStepOf c w s → IsPlaced earlier c w → IsPlaced (through earlier s) (chronicle_step c w s.event) s.world
+pub placed-on : (earlier : List Step) (c : Chronicle) (w : World) (s : Step) → IsStepOf c w s → IsPlaced earlier c w → IsPlaced (through earlier s) (chronicle_step c w s.event) s.world
 placed-on earlier c w s step is = record { told = told-on earlier c w s step is.told; placed = λ p. (step-moves earlier c w s step is p).placed }
 
 pub is-placed : AlwaysHolds → (earlier : List Step) → IsRunFrom no_world 0 earlier → IsPlaced earlier (chronicle_after no_chronicle no_world earlier) (world_after no_world earlier)
