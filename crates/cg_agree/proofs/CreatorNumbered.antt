@@ -73,12 +73,12 @@ stands-of always steps run = stands-behind no_chronicle no_world 0 steps run (al
 
 -- ---- the order
 
-names-take : (n : ℕ) (list : List Action) → names_of (take n list) ≡ take n (names_of list)
+pub names-take : (n : ℕ) (list : List Action) → names_of (take n list) ≡ take n (names_of list)
 names-take zero list = refl
 names-take (suc n) [] = refl
 names-take (suc n) (a ∷ list) = ap (λ ids. a.id ∷ ids) (names-take n list)
 
-names-count : (list : List Action) → length (names_of list) ≡ length list
+pub names-count : (list : List Action) → length (names_of list) ≡ length list
 names-count [] = refl
 names-count (a ∷ list) = ap suc (names-count list)
 
