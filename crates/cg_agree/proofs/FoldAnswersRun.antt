@@ -4,7 +4,6 @@ use Rattle.cg_agree.specs.World.{no_world}
 use Rattle.cg_agree.specs.Run.{Step, IsRunFrom}
 use Rattle.cg_agree.specs.Agreement.{FoldAnswers}
 use Rattle.cg_agree.specs.Played.{AlwaysHolds}
-use Rattle.cg_agree.proofs.TellsRun.{tells}
 use Rattle.cg_agree.proofs.RunSteps.{step-of}
 use Rattle.cg_agree.proofs.FoldHeld.{fold-held}
 use Rattle.cg_agree.proofs.FoldShown.{fold-database, fold-weak}
@@ -18,11 +17,11 @@ split-at (y ∷ xs) x (suc k, less, same) = (let rest = split-at xs x (k, omega 
 
 pub fold-answers : AlwaysHolds → (steps : List Step) → IsRunFrom no_world 0 steps → FoldAnswers steps
 fold-answers always steps run = record {
-  database = λ earlier s p entries after there. fold-database always (tells always) steps run earlier s after p entries there;
-  held = λ earlier s p r after runs. fold-held always (tells always) steps run earlier s p r after runs;
-  weak = λ earlier s p q after event. fold-weak always (tells always) steps run earlier s after p q event;
-  reply = λ earlier s r after there. fold-reply always (tells always) earlier s (step-of steps earlier s run after) r there;
-  when = λ earlier s before behind id after placed. fold-when always (tells always) earlier s (step-of steps earlier s run after) before behind id placed;
+  database = λ earlier s p entries after there. fold-database always steps run earlier s after p entries there;
+  held = λ earlier s p r after runs. fold-held always steps run earlier s p r after runs;
+  weak = λ earlier s p q after event. fold-weak always steps run earlier s after p q event;
+  reply = λ earlier s r after there. fold-reply always earlier s (step-of steps earlier s run after) r there;
+  when = λ earlier s before behind id after placed. fold-when always earlier s (step-of steps earlier s run after) before behind id placed;
   once = λ s before between after r again there list same. (let at = split-at steps s there in
-      fold-once always (tells always) at.0 s (step-of steps at.0 s run (at.1, at.2)) before between after r again list same);
+      fold-once always at.0 s (step-of steps at.0 s run (at.1, at.2)) before between after r again list same);
 }

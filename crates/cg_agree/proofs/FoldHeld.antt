@@ -14,7 +14,7 @@ use Rattle.cg_agree.specs.Played.{AlwaysHolds}
 use Rattle.cg_agree.specs.Run.{Step, IsRunFrom}
 use Rattle.cg_agree.specs.Shown.{order_of, ordered_actions}
 use Rattle.cg_agree.specs.Agreement.{ComesAfter, through}
-use Rattle.cg_agree.proofs.RunSteps.{world_of, chronicle_of, AlwaysTells, IsStepOf, step-of, StandsFor, stands-for}
+use Rattle.cg_agree.proofs.RunSteps.{world_of, chronicle_of, IsStepOf, step-of, StandsFor, stands-for}
 use Rattle.cg_agree.proofs.ShownActions.{ordered-shown}
 
 -- the greens of a replica that is up are a front of the order, and what they make is what it holds
@@ -55,8 +55,8 @@ module _ (steps : List Step) (f : StandsFor steps) (p : ℕ) (r : Replica) (runs
   own-fold = in-order.core.made_of.db ∙ ap fold_actions (sym own-prefix)
 
 -- The database of a replica that is up.
-pub fold-held : AlwaysHolds → AlwaysTells → (steps : List Step) → IsRunFrom no_world 0 steps → (earlier : List Step) (s : Step) (p : ℕ) (r : Replica) → ComesAfter steps earlier s →
+pub fold-held : AlwaysHolds → (steps : List Step) → IsRunFrom no_world 0 steps → (earlier : List Step) (s : Step) (p : ℕ) (r : Replica) → ComesAfter steps earlier s →
     replica_of s.world p ≡ Some r → r.held.db ≡ fold_actions (ordered_actions (through earlier s) (green_count r.held.queue))
-fold-held always tells steps run earlier s p r after runs =
+fold-held always steps run earlier s p r after runs =
     let is = step-of steps earlier s run after in
-    own-fold (through earlier s) (stands-for always tells (through earlier s) is.behind) p r (ap (λ (w : World). replica_of w p) is.world ∙ runs)
+    own-fold (through earlier s) (stands-for always (through earlier s) is.behind) p r (ap (λ (w : World). replica_of w p) is.world ∙ runs)

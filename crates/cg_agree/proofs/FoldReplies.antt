@@ -43,7 +43,7 @@ use Rattle.cg_agree.proofs.TurnWorlds.{up_seat, life_at}
 use Rattle.cg_agree.proofs.TurnReplies.{db_behind, replies_in, IsAnswered, step-answered}
 use Rattle.cg_agree.proofs.RepliesPlaced.{IsIn, plain, times, times-both, reply_ids, ids_in}
 use Rattle.cg_agree.proofs.DiskEnds.{end-cases}
-use Rattle.cg_agree.proofs.RunSteps.{world_of, chronicle_of, AlwaysTells, IsStepOf, StandsFor, stands-for, step-of}
+use Rattle.cg_agree.proofs.RunSteps.{world_of, chronicle_of, IsStepOf, StandsFor, stands-for, step-of}
 use Rattle.cg_agree.proofs.OwedNames.{own_name, is_behind}
 use Rattle.cg_agree.proofs.StepSays.{SaysSo}
 use Rattle.cg_agree.proofs.EventSays.{made_by, replies_by}
@@ -127,7 +127,7 @@ replica_in (Crashes disk green) other = other
 
 -- ---- a step of a run
 
-module _ (always : AlwaysHolds) (tells : AlwaysTells) (earlier : List Step) (s : Step) (is : IsStepOf earlier s) where
+module _ (always : AlwaysHolds) (earlier : List Step) (s : Step) (is : IsStepOf earlier s) where
   abbrev now : List Step
   now = through earlier s
 
@@ -144,16 +144,16 @@ module _ (always : AlwaysHolds) (tells : AlwaysTells) (earlier : List Step) (s :
   d = chronicle_of now
 
   owed : (p : ℕ) → OwedAt earlier p
-  owed = owed-run always tells earlier is.before
+  owed = owed-run always earlier is.before
 
   owed_now : (p : ℕ) → OwedAt now p
-  owed_now = owed-next always tells earlier s is owed
+  owed_now = owed-next always earlier s is owed
 
   before : StandsFor earlier
-  before = stands-for always tells earlier is.before
+  before = stands-for always earlier is.before
 
   behind : StandsFor now
-  behind = stands-for always tells now is.behind
+  behind = stands-for always now is.behind
 
   -- the replica took a turn, and runs on
   record IsTurned (p : ℕ) : Type 0 where
@@ -193,10 +193,10 @@ module _ (always : AlwaysHolds) (tells : AlwaysTells) (earlier : List Step) (s :
   stays-quiet : (p : ℕ) → KeptIn w h.world p → SaidOnly h p [] [] → IsQuiet p
   stays-quiet p kept said = record { made = []; said = said; undue = at (replica_of w p) refl } where
     at : (o : Option Replica) → replica_of w p ≡ o → position_of p earlier < position_of p now → (i : ℕ) → lives_since (own_name p i) now ≡ true → ⊥
-    at None e less i lives = down-undue p (runs-now always tells earlier s is owed p ∙ kept.runs ∙ e) i lives
+    at None e less i lives = down-undue p (runs-now always earlier s is owed p ∙ kept.runs ∙ e) i lives
     at (Some r) e less i lives =
         let one = before.tells.position p r e in
-        let two = behind.tells.position p r (runs-now always tells earlier s is owed p ∙ kept.runs ∙ e) in
+        let two = behind.tells.position p r (runs-now always earlier s is owed p ∙ kept.runs ∙ e) in
         omega arith
 
   -- a turn that ends with the replica running on
@@ -222,10 +222,10 @@ module _ (always : AlwaysHolds) (tells : AlwaysTells) (earlier : List Step) (s :
 
     turned : (x : Replica) (disk : Disk) → end_event turn.disk turn.replica.held t ≡ Runs x disk → IsTurned p
     turned x disk e =
-        let of_owed = was always tells earlier s is owed p turn in
-        let tells_so = says always tells earlier s is owed p turn in
+        let of_owed = was always earlier s is owed p turn in
+        let tells_so = says always earlier s is owed p turn in
         let up : replica_of (world_of now) p ≡ Some x =
-        runs-now always tells earlier s is owed p ∙ ap (λ (o : Option Seat). option_and_then (λ s. running s.life) o) turn.behind ∙ ap (λ z. running (life_at z)) e in
+        runs-now always earlier s is owed p ∙ ap (λ (o : Option Seat). option_and_then (λ s. running s.life) o) turn.behind ∙ ap (λ z. running (life_at z)) e in
         let told : SaidOnly h p (names_of t.made) t.replies = subst (λ z. SaidOnly h p (made_by t z) (replies_by t z)) e turn.said in
         let same = ended-created x disk e in
         let through_smalls = event-runs c w before.stands p turn.input s.event is.may is.admitted turn.of
@@ -243,7 +243,7 @@ module _ (always : AlwaysHolds) (tells : AlwaysTells) (earlier : List Step) (s :
               ∙ greens-through c w (smalls_in w s.event) p turn.replica t tells_so.answered.more before.stands.same (before.stands.facts.net.seated.past p ∙ there)
               (sym (before.stands.same.running p) ∙ before-up) tells_so.answered.greens through_smalls;
           said = told;
-          lives = turned-lives always tells earlier s is owed p turn x up same told;
+          lives = turned-lives always earlier s is owed p turn x up same told;
           more = (let reached : created x.held ≡ created turn.replica.held + tells_so.count = same ∙ tells_so.reached in omega arith);
         }
 
@@ -251,7 +251,7 @@ module _ (always : AlwaysHolds) (tells : AlwaysTells) (earlier : List Step) (s :
     crashed disk green e = record {
       made = [];
       said = subst (λ z. SaidOnly h p (made_by t z) (replies_by t z)) e turn.said;
-      undue = λ less. down-undue p (runs-now always tells earlier s is owed p ∙ ap (λ (o : Option Seat). option_and_then (λ s. running s.life) o) turn.behind ∙ ap (λ z. running (life_at z)) e);
+      undue = λ less. down-undue p (runs-now always earlier s is owed p ∙ ap (λ (o : Option Seat). option_and_then (λ s. running s.life) o) turn.behind ∙ ap (λ z. running (life_at z)) e);
     }
 
     turn-outcome : IsQuiet p ⊎ IsTurned p
@@ -261,18 +261,18 @@ module _ (always : AlwaysHolds) (tells : AlwaysTells) (earlier : List Step) (s :
       at (Crashes disk green) e = inl (crashed disk green e)
 
   outcome : (p : ℕ) → IsQuiet p ⊎ IsTurned p
-  outcome p = at (meets always tells earlier s is owed p) where
+  outcome p = at (meets always earlier s is owed p) where
     at : Meets w s.event h p → IsQuiet p ⊎ IsTurned p
     at (Stays kept said) = inl (stays-quiet p kept said)
     at (Turns turn) = turn-outcome p turn
-    at (Falls x) = inl (record { made = []; said = x.said; undue = λ less. down-undue p (runs-now always tells earlier s is owed p ∙ ap (λ (o : Option Seat). option_and_then (λ s. running s.life) o) x.seat) })
+    at (Falls x) = inl (record { made = []; said = x.said; undue = λ less. down-undue p (runs-now always earlier s is owed p ∙ ap (λ (o : Option Seat). option_and_then (λ s. running s.life) o) x.seat) })
     at (Wakes x) = inl (record {
       made = x.made;
       said = x.said;
-      undue = λ less. fresh-undue p x.none (λ i. created-now always tells earlier s is owed p i x.made x.said.made
+      undue = λ less. fresh-undue p x.none (λ i. created-now always earlier s is owed p i x.made x.said.made
           ∙ ap (λ (b : Bool). names x.made (own_name p i) && not b) x.event ∙ no-more (names x.made (own_name p i)));
     })
-    at (Begins x) = inl (record { made = []; said = x.said; undue = λ less. fresh-undue p x.none (λ i. created-now always tells earlier s is owed p i [] x.said.made) })
+    at (Begins x) = inl (record { made = []; said = x.said; undue = λ less. fresh-undue p x.none (λ i. created-now always earlier s is owed p i [] x.said.made) })
 
   -- ---- what is answered
 

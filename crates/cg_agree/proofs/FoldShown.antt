@@ -29,7 +29,7 @@ use Rattle.cg_agree.specs.FactsReplica.{IsModeData}
 use Rattle.cg_agree.specs.Agreement.{ComesAfter, through, answer_at}
 use Rattle.cg_agree.specs.Played.{StandsBeside, AlwaysHolds}
 use Rattle.cg_agree.proofs.MadeAlone.{TakesPart, takes-part, IsRunning, is-running}
-use Rattle.cg_agree.proofs.RunSteps.{world_of, chronicle_of, AlwaysTells, IsStepOf, step-of, StandsFor, stands-for}
+use Rattle.cg_agree.proofs.RunSteps.{world_of, chronicle_of, IsStepOf, step-of, StandsFor, stands-for}
 use Rattle.cg_agree.proofs.FoldHeld.{own-fold}
 
 -- ---- what an event shows
@@ -163,7 +163,7 @@ weak-admitted w p q admitted = (takes-part w p admitted).up
 
 -- ---- the fields
 
-module _ (always : AlwaysHolds) (tells : AlwaysTells) (steps : List Step) (run : IsRunFrom no_world 0 steps) (earlier : List Step) (s : Step) (after : ComesAfter steps earlier s) where
+module _ (always : AlwaysHolds) (steps : List Step) (run : IsRunFrom no_world 0 steps) (earlier : List Step) (s : Step) (after : ComesAfter steps earlier s) where
   abbrev is : IsStepOf earlier s
   is = step-of steps earlier s run after
 
@@ -171,10 +171,10 @@ module _ (always : AlwaysHolds) (tells : AlwaysTells) (steps : List Step) (run :
   now = through earlier s
 
   abbrev behind : StandsFor now
-  behind = stands-for always tells now is.behind
+  behind = stands-for always now is.behind
 
   abbrev before : StandsFor earlier
-  before = stands-for always tells earlier is.before
+  before = stands-for always earlier is.before
 
   -- what a replica that is up answers
   prefix-fold : (p : ℕ) (r : Replica) → replica_of (world_of now) p ≡ Some r → r.held.db ≡ fold_actions (ordered_actions now (position_of p now))

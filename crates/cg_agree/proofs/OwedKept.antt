@@ -31,7 +31,7 @@ use Rattle.cg_agree.proofs.SeatFacts.{seat-id}
 use Rattle.cg_agree.proofs.MadeWorlds.{IsCoreAt, LifeSound, SeatSound, green-created}
 use Rattle.cg_agree.proofs.MadeBookKept.{sound-at}
 use Rattle.cg_agree.proofs.TurnWorlds.{up_seat, life_at}
-use Rattle.cg_agree.proofs.RunSteps.{world_of, chronicle_of, AlwaysTells, IsStepOf, StandsFor, stands-for, step-of}
+use Rattle.cg_agree.proofs.RunSteps.{world_of, chronicle_of, IsStepOf, StandsFor, stands-for, step-of}
 use Rattle.cg_agree.proofs.OwedNames.{own_name, own-named}
 use Rattle.cg_agree.proofs.StepSays.{IsOwing, SaysSo, step-says}
 use Rattle.cg_agree.proofs.EventSays.{made_ids, OwesSo, LifeOwes, SeatOwes, made_by, replies_by}
@@ -64,7 +64,7 @@ pub no-more : (a : Bool) → (a && false) ≡ false
 no-more true = refl
 no-more false = refl
 
-module _ (always : AlwaysHolds) (tells : AlwaysTells) (earlier : List Step) (s : Step) (is : IsStepOf earlier s) (owed : (p : ℕ) → OwedAt earlier p) where
+module _ (always : AlwaysHolds) (earlier : List Step) (s : Step) (is : IsStepOf earlier s) (owed : (p : ℕ) → OwedAt earlier p) where
   abbrev now : List Step
   now = through earlier s
 
@@ -75,10 +75,10 @@ module _ (always : AlwaysHolds) (tells : AlwaysTells) (earlier : List Step) (s :
   h = happens w s.event
 
   abbrev before : StandsFor earlier
-  before = stands-for always tells earlier is.before
+  before = stands-for always earlier is.before
 
   abbrev behind : StandsFor now
-  behind = stands-for always tells now is.behind
+  behind = stands-for always now is.behind
 
   shows : StepShows earlier s
   shows = step-shows earlier s is
@@ -296,14 +296,14 @@ module _ (always : AlwaysHolds) (tells : AlwaysTells) (earlier : List Step) (s :
 
 -- ---- a run
 
-module _ (always : AlwaysHolds) (tells : AlwaysTells) where
+module _ (always : AlwaysHolds) where
   owed-along : (earlier rest : List Step) → IsRunFrom no_world 0 (earlier ++ rest) → ((p : ℕ) → OwedAt earlier p) → (p : ℕ) → OwedAt (earlier ++ rest) p
   owed-along earlier [] run owed p = subst (λ steps. OwedAt steps p) (sym (append-nil earlier)) (owed p)
   owed-along earlier (s ∷ rest) run owed p =
       let joined : (earlier ++ s ∷ []) ++ rest ≡ earlier ++ s ∷ rest = append_assoc earlier (s ∷ []) rest in
       let is = step-of (earlier ++ s ∷ rest) earlier s run (rest, refl) in
       subst (λ steps. OwedAt steps p) joined
-      (owed-along (earlier ++ s ∷ []) rest (subst (IsRunFrom no_world 0) (sym joined) run) (owed-next always tells earlier s is owed) p)
+      (owed-along (earlier ++ s ∷ []) rest (subst (IsRunFrom no_world 0) (sym joined) run) (owed-next always earlier s is owed) p)
 
   -- Behind the steps of each run.
   pub owed-run : (steps : List Step) → IsRunFrom no_world 0 steps → (p : ℕ) → OwedAt steps p

@@ -11,6 +11,7 @@ use Rattle.cg_agree.specs.Noting.{chronicle_step, chronicle_after}
 use Rattle.cg_agree.specs.Played.{StandsBeside, AlwaysHolds, with_world}
 use Rattle.cg_agree.specs.Telling.{Tells}
 use Rattle.cg_agree.proofs.CreatorNumbered.{stands-of}
+use Rattle.cg_agree.proofs.TellsRun.{tells}
 
 -- the world and the chronicle behind the steps of a run
 abbrev pub world_of : List Step → World
@@ -18,10 +19,6 @@ world_of steps = world_after no_world steps
 
 abbrev pub chronicle_of : List Step → Chronicle
 chronicle_of steps = chronicle_after no_chronicle no_world steps
-
--- what was shown stands for what is, behind each run
-abbrev pub AlwaysTells : Type 0
-AlwaysTells = (steps : List Step) → IsRunFrom no_world 0 steps → Tells steps (with_world (chronicle_of steps) (world_of steps))
 
 run-parts : (w : World) (count : ℕ) (xs ys : List Step) → IsRunFrom w count (xs ++ ys) → IsRunFrom w count xs × IsRunFrom (world_after w xs) (count + length xs) ys
 run-parts w count [] ys run = (tt, subst (λ n. IsRunFrom w n ys) (let same : count ≡ count + 0 = omega arith in same) run)
@@ -69,5 +66,5 @@ pub record StandsFor (steps : List Step) : Type 0 where
   pub stands : StandsBeside (chronicle_of steps) (world_of steps)
   pub tells : Tells steps (with_world (chronicle_of steps) (world_of steps))
 
-pub stands-for : AlwaysHolds → AlwaysTells → (steps : List Step) → IsRunFrom no_world 0 steps → StandsFor steps
-stands-for always tells steps run = record { stands = stands-of always steps run; tells = tells steps run }
+pub stands-for : AlwaysHolds → (steps : List Step) → IsRunFrom no_world 0 steps → StandsFor steps
+stands-for always steps run = record { stands = stands-of always steps run; tells = tells always steps run }
