@@ -1,8 +1,8 @@
 -- What an event brings to each replica, and what it shows of it: the replica stays, takes a turn, falls, wakes, or begins.
-use Rattle.std.proofs.Common.{◌⊎◌, ◌≡◌, ℕ, zero, suc, ◌+◌, min, nat_lt, Bool, true, false, cond, ◌&&◌, ◌||◌, List, [], ◌∷◌, ◌++◌, map, filter, fold, Option, Some, None, IfSome, refl, sym, ap, ◌∙◌, subst, inl, inr, eq-eqb, option_and_then, option_map, arith}
+use Rattle.std.proofs.Common.{◌⊎◌, ◌≡◌, ℕ, ◌+◌, min, nat_lt, Bool, true, false, cond, ◌&&◌, ◌||◌, List, [], ◌∷◌, ◌++◌, map, filter, fold, Option, Some, None, IfSome, refl, sym, ap, ◌∙◌, subst, inl, inr, eq-eqb, option_and_then, option_map}
 use Rattle.std.specs.Prelude.{◌==◌}
 use Rattle.std.specs.Option.{option_map_or}
-use Rattle.std.proofs.lemmas.Bool.{cases_eq, cases_Bool, cond-true, cond-false, cond_both, ne_eqb, and_parts, eqb-true}
+use Rattle.std.proofs.lemmas.Bool.{cases_eq, cases_Bool, cond-true, cond-false, ne_eqb, and_parts, eqb-true}
 use Rattle.cg_base.specs.declared.action_id.ActionId.{ActionId}
 use Rattle.cg_base.specs.declared.weighted.Weighted.{Weighted}
 use Rattle.cg_base.specs.Cuts.{index_in}
@@ -31,7 +31,6 @@ use Rattle.cg_agree.specs.Looks.{on_disk, disk_held}
 use Rattle.cg_agree.specs.Step.{quietly, hand, hand_over, ask, name_also, begin_replica, arm_at, arm, crash_at, recover_from, recover, joined, piece_count, without_snapshot, take_pieces}
 use Rattle.cg_agree.specs.FactsLists.{IsRising}
 use Rattle.cg_agree.proofs.ChronicleFacts.{seat_of-set}
-use Rattle.cg_agree.proofs.SeatFacts.{running-set, disk-set}
 use Rattle.cg_agree.proofs.HeldCommit.{recovered-id}
 use Rattle.cg_agree.proofs.TurnWorlds.{up_seat, life_at}
 use Rattle.cg_agree.proofs.TurnReplies.{owed-own}
@@ -129,15 +128,15 @@ module _ (start : List Weighted) (w : World) where
         Stays (record { runs = ap (λ (o : Option Seat). option_and_then (λ s. running s.life) o) same; disk = ap (λ (o : Option Seat). option_map (λ s. on_disk s.life) o) same })
         (over [] [] kept.said)
     | inr turn ↦ Turns (record {
-        replica = turn.replica;
-        disk = turn.disk;
-        input = turn.input;
-        of = turn.of;
-        before = sym seat ∙ turn.before;
-        behind = turn.behind;
-        said = over _ _ turn.said;
-        no_recovery = none;
-      })
+      replica = turn.replica;
+      disk = turn.disk;
+      input = turn.input;
+      of = turn.of;
+      before = sym seat ∙ turn.before;
+      behind = turn.behind;
+      said = over _ _ turn.said;
+      no_recovery = none;
+    })
   ] where
     over : (made_now : List ActionId) (replies_now : List Reply) → Said g h p made_now replies_now → SaidOnly h p made_now replies_now
     over made_now replies_now said = record {
@@ -185,13 +184,13 @@ start-meets w set p none = elim (begun-one set (ids set) w p (inl none)) [
       quiet-stays w (fold (begin_replica set) w (ids set)) (Start set) p
       (record { runs = ap (λ (o : Option Seat). option_and_then (λ s. running s.life) o) same; disk = ap (λ (o : Option Seat). option_map (λ s. on_disk s.life) o) same })
   | inr new ↦ Begins (record {
-      none = ap (λ (o : Option Seat). option_and_then (λ s. running s.life) o) none;
-      replica = fresh p set;
-      runs = ap (λ (o : Option Seat). option_and_then (λ s. running s.life) o) new;
-      disk = ap (λ (o : Option Seat). option_map (λ s. on_disk s.life) o) new;
-      owed = refl;
-      said = said-none no_going (quietly (fold (begin_replica set) w (ids set))) p refl refl;
-    })
+    none = ap (λ (o : Option Seat). option_and_then (λ s. running s.life) o) none;
+    replica = fresh p set;
+    runs = ap (λ (o : Option Seat). option_and_then (λ s. running s.life) o) new;
+    disk = ap (λ (o : Option Seat). option_map (λ s. on_disk s.life) o) new;
+    owed = refl;
+    said = said-none no_going (quietly (fold (begin_replica set) w (ids set))) p refl refl;
+  })
 ]
 
 -- ---- crashes, faults and recoveries
@@ -280,10 +279,10 @@ recover-meets w q p named = at (seat_of w q) refl where
       let told = tell-said (quietly (bring_up w r (disk_recovered disk))) n p tt in
       elim (cases_eq p q) [
         | inr apart ↦ Stays (set-kept w h.world q now p seats apart) (record {
-            made = λ i. told.made i ∙ unshown-other w.made r.held q p i id apart;
-            count = λ i. told.count i;
-            from = λ r mine there. told.from r mine there;
-          })
+          made = λ i. told.made i ∙ unshown-other w.made r.held q p i id apart;
+          count = λ i. told.count i;
+          from = λ r mine there. told.from r mine there;
+        })
         | inl same ↦
             let here = set-here w h.world q now seats in
             let was : disk_held w q ≡ Some disk.content = ap (λ (o : Option Seat). option_map (λ s. on_disk s.life) o) found ∙ ap (λ l. Some (on_disk l)) is in

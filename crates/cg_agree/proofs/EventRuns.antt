@@ -1,6 +1,5 @@
 -- Where a replica that takes a turn in an event runs on, its turn stands among the event's small steps.
-use Rattle.std.proofs.Common.{◌≡◌, ℕ, zero, suc, ◌+◌, ◌-◌, ◌≤◌, Bool, true, false, cond, List, [], ◌∷◌, ◌++◌, flat_map, fold, map, length, replicate, Option, Some, None, refl, sym, ap, ap₂, ◌∙◌, subst, is_none, is_some, append-nil, arith, nat_lt}
-use Rattle.std.specs.Prelude.{◌==◌}
+use Rattle.std.proofs.Common.{◌≡◌, ℕ, zero, suc, ◌+◌, ◌-◌, true, List, [], ◌∷◌, ◌++◌, flat_map, fold, length, replicate, Option, Some, None, refl, sym, ap, ◌∙◌, subst, is_none, append-nil, arith, nat_lt}
 use Rattle.std.specs.Option.{option_map_or}
 use Rattle.std.proofs.lemmas.Bool.{ltb-false}
 use Rattle.cg_base.specs.Lists.{above_up_to}
@@ -10,14 +9,13 @@ use Rattle.cg_action.specs.declared.action.Kind.TheVariants.{Update, Join as Joi
 use Rattle.cg_wire.specs.declared.message.Msg.{Msg}
 use Rattle.cg_group.specs.declared.delivery.Delivery.TheVariants.{Regular as RegularIn}
 use Rattle.cg_group.specs.EachLaws.{Each, Each-append}
-use Rattle.cg_group.specs.State.{GroupState, delivered_to, home, is_up, is_regular}
+use Rattle.cg_group.specs.State.{GroupState, delivered_to, home, is_regular}
 use Rattle.cg_group.specs.Ready.{ready}
 use Rattle.cg_group.specs.Refusals.{deliver_refusal, not_up, not_regular, not_ready}
-use Rattle.cg_group.specs.Events.{send_all, deliveries_at, furthest, transitional_places, handed_in_split, with_delivered, become_transitional, become_regular, split, merge, deliver}
+use Rattle.cg_group.specs.Events.{send_all, deliveries_at, furthest, transitional_places, handed_in_split, with_delivered, become_transitional, become_regular, merge, deliver}
 use Rattle.cg_client.specs.Replica.{Replica}
-use Rattle.cg_client.specs.Turn.{Turn, begin}
 use Rattle.cg_step.specs.Step.{Input, Deliveries, Asks as AsksOf, replica_step}
-use Rattle.cg_step.specs.Crash.{Disk, Ended, Runs, end_event}
+use Rattle.cg_step.specs.Crash.{Disk, Runs, end_event}
 use Rattle.cg_schedule.specs.declared.event.Event.{Event}
 use Rattle.cg_schedule.specs.declared.event.Event.TheVariants.{Start, Split, Merge, Request, Weak, Dirty, Order, Recover, Show, ShowOrder, Gather, End, Receive, Deliver, Rounds, Stop, Fail, Join, Leave, Transfer}
 use Rattle.cg_agree.specs.World.{Seat, World, seat_of}
@@ -26,25 +24,24 @@ use Rattle.cg_agree.specs.Show.{Going}
 use Rattle.cg_agree.specs.Step.{quietly}
 use Rattle.cg_agree.specs.Run.{MayStand}
 use Rattle.cg_agree.specs.Chronicle.{Chronicle}
-use Rattle.cg_agree.specs.Turns.{Taken, turns_of, turns_in, taken, taken_as}
-use Rattle.cg_agree.specs.Small.{Small, Makes, Enters, Hands, Leaves, Asks, Settles, make_configuration, take_request, small_step}
+use Rattle.cg_agree.specs.Turns.{Taken, turns_of, taken, taken_as}
+use Rattle.cg_agree.specs.Small.{Small, Makes, Enters, Hands, Leaves, Asks, Settles, take_request, small_step}
 use Rattle.cg_agree.specs.Smalls.{smalls_in, turns_as, leaving_steps, ending, ending_as}
 use Rattle.cg_agree.specs.FactsLists.{IsRising}
 use Rattle.cg_agree.specs.Played.{StandsBeside}
 use Rattle.cg_agree.proofs.UnorderedKept.{first-none, refused-not}
 use Rattle.cg_agree.proofs.MadeAlone.{not-refused}
 use Rattle.cg_agree.proofs.Standings.{rising-lower}
-use Rattle.cg_agree.proofs.GroupChanges.{DoRise}
 use Rattle.cg_agree.proofs.SmallWorlds.{grouped, small_in, played_in}
 use Rattle.cg_agree.proofs.TurnWorlds.{seated, up_seat, turn-first}
 use Rattle.cg_agree.proofs.EventTurns.{IsUp}
-use Rattle.cg_agree.proofs.TogetherWorlds.{IsGoing, smalls_among, turns_among}
-use Rattle.cg_agree.proofs.MadeDeliver.{stands-regular, opening, may-opens}
+use Rattle.cg_agree.proofs.TogetherWorlds.{IsGoing, smalls_among}
+use Rattle.cg_agree.proofs.MadeDeliver.{stands-regular, may-opens}
 use Rattle.cg_agree.proofs.MadeSplit.{rising-set-list, turns-split, parted, parted-id, parted-placed, members-of as leaving-all, input as parted-input, block as parting, IsLeaving}
 use Rattle.cg_agree.proofs.MadeMerge.{turns-merge, made, entered, entered-id, members-of as coming-all, input as entered-input, block as entering, IsComing}
 use Rattle.cg_agree.proofs.SoundWorlds.{IsSound, sound-of, sound-same}
 use Rattle.cg_agree.proofs.EventMembers.{leaving-members, coming-members}
-use Rattle.cg_agree.proofs.TurnAlong.{IsPartOf, Keeps, GreensKeep, RunsThrough, runs-later, runs-further, runs-alone, RunsOn, together-runs}
+use Rattle.cg_agree.proofs.TurnAlong.{IsPartOf, Keeps, RunsThrough, runs-later, runs-alone, together-runs}
 use Rattle.cg_agree.proofs.EventInputs.{IsHanded}
 
 -- a replica that takes such a turn runs on behind it

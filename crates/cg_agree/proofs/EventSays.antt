@@ -1,5 +1,5 @@
 -- What an event in which replicas take turns shows of each of them: what its own turn made and answered, where it runs on, and nothing else.
-use Rattle.std.proofs.Common.{◌⊎◌, ◌≡◌, ℕ, suc, ◌+◌, ◌≤◌, ◌<◌, Bool, true, false, cond, ◌||◌, List, [], ◌∷◌, ◌++◌, map, filter, fold, find, length, Option, Some, None, refl, sym, ap, ap₂, ◌∙◌, subst, arith, inl, inr, eq-eqb}
+use Rattle.std.proofs.Common.{◌⊎◌, ◌≡◌, ℕ, suc, ◌+◌, ◌≤◌, ◌<◌, Bool, true, false, ◌||◌, List, [], ◌∷◌, ◌++◌, map, filter, fold, find, length, Option, Some, None, refl, sym, ap, ◌∙◌, subst, arith, inl, inr, eq-eqb}
 use Rattle.std.specs.Prelude.{◌==◌, ◌-◌}
 use Rattle.std.specs.Option.{option_map_or}
 use Rattle.std.proofs.lemmas.Bool.{cases_eq, cases_Bool, cond-true, cond-false, ne_eqb, and_parts, eqb-true}
@@ -19,17 +19,17 @@ use Rattle.cg_client.specs.Replica.{Held, Replica}
 use Rattle.cg_client.specs.Turn.{Turn}
 use Rattle.cg_step.specs.Step.{Input, Deliveries, replica_step}
 use Rattle.cg_step.specs.Crash.{Disk, Ended, Runs, Crashes, end_event}
-use Rattle.cg_agree.specs.World.{Life, Up, Down, Seat, World, seat_of}
-use Rattle.cg_agree.specs.Show.{Going, News, Answered, news_of, made_of_action, answered_from, with_answered, tell}
-use Rattle.cg_agree.specs.Step.{quietly, after_event, hand_to, hand, hand_over}
+use Rattle.cg_agree.specs.World.{Life, Up, Down, Seat, seat_of}
+use Rattle.cg_agree.specs.Show.{Going, News, news_of, made_of_action, answered_from, tell}
+use Rattle.cg_agree.specs.Step.{after_event, hand_to, hand, hand_over}
 use Rattle.cg_agree.specs.FactsLists.{IsRising}
 use Rattle.cg_agree.proofs.ChronicleFacts.{seat_of-set}
 use Rattle.cg_agree.proofs.SeatFacts.{seat-id}
 use Rattle.cg_agree.proofs.TurnWorlds.{up_seat, life_at, seats-ended}
 use Rattle.cg_agree.proofs.EventTurns.{hand-leads}
 use Rattle.cg_agree.proofs.MadeWorlds.{IsCoreAt}
-use Rattle.cg_agree.proofs.RepliesPlaced.{IsIn, times, times-both, reply_ids, plain, ids_in, AreAmong, answered-all, among-chosen, times-all, in-all}
-use Rattle.cg_agree.proofs.OwedNames.{own_name, own_names, is_behind, own-other}
+use Rattle.cg_agree.proofs.RepliesPlaced.{IsIn, times, reply_ids, plain, ids_in, AreAmong, answered-all, among-chosen, times-all, in-all}
+use Rattle.cg_agree.proofs.OwedNames.{own_name, is_behind, own-other}
 use Rattle.cg_agree.proofs.StepSays.{IsOwing, SaysSo, step-says}
 
 abbrev pub made_ids : List Made → List ActionId
@@ -258,28 +258,28 @@ module _ (start : List Weighted) (Q : ℕ → Input → Type 0) where
   kept-then g h k p a is = elim is [
     | inl kept ↦ inl (record { seat = kept.seat ∙ a.seat; said = said-later g h k p [] [] a.said kept.said })
     | inr turn ↦ inr (record {
-        replica = turn.replica;
-        disk = turn.disk;
-        input = turn.input;
-        of = turn.of;
-        before = sym a.seat ∙ turn.before;
-        behind = turn.behind;
-        said = said-later g h k p _ _ a.said turn.said;
-      })
+      replica = turn.replica;
+      disk = turn.disk;
+      input = turn.input;
+      of = turn.of;
+      before = sym a.seat ∙ turn.before;
+      behind = turn.behind;
+      said = said-later g h k p _ _ a.said turn.said;
+    })
   ]
 
   then-kept : (g h k : Going) (p : ℕ) → Comes Q g h p → KeptSeat h k p → Comes Q g k p
   then-kept g h k p is b = elim is [
     | inl kept ↦ inl (record { seat = b.seat ∙ kept.seat; said = said-later g h k p [] [] kept.said b.said })
     | inr turn ↦ inr (record {
-        replica = turn.replica;
-        disk = turn.disk;
-        input = turn.input;
-        of = turn.of;
-        before = turn.before;
-        behind = b.seat ∙ turn.behind;
-        said = said-before g h k p _ _ turn.said b.said;
-      })
+      replica = turn.replica;
+      disk = turn.disk;
+      input = turn.input;
+      of = turn.of;
+      before = turn.before;
+      behind = b.seat ∙ turn.behind;
+      said = said-before g h k p _ _ turn.said b.said;
+    })
   ]
 
   -- what the others that are still to take turns owe stays

@@ -1,6 +1,5 @@
 -- What each admitted event brings to each replica, and what it shows of it.
-use Rattle.std.proofs.Common.{◌≡◌, ℕ, zero, suc, ◌+◌, true, false, is_some, is_none, List, [], ◌∷◌, map, length, Option, Some, None, IfSome, refl, sym, ap, ◌∙◌, subst, option_and_then, option_map}
-use Rattle.std.specs.Prelude.{◌==◌}
+use Rattle.std.proofs.Common.{◌≡◌, ℕ, zero, suc, ◌+◌, true, false, is_some, is_none, List, [], ◌∷◌, map, length, Option, Some, None, IfSome, refl, sym, ap, ◌∙◌, subst, option_map}
 use Rattle.std.specs.Option.{option_map_or}
 use Rattle.cg_base.specs.Lists.{above_up_to}
 use Rattle.cg_action.specs.declared.action.Kind.TheVariants.{Update, Join as JoinKind, Leave as LeaveKind}
@@ -17,7 +16,7 @@ use Rattle.cg_step.specs.Crash.{FailOnce, StopWith, Disk}
 use Rattle.cg_base.specs.declared.action_id.ActionId.{ActionId}
 use Rattle.cg_schedule.specs.declared.event.Event.{Event}
 use Rattle.cg_schedule.specs.declared.event.Event.TheVariants.{Start, Split, Merge, Request, Weak, Dirty, Order, Recover, Show, ShowOrder, Gather, End, Receive, Deliver, Rounds, Stop, Fail, Join, Leave, Transfer}
-use Rattle.cg_agree.specs.World.{Life, Up, Down, Seat, World, no_world, has_begun, seat_of, replica_of}
+use Rattle.cg_agree.specs.World.{Down, Seat, World, has_begun, seat_of, replica_of}
 use Rattle.cg_agree.specs.Admission.{first_refusal, takes_part, never_named, begun_already, joiner_left, not_green}
 use Rattle.cg_agree.specs.Run.{MayStand}
 use Rattle.cg_agree.specs.Chronicle.{Chronicle}

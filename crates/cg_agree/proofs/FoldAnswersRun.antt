@@ -1,5 +1,5 @@
 -- Every answer that a run gives is that of a prefix of its order.
-use Rattle.std.proofs.Common.{◌≡◌, ℕ, zero, suc, List, [], ◌∷◌, ◌++◌, Contains, refl, ap, arith}
+use Rattle.std.proofs.Common.{◌≡◌, zero, suc, List, [], ◌∷◌, ◌++◌, Contains, ap, arith}
 use Rattle.cg_agree.specs.World.{no_world}
 use Rattle.cg_agree.specs.Run.{Step, IsRunFrom}
 use Rattle.cg_agree.specs.Agreement.{FoldAnswers}

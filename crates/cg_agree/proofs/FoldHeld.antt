@@ -1,6 +1,5 @@
 -- In each step of a run the database of a replica that is up is the fold of its prefix of the order.
-use Rattle.std.proofs.Common.{◌≡◌, ℕ, zero, suc, ◌+◌, ◌≤◌, List, [], ◌∷◌, length, drop, Option, Some, IfSome, refl, sym, ap, ◌∙◌, subst, arith}
-use Rattle.cg_base.specs.declared.action_id.ActionId.{ActionId}
+use Rattle.std.proofs.Common.{◌≡◌, ℕ, zero, suc, ◌+◌, ◌≤◌, List, [], ◌∷◌, length, drop, Option, Some, IfSome, sym, ap, ◌∙◌, subst, arith}
 use Rattle.cg_action.specs.declared.action.Action.{Action}
 use Rattle.cg_db.specs.Apply.{fold_actions}
 use Rattle.cg_queue.specs.Queue.{names_of, green_count}
@@ -14,7 +13,7 @@ use Rattle.cg_agree.specs.Played.{AlwaysHolds}
 use Rattle.cg_agree.specs.Run.{Step, IsRunFrom}
 use Rattle.cg_agree.specs.Shown.{order_of, ordered_actions}
 use Rattle.cg_agree.specs.Agreement.{ComesAfter, through}
-use Rattle.cg_agree.proofs.RunSteps.{world_of, chronicle_of, IsStepOf, step-of, StandsFor, stands-for}
+use Rattle.cg_agree.proofs.RunSteps.{world_of, chronicle_of, step-of, StandsFor, stands-for}
 use Rattle.cg_agree.proofs.ShownActions.{ordered-shown}
 
 -- the greens of a replica that is up are a front of the order, and what they make is what it holds

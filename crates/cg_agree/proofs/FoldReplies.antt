@@ -1,8 +1,7 @@
 -- A reply that a step of a run gives is read from the order up to its own request; each is given once; and it is given exactly where
 -- the request's creator passes its place and lives since it made it.
-use Rattle.std.proofs.Common.{◌⊎◌, ◌↔◌, ◌≡◌, ℕ, zero, suc, ◌+◌, ◌-◌, ◌≤◌, ◌<◌, nat_lt, nat_le, Bool, true, false, not, ◌&&◌, ◌||◌, is_some, List, [], ◌∷◌, ◌++◌, map, filter, fold, take, drop, length, if◌then◌else◌, Option, Some, None, Contains, refl, sym, ap, ap₂, ◌∙◌, subst, inl, inr, option_and_then, option_map, arith, eq-eqb, append_assoc}
+use Rattle.std.proofs.Common.{◌⊎◌, ◌↔◌, ◌≡◌, ℕ, suc, ◌+◌, ◌≤◌, ◌<◌, nat_lt, nat_le, Bool, true, false, not, ◌&&◌, ◌||◌, is_some, List, [], ◌∷◌, ◌++◌, filter, drop, length, if◌then◌else◌, Option, Some, None, Contains, refl, sym, ap, ap₂, ◌∙◌, subst, inl, inr, option_and_then, option_map, arith, eq-eqb, append_assoc}
 use Rattle.std.specs.Prelude.{◌==◌}
-use Rattle.std.specs.Option.{option_map_or}
 use Rattle.std.proofs.lemmas.Bool.{cases_Bool, cases_lt, and_parts, cond-true, ltb-true, leb-true, lt-ltb, le-leb, false_from_ne_true}
 use Rattle.std.proofs.lemmas.List.{map-append}
 use Rattle.cg_group.specs.EachLaws.{Each}
@@ -11,21 +10,21 @@ use Rattle.cg_base.specs.Cuts.{index_in}
 use Rattle.cg_base.specs.Ids.{same_id, names}
 use Rattle.cg_action.specs.declared.action.Action.{Action}
 use Rattle.cg_db.specs.declared.entry.DbEntry.{DbEntry}
-use Rattle.cg_db.specs.Apply.{Applied, apply, fold_actions}
+use Rattle.cg_db.specs.Apply.{apply, fold_actions}
 use Rattle.cg_db.specs.Find.{answer, query_of}
-use Rattle.cg_queue.specs.Queue.{names_of, green_count}
+use Rattle.cg_queue.specs.Queue.{names_of}
 use Rattle.cg_report.specs.declared.entry.Reply.{Reply}
-use Rattle.cg_client.specs.Replica.{Held, Replica, created}
+use Rattle.cg_client.specs.Replica.{Replica, created}
 use Rattle.cg_client.specs.Turn.{Turn}
 use Rattle.cg_client.specs.Marks.{is_first, after_owed, reply_to, given_to}
-use Rattle.cg_step.specs.Step.{Input, replica_step}
+use Rattle.cg_step.specs.Step.{replica_step}
 use Rattle.cg_step.specs.Crash.{Disk, Ended, Runs, Crashes, end_event}
-use Rattle.cg_agree.specs.World.{Life, Up, Down, Seat, World, no_world, has_begun, running, seat_of, replica_of}
+use Rattle.cg_agree.specs.World.{Seat, World, has_begun, running, seat_of, replica_of}
 use Rattle.cg_agree.specs.Show.{Going}
 use Rattle.cg_agree.specs.Step.{happens}
-use Rattle.cg_agree.specs.Run.{Step, IsRunFrom}
-use Rattle.cg_agree.specs.Shown.{order_of, made_names, made_action, made_actions, position_of}
-use Rattle.cg_agree.specs.Agreement.{ComesAfter, through, is_down_in, is_created_in, lives_since, IsDue}
+use Rattle.cg_agree.specs.Run.{Step}
+use Rattle.cg_agree.specs.Shown.{order_of, made_action, made_actions, position_of}
+use Rattle.cg_agree.specs.Agreement.{through, is_down_in, is_created_in, lives_since, IsDue}
 use Rattle.cg_agree.specs.Chronicle.{Chronicle}
 use Rattle.cg_agree.specs.Fronts.{Front}
 use Rattle.cg_agree.specs.Looks.{greens_of}
@@ -39,11 +38,11 @@ use Rattle.cg_agree.proofs.ShownActions.{order-shown, each-action, actions-shown
 use Rattle.cg_agree.proofs.FoldHeld.{IsInOrder, in-order}
 use Rattle.cg_agree.proofs.RunMarks.{run-names}
 use Rattle.cg_agree.proofs.CreatorNumbered.{order-runs}
-use Rattle.cg_agree.proofs.TurnWorlds.{up_seat, life_at}
-use Rattle.cg_agree.proofs.TurnReplies.{db_behind, replies_in, IsAnswered, step-answered}
+use Rattle.cg_agree.proofs.TurnWorlds.{life_at}
+use Rattle.cg_agree.proofs.TurnReplies.{db_behind, replies_in}
 use Rattle.cg_agree.proofs.RepliesPlaced.{IsIn, plain, times, times-both, reply_ids, ids_in}
 use Rattle.cg_agree.proofs.DiskEnds.{end-cases}
-use Rattle.cg_agree.proofs.RunSteps.{world_of, chronicle_of, IsStepOf, StandsFor, stands-for, step-of}
+use Rattle.cg_agree.proofs.RunSteps.{world_of, chronicle_of, IsStepOf, StandsFor, stands-for}
 use Rattle.cg_agree.proofs.OwedNames.{own_name, is_behind}
 use Rattle.cg_agree.proofs.StepSays.{SaysSo}
 use Rattle.cg_agree.proofs.EventSays.{made_by, replies_by}
@@ -51,7 +50,7 @@ use Rattle.cg_agree.proofs.EventMeets.{SaidOnly, KeptIn, TurnsIn, Meets, Stays, 
 use Rattle.cg_agree.proofs.EventRuns.{event-runs}
 use Rattle.cg_agree.proofs.GreensBehind.{greens-through}
 use Rattle.cg_agree.proofs.LivesSince.{lives-next}
-use Rattle.cg_agree.proofs.OwedRun.{LivesOf, LivesAt, OwedAt, step-shows}
+use Rattle.cg_agree.proofs.OwedRun.{LivesAt, OwedAt, step-shows}
 use Rattle.cg_agree.proofs.NamesTimes.{named-times, times-named, times-passing, times-failing, times-once, in-times, times-contains, contains-in, placed-within, within-placed}
 use Rattle.cg_agree.proofs.OwedKept.{whitened-created, no-more, meets, runs-now, created-now, was, says, turned-lives, owed-next, owed-run}
 

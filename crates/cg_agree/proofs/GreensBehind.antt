@@ -1,5 +1,5 @@
 -- Behind an event the greens of a replica that took a turn in it and runs on are those before it, and what became green in the turn.
-use Rattle.std.proofs.Common.{◌≡◌, ℕ, suc, Bool, true, false, cond, List, [], ◌∷◌, ◌++◌, drop, fold, length, find, Option, Some, None, IfSome, is_some, refl, sym, ap, ◌∙◌, subst, option_and_then, option_map, eq-eqb, append_assoc, append-nil}
+use Rattle.std.proofs.Common.{◌≡◌, ℕ, suc, Bool, true, false, cond, List, [], ◌∷◌, ◌++◌, drop, length, Option, Some, None, IfSome, is_some, refl, sym, ap, ◌∙◌, subst, option_and_then, option_map, eq-eqb, append_assoc, append-nil}
 use Rattle.std.specs.Prelude.{◌==◌}
 use Rattle.std.specs.Option.{option_map_or}
 use Rattle.std.proofs.lemmas.Bool.{cond-true}
@@ -12,19 +12,17 @@ use Rattle.cg_client.specs.Replica.{State, RegPrim, TransPrim, ExchangeStates, E
 use Rattle.cg_client.specs.Turn.{Turn, begin}
 use Rattle.cg_client.specs.Requests.{is_creating, create, create_kept, empty_buffer, buffer, settle, request_in}
 use Rattle.cg_action.specs.declared.action.Kind.{Kind}
-use Rattle.cg_step.specs.Step.{replica_step}
 use Rattle.cg_step.specs.Crash.{Disk}
-use Rattle.cg_agree.specs.World.{Life, Up, Down, Seat, World, running, seat_of, replica_of, set_life}
+use Rattle.cg_agree.specs.World.{Life, Up, Down, Seat, World, running, seat_of, replica_of}
 use Rattle.cg_agree.specs.Chronicle.{Past, Chronicle}
 use Rattle.cg_agree.specs.Looks.{past_of, greens_of}
-use Rattle.cg_agree.specs.Small.{Small, Starts, Makes, Enters, Orders, Receives, Hands, Leaves, Asks, Settles, Commits, Crashes, Recovers, Copies, Joins, newly_green, with_greens, after_turn, turning, turning_as, take_all, take_newest, take_next, take_parting, take_request, newest_conf, coming, handed_next, leaving, small_step}
-use Rattle.cg_agree.specs.Noting.{played, chronicle_step}
-use Rattle.cg_agree.specs.Played.{IsSame, StandsBeside}
+use Rattle.cg_agree.specs.Small.{Small, Starts, Makes, Enters, Orders, Receives, Hands, Leaves, Asks, Settles, Commits, Crashes, Recovers, Copies, Joins, newly_green, with_greens, after_turn, turning, turning_as, take_newest, take_next, take_parting, take_request, newest_conf, coming, handed_next, leaving, small_step}
+use Rattle.cg_agree.specs.Noting.{played}
+use Rattle.cg_agree.specs.Played.{IsSame}
 use Rattle.cg_agree.proofs.ChronicleFacts.{seat_of-set, past_of-turn}
 use Rattle.cg_agree.proofs.SameSmalls.{played-same}
 use Rattle.cg_agree.proofs.SmallWorlds.{played_in, played-world}
-use Rattle.cg_agree.proofs.RestFacts.{IsKept}
-use Rattle.cg_agree.proofs.GreenMembers.{SameMembers, FollowsGreens, follows-first, follows-same, takes-follow, creates-same}
+use Rattle.cg_agree.proofs.GreenMembers.{FollowsGreens, follows-first, follows-same, takes-follow, creates-same}
 use Rattle.cg_agree.proofs.TurnAlong.{IsPartOf, Keeps, GreensKeep, RunsThrough}
 
 -- a part of a turn makes further actions green

@@ -1,27 +1,24 @@
 -- Behind each step of a run every replica that is up owes the replies to those of its own actions that it lives since and that aren't green.
-use Rattle.std.proofs.Common.{◌≡◌, ℕ, ◌+◌, ◌≤◌, nat_lt, nat_le, Bool, true, false, not, ◌&&◌, ◌||◌, is_some, List, [], ◌∷◌, ◌++◌, map, fold, Option, Some, None, IfSome, refl, sym, ap, ap₂, ◌∙◌, subst, option_and_then, option_map, append-nil, append_assoc}
+use Rattle.std.proofs.Common.{◌≡◌, ℕ, ◌+◌, nat_lt, nat_le, Bool, true, false, not, ◌&&◌, ◌||◌, is_some, List, [], ◌∷◌, ◌++◌, map, fold, Option, Some, None, IfSome, refl, sym, ap, ap₂, ◌∙◌, subst, option_and_then, option_map, append-nil, append_assoc}
 use Rattle.std.specs.List.{list_any}
 use Rattle.std.specs.Option.{option_map_or}
 use Rattle.cg_base.specs.declared.action_id.ActionId.{ActionId}
-use Rattle.cg_base.specs.Cuts.{index_in}
 use Rattle.cg_base.specs.Ids.{names}
 use Rattle.cg_report.specs.declared.line.Line.{Line}
-use Rattle.cg_report.specs.declared.line.UpLine.{UpLine}
 use Rattle.cg_report.specs.declared.entry.Made.{Made}
 use Rattle.cg_group.specs.State.{phase_of}
 use Rattle.cg_queue.specs.Queue.{names_of}
 use Rattle.cg_client.specs.Replica.{Held, Replica, created}
 use Rattle.cg_client.specs.Turn.{Turn}
-use Rattle.cg_stored.specs.Stored.{stored_of, whiten}
+use Rattle.cg_stored.specs.Stored.{whiten}
 use Rattle.cg_step.specs.Step.{replica_step}
-use Rattle.cg_step.specs.Crash.{Disk, Ended, Runs, Crashes, whitened, end_event}
+use Rattle.cg_step.specs.Crash.{Disk, Ended, Runs, Crashes, whitened}
 use Rattle.cg_agree.specs.World.{Life, Up, Down, Seat, World, no_world, running, seat_of, replica_of}
 use Rattle.cg_agree.specs.Show.{Going, Moved, line_of, up_line}
-use Rattle.cg_agree.specs.Step.{happens, world_step}
+use Rattle.cg_agree.specs.Step.{happens}
 use Rattle.cg_agree.specs.Run.{Step, IsRunFrom}
 use Rattle.cg_agree.specs.Shown.{lines_in}
-use Rattle.cg_agree.specs.Agreement.{ComesAfter, through, is_down_in, is_recovery_of, is_created_in, lives_since}
-use Rattle.cg_agree.specs.Chronicle.{Chronicle}
+use Rattle.cg_agree.specs.Agreement.{through, is_down_in, is_recovery_of, is_created_in, lives_since}
 use Rattle.cg_agree.specs.Looks.{on_disk, disk_held}
 use Rattle.cg_agree.specs.FactsLists.{IsRising}
 use Rattle.cg_agree.specs.Played.{AlwaysHolds}
@@ -30,7 +27,7 @@ use Rattle.cg_agree.proofs.DiskEnds.{end-cases}
 use Rattle.cg_agree.proofs.SeatFacts.{seat-id}
 use Rattle.cg_agree.proofs.MadeWorlds.{IsCoreAt, LifeSound, SeatSound, green-created}
 use Rattle.cg_agree.proofs.MadeBookKept.{sound-at}
-use Rattle.cg_agree.proofs.TurnWorlds.{up_seat, life_at}
+use Rattle.cg_agree.proofs.TurnWorlds.{life_at}
 use Rattle.cg_agree.proofs.RunSteps.{world_of, chronicle_of, IsStepOf, StandsFor, stands-for, step-of}
 use Rattle.cg_agree.proofs.OwedNames.{own_name, own-named}
 use Rattle.cg_agree.proofs.StepSays.{IsOwing, SaysSo, step-says}

@@ -1,8 +1,8 @@
 -- The replies that a replica owes are those to its own actions behind a number, as far as they aren't green: a step answers exactly
 -- those of them that become green in it.
-use Rattle.std.proofs.Common.{◌≡◌, ℕ, zero, suc, ◌+◌, ◌-◌, ◌≤◌, ◌<◌, max, nat_lt, nat_le, Bool, true, false, cond, ◌&&◌, ◌||◌, List, [], ◌∷◌, ◌++◌, map, filter, refl, sym, ap, ap₂, ◌∙◌, subst, arith, inl, inr, eq-eqb, if◌then◌else◌}
+use Rattle.std.proofs.Common.{◌≡◌, ℕ, zero, suc, ◌+◌, ◌-◌, ◌≤◌, max, nat_lt, nat_le, Bool, true, false, cond, ◌&&◌, ◌||◌, List, [], ◌∷◌, ◌++◌, map, filter, refl, sym, ap, ap₂, ◌∙◌, arith, inl, inr, eq-eqb}
 use Rattle.std.specs.Prelude.{◌==◌}
-use Rattle.std.proofs.lemmas.Bool.{cases_eq, cases_lt, cases_Bool, cond-true, cond-false, ne_eqb, lt-ltb, le-ltb, lt-leb, le-leb}
+use Rattle.std.proofs.lemmas.Bool.{cases_eq, cases_lt, cond-true, cond-false, ne_eqb, lt-ltb, le-ltb, lt-leb, le-leb}
 use Rattle.cg_base.specs.declared.action_id.ActionId.{ActionId}
 use Rattle.cg_base.specs.Cuts.{index_in, raise}
 use Rattle.cg_base.specs.Ids.{same_id, names}
@@ -99,8 +99,7 @@ module _ (p base made : ℕ) (low : base ≤ made) where
       (is_first (owed_at (index_in cut p)) id ≡ is_behind p base id) × (after_owed (owed_at (index_in cut p)) id ≡ owed_at (index_in (raise cut id) p))
   owed-one cut id rising next most = elim (cases_eq id.creator p) [
     | inr other ↦
-        let stays = not-first (max (index_in cut p) base) (made - max (index_in cut p) base) id (λ e. other (sym (ap (λ (x : ActionId). x.creator) e))) in
-        (
+        let stays = not-first (max (index_in cut p) base) (made - max (index_in cut p) base) id (λ e. other (sym (ap (λ (x : ActionId). x.creator) e))) in (
           stays.0 ∙ sym (ap (λ b. b && nat_lt base id.index) (ne_eqb id.creator p other)),
           stays.1 ∙ ap owed_at (sym (index-other cut id rising p other)),
         )
@@ -116,8 +115,7 @@ module _ (p base made : ℕ) (low : base ≤ made) where
               let still : max (suc green) base ≡ base = omega arith in
               let stays = not-first base (made - base) id (λ e. (let same : suc base ≡ id.index = ap (λ (x : ActionId). x.index) e in omega arith)) in
               let before : owed_at green ≡ own_names p base (made - base) = ap (λ n. own_names p n (made - n)) from in
-              let behind : owed_at (index_in (raise cut id) p) ≡ own_names p base (made - base) = ap owed_at now ∙ ap (λ n. own_names p n (made - n)) still in
-              (
+              let behind : owed_at (index_in (raise cut id) p) ≡ own_names p base (made - base) = ap owed_at now ∙ ap (λ n. own_names p n (made - n)) still in (
                 ap (λ ids. is_first ids id) before ∙ stays.0 ∙ sym (ap₂ (λ x y. x && y) (eq-eqb id.creator p mine) (le-ltb base id.index (omega arith))),
                 ap (λ ids. after_owed ids id) before ∙ stays.1 ∙ sym behind,
               )
@@ -128,8 +126,7 @@ module _ (p base made : ℕ) (low : base ≤ made) where
               let name : own_name p (suc green) ≡ id = (λ i. record { creator = sym mine i; index = sym is i }) in
               let given = first-here green (made - suc green) id name in
               let before : owed_at green ≡ own_names p green (suc (made - suc green)) = ap (λ n. own_names p n (made - n)) from ∙ ap (own_names p green) count in
-              let behind : owed_at (index_in (raise cut id) p) ≡ own_names p (suc green) (made - suc green) = ap owed_at now ∙ ap (λ n. own_names p n (made - n)) next_from in
-              (
+              let behind : owed_at (index_in (raise cut id) p) ≡ own_names p (suc green) (made - suc green) = ap owed_at now ∙ ap (λ n. own_names p n (made - n)) next_from in (
                 ap (λ ids. is_first ids id) before ∙ given.0 ∙ sym (ap₂ (λ x y. x && y) (eq-eqb id.creator p mine) (lt-ltb base id.index (omega arith))),
                 ap (λ ids. after_owed ids id) before ∙ given.1 ∙ sym behind,
               )
@@ -155,8 +152,7 @@ module _ (p base made : ℕ) (low : base ≤ made) where
       let next = run-rest cut a.id (names_of actions) run in
       let grows : index_in (raise cut a.id) p ≤ index_in (cut_behind (raise cut a.id) (names_of actions)) p = behind-rises (raise cut a.id) (names_of actions) p up in
       let one = owed-one cut a.id rising (run-head cut a.id (names_of actions) run) (omega arith) in
-      let rest = owed-on actions (raise cut a.id) (apply db a).db up next most in
-      (
+      let rest = owed-on actions (raise cut a.id) (apply db a).db up next most in (
         ap (λ o. owed_behind o actions) one.1 ∙ rest.0,
         reply-names (owed_at (index_in cut p)) a (apply db a) (replies_in (after_owed (owed_at (index_in cut p)) a.id) (apply db a).db actions) (names_of actions) one.0
             (ap (λ o. map (λ r. r.id) (replies_in o (apply db a).db actions)) one.1 ∙ rest.1),

@@ -1,6 +1,6 @@
 -- Behind the steps of a run each replica that is up owes the replies to those of its own actions that it has created in its life and
 -- that aren't green, and those are the actions whose creator lives since it created them: what that says, and what a step shows.
-use Rattle.std.proofs.Common.{◌≡◌, ℕ, suc, ◌+◌, ◌-◌, ◌≤◌, max, nat_lt, nat_le, Bool, true, false, cond, ◌&&◌, ◌||◌, List, [], ◌∷◌, ◌++◌, fold, find, Option, Some, None, IfSome, Contains, refl, sym, ap, ap₂, ◌∙◌, inl, inr, option_and_then, arith, append-nil, append_assoc}
+use Rattle.std.proofs.Common.{◌≡◌, ℕ, suc, ◌+◌, ◌-◌, ◌≤◌, max, nat_lt, nat_le, Bool, true, false, ◌&&◌, ◌||◌, List, [], ◌∷◌, ◌++◌, fold, find, Option, Some, None, IfSome, Contains, refl, sym, ap, ap₂, ◌∙◌, inl, inr, arith, append-nil, append_assoc}
 use Rattle.std.specs.Prelude.{◌==◌}
 use Rattle.std.specs.Option.{option_map_or}
 use Rattle.std.proofs.lemmas.Bool.{cases_lt, cases_Bool, cond-true, cond-false, lt-ltb, le-ltb, lt-leb, le-leb}

@@ -4,9 +4,8 @@ use Rattle.std.proofs.lemmas.Bool.{cases_Bool, cond-true, cond-false}
 use Rattle.cg_base.specs.declared.action_id.ActionId.{ActionId}
 use Rattle.cg_base.specs.Ids.{same_id}
 use Rattle.cg_report.specs.declared.entry.Reply.{Reply}
-use Rattle.cg_agree.specs.Show.{Answered, answered_first, after_answered, answered_from, with_answered}
+use Rattle.cg_agree.specs.Show.{Answered, after_answered, answered_from, with_answered}
 use Rattle.cg_agree.proofs.BookGrows.{same-self}
-use Rattle.cg_agree.proofs.OneValue.{same-from}
 
 -- an element of a list
 abbrev pub IsIn : {X : Type 0} → List X → X → Type 0

@@ -1,5 +1,5 @@
 -- The action of a name in the order, as the steps of a run have shown it, is the one that replicas have of that name.
-use Rattle.std.proofs.Common.{◌≡◌, ℕ, zero, suc, ◌≤◌, ◌<◌, Bool, true, false, ◌||◌, List, [], ◌∷◌, ◌++◌, map, find, take, length, flat_map, Option, Some, None, Contains, nat_le, refl, sym, ap, ap₂, ◌∙◌, subst, arith, inl, inr}
+use Rattle.std.proofs.Common.{◌≡◌, zero, suc, ◌≤◌, Bool, true, false, ◌||◌, List, [], ◌∷◌, ◌++◌, map, find, take, length, flat_map, Option, Some, Contains, nat_le, refl, sym, ap, ap₂, ◌∙◌, subst, arith, inl, inr}
 use Rattle.std.proofs.lemmas.Bool.{cases_Bool, cond-true, cond-false, and_parts}
 use Rattle.std.proofs.lemmas.List.{map-append}
 use Rattle.std.specs.List.{list_all}
@@ -20,7 +20,6 @@ use Rattle.cg_agree.proofs.FrontFacts.{take-Front}
 use Rattle.cg_agree.proofs.CreatorNumbered.{order-runs}
 use Rattle.cg_agree.proofs.BookGrows.{IsNamed, same-self, named-all}
 use Rattle.cg_agree.proofs.OneValue.{same-from}
-use Rattle.cg_agree.proofs.CutRaise.{rising-raise, Rising}
 use Rattle.cg_agree.proofs.RunMarks.{run-head, run-rest}
 use Rattle.cg_agree.proofs.RunSteps.{world_of, chronicle_of, StandsFor}
 

@@ -1,6 +1,6 @@
 -- What a replica's whole step says, where it owes the replies to its own actions behind a number: it answers those of them that become
 -- green, makes its next actions, and owes their replies too.
-use Rattle.std.proofs.Common.{◌≡◌, ℕ, suc, ◌+◌, ◌-◌, ◌≤◌, max, Bool, true, false, cond, List, [], ◌∷◌, ◌++◌, map, filter, fold, refl, sym, ap, ap₂, ◌∙◌, subst, arith, append-nil}
+use Rattle.std.proofs.Common.{◌≡◌, ℕ, suc, ◌+◌, ◌-◌, ◌≤◌, max, Bool, true, false, cond, List, [], ◌∷◌, ◌++◌, filter, fold, refl, sym, ap, ap₂, ◌∙◌, subst, arith}
 use Rattle.cg_base.specs.declared.action_id.ActionId.{ActionId}
 use Rattle.cg_base.specs.declared.weighted.Weighted.{Weighted}
 use Rattle.cg_base.specs.Cuts.{index_in}
@@ -11,10 +11,9 @@ use Rattle.cg_client.specs.Replica.{Held, State, RegPrim, TransPrim, ExchangeSta
 use Rattle.cg_client.specs.Turn.{Turn, begin, with_held}
 use Rattle.cg_client.specs.Requests.{is_creating, next_action, create, create_kept, empty_buffer, buffer, settle, request_in, request}
 use Rattle.cg_step.specs.Step.{Input, Deliveries, Asks, replica_step, take}
-use Rattle.cg_agree.specs.FactsReplica.{run_on, cut_behind}
-use Rattle.cg_agree.proofs.CutRaise.{Rising}
+use Rattle.cg_agree.specs.FactsReplica.{cut_behind}
 use Rattle.cg_agree.proofs.HeldMarks.{IsOneself, names-behind, rising-green}
-use Rattle.cg_agree.proofs.CreatedKept.{HasCreated, StaysCreated, created-rule, created-first}
+use Rattle.cg_agree.proofs.CreatedKept.{StaysCreated, created-rule, created-first}
 use Rattle.cg_agree.proofs.TurnRows.{of-deliveries}
 use Rattle.cg_agree.proofs.KeptEmpty.{anything}
 use Rattle.cg_agree.proofs.MadeWorlds.{IsCoreAt}

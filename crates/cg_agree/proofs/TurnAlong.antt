@@ -1,9 +1,9 @@
 -- Where a replica's turn stands among the small steps of an event: those before are of other replicas, its own parts lead to what its
 -- turn leads to, and behind them its greens stay.
-use Rattle.std.proofs.Common.{◌≡◌, ℕ, suc, ◌≤◌, ◌<◌, Bool, true, false, ◌||◌, List, [], ◌∷◌, ◌++◌, flat_map, Option, Some, None, refl, sym, ap, ap₂, ◌∙◌, subst, inl, inr, option_and_then, arith, append_assoc, append-nil, eq-eqb, if◌then◌else◌}
+use Rattle.std.proofs.Common.{◌≡◌, ℕ, suc, ◌≤◌, ◌<◌, Bool, true, false, ◌||◌, List, [], ◌∷◌, ◌++◌, flat_map, Option, Some, None, refl, sym, ap, ap₂, ◌∙◌, subst, inl, inr, option_and_then, arith, append_assoc, if◌then◌else◌}
 use Rattle.std.specs.Prelude.{◌==◌}
 use Rattle.std.specs.Option.{option_map_or}
-use Rattle.std.proofs.lemmas.Bool.{cases_eq, cond_both, cond-false, ne_eqb}
+use Rattle.std.proofs.lemmas.Bool.{cases_eq, cond_both, ne_eqb}
 use Rattle.cg_base.specs.Sets.{has}
 use Rattle.cg_wire.specs.declared.message.Msg.{Msg}
 use Rattle.cg_group.specs.declared.delivery.Delivery.{Delivery}
@@ -28,9 +28,9 @@ use Rattle.cg_agree.proofs.GroupChanges.{down-own}
 use Rattle.cg_agree.proofs.GreensFront.{commit-same}
 use Rattle.cg_agree.proofs.RestFacts.{IsOf, IsKept, others-kept}
 use Rattle.cg_agree.proofs.SmallWorlds.{played_in, played-append}
-use Rattle.cg_agree.proofs.TurnWorlds.{seated, up_seat, seat-seated, turn-ends, ended_in}
+use Rattle.cg_agree.proofs.TurnWorlds.{seated, up_seat, seat-seated, turn-ends}
 use Rattle.cg_agree.proofs.EventTurns.{IsUp, hand-leads}
-use Rattle.cg_agree.proofs.TogetherWorlds.{IsStill, IsMember, IsGoing, turn_of, smalls_among, turns_among, one-on}
+use Rattle.cg_agree.proofs.TogetherWorlds.{IsStill, IsMember, IsGoing, smalls_among, turns_among, one-on}
 
 -- a part of the replica's turn
 abbrev pub IsPartOf : ℕ → Small → Type 0
