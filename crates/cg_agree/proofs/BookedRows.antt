@@ -46,7 +46,7 @@ module _ (Fine : Action → Type 0) where
   each-drop (suc n) [] each = tt
   each-drop (suc n) (x ∷ xs) each = each-drop n xs each.1
 
-  each-with_red : (reds : List Action) (a : Action) → Fine a → Each Fine reds → Each Fine (with_red reds a)
+  pub each-with_red : (reds : List Action) (a : Action) → Fine a → Each Fine reds → Each Fine (with_red reds a)
   each-with_red [] a fine each = (fine, tt)
   each-with_red (x ∷ reds) a fine each =
       cond_both (id_before a.id x.id) (a ∷ x ∷ reds) (x ∷ with_red reds a) (Each Fine) (λ y. (fine, each)) (λ n. (each.0, each-with_red reds a fine each.1))

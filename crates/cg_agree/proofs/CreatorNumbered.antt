@@ -78,7 +78,7 @@ names-take zero list = refl
 names-take (suc n) [] = refl
 names-take (suc n) (a ∷ list) = ap (λ ids. a.id ∷ ids) (names-take n list)
 
-names-count : (list : List Action) → length (names_of list) ≡ length list
+pub names-count : (list : List Action) → length (names_of list) ≡ length list
 names-count [] = refl
 names-count (a ∷ list) = ap suc (names-count list)
 

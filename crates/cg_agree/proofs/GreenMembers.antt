@@ -34,7 +34,7 @@ pub record SameMembers (old h : Held) : Type 0 where
   pub members : h.members ≡ old.members
   pub white : h.queue.white ≡ old.queue.white
 
-follows-same : (old h new : Held) → SameMembers h new → FollowsGreens old h → FollowsGreens old new
+pub follows-same : (old h new : Held) → SameMembers h new → FollowsGreens old h → FollowsGreens old new
 follows-same old h new same is = record { more = is.more; greens = same.greens ∙ is.greens; members = same.members ∙ is.members; white = same.white ∙ is.white }
 
 pub follows-first : (h : Held) → FollowsGreens h h

@@ -42,7 +42,7 @@ least-below n (k ∷ ns) = elim (cases_Bool (nat_lt k n)) [
     | inr apart ↦ elim apart [ inl less ↦ omega arith | inr more ↦ absurd (let clash : true ≡ false = sym lt ∙ le-ltb k n (omega arith) in cc) ]
   ]
 
-line-below : (n : ℕ) (servers : List Server) → NoLineAbove n servers → unwrap_or (least_line servers) 0 ≤ n
+pub line-below : (n : ℕ) (servers : List Server) → NoLineAbove n servers → unwrap_or (least_line servers) 0 ≤ n
 line-below n [] lines = omega arith
 line-below n (s ∷ servers) lines =
     let first : s.line ≤ n = lines.0 in

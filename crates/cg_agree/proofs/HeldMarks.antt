@@ -163,7 +163,7 @@ module _ (start : List Weighted) (h : Held) (all : List Action) (is : IsOneself 
         };
       }
 
-  counted : green_count h.queue ≡ length all
+  pub counted : green_count h.queue ≡ length all
   counted = ap (λ xs. h.queue.white + length xs) is.made_of.kept ∙ dropped h.queue.white all is.made_of.white
     where
       dropped : (n : ℕ) (xs : List Action) → n ≤ length xs → n + length (drop n xs) ≡ length xs

@@ -80,16 +80,16 @@ module _ (w : World) (p count : ℕ) (rising : IsRising 0 (map (λ s. s.id) w.se
   abbrev from : ℕ
   from = delivered_to g p
 
-  abbrev list : List (Delivery Msg)
+  abbrev pub list : List (Delivery Msg)
   list = deliveries_at (home g p) (above_up_to from (from + count))
 
   abbrev t : Turn
   t = replica_step r (Deliveries list)
 
-  abbrev handed : GroupState Msg
+  abbrev pub handed : GroupState Msg
   handed = with_delivered g p (from + count)
 
-  abbrev opening : List Small
+  abbrev pub opening : List Small
   opening = replicate count (Hands p) ++ Settles p ∷ []
 
   handed-is : handed ≡ set_standing g (record s { delivered = from + count })

@@ -33,7 +33,7 @@ pub record IsShown (cut : List ActionId) (old : Held) (t : Turn) : Type 0 where
   pub own : OwnRuns t.replica.held
 
 module _ (cut : List ActionId) (rising : Rising 0 cut) (old : Held) where
-  create-shown : (t : Turn) (kind : Kind) → IsShown cut old t → IsShown cut old (create t kind)
+  pub create-shown : (t : Turn) (kind : Kind) → IsShown cut old t → IsShown cut old (create t kind)
   unfolding create
   create-shown t kind is =
       let h = t.replica.held in
@@ -69,7 +69,7 @@ module _ (cut : List ActionId) (rising : Rising 0 cut) (old : Held) where
   creates-shown [] t is = is
   creates-shown (kind ∷ list) t is = creates-shown list (create t kind) (create-shown t kind is)
 
-  buffered-shown : (t : Turn) (list : List Kind) → IsShown cut old t → (let h = t.replica.held in IsShown cut old (with_held t (record h { buffered = list })))
+  pub buffered-shown : (t : Turn) (list : List Kind) → IsShown cut old t → (let h = t.replica.held in IsShown cut old (with_held t (record h { buffered = list })))
   buffered-shown t list is = record {
     id = is.id;
     counted = is.counted;
@@ -107,7 +107,7 @@ module _ (cut : List ActionId) (rising : Rising 0 cut) (old : Held) where
     at (NonPrim false) = kept
 
   -- what was handed creates nothing
-  stays-shown : index_in cut old.id ≡ created old → (t : Turn) → StaysCreated old t → IsShown cut old t
+  pub stays-shown : index_in cut old.id ≡ created old → (t : Turn) → StaysCreated old t → IsShown cut old t
   stays-shown counts t stays =
       let h = t.replica.held in
       let none : cut_behind cut (names_of t.made) ≡ cut = ap (λ made. cut_behind cut (names_of made)) stays.made in

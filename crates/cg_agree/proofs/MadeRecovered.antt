@@ -15,7 +15,7 @@ use Rattle.cg_step.specs.Crash.{Disk, recovered}
 use Rattle.cg_agree.specs.FactsReplica.{run_on, cut_behind}
 use Rattle.cg_agree.specs.Show.{unshown}
 use Rattle.cg_agree.proofs.CutRaise.{Rising, index-same, index-other, rising-raise}
-use Rattle.cg_agree.proofs.RunMarks.{run-head, run-rest}
+use Rattle.cg_agree.proofs.RunMarks.{run-head, run-rest, run-from}
 use Rattle.cg_agree.proofs.HeldMarks.{IsOneself, rising-green}
 use Rattle.cg_agree.proofs.HeldOwn.{own-reddened, created-same}
 use Rattle.cg_agree.proofs.HeldTurns.{keeps-own_to_red}
@@ -53,6 +53,37 @@ module _ (p n : ℕ) where
         ]
   ]
 
+  -- and each is the next of that one
+  above-runs : (reds : List Action) (made cut : List ActionId) → Rising 0 made → Rising 0 cut → run_on cut (names_of reds) ≡ true → index_in made p ≡ max n (index_in cut p) →
+      run_on made (names_of (filter is_above reds)) ≡ true
+  above-runs [] made cut up rising run is = refl
+  above-runs (a ∷ reds) made cut up rising run is = elim (cases_eq a.id.creator p) [
+    | inr other ↦
+        let skips : is_above a ≡ false = ap (λ b. b && nat_lt n a.id.index) (ne_eqb a.id.creator p other) in
+        ap (λ xs. run_on made (names_of xs)) (cond-false (is_above a) (a ∷ filter is_above reds) (filter is_above reds) skips)
+        ∙ above-runs reds made (raise cut a.id) up (rising-raise cut a.id rising) (run-rest cut a.id (names_of reds) run)
+        (is ∙ ap (max n) (sym (index-other cut a.id rising p other)))
+    | inl mine ↦
+        let next : a.id.index ≡ suc (index_in cut a.id.creator) = run-head cut a.id (names_of reds) run in
+        let here : index_in cut a.id.creator ≡ index_in cut p = ap (index_in cut) mine in
+        let raised : index_in (raise cut a.id) p ≡ max (index_in cut p) a.id.index = index-same cut a.id rising p mine in
+        let first : (a.id.creator == p) ≡ true = eq-eqb a.id.creator p mine in
+        elim (cases_lt n a.id.index) [
+          | inl above ↦
+              let takes : is_above a ≡ true = ap₂ (λ x y. x && y) first (lt-ltb n a.id.index above) in
+              let shown : index_in (raise made a.id) p ≡ max (index_in made p) a.id.index = index-same made a.id up p mine in
+              let there : index_in made a.id.creator ≡ index_in made p = ap (index_in made) mine in
+              let follows : a.id.index ≡ suc (index_in made a.id.creator) = omega arith in
+              ap (λ xs. run_on made (names_of xs)) (cond-true (is_above a) (a ∷ filter is_above reds) (filter is_above reds) takes)
+              ∙ run-from made a.id (names_of (filter is_above reds)) follows
+              (above-runs reds (raise made a.id) (raise cut a.id) (rising-raise made a.id up) (rising-raise cut a.id rising) (run-rest cut a.id (names_of reds) run) (omega arith))
+          | inr below ↦
+              let skips : is_above a ≡ false = ap₂ (λ x y. x && y) first (le-ltb n a.id.index (omega arith)) in
+              ap (λ xs. run_on made (names_of xs)) (cond-false (is_above a) (a ∷ filter is_above reds) (filter is_above reds) skips)
+              ∙ above-runs reds made (raise cut a.id) up (rising-raise cut a.id rising) (run-rest cut a.id (names_of reds) run) (omega arith)
+        ]
+  ]
+
   -- nobody else's
   above-others : (reds : List Action) (made : List ActionId) (q : ℕ) → Rising 0 made → (q ≡ p → ⊥) → index_in (cut_behind made (names_of (filter is_above reds))) q ≡ index_in made q
   above-others [] made q up apart = refl
@@ -72,6 +103,7 @@ module _ (p n : ℕ) where
 -- what the recovery of a disk shows, where the replica's own greens were shown
 pub record IsShownAgain (made : List ActionId) (p : ℕ) (disk : Disk) : Type 0 where
   pub id : (recovered disk).held.id ≡ p
+  pub run : run_on made (names_of (unshown made (recovered disk).held)) ≡ true
   pub counted : index_in (cut_behind made (names_of (unshown made (recovered disk).held))) p ≡ created (recovered disk).held
   pub others : (q : ℕ) → (q ≡ p → ⊥) → index_in (cut_behind made (names_of (unshown made (recovered disk).held))) q ≡ index_in made q
 
@@ -99,6 +131,8 @@ recovery-shown made start p disk all up is mine shown green =
     let counts = above-rises p n h.queue.reds made h.queue.green_cut up (rising-green start h (all ++ grown.more) grown.is) grown.is.contiguous.reds (omega arith) in
     record {
       id = named;
+      run = ap (λ xs. run_on made (names_of xs)) list
+          ∙ above-runs p n h.queue.reds made h.queue.green_cut up (rising-green start h (all ++ grown.more) grown.is) grown.is.contiguous.reds (omega arith);
       counted = ap (λ xs. index_in (cut_behind made (names_of xs)) p) list ∙ counts ∙ omega arith;
       others = λ q apart. ap (λ xs. index_in (cut_behind made (names_of xs)) q) list ∙ above-others p n h.queue.reds made q up apart;
     }

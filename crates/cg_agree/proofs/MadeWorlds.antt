@@ -88,7 +88,7 @@ whitened-green : (h : Held) → (whiten h).queue.green_cut ≡ h.queue.green_cut
 unfolding whiten
 whitened-green h = refl
 
-green-created : (start : List Weighted) (p : ℕ) (h : Held) → IsCoreAt start p h → index_in h.queue.green_cut p ≤ created h
+pub green-created : (start : List Weighted) (p : ℕ) (h : Held) → IsCoreAt start p h → index_in h.queue.green_cut p ≤ created h
 green-created start p h core =
     let below : index_in h.queue.green_cut p ≤ index_in h.queue.red_cut p = (created-first start h core.greens core.is).below p in
     let here : index_in h.queue.red_cut h.id ≡ index_in h.queue.red_cut p = ap (index_in h.queue.red_cut) core.id in

@@ -56,7 +56,7 @@ one-vulnerable a b e =
       bits = one-list nat_eq one-number a.bits b.bits third.1 i;
     }
 
-one-record : (a b : Option Vulnerable) → same_record a b ≡ true → a ≡ b
+pub one-record : (a b : Option Vulnerable) → same_record a b ≡ true → a ≡ b
 unfolding same_record
 one-record None None e = refl
 one-record (Some a) (Some b) e = ap Some (one-vulnerable a b e)
@@ -69,7 +69,7 @@ one-bool false false e = refl
 one-bool true false e = absurd (let clash : false ≡ true = e in cc)
 one-bool false true e = absurd (let clash : false ≡ true = e in cc)
 
-one-yellow : (a b : Yellow) → same_yellow a b ≡ true → a ≡ b
+pub one-yellow : (a b : Yellow) → same_yellow a b ≡ true → a ≡ b
 unfolding same_yellow
 one-yellow a b e =
     let parts = and_parts (beq a.valid b.valid) (pointwise same_id a.list b.list) e in

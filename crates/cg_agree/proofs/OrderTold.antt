@@ -26,9 +26,9 @@ use Rattle.cg_agree.specs.Run.{Step, IsRunFrom, world_after}
 use Rattle.cg_agree.specs.Shown.{order_of, order_lines}
 
 -- the order is that of a world and the names of these order lines, whose places go on behind it
-record Told (w : World) (order : List ActionId) (orders : List Placed) : Type 0 where
-  names : order ≡ w.order ++ map (λ o. o.id) orders
-  places : map (λ o. o.place) orders ≡ count_up (suc (length w.order)) (length orders)
+pub record Told (w : World) (order : List ActionId) (orders : List Placed) : Type 0 where
+  pub names : order ≡ w.order ++ map (λ o. o.id) orders
+  pub places : map (λ o. o.place) orders ≡ count_up (suc (length w.order)) (length orders)
 
 -- the order of a step under way is that of a world, and the order lines so far
 abbrev Keeps : World → Going → Type 0
@@ -199,7 +199,7 @@ unfolding world_step ended
 stepped_order w e = happens_order w e
 
 -- a step of a run
-step_order : (w : World) (s : Step) → record { entry = s.entry; world = s.world } ≡ world_step w s.event → Told w s.world.order s.entry.orders
+pub step_order : (w : World) (s : Step) → record { entry = s.entry; world = s.world } ≡ world_step w s.event → Told w s.world.order s.entry.orders
 step_order w s moved = subst (λ (m : Moved). Told w m.world.order m.entry.orders) (sym moved) (stepped_order w s.event)
 
 pub order_told : (w : World) (count : ℕ) (steps : List Step) → IsRunFrom w count steps → (world_after w steps).order ≡ w.order ++ order_of steps

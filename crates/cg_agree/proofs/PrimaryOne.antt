@@ -63,10 +63,10 @@ abbrev pub OfLine : Chronicle → Line → Type 0
 OfLine c l = IfSome l.up (λ up. IsKnownIn c up.view.prim)
 
 -- each seat is the one of its number
-abbrev IsFoundFrom : ℕ → List Seat → Seat → Type 0
+abbrev pub IsFoundFrom : ℕ → List Seat → Seat → Type 0
 IsFoundFrom low seats s = (low ≤ s.id) × (find (λ x. x.id == s.id) seats ≡ Some s)
 
-found-all : (seats : List Seat) (low : ℕ) → IsRising low (map (λ s. s.id) seats) → Each (IsFoundFrom low seats) seats
+pub found-all : (seats : List Seat) (low : ℕ) → IsRising low (map (λ s. s.id) seats) → Each (IsFoundFrom low seats) seats
 found-all [] low rise = tt
 found-all (s ∷ seats) low rise =
     let first = rise.0 in (
@@ -102,17 +102,17 @@ no-lines w e none = (let x = (happens w e).world in ap (λ (seats : List Seat). 
 
 -- ---- runs
 
-holds-here : (c : Chronicle) (w : World) (events : List Event) → HoldsFrom c w events → StandsBeside c w
+pub holds-here : (c : Chronicle) (w : World) (events : List Event) → HoldsFrom c w events → StandsBeside c w
 holds-here c w [] holds = holds
 holds-here c w (e ∷ events) holds = holds.0
 
-seated-not : (w : World) (e : Event) → IsSeated w → MayStand w e → (set : List Weighted) → e ≡ Start set → ⊥
+pub seated-not : (w : World) (e : Event) → IsSeated w → MayStand w e → (set : List Weighted) → e ≡ Start set → ⊥
 seated-not w e seated may set is =
     let both = subst (MayStand w) is may in
     let some : IsSeated no_world = subst IsSeated both.0 seated in
     omega arith
 
-stays-through : (c : Chronicle) (w : World) (count : ℕ) (steps : List Step) → IsRunFrom w count steps → IsSeated w → StaysOn c (chronicle_after c w steps)
+pub stays-through : (c : Chronicle) (w : World) (count : ℕ) (steps : List Step) → IsRunFrom w count steps → IsSeated w → StaysOn c (chronicle_after c w steps)
 stays-through c w count [] run seated = stays-refl c
 stays-through c w count (s ∷ steps) run seated =
     let d = chronicle_step c w s.event in

@@ -29,7 +29,7 @@ with-seated (s ∷ seats) new =
     (λ y. omega arith)
     (λ n. cond_both (nat_lt new.id s.id) (new ∷ s ∷ seats) (s ∷ with_seat seats new) (λ list. 0 < length list) (λ y. omega arith) (λ n. omega arith))
 
-set-seated : (w : World) (p : ℕ) (life : Life) → IsSeated (set_life w p life)
+pub set-seated : (w : World) (p : ℕ) (life : Life) → IsSeated (set_life w p life)
 set-seated w p life = with-seated w.seats (record { id = p; life = life })
 
 hand-seated : (go : Going) (p : ℕ) (input : Input) → IsSeated go.world → IsSeated (hand go p input).world
@@ -51,7 +51,7 @@ all-seated : (go : Going) (list : List (Handed Msg)) → IsSeated go.world → I
 all-seated go [] is = is
 all-seated go (h ∷ list) is = all-seated (hand_over go h) list (hand-seated go h.to (Deliveries h.list) is)
 
-begun-seated : (set : List Weighted) (list : List ℕ) (w : World) → IsSeated w → IsSeated (fold (begin_replica set) w list)
+pub begun-seated : (set : List Weighted) (list : List ℕ) (w : World) → IsSeated w → IsSeated (fold (begin_replica set) w list)
 begun-seated set [] w is = is
 begun-seated set (p ∷ list) w is = begun-seated set list (begin_replica set w p) (set-seated (name_also w p) p _)
 

@@ -1,0 +1,352 @@
+-- What an event brings to each replica, and what it shows of it: the replica stays, takes a turn, falls, wakes, or begins.
+use Rattle.std.proofs.Common.{◌⊎◌, ◌≡◌, ℕ, ◌+◌, min, nat_lt, Bool, true, false, cond, ◌&&◌, ◌||◌, List, [], ◌∷◌, ◌++◌, map, filter, fold, Option, Some, None, IfSome, refl, sym, ap, ◌∙◌, subst, inl, inr, eq-eqb, option_and_then, option_map}
+use Rattle.std.specs.Prelude.{◌==◌}
+use Rattle.std.specs.Option.{option_map_or}
+use Rattle.std.proofs.lemmas.Bool.{cases_eq, cases_Bool, cond-true, cond-false, ne_eqb, and_parts, eqb-true}
+use Rattle.cg_base.specs.declared.action_id.ActionId.{ActionId}
+use Rattle.cg_base.specs.declared.weighted.Weighted.{Weighted}
+use Rattle.cg_base.specs.Cuts.{index_in}
+use Rattle.cg_base.specs.Ids.{names}
+use Rattle.cg_base.specs.IdLaws.{same_id-false}
+use Rattle.cg_base.specs.Weights.{ids}
+use Rattle.cg_action.specs.declared.action.Action.{Action}
+use Rattle.cg_action.specs.declared.action.Kind.{Kind}
+use Rattle.cg_queue.specs.Queue.{names_of}
+use Rattle.cg_wire.specs.declared.message.Msg.{Msg}
+use Rattle.cg_group.specs.declared.delivery.Handed.{Handed}
+use Rattle.cg_group.specs.EachLaws.{Each}
+use Rattle.cg_group.specs.State.{GroupState}
+use Rattle.cg_report.specs.declared.entry.Reply.{Reply}
+use Rattle.cg_client.specs.Replica.{Held, Replica, NonPrim, fresh}
+use Rattle.cg_client.specs.Turn.{begin}
+use Rattle.cg_stored.specs.Stored.{recover as recover_disk}
+use Rattle.cg_step.specs.Step.{Input, Deliveries, Asks as AsksOf, replica_step}
+use Rattle.cg_step.specs.Crash.{Strike, Disk, crash_now, new_disk, recovered, disk_recovered, end_event}
+use Rattle.cg_schedule.specs.declared.event.Event.{Event}
+use Rattle.cg_schedule.specs.declared.event.Event.TheVariants.{Start, Recover}
+use Rattle.cg_agree.specs.World.{Life, Up, Down, Seat, Snapshot, World, no_world, running, seat_of, replica_of, set_life, bring_up, bring_down}
+use Rattle.cg_agree.specs.Show.{Going, unshown, news_of_recovery}
+use Rattle.cg_agree.specs.Agreement.{is_recovery_of}
+use Rattle.cg_agree.specs.Looks.{on_disk, disk_held}
+use Rattle.cg_agree.specs.Step.{quietly, hand, hand_over, ask, name_also, begin_replica, arm_at, arm, crash_at, recover_from, recover, joined, piece_count, without_snapshot, take_pieces}
+use Rattle.cg_agree.specs.FactsLists.{IsRising}
+use Rattle.cg_agree.proofs.ChronicleFacts.{seat_of-set}
+use Rattle.cg_agree.proofs.HeldCommit.{recovered-id}
+use Rattle.cg_agree.proofs.TurnWorlds.{up_seat, life_at}
+use Rattle.cg_agree.proofs.TurnReplies.{owed-own}
+use Rattle.cg_agree.proofs.RepliesPlaced.{IsIn, times, reply_ids, plain, ids_in}
+use Rattle.cg_agree.proofs.OwedNames.{own_name}
+use Rattle.cg_agree.proofs.EventInputs.{IsHanded}
+use Rattle.cg_agree.proofs.EventSays.{Said, said-none, tell-said, made_ids, SeatOwes, Comes, hand-comes, handed-comes, made_by, replies_by}
+
+-- nothing was made or answered before the event
+abbrev pub no_going : Going
+no_going = quietly no_world
+
+-- of a replica the event shows these own actions as made, and these replies, and no other
+abbrev pub SaidOnly : Going → ℕ → List ActionId → List Reply → Type 0
+SaidOnly h p made replies = Said no_going h p made replies
+
+-- what runs, and what stands on its disk
+pub record KeptIn (w v : World) (p : ℕ) : Type 0 where
+  pub runs : replica_of v p ≡ replica_of w p
+  pub disk : disk_held v p ≡ disk_held w p
+
+-- it took a turn
+pub record TurnsIn (w : World) (e : Event) (h : Going) (p : ℕ) : Type 0 where
+  pub replica : Replica
+  pub disk : Disk
+  pub input : Input
+  pub of : IsHanded w e p input
+  pub before : seat_of w p ≡ Some (up_seat p replica disk)
+  pub behind : (let t = replica_step replica input in seat_of h.world p ≡ Some (record { id = p; life = life_at (end_event disk replica.held t) }))
+  pub said : (let t = replica_step replica input in let e = end_event disk replica.held t in SaidOnly h p (made_by t e) (replies_by t e))
+  pub no_recovery : is_recovery_of p e ≡ false
+
+-- it crashed between its turns
+pub record FallsIn (w : World) (h : Going) (p : ℕ) : Type 0 where
+  pub fallen : Disk
+  pub green : List ActionId
+  pub seat : seat_of h.world p ≡ Some (record { id = p; life = Down fallen green })
+  pub disk : disk_held h.world p ≡ disk_held w p
+  pub said : SaidOnly h p [] []
+
+-- it came up from its disk
+pub record WakesIn (w : World) (e : Event) (h : Going) (p : ℕ) : Type 0 where
+  pub event : is_recovery_of p e ≡ true
+  pub none : replica_of w p ≡ None
+  pub replica : Replica
+  pub runs : replica_of h.world p ≡ Some replica
+  pub owed : IfSome (disk_held w p) (λ s. s.owed ≡ []) → replica.held.owed ≡ []
+  pub disk : disk_held h.world p ≡ disk_held w p
+  pub made : List ActionId
+  pub said : SaidOnly h p made []
+
+-- it began
+pub record BeginsIn (w : World) (h : Going) (p : ℕ) : Type 0 where
+  pub none : replica_of w p ≡ None
+  pub replica : Replica
+  pub runs : replica_of h.world p ≡ Some replica
+  pub disk : disk_held h.world p ≡ Some replica.held
+  pub owed : replica.held.owed ≡ []
+  pub said : SaidOnly h p [] []
+
+pub data Meets (w : World) (e : Event) (h : Going) (p : ℕ) : Type 0 where
+  Stays : (kept : KeptIn w h.world p) (said : SaidOnly h p [] []) → Meets w e h p
+  Turns : (turn : TurnsIn w e h p) → Meets w e h p
+  Falls : (falls : FallsIn w h p) → Meets w e h p
+  Wakes : (wakes : WakesIn w e h p) → Meets w e h p
+  Begins : (begins : BeginsIn w h p) → Meets w e h p
+
+-- ---- one seat changes
+
+set-kept : (w v : World) (p : ℕ) (life : Life) (q : ℕ) → ((x : ℕ) → seat_of v x ≡ seat_of (set_life w p life) x) → (q ≡ p → ⊥) → KeptIn w v q
+set-kept w v p life q seats apart =
+    let seat : seat_of v q ≡ seat_of w q = seats q ∙ seat_of-set w p life q ∙ cond-false (p == q) (Some (let s : Seat = record { id = p; life = life } in s)) (seat_of w q) (ne_eqb p q (λ e. apart (sym e))) in
+    record { runs = ap (λ (o : Option Seat). option_and_then (λ s. running s.life) o) seat; disk = ap (λ (o : Option Seat). option_map (λ s. on_disk s.life) o) seat }
+
+set-here : (w v : World) (p : ℕ) (life : Life) → ((x : ℕ) → seat_of v x ≡ seat_of (set_life w p life) x) →
+    (replica_of v p ≡ running life) × (disk_held v p ≡ Some (on_disk life)) × (seat_of v p ≡ Some (record { id = p; life = life }))
+set-here w v p life seats =
+    let seat : seat_of v p ≡ Some (record { id = p; life = life }) = seats p ∙ seat_of-set w p life p ∙ cond-true (p == p) (Some (let s : Seat = record { id = p; life = life } in s)) (seat_of w p) (eq-eqb p p refl) in
+    (ap (λ (o : Option Seat). option_and_then (λ s. running s.life) o) seat, ap (λ (o : Option Seat). option_map (λ s. on_disk s.life) o) seat, seat)
+
+quiet-stays : (w v : World) (e : Event) (p : ℕ) → KeptIn w v p → Meets w e (quietly v) p
+quiet-stays w v e p kept = Stays kept (said-none no_going (quietly v) p refl refl)
+
+pub same-stays : (w : World) (e : Event) (h : Going) (p : ℕ) → h.world.seats ≡ w.seats → h.made ≡ [] → h.replies ≡ [] → Meets w e h p
+same-stays w e h p seats made replies =
+    Stays (record { runs = ap (λ (list : List Seat). replica_of (record w { seats = list }) p) seats; disk = ap (λ (list : List Seat). disk_held (record w { seats = list }) p) seats }) (said-none no_going h p made replies)
+
+-- ---- turns
+
+module _ (start : List Weighted) (w : World) where
+  pub from-comes : (e : Event) (g h : Going) (p : ℕ) → is_recovery_of p e ≡ false → seat_of g.world p ≡ seat_of w p → g.made ≡ [] → g.replies ≡ [] → Comes (IsHanded w e) g h p → Meets w e h p
+  from-comes e g h p none seat made replies is = elim is [
+    | inl kept ↦
+        let same : seat_of h.world p ≡ seat_of w p = kept.seat ∙ seat in
+        Stays (record { runs = ap (λ (o : Option Seat). option_and_then (λ s. running s.life) o) same; disk = ap (λ (o : Option Seat). option_map (λ s. on_disk s.life) o) same })
+        (over [] [] kept.said)
+    | inr turn ↦ Turns (record {
+      replica = turn.replica;
+      disk = turn.disk;
+      input = turn.input;
+      of = turn.of;
+      before = sym seat ∙ turn.before;
+      behind = turn.behind;
+      said = over _ _ turn.said;
+      no_recovery = none;
+    })
+  ] where
+    over : (made_now : List ActionId) (replies_now : List Reply) → Said g h p made_now replies_now → SaidOnly h p made_now replies_now
+    over made_now replies_now said = record {
+      made = λ i. said.made i ∙ ap (λ list. names (made_ids list) (own_name p i) || names made_now (own_name p i)) made;
+      count = λ i. said.count i ∙ ap (λ list. times (own_name p i) (ids_in list) + times (own_name p i) (reply_ids replies_now)) replies;
+      from = λ r mine there. subst (λ list. IsIn (plain list) r ⊎ IsIn replies_now r) replies (said.from r mine there);
+    }
+
+  module _ (owes : (p : ℕ) → SeatOwes start p (seat_of w p)) where
+    pub asked : (e : Event) (v : World) (q : ℕ) (kind : Kind) (p : ℕ) → is_recovery_of p e ≡ false → IsHanded w e q (AsksOf kind) → v.seats ≡ w.seats → Meets w e (ask v q kind) p
+    asked e v q kind p none of seats =
+        let seat : (x : ℕ) → seat_of v x ≡ seat_of w x = λ x. ap (λ (list : List Seat). seat_of (record w { seats = list }) x) seats in
+        from-comes e (quietly v) (ask v q kind) p none (seat p) refl refl (hand-comes start (IsHanded w e) (quietly v) q (AsksOf kind) of (subst (SeatOwes start q) (sym (seat q)) (owes q)) p)
+
+    pub handed-one : (e : Event) (g : GroupState Msg) (q : ℕ) (input : Input) (p : ℕ) → is_recovery_of p e ≡ false → IsHanded w e q input → Meets w e (hand (quietly (record w { group = g })) q input) p
+    handed-one e g q input p none of =
+        let first = quietly (record w { group = g }) in
+        from-comes e first (hand first q input) p none refl refl refl (hand-comes start (IsHanded w e) first q input of (owes q) p)
+
+    pub handed-out : (e : Event) (g : GroupState Msg) (list : List (Handed Msg)) (p : ℕ) → is_recovery_of p e ≡ false → IsRising 1 (map (λ h. h.to) list) →
+        Each (λ h. IsHanded w e h.to (Deliveries h.list)) list → Meets w e (fold hand_over (quietly (record w { group = g })) list) p
+    handed-out e g list p none rise each =
+        let first = quietly (record w { group = g }) in
+        from-comes e first (fold hand_over first list) p none refl refl refl (handed-comes start (IsHanded w e) list first 1 rise each (λ q le. owes q) p)
+
+-- ---- the start
+
+begun-one : (set : List Weighted) (list : List ℕ) (w : World) (p : ℕ) → (seat_of w p ≡ None) ⊎ (seat_of w p ≡ Some (up_seat p (fresh p set) (new_disk (fresh p set).held))) →
+    (seat_of (fold (begin_replica set) w list) p ≡ None) ⊎ (seat_of (fold (begin_replica set) w list) p ≡ Some (up_seat p (fresh p set) (new_disk (fresh p set).held)))
+begun-one set [] w p is = is
+begun-one set (q ∷ list) w p is = begun-one set list (begin_replica set w q) p (elim (cases_eq q p) [
+  | inl same ↦ inr (seats p ∙ cond-true (q == p) (Some new) (seat_of w p) (eq-eqb q p same) ∙ ap (λ n. Some (up_seat n (fresh n set) (new_disk (fresh n set).held))) same)
+  | inr apart ↦ subst (λ (o : Option Seat). (o ≡ None) ⊎ (o ≡ Some (up_seat p (fresh p set) (new_disk (fresh p set).held)))) (sym (seats p ∙ cond-false (q == p) (Some new) (seat_of w p) (ne_eqb q p apart))) is
+]) where
+  new : Seat
+  new = up_seat q (fresh q set) (new_disk (fresh q set).held)
+
+  seats : (x : ℕ) → seat_of (begin_replica set w q) x ≡ cond (q == x) (Some new) (seat_of w x)
+  seats x = seat_of-set (name_also w q) q (Up (fresh q set) (new_disk (fresh q set).held)) x
+
+pub start-meets : (w : World) (set : List Weighted) (p : ℕ) → seat_of w p ≡ None → Meets w (Start set) (quietly (fold (begin_replica set) w (ids set))) p
+start-meets w set p none = elim (begun-one set (ids set) w p (inl none)) [
+  | inl still ↦
+      let same : seat_of (fold (begin_replica set) w (ids set)) p ≡ seat_of w p = still ∙ sym none in
+      quiet-stays w (fold (begin_replica set) w (ids set)) (Start set) p
+      (record { runs = ap (λ (o : Option Seat). option_and_then (λ s. running s.life) o) same; disk = ap (λ (o : Option Seat). option_map (λ s. on_disk s.life) o) same })
+  | inr new ↦ Begins (record {
+    none = ap (λ (o : Option Seat). option_and_then (λ s. running s.life) o) none;
+    replica = fresh p set;
+    runs = ap (λ (o : Option Seat). option_and_then (λ s. running s.life) o) new;
+    disk = ap (λ (o : Option Seat). option_map (λ s. on_disk s.life) o) new;
+    owed = refl;
+    said = said-none no_going (quietly (fold (begin_replica set) w (ids set))) p refl refl;
+  })
+]
+
+-- ---- crashes, faults and recoveries
+
+pub stop-meets : (w : World) (e : Event) (q p : ℕ) → Meets w e (quietly (option_map_or (λ s. crash_at w q s.life) (seat_of w q) w)) p
+stop-meets w e q p = at (seat_of w q) refl where
+  life : (s : Seat) (l : Life) → s.life ≡ l → seat_of w q ≡ Some s → Meets w e (quietly (crash_at w q l)) p
+  life s (Up r disk) is found =
+      let v = bring_down w q (crash_now disk) [] in
+      let seats : (x : ℕ) → seat_of v x ≡ seat_of (set_life w q (Down (crash_now disk) [])) x = λ x. refl in
+      elim (cases_eq p q) [
+        | inr apart ↦ quiet-stays w v e p (set-kept w v q (Down (crash_now disk) []) p seats apart)
+        | inl same ↦
+            let here = set-here w v q (Down (crash_now disk) []) seats in
+            let was : disk_held w q ≡ Some disk.content = ap (λ (o : Option Seat). option_map (λ s. on_disk s.life) o) found ∙ ap (λ l. Some (on_disk l)) is in
+            Falls (record {
+              fallen = crash_now disk;
+              green = [];
+              seat = ap (seat_of v) same ∙ here.2 ∙ ap (λ n. Some (record { id = n; life = Down (crash_now disk) [] })) (sym same);
+              disk = ap (disk_held v) same ∙ here.1 ∙ sym was ∙ ap (disk_held w) (sym same);
+              said = said-none no_going (quietly v) p refl refl;
+            })
+      ]
+  life s (Down disk green) is found = same-stays w e (quietly w) p refl refl refl
+
+  at : (o : Option Seat) → seat_of w q ≡ o → Meets w e (quietly (option_map_or (λ s. crash_at w q s.life) o w)) p
+  at None found = same-stays w e (quietly w) p refl refl refl
+  at (Some s) found = life s s.life refl found
+
+pub arm-meets : (w : World) (e : Event) (q : ℕ) (strike : Strike) (p : ℕ) → Meets w e (quietly (arm w q strike)) p
+arm-meets w e q strike p = at (seat_of w q) refl where
+  life : (s : Seat) (l : Life) → s.life ≡ l → seat_of w q ≡ Some s → Meets w e (quietly (arm_at w q strike l)) p
+  life s (Up r disk) is found =
+      let now : Life = Up r (record disk { armed = Some strike }) in
+      let v = set_life w q now in
+      elim (cases_eq p q) [
+        | inr apart ↦ quiet-stays w v e p (set-kept w v q now p (λ x. refl) apart)
+        | inl same ↦
+            let here = set-here w v q now (λ x. refl) in
+            let runs : replica_of w q ≡ Some r = ap (λ (o : Option Seat). option_and_then (λ s. running s.life) o) found ∙ ap running is in
+            let was : disk_held w q ≡ Some disk.content = ap (λ (o : Option Seat). option_map (λ s. on_disk s.life) o) found ∙ ap (λ l. Some (on_disk l)) is in
+            quiet-stays w v e p (record {
+              runs = ap (replica_of v) same ∙ here.0 ∙ sym runs ∙ ap (replica_of w) (sym same);
+              disk = ap (disk_held v) same ∙ here.1 ∙ sym was ∙ ap (disk_held w) (sym same);
+            })
+      ]
+  life s (Down disk green) is found = same-stays w e (quietly w) p refl refl refl
+
+  at : (o : Option Seat) → seat_of w q ≡ o → Meets w e (quietly (option_map_or (λ s. arm_at w q strike s.life) o w)) p
+  at None found = same-stays w e (quietly w) p refl refl refl
+  at (Some s) found = life s s.life refl found
+
+recovered-owed : (disk : Disk) → disk.content.owed ≡ [] → (recovered disk).held.owed ≡ []
+unfolding recover_disk
+recovered-owed disk none = owed-own (begin (record { held = disk.content; state = NonPrim false })) ∙ none
+
+none-other : (reds : List Action) (m : ℕ) (t : Action → Bool) (p i : ℕ) → (p ≡ m → ⊥) → names (names_of (filter (λ a. (a.id.creator == m) && t a) reds)) (own_name p i) ≡ false
+none-other [] m t p i apart = refl
+none-other (a ∷ reds) m t p i apart = elim (cases_Bool ((a.id.creator == m) && t a)) [
+  | inl here ↦
+      let creator : a.id.creator ≡ m = eqb-true a.id.creator m (and_parts (a.id.creator == m) (t a) here).0 in
+      let rest = names_of (filter (λ a. (a.id.creator == m) && t a) reds) in
+      ap (λ xs. names (names_of xs) (own_name p i)) (cond-true ((a.id.creator == m) && t a) (a ∷ filter (λ a. (a.id.creator == m) && t a) reds) (filter (λ a. (a.id.creator == m) && t a) reds) here)
+      ∙ ap (λ b. b || names rest (own_name p i)) (same_id-false (own_name p i) a.id (inl (λ e. apart (e ∙ creator))))
+      ∙ none-other reds m t p i apart
+  | inr other ↦
+      ap (λ xs. names (names_of xs) (own_name p i)) (cond-false ((a.id.creator == m) && t a) (a ∷ filter (λ a. (a.id.creator == m) && t a) reds) (filter (λ a. (a.id.creator == m) && t a) reds) other)
+      ∙ none-other reds m t p i apart
+]
+
+-- what a recovery shows of another replica
+unshown-other : (made : List ActionId) (h : Held) (q p i : ℕ) → h.id ≡ q → (p ≡ q → ⊥) → names (names_of (unshown made h)) (own_name p i) ≡ false
+unshown-other made h q p i mine apart = none-other h.queue.reds h.id (λ a. nat_lt (index_in made h.id) a.id.index) p i (λ e. apart (e ∙ mine))
+
+pub recover-meets : (w : World) (q p : ℕ) → ((d : Disk) (green : List ActionId) (s : Seat) → seat_of w q ≡ Some s → s.life ≡ Down d green → d.content.id ≡ q) → Meets w (Recover q) (recover w q) p
+recover-meets w q p named = at (seat_of w q) refl where
+  life : (s : Seat) (l : Life) → s.life ≡ l → seat_of w q ≡ Some s → Meets w (Recover q) (recover_from w l) p
+  life s (Up r disk) is found = same-stays w (Recover q) (quietly w) p refl refl refl
+  life s (Down disk green) is found =
+      let r = recovered disk in
+      let id : r.held.id ≡ q = recovered-id disk.content ∙ named disk green s found is in
+      let now : Life = Up r (disk_recovered disk) in
+      let h = recover_from w (Down disk green) in
+      let n = news_of_recovery w.made r.held green in
+      let seats : (x : ℕ) → seat_of h.world x ≡ seat_of (set_life w q now) x = λ x. ap (λ m. seat_of (set_life w m now) x) id in
+      let told = tell-said (quietly (bring_up w r (disk_recovered disk))) n p tt in
+      elim (cases_eq p q) [
+        | inr apart ↦ Stays (set-kept w h.world q now p seats apart) (record {
+          made = λ i. told.made i ∙ unshown-other w.made r.held q p i id apart;
+          count = λ i. told.count i;
+          from = λ r mine there. told.from r mine there;
+        })
+        | inl same ↦
+            let here = set-here w h.world q now seats in
+            let was : disk_held w q ≡ Some disk.content = ap (λ (o : Option Seat). option_map (λ s. on_disk s.life) o) found ∙ ap (λ l. Some (on_disk l)) is in
+            let off : replica_of w q ≡ None = ap (λ (o : Option Seat). option_and_then (λ s. running s.life) o) found ∙ ap running is in
+            Wakes (record {
+              event = eq-eqb q p (sym same);
+              none = ap (replica_of w) same ∙ off;
+              replica = r;
+              runs = ap (replica_of h.world) same ∙ here.0;
+              owed = λ none. recovered-owed disk (subst (λ (o : Option Held). IfSome o (λ s. s.owed ≡ [])) (ap (disk_held w) same ∙ was) none);
+              disk = ap (disk_held h.world) same ∙ here.1 ∙ sym was ∙ ap (disk_held w) (sym same);
+              made = names_of (unshown w.made r.held);
+              said = record { made = λ i. told.made i; count = λ i. told.count i; from = λ r mine there. told.from r mine there };
+            })
+      ]
+
+  at : (o : Option Seat) → seat_of w q ≡ o → Meets w (Recover q) (option_map_or (λ s. recover_from w s.life) o (quietly w)) p
+  at None found = same-stays w (Recover q) (quietly w) p refl refl refl
+  at (Some s) found = life s s.life refl found
+
+-- ---- a joiner
+
+showing-stays : (w : World) (e : Event) (h : Going) (p : ℕ) → KeptIn w h.world p → h.made ≡ [] → h.replies ≡ [] → Meets w e h p
+showing-stays w e h p kept made replies = Stays kept (said-none no_going h p made replies)
+
+pub pieces-meet : (w : World) (e : Event) (s : Snapshot) (pieces p : ℕ) → seat_of w s.joiner ≡ None → Meets w e (take_pieces w s pieces) p
+pieces-meet w e s pieces p none = at (taken == piece_count s.content) refl where
+  taken : ℕ
+  taken = min (piece_count s.content) (s.taken + pieces)
+
+  others : World
+  others = without_snapshot w s.joiner
+
+  r : Replica
+  r = joined s.joiner s.content
+
+  with_end : World → Going
+  with_end v = (let g = take_pieces w s pieces in record g { world = v })
+
+  whole : World
+  whole = bring_up others r (new_disk r.held)
+
+  fewer : World
+  fewer = record others { snapshots = others.snapshots ++ record s { taken = taken } ∷ [] }
+
+  up : Meets w e (with_end whole) p
+  up =
+      let now : Life = Up r (new_disk r.held) in
+      let seats : (x : ℕ) → seat_of whole x ≡ seat_of (set_life w s.joiner now) x = λ x. refl in
+      elim (cases_eq p s.joiner) [
+        | inr apart ↦ showing-stays w e (with_end whole) p (set-kept w whole s.joiner now p seats apart) refl refl
+        | inl same ↦
+            let here = set-here w whole s.joiner now seats in
+            Begins (record {
+              none = ap (λ x. replica_of w x) same ∙ ap (λ (o : Option Seat). option_and_then (λ s. running s.life) o) none;
+              replica = r;
+              runs = ap (replica_of whole) same ∙ here.0;
+              disk = ap (disk_held whole) same ∙ here.1;
+              owed = refl;
+              said = said-none no_going (with_end whole) p refl refl;
+            })
+      ]
+
+  at : (b : Bool) → (taken == piece_count s.content) ≡ b → Meets w e (take_pieces w s pieces) p
+  at true is = subst (λ v. Meets w e (with_end v) p) (sym (cond-true (taken == piece_count s.content) whole fewer is)) up
+  at false is = subst (λ v. Meets w e (with_end v) p) (sym (cond-false (taken == piece_count s.content) whole fewer is))
+      (showing-stays w e (with_end fewer) p (record { runs = refl; disk = refl }) refl refl)

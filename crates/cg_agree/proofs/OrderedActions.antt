@@ -1,0 +1,107 @@
+-- The actions of the first places of the order, as they were shown as made, are those of the book with these names.
+use Rattle.std.proofs.Common.{◌≡◌, ℕ, zero, suc, ◌<◌, Bool, true, false, ◌||◌, List, [], ◌∷◌, ◌++◌, map, find, take, length, flat_map, Option, Some, None, Contains, refl, sym, ap, ap₂, ◌∙◌, subst, inl, inr, arith}
+use Rattle.std.specs.Option.{option_map_or}
+use Rattle.std.proofs.lemmas.Bool.{cases_Bool, cond-true, cond-false, or_cases}
+use Rattle.std.proofs.lemmas.List.{map-append}
+use Rattle.std.proofs.lemmas.List.Elements.{Contains-append_right}
+use Rattle.cg_group.specs.EachLaws.{Each}
+use Rattle.cg_base.specs.declared.action_id.ActionId.{ActionId}
+use Rattle.cg_base.specs.Ids.{same_id, names}
+use Rattle.cg_base.specs.Lists.{present}
+use Rattle.cg_action.specs.declared.action.Action.{Action}
+use Rattle.cg_queue.specs.Queue.{names_of}
+use Rattle.cg_report.specs.declared.entry.Made.{Made}
+use Rattle.cg_agree.specs.World.{World}
+use Rattle.cg_agree.specs.Run.{Step}
+use Rattle.cg_agree.specs.Shown.{made_names, made_at, made_from, made_of, made_action, made_actions}
+use Rattle.cg_agree.specs.Chronicle.{Chronicle}
+use Rattle.cg_agree.specs.Fronts.{Front}
+use Rattle.cg_agree.specs.Played.{StandsBeside}
+use Rattle.cg_agree.proofs.BookGrows.{IsNamed, named_in, same-self, named-all}
+use Rattle.cg_agree.proofs.OneValue.{same-from}
+use Rattle.cg_agree.proofs.MadeTold.{IsMadeTold, as-made, each-contains}
+use Rattle.cg_agree.proofs.OrderReached.{order-named}
+
+-- ---- names
+
+names-at : (steps : List Step) (made : List Made) → names_of (map (made_at steps) made) ≡ map (λ m. m.id) made
+names-at steps [] = refl
+names-at steps (m ∷ made) = ap (λ ids. m.id ∷ ids) (names-at steps made)
+
+names-from : (earlier steps : List Step) → names_of (made_from earlier steps) ≡ made_names steps
+names-from earlier [] = refl
+names-from earlier (s ∷ steps) =
+    map-append (λ (a : Action). a.id) (map (made_at (earlier ++ s ∷ [])) s.entry.made) (made_from (earlier ++ s ∷ []) steps)
+    ∙ ap₂ ◌++◌ (names-at (earlier ++ s ∷ []) s.entry.made) (names-from (earlier ++ s ∷ []) steps)
+    ∙ sym (map-append (λ (m : Made). m.id) s.entry.made (flat_map (λ (s : Step). s.entry.made) steps))
+
+-- a name that stands in a list is found there
+record IsFoundIn (list : List Action) (id : ActionId) : Type 0 where
+  action : Action
+  found : named_in list id ≡ Some action
+  name : action.id ≡ id
+  there : Contains list action
+
+found-there : (list : List Action) (id : ActionId) → names (names_of list) id ≡ true → IsFoundIn list id
+found-there [] id is = absurd (let clash : false ≡ true = is in cc)
+found-there (a ∷ list) id is = elim (cases_Bool (same_id a.id id)) [
+  | inl here ↦ record {
+      action = a;
+      found = cond-true (same_id a.id id) (Some a) (named_in list id) here;
+      name = same-from a.id id here;
+      there = (zero, (let less : 0 < suc (length list) = omega arith in less), refl);
+    }
+  | inr other ↦
+      let rest = found-there list id (elim (or_cases (same_id id a.id) (names (names_of list) id) is) [
+        | inl here ↦ absurd (let same : id ≡ a.id = same-from id a.id here in
+            let self : same_id a.id id ≡ true = subst (λ (x : ActionId). same_id a.id x ≡ true) (sym same) (same-self a.id) in
+            let clash : true ≡ false = sym self ∙ other in cc)
+        | inr later ↦ later
+      ]) in
+      record {
+        action = rest.action;
+        found = cond-false (same_id a.id id) (Some a) (named_in list id) other ∙ rest.found;
+        name = rest.name;
+        there = Contains-append_right (a ∷ []) list rest.action rest.there;
+      }
+]
+
+-- ---- actions of the book
+
+module _ (steps : List Step) (c : Chronicle) (w : World) (stands : StandsBeside c w) (told : IsMadeTold steps c w) where
+  -- an action of the book whose name was shown is the one that was shown
+  pub record IsShownAs (a : Action) : Type 0 where
+    pub found : made_action steps a.id ≡ Some a
+    pub there : Contains (made_of steps) a
+
+  pub shown-as : (a : Action) → IsNamed c.book a → names (made_names steps) a.id ≡ true → IsShownAs a
+  shown-as a booked shown =
+      let is = found-there (made_of steps) a.id (ap (λ ids. names ids a.id) (names-from [] steps) ∙ shown) in
+      let itself : IsNamed c.book is.action = each-contains (IsNamed c.book) c.book is.action (named-all [] c.book stands.facts.replica.made_once.numbered) (as-made steps c w told is.action is.there) in
+      let same : Some is.action ≡ Some a = sym itself ∙ ap (named_in c.book) is.name ∙ booked in
+      record { found = is.found ∙ same; there = subst (Contains (made_of steps)) (ap (λ o. option_map_or (λ x. x) o a) same) is.there }
+
+  each-as : (list : List Action) (ids : List ActionId) → Front (names_of list) ids → Each (λ id. names (made_names steps) id ≡ true) ids → Each (IsNamed c.book) list → Each IsShownAs list
+  each-as [] ids front shown booked = tt
+  each-as (a ∷ list) [] front shown booked = absurd front
+  each-as (a ∷ list) (id ∷ ids) front shown booked =
+      (shown-as a booked.0 (ap (names (made_names steps)) front.0 ∙ shown.0), each-as list ids front.1 shown.1 booked.1)
+
+  -- actions of the book whose names begin the order
+  pub each-shown_as : (list : List Action) → Front (names_of list) w.order → Each (IsNamed c.book) list → Each IsShownAs list
+  each-shown_as list front booked = each-as list w.order front (order-named steps c w stands told) booked
+
+  all-as : (list : List Action) → Each IsShownAs list → made_actions steps (names_of list) ≡ list
+  all-as [] each = refl
+  all-as (a ∷ list) each = ap (λ (o : Option Action). present (o ∷ map (made_action steps) (names_of list))) each.0.found ∙ ap (λ xs. a ∷ xs) (all-as list each.1)
+
+  pub ordered-as : (list : List Action) → Front (names_of list) w.order → Each (IsNamed c.book) list → made_actions steps (names_of list) ≡ list
+  ordered-as list front booked = all-as list (each-shown_as list front booked)
+
+-- fronts of names are fronts of the actions of a book
+pub booked-front : (book xs ys : List Action) → Front (names_of xs) (names_of ys) → Each (IsNamed book) xs → Each (IsNamed book) ys → Front xs ys
+booked-front book [] ys front named other = tt
+booked-front book (x ∷ xs) [] front named other = absurd front
+booked-front book (x ∷ xs) (y ∷ ys) front named other =
+    let same : Some x ≡ Some y = sym named.0 ∙ ap (named_in book) front.0 ∙ other.0 in
+    (ap (λ o. option_map_or (λ z. z) o x) same, booked-front book xs ys front.1 named.1 other.1)

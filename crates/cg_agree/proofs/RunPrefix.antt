@@ -1,0 +1,64 @@
+-- The steps of a run before one of them are a run, and so are those up to it.
+use Rattle.std.proofs.Common.{◌≡◌, ℕ, suc, ◌<◌, List, [], ◌∷◌, ◌++◌, None, refl, sym, ap, subst}
+use Rattle.cg_agree.specs.World.{World, no_world}
+use Rattle.cg_agree.specs.Admission.{first_refusal}
+use Rattle.cg_agree.specs.Step.{world_step}
+use Rattle.cg_agree.specs.Run.{Step, MayStand, IsRunFrom, step_limit, world_after}
+use Rattle.cg_agree.specs.Agreement.{ComesAfter, through}
+use Rattle.cg_agree.specs.Chronicle.{Chronicle, no_chronicle}
+use Rattle.cg_agree.specs.Noting.{chronicle_step, chronicle_after}
+use Rattle.cg_agree.specs.Played.{StandsBeside, AlwaysHolds}
+use Rattle.cg_agree.proofs.CreatorNumbered.{stands-of}
+use Rattle.cg_agree.proofs.RunForward.{IsStepOf}
+
+pub front-run : (w : World) (count : ℕ) (xs ys : List Step) → IsRunFrom w count (xs ++ ys) → IsRunFrom w count xs
+front-run w count [] ys run = tt
+front-run w count (s ∷ xs) ys run = (run.0, run.1, run.2, run.3, run.4, front-run s.world (suc count) xs ys run.5)
+
+pub world-last : (w : World) (xs : List Step) (s : Step) → world_after w (through xs s) ≡ s.world
+world-last w [] s = refl
+world-last w (x ∷ xs) s = world-last x.world xs s
+
+pub chronicle-last : (c : Chronicle) (w : World) (xs : List Step) (s : Step) → chronicle_after c w (through xs s) ≡ chronicle_step (chronicle_after c w xs) (world_after w xs) s.event
+chronicle-last c w [] s = refl
+chronicle-last c w (x ∷ xs) s = chronicle-last (chronicle_step c w x.event) x.world xs s
+
+-- what the run says of a step
+record IsMade (w : World) (s : Step) : Type 0 where
+  may : MayStand w s.event
+  admitted : first_refusal w s.event ≡ None
+  moved : (record { entry = s.entry; world = s.world } ≡ world_step w s.event)
+
+made-there : (w : World) (count : ℕ) (xs : List Step) (s : Step) (later : List Step) → IsRunFrom w count (xs ++ s ∷ later) → IsMade (world_after w xs) s
+made-there w count [] s later run = record { may = run.2; admitted = run.3; moved = run.4 }
+made-there w count (x ∷ xs) s later run = made-there x.world (suc count) xs s later run.5
+
+through-run : (w : World) (count : ℕ) (xs : List Step) (s : Step) (later : List Step) → IsRunFrom w count (xs ++ s ∷ later) → IsRunFrom w count (through xs s)
+through-run w count [] s later run = (run.0, run.1, run.2, run.3, run.4, tt)
+through-run w count (x ∷ xs) s later run = (run.0, run.1, run.2, run.3, run.4, through-run x.world (suc count) xs s later run.5)
+
+-- a step of a run from nothing, and the runs that end before it and with it
+pub record ComesThere (earlier : List Step) (s : Step) : Type 0 where
+  pub before : IsRunFrom no_world 0 earlier
+  pub upto : IsRunFrom no_world 0 (through earlier s)
+  pub step : IsStepOf (chronicle_after no_chronicle no_world earlier) (world_after no_world earlier) s
+
+pub comes : AlwaysHolds → (steps : List Step) → IsRunFrom no_world 0 steps → (earlier : List Step) (s : Step) → ComesAfter steps earlier s → ComesThere earlier s
+comes always steps run earlier s there =
+    let later = there.0 in
+    let whole : IsRunFrom no_world 0 (earlier ++ s ∷ later) = subst (IsRunFrom no_world 0) there.1 run in
+    let before = front-run no_world 0 earlier (s ∷ later) whole in
+    let upto = through-run no_world 0 earlier s later whole in
+    let is = made-there no_world 0 earlier s later whole in
+    record {
+      before = before;
+      upto = upto;
+      step = record {
+        may = is.may;
+        admitted = is.admitted;
+        moved = is.moved;
+        before = stands-of always earlier before;
+        behind = subst (λ (w : World). StandsBeside (chronicle_step (chronicle_after no_chronicle no_world earlier) (world_after no_world earlier) s.event) w) (world-last no_world earlier s)
+            (subst (λ (c : Chronicle). StandsBeside c (world_after no_world (through earlier s))) (chronicle-last no_chronicle no_world earlier s) (stands-of always (through earlier s) upto));
+      };
+    }

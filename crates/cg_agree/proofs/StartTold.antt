@@ -1,0 +1,90 @@
+-- The servers of a run's start are those of its chronicle: its first event is a start, and no later one is.
+use Rattle.std.proofs.Common.{◌⊎◌, ◌≡◌, ℕ, List, [], ◌∷◌, ◌++◌, fold, Some, None, refl, sym, ap, ◌∙◌, subst, inl, inr}
+use Rattle.std.proofs.lemmas.List.{append-nil, append_assoc}
+use Rattle.cg_base.specs.declared.weighted.Weighted.{Weighted}
+use Rattle.cg_base.specs.Weights.{ids}
+use Rattle.cg_group.specs.declared.reason.Reason.TheVariants.{EmptySet}
+use Rattle.cg_group.specs.Refusals.{empty_set}
+use Rattle.cg_schedule.specs.declared.event.Event.{Event}
+use Rattle.cg_schedule.specs.declared.event.Event.TheVariants.{Start, Split, Merge, Request, Weak, Dirty, Order, Recover, Show, ShowOrder, Gather, End, Receive, Deliver, Rounds, Stop, Fail, Join, Leave, Transfer}
+use Rattle.cg_agree.specs.World.{World, no_world}
+use Rattle.cg_agree.specs.Admission.{first_refusal}
+use Rattle.cg_agree.specs.Show.{Moved, ended}
+use Rattle.cg_agree.specs.Step.{name_also, begin_replica, happens, world_step}
+use Rattle.cg_agree.specs.Run.{Step, MayStand}
+use Rattle.cg_agree.specs.Shown.{start_in, start_of}
+use Rattle.cg_agree.specs.Agreement.{through}
+use Rattle.cg_agree.specs.Chronicle.{Chronicle}
+use Rattle.cg_agree.specs.Small.{small_step, Starts}
+use Rattle.cg_agree.specs.Smalls.{smalls_in}
+use Rattle.cg_agree.specs.Noting.{chronicle_step}
+use Rattle.cg_agree.proofs.RunForward.{IsStepOf}
+use Rattle.cg_agree.proofs.PrimStays.{event-stays}
+use Rattle.cg_agree.proofs.PrimaryOne.{seated-not}
+use Rattle.cg_agree.proofs.SeatsStay.{IsSeated, set-seated, begun-seated, seats-stay}
+
+-- the servers of the start so far; and before it there are none
+pub record IsStartTold (earlier : List Step) (c : Chronicle) (w : World) : Type 0 where
+  pub start : start_of earlier ≡ c.start
+  pub begun : (c.start ≡ []) ⊎ IsSeated w
+
+start-last : (earlier : List Step) (s : Step) → start_of (through earlier s) ≡ start_of earlier ++ start_in s.event
+start-last [] s = append-nil (start_in s.event)
+start-last (x ∷ earlier) s = ap (λ list. start_in x.event ++ list) (start-last earlier s) ∙ sym (append_assoc (start_in x.event) (start_of earlier) (start_in s.event))
+
+-- whoever is named by a start begins
+start-seated : (w : World) (set : List Weighted) → first_refusal w (Start set) ≡ None → IsSeated (world_step w (Start set)).world
+unfolding world_step happens ended first_refusal
+start-seated w set admitted = at (ids set) admitted where
+  at : (list : List ℕ) → empty_set list ≡ None → IsSeated (fold (begin_replica set) w list)
+  at [] e = absurd (let clash : Some EmptySet ≡ None = e in cc)
+  at (p ∷ list) e = begun-seated set list (begin_replica set w p) (set-seated (name_also w p) p _)
+
+module _ (c : Chronicle) (w : World) (before : List Weighted) (same : before ≡ c.start) (begun : (c.start ≡ []) ⊎ IsSeated w) where
+  IsNext : Event → Type 0
+  IsNext e = (before ++ start_in e ≡ (chronicle_step c w e).start) × IsSeated (world_step w e).world
+
+  starts : (set : List Weighted) → MayStand w (Start set) → first_refusal w (Start set) ≡ None → IsNext (Start set)
+  unfolding IsNext smalls_in small_step
+  starts set may admitted = (
+    elim begun [
+      | inl none ↦ ap (λ list. list ++ set) (same ∙ none)
+      | inr seated ↦ absurd (seated-not w (Start set) seated may set refl)
+    ],
+    start-seated w set admitted,
+  )
+
+  goes-on : (e : Event) → start_in e ≡ [] → MayStand w e → IsSeated w → IsNext e
+  unfolding IsNext
+  goes-on e none may seated = (
+    ap (λ list. before ++ list) none ∙ append-nil before ∙ same ∙ sym (event-stays c w e (seated-not w e seated may)).start,
+    seats-stay w e seated,
+  )
+
+  next : (e : Event) → MayStand w e → first_refusal w e ≡ None → IsNext e
+  next (Start set) may admitted = starts set may admitted
+  next (Split set) may admitted = goes-on (Split set) refl may may.0
+  next (Merge set) may admitted = goes-on (Merge set) refl may may.0
+  next (Request p cmds query) may admitted = goes-on (Request p cmds query) refl may may.0
+  next (Weak p query) may admitted = goes-on (Weak p query) refl may may.0
+  next (Dirty p query) may admitted = goes-on (Dirty p query) refl may may.0
+  next (Order p) may admitted = goes-on (Order p) refl may may.0
+  next (Recover p) may admitted = goes-on (Recover p) refl may may.0
+  next (Show p) may admitted = goes-on (Show p) refl may may.0
+  next ShowOrder may admitted = goes-on ShowOrder refl may may.0
+  next Gather may admitted = goes-on Gather refl may may.0
+  next End may admitted = absurd may
+  next (Receive p place) may admitted = goes-on (Receive p place) refl may may.0
+  next (Deliver p count) may admitted = goes-on (Deliver p count) refl may may.0
+  next (Rounds count) may admitted = absurd may
+  next (Stop p call fill) may admitted = goes-on (Stop p call fill) refl may may.0
+  next (Fail p call) may admitted = goes-on (Fail p call) refl may may.0
+  next (Join p joiner weight) may admitted = goes-on (Join p joiner weight) refl may may.0
+  next (Leave p server) may admitted = goes-on (Leave p server) refl may may.0
+  next (Transfer p joiner pieces) may admitted = goes-on (Transfer p joiner pieces) refl may may.0
+
+pub start-on : (earlier : List Step) (c : Chronicle) (w : World) (s : Step) → IsStepOf c w s → IsStartTold earlier c w → IsStartTold (through earlier s) (chronicle_step c w s.event) s.world
+unfolding IsNext
+start-on earlier c w s step told =
+    let is = next c w (start_of earlier) told.start told.begun s.event step.may step.admitted in
+    record { start = start-last earlier s ∙ is.0; begun = inr (subst IsSeated (sym (ap (λ (m : Moved). m.world) step.moved)) is.1) }
