@@ -321,3 +321,5 @@ pub mod QuietTalk
 pub mod QuietKnown
 pub mod QuietSettled
 pub mod QuietSettles
+pub mod MadeThere
+pub mod MadeStays
