@@ -323,3 +323,4 @@ pub mod QuietSettled
 pub mod QuietSettles
 pub mod MadeThere
 pub mod MadeStays
+pub mod DirtyAnswers
