@@ -356,3 +356,12 @@ pub mod MadeBefore
 pub mod OrderedActions
 pub mod WhiteTold
 pub mod PrefixWhite
+pub mod RefusedExactly
+pub mod QuietPlan
+pub mod QuietTalk
+pub mod QuietKnown
+pub mod QuietSettled
+pub mod QuietSettles
+pub mod MadeThere
+pub mod MadeStays
+pub mod DirtyAnswers

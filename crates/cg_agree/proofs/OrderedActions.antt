@@ -46,11 +46,11 @@ found-there : (list : List Action) (id : ActionId) → names (names_of list) id 
 found-there [] id is = absurd (let clash : false ≡ true = is in cc)
 found-there (a ∷ list) id is = elim (cases_Bool (same_id a.id id)) [
   | inl here ↦ record {
-      action = a;
-      found = cond-true (same_id a.id id) (Some a) (named_in list id) here;
-      name = same-from a.id id here;
-      there = (zero, (let less : 0 < suc (length list) = omega arith in less), refl);
-    }
+    action = a;
+    found = cond-true (same_id a.id id) (Some a) (named_in list id) here;
+    name = same-from a.id id here;
+    there = (zero, (let less : 0 < suc (length list) = omega arith in less), refl);
+  }
   | inr other ↦
       let rest = found-there list id (elim (or_cases (same_id id a.id) (names (names_of list) id) is) [
         | inl here ↦ absurd (let same : id ≡ a.id = same-from id a.id here in
@@ -91,7 +91,7 @@ module _ (steps : List Step) (c : Chronicle) (w : World) (stands : StandsBeside 
   pub each-shown_as : (list : List Action) → Front (names_of list) w.order → Each (IsNamed c.book) list → Each IsShownAs list
   each-shown_as list front booked = each-as list w.order front (order-named steps c w stands told) booked
 
-  all-as : (list : List Action) → Each IsShownAs list → made_actions steps (names_of list) ≡ list
+  pub all-as : (list : List Action) → Each IsShownAs list → made_actions steps (names_of list) ≡ list
   all-as [] each = refl
   all-as (a ∷ list) each = ap (λ (o : Option Action). present (o ∷ map (made_action steps) (names_of list))) each.0.found ∙ ap (λ xs. a ∷ xs) (all-as list each.1)
 
