@@ -315,3 +315,5 @@ pub mod MadeBefore
 pub mod OrderedActions
 pub mod WhiteTold
 pub mod PrefixWhite
+pub mod ItemsReached
+pub mod GreensStay
