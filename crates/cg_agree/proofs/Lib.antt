@@ -317,3 +317,6 @@ pub mod WhiteTold
 pub mod PrefixWhite
 pub mod ItemsReached
 pub mod GreensStay
+pub mod SnapshotsReached
+pub mod LongerBy
+pub mod OrderLonger
