@@ -279,7 +279,7 @@ module _ (start : List Weighted) (w : World) (even : (p : ℕ) → SeatEven star
 -- ---- behind an event
 
 -- an admitted joiner hasn't begun
-unbegun : (w : World) (p joiner pieces : ℕ) → first_refusal w (Transfer p joiner pieces) ≡ None → has_begun w joiner ≡ false
+pub unbegun : (w : World) (p joiner pieces : ℕ) → first_refusal w (Transfer p joiner pieces) ≡ None → has_begun w joiner ≡ false
 unfolding first_refusal
 unbegun w p joiner pieces admitted =
     let first = first-none (takes_part w p) (never_named w joiner ∷ begun_already w joiner ∷ joiner_left w p joiner ∷ not_green w p joiner ∷ []) (ap is_none admitted) in
@@ -288,7 +288,7 @@ unbegun w p joiner pieces admitted =
     not-refused (has_begun w joiner) _ third.0
 
 module _ (c : Chronicle) (w : World) (stands : StandsBeside c w) where
-  even-at : (p : ℕ) → SeatEven c.start p (seat_of w p)
+  pub even-at : (p : ℕ) → SeatEven c.start p (seat_of w p)
   even-at p = at (seat_of w p) refl where
     life : (l : Life) → replica_of w p ≡ running l → disk_held w p ≡ Some (on_disk l) → LifeEven c.start p l
     life (Up r disk) runs has_disk =

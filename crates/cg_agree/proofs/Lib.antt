@@ -365,3 +365,8 @@ pub mod QuietSettles
 pub mod MadeThere
 pub mod MadeStays
 pub mod DirtyAnswers
+pub mod ItemsReached
+pub mod GreensStay
+pub mod SnapshotsReached
+pub mod LongerBy
+pub mod OrderLonger
