@@ -308,3 +308,5 @@ pub mod LateRow
 pub mod LateCovers
 pub mod RowYellow
 pub mod LeaverLeft
+pub mod ActionsBooked
+pub mod EventsLead

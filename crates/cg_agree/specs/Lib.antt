@@ -27,3 +27,4 @@ pub mod Smalls
 pub mod Noting
 pub mod Played
 pub mod Telling
+pub mod Standing

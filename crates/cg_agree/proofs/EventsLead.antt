@@ -1,0 +1,36 @@
+-- Events lead on from the worlds to which events lead, and the facts stand beside each such world.
+use Rattle.std.proofs.Common.{◌≡◌, List, [], ◌∷◌, ◌++◌, None, refl, sym, ap, ap₂, ◌∙◌, subst}
+use Rattle.cg_schedule.specs.declared.event.Event.{Event}
+use Rattle.cg_agree.specs.World.{World, no_world}
+use Rattle.cg_agree.specs.Admission.{first_refusal}
+use Rattle.cg_agree.specs.Run.{MayStand}
+use Rattle.cg_agree.specs.Step.{world_step}
+use Rattle.cg_agree.specs.Chronicle.{Chronicle, no_chronicle}
+use Rattle.cg_agree.specs.Noting.{chronicle_step}
+use Rattle.cg_agree.specs.Played.{StandsBeside, AreAdmitted, HoldsFrom}
+use Rattle.cg_agree.specs.Standing.{LeadTo, AlwaysStands}
+use Rattle.cg_agree.proofs.AlwaysMade.{always-holds}
+
+lead-on : (c : Chronicle) (w : World) (events : List Event) (d : Chronicle) (v : World) (e : Event) → LeadTo c w events d v → MayStand v e → first_refusal v e ≡ None →
+    LeadTo c w (events ++ e ∷ []) (chronicle_step d v e) (world_step v e).world
+lead-on c w [] d v e lead may admitted = (
+  subst (λ (x : World). MayStand x e) (sym lead.1) may,
+  ap (λ (x : World). first_refusal x e) lead.1 ∙ admitted,
+  (ap₂ (λ (x : Chronicle) (y : World). chronicle_step x y e) lead.0 lead.1, ap (λ (x : World). (world_step x e).world) lead.1),
+)
+lead-on c w (first ∷ events) d v e lead may admitted = (lead.0, lead.1, lead-on (chronicle_step c w first) (world_step w first).world events d v e lead.2 may admitted)
+
+are-admitted : (c : Chronicle) (w : World) (events : List Event) (d : Chronicle) (v : World) → LeadTo c w events d v → AreAdmitted w events
+are-admitted c w [] d v lead = tt
+are-admitted c w (e ∷ events) d v lead = (lead.0, lead.1, are-admitted (chronicle_step c w e) (world_step w e).world events d v lead.2)
+
+stands-behind : (c : Chronicle) (w : World) (events : List Event) (d : Chronicle) (v : World) → LeadTo c w events d v → HoldsFrom c w events → StandsBeside d v
+stands-behind c w [] d v lead holds = subst (StandsBeside d) lead.1 (subst (λ (x : Chronicle). StandsBeside x w) lead.0 holds)
+stands-behind c w (e ∷ events) d v lead holds = stands-behind (chronicle_step c w e) (world_step w e).world events d v lead.2 holds.1
+
+pub always-stands : AlwaysStands
+always-stands = record {
+  first = record { events = []; lead = (refl, refl) };
+  step = λ c w e is may admitted. record { events = is.events ++ e ∷ []; lead = lead-on no_chronicle no_world is.events c w e is.lead may admitted };
+  beside = λ c w is. stands-behind no_chronicle no_world is.events c w is.lead (always-holds is.events (are-admitted no_chronicle no_world is.events c w is.lead));
+}

@@ -1,0 +1,5 @@
+use Rattle.cg_agree.proofs.ActionsBooked.{always-booked}
+use Rattle.cg_agree.proofs.laws.actions_stand_in_one_book.Goals as goal
+
+pub returns : goal.returns
+returns c = always-booked
