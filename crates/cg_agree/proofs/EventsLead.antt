@@ -1,4 +1,4 @@
--- Events lead on from the worlds to which events lead; and where the facts hold behind all events, they stand beside each such world.
+-- Events lead on from the worlds to which events lead, and the facts stand beside each such world.
 use Rattle.std.proofs.Common.{◌≡◌, List, [], ◌∷◌, ◌++◌, None, refl, sym, ap, ap₂, ◌∙◌, subst}
 use Rattle.cg_schedule.specs.declared.event.Event.{Event}
 use Rattle.cg_agree.specs.World.{World, no_world}
@@ -7,8 +7,9 @@ use Rattle.cg_agree.specs.Run.{MayStand}
 use Rattle.cg_agree.specs.Step.{world_step}
 use Rattle.cg_agree.specs.Chronicle.{Chronicle, no_chronicle}
 use Rattle.cg_agree.specs.Noting.{chronicle_step}
-use Rattle.cg_agree.specs.Played.{StandsBeside, AreAdmitted, HoldsFrom, AlwaysHolds}
+use Rattle.cg_agree.specs.Played.{StandsBeside, AreAdmitted, HoldsFrom}
 use Rattle.cg_agree.specs.Standing.{LeadTo, AlwaysStands}
+use Rattle.cg_agree.proofs.AlwaysMade.{always-holds}
 
 lead-on : (c : Chronicle) (w : World) (events : List Event) (d : Chronicle) (v : World) (e : Event) → LeadTo c w events d v → MayStand v e → first_refusal v e ≡ None →
     LeadTo c w (events ++ e ∷ []) (chronicle_step d v e) (world_step v e).world
@@ -27,9 +28,9 @@ stands-behind : (c : Chronicle) (w : World) (events : List Event) (d : Chronicle
 stands-behind c w [] d v lead holds = subst (StandsBeside d) lead.1 (subst (λ (x : Chronicle). StandsBeside x w) lead.0 holds)
 stands-behind c w (e ∷ events) d v lead holds = stands-behind (chronicle_step c w e) (world_step w e).world events d v lead.2 holds.1
 
-pub always-stands : AlwaysHolds → AlwaysStands
-always-stands always = record {
+pub always-stands : AlwaysStands
+always-stands = record {
   first = record { events = []; lead = (refl, refl) };
   step = λ c w e is may admitted. record { events = is.events ++ e ∷ []; lead = lead-on no_chronicle no_world is.events c w e is.lead may admitted };
-  beside = λ c w is. stands-behind no_chronicle no_world is.events c w is.lead (always is.events (are-admitted no_chronicle no_world is.events c w is.lead));
+  beside = λ c w is. stands-behind no_chronicle no_world is.events c w is.lead (always-holds is.events (are-admitted no_chronicle no_world is.events c w is.lead));
 }

@@ -1,4 +1,9 @@
-ghost use Rattle.cg_agree.specs.Standing.{AlwaysBooked};
+ghost use Rattle.cg_agree.specs.Standing.{AlwaysStands, AlwaysBooked};
+
+/// All facts stand beside each world to which admitted events lead, from before the start on.
+pub fn facts_stand_beside_each_world()
+    ensures { AlwaysStands }
+{}
 
 /// Wherever the facts hold, what each replica holds and what an event brings to it stand in one book of actions: no two of them
 /// have one name.
