@@ -1,5 +1,5 @@
 -- A replica that is handed no green item beyond a place has no more greens than that, or comes to be in a primary component.
-use Rattle.std.proofs.Common.{◌⊎◌, ◌≡◌, ℕ, zero, suc, ◌+◌, ◌≤◌, Bool, true, false, cond, not, List, [], ◌∷◌, ◌++◌, fold, length, Option, Some, None, refl, sym, ap, ap₂, ◌∙◌, subst, inl, inr, arith, eqb-true}
+use Rattle.std.proofs.Common.{◌⊎◌, ◌≡◌, ℕ, suc, ◌+◌, ◌≤◌, Bool, true, false, cond, List, [], ◌∷◌, ◌++◌, fold, length, Option, Some, None, refl, sym, ap, ap₂, ◌∙◌, subst, inl, inr, arith, eqb-true}
 use Rattle.std.specs.Prelude.{◌==◌}
 use Rattle.std.proofs.lemmas.Bool.{cond_both}
 use Rattle.std.proofs.lemmas.List.{length-append}
@@ -7,7 +7,7 @@ use Rattle.cg_group.specs.EachLaws.{Each}
 use Rattle.cg_base.specs.Sets.{has, is_within, with_member}
 use Rattle.cg_action.specs.declared.action.Action.{Action}
 use Rattle.cg_action.specs.declared.action.Kind.{Kind}
-use Rattle.cg_queue.specs.Queue.{Marking, Marks, Gaps, marked_red, marked_yellow, green_count}
+use Rattle.cg_queue.specs.Queue.{Marking, Marks, Gaps, marked_yellow, green_count}
 use Rattle.cg_queue.specs.declared.mark.Mark.TheVariants.{Placed, Known}
 use Rattle.cg_knowledge.specs.declared.summary.Summary.{Summary}
 use Rattle.cg_knowledge.specs.Members.{gone, senders}
@@ -20,18 +20,18 @@ use Rattle.cg_wire.specs.declared.message.Msg.TheVariants.{Action as ActionMsg, 
 use Rattle.cg_group.specs.declared.delivery.Delivery.{Delivery}
 use Rattle.cg_group.specs.declared.delivery.Delivery.TheVariants.{Message, Transitional as TransitionalIn, Regular as RegularIn}
 use Rattle.cg_client.specs.Replica.{Held, State, RegPrim, TransPrim, ExchangeStates, ExchangeActions, Construct, No, Un, NonPrim, Left, Replica}
-use Rattle.cg_client.specs.Turn.{Turn, begin, with_held, go_to, send}
-use Rattle.cg_client.specs.Marks.{is_unmade, can_be_green, marked, mark_red, mark_yellow, place_green, mark_green, mark_green_at}
+use Rattle.cg_client.specs.Turn.{Turn, begin, with_held, go_to}
+use Rattle.cg_client.specs.Marks.{is_unmade, can_be_green, marked, mark_red, mark_yellow, place_green, mark_green}
 use Rattle.cg_client.specs.Summary.{redden, own_to_red, enter_exchange}
 use Rattle.cg_client.specs.Install.{install}
 use Rattle.cg_client.specs.Requests.{is_creating, create, create_kept, empty_buffer, settle}
-use Rattle.cg_prim.specs.TransPrim.{end_prim, trans_prim_on_action}
-use Rattle.cg_exchange.specs.PlanEnd.{take_over, begin_attempt, attempt, decide, end_plan}
+use Rattle.cg_prim.specs.TransPrim.{end_prim}
+use Rattle.cg_exchange.specs.PlanEnd.{take_over, attempt, decide, end_plan}
 use Rattle.cg_exchange.specs.ExchangeActions.{send_part, progress, go_on, is_next, mark_item, take_item}
 use Rattle.cg_exchange.specs.ExchangeStates.{is_usable, with_heard}
 use Rattle.cg_construct.specs.Construct.{attempt_set, is_announced, construct_with}
 use Rattle.cg_construct.specs.No.{no_record, no_with}
-use Rattle.cg_step.specs.Step.{Input, Deliveries, replica_step, on_message, on_transitional, on_regular, take}
+use Rattle.cg_step.specs.Step.{Deliveries, replica_step, on_message, on_transitional, on_regular, take}
 use Rattle.cg_agree.specs.FactsReplica.{is_primary}
 use Rattle.cg_agree.proofs.GreenMembers.{SameMembers, redden-same, own-same, creates-same}
 use Rattle.cg_agree.proofs.ItemsReached.{IsItemWithin}

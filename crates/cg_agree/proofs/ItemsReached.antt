@@ -1,5 +1,5 @@
 -- A green item that has a place in a configuration is no further than the order was: some member had that green as it told its summary.
-use Rattle.std.proofs.Common.{◌≡◌, ℕ, zero, suc, ◌-◌, ◌<◌, ◌≤◌, Bool, true, false, ◌&&◌, List, [], ◌∷◌, ◌++◌, map, flat_map, fold, length, Option, Some, None, IfSome, refl, sym, ap, ◌∙◌, subst, arith, slice_get}
+use Rattle.std.proofs.Common.{◌≡◌, ℕ, zero, suc, ◌-◌, ◌<◌, ◌≤◌, true, List, [], ◌∷◌, ◌++◌, map, flat_map, fold, length, Option, Some, None, IfSome, refl, sym, ap, subst, arith, slice_get}
 use Rattle.std.specs.Option.{option_map_or}
 use Rattle.std.proofs.lemmas.Bool.{and_parts}
 use Rattle.cg_group.specs.EachLaws.{Each, Each-append, Each-above}
@@ -22,7 +22,7 @@ use Rattle.cg_exchange.specs.ExchangeActions.{progress}
 use Rattle.cg_agree.specs.World.{World}
 use Rattle.cg_agree.specs.Chronicle.{Told, Chronicle}
 use Rattle.cg_agree.specs.Looks.{told_in, members_in, ordered_in}
-use Rattle.cg_agree.specs.Talk.{Talk, no_talk, hears, hears_from, talk_of, is_full, may_say, is_legal}
+use Rattle.cg_agree.specs.Talk.{Talk, no_talk, hears, hears_from, is_full, may_say, is_legal}
 use Rattle.cg_agree.specs.FactsTalk.{summaries_of, AreTold, whole_talk}
 use Rattle.cg_agree.specs.Played.{StandsBeside}
 use Rattle.cg_agree.proofs.ExchangeThere.{next-due}

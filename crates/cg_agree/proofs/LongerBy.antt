@@ -1,22 +1,20 @@
 -- Behind an event a replica has more greens than the order had only in a primary component, or where the event recovers it.
-use Rattle.std.proofs.Common.{◌⊎◌, ◌≡◌, ℕ, zero, suc, ◌+◌, ◌≤◌, ◌<◌, min, Bool, true, false, List, [], ◌∷◌, ◌++◌, map, fold, find, length, Option, Some, None, IfSome, is_some, refl, sym, ap, ◌∙◌, subst, inl, inr, arith, slice_get, option_and_then, option_map, eqb-true}
+use Rattle.std.proofs.Common.{◌⊎◌, ◌≡◌, ℕ, zero, suc, ◌+◌, ◌≤◌, min, true, false, List, [], ◌∷◌, ◌++◌, map, length, Option, Some, None, IfSome, is_some, refl, sym, ap, ◌∙◌, subst, inl, inr, arith, slice_get, option_and_then, eqb-true}
 use Rattle.std.specs.Prelude.{◌==◌}
 use Rattle.std.specs.Option.{option_map_or}
 use Rattle.std.proofs.lemmas.Bool.{cases_Bool, cond_both, cond-true, eq-eqb}
 use Rattle.cg_group.specs.EachLaws.{Each, Each-append}
 use Rattle.cg_base.specs.Lists.{above_up_to}
-use Rattle.cg_base.specs.Sets.{has}
 use Rattle.cg_queue.specs.Queue.{green_count}
 use Rattle.cg_wire.specs.declared.message.Msg.{Msg}
 use Rattle.cg_group.specs.declared.delivery.Handed.{Handed}
 use Rattle.cg_group.specs.declared.delivery.Delivery.TheVariants.{Message, Transitional as TransitionalIn, Regular as RegularIn}
 use Rattle.cg_group.specs.State.{Sent, Configuration, configuration, regular_in, phase_of, delivered_to, home}
 use Rattle.cg_group.specs.Events.{delivery_at, deliveries_at, transitional_places, furthest, handed_in_split, deliver, split, merge}
-use Rattle.cg_client.specs.Replica.{Held, Replica}
-use Rattle.cg_client.specs.Turn.{Turn}
+use Rattle.cg_client.specs.Replica.{Replica}
 use Rattle.cg_stored.specs.Stored.{whiten}
 use Rattle.cg_step.specs.Step.{Input, Deliveries, replica_step}
-use Rattle.cg_step.specs.Crash.{Disk, whitened, end_event, new_disk}
+use Rattle.cg_step.specs.Crash.{whitened, new_disk}
 use Rattle.cg_schedule.specs.declared.event.Event.{Event}
 use Rattle.cg_schedule.specs.declared.event.Event.TheVariants.{Start, Split, Merge, Request, Weak, Dirty, Order, Recover, Show, ShowOrder, Gather, End, Receive, Deliver, Rounds, Stop, Fail, Join, Leave, Transfer}
 use Rattle.cg_agree.specs.World.{Up, Seat, Snapshot, World, running, has_begun, seat_of, replica_of, bring_up}
@@ -29,7 +27,7 @@ use Rattle.cg_agree.specs.Chronicle.{Chronicle}
 use Rattle.cg_agree.specs.FactsReplica.{is_primary}
 use Rattle.cg_agree.specs.Played.{StandsBeside}
 use Rattle.cg_agree.proofs.ChronicleFacts.{seat_of-set}
-use Rattle.cg_agree.proofs.CountsGrow.{count_at, running_at, SeatEven, even-at, event-counts, unbegun}
+use Rattle.cg_agree.proofs.CountsGrow.{count_at, SeatEven, even-at, event-counts, unbegun}
 use Rattle.cg_agree.proofs.DiskEnds.{end-cases}
 use Rattle.cg_agree.proofs.GreensStay.{IsStill, IsHandedWithin, step-still, entry-still}
 use Rattle.cg_agree.proofs.ItemsReached.{IsItemWithin, placed-within}

@@ -1,5 +1,5 @@
 -- Only members of a primary component make the order of a run longer, or a recovery does.
-use Rattle.std.proofs.Common.{◌⊎◌, ◌≡◌, ℕ, ◌<◌, ◌≤◌, true, false, List, length, Option, Some, None, Contains, refl, sym, ap, ◌∙◌, subst, inl, inr, arith, option_map, option_and_then}
+use Rattle.std.proofs.Common.{◌⊎◌, ◌≡◌, ℕ, ◌<◌, true, false, List, length, Option, Some, None, Contains, refl, sym, ap, ◌∙◌, subst, inl, inr, arith, option_map, option_and_then}
 use Rattle.std.specs.Option.{option_map_or}
 use Rattle.cg_queue.specs.Queue.{green_count}
 use Rattle.cg_group.specs.State.{phase_of}
@@ -10,7 +10,6 @@ use Rattle.cg_client.specs.Queries.{state_name, view_of}
 use Rattle.cg_schedule.specs.declared.event.Event.{Event}
 use Rattle.cg_agree.specs.World.{Life, Up, Down, Seat, World, no_world, running, seat_of, replica_of}
 use Rattle.cg_agree.specs.Show.{Moved, line_of, up_line}
-use Rattle.cg_agree.specs.Step.{world_step}
 use Rattle.cg_agree.specs.Run.{Step, IsRunFrom, world_after}
 use Rattle.cg_agree.specs.Shown.{order_of}
 use Rattle.cg_agree.specs.Agreement.{ComesAfter, through, IsPrimary, is_recovery_of, OnePrimary}
