@@ -20,8 +20,8 @@ fold-answers always steps run = record {
   database = λ earlier s p entries after there. fold-database always steps run earlier s after p entries there;
   held = λ earlier s p r after runs. fold-held always steps run earlier s p r after runs;
   weak = λ earlier s p q after event. fold-weak always steps run earlier s after p q event;
-  reply = λ earlier s r after there. fold-reply always earlier s (step-of steps earlier s run after) r there;
-  when = λ earlier s before behind id after placed. fold-when always earlier s (step-of steps earlier s run after) before behind id placed;
+  reply = λ earlier s r after there. fold-reply always earlier s (step-of always steps run earlier s after) r there;
+  when = λ earlier s before behind id after placed. fold-when always earlier s (step-of always steps run earlier s after) before behind id placed;
   once = λ s before between after r again there list same. (let at = split-at steps s there in
-      fold-once always at.0 s (step-of steps at.0 s run (at.1, at.2)) before between after r again list same);
+      fold-once always at.0 s (step-of always steps run at.0 s (at.1, at.2)) before between after r again list same);
 }

@@ -57,5 +57,5 @@ module _ (steps : List Step) (f : StandsFor steps) (p : ℕ) (r : Replica) (runs
 pub fold-held : AlwaysHolds → (steps : List Step) → IsRunFrom no_world 0 steps → (earlier : List Step) (s : Step) (p : ℕ) (r : Replica) → ComesAfter steps earlier s →
     replica_of s.world p ≡ Some r → r.held.db ≡ fold_actions (ordered_actions (through earlier s) (green_count r.held.queue))
 fold-held always steps run earlier s p r after runs =
-    let is = step-of steps earlier s run after in
+    let is = step-of always steps run earlier s after in
     own-fold (through earlier s) (stands-for always (through earlier s) is.behind) p r (ap (λ (w : World). replica_of w p) is.world ∙ runs)

@@ -34,7 +34,7 @@ use Rattle.cg_agree.specs.Played.{AlwaysHolds}
 use Rattle.cg_agree.proofs.FrontFacts.{Front-of_append, split_by_Front}
 use Rattle.cg_agree.proofs.CutRaise.{Rising, rising-behind}
 use Rattle.cg_agree.proofs.BookGrows.{same-self}
-use Rattle.cg_agree.proofs.ShownActions.{order-shown, each-action, actions-shown}
+use Rattle.cg_agree.proofs.ShownActions.{each-action, actions-shown}
 use Rattle.cg_agree.proofs.FoldHeld.{IsInOrder, in-order}
 use Rattle.cg_agree.proofs.RunMarks.{run-names}
 use Rattle.cg_agree.proofs.CreatorNumbered.{order-runs}
@@ -42,7 +42,7 @@ use Rattle.cg_agree.proofs.TurnWorlds.{life_at}
 use Rattle.cg_agree.proofs.TurnReplies.{db_behind, replies_in}
 use Rattle.cg_agree.proofs.RepliesPlaced.{IsIn, plain, times, times-both, reply_ids, ids_in}
 use Rattle.cg_agree.proofs.DiskEnds.{end-cases}
-use Rattle.cg_agree.proofs.RunSteps.{world_of, chronicle_of, IsStepOf, StandsFor, stands-for}
+use Rattle.cg_agree.proofs.RunSteps.{world_of, chronicle_of, IsStepAt, StandsFor, stands-for}
 use Rattle.cg_agree.proofs.OwedNames.{own_name, is_behind}
 use Rattle.cg_agree.proofs.StepSays.{SaysSo}
 use Rattle.cg_agree.proofs.EventSays.{made_by, replies_by}
@@ -126,7 +126,7 @@ replica_in (Crashes disk green) other = other
 
 -- ---- a step of a run
 
-module _ (always : AlwaysHolds) (earlier : List Step) (s : Step) (is : IsStepOf earlier s) where
+module _ (always : AlwaysHolds) (earlier : List Step) (s : Step) (is : IsStepAt earlier s) where
   abbrev now : List Step
   now = through earlier s
 
@@ -341,7 +341,7 @@ module _ (always : AlwaysHolds) (earlier : List Step) (s : Step) (is : IsStepOf 
       ∙ ap (λ ids. ids ++ rest) (names-both first (a ∷ from.after))
       ∙ append_assoc (names_of first) (a.id ∷ names_of from.after) rest
       ∙ ap (λ id. names_of first ++ id ∷ (names_of from.after ++ rest)) (sym named) in
-      let each = each-action now behind (first ++ a ∷ from.after) (order_of now) front (order-shown now behind) booked in
+      let each = each-action now behind (first ++ a ∷ from.after) front booked in
       let found : made_action now r.id ≡ Some a = ap (made_action now) named ∙ at-middle (λ a. made_action now a.id ≡ Some a) first a from.after each in
       let short : Front (names_of first) (order_of now) =
       Front-of_append (names_of first) (names_of (a ∷ from.after)) (order_of now) (subst (λ ids. Front ids (order_of now)) (names-both first (a ∷ from.after)) front) in

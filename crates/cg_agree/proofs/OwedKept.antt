@@ -28,7 +28,7 @@ use Rattle.cg_agree.proofs.SeatFacts.{seat-id}
 use Rattle.cg_agree.proofs.MadeWorlds.{IsCoreAt, LifeSound, SeatSound, green-created}
 use Rattle.cg_agree.proofs.MadeBookKept.{sound-at}
 use Rattle.cg_agree.proofs.TurnWorlds.{life_at}
-use Rattle.cg_agree.proofs.RunSteps.{world_of, chronicle_of, IsStepOf, StandsFor, stands-for, step-of}
+use Rattle.cg_agree.proofs.RunSteps.{world_of, chronicle_of, IsStepAt, StandsFor, stands-for, step-of}
 use Rattle.cg_agree.proofs.OwedNames.{own_name, own-named}
 use Rattle.cg_agree.proofs.StepSays.{IsOwing, SaysSo, step-says}
 use Rattle.cg_agree.proofs.EventSays.{made_ids, OwesSo, LifeOwes, SeatOwes, made_by, replies_by}
@@ -61,7 +61,7 @@ pub no-more : (a : Bool) → (a && false) ≡ false
 no-more true = refl
 no-more false = refl
 
-module _ (always : AlwaysHolds) (earlier : List Step) (s : Step) (is : IsStepOf earlier s) (owed : (p : ℕ) → OwedAt earlier p) where
+module _ (always : AlwaysHolds) (earlier : List Step) (s : Step) (is : IsStepAt earlier s) (owed : (p : ℕ) → OwedAt earlier p) where
   abbrev now : List Step
   now = through earlier s
 
@@ -298,7 +298,7 @@ module _ (always : AlwaysHolds) where
   owed-along earlier [] run owed p = subst (λ steps. OwedAt steps p) (sym (append-nil earlier)) (owed p)
   owed-along earlier (s ∷ rest) run owed p =
       let joined : (earlier ++ s ∷ []) ++ rest ≡ earlier ++ s ∷ rest = append_assoc earlier (s ∷ []) rest in
-      let is = step-of (earlier ++ s ∷ rest) earlier s run (rest, refl) in
+      let is = step-of always (earlier ++ s ∷ rest) run earlier s (rest, refl) in
       subst (λ steps. OwedAt steps p) joined
       (owed-along (earlier ++ s ∷ []) rest (subst (IsRunFrom no_world 0) (sym joined) run) (owed-next always earlier s is owed) p)
 

@@ -15,7 +15,7 @@ use Rattle.cg_agree.specs.Shown.{lines_in}
 use Rattle.cg_agree.specs.Agreement.{through, lives_since}
 use Rattle.cg_agree.specs.Looks.{disk_held}
 use Rattle.cg_agree.specs.Telling.{latest, last_line, printed}
-use Rattle.cg_agree.proofs.RunSteps.{world_of, IsStepOf, StandsFor}
+use Rattle.cg_agree.proofs.RunSteps.{world_of, IsStepAt, StandsFor}
 use Rattle.cg_agree.proofs.RepliesPlaced.{plain}
 use Rattle.cg_agree.proofs.OwedNames.{own_name, own_names}
 use Rattle.cg_agree.proofs.StepSays.{IsOwing}
@@ -78,7 +78,7 @@ pub record StepShows (earlier : List Step) (s : Step) : Type 0 where
   pub made : s.entry.made ≡ (happens (world_of earlier) s.event).made
   pub replies : s.entry.replies ≡ plain (happens (world_of earlier) s.event).replies
 
-pub step-shows : (earlier : List Step) (s : Step) → IsStepOf earlier s → StepShows earlier s
+pub step-shows : (earlier : List Step) (s : Step) → IsStepAt earlier s → StepShows earlier s
 unfolding world_step ended
 step-shows earlier s is = record {
   seats = ap (λ (w : World). w.seats) (is.world ∙ ap (λ (m : Moved). m.world) is.moved);
