@@ -24,12 +24,12 @@ chronicle-last c w [] s = refl
 chronicle-last c w (x ∷ xs) s = chronicle-last (chronicle_step c w x.event) x.world xs s
 
 -- what the run says of a step
-record IsMade (w : World) (s : Step) : Type 0 where
-  may : MayStand w s.event
-  admitted : first_refusal w s.event ≡ None
-  moved : (record { entry = s.entry; world = s.world } ≡ world_step w s.event)
+pub record IsMade (w : World) (s : Step) : Type 0 where
+  pub may : MayStand w s.event
+  pub admitted : first_refusal w s.event ≡ None
+  pub moved : (record { entry = s.entry; world = s.world } ≡ world_step w s.event)
 
-made-there : (w : World) (count : ℕ) (xs : List Step) (s : Step) (later : List Step) → IsRunFrom w count (xs ++ s ∷ later) → IsMade (world_after w xs) s
+pub made-there : (w : World) (count : ℕ) (xs : List Step) (s : Step) (later : List Step) → IsRunFrom w count (xs ++ s ∷ later) → IsMade (world_after w xs) s
 made-there w count [] s later run = record { may = run.2; admitted = run.3; moved = run.4 }
 made-there w count (x ∷ xs) s later run = made-there x.world (suc count) xs s later run.5
 

@@ -1,0 +1,13 @@
+-- An event is refused exactly where one of its tests gives a reason: each event that made a step was admitted, and the one that ended the
+-- run has the first reason.
+use Rattle.std.proofs.Common.{◌≡◌, List, Option, Some, subst}
+use Rattle.cg_agree.specs.World.{no_world}
+use Rattle.cg_agree.specs.Admission.{first_refusal}
+use Rattle.cg_agree.specs.Run.{Step, Refusal, IsRunFrom, world_after}
+use Rattle.cg_agree.specs.Agreement.{RefusedExactly, IsRefused}
+use Rattle.cg_agree.proofs.RunPrefix.{made-there}
+
+pub refused-exactly : (steps : List Step) (refused : Option Refusal) → IsRunFrom no_world 0 steps → IsRefused (world_after no_world steps) refused → RefusedExactly steps refused
+refused-exactly steps refused run is = record { admitted = λ earlier s comes. (made-there no_world 0 earlier s comes.0 (subst (IsRunFrom no_world 0) comes.1 run)).admitted; reason = reason } where
+  reason : (r : Refusal) → refused ≡ Some r → first_refusal (world_after no_world steps) r.event ≡ Some r.reason
+  reason r e = subst (IsRefused (world_after no_world steps)) e is
