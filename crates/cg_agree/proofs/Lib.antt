@@ -326,3 +326,5 @@ pub mod QuietTalk
 pub mod QuietKnown
 pub mod QuietSettled
 pub mod QuietSettles
+pub mod MadeThere
+pub mod MadeStays

@@ -205,7 +205,7 @@ last-up p (l ∷ lines) last up is = last-up p lines (latest p last l) (last_of 
   of (Some x) e = subst (λ (o : Option UpLine). IfSome o (λ u. option_map_or (λ up. Some up) o up ≡ Some u)) (sym e) refl
 
 -- the last line of a replica that is up
-up-shown : (w : World) (steps : List Step) → ((p : ℕ) → printed w p ≡ last_line p steps) → ArePrinted w → (p : ℕ) (r : Replica) → replica_of w p ≡ Some r → IsSomeWith (last_up p steps) (λ up. up.view ≡ view_of r.held)
+pub up-shown : (w : World) (steps : List Step) → ((p : ℕ) → printed w p ≡ last_line p steps) → ArePrinted w → (p : ℕ) (r : Replica) → replica_of w p ≡ Some r → IsSomeWith (last_up p steps) (λ up. up.view ≡ view_of r.held)
 up-shown w steps shown stand p r runs = at (seat_of w p) refl runs where
   there : (s : Seat) → seat_of w p ≡ Some s → (l : Life) → s.life ≡ l → running l ≡ Some r → IsSomeWith (last_up p steps) (λ up. up.view ≡ view_of r.held)
   there s found (Down disk green) life is = absurd (let clash : None ≡ Some r = is in cc)
