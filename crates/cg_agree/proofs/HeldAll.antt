@@ -122,14 +122,19 @@ yellow-red start h all is cut (id ∷ ids) rising up run known =
     (λ p. (let one : index_in gc p ≤ index_in cut p = up p in let more : index_in cut p ≤ index_in (raise cut id) p = behind-rises cut (id ∷ []) p rising in omega arith))
     (run-rest cut id ids run) parts.1)
 
--- the valid yellow actions are those of the yellow names
+-- the yellow actions are those of the yellow names
+pub yellow-named : (start : List Weighted) (h : Held) (all : List Action) → IsOneself start h all → names_of (actions_named h.queue h.queue.yellow) ≡ h.queue.yellow
+yellow-named start h all is =
+    all-named h.queue h.queue.yellow
+    (yellow-red start h all is h.queue.green_cut h.queue.yellow (rising-green start h all is) (λ p. omega arith) is.yellow_closed.next is.yellow_closed.known)
+
+-- and where they are valid they count
 abbrev pub valid_names : Held → List ActionId
 valid_names h = if h.yellow_valid then h.queue.yellow else []
 
 pub valid-named : (start : List Weighted) (h : Held) (all : List Action) → IsOneself start h all → names_of (valid_yellow h) ≡ valid_names h
 valid-named start h all is = elim (cases_Bool h.yellow_valid) [
-  | inl valid ↦ rw valid (all-named h.queue h.queue.yellow
-      (yellow-red start h all is h.queue.green_cut h.queue.yellow (rising-green start h all is) (λ p. omega arith) is.yellow_closed.next is.yellow_closed.known))
+  | inl valid ↦ rw valid (yellow-named start h all is)
   | inr none ↦ rw none refl
 ]
 

@@ -328,3 +328,4 @@ pub mod QuietSettled
 pub mod QuietSettles
 pub mod MadeThere
 pub mod MadeStays
+pub mod DirtyAnswers

@@ -91,7 +91,7 @@ module _ (steps : List Step) (c : Chronicle) (w : World) (stands : StandsBeside 
   pub each-shown_as : (list : List Action) → Front (names_of list) w.order → Each (IsNamed c.book) list → Each IsShownAs list
   each-shown_as list front booked = each-as list w.order front (order-named steps c w stands told) booked
 
-  all-as : (list : List Action) → Each IsShownAs list → made_actions steps (names_of list) ≡ list
+  pub all-as : (list : List Action) → Each IsShownAs list → made_actions steps (names_of list) ≡ list
   all-as [] each = refl
   all-as (a ∷ list) each = ap (λ (o : Option Action). present (o ∷ map (made_action steps) (names_of list))) each.0.found ∙ ap (λ xs. a ∷ xs) (all-as list each.1)
 
