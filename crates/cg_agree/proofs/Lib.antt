@@ -370,12 +370,3 @@ pub mod GreensStay
 pub mod SnapshotsReached
 pub mod LongerBy
 pub mod OrderLonger
-pub mod RefusedExactly
-pub mod QuietPlan
-pub mod QuietTalk
-pub mod QuietKnown
-pub mod QuietSettled
-pub mod QuietSettles
-pub mod MadeThere
-pub mod MadeStays
-pub mod DirtyAnswers
