@@ -1,9 +1,8 @@
 -- An event that is written, and one that isn't.
-use Rattle.std.proofs.Common.{◌≡◌, inl, ℕ, ◌<◌, ◌^◌, List, length, Bool, true, false, Option, Some, None, Result, Ok, Err, OnOk, IfSome, refl, sym, ◌∙◌, ap, subst, arith}
-use Rattle.std.specs.Prelude.{option_and_then, if◌then◌else◌}
+use Rattle.std.proofs.Common.{◌≡◌, inl, ℕ, ◌<◌, ◌^◌, List, length, Bool, true, false, Option, Some, None, Result, Ok, Err, IfSome, refl, sym, ◌∙◌, ap, subst, arith}
+use Rattle.std.specs.Prelude.{option_and_then}
 use Rattle.std.specs.Option.{option_map}
 use Rattle.cg_action.specs.declared.action.Action.{Action}
-use Rattle.cg_disk.specs.Sides.{Image}
 use Rattle.cg_disk.specs.State.{DiskState}
 use Rattle.cg_disk.specs.View.{DiskView, IsView, IsAtRest}
 use Rattle.cg_journal.specs.Strikes.{IsUnstruck}

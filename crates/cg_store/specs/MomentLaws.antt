@@ -1,5 +1,5 @@
 -- An image stands for one state; what holds at each moment of a call, and of two calls one behind the other.
-use Rattle.std.proofs.Common.{◌≡◌, ◌⊎◌, inl, inr, ⊎_elim, ℕ, ◌≤◌, Option, Some, None, Result, Ok, Err, arith}
+use Rattle.std.proofs.Common.{◌≡◌, inl, inr, ⊎_elim, ℕ, Option, Some, None, Result, Ok, Err, arith}
 use Rattle.cg_disk.specs.Sides.{Image}
 use Rattle.cg_disk.specs.View.{DiskView, LeavesOnly}
 use Rattle.cg_journal.specs.Records.{records}
