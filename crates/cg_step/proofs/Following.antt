@@ -13,7 +13,7 @@ use Rattle.cg_step.specs.Crash.{Strike, Disk, new_disk, with_change, with_checkp
 use Rattle.cg_step.specs.Holds.{Holds}
 use Rattle.cg_step.specs.Recorded.{AreBooked}
 use Rattle.cg_step.specs.Following.{DiskHolds, Follows, EndsFollowing, AlwaysFollows}
-use Rattle.cg_step.proofs.Steps.{always-holds}
+use Rattle.cg_step.proofs.Always.{always-holds}
 use Rattle.cg_step.proofs.Recording.{always-recorded, always-ahead}
 
 -- a disk that has what a commit leaves

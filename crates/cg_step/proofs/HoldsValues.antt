@@ -18,7 +18,7 @@ use Rattle.cg_records.specs.declared.primary.Primary.{Primary}
 use Rattle.cg_records.specs.declared.vulnerable.Vulnerable.{Vulnerable}
 use Rattle.cg_client.specs.Replica.{Held, fresh_held, created, last_index}
 use Rattle.cg_exchange.specs.PlanEnd.{with_name, usable_names}
-use Rattle.cg_client.specs.Whitening.{white_at}
+use Rattle.cg_client.specs.Whitening.{IsLineGreen, white_at}
 use Rattle.cg_stored.specs.Stored.{whiten}
 use Rattle.cg_stored.specs.Change.{is_distinct, are_yellow}
 use Rattle.cg_stored.specs.Checkpoint.{indexes_of}
@@ -228,10 +228,22 @@ counts-drop (suc n) (x ∷ xs) p last counts = counts-drop n xs p last (elim (ca
   | inr other ↦ (rw other at counts)
 ])
 
+pub line-green : (h : Held) → Holds h → IsLineGreen h
+line-green h is = line-below (green_count h.queue) h.members.servers is.members.lines
+
+-- discarding changes no count
+pub whitened-counts : (h : Held) → Holds h → green_count (whiten h).queue ≡ green_count h.queue
+unfolding whiten
+whitened-counts h is =
+    let lines : unwrap_or (white_line h.members) 0 ≤ green_count h.queue = line-green h is in
+    let enough : white_at h - h.queue.white ≤ length h.queue.greens = omega arith in
+    let kept = dropped (white_at h - h.queue.white) h.queue.greens enough in
+    omega arith
+
 pub holds-whiten : (h : Held) → Holds h → Holds (whiten h)
 unfolding whiten
 holds-whiten h is =
-    let lines : unwrap_or (white_line h.members) 0 ≤ green_count h.queue = line-below (green_count h.queue) h.members.servers is.members.lines in
+    let lines : unwrap_or (white_line h.members) 0 ≤ green_count h.queue = line-green h is in
     let enough : white_at h - h.queue.white ≤ length h.queue.greens = omega arith in
     let kept = dropped (white_at h - h.queue.white) h.queue.greens enough in
     let counted : green_count h.queue ≡ white_at h + length (drop (white_at h - h.queue.white) h.queue.greens) = omega arith in

@@ -126,7 +126,7 @@ own-reddened t is =
 
 -- ---- what holds is kept
 
-each-any : (list : List Action) → Each (λ a. Unit {0}) list
+pub each-any : (list : List Action) → Each (λ a. Unit {0}) list
 each-any [] = tt
 each-any (a ∷ list) = (tt, each-any list)
 

@@ -14,4 +14,6 @@ mod SameValues
 mod Recording
 mod Settling
 mod Opening
+mod Counting
+mod Always
 mod Following

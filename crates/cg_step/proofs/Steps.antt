@@ -12,10 +12,9 @@ use Rattle.cg_client.specs.Requests.{is_creating, next_action, create, create_ke
 use Rattle.cg_stored.specs.Stored.{Stored, stored_of, recover}
 use Rattle.cg_step.specs.Step.{Input, Deliveries, Asks, take, replica_step}
 use Rattle.cg_step.specs.Holds.{Holds}
-use Rattle.cg_step.specs.Recorded.{OfMessage, OfDelivery, AlwaysHolds}
-use Rattle.cg_step.proofs.HoldsValues.{holds-made, holds-whiten, holds-fresh}
+use Rattle.cg_step.specs.Recorded.{OfMessage, OfDelivery}
+use Rattle.cg_step.proofs.HoldsValues.{holds-made}
 use Rattle.cg_step.proofs.Rows.{of-deliveries, of-buffer, of-empty_buffer}
-use Rattle.cg_step.proofs.Opening.{holds-changed, holds-opened}
 use Rattle.cg_step.proofs.Knowing.{HoldsIn, holds-rule, holds-own}
 
 -- ---- what a turn with own actions made keeps
@@ -81,7 +80,7 @@ any-delivery (Message place from m) = any-message m
 any-delivery (TransitionalIn conf set) = tt
 any-delivery (RegularIn conf set) = tt
 
-any-deliveries : (list : List (Delivery Msg)) → Each (OfDelivery (λ a. Unit {0})) list
+pub any-deliveries : (list : List (Delivery Msg)) → Each (OfDelivery (λ a. Unit {0})) list
 any-deliveries [] = tt
 any-deliveries (d ∷ list) = (any-delivery d, any-deliveries list)
 
@@ -91,7 +90,7 @@ holds-step r (Deliveries list) is =
     of-settle HoldsIn holds-making (fold take (begin r) list) (of-deliveries HoldsIn (λ a. Unit {0}) holds-rule (begin r) list (any-deliveries list) is)
 holds-step r (Asks kind) is = of-request_in HoldsIn holds-making r.state (begin r) kind is
 
-holds-stored : (h : Held) → Holds h → Holds (stored_of h)
+pub holds-stored : (h : Held) → Holds h → Holds (stored_of h)
 holds-stored h is = record {
   rising = is.rising;
   greens = is.greens;
@@ -105,17 +104,6 @@ holds-stored h is = record {
   members = is.members;
 }
 
-holds-recovered : (s : Stored) → Holds s → Holds (recover s).replica.held
+pub holds-recovered : (s : Stored) → Holds s → Holds (recover s).replica.held
 unfolding recover
 holds-recovered s is = holds-own (begin (record { held = s; state = NonPrim false })) is
-
-pub always-holds : AlwaysHolds
-always-holds = record {
-  fresh = λ id set. holds-fresh id set;
-  step = λ r input is. holds-step r input is;
-  whitened = λ h is. holds-whiten h is;
-  stored = λ h is. holds-stored h is;
-  recovered = λ s is. holds-recovered s is;
-  changed = λ s c t is fits. holds-changed s c t is fits;
-  opened = λ s agrees is. holds-opened s agrees is;
-}

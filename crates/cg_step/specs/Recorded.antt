@@ -1,6 +1,6 @@
 -- The laws of what a replica holds and of its disk: what always holds of it, and that the record of each commit leads from
 -- what stands on the disk to what the commit leaves.
-use Rattle.std.specs.Prelude.{◌≡◌, ℕ, false, List, [], ◌++◌, Some}
+use Rattle.std.specs.Prelude.{◌≡◌, ℕ, ◌+◌, false, List, [], ◌++◌, length, Some}
 use Rattle.cg_base.specs.declared.action_id.ActionId.{ActionId}
 use Rattle.cg_base.specs.declared.weighted.Weighted.{Weighted}
 use Rattle.cg_action.specs.declared.action.Action.{Action}
@@ -8,8 +8,10 @@ use Rattle.cg_wire.specs.declared.message.Msg.{Msg}
 use Rattle.cg_wire.specs.declared.message.Msg.TheVariants.{Action as ActionMsg, GreenItem, RedItem}
 use Rattle.cg_group.specs.declared.delivery.Delivery.{Delivery}
 use Rattle.cg_group.specs.declared.delivery.Delivery.TheVariants.{Message}
+use Rattle.cg_queue.specs.Queue.{green_count}
 use Rattle.cg_records.specs.Limits.{Each}
 use Rattle.cg_client.specs.Replica.{Held, Replica, fresh_held}
+use Rattle.cg_client.specs.Whitening.{IsLineGreen}
 use Rattle.cg_stored.specs.Stored.{Stored, stored_of, whiten, recover}
 use Rattle.cg_stored.specs.declared.change.Change.{Change}
 use Rattle.cg_stored.specs.Change.{after_change, IsAhead, IsRecorded}
@@ -31,6 +33,12 @@ pub record AlwaysHolds : Type 0 where
   pub recovered : (s : Stored) → Holds s → Holds (recover s).replica.held
   pub changed : (s : Stored) (c : Change) (t : Stored) → Holds s → after_change s c ≡ Some t → Holds t
   pub opened : (s : Stored) → Agrees s → IsStored s → Holds s
+
+-- no server is ahead of the greens; an event makes as many more of them as it tells, and a commit none
+pub record AlwaysCounts : Type 0 where
+  pub line : (h : Held) → Holds h → IsLineGreen h
+  pub counted : (r : Replica) (input : Input) → Holds r.held → green_count (replica_step r input).replica.held.queue ≡ green_count r.held.queue + length (replica_step r input).green
+  pub same_count : (h : Held) → Holds h → green_count (whiten h).queue ≡ green_count h.queue
 
 -- what a commit leaves has a checkpoint
 abbrev pub AlwaysSettled : Type 0

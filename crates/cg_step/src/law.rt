@@ -1,9 +1,10 @@
-ghost use Rattle.cg_step.specs.Recorded.{AlwaysHolds, AlwaysSettled, AlwaysRecorded, AlwaysAhead};
+ghost use Rattle.cg_step.specs.Recorded.{AlwaysHolds, AlwaysCounts, AlwaysSettled, AlwaysRecorded, AlwaysAhead};
 ghost use Rattle.cg_step.specs.Following.{AlwaysFollows};
 
 /// What holds of a new replica holds behind each event, whatever comes to it, on its disk, and where it comes up again.
 pub fn what_is_held_agrees()
     ensures holds { AlwaysHolds }
+    ensures counts { AlwaysCounts }
     ensures settled { AlwaysSettled }
 {}
 

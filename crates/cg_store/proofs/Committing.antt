@@ -1,9 +1,8 @@
 -- An event that is written, and one that isn't.
-use Rattle.std.proofs.Common.{◌≡◌, inl, ℕ, ◌<◌, ◌^◌, List, length, Bool, true, false, Option, Some, None, Result, Ok, Err, OnOk, IfSome, refl, sym, ◌∙◌, ap, subst, arith}
-use Rattle.std.specs.Prelude.{option_and_then, if◌then◌else◌}
+use Rattle.std.proofs.Common.{◌≡◌, inl, ℕ, ◌<◌, ◌^◌, List, length, Bool, true, false, Option, Some, None, Result, Ok, Err, IfSome, refl, sym, ◌∙◌, ap, subst, arith}
+use Rattle.std.specs.Prelude.{option_and_then}
 use Rattle.std.specs.Option.{option_map}
 use Rattle.cg_action.specs.declared.action.Action.{Action}
-use Rattle.cg_disk.specs.Sides.{Image}
 use Rattle.cg_disk.specs.State.{DiskState}
 use Rattle.cg_disk.specs.View.{DiskView, IsView, IsAtRest}
 use Rattle.cg_journal.specs.Strikes.{IsUnstruck}
@@ -34,17 +33,17 @@ due_same : (s : Stored) (h : Held) (d : DraftParts) (state : State) → is_due (
 unfolding commits same_values
 due_same s h d state = refl
 
-ready_from : (s : Stored) (unwritten : List Action) (h new : Held) (d : DraftParts) (state : State) (due : Option Due) → IsPrepared (stable_of s) unwritten h new d due → IsReady s unwritten h new d state due
-ready_from s unwritten h new d state None is = (sym (due_same s h d state) ∙ is.0, is.1)
-ready_from s unwritten h new d state (Some due) is = (sym (due_same s h d state) ∙ is.0, is.1)
+ready_from : (s : Stored) (unwritten : List Action) (h : Held) (d : DraftParts) (state : State) (due : Option Due) → IsPrepared (stable_of s) unwritten h d due → IsReady s unwritten h d state due
+ready_from s unwritten h d state None is = sym (due_same s h d state) ∙ is
+ready_from s unwritten h d state (Some due) is = (sym (due_same s h d state) ∙ is.0, is.1)
 
-pub ready_of : (values : Stable) (s : Stored) (unwritten : List Action) (h new : Held) (d : DraftParts) (state : State) (due : Option Due) → values ≡ stable_of s → IsPrepared values unwritten h new d due →
-    IsReady s unwritten h new d state due
-ready_of values s unwritten h new d state due same is = ready_from s unwritten h new d state due (subst (λ v. IsPrepared v unwritten h new d due) same is)
+pub ready_of : (values : Stable) (s : Stored) (unwritten : List Action) (h : Held) (d : DraftParts) (state : State) (due : Option Due) → values ≡ stable_of s → IsPrepared values unwritten h d due →
+    IsReady s unwritten h d state due
+ready_of values s unwritten h d state due same is = ready_from s unwritten h d state due (subst (λ v. IsPrepared v unwritten h d due) same is)
 
-pub short_of : (values : Stable) (unwritten : List Action) (h new : Held) (d : DraftParts) (due : Option Due) → IsPrepared values unwritten h new d due → IfSome due (λ x. length x.body < 2 ^ 32)
-short_of values unwritten h new d None is = tt
-short_of values unwritten h new d (Some due) is = is.1.short
+pub short_of : (values : Stable) (unwritten : List Action) (h : Held) (d : DraftParts) (due : Option Due) → IsPrepared values unwritten h d due → IfSome due (λ x. length x.body < 2 ^ 32)
+short_of values unwritten h d None is = tt
+short_of values unwritten h d (Some due) is = is.1.short
 
 -- ---- what the record leads to
 
@@ -55,34 +54,29 @@ values_behind : (h : Held) → stable_of h ≡ stable_of (stored_of (whiten h))
 unfolding whiten
 values_behind h = refl
 
-leads_to : ReadsAgain → (s : Stored) (unwritten : List Action) (h new : Held) (d : DraftParts) (state : State) (due : Due) → IsRecord unwritten h new d due → IsRecorded s unwritten (turn_with h state d) →
+leads_to : ReadsAgain → (s : Stored) (unwritten : List Action) (h : Held) (d : DraftParts) (state : State) (due : Due) → IsRecord unwritten h d due → IsRecorded s unwritten (turn_with h state d) →
     led_by s due.body ≡ Some (stored_of (whiten h))
-leads_to again s unwritten h new d state due is recorded =
+leads_to again s unwritten h d state due is recorded =
     ap (led_by s) is.body ∙ ap (option_and_then (after_change s)) (again (change_of unwritten (turn_with h state d)) is.within) ∙ recorded
 
-pub led_of : ReadsAgain → (u : Standing) (unwritten : List Action) (h new : Held) (d : DraftParts) (state : State) (due : Option Due) → IsReady u.content unwritten h new d state due → IsRecorded u.content unwritten (turn_with h state d) →
+pub led_of : ReadsAgain → (u : Standing) (unwritten : List Action) (h : Held) (d : DraftParts) (state : State) (due : Option Due) → IsReady u.content unwritten h d state due → IsRecorded u.content unwritten (turn_with h state d) →
     IfSome due (IsLed u)
-led_of again u unwritten h new d state None is recorded = tt
-led_of again u unwritten h new d state (Some due) is recorded = record {
+led_of again u unwritten h d state None is recorded = tt
+led_of again u unwritten h d state (Some due) is recorded = record {
   state = stored_of (whiten h);
-  leads = leads_to again u.content unwritten h new d state due is.1 recorded;
+  leads = leads_to again u.content unwritten h d state due is.1 recorded;
   values = is.1.values ∙ values_behind h;
 }
 
-pub behind_of : ReadsAgain → (u : Standing) (unwritten : List Action) (h new : Held) (d : DraftParts) (state : State) (due : Option Due) → IsReady u.content unwritten h new d state due → IsRecorded u.content unwritten (turn_with h state d) →
+pub behind_of : ReadsAgain → (u : Standing) (unwritten : List Action) (h : Held) (d : DraftParts) (state : State) (due : Option Due) → IsReady u.content unwritten h d state due → IsRecorded u.content unwritten (turn_with h state d) →
     IsBehind u due (committed unwritten (turn_with h state d) u)
-behind_of again u unwritten h new d state None is recorded = tt
-behind_of again u unwritten h new d state (Some due) is recorded =
-    (stored_of (whiten h), leads_to again u.content unwritten h new d state due is.1 recorded, ap (λ (bytes : List ℕ). led u bytes (stored_of (whiten h))) (sym is.1.body))
+behind_of again u unwritten h d state None is recorded = tt
+behind_of again u unwritten h d state (Some due) is recorded =
+    (stored_of (whiten h), leads_to again u.content unwritten h d state due is.1 recorded, ap (λ (bytes : List ℕ). led u bytes (stored_of (whiten h))) (sym is.1.body))
 
-pub whether_of : (s : Stored) (unwritten : List Action) (h new : Held) (d : DraftParts) (state : State) (due : Option Due) (A B : Type 0) → IsReady s unwritten h new d state due → WhetherDue due A B → Whether (commits s (turn_with h state d)) A B
-whether_of s unwritten h new d state None A B is b = subst (λ x. Whether x A B) (sym is.0) b
-whether_of s unwritten h new d state (Some due) A B is a = subst (λ x. Whether x A B) (sym is.0) a
-
-pub core_of : (s : Stored) (unwritten : List Action) (h new : Held) (d : DraftParts) (state : State) (due : Option Due) → IsReady s unwritten h new d state due →
-    new ≡ (if commits s (turn_with h state d) then whiten h else h)
-core_of s unwritten h new d state None is = is.1 ∙ ap (λ b. if b then whiten h else h) (sym is.0)
-core_of s unwritten h new d state (Some due) is = is.1.whitened ∙ ap (λ b. if b then whiten h else h) (sym is.0)
+pub whether_of : (s : Stored) (unwritten : List Action) (h : Held) (d : DraftParts) (state : State) (due : Option Due) (A B : Type 0) → IsReady s unwritten h d state due → WhetherDue due A B → Whether (commits s (turn_with h state d)) A B
+whether_of s unwritten h d state None A B is b = subst (λ x. Whether x A B) (sym is) b
+whether_of s unwritten h d state (Some due) A B is a = subst (λ x. Whether x A B) (sym is.0) a
 
 -- ---- outputs behind a call
 
@@ -91,11 +85,6 @@ module _ {D : Type 0} (view : D → DiskView) where
   paired_writes k u v d (Ok store) o same is = (is, same)
   paired_writes k u v d (Err (Lost disk)) o same is = is
   paired_writes k u v d (Err (NoMemory disk)) o same is = is
-
-  pub paired_moments : (P : Image → Type 0) (old : DiskView) (r : Result (Kept D) (CommitErr D)) (o : Outputs) → EachMoment view (λ s. s.disk) P old r → EachMoment view (λ done. done.0.disk) P old (paired r o)
-  paired_moments P old (Ok store) o is = is
-  paired_moments P old (Err (Lost disk)) o is = is
-  paired_moments P old (Err (NoMemory disk)) o is = is
 
 pub paired_keeps : {D : Type 0} (k : Kept D) (d : DraftParts) (r : Result (Kept D) (CommitErr D)) (o : Outputs) → o ≡ outputs_of false d → KeepsMarks k d.known r → Keeps k d (paired r o)
 paired_keeps k d (Ok store) o same is = (is, same)
@@ -122,8 +111,3 @@ module _ {D : Type 0} (view : D → DiskView) (k : Kept D) (is_view : IsView (vi
 
   pub refused_moments : (T : Type 0) (disk_in : T → D) (v : Standing) → EachMoment {T = T} view disk_in (IsEither k.id u v) (view k.disk) (Err (NoMemory k.disk))
   refused_moments T disk_in v = unmoved (view k.disk) (IsEither k.id u v) is_view (λ c left. inl (stands_at_rest k.id (view k.disk) u c rest stands left))
-
--- a fact, where there is a value
-pub OnOk_from : {T E : Type 0} (r : Result T E) {P : Type 0} → P → OnOk r P
-OnOk_from (Ok x) p = p
-OnOk_from (Err e) p = tt

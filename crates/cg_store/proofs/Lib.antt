@@ -5,9 +5,7 @@ mod Committing
 mod Rebuilding
 mod Replaying
 mod Outcome
-mod Following
 mod Chosen
 mod Appending
-mod Ending
 mod Checkpointing
 mod Opened

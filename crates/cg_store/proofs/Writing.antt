@@ -1,5 +1,5 @@
 -- What the calls of the journal make of what the disk stands for.
-use Rattle.std.proofs.Common.{◌≡◌, inl, inr, ⊎_elim, ℕ, ◌+◌, ◌≤◌, List, Bool, true, false, Option, Some, None, IfSome, refl, sym, ◌∙◌, ap, subst, arith}
+use Rattle.std.proofs.Common.{◌≡◌, inl, inr, ⊎_elim, ℕ, ◌+◌, ◌≤◌, List, Bool, true, false, Option, Some, IfSome, refl, sym, ◌∙◌, ap, subst, arith}
 use Rattle.std.specs.Prelude.{if◌then◌else◌}
 use Rattle.cg_disk.specs.Sides.{Image}
 use Rattle.cg_disk.specs.State.{left_by}
@@ -14,10 +14,6 @@ use Rattle.cg_store.specs.Answers.{IsReached, IsRefused, IsCutShort, IsLost}
 use Rattle.cg_store.specs.Calls.{IsEither}
 
 -- ---- one state
-
-pub one_standing : (found : Option Standing) (u v : Standing) → found ≡ Some u → found ≡ Some v → u ≡ v
-one_standing None u v a b = cc
-one_standing (Some w) u v a b = cc
 
 either_way : (b : Bool) (id : ℕ) (r before after : Option Records) (u v : Standing) → r ≡ (if b then after else before) → stands_for id before ≡ Some u → stands_for id after ≡ Some v →
     stands_for id r ≡ Some (if b then v else u)
@@ -96,13 +92,6 @@ pub refused : (id calls most : ℕ) (u : Standing) (r : Option Records) (old new
 refused id calls most u r old new rest time le unstruck is stands = record { stands = ap (stands_for id) is ∙ stands; rest = rest; time = omega (arith, time, le); unstruck = unstruck }
 
 -- ---- moments
-
-pub weakened : (old new : DiskView) (P Q : Image → Type 0) → LeavesOnly old new P → ((c : Image) → P c → Q c) → LeavesOnly old new Q
-weakened old new P Q run weaker = record {
-  later = run.later;
-  each = λ c left. weaker c (run.each c left);
-  before = λ t c le left. ⊎_elim (λ past. inl past) (λ p. inr (weaker c p)) (run.before t c le left);
-}
 
 -- no call was made
 pub unmoved : (d : DiskView) (P : Image → Type 0) → IsView d → ((c : Image) → d.may_leave c → P c) → LeavesOnly d d P

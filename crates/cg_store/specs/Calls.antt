@@ -1,5 +1,5 @@
 -- What each call of a store answers.
-use Rattle.std.specs.Prelude.{◌≡◌, ◌⊎◌, ℕ, nat_lt, Bool, true, false, ◌&&◌, List, [], ◌++◌, Some, Result, Ok, Err}
+use Rattle.std.specs.Prelude.{◌≡◌, ◌⊎◌, ℕ, nat_lt, Bool, true, false, List, [], ◌++◌, Some, Result, Ok, Err}
 use Rattle.cg_action.specs.declared.action.Action.{Action}
 use Rattle.cg_disk.specs.Sides.{Image}
 use Rattle.cg_disk.specs.View.{DiskView}
@@ -86,7 +86,7 @@ abbrev pub paired : {S F : Type 0} → Result S F → Outputs → Result (S × O
 paired (Ok store) outputs = Ok (store, outputs)
 paired (Err fault) outputs = Err fault
 
--- a commit that left its side too long was followed by a checkpoint
+-- an event's commit left its side too long, and a checkpoint followed
 abbrev pub EndsLong : {D : Type 0} → (D → DiskView) → Kept D → Standing → Standing → Standing → DraftParts → Result (Kept D × Outputs) (CommitErr D) → Type 0
 EndsLong view old before after moved d (Ok done) =
     IsReached old.id 10 moved (view old.disk) (view done.0.disk) × (done.0.id ≡ old.id) × (done.0.unwritten ≡ []) × (done.1 ≡ outputs_of true d)
@@ -104,13 +104,6 @@ EndsWritten view old before after d result =
 -- an image stands for one of three
 abbrev pub IsOneOfThree : ℕ → Standing → Standing → Standing → Image → Type 0
 IsOneOfThree id u v w c = Stands id c u ⊎ (Stands id c v ⊎ Stands id c w)
-
--- a checkpoint follows, where it has to; else this is all
-abbrev pub FollowsUp : {D : Type 0} → (D → DiskView) → Kept D → Standing → Outputs → Result (Kept D × Outputs) (CommitErr D) → Type 0
-FollowsUp {D} view store u outputs result =
-    Whether (outputs.written && nat_lt size_limit u.size)
-    ((r : Result (Kept D) (CommitErr D)) × Moves view store u (checkpointed u) r × (result ≡ paired r outputs))
-    (result ≡ Ok (store, outputs))
 
 -- what ended a call of the journal ends the store's call
 abbrev pub commit_fault : {D : Type 0} → AppendErr D → CommitErr D

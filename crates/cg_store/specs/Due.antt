@@ -6,7 +6,7 @@ use Rattle.cg_records.specs.Same.{same_prim, same_record, same_yellow}
 use Rattle.cg_records.specs.declared.stable.Stable.{Stable}
 use Rattle.cg_client.specs.Replica.{Held, State}
 use Rattle.cg_client.specs.declared.parts.DraftParts.{DraftParts}
-use Rattle.cg_stored.specs.Stored.{Stored, stable_of, whiten}
+use Rattle.cg_stored.specs.Stored.{Stored, stable_of}
 use Rattle.cg_stored.specs.Change.{spelled_change, change_with}
 use Rattle.cg_stored.specs.Limits.{IsChange}
 use Rattle.cg_step.specs.Commit.{commits}
@@ -23,22 +23,21 @@ abbrev pub is_due : Stable → Stable → DraftParts → Bool
 is_due old new d = d.marked_own || not (is_nil d.green) || not (is_nil d.made) || not (same_stable old new)
 
 -- the record of the event, and the values in it
-pub record IsRecord (unwritten : List Action) (h new : Held) (d : DraftParts) (due : Due) : Type 0 where
+pub record IsRecord (unwritten : List Action) (h : Held) (d : DraftParts) (due : Due) : Type 0 where
   pub values : due.values ≡ stable_of h
   pub body : due.body ≡ spelled_change (change_with (stable_of h) (unwritten ++ d.known) d.green d.made)
   pub within : IsChange (change_with (stable_of h) (unwritten ++ d.known) d.green d.made)
   pub short : length due.body < 2 ^ 32
-  pub whitened : new ≡ whiten h
 
 -- all that an event writes was made ready, where it is to be written
-abbrev pub IsPrepared : Stable → List Action → Held → Held → DraftParts → Option Due → Type 0
-IsPrepared values unwritten h new d None = (is_due values (stable_of h) d ≡ false) × (new ≡ h)
-IsPrepared values unwritten h new d (Some due) = (is_due values (stable_of h) d ≡ true) × IsRecord unwritten h new d due
+abbrev pub IsPrepared : Stable → List Action → Held → DraftParts → Option Due → Type 0
+IsPrepared values unwritten h d None = is_due values (stable_of h) d ≡ false
+IsPrepared values unwritten h d (Some due) = (is_due values (stable_of h) d ≡ true) × IsRecord unwritten h d due
 
 -- the same, seen from what stands on the disk
-abbrev pub IsReady : Stored → List Action → Held → Held → DraftParts → State → Option Due → Type 0
-IsReady s unwritten h new d state None = (commits s (turn_with h state d) ≡ false) × (new ≡ h)
-IsReady s unwritten h new d state (Some due) = (commits s (turn_with h state d) ≡ true) × IsRecord unwritten h new d due
+abbrev pub IsReady : Stored → List Action → Held → DraftParts → State → Option Due → Type 0
+IsReady s unwritten h d state None = commits s (turn_with h state d) ≡ false
+IsReady s unwritten h d state (Some due) = (commits s (turn_with h state d) ≡ true) × IsRecord unwritten h d due
 
 -- the record leads from what the disk stands for to a state with these values
 pub record IsLed (u : Standing) (due : Due) : Type 0 where

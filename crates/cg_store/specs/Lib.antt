@@ -6,3 +6,5 @@ pub mod Calls
 pub mod Rebuilt
 pub mod Opening
 pub mod Defined
+pub mod MomentLaws
+pub mod EndingLaws

@@ -4,7 +4,6 @@ ghost use Rattle.cg_records.specs.Limits.{Each};
 ghost use Rattle.cg_store.specs.Due.{IsPrepared};
 
 use crate::records::change_record;
-use crate::replay::raise_white;
 use crate::values::is_due;
 use cg_action::Action;
 use cg_base::{Bytes, NoMemory, Row};
@@ -19,23 +18,22 @@ pub(crate) struct Due {
     pub(crate) values: Stable,
 }
 
-/// The record of an event, where it is due, given the values that stand on the disk; the white count is raised then.
+/// The record of an event, where it is due, given the values that stand on the disk.
 pub(crate) fn prepare(
     alloc: Global,
     values: &Stable,
     unwritten: &[Action],
-    core: &mut Core,
+    core: &Core,
     draft: &Draft,
 ) -> Result<Option<Due>, NoMemory>
     requires { Each IsAction unwritten.now }
-    ensures { IfOk result (λ due. IsPrepared values.now unwritten.now core.old core.new draft.now due) }
+    ensures { IfOk result (λ due. IsPrepared values.now unwritten.now core.now draft.now due) }
 {
     let stable = core.stable()?;
     if !is_due(values, &stable, draft) {
         return Ok(None);
     }
     let body = change_record(alloc, &stable, unwritten, draft)?;
-    raise_white(core)?;
     Ok(Some(Due {
         body: Row::from_vec(body),
         values: stable,

@@ -170,12 +170,17 @@ fn put_values(core: &mut Core, stable: &Stable) -> Result<bool, NoMemory>
     Ok(true)
 }
 
-/// The white count rises, and the actions up to it are discarded.
+// The white count rises, and the actions up to it are discarded.
 #[tactic(auto, unfolding(cg_stored::specs::Stored::whiten))]
-pub(crate) fn raise_white(core: &mut Core) -> Result<(), NoMemory>
+fn raise_white(core: &mut Core) -> Result<(), NoMemory>
     ensures { OnOk result (core.new ≡ whiten core.old) }
 {
-    core.whiten()
+    // no line is above the greens, since what stands on a disk holds
+    if !core.is_line_green() {
+        return Err(NoMemory);
+    }
+    core.whiten();
+    Ok(())
 }
 
 fn values_fit(core: &Core, stable: &Stable) -> bool

@@ -100,7 +100,7 @@ fn paired<D: Disk>(
 }
 
 impl<D: Disk> Store<D> {
-    ghost use Rattle.std.specs.Prelude.{IfOk, OnOk, IfSome, Some, true, ◌&&◌, length, ℕ, if◌then◌else◌};
+    ghost use Rattle.std.specs.Prelude.{IfOk, OnOk, IfSome, Some, length, ℕ};
     ghost use Rattle.cg_action.specs.Limits.{IsAction};
     ghost use Rattle.cg_disk.specs.Calls.{Begins as DiskBegins};
     ghost use Rattle.cg_journal.specs.Records.{records};
@@ -108,7 +108,7 @@ impl<D: Disk> Store<D> {
     ghost use Rattle.cg_stored.specs.Limits.{IsStored};
     ghost use Rattle.cg_records.specs.Limits.{Each, IsNumber};
     ghost use Rattle.cg_step.specs.Commit.{commits};
-    ghost use Rattle.cg_stored.specs.Stored.{Stored, stored_of, stable_of, whiten};
+    ghost use Rattle.cg_stored.specs.Stored.{Stored, stored_of};
     ghost use Rattle.cg_stored.specs.Change.{IsRecorded};
     ghost use Rattle.cg_stored.specs.Checkpoint.{Agrees, size_limit, spelled_checkpoint};
     ghost use Rattle.cg_stored.specs.Parts.{checkpoint_in};
@@ -117,29 +117,26 @@ impl<D: Disk> Store<D> {
     ghost use Rattle.cg_store.specs.Due.{IsReady, IsLed, IsBehind, WhetherDue};
     ghost use Rattle.cg_disk.specs.View.{IsAtRest};
     ghost use Rattle.cg_store.specs.Opening.{Resumes, OpensStore};
-    ghost use Rattle.cg_store.specs.Calls.{Whether, Creates, Writes, Commits, KeepsMarks, Keeps, Moves, EndsWritten, FollowsUp, IsEither, IsOneOfThree, IsSaved, IsFirst, Begins};
+    ghost use Rattle.cg_store.specs.Calls.{Whether, Creates, Writes, Commits, KeepsMarks, Keeps, Moves, IsEither, IsSaved, IsFirst, Begins};
 
-    /// Ends an event: what it changes of what stands on the disk is written in four device calls, and the core's white
-    /// count is raised. Where nothing of it is to be written no call is made, and its red marks are kept for the next
-    /// record. After an error the core is to be let go.
-    pub fn commit(self, core: &mut Core, draft: Draft) -> Result<(Store<D>, Outputs), CommitErr<D>>
+    /// Ends an event: what it changes of what stands on the disk is written in four device calls, with the white count
+    /// risen; the core's own is to rise behind it. Where nothing of it is to be written no call is made, and its red marks
+    /// are kept for the next record.
+    pub fn commit(self, core: &Core, draft: Draft) -> Result<(Store<D>, Outputs), CommitErr<D>>
         requires calls { (D.view self.disk).time + 4 ≤ 2 ^ 62 }
 
         // The event's record leads from what the disk stands for to what the commit leaves.
-        requires recorded { (u : Standing) (state : State) → Stands self.id (D.view self.disk).reads u → IsRecorded u.content self.unwritten (turn_with core.old state draft) }
+        requires recorded { (u : Standing) (state : State) → Stands self.id (D.view self.disk).reads u → IsRecorded u.content self.unwritten (turn_with core.now state draft) }
 
         ensures ends { (u : Standing) (state : State) → Stands self.id (D.view self.disk).reads u →
-            (let t = turn_with core.old state draft in
+            (let t = turn_with core.now state draft in
             Whether (commits u.content t) (Commits D.view self u (committed self.unwritten t u) draft result) (Keeps self draft result)) }
-
-        ensures core { (u : Standing) (state : State) → Stands self.id (D.view self.disk).reads u →
-            OnOk result (core.new ≡ (if commits u.content (turn_with core.old state draft) then whiten core.old else core.old)) }
 
         ensures time { IfOk result (λ done. (D.view done.0.disk).time ≤ (D.view self.disk).time + 4) }
 
         // At each moment every image stands for the state before, or for the one behind the commit.
         ensures moments { (u : Standing) (state : State) → Stands self.id (D.view self.disk).reads u →
-            EachMoment D.view (λ done. done.0.disk) (IsEither self.id u (committed self.unwritten (turn_with core.old state draft) u)) (D.view self.disk) result }
+            EachMoment D.view (λ done. done.0.disk) (IsEither self.id u (committed self.unwritten (turn_with core.now state draft) u)) (D.view self.disk) result }
     {
         changes_are_exact();
         let alloc = core.alloc();
@@ -152,74 +149,17 @@ impl<D: Disk> Store<D> {
         }
     }
 
-    /// Ends an event as a replica's step does: with its commit, where one is due, and behind a commit that leaves its side
-    /// too long with a checkpoint on the other side. After an error the core is to be let go.
-    pub fn end_event(
-        self,
-        core: &mut Core,
-        draft: Draft,
-    ) -> Result<(Store<D>, Outputs), CommitErr<D>>
-        requires calls { (D.view self.disk).time + 10 ≤ 2 ^ 62 }
-        requires recorded { (u : Standing) (state : State) → Stands self.id (D.view self.disk).reads u → IsRecorded u.content self.unwritten (turn_with core.old state draft) }
-
-        // What a commit leaves has a checkpoint.
-        requires agrees { Agrees (stored_of (whiten core.old)) }
-
-        ensures ends { (u : Standing) (state : State) → Stands self.id (D.view self.disk).reads u →
-            (let t = turn_with core.old state draft in
-            Whether (commits u.content t) (EndsWritten D.view self u (committed self.unwritten t u) draft result) (Keeps self draft result)) }
-
-        ensures core { (u : Standing) (state : State) → Stands self.id (D.view self.disk).reads u →
-            OnOk result (core.new ≡ (if commits u.content (turn_with core.old state draft) then whiten core.old else core.old)) }
-
-        // At each moment every image stands for the state before, or for the one behind the commit.
-        ensures moments { (u : Standing) (state : State) → Stands self.id (D.view self.disk).reads u →
-            (let v = committed self.unwritten (turn_with core.old state draft) u in
-            EachMoment D.view (λ done. done.0.disk) (IsOneOfThree self.id u v (checkpointed v)) (D.view self.disk) result) }
-    {
-        // its clause says that the disk stands for a state
-        let _id = self.id();
-        match self.commit(core, draft) {
-            Ok((store, outputs)) => store.follow_up(core, outputs),
-            Err(fault) => Err(fault),
-        }
-    }
-
-    // The checkpoint behind an event that was written and left its side too long.
-    fn follow_up(self, core: &Core, outputs: Outputs) -> Result<(Store<D>, Outputs), CommitErr<D>>
-        requires calls { (D.view self.disk).time + 6 ≤ 2 ^ 62 }
-        requires held { (u : Standing) → Stands self.id (D.view self.disk).reads u → outputs.written ≡ true → stored_of core.now ≡ u.content }
-        requires agrees { outputs.written ≡ true → Agrees (stored_of core.now) }
-        ensures ends { (u : Standing) → Stands self.id (D.view self.disk).reads u → FollowsUp D.view self u outputs result }
-        ensures moments { (u : Standing) → Stands self.id (D.view self.disk).reads u →
-            EachMoment D.view (λ done. done.0.disk) (IsEither self.id u (checkpointed u)) (D.view self.disk) result }
-    {
-        // its clauses say that the disk stands for a state, and is at rest
-        let _id = self.id();
-        if self.is_to_follow(&outputs) {
-            paired(self.checkpoint(core), outputs)
-        } else {
-            Ok((self, outputs))
-        }
-    }
-
-    fn is_to_follow(&self, outputs: &Outputs) -> bool
-        ensures { (u : Standing) → Stands self.now.id (D.view self.now.disk).reads u → result ≡ (outputs.now.written && nat_lt size_limit u.size) }
-    {
-        outputs.written && self.is_long()
-    }
-
     // All that an event needs before its first device call.
     fn ready(
         &self,
         alloc: Global,
-        core: &mut Core,
+        core: &Core,
         draft: &Draft,
     ) -> Result<(Row<Letter>, Option<Due>), NoMemory>
         ensures letters { IfOk result (λ r. r.0 ≡ draft.now.sent) }
         ensures short { IfOk result (λ r. IfSome r.1 (λ x. length x.body < 2 ^ 32)) }
         ensures due { IfOk result (λ r. (u : Standing) (state : State) → Stands self.now.id (D.view self.now.disk).reads u →
-            IsReady u.content self.now.unwritten core.old core.new draft.now state r.1) }
+            IsReady u.content self.now.unwritten core.now draft.now state r.1) }
     {
         let letters = seal_all(alloc, draft.sent().as_slice())?;
         let unwritten = self.unwritten.as_slice();

@@ -8,12 +8,12 @@ use Rattle.cg_store.specs.declared.outputs.Outputs.{Outputs}
 use Rattle.cg_store.specs.Answers.{EachMoment}
 use Rattle.cg_store.specs.Calls.{Whether, Commits, Keeps, IsEither}
 use Rattle.cg_store.specs.declared.errors.CommitErr.TheVariants.{NoMemory}
-use Rattle.cg_store.proofs.Committing.{led_of, behind_of, whether_of, core_of, refused_ends, refused_moments, OnOk_from}
+use Rattle.cg_store.proofs.Committing.{led_of, behind_of, whether_of, refused_ends, refused_moments}
 use Rattle.cg_store.proofs.store.Store.commit.Goals as goal
 
 pub finish-requires-clause-leads : goal.finish-requires-clause-leads
 finish-requires-clause-leads g c = λ u stands.
-    led_of c.changes_are_exact.ensures.again u c.args.self.unwritten c.args.core.now c.ready.new.core c.args.draft Left c.in-Ok.due (c.in-Ok.ensures.due u Left stands) (c.requires.recorded u Left stands)
+    led_of c.changes_are_exact.ensures.again u c.args.self.unwritten c.args.core.now c.args.draft Left c.in-Ok.due (c.in-Ok.ensures.due u Left stands) (c.requires.recorded u Left stands)
 
 pub returns-in-Ok-clause-ends : goal.returns-in-Ok-clause-ends
 returns-in-Ok-clause-ends g c = λ u state stands.
@@ -22,14 +22,10 @@ returns-in-Ok-clause-ends g c = λ u state stands.
     let d = c.args.draft in
     let v = committed self.unwritten (turn_with c.args.core.now state d) u in
     let ready = c.in-Ok.ensures.due u state stands in
-    let behind = behind_of c.changes_are_exact.ensures.again u self.unwritten c.args.core.now c.ready.new.core d state c.in-Ok.due ready (c.requires.recorded u state stands) in
+    let behind = behind_of c.changes_are_exact.ensures.again u self.unwritten c.args.core.now d state c.in-Ok.due ready (c.requires.recorded u state stands) in
     let parts = c.into_parts.result in
     subst (λ x. Whether (commits u.content (turn_with c.args.core.now state d)) (Commits view self u v x c.finish.result) (Keeps self x c.finish.result)) c.into_parts.ensures.value
-    (whether_of u.content self.unwritten c.args.core.now c.ready.new.core d state c.in-Ok.due (Commits view self u v parts c.finish.result) (Keeps self parts c.finish.result) ready (c.finish.ensures.ends u v stands behind))
-
-pub returns-in-Ok-clause-core : goal.returns-in-Ok-clause-core
-returns-in-Ok-clause-core g c = λ u state stands.
-    OnOk_from c.finish.result (core_of u.content c.args.self.unwritten c.args.core.now c.ready.new.core c.args.draft state c.in-Ok.due (c.in-Ok.ensures.due u state stands))
+    (whether_of u.content self.unwritten c.args.core.now d state c.in-Ok.due (Commits view self u v parts c.finish.result) (Keeps self parts c.finish.result) ready (c.finish.ensures.ends u v stands behind))
 
 pub returns-in-Ok-clause-moments : goal.returns-in-Ok-clause-moments
 returns-in-Ok-clause-moments g c = λ u state stands.
@@ -37,7 +33,7 @@ returns-in-Ok-clause-moments g c = λ u state stands.
     let d = c.args.draft in
     let v = committed self.unwritten (turn_with c.args.core.now state d) u in
     let ready = c.in-Ok.ensures.due u state stands in
-    let behind = behind_of c.changes_are_exact.ensures.again u self.unwritten c.args.core.now c.ready.new.core d state c.in-Ok.due ready (c.requires.recorded u state stands) in
+    let behind = behind_of c.changes_are_exact.ensures.again u self.unwritten c.args.core.now d state c.in-Ok.due ready (c.requires.recorded u state stands) in
     c.finish.ensures.moments u v stands behind
 
 pub returns-in-Err-clause-ends : goal.returns-in-Err-clause-ends

@@ -3,7 +3,8 @@ use Rattle.cg_store.specs.Kept.{Kept}
 use Rattle.cg_store.specs.Answers.{EachMoment}
 use Rattle.cg_store.specs.Due.{IsLed, IsBehind, WhetherDue}
 use Rattle.cg_store.specs.Calls.{Commits, Keeps, IsEither}
-use Rattle.cg_store.proofs.Committing.{paired_writes, paired_moments}
+use Rattle.cg_store.specs.EndingLaws.{paired_moments}
+use Rattle.cg_store.proofs.Committing.{paired_writes}
 use Rattle.cg_store.proofs.store.Store.finish.Goals as goal
 
 pub write-requires-clause-leads : goal.write-requires-clause-leads

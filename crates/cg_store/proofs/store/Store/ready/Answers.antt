@@ -13,11 +13,10 @@ returns-clause-due g c =
     let held = c.self.invariant in
     let old = g.D.Disk.view s.journal in
     let h = c.args.core.now in
-    let new = c.prepare.new.core in
     let d = c.args.draft.now in
     let due = c.in_ok-due.due in
-    let prepared = subst (λ l. IsPrepared s.values l h new d due) c.as_slice-unwritten.ensures.value c.in_ok-due.ensures in
-    subst (λ k. (u : Standing) (state : State) → Stands k.id (g.D.Disk.view k.disk).reads u → IsReady u.content k.unwritten h new d state due) c.self.view_is
+    let prepared = subst (λ l. IsPrepared s.values l h d due) c.as_slice-unwritten.ensures.value c.in_ok-due.ensures in
+    subst (λ k. (u : Standing) (state : State) → Stands k.id (g.D.Disk.view k.disk).reads u → IsReady u.content k.unwritten h d state due) c.self.view_is
     (λ u state stands.
     let content = its_content old s.id s.side s.generation s.values held u stands in
-    ready_of s.values u.content s.unwritten h new d state due (held.values_are ∙ ap stable_of (sym content)) prepared)
+    ready_of s.values u.content s.unwritten h d state due (held.values_are ∙ ap stable_of (sym content)) prepared)

@@ -1,0 +1,11 @@
+use cg_client::Request;
+use cg_group::DeliveryList;
+
+/// What comes to a replica in one event.
+#[derive(Drop)]
+pub enum Input {
+    /// What the group hands over, in order. Of bytes that spell no message nothing comes.
+    Deliver(DeliveryList),
+    /// What a client asks for.
+    Request(Request),
+}

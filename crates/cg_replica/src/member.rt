@@ -1,0 +1,182 @@
+//! A replica in whichever state it is: the next state is made of what a step hands on.
+ghost use Rattle.std.specs.Prelude.{◌≡◌, IfOk};
+ghost use Rattle.cg_action.specs.Limits.{IsKind};
+ghost use Rattle.cg_client.specs.declared.parts.DraftParts.{DraftParts};
+ghost use Rattle.cg_client.specs.Queries.{state_name};
+ghost use Rattle.cg_client.specs.Replica.{State};
+ghost use Rattle.cg_client.specs.Requests.{kind_of, request, settle};
+ghost use Rattle.cg_client.specs.Summary.{enter_exchange};
+ghost use Rattle.cg_client.specs.Drafts.{turn_with};
+ghost use Rattle.cg_client.specs.Whitening.{IsLineGreen};
+ghost use Rattle.cg_prim.specs.Steps.{turn_after as behind_prim};
+ghost use Rattle.cg_exchange.specs.Steps.{turn_after as behind_exchange, HasRecord};
+ghost use Rattle.cg_construct.specs.Steps.{turn_after as behind_construct, HasLimits};
+ghost use Rattle.cg_step.specs.Hearing.{hear_delivery};
+ghost use Rattle.cg_replica.specs.Seen.{seen, turn_of, white_in};
+
+use crate::attempt::InAttempt;
+use crate::outside::Outside;
+use crate::prim::InPrim;
+use crate::{attempt, outside, prim};
+use cg_base::{IdSet, NoMemory};
+use cg_client::{Core, Draft, Request};
+use cg_construct::{Construct, ConstructStep};
+use cg_exchange::{ExchangeStates, ExchangeStep};
+use cg_group::Delivery;
+use cg_prim::{PrimStep, RegPrim, TransPrim};
+use cg_report::StateName;
+
+#[derive(Drop)]
+pub(crate) enum Member {
+    Prim(InPrim),
+    Outside(Outside),
+    Attempt(InAttempt),
+    /// It has left: what it held then.
+    Left(Core),
+}
+
+fn enter(core: Core, draft: &mut Draft, conf: u64, set: IdSet) -> Result<Member, NoMemory>
+    ensures { IfOk result (λ m. (state : State) → turn_of (seen m) draft.new ≡ enter_exchange (turn_with core state draft.old) conf set) }
+{
+    let next = ExchangeStates::enter(core, draft, conf, set)?;
+    Ok(Member::Outside(Outside::States(next)))
+}
+
+fn after_prim(step: PrimStep, draft: &mut Draft) -> Result<Member, NoMemory>
+    ensures { IfOk result (λ m. turn_of (seen m) draft.new ≡ behind_prim step draft.old) }
+{
+    match step {
+        PrimStep::Reg(s) => Ok(Member::Prim(InPrim::Reg(s))),
+        PrimStep::Trans(s) => Ok(Member::Prim(InPrim::Trans(s))),
+        PrimStep::Exchange { core, conf, set } => enter(core, draft, conf, set),
+    }
+}
+
+fn after_exchange(step: ExchangeStep) -> Member
+    requires { HasRecord step }
+    ensures { (draft : DraftParts) → turn_of (seen result) draft ≡ behind_exchange step draft }
+{
+    match step {
+        ExchangeStep::Non(s) => Member::Outside(Outside::Non(s)),
+        ExchangeStep::States(s) => Member::Outside(Outside::States(s)),
+        ExchangeStep::Actions(s) => Member::Outside(Outside::Actions(s)),
+        ExchangeStep::Attempt { core, conf } => {
+            Member::Attempt(InAttempt::Construct(Construct::enter(core, conf)))
+        }
+        ExchangeStep::Gone(core) => Member::Left(core),
+    }
+}
+
+fn after_construct(step: ConstructStep, draft: &mut Draft) -> Result<Member, NoMemory>
+    requires { HasLimits step }
+    ensures { IfOk result (λ m. turn_of (seen m) draft.new ≡ behind_construct step draft.old) }
+{
+    match step {
+        ConstructStep::Construct(s) => Ok(Member::Attempt(InAttempt::Construct(s))),
+        ConstructStep::No(s) => Ok(Member::Attempt(InAttempt::No(s))),
+        ConstructStep::Un(s) => Ok(Member::Attempt(InAttempt::Un(s))),
+        ConstructStep::Installed(i) => Ok(Member::Prim(InPrim::Reg(RegPrim::enter(i)))),
+        ConstructStep::InstalledBy { installed, action } => {
+            let next = TransPrim::after(installed, draft, action)?;
+            Ok(Member::Prim(InPrim::Trans(next)))
+        }
+        ConstructStep::Exchange { core, conf, set } => enter(core, draft, conf, set),
+    }
+}
+
+/// One delivery. A replica that has left ignores it.
+pub(crate) fn hear(member: Member, draft: &mut Draft, d: &Delivery) -> Result<Member, NoMemory>
+    ensures { IfOk result (λ m. turn_of (seen m) draft.new ≡ hear_delivery (turn_of (seen member) draft.old) d.now) }
+{
+    match member {
+        Member::Prim(s) => {
+            let step = prim::hear(s, draft, d)?;
+            after_prim(step, draft)
+        }
+        Member::Outside(s) => {
+            let step = outside::hear(s, draft, d)?;
+            Ok(after_exchange(step))
+        }
+        Member::Attempt(s) => {
+            let step = attempt::hear(s, draft, d)?;
+            after_construct(step, draft)
+        }
+        Member::Left(core) => Ok(Member::Left(core)),
+    }
+}
+
+/// A request. A replica that has left ignores it.
+pub(crate) fn request(member: Member, draft: &mut Draft, r: Request) -> Result<Member, NoMemory>
+    requires { IsKind (kind_of r) }
+    ensures { IfOk result (λ m. turn_of (seen m) draft.new ≡ request (turn_of (seen member) draft.old) (kind_of r)) }
+{
+    match member {
+        Member::Prim(s) => {
+            let next = prim::request(s, draft, r)?;
+            Ok(Member::Prim(next))
+        }
+        Member::Outside(s) => {
+            let next = outside::request(s, draft, r)?;
+            Ok(Member::Outside(next))
+        }
+        Member::Attempt(s) => {
+            let next = attempt::request(s, r)?;
+            Ok(Member::Attempt(next))
+        }
+        Member::Left(core) => Ok(Member::Left(core)),
+    }
+}
+
+/// The event ends: the requests that are kept are created, in a state that creates.
+pub(crate) fn settle(member: Member, draft: &mut Draft) -> Result<Member, NoMemory>
+    ensures { IfOk result (λ m. turn_of (seen m) draft.new ≡ settle (turn_of (seen member) draft.old)) }
+{
+    match member {
+        Member::Prim(s) => {
+            let next = prim::settle(s, draft)?;
+            Ok(Member::Prim(next))
+        }
+        Member::Outside(s) => {
+            let next = outside::settle(s, draft)?;
+            Ok(Member::Outside(next))
+        }
+        Member::Attempt(s) => Ok(Member::Attempt(s)),
+        Member::Left(core) => Ok(Member::Left(core)),
+    }
+}
+
+/// The white count rises to the white line. It takes no memory.
+pub(crate) fn whiten(member: &mut Member)
+    requires { IsLineGreen (seen member.old).held }
+    ensures { seen member.new ≡ white_in (seen member.old) }
+{
+    match member {
+        Member::Prim(s) => prim::whiten(s),
+        Member::Outside(s) => outside::whiten(s),
+        Member::Attempt(s) => attempt::whiten(s),
+        Member::Left(core) => core.whiten(),
+    }
+}
+
+pub(crate) fn name_of(member: &Member) -> StateName
+    ensures { result ≡ state_name (seen member.now).state }
+{
+    match member {
+        Member::Prim(s) => prim::name_of(s),
+        Member::Outside(s) => outside::name_of(s),
+        Member::Attempt(s) => attempt::name_of(s),
+        Member::Left(_) => StateName::Left,
+    }
+}
+
+/// What it holds.
+pub(crate) fn core_of(member: &Member) -> &Core
+    ensures { result.now ≡ (seen member.now).held }
+{
+    match member {
+        Member::Prim(s) => prim::core_of(s),
+        Member::Outside(s) => outside::core_of(s),
+        Member::Attempt(s) => attempt::core_of(s),
+        Member::Left(core) => core,
+    }
+}
