@@ -64,7 +64,12 @@ impl Replies {
     }
 
     /// Replies to some of these names, the first of which has the place behind so many.
-    pub fn answer(&mut self, before: u64, ids: &[ActionId], replies: Row<Reply>) -> Result<(), NoMemory>
+    pub fn answer(
+        &mut self,
+        before: u64,
+        ids: &[ActionId],
+        replies: Row<Reply>,
+    ) -> Result<(), NoMemory>
         requires { before + length ids.now < 2 ^ 64 }
         ensures { OnOk result (self.new ≡ fold with_answered self.old (answered_from before ids.now replies)) }
     {
@@ -128,7 +133,7 @@ fn find_from(ids: &[ActionId], from: usize, id: &ActionId) -> usize
 }
 
 fn is_named(id: &ActionId, at: Option<&ActionId>) -> bool
-    ensures { result ≡ is_named id.now (option_copied at) }
+    ensures { result ≡ is_named id.now (option_copied at.entry) }
 {
     match at {
         Some(name) => name == id,

@@ -15,6 +15,6 @@ mod showing;
 pub use answered::Answered;
 pub use lines::Lines;
 pub use news::News;
-pub use phase::{up_line, shown_phase};
+pub use phase::{shown_phase, up_line};
 pub use same::same_line;
 pub use showing::Showing;

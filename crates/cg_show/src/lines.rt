@@ -1,4 +1,4 @@
-ghost use Rattle.std.specs.Prelude.{◌≡◌, ◌==◌, [], find, fold, IfOk, OnOk};
+ghost use Rattle.std.specs.Prelude.{◌≡◌, ◌==◌, [], find, fold, position, IfOk, OnOk};
 ghost use Rattle.std.specs.Option.{option_copied};
 ghost use Rattle.cg_agree.specs.Show.{is_news, with_printed};
 
@@ -66,12 +66,23 @@ impl Lines {
         ensures { OnOk result (self.new ≡ with_printed self.old new) }
     {
         let id = new.id;
-        match self.list.as_slice().iter().position(|old| old.id == id) {
-            Some(place) => self.list[place] = new,
-            None => self.list.push(new)?,
+        match place_of(self.list.as_slice(), id) {
+            Some(place) => {
+                self.list[place] = new;
+                Ok(())
+            }
+            None => {
+                self.list.push(new)?;
+                Ok(())
+            }
         }
-        Ok(())
     }
+}
+
+fn place_of(lines: &[Line], p: ReplicaId) -> Option<usize>
+    ensures { result ≡ position (λ l. l.id == p) lines.now }
+{
+    lines.iter().position(|line| line.id == p)
 }
 
 fn copy_line(alloc: Global, line: &Line) -> Result<Line, NoMemory>

@@ -12,7 +12,7 @@ pub fn shown_phase(phase: Phase) -> ShownPhase
     ensures { result ≡ shown_phase phase }
 {
     match phase {
-        Phase::Regular(conf) => ShownPhase::Regular(conf),
+        Phase::Regular { conf } => ShownPhase::Regular(conf),
         Phase::Transitional { conf, .. } => ShownPhase::Transitional(conf),
         _ => ShownPhase::Alone,
     }

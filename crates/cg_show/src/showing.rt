@@ -1,4 +1,5 @@
-ghost use Rattle.std.specs.Prelude.{◌≡◌, ◌++◌, ◌∷◌, [], map, fold, length, suc, ◌<◌, ◌^◌, IfOk, OnOk};
+ghost use Rattle.std.specs.Prelude.{◌≡◌, ◌++◌, ◌∷◌, [], List, map, fold, length, suc, IfOk, OnOk};
+ghost use Rattle.cg_base.specs.declared.action_id.ActionId.{ActionId as ActionName};
 ghost use Rattle.cg_base.specs.Cuts.{raise};
 ghost use Rattle.cg_queue.specs.Queue.{names_of};
 ghost use Rattle.cg_agree.specs.Show.{beyond, placed_from, made_of_action};
@@ -93,7 +94,7 @@ impl Showing {
 
 // Of names up to a place of the order those that it doesn't have yet.
 fn beyond(known: usize, green: &[ActionId], count: u64) -> &[ActionId]
-    ensures { (order : List ActionId) → length order ≡ known → result.now ≡ beyond order green.now count }
+    ensures { (order : List ActionName) → length order ≡ known → result.now ≡ beyond order green.now count }
 {
     let known = known as u64;
     if count <= known {
@@ -136,15 +137,16 @@ fn show_made(made: &mut Cut, shown: &mut Row<Made>, actions: ActionList) -> Resu
     ensures shown { OnOk result (shown.new ≡ shown.old ++ map made_of_action actions) }
 {
     for a in actions.into_vec() {
-        made.raise(a.id.creator, a.id.index);
-        shown.push(made_of(a))?;
+        show_one(made, shown, a)?;
     }
     Ok(())
 }
 
-fn made_of(a: Action) -> Made
-    ensures { result ≡ made_of_action a }
+fn show_one(made: &mut Cut, shown: &mut Row<Made>, a: Action) -> Result<(), NoMemory>
+    ensures made { OnOk result (made.new ≡ raise made.old a.id) }
+    ensures shown { OnOk result (shown.new ≡ shown.old ++ made_of_action a ∷ []) }
 {
     let Action { id, kind, .. } = a;
-    Made { id, kind }
+    made.raise(id.creator, id.index);
+    shown.push(Made { id, kind })
 }
