@@ -1,0 +1,142 @@
+ghost use Rattle.std.specs.Prelude.{◌≡◌, ◌+◌, ◌≤◌, ◌<◌, ◌^◌, [], map, fold, length, slice_get, IfOk, OnOk};
+ghost use Rattle.std.specs.List.{insert};
+ghost use Rattle.std.specs.Option.{option_copied};
+ghost use Rattle.cg_agree.specs.Show.{Answered, answered_from, with_answered};
+ghost use Rattle.cg_show.specs.Showing.{is_behind, is_named, FindsFrom};
+
+use cg_base::{ActionId, NoMemory, Row};
+use cg_report::Reply;
+use std::alloc::Global;
+use std::marker::Model;
+
+/// A reply, with the place of its action in the global order.
+#[derive(Drop)]
+pub struct Answered {
+    place: u64,
+    reply: Reply,
+}
+
+impl Model for Answered {
+    ghost use Rattle.cg_agree.specs.Show.{Answered};
+
+    ghost Value = { Answered };
+
+    ghost view = { λ r. record { place = r.place; reply = r.reply } };
+}
+
+/// Replies, ascending by place.
+#[derive(Drop)]
+pub struct Replies {
+    list: Vec<Answered>,
+}
+
+impl Model for Replies {
+    ghost use Rattle.std.specs.Prelude.{List};
+    ghost use Rattle.cg_agree.specs.Show.{Answered};
+    ghost use Rattle.cg_show.specs.Showing.{Ascend};
+
+    ghost Value = { List Answered };
+
+    ghost view = { λ r. r.list.items };
+
+    ghost invariant = { λ r. Ascend r.list.items };
+}
+
+impl Replies {
+    pub fn new(alloc: Global) -> Replies
+        ensures { result ≡ [] }
+    {
+        Replies {
+            list: Vec::new(alloc),
+        }
+    }
+
+    /// The replies alone, ascending by place.
+    pub fn into_replies(self) -> Result<Row<Reply>, NoMemory>
+        ensures { IfOk result (λ row. row ≡ map (λ r. r.reply) self) }
+    {
+        let Replies { list } = self;
+        let mut row = Row::new(*list.allocator());
+        for one in list {
+            row.push(one.reply)?;
+        }
+        Ok(row)
+    }
+
+    /// Replies to some of these names, the first of which has the place behind so many.
+    pub fn answer(
+        &mut self,
+        before: u64,
+        ids: &[ActionId],
+        replies: Row<Reply>,
+    ) -> Result<(), NoMemory>
+        requires { before + length ids.now < 2 ^ 64 }
+        ensures { OnOk result (self.new ≡ fold with_answered self.old (answered_from before ids.now replies)) }
+    {
+        let mut next = 0;
+        for reply in replies.into_vec() {
+            let at = find_from(ids, next, &reply.id);
+            if at < ids.len() {
+                let place = before + at as u64 + 1;
+                self.add(Answered { place, reply })?;
+                next = at + 1;
+            } else {
+                next = at;
+            }
+        }
+        Ok(())
+    }
+
+    // One more, behind those of earlier places.
+    fn add(&mut self, new: Answered) -> Result<(), NoMemory>
+        ensures { OnOk result (self.new ≡ with_answered self.old new) }
+    {
+        let at = self.count_up_to(new.place);
+        self.list.insert(at, new)?;
+        Ok(())
+    }
+
+    // How many have a place up to this one.
+    fn count_up_to(&self, place: u64) -> usize
+        ensures within { result ≤ length self.now }
+        ensures value { (new : Answered) → new.place ≡ place → with_answered self.now new ≡ insert self.now result new }
+    {
+        let mut at = self.list.len();
+        'back: while at > 0 && self.is_behind(at - 1, place) {
+            at -= 1;
+        }
+        at
+    }
+
+    // The reply there, counted from 0, is of a later place.
+    fn is_behind(&self, at: usize, place: u64) -> bool
+        ensures { result ≡ is_behind place (slice_get self.now at) }
+    {
+        match self.list.as_slice().get(at) {
+            Some(reply) => place < reply.place,
+            None => false,
+        }
+    }
+}
+
+// Where the name stands among those from a place on; the end, if it doesn't.
+fn find_from(ids: &[ActionId], from: usize, id: &ActionId) -> usize
+    requires { from ≤ length ids.now }
+    ensures within { result ≤ length ids.now }
+    ensures value { FindsFrom id.now ids.now from result }
+{
+    let mut at = from;
+    'names: while at < ids.len() && !is_named(id, ids.get(at)) {
+        at += 1;
+    }
+    at
+}
+
+fn is_named(id: &ActionId, at: Option<&ActionId>) -> bool
+    ensures { result ≡ is_named id.now (option_copied at.entry) }
+{
+    match at {
+        Some(name) => name == id,
+        None => false,
+    }
+}

@@ -1,0 +1,20 @@
+//! What a step shows, told replica by replica: the actions made, the places of the global order that were reached first, the
+//! replies by place, and the lines that differ from the last printed ones.
+//!
+//! The one contract: each call is its part of `cg_agree`'s definition of what a step shows. Which events there are, and what
+//! comes of them at a replica, is left to the layers around.
+#![tactic(auto)]
+
+mod answered;
+mod lines;
+mod news;
+mod phase;
+mod same;
+mod showing;
+
+pub use answered::Answered;
+pub use lines::Lines;
+pub use news::News;
+pub use phase::{shown_phase, up_line};
+pub use same::same_line;
+pub use showing::Showing;

@@ -1,0 +1,104 @@
+ghost use Rattle.std.specs.Prelude.{◌≡◌, ◌==◌, ◌&&◌, nat_lt, IfOk};
+ghost use Rattle.cg_agree.specs.Show.{news_of_recovery, unshown};
+
+use cg_action::{Action, ActionList};
+use cg_base::{Cut, IdList, NoMemory, ReplicaId, Row};
+use cg_client::Core;
+use cg_report::Reply;
+use std::marker::Model;
+
+/// What came of an event at a replica: the actions that are made, the names that became green at it, the number of its
+/// greens with these, and the replies that it gives, in the order of their actions.
+#[derive(Drop)]
+pub struct News {
+    made: ActionList,
+    green: IdList,
+    count: u64,
+    replies: Row<Reply>,
+}
+
+impl Model for News {
+    ghost use Rattle.cg_agree.specs.Show.{News};
+
+    ghost Value = { News };
+
+    ghost view = { λ n. record { made = n.made; green = n.green; count = n.count; replies = n.replies } };
+}
+
+/// What `News` holds.
+#[derive(Drop)]
+pub struct NewsParts {
+    pub made: ActionList,
+    pub green: IdList,
+    pub count: u64,
+    pub replies: Row<Reply>,
+}
+
+impl News {
+    pub fn new(made: ActionList, green: IdList, count: u64, replies: Row<Reply>) -> News
+        ensures { result ≡ record { made = made; green = green; count = count; replies = replies } }
+    {
+        News {
+            made,
+            green,
+            count,
+            replies,
+        }
+    }
+
+    /// Of a recovery: the replica's own red actions that weren't shown as made, and the names that its struck event had
+    /// newly made green.
+    pub fn of_recovery(made: &Cut, core: &Core, green: IdList) -> Result<News, NoMemory>
+        ensures { IfOk result (λ n. n ≡ news_of_recovery made.now core.now green) }
+    {
+        let alloc = core.alloc();
+        let unshown = unshown(made, core)?;
+        Ok(News {
+            made: unshown,
+            green,
+            count: core.green_count(),
+            replies: Row::new(alloc),
+        })
+    }
+
+    pub(crate) fn into_parts(self) -> NewsParts
+        ensures made { result.made ≡ self.made }
+        ensures green { result.green ≡ self.green }
+        ensures count { result.count ≡ self.count }
+        ensures replies { result.replies ≡ self.replies }
+    {
+        let News {
+            made,
+            green,
+            count,
+            replies,
+        } = self;
+        NewsParts {
+            made,
+            green,
+            count,
+            replies,
+        }
+    }
+}
+
+// The replica's own red actions that weren't shown as made.
+fn unshown(made: &Cut, core: &Core) -> Result<ActionList, NoMemory>
+    ensures { IfOk result (λ list. list ≡ unshown made.now core.now) }
+{
+    let own = core.id();
+    let shown = made.get(own);
+    let mut list = Row::new(core.alloc());
+    for a in core.reds()?.into_vec() {
+        if is_unshown(own, shown, &a) {
+            list.push(a)?;
+        }
+    }
+    Ok(list)
+}
+
+fn is_unshown(own: ReplicaId, shown: u64, a: &Action) -> bool
+    ensures { result ≡ ((a.now.id.creator == own) && nat_lt shown a.now.id.index) }
+{
+    a.id.creator == own && shown < a.id.index
+}
