@@ -24,7 +24,7 @@ use Rattle.cg_client.specs.Turn.{Turn, begin}
 use Rattle.cg_client.specs.Requests.{request_in}
 use Rattle.cg_stored.specs.Stored.{whiten}
 use Rattle.cg_step.specs.Step.{Input, Deliveries, Asks as AsksOf, replica_step}
-use Rattle.cg_step.specs.Crash.{Disk, FailOnce, StopWith, Strike, Runs, Crashes, whitened, end_event, crash_now, new_disk, recovered, disk_recovered}
+use Rattle.cg_step.specs.Crash.{Disk, FailOnce, StopWith, Strike, whitened, end_event, crash_now, new_disk, recovered, disk_recovered}
 use Rattle.cg_schedule.specs.declared.event.Event.{Event}
 use Rattle.cg_schedule.specs.declared.event.Event.TheVariants.{Start, Split, Merge, Request, Weak, Dirty, Order, Recover, Show, ShowOrder, Gather, End, Receive, Deliver, Rounds, Stop, Fail, Join, Leave, Transfer}
 use Rattle.cg_agree.specs.World.{Life, Up, Down, Seat, Snapshot, World, no_world, running, has_begun, seat_of, replica_of, bring_up}
@@ -32,7 +32,7 @@ use Rattle.cg_agree.specs.Admission.{first_refusal, takes_part, never_named, beg
 use Rattle.cg_agree.specs.Show.{ended}
 use Rattle.cg_agree.specs.Run.{MayStand}
 use Rattle.cg_agree.specs.Agreement.{may_move}
-use Rattle.cg_agree.specs.Step.{quietly, hand_out, ask, name_also, begin_replica, arm_at, arm, crash_at, recover_from, recover, joined, piece_count, snapshot_for, without_snapshot, with_pieces, take_pieces, transfer, happens, world_step}
+use Rattle.cg_agree.specs.Step.{quietly, hand_out, ask, name_also, begin_replica, arm_at, crash_at, recover_from, recover, joined, piece_count, snapshot_for, without_snapshot, with_pieces, take_pieces, transfer, happens, world_step}
 use Rattle.cg_agree.specs.Chronicle.{Chronicle}
 use Rattle.cg_agree.specs.Looks.{greens_of, stood_of, on_disk, disk_held}
 use Rattle.cg_agree.specs.FactsReplica.{IsCore, IsModeData}
@@ -51,7 +51,7 @@ use Rattle.cg_agree.proofs.UnorderedKept.{first-none}
 use Rattle.cg_agree.proofs.RestsBehind.{handed-ids, split-to}
 use Rattle.cg_agree.proofs.StepGreens.{step-follows, whitened-count}
 use Rattle.cg_agree.proofs.TurnWorlds.{life_at}
-use Rattle.cg_agree.proofs.WorldTurns.{IsBehind, TakesTurn, hand-behind, from-same, handed-behind}
+use Rattle.cg_agree.proofs.WorldTurns.{IsBehind, hand-behind, from-same, handed-behind}
 
 -- the greens of a replica, as it runs or as its disk has them; none of one that hasn't begun
 abbrev pub held_at : Life → Held
@@ -279,7 +279,7 @@ module _ (start : List Weighted) (w : World) (even : (p : ℕ) → SeatEven star
 -- ---- behind an event
 
 -- an admitted joiner hasn't begun
-unbegun : (w : World) (p joiner pieces : ℕ) → first_refusal w (Transfer p joiner pieces) ≡ None → has_begun w joiner ≡ false
+pub unbegun : (w : World) (p joiner pieces : ℕ) → first_refusal w (Transfer p joiner pieces) ≡ None → has_begun w joiner ≡ false
 unfolding first_refusal
 unbegun w p joiner pieces admitted =
     let first = first-none (takes_part w p) (never_named w joiner ∷ begun_already w joiner ∷ joiner_left w p joiner ∷ not_green w p joiner ∷ []) (ap is_none admitted) in
@@ -288,7 +288,7 @@ unbegun w p joiner pieces admitted =
     not-refused (has_begun w joiner) _ third.0
 
 module _ (c : Chronicle) (w : World) (stands : StandsBeside c w) where
-  even-at : (p : ℕ) → SeatEven c.start p (seat_of w p)
+  pub even-at : (p : ℕ) → SeatEven c.start p (seat_of w p)
   even-at p = at (seat_of w p) refl where
     life : (l : Life) → replica_of w p ≡ running l → disk_held w p ≡ Some (on_disk l) → LifeEven c.start p l
     life (Up r disk) runs has_disk =

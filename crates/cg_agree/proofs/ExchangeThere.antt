@@ -111,7 +111,7 @@ pub record IsNextItem (heard : List Summary) (n from : ℕ) (item : Item) : Type
   pub sender : sent.sender ≡ from
 
 -- an item that is due is the plan's next
-next-due : (heard : List Summary) (n from : ℕ) (item : Item) → is_wanted (next_item (progress heard n)) from item ≡ true → IsNextItem heard n from item
+pub next-due : (heard : List Summary) (n from : ℕ) (item : Item) → is_wanted (next_item (progress heard n)) from item ≡ true → IsNextItem heard n from item
 unfolding next_item
 next-due heard n from item wanted = at (slice_get (items_of_plan (plan_of heard)) n) refl wanted where
   at : (o : Option PlanSent) → slice_get (items_of_plan (plan_of heard)) n ≡ o → is_wanted o from item ≡ true → IsNextItem heard n from item

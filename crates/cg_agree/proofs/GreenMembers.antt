@@ -48,7 +48,7 @@ greens-behind m place (x ∷ xs) ys =
 
 -- ---- own actions become red
 
-redden-same : (t : Turn) (a : Action) → SameMembers t.replica.held (redden t a).replica.held
+pub redden-same : (t : Turn) (a : Action) → SameMembers t.replica.held (redden t a).replica.held
 redden-same t a =
     let q = t.replica.held.queue in
     let cut = index_in q.red_cut a.id.creator in

@@ -102,7 +102,7 @@ all-reds o heard (creator ∷ list) =
     Each-append (λ turn. IsTurnOf o turn turn.part) (reds_of heard creator) (flat_map (reds_of heard) list)
     (red-turns o creator (most_updated heard) (farthest heard creator) (least_reds heard creator)) (all-reds o heard list)
 
-plan-turns : (heard : List Summary) → Each (λ turn. IsTurnOf (most_updated heard) turn turn.part) (plan_of heard)
+pub plan-turns : (heard : List Summary) → Each (λ turn. IsTurnOf (most_updated heard) turn turn.part) (plan_of heard)
 unfolding plan_of
 plan-turns heard =
     Each-append (λ turn. IsTurnOf (most_updated heard) turn turn.part) (green_part (most_updated heard) (least_greens heard)) (flat_map (reds_of heard) (creators heard))
@@ -128,7 +128,7 @@ turn-found P (turn ∷ turns) me (suc n) part each e =
 
 -- ---- summaries that were told
 
-led : (P : Summary → Type 0) (heard : List Summary) (o : Option Summary) → IfSome o P → Each P heard → IfSome (fold leader o heard) P
+pub led : (P : Summary → Type 0) (heard : List Summary) (o : Option Summary) → IfSome o P → Each P heard → IfSome (fold leader o heard) P
 led P [] o first each = first
 led P (s ∷ heard) None first each = led P heard (Some s) each.0 each.1
 led P (s ∷ heard) (Some best) first each =

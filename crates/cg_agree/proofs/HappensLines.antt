@@ -1,5 +1,5 @@
 -- What an event does leaves the last printed lines; only the end of its step prints.
-use Rattle.std.proofs.Common.{◌≡◌, ℕ, zero, suc, ◌+◌, min, Bool, true, false, List, [], ◌∷◌, ◌++◌, fold, length, Option, Some, None, refl, ap, ◌∙◌, if◌then◌else◌}
+use Rattle.std.proofs.Common.{◌≡◌, ℕ, zero, suc, ◌+◌, min, Bool, true, false, List, [], ◌∷◌, ◌++◌, fold, Option, Some, None, refl, ◌∙◌, if◌then◌else◌}
 use Rattle.std.specs.Prelude.{◌==◌}
 use Rattle.std.specs.Option.{option_map_or}
 use Rattle.cg_base.specs.declared.weighted.Weighted.{Weighted}
@@ -8,7 +8,6 @@ use Rattle.cg_action.specs.declared.action.Kind.TheVariants.{Update, Join as Joi
 use Rattle.cg_wire.specs.declared.message.Msg.{Msg}
 use Rattle.cg_group.specs.declared.delivery.Handed.{Handed}
 use Rattle.cg_group.specs.Events.{split, merge, deliver}
-use Rattle.cg_report.specs.declared.line.Line.{Line}
 use Rattle.cg_client.specs.Replica.{Replica}
 use Rattle.cg_client.specs.Turn.{Turn}
 use Rattle.cg_step.specs.Step.{Input, Deliveries, Asks as AsksOf, replica_step}

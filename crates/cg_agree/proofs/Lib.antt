@@ -336,3 +336,8 @@ pub mod MadeBefore
 pub mod OrderedActions
 pub mod WhiteTold
 pub mod PrefixWhite
+pub mod ItemsReached
+pub mod GreensStay
+pub mod SnapshotsReached
+pub mod LongerBy
+pub mod OrderLonger

@@ -1,10 +1,10 @@
 -- No action stands in the order before it was made.
-use Rattle.std.proofs.Common.{List, Contains, sym, ap, ◌∙◌, subst}
+use Rattle.std.proofs.Common.{List, Contains, sym, subst}
 use Rattle.cg_base.specs.declared.action_id.ActionId.{ActionId}
-use Rattle.cg_agree.specs.World.{World, no_world}
+use Rattle.cg_agree.specs.World.{no_world}
 use Rattle.cg_agree.specs.Run.{Step, IsRunFrom, world_after}
 use Rattle.cg_agree.specs.Shown.{order_of, made_names}
-use Rattle.cg_agree.specs.Agreement.{ComesAfter, through, CreatorOrder}
+use Rattle.cg_agree.specs.Agreement.{through, CreatorOrder}
 use Rattle.cg_agree.specs.Chronicle.{no_chronicle}
 use Rattle.cg_agree.specs.Noting.{chronicle_after}
 use Rattle.cg_agree.specs.Played.{AlwaysHolds}

@@ -1,8 +1,7 @@
 -- What a replica's turn shows as made stands with it: it is up, and each of these actions has its greens as its line and is the next of
 -- its creator. Where a crash keeps such actions its recovery will show them.
-use Rattle.std.proofs.Common.{◌⊎◌, ◌≡◌, ℕ, zero, suc, ◌+◌, ◌-◌, ◌<◌, ◌≤◌, Bool, true, false, cond, ◌&&◌, List, [], ◌∷◌, ◌++◌, map, filter, find, drop, fold, length, Option, Some, None, IfSome, Contains, refl, sym, ap, ◌∙◌, subst, inl, inr, arith, eq-eqb, option_and_then, nat_lt}
+use Rattle.std.proofs.Common.{◌⊎◌, ◌≡◌, ℕ, zero, suc, ◌+◌, ◌-◌, ◌<◌, ◌≤◌, true, cond, ◌&&◌, List, [], ◌∷◌, ◌++◌, map, find, drop, length, Option, Some, None, Contains, refl, sym, ap, ◌∙◌, subst, inl, inr, arith, eq-eqb, option_and_then, nat_lt}
 use Rattle.std.specs.Prelude.{◌==◌}
-use Rattle.std.specs.Option.{option_map_or}
 use Rattle.std.proofs.lemmas.Bool.{cases_eq, cases_lt, cond-true, cond-false, ne_eqb, and_from}
 use Rattle.std.proofs.lemmas.List.{append-nil, map-append, length-append, length-drop}
 use Rattle.std.proofs.lemmas.List.Elements.{Contains-append_left, Contains-append_right}
@@ -22,7 +21,7 @@ use Rattle.cg_agree.specs.World.{Life, Up, Down, Seat, World, running, seat_of}
 use Rattle.cg_agree.specs.Looks.{on_disk}
 use Rattle.cg_agree.specs.Show.{Going, beyond, made_of_action, unshown}
 use Rattle.cg_agree.specs.Step.{after_event, recover_from}
-use Rattle.cg_agree.specs.FactsReplica.{run_on, cut_behind, GoesOn}
+use Rattle.cg_agree.specs.FactsReplica.{run_on, cut_behind}
 use Rattle.cg_agree.proofs.CutRaise.{Rising}
 use Rattle.cg_agree.proofs.RunFacts.{cut_behind-append, run_on-append}
 use Rattle.cg_agree.proofs.ChronicleFacts.{seat_of-set}

@@ -1,6 +1,6 @@
 -- The actions that a run shows as made are those up to the world's cut, each as it was made.
-use Rattle.std.proofs.Common.{◌≡◌, ℕ, zero, suc, ◌<◌, ◌≤◌, Bool, true, false, ◌&&◌, cond, List, [], ◌∷◌, ◌++◌, map, flat_map, find, length, Option, Some, None, IfSome, Contains, refl, sym, ap, ap₂, ◌∙◌, subst, inl, inr, arith, nat_lt}
-use Rattle.std.specs.Prelude.{◌==◌, nat_le}
+use Rattle.std.proofs.Common.{◌≡◌, ℕ, zero, suc, ◌<◌, ◌≤◌, true, ◌&&◌, List, [], ◌∷◌, ◌++◌, map, flat_map, length, Option, Some, None, IfSome, Contains, sym, ap, ap₂, ◌∙◌, subst, inl, inr, arith}
+use Rattle.std.specs.Prelude.{nat_le}
 use Rattle.std.specs.Option.{option_map_or}
 use Rattle.std.proofs.lemmas.Bool.{cases_Bool, cond-true, cond-false, lt-ltb, and_from}
 use Rattle.std.proofs.lemmas.List.{append-nil, append_assoc, map-append}
@@ -15,7 +15,6 @@ use Rattle.cg_report.specs.declared.entry.Made.{Made}
 use Rattle.cg_client.specs.Replica.{Replica}
 use Rattle.cg_agree.specs.World.{World, replica_of}
 use Rattle.cg_agree.specs.Show.{Moved, made_of_action}
-use Rattle.cg_agree.specs.Step.{world_step}
 use Rattle.cg_agree.specs.Run.{Step}
 use Rattle.cg_agree.specs.Shown.{made_names, made_at, made_from, made_of, position_of}
 use Rattle.cg_agree.specs.Agreement.{through}
@@ -25,7 +24,6 @@ use Rattle.cg_agree.specs.Played.{StandsBeside}
 use Rattle.cg_agree.specs.FactsReplica.{run_on, cut_behind, AreBooked}
 use Rattle.cg_agree.proofs.RunFacts.{cut_behind-append, run_on-append}
 use Rattle.cg_agree.proofs.RunMarks.{run-names}
-use Rattle.cg_agree.proofs.OneValue.{same-from}
 use Rattle.cg_agree.proofs.BookGrows.{IsNamed, named_in}
 use Rattle.cg_agree.proofs.BookedCores.{each-booked}
 use Rattle.cg_agree.proofs.BookStays.{event-book}

@@ -1,5 +1,5 @@
 -- The order of a run is as long as the furthest line that a replica that is up has shown.
-use Rattle.std.proofs.Common.{◌⊎◌, ◌≡◌, ℕ, zero, suc, ◌≤◌, max, Bool, true, false, cond, List, [], ◌∷◌, ◌++◌, map, fold, length, Option, Some, None, IfSome, refl, sym, ap, ap₂, ◌∙◌, subst, inl, inr, arith, option_map, option_and_then}
+use Rattle.std.proofs.Common.{◌≡◌, ℕ, ◌≤◌, max, cond, List, [], ◌∷◌, ◌++◌, map, fold, length, Option, Some, None, IfSome, refl, sym, ap, ◌∙◌, subst, inl, inr, arith, option_map, option_and_then}
 use Rattle.std.specs.Prelude.{◌==◌}
 use Rattle.std.specs.Option.{option_map_or}
 use Rattle.std.proofs.lemmas.Bool.{cond_both}
@@ -15,8 +15,8 @@ use Rattle.cg_report.specs.declared.line.Line.{Line}
 use Rattle.cg_report.specs.declared.line.UpLine.{UpLine}
 use Rattle.cg_agree.specs.World.{Life, Up, Down, Seat, World, no_world, running, seat_of, replica_of}
 use Rattle.cg_agree.specs.Show.{line_of, up_line}
-use Rattle.cg_agree.specs.Run.{Step, IsRunFrom, world_after}
-use Rattle.cg_agree.specs.Shown.{order_of, lines_in, all_up_lines, last_of, last_up, position_of}
+use Rattle.cg_agree.specs.Run.{Step, IsRunFrom}
+use Rattle.cg_agree.specs.Shown.{order_of, lines_in, all_up_lines, last_of, position_of}
 use Rattle.cg_agree.specs.Agreement.{through}
 use Rattle.cg_agree.specs.Chronicle.{Chronicle}
 use Rattle.cg_agree.specs.Noting.{chronicle_step}
@@ -24,7 +24,6 @@ use Rattle.cg_agree.specs.Played.{AlwaysHolds}
 use Rattle.cg_agree.proofs.OrderTold.{order_told, step_order}
 use Rattle.cg_agree.proofs.OrderReached.{within-order}
 use Rattle.cg_agree.proofs.LinesShown.{lines-each, lines-last, position-shown}
-use Rattle.cg_agree.proofs.MadeShown.{Adds}
 use Rattle.cg_agree.proofs.MadeTold.{step-adds}
 use Rattle.cg_agree.proofs.RunForward.{IsStepOf, of-run}
 use Rattle.cg_agree.proofs.TellsRun.{HasTold, told-on, nothing-told}

@@ -1,5 +1,5 @@
 -- The actions of the first places of the order, as they were shown as made, are those of the book with these names.
-use Rattle.std.proofs.Common.{◌≡◌, ℕ, zero, suc, ◌<◌, Bool, true, false, ◌||◌, List, [], ◌∷◌, ◌++◌, map, find, take, length, flat_map, Option, Some, None, Contains, refl, sym, ap, ap₂, ◌∙◌, subst, inl, inr, arith}
+use Rattle.std.proofs.Common.{◌≡◌, zero, suc, ◌<◌, true, false, List, [], ◌∷◌, ◌++◌, map, length, flat_map, Option, Some, Contains, refl, sym, ap, ap₂, ◌∙◌, subst, inl, inr, arith}
 use Rattle.std.specs.Option.{option_map_or}
 use Rattle.std.proofs.lemmas.Bool.{cases_Bool, cond-true, cond-false, or_cases}
 use Rattle.std.proofs.lemmas.List.{map-append}
@@ -46,11 +46,11 @@ found-there : (list : List Action) (id : ActionId) → names (names_of list) id 
 found-there [] id is = absurd (let clash : false ≡ true = is in cc)
 found-there (a ∷ list) id is = elim (cases_Bool (same_id a.id id)) [
   | inl here ↦ record {
-      action = a;
-      found = cond-true (same_id a.id id) (Some a) (named_in list id) here;
-      name = same-from a.id id here;
-      there = (zero, (let less : 0 < suc (length list) = omega arith in less), refl);
-    }
+    action = a;
+    found = cond-true (same_id a.id id) (Some a) (named_in list id) here;
+    name = same-from a.id id here;
+    there = (zero, (let less : 0 < suc (length list) = omega arith in less), refl);
+  }
   | inr other ↦
       let rest = found-there list id (elim (or_cases (same_id id a.id) (names (names_of list) id) is) [
         | inl here ↦ absurd (let same : id ≡ a.id = same-from id a.id here in

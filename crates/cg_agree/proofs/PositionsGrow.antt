@@ -1,5 +1,5 @@
 -- What a run has shown of how far each replica came never falls, and moves only where an event moves the replica.
-use Rattle.std.proofs.Common.{◌⊎◌, ◌≡◌, ℕ, zero, suc, ◌≤◌, Bool, true, false, cond, List, [], ◌∷◌, ◌++◌, find, fold, Option, Some, None, refl, sym, ap, ◌∙◌, subst, inl, inr, arith, eqb-true, option_map, option_and_then}
+use Rattle.std.proofs.Common.{◌⊎◌, ◌≡◌, ℕ, ◌≤◌, false, List, [], ◌∷◌, fold, Option, Some, None, refl, sym, ap, ◌∙◌, subst, inl, inr, arith, eqb-true, option_map, option_and_then}
 use Rattle.std.specs.Prelude.{◌==◌}
 use Rattle.std.specs.Option.{option_map_or}
 use Rattle.std.proofs.lemmas.Bool.{cases_Bool, cond-true, cond-false}
@@ -11,8 +11,7 @@ use Rattle.cg_client.specs.Replica.{Replica}
 use Rattle.cg_report.specs.declared.line.Line.{Line}
 use Rattle.cg_report.specs.declared.line.UpLine.{UpLine}
 use Rattle.cg_agree.specs.World.{Life, Up, Down, Seat, World, no_world, running, seat_of, replica_of}
-use Rattle.cg_agree.specs.Show.{Moved, line_of, up_line}
-use Rattle.cg_agree.specs.Step.{world_step}
+use Rattle.cg_agree.specs.Show.{Moved, up_line}
 use Rattle.cg_agree.specs.Run.{Step, IsRunFrom, world_after}
 use Rattle.cg_agree.specs.Shown.{lines_in, last_of, last_up, position_of}
 use Rattle.cg_agree.specs.Agreement.{through, may_move}

@@ -1,8 +1,8 @@
 -- Each replica's greens are a prefix of the order that never shrinks; what it shows of them is so, and what it holds.
-use Rattle.std.proofs.Common.{◌≡◌, ℕ, ◌≤◌, false, List, [], ◌∷◌, ◌++◌, take, drop, find, option_and_then, Option, Some, IfSome, Contains, refl, sym, ap, ◌∙◌, subst}
+use Rattle.std.proofs.Common.{◌≡◌, ℕ, ◌≤◌, false, List, take, drop, find, option_and_then, Option, Some, IfSome, Contains, refl, sym, ap, ◌∙◌, subst}
 use Rattle.std.specs.Prelude.{◌==◌}
 use Rattle.cg_base.specs.declared.action_id.ActionId.{ActionId}
-use Rattle.cg_queue.specs.Queue.{names_of, green_count}
+use Rattle.cg_queue.specs.Queue.{green_count}
 use Rattle.cg_report.specs.declared.entry.Shown.TheVariants.{Greens}
 use Rattle.cg_schedule.specs.declared.event.Event.{Event}
 use Rattle.cg_schedule.specs.declared.event.Event.TheVariants.{Show}

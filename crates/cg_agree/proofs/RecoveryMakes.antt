@@ -1,5 +1,5 @@
 -- What a recovery shows as made are its replica's own actions, made with the greens that it has.
-use Rattle.std.proofs.Common.{◌≡◌, ℕ, suc, ◌<◌, ◌≤◌, Bool, true, false, ◌&&◌, List, [], ◌∷◌, ◌++◌, filter, fold, refl, sym, ap, ◌∙◌, subst, arith, eqb-true, leb-true, nat_lt, nat_le, if◌then◌else◌}
+use Rattle.std.proofs.Common.{◌≡◌, ℕ, suc, ◌<◌, ◌≤◌, Bool, true, false, ◌&&◌, List, [], ◌∷◌, ◌++◌, filter, fold, sym, ap, ◌∙◌, subst, arith, eqb-true, leb-true, nat_lt, nat_le, if◌then◌else◌}
 use Rattle.std.specs.Prelude.{◌==◌}
 use Rattle.std.proofs.lemmas.Bool.{and_parts, cond_both, ltb-true}
 use Rattle.cg_group.specs.EachLaws.{Each, Each-append, Each-weaker}

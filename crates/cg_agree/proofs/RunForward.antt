@@ -1,5 +1,5 @@
 -- What each step of a run keeps, beside its chronicle, holds of the run.
-use Rattle.std.proofs.Common.{◌≡◌, ℕ, suc, List, [], ◌∷◌, ◌++◌, map, Option, None, sym, ap, subst}
+use Rattle.std.proofs.Common.{◌≡◌, ℕ, suc, List, [], ◌∷◌, ◌++◌, map, None, sym, ap, subst}
 use Rattle.std.proofs.lemmas.List.{append-nil, append_assoc}
 use Rattle.cg_agree.specs.World.{World, no_world}
 use Rattle.cg_agree.specs.Admission.{first_refusal}

@@ -7,7 +7,7 @@ use Rattle.cg_group.specs.declared.reason.Reason.TheVariants.{EmptySet}
 use Rattle.cg_group.specs.Refusals.{empty_set}
 use Rattle.cg_schedule.specs.declared.event.Event.{Event}
 use Rattle.cg_schedule.specs.declared.event.Event.TheVariants.{Start, Split, Merge, Request, Weak, Dirty, Order, Recover, Show, ShowOrder, Gather, End, Receive, Deliver, Rounds, Stop, Fail, Join, Leave, Transfer}
-use Rattle.cg_agree.specs.World.{World, no_world}
+use Rattle.cg_agree.specs.World.{World}
 use Rattle.cg_agree.specs.Admission.{first_refusal}
 use Rattle.cg_agree.specs.Show.{Moved, ended}
 use Rattle.cg_agree.specs.Step.{name_also, begin_replica, happens, world_step}
@@ -15,7 +15,7 @@ use Rattle.cg_agree.specs.Run.{Step, MayStand}
 use Rattle.cg_agree.specs.Shown.{start_in, start_of}
 use Rattle.cg_agree.specs.Agreement.{through}
 use Rattle.cg_agree.specs.Chronicle.{Chronicle}
-use Rattle.cg_agree.specs.Small.{small_step, Starts}
+use Rattle.cg_agree.specs.Small.{small_step}
 use Rattle.cg_agree.specs.Smalls.{smalls_in}
 use Rattle.cg_agree.specs.Noting.{chronicle_step}
 use Rattle.cg_agree.proofs.RunForward.{IsStepOf}

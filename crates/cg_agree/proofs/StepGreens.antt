@@ -1,10 +1,9 @@
 -- A commit leaves the green count of a replica that has taken its whole step.
-use Rattle.std.proofs.Common.{◌≡◌, ℕ, suc, ◌+◌, ◌-◌, ◌≤◌, max, Bool, true, false, cond, List, [], ◌∷◌, ◌++◌, fold, drop, length, refl, sym, ap, ap₂, ◌∙◌, subst, arith}
+use Rattle.std.proofs.Common.{◌≡◌, suc, ◌+◌, ◌-◌, ◌≤◌, Bool, true, false, cond, List, ◌++◌, drop, length, sym, ap, ap₂, ◌∙◌, subst, arith}
 use Rattle.std.specs.Option.{unwrap_or}
 use Rattle.std.proofs.lemmas.List.{length-append, length-drop}
 use Rattle.cg_base.specs.declared.weighted.Weighted.{Weighted}
 use Rattle.cg_action.specs.declared.action.Action.{Action}
-use Rattle.cg_action.specs.declared.action.Kind.{Kind}
 use Rattle.cg_members.specs.Servers.{members_of, starting, after_greens, white_line}
 use Rattle.cg_members.specs.MemberLaws.{members_of-apart}
 use Rattle.cg_queue.specs.Queue.{green_count}
@@ -13,7 +12,7 @@ use Rattle.cg_client.specs.Turn.{Turn, begin}
 use Rattle.cg_client.specs.Requests.{is_creating, create_kept, empty_buffer, settle}
 use Rattle.cg_client.specs.Whitening.{white_at}
 use Rattle.cg_stored.specs.Stored.{whiten}
-use Rattle.cg_step.specs.Step.{Input, Deliveries, Asks, replica_step, take}
+use Rattle.cg_step.specs.Step.{Input, Deliveries, Asks, replica_step}
 use Rattle.cg_agree.specs.Small.{take_all}
 use Rattle.cg_agree.proofs.HeldMarks.{IsOneself, counted}
 use Rattle.cg_agree.proofs.HeldCommit.{line-below}

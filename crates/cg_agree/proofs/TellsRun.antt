@@ -1,9 +1,8 @@
 -- The steps of a run tell of the chronicle that they lead to.
 use Rattle.std.proofs.Common.{◌≡◌, List, [], Some, inl, refl, sym}
-use Rattle.cg_agree.specs.World.{Seat, World, no_world}
+use Rattle.cg_agree.specs.World.{World, no_world}
 use Rattle.cg_agree.specs.Show.{line_of}
 use Rattle.cg_agree.specs.Run.{Step, IsRunFrom, world_after}
-use Rattle.cg_agree.specs.Shown.{order_of}
 use Rattle.cg_agree.specs.Agreement.{through}
 use Rattle.cg_agree.specs.Chronicle.{Chronicle, no_chronicle}
 use Rattle.cg_agree.specs.Noting.{chronicle_step, chronicle_after}

@@ -1,8 +1,7 @@
 -- What a run has shown of a replica as it was up last: its greens begin the order, and no server's line among these is below its white count.
-use Rattle.std.proofs.Common.{◌⊎◌, ◌≡◌, ℕ, zero, suc, ◌<◌, ◌≤◌, Bool, true, false, List, [], ◌∷◌, ◌++◌, map, length, Option, Some, None, IfSome, is_some, refl, sym, ap, ap₂, ◌∙◌, subst, inl, inr, arith, option_and_then}
+use Rattle.std.proofs.Common.{◌⊎◌, ◌≡◌, ℕ, ◌<◌, ◌≤◌, true, false, List, [], ◌∷◌, map, length, Option, Some, None, IfSome, is_some, refl, sym, ap, ◌∙◌, subst, inl, inr, arith, option_and_then}
 use Rattle.std.specs.Option.{option_map_or}
 use Rattle.cg_group.specs.EachLaws.{Each, Each-append, Each-weaker}
-use Rattle.cg_base.specs.declared.action_id.ActionId.{ActionId}
 use Rattle.cg_base.specs.declared.weighted.Weighted.{Weighted}
 use Rattle.cg_action.specs.declared.action.Action.{Action}
 use Rattle.cg_members.specs.Servers.{members_of, is_server, was_ever, line_of, starting}
@@ -14,13 +13,12 @@ use Rattle.cg_schedule.specs.declared.event.Event.TheVariants.{Start, Split, Mer
 use Rattle.cg_client.specs.Replica.{Replica}
 use Rattle.cg_agree.specs.World.{Seat, World, no_world, running, has_begun, seat_of, replica_of}
 use Rattle.cg_agree.specs.Show.{Moved}
-use Rattle.cg_agree.specs.Step.{world_step}
 use Rattle.cg_agree.specs.Run.{Step, MayStand, IsRunFrom, world_after}
-use Rattle.cg_agree.specs.Shown.{made_at, made_of, last_up, position_of, white_of}
+use Rattle.cg_agree.specs.Shown.{made_at, made_of, position_of, white_of}
 use Rattle.cg_agree.specs.Agreement.{through, may_move}
 use Rattle.cg_agree.specs.Chronicle.{Chronicle, no_chronicle}
 use Rattle.cg_agree.specs.Fronts.{Front}
-use Rattle.cg_agree.specs.Looks.{greens_of, stood_of}
+use Rattle.cg_agree.specs.Looks.{greens_of}
 use Rattle.cg_agree.specs.FactsReplica.{IsLined, join_from}
 use Rattle.cg_agree.specs.Noting.{chronicle_step, chronicle_after}
 use Rattle.cg_agree.specs.Played.{StandsBeside, AlwaysHolds}
@@ -34,11 +32,11 @@ use Rattle.cg_agree.proofs.LinesShown.{AreLinesTold, position-shown, white-shown
 use Rattle.cg_agree.proofs.MadeTold.{made-last}
 use Rattle.cg_agree.proofs.OrderReached.{in-order}
 use Rattle.cg_agree.proofs.OrderTold.{step_order}
-use Rattle.cg_agree.proofs.PositionsGrow.{IsPlaced, Moves, down-still, step-moves, placed-on}
+use Rattle.cg_agree.proofs.PositionsGrow.{IsPlaced, down-still, step-moves, placed-on}
 use Rattle.cg_agree.proofs.PrimaryOne.{seated-not}
 use Rattle.cg_agree.proofs.PrimStays.{event-stays}
 use Rattle.cg_agree.proofs.RunForward.{IsStepOf, of-run}
-use Rattle.cg_agree.proofs.TellsRun.{HasTold, nothing-told}
+use Rattle.cg_agree.proofs.TellsRun.{nothing-told}
 
 -- what was shown of a replica as it was up last
 pub record IsKept (earlier : List Step) (c : Chronicle) (w : World) (p : ℕ) : Type 0 where
@@ -134,7 +132,7 @@ kept-down earlier c w s step placed p down k =
             | inr same ↦ subst (λ (start : List Weighted). (was_ever (starting start) p ≡ true) ⊎ (0 < join_from 0 k.all p)) (sym same) (k.joined begun)
             | inl first ↦ absurd (let clash : true ≡ false = sym begun ∙ ap (λ (x : World). has_begun x p) first in cc)
           ]
-      );
+          );
     } where
       grows : CountGrows (may_move s.event p) (seat_of w p) (seat_of s.world p)
       grows = subst (λ (m : Moved). CountGrows (may_move s.event p) (seat_of w p) (seat_of m.world p)) (sym step.moved) (event-counts c w step.before s.event step.may step.admitted p)
