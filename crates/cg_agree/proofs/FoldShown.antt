@@ -1,28 +1,18 @@
 -- A database that a step of a run shows, and a weak answer, are those of their replica's prefix of the order.
-use Rattle.std.proofs.Common.{◌≡◌, ℕ, zero, suc, Bool, true, false, is_some, List, [], ◌∷◌, fold, Option, Some, None, IfSome, Contains, refl, sym, ap, ◌∙◌, subst, arith}
+use Rattle.std.proofs.Common.{◌≡◌, ℕ, true, is_some, List, [], ◌∷◌, Option, Some, None, IfSome, Contains, refl, sym, ap, ◌∙◌, subst}
 use Rattle.std.specs.Option.{option_map_or}
-use Rattle.cg_action.specs.declared.action.Kind.TheVariants.{Update, Join as JoinKind, Leave as LeaveKind}
 use Rattle.cg_action.specs.declared.query.Query.{Query}
 use Rattle.cg_db.specs.declared.entry.DbEntry.{DbEntry}
 use Rattle.cg_db.specs.Apply.{fold_actions}
 use Rattle.cg_db.specs.Find.{answer}
-use Rattle.cg_wire.specs.declared.message.Msg.{Msg}
-use Rattle.cg_group.specs.declared.delivery.Handed.{Handed}
 use Rattle.cg_group.specs.State.{is_up}
-use Rattle.cg_group.specs.Events.{split, merge, deliver}
 use Rattle.cg_client.specs.Replica.{Replica}
-use Rattle.cg_client.specs.Turn.{Turn}
-use Rattle.cg_client.specs.Queries.{weak_answer}
-use Rattle.cg_step.specs.Step.{Input, Deliveries, Asks as AsksOf, replica_step}
-use Rattle.cg_step.specs.Crash.{Ended, Runs, Crashes, end_event}
-use Rattle.cg_report.specs.declared.entry.Shown.{Shown}
-use Rattle.cg_report.specs.declared.entry.Shown.TheVariants.{Weak as ShownWeak, Database, All}
-use Rattle.cg_schedule.specs.declared.event.Event.{Event}
-use Rattle.cg_schedule.specs.declared.event.Event.TheVariants.{Start, Split, Merge, Request, Weak, Dirty, Order, Recover, Show, ShowOrder, Gather, End, Receive, Deliver, Rounds, Stop, Fail, Join, Leave, Transfer}
-use Rattle.cg_agree.specs.World.{Life, Up, Down, Seat, World, no_world, seat_of, replica_of}
+use Rattle.cg_report.specs.declared.entry.Shown.TheVariants.{Weak as ShownWeak, Database}
+use Rattle.cg_schedule.specs.declared.event.Event.TheVariants.{Weak, Show}
+use Rattle.cg_agree.specs.World.{World, no_world, replica_of}
 use Rattle.cg_agree.specs.Admission.{first_refusal}
-use Rattle.cg_agree.specs.Show.{Going, Moved, ended}
-use Rattle.cg_agree.specs.Step.{quietly, after_event, hand_to, hand, hand_over, name_also, recover_from, recover, snapshot_for, take_pieces, shown_of, happens, world_step}
+use Rattle.cg_agree.specs.Show.{Moved, ended}
+use Rattle.cg_agree.specs.Step.{happens, world_step}
 use Rattle.cg_agree.specs.Run.{Step, IsRunFrom}
 use Rattle.cg_agree.specs.Shown.{ordered_actions, position_of}
 use Rattle.cg_agree.specs.FactsReplica.{IsModeData}

@@ -1,5 +1,5 @@
 -- A step of a run: what stands before it and behind it, of the run up to there, and what the steps up to there have told.
-use Rattle.std.proofs.Common.{◌≡◌, List, None, refl}
+use Rattle.std.proofs.Common.{◌≡◌, List, None}
 use Rattle.cg_agree.specs.World.{World, no_world}
 use Rattle.cg_agree.specs.Admission.{first_refusal}
 use Rattle.cg_agree.specs.Show.{Moved}
