@@ -41,7 +41,7 @@ use Rattle.cg_agree.proofs.EnteredDead.{old-dead, come-dead, through-dead}
 use Rattle.cg_agree.proofs.ModeKept.{mode_data-kept}
 
 -- the core of a replica that is up
-running-core : (c : Chronicle) (p : ℕ) (r : Replica) → replica_of c.world p ≡ Some r → core_of c p ≡ Some r.held
+pub running-core : (c : Chronicle) (p : ℕ) (r : Replica) → replica_of c.world p ≡ Some r → core_of c p ≡ Some r.held
 running-core c p r up =
     let sits = seated c.world p (ap is_some up) in
     let same : Some r ≡ Some sits.replica = sym up ∙ ap (λ (o : Option Seat). option_and_then (λ s. running s.life) o) sits.seat in

@@ -1,5 +1,5 @@
 -- What stands on a disk behind the end of an event: what stood there, or what the replica holds now.
-use Rattle.std.proofs.Common.{◌≡◌, ℕ, ◌<◌, ◌≤◌, true, false, cond, List, Option, Some, None, refl, sym, ap, ◌∙◌, ⊎_elim, arith, nat_lt, nat_le, [], if◌then◌else◌}
+use Rattle.std.proofs.Common.{◌≡◌, ℕ, ◌<◌, ◌≤◌, true, false, cond, List, Option, Some, None, refl, sym, ap, ◌∙◌, subst, ⊎_elim, arith, nat_lt, nat_le, [], if◌then◌else◌}
 use Rattle.std.specs.Prelude.{◌&&◌}
 use Rattle.std.proofs.lemmas.Bool.{cases_Bool, cond-true, cond-false, cond_both, ltb-true, leb-true, lt-ltb, or_cases, and_parts, false_from_ne_true}
 use Rattle.cg_base.specs.declared.action_id.ActionId.{ActionId}
@@ -49,15 +49,16 @@ content-stands disk t strike e =
     (λ y. content-changed disk t)
     (λ n. ap (λ (d : Disk). d.content) (cond-true (is_committed strike) (with_change disk t) disk e) ∙ content-changed disk t)
 
--- how an event may end at a replica: it makes no commit; it makes one; it is struck, and its commit stands; it is struck, and doesn't
-pub end-cases : (disk : Disk) (old : Held) (t : Turn) (G : Ended → Type 0) →
+-- how an event may end at a replica: it makes no commit; it makes one; it is struck, and its commit stands, with the names that became
+-- green; it is struck, and doesn't
+pub end-shown : (disk : Disk) (old : Held) (t : Turn) (G : Ended → Type 0) →
     (commits old t ≡ false → (d : Disk) → d.content ≡ disk.content → G (Runs t.replica d)) →
     (commits old t ≡ true → (d : Disk) → d.content ≡ stored_of (whiten t.replica.held) → G (Runs (whitened t.replica) d)) →
-    (is_kept disk.armed ≡ true → (d : Disk) (green : List ActionId) → d.content ≡ stored_of (whiten t.replica.held) → G (Crashes d green)) →
-    (is_kept disk.armed ≡ false → (d : Disk) (green : List ActionId) → d.content ≡ disk.content → G (Crashes d green)) →
+    (is_kept disk.armed ≡ true → (d : Disk) → d.content ≡ stored_of (whiten t.replica.held) → G (Crashes d t.green)) →
+    (is_kept disk.armed ≡ false → (d : Disk) → d.content ≡ disk.content → G (Crashes d [])) →
     G (end_event disk old t)
 unfolding end_event
-end-cases disk old t G kept committed stands lost =
+end-shown disk old t G kept committed stands lost =
     cond_both (commits old t) (commit_under disk.armed disk t) (keep disk t) G (λ y. under y disk.armed refl) (λ n. kept n _ refl) where
       under : commits old t ≡ true → (armed : Option Strike) → disk.armed ≡ armed → G (commit_under armed disk t)
       under y None is = committed y (checkpointed (with_change disk t)) (content-checkpointed (with_change disk t) ∙ content-changed disk t)
@@ -65,10 +66,19 @@ end-cases disk old t G kept committed stands lost =
           let done = checkpointed (with_change disk t) in
           let after : Disk = record done { armed = Some (later (calls_of (with_change disk t)) strike) } in
           let left = at_rest (crash_outcome disk t strike) in
-          let green = if is_committed strike then t.green else [] in
           cond_both (nat_le strike.call (calls_of (with_change disk t))) (struck disk t strike) (Runs (whitened t.replica) after) G
           (λ reached. ⊎_elim
-          (λ commit. stands (ap is_kept is ∙ commit) left green (content-stands disk t strike commit))
-          (λ no_commit. lost (ap is_kept is ∙ no_commit) left green (content-lost disk t strike no_commit))
+          (λ commit. subst (λ (green : List ActionId). G (Crashes left green)) (sym (cond-true (is_committed strike) t.green [] commit))
+          (stands (ap is_kept is ∙ commit) left (content-stands disk t strike commit)))
+          (λ no_commit. subst (λ (green : List ActionId). G (Crashes left green)) (sym (cond-false (is_committed strike) t.green [] no_commit))
+          (lost (ap is_kept is ∙ no_commit) left (content-lost disk t strike no_commit)))
           (cases_Bool (is_committed strike)))
           (λ later. committed y after (content-checkpointed (with_change disk t) ∙ content-changed disk t))
+
+pub end-cases : (disk : Disk) (old : Held) (t : Turn) (G : Ended → Type 0) →
+    (commits old t ≡ false → (d : Disk) → d.content ≡ disk.content → G (Runs t.replica d)) →
+    (commits old t ≡ true → (d : Disk) → d.content ≡ stored_of (whiten t.replica.held) → G (Runs (whitened t.replica) d)) →
+    (is_kept disk.armed ≡ true → (d : Disk) (green : List ActionId) → d.content ≡ stored_of (whiten t.replica.held) → G (Crashes d green)) →
+    (is_kept disk.armed ≡ false → (d : Disk) (green : List ActionId) → d.content ≡ disk.content → G (Crashes d green)) →
+    G (end_event disk old t)
+end-cases disk old t G kept committed stands lost = end-shown disk old t G kept committed (λ stays d is. stands stays d t.green is) (λ gone d is. lost gone d [] is)

@@ -1,5 +1,5 @@
 -- What becomes green in a replica's whole step is noted: the kept greens are those before it, and behind them the names noted.
-use Rattle.std.proofs.Common.{◌≡◌, suc, Bool, true, false, cond, List, [], ◌∷◌, ◌++◌, fold, refl, sym, ap, ◌∙◌, append-nil, if◌then◌else◌}
+use Rattle.std.proofs.Common.{◌≡◌, ℕ, suc, Bool, true, false, cond, List, [], ◌∷◌, ◌++◌, fold, refl, sym, ap, ◌∙◌, append-nil, if◌then◌else◌}
 use Rattle.std.specs.Prelude.{◌==◌, nat_le}
 use Rattle.std.proofs.lemmas.Bool.{cond_both}
 use Rattle.std.proofs.lemmas.List.{append_assoc}
@@ -10,11 +10,14 @@ use Rattle.cg_base.specs.Cuts.{index_in}
 use Rattle.cg_queue.specs.Queue.{Marks, Gaps, placed_red, names_of}
 use Rattle.cg_queue.specs.declared.mark.Mark.TheVariants.{Placed, Known}
 use Rattle.cg_client.specs.Replica.{Held, State, RegPrim, TransPrim, ExchangeStates, ExchangeActions, Construct, No, Un, NonPrim, Left, Replica}
-use Rattle.cg_client.specs.Turn.{Turn, begin}
+use Rattle.cg_client.specs.Turn.{Turn, begin, with_held}
 use Rattle.cg_client.specs.Marks.{marked, place_green}
 use Rattle.cg_client.specs.Requests.{is_creating, create, create_kept, empty_buffer, buffer, settle, request_in, request}
-use Rattle.cg_client.specs.Summary.{redden, forget_own, own_to_red}
-use Rattle.cg_step.specs.Step.{Input, Deliveries, Asks, replica_step, take}
+use Rattle.cg_client.specs.Summary.{redden, forget_own, own_to_red, enter_exchange}
+use Rattle.cg_prim.specs.TransPrim.{end_prim}
+use Rattle.cg_construct.specs.No.{no_record}
+use Rattle.cg_group.specs.declared.delivery.Delivery.TheVariants.{Regular as RegularIn}
+use Rattle.cg_step.specs.Step.{Input, Deliveries, Asks, replica_step, take, on_regular}
 use Rattle.cg_agree.proofs.HeldMarks.{names-behind}
 use Rattle.cg_agree.proofs.TurnRows.{IsRule, of-deliveries}
 use Rattle.cg_agree.proofs.KeptEmpty.{anything}
@@ -112,3 +115,37 @@ step-noted r (Deliveries list) =
     let first : IsNoted r.held (begin r) = record { white = refl; greens = sym (append-nil (names_of r.held.queue.greens)) } in
     settle-noted r.held (fold take (begin r) list) (of-deliveries (IsNoted r.held) (λ a. Unit {0}) (noted-rule r.held) (begin r) list (anything list) first)
 step-noted r (Asks kind) = request-noted r.held (begin r) kind (record { white = refl; greens = sym (append-nil (names_of r.held.queue.greens)) })
+
+-- ---- a new configuration makes nothing green
+
+creates-green : (list : List Kind) (t : Turn) → (fold create t list).green ≡ t.green
+unfolding create
+creates-green [] t = refl
+creates-green (kind ∷ list) t = creates-green list (create t kind)
+
+settle-green : (t : Turn) → (settle t).green ≡ t.green
+unfolding create_kept
+settle-green t = at (is_creating t.replica.state) where
+  at : (b : Bool) → (cond b (create_kept t) t).green ≡ t.green
+  at true = creates-green t.replica.held.buffered (empty_buffer t)
+  at false = refl
+
+own-green : (t : Turn) → (own_to_red t).green ≡ t.green
+unfolding own_to_red
+own-green t = (reddens-greens t.replica.held.own (forget_own t)).green
+
+regular-green : (state : State) (conf : ℕ) (set : List ℕ) (t : Turn) → (on_regular state conf set t).green ≡ t.green
+unfolding on_regular enter_exchange
+regular-green TransPrim conf set t = own-green (with_held t (end_prim t.replica.held))
+regular-green (No at heard) conf set t = own-green (with_held t (no_record t.replica.held))
+regular-green Un conf set t = own-green t
+regular-green (NonPrim regular) conf set t = own-green t
+regular-green RegPrim conf set t = refl
+regular-green (ExchangeStates at members heard) conf set t = refl
+regular-green (ExchangeActions at summaries accepted) conf set t = refl
+regular-green (Construct at heard) conf set t = refl
+regular-green Left conf set t = refl
+
+pub entry-none : (r : Replica) (conf : ℕ) (set : List ℕ) → (replica_step r (Deliveries (RegularIn conf set ∷ []))).green ≡ []
+unfolding replica_step take
+entry-none r conf set = settle-green (on_regular r.state conf set (begin r)) ∙ regular-green r.state conf set (begin r)

@@ -38,13 +38,13 @@ within-behind red (x ∷ ids) id known le =
     and_from (nat_le x.index (index_in red x.creator)) (are_within red (ids ++ id ∷ [])) parts.0 (within-behind red ids id parts.1 le)
 
 module _ (start : List Weighted) (h : Held) (all : List Action) (is : IsOneself start h all) (yellow : IsAllYellow h) (a : Action) where
-  abbrev with_yellow_mark : Held
+  abbrev pub with_yellow_mark : Held
   with_yellow_mark =
       let q = placed_red h.queue a in
       record h { queue = record q { yellow = h.queue.yellow ++ a.id ∷ [] }; own = after_first h.own a.id }
 
   -- the next action of its creator becomes red and yellow
-  yellow-oneself : a.id.index ≡ suc (index_in h.queue.red_cut a.id.creator) → IsOneself start with_yellow_mark all
+  pub yellow-oneself : a.id.index ≡ suc (index_in h.queue.red_cut a.id.creator) → IsOneself start with_yellow_mark all
   yellow-oneself next =
       let red = red-oneself start h all is a next in
       let marked_red_held : Held = record h { queue = placed_red h.queue a; own = after_first h.own a.id } in
@@ -55,7 +55,7 @@ module _ (start : List Weighted) (h : Held) (all : List Action) (is : IsOneself 
       (within-behind (raise h.queue.red_cut a.id) h.queue.yellow a.id red.yellow_closed.known (omega arith))
       red.contiguous.own red.contiguous.mine
 
-  yellow-placed : a.id.index ≡ suc (index_in h.queue.red_cut a.id.creator) →
+  pub yellow-placed : a.id.index ≡ suc (index_in h.queue.red_cut a.id.creator) →
       marked_yellow h.queue a ≡ Marks Placed (let q = placed_red h.queue a in record q { yellow = h.queue.yellow ++ a.id ∷ [] })
   yellow-placed next =
       let last : a.id.index ≡ suc (index_in (cut_behind h.queue.green_cut h.queue.yellow) a.id.creator) = next ∙ ap (λ c. suc (index_in c a.id.creator)) (sym yellow) in

@@ -131,7 +131,7 @@ module _ (c : Chronicle) (i : Invariant c) (p : ℕ) (r : Replica) (ins : Instal
   shape = subst (λ (o : Option Attempt). IfSome o (IsAttempt c ins.conf)) ins.found (i.attempt.attempt_shape ins.conf)
 
   -- it knows all that some member knew
-  knows-all : (q : ℕ) → index_in r.held.queue.red_cut q ≡ known_up_to heard q
+  pub knows-all : (q : ℕ) → index_in r.held.queue.red_cut q ≡ known_up_to heard q
   knows-all q =
       let handed = subst (λ (x : Phase). AreNumberedAt c p x r) ins.regular (subst (λ (o : Option Replica). IfSome o (AreNumberedAt c p (phase_of c.world.group p))) ins.up (i.talk.acts_numbered.handed p)) in
       let are : (creator : ℕ) → index_in r.held.queue.red_cut creator ≡ count_behind X creator = subst (AreNumbered c ins.conf p r.held) waits-announced handed in

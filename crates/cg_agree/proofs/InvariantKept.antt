@@ -1,5 +1,4 @@
--- All facts behind each small step, from all facts before it. One thing is still asked of who leaves a primary component (LeaverLeft): that
--- its yellow names begin with those of the places that all outside have received, and that who installs in leaving covers its level.
+-- All facts hold behind each small step, from all facts before it.
 use Rattle.std.proofs.Common.{◌≡◌, true}
 use Rattle.cg_agree.specs.Chronicle.{Chronicle}
 use Rattle.cg_agree.specs.FactsGreens.{InstalledCount, GreenFacts}
@@ -11,7 +10,8 @@ use Rattle.cg_agree.proofs.BeginsKept.{begins_with-kept}
 use Rattle.cg_agree.proofs.CoverageKept.{coverage-kept}
 use Rattle.cg_agree.proofs.FactsKept.{replica-now, exchange-now, attempt-now}
 use Rattle.cg_agree.proofs.InstalledCountKept.{installed_count-kept}
-use Rattle.cg_agree.proofs.LeaverStep.{LeaverLeft, leaver_covers-from}
+use Rattle.cg_agree.proofs.LeaverLeft.{leaver-left}
+use Rattle.cg_agree.proofs.LeaverStep.{leaver_covers-from}
 use Rattle.cg_agree.proofs.ListsKept.{lists-kept}
 use Rattle.cg_agree.proofs.NetFactsKept.{net-kept}
 use Rattle.cg_agree.proofs.OrderNow.{lists-reach, spine-behind, one_order-behind}
@@ -19,7 +19,7 @@ use Rattle.cg_agree.proofs.PrimaryKept.{primary_greens-kept}
 use Rattle.cg_agree.proofs.TalkFactsKept.{talk-kept}
 use Rattle.cg_agree.proofs.TransKept.{trans_coverage-kept}
 
-module _ (c : Chronicle) (s : Small) (i : Invariant c) (may : may_make c s ≡ true) (rest : AtRest c s) (left : LeaverLeft c s) where
+module _ (c : Chronicle) (s : Small) (i : Invariant c) (may : may_make c s ≡ true) (rest : AtRest c s) where
   counts : InstalledCount (small_step c s)
   counts = installed_count-kept c s i may rest i.attempt.left_out
 
@@ -33,7 +33,7 @@ module _ (c : Chronicle) (s : Small) (i : Invariant c) (may : may_make c s ≡ t
         installed_count = counts;
         spine = spine-behind c s i may rest counts;
         one_order = order;
-        trans_coverage = trans_coverage-kept c s i may (lists-reach c s i may rest counts) (leaver_covers-from c s i may rest left);
+        trans_coverage = trans_coverage-kept c s i may (lists-reach c s i may rest counts) (leaver_covers-from c s i may rest (leaver-left c s i may rest));
         coverage = coverage-kept c s i may rest order counts (lists-reach c s i may rest counts);
       }
 

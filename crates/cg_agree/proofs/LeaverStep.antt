@@ -50,19 +50,19 @@ use Rattle.cg_agree.proofs.TransKept.{TransAt, LeaverCovers}
 use Rattle.cg_agree.proofs.TurnKinds.{HasInstalled}
 
 -- Behind the parting of a regular member of a primary component, which has received a row of places up to this last one, its yellow names
--- begin with those of the actions at the places of that row that it hadn't been handed. (Left to prove.)
+-- begin with those of the actions at the places of that row that it hadn't been handed.
 abbrev pub RowIsYellow : Chronicle → ℕ → List ℕ → List ℕ → Type 0
 RowIsYellow c p set places =
     (r : Replica) (conf last : ℕ) → replica_of c.world p ≡ Some r → phase_of c.world.group p ≡ Regular conf → r.state ≡ RegPrim →
     Front (above_up_to (delivered_to c.world.group p) last) places → last ≤ length (ordered_in c conf) →
     Front (names_of (acts_at (ordered_in c conf) (above_up_to (delivered_to c.world.group p) last))) (take_parting c.world.group p set places (begin r)).replica.held.queue.yellow
 
--- Who installs its attempt in its parting covers its level behind it. (Left to prove.)
+-- Who installs its attempt in its parting covers its level behind it.
 abbrev pub LateCovers : Chronicle → ℕ → List ℕ → ℕ → List ℕ → Type 0
 LateCovers c p set own places =
     (r : Replica) → replica_of c.world p ≡ Some r → HasInstalled r (take_parting c.world.group p set places (begin r)).replica → TransAt (small_step c (Leaves p set own places)) p
 
-places-may : (c : Chronicle) (p : ℕ) (set : List ℕ) (own : ℕ) (places : List ℕ) → may_make c (Leaves p set own places) ≡ true →
+pub places-may : (c : Chronicle) (p : ℕ) (set : List ℕ) (own : ℕ) (places : List ℕ) → may_make c (Leaves p set own places) ≡ true →
     (ascend_within (delivered_to c.world.group p) (length (home c.world.group p).ordered) places ≡ true) × (hold_received (home c.world.group p) p (delivered_to c.world.group p) places ≡ true)
 unfolding may_make
 places-may c p set own places may =
@@ -149,7 +149,7 @@ module _ (c : Chronicle) (p : ℕ) (set : List ℕ) (own : ℕ) (places : List �
       (ap (λ (x : Chronicle). greens_of x p) (turn-is before p part r sits.disk sits.seat) ∙ greens-turn before p r sits.disk (part (begin r)) i.net.seated.past sits.seat)
       phase.at phase.is (parting-by c.world.group p set places r)
 
--- what is left to prove of a step
+-- what this leaves to prove of a step
 abbrev pub LeaverLeft : Chronicle → Small → Type 0
 LeaverLeft c (Leaves p set own places) = RowIsYellow c p set places × LateCovers c p set own places
 LeaverLeft c _ = Unit {0}

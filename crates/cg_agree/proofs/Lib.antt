@@ -278,6 +278,20 @@ pub mod SeatsStay
 pub mod PrimaryOne
 pub mod GreensTold
 pub mod OrderExtends
+pub mod TurnGreens
+pub mod OrderGrows
+pub mod GroupSays
+pub mod OthersShown
+pub mod OthersEvents
+pub mod OrderFits
+pub mod OthersBooked
+pub mod OrderCopies
+pub mod CopiesOrdered
+pub mod TurnsReached
+pub mod OrderBehind
+pub mod EventsReached
+pub mod OrderTellers
+pub mod OrdersKept
 pub mod PartingStill
 pub mod CoresCover
 pub mod CoverageKept
@@ -288,7 +302,6 @@ pub mod PlacesBegin
 pub mod LeaverReach
 pub mod LeaverOutside
 pub mod LeaverStep
-pub mod YellowNext
 pub mod YellowGrows
 pub mod SameLine
 pub mod RunForward
@@ -329,3 +342,8 @@ pub mod QuietSettles
 pub mod MadeThere
 pub mod MadeStays
 pub mod DirtyAnswers
+pub mod ActsNext
+pub mod LateRow
+pub mod LateCovers
+pub mod RowYellow
+pub mod LeaverLeft

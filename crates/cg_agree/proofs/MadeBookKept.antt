@@ -60,6 +60,15 @@ made_book-of c w fits = record { begun = λ p. begun p (seat_of w p) (fits.seats
 pub nothing-made : MadeFits no_world
 nothing-made = record { rising = tt; seats = λ p. refl }
 
+-- who joins hasn't begun
+pub transfer-unbegun : (w : World) (p joiner pieces : ℕ) → first_refusal w (Transfer p joiner pieces) ≡ None → has_begun w joiner ≡ false
+unfolding first_refusal
+transfer-unbegun w p joiner pieces admitted =
+    let first = first-none (takes_part w p) (never_named w joiner ∷ begun_already w joiner ∷ joiner_left w p joiner ∷ not_green w p joiner ∷ []) (ap is_none admitted) in
+    let second = first-none (never_named w joiner) (begun_already w joiner ∷ joiner_left w p joiner ∷ not_green w p joiner ∷ []) first.1 in
+    let third = first-none (begun_already w joiner) (joiner_left w p joiner ∷ not_green w p joiner ∷ []) second.1 in
+    not-refused (has_begun w joiner) _ third.0
+
 -- ---- events
 
 module _ (c : Chronicle) (w : World) (stands : StandsBeside c w) where
@@ -120,14 +129,6 @@ module _ (c : Chronicle) (w : World) (stands : StandsBeside c w) where
           let is = snapshot-none c w stands joiner none p r e in
           pieces-fit joiner none s (min (piece_count s.content) (s.taken + pieces)) is.0 is.1
 
-    unbegun : (p joiner pieces : ℕ) → first_refusal w (Transfer p joiner pieces) ≡ None → has_begun w joiner ≡ false
-    unfolding first_refusal
-    unbegun p joiner pieces admitted =
-        let first = first-none (takes_part w p) (never_named w joiner ∷ begun_already w joiner ∷ joiner_left w p joiner ∷ not_green w p joiner ∷ []) (ap is_none admitted) in
-        let second = first-none (never_named w joiner) (begun_already w joiner ∷ joiner_left w p joiner ∷ not_green w p joiner ∷ []) first.1 in
-        let third = first-none (begun_already w joiner) (joiner_left w p joiner ∷ not_green w p joiner ∷ []) second.1 in
-        not-refused (has_begun w joiner) _ third.0
-
     happens-made : (e : Event) → MayStand w e → first_refusal w e ≡ None → MadeFits (happens w e).world
     unfolding happens split merge deliver
     happens-made (Start set) may admitted = begun-fits set (ids set) w (ap (λ (v : World). v.made) may.0) fits
@@ -159,7 +160,7 @@ module _ (c : Chronicle) (w : World) (stands : StandsBeside c w) where
     happens-made (Fail p call) may admitted = armed-fits c.start w p (sound-at p) fits (record { call = call; fault = FailOnce })
     happens-made (Join p joiner weight) may admitted = asked (name_also w joiner) p (JoinKind joiner weight) refl refl
     happens-made (Leave p server) may admitted = asked w p (LeaveKind server) refl refl
-    happens-made (Transfer p joiner pieces) may admitted = transferred p joiner pieces (unbegun p joiner pieces admitted)
+    happens-made (Transfer p joiner pieces) may admitted = transferred p joiner pieces (transfer-unbegun w p joiner pieces admitted)
 
     -- Behind an event what was shown as made counts what was created.
     pub event-made : (e : Event) → MayStand w e → first_refusal w e ≡ None → MadeFits (world_step w e).world

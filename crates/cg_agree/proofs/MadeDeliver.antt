@@ -98,7 +98,7 @@ module _ (w : World) (p count : ℕ) (rising : IsRising 0 (map (λ s. s.id) w.se
   home-is : home g p ≡ configuration g (regular_in s.phase)
   home-is = ap (λ (o : Option (Standing Msg)). configuration g (regular_in (option_map_or (λ s. s.phase) o Down))) in_group.is
 
-  may-opens : MayIn w opening × (played_in w opening ≡ seated w p t.replica disk (send_all handed p t.sent))
+  pub may-opens : MayIn w opening × (played_in w opening ≡ seated w p t.replica disk (send_all handed p t.sent))
   unfolding replica_step may_in may_make
   may-opens =
       let first = begun-handed w p r disk s rising rises here.seat in_group.is in_group.named in_group.regular in

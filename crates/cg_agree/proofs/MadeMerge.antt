@@ -65,7 +65,7 @@ module _ (w : World) (set : List ℕ) where
   abbrev pub entered : ℕ → Standing Msg
   entered q = record { id = q; phase = Regular conf; delivered = 0; unordered = [] }
 
-  abbrev entered-id : (q : ℕ) → (entered q).id ≡ q
+  abbrev pub entered-id : (q : ℕ) → (entered q).id ≡ q
   entered-id q = refl
 
   abbrev pub input : ℕ → List (Delivery Msg)
@@ -158,7 +158,7 @@ module _ (w : World) (set : List ℕ) where
       ap (λ x. small_in x (Settles p)) enters ∙ settled ∙ ap (λ (t : Turn). seated v p t.replica disk (send_all G p t.sent)) (sym whole-turn),
     )
 
-  members-of : (list : List ℕ) → Each IsComing list → Each (IsMember w made entered entered-id input block) list
+  pub members-of : (list : List ℕ) → Each IsComing list → Each (IsMember w made entered entered-id input block) list
   members-of [] each = tt
   members-of (p ∷ list) each = (record { here = each.0.here; opens = λ v still. opens-so p each.0 v still }, members-of list each.1)
 

@@ -62,14 +62,14 @@ quiet-flat : {X : Type 0} (f : X → List Small) → ((x : X) → Each IsQuiet (
 quiet-flat f each [] = tt
 quiet-flat f each (x ∷ xs) = Each-append IsQuiet (f x) (flat_map f xs) (each x) (quiet-flat f each xs)
 
-gather-quiet : (g : GroupState Msg) → Each IsQuiet (gather_steps g)
+pub gather-quiet : (g : GroupState Msg) → Each IsQuiet (gather_steps g)
 gather-quiet g =
     let h = fold order_all g (regulars g) in
     Each-append IsQuiet (flat_map (λ p. map (λ m. Orders p) (unordered_of g p)) (regulars g)) (flat_map (λ p. map (Receives p) (missing (home h p) p)) (regulars h))
     (quiet-flat (λ p. map (λ m. Orders p) (unordered_of g p)) (λ p. quiet-map (λ m. Orders p) (λ m. tt) (unordered_of g p)) (regulars g))
     (quiet-flat (λ p. map (Receives p) (missing (home h p) p)) (λ p. quiet-map (Receives p) (λ place. tt) (missing (home h p) p)) (regulars h))
 
-transfer-quiet : (w : World) (p joiner pieces : ℕ) → Each IsQuiet (copy_steps w p joiner ++ join_steps w p joiner pieces)
+pub transfer-quiet : (w : World) (p joiner pieces : ℕ) → Each IsQuiet (copy_steps w p joiner ++ join_steps w p joiner pieces)
 transfer-quiet w p joiner pieces =
     Each-append IsQuiet (copy_steps w p joiner) (join_steps w p joiner pieces)
     (cond_both (option_map_or (λ s. s.giver == p) (snapshot_of w joiner) false) [] (Copies p joiner ∷ []) (Each IsQuiet) (λ y. tt) (λ n. (tt, tt)))

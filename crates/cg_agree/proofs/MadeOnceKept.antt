@@ -77,7 +77,7 @@ module _ (Fine : Action → Type 0) where
     at Un made = kept
     at (NonPrim false) made = kept
 
-  holds-weaker : (Other : Action → Type 0) → ((a : Action) → Other a → Fine a) → (h : Held) → HoldsFine Other h → HoldsFine Fine h
+  pub holds-weaker : (Other : Action → Type 0) → ((a : Action) → Other a → Fine a) → (h : Held) → HoldsFine Other h → HoldsFine Fine h
   holds-weaker Other weaker h is = record {
     greens = Each-weaker Other Fine weaker h.queue.greens is.greens;
     reds = Each-weaker Other Fine weaker h.queue.reds is.reds;
@@ -100,11 +100,11 @@ module _ (Fine : Action → Type 0) where
     at None is = tt
     at (Some s) is = (is, tt)
 
-  places-come : (C : Configuration Msg) (places : List ℕ) → Each (λ s. OfMessage Fine s.message) C.ordered → Each (OfDelivery Fine) (deliveries_at C places)
+  pub places-come : (C : Configuration Msg) (places : List ℕ) → Each (λ s. OfMessage Fine s.message) C.ordered → Each (OfDelivery Fine) (deliveries_at C places)
   places-come C [] each = tt
   places-come C (place ∷ places) each = Each-append (OfDelivery Fine) (delivery_at C place) (deliveries_at C places) (place-comes C place each) (places-come C places each)
 
-message-weaker : (P Q : Action → Type 0) → ((a : Action) → P a → Q a) → (m : Msg) → OfMessage P m → OfMessage Q m
+pub message-weaker : (P Q : Action → Type 0) → ((a : Action) → P a → Q a) → (m : Msg) → OfMessage P m → OfMessage Q m
 message-weaker P Q weaker (ActionMsg a) is = weaker a is
 message-weaker P Q weaker (GreenItem at a) is = weaker a is
 message-weaker P Q weaker (RedItem a) is = weaker a is

@@ -105,7 +105,7 @@ module _ (w : World) (set : List ℕ) where
   abbrev pub parted : ℕ → Standing Msg
   parted q = record { id = q; phase = Transitional (regular_in (phase_of g q)) set; delivered = delivered_to g q; unordered = [] }
 
-  abbrev parted-id : (q : ℕ) → (parted q).id ≡ q
+  abbrev pub parted-id : (q : ℕ) → (parted q).id ≡ q
   parted-id q = refl
 
   abbrev pub input : ℕ → List (Delivery Msg)
@@ -115,7 +115,7 @@ module _ (w : World) (set : List ℕ) where
   block q = leaving_steps g set q
 
   -- the group behind the split
-  parted-placed : (list : List ℕ) (low : ℕ) → IsRising low list → (h : GroupState Msg) → ((q : ℕ) → low ≤ q → standing_of h q ≡ standing_of g q) →
+  pub parted-placed : (list : List ℕ) (low : ℕ) → IsRising low list → (h : GroupState Msg) → ((q : ℕ) → low ≤ q → standing_of h q ≡ standing_of g q) →
       fold (become_transitional set) h list ≡ placed parted parted-id h list
   unfolding become_transitional
   parted-placed [] low rise h same = refl
@@ -248,7 +248,7 @@ module _ (w : World) (set : List ℕ) where
               ∙ ap (λ (t : Turn). seated v p t.replica disk (send_all (set_standing v.group (parted p)) p t.sent)) (sym whole-turn),
         )
 
-  members-of : (list : List ℕ) → Each IsLeaving list → Each (IsMember w g parted parted-id input block) list
+  pub members-of : (list : List ℕ) → Each IsLeaving list → Each (IsMember w g parted parted-id input block) list
   members-of [] each = tt
   members-of (p ∷ list) each = (record { here = each.0.here; opens = λ v still. opens-so p each.0 v still }, members-of list each.1)
 

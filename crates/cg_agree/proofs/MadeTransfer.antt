@@ -38,14 +38,14 @@ module _ {X : Type 0} (t u : X → Bool) where
       (λ n. rw n (neither xs (sym (cond-false (t x) (Some x) (find t xs) n) ∙ e)))
       (cases_Bool (t x))
 
-  none-filtered : (xs : List X) → filter t xs ≡ [] → find t xs ≡ None
+  pub none-filtered : (xs : List X) → filter t xs ≡ [] → find t xs ≡ None
   none-filtered [] e = refl
   none-filtered (x ∷ xs) e = ⊎_elim
       (λ y. absurd (let clash : x ∷ filter t xs ≡ [] = sym (cond-true (t x) (x ∷ filter t xs) (filter t xs) y) ∙ e in cc))
       (λ n. rw n (none-filtered xs (sym (cond-false (t x) (x ∷ filter t xs) (filter t xs) n) ∙ e)))
       (cases_Bool (t x))
 
-  nothing-of : (xs : List X) → suc (length xs) ≤ 1 → xs ≡ []
+  pub nothing-of : (xs : List X) → suc (length xs) ≤ 1 → xs ≡ []
   nothing-of [] le = refl
   nothing-of (x ∷ xs) le = absurd (let more : suc (suc (length xs)) ≤ 1 = le in omega arith)
 

@@ -42,11 +42,11 @@ module _ (P : Msg → Type 0) where
 
   -- ---- messages that wait
 
-  waits-set : (g : GroupState Msg) (s : Standing Msg) → Each P s.unordered → DoWait g → DoWait (set_standing g s)
+  pub waits-set : (g : GroupState Msg) (s : Standing Msg) → Each P s.unordered → DoWait g → DoWait (set_standing g s)
   waits-set g s own w q =
       subst (Each P) (sym (unordered_of-set g s q)) (cond_both (q == s.id) s.unordered (unordered_of g q) (Each P) (λ y. own) (λ n. w q))
 
-  waits-down : (g : GroupState Msg) (p : ℕ) → DoWait g → DoWait (go_down g p)
+  pub waits-down : (g : GroupState Msg) (p : ℕ) → DoWait g → DoWait (go_down g p)
   waits-down g p w q =
       subst (λ (o : Option (Standing Msg)). Each P (option_map_or (λ s. s.unordered) o [])) (sym (standing_of-down g p q))
       (cond_both (q == p) None (standing_of g q) (λ (o : Option (Standing Msg)). Each P (option_map_or (λ s. s.unordered) o [])) (λ y. tt) (λ n. w q))
@@ -55,7 +55,7 @@ module _ (P : Msg → Type 0) where
   waits-configured g conf k w q =
       subst (λ (o : Option (Standing Msg)). Each P (option_map_or (λ s. s.unordered) o [])) (sym (standing_of-set_configuration g conf k q)) (w q)
 
-  waiting-here : (g : GroupState Msg) (p : ℕ) (s : Standing Msg) → standing_of g p ≡ Some s → DoWait g → Each P s.unordered
+  pub waiting-here : (g : GroupState Msg) (p : ℕ) (s : Standing Msg) → standing_of g p ≡ Some s → DoWait g → Each P s.unordered
   waiting-here g p s e w = subst (λ (o : Option (Standing Msg)). Each P (option_map_or (λ s. s.unordered) o [])) e (w p)
 
   waits-send : (g : GroupState Msg) (p : ℕ) (m : Msg) → P m → DoWait g → DoWait (send g p m)
@@ -68,11 +68,11 @@ module _ (P : Msg → Type 0) where
         cond_both (regular_in s.phase == 0) g (set_standing g new) DoWait
         (λ y. w) (λ n. waits-set g new (Each-append P s.unordered (m ∷ []) (waiting-here g p s e w) (is, tt)) w)
 
-  waits-sent : (ms : List Msg) (g : GroupState Msg) (p : ℕ) → Each P ms → DoWait g → DoWait (send_all g p ms)
+  pub waits-sent : (ms : List Msg) (g : GroupState Msg) (p : ℕ) → Each P ms → DoWait g → DoWait (send_all g p ms)
   waits-sent [] g p each w = w
   waits-sent (m ∷ ms) g p each w = waits-sent ms (send g p m) p each.1 (waits-send g p m each.0 w)
 
-  waits-order : (g : GroupState Msg) (p : ℕ) → DoWait g → DoWait (order g p)
+  pub waits-order : (g : GroupState Msg) (p : ℕ) → DoWait g → DoWait (order g p)
   unfolding order order_from
   waits-order g p w = at (standing_of g p) refl where
     from : (s : Standing Msg) (list : List Msg) → Each P list → DoWait (order_from g s list)
@@ -86,13 +86,13 @@ module _ (P : Msg → Type 0) where
     at None e = w
     at (Some s) e = from s s.unordered (waiting-here g p s e w)
 
-  waits-handed : (g : GroupState Msg) (p n : ℕ) → DoWait g → DoWait (with_delivered g p n)
+  pub waits-handed : (g : GroupState Msg) (p n : ℕ) → DoWait g → DoWait (with_delivered g p n)
   waits-handed g p n w = at (standing_of g p) refl where
     at : (o : Option (Standing Msg)) → standing_of g p ≡ o → DoWait (option_map_or (λ s. set_standing g (record s { delivered = n })) o g)
     at None e = w
     at (Some s) e = waits-set g (record s { delivered = n }) (waiting-here g p s e w) w
 
-  waits-up : (g : GroupState Msg) (p : ℕ) → DoWait g → DoWait (come_up g p)
+  pub waits-up : (g : GroupState Msg) (p : ℕ) → DoWait g → DoWait (come_up g p)
   unfolding come_up
   waits-up g p w = waits-set g (record { id = p; phase = Alone; delivered = 0; unordered = [] }) tt w
 
@@ -100,15 +100,15 @@ module _ (P : Msg → Type 0) where
   waits-begun set [] w h = h
   waits-begun set (p ∷ replicas) w h = waits-begun set replicas (begin_replica set w p) (waits-up w.group p h)
 
-  waits-made : (g : GroupState Msg) (set : List ℕ) → DoWait g → DoWait (make_configuration g set)
+  pub waits-made : (g : GroupState Msg) (set : List ℕ) → DoWait g → DoWait (make_configuration g set)
   unfolding standing_of
   waits-made g set w q = w q
 
-  waits-regular : (conf : ℕ) (g : GroupState Msg) (p : ℕ) → DoWait g → DoWait (become_regular conf g p)
+  pub waits-regular : (conf : ℕ) (g : GroupState Msg) (p : ℕ) → DoWait g → DoWait (become_regular conf g p)
   unfolding become_regular
   waits-regular conf g p w = waits-set g (record { id = p; phase = Regular conf; delivered = 0; unordered = [] }) tt w
 
-  waits-received : (g : GroupState Msg) (p place : ℕ) → DoWait g → DoWait (receive g p place)
+  pub waits-received : (g : GroupState Msg) (p place : ℕ) → DoWait g → DoWait (receive g p place)
   unfolding receive
   waits-received g p place w = let conf = regular_in (phase_of g p) in waits-configured g conf (with_receipt (configuration g conf) p place) w
 

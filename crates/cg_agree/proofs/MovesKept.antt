@@ -1,5 +1,4 @@
--- What a small step never takes back, whole; and that small steps keep the facts, where who leaves a primary component in order covers
--- its level.
+-- What a small step never takes back, whole; and that small steps keep the facts.
 use Rattle.std.proofs.Common.{◌≡◌, ℕ, ◌<◌, Bool, true, false, not, List, [], ◌∷◌, ◌⊎◌, inl, inr, length, refl, sym, ap, ap₂, ◌∙◌, arith, eqb-true, ⊎_elim}
 use Rattle.std.specs.Prelude.{◌==◌}
 use Rattle.std.proofs.lemmas.Bool.{cases_Bool, cond-true, cond-false, and_parts, not-true}
@@ -33,7 +32,6 @@ use Rattle.cg_agree.proofs.NextThere.{orders-now, receives-now}
 use Rattle.cg_agree.proofs.OneSteps.{OneStep, turns-step, hands-step, leaves-step, enters-step, commits-step, copies-step, crashes-step, recovers-step, joins-step, may-join, may-enter}
 use Rattle.cg_agree.proofs.OrderNow.{lists-reached, lists-reach}
 use Rattle.cg_agree.proofs.TalkFactsKept.{talk_legal-kept}
-use Rattle.cg_agree.proofs.LeaverStep.{LeaverLeft}
 
 -- ---- a configuration keeps its members, or nothing is said in it
 
@@ -115,6 +113,6 @@ lists_grow-kept c s i may rest = record {
 pub moves-kept : (c : Chronicle) (s : Small) → Invariant c → may_make c s ≡ true → AtRest c s → Moves c (small_step c s)
 moves-kept c s i may rest = record { receipts_fixed = fixed-in c s i may; lists_grow = lists_grow-kept c s i may rest }
 
--- Small steps keep the facts, and take nothing back, where of who leaves a primary component this is so.
-pub kept-by-smalls : ((c : Chronicle) (s : Small) → Invariant c → may_make c s ≡ true → AtRest c s → LeaverLeft c s) → KeptBySmalls
-kept-by-smalls left c s i may rest = (invariant-now c s i may rest (left c s i may rest), moves-kept c s i may rest)
+-- Small steps keep the facts, and take nothing back.
+pub kept-by-smalls : KeptBySmalls
+kept-by-smalls c s i may rest = (invariant-now c s i may rest, moves-kept c s i may rest)

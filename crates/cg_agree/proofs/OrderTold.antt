@@ -118,7 +118,7 @@ still w = record { names = sym (append-nil w.order); places = refl }
 out_order : (w : World) (o : Outcome Msg) → Keeps w (hand_out w o)
 out_order w o = all_handed w (quietly (record w { group = o.group })) o.handed (still w)
 
-begun_order : (set : List Weighted) (w : World) (names : List ℕ) → (fold (begin_replica set) w names).order ≡ w.order
+pub begun_order : (set : List Weighted) (w : World) (names : List ℕ) → (fold (begin_replica set) w names).order ≡ w.order
 begun_order set w [] = refl
 begun_order set w (p ∷ names) = begun_order set (begin_replica set w p) names
 

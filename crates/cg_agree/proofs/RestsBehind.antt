@@ -108,7 +108,7 @@ handed-ids f same [] low rise = tt
 handed-ids f same (p ∷ set) low rise =
     (subst (λ n. low ≤ n) (sym (same p)) rise.0, subst (λ n. IsRising (suc n) (map (λ h. h.to) (map f set))) (sym (same p)) (handed-ids f same set (suc p) rise.1))
 
-each-handed : (Q : ℕ → Input → Type 0) (f : ℕ → Handed Msg) → ((q : ℕ) → Q (f q).to (Deliveries (f q).list)) → (set : List ℕ) → Each (λ h. Q h.to (Deliveries h.list)) (map f set)
+pub each-handed : (Q : ℕ → Input → Type 0) (f : ℕ → Handed Msg) → ((q : ℕ) → Q (f q).to (Deliveries (f q).list)) → (set : List ℕ) → Each (λ h. Q h.to (Deliveries h.list)) (map f set)
 each-handed Q f each [] = tt
 each-handed Q f each (p ∷ set) = (each p, each-handed Q f each set)
 

@@ -1,5 +1,5 @@
 -- Where the seat of a replica leads in an event in which replicas take turns: it takes its own turn, or its seat stays.
-use Rattle.std.proofs.Common.{◌⊎◌, ◌≡◌, ℕ, suc, ◌<◌, List, [], ◌∷◌, map, fold, find, Option, Some, None, refl, sym, ap, ◌∙◌, subst, arith, inl, inr, eq-eqb}
+use Rattle.std.proofs.Common.{◌⊎◌, ◌≡◌, ℕ, suc, ◌<◌, ◌≤◌, List, [], ◌∷◌, map, fold, find, Option, Some, None, refl, sym, ap, ◌∙◌, subst, arith, inl, inr, eq-eqb}
 use Rattle.std.specs.Prelude.{◌==◌}
 use Rattle.std.specs.Option.{option_map_or}
 use Rattle.std.proofs.lemmas.Bool.{cases_eq, cond-true, cond-false, ne_eqb}
@@ -73,7 +73,7 @@ module _ (Q : ℕ → Input → Type 0) where
   ]
 
 -- who isn't among them keeps its seat
-others-stay : (list : List (Handed Msg)) (go : Going) (p low : ℕ) → IsRising low (map (λ h. h.to) list) → p < low → seat_of (fold hand_over go list).world p ≡ seat_of go.world p
+pub others-stay : (list : List (Handed Msg)) (go : Going) (p low : ℕ) → IsRising low (map (λ h. h.to) list) → p < low → seat_of (fold hand_over go list).world p ≡ seat_of go.world p
 others-stay [] go p low rise less = refl
 others-stay (h ∷ list) go p low rise less =
     let le = rise.0 in
@@ -95,4 +95,36 @@ handed-behind Q (h ∷ list) go low rise each p =
       | inr apart ↦ from-same Q go.world next.world (fold hand_over next list).world p
           (elim (hand-behind (λ q input. q ≡ h.to) go h.to (Deliveries h.list) refl p) [ inl same ↦ same | inr turn ↦ absurd (apart turn.of) ])
           (handed-behind Q list next (suc h.to) rise.1 each.1 p)
+    ]
+
+-- who takes its turn ends as the turn does
+hand-ends : (go : Going) (q : ℕ) (input : Input) (r : Replica) (disk : Disk) → seat_of go.world q ≡ Some (up_seat q r disk) →
+    seat_of (hand go q input).world q ≡ Some (record { id = q; life = life_at (end_event disk r.held (replica_step r input)) })
+hand-ends go q input r disk seat =
+    let end = end_event disk r.held (replica_step r input) in
+    let leads = hand-leads go q r disk input seat in
+    ap (λ (list : List Seat). find (λ s. s.id == q) list) (leads.seats ∙ seats-ended go.world go.world.group q (replica_step r input) end) ∙ seat_of-set go.world q (life_at end) q
+    ∙ cond-true (q == q) (Some (record { id = q; life = life_at end })) (seat_of go.world q) (eq-eqb q q refl)
+
+-- how a replica ends that is handed this
+abbrev pub EndsSo : World → World → Input → ℕ → Type 0
+EndsSo w u input q =
+    (r : Replica) (disk : Disk) → seat_of w q ≡ Some (up_seat q r disk) → seat_of u q ≡ Some (record { id = q; life = life_at (end_event disk r.held (replica_step r input)) })
+
+pub alone-ends : (w : World) (go : Going) (q : ℕ) (input : Input) → seat_of go.world q ≡ seat_of w q → EndsSo w (hand go q input).world input q
+alone-ends w go q input same r disk seat = hand-ends go q input r disk (same ∙ seat)
+
+pub handed-ends : (w : World) (list : List (Handed Msg)) (go : Going) (low : ℕ) → IsRising low (map (λ h. h.to) list) → ((q : ℕ) → low ≤ q → seat_of go.world q ≡ seat_of w q) →
+    Each (λ h. EndsSo w (fold hand_over go list).world (Deliveries h.list) h.to) list
+handed-ends w [] go low rise still = tt
+handed-ends w (h ∷ list) go low rise still = (
+  λ r disk seat. others-stay list (hand_over go h) h.to (suc h.to) rise.1 (let less : h.to < suc h.to = omega arith in less)
+      ∙ hand-ends go h.to (Deliveries h.list) r disk (still h.to rise.0 ∙ seat),
+  handed-ends w list (hand_over go h) (suc h.to) rise.1 (λ q le. stays q le ∙ still q (let up = rise.0 in omega arith)),
+)
+  where
+    stays : (q : ℕ) → suc h.to ≤ q → seat_of (hand_over go h).world q ≡ seat_of go.world q
+    stays q le = elim (hand-behind (λ x input. x ≡ h.to) go h.to (Deliveries h.list) refl q) [
+      | inl same ↦ same
+      | inr turn ↦ absurd (let same : q ≡ h.to = turn.of in omega arith)
     ]
