@@ -341,6 +341,7 @@ pub mod QuietSettled
 pub mod QuietSettles
 pub mod MadeThere
 pub mod MadeStays
+pub mod RedsShown
 pub mod DirtyAnswers
 pub mod ActsNext
 pub mod LateRow
