@@ -1,6 +1,5 @@
 -- A dirty answer is read from the replica's prefix of the order, then its yellow list, then its other reds.
-use Rattle.std.proofs.Common.{◌≡◌, ℕ, zero, suc, ◌≤◌, true, not, List, [], ◌∷◌, ◌++◌, map, filter, fold, drop, take, length, Option, Some, None, IfSome, is_some, refl, sym, ap, ap₂, ◌∙◌, subst, inl, inr, arith}
-use Rattle.std.specs.Prelude.{nat_le}
+use Rattle.std.proofs.Common.{◌≡◌, ℕ, zero, suc, ◌≤◌, true, not, List, [], ◌∷◌, ◌++◌, drop, take, length, Option, Some, None, IfSome, is_some, sym, ap, ap₂, ◌∙◌, subst, arith}
 use Rattle.std.specs.Option.{option_map_or}
 use Rattle.std.proofs.lemmas.Bool.{le-leb}
 use Rattle.std.proofs.lemmas.List.{map-append}
@@ -8,30 +7,27 @@ use Rattle.std.proofs.lemmas.List.Sums.{fold-append}
 use Rattle.cg_base.specs.declared.action_id.ActionId.{ActionId}
 use Rattle.cg_base.specs.Cuts.{index_in, raise}
 use Rattle.cg_base.specs.Ids.{names}
-use Rattle.cg_base.specs.Lists.{present}
 use Rattle.cg_action.specs.declared.action.Action.{Action}
 use Rattle.cg_action.specs.declared.query.Query.{Query}
 use Rattle.cg_db.specs.declared.entry.DbEntry.{DbEntry}
 use Rattle.cg_db.specs.Apply.{apply, fold_actions}
 use Rattle.cg_db.specs.Find.{answer}
 use Rattle.cg_queue.specs.Queue.{green_count, names_of}
-use Rattle.cg_group.specs.declared.phase.Phase.{Phase}
-use Rattle.cg_group.specs.EachLaws.{Each, Each-filter, Each-append, Each-weaker}
-use Rattle.cg_group.specs.State.{phase_of, is_up}
+use Rattle.cg_group.specs.EachLaws.{Each, Each-filter, Each-append}
+use Rattle.cg_group.specs.State.{is_up}
 use Rattle.cg_client.specs.Install.{actions_named}
 use Rattle.cg_client.specs.Queries.{plain_reds, behind, dirty_answer, view_of}
 use Rattle.cg_client.specs.Replica.{Held, Replica}
 use Rattle.cg_report.specs.declared.entry.Shown.TheVariants.{Dirty as ShownDirty}
 use Rattle.cg_report.specs.declared.line.UpLine.{UpLine}
 use Rattle.cg_report.specs.declared.line.View.{View}
-use Rattle.cg_schedule.specs.declared.event.Event.{Event}
 use Rattle.cg_schedule.specs.declared.event.Event.TheVariants.{Dirty}
 use Rattle.cg_agree.specs.World.{World, no_world, replica_of}
 use Rattle.cg_agree.specs.Admission.{first_refusal}
 use Rattle.cg_agree.specs.Show.{Moved, ended}
 use Rattle.cg_agree.specs.Step.{happens, world_step}
 use Rattle.cg_agree.specs.Run.{Step, IsRunFrom, world_after}
-use Rattle.cg_agree.specs.Shown.{order_of, made_names, made_actions, ordered_actions, last_up}
+use Rattle.cg_agree.specs.Shown.{order_of, made_names, made_actions, ordered_actions}
 use Rattle.cg_agree.specs.Agreement.{through, known_actions, DirtyAnswers}
 use Rattle.cg_agree.specs.Chronicle.{Chronicle, no_chronicle}
 use Rattle.cg_agree.specs.Fronts.{IsSomeWith}
@@ -50,14 +46,11 @@ use Rattle.cg_agree.proofs.MadeTold.{IsMadeTold, made-told}
 use Rattle.cg_agree.proofs.OrderReached.{in-order}
 use Rattle.cg_agree.proofs.OrderTold.{order_told}
 use Rattle.cg_agree.proofs.OrderedActions.{IsShownAs, shown-as, each-shown_as, all-as, ordered-as}
+use Rattle.cg_agree.proofs.RedsShown.{each-front, reds-shown}
 use Rattle.cg_agree.proofs.RunMarks.{run-head, run-rest}
 use Rattle.cg_agree.proofs.RunPrefix.{world-last, comes}
 use Rattle.cg_agree.proofs.TellsRun.{has-told}
 use Rattle.cg_agree.proofs.TurnRows.{each-named}
-
--- what is red at a replica that is up was shown as made
-abbrev pub AreRedsShown : World → Type 0
-AreRedsShown w = (p : ℕ) (r : Replica) → replica_of w p ≡ Some r → Each (λ (a : Action). a.id.index ≤ index_in w.made a.id.creator) r.held.queue.reds
 
 -- ---- lists
 
@@ -65,10 +58,6 @@ each-drop : {X : Type 0} (P : X → Type 0) (n : ℕ) (xs : List X) → Each P x
 each-drop P zero xs each = each
 each-drop P (suc n) [] each = tt
 each-drop P (suc n) (x ∷ xs) each = each-drop P n xs each.1
-
-each-front : {X : Type 0} (P : X → Type 0) (xs ys : List X) → Each P (xs ++ ys) → Each P xs
-each-front P [] ys each = tt
-each-front P (x ∷ xs) ys each = (each.0, each-front P xs ys each.1)
 
 numbered-each : (cut ids : List ActionId) → run_on cut ids ≡ true → Each (λ id. 1 ≤ id.index) ids
 numbered-each cut [] run = tt
@@ -99,14 +88,14 @@ module _ (steps : List Step) (c : Chronicle) (w : World) (stands : StandsBeside 
     green_booked : Each (IsNamed c.book) (greens_of c p)
     green_booked = each-booked c (greens_of c p) (stands.facts.replica.made_once.in_greens p)
 
-    reds-shown : Each Is h.queue.reds
-    reds-shown =
+    reds-are : Each Is h.queue.reds
+    reds-are =
         let booked = subst (λ (o : Option Replica). IfSome o (λ r. AreBooked c (r.held.queue.reds ++ r.held.own))) here (stands.facts.replica.made_once.in_memory p) in
         shown-each h.queue.reds (each-front (IsNamed c.book) h.queue.reds h.own (each-booked c (h.queue.reds ++ h.own) booked)) low
         (numbered-each h.queue.green_cut (names_of h.queue.reds) (in-order c w stands p r runs).core.contiguous.reds)
 
-    greens-shown : Each Is h.queue.greens
-    greens-shown =
+    greens-are : Each Is h.queue.greens
+    greens-are =
         let is = in-order c w stands p r runs in
         subst (Each Is) (sym is.core.made_of.kept) (each-drop Is h.queue.white (greens_of c p) (each-shown_as steps c w stands told (greens_of c p) is.front green_booked))
 
@@ -114,8 +103,8 @@ module _ (steps : List Step) (c : Chronicle) (w : World) (stands : StandsBeside 
     marked-shown : Each Is (actions_named h.queue h.queue.yellow ++ plain_reds h.queue)
     marked-shown =
         Each-append Is (actions_named h.queue h.queue.yellow) (plain_reds h.queue)
-        (each-named Is h.queue h.queue.yellow (Each-append Is h.queue.greens h.queue.reds greens-shown reds-shown))
-        (Each-filter Is (λ a. not (names h.queue.yellow a.id)) h.queue.reds reds-shown)
+        (each-named Is h.queue h.queue.yellow (Each-append Is h.queue.greens h.queue.reds greens-are reds-are))
+        (Each-filter Is (λ a. not (names h.queue.yellow a.id)) h.queue.reds reds-are)
 
     marked-made : made_actions steps (h.queue.yellow ++ names_of (plain_reds h.queue)) ≡ actions_named h.queue h.queue.yellow ++ plain_reds h.queue
     marked-made =
@@ -158,9 +147,8 @@ shows : (w : World) (p : ℕ) (q : Query) (r : Replica) → replica_of w p ≡ S
 unfolding world_step ended happens
 shows w p q r up = (ap (λ o. option_map_or (λ (r : Replica). ShownDirty p (dirty_answer r.held q) ∷ []) o []) up, up)
 
--- Dirty answers, where what is red was shown as made.
-pub dirty-answers : AlwaysHolds → ((steps : List Step) → IsRunFrom no_world 0 steps → AreRedsShown (world_after no_world steps)) → (steps : List Step) → IsRunFrom no_world 0 steps → DirtyAnswers steps
-dirty-answers always reds steps run earlier s p q up after event last =
+pub dirty-answers : AlwaysHolds → (steps : List Step) → IsRunFrom no_world 0 steps → DirtyAnswers steps
+dirty-answers always steps run earlier s p q up after event last =
     let there = comes always steps run earlier s after in
     let now = through earlier s in
     let w = world_after no_world earlier in
@@ -179,4 +167,4 @@ dirty-answers always reds steps run earlier s p q up after event last =
     subst (λ (o : Option UpLine). IsSomeWith o (λ up. up.view ≡ view_of r.held)) last (up-shown v now told.lines.shown told.lines.stand p r runs) in
     ap (λ (m : Moved). m.entry.shown) moved ∙ shown.0
     ∙ ap (λ x. ShownDirty p x ∷ [])
-    (dirty-is now (chronicle_after no_chronicle no_world now) v (stands-of always now there.upto) told.made p r runs (reds now there.upto p r runs) up view (sym (order_told no_world 0 now there.upto)) q)
+    (dirty-is now (chronicle_after no_chronicle no_world now) v (stands-of always now there.upto) told.made p r runs (reds-shown always now there.upto p r runs) up view (sym (order_told no_world 0 now there.upto)) q)

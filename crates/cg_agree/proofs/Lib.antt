@@ -364,6 +364,7 @@ pub mod QuietSettled
 pub mod QuietSettles
 pub mod MadeThere
 pub mod MadeStays
+pub mod RedsShown
 pub mod DirtyAnswers
 pub mod ItemsReached
 pub mod GreensStay

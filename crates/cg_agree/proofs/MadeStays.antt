@@ -9,7 +9,6 @@ use Rattle.cg_base.specs.declared.action_id.ActionId.{ActionId}
 use Rattle.cg_base.specs.Ids.{names, same_id}
 use Rattle.cg_base.specs.IdLaws.{same_id-true}
 use Rattle.cg_base.specs.Cuts.{index_in}
-use Rattle.cg_action.specs.declared.action.Action.{Action}
 use Rattle.cg_queue.specs.Queue.{green_count, names_of}
 use Rattle.cg_group.specs.EachLaws.{Each}
 use Rattle.cg_client.specs.Replica.{Replica, created}
@@ -22,10 +21,10 @@ use Rattle.cg_agree.specs.Run.{Step, IsRunFrom, world_after}
 use Rattle.cg_agree.specs.Shown.{order_of, order_lines, made_names, last_up}
 use Rattle.cg_agree.specs.Agreement.{through, names_on, MadeStays}
 use Rattle.cg_agree.specs.Chronicle.{Chronicle, no_chronicle}
-use Rattle.cg_agree.specs.Fronts.{Front, IsSomeWith}
+use Rattle.cg_agree.specs.Fronts.{IsSomeWith}
 use Rattle.cg_agree.specs.Looks.{greens_of}
 use Rattle.cg_agree.specs.Noting.{chronicle_after}
-use Rattle.cg_agree.specs.FactsReplica.{IsCore, IsModeData, cut_behind}
+use Rattle.cg_agree.specs.FactsReplica.{IsModeData, cut_behind}
 use Rattle.cg_agree.specs.Played.{StandsBeside, AlwaysHolds}
 use Rattle.cg_agree.proofs.CreatorNumbered.{stands-of, names-count}
 use Rattle.cg_agree.proofs.FrontFacts.{take-Front}
