@@ -371,3 +371,4 @@ pub mod GreensStay
 pub mod SnapshotsReached
 pub mod LongerBy
 pub mod OrderLonger
+pub mod RunsAgree

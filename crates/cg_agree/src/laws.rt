@@ -1,4 +1,10 @@
+ghost use Rattle.cg_agree.specs.Agreement.{EveryRunAgrees};
 ghost use Rattle.cg_agree.specs.Standing.{AlwaysStands, AlwaysBooked};
+
+/// The steps of every run agree: one order only grows, and what each replica holds, answers and shows is that of a prefix of it.
+pub fn runs_agree()
+    ensures { EveryRunAgrees }
+{}
 
 /// All facts stand beside each world to which admitted events lead, from before the start on.
 pub fn facts_stand_beside_each_world()
