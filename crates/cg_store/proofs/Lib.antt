@@ -9,3 +9,4 @@ mod Chosen
 mod Appending
 mod Checkpointing
 mod Opened
+mod Tested

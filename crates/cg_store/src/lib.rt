@@ -17,6 +17,8 @@ mod rebuild;
 mod records;
 mod replay;
 mod store;
+#[cfg(test)]
+mod tests;
 mod unwritten;
 mod values;
 
