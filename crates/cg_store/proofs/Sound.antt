@@ -3,10 +3,8 @@ use Rattle.std.proofs.Common.{◌≡◌, List, [], ◌∷◌, ◌++◌, Bool, tr
 use Rattle.std.specs.Prelude.{ℕ, option_and_then, if◌then◌else◌}
 use Rattle.cg_base.specs.declared.action_id.ActionId.{ActionId}
 use Rattle.cg_action.specs.declared.action.Action.{Action}
-use Rattle.cg_action.specs.declared.action.Kind.{Kind}
 use Rattle.cg_queue.specs.Queue.{action_of, placed_red}
 use Rattle.cg_records.specs.declared.stable.Stable.{Stable}
-use Rattle.cg_client.specs.Replica.{Held}
 use Rattle.cg_client.specs.Marks.{with_green, after_first, after_owed}
 use Rattle.cg_stored.specs.Stored.{Stored, whiten}
 use Rattle.cg_stored.specs.declared.change.Change.{Change}
