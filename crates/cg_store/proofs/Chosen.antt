@@ -5,13 +5,15 @@ use Rattle.std.specs.Option.{option_map}
 use Rattle.cg_disk.specs.declared.disk.Side.{Side}
 use Rattle.cg_disk.specs.declared.disk.Side.TheVariants.{A, B}
 use Rattle.cg_journal.specs.Records.{Records, on_side}
-use Rattle.cg_stored.specs.Parts.{saved_in}
+use Rattle.cg_stored.specs.Parts.{saved_in, stored_in}
 use Rattle.cg_stored.specs.Laws.{AreSaved}
 use Rattle.cg_stored.specs.declared.checkpoint.Checkpoint.{Checkpoint}
+use Rattle.cg_step.specs.Recorded.{AlwaysHolds}
 use Rattle.cg_store.specs.Stands.{Live, size_of, live_from, live_on, standing_on, chosen, standing_in}
 use Rattle.cg_store.specs.Opening.{front, first_on, FindsFirst, greater, Replays, Finds}
 use Rattle.cg_store.specs.declared.finding.Found.{Found}
 use Rattle.cg_store.specs.declared.finding.Front.{Front}
+use Rattle.cg_store.proofs.Sound.{stored-sound, led_all-sound}
 
 live_by_first : (id : ℕ) (bodies : List (List ℕ)) → live_on id bodies ≡ option_map (live_from bodies (drop 1 bodies)) (first_on id bodies)
 live_by_first id [] = refl
@@ -80,19 +82,20 @@ none_chosen id a b (Some p) (Some q) found_a found_b is = at (nat_lt p.generatio
   at false e = cc
 
 -- what its records stand for
-pub replayed_finds : (id : ℕ) (r : Records) (side : Side) (first : Checkpoint) (found : Option Found) → IsChosen id r side first → Replays id side first (drop 1 (on_side side r)) found → Finds id r found
-replayed_finds id r side first None chose none =
+pub replayed_finds : AlwaysHolds → (id : ℕ) (r : Records) (side : Side) (first : Checkpoint) (found : Option Found) → IsChosen id r side first → Replays id side first (drop 1 (on_side side r)) found → Finds id r found
+replayed_finds always id r side first None chose none =
     chose.standing ∙ ap (option_map (λ s. record { side = side; generation = first.generation; size = size_of (on_side side r); content = s })) none
-replayed_finds id r side first (Some f) chose is = record {
+replayed_finds always id r side first (Some f) chose is = record {
   size = size_of (on_side side r);
   stands = chose.standing
       ∙ ap (option_map (λ s. record { side = side; generation = first.generation; size = size_of (on_side side r); content = s })) is.leads
       ∙ (λ i. Some (record { side = sym is.side_is i; generation = sym is.generation_is i; size = size_of (on_side side r); content = f.core }));
   values = is.values;
   small = is.small;
+  sound = led_all-sound always (stored_in id first) f.core (drop 1 (on_side side r)) (stored-sound always (stored_in id first) chose.saved.fits.agrees chose.saved.stored) is.leads;
 }
 
-pub if_ok_finds : (id : ℕ) (r : Records) (side : Side) (first : Checkpoint) (changes : List (List ℕ)) (E : Type 0) (result : Result (Option Found) E) → IsChosen id r side first → changes ≡ drop 1 (on_side side r) →
+pub if_ok_finds : AlwaysHolds → (id : ℕ) (r : Records) (side : Side) (first : Checkpoint) (changes : List (List ℕ)) (E : Type 0) (result : Result (Option Found) E) → IsChosen id r side first → changes ≡ drop 1 (on_side side r) →
     IfOk result (Replays id side first changes) → IfOk result (Finds id r)
-if_ok_finds id r side first changes E (Ok found) chose same is = replayed_finds id r side first found chose (subst (λ c. Replays id side first c found) same is)
-if_ok_finds id r side first changes E (Err e) chose same is = tt
+if_ok_finds always id r side first changes E (Ok found) chose same is = replayed_finds always id r side first found chose (subst (λ c. Replays id side first c found) same is)
+if_ok_finds always id r side first changes E (Err e) chose same is = tt

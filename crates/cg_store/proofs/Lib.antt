@@ -5,6 +5,7 @@ mod Committing
 mod Rebuilding
 mod Replaying
 mod Outcome
+mod Sound
 mod Chosen
 mod Appending
 mod Checkpointing

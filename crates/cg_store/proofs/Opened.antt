@@ -19,6 +19,7 @@ module _ {D : Type 0} (view : D → DiskView) (id : ℕ) (old : DiskView) (journ
     standing = is.0;
     stands = ap (stands_for id) are ∙ is.1;
     core_is = is.2;
+    sound = is.4;
     id_is = ap (λ (k : Kept D). k.id) is.3;
     unwritten = ap (λ (k : Kept D). k.unwritten) is.3;
     read = subst (λ d. IsRead 5 old (view d)) (sym (ap (λ (k : Kept D). k.disk) is.3)) read;

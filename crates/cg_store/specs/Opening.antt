@@ -11,6 +11,7 @@ use Rattle.cg_stored.specs.Stored.{Stored, stable_of}
 use Rattle.cg_stored.specs.Parts.{Saved, saved_in, stored_in, checkpoint_in}
 use Rattle.cg_stored.specs.Laws.{AreSaved}
 use Rattle.cg_stored.specs.declared.checkpoint.Checkpoint.{Checkpoint}
+use Rattle.cg_step.specs.Holds.{Holds}
 use Rattle.cg_store.specs.Stands.{Standing, Stands, stands_for, standing_in, led_by_all}
 use Rattle.cg_store.specs.Kept.{Kept}
 use Rattle.cg_store.specs.declared.finding.Found.{Found}
@@ -54,12 +55,19 @@ abbrev pub Replays : ℕ → Side → Checkpoint → List (List ℕ) → Option 
 Replays id side first changes None = led_by_all (Some (stored_in id first)) changes ≡ None
 Replays id side first changes (Some f) = IsReplayed id side first changes f
 
+-- what stands on a disk: it holds, and has nothing that is kept in memory alone
+pub record IsSound (s : Stored) : Type 0 where
+  pub holds : Holds s
+  pub buffered : s.buffered ≡ []
+  pub owed : s.owed ≡ []
+
 -- what these records stand for was found
 pub record IsFound (id : ℕ) (r : Records) (f : Found) : Type 0 where
   pub size : ℕ
   pub stands : standing_in id r ≡ Some (record { side = f.side; generation = f.generation; size = size; content = f.core })
   pub values : f.values ≡ stable_of f.core
   pub small : IsNumber f.generation
+  pub sound : IsSound f.core
 
 abbrev pub Finds : ℕ → Records → Option Found → Type 0
 Finds id r None = standing_in id r ≡ None
@@ -67,7 +75,7 @@ Finds id r (Some f) = IsFound id r f
 
 -- the same with the store of the journal that has them
 abbrev pub Resumes : {D : Type 0} → ℕ → D → Records → Result (Kept D × Held) (OpenErr D) → Type 0
-Resumes id journal r (Ok opened) = (u : Standing) × (standing_in id r ≡ Some u) × (opened.1 ≡ u.content) × (opened.0 ≡ record { disk = journal; id = id; unwritten = [] })
+Resumes id journal r (Ok opened) = (u : Standing) × (standing_in id r ≡ Some u) × (opened.1 ≡ u.content) × (opened.0 ≡ record { disk = journal; id = id; unwritten = [] }) × IsSound u.content
 Resumes id journal r (Err (Lost disk)) = ⊥
 Resumes id journal r (Err (NotAStore disk)) = (disk ≡ journal) × (standing_in id r ≡ None)
 Resumes id journal r (Err (NoMemory disk)) = disk ≡ journal
@@ -77,6 +85,7 @@ pub record IsOpened {D : Type 0} (view : D → DiskView) (id : ℕ) (old : DiskV
   pub standing : Standing
   pub stands : Stands id old.reads standing
   pub core_is : core ≡ standing.content
+  pub sound : IsSound standing.content
   pub id_is : store.id ≡ id
   pub unwritten : store.unwritten ≡ []
   pub read : IsRead 5 old (view store.disk)

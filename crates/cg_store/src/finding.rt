@@ -11,6 +11,7 @@ use cg_base::{Bytes, NoMemory, ReplicaId};
 use cg_client::Core;
 use cg_disk::Side;
 use cg_records::Stable;
+use cg_step::what_is_held_agrees;
 use cg_stored::{Checkpoint, read_checkpoint};
 use std::alloc::Global;
 
@@ -32,6 +33,7 @@ pub(crate) fn find(
 ) -> Result<Option<Found>, NoMemory>
     ensures { IfOk result (Finds id (record { a = a.now; b = b.now })) }
 {
+    what_is_held_agrees();
     let first_a = first_of(alloc, id, a)?;
     let first_b = first_of(alloc, id, b)?;
     match greater(first_a, first_b) {

@@ -9,4 +9,4 @@ pub returns-in-Some : goal.returns-in-Some
 returns-in-Some c =
     let front = c.in-Some.front in
     let chose = chosen_first c.args.id c.args.a.now c.args.b.now c.in_ok-first_a.first_a c.in_ok-first_b.first_b c.in_ok-first_a.ensures c.in_ok-first_b.ensures front (sym c.in-Some.ensures) in
-    if_ok_finds c.args.id _ front.side front.first c.behind_first-changes.result.now _ c.replay.result chose (c.behind_first-changes.ensures ∙ ap (drop 1) c.bodies_on.ensures) c.replay.ensures
+    if_ok_finds c.what_is_held_agrees.ensures.holds c.args.id _ front.side front.first c.behind_first-changes.result.now _ c.replay.result chose (c.behind_first-changes.ensures ∙ ap (drop 1) c.bodies_on.ensures) c.replay.ensures

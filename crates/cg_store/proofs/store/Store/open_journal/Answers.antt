@@ -9,4 +9,4 @@ returns-in-Ok-Some g c =
     let raw = subst (λ o. Finds id (record { a = c.as_slice.result.now; b = c.as_slice-2.result.now }) o) c.in-Ok-Some.field-0-is c.in-Ok-Some.ensures in
     let half = subst (λ y. IsFound id (record { a = c.as_slice.result.now; b = y }) f) c.as_slice-2.ensures raw in
     let is = subst (λ x. IsFound id (record { a = x; b = c.args.b.now }) f) c.as_slice.ensures half in
-    (record { side = f.side; generation = f.generation; size = is.size; content = f.core }, is.stands, refl, λ i. record { disk = c.args.journal; id = c.args.id; unwritten = c.new.ensures i })
+    (record { side = f.side; generation = f.generation; size = is.size; content = f.core }, is.stands, refl, λ i. record { disk = c.args.journal; id = c.args.id; unwritten = c.new.ensures i }, is.sound)
