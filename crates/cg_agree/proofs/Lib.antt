@@ -370,3 +370,6 @@ pub mod GreensStay
 pub mod SnapshotsReached
 pub mod LongerBy
 pub mod OrderLonger
+pub mod MarksFit
+pub mod HandsMeet
+pub mod NeverMet

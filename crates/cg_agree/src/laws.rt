@@ -1,4 +1,5 @@
 ghost use Rattle.cg_agree.specs.Standing.{AlwaysStands, AlwaysBooked};
+ghost use Rattle.cg_agree.specs.Total.{NeverMet};
 
 /// All facts stand beside each world to which admitted events lead, from before the start on.
 pub fn facts_stand_beside_each_world()
@@ -9,4 +10,10 @@ pub fn facts_stand_beside_each_world()
 /// have one name.
 pub fn actions_stand_in_one_book()
     ensures { AlwaysBooked }
+{}
+
+/// No event meets a message that can't be used, an action in a regular phase, an installation, an entering or a recovery that can't be
+/// placed, or an item that its sender lacks.
+pub fn nothing_is_wrongly_ignored()
+    ensures { NeverMet }
 {}
