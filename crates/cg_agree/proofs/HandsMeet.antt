@@ -87,7 +87,7 @@ unfolding can_be_green
 next-green h a next made =
     and_from (a.id.index == suc (index_in h.queue.green_cut a.id.creator)) (not (is_unmade h a)) (eq-eqb a.id.index (suc (index_in h.queue.green_cut a.id.creator)) next) (ap not made)
 
-next-red : (h : Held) (a : Action) → a.id.index ≡ suc (index_in h.queue.red_cut a.id.creator) → is_unmade h a ≡ false → fits_red h a ≡ true
+pub next-red : (h : Held) (a : Action) → a.id.index ≡ suc (index_in h.queue.red_cut a.id.creator) → is_unmade h a ≡ false → fits_red h a ≡ true
 next-red h a next made =
     let cut = index_in h.queue.red_cut a.id.creator in
     and_from (nat_le a.id.index (suc cut)) (not (is_unmade h a)) (le-leb a.id.index (suc cut) (let e : a.id.index ≡ suc cut = next in omega (arith, e))) (ap not made)

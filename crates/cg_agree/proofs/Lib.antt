@@ -373,3 +373,4 @@ pub mod OrderLonger
 pub mod MarksFit
 pub mod HandsMeet
 pub mod NeverMet
+pub mod PartingPlaced

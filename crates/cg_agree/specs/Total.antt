@@ -16,15 +16,19 @@ use Rattle.cg_plan.specs.Plan.{plan_of}
 use Rattle.cg_plan.specs.Progress.{is_done, turn_of}
 use Rattle.cg_wire.specs.declared.message.Msg.{Msg}
 use Rattle.cg_wire.specs.declared.message.Msg.TheVariants.{Action as ActionMsg, State as StateMsg, GreenItem, RedItem, Cpc}
+use Rattle.cg_group.specs.declared.delivery.Delivery.{Delivery}
+use Rattle.cg_group.specs.declared.delivery.Delivery.TheVariants.{Message}
+use Rattle.cg_group.specs.Events.{deliveries_at}
 use Rattle.cg_group.specs.State.{Sent, configuration, home, delivered_to}
-use Rattle.cg_client.specs.Replica.{Held, State, RegPrim, ExchangeStates, ExchangeActions, Construct, NonPrim, Left}
-use Rattle.cg_client.specs.Turn.{Turn, begin}
+use Rattle.cg_client.specs.Replica.{Held, State, RegPrim, TransPrim, ExchangeStates, ExchangeActions, Construct, NonPrim, Left}
+use Rattle.cg_client.specs.Turn.{Turn, begin, go_to}
 use Rattle.cg_client.specs.Marks.{is_unmade, can_be_green, mark_green}
 use Rattle.cg_client.specs.Install.{valid_yellow, yellow_green}
 use Rattle.cg_exchange.specs.ExchangeActions.{message_of, progress, is_next, take_item}
 use Rattle.cg_exchange.specs.ExchangeStates.{is_usable}
 use Rattle.cg_exchange.specs.PlanEnd.{usable_names}
 use Rattle.cg_construct.specs.Construct.{attempt_set, is_announced}
+use Rattle.cg_step.specs.Step.{take as take_one}
 use Rattle.cg_schedule.specs.declared.event.Event.{Event}
 use Rattle.cg_agree.specs.World.{World, replica_of}
 use Rattle.cg_agree.specs.Admission.{first_refusal}
@@ -34,7 +38,7 @@ use Rattle.cg_agree.specs.FactsReplica.{run_on}
 use Rattle.cg_agree.specs.Fronts.{When, Either}
 use Rattle.cg_agree.specs.Looks.{disk_held}
 use Rattle.cg_agree.specs.Talk.{Talk, talk_of}
-use Rattle.cg_agree.specs.Small.{Small, Enters, Hands, Recovers, small_step}
+use Rattle.cg_agree.specs.Small.{Small, Enters, Hands, Leaves, Recovers, small_step}
 use Rattle.cg_agree.specs.Smalls.{smalls_in}
 use Rattle.cg_agree.specs.Played.{StandsBeside}
 
@@ -121,10 +125,26 @@ IsUsed _ t from m = ⊥
 abbrev pub CanRedden : Held → Type 0
 CanRedden h = IsTrue (run_on h.queue.red_cut (names_of h.own))
 
--- what is handed to a member in its regular phase, and what becomes red as a replica enters a configuration or recovers
+-- the action of a message that comes in a member's parting can be placed
+abbrev pub IsPlaced : Turn → Delivery Msg → Type 0
+IsPlaced t (Message place from (ActionMsg a)) = IsTrue (fits_red t.replica.held a)
+IsPlaced t d = Unit {0}
+
+abbrev pub ArePlaced : Turn → List (Delivery Msg) → Type 0
+ArePlaced t [] = Unit {0}
+ArePlaced t (d ∷ list) = IsPlaced t d × ArePlaced (take_one t d) list
+
+abbrev pub OfPrimary : State → Type 0 → Type 0
+OfPrimary RegPrim P = P
+OfPrimary _ P = Unit {0}
+
+-- what is handed to a member in its regular phase, or as it leaves a primary component, and what becomes red as a replica enters a
+-- configuration or recovers
 abbrev pub MeetsNone : Chronicle → Small → Type 0
 MeetsNone c (Hands p) =
     IfSome (replica_of c.world p) (λ r. IfSome (at_place (home c.world.group p).ordered (suc (delivered_to c.world.group p))) (λ s. IsUsed r.state (begin r) s.from s.message))
+MeetsNone c (Leaves p set own places) =
+    IfSome (replica_of c.world p) (λ r. OfPrimary r.state (ArePlaced (go_to (begin r) TransPrim) (deliveries_at (home c.world.group p) places)))
 MeetsNone c (Enters p) = IfSome (replica_of c.world p) (λ r. CanRedden r.held)
 MeetsNone c (Recovers p) = IfSome (disk_held c.world p) CanRedden
 MeetsNone c other = Unit {0}
