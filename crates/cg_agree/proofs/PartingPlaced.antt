@@ -6,7 +6,7 @@ use Rattle.std.specs.Option.{option_map_or}
 use Rattle.std.specs.List.{list_all}
 use Rattle.std.proofs.lemmas.Bool.{cases_eq, cases_lt, cond-true, cond-false, and_parts, ne_eqb, or_left, or_right, or_cases, ltb-true, leb-true}
 use Rattle.cg_base.specs.Cuts.{index_in, raise}
-use Rattle.cg_base.specs.Lists.{at_place, count_up, above_up_to}
+use Rattle.cg_base.specs.Lists.{count_up, above_up_to}
 use Rattle.cg_base.specs.Sets.{has}
 use Rattle.cg_action.specs.declared.action.Action.{Action}
 use Rattle.cg_knowledge.specs.Verdict.{decides}
@@ -41,7 +41,7 @@ use Rattle.cg_agree.proofs.DiskAhead.{left-own, made-by}
 use Rattle.cg_agree.proofs.HandMarks.{one_of, raised-next, counted-next, made-so}
 use Rattle.cg_agree.proofs.HandsKept.{some-at}
 use Rattle.cg_agree.proofs.HandsMeet.{next-red}
-use Rattle.cg_agree.proofs.HeldInstall.{IsAllYellow, with_yellow_mark, yellow-oneself}
+use Rattle.cg_agree.proofs.HeldInstall.{IsAllYellow, yellow-oneself}
 use Rattle.cg_agree.proofs.HeldMarks.{IsOneself, rising-red}
 use Rattle.cg_agree.proofs.MessageThere.{message-made}
 use Rattle.cg_agree.proofs.RowYellow.{marks-yellow}
