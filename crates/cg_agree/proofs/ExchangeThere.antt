@@ -169,7 +169,7 @@ module _ (c : Chronicle) (p : ℕ) (i : Invariant c) (conf : ℕ) (r : Replica) 
   lined = subst (λ (o : Option Replica). IfSome o (λ r. IsLined c r.held (greens_of c p))) runs (i.replica.lines_below.cores.memory p)
 
   -- it is up
-  up : core_of c p ≡ Some r.held
+  pub up : core_of c p ≡ Some r.held
   up = at (seat_of c.world p) refl where
     life : (l : Life) → running l ≡ Some r → held_in l ≡ r.held
     life (Up x disk) e = ap (λ (o : Option Replica). option_map_or (λ y. y.held) o r.held) e

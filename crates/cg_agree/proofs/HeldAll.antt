@@ -138,10 +138,10 @@ valid-named start h all is = elim (cases_Bool h.yellow_valid) [
   | inr none ↦ rw none refl
 ]
 
-valid-run : (start : List Weighted) (h : Held) (all : List Action) → IsOneself start h all → run_on h.queue.green_cut (valid_names h) ≡ true
+pub valid-run : (start : List Weighted) (h : Held) (all : List Action) → IsOneself start h all → run_on h.queue.green_cut (valid_names h) ≡ true
 valid-run start h all is = elim (cases_Bool h.yellow_valid) [ inl valid ↦ rw valid is.yellow_closed.next | inr none ↦ rw none refl ]
 
-valid-known : (start : List Weighted) (h : Held) (all : List Action) → IsOneself start h all → are_within h.queue.red_cut (valid_names h) ≡ true
+pub valid-known : (start : List Weighted) (h : Held) (all : List Action) → IsOneself start h all → are_within h.queue.red_cut (valid_names h) ≡ true
 valid-known start h all is = elim (cases_Bool h.yellow_valid) [ inl valid ↦ rw valid is.yellow_closed.known | inr none ↦ rw none refl ]
 
 -- all that an installation makes green, in order: the valid yellow actions, and then the other reds by name

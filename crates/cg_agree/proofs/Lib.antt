@@ -372,3 +372,7 @@ pub mod SnapshotsReached
 pub mod LongerBy
 pub mod OrderLonger
 pub mod RunsAgree
+pub mod MarksFit
+pub mod HandsMeet
+pub mod NeverMet
+pub mod PartingPlaced

@@ -61,7 +61,7 @@ deliveries-append conf (x ∷ xs) ys t =
 -- ---- one yellow mark
 
 -- what the next action of its creator makes of the turn, where all that is known and not green is yellow
-marks-yellow : (start : List Weighted) (all : List Action) (t : Turn) (a : Action) (is : IsOneself start t.replica.held all) (yellow : IsAllYellow t.replica.held) →
+pub marks-yellow : (start : List Weighted) (all : List Action) (t : Turn) (a : Action) (is : IsOneself start t.replica.held all) (yellow : IsAllYellow t.replica.held) →
     is_unmade t.replica.held a ≡ false → a.id.index ≡ suc (index_in t.replica.held.queue.red_cut a.id.creator) →
     (mark_yellow t a).replica ≡ record { held = with_yellow_mark start t.replica.held all is yellow a; state = t.replica.state }
 unfolding mark_yellow

@@ -28,3 +28,4 @@ pub mod Noting
 pub mod Played
 pub mod Telling
 pub mod Standing
+pub mod Total

@@ -1,5 +1,6 @@
 ghost use Rattle.cg_agree.specs.Agreement.{EveryRunAgrees};
 ghost use Rattle.cg_agree.specs.Standing.{AlwaysStands, AlwaysBooked};
+ghost use Rattle.cg_agree.specs.Total.{NeverMet};
 
 /// The steps of every run agree: one order only grows, and what each replica holds, answers and shows is that of a prefix of it.
 pub fn runs_agree()
@@ -15,4 +16,10 @@ pub fn facts_stand_beside_each_world()
 /// have one name.
 pub fn actions_stand_in_one_book()
     ensures { AlwaysBooked }
+{}
+
+/// No event meets a message that can't be used, an action in a regular phase, an installation, an entering or a recovery that can't be
+/// placed, or an item that its sender lacks.
+pub fn nothing_is_wrongly_ignored()
+    ensures { NeverMet }
 {}
