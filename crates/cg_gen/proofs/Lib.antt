@@ -1,0 +1,4 @@
+pub mod Counting
+pub mod EventsLeft
+pub mod Blocks
+pub mod Worked

@@ -1,0 +1,17 @@
+-- The lines that spell a list of events.
+use Rattle.std.specs.Prelude.{ℕ, List, [], ◌∷◌, ◌++◌, codes, flat_map}
+use Prim.Native.String.{String}
+use Rattle.cg_schedule.specs.declared.event.Event.{Event}
+use Rattle.cg_schedule.specs.Print.{line_of}
+
+-- the line of an event, with its end
+abbrev pub ended_line : Event → List ℕ
+ended_line event = line_of event ++ 10 ∷ []
+
+abbrev pub lines_of : List Event → List ℕ
+lines_of events = flat_map ended_line events
+
+-- the lines as they stand here
+abbrev pub written : List String → List ℕ
+written [] = []
+written (line ∷ lines) = codes line ++ 10 ∷ written lines

@@ -1,0 +1,21 @@
+//! The schedules that seeds generate.
+//!
+//! `specs/Generated.antt` defines the schedule of a seed, of so many lines, for so many replicas: which events its lines
+//! spell. `Generator` gives these events one after the other, and `generate` puts all of their lines. Running them is left
+//! to the layers above.
+#![tactic(auto)]
+
+mod cells;
+mod client;
+mod draws;
+mod generator;
+mod halves;
+mod progress;
+mod waiting;
+mod writing;
+
+pub use generator::Generator;
+pub use writing::generate;
+
+#[cfg(test)]
+mod tests;

@@ -1,0 +1,66 @@
+ghost use Rattle.std.specs.Prelude.{◌≡◌, ◌∷◌, [], MatchOption};
+ghost use Rattle.cg_gen.specs.Waiting.{waiting_lines};
+ghost use Rattle.cg_base.specs.Sets.{with_member};
+
+use cg_base::{IdSet, ReplicaId, WeightSet};
+use cg_schedule::Event;
+
+/// The lines of a block that wait.
+#[derive(Clone, Copy)]
+pub(crate) enum Waiting {
+    Nothing,
+    /// All start, and come together.
+    Start(IdSet),
+    Merge(IdSet),
+    MergeBoth(IdSet, IdSet),
+    /// The one cell is split, and then all of two cells come together.
+    SplitThenMerge(IdSet, IdSet),
+    /// The second half is split, and then each half comes together.
+    SplitThenBoth(IdSet, IdSet),
+    /// The replica comes back, and is a cell by itself.
+    Recover(ReplicaId),
+}
+
+/// The next line that waits, and those behind it.
+pub(crate) fn next_waiting(waiting: &mut Waiting) -> Option<Event>
+    ensures { MatchOption result ((waiting_lines waiting.old ≡ []) × (waiting_lines waiting.new ≡ []))
+        (λ event. waiting_lines waiting.old ≡ event ∷ waiting_lines waiting.new) }
+{
+    let now = *waiting;
+    match now {
+        Waiting::Nothing => None,
+        Waiting::Start(all) => {
+            *waiting = Waiting::Merge(all);
+            Some(Event::Start(WeightSet::of(&all)))
+        }
+        Waiting::Merge(set) => {
+            *waiting = Waiting::Nothing;
+            Some(Event::Merge(set))
+        }
+        Waiting::MergeBoth(first, second) => {
+            *waiting = Waiting::Merge(second);
+            Some(Event::Merge(first))
+        }
+        Waiting::SplitThenMerge(set, all) => {
+            *waiting = Waiting::Merge(all);
+            Some(Event::Split(set))
+        }
+        Waiting::SplitThenBoth(first, second) => {
+            *waiting = Waiting::MergeBoth(first, second);
+            Some(Event::Split(second))
+        }
+        Waiting::Recover(p) => {
+            *waiting = Waiting::Merge(only(p));
+            Some(Event::Recover(p))
+        }
+    }
+}
+
+/// The set of one replica.
+pub(crate) fn only(p: ReplicaId) -> IdSet
+    ensures { result ≡ with_member [] p }
+{
+    let mut set = IdSet::empty();
+    set.add(p);
+    set
+}
