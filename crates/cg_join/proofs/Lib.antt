@@ -1,0 +1,4 @@
+mod Variants
+mod ServerFields
+mod ReachedFields
+mod PieceFields

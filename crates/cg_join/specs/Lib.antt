@@ -1,0 +1,4 @@
+pub mod Limits
+pub mod Bytes
+pub mod Reading
+pub mod Laws
