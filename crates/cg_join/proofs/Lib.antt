@@ -2,3 +2,8 @@ mod Variants
 mod ServerFields
 mod ReachedFields
 mod PieceFields
+mod PartLists
+mod Gathering
+mod Rebuilding
+mod Joined
+mod Handed

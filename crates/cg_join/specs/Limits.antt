@@ -1,8 +1,9 @@
 -- Which pieces there are: each part is within the limits of its bytes.
+use Rattle.std.specs.Prelude.{◌≤◌, ◌^◌, List, length}
 use Rattle.cg_base.specs.Sets.{IsId}
 use Rattle.cg_action.specs.Limits.{IsAction}
 use Rattle.cg_db.specs.Limits.{IsEntry}
-use Rattle.cg_records.specs.Limits.{IsNumber, IsPrimary}
+use Rattle.cg_records.specs.Limits.{Each, IsNumber, IsPrimary}
 use Rattle.cg_stored.specs.Limits.{IsReached}
 use Rattle.cg_join.specs.declared.name.SnapshotName.{SnapshotName}
 use Rattle.cg_join.specs.declared.piece.Label.{Label}
@@ -34,3 +35,8 @@ IsPart End = Unit {0}
 pub record IsPiece (piece : Piece) : Type 0 where
   pub label : IsLabel piece.label
   pub part : IsPart piece.part
+
+-- the parts of a snapshot
+pub record AreParts (parts : List Part) : Type 0 where
+  pub each : Each IsPart parts
+  pub most : length parts ≤ 2 ^ 62
