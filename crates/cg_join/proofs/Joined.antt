@@ -1,0 +1,44 @@
+-- What a joiner holds agrees where what its representative held did.
+use Rattle.std.proofs.Common.{◌≡◌, ℕ, ◌-◌, max, true, List, [], ◌∷◌, refl, arith}
+use Rattle.std.specs.Prelude.{Bool, nat_eq}
+use Rattle.std.specs.List.{list_all}
+use Rattle.std.specs.Cmp.Lexicographic.{pointwise}
+use Rattle.std.proofs.lemmas.Bool.{and_parts, and_from}
+use Rattle.cg_base.specs.Cuts.{index_in}
+use Rattle.cg_base.specs.Lists.{above_up_to}
+use Rattle.cg_base.specs.Sets.{every_replica}
+use Rattle.cg_queue.specs.Queue.{QueueView}
+use Rattle.cg_client.specs.Replica.{Held}
+use Rattle.cg_stored.specs.Stored.{stored_of}
+use Rattle.cg_stored.specs.Checkpoint.{Agrees, counts_up, count_to, indexes_of}
+use Rattle.cg_join.specs.Snapshot.{joined, joined_queue}
+
+-- nothing stands behind a number and up to it
+none-above : (n : ℕ) → pointwise nat_eq [] (above_up_to n n) ≡ true
+none-above n = let none : n - n ≡ 0 = omega arith in rw none refl
+
+list_all-more : {X : Type 0} (f g : X → Bool) → ((x : X) → f x ≡ true → g x ≡ true) → (xs : List X) → list_all f xs ≡ true → list_all g xs ≡ true
+list_all-more f g more [] all = refl
+list_all-more f g more (x ∷ xs) all = let both = and_parts (f x) (list_all f xs) all in and_from (g x) (list_all g xs) (more x both.0) (list_all-more f g more xs both.1)
+
+counts-joined : (q : QueueView) (p : ℕ) → counts_up q p ≡ true → counts_up (joined_queue q) p ≡ true
+counts-joined q p up =
+    let greens = count_to (index_in q.green_cut p) (indexes_of q.greens p) in
+    let reds = pointwise nat_eq (indexes_of q.reds p) (above_up_to (index_in q.green_cut p) (index_in q.red_cut p)) in
+    and_from greens (pointwise nat_eq [] (above_up_to (index_in q.green_cut p) (index_in q.green_cut p))) (and_parts greens reds up).0 (none-above (index_in q.green_cut p))
+
+none-own : (n : ℕ) → pointwise nat_eq [] (above_up_to n (max n 0)) ≡ true
+none-own n = let same : max n 0 ≡ n = omega arith in rw same (none-above n)
+
+pub joined-agrees : (id : ℕ) (h : Held) → Agrees (stored_of h) → Agrees (joined id h)
+joined-agrees id h agrees = record {
+  members = agrees.members;
+  count = agrees.count;
+  each = list_all-more (counts_up h.queue) (counts_up (joined_queue h.queue)) (counts-joined h.queue) every_replica agrees.each;
+  red_cut = refl;
+  by_name = refl;
+  yellow = refl;
+  own = none-own (index_in h.queue.green_cut id);
+  buffered = refl;
+  owed = refl;
+}

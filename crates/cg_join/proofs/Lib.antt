@@ -1,0 +1,9 @@
+mod Variants
+mod ServerFields
+mod ReachedFields
+mod PieceFields
+mod PartLists
+mod Gathering
+mod Rebuilding
+mod Joined
+mod Handed

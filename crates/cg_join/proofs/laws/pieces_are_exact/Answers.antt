@@ -1,0 +1,13 @@
+use Rattle.cg_action.specs.ShapeLaws.{field_front}
+use Rattle.cg_codec.specs.Laws.{IsField}
+use Rattle.cg_join.specs.Limits.{IsPiece}
+use Rattle.cg_join.specs.Bytes.{spelled_piece}
+use Rattle.cg_join.specs.Reading.{piece_reading}
+use Rattle.cg_join.proofs.PieceFields.{piece_field, piece_whole}
+use Rattle.cg_join.proofs.laws.pieces_are_exact.Goals as goal
+
+pub returns : goal.returns
+returns c =
+    let action = c.actions_are_exact.ensures.action in
+    let field : IsField IsPiece spelled_piece piece_reading = piece_field action in
+    record { field = field; whole = piece_whole action; apart = field_front IsPiece spelled_piece piece_reading field }

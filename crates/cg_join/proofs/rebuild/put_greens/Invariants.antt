@@ -1,0 +1,10 @@
+use Rattle.std.proofs.Common.{◌≡◌, fold}
+use Rattle.std.specs.Vec.Iter.{into_iter_items}
+use Rattle.cg_action.specs.Limits.{IsAction}
+use Rattle.cg_records.specs.Limits.{Each}
+use Rattle.cg_join.specs.Snapshot.{with_kept_green}
+use Rattle.cg_join.proofs.rebuild.put_greens.Given as goal
+
+-- those that are left give what all gave
+abbrev pub invariant-loop-a : goal.invariant-loop-a
+invariant-loop-a l = (fold with_kept_green l.core (into_iter_items l.a-iterator) ≡ fold with_kept_green l.fn.core l.fn.greens) × Each IsAction (into_iter_items l.a-iterator)

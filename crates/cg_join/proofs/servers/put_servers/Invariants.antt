@@ -1,0 +1,10 @@
+use Rattle.std.proofs.Common.{◌≡◌, ◌++◌}
+use Rattle.std.specs.List.{flat_map}
+use Rattle.cg_members.specs.View.{servers_left}
+use Rattle.cg_stored.specs.Checkpoint.{spelled_server}
+use Rattle.cg_join.proofs.servers.put_servers.Given as goal
+
+-- what is written so far and what is still to be written make the whole
+abbrev pub invariant-loop-server : goal.invariant-loop-server
+invariant-loop-server l =
+    l.out.items ++ flat_map spelled_server (servers_left l.server-iterator) ≡ l.initial.out.items ++ flat_map spelled_server (servers_left l.initial.server-iterator)

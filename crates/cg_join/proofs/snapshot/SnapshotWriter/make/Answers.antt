@@ -1,0 +1,14 @@
+use Rattle.std.proofs.Common.{◌≡◌, ◌∷◌, [], ◌++◌, ap, ◌∙◌}
+use Rattle.cg_join.specs.declared.piece.Part.TheVariants.{Start}
+use Rattle.cg_join.specs.Snapshot.{head_of, parts_of}
+use Rattle.cg_join.proofs.PartLists.{all_pushed}
+use Rattle.cg_join.proofs.snapshot.SnapshotWriter.make.Goals as goal
+
+pub returns-clause-value : goal.returns-clause-value
+returns-clause-value c =
+    let h = c.args.core.now in
+    let first : c.push.new.self ≡ c.new-parts.result ++ Start (head_of h) ∷ [] = c.in_ok-push.ensures.ok ∙ ap (λ head. c.new-parts.result ++ Start head ∷ []) c.head_of-head.ensures.value in
+    let all : c.push-2.new.self ≡ parts_of h =
+    all_pushed h c.new-parts.result c.push.new.self c.push_greens.new.parts c.push_entries.new.parts c.push-2.new.self c.in_ok-greens.greens c.in_ok-entries.entries
+    c.new-parts.ensures first c.in_ok-greens.ensures.value c.in_ok-push_greens.ensures c.in_ok-entries.ensures.value c.in_ok-push_entries.ensures c.in_ok-push-2.ensures.ok in
+    λ i. record { name = c.args.name; parts = all i }

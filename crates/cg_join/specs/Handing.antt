@@ -1,0 +1,11 @@
+-- The pieces of one snapshot, taken in turn.
+use Rattle.std.specs.Prelude.{◌≡◌, ℕ, suc, ◌==◌, Bool, List, length, take, Result, Ok, Err}
+use Rattle.cg_join.specs.declared.errors.JoinErr.{JoinErr}
+use Rattle.cg_join.specs.declared.errors.JoinErr.TheVariants.{NoMemory}
+use Rattle.cg_join.specs.declared.piece.Part.{Part}
+use Rattle.cg_join.specs.Snapshot.{Snapshot}
+
+-- behind so many parts the next one was taken, and whether it is the last one; or memory was refused, and all is as before
+abbrev pub Proceeds : Snapshot → ℕ → List Part → Result Bool JoinErr → Type 0
+Proceeds s n new (Ok done) = (new ≡ take (suc n) s.parts) × (done ≡ (suc n == length s.parts))
+Proceeds s n new (Err fault) = (fault ≡ NoMemory) × (new ≡ take n s.parts)

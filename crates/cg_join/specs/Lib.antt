@@ -1,0 +1,9 @@
+pub mod Limits
+pub mod Bytes
+pub mod Reading
+pub mod Laws
+pub mod Snapshot
+pub mod Gathered
+pub mod Taking
+pub mod Handing
+pub mod Finishing

@@ -1,0 +1,42 @@
+-- Which pieces there are: each part is within the limits of its bytes.
+use Rattle.std.specs.Prelude.{◌≤◌, ◌^◌, List, length}
+use Rattle.cg_base.specs.Sets.{IsId}
+use Rattle.cg_action.specs.Limits.{IsAction}
+use Rattle.cg_db.specs.Limits.{IsEntry}
+use Rattle.cg_records.specs.Limits.{Each, IsNumber, IsPrimary}
+use Rattle.cg_stored.specs.Limits.{IsReached}
+use Rattle.cg_join.specs.declared.name.SnapshotName.{SnapshotName}
+use Rattle.cg_join.specs.declared.piece.Label.{Label}
+use Rattle.cg_join.specs.declared.piece.Head.{Head}
+use Rattle.cg_join.specs.declared.piece.Part.{Part}
+use Rattle.cg_join.specs.declared.piece.Part.TheVariants.{Start, Green, Entry, End}
+use Rattle.cg_join.specs.declared.piece.Piece.{Piece}
+
+pub record IsSnapshotName (name : SnapshotName) : Type 0 where
+  pub rep : IsId name.rep
+  pub number : IsNumber name.number
+
+pub record IsLabel (label : Label) : Type 0 where
+  pub name : IsSnapshotName label.name
+  pub number : IsNumber label.number
+  pub count : IsNumber label.count
+
+pub record IsHead (head : Head) : Type 0 where
+  pub prim : IsPrimary head.prim
+  pub attempt_index : IsNumber head.attempt_index
+  pub reached : IsReached head.reached
+
+abbrev pub IsPart : Part → Type 0
+IsPart (Start head) = IsHead head
+IsPart (Green action) = IsAction action
+IsPart (Entry entry) = IsEntry entry
+IsPart End = Unit {0}
+
+pub record IsPiece (piece : Piece) : Type 0 where
+  pub label : IsLabel piece.label
+  pub part : IsPart piece.part
+
+-- the parts of a snapshot
+pub record AreParts (parts : List Part) : Type 0 where
+  pub each : Each IsPart parts
+  pub most : length parts ≤ 2 ^ 62

@@ -1,0 +1,66 @@
+-- How pieces are read, field by field from the left.
+use Rattle.std.specs.Prelude.{ℕ, ◌==◌, if◌then◌else◌}
+use Rattle.cg_codec.specs.Reading.{Reading, ◌>>=◌, done}
+use Rattle.cg_action.specs.Reading.{byte_between, key_reading, value_reading, action_reading}
+use Rattle.cg_db.specs.declared.entry.DbEntry.{DbEntry}
+use Rattle.cg_records.specs.Reading.{take_number, take_id_above, take_prim}
+use Rattle.cg_stored.specs.Reading.{reached_reading}
+use Rattle.cg_join.specs.declared.name.SnapshotName.{SnapshotName}
+use Rattle.cg_join.specs.declared.piece.Label.{Label}
+use Rattle.cg_join.specs.declared.piece.Head.{Head}
+use Rattle.cg_join.specs.declared.piece.Part.{Part}
+use Rattle.cg_join.specs.declared.piece.Part.TheVariants.{Start, Green, Entry, End}
+use Rattle.cg_join.specs.declared.piece.Piece.{Piece}
+
+unfoldable pub name_reading : Reading SnapshotName
+name_reading = do
+  rep ← take_id_above 0
+  number ← take_number
+  done (record { rep = rep; number = number })
+
+unfoldable pub label_reading : Reading Label
+label_reading = do
+  name ← name_reading
+  number ← take_number
+  count ← take_number
+  done (record { name = name; number = number; count = count })
+
+unfoldable pub head_reading : Reading Head
+head_reading = do
+  prim ← take_prim
+  attempt_index ← take_number
+  reached ← reached_reading
+  done (record { prim = prim; attempt_index = attempt_index; reached = reached })
+
+-- an entry with any key
+unfoldable pub any_entry_reading : Reading DbEntry
+any_entry_reading = do
+  key ← key_reading
+  value ← value_reading
+  done (record { key = key; value = value })
+
+-- a part of each kind, behind its tag
+unfoldable pub start_reading : Reading Part
+start_reading = head_reading >>= λ head. done (Start head)
+
+unfoldable pub green_reading : Reading Part
+green_reading = action_reading >>= λ action. done (Green action)
+
+unfoldable pub entry_part_reading : Reading Part
+entry_part_reading = any_entry_reading >>= λ entry. done (Entry entry)
+
+unfoldable pub part_of_tag : ℕ → Reading Part
+part_of_tag tag =
+    if tag == 1 then start_reading
+    else if tag == 2 then green_reading
+    else if tag == 3 then entry_part_reading
+    else done End
+
+unfoldable pub part_reading : Reading Part
+part_reading = byte_between 1 4 >>= part_of_tag
+
+unfoldable pub piece_reading : Reading Piece
+piece_reading = do
+  label ← label_reading
+  part ← part_reading
+  done (record { label = label; part = part })

@@ -1,0 +1,74 @@
+-- A snapshot: what a replica has green, as the parts of its pieces; and what a joiner becomes.
+use Rattle.std.specs.Prelude.{ℕ, ◌+◌, ◌-◌, false, List, [], ◌∷◌, ◌++◌, length, map, slice_get, Option, None}
+use Rattle.std.specs.Option.{option_map}
+use Rattle.cg_action.specs.declared.action.Action.{Action}
+use Rattle.cg_db.specs.declared.entry.DbEntry.{DbEntry}
+use Rattle.cg_queue.specs.Queue.{QueueView, placed_green}
+use Rattle.cg_client.specs.Replica.{Held}
+use Rattle.cg_stored.specs.Checkpoint.{reached_of}
+use Rattle.cg_join.specs.declared.name.SnapshotName.{SnapshotName}
+use Rattle.cg_join.specs.declared.piece.Head.{Head}
+use Rattle.cg_join.specs.declared.piece.Part.{Part}
+use Rattle.cg_join.specs.declared.piece.Part.TheVariants.{Start, Green, Entry, End}
+use Rattle.cg_join.specs.declared.piece.Piece.{Piece}
+use Rattle.cg_join.specs.Bytes.{spelled_piece}
+
+abbrev pub head_of : Held → Head
+head_of h = record { prim = h.prim; attempt_index = h.attempt_index; reached = reached_of h }
+
+-- the head, the kept greens in their order, the entries ascending, the end
+abbrev pub parts_of : Held → List Part
+parts_of h = Start (head_of h) ∷ (map Green h.queue.greens ++ (map Entry h.db ++ End ∷ []))
+
+abbrev pub piece_count : Held → ℕ
+piece_count h = 2 + length h.queue.greens + length h.db
+
+-- one part more
+abbrev pub with_green_part : List Part → Action → List Part
+with_green_part parts a = parts ++ Green a ∷ []
+
+abbrev pub with_entry_part : List Part → DbEntry → List Part
+with_entry_part parts e = parts ++ Entry e ∷ []
+
+-- a snapshot with its name
+pub record Snapshot : Type 0 where
+  pub name : SnapshotName
+  pub parts : List Part
+
+abbrev pub piece_at : Snapshot → ℕ → Part → Piece
+piece_at s n part = record { label = record { name = s.name; number = n; count = length s.parts }; part = part }
+
+-- the bytes of a piece, counted from 1
+abbrev pub bytes_at : Snapshot → ℕ → Option (List ℕ)
+bytes_at s n = option_map (λ part. spelled_piece (piece_at s n part)) (slice_get s.parts (n - 1))
+
+-- ---- the replica that joins
+
+-- the actions that it knows: the greens of its representative
+abbrev pub joined_queue : QueueView → QueueView
+joined_queue q = record q { red_cut = q.green_cut; reds = []; yellow = [] }
+
+-- what it holds: what its representative has green and knows of primary components
+abbrev pub joined : ℕ → Held → Held
+joined id h = record h { id = id; queue = joined_queue h.queue; yellow_valid = false; own = []; vulnerable = None; buffered = []; owed = [] }
+
+-- the same of what the parts bring
+abbrev pub joined_from : ℕ → Head → List Action → List DbEntry → Held
+joined_from id head greens db =
+    record {
+      id = id;
+      queue = record { white = head.reached.white; greens = greens; green_cut = head.reached.cut; red_cut = head.reached.cut; reds = []; yellow = [] };
+      yellow_valid = false;
+      own = [];
+      db = db;
+      members = head.reached.members;
+      prim = head.prim;
+      attempt_index = head.attempt_index;
+      vulnerable = None;
+      buffered = [];
+      owed = [];
+    }
+
+-- a kept green action behind the others; the database has it already
+abbrev pub with_kept_green : Held → Action → Held
+with_kept_green h a = record h { queue = placed_green h.queue a }

@@ -1,0 +1,46 @@
+ghost use Rattle.std.specs.Prelude.{◌≡◌};
+ghost use Rattle.cg_join.specs.Taking.{bad};
+
+use crate::SnapshotName;
+use cg_codec::CodecFault;
+use cg_disk::Disk;
+
+/// Why a piece isn't taken.
+#[derive(Clone, Copy, Debug, PartialEq, Eq)]
+pub enum JoinErr {
+    /// The bytes are no piece; this is the place of the first that can't be read.
+    BadPiece {
+        at: u64,
+    },
+    /// It is one of another snapshot.
+    OtherSnapshot {
+        want: SnapshotName,
+        got: SnapshotName,
+    },
+    /// It isn't the next one.
+    OutOfTurn {
+        want: u64,
+        got: u64,
+    },
+    NoMemory,
+}
+
+/// What ended the making of a joiner's disk.
+#[derive(Drop)]
+pub enum FinishErr<D: Disk> {
+    /// A device call failed.
+    Lost(D),
+    /// Memory was refused, and no device call failed.
+    NoMemory(D),
+}
+
+pub(crate) fn bad(fault: CodecFault) -> JoinErr
+    ensures { result ≡ bad fault }
+{
+    match fault {
+        CodecFault::Short { at } => JoinErr::BadPiece { at },
+        CodecFault::Bad { at } => JoinErr::BadPiece { at },
+        CodecFault::Rest { at } => JoinErr::BadPiece { at },
+        CodecFault::NoMemory => JoinErr::NoMemory,
+    }
+}

@@ -1,0 +1,49 @@
+//! What the parts of a snapshot bring, put together.
+ghost use Rattle.std.specs.Prelude.{◌≡◌, ◌++◌, ◌∷◌, [], fold, IfOk, OnOk};
+ghost use Rattle.cg_records.specs.Limits.{Each};
+ghost use Rattle.cg_join.specs.Limits.{IsPart};
+ghost use Rattle.cg_join.specs.Gathered.{with_part, nothing, IsGathered};
+
+use crate::{Head, Part};
+use cg_action::ActionList;
+use cg_base::{NoMemory, Row};
+use cg_db::Db;
+use std::alloc::Global;
+
+/// The head, if there was one, the greens in their order, and the entries.
+#[derive(Drop)]
+pub(crate) struct Gathered {
+    pub(crate) head: Option<Head>,
+    pub(crate) greens: ActionList,
+    pub(crate) db: Db,
+}
+
+pub(crate) fn gather(alloc: Global, parts: Vec<Part>) -> Result<Gathered, NoMemory>
+    requires { Each IsPart parts.items }
+    ensures value { IfOk result (λ g. g ≡ fold with_part nothing parts.items) }
+    ensures within { IfOk result IsGathered }
+{
+    let mut gathered = Gathered {
+        head: None,
+        greens: Row::new(alloc),
+        db: Db::new(alloc),
+    };
+    for part in parts {
+        add(&mut gathered, part)?;
+    }
+    Ok(gathered)
+}
+
+fn add(gathered: &mut Gathered, part: Part) -> Result<(), NoMemory>
+    ensures { OnOk result (gathered.new ≡ with_part gathered.old part) }
+{
+    match part {
+        Part::Start(head) => {
+            gathered.head = Some(head);
+            Ok(())
+        }
+        Part::Green(action) => gathered.greens.push(action),
+        Part::Entry(entry) => gathered.db.put(entry.key, entry.value),
+        Part::End => Ok(()),
+    }
+}

@@ -1,0 +1,39 @@
+use crate::SnapshotName;
+use cg_action::Action;
+use cg_db::DbEntry;
+use cg_records::Primary;
+use cg_stored::Reached;
+
+/// What stands in front of each part: the snapshot, the number of the piece from 1, and how many pieces there are.
+#[derive(Clone, Copy, Debug, PartialEq, Eq)]
+pub struct Label {
+    pub name: SnapshotName,
+    pub number: u64,
+    pub count: u64,
+}
+
+/// What a replica has green and knows of primary components, but for the kept actions and the entries.
+#[derive(Drop)]
+pub struct Head {
+    pub prim: Primary,
+    pub attempt_index: u64,
+    pub reached: Reached,
+}
+
+/// What a piece brings.
+#[derive(Drop)]
+pub enum Part {
+    Start(Head),
+    /// The next kept green action.
+    Green(Action),
+    /// The next entry of the database.
+    Entry(DbEntry),
+    End,
+}
+
+/// A piece of a snapshot.
+#[derive(Drop)]
+pub struct Piece {
+    pub label: Label,
+    pub part: Part,
+}

@@ -1,0 +1,168 @@
+//! Pieces from bytes.
+
+ghost use Rattle.std.specs.Prelude.{◌≡◌};
+ghost use Rattle.cg_codec.specs.Reading.{whole};
+ghost use Rattle.cg_codec.specs.Taking.{unread_of, Takes, TakesWithMemory, Decodes};
+ghost use Rattle.cg_action.specs.Reading.{byte_between};
+ghost use Rattle.cg_stored.specs.Reading.{reached_reading};
+ghost use Rattle.cg_join.specs.Reading.{name_reading, label_reading, head_reading, start_reading, green_reading, entry_part_reading, part_of_tag, part_reading, piece_reading};
+ghost use Rattle.cg_join.specs.Laws.{GivesPiece};
+
+use crate::entry::take_entry;
+use crate::servers::take_members;
+use crate::{Head, Label, Part, Piece, SnapshotName, pieces_are_exact};
+use cg_action::take_action;
+use cg_codec::{CodecFault, Fields};
+use cg_records::{take_cut, take_id, take_number, take_prim};
+use cg_stored::Reached;
+use std::alloc::Global;
+
+/// The piece that all of the bytes spell. Where they spell none, the first fault from the left.
+pub fn decode_piece(alloc: Global, bytes: &[u8]) -> Result<Piece, CodecFault>
+    ensures read { Decodes (λ p. p) (whole piece_reading bytes.now) result }
+    ensures exact { GivesPiece bytes.now result }
+{
+    pieces_are_exact();
+    read_all(alloc, bytes)
+}
+
+fn read_all(alloc: Global, bytes: &[u8]) -> Result<Piece, CodecFault>
+    ensures { Decodes (λ p. p) (whole piece_reading bytes.now) result }
+{
+    let mut f = Fields::new(bytes);
+    let piece = take_piece(alloc, &mut f)?;
+    f.finish()?;
+    Ok(piece)
+}
+
+#[tactic(auto, unfolding(crate::specs::Reading::piece_reading))]
+fn take_piece(alloc: Global, f: &mut Fields<'_>) -> Result<Piece, CodecFault>
+    ensures { TakesWithMemory (λ p. p) piece_reading (unread_of f.old) (unread_of f.new) result }
+{
+    let mut after = *f;
+    let label = take_label(&mut after)?;
+    let part = take_part(alloc, &mut after)?;
+    *f = after;
+    Ok(Piece { label, part })
+}
+
+#[tactic(auto, unfolding(crate::specs::Reading::name_reading))]
+fn take_name(f: &mut Fields<'_>) -> Result<SnapshotName, CodecFault>
+    ensures { Takes (λ n. n) name_reading (unread_of f.old) (unread_of f.new) result }
+{
+    let mut after = *f;
+    let rep = take_id(&mut after)?;
+    let number = take_number(&mut after)?;
+    *f = after;
+    Ok(SnapshotName { rep, number })
+}
+
+#[tactic(auto, unfolding(crate::specs::Reading::label_reading))]
+fn take_label(f: &mut Fields<'_>) -> Result<Label, CodecFault>
+    ensures { Takes (λ l. l) label_reading (unread_of f.old) (unread_of f.new) result }
+{
+    let mut after = *f;
+    let name = take_name(&mut after)?;
+    let number = take_number(&mut after)?;
+    let count = take_number(&mut after)?;
+    *f = after;
+    Ok(Label {
+        name,
+        number,
+        count,
+    })
+}
+
+#[tactic(auto, unfolding(crate::specs::Reading::part_reading))]
+fn take_part(alloc: Global, f: &mut Fields<'_>) -> Result<Part, CodecFault>
+    ensures { TakesWithMemory (λ p. p) part_reading (unread_of f.old) (unread_of f.new) result }
+{
+    let mut after = *f;
+    let tag = take_between(&mut after, 1, 4)?;
+    let part = take_part_of(alloc, &mut after, tag)?;
+    *f = after;
+    Ok(part)
+}
+
+#[tactic(auto, unfolding(cg_action::specs::Reading::byte_between))]
+fn take_between(f: &mut Fields<'_>, low: u8, high: u8) -> Result<u8, CodecFault>
+    ensures { Takes (λ n. n) (byte_between low high) (unread_of f.old) (unread_of f.new) result }
+{
+    let mut after = *f;
+    let byte = after.take_u8()?;
+    if byte < low || high < byte {
+        return Err(f.bad());
+    }
+    *f = after;
+    Ok(byte)
+}
+
+#[tactic(auto, unfolding(crate::specs::Reading::part_of_tag))]
+fn take_part_of(alloc: Global, f: &mut Fields<'_>, tag: u8) -> Result<Part, CodecFault>
+    ensures { TakesWithMemory (λ p. p) (part_of_tag tag) (unread_of f.old) (unread_of f.new) result }
+{
+    match tag {
+        1 => take_start(f),
+        2 => take_green(alloc, f),
+        3 => take_entry_part(alloc, f),
+        _ => Ok(Part::End),
+    }
+}
+
+#[tactic(auto, unfolding(crate::specs::Reading::start_reading))]
+fn take_start(f: &mut Fields<'_>) -> Result<Part, CodecFault>
+    ensures { TakesWithMemory (λ p. p) start_reading (unread_of f.old) (unread_of f.new) result }
+{
+    let head = take_head(f)?;
+    Ok(Part::Start(head))
+}
+
+#[tactic(auto, unfolding(crate::specs::Reading::green_reading))]
+fn take_green(alloc: Global, f: &mut Fields<'_>) -> Result<Part, CodecFault>
+    ensures { TakesWithMemory (λ p. p) green_reading (unread_of f.old) (unread_of f.new) result }
+{
+    let action = take_action(alloc, f)?;
+    Ok(Part::Green(action))
+}
+
+#[tactic(auto, unfolding(crate::specs::Reading::entry_part_reading))]
+fn take_entry_part(alloc: Global, f: &mut Fields<'_>) -> Result<Part, CodecFault>
+    ensures { TakesWithMemory (λ p. p) entry_part_reading (unread_of f.old) (unread_of f.new) result }
+{
+    let entry = take_entry(alloc, f)?;
+    Ok(Part::Entry(entry))
+}
+
+#[tactic(auto, unfolding(crate::specs::Reading::head_reading))]
+fn take_head(f: &mut Fields<'_>) -> Result<Head, CodecFault>
+    ensures { TakesWithMemory (λ h. h) head_reading (unread_of f.old) (unread_of f.new) result }
+{
+    let mut after = *f;
+    let prim = take_prim(&mut after)?;
+    let attempt_index = take_number(&mut after)?;
+    let reached = take_reached(&mut after)?;
+    *f = after;
+    Ok(Head {
+        prim,
+        attempt_index,
+        reached,
+    })
+}
+
+#[tactic(auto, unfolding(cg_stored::specs::Reading::reached_reading))]
+fn take_reached(f: &mut Fields<'_>) -> Result<Reached, CodecFault>
+    ensures { TakesWithMemory (λ r. r) reached_reading (unread_of f.old) (unread_of f.new) result }
+{
+    let mut after = *f;
+    let count = take_number(&mut after)?;
+    let white = take_number(&mut after)?;
+    let cut = take_cut(&mut after)?;
+    let members = take_members(&mut after)?;
+    *f = after;
+    Ok(Reached {
+        count,
+        white,
+        cut,
+        members,
+    })
+}

@@ -1,0 +1,98 @@
+//! Members in bytes.
+
+ghost use Rattle.std.specs.Prelude.{◌≡◌, ◌++◌, OnOk};
+ghost use Rattle.cg_codec.specs.Fields.{list};
+ghost use Rattle.cg_codec.specs.Taking.{unread_of, Takes};
+ghost use Rattle.cg_stored.specs.Checkpoint.{spelled_server};
+ghost use Rattle.cg_stored.specs.Reading.{id_behind_reading, weight_reading, server_reading, servers_reading, members_reading};
+
+use cg_base::{NoMemory, ReplicaId};
+use cg_codec::{CodecFault, Fields, put_u8, put_u32, put_u64};
+use cg_members::{Members, Server, ServerSet};
+use cg_records::{take_id, take_number, take_set};
+
+#[tactic(auto, unfolding(cg_stored::specs::Reading::members_reading))]
+pub(crate) fn take_members(fields: &mut Fields<'_>) -> Result<Members, CodecFault>
+    ensures { Takes (λ m. m) members_reading (unread_of fields.old) (unread_of fields.new) result }
+{
+    let mut after = *fields;
+    let servers = take_servers(&mut after)?;
+    let left = take_set(&mut after)?;
+    *fields = after;
+    Ok(Members { servers, left })
+}
+
+#[tactic(auto, unfolding(cg_stored::specs::Reading::servers_reading))]
+fn take_servers(fields: &mut Fields<'_>) -> Result<ServerSet, CodecFault>
+    ensures { Takes (λ s. s) servers_reading (unread_of fields.old) (unread_of fields.new) result }
+{
+    let mut after = *fields;
+    let count = after.take_count(32)?;
+    let mut servers = ServerSet::empty();
+    let mut last = 0;
+    'servers: for _ in 0..count {
+        let server = take_server(&mut after, last)?;
+        servers.put(server.id, server.line, server.weight);
+        last = server.id.get();
+    }
+    *fields = after;
+    Ok(servers)
+}
+
+#[tactic(auto, unfolding(cg_stored::specs::Reading::server_reading))]
+fn take_server(fields: &mut Fields<'_>, last: u8) -> Result<Server, CodecFault>
+    ensures { Takes (λ s. s) (server_reading last) (unread_of fields.old) (unread_of fields.new) result }
+{
+    let mut after = *fields;
+    let id = take_id_behind(&mut after, last)?;
+    let line = take_number(&mut after)?;
+    let weight = take_weight(&mut after)?;
+    *fields = after;
+    Ok(Server { id, line, weight })
+}
+
+#[tactic(auto, unfolding(cg_stored::specs::Reading::id_behind_reading))]
+fn take_id_behind(fields: &mut Fields<'_>, last: u8) -> Result<ReplicaId, CodecFault>
+    ensures { Takes (λ id. id) (id_behind_reading last) (unread_of fields.old) (unread_of fields.new) result }
+{
+    let mut after = *fields;
+    let id = take_id(&mut after)?;
+    if id.get() <= last {
+        return Err(fields.bad());
+    }
+    *fields = after;
+    Ok(id)
+}
+
+#[tactic(auto, unfolding(cg_stored::specs::Reading::weight_reading))]
+fn take_weight(fields: &mut Fields<'_>) -> Result<u8, CodecFault>
+    ensures { Takes (λ n. n) weight_reading (unread_of fields.old) (unread_of fields.new) result }
+{
+    let mut after = *fields;
+    let weight = after.take_u8()?;
+    if weight == 0 {
+        return Err(fields.bad());
+    }
+    *fields = after;
+    Ok(weight)
+}
+
+/// Puts servers at the end.
+pub(crate) fn put_servers(out: &mut Vec<u8>, servers: &ServerSet) -> Result<(), NoMemory>
+    ensures { OnOk result (out.new.items ≡ out.old.items ++ list spelled_server servers.now) }
+{
+    put_u32(out, u32::from(servers.ids().count()))?;
+    for server in servers.iter() {
+        put_server(out, server)?;
+    }
+    Ok(())
+}
+
+#[tactic(auto, unfolding(cg_stored::specs::Checkpoint::spelled_server))]
+fn put_server(out: &mut Vec<u8>, server: Server) -> Result<(), NoMemory>
+    ensures { OnOk result (out.new.items ≡ out.old.items ++ spelled_server server) }
+{
+    put_u8(out, server.id.get())?;
+    put_u64(out, server.line)?;
+    put_u8(out, server.weight)
+}

@@ -1,0 +1,126 @@
+//! A copy of what a replica had green, and its pieces.
+ghost use Rattle.std.specs.Prelude.{◌≡◌, ◌≤◌, ◌<◌, ◌^◌, ◌-◌, ◌++◌, Some, length, fold, slice_get, OnOk, IfOk, IfSome};
+ghost use Rattle.cg_action.specs.Limits.{IsAction};
+ghost use Rattle.cg_db.specs.Limits.{AreEntries};
+ghost use Rattle.cg_db.specs.Map.{Ascends};
+ghost use Rattle.cg_records.specs.Limits.{Each, IsNumber};
+ghost use Rattle.cg_join.specs.Limits.{IsHead, IsPiece};
+ghost use Rattle.cg_join.specs.Snapshot.{head_of, parts_of, with_green_part, with_entry_part, piece_at, bytes_at};
+
+use crate::parts::Parts;
+use crate::writing::encode;
+use crate::{Head, Label, Part, SnapshotName};
+use cg_action::ActionList;
+use cg_base::{Bytes, NoMemory};
+use cg_client::Core;
+use cg_db::EntryList;
+use cg_stored::Reached;
+use std::alloc::Global;
+use std::marker::Model;
+
+/// What a replica had green when the snapshot was made. Its memory is that content, once.
+#[derive(Drop)]
+pub struct SnapshotWriter {
+    name: SnapshotName,
+    parts: Parts,
+    alloc: Global,
+}
+
+impl Model for SnapshotWriter {
+    ghost use Rattle.cg_records.specs.Limits.{IsNumber};
+    ghost use Rattle.cg_join.specs.Snapshot.{Snapshot};
+
+    ghost Value = { Snapshot };
+
+    ghost view = { λ w. record { name = w.name; parts = w.parts } };
+
+    ghost invariant = { λ w. IsNumber w.name.number };
+}
+
+impl SnapshotWriter {
+    /// A copy of what the replica has green.
+    pub fn make(core: &Core, name: SnapshotName) -> Result<SnapshotWriter, NoMemory>
+        requires { IsNumber name.number }
+        ensures value { IfOk result (λ s. s ≡ record { name = name; parts = parts_of core.now }) }
+        ensures ascends { OnOk result (Ascends core.now.db) }
+    {
+        let alloc = core.alloc();
+        let mut parts = Parts::new(alloc);
+        let head = head_of(core);
+        parts.push(Part::Start(head))?;
+        let greens = core.greens()?;
+        push_greens(&mut parts, greens)?;
+        let entries = core.entries()?;
+        push_entries(&mut parts, entries)?;
+        parts.push(Part::End)?;
+        Ok(SnapshotWriter { name, parts, alloc })
+    }
+
+    /// The number of pieces.
+    pub fn count(&self) -> u64
+        ensures value { result ≡ length self.now.parts }
+        ensures most { length self.now.parts ≤ 2 ^ 62 }
+    {
+        self.parts.len()
+    }
+
+    /// The bytes of a piece, counted from 1.
+    pub fn piece(&self, n: u64) -> Result<Bytes, NoMemory>
+        requires { (1 ≤ n) × (n ≤ length self.now.parts) }
+        ensures value { IfOk result (λ bytes. bytes_at self.now n ≡ Some bytes) }
+        ensures piece { IfSome (slice_get self.now.parts (n - 1)) (λ part. IsPiece (piece_at self.now n part)) }
+    {
+        // it says which identifiers there are
+        let _rep = self.name.rep.get();
+        let label = Label {
+            name: self.name,
+            number: n,
+            count: self.parts.len(),
+        };
+        match self.parts.get((n - 1) as usize) {
+            Some(part) => encode(self.alloc, &label, part),
+            None => Err(NoMemory),
+        }
+    }
+}
+
+fn head_of(core: &Core) -> Head
+    ensures value { result ≡ head_of core.now }
+    ensures limits { IsHead result }
+{
+    let queue = core.queue();
+    let members = core.members();
+    // these say what is so of every replica's members
+    let _servers = members.servers.iter();
+    let _left = members.left.count();
+    Head {
+        prim: core.prim(),
+        attempt_index: core.attempt_index(),
+        reached: Reached {
+            count: queue.green_count(),
+            white: queue.white_count(),
+            cut: core.green_cut(),
+            members: members.copy(),
+        },
+    }
+}
+
+fn push_greens(parts: &mut Parts, greens: ActionList) -> Result<(), NoMemory>
+    requires { Each IsAction greens }
+    ensures { OnOk result (parts.new ≡ fold with_green_part parts.old greens) }
+{
+    for a in greens.into_vec() {
+        parts.push(Part::Green(a))?;
+    }
+    Ok(())
+}
+
+fn push_entries(parts: &mut Parts, entries: EntryList) -> Result<(), NoMemory>
+    requires { AreEntries entries }
+    ensures { OnOk result (parts.new ≡ fold with_entry_part parts.old entries) }
+{
+    for e in entries.into_vec() {
+        parts.push(Part::Entry(e))?;
+    }
+    Ok(())
+}

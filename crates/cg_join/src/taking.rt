@@ -1,0 +1,64 @@
+//! A piece is taken, or refused.
+ghost use Rattle.std.specs.Prelude.{◌≡◌, ◌≤◌, ◌^◌};
+ghost use Rattle.cg_join.specs.Limits.{IsPart};
+ghost use Rattle.cg_join.specs.Taking.{same_snapshot, refusal, Adds, Takes};
+
+use crate::errors::bad;
+use crate::parts::Parts;
+use crate::{JoinErr, Label, Piece, SnapshotName, decode_piece};
+use std::alloc::Global;
+
+/// The piece that the bytes spell comes behind the parts that were taken, where it is the next of this snapshot. True says
+/// that it is the last one.
+pub(crate) fn take(
+    alloc: Global,
+    name: &SnapshotName,
+    parts: &mut Parts,
+    bytes: &[u8],
+) -> Result<bool, JoinErr>
+    ensures { Takes name.now parts.old parts.new bytes.now result }
+{
+    match decode_piece(alloc, bytes) {
+        Ok(piece) => add(name, parts, piece),
+        Err(fault) => Err(bad(fault)),
+    }
+}
+
+fn add(name: &SnapshotName, parts: &mut Parts, piece: Piece) -> Result<bool, JoinErr>
+    requires { IsPart piece.part }
+    ensures { Adds name.now parts.old parts.new piece result }
+{
+    let Piece { label, part } = piece;
+    if let Some(err) = refusal(name, parts.len(), &label) {
+        return Err(err);
+    }
+    let Ok(()) = parts.push(part) else {
+        return Err(JoinErr::NoMemory);
+    };
+    Ok(label.number == label.count)
+}
+
+fn refusal(name: &SnapshotName, taken: u64, label: &Label) -> Option<JoinErr>
+    requires { taken ≤ 2 ^ 62 }
+    ensures { result ≡ refusal name.now taken label.now }
+{
+    if !is_same(&label.name, name) {
+        return Some(JoinErr::OtherSnapshot {
+            want: *name,
+            got: label.name,
+        });
+    }
+    if label.number != taken + 1 {
+        return Some(JoinErr::OutOfTurn {
+            want: taken + 1,
+            got: label.number,
+        });
+    }
+    None
+}
+
+fn is_same(a: &SnapshotName, b: &SnapshotName) -> bool
+    ensures { result ≡ same_snapshot a.now b.now }
+{
+    a.rep.get() == b.rep.get() && a.number == b.number
+}

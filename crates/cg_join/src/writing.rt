@@ -1,0 +1,82 @@
+//! Pieces in bytes.
+
+ghost use Rattle.std.specs.Prelude.{◌≡◌, ◌++◌, OnOk, IfOk};
+ghost use Rattle.cg_stored.specs.Checkpoint.{spelled_reached};
+ghost use Rattle.cg_stored.specs.Limits.{IsReached};
+ghost use Rattle.cg_join.specs.Bytes.{spelled_label, spelled_head, spelled_part, piece_bytes};
+ghost use Rattle.cg_join.specs.Limits.{IsHead, IsPart};
+
+use crate::entry::put_entry;
+use crate::servers::put_servers;
+use crate::{Head, Label, Part};
+use cg_action::put_action;
+use cg_base::{Bytes, NoMemory};
+use cg_codec::{put_u8, put_u64};
+use cg_records::{put_cut, put_prim, put_set};
+use cg_stored::Reached;
+use std::alloc::Global;
+
+/// The bytes of a piece.
+pub(crate) fn encode(alloc: Global, label: &Label, part: &Part) -> Result<Bytes, NoMemory>
+    requires { IsPart part.now }
+    ensures { IfOk result (λ bytes. bytes ≡ piece_bytes label.now part.now) }
+{
+    let mut out = Vec::new(alloc);
+    write_label(&mut out, label)?;
+    write_part(&mut out, part)?;
+    Ok(Bytes::from_vec(out))
+}
+
+#[tactic(auto, unfolding(crate::specs::Bytes::spelled_label, crate::specs::Bytes::spelled_snapshot_name))]
+fn write_label(out: &mut Vec<u8>, label: &Label) -> Result<(), NoMemory>
+    ensures { OnOk result (out.new.items ≡ out.old.items ++ spelled_label label.now) }
+{
+    put_u8(out, label.name.rep.get())?;
+    put_u64(out, label.name.number)?;
+    put_u64(out, label.number)?;
+    put_u64(out, label.count)
+}
+
+#[tactic(auto, unfolding(crate::specs::Bytes::spelled_part))]
+fn write_part(out: &mut Vec<u8>, part: &Part) -> Result<(), NoMemory>
+    requires { IsPart part.now }
+    ensures { OnOk result (out.new.items ≡ out.old.items ++ spelled_part part.now) }
+{
+    match part {
+        Part::Start(head) => {
+            put_u8(out, 1)?;
+            write_head(out, head)
+        }
+        Part::Green(action) => {
+            put_u8(out, 2)?;
+            put_action(out, action)
+        }
+        Part::Entry(entry) => {
+            put_u8(out, 3)?;
+            put_entry(out, entry)
+        }
+        Part::End => put_u8(out, 4),
+    }
+}
+
+#[tactic(auto, unfolding(crate::specs::Bytes::spelled_head))]
+fn write_head(out: &mut Vec<u8>, head: &Head) -> Result<(), NoMemory>
+    requires { IsHead head.now }
+    ensures { OnOk result (out.new.items ≡ out.old.items ++ spelled_head head.now) }
+{
+    put_prim(out, &head.prim)?;
+    put_u64(out, head.attempt_index)?;
+    write_reached(out, &head.reached)
+}
+
+#[tactic(auto, unfolding(cg_stored::specs::Checkpoint::spelled_reached))]
+fn write_reached(out: &mut Vec<u8>, reached: &Reached) -> Result<(), NoMemory>
+    requires { IsReached reached.now }
+    ensures { OnOk result (out.new.items ≡ out.old.items ++ spelled_reached reached.now) }
+{
+    put_u64(out, reached.count)?;
+    put_u64(out, reached.white)?;
+    put_cut(out, &reached.cut)?;
+    put_servers(out, &reached.members.servers)?;
+    put_set(out, &reached.members.left)
+}
