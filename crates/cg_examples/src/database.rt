@@ -1,0 +1,43 @@
+ghost use Rattle.cg_action.specs.Limits.{IsCommand};
+
+use cg_action::{Action, Cmd, CmdList, Kind, Value};
+use cg_base::{ActionId, NoMemory, ReplicaId};
+use cg_db::{Db, Effect};
+use cg_text::Txt;
+use std::alloc::Global;
+use std::test::Fail;
+
+// applies an action of one command
+fn run(alloc: Global, db: &mut Db, cmd: Cmd) -> Result<Effect, NoMemory>
+    requires { IsCommand cmd }
+{
+    let mut cmds = CmdList::new(alloc);
+    cmds.push(cmd)?;
+    let creator = ReplicaId::known(1);
+    let action = Action {
+        id: ActionId { creator, index: 1 },
+        green_line: 0,
+        kind: Kind::Update { cmds, query: None },
+    };
+    db.apply(&action)
+}
+
+#[test]
+fn an_action_that_fails_changes_nothing(rt: HostRuntime) -> Result<(), Fail> {
+    let alloc = rt.alloc();
+    let mut db = Db::new(alloc);
+    let key = Txt::new(alloc, "x")?;
+    assert_eq!(rt; run(alloc, &mut db, Cmd::Inc { key, by: 5 })?, Effect::Done);
+
+    // "x" has no 7 to give
+    let (source, target) = (Txt::new(alloc, "x")?, Txt::new(alloc, "y")?);
+    let shift = Cmd::Move {
+        source,
+        target,
+        amount: 7,
+    };
+    assert_eq!(rt; run(alloc, &mut db, shift)?, Effect::Aborted(1));
+    assert!(rt; matches!(db.value("x"), Some(Value::Int(5))));
+    assert!(rt; db.value("y").is_none());
+    Ok(())
+}

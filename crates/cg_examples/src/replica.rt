@@ -1,0 +1,22 @@
+use cg_base::{IdSet, ReplicaId, WeightSet};
+use cg_group::{Delivery, DeliveryList};
+use cg_replica::{Input, Replica};
+use cg_report::StateName;
+use std::test::Fail;
+
+#[test]
+fn a_new_configuration_begins_an_exchange(rt: HostRuntime) -> Result<(), Fail> {
+    let one = ReplicaId::known(1);
+    let mut set = IdSet::empty();
+    set.add(one);
+    let mut list = DeliveryList::new(rt.alloc());
+    list.push(Delivery::Regular { conf: 1, set })?;
+
+    let replica = Replica::fresh(rt.alloc(), one, &WeightSet::of(&set));
+    let (replica, draft) = replica.step(Input::Deliver(list))?;
+    assert_eq!(rt; replica.state(), StateName::ExchangeStates);
+    assert_eq!(rt; draft.sent().len(), 1);
+    draft.abandon();
+    drop(replica);
+    Ok(())
+}
