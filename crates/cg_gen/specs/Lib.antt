@@ -1,3 +1,4 @@
 pub mod Generated
 pub mod Waiting
 pub mod Lines
+pub mod GeneratedLaws
