@@ -183,14 +183,32 @@ fn take_all(rt: &(impl Abort + AllocGlobal), core: &Core, parts: &mut Parts) -> 
     Ok(())
 }
 
-#[test]
-fn pieces_in_turn(rt: HostRuntime) -> Result<(), Fail> {
-    let core = giver(rt.alloc())?;
-    let mut parts = Parts::new(rt.alloc());
-    take_all(&rt, &core, &mut parts)?;
-    let joined = core_of(rt.alloc(), ReplicaId::known(4), parts)?;
+fn shows(rt: &(impl Abort + AllocGlobal), joined: &Core) -> Result<(), Fail> {
     let mut out = Vec::new(rt.alloc());
-    put_joined(&mut out, &joined)?;
+    put_joined(&mut out, joined)?;
     assert_eq!(rt; out.as_slice(), JOINED.as_bytes());
     Ok(())
+}
+
+fn joins(rt: &(impl Abort + AllocGlobal), parts: Parts) -> Result<(), Fail> {
+    match core_of(rt.alloc(), ReplicaId::known(4), parts) {
+        Ok(joined) => shows(rt, &joined),
+        Err(_) => Err("no memory")?,
+    }
+}
+
+fn takes(rt: &(impl Abort + AllocGlobal), core: &Core) -> Result<(), Fail> {
+    let mut parts = Parts::new(rt.alloc());
+    match take_all(rt, core, &mut parts) {
+        Ok(()) => joins(rt, parts),
+        Err(fail) => Err(fail),
+    }
+}
+
+#[test]
+fn pieces_in_turn(rt: HostRuntime) -> Result<(), Fail> {
+    match giver(rt.alloc()) {
+        Ok(core) => takes(&rt, &core),
+        Err(fail) => Err(fail),
+    }
 }
