@@ -1,0 +1,7 @@
+mod Values
+mod Following
+mod Ending
+mod Starting
+mod Rising
+mod Handling
+mod Defining

@@ -1,0 +1,31 @@
+-- What a new replica holds has a checkpoint, and follows it.
+use Rattle.std.proofs.Common.{◌≡◌, ℕ, ◌≤◌, List, [], max, refl, subst, arith}
+use Rattle.cg_base.specs.declared.weighted.Weighted.{Weighted}
+use Rattle.cg_client.specs.Replica.{Held, fresh_held}
+use Rattle.cg_client.specs.Whitening.{line_of}
+use Rattle.cg_stored.specs.Stored.{stored_of, whiten}
+use Rattle.cg_stored.specs.Checkpoint.{Agrees}
+use Rattle.cg_step.specs.Following.{Follows}
+use Rattle.cg_step.specs.Recorded.{AlwaysHolds, AlwaysCounts, AlwaysSettled}
+use Rattle.cg_store.specs.Stands.{created, disk_of}
+
+module _ (holds : AlwaysHolds) (counts : AlwaysCounts) (id : ℕ) (set : List Weighted) where
+  -- there is nothing to discard
+  none_white : whiten (fresh_held id set) ≡ fresh_held id set
+  unfolding whiten
+  none_white =
+      let h = fresh_held id set in
+      let line : line_of h ≤ 0 = counts.line h (holds.fresh id set) in
+      let zero_line : max 0 (line_of h) ≡ 0 = omega arith in
+      let q = h.queue in
+      λ i. record h { queue = record q { white = zero_line i; greens = [] } }
+
+  pub fresh_agrees : AlwaysSettled → Agrees (stored_of (fresh_held id set))
+  fresh_agrees settled = subst (λ h. Agrees (stored_of h)) none_white (settled (fresh_held id set) (holds.fresh id set))
+
+  pub fresh_follows : Follows (disk_of [] (created (stored_of (fresh_held id set)))) (fresh_held id set)
+  fresh_follows = record {
+    on_disk = record { content = holds.fresh id set; buffered = refl; owed = refl };
+    held = holds.fresh id set;
+    ahead = refl;
+  }
