@@ -254,7 +254,8 @@ module _ {D : Type 0} (view : D → DiskView) (strikes : StrikesEndAsDefined) (o
           let cut = lost.told s e mid_state shown in
           let k = cut.strike in
           let few : lost.call ≤ (if long then 10 else 4) = within long lost.within.1 in
-          fell long size (if gate_stands k.blow lost.call fill then behind else u) k lost.call cut.armed (struck_at old.store.id 0 u behind lost k cut.armed) few
+          let call : k.call ≡ now + lost.call = struck_at old.store.id 0 u behind lost k cut.armed ∙ omega arith in
+          fell long size (if gate_stands k.blow lost.call fill then behind else u) k lost.call cut.armed call few
           (strikes.in_change old.store.unwritten t u lost.call k.blow fill lost.within.1)
           (ap (λ b. if b then t.green else []) (early_commit lost.call k.blow fill lost.within.1) ∙ names (gate_stands k.blow lost.call fill)) (cut.fills fill)
         where

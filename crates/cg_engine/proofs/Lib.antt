@@ -1,6 +1,8 @@
 mod Values
 mod Following
 mod Ending
+mod GoingOn
+mod Committing
 mod Starting
 mod Rising
 mod Handling

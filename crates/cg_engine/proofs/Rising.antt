@@ -25,14 +25,14 @@ use Rattle.cg_engine.proofs.Following.{recovered_follows}
 -- the replica of an opened store, with the red marks of its recovery
 pub open_engine : AlwaysHolds → AlwaysCounts → AlwaysSettled → AlwaysRecorded → AlwaysAhead → {D : Type 0} (view : D → DiskView) (k new : Kept D) (core : Held) (t : Turn) → IsOpen (view k.disk) k core → t ≡ recover core →
     new ≡ record k { unwritten = k.unwritten ++ t.known } → IsEngine (view new.disk) new.id new.unwritten t.replica.held
-open_engine holds counts settled records ahead {D} view k new core t open turn same =
-    let u = open.standing in
-    let is : t ≡ recover u.content = turn ∙ ap recover open.core_is in
-    let marks : (recover u.content).known ≡ k.unwritten ++ t.known = sym (ap (λ (m : List Action). m ++ t.known) open.unwritten ∙ ap (λ (x : Turn). x.known) is) in
-    let follows : Follows (disk_of (recover u.content).known u) (recover u.content).replica.held = recovered_follows holds counts settled records ahead u open.sound in
+open_engine holds counts settled records ahead {D} view k new core t opened turn same =
+    let u = opened.standing in
+    let is : t ≡ recover u.content = turn ∙ ap recover opened.core_is in
+    let marks : (recover u.content).known ≡ k.unwritten ++ t.known = sym (ap (λ (m : List Action). m ++ t.known) opened.unwritten ∙ ap (λ (x : Turn). x.known) is) in
+    let follows : Follows (disk_of (recover u.content).known u) (recover u.content).replica.held = recovered_follows holds counts settled records ahead u opened.sound in
     subst (λ (x : Kept D). IsEngine (view x.disk) x.id x.unwritten t.replica.held) (sym same) (record {
       standing = u;
-      stands = open.stands;
+      stands = opened.stands;
       follows = subst (λ m. Follows (disk_of m u) t.replica.held) marks (subst (λ (x : Turn). Follows (disk_of (recover u.content).known u) x.replica.held) (sym is) follows);
     })
 
