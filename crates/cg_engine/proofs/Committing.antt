@@ -1,6 +1,6 @@
 -- A commit with the core of a replica is one with what the replica holds.
-use Rattle.std.proofs.Common.{◌≡◌, Result, Ok, subst}
-use Rattle.cg_disk.specs.View.{DiskView, LeavesOnly}
+use Rattle.std.proofs.Common.{◌≡◌, Result, subst}
+use Rattle.cg_disk.specs.View.{DiskView}
 use Rattle.cg_client.specs.declared.parts.DraftParts.{DraftParts}
 use Rattle.cg_client.specs.Drafts.{turn_with}
 use Rattle.cg_client.specs.Replica.{Held, Replica}

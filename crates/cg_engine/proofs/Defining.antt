@@ -1,5 +1,5 @@
 -- An engine's event is that of the account: whatever strikes leaves the disk and the names that the account has.
-use Rattle.std.proofs.Common.{◌≡◌, ◌⊎◌, inl, inr, ⊎_elim, ℕ, suc, ◌+◌, ◌-◌, ◌<◌, ◌≤◌, nat_lt, nat_le, List, [], ◌∷◌, ◌++◌, length, Bool, true, false, ◌&&◌, Option, Some, None, Result, Ok, Err, refl, sym, ◌∙◌, ap, ap₂, subst, arith, if◌then◌else◌}
+use Rattle.std.proofs.Common.{◌≡◌, ◌⊎◌, ⊎_elim, ℕ, ◌+◌, ◌-◌, ◌<◌, ◌≤◌, nat_lt, nat_le, List, [], ◌∷◌, ◌++◌, length, Bool, true, false, Option, Some, None, Ok, Err, refl, sym, ◌∙◌, ap, subst, arith, if◌then◌else◌}
 use Rattle.std.specs.Prelude.{IfSome}
 use Rattle.std.specs.Option.{option_map}
 use Rattle.std.proofs.lemmas.Bool.Decides.{nat_tests}
@@ -15,7 +15,7 @@ use Rattle.cg_client.specs.Replica.{Held}
 use Rattle.cg_client.specs.Turn.{Turn}
 use Rattle.cg_stored.specs.Checkpoint.{size_limit}
 use Rattle.cg_step.specs.Commit.{commits}
-use Rattle.cg_step.specs.Crash.{Strike, Disk, Ended, Runs, Crashes, with_change, with_checkpoint, is_long, calls_of, checkpointed as with_long, is_committed, is_checkpointed, at_rest, crash_outcome, whitened, later, struck, commit_under, keep, end_event}
+use Rattle.cg_step.specs.Crash.{Strike, Disk, Ended, Runs, Crashes, with_change, with_checkpoint, calls_of, checkpointed as with_long, is_committed, is_checkpointed, at_rest, crash_outcome, whitened, later, struck, commit_under, keep, end_event}
 use Rattle.cg_store.specs.Answers.{IsLost}
 use Rattle.cg_store.specs.Calls.{Whether, Commits, EndsLong}
 use Rattle.cg_store.specs.Defined.{strike_at, EndsAsDefined as StrikesEndAsDefined}
@@ -219,7 +219,7 @@ module _ {D : Type 0} (view : D → DiskView) (strikes : StrikesEndAsDefined) (o
     -- ---- or in a crash
 
     module _ (w : Fallen D) (e : DiskState) (shown : (view w.disk).state ≡ Some e) (id_is : w.id ≡ old.store.id) (green_is : w.green ≡ t.green)
-      (count_u : green_count u.content.queue ≡ w.count) (count_v : green_count behind.content.queue ≡ w.count + length t.green) where
+        (count_u : green_count u.content.queue ≡ w.count) (count_v : green_count behind.content.queue ≡ w.count + length t.green) where
       names : (b : Bool) → (if b then t.green else []) ≡ told w (if b then behind else u).content
       names true = sym (told_all w behind.content t.green green_is count_v)
       names false = sym (told_none w u.content count_u)
@@ -295,7 +295,7 @@ module _ {D : Type 0} (view : D → DiskView) (strikes : StrikesEndAsDefined) (o
   -- ---- each way in which it ends
 
   module _ (tells : (d : D) → (z : DiskState) × ((view d).state ≡ Some z)) (count_u : green_count u.content.queue ≡ green_count old.replica.held.queue)
-    (count_v : green_count behind.content.queue ≡ green_count old.replica.held.queue + length t.green) where
+      (count_v : green_count behind.content.queue ≡ green_count old.replica.held.queue + length t.green) where
     abbrev begun : D → Kept D
     begun mid = let k = old.store in record k { disk = mid }
 

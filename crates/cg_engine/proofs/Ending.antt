@@ -1,12 +1,11 @@
 -- How an event ends, put together from its commit and what follows it.
-use Rattle.std.proofs.Common.{◌≡◌, ◌⊎◌, inl, inr, ⊎_elim, ℕ, ◌≤◌, nat_lt, List, [], ◌++◌, Bool, true, false, Option, Some, None, Result, Ok, Err, refl, sym, ◌∙◌, ap, subst, arith}
+use Rattle.std.proofs.Common.{◌≡◌, inl, inr, ℕ, nat_lt, Bool, true, false, Option, Some, None, Result, Ok, Err, refl, sym, subst, arith}
 use Rattle.std.specs.Prelude.{◌<◌, IfSome}
 use Rattle.std.specs.Option.{option_map}
-use Rattle.cg_disk.specs.Sides.{Image}
 use Rattle.cg_disk.specs.State.{DiskState, Strike}
 use Rattle.cg_disk.specs.View.{DiskView, IsView, IsAtRest, LeavesOnly}
 use Rattle.cg_client.specs.declared.parts.DraftParts.{DraftParts}
-use Rattle.cg_client.specs.Replica.{Held, Replica}
+use Rattle.cg_client.specs.Replica.{Replica}
 use Rattle.cg_client.specs.Turn.{Turn}
 use Rattle.cg_client.specs.Whitening.{IsLineGreen}
 use Rattle.cg_stored.specs.Stored.{whiten}
@@ -15,16 +14,16 @@ use Rattle.cg_step.specs.Commit.{commits}
 use Rattle.cg_step.specs.Crash.{whitened}
 use Rattle.cg_step.specs.Following.{Follows}
 use Rattle.cg_store.specs.Answers.{IsRefused, EachMoment}
-use Rattle.cg_store.specs.Calls.{Whether, Commits, Keeps, Moves, EndsWritten, EndsLong, IsEither, IsOneOfThree, paired}
-use Rattle.cg_store.specs.EndingLaws.{commit_stands, commit_is_written, keep_stands, keep_is_not_written, commit_held, ends_long, ends_short, ends_failed, event_moments}
-use Rattle.cg_store.specs.MomentLaws.{stands_once, weakened, leaves_first, moments_first}
+use Rattle.cg_store.specs.Calls.{Whether, Commits, Keeps, EndsWritten, IsEither, IsOneOfThree, paired}
+use Rattle.cg_store.specs.EndingLaws.{commit_stands, commit_is_written, keep_stands, keep_is_not_written, ends_long, ends_short, ends_failed, event_moments}
+use Rattle.cg_store.specs.MomentLaws.{stands_once, weakened, leaves_first}
 use Rattle.cg_store.specs.Kept.{Kept}
 use Rattle.cg_store.specs.Stands.{Standing, Stands, disk_of, committed, checkpointed}
 use Rattle.cg_store.specs.declared.errors.CommitErr.{CommitErr}
 use Rattle.cg_store.specs.declared.errors.CommitErr.TheVariants.{Lost, NoMemory}
 use Rattle.cg_store.specs.declared.outputs.Outputs.{Outputs}
 use Rattle.cg_replica.specs.Seen.{turn_of}
-use Rattle.cg_engine.specs.Answers.{parts_of, answer_of, IsLeft, Leaves, IsBetween, EndsEvent}
+use Rattle.cg_engine.specs.Answers.{parts_of, answer_of, Leaves, EndsEvent}
 use Rattle.cg_engine.specs.Ending.{MayEnd, MaySave, MayGoOn, up, wreck_of, fallen, saved, Saved, Saves, GoesOn}
 use Rattle.cg_engine.specs.declared.answers.Handled.{Handled}
 use Rattle.cg_engine.specs.declared.answers.Handled.TheVariants as handled
@@ -138,11 +137,11 @@ module _ {D : Type 0} (view : D → DiskView) (k : Kept D) (u : Standing) (r : R
         ((w : Standing) → Stands mid.id (view mid.disk).reads w → GoesOn view mid w r o last result) → EndsEvent view k last.count u turn b result
     ends_with is rest stands true ends first goes =
         let saves = subst (λ x. Whether x (Saves view mid after (whitened r) o last result) (result ≡ handled.Running (up mid r) o)) (commit_is_written view k mid u after d o ends)
-            (goes after (commit_stands view k mid u after d o ends)) in
+        (goes after (commit_stands view k mid u after d o ends)) in
         by_size (nat_lt size_limit after.size) refl ends first saves
     ends_with is rest stands false ends first goes =
         let same = subst (λ x. Whether x (Saves view mid u (whitened r) o last result) (result ≡ handled.Running (up mid r) o)) (keep_is_not_written view k mid u after d o ends)
-            (goes u (keep_stands view k mid u after d o ends stands)) in
+        (goes u (keep_stands view k mid u after d o ends stands)) in
         subst (λ x. EndsEvent view k last.count u turn false x) (sym same) (record {
           ends = ends;
           leaves = refl;

@@ -1,13 +1,10 @@
 -- A replica follows what an event, a new disk and a recovery leave on its disk.
-use Rattle.std.proofs.Common.{◌≡◌, List, [], ◌++◌, Bool, false, refl, sym, ◌∙◌, ap, subst}
+use Rattle.std.proofs.Common.{◌≡◌, List, [], refl, sym, ◌∙◌, ap, subst}
 use Rattle.cg_base.specs.declared.action_id.ActionId.{ActionId}
 use Rattle.cg_action.specs.declared.action.Action.{Action}
 use Rattle.cg_client.specs.Replica.{Held, Replica}
-use Rattle.cg_client.specs.Turn.{Turn}
 use Rattle.cg_stored.specs.Stored.{Stored, stored_of, whiten, recover}
 use Rattle.cg_stored.specs.Change.{IsAhead}
-use Rattle.cg_stored.specs.Checkpoint.{Agrees}
-use Rattle.cg_step.specs.Commit.{commits}
 use Rattle.cg_step.specs.Crash.{Disk}
 use Rattle.cg_step.specs.Following.{Follows}
 use Rattle.cg_step.specs.Holds.{Holds}

@@ -1,5 +1,5 @@
 -- An event ends as its step ends behind the disk's `begin`.
-use Rattle.std.proofs.Common.{◌≡◌, ℕ, List, Bool, refl, sym, ◌∙◌, ap, subst}
+use Rattle.std.proofs.Common.{◌≡◌, ℕ, List, Bool, sym, subst}
 use Rattle.cg_action.specs.declared.action.Action.{Action}
 use Rattle.cg_base.specs.declared.action_id.ActionId.{ActionId}
 use Rattle.cg_disk.specs.Calls.{Begins}

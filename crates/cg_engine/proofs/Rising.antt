@@ -1,8 +1,7 @@
 -- How a replica comes up again.
-use Rattle.std.proofs.Common.{◌≡◌, ℕ, List, [], ◌++◌, Bool, true, false, nat_lt, refl, sym, ◌∙◌, ap, subst, arith}
+use Rattle.std.proofs.Common.{◌≡◌, List, [], ◌++◌, nat_lt, sym, ◌∙◌, ap, subst, arith}
 use Rattle.std.specs.Prelude.{if◌then◌else◌}
 use Rattle.cg_action.specs.declared.action.Action.{Action}
-use Rattle.cg_base.specs.declared.action_id.ActionId.{ActionId}
 use Rattle.cg_disk.specs.View.{DiskView}
 use Rattle.cg_journal.specs.Reads.{IsRead, IsReadRefused}
 use Rattle.cg_queue.specs.Queue.{green_count}
@@ -12,11 +11,11 @@ use Rattle.cg_stored.specs.Stored.{recover}
 use Rattle.cg_step.specs.Following.{Follows}
 use Rattle.cg_step.specs.Recorded.{AlwaysHolds, AlwaysCounts, AlwaysSettled, AlwaysRecorded, AlwaysAhead}
 use Rattle.cg_store.specs.Kept.{Kept}
-use Rattle.cg_store.specs.Opening.{IsSound, IsOpened}
-use Rattle.cg_store.specs.Stands.{Standing, Stands, disk_of}
+use Rattle.cg_store.specs.Opening.{IsOpened}
+use Rattle.cg_store.specs.Stands.{Stands, disk_of}
 use Rattle.cg_engine.specs.Engines.{Fallen, IsEngine}
 use Rattle.cg_engine.specs.Answers.{Recovers}
-use Rattle.cg_engine.specs.Ending.{wreck_of, IsOpen, RisesWith, Rises}
+use Rattle.cg_engine.specs.Ending.{IsOpen, Rises}
 use Rattle.cg_engine.specs.declared.answers.Recovered.{Recovered}
 use Rattle.cg_engine.specs.declared.answers.Recovered.TheVariants as recovered
 use Rattle.cg_engine.specs.declared.wreck.Last.{Last}

@@ -1,5 +1,5 @@
 -- Red marks change no values: an event is to be written by what stands on the disk just where it is by what is held.
-use Rattle.std.proofs.Common.{◌≡◌, List, [], ◌∷◌, Bool, true, false, Option, Some, None, refl, sym, ◌∙◌, ap, subst, ◌&&◌, ◌||◌, not}
+use Rattle.std.proofs.Common.{◌≡◌, List, [], ◌∷◌, Bool, true, false, Option, Some, None, refl, ◌∙◌, ap, subst, ◌&&◌, ◌||◌, not}
 use Rattle.std.specs.Prelude.{◌==◌, if◌then◌else◌}
 use Rattle.cg_base.specs.Text.{is_nil}
 use Rattle.cg_action.specs.declared.action.Action.{Action}
@@ -57,14 +57,14 @@ one-same : (s h x : Held) → HaveOne s h → same_values s x ≡ same_values h 
 unfolding same_values
 one-same s h x one =
     λ i. same_prim (one.prim i) x.prim && (one.attempt_index i == x.attempt_index) && same_record (one.vulnerable i) x.vulnerable
-      && same_yellow (record { valid = one.valid i; list = one.list i }) (yellow_of x)
+    && same_yellow (record { valid = one.valid i; list = one.list i }) (yellow_of x)
 
 pub same_commits : (s : Stored) (unwritten : List Action) (h : Held) (t : Turn) → IsAhead s unwritten h → commits s t ≡ commits h t
 unfolding commits
 same_commits s unwritten h t ahead =
     let one = known-one s (stored_of h) unwritten ahead in
     let values : same_values s t.replica.held ≡ same_values h t.replica.held =
-        one-same s h t.replica.held (record { prim = one.prim; attempt_index = one.attempt_index; vulnerable = one.vulnerable; valid = one.valid; list = one.list; count = one.count }) in
+    one-same s h t.replica.held (record { prim = one.prim; attempt_index = one.attempt_index; vulnerable = one.vulnerable; valid = one.valid; list = one.list; count = one.count }) in
     ap (λ v. t.marked_own || not (is_nil t.green) || not (is_nil t.made) || not v) values
 
 -- and there are as many greens on the disk as are held

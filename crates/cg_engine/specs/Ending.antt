@@ -1,5 +1,5 @@
 -- How the parts of an engine's calls hand on to one another.
-use Rattle.std.specs.Prelude.{◌≡◌, ℕ, nat_lt, Bool, true, false, List, [], ◌++◌, Result, Ok, Err, if◌then◌else◌}
+use Rattle.std.specs.Prelude.{◌≡◌, ℕ, nat_lt, Bool, false, List, [], ◌++◌, Result, Ok, Err, if◌then◌else◌}
 use Rattle.cg_action.specs.declared.action.Action.{Action}
 use Rattle.cg_disk.specs.View.{DiskView}
 use Rattle.cg_queue.specs.Queue.{green_count}

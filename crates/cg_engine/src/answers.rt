@@ -16,10 +16,7 @@ pub enum Started<D: Disk> {
 /// What comes of an event.
 #[derive(Drop)]
 pub enum Handled<D: Disk> {
-    Running {
-        engine: Engine<D>,
-        outputs: Outputs,
-    },
+    Running { engine: Engine<D>, outputs: Outputs },
     /// A device call failed, and nothing is given out. The disk stands for the state before the event or behind it.
     Down(Wreck<D>),
     /// Memory was refused, no device call failed, and nothing is given out. The disk stands for the state before the
@@ -31,10 +28,7 @@ pub enum Handled<D: Disk> {
 #[derive(Drop)]
 pub enum Recovered<D: Disk> {
     /// With the names of its last event that are green in the state that the disk stands for.
-    Running {
-        engine: Engine<D>,
-        green: IdList,
-    },
+    Running { engine: Engine<D>, green: IdList },
     /// A device call failed.
     Down(Wreck<D>),
     /// The disk stands for no state of this replica.

@@ -84,11 +84,7 @@ fn unkept<D: Disk>(fault: CommitErr<D>, id: ReplicaId, last: Last) -> Recovered<
 fn told(alloc: Global, last: Last, more: bool) -> IdList
     ensures { result ≡ (if more then last.green else []) }
 {
-    if more {
-        last.green
-    } else {
-        Row::new(alloc)
-    }
+    if more { last.green } else { Row::new(alloc) }
 }
 
 impl<D: Disk> Engine<D> {
@@ -154,13 +150,7 @@ impl<D: Disk> Engine<D> {
     }
 
     // The step was made: the event ends.
-    fn end(
-        alloc: Global,
-        store: Store<D>,
-        replica: Replica,
-        draft: Draft,
-        count: u64,
-    ) -> Handled<D>
+    fn end(alloc: Global, store: Store<D>, replica: Replica, draft: Draft, count: u64) -> Handled<D>
         requires calls { (D.view store.disk).time + 10 ≤ 2 ^ 62 }
         requires may { (u : Standing) → Stands store.id (D.view store.disk).reads u → MayEnd store.unwritten u (turn_of replica draft) }
         ensures { (u : Standing) → Stands store.id (D.view store.disk).reads u → (let t = turn_of replica draft in EndsEvent D.view store count u t (commits u.content t) result) }

@@ -32,9 +32,9 @@ returns-in-Ok g c = λ u.
     let counted = c.green_count-count.ensures.value ∙ ap (λ h. green_count h.queue) c.core-2.ensures in
     subst (λ (x : Up _). Stands x.store.id (view x.store.disk).reads u → HandlesEvent view x u (replica_step x.replica input) c.end.result) c.self.view_is
     (λ stands.
-        handles_step view old mid begun.disk begun.id begun.unwritten u (replica_step old.replica input) (turn_of c.in-Ok.replica c.in-Ok.draft) c.green_count-count.result c.end.result
-        (follows_at (view old.store.disk) old.store.id old.store.unwritten old.replica.held u c.self.invariant stands) c.in-Ok.ensures counted
-        (c.end.ensures u (stands_there view old mid begun.disk begun.id begun.unwritten u stands)))
+    handles_step view old mid begun.disk begun.id begun.unwritten u (replica_step old.replica input) (turn_of c.in-Ok.replica c.in-Ok.draft) c.green_count-count.result c.end.result
+    (follows_at (view old.store.disk) old.store.id old.store.unwritten old.replica.held u c.self.invariant stands) c.in-Ok.ensures counted
+    (c.end.ensures u (stands_there view old mid begun.disk begun.id begun.unwritten u stands)))
 
 pub returns-in-Err : goal.returns-in-Err
 returns-in-Err g c = λ u.
@@ -47,5 +47,5 @@ returns-in-Err g c = λ u.
     let written = commits old.replica.held t in
     subst (λ (x : Up _). Stands x.store.id (view x.store.disk).reads u → HandlesEvent view x u (replica_step x.replica (input_of c.args.input)) c.refuse.result) c.self.view_is
     (λ stands.
-        handles view old mid begun.disk begun.id begun.unwritten u t c.green_count-count.result written c.refuse.result counted refl
-        (c.refuse.ensures u t written (stands_there view old mid begun.disk begun.id begun.unwritten u stands)))
+    handles view old mid begun.disk begun.id begun.unwritten u t c.green_count-count.result written c.refuse.result counted refl
+    (c.refuse.ensures u t written (stands_there view old mid begun.disk begun.id begun.unwritten u stands)))
