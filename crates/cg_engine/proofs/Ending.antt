@@ -1,7 +1,8 @@
 -- How an event ends, put together from its commit and what follows it.
-use Rattle.std.proofs.Common.{◌≡◌, inl, inr, ℕ, nat_lt, Bool, true, false, Option, Some, None, Result, Ok, Err, refl, sym, subst, arith}
+use Rattle.std.proofs.Common.{◌≡◌, List, [], ◌∙◌, inl, inr, ℕ, nat_lt, Bool, true, false, Option, Some, None, Result, Ok, Err, refl, sym, ap, subst, arith}
 use Rattle.std.specs.Prelude.{◌<◌, IfSome}
 use Rattle.std.specs.Option.{option_map}
+use Rattle.cg_base.specs.declared.action_id.ActionId.{ActionId}
 use Rattle.cg_disk.specs.State.{DiskState, Strike}
 use Rattle.cg_disk.specs.View.{DiskView, IsView, IsAtRest, LeavesOnly}
 use Rattle.cg_client.specs.declared.parts.DraftParts.{DraftParts}
@@ -24,10 +25,20 @@ use Rattle.cg_store.specs.declared.errors.CommitErr.TheVariants.{Lost, NoMemory}
 use Rattle.cg_store.specs.declared.outputs.Outputs.{Outputs}
 use Rattle.cg_replica.specs.Seen.{turn_of}
 use Rattle.cg_engine.specs.Answers.{parts_of, answer_of, Leaves, EndsEvent}
+use Rattle.cg_engine.specs.Engines.{Fallen}
 use Rattle.cg_engine.specs.Ending.{MayEnd, MaySave, MayGoOn, up, wreck_of, fallen, saved, Saved, Saves, GoesOn}
 use Rattle.cg_engine.specs.declared.answers.Handled.{Handled}
 use Rattle.cg_engine.specs.declared.answers.Handled.TheVariants as handled
 use Rattle.cg_engine.specs.declared.wreck.Last.{Last}
+
+-- ---- the disk of a store that is given up
+
+pub refused_as : {D : Type 0} (disk now : D) (id own count : ℕ) (green : List ActionId) (w : Fallen D) → w ≡ record { disk = now; id = id; count = count; green = green } → now ≡ disk → id ≡ own → green ≡ [] →
+    wreck_of disk own (record { count = count; green = [] }) ≡ w
+refused_as disk now id own count green w is here same none = (λ i. record { disk = sym here i; id = sym same i; count = count; green = sym none i }) ∙ sym is
+
+pub fallen_as : {D : Type 0} (fault : CommitErr D) (id own : ℕ) (last : Last) (result : Handled D) → result ≡ fallen fault id last → id ≡ own → fallen fault own last ≡ result
+fallen_as fault id own last result is same = sym (is ∙ ap (λ n. fallen fault n last) same)
 
 -- ---- no call was made
 
