@@ -17,8 +17,8 @@ use cg_client::{Core, Draft};
 use cg_disk::{Disk, ModelDisk};
 use cg_replica::{Input, Replica};
 use cg_report::StateName;
-use cg_step::{each_commit_is_recorded, each_replica_follows_its_disk, what_is_held_agrees};
-use cg_store::{CommitErr, OpenErr, Outputs, Store, strikes_end_as_defined};
+use cg_step::{each_commit_is_recorded, what_is_held_agrees};
+use cg_store::{CommitErr, OpenErr, Outputs, Store};
 use std::alloc::Global;
 use std::marker::Model;
 
