@@ -1,0 +1,9 @@
+mod Values
+mod Following
+mod Ending
+mod GoingOn
+mod Committing
+mod Starting
+mod Rising
+mod Handling
+mod Defining

@@ -1,0 +1,122 @@
+-- How the parts of an engine's calls hand on to one another.
+use Rattle.std.specs.Prelude.{◌≡◌, ℕ, nat_lt, Bool, false, List, [], ◌++◌, Result, Ok, Err, if◌then◌else◌}
+use Rattle.cg_action.specs.declared.action.Action.{Action}
+use Rattle.cg_disk.specs.View.{DiskView}
+use Rattle.cg_queue.specs.Queue.{green_count}
+use Rattle.cg_client.specs.Replica.{Held, Replica}
+use Rattle.cg_client.specs.Turn.{Turn}
+use Rattle.cg_client.specs.Whitening.{IsLineGreen}
+use Rattle.cg_stored.specs.Stored.{stored_of, whiten, recover}
+use Rattle.cg_stored.specs.Change.{IsRecorded}
+use Rattle.cg_stored.specs.Checkpoint.{Agrees, size_limit}
+use Rattle.cg_step.specs.Commit.{commits}
+use Rattle.cg_step.specs.Crash.{whitened}
+use Rattle.cg_step.specs.Following.{Follows}
+use Rattle.cg_store.specs.Answers.{EachMoment}
+use Rattle.cg_store.specs.Calls.{Whether, Moves, IsEither}
+use Rattle.cg_store.specs.Kept.{Kept}
+use Rattle.cg_store.specs.Opening.{IsSound}
+use Rattle.cg_store.specs.Stands.{Standing, Stands, disk_of, committed, checkpointed}
+use Rattle.cg_store.specs.declared.errors.CommitErr.{CommitErr}
+use Rattle.cg_store.specs.declared.errors.CommitErr.TheVariants.{Lost, NoMemory as NoMemoryErr}
+use Rattle.cg_store.specs.declared.errors.OpenErr.{OpenErr}
+use Rattle.cg_store.specs.declared.errors.OpenErr.TheVariants.{Lost as OpenLost, NotAStore as OpenNotAStore, NoMemory as OpenNoMemory}
+use Rattle.cg_store.specs.declared.outputs.Outputs.{Outputs}
+use Rattle.cg_engine.specs.Engines.{Up, Fallen}
+use Rattle.cg_engine.specs.declared.wreck.Last.{Last}
+use Rattle.cg_engine.specs.declared.answers.Started.{Started}
+use Rattle.cg_engine.specs.declared.answers.Started.TheVariants as started
+use Rattle.cg_engine.specs.declared.answers.Handled.{Handled}
+use Rattle.cg_engine.specs.declared.answers.Handled.TheVariants as handled
+use Rattle.cg_engine.specs.declared.answers.Recovered.{Recovered}
+use Rattle.cg_engine.specs.declared.answers.Recovered.TheVariants as recovered
+
+-- ---- faults
+
+abbrev pub wreck_of : {D : Type 0} → D → ℕ → Last → Fallen D
+wreck_of disk id last = record { disk = disk; id = id; count = last.count; green = last.green }
+
+abbrev pub bare_wreck : {D : Type 0} → D → ℕ → Fallen D
+bare_wreck disk id = record { disk = disk; id = id; count = 0; green = [] }
+
+abbrev pub fallen : {D : Type 0} → CommitErr D → ℕ → Last → Handled D
+fallen (Lost disk) id last = handled.Down (wreck_of disk id last)
+fallen (NoMemoryErr disk) id last = handled.NoMemory (wreck_of disk id last)
+
+abbrev pub unstarted : {D : Type 0} → CommitErr D → ℕ → Started D
+unstarted (Lost disk) id = started.Down (bare_wreck disk id)
+unstarted (NoMemoryErr disk) id = started.NoMemory (bare_wreck disk id)
+
+abbrev pub unopened : {D : Type 0} → OpenErr D → ℕ → Last → Recovered D
+unopened (OpenLost disk) id last = recovered.Down (wreck_of disk id last)
+unopened (OpenNotAStore disk) id last = recovered.NotAStore (wreck_of disk id last)
+unopened (OpenNoMemory disk) id last = recovered.NoMemory (wreck_of disk id last)
+
+abbrev pub unkept : {D : Type 0} → CommitErr D → ℕ → Last → Recovered D
+unkept (Lost disk) id last = recovered.Down (wreck_of disk id last)
+unkept (NoMemoryErr disk) id last = recovered.NoMemory (wreck_of disk id last)
+
+-- ---- what the end of an event asks for
+
+-- the event's record leads from what the disk stands for, and the replica follows what the event leaves there
+pub record MayEnd (unwritten : List Action) (u : Standing) (t : Turn) : Type 0 where
+  pub recorded : IsRecorded u.content unwritten t
+  pub agrees : Agrees (stored_of (whiten t.replica.held))
+  pub line : IsLineGreen t.replica.held
+  pub changed : Follows (disk_of [] (committed unwritten t u)) (whiten t.replica.held)
+  pub saved : Follows (disk_of [] (checkpointed (committed unwritten t u))) (whiten t.replica.held)
+  pub kept : commits u.content t ≡ false → Follows (disk_of (unwritten ++ t.known) u) t.replica.held
+
+-- behind a commit the disk stands for what is held, in the records or in a checkpoint
+pub record MaySave (unwritten : List Action) (w : Standing) (h : Held) : Type 0 where
+  pub held : stored_of h ≡ w.content
+  pub agrees : Agrees (stored_of h)
+  pub follows : Follows (disk_of unwritten w) h
+  pub later : Follows (disk_of unwritten (checkpointed w)) h
+
+-- where the event was written this is so of the white count that has risen
+abbrev pub MayGoOn : Bool → List Action → Standing → Held → Type 0
+MayGoOn written unwritten w h = Whether written (IsLineGreen h × MaySave unwritten w (whiten h)) (Follows (disk_of unwritten w) h)
+
+-- ---- what it gives
+
+abbrev pub up : {D : Type 0} → Kept D → Replica → Up D
+up store r = record { store = store; replica = r }
+
+abbrev pub saved : {D : Type 0} → Result (Kept D) (CommitErr D) → Replica → Outputs → ℕ → Last → Handled D
+saved (Ok store) r outputs id last = handled.Running (up store r) outputs
+saved (Err fault) r outputs id last = fallen fault id last
+
+-- a checkpoint was made
+pub record Saved {D : Type 0} (view : D → DiskView) (k : Kept D) (w : Standing) (r : Replica) (outputs : Outputs) (last : Last) (result : Handled D) : Type 0 where
+  pub answer : Result (Kept D) (CommitErr D)
+  pub moves : Moves view k w (checkpointed w) answer
+  pub moments : EachMoment view (λ s. s.disk) (IsEither k.id w (checkpointed w)) (view k.disk) answer
+  pub is : result ≡ saved answer r outputs k.id last
+
+abbrev pub Saves : {D : Type 0} → (D → DiskView) → Kept D → Standing → Replica → Outputs → Last → Handled D → Type 0
+Saves view k w r outputs last result = Whether (nat_lt size_limit w.size) (Saved view k w r outputs last result) (result ≡ handled.Running (up k r) outputs)
+
+abbrev pub GoesOn : {D : Type 0} → (D → DiskView) → Kept D → Standing → Replica → Outputs → Last → Handled D → Type 0
+GoesOn view k w r outputs last result = Whether outputs.written (Saves view k w (whitened r) outputs last result) (result ≡ handled.Running (up k r) outputs)
+
+-- ---- a recovery
+
+-- the disk of an opened store stands for what a core holds, and there are no red marks beside it
+pub record IsOpen {D : Type 0} (d : DiskView) (k : Kept D) (core : Held) : Type 0 where
+  pub standing : Standing
+  pub stands : Stands k.id d.reads standing
+  pub sound : IsSound standing.content
+  pub core_is : core ≡ standing.content
+  pub unwritten : k.unwritten ≡ []
+
+-- the replica comes up; only memory may be wanting
+abbrev pub RisesWith : {D : Type 0} → Kept D → Turn → Last → Bool → Recovered D → Type 0
+RisesWith k t last more (recovered.Running e green) =
+    (e.replica ≡ t.replica) × (e.store ≡ record k { unwritten = k.unwritten ++ t.known }) × (green ≡ (if more then last.green else []))
+RisesWith k t last more (recovered.Down w) = ⊥
+RisesWith k t last more (recovered.NotAStore w) = ⊥
+RisesWith k t last more (recovered.NoMemory w) = w ≡ wreck_of k.disk k.id last
+
+abbrev pub Rises : {D : Type 0} → Kept D → Held → Last → Recovered D → Type 0
+Rises k core last result = RisesWith k (recover core) last (nat_lt last.count (green_count core.queue)) result

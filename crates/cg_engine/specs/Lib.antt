@@ -1,0 +1,4 @@
+pub mod Engines
+pub mod Answers
+pub mod Ending
+pub mod Defined
