@@ -44,6 +44,13 @@ impl Letter {
         bytes
     }
 
+    // What it says is within the limits of a message.
+    pub(crate) fn known(&self)
+        ensures { IsMsg self.now }
+    {
+        let _bytes = &self.bytes;
+    }
+
     /// The bytes. It takes no memory.
     pub fn as_bytes(&self) -> &[u8]
         ensures { result.now ≡ spelled_msg self.now }

@@ -1,5 +1,5 @@
-ghost use Rattle.std.specs.Prelude.{◌≡◌, IfOk, map};
-ghost use Rattle.cg_letter.specs.Letter.{opened};
+ghost use Rattle.std.specs.Prelude.{◌≡◌, IfOk, OnOk, map};
+ghost use Rattle.cg_letter.specs.Letter.{opened, IsSaid, AreSaid};
 
 use crate::Letter;
 use cg_base::{NoMemory, Row};
@@ -8,14 +8,18 @@ use std::alloc::Global;
 
 // what is handed over, with its message in bytes
 fn opened(one: Delivery<Letter>) -> Delivery
-    ensures { result ≡ opened one }
+    ensures opened { result ≡ opened one }
+    ensures said { IsSaid one }
 {
     match one {
-        Delivery::Message { place, from, bytes } => Delivery::Message {
-            place,
-            from,
-            bytes: bytes.into_bytes(),
-        },
+        Delivery::Message { place, from, bytes } => {
+            bytes.known();
+            Delivery::Message {
+                place,
+                from,
+                bytes: bytes.into_bytes(),
+            }
+        }
         Delivery::Transitional { conf, set } => Delivery::Transitional { conf, set },
         Delivery::Regular { conf, set } => Delivery::Regular { conf, set },
     }
@@ -23,7 +27,10 @@ fn opened(one: Delivery<Letter>) -> Delivery
 
 /// All that is handed to a replica, with the messages in bytes.
 pub fn open_all(alloc: Global, list: Row<Delivery<Letter>>) -> Result<DeliveryList, NoMemory>
-    ensures { IfOk result (λ all. all ≡ map opened list) }
+    ensures opened { IfOk result (λ all. all ≡ map opened list) }
+
+    // Each message is within its limits, and so is the one that its bytes spell.
+    ensures said { OnOk result (AreSaid list) }
 {
     let mut all = Row::new(alloc);
     for one in list.into_vec() {
