@@ -274,7 +274,6 @@ pub mod OrderOnTop
 pub mod AlwaysMade
 pub mod CreatorNumbered
 pub mod PrimStays
-pub mod SeatsStay
 pub mod PrimaryOne
 pub mod GreensTold
 pub mod OrderExtends

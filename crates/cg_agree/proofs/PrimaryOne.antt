@@ -25,9 +25,9 @@ use Rattle.cg_agree.specs.Levels.{prim_at, prim_of}
 use Rattle.cg_agree.specs.FactsLists.{IsRising}
 use Rattle.cg_agree.specs.Noting.{chronicle_step, chronicle_after}
 use Rattle.cg_agree.specs.Played.{StandsBeside, HoldsFrom, AlwaysHolds}
+use Rattle.cg_agree.specs.SeatLaws.{IsSeated, seats_stay}
 use Rattle.cg_agree.proofs.ReachWorld.{opened-at, opened-attempt}
 use Rattle.cg_agree.proofs.CreatorNumbered.{admitted-of}
-use Rattle.cg_agree.proofs.SeatsStay.{IsSeated, seats-stay}
 use Rattle.cg_agree.proofs.PrimStays.{StaysOn, stays-refl, stays-then, event-stays, IsKnownIn, known-stays, known-same}
 
 -- ---- a replica knows the component of its index
@@ -116,7 +116,7 @@ pub stays-through : (c : Chronicle) (w : World) (count : ℕ) (steps : List Step
 stays-through c w count [] run seated = stays-refl c
 stays-through c w count (s ∷ steps) run seated =
     let d = chronicle_step c w s.event in
-    let on : IsSeated s.world = subst IsSeated (sym (ap (λ (m : Moved). m.world) run.4)) (seats-stay w s.event seated) in
+    let on : IsSeated s.world = subst IsSeated (sym (ap (λ (m : Moved). m.world) run.4)) (seats_stay w s.event seated) in
     stays-then c d (chronicle_after d s.world steps) (event-stays c w s.event (seated-not w s.event seated run.2)) (stays-through d s.world (suc count) steps run.5 on)
 
 lines-through : (c : Chronicle) (w : World) (count : ℕ) (steps : List Step) → IsRunFrom w count steps → HoldsFrom c w (map (λ s. s.event) steps) → Each (OfLine (chronicle_after c w steps)) (lines_in steps)

@@ -1,16 +1,13 @@
 -- The servers of a run's start are those of its chronicle: its first event is a start, and no later one is.
-use Rattle.std.proofs.Common.{◌⊎◌, ◌≡◌, ℕ, List, [], ◌∷◌, ◌++◌, fold, Some, None, refl, sym, ap, ◌∙◌, subst, inl, inr}
+use Rattle.std.proofs.Common.{◌⊎◌, ◌≡◌, List, [], ◌∷◌, ◌++◌, None, refl, sym, ap, ◌∙◌, subst, inl, inr}
 use Rattle.std.proofs.lemmas.List.{append-nil, append_assoc}
 use Rattle.cg_base.specs.declared.weighted.Weighted.{Weighted}
-use Rattle.cg_base.specs.Weights.{ids}
-use Rattle.cg_group.specs.declared.reason.Reason.TheVariants.{EmptySet}
-use Rattle.cg_group.specs.Refusals.{empty_set}
 use Rattle.cg_schedule.specs.declared.event.Event.{Event}
 use Rattle.cg_schedule.specs.declared.event.Event.TheVariants.{Start, Split, Merge, Request, Weak, Dirty, Order, Recover, Show, ShowOrder, Gather, End, Receive, Deliver, Rounds, Stop, Fail, Join, Leave, Transfer}
 use Rattle.cg_agree.specs.World.{World}
 use Rattle.cg_agree.specs.Admission.{first_refusal}
-use Rattle.cg_agree.specs.Show.{Moved, ended}
-use Rattle.cg_agree.specs.Step.{name_also, begin_replica, happens, world_step}
+use Rattle.cg_agree.specs.Show.{Moved}
+use Rattle.cg_agree.specs.Step.{world_step}
 use Rattle.cg_agree.specs.Run.{Step, MayStand}
 use Rattle.cg_agree.specs.Shown.{start_in, start_of}
 use Rattle.cg_agree.specs.Agreement.{through}
@@ -18,10 +15,10 @@ use Rattle.cg_agree.specs.Chronicle.{Chronicle}
 use Rattle.cg_agree.specs.Small.{small_step}
 use Rattle.cg_agree.specs.Smalls.{smalls_in}
 use Rattle.cg_agree.specs.Noting.{chronicle_step}
+use Rattle.cg_agree.specs.SeatLaws.{IsSeated, start_seats, seats_stay}
 use Rattle.cg_agree.proofs.RunForward.{IsStepOf}
 use Rattle.cg_agree.proofs.PrimStays.{event-stays}
 use Rattle.cg_agree.proofs.PrimaryOne.{seated-not}
-use Rattle.cg_agree.proofs.SeatsStay.{IsSeated, set-seated, begun-seated, seats-stay}
 
 -- the servers of the start so far; and before it there are none
 pub record IsStartTold (earlier : List Step) (c : Chronicle) (w : World) : Type 0 where
@@ -31,14 +28,6 @@ pub record IsStartTold (earlier : List Step) (c : Chronicle) (w : World) : Type 
 start-last : (earlier : List Step) (s : Step) → start_of (through earlier s) ≡ start_of earlier ++ start_in s.event
 start-last [] s = append-nil (start_in s.event)
 start-last (x ∷ earlier) s = ap (λ list. start_in x.event ++ list) (start-last earlier s) ∙ sym (append_assoc (start_in x.event) (start_of earlier) (start_in s.event))
-
--- whoever is named by a start begins
-start-seated : (w : World) (set : List Weighted) → first_refusal w (Start set) ≡ None → IsSeated (world_step w (Start set)).world
-unfolding world_step happens ended first_refusal
-start-seated w set admitted = at (ids set) admitted where
-  at : (list : List ℕ) → empty_set list ≡ None → IsSeated (fold (begin_replica set) w list)
-  at [] e = absurd (let clash : Some EmptySet ≡ None = e in cc)
-  at (p ∷ list) e = begun-seated set list (begin_replica set w p) (set-seated (name_also w p) p _)
 
 module _ (c : Chronicle) (w : World) (before : List Weighted) (same : before ≡ c.start) (begun : (c.start ≡ []) ⊎ IsSeated w) where
   IsNext : Event → Type 0
@@ -51,14 +40,14 @@ module _ (c : Chronicle) (w : World) (before : List Weighted) (same : before ≡
       | inl none ↦ ap (λ list. list ++ set) (same ∙ none)
       | inr seated ↦ absurd (seated-not w (Start set) seated may set refl)
     ],
-    start-seated w set admitted,
+    start_seats w set admitted,
   )
 
   goes-on : (e : Event) → start_in e ≡ [] → MayStand w e → IsSeated w → IsNext e
   unfolding IsNext
   goes-on e none may seated = (
     ap (λ list. before ++ list) none ∙ append-nil before ∙ same ∙ sym (event-stays c w e (seated-not w e seated may)).start,
-    seats-stay w e seated,
+    seats_stay w e seated,
   )
 
   next : (e : Event) → MayStand w e → first_refusal w e ≡ None → IsNext e
