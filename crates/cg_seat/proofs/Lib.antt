@@ -1,0 +1,8 @@
+mod Beginning
+mod Events
+mod Falling
+mod Opening
+mod Arming
+mod Crashing
+mod ComingUp
+mod Counting

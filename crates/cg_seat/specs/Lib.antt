@@ -1,0 +1,5 @@
+pub mod Calls
+pub mod Resting
+pub mod Seen
+pub mod SeenLaws
+pub mod Looks

@@ -1,0 +1,156 @@
+//! What is seen of a replica with its disk.
+ghost use Rattle.std.specs.Prelude.{◌≡◌, ◌∷◌, [], IfOk, is_some};
+ghost use Rattle.cg_client.specs.Queries.{weak_answer, dirty_answer};
+ghost use Rattle.cg_queue.specs.Queue.{names_of};
+ghost use Rattle.cg_report.specs.declared.entry.Shown.TheVariants.{Weak as ShownWeak, Dirty as ShownDirty};
+ghost use Rattle.cg_agree.specs.World.{running};
+ghost use Rattle.cg_seat.specs.Calls.{line_in, is_gone, knows_left, knows_server, shows, shows_weak, shows_dirty};
+ghost use Rattle.cg_seat.specs.Looks.{shown_in};
+
+use crate::Seat;
+use crate::life::Life;
+use cg_action::{Action, Query};
+use cg_base::{IdList, NoMemory, ReplicaId, Row};
+use cg_client::Core;
+use cg_group::Phase;
+use cg_report::{Line, Shown};
+use cg_show::up_line;
+use std::alloc::Global;
+
+impl Seat {
+    /// Whose it is. It takes no memory.
+    pub fn id(&self) -> ReplicaId
+        ensures { result ≡ self.now.id }
+    {
+        match &self.life {
+            Life::Up { engine, .. } => engine.id(),
+            Life::Down(resting) => resting.id(),
+        }
+    }
+
+    /// It is up. It takes no memory.
+    pub fn is_up(&self) -> bool
+        ensures { result ≡ is_some (running self.now.life) }
+    {
+        match &self.life {
+            Life::Up { .. } => true,
+            Life::Down(_) => false,
+        }
+    }
+
+    /// It is up, and has left for good. It takes no memory.
+    pub fn is_left(&self) -> bool
+        ensures { result ≡ is_gone self.now.life }
+    {
+        match &self.life {
+            Life::Up { engine, .. } => engine.left(),
+            Life::Down(_) => false,
+        }
+    }
+
+    /// It is up, and knows that the server has left. It takes no memory.
+    pub fn knows_left(&self, q: ReplicaId) -> bool
+        ensures { result ≡ knows_left q self.now.life }
+    {
+        match &self.life {
+            Life::Up { engine, .. } => engine.core().left().contains(q),
+            Life::Down(_) => false,
+        }
+    }
+
+    /// It is up, and knows the server. It takes no memory.
+    pub fn knows_server(&self, q: ReplicaId) -> bool
+        ensures { result ≡ knows_server q self.now.life }
+    {
+        match &self.life {
+            Life::Up { engine, .. } => engine.core().members().is_member(q),
+            Life::Down(_) => false,
+        }
+    }
+
+    /// Its line, where it stands so in the group.
+    pub fn line(&self, phase: Phase) -> Result<Line, NoMemory>
+        ensures { IfOk result (λ l. l ≡ line_in phase self.now) }
+    {
+        let id = self.id();
+        match &self.life {
+            Life::Up { engine, .. } => {
+                let up = up_line(phase, engine.state(), engine.core())?;
+                Ok(Line { id, up: Some(up) })
+            }
+            Life::Down(_) => Ok(Line { id, up: None }),
+        }
+    }
+
+    /// Its green actions and its database, where it is up.
+    pub fn shows(&self, alloc: Global) -> Result<Row<Shown>, NoMemory>
+        ensures { IfOk result (λ list. list ≡ shows self.now.life) }
+    {
+        match &self.life {
+            Life::Up { engine, .. } => shown_in(alloc, engine.core()),
+            Life::Down(_) => Ok(Row::new(alloc)),
+        }
+    }
+
+    /// The answer of its green actions, where it is up.
+    pub fn shows_weak(&self, alloc: Global, query: &Query) -> Result<Row<Shown>, NoMemory>
+        ensures { IfOk result (λ list. list ≡ shows_weak self.now.id query.now self.now.life) }
+    {
+        let p = self.id();
+        match &self.life {
+            Life::Up { engine, .. } => weak_in(alloc, p, engine.core(), query),
+            Life::Down(_) => Ok(Row::new(alloc)),
+        }
+    }
+
+    /// The answer of all actions that it knows, where it is up.
+    pub fn shows_dirty(&self, alloc: Global, query: &Query) -> Result<Row<Shown>, NoMemory>
+        ensures { IfOk result (λ list. list ≡ shows_dirty self.now.id query.now self.now.life) }
+    {
+        let p = self.id();
+        match &self.life {
+            Life::Up { engine, .. } => dirty_in(alloc, p, engine.core(), query),
+            Life::Down(_) => Ok(Row::new(alloc)),
+        }
+    }
+}
+
+fn shown_in(alloc: Global, core: &Core) -> Result<Row<Shown>, NoMemory>
+    ensures { IfOk result (λ list. list ≡ shown_in core.now) }
+{
+    let p = core.id();
+    let list = names_of(alloc, core.greens()?.as_slice())?;
+    let entries = core.entries()?;
+    let mut shown = Row::new(alloc);
+    shown.push(Shown::Greens { p, list })?;
+    shown.push(Shown::Database { p, entries })?;
+    Ok(shown)
+}
+
+fn names_of(alloc: Global, actions: &[Action]) -> Result<IdList, NoMemory>
+    ensures { IfOk result (λ ids. ids ≡ names_of actions.now) }
+{
+    let mut ids = Row::new(alloc);
+    for a in actions {
+        ids.push(a.id)?;
+    }
+    Ok(ids)
+}
+
+fn weak_in(alloc: Global, p: ReplicaId, core: &Core, query: &Query) -> Result<Row<Shown>, NoMemory>
+    ensures { IfOk result (λ list. list ≡ ShownWeak p (weak_answer core.now query.now) ∷ []) }
+{
+    let answer = core.weak(query)?;
+    let mut shown = Row::new(alloc);
+    shown.push(Shown::Weak { p, answer })?;
+    Ok(shown)
+}
+
+fn dirty_in(alloc: Global, p: ReplicaId, core: &Core, query: &Query) -> Result<Row<Shown>, NoMemory>
+    ensures { IfOk result (λ list. list ≡ ShownDirty p (dirty_answer core.now query.now) ∷ []) }
+{
+    let answer = core.dirty(query)?;
+    let mut shown = Row::new(alloc);
+    shown.push(Shown::Dirty { p, answer })?;
+    Ok(shown)
+}

@@ -1,0 +1,48 @@
+ghost use Rattle.std.specs.Prelude.{◌≡◌};
+ghost use Rattle.cg_seat.specs.Resting.{IsResting};
+
+use cg_base::ReplicaId;
+use cg_disk::{Disk, ModelDisk};
+use cg_engine::Wreck;
+use std::marker::Model;
+
+/// A wreck whose disk stands for a state, with nothing unsynced on it and nothing armed. Clauses see the wreck.
+#[derive(Drop)]
+pub(crate) struct Resting {
+    wreck: Wreck<ModelDisk>,
+}
+
+impl Model for Resting {
+    ghost use Rattle.cg_disk.specs.declared.model_disk.ModelDisk.{ModelDisk};
+    ghost use Rattle.cg_engine.specs.Engines.{Fallen};
+    ghost use Rattle.cg_seat.specs.Resting.{IsResting};
+
+    ghost Value = { Fallen ModelDisk };
+
+    ghost view = { λ r. r.wreck };
+
+    ghost invariant = { λ r. IsResting (⟦<ModelDisk as Disk>⟧.view r.wreck.disk) r.wreck.id };
+}
+
+impl Resting {
+    pub(crate) fn new(wreck: Wreck<ModelDisk>) -> Resting
+        requires { IsResting (⟦<ModelDisk as Disk>⟧.view wreck.disk) wreck.id }
+        ensures { result ≡ wreck }
+    {
+        Resting { wreck }
+    }
+
+    pub(crate) fn into_wreck(self) -> Wreck<ModelDisk>
+        ensures wreck { result ≡ self }
+        ensures rests { IsResting (⟦<ModelDisk as Disk>⟧.view self.disk) self.id }
+    {
+        let Resting { wreck } = self;
+        wreck
+    }
+
+    pub(crate) fn id(&self) -> ReplicaId
+        ensures { result ≡ self.now.id }
+    {
+        self.wreck.id()
+    }
+}

@@ -1,0 +1,120 @@
+//! Strikes are armed, a replica goes down, and it comes up again.
+ghost use Rattle.std.specs.Prelude.{◌≡◌, ◌≤◌, List, ℕ, [], Some, IfOk};
+ghost use Rattle.cg_step.specs.Crash.{FailOnce, StopWith};
+ghost use Rattle.cg_agree.specs.Show.{news_of_recovery};
+ghost use Rattle.cg_seat.specs.Calls.{armed, crashed, risen};
+ghost use Rattle.cg_seat.specs.Seen.{up_seen, down_seen};
+
+use crate::Seat;
+use crate::life::Life;
+use crate::resting::Resting;
+use cg_base::{Bytes, Cut, IdList, NoMemory, Row};
+use cg_disk::{Disk, ModelDisk};
+use cg_engine::{Engine, Recovered};
+use cg_show::News;
+use std::alloc::Global;
+
+// A recovery makes five device calls, and their number is below 2^62.
+const MAX_CALLS: u64 = (1 << 62) - 5;
+
+impl Seat {
+    /// Arms the device call of this number, from 1 for the next one, to fail once, where the replica is up.
+    pub fn fail_at(&mut self, call: u64)
+        requires { 1 ≤ call }
+        ensures { self.new ≡ armed self.old.id (record { call = call; fault = FailOnce }) self.old.life }
+    {
+        match &mut self.life {
+            Life::Up { engine, .. } => engine.fail_at(call),
+            Life::Down(_) => {}
+        }
+    }
+
+    /// Arms a crash in the device call of this number, from 1 for the next one, with the bytes that it leaves in places
+    /// that weren't synced, where the replica is up.
+    pub fn stop_at(&mut self, call: u64, fill: Bytes)
+        requires { 1 ≤ call }
+        ensures { self.new ≡ armed self.old.id (record { call = call; fault = StopWith fill }) self.old.life }
+    {
+        match &mut self.life {
+            Life::Up {
+                engine,
+                fill: before,
+            } => {
+                engine.stop_at(call);
+                *before = fill;
+            }
+            Life::Down(_) => drop(fill),
+        }
+    }
+
+    /// A crash now, where it is up. `NoMemory` too where its disk has made so many calls that those of a recovery might go
+    /// past 2^62.
+    pub fn crash(self) -> Result<Seat, NoMemory>
+        ensures { IfOk result (λ s. s ≡ crashed self.id self.life) }
+    {
+        match self.into_life() {
+            Life::Up { engine, fill } => {
+                drop(fill);
+                stop(engine)
+            }
+            Life::Down(resting) => Ok(Seat::down(resting)),
+        }
+    }
+
+    /// It comes up with what stands on its disk, where it is down; with what is to be shown of that, where actions up to
+    /// this cut were shown as made.
+    pub fn recover(self, alloc: Global, made: &Cut) -> Result<(Seat, Option<News>), NoMemory>
+        ensures { IfOk result (λ x. x ≡ risen made.now self.id self.life) }
+    {
+        match self.into_life() {
+            Life::Up { engine, fill } => Ok((Seat::up(engine, fill), None)),
+            Life::Down(resting) => rise(alloc, resting, made),
+        }
+    }
+}
+
+// A crash of an engine between two events.
+fn stop(engine: Engine<ModelDisk>) -> Result<Seat, NoMemory>
+    ensures { IfOk result (λ s. (fill : List ℕ) → s ≡ crashed engine.store.id (up_seen (⟦<ModelDisk as Disk>⟧.view) engine fill).life) }
+{
+    if engine.calls() > MAX_CALLS {
+        drop(engine);
+        return Err(NoMemory);
+    }
+    // its clauses say that the disk stands for a state, with nothing unsynced
+    let _id = engine.id();
+    Seat::fall(engine.stop(), &[])
+}
+
+// An engine comes up from a disk that stands for a state.
+fn rise(alloc: Global, resting: Resting, made: &Cut) -> Result<(Seat, Option<News>), NoMemory>
+    ensures { IfOk result (λ x. x ≡ risen made.now resting.id (down_seen (⟦<ModelDisk as Disk>⟧.view) resting).life) }
+{
+    match Engine::recover(alloc, resting.into_wreck()) {
+        Recovered::Running { engine, green } => go_up(engine, green, made),
+        Recovered::Down(_) => unreachable!(),
+        Recovered::NotAStore(_) => unreachable!(),
+        Recovered::NoMemory(wreck) => {
+            drop(wreck);
+            Err(NoMemory)
+        }
+    }
+}
+
+// The engine that has come up, and what is to be shown of that.
+fn go_up(
+    engine: Engine<ModelDisk>,
+    green: IdList,
+    made: &Cut,
+) -> Result<(Seat, Option<News>), NoMemory>
+    ensures { IfOk result (λ x. x ≡ (up_seen (⟦<ModelDisk as Disk>⟧.view) engine [], Some (news_of_recovery made.now engine.replica.held green))) }
+{
+    let alloc = engine.core().alloc();
+    match News::of_recovery(made, engine.core(), green) {
+        Ok(news) => Ok((Seat::up(engine, Row::new(alloc)), Some(news))),
+        Err(_) => {
+            drop(engine);
+            Err(NoMemory)
+        }
+    }
+}
