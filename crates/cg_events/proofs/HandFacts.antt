@@ -1,0 +1,106 @@
+-- A replica's turn through its seat: the seat is taken out, and what comes back is what the definitions have the replica do.
+use Rattle.std.proofs.Common.{◌≡◌, ℕ, true, false, not, List, [], ◌∷◌, Option, Some, None, is_some, filter, find, refl, sym, ap, subst, ◌∙◌, eqb-true, option_and_then, MatchOption, IfSome, inl, inr}
+use Rattle.std.specs.Prelude.{◌==◌}
+use Rattle.std.specs.Option.{option_map_or}
+use Rattle.std.proofs.lemmas.Bool.{cases_Bool, cond-true, cond-false}
+use Rattle.cg_base.specs.declared.action_id.ActionId.{ActionId}
+use Rattle.cg_action.specs.declared.action.Action.{Action}
+use Rattle.cg_group.specs.Events.{send_all, go_down}
+use Rattle.cg_client.specs.Replica.{Replica}
+use Rattle.cg_client.specs.Turn.{Turn}
+use Rattle.cg_step.specs.Recorded.{AreBooked}
+use Rattle.cg_step.specs.Step.{Input, replica_step}
+use Rattle.cg_step.specs.Crash.{Ended, Runs, Crashes, end_event}
+use Rattle.cg_agree.specs.World.{Life, Up, Down, Seat, World, running, seat_of, replica_of, with_seat, set_life}
+use Rattle.cg_agree.specs.Show.{Going, news_of, tell}
+use Rattle.cg_agree.specs.Step.{after_event, hand_to, hand}
+use Rattle.cg_seat.specs.Calls.{behind, taken}
+use Rattle.cg_events.specs.Going.{comes_back}
+
+-- the first that passes a test passes it
+find-passes : (p : ℕ) (seats : List Seat) (s : Seat) → find (λ s. s.id == p) seats ≡ Some s → s.id ≡ p
+find-passes p [] s e = absurd (let clash : None ≡ Some s = e in cc)
+find-passes p (x ∷ seats) s e = elim (cases_Bool (x.id == p)) [
+  | inl here ↦ (let same : Some x ≡ Some s = sym (cond-true (x.id == p) (Some x) (find (λ s. s.id == p) seats) here) ∙ e in
+      let is : x ≡ s = cc in ap (λ (s : Seat). s.id) (sym is) ∙ eqb-true x.id p here)
+  | inr other ↦ find-passes p seats s (sym (cond-false (x.id == p) (Some x) (find (λ s. s.id == p) seats) other) ∙ e)
+]
+
+pub none_of : {X : Type 0} (o : Option X) → is_some o ≡ false → o ≡ None
+none_of None e = refl
+none_of (Some x) e = absurd (let clash : true ≡ false = e in cc)
+
+-- ---- a seat is taken out
+
+-- that of a replica that is up
+pub up_taken : (result : Option Seat) (w : World) (after : List Seat) (p : ℕ) → is_some (replica_of w p) ≡ true →
+    MatchOption result ((find (λ s. s.id == p) w.seats ≡ None) × (after ≡ w.seats))
+    (λ s. (find (λ t. t.id == p) w.seats ≡ Some s) × ((t : Seat) → t.id ≡ p → with_seat after t ≡ with_seat w.seats t)) →
+    MatchOption result ((replica_of w p ≡ None) × (record w { seats = after } ≡ w))
+    (λ s. (seat_of w p ≡ Some s) × (is_some (running s.life) ≡ true) × ((life : Life) → set_life (record w { seats = after }) p life ≡ set_life w p life))
+up_taken None w after p up h = absurd (
+    let none : replica_of w p ≡ None = ap (option_and_then (λ (s : Seat). running s.life)) h.0 in
+    let clash : false ≡ true = sym (ap is_some none) ∙ up in cc)
+up_taken (Some s) w after p up h = (
+  h.0,
+  subst (λ o. is_some (option_and_then (λ (s : Seat). running s.life) o) ≡ true) h.0 up,
+  λ life. ap (λ seats. record w { seats = seats }) (h.1 (record { id = p; life = life }) refl),
+)
+
+-- ---- what comes back
+
+-- behind an event that has ended
+back-ended : (g : Going) (v : World) (p : ℕ) (t : Turn) (e : Ended) → ((life : Life) → set_life v p life ≡ set_life g.world p life) →
+    comes_back (record g { world = v }) (behind p t e) ≡ after_event g p t e
+back-ended g v p t (Runs r disk) same = ap (λ (w : World). tell (record g { world = record w { group = send_all w.group p t.sent } }) (news_of t)) (same (Up r disk))
+back-ended g v p t (Crashes disk green) same =
+    ap (λ (w : World). record g { world = record w { group = go_down w.group p; snapshots = filter (λ s. not (s.giver == p)) w.snapshots } }) (same (Down disk green))
+
+-- from a replica that is up
+back-up : (g : Going) (v : World) (p : ℕ) (input : Input) (life : Life) → is_some (running life) ≡ true →
+    ((life : Life) → set_life v p life ≡ set_life g.world p life) → comes_back (record g { world = v }) (taken p input life) ≡ hand_to g p input life
+back-up g v p input (Up r disk) up same = let t = replica_step r input in back-ended g v p t (end_event disk r.held t) same
+back-up g v p input (Down disk green) up same = absurd (let clash : false ≡ true = up in cc)
+
+-- from the seat that was taken out
+pub back-taken : (g : Going) (v : World) (p : ℕ) (input : Input) (s : Seat) → seat_of g.world p ≡ Some s → is_some (running s.life) ≡ true →
+    ((life : Life) → set_life v p life ≡ set_life g.world p life) → comes_back (record g { world = v }) (taken s.id input s.life) ≡ hand g p input
+unfolding hand
+back-taken g v p input s there up same =
+    ap (λ n. comes_back (record g { world = v }) (taken n input s.life)) (find-passes p g.world.seats s there)
+    ∙ back-up g v p input s.life up same
+    ∙ sym (ap (λ o. option_map_or (λ (s : Seat). hand_to g p input s.life) o g) there)
+
+-- nothing comes of what is handed to a replica that isn't up
+pub hand-nobody : (g : Going) (p : ℕ) (input : Input) → replica_of g.world p ≡ None → g ≡ hand g p input
+unfolding hand
+hand-nobody g p input none = at_seat (seat_of g.world p) none
+  where
+    at_life : (life : Life) → running life ≡ None → g ≡ hand_to g p input life
+    at_life (Up r disk) e = absurd (let clash : Some r ≡ None = e in cc)
+    at_life (Down disk green) e = refl
+
+    at_seat : (o : Option Seat) → option_and_then (λ s. running s.life) o ≡ None → g ≡ option_map_or (λ s. hand_to g p input s.life) o g
+    at_seat None e = refl
+    at_seat (Some s) e = at_life s.life e
+
+-- what is known of the replica is known of its seat
+pub of_seat : (P : Replica → Type 0) (w : World) (p : ℕ) (s : Seat) → seat_of w p ≡ Some s → IfSome (replica_of w p) P → IfSome (running s.life) P
+of_seat P w p s there h = subst (λ o. IfSome (option_and_then (λ (s : Seat). running s.life) o) P) there h
+
+-- ---- the calls
+
+pub nobody-hands : (g self : Going) (after : World) (p : ℕ) (input : Input) → g ≡ self → (replica_of g.world p ≡ None) × (after ≡ g.world) →
+    record g { world = after } ≡ hand self p input
+nobody-hands g self after p input same h =
+    ap (λ w. record g { world = w }) h.1 ∙ same ∙ hand-nobody self p input (subst (λ (g : Going). replica_of g.world p ≡ None) same h.0)
+
+pub seat-hands : (g self : Going) (after : World) (p : ℕ) (input : Input) (s : Seat) → g ≡ self →
+    (seat_of g.world p ≡ Some s) × (is_some (running s.life) ≡ true) × ((life : Life) → set_life after p life ≡ set_life g.world p life) →
+    comes_back (record g { world = after }) (taken s.id input s.life) ≡ hand self p input
+seat-hands g self after p input s same h = back-taken g after p input s h.0 h.1 h.2 ∙ ap (λ g. hand g p input) same
+
+pub seat-booked : (book : ActionId → Action) (g self : Going) (p : ℕ) (input : Input) (s : Seat) → g ≡ self → seat_of g.world p ≡ Some s →
+    IfSome (replica_of self.world p) (λ r. AreBooked book r.held input) → IfSome (running s.life) (λ r. AreBooked book r.held input)
+seat-booked book g self p input s same there h =
+    of_seat (λ r. AreBooked book r.held input) self.world p s (subst (λ (g : Going). seat_of g.world p ≡ Some s) same there) h

@@ -1,0 +1,7 @@
+mod FirstReasons
+mod HandFacts
+mod LineFacts
+mod NotYetUp
+mod SeatFacts
+mod SeenSeats
+mod StruckSeats

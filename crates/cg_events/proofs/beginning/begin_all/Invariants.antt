@@ -1,0 +1,12 @@
+use Rattle.std.proofs.Common.{◌≡◌, fold}
+use Rattle.cg_base.specs.Iterators.{members_left}
+use Rattle.cg_base.specs.Weights.{ids}
+use Rattle.cg_agree.specs.Step.{begin_replica}
+use Rattle.cg_events.proofs.NotYetUp.{AreStillDown}
+use Rattle.cg_events.proofs.beginning.begin_all.Given as goal
+
+-- the members that are left begin as all of them do
+abbrev pub invariant-loop-p : goal.invariant-loop-p
+invariant-loop-p l =
+    (fold (begin_replica l.set) l.begun (members_left l.p-iterator) ≡ fold (begin_replica l.set) l.fn.state (ids l.set))
+    × AreStillDown l.begun.group 0 (members_left l.p-iterator)

@@ -1,0 +1,18 @@
+use Rattle.std.proofs.Common.{◌≡◌, IfOk, subst}
+use Rattle.cg_client.specs.Requests.{kind_of}
+use Rattle.cg_step.specs.Step.{Asks}
+use Rattle.cg_agree.specs.Show.{Going}
+use Rattle.cg_events.proofs.HandFacts.{nobody-hands, seat-hands, seat-booked}
+use Rattle.cg_events.proofs.going.Going.ask.Goals as goal
+
+pub hand_request-requires-clause-booked : goal.hand_request-requires-clause-booked
+hand_request-requires-clause-booked c =
+    (c.requires.booked.0, seat-booked c.requires.booked.0 _ c.args.self c.args.p (Asks (kind_of c.args.request)) c.in-Some.seat c.self.view_is c.in-Some.ensures.0 c.requires.booked.1)
+
+pub returns-in-Some : goal.returns-in-Some
+returns-in-Some c =
+    subst (λ (g : Going). IfOk c.hand_request.result (λ x. x ≡ g))
+    (seat-hands _ c.args.self c.take_up.new.self c.args.p (Asks (kind_of c.args.request)) c.in-Some.seat c.self.view_is c.in-Some.ensures) c.hand_request.ensures
+
+pub returns-in-None : goal.returns-in-None
+returns-in-None c = nobody-hands _ c.args.self c.take_up.new.self c.args.p (Asks (kind_of c.args.request)) c.self.view_is c.in-None.ensures

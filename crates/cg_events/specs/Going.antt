@@ -1,0 +1,36 @@
+-- The parts of an event on the way.
+use Rattle.std.specs.Prelude.{ℕ, ◌==◌, not, List, ◌++◌, Option, Some, None, filter, if◌then◌else◌, [], ◌∷◌}
+use Rattle.cg_wire.specs.declared.message.Msg.{Msg}
+use Rattle.cg_report.specs.declared.line.Line.{Line}
+use Rattle.cg_group.specs.Events.{send_all, go_down}
+use Rattle.cg_agree.specs.World.{Seat, World, with_seat}
+use Rattle.cg_agree.specs.Show.{Going, is_news, line_of, tell}
+use Rattle.cg_seat.specs.Calls.{Spoken}
+
+-- a replica says these things to its group
+abbrev pub said : World → ℕ → List Msg → World
+said w p sent = record w { group = send_all w.group p sent }
+
+abbrev pub sending : Going → ℕ → List Msg → Going
+sending g p sent = record g { world = said g.world p sent }
+
+-- the replica's seat is this one
+abbrev pub seated : World → Seat → World
+seated w s = record w { seats = with_seat w.seats s }
+
+-- a replica that went down leaves the group, and its snapshots end
+abbrev pub fallen : World → ℕ → World
+fallen w p = record w { group = go_down w.group p; snapshots = filter (λ s. not (s.giver == p)) w.snapshots }
+
+-- a replica's seat stands again behind its turn: what it has to say is said and shown, or it went down
+abbrev pub comes_back : Going → Seat × Option Spoken → Going
+comes_back g (s, Some spoken) = tell (sending (record g { world = seated g.world s }) s.id spoken.sent) spoken.news
+comes_back g (s, None) = record g { world = fallen (seated g.world s) s.id }
+
+-- the line too, where it is news
+abbrev pub with_news : List Line → List Line → Line → List Line
+with_news old lines l = if is_news old l then lines ++ l ∷ [] else lines
+
+-- the line of a replica too, where it is news
+abbrev pub with_line : World → List Line → Seat → List Line
+with_line w lines s = with_news w.lines lines (line_of w.group s)

@@ -1,0 +1,5 @@
+pub mod Going
+pub mod Grounds
+pub mod Happening
+pub mod Seating
+pub mod Striking

@@ -1,0 +1,178 @@
+//! What the group does: partitions, merges, places, and what is handed out.
+ghost use Rattle.std.specs.Prelude.{◌≡◌, fold, IfOk};
+ghost use Rattle.cg_base.specs.declared.action_id.ActionId.{ActionId as ActionName};
+ghost use Rattle.cg_action.specs.declared.action.Action.{Action as ActionView};
+ghost use Rattle.cg_schedule.specs.declared.event.Event.TheVariants.{Split, Merge, Order, Gather, Receive, Deliver};
+ghost use Rattle.cg_agree.specs.Step.{quietly, hand_over};
+ghost use Rattle.cg_agree.specs.Standing.{AreBookedInTurn, IsHandedBooked, IsBooked};
+ghost use Rattle.cg_events.specs.Happening.{Happens};
+
+use crate::admission::{merge_refused, split_refused, unknown};
+use crate::{Going, Happened, WorldState};
+use cg_base::{IdSet, NoMemory, ReplicaId, Row};
+use cg_group::{GroupErr, Handed};
+use cg_letter::Letter;
+use std::alloc::Global;
+
+// These replicas leave their configuration together.
+#[tactic(auto, unfolding(cg_agree::specs::Admission::first_refusal, cg_agree::specs::Step::happens))]
+pub(crate) fn split(alloc: Global, state: WorldState, set: IdSet) -> Happened
+    requires { IsBooked state }
+    ensures { Happens state (Split set) result }
+{
+    match split_refused(&state, &set) {
+        Some(reason) => return Happened::Refused { state, reason },
+        None => {}
+    }
+    let mut parted = state;
+    match parted.group.split(set) {
+        Ok(handed) => match hand_out(alloc, parted, handed) {
+            Ok(going) => Happened::Done(going),
+            Err(NoMemory) => Happened::NoMemory,
+        },
+        Err(GroupErr::Refused(reason)) => Happened::Refused {
+            state: parted,
+            reason,
+        },
+        Err(GroupErr::NoMemory) => {
+            drop(parted);
+            Happened::NoMemory
+        }
+    }
+}
+
+// A new configuration of these replicas is made.
+#[tactic(auto, unfolding(cg_agree::specs::Admission::first_refusal, cg_agree::specs::Step::happens))]
+pub(crate) fn merge(alloc: Global, state: WorldState, set: IdSet) -> Happened
+    requires { IsBooked state }
+    ensures { Happens state (Merge set) result }
+{
+    match merge_refused(&state, &set) {
+        Some(reason) => return Happened::Refused { state, reason },
+        None => {}
+    }
+    let left = state.left_replicas();
+    let mut joined = state;
+    match joined.group.merge(set, left) {
+        Ok(handed) => match hand_out(alloc, joined, handed) {
+            Ok(going) => Happened::Done(going),
+            Err(NoMemory) => Happened::NoMemory,
+        },
+        Err(GroupErr::Refused(reason)) => Happened::Refused {
+            state: joined,
+            reason,
+        },
+        Err(GroupErr::NoMemory) => {
+            drop(joined);
+            Happened::NoMemory
+        }
+    }
+}
+
+// The replicas take what the group hands to them.
+fn hand_out(
+    alloc: Global,
+    state: WorldState,
+    handed: Row<Handed<Letter>>,
+) -> Result<Going, NoMemory>
+    requires { (book : ActionName → ActionView) × AreBookedInTurn book (quietly state) handed }
+    ensures { IfOk result (λ g. g ≡ fold hand_over (quietly state) handed) }
+{
+    Going::quietly(alloc, state).hand_out(handed)
+}
+
+// The next places are handed to a replica.
+#[tactic(auto, unfolding(cg_agree::specs::Admission::first_refusal, cg_agree::specs::Step::happens))]
+pub(crate) fn deliver(alloc: Global, state: WorldState, p: ReplicaId, count: u64) -> Happened
+    requires { IsBooked state }
+    ensures { Happens state (Deliver p count) result }
+{
+    match unknown(&state, p) {
+        Some(reason) => return Happened::Refused { state, reason },
+        None => {}
+    }
+    let mut behind = state;
+    match behind.group.deliver(p, count) {
+        Ok(list) => match hand_over(alloc, behind, Handed { to: p, list }) {
+            Ok(going) => Happened::Done(going),
+            Err(NoMemory) => Happened::NoMemory,
+        },
+        Err(GroupErr::Refused(reason)) => Happened::Refused {
+            state: behind,
+            reason,
+        },
+        Err(GroupErr::NoMemory) => {
+            drop(behind);
+            Happened::NoMemory
+        }
+    }
+}
+
+// The replica takes what the group hands to it.
+fn hand_over(alloc: Global, state: WorldState, handed: Handed<Letter>) -> Result<Going, NoMemory>
+    requires { (book : ActionName → ActionView) × IsHandedBooked book state handed }
+    ensures { IfOk result (λ g. g ≡ hand_over (quietly state) handed) }
+{
+    Going::quietly(alloc, state).deliver(handed)
+}
+
+// The oldest message of a replica is ordered.
+#[tactic(auto, unfolding(cg_agree::specs::Admission::first_refusal, cg_agree::specs::Step::happens))]
+pub(crate) fn order(alloc: Global, state: WorldState, p: ReplicaId) -> Happened
+    ensures { Happens state (Order p) result }
+{
+    match unknown(&state, p) {
+        Some(reason) => return Happened::Refused { state, reason },
+        None => {}
+    }
+    let mut ordered = state;
+    match ordered.group.order(p) {
+        Ok(_place) => Happened::Done(Going::quietly(alloc, ordered)),
+        Err(GroupErr::Refused(reason)) => Happened::Refused {
+            state: ordered,
+            reason,
+        },
+        Err(GroupErr::NoMemory) => {
+            drop(ordered);
+            Happened::NoMemory
+        }
+    }
+}
+
+// A replica receives a place of its configuration.
+#[tactic(auto, unfolding(cg_agree::specs::Admission::first_refusal, cg_agree::specs::Step::happens))]
+pub(crate) fn receive(alloc: Global, state: WorldState, p: ReplicaId, place: u64) -> Happened
+    ensures { Happens state (Receive p place) result }
+{
+    match unknown(&state, p) {
+        Some(reason) => return Happened::Refused { state, reason },
+        None => {}
+    }
+    let mut behind = state;
+    match behind.group.receive(p, place) {
+        Ok(()) => Happened::Done(Going::quietly(alloc, behind)),
+        Err(GroupErr::Refused(reason)) => Happened::Refused {
+            state: behind,
+            reason,
+        },
+        Err(GroupErr::NoMemory) => {
+            drop(behind);
+            Happened::NoMemory
+        }
+    }
+}
+
+// All messages are ordered and received.
+#[tactic(auto, unfolding(cg_agree::specs::Admission::first_refusal, cg_agree::specs::Step::happens))]
+pub(crate) fn gather(alloc: Global, state: WorldState) -> Happened
+    ensures { Happens state Gather result }
+{
+    let mut gathered = state;
+    match gathered.group.gather() {
+        Ok(()) => Happened::Done(Going::quietly(alloc, gathered)),
+        Err(NoMemory) => {
+            drop(gathered);
+            Happened::NoMemory
+        }
+    }
+}

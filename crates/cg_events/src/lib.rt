@@ -1,0 +1,24 @@
+//! What each event does to the group and to the replicas, and what of it is to be shown.
+//!
+//! A `WorldState` is the world of `cg_agree`'s definitions; an event on the way is its `Going`. The one contract: `happen` is
+//! `happens`, or the first refusal.
+#![tactic(auto)]
+
+mod admission;
+mod asking;
+mod beginning;
+mod event;
+mod going;
+mod grouping;
+mod happened;
+mod looks_made;
+mod querying;
+mod seats;
+mod state;
+mod striking;
+
+pub use event::happen;
+pub use going::Going;
+pub use happened::Happened;
+pub use seats::Seats;
+pub use state::WorldState;

@@ -1,0 +1,149 @@
+//! The replicas that have begun.
+ghost use Rattle.std.specs.Prelude.{◌≡◌, ◌==◌, nat_lt, [], Some, None, find, position, OnOk, MatchOption};
+ghost use Rattle.std.specs.Option.{option_copied};
+ghost use Rattle.std.specs.List.{prefix_len};
+ghost use Rattle.cg_base.specs.Sets.{IsId};
+ghost use Rattle.cg_agree.specs.World.{with_seat};
+ghost use Rattle.cg_events.specs.Seating.{ups, with_up};
+ghost use Rattle.cg_agree.specs.World.{Seat as SeatView};
+
+use cg_base::{IdSet, NoMemory, ReplicaId};
+use cg_seat::Seat;
+use std::alloc::Global;
+use std::marker::Model;
+
+/// The replicas that have begun, ascending.
+#[derive(Drop)]
+pub struct Seats {
+    list: Vec<Seat>,
+}
+
+impl Model for Seats {
+    ghost use Rattle.std.specs.Prelude.{List};
+    ghost use Rattle.cg_agree.specs.World.{Seat};
+    ghost use Rattle.cg_events.specs.Seating.{AscendingSeats};
+
+    ghost Value = { List Seat };
+
+    ghost view = { λ s. s.list.items };
+
+    ghost invariant = { λ s. AscendingSeats s.list.items };
+}
+
+// Where the replica's seat stands, from 0.
+fn place_of(seats: &[Seat], p: ReplicaId) -> Option<usize>
+    ensures { result ≡ position (λ s. s.id == p) seats.now }
+{
+    seats.iter().position(|s| s.id() == p)
+}
+
+// Where the seat of a replica that hasn't begun belongs, from 0.
+fn place_for(seats: &[Seat], p: ReplicaId) -> usize
+    ensures place { result ≡ prefix_len (λ s. nat_lt s.id p) seats.now }
+    ensures range { IsId p }
+{
+    let number = p.get();
+    seats.iter().take_while(|s| s.id().get() < number).count()
+}
+
+// The set, with a replica that is up.
+fn with_up(set: IdSet, seat: &Seat) -> IdSet
+    ensures { result ≡ with_up set seat.now }
+{
+    let mut more = set;
+    if seat.is_up() {
+        more.add(seat.id());
+    }
+    more
+}
+
+impl Seats {
+    /// Nobody has begun.
+    pub fn new(alloc: Global) -> Seats
+        ensures { result ≡ [] }
+    {
+        Seats {
+            list: Vec::new(alloc),
+        }
+    }
+
+    pub(crate) fn alloc(&self) -> Global {
+        *self.list.allocator()
+    }
+
+    /// Their seats, ascending by identifier. It takes no memory.
+    pub fn as_slice(&self) -> &[Seat]
+        ensures { result.now ≡ self.now }
+    {
+        self.list.as_slice()
+    }
+
+    /// The replica's seat, where it has begun. It takes no memory.
+    pub fn find(&self, p: ReplicaId) -> Option<&Seat>
+        ensures { option_copied result ≡ find (λ s. s.id == p) self.now }
+    {
+        self.list.as_slice().iter().find(|s| s.id() == p)
+    }
+
+    /// The replicas that are up. It takes no memory.
+    pub(crate) fn up_replicas(&self) -> IdSet
+        ensures { result ≡ ups self.now }
+    {
+        let mut up = IdSet::empty();
+        for seat in self.list.as_slice() {
+            up = with_up(up, seat);
+        }
+        up
+    }
+
+    /// The seat comes in the place of the replica's earlier one, or is a new one. After want of memory the replica has none.
+    pub fn put(&mut self, seat: Seat) -> Result<(), NoMemory>
+        ensures { OnOk result (self.new ≡ with_seat self.old seat) }
+    {
+        self.clear(seat.id());
+        self.add(seat)
+    }
+
+    /// The replica's seat is taken out, where it has begun. It takes no memory.
+    pub fn take(&mut self, p: ReplicaId) -> Option<Seat>
+        ensures { MatchOption result
+            ((find (λ s. s.id == p) self.old ≡ None) × (self.new ≡ self.old))
+            (λ s. (find (λ t. t.id == p) self.old ≡ Some s) × ((t : SeatView) → t.id ≡ p → with_seat self.new t ≡ with_seat self.old t)) }
+    {
+        self.take_out(p)
+    }
+
+    // The replica's seat is taken out, where it has begun: then there is none.
+    fn take_out(&mut self, p: ReplicaId) -> Option<Seat>
+        ensures taken { MatchOption result
+            ((find (λ s. s.id == p) self.old ≡ None) × (self.new ≡ self.old))
+            (λ s. (find (λ t. t.id == p) self.old ≡ Some s) × ((t : SeatView) → t.id ≡ p → with_seat self.new t ≡ with_seat self.old t)) }
+        ensures away { find (λ s. s.id == p) self.new ≡ None }
+    {
+        match place_of(self.list.as_slice(), p) {
+            Some(place) => Some(self.list.remove(place)),
+            None => None,
+        }
+    }
+
+    // The replica has no seat any more.
+    fn clear(&mut self, p: ReplicaId)
+        ensures put { (t : SeatView) → t.id ≡ p → with_seat self.new t ≡ with_seat self.old t }
+        ensures away { find (λ s. s.id == p) self.new ≡ None }
+    {
+        match self.take_out(p) {
+            Some(seat) => drop(seat),
+            None => {}
+        }
+    }
+
+    // A seat of a replica that has none.
+    fn add(&mut self, seat: Seat) -> Result<(), NoMemory>
+        requires { find (λ s. s.id == seat.id) self.old ≡ None }
+        ensures { OnOk result (self.new ≡ with_seat self.old seat) }
+    {
+        let place = place_for(self.list.as_slice(), seat.id());
+        self.list.insert(place, seat)?;
+        Ok(())
+    }
+}

@@ -1,0 +1,210 @@
+//! The world that events change.
+ghost use Rattle.std.specs.Prelude.{◌≡◌, true, Some, None, is_some, IfOk, MatchOption};
+ghost use Rattle.cg_base.specs.Sets.{has};
+ghost use Rattle.cg_group.specs.Ready.{ready};
+ghost use Rattle.cg_group.specs.Events.{send_all};
+ghost use Rattle.cg_agree.specs.World.{Life, no_world, running, seat_of, set_life, has_begun, replica_of, is_left, left_replicas, up_replicas};
+ghost use Rattle.cg_agree.specs.Show.{line_of, new_lines};
+ghost use Rattle.cg_events.specs.Going.{said, with_news};
+ghost use Rattle.cg_events.specs.Seating.{with_left};
+
+use crate::Seats;
+use cg_base::{Cut, IdList, IdSet, NoMemory, ReplicaId, Row};
+use cg_group::Group;
+use cg_letter::Letter;
+use cg_report::Line;
+use cg_seat::Seat;
+use cg_show::Lines;
+use std::alloc::Global;
+use std::marker::Model;
+
+/// The group; the replicas that have begun; the global order of actions; the last printed line of each replica; the cut of
+/// the actions that were shown as made; and the replicas that were named.
+#[derive(Drop)]
+pub struct WorldState {
+    pub(crate) group: Group<Letter>,
+    pub(crate) seats: Seats,
+    pub(crate) order: IdList,
+    pub(crate) lines: Lines,
+    pub(crate) made: Cut,
+    pub(crate) named: IdSet,
+}
+
+impl Model for WorldState {
+    ghost use Rattle.std.specs.Prelude.{[]};
+    ghost use Rattle.cg_agree.specs.World.{World};
+
+    ghost Value = { World };
+
+    ghost view = { λ w. record { group = w.group; seats = w.seats; snapshots = []; order = w.order; lines = w.lines; made = w.made; named = w.named } };
+}
+
+impl WorldState {
+    /// The world before its start.
+    pub fn new(alloc: Global) -> WorldState
+        ensures { result ≡ no_world }
+    {
+        WorldState {
+            group: Group::new(alloc),
+            seats: Seats::new(alloc),
+            order: IdList::new(alloc),
+            lines: Lines::new(alloc),
+            made: Cut::zero(),
+            named: IdSet::empty(),
+        }
+    }
+
+    /// The replica has begun. It takes no memory.
+    pub fn has_begun(&self, p: ReplicaId) -> bool
+        ensures { result ≡ has_begun self.now p }
+    {
+        self.seats.find(p).is_some()
+    }
+
+    /// The replica is up. It takes no memory.
+    pub fn is_up(&self, p: ReplicaId) -> bool
+        ensures { result ≡ is_some (replica_of self.now p) }
+    {
+        match self.seats.find(p) {
+            Some(seat) => seat.is_up(),
+            None => false,
+        }
+    }
+
+    /// The replica is up, and has left for good. It takes no memory.
+    pub fn is_left(&self, p: ReplicaId) -> bool
+        ensures { result ≡ is_left self.now p }
+    {
+        match self.seats.find(p) {
+            Some(seat) => seat.is_left(),
+            None => false,
+        }
+    }
+
+    /// The replicas that are up. It takes no memory.
+    pub fn up_replicas(&self) -> IdSet
+        ensures { result ≡ up_replicas self.now }
+    {
+        self.seats.up_replicas()
+    }
+
+    /// The replicas that are up and have left for good. It takes no memory.
+    pub fn left_replicas(&self) -> IdSet
+        ensures { result ≡ left_replicas self.now }
+    {
+        let mut left = IdSet::empty();
+        for p in self.up_replicas().iter() {
+            left = self.with_left(left, p);
+        }
+        left
+    }
+
+    // The set, with a replica that has left.
+    fn with_left(&self, set: IdSet, p: ReplicaId) -> IdSet
+        ensures { result ≡ with_left self.now set p }
+    {
+        let mut more = set;
+        if self.is_left(p) {
+            more.add(p);
+        }
+        more
+    }
+
+    /// How many places in a row may be delivered to the replica next. It takes no memory.
+    pub fn ready(&self, p: ReplicaId) -> u64
+        ensures { result ≡ ready self.now.group p }
+    {
+        self.group.ready(p)
+    }
+
+    /// Start or an admitted join has named the replica. It takes no memory.
+    pub fn names(&self, p: ReplicaId) -> bool
+        ensures { result ≡ has self.now.named p }
+    {
+        self.named.contains(p)
+    }
+
+    // The seat of a replica that is up is taken out; any other stays.
+    pub(crate) fn take_up(&mut self, p: ReplicaId) -> Option<Seat>
+        ensures { MatchOption result
+            ((replica_of self.old p ≡ None) × (self.new ≡ self.old))
+            (λ s. (seat_of self.old p ≡ Some s) × (is_some (running s.life) ≡ true) × ((life : Life) → set_life self.new p life ≡ set_life self.old p life)) }
+    {
+        if self.is_up(p) {
+            self.seats.take(p)
+        } else {
+            None
+        }
+    }
+
+    // A replica says these things to its group, one after another.
+    pub(crate) fn say(self, p: ReplicaId, sent: Row<Letter>) -> Result<WorldState, NoMemory>
+        ensures { IfOk result (λ w. w ≡ said self p sent) }
+    {
+        let WorldState {
+            group,
+            seats,
+            order,
+            lines,
+            made,
+            named,
+        } = self;
+        match say_all(group, p, sent) {
+            Ok(group) => Ok(WorldState {
+                group,
+                seats,
+                order,
+                lines,
+                made,
+                named,
+            }),
+            Err(NoMemory) => {
+                drop(seats);
+                drop(order);
+                drop(lines);
+                Err(NoMemory)
+            }
+        }
+    }
+
+    // The lines that differ from the last printed ones, ascending by replica.
+    pub(crate) fn new_lines(&self) -> Result<Row<Line>, NoMemory>
+        ensures { IfOk result (λ lines. lines ≡ new_lines self.now) }
+    {
+        let mut lines = Row::new(self.seats.alloc());
+        for seat in self.seats.as_slice() {
+            let line = self.line(seat)?;
+            lines = add_news(&self.lines, lines, line)?;
+        }
+        Ok(lines)
+    }
+
+    fn line(&self, seat: &Seat) -> Result<Line, NoMemory>
+        ensures { IfOk result (λ l. l ≡ line_of self.now.group seat.now) }
+    {
+        seat.line(self.group.phase(seat.id()))
+    }
+}
+
+fn say_all(group: Group<Letter>, p: ReplicaId, sent: Row<Letter>) -> Result<Group<Letter>, NoMemory>
+    ensures { IfOk result (λ g. g ≡ send_all group p sent) }
+{
+    let mut group = group;
+    for letter in sent.into_vec() {
+        let _waits = group.send(p, letter)?;
+    }
+    Ok(group)
+}
+
+// The line too, where it is news.
+fn add_news(old: &Lines, lines: Row<Line>, line: Line) -> Result<Row<Line>, NoMemory>
+    ensures { IfOk result (λ all. all ≡ with_news old.now lines line) }
+{
+    if !old.is_news(&line) {
+        drop(line);
+        return Ok(lines);
+    }
+    let mut more = lines;
+    more.push(line)?;
+    Ok(more)
+}

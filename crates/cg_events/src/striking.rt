@@ -1,0 +1,186 @@
+//! Crashes, faults of devices, and the way back.
+ghost use Rattle.std.specs.Prelude.{◌≡◌, ◌≤◌, false, [], is_some, IfOk, OnOk};
+ghost use Rattle.cg_group.specs.State.{is_up};
+ghost use Rattle.cg_step.specs.Crash.{FailOnce, StopWith};
+ghost use Rattle.cg_schedule.specs.declared.event.Event.TheVariants.{Stop, Fail, Recover};
+ghost use Rattle.cg_seat.specs.Calls.{crashed, risen};
+ghost use Rattle.cg_agree.specs.World.{replica_of};
+ghost use Rattle.cg_agree.specs.Step.{arm, stop, recover};
+ghost use Rattle.cg_events.specs.Grounds.{IsSeated};
+ghost use Rattle.cg_events.specs.Happening.{Happens};
+ghost use Rattle.cg_events.specs.Going.{seated, fallen};
+ghost use Rattle.cg_events.specs.Striking.{returned, telling};
+
+use crate::admission::{not_down, takes_part};
+use crate::{Going, Happened, WorldState};
+use cg_base::{Bytes, NoMemory, ReplicaId, Row};
+use cg_seat::Seat;
+use cg_show::News;
+use std::alloc::Global;
+
+// The replica crashes now, or in the device call of this number from the next one on, which leaves these bytes in places that
+// weren't synced.
+#[tactic(auto, unfolding(cg_agree::specs::Admission::first_refusal, cg_agree::specs::Step::happens))]
+pub(crate) fn stop(
+    alloc: Global,
+    state: WorldState,
+    p: ReplicaId,
+    call: u64,
+    fill: &Bytes,
+) -> Happened
+    ensures { Happens state (Stop p call fill.now) result }
+{
+    match takes_part(&state, p) {
+        Some(reason) => return Happened::Refused { state, reason },
+        None => {}
+    }
+    let mut struck = state;
+    match stop_at(alloc, &mut struck, p, call, fill) {
+        Ok(()) => Happened::Done(Going::quietly(alloc, struck)),
+        Err(NoMemory) => {
+            drop(struck);
+            Happened::NoMemory
+        }
+    }
+}
+
+fn stop_at(
+    alloc: Global,
+    state: &mut WorldState,
+    p: ReplicaId,
+    call: u64,
+    fill: &Bytes,
+) -> Result<(), NoMemory>
+    ensures { OnOk result (state.new ≡ stop state.old p call fill.now) }
+{
+    if call == 0 {
+        return crash(state, p);
+    }
+    let fill = Row::from_slice(alloc, fill.as_slice())?;
+    arm_stop(state, p, call, fill)
+}
+
+// A crash now, where the replica is up.
+fn crash(state: &mut WorldState, p: ReplicaId) -> Result<(), NoMemory>
+    ensures { OnOk result (state.new ≡ stop state.old p 0 []) }
+{
+    match state.take_up(p) {
+        Some(seat) => fall(state, seat),
+        None => Ok(()),
+    }
+}
+
+fn fall(state: &mut WorldState, seat: Seat) -> Result<(), NoMemory>
+    ensures { OnOk result (state.new ≡ fallen (seated state.old (crashed seat.id seat.life)) seat.id) }
+{
+    let id = seat.id();
+    let seat = seat.crash()?;
+    state.seats.put(seat)?;
+    state.group.down(id);
+    Ok(())
+}
+
+// A crash is armed, where the replica is up.
+fn arm_stop(state: &mut WorldState, p: ReplicaId, call: u64, fill: Bytes) -> Result<(), NoMemory>
+    requires { 1 ≤ call }
+    ensures { OnOk result (state.new ≡ arm state.old p (record { call = call; fault = StopWith fill })) }
+{
+    match state.take_up(p) {
+        Some(seat) => {
+            let mut seat = seat;
+            seat.stop_at(call, fill);
+            state.seats.put(seat)
+        }
+        None => Ok(()),
+    }
+}
+
+// The device call of this number, from the next one on, fails once.
+#[tactic(auto, unfolding(cg_agree::specs::Admission::first_refusal, cg_agree::specs::Step::happens))]
+pub(crate) fn fail(alloc: Global, state: WorldState, p: ReplicaId, call: u64) -> Happened
+    requires { 1 ≤ call }
+    ensures { Happens state (Fail p call) result }
+{
+    match takes_part(&state, p) {
+        Some(reason) => return Happened::Refused { state, reason },
+        None => {}
+    }
+    let mut struck = state;
+    match arm_fail(&mut struck, p, call) {
+        Ok(()) => Happened::Done(Going::quietly(alloc, struck)),
+        Err(NoMemory) => {
+            drop(struck);
+            Happened::NoMemory
+        }
+    }
+}
+
+// A fault is armed, where the replica is up.
+fn arm_fail(state: &mut WorldState, p: ReplicaId, call: u64) -> Result<(), NoMemory>
+    requires { 1 ≤ call }
+    ensures { OnOk result (state.new ≡ arm state.old p (record { call = call; fault = FailOnce })) }
+{
+    match state.take_up(p) {
+        Some(seat) => {
+            let mut seat = seat;
+            seat.fail_at(call);
+            state.seats.put(seat)
+        }
+        None => Ok(()),
+    }
+}
+
+// The replica comes back from its disk.
+#[tactic(auto, unfolding(cg_agree::specs::Admission::first_refusal, cg_agree::specs::Step::happens))]
+pub(crate) fn recover(alloc: Global, state: WorldState, p: ReplicaId) -> Happened
+    requires { IsSeated state }
+    ensures { Happens state (Recover p) result }
+{
+    match not_down(&state, p) {
+        Some(reason) => return Happened::Refused { state, reason },
+        None => {}
+    }
+    match recover_down(alloc, state, p) {
+        Ok(going) => Happened::Done(going),
+        Err(NoMemory) => Happened::NoMemory,
+    }
+}
+
+fn recover_down(alloc: Global, state: WorldState, p: ReplicaId) -> Result<Going, NoMemory>
+    requires seated { IsSeated state }
+    requires down { is_some (replica_of state p) ≡ false }
+    ensures { IfOk result (λ g. g ≡ recover state p) }
+{
+    let mut up = state;
+    match come_up(alloc, &mut up, p) {
+        Ok(Some(news)) => Going::quietly(alloc, up).tell(news),
+        Ok(None) => Ok(Going::quietly(alloc, up)),
+        Err(NoMemory) => {
+            drop(up);
+            Err(NoMemory)
+        }
+    }
+}
+
+// The replica comes up, with what is to be shown of that.
+fn come_up(alloc: Global, state: &mut WorldState, p: ReplicaId) -> Result<Option<News>, NoMemory>
+    requires seated { IsSeated state.old }
+    requires down { is_some (replica_of state.old p) ≡ false }
+    ensures { IfOk result (λ news. telling state.new news ≡ recover state.old p) }
+{
+    match state.seats.take(p) {
+        Some(seat) => rise(alloc, state, seat),
+        None => Ok(None),
+    }
+}
+
+fn rise(alloc: Global, state: &mut WorldState, seat: Seat) -> Result<Option<News>, NoMemory>
+    requires { is_up state.old.group seat.id ≡ false }
+    ensures { IfOk result (λ news. (state.new ≡ returned state.old seat) × (news ≡ (risen state.old.made seat.id seat.life).1)) }
+{
+    let id = seat.id();
+    let (seat, news) = seat.recover(alloc, &state.made)?;
+    state.seats.put(seat)?;
+    state.group.add(id)?;
+    Ok(news)
+}
