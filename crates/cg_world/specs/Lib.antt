@@ -1,12 +1,2 @@
-pub mod Agreement
-pub mod Message
-pub mod Parts
-pub mod Quiet
-pub mod Replica
-pub mod Report
-pub mod Shown
-pub mod Turn
-pub mod World
-pub mod ListLaws
-pub mod NameLaws
-pub mod Laws
+pub mod Led
+pub mod Steps

@@ -1,0 +1,30 @@
+use Rattle.std.proofs.Common.{sym, subst}
+use Rattle.cg_agree.specs.World.{World}
+use Rattle.cg_agree.specs.Run.{MayStand}
+use Rattle.cg_world.specs.Steps.{Steps}
+use Rattle.cg_world.proofs.state.World.step.Goals as goal
+use Rattle.cg_world.proofs.Leading.{led-booked, led-seated, comes-first, led-on, end-steps}
+
+-- src/world.rt:36:15
+pub happen-requires-clause-booked : goal.happen-requires-clause-booked
+happen-requires-clause-booked c = led-booked c.self.inside.state c.facts_stand_beside_each_world.ensures c.actions_stand_in_one_book.ensures c.self.invariant
+
+pub happen-requires-clause-seated : goal.happen-requires-clause-seated
+happen-requires-clause-seated c = led-seated c.self.inside.state c.facts_stand_beside_each_world.ensures c.self.invariant
+
+pub happen-requires-clause-first : goal.happen-requires-clause-first
+happen-requires-clause-first c =
+    let stands = subst (λ (w : World). MayStand w c.args.event.now) (sym c.self.view_is) c.requires.stands in
+    comes-first c.self.inside.state c.args.event.now stands
+
+-- src/world.rt:37:38
+pub finish-requires : goal.finish-requires
+finish-requires c =
+    let stands = subst (λ (w : World). MayStand w c.args.event.now) (sym c.self.view_is) c.requires.stands in
+    led-on c.self.inside.state c.args.event.now c.in-Done.going c.facts_stand_beside_each_world.ensures c.self.invariant stands c.in-Done.ensures
+
+-- src/world.rt:28:5
+pub returns-in-Done : goal.returns-in-Done
+returns-in-Done c =
+    subst (λ (w : World). Steps w c.args.event.now c.finish.result) c.self.view_is
+    (end-steps c.self.inside.state c.args.event.now c.in-Done.going c.finish.result c.in-Done.ensures c.finish.ensures)
