@@ -1,11 +1,10 @@
 -- A run that goes on part by part: the steps made so far, and what the rest produces, make the whole.
-use Rattle.std.proofs.Common.{◌≡◌, ◌+◌, ℕ, List, [], ◌∷◌, ◌++◌, append_assoc, Option, Some, None, refl, sym, ap, subst, ◌∙◌, arith, option_map, Result, Ok, Err}
+use Rattle.std.proofs.Common.{◌≡◌, ℕ, List, [], ◌∷◌, ◌++◌, append_assoc, Option, Some, None, refl, sym, ap, subst, ◌∙◌, arith, option_map, Result, Ok, Err}
 use Rattle.std.proofs.lemmas.List.{append-nil}
 use Rattle.std.specs.Io.KnownBytes.{Appends}
 use Rattle.cg_io.specs.Outside.{SinkView}
-use Rattle.cg_world.specs.World.{Step}
+use Rattle.cg_agree.specs.Run.{Step, report_text}
 use Rattle.cg_report.specs.EntryText.{entry_text}
-use Rattle.cg_world.specs.Report.{report_text}
 use Rattle.cg_run.specs.declared.progress.Progress.{Progress}
 use Rattle.cg_run.specs.declared.status.Status.{Status}
 use Rattle.cg_run.specs.declared.status.Status.TheVariants as status
@@ -44,7 +43,7 @@ text_of-prepend : (made : List Step) (p : Produced) → text_of (prepend made p)
 text_of-prepend made p =
     ap (λ t. with_tail t p.found p.progress.count) (report_text-append made p.steps) ∙ with_tail-append (report_text made) (report_text p.steps) p.found p.progress.count
 
-and_then-none : (p : Produced) (more : Progress → Produced) → p.found ≡ None → and_then p more ≡ prepend p.steps (more p.progress)
+pub and_then-none : (p : Produced) (more : Progress → Produced) → p.found ≡ None → and_then p more ≡ prepend p.steps (more p.progress)
 and_then-none p more none = rw none
 
 pub and_then-some : (p : Produced) (more : Progress → Produced) (f : Finding) → p.found ≡ Some f → and_then p more ≡ p

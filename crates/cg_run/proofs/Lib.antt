@@ -1,7 +1,9 @@
 pub mod Asked
+pub mod EventWords
 pub mod GoingOn
 pub mod Happening
 pub mod Lines
 pub mod RunFacts
+pub mod RefusedLines
 pub mod TakeLemmas
 pub mod Spared

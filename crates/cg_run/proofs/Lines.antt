@@ -10,8 +10,8 @@ use Rattle.cg_schedule.specs.declared.word.Word.{Word}
 use Rattle.cg_schedule.specs.Reading.{whole}
 use Rattle.cg_schedule.specs.Line.{opening, event_reading}
 use Rattle.cg_run.specs.declared.status.Status.TheVariants as status
-use Rattle.cg_run.specs.Produced.{Produced, is_supported, ended_with, and_then}
-use Rattle.cg_run.specs.Outcome.{is_built, supported_outcome, event_outcome, word_outcome, opened_outcome, line_outcome, whole_line, last_piece, replayed}
+use Rattle.cg_run.specs.Produced.{Produced, ended_with, and_then}
+use Rattle.cg_run.specs.Outcome.{is_built, event_outcome, word_outcome, opened_outcome, line_outcome, whole_line, last_piece, replayed}
 use Rattle.cg_io.specs.Outside.{SinkView}
 use Rattle.cg_run.specs.Putting.{GoesOn}
 
@@ -35,11 +35,6 @@ pub GoesOn-line : (whole : Produced) (v v1 : SinkView) (n at : ℕ) (pieces : Li
     → GoesOn whole v v1 (replayed n at pieces how s) → pieces ≡ line ∷ rest → is_nil rest ≡ false
     → GoesOn whole v v1 (and_then (whole_line n at line s) (replayed (n + 1) (at + length line + 1) rest how))
 GoesOn-line whole v v1 n at pieces line rest how s g is more = rw (is, replayed-more n at line rest how s more) at g
-
--- an event that isn't built
-pub supported-no : (n : ℕ) (event : Event) (s : Progress) → is_supported s.stage event ≡ false → supported_outcome n event s ≡ ended_with (status.Unsupported n) n s
-unfolding supported_outcome
-supported-no n event s e = rw e refl
 
 -- a word that isn't built, and what one comes to that is
 pub word-unbuilt : (n : ℕ) (word : Word) (tokens : List (List ℕ)) (s : Progress) → is_built word ≡ false → word_outcome n word tokens s ≡ ended_with (status.Unsupported n) n s

@@ -11,7 +11,10 @@ use Rattle.cg_schedule.specs.declared.fault.LineFault.{LineFault}
 use Rattle.cg_schedule.specs.declared.word.Word.{Word}
 use Rattle.cg_schedule.specs.Reading.{whole}
 use Rattle.cg_schedule.specs.Line.{opening, event_reading, place_after}
-use Rattle.cg_world.specs.World.{first_refusal, world_step}
+use Rattle.cg_agree.specs.World.{up_replicas}
+use Rattle.cg_agree.specs.Admission.{first_refusal}
+use Rattle.cg_agree.specs.Step.{world_step}
+use Rattle.cg_agree.specs.Run.{step_limit}
 use Rattle.cg_run.specs.declared.progress.Ending.{Ending}
 use Rattle.cg_run.specs.declared.progress.Ending.TheVariants.{Ended, Failed, Open}
 use Rattle.cg_run.specs.declared.progress.Progress.{Progress}
@@ -20,9 +23,9 @@ use Rattle.cg_run.specs.declared.status.Status.TheVariants as status
 use Rattle.cg_run.specs.declared.status.Limit.{Limit}
 use Rattle.cg_run.specs.declared.status.Limit.TheVariants.{Steps}
 use Rattle.cg_run.specs.Status.{write_faults}
-use Rattle.cg_run.specs.Produced.{Finding, Produced, is_supported, before_all, status_of, went_on, ended_with, and_then, unless_refused, one_step}
+use Rattle.cg_run.specs.Produced.{Finding, Produced, before_all, status_of, went_on, ended_with, and_then, unless_refused, one_step}
 use Rattle.cg_run.specs.Rounds.{deliver_ready, deliveries, one_pass, passes, happened}
-use Rattle.cg_run.specs.Outcome.{is_built, supported_outcome, event_outcome, word_outcome, opened_outcome, line_outcome, without_return, limit_of, unless_passed, whole_line, at_end, cut_line, last_piece, replayed, is_replay, outcome}
+use Rattle.cg_run.specs.Outcome.{is_built, event_outcome, word_outcome, opened_outcome, line_outcome, without_return, limit_of, unless_passed, whole_line, at_end, cut_line, last_piece, replayed, is_replay, outcome}
 use Rattle.cg_run.specs.Putting.{Stopped}
 use Rattle.cg_run.specs.Taking.{HasCause, ReadCause}
 
@@ -39,11 +42,11 @@ Spares-and_then p more first next = by_finding p.found refl where
 Spares-stepped : (n : ℕ) (event : Event) (s : Progress) → Spares (unless_refused None n event s)
 Spares-stepped n event s =
     let m = world_step s.world event in
-    cond_both (nat_lt s.count 2000000)
+    cond_both (nat_lt s.count step_limit)
     (record {
       steps = record { number = s.count + 1; event = event; entry = m.entry; world = m.world } ∷ [];
       found = None;
-      progress = record s { world = m.world; stage = Rattle.cg_run.specs.Produced.stage_after s.stage event; count = s.count + 1 };
+      progress = record s { world = m.world; count = s.count + 1 };
     })
     (ended_with (status.Limit n Steps) n s) Spares (λ y e. cc) (λ y e. cc)
 
@@ -67,7 +70,7 @@ Spares-passes : (n count : ℕ) (s : Progress) → Spares (passes n count s)
 Spares-passes n zero s = λ e. cc
 Spares-passes n (suc count) s = Spares-and_then (one_pass n s) (passes n count) pass (λ s. Spares-passes n count s) where
   pass : Spares (one_pass n s)
-  pass = Spares-and_then (one_step n Gather s) (deliveries n s.stage.begun) (Spares-one_step n Gather s) (Spares-deliveries n s.stage.begun)
+  pass = Spares-and_then (one_step n Gather s) (deliveries n (up_replicas s.world)) (Spares-one_step n Gather s) (Spares-deliveries n (up_replicas s.world))
 
 Spares-happened : (n : ℕ) (event : Event) (s : Progress) → Spares (happened n event s)
 unfolding happened
@@ -75,13 +78,8 @@ Spares-happened n End s = λ e. cc
 Spares-happened n (Rounds count) s = Spares-passes n count s
 Spares-happened n other s = Spares-one_step n other s
 
-Spares-supported : (n : ℕ) (event : Event) (s : Progress) → Spares (supported_outcome n event s)
-unfolding supported_outcome
-Spares-supported n event s =
-    cond_both (is_supported s.stage event) (happened n event s) (ended_with (status.Unsupported n) n s) Spares (λ y. Spares-happened n event s) (λ y e. cc)
-
 Spares-event : (n : ℕ) (r : Result Event LineFault) (s : Progress) → Spares (event_outcome n r s)
-Spares-event n (Ok event) s = Spares-supported n event (record s { reader = place_after s.reader event })
+Spares-event n (Ok event) s = Spares-happened n event (record s { reader = place_after s.reader event })
 Spares-event n (Err fault) s = λ e. cc
 
 Spares-word : (n : ℕ) (word : Word) (tokens : List (List ℕ)) (s : Progress) → Spares (word_outcome n word tokens s)

@@ -7,7 +7,7 @@ use Rattle.cg_schedule.specs.declared.event.Event.{Event}
 use Rattle.cg_schedule.specs.declared.fault.LineFault.{LineFault}
 use Rattle.cg_schedule.specs.declared.fault.LineFault.TheVariants.{Syntax, NoMemory}
 use Rattle.cg_schedule.specs.declared.word.Word.{Word}
-use Rattle.cg_schedule.specs.declared.word.Word.TheVariants.{Start, Merge, Request, Order, Show, Gather, Receive, Deliver, Rounds, End}
+use Rattle.cg_schedule.specs.declared.word.Word.TheVariants.{Join, Leave, Transfer}
 use Rattle.cg_schedule.specs.Reading.{whole}
 use Rattle.cg_schedule.specs.Line.{opening, event_reading, place_after}
 use Rattle.cg_run.specs.declared.progress.Ending.{Ending}
@@ -16,7 +16,7 @@ use Rattle.cg_run.specs.declared.progress.Progress.{Progress}
 use Rattle.cg_run.specs.declared.status.Status.TheVariants as status
 use Rattle.cg_run.specs.declared.status.Limit.{Limit}
 use Rattle.cg_run.specs.declared.status.Limit.TheVariants as limit
-use Rattle.cg_run.specs.Produced.{Produced, is_supported, before_all, went_on, ended_with, and_then}
+use Rattle.cg_run.specs.Produced.{Produced, before_all, went_on, ended_with, and_then}
 use Rattle.cg_run.specs.Rounds.{happened}
 
 -- the number of the reason for which a line is no event
@@ -30,25 +30,14 @@ unreadable n fault s = ended_with (status.Syntax n (reason_of fault)) n s
 
 -- the words of events that are built
 abbrev pub is_built : Word → Bool
-is_built Start = true
-is_built Merge = true
-is_built Request = true
-is_built Order = true
-is_built Show = true
-is_built Gather = true
-is_built Receive = true
-is_built Deliver = true
-is_built Rounds = true
-is_built End = true
-is_built other = false
-
--- the event of line n happens where it is built
-unfoldable pub supported_outcome : ℕ → Event → Progress → Produced
-supported_outcome n event s = if is_supported s.stage event then happened n event s else ended_with (status.Unsupported n) n s
+is_built Join = false
+is_built Leave = false
+is_built Transfer = false
+is_built other = true
 
 -- what line n comes to, whose event reads so
 abbrev pub event_outcome : ℕ → Result Event LineFault → Progress → Produced
-event_outcome n (Ok event) s = supported_outcome n event (record s { reader = place_after s.reader event })
+event_outcome n (Ok event) s = happened n event (record s { reader = place_after s.reader event })
 event_outcome n (Err fault) s = unreadable n fault s
 
 -- what line n comes to that begins with the word, before these tokens

@@ -1,16 +1,14 @@
 -- What a part of a run comes to. Parts follow one another: the steps of the first come before those of the next, and the
 -- first finding ends the run.
-use Rattle.std.specs.Cmp.Lexicographic.{pointwise}
-use Rattle.std.specs.Prelude.{ℕ, ◌+◌, nat_lt, nat_eq, Bool, true, false, not, ◌&&◌, List, [], ◌∷◌, ◌++◌, Option, Some, None, option_map, if◌then◌else◌}
+use Rattle.std.specs.Prelude.{ℕ, ◌+◌, nat_lt, List, [], ◌∷◌, ◌++◌, Option, Some, None, option_map, if◌then◌else◌}
 use Rattle.cg_group.specs.declared.reason.Reason.{Reason}
-use Rattle.cg_base.specs.Weights.{ids}
 use Rattle.cg_schedule.specs.declared.event.Event.{Event}
-use Rattle.cg_schedule.specs.declared.event.Event.TheVariants.{Start, Merge}
 use Rattle.cg_schedule.specs.Line.{first_place}
-use Rattle.cg_world.specs.declared.handing.Moved.{Moved}
-use Rattle.cg_world.specs.World.{Step, Refusal, before_start, first_refusal, world_step}
-use Rattle.cg_world.specs.Report.{report_text}
-use Rattle.cg_run.specs.declared.progress.Stage.{Stage}
+use Rattle.cg_agree.specs.World.{no_world}
+use Rattle.cg_agree.specs.Admission.{first_refusal}
+use Rattle.cg_agree.specs.Show.{Moved}
+use Rattle.cg_agree.specs.Step.{world_step}
+use Rattle.cg_agree.specs.Run.{Step, Refusal, report_text, step_limit}
 use Rattle.cg_run.specs.declared.progress.Progress.{Progress}
 use Rattle.cg_run.specs.declared.status.Status.{Status}
 use Rattle.cg_run.specs.declared.status.Status.TheVariants as status
@@ -29,28 +27,9 @@ pub record Produced : Type 0 where
   pub found : Option Finding
   pub progress : Progress
 
--- nobody has begun
-abbrev pub first_stage : Stage
-first_stage = record { begun = []; merged = false }
-
--- the stage behind an event
-abbrev pub stage_after : Stage → Event → Stage
-stage_after stage (Start set) = record stage { begun = ids set }
-stage_after stage (Merge set) = record stage { merged = true }
-stage_after stage other = stage
-
--- two sets are one
-abbrev pub same_ids : List ℕ → List ℕ → Bool
-same_ids = pointwise nat_eq
-
--- the event is built: one merge of all replicas is, so far
-abbrev pub is_supported : Stage → Event → Bool
-is_supported stage (Merge set) = not stage.merged && same_ids set stage.begun
-is_supported stage other = true
-
 -- before the first line
 abbrev pub before_all : Progress
-before_all = record { world = before_start; reader = first_place; stage = first_stage; count = 0 }
+before_all = record { world = no_world; reader = first_place; count = 0 }
 
 -- a report with the tail of the finding, where there is one
 abbrev pub with_tail : List ℕ → Option Finding → ℕ → List ℕ
@@ -104,10 +83,10 @@ and_then p more = by_finding p.found where
 -- a step is made, unless there are too many; what it moves to is given, and its line's number
 abbrev pub stepped : ℕ → Event → Moved → Progress → Produced
 stepped n event m s =
-    if nat_lt s.count 2000000 then record {
+    if nat_lt s.count step_limit then record {
       steps = record { number = s.count + 1; event = event; entry = m.entry; world = m.world } ∷ [];
       found = None;
-      progress = record s { world = m.world; stage = stage_after s.stage event; count = s.count + 1 };
+      progress = record s { world = m.world; count = s.count + 1 };
     }
     else ended_with (status.Limit n Steps) n s
 

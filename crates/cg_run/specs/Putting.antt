@@ -1,8 +1,7 @@
 -- How what was put stands to what a part of a run produces.
 use Rattle.std.specs.Prelude.{◌≡◌, ◌+◌, ℕ, List, Option, Some, None, Result, MatchResult, ⊤}
 use Rattle.cg_io.specs.Outside.{SinkView, PutsAll, PutsFront}
-use Rattle.cg_world.specs.World.{Step}
-use Rattle.cg_world.specs.Report.{report_text}
+use Rattle.cg_agree.specs.Run.{Step, report_text}
 use Rattle.cg_run.specs.Produced.{Produced, prepend, text_of, status_of}
 use Rattle.cg_run.specs.declared.progress.Progress.{Progress}
 use Rattle.cg_run.specs.declared.status.Status.{Status}

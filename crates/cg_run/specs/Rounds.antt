@@ -3,6 +3,7 @@ use Rattle.std.specs.Prelude.{ℕ, zero, suc, ◌==◌, List, [], ◌∷◌, if�
 use Rattle.cg_group.specs.Ready.{ready}
 use Rattle.cg_schedule.specs.declared.event.Event.{Event}
 use Rattle.cg_schedule.specs.declared.event.Event.TheVariants.{Gather, Deliver, Rounds, End}
+use Rattle.cg_agree.specs.World.{up_replicas}
 use Rattle.cg_run.specs.declared.progress.Progress.{Progress}
 use Rattle.cg_run.specs.Produced.{Produced, went_on, and_then, one_step}
 
@@ -15,9 +16,9 @@ abbrev pub deliveries : ℕ → List ℕ → Progress → Produced
 deliveries n [] s = went_on s
 deliveries n (p ∷ set) s = and_then (deliver_ready n p s) (deliveries n set)
 
--- all messages are gathered, and then each replica is handed what is ready
+-- all messages are gathered, and then each replica that was up before is handed what is ready when its turn comes
 abbrev pub one_pass : ℕ → Progress → Produced
-one_pass n s = and_then (one_step n Gather s) (deliveries n s.stage.begun)
+one_pass n s = and_then (one_step n Gather s) (deliveries n (up_replicas s.world))
 
 -- so many passes
 abbrev pub passes : ℕ → ℕ → Progress → Produced

@@ -1,18 +1,19 @@
--- How what was taken stands to the bytes that the input had left, and what a run is.
-use Rattle.std.specs.Prelude.{◌≡◌, ◌<◌, ◌≤◌, ◌+◌, ℕ, List, ◌++◌, length, Option, Result, MatchResult, MatchOption}
+-- How what was taken stands to the bytes that the input had left, and what holds of all that a run comes to.
+use Rattle.std.specs.Prelude.{◌≡◌, ◌<◌, ◌≤◌, ◌+◌, ℕ, List, ◌++◌, length, Option, Some, Result, MatchResult, MatchOption}
 use Rattle.std.specs.Io.KnownBytes.{Consumes, IsAtEnd}
 use Rattle.cg_base.specs.declared.no_memory.NoMemory.{NoMemory}
-use Rattle.cg_io.specs.Outside.{SourceView, SinkView}
-use Rattle.cg_world.specs.World.{before_start}
-use Rattle.cg_world.specs.Agreement.{IsRunFrom, RefusedExactly, Agreement}
+use Rattle.cg_io.specs.Outside.{SourceView}
+use Rattle.cg_group.specs.declared.reason.Reason.{Reason}
+use Rattle.cg_agree.specs.Run.{Step}
+use Rattle.cg_agree.specs.Agreement.{RefusedExactly}
 use Rattle.cg_run.specs.declared.progress.Ending.{Ending}
 use Rattle.cg_run.specs.declared.progress.Ending.TheVariants.{Ended, Failed, Open}
 use Rattle.cg_run.specs.declared.progress.Taken.{Taken}
 use Rattle.cg_run.specs.declared.status.Status.{Status}
 use Rattle.cg_run.specs.declared.status.Status.TheVariants as status
-use Rattle.cg_run.specs.Produced.{refusal_of}
+use Rattle.cg_run.specs.Produced.{status_of, refusal_of}
+use Rattle.cg_run.specs.Refusing.{RefusesLine}
 use Rattle.cg_run.specs.Outcome.{outcome}
-use Rattle.cg_run.specs.Putting.{Stopped}
 
 -- at most the input's limit and one byte more are taken
 abbrev pub most_taken : ℕ
@@ -60,16 +61,24 @@ TakesAll old new result =
     (λ t. Took old new t.bytes × HasCause t.ending old new)
     (λ _. (taken : List ℕ) × Took old new taken × (new.faults ≡ old.faults))
 
--- A run took some bytes, the taking ended in some way, and what was put and the status are those that these come to. The
--- steps are those of a run of the world, an event was refused exactly by the reason of its first test that fails, and the
--- steps agree: on one order, whose prefix each replica has, on each creator's actions in it, on the answers of its
--- actions, on the primary component of each index, and on what is settled.
-pub record RunsAs (words : List (List ℕ)) (input input' : SourceView) (output output' : SinkView) (status : Status) : Type 0 where
+-- some bytes were taken, the taking ended in some way, and this holds of them
+pub record OfTaken (old new : SourceView) (Holds : List ℕ → Ending → Type 0) : Type 0 where
   pub taken : List ℕ
   pub ending : Ending
-  pub took : Took input input' taken
-  pub cause : HasCause ending input input'
-  pub put : Stopped (outcome words taken ending) output output' status
-  pub is_run : IsRunFrom before_start 0 (outcome words taken ending).steps
-  pub refused_exactly : RefusedExactly (outcome words taken ending).steps (refusal_of (outcome words taken ending))
-  pub agrees : Agreement (outcome words taken ending).steps
+  pub consumed : Consumes old.left new.left taken
+  pub cause : HasCause ending old new
+  pub holds : Holds taken ending
+
+-- what holds of the steps of the outcome, whatever was taken and however the taking ended
+abbrev pub OfSteps : List (List ℕ) → (List Step → Type 0) → Type 0
+OfSteps words holds = (taken : List ℕ) (how : Ending) → holds (outcome words taken how).steps
+
+-- a run that ends by a refusal tells of the line that is refused, and of the first reason
+abbrev pub TellsOfRefusals : List (List ℕ) → Type 0
+TellsOfRefusals words =
+    (taken : List ℕ) (how : Ending) (n : ℕ) (reason : Reason) → status_of (outcome words taken how) ≡ Some (status.Refused n reason)
+    → RefusesLine taken (outcome words taken how).steps n reason
+
+-- no test of an event that made a step gives a reason, and the event that ended the run by a refusal has that reason first
+abbrev pub RefusesExactly : List (List ℕ) → Type 0
+RefusesExactly words = (taken : List ℕ) (how : Ending) → RefusedExactly (outcome words taken how).steps (refusal_of (outcome words taken how))

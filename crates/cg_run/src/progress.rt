@@ -1,8 +1,7 @@
 ghost use Rattle.std.specs.Prelude.{◌≡◌};
-ghost use Rattle.cg_base.specs.Weights.{ids};
 
-use cg_base::{Bytes, IdSet};
-use cg_schedule::{Event, Reader};
+use cg_base::Bytes;
+use cg_schedule::Reader;
 use cg_world::World;
 use std::alloc::Global;
 
@@ -14,63 +13,11 @@ pub enum Ending {
     Open,
 }
 
-/// Which replicas have begun, and whether they have come together.
-#[derive(Clone, Copy, Debug)]
-pub struct Stage {
-    pub begun: IdSet,
-    pub merged: bool,
-}
-
-impl Stage {
-    ghost use Rattle.cg_run.specs.Produced.{first_stage, stage_after, is_supported};
-
-    /// Nobody has begun.
-    pub fn first() -> Stage
-        ensures { result ≡ first_stage }
-    {
-        Stage {
-            begun: IdSet::empty(),
-            merged: false,
-        }
-    }
-
-    /// The stage behind an event.
-    pub fn after(&self, event: &Event) -> Stage
-        ensures { result ≡ stage_after self.now event.now }
-    {
-        match event {
-            Event::Start(set) => Stage {
-                begun: set.ids(),
-                merged: self.merged,
-            },
-            Event::Merge(_) => Stage {
-                begun: self.begun,
-                merged: true,
-            },
-            _ => Stage {
-                begun: self.begun,
-                merged: self.merged,
-            },
-        }
-    }
-
-    /// The event is built: one merge of all replicas is, so far.
-    pub fn supports(&self, event: &Event) -> bool
-        ensures { result ≡ is_supported self.now event.now }
-    {
-        match event {
-            Event::Merge(set) => !self.merged && *set == self.begun,
-            _ => true,
-        }
-    }
-}
-
-/// How far a run has come: the world, the reader of the lines, which replicas are there, and how many steps were made.
+/// How far a run has come: the world, the reader of the lines, and how many steps were made.
 #[derive(Drop)]
 pub struct Progress {
     pub world: World,
     pub reader: Reader,
-    pub stage: Stage,
     pub count: u64,
 }
 
@@ -84,7 +31,6 @@ impl Progress {
         Progress {
             world: World::new(alloc),
             reader: Reader::new(),
-            stage: Stage::first(),
             count: 0,
         }
     }

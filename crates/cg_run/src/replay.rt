@@ -1,11 +1,14 @@
-ghost use Rattle.std.specs.Prelude.{◌≡◌, ◌<◌, ◌^◌, ◌+◌, ◌≤◌, length, IfOk, Ok};
+ghost use Rattle.std.specs.Prelude.{◌≡◌, ◌<◌, ◌^◌, ◌+◌, ◌≤◌, true, length, IfOk, Ok};
 ghost use Rattle.cg_base.specs.Text.{pieces_of};
+ghost use Rattle.cg_schedule.specs.declared.event.Event.{Event};
 ghost use Rattle.cg_schedule.specs.Line.{event_reading};
 ghost use Rattle.cg_schedule.specs.Reading.{whole};
-ghost use Rattle.cg_world.specs.World.{MayAsk};
-ghost use Rattle.cg_run.specs.Produced.{before_all};
-ghost use Rattle.cg_run.specs.Outcome.{unreadable, is_built, supported_outcome, word_outcome, line_outcome, without_return, limit_of, whole_line, at_end, cut_line, last_piece, replayed};
+ghost use Rattle.cg_run.specs.declared.status.Status.TheVariants as status;
+ghost use Rattle.cg_run.specs.Produced.{before_all, ended_with};
+ghost use Rattle.cg_run.specs.Rounds.{happened};
+ghost use Rattle.cg_run.specs.Outcome.{unreadable, is_built, word_outcome, line_outcome, without_return, limit_of, whole_line, at_end, cut_line, last_piece, replayed};
 ghost use Rattle.cg_run.specs.Putting.{Stopped, Performs};
+ghost use Rattle.cg_run.specs.UnderWay.{HasBegun, IsUnderWay, MayHappen, IsNext};
 
 use crate::progress::{Ending, Progress};
 use crate::putting::finish;
@@ -43,32 +46,9 @@ fn is_built(word: Word) -> bool
     ensures { result ≡ is_built word }
 {
     match word {
-        Word::Start | Word::Merge | Word::Order | Word::Gather => true,
-        Word::Receive | Word::Deliver | Word::Rounds | Word::End => true,
-        Word::Request | Word::Show => true,
-        _ => false,
+        Word::Join | Word::Leave | Word::Transfer => false,
+        _ => true,
     }
-}
-
-// The event of a line happens, where it is built.
-#[tactic(auto, unfolding(crate::specs::Outcome::supported_outcome))]
-fn perform_supported<K: Sink>(
-    alloc: Global,
-    output: &mut K,
-    line: u64,
-    event: &Event,
-    progress: Progress,
-) -> Result<Progress, Status>
-    requires few_faults { (K.view output.old).faults < 2 ^ 62 }
-    requires asks { MayAsk event.now }
-    ensures { Performs (supported_outcome line event.now progress)
-        (K.view output.old) (K.view output.new) result }
-{
-    if !progress.stage.supports(event) {
-        let status = Status::Unsupported { line };
-        return Err(finish(alloc, output, status, progress.count, line));
-    }
-    perform(alloc, output, line, event, progress)
 }
 
 // The event of a line, which the reader has read.
@@ -80,11 +60,24 @@ fn perform_read<K: Sink>(
     progress: Progress,
 ) -> Result<Progress, Status>
     requires few_faults { (K.view output.old).faults < 2 ^ 62 }
-    requires asks { MayAsk event }
-    ensures { Performs (supported_outcome line event progress)
+    requires started { progress.reader.started ≡ true }
+    requires happens { MayHappen progress.world event }
+    ensures performs { Performs (happened line event progress)
+        (K.view output.old) (K.view output.new) result }
+    ensures begun { IfOk result (λ s. HasBegun s) }
+{
+    perform(alloc, output, line, &event, progress)
+}
+
+// A line that begins with a word that isn't built.
+fn refuse_word<K: Sink>(alloc: Global, output: &mut K, line: u64, progress: Progress) -> Status
+    requires few_faults { (K.view output.old).faults < 2 ^ 62 }
+    ensures { Stopped (ended_with (status.Unsupported line) line progress)
         (K.view output.old) (K.view output.new) result }
 {
-    perform_supported(alloc, output, line, &event, progress)
+    let count = progress.count;
+    drop(progress);
+    finish(alloc, output, Status::Unsupported { line }, count, line)
 }
 
 // A line that begins with the word, before these tokens.
@@ -98,18 +91,17 @@ fn perform_word<K: Sink>(
     progress: Progress,
 ) -> Result<Progress, Status>
     requires few_faults { (K.view output.old).faults < 2 ^ 62 }
-    requires asks { (event : Event) → whole (event_reading word) words ≡ Ok event → MayAsk event }
-    ensures { Performs (word_outcome line word words.entry progress)
+    requires reads { (event : Event) → whole (event_reading word) words ≡ Ok event → is_built word ≡ true → IsNext progress event }
+    ensures performs { Performs (word_outcome line word words.entry progress)
         (K.view output.old) (K.view output.new) result }
+    ensures begun { IfOk result (λ s. HasBegun s) }
 {
     if !is_built(word) {
-        let status = Status::Unsupported { line };
-        return Err(finish(alloc, output, status, progress.count, line));
+        return Err(refuse_word(alloc, output, line, progress));
     }
     let Progress {
         world,
         reader,
-        stage,
         count,
     } = progress;
     let mut reader = reader;
@@ -118,16 +110,19 @@ fn perform_word<K: Sink>(
             let progress = Progress {
                 world,
                 reader,
-                stage,
                 count,
             };
             perform_read(alloc, output, line, event, progress)
         }
         Err(LineFault::Syntax(reason)) => {
+            drop(world);
             let status = Status::Syntax { line, reason };
             Err(finish(alloc, output, status, count, line))
         }
-        Err(LineFault::NoMemory) => Err(Status::NoMemory),
+        Err(LineFault::NoMemory) => {
+            drop(world);
+            Err(Status::NoMemory)
+        }
     }
 }
 
@@ -140,15 +135,21 @@ fn perform_text<K: Sink>(
     line: &[u8],
     progress: Progress,
 ) -> Result<Progress, Status>
-    requires { (K.view output.old).faults < 2 ^ 62 }
-    ensures { Performs (line_outcome number line.now progress)
+    requires few_faults { (K.view output.old).faults < 2 ^ 62 }
+    requires under_way { IsUnderWay progress }
+    ensures performs { Performs (line_outcome number line.now progress)
         (K.view output.old) (K.view output.new) result }
+    ensures under_way { IfOk result (λ s. IsUnderWay s) }
 {
     lines_are_exact();
     match progress.reader.begin_line(line) {
         Ok(None) => Ok(progress),
         Ok(Some((word, words))) => perform_word(alloc, output, number, word, words, progress),
-        Err(fault) => Err(refuse_line(alloc, output, number, fault, progress.count)),
+        Err(fault) => {
+            let count = progress.count;
+            drop(progress);
+            Err(refuse_line(alloc, output, number, fault, count))
+        }
     }
 }
 
@@ -178,6 +179,23 @@ fn passed_limit(line: u64, len: usize, end: usize) -> Option<Limit>
     }
 }
 
+// A line that passes a limit.
+fn refuse_limit<K: Sink>(
+    alloc: Global,
+    output: &mut K,
+    line: u64,
+    what: Limit,
+    progress: Progress,
+) -> Status
+    requires { (K.view output.old).faults < 2 ^ 62 }
+    ensures { Stopped (ended_with (status.Limit line what) line progress)
+        (K.view output.old) (K.view output.new) result }
+{
+    let count = progress.count;
+    drop(progress);
+    finish(alloc, output, Status::Limit { line, what }, count, line)
+}
+
 // A line that has its end.
 fn perform_line<K: Sink>(
     alloc: Global,
@@ -189,15 +207,14 @@ fn perform_line<K: Sink>(
 ) -> Result<Progress, Status>
     requires few_faults { (K.view output.old).faults < 2 ^ 62 }
     requires within { at ≤ 8388608 }
+    requires under_way { IsUnderWay progress }
     ensures performs { Performs (whole_line number at line.now progress)
         (K.view output.old) (K.view output.new) result }
     ensures within { IfOk result (λ _. (at + length line.now + 1 ≤ 8388608) × (number ≤ 200000)) }
+    ensures under_way { IfOk result (λ s. IsUnderWay s) }
 {
     match passed_limit(number, line.len(), at + line.len() + 1) {
-        Some(what) => {
-            let status = Status::Limit { line: number, what };
-            Err(finish(alloc, output, status, progress.count, number))
-        }
+        Some(what) => Err(refuse_limit(alloc, output, number, what, progress)),
         None => perform_text(alloc, output, number, without_return(line), progress),
     }
 }
@@ -228,6 +245,34 @@ fn close_at_end<K: Sink>(
     }
 }
 
+// Nothing stands behind so many lines, and the run is let go.
+fn end_run<K: Sink>(
+    alloc: Global,
+    output: &mut K,
+    lines: u64,
+    ending: Ending,
+    progress: Progress,
+) -> Status
+    requires { (K.view output.old).faults < 2 ^ 62 }
+    ensures { Stopped (at_end lines ending progress)
+        (K.view output.old) (K.view output.new) result }
+{
+    let status = close_at_end(alloc, output, lines, ending, &progress);
+    drop(progress);
+    status
+}
+
+// A last line was cut off where a take failed.
+fn fail_in_line<K: Sink>(alloc: Global, output: &mut K, lines: u64, progress: Progress) -> Status
+    requires { (K.view output.old).faults < 2 ^ 62 }
+    ensures { Stopped (ended_with status.ReadFault lines progress)
+        (K.view output.old) (K.view output.new) result }
+{
+    let count = progress.count;
+    drop(progress);
+    finish(alloc, output, Status::ReadFault, count, lines)
+}
+
 // A last line without its end.
 fn close_in_line<K: Sink>(
     alloc: Global,
@@ -239,16 +284,20 @@ fn close_in_line<K: Sink>(
 ) -> Status
     requires few_faults { (K.view output.old).faults < 2 ^ 62 }
     requires counted { 1 ≤ number }
+    requires under_way { IsUnderWay progress }
     ensures { Stopped (cut_line number line.now ending progress)
         (K.view output.old) (K.view output.new) result }
 {
     match ending {
         Ending::Ended => match perform_text(alloc, output, number, line, progress) {
-            Ok(next) => close_at_end(alloc, output, number, Ending::Ended, &next),
+            Ok(next) => end_run(alloc, output, number, Ending::Ended, next),
             Err(status) => status,
         },
-        Ending::Failed => finish(alloc, output, Status::ReadFault, progress.count, number - 1),
-        Ending::Open => Status::NoMemory,
+        Ending::Failed => fail_in_line(alloc, output, number - 1, progress),
+        Ending::Open => {
+            drop(progress);
+            Status::NoMemory
+        }
     }
 }
 
@@ -265,17 +314,15 @@ fn close<K: Sink>(
     requires few_faults { (K.view output.old).faults < 2 ^ 62 }
     requires within { at ≤ 8388608 }
     requires counted { 1 ≤ number }
+    requires under_way { IsUnderWay progress }
     ensures { Stopped (last_piece number at rest.now ending progress)
         (K.view output.old) (K.view output.new) result }
 {
     if rest.is_empty() {
-        return close_at_end(alloc, output, number - 1, ending, &progress);
+        return end_run(alloc, output, number - 1, ending, progress);
     }
     match passed_limit(number, rest.len(), at + rest.len()) {
-        Some(what) => {
-            let status = Status::Limit { line: number, what };
-            finish(alloc, output, status, progress.count, number)
-        }
+        Some(what) => refuse_limit(alloc, output, number, what, progress),
         None => close_in_line(alloc, output, number, rest, ending, progress),
     }
 }
@@ -301,5 +348,6 @@ pub fn replay<K: Sink>(alloc: Global, output: &mut K, bytes: &[u8], ending: Endi
         at = at + line.len() + 1;
         number += 1;
     }
+    drop(progress);
     Status::NoMemory
 }

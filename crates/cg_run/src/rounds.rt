@@ -1,9 +1,9 @@
-ghost use Rattle.std.specs.Prelude.{◌≡◌, ◌<◌, ◌^◌};
+ghost use Rattle.std.specs.Prelude.{◌≡◌, ◌<◌, ◌^◌, true, IfOk};
 ghost use Rattle.cg_schedule.specs.declared.event.Event.TheVariants.{Gather};
-ghost use Rattle.cg_world.specs.World.{MayAsk};
 ghost use Rattle.cg_run.specs.Produced.{one_step};
 ghost use Rattle.cg_run.specs.Rounds.{deliver_ready, deliveries, one_pass, passes, happened};
 ghost use Rattle.cg_run.specs.Putting.{Performs};
+ghost use Rattle.cg_run.specs.UnderWay.{HasBegun, MayHappen};
 
 use crate::progress::Progress;
 use crate::status::Status;
@@ -21,9 +21,11 @@ fn deliver_ready<K: Sink>(
     to: ReplicaId,
     progress: Progress,
 ) -> Result<Progress, Status>
-    requires { (K.view output.old).faults < 2 ^ 62 }
-    ensures { Performs (deliver_ready line to progress)
+    requires few_faults { (K.view output.old).faults < 2 ^ 62 }
+    requires begun { HasBegun progress }
+    ensures performs { Performs (deliver_ready line to progress)
         (K.view output.old) (K.view output.new) result }
+    ensures begun { IfOk result (λ s. HasBegun s) }
 {
     let count = progress.world.ready(to);
     if count == 0 {
@@ -41,9 +43,11 @@ fn deliver_to_each<K: Sink>(
     set: &IdSet,
     progress: Progress,
 ) -> Result<Progress, Status>
-    requires { (K.view output.old).faults < 2 ^ 62 }
-    ensures { Performs (deliveries line set.now progress)
+    requires few_faults { (K.view output.old).faults < 2 ^ 62 }
+    requires begun { HasBegun progress }
+    ensures performs { Performs (deliveries line set.now progress)
         (K.view output.old) (K.view output.new) result }
+    ensures begun { IfOk result (λ s. HasBegun s) }
 {
     let mut progress = progress;
     for to in set.iter() {
@@ -55,13 +59,6 @@ fn deliver_to_each<K: Sink>(
     Ok(progress)
 }
 
-// The replicas that have begun.
-fn begun_in(progress: &Progress) -> IdSet
-    ensures { result ≡ progress.now.stage.begun }
-{
-    progress.stage.begun
-}
-
 // All messages are gathered.
 fn gather<K: Sink>(
     alloc: Global,
@@ -69,28 +66,32 @@ fn gather<K: Sink>(
     line: u64,
     progress: Progress,
 ) -> Result<Progress, Status>
-    requires { (K.view output.old).faults < 2 ^ 62 }
-    ensures { Performs (one_step line Gather progress)
+    requires few_faults { (K.view output.old).faults < 2 ^ 62 }
+    requires begun { HasBegun progress }
+    ensures performs { Performs (one_step line Gather progress)
         (K.view output.old) (K.view output.new) result }
+    ensures begun { IfOk result (λ s. HasBegun s) }
 {
     let event = Event::Gather;
     take_step(alloc, output, line, &event, progress)
 }
 
-// All messages are gathered, and then each replica is handed what is ready.
+// All messages are gathered, and then each replica that was up before is handed what is ready.
 fn make_pass<K: Sink>(
     alloc: Global,
     output: &mut K,
     line: u64,
     progress: Progress,
 ) -> Result<Progress, Status>
-    requires { (K.view output.old).faults < 2 ^ 62 }
-    ensures { Performs (one_pass line progress)
+    requires few_faults { (K.view output.old).faults < 2 ^ 62 }
+    requires begun { HasBegun progress }
+    ensures performs { Performs (one_pass line progress)
         (K.view output.old) (K.view output.new) result }
+    ensures begun { IfOk result (λ s. HasBegun s) }
 {
-    let begun = begun_in(&progress);
+    let up = progress.world.up_replicas();
     match gather(alloc, output, line, progress) {
-        Ok(next) => deliver_to_each(alloc, output, line, &begun, next),
+        Ok(next) => deliver_to_each(alloc, output, line, &up, next),
         Err(status) => Err(status),
     }
 }
@@ -103,9 +104,11 @@ fn make_passes<K: Sink>(
     count: u64,
     progress: Progress,
 ) -> Result<Progress, Status>
-    requires { (K.view output.old).faults < 2 ^ 62 }
-    ensures { Performs (passes line count progress)
+    requires few_faults { (K.view output.old).faults < 2 ^ 62 }
+    requires begun { HasBegun progress }
+    ensures performs { Performs (passes line count progress)
         (K.view output.old) (K.view output.new) result }
+    ensures begun { IfOk result (λ s. HasBegun s) }
 {
     let mut progress = progress;
     for made in 0..count {
@@ -127,9 +130,11 @@ pub fn perform<K: Sink>(
     progress: Progress,
 ) -> Result<Progress, Status>
     requires few_faults { (K.view output.old).faults < 2 ^ 62 }
-    requires asks { MayAsk event.now }
-    ensures { Performs (happened line event.now progress)
+    requires started { progress.reader.started ≡ true }
+    requires happens { MayHappen progress.world event.now }
+    ensures performs { Performs (happened line event.now progress)
         (K.view output.old) (K.view output.new) result }
+    ensures begun { IfOk result (λ s. HasBegun s) }
 {
     match event {
         Event::End => Ok(progress),

@@ -1,10 +1,12 @@
-ghost use Rattle.std.specs.Prelude.{◌≡◌, ◌<◌, ◌^◌, MatchResult, Ok, Err};
-ghost use Rattle.cg_world.specs.declared.handing.Moved.{Moved};
-ghost use Rattle.cg_world.specs.World.{MayAsk};
+ghost use Rattle.std.specs.Prelude.{◌≡◌, ◌<◌, ◌^◌, true, length, IfOk};
+ghost use Rattle.cg_schedule.specs.declared.event.Event.{Event};
+ghost use Rattle.cg_agree.specs.Run.{MayStand};
+ghost use Rattle.cg_world.specs.Steps.{IsBuilt};
 ghost use Rattle.cg_run.specs.Produced.{stepped, one_step};
 ghost use Rattle.cg_run.specs.Putting.{Performs};
+ghost use Rattle.cg_run.specs.UnderWay.{HasBegun};
 
-use crate::progress::{Progress, Stage};
+use crate::progress::Progress;
 use crate::putting::{finish, put_step};
 use crate::status::{Limit, Status};
 use cg_io::Sink;
@@ -18,18 +20,20 @@ fn count_step<K: Sink>(
     alloc: Global,
     output: &mut K,
     line: u64,
-    event: &Event,
     world: World,
     entry: Entry,
     reader: Reader,
-    stage: Stage,
     count: u64,
 ) -> Result<Progress, Status>
-    requires { (K.view output.old).faults < 2 ^ 62 }
-    ensures { (s : Progress) → s.reader ≡ reader → s.stage ≡ stage → s.count ≡ count → Performs (stepped line event.now (record { entry = entry; world = world }) s)
+    requires few_faults { (K.view output.old).faults < 2 ^ 62 }
+    requires started { reader.started ≡ true }
+    requires seated { 0 < length world.seats }
+    ensures performs { (s : Progress) (event : Event) → s.reader ≡ reader → s.count ≡ count → Performs (stepped line event (record { entry = entry; world = world }) s)
         (K.view output.old) (K.view output.new) result }
+    ensures begun { IfOk result (λ s. HasBegun s) }
 {
     if count >= 2_000_000 {
+        drop(world);
         let status = Status::Limit {
             line,
             what: Limit::Steps,
@@ -40,10 +44,12 @@ fn count_step<K: Sink>(
         Ok(()) => Ok(Progress {
             world,
             reader,
-            stage: stage.after(event),
             count: count + 1,
         }),
-        Err(status) => Err(status),
+        Err(status) => {
+            drop(world);
+            Err(status)
+        }
     }
 }
 
@@ -56,26 +62,27 @@ pub fn take_step<K: Sink>(
     progress: Progress,
 ) -> Result<Progress, Status>
     requires few_faults { (K.view output.old).faults < 2 ^ 62 }
-    requires asks { MayAsk event.now }
-    ensures { Performs (one_step line event.now progress)
+    requires started { progress.reader.started ≡ true }
+    requires stands { MayStand progress.world event.now }
+    requires built { IsBuilt event.now }
+    ensures performs { Performs (one_step line event.now progress)
         (K.view output.old) (K.view output.new) result }
+    ensures begun { IfOk result (λ s. HasBegun s) }
 {
     let Progress {
         world,
         reader,
-        stage,
         count,
     } = progress;
     match world.step(alloc, event) {
         Stepped::Done { world, entry } => {
-            count_step(
-                alloc, output, line, event, world, entry, reader, stage, count,
-            )
+            count_step(alloc, output, line, world, entry, reader, count)
         }
         Stepped::Refused {
-            world: _same,
+            world: same,
             reason,
         } => {
+            drop(same);
             let status = Status::Refused { line, reason };
             Err(finish(alloc, output, status, count, line))
         }

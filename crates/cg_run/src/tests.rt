@@ -105,9 +105,12 @@ fn what_stood_before_a_finding_stays_put(rt: HostRuntime) -> Result<(), Fail> {
         ("start 1\nrounds\n", "syntax 2 3\n"),
         ("start 1\nrounds 1 2\n", "syntax 2 4\n"),
         ("start 1\nmerge 1 1\n", "syntax 2 8\n"),
-        ("start 1\nmerge 2\n", "unsupported 2\n"),
-        ("start 1\nsplit 1\n", "unsupported 2\n"),
-        ("start 1\nweak 1 get \"x\n", "unsupported 2\n"),
+        ("start 1\nmerge 2\n", "refused 2 11 2\n"),
+        ("start 1\nsplit 1\n", "refused 2 2 1\n"),
+        ("start 1\nweak 1 get \"x\n", "syntax 2 6\n"),
+        ("start 1\njoin 1 2\n", "unsupported 2\n"),
+        ("start 1\nleave 1\n", "unsupported 2\n"),
+        ("start 1\ntransfer 1 2 0\n", "unsupported 2\n"),
         ("start 1\norder 2\n", "refused 2 11 2\n"),
         ("start 1\norder 1\n", "refused 2 2 1\n"),
     ];
@@ -337,7 +340,7 @@ fn passes_make_their_steps(rt: HostRuntime) -> Result<(), Fail> {
         ("start 1\nmerge 1\nrounds 2\nend\n", "end 6\n"),
         ("start 1\nmerge 1\nrounds 3\nend\n", "end 7\n"),
         ("start 1\nrounds 1\nmerge 1\nrounds 2\nend\n", "end 7\n"),
-        ("start 1\nmerge 1\nmerge 1\n", "unsupported 3\n"),
+        ("start 1\nmerge 1\nmerge 1\n", "refused 3 16 1\n"),
         ("start 1\nrounds 0\n", "syntax 2 5\n"),
         ("start 1\nrounds 1000001\n", "syntax 2 5\n"),
         ("rounds 1\n", "syntax 1 9\n"),
@@ -393,6 +396,132 @@ fn requests_have_their_places_in_the_group(rt: HostRuntime) -> Result<(), Fail> 
         let input = format!(in rt.alloc(); "start 1 2 3\nmerge 1 2 3\nrounds 2\n{lines}")?;
         let (status, put) = run_on(rt.alloc(), &["replay"], input.as_bytes(), &[], &[])?;
         assert_eq!(rt; status.number(), 3, "after {lines:?}");
+        assert!(rt;
+            put.as_slice().ends_with(tail.as_bytes()),
+            "after {lines:?}"
+        );
+    }
+    Ok(())
+}
+
+// A red action: the dirty answer has it, the weak one hasn't.
+const ALONE_OF_THREE: &str = "start 1 2 3
+merge 1
+rounds 1
+request 1 put \"x\" 5
+rounds 1
+weak 1 get \"x\"
+dirty 1 get \"x\"
+end
+";
+
+const RED_ANSWERS: &str = "= 1
+1 NonPrim - g0 w0 p0@0{1,2,3} a0 v- y- r[] o[] x{} b0
+2 NonPrim - g0 w0 p0@0{1,2,3} a0 v- y- r[] o[] x{} b0
+3 NonPrim - g0 w0 p0@0{1,2,3} a0 v- y- r[] o[] x{} b0
+= 2
+1 ExchangeStates c1 g0 w0 p0@0{1,2,3} a0 v- y- r[] o[] x{} b0
+= 4
+1 NonPrim c1 g0 w0 p0@0{1,2,3} a0 v- y- r[] o[] x{} b0
+= 5
+made 1:1 put \"x\" 5
+1 NonPrim c1 g0 w0 p0@0{1,2,3} a0 v- y- r[] o[1:1] x{} b0
+= 7
+1 NonPrim c1 g0 w0 p0@0{1,2,3} a0 v- y- r[1:1] o[] x{} b0
+= 8
+weak 1 absent
+= 9
+dirty 1 5
+end 9
+";
+
+#[test]
+fn a_dirty_answer_has_the_red_actions(rt: HostRuntime) -> Result<(), Fail> {
+    let input = ALONE_OF_THREE.as_bytes();
+    let (status, put) = run_on(rt.alloc(), &["replay"], input, &[], &[])?;
+    assert_eq!(rt; status, Status::Done);
+    assert_eq!(rt; put.as_slice(), RED_ANSWERS.as_bytes());
+    Ok(())
+}
+
+#[test]
+fn a_replica_that_is_stopped_is_down_until_it_recovers(rt: HostRuntime) -> Result<(), Fail> {
+    let input = b"start 1\nstop 1 0 -\nrounds 1\nrecover 1\nrecover 1\n";
+    let (status, put) = run_on(rt.alloc(), &["replay"], input, &[], &[])?;
+    assert_eq!(rt; status.number(), 3);
+    let text = "= 1
+1 NonPrim - g0 w0 p0@0{1} a0 v- y- r[] o[] x{} b0
+= 2
+1 Down
+= 4
+1 NonPrim - g0 w0 p0@0{1} a0 v- y- r[] o[] x{} b0
+refused 5 10 1
+";
+    assert_eq!(rt; put.as_slice(), text.as_bytes());
+    Ok(())
+}
+
+#[test]
+fn a_device_call_that_fails_takes_the_replica_down(rt: HostRuntime) -> Result<(), Fail> {
+    let input = b"start 1\nfail 1 1\nmerge 1\nrounds 1\nrecover 1\nend\n";
+    let (status, put) = run_on(rt.alloc(), &["replay"], input, &[], &[])?;
+    assert_eq!(rt; status, Status::Done);
+    let text = "= 1
+1 NonPrim - g0 w0 p0@0{1} a0 v- y- r[] o[] x{} b0
+= 3
+1 ExchangeStates c1 g0 w0 p0@0{1} a0 v- y- r[] o[] x{} b0
+= 5
+1 Down
+= 6
+1 NonPrim - g0 w0 p0@0{1} a0 v- y- r[] o[] x{} b0
+end 6
+";
+    assert_eq!(rt; put.as_slice(), text.as_bytes());
+    Ok(())
+}
+
+#[test]
+fn a_replica_that_is_down_takes_no_part(rt: HostRuntime) -> Result<(), Fail> {
+    let table = [
+        "request 1 put \"x\" 1\n",
+        "weak 1 count\n",
+        "dirty 1 count\n",
+        "order 1\n",
+        "receive 1 1\n",
+        "deliver 1 1\n",
+        "split 1\n",
+        "merge 1\n",
+        "stop 1 1 00\n",
+        "fail 1 1\n",
+        "show 1\n",
+    ];
+    for line in table {
+        let input = format!(in rt.alloc(); "start 1\nstop 1 0 -\n{line}")?;
+        let (_, put) = run_on(rt.alloc(), &["replay"], input.as_bytes(), &[], &[])?;
+        assert!(rt;
+            put.as_slice().ends_with(b"\n1 Down\nrefused 3 1 1\n"),
+            "at {line:?}"
+        );
+    }
+    Ok(())
+}
+
+#[test]
+fn configurations_part_and_come_together(rt: HostRuntime) -> Result<(), Fail> {
+    let table = [
+        ("split 2\nmerge 2\nend\n", "end 4\n"),
+        ("split 1 2\nmerge 1 2\nend\n", "end 4\n"),
+        ("split 2\nsplit 2\n", "refused 4 2 2\n"),
+        ("split\n", "refused 3 9\n"),
+        ("split 3\n", "refused 3 11 3\n"),
+        ("merge 1 2\n", "refused 3 16 1\n"),
+        ("split 2\nmerge 1 2\n", "refused 4 16 1\n"),
+        ("split 1 2\nmerge 1\n", "refused 4 8 2\n"),
+        ("split 1\nmerge 1\nsplit 1 2\n", "refused 5 7 2\n"),
+    ];
+    for (lines, tail) in table {
+        let input = format!(in rt.alloc(); "start 1 2\nmerge 1 2\n{lines}")?;
+        let (_, put) = run_on(rt.alloc(), &["replay"], input.as_bytes(), &[], &[])?;
         assert!(rt;
             put.as_slice().ends_with(tail.as_bytes()),
             "after {lines:?}"

@@ -54,4 +54,5 @@ loop-line-preserved g c =
       c.in-Ok.ensures.within.0,
       omega arith,
       omega (arith, c.in-Ok.ensures.within.1),
+      c.in-Ok.ensures.under_way,
     )

@@ -14,19 +14,20 @@ loop-to-preserved g c =
     let p = deliver_ready n c.in-Some.to c.loop-to.progress in
     let more = deliveries n left in
     let before = rw (deliveries-step n (members_left c.loop-to.to-iterator) c.in-Some.to left c.loop-to.progress c.in-Some.ensures.steps) at c.loop-to.invariant.0 in
-    let done = c.in-Ok.ensures in (
+    let done = c.in-Ok.ensures.performs in (
       GoesOn-part whole p more (g.K.Sink.view c.args.output.now) (g.K.Sink.view c.loop-to.output) (g.K.Sink.view c.deliver_ready.new.output) c.in-Ok.next before done.0 done.1 done.2,
       done.2.no_fault ∙ c.loop-to.invariant.1,
+      c.in-Ok.ensures.begun,
     )
 
-pub returns-in-Err : goal.returns-in-Err
-returns-in-Err g c =
+pub returns-in-Err-clause-performs : goal.returns-in-Err-clause-performs
+returns-in-Err-clause-performs g c =
     let n = c.args.line in
     let whole = deliveries n c.args.set.now c.args.progress in
     let left = members_left c.next.new.self in
     let p = deliver_ready n c.in-Some.to c.loop-to.progress in
     let more = deliveries n left in
     let before = rw (deliveries-step n (members_left c.loop-to.to-iterator) c.in-Some.to left c.loop-to.progress c.in-Some.ensures.steps) at c.loop-to.invariant.0 in
-    let ended = c.in-Err.ensures in
+    let ended = c.in-Err.ensures.performs in
     GoesOn-stop whole (and_then p more) (g.K.Sink.view c.args.output.now) (g.K.Sink.view c.loop-to.output) (g.K.Sink.view c.deliver_ready.new.output) c.in-Err.status before
     (Stopped-and_then p more (g.K.Sink.view c.loop-to.output) (g.K.Sink.view c.deliver_ready.new.output) c.in-Err.status ended)

@@ -2,9 +2,10 @@ use Rattle.std.proofs.Common.{◌≡◌}
 use Rattle.cg_base.specs.Iterators.{members_left}
 use Rattle.cg_run.specs.Rounds.{deliveries}
 use Rattle.cg_run.specs.Putting.{GoesOn}
+use Rattle.cg_run.specs.UnderWay.{HasBegun}
 use Rattle.cg_run.proofs.rounds.deliver_to_each.Given as goal
 
 abbrev pub invariant-loop-to : goal.invariant-loop-to
 invariant-loop-to g l =
     GoesOn (deliveries l.line l.set l.fn.progress) (g.K.Sink.view l.fn.output) (g.K.Sink.view l.output) (deliveries l.line (members_left l.to-iterator) l.progress)
-    × ((g.K.Sink.view l.output).faults ≡ (g.K.Sink.view l.fn.output).faults)
+    × ((g.K.Sink.view l.output).faults ≡ (g.K.Sink.view l.fn.output).faults) × HasBegun l.progress

@@ -1,23 +1,24 @@
 use Rattle.std.proofs.Common.{ℕ, List, subst}
 use Rattle.cg_run.specs.Putting.{Performs}
 use Rattle.cg_schedule.specs.declared.event.Event.TheVariants.{Gather}
+use Rattle.cg_agree.specs.World.{up_replicas}
 use Rattle.cg_run.specs.Produced.{one_step}
 use Rattle.cg_run.specs.Rounds.{deliveries}
 use Rattle.cg_run.proofs.GoingOn.{Stopped-and_then, Performs-and_then}
 use Rattle.cg_run.proofs.rounds.make_pass.Goals as goal
 
-pub returns-in-Err : goal.returns-in-Err
-returns-in-Err g c =
+pub returns-in-Err-clause-performs : goal.returns-in-Err-clause-performs
+returns-in-Err-clause-performs g c =
     let n = c.args.line in
     let s = c.args.progress in
-    Stopped-and_then (one_step n Gather s) (deliveries n s.stage.begun) (g.K.Sink.view c.args.output.now) (g.K.Sink.view c.gather.new.output) c.in-Err.status c.in-Err.ensures
+    Stopped-and_then (one_step n Gather s) (deliveries n (up_replicas s.world)) (g.K.Sink.view c.args.output.now) (g.K.Sink.view c.gather.new.output) c.in-Err.status c.in-Err.ensures.performs
 
-pub returns-in-Ok : goal.returns-in-Ok
-returns-in-Ok g c =
+pub returns-in-Ok-clause-performs : goal.returns-in-Ok-clause-performs
+returns-in-Ok-clause-performs g c =
     let n = c.args.line in
     let s = c.args.progress in
-    let done = c.in-Ok.ensures in
-    let set = c.begun_in-begun.ensures in
-    Performs-and_then (one_step n Gather s) (deliveries n s.stage.begun) (g.K.Sink.view c.args.output.now) (g.K.Sink.view c.gather.new.output) (g.K.Sink.view c.deliver_to_each.new.output)
+    let done = c.in-Ok.ensures.performs in
+    let set = c.up_replicas-up.ensures in
+    Performs-and_then (one_step n Gather s) (deliveries n (up_replicas s.world)) (g.K.Sink.view c.args.output.now) (g.K.Sink.view c.gather.new.output) (g.K.Sink.view c.deliver_to_each.new.output)
     c.in-Ok.next c.deliver_to_each.result done.0 done.1 done.2
-    (subst (λ (set : List ℕ). Performs (deliveries n set c.in-Ok.next) (g.K.Sink.view c.gather.new.output) (g.K.Sink.view c.deliver_to_each.new.output) c.deliver_to_each.result) set c.deliver_to_each.ensures)
+    (subst (λ (set : List ℕ). Performs (deliveries n set c.in-Ok.next) (g.K.Sink.view c.gather.new.output) (g.K.Sink.view c.deliver_to_each.new.output) c.deliver_to_each.result) set c.deliver_to_each.ensures.performs)

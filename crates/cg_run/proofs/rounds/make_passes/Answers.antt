@@ -12,18 +12,19 @@ loop-made-preserved g c =
     let p = one_pass n c.loop-made.progress in
     let more = passes n (c.args.count - (c.loop-made.made + 1)) in
     let before = rw (passes-step n c.args.count c.loop-made.made c.loop-made.progress (omega arith)) at c.loop-made.invariant.0 in
-    let done = c.in-Ok.ensures in (
+    let done = c.in-Ok.ensures.performs in (
       GoesOn-part whole p more (g.K.Sink.view c.args.output.now) (g.K.Sink.view c.loop-made.output) (g.K.Sink.view c.make_pass.new.output) c.in-Ok.next before done.0 done.1 done.2,
       done.2.no_fault ∙ c.loop-made.invariant.1,
+      c.in-Ok.ensures.begun,
     )
 
-pub returns-in-Err : goal.returns-in-Err
-returns-in-Err g c =
+pub returns-in-Err-clause-performs : goal.returns-in-Err-clause-performs
+returns-in-Err-clause-performs g c =
     let n = c.args.line in
     let whole = passes n c.args.count c.args.progress in
     let p = one_pass n c.loop-made.progress in
     let more = passes n (c.args.count - (c.loop-made.made + 1)) in
     let before = rw (passes-step n c.args.count c.loop-made.made c.loop-made.progress (omega arith)) at c.loop-made.invariant.0 in
-    let ended = c.in-Err.ensures in
+    let ended = c.in-Err.ensures.performs in
     GoesOn-stop whole (and_then p more) (g.K.Sink.view c.args.output.now) (g.K.Sink.view c.loop-made.output) (g.K.Sink.view c.make_pass.new.output) c.in-Err.status before
     (Stopped-and_then p more (g.K.Sink.view c.loop-made.output) (g.K.Sink.view c.make_pass.new.output) c.in-Err.status ended)

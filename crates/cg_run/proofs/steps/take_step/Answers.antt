@@ -1,7 +1,17 @@
-use Rattle.std.proofs.Common.{refl}
+use Rattle.std.proofs.Common.{refl, sym, subst}
+use Rattle.cg_agree.specs.Show.{Moved}
+use Rattle.cg_agree.specs.SeatLaws.{IsSeated, step_seats}
 use Rattle.cg_run.proofs.Happening.{one_step-done}
 use Rattle.cg_run.proofs.steps.take_step.Goals as goal
 
-pub returns-in-Done : goal.returns-in-Done
-returns-in-Done g c =
-    rw (one_step-done c.args.line c.args.event.now c.args.progress c.in-Done.world c.in-Done.entry c.in-Done.ensures) (c.count_step.ensures c.args.progress refl refl refl)
+pub count_step-requires-clause-seated : goal.count_step-requires-clause-seated
+count_step-requires-clause-seated g c =
+    let w = c.args.progress.world in
+    let e = c.args.event.now in
+    let stepped = c.in-Done.ensures in
+    subst (λ (m : Moved). IsSeated m.world) (sym stepped.1) (step_seats w e c.requires.stands stepped.0)
+
+pub returns-in-Done-clause-performs : goal.returns-in-Done-clause-performs
+returns-in-Done-clause-performs g c =
+    rw (one_step-done c.args.line c.args.event.now c.args.progress c.in-Done.world c.in-Done.entry c.in-Done.ensures)
+    (c.count_step.ensures.performs c.args.progress c.args.event.now refl refl)

@@ -3,10 +3,9 @@ use Rattle.cg_run.specs.declared.progress.Ending.TheVariants.{Open}
 use Rattle.cg_run.specs.Outcome.{outcome, is_replay}
 use Rattle.cg_run.specs.Putting.{Stopped}
 use Rattle.cg_run.proofs.GoingOn.{Stopped-nothing}
-use Rattle.cg_run.proofs.RunFacts.{outcome-is_run, outcome-refused_exactly, outcome-agrees}
 use Rattle.cg_run.proofs.Spared.{read-cause}
 use Rattle.cg_run.proofs.TakeLemmas.{Consumes-none, outcome-usage, outcome-replay}
-use Rattle.cg_run.proofs.running.run.Goals as goal
+use Rattle.cg_run.proofs.running.run_command.Goals as goal
 
 pub returns-then-not-is_replay_command-clause-ran : goal.returns-then-not-is_replay_command-clause-ran
 returns-then-not-is_replay_command-clause-ran g c =
@@ -15,12 +14,9 @@ returns-then-not-is_replay_command-clause-ran g c =
     record {
       taken = [];
       ending = Open;
-      took = record { consumed = Consumes-none (g.S.Source.view c.args.input.now).left; few = omega arith };
+      consumed = Consumes-none (g.S.Source.view c.args.input.now).left;
       cause = refl;
-      put = rw (outcome-usage words other) c.finish.ensures;
-      is_run = outcome-is_run words [] Open c.lines_are_exact.ensures.event;
-      refused_exactly = outcome-refused_exactly words [] Open c.lines_are_exact.ensures.event;
-      agrees = outcome-agrees words [] Open c.lines_are_exact.ensures.event c.runs_agree.ensures;
+      holds = (omega arith, rw (outcome-usage words other) c.finish.ensures);
     }
 
 pub returns-in-Ok-clause-ran : goal.returns-in-Ok-clause-ran
@@ -31,12 +27,9 @@ returns-in-Ok-clause-ran g c =
     record {
       taken = t.bytes;
       ending = t.ending;
-      took = c.in-Ok.ensures.0;
+      consumed = c.in-Ok.ensures.0.consumed;
       cause = c.in-Ok.ensures.1;
-      put = rw (outcome-replay words t.bytes t.ending replays, ← c.as_slice.ensures) c.replay.ensures;
-      is_run = outcome-is_run words t.bytes t.ending c.lines_are_exact.ensures.event;
-      refused_exactly = outcome-refused_exactly words t.bytes t.ending c.lines_are_exact.ensures.event;
-      agrees = outcome-agrees words t.bytes t.ending c.lines_are_exact.ensures.event c.runs_agree.ensures;
+      holds = (c.in-Ok.ensures.0.few, rw (outcome-replay words t.bytes t.ending replays, ← c.as_slice.ensures) c.replay.ensures);
     }
 
 pub returns-in-Err-clause-ran : goal.returns-in-Err-clause-ran
@@ -46,12 +39,9 @@ returns-in-Err-clause-ran g c =
     record {
       taken = t;
       ending = Open;
-      took = c.in-Err.ensures.1;
+      consumed = c.in-Err.ensures.1.consumed;
       cause = c.in-Err.ensures.2;
-      put = Stopped-nothing (outcome words t Open) (g.K.Sink.view c.args.output.now);
-      is_run = outcome-is_run words t Open c.lines_are_exact.ensures.event;
-      refused_exactly = outcome-refused_exactly words t Open c.lines_are_exact.ensures.event;
-      agrees = outcome-agrees words t Open c.lines_are_exact.ensures.event c.runs_agree.ensures;
+      holds = (c.in-Err.ensures.1.few, Stopped-nothing (outcome words t Open) (g.K.Sink.view c.args.output.now));
     }
 
 pub returns-in-Ok-clause-read_fault : goal.returns-in-Ok-clause-read_fault
