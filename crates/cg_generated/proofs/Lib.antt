@@ -1,0 +1,11 @@
+pub mod Calm
+pub mod CalmMarks
+pub mod CalmRows
+pub mod CalmEnds
+pub mod GroupStands
+pub mod WorldStands
+pub mod Admits
+pub mod Steps
+pub mod Cells
+pub mod Blocks
+pub mod Schedule
