@@ -1,5 +1,5 @@
--- A replica's seat comes up from its disk: the seat is taken out, and what stands again is what the definitions make of it.
-use Rattle.std.proofs.Common.{◌≡◌, ℕ, true, false, List, [], ◌∷◌, Option, Some, None, Result, Ok, Err, IfOk, IfSome, is_some, find, fold, option_and_then, option_map, refl, sym, ap, subst, ◌∙◌, eqb-true, inl, inr}
+-- A replica's seat is struck, or comes up from its disk: the seat is taken out, and what stands again is what the definitions make of it.
+use Rattle.std.proofs.Common.{◌≡◌, ℕ, true, false, List, [], ◌∷◌, Option, Some, None, Result, Ok, Err, IfOk, OnOk, IfSome, is_some, find, fold, option_and_then, option_map, refl, sym, ap, subst, ◌∙◌, eqb-true, inl, inr}
 use Rattle.std.specs.Prelude.{◌==◌}
 use Rattle.std.specs.Option.{option_map_or}
 use Rattle.std.proofs.lemmas.Bool.{cases_Bool, cond-true, cond-false}
@@ -13,12 +13,13 @@ use Rattle.cg_client.specs.Turn.{Turn, begin}
 use Rattle.cg_client.specs.Marks.{marked}
 use Rattle.cg_client.specs.Summary.{redden, forget_own, own_to_red}
 use Rattle.cg_stored.specs.Stored.{recover as recover_stored}
-use Rattle.cg_step.specs.Crash.{Disk, recovered, disk_recovered}
+use Rattle.cg_step.specs.Crash.{Disk, Strike, crash_now, recovered, disk_recovered}
 use Rattle.cg_agree.specs.World.{Life, Up, Down, Seat, World, running, seat_of, replica_of, with_seat, set_life}
 use Rattle.cg_agree.specs.Looks.{on_disk}
 use Rattle.cg_agree.specs.Show.{News, news_of_recovery, tell}
-use Rattle.cg_agree.specs.Step.{quietly, recover_from, recover}
-use Rattle.cg_seat.specs.Calls.{risen}
+use Rattle.cg_agree.specs.Step.{quietly, arm_at, arm, crash_at, stop, recover_from, recover}
+use Rattle.cg_seat.specs.Calls.{armed, crashed, risen}
+use Rattle.cg_events.specs.Going.{seated, fallen}
 use Rattle.cg_events.specs.Grounds.{IsSeated}
 use Rattle.cg_events.specs.Striking.{returned, telling}
 
@@ -30,6 +31,34 @@ found-id (x ∷ seats) p s e = elim (cases_Bool (x.id == p)) [
       let is : x ≡ s = cc in ap (λ (s : Seat). s.id) (sym is) ∙ eqb-true x.id p here)
   | inr other ↦ found-id seats p s (sym (cond-false (x.id == p) (Some x) (find (λ s. s.id == p) seats) other) ∙ e)
 ]
+
+-- ---- a replica that is up is struck
+
+module _ (w v : World) (p : ℕ) (s : Seat) (there : seat_of w p ≡ Some s) (up : is_some (running s.life) ≡ true)
+    (same : (life : Life) → set_life v p life ≡ set_life w p life) where
+  fallen-up : (life : Life) → is_some (running life) ≡ true → fallen (seated v (crashed p life)) p ≡ crash_at w p life
+  fallen-up (Up r disk) up = ap (λ x. fallen x p) (same (Down (crash_now disk) []))
+  fallen-up (Down disk green) up = absurd (let clash : false ≡ true = up in cc)
+
+  pub stop-up : (fill : List ℕ) → fallen (seated v (crashed s.id s.life)) s.id ≡ stop w p 0 fill
+  stop-up fill =
+      ap (λ n. fallen (seated v (crashed n s.life)) n) (found-id w.seats p s there) ∙ fallen-up s.life up
+      ∙ sym (ap (λ o. option_map_or (λ (s : Seat). crash_at w p s.life) o w) there)
+
+  armed-up : (strike : Strike) (life : Life) → is_some (running life) ≡ true → seated v (armed p strike life) ≡ arm_at w p strike life
+  armed-up strike (Up r disk) up = same (Up r (record disk { armed = Some strike }))
+  armed-up strike (Down disk green) up = absurd (let clash : false ≡ true = up in cc)
+
+  arm-up : (strike : Strike) → seated v (armed s.id strike s.life) ≡ arm w p strike
+  arm-up strike =
+      ap (λ n. seated v (armed n strike s.life)) (found-id w.seats p s there) ∙ armed-up strike s.life up
+      ∙ sym (ap (λ o. option_map_or (λ (s : Seat). arm_at w p strike s.life) o w) there)
+
+  -- where memory isn't refused
+  pub arm-done : (strike : Strike) (t : Seat) → t ≡ armed s.id strike s.life → {T E : Type 0} (result : Result T E) (seats : List Seat) →
+      OnOk result (seats ≡ with_seat v.seats t) → OnOk result (record v { seats = seats } ≡ arm w p strike)
+  arm-done strike t is (Ok x) seats put = ap (λ list. record v { seats = list }) put ∙ ap (seated v) is ∙ arm-up strike
+  arm-done strike t is (Err e) seats put = tt
 
 -- ---- the replica that comes up is the disk's
 

@@ -3,3 +3,4 @@ pub mod Grounds
 pub mod Happening
 pub mod Seating
 pub mod Striking
+pub mod GroundLaws

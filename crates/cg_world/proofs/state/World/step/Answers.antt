@@ -2,8 +2,9 @@ use Rattle.std.proofs.Common.{sym, subst}
 use Rattle.cg_agree.specs.World.{World}
 use Rattle.cg_agree.specs.Run.{MayStand}
 use Rattle.cg_world.specs.Steps.{Steps}
+use Rattle.cg_events.specs.GroundLaws.{ComesFirst-stands}
 use Rattle.cg_world.proofs.state.World.step.Goals as goal
-use Rattle.cg_world.proofs.Leading.{led-booked, led-seated, comes-first, led-on, end-steps}
+use Rattle.cg_world.proofs.Leading.{led-booked, led-seated, led-on, end-steps}
 
 -- src/world.rt:36:15
 pub happen-requires-clause-booked : goal.happen-requires-clause-booked
@@ -15,7 +16,7 @@ happen-requires-clause-seated c = led-seated c.self.inside.state c.facts_stand_b
 pub happen-requires-clause-first : goal.happen-requires-clause-first
 happen-requires-clause-first c =
     let stands = subst (λ (w : World). MayStand w c.args.event.now) (sym c.self.view_is) c.requires.stands in
-    comes-first c.self.inside.state c.args.event.now stands
+    ComesFirst-stands c.self.inside.state c.args.event.now stands
 
 -- src/world.rt:37:38
 pub finish-requires : goal.finish-requires

@@ -1,0 +1,34 @@
+-- What an event rests on is there where the facts of agreement stand, and where the event may stand.
+use Rattle.std.proofs.Common.{sym, ap, subst, ◌∙◌}
+use Rattle.std.specs.Prelude.{◌≡◌, ℕ, is_some, IfSome}
+use Rattle.cg_group.specs.State.{is_up}
+use Rattle.cg_schedule.specs.declared.event.Event.{Event}
+use Rattle.cg_schedule.specs.declared.event.Event.TheVariants.{Start, Split, Merge, Rounds, End}
+use Rattle.cg_agree.specs.World.{World}
+use Rattle.cg_agree.specs.Run.{MayAsk, MayStand}
+use Rattle.cg_agree.specs.Chronicle.{Chronicle}
+use Rattle.cg_agree.specs.Played.{StandsBeside}
+use Rattle.cg_events.specs.Grounds.{ComesFirst, IsSeated}
+
+-- ---- where the facts stand
+
+pub IsSeated-beside : (c : Chronicle) (w : World) → StandsBeside c w → IsSeated w
+IsSeated-beside c w stands =
+    record {
+      disk = λ p. subst (λ o. IfSome o (λ h. h.id ≡ p)) (sym (stands.same.disk p)) (stands.facts.net.seated.disk p);
+      up = λ p. ap is_some (stands.same.running p) ∙ stands.facts.net.phase_sound.up p ∙ ap (λ g. is_up g p) (sym stands.same.group);
+    }
+
+-- ---- where an event may stand
+
+pub ComesFirst-stands : (w : World) (e : Event) → MayStand w e → ComesFirst w e
+ComesFirst-stands w (Start set) may = may.0
+ComesFirst-stands w _ may = tt
+
+pub MayAsk-stands : (w : World) (e : Event) → MayStand w e → MayAsk e
+MayAsk-stands w (Start set) may = tt
+MayAsk-stands w (Split set) may = tt
+MayAsk-stands w (Merge set) may = tt
+MayAsk-stands w (Rounds count) may = tt
+MayAsk-stands w End may = tt
+MayAsk-stands w _ may = may.1
