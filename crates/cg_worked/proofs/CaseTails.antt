@@ -42,7 +42,7 @@ read_before_it_failed : put_of ("replay" ∷ []) (written ("start 33" ∷ [])) F
 unfolding cases_compute
 read_before_it_failed = refl
 
-not_built : replayed_text ("start 1 2" ∷ "split 1" ∷ "end" ∷ []) ≡ written (
+not_built : replayed_text ("start 1 2" ∷ "join 1 3" ∷ "end" ∷ []) ≡ written (
     "= 1" ∷
     "1 NonPrim - g0 w0 p0@0{1,2} a0 v- y- r[] o[] x{} b0" ∷
     "2 NonPrim - g0 w0 p0@0{1,2} a0 v- y- r[] o[] x{} b0" ∷

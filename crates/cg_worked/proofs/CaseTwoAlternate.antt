@@ -92,7 +92,7 @@ two_alternate :
     "= 32" ∷
     "order 3 1:3" ∷
     "order 4 2:1" ∷
-    "2 RegPrim c1 g4 w0 p1@1{1,2} a0 v1/0{1,2}{2} y- r[] o[] x{} b0" ∷
+    "2 RegPrim c1 g4 w1 p1@1{1,2} a0 v1/0{1,2}{2} y- r[] o[] x{} b0" ∷
     "reply 2:1 done ? keys \"x\"" ∷
     "= 33" ∷
     "1 RegPrim c1 g3 w0 p1@1{1,2} a0 v1/0{1,2}{1} y- r[] o[] x{} b0" ∷
@@ -102,38 +102,38 @@ two_alternate :
     "made 1:4 del \"ab\"" ∷
     "1 RegPrim c1 g3 w0 p1@1{1,2} a0 v1/0{1,2}{1} y- r[] o[1:4] x{} b0" ∷
     "= 36" ∷
-    "1 RegPrim c1 g4 w0 p1@1{1,2} a0 v1/0{1,2}{1} y- r[] o[1:4] x{} b0" ∷
+    "1 RegPrim c1 g4 w1 p1@1{1,2} a0 v1/0{1,2}{1} y- r[] o[1:4] x{} b0" ∷
     "= 38" ∷
     "made 2:2 put \"a\" 0" ∷
-    "2 RegPrim c1 g4 w0 p1@1{1,2} a0 v1/0{1,2}{2} y- r[] o[2:2] x{} b0" ∷
+    "2 RegPrim c1 g4 w1 p1@1{1,2} a0 v1/0{1,2}{2} y- r[] o[2:2] x{} b0" ∷
     "= 39" ∷
     "order 5 1:4" ∷
-    "1 RegPrim c1 g5 w0 p1@1{1,2} a0 v1/0{1,2}{1} y- r[] o[] x{} b0" ∷
+    "1 RegPrim c1 g5 w2 p1@1{1,2} a0 v1/0{1,2}{1} y- r[] o[] x{} b0" ∷
     "reply 1:4 done" ∷
     "= 42" ∷
     "order 6 2:2" ∷
-    "1 RegPrim c1 g6 w0 p1@1{1,2} a0 v1/0{1,2}{1} y- r[] o[] x{} b0" ∷
+    "1 RegPrim c1 g6 w3 p1@1{1,2} a0 v1/0{1,2}{1} y- r[] o[] x{} b0" ∷
     "= 43" ∷
-    "2 RegPrim c1 g6 w0 p1@1{1,2} a0 v1/0{1,2}{2} y- r[] o[] x{} b0" ∷
+    "2 RegPrim c1 g6 w3 p1@1{1,2} a0 v1/0{1,2}{2} y- r[] o[] x{} b0" ∷
     "reply 2:2 done" ∷
     "= 46" ∷
     "made 2:3 put \"x\" 62 ? get \"b\"" ∷
-    "2 RegPrim c1 g6 w0 p1@1{1,2} a0 v1/0{1,2}{2} y- r[] o[2:3] x{} b0" ∷
+    "2 RegPrim c1 g6 w3 p1@1{1,2} a0 v1/0{1,2}{2} y- r[] o[2:3] x{} b0" ∷
     "= 48" ∷
     "order 7 2:3" ∷
-    "2 RegPrim c1 g7 w0 p1@1{1,2} a0 v1/0{1,2}{2} y- r[] o[] x{} b0" ∷
+    "2 RegPrim c1 g7 w3 p1@1{1,2} a0 v1/0{1,2}{2} y- r[] o[] x{} b0" ∷
     "reply 2:3 done ? absent" ∷
     "= 49" ∷
-    "1 RegPrim c1 g7 w0 p1@1{1,2} a0 v1/0{1,2}{1} y- r[] o[] x{} b0" ∷
+    "1 RegPrim c1 g7 w3 p1@1{1,2} a0 v1/0{1,2}{1} y- r[] o[] x{} b0" ∷
     "= 50" ∷
     "made 1:5 inc \"ab\" -9223372036854775808" ∷
-    "1 RegPrim c1 g7 w0 p1@1{1,2} a0 v1/0{1,2}{1} y- r[] o[1:5] x{} b0" ∷
+    "1 RegPrim c1 g7 w3 p1@1{1,2} a0 v1/0{1,2}{1} y- r[] o[1:5] x{} b0" ∷
     "= 51" ∷
     "made 1:6 move \"x\" \"x\" 0 ? keys \"ab\"" ∷
-    "1 RegPrim c1 g7 w0 p1@1{1,2} a0 v1/0{1,2}{1} y- r[] o[1:5,1:6] x{} b0" ∷
+    "1 RegPrim c1 g7 w3 p1@1{1,2} a0 v1/0{1,2}{1} y- r[] o[1:5,1:6] x{} b0" ∷
     "= 53" ∷
     "made 2:4 inc \"y\" -3 ? get \"a\"" ∷
-    "2 RegPrim c1 g7 w0 p1@1{1,2} a0 v1/0{1,2}{2} y- r[] o[2:4] x{} b0" ∷
+    "2 RegPrim c1 g7 w3 p1@1{1,2} a0 v1/0{1,2}{2} y- r[] o[2:4] x{} b0" ∷
     "end 53" ∷
     [])
 unfolding cases_compute
