@@ -6,6 +6,8 @@
 #![tactic(auto)]
 
 mod state;
+#[cfg(test)]
+mod tests;
 mod world;
 
 pub use state::World;

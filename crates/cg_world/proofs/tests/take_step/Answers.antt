@@ -1,0 +1,10 @@
+use Rattle.std.proofs.Common.{sym, subst}
+use Rattle.cg_agree.specs.Show.{Moved}
+use Rattle.cg_agree.specs.SeatLaws.{IsSeated, step_seats}
+use Rattle.cg_world.proofs.tests.take_step.Goals as goal
+
+-- src/tests.rt:13:1
+pub returns-in-Done : goal.returns-in-Done
+returns-in-Done c =
+    let stepped = c.in-Done.ensures in
+    subst (λ (m : Moved). IsSeated m.world) (sym stepped.1) (step_seats c.args.world c.args.event.now c.requires.stands stepped.0)
