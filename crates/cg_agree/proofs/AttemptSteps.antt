@@ -110,7 +110,7 @@ deciding-parts set conf t me e = one (is_full set t) (is_through t) (has (gone t
   one true true g e = (refl, two g e)
 
 -- of a primary component: all that remain have announced
-primary-announced : (set : List ℕ) (conf : ℕ) (t : Talk) (me : ℕ) → is_primary (state_in set conf t me) ≡ true → is_announced t ≡ true
+pub primary-announced : (set : List ℕ) (conf : ℕ) (t : Talk) (me : ℕ) → is_primary (state_in set conf t me) ≡ true → is_announced t ≡ true
 primary-announced set conf t me e = one (is_full set t) (is_through t) (has (gone t.heard) me) (not (decides t.heard)) (is_announced t) e where
   one : (b d g n a : Bool) → is_primary (Choice (not b) (ExchangeStates conf set t.heard) (Choice (not d) (ExchangeActions conf t.heard t.accepted)
       (Choice g Left (Choice n (NonPrim true) (Choice a RegPrim (Construct conf t.announced)))))) ≡ true → a ≡ true

@@ -46,7 +46,7 @@ any-of t (q ∷ set) p member is = elim (or_cases (q == p) (has set p) member) [
   | inr later ↦ or_right (t q) (list_any t set) (any-of t set p later is)
 ]
 
-received-one : (C : Configuration Msg) (place q : ℕ) → all_received C place ≡ true → has C.members q ≡ true → has_received C q place ≡ true
+pub received-one : (C : Configuration Msg) (place q : ℕ) → all_received C place ≡ true → has C.members q ≡ true → has_received C q place ≡ true
 unfolding all_received
 received-one C place q all member = all-at (λ q. has_received C q place) C.members q all member
 

@@ -81,7 +81,7 @@ abbrev Choice : Bool → State → State → State
 Choice b x y = if b then x else y
 
 -- a member in its regular phase that attempts waits for announcements
-waits-for : (set : List ℕ) (conf : ℕ) (t : Talk) (me : ℕ) → is_attempting (state_in set conf t me) ≡ true → state_in set conf t me ≡ Construct conf t.announced
+pub waits-for : (set : List ℕ) (conf : ℕ) (t : Talk) (me : ℕ) → is_attempting (state_in set conf t me) ≡ true → state_in set conf t me ≡ Construct conf t.announced
 waits-for set conf t me e = at (is_full set t) (is_through t) (has (gone t.heard) me) (decides t.heard) (is_announced t) e where
   at : (full through left decided told : Bool) →
       is_attempting (Choice (not full) (ExchangeStates conf set t.heard) (Choice (not through) (ExchangeActions conf t.heard t.accepted)

@@ -53,7 +53,7 @@ pub record StandsAt (base : ℕ) (xs : List (Sent Msg)) (q : ℕ) : Type 0 where
   pub announces : is_some (announcer_in sent.message) ≡ true
   pub place : announced_from base xs q ≡ suc (base + index)
 
-announced-there : (base : ℕ) (xs : List (Sent Msg)) (q : ℕ) → (announced_from base xs q ≡ 0) ⊎ StandsAt base xs q
+pub announced-there : (base : ℕ) (xs : List (Sent Msg)) (q : ℕ) → (announced_from base xs q ≡ 0) ⊎ StandsAt base xs q
 announced-there base [] q = inl refl
 announced-there base (s ∷ xs) q = ⊎_elim
     (λ y.
@@ -177,7 +177,7 @@ module _ (c : Chronicle) (p conf : ℕ) (r : Replica) (places : List ℕ) (h : P
   as-state t state e is = subst (IsTransitional c conf p t.replica.held) (sym e) is
 
   -- what a member has received it has been handed, or is handed now
-  covered : (q : ℕ) → lacks_announcement c conf p q ≡ false → (at : StandsAt 0 list q) → (has X.announced q ≡ true) ⊎ (has places (suc at.index) ≡ true)
+  pub covered : (q : ℕ) → lacks_announcement c conf p q ≡ false → (at : StandsAt 0 list q) → (has X.announced q ≡ true) ⊎ (has places (suc at.index) ≡ true)
   covered q lacks at =
       let place : announced_at c conf q ≡ suc at.index = at.place ∙ (let e : suc (0 + at.index) ≡ suc at.index = omega arith in e) in
       let got : has_received C p (suc at.index) ≡ true = received (announced_at c conf q) lacks place in

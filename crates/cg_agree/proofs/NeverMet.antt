@@ -11,8 +11,8 @@ use Rattle.cg_wire.specs.declared.message.Msg.TheVariants.{Action as ActionMsg, 
 use Rattle.cg_group.specs.declared.phase.Phase.TheVariants.{Regular}
 use Rattle.cg_group.specs.Events.{deliveries_at}
 use Rattle.cg_group.specs.State.{Configuration, GroupState, Sent, configuration, home, delivered_to, is_regular, phase_of, regular_in}
-use Rattle.cg_client.specs.Replica.{Held, State, RegPrim, TransPrim, ExchangeStates, ExchangeActions, Construct, No, Un, NonPrim, Left, Replica}
-use Rattle.cg_client.specs.Turn.{begin, go_to}
+use Rattle.cg_client.specs.Replica.{Held, Replica}
+use Rattle.cg_client.specs.Turn.{begin}
 use Rattle.cg_agree.specs.World.{replica_of}
 use Rattle.cg_agree.specs.Chronicle.{Chronicle}
 use Rattle.cg_agree.specs.Facts.{Invariant}
@@ -22,15 +22,16 @@ use Rattle.cg_agree.specs.Played.{MayBeMade}
 use Rattle.cg_agree.specs.Small.{Small, Starts, Makes, Enters, Orders, Receives, Hands, Leaves, Asks, Settles, Commits, Crashes, Recovers, Copies, Joins, small_step}
 use Rattle.cg_agree.specs.Smalls.{may_make, smalls_in, ascend_within, hold_received, hold_earlier}
 use Rattle.cg_agree.specs.Talk.{Talk, no_talk, talk_of, may_go_on, may_say}
-use Rattle.cg_agree.specs.Total.{can_be_used, AreUsable, IsUsed, CanRedden, ArePlaced, OfPrimary, MeetsNone, MeetNone, NeverMet}
+use Rattle.cg_agree.specs.Total.{can_be_used, AreUsable, IsUsed, CanRedden, AreTakenLeaving, MeetsNone, MeetNone, NeverMet}
 use Rattle.cg_agree.proofs.GroupKept.{leaving-regular}
 use Rattle.cg_agree.proofs.HandNext.{legal-at}
 use Rattle.cg_agree.proofs.HandsMeet.{hands-used}
 use Rattle.cg_agree.proofs.HandsNow.{hands-now, running-now, found-now}
 use Rattle.cg_agree.proofs.MadeOfSmalls.{made-of-smalls}
 use Rattle.cg_agree.proofs.MovesKept.{kept-by-smalls}
-use Rattle.cg_agree.proofs.PartingPlaced.{parting-placed}
+use Rattle.cg_agree.proofs.PartingPlaced.{leaving-taken}
 use Rattle.cg_agree.proofs.HandsKept.{regular-phase}
+use Rattle.cg_group.specs.declared.delivery.Delivery.TheVariants.{Transitional as TransitionalIn}
 
 -- ---- messages
 
@@ -57,7 +58,8 @@ usable-all c i conf n s there =
 -- ---- small steps
 
 places-hold : (c : Chronicle) (p : ℕ) (set : List ℕ) (own : ℕ) (places : List ℕ) → may_make c (Leaves p set own places) ≡ true →
-    (ascend_within (delivered_to c.world.group p) (length (home c.world.group p).ordered) places ≡ true) × (hold_earlier (home c.world.group p) (delivered_to c.world.group p) places ≡ true)
+    (ascend_within (delivered_to c.world.group p) (length (home c.world.group p).ordered) places ≡ true) × (hold_received (home c.world.group p) p (delivered_to c.world.group p) places ≡ true)
+    × (hold_earlier (home c.world.group p) (delivered_to c.world.group p) places ≡ true)
 unfolding may_make
 places-hold c p set own places may =
     let g = c.world.group in
@@ -65,7 +67,7 @@ places-hold c p set own places may =
     let low = delivered_to g p in
     let one = and_parts (is_regular g p && ascend_within low (length c'.ordered) places && hold_received c' p low places) (hold_earlier c' low places) may in
     let two = and_parts (is_regular g p && ascend_within low (length c'.ordered) places) (hold_received c' p low places) one.0 in
-    ((and_parts (is_regular g p) (ascend_within low (length c'.ordered) places) two.0).1, one.1)
+    ((and_parts (is_regular g p) (ascend_within low (length c'.ordered) places) two.0).1, two.1, one.1)
 
 module _ (c : Chronicle) (i : Invariant c) where
   own-red : (o : Option Replica) (p : ℕ) → IfSome o (λ r. IsCore c r.held (greens_of c p)) → IfSome o (λ r. CanRedden r.held)
@@ -88,25 +90,15 @@ module _ (c : Chronicle) (i : Invariant c) where
       let g = c.world.group in
       let phase = regular-phase (phase_of g p) (leaving-regular c p set own places may) in
       let home_is : home g p ≡ conf_of c phase.at = ap (λ x. configuration g (regular_in x)) phase.is in
-      let fine = places-hold c p set own places may in
-      at phase.at phase.is (subst (λ (x : Configuration Msg). hold_earlier x (delivered_to g p) places ≡ true) home_is fine.1)
-      (subst (λ (x : Configuration Msg). ascend_within (delivered_to g p) (length x.ordered) places ≡ true) home_is fine.0) home_is (replica_of c.world p) refl where
-        at : (conf : ℕ) → phase_of c.world.group p ≡ Regular conf → hold_earlier (conf_of c conf) (delivered_to c.world.group p) places ≡ true →
-            ascend_within (delivered_to c.world.group p) (length (ordered_in c conf)) places ≡ true → home c.world.group p ≡ conf_of c conf → (o : Option Replica) → replica_of c.world p ≡ o →
-            IfSome o (λ r. OfPrimary r.state (ArePlaced (go_to (begin r) TransPrim) (deliveries_at (home c.world.group p) places)))
-        at conf phase closed ascends home_is None e = tt
-        at conf phase closed ascends home_is (Some r) e = by-state r.state refl where
-          by-state : (st : State) → r.state ≡ st → OfPrimary st (ArePlaced (go_to (begin r) TransPrim) (deliveries_at (home c.world.group p) places))
-          by-state RegPrim is =
-              subst (λ (x : Configuration Msg). ArePlaced (go_to (begin r) TransPrim) (deliveries_at x places)) (sym home_is) (parting-placed c i p r conf e phase is places closed ascends)
-          by-state TransPrim is = tt
-          by-state (ExchangeStates k set heard) is = tt
-          by-state (ExchangeActions k heard n) is = tt
-          by-state (Construct k heard) is = tt
-          by-state (No k heard) is = tt
-          by-state Un is = tt
-          by-state (NonPrim regular) is = tt
-          by-state Left is = tt
+      let fine = subst (λ (x : Configuration Msg). (ascend_within (delivered_to g p) (length x.ordered) places ≡ true) × (hold_received x p (delivered_to g p) places ≡ true)
+      × (hold_earlier x (delivered_to g p) places ≡ true)) home_is (places-hold c p set own places may) in
+      subst (λ (x : Configuration Msg). IfSome (replica_of c.world p) (λ r. AreTakenLeaving (begin r) (TransitionalIn (regular_in (phase_of g p)) set ∷ deliveries_at x places))) (sym home_is)
+      (at phase.at phase.is fine (replica_of c.world p) refl) where
+        at : (conf : ℕ) → phase_of c.world.group p ≡ Regular conf → (ascend_within (delivered_to c.world.group p) (length (ordered_in c conf)) places ≡ true)
+            × (hold_received (conf_of c conf) p (delivered_to c.world.group p) places ≡ true) × (hold_earlier (conf_of c conf) (delivered_to c.world.group p) places ≡ true) →
+            (o : Option Replica) → replica_of c.world p ≡ o → IfSome o (λ r. AreTakenLeaving (begin r) (TransitionalIn (regular_in (phase_of c.world.group p)) set ∷ deliveries_at (conf_of c conf) places))
+        at conf phase fine None e = tt
+        at conf phase fine (Some r) e = leaving-taken c i p r conf e phase places fine.2 fine.0 fine.1 (regular_in (phase_of c.world.group p)) set
 
   meets-none : (s : Small) → may_make c s ≡ true → MeetsNone c s
   meets-none (Hands p) may = hands-none p may

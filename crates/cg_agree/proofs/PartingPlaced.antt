@@ -1,41 +1,42 @@
--- The actions that come to a member as it leaves a primary component can be placed: with a place every earlier one of its sender comes, so
--- the action before it is known.
-use Rattle.std.proofs.Common.{◌≡◌, ℕ, zero, suc, ◌+◌, ◌-◌, ◌≤◌, ◌<◌, true, false, not, ◌&&◌, ◌||◌, List, [], ◌∷◌, ◌++◌, length, take, drop, Option, Some, None, IfSome, refl, sym, ap, ◌∙◌, subst, arith, inl, inr, ◌⊎◌, eqb-true, eq-eqb, nat_lt, nat_le}
+-- What comes to a member as it leaves a primary component, or an attempt, is used. Actions can be placed: with a place every earlier one of its
+-- sender comes, so the action before it is known. None comes before all announcements: it shows an installation, which follows announcements
+-- that all have received.
+use Rattle.std.proofs.Common.{◌≡◌, ℕ, zero, suc, ◌+◌, ◌-◌, ◌≤◌, ◌<◌, true, false, not, ◌&&◌, ◌||◌, List, [], ◌∷◌, ◌++◌, length, take, drop, Option, Some, None, IfSome, refl, sym, ap, ◌∙◌, subst, arith, inl, inr, ◌⊎◌, eqb-true, eq-eqb, nat_lt, nat_le, Bool, is_some, ap₂, filter_map, ⊎_elim}
 use Rattle.std.specs.Prelude.{◌==◌, slice_get}
 use Rattle.std.specs.Option.{option_map_or}
 use Rattle.std.specs.List.{list_all}
-use Rattle.std.proofs.lemmas.Bool.{cases_eq, cases_lt, cond-true, cond-false, and_parts, ne_eqb, or_left, or_right, or_cases, ltb-true, leb-true}
+use Rattle.std.proofs.lemmas.Bool.{cases_eq, cases_lt, cond-true, cond-false, and_parts, ne_eqb, or_left, or_right, or_cases, ltb-true, leb-true, and_from, cond_both, not-true}
 use Rattle.cg_base.specs.Cuts.{index_in, raise}
-use Rattle.cg_base.specs.Lists.{count_up, above_up_to}
-use Rattle.cg_base.specs.Sets.{has}
+use Rattle.cg_base.specs.Lists.{count_up, above_up_to, at_place}
+use Rattle.cg_base.specs.Sets.{has, is_within, with_member}
 use Rattle.cg_action.specs.declared.action.Action.{Action}
 use Rattle.cg_knowledge.specs.Verdict.{decides}
 use Rattle.cg_queue.specs.Queue.{names_of}
 use Rattle.cg_wire.specs.declared.message.Msg.{Msg}
 use Rattle.cg_wire.specs.declared.message.Msg.TheVariants.{Action as ActionMsg, State as StateMsg, GreenItem, RedItem, Cpc}
 use Rattle.cg_group.specs.declared.delivery.Delivery.{Delivery}
-use Rattle.cg_group.specs.declared.delivery.Delivery.TheVariants.{Message}
+use Rattle.cg_group.specs.declared.delivery.Delivery.TheVariants.{Message, Transitional as TransitionalIn}
 use Rattle.cg_group.specs.declared.phase.Phase.{Phase}
 use Rattle.cg_group.specs.declared.phase.Phase.TheVariants.{Regular}
 use Rattle.cg_group.specs.Events.{delivery_at, deliveries_at}
 use Rattle.cg_group.specs.Refusals.{sender_at}
-use Rattle.cg_group.specs.State.{Sent, phase_of, delivered_to}
-use Rattle.cg_client.specs.Replica.{State, RegPrim, TransPrim, Replica, created}
+use Rattle.cg_group.specs.State.{Sent, phase_of, delivered_to, Configuration}
+use Rattle.cg_client.specs.Replica.{State, RegPrim, TransPrim, Replica, created, Held, No, Un, NonPrim, Left, Construct}
 use Rattle.cg_client.specs.Requests.{is_creating}
 use Rattle.cg_client.specs.Turn.{Turn, begin, go_to}
 use Rattle.cg_client.specs.Marks.{is_unmade, mark_yellow}
-use Rattle.cg_step.specs.Step.{on_message, take as take_one}
+use Rattle.cg_step.specs.Step.{on_message, take as take_one, on_transitional}
 use Rattle.cg_agree.specs.World.{replica_of}
-use Rattle.cg_agree.specs.Chronicle.{Chronicle}
+use Rattle.cg_agree.specs.Chronicle.{Chronicle, Attempt}
 use Rattle.cg_agree.specs.Facts.{Invariant}
-use Rattle.cg_agree.specs.FactsReplica.{IsModeData, HasModeData, IsCore, cut_behind}
+use Rattle.cg_agree.specs.FactsReplica.{IsModeData, HasModeData, IsCore, cut_behind, is_attempting, is_primary}
 use Rattle.cg_agree.specs.FactsTalk.{handed_talk, count_behind, AreNumbered, AreNumberedAt, IsStateIn}
-use Rattle.cg_agree.specs.Looks.{greens_of, conf_of, members_in, ordered_in}
+use Rattle.cg_agree.specs.Looks.{greens_of, conf_of, members_in, ordered_in, said_in, attempt_of, received_by_all, is_regular_at}
 use Rattle.cg_agree.specs.Small.{take_all}
-use Rattle.cg_agree.specs.Smalls.{implies, ascend_within, hold_earlier}
-use Rattle.cg_agree.specs.Talk.{Talk, talk_of, hears_from, is_ended, is_announced as all_announced, may_go_on, may_say, act_in, action_in, state_in}
-use Rattle.cg_agree.specs.Total.{fits_red, IsPlaced, ArePlaced}
-use Rattle.cg_agree.proofs.ActsNext.{may-stand, talk-next, ended-next, heard-next, numbered-next}
+use Rattle.cg_agree.specs.Smalls.{implies, ascend_within, hold_earlier, hold_received}
+use Rattle.cg_agree.specs.Talk.{Talk, talk_of, hears_from, is_ended, is_announced as all_announced, may_go_on, may_say, act_in, action_in, state_in, announcer_in, is_full, is_through}
+use Rattle.cg_agree.specs.Total.{fits_red, IsUsedLeaving, AreTakenLeaving}
+use Rattle.cg_agree.proofs.ActsNext.{may-stand, talk-next, ended-next, heard-next, numbered-next, not-silent}
 use Rattle.cg_agree.proofs.DeadEvidenceKept.{running-core}
 use Rattle.cg_agree.proofs.DiskAhead.{left-own, made-by}
 use Rattle.cg_agree.proofs.HandMarks.{one_of, raised-next, counted-next, made-so}
@@ -46,8 +47,37 @@ use Rattle.cg_agree.proofs.HeldMarks.{IsOneself, rising-red}
 use Rattle.cg_agree.proofs.MessageThere.{message-made}
 use Rattle.cg_agree.proofs.RowYellow.{marks-yellow}
 use Rattle.cg_agree.proofs.RunFacts.{cut_behind-append}
-use Rattle.cg_agree.proofs.StatesSaid.{creating-ended, count-quiet}
-use Rattle.cg_agree.proofs.TalkEarly.{all-member}
+use Rattle.cg_agree.proofs.StatesSaid.{creating-ended, count-quiet, never, announcing}
+use Rattle.cg_agree.proofs.TalkEarly.{all-member, not_full, due_parts}
+use Rattle.cg_base.specs.SetLaws.{has-with_member}
+use Rattle.cg_knowledge.specs.Members.{senders, remaining}
+use Rattle.cg_plan.specs.declared.parts.Item.TheVariants.{Green, Red}
+use Rattle.cg_records.specs.declared.vulnerable.Vulnerable.{Vulnerable}
+use Rattle.cg_group.specs.Ready.{all_received}
+use Rattle.cg_client.specs.Install.{install}
+use Rattle.cg_construct.specs.Construct.{attempt_set, is_announced}
+use Rattle.cg_construct.specs.No.{no_with}
+use Rattle.cg_agree.specs.FactsNet.{IsPhase}
+use Rattle.cg_agree.specs.Fronts.{When}
+use Rattle.cg_agree.specs.Levels.{announced_at, lacks_announcement, is_installed}
+use Rattle.cg_agree.proofs.Announced.{announced-front, announced-within, announced-place}
+use Rattle.cg_agree.proofs.AttemptSteps.{attempting-now, act-shows, primary-announced}
+use Rattle.cg_agree.proofs.CreatesTalk.{grows-all}
+use Rattle.cg_agree.proofs.DeadKept.{received-one}
+use Rattle.cg_agree.proofs.EndCases.{take-short}
+use Rattle.cg_agree.proofs.FrontFacts.{Front-take}
+use Rattle.cg_agree.proofs.HandsNow.{whole-through}
+use Rattle.cg_agree.proofs.HeldAll.{installed_by}
+use Rattle.cg_agree.proofs.HeldMessages.{installed-all, installed-yellow}
+use Rattle.cg_agree.proofs.InstalledParts.{waits-for}
+use Rattle.cg_agree.proofs.LeavesTalk.{StandsAt, announced-there, covered}
+use Rattle.cg_agree.proofs.MarksFit.{can-install}
+use Rattle.cg_agree.proofs.PartingNo.{alone-kept, left-kept}
+use Rattle.cg_agree.proofs.Reach.{passes}
+use Rattle.cg_agree.proofs.ReachFacts.{all-from}
+use Rattle.cg_agree.proofs.ReachWorld.{when-is}
+use Rattle.cg_agree.proofs.TurnKinds.{installs-to}
+use Rattle.cg_agree.proofs.TurnValues.{even-mark_yellow}
 
 counted : (from n k : ℕ) → from ≤ k → k < from + n → has (count_up from n) k ≡ true
 counted from zero k le lt = absurd (omega arith)
@@ -69,12 +99,59 @@ ascends-above (y ∷ xs) low high x up there =
       | inr later ↦ (let more : y < x = ascends-above xs y high x a.1 later in omega (arith, lt, more))
     ]
 
-placed-append : (xs ys : List (Delivery Msg)) (t : Turn) → ArePlaced t xs → ArePlaced (take_all xs t) ys → ArePlaced t (xs ++ ys)
-placed-append [] ys t a b = b
-placed-append (x ∷ xs) ys t a b = (a.0, placed-append xs ys (take_one t x) a.1 b)
+taken-append : (xs ys : List (Delivery Msg)) (t : Turn) → AreTakenLeaving t xs → AreTakenLeaving (take_all xs t) ys → AreTakenLeaving t (xs ++ ys)
+taken-append [] ys t a b = b
+taken-append (x ∷ xs) ys t a b = (a.0, taken-append xs ys (take_one t x) a.1 b)
+
+-- ---- who passes over what comes
+
+-- where every message may come, and the state is kept
+module _ (P : Replica → Type 0) (C : Configuration Msg) (each : (from : ℕ) (m : Msg) (t : Turn) → P t.replica → IsUsedLeaving t.replica.state t from m × P (on_message t.replica.state from m t).replica) where
+  idle-place : (place : ℕ) (t : Turn) → P t.replica → AreTakenLeaving t (delivery_at C place) × P (take_all (delivery_at C place) t).replica
+  unfolding delivery_at take_one
+  idle-place place t is = at (at_place C.ordered place) where
+    at : (o : Option (Sent Msg)) → (let list = option_map_or (λ (s : Sent Msg). Message place s.from s.message ∷ []) o [] in AreTakenLeaving t list × P (take_all list t).replica)
+    at None = (tt, is)
+    at (Some s) = (let one = each s.from s.message t is in ((one.0, tt), one.1))
+
+  idle-places : (places : List ℕ) (t : Turn) → P t.replica → AreTakenLeaving t (deliveries_at C places)
+  idle-places [] t is = tt
+  idle-places (place ∷ places) t is =
+      let one = idle-place place t is in
+      taken-append (delivery_at C place) (deliveries_at C places) t one.0 (idle-places places (take_all (delivery_at C place) t) one.1)
+
+alone-taken : (C : Configuration Msg) (places : List ℕ) (t : Turn) → t.replica.state ≡ NonPrim false → AreTakenLeaving t (deliveries_at C places)
+alone-taken = λ C. idle-places (λ r. r.state ≡ NonPrim false) C (λ from m t e.
+    subst (λ x. IsUsedLeaving x t from m × ((on_message x from m t).replica.state ≡ NonPrim false)) (sym e) (tt, alone-kept from m t e))
+
+left-taken : (C : Configuration Msg) (places : List ℕ) (t : Turn) → t.replica.state ≡ Left → AreTakenLeaving t (deliveries_at C places)
+left-taken = λ C. idle-places (λ r. r.state ≡ Left) C (λ from m t e.
+    subst (λ x. IsUsedLeaving x t from m × ((on_message x from m t).replica.state ≡ Left)) (sym e) (tt, left-kept from m t e))
+
+-- ---- behind the end of a plan
+
+-- what is said there is an announcement or an action
+abbrev is_late : Msg → Bool
+is_late (Cpc id at) = true
+is_late (ActionMsg a) = true
+is_late _ = false
+
+late-alone : (set : List ℕ) (conf : ℕ) (t : Talk) (from : ℕ) (m : Msg) → may_say set conf t from m ≡ true → is_ended set t ≡ true → is_late m ≡ true
+late-alone set conf t from (Cpc id at) may ended = refl
+late-alone set conf t from (ActionMsg a) may ended = refl
+late-alone set conf t from (StateMsg s) may ended =
+    let a = and_parts ((has set from && (s.id == from)) && (s.conf == conf)) (not (has (senders t.heard) from)) may in
+    let b = and_parts (has set from && (s.id == from)) (s.conf == conf) a.0 in
+    let d = and_parts (has set from) (s.id == from) b.0 in
+    let few = not_full set t from d.0 (not-true (has (senders t.heard) from) a.1) in
+    absurd (let clash : true ≡ false = sym (and_parts (is_full set t) (is_through t) ended).0 ∙ few in cc)
+late-alone set conf t from (GreenItem place a) may ended =
+    absurd (let clash : true ≡ false = sym (and_parts (is_full set t) (is_through t) ended).1 ∙ (due_parts set t from (Green place) may).1 in cc)
+late-alone set conf t from (RedItem a) may ended =
+    absurd (let clash : true ≡ false = sym (and_parts (is_full set t) (is_through t) ended).1 ∙ (due_parts set t from (Red a.id) may).1 in cc)
 
 module _ (c : Chronicle) (i : Invariant c) (p conf : ℕ) (r : Replica) (up : replica_of c.world p ≡ Some r) (named : r.held.id ≡ p) (low : ℕ) (places : List ℕ)
-    (closed : hold_earlier (conf_of c conf) low places ≡ true) where
+    (closed : hold_earlier (conf_of c conf) low places ≡ true) (begun : is_ended (members_in c conf) (talk_of (take low (ordered_in c conf))) ≡ true) where
   abbrev list : List (Sent Msg)
   list = ordered_in c conf
 
@@ -153,163 +230,375 @@ module _ (c : Chronicle) (i : Invariant c) (p conf : ℕ) (r : Replica) (up : re
       let eq : (sender_at C (suc j) == sender_at C (suc n)) ≡ true = eq-eqb (sender_at C (suc j)) (sender_at C (suc n)) (ap from_of f ∙ same ∙ sym (ap from_of e)) in
       sym (ap (λ b. implies b (has places (suc j))) eq) ∙ one
 
+  ended-at : (j : ℕ) → low ≤ j → j ≤ length list → is_ended set (T j) ≡ true
+  ended-at j le most = subst (λ k. is_ended set (T k) ≡ true) (let e : low + (j - low) ≡ j = omega arith in e) (ended-from (j - low) low (omega arith) begun)
+
+  grown-to : (k n q : ℕ) → low ≤ k → k ≤ n → n ≤ length list → count_behind (T k) q ≤ count_behind (T n) q
+  grown-to k n q least le most =
+      subst (λ m. count_behind (T k) q ≤ count_behind (T m) q) (let e : k + (n - k) ≡ n = omega arith in e) (grown (n - k) k q (omega arith) (ended-at k least (omega arith)))
+
+  -- the summaries are those that were heard before
+  heard-at : (n : ℕ) → low ≤ n → n ≤ length list → (T n).heard ≡ (T low).heard
+  heard-at n le most = sym (whole-through c conf p n i.talk.talk_legal (ended-at n le most)).heard ∙ (whole-through c conf p low i.talk.talk_legal begun).heard
+
+  -- who has announced has
+  announced-from : (m n q : ℕ) → n + m ≤ length list → has (T n).announced q ≡ true → has (T (n + m)).announced q ≡ true
+  announced-from zero n q le is = subst (λ k. has (T k).announced q ≡ true) (let e : n ≡ n + 0 = omega arith in e) is
+  announced-from (suc m) n q le is =
+      let at = some-at list n (omega arith) in
+      subst (λ k. has (T k).announced q ≡ true) (let e : suc n + m ≡ n + suc m = omega arith in e)
+      (announced-from m (suc n) q (omega arith) (ap (λ (x : Talk). has x.announced q) (talk-next c conf n at.0 i.talk at.1) ∙ grows-all set conf p (at.0 ∷ []) (T n) q is))
+
+  announced-to : (k n q : ℕ) → k ≤ n → n ≤ length list → has (T k).announced q ≡ true → has (T n).announced q ≡ true
+  announced-to k n q le most is = subst (λ m. has (T m).announced q ≡ true) (let e : k + (n - k) ≡ n = omega arith in e) (announced-from (n - k) k q (omega arith) is)
+
   -- ---- behind the places that were handed
 
-  record HasMarked (k : ℕ) (t : Turn) : Type 0 where
-    state : t.replica.state ≡ TransPrim
-    is : IsOneself c.start t.replica.held (greens_of c p)
-    all_yellow : IsAllYellow t.replica.held
-    id : t.replica.held.id ≡ r.held.id
-    created : created t.replica.held ≡ created r.held
-    base : (q : ℕ) → count_behind (T low) q ≤ index_in t.replica.held.queue.red_cut q
-    upper : (q : ℕ) → index_in t.replica.held.queue.red_cut q ≤ count_behind (T k) q
-    lower : (j : ℕ) (s : Sent Msg) (b : Action) → low ≤ j → j < k → has places (suc j) ≡ true → slice_get list j ≡ Some s → s.message ≡ ActionMsg b →
-        b.id.index ≤ index_in t.replica.held.queue.red_cut b.id.creator
+  -- the own actions that were said are made
+  abbrev AreMade : Held → Type 0
+  AreMade h = (j : ℕ) (x : Sent Msg) (b : Action) → slice_get list j ≡ Some x → x.message ≡ ActionMsg b → b.id.creator ≡ h.id → b.id.index ≤ created h
 
-  module _ (begun : is_ended set (T low) ≡ true) (n : ℕ) (s : Sent Msg) (next : slice_get list n ≡ Some s) (inside : n < length list) (above : low ≤ n) (there : has places (suc n) ≡ true) where
-    ended-at : (j : ℕ) → low ≤ j → j ≤ n → is_ended set (T j) ≡ true
-    ended-at j le most = subst (λ k. is_ended set (T k) ≡ true) (let e : low + (j - low) ≡ j = omega arith in e) (ended-from (j - low) low (omega arith) begun)
+  record HasMarked (k : ℕ) (h : Held) : Type 0 where
+    all : List Action
+    is : IsOneself c.start h all
+    all_yellow : IsAllYellow h
+    made : AreMade h
+    base : (q : ℕ) → count_behind (T low) q ≤ index_in h.queue.red_cut q
+    upper : (q : ℕ) → index_in h.queue.red_cut q ≤ count_behind (T k) q
+    lower : (j : ℕ) (x : Sent Msg) (b : Action) → low ≤ j → j < k → has places (suc j) ≡ true → slice_get list j ≡ Some x → x.message ≡ ActionMsg b →
+        b.id.index ≤ index_in h.queue.red_cut b.id.creator
+
+  -- no action was handed
+  abbrev IsQuiet : ℕ → Type 0
+  IsQuiet k = (j : ℕ) (x : Sent Msg) (b : Action) → low ≤ j → j < k → has places (suc j) ≡ true → slice_get list j ≡ Some x → x.message ≡ ActionMsg b → ⊥
+
+  -- all that remain have announced the attempt
+  abbrev AllTold : ℕ → Type 0
+  AllTold k = (q : ℕ) → has (remaining (T low).heard) q ≡ true → has (T k).announced q ≡ true
+
+  -- these were heard, not all: those before, and those whose announcements were handed
+  record HasHeard (k : ℕ) (heard : List ℕ) : Type 0 where
+    few : is_within (attempt_set r.held) heard ≡ false
+    more : (q : ℕ) → has (T low).announced q ≡ true → has heard q ≡ true
+    inside : (q : ℕ) → has heard q ≡ true → has (T k).announced q ≡ true
+    came : (j : ℕ) (x : Sent Msg) → j < k → has places (suc j) ≡ true → slice_get list j ≡ Some x → is_some (announcer_in x.message) ≡ true → has heard x.from ≡ true
+
+  -- the attempt of a member that waits for announcements as it leaves
+  record IsCutShort : Type 0 where
+    a : Attempt
+    found : attempt_of c conf ≡ Some a
+    set_is : attempt_set r.held ≡ a.set
+    attempt : attempt_set r.held ≡ remaining (T low).heard
+    decided : decides (T low).heard ≡ true
+    red : (q : ℕ) → index_in r.held.queue.red_cut q ≡ count_behind (T low) q
+    oneself : IsOneself c.start r.held (greens_of c p)
+    silent : filter_map act_in (said_in c conf p) ≡ []
+    member : has set p ≡ true
+    received : (q : ℕ) → lacks_announcement c conf p q ≡ false → (at : StandsAt 0 list q) → (has (T low).announced q ≡ true) ⊎ (has places (suc at.index) ≡ true)
+
+  -- it waits for announcements, or it has them all and no action came, or it has installed its attempt
+  data InParting (k : ℕ) (t : Turn) : Type 0 where
+    Waits : (cut : IsCutShort) (heard : List ℕ) (state : t.replica.state ≡ No conf heard) (held : t.replica.held ≡ r.held) (so : HasHeard k heard) (quiet : IsQuiet k) → InParting k t
+    Knows : (cut : IsCutShort) (state : t.replica.state ≡ Un) (held : t.replica.held ≡ r.held) (told : AllTold k) (quiet : IsQuiet k) → InParting k t
+    Marks : (state : t.replica.state ≡ TransPrim) (told : AllTold k) (marked : HasMarked k t.replica.held) → InParting k t
+
+  -- ---- places that aren't handed
+
+  module _ (k n : ℕ) (least : low ≤ k) (behind : k ≤ n) (inside : n ≤ length list) (none : (j : ℕ) → k ≤ j → j < n → has places (suc j) ≡ true → ⊥) where
+    quiet-on : IsQuiet k → IsQuiet n
+    quiet-on quiet j x b le lt there e is = elim (cases_lt j k) [
+      | inl before ↦ quiet j x b le before there e is
+      | inr after ↦ none j after lt there
+    ]
+
+    told-on : AllTold k → AllTold n
+    told-on told q is = announced-to k n q behind inside (told q is)
+
+    heard-on : (heard : List ℕ) → HasHeard k heard → HasHeard n heard
+    heard-on heard so = record {
+      few = so.few;
+      more = so.more;
+      inside = λ q is. announced-to k n q behind inside (so.inside q is);
+      came = λ j x lt there e is. elim (cases_lt j k) [
+        | inl before ↦ so.came j x before there e is
+        | inr after ↦ absurd (none j after lt there)
+      ];
+    }
+
+    marked-on : (h : Held) → HasMarked k h → HasMarked n h
+    marked-on h old = record {
+      all = old.all;
+      is = old.is;
+      all_yellow = old.all_yellow;
+      made = old.made;
+      base = old.base;
+      upper = λ q. (let a = old.upper q in let b = grown-to k n q least behind inside in omega (arith, a, b));
+      lower = λ j x b le lt there e is. elim (cases_lt j k) [
+        | inl before ↦ old.lower j x b le before there e is
+        | inr after ↦ absurd (none j after lt there)
+      ];
+    }
+
+    parting-on : (t : Turn) → InParting k t → InParting n t
+    parting-on t (Waits cut heard state held so quiet) = Waits cut heard state held (heard-on heard so) (quiet-on quiet)
+    parting-on t (Knows cut state held told quiet) = Knows cut state held (told-on told) (quiet-on quiet)
+    parting-on t (Marks state told marked) = Marks state (told-on told) (marked-on t.replica.held marked)
+
+  -- ---- a place that is handed
+
+  module _ (n : ℕ) (s : Sent Msg) (next : slice_get list n ≡ Some s) (inside : n < length list) (above : low ≤ n) (there : has places (suc n) ≡ true) where
+    say : (m : Msg) → s.message ≡ m → may_say set conf (T n) s.from m ≡ true
+    say m is = subst (λ m. may_say set conf (T n) s.from m ≡ true) is (may-stand c conf n s i.talk next)
+
+    ended-here : is_ended set (T n) ≡ true
+    ended-here = ended-at n above (omega (arith, inside))
+
+    late : (m : Msg) → s.message ≡ m → is_late m ≡ true
+    late m is = late-alone set conf (T n) s.from m (say m is) ended-here
+
+    same-sent : (j : ℕ) (x : Sent Msg) → n ≤ j → j < suc n → slice_get list j ≡ Some x → s ≡ x
+    same-sent j x le lt e =
+        let here : n ≡ j = omega (arith, le, lt) in
+        let one : Some s ≡ Some x = sym next ∙ ap (slice_get list) here ∙ e in
+        ap (λ (o : Option (Sent Msg)). option_map_or (λ y. y) o s) one
+
+    told-next : AllTold n → AllTold (suc n)
+    told-next told q is = announced-to n (suc n) q (omega arith) (omega (arith, inside)) (told q is)
+
+    -- no action stands here
+    quiet-next : act_in s.message ≡ None → IsQuiet n → IsQuiet (suc n)
+    quiet-next none quiet j x b le lt has_place e is = elim (cases_lt j n) [
+      | inl before ↦ quiet j x b le before has_place e is
+      | inr after ↦
+          let one = same-sent j x after lt e in
+          let clash : None ≡ Some b = sym none ∙ ap (λ (y : Sent Msg). act_in y.message) one ∙ ap act_in is in cc
+    ]
 
     -- what its sender said before is known
-    reached : (t : Turn) → ((j : ℕ) (x : Sent Msg) (b : Action) → low ≤ j → j < n → has places (suc j) ≡ true → slice_get list j ≡ Some x → x.message ≡ ActionMsg b → b.id.index ≤ index_in t.replica.held.queue.red_cut b.id.creator) →
-        (count_behind (T low) s.from ≤ index_in t.replica.held.queue.red_cut s.from) → (m : ℕ) → low + m ≤ n → count_behind (T (low + m)) s.from ≤ index_in t.replica.held.queue.red_cut s.from
-    reached t lower base zero le = subst (λ k. count_behind (T k) s.from ≤ index_in t.replica.held.queue.red_cut s.from) (let e : low ≡ low + 0 = omega arith in e) base
-    reached t lower base (suc m) le =
+    reached : (h : Held) → HasMarked n h → (m : ℕ) → low + m ≤ n → count_behind (T (low + m)) s.from ≤ index_in h.queue.red_cut s.from
+    reached h has_it zero le = subst (λ k. count_behind (T k) s.from ≤ index_in h.queue.red_cut s.from) (let e : low ≡ low + 0 = omega arith in e) (has_it.base s.from)
+    reached h has_it (suc m) le =
         let j = low + m in
         let at = some-at list j (omega arith) in
-        let known = reached t lower base m (omega arith) in
-        subst (λ k. count_behind (T k) s.from ≤ index_in t.replica.held.queue.red_cut s.from) (let e : suc (low + m) ≡ low + suc m = omega arith in e)
+        let known = reached h has_it m (omega arith) in
+        subst (λ k. count_behind (T k) s.from ≤ index_in h.queue.red_cut s.from) (let e : suc (low + m) ≡ low + suc m = omega arith in e)
         (one j at.0 at.1 (omega arith) (omega arith) known (counts s.from j at.0 at.1 (ended-at j (omega arith) (omega arith)))) where
-          one : (j : ℕ) (x : Sent Msg) → slice_get list j ≡ Some x → low ≤ j → j < n → count_behind (T j) s.from ≤ index_in t.replica.held.queue.red_cut s.from → Counts s.from j x →
-              count_behind (T (suc j)) s.from ≤ index_in t.replica.held.queue.red_cut s.from
+          one : (j : ℕ) (x : Sent Msg) → slice_get list j ≡ Some x → low ≤ j → j < n → count_behind (T j) s.from ≤ index_in h.queue.red_cut s.from → Counts s.from j x →
+              count_behind (T (suc j)) s.from ≤ index_in h.queue.red_cut s.from
           one j x e le lt known (Same count) = omega (arith, known, count)
           one j x e le lt known (More b is mine count first) =
               let sender : x.from ≡ s.from = sym (creator-is j x b e is) ∙ mine in
-              let low' = lower j x b le lt (earlier-there n j s x next e le lt sender there) e is in
-              let here : b.id.index ≤ index_in t.replica.held.queue.red_cut s.from = subst (λ q. b.id.index ≤ index_in t.replica.held.queue.red_cut q) mine low' in
+              let low' = has_it.lower j x b le lt (earlier-there n j s x next e le lt sender there) e is in
+              let here : b.id.index ≤ index_in h.queue.red_cut s.from = subst (λ q. b.id.index ≤ index_in h.queue.red_cut q) mine low' in
               omega (arith, here, count)
 
-    module _ (k : ℕ) (t : Turn) (has_it : HasMarked k t) (behind : k ≤ n) (least : low ≤ k) (none : (j : ℕ) → k ≤ j → j < n → has places (suc j) ≡ true → ⊥) where
-      lower-now : (j : ℕ) (x : Sent Msg) (b : Action) → low ≤ j → j < n → has places (suc j) ≡ true → slice_get list j ≡ Some x → x.message ≡ ActionMsg b → b.id.index ≤ index_in t.replica.held.queue.red_cut b.id.creator
-      lower-now j x b le lt has_place e is = elim (cases_lt j k) [
-        | inl before ↦ has_it.lower j x b le before has_place e is
-        | inr after ↦ absurd (none j after lt has_place)
-      ]
+    module _ (a : Action) (is : s.message ≡ ActionMsg a) where
+      -- the action is the next of its creator
+      act-made : (h : Held) → HasMarked n h → is_unmade h a ≡ false
+      act-made h has_it = made-so h a (λ own. has_it.made n s a next is own)
 
-      upper-now : (q : ℕ) → index_in t.replica.held.queue.red_cut q ≤ count_behind (T n) q
-      upper-now q =
-          let old = has_it.upper q in
-          let more = grown (n - k) k q (omega arith) (ended-at k least behind) in
-          let same : count_behind (T (k + (n - k))) q ≡ count_behind (T n) q = ap (λ m. count_behind (T m) q) (let e : k + (n - k) ≡ n = omega arith in e) in
-          omega (arith, old, more, same)
+      act-index : (h : Held) → HasMarked n h → a.id.index ≡ suc (index_in h.queue.red_cut a.id.creator)
+      act-index h has_it =
+          let q = a.id.creator in
+          let mine = creator-is n s a next is in
+          let number = numbered-next c conf n s i.talk next a is in
+          let high = has_it.upper q in
+          let low' : count_behind (T (low + (n - low))) q ≤ index_in h.queue.red_cut q =
+          subst (λ x. count_behind (T (low + (n - low))) x ≤ index_in h.queue.red_cut x) (sym mine) (reached h has_it (n - low) (omega arith)) in
+          let same : count_behind (T (low + (n - low))) q ≡ count_behind (T n) q = ap (λ m. count_behind (T m) q) (let e : low + (n - low) ≡ n = omega arith in e) in
+          omega (arith, number, high, low', same)
 
-      -- a message without an action
-      quiet-marked : act_in s.message ≡ None → HasMarked (suc n) t
-      quiet-marked quiet = record {
-        state = has_it.state;
-        is = has_it.is;
-        all_yellow = has_it.all_yellow;
-        id = has_it.id;
-        created = has_it.created;
-        base = has_it.base;
-        upper = λ q. (let a = upper-now q in let b = grown 1 n q (omega arith) (ended-at n above (omega arith)) in
-            let same : count_behind (T (n + 1)) q ≡ count_behind (T (suc n)) q = ap (λ m. count_behind (T m) q) (let e : n + 1 ≡ suc n = omega arith in e) in omega (arith, a, b, same));
-        lower = λ j x b le lt has_place e is. elim (cases_lt j n) [
-          | inl before ↦ lower-now j x b le before has_place e is
-          | inr after ↦
-              let here : j ≡ n = omega (arith, lt, after) in
-              let one : Some s ≡ Some x = sym next ∙ ap (slice_get list) (sym here) ∙ e in
-              let act : act_in s.message ≡ Some b = ap (λ (o : Option (Sent Msg)). option_map_or (λ y. act_in y.message) o None) one ∙ ap act_in is in
-              absurd (let clash : None ≡ Some b = sym quiet ∙ act in cc)
-        ];
-      }
+      act-fits : (h : Held) → HasMarked n h → fits_red h a ≡ true
+      act-fits h has_it = next-red h a (act-index h has_it) (act-made h has_it)
 
-      module _ (a : Action) (is : s.message ≡ ActionMsg a) where
-        made : is_unmade t.replica.held a ≡ false
-        made =
-            let first = message-made c conf n p s a r.held i.replica.made_once next (ap action_in is) (running-core c p r up) named in
-            made-so t.replica.held a (λ own. subst (λ m. a.id.index ≤ m) (sym has_it.created) (made-by r.held a first (own ∙ has_it.id)))
+      act-marked : (t : Turn) → HasMarked n t.replica.held → HasMarked (suc n) (mark_yellow t a).replica.held
+      act-marked t has_it =
+          let h = t.replica.held in
+          let index = act-index h has_it in
+          let made = act-made h has_it in
+          let rising = rising-red c.start h has_it.all has_it.is in
+          let now = marks-yellow c.start has_it.all t a has_it.is has_it.all_yellow made index in
+          let left = left-own h.own h.queue.red_cut h.id h.own a.id rising has_it.is.contiguous.own has_it.is.contiguous.mine index (made-by h a made)
+          (sym (ap (λ n. drop n h.own) (no-less (length h.own))), (let same : length h.own ≤ length h.own = omega arith in same)) in
+          let red : (q : ℕ) → index_in (mark_yellow t a).replica.held.queue.red_cut q ≡ index_in h.queue.red_cut q + one_of a q =
+          λ q. ap (λ (x : Replica). index_in x.held.queue.red_cut q) now ∙ raised-next h.queue.red_cut a rising index q in
+          let created_is : created (mark_yellow t a).replica.held ≡ created h = ap (λ (x : Replica). created x.held) now ∙ left.made in
+          record {
+            all = has_it.all;
+            is = subst (λ (x : Replica). IsOneself c.start x.held has_it.all) (sym now) (yellow-oneself c.start h has_it.all has_it.is has_it.all_yellow a index);
+            all_yellow = subst (λ (x : Replica). IsAllYellow x.held) (sym now) (cut_behind-append h.queue.green_cut h.queue.yellow (a.id ∷ []) ∙ ap (λ cut. raise cut a.id) has_it.all_yellow);
+            made = λ j x b e of mine. subst (λ m. b.id.index ≤ m) (sym created_is) (has_it.made j x b e of (mine ∙ ap (λ (y : Replica). y.held.id) now));
+            base = λ q. (let old = has_it.base q in let e = red q in omega (arith, old, e));
+            upper = λ q. (let old = has_it.upper q in let e = red q in
+                let more : count_behind (T (suc n)) q ≡ count_behind (T n) q + one_of a q =
+                ap (λ (x : Talk). count_behind x q) (talk-next c conf n s i.talk next ∙ ap (hears_from (T n) s.from) is) ∙ counted-next (T n) a q in omega (arith, old, e, more));
+            lower = λ j x b le lt has_place e of. elim (cases_lt j n) [
+              | inl before ↦ (let old = has_it.lower j x b le before has_place e of in let f = red b.id.creator in omega (arith, old, f))
+              | inr after ↦
+                  let act : Some a ≡ Some b = sym (ap act_in is) ∙ ap (λ (y : Sent Msg). act_in y.message) (same-sent j x after lt e) ∙ ap act_in of in
+                  let same : a ≡ b = ap (λ (o : Option Action). option_map_or (λ y. y) o a) act in
+                  let f = red a.id.creator in
+                  let unit : one_of a a.id.creator ≡ 1 = cond-true (a.id.creator == a.id.creator) 1 0 (eq-eqb a.id.creator a.id.creator refl) in
+                  subst (λ (y : Action). y.id.index ≤ index_in (mark_yellow t a).replica.held.queue.red_cut y.id.creator) same (let g = index in omega (arith, f, unit, g))
+            ];
+          } where
+            no-less : (n : ℕ) → n - n ≡ 0
+            no-less n = omega arith
 
-        index : a.id.index ≡ suc (index_in t.replica.held.queue.red_cut a.id.creator)
-        index =
-            let q = a.id.creator in
-            let mine = creator-is n s a next is in
-            let number = numbered-next c conf n s i.talk next a is in
-            let high = upper-now q in
-            let low' : count_behind (T (low + (n - low))) q ≤ index_in t.replica.held.queue.red_cut q =
-            subst (λ x. count_behind (T (low + (n - low))) x ≤ index_in t.replica.held.queue.red_cut x) (sym mine) (reached t lower-now (has_it.base s.from) (n - low) (omega arith)) in
-            let same : count_behind (T (low + (n - low))) q ≡ count_behind (T n) q = ap (λ m. count_behind (T m) q) (let e : low + (n - low) ≡ n = omega arith in e) in
-            omega (arith, number, high, low', same)
+      -- ---- in No
 
-        act-fits : fits_red t.replica.held a ≡ true
-        act-fits = next-red t.replica.held a index made
+      -- it shows that somebody has installed the attempt; so its member has received the announcement of each member, all of which stand before it
+      announcement-there : (cut : IsCutShort) (q : ℕ) → has (remaining (T low).heard) q ≡ true → (lacks_announcement c conf p q ≡ false) × (0 < announced_at c conf q) × (announced_at c conf q ≤ n)
+      announcement-there cut q member =
+          let told = (and_parts ((a.id.creator == s.from) && may_go_on set (T n) s.from) (not (decides (T n).heard) || all_announced (T n)) (say (ActionMsg a) is)).1 in
+          let heard = heard-at n above (omega (arith, inside)) in
+          let all : all_announced (T n) ≡ true = sym (ap (λ b. not b || all_announced (T n)) (ap decides heard ∙ cut.decided)) ∙ told in
+          let announced = all-member (has (T n).announced) (remaining (T n).heard) q (ap (λ l. has (remaining l) q) heard ∙ member) all in
+          let place = announced-place (take n list) q announced in
+          let front = announced-front (take n list) list q (Front-take n list) place in
+          let within = announced-within (take n list) q in
+          let short = take-short n list in
+          let shows = act-shows c i conf cut.a cut.found (record { place = suc n; sent = s; found = next; act = ap (λ m. is_some (act_in m)) is }) in
+          let fact = i.attempt.installed_announced conf q (ap (λ (o : Option Attempt). option_map_or is_installed o false) cut.found ∙ shows) in
+          let both = when-is (has cut.a.set q) ((0 < announced_at c conf q) × (announced_at c conf q ≤ received_by_all c conf)) (ap (λ l. has l q) (sym cut.set_is ∙ cut.attempt) ∙ member)
+          (subst (λ (o : Option Attempt). IfSome o (λ a. When (has a.set q) ((0 < announced_at c conf q) × (announced_at c conf q ≤ received_by_all c conf)))) cut.found fact) in
+          let got = received-one (conf_of c conf) (announced_at c conf q) p (passes (all_received (conf_of c conf)) (length list) (announced_at c conf q) both.0 both.1) cut.member in
+          let some : (announced_at c conf q == 0) ≡ false = ne_eqb (announced_at c conf q) 0 (λ e. (let lt = both.0 in absurd (omega (arith, e, lt)))) in (
+            ap₂ (λ x y. x || not y) some got,
+            both.0,
+            omega (arith, front, place, within, short),
+          )
 
-        act-marked : HasMarked (suc n) (mark_yellow t a)
-        act-marked =
-            let h = t.replica.held in
-            let rising = rising-red c.start h (greens_of c p) has_it.is in
-            let now = marks-yellow c.start (greens_of c p) t a has_it.is has_it.all_yellow made index in
-            let left = left-own h.own h.queue.red_cut h.id h.own a.id rising has_it.is.contiguous.own has_it.is.contiguous.mine index (made-by h a made)
-            (sym (ap (λ n. drop n h.own) (no-less (length h.own))), (let same : length h.own ≤ length h.own = omega arith in same)) in
-            let red : (q : ℕ) → index_in (mark_yellow t a).replica.held.queue.red_cut q ≡ index_in h.queue.red_cut q + one_of a q =
-            λ q. ap (λ (x : Replica). index_in x.held.queue.red_cut q) now ∙ raised-next h.queue.red_cut a rising index q in
-            record {
-              state = ap (λ (x : Replica). x.state) now ∙ has_it.state;
-              is = subst (λ (x : Replica). IsOneself c.start x.held (greens_of c p)) (sym now) (yellow-oneself c.start h (greens_of c p) has_it.is has_it.all_yellow a index);
-              all_yellow = subst (λ (x : Replica). IsAllYellow x.held) (sym now) (cut_behind-append h.queue.green_cut h.queue.yellow (a.id ∷ []) ∙ ap (λ cut. raise cut a.id) has_it.all_yellow);
-              id = ap (λ (x : Replica). x.held.id) now ∙ has_it.id;
-              created = ap (λ (x : Replica). created x.held) now ∙ left.made ∙ has_it.created;
-              base = λ q. (let old = has_it.base q in let e = red q in omega (arith, old, e));
-              upper = λ q. (let old = upper-now q in let e = red q in
-                  let more : count_behind (T (suc n)) q ≡ count_behind (T n) q + one_of a q =
-                  ap (λ (x : Talk). count_behind x q) (talk-next c conf n s i.talk next ∙ ap (hears_from (T n) s.from) is) ∙ counted-next (T n) a q in omega (arith, old, e, more));
-              lower = λ j x b le lt has_place e of. elim (cases_lt j n) [
-                | inl before ↦ (let old = lower-now j x b le before has_place e of in let f = red b.id.creator in omega (arith, old, f))
-                | inr after ↦
-                    let here : j ≡ n = omega (arith, lt, after) in
-                    let one : Some s ≡ Some x = sym next ∙ ap (slice_get list) (sym here) ∙ e in
-                    let act : Some a ≡ Some b = sym (ap act_in is) ∙ ap (λ (o : Option (Sent Msg)). option_map_or (λ y. act_in y.message) o None) one ∙ ap act_in of in
-                    let same : a ≡ b = ap (λ (o : Option Action). option_map_or (λ y. y) o a) act in
-                    let f = red a.id.creator in
-                    let unit : one_of a a.id.creator ≡ 1 = cond-true (a.id.creator == a.id.creator) 1 0 (eq-eqb a.id.creator a.id.creator refl) in
-                    subst (λ (y : Action). y.id.index ≤ index_in (mark_yellow t a).replica.held.queue.red_cut y.id.creator) same (let g = index in omega (arith, f, unit, g))
-              ];
-            } where
-              no-less : (n : ℕ) → n - n ≡ 0
-              no-less n = omega arith
+      all-heard : (cut : IsCutShort) (heard : List ℕ) → HasHeard n heard → is_within (attempt_set r.held) heard ≡ true
+      all-heard cut heard so = all-from (has heard) (attempt_set r.held) (λ q member. one q (announcement-there cut q (ap (λ l. has l q) (sym cut.attempt) ∙ member)) (announced-there 0 list q)) where
+        one : (q : ℕ) → (lacks_announcement c conf p q ≡ false) × (0 < announced_at c conf q) × (announced_at c conf q ≤ n) → (announced_at c conf q ≡ 0) ⊎ StandsAt 0 list q → has heard q ≡ true
+        one q found (inl none) = absurd (let lt = found.1 in omega (arith, none, lt))
+        one q found (inr at) =
+            let lt : at.index < n = (let e = at.place in let le = found.2 in omega (arith, e, le)) in
+            ⊎_elim (λ before. so.more q before) (λ now. subst (λ x. has heard x ≡ true) at.from (so.came at.index at.sent lt now at.found at.announces)) (cut.received q found.0 at)
 
-      -- one message
-      message-placed : (m : Msg) → s.message ≡ m → IsPlaced t (Message (suc n) s.from m) × HasMarked (suc n) (on_message TransPrim s.from m t)
-      unfolding on_message
-      message-placed (ActionMsg a) is = (act-fits a is, act-marked a is)
-      message-placed (StateMsg x) is = (tt, quiet-marked (ap act_in is))
-      message-placed (GreenItem place a) is = (tt, quiet-marked (ap act_in is))
-      message-placed (RedItem a) is = (tt, quiet-marked (ap act_in is))
-      message-placed (Cpc x at) is = (tt, quiet-marked (ap act_in is))
+    abbrev Result : State → Turn → Msg → Type 0
+    Result state t m = IsUsedLeaving state t s.from m × InParting (suc n) (on_message state s.from m t)
 
-      place-placed : ArePlaced t (delivery_at (conf_of c conf) (suc n)) × HasMarked (suc n) (take_all (delivery_at (conf_of c conf) (suc n)) t)
-      unfolding delivery_at take_one
-      place-placed =
-          let one = message-placed s.message refl in
-          subst (λ (o : Option (Sent Msg)). (let list = option_map_or (λ (s : Sent Msg). Message (suc n) s.from s.message ∷ []) o [] in ArePlaced t list × HasMarked (suc n) (take_all list t))) (sym next)
-          ((one.0, tt), subst (λ (x : State). HasMarked (suc n) (on_message x s.from s.message t)) (sym has_it.state) one.1)
+    -- who announces hasn't done so before
+    announces : (id at : ℕ) → s.message ≡ Cpc id at → (((id == s.from) && (at == conf)) ≡ true) × (has (remaining (T low).heard) s.from ≡ true) × (has (T n).announced s.from ≡ false)
+    announces id at is =
+        let one = and_parts ((((id == s.from) && (at == conf)) && may_go_on set (T n) s.from) && decides (T n).heard) (not (has (T n).announced s.from)) (say (Cpc id at) is) in
+        let two = and_parts (((id == s.from) && (at == conf)) && may_go_on set (T n) s.from) (decides (T n).heard) one.0 in
+        let three = and_parts ((id == s.from) && (at == conf)) (may_go_on set (T n) s.from) two.0 in
+        let stays = (and_parts (is_ended set (T n)) (has (remaining (T n).heard) s.from) three.1).1 in
+        (three.0, ap (λ l. has (remaining l) s.from) (sym (heard-at n above (omega (arith, inside)))) ∙ stays, not-true (has (T n).announced s.from) one.1)
+
+    none-left : {P : Type 0} → AllTold n → (id at : ℕ) → s.message ≡ Cpc id at → P
+    none-left told id at is = absurd (let a = announces id at is in let clash : true ≡ false = sym (told s.from a.1) ∙ a.2 in cc)
+
+    no-used : (t : Turn) (cut : IsCutShort) (heard : List ℕ) → t.replica.state ≡ No conf heard → t.replica.held ≡ r.held → HasHeard n heard → IsQuiet n → (m : Msg) → s.message ≡ m → Result (No conf heard) t m
+    unfolding on_message
+    no-used t cut heard state held so quiet (ActionMsg a) is = absurd (let clash : true ≡ false = sym (all-heard a is cut heard so) ∙ so.few in cc)
+    no-used t cut heard state held so quiet (StateMsg x) is = absurd (let clash : false ≡ true = late (StateMsg x) is in cc)
+    no-used t cut heard state held so quiet (GreenItem place a) is = absurd (let clash : false ≡ true = late (GreenItem place a) is in cc)
+    no-used t cut heard state held so quiet (RedItem a) is = absurd (let clash : false ≡ true = late (RedItem a) is in cc)
+    no-used t cut heard state held so quiet (Cpc id at) is =
+        let says = announces id at is in
+        let more = with_member heard s.from in
+        let counts : is_announced t.replica.held conf s.from id at ≡ true =
+        and_from ((id == s.from) && (at == conf)) (has (attempt_set t.replica.held) s.from) says.0 (ap (λ h. has (attempt_set h) s.from) held ∙ ap (λ l. has l s.from) cut.attempt ∙ says.1) in
+        let still = quiet-next (ap act_in is) quiet in (
+          counts,
+          subst (InParting (suc n)) (sym (cond-true (is_announced t.replica.held conf s.from id at) (no_with t conf more) t counts))
+              (cond_both (is_within (attempt_set t.replica.held) more) (go_to t Un) (go_to t (No conf more)) (InParting (suc n))
+              (λ y. Knows cut refl held (λ q member. inside-next q (all-member (has more) (attempt_set t.replica.held) q (ap (λ h. has (attempt_set h) q) held ∙ ap (λ l. has l q) cut.attempt ∙ member) y)) still)
+              (λ no'. Waits cut more refl held (record {
+                few = ap (λ h. is_within (attempt_set h) more) (sym held) ∙ no';
+                more = λ q before. has-with_member heard s.from q ∙ or_left (has heard q) (s.from == q) (so.more q before);
+                inside = inside-next;
+                came = came-next;
+              }) still)),
+        ) where
+          inside-next : (q : ℕ) → has (with_member heard s.from) q ≡ true → has (T (suc n)).announced q ≡ true
+          inside-next q there' = elim (or_cases (has heard q) (s.from == q) (sym (has-with_member heard s.from q) ∙ there')) [
+            | inl before ↦ announced-to n (suc n) q (omega arith) (omega (arith, inside)) (so.inside q before)
+            | inr now ↦ ap (λ (x : Talk). has x.announced q) (talk-next c conf n s i.talk next ∙ ap (hears_from (T n) s.from) is)
+                ∙ has-with_member (T n).announced s.from q ∙ or_right (has (T n).announced q) (s.from == q) now
+          ]
+
+          came-next : (j : ℕ) (x : Sent Msg) → j < suc n → has places (suc j) ≡ true → slice_get list j ≡ Some x → is_some (announcer_in x.message) ≡ true → has (with_member heard s.from) x.from ≡ true
+          came-next j x lt has_place e announces' = elim (cases_lt j n) [
+            | inl before ↦ has-with_member heard s.from x.from ∙ or_left (has heard x.from) (s.from == x.from) (so.came j x before has_place e announces')
+            | inr after ↦ has-with_member heard s.from x.from ∙ or_right (has heard x.from) (s.from == x.from) (eq-eqb s.from x.from (ap (λ (y : Sent Msg). y.from) (same-sent j x after lt e)))
+          ]
+
+    -- ---- in Un
+
+    -- behind the installation nothing is marked yet
+    installed-marked : (t : Turn) (cut : IsCutShort) → t.replica.state ≡ Un → t.replica.held ≡ r.held → IsQuiet n → HasMarked n (install t).replica.held
+    installed-marked t cut state held quiet =
+        let own : IsOneself c.start t.replica.held (greens_of c p) = subst (λ (h : Held). IsOneself c.start h (greens_of c p)) (sym held) cut.oneself in
+        let done = installed-all c.start (greens_of c p) t own in
+        let mine : (install t).replica.held.id ≡ p = (installs-to t TransPrim (ap is_attempting state) refl).id ∙ ap (λ (h : Held). h.id) held ∙ named in
+        let red : (q : ℕ) → index_in (install t).replica.held.queue.red_cut q ≡ count_behind (T low) q = λ q. ap (λ cut. index_in cut q) (done.red_cut ∙ ap (λ (h : Held). h.queue.red_cut) held) ∙ cut.red q in
+        record {
+          all = greens_of c p ++ installed_by t.replica.held;
+          is = done.is;
+          all_yellow = installed-yellow c.start (greens_of c p) t own;
+          made = λ j x b e of own'. absurd (not-silent c conf j x i.talk e b of p cut.silent (own' ∙ mine));
+          base = λ q. (let e = red q in omega (arith, e));
+          upper = λ q. (let e = red q in let up' = grown-to low n q (omega arith) above (omega (arith, inside)) in omega (arith, e, up'));
+          lower = λ j x b le lt has_place e of. absurd (quiet j x b le lt has_place e of);
+        }
+
+    un-used : (t : Turn) (cut : IsCutShort) → t.replica.state ≡ Un → t.replica.held ≡ r.held → AllTold n → IsQuiet n → (m : Msg) → s.message ≡ m → Result Un t m
+    unfolding on_message
+    un-used t cut state held told quiet (ActionMsg a) is =
+        let own : IsOneself c.start t.replica.held (greens_of c p) = subst (λ (h : Held). IsOneself c.start h (greens_of c p)) (sym held) cut.oneself in
+        let behind = installed-marked t cut state held quiet in
+        ((can-install c.start (greens_of c p) t own, act-fits a is (install t).replica.held behind), Marks refl (told-next told) (act-marked a is (install t) behind))
+    un-used t cut state held told quiet (StateMsg x) is = absurd (let clash : false ≡ true = late (StateMsg x) is in cc)
+    un-used t cut state held told quiet (GreenItem place a) is = absurd (let clash : false ≡ true = late (GreenItem place a) is in cc)
+    un-used t cut state held told quiet (RedItem a) is = absurd (let clash : false ≡ true = late (RedItem a) is in cc)
+    un-used t cut state held told quiet (Cpc id at) is = none-left told id at is
+
+    -- ---- in TransPrim
+
+    trans-used : (t : Turn) → t.replica.state ≡ TransPrim → AllTold n → HasMarked n t.replica.held → (m : Msg) → s.message ≡ m → Result TransPrim t m
+    unfolding on_message
+    trans-used t state told marked (ActionMsg a) is =
+        (act-fits a is t.replica.held marked, Marks ((even-mark_yellow t a).state ∙ state) (told-next told) (act-marked a is t marked))
+    trans-used t state told marked (StateMsg x) is = absurd (let clash : false ≡ true = late (StateMsg x) is in cc)
+    trans-used t state told marked (GreenItem place a) is = absurd (let clash : false ≡ true = late (GreenItem place a) is in cc)
+    trans-used t state told marked (RedItem a) is = absurd (let clash : false ≡ true = late (RedItem a) is in cc)
+    trans-used t state told marked (Cpc id at) is = none-left told id at is
+
+    -- one message
+    message-used : (t : Turn) → InParting n t → Result t.replica.state t s.message
+    message-used t (Waits cut heard state held so quiet) = subst (λ x. Result x t s.message) (sym state) (no-used t cut heard state held so quiet s.message refl)
+    message-used t (Knows cut state held told quiet) = subst (λ x. Result x t s.message) (sym state) (un-used t cut state held told quiet s.message refl)
+    message-used t (Marks state told marked) = subst (λ x. Result x t s.message) (sym state) (trans-used t state told marked s.message refl)
+
+    place-used : (t : Turn) → InParting n t → AreTakenLeaving t (delivery_at (conf_of c conf) (suc n)) × InParting (suc n) (take_all (delivery_at (conf_of c conf) (suc n)) t)
+    unfolding delivery_at take_one
+    place-used t is =
+        let one = message-used t is in
+        subst (λ (o : Option (Sent Msg)). (let list = option_map_or (λ (s : Sent Msg). Message (suc n) s.from s.message ∷ []) o [] in AreTakenLeaving t list × InParting (suc n) (take_all list t))) (sym next)
+        ((one.0, tt), one.1)
 
   -- all places
-  places-placed : is_ended set (T low) ≡ true → (rest : List ℕ) (k : ℕ) (t : Turn) → HasMarked k t → low ≤ k → ascend_within k (length list) rest ≡ true →
-      ((x : ℕ) → k < x → has places x ≡ true → has rest x ≡ true) → ((x : ℕ) → has rest x ≡ true → has places x ≡ true) → ArePlaced t (deliveries_at (conf_of c conf) rest)
-  places-placed begun [] k t has_it least up later inside = tt
-  places-placed begun (zero ∷ rest) k t has_it least up later inside =
+  places-used : (rest : List ℕ) (k : ℕ) (t : Turn) → InParting k t → low ≤ k → ascend_within k (length list) rest ≡ true →
+      ((x : ℕ) → k < x → has places x ≡ true → has rest x ≡ true) → ((x : ℕ) → has rest x ≡ true → has places x ≡ true) → AreTakenLeaving t (deliveries_at (conf_of c conf) rest)
+  places-used [] k t has_it least up later inside = tt
+  places-used (zero ∷ rest) k t has_it least up later inside =
       absurd (let lt : k < 0 = ltb-true k 0 (and_parts (nat_lt k 0) (nat_le 0 (length list)) (and_parts (nat_lt k 0 && nat_le 0 (length list)) (ascend_within 0 (length list) rest) up).0).0 in omega (arith, lt))
-  places-placed begun (suc n ∷ rest) k t has_it least up later inside =
+  places-used (suc n ∷ rest) k t has_it least up later inside =
       let a = and_parts (nat_lt k (suc n) && nat_le (suc n) (length list)) (ascend_within (suc n) (length list) rest) up in
       let b = and_parts (nat_lt k (suc n)) (nat_le (suc n) (length list)) a.0 in
       let lt : k < suc n = ltb-true k (suc n) b.0 in
       let le : suc n ≤ length list = leb-true (suc n) (length list) b.1 in
       let at = some-at list n (omega (arith, le)) in
       let none : (j : ℕ) → k ≤ j → j < n → has places (suc j) ≡ true → ⊥ = λ j low' high there. apart j high (or_cases (suc n == suc j) (has rest (suc j)) (later (suc j) (omega (arith, low')) there)) a.1 in
-      let one = place-placed begun n at.0 at.1 (omega (arith, le)) (omega (arith, lt, least)) (inside (suc n) (or_left (suc n == suc n) (has rest (suc n)) (eq-eqb (suc n) (suc n) refl))) k t has_it (omega (arith, lt)) least none in
-      placed-append (delivery_at (conf_of c conf) (suc n)) (deliveries_at (conf_of c conf) rest) t one.0
-      (places-placed begun rest (suc n) (take_all (delivery_at (conf_of c conf) (suc n)) t) one.1 (omega (arith, lt, least)) a.1
+      let one = place-used n at.0 at.1 (omega (arith, le)) (omega (arith, lt, least)) (inside (suc n) (or_left (suc n == suc n) (has rest (suc n)) (eq-eqb (suc n) (suc n) refl))) t
+      (parting-on k n least (omega (arith, lt)) (omega (arith, le)) none t has_it) in
+      taken-append (delivery_at (conf_of c conf) (suc n)) (deliveries_at (conf_of c conf) rest) t one.0
+      (places-used rest (suc n) (take_all (delivery_at (conf_of c conf) (suc n)) t) one.1 (omega (arith, lt, least)) a.1
       (λ x high there. behind x high (or_cases (suc n == x) (has rest x) (later x (omega (arith, lt, high)) there)))
       (λ x there. inside x (or_right (suc n == x) (has rest x) there))) where
         apart : (j : ℕ) → j < n → ((suc n == suc j) ≡ true) ⊎ (has rest (suc j) ≡ true) → ascend_within (suc n) (length list) rest ≡ true → ⊥
@@ -322,43 +611,99 @@ module _ (c : Chronicle) (i : Invariant c) (p conf : ℕ) (r : Replica) (up : re
 
 -- ---- who leaves
 
-module _ (c : Chronicle) (i : Invariant c) (p : ℕ) (r : Replica) (conf : ℕ) (up : replica_of c.world p ≡ Some r) (phase : phase_of c.world.group p ≡ Regular conf) (state : r.state ≡ RegPrim) where
+module _ (c : Chronicle) (i : Invariant c) (p : ℕ) (r : Replica) (conf : ℕ) (up : replica_of c.world p ≡ Some r) (phase : phase_of c.world.group p ≡ Regular conf) (places : List ℕ)
+    (closed : hold_earlier (conf_of c conf) (delivered_to c.world.group p) places ≡ true) (ascends : ascend_within (delivered_to c.world.group p) (length (ordered_in c conf)) places ≡ true)
+    (holds : hold_received (conf_of c conf) p (delivered_to c.world.group p) places ≡ true) where
+  abbrev X : Talk
+  X = handed_talk c conf p
+
+  abbrev low : ℕ
+  low = delivered_to c.world.group p
+
   mode : IsModeData c p r
   mode = subst (λ (o : Option Replica). IfSome o (IsModeData c p)) up (i.replica.mode_data p)
-
-  data_of : HasModeData c r.held (Regular conf) RegPrim
-  data_of = subst (λ (s : State). HasModeData c r.held (Regular conf) s) state (subst (λ (x : Phase). HasModeData c r.held x r.state) phase mode.data_of)
 
   core : IsCore c r.held (greens_of c p)
   core = subst (λ (o : Option Replica). IfSome o (λ r. IsCore c r.held (greens_of c p))) up (i.replica.cores.memory p)
 
-  numbers : AreNumbered c conf p r.held RegPrim
-  numbers =
-      subst (AreNumbered c conf p r.held) state
-      (subst (λ (x : Phase). AreNumberedAt c p x r) phase (subst (λ (o : Option Replica). IfSome o (AreNumberedAt c p (phase_of c.world.group p))) up (i.talk.acts_numbered.handed p)))
+  oneself : IsOneself c.start r.held (greens_of c p)
+  oneself = record { made_of = core.made_of; contiguous = core.contiguous; yellow_closed = core.yellow_closed }
 
-  is-state : r.state ≡ state_in (members_in c conf) conf (handed_talk c conf p) p
+  is-state : r.state ≡ state_in (members_in c conf) conf X p
   is-state = subst (λ (x : Phase). IsStateIn c p x r) phase (subst (λ (o : Option Replica). IfSome o (IsStateIn c p (phase_of c.world.group p))) up (i.talk.mode_fits p))
 
-  green-red : r.held.queue.green_cut ≡ r.held.queue.red_cut
-  green-red = sym (core.made_of.red_cut ∙ ap (λ xs. cut_behind r.held.queue.green_cut (names_of xs)) data_of.1)
+  data-of : (st : State) → r.state ≡ st → HasModeData c r.held (Regular conf) st
+  data-of st is = subst (λ (s : State). HasModeData c r.held (Regular conf) s) is (subst (λ (x : Phase). HasModeData c r.held x r.state) phase mode.data_of)
 
-  red-is : (q : ℕ) → index_in r.held.queue.red_cut q ≡ count_behind (handed_talk c conf p) q
-  red-is q = ap (λ cut. index_in cut q) (sym green-red) ∙ numbers.0 q
+  numbers : (st : State) → r.state ≡ st → AreNumbered c conf p r.held st
+  numbers st is =
+      subst (AreNumbered c conf p r.held) is
+      (subst (λ (x : Phase). AreNumberedAt c p x r) phase (subst (λ (o : Option Replica). IfSome o (AreNumberedAt c p (phase_of c.world.group p))) up (i.talk.acts_numbered.handed p)))
 
-  -- The actions of its parting are placed.
-  pub parting-placed : (places : List ℕ) → hold_earlier (conf_of c conf) (delivered_to c.world.group p) places ≡ true → ascend_within (delivered_to c.world.group p) (length (ordered_in c conf)) places ≡ true →
-      ArePlaced (go_to (begin r) TransPrim) (deliveries_at (conf_of c conf) places)
-  parting-placed places closed ascends =
-      let low = delivered_to c.world.group p in
-      places-placed c i p conf r up mode.id low places closed (creating-ended (members_in c conf) conf (handed_talk c conf p) p (ap is_creating (sym is-state ∙ state))) places low (go_to (begin r) TransPrim)
-      (record {
-        state = refl;
-        is = record { made_of = core.made_of; contiguous = core.contiguous; yellow_closed = core.yellow_closed };
-        all_yellow = ap (cut_behind r.held.queue.green_cut) data_of.2 ∙ green-red;
-        id = refl;
-        created = refl;
-        base = λ q. (let e = red-is q in omega (arith, e));
-        upper = λ q. (let e = red-is q in omega (arith, e));
+  abbrev given : List (Delivery Msg)
+  given = deliveries_at (conf_of c conf) places
+
+  -- a primary component
+  from-primary : r.state ≡ RegPrim → AreTakenLeaving (go_to (begin r) TransPrim) given
+  from-primary state =
+      let d = data-of RegPrim state in
+      let green_red : r.held.queue.green_cut ≡ r.held.queue.red_cut = sym (core.made_of.red_cut ∙ ap (λ xs. cut_behind r.held.queue.green_cut (names_of xs)) d.1) in
+      let red : (q : ℕ) → index_in r.held.queue.red_cut q ≡ count_behind X q = λ q. ap (λ cut. index_in cut q) (sym green_red) ∙ (numbers RegPrim state).0 q in
+      let all = primary-announced (members_in c conf) conf X p (ap is_primary (sym is-state ∙ state)) in
+      let begun = creating-ended (members_in c conf) conf X p (ap is_creating (sym is-state ∙ state)) in
+      places-used c i p conf r up mode.id low places closed begun places low (go_to (begin r) TransPrim)
+      (Marks refl (λ q member. all-member (has X.announced) (remaining X.heard) q member all) (record {
+        all = greens_of c p;
+        is = oneself;
+        all_yellow = ap (cut_behind r.held.queue.green_cut) d.2 ∙ green_red;
+        made = λ j s b e is own. made-by r.held b (message-made c conf j p s b r.held i.replica.made_once e (ap action_in is) (running-core c p r up) mode.id) own;
+        base = λ q. (let e = red q in omega (arith, e));
+        upper = λ q. (let e = red q in omega (arith, e));
         lower = λ j s b le lt there e is. absurd (omega (arith, le, lt));
-      }) (omega arith) ascends (λ x high there. there) (λ x there. there)
+      })) (omega arith) ascends (λ x high there. there) (λ x there. there)
+
+  -- an attempt that is cut short
+  from-attempt : r.state ≡ Construct conf X.announced → AreTakenLeaving (go_to (begin r) (No conf X.announced)) given
+  from-attempt state =
+      let set = members_in c conf in
+      let now = attempting-now c i p conf r phase up (ap is_attempting state) in
+      let said = announcing set conf X p conf X.announced (sym is-state ∙ state) in
+      let set_is : attempt_set r.held ≡ now.a.set = ap (λ v. option_map_or (λ (x : Vulnerable). x.set) v []) now.mine in
+      let attempt : attempt_set r.held ≡ remaining X.heard = set_is ∙ now.shape.parts.set ∙ ap remaining (whole-through c conf p low i.talk.talk_legal said.ended).heard in
+      let cut : IsCutShort c i p conf r up mode.id low places closed said.ended = record {
+        a = now.a;
+        found = now.found;
+        set_is = set_is;
+        attempt = attempt;
+        decided = said.decided;
+        red = numbers (Construct conf X.announced) state;
+        oneself = oneself;
+        silent = (i.talk.sent_iff_due conf p (ap (is_regular_at conf) phase ∙ eq-eqb conf conf refl)).actions (ap is_creating (sym is-state ∙ state));
+        member = (subst (IsPhase c p low) phase (i.net.phase_sound.phase p)).0;
+        received = covered c p conf r places (record { regular = phase; holds = holds; state = is-state; attempt = λ ended stays decided. attempt }) i.talk.talk_legal;
+      } in
+      places-used c i p conf r up mode.id low places closed said.ended places low (go_to (begin r) (No conf X.announced))
+      (Waits cut X.announced refl refl (record {
+        few = ap (λ l. is_within l X.announced) attempt ∙ said.few;
+        more = λ q is. is;
+        inside = λ q is. is;
+        came = λ j x lt there e is. absurd (let more = ascends-above places low (length (ordered_in c conf)) (suc j) ascends there in omega (arith, lt, more));
+      }) (λ j x b le lt there e is. absurd (omega (arith, le, lt)))) (omega arith) ascends (λ x high there. there) (λ x there. there)
+
+  -- What comes in its parting is used, and can be placed.
+  pub leaving-taken : (at : ℕ) (others : List ℕ) → AreTakenLeaving (begin r) (TransitionalIn at others ∷ given)
+  unfolding take_one on_transitional
+  leaving-taken at others = (
+    tt,
+    subst (λ st. AreTakenLeaving (on_transitional st (begin r)) given) (sym is-state)
+        (never (members_in c conf) conf X p (λ st. r.state ≡ st → AreTakenLeaving (on_transitional st (begin r)) given)
+        (λ k s x e. alone-taken (conf_of c conf) places (go_to (begin r) (NonPrim false)) refl)
+        (λ k x n e. alone-taken (conf_of c conf) places (go_to (begin r) (NonPrim false)) refl)
+        (λ e. left-taken (conf_of c conf) places (begin r) e)
+        (λ e. alone-taken (conf_of c conf) places (go_to (begin r) (NonPrim false)) refl)
+        (λ e. from-primary e)
+        (λ k s e.
+        let waits = is-state ∙ waits-for (members_in c conf) conf X p (ap is_attempting (sym is-state ∙ e)) in
+        subst (λ st. AreTakenLeaving (on_transitional st (begin r)) given) (sym waits ∙ e) (from-attempt waits))
+        is-state),
+  )

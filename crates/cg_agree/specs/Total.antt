@@ -17,13 +17,13 @@ use Rattle.cg_plan.specs.Progress.{is_done, turn_of}
 use Rattle.cg_wire.specs.declared.message.Msg.{Msg}
 use Rattle.cg_wire.specs.declared.message.Msg.TheVariants.{Action as ActionMsg, State as StateMsg, GreenItem, RedItem, Cpc}
 use Rattle.cg_group.specs.declared.delivery.Delivery.{Delivery}
-use Rattle.cg_group.specs.declared.delivery.Delivery.TheVariants.{Message}
+use Rattle.cg_group.specs.declared.delivery.Delivery.TheVariants.{Message, Transitional as TransitionalIn}
 use Rattle.cg_group.specs.Events.{deliveries_at}
-use Rattle.cg_group.specs.State.{Sent, configuration, home, delivered_to}
-use Rattle.cg_client.specs.Replica.{Held, State, RegPrim, TransPrim, ExchangeStates, ExchangeActions, Construct, NonPrim, Left}
-use Rattle.cg_client.specs.Turn.{Turn, begin, go_to}
+use Rattle.cg_group.specs.State.{Sent, configuration, home, delivered_to, phase_of, regular_in}
+use Rattle.cg_client.specs.Replica.{Held, State, RegPrim, TransPrim, ExchangeStates, ExchangeActions, Construct, No, Un, NonPrim, Left}
+use Rattle.cg_client.specs.Turn.{Turn, begin}
 use Rattle.cg_client.specs.Marks.{is_unmade, can_be_green, mark_green}
-use Rattle.cg_client.specs.Install.{valid_yellow, yellow_green}
+use Rattle.cg_client.specs.Install.{valid_yellow, yellow_green, install}
 use Rattle.cg_exchange.specs.ExchangeActions.{message_of, progress, is_next, take_item}
 use Rattle.cg_exchange.specs.ExchangeStates.{is_usable}
 use Rattle.cg_exchange.specs.PlanEnd.{usable_names}
@@ -119,32 +119,39 @@ IsUsed (Construct conf heard) t from (Cpc id at) =
 IsUsed Left t from m = Unit {0}
 IsUsed _ t from m = ⊥
 
+-- ---- what comes as a member leaves
+
+-- what comes behind a primary component are actions; behind an attempt that was cut short announcements, and behind the last of them actions,
+-- by the first of which it is installed. Behind an exchange, and outside of a primary component, messages are passed over on purpose: what
+-- the member was to learn first didn't come, so that an action may come behind a gap
+abbrev pub IsUsedLeaving : State → Turn → ℕ → Msg → Type 0
+IsUsedLeaving TransPrim t from (ActionMsg a) = IsTrue (fits_red t.replica.held a)
+IsUsedLeaving (No conf heard) t from (Cpc id at) = IsTrue (is_announced t.replica.held conf from id at)
+IsUsedLeaving Un t from (ActionMsg a) = CanInstall t × IsTrue (fits_red (install t).replica.held a)
+IsUsedLeaving (NonPrim regular) t from m = Unit {0}
+IsUsedLeaving Left t from m = Unit {0}
+IsUsedLeaving _ t from m = ⊥
+
+abbrev pub IsTakenLeaving : Turn → Delivery Msg → Type 0
+IsTakenLeaving t (Message place from m) = IsUsedLeaving t.replica.state t from m
+IsTakenLeaving t d = Unit {0}
+
+abbrev pub AreTakenLeaving : Turn → List (Delivery Msg) → Type 0
+AreTakenLeaving t [] = Unit {0}
+AreTakenLeaving t (d ∷ list) = IsTakenLeaving t d × AreTakenLeaving (take_one t d) list
+
 -- ---- small steps
 
 -- the own actions of which the replica doesn't know whether they were delivered are each the next of their creator as they become red
 abbrev pub CanRedden : Held → Type 0
 CanRedden h = IsTrue (run_on h.queue.red_cut (names_of h.own))
 
--- the action of a message that comes in a member's parting can be placed
-abbrev pub IsPlaced : Turn → Delivery Msg → Type 0
-IsPlaced t (Message place from (ActionMsg a)) = IsTrue (fits_red t.replica.held a)
-IsPlaced t d = Unit {0}
-
-abbrev pub ArePlaced : Turn → List (Delivery Msg) → Type 0
-ArePlaced t [] = Unit {0}
-ArePlaced t (d ∷ list) = IsPlaced t d × ArePlaced (take_one t d) list
-
-abbrev pub OfPrimary : State → Type 0 → Type 0
-OfPrimary RegPrim P = P
-OfPrimary _ P = Unit {0}
-
--- what is handed to a member in its regular phase, or as it leaves a primary component, and what becomes red as a replica enters a
--- configuration or recovers
+-- what is handed to a member in its regular phase and as it leaves, and what becomes red as a replica enters a configuration or recovers
 abbrev pub MeetsNone : Chronicle → Small → Type 0
 MeetsNone c (Hands p) =
     IfSome (replica_of c.world p) (λ r. IfSome (at_place (home c.world.group p).ordered (suc (delivered_to c.world.group p))) (λ s. IsUsed r.state (begin r) s.from s.message))
 MeetsNone c (Leaves p set own places) =
-    IfSome (replica_of c.world p) (λ r. OfPrimary r.state (ArePlaced (go_to (begin r) TransPrim) (deliveries_at (home c.world.group p) places)))
+    IfSome (replica_of c.world p) (λ r. AreTakenLeaving (begin r) (TransitionalIn (regular_in (phase_of c.world.group p)) set ∷ deliveries_at (home c.world.group p) places))
 MeetsNone c (Enters p) = IfSome (replica_of c.world p) (λ r. CanRedden r.held)
 MeetsNone c (Recovers p) = IfSome (disk_held c.world p) CanRedden
 MeetsNone c other = Unit {0}
