@@ -373,5 +373,6 @@ pub mod OrderLonger
 pub mod RunsAgree
 pub mod MarksFit
 pub mod HandsMeet
+pub mod TurnsMeet
 pub mod NeverMet
 pub mod PartingPlaced

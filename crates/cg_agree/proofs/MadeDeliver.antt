@@ -138,13 +138,25 @@ module _ (w : World) (p count : ℕ) (rising : IsRising 0 (map (λ s. s.id) w.se
           down : go_down handed p ≡ go_down g p
           down = ap (λ h. go_down h p) handed-is ∙ down-own g (record s { delivered = from + count }) p in_group.named
 
-pub deliver-made : (w : World) (p count : ℕ) → ((q : ℕ) → is_some (replica_of w q) ≡ is_up w.group q) → IsRising 0 (map (λ s. s.id) w.seats) → DoRise w.group →
-    first_refusal w (Deliver p count) ≡ None → IsMadeIn w (Deliver p count)
+-- what admits a delivery
+pub record IsDelivering (w : World) (p count : ℕ) : Type 0 where
+  pub here : IsUp w p
+  pub in_group : StandsRegular w.group p
+  pub enough : count ≤ ready w.group p
+
+pub delivering : (w : World) (p count : ℕ) → ((q : ℕ) → is_some (replica_of w q) ≡ is_up w.group q) → first_refusal w (Deliver p count) ≡ None → IsDelivering w p count
 unfolding first_refusal deliver_refusal
-deliver-made w p count ups rising rises admitted =
+delivering w p count ups admitted =
     let first = first-none (unknown w p) (deliver_refusal w.group p count ∷ []) (ap is_none admitted) in
     let up = first-none (not_up w.group p) (not_regular w.group p ∷ not_ready w.group p count ∷ []) (ap is_none (first-none (deliver_refusal w.group p count) [] first.1).0) in
     let regular = first-none (not_regular w.group p) (not_ready w.group p count ∷ []) up.1 in
     let enough = not-refused (nat_lt (ready w.group p) count) _ (first-none (not_ready w.group p count) [] regular.1).0 in
-    deliver-is w p count rising rises (is-up w p (ups p ∙ refused-not (is_up w.group p) _ up.0))
-    (stands-regular w.group p (refused-not (is_regular w.group p) _ regular.0)) (ltb-false (ready w.group p) count enough)
+    record {
+      here = is-up w p (ups p ∙ refused-not (is_up w.group p) _ up.0);
+      in_group = stands-regular w.group p (refused-not (is_regular w.group p) _ regular.0);
+      enough = ltb-false (ready w.group p) count enough;
+    }
+
+pub deliver-made : (w : World) (p count : ℕ) → ((q : ℕ) → is_some (replica_of w q) ≡ is_up w.group q) → IsRising 0 (map (λ s. s.id) w.seats) → DoRise w.group →
+    first_refusal w (Deliver p count) ≡ None → IsMadeIn w (Deliver p count)
+deliver-made w p count ups rising rises admitted = (let d = delivering w p count ups admitted in deliver-is w p count rising rises d.here d.in_group d.enough)

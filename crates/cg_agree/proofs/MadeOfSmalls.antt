@@ -46,11 +46,12 @@ use Rattle.cg_agree.proofs.SoundWorlds.{IsSound, sound-same, sound-of, untold-ne
 use Rattle.cg_agree.proofs.EventMembers.{not-empty, leaving-members, coming-members}
 use Rattle.cg_agree.proofs.RestFacts.{IsOpening, IsQuiet, IsKept, rest-quiet, rest-with, rest-among, smalls_for, written-kept}
 use Rattle.cg_agree.proofs.SmallWorlds.{played_in, MayIn, RestAlong, may-all, played-world, small-world}
+use Rattle.cg_base.specs.Sets.{has}
 
 -- ---- in which crashes come where disks agree
 
 -- lists of steps without a crash
-repeats : (P : Small → Type 0) (s : Small) → P s → (n : ℕ) → Each P (replicate n s)
+pub repeats : (P : Small → Type 0) (s : Small) → P s → (n : ℕ) → Each P (replicate n s)
 repeats P s is zero = tt
 repeats P s is (suc n) = (is, repeats P s is n)
 
@@ -144,6 +145,18 @@ module _ (c : Chronicle) (w : World) (same : IsSame w c.world) (sound : IsSound 
       rw list (rest-among w (λ q. Deliveries (handed_in_split g set q).list) block openings set 0 rise c written
       (may-beside (smalls_for w (λ q. Deliveries (handed_in_split g set q).list) block set) (subst (MayIn w) list is.0)))
 
+  -- who comes has told nothing where it comes
+  pub coming-untold : (set : List ℕ) → Each (IsComing w set) set → (q : ℕ) → has set q ≡ true → IsUntoldIn (suc (length c.world.group.configurations)) (small_step c (Makes set)) q
+  coming-untold set coming q there =
+      made-untold c set q (untold q)
+      (both-of (replica_of c.world q) (named q) (subst (λ (o : Option Replica). IfSome o (λ r. is_between r.state ≡ true)) (same.running q) (between (Each-at (IsComing w set) set q coming there)))) where
+        between : IsComing w set q → IfSome (replica_of w q) (λ r. is_between r.state ≡ true)
+        between at = subst (λ (o : Option Seat). IfSome (option_and_then (λ s. running s.life) o) (λ r. is_between r.state ≡ true)) (sym at.here.seat) at.between
+
+        both-of : (o : Option Replica) → IfSome o (λ r. r.held.id ≡ q) → IfSome o (λ r. is_between r.state ≡ true) → IfSome o (λ r. (is_between r.state ≡ true) × (r.held.id ≡ q))
+        both-of None a b = tt
+        both-of (Some r) a b = (b, a)
+
   merge-rest : (set : List ℕ) → IsRising 0 set → Each (IsComing w set) set → IsMadeIn w (Merge set) → RestAlong c (smalls_in w (Merge set))
   unfolding smalls_in turns_of
   merge-rest set rise coming is =
@@ -159,16 +172,9 @@ module _ (c : Chronicle) (w : World) (same : IsSame w c.world) (sound : IsSound 
         rw list (rest-with w input block (λ q. (refl, (refl, tt))) (IsUntoldIn conf) (block-opens conf) (block-keeps conf) set 0 rise d
             (λ q there. (
               written-kept c d q (made-kept c set q) (written q),
-              made-untold c set q (untold q)
-                  (both-of q (replica_of c.world q) (named q) (subst (λ (o : Option Replica). IfSome o (λ r. is_between r.state ≡ true)) (same.running q) (coming-between q (Each-at (IsComing w set) set q coming there)))),
+              coming-untold set coming q there,
             )) may),
-      ) where
-        coming-between : (q : ℕ) → IsComing w set q → IfSome (replica_of w q) (λ r. is_between r.state ≡ true)
-        coming-between q at = subst (λ (o : Option Seat). IfSome (option_and_then (λ s. running s.life) o) (λ r. is_between r.state ≡ true)) (sym at.here.seat) at.between
-
-        both-of : (q : ℕ) (o : Option Replica) → IfSome o (λ r. r.held.id ≡ q) → IfSome o (λ r. is_between r.state ≡ true) → IfSome o (λ r. (is_between r.state ≡ true) × (r.held.id ≡ q))
-        both-of q None a b = tt
-        both-of q (Some r) a b = (b, a)
+      )
 
   armed-rest : (p call : ℕ) (fill : List ℕ) → RestAlong c (smalls_in w (Stop p (suc call) fill))
   unfolding smalls_in
@@ -212,21 +218,27 @@ module _ (c : Chronicle) (w : World) (same : IsSame w c.world) (sound : IsSound 
       (transfer-quiet w p joiner pieces)
 
 -- what stands on the disks agrees where all is at rest
-written-of : (c : Chronicle) (w : World) → StandsBeside c w → (p : ℕ) → IsWritten c p
+pub written-of : (c : Chronicle) (w : World) → StandsBeside c w → (p : ℕ) → IsWritten c p
 written-of c w stands p = record {
   up = subst (λ (o : Option Replica). IfSome o (λ r. IfSome (disk_held c.world p) (λ disk. GoesOn r.held disk × IsAsOnDisk r.held disk r.state))) (stands.same.running p)
       (subst (λ (h : Option Held). IfSome (replica_of w p) (λ r. IfSome h (λ disk. GoesOn r.held disk × IsAsOnDisk r.held disk r.state))) (stands.same.disk p) (stands.rests.replica.disk_agrees.up p));
   greens = stands.rests.replica.disk_agrees.greens p;
 }
 
+pub sound-beside : (c : Chronicle) (w : World) → StandsBeside c w → IsSound w
+sound-beside c w stands = sound-same w c.world stands.same (sound-of c stands.facts)
+
+pub named-beside : (c : Chronicle) → Invariant c → (p : ℕ) → IfSome (replica_of c.world p) (λ r. r.held.id ≡ p)
+named-beside c facts p = at (replica_of c.world p) (facts.replica.mode_data p) where
+  at : (o : Option Replica) → IfSome o (IsModeData c p) → IfSome o (λ r. r.held.id ≡ p)
+  at None is = tt
+  at (Some r) is = is.id
+
 -- the step of every admitted event is made of small steps
 pub made-of-smalls : MadeOfSmalls
 made-of-smalls c w e stands stand admitted =
-    let all = made c w stands.same (sound-same w c.world stands.same (sound-of c stands.facts)) (written-of c w stands) (untold-next c stands.facts) (λ p. named-of p (replica_of c.world p) (stands.facts.replica.mode_data p)) e stand admitted in
-    (all.0, same-back (played c (smalls_in w e)).world (world_step w e).world all.1) where
-      named-of : (p : ℕ) (o : Option Replica) → IfSome o (IsModeData c p) → IfSome o (λ r. r.held.id ≡ p)
-      named-of p None is = tt
-      named-of p (Some r) is = is.id
+    let all = made c w stands.same (sound-beside c w stands) (written-of c w stands) (untold-next c stands.facts) (named-beside c stands.facts) e stand admitted in
+    (all.0, same-back (played c (smalls_in w e)).world (world_step w e).world all.1)
 
 -- ---- behind all events
 

@@ -32,6 +32,7 @@ use Rattle.cg_agree.proofs.MovesKept.{kept-by-smalls}
 use Rattle.cg_agree.proofs.PartingPlaced.{leaving-taken}
 use Rattle.cg_agree.proofs.HandsKept.{regular-phase}
 use Rattle.cg_group.specs.declared.delivery.Delivery.TheVariants.{Transitional as TransitionalIn}
+use Rattle.cg_agree.proofs.TurnsMeet.{turns-meet}
 
 -- ---- messages
 
@@ -126,4 +127,5 @@ never-met c w e stands may admitted = (
   subst (λ (g : GroupState Msg). (conf n : ℕ) (s : Sent Msg) → slice_get (configuration g conf).ordered n ≡ Some s → IsTrue (can_be_used conf (talk_of (take n (configuration g conf).ordered)) s.from s.message))
       (sym stands.same.group) (usable-all c stands.facts),
   meet-none c (smalls_in w e) stands.facts (made-of-smalls c w e stands may admitted).0,
+  turns-meet c w stands (λ smalls made. meet-none c smalls stands.facts made) e (made-of-smalls c w e stands may admitted).0 admitted,
 )

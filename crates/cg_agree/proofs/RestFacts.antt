@@ -166,7 +166,7 @@ opening-quiet p (Recovers q) is = absurd is
 opening-quiet p (Copies q joiner) is = absurd is
 opening-quiet p (Joins joiner) is = absurd is
 
-openings-quiet : (p : ℕ) (smalls : List Small) → Each (IsOpening p) smalls → Each IsQuiet smalls × Each (IsOf p) smalls
+pub openings-quiet : (p : ℕ) (smalls : List Small) → Each (IsOpening p) smalls → Each IsQuiet smalls × Each (IsOf p) smalls
 openings-quiet p [] each = (tt, tt)
 openings-quiet p (s ∷ smalls) each = (let one = opening-quiet p s each.0 in let rest = openings-quiet p smalls each.1 in ((one.0, rest.0), (one.1, rest.1)))
 

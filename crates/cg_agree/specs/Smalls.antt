@@ -141,17 +141,27 @@ join_steps w p joiner pieces =
     option_map_or (λ r. (let s = snapshot_for w p joiner r in if nat_le (piece_count s.content - s.taken) pieces then Joins joiner ∷ [] else []))
     (replica_of w p) []
 
+-- what a replica does in its turn, but for its commit
+abbrev pub turn_steps : World → Event → ℕ → List Small
+turn_steps w (Merge set) = λ p. Enters p ∷ Settles p ∷ []
+turn_steps w (Split set) = leaving_steps w.group set
+turn_steps w (Deliver p count) = λ q. replicate count (Hands q) ++ Settles q ∷ []
+turn_steps w (Request p cmds query) = λ q. Asks q (Update cmds query) ∷ []
+turn_steps w (Join p joiner weight) = λ q. Asks q (JoinKind joiner weight) ∷ []
+turn_steps w (Leave p server) = λ q. Asks q (LeaveKind server) ∷ []
+turn_steps w other = λ p. []
+
 unfoldable pub smalls_in : World → Event → List Small
 smalls_in w (Start set) = Starts set ∷ []
-smalls_in w (Merge set) = Makes set ∷ turns_as (λ p. Enters p ∷ Settles p ∷ []) w (Merge set)
-smalls_in w (Split set) = turns_as (leaving_steps w.group set) w (Split set)
-smalls_in w (Deliver p count) = turns_as (λ q. replicate count (Hands q) ++ Settles q ∷ []) w (Deliver p count)
+smalls_in w (Merge set) = Makes set ∷ turns_as (turn_steps w (Merge set)) w (Merge set)
+smalls_in w (Split set) = turns_as (turn_steps w (Split set)) w (Split set)
+smalls_in w (Deliver p count) = turns_as (turn_steps w (Deliver p count)) w (Deliver p count)
 smalls_in w (Order p) = Orders p ∷ []
 smalls_in w (Receive p place) = Receives p place ∷ []
 smalls_in w Gather = gather_steps w.group
-smalls_in w (Request p cmds query) = turns_as (λ q. Asks q (Update cmds query) ∷ []) w (Request p cmds query)
-smalls_in w (Join p joiner weight) = turns_as (λ q. Asks q (JoinKind joiner weight) ∷ []) w (Join p joiner weight)
-smalls_in w (Leave p server) = turns_as (λ q. Asks q (LeaveKind server) ∷ []) w (Leave p server)
+smalls_in w (Request p cmds query) = turns_as (turn_steps w (Request p cmds query)) w (Request p cmds query)
+smalls_in w (Join p joiner weight) = turns_as (turn_steps w (Join p joiner weight)) w (Join p joiner weight)
+smalls_in w (Leave p server) = turns_as (turn_steps w (Leave p server)) w (Leave p server)
 smalls_in w (Stop p call fill) = if call == 0 then Crashes p ∷ [] else []
 smalls_in w (Recover p) = Recovers p ∷ []
 smalls_in w (Transfer p joiner pieces) = copy_steps w p joiner ++ join_steps w p joiner pieces

@@ -38,9 +38,11 @@ use Rattle.cg_agree.specs.FactsReplica.{run_on}
 use Rattle.cg_agree.specs.Fronts.{When, Either}
 use Rattle.cg_agree.specs.Looks.{disk_held}
 use Rattle.cg_agree.specs.Talk.{Talk, talk_of}
-use Rattle.cg_agree.specs.Small.{Small, Enters, Hands, Leaves, Recovers, small_step}
-use Rattle.cg_agree.specs.Smalls.{smalls_in}
+use Rattle.cg_agree.specs.Small.{Small, Enters, Hands, Leaves, Recovers, small_step, Makes}
+use Rattle.cg_agree.specs.Smalls.{smalls_in, turn_steps}
 use Rattle.cg_agree.specs.Played.{StandsBeside}
+use Rattle.cg_agree.specs.Turns.{Taken, turns_of}
+use Rattle.cg_schedule.specs.declared.event.Event.TheVariants.{Merge}
 
 -- ---- messages that can be used
 
@@ -160,6 +162,21 @@ abbrev pub MeetNone : Chronicle → List Small → Type 0
 MeetNone c [] = Unit {0}
 MeetNone c (s ∷ smalls) = MeetsNone c s × MeetNone (small_step c s) smalls
 
+-- ---- turns
+
+-- before its turns an event may make a configuration
+abbrev pub before_turns : Event → List Small
+before_turns (Merge set) = Makes set ∷ []
+before_turns other = []
+
+-- a turn that is struck and doesn't stand leaves no small step but its crash: so what each turn does is looked at besides, as if it came first.
+-- What others do in the event doesn't reach it
+abbrev pub TurnsMeetNone : Chronicle → (ℕ → List Small) → List Taken → Type 0
+TurnsMeetNone c steps [] = Unit {0}
+TurnsMeetNone c steps (t ∷ turns) = MeetNone c (steps t.id) × TurnsMeetNone c steps turns
+
 -- no event that may stand and is admitted meets any of them, in no world to which events lead
 abbrev pub NeverMet : Type 0
-NeverMet = (c : Chronicle) (w : World) (e : Event) → StandsBeside c w → MayStand w e → first_refusal w e ≡ None → AreUsable w × MeetNone c (smalls_in w e)
+NeverMet =
+    (c : Chronicle) (w : World) (e : Event) → StandsBeside c w → MayStand w e → first_refusal w e ≡ None →
+    AreUsable w × MeetNone c (smalls_in w e) × TurnsMeetNone c (λ p. before_turns e ++ turn_steps w e p) (turns_of w e)
