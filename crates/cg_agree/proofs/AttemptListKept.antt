@@ -27,7 +27,7 @@ use Rattle.cg_agree.specs.Chronicle.{Past, Attempt, Chronicle, no_chronicle}
 use Rattle.cg_agree.specs.Fronts.{IsSomeWith}
 use Rattle.cg_agree.specs.Looks.{conf_of, past_of, greens_of, stood_of, conf_at, attempt_of, copied_for}
 use Rattle.cg_agree.specs.FactsAttempts.{HoldsParts, AttemptList}
-use Rattle.cg_agree.specs.FactsReplica.{AreBooked, IsCore, IsModeData, HasModeData, IsInAttempt, is_attempting, is_primary}
+use Rattle.cg_agree.specs.FactsReplica.{AreBooked, IsCore, IsModeData, HasModeData, IsInAttempt, is_attempting, is_primary, is_exchanging}
 use Rattle.cg_agree.specs.Facts.{Invariant}
 use Rattle.cg_agree.specs.Small.{Small, Starts, Makes, Enters, Orders, Receives, Hands, Leaves, Asks, Settles, Commits, Crashes, Recovers, Copies, Joins, new_past, written, struck, newest_conf, turning, take_newest, take_next, take_parting, take_request, coming, handed_next, leaving, with_group, commit_as, crash_as, recover_as, copy_as, join_with, start, small_step}
 use Rattle.cg_agree.specs.Smalls.{may_make, is_running, is_set}
@@ -48,7 +48,6 @@ use Rattle.cg_agree.proofs.HeldCommit.{white-oneself}
 use Rattle.cg_agree.proofs.HeldMarks.{IsOneself}
 use Rattle.cg_agree.proofs.ListEntered.{PartsBooked, entered-held}
 use Rattle.cg_agree.proofs.ListStill.{ListAt, WasIn, list-still, list-none, list-some, list-same, list-quiet, one-list, whitened-parts}
-use Rattle.cg_agree.proofs.ModeHeld.{is_exchanging}
 use Rattle.cg_agree.proofs.ModeKept.{mode_data-kept}
 use Rattle.cg_agree.proofs.NextThere.{orders-now, receives-now}
 use Rattle.cg_agree.proofs.OneStands.{stands-refl, stands-up, stands-down}

@@ -24,13 +24,12 @@ use Rattle.cg_agree.specs.Talk.{Talk, is_full, is_through, is_ended, is_announce
 use Rattle.cg_agree.specs.Levels.{announced_at, is_installed}
 use Rattle.cg_agree.specs.FactsTalk.{handed_talk, whole_talk, IsStateIn}
 use Rattle.cg_agree.specs.FactsNet.{IsPhase}
-use Rattle.cg_agree.specs.FactsReplica.{is_attempting, is_primary, own_record, HasModeData, IsInAttempt, IsModeData}
+use Rattle.cg_agree.specs.FactsReplica.{is_attempting, is_primary, own_record, HasModeData, IsInAttempt, IsModeData, is_exchanging}
 use Rattle.cg_agree.specs.FactsAttempts.{IsAttempt, installed_in}
 use Rattle.cg_agree.specs.Facts.{Invariant}
 use Rattle.cg_agree.specs.Small.{Small, Starts, Makes, Enters, Orders, Receives, Hands, Leaves, Asks, Settles, Commits, Crashes, Recovers, Copies, Joins, turning, newly_green, struck, changed_attempt, with_leaver, entering, installing, opened_by, attempts_behind, levels_behind, coming, take_newest, handed_next, take_next, leaving, take_parting, take_request, commit_as, crash_as, recover_as, copy_as, join_with, newest_conf, small_step}
 use Rattle.cg_agree.specs.Smalls.{may_make, is_running}
 use Rattle.cg_agree.proofs.CoresKept.{greens-turn, past-here}
-use Rattle.cg_agree.proofs.ModeHeld.{is_exchanging}
 use Rattle.cg_agree.proofs.OneselfWorld.{HavePasts}
 use Rattle.cg_agree.proofs.ChronicleFacts.{seat_of-set}
 use Rattle.cg_agree.specs.Attempts.{held_in}

@@ -32,7 +32,7 @@ use Rattle.cg_step.specs.Step.{on_message}
 use Rattle.cg_agree.specs.Chronicle.{Chronicle}
 use Rattle.cg_agree.specs.Looks.{greens_of, ordered_in}
 use Rattle.cg_agree.specs.Talk.{action_in}
-use Rattle.cg_agree.specs.FactsReplica.{booked, AreBooked}
+use Rattle.cg_agree.specs.FactsReplica.{booked, AreBooked, is_exchanging}
 use Rattle.cg_agree.specs.Facts.{Invariant}
 use Rattle.cg_agree.specs.Small.{Hands}
 use Rattle.cg_agree.specs.Smalls.{may_make}
@@ -40,7 +40,6 @@ use Rattle.cg_agree.proofs.ExchangeBehind.{message-now}
 use Rattle.cg_agree.proofs.ExchangeThere.{core}
 use Rattle.cg_agree.proofs.HandsNow.{HandsNow, new, running-now}
 use Rattle.cg_agree.proofs.MessageThere.{booked-at}
-use Rattle.cg_agree.proofs.ModeHeld.{is_exchanging}
 
 -- ---- actions of names
 

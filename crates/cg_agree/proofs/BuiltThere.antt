@@ -16,7 +16,7 @@ use Rattle.cg_agree.specs.Fronts.{IsSomeWith}
 use Rattle.cg_agree.specs.Looks.{greens_of, told_in, is_regular_at, members_in}
 use Rattle.cg_agree.specs.Talk.{Talk, hears_from, is_full, is_through, is_ended, known_up_to}
 use Rattle.cg_agree.specs.Facts.{Invariant}
-use Rattle.cg_agree.specs.FactsReplica.{IsCore, cut_behind}
+use Rattle.cg_agree.specs.FactsReplica.{IsCore, cut_behind, is_exchanging}
 use Rattle.cg_agree.specs.FactsTalk.{handed_talk, whole_talk}
 use Rattle.cg_agree.specs.FactsExchange.{best_told}
 use Rattle.cg_agree.specs.Small.{Hands, small_step}
@@ -30,7 +30,6 @@ use Rattle.cg_agree.proofs.ExchangeHands.{HasBuilt}
 use Rattle.cg_agree.proofs.ExchangeKept.{exchanged, out-there, through-state}
 use Rattle.cg_agree.proofs.HandsNow.{HandsNow, new, behind, behind-next, count, hand-state, running-now, whole-through}
 use Rattle.cg_agree.proofs.HeldMarks.{IsOneself}
-use Rattle.cg_agree.proofs.ModeHeld.{is_exchanging}
 use Rattle.cg_agree.proofs.PlanEnd.{AtPlanEnd, is_behind, behind-ended}
 use Rattle.cg_agree.proofs.PlanThere.{end-fits}
 use Rattle.cg_agree.proofs.ToldBeside.{told-id, told-fits}

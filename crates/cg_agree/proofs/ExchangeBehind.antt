@@ -24,6 +24,7 @@ use Rattle.cg_client.specs.Marks.{is_unmade, marked, mark_red}
 use Rattle.cg_construct.specs.Construct.{attempt_set, is_announced, construct_with}
 use Rattle.cg_construct.specs.No.{no_with}
 use Rattle.cg_step.specs.Step.{on_message, take as take_delivery}
+use Rattle.cg_agree.specs.FactsReplica.{is_exchanging}
 use Rattle.cg_agree.specs.World.{replica_of}
 use Rattle.cg_agree.specs.Chronicle.{Told, Chronicle}
 use Rattle.cg_agree.specs.Fronts.{IsSomeWith}
@@ -37,7 +38,6 @@ use Rattle.cg_agree.specs.Smalls.{may_make}
 use Rattle.cg_agree.proofs.ExchangeSmalls.{replica-behind, greens-behind}
 use Rattle.cg_agree.proofs.ExchangeStill.{ProgressAt, some-still, best-still}
 use Rattle.cg_agree.proofs.HandsNow.{HandsNow, hands-regular, new, behind, count, found-now, hand-state, running-now, whole-through}
-use Rattle.cg_agree.proofs.ModeHeld.{is_exchanging}
 use Rattle.cg_agree.proofs.OneSteps.{hands-step}
 use Rattle.cg_agree.proofs.PlanEnd.{is_behind, behind-ended}
 use Rattle.cg_agree.proofs.ToldKept.{told-same, told_in-same}

@@ -20,6 +20,7 @@ use Rattle.cg_exchange.specs.ExchangeStates.{is_usable, with_heard}
 use Rattle.cg_exchange.specs.ExchangeActions.{progress, take_item, send_part, go_on}
 use Rattle.cg_exchange.specs.PlanEnd.{take_over, attempt, decide, end_plan}
 use Rattle.cg_step.specs.Step.{on_message}
+use Rattle.cg_agree.specs.FactsReplica.{is_exchanging}
 use Rattle.cg_agree.specs.World.{replica_of}
 use Rattle.cg_agree.specs.Chronicle.{Told, Chronicle}
 use Rattle.cg_agree.specs.Fronts.{Either, IsSomeWith}
@@ -39,7 +40,6 @@ use Rattle.cg_agree.proofs.ExchangeSmalls.{HandsProgress, exchange_progress-wher
 use Rattle.cg_agree.proofs.ExchangeStill.{ProgressAt}
 use Rattle.cg_agree.proofs.ExchangeThere.{heard_before, heard_behind, in_exchange, in-states, in-actions, best, near, best-is, behind-green, behind-red}
 use Rattle.cg_agree.proofs.HandsNow.{HandsNow, hands-now, new, behind, behind-next, running-now}
-use Rattle.cg_agree.proofs.ModeHeld.{is_exchanging}
 use Rattle.cg_agree.proofs.PlanProgress.{IsBehind}
 use Rattle.cg_agree.proofs.PlanThere.{done-all}
 use Rattle.cg_agree.proofs.RecordKept.{turn-is}

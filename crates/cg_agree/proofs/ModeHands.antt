@@ -25,7 +25,7 @@ use Rattle.cg_agree.specs.Attempts.{new_attempt}
 use Rattle.cg_agree.specs.Levels.{prim_at}
 use Rattle.cg_agree.specs.Fronts.{IsSomeWith}
 use Rattle.cg_agree.specs.FactsTalk.{handed_talk}
-use Rattle.cg_agree.specs.FactsReplica.{is_attempting, is_primary, own_record, IsInPrimary, IsInAttempt, HasModeData, IsCounted}
+use Rattle.cg_agree.specs.FactsReplica.{is_attempting, is_primary, own_record, IsInPrimary, IsInAttempt, HasModeData, IsCounted, is_exchanging}
 use Rattle.cg_agree.specs.FactsExchange.{IsRecord, HasRecord}
 use Rattle.cg_agree.specs.Facts.{Invariant}
 use Rattle.cg_agree.specs.Small.{Hands, newly_green, with_installer, with_entrant, installing, entering, take_all, take_next, small_step}
@@ -46,7 +46,7 @@ use Rattle.cg_agree.proofs.AttemptSteps.{Installing, hands-installing}
 use Rattle.cg_agree.proofs.AttemptsCame.{ins-conf}
 use Rattle.cg_agree.proofs.LevelsKept.{start-kept, installed-primary}
 use Rattle.cg_agree.proofs.CoreKept.{is_trans, never-trans}
-use Rattle.cg_agree.proofs.ModeHeld.{WaitsForNone, is_exchanging, none-message, NothingRed, nothing-message}
+use Rattle.cg_agree.proofs.ModeHeld.{WaitsForNone, none-message, NothingRed, nothing-message}
 use Rattle.cg_agree.proofs.ModeStill.{mode-still}
 use Rattle.cg_agree.proofs.ModeCounted.{counted-flow, counted-attempted, counted-installed}
 use Rattle.cg_agree.proofs.ModeStates.{in-primary-as, in-attempt-as, attempting-data, beside-data, parted-data, primary-data, construct-lists, quiet-flow, decided-flow}

@@ -28,6 +28,7 @@ use Rattle.cg_exchange.specs.ExchangeStates.{is_usable, with_heard}
 use Rattle.cg_exchange.specs.ExchangeActions.{progress, is_next, mark_item, take_item, send_part, go_on}
 use Rattle.cg_exchange.specs.PlanEnd.{take_over, attempt, decide, end_plan}
 use Rattle.cg_step.specs.Step.{on_message, on_regular, take}
+use Rattle.cg_agree.specs.FactsReplica.{is_exchanging}
 use Rattle.cg_agree.specs.Small.{take_newest, newest_conf}
 use Rattle.cg_agree.specs.Smalls.{is_between}
 
@@ -77,12 +78,6 @@ none-go_on t conf heard accepted none =
     let going = go_to t (ExchangeActions conf heard accepted) in
     let o = turn_of (plan_of heard) t.replica.held.id accepted in
     either (is_done (progress heard accepted)) (end_plan (send_part going o) conf heard) (send_part going o) (none-end (send_part going o) conf heard (none-send going o none)) (none-send going o none)
-
--- the states of an exchange
-abbrev pub is_exchanging : State → Bool
-is_exchanging (ExchangeStates conf set heard) = true
-is_exchanging (ExchangeActions conf heard accepted) = true
-is_exchanging _ = false
 
 -- nothing is waited for behind a message of an exchange
 pub none-message : (state : State) (from : ℕ) (m : Msg) (t : Turn) → is_exchanging state ≡ true → WaitsForNone t → WaitsForNone (on_message state from m t)

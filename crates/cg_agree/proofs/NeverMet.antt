@@ -16,7 +16,7 @@ use Rattle.cg_client.specs.Turn.{begin}
 use Rattle.cg_agree.specs.World.{replica_of}
 use Rattle.cg_agree.specs.Chronicle.{Chronicle}
 use Rattle.cg_agree.specs.Facts.{Invariant}
-use Rattle.cg_agree.specs.FactsReplica.{IsCore}
+use Rattle.cg_agree.specs.FactsReplica.{IsCore, is_exchanging}
 use Rattle.cg_agree.specs.Looks.{greens_of, stood_of, disk_held, conf_of, members_in, ordered_in}
 use Rattle.cg_agree.specs.Played.{MayBeMade}
 use Rattle.cg_agree.specs.Small.{Small, Starts, Makes, Enters, Orders, Receives, Hands, Leaves, Asks, Settles, Commits, Crashes, Recovers, Copies, Joins, small_step}
@@ -93,11 +93,11 @@ module _ (c : Chronicle) (i : Invariant c) where
       let home_is : home g p ≡ conf_of c phase.at = ap (λ x. configuration g (regular_in x)) phase.is in
       let fine = subst (λ (x : Configuration Msg). (ascend_within (delivered_to g p) (length x.ordered) places ≡ true) × (hold_received x p (delivered_to g p) places ≡ true)
       × (hold_earlier x (delivered_to g p) places ≡ true)) home_is (places-hold c p set own places may) in
-      subst (λ (x : Configuration Msg). IfSome (replica_of c.world p) (λ r. AreTakenLeaving (begin r) (TransitionalIn (regular_in (phase_of g p)) set ∷ deliveries_at x places))) (sym home_is)
+      subst (λ (x : Configuration Msg). IfSome (replica_of c.world p) (λ r. AreTakenLeaving (not (is_exchanging r.state)) (begin r) (TransitionalIn (regular_in (phase_of g p)) set ∷ deliveries_at x places))) (sym home_is)
       (at phase.at phase.is fine (replica_of c.world p) refl) where
         at : (conf : ℕ) → phase_of c.world.group p ≡ Regular conf → (ascend_within (delivered_to c.world.group p) (length (ordered_in c conf)) places ≡ true)
             × (hold_received (conf_of c conf) p (delivered_to c.world.group p) places ≡ true) × (hold_earlier (conf_of c conf) (delivered_to c.world.group p) places ≡ true) →
-            (o : Option Replica) → replica_of c.world p ≡ o → IfSome o (λ r. AreTakenLeaving (begin r) (TransitionalIn (regular_in (phase_of c.world.group p)) set ∷ deliveries_at (conf_of c conf) places))
+            (o : Option Replica) → replica_of c.world p ≡ o → IfSome o (λ r. AreTakenLeaving (not (is_exchanging r.state)) (begin r) (TransitionalIn (regular_in (phase_of c.world.group p)) set ∷ deliveries_at (conf_of c conf) places))
         at conf phase fine None e = tt
         at conf phase fine (Some r) e = leaving-taken c i p r conf e phase places fine.2 fine.0 fine.1 (regular_in (phase_of c.world.group p)) set
 

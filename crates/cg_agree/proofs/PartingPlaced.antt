@@ -1,7 +1,7 @@
--- What comes to a member as it leaves a primary component, or an attempt, is used. Actions can be placed: with a place every earlier one of its
--- sender comes, so the action before it is known. None comes before all announcements: it shows an installation, which follows announcements
--- that all have received.
-use Rattle.std.proofs.Common.{◌≡◌, ℕ, zero, suc, ◌+◌, ◌-◌, ◌≤◌, ◌<◌, true, false, not, ◌&&◌, ◌||◌, List, [], ◌∷◌, ◌++◌, length, take, drop, Option, Some, None, IfSome, refl, sym, ap, ◌∙◌, subst, arith, inl, inr, ◌⊎◌, eqb-true, eq-eqb, nat_lt, nat_le, Bool, is_some, ap₂, filter_map, ⊎_elim}
+-- What comes to a member as it leaves behind the end of an exchange is used. Actions can be placed: with a place every earlier one of its sender
+-- comes, so the action before it is known. In an attempt none comes before all announcements: it shows an installation, which follows
+-- announcements that all have received.
+use Rattle.std.proofs.Common.{◌≡◌, ℕ, zero, suc, ◌+◌, ◌-◌, ◌≤◌, ◌<◌, true, false, not, ◌&&◌, ◌||◌, List, [], ◌∷◌, ◌++◌, length, take, drop, Option, Some, None, IfSome, refl, sym, ap, ◌∙◌, subst, arith, inl, inr, ◌⊎◌, eqb-true, eq-eqb, nat_lt, nat_le, Bool, is_some, ap₂, filter_map, ⊎_elim, cond, if◌then◌else◌}
 use Rattle.std.specs.Prelude.{◌==◌, slice_get}
 use Rattle.std.specs.Option.{option_map_or}
 use Rattle.std.specs.List.{list_all}
@@ -11,7 +11,7 @@ use Rattle.cg_base.specs.Lists.{count_up, above_up_to, at_place}
 use Rattle.cg_base.specs.Sets.{has, is_within, with_member}
 use Rattle.cg_action.specs.declared.action.Action.{Action}
 use Rattle.cg_knowledge.specs.Verdict.{decides}
-use Rattle.cg_queue.specs.Queue.{names_of}
+use Rattle.cg_queue.specs.Queue.{names_of, placed_red, marked_red}
 use Rattle.cg_wire.specs.declared.message.Msg.{Msg}
 use Rattle.cg_wire.specs.declared.message.Msg.TheVariants.{Action as ActionMsg, State as StateMsg, GreenItem, RedItem, Cpc}
 use Rattle.cg_group.specs.declared.delivery.Delivery.{Delivery}
@@ -21,15 +21,15 @@ use Rattle.cg_group.specs.declared.phase.Phase.TheVariants.{Regular}
 use Rattle.cg_group.specs.Events.{delivery_at, deliveries_at}
 use Rattle.cg_group.specs.Refusals.{sender_at}
 use Rattle.cg_group.specs.State.{Sent, phase_of, delivered_to, Configuration}
-use Rattle.cg_client.specs.Replica.{State, RegPrim, TransPrim, Replica, created, Held, No, Un, NonPrim, Left, Construct}
+use Rattle.cg_client.specs.Replica.{State, RegPrim, TransPrim, Replica, created, Held, No, Un, NonPrim, Left, Construct, ExchangeStates, ExchangeActions}
 use Rattle.cg_client.specs.Requests.{is_creating}
 use Rattle.cg_client.specs.Turn.{Turn, begin, go_to}
-use Rattle.cg_client.specs.Marks.{is_unmade, mark_yellow}
+use Rattle.cg_client.specs.Marks.{is_unmade, mark_yellow, mark_red, marked, after_first}
 use Rattle.cg_step.specs.Step.{on_message, take as take_one, on_transitional}
 use Rattle.cg_agree.specs.World.{replica_of}
 use Rattle.cg_agree.specs.Chronicle.{Chronicle, Attempt}
 use Rattle.cg_agree.specs.Facts.{Invariant}
-use Rattle.cg_agree.specs.FactsReplica.{IsModeData, HasModeData, IsCore, cut_behind, is_attempting, is_primary}
+use Rattle.cg_agree.specs.FactsReplica.{IsModeData, HasModeData, IsCore, cut_behind, is_attempting, is_primary, is_exchanging}
 use Rattle.cg_agree.specs.FactsTalk.{handed_talk, count_behind, AreNumbered, AreNumberedAt, IsStateIn}
 use Rattle.cg_agree.specs.Looks.{greens_of, conf_of, members_in, ordered_in, said_in, attempt_of, received_by_all, is_regular_at}
 use Rattle.cg_agree.specs.Small.{take_all}
@@ -38,19 +38,19 @@ use Rattle.cg_agree.specs.Talk.{Talk, talk_of, hears_from, is_ended, is_announce
 use Rattle.cg_agree.specs.Total.{fits_red, IsUsedLeaving, AreTakenLeaving}
 use Rattle.cg_agree.proofs.ActsNext.{may-stand, talk-next, ended-next, heard-next, numbered-next, not-silent}
 use Rattle.cg_agree.proofs.DeadEvidenceKept.{running-core}
-use Rattle.cg_agree.proofs.DiskAhead.{left-own, made-by}
+use Rattle.cg_agree.proofs.DiskAhead.{left-own, made-by, LeftOwn}
 use Rattle.cg_agree.proofs.HandMarks.{one_of, raised-next, counted-next, made-so}
 use Rattle.cg_agree.proofs.HandsKept.{some-at}
 use Rattle.cg_agree.proofs.HandsMeet.{next-red}
 use Rattle.cg_agree.proofs.HeldInstall.{IsAllYellow, yellow-oneself}
-use Rattle.cg_agree.proofs.HeldMarks.{IsOneself, rising-red}
+use Rattle.cg_agree.proofs.HeldMarks.{IsOneself, rising-red, red-oneself}
 use Rattle.cg_agree.proofs.MessageThere.{message-made}
 use Rattle.cg_agree.proofs.RowYellow.{marks-yellow}
 use Rattle.cg_agree.proofs.RunFacts.{cut_behind-append}
 use Rattle.cg_agree.proofs.StatesSaid.{creating-ended, count-quiet, never, announcing}
 use Rattle.cg_agree.proofs.TalkEarly.{all-member, not_full, due_parts}
 use Rattle.cg_base.specs.SetLaws.{has-with_member}
-use Rattle.cg_knowledge.specs.Members.{senders, remaining}
+use Rattle.cg_knowledge.specs.Members.{senders, remaining, gone}
 use Rattle.cg_plan.specs.declared.parts.Item.TheVariants.{Green, Red}
 use Rattle.cg_records.specs.declared.vulnerable.Vulnerable.{Vulnerable}
 use Rattle.cg_group.specs.Ready.{all_received}
@@ -78,6 +78,7 @@ use Rattle.cg_agree.proofs.ReachFacts.{all-from}
 use Rattle.cg_agree.proofs.ReachWorld.{when-is}
 use Rattle.cg_agree.proofs.TurnKinds.{installs-to}
 use Rattle.cg_agree.proofs.TurnValues.{even-mark_yellow}
+use Rattle.cg_queue.specs.MarkLaws.{red-placed}
 
 counted : (from n k : ℕ) → from ≤ k → k < from + n → has (count_up from n) k ≡ true
 counted from zero k le lt = absurd (omega arith)
@@ -99,34 +100,34 @@ ascends-above (y ∷ xs) low high x up there =
       | inr later ↦ (let more : y < x = ascends-above xs y high x a.1 later in omega (arith, lt, more))
     ]
 
-taken-append : (xs ys : List (Delivery Msg)) (t : Turn) → AreTakenLeaving t xs → AreTakenLeaving (take_all xs t) ys → AreTakenLeaving t (xs ++ ys)
-taken-append [] ys t a b = b
-taken-append (x ∷ xs) ys t a b = (a.0, taken-append xs ys (take_one t x) a.1 b)
+taken-append : (ended : Bool) (xs ys : List (Delivery Msg)) (t : Turn) → AreTakenLeaving ended t xs → AreTakenLeaving ended (take_all xs t) ys → AreTakenLeaving ended t (xs ++ ys)
+taken-append ended [] ys t a b = b
+taken-append ended (x ∷ xs) ys t a b = (a.0, taken-append ended xs ys (take_one t x) a.1 b)
 
 -- ---- who passes over what comes
 
 -- where every message may come, and the state is kept
-module _ (P : Replica → Type 0) (C : Configuration Msg) (each : (from : ℕ) (m : Msg) (t : Turn) → P t.replica → IsUsedLeaving t.replica.state t from m × P (on_message t.replica.state from m t).replica) where
-  idle-place : (place : ℕ) (t : Turn) → P t.replica → AreTakenLeaving t (delivery_at C place) × P (take_all (delivery_at C place) t).replica
+module _ (ended : Bool) (P : Replica → Type 0) (C : Configuration Msg) (each : (from : ℕ) (m : Msg) (t : Turn) → P t.replica → IsUsedLeaving ended t.replica.state t from m × P (on_message t.replica.state from m t).replica) where
+  idle-place : (place : ℕ) (t : Turn) → P t.replica → AreTakenLeaving ended t (delivery_at C place) × P (take_all (delivery_at C place) t).replica
   unfolding delivery_at take_one
   idle-place place t is = at (at_place C.ordered place) where
-    at : (o : Option (Sent Msg)) → (let list = option_map_or (λ (s : Sent Msg). Message place s.from s.message ∷ []) o [] in AreTakenLeaving t list × P (take_all list t).replica)
+    at : (o : Option (Sent Msg)) → (let list = option_map_or (λ (s : Sent Msg). Message place s.from s.message ∷ []) o [] in AreTakenLeaving ended t list × P (take_all list t).replica)
     at None = (tt, is)
     at (Some s) = (let one = each s.from s.message t is in ((one.0, tt), one.1))
 
-  idle-places : (places : List ℕ) (t : Turn) → P t.replica → AreTakenLeaving t (deliveries_at C places)
+  idle-places : (places : List ℕ) (t : Turn) → P t.replica → AreTakenLeaving ended t (deliveries_at C places)
   idle-places [] t is = tt
   idle-places (place ∷ places) t is =
       let one = idle-place place t is in
-      taken-append (delivery_at C place) (deliveries_at C places) t one.0 (idle-places places (take_all (delivery_at C place) t) one.1)
+      taken-append ended (delivery_at C place) (deliveries_at C places) t one.0 (idle-places places (take_all (delivery_at C place) t) one.1)
 
-alone-taken : (C : Configuration Msg) (places : List ℕ) (t : Turn) → t.replica.state ≡ NonPrim false → AreTakenLeaving t (deliveries_at C places)
-alone-taken = λ C. idle-places (λ r. r.state ≡ NonPrim false) C (λ from m t e.
-    subst (λ x. IsUsedLeaving x t from m × ((on_message x from m t).replica.state ≡ NonPrim false)) (sym e) (tt, alone-kept from m t e))
+alone-taken : (C : Configuration Msg) (places : List ℕ) (t : Turn) → t.replica.state ≡ NonPrim false → AreTakenLeaving false t (deliveries_at C places)
+alone-taken = λ C. idle-places false (λ r. r.state ≡ NonPrim false) C (λ from m t e.
+    subst (λ x. IsUsedLeaving false x t from m × ((on_message x from m t).replica.state ≡ NonPrim false)) (sym e) (tt, alone-kept from m t e))
 
-left-taken : (C : Configuration Msg) (places : List ℕ) (t : Turn) → t.replica.state ≡ Left → AreTakenLeaving t (deliveries_at C places)
-left-taken = λ C. idle-places (λ r. r.state ≡ Left) C (λ from m t e.
-    subst (λ x. IsUsedLeaving x t from m × ((on_message x from m t).replica.state ≡ Left)) (sym e) (tt, left-kept from m t e))
+left-taken : (C : Configuration Msg) (places : List ℕ) (t : Turn) → t.replica.state ≡ Left → AreTakenLeaving true t (deliveries_at C places)
+left-taken = λ C. idle-places true (λ r. r.state ≡ Left) C (λ from m t e.
+    subst (λ x. IsUsedLeaving true x t from m × ((on_message x from m t).replica.state ≡ Left)) (sym e) (tt, left-kept from m t e))
 
 -- ---- behind the end of a plan
 
@@ -149,6 +150,26 @@ late-alone set conf t from (GreenItem place a) may ended =
     absurd (let clash : true ≡ false = sym (and_parts (is_full set t) (is_through t) ended).1 ∙ (due_parts set t from (Green place) may).1 in cc)
 late-alone set conf t from (RedItem a) may ended =
     absurd (let clash : true ≡ false = sym (and_parts (is_full set t) (is_through t) ended).1 ∙ (due_parts set t from (Red a.id) may).1 in cc)
+
+-- where no quorum was
+undecided : (set : List ℕ) (conf : ℕ) (t : Talk) (me : ℕ) → state_in set conf t me ≡ NonPrim true → decides t.heard ≡ false
+undecided set conf t me e = at (is_full set t) (is_through t) (has (gone t.heard) me) (decides t.heard) (all_announced t) e where
+  at : (full through left decided told : Bool) → (if not full then ExchangeStates conf set t.heard else if not through then ExchangeActions conf t.heard t.accepted
+      else if left then Left else if not decided then NonPrim true else if told then RegPrim else Construct conf t.announced) ≡ NonPrim true → decided ≡ false
+  at false through left decided told e = absurd (let clash : ExchangeStates conf set t.heard ≡ NonPrim true = e in cc)
+  at true false left decided told e = absurd (let clash : ExchangeActions conf t.heard t.accepted ≡ NonPrim true = e in cc)
+  at true true true decided told e = absurd (let clash : Left ≡ NonPrim true = e in cc)
+  at true true false false told e = refl
+  at true true false true true e = absurd (let clash : RegPrim ≡ NonPrim true = e in cc)
+  at true true false true false e = absurd (let clash : Construct conf t.announced ≡ NonPrim true = e in cc)
+
+-- what a red mark makes of the turn, where the action is the next of its creator
+marks-red : (t : Turn) (a : Action) → is_unmade t.replica.held a ≡ false → a.id.index ≡ suc (index_in t.replica.held.queue.red_cut a.id.creator) →
+    (mark_red t a).replica ≡ (let h = t.replica.held in record { held = record h { queue = placed_red h.queue a; own = after_first h.own a.id }; state = t.replica.state })
+unfolding mark_red
+marks-red t a made next =
+    let h = t.replica.held in
+    ap (λ b. (cond b t (marked t a (marked_red h.queue a))).replica) made ∙ ap (λ m. (marked t a m).replica) (red-placed h.queue a next)
 
 module _ (c : Chronicle) (i : Invariant c) (p conf : ℕ) (r : Replica) (up : replica_of c.world p ≡ Some r) (named : r.held.id ≡ p) (low : ℕ) (places : List ℕ)
     (closed : hold_earlier (conf_of c conf) low places ≡ true) (begun : is_ended (members_in c conf) (talk_of (take low (ordered_in c conf))) ≡ true) where
@@ -261,7 +282,6 @@ module _ (c : Chronicle) (i : Invariant c) (p conf : ℕ) (r : Replica) (up : re
   record HasMarked (k : ℕ) (h : Held) : Type 0 where
     all : List Action
     is : IsOneself c.start h all
-    all_yellow : IsAllYellow h
     made : AreMade h
     base : (q : ℕ) → count_behind (T low) q ≤ index_in h.queue.red_cut q
     upper : (q : ℕ) → index_in h.queue.red_cut q ≤ count_behind (T k) q
@@ -296,11 +316,12 @@ module _ (c : Chronicle) (i : Invariant c) (p conf : ℕ) (r : Replica) (up : re
     member : has set p ≡ true
     received : (q : ℕ) → lacks_announcement c conf p q ≡ false → (at : StandsAt 0 list q) → (has (T low).announced q ≡ true) ⊎ (has places (suc at.index) ≡ true)
 
-  -- it waits for announcements, or it has them all and no action came, or it has installed its attempt
+  -- it waits for announcements, or it has them all and no action came; or actions become yellow, or red
   data InParting (k : ℕ) (t : Turn) : Type 0 where
     Waits : (cut : IsCutShort) (heard : List ℕ) (state : t.replica.state ≡ No conf heard) (held : t.replica.held ≡ r.held) (so : HasHeard k heard) (quiet : IsQuiet k) → InParting k t
     Knows : (cut : IsCutShort) (state : t.replica.state ≡ Un) (held : t.replica.held ≡ r.held) (told : AllTold k) (quiet : IsQuiet k) → InParting k t
-    Marks : (state : t.replica.state ≡ TransPrim) (told : AllTold k) (marked : HasMarked k t.replica.held) → InParting k t
+    Marks : (state : t.replica.state ≡ TransPrim) (told : AllTold k) (yellow : IsAllYellow t.replica.held) (marked : HasMarked k t.replica.held) → InParting k t
+    Reds : (state : t.replica.state ≡ NonPrim false) (none : decides (T low).heard ≡ false) (marked : HasMarked k t.replica.held) → InParting k t
 
   -- ---- places that aren't handed
 
@@ -329,7 +350,6 @@ module _ (c : Chronicle) (i : Invariant c) (p conf : ℕ) (r : Replica) (up : re
     marked-on h old = record {
       all = old.all;
       is = old.is;
-      all_yellow = old.all_yellow;
       made = old.made;
       base = old.base;
       upper = λ q. (let a = old.upper q in let b = grown-to k n q least behind inside in omega (arith, a, b));
@@ -342,7 +362,8 @@ module _ (c : Chronicle) (i : Invariant c) (p conf : ℕ) (r : Replica) (up : re
     parting-on : (t : Turn) → InParting k t → InParting n t
     parting-on t (Waits cut heard state held so quiet) = Waits cut heard state held (heard-on heard so) (quiet-on quiet)
     parting-on t (Knows cut state held told quiet) = Knows cut state held (told-on told) (quiet-on quiet)
-    parting-on t (Marks state told marked) = Marks state (told-on told) (marked-on t.replica.held marked)
+    parting-on t (Marks state told yellow marked) = Marks state (told-on told) yellow (marked-on t.replica.held marked)
+    parting-on t (Reds state none' marked) = Reds state none' (marked-on t.replica.held marked)
 
   -- ---- a place that is handed
 
@@ -411,39 +432,59 @@ module _ (c : Chronicle) (i : Invariant c) (p conf : ℕ) (r : Replica) (up : re
       act-fits : (h : Held) → HasMarked n h → fits_red h a ≡ true
       act-fits h has_it = next-red h a (act-index h has_it) (act-made h has_it)
 
-      act-marked : (t : Turn) → HasMarked n t.replica.held → HasMarked (suc n) (mark_yellow t a).replica.held
-      act-marked t has_it =
-          let h = t.replica.held in
-          let index = act-index h has_it in
-          let made = act-made h has_it in
-          let rising = rising-red c.start h has_it.all has_it.is in
-          let now = marks-yellow c.start has_it.all t a has_it.is has_it.all_yellow made index in
-          let left = left-own h.own h.queue.red_cut h.id h.own a.id rising has_it.is.contiguous.own has_it.is.contiguous.mine index (made-by h a made)
-          (sym (ap (λ n. drop n h.own) (no-less (length h.own))), (let same : length h.own ≤ length h.own = omega arith in same)) in
-          let red : (q : ℕ) → index_in (mark_yellow t a).replica.held.queue.red_cut q ≡ index_in h.queue.red_cut q + one_of a q =
-          λ q. ap (λ (x : Replica). index_in x.held.queue.red_cut q) now ∙ raised-next h.queue.red_cut a rising index q in
-          let created_is : created (mark_yellow t a).replica.held ≡ created h = ap (λ (x : Replica). created x.held) now ∙ left.made in
-          record {
-            all = has_it.all;
-            is = subst (λ (x : Replica). IsOneself c.start x.held has_it.all) (sym now) (yellow-oneself c.start h has_it.all has_it.is has_it.all_yellow a index);
-            all_yellow = subst (λ (x : Replica). IsAllYellow x.held) (sym now) (cut_behind-append h.queue.green_cut h.queue.yellow (a.id ∷ []) ∙ ap (λ cut. raise cut a.id) has_it.all_yellow);
-            made = λ j x b e of mine. subst (λ m. b.id.index ≤ m) (sym created_is) (has_it.made j x b e of (mine ∙ ap (λ (y : Replica). y.held.id) now));
-            base = λ q. (let old = has_it.base q in let e = red q in omega (arith, old, e));
-            upper = λ q. (let old = has_it.upper q in let e = red q in
-                let more : count_behind (T (suc n)) q ≡ count_behind (T n) q + one_of a q =
-                ap (λ (x : Talk). count_behind x q) (talk-next c conf n s i.talk next ∙ ap (hears_from (T n) s.from) is) ∙ counted-next (T n) a q in omega (arith, old, e, more));
-            lower = λ j x b le lt has_place e of. elim (cases_lt j n) [
-              | inl before ↦ (let old = has_it.lower j x b le before has_place e of in let f = red b.id.creator in omega (arith, old, f))
-              | inr after ↦
-                  let act : Some a ≡ Some b = sym (ap act_in is) ∙ ap (λ (y : Sent Msg). act_in y.message) (same-sent j x after lt e) ∙ ap act_in of in
-                  let same : a ≡ b = ap (λ (o : Option Action). option_map_or (λ y. y) o a) act in
-                  let f = red a.id.creator in
-                  let unit : one_of a a.id.creator ≡ 1 = cond-true (a.id.creator == a.id.creator) 1 0 (eq-eqb a.id.creator a.id.creator refl) in
-                  subst (λ (y : Action). y.id.index ≤ index_in (mark_yellow t a).replica.held.queue.red_cut y.id.creator) same (let g = index in omega (arith, f, unit, g))
-            ];
-          } where
+      -- behind its mark
+      marked-next : (h new : Held) (has_it : HasMarked n h) → IsOneself c.start new has_it.all → new.id ≡ h.id → created new ≡ created h →
+          ((q : ℕ) → index_in new.queue.red_cut q ≡ index_in h.queue.red_cut q + one_of a q) → HasMarked (suc n) new
+      marked-next h new has_it is_now id_is created_is red = record {
+        all = has_it.all;
+        is = is_now;
+        made = λ j x b e of mine. subst (λ m. b.id.index ≤ m) (sym created_is) (has_it.made j x b e of (mine ∙ id_is));
+        base = λ q. (let old = has_it.base q in let e = red q in omega (arith, old, e));
+        upper = λ q. (let old = has_it.upper q in let e = red q in
+            let more : count_behind (T (suc n)) q ≡ count_behind (T n) q + one_of a q =
+            ap (λ (x : Talk). count_behind x q) (talk-next c conf n s i.talk next ∙ ap (hears_from (T n) s.from) is) ∙ counted-next (T n) a q in omega (arith, old, e, more));
+        lower = λ j x b le lt has_place e of. elim (cases_lt j n) [
+          | inl before ↦ (let old = has_it.lower j x b le before has_place e of in let f = red b.id.creator in omega (arith, old, f))
+          | inr after ↦
+              let act : Some a ≡ Some b = sym (ap act_in is) ∙ ap (λ (y : Sent Msg). act_in y.message) (same-sent j x after lt e) ∙ ap act_in of in
+              let same : a ≡ b = ap (λ (o : Option Action). option_map_or (λ y. y) o a) act in
+              let f = red a.id.creator in
+              let unit : one_of a a.id.creator ≡ 1 = cond-true (a.id.creator == a.id.creator) 1 0 (eq-eqb a.id.creator a.id.creator refl) in
+              subst (λ (y : Action). y.id.index ≤ index_in new.queue.red_cut y.id.creator) same (let g = act-index h has_it in omega (arith, f, unit, g))
+        ];
+      }
+
+      -- an own action that becomes known is one that was created
+      act-own : (h : Held) (has_it : HasMarked n h) → LeftOwn h.own h.queue.red_cut h.id h.own (after_first h.own a.id) a.id
+      act-own h has_it =
+          left-own h.own h.queue.red_cut h.id h.own a.id (rising-red c.start h has_it.all has_it.is) has_it.is.contiguous.own has_it.is.contiguous.mine (act-index h has_it) (made-by h a (act-made h has_it))
+          (sym (ap (λ n. drop n h.own) (no-less (length h.own))), (let same : length h.own ≤ length h.own = omega arith in same)) where
             no-less : (n : ℕ) → n - n ≡ 0
             no-less n = omega arith
+
+      yellow-marked : (t : Turn) → IsAllYellow t.replica.held → HasMarked n t.replica.held → IsAllYellow (mark_yellow t a).replica.held × HasMarked (suc n) (mark_yellow t a).replica.held
+      yellow-marked t yellow has_it =
+          let h = t.replica.held in
+          let index = act-index h has_it in
+          let now = marks-yellow c.start has_it.all t a has_it.is yellow (act-made h has_it) index in (
+            subst (λ (x : Replica). IsAllYellow x.held) (sym now) (cut_behind-append h.queue.green_cut h.queue.yellow (a.id ∷ []) ∙ ap (λ cut. raise cut a.id) yellow),
+            marked-next h (mark_yellow t a).replica.held has_it
+                (subst (λ (x : Replica). IsOneself c.start x.held has_it.all) (sym now) (yellow-oneself c.start h has_it.all has_it.is yellow a index))
+                (ap (λ (x : Replica). x.held.id) now) (ap (λ (x : Replica). created x.held) now ∙ (act-own h has_it).made)
+                (λ q. ap (λ (x : Replica). index_in x.held.queue.red_cut q) now ∙ raised-next h.queue.red_cut a (rising-red c.start h has_it.all has_it.is) index q),
+          )
+
+      red-marked : (t : Turn) → HasMarked n t.replica.held → ((mark_red t a).replica.state ≡ t.replica.state) × HasMarked (suc n) (mark_red t a).replica.held
+      red-marked t has_it =
+          let h = t.replica.held in
+          let index = act-index h has_it in
+          let now = marks-red t a (act-made h has_it) index in (
+            ap (λ (x : Replica). x.state) now,
+            marked-next h (mark_red t a).replica.held has_it
+                (subst (λ (x : Replica). IsOneself c.start x.held has_it.all) (sym now) (red-oneself c.start h has_it.all has_it.is a index))
+                (ap (λ (x : Replica). x.held.id) now) (ap (λ (x : Replica). created x.held) now ∙ (act-own h has_it).made)
+                (λ q. ap (λ (x : Replica). index_in x.held.queue.red_cut q) now ∙ raised-next h.queue.red_cut a (rising-red c.start h has_it.all has_it.is) index q),
+          )
 
       -- ---- in No
 
@@ -478,16 +519,18 @@ module _ (c : Chronicle) (i : Invariant c) (p conf : ℕ) (r : Replica) (up : re
             ⊎_elim (λ before. so.more q before) (λ now. subst (λ x. has heard x ≡ true) at.from (so.came at.index at.sent lt now at.found at.announces)) (cut.received q found.0 at)
 
     abbrev Result : State → Turn → Msg → Type 0
-    Result state t m = IsUsedLeaving state t s.from m × InParting (suc n) (on_message state s.from m t)
+    Result state t m = IsUsedLeaving true state t s.from m × InParting (suc n) (on_message state s.from m t)
 
-    -- who announces hasn't done so before
-    announces : (id at : ℕ) → s.message ≡ Cpc id at → (((id == s.from) && (at == conf)) ≡ true) × (has (remaining (T low).heard) s.from ≡ true) × (has (T n).announced s.from ≡ false)
+    -- who announces hasn't done so before, and there was a quorum
+    announces : (id at : ℕ) → s.message ≡ Cpc id at →
+        (((id == s.from) && (at == conf)) ≡ true) × (has (remaining (T low).heard) s.from ≡ true) × (has (T n).announced s.from ≡ false) × (decides (T low).heard ≡ true)
     announces id at is =
         let one = and_parts ((((id == s.from) && (at == conf)) && may_go_on set (T n) s.from) && decides (T n).heard) (not (has (T n).announced s.from)) (say (Cpc id at) is) in
         let two = and_parts (((id == s.from) && (at == conf)) && may_go_on set (T n) s.from) (decides (T n).heard) one.0 in
         let three = and_parts ((id == s.from) && (at == conf)) (may_go_on set (T n) s.from) two.0 in
         let stays = (and_parts (is_ended set (T n)) (has (remaining (T n).heard) s.from) three.1).1 in
-        (three.0, ap (λ l. has (remaining l) s.from) (sym (heard-at n above (omega (arith, inside)))) ∙ stays, not-true (has (T n).announced s.from) one.1)
+        let heard = sym (heard-at n above (omega (arith, inside))) in
+        (three.0, ap (λ l. has (remaining l) s.from) heard ∙ stays, not-true (has (T n).announced s.from) one.1, ap decides heard ∙ two.1)
 
     none-left : {P : Type 0} → AllTold n → (id at : ℕ) → s.message ≡ Cpc id at → P
     none-left told id at is = absurd (let a = announces id at is in let clash : true ≡ false = sym (told s.from a.1) ∙ a.2 in cc)
@@ -540,7 +583,6 @@ module _ (c : Chronicle) (i : Invariant c) (p conf : ℕ) (r : Replica) (up : re
         record {
           all = greens_of c p ++ installed_by t.replica.held;
           is = done.is;
-          all_yellow = installed-yellow c.start (greens_of c p) t own;
           made = λ j x b e of own'. absurd (not-silent c conf j x i.talk e b of p cut.silent (own' ∙ mine));
           base = λ q. (let e = red q in omega (arith, e));
           upper = λ q. (let e = red q in let up' = grown-to low n q (omega arith) above (omega (arith, inside)) in omega (arith, e, up'));
@@ -552,39 +594,50 @@ module _ (c : Chronicle) (i : Invariant c) (p conf : ℕ) (r : Replica) (up : re
     un-used t cut state held told quiet (ActionMsg a) is =
         let own : IsOneself c.start t.replica.held (greens_of c p) = subst (λ (h : Held). IsOneself c.start h (greens_of c p)) (sym held) cut.oneself in
         let behind = installed-marked t cut state held quiet in
-        ((can-install c.start (greens_of c p) t own, act-fits a is (install t).replica.held behind), Marks refl (told-next told) (act-marked a is (install t) behind))
+        let now = yellow-marked a is (install t) (installed-yellow c.start (greens_of c p) t own) behind in
+        ((can-install c.start (greens_of c p) t own, act-fits a is (install t).replica.held behind), Marks refl (told-next told) now.0 now.1)
     un-used t cut state held told quiet (StateMsg x) is = absurd (let clash : false ≡ true = late (StateMsg x) is in cc)
     un-used t cut state held told quiet (GreenItem place a) is = absurd (let clash : false ≡ true = late (GreenItem place a) is in cc)
     un-used t cut state held told quiet (RedItem a) is = absurd (let clash : false ≡ true = late (RedItem a) is in cc)
     un-used t cut state held told quiet (Cpc id at) is = none-left told id at is
 
-    -- ---- in TransPrim
+    -- ---- in TransPrim and in NonPrim
 
-    trans-used : (t : Turn) → t.replica.state ≡ TransPrim → AllTold n → HasMarked n t.replica.held → (m : Msg) → s.message ≡ m → Result TransPrim t m
+    trans-used : (t : Turn) → t.replica.state ≡ TransPrim → AllTold n → IsAllYellow t.replica.held → HasMarked n t.replica.held → (m : Msg) → s.message ≡ m → Result TransPrim t m
     unfolding on_message
-    trans-used t state told marked (ActionMsg a) is =
-        (act-fits a is t.replica.held marked, Marks ((even-mark_yellow t a).state ∙ state) (told-next told) (act-marked a is t marked))
-    trans-used t state told marked (StateMsg x) is = absurd (let clash : false ≡ true = late (StateMsg x) is in cc)
-    trans-used t state told marked (GreenItem place a) is = absurd (let clash : false ≡ true = late (GreenItem place a) is in cc)
-    trans-used t state told marked (RedItem a) is = absurd (let clash : false ≡ true = late (RedItem a) is in cc)
-    trans-used t state told marked (Cpc id at) is = none-left told id at is
+    trans-used t state told yellow marked (ActionMsg a) is =
+        let now = yellow-marked a is t yellow marked in
+        (act-fits a is t.replica.held marked, Marks ((even-mark_yellow t a).state ∙ state) (told-next told) now.0 now.1)
+    trans-used t state told yellow marked (StateMsg x) is = absurd (let clash : false ≡ true = late (StateMsg x) is in cc)
+    trans-used t state told yellow marked (GreenItem place a) is = absurd (let clash : false ≡ true = late (GreenItem place a) is in cc)
+    trans-used t state told yellow marked (RedItem a) is = absurd (let clash : false ≡ true = late (RedItem a) is in cc)
+    trans-used t state told yellow marked (Cpc id at) is = none-left told id at is
+
+    alone-used : (t : Turn) → t.replica.state ≡ NonPrim false → decides (T low).heard ≡ false → HasMarked n t.replica.held → (m : Msg) → s.message ≡ m → Result (NonPrim false) t m
+    unfolding on_message
+    alone-used t state none marked (ActionMsg a) is = (let now = red-marked a is t marked in (act-fits a is t.replica.held marked, Reds (now.0 ∙ state) none now.1))
+    alone-used t state none marked (StateMsg x) is = absurd (let clash : false ≡ true = late (StateMsg x) is in cc)
+    alone-used t state none marked (GreenItem place a) is = absurd (let clash : false ≡ true = late (GreenItem place a) is in cc)
+    alone-used t state none marked (RedItem a) is = absurd (let clash : false ≡ true = late (RedItem a) is in cc)
+    alone-used t state none marked (Cpc id at) is = absurd (let clash : true ≡ false = sym (announces id at is).3 ∙ none in cc)
 
     -- one message
     message-used : (t : Turn) → InParting n t → Result t.replica.state t s.message
     message-used t (Waits cut heard state held so quiet) = subst (λ x. Result x t s.message) (sym state) (no-used t cut heard state held so quiet s.message refl)
     message-used t (Knows cut state held told quiet) = subst (λ x. Result x t s.message) (sym state) (un-used t cut state held told quiet s.message refl)
-    message-used t (Marks state told marked) = subst (λ x. Result x t s.message) (sym state) (trans-used t state told marked s.message refl)
+    message-used t (Marks state told yellow marked) = subst (λ x. Result x t s.message) (sym state) (trans-used t state told yellow marked s.message refl)
+    message-used t (Reds state none marked) = subst (λ x. Result x t s.message) (sym state) (alone-used t state none marked s.message refl)
 
-    place-used : (t : Turn) → InParting n t → AreTakenLeaving t (delivery_at (conf_of c conf) (suc n)) × InParting (suc n) (take_all (delivery_at (conf_of c conf) (suc n)) t)
+    place-used : (t : Turn) → InParting n t → AreTakenLeaving true t (delivery_at (conf_of c conf) (suc n)) × InParting (suc n) (take_all (delivery_at (conf_of c conf) (suc n)) t)
     unfolding delivery_at take_one
     place-used t is =
         let one = message-used t is in
-        subst (λ (o : Option (Sent Msg)). (let list = option_map_or (λ (s : Sent Msg). Message (suc n) s.from s.message ∷ []) o [] in AreTakenLeaving t list × InParting (suc n) (take_all list t))) (sym next)
+        subst (λ (o : Option (Sent Msg)). (let list = option_map_or (λ (s : Sent Msg). Message (suc n) s.from s.message ∷ []) o [] in AreTakenLeaving true t list × InParting (suc n) (take_all list t))) (sym next)
         ((one.0, tt), one.1)
 
   -- all places
   places-used : (rest : List ℕ) (k : ℕ) (t : Turn) → InParting k t → low ≤ k → ascend_within k (length list) rest ≡ true →
-      ((x : ℕ) → k < x → has places x ≡ true → has rest x ≡ true) → ((x : ℕ) → has rest x ≡ true → has places x ≡ true) → AreTakenLeaving t (deliveries_at (conf_of c conf) rest)
+      ((x : ℕ) → k < x → has places x ≡ true → has rest x ≡ true) → ((x : ℕ) → has rest x ≡ true → has places x ≡ true) → AreTakenLeaving true t (deliveries_at (conf_of c conf) rest)
   places-used [] k t has_it least up later inside = tt
   places-used (zero ∷ rest) k t has_it least up later inside =
       absurd (let lt : k < 0 = ltb-true k 0 (and_parts (nat_lt k 0) (nat_le 0 (length list)) (and_parts (nat_lt k 0 && nat_le 0 (length list)) (ascend_within 0 (length list) rest) up).0).0 in omega (arith, lt))
@@ -597,7 +650,7 @@ module _ (c : Chronicle) (i : Invariant c) (p conf : ℕ) (r : Replica) (up : re
       let none : (j : ℕ) → k ≤ j → j < n → has places (suc j) ≡ true → ⊥ = λ j low' high there. apart j high (or_cases (suc n == suc j) (has rest (suc j)) (later (suc j) (omega (arith, low')) there)) a.1 in
       let one = place-used n at.0 at.1 (omega (arith, le)) (omega (arith, lt, least)) (inside (suc n) (or_left (suc n == suc n) (has rest (suc n)) (eq-eqb (suc n) (suc n) refl))) t
       (parting-on k n least (omega (arith, lt)) (omega (arith, le)) none t has_it) in
-      taken-append (delivery_at (conf_of c conf) (suc n)) (deliveries_at (conf_of c conf) rest) t one.0
+      taken-append true (delivery_at (conf_of c conf) (suc n)) (deliveries_at (conf_of c conf) rest) t one.0
       (places-used rest (suc n) (take_all (delivery_at (conf_of c conf) (suc n)) t) one.1 (omega (arith, lt, least)) a.1
       (λ x high there. behind x high (or_cases (suc n == x) (has rest x) (later x (omega (arith, lt, high)) there)))
       (λ x there. inside x (or_right (suc n == x) (has rest x) there))) where
@@ -643,8 +696,19 @@ module _ (c : Chronicle) (i : Invariant c) (p : ℕ) (r : Replica) (conf : ℕ) 
   abbrev given : List (Delivery Msg)
   given = deliveries_at (conf_of c conf) places
 
+  -- all that was said to be made is, and the member knows what was handed to it
+  begins-marked : ((q : ℕ) → index_in r.held.queue.red_cut q ≡ count_behind X q) → (begun : is_ended (members_in c conf) X ≡ true) → HasMarked c i p conf r up mode.id low places closed begun low r.held
+  begins-marked red begun = record {
+    all = greens_of c p;
+    is = oneself;
+    made = λ j s b e is own. made-by r.held b (message-made c conf j p s b r.held i.replica.made_once e (ap action_in is) (running-core c p r up) mode.id) own;
+    base = λ q. (let e = red q in omega (arith, e));
+    upper = λ q. (let e = red q in omega (arith, e));
+    lower = λ j s b le lt there e is. absurd (omega (arith, le, lt));
+  }
+
   -- a primary component
-  from-primary : r.state ≡ RegPrim → AreTakenLeaving (go_to (begin r) TransPrim) given
+  from-primary : r.state ≡ RegPrim → AreTakenLeaving true (go_to (begin r) TransPrim) given
   from-primary state =
       let d = data-of RegPrim state in
       let green_red : r.held.queue.green_cut ≡ r.held.queue.red_cut = sym (core.made_of.red_cut ∙ ap (λ xs. cut_behind r.held.queue.green_cut (names_of xs)) d.1) in
@@ -652,18 +716,19 @@ module _ (c : Chronicle) (i : Invariant c) (p : ℕ) (r : Replica) (conf : ℕ) 
       let all = primary-announced (members_in c conf) conf X p (ap is_primary (sym is-state ∙ state)) in
       let begun = creating-ended (members_in c conf) conf X p (ap is_creating (sym is-state ∙ state)) in
       places-used c i p conf r up mode.id low places closed begun places low (go_to (begin r) TransPrim)
-      (Marks refl (λ q member. all-member (has X.announced) (remaining X.heard) q member all) (record {
-        all = greens_of c p;
-        is = oneself;
-        all_yellow = ap (cut_behind r.held.queue.green_cut) d.2 ∙ green_red;
-        made = λ j s b e is own. made-by r.held b (message-made c conf j p s b r.held i.replica.made_once e (ap action_in is) (running-core c p r up) mode.id) own;
-        base = λ q. (let e = red q in omega (arith, e));
-        upper = λ q. (let e = red q in omega (arith, e));
-        lower = λ j s b le lt there e is. absurd (omega (arith, le, lt));
-      })) (omega arith) ascends (λ x high there. there) (λ x there. there)
+      (Marks refl (λ q member. all-member (has X.announced) (remaining X.heard) q member all) (ap (cut_behind r.held.queue.green_cut) d.2 ∙ green_red) (begins-marked red begun))
+      (omega arith) ascends (λ x high there. there) (λ x there. there)
+
+  -- outside of one, behind the end of an exchange
+  from-alone : r.state ≡ NonPrim true → AreTakenLeaving true (go_to (begin r) (NonPrim false)) given
+  from-alone state =
+      let begun = creating-ended (members_in c conf) conf X p (ap is_creating (sym is-state ∙ state)) in
+      places-used c i p conf r up mode.id low places closed begun places low (go_to (begin r) (NonPrim false))
+      (Reds refl (undecided (members_in c conf) conf X p (sym is-state ∙ state)) (begins-marked (numbers (NonPrim true) state).0 begun))
+      (omega arith) ascends (λ x high there. there) (λ x there. there)
 
   -- an attempt that is cut short
-  from-attempt : r.state ≡ Construct conf X.announced → AreTakenLeaving (go_to (begin r) (No conf X.announced)) given
+  from-attempt : r.state ≡ Construct conf X.announced → AreTakenLeaving true (go_to (begin r) (No conf X.announced)) given
   from-attempt state =
       let set = members_in c conf in
       let now = attempting-now c i p conf r phase up (ap is_attempting state) in
@@ -690,20 +755,20 @@ module _ (c : Chronicle) (i : Invariant c) (p : ℕ) (r : Replica) (conf : ℕ) 
         came = λ j x lt there e is. absurd (let more = ascends-above places low (length (ordered_in c conf)) (suc j) ascends there in omega (arith, lt, more));
       }) (λ j x b le lt there e is. absurd (omega (arith, le, lt)))) (omega arith) ascends (λ x high there. there) (λ x there. there)
 
-  -- What comes in its parting is used, and can be placed.
-  pub leaving-taken : (at : ℕ) (others : List ℕ) → AreTakenLeaving (begin r) (TransitionalIn at others ∷ given)
+  -- What comes in its parting is used.
+  pub leaving-taken : (at : ℕ) (others : List ℕ) → AreTakenLeaving (not (is_exchanging r.state)) (begin r) (TransitionalIn at others ∷ given)
   unfolding take_one on_transitional
   leaving-taken at others = (
     tt,
-    subst (λ st. AreTakenLeaving (on_transitional st (begin r)) given) (sym is-state)
-        (never (members_in c conf) conf X p (λ st. r.state ≡ st → AreTakenLeaving (on_transitional st (begin r)) given)
+    subst (λ st. AreTakenLeaving (not (is_exchanging st)) (on_transitional st (begin r)) given) (sym is-state)
+        (never (members_in c conf) conf X p (λ st. r.state ≡ st → AreTakenLeaving (not (is_exchanging st)) (on_transitional st (begin r)) given)
         (λ k s x e. alone-taken (conf_of c conf) places (go_to (begin r) (NonPrim false)) refl)
         (λ k x n e. alone-taken (conf_of c conf) places (go_to (begin r) (NonPrim false)) refl)
         (λ e. left-taken (conf_of c conf) places (begin r) e)
-        (λ e. alone-taken (conf_of c conf) places (go_to (begin r) (NonPrim false)) refl)
+        (λ e. from-alone e)
         (λ e. from-primary e)
         (λ k s e.
         let waits = is-state ∙ waits-for (members_in c conf) conf X p (ap is_attempting (sym is-state ∙ e)) in
-        subst (λ st. AreTakenLeaving (on_transitional st (begin r)) given) (sym waits ∙ e) (from-attempt waits))
+        subst (λ st. AreTakenLeaving (not (is_exchanging st)) (on_transitional st (begin r)) given) (sym waits ∙ e) (from-attempt waits))
         is-state),
   )

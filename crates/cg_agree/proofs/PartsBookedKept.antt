@@ -11,7 +11,7 @@ use Rattle.cg_client.specs.Queries.{plain_reds}
 use Rattle.cg_agree.specs.World.{Life, Up, Down, Seat, seat_of, replica_of}
 use Rattle.cg_agree.specs.Chronicle.{Attempt, Chronicle}
 use Rattle.cg_agree.specs.Looks.{attempt_of, snapshot_of}
-use Rattle.cg_agree.specs.FactsReplica.{AreBooked}
+use Rattle.cg_agree.specs.FactsReplica.{AreBooked, is_exchanging}
 use Rattle.cg_agree.specs.Facts.{Invariant}
 use Rattle.cg_agree.specs.Small.{Small, Starts, Makes, Enters, Orders, Receives, Hands, Leaves, Asks, Settles, Commits, Crashes, Recovers, Copies, Joins, with_leaver, turning, turning_as, coming, handed_next, leaving, take_newest, take_next, take_parting, take_request, commit_as, crash_as, recover_as, copy_as, join_with, small_step}
 use Rattle.cg_agree.specs.Smalls.{may_make}
@@ -23,7 +23,6 @@ use Rattle.cg_agree.proofs.ExchangeBehind.{up-now}
 use Rattle.cg_agree.proofs.HandsNow.{hands-now, new, running-now}
 use Rattle.cg_agree.proofs.AttemptsGrow.{grown-leaver}
 use Rattle.cg_agree.proofs.ListEntered.{PartsBooked}
-use Rattle.cg_agree.proofs.ModeHeld.{is_exchanging}
 
 -- ---- the book
 

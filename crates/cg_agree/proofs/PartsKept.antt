@@ -12,6 +12,7 @@ use Rattle.cg_knowledge.specs.declared.summary.Summary.{Summary}
 use Rattle.cg_knowledge.specs.Members.{senders}
 use Rattle.cg_knowledge.specs.Primary.{newest_index, known_primary}
 use Rattle.cg_client.specs.Replica.{Replica}
+use Rattle.cg_agree.specs.FactsReplica.{is_exchanging}
 use Rattle.cg_agree.specs.World.{replica_of}
 use Rattle.cg_agree.specs.Chronicle.{Told, Attempt, Chronicle, no_chronicle}
 use Rattle.cg_agree.specs.Fronts.{IsSomeWith}
@@ -33,7 +34,6 @@ use Rattle.cg_agree.proofs.HandsNow.{hands-now, new, running-now}
 use Rattle.cg_agree.proofs.Knowledge.{some-sender, known-of}
 use Rattle.cg_agree.proofs.EndCovers.{OfEach}
 use Rattle.cg_agree.proofs.LevelsKept.{NotStart, start-kept}
-use Rattle.cg_agree.proofs.ModeHeld.{is_exchanging}
 use Rattle.cg_agree.proofs.PartsNamed.{PartsNamed, parts-named}
 use Rattle.cg_agree.proofs.PlanEnd.{AtPlanEnd}
 use Rattle.cg_agree.proofs.ShapeKept.{MadeParts, same-end, shape-kept}

@@ -103,6 +103,12 @@ is_attempting (No conf heard) = true
 is_attempting Un = true
 is_attempting _ = false
 
+-- the states of an exchange
+abbrev pub is_exchanging : State → Bool
+is_exchanging (ExchangeStates conf set heard) = true
+is_exchanging (ExchangeActions conf heard accepted) = true
+is_exchanging _ = false
+
 abbrev pub has_entered : Attempt → ℕ → Bool
 has_entered a p = has a.entered p
 

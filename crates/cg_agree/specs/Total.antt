@@ -34,7 +34,7 @@ use Rattle.cg_agree.specs.World.{World, replica_of}
 use Rattle.cg_agree.specs.Admission.{first_refusal}
 use Rattle.cg_agree.specs.Run.{MayStand}
 use Rattle.cg_agree.specs.Chronicle.{Chronicle}
-use Rattle.cg_agree.specs.FactsReplica.{run_on}
+use Rattle.cg_agree.specs.FactsReplica.{run_on, is_exchanging}
 use Rattle.cg_agree.specs.Fronts.{When, Either}
 use Rattle.cg_agree.specs.Looks.{disk_held}
 use Rattle.cg_agree.specs.Talk.{Talk, talk_of}
@@ -123,24 +123,29 @@ IsUsed _ t from m = ⊥
 
 -- ---- what comes as a member leaves
 
--- what comes behind a primary component are actions; behind an attempt that was cut short announcements, and behind the last of them actions,
--- by the first of which it is installed. Behind an exchange, and outside of a primary component, messages are passed over on purpose: what
--- the member was to learn first didn't come, so that an action may come behind a gap
-abbrev pub IsUsedLeaving : State → Turn → ℕ → Msg → Type 0
-IsUsedLeaving TransPrim t from (ActionMsg a) = IsTrue (fits_red t.replica.held a)
-IsUsedLeaving (No conf heard) t from (Cpc id at) = IsTrue (is_announced t.replica.held conf from id at)
-IsUsedLeaving Un t from (ActionMsg a) = CanInstall t × IsTrue (fits_red (install t).replica.held a)
-IsUsedLeaving (NonPrim regular) t from m = Unit {0}
-IsUsedLeaving Left t from m = Unit {0}
-IsUsedLeaving _ t from m = ⊥
+-- an action that can become red
+abbrev pub IsRedAct : Turn → Msg → Type 0
+IsRedAct t (ActionMsg a) = IsTrue (fits_red t.replica.held a)
+IsRedAct t m = ⊥
 
-abbrev pub IsTakenLeaving : Turn → Delivery Msg → Type 0
-IsTakenLeaving t (Message place from m) = IsUsedLeaving t.replica.state t from m
-IsTakenLeaving t d = Unit {0}
+-- behind a primary component come actions, and so they do outside of one; behind an attempt that was cut short announcements, and behind the last
+-- of them actions, by the first of which it is installed. Only behind an exchange that was cut short is something passed over: what is to be
+-- learnt in it, and an action whose predecessor was to be learnt first
+abbrev pub IsUsedLeaving : Bool → State → Turn → ℕ → Msg → Type 0
+IsUsedLeaving ended TransPrim t from m = IsRedAct t m
+IsUsedLeaving ended (No conf heard) t from (Cpc id at) = IsTrue (is_announced t.replica.held conf from id at)
+IsUsedLeaving ended Un t from (ActionMsg a) = CanInstall t × IsRedAct (install t) (ActionMsg a)
+IsUsedLeaving ended (NonPrim regular) t from m = When ended (IsRedAct t m)
+IsUsedLeaving ended Left t from m = Unit {0}
+IsUsedLeaving ended _ t from m = ⊥
 
-abbrev pub AreTakenLeaving : Turn → List (Delivery Msg) → Type 0
-AreTakenLeaving t [] = Unit {0}
-AreTakenLeaving t (d ∷ list) = IsTakenLeaving t d × AreTakenLeaving (take_one t d) list
+abbrev pub IsTakenLeaving : Bool → Turn → Delivery Msg → Type 0
+IsTakenLeaving ended t (Message place from m) = IsUsedLeaving ended t.replica.state t from m
+IsTakenLeaving ended t d = Unit {0}
+
+abbrev pub AreTakenLeaving : Bool → Turn → List (Delivery Msg) → Type 0
+AreTakenLeaving ended t [] = Unit {0}
+AreTakenLeaving ended t (d ∷ list) = IsTakenLeaving ended t d × AreTakenLeaving ended (take_one t d) list
 
 -- ---- small steps
 
@@ -153,7 +158,7 @@ abbrev pub MeetsNone : Chronicle → Small → Type 0
 MeetsNone c (Hands p) =
     IfSome (replica_of c.world p) (λ r. IfSome (at_place (home c.world.group p).ordered (suc (delivered_to c.world.group p))) (λ s. IsUsed r.state (begin r) s.from s.message))
 MeetsNone c (Leaves p set own places) =
-    IfSome (replica_of c.world p) (λ r. AreTakenLeaving (begin r) (TransitionalIn (regular_in (phase_of c.world.group p)) set ∷ deliveries_at (home c.world.group p) places))
+    IfSome (replica_of c.world p) (λ r. AreTakenLeaving (not (is_exchanging r.state)) (begin r) (TransitionalIn (regular_in (phase_of c.world.group p)) set ∷ deliveries_at (home c.world.group p) places))
 MeetsNone c (Enters p) = IfSome (replica_of c.world p) (λ r. CanRedden r.held)
 MeetsNone c (Recovers p) = IfSome (disk_held c.world p) CanRedden
 MeetsNone c other = Unit {0}
