@@ -375,4 +375,5 @@ pub mod MarksFit
 pub mod HandsMeet
 pub mod TurnsMeet
 pub mod NeverMet
+pub mod PartingIdle
 pub mod PartingPlaced

@@ -1,13 +1,13 @@
 -- What comes to a member as it leaves behind the end of an exchange is used. Actions can be placed: with a place every earlier one of its sender
 -- comes, so the action before it is known. In an attempt none comes before all announcements: it shows an installation, which follows
 -- announcements that all have received.
-use Rattle.std.proofs.Common.{◌≡◌, ℕ, zero, suc, ◌+◌, ◌-◌, ◌≤◌, ◌<◌, true, false, not, ◌&&◌, ◌||◌, List, [], ◌∷◌, ◌++◌, length, take, drop, Option, Some, None, IfSome, refl, sym, ap, ◌∙◌, subst, arith, inl, inr, ◌⊎◌, eqb-true, eq-eqb, nat_lt, nat_le, Bool, is_some, ap₂, filter_map, ⊎_elim, cond, if◌then◌else◌}
+use Rattle.std.proofs.Common.{◌≡◌, ℕ, zero, suc, ◌+◌, ◌-◌, ◌≤◌, ◌<◌, true, false, not, ◌&&◌, ◌||◌, List, [], ◌∷◌, ◌++◌, length, take, drop, Option, Some, None, IfSome, refl, sym, ap, ◌∙◌, subst, arith, inl, inr, ◌⊎◌, eqb-true, eq-eqb, nat_lt, nat_le, Bool, is_some, ap₂, filter_map, ⊎_elim, cond}
 use Rattle.std.specs.Prelude.{◌==◌, slice_get}
 use Rattle.std.specs.Option.{option_map_or}
 use Rattle.std.specs.List.{list_all}
 use Rattle.std.proofs.lemmas.Bool.{cases_eq, cases_lt, cond-true, cond-false, and_parts, ne_eqb, or_left, or_right, or_cases, ltb-true, leb-true, and_from, cond_both, not-true}
 use Rattle.cg_base.specs.Cuts.{index_in, raise}
-use Rattle.cg_base.specs.Lists.{count_up, above_up_to, at_place}
+use Rattle.cg_base.specs.Lists.{count_up, above_up_to}
 use Rattle.cg_base.specs.Sets.{has, is_within, with_member}
 use Rattle.cg_action.specs.declared.action.Action.{Action}
 use Rattle.cg_knowledge.specs.Verdict.{decides}
@@ -20,8 +20,8 @@ use Rattle.cg_group.specs.declared.phase.Phase.{Phase}
 use Rattle.cg_group.specs.declared.phase.Phase.TheVariants.{Regular}
 use Rattle.cg_group.specs.Events.{delivery_at, deliveries_at}
 use Rattle.cg_group.specs.Refusals.{sender_at}
-use Rattle.cg_group.specs.State.{Sent, phase_of, delivered_to, Configuration}
-use Rattle.cg_client.specs.Replica.{State, RegPrim, TransPrim, Replica, created, Held, No, Un, NonPrim, Left, Construct, ExchangeStates, ExchangeActions}
+use Rattle.cg_group.specs.State.{Sent, phase_of, delivered_to}
+use Rattle.cg_client.specs.Replica.{State, RegPrim, TransPrim, Replica, created, Held, No, Un, NonPrim, Construct}
 use Rattle.cg_client.specs.Requests.{is_creating}
 use Rattle.cg_client.specs.Turn.{Turn, begin, go_to}
 use Rattle.cg_client.specs.Marks.{is_unmade, mark_yellow, mark_red, marked, after_first}
@@ -47,10 +47,10 @@ use Rattle.cg_agree.proofs.HeldMarks.{IsOneself, rising-red, red-oneself}
 use Rattle.cg_agree.proofs.MessageThere.{message-made}
 use Rattle.cg_agree.proofs.RowYellow.{marks-yellow}
 use Rattle.cg_agree.proofs.RunFacts.{cut_behind-append}
-use Rattle.cg_agree.proofs.StatesSaid.{creating-ended, count-quiet, never, announcing}
+use Rattle.cg_agree.proofs.StatesSaid.{creating-ended, count-quiet, never, announcing, undecided}
 use Rattle.cg_agree.proofs.TalkEarly.{all-member, not_full, due_parts}
 use Rattle.cg_base.specs.SetLaws.{has-with_member}
-use Rattle.cg_knowledge.specs.Members.{senders, remaining, gone}
+use Rattle.cg_knowledge.specs.Members.{senders, remaining}
 use Rattle.cg_plan.specs.declared.parts.Item.TheVariants.{Green, Red}
 use Rattle.cg_records.specs.declared.vulnerable.Vulnerable.{Vulnerable}
 use Rattle.cg_group.specs.Ready.{all_received}
@@ -72,13 +72,13 @@ use Rattle.cg_agree.proofs.HeldMessages.{installed-all, installed-yellow}
 use Rattle.cg_agree.proofs.InstalledParts.{waits-for}
 use Rattle.cg_agree.proofs.LeavesTalk.{StandsAt, announced-there, covered}
 use Rattle.cg_agree.proofs.MarksFit.{can-install}
-use Rattle.cg_agree.proofs.PartingNo.{alone-kept, left-kept}
 use Rattle.cg_agree.proofs.Reach.{passes}
 use Rattle.cg_agree.proofs.ReachFacts.{all-from}
 use Rattle.cg_agree.proofs.ReachWorld.{when-is}
 use Rattle.cg_agree.proofs.TurnKinds.{installs-to}
 use Rattle.cg_agree.proofs.TurnValues.{even-mark_yellow}
 use Rattle.cg_queue.specs.MarkLaws.{red-placed}
+use Rattle.cg_agree.proofs.PartingIdle.{taken-append, alone-taken, left-taken}
 
 counted : (from n k : ℕ) → from ≤ k → k < from + n → has (count_up from n) k ≡ true
 counted from zero k le lt = absurd (omega arith)
@@ -99,35 +99,6 @@ ascends-above (y ∷ xs) low high x up there =
       | inl same ↦ (let e : y ≡ x = eqb-true y x same in omega (arith, lt, e))
       | inr later ↦ (let more : y < x = ascends-above xs y high x a.1 later in omega (arith, lt, more))
     ]
-
-taken-append : (ended : Bool) (xs ys : List (Delivery Msg)) (t : Turn) → AreTakenLeaving ended t xs → AreTakenLeaving ended (take_all xs t) ys → AreTakenLeaving ended t (xs ++ ys)
-taken-append ended [] ys t a b = b
-taken-append ended (x ∷ xs) ys t a b = (a.0, taken-append ended xs ys (take_one t x) a.1 b)
-
--- ---- who passes over what comes
-
--- where every message may come, and the state is kept
-module _ (ended : Bool) (P : Replica → Type 0) (C : Configuration Msg) (each : (from : ℕ) (m : Msg) (t : Turn) → P t.replica → IsUsedLeaving ended t.replica.state t from m × P (on_message t.replica.state from m t).replica) where
-  idle-place : (place : ℕ) (t : Turn) → P t.replica → AreTakenLeaving ended t (delivery_at C place) × P (take_all (delivery_at C place) t).replica
-  unfolding delivery_at take_one
-  idle-place place t is = at (at_place C.ordered place) where
-    at : (o : Option (Sent Msg)) → (let list = option_map_or (λ (s : Sent Msg). Message place s.from s.message ∷ []) o [] in AreTakenLeaving ended t list × P (take_all list t).replica)
-    at None = (tt, is)
-    at (Some s) = (let one = each s.from s.message t is in ((one.0, tt), one.1))
-
-  idle-places : (places : List ℕ) (t : Turn) → P t.replica → AreTakenLeaving ended t (deliveries_at C places)
-  idle-places [] t is = tt
-  idle-places (place ∷ places) t is =
-      let one = idle-place place t is in
-      taken-append ended (delivery_at C place) (deliveries_at C places) t one.0 (idle-places places (take_all (delivery_at C place) t) one.1)
-
-alone-taken : (C : Configuration Msg) (places : List ℕ) (t : Turn) → t.replica.state ≡ NonPrim false → AreTakenLeaving false t (deliveries_at C places)
-alone-taken = λ C. idle-places false (λ r. r.state ≡ NonPrim false) C (λ from m t e.
-    subst (λ x. IsUsedLeaving false x t from m × ((on_message x from m t).replica.state ≡ NonPrim false)) (sym e) (tt, alone-kept from m t e))
-
-left-taken : (C : Configuration Msg) (places : List ℕ) (t : Turn) → t.replica.state ≡ Left → AreTakenLeaving true t (deliveries_at C places)
-left-taken = λ C. idle-places true (λ r. r.state ≡ Left) C (λ from m t e.
-    subst (λ x. IsUsedLeaving true x t from m × ((on_message x from m t).replica.state ≡ Left)) (sym e) (tt, left-kept from m t e))
 
 -- ---- behind the end of a plan
 
@@ -150,18 +121,6 @@ late-alone set conf t from (GreenItem place a) may ended =
     absurd (let clash : true ≡ false = sym (and_parts (is_full set t) (is_through t) ended).1 ∙ (due_parts set t from (Green place) may).1 in cc)
 late-alone set conf t from (RedItem a) may ended =
     absurd (let clash : true ≡ false = sym (and_parts (is_full set t) (is_through t) ended).1 ∙ (due_parts set t from (Red a.id) may).1 in cc)
-
--- where no quorum was
-undecided : (set : List ℕ) (conf : ℕ) (t : Talk) (me : ℕ) → state_in set conf t me ≡ NonPrim true → decides t.heard ≡ false
-undecided set conf t me e = at (is_full set t) (is_through t) (has (gone t.heard) me) (decides t.heard) (all_announced t) e where
-  at : (full through left decided told : Bool) → (if not full then ExchangeStates conf set t.heard else if not through then ExchangeActions conf t.heard t.accepted
-      else if left then Left else if not decided then NonPrim true else if told then RegPrim else Construct conf t.announced) ≡ NonPrim true → decided ≡ false
-  at false through left decided told e = absurd (let clash : ExchangeStates conf set t.heard ≡ NonPrim true = e in cc)
-  at true false left decided told e = absurd (let clash : ExchangeActions conf t.heard t.accepted ≡ NonPrim true = e in cc)
-  at true true true decided told e = absurd (let clash : Left ≡ NonPrim true = e in cc)
-  at true true false false told e = refl
-  at true true false true true e = absurd (let clash : RegPrim ≡ NonPrim true = e in cc)
-  at true true false true false e = absurd (let clash : Construct conf t.announced ≡ NonPrim true = e in cc)
 
 -- what a red mark makes of the turn, where the action is the next of its creator
 marks-red : (t : Turn) (a : Action) → is_unmade t.replica.held a ≡ false → a.id.index ≡ suc (index_in t.replica.held.queue.red_cut a.id.creator) →

@@ -55,6 +55,18 @@ announcing set conf t me at heard e = by (is_full set t) (is_through t) (has (go
   by true true false true true a b c d e = absurd (let clash : RegPrim ≡ Construct at heard = e in cc)
   by true true false true false a b c d e = record { ended = and_from (is_full set t) (is_through t) a b; decided = c; few = d }
 
+-- where no quorum was
+pub undecided : (set : List ℕ) (conf : ℕ) (t : Talk) (me : ℕ) → state_in set conf t me ≡ NonPrim true → decides t.heard ≡ false
+undecided set conf t me e = at (is_full set t) (is_through t) (has (gone t.heard) me) (decides t.heard) (all_announced t) e where
+  at : (full through left decided told : Bool) → (if not full then ExchangeStates conf set t.heard else if not through then ExchangeActions conf t.heard t.accepted
+      else if left then Left else if not decided then NonPrim true else if told then RegPrim else Construct conf t.announced) ≡ NonPrim true → decided ≡ false
+  at false through left decided told e = absurd (let clash : ExchangeStates conf set t.heard ≡ NonPrim true = e in cc)
+  at true false left decided told e = absurd (let clash : ExchangeActions conf t.heard t.accepted ≡ NonPrim true = e in cc)
+  at true true true decided told e = absurd (let clash : Left ≡ NonPrim true = e in cc)
+  at true true false false told e = refl
+  at true true false true true e = absurd (let clash : RegPrim ≡ NonPrim true = e in cc)
+  at true true false true false e = absurd (let clash : Construct conf t.announced ≡ NonPrim true = e in cc)
+
 -- one that creates has come to the end of the plan
 pub creating-ended : (set : List ℕ) (conf : ℕ) (t : Talk) (me : ℕ) → is_creating (state_in set conf t me) ≡ true → is_ended set t ≡ true
 creating-ended set conf t me creating = ⊎_elim (λ y. y) (λ n. absurd (let clash : true ≡ false = sym creating ∙ not-creating set conf t me n in cc)) (cases_Bool (is_ended set t))

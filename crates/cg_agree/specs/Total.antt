@@ -129,8 +129,8 @@ IsRedAct t (ActionMsg a) = IsTrue (fits_red t.replica.held a)
 IsRedAct t m = ⊥
 
 -- behind a primary component come actions, and so they do outside of one; behind an attempt that was cut short announcements, and behind the last
--- of them actions, by the first of which it is installed. Only behind an exchange that was cut short is something passed over: what is to be
--- learnt in it, and an action whose predecessor was to be learnt first
+-- of them actions, by the first of which it is installed. Only behind an exchange that was cut short something is passed over: what was to be
+-- learnt in it, and an action whose predecessor was to be learnt first. One that has left uses none
 abbrev pub IsUsedLeaving : Bool → State → Turn → ℕ → Msg → Type 0
 IsUsedLeaving ended TransPrim t from m = IsRedAct t m
 IsUsedLeaving ended (No conf heard) t from (Cpc id at) = IsTrue (is_announced t.replica.held conf from id at)

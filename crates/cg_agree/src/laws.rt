@@ -18,8 +18,9 @@ pub fn actions_stand_in_one_book()
     ensures { AlwaysBooked }
 {}
 
-/// No event meets a message that can't be used, an action in a regular phase, an installation, an entering or a recovery that can't be
-/// placed, or an item that its sender lacks.
+/// No event meets a message that can't be used, an action that can't be placed, or an item that its sender lacks, whether a turn stands or
+/// is struck: in a regular phase, as a member leaves, in an installation, on entering and on recovering. What comes to one that has left,
+/// and behind an exchange that was cut short, is passed over on purpose.
 pub fn nothing_is_wrongly_ignored()
     ensures { NeverMet }
 {}
