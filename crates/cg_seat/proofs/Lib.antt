@@ -1,5 +1,7 @@
+mod Arriving
 mod Beginning
 mod Events
+mod HeldAgrees
 mod Falling
 mod Opening
 mod Arming

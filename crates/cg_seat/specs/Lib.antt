@@ -1,4 +1,5 @@
 pub mod Calls
+pub mod Copies
 pub mod Resting
 pub mod Seen
 pub mod SeenLaws

@@ -1,0 +1,166 @@
+//! A snapshot under way.
+ghost use Rattle.std.specs.Prelude.{◌≡◌, ◌≤◌, ◌+◌, ◌^◌, [], min, IfOk};
+ghost use Rattle.cg_disk.specs.View.{DiskView};
+ghost use Rattle.cg_join.specs.Snapshot.{joined};
+ghost use Rattle.cg_records.specs.Limits.{IsNumber};
+ghost use Rattle.cg_stored.specs.Checkpoint.{Agrees};
+ghost use Rattle.cg_agree.specs.Step.{piece_count};
+ghost use Rattle.cg_seat.specs.Calls.{arrived, risen};
+ghost use Rattle.cg_seat.specs.Resting.{IsResting};
+ghost use Rattle.cg_seat.specs.Seen.{down_seen};
+
+use crate::Seat;
+use crate::pieces::take_pieces;
+use crate::resting::Resting;
+use cg_base::{Cut, NoMemory, ReplicaId};
+use cg_client::Core;
+use cg_disk::{Disk, ModelDisk};
+use cg_engine::Wreck;
+use cg_join::{FinishErr, Joiner, SnapshotName, SnapshotWriter, snapshots_are_counted};
+use std::alloc::Global;
+use std::marker::Model;
+use std::snapshot::Snapshot;
+
+/// A snapshot under way: for whom, of whom, the copy of what that replica had green, and the joiner with its disk, which
+/// has taken the first pieces. Clauses see it as the world's definitions have it: with all that its giver held, of which
+/// it keeps no second copy.
+#[derive(Drop)]
+pub struct Transfer {
+    joiner: ReplicaId,
+    giver: ReplicaId,
+    held: Snapshot<Core>,
+    writer: SnapshotWriter,
+    taking: Joiner<ModelDisk>,
+}
+
+impl Model for Transfer {
+    ghost use Rattle.std.specs.Prelude.{length};
+    ghost use Rattle.cg_agree.specs.World.{Snapshot};
+    ghost use Rattle.cg_seat.specs.Copies.{IsCopy};
+
+    ghost Value = { Snapshot };
+
+    ghost view = { λ t. record { joiner = t.joiner; giver = t.giver; content = t.held.value; taken = length t.taking.parts } };
+
+    ghost invariant = { λ t. IsCopy (⟦<ModelDisk as Disk>⟧.view t.taking.disk) t.writer t.taking t.joiner t.held.value };
+}
+
+impl Transfer {
+    // A copy of what the replica has green, of which no piece was taken.
+    pub(crate) fn start(
+        core: &Core,
+        giver: ReplicaId,
+        number: u64,
+        joiner: ReplicaId,
+    ) -> Result<Transfer, NoMemory>
+        requires number { IsNumber number }
+        requires agrees { Agrees (joined joiner core.now) }
+        ensures { IfOk result (λ t. t ≡ record { joiner = joiner; giver = giver; content = core.now; taken = 0 }) }
+    {
+        let alloc = core.alloc();
+        let writer = SnapshotWriter::make(core, SnapshotName { rep: giver, number })?;
+        let name = SnapshotName { rep: giver, number };
+        Ok(Transfer {
+            joiner,
+            giver,
+            held: Snapshot::of(core),
+            writer,
+            taking: Joiner::new(alloc, ModelDisk::new(alloc), joiner, name),
+        })
+    }
+
+    /// For whom it is. It takes no memory.
+    pub fn joiner(&self) -> ReplicaId
+        ensures { result ≡ self.now.joiner }
+    {
+        self.joiner
+    }
+
+    /// Of whom it is. It takes no memory.
+    pub fn giver(&self) -> ReplicaId
+        ensures { result ≡ self.now.giver }
+    {
+        self.giver
+    }
+
+    /// How many pieces were taken. It takes no memory.
+    pub fn taken(&self) -> u64
+        ensures { result ≡ self.now.taken }
+    {
+        self.taking.taken()
+    }
+
+    /// How many pieces there are. It takes no memory.
+    pub fn count(&self) -> u64
+        ensures count { result ≡ piece_count self.now.content }
+        ensures most { self.now.taken ≤ result }
+    {
+        snapshots_are_counted();
+        self.writer.count()
+    }
+
+    /// The next pieces are taken, or all that are left where these are fewer.
+    pub fn take(self, pieces: u64) -> Result<Transfer, NoMemory>
+        ensures { IfOk result (λ t. t ≡ record self { taken = min (piece_count self.content) (self.taken + pieces) }) }
+    {
+        let more = pieces.min(self.count() - self.taken());
+        let Transfer {
+            joiner,
+            giver,
+            held,
+            writer,
+            mut taking,
+        } = self;
+        match take_pieces(&writer, &mut taking, more) {
+            Ok(()) => Ok(Transfer {
+                joiner,
+                giver,
+                held,
+                writer,
+                taking,
+            }),
+            Err(NoMemory) => {
+                drop(held);
+                drop(writer);
+                drop(taking);
+                Err(NoMemory)
+            }
+        }
+    }
+
+    /// The replica that joined, up with its new disk, where all pieces were taken.
+    pub fn finish(self, alloc: Global) -> Result<Seat, NoMemory>
+        requires { self.taken ≡ piece_count self.content }
+        ensures { IfOk result (λ s. s ≡ arrived self) }
+    {
+        snapshots_are_counted();
+        let Transfer {
+            joiner,
+            held,
+            writer,
+            taking,
+            ..
+        } = self;
+        drop(held);
+        drop(writer);
+        match taking.finish() {
+            Ok(disk) => arrive(alloc, disk, joiner),
+            Err(FinishErr::Lost(_)) => unreachable!(),
+            Err(FinishErr::NoMemory(disk)) => {
+                drop(disk);
+                Err(NoMemory)
+            }
+        }
+    }
+}
+
+// The replica of a disk comes up, and nothing is to be shown of that.
+fn arrive(alloc: Global, disk: ModelDisk, id: ReplicaId) -> Result<Seat, NoMemory>
+    requires { IsResting (⟦<ModelDisk as Disk>⟧.view disk) id }
+    ensures { IfOk result (λ s. s ≡ (risen [] id (down_seen (⟦<ModelDisk as Disk>⟧.view) (record { disk = disk; id = id; count = 0; green = [] })).life).0) }
+{
+    let resting = Resting::new(Wreck::new(alloc, disk, id));
+    let (seat, news) = Seat::down(resting).recover(alloc, &Cut::zero())?;
+    drop(news);
+    Ok(seat)
+}
