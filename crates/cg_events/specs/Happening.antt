@@ -1,16 +1,15 @@
 -- What comes of an event: what it does, or the reason by which it isn't admitted.
 use Rattle.std.specs.Prelude.{◌≡◌, ◌≤◌, Some, None}
 use Rattle.cg_schedule.specs.declared.event.Event.{Event}
-use Rattle.cg_schedule.specs.declared.event.Event.TheVariants.{Fail, Transfer}
+use Rattle.cg_schedule.specs.declared.event.Event.TheVariants.{Fail}
 use Rattle.cg_agree.specs.World.{World}
 use Rattle.cg_agree.specs.Admission.{first_refusal}
 use Rattle.cg_agree.specs.Step.{happens}
 use Rattle.cg_events.specs.declared.happened.Happened.{Happened}
 use Rattle.cg_events.specs.declared.happened.Happened.TheVariants as happened
 
--- the event is built; the call that is to fail is counted from 1
+-- the call that is to fail is counted from 1
 abbrev pub IsBuilt : Event → Type 0
-IsBuilt (Transfer p joiner pieces) = ⊥
 IsBuilt (Fail p call) = 1 ≤ call
 IsBuilt other = Unit {0}
 

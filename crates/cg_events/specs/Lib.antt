@@ -1,5 +1,6 @@
 pub mod Going
 pub mod Grounds
+pub mod Handing
 pub mod Happening
 pub mod Seating
 pub mod Striking

@@ -3,7 +3,7 @@ ghost use Rattle.std.specs.Prelude.{◌≡◌, ◌∷◌, []};
 ghost use Rattle.cg_base.specs.Lists.{first_some};
 ghost use Rattle.cg_base.specs.Sets.{IsSet};
 ghost use Rattle.cg_group.specs.Refusals.{any_of, empty_set, not_up};
-ghost use Rattle.cg_agree.specs.Admission.{unknown, has_left, already_up, id_used, never_named, takes_part};
+ghost use Rattle.cg_agree.specs.Admission.{unknown, has_left, already_up, begun_already, id_used, joiner_left, never_named, not_green, takes_part, transfer_refused};
 
 use crate::WorldState;
 use cg_base::{IdSet, ReplicaId};
@@ -115,6 +115,53 @@ pub(crate) fn leave_refused(state: &WorldState, p: ReplicaId, server: ReplicaId)
     ensures { result ≡ first_some (takes_part state.now p ∷ never_named state.now server ∷ []) }
 {
     first_of(&[takes_part(state, p), never_named(state, server)])
+}
+
+// The replica has begun.
+fn begun_already(state: &WorldState, p: ReplicaId) -> Option<Reason>
+    ensures { result ≡ begun_already state.now p }
+{
+    if state.has_begun(p) {
+        return Some(Reason::AlreadyUp(p));
+    }
+    None
+}
+
+// The joiner has left, as its representative knows.
+fn joiner_left(state: &WorldState, p: ReplicaId, joiner: ReplicaId) -> Option<Reason>
+    ensures { result ≡ joiner_left state.now p joiner }
+{
+    if state.knows_left(p, joiner) {
+        return Some(Reason::HasLeft(joiner));
+    }
+    None
+}
+
+// The joiner is no server, as its representative knows.
+fn not_green(state: &WorldState, p: ReplicaId, joiner: ReplicaId) -> Option<Reason>
+    ensures { result ≡ not_green state.now p joiner }
+{
+    if state.knows_server(p, joiner) {
+        return None;
+    }
+    Some(Reason::JoinNotGreen(joiner))
+}
+
+// Why the replica can't be the joiner's representative.
+pub(crate) fn transfer_refused(
+    state: &WorldState,
+    p: ReplicaId,
+    joiner: ReplicaId,
+) -> Option<Reason>
+    ensures { result ≡ transfer_refused state.now p joiner }
+{
+    first_of(&[
+        takes_part(state, p),
+        never_named(state, joiner),
+        begun_already(state, joiner),
+        joiner_left(state, p, joiner),
+        not_green(state, p, joiner),
+    ])
 }
 
 // No replica is named.

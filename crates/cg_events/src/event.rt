@@ -8,6 +8,7 @@ ghost use Rattle.cg_events.specs.Happening.{Happens, IsBuilt};
 use crate::asking::{join, leave, request};
 use crate::beginning::start;
 use crate::grouping::{deliver, gather, merge, order, receive, split};
+use crate::handing::transfer;
 use crate::querying::{dirty, show, show_order, weak};
 use crate::striking::{fail, recover, stop};
 use crate::{Going, Happened, WorldState};
@@ -43,7 +44,7 @@ pub fn happen(alloc: Global, state: WorldState, event: &Event) -> Happened
         Event::Fail { p, call } => fail(alloc, state, *p, *call),
         Event::Join { p, joiner, weight } => join(alloc, state, *p, *joiner, *weight),
         Event::Leave { p, server } => leave(alloc, state, *p, *server),
+        Event::Transfer { p, joiner, pieces } => transfer(alloc, state, *p, *joiner, *pieces),
         Event::End | Event::Rounds(_) => Happened::Done(Going::quietly(alloc, state)),
-        Event::Transfer { .. } => unreachable!(),
     }
 }

@@ -256,6 +256,7 @@ fn fall(going: Going, seat: Seat) -> Result<Going, NoMemory>
     match state.seats.put(seat) {
         Ok(()) => {
             state.group.down(p);
+            state.transfers.end_of(p);
             Ok(Going { state, showing })
         }
         Err(NoMemory) => {

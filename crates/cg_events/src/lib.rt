@@ -10,15 +10,18 @@ mod beginning;
 mod event;
 mod going;
 mod grouping;
+mod handing;
 mod happened;
 mod looks_made;
 mod querying;
 mod seats;
 mod state;
 mod striking;
+mod transfers;
 
 pub use event::happen;
 pub use going::Going;
 pub use happened::Happened;
 pub use seats::Seats;
 pub use state::WorldState;
+pub use transfers::Transfers;

@@ -1,6 +1,8 @@
 //! The world that events change.
-ghost use Rattle.std.specs.Prelude.{◌≡◌, true, Some, None, is_some, IfOk, MatchOption};
+ghost use Rattle.std.specs.Prelude.{◌≡◌, true, false, Some, None, is_some, IfOk, MatchOption};
+ghost use Rattle.std.specs.Option.{option_map_or};
 ghost use Rattle.cg_base.specs.Sets.{has};
+ghost use Rattle.cg_members.specs.Servers.{is_server};
 ghost use Rattle.cg_group.specs.Ready.{ready};
 ghost use Rattle.cg_group.specs.Events.{send_all};
 ghost use Rattle.cg_agree.specs.World.{Life, no_world, running, seat_of, set_life, has_begun, replica_of, is_left, left_replicas, up_replicas};
@@ -8,7 +10,7 @@ ghost use Rattle.cg_agree.specs.Show.{line_of, new_lines};
 ghost use Rattle.cg_events.specs.Going.{said, with_news};
 ghost use Rattle.cg_events.specs.Seating.{with_left};
 
-use crate::Seats;
+use crate::{Seats, Transfers};
 use cg_base::{Cut, IdList, IdSet, NoMemory, ReplicaId, Row};
 use cg_group::Group;
 use cg_letter::Letter;
@@ -18,12 +20,13 @@ use cg_show::Lines;
 use std::alloc::Global;
 use std::marker::Model;
 
-/// The group; the replicas that have begun; the global order of actions; the last printed line of each replica; the cut of
+/// The group; the replicas that have begun; the snapshots under way; the global order of actions; the last printed line of each replica; the cut of
 /// the actions that were shown as made; and the replicas that were named.
 #[derive(Drop)]
 pub struct WorldState {
     pub(crate) group: Group<Letter>,
     pub(crate) seats: Seats,
+    pub(crate) transfers: Transfers,
     pub(crate) order: IdList,
     pub(crate) lines: Lines,
     pub(crate) made: Cut,
@@ -31,12 +34,11 @@ pub struct WorldState {
 }
 
 impl Model for WorldState {
-    ghost use Rattle.std.specs.Prelude.{[]};
     ghost use Rattle.cg_agree.specs.World.{World};
 
     ghost Value = { World };
 
-    ghost view = { λ w. record { group = w.group; seats = w.seats; snapshots = []; order = w.order; lines = w.lines; made = w.made; named = w.named } };
+    ghost view = { λ w. record { group = w.group; seats = w.seats; snapshots = w.transfers; order = w.order; lines = w.lines; made = w.made; named = w.named } };
 }
 
 impl WorldState {
@@ -47,6 +49,7 @@ impl WorldState {
         WorldState {
             group: Group::new(alloc),
             seats: Seats::new(alloc),
+            transfers: Transfers::new(alloc),
             order: IdList::new(alloc),
             lines: Lines::new(alloc),
             made: Cut::zero(),
@@ -77,6 +80,26 @@ impl WorldState {
     {
         match self.seats.find(p) {
             Some(seat) => seat.is_left(),
+            None => false,
+        }
+    }
+
+    /// The replica is up, and knows that the server has left. It takes no memory.
+    pub(crate) fn knows_left(&self, p: ReplicaId, q: ReplicaId) -> bool
+        ensures { result ≡ option_map_or (λ r. has r.held.members.left q) (replica_of self.now p) false }
+    {
+        match self.seats.find(p) {
+            Some(seat) => seat.knows_left(q),
+            None => false,
+        }
+    }
+
+    /// The replica is up, and knows the server. It takes no memory.
+    pub(crate) fn knows_server(&self, p: ReplicaId, q: ReplicaId) -> bool
+        ensures { result ≡ option_map_or (λ r. is_server r.held.members q) (replica_of self.now p) false }
+    {
+        match self.seats.find(p) {
+            Some(seat) => seat.knows_server(q),
             None => false,
         }
     }
@@ -144,6 +167,7 @@ impl WorldState {
         let WorldState {
             group,
             seats,
+            transfers,
             order,
             lines,
             made,
@@ -153,6 +177,7 @@ impl WorldState {
             Ok(group) => Ok(WorldState {
                 group,
                 seats,
+                transfers,
                 order,
                 lines,
                 made,
@@ -160,6 +185,7 @@ impl WorldState {
             }),
             Err(NoMemory) => {
                 drop(seats);
+                drop(transfers);
                 drop(order);
                 drop(lines);
                 Err(NoMemory)

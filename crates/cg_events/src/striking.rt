@@ -77,6 +77,7 @@ fn fall(state: &mut WorldState, seat: Seat) -> Result<(), NoMemory>
     let seat = seat.crash()?;
     state.seats.put(seat)?;
     state.group.down(id);
+    state.transfers.end_of(id);
     Ok(())
 }
 

@@ -1,0 +1,36 @@
+-- What pieces of a snapshot make of a world, where there is no other snapshot for their joiner.
+use Rattle.std.specs.Prelude.{ℕ, ◌==◌, ◌+◌, ◌++◌, [], ◌∷◌, ◌≡◌, min, Option, None, Some, MatchOption, option_map, if◌then◌else◌}
+use Rattle.cg_client.specs.Replica.{Replica}
+use Rattle.cg_step.specs.Crash.{new_disk}
+use Rattle.cg_report.specs.declared.entry.Shown.TheVariants.{Pieces}
+use Rattle.cg_agree.specs.World.{World, Snapshot, replica_of, bring_up}
+use Rattle.cg_agree.specs.Show.{Going}
+use Rattle.cg_agree.specs.Step.{joined, piece_count, snapshot_for, without_snapshot, showing}
+
+-- a new snapshot of the replica, where it is up
+abbrev pub new_copy : World → ℕ → ℕ → Option Snapshot
+new_copy w p joiner = option_map (λ r. record { joiner = joiner; giver = p; content = r.held; taken = 0 }) (replica_of w p)
+
+-- the snapshot of which pieces are to be taken, where its giver is up; it is no longer among those under way
+abbrev pub Chooses : World → World → ℕ → ℕ → Option Snapshot → Type 0
+Chooses old new p joiner found =
+    MatchOption found ((replica_of old p ≡ None) × (new ≡ old))
+    (λ s. (r : Replica) × (replica_of old p ≡ Some r) × (s ≡ snapshot_for old p joiner r) × (new ≡ without_snapshot old joiner))
+
+-- the joiner is up where all pieces were taken; or its snapshot is under way
+abbrev pub joins : World → Snapshot → World
+joins w s = let r = joined s.joiner s.content in bring_up w r (new_disk r.held)
+
+abbrev pub goes_on : World → Snapshot → World
+goes_on w s = record w { snapshots = w.snapshots ++ s ∷ [] }
+
+abbrev pub handed : World → Snapshot → World
+handed w s = if s.taken == piece_count s.content then joins w s else goes_on w s
+
+-- so many pieces were taken, and that is shown
+abbrev pub shows_taken : World → Snapshot → Going
+shows_taken w s = showing (handed w s) (Pieces s.joiner s.taken (piece_count s.content) ∷ [])
+
+-- the next pieces are taken
+abbrev pub takes : World → Snapshot → ℕ → Going
+takes w s pieces = shows_taken w (record s { taken = min (piece_count s.content) (s.taken + pieces) })

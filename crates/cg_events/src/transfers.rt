@@ -1,0 +1,103 @@
+//! The snapshots under way.
+ghost use Rattle.std.specs.Prelude.{◌≡◌, ◌++◌, ◌∷◌, [], ◌==◌, ◌&&◌, not, find, filter, position, OnOk, IfOk};
+ghost use Rattle.cg_records.specs.Limits.{IsNumber};
+ghost use Rattle.cg_agree.specs.World.{Snapshot};
+
+use cg_base::{Cut, NoMemory, ReplicaId};
+use cg_seat::Transfer;
+use std::alloc::Global;
+use std::marker::Model;
+
+/// The snapshots under way, in the order of their last transfers, and how many each replica has given so far. Clauses see
+/// the snapshots.
+#[derive(Drop)]
+pub struct Transfers {
+    list: Vec<Transfer>,
+    given: Cut,
+}
+
+impl Model for Transfers {
+    ghost use Rattle.std.specs.Prelude.{List};
+    ghost use Rattle.cg_agree.specs.World.{Snapshot};
+
+    ghost Value = { List Snapshot };
+
+    ghost view = { λ t. t.list.items };
+}
+
+// more snapshots of one replica than are made in any run
+const MOST: u64 = 1 << 62;
+
+// It is the giver's for the joiner.
+fn is_between(transfer: &Transfer, giver: ReplicaId, joiner: ReplicaId) -> bool
+    ensures { result ≡ ((transfer.now.joiner == joiner) && (transfer.now.giver == giver)) }
+{
+    transfer.joiner() == joiner && transfer.giver() == giver
+}
+
+// Where the giver's snapshot for the joiner stands, from 0.
+fn place_of(list: &[Transfer], giver: ReplicaId, joiner: ReplicaId) -> Option<usize>
+    ensures { result ≡ position (λ s. (s.joiner == joiner) && (s.giver == giver)) list.now }
+{
+    list.iter().position(|t| is_between(t, giver, joiner))
+}
+
+impl Transfers {
+    pub(crate) fn new(alloc: Global) -> Transfers
+        ensures { result ≡ [] }
+    {
+        Transfers {
+            list: Vec::new(alloc),
+            given: Cut::zero(),
+        }
+    }
+
+    /// The giver's snapshot for the joiner, where one is under way; then there is none for the joiner. It takes no memory.
+    pub(crate) fn take(&mut self, giver: ReplicaId, joiner: ReplicaId) -> Option<Transfer>
+        ensures taken { result ≡ find (λ s. (s.joiner == joiner) && (s.giver == giver)) self.old }
+        ensures others { self.new ≡ filter (λ s. not (s.joiner == joiner)) self.old }
+    {
+        let found = self.take_out(giver, joiner);
+        self.list.retain(|t| t.joiner() != joiner);
+        found
+    }
+
+    // It is taken out, where it is there.
+    fn take_out(&mut self, giver: ReplicaId, joiner: ReplicaId) -> Option<Transfer>
+        ensures taken { result ≡ find (λ s. (s.joiner == joiner) && (s.giver == giver)) self.old }
+        ensures others { filter (λ s. not (s.joiner == joiner)) self.new ≡ filter (λ s. not (s.joiner == joiner)) self.old }
+    {
+        match place_of(self.list.as_slice(), giver, joiner) {
+            Some(place) => Some(self.list.remove(place)),
+            None => None,
+        }
+    }
+
+    /// The replica's snapshots end. It takes no memory.
+    pub(crate) fn end_of(&mut self, giver: ReplicaId)
+        ensures { self.new ≡ filter (λ s. not (s.giver == giver)) self.old }
+    {
+        self.list.retain(|t| t.giver() != giver);
+    }
+
+    /// A snapshot is under way, behind the others.
+    pub(crate) fn push(&mut self, transfer: Transfer) -> Result<(), NoMemory>
+        ensures { OnOk result (self.new ≡ self.old ++ transfer ∷ []) }
+    {
+        self.list.push(transfer)?;
+        Ok(())
+    }
+
+    /// The number of the next snapshot that the replica gives, from 1.
+    pub(crate) fn next_number(&mut self, giver: ReplicaId) -> Result<u64, NoMemory>
+        ensures number { IfOk result IsNumber }
+        ensures list { self.new ≡ self.old }
+    {
+        let last = self.given.get(giver);
+        if last >= MOST {
+            return Err(NoMemory);
+        }
+        self.given.raise(giver, last + 1);
+        Ok(last + 1)
+    }
+}
