@@ -5,3 +5,4 @@ mod NotYetUp
 mod SeatFacts
 mod SeenSeats
 mod StruckSeats
+mod TransferFacts

@@ -1,6 +1,6 @@
 -- What an event rests on is there where the facts of agreement stand, and where the event may stand.
 use Rattle.std.proofs.Common.{sym, ap, subst, ◌∙◌}
-use Rattle.std.specs.Prelude.{◌≡◌, ℕ, is_some, IfSome}
+use Rattle.std.specs.Prelude.{◌≡◌, is_some, IfSome}
 use Rattle.cg_group.specs.State.{is_up}
 use Rattle.cg_schedule.specs.declared.event.Event.{Event}
 use Rattle.cg_schedule.specs.declared.event.Event.TheVariants.{Start, Split, Merge, Rounds, End}

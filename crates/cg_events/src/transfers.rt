@@ -35,6 +35,20 @@ fn is_between(transfer: &Transfer, giver: ReplicaId, joiner: ReplicaId) -> bool
     transfer.joiner() == joiner && transfer.giver() == giver
 }
 
+// It is for another joiner.
+fn is_for_other(transfer: &Transfer, joiner: ReplicaId) -> bool
+    ensures { result ≡ not (transfer.now.joiner == joiner) }
+{
+    transfer.joiner() != joiner
+}
+
+// It is another giver's.
+fn is_of_other(transfer: &Transfer, giver: ReplicaId) -> bool
+    ensures { result ≡ not (transfer.now.giver == giver) }
+{
+    transfer.giver() != giver
+}
+
 // Where the giver's snapshot for the joiner stands, from 0.
 fn place_of(list: &[Transfer], giver: ReplicaId, joiner: ReplicaId) -> Option<usize>
     ensures { result ≡ position (λ s. (s.joiner == joiner) && (s.giver == giver)) list.now }
@@ -58,7 +72,7 @@ impl Transfers {
         ensures others { self.new ≡ filter (λ s. not (s.joiner == joiner)) self.old }
     {
         let found = self.take_out(giver, joiner);
-        self.list.retain(|t| t.joiner() != joiner);
+        self.list.retain(|t| is_for_other(t, joiner));
         found
     }
 
@@ -77,7 +91,7 @@ impl Transfers {
     pub(crate) fn end_of(&mut self, giver: ReplicaId)
         ensures { self.new ≡ filter (λ s. not (s.giver == giver)) self.old }
     {
-        self.list.retain(|t| t.giver() != giver);
+        self.list.retain(|t| is_of_other(t, giver));
     }
 
     /// A snapshot is under way, behind the others.

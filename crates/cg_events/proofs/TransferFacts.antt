@@ -1,0 +1,171 @@
+-- The snapshots under way, after one was taken out or its giver went down, and the one of which pieces are taken.
+use Rattle.std.proofs.Common.{◌≡◌, Bool, true, false, ℕ, zero, suc, ◌<◌, ◌≤◌, cond, not, List, [], ◌∷◌, length, Option, Some, None, is_some, refl, sym, ap, subst, ◌∙◌, arith, eqb-true, filter, find, position, get_or, inl, inr, ⊎_elim, nat_lt, option_and_then, option_map}
+use Rattle.std.specs.Prelude.{◌==◌, ◌&&◌}
+use Rattle.std.specs.List.{remove, position_or_len, slice_get}
+use Rattle.std.specs.Option.{option_map_or}
+use Rattle.std.proofs.lemmas.List.Quantifiers.{position-Some}
+use Rattle.std.proofs.lemmas.List.Folds.{find_at}
+use Rattle.std.proofs.lemmas.List.Sums.{position_or_len_is}
+use Rattle.std.proofs.lemmas.Option.{slice_get-get_or, slice_get_past}
+use Rattle.std.proofs.lemmas.Bool.{cases_Bool, cases_lt, cond-true, cond-false, lt-ltb, and_parts}
+use Rattle.cg_base.specs.SetLaws.{filter-keeps, filter-drops}
+use Rattle.cg_group.specs.declared.reason.Reason.{Reason}
+use Rattle.cg_group.specs.declared.reason.Reason.TheVariants.{AlreadyUp}
+use Rattle.cg_group.specs.Refusals.{refuse}
+use Rattle.cg_group.specs.Events.{go_down}
+use Rattle.cg_group.specs.State.{GroupState, is_up}
+use Rattle.cg_wire.specs.declared.message.Msg.{Msg}
+use Rattle.cg_base.specs.Lists.{first_some}
+use Rattle.cg_client.specs.Replica.{Replica}
+use Rattle.cg_agree.specs.World.{World, Seat, Snapshot, running, seat_of, has_begun, replica_of, with_seat}
+use Rattle.cg_agree.specs.Admission.{transfer_refused, begun_already, takes_part, never_named, joiner_left, not_green}
+use Rattle.cg_agree.specs.Step.{quietly, snapshot_for, without_snapshot, transfer}
+use Rattle.cg_seat.specs.Calls.{copied}
+use Rattle.cg_events.specs.Going.{seated, fallen}
+use Rattle.cg_events.specs.Grounds.{IsSeated}
+use Rattle.cg_events.specs.Handing.{new_copy, Chooses, takes}
+use Rattle.cg_events.proofs.StruckSeats.{found-id}
+
+-- ---- one is taken out
+
+abbrev pub is_between : ℕ → ℕ → Snapshot → Bool
+is_between p joiner s = (s.joiner == joiner) && (s.giver == p)
+
+abbrev pub is_other : ℕ → Snapshot → Bool
+is_other joiner s = not (s.joiner == joiner)
+
+-- where one was found, it stands
+pub found-there : (test : Snapshot → Bool) (list : List Snapshot) (i : ℕ) (d : Snapshot) → position test list ≡ Some i →
+    (i < length list) × (test (get_or list i d) ≡ true) × (find test list ≡ Some (get_or list i d))
+found-there test list i d e =
+    let w = position-Some test list i d e in
+    let place : position_or_len test list ≡ i = position_or_len_is test list i d (omega (arith, w.0)) w.2 (λ lt. w.1) in
+    (w.0, w.1, find_at test list ∙ ap (slice_get list) place ∙ slice_get-get_or list i d w.0)
+
+pub found-nowhere : (test : Snapshot → Bool) (list : List Snapshot) → position test list ≡ None → find test list ≡ None
+found-nowhere test list e =
+    find_at test list ∙ slice_get_past list (position_or_len test list) (past (position_or_len test list) (length list) e)
+  where
+    past : (k n : ℕ) → cond (nat_lt k n) (Some k) None ≡ None → n ≤ k
+    past k n e = ⊎_elim
+        (λ (lt : k < n). absurd (let clash : Some k ≡ None = sym (cond-true (nat_lt k n) (Some k) None (lt-ltb k n lt)) ∙ e in cc)) (λ le. le) (cases_lt k n)
+
+-- what is kept of the others is kept of all
+filter-removed : (keep : Snapshot → Bool) (list : List Snapshot) (i : ℕ) (d : Snapshot) → i < length list → keep (get_or list i d) ≡ false →
+    filter keep (remove list i) ≡ filter keep list
+filter-removed keep [] i d lt e = absurd (omega arith)
+filter-removed keep (s ∷ list) zero d lt e = sym (filter-drops keep s list e)
+filter-removed keep (s ∷ list) (suc i) d lt e =
+    let rest : filter keep (remove list i) ≡ filter keep list = filter-removed keep list i d (omega arith) e in
+    elim (cases_Bool (keep s)) [
+      | inl stays ↦ filter-keeps keep s (remove list i) stays ∙ ap (λ z. s ∷ z) rest ∙ sym (filter-keeps keep s list stays)
+      | inr goes ↦ filter-drops keep s (remove list i) goes ∙ rest ∙ sym (filter-drops keep s list goes)
+    ]
+
+pub record IsTakenOut (p joiner : ℕ) (list : List Snapshot) (i : ℕ) (d : Snapshot) : Type 0 where
+  pub found : find (is_between p joiner) list ≡ Some (get_or list i d)
+  pub others : filter (is_other joiner) (remove list i) ≡ filter (is_other joiner) list
+
+pub taken-out : (p joiner : ℕ) (list : List Snapshot) (i : ℕ) (d : Snapshot) → position (is_between p joiner) list ≡ Some i → IsTakenOut p joiner list i d
+taken-out p joiner list i d e =
+    let there = found-there (is_between p joiner) list i d e in
+    let s = get_or list i d in
+    let same : (s.joiner == joiner) ≡ true = (and_parts (s.joiner == joiner) (s.giver == p) there.1).0 in
+    record { found = there.2; others = filter-removed (is_other joiner) list i d there.0 (ap not same) }
+
+-- ---- a new one
+
+pub copied-at : (w : World) (p joiner : ℕ) (s : Seat) → seat_of w p ≡ Some s → copied joiner s ≡ new_copy w p joiner
+copied-at w p joiner s there =
+    ap (λ n. copied joiner (record { id = n; life = s.life })) (found-id w.seats p s there)
+    ∙ sym (ap (λ o. option_map (λ (r : Replica). (let x : Snapshot = record { joiner = joiner; giver = p; content = r.held; taken = 0 } in x)) (option_and_then (λ (s : Seat). running s.life) o)) there)
+
+-- the one of which pieces are taken, where none was under way
+pub chooses-new : (w : World) (p joiner : ℕ) (found : Option Snapshot) → is_some (replica_of w p) ≡ true → find (is_between p joiner) w.snapshots ≡ None →
+    found ≡ new_copy (without_snapshot w joiner) p joiner → Chooses w (without_snapshot w joiner) p joiner found
+chooses-new w p joiner found up none is = at (replica_of w p) refl up is
+  where
+    make : Replica → Snapshot
+    make r = record { joiner = joiner; giver = p; content = r.held; taken = 0 }
+
+    at : (o : Option Replica) → replica_of w p ≡ o → is_some o ≡ true → found ≡ option_map make o → Chooses w (without_snapshot w joiner) p joiner found
+    at None e up is = absurd (let clash : false ≡ true = up in cc)
+    at (Some r) e up is =
+        subst (λ found. Chooses w (without_snapshot w joiner) p joiner found) (sym is)
+        (r, e, sym (ap (λ o. option_map_or (λ (s : Snapshot). s) o (make r)) none), refl)
+
+-- or where one was
+pub chooses-old : (w : World) (p joiner : ℕ) (s : Snapshot) → is_some (replica_of w p) ≡ true → find (is_between p joiner) w.snapshots ≡ Some s →
+    Chooses w (without_snapshot w joiner) p joiner (Some s)
+chooses-old w p joiner s up there = at (replica_of w p) refl up
+  where
+    at : (o : Option Replica) → replica_of w p ≡ o → is_some o ≡ true → Chooses w (without_snapshot w joiner) p joiner (Some s)
+    at None e up = absurd (let clash : false ≡ true = up in cc)
+    at (Some r) e up = (r, e, sym (ap (λ o. option_map_or (λ (s : Snapshot). s) o (record { joiner = joiner; giver = p; content = r.held; taken = 0 })) there), refl)
+
+-- ---- its pieces
+
+-- it is for the joiner
+snapshot-joiner : (w : World) (p joiner : ℕ) (r : Replica) → (snapshot_for w p joiner r).joiner ≡ joiner
+snapshot-joiner w p joiner r = at w.snapshots
+  where
+    make : Snapshot
+    make = record { joiner = joiner; giver = p; content = r.held; taken = 0 }
+
+    at : (list : List Snapshot) → (option_map_or (λ (s : Snapshot). s) (find (is_between p joiner) list) make).joiner ≡ joiner
+    at [] = refl
+    at (s ∷ list) = elim (cases_Bool (is_between p joiner s)) [
+      | inl here ↦
+          ap (λ o. (option_map_or (λ (s : Snapshot). s) o make).joiner) (cond-true (is_between p joiner s) (Some s) (find (is_between p joiner) list) here)
+          ∙ eqb-true s.joiner joiner (and_parts (s.joiner == joiner) (s.giver == p) here).0
+      | inr other ↦ ap (λ o. (option_map_or (λ (s : Snapshot). s) o make).joiner) (cond-false (is_between p joiner s) (Some s) (find (is_between p joiner) list) other) ∙ at list
+    ]
+
+pub chosen-down : (old new : World) (p joiner : ℕ) (s : Snapshot) → Chooses old new p joiner (Some s) → is_up old.group joiner ≡ false → is_up new.group s.joiner ≡ false
+chosen-down old new p joiner s chosen down =
+    ap (λ (w : World). is_up w.group s.joiner) chosen.3 ∙ ap (λ (x : Snapshot). is_up old.group x.joiner) chosen.2 ∙ ap (is_up old.group) (snapshot-joiner old p joiner chosen.0) ∙ down
+
+pub chosen-takes : (old new : World) (p joiner pieces : ℕ) (s : Snapshot) → Chooses old new p joiner (Some s) → takes new s pieces ≡ transfer old p joiner pieces
+chosen-takes old new p joiner pieces s chosen =
+    let r = chosen.0 in
+    let t = snapshot_for old p joiner r in
+    ap (λ (w : World). takes w s pieces) chosen.3
+    ∙ ap (λ (x : Snapshot). takes (without_snapshot old joiner) x pieces) chosen.2
+    ∙ ap (λ n. takes (without_snapshot old n) t pieces) (sym (snapshot-joiner old p joiner r))
+    ∙ sym (ap (λ o. option_map_or (λ (r : Replica). takes (without_snapshot old (snapshot_for old p joiner r).joiner) (snapshot_for old p joiner r) pieces) o (quietly old)) chosen.1)
+
+-- ---- where a transfer is admitted its joiner isn't up
+
+third-none : (a b c d e : Option Reason) → first_some (a ∷ b ∷ c ∷ d ∷ e ∷ []) ≡ None → c ≡ None
+third-none (Some x) b c d e is = absurd (let clash : Some x ≡ None = is in cc)
+third-none None (Some x) c d e is = absurd (let clash : Some x ≡ None = is in cc)
+third-none None None (Some x) d e is = absurd (let clash : Some x ≡ None = is in cc)
+third-none None None None d e is = refl
+
+not-refused : (b : Bool) (reason : Reason) → refuse b reason ≡ None → b ≡ false
+not-refused true reason is = absurd (let clash : Some reason ≡ None = is in cc)
+not-refused false reason is = refl
+
+pub joiner-down : (w : World) (p joiner : ℕ) → IsSeated w → transfer_refused w p joiner ≡ None → is_up w.group joiner ≡ false
+joiner-down w p joiner is admitted =
+    let third : begun_already w joiner ≡ None =
+    third-none (takes_part w p) (never_named w joiner) (begun_already w joiner) (joiner_left w p joiner) (not_green w p joiner) admitted in
+    let fresh : has_begun w joiner ≡ false = not-refused (has_begun w joiner) (AlreadyUp joiner) third in
+    sym (is.up joiner) ∙ none-runs (seat_of w joiner) fresh
+  where
+    none-runs : (o : Option Seat) → is_some o ≡ false → is_some (option_and_then (λ (s : Seat). running s.life) o) ≡ false
+    none-runs None e = refl
+    none-runs (Some s) e = absurd (let clash : true ≡ false = e in cc)
+
+-- ---- a giver goes down
+
+-- what stands where its seat stands again, the group doesn't have it any more, and its snapshots have ended
+pub down-with : (w : World) (s : Seat) (p n : ℕ) (group : GroupState Msg) (seats : List Seat) (snapshots : List Snapshot) → p ≡ n →
+    group ≡ go_down w.group p → seats ≡ with_seat w.seats s → snapshots ≡ filter (λ t. not (t.giver == p)) w.snapshots →
+    record w { group = group; seats = seats; snapshots = snapshots } ≡ fallen (seated w s) n
+down-with w s p n group seats snapshots same down put ended =
+    λ i. record w {
+      group = (down ∙ ap (go_down w.group) same) i;
+      seats = put i;
+      snapshots = (ended ∙ ap (λ m. filter (λ (t : Snapshot). not (t.giver == m)) w.snapshots) same) i;
+    }
