@@ -9,9 +9,9 @@ use Rattle.cg_events.specs.declared.happened.Happened.{Happened}
 use Rattle.cg_events.specs.declared.happened.Happened.TheVariants as happened
 
 -- the call that is to fail is counted from 1
-abbrev pub IsBuilt : Event → Type 0
-IsBuilt (Fail p call) = 1 ≤ call
-IsBuilt other = Unit {0}
+abbrev pub IsCounted : Event → Type 0
+IsCounted (Fail p call) = 1 ≤ call
+IsCounted other = Unit {0}
 
 abbrev pub Happens : World → Event → Happened → Type 0
 Happens w e (happened.Done g) = (first_refusal w e ≡ None) × (g ≡ happens w e)

@@ -3,7 +3,7 @@ ghost use Rattle.std.specs.Prelude.{◌≡◌};
 ghost use Rattle.cg_agree.specs.Run.{MayAsk};
 ghost use Rattle.cg_agree.specs.Standing.{IsBooked};
 ghost use Rattle.cg_events.specs.Grounds.{ComesFirst, IsSeated};
-ghost use Rattle.cg_events.specs.Happening.{Happens, IsBuilt};
+ghost use Rattle.cg_events.specs.Happening.{Happens, IsCounted};
 
 use crate::asking::{join, leave, request};
 use crate::beginning::start;
@@ -19,7 +19,7 @@ use std::alloc::Global;
 /// both do nothing here.
 #[tactic(auto, unfolding(cg_agree::specs::Admission::first_refusal, cg_agree::specs::Step::happens))]
 pub fn happen(alloc: Global, state: WorldState, event: &Event) -> Happened
-    requires built { IsBuilt event.now }
+    requires counted { IsCounted event.now }
     requires asks { MayAsk event.now }
     requires first { ComesFirst state event.now }
     requires seated { IsSeated state }

@@ -1,6 +1,6 @@
 -- What a line may ask for is within the limits of an action: those of a line are narrower; and its event is the next one of a run under way.
 use Rattle.std.proofs.Common.{◌≡◌, ◌<◌, ℕ, List, [], ◌∷◌, length, Option, Some, None, Ok, true, false, not, if◌then◌else◌, refl, ap, ◌∙◌, ◌↔◌}
-use Rattle.std.proofs.lemmas.Bool.{and_parts, not-true, false≢true}
+use Rattle.std.proofs.lemmas.Bool.{and_parts, not-true}
 use Rattle.std.specs.List.{All}
 use Rattle.std.proofs.lemmas.List.Elements.{All-nil, All-cons}
 use Rattle.cg_action.specs.declared.value.Value.{Value}
@@ -19,11 +19,9 @@ use Rattle.cg_schedule.specs.Laws.{Reads, ReadsAs}
 use Rattle.cg_schedule.specs.Reading.{whole}
 use Rattle.cg_schedule.specs.Line.{is_start, event_word, fits, place_after, opening, event_reading, reading_behind, some_event}
 use Rattle.cg_agree.specs.Run.{MayAsk}
-use Rattle.cg_events.specs.Happening.{IsBuilt}
+use Rattle.cg_events.specs.Happening.{IsCounted}
 use Rattle.cg_run.specs.declared.progress.Progress.{Progress}
-use Rattle.cg_run.specs.Outcome.{is_built}
 use Rattle.cg_run.specs.UnderWay.{IsUnderWay, MayHappen, IsNext}
-use Rattle.cg_run.proofs.EventWords.{reads_word}
 
 text_within : (low high : ℕ) (t : List ℕ) → line.IsPrintable low high t → action.IsTextWithin low high t
 text_within low high t is = (is.0, is.2, is.3)
@@ -77,11 +75,10 @@ ExactLines = (place : Place) (line : List ℕ) (e : Event) → (Reads place line
 pub reads_of : (place : Place) (line : List ℕ) (o : Word × List (List ℕ)) (e : Event) → opening place line ≡ Ok (Some o) → whole (event_reading o.0) o.1 ≡ Ok e → Reads place line e
 reads_of place line o e opened read = ap reading_behind opened ∙ ap some_event read
 
--- an event within the limits whose word is built is built
-built : (e : Event) → line.IsEvent e → is_built (event_word e) ≡ true → IsBuilt e
-built (Transfer p joiner pieces) is e = absurd (false≢true e)
-built (Fail p call) is e = is.1.0
-built other is e = tt
+-- an event within the limits counts its device call from 1
+counted : (e : Event) → line.IsEvent e → IsCounted e
+counted (Fail p call) is = is.1.0
+counted other is = tt
 
 -- what may stand in the reader's place was started, where it is no start
 started_by : (s : Progress) (word : Word) → is_start word ≡ false → fits s.reader word ≡ true → s.reader.started ≡ true
@@ -94,7 +91,7 @@ next_on s e under later fit same happens =
     let started = started_by s (event_word e) later fit in record { started = same ∙ started; happens = happens (under.begun started) }
 
 -- an event that a line may be where the reader stands is the next one
-next_of : (s : Progress) (e : Event) → IsUnderWay s → fits s.reader (event_word e) ≡ true → line.IsEvent e → IsBuilt e → IsNext s e
+next_of : (s : Progress) (e : Event) → IsUnderWay s → fits s.reader (event_word e) ≡ true → line.IsEvent e → IsCounted e → IsNext s e
 next_of s (Start set) under fit is ok =
     let first = not-true s.reader.started (and_parts (not s.reader.ended) (not s.reader.started) fit).1 in
     record { started = refl; happens = ((under.before first, is), tt) }
@@ -116,12 +113,11 @@ next_of s (Stop p call fill) under fit is ok = next_on s (Stop p call fill) unde
 next_of s (Fail p call) under fit is ok = next_on s (Fail p call) under refl fit refl (λ seated. ((seated, tt), ok))
 next_of s (Join p joiner weight) under fit is ok = next_on s (Join p joiner weight) under refl fit refl (λ seated. ((seated, may_ask (Join p joiner weight) is), ok))
 next_of s (Leave p server) under fit is ok = next_on s (Leave p server) under refl fit refl (λ seated. ((seated, may_ask (Leave p server) is), ok))
-next_of s (Transfer p joiner pieces) under fit is ok = absurd ok
+next_of s (Transfer p joiner pieces) under fit is ok = next_on s (Transfer p joiner pieces) under refl fit refl (λ seated. ((seated, tt), ok))
 
--- the event that a line reads as is the next one of a run under way, where its word is built
+-- the event that a line reads as is the next one of a run under way
 pub next_read : ExactLines → (s : Progress) (line : List ℕ) (o : Word × List (List ℕ)) (e : Event) → IsUnderWay s → opening s.reader line ≡ Ok (Some o)
-    → whole (event_reading o.0) o.1 ≡ Ok e → is_built o.0 ≡ true → IsNext s e
-next_read exact s line o e under opened read is =
+    → whole (event_reading o.0) o.1 ≡ Ok e → IsNext s e
+next_read exact s line o e under opened read =
     let reads_as = (exact s.reader line e).0 (reads_of s.reader line o e opened read) in
-    let same : event_word e ≡ o.0 = reads_word o.0 o.1 e read in
-    next_of s e under reads_as.may_stand reads_as.within (built e reads_as.within (ap is_built same ∙ is))
+    next_of s e under reads_as.may_stand reads_as.within (counted e reads_as.within)

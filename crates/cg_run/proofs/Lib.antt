@@ -1,5 +1,4 @@
 pub mod Asked
-pub mod EventWords
 pub mod GoingOn
 pub mod Happening
 pub mod Lines

@@ -9,9 +9,8 @@ use Rattle.cg_schedule.specs.declared.fault.LineFault.{LineFault}
 use Rattle.cg_schedule.specs.declared.word.Word.{Word}
 use Rattle.cg_schedule.specs.Reading.{whole}
 use Rattle.cg_schedule.specs.Line.{opening, event_reading}
-use Rattle.cg_run.specs.declared.status.Status.TheVariants as status
-use Rattle.cg_run.specs.Produced.{Produced, ended_with, and_then}
-use Rattle.cg_run.specs.Outcome.{is_built, event_outcome, word_outcome, opened_outcome, line_outcome, whole_line, last_piece, replayed}
+use Rattle.cg_run.specs.Produced.{Produced, and_then}
+use Rattle.cg_run.specs.Outcome.{event_outcome, word_outcome, opened_outcome, line_outcome, whole_line, last_piece, replayed}
 use Rattle.cg_io.specs.Outside.{SinkView}
 use Rattle.cg_run.specs.Putting.{GoesOn}
 
@@ -36,15 +35,11 @@ pub GoesOn-line : (whole : Produced) (v v1 : SinkView) (n at : ℕ) (pieces : Li
     → GoesOn whole v v1 (and_then (whole_line n at line s) (replayed (n + 1) (at + length line + 1) rest how))
 GoesOn-line whole v v1 n at pieces line rest how s g is more = rw (is, replayed-more n at line rest how s more) at g
 
--- a word that isn't built, and what one comes to that is
-pub word-unbuilt : (n : ℕ) (word : Word) (tokens : List (List ℕ)) (s : Progress) → is_built word ≡ false → word_outcome n word tokens s ≡ ended_with (status.Unsupported n) n s
-unfolding word_outcome
-word-unbuilt n word tokens s e = rw e refl
-
-pub word-read : (n : ℕ) (word : Word) (tokens : List (List ℕ)) (s : Progress) (r : Result Event LineFault) → is_built word ≡ true → whole (event_reading word) tokens ≡ r
+-- what a word comes to
+pub word-read : (n : ℕ) (word : Word) (tokens : List (List ℕ)) (s : Progress) (r : Result Event LineFault) → whole (event_reading word) tokens ≡ r
     → word_outcome n word tokens s ≡ event_outcome n r s
 unfolding word_outcome
-word-read n word tokens s r e is = rw (e, is) refl
+word-read n word tokens s r is = rw is refl
 
 -- a line that begins so
 pub line-opened : (n : ℕ) (line : List ℕ) (s : Progress) (r : Result (Option (Word × List (List ℕ))) LineFault) → opening s.reader line ≡ r

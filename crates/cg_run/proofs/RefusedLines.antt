@@ -35,7 +35,7 @@ use Rattle.cg_run.specs.declared.status.Limit.{Limit}
 use Rattle.cg_run.specs.declared.status.Limit.TheVariants.{Steps}
 use Rattle.cg_run.specs.Produced.{Finding, Produced, before_all, status_of, went_on, ended_with, and_then, unless_refused, one_step}
 use Rattle.cg_run.specs.Rounds.{deliver_ready, deliveries, one_pass, passes, happened}
-use Rattle.cg_run.specs.Outcome.{is_built, event_outcome, word_outcome, opened_outcome, line_outcome, without_return, limit_of, unless_passed, whole_line, at_end, cut_line, last_piece, replayed, is_replay, outcome}
+use Rattle.cg_run.specs.Outcome.{event_outcome, word_outcome, opened_outcome, line_outcome, without_return, limit_of, unless_passed, whole_line, at_end, cut_line, last_piece, replayed, is_replay, outcome}
 use Rattle.cg_run.specs.Refusing.{text_before, place_past, place_past_lines}
 use Rattle.cg_run.specs.Taking.{TellsOfRefusals}
 use Rattle.cg_run.proofs.Asked.{ExactLines, reads_of}
@@ -194,14 +194,9 @@ is-line n text s = by_opening (opening s.reader text) refl where
       }
   by_event o is (Err fault) read = ends-line n text s _ n (λ m r e. cc)
 
-  by_built : (o : Word × List (List ℕ)) → opening s.reader text ≡ Ok (Some o) → (b : Bool) →
-      IsLine n text s (cond b (event_outcome n (whole (event_reading o.0) o.1) s) (ended_with (status.Unsupported n) n s))
-  by_built o is true = by_event o is (whole (event_reading o.0) o.1) refl
-  by_built o is false = ends-line n text s (status.Unsupported n) n (λ m r e. cc)
-
   by_opening : (r : Result (Option (Word × List (List ℕ))) LineFault) → opening s.reader text ≡ r → IsLine n text s (opened_outcome n r s)
   by_opening (Ok None) is = record { refuses = λ m r e. cc; reader = λ e. sym (ap (λ r. place_behind s.reader (reading_behind r)) is) }
-  by_opening (Ok (Some o)) is = by_built o is (is_built o.0)
+  by_opening (Ok (Some o)) is = by_event o is (whole (event_reading o.0) o.1) refl
   by_opening (Err fault) is = ends-line n text s _ n (λ m r e. cc)
 
 unless-line : (o : Option Limit) (n : ℕ) (text : List ℕ) (s : Progress) (p : Produced) → IsLine n text s p → IsLine n text s (unless_passed o n s p)

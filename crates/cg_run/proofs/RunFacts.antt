@@ -28,7 +28,7 @@ use Rattle.cg_run.specs.declared.status.Limit.{Limit}
 use Rattle.cg_run.specs.declared.status.Limit.TheVariants.{Steps}
 use Rattle.cg_run.specs.Produced.{Finding, Produced, before_all, refusal_of, went_on, ended_with, refused_with, and_then, stepped, unless_refused, one_step}
 use Rattle.cg_run.specs.Rounds.{deliver_ready, deliveries, one_pass, passes, happened}
-use Rattle.cg_run.specs.Outcome.{reason_of, is_built, event_outcome, word_outcome, opened_outcome, line_outcome, without_return, limit_of, unless_passed, whole_line, at_end, cut_line, last_piece, replayed, outcome, is_replay}
+use Rattle.cg_run.specs.Outcome.{reason_of, event_outcome, word_outcome, opened_outcome, line_outcome, without_return, limit_of, unless_passed, whole_line, at_end, cut_line, last_piece, replayed, outcome, is_replay}
 use Rattle.cg_run.specs.UnderWay.{IsUnderWay}
 use Rattle.cg_run.proofs.Asked.{may_ask, ExactLines, reads_of}
 use Rattle.cg_run.proofs.GoingOn.{and_then-some}
@@ -221,14 +221,9 @@ Holds-line n line s exact under = by_opening (opening s.reader line) refl where
       Holds-read n e s under reads_as.may_stand reads_as.within
   by_event o is (Err fault) e_is = Holds-ended_with (status.Syntax n (reason_of fault)) n s
 
-  by_built : (o : Word × List (List ℕ)) → opening s.reader line ≡ Ok (Some o) → (b : Bool) →
-      Holds s (cond b (event_outcome n (whole (event_reading o.0) o.1) s) (ended_with (status.Unsupported n) n s))
-  by_built o is true = by_event o is (whole (event_reading o.0) o.1) refl
-  by_built o is false = Holds-ended_with (status.Unsupported n) n s
-
   by_opening : (r : Result (Option (Word × List (List ℕ))) LineFault) → opening s.reader line ≡ r → Holds s (opened_outcome n r s)
   by_opening (Ok None) is = Holds-went_on s s refl refl under
-  by_opening (Ok (Some o)) is = by_built o is (is_built o.0)
+  by_opening (Ok (Some o)) is = by_event o is (whole (event_reading o.0) o.1) refl
   by_opening (Err fault) is = Holds-ended_with (status.Syntax n (reason_of fault)) n s
 
 Holds-unless_passed : (o : Option Limit) (n : ℕ) (s : Progress) (p : Produced) → Holds s p → Holds s (unless_passed o n s p)

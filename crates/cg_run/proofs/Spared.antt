@@ -25,7 +25,7 @@ use Rattle.cg_run.specs.declared.status.Limit.TheVariants.{Steps}
 use Rattle.cg_run.specs.Status.{write_faults}
 use Rattle.cg_run.specs.Produced.{Finding, Produced, before_all, status_of, went_on, ended_with, and_then, unless_refused, one_step}
 use Rattle.cg_run.specs.Rounds.{deliver_ready, deliveries, one_pass, passes, happened}
-use Rattle.cg_run.specs.Outcome.{is_built, event_outcome, word_outcome, opened_outcome, line_outcome, without_return, limit_of, unless_passed, whole_line, at_end, cut_line, last_piece, replayed, is_replay, outcome}
+use Rattle.cg_run.specs.Outcome.{event_outcome, word_outcome, opened_outcome, line_outcome, without_return, limit_of, unless_passed, whole_line, at_end, cut_line, last_piece, replayed, is_replay, outcome}
 use Rattle.cg_run.specs.Putting.{Stopped}
 use Rattle.cg_run.specs.Taking.{HasCause, ReadCause}
 
@@ -84,9 +84,7 @@ Spares-event n (Err fault) s = λ e. cc
 
 Spares-word : (n : ℕ) (word : Word) (tokens : List (List ℕ)) (s : Progress) → Spares (word_outcome n word tokens s)
 unfolding word_outcome
-Spares-word n word tokens s =
-    cond_both (is_built word) (event_outcome n (whole (event_reading word) tokens) s) (ended_with (status.Unsupported n) n s) Spares
-    (λ y. Spares-event n (whole (event_reading word) tokens) s) (λ y e. cc)
+Spares-word n word tokens s = Spares-event n (whole (event_reading word) tokens) s
 
 Spares-opened : (n : ℕ) (r : Result (Option (Word × List (List ℕ))) LineFault) (s : Progress) → Spares (opened_outcome n r s)
 Spares-opened n (Ok None) s = λ e. cc

@@ -1,5 +1,5 @@
 -- What a run comes to, as a function of its words, of the bytes taken and of how the taking ended.
-use Rattle.std.specs.Prelude.{ℕ, ◌+◌, ◌-◌, nat_lt, nat_eq, take, Result, Ok, Err, Bool, true, false, if◌then◌else◌, List, [], ◌∷◌, length, codes, Option, Some, None}
+use Rattle.std.specs.Prelude.{ℕ, ◌+◌, ◌-◌, nat_lt, nat_eq, take, Result, Ok, Err, Bool, false, if◌then◌else◌, List, [], ◌∷◌, length, codes, Option, Some, None}
 use Rattle.std.specs.Str.{bytes_eq}
 use Rattle.cg_base.specs.Text.{pieces_of}
 use Rattle.std.specs.List.{ends_with}
@@ -7,7 +7,6 @@ use Rattle.cg_schedule.specs.declared.event.Event.{Event}
 use Rattle.cg_schedule.specs.declared.fault.LineFault.{LineFault}
 use Rattle.cg_schedule.specs.declared.fault.LineFault.TheVariants.{Syntax, NoMemory}
 use Rattle.cg_schedule.specs.declared.word.Word.{Word}
-use Rattle.cg_schedule.specs.declared.word.Word.TheVariants.{Join, Leave, Transfer}
 use Rattle.cg_schedule.specs.Reading.{whole}
 use Rattle.cg_schedule.specs.Line.{opening, event_reading, place_after}
 use Rattle.cg_run.specs.declared.progress.Ending.{Ending}
@@ -28,13 +27,6 @@ reason_of NoMemory = 0
 abbrev pub unreadable : ℕ → LineFault → Progress → Produced
 unreadable n fault s = ended_with (status.Syntax n (reason_of fault)) n s
 
--- the words of events that are built
-abbrev pub is_built : Word → Bool
-is_built Join = false
-is_built Leave = false
-is_built Transfer = false
-is_built other = true
-
 -- what line n comes to, whose event reads so
 abbrev pub event_outcome : ℕ → Result Event LineFault → Progress → Produced
 event_outcome n (Ok event) s = happened n event (record s { reader = place_after s.reader event })
@@ -42,8 +34,7 @@ event_outcome n (Err fault) s = unreadable n fault s
 
 -- what line n comes to that begins with the word, before these tokens
 unfoldable pub word_outcome : ℕ → Word → List (List ℕ) → Progress → Produced
-word_outcome n word tokens s =
-    if is_built word then event_outcome n (whole (event_reading word) tokens) s else ended_with (status.Unsupported n) n s
+word_outcome n word tokens s = event_outcome n (whole (event_reading word) tokens) s
 
 -- what line n comes to that begins so
 abbrev pub opened_outcome : ℕ → Result (Option (Word × List (List ℕ))) LineFault → Progress → Produced

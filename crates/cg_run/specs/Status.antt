@@ -17,7 +17,6 @@ status_number status.WriteFault = 5
 status_number (status.Limit line what) = 6
 status_number status.NoMemory = 7
 status_number (status.NoEnd lines) = 8
-status_number (status.Unsupported line) = 9
 
 -- how many puts have failed in a run with this status
 abbrev pub write_faults : Status → ℕ
@@ -49,7 +48,6 @@ tail_line status.WriteFault steps lines = []
 tail_line (status.Limit line what) steps lines = codes "limit " ++ decimal line ++ codes " " ++ limit_text what
 tail_line status.NoMemory steps lines = []
 tail_line (status.NoEnd all) steps lines = codes "no end " ++ decimal all
-tail_line (status.Unsupported line) steps lines = codes "unsupported " ++ decimal line
 
 abbrev pub tail_text : Status → ℕ → ℕ → List ℕ
 tail_text status steps lines = tail_line status steps lines ++ 10 ∷ []

@@ -5,7 +5,7 @@ use Rattle.cg_schedule.specs.declared.event.Event.TheVariants.{Rounds, End}
 use Rattle.cg_schedule.specs.Line.{place_after}
 use Rattle.cg_agree.specs.World.{World, no_world}
 use Rattle.cg_agree.specs.Run.{MayStand}
-use Rattle.cg_events.specs.Happening.{IsBuilt}
+use Rattle.cg_events.specs.Happening.{IsCounted}
 use Rattle.cg_run.specs.declared.progress.Progress.{Progress}
 
 -- a start was read, and its replicas have begun
@@ -22,7 +22,7 @@ pub record IsUnderWay (s : Progress) : Type 0 where
 abbrev pub MayHappen : World → Event → Type 0
 MayHappen w (Rounds count) = 0 < length w.seats
 MayHappen w End = 0 < length w.seats
-MayHappen w other = MayStand w other × IsBuilt other
+MayHappen w other = MayStand w other × IsCounted other
 
 -- the event is the next one: behind it a start was read, and it may happen
 pub record IsNext (s : Progress) (e : Event) : Type 0 where

@@ -6,7 +6,7 @@ ghost use Rattle.cg_schedule.specs.Reading.{whole};
 ghost use Rattle.cg_run.specs.declared.status.Status.TheVariants as status;
 ghost use Rattle.cg_run.specs.Produced.{before_all, ended_with};
 ghost use Rattle.cg_run.specs.Rounds.{happened};
-ghost use Rattle.cg_run.specs.Outcome.{unreadable, is_built, word_outcome, line_outcome, without_return, limit_of, whole_line, at_end, cut_line, last_piece, replayed};
+ghost use Rattle.cg_run.specs.Outcome.{unreadable, word_outcome, line_outcome, without_return, limit_of, whole_line, at_end, cut_line, last_piece, replayed};
 ghost use Rattle.cg_run.specs.Putting.{Stopped, Performs};
 ghost use Rattle.cg_run.specs.UnderWay.{HasBegun, IsUnderWay, MayHappen, IsNext};
 
@@ -41,16 +41,6 @@ fn refuse_line<K: Sink>(
     }
 }
 
-// The word is that of an event which is built.
-fn is_built(word: Word) -> bool
-    ensures { result ≡ is_built word }
-{
-    match word {
-        Word::Join | Word::Leave | Word::Transfer => false,
-        _ => true,
-    }
-}
-
 // The event of a line, which the reader has read.
 fn perform_read<K: Sink>(
     alloc: Global,
@@ -69,17 +59,6 @@ fn perform_read<K: Sink>(
     perform(alloc, output, line, &event, progress)
 }
 
-// A line that begins with a word that isn't built.
-fn refuse_word<K: Sink>(alloc: Global, output: &mut K, line: u64, progress: Progress) -> Status
-    requires few_faults { (K.view output.old).faults < 2 ^ 62 }
-    ensures { Stopped (ended_with (status.Unsupported line) line progress)
-        (K.view output.old) (K.view output.new) result }
-{
-    let count = progress.count;
-    drop(progress);
-    finish(alloc, output, Status::Unsupported { line }, count, line)
-}
-
 // A line that begins with the word, before these tokens.
 #[tactic(auto, unfolding(crate::specs::Outcome::word_outcome))]
 fn perform_word<K: Sink>(
@@ -91,14 +70,11 @@ fn perform_word<K: Sink>(
     progress: Progress,
 ) -> Result<Progress, Status>
     requires few_faults { (K.view output.old).faults < 2 ^ 62 }
-    requires reads { (event : Event) → whole (event_reading word) words ≡ Ok event → is_built word ≡ true → IsNext progress event }
+    requires reads { (event : Event) → whole (event_reading word) words ≡ Ok event → IsNext progress event }
     ensures performs { Performs (word_outcome line word words.entry progress)
         (K.view output.old) (K.view output.new) result }
     ensures begun { IfOk result (λ s. HasBegun s) }
 {
-    if !is_built(word) {
-        return Err(refuse_word(alloc, output, line, progress));
-    }
     let Progress {
         world,
         reader,

@@ -24,7 +24,6 @@ pub enum Status {
     Limit { line: u64, what: Limit },
     NoMemory,
     NoEnd { lines: u64 },
-    Unsupported { line: u64 },
 }
 
 impl Status {
@@ -42,7 +41,6 @@ impl Status {
             Status::Limit { .. } => 6,
             Status::NoMemory => 7,
             Status::NoEnd { .. } => 8,
-            Status::Unsupported { .. } => 9,
         }
     }
 }

@@ -1,7 +1,7 @@
 ghost use Rattle.std.specs.Prelude.{◌≡◌, ◌<◌, ◌^◌, true, length, IfOk};
 ghost use Rattle.cg_schedule.specs.declared.event.Event.{Event};
 ghost use Rattle.cg_agree.specs.Run.{MayStand};
-ghost use Rattle.cg_events.specs.Happening.{IsBuilt};
+ghost use Rattle.cg_events.specs.Happening.{IsCounted};
 ghost use Rattle.cg_run.specs.Produced.{stepped, one_step};
 ghost use Rattle.cg_run.specs.Putting.{Performs};
 ghost use Rattle.cg_run.specs.UnderWay.{HasBegun};
@@ -64,7 +64,7 @@ pub fn take_step<K: Sink>(
     requires few_faults { (K.view output.old).faults < 2 ^ 62 }
     requires started { progress.reader.started ≡ true }
     requires stands { MayStand progress.world event.now }
-    requires built { IsBuilt event.now }
+    requires counted { IsCounted event.now }
     ensures performs { Performs (one_step line event.now progress)
         (K.view output.old) (K.view output.new) result }
     ensures begun { IfOk result (λ s. HasBegun s) }

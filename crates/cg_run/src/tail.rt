@@ -65,7 +65,6 @@ fn put_tail_line(out: &mut Vec<u8>, status: &Status, steps: u64, lines: u64) -> 
             put_limit(out, *what)
         }
         Status::NoEnd { lines: all } => put_numbered(out, b"no end ", *all),
-        Status::Unsupported { line } => put_numbered(out, b"unsupported ", *line),
         Status::WriteFault | Status::NoMemory => Ok(()),
     }
 }

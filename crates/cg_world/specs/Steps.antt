@@ -7,7 +7,7 @@ use Rattle.cg_agree.specs.Show.{Moved}
 use Rattle.cg_agree.specs.Step.{world_step}
 use Rattle.cg_world.specs.declared.world.Stepped.{Stepped}
 use Rattle.cg_world.specs.declared.world.Stepped.TheVariants as stepped
-pub use Rattle.cg_events.specs.Happening.{IsBuilt}
+pub use Rattle.cg_events.specs.Happening.{IsCounted}
 
 -- what comes of an event: its step, or exactly the reason by which it isn't admitted
 abbrev pub Steps : World → Event → Stepped → Type 0

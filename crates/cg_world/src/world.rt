@@ -2,7 +2,7 @@
 ghost use Rattle.cg_agree.specs.Show.{ended};
 ghost use Rattle.cg_agree.specs.Run.{MayStand};
 ghost use Rattle.cg_world.specs.Led.{IsLed};
-ghost use Rattle.cg_world.specs.Steps.{IsBuilt, IsEnd, Steps};
+ghost use Rattle.cg_world.specs.Steps.{IsCounted, IsEnd, Steps};
 
 use crate::World;
 use cg_agree::{actions_stand_in_one_book, facts_stand_beside_each_world};
@@ -26,7 +26,7 @@ impl World {
     /// The step of an event in this world.
     pub fn step(self, alloc: Global, event: &Event) -> Stepped
         requires stands { MayStand self event.now }
-        requires built { IsBuilt event.now }
+        requires counted { IsCounted event.now }
         ensures { Steps self event.now result }
     {
         facts_stand_beside_each_world();

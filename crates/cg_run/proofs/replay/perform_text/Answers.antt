@@ -9,7 +9,7 @@ pub perform_word-requires-clause-reads : goal.perform_word-requires-clause-reads
 perform_word-requires-clause-reads g c =
     let o : Word × List (List ℕ) = (c.in-Ok-Some.word, c.in-Ok-Some.words) in
     let is : opening c.args.progress.reader c.args.line.now ≡ Ok (Some o) = sym c.begin_line.ensures ∙ c.in-Ok-Some.is ∙ ap Ok c.in-Ok-Some.field-0-is in
-    λ event read built. next_read c.lines_are_exact.ensures.event c.args.progress c.args.line.now o event c.requires.under_way is read built
+    λ event read. next_read c.lines_are_exact.ensures.event c.args.progress c.args.line.now o event c.requires.under_way is read
 
 pub returns-in-Err-clause-performs : goal.returns-in-Err-clause-performs
 returns-in-Err-clause-performs g c =
