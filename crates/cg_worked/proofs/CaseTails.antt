@@ -1,5 +1,5 @@
 -- How a run ends that finds no end: the words are no command, nothing is taken, a take fails between two lines or inside one,
--- the last line has no end of its own, or a line can't be read or isn't built.
+-- the last line has no end of its own, a line can't be read, or its event isn't admitted.
 use Rattle.std.specs.Prelude.{◌≡◌, [], ◌∷◌, ◌++◌}
 use mathlib.Core.Path.{refl}
 use Rattle.cg_run.specs.declared.progress.Ending.TheVariants.{Ended, Failed, Open}
@@ -42,11 +42,11 @@ read_before_it_failed : put_of ("replay" ∷ []) (written ("start 33" ∷ [])) F
 unfolding cases_compute
 read_before_it_failed = refl
 
-not_built : replayed_text ("start 1 2" ∷ "join 1 3" ∷ "end" ∷ []) ≡ written (
+name_used : replayed_text ("start 1 2" ∷ "join 1 2" ∷ "end" ∷ []) ≡ written (
     "= 1" ∷
     "1 NonPrim - g0 w0 p0@0{1,2} a0 v- y- r[] o[] x{} b0" ∷
     "2 NonPrim - g0 w0 p0@0{1,2} a0 v- y- r[] o[] x{} b0" ∷
-    "unsupported 2" ∷
+    "refused 2 12 2" ∷
     [])
 unfolding cases_compute
-not_built = refl
+name_used = refl

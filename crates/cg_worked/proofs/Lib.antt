@@ -28,6 +28,7 @@ mod CaseCleared
 mod CaseRecordKept
 mod CaseStopInside
 mod CaseFaultAtCall
+mod CaseSnapshotAgain
 mod CaseStruckCommits
 mod CaseStruckFive
 mod CaseAtTheGate
