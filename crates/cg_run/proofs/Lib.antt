@@ -1,8 +1,12 @@
 pub mod Asked
+pub mod Feeds
 pub mod GoingOn
 pub mod Happening
 pub mod Lines
 pub mod RunFacts
 pub mod RefusedLines
+pub mod Stages
+pub mod Streams
 pub mod TakeLemmas
+pub mod Trials
 pub mod Spared

@@ -1,6 +1,6 @@
 -- The lines of an input, one after the other.
 use Rattle.std.proofs.Common.{◌≡◌, ℕ, ◌+◌, List, [], ◌∷◌, length, true, false, refl, Option, Result}
-use Rattle.std.proofs.lemmas.Bool.{true≢false, false≢true}
+use Rattle.std.proofs.lemmas.Bool.{true≢false}
 use Rattle.cg_base.specs.Text.{is_nil}
 use Rattle.cg_run.specs.declared.progress.Ending.{Ending}
 use Rattle.cg_run.specs.declared.progress.Progress.{Progress}
@@ -9,31 +9,13 @@ use Rattle.cg_schedule.specs.declared.fault.LineFault.{LineFault}
 use Rattle.cg_schedule.specs.declared.word.Word.{Word}
 use Rattle.cg_schedule.specs.Reading.{whole}
 use Rattle.cg_schedule.specs.Line.{opening, event_reading}
-use Rattle.cg_run.specs.Produced.{Produced, and_then}
-use Rattle.cg_run.specs.Outcome.{event_outcome, word_outcome, opened_outcome, line_outcome, whole_line, last_piece, replayed}
-use Rattle.cg_io.specs.Outside.{SinkView}
-use Rattle.cg_run.specs.Putting.{GoesOn}
+use Rattle.cg_run.specs.Produced.{and_then}
+use Rattle.cg_run.specs.Outcome.{event_outcome, word_outcome, opened_outcome, line_outcome, whole_line, replayed}
 
-replayed-last : (n at : ℕ) (line : List ℕ) (rest : List (List ℕ)) (how : Ending) (s : Progress) → is_nil rest ≡ true
-    → replayed n at (line ∷ rest) how s ≡ last_piece n at line how s
-replayed-last n at line [] how s last = refl
-replayed-last n at line (next ∷ more) how s last = absurd (false≢true last)
-
-replayed-more : (n at : ℕ) (line : List ℕ) (rest : List (List ℕ)) (how : Ending) (s : Progress) → is_nil rest ≡ false
+pub replayed-more : (n at : ℕ) (line : List ℕ) (rest : List (List ℕ)) (how : Ending) (s : Progress) → is_nil rest ≡ false
     → replayed n at (line ∷ rest) how s ≡ and_then (whole_line n at line s) (replayed (n + 1) (at + length line + 1) rest how)
 replayed-more n at line [] how s more = absurd (true≢false more)
 replayed-more n at line (next ∷ others) how s more = refl
-
--- the last piece is what is still to come
-pub GoesOn-last : (whole : Produced) (v v1 : SinkView) (n at : ℕ) (pieces : List (List ℕ)) (line : List ℕ) (rest : List (List ℕ)) (how : Ending) (s : Progress)
-    → GoesOn whole v v1 (replayed n at pieces how s) → pieces ≡ line ∷ rest → is_nil rest ≡ true → GoesOn whole v v1 (last_piece n at line how s)
-GoesOn-last whole v v1 n at pieces line rest how s g is last = rw (is, replayed-last n at line rest how s last) at g
-
--- a whole line and then the others are still to come
-pub GoesOn-line : (whole : Produced) (v v1 : SinkView) (n at : ℕ) (pieces : List (List ℕ)) (line : List ℕ) (rest : List (List ℕ)) (how : Ending) (s : Progress)
-    → GoesOn whole v v1 (replayed n at pieces how s) → pieces ≡ line ∷ rest → is_nil rest ≡ false
-    → GoesOn whole v v1 (and_then (whole_line n at line s) (replayed (n + 1) (at + length line + 1) rest how))
-GoesOn-line whole v v1 n at pieces line rest how s g is more = rw (is, replayed-more n at line rest how s more) at g
 
 -- what a word comes to
 pub word-read : (n : ℕ) (word : Word) (tokens : List (List ℕ)) (s : Progress) (r : Result Event LineFault) → whole (event_reading word) tokens ≡ r

@@ -28,14 +28,19 @@ use Rattle.cg_agree.specs.Run.{step_limit}
 use Rattle.cg_agree.specs.SeatLaws.{begun_stay, up_begun}
 use Rattle.cg_run.specs.declared.progress.Ending.{Ending}
 use Rattle.cg_run.specs.declared.progress.Ending.TheVariants.{Ended, Failed, Open}
+use Rattle.cg_run.specs.declared.command.Command.{Command}
+use Rattle.cg_run.specs.declared.command.Command.TheVariants.{Replay, Generate, Trial}
+use Rattle.cg_run.specs.Commands.{command_of}
 use Rattle.cg_run.specs.declared.progress.Progress.{Progress}
+use Rattle.cg_run.specs.Totals.{with_entry}
+use Rattle.cg_gen.specs.Generated.{generated}
 use Rattle.cg_run.specs.declared.status.Status.{Status}
 use Rattle.cg_run.specs.declared.status.Status.TheVariants as status
 use Rattle.cg_run.specs.declared.status.Limit.{Limit}
 use Rattle.cg_run.specs.declared.status.Limit.TheVariants.{Steps}
 use Rattle.cg_run.specs.Produced.{Finding, Produced, before_all, status_of, went_on, ended_with, and_then, unless_refused, one_step}
 use Rattle.cg_run.specs.Rounds.{deliver_ready, deliveries, one_pass, passes, happened}
-use Rattle.cg_run.specs.Outcome.{event_outcome, word_outcome, opened_outcome, line_outcome, without_return, limit_of, unless_passed, whole_line, at_end, cut_line, last_piece, replayed, is_replay, outcome}
+use Rattle.cg_run.specs.Outcome.{lines_alone, pieces_for, event_outcome, word_outcome, opened_outcome, line_outcome, without_return, limit_of, unless_passed, whole_line, at_end, cut_line, last_piece, replayed, outcome_of, outcome}
 use Rattle.cg_run.specs.Refusing.{text_before, place_past, place_past_lines}
 use Rattle.cg_run.specs.Taking.{TellsOfRefusals}
 use Rattle.cg_run.proofs.Asked.{ExactLines, reads_of}
@@ -101,7 +106,7 @@ Passes-one_step n event s admitted = rw admitted (by_limit (nat_lt s.count step_
   by_limit : (b : Bool) → Passes s (cond b (record {
     steps = record { number = s.count + 1; event = event; entry = (world_step s.world event).entry; world = (world_step s.world event).world } ∷ [];
     found = None;
-    progress = record s { world = (world_step s.world event).world; count = s.count + 1 };
+    progress = record s { world = (world_step s.world event).world; count = s.count + 1; totals = with_entry s.totals (world_step s.world event).entry };
   }) (ended_with (status.Limit n Steps) n s))
   by_limit true = record { admits = λ m r e. cc; begun = begun_stay s.world event; reader = refl }
   by_limit false = record { admits = λ m r e. cc; begun = λ q is. is; reader = refl }
@@ -149,7 +154,7 @@ one_step-refuses n event s = by_refusal (first_refusal s.world event) refl where
   by_limit : (b : Bool) (m : Moved) → RefusesEvent n event (cond b (record {
     steps = record { number = s.count + 1; event = event; entry = m.entry; world = m.world } ∷ [];
     found = None;
-    progress = record s { world = m.world; count = s.count + 1 };
+    progress = record s { world = m.world; count = s.count + 1; totals = with_entry s.totals m.entry };
   }) (ended_with (status.Limit n Steps) n s))
   by_limit true moved = λ m r e. cc
   by_limit false moved = λ m r e. cc
@@ -282,11 +287,15 @@ replayed-refuses all before (line ∷ next ∷ more) n at how s lines here numbe
     (is.reader e ∙ ap (λ place. place_past place (without_return line)) here ∙ sym (past-last before first_place line))
     (grind (arith, length-append {A = List ℕ}, numbered)))
 
-outcome-refuses_in : (words : List (List ℕ)) (taken : List ℕ) (how : Ending) → RefusesOf (pieces_of 10 taken) (outcome words taken how)
-outcome-refuses_in words taken how = by_words (is_replay words) where
-  by_words : (b : Bool) → RefusesOf (pieces_of 10 taken) (cond b (replayed 1 0 (pieces_of 10 taken) how before_all) (ended_with status.Usage 0 before_all))
-  by_words true = replayed-refuses (pieces_of 10 taken) [] (pieces_of 10 taken) 1 0 how before_all refl refl refl
-  by_words false = λ m r e. cc
+outcome-refuses_in : (words : List (List ℕ)) (taken : List ℕ) (how : Ending) → RefusesOf (pieces_for (command_of words) taken) (outcome words taken how)
+outcome-refuses_in words taken how = by_command (command_of words) where
+  by_command : (c : Option Command) → RefusesOf (pieces_for c taken) (outcome_of c taken how)
+  by_command None = λ m r e. cc
+  by_command (Some (Replay report)) = replayed-refuses (pieces_of 10 taken) [] (pieces_of 10 taken) 1 0 how before_all refl refl refl
+  by_command (Some (Generate seed replicas lines)) = λ m r e. cc
+  by_command (Some (Trial seed replicas lines)) =
+      let all = lines_alone (generated seed replicas lines) in
+      replayed-refuses all [] all 1 0 Ended before_all refl refl refl
 
 pub outcome-refuses : (words : List (List ℕ)) → ExactLines → TellsOfRefusals words
 outcome-refuses words exact taken how n reason e =

@@ -21,14 +21,19 @@ use Rattle.cg_agree.specs.Agreement.{Agreement, IsRefused, EveryRunAgrees}
 use Rattle.cg_agree.specs.SeatLaws.{step_seats}
 use Rattle.cg_run.specs.declared.progress.Ending.{Ending}
 use Rattle.cg_run.specs.declared.progress.Ending.TheVariants.{Ended, Failed, Open}
+use Rattle.cg_run.specs.declared.command.Command.{Command}
+use Rattle.cg_run.specs.declared.command.Command.TheVariants.{Replay, Generate, Trial}
+use Rattle.cg_run.specs.Commands.{command_of}
 use Rattle.cg_run.specs.declared.progress.Progress.{Progress}
+use Rattle.cg_run.specs.Totals.{with_entry}
+use Rattle.cg_gen.specs.Generated.{generated}
 use Rattle.cg_run.specs.declared.status.Status.{Status}
 use Rattle.cg_run.specs.declared.status.Status.TheVariants as status
 use Rattle.cg_run.specs.declared.status.Limit.{Limit}
 use Rattle.cg_run.specs.declared.status.Limit.TheVariants.{Steps}
 use Rattle.cg_run.specs.Produced.{Finding, Produced, before_all, refusal_of, went_on, ended_with, refused_with, and_then, stepped, unless_refused, one_step}
 use Rattle.cg_run.specs.Rounds.{deliver_ready, deliveries, one_pass, passes, happened}
-use Rattle.cg_run.specs.Outcome.{reason_of, event_outcome, word_outcome, opened_outcome, line_outcome, without_return, limit_of, unless_passed, whole_line, at_end, cut_line, last_piece, replayed, outcome, is_replay}
+use Rattle.cg_run.specs.Outcome.{lines_alone, reason_of, event_outcome, word_outcome, opened_outcome, line_outcome, without_return, limit_of, unless_passed, whole_line, at_end, cut_line, last_piece, replayed, outcome_of, outcome}
 use Rattle.cg_run.specs.UnderWay.{IsUnderWay}
 use Rattle.cg_run.proofs.Asked.{may_ask, ExactLines, reads_of}
 use Rattle.cg_run.proofs.GoingOn.{and_then-some}
@@ -65,7 +70,8 @@ Holds-refused_with n event reason s why = record { is_run = tt; world = refl; co
 
 -- how far the run has come behind a step
 abbrev behind : Event → Progress → Progress
-behind event s = record s { world = (world_step s.world event).world; count = s.count + 1 }
+behind event s =
+    record s { world = (world_step s.world event).world; count = s.count + 1; totals = with_entry s.totals (world_step s.world event).entry }
 
 -- behind a start that was read replicas have begun
 seated_under_way : (s : Progress) → s.reader.started ≡ true → 0 < length s.world.seats → IsUnderWay s
@@ -115,7 +121,7 @@ one_step-reader n event s = by_refusal (first_refusal s.world event) where
   by_limit : (b : Bool) (m : Moved) → (cond b (record {
     steps = record { number = s.count + 1; event = event; entry = m.entry; world = m.world } ∷ [];
     found = None;
-    progress = record s { world = m.world; count = s.count + 1 };
+    progress = record s { world = m.world; count = s.count + 1; totals = with_entry s.totals m.entry };
   }) (ended_with (status.Limit n Steps) n s)).progress.reader ≡ s.reader
   by_limit true m = refl
   by_limit false m = refl
@@ -267,10 +273,12 @@ before_under_way : IsUnderWay before_all
 before_under_way = record { before = λ e. refl; begun = λ e. absurd cc }
 
 pub Holds-outcome : (words : List (List ℕ)) (taken : List ℕ) (how : Ending) → ExactLines → Holds before_all (outcome words taken how)
-Holds-outcome words taken how exact = by_words (is_replay words) where
-  by_words : (b : Bool) → Holds before_all (cond b (replayed 1 0 (pieces_of 10 taken) how before_all) (ended_with status.Usage 0 before_all))
-  by_words true = Holds-replayed 1 0 (pieces_of 10 taken) how before_all exact before_under_way
-  by_words false = Holds-ended_with status.Usage 0 before_all
+Holds-outcome words taken how exact = by_command (command_of words) where
+  by_command : (c : Option Command) → Holds before_all (outcome_of c taken how)
+  by_command None = Holds-ended_with status.Usage 0 before_all
+  by_command (Some (Replay report)) = Holds-replayed 1 0 (pieces_of 10 taken) how before_all exact before_under_way
+  by_command (Some (Generate seed replicas lines)) = Holds-ended_with status.Done 0 before_all
+  by_command (Some (Trial seed replicas lines)) = Holds-replayed 1 0 (lines_alone (generated seed replicas lines)) Ended before_all exact before_under_way
 
 pub outcome-is_run : (words : List (List ℕ)) (taken : List ℕ) (how : Ending) → ExactLines → IsRunFrom no_world 0 (outcome words taken how).steps
 outcome-is_run words taken how exact = (Holds-outcome words taken how exact).is_run

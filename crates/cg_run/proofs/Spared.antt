@@ -1,5 +1,5 @@
 -- A run says that its input failed only where the taking ended so, and that its output failed only where a put did.
-use Rattle.std.proofs.Common.{◌≡◌, ℕ, zero, suc, ◌+◌, ◌==◌, ◌-◌, nat_lt, List, [], ◌∷◌, length, Option, Some, None, refl, subst, ◌∙◌, arith, Result, Ok, Err}
+use Rattle.std.proofs.Common.{◌≡◌, ℕ, zero, suc, ◌+◌, ◌==◌, ◌-◌, nat_lt, List, [], ◌∷◌, Bool, true, false, length, Option, Some, None, refl, sym, ap, subst, ◌∙◌, arith, Result, Ok, Err}
 use Rattle.std.proofs.lemmas.Bool.{cond_both}
 use Rattle.cg_base.specs.Text.{pieces_of}
 use Rattle.cg_group.specs.declared.reason.Reason.{Reason}
@@ -17,7 +17,11 @@ use Rattle.cg_agree.specs.Step.{world_step}
 use Rattle.cg_agree.specs.Run.{step_limit}
 use Rattle.cg_run.specs.declared.progress.Ending.{Ending}
 use Rattle.cg_run.specs.declared.progress.Ending.TheVariants.{Ended, Failed, Open}
+use Rattle.cg_run.specs.declared.command.Command.{Command}
+use Rattle.cg_run.specs.declared.command.Command.TheVariants.{Replay, Generate, Trial}
 use Rattle.cg_run.specs.declared.progress.Progress.{Progress}
+use Rattle.cg_run.specs.Totals.{with_entry}
+use Rattle.cg_gen.specs.Generated.{generated}
 use Rattle.cg_run.specs.declared.status.Status.{Status}
 use Rattle.cg_run.specs.declared.status.Status.TheVariants as status
 use Rattle.cg_run.specs.declared.status.Limit.{Limit}
@@ -25,75 +29,104 @@ use Rattle.cg_run.specs.declared.status.Limit.TheVariants.{Steps}
 use Rattle.cg_run.specs.Status.{write_faults}
 use Rattle.cg_run.specs.Produced.{Finding, Produced, before_all, status_of, went_on, ended_with, and_then, unless_refused, one_step}
 use Rattle.cg_run.specs.Rounds.{deliver_ready, deliveries, one_pass, passes, happened}
-use Rattle.cg_run.specs.Outcome.{event_outcome, word_outcome, opened_outcome, line_outcome, without_return, limit_of, unless_passed, whole_line, at_end, cut_line, last_piece, replayed, is_replay, outcome}
-use Rattle.cg_run.specs.Putting.{Stopped}
-use Rattle.cg_run.specs.Taking.{HasCause, ReadCause}
+use Rattle.cg_run.specs.Outcome.{lines_alone, event_outcome, word_outcome, opened_outcome, line_outcome, without_return, limit_of, unless_passed, whole_line, at_end, cut_line, last_piece, replayed, outcome_of}
+use Rattle.cg_run.specs.Putting.{StopsWith}
+use Rattle.cg_run.specs.Taking.{HasCause, ReadCause, Ends}
+
+-- a status that comes of the input's end or of a failed take, and not of a line
+abbrev pub is_of_end : Option Status → Bool
+is_of_end (Some status.Done) = true
+is_of_end (Some status.ReadFault) = true
+is_of_end (Some (status.NoEnd lines)) = true
+is_of_end other = false
+
+-- the part finds nothing that comes of the input's end
+abbrev pub IsInLine : Produced → Type 0
+IsInLine p = is_of_end (status_of p) ≡ false
+
+IsInLine-and_then : (p : Produced) (more : Progress → Produced) → IsInLine p → ((s : Progress) → IsInLine (more s)) → IsInLine (and_then p more)
+IsInLine-and_then p more first next = by_finding p.found refl where
+  by_finding : (o : Option Finding) → p.found ≡ o → IsInLine (and_then p more)
+  by_finding None e = rw e (next p.progress)
+  by_finding (Some f) e = let same : and_then p more ≡ p = rw e refl in rw same first
+
+IsInLine-stepped : (n : ℕ) (event : Event) (s : Progress) → IsInLine (unless_refused None n event s)
+IsInLine-stepped n event s =
+    let m = world_step s.world event in
+    cond_both (nat_lt s.count step_limit)
+    (record {
+      steps = record { number = s.count + 1; event = event; entry = m.entry; world = m.world } ∷ [];
+      found = None;
+      progress = record s { world = m.world; count = s.count + 1; totals = with_entry s.totals m.entry };
+    })
+    (ended_with (status.Limit n Steps) n s) IsInLine (λ y. refl) (λ y. refl)
+
+IsInLine-unless_refused : (o : Option Reason) (n : ℕ) (event : Event) (s : Progress) → IsInLine (unless_refused o n event s)
+IsInLine-unless_refused None n event s = IsInLine-stepped n event s
+IsInLine-unless_refused (Some reason) n event s = refl
+
+IsInLine-one_step : (n : ℕ) (event : Event) (s : Progress) → IsInLine (one_step n event s)
+IsInLine-one_step n event s = IsInLine-unless_refused (first_refusal s.world event) n event s
+
+IsInLine-deliver_ready : (n p : ℕ) (s : Progress) → IsInLine (deliver_ready n p s)
+IsInLine-deliver_ready n p s =
+    cond_both (ready s.world.group p == 0) (went_on s) (one_step n (Deliver p (ready s.world.group p)) s) IsInLine (λ y. refl)
+    (λ y. IsInLine-one_step n (Deliver p (ready s.world.group p)) s)
+
+IsInLine-deliveries : (n : ℕ) (set : List ℕ) (s : Progress) → IsInLine (deliveries n set s)
+IsInLine-deliveries n [] s = refl
+IsInLine-deliveries n (p ∷ set) s = IsInLine-and_then (deliver_ready n p s) (deliveries n set) (IsInLine-deliver_ready n p s) (λ s. IsInLine-deliveries n set s)
+
+IsInLine-passes : (n count : ℕ) (s : Progress) → IsInLine (passes n count s)
+IsInLine-passes n zero s = refl
+IsInLine-passes n (suc count) s = IsInLine-and_then (one_pass n s) (passes n count) pass (λ s. IsInLine-passes n count s) where
+  pass : IsInLine (one_pass n s)
+  pass = IsInLine-and_then (one_step n Gather s) (deliveries n (up_replicas s.world)) (IsInLine-one_step n Gather s) (IsInLine-deliveries n (up_replicas s.world))
+
+IsInLine-happened : (n : ℕ) (event : Event) (s : Progress) → IsInLine (happened n event s)
+unfolding happened
+IsInLine-happened n End s = refl
+IsInLine-happened n (Rounds count) s = IsInLine-passes n count s
+IsInLine-happened n other s = IsInLine-one_step n other s
+
+IsInLine-event : (n : ℕ) (r : Result Event LineFault) (s : Progress) → IsInLine (event_outcome n r s)
+IsInLine-event n (Ok event) s = IsInLine-happened n event (record s { reader = place_after s.reader event })
+IsInLine-event n (Err fault) s = refl
+
+IsInLine-word : (n : ℕ) (word : Word) (tokens : List (List ℕ)) (s : Progress) → IsInLine (word_outcome n word tokens s)
+unfolding word_outcome
+IsInLine-word n word tokens s = IsInLine-event n (whole (event_reading word) tokens) s
+
+IsInLine-opened : (n : ℕ) (r : Result (Option (Word × List (List ℕ))) LineFault) (s : Progress) → IsInLine (opened_outcome n r s)
+IsInLine-opened n (Ok None) s = refl
+IsInLine-opened n (Ok (Some opened)) s = IsInLine-word n opened.0 opened.1 s
+IsInLine-opened n (Err fault) s = refl
+
+pub IsInLine-line : (n : ℕ) (line : List ℕ) (s : Progress) → IsInLine (line_outcome n line s)
+unfolding line_outcome
+IsInLine-line n line s = IsInLine-opened n (opening s.reader line) s
+
+IsInLine-unless_passed : (o : Option Limit) (n : ℕ) (s : Progress) (p : Produced) → IsInLine p → IsInLine (unless_passed o n s p)
+IsInLine-unless_passed None n s p spares = spares
+IsInLine-unless_passed (Some what) n s p spares = refl
+
+-- a whole line comes to no end of the input
+pub IsInLine-whole : (n at : ℕ) (line : List ℕ) (s : Progress) → IsInLine (whole_line n at line s)
+IsInLine-whole n at line s =
+    IsInLine-unless_passed (limit_of n (length line) (at + length line + 1)) n s (line_outcome n (without_return line) s) (IsInLine-line n (without_return line) s)
 
 -- the part doesn't find that the input failed
 abbrev Spares : Produced → Type 0
 Spares p = status_of p ≡ Some status.ReadFault → ⊥
+
+Spares-in_line : (p : Produced) → IsInLine p → Spares p
+Spares-in_line p is = λ e. absurd (let clash : true ≡ false = ap is_of_end (sym e) ∙ is in cc)
 
 Spares-and_then : (p : Produced) (more : Progress → Produced) → Spares p → ((s : Progress) → Spares (more s)) → Spares (and_then p more)
 Spares-and_then p more first next = by_finding p.found refl where
   by_finding : (o : Option Finding) → p.found ≡ o → Spares (and_then p more)
   by_finding None e = rw e (next p.progress)
   by_finding (Some f) e = let same : and_then p more ≡ p = rw e refl in rw same first
-
-Spares-stepped : (n : ℕ) (event : Event) (s : Progress) → Spares (unless_refused None n event s)
-Spares-stepped n event s =
-    let m = world_step s.world event in
-    cond_both (nat_lt s.count step_limit)
-    (record {
-      steps = record { number = s.count + 1; event = event; entry = m.entry; world = m.world } ∷ [];
-      found = None;
-      progress = record s { world = m.world; count = s.count + 1 };
-    })
-    (ended_with (status.Limit n Steps) n s) Spares (λ y e. cc) (λ y e. cc)
-
-Spares-unless_refused : (o : Option Reason) (n : ℕ) (event : Event) (s : Progress) → Spares (unless_refused o n event s)
-Spares-unless_refused None n event s = Spares-stepped n event s
-Spares-unless_refused (Some reason) n event s = λ e. cc
-
-Spares-one_step : (n : ℕ) (event : Event) (s : Progress) → Spares (one_step n event s)
-Spares-one_step n event s = Spares-unless_refused (first_refusal s.world event) n event s
-
-Spares-deliver_ready : (n p : ℕ) (s : Progress) → Spares (deliver_ready n p s)
-Spares-deliver_ready n p s =
-    cond_both (ready s.world.group p == 0) (went_on s) (one_step n (Deliver p (ready s.world.group p)) s) Spares (λ y e. cc)
-    (λ y. Spares-one_step n (Deliver p (ready s.world.group p)) s)
-
-Spares-deliveries : (n : ℕ) (set : List ℕ) (s : Progress) → Spares (deliveries n set s)
-Spares-deliveries n [] s = λ e. cc
-Spares-deliveries n (p ∷ set) s = Spares-and_then (deliver_ready n p s) (deliveries n set) (Spares-deliver_ready n p s) (λ s. Spares-deliveries n set s)
-
-Spares-passes : (n count : ℕ) (s : Progress) → Spares (passes n count s)
-Spares-passes n zero s = λ e. cc
-Spares-passes n (suc count) s = Spares-and_then (one_pass n s) (passes n count) pass (λ s. Spares-passes n count s) where
-  pass : Spares (one_pass n s)
-  pass = Spares-and_then (one_step n Gather s) (deliveries n (up_replicas s.world)) (Spares-one_step n Gather s) (Spares-deliveries n (up_replicas s.world))
-
-Spares-happened : (n : ℕ) (event : Event) (s : Progress) → Spares (happened n event s)
-unfolding happened
-Spares-happened n End s = λ e. cc
-Spares-happened n (Rounds count) s = Spares-passes n count s
-Spares-happened n other s = Spares-one_step n other s
-
-Spares-event : (n : ℕ) (r : Result Event LineFault) (s : Progress) → Spares (event_outcome n r s)
-Spares-event n (Ok event) s = Spares-happened n event (record s { reader = place_after s.reader event })
-Spares-event n (Err fault) s = λ e. cc
-
-Spares-word : (n : ℕ) (word : Word) (tokens : List (List ℕ)) (s : Progress) → Spares (word_outcome n word tokens s)
-unfolding word_outcome
-Spares-word n word tokens s = Spares-event n (whole (event_reading word) tokens) s
-
-Spares-opened : (n : ℕ) (r : Result (Option (Word × List (List ℕ))) LineFault) (s : Progress) → Spares (opened_outcome n r s)
-Spares-opened n (Ok None) s = λ e. cc
-Spares-opened n (Ok (Some opened)) s = Spares-word n opened.0 opened.1 s
-Spares-opened n (Err fault) s = λ e. cc
-
-Spares-line : (n : ℕ) (line : List ℕ) (s : Progress) → Spares (line_outcome n line s)
-unfolding line_outcome
-Spares-line n line s = Spares-opened n (opening s.reader line) s
 
 Spares-unless_passed : (o : Option Limit) (n : ℕ) (s : Progress) (p : Produced) → Spares p → Spares (unless_passed o n s p)
 Spares-unless_passed None n s p spares = spares
@@ -110,7 +143,7 @@ module _ (how : Ending) (not_failed : how ≡ Failed → ⊥) where
   Spares-cut_line : (n : ℕ) (line : List ℕ) (s : Progress) → Spares (cut_line n line how s)
   Spares-cut_line n line s = by_ending how refl where
     by_ending : (h : Ending) → how ≡ h → Spares (cut_line n line h s)
-    by_ending Ended e = Spares-and_then (line_outcome n line s) (at_end n Ended) (Spares-line n line s) (λ s. subst (λ (h : Ending). Spares (at_end n h s)) e (Spares-at_end n s))
+    by_ending Ended e = Spares-and_then (line_outcome n line s) (at_end n Ended) (Spares-in_line (line_outcome n line s) (IsInLine-line n line s)) (λ s. subst (λ (h : Ending). Spares (at_end n h s)) e (Spares-at_end n s))
     by_ending Failed e = absurd (not_failed e)
     by_ending Open e = λ e. cc
 
@@ -124,24 +157,29 @@ module _ (how : Ending) (not_failed : how ≡ Failed → ⊥) where
   Spares-replayed n at (rest ∷ []) s = Spares-last_piece n at rest s
   Spares-replayed n at (line ∷ next ∷ more) s =
       Spares-and_then (whole_line n at line s) (λ s'. replayed (n + 1) (at + length line + 1) (next ∷ more) how s')
-      (Spares-unless_passed (limit_of n (length line) (at + length line + 1)) n s (line_outcome n (without_return line) s) (Spares-line n (without_return line) s))
+      (Spares-in_line (whole_line n at line s) (IsInLine-whole n at line s))
       (λ s'. Spares-replayed (n + 1) (at + length line + 1) (next ∷ more) s')
 
-  Spares-outcome : (words : List (List ℕ)) (taken : List ℕ) → Spares (outcome words taken how)
-  Spares-outcome words taken =
-      cond_both (is_replay words) (replayed 1 0 (pieces_of 10 taken) how before_all) (ended_with status.Usage 0 before_all) Spares
-      (λ y. Spares-replayed 1 0 (pieces_of 10 taken) before_all) (λ y e. cc)
+Spares-lines : (lines : List (List ℕ)) → Spares (replayed 1 0 lines Ended before_all)
+Spares-lines lines = Spares-replayed Ended (λ e. cc) 1 0 lines before_all
+
+module _ (how : Ending) (not_failed : how ≡ Failed → ⊥) where
+  Spares-outcome : (c : Option Command) (taken : List ℕ) → Spares (outcome_of c taken how)
+  Spares-outcome None taken = λ e. cc
+  Spares-outcome (Some (Replay report)) taken = Spares-replayed how not_failed 1 0 (pieces_of 10 taken) before_all
+  Spares-outcome (Some (Generate seed replicas lines)) taken = λ e. cc
+  Spares-outcome (Some (Trial seed replicas lines)) taken = Spares-lines (lines_alone (generated seed replicas lines))
 
 -- the status tells of a failed take only where one failed
-pub read-cause : (words : List (List ℕ)) (taken : List ℕ) (how : Ending) (old new : SourceView) (v v' : SinkView) (st : Status)
-    → HasCause how old new → Stopped (outcome words taken how) v v' st → ReadCause old new st
-read-cause words taken Failed old new v v' status.ReadFault cause stopped = cause
-read-cause words taken Ended old new v v' status.ReadFault cause stopped = absurd (Spares-outcome Ended (λ e. cc) words taken stopped.0)
-read-cause words taken Open old new v v' status.ReadFault cause stopped = absurd (Spares-outcome Open (λ e. cc) words taken stopped.0)
-read-cause words taken how old new v v' other cause stopped = tt
+pub read-cause : (c : Option Command) (taken : List ℕ) (how : Ending) (old new : SourceView) (v v' : SinkView) (st : Status)
+    → HasCause how old new → Ends c (outcome_of c taken how) v v' st → ReadCause old new st
+read-cause c taken Failed old new v v' status.ReadFault cause stopped = cause
+read-cause c taken Ended old new v v' status.ReadFault cause stopped = absurd (Spares-outcome Ended (λ e. cc) c taken stopped.0)
+read-cause c taken Open old new v v' status.ReadFault cause stopped = absurd (Spares-outcome Open (λ e. cc) c taken stopped.0)
+read-cause c taken how old new v v' other cause stopped = tt
 
 -- and of a failed put exactly where one failed
-pub write-cause : (p : Produced) (v v' : SinkView) (st : Status) → Stopped p v v' st → v'.faults ≡ v.faults + write_faults st
-write-cause p v v' status.WriteFault stopped = stopped.counted
-write-cause p v v' status.NoMemory stopped = stopped.counted
-write-cause p v v' other stopped = stopped.1.no_fault ∙ omega arith
+pub write-cause : (text : List ℕ) (found : Option Status) (v v' : SinkView) (st : Status) → StopsWith text found v v' st → v'.faults ≡ v.faults + write_faults st
+write-cause text found v v' status.WriteFault stopped = stopped.counted
+write-cause text found v v' status.NoMemory stopped = stopped.counted
+write-cause text found v v' other stopped = stopped.1.no_fault ∙ omega arith

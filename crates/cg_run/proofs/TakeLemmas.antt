@@ -1,12 +1,12 @@
 -- What is taken in turns.
-use Rattle.std.proofs.Common.{◌≡◌, ℕ, List, [], ◌++◌, append_assoc, Option, Some, None, true, false, refl, sym, ap, ◌∙◌}
+use Rattle.std.proofs.Common.{ℕ, List, [], ◌++◌, append_assoc, Option, Some, None, refl, sym, ap, arith, ◌∙◌}
 use Rattle.std.specs.Io.KnownBytes.{Consumes}
-use Rattle.cg_base.specs.Text.{pieces_of}
-use Rattle.cg_run.specs.declared.progress.Ending.{Ending}
+use Rattle.cg_io.specs.Outside.{SourceView, SinkView}
+use Rattle.cg_run.specs.declared.command.Command.{Command}
 use Rattle.cg_run.specs.declared.progress.Ending.TheVariants.{Open}
-use Rattle.cg_run.specs.declared.status.Status.TheVariants.{Usage}
-use Rattle.cg_run.specs.Produced.{before_all, ended_with}
-use Rattle.cg_run.specs.Outcome.{outcome, is_replay, replayed}
+use Rattle.cg_run.specs.declared.status.Status.{Status}
+use Rattle.cg_run.specs.Outcome.{outcome_of}
+use Rattle.cg_run.specs.Taking.{Ends, Runs}
 
 pub Consumes-none : (h : Option (List ℕ)) → Consumes h h []
 Consumes-none None = tt
@@ -18,9 +18,7 @@ Consumes-twice (Some xs) None h2 s t p q = absurd p
 Consumes-twice (Some xs) (Some ys) None s t p q = absurd q
 Consumes-twice (Some xs) (Some ys) (Some zs) s t p q = p ∙ ap (λ w. s ++ w) q ∙ sym (append_assoc s t zs)
 
-pub outcome-usage : (words : List (List ℕ)) → is_replay words ≡ false → outcome words [] Open ≡ ended_with Usage 0 before_all
-outcome-usage words other = rw other
-
-pub outcome-replay : (words : List (List ℕ)) (taken : List ℕ) (how : Ending) → is_replay words ≡ true
-    → outcome words taken how ≡ replayed 1 0 (pieces_of 10 taken) how before_all
-outcome-replay words taken how is = rw is
+-- a command that reads no input takes nothing
+pub Runs-nothing : (c : Option Command) (old : SourceView) (v v' : SinkView) (st : Status) → Ends c (outcome_of c [] Open) v v' st → Runs c old old v v' st
+Runs-nothing c old v v' st ended =
+    record { taken = []; ending = Open; consumed = Consumes-none old.left; cause = refl; holds = (omega arith, ended, λ m lt. absurd (omega (arith, lt))) }

@@ -1,8 +1,11 @@
+pub mod Commands
 pub mod Outcome
 pub mod Produced
 pub mod Putting
 pub mod Refusing
 pub mod Rounds
 pub mod Status
+pub mod Streaming
 pub mod Taking
+pub mod Totals
 pub mod UnderWay

@@ -1,6 +1,5 @@
 -- What a run comes to, as a function of its words, of the bytes taken and of how the taking ended.
-use Rattle.std.specs.Prelude.{ℕ, ◌+◌, ◌-◌, nat_lt, nat_eq, take, Result, Ok, Err, Bool, false, if◌then◌else◌, List, [], ◌∷◌, length, codes, Option, Some, None}
-use Rattle.std.specs.Str.{bytes_eq}
+use Rattle.std.specs.Prelude.{ℕ, ◌+◌, ◌-◌, nat_lt, nat_eq, take, Result, Ok, Err, Bool, true, false, if◌then◌else◌, List, [], ◌∷◌, length, codes, Option, Some, None}
 use Rattle.cg_base.specs.Text.{pieces_of}
 use Rattle.std.specs.List.{ends_with}
 use Rattle.cg_schedule.specs.declared.event.Event.{Event}
@@ -15,7 +14,18 @@ use Rattle.cg_run.specs.declared.progress.Progress.{Progress}
 use Rattle.cg_run.specs.declared.status.Status.TheVariants as status
 use Rattle.cg_run.specs.declared.status.Limit.{Limit}
 use Rattle.cg_run.specs.declared.status.Limit.TheVariants as limit
-use Rattle.cg_run.specs.Produced.{Produced, before_all, went_on, ended_with, and_then}
+use Rattle.cg_run.specs.declared.command.Command.{Command}
+use Rattle.cg_run.specs.declared.command.Command.TheVariants.{Replay, Generate, Trial}
+use Rattle.cg_run.specs.declared.progress.Report.TheVariants.{Whole}
+use Rattle.cg_run.specs.Commands.{command_of}
+use Rattle.cg_gen.specs.Generated.{generated}
+use Rattle.cg_gen.specs.Lines.{lines_of}
+use Rattle.cg_schedule.specs.Print.{line_of}
+use Rattle.cg_run.specs.declared.status.Status.{Status}
+use Rattle.cg_run.specs.declared.totals.Totals.{Totals}
+use Rattle.cg_run.specs.Status.{tail_text}
+use Rattle.cg_run.specs.Totals.{summary_text}
+use Rattle.cg_run.specs.Produced.{Finding, Produced, before_all, went_on, ended_with, and_then, text_of}
 use Rattle.cg_run.specs.Rounds.{happened}
 
 -- the number of the reason for which a line is no event
@@ -92,12 +102,42 @@ replayed n at (rest ∷ []) how s = last_piece n at rest how s
 replayed n at (line ∷ next ∷ more) how s =
     and_then (whole_line n at line s) (λ s'. replayed (n + 1) (at + length line + 1) (next ∷ more) how s')
 
-abbrev pub is_replay : List (List ℕ) → Bool
-is_replay [] = false
-is_replay (word ∷ []) = bytes_eq word (codes "replay")
-is_replay (word ∷ next ∷ words) = false
+-- the lines that spell events, and the nothing behind the last one's end
+abbrev pub lines_alone : List Event → List (List ℕ)
+lines_alone [] = [] ∷ []
+lines_alone (event ∷ events) = line_of event ∷ lines_alone events
+
+-- the pieces of the schedule that a command replays
+abbrev pub pieces_for : Option Command → List ℕ → List (List ℕ)
+pieces_for (Some (Trial seed replicas lines)) taken = lines_alone (generated seed replicas lines)
+pieces_for other taken = pieces_of 10 taken
+
+-- what a trial puts of a finding: the summary where the run is done, else the tail
+abbrev pub trial_end : Status → ℕ → ℕ → Totals → List ℕ
+trial_end status.Done lines steps totals = summary_text steps totals
+trial_end other lines steps totals = tail_text other steps lines
+
+abbrev pub found_text : Option Finding → ℕ → Totals → List ℕ
+found_text None steps totals = []
+found_text (Some f) steps totals = trial_end f.status f.lines steps totals
+
+abbrev pub trial_text : Produced → List ℕ
+trial_text p = found_text p.found p.progress.count p.progress.totals
+
+-- what a command comes to; without one the run tells how it is used
+abbrev pub outcome_of : Option Command → List ℕ → Ending → Produced
+outcome_of None taken how = ended_with status.Usage 0 before_all
+outcome_of (Some (Replay report)) taken how = replayed 1 0 (pieces_of 10 taken) how before_all
+outcome_of (Some (Generate seed replicas lines)) taken how = ended_with status.Done 0 before_all
+outcome_of (Some (Trial seed replicas lines)) taken how = replayed 1 0 (lines_alone (generated seed replicas lines)) Ended before_all
 
 -- the whole run
 abbrev pub outcome : List (List ℕ) → List ℕ → Ending → Produced
-outcome words taken how =
-    if is_replay words then replayed 1 0 (pieces_of 10 taken) how before_all else ended_with status.Usage 0 before_all
+outcome words taken how = outcome_of (command_of words) taken how
+
+-- what a command puts of what it comes to
+abbrev pub text_put : Option Command → Produced → List ℕ
+text_put None p = text_of Whole p
+text_put (Some (Replay report)) p = text_of report p
+text_put (Some (Generate seed replicas lines)) p = lines_of (generated seed replicas lines)
+text_put (Some (Trial seed replicas lines)) p = trial_text p

@@ -8,12 +8,18 @@ use Rattle.cg_agree.specs.World.{no_world}
 use Rattle.cg_agree.specs.Admission.{first_refusal}
 use Rattle.cg_agree.specs.Show.{Moved}
 use Rattle.cg_agree.specs.Step.{world_step}
-use Rattle.cg_agree.specs.Run.{Step, Refusal, report_text, step_limit}
+use Rattle.std.specs.List.{flat_map}
+use Rattle.cg_report.specs.declared.entry.Entry.{Entry}
+use Rattle.cg_report.specs.EntryText.{entry_text}
+use Rattle.cg_agree.specs.Run.{Step, Refusal, step_limit}
 use Rattle.cg_run.specs.declared.progress.Progress.{Progress}
+use Rattle.cg_run.specs.declared.progress.Report.{Report}
+use Rattle.cg_run.specs.declared.progress.Report.TheVariants.{Whole, Tail}
 use Rattle.cg_run.specs.declared.status.Status.{Status}
 use Rattle.cg_run.specs.declared.status.Status.TheVariants as status
 use Rattle.cg_run.specs.declared.status.Limit.TheVariants.{Steps}
 use Rattle.cg_run.specs.Status.{tail_text}
+use Rattle.cg_run.specs.Totals.{no_totals, with_entry}
 
 -- what ends a run: its status, the whole lines gone through, and the refusal, where it is one
 pub record Finding : Type 0 where
@@ -29,16 +35,24 @@ pub record Produced : Type 0 where
 
 -- before the first line
 abbrev pub before_all : Progress
-before_all = record { world = no_world; reader = first_place; count = 0 }
+before_all = record { world = no_world; reader = first_place; count = 0; totals = no_totals }
 
 -- a report with the tail of the finding, where there is one
 abbrev pub with_tail : List ℕ → Option Finding → ℕ → List ℕ
 with_tail report None count = report
 with_tail report (Some f) count = report ++ tail_text f.status count f.lines
 
+-- what is put of a step, and of steps
+abbrev pub entry_in : Report → ℕ → Entry → List ℕ
+entry_in Whole number entry = entry_text number entry
+entry_in Tail number entry = []
+
+abbrev pub report_in : Report → List Step → List ℕ
+report_in report steps = flat_map (λ s. entry_in report s.number s.entry) steps
+
 -- what a part puts: the report of its steps, and the tail where it ends the run
-abbrev pub text_of : Produced → List ℕ
-text_of p = with_tail (report_text p.steps) p.found p.progress.count
+abbrev pub text_of : Report → Produced → List ℕ
+text_of report p = with_tail (report_in report p.steps) p.found p.progress.count
 
 -- the status of a part that ends the run
 abbrev pub status_of : Produced → Option Status
@@ -86,7 +100,7 @@ stepped n event m s =
     if nat_lt s.count step_limit then record {
       steps = record { number = s.count + 1; event = event; entry = m.entry; world = m.world } ∷ [];
       found = None;
-      progress = record s { world = m.world; count = s.count + 1 };
+      progress = record s { world = m.world; count = s.count + 1; totals = with_entry s.totals m.entry };
     }
     else ended_with (status.Limit n Steps) n s
 

@@ -1,9 +1,10 @@
 -- How what was put stands to what a part of a run produces.
 use Rattle.std.specs.Prelude.{◌≡◌, ◌+◌, ℕ, List, Option, Some, None, Result, MatchResult, ⊤}
 use Rattle.cg_io.specs.Outside.{SinkView, PutsAll, PutsFront}
-use Rattle.cg_agree.specs.Run.{Step, report_text}
-use Rattle.cg_run.specs.Produced.{Produced, prepend, text_of, status_of}
+use Rattle.cg_agree.specs.Run.{Step}
+use Rattle.cg_run.specs.Produced.{Produced, prepend, report_in, text_of, status_of}
 use Rattle.cg_run.specs.declared.progress.Progress.{Progress}
+use Rattle.cg_run.specs.declared.progress.Report.{Report}
 use Rattle.cg_run.specs.declared.status.Status.{Status}
 use Rattle.cg_run.specs.declared.status.Status.TheVariants as status
 
@@ -29,15 +30,15 @@ StopsWith text found old new status.WriteFault = PutsPart old new text 1
 StopsWith text found old new status.NoMemory = PutsPart old new text 0
 StopsWith text found old new other = (found ≡ Some other) × Puts old new text
 
-abbrev pub Stopped : Produced → SinkView → SinkView → Status → Type 0
-Stopped p old new status = StopsWith (text_of p) (status_of p) old new status
+abbrev pub Stopped : Report → Produced → SinkView → SinkView → Status → Type 0
+Stopped report p old new status = StopsWith (text_of report p) (status_of p) old new status
 
 -- a part of a run was put and the run goes on, or it has ended
-abbrev pub Performs : Produced → SinkView → SinkView → Result Progress Status → Type 0
-Performs p old new result =
+abbrev pub Performs : Report → Produced → SinkView → SinkView → Result Progress Status → Type 0
+Performs report p old new result =
     MatchResult result
-    (λ s. (p.found ≡ None) × (s ≡ p.progress) × Puts old new (report_text p.steps))
-    (λ status. Stopped p old new status)
+    (λ s. (p.found ≡ None) × (s ≡ p.progress) × Puts old new (report_in report p.steps))
+    (λ status. Stopped report p old new status)
 
 -- a status that a run can find
 abbrev pub IsFinding : Status → Type 0
@@ -46,7 +47,7 @@ IsFinding status.NoMemory = ⊥
 IsFinding other = ⊤
 
 -- what was put since is the report of the steps made since, and the rest is still to come
-pub record GoesOn (whole : Produced) (old new : SinkView) (rest : Produced) : Type 0 where
+pub record GoesOn (report : Report) (whole : Produced) (old new : SinkView) (rest : Produced) : Type 0 where
   pub made : List Step
-  pub put : Puts old new (report_text made)
+  pub put : Puts old new (report_in report made)
   pub same : whole ≡ prepend made rest

@@ -1,6 +1,5 @@
 -- Which line of an input is refused, and by which reason.
 use Rattle.std.specs.Prelude.{◌≡◌, ℕ, suc, List, [], ◌∷◌, ◌++◌, fold, length, Some}
-use Rattle.cg_base.specs.Text.{pieces_of}
 use Rattle.cg_group.specs.declared.reason.Reason.{Reason}
 use Rattle.cg_schedule.specs.declared.event.Event.{Event}
 use Rattle.cg_schedule.specs.declared.place.Place.{Place}
@@ -23,12 +22,12 @@ place_past place text = place_behind place (reading place text)
 abbrev pub place_past_lines : Place → List (List ℕ) → Place
 place_past_lines place lines = fold (λ place line. place_past place (without_return line)) place lines
 
--- Line n of these bytes reads, behind the lines before it, as an event that isn't admitted in the world behind the steps, first for this reason.
-pub record RefusesLine (taken : List ℕ) (steps : List Step) (n : ℕ) (reason : Reason) : Type 0 where
+-- Line n of these pieces reads, behind the lines before it, as an event that isn't admitted in the world behind the steps, first for this reason.
+pub record RefusesLine (pieces : List (List ℕ)) (steps : List Step) (n : ℕ) (reason : Reason) : Type 0 where
   pub before : List (List ℕ)
   pub line : List ℕ
   pub behind : List (List ℕ)
-  pub lines : pieces_of 10 taken ≡ before ++ line ∷ behind
+  pub lines : pieces ≡ before ++ line ∷ behind
   pub numbered : n ≡ suc (length before)
   pub event : Event
   pub reads : Reads (place_past_lines first_place before) (text_before behind line) event

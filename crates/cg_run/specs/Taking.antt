@@ -1,23 +1,27 @@
 -- How what was taken stands to the bytes that the input had left, and what holds of all that a run comes to.
-use Rattle.std.specs.Prelude.{◌≡◌, ◌<◌, ◌≤◌, ◌+◌, ℕ, List, ◌++◌, length, Option, Some, Result, MatchResult, MatchOption}
+use Rattle.std.specs.Prelude.{◌≡◌, ◌<◌, ◌+◌, ◌++◌, ℕ, List, ◌≤◌, length, take, Option, Some, None}
 use Rattle.std.specs.Io.KnownBytes.{Consumes, IsAtEnd}
-use Rattle.cg_base.specs.declared.no_memory.NoMemory.{NoMemory}
-use Rattle.cg_io.specs.Outside.{SourceView}
+use Rattle.cg_io.specs.Outside.{SourceView, SinkView, PutsAll}
 use Rattle.cg_group.specs.declared.reason.Reason.{Reason}
 use Rattle.cg_agree.specs.Run.{Step}
 use Rattle.cg_agree.specs.Agreement.{RefusedExactly}
 use Rattle.cg_run.specs.declared.progress.Ending.{Ending}
 use Rattle.cg_run.specs.declared.progress.Ending.TheVariants.{Ended, Failed, Open}
-use Rattle.cg_run.specs.declared.progress.Taken.{Taken}
 use Rattle.cg_run.specs.declared.status.Status.{Status}
 use Rattle.cg_run.specs.declared.status.Status.TheVariants as status
-use Rattle.cg_run.specs.Produced.{status_of, refusal_of}
+use Rattle.cg_run.specs.Produced.{Produced, status_of, refusal_of}
 use Rattle.cg_run.specs.Refusing.{RefusesLine}
-use Rattle.cg_run.specs.Outcome.{outcome}
+use Rattle.cg_run.specs.Outcome.{outcome, outcome_of, pieces_for, text_put}
+use Rattle.cg_run.specs.Commands.{command_of}
+use Rattle.cg_run.specs.declared.command.Command.{Command}
+use Rattle.cg_run.specs.Putting.{StopsWith}
 
--- at most the input's limit and one byte more are taken
+-- at most the input's limit and one byte more are taken, and at most so many at once
 abbrev pub most_taken : ℕ
 most_taken = 8388609
+
+abbrev pub most_at_once : ℕ
+most_at_once = 4096
 
 -- how the taking ended has its cause: the input's end, or a fault, which is counted; else no take failed
 abbrev pub HasCause : Ending → SourceView → SourceView → Type 0
@@ -30,37 +34,6 @@ abbrev pub ReadCause : SourceView → SourceView → Status → Type 0
 ReadCause old new status.ReadFault = new.faults ≡ old.faults + 1
 ReadCause old new other = Unit {0}
 
--- these bytes were taken
-pub record Took (old new : SourceView) (taken : List ℕ) : Type 0 where
-  pub consumed : Consumes old.left new.left taken
-  pub few : length taken ≤ most_taken
-
--- some bytes were taken, and stand at the end of those that were there
-pub record Stores (old new : SourceView) (bytes bytes' : List ℕ) : Type 0 where
-  pub taken : List ℕ
-  pub stored : bytes' ≡ bytes ++ taken
-  pub consumed : Consumes old.left new.left taken
-  pub few : length bytes' ≤ most_taken
-
--- some bytes were taken that found no memory behind those that were there
-pub record Drops (old new : SourceView) (bytes : List ℕ) : Type 0 where
-  pub taken : List ℕ
-  pub consumed : Consumes old.left new.left taken
-  pub few : length bytes + length taken ≤ most_taken
-  pub no_fault : new.faults ≡ old.faults
-
-abbrev pub TakesSome : SourceView → SourceView → List ℕ → List ℕ → Result (Option Ending) NoMemory → Type 0
-TakesSome old new bytes bytes' result =
-    MatchResult result
-    (λ ending. Stores old new bytes bytes' × MatchOption ending ((length bytes < length bytes') × (new.faults ≡ old.faults)) (λ e. HasCause e old new))
-    (λ _. Drops old new bytes)
-
-abbrev pub TakesAll : SourceView → SourceView → Result Taken NoMemory → Type 0
-TakesAll old new result =
-    MatchResult result
-    (λ t. Took old new t.bytes × HasCause t.ending old new)
-    (λ _. (taken : List ℕ) × Took old new taken × (new.faults ≡ old.faults))
-
 -- some bytes were taken, the taking ended in some way, and this holds of them
 pub record OfTaken (old new : SourceView) (Holds : List ℕ → Ending → Type 0) : Type 0 where
   pub taken : List ℕ
@@ -68,6 +41,28 @@ pub record OfTaken (old new : SourceView) (Holds : List ℕ → Ending → Type 
   pub consumed : Consumes old.left new.left taken
   pub cause : HasCause ending old new
   pub holds : Holds taken ending
+
+-- some front of what was put since is this text
+pub record Begins (from to : SinkView) (text : List ℕ) : Type 0 where
+  pub rest : List ℕ
+  pub grown : PutsAll from to (text ++ rest)
+
+-- All but the last bytes, as many as are taken at once, had been gone through before the last take: they come to no finding,
+-- and what they come to was put.
+abbrev pub InTime : (Produced → List ℕ) → (List ℕ → Produced) → List ℕ → SinkView → SinkView → Type 0
+InTime text comes taken from to =
+    (m : ℕ) → m + most_at_once < length taken → ((comes (take m taken)).found ≡ None) × Begins from to (text (comes (take m taken)))
+
+-- the run has ended with this status, and put what the command puts of what it comes to
+abbrev pub Ends : Option Command → Produced → SinkView → SinkView → Status → Type 0
+Ends command p from to status = StopsWith (text_put command p) (status_of p) from to status
+
+-- the command was run on what was taken as it was needed
+abbrev pub Runs : Option Command → SourceView → SourceView → SinkView → SinkView → Status → Type 0
+Runs command old new from to status =
+    OfTaken old new (λ taken how.
+    (length taken ≤ most_taken) × Ends command (outcome_of command taken how) from to status
+    × InTime (text_put command) (λ front. outcome_of command front Open) taken from to)
 
 -- what holds of the steps of the outcome, whatever was taken and however the taking ended
 abbrev pub OfSteps : List (List ℕ) → (List Step → Type 0) → Type 0
@@ -77,7 +72,7 @@ OfSteps words holds = (taken : List ℕ) (how : Ending) → holds (outcome words
 abbrev pub TellsOfRefusals : List (List ℕ) → Type 0
 TellsOfRefusals words =
     (taken : List ℕ) (how : Ending) (n : ℕ) (reason : Reason) → status_of (outcome words taken how) ≡ Some (status.Refused n reason)
-    → RefusesLine taken (outcome words taken how).steps n reason
+    → RefusesLine (pieces_for (command_of words) taken) (outcome words taken how).steps n reason
 
 -- no test of an event that made a step gives a reason, and the event that ended the run by a refusal has that reason first
 abbrev pub RefusesExactly : List (List ℕ) → Type 0

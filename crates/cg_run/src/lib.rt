@@ -6,6 +6,7 @@
 #![tactic(auto)]
 
 mod arg_text;
+mod command;
 mod progress;
 mod putting;
 mod replay;
@@ -13,10 +14,12 @@ mod rounds;
 mod running;
 mod status;
 mod steps;
+mod streaming;
 mod tail;
-mod taking;
 #[cfg(test)]
 mod tests;
+mod totals;
+mod trial;
 
 pub use arg_text::ArgText;
 pub use running::run;

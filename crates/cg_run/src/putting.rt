@@ -1,16 +1,17 @@
 ghost use Rattle.std.specs.Prelude.{◌<◌, ◌^◌, OnOk, IfErr, Some};
-ghost use Rattle.cg_report.specs.EntryText.{entry_text};
+ghost use Rattle.cg_run.specs.Produced.{entry_in};
 ghost use Rattle.cg_run.specs.Status.{tail_text};
 ghost use Rattle.cg_run.specs.Putting.{Puts, CutShort, StopsWith, IsFinding};
 
+use crate::progress::Report;
 use crate::status::Status;
 use crate::tail::put_tail;
 use cg_io::{IoFault, Sink};
 use cg_report::{Entry, put_entry};
 use std::alloc::Global;
 
-// Puts a text, unless it is empty.
-fn put_text<K: Sink>(alloc: Global, output: &mut K, text: &[u8]) -> Result<(), Status>
+/// Puts a text, unless it is empty.
+pub fn put_text<K: Sink>(alloc: Global, output: &mut K, text: &[u8]) -> Result<(), Status>
     requires { (K.view output.old).faults < 2 ^ 62 }
     ensures ok { OnOk result (Puts (K.view output.old) (K.view output.new) text.now) }
     ensures cut { IfErr result (λ status.
@@ -50,18 +51,22 @@ pub fn finish<K: Sink>(
     }
 }
 
-/// Puts what a step shows.
+/// Puts what a step shows, where the whole report is put. Else no text is built.
 pub fn put_step<K: Sink>(
     alloc: Global,
     output: &mut K,
+    report: Report,
     number: u64,
     entry: &Entry,
 ) -> Result<(), Status>
     requires { (K.view output.old).faults < 2 ^ 62 }
-    ensures ok { OnOk result (Puts (K.view output.old) (K.view output.new) (entry_text number entry.now)) }
+    ensures ok { OnOk result (Puts (K.view output.old) (K.view output.new) (entry_in report number entry.now)) }
     ensures cut { IfErr result (λ status.
-        CutShort (entry_text number entry.now) (K.view output.old) (K.view output.new) status) }
+        CutShort (entry_in report number entry.now) (K.view output.old) (K.view output.new) status) }
 {
+    if report == Report::Tail {
+        return Ok(());
+    }
     let mut text = Vec::new(alloc);
     if put_entry(&mut text, number, entry).is_err() {
         return Err(Status::NoMemory);

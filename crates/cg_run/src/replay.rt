@@ -1,20 +1,21 @@
-ghost use Rattle.std.specs.Prelude.{◌≡◌, ◌<◌, ◌^◌, ◌+◌, ◌≤◌, true, length, IfOk, Ok};
-ghost use Rattle.cg_base.specs.Text.{pieces_of};
+ghost use Rattle.std.specs.Prelude.{◌≡◌, ◌<◌, ◌^◌, ◌+◌, ◌≤◌, ℕ, true, length, IfOk, Ok, None};
 ghost use Rattle.cg_schedule.specs.declared.event.Event.{Event};
 ghost use Rattle.cg_schedule.specs.Line.{event_reading};
 ghost use Rattle.cg_schedule.specs.Reading.{whole};
+ghost use Rattle.cg_run.specs.declared.progress.Ending.TheVariants.{Ended};
+ghost use Rattle.cg_run.specs.declared.progress.Report.{Report};
 ghost use Rattle.cg_run.specs.declared.status.Status.TheVariants as status;
-ghost use Rattle.cg_run.specs.Produced.{before_all, ended_with};
+ghost use Rattle.cg_run.specs.Produced.{ended_with};
 ghost use Rattle.cg_run.specs.Rounds.{happened};
-ghost use Rattle.cg_run.specs.Outcome.{unreadable, word_outcome, line_outcome, without_return, limit_of, whole_line, at_end, cut_line, last_piece, replayed};
+ghost use Rattle.cg_run.specs.Outcome.{unreadable, word_outcome, line_outcome, without_return, limit_of, whole_line, at_end, cut_line, last_piece};
 ghost use Rattle.cg_run.specs.Putting.{Stopped, Performs};
+ghost use Rattle.cg_run.specs.Streaming.{held_limit};
 ghost use Rattle.cg_run.specs.UnderWay.{HasBegun, IsUnderWay, MayHappen, IsNext};
 
-use crate::progress::{Ending, Progress};
+use crate::progress::{Progress, Report};
 use crate::putting::finish;
 use crate::rounds::perform;
 use crate::status::{Limit, Status};
-use cg_base::Pieces;
 use cg_io::Sink;
 use cg_schedule::{Event, LineFault, Word, lines_are_exact};
 use cg_text::Words;
@@ -29,7 +30,7 @@ fn refuse_line<K: Sink>(
     count: u64,
 ) -> Status
     requires { (K.view output.old).faults < 2 ^ 62 }
-    ensures { (s : Progress) → s.count ≡ count → Stopped (unreadable line fault s)
+    ensures { (s : Progress) → s.count ≡ count → (report : Report) → Stopped report (unreadable line fault s)
         (K.view output.old) (K.view output.new) result }
 {
     match fault {
@@ -45,6 +46,7 @@ fn refuse_line<K: Sink>(
 fn perform_read<K: Sink>(
     alloc: Global,
     output: &mut K,
+    report: Report,
     line: u64,
     event: Event,
     progress: Progress,
@@ -52,11 +54,11 @@ fn perform_read<K: Sink>(
     requires few_faults { (K.view output.old).faults < 2 ^ 62 }
     requires started { progress.reader.started ≡ true }
     requires happens { MayHappen progress.world event }
-    ensures performs { Performs (happened line event progress)
+    ensures performs { Performs report (happened line event progress)
         (K.view output.old) (K.view output.new) result }
     ensures begun { IfOk result (λ s. HasBegun s) }
 {
-    perform(alloc, output, line, &event, progress)
+    perform(alloc, output, report, line, &event, progress)
 }
 
 // A line that begins with the word, before these tokens.
@@ -64,6 +66,7 @@ fn perform_read<K: Sink>(
 fn perform_word<K: Sink>(
     alloc: Global,
     output: &mut K,
+    report: Report,
     line: u64,
     word: Word,
     words: Words,
@@ -71,7 +74,7 @@ fn perform_word<K: Sink>(
 ) -> Result<Progress, Status>
     requires few_faults { (K.view output.old).faults < 2 ^ 62 }
     requires reads { (event : Event) → whole (event_reading word) words ≡ Ok event → IsNext progress event }
-    ensures performs { Performs (word_outcome line word words.entry progress)
+    ensures performs { Performs report (word_outcome line word words.entry progress)
         (K.view output.old) (K.view output.new) result }
     ensures begun { IfOk result (λ s. HasBegun s) }
 {
@@ -79,6 +82,7 @@ fn perform_word<K: Sink>(
         world,
         reader,
         count,
+        totals,
     } = progress;
     let mut reader = reader;
     match reader.finish_line(alloc, word, words) {
@@ -87,8 +91,9 @@ fn perform_word<K: Sink>(
                 world,
                 reader,
                 count,
+                totals,
             };
-            perform_read(alloc, output, line, event, progress)
+            perform_read(alloc, output, report, line, event, progress)
         }
         Err(LineFault::Syntax(reason)) => {
             drop(world);
@@ -107,20 +112,23 @@ fn perform_word<K: Sink>(
 fn perform_text<K: Sink>(
     alloc: Global,
     output: &mut K,
+    report: Report,
     number: u64,
     line: &[u8],
     progress: Progress,
 ) -> Result<Progress, Status>
     requires few_faults { (K.view output.old).faults < 2 ^ 62 }
     requires under_way { IsUnderWay progress }
-    ensures performs { Performs (line_outcome number line.now progress)
+    ensures performs { Performs report (line_outcome number line.now progress)
         (K.view output.old) (K.view output.new) result }
     ensures under_way { IfOk result (λ s. IsUnderWay s) }
 {
     lines_are_exact();
     match progress.reader.begin_line(line) {
         Ok(None) => Ok(progress),
-        Ok(Some((word, words))) => perform_word(alloc, output, number, word, words, progress),
+        Ok(Some((word, words))) => perform_word(
+            alloc, output, report, number, word, words, progress,
+        ),
         Err(fault) => {
             let count = progress.count;
             drop(progress);
@@ -140,8 +148,8 @@ fn without_return(line: &[u8]) -> &[u8]
     }
 }
 
-// The limit that a line passes.
-fn passed_limit(line: u64, len: usize, end: usize) -> Option<Limit>
+/// The limit that a line passes.
+pub fn passed_limit(line: u64, len: usize, end: usize) -> Option<Limit>
     ensures { result ≡ limit_of line len end }
 {
     if len > 32_768 {
@@ -155,8 +163,8 @@ fn passed_limit(line: u64, len: usize, end: usize) -> Option<Limit>
     }
 }
 
-// A line that passes a limit.
-fn refuse_limit<K: Sink>(
+/// A line that passes a limit.
+pub fn refuse_limit<K: Sink>(
     alloc: Global,
     output: &mut K,
     line: u64,
@@ -164,7 +172,7 @@ fn refuse_limit<K: Sink>(
     progress: Progress,
 ) -> Status
     requires { (K.view output.old).faults < 2 ^ 62 }
-    ensures { Stopped (ended_with (status.Limit line what) line progress)
+    ensures { (report : Report) → Stopped report (ended_with (status.Limit line what) line progress)
         (K.view output.old) (K.view output.new) result }
 {
     let count = progress.count;
@@ -172,10 +180,11 @@ fn refuse_limit<K: Sink>(
     finish(alloc, output, Status::Limit { line, what }, count, line)
 }
 
-// A line that has its end.
-fn perform_line<K: Sink>(
+/// A line that has its end.
+pub fn perform_line<K: Sink>(
     alloc: Global,
     output: &mut K,
+    report: Report,
     number: u64,
     at: usize,
     line: &[u8],
@@ -184,64 +193,53 @@ fn perform_line<K: Sink>(
     requires few_faults { (K.view output.old).faults < 2 ^ 62 }
     requires within { at ≤ 8388608 }
     requires under_way { IsUnderWay progress }
-    ensures performs { Performs (whole_line number at line.now progress)
+    ensures performs { Performs report (whole_line number at line.now progress)
         (K.view output.old) (K.view output.new) result }
-    ensures within { IfOk result (λ _. (at + length line.now + 1 ≤ 8388608) × (number ≤ 200000)) }
+    ensures within { IfOk result (λ _. (length line.now ≤ 32768) × (at + length line.now + 1 ≤ 8388608) × (number ≤ 200000)) }
     ensures under_way { IfOk result (λ s. IsUnderWay s) }
 {
     match passed_limit(number, line.len(), at + line.len() + 1) {
         Some(what) => Err(refuse_limit(alloc, output, number, what, progress)),
-        None => perform_text(alloc, output, number, without_return(line), progress),
+        None => perform_text(
+            alloc,
+            output,
+            report,
+            number,
+            without_return(line),
+            progress,
+        ),
     }
 }
 
-// Nothing stands behind so many lines.
-fn close_at_end<K: Sink>(
-    alloc: Global,
-    output: &mut K,
-    lines: u64,
-    ending: Ending,
-    progress: &Progress,
-) -> Status
+// The input has ended behind so many lines.
+fn close_at_end<K: Sink>(alloc: Global, output: &mut K, lines: u64, progress: &Progress) -> Status
     requires { (K.view output.old).faults < 2 ^ 62 }
-    ensures { Stopped (at_end lines ending progress.now)
+    ensures { (report : Report) → Stopped report (at_end lines Ended progress.now)
         (K.view output.old) (K.view output.new) result }
 {
     let count = progress.count;
-    match ending {
-        Ending::Ended => {
-            if progress.reader.place().ended {
-                finish(alloc, output, Status::Done, count, lines)
-            } else {
-                finish(alloc, output, Status::NoEnd { lines }, count, lines)
-            }
-        }
-        Ending::Failed => finish(alloc, output, Status::ReadFault, count, lines),
-        Ending::Open => Status::NoMemory,
+    if progress.reader.place().ended {
+        finish(alloc, output, Status::Done, count, lines)
+    } else {
+        finish(alloc, output, Status::NoEnd { lines }, count, lines)
     }
 }
 
-// Nothing stands behind so many lines, and the run is let go.
-fn end_run<K: Sink>(
-    alloc: Global,
-    output: &mut K,
-    lines: u64,
-    ending: Ending,
-    progress: Progress,
-) -> Status
+// The input has ended behind so many lines, and the run is let go.
+fn end_run<K: Sink>(alloc: Global, output: &mut K, lines: u64, progress: Progress) -> Status
     requires { (K.view output.old).faults < 2 ^ 62 }
-    ensures { Stopped (at_end lines ending progress)
+    ensures { (report : Report) → Stopped report (at_end lines Ended progress)
         (K.view output.old) (K.view output.new) result }
 {
-    let status = close_at_end(alloc, output, lines, ending, &progress);
+    let status = close_at_end(alloc, output, lines, &progress);
     drop(progress);
     status
 }
 
-// A last line was cut off where a take failed.
-fn fail_in_line<K: Sink>(alloc: Global, output: &mut K, lines: u64, progress: Progress) -> Status
+/// A take has failed behind so many lines.
+pub fn fail<K: Sink>(alloc: Global, output: &mut K, lines: u64, progress: Progress) -> Status
     requires { (K.view output.old).faults < 2 ^ 62 }
-    ensures { Stopped (ended_with status.ReadFault lines progress)
+    ensures { (report : Report) → Stopped report (ended_with status.ReadFault lines progress)
         (K.view output.old) (K.view output.new) result }
 {
     let count = progress.count;
@@ -249,81 +247,44 @@ fn fail_in_line<K: Sink>(alloc: Global, output: &mut K, lines: u64, progress: Pr
     finish(alloc, output, Status::ReadFault, count, lines)
 }
 
-// A last line without its end.
+// The input has ended behind a last line without its end.
 fn close_in_line<K: Sink>(
     alloc: Global,
     output: &mut K,
+    report: Report,
     number: u64,
     line: &[u8],
-    ending: Ending,
     progress: Progress,
 ) -> Status
     requires few_faults { (K.view output.old).faults < 2 ^ 62 }
-    requires counted { 1 ≤ number }
     requires under_way { IsUnderWay progress }
-    ensures { Stopped (cut_line number line.now ending progress)
+    ensures { Stopped report (cut_line number line.now Ended progress)
         (K.view output.old) (K.view output.new) result }
 {
-    match ending {
-        Ending::Ended => match perform_text(alloc, output, number, line, progress) {
-            Ok(next) => end_run(alloc, output, number, Ending::Ended, next),
-            Err(status) => status,
-        },
-        Ending::Failed => fail_in_line(alloc, output, number - 1, progress),
-        Ending::Open => {
-            drop(progress);
-            Status::NoMemory
-        }
+    match perform_text(alloc, output, report, number, line, progress) {
+        Ok(next) => end_run(alloc, output, number, next),
+        Err(status) => status,
     }
 }
 
-// What stands behind the last line's end.
-fn close<K: Sink>(
+/// The input has ended behind these bytes of a line, which pass no limit.
+pub fn close<K: Sink>(
     alloc: Global,
     output: &mut K,
+    report: Report,
     number: u64,
-    at: usize,
     rest: &[u8],
-    ending: Ending,
     progress: Progress,
 ) -> Status
     requires few_faults { (K.view output.old).faults < 2 ^ 62 }
-    requires within { at ≤ 8388608 }
     requires counted { 1 ≤ number }
     requires under_way { IsUnderWay progress }
-    ensures { Stopped (last_piece number at rest.now ending progress)
+    ensures { (at : ℕ) → held_limit number at rest.now ≡ None → Stopped report (last_piece number at rest.now Ended progress)
         (K.view output.old) (K.view output.new) result }
 {
     if rest.is_empty() {
-        return end_run(alloc, output, number - 1, ending, progress);
+        end_run(alloc, output, number - 1, progress)
+    } else {
+        close_in_line(alloc, output, report, number, rest, progress)
     }
-    match passed_limit(number, rest.len(), at + rest.len()) {
-        Some(what) => refuse_limit(alloc, output, number, what, progress),
-        None => close_in_line(alloc, output, number, rest, ending, progress),
-    }
-}
-
-/// Replays the bytes of a schedule.
-pub fn replay<K: Sink>(alloc: Global, output: &mut K, bytes: &[u8], ending: Ending) -> Status
-    requires { (K.view output.old).faults < 2 ^ 62 }
-    ensures { Stopped (replayed 1 0 (pieces_of 10 bytes.now) ending before_all)
-        (K.view output.old) (K.view output.new) result }
-{
-    let mut pieces = Pieces::new(bytes, b'\n');
-    let mut progress = Progress::new(alloc);
-    let mut number = 1u64;
-    let mut at = 0usize;
-    while let Some(line) = pieces.next() {
-        if pieces.is_empty() {
-            return close(alloc, output, number, at, line, ending, progress);
-        }
-        match perform_line(alloc, output, number, at, line, progress) {
-            Ok(next) => progress = next,
-            Err(status) => return status,
-        }
-        at = at + line.len() + 1;
-        number += 1;
-    }
-    drop(progress);
-    Status::NoMemory
 }

@@ -5,7 +5,7 @@ ghost use Rattle.cg_run.specs.Rounds.{deliver_ready, deliveries, one_pass, passe
 ghost use Rattle.cg_run.specs.Putting.{Performs};
 ghost use Rattle.cg_run.specs.UnderWay.{HasBegun, MayHappen};
 
-use crate::progress::Progress;
+use crate::progress::{Progress, Report};
 use crate::status::Status;
 use crate::steps::take_step;
 use cg_base::{IdSet, ReplicaId};
@@ -17,13 +17,14 @@ use std::alloc::Global;
 fn deliver_ready<K: Sink>(
     alloc: Global,
     output: &mut K,
+    report: Report,
     line: u64,
     to: ReplicaId,
     progress: Progress,
 ) -> Result<Progress, Status>
     requires few_faults { (K.view output.old).faults < 2 ^ 62 }
     requires begun { HasBegun progress }
-    ensures performs { Performs (deliver_ready line to progress)
+    ensures performs { Performs report (deliver_ready line to progress)
         (K.view output.old) (K.view output.new) result }
     ensures begun { IfOk result (λ s. HasBegun s) }
 {
@@ -32,26 +33,27 @@ fn deliver_ready<K: Sink>(
         return Ok(progress);
     }
     let event = Event::Deliver { p: to, count };
-    take_step(alloc, output, line, &event, progress)
+    take_step(alloc, output, report, line, &event, progress)
 }
 
 // What is ready at each of these replicas, when its turn comes.
 fn deliver_to_each<K: Sink>(
     alloc: Global,
     output: &mut K,
+    report: Report,
     line: u64,
     set: &IdSet,
     progress: Progress,
 ) -> Result<Progress, Status>
     requires few_faults { (K.view output.old).faults < 2 ^ 62 }
     requires begun { HasBegun progress }
-    ensures performs { Performs (deliveries line set.now progress)
+    ensures performs { Performs report (deliveries line set.now progress)
         (K.view output.old) (K.view output.new) result }
     ensures begun { IfOk result (λ s. HasBegun s) }
 {
     let mut progress = progress;
     for to in set.iter() {
-        match deliver_ready(alloc, output, line, to, progress) {
+        match deliver_ready(alloc, output, report, line, to, progress) {
             Ok(next) => progress = next,
             Err(status) => return Err(status),
         }
@@ -63,35 +65,37 @@ fn deliver_to_each<K: Sink>(
 fn gather<K: Sink>(
     alloc: Global,
     output: &mut K,
+    report: Report,
     line: u64,
     progress: Progress,
 ) -> Result<Progress, Status>
     requires few_faults { (K.view output.old).faults < 2 ^ 62 }
     requires begun { HasBegun progress }
-    ensures performs { Performs (one_step line Gather progress)
+    ensures performs { Performs report (one_step line Gather progress)
         (K.view output.old) (K.view output.new) result }
     ensures begun { IfOk result (λ s. HasBegun s) }
 {
     let event = Event::Gather;
-    take_step(alloc, output, line, &event, progress)
+    take_step(alloc, output, report, line, &event, progress)
 }
 
 // All messages are gathered, and then each replica that was up before is handed what is ready.
 fn make_pass<K: Sink>(
     alloc: Global,
     output: &mut K,
+    report: Report,
     line: u64,
     progress: Progress,
 ) -> Result<Progress, Status>
     requires few_faults { (K.view output.old).faults < 2 ^ 62 }
     requires begun { HasBegun progress }
-    ensures performs { Performs (one_pass line progress)
+    ensures performs { Performs report (one_pass line progress)
         (K.view output.old) (K.view output.new) result }
     ensures begun { IfOk result (λ s. HasBegun s) }
 {
     let up = progress.world.up_replicas();
-    match gather(alloc, output, line, progress) {
-        Ok(next) => deliver_to_each(alloc, output, line, &up, next),
+    match gather(alloc, output, report, line, progress) {
+        Ok(next) => deliver_to_each(alloc, output, report, line, &up, next),
         Err(status) => Err(status),
     }
 }
@@ -100,19 +104,20 @@ fn make_pass<K: Sink>(
 fn make_passes<K: Sink>(
     alloc: Global,
     output: &mut K,
+    report: Report,
     line: u64,
     count: u64,
     progress: Progress,
 ) -> Result<Progress, Status>
     requires few_faults { (K.view output.old).faults < 2 ^ 62 }
     requires begun { HasBegun progress }
-    ensures performs { Performs (passes line count progress)
+    ensures performs { Performs report (passes line count progress)
         (K.view output.old) (K.view output.new) result }
     ensures begun { IfOk result (λ s. HasBegun s) }
 {
     let mut progress = progress;
     for made in 0..count {
-        match make_pass(alloc, output, line, progress) {
+        match make_pass(alloc, output, report, line, progress) {
             Ok(next) => progress = next,
             Err(status) => return Err(status),
         }
@@ -125,6 +130,7 @@ fn make_passes<K: Sink>(
 pub fn perform<K: Sink>(
     alloc: Global,
     output: &mut K,
+    report: Report,
     line: u64,
     event: &Event,
     progress: Progress,
@@ -132,13 +138,13 @@ pub fn perform<K: Sink>(
     requires few_faults { (K.view output.old).faults < 2 ^ 62 }
     requires started { progress.reader.started ≡ true }
     requires happens { MayHappen progress.world event.now }
-    ensures performs { Performs (happened line event.now progress)
+    ensures performs { Performs report (happened line event.now progress)
         (K.view output.old) (K.view output.new) result }
     ensures begun { IfOk result (λ s. HasBegun s) }
 {
     match event {
         Event::End => Ok(progress),
-        Event::Rounds(count) => make_passes(alloc, output, line, *count, progress),
-        _ => take_step(alloc, output, line, event, progress),
+        Event::Rounds(count) => make_passes(alloc, output, report, line, *count, progress),
+        _ => take_step(alloc, output, report, line, event, progress),
     }
 }

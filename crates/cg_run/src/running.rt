@@ -1,30 +1,30 @@
-ghost use Rattle.std.specs.Prelude.{◌≡◌, ◌+◌, ◌<◌, ◌≤◌, ◌^◌, false, length};
+ghost use Rattle.std.specs.Prelude.{◌≡◌, ◌+◌, ◌<◌, ◌≤◌, ◌^◌, false, length, Some};
 ghost use Rattle.cg_agree.specs.World.{no_world};
 ghost use Rattle.cg_agree.specs.Run.{IsRunFrom};
 ghost use Rattle.cg_agree.specs.Agreement.{OrderGrows, Prefix, CreatorOrder, FoldAnswers, DirtyAnswers, OnePrimary, QuietSettles, MadeStays};
-ghost use Rattle.cg_run.specs.Outcome.{is_replay, outcome};
-ghost use Rattle.cg_run.specs.Putting.{Stopped};
+ghost use Rattle.cg_run.specs.declared.progress.Ending.TheVariants.{Open};
+ghost use Rattle.cg_gen.specs.Generated.{generated};
+ghost use Rattle.cg_gen.specs.Lines.{lines_of};
+ghost use Rattle.cg_run.specs.declared.status.Status.TheVariants as status;
+ghost use Rattle.cg_base.specs.Sets.{IsId};
+ghost use Rattle.cg_run.specs.Commands.{command_of, reads_input};
+ghost use Rattle.cg_run.specs.Outcome.{outcome, text_put};
+ghost use Rattle.cg_run.specs.Putting.{StopsWith};
 ghost use Rattle.cg_run.specs.Status.{write_faults};
-ghost use Rattle.cg_run.specs.Taking.{most_taken, OfTaken, ReadCause, OfSteps, TellsOfRefusals, RefusesExactly};
+ghost use Rattle.cg_run.specs.Taking.{most_taken, Ends, InTime, Runs, OfTaken, ReadCause, OfSteps, TellsOfRefusals, RefusesExactly};
 
 use crate::arg_text::ArgText;
-use crate::putting::finish;
-use crate::replay::replay;
+use crate::command::{Command, command_of};
+use crate::putting::{finish, put_text};
 use crate::status::Status;
-use crate::taking::take_all;
+use crate::streaming::replay;
+use crate::trial::try_schedule;
 use cg_agree::runs_agree;
+use cg_base::ReplicaId;
+use cg_gen::generate;
 use cg_io::{Sink, Source};
 use cg_schedule::lines_are_exact;
 use std::alloc::Global;
-
-fn is_replay_command(words: &[ArgText]) -> bool
-    ensures { result ≡ is_replay words.now }
-{
-    match words {
-        [word] => word.as_slice() == b"replay".as_slice(),
-        _ => false,
-    }
-}
 
 // Whatever is taken, a refusal tells of its line, and the steps are those of a run, which agree.
 fn outcomes_agree(words: &[ArgText])
@@ -44,7 +44,28 @@ fn outcomes_agree(words: &[ArgText])
     runs_agree();
 }
 
-// Runs the one command, or tells how it is used.
+// Puts the schedule of a seed.
+fn put_schedule<K: Sink>(
+    alloc: Global,
+    output: &mut K,
+    seed: u64,
+    replicas: u8,
+    lines: u64,
+) -> Status
+    requires replicas { IsId replicas }
+    requires few_faults { (K.view output.old).faults < 2 ^ 62 }
+    ensures { StopsWith (lines_of (generated seed replicas lines)) (Some status.Done) (K.view output.old) (K.view output.new) result }
+{
+    let Ok(schedule) = generate(alloc, seed, ReplicaId::known(replicas), lines) else {
+        return Status::NoMemory;
+    };
+    match put_text(alloc, output, schedule.as_slice()) {
+        Ok(()) => Status::Done,
+        Err(other) => other,
+    }
+}
+
+// Runs a command, or tells how the program is used.
 fn run_command<S: Source, K: Sink>(
     alloc: Global,
     words: &[ArgText],
@@ -53,18 +74,28 @@ fn run_command<S: Source, K: Sink>(
 ) -> Status
     requires few_read_faults { (S.view input.old).faults < 2 ^ 62 }
     requires few_write_faults { (K.view output.old).faults < 2 ^ 62 }
-    ensures ran { OfTaken (S.view input.old) (S.view input.new) (λ taken how.
-        (length taken ≤ most_taken) × Stopped (outcome words.now taken how) (K.view output.old) (K.view output.new) result) }
-    ensures usage { is_replay words.now ≡ false → S.view input.new ≡ S.view input.old }
+    ensures ran { Runs (command_of words.now) (S.view input.old) (S.view input.new) (K.view output.old) (K.view output.new) result }
+    ensures usage { reads_input (command_of words.now) ≡ false → S.view input.new ≡ S.view input.old }
     ensures read_fault { ReadCause (S.view input.old) (S.view input.new) result }
     ensures write_fault { (K.view output.new).faults ≡ (K.view output.old).faults + write_faults result }
 {
-    if !is_replay_command(words) {
-        return finish(alloc, output, Status::Usage, 0, 0);
-    }
-    match take_all(alloc, input) {
-        Ok(taken) => replay(alloc, output, taken.bytes.as_slice(), taken.ending),
-        Err(_) => Status::NoMemory,
+    match command_of(words) {
+        None => finish(alloc, output, Status::Usage, 0, 0),
+        Some(Command::Replay(report)) => replay(alloc, input, output, report),
+        Some(
+            Command::Generate {
+                seed,
+                replicas,
+                lines,
+            },
+        ) => put_schedule(alloc, output, seed, replicas, lines),
+        Some(
+            Command::Trial {
+                seed,
+                replicas,
+                lines,
+            },
+        ) => try_schedule(alloc, output, seed, replicas, lines),
     }
 }
 
@@ -78,12 +109,15 @@ pub fn run<S: Source, K: Sink>(
     requires few_read_faults { (S.view input.old).faults < 2 ^ 62 }
     requires few_write_faults { (K.view output.old).faults < 2 ^ 62 }
 
-    // At most the input's limit and one byte were taken, and what was put and the status are what these bytes come to.
+    // At most the input's limit and one byte were taken, and what was put and the status are what these bytes come to. All
+    // but the last 4,096 of them had been gone through before the last take: they come to no finding, and what they come to
+    // was put. So the line of a finding, and that of an entry that wasn't wholly put, ends among the last 4,096 bytes.
     ensures ran { OfTaken (S.view input.old) (S.view input.new) (λ taken how.
-        (length taken ≤ most_taken) × Stopped (outcome words.now taken how) (K.view output.old) (K.view output.new) result) }
+        (length taken ≤ most_taken) × Ends (command_of words.now) (outcome words.now taken how) (K.view output.old) (K.view output.new) result
+        × InTime (text_put (command_of words.now)) (λ front. outcome words.now front Open) taken (K.view output.old) (K.view output.new)) }
 
-    // Without the one command nothing is taken.
-    ensures usage { is_replay words.now ≡ false → S.view input.new ≡ S.view input.old }
+    // Without a command that reads the input nothing is taken.
+    ensures usage { reads_input (command_of words.now) ≡ false → S.view input.new ≡ S.view input.old }
 
     // Where the status tells of a failed take, one failed; a put failed exactly where it tells of that.
     ensures read_fault { ReadCause (S.view input.old) (S.view input.new) result }

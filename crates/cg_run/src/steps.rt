@@ -6,9 +6,10 @@ ghost use Rattle.cg_run.specs.Produced.{stepped, one_step};
 ghost use Rattle.cg_run.specs.Putting.{Performs};
 ghost use Rattle.cg_run.specs.UnderWay.{HasBegun};
 
-use crate::progress::Progress;
+use crate::progress::{Progress, Report};
 use crate::putting::{finish, put_step};
 use crate::status::{Limit, Status};
+use crate::totals::Totals;
 use cg_io::Sink;
 use cg_report::Entry;
 use cg_schedule::{Event, Reader};
@@ -19,16 +20,18 @@ use std::alloc::Global;
 fn count_step<K: Sink>(
     alloc: Global,
     output: &mut K,
+    report: Report,
     line: u64,
     world: World,
     entry: Entry,
     reader: Reader,
     count: u64,
+    totals: Totals,
 ) -> Result<Progress, Status>
     requires few_faults { (K.view output.old).faults < 2 ^ 62 }
     requires started { reader.started ≡ true }
     requires seated { 0 < length world.seats }
-    ensures performs { (s : Progress) (event : Event) → s.reader ≡ reader → s.count ≡ count → Performs (stepped line event (record { entry = entry; world = world }) s)
+    ensures performs { (s : Progress) (event : Event) → s.reader ≡ reader → s.count ≡ count → s.totals ≡ totals → Performs report (stepped line event (record { entry = entry; world = world }) s)
         (K.view output.old) (K.view output.new) result }
     ensures begun { IfOk result (λ s. HasBegun s) }
 {
@@ -40,11 +43,16 @@ fn count_step<K: Sink>(
         };
         return Err(finish(alloc, output, status, count, line));
     }
-    match put_step(alloc, output, count + 1, &entry) {
+    let Ok(totals) = totals.with_entry(&entry) else {
+        drop(world);
+        return Err(Status::NoMemory);
+    };
+    match put_step(alloc, output, report, count + 1, &entry) {
         Ok(()) => Ok(Progress {
             world,
             reader,
             count: count + 1,
+            totals,
         }),
         Err(status) => {
             drop(world);
@@ -57,6 +65,7 @@ fn count_step<K: Sink>(
 pub fn take_step<K: Sink>(
     alloc: Global,
     output: &mut K,
+    report: Report,
     line: u64,
     event: &Event,
     progress: Progress,
@@ -65,7 +74,7 @@ pub fn take_step<K: Sink>(
     requires started { progress.reader.started ≡ true }
     requires stands { MayStand progress.world event.now }
     requires counted { IsCounted event.now }
-    ensures performs { Performs (one_step line event.now progress)
+    ensures performs { Performs report (one_step line event.now progress)
         (K.view output.old) (K.view output.new) result }
     ensures begun { IfOk result (λ s. HasBegun s) }
 {
@@ -73,10 +82,13 @@ pub fn take_step<K: Sink>(
         world,
         reader,
         count,
+        totals,
     } = progress;
     match world.step(alloc, event) {
         Stepped::Done { world, entry } => {
-            count_step(alloc, output, line, world, entry, reader, count)
+            count_step(
+                alloc, output, report, line, world, entry, reader, count, totals,
+            )
         }
         Stepped::Refused {
             world: same,

@@ -49,7 +49,10 @@ fn put_tail_line(out: &mut Vec<u8>, status: &Status, steps: u64, lines: u64) -> 
 {
     match status {
         Status::Done => put_numbered(out, b"end ", steps),
-        Status::Usage => put(out, b"usage: congruity replay"),
+        Status::Usage => put(
+            out,
+            b"usage: congruity replay | check | generate SEED REPLICAS LINES | trial SEED REPLICAS LINES",
+        ),
         Status::Syntax { line, reason } => {
             put_numbered(out, b"syntax ", *line)?;
             put_numbered(out, b" ", u64::from(*reason))

@@ -130,7 +130,9 @@ fn what_stood_before_a_finding_stays_put(rt: HostRuntime) -> Result<(), Fail> {
 fn puts_usage(rt: &(impl Abort + AllocGlobal), words: &[&str]) -> Result<(), Fail> {
     let (status, put) = run_on(rt.alloc(), words, b"start 1\nend\n", &[1], &[])?;
     assert_eq!(rt; status, Status::Usage);
-    assert_eq!(rt; put.as_slice(), b"usage: congruity replay\n".as_slice());
+    let text =
+        "usage: congruity replay | check | generate SEED REPLICAS LINES | trial SEED REPLICAS LINES\n";
+    assert_eq!(rt; put.as_slice(), text.as_bytes());
     Ok(())
 }
 
@@ -139,7 +141,56 @@ fn words_that_are_no_command_put_the_usage_line(rt: HostRuntime) -> Result<(), F
     puts_usage(&rt, &[])?;
     puts_usage(&rt, &["replay", "now"])?;
     puts_usage(&rt, &["Replay"])?;
-    puts_usage(&rt, &["help"])
+    puts_usage(&rt, &["help"])?;
+    puts_usage(&rt, &["--"])?;
+    puts_usage(&rt, &["check", "--"])?;
+    puts_usage(&rt, &["generate", "1", "2"])?;
+    puts_usage(&rt, &["generate", "1", "2", "3", "4"])?;
+    puts_usage(&rt, &["generate", "-1", "2", "3"])?;
+    puts_usage(&rt, &["generate", "01", "2", "3"])?;
+    puts_usage(&rt, &["generate", "18446744073709551616", "2", "3"])?;
+    puts_usage(&rt, &["generate", "1", "0", "3"])?;
+    puts_usage(&rt, &["generate", "1", "33", "3"])?;
+    puts_usage(&rt, &["generate", "1", "2", "2"])?;
+    puts_usage(&rt, &["generate", "1", "2", "200001"])
+}
+
+// What a command puts with nothing to read.
+fn puts(rt: &(impl Abort + AllocGlobal), words: &[&str], text: &str) -> Result<(), Fail> {
+    let (_, put) = run_on(rt.alloc(), words, b"", &[1], &[])?;
+    assert_eq!(rt; put.as_slice(), text.as_bytes(), "by {words:?}");
+    Ok(())
+}
+
+#[test]
+fn a_schedule_is_generated_for_seeds_and_counts_in_their_ranges(
+    rt: HostRuntime,
+) -> Result<(), Fail> {
+    let two = "start 1 2\nmerge 1 2\nend\n";
+    puts(&rt, &["generate", "0", "2", "3"], two)?;
+    puts(&rt, &["generate", "18446744073709551615", "2", "3"], two)?;
+    puts(&rt, &["generate", "7", "1", "3"], "start 1\nmerge 1\nend\n")
+}
+
+#[test]
+fn a_trial_puts_five_lines(rt: HostRuntime) -> Result<(), Fail> {
+    let five = "steps 2\nmade 0\nordered 0\nprim 0\nreplies 0\n";
+    puts(&rt, &["trial", "3", "4", "3"], five)
+}
+
+#[test]
+fn a_check_puts_the_tail_alone(rt: HostRuntime) -> Result<(), Fail> {
+    let table = [
+        ("start 1\nrounds 1\nend\n", "end 2\n"),
+        ("start 1\nstart 1\n", "syntax 2 9\n"),
+        ("start 1\nmerge 2\n", "refused 2 11 2\n"),
+        ("# one\n", "no end 1\n"),
+    ];
+    for (input, tail) in table {
+        let (_, put) = run_on(rt.alloc(), &["check"], input.as_bytes(), &[], &[])?;
+        assert_eq!(rt; put.as_slice(), tail.as_bytes(), "after {input:?}");
+    }
+    Ok(())
 }
 
 #[test]
@@ -188,6 +239,49 @@ fn each_limit_comes_one_byte_past_it(rt: HostRuntime) -> Result<(), Fail> {
         }
     );
     assert_eq!(rt; put.as_slice(), b"limit 1 line\n".as_slice());
+    Ok(())
+}
+
+// So many bytes of one kind behind the text.
+fn text_and(alloc: Global, text: &str, byte: u8, count: usize) -> Result<Vec<u8>, AllocError> {
+    let mut input = text.as_bytes().to_vec(alloc)?;
+    let more = vec![in alloc; byte; count]?;
+    input.extend_from_slice(&more)?;
+    Ok(input)
+}
+
+#[test]
+fn a_finding_is_told_before_more_is_taken(rt: HostRuntime) -> Result<(), Fail> {
+    let alloc = rt.alloc();
+    let input = text_and(alloc, "# one\nStart\n", b'a', 5_000)?;
+    let (status, put) = run_on(alloc, &["replay"], &input, &[2], &[])?;
+    assert_eq!(rt; status, Status::Syntax { line: 2, reason: 2 });
+    assert_eq!(rt; put.as_slice(), b"syntax 2 2\n".as_slice());
+    let input = text_and(alloc, "#\n", b'a', 50_000)?;
+    let (_, put) = run_on(alloc, &["replay"], &input, &[10], &[])?;
+    assert_eq!(rt; put.as_slice(), b"limit 2 line\n".as_slice());
+    Ok(())
+}
+
+#[test]
+fn a_line_may_stand_in_many_chunks(rt: HostRuntime) -> Result<(), Fail> {
+    let alloc = rt.alloc();
+    let mut input = text_and(alloc, "start 1\n#", b'a', 20_000)?;
+    input.extend_from_slice(b"\nend")?;
+    let (_, put) = run_on(alloc, &["replay"], &input, &[], &[])?;
+    assert!(rt; put.as_slice().ends_with(b" b0\nend 1\n"));
+    let (_, put) = run_on(alloc, &["replay"], &input, &[2], &[])?;
+    assert!(rt; put.as_slice().ends_with(b" b0\nread fault 1\n"));
+    Ok(())
+}
+
+#[test]
+fn the_lines_have_their_limit(rt: HostRuntime) -> Result<(), Fail> {
+    let alloc = rt.alloc();
+    let mut input = text_and(alloc, "start 1\n", b'\n', 199_999)?;
+    input.extend_from_slice(b"end\n")?;
+    let (_, put) = run_on(alloc, &["replay"], &input, &[], &[])?;
+    assert!(rt; put.as_slice().ends_with(b" b0\nlimit 200001 lines\n"));
     Ok(())
 }
 

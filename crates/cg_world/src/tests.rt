@@ -1,7 +1,7 @@
 ghost use Rattle.std.specs.Prelude.{IfOk};
 ghost use Rattle.cg_agree.specs.Run.{MayStand};
 ghost use Rattle.cg_agree.specs.SeatLaws.{IsSeated};
-ghost use Rattle.cg_world.specs.Steps.{IsBuilt};
+ghost use Rattle.cg_world.specs.Steps.{IsCounted};
 
 use crate::{Stepped, World};
 use cg_action::{CmdList, Query};
@@ -12,7 +12,7 @@ use std::test::Fail;
 
 fn take_step(alloc: Global, world: World, event: &Event) -> Result<World, Fail>
     requires stands { MayStand world event.now }
-    requires built { IsBuilt event.now }
+    requires counted { IsCounted event.now }
     ensures { IfOk result IsSeated }
 {
     match world.step(alloc, event) {

@@ -4,20 +4,15 @@ use Rattle.cg_run.specs.Outcome.{line_outcome, at_end}
 use Rattle.cg_run.proofs.GoingOn.{Performs-and_then, Stopped-and_then}
 use Rattle.cg_run.proofs.replay.close_in_line.Goals as goal
 
-pub returns-in-Failed : goal.returns-in-Failed
-returns-in-Failed g c = rw c.in-Failed.is c.fail_in_line.ensures
-
 pub returns-in-Ok : goal.returns-in-Ok
 returns-in-Ok g c =
     let n = c.args.number in
     let done = c.in-Ok.ensures in
-    rw c.in-Ended.is
-    (Performs-and_then (line_outcome n c.args.line.now c.args.progress) (at_end n Ended) (g.K.Sink.view c.args.output.now) (g.K.Sink.view c.perform_text.new.output) (g.K.Sink.view c.end_run.new.output)
-    c.in-Ok.next (Err c.end_run.result) done.performs.0 done.performs.1 done.performs.2 c.end_run.ensures)
+    Performs-and_then c.args.report (line_outcome n c.args.line.now c.args.progress) (at_end n Ended) (g.K.Sink.view c.args.output.now) (g.K.Sink.view c.perform_text.new.output) (g.K.Sink.view c.end_run.new.output)
+    c.in-Ok.next (Err c.end_run.result) done.performs.0 done.performs.1 done.performs.2 (c.end_run.ensures c.args.report)
 
 pub returns-in-Err : goal.returns-in-Err
 returns-in-Err g c =
     let n = c.args.number in
-    rw c.in-Ended.is
-    (Stopped-and_then (line_outcome n c.args.line.now c.args.progress) (at_end n Ended) (g.K.Sink.view c.args.output.now) (g.K.Sink.view c.perform_text.new.output)
-    c.in-Err.status c.in-Err.ensures.performs)
+    Stopped-and_then c.args.report (line_outcome n c.args.line.now c.args.progress) (at_end n Ended) (g.K.Sink.view c.args.output.now) (g.K.Sink.view c.perform_text.new.output)
+    c.in-Err.status c.in-Err.ensures.performs

@@ -15,7 +15,7 @@ loop-to-preserved g c =
     let more = deliveries n left in
     let before = rw (deliveries-step n (members_left c.loop-to.to-iterator) c.in-Some.to left c.loop-to.progress c.in-Some.ensures.steps) at c.loop-to.invariant.0 in
     let done = c.in-Ok.ensures.performs in (
-      GoesOn-part whole p more (g.K.Sink.view c.args.output.now) (g.K.Sink.view c.loop-to.output) (g.K.Sink.view c.deliver_ready.new.output) c.in-Ok.next before done.0 done.1 done.2,
+      GoesOn-part c.args.report whole p more (g.K.Sink.view c.args.output.now) (g.K.Sink.view c.loop-to.output) (g.K.Sink.view c.deliver_ready.new.output) c.in-Ok.next before done.0 done.1 done.2,
       done.2.no_fault ∙ c.loop-to.invariant.1,
       c.in-Ok.ensures.begun,
     )
@@ -29,5 +29,5 @@ returns-in-Err-clause-performs g c =
     let more = deliveries n left in
     let before = rw (deliveries-step n (members_left c.loop-to.to-iterator) c.in-Some.to left c.loop-to.progress c.in-Some.ensures.steps) at c.loop-to.invariant.0 in
     let ended = c.in-Err.ensures.performs in
-    GoesOn-stop whole (and_then p more) (g.K.Sink.view c.args.output.now) (g.K.Sink.view c.loop-to.output) (g.K.Sink.view c.deliver_ready.new.output) c.in-Err.status before
-    (Stopped-and_then p more (g.K.Sink.view c.loop-to.output) (g.K.Sink.view c.deliver_ready.new.output) c.in-Err.status ended)
+    GoesOn-stop c.args.report whole (and_then p more) (g.K.Sink.view c.args.output.now) (g.K.Sink.view c.loop-to.output) (g.K.Sink.view c.deliver_ready.new.output) c.in-Err.status before
+    (Stopped-and_then c.args.report p more (g.K.Sink.view c.loop-to.output) (g.K.Sink.view c.deliver_ready.new.output) c.in-Err.status ended)

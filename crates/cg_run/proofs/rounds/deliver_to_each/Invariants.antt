@@ -7,5 +7,5 @@ use Rattle.cg_run.proofs.rounds.deliver_to_each.Given as goal
 
 abbrev pub invariant-loop-to : goal.invariant-loop-to
 invariant-loop-to g l =
-    GoesOn (deliveries l.line l.set l.fn.progress) (g.K.Sink.view l.fn.output) (g.K.Sink.view l.output) (deliveries l.line (members_left l.to-iterator) l.progress)
+    GoesOn l.report (deliveries l.line l.set l.fn.progress) (g.K.Sink.view l.fn.output) (g.K.Sink.view l.output) (deliveries l.line (members_left l.to-iterator) l.progress)
     × ((g.K.Sink.view l.output).faults ≡ (g.K.Sink.view l.fn.output).faults) × HasBegun l.progress

@@ -11,7 +11,7 @@ pub returns-in-Err-clause-performs : goal.returns-in-Err-clause-performs
 returns-in-Err-clause-performs g c =
     let n = c.args.line in
     let s = c.args.progress in
-    Stopped-and_then (one_step n Gather s) (deliveries n (up_replicas s.world)) (g.K.Sink.view c.args.output.now) (g.K.Sink.view c.gather.new.output) c.in-Err.status c.in-Err.ensures.performs
+    Stopped-and_then c.args.report (one_step n Gather s) (deliveries n (up_replicas s.world)) (g.K.Sink.view c.args.output.now) (g.K.Sink.view c.gather.new.output) c.in-Err.status c.in-Err.ensures.performs
 
 pub returns-in-Ok-clause-performs : goal.returns-in-Ok-clause-performs
 returns-in-Ok-clause-performs g c =
@@ -19,6 +19,6 @@ returns-in-Ok-clause-performs g c =
     let s = c.args.progress in
     let done = c.in-Ok.ensures.performs in
     let set = c.up_replicas-up.ensures in
-    Performs-and_then (one_step n Gather s) (deliveries n (up_replicas s.world)) (g.K.Sink.view c.args.output.now) (g.K.Sink.view c.gather.new.output) (g.K.Sink.view c.deliver_to_each.new.output)
+    Performs-and_then c.args.report (one_step n Gather s) (deliveries n (up_replicas s.world)) (g.K.Sink.view c.args.output.now) (g.K.Sink.view c.gather.new.output) (g.K.Sink.view c.deliver_to_each.new.output)
     c.in-Ok.next c.deliver_to_each.result done.0 done.1 done.2
-    (subst (λ (set : List ℕ). Performs (deliveries n set c.in-Ok.next) (g.K.Sink.view c.gather.new.output) (g.K.Sink.view c.deliver_to_each.new.output) c.deliver_to_each.result) set c.deliver_to_each.ensures.performs)
+    (subst (λ (set : List ℕ). Performs c.args.report (deliveries n set c.in-Ok.next) (g.K.Sink.view c.gather.new.output) (g.K.Sink.view c.deliver_to_each.new.output) c.deliver_to_each.result) set c.deliver_to_each.ensures.performs)

@@ -13,7 +13,7 @@ loop-made-preserved g c =
     let more = passes n (c.args.count - (c.loop-made.made + 1)) in
     let before = rw (passes-step n c.args.count c.loop-made.made c.loop-made.progress (omega arith)) at c.loop-made.invariant.0 in
     let done = c.in-Ok.ensures.performs in (
-      GoesOn-part whole p more (g.K.Sink.view c.args.output.now) (g.K.Sink.view c.loop-made.output) (g.K.Sink.view c.make_pass.new.output) c.in-Ok.next before done.0 done.1 done.2,
+      GoesOn-part c.args.report whole p more (g.K.Sink.view c.args.output.now) (g.K.Sink.view c.loop-made.output) (g.K.Sink.view c.make_pass.new.output) c.in-Ok.next before done.0 done.1 done.2,
       done.2.no_fault ∙ c.loop-made.invariant.1,
       c.in-Ok.ensures.begun,
     )
@@ -26,5 +26,5 @@ returns-in-Err-clause-performs g c =
     let more = passes n (c.args.count - (c.loop-made.made + 1)) in
     let before = rw (passes-step n c.args.count c.loop-made.made c.loop-made.progress (omega arith)) at c.loop-made.invariant.0 in
     let ended = c.in-Err.ensures.performs in
-    GoesOn-stop whole (and_then p more) (g.K.Sink.view c.args.output.now) (g.K.Sink.view c.loop-made.output) (g.K.Sink.view c.make_pass.new.output) c.in-Err.status before
-    (Stopped-and_then p more (g.K.Sink.view c.loop-made.output) (g.K.Sink.view c.make_pass.new.output) c.in-Err.status ended)
+    GoesOn-stop c.args.report whole (and_then p more) (g.K.Sink.view c.args.output.now) (g.K.Sink.view c.loop-made.output) (g.K.Sink.view c.make_pass.new.output) c.in-Err.status before
+    (Stopped-and_then c.args.report p more (g.K.Sink.view c.loop-made.output) (g.K.Sink.view c.make_pass.new.output) c.in-Err.status ended)

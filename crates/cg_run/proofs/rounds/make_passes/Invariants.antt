@@ -6,5 +6,5 @@ use Rattle.cg_run.proofs.rounds.make_passes.Given as goal
 
 abbrev pub invariant-loop-made : goal.invariant-loop-made
 invariant-loop-made g l =
-    GoesOn (passes l.line l.count l.fn.progress) (g.K.Sink.view l.fn.output) (g.K.Sink.view l.output) (passes l.line (l.count - l.made) l.progress)
+    GoesOn l.report (passes l.line l.count l.fn.progress) (g.K.Sink.view l.fn.output) (g.K.Sink.view l.output) (passes l.line (l.count - l.made) l.progress)
     × ((g.K.Sink.view l.output).faults ≡ (g.K.Sink.view l.fn.output).faults) × HasBegun l.progress

@@ -1,54 +1,38 @@
-use Rattle.std.proofs.Common.{◌≡◌, [], true, false, refl, rules, arith}
+use Rattle.std.proofs.Common.{◌≡◌, [], refl, Option, Some, None, sym, ap, subst, ◌∙◌}
 use Rattle.cg_run.specs.declared.progress.Ending.TheVariants.{Open}
-use Rattle.cg_run.specs.Outcome.{outcome, is_replay}
-use Rattle.cg_run.specs.Putting.{Stopped}
-use Rattle.cg_run.proofs.GoingOn.{Stopped-nothing}
+use Rattle.cg_run.specs.declared.command.Command.{Command}
+use Rattle.cg_run.specs.declared.command.Command.TheVariants.{Replay, Trial}
+use Rattle.cg_run.specs.Commands.{command_of}
+use Rattle.cg_run.specs.Taking.{Runs}
 use Rattle.cg_run.proofs.Spared.{read-cause}
-use Rattle.cg_run.proofs.TakeLemmas.{Consumes-none, outcome-usage, outcome-replay}
+use Rattle.cg_run.proofs.TakeLemmas.{Runs-nothing}
 use Rattle.cg_run.proofs.running.run_command.Goals as goal
 
-pub returns-then-not-is_replay_command-clause-ran : goal.returns-then-not-is_replay_command-clause-ran
-returns-then-not-is_replay_command-clause-ran g c =
-    let words = c.args.words.now in
-    let other : is_replay words ≡ false = search rules in
-    record {
-      taken = [];
-      ending = Open;
-      consumed = Consumes-none (g.S.Source.view c.args.input.now).left;
-      cause = refl;
-      holds = (omega arith, rw (outcome-usage words other) c.finish.ensures);
-    }
+pub returns-in-None-clause-ran : goal.returns-in-None-clause-ran
+returns-in-None-clause-ran g c =
+    let old = g.S.Source.view c.args.input.now in
+    let v = g.K.Sink.view c.args.output.now in
+    let v1 = g.K.Sink.view c.finish.new.output in
+    let is : command_of c.args.words.now ≡ None = sym c.command_of.ensures.value ∙ c.in-None.is in
+    subst (λ (command : Option Command). Runs command old old v v1 c.finish.result) (sym is) (Runs-nothing None old v v1 c.finish.result c.finish.ensures)
 
-pub returns-in-Ok-clause-ran : goal.returns-in-Ok-clause-ran
-returns-in-Ok-clause-ran g c =
-    let words = c.args.words.now in
-    let t = c.in-Ok.taken in
-    let replays : is_replay words ≡ true = search rules in
-    record {
-      taken = t.bytes;
-      ending = t.ending;
-      consumed = c.in-Ok.ensures.0.consumed;
-      cause = c.in-Ok.ensures.1;
-      holds = (c.in-Ok.ensures.0.few, rw (outcome-replay words t.bytes t.ending replays, ← c.as_slice.ensures) c.replay.ensures);
-    }
+pub returns-in-Some-Replay-clause-ran : goal.returns-in-Some-Replay-clause-ran
+returns-in-Some-Replay-clause-ran g c =
+    let old = g.S.Source.view c.args.input.now in
+    let new = g.S.Source.view c.replay.new.input in
+    let v = g.K.Sink.view c.args.output.now in
+    let v1 = g.K.Sink.view c.replay.new.output in
+    let is : command_of c.args.words.now ≡ Some (Replay c.in-Some-Replay.report) = sym c.command_of.ensures.value ∙ c.in-Some-Replay.is ∙ ap Some c.in-Some-Replay.field-0-is in
+    subst (λ (command : Option Command). Runs command old new v v1 c.replay.result) (sym is) c.replay.ensures
 
-pub returns-in-Err-clause-ran : goal.returns-in-Err-clause-ran
-returns-in-Err-clause-ran g c =
-    let words = c.args.words.now in
-    let t = c.in-Err.ensures.0 in
-    record {
-      taken = t;
-      ending = Open;
-      consumed = c.in-Err.ensures.1.consumed;
-      cause = c.in-Err.ensures.2;
-      holds = (c.in-Err.ensures.1.few, Stopped-nothing (outcome words t Open) (g.K.Sink.view c.args.output.now));
-    }
+pub returns-in-Some-Replay-clause-read_fault : goal.returns-in-Some-Replay-clause-read_fault
+returns-in-Some-Replay-clause-read_fault g c =
+    let r = c.replay.ensures in
+    read-cause (Some (Replay c.in-Some-Replay.report)) r.taken r.ending (g.S.Source.view c.args.input.now) (g.S.Source.view c.replay.new.input) (g.K.Sink.view c.args.output.now) (g.K.Sink.view c.replay.new.output)
+    c.replay.result r.cause r.holds.1
 
-pub returns-in-Ok-clause-read_fault : goal.returns-in-Ok-clause-read_fault
-returns-in-Ok-clause-read_fault g c =
-    let words = c.args.words.now in
-    let t = c.in-Ok.taken in
-    let replays : is_replay words ≡ true = search rules in
-    let put : Stopped (outcome words t.bytes t.ending) (g.K.Sink.view c.args.output.now) (g.K.Sink.view c.replay.new.output) c.replay.result =
-    rw (outcome-replay words t.bytes t.ending replays, ← c.as_slice.ensures) c.replay.ensures in
-    read-cause words t.bytes t.ending (g.S.Source.view c.args.input.now) (g.S.Source.view c.take_all.new.input) (g.K.Sink.view c.args.output.now) (g.K.Sink.view c.replay.new.output) c.replay.result c.in-Ok.ensures.1 put
+pub returns-in-Some-Trial-clause-read_fault : goal.returns-in-Some-Trial-clause-read_fault
+returns-in-Some-Trial-clause-read_fault g c =
+    let old = g.S.Source.view c.args.input.now in
+    read-cause (Some (Trial c.in-Some-Trial.seed c.in-Some-Trial.replicas c.in-Some-Trial.lines)) [] Open old old (g.K.Sink.view c.args.output.now) (g.K.Sink.view c.try_schedule.new.output)
+    c.try_schedule.result refl c.try_schedule.ensures

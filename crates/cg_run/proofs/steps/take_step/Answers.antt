@@ -14,4 +14,4 @@ count_step-requires-clause-seated g c =
 pub returns-in-Done-clause-performs : goal.returns-in-Done-clause-performs
 returns-in-Done-clause-performs g c =
     rw (one_step-done c.args.line c.args.event.now c.args.progress c.in-Done.world c.in-Done.entry c.in-Done.ensures)
-    (c.count_step.ensures.performs c.args.progress c.args.event.now refl refl)
+    (c.count_step.ensures.performs c.args.progress c.args.event.now refl refl refl)

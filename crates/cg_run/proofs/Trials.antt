@@ -1,0 +1,132 @@
+-- A schedule of events that is replayed line by line, of which the summary is put.
+use Rattle.std.proofs.Common.{◌≡◌, ℕ, ◌+◌, List, [], ◌∷◌, ◌++◌, length, Option, Some, None, MatchOption, false, refl, sym, ap, subst, ◌∙◌, arith}
+use Rattle.std.proofs.lemmas.Bool.{true≢false}
+use Rattle.cg_base.specs.Text.{is_nil}
+use Rattle.cg_io.specs.Outside.{SinkView}
+use Rattle.cg_schedule.specs.declared.event.Event.{Event}
+use Rattle.cg_schedule.specs.Print.{line_of}
+use Rattle.cg_agree.specs.Run.{Step}
+use Rattle.cg_run.specs.declared.progress.Ending.TheVariants.{Ended}
+use Rattle.cg_run.specs.declared.progress.Progress.{Progress}
+use Rattle.cg_run.specs.declared.progress.Report.TheVariants.{Tail}
+use Rattle.cg_run.specs.declared.progress.Stage.{Stage}
+use Rattle.cg_run.specs.declared.status.Status.{Status}
+use Rattle.cg_run.specs.declared.status.Status.TheVariants as status
+use Rattle.cg_run.specs.Status.{tail_text}
+use Rattle.cg_run.specs.Produced.{Finding, Produced, with_tail, report_in, text_of, status_of, and_then}
+use Rattle.cg_run.specs.Outcome.{whole_line, replayed, lines_alone, trial_end, trial_text}
+use Rattle.cg_run.specs.Putting.{Puts, PutsPart, StopsWith, Stopped, GoesOn}
+use Rattle.cg_run.specs.Streaming.{first_stage, IsStage, EndsLine}
+use Rattle.cg_run.proofs.GoingOn.{GoesOn-begin, GoesOn-part, Puts-twice, Appends-none, part-longer, part-later, and_then-some}
+use Rattle.cg_run.proofs.Lines.{replayed-more}
+use Rattle.cg_run.proofs.Spared.{IsInLine, is_of_end, IsInLine-whole}
+
+pub some_lines : (events : List Event) → is_nil (lines_alone events) ≡ false
+some_lines [] = refl
+some_lines (event ∷ events) = refl
+
+abbrev pub from_stage_of : Stage → List Event → Produced
+from_stage_of st events = replayed st.line st.at (lines_alone events) Ended st.progress
+
+-- of steps alone nothing is put
+tail-nothing : (steps : List Step) → report_in Tail steps ≡ []
+tail-nothing [] = refl
+tail-nothing (s ∷ steps) = tail-nothing steps
+
+-- a text put behind nothing
+StopsWith-later : (text : List ℕ) (found : Option Status) (v v1 v2 : SinkView) (st : Status) → Puts v v1 [] → StopsWith text found v1 v2 st → StopsWith text found v v2 st
+StopsWith-later text found v v1 v2 status.WriteFault put s = part-later v v1 v2 [] text 1 put s
+StopsWith-later text found v v1 v2 status.NoMemory put s = part-later v v1 v2 [] text 0 put s
+StopsWith-later text found v v1 v2 other put s = (s.0, Puts-twice v v1 v2 [] text put s.1)
+
+-- what a trial puts of a finding that isn't the end of all is the tail
+trial-tail : (st : Status) (lines steps : ℕ) → is_of_end (Some st) ≡ false
+    → trial_end st lines steps
+    ≡ (λ totals. tail_text st steps lines)
+trial-tail status.Done lines steps e = absurd (true≢false e)
+trial-tail other lines steps e = refl
+
+-- a line in which the run ends
+pub line-ended : (p : Produced) (more : Progress → Produced) (v v' : SinkView) (st : Status) → IsInLine p → Stopped Tail p v v' st
+    → StopsWith (trial_text (and_then p more)) (status_of (and_then p more)) v v' st
+line-ended p more v v' st is s = by_finding p.found refl where
+  by_finding : (o : Option Finding) → p.found ≡ o → StopsWith (trial_text (and_then p more)) (status_of (and_then p more)) v v' st
+  by_finding None e =
+      let text : text_of Tail p ≡ [] = ap (λ found. with_tail (report_in Tail p.steps) found p.progress.count) e ∙ tail-nothing p.steps in
+      let none : status_of p ≡ None = ap (λ (found : Option Finding). status_of (record p { found = found })) e in
+      nothing (trial_text (and_then p more)) (status_of (and_then p more)) st (subst (λ t. StopsWith t (status_of p) v v' st) text s) none where
+        nothing : (all : List ℕ) (found : Option Status) (st : Status) → StopsWith [] (status_of p) v v' st → status_of p ≡ None → StopsWith all found v v' st
+        nothing all found status.WriteFault s none = part-longer v v' [] all all 1 refl s
+        nothing all found status.NoMemory s none = part-longer v v' [] all all 0 refl s
+        nothing all found other s none = absurd (cc)
+  by_finding (Some f) e =
+      let same : and_then p more ≡ p = and_then-some p more f e in
+      let apart : is_of_end (Some f.status) ≡ false = ap (λ (found : Option Finding). is_of_end (status_of (record p { found = found }))) (sym e) ∙ is in
+      let text : text_of Tail p ≡ trial_text p =
+      ap (λ (found : Option Finding). with_tail (report_in Tail p.steps) found p.progress.count) e
+      ∙ ap (λ t. t ++ tail_text f.status p.progress.count f.lines) (tail-nothing p.steps)
+      ∙ sym (ap (λ (f : _). f p.progress.totals) (trial-tail f.status f.lines p.progress.count apart))
+      ∙ sym (ap (λ (found : Option Finding). trial_text (record p { found = found })) e) in
+      subst (λ (q : Produced). StopsWith (trial_text q) (status_of q) v v' st) (sym same) (subst (λ t. StopsWith t (status_of p) v v' st) text s)
+
+-- the lines so far were gone through, and the others are still to come
+pub record Plays (whole : Produced) (v v1 : SinkView) (events : List Event) (st : Stage) : Type 0 where
+  pub goes : GoesOn Tail whole v v1 (from_stage_of st events)
+  pub stands : IsStage st
+
+-- the run ends in what is still to come
+pub Plays-stop : (whole : Produced) (v v1 v2 : SinkView) (events : List Event) (st : Stage) (status : Status) → Plays whole v v1 events st
+    → StopsWith (trial_text (from_stage_of st events)) (status_of (from_stage_of st events)) v1 v2 status → StopsWith (trial_text whole) (status_of whole) v v2 status
+Plays-stop whole v v1 v2 events st status plays s =
+    let g = plays.goes in
+    subst (λ (q : Produced). StopsWith (trial_text q) (status_of q) v v2 status) (sym g.same)
+    (StopsWith-later (trial_text (from_stage_of st events)) (status_of (from_stage_of st events)) v v1 v2 status (subst (Puts v v1) (tail-nothing g.made) g.put) s)
+
+from-event : (st : Stage) (event : Event) (events : List Event)
+    → from_stage_of st (event ∷ events)
+    ≡ and_then (whole_line st.line st.at (line_of event) st.progress) (replayed (st.line + 1) (st.at + length (line_of event) + 1) (lines_alone events) Ended)
+from-event st event events = replayed-more st.line st.at (line_of event) (lines_alone events) Ended st.progress (some_lines events)
+
+pub Plays-begin : (events : List Event) (v : SinkView) → IsStage first_stage → Plays (from_stage_of first_stage events) v v events first_stage
+Plays-begin events v stands = record { goes = GoesOn-begin Tail (from_stage_of first_stage events) v; stands = stands }
+
+-- the run ends in the next line
+pub Plays-ended : (whole : Produced) (v v1 v2 : SinkView) (event : Event) (events : List Event) (st : Stage) (status : Status) → Plays whole v v1 (event ∷ events) st
+    → Stopped Tail (whole_line st.line st.at (line_of event) st.progress) v1 v2 status → StopsWith (trial_text whole) (status_of whole) v v2 status
+Plays-ended whole v v1 v2 event events st status plays s =
+    let p = whole_line st.line st.at (line_of event) st.progress in
+    let more = replayed (st.line + 1) (st.at + length (line_of event) + 1) (lines_alone events) Ended in
+    let here = line-ended p more v1 v2 status (IsInLine-whole st.line st.at (line_of event) st.progress) s in
+    Plays-stop whole v v1 v2 (event ∷ events) st status plays
+    (subst (λ (q : Produced). StopsWith (trial_text q) (status_of q) v1 v2 status) (sym (from-event st event events)) here)
+
+-- the next line was gone through
+pub Plays-line : (whole : Produced) (v v1 v2 : SinkView) (event : Event) (events : List Event) (st next : Stage) → Plays whole v v1 (event ∷ events) st
+    → EndsLine Tail st (line_of event) v1 v2 [] next → Plays whole v v2 events next
+Plays-line whole v v1 v2 event events st next plays ends =
+    let p = whole_line st.line st.at (line_of event) st.progress in
+    let more = replayed (st.line + 1) (st.at + length (line_of event) + 1) (lines_alone events) Ended in
+    let before : GoesOn Tail whole v v1 (and_then p more) = subst (GoesOn Tail whole v v1) (from-event st event events) plays.goes in
+    let after : GoesOn Tail whole v v2 (more next.progress) = GoesOn-part Tail whole p more v v1 v2 next.progress before ends.none ends.progress ends.put in
+    let same : more next.progress ≡ from_stage_of next events =
+    λ i. replayed (sym ends.counted i) (sym ends.placed i) (lines_alone events) Ended next.progress in
+    record { goes = subst (GoesOn Tail whole v v2) same after; stands = ends.stands }
+
+-- memory was refused
+pub Plays-nothing : (whole : Produced) (v v1 : SinkView) (events : List Event) (st : Stage) (found : Status) → Plays whole v v1 events st → found ≡ status.NoMemory
+    → StopsWith (trial_text whole) (status_of whole) v v1 found
+Plays-nothing whole v v1 events st found plays is =
+    let text = trial_text (from_stage_of st events) in
+    let none : PutsPart v1 v1 text 0 =
+    record { front = record { front = []; rest = text; whole = refl; grown = Appends-none v1.held }; counted = omega arith } in
+    subst (λ (st : Status). StopsWith (trial_text whole) (status_of whole) v v1 st) (sym is) (Plays-stop whole v v1 v1 events st status.NoMemory plays none)
+
+-- the next event, or none
+pub Plays-next : (whole : Produced) (v v1 : SinkView) (all left : List Event) (st : Stage) → all ≡ left → Plays whole v v1 all st → Plays whole v v1 left st
+Plays-next whole v v1 all left st is plays = subst (λ events. Plays whole v v1 events st) is plays
+
+pub next-some : (all left : List Event) (o : Option Event) (e : Event) → MatchOption o ((all ≡ []) × (left ≡ [])) (λ event. all ≡ event ∷ left) → o ≡ Some e → all ≡ e ∷ left
+next-some all left o e next is = subst (λ (o : Option Event). MatchOption o ((all ≡ []) × (left ≡ [])) (λ event. all ≡ event ∷ left)) is next
+
+pub next-none : (all left : List Event) (o : Option Event) → MatchOption o ((all ≡ []) × (left ≡ [])) (λ event. all ≡ event ∷ left) → o ≡ None → all ≡ []
+next-none all left o next is = (subst (λ (o : Option Event). MatchOption o ((all ≡ []) × (left ≡ [])) (λ event. all ≡ event ∷ left)) is next).0

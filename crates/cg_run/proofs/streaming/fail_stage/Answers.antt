@@ -1,0 +1,12 @@
+use Rattle.std.proofs.Common.{sym, subst, ◌∙◌}
+use Rattle.cg_run.specs.declared.progress.Ending.TheVariants.{Failed}
+use Rattle.cg_run.specs.Putting.{Stopped}
+use Rattle.cg_run.proofs.Stages.{from-held, last-failed}
+use Rattle.cg_run.proofs.streaming.fail_stage.Goals as goal
+
+pub returns : goal.returns
+returns g c =
+    let st = c.args.stage in
+    λ report.
+    subst (λ p. Stopped report p (g.K.Sink.view c.args.output.now) (g.K.Sink.view c.fail.new.output) c.fail.result)
+    (sym (from-held st c.args.held.now Failed c.requires.held.unended ∙ last-failed st.line st.at c.args.held.now st.progress c.requires.held.unpassed)) (c.fail.ensures report)

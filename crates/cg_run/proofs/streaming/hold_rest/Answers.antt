@@ -1,0 +1,16 @@
+use Rattle.std.proofs.Common.{◌≡◌, ◌==◌, ◌++◌, false, Some, sym, subst, ◌∙◌, rules}
+use Rattle.std.proofs.lemmas.List.Elements.{All-append}
+use Rattle.cg_run.specs.declared.progress.Ending.TheVariants.{Open}
+use Rattle.cg_run.specs.Putting.{Stopped}
+use Rattle.cg_run.specs.Streaming.{held_limit}
+use Rattle.cg_run.proofs.Stages.{from-held, last-passed}
+use Rattle.cg_run.proofs.streaming.hold_rest.Goals as goal
+
+pub returns-in-Some : goal.returns-in-Some
+returns-in-Some g c =
+    let st = c.args.stage in
+    let bytes = c.args.held.now.items ++ c.args.rest.now in
+    let passed : held_limit st.line st.at bytes ≡ Some c.in-Some.what = search rules in
+    let unended = All-append (λ b. (b == 10) ≡ false) c.args.held.now.items c.args.rest.now c.requires.unended c.requires.unended_rest in
+    subst (λ p. Stopped c.args.report p (g.K.Sink.view c.args.output.now) (g.K.Sink.view c.refuse_limit.new.output) c.refuse_limit.result)
+    (sym (from-held st bytes Open unended ∙ last-passed st.line st.at bytes Open st.progress c.in-Some.what passed)) (c.refuse_limit.ensures c.args.report)

@@ -1,0 +1,26 @@
+use Rattle.std.proofs.Common.{ℕ, subst, take}
+use Rattle.std.specs.Io.KnownBytes.{Consumes}
+use Rattle.cg_run.specs.declared.progress.Ending.TheVariants.{Ended, Failed}
+use Rattle.cg_run.specs.Putting.{Stopped}
+use Rattle.cg_run.specs.Streaming.{from_stage}
+use Rattle.cg_run.proofs.Streams.{turn-ended, turn-failed}
+use Rattle.cg_run.proofs.streaming.make_turn.Goals as goal
+
+pub returns-in-Err : goal.returns-in-Err
+returns-in-Err g c =
+    let v = g.K.Sink.view c.args.output.now in
+    let v1 = g.K.Sink.view c.fail_stage.new.output in
+    turn-failed c.args.report c.args.stage c.args.held.now.items (g.S.Source.view c.args.input.now) (g.S.Source.view c.take.new.self) v v1 c.args.held.now.items c.fail_stage.result
+    c.requires.stands c.requires.held c.in-Err.ensures.bytes c.in-Err.ensures.cause
+    (subst (λ held. Stopped c.args.report (from_stage c.args.stage held Failed) v v1 c.fail_stage.result) c.as_slice.ensures.value (c.fail_stage.ensures c.args.report))
+
+pub returns-in-Ok-eq0 : goal.returns-in-Ok-eq0
+returns-in-Ok-eq0 g c =
+    let v = g.K.Sink.view c.args.output.now in
+    let v1 = g.K.Sink.view c.close_stage.new.output in
+    let old = g.S.Source.view c.args.input.now in
+    let new = g.S.Source.view c.take.new.self in
+    let took = c.in-Ok-eq0.ensures in
+    turn-ended c.args.report c.args.stage c.args.held.now.items Ended old new v v1 c.args.held.now.items c.close_stage.result c.requires.stands c.requires.held
+    (subst (λ (n : ℕ). Consumes old.left new.left (take n c.take.new.buf)) c.in-Ok-eq0.field-0-test took.bytes.1) (took.bytes.2 c.in-Ok-eq0.field-0-test, took.cause)
+    (subst (λ held. Stopped c.args.report (from_stage c.args.stage held Ended) v v1 c.close_stage.result) c.as_slice-in-Ok-eq0.ensures.value c.close_stage.ensures)

@@ -1,0 +1,115 @@
+-- A run that takes its input as it needs it: where it stands between two lines, what it has gone through, and what one
+-- take brings.
+use Rattle.std.specs.Prelude.{◌≡◌, ◌<◌, ◌≤◌, ◌+◌, ◌==◌, ℕ, false, List, [], ◌∷◌, ◌++◌, length, take, Option, None, Result, MatchResult}
+use Rattle.std.specs.List.{All}
+use Rattle.std.specs.Io.KnownBytes.{Consumes}
+use Rattle.cg_base.specs.Text.{pieces_of}
+use Rattle.cg_io.specs.Outside.{SourceView, SinkView}
+use Rattle.cg_agree.specs.Run.{Step}
+use Rattle.cg_run.specs.declared.progress.Ending.{Ending}
+use Rattle.cg_run.specs.declared.progress.Ending.TheVariants.{Open}
+use Rattle.cg_run.specs.declared.progress.Report.{Report}
+use Rattle.cg_run.specs.declared.progress.Stage.{Stage}
+use Rattle.cg_run.specs.declared.status.Limit.{Limit}
+use Rattle.cg_run.specs.declared.status.Status.{Status}
+use Rattle.cg_run.specs.Produced.{Produced, before_all, prepend, report_in, text_of}
+use Rattle.cg_run.specs.Outcome.{limit_of, whole_line, replayed}
+use Rattle.cg_run.specs.Putting.{Puts, Stopped}
+use Rattle.cg_run.specs.Taking.{most_taken, most_at_once, HasCause, InTime, OfTaken}
+use Rattle.cg_run.specs.UnderWay.{IsUnderWay}
+
+-- before the first line
+abbrev pub first_stage : Stage
+first_stage = record { line = 1; at = 0; progress = before_all }
+
+-- what these bytes come to from a stage on
+abbrev pub from_stage : Stage → List ℕ → Ending → Produced
+from_stage st bytes how = replayed st.line st.at (pieces_of 10 bytes) how st.progress
+
+-- no line ends in these bytes
+abbrev pub IsUnended : List ℕ → Type 0
+IsUnended bytes = All (λ b. (b == 10) ≡ false) bytes
+
+-- the limit that a line passes of which these bytes were taken
+abbrev pub held_limit : ℕ → ℕ → List ℕ → Option Limit
+held_limit n at [] = None
+held_limit n at (b ∷ bs) = limit_of n (length (b ∷ bs)) (at + length (b ∷ bs))
+
+-- the input's limits aren't passed, and the run is under way
+pub record IsStage (st : Stage) : Type 0 where
+  pub within : st.at ≤ 8388608
+  pub counted : 1 ≤ st.line
+  pub few : st.line ≤ 200001
+  pub under_way : IsUnderWay st.progress
+
+-- nothing is found, and its steps begin those that were made
+pub record IsMade (p : Produced) (made : List Step) : Type 0 where
+  pub none : p.found ≡ None
+  pub later : List Step
+  pub front : made ≡ p.steps ++ later
+
+-- Whole lines were gone through and made these steps: whatever follows comes to these and to what it comes to from the new
+-- stage on, and no front of the lines comes to anything else.
+pub record Passes (old : Stage) (gone : List ℕ) (made : List Step) (new : Stage) : Type 0 where
+  pub same : (more : List ℕ) (how : Ending) → from_stage old (gone ++ more) how ≡ prepend made (from_stage new more how)
+  pub fronts : (m : ℕ) → m ≤ length gone → IsMade (from_stage old (take m gone) Open) made
+  pub placed : new.at ≡ old.at + length gone
+
+-- a line that has its end was gone through, and nothing was found
+pub record EndsLine (report : Report) (old : Stage) (line : List ℕ) (from to : SinkView) (held : List ℕ) (new : Stage) : Type 0 where
+  pub empty : held ≡ []
+  pub none : (whole_line old.line old.at line old.progress).found ≡ None
+  pub progress : new.progress ≡ (whole_line old.line old.at line old.progress).progress
+  pub counted : new.line ≡ old.line + 1
+  pub placed : new.at ≡ old.at + length line + 1
+  pub short : length line ≤ 32768
+  pub stands : IsStage new
+  pub put : Puts from to (report_in report (whole_line old.line old.at line old.progress).steps)
+
+-- so far whole lines of the bytes were gone through and their entries put, and the others are still to come
+pub record GoesThrough (report : Report) (old : Stage) (bytes : List ℕ) (from to : SinkView) (left : List ℕ) (new : Stage) : Type 0 where
+  pub gone : List ℕ
+  pub made : List Step
+  pub whole : bytes ≡ gone ++ left
+  pub passes : Passes old gone made new
+  pub stands : IsStage new
+  pub put : Puts from to (report_in report made)
+
+-- what is left is no whole line, and passes no limit
+pub record IsHeld (st : Stage) (held : List ℕ) : Type 0 where
+  pub unended : IsUnended held
+  pub unpassed : held_limit st.line st.at held ≡ None
+
+-- these bytes are held behind a stage, or the run has ended
+abbrev pub HoldsRest : Report → Stage → List ℕ → SinkView → SinkView → List ℕ → Result Stage Status → Type 0
+HoldsRest report st bytes from to held result =
+    MatchResult result
+    (λ next. (next ≡ st) × (held ≡ bytes) × IsHeld st held × (to ≡ from))
+    (λ status. Stopped report (from_stage st bytes Open) from to status)
+
+-- the whole lines of the bytes were gone through and the rest is held, or the run has ended
+abbrev pub TakesUp : Report → Stage → List ℕ → SinkView → SinkView → List ℕ → Result Stage Status → Type 0
+TakesUp report st bytes from to held result =
+    MatchResult result
+    (λ next. GoesThrough report st bytes from to held next × IsHeld next held)
+    (λ status. Stopped report (from_stage st bytes Open) from to status)
+
+-- one take behind what is held: a chunk of the input, which is taken up; or the taking has ended, and the run with it
+pub record TakesTurn (report : Report) (st : Stage) (held : List ℕ) (old new : SourceView) (from to : SinkView) (held' : List ℕ) (result : Result Stage Status) : Type 0 where
+  pub chunk : List ℕ
+  pub ending : Ending
+  pub consumed : Consumes old.left new.left chunk
+  pub cause : HasCause ending old new
+  pub few : length chunk ≤ most_at_once
+  pub within : st.at + length held + length chunk ≤ most_taken
+  pub comes :
+      MatchResult result
+      (λ next. (0 < length chunk) × (new.faults ≡ old.faults) × GoesThrough report st (held ++ chunk) from to held' next × IsHeld next held')
+      (λ status. Stopped report (from_stage st (held ++ chunk) ending) from to status)
+
+-- the input was taken as it was needed, and replayed
+abbrev pub Replays : Report → SourceView → SourceView → SinkView → SinkView → Status → Type 0
+Replays report old new from to status =
+    OfTaken old new (λ taken how.
+    (length taken ≤ most_taken) × Stopped report (from_stage first_stage taken how) from to status
+    × InTime (text_of report) (λ front. from_stage first_stage front Open) taken from to)

@@ -1,0 +1,183 @@
+ghost use Rattle.std.specs.Prelude.{◌≡◌, ◌<◌, ◌≤◌, ◌^◌, ◌++◌, length, MatchResult, None};
+ghost use Rattle.cg_run.specs.declared.progress.Report.{Report};
+ghost use Rattle.cg_run.specs.Outcome.{whole_line};
+ghost use Rattle.cg_run.specs.Putting.{Stopped};
+ghost use Rattle.cg_run.specs.declared.progress.Ending.TheVariants.{Ended, Failed};
+ghost use Rattle.cg_run.specs.Streaming.{from_stage, IsStage, IsUnended, IsHeld, held_limit, EndsLine, HoldsRest, TakesUp, TakesTurn, Replays};
+
+use crate::progress::{Report, Stage};
+use crate::replay::{close, fail, passed_limit, perform_line, refuse_limit};
+use crate::status::{Limit, Status};
+use cg_base::cut_at;
+use cg_io::{Sink, Source};
+use std::alloc::Global;
+
+// A line's end was taken: what is held and this piece are the line, and nothing is held behind it.
+fn end_line<K: Sink>(
+    alloc: Global,
+    output: &mut K,
+    report: Report,
+    held: &mut Vec<u8>,
+    piece: &[u8],
+    stage: Stage,
+) -> Result<Stage, Status>
+    requires few_faults { (K.view output.old).faults < 2 ^ 62 }
+    requires stands { IsStage stage }
+    ensures { MatchResult result
+        (EndsLine report stage (held.old.items ++ piece.now) (K.view output.old) (K.view output.new) held.new.items)
+        (λ status. Stopped report (whole_line stage.line stage.at (held.old.items ++ piece.now) stage.progress) (K.view output.old) (K.view output.new) status) }
+{
+    if held.extend_from_slice(piece).is_err() {
+        drop(stage);
+        return Err(Status::NoMemory);
+    }
+    let Stage { line, at, progress } = stage;
+    match perform_line(alloc, output, report, line, at, held.as_slice(), progress) {
+        Ok(progress) => {
+            let at = at + held.len() + 1;
+            held.clear();
+            let line = line + 1;
+            Ok(Stage { line, at, progress })
+        }
+        Err(status) => Err(status),
+    }
+}
+
+// The limit that a line passes of which these bytes were taken.
+fn held_limit(line: u64, at: usize, held: &[u8]) -> Option<Limit>
+    requires { at ≤ 8388608 }
+    ensures { result ≡ held_limit line at held.now }
+{
+    if held.is_empty() {
+        None
+    } else {
+        passed_limit(line, held.len(), at + held.len())
+    }
+}
+
+// The bytes behind the last line's end are held.
+fn hold_rest<K: Sink>(
+    alloc: Global,
+    output: &mut K,
+    report: Report,
+    held: &mut Vec<u8>,
+    rest: &[u8],
+    stage: Stage,
+) -> Result<Stage, Status>
+    requires few_faults { (K.view output.old).faults < 2 ^ 62 }
+    requires stands { IsStage stage }
+    requires unended { IsUnended held.old.items }
+    requires unended_rest { IsUnended rest.now }
+    ensures { HoldsRest report stage (held.old.items ++ rest.now) (K.view output.old) (K.view output.new) held.new.items result }
+{
+    if held.extend_from_slice(rest).is_err() {
+        drop(stage);
+        return Err(Status::NoMemory);
+    }
+    let Stage { line, at, progress } = stage;
+    match held_limit(line, at, held.as_slice()) {
+        Some(what) => Err(refuse_limit(alloc, output, line, what, progress)),
+        None => Ok(Stage { line, at, progress }),
+    }
+}
+
+// Each line whose end stands in the chunk is performed at once; the rest is held.
+fn take_up<K: Sink>(
+    alloc: Global,
+    output: &mut K,
+    report: Report,
+    held: &mut Vec<u8>,
+    chunk: &[u8],
+    stage: Stage,
+) -> Result<Stage, Status>
+    requires few_faults { (K.view output.old).faults < 2 ^ 62 }
+    requires stands { IsStage stage }
+    requires unended { IsUnended held.old.items }
+    ensures { TakesUp report stage (held.old.items ++ chunk.now) (K.view output.old) (K.view output.new) held.new.items result }
+{
+    let mut stage = stage;
+    let mut rest = chunk;
+    while let Some((piece, behind)) = cut_at(rest, b'\n') {
+        match end_line(alloc, output, report, held, piece, stage) {
+            Ok(next) => stage = next,
+            Err(status) => return Err(status),
+        }
+        rest = behind;
+    }
+    hold_rest(alloc, output, report, held, rest, stage)
+}
+
+// The input has ended behind what is held.
+fn close_stage<K: Sink>(
+    alloc: Global,
+    output: &mut K,
+    report: Report,
+    held: &[u8],
+    stage: Stage,
+) -> Status
+    requires few_faults { (K.view output.old).faults < 2 ^ 62 }
+    requires stands { IsStage stage }
+    requires held { IsHeld stage held.now }
+    ensures { Stopped report (from_stage stage held.now Ended) (K.view output.old) (K.view output.new) result }
+{
+    let Stage { line, progress, .. } = stage;
+    close(alloc, output, report, line, held, progress)
+}
+
+// A take has failed behind what is held.
+fn fail_stage<K: Sink>(alloc: Global, output: &mut K, held: &[u8], stage: Stage) -> Status
+    requires few_faults { (K.view output.old).faults < 2 ^ 62 }
+    requires stands { IsStage stage }
+    requires held { IsHeld stage held.now }
+    ensures { (report : Report) → Stopped report (from_stage stage held.now Failed) (K.view output.old) (K.view output.new) result }
+{
+    let _held = held;
+    let Stage { line, progress, .. } = stage;
+    fail(alloc, output, line - 1, progress)
+}
+
+// One take, made while no whole line is held, and what it brings.
+fn make_turn<S: Source, K: Sink>(
+    alloc: Global,
+    input: &mut S,
+    output: &mut K,
+    report: Report,
+    held: &mut Vec<u8>,
+    stage: Stage,
+) -> Result<Stage, Status>
+    requires few_read_faults { (S.view input.old).faults < 2 ^ 62 }
+    requires few_write_faults { (K.view output.old).faults < 2 ^ 62 }
+    requires stands { IsStage stage }
+    requires held { IsHeld stage held.old.items }
+    ensures { TakesTurn report stage held.old.items (S.view input.old) (S.view input.new) (K.view output.old) (K.view output.new) held.new.items result }
+{
+    let mut buffer = [0u8; 4096];
+    let room = (8_388_609 - stage.at - held.len()).min(4096);
+    match input.take(&mut buffer[..room]) {
+        Err(_) => Err(fail_stage(alloc, output, held.as_slice(), stage)),
+        Ok(0) => Err(close_stage(alloc, output, report, held.as_slice(), stage)),
+        Ok(count) => take_up(alloc, output, report, held, &buffer[..count], stage),
+    }
+}
+
+/// Replays the schedule that the input gives. A take is made while no whole line is held, and each line is performed, and
+/// its entries put, before more is taken: memory doesn't hold the input.
+pub fn replay<S: Source, K: Sink>(
+    alloc: Global,
+    input: &mut S,
+    output: &mut K,
+    report: Report,
+) -> Status
+    requires few_read_faults { (S.view input.old).faults < 2 ^ 62 }
+    requires few_write_faults { (K.view output.old).faults < 2 ^ 62 }
+    ensures { Replays report (S.view input.old) (S.view input.new) (K.view output.old) (K.view output.new) result }
+{
+    let mut held = Vec::new(alloc);
+    let mut stage = Stage::first(alloc);
+    loop {
+        match make_turn(alloc, input, output, report, &mut held, stage) {
+            Ok(next) => stage = next,
+            Err(status) => return status,
+        }
+    }
+}
