@@ -78,30 +78,17 @@ fn perform_word<K: Sink>(
         (K.view output.old) (K.view output.new) result }
     ensures begun { IfOk result (λ s. HasBegun s) }
 {
-    let Progress {
-        world,
-        reader,
-        count,
-        totals,
-    } = progress;
-    let mut reader = reader;
-    match reader.finish_line(alloc, word, words) {
-        Ok(event) => {
-            let progress = Progress {
-                world,
-                reader,
-                count,
-                totals,
-            };
-            perform_read(alloc, output, report, line, event, progress)
-        }
+    let mut progress = progress;
+    match progress.reader.finish_line(alloc, word, words) {
+        Ok(event) => perform_read(alloc, output, report, line, event, progress),
         Err(LineFault::Syntax(reason)) => {
-            drop(world);
+            let count = progress.count;
+            drop(progress);
             let status = Status::Syntax { line, reason };
             Err(finish(alloc, output, status, count, line))
         }
         Err(LineFault::NoMemory) => {
-            drop(world);
+            drop(progress);
             Err(Status::NoMemory)
         }
     }

@@ -37,10 +37,8 @@ fn count_step<K: Sink>(
 {
     if count >= 2_000_000 {
         drop(world);
-        let status = Status::Limit {
-            line,
-            what: Limit::Steps,
-        };
+        let what = Limit::Steps;
+        let status = Status::Limit { line, what };
         return Err(finish(alloc, output, status, count, line));
     }
     let Ok(totals) = totals.with_entry(&entry) else {

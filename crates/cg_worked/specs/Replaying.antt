@@ -7,8 +7,8 @@ use Rattle.cg_base.specs.Text.{pieces_of}
 use Rattle.cg_text.specs.Order.{same_text}
 use Rattle.cg_run.specs.declared.progress.Ending.{Ending}
 use Rattle.cg_run.specs.declared.progress.Ending.TheVariants.{Ended}
-use Rattle.cg_run.specs.Produced.{text_of}
-use Rattle.cg_run.specs.Outcome.{outcome}
+use Rattle.cg_run.specs.Commands.{command_of}
+use Rattle.cg_run.specs.Outcome.{outcome, text_put}
 
 -- the bytes of a text
 abbrev pub utf8 : String → List ℕ
@@ -21,7 +21,7 @@ written (line ∷ lines) = utf8 line ++ 10 ∷ written lines
 
 -- what is put where these words are given, and these bytes are taken
 abbrev pub put_of : List String → List ℕ → Ending → List ℕ
-put_of words taken how = text_of (outcome (texts words) taken how) where
+put_of words taken how = text_put (command_of (texts words)) (outcome (texts words) taken how) where
   texts : List String → List (List ℕ)
   texts [] = []
   texts (word ∷ words) = utf8 word ∷ texts words
