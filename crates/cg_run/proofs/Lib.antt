@@ -3,6 +3,7 @@ pub mod Feeds
 pub mod GoingOn
 pub mod Happening
 pub mod Lines
+pub mod Nearness
 pub mod RunFacts
 pub mod RefusedLines
 pub mod Stages

@@ -1,6 +1,6 @@
 -- A run says that its input failed only where the taking ended so, and that its output failed only where a put did.
 use Rattle.std.proofs.Common.{◌≡◌, ℕ, zero, suc, ◌+◌, ◌==◌, ◌-◌, nat_lt, List, [], ◌∷◌, Bool, true, false, length, Option, Some, None, refl, sym, ap, subst, ◌∙◌, arith, Result, Ok, Err}
-use Rattle.std.proofs.lemmas.Bool.{cond_both}
+use Rattle.std.proofs.lemmas.Bool.{false≢true, eq-eqb, cond_both}
 use Rattle.cg_base.specs.Text.{pieces_of}
 use Rattle.cg_group.specs.declared.reason.Reason.{Reason}
 use Rattle.cg_group.specs.Ready.{ready}
@@ -40,17 +40,28 @@ is_of_end (Some status.ReadFault) = true
 is_of_end (Some (status.NoEnd lines)) = true
 is_of_end other = false
 
--- the part finds nothing that comes of the input's end
-abbrev pub IsInLine : Produced → Type 0
-IsInLine p = is_of_end (status_of p) ≡ false
+-- nothing is found, or something in line n
+abbrev pub is_of_line : ℕ → Option Status → Bool
+is_of_line n None = true
+is_of_line n (Some (status.Syntax line reason)) = line == n
+is_of_line n (Some (status.Refused line reason)) = line == n
+is_of_line n (Some (status.Limit line what)) = line == n
+is_of_line n (Some (status.Unsupported line)) = line == n
+is_of_line n other = false
 
-IsInLine-and_then : (p : Produced) (more : Progress → Produced) → IsInLine p → ((s : Progress) → IsInLine (more s)) → IsInLine (and_then p more)
-IsInLine-and_then p more first next = by_finding p.found refl where
-  by_finding : (o : Option Finding) → p.found ≡ o → IsInLine (and_then p more)
+abbrev pub IsInLine : ℕ → Produced → Type 0
+IsInLine n p = is_of_line n (status_of p) ≡ true
+
+same : (n : ℕ) → (n == n) ≡ true
+same n = eq-eqb n n refl
+
+IsInLine-and_then : (n : ℕ) (p : Produced) (more : Progress → Produced) → IsInLine n p → ((s : Progress) → IsInLine n (more s)) → IsInLine n (and_then p more)
+IsInLine-and_then n p more first next = by_finding p.found refl where
+  by_finding : (o : Option Finding) → p.found ≡ o → IsInLine n (and_then p more)
   by_finding None e = rw e (next p.progress)
-  by_finding (Some f) e = let same : and_then p more ≡ p = rw e refl in rw same first
+  by_finding (Some f) e = let alone : and_then p more ≡ p = rw e refl in rw alone first
 
-IsInLine-stepped : (n : ℕ) (event : Event) (s : Progress) → IsInLine (unless_refused None n event s)
+IsInLine-stepped : (n : ℕ) (event : Event) (s : Progress) → IsInLine n (unless_refused None n event s)
 IsInLine-stepped n event s =
     let m = world_step s.world event in
     cond_both (nat_lt s.count step_limit)
@@ -59,68 +70,79 @@ IsInLine-stepped n event s =
       found = None;
       progress = record s { world = m.world; count = s.count + 1; totals = with_entry s.totals m.entry };
     })
-    (ended_with (status.Limit n Steps) n s) IsInLine (λ y. refl) (λ y. refl)
+    (ended_with (status.Limit n Steps) n s) (IsInLine n) (λ y. refl) (λ y. same n)
 
-IsInLine-unless_refused : (o : Option Reason) (n : ℕ) (event : Event) (s : Progress) → IsInLine (unless_refused o n event s)
+IsInLine-unless_refused : (o : Option Reason) (n : ℕ) (event : Event) (s : Progress) → IsInLine n (unless_refused o n event s)
 IsInLine-unless_refused None n event s = IsInLine-stepped n event s
-IsInLine-unless_refused (Some reason) n event s = refl
+IsInLine-unless_refused (Some reason) n event s = same n
 
-IsInLine-one_step : (n : ℕ) (event : Event) (s : Progress) → IsInLine (one_step n event s)
+IsInLine-one_step : (n : ℕ) (event : Event) (s : Progress) → IsInLine n (one_step n event s)
 IsInLine-one_step n event s = IsInLine-unless_refused (first_refusal s.world event) n event s
 
-IsInLine-deliver_ready : (n p : ℕ) (s : Progress) → IsInLine (deliver_ready n p s)
+IsInLine-deliver_ready : (n p : ℕ) (s : Progress) → IsInLine n (deliver_ready n p s)
 IsInLine-deliver_ready n p s =
-    cond_both (ready s.world.group p == 0) (went_on s) (one_step n (Deliver p (ready s.world.group p)) s) IsInLine (λ y. refl)
+    cond_both (ready s.world.group p == 0) (went_on s) (one_step n (Deliver p (ready s.world.group p)) s) (IsInLine n) (λ y. refl)
     (λ y. IsInLine-one_step n (Deliver p (ready s.world.group p)) s)
 
-IsInLine-deliveries : (n : ℕ) (set : List ℕ) (s : Progress) → IsInLine (deliveries n set s)
+IsInLine-deliveries : (n : ℕ) (set : List ℕ) (s : Progress) → IsInLine n (deliveries n set s)
 IsInLine-deliveries n [] s = refl
-IsInLine-deliveries n (p ∷ set) s = IsInLine-and_then (deliver_ready n p s) (deliveries n set) (IsInLine-deliver_ready n p s) (λ s. IsInLine-deliveries n set s)
+IsInLine-deliveries n (p ∷ set) s = IsInLine-and_then n (deliver_ready n p s) (deliveries n set) (IsInLine-deliver_ready n p s) (λ s. IsInLine-deliveries n set s)
 
-IsInLine-passes : (n count : ℕ) (s : Progress) → IsInLine (passes n count s)
+IsInLine-passes : (n count : ℕ) (s : Progress) → IsInLine n (passes n count s)
 IsInLine-passes n zero s = refl
-IsInLine-passes n (suc count) s = IsInLine-and_then (one_pass n s) (passes n count) pass (λ s. IsInLine-passes n count s) where
-  pass : IsInLine (one_pass n s)
-  pass = IsInLine-and_then (one_step n Gather s) (deliveries n (up_replicas s.world)) (IsInLine-one_step n Gather s) (IsInLine-deliveries n (up_replicas s.world))
+IsInLine-passes n (suc count) s = IsInLine-and_then n (one_pass n s) (passes n count) pass (λ s. IsInLine-passes n count s) where
+  pass : IsInLine n (one_pass n s)
+  pass = IsInLine-and_then n (one_step n Gather s) (deliveries n (up_replicas s.world)) (IsInLine-one_step n Gather s) (IsInLine-deliveries n (up_replicas s.world))
 
-IsInLine-happened : (n : ℕ) (event : Event) (s : Progress) → IsInLine (happened n event s)
+IsInLine-happened : (n : ℕ) (event : Event) (s : Progress) → IsInLine n (happened n event s)
 unfolding happened
 IsInLine-happened n End s = refl
 IsInLine-happened n (Rounds count) s = IsInLine-passes n count s
 IsInLine-happened n other s = IsInLine-one_step n other s
 
-IsInLine-event : (n : ℕ) (r : Result Event LineFault) (s : Progress) → IsInLine (event_outcome n r s)
+IsInLine-event : (n : ℕ) (r : Result Event LineFault) (s : Progress) → IsInLine n (event_outcome n r s)
 IsInLine-event n (Ok event) s = IsInLine-happened n event (record s { reader = place_after s.reader event })
-IsInLine-event n (Err fault) s = refl
+IsInLine-event n (Err fault) s = same n
 
-IsInLine-word : (n : ℕ) (word : Word) (tokens : List (List ℕ)) (s : Progress) → IsInLine (word_outcome n word tokens s)
+IsInLine-word : (n : ℕ) (word : Word) (tokens : List (List ℕ)) (s : Progress) → IsInLine n (word_outcome n word tokens s)
 unfolding word_outcome
 IsInLine-word n word tokens s = IsInLine-event n (whole (event_reading word) tokens) s
 
-IsInLine-opened : (n : ℕ) (r : Result (Option (Word × List (List ℕ))) LineFault) (s : Progress) → IsInLine (opened_outcome n r s)
+IsInLine-opened : (n : ℕ) (r : Result (Option (Word × List (List ℕ))) LineFault) (s : Progress) → IsInLine n (opened_outcome n r s)
 IsInLine-opened n (Ok None) s = refl
 IsInLine-opened n (Ok (Some opened)) s = IsInLine-word n opened.0 opened.1 s
-IsInLine-opened n (Err fault) s = refl
+IsInLine-opened n (Err fault) s = same n
 
-pub IsInLine-line : (n : ℕ) (line : List ℕ) (s : Progress) → IsInLine (line_outcome n line s)
+pub IsInLine-line : (n : ℕ) (line : List ℕ) (s : Progress) → IsInLine n (line_outcome n line s)
 unfolding line_outcome
 IsInLine-line n line s = IsInLine-opened n (opening s.reader line) s
 
-IsInLine-unless_passed : (o : Option Limit) (n : ℕ) (s : Progress) (p : Produced) → IsInLine p → IsInLine (unless_passed o n s p)
+IsInLine-unless_passed : (o : Option Limit) (n : ℕ) (s : Progress) (p : Produced) → IsInLine n p → IsInLine n (unless_passed o n s p)
 IsInLine-unless_passed None n s p spares = spares
-IsInLine-unless_passed (Some what) n s p spares = refl
+IsInLine-unless_passed (Some what) n s p spares = same n
 
 -- a whole line comes to no end of the input
-pub IsInLine-whole : (n at : ℕ) (line : List ℕ) (s : Progress) → IsInLine (whole_line n at line s)
+pub IsInLine-whole : (n at : ℕ) (line : List ℕ) (s : Progress) → IsInLine n (whole_line n at line s)
 IsInLine-whole n at line s =
     IsInLine-unless_passed (limit_of n (length line) (at + length line + 1)) n s (line_outcome n (without_return line) s) (IsInLine-line n (without_return line) s)
+
+no_end : (n : ℕ) (found : Option Status) → is_of_line n found ≡ true → is_of_end found ≡ false
+no_end n None is = refl
+no_end n (Some status.Done) is = absurd (false≢true is)
+no_end n (Some status.ReadFault) is = absurd (false≢true is)
+no_end n (Some (status.NoEnd lines)) is = absurd (false≢true is)
+no_end n (Some other) is = refl
+
+-- a whole line finds nothing that comes of the input's end
+pub whole-no_end : (n at : ℕ) (line : List ℕ) (s : Progress) → is_of_end (status_of (whole_line n at line s)) ≡ false
+whole-no_end n at line s = no_end n (status_of (whole_line n at line s)) (IsInLine-whole n at line s)
 
 -- the part doesn't find that the input failed
 abbrev Spares : Produced → Type 0
 Spares p = status_of p ≡ Some status.ReadFault → ⊥
 
-Spares-in_line : (p : Produced) → IsInLine p → Spares p
-Spares-in_line p is = λ e. absurd (let clash : true ≡ false = ap is_of_end (sym e) ∙ is in cc)
+Spares-in_line : (n : ℕ) (p : Produced) → IsInLine n p → Spares p
+Spares-in_line n p is = λ e. absurd (let clash : true ≡ false = ap is_of_end (sym e) ∙ no_end n (status_of p) is in cc)
 
 Spares-and_then : (p : Produced) (more : Progress → Produced) → Spares p → ((s : Progress) → Spares (more s)) → Spares (and_then p more)
 Spares-and_then p more first next = by_finding p.found refl where
@@ -143,7 +165,7 @@ module _ (how : Ending) (not_failed : how ≡ Failed → ⊥) where
   Spares-cut_line : (n : ℕ) (line : List ℕ) (s : Progress) → Spares (cut_line n line how s)
   Spares-cut_line n line s = by_ending how refl where
     by_ending : (h : Ending) → how ≡ h → Spares (cut_line n line h s)
-    by_ending Ended e = Spares-and_then (line_outcome n line s) (at_end n Ended) (Spares-in_line (line_outcome n line s) (IsInLine-line n line s)) (λ s. subst (λ (h : Ending). Spares (at_end n h s)) e (Spares-at_end n s))
+    by_ending Ended e = Spares-and_then (line_outcome n line s) (at_end n Ended) (Spares-in_line n (line_outcome n line s) (IsInLine-line n line s)) (λ s. subst (λ (h : Ending). Spares (at_end n h s)) e (Spares-at_end n s))
     by_ending Failed e = absurd (not_failed e)
     by_ending Open e = λ e. cc
 
@@ -157,7 +179,7 @@ module _ (how : Ending) (not_failed : how ≡ Failed → ⊥) where
   Spares-replayed n at (rest ∷ []) s = Spares-last_piece n at rest s
   Spares-replayed n at (line ∷ next ∷ more) s =
       Spares-and_then (whole_line n at line s) (λ s'. replayed (n + 1) (at + length line + 1) (next ∷ more) how s')
-      (Spares-in_line (whole_line n at line s) (IsInLine-whole n at line s))
+      (Spares-in_line n (whole_line n at line s) (IsInLine-whole n at line s))
       (λ s'. Spares-replayed (n + 1) (at + length line + 1) (next ∷ more) s')
 
 Spares-lines : (lines : List (List ℕ)) → Spares (replayed 1 0 lines Ended before_all)

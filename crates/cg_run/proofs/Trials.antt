@@ -19,7 +19,7 @@ use Rattle.cg_run.specs.Putting.{Puts, PutsPart, StopsWith, Stopped, GoesOn}
 use Rattle.cg_run.specs.Streaming.{first_stage, IsStage, EndsLine}
 use Rattle.cg_run.proofs.GoingOn.{GoesOn-begin, GoesOn-part, Puts-twice, Appends-none, part-longer, part-later, and_then-some}
 use Rattle.cg_run.proofs.Lines.{replayed-more}
-use Rattle.cg_run.proofs.Spared.{IsInLine, is_of_end, IsInLine-whole}
+use Rattle.cg_run.proofs.Spared.{is_of_end, whole-no_end}
 
 pub some_lines : (events : List Event) → is_nil (lines_alone events) ≡ false
 some_lines [] = refl
@@ -47,7 +47,7 @@ trial-tail status.Done lines steps e = absurd (true≢false e)
 trial-tail other lines steps e = refl
 
 -- a line in which the run ends
-pub line-ended : (p : Produced) (more : Progress → Produced) (v v' : SinkView) (st : Status) → IsInLine p → Stopped Tail p v v' st
+pub line-ended : (p : Produced) (more : Progress → Produced) (v v' : SinkView) (st : Status) → is_of_end (status_of p) ≡ false → Stopped Tail p v v' st
     → StopsWith (trial_text (and_then p more)) (status_of (and_then p more)) v v' st
 line-ended p more v v' st is s = by_finding p.found refl where
   by_finding : (o : Option Finding) → p.found ≡ o → StopsWith (trial_text (and_then p more)) (status_of (and_then p more)) v v' st
@@ -96,7 +96,7 @@ pub Plays-ended : (whole : Produced) (v v1 v2 : SinkView) (event : Event) (event
 Plays-ended whole v v1 v2 event events st status plays s =
     let p = whole_line st.line st.at (line_of event) st.progress in
     let more = replayed (st.line + 1) (st.at + length (line_of event) + 1) (lines_alone events) Ended in
-    let here = line-ended p more v1 v2 status (IsInLine-whole st.line st.at (line_of event) st.progress) s in
+    let here = line-ended p more v1 v2 status (whole-no_end st.line st.at (line_of event) st.progress) s in
     Plays-stop whole v v1 v2 (event ∷ events) st status plays
     (subst (λ (q : Produced). StopsWith (trial_text q) (status_of q) v1 v2 status) (sym (from-event st event events)) here)
 

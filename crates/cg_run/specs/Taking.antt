@@ -1,6 +1,7 @@
 -- How what was taken stands to the bytes that the input had left, and what holds of all that a run comes to.
-use Rattle.std.specs.Prelude.{◌≡◌, ◌<◌, ◌+◌, ◌++◌, ℕ, List, ◌≤◌, length, take, Option, Some, None}
+use Rattle.std.specs.Prelude.{◌≡◌, ◌<◌, ◌+◌, ◌++◌, ℕ, zero, suc, List, [], ◌∷◌, ◌≤◌, length, take, Option, Some, None}
 use Rattle.std.specs.Io.KnownBytes.{Consumes, IsAtEnd}
+use Rattle.cg_base.specs.Text.{pieces_of}
 use Rattle.cg_io.specs.Outside.{SourceView, SinkView, PutsAll}
 use Rattle.cg_group.specs.declared.reason.Reason.{Reason}
 use Rattle.cg_agree.specs.Run.{Step}
@@ -53,6 +54,24 @@ abbrev pub InTime : (Produced → List ℕ) → (List ℕ → Produced) → List
 InTime text comes taken from to =
     (m : ℕ) → m + most_at_once < length taken → ((comes (take m taken)).found ≡ None) × Begins from to (text (comes (take m taken)))
 
+-- the line of a finding, where it is one of a line
+abbrev pub found_in : Status → Option ℕ
+found_in (status.Syntax line reason) = Some line
+found_in (status.Refused line reason) = Some line
+found_in (status.Limit line what) = Some line
+found_in (status.Unsupported line) = Some line
+found_in other = None
+
+-- the place just behind the ends of so many lines
+abbrev pub end_of_line : ℕ → List (List ℕ) → ℕ
+end_of_line zero lines = 0
+end_of_line (suc n) [] = 0
+end_of_line (suc n) (line ∷ lines) = length line + 1 + end_of_line n lines
+
+-- where a line is the first finding, no more was taken past its end than is taken at once
+abbrev pub IsNear : Status → List ℕ → Type 0
+IsNear status taken = (n : ℕ) → found_in status ≡ Some n → length taken ≤ end_of_line n (pieces_of 10 taken) + most_at_once
+
 -- the run has ended with this status, and put what the command puts of what it comes to
 abbrev pub Ends : Option Command → Produced → SinkView → SinkView → Status → Type 0
 Ends command p from to status = StopsWith (text_put command p) (status_of p) from to status
@@ -62,7 +81,7 @@ abbrev pub Runs : Option Command → SourceView → SourceView → SinkView → 
 Runs command old new from to status =
     OfTaken old new (λ taken how.
     (length taken ≤ most_taken) × Ends command (outcome_of command taken how) from to status
-    × InTime (text_put command) (λ front. outcome_of command front Open) taken from to)
+    × InTime (text_put command) (λ front. outcome_of command front Open) taken from to × IsNear status taken)
 
 -- what holds of the steps of the outcome, whatever was taken and however the taking ended
 abbrev pub OfSteps : List (List ℕ) → (List Step → Type 0) → Type 0

@@ -11,7 +11,7 @@ ghost use Rattle.cg_run.specs.Commands.{command_of, reads_input};
 ghost use Rattle.cg_run.specs.Outcome.{outcome, text_put};
 ghost use Rattle.cg_run.specs.Putting.{StopsWith};
 ghost use Rattle.cg_run.specs.Status.{write_faults};
-ghost use Rattle.cg_run.specs.Taking.{most_taken, Ends, InTime, Runs, OfTaken, ReadCause, OfSteps, TellsOfRefusals, RefusesExactly};
+ghost use Rattle.cg_run.specs.Taking.{most_taken, Ends, InTime, IsNear, Runs, OfTaken, ReadCause, OfSteps, TellsOfRefusals, RefusesExactly};
 
 use crate::arg_text::ArgText;
 use crate::command::{Command, command_of};
@@ -111,10 +111,12 @@ pub fn run<S: Source, K: Sink>(
 
     // At most the input's limit and one byte were taken, and what was put and the status are what these bytes come to. All
     // but the last 4,096 of them had been gone through before the last take: they come to no finding, and what they come to
-    // was put. So the line of a finding, and that of an entry that wasn't wholly put, ends among the last 4,096 bytes.
+    // was put; so the line of an entry that wasn't wholly put ends among the last 4,096 bytes. Where a line is the first
+    // finding, at most 4,096 bytes past its end were taken.
     ensures ran { OfTaken (S.view input.old) (S.view input.new) (λ taken how.
         (length taken ≤ most_taken) × Ends (command_of words.now) (outcome words.now taken how) (K.view output.old) (K.view output.new) result
-        × InTime (text_put (command_of words.now)) (λ front. outcome words.now front Open) taken (K.view output.old) (K.view output.new)) }
+        × InTime (text_put (command_of words.now)) (λ front. outcome words.now front Open) taken (K.view output.old) (K.view output.new)
+        × IsNear result taken) }
 
     // Without a command that reads the input nothing is taken.
     ensures usage { reads_input (command_of words.now) ≡ false → S.view input.new ≡ S.view input.old }
