@@ -42,7 +42,6 @@ of_line n None k is e = absurd (cc)
 of_line n (Some (status.Syntax line reason)) k is e = there n line k is e
 of_line n (Some (status.Refused line reason)) k is e = there n line k is e
 of_line n (Some (status.Limit line what)) k is e = there n line k is e
-of_line n (Some (status.Unsupported line)) k is e = there n line k is e
 of_line n (Some other) k is e = absurd (false≢true is)
 
 IsFrom-in_line : (n : ℕ) (p : Produced) → IsInLine n p → IsFrom n p

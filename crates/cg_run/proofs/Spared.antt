@@ -46,7 +46,6 @@ is_of_line n None = true
 is_of_line n (Some (status.Syntax line reason)) = line == n
 is_of_line n (Some (status.Refused line reason)) = line == n
 is_of_line n (Some (status.Limit line what)) = line == n
-is_of_line n (Some (status.Unsupported line)) = line == n
 is_of_line n other = false
 
 abbrev pub IsInLine : ℕ → Produced → Type 0

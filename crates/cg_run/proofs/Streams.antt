@@ -147,6 +147,15 @@ Keeps-consumes None h' k = tt
 Keeps-consumes (Some xs) None k = absurd k
 Keeps-consumes (Some xs) (Some ys) k = sym k
 
+-- a chunk was taken, and is taken up
+pub turn-goes : (report : Report) (st : Stage) (held : List ℕ) (old new : SourceView) (v v' : SinkView) (held' : List ℕ) (r : Result Stage Status) (chunk : List ℕ)
+    → Consumes old.left new.left chunk → new.faults ≡ old.faults → 0 < length chunk → length chunk ≤ 4096 → st.at + length held + length chunk ≤ 8388609
+    → TakesUp report st (held ++ chunk) v v' held' r → TakesTurn report st held old new v v' held' r
+turn-goes report st held old new v v' held' (Ok next) chunk consumed none some few within up =
+    record { chunk = chunk; ending = Open; consumed = consumed; cause = none; few = few; within = within; comes = (some, none, up.0, up.1) }
+turn-goes report st held old new v v' held' (Err status) chunk consumed none some few within up =
+    record { chunk = chunk; ending = Open; consumed = consumed; cause = none; few = few; within = within; comes = up }
+
 -- a turn in which nothing was taken, and the run ended
 pub turn-ended : (report : Report) (st : Stage) (held : List ℕ) (how : Ending) (old new : SourceView) (v v' : SinkView) (held' : List ℕ) (r : Status)
     → IsStage st → IsHeld st held → Consumes old.left new.left [] → HasCause how old new → Stopped report (from_stage st held how) v v' r

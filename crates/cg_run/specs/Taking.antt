@@ -59,7 +59,6 @@ abbrev pub found_in : Status → Option ℕ
 found_in (status.Syntax line reason) = Some line
 found_in (status.Refused line reason) = Some line
 found_in (status.Limit line what) = Some line
-found_in (status.Unsupported line) = Some line
 found_in other = None
 
 -- the place just behind the ends of so many lines

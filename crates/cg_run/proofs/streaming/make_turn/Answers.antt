@@ -1,9 +1,10 @@
-use Rattle.std.proofs.Common.{ℕ, subst, take}
+use Rattle.std.proofs.Common.{ℕ, ◌++◌, subst, take, rules}
+use Rattle.std.proofs.lemmas.List.{take-append-le}
 use Rattle.std.specs.Io.KnownBytes.{Consumes}
 use Rattle.cg_run.specs.declared.progress.Ending.TheVariants.{Ended, Failed}
 use Rattle.cg_run.specs.Putting.{Stopped}
-use Rattle.cg_run.specs.Streaming.{from_stage}
-use Rattle.cg_run.proofs.Streams.{turn-ended, turn-failed}
+use Rattle.cg_run.specs.Streaming.{from_stage, TakesUp}
+use Rattle.cg_run.proofs.Streams.{turn-goes, turn-ended, turn-failed}
 use Rattle.cg_run.proofs.streaming.make_turn.Goals as goal
 
 pub returns-in-Err : goal.returns-in-Err
@@ -24,3 +25,15 @@ returns-in-Ok-eq0 g c =
     turn-ended c.args.report c.args.stage c.args.held.now.items Ended old new v v1 c.args.held.now.items c.close_stage.result c.requires.stands c.requires.held
     (subst (λ (n : ℕ). Consumes old.left new.left (take n c.take.new.buf)) c.in-Ok-eq0.field-0-test took.bytes.1) (took.bytes.2 c.in-Ok-eq0.field-0-test, took.cause)
     (subst (λ held. Stopped c.args.report (from_stage c.args.stage held Ended) v v1 c.close_stage.result) c.as_slice-in-Ok-eq0.ensures.value c.close_stage.ensures)
+
+pub returns-in-Ok : goal.returns-in-Ok
+returns-in-Ok g c =
+    let v = g.K.Sink.view c.args.output.now in
+    let v1 = g.K.Sink.view c.take_up.new.output in
+    let old = g.S.Source.view c.args.input.now in
+    let new = g.S.Source.view c.take.new.self in
+    let took = c.in-Ok.ensures in
+    turn-goes c.args.report c.args.stage c.args.held.now.items old new v v1 c.take_up.new.held.items c.take_up.result (take c.in-Ok.count c.take.new.buf)
+    took.bytes.1 took.cause (search rules) (search rules) (search rules)
+    (subst (λ bytes. TakesUp c.args.report c.args.stage (c.args.held.now.items ++ bytes) v v1 c.take_up.new.held.items c.take_up.result)
+    (take-append-le c.in-Ok.count c.take.new.buf _ took.bytes.0) c.take_up.ensures)
