@@ -1,5 +1,6 @@
 ghost use Rattle.cg_agree.specs.Agreement.{EveryRunAgrees};
 ghost use Rattle.cg_agree.specs.Standing.{AlwaysStands, AlwaysBooked};
+ghost use Rattle.cg_agree.specs.Telling.{EveryRunTells};
 ghost use Rattle.cg_agree.specs.Total.{NeverMet};
 
 /// The steps of every run agree: one order only grows, and what each replica holds, answers and shows is that of a prefix of it.
@@ -23,4 +24,10 @@ pub fn actions_stand_in_one_book()
 /// and behind an exchange that was cut short, is passed over on purpose.
 pub fn nothing_is_wrongly_ignored()
     ensures { NeverMet }
+{}
+
+/// What the steps of a run have shown stands for the world that they lead to: the order lines are its order, an action was shown as
+/// made exactly where its cut has it, and the last printed line of each replica is the replica's as it stands.
+pub fn runs_tell_of_their_worlds()
+    ensures { EveryRunTells }
 {}

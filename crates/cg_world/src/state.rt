@@ -28,6 +28,8 @@ impl Model for World {
 }
 
 impl World {
+    ghost use Rattle.cg_world.specs.Led.{IsLed};
+
     /// The world before its start.
     pub fn new(alloc: Global) -> World
         ensures { result ≡ no_world }
@@ -52,7 +54,15 @@ impl World {
         self.state.up_replicas()
     }
 
-    /// The action was shown as made. By `Tells` of the definitions (`made`) that is so exactly where a line `made` of the
+    /// Admitted events lead here from before the start: so each law of `cg_agree` over such worlds holds of this one. It does
+    /// nothing.
+    pub fn led(&self)
+        ensures { IsLed self.now }
+    {
+        let _state = &self.state;
+    }
+
+    /// The action was shown as made: by the law `runs_tell_of_their_worlds` of `cg_agree` exactly where a line `made` of the
     /// steps that lead here names it. It takes no memory.
     pub fn made(&self, id: ActionId) -> bool
         ensures { result ≡ (nat_lt 0 id.index && nat_le id.index (index_in self.now.made id.creator)) }
