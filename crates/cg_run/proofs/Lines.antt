@@ -1,5 +1,5 @@
 -- The lines of an input, one after the other.
-use Rattle.std.proofs.Common.{◌≡◌, ℕ, ◌+◌, List, [], ◌∷◌, length, true, false, refl, Option, Result}
+use Rattle.std.proofs.Common.{◌≡◌, ℕ, ◌+◌, List, [], ◌∷◌, length, false, refl, Option, Result}
 use Rattle.std.proofs.lemmas.Bool.{true≢false}
 use Rattle.cg_base.specs.Text.{is_nil}
 use Rattle.cg_run.specs.declared.progress.Ending.{Ending}

@@ -1,5 +1,5 @@
 -- What a run comes to, as a function of its words, of the bytes taken and of how the taking ended.
-use Rattle.std.specs.Prelude.{ℕ, ◌+◌, ◌-◌, nat_lt, nat_eq, take, Result, Ok, Err, Bool, true, false, if◌then◌else◌, List, [], ◌∷◌, length, codes, Option, Some, None}
+use Rattle.std.specs.Prelude.{ℕ, ◌+◌, ◌-◌, nat_lt, nat_eq, take, Result, Ok, Err, if◌then◌else◌, List, [], ◌∷◌, length, codes, Option, Some, None}
 use Rattle.cg_base.specs.Text.{pieces_of}
 use Rattle.std.specs.List.{ends_with}
 use Rattle.cg_schedule.specs.declared.event.Event.{Event}
