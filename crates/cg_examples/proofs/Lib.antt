@@ -1,1 +1,2 @@
+mod Attempting
 mod Starting

@@ -5,6 +5,8 @@
 #![tactic(auto)]
 
 #[cfg(test)]
+mod checkpoint;
+#[cfg(test)]
 mod database;
 #[cfg(test)]
 mod disk;
