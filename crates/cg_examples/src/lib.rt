@@ -1,7 +1,8 @@
 //! Some lines of use for each layer that stands alone, as docs/LIBRARIES.md shows them.
 //!
 //! Tests alone: each makes a value, makes a few calls, and asserts what comes of them by the rules of the layer. They are
-//! meant to be copied, so each stands by itself, with what it imports; nothing stands on this crate.
+//! meant to be copied, so each stands by itself, with what it imports; nothing stands on this crate. `checkpoint` alone is no
+//! line of use: it is a case of the store.
 #![tactic(auto)]
 
 #[cfg(test)]
