@@ -1,10 +1,11 @@
-//! A line says what a replica has come through, and behind a semicolon the call that is struck: an event, or its recovery.
+//! A line says what a replica has come through, and behind a semicolon what is struck: an event, or its recovery from a crash.
 //! Then it says whether a device call fails or the disk stops in it, which device calls these are, and how the places that
 //! weren't synced are filled: `-` not at all, `a` with a byte 01, `b` with 4,096 of them, `c` with as many of ff; `.` is that
-//! no crash follows. Behind the arrow stands what is seen of the replica that comes up.
+//! no crash follows. Behind the arrow stands what is seen of the replica that comes up, and the names that it tells. Where its
+//! disk has had other device calls than those up to the struck one and the five of this recovery, that is said too.
 //!
 //! Replica 1 is new among the servers `{1}` or `{1,2,3}`. `regular` is that it gets the configuration 1 of itself alone,
-//! `hear` that it hears what it said last, `request` that it is asked for something, `stop` a crash.
+//! `hear` that it hears what it said last, `request` that it is asked for something.
 
 mod bench;
 mod blows;
@@ -51,6 +52,16 @@ const CREATION: &str =
 {1,2,3} regular hear ; request fail 5-5 . -> it isn't struck
 {1,2,3} regular hear ; request stop 5-5 . -> it isn't struck";
 
+// The action is a red one where the record doesn't stand; where it does, the recovery tells its name.
+const GREEN: &str =
+    "{1} regular hear hear request ; hear fail 1-3 -. -> 1 NonPrim - g0 w0 p1@1{1} a0 v1/0{1}{1} y- r[1:1] o[] x{} b0
+{1} regular hear hear request ; hear fail 4-4 -. -> 1 NonPrim - g1 w0 p1@1{1} a0 v1/0{1}{1} y- r[] o[] x{} b0 tells [1:1]
+{1} regular hear hear request ; hear stop 1-2 -abc -> 1 NonPrim - g0 w0 p1@1{1} a0 v1/0{1}{1} y- r[1:1] o[] x{} b0
+{1} regular hear hear request ; hear stop 3-4 -c -> 1 NonPrim - g0 w0 p1@1{1} a0 v1/0{1}{1} y- r[1:1] o[] x{} b0
+{1} regular hear hear request ; hear stop 3-4 ab -> 1 NonPrim - g1 w0 p1@1{1} a0 v1/0{1}{1} y- r[] o[] x{} b0 tells [1:1]
+{1} regular hear hear request ; hear fail 5-5 . -> it isn't struck
+{1} regular hear hear request ; hear stop 5-5 . -> it isn't struck";
+
 // A request that is kept makes no device call, and is gone with the replica.
 const KEPT: &str = "{1,2,3} ; request fail 1-1 . -> it isn't struck
 {1,2,3} ; request stop 1-1 . -> it isn't struck
@@ -65,6 +76,8 @@ const RECOVERY: &str =
 {1,2,3} regular hear request ; recover stop 6-6 . -> it isn't struck
 {1} regular hear hear request ; recover fail 1-5 -. -> 1 NonPrim - g0 w0 p1@1{1} a0 v1/0{1}{1} y- r[1:1] o[] x{} b0
 {1} regular hear hear request ; recover stop 1-5 -abc -> 1 NonPrim - g0 w0 p1@1{1} a0 v1/0{1}{1} y- r[1:1] o[] x{} b0
+{1} regular hear hear request hear ; recover fail 1-5 -. -> 1 NonPrim - g1 w0 p1@1{1} a0 v1/0{1}{1} y- r[] o[] x{} b0
+{1} regular hear hear request hear ; recover stop 1-5 -abc -> 1 NonPrim - g1 w0 p1@1{1} a0 v1/0{1}{1} y- r[] o[] x{} b0
 {1} regular hear ; recover fail 1-5 -. -> 1 NonPrim - g0 w0 p0@0{1} a1 v1/0{1}{1} y- r[] o[] x{} b0
 {1} regular hear ; recover stop 1-5 -abc -> 1 NonPrim - g0 w0 p0@0{1} a1 v1/0{1}{1} y- r[] o[] x{} b0
 {1} ; recover fail 1-5 -. -> 1 NonPrim - g0 w0 p0@0{1} a0 v- y- r[] o[] x{} b0
@@ -123,6 +136,11 @@ fn an_installation_is_struck(rt: HostRuntime) -> Result<(), Fail> {
 fn a_creation_is_struck(rt: HostRuntime) -> Result<(), Fail> {
     all_strike(&rt, CREATION)?;
     all_strike(&rt, KEPT)
+}
+
+#[test]
+fn a_green_mark_is_struck(rt: HostRuntime) -> Result<(), Fail> {
+    all_strike(&rt, GREEN)
 }
 
 #[test]

@@ -1,16 +1,23 @@
 //! One engine on a disk in memory, alone, and what it said last.
-ghost use Rattle.std.specs.Prelude.{◌≡◌, ◌≤◌, true, [], IfOk};
-ghost use Rattle.cg_action.specs.declared.action.Action.{Action};
+ghost use Rattle.std.specs.Prelude.{◌≡◌, ◌≤◌, true, [], ◌∷◌, length, IfOk};
+ghost use Rattle.cg_action.specs.Limits.{IsAction};
+ghost use Rattle.cg_wire.specs.Bytes.{spelled_msg};
+ghost use Rattle.cg_wire.specs.declared.message.Msg.TheVariants.{Action as ActionMsg};
+ghost use Rattle.cg_replica.specs.Inputs.{HasLimits, input_of as read_of};
+ghost use Rattle.cg_replica.specs.declared.input.Input.TheVariants.{Deliver};
+ghost use Rattle.cg_group.specs.declared.delivery.Delivery.TheVariants.{Message};
+ghost use Rattle.cg_step.specs.Recorded.{AreBooked};
+ghost use Rattle.cg_action.specs.declared.action.Action.{Action as ActionOf};
 ghost use Rattle.cg_base.specs.declared.action_id.ActionId.{ActionId};
-ghost use Rattle.cg_step.specs.Recorded.{OfInput, Named};
-ghost use Rattle.cg_replica.specs.Inputs.{input_of as read_of, HasLimits};
+ghost use Rattle.cg_struck.specs.Bench.{IsBooked, IsFree, IsAwaited, FallsWithin};
 
-use cg_action::Query;
+use cg_action::{Action, Query, put_action};
 use cg_base::{Bytes, IdSet, NoMemory, ReplicaId, Row, WeightSet};
-use cg_client::Request;
+use cg_client::{Core, Request};
 use cg_disk::{Disk, ModelDisk};
 use cg_engine::{Engine, Handled, Input, Outputs, Started};
 use cg_group::{Delivery, DeliveryList};
+use cg_wire::messages_are_exact;
 use std::alloc::Global;
 
 pub(super) type Done<T> = Result<T, &'static str>;
@@ -35,17 +42,38 @@ fn set_of(text: &str) -> IdSet {
 }
 
 fn delivered(alloc: Global, d: Delivery) -> Result<Input, NoMemory>
-    ensures limits { IfOk result HasLimits }
-    ensures booked { IfOk result (λ i. (book : ActionId → Action) × OfInput (Named book) (read_of i)) }
+    ensures { IfOk result (λ input. input ≡ Deliver (d ∷ [])) }
 {
     let mut list = DeliveryList::new(alloc);
     list.push(d)?;
     Ok(Input::Deliver(list))
 }
 
+fn heard(alloc: Global, bytes: Bytes) -> Result<Input, NoMemory>
+    ensures { IfOk result (λ input. input ≡ Deliver (Message 1 1 bytes ∷ [])) }
+{
+    delivered(
+        alloc,
+        Delivery::Message {
+            place: 1,
+            from: ReplicaId::known(1),
+            bytes,
+        },
+    )
+}
+
+fn entered(alloc: Global) -> Result<Input, NoMemory>
+    ensures limits { IfOk result HasLimits }
+    ensures booked { IfOk result IsBooked }
+{
+    let mut set = IdSet::empty();
+    set.add(ReplicaId::known(1));
+    delivered(alloc, Delivery::Regular { conf: 1, set })
+}
+
 fn asked(alloc: Global) -> Input
     ensures limits { HasLimits result }
-    ensures booked { (book : ActionId → Action) × OfInput (Named book) (read_of result) }
+    ensures booked { IsBooked result }
 {
     let cmds = Row::new(alloc);
     Input::Request(Request::Update {
@@ -54,50 +82,127 @@ fn asked(alloc: Global) -> Input
     })
 }
 
-/// What comes in one event.
-pub(super) fn input_of(alloc: Global, event: &str, said: Bytes) -> Result<Input, NoMemory>
+fn input_of(alloc: Global, event: &str, said: Bytes) -> Result<Input, NoMemory>
     ensures limits { IfOk result HasLimits }
-    ensures booked { IfOk result (λ i. (book : ActionId → Action) × OfInput (Named book) (read_of i)) }
+    ensures booked { IfOk result IsBooked }
 {
     match event {
         "request" => Ok(asked(alloc)),
-        "regular" => {
-            let mut set = IdSet::empty();
-            set.add(ReplicaId::known(1));
-            delivered(alloc, Delivery::Regular { conf: 1, set })
-        }
-        _ => delivered(
-            alloc,
-            Delivery::Message {
-                place: 1,
-                from: ReplicaId::known(1),
-                bytes: said,
-            },
-        ),
+        "regular" => entered(alloc),
+        _ => heard(alloc, said),
     }
+}
+
+fn handled(engine: Engine<ModelDisk>, input: Input) -> Handled<ModelDisk>
+    requires calls { (⟦<ModelDisk as Disk>⟧.view engine.store.disk).time ≤ 1000 }
+    requires limits { HasLimits input }
+    requires booked { (book : ActionId → ActionOf) × AreBooked book engine.replica.held (read_of input) }
+    ensures { FallsWithin (⟦<ModelDisk as Disk>⟧.view) 1010 result }
+{
+    // its clause says that the disk stands for a state
+    let _id = engine.id();
+    engine.handle(input)
+}
+
+fn has_no_reds(core: &Core) -> bool
+    ensures { result ≡ true → core.now.queue.reds ≡ [] }
+{
+    core.queue().red_count() == Some(0)
 }
 
 // It waits with no action, so whatever one event hands it is booked.
 fn is_free(engine: &Engine<ModelDisk>) -> bool
     ensures calls { result ≡ true → (⟦<ModelDisk as Disk>⟧.view engine.now.store.disk).time ≤ 1000 }
-    ensures reds { result ≡ true → engine.now.replica.held.queue.reds ≡ [] }
-    ensures own { result ≡ true → engine.now.replica.held.own ≡ [] }
+    ensures held { result ≡ true → IsFree engine.now.replica.held }
 {
     let core = engine.core();
-    engine.calls() <= 1000 && core.own_count() == 0 && core.queue().red_count() == Some(0)
+    engine.calls() <= 1000 && core.own_count() == 0 && has_no_reds(core)
+}
+
+fn has_one(core: &Core) -> bool
+    ensures { result ≡ true → length core.now.own ≡ 1 }
+{
+    core.own_count() == 1
+}
+
+fn is_same(bytes: &[u8], said: &[u8]) -> bool
+    ensures { result ≡ true → said.now ≡ bytes.now }
+{
+    bytes == said
+}
+
+fn spelling_of(alloc: Global, a: &Action) -> Result<Vec<u8>, NoMemory>
+    requires { IsAction a.now }
+    ensures { IfOk result (λ bytes. bytes.items ≡ spelled_msg (ActionMsg a.now)) }
+{
+    let mut bytes = Vec::new(alloc);
+    bytes.push(1)?;
+    put_action(&mut bytes, a)?;
+    Ok(bytes)
+}
+
+// The bytes are the one action that it waits with.
+fn is_awaited(alloc: Global, core: &Core, said: &[u8]) -> bool
+    ensures { result ≡ true → IsAwaited said.now core.now }
+{
+    messages_are_exact();
+    if !has_one(core) || !has_no_reds(core) {
+        return false;
+    }
+    let Some(own) = core.own_at(0) else {
+        return false;
+    };
+    match spelling_of(alloc, own) {
+        Ok(bytes) => is_same(bytes.as_slice(), said),
+        Err(_) => false,
+    }
+}
+
+// It hears the action that it waits with.
+fn echoed(
+    alloc: Global,
+    engine: Engine<ModelDisk>,
+    event: &str,
+    said: Bytes,
+) -> Done<Handled<ModelDisk>>
+    ensures { IfOk result (FallsWithin (⟦<ModelDisk as Disk>⟧.view) 1010) }
+{
+    if event != "hear" || engine.calls() > 1000 {
+        drop(engine);
+        return Err("it waits with an action");
+    }
+    if !is_awaited(alloc, engine.core(), said.as_slice()) {
+        drop(engine);
+        return Err("it waits with another action");
+    }
+    match heard(alloc, said) {
+        Ok(input) => Ok(handled(engine, input)),
+        Err(_) => {
+            drop(engine);
+            Err("no memory")
+        }
+    }
 }
 
 /// What comes of an event.
-pub(super) fn given(engine: Engine<ModelDisk>, input: Input) -> Done<Handled<ModelDisk>>
-    requires limits { HasLimits input }
-    requires booked { (book : ActionId → Action) × OfInput (Named book) (read_of input) }
+pub(super) fn happens(
+    alloc: Global,
+    engine: Engine<ModelDisk>,
+    event: &str,
+    said: Bytes,
+) -> Done<Handled<ModelDisk>>
+    ensures { IfOk result (FallsWithin (⟦<ModelDisk as Disk>⟧.view) 1010) }
 {
     if !is_free(&engine) {
-        drop(engine);
-        drop(input);
-        return Err("it waits with an action");
+        return echoed(alloc, engine, event, said);
     }
-    Ok(engine.handle(input))
+    match input_of(alloc, event, said) {
+        Ok(input) => Ok(handled(engine, input)),
+        Err(_) => {
+            drop(engine);
+            Err("no memory")
+        }
+    }
 }
 
 fn said_in(alloc: Global, outputs: &Outputs) -> Result<Bytes, NoMemory> {
@@ -135,13 +240,7 @@ fn behind(alloc: Global, handled: Handled<ModelDisk>) -> Done<Bench> {
 
 fn follow(alloc: Global, bench: Bench, event: &str) -> Done<Bench> {
     let Bench { engine, said } = bench;
-    match input_of(alloc, event, said) {
-        Ok(input) => behind(alloc, given(engine, input)?),
-        Err(_) => {
-            drop(engine);
-            Err("no memory")
-        }
-    }
+    behind(alloc, happens(alloc, engine, event, said)?)
 }
 
 fn begin(alloc: Global, servers: &IdSet) -> Done<Bench> {

@@ -1,9 +1,9 @@
 //! One call in which a device call is struck, and the replica that comes up behind it.
-ghost use Rattle.std.specs.Prelude.{◌≡◌};
-ghost use Rattle.cg_engine.specs.Engines.{IsSame};
+ghost use Rattle.std.specs.Prelude.{◌≡◌, ◌≤◌, IfOk, IfSome};
+ghost use Rattle.cg_struck.specs.Bench.{FallsWithin};
 
-use super::bench::{Bench, Done, given, input_of, led};
-use cg_base::{NoMemory, ReplicaId, put};
+use super::bench::{Bench, Done, happens, led};
+use cg_base::{IdList, NoMemory, put, put_id_list};
 use cg_disk::{Disk, ModelDisk};
 use cg_engine::{Engine, Handled, Recovered, Wreck};
 use cg_report::{Line, ShownPhase, UpLine, put_line};
@@ -23,7 +23,9 @@ fn fill(letter: u8) -> &'static [u8] {
     }
 }
 
-fn arm(engine: &mut Engine<ModelDisk>, blow: &str, call: u64) {
+fn arm(engine: &mut Engine<ModelDisk>, blow: &str, call: u64)
+    ensures { (⟦<ModelDisk as Disk>⟧.view engine.new.store.disk).time ≡ (⟦<ModelDisk as Disk>⟧.view engine.old.store.disk).time }
+{
     if call > 0 {
         match blow {
             "fail" => engine.fail_at(call),
@@ -32,24 +34,18 @@ fn arm(engine: &mut Engine<ModelDisk>, blow: &str, call: u64) {
     }
 }
 
-fn arm_disk(disk: &mut ModelDisk, blow: &str, call: u64) {
-    if call > 0 {
-        match blow {
-            "fail" => disk.fail_at(call),
-            _ => disk.stop_at(call),
-        }
-    }
-}
-
-// The disk of an event that was struck.
-fn fallen(handled: Handled<ModelDisk>) -> Done<Option<ModelDisk>> {
+// What an event leaves that was struck.
+fn fallen(handled: Handled<ModelDisk>) -> Done<Option<Wreck<ModelDisk>>>
+    requires { FallsWithin (⟦<ModelDisk as Disk>⟧.view) 1010 handled }
+    ensures { IfOk result (λ left. IfSome left (λ w. (⟦<ModelDisk as Disk>⟧.view w.disk).time ≤ 1010)) }
+{
     match handled {
         Handled::Running { engine, outputs } => {
             drop(engine);
             drop(outputs);
             Ok(None)
         }
-        Handled::Down(w) => Ok(Some(w.into_disk())),
+        Handled::Down(w) => Ok(Some(w)),
         Handled::NoMemory(w) => {
             drop(w);
             Err("no memory")
@@ -57,43 +53,18 @@ fn fallen(handled: Handled<ModelDisk>) -> Done<Option<ModelDisk>> {
     }
 }
 
-fn struck_event(
-    alloc: Global,
-    bench: Bench,
-    event: &str,
-    blow: &str,
-    n: u64,
-) -> Done<Option<ModelDisk>> {
-    let Bench { mut engine, said } = bench;
-    match input_of(alloc, event, said) {
-        Ok(input) => {
-            arm(&mut engine, blow, n);
-            fallen(given(engine, input)?)
-        }
-        Err(_) => {
-            drop(engine);
-            Err("no memory")
-        }
-    }
-}
-
-fn recovered(alloc: Global, disk: ModelDisk) -> Done<Recovered<ModelDisk>> {
-    if disk.calls() > 1000 {
-        drop(disk);
-        return Err("it was called too often");
-    }
-    Ok(Engine::recover(alloc, Wreck::new(alloc, disk, ReplicaId::known(1))))
-}
-
-// The disk of a recovery that was struck.
-fn sunk(recovered: Recovered<ModelDisk>) -> Done<Option<ModelDisk>> {
-    match recovered {
+// What a recovery leaves that was struck.
+fn sunk(alloc: Global, w: Wreck<ModelDisk>) -> Done<Option<Wreck<ModelDisk>>>
+    requires { (⟦<ModelDisk as Disk>⟧.view w.disk).time ≤ 1000 }
+    ensures { IfOk result (λ left. IfSome left (λ w. (⟦<ModelDisk as Disk>⟧.view w.disk).time ≤ 1010)) }
+{
+    match Engine::recover(alloc, w) {
         Recovered::Running { engine, green } => {
             drop(engine);
             drop(green);
             Ok(None)
         }
-        Recovered::Down(w) => Ok(Some(w.into_disk())),
+        Recovered::Down(w) => Ok(Some(w)),
         Recovered::NotAStore(w) => {
             drop(w);
             Err("no store")
@@ -105,35 +76,32 @@ fn sunk(recovered: Recovered<ModelDisk>) -> Done<Option<ModelDisk>> {
     }
 }
 
-fn struck_recovery(alloc: Global, bench: Bench, blow: &str, n: u64) -> Done<Option<ModelDisk>> {
-    let Bench { engine, said } = bench;
-    drop(said);
-    let mut disk = engine.stop().into_disk();
-    arm_disk(&mut disk, blow, n);
-    sunk(recovered(alloc, disk)?)
+fn struck_recovery(alloc: Global, engine: Engine<ModelDisk>) -> Done<Option<Wreck<ModelDisk>>>
+    ensures { IfOk result (λ left. IfSome left (λ w. (⟦<ModelDisk as Disk>⟧.view w.disk).time ≤ 1010)) }
+{
+    if engine.calls() > 1000 {
+        drop(engine);
+        return Err("it was called too often");
+    }
+    sunk(alloc, engine.stop())
 }
 
-// The calls that a disk had made before its nth next call was struck.
-fn struck(alloc: Global, story: &str, event: &str, blow: &str, n: u64) -> Done<Option<ModelDisk>> {
-    let bench = led(alloc, story)?;
-    let before = bench.engine.calls();
-    let left = match event {
-        "recover" => struck_recovery(alloc, bench, blow, n)?,
-        _ => struck_event(alloc, bench, event, blow, n)?,
-    };
-    match left {
-        Some(disk) => counted(disk, before, n),
-        None => Ok(None),
+// What is left where the nth device call is struck; none where it isn't.
+fn struck(
+    alloc: Global,
+    bench: Bench,
+    event: &str,
+    blow: &str,
+    n: u64,
+) -> Done<Option<Wreck<ModelDisk>>>
+    ensures { IfOk result (λ left. IfSome left (λ w. (⟦<ModelDisk as Disk>⟧.view w.disk).time ≤ 1010)) }
+{
+    let Bench { mut engine, said } = bench;
+    arm(&mut engine, blow, n);
+    match event {
+        "recover" => struck_recovery(alloc, engine),
+        _ => fallen(happens(alloc, engine, event, said)?),
     }
-}
-
-// It was struck in its nth call, and no call was made behind it.
-fn counted(disk: ModelDisk, before: u64, n: u64) -> Done<Option<ModelDisk>> {
-    if disk.calls().wrapping_sub(before) != n {
-        drop(disk);
-        return Err("it was struck in another call");
-    }
-    Ok(Some(disk))
 }
 
 fn put_engine(out: &mut Vec<u8>, engine: &Engine<ModelDisk>) -> Result<(), NoMemory> {
@@ -150,18 +118,47 @@ fn put_engine(out: &mut Vec<u8>, engine: &Engine<ModelDisk>) -> Result<(), NoMem
     put_line(out, &line)
 }
 
-fn put_up(out: &mut Vec<u8>, engine: Engine<ModelDisk>) -> Result<(), NoMemory> {
-    let put = put_engine(out, &engine);
+// its line, what it tells, and whether its disk has had other calls
+fn put_seen(
+    out: &mut Vec<u8>,
+    engine: &Engine<ModelDisk>,
+    green: &IdList,
+    calls: u64,
+) -> Result<(), NoMemory> {
+    put_engine(out, engine)?;
+    if !green.is_empty() {
+        put(out, b" tells ")?;
+        put_id_list(out, green.as_slice())?;
+    }
+    if engine.calls() != calls {
+        put(out, b" after other calls")?;
+    }
+    Ok(())
+}
+
+fn put_up(
+    out: &mut Vec<u8>,
+    engine: Engine<ModelDisk>,
+    green: IdList,
+    calls: u64,
+) -> Result<(), NoMemory> {
+    let put = put_seen(out, &engine, &green, calls);
     drop(engine);
+    drop(green);
     put
 }
 
-fn put_recovered(out: &mut Vec<u8>, recovered: Recovered<ModelDisk>) -> Result<(), NoMemory> {
-    match recovered {
-        Recovered::Running { engine, green } => {
-            drop(green);
-            put_up(out, engine)
-        }
+// what comes up, behind these calls
+fn put_risen(
+    alloc: Global,
+    out: &mut Vec<u8>,
+    w: Wreck<ModelDisk>,
+    calls: u64,
+) -> Result<(), NoMemory>
+    requires { (⟦<ModelDisk as Disk>⟧.view w.disk).time ≤ 1010 }
+{
+    match Engine::recover(alloc, w) {
+        Recovered::Running { engine, green } => put_up(out, engine, green, calls),
         Recovered::Down(w) => {
             drop(w);
             put(out, b"it is down")
@@ -177,13 +174,14 @@ fn put_recovered(out: &mut Vec<u8>, recovered: Recovered<ModelDisk>) -> Result<(
     }
 }
 
-// the disk as a crash leaves it, where one follows
-fn crashed(alloc: Global, disk: ModelDisk, letter: u8) -> Result<ModelDisk, NoMemory> {
+// what a crash leaves, where one follows
+fn crashed(w: Wreck<ModelDisk>, letter: u8) -> Result<Wreck<ModelDisk>, NoMemory>
+    ensures { IfOk result (λ left. (⟦<ModelDisk as Disk>⟧.view left.disk).time ≡ (⟦<ModelDisk as Disk>⟧.view w.disk).time) }
+{
     if letter == b'.' {
-        return Ok(disk);
+        return Ok(w);
     }
-    let w = Wreck::new(alloc, disk, ReplicaId::known(1)).image(fill(letter))?;
-    Ok(w.into_disk())
+    w.image(fill(letter))
 }
 
 /// What is seen of the replica that comes up behind a call that was struck.
@@ -196,10 +194,14 @@ pub(super) fn put_struck(
     letter: u8,
     out: &mut Vec<u8>,
 ) -> Result<(), Fail> {
-    match struck(alloc, story, event, blow, n)? {
-        Some(disk) => {
-            let disk = crashed(alloc, disk, letter)?;
-            Ok(put_recovered(out, recovered(alloc, disk)?)?)
+    let bench = led(alloc, story)?;
+    let before = bench.engine.calls();
+    match struck(alloc, bench, event, blow, n)? {
+        Some(w) => {
+            // the calls of the struck one, and the five of the recovery behind it
+            let calls = before.wrapping_add(n).wrapping_add(5);
+            let w = crashed(w, letter)?;
+            Ok(put_risen(alloc, out, w, calls)?)
         }
         None => Ok(put(out, b"it isn't struck")?),
     }

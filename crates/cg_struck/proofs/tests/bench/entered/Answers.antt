@@ -1,0 +1,5 @@
+use Rattle.cg_struck.proofs.Booking.{if-one-booked}
+use Rattle.cg_struck.proofs.tests.bench.entered.Goals as goal
+
+pub returns-clause-booked : goal.returns-clause-booked
+returns-clause-booked c = if-one-booked _ _ c.delivered.ensures
