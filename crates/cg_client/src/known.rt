@@ -105,6 +105,12 @@ impl Known {
         self.queue.reds()
     }
 
+    pub(crate) fn red_names(&self) -> Result<IdList, NoMemory>
+        ensures { IfOk result (λ list. list ≡ names_of self.now.reds) }
+    {
+        self.queue.red_names()
+    }
+
     pub(crate) fn yellow(&self) -> Result<IdList, NoMemory>
         ensures value { IfOk result (λ list. list ≡ self.now.yellow) }
         ensures each { Each IsName self.now.yellow }

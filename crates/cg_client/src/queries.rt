@@ -38,21 +38,19 @@ impl Core {
         answer_behind(self.alloc, self.db.db(), actions, q)
     }
 
-    /// What its line shows.
+    /// What its line shows. It copies names alone.
     #[tactic(auto, unfolding(crate::specs::Queries::view_of))]
     pub fn view(&self) -> Result<View, NoMemory>
         ensures { IfOk result (λ v. v ≡ view_of self.now) }
     {
         let list = self.queue.yellow()?;
-        let mut reds = Actions::new(self.alloc);
-        add_plain_reds(&self.queue, &mut reds)?;
         Ok(View {
             green_count: self.queue.green_count(),
             white_count: self.queue.white_count(),
             prim: self.standing.prim(),
             attempt_index: self.standing.attempt_index(),
             vulnerable: self.standing.vulnerable(),
-            reds: names_of(self.alloc, reds.list().as_slice())?,
+            reds: plain_names(&self.queue)?,
             yellow: Yellow {
                 valid: self.yellow_valid,
                 list,
@@ -83,6 +81,15 @@ fn push_plain(queue: &Known, a: Action, list: &mut Actions) -> Result<(), NoMemo
         return Ok(());
     }
     list.push(a)
+}
+
+// the names of the reds that aren't yellow, in their order
+fn plain_names(queue: &Known) -> Result<IdList, NoMemory>
+    ensures { IfOk result (λ ids. ids ≡ names_of (plain_reds queue.now)) }
+{
+    let mut ids = queue.red_names()?.into_vec();
+    ids.retain(|id| !queue.is_yellow(*id));
+    Ok(Row::from_vec(ids))
 }
 
 /// The names of these actions.

@@ -4,6 +4,7 @@ ghost use Rattle.cg_base.specs.Cuts.{index_in};
 ghost use Rattle.cg_base.specs.Lists.{at_place};
 ghost use Rattle.cg_queue.specs.Lanes.{rows_of};
 ghost use Rattle.cg_queue.specs.Body.{actions_in, all_reds};
+ghost use Rattle.cg_queue.specs.Queue.{names_of};
 
 use crate::body::{
     Body, add_green, add_name, add_red, add_yellow, drop_green, empty_body, forget_green,
@@ -203,6 +204,17 @@ impl Queue {
         Ok(list)
     }
 
+    /// The names of the reds, in the same order. No action is copied.
+    pub fn red_names(&self) -> Result<IdList, NoMemory>
+        ensures { IfOk result (λ list. list ≡ names_of self.now.reds) }
+    {
+        let mut list = Row::new(self.alloc);
+        for place in 0..32 {
+            add_red_names(&self.body.reds, place, &mut list)?;
+        }
+        Ok(list)
+    }
+
     /// A red, by its place among them by name, counted from 0.
     pub fn red_at(&self, i: usize) -> Option<&Action>
         ensures { option_copied result ≡ slice_get self.now.reds i }
@@ -380,6 +392,30 @@ fn copy_reds(
         push_red_at(alloc, reds, place, i, list)?;
     }
     Ok(())
+}
+
+// the names of the reds at a place, behind those that are listed
+fn add_red_names(reds: &Lanes<Red>, place: usize, list: &mut IdList) -> Result<(), NoMemory>
+    ensures { OnOk result (list.new ≡ list.old ++ names_of (actions_in (rows_of reds.now place))) }
+{
+    for i in 0..reds.len(place) {
+        push_name_at(reds, place, i, list)?;
+    }
+    Ok(())
+}
+
+fn push_name_at(
+    reds: &Lanes<Red>,
+    place: usize,
+    i: usize,
+    list: &mut IdList,
+) -> Result<(), NoMemory>
+    ensures { OnOk result (list.new ++ names_of (actions_in (drop (suc i) (rows_of reds.now place))) ≡ list.old ++ names_of (actions_in (drop i (rows_of reds.now place)))) }
+{
+    match reds.get(place, i) {
+        Some(red) => list.push(red.action.id),
+        None => Ok(()),
+    }
 }
 
 fn push_green_at(

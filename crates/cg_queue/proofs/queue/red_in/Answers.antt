@@ -1,7 +1,7 @@
-use Rattle.std.proofs.Common.{◌≡◌, ◌+◌, ◌-◌, ap, sym, ◌∙◌, arith}
+use Rattle.std.proofs.Common.{◌+◌, ◌-◌, ap, sym, ◌∙◌, arith}
 use Rattle.std.specs.Prelude.{slice_get}
 use Rattle.cg_queue.specs.Lanes.{rows_of}
-use Rattle.cg_queue.specs.Body.{all_reds, reds_from}
+use Rattle.cg_queue.specs.Body.{reds_from}
 use Rattle.cg_queue.proofs.Soundness.{reds-all}
 use Rattle.cg_queue.proofs.Places.{place-here, place-later, place-nowhere}
 use Rattle.cg_queue.proofs.queue.red_in.Goals as goal
