@@ -1,4 +1,4 @@
--- What an entry shows beside the lines of replicas: what was made, places of the order, replies, and what was asked for.
+-- What an entry shows beside the lines of replicas: what was made, places of the order, replies, what was asked for.
 use Rattle.std.proofs.Common.{◌≡◌, ℕ, true, false, List, [], ◌∷◌, ◌++◌, codes, decimal, flat_map, Option, Some, None, refl, sym, ap, ◌∙◌}
 use Rattle.std.specs.Prelude.{pos, negsuc, ◌==◌, if◌then◌else◌}
 use Rattle.std.proofs.lemmas.List.{append_cancel_left}
