@@ -7,4 +7,3 @@ mod Opening
 mod Arming
 mod Crashing
 mod ComingUp
-mod Counting

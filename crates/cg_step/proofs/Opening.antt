@@ -90,15 +90,19 @@ rest-kept : {A : Type 0} (go : Stored → A → Option Stored) → KeepsHolds go
 rest-kept go keeps items None y before e = absurd (none-some y (sym (none-all go items) ∙ e))
 rest-kept go keeps items (Some x) y before e = all-kept go keeps items x y (before x refl) e
 
+-- what a change marks and makes, before its values and the white count
+pub holds-marked : (s : Stored) (c : Change) (t : Stored) → Holds s → all_of make (all_of green_by_name (all_of know (Some s) c.known) c.green) c.made ≡ Some t → Holds t
+holds-marked s c t is e =
+    let known = all_of know (Some s) c.known in
+    let green = all_of green_by_name known c.green in
+    rest-kept make make-kept c.made green t
+    (λ y g. rest-kept green_by_name green-kept c.green known y (λ z h. all-kept know know-kept c.known s z is h) g) e
+
 pub holds-changed : (s : Stored) (c : Change) (t : Stored) → Holds s → after_change s c ≡ Some t → Holds t
 unfolding after_change
 holds-changed s c t is e =
-    let known = all_of know (Some s) c.known in
-    let green = all_of green_by_name known c.green in
-    let made = all_of make green c.made in
-    then-kept (with_values c.stable) (values-kept c.stable) made t
-    (λ x f. rest-kept make make-kept c.made green x
-    (λ y g. rest-kept green_by_name green-kept c.green known y (λ z h. all-kept know know-kept c.known s z is h) g) f) e
+    let made = all_of make (all_of green_by_name (all_of know (Some s) c.known) c.green) c.made in
+    then-kept (with_values c.stable) (values-kept c.stable) made t (λ x f. holds-marked s c x is f) e
 
 -- ---- a checkpoint whose parts agree
 

@@ -14,7 +14,7 @@ use Rattle.cg_client.specs.Replica.{Held, Replica, fresh_held}
 use Rattle.cg_client.specs.Whitening.{IsLineGreen}
 use Rattle.cg_stored.specs.Stored.{Stored, stored_of, whiten, recover}
 use Rattle.cg_stored.specs.declared.change.Change.{Change}
-use Rattle.cg_stored.specs.Change.{after_change, IsAhead, IsRecorded}
+use Rattle.cg_stored.specs.Change.{know, green_by_name, make, all_of, after_change, IsAhead, IsRecorded}
 use Rattle.cg_stored.specs.Checkpoint.{Agrees}
 use Rattle.cg_stored.specs.Limits.{IsStored}
 use Rattle.cg_step.specs.Step.{Input, Deliveries, replica_step}
@@ -24,13 +24,15 @@ use Rattle.cg_step.specs.Holds.{Holds}
 -- ---- what always holds
 
 -- it holds of a new replica, and is kept by each event, by a commit's white count, on the disk and by a recovery; it holds
--- of a checkpoint whose parts agree, and is kept by each change that fits
+-- of a checkpoint whose parts agree, and is kept by each change that fits, also before its values are put in and the white
+-- count rises
 pub record AlwaysHolds : Type 0 where
   pub fresh : (id : ℕ) (set : List Weighted) → Holds (fresh_held id set)
   pub step : (r : Replica) (input : Input) → Holds r.held → Holds (replica_step r input).replica.held
   pub whitened : (h : Held) → Holds h → Holds (whiten h)
   pub stored : (h : Held) → Holds h → Holds (stored_of h)
   pub recovered : (s : Stored) → Holds s → Holds (recover s).replica.held
+  pub marked : (s : Stored) (c : Change) (t : Stored) → Holds s → all_of make (all_of green_by_name (all_of know (Some s) c.known) c.green) c.made ≡ Some t → Holds t
   pub changed : (s : Stored) (c : Change) (t : Stored) → Holds s → after_change s c ≡ Some t → Holds t
   pub opened : (s : Stored) → Agrees s → IsStored s → Holds s
 

@@ -67,12 +67,16 @@ unmade_none s t u c known green none =
     ∙ ap (λ x. option_and_then (with_values c.stable) (all_of make x c.made)) green
     ∙ ap (option_and_then (with_values c.stable)) none
 
+pub all_marked : (s t u v : Stored) (c : Change) → all_of know (Some s) c.known ≡ Some t → all_of green_by_name (Some t) c.green ≡ Some u → all_of make (Some u) c.made ≡ Some v →
+    all_of make (all_of green_by_name (all_of know (Some s) c.known) c.green) c.made ≡ Some v
+all_marked s t u v c known green made =
+    ap (λ x. all_of make (all_of green_by_name x c.green) c.made) known
+    ∙ ap (λ x. all_of make x c.made) green
+    ∙ made
+
 pub all_fit : (s t u v : Stored) (c : Change) → all_of know (Some s) c.known ≡ Some t → all_of green_by_name (Some t) c.green ≡ Some u → all_of make (Some u) c.made ≡ Some v → after_change s c ≡ with_values c.stable v
 unfolding after_change
-all_fit s t u v c known green made =
-    ap (λ x. option_and_then (with_values c.stable) (all_of make (all_of green_by_name x c.green) c.made)) known
-    ∙ ap (λ x. option_and_then (with_values c.stable) (all_of make x c.made)) green
-    ∙ ap (option_and_then (with_values c.stable)) made
+all_fit s t u v c known green made = ap (option_and_then (with_values c.stable)) (all_marked s t u v c known green made)
 
 pub if_ok_follows : (o p : Option Stored) (h : Stored) (E : Type 0) (r : Result Bool E) → p ≡ o → IfOk r (Follows o h) → IfOk r (Follows p h)
 if_ok_follows o p h E (Ok true) same is = same ∙ is

@@ -1,5 +1,5 @@
 -- What a disk stands for holds: its checkpoint does, and each change that fits keeps it.
-use Rattle.std.proofs.Common.{◌≡◌, List, [], ◌∷◌, ◌++◌, Bool, true, false, Option, Some, None, refl, ap, subst}
+use Rattle.std.proofs.Common.{◌≡◌, List, [], ◌∷◌, ◌++◌, Bool, true, false, Option, Some, None, Result, Ok, Err, IfOk, refl, ap, subst}
 use Rattle.std.specs.Prelude.{ℕ, option_and_then, if◌then◌else◌}
 use Rattle.cg_base.specs.declared.action_id.ActionId.{ActionId}
 use Rattle.cg_action.specs.declared.action.Action.{Action}
@@ -12,8 +12,9 @@ use Rattle.cg_stored.specs.Change.{fits_known, know, turn_green, green_by_name, 
 use Rattle.cg_stored.specs.Checkpoint.{Agrees}
 use Rattle.cg_stored.specs.Limits.{IsStored}
 use Rattle.cg_stored.specs.Parts.{change_in}
+use Rattle.cg_step.specs.Holds.{Holds}
 use Rattle.cg_step.specs.Recorded.{AlwaysHolds}
-use Rattle.cg_store.specs.Opening.{IsSound}
+use Rattle.cg_store.specs.Opening.{Follows, IsSound}
 use Rattle.cg_store.specs.Stands.{led_by, led_by_all}
 
 -- nothing is kept in memory alone
@@ -106,3 +107,9 @@ module _ (always : AlwaysHolds) where
   -- and what the changes behind it lead to
   pub led_all-sound : (s t : Stored) (bodies : List (List ℕ)) → IsSound s → led_by_all (Some s) bodies ≡ Some t → IsSound t
   led_all-sound s t bodies sound is = all-keeps IsSound led_by led-sound s t bodies is sound
+
+  -- a change was put in, where it fits
+  pub if_ok_holds : (s t : Stored) (c : Change) (E : Type 0) (r : Result Bool E) → Holds s → IfOk r (Follows (after_change s c) t) → IfOk r (λ fits. fits ≡ true → Holds t)
+  if_ok_holds s t c E (Ok true) holds is = λ e. always.changed s c t holds is
+  if_ok_holds s t c E (Ok false) holds is = λ e. cc
+  if_ok_holds s t c E (Err fault) holds is = tt

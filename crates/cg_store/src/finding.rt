@@ -2,6 +2,8 @@
 ghost use Rattle.std.specs.Prelude.{◌≡◌, drop, Some, IfOk};
 ghost use Rattle.cg_journal.specs.Records.{on_side};
 ghost use Rattle.cg_stored.specs.Laws.{AreSaved};
+ghost use Rattle.cg_stored.specs.Parts.{stored_in};
+ghost use Rattle.cg_step.specs.Holds.{Holds};
 ghost use Rattle.cg_store.specs.Stands.{led_by_all};
 ghost use Rattle.cg_store.specs.Opening.{Follows, FindsFirst, greater, Replays, Finds};
 
@@ -115,7 +117,8 @@ fn replay(
     front: Front,
     changes: &[Bytes],
 ) -> Result<Option<Found>, NoMemory>
-    requires { AreSaved id front.first }
+    requires saved { AreSaved id front.first }
+    requires holds { Holds (stored_in id front.first) }
     ensures { IfOk result (Replays id front.side front.first changes.now) }
 {
     let Front { side, first } = front;
@@ -136,6 +139,7 @@ fn replay(
 
 // Puts all records into what the replica holds, where each is a change that fits.
 fn follow_all(alloc: Global, core: &mut Core, changes: &[Bytes]) -> Result<bool, NoMemory>
+    requires { Holds core.old }
     ensures { IfOk result (Follows (led_by_all (Some core.old) changes.now) core.new) }
 {
     for body in changes {

@@ -5,11 +5,12 @@ ghost use Rattle.std.specs.List.{list_all};
 ghost use Rattle.cg_action.specs.Limits.{IsAction};
 ghost use Rattle.cg_base.specs.Ids.{names};
 ghost use Rattle.cg_client.specs.Marks.{is_first};
+ghost use Rattle.cg_client.specs.Whitening.{IsLineGreen};
 ghost use Rattle.cg_queue.specs.Queue.{names_of};
 ghost use Rattle.cg_records.specs.Limits.{Each};
 ghost use Rattle.cg_stored.specs.Change.{after_change, fits_known, know, green_by_name, make, all_of, is_distinct, are_yellow, put_values, with_values};
-ghost use Rattle.cg_stored.specs.Stored.{whiten};
 ghost use Rattle.cg_stored.specs.Limits.{IsChange};
+ghost use Rattle.cg_step.specs.Holds.{Holds};
 ghost use Rattle.cg_store.specs.Stands.{led_by};
 ghost use Rattle.cg_store.specs.Opening.{Follows};
 
@@ -17,13 +18,17 @@ use cg_action::{Action, ActionList};
 use cg_base::{ActionId, IdList, NoMemory};
 use cg_client::Core;
 use cg_records::Stable;
+use cg_step::what_is_held_agrees;
 use cg_stored::{Change, read_change};
 use std::alloc::Global;
 
 /// Puts a record into what the replica holds, where it is a change that fits.
 pub(crate) fn follow(alloc: Global, core: &mut Core, body: &[u8]) -> Result<bool, NoMemory>
-    ensures { IfOk result (Follows (led_by core.old body.now) core.new) }
+    requires { Holds core.old }
+    ensures follows { IfOk result (Follows (led_by core.old body.now) core.new) }
+    ensures holds { IfOk result (λ fits. fits ≡ true → Holds core.new) }
 {
+    what_is_held_agrees();
     match read_change(alloc, body)? {
         Some(change) => follow_change(alloc, core, change),
         None => Ok(false),
@@ -31,9 +36,11 @@ pub(crate) fn follow(alloc: Global, core: &mut Core, body: &[u8]) -> Result<bool
 }
 
 fn follow_change(alloc: Global, core: &mut Core, change: Change) -> Result<bool, NoMemory>
-    requires { IsChange change }
+    requires limits { IsChange change }
+    requires holds { Holds core.old }
     ensures { IfOk result (Follows (after_change core.old change) core.new) }
 {
+    what_is_held_agrees();
     let Change {
         stable,
         known,
@@ -158,29 +165,18 @@ fn fits_made(core: &Core, a: &Action) -> bool
     a.id.creator == core.id() && is_next(a.id.index, core.created())
 }
 
-// The new values, where they fit, and the white count.
+// The new values, where they fit; then the white count rises, and the actions up to it are discarded.
+#[tactic(auto, unfolding(cg_stored::specs::Stored::whiten))]
 fn put_values(core: &mut Core, stable: &Stable) -> Result<bool, NoMemory>
+    requires { IsLineGreen core.old }
     ensures { IfOk result (Follows (with_values stable.now core.old) core.new) }
 {
     if !values_fit(core, stable) {
         return Ok(false);
     }
     take_values(core, stable)?;
-    raise_white(core)?;
-    Ok(true)
-}
-
-// The white count rises, and the actions up to it are discarded.
-#[tactic(auto, unfolding(cg_stored::specs::Stored::whiten))]
-fn raise_white(core: &mut Core) -> Result<(), NoMemory>
-    ensures { OnOk result (core.new ≡ whiten core.old) }
-{
-    // no line is above the greens, since what stands on a disk holds
-    if !core.is_line_green() {
-        return Err(NoMemory);
-    }
     core.whiten();
-    Ok(())
+    Ok(true)
 }
 
 fn values_fit(core: &Core, stable: &Stable) -> bool

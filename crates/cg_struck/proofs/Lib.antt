@@ -1,2 +1,2 @@
 mod Booking
-mod Counting
+mod Falling

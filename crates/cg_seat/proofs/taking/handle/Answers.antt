@@ -2,7 +2,7 @@ use Rattle.std.proofs.Common.{refl, ◌∙◌, arith}
 use Rattle.cg_disk.specs.Model.{view_of, state_of}
 use Rattle.cg_replica.specs.Inputs.{input_of}
 use Rattle.cg_step.specs.Step.{replica_step}
-use Rattle.cg_seat.proofs.Counting.{fallen_within}
+use Rattle.cg_engine.specs.FallLaws.{fallen_within}
 use Rattle.cg_seat.proofs.Events.{goes_on, falls_down, fallen_so}
 use Rattle.cg_seat.proofs.taking.handle.Goals as goal
 

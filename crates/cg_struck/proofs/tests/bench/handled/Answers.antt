@@ -1,7 +1,7 @@
 use Rattle.cg_disk.specs.Model.{view_of}
 use Rattle.cg_replica.specs.Inputs.{input_of}
 use Rattle.cg_step.specs.Step.{replica_step}
-use Rattle.cg_struck.proofs.Counting.{falls_within}
+use Rattle.cg_struck.proofs.Falling.{falls_within}
 use Rattle.cg_struck.proofs.tests.bench.handled.Goals as goal
 
 pub returns : goal.returns
