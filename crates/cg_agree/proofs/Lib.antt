@@ -377,3 +377,5 @@ pub mod TurnsMeet
 pub mod NeverMet
 pub mod PartingIdle
 pub mod PartingPlaced
+pub mod TouchedSeats
+pub mod OthersOld

@@ -135,7 +135,7 @@ module _ (lines : List Line) (g : GroupState Msg) where
 abbrev pub ArePrinted : World → Type 0
 ArePrinted w = Each (λ s. printed w s.id ≡ Some (line_of w.group s)) w.seats
 
-stepped-printed : (w : World) (e : Event) → IsRising 0 (map (λ s. s.id) (world_step w e).world.seats) → ArePrinted (world_step w e).world
+pub stepped-printed : (w : World) (e : Event) → IsRising 0 (map (λ s. s.id) (world_step w e).world.seats) → ArePrinted (world_step w e).world
 unfolding world_step ended lines_of
 stepped-printed w e rise =
     let x = (happens w e).world in
@@ -181,7 +181,7 @@ lines-on earlier c w s step told = record {
 
 -- ---- what the last line of a replica that is up shows
 
-each-find : (P : Seat → Type 0) (t : Seat → Bool) (xs : List Seat) (s : Seat) → Each P xs → find t xs ≡ Some s → P s
+pub each-find : (P : Seat → Type 0) (t : Seat → Bool) (xs : List Seat) (s : Seat) → Each P xs → find t xs ≡ Some s → P s
 each-find P t [] s each e = absurd (let clash : None ≡ Some s = e in cc)
 each-find P t (x ∷ xs) s each e = elim (cases_Bool (t x)) [
   | inl here ↦
