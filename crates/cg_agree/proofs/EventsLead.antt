@@ -20,7 +20,7 @@ lead-on c w [] d v e lead may admitted = (
 )
 lead-on c w (first ∷ events) d v e lead may admitted = (lead.0, lead.1, lead-on (chronicle_step c w first) (world_step w first).world events d v e lead.2 may admitted)
 
-are-admitted : (c : Chronicle) (w : World) (events : List Event) (d : Chronicle) (v : World) → LeadTo c w events d v → AreAdmitted w events
+pub are-admitted : (c : Chronicle) (w : World) (events : List Event) (d : Chronicle) (v : World) → LeadTo c w events d v → AreAdmitted w events
 are-admitted c w [] d v lead = tt
 are-admitted c w (e ∷ events) d v lead = (lead.0, lead.1, are-admitted (chronicle_step c w e) (world_step w e).world events d v lead.2)
 

@@ -377,3 +377,4 @@ pub mod TurnsMeet
 pub mod NeverMet
 pub mod PartingIdle
 pub mod PartingPlaced
+pub mod ActionsMade

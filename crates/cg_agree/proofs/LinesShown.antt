@@ -181,7 +181,7 @@ lines-on earlier c w s step told = record {
 
 -- ---- what the last line of a replica that is up shows
 
-each-find : (P : Seat → Type 0) (t : Seat → Bool) (xs : List Seat) (s : Seat) → Each P xs → find t xs ≡ Some s → P s
+pub each-find : (P : Seat → Type 0) (t : Seat → Bool) (xs : List Seat) (s : Seat) → Each P xs → find t xs ≡ Some s → P s
 each-find P t [] s each e = absurd (let clash : None ≡ Some s = e in cc)
 each-find P t (x ∷ xs) s each e = elim (cases_Bool (t x)) [
   | inl here ↦

@@ -30,3 +30,4 @@ pub mod Played
 pub mod Telling
 pub mod Standing
 pub mod Total
+pub mod Making

@@ -1,4 +1,5 @@
 ghost use Rattle.cg_agree.specs.Agreement.{EveryRunAgrees};
+ghost use Rattle.cg_agree.specs.Making.{AlwaysMadeInBook};
 ghost use Rattle.cg_agree.specs.Standing.{AlwaysStands, AlwaysBooked};
 ghost use Rattle.cg_agree.specs.Telling.{EveryRunTells};
 ghost use Rattle.cg_agree.specs.Total.{NeverMet};
@@ -30,4 +31,10 @@ pub fn nothing_is_wrongly_ignored()
 /// made exactly where its cut has it, and the last printed line of each replica is the replica's as it stands.
 pub fn runs_tell_of_their_worlds()
     ensures { EveryRunTells }
+{}
+
+/// Of each creator an event shows as made the next ones behind those that were shown before, each as it stands in the book of
+/// the chronicle.
+pub fn made_actions_stand_in_the_book()
+    ensures { AlwaysMadeInBook }
 {}
