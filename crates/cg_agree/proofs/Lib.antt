@@ -379,3 +379,4 @@ pub mod PartingIdle
 pub mod PartingPlaced
 pub mod TouchedSeats
 pub mod OthersOld
+pub mod ActionsMade

@@ -60,7 +60,7 @@ made-last before (x ∷ steps) s =
 
 -- ---- each as it was made
 
-found-in : (xs : List Action) (id : ActionId) (a : Action) → named_in xs id ≡ Some a → Contains xs a
+pub found-in : (xs : List Action) (id : ActionId) (a : Action) → named_in xs id ≡ Some a → Contains xs a
 found-in [] id a e = absurd (let clash : None ≡ Some a = e in cc)
 found-in (x ∷ xs) id a e = elim (cases_Bool (same_id x.id id)) [
   | inl here ↦

@@ -32,3 +32,4 @@ pub mod Telling
 pub mod Standing
 pub mod Touched
 pub mod Total
+pub mod Making

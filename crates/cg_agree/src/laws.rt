@@ -1,4 +1,5 @@
 ghost use Rattle.cg_agree.specs.Agreement.{EveryRunAgrees};
+ghost use Rattle.cg_agree.specs.Making.{AlwaysMadeInBook};
 ghost use Rattle.cg_agree.specs.Standing.{AlwaysStands, AlwaysBooked};
 ghost use Rattle.cg_agree.specs.Telling.{EveryRunTells};
 ghost use Rattle.cg_agree.specs.Total.{NeverMet};
@@ -40,4 +41,10 @@ pub fn runs_tell_of_their_worlds()
 /// last printed ones are those of replicas that the event touches.
 pub fn others_show_nothing_new()
     ensures { OthersShowNothingNew }
+{}
+
+/// Of each creator an event shows as made the next ones behind those that were shown before, each as it stands in the book of
+/// the chronicle.
+pub fn made_actions_stand_in_the_book()
+    ensures { AlwaysMadeInBook }
 {}
