@@ -8,5 +8,5 @@ pub returns : goal.returns
 returns c =
     let q = c.args.queue.now in
     filter_same _ _ _ (λ x b f' k. search rules) _ _ c.retain.ensures.filtered
-    ∙ ap (filter (λ id. not (names q.yellow id))) c.in_ok-red_names.ensures
+    ∙ ap (filter (λ id. not (names q.yellow id))) (c.into_vec-ids.ensures ∙ c.in_ok-red_names.ensures)
     ∙ names-filter (names q.yellow) q.reds
