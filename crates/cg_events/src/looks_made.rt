@@ -1,8 +1,10 @@
 ghost use Rattle.std.specs.Prelude.{◌≡◌, nat_le};
 ghost use Rattle.cg_base.specs.Cuts.{index_in};
+ghost use Rattle.cg_agree.specs.Making.{position_on, printed_position};
 
 use crate::WorldState;
 use cg_base::ReplicaId;
+use cg_report::Line;
 
 impl WorldState {
     /// The actions of the replica up to this number were shown as made. It takes no memory.
@@ -10,5 +12,24 @@ impl WorldState {
         ensures { result ≡ nat_le index (index_in self.now.made p) }
     {
         index <= self.made.get(p)
+    }
+
+    /// The replica's position on its last printed line, 0 where it has none or is down there. It takes no memory.
+    pub fn printed_position(&self, p: ReplicaId) -> u64
+        ensures { result ≡ printed_position self.now p }
+    {
+        match self.lines.last(p) {
+            Some(line) => position_on(line),
+            None => 0,
+        }
+    }
+}
+
+fn position_on(line: &Line) -> u64
+    ensures { result ≡ position_on line.now }
+{
+    match &line.up {
+        Some(up) => up.view.green_count,
+        None => 0,
     }
 }
