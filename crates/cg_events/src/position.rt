@@ -1,5 +1,4 @@
-ghost use Rattle.std.specs.Prelude.{◌≡◌, nat_le};
-ghost use Rattle.cg_base.specs.Cuts.{index_in};
+ghost use Rattle.std.specs.Prelude.{◌≡◌};
 ghost use Rattle.cg_agree.specs.Making.{position_on, printed_position};
 
 use crate::WorldState;
@@ -7,13 +6,6 @@ use cg_base::ReplicaId;
 use cg_report::Line;
 
 impl WorldState {
-    /// The actions of the replica up to this number were shown as made. It takes no memory.
-    pub fn has_made(&self, p: ReplicaId, index: u64) -> bool
-        ensures { result ≡ nat_le index (index_in self.now.made p) }
-    {
-        index <= self.made.get(p)
-    }
-
     /// The replica's position on its last printed line, 0 where it has none or is down there. It takes no memory.
     pub fn printed_position(&self, p: ReplicaId) -> u64
         ensures { result ≡ printed_position self.now p }
