@@ -378,3 +378,5 @@ pub mod NeverMet
 pub mod PartingIdle
 pub mod PartingPlaced
 pub mod ActionsMade
+pub mod TouchedSeats
+pub mod OthersOld

@@ -135,7 +135,7 @@ module _ (lines : List Line) (g : GroupState Msg) where
 abbrev pub ArePrinted : World → Type 0
 ArePrinted w = Each (λ s. printed w s.id ≡ Some (line_of w.group s)) w.seats
 
-stepped-printed : (w : World) (e : Event) → IsRising 0 (map (λ s. s.id) (world_step w e).world.seats) → ArePrinted (world_step w e).world
+pub stepped-printed : (w : World) (e : Event) → IsRising 0 (map (λ s. s.id) (world_step w e).world.seats) → ArePrinted (world_step w e).world
 unfolding world_step ended lines_of
 stepped-printed w e rise =
     let x = (happens w e).world in

@@ -1,10 +1,17 @@
--- Lines that are found to be the same are one.
-use Rattle.std.proofs.Common.{◌≡◌, ℕ, zero, suc, true, false, ◌&&◌, Option, Some, None, refl, sym, ap, ◌∙◌}
-use Rattle.std.specs.Prelude.{nat_eq}
+-- Lines that are found to be the same are one; and each line is found to be the same as itself.
+use Rattle.std.proofs.Common.{◌≡◌, ℕ, zero, suc, Bool, true, false, ◌&&◌, List, [], ◌∷◌, Option, Some, None, refl, sym, ap, ◌∙◌, eq-eqb}
+use Rattle.std.specs.Prelude.{◌==◌, nat_eq}
+use Rattle.std.specs.Bool.{beq}
 use Rattle.std.specs.Cmp.Lexicographic.{pointwise}
-use Rattle.std.proofs.lemmas.Bool.{and_parts}
+use Rattle.std.proofs.lemmas.Bool.{and_parts, and_from}
+use Rattle.cg_base.specs.declared.action_id.ActionId.{ActionId}
+use Rattle.cg_base.specs.declared.weighted.Weighted.{Weighted}
 use Rattle.cg_base.specs.Ids.{same_id}
-use Rattle.cg_records.specs.Same.{same_prim, same_record, same_yellow}
+use Rattle.cg_base.specs.Weights.{same_weighted}
+use Rattle.cg_records.specs.declared.primary.Primary.{Primary}
+use Rattle.cg_records.specs.declared.vulnerable.Vulnerable.{Vulnerable}
+use Rattle.cg_records.specs.declared.yellow.Yellow.{Yellow}
+use Rattle.cg_records.specs.Same.{same_prim, same_vulnerable, same_record, same_yellow}
 use Rattle.cg_report.specs.declared.line.StateName.{StateName}
 use Rattle.cg_report.specs.declared.line.StateName.TheVariants.{RegPrim, TransPrim, ExchangeStates, ExchangeActions, Construct, No, Un, NonPrim, Left}
 use Rattle.cg_report.specs.declared.line.ShownPhase.{ShownPhase}
@@ -92,3 +99,72 @@ unfolding same_line
 one-line a b e =
     let parts = and_parts (nat_eq a.id b.id) (same_up a.up b.up) e in
     λ i. record { id = one-number a.id b.id parts.0 i; up = one-up a.up b.up parts.1 i }
+
+-- ---- each is the same as itself
+
+self-number : (n : ℕ) → nat_eq n n ≡ true
+self-number n = eq-eqb n n refl
+
+self-list : {A : Type 0} (eq : A → A → Bool) → ((x : A) → eq x x ≡ true) → (xs : List A) → pointwise eq xs xs ≡ true
+self-list eq self [] = refl
+self-list eq self (x ∷ xs) = and_from (eq x x) (pointwise eq xs xs) (self x) (self-list eq self xs)
+
+self-id : (a : ActionId) → same_id a a ≡ true
+self-id a = and_from (a.creator == a.creator) (a.index == a.index) (self-number a.creator) (self-number a.index)
+
+self-weighted : (m : Weighted) → same_weighted m m ≡ true
+self-weighted m = and_from (m.id == m.id) (m.weight == m.weight) (self-number m.id) (self-number m.weight)
+
+self-prim : (a : Primary) → same_prim a a ≡ true
+unfolding same_prim
+self-prim a =
+    and_from (nat_eq a.index a.index) (nat_eq a.conf a.conf && pointwise same_weighted a.set a.set) (self-number a.index)
+    (and_from (nat_eq a.conf a.conf) (pointwise same_weighted a.set a.set) (self-number a.conf) (self-list same_weighted self-weighted a.set))
+
+self-vulnerable : (a : Vulnerable) → same_vulnerable a a ≡ true
+unfolding same_vulnerable
+self-vulnerable a =
+    let sets = and_from (pointwise nat_eq a.set a.set) (pointwise nat_eq a.bits a.bits) (self-list nat_eq self-number a.set) (self-list nat_eq self-number a.bits) in
+    let ends = and_from (nat_eq a.from a.from) (pointwise nat_eq a.set a.set && pointwise nat_eq a.bits a.bits) (self-number a.from) sets in
+    and_from (nat_eq a.attempt a.attempt) (nat_eq a.from a.from && (pointwise nat_eq a.set a.set && pointwise nat_eq a.bits a.bits)) (self-number a.attempt) ends
+
+self-record : (a : Option Vulnerable) → same_record a a ≡ true
+unfolding same_record
+self-record None = refl
+self-record (Some a) = self-vulnerable a
+
+self-bool : (a : Bool) → beq a a ≡ true
+self-bool true = refl
+self-bool false = refl
+
+self-yellow : (a : Yellow) → same_yellow a a ≡ true
+unfolding same_yellow
+self-yellow a = and_from (beq a.valid a.valid) (pointwise same_id a.list a.list) (self-bool a.valid) (self-list same_id self-id a.list)
+
+self-phase : (a : ShownPhase) → same_phase a a ≡ true
+self-phase Alone = refl
+self-phase (Regular n) = self-number n
+self-phase (Transitional n) = self-number n
+
+self-view : (a : View) → same_view a a ≡ true
+unfolding same_view
+self-view a =
+    let others = and_from (nat_eq a.attempt_index a.attempt_index) (nat_eq a.buffered a.buffered) (self-number a.attempt_index) (self-number a.buffered) in
+    let whites = and_from (nat_eq a.white_count a.white_count) (nat_eq a.attempt_index a.attempt_index && nat_eq a.buffered a.buffered) (self-number a.white_count) others in
+    let counts = and_from (nat_eq a.green_count a.green_count) (nat_eq a.white_count a.white_count && (nat_eq a.attempt_index a.attempt_index && nat_eq a.buffered a.buffered)) (self-number a.green_count) whites in
+    let marks = and_from (same_record a.vulnerable a.vulnerable) (same_yellow a.yellow a.yellow) (self-record a.vulnerable) (self-yellow a.yellow) in
+    let components = and_from (same_prim a.prim a.prim) (same_record a.vulnerable a.vulnerable && same_yellow a.yellow a.yellow) (self-prim a.prim) marks in
+    let owns = and_from (pointwise same_id a.own a.own) (pointwise nat_eq a.left a.left) (self-list same_id self-id a.own) (self-list nat_eq self-number a.left) in
+    let lists = and_from (pointwise same_id a.reds a.reds) (pointwise same_id a.own a.own && pointwise nat_eq a.left a.left) (self-list same_id self-id a.reds) owns in
+    and_from (same_counts a a) (same_components a a && same_lists a a) counts (and_from (same_components a a) (same_lists a a) components lists)
+
+self-up : (a : Option UpLine) → same_up a a ≡ true
+unfolding same_up
+self-up None = refl
+self-up (Some a) =
+    and_from (nat_eq (state_number a.state) (state_number a.state)) (same_phase a.phase a.phase && same_view a.view a.view) (self-number (state_number a.state))
+    (and_from (same_phase a.phase a.phase) (same_view a.view a.view) (self-phase a.phase) (self-view a.view))
+
+pub self-line : (a : Line) → same_line a a ≡ true
+unfolding same_line
+self-line a = and_from (nat_eq a.id a.id) (same_up a.up a.up) (self-number a.id) (self-up a.up)

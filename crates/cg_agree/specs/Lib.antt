@@ -4,6 +4,7 @@ pub mod Show
 pub mod Step
 pub mod Run
 pub mod SeatLaws
+pub mod PhaseLaws
 pub mod Shown
 pub mod Quiet
 pub mod Agreement
@@ -29,5 +30,6 @@ pub mod Noting
 pub mod Played
 pub mod Telling
 pub mod Standing
+pub mod Touched
 pub mod Total
 pub mod Making

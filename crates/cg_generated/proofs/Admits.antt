@@ -18,7 +18,7 @@ use Rattle.cg_agree.specs.World.{Life, Up, Down as DownLife, Seat, World, has_be
 use Rattle.cg_agree.specs.Admission.{unknown, has_left, already_up, takes_part, split_refused, merge_refused}
 use Rattle.cg_generated.proofs.Calm.{CalmState}
 use Rattle.cg_generated.proofs.CalmEnds.{CalmLife}
-use Rattle.cg_generated.proofs.GroupStands.{phase_at, phase-where}
+use Rattle.cg_agree.specs.PhaseLaws.{phase_at, phase-where}
 use Rattle.cg_generated.proofs.WorldStands.{seat_in, StandsIn}
 
 -- ---- lists of tests

@@ -1,39 +1,19 @@
--- Where the replicas of a group stand, and that its messages are calm: what each event of the group makes of that.
-use Rattle.std.proofs.Common.{◌≡◌, ℕ, zero, suc, ◌+◌, ◌≤◌, Bool, true, false, ◌||◌, cond, List, [], ◌∷◌, ◌++◌, fold, length, Option, Some, None, option_map, refl, sym, ap, subst, ◌∙◌, ⊎_elim, arith, eqb-true, eq-eqb, if◌then◌else◌}
+-- That the messages of a group are calm: what each event of the group makes of that, and of where its replicas stand.
+use Rattle.std.proofs.Common.{◌≡◌, ℕ, zero, suc, ◌+◌, List, [], ◌∷◌, ◌++◌, fold, length, Option, Some, None, option_map, refl, sym, subst}
 use Rattle.std.specs.Prelude.{◌==◌, IfSome}
 use Rattle.std.specs.Option.{option_map_or}
-use Rattle.std.proofs.lemmas.Bool.{cond_both, cond-true, cond-false, cases_Bool, ne_eqb, or_right}
+use Rattle.std.proofs.lemmas.Bool.{cond_both}
 use Rattle.cg_base.specs.Lists.{at_place, above_up_to}
-use Rattle.cg_base.specs.Sets.{Ascends, has}
-use Rattle.cg_base.specs.SetLaws.{has-within}
 use Rattle.cg_wire.specs.declared.message.Msg.{Msg}
-use Rattle.cg_group.specs.declared.phase.Phase.{Phase}
-use Rattle.cg_group.specs.declared.phase.Phase.TheVariants.{Down, Alone, Regular, Transitional}
+use Rattle.cg_group.specs.declared.phase.Phase.TheVariants.{Alone, Regular, Transitional}
 use Rattle.cg_group.specs.declared.delivery.Delivery.TheVariants.{Message}
 use Rattle.cg_group.specs.declared.delivery.Handed.{Handed}
-use Rattle.cg_group.specs.State.{Sent, Configuration, Standing, GroupState, no_group, no_configuration, standing_of, regular_in, phase_of, configuration, home, unordered_of, delivered_to, set_standing, set_configuration}
+use Rattle.cg_group.specs.State.{Sent, Configuration, Standing, no_group, no_configuration, standing_of, regular_in, phase_of, configuration, home, unordered_of, delivered_to, set_standing, set_configuration}
 use Rattle.cg_group.specs.Events.{come_up, go_down, send_from, send, send_all, with_receipt, with_message, order_from, order, receive, regulars, order_all, receive_all, gather, delivery_at, deliveries_at, with_delivered, deliver, furthest, transitional_places, handed_in_split, become_transitional, split, become_regular, merge}
 use Rattle.cg_group.specs.EachLaws.{Each, Each-append, Each-all}
-use Rattle.cg_group.specs.LookupLaws.{at-cond, put, at_place-changed, standing_of-set, unordered_of-set, configuration-set_standing, standing_of-set_configuration, standing_of-down, standing_id, eqb_comm}
+use Rattle.cg_group.specs.LookupLaws.{at_place-changed, unordered_of-set, configuration-set_standing, standing_of-down}
+use Rattle.cg_agree.specs.PhaseLaws.{Group, StandAlike, sent-place, gather-place, deliver-place, next_conf}
 use Rattle.cg_generated.proofs.Calm.{CalmMessage, CalmDelivery, Each-map}
-
-abbrev pub Group : Type 0
-Group = GroupState Msg
-
--- the phase of a replica, where it is up
-abbrev pub where_is : Group → ℕ → Option Phase
-where_is g p = option_map (λ s. s.phase) (standing_of g p)
-
--- the phase of who stands so
-abbrev pub phase_at : Option Phase → Phase
-phase_at None = Down
-phase_at (Some phase) = phase
-
-pub phase-where : (g : Group) (p : ℕ) → phase_of g p ≡ phase_at (where_is g p)
-phase-where g p = at (standing_of g p) where
-  at : (o : Option (Standing Msg)) → option_map_or (λ (s : Standing Msg). s.phase) o Down ≡ phase_at (option_map (λ s. s.phase) o)
-  at None = refl
-  at (Some s) = refl
 
 -- ---- calm groups
 
@@ -76,109 +56,82 @@ configured-calm g conf c calm is = record {
   either None = tt
   either (Some old) = is
 
-where-set : (g : Group) (s : Standing Msg) (p : ℕ) → where_is (set_standing g s) p ≡ put (where_is g) s.id (Some s.phase) p
-where-set g s p = ap (λ o. option_map (λ (s : Standing Msg). s.phase) o) (standing_of-set g s p) ∙ at-cond (λ o. option_map (λ (s : Standing Msg). s.phase) o) (p == s.id) (Some s) (standing_of g p)
-
-where-configured : (g : Group) (conf : ℕ) (c : Configuration Msg) (p : ℕ) → where_is (set_configuration g conf c) p ≡ where_is g p
-where-configured g conf c p = ap (λ o. option_map (λ (s : Standing Msg). s.phase) o) (standing_of-set_configuration g conf c p)
-
 -- ---- who stands as before
 
 -- each replica stands as it did, and the group is calm still
 pub record Keeps (g h : Group) : Type 0 where
-  pub place : (p : ℕ) → where_is h p ≡ where_is g p
+  pub place : StandAlike g h
   pub calm : CalmGroup g → CalmGroup h
-
-keeps-all : (g : Group) → Keeps g g
-keeps-all g = record { place = λ p. refl; calm = λ c. c }
-
-keeps-on : (g h k : Group) → Keeps g h → Keeps h k → Keeps g k
-keeps-on g h k a b = record { place = λ p. b.place p ∙ a.place p; calm = λ c. b.calm (a.calm c) }
-
--- a replica that stands as it did, with other messages
-same-place : (g : Group) (p : ℕ) (s : Standing Msg) (new : Standing Msg) → standing_of g p ≡ Some s → new.id ≡ s.id → new.phase ≡ s.phase →
-    (q : ℕ) → where_is (set_standing g new) q ≡ where_is g q
-same-place g p s new found id phase q =
-    where-set g new q ∙ ⊎_elim
-    (λ y. cond-true (q == new.id) (Some new.phase) (where_is g q) y ∙ ap (λ x. Some x) phase
-    ∙ sym (ap (λ o. option_map (λ (s : Standing Msg). s.phase) o) (ap (standing_of g) (eqb-true q new.id y ∙ id ∙ standing_id g p s found) ∙ found)))
-    (λ n. cond-false (q == new.id) (Some new.phase) (where_is g q) n)
-    (cases_Bool (q == new.id))
 
 waiting-of : (g : Group) (p : ℕ) (s : Standing Msg) → standing_of g p ≡ Some s → CalmGroup g → Each CalmMessage s.unordered
 waiting-of g p s found calm = subst (λ o. Each CalmMessage (option_map_or (λ (s : Standing Msg). s.unordered) o [])) found (calm.waiting p)
 
-send-keeps : (g : Group) (p : ℕ) (m : Msg) → CalmMessage m → Keeps g (send g p m)
+send-calm : (g : Group) (p : ℕ) (m : Msg) → CalmMessage m → CalmGroup g → CalmGroup (send g p m)
 unfolding send send_from
-send-keeps g p m fine = at (standing_of g p) refl where
-  at : (o : Option (Standing Msg)) → standing_of g p ≡ o → Keeps g (send_from g o m)
-  at None e = keeps-all g
+send-calm g p m fine calm = at (standing_of g p) refl where
+  at : (o : Option (Standing Msg)) → standing_of g p ≡ o → CalmGroup (send_from g o m)
+  at None e = calm
   at (Some s) e =
       let new : Standing Msg = record s { unordered = s.unordered ++ m ∷ [] } in
-      cond_both (regular_in s.phase == 0) g (set_standing g new) (Keeps g) (λ y. keeps-all g)
-      (λ n. record {
-        place = same-place g p s new e refl refl;
-        calm = λ calm. set-calm g new calm (Each-append CalmMessage s.unordered (m ∷ []) (waiting-of g p s e calm) (fine, tt));
-      })
+      cond_both (regular_in s.phase == 0) g (set_standing g new) CalmGroup (λ y. calm)
+      (λ n. set-calm g new calm (Each-append CalmMessage s.unordered (m ∷ []) (waiting-of g p s e calm) (fine, tt)))
+
+sent-calm : (messages : List Msg) (g : Group) (p : ℕ) → Each CalmMessage messages → CalmGroup g → CalmGroup (send_all g p messages)
+sent-calm [] g p each calm = calm
+sent-calm (m ∷ messages) g p each calm = sent-calm messages (send g p m) p each.1 (send-calm g p m each.0 calm)
 
 pub sent-keeps : (messages : List Msg) (g : Group) (p : ℕ) → Each CalmMessage messages → Keeps g (send_all g p messages)
-sent-keeps [] g p each = keeps-all g
-sent-keeps (m ∷ messages) g p each = keeps-on g (send g p m) (send_all (send g p m) p messages) (send-keeps g p m each.0) (sent-keeps messages (send g p m) p each.1)
+sent-keeps messages g p each = record { place = sent-place messages g p; calm = sent-calm messages g p each }
 
-order-keeps : (g : Group) (p : ℕ) → Keeps g (order g p)
+order-calm : (g : Group) (p : ℕ) → CalmGroup g → CalmGroup (order g p)
 unfolding order order_from with_message
-order-keeps g p = at (standing_of g p) refl where
-  from : (s : Standing Msg) (messages : List Msg) → standing_of g p ≡ Some s → s.unordered ≡ messages → Keeps g (order_from g s messages)
-  from s [] e is = keeps-all g
+order-calm g p calm = at (standing_of g p) refl where
+  from : (s : Standing Msg) (messages : List Msg) → standing_of g p ≡ Some s → s.unordered ≡ messages → CalmGroup (order_from g s messages)
+  from s [] e is = calm
   from s (m ∷ rest) e is =
       let conf = regular_in s.phase in
       let new : Standing Msg = record s { unordered = rest } in
-      let h = set_standing g new in
-      let more = with_message (configuration g conf) s.id m in
-      record {
-        place = λ q. where-configured h conf more q ∙ same-place g p s new e refl refl q;
-        calm = λ calm.
-            let all : Each CalmMessage (m ∷ rest) = subst (Each CalmMessage) is (waiting-of g p s e calm) in
-            configured-calm h conf more (set-calm g new calm all.1) (Each-append CalmSent (configuration g conf).ordered (_ ∷ []) (calm.ordered conf) (all.0, tt));
-      }
+      let all : Each CalmMessage (m ∷ rest) = subst (Each CalmMessage) is (waiting-of g p s e calm) in
+      configured-calm (set_standing g new) conf (with_message (configuration g conf) s.id m) (set-calm g new calm all.1)
+      (Each-append CalmSent (configuration g conf).ordered (_ ∷ []) (calm.ordered conf) (all.0, tt))
 
-  at : (o : Option (Standing Msg)) → standing_of g p ≡ o → Keeps g (option_map_or (λ s. order_from g s s.unordered) o g)
-  at None e = keeps-all g
+  at : (o : Option (Standing Msg)) → standing_of g p ≡ o → CalmGroup (option_map_or (λ s. order_from g s s.unordered) o g)
+  at None e = calm
   at (Some s) e = from s s.unordered e refl
 
-receive-keeps : (g : Group) (p place : ℕ) → Keeps g (receive g p place)
+receive-calm : (g : Group) (p place : ℕ) → CalmGroup g → CalmGroup (receive g p place)
 unfolding receive with_receipt
-receive-keeps g p place =
+receive-calm g p place calm =
     let conf = regular_in (phase_of g p) in
-    let more = with_receipt (configuration g conf) p place in
-    record { place = where-configured g conf more; calm = λ calm. configured-calm g conf more calm (calm.ordered conf) }
+    configured-calm g conf (with_receipt (configuration g conf) p place) calm (calm.ordered conf)
 
 -- step by step
-fold-keeps : {X : Type 0} (f : Group → X → Group) → ((g : Group) (x : X) → Keeps g (f g x)) → (xs : List X) (g : Group) → Keeps g (fold f g xs)
-fold-keeps f each [] g = keeps-all g
-fold-keeps f each (x ∷ xs) g = keeps-on g (f g x) (fold f (f g x) xs) (each g x) (fold-keeps f each xs (f g x))
+fold-calm : {X : Type 0} (f : Group → X → Group) → ((g : Group) (x : X) → CalmGroup g → CalmGroup (f g x)) → (xs : List X) (g : Group) → CalmGroup g → CalmGroup (fold f g xs)
+fold-calm f each [] g calm = calm
+fold-calm f each (x ∷ xs) g calm = fold-calm f each xs (f g x) (each g x calm)
 
-order_all-keeps : (g : Group) (p : ℕ) → Keeps g (order_all g p)
+order_all-calm : (g : Group) (p : ℕ) → CalmGroup g → CalmGroup (order_all g p)
 unfolding order_all
-order_all-keeps g p = fold-keeps (λ g m. order g p) (λ g m. order-keeps g p) (unordered_of g p) g
+order_all-calm g p = fold-calm (λ g m. order g p) (λ g m. order-calm g p) (unordered_of g p) g
 
-receive_all-keeps : (g : Group) (p : ℕ) → Keeps g (receive_all g p)
+receive_all-calm : (g : Group) (p : ℕ) → CalmGroup g → CalmGroup (receive_all g p)
 unfolding receive_all
-receive_all-keeps g p = fold-keeps (λ g place. receive g p place) (λ g place. receive-keeps g p place) (above_up_to 0 (length (home g p).ordered)) g
+receive_all-calm g p = fold-calm (λ g place. receive g p place) (λ g place. receive-calm g p place) (above_up_to 0 (length (home g p).ordered)) g
+
+gather-calm : (g : Group) → CalmGroup g → CalmGroup (gather g)
+unfolding gather
+gather-calm g calm =
+    let ordered = fold order_all g (regulars g) in
+    fold-calm receive_all receive_all-calm (regulars ordered) ordered (fold-calm order_all order_all-calm (regulars g) g calm)
 
 pub gather-keeps : (g : Group) → Keeps g (gather g)
-unfolding gather
-gather-keeps g =
-    let ordered = fold order_all g (regulars g) in
-    keeps-on g ordered (fold receive_all ordered (regulars ordered)) (fold-keeps order_all order_all-keeps (regulars g) g) (fold-keeps receive_all receive_all-keeps (regulars ordered) ordered)
+gather-keeps g = record { place = gather-place g; calm = gather-calm g }
 
-delivered-keeps : (g : Group) (p n : ℕ) → Keeps g (with_delivered g p n)
-delivered-keeps g p n = at (standing_of g p) refl where
-  at : (o : Option (Standing Msg)) → standing_of g p ≡ o → Keeps g (option_map_or (λ s. set_standing g (record s { delivered = n })) o g)
-  at None e = keeps-all g
-  at (Some s) e =
-      let new : Standing Msg = record s { delivered = n } in
-      record { place = same-place g p s new e refl refl; calm = λ calm. set-calm g new calm (waiting-of g p s e calm) }
+delivered-calm : (g : Group) (p n : ℕ) → CalmGroup g → CalmGroup (with_delivered g p n)
+delivered-calm g p n calm = at (standing_of g p) refl where
+  at : (o : Option (Standing Msg)) → standing_of g p ≡ o → CalmGroup (option_map_or (λ s. set_standing g (record s { delivered = n })) o g)
+  at None e = calm
+  at (Some s) e = set-calm g (record s { delivered = n }) calm (waiting-of g p s e calm)
 
 -- ---- what is handed out
 
@@ -205,7 +158,7 @@ deliveries-calm c (place ∷ places) calm =
 
 pub deliver-keeps : (g : Group) (p k : ℕ) → Keeps g (deliver g p k).group
 unfolding deliver
-deliver-keeps g p k = delivered-keeps g p (delivered_to g p + k)
+deliver-keeps g p k = record { place = deliver-place g p k; calm = delivered-calm g p (delivered_to g p + k) }
 
 pub deliver-calm : (g : Group) (p k : ℕ) → CalmGroup g → Each CalmHanded (deliver g p k).handed
 unfolding deliver
@@ -215,27 +168,9 @@ deliver-calm g p k calm =
 
 -- ---- who stands anew
 
--- these stand in this phase, and each other one as it did
-abbrev pub all_at : List ℕ → Option Phase → (ℕ → Option Phase) → ℕ → Option Phase
-all_at set phase at p = if has set p then phase else at p
-
--- a choice between two that are the same in one of them
-pub merged : {X : Type 0} (a b : Bool) (x y : X) → cond b x (cond a x y) ≡ cond (a || b) x y
-merged true true x y = refl
-merged true false x y = refl
-merged false true x y = refl
-merged false false x y = refl
-
-pub up-place : (g : Group) (p q : ℕ) → where_is (come_up g p) q ≡ put (where_is g) p (Some Alone) q
-unfolding come_up
-up-place g p q = where-set g (record { id = p; phase = Alone; delivered = 0; unordered = [] }) q
-
 pub up-calm : (g : Group) (p : ℕ) → CalmGroup g → CalmGroup (come_up g p)
 unfolding come_up
 up-calm g p calm = set-calm g (record { id = p; phase = Alone; delivered = 0; unordered = [] }) calm tt
-
-pub down-place : (g : Group) (p q : ℕ) → where_is (go_down g p) q ≡ put (where_is g) p None q
-down-place g p q = ap (λ o. option_map (λ (s : Standing Msg). s.phase) o) (standing_of-down g p q) ∙ at-cond (λ o. option_map (λ (s : Standing Msg). s.phase) o) (q == p) None (standing_of g q)
 
 pub down-calm : (g : Group) (p : ℕ) → CalmGroup g → CalmGroup (go_down g p)
 unfolding go_down configuration
@@ -246,32 +181,6 @@ down-calm g p calm = record {
 }
 
 -- ---- partings
-
--- the rest of a set that leaves: they are regular in one configuration
-parted : (set rest : List ℕ) (g : Group) (low conf : ℕ) → Ascends low rest → ((p : ℕ) → has rest p ≡ true → where_is g p ≡ Some (Regular conf)) → (q : ℕ) →
-    where_is (fold (become_transitional set) g rest) q ≡ all_at rest (Some (Transitional conf set)) (where_is g) q
-unfolding become_transitional
-parted set [] g low conf ascends regular q = refl
-parted set (p ∷ rest) g low conf ascends regular q =
-    let new : Standing Msg = record { id = p; phase = Transitional (regular_in (phase_of g p)) set; delivered = delivered_to g p; unordered = [] } in
-    let here : where_is g p ≡ Some (Regular conf) = regular p (ap (λ b. b || has rest p) (eq-eqb p p refl)) in
-    let phase : Transitional (regular_in (phase_of g p)) set ≡ Transitional conf set = ap (λ x. Transitional (regular_in x) set) (phase-where g p ∙ ap phase_at here) in
-    let h = become_transitional set g p in
-    let moved : (x : ℕ) → where_is h x ≡ put (where_is g) p (Some (Transitional conf set)) x =
-    λ x. where-set g new x ∙ ap (λ z. cond (x == p) (Some z) (where_is g x)) phase in
-    let later : (x : ℕ) → has rest x ≡ true → where_is h x ≡ Some (Regular conf) =
-    λ x member.
-    let above : suc p ≤ x = (has-within rest (suc p) x ascends.2 member).0 in
-    moved x ∙ cond-false (x == p) (Some (Transitional conf set)) (where_is g x) (ne_eqb x p (λ e. omega (arith, above, e)))
-    ∙ regular x (or_right (p == x) (has rest x) member) in
-    parted set rest h (suc p) conf ascends.2 later q
-    ∙ ap (cond (has rest q) (Some (Transitional conf set))) (moved q ∙ ap (λ b. cond b (Some (Transitional conf set)) (where_is g q)) (eqb_comm q p))
-    ∙ merged (p == q) (has rest q) (Some (Transitional conf set)) (where_is g q)
-
-pub split-place : (g : Group) (set : List ℕ) (conf : ℕ) → Ascends 1 set → ((p : ℕ) → has set p ≡ true → where_is g p ≡ Some (Regular conf)) → (q : ℕ) →
-    where_is (split g set).group q ≡ all_at set (Some (Transitional conf set)) (where_is g) q
-unfolding split
-split-place g set conf ascends regular q = parted set set g 1 conf ascends regular q
 
 parted-calm : (set rest : List ℕ) (g : Group) → CalmGroup g → CalmGroup (fold (become_transitional set) g rest)
 unfolding become_transitional
@@ -294,28 +203,11 @@ split-calm g set calm = (
 
 -- ---- new configurations
 
-joined : (conf : ℕ) (rest : List ℕ) (g : Group) (q : ℕ) → where_is (fold (become_regular conf) g rest) q ≡ all_at rest (Some (Regular conf)) (where_is g) q
-unfolding become_regular
-joined conf [] g q = refl
-joined conf (p ∷ rest) g q =
-    let new : Standing Msg = record { id = p; phase = Regular conf; delivered = 0; unordered = [] } in
-    joined conf rest (become_regular conf g p) q
-    ∙ ap (cond (has rest q) (Some (Regular conf))) (where-set g new q ∙ ap (λ b. cond b (Some (Regular conf)) (where_is g q)) (eqb_comm q p))
-    ∙ merged (p == q) (has rest q) (Some (Regular conf)) (where_is g q)
-
 joined-calm : (conf : ℕ) (rest : List ℕ) (g : Group) → CalmGroup g → CalmGroup (fold (become_regular conf) g rest)
 unfolding become_regular
 joined-calm conf [] g calm = calm
 joined-calm conf (p ∷ rest) g calm =
     joined-calm conf rest (become_regular conf g p) (set-calm g (record { id = p; phase = Regular conf; delivered = 0; unordered = [] }) calm tt)
-
--- the number of the configuration that is made next
-abbrev pub next_conf : Group → ℕ
-next_conf g = suc (length g.configurations)
-
-pub merge-place : (g : Group) (set : List ℕ) (q : ℕ) → where_is (merge g set).group q ≡ all_at set (Some (Regular (next_conf g))) (where_is g) q
-unfolding merge standing_of
-merge-place g set q = joined (next_conf g) set _ q
 
 -- the configuration that is made has no message
 made-calm : (list : List (Configuration Msg)) (c : Configuration Msg) (conf : ℕ) → CalmConfiguration c → CalmConfiguration (option_map_or (λ c. c) (at_place list conf) no_configuration) →

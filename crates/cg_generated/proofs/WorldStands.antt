@@ -21,7 +21,8 @@ use Rattle.cg_agree.specs.Step.{quietly, after_event, take_turn, hand_to, hand, 
 use Rattle.cg_generated.proofs.Calm.{CalmMessage, CalmTurn}
 use Rattle.cg_generated.proofs.CalmRows.{CalmInput, step-calm}
 use Rattle.cg_generated.proofs.CalmEnds.{CalmLife, RunsOn, ended-calm, crashed-calm, recovered-calm, fresh-calm}
-use Rattle.cg_generated.proofs.GroupStands.{Group, where_is, CalmGroup, Keeps, sent-keeps, CalmHanded, up-place, up-calm, down-place, down-calm}
+use Rattle.cg_agree.specs.PhaseLaws.{Group, where_is, up-place, down-place}
+use Rattle.cg_generated.proofs.GroupStands.{CalmGroup, Keeps, sent-keeps, CalmHanded, up-calm, down-calm}
 
 -- ---- seats
 
