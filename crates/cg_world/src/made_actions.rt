@@ -42,7 +42,7 @@ impl MadeActions {
         self.rows[place].get((index - 1) as usize)
     }
 
-    /// What the step to this world shows as made is made too. The green line of an action is its creator's position there.
+    /// What the step to this world shows as made is made too. An action's green line is its creator's position there.
     pub(crate) fn add_all(
         &mut self,
         alloc: Global,
