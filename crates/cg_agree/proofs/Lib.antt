@@ -377,6 +377,6 @@ pub mod TurnsMeet
 pub mod NeverMet
 pub mod PartingIdle
 pub mod PartingPlaced
+pub mod ActionsMade
 pub mod TouchedSeats
 pub mod OthersOld
-pub mod ActionsMade

@@ -1,4 +1,4 @@
--- What the step of an event shows as made: each action as it was made, the next of its creator, in the chronicle's book.
+-- What the step of an event shows as made: each action as it was made, the next of its creator, in the book.
 use Rattle.std.specs.Prelude.{◌≡◌, ℕ, suc, ◌+◌, ◌==◌, List, [], ◌∷◌, None, Contains, filter, length, map}
 use Rattle.std.specs.Option.{option_map_or}
 use Rattle.cg_group.specs.EachLaws.{Each}

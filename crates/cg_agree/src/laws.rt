@@ -37,14 +37,14 @@ pub fn runs_tell_of_their_worlds()
     ensures { EveryRunTells }
 {}
 
+/// Of each creator an event shows as made the next ones behind those that were shown before, each as it stands in
+/// the book of the chronicle.
+pub fn made_actions_stand_in_the_book()
+    ensures { AlwaysMadeInBook }
+{}
+
 /// Behind an admitted event, wherever admitted events lead to the world before it, the lines that differ from the
 /// last printed ones are those of replicas that the event touches.
 pub fn others_show_nothing_new()
     ensures { OthersShowNothingNew }
-{}
-
-/// Of each creator an event shows as made the next ones behind those that were shown before, each as it stands in the book of
-/// the chronicle.
-pub fn made_actions_stand_in_the_book()
-    ensures { AlwaysMadeInBook }
 {}

@@ -12,7 +12,7 @@ mod going;
 mod grouping;
 mod handing;
 mod happened;
-mod looks_made;
+mod position;
 mod querying;
 mod seats;
 mod state;

@@ -1,6 +1,7 @@
 -- An admitted event leads on, and its step is the end of what it does.
-use Rattle.std.proofs.Common.{◌≡◌, None, sym, ap, ◌∙◌, subst}
+use Rattle.std.proofs.Common.{◌≡◌, ℕ, List, None, sym, ap, ◌∙◌, subst}
 use Rattle.cg_schedule.specs.declared.event.Event.{Event}
+use Rattle.cg_action.specs.declared.action.Action.{Action}
 use Rattle.cg_agree.specs.World.{World}
 use Rattle.cg_events.specs.Grounds.{IsSeated}
 use Rattle.cg_events.specs.GroundLaws.{IsSeated-beside}
@@ -9,24 +10,31 @@ use Rattle.cg_agree.specs.Run.{MayStand}
 use Rattle.cg_agree.specs.Show.{Going, ended}
 use Rattle.cg_agree.specs.Step.{happens, world_step}
 use Rattle.cg_agree.specs.Noting.{chronicle_step}
+use Rattle.cg_agree.specs.Making.{newly_made, AlwaysMadeInBook}
 use Rattle.cg_agree.specs.Standing.{AlwaysStands, AlwaysBooked, IsBooked}
 use Rattle.cg_world.specs.declared.world.Stepped.{Stepped}
 use Rattle.cg_world.specs.declared.world.Stepped.TheVariants as stepped
-use Rattle.cg_world.specs.Led.{IsLed}
+use Rattle.cg_world.specs.Led.{IsLedWith}
+use Rattle.cg_world.specs.MadeActions.{with_all}
 use Rattle.cg_world.specs.Steps.{IsEnd, Steps}
+use Rattle.cg_world.proofs.Making.{made-on}
 
-pub led-booked : (w : World) → AlwaysStands → AlwaysBooked → IsLed w → IsBooked w
-led-booked w stands booked led = booked led.chronicle w (stands.beside led.chronicle w led.reached)
+pub led-booked : (w : World) (rows : ℕ → List Action) → AlwaysStands → AlwaysBooked → IsLedWith w rows → IsBooked w
+led-booked w rows stands booked led = booked led.chronicle w (stands.beside led.chronicle w led.reached)
 
-pub led-seated : (w : World) → AlwaysStands → IsLed w → IsSeated w
-led-seated w stands led = IsSeated-beside led.chronicle w (stands.beside led.chronicle w led.reached)
+pub led-seated : (w : World) (rows : ℕ → List Action) → AlwaysStands → IsLedWith w rows → IsSeated w
+led-seated w rows stands led = IsSeated-beside led.chronicle w (stands.beside led.chronicle w led.reached)
 
-pub led-on : (w : World) (e : Event) (g : Going) → AlwaysStands → IsLed w → MayStand w e → (first_refusal w e ≡ None) × (g ≡ happens w e) → IsLed (ended g).world
+pub led-on : (w : World) (e : Event) (g : Going) (rows : ℕ → List Action) → AlwaysStands → AlwaysMadeInBook → IsLedWith w rows → MayStand w e → (first_refusal w e ≡ None) × (g ≡ happens w e) →
+    IsLedWith (ended g).world (with_all rows (newly_made (ended g)))
 unfolding world_step
-led-on w e g stands led may is = subst (λ (h : Going). IsLed (ended h).world) (sym is.1) (record {
-  chronicle = chronicle_step led.chronicle w e;
-  reached = stands.step led.chronicle w e led.reached may is.0;
-})
+led-on w e g rows stands makes led may is =
+    let c = led.chronicle in
+    subst (λ (h : Going). IsLedWith (ended h).world (with_all rows (newly_made (ended h)))) (sym is.1) (record {
+      chronicle = chronicle_step c w e;
+      reached = stands.step c w e led.reached may is.0;
+      made = made-on c (chronicle_step c w e) w (world_step w e) rows led.made (makes c w e led.reached may is.0);
+    })
 
 pub end-steps : (w : World) (e : Event) (g : Going) (s : Stepped) → (first_refusal w e ≡ None) × (g ≡ happens w e) → IsEnd (ended g) s → Steps w e s
 unfolding world_step

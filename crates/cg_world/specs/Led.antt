@@ -1,9 +1,32 @@
--- The worlds that there are.
+-- The worlds that there are, and the made actions that they keep.
+use Rattle.std.specs.Prelude.{◌≡◌, ℕ, List, Contains, length}
+use Rattle.cg_group.specs.EachLaws.{Each}
+use Rattle.cg_base.specs.Cuts.{index_in}
+use Rattle.cg_action.specs.declared.action.Action.{Action}
 use Rattle.cg_agree.specs.World.{World}
 use Rattle.cg_agree.specs.Chronicle.{Chronicle}
 use Rattle.cg_agree.specs.Standing.{IsReached}
+use Rattle.cg_agree.specs.Making.{AreNextOf}
 
 -- admitted events lead to the world from before the start
 pub record IsLed (w : World) : Type 0 where
   pub chronicle : Chronicle
   pub reached : IsReached chronicle w
+
+-- the action stands in the book of a chronicle with which they do
+pub record IsInBook (w : World) (a : Action) : Type 0 where
+  pub chronicle : Chronicle
+  pub reached : IsReached chronicle w
+  pub booked : Contains chronicle.book a
+
+-- of each creator the actions in its row are numbered from 1, as many as were shown as made, and stand in the book
+pub record AreMade (c : Chronicle) (w : World) (rows : ℕ → List Action) : Type 0 where
+  pub count : (p : ℕ) → length (rows p) ≡ index_in w.made p
+  pub numbered : (p : ℕ) → AreNextOf p 0 (rows p)
+  pub booked : (p : ℕ) → Each (Contains c.book) (rows p)
+
+-- admitted events lead to the world, and these are the actions that were shown as made on the way
+pub record IsLedWith (w : World) (rows : ℕ → List Action) : Type 0 where
+  pub chronicle : Chronicle
+  pub reached : IsReached chronicle w
+  pub made : AreMade chronicle w rows

@@ -5,6 +5,7 @@
 //! are counted and where the text goes is left to the program above.
 #![tactic(auto)]
 
+mod made_actions;
 mod state;
 #[cfg(test)]
 mod tests;

@@ -1,9 +1,12 @@
 //! The world, and what is seen of it.
-ghost use Rattle.std.specs.Prelude.{◌≡◌, ◌&&◌, nat_lt, nat_le};
+ghost use Rattle.std.specs.Prelude.{◌≡◌, ◌&&◌, nat_lt, nat_le, is_some, IfSome};
+ghost use Rattle.std.specs.Option.{option_copied};
 ghost use Rattle.cg_base.specs.Cuts.{index_in};
 ghost use Rattle.cg_group.specs.Ready.{ready};
 ghost use Rattle.cg_agree.specs.World.{no_world, up_replicas};
 
+use crate::made_actions::MadeActions;
+use cg_action::Action;
 use cg_agree::facts_stand_beside_each_world;
 use cg_base::{ActionId, IdSet, ReplicaId};
 use cg_events::WorldState;
@@ -14,21 +17,23 @@ use std::marker::Model;
 #[derive(Drop)]
 pub struct World {
     pub(crate) state: WorldState,
+    pub(crate) made: MadeActions,
 }
 
 impl Model for World {
     ghost use Rattle.cg_agree.specs.World.{World};
-    ghost use Rattle.cg_world.specs.Led.{IsLed};
+    ghost use Rattle.cg_world.specs.Led.{IsLedWith};
+    ghost use Rattle.cg_world.specs.MadeActions.{rows_of};
 
     ghost Value = { World };
 
     ghost view = { λ w. w.state };
 
-    ghost invariant = { λ w. IsLed w.state };
+    ghost invariant = { λ w. IsLedWith w.state (rows_of w.made) };
 }
 
 impl World {
-    ghost use Rattle.cg_world.specs.Led.{IsLed};
+    ghost use Rattle.cg_world.specs.Led.{IsLed, IsInBook};
 
     /// The world before its start.
     pub fn new(alloc: Global) -> World
@@ -37,6 +42,7 @@ impl World {
         facts_stand_beside_each_world();
         World {
             state: WorldState::new(alloc),
+            made: MadeActions::new(alloc),
         }
     }
 
@@ -62,12 +68,13 @@ impl World {
         let _state = &self.state;
     }
 
-    /// The action was shown as made: by the law `runs_tell_of_their_worlds` of `cg_agree` exactly where a line `made` of the
-    /// steps that lead here names it. It takes no memory.
-    pub fn made(&self, id: ActionId) -> bool
-        ensures { result ≡ (nat_lt 0 id.index && nat_le id.index (index_in self.now.made id.creator)) }
+    /// The action of this name as it was made. It is None exactly where it wasn't shown as made: by the law
+    /// `runs_tell_of_their_worlds` of `cg_agree` where no line `made` of the steps that lead here names it. It takes no
+    /// memory.
+    pub fn made(&self, id: ActionId) -> Option<&Action>
+        ensures some { is_some (option_copied result) ≡ (nat_lt 0 id.index && nat_le id.index (index_in self.now.made id.creator)) }
+        ensures action { IfSome (option_copied result) (λ a. (a.id ≡ id) × IsInBook self.now a) }
     {
-        let ActionId { creator, index } = id;
-        0 < index && self.state.has_made(creator, index)
+        self.made.get(id)
     }
 }

@@ -4,7 +4,7 @@ ghost use Rattle.cg_agree.specs.SeatLaws.{IsSeated};
 ghost use Rattle.cg_world.specs.Steps.{IsCounted};
 
 use crate::{Stepped, World};
-use cg_action::{CmdList, Query};
+use cg_action::{CmdList, Kind, Query};
 use cg_base::{ActionId, IdSet, ReplicaId, WeightSet};
 use cg_schedule::Event;
 use std::alloc::Global;
@@ -61,6 +61,29 @@ fn ask(alloc: Global, world: World, p: ReplicaId) -> Result<World, Fail>
     take_step(alloc, world, &Event::Request { p, cmds, query })
 }
 
+// the creator's action of this number asks for a count of the keys, and was made with so many greens
+fn is_asked(world: &World, creator: ReplicaId, index: u64, greens: u64) -> bool {
+    match world.made(ActionId { creator, index }) {
+        Some(action) => {
+            action.id.creator == creator
+                && action.id.index == index
+                && action.green_line == greens
+                && is_count(&action.kind)
+        }
+        None => false,
+    }
+}
+
+fn is_count(kind: &Kind) -> bool {
+    match kind {
+        Kind::Update {
+            cmds,
+            query: Some(Query::Count),
+        } => cmds.is_empty(),
+        _ => false,
+    }
+}
+
 #[test]
 fn what_a_lone_member_is_asked_for_is_made(rt: HostRuntime) -> Result<(), Fail> {
     let alloc = rt.alloc();
@@ -69,10 +92,15 @@ fn what_a_lone_member_is_asked_for_is_made(rt: HostRuntime) -> Result<(), Fail> 
     assert!(rt; world.up_replicas().contains(creator));
     let world = hear(alloc, world, creator)?;
     let world = hear(alloc, world, creator)?;
-    assert!(rt; !world.made(ActionId { creator, index: 1 }));
+    assert!(rt; world.made(ActionId { creator, index: 1 }).is_none());
     let world = ask(alloc, world, creator)?;
-    assert!(rt; world.made(ActionId { creator, index: 1 }));
-    assert!(rt; !world.made(ActionId { creator, index: 2 }));
+    assert!(rt; is_asked(&world, creator, 1, 0));
+    assert!(rt; world.made(ActionId { creator, index: 2 }).is_none());
+    let world = hear(alloc, world, creator)?;
+    let world = ask(alloc, world, creator)?;
+    assert!(rt; is_asked(&world, creator, 1, 0));
+    assert!(rt; is_asked(&world, creator, 2, 1));
+    assert!(rt; world.made(ActionId { creator, index: 0 }).is_none());
     drop(world);
     Ok(())
 }

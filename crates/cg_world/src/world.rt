@@ -1,13 +1,18 @@
 //! The step of the world.
-ghost use Rattle.cg_agree.specs.Show.{ended};
+ghost use Rattle.cg_agree.specs.Making.{newly_made};
 ghost use Rattle.cg_agree.specs.Run.{MayStand};
-ghost use Rattle.cg_world.specs.Led.{IsLed};
+ghost use Rattle.cg_agree.specs.Show.{ended};
+ghost use Rattle.cg_world.specs.Led.{IsLedWith};
+ghost use Rattle.cg_world.specs.MadeActions.{rows_of, with_all};
 ghost use Rattle.cg_world.specs.Steps.{IsCounted, IsEnd, Steps};
 
 use crate::World;
-use cg_agree::{actions_stand_in_one_book, facts_stand_beside_each_world};
+use crate::made_actions::MadeActions;
+use cg_agree::{
+    actions_stand_in_one_book, facts_stand_beside_each_world, made_actions_stand_in_the_book,
+};
 use cg_base::NoMemory;
-use cg_events::{Going, Happened, happen};
+use cg_events::{Going, Happened, WorldState, happen};
 use cg_group::Reason;
 use cg_report::Entry;
 use cg_schedule::Event;
@@ -31,28 +36,52 @@ impl World {
     {
         facts_stand_beside_each_world();
         actions_stand_in_one_book();
-        let World { state } = self;
+        made_actions_stand_in_the_book();
+        let World { state, made } = self;
         match happen(alloc, state, event) {
-            Happened::Done(going) => finish(going),
+            Happened::Done(going) => finish(alloc, made, going),
             Happened::Refused { state, reason } => Stepped::Refused {
-                world: World { state },
+                world: World { state, made },
                 reason,
             },
-            Happened::NoMemory => Stepped::NoMemory,
+            Happened::NoMemory => {
+                drop(made);
+                Stepped::NoMemory
+            }
         }
     }
 }
 
 // the event ends in a world to which it leads
-fn finish(going: Going) -> Stepped
-    requires { IsLed (ended going).world }
+fn finish(alloc: Global, made: MadeActions, going: Going) -> Stepped
+    requires { IsLedWith (ended going).world (with_all (rows_of made) (newly_made (ended going))) }
     ensures { IsEnd (ended going) result }
 {
     match going.finish() {
-        Ok((entry, state)) => Stepped::Done {
-            world: World { state },
+        Ok((entry, state)) => keep(alloc, made, entry, state),
+        Err(NoMemory) => {
+            drop(made);
+            Stepped::NoMemory
+        }
+    }
+}
+
+// what its step shows as made is kept
+fn keep(alloc: Global, made: MadeActions, entry: Entry, state: WorldState) -> Stepped
+    requires { IsLedWith state (with_all (rows_of made) (newly_made (record { entry = entry; world = state }))) }
+    ensures { IsEnd (record { entry = entry; world = state }) result }
+{
+    let mut made = made;
+    match made.add_all(alloc, &state, entry.made.as_slice()) {
+        Ok(()) => Stepped::Done {
+            world: World { state, made },
             entry,
         },
-        Err(NoMemory) => Stepped::NoMemory,
+        Err(NoMemory) => {
+            drop(made);
+            drop(entry);
+            drop(state);
+            Stepped::NoMemory
+        }
     }
 }

@@ -1,30 +1,36 @@
 use Rattle.std.proofs.Common.{sym, subst}
 use Rattle.cg_agree.specs.World.{World}
 use Rattle.cg_agree.specs.Run.{MayStand}
+use Rattle.cg_world.specs.MadeActions.{rows_of}
 use Rattle.cg_world.specs.Steps.{Steps}
 use Rattle.cg_events.specs.GroundLaws.{ComesFirst-stands}
 use Rattle.cg_world.proofs.state.World.step.Goals as goal
 use Rattle.cg_world.proofs.Leading.{led-booked, led-seated, led-on, end-steps}
 
--- src/world.rt:36:15
+-- src/world.rt:42:15
 pub happen-requires-clause-booked : goal.happen-requires-clause-booked
-happen-requires-clause-booked c = led-booked c.self.inside.state c.facts_stand_beside_each_world.ensures c.actions_stand_in_one_book.ensures c.self.invariant
+happen-requires-clause-booked c =
+    let w = c.self.inside in
+    led-booked w.state (rows_of w.made) c.facts_stand_beside_each_world.ensures c.actions_stand_in_one_book.ensures c.self.invariant
 
 pub happen-requires-clause-seated : goal.happen-requires-clause-seated
-happen-requires-clause-seated c = led-seated c.self.inside.state c.facts_stand_beside_each_world.ensures c.self.invariant
+happen-requires-clause-seated c =
+    let w = c.self.inside in
+    led-seated w.state (rows_of w.made) c.facts_stand_beside_each_world.ensures c.self.invariant
 
 pub happen-requires-clause-first : goal.happen-requires-clause-first
 happen-requires-clause-first c =
     let stands = subst (λ (w : World). MayStand w c.args.event.now) (sym c.self.view_is) c.requires.stands in
     ComesFirst-stands c.self.inside.state c.args.event.now stands
 
--- src/world.rt:37:38
+-- src/world.rt:43:38
 pub finish-requires : goal.finish-requires
 finish-requires c =
+    let w = c.self.inside in
     let stands = subst (λ (w : World). MayStand w c.args.event.now) (sym c.self.view_is) c.requires.stands in
-    led-on c.self.inside.state c.args.event.now c.in-Done.going c.facts_stand_beside_each_world.ensures c.self.invariant stands c.in-Done.ensures
+    led-on w.state c.args.event.now c.in-Done.going (rows_of w.made) c.facts_stand_beside_each_world.ensures c.made_actions_stand_in_the_book.ensures c.self.invariant stands c.in-Done.ensures
 
--- src/world.rt:28:5
+-- src/world.rt:33:5
 pub returns-in-Done : goal.returns-in-Done
 returns-in-Done c =
     subst (λ (w : World). Steps w c.args.event.now c.finish.result) c.self.view_is

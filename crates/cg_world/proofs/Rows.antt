@@ -1,0 +1,59 @@
+-- Rows at places.
+use Rattle.std.proofs.Common.{◌≡◌, ℕ, zero, suc, ◌<◌, ◌≤◌, ◌≢◌, List, [], ◌∷◌, ◌++◌, length, set, get_or, None, slice_get, refl, sym, ap, ◌∙◌, arith, inl, inr, eq-eqb}
+use Rattle.std.specs.Prelude.{◌==◌}
+use Rattle.std.proofs.lemmas.Bool.{cases_eq, cond-true, cond-false, ne_eqb}
+use Rattle.cg_base.specs.Lists.{at_place}
+use Rattle.cg_action.specs.declared.action.Action.{Action}
+use Rattle.cg_world.specs.MadeActions.{row_at, with_made}
+
+pub row-behind : (rows : List (List Action)) (k : ℕ) → length rows ≤ k → row_at rows k ≡ []
+row-behind [] k le = refl
+row-behind (row ∷ rows) zero le = absurd (omega arith)
+row-behind (row ∷ rows) (suc k) le = row-behind rows k (omega arith)
+
+pub row-there : (rows : List (List Action)) (k : ℕ) (row : List Action) → k < length rows → row_at rows k ≡ get_or rows k row
+row-there [] k row less = absurd (omega arith)
+row-there (r ∷ rows) zero row less = refl
+row-there (r ∷ rows) (suc k) row less = row-there rows k row (omega arith)
+
+pub row-append : (rows : List (List Action)) (row : List Action) (k : ℕ) → row ≡ [] → row_at (rows ++ row ∷ []) k ≡ row_at rows k
+row-append [] row zero none = none
+row-append [] row (suc k) none = refl
+row-append (r ∷ rows) row zero none = refl
+row-append (r ∷ rows) row (suc k) none = row-append rows row k none
+
+set-here : (rows : List (List Action)) (place : ℕ) (row : List Action) → place < length rows → row_at (set rows place row) place ≡ row
+set-here [] place row less = absurd (omega arith)
+set-here (r ∷ rows) zero row less = refl
+set-here (r ∷ rows) (suc place) row less = set-here rows place row (omega arith)
+
+set-other : (rows : List (List Action)) (place : ℕ) (row : List Action) (k : ℕ) → place ≢ k → row_at (set rows place row) k ≡ row_at rows k
+set-other [] place row k apart = refl
+set-other (r ∷ rows) zero row zero apart = absurd (apart refl)
+set-other (r ∷ rows) zero row (suc k) apart = refl
+set-other (r ∷ rows) (suc place) row zero apart = refl
+set-other (r ∷ rows) (suc place) row (suc k) apart = set-other rows place row k (λ e. apart (ap suc e))
+
+-- its creator's row is written with one action more
+pub row-with : (rows : List (List Action)) (a : Action) (place : ℕ) (row : List Action) → place ≡ a.id.creator → place < length rows → row ≡ row_at rows place ++ a ∷ [] → row_at (set rows place row) ≡ with_made (row_at rows) a
+row-with rows a place row own less is = λ i k. (at k) i where
+  at : (k : ℕ) → row_at (set rows place row) k ≡ with_made (row_at rows) a k
+  at k = elim (cases_eq a.id.creator k) [
+    | inl mine ↦ ap (row_at (set rows place row)) (sym (own ∙ mine)) ∙ set-here rows place row less ∙ is ∙ ap (λ n. row_at rows n ++ a ∷ []) (own ∙ mine)
+        ∙ sym (cond-true (a.id.creator == k) (row_at rows k ++ a ∷ []) (row_at rows k) (eq-eqb a.id.creator k mine))
+    | inr other ↦ set-other rows place row k (λ e. other (sym own ∙ e)) ∙ sym (cond-false (a.id.creator == k) (row_at rows k ++ a ∷ []) (row_at rows k) (ne_eqb a.id.creator k other))
+  ]
+
+pub same-rows : (rows others : List (List Action)) → ((p : ℕ) → row_at rows p ≡ row_at others p) → row_at rows ≡ row_at others
+same-rows rows others same = λ i p. same p i
+
+-- ---- what is looked up
+
+pub none-at : (row : List Action) (n : ℕ) → row ≡ [] → None ≡ at_place row n
+none-at row n none = at n ∙ ap (λ (xs : List Action). at_place xs n) (sym none) where
+  at : (n : ℕ) → None ≡ at_place {X = Action} [] n
+  at zero = refl
+  at (suc n) = refl
+
+pub first-at : (row : List Action) (n k : ℕ) → n ≡ suc k → slice_get row k ≡ at_place row n
+first-at row n k is = ap (at_place row) (sym is)

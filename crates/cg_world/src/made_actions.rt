@@ -1,0 +1,102 @@
+//! The actions that were shown as made.
+ghost use Rattle.std.specs.Prelude.{◌≡◌, ◌≤◌, ◌<◌, ℕ, [], map, slice_get, vec_len, IfOk, OnOk};
+ghost use Rattle.std.specs.Option.{option_copied};
+ghost use Rattle.cg_agree.specs.Making.{made_as};
+ghost use Rattle.cg_world.specs.MadeActions.{row_at, rows_of, with_made, with_all, action_at};
+
+use cg_action::{Action, ActionList};
+use cg_base::{ActionId, NoMemory, Row};
+use cg_events::WorldState;
+use cg_report::Made;
+use std::alloc::Global;
+
+/// Of each creator its made actions, the one with number 1 first.
+#[derive(Drop)]
+pub(crate) struct MadeActions {
+    // a creator behind the last of these has made none
+    rows: Vec<ActionList>,
+}
+
+impl MadeActions {
+    /// Nothing was made yet.
+    pub(crate) fn new(alloc: Global) -> MadeActions
+        ensures { (p : ℕ) → rows_of result p ≡ [] }
+    {
+        MadeActions {
+            rows: Vec::new(alloc),
+        }
+    }
+
+    /// The action of this name, where it was made. It takes no memory.
+    pub(crate) fn get(&self, id: ActionId) -> Option<&Action>
+        ensures { option_copied result ≡ action_at (rows_of self.now) id }
+    {
+        let ActionId { creator, index } = id;
+        if index == 0 {
+            return None;
+        }
+        let place = creator.get() as usize;
+        if self.rows.len() <= place {
+            return None;
+        }
+        self.rows[place].get((index - 1) as usize)
+    }
+
+    /// What the step to this world shows as made is made too. An action's green line is its creator's position there.
+    pub(crate) fn add_all(
+        &mut self,
+        alloc: Global,
+        state: &WorldState,
+        list: &[Made],
+    ) -> Result<(), NoMemory>
+        ensures { OnOk result (rows_of self.new ≡ with_all (rows_of self.old) (map (made_as state.now) list.now)) }
+    {
+        for m in list {
+            self.push(action_of(alloc, state, m)?)?;
+        }
+        Ok(())
+    }
+
+    // The action is its creator's last one.
+    fn push(&mut self, a: Action) -> Result<(), NoMemory>
+        ensures { OnOk result (rows_of self.new ≡ with_made (rows_of self.old) a) }
+    {
+        let place = place_of(&a);
+        grow(&mut self.rows, place)?;
+        self.rows[place].push(a)?;
+        Ok(())
+    }
+}
+
+fn place_of(a: &Action) -> usize
+    ensures place { result ≡ a.now.id.creator }
+    ensures small { result ≤ 32 }
+{
+    a.id.creator.get() as usize
+}
+
+// There are rows up to this place; all but those that were there are empty.
+fn grow(rows: &mut Vec<ActionList>, place: usize) -> Result<(), NoMemory>
+    requires { place ≤ 32 }
+    ensures same { (p : ℕ) → row_at rows.new.items p ≡ row_at rows.old.items p }
+    ensures ok { OnOk result (place < vec_len rows.new) }
+{
+    while rows.len() <= place {
+        let alloc = *rows.allocator();
+        rows.push(Row::new(alloc))?;
+    }
+    Ok(())
+}
+
+// The action as it was made, in the step that leads to this world.
+fn action_of(alloc: Global, state: &WorldState, m: &Made) -> Result<Action, NoMemory>
+    ensures { IfOk result (λ a. a ≡ made_as state.now m.now) }
+{
+    let kind = m.kind.copy(alloc)?;
+    let green_line = state.printed_position(m.id.creator);
+    Ok(Action {
+        id: m.id,
+        green_line,
+        kind,
+    })
+}
