@@ -1,2 +1,1 @@
-mod Booking
 mod Falling

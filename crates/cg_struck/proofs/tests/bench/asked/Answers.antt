@@ -1,4 +1,4 @@
-use Rattle.cg_struck.proofs.Booking.{any_book}
+use Rattle.cg_struck.specs.BookingLaws.{any_book}
 use Rattle.cg_struck.proofs.tests.bench.asked.Goals as goal
 
 -- src/tests/bench.rt: a request brings no action

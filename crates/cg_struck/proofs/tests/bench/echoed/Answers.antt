@@ -4,7 +4,7 @@ use Rattle.cg_base.specs.declared.action_id.ActionId.{ActionId}
 use Rattle.cg_step.specs.Recorded.{AreBooked}
 use Rattle.cg_replica.specs.declared.input.Input.{Input}
 use Rattle.cg_replica.specs.Inputs.{input_of}
-use Rattle.cg_struck.proofs.Booking.{awaited-booked, same-awaited}
+use Rattle.cg_struck.specs.BookingLaws.{awaited-booked, same-awaited}
 use Rattle.cg_struck.proofs.tests.bench.echoed.Goals as goal
 
 pub handled-requires-clause-booked : goal.handled-requires-clause-booked

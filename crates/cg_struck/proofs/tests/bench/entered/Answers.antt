@@ -1,4 +1,4 @@
-use Rattle.cg_struck.proofs.Booking.{if-one-booked}
+use Rattle.cg_struck.specs.BookingLaws.{if-one-booked}
 use Rattle.cg_struck.proofs.tests.bench.entered.Goals as goal
 
 pub returns-clause-booked : goal.returns-clause-booked

@@ -1,4 +1,4 @@
-use Rattle.cg_struck.proofs.Booking.{free-booked}
+use Rattle.cg_struck.specs.BookingLaws.{free-booked}
 use Rattle.cg_struck.proofs.tests.bench.happens.Goals as goal
 
 pub handled-requires-clause-booked : goal.handled-requires-clause-booked

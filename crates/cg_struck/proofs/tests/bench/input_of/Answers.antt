@@ -1,4 +1,4 @@
-use Rattle.cg_struck.proofs.Booking.{if-one-booked}
+use Rattle.cg_struck.specs.BookingLaws.{if-one-booked}
 use Rattle.cg_struck.proofs.tests.bench.input_of.Goals as goal
 
 pub returns-in_default-clause-booked : goal.returns-in_default-clause-booked

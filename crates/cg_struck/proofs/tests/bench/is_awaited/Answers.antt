@@ -3,7 +3,7 @@ use Rattle.cg_action.specs.declared.action.Action.{Action}
 use Rattle.cg_action.specs.Limits.{IsAction}
 use Rattle.cg_wire.specs.declared.message.Msg.TheVariants.{Action as ActionMsg}
 use Rattle.cg_wire.specs.Reading.{message_in}
-use Rattle.cg_struck.proofs.Booking.{only-one}
+use Rattle.cg_struck.specs.BookingLaws.{only-one}
 use Rattle.cg_struck.proofs.tests.bench.is_awaited.Goals as goal
 
 pub returns-in-Ok : goal.returns-in-Ok

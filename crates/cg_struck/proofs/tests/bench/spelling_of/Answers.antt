@@ -1,6 +1,6 @@
 use Rattle.std.proofs.Common.{ℕ, List, ◌∷◌, ◌++◌, [], ap, sym, ◌∙◌}
 use Rattle.cg_action.specs.Bytes.{spelled_action}
-use Rattle.cg_struck.proofs.Booking.{said-action}
+use Rattle.cg_struck.specs.BookingLaws.{said-action}
 use Rattle.cg_struck.proofs.tests.bench.spelling_of.Goals as goal
 
 pub returns : goal.returns
