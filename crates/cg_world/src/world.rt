@@ -1,13 +1,14 @@
 //! The step of the world.
 ghost use Rattle.cg_agree.specs.Show.{ended};
 ghost use Rattle.cg_agree.specs.Run.{MayStand};
+ghost use Rattle.cg_agree.specs.Touched.{ShowsNewsOf};
 ghost use Rattle.cg_world.specs.Led.{IsLed};
 ghost use Rattle.cg_world.specs.Steps.{IsCounted, IsEnd, Steps};
 
 use crate::World;
-use cg_agree::{actions_stand_in_one_book, facts_stand_beside_each_world};
-use cg_base::NoMemory;
-use cg_events::{Going, Happened, happen};
+use cg_agree::{actions_stand_in_one_book, facts_stand_beside_each_world, others_show_nothing_new};
+use cg_base::{IdSet, NoMemory};
+use cg_events::{Going, Happened, happen, touched};
 use cg_group::Reason;
 use cg_report::Entry;
 use cg_schedule::Event;
@@ -31,9 +32,10 @@ impl World {
     {
         facts_stand_beside_each_world();
         actions_stand_in_one_book();
+        others_show_nothing_new();
         let World { state } = self;
         match happen(alloc, state, event) {
-            Happened::Done(going) => finish(going),
+            Happened::Done(going) => finish(going, &touched(event)),
             Happened::Refused { state, reason } => Stepped::Refused {
                 world: World { state },
                 reason,
@@ -43,12 +45,13 @@ impl World {
     }
 }
 
-// the event ends in a world to which it leads
-fn finish(going: Going) -> Stepped
-    requires { IsLed (ended going).world }
+// the event ends in a world to which it leads, and nothing is new of replicas that it doesn't touch
+fn finish(going: Going, touched: &IdSet) -> Stepped
+    requires led { IsLed (ended going).world }
+    requires news { ShowsNewsOf touched.now going.world }
     ensures { IsEnd (ended going) result }
 {
-    match going.finish() {
+    match going.finish(touched) {
         Ok((entry, state)) => Stepped::Done {
             world: World { state },
             entry,

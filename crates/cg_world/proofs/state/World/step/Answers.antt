@@ -4,7 +4,7 @@ use Rattle.cg_agree.specs.Run.{MayStand}
 use Rattle.cg_world.specs.Steps.{Steps}
 use Rattle.cg_events.specs.GroundLaws.{ComesFirst-stands}
 use Rattle.cg_world.proofs.state.World.step.Goals as goal
-use Rattle.cg_world.proofs.Leading.{led-booked, led-seated, led-on, end-steps}
+use Rattle.cg_world.proofs.Leading.{led-booked, led-seated, led-on, led-news, end-steps}
 
 -- src/world.rt:36:15
 pub happen-requires-clause-booked : goal.happen-requires-clause-booked
@@ -19,10 +19,15 @@ happen-requires-clause-first c =
     ComesFirst-stands c.self.inside.state c.args.event.now stands
 
 -- src/world.rt:37:38
-pub finish-requires : goal.finish-requires
-finish-requires c =
+pub finish-requires-clause-led : goal.finish-requires-clause-led
+finish-requires-clause-led c =
     let stands = subst (λ (w : World). MayStand w c.args.event.now) (sym c.self.view_is) c.requires.stands in
     led-on c.self.inside.state c.args.event.now c.in-Done.going c.facts_stand_beside_each_world.ensures c.self.invariant stands c.in-Done.ensures
+
+pub finish-requires-clause-news : goal.finish-requires-clause-news
+finish-requires-clause-news c =
+    let stands = subst (λ (w : World). MayStand w c.args.event.now) (sym c.self.view_is) c.requires.stands in
+    led-news c.self.inside.state c.args.event.now c.in-Done.going c.touched.result c.others_show_nothing_new.ensures c.self.invariant stands c.in-Done.ensures c.touched.ensures
 
 -- src/world.rt:28:5
 pub returns-in-Done : goal.returns-in-Done
