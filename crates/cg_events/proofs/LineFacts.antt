@@ -1,25 +1,35 @@
 -- The lines that are news, gathered seat by seat.
-use Rattle.std.proofs.Common.{◌≡◌, List, [], ◌∷◌, ◌++◌, filter, map, fold, sym, ap, ◌∙◌, ⊎_elim, append_assoc}
+use Rattle.std.proofs.Common.{◌≡◌, ℕ, List, [], ◌∷◌, ◌++◌, filter, map, fold, sym, ap, ◌∙◌, ⊎_elim, append_assoc}
 use Rattle.std.proofs.lemmas.List.{append-nil}
 use Rattle.std.proofs.lemmas.Bool.{cases_Bool, cond-true, cond-false}
+use Rattle.cg_base.specs.Sets.{has}
 use Rattle.cg_base.specs.SetLaws.{filter-keeps, filter-drops}
 use Rattle.cg_report.specs.declared.line.Line.{Line}
 use Rattle.cg_agree.specs.World.{Seat, World}
 use Rattle.cg_agree.specs.Show.{is_news, line_of}
-use Rattle.cg_events.specs.Going.{with_line}
+use Rattle.cg_events.specs.Going.{with_news, with_line}
 
-pub lines-gathered : (w : World) (seats : List Seat) (lines : List Line) →
-    fold (with_line w) lines seats ≡ lines ++ filter (is_news w.lines) (map (line_of w.group) seats)
-lines-gathered w [] lines = sym (append-nil lines)
-lines-gathered w (s ∷ seats) lines =
+pub lines-gathered : (set : List ℕ) (w : World) (seats : List Seat) (lines : List Line) →
+    fold (with_line set w) lines seats ≡ lines ++ filter (is_news w.lines) (map (line_of w.group) (filter (λ s. has set s.id) seats))
+lines-gathered set w [] lines = sym (append-nil lines)
+lines-gathered set w (s ∷ seats) lines =
     let l = line_of w.group s in
-    let rest : List Line = filter (is_news w.lines) (map (line_of w.group) seats) in
+    let kept : List Seat = filter (λ (s : Seat). has set s.id) seats in
+    let news : List Seat → List Line = λ list. filter (is_news w.lines) (map (line_of w.group) list) in
     ⊎_elim
-    (λ y. ap (λ z. fold (with_line w) z seats) (cond-true (is_news w.lines l) (lines ++ l ∷ []) lines y)
-    ∙ lines-gathered w seats (lines ++ l ∷ [])
-    ∙ append_assoc lines (l ∷ []) rest
-    ∙ ap (λ z. lines ++ z) (sym (filter-keeps (is_news w.lines) l (map (line_of w.group) seats) y)))
-    (λ n. ap (λ z. fold (with_line w) z seats) (cond-false (is_news w.lines l) (lines ++ l ∷ []) lines n)
-    ∙ lines-gathered w seats lines
-    ∙ ap (λ z. lines ++ z) (sym (filter-drops (is_news w.lines) l (map (line_of w.group) seats) n)))
-    (cases_Bool (is_news w.lines l))
+    (λ inside.
+    let all : news (filter (λ (s : Seat). has set s.id) (s ∷ seats)) ≡ news (s ∷ kept) = ap news (filter-keeps (λ (s : Seat). has set s.id) s seats inside) in
+    ap (λ z. fold (with_line set w) z seats) (cond-true (has set s.id) (with_news w.lines lines l) lines inside)
+    ∙ ⊎_elim
+    (λ y. ap (λ z. fold (with_line set w) z seats) (cond-true (is_news w.lines l) (lines ++ l ∷ []) lines y)
+    ∙ lines-gathered set w seats (lines ++ l ∷ [])
+    ∙ append_assoc lines (l ∷ []) (news kept)
+    ∙ ap (λ z. lines ++ z) (sym (all ∙ filter-keeps (is_news w.lines) l (map (line_of w.group) kept) y)))
+    (λ n. ap (λ z. fold (with_line set w) z seats) (cond-false (is_news w.lines l) (lines ++ l ∷ []) lines n)
+    ∙ lines-gathered set w seats lines
+    ∙ ap (λ z. lines ++ z) (sym (all ∙ filter-drops (is_news w.lines) l (map (line_of w.group) kept) n)))
+    (cases_Bool (is_news w.lines l)))
+    (λ outside. ap (λ z. fold (with_line set w) z seats) (cond-false (has set s.id) (with_news w.lines lines l) lines outside)
+    ∙ lines-gathered set w seats lines
+    ∙ ap (λ list. lines ++ news list) (sym (filter-drops (λ (s : Seat). has set s.id) s seats outside)))
+    (cases_Bool (has set s.id))

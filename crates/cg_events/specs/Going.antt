@@ -1,5 +1,6 @@
 -- The parts of an event on the way.
 use Rattle.std.specs.Prelude.{ℕ, ◌==◌, not, List, ◌++◌, Option, Some, None, filter, if◌then◌else◌, [], ◌∷◌}
+use Rattle.cg_base.specs.Sets.{has}
 use Rattle.cg_wire.specs.declared.message.Msg.{Msg}
 use Rattle.cg_report.specs.declared.line.Line.{Line}
 use Rattle.cg_group.specs.Events.{send_all, go_down}
@@ -31,6 +32,6 @@ comes_back g (s, None) = record g { world = fallen (seated g.world s) s.id }
 abbrev pub with_news : List Line → List Line → Line → List Line
 with_news old lines l = if is_news old l then lines ++ l ∷ [] else lines
 
--- the line of a replica too, where it is news
-abbrev pub with_line : World → List Line → Seat → List Line
-with_line w lines s = with_news w.lines lines (line_of w.group s)
+-- the line of a replica too, where it is one of these and its line is news
+abbrev pub with_line : List ℕ → World → List Line → Seat → List Line
+with_line set w lines s = if has set s.id then with_news w.lines lines (line_of w.group s) else lines

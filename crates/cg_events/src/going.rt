@@ -9,12 +9,13 @@ ghost use Rattle.cg_step.specs.Step.{Deliveries, Asks};
 ghost use Rattle.cg_agree.specs.World.{replica_of};
 ghost use Rattle.cg_agree.specs.Step.{quietly, hand, hand_over};
 ghost use Rattle.cg_agree.specs.Standing.{IsHandedBooked, AreBookedInTurn};
+ghost use Rattle.cg_agree.specs.Touched.{ShowsNewsOf};
 ghost use Rattle.cg_seat.specs.Calls.{taken, IsBookedFor};
 ghost use Rattle.cg_events.specs.Going.{sending, seated, comes_back};
 ghost use Rattle.cg_agree.specs.Show.{ended, ended_with, tell};
 
 use crate::WorldState;
-use cg_base::{NoMemory, ReplicaId, Row};
+use cg_base::{IdSet, NoMemory, ReplicaId, Row};
 use cg_client::Request;
 use cg_group::{Delivery, Handed};
 use cg_letter::Letter;
@@ -141,12 +142,14 @@ impl Going {
     }
 
     /// The event ends: what it shows, with the lines that differ from the last printed ones, and the world behind it.
+    /// They are looked for at these replicas alone, since nothing is new of others.
     #[tactic(auto, unfolding(cg_agree::specs::Show::ended))]
-    pub fn finish(self) -> Result<(Entry, WorldState), NoMemory>
+    pub fn finish(self, touched: &IdSet) -> Result<(Entry, WorldState), NoMemory>
+        requires { ShowsNewsOf touched.now self.world }
         ensures { IfOk result (λ x. record { entry = x.0; world = x.1 } ≡ ended self) }
     {
         let Going { state, showing } = self;
-        match state.new_lines() {
+        match state.new_lines_of(touched) {
             Ok(lines) => end_with(state, showing, lines),
             Err(NoMemory) => {
                 drop(state);

@@ -1,7 +1,7 @@
 //! What each event does to the group and to the replicas, and what of it is to be shown.
 //!
-//! A `WorldState` is the world of `cg_agree`'s definitions; an event on the way is its `Going`. The one contract: `happen` is
-//! `happens`, or the first refusal.
+//! A `WorldState` is the world of `cg_agree`'s definitions; an event on the way is its `Going`. The one contract:
+//! `happen` is `happens`, or the first refusal.
 #![tactic(auto)]
 
 mod admission;
@@ -17,6 +17,7 @@ mod querying;
 mod seats;
 mod state;
 mod striking;
+mod touching;
 mod transfers;
 
 pub use event::happen;
@@ -24,4 +25,5 @@ pub use going::Going;
 pub use happened::Happened;
 pub use seats::Seats;
 pub use state::WorldState;
+pub use touching::touched;
 pub use transfers::Transfers;

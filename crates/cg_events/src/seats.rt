@@ -96,7 +96,8 @@ impl Seats {
         up
     }
 
-    /// The seat comes in the place of the replica's earlier one, or is a new one. After want of memory the replica has none.
+    /// The seat comes in the place of the replica's earlier one, or is a new one. After want of memory the replica
+    /// has none.
     pub fn put(&mut self, seat: Seat) -> Result<(), NoMemory>
         ensures { OnOk result (self.new ≡ with_seat self.old seat) }
     {
@@ -104,17 +105,8 @@ impl Seats {
         self.add(seat)
     }
 
-    /// The replica's seat is taken out, where it has begun. It takes no memory.
+    /// The replica's seat is taken out, where it has begun: then there is none. It takes no memory.
     pub fn take(&mut self, p: ReplicaId) -> Option<Seat>
-        ensures { MatchOption result
-            ((find (λ s. s.id == p) self.old ≡ None) × (self.new ≡ self.old))
-            (λ s. (find (λ t. t.id == p) self.old ≡ Some s) × ((t : SeatView) → t.id ≡ p → with_seat self.new t ≡ with_seat self.old t)) }
-    {
-        self.take_out(p)
-    }
-
-    // The replica's seat is taken out, where it has begun: then there is none.
-    fn take_out(&mut self, p: ReplicaId) -> Option<Seat>
         ensures taken { MatchOption result
             ((find (λ s. s.id == p) self.old ≡ None) × (self.new ≡ self.old))
             (λ s. (find (λ t. t.id == p) self.old ≡ Some s) × ((t : SeatView) → t.id ≡ p → with_seat self.new t ≡ with_seat self.old t)) }
@@ -131,7 +123,7 @@ impl Seats {
         ensures put { (t : SeatView) → t.id ≡ p → with_seat self.new t ≡ with_seat self.old t }
         ensures away { find (λ s. s.id == p) self.new ≡ None }
     {
-        match self.take_out(p) {
+        match self.take(p) {
             Some(seat) => drop(seat),
             None => {}
         }

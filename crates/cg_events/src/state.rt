@@ -6,8 +6,9 @@ ghost use Rattle.cg_members.specs.Servers.{is_server};
 ghost use Rattle.cg_group.specs.Ready.{ready};
 ghost use Rattle.cg_group.specs.Events.{send_all};
 ghost use Rattle.cg_agree.specs.World.{Life, no_world, running, seat_of, set_life, has_begun, replica_of, is_left, left_replicas, up_replicas};
-ghost use Rattle.cg_agree.specs.Show.{line_of, new_lines};
-ghost use Rattle.cg_events.specs.Going.{said, with_news};
+ghost use Rattle.cg_agree.specs.Show.{line_of};
+ghost use Rattle.cg_agree.specs.Touched.{new_lines_of};
+ghost use Rattle.cg_events.specs.Going.{said, with_news, with_line};
 ghost use Rattle.cg_events.specs.Seating.{with_left};
 
 use crate::{Seats, Transfers};
@@ -20,8 +21,8 @@ use cg_show::Lines;
 use std::alloc::Global;
 use std::marker::Model;
 
-/// The group; the replicas that have begun; the snapshots under way; the global order of actions; the last printed line of each replica; the cut of
-/// the actions that were shown as made; and the replicas that were named.
+/// The group; the replicas that have begun; the snapshots under way; the global order of actions; the last printed
+/// line of each replica; the cut of the actions that were shown as made; and the replicas that were named.
 #[derive(Drop)]
 pub struct WorldState {
     pub(crate) group: Group<Letter>,
@@ -193,16 +194,31 @@ impl WorldState {
         }
     }
 
-    // The lines that differ from the last printed ones, ascending by replica.
-    pub(crate) fn new_lines(&self) -> Result<Row<Line>, NoMemory>
-        ensures { IfOk result (λ lines. lines ≡ new_lines self.now) }
+    // Of these replicas the lines that differ from the last printed ones, ascending by replica.
+    pub(crate) fn new_lines_of(&self, set: &IdSet) -> Result<Row<Line>, NoMemory>
+        ensures { IfOk result (λ lines. lines ≡ new_lines_of set.now self.now) }
     {
         let mut lines = Row::new(self.seats.alloc());
         for seat in self.seats.as_slice() {
-            let line = self.line(seat)?;
-            lines = add_news(&self.lines, lines, line)?;
+            lines = self.add_line(set, lines, seat)?;
         }
         Ok(lines)
+    }
+
+    // The line of the replica too, where it is one of these and its line is news.
+    fn add_line(&self, set: &IdSet, lines: Row<Line>, seat: &Seat) -> Result<Row<Line>, NoMemory>
+        ensures { IfOk result (λ all. all ≡ with_line set.now self.now lines seat.now) }
+    {
+        if !set.contains(seat.id()) {
+            return Ok(lines);
+        }
+        match self.line(seat) {
+            Ok(line) => add_news(&self.lines, lines, line),
+            Err(NoMemory) => {
+                drop(lines);
+                Err(NoMemory)
+            }
+        }
     }
 
     fn line(&self, seat: &Seat) -> Result<Line, NoMemory>

@@ -12,6 +12,7 @@ use Rattle.cg_agree.specs.Step.{happens, world_step}
 use Rattle.cg_agree.specs.Noting.{chronicle_step}
 use Rattle.cg_agree.specs.Making.{newly_made, AlwaysMadeInBook}
 use Rattle.cg_agree.specs.Standing.{AlwaysStands, AlwaysBooked, IsBooked}
+use Rattle.cg_agree.specs.Touched.{touched, ShowsNewsOf, OthersShowNothingNew}
 use Rattle.cg_world.specs.declared.world.Stepped.{Stepped}
 use Rattle.cg_world.specs.declared.world.Stepped.TheVariants as stepped
 use Rattle.cg_world.specs.Led.{IsLedWith}
@@ -35,6 +36,12 @@ led-on w e g rows stands makes led may is =
       reached = stands.step c w e led.reached may is.0;
       made = made-on c (chronicle_step c w e) w (world_step w e) rows led.made (makes c w e led.reached may is.0);
     })
+
+pub led-news : (w : World) (e : Event) (g : Going) (rows : ℕ → List Action) (set : List ℕ) → OthersShowNothingNew → IsLedWith w rows → MayStand w e → (first_refusal w e ≡ None) × (g ≡ happens w e) →
+    set ≡ touched e → ShowsNewsOf set g.world
+led-news w e g rows set others led may is same =
+    subst (λ (h : Going). ShowsNewsOf set h.world) (sym is.1)
+    (subst (λ (list : List ℕ). ShowsNewsOf list (happens w e).world) (sym same) (others led.chronicle w e led.reached may is.0))
 
 pub end-steps : (w : World) (e : Event) (g : Going) (s : Stepped) → (first_refusal w e ≡ None) × (g ≡ happens w e) → IsEnd (ended g) s → Steps w e s
 unfolding world_step

@@ -2,6 +2,7 @@
 ghost use Rattle.cg_agree.specs.Making.{newly_made};
 ghost use Rattle.cg_agree.specs.Run.{MayStand};
 ghost use Rattle.cg_agree.specs.Show.{ended};
+ghost use Rattle.cg_agree.specs.Touched.{ShowsNewsOf};
 ghost use Rattle.cg_world.specs.Led.{IsLedWith};
 ghost use Rattle.cg_world.specs.MadeActions.{rows_of, with_all};
 ghost use Rattle.cg_world.specs.Steps.{IsCounted, IsEnd, Steps};
@@ -10,9 +11,10 @@ use crate::World;
 use crate::made_actions::MadeActions;
 use cg_agree::{
     actions_stand_in_one_book, facts_stand_beside_each_world, made_actions_stand_in_the_book,
+    others_show_nothing_new,
 };
-use cg_base::NoMemory;
-use cg_events::{Going, Happened, WorldState, happen};
+use cg_base::{IdSet, NoMemory};
+use cg_events::{Going, Happened, WorldState, happen, touched};
 use cg_group::Reason;
 use cg_report::Entry;
 use cg_schedule::Event;
@@ -37,9 +39,10 @@ impl World {
         facts_stand_beside_each_world();
         actions_stand_in_one_book();
         made_actions_stand_in_the_book();
+        others_show_nothing_new();
         let World { state, made } = self;
         match happen(alloc, state, event) {
-            Happened::Done(going) => finish(alloc, made, going),
+            Happened::Done(going) => finish(alloc, made, going, &touched(event)),
             Happened::Refused { state, reason } => Stepped::Refused {
                 world: World { state, made },
                 reason,
@@ -52,12 +55,13 @@ impl World {
     }
 }
 
-// the event ends in a world to which it leads
-fn finish(alloc: Global, made: MadeActions, going: Going) -> Stepped
-    requires { IsLedWith (ended going).world (with_all (rows_of made) (newly_made (ended going))) }
+// the event ends in a world to which it leads, and nothing is new of replicas that it doesn't touch
+fn finish(alloc: Global, made: MadeActions, going: Going, touched: &IdSet) -> Stepped
+    requires led { IsLedWith (ended going).world (with_all (rows_of made) (newly_made (ended going))) }
+    requires news { ShowsNewsOf touched.now going.world }
     ensures { IsEnd (ended going) result }
 {
-    match going.finish() {
+    match going.finish(touched) {
         Ok((entry, state)) => keep(alloc, made, entry, state),
         Err(NoMemory) => {
             drop(made);

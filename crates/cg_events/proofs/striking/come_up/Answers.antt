@@ -9,11 +9,11 @@ use Rattle.cg_events.proofs.striking.come_up.Goals as goal
 
 pub rise-requires : goal.rise-requires
 rise-requires c =
-    down-outside (the_view c.state.inside) c.args.p c.in-Some.seat (subst IsSeated (sym c.state.view_is) c.requires.seated) c.in-Some.ensures.0
+    down-outside (the_view c.state.inside) c.args.p c.in-Some.seat (subst IsSeated (sym c.state.view_is) c.requires.seated) c.in-Some.ensures.taken.0
     (subst (λ w. is_some (replica_of w c.args.p) ≡ false) (sym c.state.view_is) c.requires.down)
 
 pub returns-in-Some : goal.returns-in-Some
 returns-in-Some c =
     subst (λ w. IfOk c.rise.result (λ news. telling c.rise.new.state news ≡ recover w c.args.p)) c.state.view_is
-    (recover-done (the_view c.state.inside) c.take.new.self c.args.p c.in-Some.seat (subst IsSeated (sym c.state.view_is) c.requires.seated) c.in-Some.ensures.0
-    (subst (λ w. is_some (replica_of w c.args.p) ≡ false) (sym c.state.view_is) c.requires.down) c.in-Some.ensures.1 c.rise.result c.rise.new.state c.rise.ensures)
+    (recover-done (the_view c.state.inside) c.take.new.self c.args.p c.in-Some.seat (subst IsSeated (sym c.state.view_is) c.requires.seated) c.in-Some.ensures.taken.0
+    (subst (λ w. is_some (replica_of w c.args.p) ≡ false) (sym c.state.view_is) c.requires.down) c.in-Some.ensures.taken.1 c.rise.result c.rise.new.state c.rise.ensures)

@@ -11,4 +11,4 @@ returns-then-is_up c =
     let up = ap (λ w. is_some (replica_of w p)) c.self.view_is ∙ sym c.is_up.ensures ∙ c.if-is_up.true in
     subst (λ (w : World). MatchOption c.take.result ((replica_of w p ≡ None) × (after ≡ w))
     (λ s. (seat_of w p ≡ Some s) × (is_some (running s.life) ≡ true) × ((life : Life) → set_life after p life ≡ set_life w p life)))
-    c.self.view_is (up_taken c.take.result (the_view c.self.inside) c.take.new.self p up c.take.ensures)
+    c.self.view_is (up_taken c.take.result (the_view c.self.inside) c.take.new.self p up c.take.ensures.taken)

@@ -5,7 +5,7 @@ use Rattle.cg_world.specs.MadeActions.{rows_of}
 use Rattle.cg_world.specs.Steps.{Steps}
 use Rattle.cg_events.specs.GroundLaws.{ComesFirst-stands}
 use Rattle.cg_world.proofs.state.World.step.Goals as goal
-use Rattle.cg_world.proofs.Leading.{led-booked, led-seated, led-on, end-steps}
+use Rattle.cg_world.proofs.Leading.{led-booked, led-seated, led-on, led-news, end-steps}
 
 -- src/world.rt:42:15
 pub happen-requires-clause-booked : goal.happen-requires-clause-booked
@@ -24,11 +24,17 @@ happen-requires-clause-first c =
     ComesFirst-stands c.self.inside.state c.args.event.now stands
 
 -- src/world.rt:43:38
-pub finish-requires : goal.finish-requires
-finish-requires c =
+pub finish-requires-clause-led : goal.finish-requires-clause-led
+finish-requires-clause-led c =
     let w = c.self.inside in
     let stands = subst (λ (w : World). MayStand w c.args.event.now) (sym c.self.view_is) c.requires.stands in
     led-on w.state c.args.event.now c.in-Done.going (rows_of w.made) c.facts_stand_beside_each_world.ensures c.made_actions_stand_in_the_book.ensures c.self.invariant stands c.in-Done.ensures
+
+pub finish-requires-clause-news : goal.finish-requires-clause-news
+finish-requires-clause-news c =
+    let w = c.self.inside in
+    let stands = subst (λ (w : World). MayStand w c.args.event.now) (sym c.self.view_is) c.requires.stands in
+    led-news w.state c.args.event.now c.in-Done.going (rows_of w.made) c.touched.result c.others_show_nothing_new.ensures c.self.invariant stands c.in-Done.ensures c.touched.ensures
 
 -- src/world.rt:33:5
 pub returns-in-Done : goal.returns-in-Done

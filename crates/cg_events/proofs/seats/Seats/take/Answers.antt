@@ -1,6 +1,6 @@
 use Rattle.std.proofs.Common.{sym, ap, ◌∙◌, refl, Some}
 use Rattle.cg_events.proofs.SeatFacts.{taken_out, found_nowhere}
-use Rattle.cg_events.proofs.seats.Seats.take_out.Goals as goal
+use Rattle.cg_events.proofs.seats.Seats.take.Goals as goal
 
 pub invariant_of-self : goal.invariant_of-self
 invariant_of-self c =

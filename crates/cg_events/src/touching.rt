@@ -1,0 +1,39 @@
+//! Which replicas an event touches.
+ghost use Rattle.std.specs.Prelude.{◌≡◌, ◌∷◌, []};
+ghost use Rattle.cg_agree.specs.Touched.{touched};
+
+use cg_base::{IdSet, ReplicaId};
+use cg_schedule::Event;
+
+/// The replicas whose lines may be news behind the event, by the law `others_show_nothing_new` of `cg_agree`. It
+/// takes no memory.
+#[tactic(auto, unfolding(cg_agree::specs::Touched::touched))]
+pub fn touched(event: &Event) -> IdSet
+    ensures { result ≡ touched event.now }
+{
+    match event {
+        Event::Start(set) => set.ids(),
+        Event::Split(set) => *set,
+        Event::Merge(set) => *set,
+        Event::Request { p, .. } => only(*p),
+        Event::Recover(p) => only(*p),
+        Event::Deliver { p, .. } => only(*p),
+        Event::Stop { p, .. } => only(*p),
+        Event::Fail { p, .. } => only(*p),
+        Event::Join { p, .. } => only(*p),
+        Event::Leave { p, .. } => only(*p),
+        Event::Transfer { joiner, .. } => only(*joiner),
+        Event::Weak { .. } | Event::Dirty { .. } => IdSet::empty(),
+        Event::Show(_) | Event::ShowOrder => IdSet::empty(),
+        Event::Order(_) | Event::Receive { .. } | Event::Gather => IdSet::empty(),
+        Event::End | Event::Rounds(_) => IdSet::empty(),
+    }
+}
+
+fn only(p: ReplicaId) -> IdSet
+    ensures { result ≡ p ∷ [] }
+{
+    let mut set = IdSet::empty();
+    set.add(p);
+    set
+}
