@@ -1,37 +1,95 @@
--- A step of filling a side: the bytes so far, and what the fill leaves of the rest.
-use Rattle.std.proofs.Common.{◌≡◌, ℕ, ◌+◌, ◌≤◌, ◌<◌, true, false, List, [], ◌∷◌, ◌++◌, length, get_or, drop, sym, ◌∙◌, ap, append_assoc}
-use Rattle.std.proofs.lemmas.List.{drop_more, drop_all, append-nil}
-use Rattle.cg_disk.specs.State.{SideState, is_unsynced, filled_from}
+-- Filling a side in place: which bytes stand there once the places below one have been gone through.
+use Rattle.std.proofs.Common.{◌≡◌, ℕ, ◌+◌, ◌-◌, ◌≤◌, ◌<◌, true, false, List, [], ◌∷◌, ◌++◌, length, get_or, set, take, drop, refl, sym, ◌∙◌, ap, subst, append_assoc, take-append-drop, length-append, length-drop, arith}
+use Rattle.std.proofs.lemmas.List.{drop_more, drop_all, drop-drop, drop-set-lt, take_more, take_more_set, length-set, append-nil, get_or-drop, get_or-append_right}
+use Rattle.cg_disk.specs.State.{SideState, is_unsynced, filled_from, filled}
 use Rattle.cg_disk.proofs.Images.{fill_kept, fill_next, fill_old, fill_ends}
+use Rattle.cg_disk.proofs.Untouched.{Untouched, filled_past, filled_rest}
+
+-- the places below one are filled, by so many bytes of the fill, and from there on the side is as it was
+pub record FilledBelow (s : SideState) (fill : List ℕ) (place used : ℕ) (left : List ℕ) : Type 0 where
+  pub same : take place left ++ filled_from s place (drop place s.seen) (drop used fill) ≡ filled s fill
+  pub rest : drop place left ≡ drop place s.seen
+  pub size : length left ≡ length s.seen
 
 one_byte : (bytes bytes' rest rest' total : List ℕ) (x : ℕ) → bytes ++ rest ≡ total → rest ≡ x ∷ rest' → bytes' ≡ bytes ++ x ∷ [] → bytes' ++ rest' ≡ total
 one_byte bytes bytes' rest rest' total x so_far next more = ap (λ (l : List ℕ). l ++ rest') more ∙ append_assoc bytes (x ∷ []) rest' ∙ ap (λ (l : List ℕ). bytes ++ l) (sym next) ∙ so_far
 
-module _ (s : SideState) (place : ℕ) (seen fill : List ℕ) (used : ℕ) (bytes total : List ℕ) (inside : place < length seen) (so_far : bytes ++ filled_from s place (drop place seen) (drop used fill) ≡ total) where
-  module _ (bytes' : List ℕ) (used' : ℕ) where
-    abbrev Goes : Type 0
-    Goes = bytes' ++ filled_from s (place + 1) (drop (place + 1) seen) (drop used' fill) ≡ total
+pub fill_begins : (s : SideState) (fill : List ℕ) (from : ℕ) → Untouched s 0 from → FilledBelow s fill from 0 s.seen
+fill_begins s fill from free = record {
+  same = ap (λ n. take from s.seen ++ filled_from s n (drop from s.seen) fill) (let e : from ≡ 0 + from = omega arith in e) ∙ sym (filled_past s 0 from s.seen fill free);
+  rest = refl;
+  size = refl;
+}
 
-    pub step_kept : is_unsynced s.unsynced place ≡ false → bytes' ≡ bytes ++ get_or seen place 0 ∷ [] → used' ≡ used → Goes
-    step_kept free more same =
-        ap (λ n. bytes' ++ filled_from s (place + 1) (drop (place + 1) seen) (drop n fill)) same
-        ∙ one_byte bytes bytes' _ (filled_from s (place + 1) (drop (place + 1) seen) (drop used fill)) total (get_or seen place 0) so_far (fill_kept s place seen inside (drop used fill) free) more
+pub same_filled : (s : SideState) (fill : List ℕ) (place used used' : ℕ) (left left' : List ℕ) → used' ≡ used → left' ≡ left → FilledBelow s fill place used left → FilledBelow s fill place used' left'
+same_filled s fill place used used' left left' same_used same_left below =
+    subst (λ n. FilledBelow s fill place n left') (sym same_used) (subst (λ (l : List ℕ). FilledBelow s fill place used l) (sym same_left) below)
 
-    pub step_filled : is_unsynced s.unsynced place ≡ true → used < length fill → bytes' ≡ bytes ++ get_or fill used 0 ∷ [] → used' ≡ used + 1 → Goes
-    step_filled written left more next =
-        ap (λ n. bytes' ++ filled_from s (place + 1) (drop (place + 1) seen) (drop n fill)) next
-        ∙ one_byte bytes bytes' _ (filled_from s (place + 1) (drop (place + 1) seen) (drop (used + 1) fill)) total (get_or fill used 0) so_far
-        (ap (λ (l : List ℕ). filled_from s place (drop place seen) l) (drop_more fill used 0 left) ∙ fill_next s place seen inside (get_or fill used 0) (drop (used + 1) fill) written) more
+module _ (s : SideState) (fill : List ℕ) (place used : ℕ) (left : List ℕ) (below : FilledBelow s fill place used left) where
+  pub fill_done : Untouched s place (length s.seen - place) → left ≡ filled s fill
+  fill_done free =
+      let behind : filled_from s place (drop place s.seen) (drop used fill) ≡ drop place s.seen =
+      filled_rest s place (drop place s.seen) (drop used fill) (λ k above under. free k above (omega (arith, length-drop place s.seen))) in
+      sym (take-append-drop place left) ∙ ap (λ (l : List ℕ). take place left ++ l) (below.rest ∙ sym behind) ∙ below.same
 
-    pub step_old : is_unsynced s.unsynced place ≡ true → length fill ≤ used → place < length s.old → bytes' ≡ bytes ++ get_or s.old place 0 ∷ [] → used' ≡ used → Goes
-    step_old written none there more same =
-        let spent = drop_all used fill none in
-        ap (λ n. bytes' ++ filled_from s (place + 1) (drop (place + 1) seen) (drop n fill)) same
-        ∙ one_byte bytes bytes' _ (filled_from s (place + 1) (drop (place + 1) seen) (drop used fill)) total (get_or s.old place 0) so_far
-        (ap (λ (l : List ℕ). filled_from s place (drop place seen) l) spent ∙ fill_old s place seen inside there written ∙ ap (λ (l : List ℕ). get_or s.old place 0 ∷ filled_from s (place + 1) (drop (place + 1) seen) l) (sym spent)) more
+  module _ (inside : place < length s.seen) where
+    at_hand : place < length left
+    at_hand = omega (arith, below.size)
 
-  pub step_ends : is_unsynced s.unsynced place ≡ true → length fill ≤ used → length s.old ≤ place → bytes ≡ total
-  step_ends written none past =
-      sym (append-nil bytes)
-      ∙ ap (λ (l : List ℕ). bytes ++ l) (sym (ap (λ (l : List ℕ). filled_from s place (drop place seen) l) (drop_all used fill none) ∙ fill_ends s place seen inside past written))
-      ∙ so_far
+    rest_more : drop (place + 1) left ≡ drop (place + 1) s.seen
+    rest_more = sym (drop-drop 1 place left) ∙ ap (λ (l : List ℕ). drop 1 l) below.rest ∙ drop-drop 1 place s.seen
+
+    same_byte : get_or left place 0 ≡ get_or s.seen place 0
+    same_byte =
+        let e : place ≡ place + 0 = omega arith in
+        ap (λ n. get_or left n 0) e ∙ sym (get_or-drop place left 0 0) ∙ ap (λ (l : List ℕ). get_or l 0 0) below.rest ∙ get_or-drop place s.seen 0 0 ∙ ap (λ n. get_or s.seen n 0) (sym e)
+
+    pub fill_keeps : is_unsynced s.unsynced place ≡ false → FilledBelow s fill (place + 1) used left
+    fill_keeps free = record {
+      same = one_byte (take place left) (take (place + 1) left) _ (filled_from s (place + 1) (drop (place + 1) s.seen) (drop used fill)) (filled s fill) (get_or s.seen place 0)
+          below.same (fill_kept s place s.seen inside (drop used fill) free) (take_more left place 0 at_hand ∙ ap (λ x. take place left ++ x ∷ []) same_byte);
+      rest = rest_more;
+      size = below.size;
+    }
+
+    -- the place gets another byte
+    set_same : (x : ℕ) (rest' : List ℕ) → filled_from s place (drop place s.seen) (drop used fill) ≡ x ∷ rest' → take (place + 1) (set left place x) ++ rest' ≡ filled s fill
+    set_same x rest' next = one_byte (take place left) (take (place + 1) (set left place x)) _ rest' (filled s fill) x below.same next (take_more_set left place x at_hand)
+
+    set_rest : (x : ℕ) → drop (place + 1) (set left place x) ≡ drop (place + 1) s.seen
+    set_rest x = drop-set-lt (place + 1) left place x (omega arith) ∙ rest_more
+
+    set_size : (x : ℕ) → length (set left place x) ≡ length s.seen
+    set_size x = length-set left place x ∙ below.size
+
+    module _ (written : is_unsynced s.unsynced place ≡ true) where
+      pub fill_takes : used < length fill → FilledBelow s fill (place + 1) (used + 1) (set left place (get_or fill used 0))
+      fill_takes more = record {
+        same = set_same (get_or fill used 0) (filled_from s (place + 1) (drop (place + 1) s.seen) (drop (used + 1) fill))
+            (ap (λ (l : List ℕ). filled_from s place (drop place s.seen) l) (drop_more fill used 0 more) ∙ fill_next s place s.seen inside (get_or fill used 0) (drop (used + 1) fill) written);
+        rest = set_rest (get_or fill used 0);
+        size = set_size (get_or fill used 0);
+      }
+
+      module _ (none : length fill ≤ used) where
+        spent : drop used fill ≡ []
+        spent = drop_all used fill none
+
+        pub fill_puts_back : place < length s.old → FilledBelow s fill (place + 1) used (set left place (get_or s.old place 0))
+        fill_puts_back there = record {
+          same = set_same (get_or s.old place 0) (filled_from s (place + 1) (drop (place + 1) s.seen) (drop used fill))
+              (ap (λ (l : List ℕ). filled_from s place (drop place s.seen) l) spent ∙ fill_old s place s.seen inside there written ∙ ap (λ (l : List ℕ). get_or s.old place 0 ∷ filled_from s (place + 1) (drop (place + 1) s.seen) l) (sym spent));
+          rest = set_rest (get_or s.old place 0);
+          size = set_size (get_or s.old place 0);
+        }
+
+        pub fill_stops : length s.old ≤ place → take place left ≡ filled s fill
+        fill_stops past =
+            sym (append-nil (take place left))
+            ∙ ap (λ (l : List ℕ). take place left ++ l) (sym (ap (λ (l : List ℕ). filled_from s place (drop place s.seen) l) spent ∙ fill_ends s place s.seen inside past written))
+            ∙ below.same
+
+-- the old bytes from a place on tell those of the whole
+pub old_at : (front old all : List ℕ) (from place : ℕ) → front ++ old ≡ all → length front ≡ from → from ≤ place → (length all ≡ from + length old) × (get_or all place 0 ≡ get_or old (place - from) 0)
+old_at front old all from place is size above =
+    (omega (arith, ap length is, length-append front old), ap (λ (l : List ℕ). get_or l place 0) (sym is) ∙ get_or-append_right front old from place 0 size above)

@@ -7,4 +7,5 @@ mod Places
 mod Strikes
 mod Tearing
 mod Undoing
+mod Untouched
 mod Writing

@@ -1,6 +1,7 @@
 -- The unsynced places of a side, in whatever order its writes are kept.
-use Rattle.std.proofs.Common.{◌≡◌, ℕ, suc, ◌+◌, ◌<◌, Bool, true, false, ◌||◌, ◌&&◌, nat_le, nat_lt, List, [], ◌∷◌, ◌++◌, length, drop, reverse, refl, sym, ◌∙◌, ap, arith}
+use Rattle.std.proofs.Common.{◌≡◌, ℕ, suc, ◌+◌, ◌≤◌, ◌<◌, All, Bool, true, false, ◌||◌, ◌&&◌, nat_le, nat_lt, List, [], ◌∷◌, ◌++◌, length, drop, reverse, refl, sym, ◌∙◌, ap, arith}
 use Rattle.std.specs.Bool.{if◌then◌else◌}
+use Rattle.std.proofs.lemmas.Bool.Decides.{nat_tests}
 use Rattle.std.proofs.lemmas.List.{reverse-append, drop_more}
 use Rattle.cg_disk.specs.State.{SideState, is_unsynced, unsynced_from}
 use Rattle.cg_disk.specs.Undo.{ranges}
@@ -38,3 +39,13 @@ among_reverse (x ∷ xs) place =
 
 pub count_step : (s : SideState) (place : ℕ) (seen : List ℕ) → place < length seen → unsynced_from s place (drop place seen) ≡ (if is_unsynced s.unsynced place then 1 else 0) + unsynced_from s (place + 1) (drop (place + 1) seen)
 count_step s place seen inside = ap (unsynced_from s place) (drop_more seen place 0 inside) ∙ ap (λ n. (if is_unsynced s.unsynced place then 1 else 0) + unsynced_from s n (drop (place + 1) seen)) (let e : suc place ≡ place + 1 = omega arith in e)
+
+-- below the lowest place of the writes none is unsynced
+outside : (place from : ℕ) (count : ℕ) → place < from → (nat_le from place && nat_lt place (from + count)) ≡ false
+outside place from count below = grind (arith, nat_tests)
+
+pub none_below : (xs : List Written) (from k : ℕ) → All (λ x. from ≤ x.place) xs → k < from → is_unsynced (ranges xs) k ≡ false
+none_below [] from k above below = refl
+none_below (x ∷ xs) from k above below =
+    ap (λ b. b || is_unsynced (ranges xs) k) (outside k x.place x.count (let first : from ≤ x.place = above 0 x (omega arith) in omega (arith, first)))
+    ∙ none_below xs from k (λ j d inside. above (suc j) d (omega arith)) below

@@ -1,6 +1,6 @@
 -- A write and what is kept of it give the bytes before.
-use Rattle.std.proofs.Common.{◌≡◌, ℕ, ◌+◌, ◌-◌, ◌≤◌, min, List, [], ◌∷◌, ◌++◌, length, take, drop, reverse, Result, Ok, Err, sym, is_ok, IsOk, if◌then◌else◌, ◌∙◌, ap, arith, append_assoc, length-append, length-drop, take-append-drop}
-use Rattle.std.proofs.lemmas.List.{take_at, drop_at, take_min, drop-drop, reverse-append, length-take-le}
+use Rattle.std.proofs.Common.{◌≡◌, ℕ, suc, ◌+◌, ◌-◌, ◌≤◌, ◌<◌, min, List, [], ◌∷◌, ◌++◌, length, get_or, take, drop, reverse, Result, Ok, Err, refl, sym, is_ok, IsOk, if◌then◌else◌, ◌∙◌, ap, arith, append_assoc, length-append, length-drop, take-append-drop}
+use Rattle.std.proofs.lemmas.List.{take_at, take_more, drop_at, take_min, drop-drop, reverse-append, length-take-le}
 use Rattle.cg_disk.specs.Writes.{overwritten}
 use Rattle.cg_disk.specs.State.{wrote_side}
 use Rattle.cg_disk.specs.Undo.{undo, undone, ranges, side_after}
@@ -13,6 +13,40 @@ reverse_push xs x = reverse-append xs (x ∷ [])
 pub pushed : {X T E : Type 0} (r : Result T E) (xs ys zs : List X) → IsOk r → zs ≡ (if is_ok r then ys else xs) → zs ≡ ys
 pushed (Ok x) xs ys zs ok is = is
 pushed (Err e) xs ys zs ok is = cc
+
+-- of a side whose first bytes no write has touched it is enough to have the others
+take_behind : (front bytes : List ℕ) (n : ℕ) → take (length front + n) (front ++ bytes) ≡ front ++ take n bytes
+take_behind [] bytes n = let e : 0 + n ≡ n = omega arith in ap (λ k. take k bytes) e
+take_behind (x ∷ front) bytes n =
+    let e : suc (length front) + n ≡ suc (length front + n) = omega arith in
+    ap (λ k. take k (x ∷ front ++ bytes)) e ∙ ap (λ (l : List ℕ). x ∷ l) (take_behind front bytes n)
+
+drop_behind : (front bytes : List ℕ) (n : ℕ) → drop (length front + n) (front ++ bytes) ≡ drop n bytes
+drop_behind front bytes n = sym (drop-drop n (length front) (front ++ bytes)) ∙ ap (λ (l : List ℕ). drop n l) (drop_at front bytes (length front) refl)
+
+abbrev taken_back : Written → ℕ → List ℕ → List ℕ
+taken_back w from bytes = take (w.place - from) bytes ++ w.before.items ++ drop (w.place - from + w.count) bytes
+
+undo_behind : (w : Written) (front bytes : List ℕ) → length front ≤ w.place → front ++ taken_back w (length front) bytes ≡ undo w (front ++ bytes)
+undo_behind w front bytes above =
+    let n = w.place - length front in
+    let at : length front + n ≡ w.place = omega arith in
+    let to : length front + (n + w.count) ≡ w.place + w.count = omega arith in
+    ap (λ (l : List ℕ). front ++ l) (append_assoc (take n bytes) w.before.items (drop (n + w.count) bytes))
+    ∙ sym (append_assoc front (take n bytes) (w.before.items ++ drop (n + w.count) bytes))
+    ∙ ap (λ (l : List ℕ). l ++ (w.before.items ++ drop (n + w.count) bytes)) (sym (take_behind front bytes n) ∙ ap (λ k. take k (front ++ bytes)) at)
+    ∙ ap (λ (l : List ℕ). take w.place (front ++ bytes) ++ (w.before.items ++ l)) (sym (drop_behind front bytes (n + w.count)) ∙ ap (λ k. drop k (front ++ bytes)) to)
+    ∙ sym (append_assoc (take w.place (front ++ bytes)) w.before.items (drop (w.place + w.count) (front ++ bytes)))
+
+-- one write less
+pub undone_behind : (writes : List Written) (n : ℕ) (w : Written) (front bytes before total : List ℕ) (from : ℕ) → n < length writes → w ≡ get_or writes n w → length front ≡ from → from ≤ w.place → before ≡ taken_back w from bytes
+    → undone (front ++ bytes) (reverse (take (n + 1) writes)) ≡ total → undone (front ++ before) (reverse (take n writes)) ≡ total
+undone_behind writes n w front bytes before total from inside item size above is so_far =
+    let newest : reverse (take (n + 1) writes) ≡ w ∷ reverse (take n writes) =
+    ap (λ (l : List Written). reverse l) (take_more writes n w inside) ∙ reverse_push (take n writes) (get_or writes n w) ∙ ap (λ (x : Written). x ∷ reverse (take n writes)) (sym item) in
+    let back : front ++ before ≡ undo w (front ++ bytes) =
+    ap (λ (l : List ℕ). front ++ l) (is ∙ ap (λ k. taken_back w k bytes) (sym size)) ∙ undo_behind w front bytes (omega arith) in
+    ap (λ (l : List ℕ). undone l (reverse (take n writes))) back ∙ ap (λ (l : List Written). undone (front ++ bytes) l) (sym newest) ∙ so_far
 
 module _ (old new : List ℕ) (place : ℕ) (inside : place ≤ length old) where
   size : length (take place old) ≡ place

@@ -1,5 +1,5 @@
 //! Writes to bytes in memory.
-ghost use Rattle.std.specs.Prelude.{◌≡◌, ◌+◌, ◌<◌, ◌≤◌, ◌^◌, ◌-◌, min, length, OnOk, OnErr, IfOk, take, drop};
+ghost use Rattle.std.specs.Prelude.{◌≡◌, ◌+◌, ◌<◌, ◌≤◌, ◌^◌, ◌-◌, ◌++◌, min, length, OnOk, OnErr, IfOk, take, drop};
 ghost use Rattle.cg_disk.specs.Writes.{overwritten};
 
 use cg_base::NoMemory;
@@ -29,5 +29,26 @@ pub fn written_over(
     ensures { IfOk result (λ over. over.items ≡ take (min count (length bytes.now - place)) (drop place bytes.now)) }
 {
     let over = count.min(bytes.len() - place);
-    Ok(bytes[place..place + over].to_vec(alloc)?)
+    Ok(Vec::from_slice(alloc, &bytes[place..place + over])?)
+}
+
+/// Puts other bytes in place of so many from a place on, or of those that there are.
+pub fn substitute(
+    alloc: Global,
+    bytes: &mut Vec<u8>,
+    place: usize,
+    count: usize,
+    new: &[u8],
+) -> Result<(), NoMemory>
+    ensures { OnOk result (bytes.new.items ≡ take place bytes.old.items ++ new.now ++ drop (place + count) bytes.old.items) }
+{
+    if new.len() == count && place <= bytes.len() {
+        return overwrite(bytes, place, new);
+    }
+    let end = place.saturating_add(count).min(bytes.len());
+    let behind = Vec::from_slice(alloc, &bytes[end..])?;
+    bytes.truncate(place);
+    bytes.extend_from_slice(new)?;
+    bytes.extend_from_slice(&behind)?;
+    Ok(())
 }

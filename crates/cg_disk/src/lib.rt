@@ -8,6 +8,7 @@
 
 mod armed;
 mod bytes;
+mod crash;
 mod disk;
 mod mark;
 mod model_disk;

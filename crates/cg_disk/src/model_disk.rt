@@ -79,22 +79,31 @@ impl ModelDisk {
 
     /// The disk after a crash. The fill goes into the places that were written since the last sync, side A before
     /// side B, ascending on each; what is left of it isn't used. Where it ends old bytes stay, and a place without one
-    /// ends its side.
+    /// ends its side. On each side only the places from the lowest to the highest of those are gone through, and the bytes
+    /// move.
     pub fn image(self, fill: &[u8]) -> Result<ModelDisk, NoMemory>
         ensures { IfOk result (λ disk. IsCrashed fill.now (⟦<ModelDisk as Disk>⟧.view self) (⟦<ModelDisk as Disk>⟧.view disk)) }
     {
-        let used = self.a.unsynced_places().min(fill.len());
-        let a = self.a.filled(self.alloc, fill)?;
-        let b = self.b.filled(self.alloc, &fill[used..])?;
+        let ModelDisk {
+            alloc,
+            a,
+            b,
+            calls,
+            faults,
+            ..
+        } = self;
+        let used = a.unsynced_places().min(fill.len());
+        let a = a.filled(alloc, fill)?;
+        let b = b.filled(alloc, &fill[used..])?;
         Ok(ModelDisk {
-            alloc: self.alloc,
-            a: ModelSide::new(self.alloc, a),
-            b: ModelSide::new(self.alloc, b),
+            alloc,
+            a: ModelSide::new(alloc, a),
+            b: ModelSide::new(alloc, b),
             armed: Armed::Nothing,
-            calls: self.calls,
-            faults: self.faults,
-            begun: self.calls,
-            past: Vec::new(self.alloc),
+            calls,
+            faults,
+            begun: calls,
+            past: Vec::new(alloc),
         })
     }
 

@@ -3,7 +3,8 @@ ghost use Rattle.std.specs.Prelude.{◌≡◌, ◌+◌, ◌<◌, ◌≤◌, ◌^
 ghost use Rattle.cg_disk.specs.Undo.{undone};
 
 use crate::bytes::{overwrite, written_over};
-use crate::written::{Written, before_write, is_among};
+use crate::crash::bytes_left;
+use crate::written::{Written, highest_end, is_among, lowest_place};
 use cg_base::NoMemory;
 use std::alloc::Global;
 
@@ -17,7 +18,7 @@ pub struct ModelSide {
 
 impl ModelSide {
     ghost use Rattle.std.specs.Prelude.{IfOk};
-    ghost use Rattle.cg_disk.specs.State.{wrote_side, is_unsynced, unsynced_from, filled};
+    ghost use Rattle.cg_disk.specs.State.{wrote_side, unsynced_from, filled};
     ghost use Rattle.cg_disk.specs.Model.{side_of};
 
     /// A side with these bytes, all of them synced.
@@ -53,58 +54,26 @@ impl ModelSide {
         }
     }
 
-    // What the side held at the last sync.
-    fn old(&self, alloc: Global) -> Result<Vec<u8>, NoMemory>
-        ensures { IfOk result (λ old. old.items ≡ (side_of self.now).old) }
-    {
-        let mut old = self.bytes.to_vec(alloc)?;
-        let mut left = self.unsynced.len();
-        while left > 0 {
-            left -= 1;
-            old = before_write(alloc, &old, &self.unsynced[left])?;
-        }
-        Ok(old)
-    }
-
-    // Whether a place was written since the last sync.
-    fn was_written(&self, place: usize) -> bool
-        ensures { result ≡ is_unsynced (side_of self.now).unsynced place }
-    {
-        is_among(&self.unsynced, place)
-    }
-
     /// How many places were written since the last sync.
     pub fn unsynced_places(&self) -> usize
         ensures { result ≡ unsynced_from (side_of self.now) 0 self.now.bytes.items }
     {
+        let from = lowest_place(&self.unsynced, self.bytes.len());
+        let to = highest_end(&self.unsynced, self.bytes.len());
         let mut count = 0;
-        for place in 0..self.bytes.len() {
-            if self.was_written(place) {
+        for place in from..to {
+            if is_among(&self.unsynced, place) {
                 count += 1;
             }
         }
         count
     }
 
-    /// The side after a crash with this fill.
-    pub fn filled(&self, alloc: Global, fill: &[u8]) -> Result<Vec<u8>, NoMemory>
-        ensures { IfOk result (λ bytes. bytes.items ≡ filled (side_of self.now) fill.now) }
+    /// The bytes after a crash with this fill. Where nothing is unsynced they move.
+    pub fn filled(self, alloc: Global, fill: &[u8]) -> Result<Vec<u8>, NoMemory>
+        ensures { IfOk result (λ bytes. bytes.items ≡ filled (side_of self) fill.now) }
     {
-        let old = self.old(alloc)?;
-        let mut bytes = Vec::new(alloc);
-        let mut used = 0;
-        for (place, byte) in self.bytes.iter().enumerate() {
-            if !self.was_written(place) {
-                bytes.push(*byte)?;
-            } else if used < fill.len() {
-                bytes.push(fill[used])?;
-                used += 1;
-            } else if place < old.len() {
-                bytes.push(old[place])?;
-            } else {
-                return Ok(bytes);
-            }
-        }
-        Ok(bytes)
+        let ModelSide { bytes, unsynced } = self;
+        bytes_left(alloc, bytes, &unsynced, fill)
     }
 }

@@ -1,8 +1,9 @@
 //! The writes that a side keeps until a sync.
-ghost use Rattle.std.specs.Prelude.{◌≡◌, IfOk};
+ghost use Rattle.std.specs.Prelude.{◌≡◌, ℕ, ◌<◌, ◌≤◌, ◌++◌, false, length, take, reverse, All, IfOk};
 ghost use Rattle.cg_disk.specs.State.{is_unsynced};
-ghost use Rattle.cg_disk.specs.Undo.{undo, ranges};
+ghost use Rattle.cg_disk.specs.Undo.{undone, ranges};
 
+use crate::bytes::substitute;
 use cg_base::NoMemory;
 use std::alloc::Global;
 
@@ -14,16 +15,25 @@ pub struct Written {
     pub before: Vec<u8>,
 }
 
-/// The bytes before a write.
-pub fn before_write(alloc: Global, bytes: &[u8], written: &Written) -> Result<Vec<u8>, NoMemory>
-    ensures { IfOk result (λ before. before.items ≡ undo written.now bytes.now) }
+/// The bytes from a place on before these writes, none of which is below it. The newest comes last.
+pub fn before_writes(
+    alloc: Global,
+    bytes: &[u8],
+    from: usize,
+    writes: &[Written],
+) -> Result<Vec<u8>, NoMemory>
+    requires inside { from ≤ length bytes.now }
+    requires above { All (λ w. from ≤ w.place) writes.now }
+    ensures { IfOk result (λ old. take from bytes.now ++ old.items ≡ undone bytes.now (reverse writes.now)) }
 {
-    let place = written.place.min(bytes.len());
-    let end = written.place.saturating_add(written.count).min(bytes.len());
-    let mut before = bytes[..place].to_vec(alloc)?;
-    before.extend_from_slice(&written.before)?;
-    before.extend_from_slice(&bytes[end..])?;
-    Ok(before)
+    let mut old = Vec::from_slice(alloc, &bytes[from..])?;
+    let mut left = writes.len();
+    while left > 0 {
+        left -= 1;
+        let w = &writes[left];
+        substitute(alloc, &mut old, w.place - from, w.count, &w.before)?;
+    }
+    Ok(old)
 }
 
 /// Whether one of these writes has written this place.
@@ -36,4 +46,28 @@ pub fn is_among(writes: &[Written], place: usize) -> bool
         }
     }
     false
+}
+
+/// The lowest place at which one of these writes begins, or the limit where that is lower.
+pub fn lowest_place(writes: &[Written], limit: usize) -> usize
+    ensures within { result ≤ limit }
+    ensures above { All (λ w. result ≤ w.place) writes.now }
+{
+    let mut lowest = limit;
+    for w in writes {
+        lowest = lowest.min(w.place);
+    }
+    lowest
+}
+
+/// The highest place at which one of these writes ends, or the limit where that is lower.
+pub fn highest_end(writes: &[Written], limit: usize) -> usize
+    ensures within { result ≤ limit }
+    ensures none { (k : ℕ) → result ≤ k → k < limit → is_unsynced (ranges writes.now) k ≡ false }
+{
+    let mut highest = 0;
+    for w in writes {
+        highest = highest.max(w.place.saturating_add(w.count));
+    }
+    highest.min(limit)
 }

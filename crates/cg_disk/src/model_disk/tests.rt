@@ -48,6 +48,58 @@ fn a_fill_goes_to_side_a_first_and_ends_a_side_without_old_bytes(
 }
 
 #[test]
+fn a_crash_keeps_what_stands_before_behind_and_between_the_unsynced_places(
+    rt: HostRuntime,
+) -> Result<(), Fail> {
+    let alloc = rt.alloc();
+    for (fill, a, b) in [
+        (b"".as_slice(), b"abcdefgh".as_slice(), b"op".as_slice()),
+        (b"1", b"ab1defgh", b"op"),
+        (b"12", b"ab12efgh", b"op"),
+        (b"123", b"ab12e3gh", b"op"),
+        (b"1234", b"ab12e3gh", b"4p"),
+        (b"12345", b"ab12e3gh", b"4p5"),
+    ] {
+        let mut disk = ModelDisk::new(alloc);
+        write(&mut disk, Side::A, 0, b"abcdefgh")?;
+        write(&mut disk, Side::B, 0, b"op")?;
+        sync(&mut disk)?;
+        write(&mut disk, Side::A, 5, b"x")?;
+        write(&mut disk, Side::A, 2, b"yz")?;
+        write(&mut disk, Side::A, 3, b"w")?;
+        write(&mut disk, Side::A, 7, b"")?;
+        write(&mut disk, Side::B, 2, b"q")?;
+        write(&mut disk, Side::B, 0, b"r")?;
+        assert_eq!(rt; disk.bytes(Side::A), b"abywexgh".as_slice());
+        assert_eq!(rt; disk.bytes(Side::B), b"rpq".as_slice());
+        let left = disk.image(fill)?;
+        assert_eq!(rt; left.bytes(Side::A), a);
+        assert_eq!(rt; left.bytes(Side::B), b);
+    }
+    Ok(())
+}
+
+// A copy would have room for its bytes alone.
+#[test]
+fn a_crash_copies_no_side(rt: HostRuntime) -> Result<(), Fail> {
+    let alloc = rt.alloc();
+    let mut disk = ModelDisk::new(alloc);
+    write(&mut disk, Side::A, 0, &[7; 100])?;
+    write(&mut disk, Side::A, 100, b"x")?;
+    write(&mut disk, Side::B, 0, &[8; 100])?;
+    write(&mut disk, Side::B, 100, b"y")?;
+    sync(&mut disk)?;
+    write(&mut disk, Side::B, 101, b"new")?;
+    let a = disk.a.bytes.capacity();
+    let b = disk.b.bytes.capacity();
+    assert!(rt; a > 101 && b > 104);
+    let left = disk.image(b"12")?;
+    assert_eq!(rt; (left.a.bytes.len(), left.a.bytes.capacity()), (101, a));
+    assert_eq!(rt; (left.b.bytes.len(), left.b.bytes.capacity()), (103, b));
+    Ok(())
+}
+
+#[test]
 fn a_failed_call_keeps_what_was_written(rt: HostRuntime) -> Result<(), Fail> {
     let alloc = rt.alloc();
     let mut disk = ModelDisk::new(alloc);

@@ -1,0 +1,7 @@
+use Rattle.std.proofs.Common.{reverse}
+use Rattle.cg_disk.specs.Undo.{side_after}
+use Rattle.cg_disk.proofs.Filling.{FilledBelow}
+use Rattle.cg_disk.proofs.crash.bytes_left.Given as goal
+
+abbrev pub invariant-loop-place : goal.invariant-loop-place
+invariant-loop-place l = FilledBelow (side_after l.fn.bytes.items (reverse l.writes)) l.fill l.place l.used l.left.items
