@@ -153,7 +153,7 @@ tops_of-least a b m array lesser =
 
 -- ---- the same cut
 
-same_id-Decides : (m n : ActionId) → Decides (same_id m n) (m ≡ n)
+pub same_id-Decides : (m n : ActionId) → Decides (same_id m n) (m ≡ n)
 same_id-Decides m n = (
   (λ e. let parts = and_parts (eqb m.creator n.creator) (eqb m.index n.index) e in
       λ i. record { creator = eqb-true m.creator n.creator parts.0 i; index = eqb-true m.index n.index parts.1 i }),

@@ -4,3 +4,4 @@ pub mod WordLemmas
 pub mod ArrayLemmas
 pub mod WeightLemmas
 pub mod CutLemmas
+pub mod RunLemmas

@@ -2,6 +2,7 @@ pub mod Lists
 pub mod Sets
 pub mod Weights
 pub mod Ids
+pub mod IdRuns
 pub mod Cuts
 pub mod Slots
 pub mod SlotLaws

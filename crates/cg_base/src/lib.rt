@@ -8,6 +8,7 @@
 
 mod action_id;
 mod cut;
+mod id_runs;
 mod id_set;
 mod no_memory;
 mod pieces;
@@ -21,11 +22,14 @@ mod weighted;
 
 pub use action_id::ActionId;
 pub use cut::{Cut, Tops};
+pub use id_runs::IdRuns;
 pub use id_set::{IdSet, Members};
 pub use no_memory::NoMemory;
 pub use pieces::{Pieces, cut_at};
 pub use replica_id::ReplicaId;
 pub use row::{Bytes, BytesList, IdList, Row};
-pub use text::{put, put_id, put_id_list, put_number, put_set, put_weight_set, put_weighted};
+pub use text::{
+    put, put_id, put_id_list, put_id_runs, put_number, put_set, put_weight_set, put_weighted,
+};
 pub use weight_set::{WeightSet, Weights};
 pub use weighted::Weighted;

@@ -1,6 +1,7 @@
 use crate::{
-    ActionId, Bytes, BytesList, Cut, IdList, IdSet, NoMemory, Pieces, ReplicaId, WeightSet,
-    Weighted, cut_at, put, put_id, put_id_list, put_number, put_set, put_weight_set, put_weighted,
+    ActionId, Bytes, BytesList, Cut, IdList, IdRuns, IdSet, NoMemory, Pieces, ReplicaId, WeightSet,
+    Weighted, cut_at, put, put_id, put_id_list, put_id_runs, put_number, put_set, put_weight_set,
+    put_weighted,
 };
 
 fn id(n: u8) -> Result<ReplicaId, NoMemory> {
@@ -153,6 +154,33 @@ fn text_of_plain_values(rt: HostRuntime) -> Result<(), NoMemory> {
     put_id(&mut out, name(3, 4)?)?;
     put_number(&mut out, u64::MAX)?;
     assert!(rt; out.as_slice() == b"[][1:1,2:10]3:418446744073709551615".as_slice());
+    Ok(())
+}
+
+#[test]
+fn names_in_runs(rt: HostRuntime) -> Result<(), NoMemory> {
+    let mut ids = IdRuns::new(rt.alloc());
+    ids.push_run(id(1)?, 2, 5)?;
+    ids.push(&name(1, 6)?)?;
+    ids.push(&name(1, 8)?)?;
+    ids.push_run(id(2)?, 9, 9)?;
+    ids.push_run(id(2)?, 8, 10)?;
+    let mut others = IdRuns::new(rt.alloc());
+    others.push(&name(1, 3)?)?;
+    others.push_run(id(1)?, 3, 6)?;
+    assert!(rt; others != ids);
+    others.push_run(id(1)?, 7, 8)?;
+    others.push(&name(2, 9)?)?;
+    others.push(&name(2, 10)?)?;
+    assert!(rt; others == ids);
+    ids.push_run(id(3)?, u64::MAX - 1, u64::MAX)?;
+    ids.push(&name(3, 0)?)?;
+    let mut out = Vec::new(rt.alloc());
+    put_id_runs(&mut out, &ids.copy(rt.alloc())?)?;
+    put_id_runs(&mut out, &IdRuns::new(rt.alloc()))?;
+    assert!(rt;
+        out.as_slice() == b"[1:3,1:4,1:5,1:6,1:8,2:9,2:10,3:18446744073709551615,3:0][]".as_slice()
+    );
     Ok(())
 }
 

@@ -1,7 +1,8 @@
-ghost use Rattle.std.specs.Prelude.{◌≡◌, ◌++◌, OnOk, OnErr, decimal};
+ghost use Rattle.std.specs.Prelude.{◌≡◌, ◌++◌, ◌∷◌, OnOk, OnErr, decimal};
+ghost use Rattle.cg_base.specs.IdRuns.{ids_of};
 ghost use Rattle.cg_base.specs.Text.{KeepsFront, set_text, id_text, id_list_text, weighted_text, weight_set_text, with_commas};
 
-use crate::{ActionId, IdSet, NoMemory, ReplicaId, WeightSet};
+use crate::{ActionId, IdRuns, IdSet, NoMemory, ReplicaId, WeightSet};
 use itoa::Buffer;
 
 /// Bytes at the end of others. Where memory is refused nothing is put.
@@ -72,6 +73,47 @@ pub fn put_id_list(out: &mut Vec<u8>, ids: &[ActionId]) -> Result<(), NoMemory>
         }
     }
     put(out, b"]")
+}
+
+/// Identifiers, as `[1:1,2:1]`.
+pub fn put_id_runs(out: &mut Vec<u8>, ids: &IdRuns) -> Result<(), NoMemory>
+    ensures ok { OnOk result (out.new.items ≡ out.old.items ++ id_list_text ids.now) }
+    ensures err { OnErr result (KeepsFront out.old.items out.new.items) }
+{
+    put(out, b"[")?;
+    if let Some((first, others)) = ids.runs.as_slice().split_first() {
+        put_run(out, first.creator, first.first, first.last)?;
+        for run in others {
+            put(out, b",")?;
+            put_run(out, run.creator, run.first, run.last)?;
+        }
+    }
+    put(out, b"]")
+}
+
+// the names of a run
+fn put_run(out: &mut Vec<u8>, creator: ReplicaId, first: u64, last: u64) -> Result<(), NoMemory>
+    ensures ok { OnOk result (out.new.items ≡ out.old.items ++ with_commas id_text (ids_of (record { creator = creator; first = first; last = last }))) }
+    ensures err { OnErr result (KeepsFront out.old.items out.new.items) }
+{
+    let name = ActionId {
+        creator,
+        index: first,
+    };
+    put_id(out, name)?;
+    for index in first..last {
+        put_next(out, creator, index + 1)?;
+    }
+    Ok(())
+}
+
+// a name behind another
+fn put_next(out: &mut Vec<u8>, creator: ReplicaId, index: u64) -> Result<(), NoMemory>
+    ensures ok { OnOk result (out.new.items ≡ out.old.items ++ 44 ∷ id_text (record { creator = creator; index = index })) }
+    ensures err { OnErr result (KeepsFront out.old.items out.new.items) }
+{
+    put(out, b",")?;
+    put_id(out, ActionId { creator, index })
 }
 
 /// An identifier with its weight, as `1*3`. A weight of 1 isn't written.

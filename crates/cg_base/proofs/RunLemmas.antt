@@ -1,0 +1,212 @@
+-- Names of actions held as runs: one run more, and that the names say which runs they are.
+use Rattle.std.proofs.Common.{◌≡◌, ℕ, zero, suc, ◌+◌, ◌-◌, ◌<◌, ◌≤◌, List, [], ◌∷◌, ◌++◌, append_assoc, length, map, get_or, set, take, Bool, true, false, cond, eqb, ◌&&◌, refl, sym, ap, subst, ◌∙◌, arith, inl, inr}
+use Rattle.std.specs.Bool.{Decides}
+use Rattle.std.specs.List.{flat_map}
+use Rattle.std.specs.Cmp.Lexicographic.{pointwise, pointwise_decides}
+use Rattle.std.proofs.lemmas.Bool.{cases_Bool, eq-eqb, eqb-true, and_parts, and_from, false_from_ne_true}
+use Rattle.std.proofs.lemmas.List.{map-append, append-nil, set_at, take_more, take_all, length-take-le}
+use Rattle.std.proofs.lemmas.List.Concat.{flat_map-append}
+use Rattle.cg_base.specs.declared.action_id.ActionId.{ActionId}
+use Rattle.cg_base.specs.declared.id_runs.IdRun.{IdRun}
+use Rattle.cg_base.specs.Lists.{count_up, above_up_to}
+use Rattle.cg_base.specs.Ids.{same_id}
+use Rattle.cg_base.proofs.CutLemmas.{same_id-Decides}
+use Rattle.cg_base.specs.Text.{id_text, with_commas}
+use Rattle.cg_base.specs.IdRuns.{names_above, ids_of, ids_in, goes_on, Ends, AreRuns}
+
+-- ---- one run more
+
+count_up-join : (from m n : ℕ) → count_up from (m + n) ≡ count_up from m ++ count_up (from + m) n
+count_up-join from zero n =
+    let none : 0 + n ≡ n = omega arith in
+    let same : from ≡ from + 0 = omega arith in
+    ap (count_up from) none ∙ ap (λ k. count_up k n) same
+count_up-join from (suc m) n =
+    let more : suc m + n ≡ suc (m + n) = omega arith in
+    let next : suc from + m ≡ from + suc m = omega arith in
+    ap (count_up from) more ∙ ap (λ ks. from ∷ ks) (count_up-join (suc from) m n ∙ ap (λ k. count_up (suc from) m ++ count_up k n) next)
+
+-- the names up to one index, and those from the next one on
+names_above-join : (low mid high creator : ℕ) → low ≤ mid → mid < high
+    → names_above low high creator ≡ names_above low mid creator ++ record { creator = creator; index = suc mid } ∷ names_above (suc mid) high creator
+names_above-join low mid high creator le lt =
+    let name : ℕ → ActionId = λ n. record { creator = creator; index = n } in
+    let whole : high - low ≡ (mid - low) + suc (high - suc mid) = omega arith in
+    let next : suc low + (mid - low) ≡ suc mid = omega arith in
+    ap (λ k. map name (count_up (suc low) k)) whole
+    ∙ ap (map name) (count_up-join (suc low) (mid - low) (suc (high - suc mid)) ∙ ap (λ k. above_up_to low mid ++ count_up k (suc (high - suc mid))) next)
+    ∙ map-append name (above_up_to low mid) (count_up (suc mid) (suc (high - suc mid)))
+
+-- a run with the names of the one that goes on from it
+ids_of-longer : (a run : IdRun) → a.first ≤ a.last → run.first ≤ run.last → goes_on a run ≡ true → ids_of (record a { last = run.last }) ≡ ids_of a ++ ids_of run
+ids_of-longer a run own le on =
+    let parts = and_parts (eqb a.creator run.creator) (eqb (suc a.last) run.first) on in
+    let creator : a.creator ≡ run.creator = eqb-true a.creator run.creator parts.0 in
+    let first : suc a.last ≡ run.first = eqb-true (suc a.last) run.first parts.1 in
+    let head : ActionId = record { creator = a.creator; index = a.first } in
+    ap (λ ids. head ∷ ids)
+    (names_above-join a.first a.last run.last a.creator own (omega arith)
+    ∙ ap (λ n. names_above a.first a.last a.creator ++ record { creator = a.creator; index = n } ∷ names_above n run.last a.creator) first
+    ∙ ap (λ c. names_above a.first a.last a.creator ++ record { creator = c; index = run.first } ∷ names_above run.first run.last c) creator)
+
+-- ---- runs with one more at their end
+
+AreRuns-last : (runs : List IdRun) (a : IdRun) → AreRuns (runs ++ a ∷ []) → a.first ≤ a.last
+AreRuns-last [] a are = are.0
+AreRuns-last (r ∷ runs) a are = AreRuns-last runs a are.2
+
+AreRuns-longer : (runs : List IdRun) (a : IdRun) (last : ℕ) → AreRuns (runs ++ a ∷ []) → a.last ≤ last → AreRuns (runs ++ record a { last = last } ∷ [])
+AreRuns-longer [] a last are le = let own : a.first ≤ a.last = are.0 in (omega arith, tt, tt)
+AreRuns-longer (r ∷ []) a last are le = (are.0, are.1, AreRuns-longer [] a last are.2 le)
+AreRuns-longer (r ∷ s ∷ runs) a last are le = (are.0, are.1, AreRuns-longer (s ∷ runs) a last are.2 le)
+
+AreRuns-more : (runs : List IdRun) (a run : IdRun) → AreRuns (runs ++ a ∷ []) → run.first ≤ run.last → goes_on a run ≡ false → AreRuns ((runs ++ a ∷ []) ++ run ∷ [])
+AreRuns-more [] a run are le off = (are.0, off, (le, tt, tt))
+AreRuns-more (r ∷ []) a run are le off = (are.0, are.1, AreRuns-more [] a run are.2 le off)
+AreRuns-more (r ∷ s ∷ runs) a run are le off = (are.0, are.1, AreRuns-more (s ∷ runs) a run are.2 le off)
+
+-- the last of the runs, and those before it
+split_last : (runs : List IdRun) (count : ℕ) (a : IdRun) → count ≡ length runs → 0 < count → a ≡ get_or runs (count - 1) a → runs ≡ take (count - 1) runs ++ a ∷ []
+split_last runs count a all some there =
+    let within : count - 1 < length runs = omega arith in
+    let whole : length runs ≤ count - 1 + 1 = omega arith in
+    sym (take_all (count - 1 + 1) runs whole) ∙ take_more runs (count - 1) a within ∙ ap (λ r. take (count - 1) runs ++ r ∷ []) (sym there)
+
+module _ (runs : List IdRun) (count : ℕ) (a run : IdRun) (all : count ≡ length runs) (some : 0 < count) (there : a ≡ get_or runs (count - 1) a) where
+  set_last : (b : IdRun) → set runs (count - 1) b ≡ take (count - 1) runs ++ b ∷ []
+  set_last b =
+      ap (λ rs. set rs (count - 1) b) (split_last runs count a all some there)
+      ∙ set_at (take (count - 1) runs) a [] b (count - 1) (length-take-le (count - 1) runs (omega arith))
+
+  pub longer-runs : AreRuns runs → run.first ≤ run.last → goes_on a run ≡ true → AreRuns (set runs (count - 1) (record a { last = run.last }))
+  longer-runs are le on =
+      let parts = and_parts (eqb a.creator run.creator) (eqb (suc a.last) run.first) on in
+      let first : suc a.last ≡ run.first = eqb-true (suc a.last) run.first parts.1 in
+      let old : AreRuns (take (count - 1) runs ++ a ∷ []) = subst AreRuns (split_last runs count a all some there) are in
+      subst AreRuns (sym (set_last (record a { last = run.last }))) (AreRuns-longer (take (count - 1) runs) a run.last old (omega arith))
+
+  pub longer-ids : AreRuns runs → run.first ≤ run.last → goes_on a run ≡ true → ids_in (set runs (count - 1) (record a { last = run.last })) ≡ ids_in runs ++ ids_of run
+  longer-ids are le on =
+      let front = take (count - 1) runs in
+      let old : AreRuns (front ++ a ∷ []) = subst AreRuns (split_last runs count a all some there) are in
+      let own : a.first ≤ a.last = AreRuns-last front a old in
+      let b : IdRun = record a { last = run.last } in
+      ap ids_in (set_last b)
+      ∙ flat_map-append ids_of front (b ∷ [])
+      ∙ ap (λ ids. ids_in front ++ ids) (append-nil (ids_of b) ∙ ids_of-longer a run own le on)
+      ∙ sym (append_assoc (ids_in front) (ids_of a) (ids_of run))
+      ∙ ap (λ ids. ids ++ ids_of run) (ap (λ ids. ids_in front ++ ids) (sym (append-nil (ids_of a))) ∙ sym (flat_map-append ids_of front (a ∷ [])) ∙ ap ids_in (sym (split_last runs count a all some there)))
+
+  pub more-runs : AreRuns runs → run.first ≤ run.last → goes_on a run ≡ false → AreRuns (runs ++ run ∷ [])
+  more-runs are le off =
+      let old : AreRuns (take (count - 1) runs ++ a ∷ []) = subst AreRuns (split_last runs count a all some there) are in
+      subst (λ rs. AreRuns (rs ++ run ∷ [])) (sym (split_last runs count a all some there)) (AreRuns-more (take (count - 1) runs) a run old le off)
+
+pub first-run : (runs : List IdRun) (run : IdRun) → length runs ≤ 0 → run.first ≤ run.last → AreRuns (runs ++ run ∷ [])
+first-run [] run none le = (le, tt, tt)
+first-run (r ∷ runs) run none le = absurd (omega arith)
+
+-- ---- equal names have equal runs
+
+abbrev pub same_run : IdRun → IdRun → Bool
+same_run a b = eqb a.creator b.creator && (eqb a.first b.first && eqb a.last b.last)
+
+-- the runs with a name in front
+in_front : ActionId → List IdRun → List IdRun
+in_front id [] = record { creator = id.creator; first = id.index; last = id.index } ∷ []
+in_front id (r ∷ runs) =
+    cond (eqb id.creator r.creator && eqb (suc id.index) r.first) (record r { first = id.index } ∷ runs)
+    (record { creator = id.creator; first = id.index; last = id.index } ∷ r ∷ runs)
+
+runs_of : List ActionId → List IdRun
+runs_of [] = []
+runs_of (id ∷ ids) = in_front id (runs_of ids)
+
+in_front-begins : (id : ActionId) (runs : List IdRun) → Ends (record { creator = id.creator; first = id.index; last = id.index }) runs
+    → in_front id runs ≡ record { creator = id.creator; first = id.index; last = id.index } ∷ runs
+unfolding in_front
+in_front-begins id [] ends = refl
+in_front-begins id (r ∷ runs) ends = rw ends
+
+in_front-goes_on : (creator from last : ℕ) (runs : List IdRun) → in_front (record { creator = creator; index = from }) (record { creator = creator; first = suc from; last = last } ∷ runs)
+    ≡ record { creator = creator; first = from; last = last } ∷ runs
+unfolding in_front
+in_front-goes_on creator from last runs = rw (eq-eqb creator creator refl, eq-eqb (suc from) (suc from) refl)
+
+Ends-later : (creator first next last : ℕ) (runs : List IdRun) → Ends (record { creator = creator; first = first; last = last }) runs → Ends (record { creator = creator; first = next; last = last }) runs
+Ends-later creator first next last [] ends = tt
+Ends-later creator first next last (r ∷ runs) ends = ends
+
+-- the names of a run in front of others come to that run
+run-found : (creator first count last : ℕ) (ids : List ActionId) → last ≡ first + count → Ends (record { creator = creator; first = first; last = last }) (runs_of ids)
+    → runs_of (record { creator = creator; index = first } ∷ (map (λ n. record { creator = creator; index = n }) (count_up (suc first) count) ++ ids))
+    ≡ record { creator = creator; first = first; last = last } ∷ runs_of ids
+unfolding runs_of
+run-found creator first zero last ids long ends =
+    let same : last ≡ first = omega arith in
+    let own : Ends (record { creator = creator; first = first; last = first }) (runs_of ids) = subst (λ n. Ends (record { creator = creator; first = first; last = n }) (runs_of ids)) same ends in
+    in_front-begins (record { creator = creator; index = first }) (runs_of ids) own ∙ ap (λ n. record { creator = creator; first = first; last = n } ∷ runs_of ids) (sym same)
+run-found creator first (suc count) last ids long ends =
+    ap (in_front (record { creator = creator; index = first })) (run-found creator (suc first) count last ids (omega arith) (Ends-later creator first (suc first) last (runs_of ids) ends))
+    ∙ in_front-goes_on creator first last (runs_of ids)
+
+runs_of-ids_in : (runs : List IdRun) → AreRuns runs → runs_of (ids_in runs) ≡ runs
+unfolding runs_of
+runs_of-ids_in [] are = refl
+runs_of-ids_in (r ∷ runs) are =
+    let le : r.first ≤ r.last = are.0 in
+    let rest : runs_of (ids_in runs) ≡ runs = runs_of-ids_in runs are.2 in
+    run-found r.creator r.first (r.last - r.first) r.last (ids_in runs) (omega arith) (subst (Ends r) (sym rest) are.1) ∙ ap (λ rs. r ∷ rs) rest
+
+same_run-Decides : (a b : IdRun) → Decides (same_run a b) (a ≡ b)
+same_run-Decides a b = (
+  (λ e. let parts = and_parts (eqb a.creator b.creator) (eqb a.first b.first && eqb a.last b.last) e in
+      let rest = and_parts (eqb a.first b.first) (eqb a.last b.last) parts.1 in
+      λ i. record { creator = eqb-true a.creator b.creator parts.0 i; first = eqb-true a.first b.first rest.0 i; last = eqb-true a.last b.last rest.1 i }),
+  (λ e. and_from (eqb a.creator b.creator) (eqb a.first b.first && eqb a.last b.last) (eq-eqb a.creator b.creator (ap (λ x. x.creator) e))
+      (and_from (eqb a.first b.first) (eqb a.last b.last) (eq-eqb a.first b.first (ap (λ x. x.first) e)) (eq-eqb a.last b.last (ap (λ x. x.last) e)))),
+)
+
+-- runs are equal exactly where their names are
+pub same-runs : (a b : List IdRun) (r : Bool) → AreRuns a → AreRuns b → r ≡ pointwise same_run a b → r ≡ pointwise same_id (ids_in a) (ids_in b)
+same-runs a b r a_are b_are is =
+    let runs = pointwise_decides same_run-Decides a b in
+    let ids = pointwise_decides same_id-Decides (ids_in a) (ids_in b) in
+    elim (cases_Bool (pointwise same_run a b)) [
+      | inl same ↦ is ∙ same ∙ sym (ids.1 (ap ids_in (runs.0 same)))
+      | inr differ ↦ is ∙ differ ∙ sym (false_from_ne_true (pointwise same_id (ids_in a) (ids_in b))
+          (λ e. absurd (both (sym differ ∙ runs.1 (sym (runs_of-ids_in a a_are) ∙ ap runs_of (ids.0 e) ∙ runs_of-ids_in b b_are)))))
+    ]
+  where
+    both : false ≡ true → ⊥
+    both e = cc
+
+-- ---- their text
+
+-- one name of a run more
+pub names_above-next : (low high creator : ℕ) → low < high → names_above low high creator ≡ record { creator = creator; index = low + 1 } ∷ names_above (low + 1) high creator
+names_above-next low high creator lt =
+    let name : ℕ → ActionId = λ n. record { creator = creator; index = n } in
+    let count : high - low ≡ suc (high - (low + 1)) = omega arith in
+    let next : suc low ≡ low + 1 = omega arith in
+    ap (λ k. map name (count_up (suc low) k)) count ∙ ap (λ n. name n ∷ map name (count_up (suc n) (high - (low + 1)))) next
+
+pub names_above-none : (low high creator : ℕ) → high ≤ low → names_above low high creator ≡ []
+names_above-none low high creator le =
+    let none : high - low ≡ 0 = omega arith in
+    ap (λ k. map (λ n. record { creator = creator; index = n }) (count_up (suc low) k)) none
+
+-- one run more behind those that are written
+pub text-more : (before some comma now : List ℕ) (runs : List IdRun) (i : ℕ) (run : IdRun) → i < length runs → run ≡ get_or runs i run
+    → some ≡ before ++ flat_map (λ y. 44 ∷ id_text y) (ids_in (take i runs)) → comma ≡ some ++ 44 ∷ [] → now ≡ comma ++ with_commas id_text (ids_of run)
+    → now ≡ before ++ flat_map (λ y. 44 ∷ id_text y) (ids_in (take (i + 1) runs))
+text-more before some comma now runs i run within there first second third =
+    let text : List ActionId → List ℕ = flat_map (λ y. 44 ∷ id_text y) in
+    let done = ids_in (take i runs) in
+    let more : take (i + 1) runs ≡ take i runs ++ run ∷ [] = take_more runs i run within ∙ ap (λ r. take i runs ++ r ∷ []) (sym there) in
+    let ids : ids_in (take (i + 1) runs) ≡ done ++ ids_of run =
+    ap ids_in more ∙ flat_map-append ids_of (take i runs) (run ∷ []) ∙ ap (λ xs. done ++ xs) (append-nil (ids_of run)) in
+    third ∙ ap (λ xs. xs ++ with_commas id_text (ids_of run)) (second ∙ ap (λ xs. xs ++ 44 ∷ []) first)
+    ∙ append_assoc (before ++ text done) (44 ∷ []) (with_commas id_text (ids_of run))
+    ∙ append_assoc before (text done) (text (ids_of run))
+    ∙ ap (λ xs. before ++ xs) (sym (flat_map-append (λ y. 44 ∷ id_text y) done (ids_of run)) ∙ ap text (sym ids))

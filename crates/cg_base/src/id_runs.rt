@@ -1,0 +1,127 @@
+ghost use Rattle.std.specs.Prelude.{◌≡◌, ◌≤◌, ◌∷◌, [], ◌++◌, OnOk, OnErr, IfOk};
+ghost use Rattle.cg_base.specs.IdRuns.{ids_of, ids_in, goes_on, AreRuns};
+
+use crate::{ActionId, NoMemory, ReplicaId};
+use std::alloc::Global;
+use std::marker::Model;
+
+/// A creator's names from the first index to the last one.
+#[derive(Clone, Copy, PartialEq, Eq)]
+pub(crate) struct IdRun {
+    pub(crate) creator: ReplicaId,
+    pub(crate) first: u64,
+    pub(crate) last: u64,
+}
+
+/// Names of actions, in order, held as runs: names of one creator that count up. They take the memory of their runs, and
+/// are copied, compared and let go in the time of these. Clauses see the list of the names.
+#[derive(Drop)]
+pub struct IdRuns {
+    pub(crate) runs: Vec<IdRun>,
+}
+
+impl Model for IdRuns {
+    ghost use Rattle.std.specs.Prelude.{List};
+    ghost use Rattle.cg_base.specs.declared.action_id.ActionId.{ActionId};
+    ghost use Rattle.cg_base.specs.IdRuns.{ids_in, AreRuns};
+
+    ghost Value = { List ActionId };
+
+    ghost view = { λ a. ids_in a.runs.items };
+
+    ghost invariant = { λ a. AreRuns a.runs.items };
+}
+
+impl IdRuns {
+    ghost use Rattle.cg_base.specs.IdRuns.{names_above};
+
+    pub fn new(alloc: Global) -> IdRuns
+        ensures { result ≡ [] }
+    {
+        IdRuns {
+            runs: Vec::new(alloc),
+        }
+    }
+
+    /// Puts a name at the end.
+    pub fn push(&mut self, id: &ActionId) -> Result<(), NoMemory>
+        ensures ok { OnOk result (self.new ≡ self.old ++ id.now ∷ []) }
+        ensures err { OnErr result (self.new ≡ self.old) }
+    {
+        let run = IdRun {
+            creator: id.creator,
+            first: id.index,
+            last: id.index,
+        };
+        add_run(&mut self.runs, run)
+    }
+
+    /// Puts the creator's names above the first index and up to the second at the end, in a time that doesn't depend on
+    /// how many they are.
+    pub fn push_run(&mut self, creator: ReplicaId, low: u64, high: u64) -> Result<(), NoMemory>
+        ensures ok { OnOk result (self.new ≡ self.old ++ names_above low high creator) }
+        ensures err { OnErr result (self.new ≡ self.old) }
+    {
+        if high <= low {
+            return Ok(());
+        }
+        let run = IdRun {
+            creator,
+            first: low + 1,
+            last: high,
+        };
+        add_run(&mut self.runs, run)
+    }
+
+    pub fn copy(&self, alloc: Global) -> Result<IdRuns, NoMemory>
+        ensures { IfOk result (λ ids. ids ≡ self.now) }
+    {
+        let runs = Vec::from_slice(alloc, self.runs.as_slice())?;
+        Ok(IdRuns { runs })
+    }
+}
+
+impl PartialEq for IdRuns {
+    ghost use Rattle.cg_base.specs.Ids.{same_id};
+    ghost use Rattle.std.specs.Cmp.{partial_equiv_from_equiv, and_equiv, on_equiv, nat_eq_equiv};
+    ghost use Rattle.std.specs.Cmp.Lexicographic.{pointwise, lists_equiv};
+
+    ghost eq = { pointwise same_id };
+
+    ghost laws = { partial_equiv_from_equiv (lists_equiv (and_equiv (on_equiv (λ a. a.creator) nat_eq_equiv) (on_equiv (λ a. a.index) nat_eq_equiv))) };
+
+    // equal lists have equal runs
+    fn eq(&self, other: &IdRuns) -> bool {
+        self.runs.as_slice() == other.runs.as_slice()
+    }
+}
+
+impl Eq for IdRuns {
+    ghost use Rattle.std.specs.Cmp.{and_equiv, on_equiv, nat_eq_equiv};
+    ghost use Rattle.std.specs.Cmp.Lexicographic.{lists_equiv};
+
+    ghost laws = { lists_equiv (and_equiv (on_equiv (λ a. a.creator) nat_eq_equiv) (on_equiv (λ a. a.index) nat_eq_equiv)) };
+}
+
+// the names of a run behind others, in the last of their runs where they go on from it
+fn add_run(runs: &mut Vec<IdRun>, run: IdRun) -> Result<(), NoMemory>
+    requires runs { AreRuns runs.old.items }
+    requires run { run.first ≤ run.last }
+    ensures kept { AreRuns runs.new.items }
+    ensures ok { OnOk result (ids_in runs.new.items ≡ ids_in runs.old.items ++ ids_of run) }
+    ensures err { OnErr result (runs.new.items ≡ runs.old.items) }
+{
+    let count = runs.len();
+    if count > 0 && goes_on(&runs[count - 1], &run) {
+        runs[count - 1].last = run.last;
+        return Ok(());
+    }
+    runs.push(run)?;
+    Ok(())
+}
+
+fn goes_on(a: &IdRun, b: &IdRun) -> bool
+    ensures { result ≡ goes_on a.now b.now }
+{
+    a.creator == b.creator && a.last < b.first && b.first - a.last == 1
+}
