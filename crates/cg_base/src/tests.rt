@@ -3,6 +3,7 @@ use crate::{
     Weighted, cut_at, put, put_id, put_id_list, put_id_runs, put_number, put_set, put_weight_set,
     put_weighted,
 };
+use std::alloc::Global;
 
 fn id(n: u8) -> Result<ReplicaId, NoMemory> {
     ReplicaId::new(n).ok_or(NoMemory)
@@ -157,30 +158,38 @@ fn text_of_plain_values(rt: HostRuntime) -> Result<(), NoMemory> {
     Ok(())
 }
 
+// of each creator the names above the first index and up to the second, a single one by itself
+fn runs(alloc: Global, parts: &[(u8, u8, u8)]) -> Result<IdRuns, NoMemory> {
+    let mut ids = IdRuns::new(alloc);
+    for (creator, low, high) in parts {
+        let low = u64::from(*low);
+        let high = u64::from(*high);
+        if high == low + 1 {
+            ids.push(&name(*creator, high)?)?;
+        } else {
+            ids.push_run(id(*creator)?, low, high)?;
+        }
+    }
+    Ok(ids)
+}
+
 #[test]
 fn names_in_runs(rt: HostRuntime) -> Result<(), NoMemory> {
-    let mut ids = IdRuns::new(rt.alloc());
-    ids.push_run(id(1)?, 2, 5)?;
-    ids.push(&name(1, 6)?)?;
-    ids.push(&name(1, 8)?)?;
-    ids.push_run(id(2)?, 9, 9)?;
-    ids.push_run(id(2)?, 8, 10)?;
-    let mut others = IdRuns::new(rt.alloc());
-    others.push(&name(1, 3)?)?;
-    others.push_run(id(1)?, 3, 6)?;
-    assert!(rt; others != ids);
-    others.push_run(id(1)?, 7, 8)?;
-    others.push(&name(2, 9)?)?;
-    others.push(&name(2, 10)?)?;
-    assert!(rt; others == ids);
-    ids.push_run(id(3)?, u64::MAX - 1, u64::MAX)?;
-    ids.push(&name(3, 0)?)?;
-    let mut out = Vec::new(rt.alloc());
-    put_id_runs(&mut out, &ids.copy(rt.alloc())?)?;
-    put_id_runs(&mut out, &IdRuns::new(rt.alloc()))?;
-    assert!(rt;
-        out.as_slice() == b"[1:3,1:4,1:5,1:6,1:8,2:9,2:10,3:18446744073709551615,3:0][]".as_slice()
-    );
+    let alloc = rt.alloc();
+    let ids = runs(
+        alloc,
+        &[(1, 2, 5), (1, 5, 6), (1, 7, 9), (2, 9, 9), (2, 4, 5)],
+    )?;
+    let same = runs(
+        alloc,
+        &[(1, 2, 3), (1, 3, 6), (1, 7, 8), (1, 8, 9), (2, 4, 5)],
+    )?;
+    assert!(rt; same == ids);
+    assert!(rt; runs(alloc, &[(1, 2, 9), (2, 4, 5)])? != ids);
+    let mut out = Vec::new(alloc);
+    put_id_runs(&mut out, &ids.copy(alloc)?)?;
+    put_id_runs(&mut out, &IdRuns::new(alloc))?;
+    assert!(rt; out.as_slice() == b"[1:3,1:4,1:5,1:6,1:8,1:9,2:5][]".as_slice());
     Ok(())
 }
 
