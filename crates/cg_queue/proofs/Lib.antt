@@ -8,3 +8,4 @@ pub mod Soundness
 pub mod Renaming
 mod Places
 pub mod ShownReds
+mod PlainReds

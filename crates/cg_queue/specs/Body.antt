@@ -98,6 +98,11 @@ abbrev pub flag_of : Option Red → Bool
 flag_of None = true
 flag_of (Some r) = r.is_yellow
 
+-- a name by itself, or none where the flag is on
+abbrev pub unless : Bool → ActionId → List ActionId
+unless true id = []
+unless false id = id ∷ []
+
 -- each name is one of a known action
 abbrev pub AreKnown : List ActionId → List ActionId → Type 0
 AreKnown cut [] = Unit {0}

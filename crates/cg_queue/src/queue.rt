@@ -1,9 +1,10 @@
-ghost use Rattle.std.specs.Prelude.{◌≡◌, ◌≤◌, ◌<◌, ◌-◌, ◌^◌, ◌++◌, ◌∷◌, [], suc, drop, length, slice_get, IfOk, OnOk, OnErr, MatchOption};
+ghost use Rattle.std.specs.Prelude.{◌≡◌, ◌≤◌, ◌<◌, ◌-◌, ◌^◌, ◌++◌, ◌∷◌, [], suc, drop, filter, not, length, slice_get, IfOk, OnOk, OnErr, MatchOption};
 ghost use Rattle.std.specs.Option.{option_copied};
 ghost use Rattle.cg_base.specs.Cuts.{index_in};
 ghost use Rattle.cg_base.specs.Lists.{at_place};
 ghost use Rattle.cg_queue.specs.Lanes.{rows_of};
-ghost use Rattle.cg_queue.specs.Body.{actions_in, all_reds};
+ghost use Rattle.cg_queue.specs.Body.{parts_of, seen, actions_in, all_reds, flag_of, unless, IsLane};
+ghost use Rattle.cg_base.specs.Ids.{names};
 ghost use Rattle.cg_queue.specs.Queue.{names_of};
 
 use crate::body::{
@@ -14,7 +15,7 @@ use crate::lanes::{Lanes, item_in};
 use crate::red::Red;
 use crate::{Mark, QueueFault};
 use cg_action::{Action, ActionList};
-use cg_base::{ActionId, Cut, IdList, NoMemory, Row};
+use cg_base::{ActionId, Cut, IdList, IdRuns, NoMemory, ReplicaId, Row};
 use std::alloc::Global;
 use std::collections::VecDeque;
 use std::marker::Model;
@@ -40,7 +41,6 @@ impl Model for Queue {
 impl Queue {
     ghost use Rattle.cg_queue.specs.Queue.{Answers, AreReds, resumed, marked_red, marked_yellow, marked_green, green_count, discarded, with_yellow, names_of, action_of};
     ghost use Rattle.cg_queue.specs.Shown.{IsShown};
-    ghost use Rattle.cg_base.specs.Ids.{names};
 
     /// A queue that knows no action.
     pub fn new(alloc: Global) -> Queue
@@ -204,15 +204,16 @@ impl Queue {
         Ok(list)
     }
 
-    /// The names of the reds, in the same order. No action is copied.
-    pub fn red_names(&self) -> Result<IdList, NoMemory>
-        ensures { IfOk result (λ list. list ≡ names_of self.now.reds) }
+    /// The names of the reds that aren't yellow, in the same order. Where no name is yellow its time doesn't depend on
+    /// how many reds there are.
+    pub fn plain_red_names(&self) -> Result<IdRuns, NoMemory>
+        ensures { IfOk result (λ ids. ids ≡ filter (λ id. not (names self.now.yellow id)) (names_of self.now.reds)) }
     {
-        let mut list = Row::new(self.alloc);
+        let mut ids = IdRuns::new(self.alloc);
         for place in 0..32 {
-            add_red_names(&self.body.reds, place, &mut list)?;
+            add_plain_names(&self.body, place, &mut ids)?;
         }
-        Ok(list)
+        Ok(ids)
     }
 
     /// A red, by its place among them by name, counted from 0.
@@ -394,28 +395,42 @@ fn copy_reds(
     Ok(())
 }
 
-// the names of the reds at a place, behind those that are listed
-fn add_red_names(reds: &Lanes<Red>, place: usize, list: &mut IdList) -> Result<(), NoMemory>
-    ensures { OnOk result (list.new ≡ list.old ++ names_of (actions_in (rows_of reds.now place))) }
+// the names of the reds at a place that aren't yellow, behind those that are listed. They lie between the two cuts
+fn add_plain_names(body: &Body, place: usize, ids: &mut IdRuns) -> Result<(), NoMemory>
+    requires place { place < 32 }
+    requires lane { IsLane (parts_of body.now) place }
+    ensures { OnOk result (ids.new ≡ ids.old ++ filter (λ id. not (names (seen (parts_of body.now)).yellow id)) (names_of (actions_in (rows_of body.now.reds place)))) }
 {
-    for i in 0..reds.len(place) {
-        push_name_at(reds, place, i, list)?;
+    let creator = ReplicaId::known(place as u8 + 1);
+    let low = body.green_cut.get(creator);
+    let high = body.red_cut.get(creator);
+    if body.yellow.is_empty() {
+        return ids.push_run(creator, low, high);
+    }
+    for index in low..high {
+        let id = ActionId {
+            creator,
+            index: index + 1,
+        };
+        push_plain(body, place, (index - low) as usize, &id, ids)?;
     }
     Ok(())
 }
 
-fn push_name_at(
-    reds: &Lanes<Red>,
+// the name of the red at a place of a row, where it isn't yellow
+fn push_plain(
+    body: &Body,
     place: usize,
     i: usize,
-    list: &mut IdList,
+    id: &ActionId,
+    ids: &mut IdRuns,
 ) -> Result<(), NoMemory>
-    ensures { OnOk result (list.new ++ names_of (actions_in (drop (suc i) (rows_of reds.now place))) ≡ list.old ++ names_of (actions_in (drop i (rows_of reds.now place)))) }
+    ensures { OnOk result (ids.new ≡ ids.old ++ unless (flag_of (slice_get (rows_of body.now.reds place) i)) id.now) }
 {
-    match reds.get(place, i) {
-        Some(red) => list.push(red.action.id),
-        None => Ok(()),
+    if is_flagged(body, place, i) {
+        return Ok(());
     }
+    ids.push(id)
 }
 
 fn push_green_at(

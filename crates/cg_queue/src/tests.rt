@@ -4,7 +4,9 @@ ghost use Rattle.std.specs.Prelude.{◌≡◌, IfOk};
 
 use super::*;
 use cg_action::{Action, Kind};
-use cg_base::{ActionId, Cut, IdList, ReplicaId, put, put_id, put_id_list, put_number};
+use cg_base::{
+    ActionId, Cut, IdList, ReplicaId, put, put_id, put_id_list, put_id_runs, put_number,
+};
 use std::alloc::Global;
 use std::process::Abort;
 use std::test::Fail;
@@ -243,6 +245,34 @@ fn actions_by_name_and_by_place(rt: HostRuntime) -> Result<(), Fail> {
         b"2:6 2:7 ".as_slice()
     );
     assert!(rt; queue.green_at(6).is_none());
+    Ok(())
+}
+
+const SOME_YELLOW: &str = "red 2:6 -> placed | 5 5 [] [2:6] []
+red 2:7 -> placed | 5 5 [] [2:6,2:7] []
+red 1:1 -> placed | 5 5 [] [1:1,2:6,2:7] []
+yellow 2:6 -> known | 5 5 [] [1:1,2:6,2:7] [2:6]
+yellow 2:8 -> placed | 5 5 [] [1:1,2:6,2:7,2:8] [2:6,2:8]
+red 2:9 -> placed | 5 5 [] [1:1,2:6,2:7,2:8,2:9] [2:6,2:8]
+green 2:6 at 6 -> placed | 5 6 [2:6] [1:1,2:7,2:8,2:9] [2:8]
+yellow 2:7 -> known | 5 6 [2:6] [1:1,2:7,2:8,2:9] [2:8,2:7]";
+
+// behind each line's call, the names of the reds that aren't yellow
+const PLAIN: &str =
+    "[2:6] [2:6,2:7] [1:1,2:6,2:7] [1:1,2:7] [1:1,2:7] [1:1,2:7,2:9] [1:1,2:7,2:9] [1:1,2:9] ";
+
+#[test]
+fn reds_that_are_not_yellow(rt: HostRuntime) -> Result<(), Fail> {
+    let mut cut = Cut::zero();
+    cut.raise(ReplicaId::known(2), 5);
+    let mut queue = Queue::resume(rt.alloc(), 5, cut);
+    let mut out = Vec::new(rt.alloc());
+    for line in SOME_YELLOW.lines() {
+        follows(&rt, &mut queue, line)?;
+        put_id_runs(&mut out, &queue.plain_red_names()?)?;
+        put(&mut out, b" ")?;
+    }
+    assert_eq!(rt; out.as_slice(), PLAIN.as_bytes());
     Ok(())
 }
 

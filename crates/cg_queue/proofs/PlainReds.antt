@@ -1,0 +1,107 @@
+-- The names of a creator's reds lie between the cuts, and the flags say which of them are yellow.
+use Rattle.std.proofs.Common.{◌≡◌, ℕ, zero, suc, ◌+◌, ◌-◌, ◌<◌, ◌≤◌, List, [], ◌∷◌, ◌++◌, length, drop, filter, map, Bool, not, true, false, refl, sym, ap, ◌∙◌, arith, append_assoc}
+use Rattle.std.specs.Prelude.{slice_get}
+use Rattle.std.proofs.lemmas.List.{map-append}
+use Rattle.cg_base.specs.declared.action_id.ActionId.{ActionId}
+use Rattle.cg_base.specs.Ids.{names}
+use Rattle.cg_base.specs.Lists.{count_up}
+use Rattle.cg_base.specs.Cuts.{index_in}
+use Rattle.cg_base.specs.IdRuns.{names_above}
+use Rattle.cg_action.specs.declared.action.Action.{Action}
+use Rattle.cg_queue.specs.declared.red.Red.{Red}
+use Rattle.cg_queue.specs.Queue.{names_of}
+use Rattle.cg_queue.specs.Body.{Parts, seen, Run, Flagged, IsLane, actions_in, reds_from, flag_of, unless}
+use Rattle.cg_queue.proofs.RowLemmas.{filter-join}
+use Rattle.cg_queue.proofs.FlagLemmas.{Flagged-above}
+use Rattle.cg_queue.proofs.Soundness.{drop-end, reds-step}
+
+-- those of the names that aren't yellow
+abbrev pub plain : List ActionId → List ActionId → List ActionId
+plain yellow ids = filter (λ id. not (names yellow id)) ids
+
+same_name : (id : ActionId) (creator index : ℕ) → id.creator ≡ creator → id.index ≡ index → id ≡ record { creator = creator; index = index }
+same_name id creator index c i = λ k. record { creator = c k; index = i k }
+
+-- ---- no name is yellow
+
+pub no_names : (ids : List ActionId) → length ids ≡ 0 → ids ≡ []
+no_names [] none = refl
+no_names (id ∷ ids) none = absurd (omega arith)
+
+plain-all : (ids : List ActionId) → plain [] ids ≡ ids
+plain-all [] = refl
+plain-all (id ∷ ids) = ap (λ xs. id ∷ xs) (plain-all ids)
+
+run-names : (creator from : ℕ) (reds : List Red) → Run creator from reds → names_of (actions_in reds) ≡ map (λ n. record { creator = creator; index = n }) (count_up from (length reds))
+run-names creator from [] run = refl
+run-names creator from (r ∷ reds) run =
+    ap (λ id. id ∷ names_of (actions_in reds)) (same_name r.action.id creator from run.0 run.1)
+    ∙ ap (λ (ids : List ActionId). record { creator = creator; index = from } ∷ ids) (run-names creator (suc from) reds run.2)
+
+-- they are those between the two cuts
+pub lane-names : (b : Parts) (place low high : ℕ) → IsLane b place → low ≡ index_in b.green_cut (suc place) → high ≡ index_in b.red_cut (suc place) → b.yellow ≡ []
+    → names_above low high (suc place) ≡ plain (seen b).yellow (names_of (actions_in (b.reds place)))
+lane-names b place low high lane is_low is_high none =
+    let last = lane.last in
+    let count : high - low ≡ length (b.reds place) = omega arith in
+    ap (λ n. map (λ k. record { creator = suc place; index = k }) (count_up (suc low) n)) count
+    ∙ ap (λ n. map (λ k. record { creator = suc place; index = k }) (count_up (suc n) (length (b.reds place)))) is_low
+    ∙ sym (run-names (suc place) (suc (index_in b.green_cut (suc place))) (b.reds place) lane.reds)
+    ∙ sym (plain-all (names_of (actions_in (b.reds place))))
+    ∙ ap (λ yellow. plain (seen (record b { yellow = yellow })).yellow (names_of (actions_in (b.reds place)))) (sym none)
+
+-- ---- some are
+
+plain-first : (yellow : List ActionId) (id : ActionId) (ids : List ActionId) (flag : Bool) → flag ≡ names yellow id → plain yellow (id ∷ ids) ≡ unless flag id ++ plain yellow ids
+plain-first yellow id ids true is = rw (← is)
+plain-first yellow id ids false is = rw (← is)
+
+plain-next : (yellow : List ActionId) (creator from : ℕ) (reds : List Red) (i : ℕ) (id : ActionId) → Run creator from reds → Flagged yellow reds → i < length reds → id.creator ≡ creator → id.index ≡ from + i
+    → plain yellow (names_of (actions_in (drop i reds))) ≡ unless (flag_of (slice_get reds i)) id ++ plain yellow (names_of (actions_in (drop (suc i) reds)))
+plain-next yellow creator from [] i id run flags lt c index = absurd (omega arith)
+plain-next yellow creator from (r ∷ reds) zero id run flags lt c index =
+    let own : id ≡ r.action.id = let e : id.index ≡ r.action.id.index = omega (arith, run.1) in λ k. record { creator = (c ∙ sym run.0) k; index = e k } in
+    plain-first yellow r.action.id (names_of (actions_in reds)) r.is_yellow flags.0
+    ∙ ap (λ x. unless r.is_yellow x ++ plain yellow (names_of (actions_in reds))) (sym own)
+plain-next yellow creator from (r ∷ reds) (suc i) id run flags lt c index = plain-next yellow creator (suc from) reds i id run.2 flags.1 (omega arith) c (omega arith)
+
+module _ (b : Parts) (place low high : ℕ) (lane : IsLane b place) (is_low : low ≡ index_in b.green_cut (suc place)) (is_high : high ≡ index_in b.red_cut (suc place)) where
+  flags-seen : Flagged (seen b).yellow (b.reds place)
+  flags-seen = Flagged-above b.green_cut b.yellow (suc place) (suc (index_in b.green_cut (suc place))) (b.reds place) (omega arith) lane.reds lane.flags
+
+  -- one name more is listed, or passed over
+  pub plain-listed : (index i : ℕ) (id : ActionId) (before now : List ActionId) → low ≤ index → index < high → i ≡ index - low → id.creator ≡ suc place → id.index ≡ index + 1
+      → now ≡ before ++ unless (flag_of (slice_get (b.reds place) i)) id
+      → now ++ plain (seen b).yellow (names_of (actions_in (drop (index + 1 - low) (b.reds place)))) ≡ before ++ plain (seen b).yellow (names_of (actions_in (drop (index - low) (b.reds place))))
+  plain-listed index i id before now le lt at creator is_index put =
+      let last = lane.last in
+      let yellow = (seen b).yellow in
+      let within : i < length (b.reds place) = omega arith in
+      let number : id.index ≡ suc (index_in b.green_cut (suc place)) + i = omega arith in
+      let next : index + 1 - low ≡ suc i = omega arith in
+      let rest = plain yellow (names_of (actions_in (drop (suc i) (b.reds place)))) in
+      ap (λ n. now ++ plain yellow (names_of (actions_in (drop n (b.reds place))))) next
+      ∙ ap (λ ids. ids ++ rest) put
+      ∙ append_assoc before (unless (flag_of (slice_get (b.reds place) i)) id) rest
+      ∙ ap (λ ids. before ++ ids) (sym (plain-next yellow (suc place) (suc (index_in b.green_cut (suc place))) (b.reds place) i id lane.reds flags-seen within creator number))
+      ∙ ap (λ n. before ++ plain yellow (names_of (actions_in (drop n (b.reds place))))) at
+
+  pub plain-begins : plain (seen b).yellow (names_of (actions_in (drop (low - low) (b.reds place)))) ≡ plain (seen b).yellow (names_of (actions_in (b.reds place)))
+  plain-begins = let none : low - low ≡ 0 = omega arith in ap (λ n. plain (seen b).yellow (names_of (actions_in (drop n (b.reds place))))) none
+
+  pub plain-ends : (index : ℕ) → high ≤ index → plain (seen b).yellow (names_of (actions_in (drop (index - low) (b.reds place)))) ≡ []
+  plain-ends index le =
+      let last = lane.last in
+      let behind : length (b.reds place) ≤ index - low = omega arith in
+      ap (λ (reds : List Red). plain (seen b).yellow (names_of (actions_in reds))) (drop-end (b.reds place) (index - low) behind)
+
+-- ---- all rows
+
+pub plain-step : (yellow : List ActionId) (lanes : ℕ → List Red) (place : ℕ) → place < 32
+    → plain yellow (names_of (reds_from lanes (32 - place) place)) ≡ plain yellow (names_of (actions_in (lanes place))) ++ plain yellow (names_of (reds_from lanes (32 - suc place) (suc place)))
+plain-step yellow lanes place lt =
+    let name : Action → ActionId = λ a. a.id in
+    let rest = reds_from lanes (32 - suc place) (suc place) in
+    ap (λ xs. plain yellow (names_of xs)) (reds-step lanes place lt)
+    ∙ ap (plain yellow) (map-append name (actions_in (lanes place)) rest)
+    ∙ filter-join (λ id. not (names yellow id)) (names_of (actions_in (lanes place))) (names_of rest)
