@@ -1,5 +1,5 @@
 //! The actions that are known, each within the limits of an action.
-ghost use Rattle.std.specs.Prelude.{◌≡◌, ◌≤◌, ◌<◌, ◌^◌, ◌-◌, suc, IfOk, IfSome, IsSome, OnOk, OnErr};
+ghost use Rattle.std.specs.Prelude.{◌≡◌, ◌≤◌, ◌<◌, ◌^◌, ◌-◌, suc, filter, not, IfOk, IfSome, IsSome, OnOk, OnErr};
 ghost use Rattle.std.specs.Option.{option_copied};
 ghost use Rattle.cg_base.specs.Cuts.{index_in};
 ghost use Rattle.cg_base.specs.Ids.{names};
@@ -10,7 +10,7 @@ ghost use Rattle.cg_client.specs.Kept.{AreKept};
 ghost use Rattle.cg_queue.specs.Queue.{Answers, AreReds, resumed, marked_red, marked_yellow, marked_green, discarded, green_count, action_of, names_of};
 
 use cg_action::{Action, ActionList};
-use cg_base::{ActionId, Cut, IdList, NoMemory};
+use cg_base::{ActionId, Cut, IdList, IdRuns, NoMemory};
 use cg_queue::{Mark, Queue, QueueFault};
 use std::alloc::Global;
 use std::marker::Model;
@@ -105,10 +105,10 @@ impl Known {
         self.queue.reds()
     }
 
-    pub(crate) fn red_names(&self) -> Result<IdList, NoMemory>
-        ensures { IfOk result (λ list. list ≡ names_of self.now.reds) }
+    pub(crate) fn plain_red_names(&self) -> Result<IdRuns, NoMemory>
+        ensures { IfOk result (λ ids. ids ≡ filter (λ id. not (names self.now.yellow id)) (names_of self.now.reds)) }
     {
-        self.queue.red_names()
+        self.queue.plain_red_names()
     }
 
     pub(crate) fn yellow(&self) -> Result<IdList, NoMemory>

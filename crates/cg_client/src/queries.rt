@@ -13,7 +13,7 @@ use crate::known::Known;
 use crate::marks::name_of;
 use crate::overlay::answer_behind;
 use cg_action::{Action, Query};
-use cg_base::{IdList, NoMemory, Row};
+use cg_base::{IdList, IdRuns, NoMemory, Row};
 use cg_db::Answer;
 use cg_records::Yellow;
 use cg_report::View;
@@ -84,12 +84,10 @@ fn push_plain(queue: &Known, a: Action, list: &mut Actions) -> Result<(), NoMemo
 }
 
 // the names of the reds that aren't yellow, in their order
-fn plain_names(queue: &Known) -> Result<IdList, NoMemory>
+fn plain_names(queue: &Known) -> Result<IdRuns, NoMemory>
     ensures { IfOk result (λ ids. ids ≡ names_of (plain_reds queue.now)) }
 {
-    let mut ids = queue.red_names()?.into_vec();
-    ids.retain(|id| !queue.is_yellow(*id));
-    Ok(Row::from_vec(ids))
+    queue.plain_red_names()
 }
 
 /// The names of these actions.

@@ -15,7 +15,8 @@ ghost use Rattle.cg_action.specs.Limits.{IsAction, IsKind};
 use super::*;
 use cg_action::{Action, Kind, Query, decode};
 use cg_base::{
-    ActionId, Cut, IdSet, ReplicaId, Row, WeightSet, put, put_id, put_id_list, put_number,
+    ActionId, Cut, IdSet, ReplicaId, Row, WeightSet, put, put_id, put_id_list, put_id_runs,
+    put_number,
 };
 use cg_db::{Answer, Db};
 use cg_members::{Members, ServerSet};
@@ -486,7 +487,7 @@ fn put_core(core: &Core, out: &mut Vec<u8>) -> Result<(), Fail> {
     put(out, b" ")?;
     put_id_list(out, view.yellow.list.as_slice())?;
     put(out, b" ")?;
-    put_id_list(out, view.reds.as_slice())?;
+    put_id_runs(out, &view.reds)?;
     put(out, b" ")?;
     Ok(put_id_list(out, view.own.as_slice())?)
 }

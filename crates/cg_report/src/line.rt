@@ -1,4 +1,4 @@
-use cg_base::{IdList, IdSet, ReplicaId};
+use cg_base::{IdList, IdRuns, IdSet, ReplicaId};
 use cg_records::{Primary, Vulnerable, Yellow};
 
 /// The state of a replica.
@@ -32,7 +32,7 @@ pub struct View {
     pub attempt_index: u64,
     pub vulnerable: Option<Vulnerable>,
     pub yellow: Yellow,
-    pub reds: IdList,
+    pub reds: IdRuns,
     pub own: IdList,
     pub left: IdSet,
     pub buffered: u64,

@@ -2,7 +2,7 @@ ghost use Rattle.std.specs.Prelude.{◌≡◌, ◌++◌, OnOk, decimal};
 ghost use Rattle.cg_report.specs.LineText.{state_text, phase_text, prim_text, vulnerable_text, yellow_text, counts_text, components_text, actions_text, view_text, up_text, line_text};
 
 use crate::{Line, ShownPhase, StateName, UpLine, View};
-use cg_base::{NoMemory, put, put_id_list, put_number, put_set, put_weight_set};
+use cg_base::{NoMemory, put, put_id_list, put_id_runs, put_number, put_set, put_weight_set};
 use cg_records::{Primary, Vulnerable, Yellow};
 
 fn put_state(out: &mut Vec<u8>, state: StateName) -> Result<(), NoMemory>
@@ -102,7 +102,7 @@ fn put_actions(out: &mut Vec<u8>, view: &View) -> Result<(), NoMemory>
     put(out, b" ")?;
     put_yellow(out, &view.yellow)?;
     put(out, b" r")?;
-    put_id_list(out, view.reds.as_slice())?;
+    put_id_runs(out, &view.reds)?;
     put(out, b" o")?;
     put_id_list(out, view.own.as_slice())
 }

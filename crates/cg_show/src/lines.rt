@@ -115,7 +115,7 @@ fn copy_view(alloc: Global, view: &View) -> Result<View, NoMemory>
         attempt_index: view.attempt_index,
         vulnerable: view.vulnerable,
         yellow: view.yellow.copy(alloc)?,
-        reds: IdList::from_slice(alloc, view.reds.as_slice())?,
+        reds: view.reds.copy(alloc)?,
         own: IdList::from_slice(alloc, view.own.as_slice())?,
         left: view.left,
         buffered: view.buffered,

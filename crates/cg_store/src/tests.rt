@@ -10,7 +10,7 @@
 
 use super::*;
 use cg_action::{Action, Query};
-use cg_base::{IdList, NoMemory, ReplicaId, Row, put, put_id_list, put_number};
+use cg_base::{IdList, NoMemory, ReplicaId, Row, put, put_id_list, put_id_runs, put_number};
 use cg_client::Core;
 use cg_db::Answer;
 use cg_disk::{Disk, DiskFault, ModelDisk, Side};
@@ -210,7 +210,7 @@ fn put_lists(core: &Core, out: &mut Vec<u8>) -> Result<(), NoMemory> {
     put(out, b" ")?;
     put_id_list(out, view.yellow.list.as_slice())?;
     put(out, b" ")?;
-    put_id_list(out, view.reds.as_slice())?;
+    put_id_runs(out, &view.reds)?;
     put(out, b" ")?;
     put_id_list(out, view.own.as_slice())
 }
