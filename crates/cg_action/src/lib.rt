@@ -22,6 +22,3 @@ pub use query::{Query, copy_query};
 pub use reading::{decode, take_action, take_action_id, take_value};
 pub use value::Value;
 pub use writing::{encode, put_action, put_action_id, put_value};
-
-#[cfg(test)]
-mod tests;

@@ -14,8 +14,6 @@ mod no_memory;
 mod pieces;
 mod replica_id;
 mod row;
-#[cfg(test)]
-mod tests;
 mod text;
 mod weight_set;
 mod weighted;

@@ -34,6 +34,3 @@ pub use held::Core;
 pub use install::Installed;
 pub use parts::DraftParts;
 pub use request::Request;
-
-#[cfg(test)]
-mod tests;

@@ -15,6 +15,3 @@ pub use fault::CodecFault;
 pub use fields::Fields;
 pub use laws::{fields_are_exact, fields_compose};
 pub use writing::{put_i64, put_text, put_truth, put_u8, put_u32, put_u64};
-
-#[cfg(test)]
-mod tests;

@@ -18,6 +18,3 @@ pub use db::Db;
 pub use effect::Effect;
 pub use entry::{DbEntry, EntryList, TxtList};
 pub use laws::entries_stay_within_limits;
-
-#[cfg(test)]
-mod tests;

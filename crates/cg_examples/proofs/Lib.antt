@@ -1,2 +1,1 @@
-mod Attempting
 mod Starting

@@ -1,12 +1,9 @@
 //! Some lines of use for each layer that stands alone, as docs/LIBRARIES.md shows them.
 //!
 //! Tests alone: each makes a value, makes a few calls, and asserts what comes of them by the rules of the layer. They are
-//! meant to be copied, so each stands by itself, with what it imports; nothing stands on this crate. `checkpoint` alone is no
-//! line of use: it is a case of the store.
+//! meant to be copied, so each stands by itself, with what it imports; nothing stands on this crate.
 #![tactic(auto)]
 
-#[cfg(test)]
-mod checkpoint;
 #[cfg(test)]
 mod database;
 #[cfg(test)]

@@ -21,8 +21,6 @@ mod receipts;
 mod refusals;
 mod roster;
 mod steps;
-#[cfg(test)]
-mod tests;
 mod try_clone;
 
 pub use delivery::{Delivery, DeliveryList, Handed, HandedList};

@@ -16,6 +16,3 @@ pub use clean::{CleanSink, CleanSource};
 pub use memory::{MemSink, MemSource};
 pub use outside::{Failed, IoFault, Sink, Source};
 pub use standard::{StdSink, StdSource};
-
-#[cfg(test)]
-mod tests;

@@ -16,8 +16,6 @@ mod load;
 mod open;
 mod parse;
 mod put;
-#[cfg(test)]
-mod tests;
 
 pub use journal::{AppendErr, Journal};
 pub use open::{FormatErr, JournalOpen};

@@ -11,8 +11,6 @@ mod laws;
 mod members;
 mod primary;
 mod summary;
-#[cfg(test)]
-mod tests;
 mod verdict;
 mod vulnerable;
 mod yellow;

@@ -15,6 +15,3 @@ pub use laws::{members_follow_greens, servers_stay_apart};
 pub use members::Members;
 pub use server::Server;
 pub use server_set::{ServerSet, Servers};
-
-#[cfg(test)]
-mod tests;

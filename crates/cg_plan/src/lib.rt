@@ -10,8 +10,6 @@ mod making;
 mod parts;
 mod place;
 mod progress;
-#[cfg(test)]
-mod tests;
 
 pub use laws::plans_end;
 pub use parts::{Item, Other, Part, Sent, Turn};

@@ -15,6 +15,3 @@ mod red;
 
 pub use mark::{Mark, QueueFault};
 pub use queue::Queue;
-
-#[cfg(test)]
-mod tests;

@@ -12,8 +12,6 @@ mod numbers;
 mod primary;
 mod sets;
 mod stable;
-#[cfg(test)]
-mod tests;
 mod vulnerable;
 mod yellow;
 

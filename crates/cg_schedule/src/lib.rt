@@ -23,6 +23,3 @@ pub use place::Place;
 pub use print::print_line;
 pub use reader::Reader;
 pub use word::Word;
-
-#[cfg(test)]
-mod tests;

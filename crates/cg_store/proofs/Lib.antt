@@ -10,4 +10,3 @@ mod Chosen
 mod Appending
 mod Checkpointing
 mod Opened
-mod Tested

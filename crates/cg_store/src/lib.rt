@@ -17,8 +17,6 @@ mod rebuild;
 mod records;
 mod replay;
 mod store;
-#[cfg(test)]
-mod tests;
 mod unwritten;
 mod values;
 

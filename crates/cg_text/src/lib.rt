@@ -21,6 +21,3 @@ pub use numbers::{put_i64, put_u64, read_i64, read_u64};
 pub use quoted::{put_quoted, read_quoted};
 pub use txt::Txt;
 pub use words::{Words, is_passed_over};
-
-#[cfg(test)]
-mod tests;

@@ -9,8 +9,6 @@
 mod laws;
 mod message;
 mod reading;
-#[cfg(test)]
-mod tests;
 mod writing;
 
 pub use laws::{messages_are_exact, messages_stand_apart};

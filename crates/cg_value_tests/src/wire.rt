@@ -1,0 +1,254 @@
+//! Messages. One is written as the bytes of its fields, with a blank between two of them: so the words of a line are the
+//! fields in which a fault may be.
+
+ghost use Rattle.cg_wire.specs.Limits.{IsMsg};
+
+use crate::bytes::{bytes_of, changed, say_fault};
+use crate::table::{follows, parts, say, say_name, say_number, say_set};
+use cg_action::Action;
+use cg_base::{Cut, put_id_list, put_weight_set};
+use cg_codec::CodecFault;
+use cg_knowledge::Summary;
+use cg_records::Vulnerable;
+use cg_wire::{Msg, decode, encode};
+use std::alloc::Global;
+
+// the action 1:1 with green line 0 that puts 1 at "x"
+const ACTION: &str = "01 01 0000000000000001 0000000000000000 01 00000001 01 00000001'x' 02 \
+    0000000000000001 00";
+
+// the member 3 in configuration 9, with one of everything
+const STATE: &str = "02 03 0000000000000009 0000000000000002 0000000000000004 00000002 01 01 03 05 \
+    0000000000000006 01 0000000000000008 0000000000000002 00000002 01 03 00000001 03 \
+    01 00000001 01 000000000000000b 0000000000000007 00000001 01 000000000000000a \
+    00000002 01 000000000000000c 03 0000000000000001 00000001 02";
+
+// a member that has nothing to tell
+const SHORT_STATE: &str = "02 20 0000000000000001 0000000000000000 0000000000000000 00000000 \
+    0000000000000000 00 00 00000000 0000000000000000 00000000 00000000 00000000";
+
+// the same action at the green place 7
+const GREEN: &str = "03 01 0000000000000007 01 0000000000000001 0000000000000000 01 00000001 01 \
+    00000001'x' 02 0000000000000001 00";
+
+// and as a red action
+const RED: &str = "03 02 01 0000000000000001 0000000000000000 01 00000001 01 00000001'x' 02 \
+    0000000000000001 00";
+
+// the member 5 is ready in configuration 258
+const CPC: &str = "04 05 0000000000000102";
+
+// where a message cut to each length is at fault: at the first byte of the field in which it ends
+const CUT: &str = "action, cut -> 0,1,2,10,18,19,23,24,29,30,38,
+state, cut -> 0,1,2,10,18,26,30,31,32,33,34,42,43,51,59,63,64,65,69,70,71,75,76,84,92,96,97,105,109,110,118,119,127,131,
+short state, cut -> 0,1,2,10,18,26,30,38,39,40,44,52,56,60,
+green, cut -> 0,1,2,10,11,19,27,28,32,33,38,39,47,
+red, cut -> 0,1,2,3,11,19,20,24,25,30,31,39,
+cpc, cut -> 0,1,2,";
+
+const SAID: &str = "action, said -> action 1:1 behind 0
+state, said -> member 3 in 9, 2/4 {1,3*5}, attempt 6, record 8/2 {1,3} {3}, yellow [1:11], green 7 [1:10], red [1:12][3:1], left {2}
+short state, said -> member 32 in 1, 0/0 {}, attempt 0, no record, no yellow [], green 0 , red , left {}
+green, said -> green 7, action 1:1 behind 0
+red, said -> red, action 1:1 behind 0
+cpc, said -> ready 5 in 258";
+
+const CHANGED: &str = "action, more -> rest 39
+state, more -> rest 132
+short state, more -> rest 64
+green, more -> rest 48
+red, more -> rest 40
+cpc, more -> rest 10
+cpc, 0 at 0 -> bad 0
+cpc, 5 at 0 -> bad 0
+cpc, 0 at 1 -> bad 1
+cpc, 33 at 1 -> bad 1
+cpc, 128 at 2 -> bad 2
+red, 0 at 1 -> bad 1
+red, 3 at 1 -> bad 1
+green, 128 at 2 -> bad 2
+green, 0 at 10 -> bad 10
+action, 9 at 18 -> bad 18
+state, 0 at 1 -> bad 1
+state, 128 at 2 -> bad 2
+state, 0 at 31 -> bad 31
+state, 128 at 34 -> bad 34
+state, 2 at 42 -> bad 42
+state, 1 at 64 -> bad 64
+state, 2 at 70 -> bad 70
+state, 0 at 83 -> bad 76
+state, 128 at 84 -> bad 84
+state, 1 at 118 -> bad 118
+state, 33 at 130 -> bad 127
+state, 0 at 131 -> bad 131";
+
+fn fields_of(kind: &str) -> &'static str {
+    match kind {
+        "action" => ACTION,
+        "state" => STATE,
+        "short state" => SHORT_STATE,
+        "green" => GREEN,
+        "red" => RED,
+        _ => CPC,
+    }
+}
+
+fn fault_of(alloc: Global, bytes: &[u8]) -> Option<CodecFault> {
+    decode(alloc, bytes).err()
+}
+
+fn short_at(alloc: Global, bytes: &[u8]) -> Option<u64> {
+    match fault_of(alloc, bytes) {
+        Some(CodecFault::Short { at }) => Some(at),
+        _ => None,
+    }
+}
+
+// the places of faults: a cut right before a field is at fault there, and one inside of it too
+fn say_cuts(alloc: Global, bytes: &[u8], out: &mut Vec<u8>) {
+    let mut start = 0;
+    for length in 0..bytes.len() {
+        let at = short_at(alloc, &bytes[..length]);
+        if at == Some(length as u64) {
+            start = length as u64;
+            say_number(out, start);
+            say(out, ",");
+        } else if at != Some(start) {
+            say(out, "otherwise,");
+        }
+    }
+}
+
+fn say_action(out: &mut Vec<u8>, action: &Action) {
+    say(out, "action ");
+    say_name(out, action.id);
+    say(out, " behind ");
+    say_number(out, action.green_line);
+}
+
+// a text and the number behind it
+fn say_with(out: &mut Vec<u8>, text: &str, number: u64) {
+    say(out, text);
+    say_number(out, number);
+}
+
+fn say_cut(out: &mut Vec<u8>, cut: &Cut) {
+    for last in cut.iter() {
+        say(out, "[");
+        say_name(out, last);
+        say(out, "]");
+    }
+}
+
+fn say_record(out: &mut Vec<u8>, record: &Vulnerable) {
+    say_with(out, ", record ", record.attempt);
+    say_with(out, "/", record.from);
+    say(out, " ");
+    say_set(out, record.set);
+    say(out, " ");
+    say_set(out, record.bits);
+}
+
+fn say_primary(out: &mut Vec<u8>, summary: &Summary) {
+    say_with(out, "member ", u64::from(summary.id.get()));
+    say_with(out, " in ", summary.conf);
+    say_with(out, ", ", summary.prim.index);
+    say_with(out, "/", summary.prim.conf);
+    say(out, " ");
+    let _done = put_weight_set(out, &summary.prim.set);
+    say_with(out, ", attempt ", summary.attempt_index);
+}
+
+fn say_summary(out: &mut Vec<u8>, summary: &Summary) {
+    say_primary(out, summary);
+    match &summary.vulnerable {
+        Some(record) => say_record(out, record),
+        None => say(out, ", no record"),
+    }
+    let is_valid = summary.yellow.valid;
+    say(
+        out,
+        if is_valid {
+            ", yellow "
+        } else {
+            ", no yellow "
+        },
+    );
+    let _done = put_id_list(out, summary.yellow.list.as_slice());
+    say_with(out, ", green ", summary.green_count);
+    say(out, " ");
+    say_cut(out, &summary.green_cut);
+    say(out, ", red ");
+    say_cut(out, &summary.red_cut);
+    say(out, ", left ");
+    say_set(out, summary.left);
+}
+
+fn say_message(out: &mut Vec<u8>, message: &Msg) {
+    match message {
+        Msg::Action(action) => say_action(out, action),
+        Msg::State(summary) => say_summary(out, summary),
+        Msg::GreenItem { at, action } => {
+            say_with(out, "green ", *at);
+            say(out, ", ");
+            say_action(out, action);
+        }
+        Msg::RedItem(action) => {
+            say(out, "red, ");
+            say_action(out, action);
+        }
+        Msg::Cpc { id, conf } => {
+            say_with(out, "ready ", u64::from(id.get()));
+            say_with(out, " in ", *conf);
+        }
+    }
+}
+
+fn is_spelled(alloc: Global, message: &Msg, bytes: &[u8]) -> bool
+    requires { IsMsg message.now }
+{
+    match encode(alloc, message) {
+        Ok(again) => again.as_slice() == bytes,
+        Err(_) => false,
+    }
+}
+
+// what a message says, and whether it is written again so
+fn say_said(alloc: Global, bytes: &[u8], out: &mut Vec<u8>) {
+    if let Ok(message) = decode(alloc, bytes) {
+        say_message(out, &message);
+        if !is_spelled(alloc, &message, bytes) {
+            say(out, ", and other bytes");
+        }
+        drop(message);
+    }
+}
+
+fn perform(alloc: Global, _: &mut (), call: &str, out: &mut Vec<u8>) {
+    let (kind, what) = parts(call, ", ");
+    let fields = fields_of(kind);
+    match what {
+        "said" => say_said(alloc, bytes_of(alloc, fields).as_slice(), out),
+        "cut" => say_cuts(alloc, bytes_of(alloc, fields).as_slice(), out),
+        change => {
+            if let Some(fault) = fault_of(alloc, changed(alloc, fields, change).as_slice()) {
+                say_fault(out, fault);
+            }
+        }
+    }
+}
+
+#[test]
+fn what_each_kind_says_both_ways(rt: HostRuntime) {
+    follows(&rt, &mut (), SAID, perform);
+}
+
+#[test]
+fn each_kind_cut_to_each_length(rt: HostRuntime) {
+    follows(&rt, &mut (), CUT, perform);
+}
+
+#[test]
+fn one_change_at_fault(rt: HostRuntime) {
+    follows(&rt, &mut (), CHANGED, perform);
+}
