@@ -13,11 +13,10 @@ use std::alloc::Global;
 // 1:1 with green line 0, up to the tag of what it does
 const NAMED: &[u8; 17] = b"\x01\0\0\0\0\0\0\0\x01\0\0\0\0\0\0\0\0";
 
-// what stands in the database before each line of EFFECTS, which is tried on a copy
-const START: &str =
-    r#"run: put t "v" ; put n 5 ; put l -9223372036854775808 ; put h 9223372036854775807 -> done"#;
-
-const EFFECTS: &str = r#"put n "w" -> done h=9223372036854775807 l=-9223372036854775808 n="w" t="v"
+// the first line is what stands in the database before each other one, which is tried on a copy
+const EFFECTS: &str =
+    r#"run: put t "v" ; put n 5 ; put l -9223372036854775808 ; put h 9223372036854775807 -> done
+put n "w" -> done h=9223372036854775807 l=-9223372036854775808 n="w" t="v"
 put q 1 -> done h=9223372036854775807 l=-9223372036854775808 n=5 q=1 t="v"
 del n -> done h=9223372036854775807 l=-9223372036854775808 t="v"
 del q -> done h=9223372036854775807 l=-9223372036854775808 n=5 t="v"
@@ -257,23 +256,10 @@ fn perform(alloc: Global, db: &mut Db, call: &str, out: &mut Vec<u8>) {
 }
 
 #[test]
-fn commands_have_their_effects(rt: HostRuntime) {
-    let mut db = Db::new(rt.alloc());
-    follows(&rt, &mut db, START, perform);
-    follows(&rt, &mut db, EFFECTS, perform);
-    drop(db);
-}
-
-#[test]
-fn a_join_and_a_leave_change_nothing(rt: HostRuntime) {
-    let mut db = Db::new(rt.alloc());
-    follows(&rt, &mut db, NO_COMMANDS, perform);
-    drop(db);
-}
-
-#[test]
-fn queries_find_what_stands(rt: HostRuntime) {
-    let mut db = Db::new(rt.alloc());
-    follows(&rt, &mut db, FOUND, perform);
-    drop(db);
+fn actions_and_queries(rt: HostRuntime) {
+    for table in [EFFECTS, NO_COMMANDS, FOUND] {
+        let mut db = Db::new(rt.alloc());
+        follows(&rt, &mut db, table, perform);
+        drop(db);
+    }
 }

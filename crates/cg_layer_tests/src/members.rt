@@ -144,22 +144,9 @@ fn perform(alloc: Global, members: &mut Members, call: &str, out: &mut Vec<u8>) 
 }
 
 #[test]
-fn servers_of_the_start(rt: HostRuntime) {
+fn servers_and_their_lines(rt: HostRuntime) {
     assert_eq!(rt; Members::start(WeightSet::empty()).white_line(), None);
-    follows(&rt, &mut two(), START, perform);
-}
-
-#[test]
-fn lines_rise_and_never_fall(rt: HostRuntime) {
-    follows(&rt, &mut two(), LINES, perform);
-}
-
-#[test]
-fn a_join_and_a_leave(rt: HostRuntime) {
-    follows(&rt, &mut two(), CHANGES, perform);
-}
-
-#[test]
-fn what_green_actions_make(rt: HostRuntime) {
-    follows(&rt, &mut two(), GREENS, perform);
+    for table in [START, LINES, CHANGES, GREENS] {
+        follows(&rt, &mut two(), table, perform);
+    }
 }

@@ -218,12 +218,12 @@ fn change(queue: &mut Queue, word: &str, text: &str, out: &mut Vec<u8>) {
     say_queue(out, queue);
 }
 
-fn rename(alloc: Global, queue: &mut Queue, name: ActionId) {
+fn rename(alloc: Global, queue: &mut Queue, name: &ActionId) {
     let mut list = IdList::new(alloc);
-    let Ok(()) = list.push(name) else {
+    let Ok(()) = list.push(*name) else {
         return;
     };
-    if queue.is_red(name) {
+    if queue.is_red(*name) {
         let _done = queue.set_yellow(&list);
     }
 }
@@ -254,7 +254,7 @@ fn perform(alloc: Global, queue: &mut Queue, call: &str, out: &mut Vec<u8>) {
         "red_cut" => say_number(out, queue.red_cut().get(id(text))),
         "is_red" => say_truth(out, queue.is_red(name(text))),
         "plain" => say_plain(out, queue.plain_red_names()),
-        "one_yellow" => rename(alloc, queue, name(text)),
+        "one_yellow" => rename(alloc, queue, &name(text)),
         "no_yellow" => {
             let _done = queue.set_yellow(&IdList::new(alloc));
         }

@@ -181,23 +181,10 @@ fn perform(alloc: Global, _: &mut (), call: &str, out: &mut Vec<u8>) {
 }
 
 #[test]
-fn one_change_at_fault(rt: HostRuntime) {
-    follows(&rt, &mut (), CHANGED, perform);
-}
-
-#[test]
-fn every_kind_in_bytes_and_in_text(rt: HostRuntime) {
-    follows(&rt, &mut (), KINDS, perform);
-}
-
-#[test]
-fn kinds_at_fault(rt: HostRuntime) {
-    follows(&rt, &mut (), KINDS_AT_FAULT, perform);
-}
-
-#[test]
-fn names_and_values_by_themselves(rt: HostRuntime) {
-    follows(&rt, &mut (), ALONE, perform);
+fn bytes_that_are_read(rt: HostRuntime) {
+    for table in [CHANGED, KINDS, KINDS_AT_FAULT, ALONE] {
+        follows(&rt, &mut (), table, perform);
+    }
 }
 
 #[test]

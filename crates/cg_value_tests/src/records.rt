@@ -5,12 +5,11 @@ ghost use Rattle.std.specs.Prelude.{◌≡◌, length, IfOk};
 use crate::bytes::{bytes_of, changed, say_fault};
 use crate::table::follows;
 use cg_base::{ActionId, Cut, IdList, IdSet, NoMemory, ReplicaId, WeightSet};
-use cg_codec::{CodecFault, Fields};
+use cg_codec::Fields;
 use cg_records::{
     Primary, Stable, Vulnerable, Yellow, put_cut, put_vulnerable, take_cut, take_vulnerable,
 };
 use std::alloc::Global;
-use std::test::Fail;
 
 // index 1, configuration 2, members 1 with weight 3 and 2; attempt index 4; no record; valid yellow list of 1:1; created 5
 const BYTES: &str = "0000000000000001 0000000000000002 00000002 01 03 02 01 0000000000000004 \
@@ -90,13 +89,15 @@ fn is_read(alloc: Global, stable: &Stable) -> bool {
 }
 
 #[test]
-fn a_record_has_these_bytes(rt: HostRuntime) -> Result<(), Fail> {
+fn a_record_has_these_bytes(rt: HostRuntime) -> Result<(), NoMemory> {
     let record = record(rt.alloc())?;
     let is_spelled = is_spelled(rt.alloc(), &record);
     let is_read = is_read(rt.alloc(), &record);
     drop(record);
-    assert!(rt; is_spelled, "in bytes");
-    assert!(rt; is_read, "from bytes");
+    assert!(rt;
+        is_spelled && is_read,
+        "spelled: {is_spelled}, read: {is_read}"
+    );
     Ok(())
 }
 
@@ -130,21 +131,25 @@ fn cut() -> Cut {
     cut
 }
 
-fn are_read(bytes: &[u8]) -> Result<bool, CodecFault> {
-    let mut fields = Fields::new(bytes);
-    let record = take_vulnerable(&mut fields)?;
-    let last = take_cut(&mut fields)?;
-    fields.finish()?;
-    Ok(record == vulnerable() && last == cut())
+// whether the bytes are both, and nothing more
+fn are_read(fields: &mut Fields) -> bool {
+    let is_record = take_vulnerable(fields) == Ok(vulnerable());
+    let is_cut = match take_cut(fields) {
+        Ok(last) => last == cut(),
+        Err(_) => false,
+    };
+    is_record && is_cut && fields.finish().is_ok()
 }
 
 #[test]
-fn records_and_cuts_have_these_bytes(rt: HostRuntime) -> Result<(), Fail> {
+fn records_and_cuts_have_these_bytes(rt: HostRuntime) {
     let bytes = bytes_of(rt.alloc(), RECORD_AND_CUT);
     let mut out = Vec::new(rt.alloc());
-    put_vulnerable(&mut out, &vulnerable())?;
-    put_cut(&mut out, &cut())?;
+    let _done = put_vulnerable(&mut out, &vulnerable());
+    let _done = put_cut(&mut out, &cut());
     assert_eq!(rt; out.as_slice(), bytes.as_slice());
-    assert!(rt; are_read(bytes.as_slice())?);
-    Ok(())
+    assert!(rt;
+        are_read(&mut Fields::new(bytes.as_slice())),
+        "both are read"
+    );
 }

@@ -1,13 +1,13 @@
 //! Lines of a schedule: the event that a line is, as it is printed, or why it is none. A line is written as in `bytes`.
 //!
-//! It stands behind `start 1`, but for a `first` one, and for a `next` one, which stands behind the lines before.
+//! It stands behind `start 1`, but for a `first` one, and for those that stand behind the lines before: `next`, and in two
+//! calls `begin` and `finish`.
 
 use crate::bytes::bytes_of;
 use crate::table::{follows, number, parts, say};
 use cg_base::put;
-use cg_schedule::{Event, LineFault, Reader, Word, print_line};
+use cg_schedule::{Event, LineFault, Reader, print_line};
 use std::alloc::Global;
-use std::test::Fail;
 
 // one of each reason
 const EXAMPLES: &str = r#"'gather 'ff -> not UTF-8
@@ -304,6 +304,11 @@ long 1025 x request 1 need "k" "*" ? count -> bad text
 long 4096 0f stop 1 0 * -> itself
 long 4097 0f stop 1 0 * -> bad text"#;
 
+const TWO_CALLS: &str = r#"begin 'start 2*3' -> start
+finish 'start 2*3' -> itself
+begin 'weak 1 get "x' -> weak
+begin '# x' -> nothing"#;
+
 // the one place where an event is let go: each further one is shown over all variants
 fn let_go(event: Event) {
     drop(event);
@@ -339,6 +344,24 @@ fn say_line(alloc: Global, reader: &mut Reader, line: &[u8], out: &mut Vec<u8>) 
         Ok(Some(event)) => say_event(event, line, out),
         Ok(None) => say(out, "nothing"),
         Err(fault) => say(out, reason_of(fault)),
+    }
+}
+
+// the word that a line begins with; nothing else of the line is looked at
+fn say_word(reader: &Reader, line: &[u8], out: &mut Vec<u8>) {
+    match reader.begin_line(line) {
+        Ok(Some((word, _))) => say(out, word.text()),
+        Ok(None) => say(out, "nothing"),
+        Err(fault) => say(out, reason_of(fault)),
+    }
+}
+
+// the event of a line, in two calls
+fn say_finished(alloc: Global, reader: &mut Reader, line: &[u8], out: &mut Vec<u8>) {
+    if let Ok(Some((word, words))) = reader.begin_line(line) {
+        if let Ok(event) = reader.finish_line(alloc, word, words) {
+            say_event(event, line, out);
+        }
     }
 }
 
@@ -388,6 +411,8 @@ fn perform(alloc: Global, reader: &mut Reader, call: &str, out: &mut Vec<u8>) {
             out,
         ),
         "next" => say_line(alloc, reader, bytes_of(alloc, text).as_slice(), out),
+        "begin" => say_word(reader, bytes_of(alloc, text).as_slice(), out),
+        "finish" => say_finished(alloc, reader, bytes_of(alloc, text).as_slice(), out),
         "more" => say_line(alloc, &mut other, filled(alloc, text).as_slice(), out),
         "long" => say_line(alloc, &mut other, stretched(alloc, text).as_slice(), out),
         _ => say_line(alloc, &mut other, bytes_of(alloc, call).as_slice(), out),
@@ -395,83 +420,38 @@ fn perform(alloc: Global, reader: &mut Reader, call: &str, out: &mut Vec<u8>) {
 }
 
 #[test]
-fn an_example_of_each_reason(rt: HostRuntime) {
+fn lines_that_are_events_and_others(rt: HostRuntime) {
     let mut reader = Reader::new();
-    follows(&rt, &mut reader, EXAMPLES, perform);
-    follows(&rt, &mut reader, PASSED_OVER, perform);
-    follows(&rt, &mut reader, NO_TEXTS, perform);
-    follows(&rt, &mut reader, FIRST_FAULTS, perform);
-}
-
-#[test]
-fn words_and_parts(rt: HostRuntime) {
-    let mut reader = Reader::new();
-    follows(&rt, &mut reader, NO_EVENTS, perform);
-    follows(&rt, &mut reader, MISSING_PARTS, perform);
-    follows(&rt, &mut reader, EXTRA_PARTS, perform);
-    follows(&rt, &mut reader, NO_COMMANDS, perform);
-    follows(&rt, &mut reader, NO_LISTS, perform);
-}
-
-#[test]
-fn numbers_and_texts(rt: HostRuntime) {
-    let mut reader = Reader::new();
-    follows(&rt, &mut reader, NO_NUMBERS, perform);
-    follows(&rt, &mut reader, NO_VALUES, perform);
-    follows(&rt, &mut reader, NO_WEIGHTS, perform);
-    follows(&rt, &mut reader, BAD_TEXTS, perform);
-    follows(&rt, &mut reader, BAD_BYTES, perform);
-}
-
-#[test]
-fn places_of_words(rt: HostRuntime) {
-    let mut reader = Reader::new();
-    follows(&rt, &mut reader, PLACES, perform);
-    assert!(rt; reader.place().ended);
-}
-
-#[test]
-fn events_as_they_are_printed(rt: HostRuntime) {
-    let mut reader = Reader::new();
-    follows(&rt, &mut reader, EVENTS, perform);
-    follows(&rt, &mut reader, REQUESTS, perform);
-    follows(&rt, &mut reader, BLANKS, perform);
-}
-
-#[test]
-fn lengths_of_texts_and_commands(rt: HostRuntime) {
-    let mut reader = Reader::new();
-    follows(&rt, &mut reader, MORE_COMMANDS, perform);
-    follows(&rt, &mut reader, LENGTHS, perform);
-}
-
-fn begins(reader: &Reader, line: &[u8]) -> Result<Option<Word>, LineFault> {
-    match reader.begin_line(line)? {
-        Some((word, _)) => Ok(Some(word)),
-        None => Ok(None),
+    for table in [
+        EXAMPLES,
+        PASSED_OVER,
+        NO_TEXTS,
+        NO_EVENTS,
+        MISSING_PARTS,
+        EXTRA_PARTS,
+        NO_NUMBERS,
+        NO_VALUES,
+        NO_WEIGHTS,
+        BAD_TEXTS,
+        BAD_BYTES,
+        NO_COMMANDS,
+        NO_LISTS,
+        FIRST_FAULTS,
+        EVENTS,
+        REQUESTS,
+        BLANKS,
+        MORE_COMMANDS,
+        LENGTHS,
+    ] {
+        follows(&rt, &mut reader, table, perform);
     }
 }
 
-fn is_start(event: Event) -> bool {
-    let is_start = matches!(&event, Event::Start(_));
-    let_go(event);
-    is_start
-}
-
-fn starts(alloc: Global, reader: &mut Reader, line: &[u8]) -> Result<bool, Fail> {
-    let (word, words) = reader.begin_line(line)?.ok_or("no word")?;
-    let event = reader.finish_line(alloc, word, words)?;
-    Ok(is_start(event))
-}
-
 #[test]
-fn a_line_in_two_calls(rt: HostRuntime) -> Result<(), Fail> {
+fn lines_behind_one_another(rt: HostRuntime) {
     let mut reader = Reader::new();
-    assert_eq!(rt; begins(&reader, b"start 2*3"), Ok(Some(Word::Start)));
-    assert!(rt; starts(rt.alloc(), &mut reader, b"start 2*3")?);
-    // nothing but the word is looked at
-    assert_eq!(rt; begins(&reader, b"weak 1 get \"x"), Ok(Some(Word::Weak)));
-    assert_eq!(rt; Word::Weak.text(), "weak");
-    assert_eq!(rt; begins(&reader, b"# x"), Ok(None));
-    Ok(())
+    follows(&rt, &mut reader, TWO_CALLS, perform);
+    reader = Reader::new();
+    follows(&rt, &mut reader, PLACES, perform);
+    assert!(rt; reader.place().ended);
 }

@@ -144,24 +144,10 @@ fn perform(alloc: Global, _: &mut (), call: &str, out: &mut Vec<u8>) {
 }
 
 #[test]
-fn numbers_at_the_edges(rt: HostRuntime) {
-    follows(&rt, &mut (), NUMBERS, perform);
-}
-
-#[test]
-fn texts_between_quotes(rt: HostRuntime) {
-    follows(&rt, &mut (), QUOTED, perform);
-}
-
-#[test]
-fn numbers_and_texts_are_printed(rt: HostRuntime) {
-    follows(&rt, &mut (), PRINTED, perform);
-}
-
-#[test]
-fn tokens_of_a_line(rt: HostRuntime) {
-    follows(&rt, &mut (), PASSED_OVER, perform);
-    follows(&rt, &mut (), TOKENS, perform);
+fn numbers_quotes_and_tokens(rt: HostRuntime) {
+    for table in [NUMBERS, QUOTED, PRINTED, PASSED_OVER, TOKENS] {
+        follows(&rt, &mut (), table, perform);
+    }
 }
 
 // whether this byte and a backslash before it are an escape

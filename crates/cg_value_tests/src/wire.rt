@@ -239,16 +239,8 @@ fn perform(alloc: Global, _: &mut (), call: &str, out: &mut Vec<u8>) {
 }
 
 #[test]
-fn what_each_kind_says_both_ways(rt: HostRuntime) {
-    follows(&rt, &mut (), SAID, perform);
-}
-
-#[test]
-fn each_kind_cut_to_each_length(rt: HostRuntime) {
-    follows(&rt, &mut (), CUT, perform);
-}
-
-#[test]
-fn one_change_at_fault(rt: HostRuntime) {
-    follows(&rt, &mut (), CHANGED, perform);
+fn each_kind_in_bytes(rt: HostRuntime) {
+    for table in [SAID, CUT, CHANGED] {
+        follows(&rt, &mut (), table, perform);
+    }
 }
