@@ -19,8 +19,6 @@ mod rebuild;
 mod servers;
 mod snapshot;
 mod taking;
-#[cfg(test)]
-mod tests;
 mod writing;
 
 pub use errors::{FinishErr, JoinErr};

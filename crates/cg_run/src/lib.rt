@@ -16,8 +16,6 @@ mod status;
 mod steps;
 mod streaming;
 mod tail;
-#[cfg(test)]
-mod tests;
 mod totals;
 mod trial;
 

@@ -101,11 +101,10 @@ fn look(alloc: Global, next: &Result<Member, Fail>, draft: Draft) -> Result<Vec<
 
 // what is seen is what the line expects
 fn is_expected(expected: &str, before: &[u8], seen: &[u8]) -> bool {
-    match expected {
-        "" => true,
-        "same" => seen == before,
-        _ => seen == expected.as_bytes(),
+    if expected == "same" {
+        return seen == before;
     }
+    expected.is_empty() || seen == expected.as_bytes()
 }
 
 fn compare(
@@ -124,6 +123,9 @@ fn compare(
 
 // one line: the replica behind it
 fn follow(rt: &(impl Abort + AllocGlobal), member: Member, line: &str) -> Result<Member, Fail> {
+    if line.starts_with('#') {
+        return Ok(member);
+    }
     let alloc = rt.alloc();
     let (text, _) = line.split_once(" -> ").unwrap_or((line, ""));
     let before = line_of(alloc, &member);
@@ -137,9 +139,6 @@ fn follow(rt: &(impl Abort + AllocGlobal), member: Member, line: &str) -> Result
 fn follows(rt: &(impl Abort + AllocGlobal), text: &str) -> Result<(), Fail> {
     let mut member = newcomer(rt.alloc(), ReplicaId::known(1), &IdSet::empty());
     for line in text.lines() {
-        if line.starts_with('#') {
-            continue;
-        }
         member = follow(rt, member, line)?;
     }
     let_go(member);

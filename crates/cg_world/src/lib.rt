@@ -7,8 +7,6 @@
 
 mod made_actions;
 mod state;
-#[cfg(test)]
-mod tests;
 mod world;
 
 pub use state::World;

@@ -30,21 +30,41 @@ pub(super) fn id_of(text: &str) -> Result<ReplicaId, Fail> {
     Ok(ReplicaId::new(text.parse()?).ok_or("no replica")?)
 }
 
-fn bytes_of(word: &str) -> Option<&'static [u8]> {
-    match word {
-        "action" => Some(b"\x01"),
-        "state" => Some(b"\x02"),
-        "green" => Some(b"\x03\x01"),
-        "red" => Some(b"\x03\x02"),
-        "ready" => Some(b"\x04"),
-        "nothing" => Some(b"\x05"),
-        "-" => Some(b"\0"),
-        "+" => Some(b"\x01"),
-        "conf" | "prim" | "attempt" | "record" | "yellow" | "greens" | "cut" | "known" | "left" => {
-            Some(b"")
+// The bytes of a word that is no number, as numbers. Those that stand there for the reader alone have none.
+const WORDS: &str = "action 1
+state 2
+green 3 1
+red 3 2
+ready 4
+nothing 5
+- 0
++ 1
+conf
+prim
+attempt
+record
+yellow
+greens
+cut
+known
+left";
+
+// what stands behind a word in that list
+fn numbers_of(word: &str) -> Option<&'static str> {
+    for line in WORDS.lines() {
+        let (name, numbers) = line.split_once(' ').unwrap_or((line, ""));
+        if name == word {
+            return Some(numbers);
         }
-        _ => None,
     }
+    None
+}
+
+fn put_numbers(out: &mut Vec<u8>, numbers: &str) -> Result<(), Fail> {
+    for number in numbers.split_whitespace() {
+        put_u8(out, number.parse()?)?;
+    }
+    Ok(())
 }
 
 // a word of one field, or of none
@@ -55,8 +75,8 @@ fn put_field(out: &mut Vec<u8>, word: &str) -> Result<(), Fail> {
     if let Some(count) = word.strip_prefix('*') {
         return Ok(put_u32(out, count.parse()?)?);
     }
-    match bytes_of(word) {
-        Some(bytes) => Ok(put(out, bytes)?),
+    match numbers_of(word) {
+        Some(numbers) => put_numbers(out, numbers),
         None => Ok(put_u64(out, word.parse()?)?),
     }
 }
@@ -96,15 +116,18 @@ fn message(alloc: Global, text: &str) -> Result<Bytes, Fail> {
     Ok(Bytes::from_vec(out))
 }
 
+fn configured(is_regular: bool, conf: u64, set: IdSet) -> Delivery {
+    if is_regular {
+        Delivery::Regular { conf, set }
+    } else {
+        Delivery::Transitional { conf, set }
+    }
+}
+
 fn configuration(word: &str, text: &str) -> Result<Delivery, Fail> {
     let (number, members) = text.split_once(' ').ok_or("no members")?;
     let conf = number.parse()?;
-    let set = set_of(members);
-    if word == "regular" {
-        Ok(Delivery::Regular { conf, set })
-    } else {
-        Ok(Delivery::Transitional { conf, set })
-    }
+    Ok(configured(word == "regular", conf, set_of(members)))
 }
 
 /// The delivery that the text tells of.

@@ -4,7 +4,7 @@
 //! the names newly green, those that got a reply, and the messages that are sent, where there are any.
 
 use super::bench::{Member, core_of, name_of};
-use cg_base::{IdList, NoMemory, put, put_id, put_id_list, put_number};
+use cg_base::{ActionId, IdList, NoMemory, put, put_id, put_id_list, put_number};
 use cg_client::DraftParts;
 use cg_report::{Line, Reply, ShownPhase, UpLine, put_line};
 use cg_wire::Msg;
@@ -23,7 +23,9 @@ pub(super) fn put_member(out: &mut Vec<u8>, member: &Member) -> Result<(), NoMem
         id: core.id(),
         up: Some(up),
     };
-    put_line(out, &line)
+    let put = put_line(out, &line);
+    drop(line);
+    put
 }
 
 fn put_names(out: &mut Vec<u8>, word: &[u8], names: &IdList) -> Result<(), NoMemory> {
@@ -42,27 +44,28 @@ fn answered(alloc: Global, replies: &[Reply]) -> Result<IdList, NoMemory> {
     Ok(names)
 }
 
+fn put_named(out: &mut Vec<u8>, word: &[u8], id: ActionId) -> Result<(), NoMemory> {
+    put(out, word)?;
+    put_id(out, id)
+}
+
+fn put_counted(out: &mut Vec<u8>, word: &[u8], count: u64) -> Result<(), NoMemory> {
+    put(out, word)?;
+    put_number(out, count)
+}
+
+fn put_green(out: &mut Vec<u8>, at: u64, id: ActionId) -> Result<(), NoMemory> {
+    put_counted(out, b" green ", at)?;
+    put_named(out, b" ", id)
+}
+
 fn put_message(out: &mut Vec<u8>, message: &Msg) -> Result<(), NoMemory> {
     match message {
-        Msg::Action(a) => {
-            put(out, b" action ")?;
-            put_id(out, a.id)
-        }
+        Msg::Action(a) => put_named(out, b" action ", a.id),
         Msg::State(_) => put(out, b" state"),
-        Msg::GreenItem { at, action } => {
-            put(out, b" green ")?;
-            put_number(out, *at)?;
-            put(out, b" ")?;
-            put_id(out, action.id)
-        }
-        Msg::RedItem(a) => {
-            put(out, b" red ")?;
-            put_id(out, a.id)
-        }
-        Msg::Cpc { conf, .. } => {
-            put(out, b" ready in ")?;
-            put_number(out, *conf)
-        }
+        Msg::GreenItem { at, action } => put_green(out, *at, action.id),
+        Msg::RedItem(a) => put_named(out, b" red ", a.id),
+        Msg::Cpc { conf, .. } => put_counted(out, b" ready in ", *conf),
     }
 }
 

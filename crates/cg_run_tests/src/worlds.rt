@@ -3,10 +3,10 @@ ghost use Rattle.cg_agree.specs.Run.{MayStand};
 ghost use Rattle.cg_agree.specs.SeatLaws.{IsSeated};
 ghost use Rattle.cg_world.specs.Steps.{IsCounted};
 
-use crate::{Stepped, World};
 use cg_action::{CmdList, Kind, Query};
 use cg_base::{ActionId, IdSet, ReplicaId, WeightSet};
 use cg_schedule::Event;
+use cg_world::{Stepped, World};
 use std::alloc::Global;
 use std::test::Fail;
 

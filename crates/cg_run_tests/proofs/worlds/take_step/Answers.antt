@@ -1,9 +1,9 @@
 use Rattle.std.proofs.Common.{sym, subst}
 use Rattle.cg_agree.specs.Show.{Moved}
 use Rattle.cg_agree.specs.SeatLaws.{IsSeated, step_seats}
-use Rattle.cg_world.proofs.tests.take_step.Goals as goal
+use Rattle.cg_run_tests.proofs.worlds.take_step.Goals as goal
 
--- src/tests.rt:13:1
+-- src/worlds.rt: the world behind a step is seated
 pub returns-in-Done : goal.returns-in-Done
 returns-in-Done c =
     let stepped = c.in-Done.ensures in
