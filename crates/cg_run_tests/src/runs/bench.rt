@@ -86,24 +86,33 @@ fn args_of(alloc: Global, words: &str) -> Result<Vec<ArgText>, AllocError> {
     Ok(args)
 }
 
-// how the run of these words ends, and the sink behind it
-fn ended(alloc: Global, args: &[ArgText], source: MemSource, sink: MemSink) -> (Status, MemSink) {
-    let mut source = source;
-    let mut sink = sink;
+// How a run of these words ends, and the sink behind it.
+fn ended(
+    alloc: Global,
+    args: &[ArgText],
+    bytes: Vec<u8>,
+    takes: Vec<u64>,
+    puts: Vec<u64>,
+) -> (Status, MemSink) {
+    let mut source = MemSource::new(bytes, takes);
+    let mut sink = MemSink::new(alloc, puts);
     let status = run(alloc, args, &mut source, &mut sink);
     drop(source);
     (status, sink)
 }
 
-fn ran(alloc: Global, how: How<'_>, input: &str) -> Result<(Status, MemSink), Fail> {
+fn input_of(alloc: Global, front: &str, text: &str) -> Result<Vec<u8>, Fail> {
+    let mut bytes = bytes_of(alloc, front)?;
+    bytes.extend_from_slice(bytes_of(alloc, text)?.as_slice())?;
+    Ok(bytes)
+}
+
+fn ran(alloc: Global, how: How<'_>, text: &str) -> Result<(Status, MemSink), Fail> {
     let args = args_of(alloc, how.words)?;
-    let mut bytes = bytes_of(alloc, how.front)?;
-    bytes.extend_from_slice(bytes_of(alloc, input)?.as_slice())?;
+    let bytes = input_of(alloc, how.front, text)?;
     let takes = [how.take].to_vec(alloc)?;
     let puts = [how.put].to_vec(alloc)?;
-    let source = MemSource::new(bytes, takes);
-    let sink = MemSink::new(alloc, puts);
-    Ok(ended(alloc, args.as_slice(), source, sink))
+    Ok(ended(alloc, args.as_slice(), bytes, takes, puts))
 }
 
 fn is_put(alloc: Global, put: &[u8], expected: &str) -> Result<bool, Fail> {
