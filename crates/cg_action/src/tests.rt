@@ -129,10 +129,9 @@ fn every_kind_in_bytes_and_in_text(rt: HostRuntime) -> Result<(), Fail> {
         let mut shown = Vec::new(alloc);
         print_kind(&action.kind, &mut shown)?;
         assert_eq!(rt; shown.as_slice(), text.as_bytes(), "{text}");
-        let copy = action.copy(alloc)?;
-        let mut again = Vec::new(alloc);
-        print_kind(&copy.kind, &mut again)?;
-        assert_eq!(rt; again.as_slice(), text.as_bytes(), "{text}");
+        assert!(rt; action.copy(alloc)? == action, "{text}");
+        let named = action.to_string(alloc)?;
+        assert_eq!(rt; named.as_str().strip_prefix("1:1 "), Some(text));
     }
     Ok(())
 }
@@ -189,10 +188,8 @@ fn names_and_values_by_themselves(rt: HostRuntime) -> Result<(), Fail> {
     assert_eq!(rt; out.as_slice(), b"\x20\0\0\0\0\0\0\x01\x02".as_slice());
     let mut fields = Fields::new(b"\x01\0\0\0\x02hi!");
     let value = take_value(alloc, &mut fields)?;
-    match &value {
-        Value::Text(text) => assert_eq!(rt; text.as_str(), "hi"),
-        Value::Int(_) => assert!(rt; false, "a number"),
-    }
+    assert!(rt; value == Value::Text(Txt::new(alloc, "hi")?));
+    assert!(rt; value != Value::Int(2));
     let mut fields = Fields::new(PUT);
     let action = take_action(alloc, &mut fields)?;
     fields.finish()?;

@@ -8,6 +8,7 @@
 
 mod action_id;
 mod cut;
+mod display;
 mod id_set;
 mod no_memory;
 mod pieces;
@@ -26,6 +27,8 @@ pub use no_memory::NoMemory;
 pub use pieces::{Pieces, cut_at};
 pub use replica_id::ReplicaId;
 pub use row::{Bytes, BytesList, IdList, Row};
-pub use text::{put, put_id, put_id_list, put_number, put_set, put_weight_set, put_weighted};
+pub use text::{
+    put, put_id, put_id_list, put_number, put_set, put_shown, put_weight_set, put_weighted,
+};
 pub use weight_set::{WeightSet, Weights};
 pub use weighted::Weighted;

@@ -1,6 +1,7 @@
 use crate::{
     ActionId, Bytes, BytesList, Cut, IdList, IdSet, NoMemory, Pieces, ReplicaId, WeightSet,
-    Weighted, cut_at, put, put_id, put_id_list, put_number, put_set, put_weight_set, put_weighted,
+    Weighted, cut_at, put, put_id, put_id_list, put_number, put_set, put_shown, put_weight_set,
+    put_weighted,
 };
 
 fn id(n: u8) -> Result<ReplicaId, NoMemory> {
@@ -153,6 +154,23 @@ fn text_of_plain_values(rt: HostRuntime) -> Result<(), NoMemory> {
     put_id(&mut out, name(3, 4)?)?;
     put_number(&mut out, u64::MAX)?;
     assert!(rt; out.as_slice() == b"[][1:1,2:10]3:418446744073709551615".as_slice());
+    Ok(())
+}
+
+#[test]
+fn values_are_shown_and_compared(rt: HostRuntime) -> Result<(), NoMemory> {
+    let alloc = rt.alloc();
+    let ids = IdList::from_slice(alloc, &[name(1, 1)?, name(2, 10)?])?;
+    let mut weights = WeightSet::of(&set_of(&[1, 2])?);
+    weights.put(id(1)?, 3);
+    let none = IdSet::empty();
+    let shown = format!(in alloc; "{weights} {none} {ids}, {NoMemory}")?;
+    assert_eq!(rt; shown.as_str(), "{1*3,2} {} [1:1,2:10], memory was refused");
+    let mut out = Vec::new(alloc);
+    put_shown(&mut out, &id(32)?)?;
+    assert!(rt; out.as_slice() == b"32".as_slice());
+    assert!(rt; ids == IdList::from_slice(alloc, ids.as_slice())?);
+    assert!(rt; ids != IdList::new(alloc));
     Ok(())
 }
 

@@ -1,8 +1,11 @@
 ghost use Rattle.std.specs.Prelude.{◌≡◌, ◌++◌, OnOk, OnErr, decimal};
-ghost use Rattle.cg_base.specs.Text.{KeepsFront, set_text, id_text, id_list_text, weighted_text, weight_set_text, with_commas};
+ghost use Rattle.std.specs.Fmt.{AppendsText};
+ghost use Rattle.cg_base.specs.Text.{KeepsFront, set_text, id_text, id_list_text, weighted_text, weight_set_text};
 
-use crate::{ActionId, IdSet, NoMemory, ReplicaId, WeightSet};
+use crate::display::Names;
+use crate::{ActionId, IdSet, NoMemory, ReplicaId, WeightSet, Weighted};
 use itoa::Buffer;
+use std::fmt::Display;
 
 /// Bytes at the end of others. Where memory is refused nothing is put.
 pub fn put(out: &mut Vec<u8>, text: &[u8]) -> Result<(), NoMemory>
@@ -11,6 +14,15 @@ pub fn put(out: &mut Vec<u8>, text: &[u8]) -> Result<(), NoMemory>
 {
     out.extend_from_slice(text)?;
     Ok(())
+}
+
+/// What `{}` prints of the value. Where memory is refused nothing is put.
+pub fn put_shown<D: Display>(out: &mut Vec<u8>, value: &D) -> Result<(), NoMemory>
+    ensures ok { OnOk result (AppendsText out.old.items out.new.items (D.output value.now)) }
+    ensures err { OnErr result (out.new.items ≡ out.old.items) }
+{
+    let text = value.to_string(*out.allocator())?;
+    put(out, text.as_str().as_bytes())
 }
 
 /// A number in decimal digits. Where memory is refused nothing is put.
@@ -27,25 +39,7 @@ pub fn put_set(out: &mut Vec<u8>, set: IdSet) -> Result<(), NoMemory>
     ensures ok { OnOk result (out.new.items ≡ out.old.items ++ set_text set) }
     ensures err { OnErr result (KeepsFront out.old.items out.new.items) }
 {
-    put(out, b"{")?;
-    put_members(out, set)?;
-    put(out, b"}")
-}
-
-fn put_members(out: &mut Vec<u8>, set: IdSet) -> Result<(), NoMemory>
-    ensures ok { OnOk result (out.new.items ≡ out.old.items ++ with_commas decimal set) }
-    ensures err { OnErr result (KeepsFront out.old.items out.new.items) }
-{
-    let mut ids = set.iter();
-    let Some(first) = ids.next() else {
-        return Ok(());
-    };
-    put_number(out, u64::from(first.get()))?;
-    for id in ids {
-        put(out, b",")?;
-        put_number(out, u64::from(id.get()))?;
-    }
-    Ok(())
+    put_shown(out, &set)
 }
 
 /// An identifier of an action, as `1:4`.
@@ -53,9 +47,7 @@ pub fn put_id(out: &mut Vec<u8>, id: ActionId) -> Result<(), NoMemory>
     ensures ok { OnOk result (out.new.items ≡ out.old.items ++ id_text id) }
     ensures err { OnErr result (KeepsFront out.old.items out.new.items) }
 {
-    put_number(out, u64::from(id.creator.get()))?;
-    put(out, b":")?;
-    put_number(out, id.index)
+    put_shown(out, &id)
 }
 
 /// Identifiers, as `[1:1,2:1]`.
@@ -63,15 +55,7 @@ pub fn put_id_list(out: &mut Vec<u8>, ids: &[ActionId]) -> Result<(), NoMemory>
     ensures ok { OnOk result (out.new.items ≡ out.old.items ++ id_list_text ids.now) }
     ensures err { OnErr result (KeepsFront out.old.items out.new.items) }
 {
-    put(out, b"[")?;
-    if let Some((first, others)) = ids.split_first() {
-        put_id(out, *first)?;
-        for id in others {
-            put(out, b",")?;
-            put_id(out, *id)?;
-        }
-    }
-    put(out, b"]")
+    put_shown(out, &Names(ids))
 }
 
 /// An identifier with its weight, as `1*3`. A weight of 1 isn't written.
@@ -79,12 +63,7 @@ pub fn put_weighted(out: &mut Vec<u8>, id: ReplicaId, weight: u8) -> Result<(), 
     ensures ok { OnOk result (out.new.items ≡ out.old.items ++ weighted_text id weight) }
     ensures err { OnErr result (KeepsFront out.old.items out.new.items) }
 {
-    put_number(out, u64::from(id.get()))?;
-    if weight == 1 {
-        return Ok(());
-    }
-    put(out, b"*")?;
-    put_number(out, u64::from(weight))
+    put_shown(out, &Weighted { id, weight })
 }
 
 /// A set with weights, as `{1*3,2}`.
@@ -92,23 +71,5 @@ pub fn put_weight_set(out: &mut Vec<u8>, set: &WeightSet) -> Result<(), NoMemory
     ensures ok { OnOk result (out.new.items ≡ out.old.items ++ weight_set_text set.now) }
     ensures err { OnErr result (KeepsFront out.old.items out.new.items) }
 {
-    put(out, b"{")?;
-    put_weights(out, set)?;
-    put(out, b"}")
-}
-
-fn put_weights(out: &mut Vec<u8>, set: &WeightSet) -> Result<(), NoMemory>
-    ensures ok { OnOk result (out.new.items ≡ out.old.items ++ with_commas (λ m. weighted_text m.id m.weight) set.now) }
-    ensures err { OnErr result (KeepsFront out.old.items out.new.items) }
-{
-    let mut members = set.iter();
-    let Some(first) = members.next() else {
-        return Ok(());
-    };
-    put_weighted(out, first.id, first.weight)?;
-    for m in members {
-        put(out, b",")?;
-        put_weighted(out, m.id, m.weight)?;
-    }
-    Ok(())
+    put_shown(out, set)
 }

@@ -83,3 +83,10 @@ fn faults_have_numbers(rt: HostRuntime) {
     assert_eq!(rt; CodecFault::Rest { at: 9 }.number(), Some(3));
     assert_eq!(rt; CodecFault::NoMemory.number(), None);
 }
+
+#[test]
+fn faults_have_words(rt: HostRuntime) -> Result<(), Fail> {
+    let shown = CodecFault::Short { at: 9 }.to_string(rt.alloc())?;
+    assert_eq!(rt; shown.as_str(), "the bytes end in the field at 9");
+    Ok(())
+}

@@ -4,9 +4,9 @@
 
 use super::*;
 use cg_action::{Query, decode, print_value};
-use cg_base::{put, put_number};
+use cg_base::{put, put_shown};
 use cg_codec::put_u32;
-use cg_text::{Txt, put_i64, put_quoted, read_i64};
+use cg_text::{Txt, read_i64};
 use std::alloc::Global;
 use std::test::Fail;
 
@@ -126,24 +126,10 @@ fn run(alloc: Global, db: &mut Db, commands: &str) -> Result<Effect, Fail> {
     Ok(db.apply(&action)?)
 }
 
-fn put_effect(out: &mut Vec<u8>, effect: Effect) -> Result<(), Fail> {
-    match effect {
-        Effect::Done => Ok(put(out, b"done")?),
-        Effect::Aborted(place) => {
-            put(out, b"aborted ")?;
-            Ok(put_number(out, u64::from(place))?)
-        }
-        Effect::Range(place) => {
-            put(out, b"range ")?;
-            Ok(put_number(out, u64::from(place))?)
-        }
-    }
-}
-
 // the effect of the commands, and what stands in the database behind them
 fn seen(alloc: Global, db: &mut Db, commands: &str) -> Result<Vec<u8>, Fail> {
     let mut out = Vec::new(alloc);
-    put_effect(&mut out, run(alloc, db, commands)?)?;
+    put_shown(&mut out, &run(alloc, db, commands)?)?;
     for entry in db.entries()?.as_slice() {
         put(&mut out, b" ")?;
         put(&mut out, entry.key.as_str().as_bytes())?;
@@ -184,11 +170,11 @@ fn a_join_and_a_leave_change_nothing(rt: HostRuntime) -> Result<(), Fail> {
 
 const ENTRIES: &str = "put b 1 ; put ab 2 ; put a 3 ; put \u{e9} 4 ; put aba 5 ; del b";
 
-const FOUND: &str = "count -> 4
+const FOUND: &str = "count -> count 4
 get ab -> 2
 get b -> absent
-keys  -> keys a ab aba \u{e9}
-keys ab -> keys ab aba
+keys  -> keys \"a\" \"ab\" \"aba\" \"\u{e9}\"
+keys ab -> keys \"ab\" \"aba\"
 keys abc -> keys";
 
 fn query_of(alloc: Global, text: &str) -> Result<Query, Fail> {
@@ -201,22 +187,9 @@ fn query_of(alloc: Global, text: &str) -> Result<Query, Fail> {
     Ok(Query::Count)
 }
 
-fn found(alloc: Global, db: &Db, query: &str) -> Result<Vec<u8>, Fail> {
-    let mut out = Vec::new(alloc);
-    match db.answer(&query_of(alloc, query)?)? {
-        Answer::Absent => put(&mut out, b"absent")?,
-        Answer::Int(number) => put_i64(&mut out, number)?,
-        Answer::Text(text) => put_quoted(&mut out, &text)?,
-        Answer::Count(count) => put_number(&mut out, count)?,
-        Answer::Keys(keys) => {
-            put(&mut out, b"keys")?;
-            for key in keys.as_slice() {
-                put(&mut out, b" ")?;
-                put(&mut out, key.as_str().as_bytes())?;
-            }
-        }
-    }
-    Ok(out)
+fn found(alloc: Global, db: &Db, query: &str) -> Result<String, Fail> {
+    let answer = db.answer(&query_of(alloc, query)?)?;
+    Ok(answer.to_string(alloc)?)
 }
 
 #[test]
@@ -227,7 +200,9 @@ fn queries_find_what_stands(rt: HostRuntime) -> Result<(), Fail> {
     for line in FOUND.lines() {
         let (query, expected) = line.split_once(" -> ").ok_or("no arrow")?;
         let out = found(alloc, &db, query)?;
-        assert_eq!(rt; out.as_slice(), expected.as_bytes(), "{line}");
+        assert_eq!(rt; out.as_str(), expected, "{line}");
     }
+    assert!(rt; db.answer(&Query::Count)? == Answer::Count(4));
+    assert!(rt; db.answer(&Query::Count)? != Answer::Int(4));
     Ok(())
 }

@@ -367,3 +367,14 @@ fn thirty_two_members_receive_and_deliver(rt: HostRuntime) -> Result<(), Fail> {
     );
     Ok(())
 }
+
+#[test]
+fn refusals_have_words(rt: HostRuntime) -> Result<(), NoMemory> {
+    let error = GroupErr::Refused(Reason::NotUp(ReplicaId::known(7)));
+    let shown = error.to_string(rt.alloc())?;
+    assert_eq!(rt;
+        shown.as_str(),
+        "the call isn't admitted: replica 7 isn't up"
+    );
+    Ok(())
+}

@@ -111,3 +111,10 @@ fn a_put_repeats_writes_and_a_write_of_nothing_is_a_fault(rt: HostRuntime) -> Re
     assert_eq!(rt; sink.into_inner().bytes.as_slice(), b"abcde".as_slice());
     Ok(())
 }
+
+#[test]
+fn faults_have_words(rt: HostRuntime) -> Result<(), Fail> {
+    let shown = format!(in rt.alloc(); "{Failed}, {}", IoFault::NoMemory)?;
+    assert_eq!(rt; shown.as_str(), "a take failed, memory was refused");
+    Ok(())
+}

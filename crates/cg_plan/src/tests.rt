@@ -192,5 +192,10 @@ fn another_item_is_refused_with_the_wanted_one(rt: HostRuntime) -> Result<(), Fa
         .ok_or("accepted")?;
     assert_eq!(rt; refused.want, Some(item_of(&[2, 2, 1, 1], 1)));
     assert_eq!(rt; plan.turn(one), None);
+    let shown = refused.to_string(rt.alloc())?;
+    assert_eq!(rt;
+        shown.as_str(),
+        "another item was wanted, or from another sender"
+    );
     Ok(())
 }

@@ -275,3 +275,11 @@ fn another_yellow_list(rt: HostRuntime) -> Result<(), Fail> {
     assert!(rt; !queue.is_red(id(1, 2)?));
     Ok(())
 }
+
+#[test]
+fn a_gap_has_words(rt: HostRuntime) -> Result<(), Fail> {
+    let shown = QueueFault::Gap { cut: 3 }.to_string(rt.alloc())?;
+    let words = "the creator's action before this one isn't known: its last known one has index 3";
+    assert_eq!(rt; shown.as_str(), words);
+    Ok(())
+}

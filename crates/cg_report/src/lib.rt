@@ -16,3 +16,6 @@ pub use entry::{Entry, Made, Placed, Reply, Shown};
 pub use entry_text::put_entry;
 pub use line::{Line, ShownPhase, StateName, UpLine, View};
 pub use line_text::put_line;
+
+#[cfg(test)]
+mod tests;

@@ -23,18 +23,34 @@ fn refuses(rt: &(impl Abort + AllocGlobal), reason: u8, lines: &str) {
 }
 
 // the printed form of the event that the line is
-fn printed(alloc: Global, line: &[u8]) -> Result<Vec<u8>, Fail> {
+fn printed(alloc: Global, line: &[u8]) -> Result<String, Fail> {
     let event = read(alloc, line)?.ok_or("no event")?;
-    let mut out = Vec::new(alloc);
-    print_line(&event, &mut out)?;
-    Ok(out)
+    Ok(event.to_string(alloc)?)
+}
+
+// the two lines read as one event
+fn are_one(alloc: Global, a: &[u8], b: &[u8]) -> Result<bool, Fail> {
+    let one = read(alloc, a)?;
+    let other = read(alloc, b)?;
+    Ok(one == other)
+}
+
+#[test]
+fn events_are_compared_and_faults_shown(rt: HostRuntime) -> Result<(), Fail> {
+    let alloc = rt.alloc();
+    assert!(rt; are_one(alloc, b"request 1 ? get \"x\"", b"request  1  ?get \"x\"")?);
+    assert!(rt; !are_one(alloc, b"weak 1 count", b"dirty 1 count")?);
+    assert!(rt; !are_one(alloc, b"stop 1 0 -", b"stop 1 0 00")?);
+    let shown = LineFault::MISSING_PART.to_string(alloc)?;
+    assert_eq!(rt; shown.as_str(), "the line ends where a part must stand");
+    Ok(())
 }
 
 // each of the lines is an event, and is its printed form
 fn stands(rt: &(impl Abort + AllocGlobal), lines: &str) -> Result<(), Fail> {
     for line in lines.lines() {
         let out = printed(rt.alloc(), line.as_bytes())?;
-        assert_eq!(rt; out.as_slice(), line.as_bytes(), "{line}");
+        assert_eq!(rt; out.as_str(), line, "{line}");
     }
     Ok(())
 }
@@ -497,7 +513,7 @@ fn blanks_stand_anywhere_between_tokens(rt: HostRuntime) -> Result<(), Fail> {
     ];
     for (line, form) in rows {
         let out = printed(alloc, line.as_bytes())?;
-        assert_eq!(rt; out.as_slice(), form.as_bytes(), "{line}");
+        assert_eq!(rt; out.as_str(), form, "{line}");
     }
     Ok(())
 }
@@ -564,7 +580,7 @@ fn lengths_of_the_bytes_of_a_stop(rt: HostRuntime) -> Result<(), Fail> {
     let alloc = rt.alloc();
     let fill = repeated(alloc, b"stop 1 0 ", b"0f", 4096)?;
     let out = printed(alloc, fill.as_slice())?;
-    assert_eq!(rt; out.as_slice(), fill.as_slice());
+    assert_eq!(rt; out.as_str().as_bytes(), fill.as_slice());
     let longer = repeated(alloc, b"stop 1 0 ", b"0f", 4097)?;
     assert_eq!(rt;
         fault_of(alloc, longer.as_slice()),

@@ -98,6 +98,14 @@ fn a_text_is_printed(rt: HostRuntime) -> Result<(), Fail> {
 }
 
 #[test]
+fn texts_and_faults_are_shown(rt: HostRuntime) -> Result<(), Fail> {
+    let text = Txt::new(rt.alloc(), "a\"é\\")?;
+    let shown = format!(in rt.alloc(); "{}: {}", Quoted(&text), TextFault::TooLong)?;
+    assert_eq!(rt; shown.as_str(), "\"a\\\"é\\\\\": the text is too long");
+    Ok(())
+}
+
+#[test]
 fn tokens_of_a_line(rt: HostRuntime) {
     let mut words = Words::new(b" put \"a b\"1;\t\"c\\\"\"?count\"d");
     assert_eq!(rt; words.next(), Some(b"put".as_slice()));
