@@ -5,18 +5,23 @@ ghost use Rattle.cg_codec.specs.declared.fault.CodecFault.TheVariants.{NoMemory 
 
 use cg_base::NoMemory;
 use std::alloc::{AllocError, AllocFailed};
+use thiserror::Error;
 
 /// Why a value can't be read from bytes: the first fault from the left.
 /// Places count from 0, over all the bytes that the reader was made of.
-#[derive(Clone, Copy, Debug, PartialEq, Eq)]
+#[derive(Clone, Copy, Debug, PartialEq, Eq, Error)]
 pub enum CodecFault {
     /// The bytes end in the field whose first byte is at this place.
+    #[error("the bytes end in the field at {at}")]
     Short { at: u64 },
     /// The field whose first byte is at this place has no such value.
+    #[error("the field at {at} has no such value")]
     Bad { at: u64 },
     /// Bytes follow the last field. The first of them is at this place.
+    #[error("bytes follow the last field, from {at} on")]
     Rest { at: u64 },
     /// Memory was refused, which says nothing of the bytes.
+    #[error("memory was refused")]
     NoMemory,
 }
 

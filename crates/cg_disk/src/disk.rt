@@ -6,6 +6,8 @@ ghost use Rattle.cg_disk.specs.State.{looked, synced, wrote};
 ghost use Rattle.cg_disk.specs.View.{DiskView, IsView};
 ghost use Rattle.cg_disk.specs.Calls.{Ends, Elapses, HasImages, Looks, Begins};
 
+use thiserror::Error;
+
 /// A side of a disk.
 #[derive(Clone, Copy, Debug, PartialEq, Eq)]
 pub enum Side {
@@ -14,9 +16,11 @@ pub enum Side {
 }
 
 /// Why a device call didn't do what it was asked to.
-#[derive(Clone, Copy, Debug, PartialEq, Eq)]
+#[derive(Clone, Copy, Debug, PartialEq, Eq, Error)]
 pub enum DiskFault {
+    #[error("a device call failed")]
     Failed,
+    #[error("memory was refused")]
     NoMemory,
 }
 

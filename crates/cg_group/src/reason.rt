@@ -2,41 +2,58 @@ ghost use Rattle.std.specs.Prelude.{◌≡◌};
 ghost use Rattle.cg_group.specs.Reasons.{reason_number, reason_value};
 
 use cg_base::ReplicaId;
+use thiserror::Error;
 
 /// Why an event isn't admitted. Whoever asks for the event tests some of them, and the group the others.
-#[derive(Clone, Copy, Debug, PartialEq, Eq)]
+#[derive(Clone, Copy, Debug, PartialEq, Eq, Error)]
 pub enum Reason {
     /// The replica isn't up.
+    #[error("replica {0} isn't up")]
     NotUp(ReplicaId),
     /// The replica isn't regular in a configuration.
+    #[error("replica {0} isn't regular in a configuration")]
     NotRegular(ReplicaId),
     /// The replica has no message without a place.
+    #[error("replica {0} has no message without a place")]
     NothingToOrder(ReplicaId),
     /// The configuration has no such place.
+    #[error("the configuration has no place {0}")]
     NoSuchPlace(u64),
     /// The replica has received the place before.
+    #[error("the replica has received place {0} before")]
     AlreadyReceived(u64),
     /// Fewer places are ready than are to be delivered: so many.
+    #[error("of the places to be delivered {0} are ready")]
     NotReady(u64),
     /// The lowest replica that isn't in the configuration of the lowest one named.
+    #[error("replica {0} isn't in the configuration of the lowest one named")]
     NotOneConfiguration(ReplicaId),
     /// The lowest replica that must be named and isn't.
+    #[error("replica {0} must be named too")]
     NotTogether(ReplicaId),
     /// No replica is named.
+    #[error("no replica is named")]
     EmptySet,
     /// The replica is up, or has begun, already.
+    #[error("replica {0} is up, or has begun, already")]
     AlreadyUp(ReplicaId),
     /// The replica hasn't begun, or no event has named it.
+    #[error("replica {0} hasn't begun, or no event has named it")]
     UnknownReplica(ReplicaId),
     /// An event has named the identifier before.
+    #[error("an event has named {0} before")]
     IdUsed(ReplicaId),
     /// The joiner is no server yet.
+    #[error("replica {0} is no server yet")]
     JoinNotGreen(ReplicaId),
     /// The replica has left for good.
+    #[error("replica {0} has left for good")]
     HasLeft(ReplicaId),
     /// The replica lacks an earlier place of the same sender: the earliest.
+    #[error("the replica lacks place {0} of the same sender")]
     EarlierMissing(u64),
     /// The replica is regular in a configuration.
+    #[error("replica {0} is regular in a configuration")]
     StillRegular(ReplicaId),
 }
 

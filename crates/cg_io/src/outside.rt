@@ -2,17 +2,21 @@ ghost use Rattle.std.specs.Prelude.{◌<◌, ◌^◌, length, OnOk, IsErrOf};
 ghost use Rattle.cg_io.specs.Outside.{SourceView, SinkView, Takes, TakeCause, PutsAll, PutsNothing, PutsFront, PutCause};
 
 use std::alloc::Global;
+use thiserror::Error;
 
 /// A take failed, and took nothing.
-#[derive(Clone, Copy, Debug, PartialEq, Eq)]
+#[derive(Clone, Copy, Debug, PartialEq, Eq, Error)]
+#[error("a take failed")]
 pub struct Failed;
 
 /// Why a put didn't put its whole part.
-#[derive(Clone, Copy, Debug, PartialEq, Eq)]
+#[derive(Clone, Copy, Debug, PartialEq, Eq, Error)]
 pub enum IoFault {
     /// The outside failed. Some front of the part was put.
+    #[error("a put failed")]
     Failed,
     /// Memory was refused. Nothing of the part was put.
+    #[error("memory was refused")]
     NoMemory,
 }
 

@@ -4,24 +4,31 @@ ghost use Rattle.cg_join.specs.Taking.{bad};
 use crate::SnapshotName;
 use cg_codec::CodecFault;
 use cg_disk::Disk;
+use std::fmt;
+use std::fmt::{Display, Formatter, Write};
+use thiserror::Error;
 
 /// Why a piece isn't taken.
-#[derive(Clone, Copy, Debug, PartialEq, Eq)]
+#[derive(Clone, Copy, Debug, PartialEq, Eq, Error)]
 pub enum JoinErr {
     /// The bytes are no piece; this is the place of the first that can't be read.
+    #[error("the bytes at {at} are of no piece")]
     BadPiece {
         at: u64,
     },
     /// It is one of another snapshot.
+    #[error("the piece is one of another snapshot")]
     OtherSnapshot {
         want: SnapshotName,
         got: SnapshotName,
     },
     /// It isn't the next one.
+    #[error("piece {got} came where piece {want} is the next")]
     OutOfTurn {
         want: u64,
         got: u64,
     },
+    #[error("memory was refused")]
     NoMemory,
 }
 
@@ -42,5 +49,14 @@ pub(crate) fn bad(fault: CodecFault) -> JoinErr
         CodecFault::Bad { at } => JoinErr::BadPiece { at },
         CodecFault::Rest { at } => JoinErr::BadPiece { at },
         CodecFault::NoMemory => JoinErr::NoMemory,
+    }
+}
+
+impl<D: Disk> Display for FinishErr<D> {
+    fn fmt<W: Write>(&self, f: &mut Formatter<W>) -> fmt::Result {
+        match self {
+            FinishErr::Lost(_) => f.write_str("a device call failed"),
+            FinishErr::NoMemory(_) => f.write_str("memory was refused"),
+        }
     }
 }

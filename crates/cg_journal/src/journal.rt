@@ -13,6 +13,8 @@ use crate::parse::parse_both;
 use cg_base::BytesList;
 use cg_disk::{Disk, DiskFault, ModelDisk, Side};
 use std::alloc::Global;
+use std::fmt;
+use std::fmt::{Display, Formatter, Write};
 use std::marker::Model;
 
 /// Records on both sides of a disk, at rest. Clauses see its disk.
@@ -216,5 +218,14 @@ impl Journal<ModelDisk> {
         ensures { result ≡ (⟦<ModelDisk as Disk>⟧.view self.now).time }
     {
         self.disk.calls()
+    }
+}
+
+impl<D: Disk> Display for AppendErr<D> {
+    fn fmt<W: Write>(&self, f: &mut Formatter<W>) -> fmt::Result {
+        match self {
+            AppendErr::Lost(_) => f.write_str("a device call failed"),
+            AppendErr::NoMemory(_) => f.write_str("memory was refused"),
+        }
     }
 }

@@ -1,5 +1,7 @@
 use crate::journal::Journal;
 use cg_disk::Disk;
+use std::fmt;
+use std::fmt::{Display, Formatter, Write};
 
 /// What ended the formatting of a disk.
 #[derive(Drop)]
@@ -17,4 +19,23 @@ pub enum JournalOpen<D: Disk> {
     /// A side is shorter than nine bytes, lacks the header, or ends in a record that doesn't fit.
     NotAJournal(D),
     NoMemory(D),
+}
+
+impl<D: Disk> Display for FormatErr<D> {
+    fn fmt<W: Write>(&self, f: &mut Formatter<W>) -> fmt::Result {
+        match self {
+            FormatErr::Lost(_) => f.write_str("a device call failed"),
+            FormatErr::NoMemory(_) => f.write_str("memory was refused"),
+        }
+    }
+}
+
+impl<D: Disk> Display for JournalOpen<D> {
+    fn fmt<W: Write>(&self, f: &mut Formatter<W>) -> fmt::Result {
+        match self {
+            JournalOpen::Lost(_) => f.write_str("a device call failed"),
+            JournalOpen::NotAJournal(_) => f.write_str("the disk is no journal"),
+            JournalOpen::NoMemory(_) => f.write_str("memory was refused"),
+        }
+    }
 }

@@ -2,6 +2,7 @@ ghost use Rattle.std.specs.Prelude.{◌≡◌, ◌<◌};
 ghost use Rattle.cg_plan.specs.Items.{IsFilled, size_of, item_behind, same_item};
 
 use cg_base::{ActionId, ReplicaId};
+use thiserror::Error;
 
 /// What is sent in one message of a plan.
 #[derive(Clone, Copy, Debug, PartialEq, Eq)]
@@ -40,7 +41,8 @@ pub struct Sent {
 }
 
 /// Another item was wanted, or from another sender. None says that no item is wanted any more.
-#[derive(Clone, Copy, Debug, PartialEq, Eq)]
+#[derive(Clone, Copy, Debug, PartialEq, Eq, Error)]
+#[error("another item was wanted, or from another sender")]
 pub struct Other {
     pub want: Option<Item>,
 }

@@ -5,13 +5,16 @@ ghost use Rattle.cg_schedule.specs.declared.fault.LineFault.TheVariants.{NoMemor
 
 use cg_base::NoMemory;
 use cg_text::TextFault;
+use thiserror::Error;
 
 /// Why a line is no event.
-#[derive(Clone, Copy, Debug, PartialEq, Eq)]
+#[derive(Clone, Copy, Debug, PartialEq, Eq, Error)]
 pub enum LineFault {
     /// The line has no reading, by one of the reasons 1 to 9.
+    #[error("{}", words_of(*.0))]
     Syntax(u8),
     /// Memory was refused, which says nothing of the line.
+    #[error("memory was refused")]
     NoMemory,
 }
 
@@ -34,6 +37,22 @@ impl LineFault {
     pub const BAD_LIST: LineFault = LineFault::Syntax(8);
     /// The first event isn't `start`, a later one is, or an event follows `end`.
     pub const MISPLACED: LineFault = LineFault::Syntax(9);
+}
+
+// the reason of this number
+fn words_of(reason: u8) -> &'static str {
+    match reason {
+        1 => "the line isn't UTF-8",
+        2 => "the first token is no event word",
+        3 => "the line ends where a part must stand",
+        4 => "a token stands where the line must end",
+        5 => "a number or an identifier has another spelling or is out of its range",
+        6 => "a text isn't quoted as it must be, or has a wrong length",
+        7 => "a token where a command or query word must stand is none",
+        8 => "an identifier isn't above the one before, or a 17th command stands",
+        9 => "the first event isn't `start`, a later one is, or an event follows `end`",
+        _ => "the line has no reading",
+    }
 }
 
 impl LineFault {

@@ -1,4 +1,6 @@
 use cg_disk::Disk;
+use std::fmt;
+use std::fmt::{Display, Formatter, Write};
 
 /// What ended a call that writes.
 #[derive(Drop)]
@@ -17,4 +19,23 @@ pub enum OpenErr<D: Disk> {
     /// The disk stands for no state of this replica.
     NotAStore(D),
     NoMemory(D),
+}
+
+impl<D: Disk> Display for CommitErr<D> {
+    fn fmt<W: Write>(&self, f: &mut Formatter<W>) -> fmt::Result {
+        match self {
+            CommitErr::Lost(_) => f.write_str("a device call failed"),
+            CommitErr::NoMemory(_) => f.write_str("memory was refused"),
+        }
+    }
+}
+
+impl<D: Disk> Display for OpenErr<D> {
+    fn fmt<W: Write>(&self, f: &mut Formatter<W>) -> fmt::Result {
+        match self {
+            OpenErr::Lost(_) => f.write_str("a device call failed"),
+            OpenErr::NotAStore(_) => f.write_str("the disk stands for no state of this replica"),
+            OpenErr::NoMemory(_) => f.write_str("memory was refused"),
+        }
+    }
 }

@@ -5,20 +5,26 @@ ghost use Rattle.cg_text.specs.declared.fault.TextFault.TheVariants.{NoMemory as
 
 use cg_base::NoMemory;
 use std::alloc::{AllocError, AllocFailed};
+use thiserror::Error;
 
 /// Why bytes are not the spelling of a value: first by how they are spelled, and then by the size of
 /// what they spell.
-#[derive(Clone, Copy, Debug, PartialEq, Eq)]
+#[derive(Clone, Copy, Debug, PartialEq, Eq, Error)]
 pub enum TextFault {
     /// The bytes are no number in plain decimal.
+    #[error("no number in plain decimal")]
     NotANumber,
     /// The number is out of the type's range.
+    #[error("the number is out of range")]
     TooLarge,
     /// The bytes are no text between quotes.
+    #[error("no text between quotes")]
     BadQuote,
     /// The text has more bytes than it may have.
+    #[error("the text is too long")]
     TooLong,
     /// Memory was refused, which says nothing of the bytes.
+    #[error("memory was refused")]
     NoMemory,
 }
 
