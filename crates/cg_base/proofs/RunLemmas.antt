@@ -183,30 +183,42 @@ same-runs a b r a_are b_are is =
 
 -- ---- their text
 
--- one name of a run more
-pub names_above-next : (low high creator : ℕ) → low < high → names_above low high creator ≡ record { creator = creator; index = low + 1 } ∷ names_above (low + 1) high creator
-names_above-next low high creator lt =
-    let name : ℕ → ActionId = λ n. record { creator = creator; index = n } in
-    let count : high - low ≡ suc (high - (low + 1)) = omega arith in
-    let next : suc low ≡ low + 1 = omega arith in
-    ap (λ k. map name (count_up (suc low) k)) count ∙ ap (λ n. name n ∷ map name (count_up (suc n) (high - (low + 1)))) next
-
-pub names_above-none : (low high creator : ℕ) → high ≤ low → names_above low high creator ≡ []
+names_above-none : (low high creator : ℕ) → high ≤ low → names_above low high creator ≡ []
 names_above-none low high creator le =
     let none : high - low ≡ 0 = omega arith in
     ap (λ k. map (λ n. record { creator = creator; index = n }) (count_up (suc low) k)) none
 
--- one run more behind those that are written
-pub text-more : (before some comma now : List ℕ) (runs : List IdRun) (i : ℕ) (run : IdRun) → i < length runs → run ≡ get_or runs i run
-    → some ≡ before ++ flat_map (λ y. 44 ∷ id_text y) (ids_in (take i runs)) → comma ≡ some ++ 44 ∷ [] → now ≡ comma ++ with_commas id_text (ids_of run)
-    → now ≡ before ++ flat_map (λ y. 44 ∷ id_text y) (ids_in (take (i + 1) runs))
-text-more before some comma now runs i run within there first second third =
+-- one name of a run more
+names_above-last : (low high creator : ℕ) → low ≤ high → names_above low (high + 1) creator ≡ names_above low high creator ++ record { creator = creator; index = high + 1 } ∷ []
+names_above-last low high creator le =
+    let name : ℕ → ActionId = λ n. record { creator = creator; index = n } in
+    let next : suc high ≡ high + 1 = omega arith in
+    names_above-join low high (high + 1) creator le (omega arith)
+    ∙ ap (λ ids. names_above low high creator ++ name (suc high) ∷ ids) (names_above-none (suc high) (high + 1) creator (omega arith))
+    ∙ ap (λ n. names_above low high creator ++ name n ∷ []) next
+
+pub text_above-last : (low high creator : ℕ) → low ≤ high → flat_map (λ y. 44 ∷ id_text y) (names_above low high creator) ++ 44 ∷ id_text (record { creator = creator; index = high + 1 })
+    ≡ flat_map (λ y. 44 ∷ id_text y) (names_above low (high + 1) creator)
+text_above-last low high creator le =
     let text : List ActionId → List ℕ = flat_map (λ y. 44 ∷ id_text y) in
-    let done = ids_in (take i runs) in
-    let more : take (i + 1) runs ≡ take i runs ++ run ∷ [] = take_more runs i run within ∙ ap (λ r. take i runs ++ r ∷ []) (sym there) in
-    let ids : ids_in (take (i + 1) runs) ≡ done ++ ids_of run =
-    ap ids_in more ∙ flat_map-append ids_of (take i runs) (run ∷ []) ∙ ap (λ xs. done ++ xs) (append-nil (ids_of run)) in
-    third ∙ ap (λ xs. xs ++ with_commas id_text (ids_of run)) (second ∙ ap (λ xs. xs ++ 44 ∷ []) first)
-    ∙ append_assoc (before ++ text done) (44 ∷ []) (with_commas id_text (ids_of run))
-    ∙ append_assoc before (text done) (text (ids_of run))
-    ∙ ap (λ xs. before ++ xs) (sym (flat_map-append (λ y. 44 ∷ id_text y) done (ids_of run)) ∙ ap text (sym ids))
+    let name : ActionId = record { creator = creator; index = high + 1 } in
+    ap (λ xs. text (names_above low high creator) ++ xs) (sym (append-nil (44 ∷ id_text name)))
+    ∙ sym (flat_map-append (λ y. 44 ∷ id_text y) (names_above low high creator) (name ∷ []))
+    ∙ ap text (sym (names_above-last low high creator le))
+
+texts_runs : (runs : List IdRun) → flat_map (λ run. 44 ∷ with_commas id_text (ids_of run)) runs ≡ flat_map (λ y. 44 ∷ id_text y) (ids_in runs)
+texts_runs [] = refl
+texts_runs (r ∷ runs) =
+    ap (λ xs. (44 ∷ with_commas id_text (ids_of r)) ++ xs) (texts_runs runs)
+    ∙ sym (flat_map-append (λ y. 44 ∷ id_text y) (ids_of r) (ids_in runs))
+
+-- the texts of the runs are that of their names
+pub text_runs : (runs : List IdRun) → with_commas (λ run. with_commas id_text (ids_of run)) runs ≡ with_commas id_text (ids_in runs)
+text_runs [] = refl
+text_runs (r ∷ runs) =
+    let text : List ActionId → List ℕ = flat_map (λ y. 44 ∷ id_text y) in
+    let head : List ℕ = id_text (record { creator = r.creator; index = r.first }) in
+    let own = names_above r.first r.last r.creator in
+    ap (λ xs. (head ++ text own) ++ xs) (texts_runs runs)
+    ∙ append_assoc head (text own) (text (ids_in runs))
+    ∙ ap (λ xs. head ++ xs) (sym (flat_map-append (λ y. 44 ∷ id_text y) own (ids_in runs)))

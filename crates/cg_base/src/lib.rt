@@ -8,12 +8,14 @@
 
 mod action_id;
 mod cut;
+mod display;
 mod id_runs;
 mod id_set;
 mod no_memory;
 mod pieces;
 mod replica_id;
 mod row;
+mod sink;
 mod text;
 mod weight_set;
 mod weighted;
@@ -26,6 +28,7 @@ pub use no_memory::NoMemory;
 pub use pieces::{Pieces, cut_at};
 pub use replica_id::ReplicaId;
 pub use row::{Bytes, BytesList, IdList, Row};
+pub use sink::put_shown;
 pub use text::{
     put, put_id, put_id_list, put_id_runs, put_number, put_set, put_weight_set, put_weighted,
 };

@@ -119,3 +119,9 @@ impl<T: PartialEq> PartialEq for Row<T> {
         self.items.as_slice() == other.items.as_slice()
     }
 }
+
+impl<T: Eq> Eq for Row<T> {
+    ghost use Rattle.std.specs.Cmp.Lexicographic.{lists_equiv};
+
+    ghost laws = { lists_equiv T.Eq.laws };
+}
