@@ -7,7 +7,7 @@ use cg_base::{ActionId, NoMemory, ReplicaId, Row};
 use std::alloc::Global;
 
 /// What an action does.
-#[derive(Drop)]
+#[derive(Drop, PartialEq, Eq)]
 pub enum Kind {
     /// Runs at most 16 commands, and then asks the query. Without commands there is a query.
     Update { cmds: CmdList, query: Option<Query> },
@@ -18,7 +18,7 @@ pub enum Kind {
 }
 
 /// An action.
-#[derive(Drop)]
+#[derive(Drop, PartialEq, Eq)]
 pub struct Action {
     pub id: ActionId,
     /// Its creator's green count when it was created.

@@ -7,7 +7,7 @@ use cg_text::Txt;
 use std::alloc::Global;
 
 /// A change of the database, which may fail. A key has 1 to 64 bytes.
-#[derive(Drop)]
+#[derive(Drop, PartialEq, Eq)]
 pub enum Cmd {
     /// Sets the key to the value.
     Put {

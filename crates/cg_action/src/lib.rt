@@ -17,7 +17,7 @@ mod writing;
 pub use action::{Action, ActionList, Kind, copy_actions};
 pub use command::{Cmd, CmdList, copy_commands};
 pub use laws::{actions_are_exact, spellings_stand_apart};
-pub use print::{print_kind, print_query, print_update, print_value};
+pub use print::{Update, print_kind, print_query, print_update, print_value};
 pub use query::{Query, copy_query};
 pub use reading::{decode, take_action, take_action_id, take_value};
 pub use value::Value;

@@ -5,7 +5,7 @@ use cg_text::Txt;
 use std::alloc::Global;
 
 /// A question to the database.
-#[derive(Drop)]
+#[derive(Drop, PartialEq, Eq)]
 pub enum Query {
     /// The value of the key.
     Get(Txt),

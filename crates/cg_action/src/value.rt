@@ -5,7 +5,7 @@ use cg_text::Txt;
 use std::alloc::Global;
 
 /// What a key may stand for.
-#[derive(Drop)]
+#[derive(Drop, PartialEq, Eq)]
 pub enum Value {
     Text(Txt),
     Int(i64),

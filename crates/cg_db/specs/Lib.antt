@@ -2,6 +2,7 @@ pub mod Map
 pub mod View
 pub mod Apply
 pub mod Plan
+pub mod Print
 pub mod Find
 pub mod Limits
 pub mod TextOrderLaws

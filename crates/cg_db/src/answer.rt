@@ -2,7 +2,7 @@ use crate::TxtList;
 use cg_text::Txt;
 
 /// What a query found.
-#[derive(Drop)]
+#[derive(Drop, PartialEq, Eq)]
 pub enum Answer {
     /// The key isn't there.
     Absent,

@@ -3,7 +3,7 @@ use cg_base::Row;
 use cg_text::Txt;
 
 /// A key with its value.
-#[derive(Drop)]
+#[derive(Drop, PartialEq, Eq)]
 pub struct DbEntry {
     pub key: Txt,
     pub value: Value,

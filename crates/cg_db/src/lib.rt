@@ -12,6 +12,7 @@ mod effect;
 mod entry;
 mod laws;
 mod plan;
+mod print;
 
 pub use answer::Answer;
 pub use db::Db;

@@ -11,7 +11,7 @@ use std::alloc::Global;
 
 /// The actions that were delivered in the transitional configuration of a primary component, in order. The list says
 /// something of the others of that component only where it is valid: where the next regular configuration came.
-#[derive(Drop, PartialEq)]
+#[derive(Drop, PartialEq, Eq)]
 pub struct Yellow {
     pub valid: bool,
     pub list: IdList,

@@ -1,6 +1,7 @@
 mod Digits
 mod NumberLaws
 mod QuotedLaws
+mod QuotedChars
 mod Scanning
 mod TokenLaws
 mod Texts

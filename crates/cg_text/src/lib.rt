@@ -18,6 +18,6 @@ pub use laws::{
     numbers_are_exact, quoted_texts_are_exact, token_kinds_are_exact, tokens_are_exact,
 };
 pub use numbers::{put_i64, put_u64, read_i64, read_u64};
-pub use quoted::{put_quoted, read_quoted};
+pub use quoted::{Quoted, put_quoted, read_quoted};
 pub use txt::Txt;
 pub use words::{Words, is_passed_over};

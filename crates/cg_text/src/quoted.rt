@@ -1,14 +1,18 @@
 //! Texts between quotes.
 
-ghost use Rattle.std.specs.Prelude.{◌≡◌, ◌+◌, ◌<◌, ◌++◌, flat_map, length, take, drop, false, OnOk, OnErr, Ok, Err, if◌then◌else◌};
+ghost use Rattle.std.specs.Prelude.{◌≡◌, ◌+◌, ◌<◌, ◌++◌, flat_map, length, drop, false, OnOk, OnErr, Some, Ok, Err, if◌then◌else◌};
 ghost use Rattle.std.specs.Option.{ok_or};
 ghost use Rattle.std.specs.Str.{is_utf8};
+ghost use Rattle.std.specs.Char.{encode_utf8};
+ghost use Rattle.std.specs.Fmt.{WritesOnOk};
 ghost use Rattle.cg_text.specs.Fault.{Reads};
 ghost use Rattle.cg_text.specs.Quoted.{is_special, is_control, ends_text, escapes, is_refused, onto, kept, closed, escaped, quoted, read_quoted, text_between, text_up_to_quote};
 
 use crate::{TextFault, Txt};
-use cg_base::NoMemory;
+use cg_base::{NoMemory, put_shown};
 use std::alloc::Global;
+use std::fmt;
+use std::fmt::{Display, Formatter, Write};
 
 /// The text of at most `max` bytes that the bytes spell between quotes. There `"` is written `\"` and
 /// `\` is written `\\`; no other escape exists, and a byte below 0x20 or 0x7F doesn't stand.
@@ -120,48 +124,45 @@ fn is_control(byte: u8) -> bool
     byte < 0x20 || byte == 0x7f
 }
 
-/// Puts the text at the end, between quotes. A byte that no quoted text has stands as it is: such a
-/// text is printed, and not read again.
+/// A text as it stands between quotes. A byte that no quoted text has stands as it is: such a text is shown, and
+/// not read again.
+#[derive(Clone, Copy)]
+pub struct Quoted<'a>(pub &'a Txt);
+
+impl Display for Quoted<'_> {
+    ghost output = { λ text. Some (quoted text.0.now) };
+
+    fn fmt<W: Write>(&self, f: &mut Formatter<W>) -> fmt::Result {
+        f.write_str("\"")?;
+        write_escaped(f, self.0.as_str())?;
+        f.write_str("\"")
+    }
+}
+
+fn write_escaped<W: Write>(f: &mut Formatter<W>, text: &str) -> fmt::Result
+    ensures { WritesOnOk W.write_str_gives f.old result (flat_map escaped text.now) f.new }
+{
+    for c in text.chars() {
+        write_char(f, c)?;
+    }
+    Ok(())
+}
+
+#[tactic(auto, using(crate::proofs::QuotedChars::plain_char))]
+fn write_char<W: Write>(f: &mut Formatter<W>, c: char) -> fmt::Result
+    ensures { WritesOnOk W.write_str_gives f.old result (flat_map escaped (encode_utf8 c)) f.new }
+{
+    match c {
+        '"' => f.write_str("\\\""),
+        '\\' => f.write_str("\\\\"),
+        _ => f.write_char(c),
+    }
+}
+
+/// Puts the text at the end, between quotes.
 pub fn put_quoted(out: &mut Vec<u8>, t: &Txt) -> Result<(), NoMemory>
     ensures ok { OnOk result (out.new.items ≡ out.old.items ++ quoted t.now) }
     ensures err { OnErr result (out.new.items ≡ out.old.items) }
 {
-    let before = out.len();
-    let put = put_between_quotes(out, t.as_str().as_bytes());
-    if put.is_err() {
-        out.truncate(before);
-    }
-    put
-}
-
-fn put_between_quotes(out: &mut Vec<u8>, text: &[u8]) -> Result<(), NoMemory>
-    ensures ok { OnOk result (out.new.items ≡ out.old.items ++ quoted text.now) }
-    ensures err { OnErr result (take (length out.old.items) out.new.items ≡ out.old.items) }
-{
-    out.push(b'"')?;
-    put_escaped(out, text)?;
-    out.push(b'"')?;
-    Ok(())
-}
-
-fn put_escaped(out: &mut Vec<u8>, text: &[u8]) -> Result<(), NoMemory>
-    ensures ok { OnOk result (out.new.items ≡ out.old.items ++ flat_map escaped text.now) }
-    ensures err { OnErr result (take (length out.old.items) out.new.items ≡ out.old.items) }
-{
-    for byte in text {
-        put_byte(out, *byte)?;
-    }
-    Ok(())
-}
-
-fn put_byte(out: &mut Vec<u8>, byte: u8) -> Result<(), NoMemory>
-    ensures ok { OnOk result (out.new.items ≡ out.old.items ++ escaped byte) }
-    ensures err { OnErr result (out.new.items ≡ out.old.items) }
-{
-    if is_special(byte) {
-        out.extend_from_slice(&[b'\\', byte])?;
-    } else {
-        out.push(byte)?;
-    }
-    Ok(())
+    put_shown(out, &Quoted(t))
 }
