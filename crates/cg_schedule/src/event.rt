@@ -2,7 +2,7 @@ use cg_action::{CmdList, Query};
 use cg_base::{Bytes, IdSet, ReplicaId, WeightSet};
 
 /// One event of a schedule.
-#[derive(Drop)]
+#[derive(Drop, PartialEq, Eq)]
 pub enum Event {
     /// These replicas begin, each alone, as the servers of one database.
     Start(WeightSet),

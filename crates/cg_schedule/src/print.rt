@@ -1,169 +1,112 @@
-//! The printed form of events.
+//! Events as the lines that spell them.
 
-ghost use Rattle.std.specs.Prelude.{◌≡◌, ◌<◌, ◌++◌, codes, decimal, flat_map, OnOk, OnErr};
-ghost use Rattle.cg_base.specs.Text.{KeepsFront, weighted_text};
-ghost use Rattle.cg_schedule.specs.Print.{id_behind, member_behind, hex_glyph, hex_text, fill_text, line_of};
+ghost use Rattle.std.specs.Prelude.{◌≡◌, ◌++◌, Some, codes, flat_map, OnOk, OnErr};
+ghost use Rattle.std.specs.Fmt.{WritesOnOk};
+ghost use Rattle.cg_schedule.specs.Print.{id_behind, member_behind, hex_text, fill_text, line_of};
 
 use crate::Event;
-use cg_action::{print_query, print_update};
-use cg_base::{IdSet, NoMemory, ReplicaId, WeightSet, Weighted, put, put_number, put_weighted};
+use cg_action::Update;
+use cg_base::{IdSet, NoMemory, WeightSet, Weighted, put_shown};
+use std::fmt;
+use std::fmt::{Display, Formatter, Write};
+
+/// Its line, without the line's end.
+impl Display for Event {
+    ghost output = { λ event. Some (line_of event) };
+
+    fn fmt<W: Write>(&self, f: &mut Formatter<W>) -> fmt::Result {
+        match self {
+            Event::Start(set) => write_members(f, set),
+            Event::Split(set) => write!(f, "split{}", Behind(set)),
+            Event::Merge(set) => write!(f, "merge{}", Behind(set)),
+            Event::Request { p, cmds, query } => {
+                let cmds = cmds.as_slice();
+                write!(f, "request {p} {}", Update { cmds, query })
+            }
+            Event::Weak { p, query } => write!(f, "weak {p} {query}"),
+            Event::Dirty { p, query } => write!(f, "dirty {p} {query}"),
+            Event::Order(p) => write!(f, "order {p}"),
+            Event::Recover(p) => write!(f, "recover {p}"),
+            Event::Show(p) => write!(f, "show {p}"),
+            Event::ShowOrder => f.write_str("show order"),
+            Event::Gather => f.write_str("gather"),
+            Event::End => f.write_str("end"),
+            Event::Receive { p, place } => write!(f, "receive {p} {place}"),
+            Event::Deliver { p, count } => write!(f, "deliver {p} {count}"),
+            Event::Rounds(count) => write!(f, "rounds {count}"),
+            Event::Stop { p, call, fill } => write!(f, "stop {p} {call} {}", Fill(fill.as_slice())),
+            Event::Fail { p, call } => write!(f, "fail {p} {call}"),
+            Event::Join { p, joiner, weight } => {
+                let (id, weight) = (*joiner, *weight);
+                write!(f, "join {p} {}", Weighted { id, weight })
+            }
+            Event::Leave { p, server } => write!(f, "leave {p} {server}"),
+            Event::Transfer { p, joiner, pieces } => write!(f, "transfer {p} {joiner} {pieces}"),
+        }
+    }
+}
 
 /// Puts the line of the event at the end, without the line's end. Where memory is refused nothing is put.
 pub fn print_line(e: &Event, out: &mut Vec<u8>) -> Result<(), NoMemory>
     ensures ok { OnOk result (out.new.items ≡ out.old.items ++ line_of e.now) }
     ensures err { OnErr result (out.new.items ≡ out.old.items) }
 {
-    let before = out.len();
-    let shown = show_event(out, e);
-    if shown.is_err() {
-        out.truncate(before);
-    }
-    shown
+    put_shown(out, e)
 }
 
-// Each of these leaves what was there in front of what it put before memory was refused.
-
-fn show_event(out: &mut Vec<u8>, event: &Event) -> Result<(), NoMemory>
-    ensures ok { OnOk result (out.new.items ≡ out.old.items ++ line_of event.now) }
-    ensures err { OnErr result (KeepsFront out.old.items out.new.items) }
+// the servers of a start
+fn write_members<W: Write>(f: &mut Formatter<W>, set: &WeightSet) -> fmt::Result
+    ensures { WritesOnOk W.write_str_gives f.old result (codes "start" ++ flat_map member_behind set.now) f.new }
 {
-    match event {
-        Event::Start(set) => show_members(out, set),
-        Event::Split(set) => show_ids(out, b"split", set),
-        Event::Merge(set) => show_ids(out, b"merge", set),
-        Event::Request { p, cmds, query } => {
-            show_id(out, b"request ", *p)?;
-            print_update(cmds.as_slice(), query, out)
-        }
-        Event::Weak { p, query } => {
-            show_id(out, b"weak ", *p)?;
-            print_query(query, out)
-        }
-        Event::Dirty { p, query } => {
-            show_id(out, b"dirty ", *p)?;
-            print_query(query, out)
-        }
-        Event::Order(p) => show_last_id(out, b"order ", *p),
-        Event::Recover(p) => show_last_id(out, b"recover ", *p),
-        Event::Show(p) => show_last_id(out, b"show ", *p),
-        Event::ShowOrder => put(out, b"show order"),
-        Event::Gather => put(out, b"gather"),
-        Event::End => put(out, b"end"),
-        Event::Receive { p, place } => show_numbered(out, b"receive ", *p, *place),
-        Event::Deliver { p, count } => show_numbered(out, b"deliver ", *p, *count),
-        Event::Rounds(count) => {
-            put(out, b"rounds ")?;
-            put_number(out, *count)
-        }
-        Event::Stop { p, call, fill } => {
-            show_call(out, *p, *call)?;
-            show_fill(out, fill.as_slice())
-        }
-        Event::Fail { p, call } => show_numbered(out, b"fail ", *p, *call),
-        Event::Join { p, joiner, weight } => {
-            show_id(out, b"join ", *p)?;
-            put_weighted(out, *joiner, *weight)
-        }
-        Event::Leave { p, server } => show_numbered(out, b"leave ", *p, u64::from(server.get())),
-        Event::Transfer { p, joiner, pieces } => {
-            show_numbered(out, b"transfer ", *p, u64::from(joiner.get()))?;
-            put(out, b" ")?;
-            put_number(out, *pieces)
-        }
-    }
-}
-
-// a word and an identifier
-fn show_last_id(out: &mut Vec<u8>, word: &[u8], p: ReplicaId) -> Result<(), NoMemory>
-    ensures ok { OnOk result (out.new.items ≡ out.old.items ++ word.now ++ decimal p) }
-    ensures err { OnErr result (KeepsFront out.old.items out.new.items) }
-{
-    put(out, word)?;
-    put_number(out, u64::from(p.get()))
-}
-
-// a word and an identifier, with a blank behind it
-fn show_id(out: &mut Vec<u8>, word: &[u8], p: ReplicaId) -> Result<(), NoMemory>
-    ensures ok { OnOk result (out.new.items ≡ out.old.items ++ word.now ++ decimal p ++ codes " ") }
-    ensures err { OnErr result (KeepsFront out.old.items out.new.items) }
-{
-    put(out, word)?;
-    put_number(out, u64::from(p.get()))?;
-    put(out, b" ")
-}
-
-// a word, an identifier and a number
-fn show_numbered(out: &mut Vec<u8>, word: &[u8], p: ReplicaId, n: u64) -> Result<(), NoMemory>
-    ensures ok { OnOk result (out.new.items ≡ out.old.items ++ word.now ++ decimal p ++ codes " " ++ decimal n) }
-    ensures err { OnErr result (KeepsFront out.old.items out.new.items) }
-{
-    show_id(out, word, p)?;
-    put_number(out, n)
-}
-
-// a stop up to its bytes
-fn show_call(out: &mut Vec<u8>, p: ReplicaId, call: u64) -> Result<(), NoMemory>
-    ensures ok { OnOk result (out.new.items ≡ out.old.items ++ codes "stop " ++ decimal p ++ codes " " ++ decimal call ++ codes " ") }
-    ensures err { OnErr result (KeepsFront out.old.items out.new.items) }
-{
-    show_numbered(out, b"stop ", p, call)?;
-    put(out, b" ")
-}
-
-fn show_ids(out: &mut Vec<u8>, word: &[u8], set: &IdSet) -> Result<(), NoMemory>
-    ensures ok { OnOk result (out.new.items ≡ out.old.items ++ word.now ++ flat_map id_behind set.now) }
-    ensures err { OnErr result (KeepsFront out.old.items out.new.items) }
-{
-    put(out, word)?;
-    for p in set.iter() {
-        show_next_id(out, p)?;
-    }
-    Ok(())
-}
-
-fn show_next_id(out: &mut Vec<u8>, p: ReplicaId) -> Result<(), NoMemory>
-    ensures ok { OnOk result (out.new.items ≡ out.old.items ++ id_behind p) }
-    ensures err { OnErr result (KeepsFront out.old.items out.new.items) }
-{
-    put(out, b" ")?;
-    put_number(out, u64::from(p.get()))
-}
-
-fn show_members(out: &mut Vec<u8>, set: &WeightSet) -> Result<(), NoMemory>
-    ensures ok { OnOk result (out.new.items ≡ out.old.items ++ codes "start" ++ flat_map member_behind set.now) }
-    ensures err { OnErr result (KeepsFront out.old.items out.new.items) }
-{
-    put(out, b"start")?;
+    f.write_str("start")?;
     for m in set.iter() {
-        show_next_member(out, m)?;
+        write!(f, " {m}")?;
     }
     Ok(())
 }
 
-fn show_next_member(out: &mut Vec<u8>, m: Weighted) -> Result<(), NoMemory>
-    ensures ok { OnOk result (out.new.items ≡ out.old.items ++ member_behind m) }
-    ensures err { OnErr result (KeepsFront out.old.items out.new.items) }
-{
-    put(out, b" ")?;
-    put_weighted(out, m.id, m.weight)
+// identifiers, each behind a blank
+#[derive(Clone, Copy)]
+struct Behind<'a>(&'a IdSet);
+
+impl Display for Behind<'_> {
+    ghost output = { λ set. Some (flat_map id_behind set.0.now) };
+
+    fn fmt<W: Write>(&self, f: &mut Formatter<W>) -> fmt::Result {
+        for p in self.0.iter() {
+            write!(f, " {p}")?;
+        }
+        Ok(())
+    }
 }
 
-fn show_fill(out: &mut Vec<u8>, bytes: &[u8]) -> Result<(), NoMemory>
-    ensures ok { OnOk result (out.new.items ≡ out.old.items ++ fill_text bytes.now) }
-    ensures err { OnErr result (KeepsFront out.old.items out.new.items) }
-{
-    if bytes.is_empty() {
-        return put(out, b"-");
+// bytes in hexadecimal digits, a hyphen for none
+#[derive(Clone, Copy)]
+struct Fill<'a>(&'a [u8]);
+
+impl Display for Fill<'_> {
+    ghost output = { λ fill. Some (fill_text fill.0.now) };
+
+    fn fmt<W: Write>(&self, f: &mut Formatter<W>) -> fmt::Result {
+        if self.0.is_empty() {
+            return f.write_str("-");
+        }
+        write_digits(f, self.0)
     }
+}
+
+fn write_digits<W: Write>(f: &mut Formatter<W>, bytes: &[u8]) -> fmt::Result
+    ensures { WritesOnOk W.write_str_gives f.old result (flat_map hex_text bytes.now) f.new }
+{
     for byte in bytes {
-        put(out, &[hex_glyph(*byte / 16), hex_glyph(*byte % 16)])?;
+        write_byte(f, *byte)?;
     }
     Ok(())
 }
 
-fn hex_glyph(n: u8) -> u8
-    requires { n < 16 }
-    ensures { result ≡ hex_glyph n }
+#[tactic(auto, using(std::proofs::lemmas::Fmt::hex_byte))]
+fn write_byte<W: Write>(f: &mut Formatter<W>, byte: u8) -> fmt::Result
+    ensures { WritesOnOk W.write_str_gives f.old result (hex_text byte) f.new }
 {
-    if n < 10 { b'0' + n } else { b'a' + (n - 10) }
+    write!(f, "{byte:02x}")
 }
