@@ -1,14 +1,10 @@
 -- The text of a step.
 use Rattle.std.specs.Prelude.{ℕ, ◌==◌, Bool, ◌&&◌, List, [], ◌++◌, Option, Some, None, decimal, codes, length, if◌then◌else◌}
 use Rattle.std.specs.List.{flat_map}
-use Rattle.std.specs.Fmt.{signed_decimal}
 use Rattle.cg_base.specs.Text.{id_text, id_list_text}
 use Rattle.cg_text.specs.Quoted.{quoted}
 use Rattle.cg_action.specs.Print.{value_text, kind_text}
 use Rattle.cg_db.specs.declared.answer.Answer.{Answer}
-use Rattle.cg_db.specs.declared.answer.Answer.TheVariants.{Absent, Text, Int, Keys, Count}
-use Rattle.cg_db.specs.declared.effect.Effect.{Effect}
-use Rattle.cg_db.specs.declared.effect.Effect.TheVariants.{Done, Aborted, Range}
 use Rattle.cg_db.specs.declared.entry.DbEntry.{DbEntry}
 use Rattle.cg_report.specs.declared.line.Line.{Line}
 use Rattle.cg_report.specs.declared.entry.Made.{Made}
@@ -18,6 +14,7 @@ use Rattle.cg_report.specs.declared.entry.Shown.{Shown}
 use Rattle.cg_report.specs.declared.entry.Shown.TheVariants.{Weak, Dirty, Pieces, Greens, Database, All}
 use Rattle.cg_report.specs.declared.entry.Entry.{Entry}
 use Rattle.cg_report.specs.LineText.{line_text}
+pub use Rattle.cg_db.specs.Print.{effect_text, next_key_text, answer_text}
 
 -- an action that is shown as made, with what it does
 abbrev pub made_text : Made → List ℕ
@@ -26,24 +23,6 @@ made_text m = codes "made " ++ id_text m.id ++ codes " " ++ kind_text m.kind
 -- a place of the order
 abbrev pub order_text : Placed → List ℕ
 order_text o = codes "order " ++ decimal o.place ++ codes " " ++ id_text o.id
-
--- what an action did
-abbrev pub effect_text : Effect → List ℕ
-effect_text Done = codes "done"
-effect_text (Aborted place) = codes "aborted " ++ decimal place
-effect_text (Range place) = codes "range " ++ decimal place
-
--- a key behind others
-abbrev pub next_key_text : List ℕ → List ℕ
-next_key_text key = codes " " ++ quoted key
-
--- what a query found
-abbrev pub answer_text : Answer → List ℕ
-answer_text Absent = codes "absent"
-answer_text (Text t) = quoted t
-answer_text (Int n) = signed_decimal n
-answer_text (Keys keys) = codes "keys" ++ flat_map next_key_text keys
-answer_text (Count n) = codes "count " ++ decimal n
 
 -- the answer behind an effect, where there is one
 abbrev pub answered_text : Option Answer → List ℕ

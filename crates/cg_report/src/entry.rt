@@ -7,21 +7,21 @@ use cg_db::{Answer, Effect, EntryList};
 use std::alloc::Global;
 
 /// An action that is shown as made: its name, and what it does.
-#[derive(Drop)]
+#[derive(Drop, PartialEq, Eq)]
 pub struct Made {
     pub id: ActionId,
     pub kind: Kind,
 }
 
 /// A place of the global order, counted from 1, and the name of its action.
-#[derive(Clone, Copy, Debug)]
+#[derive(Clone, Copy, Debug, PartialEq, Eq)]
 pub struct Placed {
     pub place: u64,
     pub id: ActionId,
 }
 
 /// What a client is told of its request: what the action did, and what its query finds behind it.
-#[derive(Drop)]
+#[derive(Drop, PartialEq, Eq)]
 pub struct Reply {
     pub id: ActionId,
     pub effect: Effect,
@@ -29,7 +29,7 @@ pub struct Reply {
 }
 
 /// What an event asks to be shown.
-#[derive(Drop)]
+#[derive(Drop, PartialEq, Eq)]
 pub enum Shown {
     /// What the replica's green actions answer.
     Weak {
@@ -64,7 +64,7 @@ pub enum Shown {
 /// All that a step shows, part by part: the actions made in it; the places of the global order that a replica was the
 /// first to reach; the lines of the replicas that differ from their last ones, ascending; the replies given; and what
 /// its event asked for.
-#[derive(Drop)]
+#[derive(Drop, PartialEq, Eq)]
 pub struct Entry {
     pub made: Row<Made>,
     pub orders: Row<Placed>,

@@ -1,13 +1,72 @@
-ghost use Rattle.std.specs.Prelude.{◌≡◌, ◌++◌, OnOk};
-ghost use Rattle.std.specs.List.{flat_map};
-ghost use Rattle.cg_report.specs.EntryText.{made_line, order_line, ended_line, body_text, entry_text};
+//! All that a step shows.
 
-use crate::line_text::put_line;
-use crate::reply_text::put_replies;
-use crate::shown_text::put_all_shown;
-use crate::{Entry, Line, Made, Placed};
-use cg_action::print_kind;
-use cg_base::{NoMemory, put, put_id, put_number};
+ghost use Rattle.std.specs.Prelude.{◌≡◌, ◌++◌, Some, OnOk};
+ghost use Rattle.std.specs.List.{flat_map};
+ghost use Rattle.std.specs.Fmt.{WritesOnOk};
+ghost use Rattle.cg_report.specs.EntryText.{made_line, order_line, ended_line, reply_line, shown_line, body_text, entry_text};
+
+use crate::{Entry, Line, Made, Placed, Reply, Shown};
+use cg_base::{NoMemory, put, put_number, put_shown};
+use std::fmt;
+use std::fmt::{Display, Formatter, Write};
+
+/// All of it, each part with its line's end.
+impl Display for Entry {
+    ghost output = { λ entry. Some (body_text entry) };
+
+    fn fmt<W: Write>(&self, f: &mut Formatter<W>) -> fmt::Result {
+        write_made(f, self.made.as_slice())?;
+        write_orders(f, self.orders.as_slice())?;
+        write_lines(f, self.lines.as_slice())?;
+        write_replies(f, self.replies.as_slice())?;
+        write_shown(f, self.shown.as_slice())
+    }
+}
+
+fn write_made<W: Write>(f: &mut Formatter<W>, made: &[Made]) -> fmt::Result
+    ensures { WritesOnOk W.write_str_gives f.old result (flat_map made_line made.now) f.new }
+{
+    for one in made {
+        writeln!(f, "{one}")?;
+    }
+    Ok(())
+}
+
+fn write_orders<W: Write>(f: &mut Formatter<W>, orders: &[Placed]) -> fmt::Result
+    ensures { WritesOnOk W.write_str_gives f.old result (flat_map order_line orders.now) f.new }
+{
+    for one in orders {
+        writeln!(f, "{one}")?;
+    }
+    Ok(())
+}
+
+fn write_lines<W: Write>(f: &mut Formatter<W>, lines: &[Line]) -> fmt::Result
+    ensures { WritesOnOk W.write_str_gives f.old result (flat_map ended_line lines.now) f.new }
+{
+    for one in lines {
+        writeln!(f, "{one}")?;
+    }
+    Ok(())
+}
+
+fn write_replies<W: Write>(f: &mut Formatter<W>, replies: &[Reply]) -> fmt::Result
+    ensures { WritesOnOk W.write_str_gives f.old result (flat_map reply_line replies.now) f.new }
+{
+    for one in replies {
+        writeln!(f, "{one}")?;
+    }
+    Ok(())
+}
+
+fn write_shown<W: Write>(f: &mut Formatter<W>, shown: &[Shown]) -> fmt::Result
+    ensures { WritesOnOk W.write_str_gives f.old result (flat_map shown_line shown.now) f.new }
+{
+    for one in shown {
+        writeln!(f, "{one}")?;
+    }
+    Ok(())
+}
 
 /// What a step puts: nothing where it shows nothing, and else its number and what it shows.
 pub fn put_entry(out: &mut Vec<u8>, step: u64, entry: &Entry) -> Result<(), NoMemory>
@@ -19,71 +78,5 @@ pub fn put_entry(out: &mut Vec<u8>, step: u64, entry: &Entry) -> Result<(), NoMe
     put(out, b"= ")?;
     put_number(out, step)?;
     put(out, b"\n")?;
-    put_body(out, entry)
-}
-
-fn put_body(out: &mut Vec<u8>, entry: &Entry) -> Result<(), NoMemory>
-    ensures { OnOk result (out.new.items ≡ out.old.items ++ body_text entry.now) }
-{
-    put_all_made(out, entry.made.as_slice())?;
-    put_orders(out, entry.orders.as_slice())?;
-    put_lines(out, entry.lines.as_slice())?;
-    put_replies(out, entry.replies.as_slice())?;
-    put_all_shown(out, entry.shown.as_slice())
-}
-
-fn put_all_made(out: &mut Vec<u8>, made: &[Made]) -> Result<(), NoMemory>
-    ensures { OnOk result (out.new.items ≡ out.old.items ++ flat_map made_line made.now) }
-{
-    for one in made {
-        put_made(out, one)?;
-    }
-    Ok(())
-}
-
-// an action that is shown as made, with its end
-fn put_made(out: &mut Vec<u8>, made: &Made) -> Result<(), NoMemory>
-    ensures { OnOk result (out.new.items ≡ out.old.items ++ made_line made.now) }
-{
-    put(out, b"made ")?;
-    put_id(out, made.id)?;
-    put(out, b" ")?;
-    print_kind(&made.kind, out)?;
-    put(out, b"\n")
-}
-
-fn put_orders(out: &mut Vec<u8>, orders: &[Placed]) -> Result<(), NoMemory>
-    ensures { OnOk result (out.new.items ≡ out.old.items ++ flat_map order_line orders.now) }
-{
-    for one in orders {
-        put_order(out, one)?;
-    }
-    Ok(())
-}
-
-// a place of the order, with its end
-fn put_order(out: &mut Vec<u8>, placed: &Placed) -> Result<(), NoMemory>
-    ensures { OnOk result (out.new.items ≡ out.old.items ++ order_line placed.now) }
-{
-    put(out, b"order ")?;
-    put_number(out, placed.place)?;
-    put(out, b" ")?;
-    put_id(out, placed.id)?;
-    put(out, b"\n")
-}
-
-fn put_lines(out: &mut Vec<u8>, lines: &[Line]) -> Result<(), NoMemory>
-    ensures { OnOk result (out.new.items ≡ out.old.items ++ flat_map ended_line lines.now) }
-{
-    for line in lines {
-        put_ended_line(out, line)?;
-    }
-    Ok(())
-}
-
-fn put_ended_line(out: &mut Vec<u8>, line: &Line) -> Result<(), NoMemory>
-    ensures { OnOk result (out.new.items ≡ out.old.items ++ ended_line line.now) }
-{
-    put_line(out, line)?;
-    put(out, b"\n")
+    put_shown(out, entry)
 }

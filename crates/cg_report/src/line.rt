@@ -24,7 +24,7 @@ pub enum ShownPhase {
 }
 
 /// What a replica's line shows of what it holds.
-#[derive(Drop)]
+#[derive(Drop, PartialEq, Eq)]
 pub struct View {
     pub green_count: u64,
     pub white_count: u64,
@@ -39,7 +39,7 @@ pub struct View {
 }
 
 /// The line of a replica that is up, but for its identifier.
-#[derive(Drop)]
+#[derive(Drop, PartialEq, Eq)]
 pub struct UpLine {
     pub state: StateName,
     pub phase: ShownPhase,
@@ -47,7 +47,7 @@ pub struct UpLine {
 }
 
 /// The line of a replica; None says that it is down.
-#[derive(Drop)]
+#[derive(Drop, PartialEq, Eq)]
 pub struct Line {
     pub id: ReplicaId,
     pub up: Option<UpLine>,

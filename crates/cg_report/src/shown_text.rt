@@ -1,94 +1,38 @@
-ghost use Rattle.std.specs.Prelude.{◌≡◌, ◌++◌, OnOk, codes, decimal};
+//! What was asked to be shown.
+
+ghost use Rattle.std.specs.Prelude.{Some};
 ghost use Rattle.std.specs.List.{flat_map};
-ghost use Rattle.cg_report.specs.EntryText.{next_entry_text, answer_text, asked_text, pieces_text, shown_text, shown_line};
+ghost use Rattle.std.specs.Fmt.{WritesOnOk};
+ghost use Rattle.cg_report.specs.EntryText.{next_entry_text, shown_text};
 
 use crate::Shown;
-use crate::reply_text::put_answer;
-use cg_action::print_value;
-use cg_base::{NoMemory, put, put_id_list, put_number};
-use cg_db::{Answer, DbEntry};
-use cg_text::put_quoted;
+use cg_db::DbEntry;
+use std::fmt;
+use std::fmt::{Display, Formatter, Write};
 
-pub(crate) fn put_all_shown(out: &mut Vec<u8>, shown: &[Shown]) -> Result<(), NoMemory>
-    ensures { OnOk result (out.new.items ≡ out.old.items ++ flat_map shown_line shown.now) }
-{
-    for one in shown {
-        put_ended(out, one)?;
-    }
-    Ok(())
-}
+impl Display for Shown {
+    ghost output = { λ shown. Some (shown_text shown) };
 
-// what was asked to be shown, with its end
-fn put_ended(out: &mut Vec<u8>, shown: &Shown) -> Result<(), NoMemory>
-    ensures { OnOk result (out.new.items ≡ out.old.items ++ shown_line shown.now) }
-{
-    put_shown(out, shown)?;
-    put(out, b"\n")
-}
-
-// the answer to a query that wasn't ordered
-fn put_asked(out: &mut Vec<u8>, word: &[u8], p: u64, answer: &Answer) -> Result<(), NoMemory>
-    ensures { OnOk result (out.new.items ≡ out.old.items ++ asked_text word.now p answer.now) }
-{
-    put(out, word)?;
-    put_number(out, p)?;
-    put(out, b" ")?;
-    put_answer(out, answer)
-}
-
-fn put_pieces(out: &mut Vec<u8>, joiner: u64, taken: u64, all: u64) -> Result<(), NoMemory>
-    ensures { OnOk result (out.new.items ≡ out.old.items ++ pieces_text joiner taken all) }
-{
-    put(out, b"pieces ")?;
-    put_number(out, joiner)?;
-    put(out, b" ")?;
-    put_number(out, taken)?;
-    put(out, b"/")?;
-    put_number(out, all)
-}
-
-fn put_shown(out: &mut Vec<u8>, shown: &Shown) -> Result<(), NoMemory>
-    ensures { OnOk result (out.new.items ≡ out.old.items ++ shown_text shown.now) }
-{
-    match shown {
-        Shown::Weak { p, answer } => put_asked(out, b"weak ", u64::from(p.get()), answer),
-        Shown::Dirty { p, answer } => put_asked(out, b"dirty ", u64::from(p.get()), answer),
-        Shown::Pieces { joiner, taken, all } => {
-            put_pieces(out, u64::from(joiner.get()), *taken, *all)
-        }
-        Shown::Greens { p, list } => {
-            put(out, b"greens ")?;
-            put_number(out, u64::from(p.get()))?;
-            put(out, b" ")?;
-            put_id_list(out, list.as_slice())
-        }
-        Shown::Database { p, entries } => {
-            put(out, b"db ")?;
-            put_number(out, u64::from(p.get()))?;
-            put_entries(out, entries.as_slice())
-        }
-        Shown::All(list) => {
-            put(out, b"all ")?;
-            put_id_list(out, list.as_slice())
+    fn fmt<W: Write>(&self, f: &mut Formatter<W>) -> fmt::Result {
+        match self {
+            Shown::Weak { p, answer } => write!(f, "weak {p} {answer}"),
+            Shown::Dirty { p, answer } => write!(f, "dirty {p} {answer}"),
+            Shown::Pieces { joiner, taken, all } => write!(f, "pieces {joiner} {taken}/{all}"),
+            Shown::Greens { p, list } => write!(f, "greens {p} {list}"),
+            Shown::Database { p, entries } => {
+                write!(f, "db {p}")?;
+                write_entries(f, entries.as_slice())
+            }
+            Shown::All(list) => write!(f, "all {list}"),
         }
     }
 }
 
-fn put_entries(out: &mut Vec<u8>, entries: &[DbEntry]) -> Result<(), NoMemory>
-    ensures { OnOk result (out.new.items ≡ out.old.items ++ flat_map next_entry_text entries.now) }
+fn write_entries<W: Write>(f: &mut Formatter<W>, entries: &[DbEntry]) -> fmt::Result
+    ensures { WritesOnOk W.write_str_gives f.old result (flat_map next_entry_text entries.now) f.new }
 {
     for entry in entries {
-        put_next_entry(out, entry)?;
+        write!(f, " {entry}")?;
     }
     Ok(())
-}
-
-// an entry of a database, behind others
-fn put_next_entry(out: &mut Vec<u8>, entry: &DbEntry) -> Result<(), NoMemory>
-    ensures { OnOk result (out.new.items ≡ out.old.items ++ next_entry_text entry.now) }
-{
-    put(out, b" ")?;
-    put_quoted(out, &entry.key)?;
-    put(out, b"=")?;
-    print_value(&entry.value, out)
 }
