@@ -2,12 +2,12 @@
 //!
 //! Keys stand bare and texts between quotes; `by` stands in front of what is added or moved.
 
-use crate::table::{follows, parts, say, say_number, say_with};
+use crate::table::{follows, parts, say, say_shown};
 use cg_action::{Query, decode, print_value};
 use cg_base::{NoMemory, put};
 use cg_codec::{put_i64, put_u32};
-use cg_db::{Answer, Db, Effect, EntryList, TxtList};
-use cg_text::{Txt, put_i64 as print_number, put_quoted, read_i64};
+use cg_db::{Db, EntryList};
+use cg_text::{Txt, read_i64};
 use std::alloc::Global;
 
 // 1:1 with green line 0, up to the tag of what it does
@@ -59,11 +59,11 @@ see: join 5 -> done n=5
 see: leave 5 -> done n=5";
 
 const FOUND: &str = "run: put b 1 ; put ab 2 ; put a 3 ; put \u{e9} 4 ; put aba 5 ; del b -> done
-find: count -> 4
+find: count -> count 4
 find: get ab -> 2
 find: get b -> absent
-find: keys  -> keys a ab aba \u{e9}
-find: keys ab -> keys ab aba
+find: keys  -> keys \"a\" \"ab\" \"aba\" \"\u{e9}\"
+find: keys ab -> keys \"ab\" \"aba\"
 find: keys abc -> keys";
 
 // the tag of a command, and of no value
@@ -159,19 +159,11 @@ fn bytes_of(alloc: Global, text: &str) -> Vec<u8> {
     bytes
 }
 
-fn say_effect(out: &mut Vec<u8>, effect: Effect) {
-    match effect {
-        Effect::Done => say(out, "done"),
-        Effect::Aborted(place) => say_with(out, "aborted ", u64::from(place)),
-        Effect::Range(place) => say_with(out, "range ", u64::from(place)),
-    }
-}
-
 fn run(alloc: Global, db: &mut Db, text: &str, out: &mut Vec<u8>) {
     let bytes = bytes_of(alloc, text);
     if let Ok(action) = decode(alloc, bytes.as_slice()) {
         if let Ok(effect) = db.apply(&action) {
-            say_effect(out, effect);
+            say_shown(out, &effect);
         }
         drop(action);
     }
@@ -213,32 +205,10 @@ fn query_of(alloc: Global, text: &str) -> Result<Query, NoMemory> {
     }
 }
 
-fn say_keys(out: &mut Vec<u8>, keys: &TxtList) {
-    say(out, "keys");
-    for key in keys.as_slice() {
-        say(out, " ");
-        say(out, key.as_str());
-    }
-}
-
-fn say_answer(out: &mut Vec<u8>, answer: &Answer) {
-    match answer {
-        Answer::Absent => say(out, "absent"),
-        Answer::Int(number) => {
-            let _done = print_number(out, *number);
-        }
-        Answer::Text(text) => {
-            let _done = put_quoted(out, text);
-        }
-        Answer::Count(count) => say_number(out, *count),
-        Answer::Keys(keys) => say_keys(out, keys),
-    }
-}
-
 fn find(alloc: Global, db: &Db, text: &str, out: &mut Vec<u8>) {
     if let Ok(query) = query_of(alloc, text) {
         if let Ok(answer) = db.answer(&query) {
-            say_answer(out, &answer);
+            say_shown(out, &answer);
             drop(answer);
         }
         drop(query);

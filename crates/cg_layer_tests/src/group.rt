@@ -4,10 +4,10 @@
 //! its value.
 
 use crate::table::{
-    follows, id, number, parts, say, say_number, say_set, say_truth, say_with, set,
+    follows, id, number, parts, say, say_number, say_set, say_shown, say_truth, say_with, set,
 };
 use cg_base::{Bytes, IdSet, NoMemory, ReplicaId, put};
-use cg_group::{Delivery, DeliveryList, Group, GroupErr, HandedList, Phase};
+use cg_group::{Delivery, DeliveryList, Group, GroupErr, HandedList, Phase, Reason};
 use std::alloc::Global;
 
 // places 7 and 9 come without 8, behind places that one of the two lacked; the one left behind goes on, and parts alone
@@ -343,4 +343,17 @@ fn thirty_two_members_receive_and_deliver(rt: HostRuntime) {
     let mut group = Group::new(rt.alloc());
     follows(&rt, &mut group, EVERYONE, perform);
     drop(group);
+}
+
+#[test]
+fn refusals_have_words(rt: HostRuntime) {
+    let mut out = Vec::new(rt.alloc());
+    say_shown(
+        &mut out,
+        &GroupErr::Refused(Reason::NotUp(ReplicaId::known(7))),
+    );
+    assert_eq!(rt;
+        out.as_slice(),
+        b"the call isn't admitted: replica 7 isn't up".as_slice()
+    );
 }

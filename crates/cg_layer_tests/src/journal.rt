@@ -1,6 +1,6 @@
 //! The journal, struck in each of its device calls: what stands on side A behind the crash, worked by hand.
 
-use crate::table::{follows, number, parts, say, say_with};
+use crate::table::{follows, number, parts, say, say_shown, say_with};
 use cg_base::BytesList;
 use cg_disk::{Disk, DiskFault, ModelDisk, Side};
 use cg_journal::{AppendErr, Journal, JournalOpen};
@@ -46,7 +46,8 @@ others -> no;no;no;no;no;no;no;no;no;yes;no;no;";
 
 // the lengths of the sides with one record; behind a restart, how many calls were made, the length, and how many records
 // are found
-const LENGTHS: &str = "lengths -> 19 and 9; 13 calls, 17, 1";
+const LENGTHS: &str = "lengths -> 19 and 9; 13 calls, 17, 1
+words -> the disk is no journal, a device call failed";
 
 fn fresh(alloc: Global) -> Answer<Journal<ModelDisk>> {
     match Journal::format(ModelDisk::new(alloc)) {
@@ -205,6 +206,20 @@ fn say_lengths(alloc: Global, out: &mut Vec<u8>) -> Answer<()> {
     Ok(())
 }
 
+// why a new disk is no journal, and a fault of a disk
+fn say_faults(alloc: Global, out: &mut Vec<u8>) {
+    let disk = ModelDisk::new(alloc);
+    if disk.calls() > 1000 {
+        return;
+    }
+    if let Err(why) = Journal::open(alloc, disk) {
+        say_shown(out, &why);
+        drop(why);
+    }
+    say(out, ", ");
+    say_shown(out, &DiskFault::Failed);
+}
+
 fn perform(alloc: Global, body: &mut &[u8], call: &str, out: &mut Vec<u8>) {
     match call {
         "sides" => {
@@ -219,6 +234,7 @@ fn perform(alloc: Global, body: &mut &[u8], call: &str, out: &mut Vec<u8>) {
             say_found(out, open(alloc, ModelDisk::new(alloc)));
             say_sides(alloc, b"CGRUITY1\0", EMPTY, out);
         }
+        "words" => say_faults(alloc, out),
         "lengths" => {
             if let Err(why) = say_lengths(alloc, out) {
                 say(out, why);

@@ -20,6 +20,8 @@ mod plan;
 #[cfg(test)]
 mod queue;
 #[cfg(test)]
+mod report;
+#[cfg(test)]
 mod summaries;
 #[cfg(test)]
 mod table;

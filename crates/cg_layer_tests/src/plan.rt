@@ -2,10 +2,10 @@
 //! item of a part is accepted in its turn.
 
 use crate::summaries::take;
-use crate::table::{follows, say, say_name, say_truth, say_with};
+use crate::table::{follows, say, say_name, say_shown, say_truth, say_with};
 use cg_base::{ActionId, ReplicaId};
 use cg_knowledge::Summary;
-use cg_plan::{Item, Part, Plan};
+use cg_plan::{Item, Other, Part, Plan};
 use std::alloc::Global;
 
 const CASES: &str = "# two reds that others lack
@@ -66,7 +66,7 @@ plan -> 2 greens 2 to 2;2 reds of 1 from 1 to 1;1 reds of 2 from 1 to 1;1 reds o
 1 red=1:1,3:1
 2 red=1:1,2:1
 3 red=1:1,3:1
-other -> wants 2:1, 1 has a part: no";
+other -> another item was wanted, or from another sender: 2:1, 1 has a part: no";
 
 fn send_greens(plan: &mut Plan, sender: ReplicaId, from: u64, to: u64) -> bool {
     let mut as_wanted = true;
@@ -116,6 +116,15 @@ fn say_plan(out: &mut Vec<u8>, plan: &mut Plan) {
     say(out, if plan.done() { "done" } else { "more" });
 }
 
+// the words of a refusal, and the red that was wanted
+fn say_refused(out: &mut Vec<u8>, other: Other) {
+    say_shown(out, &other);
+    if let Some(Item::Red { id }) = other.want {
+        say(out, ": ");
+        say_name(out, id);
+    }
+}
+
 // where 3 sends its part first
 fn say_other(out: &mut Vec<u8>, plan: &mut Plan) {
     let three = ReplicaId::known(3);
@@ -124,10 +133,7 @@ fn say_other(out: &mut Vec<u8>, plan: &mut Plan) {
         index: 1,
     };
     if let Err(other) = plan.accept(three, &Item::Red { id }) {
-        if let Some(Item::Red { id }) = other.want {
-            say(out, "wants ");
-            say_name(out, id);
-        }
+        say_refused(out, other);
     }
     say(out, ", 1 has a part: ");
     say_truth(out, plan.turn(ReplicaId::known(1)).is_some());

@@ -3,7 +3,7 @@
 ghost use Rattle.std.specs.Prelude.{◌≡◌};
 
 use crate::table::{
-    follows, id, name, number, parts, say, say_name, say_number, say_truth, say_with,
+    follows, id, name, number, parts, say, say_name, say_number, say_shown, say_truth, say_with,
 };
 use cg_action::{Action, ActionList, Kind};
 use cg_base::{ActionId, Cut, IdList, IdRuns, NoMemory, ReplicaId, put_id_list, put_id_runs};
@@ -292,4 +292,14 @@ fn another_yellow_list(rt: HostRuntime) {
     let mut queue = Queue::new(rt.alloc());
     follows(&rt, &mut queue, OTHER_YELLOW, perform);
     drop(queue);
+}
+
+const GAP: &[u8] =
+    b"the creator's action before this one isn't known: its last known one has index 3";
+
+#[test]
+fn a_gap_has_words(rt: HostRuntime) {
+    let mut out = Vec::new(rt.alloc());
+    say_shown(&mut out, &QueueFault::Gap { cut: 3 });
+    assert_eq!(rt; out.as_slice(), GAP);
 }

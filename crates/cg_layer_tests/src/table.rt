@@ -3,8 +3,9 @@
 //! What is seen is put into a text without a word on want of memory: that leaves a gap, which the comparison finds. So no
 //! function has an exit while it holds something, which is what would cost most to prove.
 
-use cg_base::{ActionId, IdSet, ReplicaId, put, put_id, put_number, put_set};
+use cg_base::{ActionId, IdSet, ReplicaId, put, put_id, put_number, put_set, put_shown};
 use std::alloc::Global;
+use std::fmt::Display;
 use std::process::Abort;
 
 /// Makes the call of each line, and compares what it puts with what is expected: nothing where there is no arrow.
@@ -93,4 +94,9 @@ pub(crate) fn say_name(out: &mut Vec<u8>, id: ActionId) {
 
 pub(crate) fn say_set(out: &mut Vec<u8>, set: IdSet) {
     let _done = put_set(out, set);
+}
+
+/// What `{}` shows.
+pub(crate) fn say_shown(out: &mut Vec<u8>, value: &impl Display) {
+    let _done = put_shown(out, value);
 }

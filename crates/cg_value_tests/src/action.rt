@@ -3,7 +3,7 @@
 ghost use Rattle.cg_action.specs.Limits.{IsAction};
 
 use crate::bytes::{bytes_of, changed, say_fault};
-use crate::table::{follows, parts, say, say_number};
+use crate::table::{follows, parts, say, say_shown};
 use cg_action::{
     Action, Value, copy_actions, decode, encode, print_kind, print_value, put_action,
     put_action_id, put_value, take_action, take_action_id, take_value,
@@ -71,7 +71,7 @@ fault 01 00000000 01 02 00000041 -> bad 24";
 // what is read by itself, and a list of one action
 const ALONE: &str = "id 01 0000000000000001 -> 1:1
 value 01 00000002'hi!' -> \"hi\"rest 7
-actions 01 0000000000000001 0000000000000000 01 00000001 01 00000001'x' 02 0000000000000001 00 -> 1";
+actions 01 0000000000000001 0000000000000000 01 00000001 01 00000001'x' 02 0000000000000001 00 -> 1:1 put \"x\" 1";
 
 // the name 32:258, and the number -2
 const WRITTEN: &str = "20 0000000000000102 02 fffffffffffffffe";
@@ -101,22 +101,21 @@ fn is_spelled(alloc: Global, action: &Action, bytes: &[u8]) -> bool
     is_same && out.len() / 2 == bytes.len() && has_names
 }
 
-// whether a copy of it shows the same
-fn is_copied(alloc: Global, action: &Action, shown: &[u8]) -> bool {
+// whether a copy of it is the same
+fn is_copied(alloc: Global, action: &Action) -> bool {
     let Ok(copy) = action.copy(alloc) else {
         return false;
     };
-    let mut out = Vec::new(alloc);
-    let _done = print_kind(&copy.kind, &mut out);
+    let is_same = copy == *action;
     drop(copy);
-    out.as_slice() == shown
+    is_same
 }
 
 fn say_kind(alloc: Global, action: &Action, bytes: &[u8], out: &mut Vec<u8>)
     requires { IsAction action.now }
 {
     let _done = print_kind(&action.kind, out);
-    if !is_copied(alloc, action, out.as_slice()) {
+    if !is_copied(alloc, action) {
         say(out, ", and another copy");
     }
     if !is_spelled(alloc, action, bytes) {
@@ -146,7 +145,9 @@ fn show_value(alloc: Global, fields: &mut Fields, out: &mut Vec<u8>) {
 fn show_list(alloc: Global, fields: &mut Fields, out: &mut Vec<u8>) {
     if let Ok(action) = take_action(alloc, fields) {
         if let Ok(copies) = copy_actions(alloc, &[action]) {
-            say_number(out, copies.len() as u64);
+            for copy in copies.as_slice() {
+                say_shown(out, copy);
+            }
             drop(copies);
         }
     }

@@ -1,6 +1,6 @@
 //! Plain values: what their calls answer, one behind the other.
 
-use crate::table::{is, say, say_name, say_number, say_set, say_truth};
+use crate::table::{is, say, say_name, say_number, say_set, say_shown, say_truth};
 use cg_base::{
     ActionId, Bytes, BytesList, Cut, IdList, IdRuns, IdSet, NoMemory, Pieces, ReplicaId, WeightSet,
     cut_at, put, put_id_list, put_id_runs, put_weight_set, put_weighted,
@@ -51,6 +51,9 @@ const WEIGHT_TEXTS: &str = "{1*3,2,3}{}32*255";
 const RUNS: &str = "yes;no;[1:3,1:4,1:5,1:6,1:8,1:9,2:5][]";
 
 const NAME_TEXTS: &str = "[][1:1,2:10]3:418446744073709551615";
+
+// the names of NAME_TEXTS, an identifier, and a fault
+const SHOWN: &str = "[1:1,2:10]32memory was refused";
 
 fn id(n: u8) -> ReplicaId {
     match ReplicaId::new(n) {
@@ -314,6 +317,17 @@ fn text_of_names(rt: HostRuntime) -> Result<(), NoMemory> {
     say_name(&mut out, name(3, 4));
     say_number(&mut out, u64::MAX);
     is(&rt, out.as_slice(), NAME_TEXTS);
+    Ok(())
+}
+
+#[test]
+fn values_are_shown(rt: HostRuntime) -> Result<(), NoMemory> {
+    let mut out = Vec::new(rt.alloc());
+    let names = two_names(rt.alloc())?;
+    say_shown(&mut out, &names);
+    say_shown(&mut out, &id(32));
+    say_shown(&mut out, &NoMemory);
+    is(&rt, out.as_slice(), SHOWN);
     Ok(())
 }
 

@@ -1,7 +1,7 @@
 //! Fields of bytes. A line has the bytes, the calls in turn, and what each of them answers.
 
 use crate::bytes::{bytes_of, say_fault};
-use crate::table::{follows, parts, say, say_number, say_truth};
+use crate::table::{follows, is, parts, say, say_number, say_shown, say_truth};
 use cg_base::NoMemory;
 use cg_codec::{CodecFault, Fields, put_i64, put_text, put_truth, put_u8, put_u32, put_u64};
 use cg_text::put_i64 as print_number;
@@ -92,4 +92,11 @@ fn fields_are_written(rt: HostRuntime) -> Result<(), Fail> {
 fn faults_have_numbers(rt: HostRuntime) {
     assert_eq!(rt; CodecFault::Rest { at: 9 }.number(), Some(3));
     assert_eq!(rt; CodecFault::NoMemory.number(), None);
+}
+
+#[test]
+fn faults_have_words(rt: HostRuntime) {
+    let mut out = Vec::new(rt.alloc());
+    say_shown(&mut out, &CodecFault::Short { at: 9 });
+    is(&rt, out.as_slice(), "the bytes end in the field at 9");
 }

@@ -1,6 +1,6 @@
 //! Sources and sinks: what each take and each put answers, and what was taken and put.
 
-use crate::table::{is, say, say_number};
+use crate::table::{is, say, say_number, say_shown};
 use cg_base::put;
 use cg_io::{
     CleanSink, CleanSource, Failed, IoFault, MemSink, MemSource, Sink, Source, StdSink, StdSource,
@@ -144,4 +144,19 @@ fn a_put_repeats_writes_and_a_write_of_nothing_is_a_fault(rt: HostRuntime) {
     say_put(&mut out, sink.put(rt.alloc(), b"f"));
     say_bytes(&mut out, sink.into_inner().bytes.as_slice());
     is(&rt, out.as_slice(), "done;done;failed;abcde;");
+}
+
+#[test]
+fn faults_have_words(rt: HostRuntime) {
+    let mut out = Vec::new(rt.alloc());
+    say_shown(&mut out, &Failed);
+    say(&mut out, ", ");
+    say_shown(&mut out, &IoFault::Failed);
+    say(&mut out, ", ");
+    say_shown(&mut out, &IoFault::NoMemory);
+    is(
+        &rt,
+        out.as_slice(),
+        "a take failed, a put failed, memory was refused",
+    );
 }

@@ -4,7 +4,7 @@
 //! calls `begin` and `finish`.
 
 use crate::bytes::bytes_of;
-use crate::table::{follows, number, parts, say};
+use crate::table::{follows, is, number, parts, say, say_shown};
 use cg_base::put;
 use cg_schedule::{Event, LineFault, Reader, print_line};
 use std::alloc::Global;
@@ -454,4 +454,38 @@ fn lines_behind_one_another(rt: HostRuntime) {
     reader = Reader::new();
     follows(&rt, &mut reader, PLACES, perform);
     assert!(rt; reader.place().ended);
+}
+
+// whether the lines are one event
+fn are_one(alloc: Global, a: &[u8], b: &[u8]) -> bool {
+    let mut reader = started(alloc);
+    let mut is_same = false;
+    if let Ok(Some(one)) = reader.read_line(alloc, a) {
+        if let Ok(Some(other)) = reader.read_line(alloc, b) {
+            is_same = one == other;
+            let_go(other);
+        }
+        let_go(one);
+    }
+    is_same
+}
+
+#[test]
+fn events_are_compared(rt: HostRuntime) {
+    assert!(rt;
+        are_one(
+            rt.alloc(),
+            b"request 1 ? get \"x\"",
+            b"request  1  ?get \"x\""
+        )
+    );
+    assert!(rt; !are_one(rt.alloc(), b"weak 1 count", b"dirty 1 count"));
+    assert!(rt; !are_one(rt.alloc(), b"stop 1 0 -", b"stop 1 0 00"));
+}
+
+#[test]
+fn faults_have_words(rt: HostRuntime) {
+    let mut out = Vec::new(rt.alloc());
+    say_shown(&mut out, &LineFault::MISSING_PART);
+    is(&rt, out.as_slice(), "the line ends where a part must stand");
 }

@@ -1,7 +1,7 @@
 //! Numbers, texts between quotes, and tokens of a line. A text that is read, or a token, stands between `<` and `>`.
 
 use crate::bytes::bytes_of;
-use crate::table::{follows, number, parts, say, say_number, say_truth};
+use crate::table::{follows, is, number, parts, say, say_number, say_shown, say_truth};
 use cg_base::put;
 use cg_text::{
     TextFault, Txt, Words, is_passed_over, put_i64, put_quoted, put_u64, read_i64, read_quoted,
@@ -166,4 +166,11 @@ fn two_bytes_that_are_an_escape(rt: HostRuntime) {
 fn faults_have_numbers(rt: HostRuntime) {
     assert_eq!(rt; TextFault::TooLong.number(), Some(4));
     assert_eq!(rt; TextFault::NoMemory.number(), None);
+}
+
+#[test]
+fn faults_have_words(rt: HostRuntime) {
+    let mut out = Vec::new(rt.alloc());
+    say_shown(&mut out, &TextFault::TooLong);
+    is(&rt, out.as_slice(), "the text is too long");
 }
