@@ -1,12 +1,12 @@
 //! All that a step shows.
 
-ghost use Rattle.std.specs.Prelude.{◌≡◌, ◌++◌, Some, OnOk};
+ghost use Rattle.std.specs.Prelude.{◌≡◌, ◌++◌, Some, OnOk, OnErr, codes, decimal};
 ghost use Rattle.std.specs.List.{flat_map};
 ghost use Rattle.std.specs.Fmt.{WritesOnOk};
 ghost use Rattle.cg_report.specs.EntryText.{made_line, order_line, ended_line, reply_line, shown_line, body_text, entry_text};
 
 use crate::{Entry, Line, Made, Placed, Reply, Shown};
-use cg_base::{NoMemory, put, put_number, put_shown};
+use cg_base::{NoMemory, put_shown};
 use std::fmt;
 use std::fmt::{Display, Formatter, Write};
 
@@ -68,15 +68,29 @@ fn write_shown<W: Write>(f: &mut Formatter<W>, shown: &[Shown]) -> fmt::Result
     Ok(())
 }
 
-/// What a step puts: nothing where it shows nothing, and else its number and what it shows.
+// what a step with this number shows, where it shows anything
+#[derive(Clone, Copy)]
+struct Numbered<'a> {
+    step: u64,
+    entry: &'a Entry,
+}
+
+impl Display for Numbered<'_> {
+    ghost output = { λ n. Some (codes "= " ++ decimal n.step ++ codes "\n" ++ body_text n.entry.now) };
+
+    fn fmt<W: Write>(&self, f: &mut Formatter<W>) -> fmt::Result {
+        write!(f, "= {}\n{}", self.step, self.entry)
+    }
+}
+
+/// What a step puts: nothing where it shows nothing, and else its number and what it shows. Where memory is refused nothing is
+/// put.
 pub fn put_entry(out: &mut Vec<u8>, step: u64, entry: &Entry) -> Result<(), NoMemory>
-    ensures { OnOk result (out.new.items ≡ out.old.items ++ entry_text step entry.now) }
+    ensures ok { OnOk result (out.new.items ≡ out.old.items ++ entry_text step entry.now) }
+    ensures err { OnErr result (out.new.items ≡ out.old.items) }
 {
     if entry.is_silent() {
         return Ok(());
     }
-    put(out, b"= ")?;
-    put_number(out, step)?;
-    put(out, b"\n")?;
-    put_shown(out, entry)
+    put_shown(out, &Numbered { step, entry })
 }

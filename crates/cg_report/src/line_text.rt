@@ -1,6 +1,6 @@
 //! The line of a replica.
 
-ghost use Rattle.std.specs.Prelude.{◌≡◌, ◌++◌, Some, OnOk};
+ghost use Rattle.std.specs.Prelude.{◌≡◌, ◌++◌, Some, OnOk, OnErr};
 ghost use Rattle.cg_report.specs.LineText.{state_text, phase_text, prim_text, vulnerable_text, yellow_text, view_text, up_text, line_text};
 
 use crate::{Line, ShownPhase, StateName, UpLine, View};
@@ -122,9 +122,10 @@ impl Display for Line {
     }
 }
 
-/// The line of a replica, without its end.
+/// The line of a replica, without its end. Where memory is refused nothing is put.
 pub fn put_line(out: &mut Vec<u8>, line: &Line) -> Result<(), NoMemory>
-    ensures { OnOk result (out.new.items ≡ out.old.items ++ line_text line.now) }
+    ensures ok { OnOk result (out.new.items ≡ out.old.items ++ line_text line.now) }
+    ensures err { OnErr result (out.new.items ≡ out.old.items) }
 {
     put_shown(out, line)
 }
