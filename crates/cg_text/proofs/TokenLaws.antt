@@ -1,12 +1,11 @@
 -- The tokens of a line that was printed token by token.
 use Rattle.std.proofs.Common.{◌≡◌, ℕ, Bool, true, false, eqb, List, [], ◌∷◌, ◌++◌, refl, sym, ap, ◌∙◌, append_assoc, ◌&&◌, ◌||◌, not}
 use Rattle.std.specs.List.{list_all}
-use Rattle.std.specs.Str.{IsUtf8}
 use Rattle.std.proofs.lemmas.List.{append-nil}
-use Rattle.cg_text.specs.Quoted.{is_special, escaped, quoted, is_printable}
-use Rattle.cg_text.specs.Tokens.{is_blank, is_separator, is_mark, tokens_from, tokens, InWord, InText, is_word, ends_word, token_of, Bare, Quoted}
+use Rattle.cg_text.specs.Quoted.{is_special, escaped, quoted}
+use Rattle.cg_text.specs.Tokens.{is_blank, is_separator, is_mark, tokens_from, tokens, InWord, InText, is_word, ends_word}
 use Rattle.cg_text.proofs.Scanning.{tokens-word, word-goes_on, word-stops, word-ends, text-goes_on, text-stops, tokens-text}
-use Rattle.cg_text.proofs.QuotedLaws.{rest_of, rest_of-cons, quoted_text-again}
+use Rattle.cg_text.proofs.QuotedLaws.{rest_of, rest_of-cons}
 
 -- a first part that holds, and the others
 both : (a b : Bool) → (not a && b) ≡ true → (a ≡ false) × (b ≡ true)
@@ -70,15 +69,3 @@ text_behind front (byte ∷ text) rest =
 
 pub tokens-quoted : (text rest : List ℕ) → tokens (quoted text ++ rest) ≡ quoted text ∷ tokens rest
 tokens-quoted text rest = tokens-text (rest_of text ++ rest) ∙ text_behind (34 ∷ []) text rest
-
--- ---- what a token is
-
-pub token_of-word : (word : List ℕ) → is_word word ≡ true → token_of word ≡ Bare word
-token_of-word [] marks = absurd cc
-token_of-word (byte ∷ word) marks =
-    let first = no_mark byte (both (is_mark byte) (list_all (λ b. not (is_mark b)) word) marks).0 in
-    let parts = neither (eqb byte 59) (eqb byte 63) first.no_separator in
-    rw (first.no_quote, parts.0, parts.1) refl
-
-pub token_of-quoted : (text : List ℕ) → IsUtf8 text → is_printable text ≡ true → token_of (quoted text) ≡ Quoted text
-token_of-quoted text utf8 printable = rw (quoted_text-again text utf8 printable) refl

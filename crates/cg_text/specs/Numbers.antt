@@ -26,14 +26,6 @@ is_plain (digit ∷ digits) = if digit == 48 then length digits == 0 else list_a
 abbrev pub plain_number : List ℕ → Option ℕ
 plain_number bytes = if is_plain bytes then Some (value_of_digits bytes) else None
 
--- a number in a range
-abbrev pub within : ℕ → ℕ → ℕ → Option ℕ
-within low high n = if nat_le low n && nat_le n high then Some n else None
-
--- the number in a range that bytes spell
-abbrev pub number_within : ℕ → ℕ → List ℕ → Option ℕ
-number_within low high bytes = option_and_then (within low high) (plain_number bytes)
-
 -- a number below 0 by what stands behind its sign; there is no -0
 abbrev pub negative : ℕ → Option ℤ
 negative zero = None

@@ -5,7 +5,7 @@ ghost use Rattle.std.specs.Int.RustNames.{FitsSigned};
 ghost use Rattle.std.specs.Str.{IsUtf8};
 ghost use Rattle.cg_text.specs.Quoted.{is_printable, quoted, read_quoted};
 ghost use Rattle.cg_text.specs.Fault.{IsSpelling};
-ghost use Rattle.cg_text.specs.Tokens.{Bare, Quoted, ends_word, is_blank, is_separator, is_word, token_of, tokens};
+ghost use Rattle.cg_text.specs.Tokens.{ends_word, is_blank, is_separator, is_word, tokens};
 ghost use Rattle.cg_text.specs.Numbers.{read_u64, read_i64};
 
 /// Each number has one spelling: what is printed is read, and what is read is printed so.
@@ -28,10 +28,4 @@ pub fn tokens_are_exact()
     ensures separator { (byte : ℕ) (rest : List ℕ) → is_separator byte ≡ true → tokens (byte ∷ rest) ≡ (byte ∷ []) ∷ tokens rest }
     ensures word { (word rest : List ℕ) → is_word word ≡ true → ends_word rest ≡ true → tokens (word ++ rest) ≡ word ∷ tokens rest }
     ensures text { (text rest : List ℕ) → tokens (quoted text ++ rest) ≡ quoted text ∷ tokens rest }
-{}
-
-/// What a token is: a word is a bare word, and a text that is printed is that text.
-pub fn token_kinds_are_exact()
-    ensures word { (word : List ℕ) → is_word word ≡ true → token_of word ≡ Bare word }
-    ensures text { (text : List ℕ) → IsUtf8 text → is_printable text ≡ true → token_of (quoted text) ≡ Quoted text }
 {}

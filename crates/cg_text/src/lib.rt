@@ -14,10 +14,8 @@ mod txt;
 mod words;
 
 pub use fault::TextFault;
-pub use laws::{
-    numbers_are_exact, quoted_texts_are_exact, token_kinds_are_exact, tokens_are_exact,
-};
-pub use numbers::{put_i64, put_u64, read_i64, read_u64};
+pub use laws::{numbers_are_exact, quoted_texts_are_exact, tokens_are_exact};
+pub use numbers::{read_i64, read_u64};
 pub use quoted::{Quoted, put_quoted, read_quoted};
 pub use txt::Txt;
 pub use words::{Words, is_passed_over};

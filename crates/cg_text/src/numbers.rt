@@ -1,14 +1,11 @@
 //! Numbers in plain decimal.
 
-ghost use Rattle.std.specs.Prelude.{◌≡◌, ◌++◌, Some, None, if◌then◌else◌, option_and_then, option_map, pos, decimal, OnOk, OnErr};
-ghost use Rattle.std.specs.Fmt.{signed_decimal};
+ghost use Rattle.std.specs.Prelude.{◌≡◌, Some, None, if◌then◌else◌, option_and_then, option_map, pos};
 ghost use Rattle.std.specs.List.{list_all};
 ghost use Rattle.cg_text.specs.Fault.{fitting};
 ghost use Rattle.cg_text.specs.Numbers.{is_digit, with_digit, value_of_digits, is_plain, plain_number, negative, fits_u64, fits_i64, read_u64, read_i64};
 
 use crate::TextFault;
-use cg_base::NoMemory;
-use itoa::Buffer;
 
 /// The number that the bytes spell: digits alone, of which the first is 0 only where it stands alone.
 pub fn read_u64(t: &[u8]) -> Result<u64, TextFault>
@@ -98,24 +95,4 @@ fn with_digit(value: u64, digit: u8) -> Option<u64>
 {
     let tens = value.checked_mul(10)?;
     tens.checked_add(u64::from(digit.saturating_sub(b'0')))
-}
-
-/// Puts a number at the end, in decimal digits.
-pub fn put_u64(out: &mut Vec<u8>, n: u64) -> Result<(), NoMemory>
-    ensures ok { OnOk result (out.new.items ≡ out.old.items ++ decimal n) }
-    ensures err { OnErr result (out.new.items ≡ out.old.items) }
-{
-    let mut buffer = Buffer::new();
-    out.extend_from_slice(buffer.format(n).as_bytes())?;
-    Ok(())
-}
-
-/// Puts a number at the end, in decimal digits, with a `-` in front where it is below 0.
-pub fn put_i64(out: &mut Vec<u8>, n: i64) -> Result<(), NoMemory>
-    ensures ok { OnOk result (out.new.items ≡ out.old.items ++ signed_decimal n) }
-    ensures err { OnErr result (out.new.items ≡ out.old.items) }
-{
-    let mut buffer = Buffer::new();
-    out.extend_from_slice(buffer.format(n).as_bytes())?;
-    Ok(())
 }

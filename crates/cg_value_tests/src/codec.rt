@@ -4,7 +4,6 @@ use crate::bytes::{bytes_of, say_fault};
 use crate::table::{follows, is, parts, say, say_number, say_shown, say_truth};
 use cg_base::NoMemory;
 use cg_codec::{CodecFault, Fields, put_i64, put_text, put_truth, put_u8, put_u32, put_u64};
-use cg_text::put_i64 as print_number;
 use std::alloc::Global;
 use std::test::Fail;
 
@@ -36,7 +35,7 @@ fn take(fields: &mut Fields, word: &str) -> Result<u64, CodecFault> {
 }
 
 fn print(out: &mut Vec<u8>, number: i64) {
-    let _done = print_number(out, number);
+    say_shown(out, &number);
 }
 
 // something else; a text has at most two bytes

@@ -3,10 +3,7 @@
 use crate::bytes::bytes_of;
 use crate::table::{follows, is, number, parts, say, say_number, say_shown, say_truth};
 use cg_base::put;
-use cg_text::{
-    TextFault, Txt, Words, is_passed_over, put_i64, put_quoted, put_u64, read_i64, read_quoted,
-    read_u64,
-};
+use cg_text::{TextFault, Txt, Words, is_passed_over, put_quoted, read_i64, read_quoted, read_u64};
 use std::alloc::Global;
 
 const NUMBERS: &str = "u64 0 -> 0
@@ -77,16 +74,16 @@ fn say_whole(out: &mut Vec<u8>, digits: &str) {
 fn say_signed(out: &mut Vec<u8>, digits: &str) {
     match read_i64(digits.as_bytes()) {
         Ok(number) => {
-            let _done = put_i64(out, number);
+            say_shown(out, &number);
         }
         Err(fault) => say(out, word_of(fault)),
     }
 }
 
 fn say_numbers(out: &mut Vec<u8>) {
-    let _done = put_u64(out, u64::MAX);
-    let _done = put_i64(out, i64::MIN);
-    let _done = put_i64(out, 7);
+    say_shown(out, &u64::MAX);
+    say_shown(out, &i64::MIN);
+    say_shown(out, &7);
 }
 
 fn say_between(out: &mut Vec<u8>, text: &[u8]) {
