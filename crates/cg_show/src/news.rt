@@ -1,8 +1,9 @@
-ghost use Rattle.std.specs.Prelude.{◌≡◌, ◌==◌, ◌&&◌, nat_lt, IfOk};
+ghost use Rattle.std.specs.Prelude.{◌≡◌, ◌++◌, IfOk, OnOk, slice_get};
 ghost use Rattle.cg_agree.specs.Show.{news_of_recovery, unshown};
+ghost use Rattle.cg_show.specs.Unshown.{is_unshown, unshown_one};
 
 use cg_action::{Action, ActionList};
-use cg_base::{Cut, IdList, NoMemory, ReplicaId, Row};
+use cg_base::{Cut, IdList, NoMemory, Row};
 use cg_client::Core;
 use cg_report::Reply;
 use std::marker::Model;
@@ -82,23 +83,35 @@ impl News {
     }
 }
 
-// The replica's own red actions that weren't shown as made.
+// The replica's own red actions that weren't shown as made. No other one is copied.
 fn unshown(made: &Cut, core: &Core) -> Result<ActionList, NoMemory>
     ensures { IfOk result (λ list. list ≡ unshown made.now core.now) }
 {
-    let own = core.id();
-    let shown = made.get(own);
+    let Some(count) = core.queue().red_count() else {
+        return Err(NoMemory);
+    };
     let mut list = Row::new(core.alloc());
-    for a in core.reds()?.into_vec() {
-        if is_unshown(own, shown, &a) {
-            list.push(a)?;
-        }
+    for i in 0..count {
+        add_unshown(&mut list, made, core, i)?;
     }
     Ok(list)
 }
 
-fn is_unshown(own: ReplicaId, shown: u64, a: &Action) -> bool
-    ensures { result ≡ ((a.now.id.creator == own) && nat_lt shown a.now.id.index) }
+// the red action at this place, counted from 0, where it is one of these
+fn add_unshown(list: &mut ActionList, made: &Cut, core: &Core, i: u32) -> Result<(), NoMemory>
+    ensures { OnOk result (list.new ≡ list.old ++ unshown_one made.now core.now (slice_get core.now.queue.reds i)) }
 {
-    a.id.creator == own && shown < a.id.index
+    match core.queue().red_at(i as usize) {
+        Some(a) if is_unshown(made, core, a) => {
+            list.push(a.copy(core.alloc())?)?;
+            Ok(())
+        }
+        _ => Ok(()),
+    }
+}
+
+fn is_unshown(made: &Cut, core: &Core, a: &Action) -> bool
+    ensures { result ≡ is_unshown made.now core.now a.now }
+{
+    a.id.creator == core.id() && made.get(core.id()) < a.id.index
 }
