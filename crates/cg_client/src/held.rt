@@ -1,4 +1,4 @@
-ghost use Rattle.std.specs.Prelude.{◌≡◌, ◌<◌, ◌^◌, suc};
+ghost use Rattle.std.specs.Prelude.{◌≡◌, ◌<◌, ◌^◌, suc, IfOk};
 ghost use Rattle.cg_action.specs.Limits.{IsAction};
 ghost use Rattle.cg_client.specs.Replica.{fresh_held, created, last_index};
 
@@ -9,19 +9,20 @@ use crate::own::Own;
 use crate::servers::Servers;
 use crate::standing::Standing;
 use crate::waiting::Waiting;
-use cg_base::{ActionId, Cut, ReplicaId, Row, WeightSet};
+use cg_base::{ActionId, Cut, NoMemory, ReplicaId, Row, WeightSet};
 use std::alloc::Global;
 use std::marker::Model;
 
-/// What a replica holds in every state. Clauses see it as a `Held`.
+/// What a replica holds in every state. Clauses see it as a `Held`. What is large is boxed, since a replica moves from state to
+/// state as a value.
 #[derive(Drop)]
 pub struct Core {
     pub(crate) id: ReplicaId,
-    pub(crate) queue: Known,
+    pub(crate) queue: Box<Known>,
     pub(crate) yellow_valid: bool,
     pub(crate) own: Own,
     pub(crate) db: Entries,
-    pub(crate) members: Servers,
+    pub(crate) members: Box<Servers>,
     pub(crate) standing: Standing,
     pub(crate) buffered: Row<Kept>,
     pub(crate) owed: Waiting<ActionId>,
@@ -33,7 +34,7 @@ impl Model for Core {
 
     ghost Value = { Held };
 
-    ghost view = { λ c. record { id = c.id; queue = c.queue; yellow_valid = c.yellow_valid; own = c.own; db = c.db; members = c.members; prim = c.standing.prim; attempt_index = c.standing.attempt_index; vulnerable = c.standing.vulnerable; buffered = c.buffered; owed = c.owed } };
+    ghost view = { λ c. record { id = c.id; queue = c.queue.value; yellow_valid = c.yellow_valid; own = c.own; db = c.db; members = c.members.value; prim = c.standing.prim; attempt_index = c.standing.attempt_index; vulnerable = c.standing.vulnerable; buffered = c.buffered; owed = c.owed } };
 }
 
 // so many of a replica's actions, and so many greens, fit no memory
@@ -41,21 +42,23 @@ pub(crate) const MOST: u64 = 4611686018427387904;
 
 impl Core {
     /// What a new replica holds, among the servers of the start.
-    pub fn fresh(alloc: Global, id: ReplicaId, servers: &WeightSet) -> Core
-        ensures { result ≡ fresh_held id servers.now }
+    pub fn fresh(alloc: Global, id: ReplicaId, servers: &WeightSet) -> Result<Core, NoMemory>
+        ensures { IfOk result (λ core. core ≡ fresh_held id servers.now) }
     {
-        Core {
+        let queue = Box::new(alloc, Known::resume(alloc, 0, Cut::zero()))?;
+        let members = Box::new(alloc, Servers::start(*servers))?;
+        Ok(Core {
             id,
-            queue: Known::resume(alloc, 0, Cut::zero()),
+            queue,
             yellow_valid: false,
             own: Own::new(alloc),
             db: Entries::new(alloc),
-            members: Servers::start(*servers),
+            members,
             standing: Standing::start(*servers),
             buffered: Row::new(alloc),
             owed: Waiting::new(alloc),
             alloc,
-        }
+        })
     }
 
     pub(crate) fn last_created(&self) -> u64

@@ -47,13 +47,15 @@ impl Core {
         requires lines { Each (λ server. IsNumber server.line) members.servers }
         ensures { IfOk result (λ core. core ≡ record { id = id; queue = resumed white cut; yellow_valid = false; own = []; db = db; members = members; prim = prim; attempt_index = attempt_index; vulnerable = vulnerable; buffered = []; owed = [] }) }
     {
+        let queue = Box::new(alloc, Known::resume(alloc, white, cut))?;
+        let members = Box::new(alloc, Servers::of(members))?;
         Ok(Core {
             id,
-            queue: Known::resume(alloc, white, cut),
+            queue,
             yellow_valid: false,
             own: Own::new(alloc),
             db: Entries::of(db),
-            members: Servers::of(members),
+            members,
             standing: Standing::of(prim, attempt_index, vulnerable)?,
             buffered: Row::new(alloc),
             owed: Waiting::new(alloc),

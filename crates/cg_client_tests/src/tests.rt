@@ -348,7 +348,7 @@ fn installed(core: Core, draft: &mut Draft) -> Result<Core, &'static str> {
 }
 
 fn install(core: &mut Core, draft: &mut Draft) -> Result<(), Fail> {
-    let other = Core::fresh(core.alloc(), core.id(), &WeightSet::empty());
+    let other = Core::fresh(core.alloc(), core.id(), &WeightSet::empty())?;
     *core = installed(replace(core, other), draft)?;
     Ok(())
 }
@@ -735,7 +735,7 @@ fn follows(
 
 // replica 1 among these servers
 fn begins(rt: &(impl Abort + AllocGlobal), among: &str, lines: &str) -> Result<(), Fail> {
-    let mut core = Core::fresh(rt.alloc(), ReplicaId::known(1), &servers(among));
+    let mut core = Core::fresh(rt.alloc(), ReplicaId::known(1), &servers(among))?;
     let mut draft = Draft::new(rt.alloc());
     let done = follows(rt, &mut core, &mut draft, lines);
     draft.abandon();

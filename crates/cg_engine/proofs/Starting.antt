@@ -1,9 +1,13 @@
 -- What a new replica holds has a checkpoint, and follows it.
-use Rattle.std.proofs.Common.{◌≡◌, ℕ, ◌≤◌, ◌-◌, List, [], max, refl, sym, subst, arith}
+use Rattle.std.proofs.Common.{◌≡◌, ℕ, ◌≤◌, ◌-◌, List, [], Option, Some, None, max, refl, sym, subst, arith}
+use Rattle.std.specs.Prelude.{◌<◌, IfSome}
+use Rattle.std.specs.Option.{option_map}
 use Rattle.std.proofs.Math.Seq.{drop-nil}
 use Rattle.cg_action.specs.declared.action.Action.{Action}
 use Rattle.cg_base.specs.declared.weighted.Weighted.{Weighted}
-use Rattle.cg_disk.specs.View.{DiskView}
+use Rattle.cg_disk.specs.State.{DiskState, Strike}
+use Rattle.cg_disk.specs.View.{DiskView, IsView}
+use Rattle.cg_journal.specs.Fresh.{IsRefusedWithin}
 use Rattle.cg_client.specs.Replica.{Held, fresh_held}
 use Rattle.cg_client.specs.Whitening.{line_of}
 use Rattle.cg_stored.specs.Stored.{stored_of, whiten}
@@ -13,7 +17,9 @@ use Rattle.cg_step.specs.Recorded.{AlwaysHolds, AlwaysCounts, AlwaysSettled}
 use Rattle.cg_store.specs.Answers.{IsReached}
 use Rattle.cg_store.specs.Kept.{Kept}
 use Rattle.cg_store.specs.Stands.{Stands, created, disk_of}
-use Rattle.cg_engine.specs.Engines.{IsEngine}
+use Rattle.cg_engine.specs.Answers.{Starts, IsBare}
+use Rattle.cg_engine.specs.Engines.{Fallen, IsEngine}
+use Rattle.cg_engine.specs.declared.answers.Started.TheVariants.{NoMemory}
 
 module _ (holds : AlwaysHolds) (counts : AlwaysCounts) (id : ℕ) (set : List Weighted) where
   -- there is nothing to discard
@@ -47,3 +53,22 @@ module _ (holds : AlwaysHolds) (counts : AlwaysCounts) (id : ℕ) (set : List We
         (subst (λ c. Follows (disk_of [] (created (stored_of c))) h) (sym core_is)
         (subst (λ x. Follows (disk_of [] (created (stored_of (fresh_held id set)))) x) (sym h_is) fresh_follows));
   }
+
+-- ---- memory was refused before the first call
+
+if_mapped : (o : Option DiskState) (P : Option Strike → Type 0) → IfSome o (λ s. P s.strike) → IfSome (option_map (λ (s : DiskState). s.strike) o) P
+if_mapped None P is = tt
+if_mapped (Some s) P is = is
+
+pub not_begun : {D : Type 0} (view : D → DiskView) (disk : D) (id : ℕ) (set : List Weighted) (w : Fallen D) → IsView (view disk) → w ≡ record { disk = disk; id = id; count = 0; green = [] } →
+    Starts view id set (view disk) (NoMemory w)
+not_begun view disk id set w is at = subst (λ f. Starts view id set (view disk) (NoMemory f)) (sym at) (refused, bare)
+  where
+    refused : IsRefusedWithin 7 (view disk) (view disk)
+    refused = record {
+      unstruck = record { faults = refl; stays = refl; ahead = if_mapped (view disk).state (λ strike. IfSome strike (λ s. (view disk).time < s.call)) is.ahead };
+      time = omega arith;
+    }
+
+    bare : IsBare id (record { disk = disk; id = id; count = 0; green = [] })
+    bare = record { id_is = refl; green = refl }

@@ -3,7 +3,7 @@ ghost use Rattle.std.specs.Prelude.{◌≡◌, ◌+◌, ◌≤◌, ◌^◌, [], 
 ghost use Rattle.cg_action.specs.declared.action.Action.{Action};
 ghost use Rattle.cg_base.specs.declared.action_id.ActionId.{ActionId};
 ghost use Rattle.cg_client.specs.Queries.{state_name};
-ghost use Rattle.cg_client.specs.Replica.{Held};
+ghost use Rattle.cg_client.specs.Replica.{Held, fresh};
 ghost use Rattle.cg_client.specs.Turn.{Turn};
 ghost use Rattle.cg_stored.specs.Stored.{recover};
 ghost use Rattle.cg_replica.specs.Inputs.{input_of, HasLimits};
@@ -103,8 +103,25 @@ impl<D: Disk> Engine<D> {
         requires { (D.view disk).time + 7 ≤ 2 ^ 62 }
         ensures { Starts D.view id servers.now (D.view disk) result }
     {
+        match Replica::fresh(alloc, id, servers) {
+            Ok(replica) => Engine::create(alloc, disk, id, servers, replica),
+            Err(_) => Started::NoMemory(Wreck::new(alloc, disk, id)),
+        }
+    }
+
+    // What the new replica holds is written.
+    fn create(
+        alloc: Global,
+        disk: D,
+        id: ReplicaId,
+        servers: &WeightSet,
+        replica: Replica,
+    ) -> Started<D>
+        requires calls { (D.view disk).time + 7 ≤ 2 ^ 62 }
+        requires new { replica ≡ fresh id servers.now }
+        ensures { Starts D.view id servers.now (D.view disk) result }
+    {
         what_is_held_agrees();
-        let replica = Replica::fresh(alloc, id, servers);
         match Store::create(disk, replica.core()) {
             Ok(store) => Started::Running {
                 engine: Engine { store, replica },

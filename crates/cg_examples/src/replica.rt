@@ -12,7 +12,7 @@ fn a_new_configuration_begins_an_exchange(rt: HostRuntime) -> Result<(), Fail> {
     let mut list = DeliveryList::new(rt.alloc());
     list.push(Delivery::Regular { conf: 1, set })?;
 
-    let replica = Replica::fresh(rt.alloc(), one, &WeightSet::of(&set));
+    let replica = Replica::fresh(rt.alloc(), one, &WeightSet::of(&set))?;
     let (replica, draft) = replica.step(Input::Deliver(list))?;
     assert_eq!(rt; replica.state(), StateName::ExchangeStates);
     assert_eq!(rt; draft.sent().len(), 1);

@@ -12,7 +12,7 @@ fn a_replica_comes_up_with_what_its_disk_stands_for(rt: HostRuntime) -> Result<(
     set.add(one);
     let servers = WeightSet::of(&set);
     what_is_held_agrees();
-    let core = Core::fresh(rt.alloc(), one, &servers);
+    let core = Core::fresh(rt.alloc(), one, &servers)?;
     let created = Store::create(ModelDisk::new(rt.alloc()), &core);
     drop(core);
 

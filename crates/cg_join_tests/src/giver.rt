@@ -5,7 +5,7 @@ ghost use Rattle.cg_base.specs.Cuts.{index_in};
 ghost use Rattle.cg_action.specs.Limits.{IsAction};
 
 use cg_action::{Action, decode};
-use cg_base::{Cut, ReplicaId, WeightSet, put};
+use cg_base::{Cut, NoMemory, ReplicaId, WeightSet, put};
 use cg_client::Core;
 use cg_join::SnapshotName;
 use std::alloc::Global;
@@ -70,7 +70,7 @@ fn give(core: &mut Core) -> Result<(), Fail> {
     put_red(core, action(alloc, 2, 2)?)
 }
 
-fn fresh(alloc: Global) -> Core {
+fn fresh(alloc: Global) -> Result<Core, NoMemory> {
     let mut servers = WeightSet::empty();
     servers.put(ReplicaId::known(1), 1);
     servers.put(ReplicaId::known(2), 3);
@@ -79,7 +79,7 @@ fn fresh(alloc: Global) -> Core {
 
 /// What it holds.
 pub(crate) fn giver(alloc: Global) -> Result<Core, Fail> {
-    let mut core = fresh(alloc);
+    let mut core = fresh(alloc)?;
     match give(&mut core) {
         Ok(()) => Ok(core),
         Err(fail) => {

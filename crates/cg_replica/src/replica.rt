@@ -37,14 +37,13 @@ impl Model for Replica {
 }
 
 impl Replica {
-    /// A new replica, alone, among the servers of the start. It takes no memory.
-    pub fn fresh(alloc: Global, id: ReplicaId, servers: &WeightSet) -> Replica
-        ensures { result ≡ fresh id servers.now }
+    /// A new replica, alone, among the servers of the start.
+    pub fn fresh(alloc: Global, id: ReplicaId, servers: &WeightSet) -> Result<Replica, NoMemory>
+        ensures { IfOk result (λ r. r ≡ fresh id servers.now) }
     {
-        let core = Core::fresh(alloc, id, servers);
-        Replica {
-            member: Member::Outside(Outside::Non(NonPrim::recovered(core))),
-        }
+        let core = Core::fresh(alloc, id, servers)?;
+        let member = Member::Outside(Outside::Non(NonPrim::recovered(core)));
+        Ok(Replica { member })
     }
 
     /// The replica that comes up with what it held at its last commit: alone, in no primary component, and its own actions

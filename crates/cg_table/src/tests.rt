@@ -64,7 +64,7 @@ fn come(alloc: Global, member: Member, draft: &mut Draft, text: &str) -> Result<
 
 fn begin(alloc: Global, text: &str) -> Result<Member, Fail> {
     let (id, servers) = text.split_once(' ').ok_or("no servers")?;
-    Ok(newcomer(alloc, id_of(id)?, &set_of(servers)))
+    Ok(newcomer(alloc, id_of(id)?, &set_of(servers))?)
 }
 
 fn take(alloc: Global, member: Member, draft: &mut Draft, text: &str) -> Result<Member, Fail> {
@@ -137,7 +137,7 @@ fn follow(rt: &(impl Abort + AllocGlobal), member: Member, line: &str) -> Result
 }
 
 fn follows(rt: &(impl Abort + AllocGlobal), text: &str) -> Result<(), Fail> {
-    let mut member = newcomer(rt.alloc(), ReplicaId::known(1), &IdSet::empty());
+    let mut member = newcomer(rt.alloc(), ReplicaId::known(1), &IdSet::empty())?;
     for line in text.lines() {
         member = follow(rt, member, line)?;
     }

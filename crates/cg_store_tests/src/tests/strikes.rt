@@ -14,7 +14,7 @@ ghost use Rattle.cg_step.specs.Holds.{Holds};
 ghost use Rattle.cg_store_tests.specs.Bench.{IsHeld, calls_of};
 
 use super::put_opened;
-use cg_base::{IdSet, ReplicaId, WeightSet};
+use cg_base::{IdSet, NoMemory, ReplicaId, WeightSet};
 use cg_client::{Core, Draft};
 use cg_disk::{Disk, ModelDisk};
 use cg_step::what_is_held_agrees;
@@ -51,17 +51,17 @@ commit stop 3-4 ab -> g0 w0 a1 [] [] [] [] k-
 next stop 1-6 -abc -> g0 w0 a1 [] [] [] [] k-";
 
 // what a new replica holds
-fn fresh(alloc: Global) -> Core
-    ensures holds { Holds result }
-    ensures agrees { Agrees (stored_of result) }
+fn fresh(alloc: Global) -> Result<Core, NoMemory>
+    ensures holds { IfOk result Holds }
+    ensures agrees { IfOk result (λ core. Agrees (stored_of core)) }
 {
     what_is_held_agrees();
     let mut servers = IdSet::empty();
     servers.add(ReplicaId::known(1));
     servers.add(ReplicaId::known(2));
-    let mut core = Core::fresh(alloc, ReplicaId::known(1), &WeightSet::of(&servers));
+    let mut core = Core::fresh(alloc, ReplicaId::known(1), &WeightSet::of(&servers))?;
     core.whiten();
-    core
+    Ok(core)
 }
 
 fn arm(store: &mut Store<ModelDisk>, blow: &str, call: u64)
@@ -262,7 +262,7 @@ fn put_struck(
     letter: u8,
     out: &mut Vec<u8>,
 ) -> Result<(), Fail> {
-    let mut core = fresh(alloc);
+    let mut core = fresh(alloc)?;
     let left = struck(&mut core, words.0, words.1, n);
     drop(core);
     let image = left?.image(fill(letter))?;

@@ -24,9 +24,9 @@ pub(super) enum Member {
 }
 
 /// A new replica among these servers.
-pub(super) fn newcomer(alloc: Global, id: ReplicaId, servers: &IdSet) -> Member {
-    let core = Core::fresh(alloc, id, &WeightSet::of(servers));
-    Member::Outside(Outside::Non(NonPrim::recovered(core)))
+pub(super) fn newcomer(alloc: Global, id: ReplicaId, servers: &IdSet) -> Result<Member, NoMemory> {
+    let core = Core::fresh(alloc, id, &WeightSet::of(servers))?;
+    Ok(Member::Outside(Outside::Non(NonPrim::recovered(core))))
 }
 
 fn enter(core: Core, draft: &mut Draft, conf: u64, set: IdSet) -> Result<Member, NoMemory> {

@@ -1,18 +1,5 @@
-use Rattle.std.proofs.Common.{sym, ◌∙◌, ap, subst}
-use Rattle.cg_client.specs.Replica.{Replica}
-use Rattle.cg_stored.specs.Stored.{stored_of}
-use Rattle.cg_stored.specs.Checkpoint.{Agrees}
-use Rattle.cg_engine.proofs.Starting.{fresh_agrees, fresh_engine}
+use Rattle.cg_engine.proofs.Starting.{not_begun}
 use Rattle.cg_engine.proofs.engine.Engine.start.Goals as goal
 
-pub create-requires-clause-agrees : goal.create-requires-clause-agrees
-create-requires-clause-agrees g c =
-    let always = c.what_is_held_agrees.ensures in
-    subst (λ h. Agrees (stored_of h)) (sym (c.core.ensures ∙ ap (λ (r : Replica). r.held) c.fresh-replica.ensures)) (fresh_agrees always.holds always.counts c.args.id c.args.servers.now always.settled)
-
-pub invariant_of-result : goal.invariant_of-result
-invariant_of-result g c =
-    let always = c.what_is_held_agrees.ensures in
-    let view = g.D.Disk.view in
-    let held_is = ap (λ (r : Replica). r.held) c.fresh-replica.ensures in
-    fresh_engine always.holds always.counts c.args.id c.args.servers.now view c.in-Ok.store (view c.args.disk) c.core.result.now c.fresh-replica.result.held (c.core.ensures ∙ held_is) held_is c.in-Ok.ensures
+pub returns-in-Err : goal.returns-in-Err
+returns-in-Err g c = not_begun g.D.Disk.view c.args.disk c.args.id c.args.servers.now c.new.result (g.met.D.Disk.is_view c.args.disk) c.new.ensures
