@@ -15,14 +15,14 @@ ghost use Rattle.cg_action.specs.Limits.{IsAction, IsKind};
 use cg_action::{Action, Kind, Query, decode};
 use cg_base::{
     ActionId, Cut, IdList, IdSet, NoMemory, ReplicaId, Row, WeightSet, put, put_id, put_id_list,
-    put_id_runs, put_number,
+    put_id_runs, put_number, put_shown,
 };
 use cg_client::{Core, Draft, Installed};
 use cg_db::{Answer, Db};
 use cg_members::{Members, ServerSet};
 use cg_records::{Primary, Stable, Yellow};
 use cg_report::{Line, Reply, ShownPhase, StateName, UpLine, View, put_line};
-use cg_text::{Txt, put_i64, put_quoted};
+use cg_text::{Txt, put_quoted};
 use std::alloc::{AllocGlobal, Global};
 use std::mem::replace;
 use std::process::Abort;
@@ -567,7 +567,7 @@ fn put_keys(out: &mut Vec<u8>, keys: &[Txt]) -> Result<(), NoMemory> {
 fn put_answer(out: &mut Vec<u8>, answer: &Answer) -> Result<(), NoMemory> {
     match answer {
         Answer::Absent => put(out, b"absent"),
-        Answer::Int(number) => put_i64(out, *number),
+        Answer::Int(number) => put_shown(out, number),
         Answer::Text(text) => put_quoted(out, text),
         Answer::Keys(keys) => put_keys(out, keys.as_slice()),
         Answer::Count(count) => {

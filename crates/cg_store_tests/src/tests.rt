@@ -9,13 +9,15 @@
 //! so on; all but 2:1 and 1:2 have green line 1.
 
 use cg_action::{Action, Query};
-use cg_base::{IdList, NoMemory, ReplicaId, Row, put, put_id_list, put_id_runs, put_number};
+use cg_base::{
+    IdList, NoMemory, ReplicaId, Row, put, put_id_list, put_id_runs, put_number, put_shown,
+};
 use cg_client::Core;
 use cg_db::Answer;
 use cg_disk::{Disk, DiskFault, ModelDisk, Side};
 use cg_report::View;
 use cg_store::{OpenErr, Store};
-use cg_text::{Txt, put_i64};
+use cg_text::Txt;
 use std::alloc::{AllocGlobal, Global};
 use std::process::Abort;
 use std::test::Fail;
@@ -222,7 +224,7 @@ fn put_view(core: &Core, out: &mut Vec<u8>) -> Result<(), NoMemory> {
 
 fn put_answer(answer: &Answer, out: &mut Vec<u8>) -> Result<(), NoMemory> {
     match answer {
-        Answer::Int(number) => put_i64(out, *number),
+        Answer::Int(number) => put_shown(out, number),
         _ => put(out, b"-"),
     }
 }
