@@ -9,4 +9,4 @@ use Rattle.cg_examples.proofs.store.a_replica_comes_up_with_what_its_disk_stands
 pub create-created-requires-clause-agrees : goal.create-created-requires-clause-agrees
 create-created-requires-clause-agrees g c =
     let laws = c.what_is_held_agrees.ensures in
-    subst (λ (h : Held). Agrees (stored_of h)) (sym c.fresh-core.ensures) (fresh_agrees laws.holds laws.counts laws.settled c.known-one.result c.of-servers.result)
+    subst (λ (h : Held). Agrees (stored_of h)) (sym c.in_ok-core.ensures) (fresh_agrees laws.holds laws.counts laws.settled c.known-one.result c.of-servers.result)

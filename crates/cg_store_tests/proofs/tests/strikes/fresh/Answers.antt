@@ -8,4 +8,4 @@ use Rattle.cg_store_tests.proofs.tests.strikes.fresh.Goals as goal
 pub returns-clause-agrees : goal.returns-clause-agrees
 returns-clause-agrees c =
     let laws = c.what_is_held_agrees.ensures in
-    subst (λ h. Agrees (stored_of h)) (sym (c.whiten.ensures ∙ ap with_white c.fresh-core.ensures)) (fresh_agrees laws.holds laws.settled _ _)
+    subst (λ h. Agrees (stored_of h)) (sym (c.whiten.ensures ∙ ap with_white c.in_ok-core.ensures)) (fresh_agrees laws.holds laws.settled _ _)
