@@ -96,7 +96,7 @@ impl Cmd {
 pub fn copy_commands(alloc: Global, cmds: &[Cmd]) -> Result<CmdList, NoMemory>
     ensures { IfOk result (λ list. list ≡ cmds.now) }
 {
-    let mut copies = Row::new(alloc);
+    let mut copies = Row::with_capacity(alloc, cmds.len())?;
     for cmd in cmds {
         copies.push(cmd.copy(alloc)?)?;
     }

@@ -277,7 +277,7 @@ fn take_commands(alloc: Global, fields: &mut Fields) -> Result<CmdList, CodecFau
 {
     let mut after = *fields;
     let count = after.take_count(16)?;
-    let mut cmds = Row::new(alloc);
+    let mut cmds = Row::with_capacity(alloc, count as usize)?;
     for _ in 0..count {
         cmds.push(take_command(alloc, &mut after)?)?;
     }

@@ -37,6 +37,14 @@ impl<T> Row<T> {
         }
     }
 
+    /// A row without things, with room for so many.
+    pub fn with_capacity(alloc: Global, capacity: usize) -> Result<Row<T>, NoMemory>
+        ensures { IfOk result (λ row. row ≡ []) }
+    {
+        let items = Vec::with_capacity(alloc, capacity)?;
+        Ok(Row { items })
+    }
+
     /// The row of these things. It takes no memory.
     pub fn from_vec(items: Vec<T>) -> Row<T>
         ensures { result ≡ items.items }
