@@ -1,10 +1,11 @@
 -- One replica's facts: the white count at a commit, what stands on the disk, a recovery, a new configuration, a request.
-use Rattle.std.proofs.Common.{◌≡◌, ℕ, zero, suc, ◌+◌, ◌-◌, ◌<◌, ◌≤◌, List, [], ◌∷◌, ◌++◌, length, drop, true, false, map, fold, refl, sym, ap, ◌∙◌, subst, arith, inl, inr, if◌then◌else◌, nat_lt, append-nil, length-append}
-use Rattle.std.specs.Prelude.{None}
+use Rattle.std.proofs.Common.{◌≡◌, ℕ, zero, suc, ◌+◌, ◌-◌, ◌<◌, ◌≤◌, List, [], ◌∷◌, ◌++◌, length, drop, true, false, map, fold, min, refl, sym, ap, ◌∙◌, subst, arith, inl, inr, append-nil, length-append}
+use Rattle.std.specs.Prelude.{None, Some}
 use Rattle.std.specs.Option.{unwrap_or}
-use Rattle.std.proofs.lemmas.Bool.{cases_order, cases_Bool, ne_eqb, lt-leb, le-ltb}
+use Rattle.std.proofs.lemmas.Bool.{cases_order, ne_eqb, lt-leb}
 use Rattle.cg_base.specs.declared.weighted.Weighted.{Weighted}
 use Rattle.cg_base.specs.Cuts.{index_in}
+use Rattle.cg_base.specs.Lists.{lesser}
 use Rattle.cg_action.specs.declared.action.Action.{Action}
 use Rattle.cg_action.specs.declared.action.Kind.{Kind}
 use Rattle.cg_members.specs.declared.server.Server.{Server}
@@ -30,23 +31,15 @@ use Rattle.cg_agree.proofs.HeldTurns.{Keeps, grows-none, keeps-none, keeps-both,
 
 -- ---- the white count
 
-least-below : (n : ℕ) (ns : List ℕ) → fold (λ m k. if nat_lt k m then k else m) n ns ≤ n
+least-below : (n : ℕ) (ns : List ℕ) → unwrap_or (fold lesser (Some n) ns) 0 ≤ n
 least-below n [] = omega arith
-least-below n (k ∷ ns) = elim (cases_Bool (nat_lt k n)) [
-  | inl lt ↦ rw lt (let rest = least-below k ns in let less : k ≤ n = below lt in omega arith)
-  | inr not_lt ↦ rw not_lt (least-below n ns)
-] where
-  below : nat_lt k n ≡ true → k ≤ n
-  below lt = elim (cases_order k n) [
-    | inl same ↦ omega arith
-    | inr apart ↦ elim apart [ inl less ↦ omega arith | inr more ↦ absurd (let clash : true ≡ false = sym lt ∙ le-ltb k n (omega arith) in cc) ]
-  ]
+least-below n (k ∷ ns) = let rest = least-below (min k n) ns in omega arith
 
 pub line-below : (n : ℕ) (servers : List Server) → NoLineAbove n servers → unwrap_or (least_line servers) 0 ≤ n
 line-below n [] lines = omega arith
 line-below n (s ∷ servers) lines =
     let first : s.line ≤ n = lines.0 in
-    let least : fold (λ m k. if nat_lt k m then k else m) s.line (map (λ (x : Server). x.line) servers) ≤ s.line = least-below s.line (map (λ (x : Server). x.line) servers) in
+    let least : unwrap_or (fold lesser (Some s.line) (map (λ (x : Server). x.line) servers)) 0 ≤ s.line = least-below s.line (map (λ (x : Server). x.line) servers) in
     omega arith
 
 drop-nil : (n : ℕ) → drop n [] ≡ (let none : List Action = [] in none)

@@ -5,11 +5,12 @@ use Rattle.std.specs.Option.{option_map_or}
 use Rattle.std.proofs.lemmas.Bool.{cases_Bool, cond-false, cond_both, or_cases, or_left, or_right, and_parts, ltb-true, ltb-false}
 use Rattle.cg_base.specs.declared.action_id.ActionId.{ActionId}
 use Rattle.cg_base.specs.Cuts.{index_in, creators_in}
+use Rattle.cg_base.specs.Lists.{lesser}
 use Rattle.cg_base.specs.Sets.{has, union}
 use Rattle.cg_base.specs.SetLaws.{has-union}
 use Rattle.cg_knowledge.specs.declared.summary.Summary.{Summary}
 use Rattle.cg_knowledge.specs.Members.{remaining}
-use Rattle.cg_plan.specs.Plan.{lesser, least_of, of_remaining, least_greens, least_reds, knows_more, farther, farthest, creators}
+use Rattle.cg_plan.specs.Plan.{of_remaining, least_greens, least_reds, knows_more, farther, farthest, creators}
 use Rattle.cg_agree.specs.Fronts.{IsSomeWith}
 use Rattle.cg_agree.specs.Talk.{known_up_to}
 use Rattle.cg_agree.proofs.EndCovers.{OfEach}
@@ -162,10 +163,10 @@ lesser-each f keep (s ∷ list) o =
 
 -- who remains has no fewer greens, and knows no less, than all that remain
 pub least-greens : (heard : List Summary) → OfEach (λ s. has (remaining heard) s.id ≡ true → IsSomeWith (least_greens heard) (λ l. l ≤ s.green_count)) heard
-unfolding least_greens least_of of_remaining
+unfolding least_greens of_remaining
 least-greens heard = lesser-each (λ (s : Summary). s.green_count) (λ s. has (remaining heard) s.id) heard None
 
 -- and who remains knows of each creator no less than all that remain
 pub least-reds : (heard : List Summary) (creator : ℕ) → OfEach (λ s. has (remaining heard) s.id ≡ true → IsSomeWith (least_reds heard creator) (λ l. l ≤ index_in s.red_cut creator)) heard
-unfolding least_reds least_of of_remaining
+unfolding least_reds of_remaining
 least-reds heard creator = lesser-each (λ (s : Summary). index_in s.red_cut creator) (λ s. has (remaining heard) s.id) heard None

@@ -1,5 +1,5 @@
 -- The lines that greens make of servers are below the greens of each, where the book, the order and the members are as they are to be.
-use Rattle.std.proofs.Common.{◌≡◌, ℕ, ◌+◌, ◌≤◌, ◌<◌, Bool, true, false, ◌||◌, List, [], ◌∷◌, fold, map, length, Option, Some, None, IfSome, refl, sym, ap, ◌∙◌, subst, arith, inl, inr, nat_lt, eqb-true, if◌then◌else◌}
+use Rattle.std.proofs.Common.{◌≡◌, ℕ, ◌+◌, ◌≤◌, ◌<◌, Bool, true, false, ◌||◌, List, [], ◌∷◌, fold, map, min, length, Option, Some, None, IfSome, refl, sym, ap, ◌∙◌, subst, arith, inl, inr, eqb-true, nat_lt}
 use Rattle.std.specs.Prelude.{◌==◌, nat_le}
 use Rattle.std.specs.Option.{unwrap_or}
 use Rattle.std.proofs.lemmas.Bool.{cases_Bool, cases_lt, cond-true, cond-false, and_parts, leb-true, ltb-true, ltb-false, cond_both, false_from_ne_true}
@@ -7,7 +7,7 @@ use Rattle.cg_group.specs.EachLaws.{Each}
 use Rattle.cg_base.specs.declared.action_id.ActionId.{ActionId}
 use Rattle.cg_base.specs.Cuts.{index_in}
 use Rattle.cg_base.specs.Ids.{same_id}
-use Rattle.cg_base.specs.Lists.{least_of}
+use Rattle.cg_base.specs.Lists.{least_of, lesser}
 use Rattle.cg_action.specs.declared.action.Action.{Action}
 use Rattle.cg_members.specs.declared.server.Server.{Server}
 use Rattle.cg_members.specs.declared.members.Members.{Members}
@@ -112,31 +112,25 @@ module _ (d : Chronicle) (numbered : run_on [] (names_of d.book) ≡ true) (acti
 
 -- ---- a commit discards no further than the least line
 
-abbrev lower : ℕ → ℕ → ℕ
-lower m k = if nat_lt k m then k else m
-
-lower-second : (m k : ℕ) → lower m k ≤ k
-lower-second m k = cond_both (nat_lt k m) k m (λ x. x ≤ k) (λ y. omega arith) (λ n. ltb-false k m n)
-
-least-from : (ns : List ℕ) (m n : ℕ) → m ≤ n → fold lower m ns ≤ n
+least-from : (ns : List ℕ) (m n : ℕ) → m ≤ n → unwrap_or (fold lesser (Some m) ns) 0 ≤ n
 least-from [] m n le = le
-least-from (k ∷ ns) m n le = least-from ns (lower m k) n (cond_both (nat_lt k m) k m (λ x. x ≤ n) (λ y. (let less : k < m = ltb-true k m y in omega arith)) (λ z. le))
+least-from (k ∷ ns) m n le = least-from ns (min k m) n (omega arith)
 
-least-below : (servers : List Server) (m q : ℕ) → is_among servers q ≡ true → fold lower m (map (λ s. s.line) servers) ≤ line_of servers q
+least-below : (servers : List Server) (m q : ℕ) → is_among servers q ≡ true → unwrap_or (fold lesser (Some m) (map (λ s. s.line) servers)) 0 ≤ line_of servers q
 least-below [] m q there = absurd (let clash : false ≡ true = there in cc)
 least-below (s ∷ servers) m q there = elim (cases_Bool (s.id == q)) [
-  | inl here ↦ subst (λ n. fold lower (lower m s.line) (map (λ s. s.line) servers) ≤ n) (sym (cond-true (s.id == q) s.line (line_of servers q) here))
-      (least-from (map (λ s. s.line) servers) (lower m s.line) s.line (lower-second m s.line))
-  | inr other ↦ subst (λ n. fold lower (lower m s.line) (map (λ s. s.line) servers) ≤ n) (sym (cond-false (s.id == q) s.line (line_of servers q) other))
-      (least-below servers (lower m s.line) q (sym (ap (λ b. b || is_among servers q) other) ∙ there))
+  | inl here ↦ subst (λ n. unwrap_or (fold lesser (Some (min s.line m)) (map (λ s. s.line) servers)) 0 ≤ n) (sym (cond-true (s.id == q) s.line (line_of servers q) here))
+      (least-from (map (λ s. s.line) servers) (min s.line m) s.line (omega arith))
+  | inr other ↦ subst (λ n. unwrap_or (fold lesser (Some (min s.line m)) (map (λ s. s.line) servers)) 0 ≤ n) (sym (cond-false (s.id == q) s.line (line_of servers q) other))
+      (least-below servers (min s.line m) q (sym (ap (λ b. b || is_among servers q) other) ∙ there))
 ]
 
 white-below : (servers : List Server) (q : ℕ) → is_among servers q ≡ true → unwrap_or (least_of (map (λ s. s.line) servers)) 0 ≤ line_of servers q
 white-below [] q there = absurd (let clash : false ≡ true = there in cc)
 white-below (s ∷ servers) q there = elim (cases_Bool (s.id == q)) [
-  | inl here ↦ subst (λ n. fold lower s.line (map (λ s. s.line) servers) ≤ n) (sym (cond-true (s.id == q) s.line (line_of servers q) here))
+  | inl here ↦ subst (λ n. unwrap_or (fold lesser (Some s.line) (map (λ s. s.line) servers)) 0 ≤ n) (sym (cond-true (s.id == q) s.line (line_of servers q) here))
       (least-from (map (λ s. s.line) servers) s.line s.line (omega arith))
-  | inr other ↦ subst (λ n. fold lower s.line (map (λ s. s.line) servers) ≤ n) (sym (cond-false (s.id == q) s.line (line_of servers q) other))
+  | inr other ↦ subst (λ n. unwrap_or (fold lesser (Some s.line) (map (λ s. s.line) servers)) 0 ≤ n) (sym (cond-false (s.id == q) s.line (line_of servers q) other))
       (least-below servers s.line q (sym (ap (λ b. b || is_among servers q) other) ∙ there))
 ]
 

@@ -2,13 +2,14 @@
 use Rattle.std.proofs.Common.{◌≡◌, ℕ, ◌≤◌, Bool, true, false, not, ◌&&◌, List, [], ◌∷◌, map, filter, fold, min, Option, Some, None, IfSome, sym, ap, subst, ◌∙◌, ⊎_elim, arith}
 use Rattle.std.specs.Option.{option_map_or}
 use Rattle.std.proofs.lemmas.Bool.{and_parts, cond_both, not-true, or_cases}
+use Rattle.cg_base.specs.Lists.{lesser, least_of}
 use Rattle.cg_base.specs.Sets.{has, common}
 use Rattle.cg_base.specs.SetLaws.{has-without, has-common}
 use Rattle.cg_action.specs.declared.action.Action.{Action}
 use Rattle.cg_knowledge.specs.declared.summary.Summary.{Summary}
 use Rattle.cg_knowledge.specs.Members.{senders, gone, remaining, most_updated}
 use Rattle.cg_members.specs.Servers.{members_of, is_server, was_ever, line_of}
-use Rattle.cg_plan.specs.Plan.{lesser, least_of, of_remaining, least_greens}
+use Rattle.cg_plan.specs.Plan.{of_remaining, least_greens}
 use Rattle.cg_group.specs.EachLaws.{Each}
 use Rattle.cg_client.specs.Replica.{Held}
 use Rattle.cg_agree.specs.Chronicle.{Told, Chronicle}
@@ -35,7 +36,6 @@ least-from w (n ∷ ns) None first each = least-from w ns (Some n) each.0 each.1
 least-from w (n ∷ ns) (Some m) first each = least-from w ns (Some (min n m)) (let a : w ≤ n = each.0 in let b : w ≤ m = first in omega arith) each.1
 
 pub least-above : (w : ℕ) (ns : List ℕ) → Each (λ n. w ≤ n) ns → IfSome (least_of ns) (λ n. w ≤ n)
-unfolding least_of
 least-above w ns each = least-from w ns None tt each
 
 -- a member whose summary was heard: what it told, and that it was a server as the most updated member's greens say

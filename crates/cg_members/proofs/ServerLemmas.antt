@@ -6,10 +6,9 @@ use Rattle.cg_base.specs.declared.weighted.Weighted.{Weighted}
 use Rattle.cg_base.specs.Sets.{Ascends, has}
 use Rattle.cg_base.specs.Slots.{array_slot}
 use Rattle.cg_base.specs.Weights.{IsWeightSet, Weigh, ids, weight_in, with_weight}
-use Rattle.cg_base.specs.Lists.{least_of}
 use Rattle.cg_base.specs.ArrayLaws.{zeros, array_slot-zeros}
 use Rattle.cg_base.specs.SetLaws.{Ascends-below}
-use Rattle.cg_members.specs.View.{server_with, lesser}
+use Rattle.cg_members.specs.View.{server_with}
 use Rattle.cg_members.specs.Servers.{server_ids, is_among, weight_of, line_of, first_line, with_server, without_server, with_line, AreServers, Count}
 
 -- ---- looking up
@@ -154,13 +153,3 @@ with_weights-ascending set (n ∷ more) low below ascends =
 -- an ascending list of members, put in one after another
 pub with_weights-all : (set : List Weighted) → Ascends 1 (ids set) → fold with_weight [] set ≡ set
 with_weights-all set ascends = with_weights-ascending [] set 1 tt ascends
-
--- ---- the least line
-
-lesser-fold : (line : ℕ) (lines : List ℕ) → fold lesser (Some line) lines ≡ Some (fold (λ m k. cond (nat_lt k m) k m) line lines)
-lesser-fold line [] = refl
-lesser-fold line (n ∷ lines) = lesser-fold (cond (nat_lt n line) n line) lines
-
-pub lesser-all : (lines : List ℕ) → fold lesser None lines ≡ least_of lines
-lesser-all [] = refl
-lesser-all (line ∷ lines) = lesser-fold line lines

@@ -1,5 +1,5 @@
 -- How servers lie in a set with weights and an array of lines.
-use Rattle.std.specs.Prelude.{ℕ, nat_lt, List, Option, Some, None, map, if◌then◌else◌}
+use Rattle.std.specs.Prelude.{ℕ, List, map}
 use Rattle.cg_base.specs.declared.weighted.Weighted.{Weighted}
 use Rattle.cg_base.specs.Slots.{array_slot}
 use Rattle.cg_base.specs.Iterators.{weights_left}
@@ -13,8 +13,3 @@ server_with lines m = record { id = m.id; line = array_slot lines m.id; weight =
 -- what an iterator over servers has left
 abbrev pub servers_left : Servers → List Server
 servers_left s = map (server_with s.lines) (weights_left s.weights)
-
--- the lesser of a line and one that may be there
-abbrev pub lesser : Option ℕ → ℕ → Option ℕ
-lesser None line = Some line
-lesser (Some other) line = Some (if nat_lt line other then line else other)

@@ -1,8 +1,7 @@
 ghost use Rattle.std.specs.Prelude.{◌≡◌, ◌≤◌, [], map};
-ghost use Rattle.cg_members.specs.View.{lesser};
 
 use crate::Server;
-use cg_base::{IdSet, ReplicaId, WeightSet, Weights};
+use cg_base::{IdSet, ReplicaId, WeightSet, Weights, lesser};
 use std::marker::Model;
 
 /// Servers, each with its line and its weight. Clauses see the list of them, ascending.
@@ -130,21 +129,6 @@ impl ServerSet {
             least = lesser(least, line);
         }
         least
-    }
-}
-
-fn lesser(least: Option<u64>, line: u64) -> Option<u64>
-    ensures { result ≡ lesser least line }
-{
-    match least {
-        None => Some(line),
-        Some(other) => {
-            if line < other {
-                Some(line)
-            } else {
-                Some(other)
-            }
-        }
     }
 }
 

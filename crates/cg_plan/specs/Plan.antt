@@ -1,8 +1,9 @@
 -- The retransmission plan: what is sent again in an exchange, in which order and by whom. The summaries are those of all
 -- members, in any order.
-use Rattle.std.specs.Prelude.{ℕ, suc, ◌==◌, min, max, nat_lt, Bool, ◌&&◌, ◌||◌, List, [], ◌∷◌, ◌++◌, Option, Some, None, map, filter, fold, flat_map, if◌then◌else◌}
+use Rattle.std.specs.Prelude.{ℕ, suc, ◌==◌, max, nat_lt, Bool, ◌&&◌, ◌||◌, List, [], ◌∷◌, ◌++◌, Option, Some, None, map, filter, fold, flat_map, if◌then◌else◌}
 use Rattle.cg_base.specs.Sets.{has, union}
 use Rattle.cg_base.specs.Cuts.{index_in, creators_in}
+use Rattle.cg_base.specs.Lists.{least_of}
 use Rattle.cg_knowledge.specs.declared.summary.Summary.{Summary}
 use Rattle.cg_knowledge.specs.Members.{most_updated, remaining}
 use Rattle.cg_plan.specs.declared.parts.Part.TheVariants.{Greens, Reds}
@@ -11,15 +12,6 @@ use Rattle.cg_plan.specs.declared.parts.Turn.{Turn}
 -- the items from above the first number up to the second, or no part where there are none
 abbrev pub part_above : ℕ → ℕ → Turn → List Turn
 part_above low high turn = if nat_lt low high then turn ∷ [] else []
-
--- the lesser of the two, where there are two
-abbrev pub lesser : Option ℕ → ℕ → Option ℕ
-lesser None n = Some n
-lesser (Some m) n = Some (min n m)
-
--- the least of the numbers, if there is one
-unfoldable pub least_of : List ℕ → Option ℕ
-least_of ns = fold lesser None ns
 
 -- the summaries of the remaining members
 unfoldable pub of_remaining : List Summary → List Summary

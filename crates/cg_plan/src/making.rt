@@ -1,24 +1,15 @@
 ghost use Rattle.std.specs.Prelude.{◌≡◌, ◌++◌, Some, OnOk, IfOk};
 ghost use Rattle.std.specs.Option.{option_copied};
 ghost use Rattle.cg_knowledge.specs.Members.{most_updated as most_updated_of};
-ghost use Rattle.cg_plan.specs.Plan.{lesser as lesser_of, least_greens as least_greens_of, green_part, farther as farther_of, farthest as farthest_of, least_reds as least_reds_of, reds_of, creators as creators_of, plan_of};
+ghost use Rattle.cg_plan.specs.Plan.{least_greens as least_greens_of, green_part, farther as farther_of, farthest as farthest_of, least_reds as least_reds_of, reds_of, creators as creators_of, plan_of};
 
 use crate::{Part, Turn};
-use cg_base::{IdSet, NoMemory, ReplicaId};
+use cg_base::{IdSet, NoMemory, ReplicaId, lesser};
 use cg_knowledge::{Summary, most_updated, remaining};
 use std::alloc::Global;
 
-fn lesser(least: Option<u64>, n: u64) -> Option<u64>
-    ensures { result ≡ lesser_of least n }
-{
-    match least {
-        None => Some(n),
-        Some(m) => Some(n.min(m)),
-    }
-}
-
 // the greens that each remaining member has
-#[tactic(auto, unfolding(crate::specs::Plan::least_greens, crate::specs::Plan::least_of, crate::specs::Plan::of_remaining))]
+#[tactic(auto, unfolding(crate::specs::Plan::least_greens, crate::specs::Plan::of_remaining))]
 fn least_greens(summaries: &[Summary]) -> Option<u64>
     ensures { result ≡ least_greens_of summaries.now }
 {
@@ -33,7 +24,7 @@ fn least_greens(summaries: &[Summary]) -> Option<u64>
 }
 
 // the creator's actions that each remaining member knows
-#[tactic(auto, unfolding(crate::specs::Plan::least_reds, crate::specs::Plan::least_of, crate::specs::Plan::of_remaining))]
+#[tactic(auto, unfolding(crate::specs::Plan::least_reds, crate::specs::Plan::of_remaining))]
 fn least_reds(summaries: &[Summary], creator: ReplicaId) -> Option<u64>
     ensures { result ≡ least_reds_of summaries.now creator }
 {

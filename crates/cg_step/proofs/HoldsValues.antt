@@ -1,12 +1,13 @@
 -- What holds of what a replica holds, where other things change than its actions: values, own actions, the white count.
-use Rattle.std.proofs.Common.{◌≡◌, ℕ, zero, suc, ◌+◌, ◌-◌, ◌<◌, ◌≤◌, List, [], ◌∷◌, ◌++◌, length, drop, fold, map, max, Bool, true, false, not, refl, sym, ap, ◌∙◌, subst, arith, inl, inr, if◌then◌else◌, eqb-true, nat_lt, nat_le}
-use Rattle.std.specs.Prelude.{◌==◌, Option}
+use Rattle.std.proofs.Common.{◌≡◌, ℕ, zero, suc, ◌+◌, ◌-◌, ◌<◌, ◌≤◌, List, [], ◌∷◌, ◌++◌, length, drop, fold, map, max, min, Bool, true, false, not, refl, sym, ap, ◌∙◌, subst, arith, inl, inr, eqb-true, nat_lt, nat_le}
+use Rattle.std.specs.Prelude.{◌==◌, Option, Some}
 use Rattle.std.specs.Option.{unwrap_or}
 use Rattle.std.specs.List.{list_all}
-use Rattle.std.proofs.lemmas.Bool.{cases_eq, cases_order, cases_Bool, eq-eqb, le-ltb, le-leb, and_parts, and_from, or_from}
+use Rattle.std.proofs.lemmas.Bool.{cases_eq, cases_Bool, eq-eqb, le-leb, and_parts, and_from, or_from}
 use Rattle.cg_base.specs.declared.action_id.ActionId.{ActionId}
 use Rattle.cg_base.specs.declared.weighted.Weighted.{Weighted}
 use Rattle.cg_base.specs.Ids.{same_id, names}
+use Rattle.cg_base.specs.Lists.{lesser}
 use Rattle.cg_base.specs.Cuts.{index_in, raise}
 use Rattle.cg_action.specs.declared.action.Action.{Action}
 use Rattle.cg_action.specs.declared.action.Kind.{Kind}
@@ -196,23 +197,15 @@ holds-made h a owed mine next is =
 
 -- ---- the white count
 
-least-below : (n : ℕ) (ns : List ℕ) → fold (λ m k. if nat_lt k m then k else m) n ns ≤ n
+least-below : (n : ℕ) (ns : List ℕ) → unwrap_or (fold lesser (Some n) ns) 0 ≤ n
 least-below n [] = omega arith
-least-below n (k ∷ ns) = elim (cases_Bool (nat_lt k n)) [
-  | inl lt ↦ rw lt (let rest = least-below k ns in let less : k ≤ n = below lt in omega arith)
-  | inr not_lt ↦ rw not_lt (least-below n ns)
-] where
-  below : nat_lt k n ≡ true → k ≤ n
-  below lt = elim (cases_order k n) [
-    | inl same ↦ omega arith
-    | inr apart ↦ elim apart [ inl less ↦ omega arith | inr more ↦ absurd (let clash : true ≡ false = sym lt ∙ le-ltb k n (omega arith) in cc) ]
-  ]
+least-below n (k ∷ ns) = let rest = least-below (min k n) ns in omega arith
 
 line-below : (n : ℕ) (servers : List Server) → NoLineAbove n servers → unwrap_or (least_line servers) 0 ≤ n
 line-below n [] lines = omega arith
 line-below n (s ∷ servers) lines =
     let first : s.line ≤ n = lines.0 in
-    let least : fold (λ m k. if nat_lt k m then k else m) s.line (map (λ (x : Server). x.line) servers) ≤ s.line = least-below s.line (map (λ (x : Server). x.line) servers) in
+    let least : unwrap_or (fold lesser (Some s.line) (map (λ (x : Server). x.line) servers)) 0 ≤ s.line = least-below s.line (map (λ (x : Server). x.line) servers) in
     omega arith
 
 dropped : (n : ℕ) (xs : List Action) → n ≤ length xs → n + length (drop n xs) ≡ length xs

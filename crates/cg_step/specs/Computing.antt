@@ -12,7 +12,7 @@ use Rattle.cg_knowledge.specs.Yellow.{yellow_group, is_green_at_most, is_in_each
 use Rattle.cg_knowledge.specs.Vulnerable.{all_bits, is_long_past, is_overtaken, is_ended_by_one, is_ended_by_all, is_cleared}
 use Rattle.cg_knowledge.specs.Verdict.{records_of, all_cleared, decides, verdict_of}
 use Rattle.cg_plan.specs.Items.{items_of_plan}
-use Rattle.cg_plan.specs.Plan.{least_of, of_remaining, least_greens, farthest, least_reds, reds_of, creators, plan_of}
+use Rattle.cg_plan.specs.Plan.{of_remaining, least_greens, farthest, least_reds, reds_of, creators, plan_of}
 use Rattle.cg_plan.specs.Progress.{next_item, is_done, turn_of}
 use Rattle.cg_client.specs.Marks.{is_unmade, can_be_green, place_green, mark_red, mark_yellow, mark_green}
 use Rattle.cg_client.specs.Requests.{create, create_kept}
@@ -41,7 +41,7 @@ unfolding is_quorum senders most_updated lowest gone remaining newest_index newe
 knowledge_computes = tt
 
 unfoldable pub plan_computes : ⊤
-unfolding items_of_plan least_of of_remaining least_greens farthest least_reds reds_of creators plan_of next_item is_done turn_of
+unfolding items_of_plan of_remaining least_greens farthest least_reds reds_of creators plan_of next_item is_done turn_of
 plan_computes = tt
 
 unfoldable pub client_computes : ⊤

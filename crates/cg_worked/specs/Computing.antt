@@ -22,7 +22,7 @@ use Rattle.cg_knowledge.specs.Vulnerable.{all_bits, is_long_past, is_overtaken, 
 use Rattle.cg_knowledge.specs.Yellow.{yellow_group, is_green_at_most, is_in_each, common_yellow}
 use Rattle.cg_plan.specs.Items.{items_of_plan}
 use Rattle.cg_plan.specs.Place.{items_before}
-use Rattle.cg_plan.specs.Plan.{least_of, of_remaining, least_greens, farthest, least_reds, reds_of, creators, plan_of}
+use Rattle.cg_plan.specs.Plan.{of_remaining, least_greens, farthest, least_reds, reds_of, creators, plan_of}
 use Rattle.cg_plan.specs.Progress.{next_item, is_done, turn_of}
 use Rattle.cg_wire.specs.Bytes.{spelled_summary, spelled_msg}
 use Rattle.cg_wire.specs.Reading.{summary_reading, green_item_reading, red_item_reading, item_of_tag, item_reading, action_msg_reading, state_reading, cpc_reading, msg_of_tag, msg_reading, message_in}
@@ -103,7 +103,7 @@ unfolding senders most_updated lowest gone remaining newest_index newest known_p
 knowledge_computes = tt
 
 unfoldable pub plan_computes : ⊤
-unfolding items_of_plan items_before least_of of_remaining least_greens farthest least_reds reds_of creators plan_of next_item is_done turn_of
+unfolding items_of_plan items_before of_remaining least_greens farthest least_reds reds_of creators plan_of next_item is_done turn_of
 plan_computes = tt
 
 unfoldable pub wire_computes : ⊤

@@ -2,7 +2,7 @@ use Rattle.std.proofs.Common.{◌≡◌, None, map, take}
 use Rattle.std.specs.List.{filter, fold}
 use Rattle.cg_base.specs.Sets.{has}
 use Rattle.cg_base.specs.Cuts.{index_in}
-use Rattle.cg_plan.specs.Plan.{lesser}
+use Rattle.cg_base.specs.Lists.{lesser}
 use Rattle.cg_plan.proofs.making.least_reds.Given as goal
 
 abbrev pub invariant-loop-s : goal.invariant-loop-s

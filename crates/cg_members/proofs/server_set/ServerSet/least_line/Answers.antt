@@ -1,10 +1,9 @@
-use Rattle.std.proofs.Common.{◌≡◌, rules, map}
+use Rattle.std.proofs.Common.{◌≡◌, refl, rules, map}
 use Rattle.cg_base.specs.Iterators.{weights_left}
 use Rattle.cg_members.specs.View.{server_with}
-use Rattle.cg_members.proofs.ServerLemmas.{lesser-all}
 use Rattle.cg_members.proofs.server_set.ServerSet.least_line.Goals as goal
 
 pub loop-member-init : goal.loop-member-init
 loop-member-init c =
     let all : weights_left c.into_iter-member-iterator.result ≡ c.self.inside.weights = search rules in
-    rw (all, ← c.self.view_is) (lesser-all (map (λ s. s.line) (map (server_with c.self.inside.lines) c.self.inside.weights)))
+    rw (all, ← c.self.view_is) refl

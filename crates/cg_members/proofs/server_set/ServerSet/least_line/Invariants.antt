@@ -1,6 +1,7 @@
 use Rattle.std.proofs.Common.{◌≡◌, fold, map}
 use Rattle.cg_base.specs.Iterators.{weights_left}
-use Rattle.cg_members.specs.View.{server_with, lesser}
+use Rattle.cg_base.specs.Lists.{lesser}
+use Rattle.cg_members.specs.View.{server_with}
 use Rattle.cg_members.specs.Servers.{least_line}
 use Rattle.cg_members.proofs.server_set.ServerSet.least_line.Given as goal
 
