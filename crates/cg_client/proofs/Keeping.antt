@@ -1,5 +1,5 @@
 -- A mark keeps all that is known within the limits.
-use Rattle.std.specs.Prelude.{◌≡◌, ◌-◌, ◌≤◌, ◌<◌, ◌^◌, drop, ℕ, zero, suc, ◌==◌, nat_le, nat_lt, Bool, true, false, not, ◌&&◌, List, [], ◌∷◌, ◌++◌, find, filter, slice_get, Result, Ok, Err, IfSome, OnOk, OnErr, if◌then◌else◌}
+use Rattle.std.specs.Prelude.{◌≡◌, ◌-◌, ◌≤◌, ◌<◌, ◌^◌, drop, ℕ, zero, suc, ◌==◌, nat_le, nat_lt, Bool, true, false, not, ◌&&◌, List, [], ◌∷◌, ◌++◌, find, filter, slice_get, Option, Some, None, Result, Ok, Err, IfSome, MatchOption, OnOk, OnErr, if◌then◌else◌}
 use Rattle.std.proofs.Common.{subst, sym, inl, inr, arith}
 use Rattle.std.proofs.lemmas.Bool.{cases_Bool, or_cases, and_parts, eqb-true}
 use Rattle.cg_base.specs.declared.action_id.ActionId.{ActionId}
@@ -156,6 +156,31 @@ pub renamed-kept : (q : QueueView) (ids : List ActionId) → AreKept q → AreRe
 renamed-kept q ids kept reds =
     record { greens = kept.greens; reds = kept.reds; green_cut = kept.green_cut; red_cut = kept.red_cut; yellow = reds_named q ids kept.reds reds }
 
+found_in : (P : Action → Type 0) (test : Action → Bool) (xs : List Action) → Each P xs → IfSome (find test xs) P
+found_in P test [] all = tt
+found_in P test (x ∷ xs) all = elim (cases_Bool (test x)) [
+  | inl yes' ↦ rw yes' all.0
+  | inr no' ↦ rw no' (found_in P test xs all.1)
+]
+
+pub found : (q : QueueView) (id : ActionId) → AreKept q → IfSome (action_of q id) IsAction
+found q id kept = found_in IsAction (λ a. same_id a.id id) (q.greens ++ q.reds) (Each-append IsAction q.greens q.reds kept.greens kept.reds)
+
+-- it has that name
+pub found-named : (q : QueueView) (id : ActionId) → IfSome (action_of q id) (λ a. a.id ≡ id)
+found-named q id = go (q.greens ++ q.reds) where
+  same : (x y : ActionId) → same_id x y ≡ true → x ≡ y
+  same x y e =
+      let parts = and_parts (x.creator == y.creator) (x.index == y.index) e in
+      λ i. record { creator = eqb-true x.creator y.creator parts.0 i; index = eqb-true x.index y.index parts.1 i }
+
+  go : (xs : List Action) → IfSome (find (λ a. same_id a.id id) xs) (λ a. a.id ≡ id)
+  go [] = tt
+  go (x ∷ xs) = elim (cases_Bool (same_id x.id id)) [
+    | inl here ↦ rw here (same x.id id here)
+    | inr other ↦ rw other (go xs)
+  ]
+
 -- and so is what a call leaves
 answer_keeps : (m : Marking) (old new : QueueView) (r : Result Mark QueueFault) → AreKept old → Keeps m → Answers m old new r → AreKept new
 answer_keeps m old new (Ok mark) kept keeps e = subst Keeps e keeps
@@ -171,6 +196,14 @@ after_yellow old new a r kept here e = answer_keeps (marked_yellow old a) old ne
 pub after_green : (old new : QueueView) (at : ℕ) (a : Action) (r : Result Mark QueueFault) → AreKept old → IsAction a → Answers (marked_green old at a) old new r → AreKept new
 after_green old new at a r kept here e = answer_keeps (marked_green old at a) old new r kept (green_keeps old at a kept here) e
 
+pub after_turn : {E : Type 0} (old new : QueueView) (id : ActionId) (r : Result (Unit {0}) E) → AreKept old
+    → OnOk r (MatchOption (action_of old id) (new ≡ old) (λ a. new ≡ placed_green old a)) → OnErr r (new ≡ old) → AreKept new
+after_turn old new id (Ok u) kept turned same = turned-kept (action_of old id) (found old id kept) turned where
+  turned-kept : (o : Option Action) → IfSome o IsAction → MatchOption o (new ≡ old) (λ a. new ≡ placed_green old a) → AreKept new
+  turned-kept None here e = subst AreKept (sym e) kept
+  turned-kept (Some a) here e = subst AreKept (sym e) (placed_green-kept old a kept here)
+after_turn old new id (Err fault) kept turned same = subst AreKept (sym same) kept
+
 pub after_names : {E : Type 0} (old new : QueueView) (ids : List ActionId) (r : Result (Unit {0}) E)
     → AreKept old → AreReds old ids → OnOk r (new ≡ record old { yellow = ids }) → OnErr r (new ≡ old) → AreKept new
 after_names old new ids (Ok u) kept reds e same = subst AreKept (sym e) (renamed-kept old ids kept reds)
@@ -184,13 +217,3 @@ Each-get P (x ∷ xs) (suc i) all = Each-get P xs i all.1
 pub kept-at : (greens : List Action) (at : ℕ) → Each IsAction greens → IfSome (at_place greens at) IsAction
 kept-at greens zero all = tt
 kept-at greens (suc n) all = Each-get IsAction greens n all
-
-found_in : (P : Action → Type 0) (test : Action → Bool) (xs : List Action) → Each P xs → IfSome (find test xs) P
-found_in P test [] all = tt
-found_in P test (x ∷ xs) all = elim (cases_Bool (test x)) [
-  | inl yes' ↦ rw yes' all.0
-  | inr no' ↦ rw no' (found_in P test xs all.1)
-]
-
-pub found : (q : QueueView) (id : ActionId) → AreKept q → IfSome (action_of q id) IsAction
-found q id kept = found_in IsAction (λ a. same_id a.id id) (q.greens ++ q.reds) (Each-append IsAction q.greens q.reds kept.greens kept.reds)

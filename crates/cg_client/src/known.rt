@@ -1,5 +1,5 @@
 //! The actions that are known, each within the limits of an action.
-ghost use Rattle.std.specs.Prelude.{◌≡◌, ◌≤◌, ◌<◌, ◌^◌, ◌-◌, suc, filter, not, IfOk, IfSome, IsSome, OnOk, OnErr};
+ghost use Rattle.std.specs.Prelude.{◌≡◌, ◌≤◌, ◌<◌, ◌^◌, ◌-◌, suc, filter, not, IfOk, IfSome, IsSome, MatchOption, OnOk, OnErr};
 ghost use Rattle.std.specs.Option.{option_copied};
 ghost use Rattle.cg_base.specs.Cuts.{index_in};
 ghost use Rattle.cg_base.specs.Ids.{names};
@@ -7,7 +7,7 @@ ghost use Rattle.cg_base.specs.Lists.{at_place};
 ghost use Rattle.cg_action.specs.Limits.{IsAction};
 ghost use Rattle.cg_records.specs.Limits.{Each, IsIndex, IsName, IsSmallCut};
 ghost use Rattle.cg_client.specs.Kept.{AreKept};
-ghost use Rattle.cg_queue.specs.Queue.{Answers, AreReds, resumed, marked_red, marked_yellow, marked_green, discarded, green_count, action_of, names_of};
+ghost use Rattle.cg_queue.specs.Queue.{Answers, AreReds, resumed, marked_red, marked_yellow, marked_green, placed_green, discarded, green_count, action_of, names_of};
 
 use cg_action::{Action, ActionList};
 use cg_base::{ActionId, Cut, IdList, IdRuns, NoMemory};
@@ -67,6 +67,14 @@ impl Known {
         self.queue.mark_green(at, a)
     }
 
+    pub(crate) fn turn_green(&mut self, id: ActionId) -> Result<(), NoMemory>
+        requires few { green_count self.old < 2 ^ 62 }
+        requires next { id.index ≡ suc (index_in self.old.green_cut id.creator) }
+        ensures { OnOk result (MatchOption (action_of self.old id) (self.new ≡ self.old) (λ a. self.new ≡ placed_green self.old a)) }
+    {
+        self.queue.turn_green(id)
+    }
+
     pub(crate) fn set_yellow(&mut self, list: &IdList) -> Result<(), NoMemory>
         requires { AreReds self.old list.now }
         ensures { OnOk result (self.new ≡ record self.old { yellow = list.now }) }
@@ -121,6 +129,7 @@ impl Known {
     pub(crate) fn get(&self, id: ActionId) -> Option<&Action>
         ensures value { option_copied result ≡ action_of self.now id }
         ensures action { IfSome (action_of self.now id) IsAction }
+        ensures name { IfSome (action_of self.now id) (λ a. a.id ≡ id) }
     {
         self.queue.get(id)
     }

@@ -71,6 +71,7 @@ impl Core {
     pub fn get(&self, id: ActionId) -> Option<&Action>
         ensures value { option_copied result ≡ action_of self.now.queue id }
         ensures action { IfSome (action_of self.now.queue id) IsAction }
+        ensures name { IfSome (action_of self.now.queue id) (λ a. a.id ≡ id) }
     {
         self.queue.get(id)
     }

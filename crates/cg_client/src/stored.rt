@@ -1,10 +1,10 @@
 //! What a store rebuilds and changes: a replica from the parts of a checkpoint, and each part of a change.
-ghost use Rattle.std.specs.Prelude.{◌≡◌, ◌≤◌, ◌<◌, ◌^◌, ◌++◌, ◌∷◌, ◌↔◌, [], suc, false, IsTrue, OnOk, IfOk};
+ghost use Rattle.std.specs.Prelude.{◌≡◌, ◌≤◌, ◌<◌, ◌^◌, ◌++◌, ◌∷◌, ◌↔◌, [], suc, false, IsTrue, MatchOption, OnOk, IfOk};
 ghost use Rattle.cg_base.specs.Cuts.{index_in};
 ghost use Rattle.cg_action.specs.Limits.{IsAction};
 ghost use Rattle.cg_db.specs.Limits.{AreEntries};
 ghost use Rattle.cg_records.specs.Limits.{Each, IsIndex, IsNumber, IsStable};
-ghost use Rattle.cg_queue.specs.Queue.{resumed, placed_red, placed_green, green_count};
+ghost use Rattle.cg_queue.specs.Queue.{resumed, placed_red, placed_green, green_count, action_of};
 ghost use Rattle.cg_client.specs.Marks.{after_first, with_green};
 ghost use Rattle.cg_client.specs.Replica.{created, yellow_of};
 ghost use Rattle.cg_client.specs.Whitening.{IsLineGreen, with_white};
@@ -20,7 +20,7 @@ use crate::standing::{Standing, is_number};
 use crate::telling::LONG;
 use crate::waiting::Waiting;
 use cg_action::Action;
-use cg_base::{Cut, NoMemory, ReplicaId, Row};
+use cg_base::{ActionId, Cut, NoMemory, ReplicaId, Row};
 use cg_db::Db;
 use cg_members::Members;
 use cg_records::{Primary, Stable, Vulnerable, Yellow};
@@ -87,22 +87,25 @@ impl Core {
         put_red(&mut self.queue, a)
     }
 
-    /// An action becomes green at the next place, the next green one of its creator; no reply is given.
-    pub fn turn_green(&mut self, a: Action) -> Result<(), NoMemory>
-        requires action { IsAction a }
-        requires next { a.id.index ≡ suc (index_in self.old.queue.green_cut a.id.creator) }
-        ensures { OnOk result (self.new ≡ with_green self.old a) }
+    /// The action of a name becomes green at the next place, if it is known: it is the next green one of its creator. No reply
+    /// is given, and the action isn't copied.
+    pub fn turn_green(&mut self, id: ActionId) -> Result<(), NoMemory>
+        requires { id.index ≡ suc (index_in self.old.queue.green_cut id.creator) }
+        ensures { OnOk result (MatchOption (action_of self.old.queue id) (self.new ≡ self.old) (λ a. self.new ≡ with_green self.old a)) }
     {
         let count = self.queue.green_count();
         if count >= MOST {
             return Err(NoMemory);
         }
-        let id = name_of(&a);
-        let _ = self.db.apply(&a)?;
+        let Some(a) = self.queue.get(id) else {
+            return Ok(());
+        };
+        let _ = self.db.apply(a)?;
+        self.members.note_green(count + 1, a);
         drop_owed(&mut self.owed, &id);
         drop_own(&mut self.own, &id);
-        self.members.note_green(count + 1, &a);
-        put_green(&mut self.queue, count + 1, a)
+        self.queue.turn_green(id)?;
+        Ok(())
     }
 
     /// The action is one more of the replica's own, which wasn't delivered yet; no reply is owed.

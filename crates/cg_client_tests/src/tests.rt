@@ -181,6 +181,7 @@ over 1:1 -> no";
 const STORED: &str = "stored -> 5 5 [] [] [] | [] []
 put 1:7 -> no
 put 1:6 -> 5 6 [] [] [] | [] []
+turn 2:1 -> 5 6 [] [] [] | [] []
 know 2:2 -> no
 know 2:1 -> 5 6 [] [2:1] [] | [] []
 know 2:2 -> 5 6 [] [2:1,2:2] [] | [] []
@@ -408,17 +409,17 @@ fn turn(core: &mut Core, word: &str, rest: &str) -> Result<(), Fail> {
     Ok(())
 }
 
-fn is_behind(a: &Action, cut: &Cut) -> bool
-    ensures { IsTrue result → a.now.id.index ≡ suc (index_in cut.now a.now.id.creator) }
+fn is_behind(id: &ActionId, cut: &Cut) -> bool
+    ensures { IsTrue result → id.now.index ≡ suc (index_in cut.now id.now.creator) }
 {
-    let last = cut.get(a.id.creator);
-    last < a.id.index && a.id.index - last == 1
+    let last = cut.get(id.creator);
+    last < id.index && id.index - last == 1
 }
 
 // No is said where the action isn't the next.
 fn put_green(core: &mut Core, name: &str) -> Result<bool, Fail> {
     let a = action(core.alloc(), name)?;
-    let fits = is_behind(&a, &core.green_cut());
+    let fits = is_behind(&a.id, &core.green_cut());
     if fits {
         core.put_green(a)?;
     }
@@ -426,17 +427,17 @@ fn put_green(core: &mut Core, name: &str) -> Result<bool, Fail> {
 }
 
 fn turn_green(core: &mut Core, name: &str) -> Result<bool, Fail> {
-    let a = action(core.alloc(), name)?;
-    let fits = is_behind(&a, &core.green_cut());
+    let id = named(name)?;
+    let fits = is_behind(&id, &core.green_cut());
     if fits {
-        core.turn_green(a)?;
+        core.turn_green(id)?;
     }
     Ok(fits)
 }
 
 fn know(core: &mut Core, name: &str) -> Result<bool, Fail> {
     let a = action(core.alloc(), name)?;
-    let fits = is_behind(&a, &core.red_cut());
+    let fits = is_behind(&a.id, &core.red_cut());
     if fits {
         core.know(a)?;
     }

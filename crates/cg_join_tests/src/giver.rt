@@ -5,7 +5,7 @@ ghost use Rattle.cg_base.specs.Cuts.{index_in};
 ghost use Rattle.cg_action.specs.Limits.{IsAction};
 
 use cg_action::{Action, decode};
-use cg_base::{Cut, NoMemory, ReplicaId, WeightSet, put};
+use cg_base::{ActionId, Cut, NoMemory, ReplicaId, WeightSet, put};
 use cg_client::Core;
 use cg_join::SnapshotName;
 use std::alloc::Global;
@@ -36,30 +36,31 @@ fn action(alloc: Global, creator: u8, index: u8) -> Result<Action, Fail>
     Ok(decode(alloc, bytes.as_slice())?)
 }
 
-fn is_behind(a: &Action, cut: &Cut) -> bool
-    ensures { IsTrue result → a.now.id.index ≡ suc (index_in cut.now a.now.id.creator) }
+fn is_behind(id: &ActionId, cut: &Cut) -> bool
+    ensures { IsTrue result → id.now.index ≡ suc (index_in cut.now id.now.creator) }
 {
-    let last = cut.get(a.id.creator);
-    last < a.id.index && a.id.index - last == 1
-}
-
-fn put_green(core: &mut Core, a: Action) -> Result<(), Fail>
-    requires { IsAction a }
-{
-    if is_behind(&a, &core.green_cut()) {
-        return Ok(core.turn_green(a)?);
-    }
-    drop(a);
-    Err("not the next")?
+    let last = cut.get(id.creator);
+    last < id.index && id.index - last == 1
 }
 
 fn put_red(core: &mut Core, a: Action) -> Result<(), Fail>
     requires { IsAction a }
 {
-    if is_behind(&a, &core.red_cut()) {
+    if is_behind(&a.id, &core.red_cut()) {
         return Ok(core.know(a)?);
     }
     drop(a);
+    Err("not the next")?
+}
+
+fn put_green(core: &mut Core, a: Action) -> Result<(), Fail>
+    requires { IsAction a }
+{
+    let id = a.id;
+    put_red(core, a)?;
+    if is_behind(&id, &core.green_cut()) {
+        return Ok(core.turn_green(id)?);
+    }
     Err("not the next")?
 }
 

@@ -10,7 +10,7 @@ use Rattle.cg_base.specs.Cuts.{index_in}
 use Rattle.cg_action.specs.declared.action.Action.{Action}
 use Rattle.cg_queue.specs.declared.red.Red.{Red}
 use Rattle.cg_queue.specs.Queue.{action_of, names_of}
-use Rattle.cg_queue.specs.Body.{Parts, seen, Run, Follows, places_of, actions_in, reds_from, all_reds, IsSound, lane_of}
+use Rattle.cg_queue.specs.Body.{Parts, seen, Run, Follows, positions_of, actions_in, reds_from, all_reds, IsSound, lane_of}
 use Rattle.cg_base.specs.IdLaws.{same_id-false, same_id-true}
 use Rattle.cg_queue.proofs.RedLemmas.{is_named, names-all}
 use Rattle.cg_queue.proofs.Soundness.{low_of, runs_of, has_lane}
@@ -54,14 +54,14 @@ Follows-le c from last (a ∷ greens) follows = elim (cases_eq a.id.creator c) [
   | inr apart ↦ Follows-le c from last greens (rw (ne_eqb a.id.creator c apart) at follows)
 ]
 
-pub Follows-count : (c place from last : ℕ) (greens : List Action) → Follows c from last greens → from + length (places_of c place greens) ≡ suc last
-Follows-count c place from last [] follows = omega arith
-Follows-count c place from last (a ∷ greens) follows = elim (cases_eq a.id.creator c) [
+pub Follows-count : (c slot from last : ℕ) (greens : List Action) → Follows c from last greens → from + length (positions_of c slot greens) ≡ suc last
+Follows-count c slot from last [] follows = omega arith
+Follows-count c slot from last (a ∷ greens) follows = elim (cases_eq a.id.creator c) [
   | inl same ↦
       let here = rw (eq-eqb a.id.creator c same) at follows in
-      let more = Follows-count c (suc place) (suc from) last greens here.1 in
+      let more = Follows-count c (suc slot) (suc from) last greens here.1 in
       rw (eq-eqb a.id.creator c same) (omega arith)
-  | inr apart ↦ rw (ne_eqb a.id.creator c apart) (Follows-count c (suc place) from last greens (rw (ne_eqb a.id.creator c apart) at follows))
+  | inr apart ↦ rw (ne_eqb a.id.creator c apart) (Follows-count c (suc slot) from last greens (rw (ne_eqb a.id.creator c apart) at follows))
 ]
 
 greens-none : (id : ActionId) (c from last : ℕ) (greens : List Action) → Follows c from last greens → id.creator ≡ c → (id.index < from) ⊎ (last < id.index) → named id greens ≡ None
@@ -83,46 +83,46 @@ greens-none id c from last (a ∷ greens) follows creator outside = elim (cases_
 ]
 
 -- where a green stands among those that begin at a place
-pub record StandsAt (id : ActionId) (greens : List Action) (place spot : ℕ) : Type 0 where
-  pub behind : place ≤ spot
-  pub found : named id greens ≡ slice_get greens (spot - place)
+pub record StandsAt (id : ActionId) (greens : List Action) (slot spot : ℕ) : Type 0 where
+  pub behind : slot ≤ spot
+  pub found : named id greens ≡ slice_get greens (spot - slot)
 
 same_some : (x y : ℕ) → Some x ≡ Some y → x ≡ y
 same_some x y e = cc
 
-stands-later : (id : ActionId) (a : Action) (greens : List Action) (place spot : ℕ) → StandsAt id greens (suc place) spot → (a.id.creator ≢ id.creator) ⊎ (a.id.index ≢ id.index) → StandsAt id (a ∷ greens) place spot
-stands-later id a greens place spot rest apart =
+stands-later : (id : ActionId) (a : Action) (greens : List Action) (slot spot : ℕ) → StandsAt id greens (suc slot) spot → (a.id.creator ≢ id.creator) ⊎ (a.id.index ≢ id.index) → StandsAt id (a ∷ greens) slot spot
+stands-later id a greens slot spot rest apart =
     let le = rest.behind in
-    let next : spot - place ≡ suc (spot - suc place) = omega arith in
+    let next : spot - slot ≡ suc (spot - suc slot) = omega arith in
     record { behind = omega arith; found = named-skips id a greens apart ∙ rest.found ∙ ap (slice_get (a ∷ greens)) (sym next) }
 
-stands-here : (id : ActionId) (a : Action) (greens : List Action) (place spot : ℕ) → Some place ≡ Some spot → a.id.creator ≡ id.creator → a.id.index ≡ id.index → StandsAt id (a ∷ greens) place spot
-stands-here id a greens place spot is_first creators indexes =
-    let here : place ≡ spot = same_some place spot is_first in
-    let none : spot - place ≡ 0 = omega arith in
+stands-here : (id : ActionId) (a : Action) (greens : List Action) (slot spot : ℕ) → Some slot ≡ Some spot → a.id.creator ≡ id.creator → a.id.index ≡ id.index → StandsAt id (a ∷ greens) slot spot
+stands-here id a greens slot spot is_first creators indexes =
+    let here : slot ≡ spot = same_some slot spot is_first in
+    let none : spot - slot ≡ 0 = omega arith in
     record { behind = omega arith; found = named-first id a greens creators indexes ∙ ap (slice_get (a ∷ greens)) (sym none) }
 
 nothing-there : (spot : ℕ) → None ≡ Some spot → ⊥
 nothing-there spot e = cc
 
 -- the own one is at the place, or further back
-stands-own : (id : ActionId) (c place from : ℕ) (a : Action) (greens : List Action) (i spot : ℕ) → id.creator ≡ c → id.index ≡ from + i → a.id.creator ≡ c → a.id.index ≡ from
-    → slice_get (place ∷ places_of c (suc place) greens) i ≡ Some spot → ((j : ℕ) → id.index ≡ suc from + j → slice_get (places_of c (suc place) greens) j ≡ Some spot → StandsAt id greens (suc place) spot)
-    → StandsAt id (a ∷ greens) place spot
-stands-own id c place from a greens zero spot creator index same own there rest = stands-here id a greens place spot there (same ∙ sym creator) (omega arith)
-stands-own id c place from a greens (suc j) spot creator index same own there rest = stands-later id a greens place spot (rest j (omega arith) there) (inr (λ e. omega arith))
+stands-own : (id : ActionId) (c slot from : ℕ) (a : Action) (greens : List Action) (i spot : ℕ) → id.creator ≡ c → id.index ≡ from + i → a.id.creator ≡ c → a.id.index ≡ from
+    → slice_get (slot ∷ positions_of c (suc slot) greens) i ≡ Some spot → ((j : ℕ) → id.index ≡ suc from + j → slice_get (positions_of c (suc slot) greens) j ≡ Some spot → StandsAt id greens (suc slot) spot)
+    → StandsAt id (a ∷ greens) slot spot
+stands-own id c slot from a greens zero spot creator index same own there rest = stands-here id a greens slot spot there (same ∙ sym creator) (omega arith)
+stands-own id c slot from a greens (suc j) spot creator index same own there rest = stands-later id a greens slot spot (rest j (omega arith) there) (inr (λ e. omega arith))
 
-pub greens-found : (id : ActionId) (c place from last : ℕ) (greens : List Action) (i spot : ℕ) → Follows c from last greens → id.creator ≡ c → id.index ≡ from + i
-    → slice_get (places_of c place greens) i ≡ Some spot → StandsAt id greens place spot
-greens-found id c place from last [] i spot follows creator index there = absurd (nothing-there spot there)
-greens-found id c place from last (a ∷ greens) i spot follows creator index there = elim (cases_eq a.id.creator c) [
+pub greens-found : (id : ActionId) (c slot from last : ℕ) (greens : List Action) (i spot : ℕ) → Follows c from last greens → id.creator ≡ c → id.index ≡ from + i
+    → slice_get (positions_of c slot greens) i ≡ Some spot → StandsAt id greens slot spot
+greens-found id c slot from last [] i spot follows creator index there = absurd (nothing-there spot there)
+greens-found id c slot from last (a ∷ greens) i spot follows creator index there = elim (cases_eq a.id.creator c) [
   | inl same ↦
       let here = rw (eq-eqb a.id.creator c same) at follows in
       let spots = rw (eq-eqb a.id.creator c same) at there in
-      stands-own id c place from a greens i spot creator index same here.0 spots (λ j at_later later. greens-found id c (suc place) (suc from) last greens j spot here.1 creator at_later later)
+      stands-own id c slot from a greens i spot creator index same here.0 spots (λ j at_later later. greens-found id c (suc slot) (suc from) last greens j spot here.1 creator at_later later)
   | inr apart ↦
-      let rest = greens-found id c (suc place) from last greens i spot (rw (ne_eqb a.id.creator c apart) at follows) creator index (rw (ne_eqb a.id.creator c apart) at there) in
-      stands-later id a greens place spot rest (inl (λ e. apart (e ∙ creator)))
+      let rest = greens-found id c (suc slot) from last greens i spot (rw (ne_eqb a.id.creator c apart) at follows) creator index (rw (ne_eqb a.id.creator c apart) at there) in
+      stands-later id a greens slot spot rest (inl (λ e. apart (e ∙ creator)))
 ]
 
 -- ---- reds
@@ -156,11 +156,11 @@ module _ (lanes : ℕ → List Red) (low : ℕ → ℕ) (runs : (k : ℕ) → k 
       run-none id (suc first) (low first) (lanes first) (reds_from lanes count (suc first)) (runs first (omega arith)) (outside first (omega arith) (omega arith))
       ∙ reds-none count (suc first) (omega arith) (λ k le lt. outside k (omega arith) lt)
 
-  reds-found : (count first place i : ℕ) → first + count ≤ 32 → first ≤ place → place < first + count → id.creator ≡ suc place → id.index ≡ low place + i
-      → named id (reds_from lanes count first) ≡ option_map (λ r. r.action) (slice_get (lanes place) i)
+  reds-found : (count first slot i : ℕ) → first + count ≤ 32 → first ≤ slot → slot < first + count → id.creator ≡ suc slot → id.index ≡ low slot + i
+      → named id (reds_from lanes count first) ≡ option_map (λ r. r.action) (slice_get (lanes slot) i)
   unfolding reds_from
-  reds-found zero first place i within le lt creator index = absurd (omega arith)
-  reds-found (suc count) first place i within le lt creator index = elim (cases_eq first place) [
+  reds-found zero first slot i within le lt creator index = absurd (omega arith)
+  reds-found (suc count) first slot i within le lt creator index = elim (cases_eq first slot) [
     | inl same ↦
         let at_first : id.index ≡ low first + i = rw (← same) at index in
         run-found id (suc first) (low first) (lanes first) (reds_from lanes count (suc first)) i (runs first (omega arith)) (creator ∙ ap suc (sym same)) at_first
@@ -168,7 +168,7 @@ module _ (lanes : ℕ → List Red) (low : ℕ → ℕ) (runs : (k : ℕ) → k 
         ∙ ap (λ k. option_map (λ r. r.action) (slice_get (lanes k) i)) same
     | inr apart ↦
         run-none id (suc first) (low first) (lanes first) (reds_from lanes count (suc first)) (runs first (omega arith)) (inl (λ e. apart (omega (arith, e, creator))))
-        ∙ reds-found count (suc first) place i (omega arith) (omega arith) (omega arith) creator index
+        ∙ reds-found count (suc first) slot i (omega arith) (omega arith) (omega arith) creator index
   ]
 
 -- ---- both
@@ -197,13 +197,13 @@ module _ (b : Parts) (id : ActionId) (sound : IsSound b) (is_id : IsId id.creato
   ])
 
   -- so many of the creator's greens are kept
-  pub kept-count : (sound.lanes (lane_of id) ((has_lane id is_id).within)).first + length (b.places (lane_of id)) ≡ suc green_index
+  pub kept-count : (sound.lanes (lane_of id) ((has_lane id is_id).within)).first + length (b.positions (lane_of id)) ≡ suc green_index
   kept-count =
       let own = has_lane id is_id in
       let lane = sound.lanes (lane_of id) own.within in
-      ap (λ xs. lane.first + length xs) lane.places ∙ Follows-count (suc (lane_of id)) (suc b.white) lane.first (index_in b.green_cut (suc (lane_of id))) b.greens lane.greens ∙ ap suc green_there
+      ap (λ xs. lane.first + length xs) lane.positions ∙ Follows-count (suc (lane_of id)) (suc b.white) lane.first (index_in b.green_cut (suc (lane_of id))) b.greens lane.greens ∙ ap suc green_there
 
-  pub found-none : id.index ≤ green_index → length (b.places (lane_of id)) ≤ green_index - id.index → action_of (seen b) id ≡ None
+  pub found-none : id.index ≤ green_index → length (b.positions (lane_of id)) ≤ green_index - id.index → action_of (seen b) id ≡ None
   found-none le short =
       let own = has_lane id is_id in
       let lane = sound.lanes (lane_of id) own.within in
@@ -211,14 +211,14 @@ module _ (b : Parts) (id : ActionId) (sound : IsSound b) (is_id : IsId id.creato
       named-before id b.greens (all_reds b.reds) (no_red le)
       ∙ greens-none id (suc (lane_of id)) lane.first (index_in b.green_cut (suc (lane_of id))) b.greens lane.greens (sym own.creator) (inl (omega arith))
 
-  pub found-green : (i spot : ℕ) → id.index ≤ green_index → i + suc (green_index - id.index) ≡ length (b.places (lane_of id)) → slice_get (b.places (lane_of id)) i ≡ Some spot
+  pub found-green : (i spot : ℕ) → id.index ≤ green_index → i + suc (green_index - id.index) ≡ length (b.positions (lane_of id)) → slice_get (b.positions (lane_of id)) i ≡ Some spot
       → (suc b.white ≤ spot) × (action_of (seen b) id ≡ slice_get b.greens (spot - suc b.white))
   found-green i spot le at_place there =
       let own = has_lane id is_id in
       let lane = sound.lanes (lane_of id) own.within in
       let count = kept-count in
       let stands = greens-found id (suc (lane_of id)) (suc b.white) lane.first (index_in b.green_cut (suc (lane_of id))) b.greens i spot lane.greens (sym own.creator) (omega arith)
-      (ap (λ xs. slice_get xs i) (sym lane.places) ∙ there) in
+      (ap (λ xs. slice_get xs i) (sym lane.positions) ∙ there) in
       (stands.behind, named-before id b.greens (all_reds b.reds) (no_red le) ∙ stands.found)
 
 -- ---- whether a name is one of a red
@@ -232,7 +232,7 @@ module _ (b : Parts) (id : ActionId) (sound : IsSound b) (is_id : IsId id.creato
       let found = is_named b.reds (low_of b) (runs_of b sound) id there in
       let creator = found.creator in
       let above = found.above in
-      let green : index_in b.green_cut (suc found.place) ≡ index_in b.green_cut id.creator = ap (index_in b.green_cut) (sym creator) in
+      let green : index_in b.green_cut (suc found.slot) ≡ index_in b.green_cut id.creator = ap (index_in b.green_cut) (sym creator) in
       omega arith)
 
   pub red-test : (i : ℕ) → id.index ≡ suc (index_in b.green_cut id.creator) + i → nat_lt i (length (b.reds (lane_of id))) ≡ names (names_of (all_reds b.reds)) id
@@ -244,7 +244,7 @@ module _ (b : Parts) (id : ActionId) (sound : IsSound b) (is_id : IsId id.creato
         | inr le ↦ le-ltb i (length (b.reds (lane_of id))) le ∙ sym (false_from_ne_true (names (names_of (all_reds b.reds)) id) (λ there.
             let found = is_named b.reds (low_of b) (runs_of b sound) id there in
             let creator = found.creator in
-            let row : found.place ≡ lane_of id = omega arith in
+            let row : found.slot ≡ lane_of id = omega arith in
             let below : id.index < low_of b (lane_of id) + length (b.reds (lane_of id)) = subst (λ k. id.index < low_of b k + length (b.reds k)) row found.below in
             omega arith))
       ]

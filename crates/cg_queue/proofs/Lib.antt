@@ -6,6 +6,7 @@ pub mod RedLemmas
 pub mod FindLemmas
 pub mod Soundness
 pub mod Renaming
+mod Turning
 mod Places
 pub mod ShownReds
 mod PlainReds

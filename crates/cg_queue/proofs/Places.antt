@@ -21,34 +21,34 @@ length-actions : (reds : List Red) → length (actions_in reds) ≡ length reds
 length-actions reds = length-map reds (λ r. r.action)
 
 -- the red is in this row
-pub place-here : (lanes : ℕ → List Red) (place i : ℕ) → place < 32 → i < length (lanes place) → slice_get (reds_from lanes (32 - place) place) i ≡ slice_get (actions_in (lanes place)) i
-place-here lanes place i lt here =
-    ap (λ xs. slice_get xs i) (reds-step lanes place lt)
-    ∙ slice_get-front (actions_in (lanes place)) (reds_from lanes (32 - suc place) (suc place)) i (omega (arith, here, length-actions (lanes place)))
+pub slot-here : (lanes : ℕ → List Red) (slot i : ℕ) → slot < 32 → i < length (lanes slot) → slice_get (reds_from lanes (32 - slot) slot) i ≡ slice_get (actions_in (lanes slot)) i
+slot-here lanes slot i lt here =
+    ap (λ xs. slice_get xs i) (reds-step lanes slot lt)
+    ∙ slice_get-front (actions_in (lanes slot)) (reds_from lanes (32 - suc slot) (suc slot)) i (omega (arith, here, length-actions (lanes slot)))
 
 -- it is in a later one
-pub place-later : (lanes : ℕ → List Red) (place i : ℕ) → place < 32 → length (lanes place) ≤ i
-    → slice_get (reds_from lanes (32 - (place + 1)) (place + 1)) (i - length (lanes place)) ≡ slice_get (reds_from lanes (32 - place) place) i
-place-later lanes place i lt later =
-    let next : place + 1 ≡ suc place = omega arith in
-    let same : length (actions_in (lanes place)) ≡ length (lanes place) = length-actions (lanes place) in
-    ap (λ n. slice_get (reds_from lanes (32 - n) n) (i - length (lanes place))) next
-    ∙ ap (λ n. slice_get (reds_from lanes (32 - suc place) (suc place)) (i - n)) (sym same)
-    ∙ sym (slice_get-behind (actions_in (lanes place)) (reds_from lanes (32 - suc place) (suc place)) i (omega (arith, later, same)))
-    ∙ ap (λ xs. slice_get xs i) (sym (reds-step lanes place lt))
+pub slot-later : (lanes : ℕ → List Red) (slot i : ℕ) → slot < 32 → length (lanes slot) ≤ i
+    → slice_get (reds_from lanes (32 - (slot + 1)) (slot + 1)) (i - length (lanes slot)) ≡ slice_get (reds_from lanes (32 - slot) slot) i
+slot-later lanes slot i lt later =
+    let next : slot + 1 ≡ suc slot = omega arith in
+    let same : length (actions_in (lanes slot)) ≡ length (lanes slot) = length-actions (lanes slot) in
+    ap (λ n. slice_get (reds_from lanes (32 - n) n) (i - length (lanes slot))) next
+    ∙ ap (λ n. slice_get (reds_from lanes (32 - suc slot) (suc slot)) (i - n)) (sym same)
+    ∙ sym (slice_get-behind (actions_in (lanes slot)) (reds_from lanes (32 - suc slot) (suc slot)) i (omega (arith, later, same)))
+    ∙ ap (λ xs. slice_get xs i) (sym (reds-step lanes slot lt))
 
 -- there is none
-pub place-nowhere : (lanes : ℕ → List Red) (place i : ℕ) → 32 ≤ place → slice_get (reds_from lanes (32 - place) place) i ≡ None
-place-nowhere lanes place i le = ap (λ xs. slice_get xs i) (reds-end lanes place le)
+pub slot-nowhere : (lanes : ℕ → List Red) (slot i : ℕ) → 32 ≤ slot → slice_get (reds_from lanes (32 - slot) slot) i ≡ None
+slot-nowhere lanes slot i le = ap (λ xs. slice_get xs i) (reds-end lanes slot le)
 
 -- the number of reds from a row on
-pub count-more : (lanes : ℕ → List Red) (place : ℕ) → place < 32 → length (reds_from lanes (32 - place) place) ≡ length (lanes place) + length (reds_from lanes (32 - (place + 1)) (place + 1))
-count-more lanes place lt =
-    let next : suc place ≡ place + 1 = omega arith in
-    ap (λ xs. length xs) (reds-step lanes place lt)
-    ∙ length-append (actions_in (lanes place)) (reds_from lanes (32 - suc place) (suc place))
-    ∙ ap (λ n. n + length (reds_from lanes (32 - suc place) (suc place))) (length-actions (lanes place))
-    ∙ ap (λ n. length (lanes place) + length (reds_from lanes (32 - n) n)) next
+pub count-more : (lanes : ℕ → List Red) (slot : ℕ) → slot < 32 → length (reds_from lanes (32 - slot) slot) ≡ length (lanes slot) + length (reds_from lanes (32 - (slot + 1)) (slot + 1))
+count-more lanes slot lt =
+    let next : suc slot ≡ slot + 1 = omega arith in
+    ap (λ xs. length xs) (reds-step lanes slot lt)
+    ∙ length-append (actions_in (lanes slot)) (reds_from lanes (32 - suc slot) (suc slot))
+    ∙ ap (λ n. n + length (reds_from lanes (32 - suc slot) (suc slot))) (length-actions (lanes slot))
+    ∙ ap (λ n. length (lanes slot) + length (reds_from lanes (32 - n) n)) next
 
-pub count-end : (lanes : ℕ → List Red) (place : ℕ) → 32 ≤ place → length (reds_from lanes (32 - place) place) ≡ 0
-count-end lanes place le = ap (λ (xs : List Action). length xs) (reds-end lanes place le)
+pub count-end : (lanes : ℕ → List Red) (slot : ℕ) → 32 ≤ slot → length (reds_from lanes (32 - slot) slot) ≡ 0
+count-end lanes slot le = ap (λ (xs : List Action). length xs) (reds-end lanes slot le)

@@ -39,16 +39,16 @@ run-names creator from (r ∷ reds) run =
     ∙ ap (λ (ids : List ActionId). record { creator = creator; index = from } ∷ ids) (run-names creator (suc from) reds run.2)
 
 -- they are those between the two cuts
-pub lane-names : (b : Parts) (place low high : ℕ) → IsLane b place → low ≡ index_in b.green_cut (suc place) → high ≡ index_in b.red_cut (suc place) → b.yellow ≡ []
-    → names_above low high (suc place) ≡ plain (seen b).yellow (names_of (actions_in (b.reds place)))
-lane-names b place low high lane is_low is_high none =
+pub lane-names : (b : Parts) (slot low high : ℕ) → IsLane b slot → low ≡ index_in b.green_cut (suc slot) → high ≡ index_in b.red_cut (suc slot) → b.yellow ≡ []
+    → names_above low high (suc slot) ≡ plain (seen b).yellow (names_of (actions_in (b.reds slot)))
+lane-names b slot low high lane is_low is_high none =
     let last = lane.last in
-    let count : high - low ≡ length (b.reds place) = omega arith in
-    ap (λ n. map (λ k. record { creator = suc place; index = k }) (count_up (suc low) n)) count
-    ∙ ap (λ n. map (λ k. record { creator = suc place; index = k }) (count_up (suc n) (length (b.reds place)))) is_low
-    ∙ sym (run-names (suc place) (suc (index_in b.green_cut (suc place))) (b.reds place) lane.reds)
-    ∙ sym (plain-all (names_of (actions_in (b.reds place))))
-    ∙ ap (λ yellow. plain (seen (record b { yellow = yellow })).yellow (names_of (actions_in (b.reds place)))) (sym none)
+    let count : high - low ≡ length (b.reds slot) = omega arith in
+    ap (λ n. map (λ k. record { creator = suc slot; index = k }) (count_up (suc low) n)) count
+    ∙ ap (λ n. map (λ k. record { creator = suc slot; index = k }) (count_up (suc n) (length (b.reds slot)))) is_low
+    ∙ sym (run-names (suc slot) (suc (index_in b.green_cut (suc slot))) (b.reds slot) lane.reds)
+    ∙ sym (plain-all (names_of (actions_in (b.reds slot))))
+    ∙ ap (λ yellow. plain (seen (record b { yellow = yellow })).yellow (names_of (actions_in (b.reds slot)))) (sym none)
 
 -- ---- some are
 
@@ -65,43 +65,43 @@ plain-next yellow creator from (r ∷ reds) zero id run flags lt c index =
     ∙ ap (λ x. unless r.is_yellow x ++ plain yellow (names_of (actions_in reds))) (sym own)
 plain-next yellow creator from (r ∷ reds) (suc i) id run flags lt c index = plain-next yellow creator (suc from) reds i id run.2 flags.1 (omega arith) c (omega arith)
 
-module _ (b : Parts) (place low high : ℕ) (lane : IsLane b place) (is_low : low ≡ index_in b.green_cut (suc place)) (is_high : high ≡ index_in b.red_cut (suc place)) where
-  flags-seen : Flagged (seen b).yellow (b.reds place)
-  flags-seen = Flagged-above b.green_cut b.yellow (suc place) (suc (index_in b.green_cut (suc place))) (b.reds place) (omega arith) lane.reds lane.flags
+module _ (b : Parts) (slot low high : ℕ) (lane : IsLane b slot) (is_low : low ≡ index_in b.green_cut (suc slot)) (is_high : high ≡ index_in b.red_cut (suc slot)) where
+  flags-seen : Flagged (seen b).yellow (b.reds slot)
+  flags-seen = Flagged-above b.green_cut b.yellow (suc slot) (suc (index_in b.green_cut (suc slot))) (b.reds slot) (omega arith) lane.reds lane.flags
 
   -- one name more is listed, or passed over
-  pub plain-listed : (index i : ℕ) (id : ActionId) (before now : List ActionId) → low ≤ index → index < high → i ≡ index - low → id.creator ≡ suc place → id.index ≡ index + 1
-      → now ≡ before ++ unless (flag_of (slice_get (b.reds place) i)) id
-      → now ++ plain (seen b).yellow (names_of (actions_in (drop (index + 1 - low) (b.reds place)))) ≡ before ++ plain (seen b).yellow (names_of (actions_in (drop (index - low) (b.reds place))))
+  pub plain-listed : (index i : ℕ) (id : ActionId) (before now : List ActionId) → low ≤ index → index < high → i ≡ index - low → id.creator ≡ suc slot → id.index ≡ index + 1
+      → now ≡ before ++ unless (flag_of (slice_get (b.reds slot) i)) id
+      → now ++ plain (seen b).yellow (names_of (actions_in (drop (index + 1 - low) (b.reds slot)))) ≡ before ++ plain (seen b).yellow (names_of (actions_in (drop (index - low) (b.reds slot))))
   plain-listed index i id before now le lt at creator is_index put =
       let last = lane.last in
       let yellow = (seen b).yellow in
-      let within : i < length (b.reds place) = omega arith in
-      let number : id.index ≡ suc (index_in b.green_cut (suc place)) + i = omega arith in
+      let within : i < length (b.reds slot) = omega arith in
+      let number : id.index ≡ suc (index_in b.green_cut (suc slot)) + i = omega arith in
       let next : index + 1 - low ≡ suc i = omega arith in
-      let rest = plain yellow (names_of (actions_in (drop (suc i) (b.reds place)))) in
-      ap (λ n. now ++ plain yellow (names_of (actions_in (drop n (b.reds place))))) next
+      let rest = plain yellow (names_of (actions_in (drop (suc i) (b.reds slot)))) in
+      ap (λ n. now ++ plain yellow (names_of (actions_in (drop n (b.reds slot))))) next
       ∙ ap (λ ids. ids ++ rest) put
-      ∙ append_assoc before (unless (flag_of (slice_get (b.reds place) i)) id) rest
-      ∙ ap (λ ids. before ++ ids) (sym (plain-next yellow (suc place) (suc (index_in b.green_cut (suc place))) (b.reds place) i id lane.reds flags-seen within creator number))
-      ∙ ap (λ n. before ++ plain yellow (names_of (actions_in (drop n (b.reds place))))) at
+      ∙ append_assoc before (unless (flag_of (slice_get (b.reds slot) i)) id) rest
+      ∙ ap (λ ids. before ++ ids) (sym (plain-next yellow (suc slot) (suc (index_in b.green_cut (suc slot))) (b.reds slot) i id lane.reds flags-seen within creator number))
+      ∙ ap (λ n. before ++ plain yellow (names_of (actions_in (drop n (b.reds slot))))) at
 
-  pub plain-begins : plain (seen b).yellow (names_of (actions_in (drop (low - low) (b.reds place)))) ≡ plain (seen b).yellow (names_of (actions_in (b.reds place)))
-  plain-begins = let none : low - low ≡ 0 = omega arith in ap (λ n. plain (seen b).yellow (names_of (actions_in (drop n (b.reds place))))) none
+  pub plain-begins : plain (seen b).yellow (names_of (actions_in (drop (low - low) (b.reds slot)))) ≡ plain (seen b).yellow (names_of (actions_in (b.reds slot)))
+  plain-begins = let none : low - low ≡ 0 = omega arith in ap (λ n. plain (seen b).yellow (names_of (actions_in (drop n (b.reds slot))))) none
 
-  pub plain-ends : (index : ℕ) → high ≤ index → plain (seen b).yellow (names_of (actions_in (drop (index - low) (b.reds place)))) ≡ []
+  pub plain-ends : (index : ℕ) → high ≤ index → plain (seen b).yellow (names_of (actions_in (drop (index - low) (b.reds slot)))) ≡ []
   plain-ends index le =
       let last = lane.last in
-      let behind : length (b.reds place) ≤ index - low = omega arith in
-      ap (λ (reds : List Red). plain (seen b).yellow (names_of (actions_in reds))) (drop-end (b.reds place) (index - low) behind)
+      let behind : length (b.reds slot) ≤ index - low = omega arith in
+      ap (λ (reds : List Red). plain (seen b).yellow (names_of (actions_in reds))) (drop-end (b.reds slot) (index - low) behind)
 
 -- ---- all rows
 
-pub plain-step : (yellow : List ActionId) (lanes : ℕ → List Red) (place : ℕ) → place < 32
-    → plain yellow (names_of (reds_from lanes (32 - place) place)) ≡ plain yellow (names_of (actions_in (lanes place))) ++ plain yellow (names_of (reds_from lanes (32 - suc place) (suc place)))
-plain-step yellow lanes place lt =
+pub plain-step : (yellow : List ActionId) (lanes : ℕ → List Red) (slot : ℕ) → slot < 32
+    → plain yellow (names_of (reds_from lanes (32 - slot) slot)) ≡ plain yellow (names_of (actions_in (lanes slot))) ++ plain yellow (names_of (reds_from lanes (32 - suc slot) (suc slot)))
+plain-step yellow lanes slot lt =
     let name : Action → ActionId = λ a. a.id in
-    let rest = reds_from lanes (32 - suc place) (suc place) in
-    ap (λ xs. plain yellow (names_of xs)) (reds-step lanes place lt)
-    ∙ ap (plain yellow) (map-append name (actions_in (lanes place)) rest)
-    ∙ filter-join (λ id. not (names yellow id)) (names_of (actions_in (lanes place))) (names_of rest)
+    let rest = reds_from lanes (32 - suc slot) (suc slot) in
+    ap (λ xs. plain yellow (names_of xs)) (reds-step lanes slot lt)
+    ∙ ap (plain yellow) (map-append name (actions_in (lanes slot)) rest)
+    ∙ filter-join (λ id. not (names yellow id)) (names_of (actions_in (lanes slot))) (names_of rest)

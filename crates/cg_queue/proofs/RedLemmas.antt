@@ -60,19 +60,19 @@ module _ (lanes : ℕ → List Red) (low : ℕ → ℕ) (runs : (k : ℕ) → k 
   with_red-front (suc count) first a within le =
       with_red-row (lanes first) (reds_from lanes count (suc first)) a (suc first) (low first) (runs first (omega arith)) (omega arith) (with_red-front count (suc first) a (omega arith) (omega arith))
 
-  reds_from-added : (count first place : ℕ) (r : Red) → first + count ≤ 32 → first ≤ place → place < first + count → r.action.id.creator ≡ suc place
-      → r.action.id.index ≡ low place + length (lanes place)
-      → reds_from (with_lane lanes place (lanes place ++ r ∷ [])) count first ≡ with_red (reds_from lanes count first) r.action
+  reds_from-added : (count first slot : ℕ) (r : Red) → first + count ≤ 32 → first ≤ slot → slot < first + count → r.action.id.creator ≡ suc slot
+      → r.action.id.index ≡ low slot + length (lanes slot)
+      → reds_from (with_lane lanes slot (lanes slot ++ r ∷ [])) count first ≡ with_red (reds_from lanes count first) r.action
   unfolding reds_from
-  reds_from-added zero first place r within le lt creator index = absurd (omega arith)
-  reds_from-added (suc count) first place r within le lt creator index = elim (cases_eq first place) [
+  reds_from-added zero first slot r within le lt creator index = absurd (omega arith)
+  reds_from-added (suc count) first slot r within le lt creator index = elim (cases_eq first slot) [
     | inl same ↦
         let row = lanes first in
-        let new = with_lane lanes place (lanes place ++ r ∷ []) in
+        let new = with_lane lanes slot (lanes slot ++ r ∷ []) in
         let here : actions_in (new first) ≡ actions_in row ++ r.action ∷ [] =
-        ap actions_in (with_lane-same lanes place (lanes place ++ r ∷ []) first same ∙ ap (λ k. lanes k ++ r ∷ []) (sym same)) ∙ map-more (λ x. x.action) row r in
+        ap actions_in (with_lane-same lanes slot (lanes slot ++ r ∷ []) first same ∙ ap (λ k. lanes k ++ r ∷ []) (sym same)) ∙ map-more (λ x. x.action) row r in
         let rest : reds_from new count (suc first) ≡ reds_from lanes count (suc first) =
-        reds_from-other lanes new count (suc first) (λ k above under. ap actions_in (with_lane-other lanes place (lanes place ++ r ∷ []) k (λ e. omega arith))) in
+        reds_from-other lanes new count (suc first) (λ k above under. ap actions_in (with_lane-other lanes slot (lanes slot ++ r ∷ []) k (λ e. omega arith))) in
         let own : r.action.id.index ≡ low first + length row = rw (← same) at index in
         ap (λ xs. xs ++ reds_from new count (suc first)) here
         ∙ append_assoc (actions_in row) (r.action ∷ []) (reds_from new count (suc first))
@@ -80,16 +80,16 @@ module _ (lanes : ℕ → List Red) (low : ℕ → ℕ) (runs : (k : ℕ) → k 
         ∙ ap (λ xs. actions_in row ++ xs) (sym (with_red-front count (suc first) r.action (omega arith) (omega arith)))
         ∙ sym (with_red-behind row (reds_from lanes count (suc first)) r.action (suc first) (low first) (runs first (omega arith)) (inr (ap suc same ∙ sym creator, omega arith)))
     | inr apart ↦
-        let new = with_lane lanes place (lanes place ++ r ∷ []) in
-        ap (λ xs. actions_in xs ++ reds_from new count (suc first)) (with_lane-other lanes place (lanes place ++ r ∷ []) first apart)
-        ∙ ap (λ xs. actions_in (lanes first) ++ xs) (reds_from-added count (suc first) place r (omega arith) (omega arith) (omega arith) creator index)
+        let new = with_lane lanes slot (lanes slot ++ r ∷ []) in
+        ap (λ xs. actions_in xs ++ reds_from new count (suc first)) (with_lane-other lanes slot (lanes slot ++ r ∷ []) first apart)
+        ∙ ap (λ xs. actions_in (lanes first) ++ xs) (reds_from-added count (suc first) slot r (omega arith) (omega arith) (omega arith) creator index)
         ∙ sym (with_red-behind (lanes first) (reds_from lanes count (suc first)) r.action (suc first) (low first) (runs first (omega arith)) (inl (omega arith)))
   ]
 
-  pub all_reds-added : (place : ℕ) (r : Red) → place < 32 → r.action.id.creator ≡ suc place → r.action.id.index ≡ low place + length (lanes place)
-      → all_reds (with_lane lanes place (lanes place ++ r ∷ [])) ≡ with_red (all_reds lanes) r.action
+  pub all_reds-added : (slot : ℕ) (r : Red) → slot < 32 → r.action.id.creator ≡ suc slot → r.action.id.index ≡ low slot + length (lanes slot)
+      → all_reds (with_lane lanes slot (lanes slot ++ r ∷ [])) ≡ with_red (all_reds lanes) r.action
   unfolding all_reds
-  all_reds-added place r lt creator index = reds_from-added 32 0 place r (omega arith) (omega arith) (omega arith) creator index
+  all_reds-added slot r lt creator index = reds_from-added 32 0 slot r (omega arith) (omega arith) (omega arith) creator index
 
 -- ---- one less
 
@@ -113,41 +113,41 @@ without-first (r ∷ reds) id c from run creator index =
     rw (same_id-true r.action.id id (run.0 ∙ sym creator) (run.1 ∙ sym index)) (without-outside reds id c (suc from) run.2 (inr (omega arith)))
 
 module _ (lanes : ℕ → List Red) (low : ℕ → ℕ) (runs : (k : ℕ) → k < 32 → Run (suc k) (low k) (lanes k)) where
-  reds_from-dropped : (count first place : ℕ) (id : ActionId) → first + count ≤ 32 → id.creator ≡ suc place → id.index ≡ low place
-      → reds_from (with_lane lanes place (drop 1 (lanes place))) count first ≡ without_action (reds_from lanes count first) id
+  reds_from-dropped : (count first slot : ℕ) (id : ActionId) → first + count ≤ 32 → id.creator ≡ suc slot → id.index ≡ low slot
+      → reds_from (with_lane lanes slot (drop 1 (lanes slot))) count first ≡ without_action (reds_from lanes count first) id
   unfolding reds_from
-  reds_from-dropped zero first place id within creator index = refl
-  reds_from-dropped (suc count) first place id within creator index =
-      let new = with_lane lanes place (drop 1 (lanes place)) in
-      let rest = reds_from-dropped count (suc first) place id (omega arith) creator index in
+  reds_from-dropped zero first slot id within creator index = refl
+  reds_from-dropped (suc count) first slot id within creator index =
+      let new = with_lane lanes slot (drop 1 (lanes slot)) in
+      let rest = reds_from-dropped count (suc first) slot id (omega arith) creator index in
       let whole = filter-join (λ a. not (same_id a.id id)) (actions_in (lanes first)) (reds_from lanes count (suc first)) in
-      elim (cases_eq first place) [
+      elim (cases_eq first slot) [
         | inl same ↦
             let at_place : id.index ≡ low first = rw (← same) at index in
-            ap (λ xs. actions_in xs ++ reds_from new count (suc first)) (with_lane-same lanes place (drop 1 (lanes place)) first same ∙ ap (λ k. drop 1 (lanes k)) (sym same))
+            ap (λ xs. actions_in xs ++ reds_from new count (suc first)) (with_lane-same lanes slot (drop 1 (lanes slot)) first same ∙ ap (λ k. drop 1 (lanes k)) (sym same))
             ∙ ap (λ xs. xs ++ reds_from new count (suc first)) (sym (without-first (lanes first) id (suc first) (low first) (runs first (omega arith)) (creator ∙ ap suc (sym same)) at_place))
             ∙ ap (λ xs. without_action (actions_in (lanes first)) id ++ xs) rest
             ∙ sym whole
         | inr apart ↦
-            ap (λ xs. actions_in xs ++ reds_from new count (suc first)) (with_lane-other lanes place (drop 1 (lanes place)) first apart)
+            ap (λ xs. actions_in xs ++ reds_from new count (suc first)) (with_lane-other lanes slot (drop 1 (lanes slot)) first apart)
             ∙ ap (λ xs. xs ++ reds_from new count (suc first)) (sym (without-outside (lanes first) id (suc first) (low first) (runs first (omega arith)) (inl (λ e. apart (omega arith)))))
             ∙ ap (λ xs. without_action (actions_in (lanes first)) id ++ xs) rest
             ∙ sym whole
       ]
 
-  pub all_reds-dropped : (place : ℕ) (id : ActionId) → id.creator ≡ suc place → id.index ≡ low place → all_reds (with_lane lanes place (drop 1 (lanes place))) ≡ without_action (all_reds lanes) id
+  pub all_reds-dropped : (slot : ℕ) (id : ActionId) → id.creator ≡ suc slot → id.index ≡ low slot → all_reds (with_lane lanes slot (drop 1 (lanes slot))) ≡ without_action (all_reds lanes) id
   unfolding all_reds
-  all_reds-dropped place id creator index = reds_from-dropped 32 0 place id (omega arith) creator index
+  all_reds-dropped slot id creator index = reds_from-dropped 32 0 slot id (omega arith) creator index
 
 -- ---- a name of one of them
 
 -- it is the name at a place of a creator's row
 pub record IsNamed (lanes : ℕ → List Red) (low : ℕ → ℕ) (id : ActionId) : Type 0 where
-  pub place : ℕ
-  pub within : place < 32
-  pub creator : id.creator ≡ suc place
-  pub above : low place ≤ id.index
-  pub below : id.index < low place + length (lanes place)
+  pub slot : ℕ
+  pub within : slot < 32
+  pub creator : id.creator ≡ suc slot
+  pub above : low slot ≤ id.index
+  pub below : id.index < low slot + length (lanes slot)
 
 names-join : (xs ys : List Action) (id : ActionId) → names (names_of (xs ++ ys)) id ≡ true → (names (names_of xs) id ≡ true) ⊎ (names (names_of ys) id ≡ true)
 names-join [] ys id there = inr there
@@ -192,7 +192,7 @@ module _ (lanes : ℕ → List Red) (low : ℕ → ℕ) (runs : (k : ℕ) → k 
   named-from (suc count) first id within there = elim (names-join (actions_in (lanes first)) (reds_from lanes count (suc first)) id there) [
     | inl here ↦
         let named = names-run (lanes first) id (suc first) (low first) (runs first (omega arith)) here in
-        record { place = first; within = omega arith; creator = named.0; above = named.1; below = named.2 }
+        record { slot = first; within = omega arith; creator = named.0; above = named.1; below = named.2 }
     | inr later ↦ named-from count (suc first) id (omega arith) later
   ]
 
@@ -226,20 +226,20 @@ names-right [] ys id there = there
 names-right (x ∷ xs) ys id there = or_second (same_id id x.id) (names (names_of (xs ++ ys)) id) (names-right xs ys id there)
 
 module _ (lanes : ℕ → List Red) (low : ℕ → ℕ) (runs : (k : ℕ) → k < 32 → Run (suc k) (low k) (lanes k)) where
-  names-from : (count first place i : ℕ) (id : ActionId) → first + count ≤ 32 → first ≤ place → place < first + count → id.creator ≡ suc place → id.index ≡ low place + i → i < length (lanes place)
+  names-from : (count first slot i : ℕ) (id : ActionId) → first + count ≤ 32 → first ≤ slot → slot < first + count → id.creator ≡ suc slot → id.index ≡ low slot + i → i < length (lanes slot)
       → names (names_of (reds_from lanes count first)) id ≡ true
   unfolding reds_from
-  names-from zero first place i id within le lt creator index inside = absurd (omega arith)
-  names-from (suc count) first place i id within le lt creator index inside = elim (cases_eq first place) [
+  names-from zero first slot i id within le lt creator index inside = absurd (omega arith)
+  names-from (suc count) first slot i id within le lt creator index inside = elim (cases_eq first slot) [
     | inl same ↦
         let at_first : id.index ≡ low first + i = rw (← same) at index in
         let in_first : i < length (lanes first) = rw (← same) at inside in
         names-left (actions_in (lanes first)) (reds_from lanes count (suc first)) id
         (names-row (lanes first) id (suc first) (low first) i (runs first (omega arith)) (creator ∙ ap suc (sym same)) at_first in_first)
     | inr apart ↦
-        names-right (actions_in (lanes first)) (reds_from lanes count (suc first)) id (names-from count (suc first) place i id (omega arith) (omega arith) (omega arith) creator index inside)
+        names-right (actions_in (lanes first)) (reds_from lanes count (suc first)) id (names-from count (suc first) slot i id (omega arith) (omega arith) (omega arith) creator index inside)
   ]
 
-  pub names-all : (place i : ℕ) (id : ActionId) → place < 32 → id.creator ≡ suc place → id.index ≡ low place + i → i < length (lanes place) → names (names_of (all_reds lanes)) id ≡ true
+  pub names-all : (slot i : ℕ) (id : ActionId) → slot < 32 → id.creator ≡ suc slot → id.index ≡ low slot + i → i < length (lanes slot) → names (names_of (all_reds lanes)) id ≡ true
   unfolding all_reds
-  names-all place i id lt creator index inside = names-from 32 0 place i id (omega arith) (omega arith) (omega arith) creator index inside
+  names-all slot i id lt creator index inside = names-from 32 0 slot i id (omega arith) (omega arith) (omega arith) creator index inside

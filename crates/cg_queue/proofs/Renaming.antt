@@ -97,17 +97,17 @@ module _ (cut : List ActionId) where
       → (k : ℕ) → k < 32 → IsOn (start k) (flag_name cut true lanes id k) (done ++ id ∷ []) k
   on-one start lanes done id named on k lt =
       let now = on k lt in
-      let place = named.place in
+      let slot = named.slot in
       let creator = named.creator in
-      let low : index_in cut id.creator ≡ index_in cut (suc place) = ap (index_in cut) creator in
+      let low : index_in cut id.creator ≡ index_in cut (suc slot) = ap (index_in cut) creator in
       let from = named.above in
       let is_it = is_above-true cut id (omega arith) in
-      let own : lane_of id ≡ place = omega arith in
+      let own : lane_of id ≡ slot = omega arith in
       elim (cases_eq k (lane_of id)) [
         | inl same ↦
             let i = id.index - suc (index_in cut id.creator) in
-            let here : k ≡ place = same ∙ own in
-            let low_here : low_at k ≡ low_at place = ap low_at here in
+            let here : k ≡ slot = same ∙ own in
+            let low_here : low_at k ≡ low_at slot = ap low_at here in
             let inside : id.index < low_at k + length (start k) = rw (← here) at named.below in
             let long : length (lanes k) ≡ length (start k) = same_length (λ r. r.action) (lanes k) (start k) now.like.same in
             rw (flag_row true lanes id k is_it same) (record {
@@ -147,10 +147,10 @@ named-known b (id ∷ list) sound are =
     let named = are.0 in
     let creator = named.creator in
     let within = named.within in
-    let lane = sound.lanes named.place named.within in
+    let lane = sound.lanes named.slot named.within in
     let last = lane.last in
     let below = named.below in
-    let red : index_in b.red_cut id.creator ≡ index_in b.red_cut (suc named.place) = ap (index_in b.red_cut) creator in
+    let red : index_in b.red_cut id.creator ≡ index_in b.red_cut (suc named.slot) = ap (index_in b.red_cut) creator in
     (omega arith, (omega arith, omega arith), named-known b list sound are.1)
 
 module _ (b : Parts) (list : List ActionId) (sound : IsSound b) (are : AreReds (seen b) list) where
@@ -174,7 +174,7 @@ module _ (b : Parts) (list : List ActionId) (sound : IsSound b) (are : AreReds (
     lanes = λ k lt. (let lane = sound.lanes k lt in let row = rows-after k lt in record {
       first = lane.first;
       greens = lane.greens;
-      places = lane.places;
+      positions = lane.positions;
       reds = row.like.run;
       last = ap (λ n. index_in b.green_cut (suc k) + n) (same_length (λ r. r.action) ((renamed b list).reds k) (b.reds k) row.like.same) ∙ lane.last;
       flags = row.flags;
@@ -193,7 +193,7 @@ module _ (b : Parts) (list : List ActionId) (sound : IsSound b) (are : AreReds (
       all_above [] are_named = refl
       all_above (id ∷ ids) are_named =
           let named = are_named.0 in
-          let low : index_in b.green_cut id.creator ≡ index_in b.green_cut (suc named.place) = ap (index_in b.green_cut) named.creator in
+          let low : index_in b.green_cut id.creator ≡ index_in b.green_cut (suc named.slot) = ap (index_in b.green_cut) named.creator in
           let from = named.above in
           rw (is_above-true b.green_cut id (omega arith)) (ap (λ xs. id ∷ xs) (all_above ids are_named.1))
 

@@ -15,22 +15,22 @@ module _ {R X : Type 0} (items : R → List X) where
   lane_at-get (r ∷ rows) zero row lt = refl
   lane_at-get (r ∷ rows) (suc k) row lt = lane_at-get rows k row (omega arith)
 
-  lane_at-set_same : (rows : List R) (place : ℕ) (row : R) → place < length rows → lane_at items (set rows place row) place ≡ items row
-  lane_at-set_same [] place row lt = absurd (omega arith)
+  lane_at-set_same : (rows : List R) (slot : ℕ) (row : R) → slot < length rows → lane_at items (set rows slot row) slot ≡ items row
+  lane_at-set_same [] slot row lt = absurd (omega arith)
   lane_at-set_same (r ∷ rows) zero row lt = refl
-  lane_at-set_same (r ∷ rows) (suc place) row lt = lane_at-set_same rows place row (omega arith)
+  lane_at-set_same (r ∷ rows) (suc slot) row lt = lane_at-set_same rows slot row (omega arith)
 
-  lane_at-set_other : (rows : List R) (place : ℕ) (row : R) (k : ℕ) → k ≢ place → lane_at items (set rows place row) k ≡ lane_at items rows k
-  lane_at-set_other [] place row k apart = refl
+  lane_at-set_other : (rows : List R) (slot : ℕ) (row : R) (k : ℕ) → k ≢ slot → lane_at items (set rows slot row) k ≡ lane_at items rows k
+  lane_at-set_other [] slot row k apart = refl
   lane_at-set_other (r ∷ rows) zero row zero apart = absurd (apart refl)
   lane_at-set_other (r ∷ rows) zero row (suc k) apart = refl
-  lane_at-set_other (r ∷ rows) (suc place) row zero apart = refl
-  lane_at-set_other (r ∷ rows) (suc place) row (suc k) apart = lane_at-set_other rows place row k (λ e. apart (ap suc e))
+  lane_at-set_other (r ∷ rows) (suc slot) row zero apart = refl
+  lane_at-set_other (r ∷ rows) (suc slot) row (suc k) apart = lane_at-set_other rows slot row k (λ e. apart (ap suc e))
 
-  lane_at-set : (rows : List R) (place : ℕ) (row : R) (k : ℕ) → place < length rows → lane_at items (set rows place row) k ≡ with_lane (lane_at items rows) place (items row) k
-  lane_at-set rows place row k lt = elim (cases_eq k place) [
-    | inl same ↦ rw (eq-eqb k place same) (ap (lane_at items (set rows place row)) same ∙ lane_at-set_same rows place row lt)
-    | inr apart ↦ rw (ne_eqb k place apart) (lane_at-set_other rows place row k apart)
+  lane_at-set : (rows : List R) (slot : ℕ) (row : R) (k : ℕ) → slot < length rows → lane_at items (set rows slot row) k ≡ with_lane (lane_at items rows) slot (items row) k
+  lane_at-set rows slot row k lt = elim (cases_eq k slot) [
+    | inl same ↦ rw (eq-eqb k slot same) (ap (lane_at items (set rows slot row)) same ∙ lane_at-set_same rows slot row lt)
+    | inr apart ↦ rw (ne_eqb k slot apart) (lane_at-set_other rows slot row k apart)
   ]
 
   pub lane_at-append : (rows : List R) (row : R) (k : ℕ) → items row ≡ [] → lane_at items (rows ++ row ∷ []) k ≡ lane_at items rows k
@@ -40,16 +40,16 @@ module _ {R X : Type 0} (items : R → List X) where
   lane_at-append (r ∷ rows) row (suc k) none = lane_at-append rows row k none
 
   -- a row that is written, or left
-  pub lanes-set : (rows : List R) (place : ℕ) (row : R) (xs : List X) → place < length rows → items row ≡ xs → lane_at items (set rows place row) ≡ with_lane (lane_at items rows) place xs
-  lanes-set rows place row xs lt is = λ i k. (lane_at-set rows place row k lt ∙ ap (λ ys. with_lane (lane_at items rows) place ys k) is) i
+  pub lanes-set : (rows : List R) (slot : ℕ) (row : R) (xs : List X) → slot < length rows → items row ≡ xs → lane_at items (set rows slot row) ≡ with_lane (lane_at items rows) slot xs
+  lanes-set rows slot row xs lt is = λ i k. (lane_at-set rows slot row k lt ∙ ap (λ ys. with_lane (lane_at items rows) slot ys k) is) i
 
-  pub lanes-left : (rows : List R) (place : ℕ) (xs : List X) → xs ≡ lane_at items rows place → lane_at items rows ≡ with_lane (lane_at items rows) place xs
-  lanes-left rows place xs own = λ i k. left k i
+  pub lanes-left : (rows : List R) (slot : ℕ) (xs : List X) → xs ≡ lane_at items rows slot → lane_at items rows ≡ with_lane (lane_at items rows) slot xs
+  lanes-left rows slot xs own = λ i k. left k i
     where
-      left : (k : ℕ) → lane_at items rows k ≡ with_lane (lane_at items rows) place xs k
-      left k = elim (cases_eq k place) [
-        | inl same ↦ rw (eq-eqb k place same) (ap (lane_at items rows) same ∙ sym own)
-        | inr apart ↦ rw (ne_eqb k place apart)
+      left : (k : ℕ) → lane_at items rows k ≡ with_lane (lane_at items rows) slot xs k
+      left k = elim (cases_eq k slot) [
+        | inl same ↦ rw (eq-eqb k slot same) (ap (lane_at items rows) same ∙ sym own)
+        | inr apart ↦ rw (ne_eqb k slot apart)
       ]
 
   pub lanes-same : (rows others : List R) → ((k : ℕ) → lane_at items rows k ≡ lane_at items others k) → lane_at items rows ≡ lane_at items others
@@ -66,18 +66,18 @@ marked-behind [] i flag le = refl
 marked-behind (r ∷ reds) zero flag le = absurd (omega arith)
 marked-behind (r ∷ reds) (suc i) flag le = ap (λ xs. r ∷ xs) (marked-behind reds i flag (omega arith))
 
-module _ {X : Type 0} (lanes : ℕ → List X) (place : ℕ) (row : List X) where
-  pub with_lane-same : (k : ℕ) → k ≡ place → with_lane lanes place row k ≡ row
-  with_lane-same k same = rw (eq-eqb k place same)
+module _ {X : Type 0} (lanes : ℕ → List X) (slot : ℕ) (row : List X) where
+  pub with_lane-same : (k : ℕ) → k ≡ slot → with_lane lanes slot row k ≡ row
+  with_lane-same k same = rw (eq-eqb k slot same)
 
-  pub with_lane-other : (k : ℕ) → k ≢ place → with_lane lanes place row k ≡ lanes k
-  with_lane-other k apart = rw (ne_eqb k place apart)
+  pub with_lane-other : (k : ℕ) → k ≢ slot → with_lane lanes slot row k ≡ lanes k
+  with_lane-other k apart = rw (ne_eqb k slot apart)
 
 -- the row that is there already changes nothing
-pub with_lane-own : {X : Type 0} (lanes : ℕ → List X) (place : ℕ) (row : List X) → row ≡ lanes place → (k : ℕ) → with_lane lanes place row k ≡ lanes k
-with_lane-own lanes place row own k = elim (cases_eq k place) [
-  | inl same ↦ with_lane-same lanes place row k same ∙ own ∙ ap lanes (sym same)
-  | inr apart ↦ with_lane-other lanes place row k apart
+pub with_lane-own : {X : Type 0} (lanes : ℕ → List X) (slot : ℕ) (row : List X) → row ≡ lanes slot → (k : ℕ) → with_lane lanes slot row k ≡ lanes k
+with_lane-own lanes slot row own k = elim (cases_eq k slot) [
+  | inl same ↦ with_lane-same lanes slot row k same ∙ own ∙ ap lanes (sym same)
+  | inr apart ↦ with_lane-other lanes slot row k apart
 ]
 
 pub same_lanes : {X : Type 0} (f g : ℕ → List X) → ((k : ℕ) → f k ≡ g k) → f ≡ g
@@ -105,13 +105,13 @@ append-nothing [] = refl
 append-nothing (x ∷ xs) = ap (λ ys. x ∷ ys) (append-nothing xs)
 
 -- the last thing of a row taken away again
-pub lanes-undone : {X : Type 0} (lanes : ℕ → List X) (place : ℕ) (x : X)
-    → with_lane (with_lane lanes place (lanes place ++ x ∷ [])) place (front_of (with_lane lanes place (lanes place ++ x ∷ []) place)) ≡ lanes
-lanes-undone lanes place x = same_lanes _ _ (λ k. elim (cases_eq k place) [
-  | inl same ↦ with_lane-same (with_lane lanes place (lanes place ++ x ∷ [])) place (front_of (with_lane lanes place (lanes place ++ x ∷ []) place)) k same
-      ∙ ap front_of (with_lane-same lanes place (lanes place ++ x ∷ []) place refl) ∙ front_of-append (lanes place) x ∙ ap lanes (sym same)
-  | inr apart ↦ with_lane-other (with_lane lanes place (lanes place ++ x ∷ [])) place (front_of (with_lane lanes place (lanes place ++ x ∷ []) place)) k apart
-      ∙ with_lane-other lanes place (lanes place ++ x ∷ []) k apart
+pub lanes-undone : {X : Type 0} (lanes : ℕ → List X) (slot : ℕ) (x : X)
+    → with_lane (with_lane lanes slot (lanes slot ++ x ∷ [])) slot (front_of (with_lane lanes slot (lanes slot ++ x ∷ []) slot)) ≡ lanes
+lanes-undone lanes slot x = same_lanes _ _ (λ k. elim (cases_eq k slot) [
+  | inl same ↦ with_lane-same (with_lane lanes slot (lanes slot ++ x ∷ [])) slot (front_of (with_lane lanes slot (lanes slot ++ x ∷ []) slot)) k same
+      ∙ ap front_of (with_lane-same lanes slot (lanes slot ++ x ∷ []) slot refl) ∙ front_of-append (lanes slot) x ∙ ap lanes (sym same)
+  | inr apart ↦ with_lane-other (with_lane lanes slot (lanes slot ++ x ∷ [])) slot (front_of (with_lane lanes slot (lanes slot ++ x ∷ []) slot)) k apart
+      ∙ with_lane-other lanes slot (lanes slot ++ x ∷ []) k apart
 ])
 
 -- one more of a list, taken from the front

@@ -4,7 +4,7 @@ use Rattle.std.proofs.lemmas.Bool.{cases_eq, eq-eqb, ne_eqb}
 use Rattle.cg_action.specs.declared.action.Action.{Action}
 use Rattle.cg_queue.specs.declared.red.Red.{Red}
 use Rattle.cg_queue.specs.Lanes.{marked_at}
-use Rattle.cg_queue.specs.Body.{Run, Follows, places_of, actions_in}
+use Rattle.cg_queue.specs.Body.{Run, Follows, positions_of, actions_in}
 
 -- ---- reds
 
@@ -65,21 +65,21 @@ Follows-others c from last (x ∷ greens) a follows other = elim (cases_eq x.id.
       rw (ne_eqb x.id.creator c apart) (Follows-others c from last greens a here other)
 ]
 
-pub places_of-more : (c place : ℕ) (greens : List Action) (a : Action) → a.id.creator ≡ c → places_of c place (greens ++ a ∷ []) ≡ places_of c place greens ++ (place + length greens) ∷ []
-places_of-more c place [] a creator = rw (eq-eqb a.id.creator c creator) (let none : place ≡ place + 0 = omega arith in ap (λ n. n ∷ []) none)
-places_of-more c place (x ∷ greens) a creator =
-    let next : suc place + length greens ≡ place + suc (length greens) = omega arith in
-    let rest = places_of-more c (suc place) greens a creator ∙ ap (λ n. places_of c (suc place) greens ++ n ∷ []) next in
+pub positions_of-more : (c slot : ℕ) (greens : List Action) (a : Action) → a.id.creator ≡ c → positions_of c slot (greens ++ a ∷ []) ≡ positions_of c slot greens ++ (slot + length greens) ∷ []
+positions_of-more c slot [] a creator = rw (eq-eqb a.id.creator c creator) (let none : slot ≡ slot + 0 = omega arith in ap (λ n. n ∷ []) none)
+positions_of-more c slot (x ∷ greens) a creator =
+    let next : suc slot + length greens ≡ slot + suc (length greens) = omega arith in
+    let rest = positions_of-more c (suc slot) greens a creator ∙ ap (λ n. positions_of c (suc slot) greens ++ n ∷ []) next in
     elim (cases_eq x.id.creator c) [
-      | inl same ↦ rw (eq-eqb x.id.creator c same) (ap (λ xs. place ∷ xs) rest)
+      | inl same ↦ rw (eq-eqb x.id.creator c same) (ap (λ xs. slot ∷ xs) rest)
       | inr apart ↦ rw (ne_eqb x.id.creator c apart) rest
     ]
 
-pub places_of-others : (c place : ℕ) (greens : List Action) (a : Action) → a.id.creator ≢ c → places_of c place (greens ++ a ∷ []) ≡ places_of c place greens
-places_of-others c place [] a other = rw (ne_eqb a.id.creator c other)
-places_of-others c place (x ∷ greens) a other =
-    let rest = places_of-others c (suc place) greens a other in
+pub positions_of-others : (c slot : ℕ) (greens : List Action) (a : Action) → a.id.creator ≢ c → positions_of c slot (greens ++ a ∷ []) ≡ positions_of c slot greens
+positions_of-others c slot [] a other = rw (ne_eqb a.id.creator c other)
+positions_of-others c slot (x ∷ greens) a other =
+    let rest = positions_of-others c (suc slot) greens a other in
     elim (cases_eq x.id.creator c) [
-      | inl same ↦ rw (eq-eqb x.id.creator c same) (ap (λ xs. place ∷ xs) rest)
+      | inl same ↦ rw (eq-eqb x.id.creator c same) (ap (λ xs. slot ∷ xs) rest)
       | inr apart ↦ rw (ne_eqb x.id.creator c apart) rest
     ]

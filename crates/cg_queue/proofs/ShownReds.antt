@@ -16,13 +16,13 @@ module _ (b : Parts) (sound : IsSound b) (id : ActionId) where
   between_from_red : names (names_of (all_reds b.reds)) id ≡ true → IsBetween b.green_cut b.red_cut id
   between_from_red there =
       let found = is_named b.reds (low_of b) (runs_of b sound) id there in
-      let within : found.place < 32 = found.within in
-      let creator : id.creator ≡ suc found.place = found.creator in
-      let low : index_in b.green_cut id.creator ≡ index_in b.green_cut (suc found.place) = ap (index_in b.green_cut) creator in
-      let high : index_in b.red_cut id.creator ≡ index_in b.red_cut (suc found.place) = ap (index_in b.red_cut) creator in
-      let above : suc (index_in b.green_cut (suc found.place)) ≤ id.index = found.above in
-      let below : id.index < suc (index_in b.green_cut (suc found.place)) + length (b.reds found.place) = found.below in
-      let last : index_in b.green_cut (suc found.place) + length (b.reds found.place) ≡ index_in b.red_cut (suc found.place) = (sound.lanes found.place within).last in
+      let within : found.slot < 32 = found.within in
+      let creator : id.creator ≡ suc found.slot = found.creator in
+      let low : index_in b.green_cut id.creator ≡ index_in b.green_cut (suc found.slot) = ap (index_in b.green_cut) creator in
+      let high : index_in b.red_cut id.creator ≡ index_in b.red_cut (suc found.slot) = ap (index_in b.red_cut) creator in
+      let above : suc (index_in b.green_cut (suc found.slot)) ≤ id.index = found.above in
+      let below : id.index < suc (index_in b.green_cut (suc found.slot)) + length (b.reds found.slot) = found.below in
+      let last : index_in b.green_cut (suc found.slot) + length (b.reds found.slot) ≡ index_in b.red_cut (suc found.slot) = (sound.lanes found.slot within).last in
       ((omega arith, omega arith), omega arith, omega arith)
 
   red_from_between : IsBetween b.green_cut b.red_cut id → names (names_of (all_reds b.reds)) id ≡ true

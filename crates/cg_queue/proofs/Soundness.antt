@@ -11,11 +11,11 @@ use Rattle.cg_action.specs.declared.action.Action.{Action}
 use Rattle.cg_queue.specs.declared.red.Red.{Red}
 use Rattle.cg_queue.specs.Lanes.{with_lane, marked_at}
 use Rattle.cg_queue.specs.Queue.{with_yellow, placed_red, placed_green, with_red, without_action, discarded, resumed}
-use Rattle.cg_queue.specs.Body.{Parts, seen, all_reds, reds_from, no_parts, BeginsWell, actions_in, is_above, flag_of, Run, Follows, places_of, Flagged, IsLane, IsSound, lane_of, added_red, with_name, flagged, added_green, cleared, dropped, dropped_from}
+use Rattle.cg_queue.specs.Body.{Parts, seen, all_reds, reds_from, no_parts, BeginsWell, actions_in, is_above, flag_of, Run, Follows, positions_of, Flagged, IsLane, IsSound, lane_of, added_red, with_name, flagged, added_green, cleared, dropped, dropped_from}
 use Rattle.cg_queue.specs.MarkLaws.{yellow-added, is_above-true}
 use Rattle.cg_queue.proofs.RowLemmas.{with_lane-same, with_lane-other, same_lanes, length-more, filter-more, filter-twice}
 use Rattle.cg_queue.proofs.CutRises.{raise-same, raise-other, raise-rises, AreKnown-rise, AreKnown-more, AreKnown-filter, names-unknown, names-above, above-raised}
-use Rattle.cg_queue.proofs.RunLemmas.{Run-more, Run-less, Run-marked, length-marked, actions_in-marked, marked-last, length-less, Follows-more, Follows-others, places_of-more, places_of-others}
+use Rattle.cg_queue.proofs.RunLemmas.{Run-more, Run-less, Run-marked, length-marked, actions_in-marked, marked-last, length-less, Follows-more, Follows-others, positions_of-more, positions_of-others}
 use Rattle.cg_queue.proofs.FlagLemmas.{Flagged-others, Flagged-marked, Flagged-append, Flagged-less, Flagged-above}
 use Rattle.cg_queue.proofs.RedLemmas.{all_reds-added, all_reds-dropped, all_reds-same}
 
@@ -44,13 +44,13 @@ module _ (b : Parts) (a : Action) (sound : IsSound b) (is_id : IsId a.id.creator
   red-lane k lt =
       let lane = sound.lanes k lt in
       let own = has_lane a.id is_id in
-      let place = lane_of a.id in
-      let row = b.reds place ++ record { action = a; is_yellow = false } ∷ [] in
-      elim (cases_eq k place) [
+      let slot = lane_of a.id in
+      let row = b.reds slot ++ record { action = a; is_yellow = false } ∷ [] in
+      elim (cases_eq k slot) [
         | inl same ↦
             let is_creator : suc k ≡ a.id.creator = ap suc same ∙ own.creator in
-            let there : with_lane b.reds place row k ≡ b.reds k ++ record { action = a; is_yellow = false } ∷ [] =
-            with_lane-same b.reds place row k same ∙ ap (λ j. b.reds j ++ record { action = a; is_yellow = false } ∷ []) (sym same) in
+            let there : with_lane b.reds slot row k ≡ b.reds k ++ record { action = a; is_yellow = false } ∷ [] =
+            with_lane-same b.reds slot row k same ∙ ap (λ j. b.reds j ++ record { action = a; is_yellow = false } ∷ []) (sym same) in
             let last = lane.last in
             let index : a.id.index ≡ suc (index_in b.red_cut (suc k)) = next ∙ ap (λ c. suc (index_in b.red_cut c)) (sym is_creator) in
             let top : index_in (raise b.red_cut a.id) (suc k) ≡ max (index_in b.red_cut (suc k)) a.id.index = raise-same b.red_cut a.id sound.red (suc k) (sym is_creator) in
@@ -59,18 +59,18 @@ module _ (b : Parts) (a : Action) (sound : IsSound b) (is_id : IsId a.id.creator
             record {
               first = lane.first;
               greens = lane.greens;
-              places = lane.places;
+              positions = lane.positions;
               reds = rw there (Run-more (suc k) (low_of b k) (b.reds k) (record { action = a; is_yellow = false }) lane.reds (sym is_creator) (omega arith));
               last = rw (there, long, top) (omega arith);
               flags = rw there (Flagged-append b.yellow (b.reds k) (record { action = a; is_yellow = false }) lane.flags (sym unknown));
             }
         | inr apart ↦
-            let there : with_lane b.reds place row k ≡ b.reds k = with_lane-other b.reds place row k apart in
+            let there : with_lane b.reds slot row k ≡ b.reds k = with_lane-other b.reds slot row k apart in
             let top : index_in (raise b.red_cut a.id) (suc k) ≡ index_in b.red_cut (suc k) = raise-other b.red_cut a.id sound.red (suc k) (λ e. apart (omega (arith, own.creator, e))) in
             record {
               first = lane.first;
               greens = lane.greens;
-              places = lane.places;
+              positions = lane.positions;
               reds = rw there lane.reds;
               last = rw (there, top) lane.last;
               flags = rw there lane.flags;
@@ -105,14 +105,14 @@ module _ (b : Parts) (a : Action) (sound : IsSound b) (is_id : IsId a.id.creator
 
 -- ---- a red action becomes yellow
 
-module _ (b : Parts) (id : ActionId) (sound : IsSound b) (place i : ℕ) (within : place < 32) (creator : id.creator ≡ suc place) (index : id.index ≡ low_of b place + i) (there : i < length (b.reds place)) where
-  yellow-lane : (k : ℕ) → k < 32 → IsLane (flagged (with_name b id) place i) k
+module _ (b : Parts) (id : ActionId) (sound : IsSound b) (slot i : ℕ) (within : slot < 32) (creator : id.creator ≡ suc slot) (index : id.index ≡ low_of b slot + i) (there : i < length (b.reds slot)) where
+  yellow-lane : (k : ℕ) → k < 32 → IsLane (flagged (with_name b id) slot i) k
   yellow-lane k lt =
       let lane = sound.lanes k lt in
-      elim (cases_eq k place) [
+      elim (cases_eq k slot) [
         | inl same ↦
-            let row : with_lane b.reds place (marked_at (b.reds place) i true) k ≡ marked_at (b.reds k) i true =
-            with_lane-same b.reds place (marked_at (b.reds place) i true) k same ∙ ap (λ j. marked_at (b.reds j) i true) (sym same) in
+            let row : with_lane b.reds slot (marked_at (b.reds slot) i true) k ≡ marked_at (b.reds k) i true =
+            with_lane-same b.reds slot (marked_at (b.reds slot) i true) k same ∙ ap (λ j. marked_at (b.reds j) i true) (sym same) in
             let last = lane.last in
             let long = length-marked (b.reds k) i true in
             let inside : i < length (b.reds k) = rw (← same) at there in
@@ -120,28 +120,28 @@ module _ (b : Parts) (id : ActionId) (sound : IsSound b) (place i : ℕ) (within
             record {
               first = lane.first;
               greens = lane.greens;
-              places = lane.places;
+              positions = lane.positions;
               reds = rw row (Run-marked (suc k) (low_of b k) (b.reds k) i true lane.reds);
               last = rw (row, long) last;
               flags = rw row (Flagged-marked b.yellow id (suc k) (low_of b k) (b.reds k) i lane.reds inside (creator ∙ ap suc (sym same)) at_row lane.flags);
             }
         | inr apart ↦
-            let row : with_lane b.reds place (marked_at (b.reds place) i true) k ≡ b.reds k = with_lane-other b.reds place (marked_at (b.reds place) i true) k apart in
+            let row : with_lane b.reds slot (marked_at (b.reds slot) i true) k ≡ b.reds k = with_lane-other b.reds slot (marked_at (b.reds slot) i true) k apart in
             record {
               first = lane.first;
               greens = lane.greens;
-              places = lane.places;
+              positions = lane.positions;
               reds = rw row lane.reds;
               last = rw row lane.last;
               flags = rw row (Flagged-others b.yellow id (suc k) (low_of b k) (b.reds k) lane.reds (inl (λ e. apart (omega (arith, creator, e)))) lane.flags);
             }
       ]
 
-  pub yellow-sound : IsSound (flagged (with_name b id) place i)
+  pub yellow-sound : IsSound (flagged (with_name b id) slot i)
   yellow-sound =
-      let lane = sound.lanes place within in
+      let lane = sound.lanes slot within in
       let last = lane.last in
-      let red : index_in b.red_cut id.creator ≡ index_in b.red_cut (suc place) = ap (index_in b.red_cut) creator in
+      let red : index_in b.red_cut id.creator ≡ index_in b.red_cut (suc slot) = ap (index_in b.red_cut) creator in
       record {
         green = sound.green;
         red = sound.red;
@@ -150,15 +150,15 @@ module _ (b : Parts) (id : ActionId) (sound : IsSound b) (place i : ℕ) (within
         yellow = AreKnown-more b.red_cut b.yellow id sound.yellow (omega arith) (omega arith, omega arith);
       }
 
-  pub yellow-reds : all_reds ((flagged (with_name b id) place i).reds) ≡ all_reds b.reds
-  yellow-reds = all_reds-same b.reds (with_lane b.reds place (marked_at (b.reds place) i true)) (λ k lt. elim (cases_eq k place) [
-    | inl same ↦ ap actions_in (with_lane-same b.reds place (marked_at (b.reds place) i true) k same) ∙ actions_in-marked (b.reds place) i true ∙ ap (λ j. actions_in (b.reds j)) (sym same)
-    | inr apart ↦ ap actions_in (with_lane-other b.reds place (marked_at (b.reds place) i true) k apart)
+  pub yellow-reds : all_reds ((flagged (with_name b id) slot i).reds) ≡ all_reds b.reds
+  yellow-reds = all_reds-same b.reds (with_lane b.reds slot (marked_at (b.reds slot) i true)) (λ k lt. elim (cases_eq k slot) [
+    | inl same ↦ ap actions_in (with_lane-same b.reds slot (marked_at (b.reds slot) i true) k same) ∙ actions_in-marked (b.reds slot) i true ∙ ap (λ j. actions_in (b.reds j)) (sym same)
+    | inr apart ↦ ap actions_in (with_lane-other b.reds slot (marked_at (b.reds slot) i true) k apart)
   ])
 
   pub yellow-above : is_above b.green_cut id ≡ true
   yellow-above =
-      let green : index_in b.green_cut id.creator ≡ index_in b.green_cut (suc place) = ap (index_in b.green_cut) creator in
+      let green : index_in b.green_cut id.creator ≡ index_in b.green_cut (suc slot) = ap (index_in b.green_cut) creator in
       is_above-true b.green_cut id (omega arith)
 
   pub yellow-names : filter (is_above b.green_cut) (b.yellow ++ id ∷ []) ≡ filter (is_above b.green_cut) b.yellow ++ id ∷ []
@@ -217,22 +217,22 @@ module _ (b : Parts) (a : Action) (sound : IsSound b) (is_id : IsId a.id.creator
 
   both-same : flagged (with_name (added_red b a false) a.id) (lane_of a.id) both-row ≡ added_red (with_name b a.id) a true
   both-same =
-      let place = lane_of a.id in
-      let row = b.reds place ++ record { action = a; is_yellow = false } ∷ [] in
-      let both = b.reds place ++ record { action = a; is_yellow = true } ∷ [] in
-      let marked : marked_at (with_lane b.reds place row place) both-row true ≡ both = ap (λ xs. marked_at xs both-row true) (with_lane-same b.reds place row place refl) ∙ marked-last (b.reds place) a false true in
-      let lanes : with_lane (with_lane b.reds place row) place (marked_at (with_lane b.reds place row place) both-row true) ≡ with_lane b.reds place both =
-      same_lanes _ _ (λ k. elim (cases_eq k place) [
-        | inl same ↦ with_lane-same (with_lane b.reds place row) place (marked_at (with_lane b.reds place row place) both-row true) k same ∙ marked ∙ sym (with_lane-same b.reds place both k same)
-        | inr apart ↦ with_lane-other (with_lane b.reds place row) place (marked_at (with_lane b.reds place row place) both-row true) k apart ∙ with_lane-other b.reds place row k apart ∙ sym (with_lane-other b.reds place both k apart)
+      let slot = lane_of a.id in
+      let row = b.reds slot ++ record { action = a; is_yellow = false } ∷ [] in
+      let both = b.reds slot ++ record { action = a; is_yellow = true } ∷ [] in
+      let marked : marked_at (with_lane b.reds slot row slot) both-row true ≡ both = ap (λ xs. marked_at xs both-row true) (with_lane-same b.reds slot row slot refl) ∙ marked-last (b.reds slot) a false true in
+      let lanes : with_lane (with_lane b.reds slot row) slot (marked_at (with_lane b.reds slot row slot) both-row true) ≡ with_lane b.reds slot both =
+      same_lanes _ _ (λ k. elim (cases_eq k slot) [
+        | inl same ↦ with_lane-same (with_lane b.reds slot row) slot (marked_at (with_lane b.reds slot row slot) both-row true) k same ∙ marked ∙ sym (with_lane-same b.reds slot both k same)
+        | inr apart ↦ with_lane-other (with_lane b.reds slot row) slot (marked_at (with_lane b.reds slot row slot) both-row true) k apart ∙ with_lane-other b.reds slot row k apart ∙ sym (with_lane-other b.reds slot both k apart)
       ]) in
-      λ i. record { white = b.white; greens = b.greens; green_cut = b.green_cut; red_cut = raise b.red_cut a.id; reds = lanes i; places = b.places; yellow = b.yellow ++ a.id ∷ [] }
+      λ i. record { white = b.white; greens = b.greens; green_cut = b.green_cut; red_cut = raise b.red_cut a.id; reds = lanes i; positions = b.positions; yellow = b.yellow ++ a.id ∷ [] }
 
   both-inside : both-row < length ((added_red b a false).reds (lane_of a.id))
   both-inside =
-      let place = lane_of a.id in
-      let row = b.reds place ++ record { action = a; is_yellow = false } ∷ [] in
-      let long : length (with_lane b.reds place row place) ≡ suc both-row = ap length (with_lane-same b.reds place row place refl) ∙ length-more (b.reds place) (record { action = a; is_yellow = false }) in
+      let slot = lane_of a.id in
+      let row = b.reds slot ++ record { action = a; is_yellow = false } ∷ [] in
+      let long : length (with_lane b.reds slot row slot) ≡ suc both-row = ap length (with_lane-same b.reds slot row slot refl) ∙ length-more (b.reds slot) (record { action = a; is_yellow = false }) in
       omega arith
 
   pub both-sound : IsSound (added_red (with_name b a.id) a true)
@@ -267,16 +267,16 @@ module _ (b : Parts) (a : Action) (sound : IsSound b) (is_id : IsId a.id.creator
   green-lane k lt =
       let lane = sound.lanes k lt in
       let own = has_lane a.id is_id in
-      let place = lane_of a.id in
+      let slot = lane_of a.id in
       let last = lane.last in
-      elim (cases_eq k place) [
+      elim (cases_eq k slot) [
         | inl same ↦
             let is_creator : suc k ≡ a.id.creator = ap suc same ∙ own.creator in
-            let row : with_lane b.reds place (drop 1 (b.reds place)) k ≡ drop 1 (b.reds k) =
-            with_lane-same b.reds place (drop 1 (b.reds place)) k same ∙ ap (λ j. drop 1 (b.reds j)) (sym same) in
-            let spots = b.places place ++ suc (b.white + length b.greens) ∷ [] in
-            let where_kept : with_lane b.places place spots k ≡ b.places k ++ suc (b.white + length b.greens) ∷ [] =
-            with_lane-same b.places place spots k same ∙ ap (λ j. b.places j ++ suc (b.white + length b.greens) ∷ []) (sym same) in
+            let row : with_lane b.reds slot (drop 1 (b.reds slot)) k ≡ drop 1 (b.reds k) =
+            with_lane-same b.reds slot (drop 1 (b.reds slot)) k same ∙ ap (λ j. drop 1 (b.reds j)) (sym same) in
+            let spots = b.positions slot ++ suc (b.white + length b.greens) ∷ [] in
+            let where_kept : with_lane b.positions slot spots k ≡ b.positions k ++ suc (b.white + length b.greens) ∷ [] =
+            with_lane-same b.positions slot spots k same ∙ ap (λ j. b.positions j ++ suc (b.white + length b.greens) ∷ []) (sym same) in
             let index : a.id.index ≡ suc (index_in b.green_cut (suc k)) = next ∙ ap (λ c. suc (index_in b.green_cut c)) (sym is_creator) in
             let green_max : index_in (raise b.green_cut a.id) (suc k) ≡ max (index_in b.green_cut (suc k)) a.id.index = raise-same b.green_cut a.id sound.green (suc k) (sym is_creator) in
             let green : index_in (raise b.green_cut a.id) (suc k) ≡ suc (index_in b.green_cut (suc k)) = omega arith in
@@ -286,23 +286,23 @@ module _ (b : Parts) (a : Action) (sound : IsSound b) (is_id : IsId a.id.creator
             record {
               first = lane.first;
               greens = rw green (Follows-more (suc k) lane.first (index_in b.green_cut (suc k)) b.greens a lane.greens (sym is_creator) index);
-              places = where_kept ∙ ap (λ xs. xs ++ suc (b.white + length b.greens) ∷ []) lane.places
-                  ∙ ap (λ n. places_of (suc k) (suc b.white) b.greens ++ n ∷ []) (sym spot) ∙ sym (places_of-more (suc k) (suc b.white) b.greens a (sym is_creator));
+              positions = where_kept ∙ ap (λ xs. xs ++ suc (b.white + length b.greens) ∷ []) lane.positions
+                  ∙ ap (λ n. positions_of (suc k) (suc b.white) b.greens ++ n ∷ []) (sym spot) ∙ sym (positions_of-more (suc k) (suc b.white) b.greens a (sym is_creator));
               reds = rw (row, green) (Run-less (suc k) (low_of b k) (b.reds k) lane.reds);
               last = rw (row, green, red, long) (omega arith);
               flags = rw row (Flagged-less b.yellow (b.reds k) lane.flags);
             }
         | inr apart ↦
             let others : a.id.creator ≢ suc k = λ e. apart (omega (arith, own.creator, e)) in
-            let row : with_lane b.reds place (drop 1 (b.reds place)) k ≡ b.reds k = with_lane-other b.reds place (drop 1 (b.reds place)) k apart in
-            let spots = b.places place ++ suc (b.white + length b.greens) ∷ [] in
-            let where_kept : with_lane b.places place spots k ≡ b.places k = with_lane-other b.places place spots k apart in
+            let row : with_lane b.reds slot (drop 1 (b.reds slot)) k ≡ b.reds k = with_lane-other b.reds slot (drop 1 (b.reds slot)) k apart in
+            let spots = b.positions slot ++ suc (b.white + length b.greens) ∷ [] in
+            let where_kept : with_lane b.positions slot spots k ≡ b.positions k = with_lane-other b.positions slot spots k apart in
             let green : index_in (raise b.green_cut a.id) (suc k) ≡ index_in b.green_cut (suc k) = raise-other b.green_cut a.id sound.green (suc k) others in
             let red : index_in (raise b.red_cut a.id) (suc k) ≡ index_in b.red_cut (suc k) = raise-other b.red_cut a.id sound.red (suc k) others in
             record {
               first = lane.first;
               greens = rw green (Follows-others (suc k) lane.first (index_in b.green_cut (suc k)) b.greens a lane.greens others);
-              places = where_kept ∙ lane.places ∙ sym (places_of-others (suc k) (suc b.white) b.greens a others);
+              positions = where_kept ∙ lane.positions ∙ sym (positions_of-others (suc k) (suc b.white) b.greens a others);
               reds = rw (row, green) lane.reds;
               last = rw (row, green, red) last;
               flags = rw row lane.flags;
@@ -341,7 +341,7 @@ cleared-sound b sound = record {
   lanes = λ k lt. (let lane = sound.lanes k lt in record {
     first = lane.first;
     greens = lane.greens;
-    places = lane.places;
+    positions = lane.positions;
     reds = lane.reds;
     last = lane.last;
     flags = Flagged-above b.green_cut b.yellow (suc k) (low_of b k) (b.reds k) (omega arith) lane.reds lane.flags;
@@ -354,40 +354,40 @@ cleared-seen b = rw (filter-twice (is_above b.green_cut) b.yellow)
 
 -- ---- the first green is discarded
 
-first-places : (c place : ℕ) (a : Action) (rest : List Action) → a.id.creator ≡ c → places_of c place (a ∷ rest) ≡ place ∷ places_of c (suc place) rest
-first-places c place a rest same = rw (eq-eqb a.id.creator c same)
+first-positions : (c slot : ℕ) (a : Action) (rest : List Action) → a.id.creator ≡ c → positions_of c slot (a ∷ rest) ≡ slot ∷ positions_of c (suc slot) rest
+first-positions c slot a rest same = rw (eq-eqb a.id.creator c same)
 
 module _ (b : Parts) (sound : IsSound b) (a : Action) (rest : List Action) (whole : b.greens ≡ a ∷ rest) (is_id : IsId a.id.creator) where
   dropped-lane : (k : ℕ) → k < 32 → IsLane (dropped_from b (a ∷ rest)) k
   dropped-lane k lt =
       let lane = sound.lanes k lt in
       let own = has_lane a.id is_id in
-      let place = lane_of a.id in
+      let slot = lane_of a.id in
       let greens : Follows (suc k) lane.first (index_in b.green_cut (suc k)) (a ∷ rest) = subst (λ gs. Follows (suc k) lane.first (index_in b.green_cut (suc k)) gs) whole lane.greens in
-      let spots : b.places k ≡ places_of (suc k) (suc b.white) (a ∷ rest) = lane.places ∙ ap (places_of (suc k) (suc b.white)) whole in
-      elim (cases_eq k place) [
+      let spots : b.positions k ≡ positions_of (suc k) (suc b.white) (a ∷ rest) = lane.positions ∙ ap (positions_of (suc k) (suc b.white)) whole in
+      elim (cases_eq k slot) [
         | inl same ↦
             let is_creator : a.id.creator ≡ suc k = sym own.creator ∙ ap suc (sym same) in
-            let row : with_lane b.places place (drop 1 (b.places place)) k ≡ drop 1 (b.places k) =
-            with_lane-same b.places place (drop 1 (b.places place)) k same ∙ ap (λ j. drop 1 (b.places j)) (sym same) in
+            let row : with_lane b.positions slot (drop 1 (b.positions slot)) k ≡ drop 1 (b.positions k) =
+            with_lane-same b.positions slot (drop 1 (b.positions slot)) k same ∙ ap (λ j. drop 1 (b.positions j)) (sym same) in
             let here = rw (eq-eqb a.id.creator (suc k) is_creator) at greens in
             record {
               first = suc lane.first;
               greens = here.1;
-              places = row ∙ ap (drop 1) (spots ∙ first-places (suc k) (suc b.white) a rest is_creator);
+              positions = row ∙ ap (drop 1) (spots ∙ first-positions (suc k) (suc b.white) a rest is_creator);
               reds = lane.reds;
               last = lane.last;
               flags = lane.flags;
             }
         | inr apart ↦
             let others : a.id.creator ≢ suc k = λ e. apart (omega (arith, own.creator, e)) in
-            let row : with_lane b.places place (drop 1 (b.places place)) k ≡ b.places k = with_lane-other b.places place (drop 1 (b.places place)) k apart in
+            let row : with_lane b.positions slot (drop 1 (b.positions slot)) k ≡ b.positions k = with_lane-other b.positions slot (drop 1 (b.positions slot)) k apart in
             let here = rw (ne_eqb a.id.creator (suc k) others) at greens in
             let left = rw (ne_eqb a.id.creator (suc k) others) at spots in
             record {
               first = lane.first;
               greens = here;
-              places = row ∙ left;
+              positions = row ∙ left;
               reds = lane.reds;
               last = lane.last;
               flags = lane.flags;
@@ -424,7 +424,7 @@ dropped-seen b some = from_greens b.greens refl some
 
 -- ---- nothing is known
 
-no_reds : (count first : ℕ) → reds_from (λ place. []) count first ≡ []
+no_reds : (count first : ℕ) → reds_from (λ slot. []) count first ≡ []
 unfolding reds_from
 no_reds zero first = refl
 no_reds (suc count) first = no_reds count (suc first)
@@ -441,7 +441,7 @@ no_parts-sound white cut is_cut few = record {
   lanes = λ k lt. record {
     first = suc (index_in cut (suc k));
     greens = refl;
-    places = refl;
+    positions = refl;
     reds = tt;
     last = omega arith;
     flags = tt;
@@ -476,13 +476,13 @@ drop-end [] (suc i) le = refl
 drop-end (x ∷ xs) zero le = absurd (omega arith)
 drop-end (x ∷ xs) (suc i) le = drop-end xs i (omega arith)
 
-pub reds-step : (lanes : ℕ → List Red) (place : ℕ) → place < 32 → reds_from lanes (32 - place) place ≡ actions_in (lanes place) ++ reds_from lanes (32 - suc place) (suc place)
+pub reds-step : (lanes : ℕ → List Red) (slot : ℕ) → slot < 32 → reds_from lanes (32 - slot) slot ≡ actions_in (lanes slot) ++ reds_from lanes (32 - suc slot) (suc slot)
 unfolding reds_from
-reds-step lanes place lt = let one : 32 - place ≡ suc (32 - suc place) = omega arith in ap (λ n. reds_from lanes n place) one
+reds-step lanes slot lt = let one : 32 - slot ≡ suc (32 - suc slot) = omega arith in ap (λ n. reds_from lanes n slot) one
 
-pub reds-end : (lanes : ℕ → List Red) (place : ℕ) → 32 ≤ place → reds_from lanes (32 - place) place ≡ []
+pub reds-end : (lanes : ℕ → List Red) (slot : ℕ) → 32 ≤ slot → reds_from lanes (32 - slot) slot ≡ []
 unfolding reds_from
-reds-end lanes place le = let none : 32 - place ≡ 0 = omega arith in ap (λ n. reds_from lanes n place) none
+reds-end lanes slot le = let none : 32 - slot ≡ 0 = omega arith in ap (λ n. reds_from lanes n slot) none
 
 pub reds-all : (lanes : ℕ → List Red) → reds_from lanes 32 0 ≡ all_reds lanes
 unfolding all_reds

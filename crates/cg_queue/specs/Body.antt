@@ -17,7 +17,7 @@ pub record Parts : Type 0 where
   pub green_cut : List ActionId
   pub red_cut : List ActionId
   pub reds : ℕ → List Red
-  pub places : ℕ → List ℕ
+  pub positions : ℕ → List ℕ
   pub yellow : List ActionId
 
 abbrev pub parts_of : Body → Parts
@@ -28,20 +28,20 @@ parts_of b =
       green_cut = b.green_cut;
       red_cut = b.red_cut;
       reds = rows_of b.reds;
-      places = rows_of b.places;
+      positions = rows_of b.positions;
       yellow = b.yellow.items;
     }
 
 -- no action is known, and those that the cut counts were discarded
 abbrev pub no_parts : ℕ → List ActionId → Parts
-no_parts white cut = record { white = white; greens = []; green_cut = cut; red_cut = cut; reds = λ place. []; places = λ place. []; yellow = [] }
+no_parts white cut = record { white = white; greens = []; green_cut = cut; red_cut = cut; reds = λ slot. []; positions = λ slot. []; yellow = [] }
 
 -- ---- what is seen
 
 abbrev pub actions_in : List Red → List Action
 actions_in reds = map (λ r. r.action) reds
 
--- the actions at so many places from the first on
+-- the actions at so many slots from the first on
 unfoldable pub reds_from : (ℕ → List Red) → ℕ → ℕ → List Action
 reds_from lanes zero first = []
 reds_from lanes (suc count) first = actions_in (lanes first) ++ reds_from lanes count (suc first)
@@ -82,11 +82,11 @@ Follows creator from last [] = from ≡ suc last
 Follows creator from last (a ∷ greens) =
     Either (a.id.creator == creator) ((a.id.index ≡ from) × Follows creator (suc from) last greens) (Follows creator from last greens)
 
--- the places of the creator's actions among those that begin at a place
-abbrev pub places_of : ℕ → ℕ → List Action → List ℕ
-places_of creator place [] = []
-places_of creator place (a ∷ greens) =
-    if a.id.creator == creator then place ∷ places_of creator (suc place) greens else places_of creator (suc place) greens
+-- where the creator's actions stand among those that begin at a position of the order
+abbrev pub positions_of : ℕ → ℕ → List Action → List ℕ
+positions_of creator slot [] = []
+positions_of creator slot (a ∷ greens) =
+    if a.id.creator == creator then slot ∷ positions_of creator (suc slot) greens else positions_of creator (suc slot) greens
 
 -- each flag says whether the action's name is in the list
 abbrev pub Flagged : List ActionId → List Red → Type 0
@@ -108,25 +108,25 @@ abbrev pub AreKnown : List ActionId → List ActionId → Type 0
 AreKnown cut [] = Unit {0}
 AreKnown cut (id ∷ ids) = (id.index ≤ index_in cut id.creator) × IsId id.creator × AreKnown cut ids
 
--- the row at a place is that of the creator whose number is one more
-pub record IsLane (b : Parts) (place : ℕ) : Type 0 where
+-- the row at a slot is that of the creator whose number is one more
+pub record IsLane (b : Parts) (slot : ℕ) : Type 0 where
   pub first : ℕ
-  pub greens : Follows (suc place) first (index_in b.green_cut (suc place)) b.greens
-  pub places : b.places place ≡ places_of (suc place) (suc b.white) b.greens
-  pub reds : Run (suc place) (suc (index_in b.green_cut (suc place))) (b.reds place)
-  pub last : index_in b.green_cut (suc place) + length (b.reds place) ≡ index_in b.red_cut (suc place)
-  pub flags : Flagged b.yellow (b.reds place)
+  pub greens : Follows (suc slot) first (index_in b.green_cut (suc slot)) b.greens
+  pub positions : b.positions slot ≡ positions_of (suc slot) (suc b.white) b.greens
+  pub reds : Run (suc slot) (suc (index_in b.green_cut (suc slot))) (b.reds slot)
+  pub last : index_in b.green_cut (suc slot) + length (b.reds slot) ≡ index_in b.red_cut (suc slot)
+  pub flags : Flagged b.yellow (b.reds slot)
 
 pub record IsSound (b : Parts) : Type 0 where
   pub green : IsCut b.green_cut
   pub red : IsCut b.red_cut
   pub count : b.white + length b.greens ≤ 2 ^ 62
-  pub lanes : (place : ℕ) → place < 32 → IsLane b place
+  pub lanes : (slot : ℕ) → slot < 32 → IsLane b slot
   pub yellow : AreKnown b.red_cut b.yellow
 
 -- ---- steps
 
--- the place of a creator's row
+-- the slot of a creator's row
 abbrev pub lane_of : ActionId → ℕ
 lane_of id = id.creator - 1
 
@@ -141,13 +141,13 @@ abbrev pub with_name : Parts → ActionId → Parts
 with_name b id = record b { yellow = b.yellow ++ id ∷ [] }
 
 abbrev pub flagged : Parts → ℕ → ℕ → Parts
-flagged b place i = record b { reds = with_lane b.reds place (marked_at (b.reds place) i true) }
+flagged b slot i = record b { reds = with_lane b.reds slot (marked_at (b.reds slot) i true) }
 
 abbrev pub added_green : Parts → Action → Parts
 added_green b a =
     record b {
       greens = b.greens ++ a ∷ [];
-      places = with_lane b.places (lane_of a.id) (b.places (lane_of a.id) ++ suc (b.white + length b.greens) ∷ []);
+      positions = with_lane b.positions (lane_of a.id) (b.positions (lane_of a.id) ++ suc (b.white + length b.greens) ∷ []);
       reds = with_lane b.reds (lane_of a.id) (drop 1 (b.reds (lane_of a.id)));
       green_cut = raise b.green_cut a.id;
       red_cut = raise b.red_cut a.id;
@@ -155,9 +155,9 @@ added_green b a =
 
 -- a creator's next action is green, and no more in its row of reds
 abbrev pub settled : Parts → ActionId → ℕ → Parts
-settled b id place =
+settled b id slot =
     record b {
-      reds = with_lane b.reds place (drop 1 (b.reds place));
+      reds = with_lane b.reds slot (drop 1 (b.reds slot));
       green_cut = raise b.green_cut id;
       red_cut = raise b.red_cut id;
     }
@@ -169,7 +169,7 @@ cleared b = record b { yellow = filter (is_above b.green_cut) b.yellow }
 abbrev pub dropped_from : Parts → List Action → Parts
 dropped_from b [] = b
 dropped_from b (a ∷ rest) =
-    record b { white = suc b.white; greens = rest; places = with_lane b.places (lane_of a.id) (drop 1 (b.places (lane_of a.id))) }
+    record b { white = suc b.white; greens = rest; positions = with_lane b.positions (lane_of a.id) (drop 1 (b.positions (lane_of a.id))) }
 
 -- the first of the actions, if there is one, is a replica's
 abbrev pub BeginsWell : List Action → Type 0

@@ -1,22 +1,22 @@
--- Things in a row for each place.
+-- Things in a row for each slot.
 use Rattle.std.specs.Prelude.{ℕ, zero, suc, ◌==◌, Bool, List, [], ◌∷◌, if◌then◌else◌}
 use Rattle.std.specs.VecDeque.{deque_items}
 use Rattle.cg_queue.specs.declared.red.Red.{Red}
 use Rattle.cg_queue.specs.declared.lanes.Lanes.{Lanes}
 
--- what stands in the row of a place, which is empty behind the last row
+-- what stands in the row of a slot, which is empty behind the last row
 abbrev pub lane_at : {R X : Type 0} → (R → List X) → List R → ℕ → List X
 lane_at items [] k = []
 lane_at items (row ∷ rows) zero = items row
 lane_at items (row ∷ rows) (suc k) = lane_at items rows k
 
--- the row of each place
+-- the row of each slot
 abbrev pub rows_of : {T : Type 0} → Lanes T → ℕ → List T
 rows_of lanes = lane_at deque_items lanes.rows.items
 
--- the rows with another one at a place
+-- the rows with another one at a slot
 abbrev pub with_lane : {X : Type 0} → (ℕ → List X) → ℕ → List X → ℕ → List X
-with_lane lanes place row k = if k == place then row else lanes k
+with_lane lanes slot row k = if k == slot then row else lanes k
 
 -- all but the last
 abbrev pub front_of : {X : Type 0} → List X → List X

@@ -1,7 +1,7 @@
 //! How the actions of a queue are kept. `IsSound` in `specs/Body.antt` says what is always so of a body between two calls
 //! of the queue.
 
-ghost use Rattle.std.specs.Prelude.{◌≡◌, ◌+◌, ◌<◌, ◌-◌, ◌^◌, suc, length, fold, IsSome, OnOk, OnErr};
+ghost use Rattle.std.specs.Prelude.{◌≡◌, ◌+◌, ◌<◌, ◌-◌, ◌^◌, suc, length, fold, IsSome, MatchOption, OnOk, OnErr};
 ghost use Rattle.cg_base.specs.Sets.{IsId};
 ghost use Rattle.cg_base.specs.Cuts.{IsCut};
 ghost use Rattle.cg_queue.specs.Lanes.{rows_of};
@@ -26,7 +26,7 @@ pub(crate) struct Body {
     /// Each creator's reds, by index.
     pub(crate) reds: Lanes<Red>,
     /// Where each creator's kept greens stand in the order of all greens, from 1.
-    pub(crate) places: Lanes<u64>,
+    pub(crate) positions: Lanes<u64>,
     /// The yellow names, and some that have become green since.
     pub(crate) yellow: Vec<ActionId>,
     /// How many of the yellow names have become green, less than half of them.
@@ -45,13 +45,13 @@ pub(crate) fn empty_body(alloc: Global, white: u64, cut: Cut) -> Body
         green_cut: cut,
         red_cut: cut,
         reds: Lanes::new(alloc),
-        places: Lanes::new(alloc),
+        positions: Lanes::new(alloc),
         yellow: Vec::new(alloc),
         stale: 0,
     }
 }
 
-/// The place of a creator's rows.
+/// The slot of a creator's rows.
 pub(crate) fn lane_of(id: &ActionId) -> usize
     ensures value { result ≡ lane_of id.now }
     ensures within { result < 32 }
@@ -82,11 +82,11 @@ fn number(n: u64) -> u64
     n
 }
 
-/// The red action at a place is yellow, or there is none.
-pub(crate) fn is_flagged(body: &Body, place: usize, i: usize) -> bool
-    ensures { result ≡ flag_of (slice_get (rows_of body.now.reds place) i) }
+/// The red action at an index of a row is yellow, or there is none.
+pub(crate) fn is_flagged(body: &Body, slot: usize, i: usize) -> bool
+    ensures { result ≡ flag_of (slice_get (rows_of body.now.reds slot) i) }
 {
-    match body.reds.get(place, i) {
+    match body.reds.get(slot, i) {
         Some(red) => red.is_yellow,
         None => true,
     }
@@ -106,12 +106,12 @@ pub(crate) fn add_red(body: &mut Body, a: Action, is_yellow: bool) -> Result<(),
     ensures err { OnErr result (parts_of body.new ≡ parts_of body.old) }
 {
     let id = name_of(&a);
-    let place = lane_of(&id);
+    let slot = lane_of(&id);
     let red = Red {
         action: a,
         is_yellow,
     };
-    body.reds.push(place, red)?;
+    body.reds.push(slot, red)?;
     body.red_cut.raise(id.creator, id.index);
     Ok(())
 }
@@ -135,14 +135,14 @@ pub(crate) fn add_yellow(body: &mut Body, a: Action) -> Result<(), NoMemory>
 pub(crate) fn add_name(
     body: &mut Body,
     id: &ActionId,
-    place: usize,
+    slot: usize,
     i: usize,
 ) -> Result<(), NoMemory>
-    ensures ok { OnOk result (parts_of body.new ≡ flagged (with_name (parts_of body.old) id.now) place i) }
+    ensures ok { OnOk result (parts_of body.new ≡ flagged (with_name (parts_of body.old) id.now) slot i) }
     ensures err { OnErr result (parts_of body.new ≡ parts_of body.old) }
 {
     body.yellow.push(*id)?;
-    body.reds.mark(place, i, true);
+    body.reds.mark(slot, i, true);
     Ok(())
 }
 
@@ -153,16 +153,16 @@ pub(crate) fn add_green(body: &mut Body, a: Action) -> Result<(), NoMemory>
     ensures err { OnErr result (parts_of body.new ≡ parts_of body.old) }
 {
     let id = name_of(&a);
-    let place = lane_of(&id);
+    let slot = lane_of(&id);
     let at = body.white + body.greens.len() as u64 + 1;
-    body.places.push(place, at)?;
+    body.positions.push(slot, at)?;
     match push_green(body, a) {
         Ok(()) => {
-            settle_green(body, &id, place);
+            settle_green(body, &id, slot);
             Ok(())
         }
         Err(fault) => {
-            body.places.drop_last(place);
+            body.positions.drop_last(slot);
             Err(fault)
         }
     }
@@ -177,12 +177,36 @@ fn push_green(body: &mut Body, a: Action) -> Result<(), NoMemory>
 }
 
 // the creator's next action is green, and red no more
-fn settle_green(body: &mut Body, id: &ActionId, place: usize)
-    ensures { parts_of body.new ≡ settled (parts_of body.old) id.now place }
+fn settle_green(body: &mut Body, id: &ActionId, slot: usize)
+    ensures { parts_of body.new ≡ settled (parts_of body.old) id.now slot }
 {
-    body.reds.drop_first(place);
+    body.reds.drop_first(slot);
     body.green_cut.raise(id.creator, id.index);
     body.red_cut.raise(id.creator, id.index);
+}
+
+/// A creator's first red action becomes green, if there is one.
+pub(crate) fn turn_first(body: &mut Body, slot: usize) -> Result<(), NoMemory>
+    requires few { body.old.white + length body.old.greens.items < 2 ^ 62 }
+    requires slot { slot < 32 }
+    ensures ok { OnOk result (MatchOption (slice_get (rows_of body.old.reds slot) 0) (parts_of body.new ≡ parts_of body.old)
+        (λ r. (r.action.id.index < 2 ^ 64) × (lane_of r.action.id ≡ slot → parts_of body.new ≡ added_green (parts_of body.old) r.action))) }
+    ensures err { OnErr result (parts_of body.new ≡ parts_of body.old) }
+{
+    let id = match body.reds.get(slot, 0) {
+        Some(red) => name_of(&red.action),
+        None => return Ok(()),
+    };
+    body.greens.reserve(1)?;
+    let at = body.white + body.greens.len() as u64 + 1;
+    body.positions.push(slot, at)?;
+    let Some(red) = body.reds.take_first(slot) else {
+        unreachable!();
+    };
+    body.greens.push_back_reserved(red.action);
+    body.green_cut.raise(id.creator, id.index);
+    body.red_cut.raise(id.creator, id.index);
+    Ok(())
 }
 
 /// A yellow name has become green: once they are half of the list, all such names leave it.
@@ -212,7 +236,7 @@ pub(crate) fn drop_green(body: &mut Body)
     let Some(action) = body.greens.pop_front() else {
         return;
     };
-    body.places.drop_first(lane_of(&name_of(&action)));
+    body.positions.drop_first(lane_of(&name_of(&action)));
     body.white += 1;
 }
 
@@ -244,7 +268,7 @@ fn flag_one(reds: &mut Lanes<Red>, cut: &Cut, id: &ActionId, is_yellow: bool)
 {
     let green = cut.get(id.creator);
     if green < id.index {
-        let place = lane_of(id);
-        reds.mark(place, (id.index - green - 1) as usize, is_yellow);
+        let slot = lane_of(id);
+        reds.mark(slot, (id.index - green - 1) as usize, is_yellow);
     }
 }

@@ -10,17 +10,17 @@ use cg_base::NoMemory;
 use std::alloc::Global;
 use std::collections::VecDeque;
 
-/// For each place, counted from 0, things in a row.
+/// For each slot, counted from 0, things in a row.
 #[derive(Drop)]
 pub(crate) struct Lanes<T> {
-    // a place behind the last of these has an empty row
+    // a slot behind the last of these has an empty row
     rows: Vec<VecDeque<T>>,
     alloc: Global,
 }
 
 impl<T> Lanes<T> {
     pub(crate) fn new(alloc: Global) -> Lanes<T>
-        ensures { (place : ℕ) → rows_of result place ≡ [] }
+        ensures { (slot : ℕ) → rows_of result slot ≡ [] }
     {
         Lanes {
             rows: Vec::new(alloc),
@@ -28,78 +28,88 @@ impl<T> Lanes<T> {
         }
     }
 
-    pub(crate) fn len(&self, place: usize) -> usize
-        ensures { result ≡ length (rows_of self.now place) }
+    pub(crate) fn len(&self, slot: usize) -> usize
+        ensures { result ≡ length (rows_of self.now slot) }
     {
-        if place < self.rows.len() {
-            self.rows[place].len()
+        if slot < self.rows.len() {
+            self.rows[slot].len()
         } else {
             0
         }
     }
 
-    pub(crate) fn get(&self, place: usize, i: usize) -> Option<&T>
-        ensures { option_copied result ≡ slice_get (rows_of self.now place) i }
+    pub(crate) fn get(&self, slot: usize, i: usize) -> Option<&T>
+        ensures { option_copied result ≡ slice_get (rows_of self.now slot) i }
     {
-        if place < self.rows.len() {
-            item_in(&self.rows[place], i)
+        if slot < self.rows.len() {
+            item_in(&self.rows[slot], i)
         } else {
             None
         }
     }
 
     /// Puts a thing at the end of a row.
-    pub(crate) fn push(&mut self, place: usize, item: T) -> Result<(), NoMemory>
+    pub(crate) fn push(&mut self, slot: usize, item: T) -> Result<(), NoMemory>
     where
         T: Drop,
-        requires { place < 32 }
-        ensures ok { OnOk result (rows_of self.new ≡ with_lane (rows_of self.old) place (rows_of self.old place ++ item ∷ [])) }
+        requires { slot < 32 }
+        ensures ok { OnOk result (rows_of self.new ≡ with_lane (rows_of self.old) slot (rows_of self.old slot ++ item ∷ [])) }
         ensures err { OnErr result (rows_of self.new ≡ rows_of self.old) }
     {
-        grow(&mut self.rows, self.alloc, place)?;
-        self.rows[place].push_back(item)?;
+        grow(&mut self.rows, self.alloc, slot)?;
+        self.rows[slot].push_back(item)?;
         Ok(())
     }
 
-    /// Takes the first thing of a row away, if there is one.
-    pub(crate) fn drop_first(&mut self, place: usize)
-    where
-        T: Drop,
-        ensures { rows_of self.new ≡ with_lane (rows_of self.old) place (drop 1 (rows_of self.old place)) }
+    /// Takes the first thing of a row, if there is one.
+    pub(crate) fn take_first(&mut self, slot: usize) -> Option<T>
+        ensures first { result ≡ slice_get (rows_of self.old slot) 0 }
+        ensures rest { rows_of self.new ≡ with_lane (rows_of self.old) slot (drop 1 (rows_of self.old slot)) }
     {
-        if place < self.rows.len() {
-            let _ = self.rows[place].pop_front();
+        if slot < self.rows.len() {
+            self.rows[slot].pop_front()
+        } else {
+            None
         }
     }
 
-    /// Takes the last thing of a row away, if there is one.
-    pub(crate) fn drop_last(&mut self, place: usize)
+    /// Takes the first thing of a row away, if there is one.
+    pub(crate) fn drop_first(&mut self, slot: usize)
     where
         T: Drop,
-        ensures { rows_of self.new ≡ with_lane (rows_of self.old) place (front_of (rows_of self.old place)) }
+        ensures { rows_of self.new ≡ with_lane (rows_of self.old) slot (drop 1 (rows_of self.old slot)) }
     {
-        if place < self.rows.len() {
-            let _ = self.rows[place].pop_back();
+        let _ = self.take_first(slot);
+    }
+
+    /// Takes the last thing of a row away, if there is one.
+    pub(crate) fn drop_last(&mut self, slot: usize)
+    where
+        T: Drop,
+        ensures { rows_of self.new ≡ with_lane (rows_of self.old) slot (front_of (rows_of self.old slot)) }
+    {
+        if slot < self.rows.len() {
+            let _ = self.rows[slot].pop_back();
         }
     }
 }
 
-/// The thing at a place, counted from 0.
+/// The thing at an index, counted from 0.
 pub(crate) fn item_in<T>(row: &VecDeque<T>, i: usize) -> Option<&T>
     ensures { option_copied result ≡ slice_get row.now.items i }
 {
     row.get(i)
 }
 
-// rows for the places up to this one, all but those that were there empty
-fn grow<T>(rows: &mut Vec<VecDeque<T>>, alloc: Global, place: usize) -> Result<(), NoMemory>
+// rows for the slots up to this one, all but those that were there empty
+fn grow<T>(rows: &mut Vec<VecDeque<T>>, alloc: Global, slot: usize) -> Result<(), NoMemory>
 where
     T: Drop,
-    requires { place < 32 }
+    requires { slot < 32 }
     ensures same { (k : ℕ) → lane_at deque_items rows.new.items k ≡ lane_at deque_items rows.old.items k }
-    ensures ok { OnOk result (place < vec_len rows.new) }
+    ensures ok { OnOk result (slot < vec_len rows.new) }
 {
-    while rows.len() <= place {
+    while rows.len() <= slot {
         rows.push(VecDeque::new(alloc))?;
     }
     Ok(())
@@ -107,11 +117,11 @@ where
 
 impl Lanes<Red> {
     /// Says of a red action whether it is yellow.
-    pub(crate) fn mark(&mut self, place: usize, i: usize, is_yellow: bool)
-        ensures { rows_of self.new ≡ with_lane (rows_of self.old) place (marked_at (rows_of self.old place) i is_yellow) }
+    pub(crate) fn mark(&mut self, slot: usize, i: usize, is_yellow: bool)
+        ensures { rows_of self.new ≡ with_lane (rows_of self.old) slot (marked_at (rows_of self.old slot) i is_yellow) }
     {
-        if place < self.rows.len() && i < self.rows[place].len() {
-            self.rows[place][i].is_yellow = is_yellow;
+        if slot < self.rows.len() && i < self.rows[slot].len() {
+            self.rows[slot][i].is_yellow = is_yellow;
         }
     }
 }

@@ -9,7 +9,7 @@ ghost use Rattle.cg_queue.specs.Queue.{names_of};
 
 use crate::body::{
     Body, add_green, add_name, add_red, add_yellow, drop_green, empty_body, forget_green,
-    is_flagged, lane_of, name_of, rename, starts_yellow,
+    is_flagged, lane_of, name_of, rename, starts_yellow, turn_first,
 };
 use crate::lanes::{Lanes, item_in};
 use crate::red::Red;
@@ -39,7 +39,7 @@ impl Model for Queue {
 }
 
 impl Queue {
-    ghost use Rattle.cg_queue.specs.Queue.{Answers, AreReds, resumed, marked_red, marked_yellow, marked_green, green_count, discarded, with_yellow, names_of, action_of};
+    ghost use Rattle.cg_queue.specs.Queue.{Answers, AreReds, resumed, marked_red, marked_yellow, marked_green, placed_green, green_count, discarded, with_yellow, names_of, action_of};
     ghost use Rattle.cg_queue.specs.Shown.{IsShown};
 
     /// A queue that knows no action.
@@ -111,12 +111,12 @@ impl Queue {
         if id.index <= green {
             return Ok(());
         }
-        let place = lane_of(id);
+        let slot = lane_of(id);
         let i = (id.index - green - 1) as usize;
-        if is_flagged(&self.body, place, i) {
+        if is_flagged(&self.body, slot, i) {
             return Ok(());
         }
-        let Ok(()) = add_name(&mut self.body, id, place, i) else {
+        let Ok(()) = add_name(&mut self.body, id, slot, i) else {
             return Err(NoMemory);
         };
         Ok(())
@@ -125,7 +125,7 @@ impl Queue {
     /// Marks an action green at a place, counted from 1 and at most the next one. At the next place it is its creator's
     /// next green one; it is then no more red or yellow. Known says exactly that the place is at most the count.
     pub fn mark_green(&mut self, at: u64, a: Action) -> Result<Mark, QueueFault>
-        requires place { at ≤ suc (green_count self.old) }
+        requires position { at ≤ suc (green_count self.old) }
         requires few { green_count self.old < 2 ^ 62 }
         requires next { at ≡ suc (green_count self.old) → a.id.index ≡ suc (index_in self.old.green_cut a.id.creator) }
         ensures { Answers (marked_green self.old at a) self.old self.new result }
@@ -143,6 +143,22 @@ impl Queue {
             }
             Err(_) => Err(QueueFault::NoMemory),
         }
+    }
+
+    /// The action of a name becomes green at the next place, as by `mark_green`, if it is red: it is its creator's next green
+    /// one. It isn't copied.
+    pub fn turn_green(&mut self, id: ActionId) -> Result<(), NoMemory>
+        requires few { green_count self.old < 2 ^ 62 }
+        requires next { id.index ≡ suc (index_in self.old.green_cut id.creator) }
+        ensures ok { OnOk result (MatchOption (action_of self.old id) (self.new ≡ self.old) (λ a. self.new ≡ placed_green self.old a)) }
+        ensures err { OnErr result (self.new ≡ self.old) }
+    {
+        let was_yellow = starts_yellow(&self.body, &id);
+        turn_first(&mut self.body, lane_of(&id))?;
+        if was_yellow {
+            forget_green(&mut self.body);
+        }
+        Ok(())
     }
 
     /// These names, each that of a red action and none twice, are the yellow list.
@@ -198,8 +214,8 @@ impl Queue {
         ensures { IfOk result (λ list. list ≡ self.now.reds) }
     {
         let mut list = Row::new(self.alloc);
-        for place in 0..32 {
-            copy_reds(self.alloc, &self.body.reds, place, &mut list)?;
+        for slot in 0..32 {
+            copy_reds(self.alloc, &self.body.reds, slot, &mut list)?;
         }
         Ok(list)
     }
@@ -210,8 +226,8 @@ impl Queue {
         ensures { IfOk result (λ ids. ids ≡ filter (λ id. not (names self.now.yellow id)) (names_of self.now.reds)) }
     {
         let mut ids = IdRuns::new(self.alloc);
-        for place in 0..32 {
-            add_plain_names(&self.body, place, &mut ids)?;
+        for slot in 0..32 {
+            add_plain_names(&self.body, slot, &mut ids)?;
         }
         Ok(ids)
     }
@@ -247,20 +263,20 @@ impl Queue {
     pub fn get(&self, id: ActionId) -> Option<&Action>
         ensures { option_copied result ≡ action_of self.now id }
     {
-        let place = lane_of(&id);
+        let slot = lane_of(&id);
         let green = self.body.green_cut.get(id.creator);
         if green < id.index {
-            return match self.body.reds.get(place, (id.index - green - 1) as usize) {
+            return match self.body.reds.get(slot, (id.index - green - 1) as usize) {
                 Some(red) => Some(&red.action),
                 None => None,
             };
         }
-        let kept = self.body.places.len(place) as u64;
+        let kept = self.body.positions.len(slot) as u64;
         let behind = green - id.index;
         if kept <= behind {
             return None;
         }
-        match self.body.places.get(place, (kept - behind - 1) as usize) {
+        match self.body.positions.get(slot, (kept - behind - 1) as usize) {
             Some(at) => item_in(&self.body.greens, (*at - self.body.white - 1) as usize),
             None => None,
         }
@@ -270,13 +286,13 @@ impl Queue {
     pub fn is_red(&self, id: ActionId) -> bool
         ensures { result ≡ names (names_of self.now.reds) id }
     {
-        let place = lane_of(&id);
+        let slot = lane_of(&id);
         let cut = self.body.green_cut.get(id.creator);
         if cut >= id.index {
             return false;
         }
         let i = (id.index - cut - 1) as usize;
-        i < self.body.reds.len(place)
+        i < self.body.reds.len(slot)
     }
 
     /// The name is one of a yellow action. It is found at once.
@@ -291,8 +307,8 @@ impl Queue {
         if cut >= id.index {
             return false;
         }
-        let place = lane_of(&id);
-        is_flagged(&self.body, place, (id.index - cut - 1) as usize)
+        let slot = lane_of(&id);
+        is_flagged(&self.body, slot, (id.index - cut - 1) as usize)
     }
 
     /// How far each creator's actions are known: red or green, discarded ones too. The reds are exactly those between the
@@ -332,20 +348,20 @@ fn red_in(reds: &Lanes<Red>, i: usize) -> Option<&Action>
     ensures { option_copied result ≡ slice_get (all_reds (rows_of reds.now)) i }
 {
     let mut left = i;
-    for place in 0..32 {
-        let count = reds.len(place);
+    for slot in 0..32 {
+        let count = reds.len(slot);
         if left < count {
-            return action_at(reds, place, left);
+            return action_at(reds, slot, left);
         }
         left -= count;
     }
     None
 }
 
-fn action_at(reds: &Lanes<Red>, place: usize, i: usize) -> Option<&Action>
-    ensures { option_copied result ≡ slice_get (actions_in (rows_of reds.now place)) i }
+fn action_at(reds: &Lanes<Red>, slot: usize, i: usize) -> Option<&Action>
+    ensures { option_copied result ≡ slice_get (actions_in (rows_of reds.now slot)) i }
 {
-    match reds.get(place, i) {
+    match reds.get(slot, i) {
         Some(red) => Some(&red.action),
         None => None,
     }
@@ -355,8 +371,8 @@ fn count_in(reds: &Lanes<Red>) -> Option<u32>
     ensures { MatchOption result (2 ^ 32 ≤ length (all_reds (rows_of reds.now))) (λ count. count ≡ length (all_reds (rows_of reds.now))) }
 {
     let mut count: usize = 0;
-    for place in 0..32 {
-        let more = reds.len(place);
+    for slot in 0..32 {
+        let more = reds.len(slot);
         if more > u32::MAX as usize - count {
             return None;
         }
@@ -380,28 +396,28 @@ fn copy_greens(
     Ok(list)
 }
 
-// the reds at a place, behind those that are listed
+// the reds of a slot, behind those that are listed
 fn copy_reds(
     alloc: Global,
     reds: &Lanes<Red>,
-    place: usize,
+    slot: usize,
     list: &mut ActionList,
 ) -> Result<(), NoMemory>
-    ensures { OnOk result (list.new ≡ list.old ++ actions_in (rows_of reds.now place)) }
+    ensures { OnOk result (list.new ≡ list.old ++ actions_in (rows_of reds.now slot)) }
 {
-    for i in 0..reds.len(place) {
-        push_red_at(alloc, reds, place, i, list)?;
+    for i in 0..reds.len(slot) {
+        push_red_at(alloc, reds, slot, i, list)?;
     }
     Ok(())
 }
 
-// the names of the reds at a place that aren't yellow, behind those that are listed. They lie between the two cuts
-fn add_plain_names(body: &Body, place: usize, ids: &mut IdRuns) -> Result<(), NoMemory>
-    requires place { place < 32 }
-    requires lane { IsLane (parts_of body.now) place }
-    ensures { OnOk result (ids.new ≡ ids.old ++ filter (λ id. not (names (seen (parts_of body.now)).yellow id)) (names_of (actions_in (rows_of body.now.reds place)))) }
+// the names of the reds of a slot that aren't yellow, behind those that are listed. They lie between the two cuts
+fn add_plain_names(body: &Body, slot: usize, ids: &mut IdRuns) -> Result<(), NoMemory>
+    requires slot { slot < 32 }
+    requires lane { IsLane (parts_of body.now) slot }
+    ensures { OnOk result (ids.new ≡ ids.old ++ filter (λ id. not (names (seen (parts_of body.now)).yellow id)) (names_of (actions_in (rows_of body.now.reds slot)))) }
 {
-    let creator = ReplicaId::known(place as u8 + 1);
+    let creator = ReplicaId::known(slot as u8 + 1);
     let low = body.green_cut.get(creator);
     let high = body.red_cut.get(creator);
     if body.yellow.is_empty() {
@@ -412,22 +428,22 @@ fn add_plain_names(body: &Body, place: usize, ids: &mut IdRuns) -> Result<(), No
             creator,
             index: index + 1,
         };
-        push_plain(body, place, (index - low) as usize, &id, ids)?;
+        push_plain(body, slot, (index - low) as usize, &id, ids)?;
     }
     Ok(())
 }
 
-// the name of the red at a place of a row, where it isn't yellow
+// the name of the red at an index of a row, where it isn't yellow
 fn push_plain(
     body: &Body,
-    place: usize,
+    slot: usize,
     i: usize,
     id: &ActionId,
     ids: &mut IdRuns,
 ) -> Result<(), NoMemory>
-    ensures { OnOk result (ids.new ≡ ids.old ++ unless (flag_of (slice_get (rows_of body.now.reds place) i)) id.now) }
+    ensures { OnOk result (ids.new ≡ ids.old ++ unless (flag_of (slice_get (rows_of body.now.reds slot) i)) id.now) }
 {
-    if is_flagged(body, place, i) {
+    if is_flagged(body, slot, i) {
         return Ok(());
     }
     ids.push(id)
@@ -450,13 +466,13 @@ fn push_green_at(
 fn push_red_at(
     alloc: Global,
     reds: &Lanes<Red>,
-    place: usize,
+    slot: usize,
     i: usize,
     list: &mut ActionList,
 ) -> Result<(), NoMemory>
-    ensures { OnOk result (list.new ++ actions_in (drop (suc i) (rows_of reds.now place)) ≡ list.old ++ actions_in (drop i (rows_of reds.now place))) }
+    ensures { OnOk result (list.new ++ actions_in (drop (suc i) (rows_of reds.now slot)) ≡ list.old ++ actions_in (drop i (rows_of reds.now slot))) }
 {
-    match reds.get(place, i) {
+    match reds.get(slot, i) {
         Some(red) => push_copy(alloc, &red.action, list),
         None => Ok(()),
     }

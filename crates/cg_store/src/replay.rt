@@ -30,12 +30,12 @@ pub(crate) fn follow(alloc: Global, core: &mut Core, body: &[u8]) -> Result<bool
 {
     what_is_held_agrees();
     match read_change(alloc, body)? {
-        Some(change) => follow_change(alloc, core, change),
+        Some(change) => follow_change(core, change),
         None => Ok(false),
     }
 }
 
-fn follow_change(alloc: Global, core: &mut Core, change: Change) -> Result<bool, NoMemory>
+fn follow_change(core: &mut Core, change: Change) -> Result<bool, NoMemory>
     requires limits { IsChange change }
     requires holds { Holds core.old }
     ensures { IfOk result (Follows (after_change core.old change) core.new) }
@@ -51,7 +51,7 @@ fn follow_change(alloc: Global, core: &mut Core, change: Change) -> Result<bool,
     if !fits {
         return Ok(false);
     }
-    let fits = turn_all(alloc, core, green)?;
+    let fits = turn_all(core, green)?;
     if !fits {
         return Ok(false);
     }
@@ -109,11 +109,11 @@ fn is_first_own(core: &Core, id: &ActionId) -> bool
     }
 }
 
-fn turn_all(alloc: Global, core: &mut Core, green: IdList) -> Result<bool, NoMemory>
+fn turn_all(core: &mut Core, green: IdList) -> Result<bool, NoMemory>
     ensures { IfOk result (Follows (all_of green_by_name (Some core.old) green) core.new) }
 {
     for id in green.into_vec() {
-        let fits = turn_one(alloc, core, id)?;
+        let fits = turn_one(core, id)?;
         if !fits {
             return Ok(false);
         }
@@ -121,7 +121,7 @@ fn turn_all(alloc: Global, core: &mut Core, green: IdList) -> Result<bool, NoMem
     Ok(true)
 }
 
-fn turn_one(alloc: Global, core: &mut Core, id: ActionId) -> Result<bool, NoMemory>
+fn turn_one(core: &mut Core, id: ActionId) -> Result<bool, NoMemory>
     ensures { IfOk result (Follows (green_by_name core.old id) core.new) }
 {
     let Some(a) = core.get(id) else {
@@ -130,8 +130,8 @@ fn turn_one(alloc: Global, core: &mut Core, id: ActionId) -> Result<bool, NoMemo
     if !is_next(a.id.index, core.green_cut().get(a.id.creator)) {
         return Ok(false);
     }
-    let a = a.copy(alloc)?;
-    core.turn_green(a)?;
+    let name = a.id;
+    core.turn_green(name)?;
     Ok(true)
 }
 

@@ -16,7 +16,7 @@ returns-in_err-push-clause-err c =
       green_cut = b.green_cut;
       red_cut = b.red_cut;
       reds = rows_of b.reds;
-      places = c.in_err-push.ensures.err i;
+      positions = c.in_err-push.ensures.err i;
       yellow = b.yellow.items;
     })
 
@@ -24,7 +24,7 @@ pub returns-in-Ok-clause-ok : goal.returns-in-Ok-clause-ok
 returns-in-Ok-clause-ok c =
     let b = c.args.body.now in
     let name = c.name_of-id.result in
-    let place = c.lane_of-place.result in
+    let slot = c.lane_of-slot.result in
     let at = b.white + c.len.result + 1 in
     let made : ℕ → ActionId → ℕ → Parts = λ k id n. record {
       white = b.white;
@@ -32,24 +32,24 @@ returns-in-Ok-clause-ok c =
       green_cut = raise b.green_cut id;
       red_cut = raise b.red_cut id;
       reds = with_lane (rows_of b.reds) k (drop 1 (rows_of b.reds k));
-      places = with_lane (rows_of b.places) k (rows_of b.places k ++ n ∷ []);
+      positions = with_lane (rows_of b.positions) k (rows_of b.positions k ++ n ∷ []);
       yellow = b.yellow.items;
     } in
-    let placed : settled (record { white = b.white; greens = b.greens.items ++ c.args.a ∷ []; green_cut = b.green_cut; red_cut = b.red_cut; reds = rows_of b.reds; places = rows_of c.push.new.self; yellow = b.yellow.items }) name place ≡ made place name at =
+    let placed : settled (record { white = b.white; greens = b.greens.items ++ c.args.a ∷ []; green_cut = b.green_cut; red_cut = b.red_cut; reds = rows_of b.reds; positions = rows_of c.push.new.self; yellow = b.yellow.items }) name slot ≡ made slot name at =
     λ i. record {
       white = b.white;
       greens = b.greens.items ++ c.args.a ∷ [];
       green_cut = raise b.green_cut name;
       red_cut = raise b.red_cut name;
-      reds = with_lane (rows_of b.reds) place (drop 1 (rows_of b.reds place));
-      places = c.in_ok-push.ensures.ok i;
+      reds = with_lane (rows_of b.reds) slot (drop 1 (rows_of b.reds slot));
+      positions = c.in_ok-push.ensures.ok i;
       yellow = b.yellow.items;
     } in
-    let same_place : place ≡ lane_of c.args.a.id = c.lane_of-place.ensures.value ∙ ap lane_of c.name_of-id.ensures.value in
+    let same_place : slot ≡ lane_of c.args.a.id = c.lane_of-slot.ensures.value ∙ ap lane_of c.name_of-id.ensures.value in
     let long = b.greens.ok.0 in
     let here : at ≡ suc (b.white + length b.greens.items) = omega (arith, c.len.ensures) in
     c.settle_green.ensures
-    ∙ ap (λ p. settled p name place) c.in-Ok.ensures.ok
+    ∙ ap (λ p. settled p name slot) c.in-Ok.ensures.ok
     ∙ placed
     ∙ ap (λ k. made k name at) same_place
     ∙ ap (λ id. made (lane_of c.args.a.id) id at) c.name_of-id.ensures.value
@@ -58,18 +58,18 @@ returns-in-Ok-clause-ok c =
 pub returns-in-Err-clause-err : goal.returns-in-Err-clause-err
 returns-in-Err-clause-err c =
     let b = c.args.body.now in
-    let place = c.lane_of-place.result in
+    let slot = c.lane_of-slot.result in
     let same = c.in-Err.ensures.err in
-    let places : rows_of c.drop_last.new.self ≡ rows_of b.places =
+    let positions : rows_of c.drop_last.new.self ≡ rows_of b.positions =
     c.drop_last.ensures
-    ∙ ap (λ f. with_lane f place (front_of (f place))) (ap (λ (p : Parts). p.places) same ∙ c.in_ok-push.ensures.ok)
-    ∙ lanes-undone (rows_of b.places) place (b.white + c.len.result + 1) in
+    ∙ ap (λ f. with_lane f slot (front_of (f slot))) (ap (λ (p : Parts). p.positions) same ∙ c.in_ok-push.ensures.ok)
+    ∙ lanes-undone (rows_of b.positions) slot (b.white + c.len.result + 1) in
     λ i. record {
       white = (same i).white;
       greens = (same i).greens;
       green_cut = (same i).green_cut;
       red_cut = (same i).red_cut;
       reds = (same i).reds;
-      places = places i;
+      positions = positions i;
       yellow = (same i).yellow;
     }

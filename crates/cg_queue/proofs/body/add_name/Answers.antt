@@ -10,6 +10,6 @@ returns-clause-ok c =
       green_cut = b.green_cut;
       red_cut = b.red_cut;
       reds = c.mark.ensures i;
-      places = rows_of b.places;
+      positions = rows_of b.positions;
       yellow = c.in_ok-push.ensures.items i;
     }

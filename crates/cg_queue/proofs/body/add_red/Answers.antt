@@ -15,7 +15,7 @@ returns-in_err-push-clause-err c =
       green_cut = b.green_cut;
       red_cut = b.red_cut;
       reds = c.in_err-push.ensures.err i;
-      places = rows_of b.places;
+      positions = rows_of b.positions;
       yellow = b.yellow.items;
     })
 
@@ -23,9 +23,9 @@ pub returns-clause-ok : goal.returns-clause-ok
 returns-clause-ok c =
     let b = c.args.body.now in
     let red : Red = record { action = c.args.a; is_yellow = c.args.is_yellow } in
-    let place : c.lane_of-place.result ≡ lane_of c.args.a.id = c.lane_of-place.ensures.value ∙ ap lane_of c.name_of-id.ensures.value in
+    let slot : c.lane_of-slot.result ≡ lane_of c.args.a.id = c.lane_of-slot.ensures.value ∙ ap lane_of c.name_of-id.ensures.value in
     let reds : rows_of c.push.new.self ≡ with_lane (rows_of b.reds) (lane_of c.args.a.id) (rows_of b.reds (lane_of c.args.a.id) ++ red ∷ []) =
-    c.in_ok-push.ensures.ok ∙ ap (λ k. with_lane (rows_of b.reds) k (rows_of b.reds k ++ red ∷ [])) place in
+    c.in_ok-push.ensures.ok ∙ ap (λ k. with_lane (rows_of b.reds) k (rows_of b.reds k ++ red ∷ [])) slot in
     let cut : c.raise.new.self ≡ raise b.red_cut c.args.a.id = c.raise.ensures ∙ ap (raise b.red_cut) c.name_of-id.ensures.value in
     λ i. record {
       white = b.white;
@@ -33,6 +33,6 @@ returns-clause-ok c =
       green_cut = b.green_cut;
       red_cut = cut i;
       reds = reds i;
-      places = rows_of b.places;
+      positions = rows_of b.positions;
       yellow = b.yellow.items;
     }

@@ -9,7 +9,7 @@ returns-in-Ok-clause-ok c =
     let b = c.args.body.now in
     let yellow : c.push.new.self.items ≡ b.yellow.items ++ c.args.a.id ∷ [] = c.in_ok-push.ensures.items ∙ ap (λ id. b.yellow.items ++ id ∷ []) c.name_of.ensures.value in
     c.in-Ok.ensures.ok
-    ∙ (λ i. added_red (record { white = b.white; greens = b.greens.items; green_cut = b.green_cut; red_cut = b.red_cut; reds = rows_of b.reds; places = rows_of b.places; yellow = yellow i }) c.args.a true)
+    ∙ (λ i. added_red (record { white = b.white; greens = b.greens.items; green_cut = b.green_cut; red_cut = b.red_cut; reds = rows_of b.reds; positions = rows_of b.positions; yellow = yellow i }) c.args.a true)
 
 pub returns-in-Err-clause-err : goal.returns-in-Err-clause-err
 returns-in-Err-clause-err c =
@@ -25,6 +25,6 @@ returns-in-Err-clause-err c =
       green_cut = (same i).green_cut;
       red_cut = (same i).red_cut;
       reds = (same i).reds;
-      places = (same i).places;
+      positions = (same i).positions;
       yellow = yellow i;
     }

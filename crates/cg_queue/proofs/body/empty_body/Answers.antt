@@ -7,6 +7,6 @@ returns-clause-parts c = λ i. record {
   green_cut = c.args.cut;
   red_cut = c.args.cut;
   reds = λ k. c.new-2.ensures k i;
-  places = λ k. c.new-3.ensures k i;
+  positions = λ k. c.new-3.ensures k i;
   yellow = c.new-4.ensures.items i;
 }

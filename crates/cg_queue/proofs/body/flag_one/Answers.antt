@@ -12,9 +12,9 @@ returns-then-green-id c =
     let cut = c.args.cut.now in
     let flag = c.args.is_yellow in
     let green : c.get-green.result ≡ index_in cut id.creator = c.get-green.ensures.value in
-    let place : c.lane_of-place.result ≡ lane_of id = c.lane_of-place.ensures.value in
+    let slot : c.lane_of-slot.result ≡ lane_of id = c.lane_of-slot.ensures.value in
     let i : id.index - c.get-green.result - 1 ≡ id.index - suc (index_in cut id.creator) = omega arith in
     rw (is_above-true cut id (omega arith))
     (c.mark.ensures
-    ∙ ap (λ k. with_lane lanes k (marked_at (lanes k) (id.index - c.get-green.result - 1) flag)) place
+    ∙ ap (λ k. with_lane lanes k (marked_at (lanes k) (id.index - c.get-green.result - 1) flag)) slot
     ∙ ap (λ j. with_lane lanes (lane_of id) (marked_at (lanes (lane_of id)) j flag)) i)

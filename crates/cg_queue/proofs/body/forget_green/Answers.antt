@@ -11,6 +11,6 @@ returns c =
       green_cut = b.green_cut;
       red_cut = b.red_cut;
       reds = rows_of b.reds;
-      places = rows_of b.places;
+      positions = rows_of b.positions;
       yellow = c.keep_above.ensures i;
     })

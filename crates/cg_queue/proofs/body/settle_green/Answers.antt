@@ -10,6 +10,6 @@ returns c =
       green_cut = c.raise.ensures i;
       red_cut = c.raise-2.ensures i;
       reds = c.drop_first.ensures i;
-      places = rows_of b.places;
+      positions = rows_of b.positions;
       yellow = b.yellow.items;
     }

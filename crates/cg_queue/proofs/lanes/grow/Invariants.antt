@@ -7,4 +7,4 @@ abbrev pub invariant-loop-alloc : goal.invariant-loop-alloc
 invariant-loop-alloc g l = (k : ℕ) → lane_at deque_items l.rows.items k ≡ lane_at deque_items l.fn.rows.items k
 
 abbrev pub decreases-loop-alloc : goal.decreases-loop-alloc
-decreases-loop-alloc g l = l.place + 1 - vec_len l.rows
+decreases-loop-alloc g l = l.slot + 1 - vec_len l.rows

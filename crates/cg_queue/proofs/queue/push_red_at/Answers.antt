@@ -6,7 +6,7 @@ use Rattle.cg_queue.proofs.queue.push_red_at.Goals as goal
 
 pub returns-in-Some : goal.returns-in-Some
 returns-in-Some c =
-    let row = rows_of c.args.reds.now c.args.place in
+    let row = rows_of c.args.reds.now c.args.slot in
     let i = c.args.i in
     OnOk_with c.push_copy.result c.push_copy.ensures (λ put.
     ap (λ xs. xs ++ actions_in (drop (suc i) row)) put
@@ -15,7 +15,7 @@ returns-in-Some c =
 
 pub returns-in-None : goal.returns-in-None
 returns-in-None c =
-    let row = rows_of c.args.reds.now c.args.place in
+    let row = rows_of c.args.reds.now c.args.slot in
     let i = c.args.i in
     let behind = drop-none row i c.in-None.ensures in
     ap (λ xs. c.args.list.now ++ actions_in xs) (drop-end row (suc i) (omega arith) ∙ sym (drop-end row i behind))

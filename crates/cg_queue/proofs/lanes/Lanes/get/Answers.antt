@@ -3,16 +3,16 @@ use Rattle.std.specs.VecDeque.{deque_items}
 use Rattle.cg_queue.proofs.RowLemmas.{lane_at-get, lane_at-behind}
 use Rattle.cg_queue.proofs.lanes.Lanes.get.Goals as goal
 
-pub returns-then-place-len : goal.returns-then-place-len
-returns-then-place-len g c =
+pub returns-then-slot-len : goal.returns-then-slot-len
+returns-then-slot-len g c =
     let rows = c.args.self.now.rows in
     let long = rows.ok.0 in
-    let within : c.args.place < length rows.items = omega arith in
-    c.item_in.ensures ∙ ap (λ q. slice_get q.items c.args.i) c.index.ensures ∙ ap (λ xs. slice_get xs c.args.i) (sym (lane_at-get deque_items rows.items c.args.place c.index.result.now within))
+    let within : c.args.slot < length rows.items = omega arith in
+    c.item_in.ensures ∙ ap (λ q. slice_get q.items c.args.i) c.index.ensures ∙ ap (λ xs. slice_get xs c.args.i) (sym (lane_at-get deque_items rows.items c.args.slot c.index.result.now within))
 
-pub returns-else-place-len : goal.returns-else-place-len
-returns-else-place-len g c =
+pub returns-else-slot-len : goal.returns-else-slot-len
+returns-else-slot-len g c =
     let rows = c.args.self.now.rows in
     let long = rows.ok.0 in
-    let behind : length rows.items ≤ c.args.place = omega arith in
-    ap (λ xs. slice_get xs c.args.i) (sym (lane_at-behind deque_items rows.items c.args.place behind))
+    let behind : length rows.items ≤ c.args.slot = omega arith in
+    ap (λ xs. slice_get xs c.args.i) (sym (lane_at-behind deque_items rows.items c.args.slot behind))

@@ -14,8 +14,8 @@ returns-in-Some c =
     let id = c.args.id in
     let green : c.get-green.result ≡ index_in b.green_cut id.creator = c.get-green.ensures.value in
     let i = id.index - c.get-green.result - 1 in
-    let there = c.in-Some.ensures ∙ ap (λ k. slice_get (b.reds k) i) c.lane_of-place.ensures.value in
-    ap (option_map (λ r. r.action)) there ∙ sym (found-red b id c.self.invariant c.lane_of-place.ensures.creator i (omega arith)) ∙ ap (λ q. action_of q id) c.self.view_is
+    let there = c.in-Some.ensures ∙ ap (λ k. slice_get (b.reds k) i) c.lane_of-slot.ensures.value in
+    ap (option_map (λ r. r.action)) there ∙ sym (found-red b id c.self.invariant c.lane_of-slot.ensures.creator i (omega arith)) ∙ ap (λ q. action_of q id) c.self.view_is
 
 pub returns-in-None : goal.returns-in-None
 returns-in-None c =
@@ -23,26 +23,26 @@ returns-in-None c =
     let id = c.args.id in
     let green : c.get-green.result ≡ index_in b.green_cut id.creator = c.get-green.ensures.value in
     let i = id.index - c.get-green.result - 1 in
-    let there = c.in-None.ensures ∙ ap (λ k. slice_get (b.reds k) i) c.lane_of-place.ensures.value in
-    ap (option_map (λ r. r.action)) there ∙ sym (found-red b id c.self.invariant c.lane_of-place.ensures.creator i (omega arith)) ∙ ap (λ q. action_of q id) c.self.view_is
+    let there = c.in-None.ensures ∙ ap (λ k. slice_get (b.reds k) i) c.lane_of-slot.ensures.value in
+    ap (option_map (λ r. r.action)) there ∙ sym (found-red b id c.self.invariant c.lane_of-slot.ensures.creator i (omega arith)) ∙ ap (λ q. action_of q id) c.self.view_is
 
 pub returns-then-kept-behind : goal.returns-then-kept-behind
 returns-then-kept-behind c =
     let b = parts_of c.self.inside.body in
     let id = c.args.id in
     let green : c.get-green.result ≡ index_in b.green_cut id.creator = c.get-green.ensures.value in
-    let kept : c.len-kept.result ≡ length (b.places (lane_of id)) = c.len-kept.ensures ∙ ap (λ k. length (b.places k)) c.lane_of-place.ensures.value in
-    sym (found-none b id c.self.invariant c.lane_of-place.ensures.creator (omega arith) (omega arith)) ∙ ap (λ q. action_of q id) c.self.view_is
+    let kept : c.len-kept.result ≡ length (b.positions (lane_of id)) = c.len-kept.ensures ∙ ap (λ k. length (b.positions k)) c.lane_of-slot.ensures.value in
+    sym (found-none b id c.self.invariant c.lane_of-slot.ensures.creator (omega arith) (omega arith)) ∙ ap (λ q. action_of q id) c.self.view_is
 
 pub overflow_sub-at : goal.overflow_sub-at
 overflow_sub-at c =
     let b = parts_of c.self.inside.body in
     let id = c.args.id in
     let green : c.get-green.result ≡ index_in b.green_cut id.creator = c.get-green.ensures.value in
-    let kept : c.len-kept.result ≡ length (b.places (lane_of id)) = c.len-kept.ensures ∙ ap (λ k. length (b.places k)) c.lane_of-place.ensures.value in
+    let kept : c.len-kept.result ≡ length (b.positions (lane_of id)) = c.len-kept.ensures ∙ ap (λ k. length (b.positions k)) c.lane_of-slot.ensures.value in
     let i = c.len-kept.result - (c.get-green.result - id.index) - 1 in
-    let there = sym (c.in-Some-get.ensures ∙ ap (λ k. slice_get (b.places k) i) c.lane_of-place.ensures.value) in
-    let found = found-green b id c.self.invariant c.lane_of-place.ensures.creator i c.in-Some-get.at.now (omega arith) (omega arith) there in
+    let there = sym (c.in-Some-get.ensures ∙ ap (λ k. slice_get (b.positions k) i) c.lane_of-slot.ensures.value) in
+    let found = found-green b id c.self.invariant c.lane_of-slot.ensures.creator i c.in-Some-get.at.now (omega arith) (omega arith) there in
     let behind = found.0 in
     omega arith
 
@@ -51,10 +51,10 @@ overflow_sub-at-in-Some-get c =
     let b = parts_of c.self.inside.body in
     let id = c.args.id in
     let green : c.get-green.result ≡ index_in b.green_cut id.creator = c.get-green.ensures.value in
-    let kept : c.len-kept.result ≡ length (b.places (lane_of id)) = c.len-kept.ensures ∙ ap (λ k. length (b.places k)) c.lane_of-place.ensures.value in
+    let kept : c.len-kept.result ≡ length (b.positions (lane_of id)) = c.len-kept.ensures ∙ ap (λ k. length (b.positions k)) c.lane_of-slot.ensures.value in
     let i = c.len-kept.result - (c.get-green.result - id.index) - 1 in
-    let there = sym (c.in-Some-get.ensures ∙ ap (λ k. slice_get (b.places k) i) c.lane_of-place.ensures.value) in
-    let found = found-green b id c.self.invariant c.lane_of-place.ensures.creator i c.in-Some-get.at.now (omega arith) (omega arith) there in
+    let there = sym (c.in-Some-get.ensures ∙ ap (λ k. slice_get (b.positions k) i) c.lane_of-slot.ensures.value) in
+    let found = found-green b id c.self.invariant c.lane_of-slot.ensures.creator i c.in-Some-get.at.now (omega arith) (omega arith) there in
     let behind = found.0 in
     omega arith
 
@@ -63,10 +63,10 @@ returns-in-Some-get c =
     let b = parts_of c.self.inside.body in
     let id = c.args.id in
     let green : c.get-green.result ≡ index_in b.green_cut id.creator = c.get-green.ensures.value in
-    let kept : c.len-kept.result ≡ length (b.places (lane_of id)) = c.len-kept.ensures ∙ ap (λ k. length (b.places k)) c.lane_of-place.ensures.value in
+    let kept : c.len-kept.result ≡ length (b.positions (lane_of id)) = c.len-kept.ensures ∙ ap (λ k. length (b.positions k)) c.lane_of-slot.ensures.value in
     let i = c.len-kept.result - (c.get-green.result - id.index) - 1 in
-    let there = sym (c.in-Some-get.ensures ∙ ap (λ k. slice_get (b.places k) i) c.lane_of-place.ensures.value) in
-    let found = found-green b id c.self.invariant c.lane_of-place.ensures.creator i c.in-Some-get.at.now (omega arith) (omega arith) there in
+    let there = sym (c.in-Some-get.ensures ∙ ap (λ k. slice_get (b.positions k) i) c.lane_of-slot.ensures.value) in
+    let found = found-green b id c.self.invariant c.lane_of-slot.ensures.creator i c.in-Some-get.at.now (omega arith) (omega arith) there in
     let spot : c.in-Some-get.at.now - b.white - 1 ≡ c.in-Some-get.at.now - suc b.white = omega arith in
     c.item_in.ensures ∙ ap (slice_get b.greens) spot ∙ sym found.1 ∙ ap (λ q. action_of q id) c.self.view_is
 
@@ -74,7 +74,7 @@ pub returns-in-None-get : goal.returns-in-None-get
 returns-in-None-get c =
     let b = parts_of c.self.inside.body in
     let id = c.args.id in
-    let kept : c.len-kept.result ≡ length (b.places (lane_of id)) = c.len-kept.ensures ∙ ap (λ k. length (b.places k)) c.lane_of-place.ensures.value in
+    let kept : c.len-kept.result ≡ length (b.positions (lane_of id)) = c.len-kept.ensures ∙ ap (λ k. length (b.positions k)) c.lane_of-slot.ensures.value in
     let i = c.len-kept.result - (c.get-green.result - id.index) - 1 in
-    let none = drop-none (b.places (lane_of id)) i (c.in-None-get.ensures ∙ ap (λ k. slice_get (b.places k) i) c.lane_of-place.ensures.value) in
+    let none = drop-none (b.positions (lane_of id)) i (c.in-None-get.ensures ∙ ap (λ k. slice_get (b.positions k) i) c.lane_of-slot.ensures.value) in
     absurd (omega arith)

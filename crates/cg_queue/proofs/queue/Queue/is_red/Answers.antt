@@ -12,7 +12,7 @@ returns-then-cut-id c =
     let b = parts_of c.self.inside.body in
     let id = c.args.id in
     let green : c.get-cut.result ≡ index_in b.green_cut id.creator = c.get-cut.ensures.value in
-    sym (red-not b id c.self.invariant c.lane_of-place.ensures.creator (omega arith)) ∙ ap (λ (q : QueueView). names (names_of q.reds) id) c.self.view_is
+    sym (red-not b id c.self.invariant c.lane_of-slot.ensures.creator (omega arith)) ∙ ap (λ (q : QueueView). names (names_of q.reds) id) c.self.view_is
 
 pub returns : goal.returns
 returns c =
@@ -20,6 +20,6 @@ returns c =
     let id = c.args.id in
     let i = id.index - c.get-cut.result - 1 in
     let green : c.get-cut.result ≡ index_in b.green_cut id.creator = c.get-cut.ensures.value in
-    ap (nat_lt i) (c.len.ensures ∙ ap (λ k. length (b.reds k)) c.lane_of-place.ensures.value)
-    ∙ red-test b id c.self.invariant c.lane_of-place.ensures.creator i (omega arith)
+    ap (nat_lt i) (c.len.ensures ∙ ap (λ k. length (b.reds k)) c.lane_of-slot.ensures.value)
+    ∙ red-test b id c.self.invariant c.lane_of-slot.ensures.creator i (omega arith)
     ∙ ap (λ (q : QueueView). names (names_of q.reds) id) c.self.view_is

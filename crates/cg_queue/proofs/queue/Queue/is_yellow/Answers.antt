@@ -30,7 +30,7 @@ returns c =
     let known : c.get-known.result ≡ index_in b.red_cut id.creator = c.get-known.ensures.value in
     let green : c.get-cut.result ≡ index_in b.green_cut id.creator = c.get-cut.ensures.value in
     let i : id.index - c.get-cut.result - 1 ≡ id.index - index_in b.green_cut id.creator - 1 = omega arith in
-    c.is_flagged.ensures ∙ ap (λ k. flag_of (slice_get (b.reds k) (id.index - c.get-cut.result - 1))) c.lane_of-place.ensures.value
+    c.is_flagged.ensures ∙ ap (λ k. flag_of (slice_get (b.reds k) (id.index - c.get-cut.result - 1))) c.lane_of-slot.ensures.value
     ∙ ap (λ j. flag_of (slice_get (b.reds (lane_of id)) j)) i
-    ∙ red-flag b id c.self.invariant c.lane_of-place.ensures.creator (omega arith) (omega arith)
+    ∙ red-flag b id c.self.invariant c.lane_of-slot.ensures.creator (omega arith) (omega arith)
     ∙ ap (λ (q : QueueView). names q.yellow id) c.self.view_is

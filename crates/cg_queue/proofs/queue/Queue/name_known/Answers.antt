@@ -14,10 +14,10 @@ returns-then-is_flagged-clause-ok c =
     let id = c.args.id.now in
     let green : c.get-green.result ≡ index_in b.green_cut id.creator = c.get-green.ensures.value in
     let known : id.index ≤ index_in b.red_cut id.creator = subst (λ q. id.index ≤ index_in q.red_cut id.creator) (sym c.self.view_is) c.requires in
-    let place = c.lane_of-place.ensures.value in
+    let slot = c.lane_of-slot.ensures.value in
     let i : id.index - c.get-green.result - 1 ≡ id.index - index_in b.green_cut id.creator - 1 = omega arith in
-    let flag = c.is_flagged.ensures ∙ ap (λ k. flag_of (slice_get (b.reds k) (id.index - c.get-green.result - 1))) place ∙ ap (λ j. flag_of (slice_get (b.reds (lane_of id)) j)) i in
-    let there : names (seen b).yellow id ≡ true = sym (red-flag b id c.self.invariant c.lane_of-place.ensures.creator (omega arith) known) ∙ sym flag ∙ c.if-is_flagged.true in
+    let flag = c.is_flagged.ensures ∙ ap (λ k. flag_of (slice_get (b.reds k) (id.index - c.get-green.result - 1))) slot ∙ ap (λ j. flag_of (slice_get (b.reds (lane_of id)) j)) i in
+    let there : names (seen b).yellow id ≡ true = sym (red-flag b id c.self.invariant c.lane_of-slot.ensures.creator (omega arith) known) ∙ sym flag ∙ c.if-is_flagged.true in
     sym c.self.view_is ∙ sym (yellow-kept (seen b) id there) ∙ ap (λ q. with_yellow q id) c.self.view_is
 
 pub invariant_of-self : goal.invariant_of-self
@@ -33,8 +33,8 @@ invariant_of-self-2 c =
     let green : c.get-green.result ≡ index_in b.green_cut id.creator = c.get-green.ensures.value in
     let known : id.index ≤ index_in b.red_cut id.creator = subst (λ q. id.index ≤ index_in q.red_cut id.creator) (sym c.self.view_is) c.requires in
     let i : id.index - c.get-green.result - 1 ≡ id.index - index_in b.green_cut id.creator - 1 = omega arith in
-    let made = c.in-Ok.ensures.ok ∙ ap (λ k. flagged (with_name b id) k (id.index - c.get-green.result - 1)) c.lane_of-place.ensures.value ∙ ap (flagged (with_name b id) (lane_of id)) i in
-    subst IsSound (sym made) (red-named-sound b id c.self.invariant c.lane_of-place.ensures.creator (omega arith) known)
+    let made = c.in-Ok.ensures.ok ∙ ap (λ k. flagged (with_name b id) k (id.index - c.get-green.result - 1)) c.lane_of-slot.ensures.value ∙ ap (flagged (with_name b id) (lane_of id)) i in
+    subst IsSound (sym made) (red-named-sound b id c.self.invariant c.lane_of-slot.ensures.creator (omega arith) known)
 
 pub returns-clause-ok : goal.returns-clause-ok
 returns-clause-ok c =
@@ -43,10 +43,10 @@ returns-clause-ok c =
     let green : c.get-green.result ≡ index_in b.green_cut id.creator = c.get-green.ensures.value in
     let known : id.index ≤ index_in b.red_cut id.creator = subst (λ q. id.index ≤ index_in q.red_cut id.creator) (sym c.self.view_is) c.requires in
     let above : index_in b.green_cut id.creator < id.index = omega arith in
-    let place = c.lane_of-place.ensures.value in
+    let slot = c.lane_of-slot.ensures.value in
     let i : id.index - c.get-green.result - 1 ≡ id.index - index_in b.green_cut id.creator - 1 = omega arith in
-    let flag = c.is_flagged.ensures ∙ ap (λ k. flag_of (slice_get (b.reds k) (id.index - c.get-green.result - 1))) place ∙ ap (λ j. flag_of (slice_get (b.reds (lane_of id)) j)) i in
-    let none : names (seen b).yellow id ≡ false = sym (red-flag b id c.self.invariant c.lane_of-place.ensures.creator above known) ∙ sym flag ∙ c.if-is_flagged.false in
-    let made = c.in-Ok.ensures.ok ∙ ap (λ k. flagged (with_name b id) k (id.index - c.get-green.result - 1)) place ∙ ap (flagged (with_name b id) (lane_of id)) i in
-    ap seen made ∙ red-named-seen b id c.self.invariant c.lane_of-place.ensures.creator above known
+    let flag = c.is_flagged.ensures ∙ ap (λ k. flag_of (slice_get (b.reds k) (id.index - c.get-green.result - 1))) slot ∙ ap (λ j. flag_of (slice_get (b.reds (lane_of id)) j)) i in
+    let none : names (seen b).yellow id ≡ false = sym (red-flag b id c.self.invariant c.lane_of-slot.ensures.creator above known) ∙ sym flag ∙ c.if-is_flagged.false in
+    let made = c.in-Ok.ensures.ok ∙ ap (λ k. flagged (with_name b id) k (id.index - c.get-green.result - 1)) slot ∙ ap (flagged (with_name b id) (lane_of id)) i in
+    ap seen made ∙ red-named-seen b id c.self.invariant c.lane_of-slot.ensures.creator above known
     ∙ sym (yellow-added (seen b) id above none) ∙ ap (λ q. with_yellow q id) c.self.view_is

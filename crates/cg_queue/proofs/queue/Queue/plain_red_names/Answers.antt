@@ -6,32 +6,32 @@ use Rattle.cg_queue.proofs.Soundness.{reds-end, reds-all}
 use Rattle.cg_queue.proofs.PlainReds.{plain, plain-step}
 use Rattle.cg_queue.proofs.queue.Queue.plain_red_names.Goals as goal
 
-pub loop-place-init : goal.loop-place-init
-loop-place-init c =
+pub loop-slot-init : goal.loop-slot-init
+loop-slot-init c =
     let b = parts_of c.self.inside.body in
     ap (λ ids. ids ++ plain (seen b).yellow (names_of (reds_from b.reds 32 0))) c.new-ids.ensures
     ∙ ap (λ reds. plain (seen b).yellow (names_of reds)) (reds-all b.reds)
 
-pub loop-place-preserved : goal.loop-place-preserved
-loop-place-preserved c =
+pub loop-slot-preserved : goal.loop-slot-preserved
+loop-slot-preserved c =
     let b = parts_of c.self.inside.body in
-    let place = c.loop-place.place in
-    let next : place + 1 ≡ suc place = omega arith in
-    let rest = plain (seen b).yellow (names_of (reds_from b.reds (32 - (place + 1)) (place + 1))) in
+    let slot = c.loop-slot.slot in
+    let next : slot + 1 ≡ suc slot = omega arith in
+    let rest = plain (seen b).yellow (names_of (reds_from b.reds (32 - (slot + 1)) (slot + 1))) in
     ap (λ ids. ids ++ rest) c.in_ok-add_plain_names.ensures
-    ∙ append_assoc c.loop-place.ids (plain (seen b).yellow (names_of (actions_in (b.reds place)))) rest
-    ∙ ap (λ n. c.loop-place.ids ++ (plain (seen b).yellow (names_of (actions_in (b.reds place))) ++ plain (seen b).yellow (names_of (reds_from b.reds (32 - n) n)))) next
-    ∙ ap (λ ids. c.loop-place.ids ++ ids) (sym (plain-step (seen b).yellow b.reds place (omega arith)))
-    ∙ c.loop-place.invariant
+    ∙ append_assoc c.loop-slot.ids (plain (seen b).yellow (names_of (actions_in (b.reds slot)))) rest
+    ∙ ap (λ n. c.loop-slot.ids ++ (plain (seen b).yellow (names_of (actions_in (b.reds slot))) ++ plain (seen b).yellow (names_of (reds_from b.reds (32 - n) n)))) next
+    ∙ ap (λ ids. c.loop-slot.ids ++ ids) (sym (plain-step (seen b).yellow b.reds slot (omega arith)))
+    ∙ c.loop-slot.invariant
 
 pub returns : goal.returns
 returns c =
     let b = parts_of c.self.inside.body in
-    let place = c.loop-place.place in
-    sym (append-nothing c.loop-place.ids)
-    ∙ ap (λ reds. c.loop-place.ids ++ plain (seen b).yellow (names_of reds)) (sym (reds-end b.reds place (omega arith)))
-    ∙ c.loop-place.invariant
+    let slot = c.loop-slot.slot in
+    sym (append-nothing c.loop-slot.ids)
+    ∙ ap (λ reds. c.loop-slot.ids ++ plain (seen b).yellow (names_of reds)) (sym (reds-end b.reds slot (omega arith)))
+    ∙ c.loop-slot.invariant
     ∙ ap (λ q. plain q.yellow (names_of q.reds)) c.self.view_is
 
 pub add_plain_names-requires-clause-lane : goal.add_plain_names-requires-clause-lane
-add_plain_names-requires-clause-lane c = c.self.invariant.lanes c.loop-place.place (omega arith)
+add_plain_names-requires-clause-lane c = c.self.invariant.lanes c.loop-slot.slot (omega arith)
