@@ -19,45 +19,73 @@ use Rattle.cg_action.specs.declared.action.Action.{Action}
 abbrev pub IsTextWithin : ℕ → ℕ → List ℕ → Type 0
 IsTextWithin low high t = IsUtf8 t × (low ≤ length t) × (length t ≤ high)
 
--- a key has 1 to 64 bytes, the front of one 0 to 64
-abbrev pub IsKey : List ℕ → Type 0
-IsKey = IsTextWithin 1 64
-
-abbrev pub IsPrefix : List ℕ → Type 0
-IsPrefix = IsTextWithin 0 64
-
--- a text has at most 1,024 bytes, and a number 64 bits with a sign
-abbrev pub IsValue : Value → Type 0
-IsValue (Text t) = IsTextWithin 0 1024 t
-IsValue (Int n) = FitsSigned w64 n
-
--- a value, or none
-abbrev pub IsWant : Option Value → Type 0
-IsWant = HasOptional IsValue
-
-abbrev pub IsCommand : Cmd → Type 0
-IsCommand (Put key value) = IsKey key × IsValue value
-IsCommand (Del key) = IsKey key
-IsCommand (Inc key by) = IsKey key × FitsSigned w64 by
-IsCommand (Cas key want value) = IsKey key × IsWant want × IsValue value
-IsCommand (Move source target amount) = IsKey source × IsKey target × FitsSigned w64 amount × (pos 0 ≤ℤ amount)
-IsCommand (Need key want) = IsKey key × IsWant want
-
-abbrev pub IsQuery : Query → Type 0
-IsQuery (Get key) = IsKey key
-IsQuery (Keys prefix) = IsPrefix prefix
-IsQuery Count = Unit {0}
-
 -- there is a command or a query
 abbrev pub does_something : List Cmd → Option Query → Bool
 does_something cmds query = not (length cmds == 0) || is_some query
 
--- at most 16 commands; without any there is a query
-pub record IsUpdate (cmds : List Cmd) (query : Option Query) : Type 0 where
-  pub few : length cmds ≤ 16
-  pub each : All IsCommand cmds
-  pub asks : HasOptional IsQuery query
-  pub does : does_something cmds query ≡ true
+-- The limits of what is asked, over texts of one sort: those of an action are any in UTF-8, those of a line in a schedule have no control bytes.
+module _ (IsText : ℕ → ℕ → List ℕ → Type 0) where
+  -- a key has 1 to 64 bytes, the front of one 0 to 64
+  abbrev pub IsKeyOf : List ℕ → Type 0
+  IsKeyOf = IsText 1 64
+
+  abbrev pub IsPrefixOf : List ℕ → Type 0
+  IsPrefixOf = IsText 0 64
+
+  -- a text has at most 1,024 bytes, and a number 64 bits with a sign
+  abbrev pub IsValueOf : Value → Type 0
+  IsValueOf (Text t) = IsText 0 1024 t
+  IsValueOf (Int n) = FitsSigned w64 n
+
+  -- a value, or none
+  abbrev pub IsWantOf : Option Value → Type 0
+  IsWantOf = HasOptional IsValueOf
+
+  abbrev pub IsCommandOf : Cmd → Type 0
+  IsCommandOf (Put key value) = IsKeyOf key × IsValueOf value
+  IsCommandOf (Del key) = IsKeyOf key
+  IsCommandOf (Inc key by) = IsKeyOf key × FitsSigned w64 by
+  IsCommandOf (Cas key want value) = IsKeyOf key × IsWantOf want × IsValueOf value
+  IsCommandOf (Move source target amount) = IsKeyOf source × IsKeyOf target × FitsSigned w64 amount × (pos 0 ≤ℤ amount)
+  IsCommandOf (Need key want) = IsKeyOf key × IsWantOf want
+
+  abbrev pub IsQueryOf : Query → Type 0
+  IsQueryOf (Get key) = IsKeyOf key
+  IsQueryOf (Keys prefix) = IsPrefixOf prefix
+  IsQueryOf Count = Unit {0}
+
+  -- a query, or none
+  abbrev pub IsAskedOf : Option Query → Type 0
+  IsAskedOf = HasOptional IsQueryOf
+
+  -- at most 16 commands; without any there is a query
+  pub record IsUpdateOf (cmds : List Cmd) (query : Option Query) : Type 0 where
+    pub few : length cmds ≤ 16
+    pub each : All IsCommandOf cmds
+    pub asks : IsAskedOf query
+    pub does : does_something cmds query ≡ true
+
+-- the limits in an action
+abbrev pub IsKey : List ℕ → Type 0
+IsKey = IsKeyOf IsTextWithin
+
+abbrev pub IsPrefix : List ℕ → Type 0
+IsPrefix = IsPrefixOf IsTextWithin
+
+abbrev pub IsValue : Value → Type 0
+IsValue = IsValueOf IsTextWithin
+
+abbrev pub IsWant : Option Value → Type 0
+IsWant = IsWantOf IsTextWithin
+
+abbrev pub IsCommand : Cmd → Type 0
+IsCommand = IsCommandOf IsTextWithin
+
+abbrev pub IsQuery : Query → Type 0
+IsQuery = IsQueryOf IsTextWithin
+
+abbrev pub IsUpdate : List Cmd → Option Query → Type 0
+IsUpdate = IsUpdateOf IsTextWithin
 
 -- a joiner has a weight from 1 to 255
 abbrev pub IsKind : Kind → Type 0

@@ -2,19 +2,19 @@
 use Rattle.std.proofs.Common.{◌≡◌, ℕ, zero, suc, ◌≤◌, [], ◌∷◌, refl, arith}
 use Rattle.cg_schedule.specs.declared.event.Event.{Event}
 use Rattle.cg_schedule.specs.declared.event.Event.TheVariants.{End}
-use Rattle.cg_gen.specs.Generated.{Progress, next_line, events_left}
+use Rattle.cg_gen.specs.Generated.{GeneratorState, next_line, events_left}
 
-pub none_left : (replicas left : ℕ) (progress : Progress) → left ≡ 0 → events_left replicas left progress ≡ []
+pub none_left : (replicas left : ℕ) (state : GeneratorState) → left ≡ 0 → events_left replicas left state ≡ []
 unfolding events_left
-none_left replicas left progress none = rw none refl
+none_left replicas left state none = rw none refl
 
-pub end_left : (replicas left behind : ℕ) (progress : Progress) → left ≡ 1 → behind ≡ 0
-    → events_left replicas left progress ≡ End ∷ events_left replicas behind progress
+pub end_left : (replicas left behind : ℕ) (state : GeneratorState) → left ≡ 1 → behind ≡ 0
+    → events_left replicas left state ≡ End ∷ events_left replicas behind state
 unfolding events_left
-end_left replicas left behind progress one none = rw (one, none) refl
+end_left replicas left behind state one none = rw (one, none) refl
 
-pub more_left : (replicas left behind : ℕ) (progress after : Progress) (event : Event) → left ≡ suc behind → 1 ≤ behind
-    → next_line replicas behind progress ≡ (event, after) → events_left replicas left progress ≡ event ∷ events_left replicas behind after
+pub more_left : (replicas left behind : ℕ) (state after : GeneratorState) (event : Event) → left ≡ suc behind → 1 ≤ behind
+    → next_line replicas behind state ≡ (event, after) → events_left replicas left state ≡ event ∷ events_left replicas behind after
 unfolding events_left
-more_left replicas left zero progress after event one_more some line = absurd (omega (arith, some))
-more_left replicas left (suc behind) progress after event one_more some line = rw (one_more, line) refl
+more_left replicas left zero state after event one_more some line = absurd (omega (arith, some))
+more_left replicas left (suc behind) state after event one_more some line = rw (one_more, line) refl

@@ -176,32 +176,32 @@ block replicas left cells = draw 10 >>= block_of replicas left cells
 -- ---- the schedule
 
 -- what the lines that are left hang on: the number of the sequence, the cells, and the lines of a block that wait
-pub record Progress : Type 0 where
+pub record GeneratorState : Type 0 where
   pub number : ℕ
   pub cells : List (List ℕ)
   pub waiting : List Event
 
 -- a block's first line, and what stands behind it
-abbrev pub begun : Block × ℕ → Event × Progress
+abbrev pub begun : Block × ℕ → Event × GeneratorState
 begun b = (b.0.first, record { number = b.1; cells = b.0.cells; waiting = b.0.others })
 
 -- the next line, where so many are left before the end, and what stands behind it
-abbrev pub line_with : ℕ → ℕ → ℕ → List (List ℕ) → List Event → Event × Progress
+abbrev pub line_with : ℕ → ℕ → ℕ → List (List ℕ) → List Event → Event × GeneratorState
 line_with replicas left number cells [] = begun (block replicas left cells number)
 line_with replicas left number cells (event ∷ waiting) = (event, record { number = number; cells = cells; waiting = waiting })
 
-abbrev pub next_line : ℕ → ℕ → Progress → Event × Progress
-next_line replicas left progress = line_with replicas left progress.number progress.cells progress.waiting
+abbrev pub next_line : ℕ → ℕ → GeneratorState → Event × GeneratorState
+next_line replicas left state = line_with replicas left state.number state.cells state.waiting
 
 -- the events that are left, of which there are so many
-unfoldable pub events_left : ℕ → ℕ → Progress → List Event
-events_left replicas zero progress = []
-events_left replicas (suc zero) progress = End ∷ []
-events_left replicas (suc (suc left)) progress =
-    let line : Event × Progress = next_line replicas (suc left) progress in line.0 ∷ events_left replicas (suc left) line.1
+unfoldable pub events_left : ℕ → ℕ → GeneratorState → List Event
+events_left replicas zero state = []
+events_left replicas (suc zero) state = End ∷ []
+events_left replicas (suc (suc left)) state =
+    let line : Event × GeneratorState = next_line replicas (suc left) state in line.0 ∷ events_left replicas (suc left) line.1
 
 -- where a schedule begins: all start, and then come together into one cell
-abbrev pub at_the_start : ℕ → List ℕ → Progress
+abbrev pub at_the_start : ℕ → List ℕ → GeneratorState
 at_the_start seed all = record { number = seed; cells = all ∷ []; waiting = Start (each_once all) ∷ Merge all ∷ [] }
 
 -- the schedule

@@ -4,37 +4,37 @@ use Rattle.std.proofs.Common.{◌≡◌, ℕ, zero, suc, ◌+◌, ◌<◌, ◌==
 use Rattle.cg_base.specs.Lists.{count_up}
 use Rattle.cg_schedule.specs.declared.event.Event.{Event}
 use Rattle.cg_schedule.specs.declared.event.Event.TheVariants.{Split, Merge, Gather}
-use Rattle.cg_schedule.specs.declared.place.Place.{Place}
-use Rattle.cg_schedule.specs.Line.{first_place, place_after}
+use Rattle.cg_schedule.specs.declared.reader_state.ReaderState.{ReaderState}
+use Rattle.cg_schedule.specs.Line.{first_state, state_after}
 use Rattle.cg_schedule.specs.Laws.{MayStand}
 use Rattle.cg_gen.specs.declared.halves.Halves.{Halves}
-use Rattle.cg_gen.specs.Generated.{Drawing, draw, ◌>>=◌, done, increment, set_and_get, weak_get, passes, asking, Block, line_alone, cell_at, halved, in_parts, parting, joining, parting_or_joining, regrouping, restarting, block_of, block, Progress, line_with, next_line, events_left, with_cell, generated, at_the_start}
+use Rattle.cg_gen.specs.Generated.{Drawing, draw, ◌>>=◌, done, increment, set_and_get, weak_get, passes, asking, Block, line_alone, cell_at, halved, in_parts, parting, joining, parting_or_joining, regrouping, restarting, block_of, block, GeneratorState, line_with, next_line, events_left, with_cell, generated, at_the_start}
 
--- each of the events may stand in its place, the first of them in the given one
-abbrev pub AllStand : Place → List Event → Type 0
-AllStand place [] = Unit {0}
-AllStand place (event ∷ events) = MayStand place event × AllStand (place_after place event) events
+-- each of the events may stand in its state, the first of them in the given one
+abbrev pub AllStand : ReaderState → List Event → Type 0
+AllStand state [] = Unit {0}
+AllStand state (event ∷ events) = MayStand state event × AllStand (state_after state event) events
 
 -- ---- how many
 
-pub events_left-length : (replicas left : ℕ) (progress : Progress) → length (events_left replicas left progress) ≡ left
+pub events_left-length : (replicas left : ℕ) (state : GeneratorState) → length (events_left replicas left state) ≡ left
 unfolding events_left
-events_left-length replicas zero progress = refl
-events_left-length replicas (suc zero) progress = refl
-events_left-length replicas (suc (suc left)) progress =
-    ap (λ n. suc n) (events_left-length replicas (suc left) (next_line replicas (suc left) progress).1)
+events_left-length replicas zero state = refl
+events_left-length replicas (suc zero) state = refl
+events_left-length replicas (suc (suc left)) state =
+    ap (λ n. suc n) (events_left-length replicas (suc left) (next_line replicas (suc left) state).1)
 
 pub generated-length : (seed replicas lines : ℕ) → length (generated seed replicas lines) ≡ lines
 generated-length seed replicas lines = events_left-length replicas lines (at_the_start seed (count_up 1 replicas))
 
 -- ---- between start and end
 
-abbrev running : Place
+abbrev running : ReaderState
 running = record { started = true; ended = false }
 
 -- the event may stand between start and end, and changes nothing of that
 abbrev Goes : Event → Type 0
-Goes event = MayStand running event × (place_after running event ≡ running)
+Goes event = MayStand running event × (state_after running event ≡ running)
 
 abbrev AllGo : List Event → Type 0
 AllGo [] = Unit {0}
@@ -131,15 +131,15 @@ line-goes : (replicas left number : ℕ) (cells : List (List ℕ)) (waiting : Li
 line-goes replicas left number cells [] go = block-goes replicas left cells number
 line-goes replicas left number cells (event ∷ waiting) go = go
 
-events_left-stand : (replicas left : ℕ) (progress : Progress) → AllGo progress.waiting → AllStand running (events_left replicas (suc left) progress)
+events_left-stand : (replicas left : ℕ) (state : GeneratorState) → AllGo state.waiting → AllStand running (events_left replicas (suc left) state)
 unfolding events_left
-events_left-stand replicas zero progress go = (refl, tt)
-events_left-stand replicas (suc left) progress go =
-    let line = line-goes replicas (suc left) progress.number progress.cells progress.waiting go in
-    let after : Progress = (next_line replicas (suc left) progress).1 in
-    (line.0.0, subst (λ (place : Place). AllStand place (events_left replicas (suc left) after)) (sym line.0.1) (events_left-stand replicas left after line.1))
+events_left-stand replicas zero state go = (refl, tt)
+events_left-stand replicas (suc left) state go =
+    let line = line-goes replicas (suc left) state.number state.cells state.waiting go in
+    let after : GeneratorState = (next_line replicas (suc left) state).1 in
+    (line.0.0, subst (λ (state : ReaderState). AllStand state (events_left replicas (suc left) after)) (sym line.0.1) (events_left-stand replicas left after line.1))
 
-pub generated-stands : (seed replicas lines : ℕ) → 1 < lines → AllStand first_place (generated seed replicas lines)
+pub generated-stands : (seed replicas lines : ℕ) → 1 < lines → AllStand first_state (generated seed replicas lines)
 unfolding events_left
 generated-stands seed replicas zero some = absurd (omega (arith, some))
 generated-stands seed replicas (suc zero) some = absurd (omega (arith, some))

@@ -2,7 +2,7 @@ ghost use Rattle.std.specs.Prelude.{◌≡◌, [], ◌∷◌, IfOk, OnErr, Match
 ghost use Rattle.cg_base.specs.Lists.{count_up};
 ghost use Rattle.cg_gen.specs.Generated.{generated};
 
-use crate::progress::Progress;
+use crate::generator_state::GeneratorState;
 use cg_base::{IdSet, NoMemory, ReplicaId};
 use cg_schedule::Event;
 use std::alloc::Global;
@@ -14,7 +14,7 @@ pub struct Generator {
     replicas: ReplicaId,
     // the lines that are left, the end among them
     left: u64,
-    progress: Progress,
+    state: GeneratorState,
 }
 
 impl Model for Generator {
@@ -24,7 +24,7 @@ impl Model for Generator {
 
     ghost Value = { List Event };
 
-    ghost view = { λ g. events_left g.replicas g.left g.progress };
+    ghost view = { λ g. events_left g.replicas g.left g.state };
 }
 
 impl Generator {
@@ -37,11 +37,11 @@ impl Generator {
     ) -> Result<Generator, NoMemory>
         ensures { IfOk result (λ generator. generator ≡ generated seed replicas lines) }
     {
-        let progress = Progress::new(alloc, seed, all_up_to(replicas))?;
+        let state = GeneratorState::new(alloc, seed, all_up_to(replicas))?;
         Ok(Generator {
             replicas,
             left: lines,
-            progress,
+            state,
         })
     }
 
@@ -58,7 +58,7 @@ impl Generator {
             self.left = left;
             return Ok(Some(Event::End));
         }
-        let event = self.progress.next(alloc, self.replicas, left)?;
+        let event = self.state.next(alloc, self.replicas, left)?;
         self.left = left;
         Ok(Some(event))
     }

@@ -9,8 +9,8 @@ mod cells;
 mod client;
 mod draws;
 mod generator;
+mod generator_state;
 mod halves;
-mod progress;
 mod waiting;
 mod writing;
 

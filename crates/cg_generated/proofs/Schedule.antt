@@ -10,7 +10,7 @@ use Rattle.cg_group.specs.declared.phase.Phase.TheVariants.{Alone, Regular}
 use Rattle.cg_group.specs.Refusals.{same_phase}
 use Rattle.cg_schedule.specs.declared.event.Event.{Event}
 use Rattle.cg_schedule.specs.declared.event.Event.TheVariants.{Start, Merge}
-use Rattle.cg_gen.specs.Generated.{draw, draw_from_one, Progress, line_with, events_left, at_the_start, generated}
+use Rattle.cg_gen.specs.Generated.{draw, draw_from_one, GeneratorState, line_with, events_left, at_the_start, generated}
 use Rattle.cg_agree.specs.Run.{Run, no_run, play, run_of}
 use Rattle.cg_generated.specs.Admitted.{GeneratedAreAdmitted}
 use Rattle.cg_agree.specs.PhaseLaws.{phase_at, all_at}
@@ -54,21 +54,21 @@ module _ (replicas : ℕ) (some : 1 ≤ replicas) (high : replicas ≤ 32) where
 
   -- the refusal behind so many lines, none of which is refused
   abbrev LeftGo : ℕ → Type 0
-  LeftGo left = (progress : Progress) (run : Run) → GoesOn all run progress.waiting progress.cells → (fold play run (events_left replicas left progress)).refused ≡ None
+  LeftGo left = (state : GeneratorState) (run : Run) → GoesOn all run state.waiting state.cells → (fold play run (events_left replicas left state)).refused ≡ None
 
   line-goes : (left number : ℕ) (cells : List (List ℕ)) (waiting : List Event) (run : Run) → LeftGo (suc left) → GoesOn all run waiting cells →
       (fold play (play run (line_with replicas (suc left) number cells waiting).0) (events_left replicas (suc left) (line_with replicas (suc left) number cells waiting).1)).refused ≡ None
   line-goes left number cells [] run rest between =
-      let next : Event × Progress = line_with replicas (suc left) number cells [] in
+      let next : Event × GeneratorState = line_with replicas (suc left) number cells [] in
       rest next.1 (play run next.0) (block-goes all ascends cells run between replicas (λ x. drawn-one replicas x some) (suc left) number).1
   line-goes left number cells (e ∷ waiting) run rest on = rest (line_with replicas (suc left) number cells (e ∷ waiting)).1 (play run e) on.1
 
   -- the lines that are left
   left-goes : (left : ℕ) → LeftGo left
   unfolding events_left
-  left-goes zero progress run goes = so-far run progress.waiting progress.cells goes
-  left-goes (suc zero) progress run goes = so-far run progress.waiting progress.cells goes
-  left-goes (suc (suc left)) progress run goes = line-goes left progress.number progress.cells progress.waiting run (left-goes (suc left)) goes
+  left-goes zero state run goes = so-far run state.waiting state.cells goes
+  left-goes (suc zero) state run goes = so-far run state.waiting state.cells goes
+  left-goes (suc (suc left)) state run goes = line-goes left state.number state.cells state.waiting run (left-goes (suc left)) goes
 
   -- ---- the start
 

@@ -1,8 +1,7 @@
 -- What a line may ask for is within the limits of an action: those of a line are narrower; and its event is the next one of a run under way.
-use Rattle.std.proofs.Common.{◌≡◌, ◌<◌, ℕ, List, [], ◌∷◌, length, Option, Some, None, Ok, true, false, not, if◌then◌else◌, refl, ap, ◌∙◌, ◌↔◌}
+use Rattle.std.proofs.Common.{◌≡◌, ◌<◌, ℕ, List, length, Option, Some, None, Ok, true, false, not, if◌then◌else◌, refl, ap, ◌∙◌, ◌↔◌}
 use Rattle.std.proofs.lemmas.Bool.{and_parts, not-true}
-use Rattle.std.specs.List.{All}
-use Rattle.std.proofs.lemmas.List.Elements.{All-nil, All-cons}
+use Rattle.std.proofs.lemmas.List.Elements.{All-weaker}
 use Rattle.cg_action.specs.declared.value.Value.{Value}
 use Rattle.cg_action.specs.declared.value.Value.TheVariants.{Text, Int}
 use Rattle.cg_action.specs.declared.command.Cmd.{Cmd}
@@ -12,12 +11,12 @@ use Rattle.cg_action.specs.declared.query.Query.TheVariants.{Get, Keys, Count}
 use Rattle.cg_action.specs.Limits as action
 use Rattle.cg_schedule.specs.declared.event.Event.{Event}
 use Rattle.cg_schedule.specs.declared.event.Event.TheVariants.{Start, Split, Merge, Request, Weak, Dirty, Order, Recover, Show, ShowOrder, Gather, End, Receive, Deliver, Rounds, Stop, Fail, Join, Leave, Transfer}
-use Rattle.cg_schedule.specs.declared.place.Place.{Place}
+use Rattle.cg_schedule.specs.declared.reader_state.ReaderState.{ReaderState}
 use Rattle.cg_schedule.specs.declared.word.Word.{Word}
 use Rattle.cg_schedule.specs.Limits as line
 use Rattle.cg_schedule.specs.Laws.{Reads, ReadsAs}
 use Rattle.cg_schedule.specs.Reading.{whole}
-use Rattle.cg_schedule.specs.Line.{is_start, event_word, fits, place_after, opening, event_reading, reading_behind, some_event}
+use Rattle.cg_schedule.specs.Line.{is_start, event_word, fits, state_after, opening, event_reading, reading_behind, some_event}
 use Rattle.cg_agree.specs.Run.{MayAsk}
 use Rattle.cg_events.specs.Happening.{IsCounted}
 use Rattle.cg_run.specs.declared.progress.Progress.{Progress}
@@ -26,37 +25,41 @@ use Rattle.cg_run.specs.UnderWay.{IsUnderWay, MayHappen, IsNext}
 text_within : (low high : ℕ) (t : List ℕ) → line.IsPrintable low high t → action.IsTextWithin low high t
 text_within low high t is = (is.0, is.2, is.3)
 
-key_within : (t : List ℕ) → line.IsKey t → action.IsKey t
+key_within : (t : List ℕ) → action.IsKeyOf line.IsPrintable t → action.IsKey t
 key_within t is = text_within 1 64 t is
 
-value_within : (v : Value) → line.IsValue v → action.IsValue v
+value_within : (v : Value) → action.IsValueOf line.IsPrintable v → action.IsValue v
 value_within (Text t) is = text_within 0 1024 t is
 value_within (Int n) is = is
 
-want_within : (want : Option Value) → line.IsWant want → action.IsWant want
+want_within : (want : Option Value) → action.IsWantOf line.IsPrintable want → action.IsWant want
 want_within None is = tt
 want_within (Some v) is = value_within v is
 
-command_within : (cmd : Cmd) → line.IsCommand cmd → action.IsCommand cmd
+command_within : (cmd : Cmd) → action.IsCommandOf line.IsPrintable cmd → action.IsCommand cmd
 command_within (Put key value) is = (key_within key is.0, value_within value is.1)
 command_within (Del key) is = key_within key is
 command_within (Inc key by) is = (key_within key is.0, is.1)
-command_within (Cas key want value) is = (key_within key is.0, want_within want is.1.0, value_within value is.1.1)
-command_within (Move source target amount) is = (key_within source is.0, key_within target is.1.0, is.1.1.0, is.1.1.1)
+command_within (Cas key want value) is = (key_within key is.0, want_within want is.1, value_within value is.2)
+command_within (Move source target amount) is = (key_within source is.0, key_within target is.1, is.2, is.3)
 command_within (Need key want) is = (key_within key is.0, want_within want is.1)
-
-commands_within : (cmds : List Cmd) → line.AreCommands cmds → All action.IsCommand cmds
-commands_within [] are = All-nil action.IsCommand
-commands_within (cmd ∷ cmds) are = All-cons action.IsCommand cmd cmds (command_within cmd are.0) (commands_within cmds are.1)
 
 query_within : (query : Query) → line.IsQuery query → action.IsQuery query
 query_within (Get key) is = key_within key is
 query_within (Keys prefix) is = text_within 0 64 prefix is
 query_within Count is = tt
 
+asked_within : (query : Option Query) → action.IsAskedOf line.IsPrintable query → action.IsAskedOf action.IsTextWithin query
+asked_within None is = tt
+asked_within (Some query) is = query_within query is
+
 update_within : (cmds : List Cmd) (query : Option Query) → line.IsUpdate cmds query → action.IsUpdate cmds query
-update_within cmds None is = record { few = is.few; each = commands_within cmds is.each; asks = tt; does = is.does }
-update_within cmds (Some query) is = record { few = is.few; each = commands_within cmds is.each; asks = query_within query is.asked; does = is.does }
+update_within cmds query is = record {
+  few = is.few;
+  each = All-weaker (action.IsCommandOf line.IsPrintable) action.IsCommand command_within cmds is.each;
+  asks = asked_within query is.asks;
+  does = is.does;
+}
 
 -- an event that a line may be may be asked
 pub may_ask : (e : Event) → line.IsEvent e → MayAsk e
@@ -69,24 +72,24 @@ may_ask other is = tt
 
 -- lines read as events exactly as the schedule's law says
 abbrev pub ExactLines : Type 0
-ExactLines = (place : Place) (line : List ℕ) (e : Event) → (Reads place line e) ↔ (ReadsAs place line e)
+ExactLines = (state : ReaderState) (line : List ℕ) (e : Event) → (Reads state line e) ↔ (ReadsAs state line e)
 
 -- a line that begins so, and goes on as the event, reads as it
-pub reads_of : (place : Place) (line : List ℕ) (o : Word × List (List ℕ)) (e : Event) → opening place line ≡ Ok (Some o) → whole (event_reading o.0) o.1 ≡ Ok e → Reads place line e
-reads_of place line o e opened read = ap reading_behind opened ∙ ap some_event read
+pub reads_of : (state : ReaderState) (line : List ℕ) (o : Word × List (List ℕ)) (e : Event) → opening state line ≡ Ok (Some o) → whole (event_reading o.0) o.1 ≡ Ok e → Reads state line e
+reads_of state line o e opened read = ap reading_behind opened ∙ ap some_event read
 
 -- an event within the limits counts its device call from 1
 counted : (e : Event) → line.IsEvent e → IsCounted e
 counted (Fail p call) is = is.1.0
 counted other is = tt
 
--- what may stand in the reader's place was started, where it is no start
+-- what may stand in the reader's state was started, where it is no start
 started_by : (s : Progress) (word : Word) → is_start word ≡ false → fits s.reader word ≡ true → s.reader.started ≡ true
 started_by s word later fit = rw later at (and_parts (not s.reader.ended) (if is_start word then not s.reader.started else s.reader.started) fit).1
 
 -- an event behind a start
 next_on : (s : Progress) (e : Event) → IsUnderWay s → is_start (event_word e) ≡ false → fits s.reader (event_word e) ≡ true
-    → (place_after s.reader e).started ≡ s.reader.started → (0 < length s.world.seats → MayHappen s.world e) → IsNext s e
+    → (state_after s.reader e).started ≡ s.reader.started → (0 < length s.world.seats → MayHappen s.world e) → IsNext s e
 next_on s e under later fit same happens =
     let started = started_by s (event_word e) later fit in record { started = same ∙ started; happens = happens (under.begun started) }
 

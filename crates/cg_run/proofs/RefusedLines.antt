@@ -15,11 +15,11 @@ use Rattle.cg_group.specs.Refusals.{deliver_refusal}
 use Rattle.cg_schedule.specs.declared.event.Event.{Event}
 use Rattle.cg_schedule.specs.declared.event.Event.TheVariants.{Gather, Deliver, Rounds, End}
 use Rattle.cg_schedule.specs.declared.fault.LineFault.{LineFault}
-use Rattle.cg_schedule.specs.declared.place.Place.{Place}
+use Rattle.cg_schedule.specs.declared.reader_state.ReaderState.{ReaderState}
 use Rattle.cg_schedule.specs.declared.word.Word.{Word}
 use Rattle.cg_schedule.specs.Reading.{whole}
 use Rattle.cg_schedule.specs.Laws.{Reads}
-use Rattle.cg_schedule.specs.Line.{first_place, opening, event_reading, place_after, place_behind, reading_behind}
+use Rattle.cg_schedule.specs.Line.{first_state, opening, event_reading, state_after, state_behind, reading_behind}
 use Rattle.cg_agree.specs.World.{World, has_begun, up_replicas}
 use Rattle.cg_agree.specs.Admission.{first_refusal}
 use Rattle.cg_agree.specs.Show.{Moved}
@@ -41,7 +41,7 @@ use Rattle.cg_run.specs.declared.status.Limit.TheVariants.{Steps}
 use Rattle.cg_run.specs.Produced.{Finding, Produced, before_all, status_of, went_on, ended_with, and_then, unless_refused, one_step}
 use Rattle.cg_run.specs.Rounds.{deliver_ready, deliveries, one_pass, passes, happened}
 use Rattle.cg_run.specs.Outcome.{lines_alone, pieces_for, event_outcome, word_outcome, opened_outcome, line_outcome, without_return, limit_of, unless_passed, whole_line, at_end, cut_line, last_piece, replayed, outcome_of, outcome}
-use Rattle.cg_run.specs.Refusing.{text_before, place_past, place_past_lines}
+use Rattle.cg_run.specs.Refusing.{text_before, state_past, state_past_lines}
 use Rattle.cg_run.specs.Taking.{TellsOfRefusals}
 use Rattle.cg_run.proofs.Asked.{ExactLines, reads_of}
 use Rattle.cg_run.proofs.GoingOn.{and_then-some}
@@ -182,7 +182,7 @@ happened-reader n other s = one_step-reader n other s
 record IsLine (n : ℕ) (text : List ℕ) (s : Progress) (p : Produced) : Type 0 where
   pub refuses : (m : ℕ) (r : Reason) → status_of p ≡ Some (status.Refused m r) →
       (m ≡ n) × (event : Event) × (Reads s.reader text event) × (first_refusal p.progress.world event ≡ Some r)
-  pub reader : p.found ≡ None → p.progress.reader ≡ place_past s.reader text
+  pub reader : p.found ≡ None → p.progress.reader ≡ state_past s.reader text
 
 ends-line : (n : ℕ) (text : List ℕ) (s : Progress) (st : Status) (lines : ℕ) → ((m : ℕ) (r : Reason) → st ≡ status.Refused m r → ⊥) → IsLine n text s (ended_with st lines s)
 ends-line n text s st lines other = record { refuses = λ m r e. absurd (other m r cc); reader = λ e. absurd cc }
@@ -194,13 +194,13 @@ is-line n text s = by_opening (opening s.reader text) refl where
   by_event o is (Ok event) read =
       let reads = reads_of s.reader text o event is read in
       record {
-        refuses = λ m r e. (let why = happened-refuses n event (record s { reader = place_after s.reader event }) m r e in (why.0, event, reads, why.1));
-        reader = λ e. happened-reader n event (record s { reader = place_after s.reader event }) ∙ sym (ap (place_behind s.reader) reads);
+        refuses = λ m r e. (let why = happened-refuses n event (record s { reader = state_after s.reader event }) m r e in (why.0, event, reads, why.1));
+        reader = λ e. happened-reader n event (record s { reader = state_after s.reader event }) ∙ sym (ap (state_behind s.reader) reads);
       }
   by_event o is (Err fault) read = ends-line n text s _ n (λ m r e. cc)
 
   by_opening : (r : Result (Option (Word × List (List ℕ))) LineFault) → opening s.reader text ≡ r → IsLine n text s (opened_outcome n r s)
-  by_opening (Ok None) is = record { refuses = λ m r e. cc; reader = λ e. sym (ap (λ r. place_behind s.reader (reading_behind r)) is) }
+  by_opening (Ok None) is = record { refuses = λ m r e. cc; reader = λ e. sym (ap (λ r. state_behind s.reader (reading_behind r)) is) }
   by_opening (Ok (Some o)) is = by_event o is (whole (event_reading o.0) o.1) refl
   by_opening (Err fault) is = ends-line n text s _ n (λ m r e. cc)
 
@@ -218,7 +218,7 @@ record RefusesIn (all : List (List ℕ)) (w : World) (n : ℕ) (reason : Reason)
   pub lines : all ≡ before ++ line ∷ behind
   pub numbered : n ≡ suc (length before)
   pub event : Event
-  pub reads : Reads (place_past_lines first_place before) (text_before behind line) event
+  pub reads : Reads (state_past_lines first_state before) (text_before behind line) event
   pub refused : first_refusal w event ≡ Some reason
 
 abbrev RefusesOf : List (List ℕ) → Produced → Type 0
@@ -236,13 +236,13 @@ refuses-and_then all p more first next = by_finding p.found refl where
   by_finding None e = rw e (next e)
   by_finding (Some f) e = subst (RefusesOf all) (sym (and_then-some p more f e)) first
 
--- the place behind one line more
-past-last : (before : List (List ℕ)) (place : Place) (line : List ℕ) → place_past_lines place (before ++ line ∷ []) ≡ place_past (place_past_lines place before) (without_return line)
-past-last [] place line = refl
-past-last (x ∷ before) place line = past-last before (place_past place (without_return x)) line
+-- the state behind one line more
+past-last : (before : List (List ℕ)) (state : ReaderState) (line : List ℕ) → state_past_lines state (before ++ line ∷ []) ≡ state_past (state_past_lines state before) (without_return line)
+past-last [] state line = refl
+past-last (x ∷ before) state line = past-last before (state_past state (without_return x)) line
 
 -- the lines before, the line, and those behind it
-module _ (all before : List (List ℕ)) (s : Progress) (here : s.reader ≡ place_past_lines first_place before) (n : ℕ) (numbered : n ≡ suc (length before)) where
+module _ (all before : List (List ℕ)) (s : Progress) (here : s.reader ≡ state_past_lines first_state before) (n : ℕ) (numbered : n ≡ suc (length before)) where
   line-refuses : (line : List ℕ) (behind : List (List ℕ)) → all ≡ before ++ line ∷ behind → (p : Produced) → IsLine n (text_before behind line) s p → RefusesOf all p
   line-refuses line behind lines p is m r e =
       let why = is.refuses m r e in
@@ -253,7 +253,7 @@ module _ (all before : List (List ℕ)) (s : Progress) (here : s.reader ≡ plac
         lines = lines;
         numbered = why.0 ∙ numbered;
         event = why.1;
-        reads = subst (λ place. Reads place (text_before behind line) why.1) here why.2;
+        reads = subst (λ state. Reads state (text_before behind line) why.1) here why.2;
         refused = why.3;
       }
 
@@ -274,7 +274,7 @@ module _ (all before : List (List ℕ)) (s : Progress) (here : s.reader ≡ plac
   whole-is : (at : ℕ) (line : List ℕ) → IsLine n (without_return line) s (whole_line n at line s)
   whole-is at line = unless-line (limit_of n (length line) (at + length line + 1)) n (without_return line) s (line_outcome n (without_return line) s) (is-line n (without_return line) s)
 
-replayed-refuses : (all before pieces : List (List ℕ)) (n at : ℕ) (how : Ending) (s : Progress) → all ≡ before ++ pieces → s.reader ≡ place_past_lines first_place before → n ≡ suc (length before)
+replayed-refuses : (all before pieces : List (List ℕ)) (n at : ℕ) (how : Ending) (s : Progress) → all ≡ before ++ pieces → s.reader ≡ state_past_lines first_state before → n ≡ suc (length before)
     → RefusesOf all (replayed n at pieces how s)
 replayed-refuses all before [] n at how s lines here numbered = λ m r e. cc
 replayed-refuses all before (rest ∷ []) n at how s lines here numbered = last-refuses all before s here n numbered at rest how lines
@@ -284,7 +284,7 @@ replayed-refuses all before (line ∷ next ∷ more) n at how s lines here numbe
     refuses-and_then all p (λ s'. replayed (n + 1) (at + length line + 1) (next ∷ more) how s') (line-refuses all before s here n numbered line (next ∷ more) lines p is)
     (λ e. replayed-refuses all (before ++ line ∷ []) (next ∷ more) (n + 1) (at + length line + 1) how p.progress
     (lines ∙ sym (append_assoc before (line ∷ []) (next ∷ more)))
-    (is.reader e ∙ ap (λ place. place_past place (without_return line)) here ∙ sym (past-last before first_place line))
+    (is.reader e ∙ ap (λ state. state_past state (without_return line)) here ∙ sym (past-last before first_state line))
     (grind (arith, length-append {A = List ℕ}, numbered)))
 
 outcome-refuses_in : (words : List (List ℕ)) (taken : List ℕ) (how : Ending) → RefusesOf (pieces_for (command_of words) taken) (outcome words taken how)

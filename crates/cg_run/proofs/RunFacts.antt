@@ -7,11 +7,11 @@ use Rattle.cg_group.specs.Ready.{ready}
 use Rattle.cg_schedule.specs.declared.event.Event.{Event}
 use Rattle.cg_schedule.specs.declared.event.Event.TheVariants.{Start, Split, Merge, Gather, Deliver, Rounds, End}
 use Rattle.cg_schedule.specs.declared.fault.LineFault.{LineFault}
-use Rattle.cg_schedule.specs.declared.place.Place.{Place}
+use Rattle.cg_schedule.specs.declared.reader_state.ReaderState.{ReaderState}
 use Rattle.cg_schedule.specs.declared.word.Word.{Word}
 use Rattle.cg_schedule.specs.Limits.{IsEvent}
 use Rattle.cg_schedule.specs.Reading.{whole}
-use Rattle.cg_schedule.specs.Line.{event_word, fits, opening, event_reading, place_after}
+use Rattle.cg_schedule.specs.Line.{event_word, fits, opening, event_reading, state_after}
 use Rattle.cg_agree.specs.World.{World, no_world, up_replicas}
 use Rattle.cg_agree.specs.Admission.{first_refusal}
 use Rattle.cg_agree.specs.Show.{Moved}
@@ -148,7 +148,7 @@ Stays-went_on : (s : Progress) → IsUnderWay s → Stays s (went_on s)
 Stays-went_on s under = record { holds = Holds-went_on s s refl refl under; reader = refl }
 
 started_behind : (s : Progress) (p : Produced) → Stays s p → s.reader.started ≡ true → p.progress.reader.started ≡ true
-started_behind s p h started = ap (λ (p : Place). p.started) h.reader ∙ started
+started_behind s p h started = ap (λ (p : ReaderState). p.started) h.reader ∙ started
 
 Stays-deliver_ready : (n p : ℕ) (s : Progress) → IsUnderWay s → s.reader.started ≡ true → Stays s (deliver_ready n p s)
 Stays-deliver_ready n p s under started = by_count (ready s.world.group p == 0) where
@@ -180,7 +180,7 @@ Stays-passes n (suc count) s under started =
 
 -- the reader behind an event that was read
 abbrev moved : Event → Progress → Progress
-moved event s = record s { reader = place_after s.reader event }
+moved event s = record s { reader = state_after s.reader event }
 
 -- what was read of a progress is what holds of the one before it
 Holds-moved : (s : Progress) (e : Event) (p : Produced) → Holds (moved e s) p → Holds s p

@@ -10,7 +10,7 @@ use Rattle.cg_schedule.specs.declared.event.Event.TheVariants.{Gather, Deliver, 
 use Rattle.cg_schedule.specs.declared.fault.LineFault.{LineFault}
 use Rattle.cg_schedule.specs.declared.word.Word.{Word}
 use Rattle.cg_schedule.specs.Reading.{whole}
-use Rattle.cg_schedule.specs.Line.{opening, event_reading, place_after}
+use Rattle.cg_schedule.specs.Line.{opening, event_reading, state_after}
 use Rattle.cg_agree.specs.World.{up_replicas}
 use Rattle.cg_agree.specs.Admission.{first_refusal}
 use Rattle.cg_agree.specs.Step.{world_step}
@@ -100,7 +100,7 @@ IsInLine-happened n (Rounds count) s = IsInLine-passes n count s
 IsInLine-happened n other s = IsInLine-one_step n other s
 
 IsInLine-event : (n : ℕ) (r : Result Event LineFault) (s : Progress) → IsInLine n (event_outcome n r s)
-IsInLine-event n (Ok event) s = IsInLine-happened n event (record s { reader = place_after s.reader event })
+IsInLine-event n (Ok event) s = IsInLine-happened n event (record s { reader = state_after s.reader event })
 IsInLine-event n (Err fault) s = same n
 
 IsInLine-word : (n : ℕ) (word : Word) (tokens : List (List ℕ)) (s : Progress) → IsInLine n (word_outcome n word tokens s)

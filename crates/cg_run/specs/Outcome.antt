@@ -7,7 +7,7 @@ use Rattle.cg_schedule.specs.declared.fault.LineFault.{LineFault}
 use Rattle.cg_schedule.specs.declared.fault.LineFault.TheVariants.{Syntax, NoMemory}
 use Rattle.cg_schedule.specs.declared.word.Word.{Word}
 use Rattle.cg_schedule.specs.Reading.{whole}
-use Rattle.cg_schedule.specs.Line.{opening, event_reading, place_after}
+use Rattle.cg_schedule.specs.Line.{opening, event_reading, state_after}
 use Rattle.cg_run.specs.declared.progress.Ending.{Ending}
 use Rattle.cg_run.specs.declared.progress.Ending.TheVariants.{Ended, Failed, Open}
 use Rattle.cg_run.specs.declared.progress.Progress.{Progress}
@@ -39,7 +39,7 @@ unreadable n fault s = ended_with (status.Syntax n (reason_of fault)) n s
 
 -- what line n comes to, whose event reads so
 abbrev pub event_outcome : ℕ → Result Event LineFault → Progress → Produced
-event_outcome n (Ok event) s = happened n event (record s { reader = place_after s.reader event })
+event_outcome n (Ok event) s = happened n event (record s { reader = state_after s.reader event })
 event_outcome n (Err fault) s = unreadable n fault s
 
 -- what line n comes to that begins with the word, before these tokens

@@ -3,7 +3,7 @@
 use Rattle.std.specs.Prelude.{ℕ, ◌+◌, nat_lt, List, [], ◌∷◌, ◌++◌, Option, Some, None, option_map, if◌then◌else◌}
 use Rattle.cg_group.specs.declared.reason.Reason.{Reason}
 use Rattle.cg_schedule.specs.declared.event.Event.{Event}
-use Rattle.cg_schedule.specs.Line.{first_place}
+use Rattle.cg_schedule.specs.Line.{first_state}
 use Rattle.cg_agree.specs.World.{no_world}
 use Rattle.cg_agree.specs.Admission.{first_refusal}
 use Rattle.cg_agree.specs.Show.{Moved}
@@ -35,7 +35,7 @@ pub record Produced : Type 0 where
 
 -- before the first line
 abbrev pub before_all : Progress
-before_all = record { world = no_world; reader = first_place; count = 0; totals = no_totals }
+before_all = record { world = no_world; reader = first_state; count = 0; totals = no_totals }
 
 -- a report with the tail of the finding, where there is one
 abbrev pub with_tail : List ℕ → Option Finding → ℕ → List ℕ

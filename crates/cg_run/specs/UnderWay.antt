@@ -2,7 +2,7 @@
 use Rattle.std.specs.Prelude.{◌≡◌, ◌<◌, true, false, length}
 use Rattle.cg_schedule.specs.declared.event.Event.{Event}
 use Rattle.cg_schedule.specs.declared.event.Event.TheVariants.{Rounds, End}
-use Rattle.cg_schedule.specs.Line.{place_after}
+use Rattle.cg_schedule.specs.Line.{state_after}
 use Rattle.cg_agree.specs.World.{World, no_world}
 use Rattle.cg_agree.specs.Run.{MayStand}
 use Rattle.cg_events.specs.Happening.{IsCounted}
@@ -26,5 +26,5 @@ MayHappen w other = MayStand w other × IsCounted other
 
 -- the event is the next one: behind it a start was read, and it may happen
 pub record IsNext (s : Progress) (e : Event) : Type 0 where
-  pub started : (place_after s.reader e).started ≡ true
+  pub started : (state_after s.reader e).started ≡ true
   pub happens : MayHappen s.world e

@@ -205,7 +205,7 @@ fn close_at_end<K: Sink>(alloc: Global, output: &mut K, lines: u64, progress: &P
         (K.view output.old) (K.view output.new) result }
 {
     let count = progress.count;
-    if progress.reader.place().ended {
+    if progress.reader.state().ended {
         finish(alloc, output, Status::Done, count, lines)
     } else {
         finish(alloc, output, Status::NoEnd { lines }, count, lines)

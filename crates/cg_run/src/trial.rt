@@ -83,7 +83,7 @@ fn close_trial<K: Sink>(alloc: Global, output: &mut K, lines: u64, progress: &Pr
         (K.view output.old) (K.view output.new) result }
 {
     let count = progress.count;
-    if !progress.reader.place().ended {
+    if !progress.reader.state().ended {
         return finish(alloc, output, Status::NoEnd { lines }, count, lines);
     }
     let mut text = Vec::new(alloc);

@@ -10,15 +10,19 @@ use Rattle.cg_action.specs.declared.command.Cmd.{Cmd}
 use Rattle.cg_action.specs.declared.command.Cmd.TheVariants.{Put, Del, Inc, Cas, Move, Need}
 use Rattle.cg_action.specs.declared.query.Query.{Query}
 use Rattle.cg_action.specs.declared.query.Query.TheVariants.{Get, Keys, Count}
+use Rattle.cg_action.specs.Limits.{IsKeyOf, IsCommandOf}
 use Rattle.cg_action.specs.Print.{value_text, want_text}
 use Rattle.cg_schedule.specs.Reading.{Reading, ◌>>=◌, done, token_part}
 use Rattle.cg_schedule.specs.Part.{text, integer, amount, value, want, text_part, integer_part, amount_part, value_part, want_part}
 use Rattle.cg_schedule.specs.Command.{key_part, prefix_part, put_reading, del_reading, inc_reading, cas_reading, move_reading, need_reading, command_of, query_of, query_reading}
-use Rattle.cg_schedule.specs.Limits.{IsPrintable, IsKey, IsValue, IsWant, IsCommand, IsQuery}
+use Rattle.cg_schedule.specs.Limits.{IsPrintable, IsQuery}
 use Rattle.cg_schedule.proofs.PartLaws.{Anything, Found, Makes, IsPart, given, part-token, made, bound}
-use Rattle.cg_schedule.proofs.TokenParts.{TextFacts, IsAmount, same_text-true, text_token, integer_token, amount_token, value_token, want_token}
+use Rattle.cg_schedule.proofs.TokenParts.{TextFacts, IsAmount, IsValue, IsWant, same_text-true, text_token, integer_token, amount_token, value_token, want_token}
 
 -- ---- parts of one token
+
+abbrev IsKey : List ℕ → Type 0
+IsKey = IsKeyOf IsPrintable
 
 key_is : TextFacts → IsPart Anything IsKey (λ t. quoted t ∷ []) key_part
 unfolding text_part
@@ -116,13 +120,16 @@ worded : {Y : Type 0} (word w : List ℕ) (here others : Reading Y) (left : List
 worded word w here others left y new P first rest true same e = first (same_text-true word w same) e
 worded word w here others left y new P first rest false same e = rest e
 
+abbrev pub IsCommand : Cmd → Type 0
+IsCommand = IsCommandOf IsPrintable
+
 command_again : TextFacts → (cmd : Cmd) (left : List (List ℕ)) → IsCommand cmd → command_reading (command_tokens cmd ++ left) ≡ Ok (cmd, left)
 unfolding command_of command_tokens
 command_again facts (Put key value) left has = (put_makes facts).again (key, value) left tt has
 command_again facts (Del key) left has = (del_makes facts).again key left tt has
 command_again facts (Inc key by) left has = (inc_makes facts).again (key, by) left tt has
-command_again facts (Cas key want value) left has = (cas_makes facts).again (key, (want, value)) left tt has
-command_again facts (Move source target amount) left has = (move_makes facts).again (source, (target, amount)) left tt has
+command_again facts (Cas key want value) left has = (cas_makes facts).again (key, (want, value)) left tt (has.0, (has.1, has.2))
+command_again facts (Move source target amount) left has = (move_makes facts).again (source, (target, amount)) left tt (has.0, (has.1, (has.2, has.3)))
 command_again facts (Need key want) left has = (need_makes facts).again (key, want) left tt has
 
 abbrev CommandFound : List ℕ → List (List ℕ) → Cmd → List (List ℕ) → Type 0
@@ -134,8 +141,8 @@ command_found facts word left cmd new e =
     worded word (codes "put") _ _ left cmd new (CommandFound word left cmd new) (λ is r. let f = (put_makes facts).found cmd left new r in rw (is, ← f.is) (f.has, ap (λ (t : List (List ℕ)). codes "put" ∷ t) f.tokens)) (λ e2.
     worded word (codes "del") _ _ left cmd new (CommandFound word left cmd new) (λ is r. let f = (del_makes facts).found cmd left new r in rw (is, ← f.is) (f.has, ap (λ (t : List (List ℕ)). codes "del" ∷ t) f.tokens)) (λ e3.
     worded word (codes "inc") _ _ left cmd new (CommandFound word left cmd new) (λ is r. let f = (inc_makes facts).found cmd left new r in rw (is, ← f.is) (f.has, ap (λ (t : List (List ℕ)). codes "inc" ∷ t) f.tokens)) (λ e4.
-    worded word (codes "cas") _ _ left cmd new (CommandFound word left cmd new) (λ is r. let f = (cas_makes facts).found cmd left new r in rw (is, ← f.is) (f.has, ap (λ (t : List (List ℕ)). codes "cas" ∷ t) f.tokens)) (λ e5.
-    worded word (codes "move") _ _ left cmd new (CommandFound word left cmd new) (λ is r. let f = (move_makes facts).found cmd left new r in rw (is, ← f.is) (f.has, ap (λ (t : List (List ℕ)). codes "move" ∷ t) f.tokens)) (λ e6.
+    worded word (codes "cas") _ _ left cmd new (CommandFound word left cmd new) (λ is r. let f = (cas_makes facts).found cmd left new r in rw (is, ← f.is) ((f.has.0, f.has.1.0, f.has.1.1), ap (λ (t : List (List ℕ)). codes "cas" ∷ t) f.tokens)) (λ e5.
+    worded word (codes "move") _ _ left cmd new (CommandFound word left cmd new) (λ is r. let f = (move_makes facts).found cmd left new r in rw (is, ← f.is) ((f.has.0, f.has.1.0, f.has.1.1.0, f.has.1.1.1), ap (λ (t : List (List ℕ)). codes "move" ∷ t) f.tokens)) (λ e6.
     worded word (codes "need") _ _ left cmd new (CommandFound word left cmd new) (λ is r. let f = (need_makes facts).found cmd left new r in rw (is, ← f.is) (f.has, ap (λ (t : List (List ℕ)). codes "need" ∷ t) f.tokens)) (λ e7. absurd cc)
     (same_text word (codes "need")) refl e6) (same_text word (codes "move")) refl e5) (same_text word (codes "cas")) refl e4) (same_text word (codes "inc")) refl e3) (same_text word (codes "del")) refl e2) (same_text word (codes "put")) refl e
 

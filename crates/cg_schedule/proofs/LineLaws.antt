@@ -12,7 +12,7 @@ use Rattle.cg_schedule.specs.declared.event.Event.{Event}
 use Rattle.cg_schedule.specs.declared.event.Event.TheVariants as event
 use Rattle.cg_schedule.specs.declared.word.Word.{Word}
 use Rattle.cg_schedule.specs.declared.word.Word.TheVariants.{Start, Split, Merge, Request, Weak, Dirty, Order, Recover, Show, Gather, End, Receive, Deliver, Rounds, Stop, Fail, Join, Leave, Transfer}
-use Rattle.cg_schedule.specs.declared.place.Place.{Place}
+use Rattle.cg_schedule.specs.declared.reader_state.ReaderState.{ReaderState}
 use Rattle.cg_schedule.specs.Fault.{not_utf8, misplaced}
 use Rattle.cg_schedule.specs.Reading.{whole}
 use Rattle.cg_schedule.specs.Line.{word_text, every_word, word_of, event_word, fits, placed, opening_of, opening, event_reading, some_event, reading_behind}
@@ -148,51 +148,51 @@ Opened = Result (Option (Word × List (List ℕ))) LineFault
 abbrev opened : Word × List (List ℕ) → Opened
 opened o = Ok (Some o)
 
-placed-ok : (place : Place) (rest : List (List ℕ)) (o : Option Word) (found : Word × List (List ℕ)) → placed place rest o ≡ opened found → (o ≡ Some found.0) × (rest ≡ found.1) × (fits place found.0 ≡ true)
-placed-ok place rest None found e = absurd cc
-placed-ok place rest (Some word) found e = by_place (fits place word) refl e where
+placed-ok : (state : ReaderState) (rest : List (List ℕ)) (o : Option Word) (found : Word × List (List ℕ)) → placed state rest o ≡ opened found → (o ≡ Some found.0) × (rest ≡ found.1) × (fits state found.0 ≡ true)
+placed-ok state rest None found e = absurd cc
+placed-ok state rest (Some word) found e = by_place (fits state word) refl e where
   same : (a b : Word × List (List ℕ)) → opened a ≡ opened b → a ≡ b
   same a b f = cc
 
-  by_place : (b : Bool) → fits place word ≡ b → cond b (opened (word, rest)) (Err misplaced) ≡ opened found → (Some word ≡ Some found.0) × (rest ≡ found.1) × (fits place found.0 ≡ true)
+  by_place : (b : Bool) → fits state word ≡ b → cond b (opened (word, rest)) (Err misplaced) ≡ opened found → (Some word ≡ Some found.0) × (rest ≡ found.1) × (fits state found.0 ≡ true)
   by_place true t f =
       let is = same (word, rest) found f in
       let one : word ≡ found.0 = ap (λ (p : Word × List (List ℕ)). p.0) is in
       (ap (λ (w : Word). Some w) one, ap (λ (p : Word × List (List ℕ)). p.1) is, rw (← one) t)
   by_place false t f = absurd cc
 
-record Opens (place : Place) (line : List ℕ) (found : Word × List (List ℕ)) : Type 0 where
+record Opens (state : ReaderState) (line : List ℕ) (found : Word × List (List ℕ)) : Type 0 where
   stands : is_passed_over line ≡ false
   is_text : is_utf8 line ≡ true
-  may_stand : fits place found.0 ≡ true
+  may_stand : fits state found.0 ≡ true
   line_tokens : tokens line ≡ word_text found.0 ∷ found.1
 
-opening_of-ok : (place : Place) (ts : List (List ℕ)) (found : Word × List (List ℕ)) → opening_of place ts ≡ opened found → (fits place found.0 ≡ true) × (ts ≡ word_text found.0 ∷ found.1)
-opening_of-ok place [] found e = absurd cc
-opening_of-ok place (token ∷ rest) found e =
-    let g = placed-ok place rest (word_of token) found e in
+opening_of-ok : (state : ReaderState) (ts : List (List ℕ)) (found : Word × List (List ℕ)) → opening_of state ts ≡ opened found → (fits state found.0 ≡ true) × (ts ≡ word_text found.0 ∷ found.1)
+opening_of-ok state [] found e = absurd cc
+opening_of-ok state (token ∷ rest) found e =
+    let g = placed-ok state rest (word_of token) found e in
     let text = word_of-text token found.0 g.0 in
     (g.2, both token (word_text found.0) rest found.1 text g.1)
   where
     both : (t u : List ℕ) (l m : List (List ℕ)) → t ≡ u → l ≡ m → t ∷ l ≡ u ∷ m
     both t u l m x y = cc
 
-opening-ok : (place : Place) (line : List ℕ) (found : Word × List (List ℕ)) → opening place line ≡ opened found → Opens place line found
+opening-ok : (state : ReaderState) (line : List ℕ) (found : Word × List (List ℕ)) → opening state line ≡ opened found → Opens state line found
 unfolding opening
-opening-ok place line found e = by_passed (is_passed_over line) refl e where
-  by_text : (b : Bool) → is_utf8 line ≡ b → is_passed_over line ≡ false → cond b (opening_of place (tokens line)) (Err not_utf8) ≡ opened found → Opens place line found
+opening-ok state line found e = by_passed (is_passed_over line) refl e where
+  by_text : (b : Bool) → is_utf8 line ≡ b → is_passed_over line ≡ false → cond b (opening_of state (tokens line)) (Err not_utf8) ≡ opened found → Opens state line found
   by_text true t stands f =
-      let g = opening_of-ok place (tokens line) found f in
+      let g = opening_of-ok state (tokens line) found f in
       record { stands = stands; is_text = t; may_stand = g.0; line_tokens = g.1 }
   by_text false t stands f = absurd cc
 
-  by_passed : (b : Bool) → is_passed_over line ≡ b → cond b (Ok None) (cond (is_utf8 line) (opening_of place (tokens line)) (Err not_utf8)) ≡ opened found → Opens place line found
+  by_passed : (b : Bool) → is_passed_over line ≡ b → cond b (Ok None) (cond (is_utf8 line) (opening_of state (tokens line)) (Err not_utf8)) ≡ opened found → Opens state line found
   by_passed true p f = absurd cc
   by_passed false p f = by_text (is_utf8 line) refl p f
 
-opening-again : (place : Place) (line : List ℕ) (word : Word) (rest : List (List ℕ)) → is_passed_over line ≡ false → is_utf8 line ≡ true → fits place word ≡ true → tokens line ≡ word_text word ∷ rest → opening place line ≡ opened (word, rest)
+opening-again : (state : ReaderState) (line : List ℕ) (word : Word) (rest : List (List ℕ)) → is_passed_over line ≡ false → is_utf8 line ≡ true → fits state word ≡ true → tokens line ≡ word_text word ∷ rest → opening state line ≡ opened (word, rest)
 unfolding opening
-opening-again place line word rest stands is_text may line_tokens = rw (stands, is_text, line_tokens, word_of-again word, may) refl
+opening-again state line word rest stands is_text may line_tokens = rw (stands, is_text, line_tokens, word_of-again word, may) refl
 
 -- ---- the whole line
 
@@ -207,16 +207,16 @@ reading_behind-ok (Ok None) e f = absurd cc
 reading_behind-ok (Ok (Some found)) e f = (found, refl, some_event-ok (whole (event_reading found.0) found.1) e f)
 reading_behind-ok (Err fault) e f = absurd cc
 
-pub reads_into : TokenFacts → TextFacts → (place : Place) (line : List ℕ) (e : Event) → Reads place line e → ReadsAs place line e
-reads_into facts texts place line e f =
-    let g = reading_behind-ok (opening place line) e f in
-    let o = opening-ok place line g.0 g.1 in
+pub reads_into : TokenFacts → TextFacts → (state : ReaderState) (line : List ℕ) (e : Event) → Reads state line e → ReadsAs state line e
+reads_into facts texts state line e f =
+    let g = reading_behind-ok (opening state line) e f in
+    let o = opening-ok state line g.0 g.1 in
     let k : EventFound g.0.0 g.0.1 e = event_found texts g.0.0 g.0.1 e g.2 in
     let spelled : word_text g.0.0 ∷ g.0.1 ≡ event_tokens e = both (word_text g.0.0) (word_text (event_word e)) g.0.1 (event_parts e) (ap word_text (sym k.1)) k.2 in
     record {
       stands = o.stands;
       is_text = o.is_text;
-      may_stand = ap (fits place) k.1 ∙ o.may_stand;
+      may_stand = ap (fits state) k.1 ∙ o.may_stand;
       within = k.0;
       same_tokens = o.line_tokens ∙ spelled ∙ sym (printed_tokens facts texts e k.0);
     }
@@ -224,18 +224,18 @@ reads_into facts texts place line e f =
     both : (t u : List ℕ) (l m : List (List ℕ)) → t ≡ u → l ≡ m → t ∷ l ≡ u ∷ m
     both t u l m x y = cc
 
-pub reads_from : TokenFacts → TextFacts → (place : Place) (line : List ℕ) (e : Event) → ReadsAs place line e → Reads place line e
-reads_from facts texts place line e r =
+pub reads_from : TokenFacts → TextFacts → (state : ReaderState) (line : List ℕ) (e : Event) → ReadsAs state line e → Reads state line e
+reads_from facts texts state line e r =
     let ts : tokens line ≡ word_text (event_word e) ∷ event_parts e = r.same_tokens ∙ printed_tokens facts texts e r.within in
-    rw (opening-again place line (event_word e) (event_parts e) r.stands r.is_text r.may_stand ts, event_again texts e r.within) refl
+    rw (opening-again state line (event_word e) (event_parts e) r.stands r.is_text r.may_stand ts, event_again texts e r.within) refl
 
-pub printed_reads : TokenFacts → TextFacts → (place : Place) (e : Event) → IsEvent e → MayStand place e → Reads place (line_of e) e
-printed_reads facts texts place e within may =
-    reads_from facts texts place (line_of e) e record { stands = printed_stands e; is_text = is_utf8-from_IsUtf8 (line_of e) (printed facts texts e within).utf8; may_stand = may; within = within; same_tokens = refl }
+pub printed_reads : TokenFacts → TextFacts → (state : ReaderState) (e : Event) → IsEvent e → MayStand state e → Reads state (line_of e) e
+printed_reads facts texts state e within may =
+    reads_from facts texts state (line_of e) e record { stands = printed_stands e; is_text = is_utf8-from_IsUtf8 (line_of e) (printed facts texts e within).utf8; may_stand = may; within = within; same_tokens = refl }
 
 -- the event of a line is that of its tokens
-same_opening : (place there : Place) (line other : List ℕ) (a b : Word × List (List ℕ)) → Opens place line a → Opens there other b → tokens line ≡ tokens other → (word_of (word_text a.0) ≡ word_of (word_text b.0)) × (a.1 ≡ b.1)
-same_opening place there line other a b x y same =
+same_opening : (state there : ReaderState) (line other : List ℕ) (a b : Word × List (List ℕ)) → Opens state line a → Opens there other b → tokens line ≡ tokens other → (word_of (word_text a.0) ≡ word_of (word_text b.0)) × (a.1 ≡ b.1)
+same_opening state there line other a b x y same =
     let e = sym x.line_tokens ∙ same ∙ y.line_tokens in
     (ap word_of (heads (word_text a.0) (word_text b.0) a.1 b.1 e), tails (word_text a.0) (word_text b.0) a.1 b.1 e)
   where
@@ -245,9 +245,9 @@ same_opening place there line other a b x y same =
     tails : (t u : List ℕ) (l m : List (List ℕ)) → t ∷ l ≡ u ∷ m → l ≡ m
     tails t u l m f = cc
 
-pub tokens_from : TokenFacts → TextFacts → (place there : Place) (line other : List ℕ) (e f : Event) → Reads place line e → Reads there other f → e ≡ f → tokens line ≡ tokens other
-tokens_from facts texts place there line other e f x y same =
-    let a = reads_into facts texts place line e x in
+pub tokens_from : TokenFacts → TextFacts → (state there : ReaderState) (line other : List ℕ) (e f : Event) → Reads state line e → Reads there other f → e ≡ f → tokens line ≡ tokens other
+tokens_from facts texts state there line other e f x y same =
+    let a = reads_into facts texts state line e x in
     let b = reads_into facts texts there other f y in
     a.same_tokens ∙ ap (λ (v : Event). tokens (line_of v)) same ∙ sym b.same_tokens
 
@@ -260,11 +260,11 @@ read_event e = Ok e
 same_event : (a b : Event) → read_event a ≡ read_event b → a ≡ b
 same_event a b f = cc
 
-pub event_from : (place there : Place) (line other : List ℕ) (e f : Event) → Reads place line e → Reads there other f → tokens line ≡ tokens other → e ≡ f
-event_from place there line other e f x y same =
-    let g = reading_behind-ok (opening place line) e x in
+pub event_from : (state there : ReaderState) (line other : List ℕ) (e f : Event) → Reads state line e → Reads there other f → tokens line ≡ tokens other → e ≡ f
+event_from state there line other e f x y same =
+    let g = reading_behind-ok (opening state line) e x in
     let h = reading_behind-ok (opening there other) f y in
-    let k = same_opening place there line other g.0 h.0 (opening-ok place line g.0 g.1) (opening-ok there other h.0 h.1) same in
+    let k = same_opening state there line other g.0 h.0 (opening-ok state line g.0 g.1) (opening-ok there other h.0 h.1) same in
     let word : g.0.0 ≡ h.0.0 = some_same g.0.0 h.0.0 (sym (word_of-again g.0.0) ∙ k.0 ∙ word_of-again h.0.0) in
     let one : whole (event_reading g.0.0) g.0.1 ≡ whole (event_reading h.0.0) h.0.1 = ap (λ (w : Word). whole (event_reading w) g.0.1) word ∙ ap (λ (t : List (List ℕ)). whole (event_reading h.0.0) t) k.1 in
     same_event e f (sym g.2 ∙ one ∙ h.2)

@@ -3,11 +3,12 @@ use Rattle.std.proofs.Common.{◌≡◌, ℕ, suc, ◌+◌, ◌/◌, ◌%◌, �
 use Rattle.std.specs.Prelude.{ℤ, pos, negsuc, decimal, map, not, nat_le, FitsSigned}
 use Rattle.std.specs.Fmt.{signed_decimal}
 use Rattle.std.specs.Int.{w64}
-use Rattle.std.specs.List.{flat_map, list_all}
+use Rattle.std.specs.List.{All, flat_map, list_all}
 use Rattle.std.specs.Str.{IsUtf8}
 use Rattle.std.proofs.lemmas.Bool.{ne_eqb, lt-ltb, ltb-true, ltb-false, leb-true, and_parts, and_from}
 use Rattle.std.proofs.lemmas.Int.{ints}
 use Rattle.std.proofs.lemmas.List.{append-nil}
+use Rattle.std.proofs.lemmas.List.Elements.{All-head, All-tail}
 use Rattle.std.proofs.lemmas.List.Folds.{list_all-append}
 use Rattle.std.proofs.lemmas.Str.{IsUtf8-append}
 use Rattle.cg_base.specs.declared.weighted.Weighted.{Weighted}
@@ -25,10 +26,10 @@ use Rattle.cg_action.specs.declared.query.Query.{Query}
 use Rattle.cg_action.specs.declared.query.Query.TheVariants.{Get, Keys, Count}
 use Rattle.cg_action.specs.Print.{value_text, want_text, command_text, query_text, next_text, commands_text, update_text}
 use Rattle.cg_schedule.specs.Print.{hex_glyph, hex_text, fill_text}
-use Rattle.cg_schedule.specs.Limits.{IsValue, IsWant, IsCommand, AreCommands, IsQuery, IsUpdate, AreBytes}
-use Rattle.cg_schedule.proofs.TokenParts.{TextFacts}
+use Rattle.cg_schedule.specs.Limits.{IsQuery, IsUpdate, AreBytes}
+use Rattle.cg_schedule.proofs.TokenParts.{TextFacts, IsValue, IsWant}
 use Rattle.cg_schedule.proofs.MemberParts.{list_all-also, decimal-digits}
-use Rattle.cg_schedule.proofs.CommandParts.{command_tokens, query_tokens}
+use Rattle.cg_schedule.proofs.CommandParts.{IsCommand, command_tokens, query_tokens}
 use Rattle.cg_schedule.proofs.UpdateParts.{next_tokens, commands_tokens, update_tokens}
 use Rattle.cg_schedule.proofs.QuotedUtf8.{is_ascii, IsUtf8-ascii, IsUtf8-quoted}
 
@@ -195,10 +196,10 @@ line_command facts texts (Del key) has = line_keyed facts (codes "del") key refl
 line_command facts texts (Inc key by) has = line_gap facts _ (signed_decimal by) _ (signed_decimal by ∷ []) (line_keyed facts (codes "inc") key refl refl has.0.0) (line_signed facts texts by has.1)
 line_command facts texts (Cas key want v) has =
     line_gap facts _ (value_text v) _ (value_text v ∷ [])
-    (line_gap facts _ (want_text want) _ (want_text want ∷ []) (line_keyed facts (codes "cas") key refl refl has.0.0) (line_want facts texts want has.1.0)) (line_value facts texts v has.1.1)
+    (line_gap facts _ (want_text want) _ (want_text want ∷ []) (line_keyed facts (codes "cas") key refl refl has.0.0) (line_want facts texts want has.1)) (line_value facts texts v has.2)
 line_command facts texts (Move source target amount) has =
     line_gap facts _ (signed_decimal amount) _ (signed_decimal amount ∷ [])
-    (line_gap facts _ (quoted target) _ (quoted target ∷ []) (line_keyed facts (codes "move") source refl refl has.0.0) (line_quoted facts target has.1.0.0)) (line_signed facts texts amount has.1.1.0)
+    (line_gap facts _ (quoted target) _ (quoted target ∷ []) (line_keyed facts (codes "move") source refl refl has.0.0) (line_quoted facts target has.1.0)) (line_signed facts texts amount has.2)
 line_command facts texts (Need key want) has = line_gap facts _ (want_text want) _ (want_text want ∷ []) (line_keyed facts (codes "need") key refl refl has.0.0) (line_want facts texts want has.1)
 
 pub line_query : TokenFacts → (query : Query) → IsQuery query → IsLine (query_text query) (query_tokens query)
@@ -207,24 +208,24 @@ line_query facts (Get key) has = line_keyed facts (codes "get") key refl refl ha
 line_query facts (Keys prefix) has = line_keyed facts (codes "keys") prefix refl refl has.0
 line_query facts Count has = line_word facts (codes "count") refl refl
 
-line_next : TokenFacts → TextFacts → (a : List ℕ) (ta : List (List ℕ)) (cmds : List Cmd) → AreCommands cmds → IsLine a ta → IsLine (a ++ flat_map next_text cmds) (ta ++ flat_map next_tokens cmds)
+line_next : TokenFacts → TextFacts → (a : List ℕ) (ta : List (List ℕ)) (cmds : List Cmd) → All IsCommand cmds → IsLine a ta → IsLine (a ++ flat_map next_text cmds) (ta ++ flat_map next_tokens cmds)
 line_next facts texts a ta [] are x = rw (append-nil a, append-nil ta) x
 line_next facts texts a ta (cmd ∷ cmds) are x =
-    let one = line_semicolon facts a (command_text cmd) ta (command_tokens cmd) x (line_command facts texts cmd are.0) in
-    let more = line_next facts texts (a ++ next_text cmd) (ta ++ next_tokens cmd) cmds are.1 one in
+    let one = line_semicolon facts a (command_text cmd) ta (command_tokens cmd) x (line_command facts texts cmd (All-head IsCommand cmd cmds are)) in
+    let more = line_next facts texts (a ++ next_text cmd) (ta ++ next_tokens cmd) cmds (All-tail IsCommand cmd cmds are) one in
     rw (← append_assoc a (next_text cmd) (flat_map next_text cmds), ← append_assoc ta (next_tokens cmd) (flat_map next_tokens cmds)) more
 
-line_commands : TokenFacts → TextFacts → (cmd : Cmd) (cmds : List Cmd) → AreCommands (cmd ∷ cmds) → IsLine (commands_text (cmd ∷ cmds)) (commands_tokens (cmd ∷ cmds))
-line_commands facts texts cmd cmds are = line_next facts texts (command_text cmd) (command_tokens cmd) cmds are.1 (line_command facts texts cmd are.0)
+line_commands : TokenFacts → TextFacts → (cmd : Cmd) (cmds : List Cmd) → All IsCommand (cmd ∷ cmds) → IsLine (commands_text (cmd ∷ cmds)) (commands_tokens (cmd ∷ cmds))
+line_commands facts texts cmd cmds are = line_next facts texts (command_text cmd) (command_tokens cmd) cmds (All-tail IsCommand cmd cmds are) (line_command facts texts cmd (All-head IsCommand cmd cmds are))
 
 pub line_update : TokenFacts → TextFacts → (cmds : List Cmd) (query : Option Query) → IsUpdate cmds query → IsLine (update_text cmds query) (update_tokens cmds query)
 line_update facts texts [] None has = absurd (nothing has.does) where
   nothing : false ≡ true → ⊥
   nothing e = cc
-line_update facts texts [] (Some query) has = line_asked facts (query_text query) (query_tokens query) (line_query facts query has.asked)
+line_update facts texts [] (Some query) has = line_asked facts (query_text query) (query_tokens query) (line_query facts query has.asks)
 line_update facts texts (cmd ∷ cmds) None has = rw (append-nil (commands_tokens (cmd ∷ cmds))) (line_commands facts texts cmd cmds has.each)
 line_update facts texts (cmd ∷ cmds) (Some query) has =
-    line_question facts (commands_text (cmd ∷ cmds)) (query_text query) (commands_tokens (cmd ∷ cmds)) (query_tokens query) (line_commands facts texts cmd cmds has.each) (line_query facts query has.asked)
+    line_question facts (commands_text (cmd ∷ cmds)) (query_text query) (commands_tokens (cmd ∷ cmds)) (query_tokens query) (line_commands facts texts cmd cmds has.each) (line_query facts query has.asks)
 
 -- ---- lists of parts
 

@@ -14,11 +14,12 @@ use Rattle.cg_text.specs.Numbers.{read_u64, read_i64}
 use Rattle.cg_text.specs.Quoted.{quoted, is_printable, read_quoted}
 use Rattle.cg_action.specs.declared.value.Value.{Value}
 use Rattle.cg_action.specs.declared.value.Value.TheVariants.{Text, Int}
+use Rattle.cg_action.specs.Limits.{IsValueOf, IsWantOf}
 use Rattle.cg_action.specs.Print.{value_text, want_text}
 use Rattle.cg_schedule.specs.declared.fault.LineFault.{LineFault}
 use Rattle.cg_schedule.specs.Fault.{bad_number, bad_text}
 use Rattle.cg_schedule.specs.Part.{in_range, number, signed, integer, not_negative, amount, long_enough, text, is_quoted, text_value, number_value, value, some_value, want}
-use Rattle.cg_schedule.specs.Limits.{IsWithin, IsPrintable, IsValue, IsWant}
+use Rattle.cg_schedule.specs.Limits.{IsWithin, IsPrintable}
 use Rattle.cg_schedule.proofs.PartLaws.{IsToken}
 
 -- what is known of the spelling of numbers and texts
@@ -127,6 +128,9 @@ number_value-ok : (r : Result ℤ LineFault) (v : Value) → number_value r ≡ 
 number_value-ok (Ok n) v e = (n, refl, cc)
 number_value-ok (Err fault) v e = absurd cc
 
+abbrev pub IsValue : Value → Type 0
+IsValue = IsValueOf IsPrintable
+
 pub value_token : TextFacts → IsToken IsValue value_text value
 unfolding value
 value_token facts = record { again = again; found = λ v token e. found v token (is_quoted token) refl e } where
@@ -155,6 +159,9 @@ no_absent token v e true same = absurd (refused (rw (same_text-true token (codes
 some_value-ok : (r : Result Value LineFault) (o : Option Value) → some_value r ≡ Ok o → (v : Value) × (r ≡ Ok v) × (Some v ≡ o)
 some_value-ok (Ok v) o e = (v, refl, cc)
 some_value-ok (Err fault) o e = absurd cc
+
+abbrev pub IsWant : Option Value → Type 0
+IsWant = IsWantOf IsPrintable
 
 pub want_token : TextFacts → IsToken IsWant want_text want
 unfolding want

@@ -1,19 +1,20 @@
 -- What a request asks is read as it is spelled.
 use Rattle.std.proofs.Common.{◌≡◌, ℕ, zero, suc, ◌<◌, Bool, true, false, cond, List, [], ◌∷◌, ◌++◌, length, Option, Some, None, Ok, Err, refl, ap, ◌∙◌, append_assoc, arith, codes}
 use Rattle.std.proofs.lemmas.List.{append-nil}
-use Rattle.std.specs.List.{flat_map}
+use Rattle.std.specs.List.{All, flat_map}
 use Rattle.std.proofs.lemmas.Bool.{ne_eqb}
-use Rattle.cg_action.specs.Limits.{does_something}
+use Rattle.std.proofs.lemmas.List.Elements.{All-nil, All-cons, All-head, All-tail}
+use Rattle.cg_action.specs.Limits.{does_something, IsAskedOf}
 use Rattle.cg_action.specs.declared.command.Cmd.{Cmd}
 use Rattle.cg_action.specs.declared.command.Cmd.TheVariants.{Put, Del, Inc, Cas, Move, Need}
 use Rattle.cg_action.specs.declared.query.Query.{Query}
 use Rattle.cg_schedule.specs.Fault.{extra_part}
 use Rattle.cg_schedule.specs.Reading.{Reading, go_on, ◌>>=◌, token_part}
 use Rattle.cg_schedule.specs.Command.{Update, query_reading, with_query, is_semicolon, is_question_mark, behind_commands, commands, update_of, update_reading}
-use Rattle.cg_schedule.specs.Limits.{IsCommand, AreCommands, IsQuery, IsAsked, IsUpdate}
+use Rattle.cg_schedule.specs.Limits.{IsPrintable, IsQuery, IsUpdate}
 use Rattle.cg_schedule.proofs.PartLaws.{Anything, Nothing, IsPart, Makes, gives, given, go_on-ok, made}
 use Rattle.cg_schedule.proofs.TokenParts.{TextFacts, same_text-true}
-use Rattle.cg_schedule.proofs.CommandParts.{command_tokens, command_reading, command_is, query_tokens, query_is}
+use Rattle.cg_schedule.proofs.CommandParts.{IsCommand, command_tokens, command_reading, command_is, query_tokens, query_is}
 
 -- ---- tokens
 
@@ -59,7 +60,7 @@ commands_from-first n taken (word ∷ left) = refl
 abbrev behind_tokens : List Cmd → Option Query → List (List ℕ)
 behind_tokens cmds query = flat_map next_tokens cmds ++ asked_tokens query
 
-commands_again : TextFacts → (n : ℕ) (taken : List Cmd) (cmd : Cmd) (cmds : List Cmd) (query : Option Query) → length cmds < n → IsCommand cmd → AreCommands cmds → IsAsked query
+commands_again : TextFacts → (n : ℕ) (taken : List Cmd) (cmd : Cmd) (cmds : List Cmd) (query : Option Query) → length cmds < n → IsCommand cmd → All IsCommand cmds → IsAskedOf IsPrintable query
     → commands_from n taken (command_tokens cmd ++ behind_tokens cmds query) ≡ Ok ((taken ++ cmd ∷ cmds, query), [])
 commands_again facts zero taken cmd cmds query few is are asked = absurd (omega arith)
 commands_again facts (suc n) taken cmd [] None few is are asked =
@@ -69,7 +70,7 @@ commands_again facts (suc n) taken cmd [] (Some query) few is are asked =
 commands_again facts (suc n) taken cmd (next ∷ cmds) query few is are asked =
     let rest = behind_tokens cmds query in
     let grouped : (command_tokens next ++ flat_map next_tokens cmds) ++ asked_tokens query ≡ command_tokens next ++ rest = append_assoc (command_tokens next) (flat_map next_tokens cmds) (asked_tokens query) in
-    let more = commands_again facts n (taken ++ cmd ∷ []) next cmds query (omega arith) are.0 are.1 asked in
+    let more = commands_again facts n (taken ++ cmd ∷ []) next cmds query (omega arith) (All-head IsCommand next cmds are) (All-tail IsCommand next cmds are) asked in
     let all : (taken ++ cmd ∷ []) ++ next ∷ cmds ≡ taken ++ cmd ∷ next ∷ cmds = append_assoc taken (cmd ∷ []) (next ∷ cmds) in
     rw (commands_from-first n taken (command_tokens cmd ++ behind_tokens (next ∷ cmds) query), (command_is facts).again cmd (behind_tokens (next ∷ cmds) query) tt is, ← all) (rw grouped more)
 
@@ -80,15 +81,15 @@ record CommandsFound (n : ℕ) (taken : List Cmd) (ts : List (List ℕ)) (u : Up
   grown : u.0 ≡ taken ++ first ∷ others
   few : length others < n
   is : IsCommand first
-  are : AreCommands others
-  asked : IsAsked u.1
+  are : All IsCommand others
+  asked : IsAskedOf IsPrintable u.1
   tokens : ts ≡ command_tokens first ++ (behind_tokens others u.1 ++ new)
 
 -- how a command goes on
 ends_here : (n : ℕ) (taken : List Cmd) (cmd : Cmd) (ts : List (List ℕ)) (u : Update) (new : List (List ℕ)) → IsCommand cmd → ts ≡ command_tokens cmd ++ [] → gives ((taken ++ cmd ∷ [], None), []) ≡ Ok (u, new) → CommandsFound (suc n) taken ts u new
 ends_here n taken cmd ts u new is from e =
     let g = given (taken ++ cmd ∷ [], None) u [] new e in
-    rw (← g.0, ← g.1) record { first = cmd; others = []; grown = refl; few = omega arith; is = is; are = tt; asked = tt; tokens = from }
+    rw (← g.0, ← g.1) record { first = cmd; others = []; grown = refl; few = omega arith; is = is; are = All-nil IsCommand; asked = tt; tokens = from }
 
 same_tokens : (t u : List ℕ) (l m : List (List ℕ)) → t ≡ u → l ≡ m → t ∷ l ≡ u ∷ m
 same_tokens t u l m x y = cc
@@ -98,7 +99,7 @@ asks_here : TextFacts → (n : ℕ) (taken : List Cmd) (cmd : Cmd) (mark : List 
 asks_here facts n taken cmd mark left ts u new is from question e =
     let f = (with_query_makes facts (taken ++ cmd ∷ [])).found u left new e in
     let whole : mark ∷ left ≡ (codes "?" ∷ query_tokens f.from) ++ new = same_tokens mark (codes "?") left (query_tokens f.from ++ new) question f.tokens in
-    rw (← f.is) record { first = cmd; others = []; grown = refl; few = omega arith; is = is; are = tt; asked = f.has; tokens = from ∙ ap (λ (t : List (List ℕ)). command_tokens cmd ++ t) whole }
+    rw (← f.is) record { first = cmd; others = []; grown = refl; few = omega arith; is = is; are = All-nil IsCommand; asked = f.has; tokens = from ∙ ap (λ (t : List (List ℕ)). command_tokens cmd ++ t) whole }
 
 goes_on : (n : ℕ) (taken : List Cmd) (cmd : Cmd) (mark : List ℕ) (left ts : List (List ℕ)) (u : Update) (new : List (List ℕ)) → IsCommand cmd → ts ≡ command_tokens cmd ++ (mark ∷ left) → mark ≡ codes ";"
     → CommandsFound n (taken ++ cmd ∷ []) left u new → CommandsFound (suc n) taken ts u new
@@ -113,7 +114,7 @@ goes_on n taken cmd mark left ts u new is from semicolon f =
       grown = f.grown ∙ append_assoc taken (cmd ∷ []) (f.first ∷ f.others);
       few = let below = f.few in omega arith;
       is = is;
-      are = (f.is, f.are);
+      are = All-cons IsCommand f.first f.others f.is f.are;
       asked = f.asked;
       tokens = from ∙ ap (λ (t : List (List ℕ)). command_tokens cmd ++ t) whole;
     }
@@ -165,10 +166,10 @@ unfolding update_reading update_of
 update_again facts [] None has = absurd (nothing has.does) where
   nothing : false ≡ true → ⊥
   nothing e = cc
-update_again facts [] (Some query) has = asked_again facts [] query has.asked
+update_again facts [] (Some query) has = asked_again facts [] query has.asks
 update_again facts (cmd ∷ cmds) query has =
     let grouped : (command_tokens cmd ++ flat_map next_tokens cmds) ++ asked_tokens query ≡ command_tokens cmd ++ behind_tokens cmds query = append_assoc (command_tokens cmd) (flat_map next_tokens cmds) (asked_tokens query) in
-    rw (grouped, update_commands cmd (behind_tokens cmds query)) (commands_again facts 16 [] cmd cmds query (let few = has.few in omega arith) has.each.0 has.each.1 has.asked)
+    rw (grouped, update_commands cmd (behind_tokens cmds query)) (commands_again facts 16 [] cmd cmds query (let few = has.few in omega arith) (All-head IsCommand cmd cmds has.each) (All-tail IsCommand cmd cmds has.each) has.asks)
 
 abbrev UpdateFound : List (List ℕ) → Update → List (List ℕ) → Type 0
 UpdateFound ts u new = IsUpdate u.0 u.1 × (ts ≡ update_tokens u.0 u.1 ++ new)
@@ -182,7 +183,7 @@ from_commands ts u new f =
     let ask = asked_tokens u.1 in
     let regrouped : command_tokens f.first ++ ((rest ++ ask) ++ new) ≡ ((command_tokens f.first ++ rest) ++ ask) ++ new = rw (append_assoc rest ask new, append_assoc (command_tokens f.first ++ rest) ask new, append_assoc (command_tokens f.first) rest (ask ++ new)) refl in
     let few = f.few in
-    rw f.grown (record { few = omega arith; each = (f.is, f.are); asked = f.asked; does = does_with f.first f.others u.1 }, f.tokens ∙ regrouped)
+    rw f.grown (record { few = omega arith; each = All-cons IsCommand f.first f.others f.is f.are; asks = f.asked; does = does_with f.first f.others u.1 }, f.tokens ∙ regrouped)
 
 update_found : TextFacts → (ts : List (List ℕ)) (u : Update) (new : List (List ℕ)) → update_reading ts ≡ Ok (u, new) → UpdateFound ts u new
 unfolding update_reading update_of
@@ -191,7 +192,7 @@ update_found facts (token ∷ left) u new e = by_question (is_question_mark toke
   by_question : (b : Bool) → is_question_mark token ≡ b → (cond b (with_query []) (commands 16 [] token)) left ≡ Ok (u, new) → UpdateFound (token ∷ left) u new
   by_question true q f =
       let g = (with_query_makes facts []).found u left new f in
-      rw (same_text-true token (codes "?") q, ← g.is) (record { few = omega arith; each = tt; asked = g.has; does = refl }, ap (λ (t : List (List ℕ)). codes "?" ∷ t) g.tokens)
+      rw (same_text-true token (codes "?") q, ← g.is) (record { few = omega arith; each = All-nil IsCommand; asks = g.has; does = refl }, ap (λ (t : List (List ℕ)). codes "?" ∷ t) g.tokens)
   by_question false q f = from_commands (token ∷ left) u new (commands_found facts 16 [] (token ∷ left) u new f)
 
 pub update_is : TextFacts → IsPart Nothing (λ (u : Update). IsUpdate u.0 u.1) (λ (u : Update). update_tokens u.0 u.1) update_reading

@@ -37,7 +37,7 @@ bad_command = Syntax 7
 abbrev pub bad_list : LineFault
 bad_list = Syntax 8
 
--- the event can't stand in this place
+-- the event can't stand in this state
 abbrev pub misplaced : LineFault
 misplaced = Syntax 9
 

@@ -11,13 +11,13 @@ use Rattle.cg_schedule.specs.declared.event.Event.{Event}
 use Rattle.cg_schedule.specs.declared.event.Event.TheVariants as event
 use Rattle.cg_schedule.specs.declared.word.Word.{Word}
 use Rattle.cg_schedule.specs.declared.word.Word.TheVariants.{Start, Split, Merge, Request, Weak, Dirty, Order, Recover, Show, Gather, End, Receive, Deliver, Rounds, Stop, Fail, Join, Leave, Transfer}
-use Rattle.cg_schedule.specs.declared.place.Place.{Place}
+use Rattle.cg_schedule.specs.declared.reader_state.ReaderState.{ReaderState}
 use Rattle.cg_schedule.specs.Fault.{not_utf8, unknown_word, bad_list, misplaced}
 use Rattle.cg_schedule.specs.Reading.{Reading, ◌>>=◌, done, lifted, token_part, whole}
 use Rattle.cg_schedule.specs.Part.{number, weighted, number_part, id_part, count_part, weighted_part, fill_part}
 use Rattle.cg_schedule.specs.Command.{query_reading, update_reading}
 
--- ---- the word and its place
+-- ---- the word, and whether it may stand there
 
 abbrev pub word_text : Word → List ℕ
 word_text Start = codes "start"
@@ -74,34 +74,34 @@ event_word (event.Join p joiner weight) = Join
 event_word (event.Leave p server) = Leave
 event_word (event.Transfer p joiner pieces) = Transfer
 
--- the first line's place: neither start nor end has stood
-abbrev pub first_place : Place
-first_place = record { started = false; ended = false }
+-- the first line's state: neither start nor end has stood
+abbrev pub first_state : ReaderState
+first_state = record { started = false; ended = false }
 
--- the word may stand in this place: start first, and once, and nothing behind end
-abbrev pub fits : Place → Word → Bool
-fits place word = not place.ended && (if is_start word then not place.started else place.started)
+-- the word may stand in this state: start first, and once, and nothing behind end
+abbrev pub fits : ReaderState → Word → Bool
+fits state word = not state.ended && (if is_start word then not state.started else state.started)
 
--- the place behind an event
-abbrev pub place_after : Place → Event → Place
-place_after place (event.Start set) = record place { started = true }
-place_after place event.End = record place { ended = true }
-place_after place _ = place
+-- the state behind an event
+abbrev pub state_after : ReaderState → Event → ReaderState
+state_after state (event.Start set) = record state { started = true }
+state_after state event.End = record state { ended = true }
+state_after state _ = state
 
--- the word, and the tokens behind it, where it may stand in the place
-abbrev pub placed : Place → List (List ℕ) → Option Word → Result (Option (Word × List (List ℕ))) LineFault
-placed place rest None = Err unknown_word
-placed place rest (Some word) = if fits place word then Ok (Some (word, rest)) else Err misplaced
+-- the word, and the tokens behind it, where it may stand in the state
+abbrev pub placed : ReaderState → List (List ℕ) → Option Word → Result (Option (Word × List (List ℕ))) LineFault
+placed state rest None = Err unknown_word
+placed state rest (Some word) = if fits state word then Ok (Some (word, rest)) else Err misplaced
 
-abbrev pub opening_of : Place → List (List ℕ) → Result (Option (Word × List (List ℕ))) LineFault
-opening_of place [] = Err unknown_word
-opening_of place (token ∷ rest) = placed place rest (word_of token)
+abbrev pub opening_of : ReaderState → List (List ℕ) → Result (Option (Word × List (List ℕ))) LineFault
+opening_of state [] = Err unknown_word
+opening_of state (token ∷ rest) = placed state rest (word_of token)
 
--- how a line begins: nothing where it is passed over, and else an event word in its place
-unfoldable pub opening : Place → List ℕ → Result (Option (Word × List (List ℕ))) LineFault
-opening place line =
+-- how a line begins: nothing where it is passed over, and else an event word that may stand there
+unfoldable pub opening : ReaderState → List ℕ → Result (Option (Word × List (List ℕ))) LineFault
+opening state line =
     if is_passed_over line then Ok None
-    else if is_utf8 line then opening_of place (tokens line)
+    else if is_utf8 line then opening_of state (tokens line)
     else Err not_utf8
 
 -- ---- the parts of each event
@@ -245,12 +245,12 @@ reading_behind (Ok None) = Ok None
 reading_behind (Ok (Some opened)) = some_event (whole (event_reading opened.0) opened.1)
 reading_behind (Err fault) = Err fault
 
--- how a line reads in a place: as nothing, where it is passed over, or as an event; else why it is refused
-abbrev pub reading : Place → List ℕ → Result (Option Event) LineFault
-reading place line = reading_behind (opening place line)
+-- how a line reads in a state: as nothing, where it is passed over, or as an event; else why it is refused
+abbrev pub reading : ReaderState → List ℕ → Result (Option Event) LineFault
+reading state line = reading_behind (opening state line)
 
--- the place behind a call that read a line, or was refused memory
-abbrev pub place_behind : Place → Result (Option Event) LineFault → Place
-place_behind place (Ok None) = place
-place_behind place (Ok (Some e)) = place_after place e
-place_behind place (Err fault) = place
+-- the state behind a call that read a line, or was refused memory
+abbrev pub state_behind : ReaderState → Result (Option Event) LineFault → ReaderState
+state_behind state (Ok None) = state
+state_behind state (Ok (Some e)) = state_after state e
+state_behind state (Err fault) = state

@@ -11,15 +11,15 @@ mod event;
 mod fault;
 mod laws;
 mod part;
-mod place;
 mod print;
 mod reader;
+mod reader_state;
 mod word;
 
 pub use event::Event;
 pub use fault::LineFault;
 pub use laws::{lines_are_exact, printed_lines_are_read};
-pub use place::Place;
 pub use print::print_line;
 pub use reader::Reader;
+pub use reader_state::ReaderState;
 pub use word::Word;

@@ -10,51 +10,51 @@ use crate::command::{take_query, take_update};
 use crate::part::{
     identifier, take_count, take_fill, take_id, take_number, take_token, take_weighted, weighted,
 };
-use crate::{Event, LineFault, Place, Word};
+use crate::{Event, LineFault, ReaderState, Word};
 use cg_base::{IdSet, WeightSet};
 use cg_text::{Words, is_passed_over};
 use std::alloc::Global;
 use std::marker::Model;
 use std::str::from_utf8;
 
-/// A reader of a schedule's lines, one after the other. Clauses see its place: what stood before the next line.
+/// A reader of a schedule's lines, one after the other. Clauses see its state: what stood before the next line.
 #[derive(Drop)]
 pub struct Reader {
-    place: Place,
+    state: ReaderState,
 }
 
 impl Model for Reader {
-    ghost use Rattle.cg_schedule.specs.declared.place.Place.{Place};
+    ghost use Rattle.cg_schedule.specs.declared.reader_state.ReaderState.{ReaderState};
 
-    ghost Value = { Place };
+    ghost Value = { ReaderState };
 
-    ghost view = { λ r. r.place };
+    ghost view = { λ r. r.state };
 }
 
 impl Reader {
-    ghost use Rattle.cg_schedule.specs.Line.{first_place, place_after, place_behind, opening, reading};
+    ghost use Rattle.cg_schedule.specs.Line.{first_state, state_after, state_behind, opening, reading};
 
     /// The reader of the first line.
     pub fn new() -> Reader
-        ensures { result ≡ first_place }
+        ensures { result ≡ first_state }
     {
         Reader {
-            place: Place::first(),
+            state: ReaderState::first(),
         }
     }
 
     /// What stood before the next line.
-    pub fn place(&self) -> Place
+    pub fn state(&self) -> ReaderState
         ensures { result ≡ self.now }
     {
-        self.place
+        self.state
     }
 
     /// The event that the line is, without its end, or None where it is passed over. The line is `begin_line` and
     /// then `finish_line`. After an event the reader stands behind it; else it is as before.
     pub fn read_line(&mut self, alloc: Global, line: &[u8]) -> Result<Option<Event>, LineFault>
         ensures reading { Gives (reading self.old line.now) result }
-        ensures place { self.new ≡ place_behind self.old result }
+        ensures state { self.new ≡ state_behind self.old result }
     {
         let Some((word, words)) = self.begin_line(line)? else {
             return Ok(None);
@@ -82,13 +82,13 @@ impl Reader {
         let Some(word) = Word::of(token) else {
             return Err(LineFault::UNKNOWN_WORD);
         };
-        if !self.place.fits(word) {
+        if !self.state.fits(word) {
             return Err(LineFault::MISPLACED);
         }
         Ok(Some((word, words)))
     }
 
-    /// The event of a word that stands in its place, from the tokens behind it. The reasons 3 to 8 come here.
+    /// The event of a word that may stand where it does, from the tokens behind it. The reasons 3 to 8 come here.
     pub fn finish_line(
         &mut self,
         alloc: Global,
@@ -96,10 +96,10 @@ impl Reader {
         words: Words,
     ) -> Result<Event, LineFault>
         ensures event { Gives (whole (event_reading word) words.entry) result }
-        ensures place { MatchResult result (λ event. self.new ≡ place_after self.old event) (λ _. self.new ≡ self.old) }
+        ensures state { MatchResult result (λ event. self.new ≡ state_after self.old event) (λ _. self.new ≡ self.old) }
     {
         let event = whole_event(alloc, word, words)?;
-        self.place = self.place.after(&event);
+        self.state = self.state.after(&event);
         Ok(event)
     }
 }

@@ -453,7 +453,7 @@ fn lines_behind_one_another(rt: HostRuntime) {
     follows(&rt, &mut reader, TWO_CALLS, perform);
     reader = Reader::new();
     follows(&rt, &mut reader, PLACES, perform);
-    assert!(rt; reader.place().ended);
+    assert!(rt; reader.state().ended);
 }
 
 // whether the lines are one event

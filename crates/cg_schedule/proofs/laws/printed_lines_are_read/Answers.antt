@@ -8,4 +8,4 @@ returns c =
     let texts : TextFacts = record { unsigned = c.numbers_are_exact.ensures.unsigned; signed = c.numbers_are_exact.ensures.signed; quotes = c.quoted_texts_are_exact.ensures } in
     let t = c.tokens_are_exact.ensures in
     let facts : TokenFacts = record { none = t.none; blank = t.blank; separator = t.separator; word = t.word; quotes = t.text } in
-    λ place e within may. printed_reads facts texts place e within may
+    λ state e within may. printed_reads facts texts state e within may

@@ -14,27 +14,27 @@ use std::marker::Model;
 
 /// What the lines that are left hang on.
 #[derive(Drop)]
-pub(crate) struct Progress {
+pub(crate) struct GeneratorState {
     draws: Draws,
     cells: Cells,
     waiting: Waiting,
 }
 
-impl Model for Progress {
-    ghost use Rattle.cg_gen.specs.Generated.{Progress};
+impl Model for GeneratorState {
+    ghost use Rattle.cg_gen.specs.Generated.{GeneratorState};
     ghost use Rattle.cg_gen.specs.Waiting.{waiting_lines};
 
-    ghost Value = { Progress };
+    ghost Value = { GeneratorState };
 
     ghost view = { λ p. record { number = p.draws; cells = p.cells; waiting = waiting_lines p.waiting } };
 }
 
-impl Progress {
-    pub(crate) fn new(alloc: Global, seed: u64, all: IdSet) -> Result<Progress, NoMemory>
-        ensures { IfOk result (λ progress. progress ≡ at_the_start seed all) }
+impl GeneratorState {
+    pub(crate) fn new(alloc: Global, seed: u64, all: IdSet) -> Result<GeneratorState, NoMemory>
+        ensures { IfOk result (λ state. state ≡ at_the_start seed all) }
     {
         let cells = Cells::one(alloc, all)?;
-        Ok(Progress {
+        Ok(GeneratorState {
             draws: Draws::new(seed),
             cells,
             waiting: Waiting::Start(all),

@@ -2,22 +2,22 @@ use crate::{Event, Word};
 
 /// What stood before a line.
 #[derive(Clone, Copy, Debug, PartialEq, Eq)]
-pub struct Place {
+pub struct ReaderState {
     /// A line before was `start`.
     pub started: bool,
     /// A line before was `end`.
     pub ended: bool,
 }
 
-impl Place {
+impl ReaderState {
     ghost use Rattle.std.specs.Prelude.{◌≡◌};
-    ghost use Rattle.cg_schedule.specs.Line.{first_place, place_after, fits};
+    ghost use Rattle.cg_schedule.specs.Line.{first_state, state_after, fits};
 
-    /// The place of the first line.
-    pub fn first() -> Place
-        ensures { result ≡ first_place }
+    /// The state of the first line.
+    pub fn first() -> ReaderState
+        ensures { result ≡ first_state }
     {
-        Place {
+        ReaderState {
             started: false,
             ended: false,
         }
@@ -30,16 +30,16 @@ impl Place {
         !self.ended && word.is_start() != self.started
     }
 
-    /// The place behind a line with this event.
-    pub fn after(self, event: &Event) -> Place
-        ensures { result ≡ place_after self event.now }
+    /// The state behind a line with this event.
+    pub fn after(self, event: &Event) -> ReaderState
+        ensures { result ≡ state_after self event.now }
     {
         match event {
-            Event::Start(_) => Place {
+            Event::Start(_) => ReaderState {
                 started: true,
                 ended: self.ended,
             },
-            Event::End => Place {
+            Event::End => ReaderState {
                 started: self.started,
                 ended: true,
             },
