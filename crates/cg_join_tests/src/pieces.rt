@@ -1,27 +1,27 @@
 //! What a joiner, replica 4, answers to a piece of the first snapshot, or of another one, a byte too short or too long.
 
 use super::giver::{giver, name};
-use cg_base::{Bytes, ReplicaId, put, put_number};
+use cg_base::{Bytes, NoMemory, ReplicaId, put, put_number, put_shown};
 use cg_client::Core;
 use cg_disk::ModelDisk;
-use cg_join::{JoinErr, Joiner, SnapshotWriter};
+use cg_join::{FinishErr, JoinErr, Joiner, SnapshotWriter};
 use std::alloc::AllocGlobal;
 use std::process::Abort;
 use std::test::Fail;
 
-const TURNS: &str = "piece 2 -> not 2 but 1
-short 1 -> bad at 120
-other 1 -> another, 2
+const TURNS: &str = "piece 2 -> piece 2 came where piece 1 is the next
+short 1 -> the bytes at 120 are of no piece
+other 1 -> the piece is one of another snapshot: 2
 piece 1 -> taken
-piece 1 -> not 1 but 2
-piece 3 -> not 3 but 2
+piece 1 -> piece 1 came where piece 2 is the next
+piece 3 -> piece 3 came where piece 2 is the next
 piece 2 -> taken
-long 3 -> bad at 64
+long 3 -> the bytes at 64 are of no piece
 piece 3 -> taken
 piece 4 -> taken
-other 5 -> another, 2
+other 5 -> the piece is one of another snapshot: 2
 piece 5 -> all
-piece 5 -> not 5 but 6";
+piece 5 -> piece 5 came where piece 6 is the next";
 
 fn piece(writer: &SnapshotWriter, n: u64) -> Result<Bytes, Fail> {
     if n < 1 || n > writer.count() {
@@ -58,23 +58,12 @@ fn cut_short<'a>(words: &str, bytes: &'a [u8]) -> &'a [u8] {
 }
 
 fn put_refusal(out: &mut Vec<u8>, err: JoinErr) -> Result<(), Fail> {
-    match err {
-        JoinErr::BadPiece { at } => {
-            put(out, b"bad at ")?;
-            Ok(put_number(out, at)?)
-        }
-        JoinErr::OtherSnapshot { got, .. } => {
-            put(out, b"another, ")?;
-            Ok(put_number(out, got.number)?)
-        }
-        JoinErr::OutOfTurn { want, got } => {
-            put(out, b"not ")?;
-            put_number(out, got)?;
-            put(out, b" but ")?;
-            Ok(put_number(out, want)?)
-        }
-        JoinErr::NoMemory => Ok(put(out, b"no memory")?),
+    put_shown(out, &err)?;
+    if let JoinErr::OtherSnapshot { got, .. } = err {
+        put(out, b": ")?;
+        put_number(out, got.number)?;
     }
+    Ok(())
 }
 
 fn put_answer(out: &mut Vec<u8>, answer: Result<bool, JoinErr>) -> Result<(), Fail> {
@@ -108,6 +97,26 @@ fn takes(rt: &(impl Abort + AllocGlobal), core: &Core) -> Result<(), Fail> {
     let answered = answers(rt, core, &mut joiner);
     drop(joiner);
     answered
+}
+
+fn put_fault(out: &mut Vec<u8>, fault: FinishErr<ModelDisk>, end: &[u8]) -> Result<(), NoMemory> {
+    let shown = put_shown(out, &fault);
+    drop(fault);
+    shown?;
+    put(out, end)
+}
+
+#[test]
+fn what_ends_a_joiner_has_words(rt: HostRuntime) -> Result<(), Fail> {
+    let alloc = rt.alloc();
+    let mut out = Vec::new(alloc);
+    put_fault(&mut out, FinishErr::Lost(ModelDisk::new(alloc)), b"; ")?;
+    put_fault(&mut out, FinishErr::NoMemory(ModelDisk::new(alloc)), b"")?;
+    assert_eq!(rt;
+        out.as_slice(),
+        b"a device call failed; memory was refused".as_slice()
+    );
+    Ok(())
 }
 
 #[test]

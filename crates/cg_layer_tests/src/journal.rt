@@ -3,7 +3,7 @@
 use crate::table::{follows, number, parts, say, say_shown, say_with};
 use cg_base::BytesList;
 use cg_disk::{Disk, DiskFault, ModelDisk, Side};
-use cg_journal::{AppendErr, Journal, JournalOpen};
+use cg_journal::{AppendErr, FormatErr, Journal, JournalOpen};
 use std::alloc::Global;
 
 type Answer<T> = Result<T, &'static str>;
@@ -47,7 +47,7 @@ others -> no;no;no;no;no;no;no;no;no;yes;no;no;";
 // the lengths of the sides with one record; behind a restart, how many calls were made, the length, and how many records
 // are found
 const LENGTHS: &str = "lengths -> 19 and 9; 13 calls, 17, 1
-words -> the disk is no journal, a device call failed";
+words -> the disk is no journal, a device call failed, a device call failed, a device call failed";
 
 fn fresh(alloc: Global) -> Answer<Journal<ModelDisk>> {
     match Journal::format(ModelDisk::new(alloc)) {
@@ -218,6 +218,19 @@ fn say_faults(alloc: Global, out: &mut Vec<u8>) {
     }
     say(out, ", ");
     say_shown(out, &DiskFault::Failed);
+    say_lost(alloc, out);
+}
+
+// what is said where a format and where an append lost its disk
+fn say_lost(alloc: Global, out: &mut Vec<u8>) {
+    let format = FormatErr::Lost(ModelDisk::new(alloc));
+    say(out, ", ");
+    say_shown(out, &format);
+    drop(format);
+    let append = AppendErr::Lost(ModelDisk::new(alloc));
+    say(out, ", ");
+    say_shown(out, &append);
+    drop(append);
 }
 
 fn perform(alloc: Global, body: &mut &[u8], call: &str, out: &mut Vec<u8>) {

@@ -16,9 +16,10 @@ use cg_client::Core;
 use cg_db::Answer;
 use cg_disk::{Disk, DiskFault, ModelDisk, Side};
 use cg_report::View;
-use cg_store::{OpenErr, Store};
+use cg_store::{CommitErr, OpenErr, Store};
 use cg_text::Txt;
 use std::alloc::{AllocGlobal, Global};
+use std::fmt::Display;
 use std::process::Abort;
 use std::test::Fail;
 
@@ -87,6 +88,10 @@ h 1 checkpoint 1 change@45=3 0 | h 0 -> no store
 h 1 checkpoint 1 change@58=2 0 | h 0 -> no store
 h 1 checkpoint 1 change@100=3 0 | h 0 -> no store
 h 1 checkpoint 1 change@105=2 0 | h 0 -> no store";
+
+// what a commit and an opening say
+const WORDS: &str = "a device call failed; memory was refused;
+a device call failed; the disk stands for no state of this replica; memory was refused;";
 
 fn digit(character: u8) -> Option<u8> {
     match character {
@@ -347,6 +352,37 @@ fn cuts(rt: &(impl Abort + AllocGlobal), lines: &str) -> Result<(), Fail> {
         put_cut(rt.alloc(), sides, ReplicaId::known(1), &mut out)?;
         assert_eq!(rt; out.as_slice(), expected.as_bytes(), "{line}");
     }
+    Ok(())
+}
+
+// the words of a fault, in front of what stands between it and the next one
+fn put_words(out: &mut Vec<u8>, fault: &impl Display, end: &[u8]) -> Result<(), NoMemory> {
+    put_shown(out, fault)?;
+    put(out, end)
+}
+
+fn put_commit(fault: CommitErr<ModelDisk>, out: &mut Vec<u8>, end: &[u8]) -> Result<(), NoMemory> {
+    let done = put_words(out, &fault, end);
+    drop(fault);
+    done
+}
+
+fn put_open(fault: OpenErr<ModelDisk>, out: &mut Vec<u8>, end: &[u8]) -> Result<(), NoMemory> {
+    let done = put_words(out, &fault, end);
+    drop(fault);
+    done
+}
+
+#[test]
+fn errors_have_words(rt: HostRuntime) -> Result<(), Fail> {
+    let alloc = rt.alloc();
+    let mut out = Vec::new(alloc);
+    put_commit(CommitErr::Lost(ModelDisk::new(alloc)), &mut out, b"; ")?;
+    put_commit(CommitErr::NoMemory(ModelDisk::new(alloc)), &mut out, b";\n")?;
+    put_open(OpenErr::Lost(ModelDisk::new(alloc)), &mut out, b"; ")?;
+    put_open(OpenErr::NotAStore(ModelDisk::new(alloc)), &mut out, b"; ")?;
+    put_open(OpenErr::NoMemory(ModelDisk::new(alloc)), &mut out, b";")?;
+    assert_eq!(rt; out.as_slice(), WORDS.as_bytes());
     Ok(())
 }
 
