@@ -43,7 +43,7 @@ fn refuse_line<K: Sink>(
 }
 
 // The event of a line, which the reader has read.
-fn perform_read<K: Sink>(
+fn carry_out<K: Sink>(
     alloc: Global,
     output: &mut K,
     report: Report,
@@ -63,7 +63,7 @@ fn perform_read<K: Sink>(
 
 // A line that begins with the word, before these tokens.
 #[tactic(auto, unfolding(crate::specs::Outcome::word_outcome))]
-fn perform_word<K: Sink>(
+fn finish_line<K: Sink>(
     alloc: Global,
     output: &mut K,
     report: Report,
@@ -80,7 +80,7 @@ fn perform_word<K: Sink>(
 {
     let mut progress = progress;
     match progress.reader.finish_line(alloc, word, words) {
-        Ok(event) => perform_read(alloc, output, report, line, event, progress),
+        Ok(event) => carry_out(alloc, output, report, line, event, progress),
         Err(LineFault::Syntax(reason)) => {
             let count = progress.count;
             drop(progress);
@@ -96,7 +96,7 @@ fn perform_word<K: Sink>(
 
 // A line, without its end.
 #[tactic(auto, unfolding(crate::specs::Outcome::line_outcome))]
-fn perform_text<K: Sink>(
+fn begin_line<K: Sink>(
     alloc: Global,
     output: &mut K,
     report: Report,
@@ -113,7 +113,7 @@ fn perform_text<K: Sink>(
     lines_are_exact();
     match progress.reader.begin_line(line) {
         Ok(None) => Ok(progress),
-        Ok(Some((word, words))) => perform_word(
+        Ok(Some((word, words))) => finish_line(
             alloc, output, report, number, word, words, progress,
         ),
         Err(fault) => {
@@ -168,7 +168,7 @@ pub fn refuse_limit<K: Sink>(
 }
 
 /// A line that has its end.
-pub fn perform_line<K: Sink>(
+pub fn whole_line<K: Sink>(
     alloc: Global,
     output: &mut K,
     report: Report,
@@ -187,7 +187,7 @@ pub fn perform_line<K: Sink>(
 {
     match passed_limit(number, line.len(), at + line.len() + 1) {
         Some(what) => Err(refuse_limit(alloc, output, number, what, progress)),
-        None => perform_text(
+        None => begin_line(
             alloc,
             output,
             report,
@@ -248,7 +248,7 @@ fn close_in_line<K: Sink>(
     ensures { Stopped report (cut_line number line.now Ended progress)
         (K.view output.old) (K.view output.new) result }
 {
-    match perform_text(alloc, output, report, number, line, progress) {
+    match begin_line(alloc, output, report, number, line, progress) {
         Ok(next) => end_run(alloc, output, number, next),
         Err(status) => status,
     }

@@ -6,7 +6,7 @@ ghost use Rattle.cg_run.specs.declared.progress.Ending.TheVariants.{Ended, Faile
 ghost use Rattle.cg_run.specs.Streaming.{from_stage, IsStage, IsUnended, IsHeld, held_limit, EndsLine, HoldsRest, TakesUp, TakesTurn, Replays};
 
 use crate::progress::{Report, Stage};
-use crate::replay::{close, fail, passed_limit, perform_line, refuse_limit};
+use crate::replay::{close, fail, passed_limit, refuse_limit, whole_line};
 use crate::status::{Limit, Status};
 use cg_base::cut_at;
 use cg_io::{Sink, Source};
@@ -32,7 +32,7 @@ fn end_line<K: Sink>(
         return Err(Status::NoMemory);
     }
     let Stage { line, at, progress } = stage;
-    match perform_line(alloc, output, report, line, at, held.as_slice(), progress) {
+    match whole_line(alloc, output, report, line, at, held.as_slice(), progress) {
         Ok(progress) => {
             let at = at + held.len() + 1;
             held.clear();

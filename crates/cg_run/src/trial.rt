@@ -12,7 +12,7 @@ ghost use Rattle.cg_run.specs.Streaming.{IsStage, EndsLine};
 
 use crate::progress::{Progress, Report, Stage};
 use crate::putting::{finish, put_text};
-use crate::replay::perform_line;
+use crate::replay::whole_line;
 use crate::status::Status;
 use crate::totals::put_summary;
 use cg_base::ReplicaId;
@@ -40,7 +40,7 @@ fn play_line<K: Sink>(
         return Err(Status::NoMemory);
     }
     let Stage { line, at, progress } = stage;
-    match perform_line(
+    match whole_line(
         alloc,
         output,
         Report::Tail,

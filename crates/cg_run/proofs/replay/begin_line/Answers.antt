@@ -3,10 +3,10 @@ use Rattle.cg_schedule.specs.declared.word.Word.{Word}
 use Rattle.cg_schedule.specs.Line.{opening}
 use Rattle.cg_run.proofs.Asked.{next_read}
 use Rattle.cg_run.proofs.Lines.{line-opened}
-use Rattle.cg_run.proofs.replay.perform_text.Goals as goal
+use Rattle.cg_run.proofs.replay.begin_line.Goals as goal
 
-pub perform_word-requires-clause-reads : goal.perform_word-requires-clause-reads
-perform_word-requires-clause-reads g c =
+pub finish_line-requires-clause-reads : goal.finish_line-requires-clause-reads
+finish_line-requires-clause-reads g c =
     let o : Word × List (List ℕ) = (c.in-Ok-Some.word, c.in-Ok-Some.words) in
     let is : opening c.args.progress.reader c.args.line.now ≡ Ok (Some o) = sym c.begin_line.ensures ∙ c.in-Ok-Some.is ∙ ap Ok c.in-Ok-Some.field-0-is in
     λ event read. next_read c.lines_are_exact.ensures.event c.args.progress c.args.line.now o event c.requires.under_way is read
