@@ -6,14 +6,14 @@ use Rattle.cg_disk.specs.Writes.{Only}
 use Rattle.cg_disk.specs.Undo.{side_after}
 use Rattle.cg_disk.specs.Armed.{strike_of}
 use Rattle.cg_disk.specs.Past.{MayHaveLeft, last_call}
-use Rattle.cg_disk.specs.Model.{writes_of, side_of, marks_of, state_of, view_of, SameSides, IsMarked, IsClear, Settles, IsCounted, Counts}
+use Rattle.cg_disk.specs.Model.{writes_of, side_of, points_of, state_of, view_of, SameSides, HasPoint, IsClear, Settles, IsCounted, Counts}
 use Rattle.cg_disk.specs.Calls as calls
 use Rattle.std.proofs.lemmas.Bool.Decides.{nat_tests}
 use Rattle.cg_disk.specs.declared.armed.Armed.{Armed}
 use Rattle.cg_disk.specs.declared.armed.Armed.TheVariants.{Nothing, Failure, Stop}
 use Rattle.cg_disk.specs.declared.disk.DiskFault.{DiskFault}
 use Rattle.cg_disk.specs.declared.disk.DiskFault.TheVariants.{Failed, NoMemory}
-use Rattle.cg_disk.specs.declared.mark.Mark.{Mark}
+use Rattle.cg_disk.specs.declared.sync_point.SyncPoint.{SyncPoint}
 use Rattle.cg_disk.specs.declared.model_side.ModelSide.{ModelSide}
 use Rattle.cg_disk.specs.declared.model_disk.ModelDisk.{ModelDisk}
 use Rattle.cg_disk.proofs.Images.{filled_leaves, seen_leaves, only_seen}
@@ -26,24 +26,24 @@ has_images m = record {
   fills = λ fill. record { on_a = filled_leaves (side_of m.a) fill m.a.grown; on_b = filled_leaves (side_of m.b) (drop (unsynced_from (side_of m.a) 0 m.a.bytes.items) fill) m.b.grown };
 }
 
-pub counted_before : (m : ModelDisk) → (m.begun ≤ m.calls) × (last_call (marks_of m) ≤ m.calls)
+pub counted_before : (m : ModelDisk) → (m.begun ≤ m.calls) × (last_call (points_of m) ≤ m.calls)
 counted_before m = (m.counted.1, m.counted.2)
 
 -- the same moments under other names
-moved : (a a' b b' : SideState) (n n' k k' : ℕ) (marks marks' : List Mark) (t : ℕ) (c : Image) → a ≡ a' → b ≡ b' → n ≡ n' → k ≡ k' → marks ≡ marks' → MayHaveLeft a b n k marks t c → MayHaveLeft a' b' n' k' marks' t c
-moved a a' b b' n n' k k' marks marks' t c ea eb en ek em left =
-    subst (λ x. MayHaveLeft x b' n' k' marks' t c) ea
-    (subst (λ x. MayHaveLeft a x n' k' marks' t c) eb
-    (subst (λ x. MayHaveLeft a b x k' marks' t c) en
-    (subst (λ x. MayHaveLeft a b n x marks' t c) ek
+moved : (a a' b b' : SideState) (n n' k k' : ℕ) (points points' : List SyncPoint) (t : ℕ) (c : Image) → a ≡ a' → b ≡ b' → n ≡ n' → k ≡ k' → points ≡ points' → MayHaveLeft a b n k points t c → MayHaveLeft a' b' n' k' points' t c
+moved a a' b b' n n' k k' points points' t c ea eb en ek em left =
+    subst (λ x. MayHaveLeft x b' n' k' points' t c) ea
+    (subst (λ x. MayHaveLeft a x n' k' points' t c) eb
+    (subst (λ x. MayHaveLeft a b x k' points' t c) en
+    (subst (λ x. MayHaveLeft a b n x points' t c) ek
     (subst (λ x. MayHaveLeft a b n k x t c) em left))))
 
 -- sides with the same bytes and writes are the same
 pub same_side : (s t : ModelSide) → t.bytes.items ≡ s.bytes.items → t.unsynced.items ≡ s.unsynced.items → side_of t ≡ side_of s
 same_side s t bytes writes = λ i. side_after (bytes i) (reverse (writes i))
 
-pub same_marks : (m n : ModelDisk) → n.past.items ≡ m.past.items → marks_of n ≡ marks_of m
-same_marks m n past = ap reverse past
+pub same_points : (m n : ModelDisk) → n.past.items ≡ m.past.items → points_of n ≡ points_of m
+same_points m n past = ap reverse past
 
 -- a call more that settles nothing, on sides that may have grown
 module _ (m n : ModelDisk) (called : n.calls ≡ suc m.calls) (begun : n.begun ≡ m.begun) (past : n.past.items ≡ m.past.items) where
@@ -52,11 +52,11 @@ module _ (m n : ModelDisk) (called : n.calls ≡ suc m.calls) (begun : n.begun �
       let before = counted_before m in
       record {
         nothing_else = λ t c le left.
-            more_nothing_else (side_of m.a) (side_of m.b) m.calls m.begun (marks_of m) before.0 before.1 (side_of n.a) (side_of n.b) old_a old_b t c le
-            (moved (side_of n.a) (side_of n.a) (side_of n.b) (side_of n.b) n.calls (suc m.calls) n.begun m.begun (marks_of n) (marks_of m) t c refl refl called begun (same_marks m n past) left);
+            more_nothing_else (side_of m.a) (side_of m.b) m.calls m.begun (points_of m) before.0 before.1 (side_of n.a) (side_of n.b) old_a old_b t c le
+            (moved (side_of n.a) (side_of n.a) (side_of n.b) (side_of n.b) n.calls (suc m.calls) n.begun m.begun (points_of n) (points_of m) t c refl refl called begun (same_points m n past) left);
         keeps = λ t c le left.
-            moved (side_of n.a) (side_of n.a) (side_of n.b) (side_of n.b) (suc m.calls) n.calls m.begun n.begun (marks_of m) (marks_of n) t c refl refl (sym called) (sym begun) (sym (same_marks m n past))
-            (more_keeps (side_of m.a) (side_of m.b) m.calls m.begun (marks_of m) before.0 before.1 (side_of n.a) (side_of n.b) old_a old_b grow t c le left);
+            moved (side_of n.a) (side_of n.a) (side_of n.b) (side_of n.b) (suc m.calls) n.calls m.begun n.begun (points_of m) (points_of n) t c refl refl (sym called) (sym begun) (sym (same_points m n past))
+            (more_keeps (side_of m.a) (side_of m.b) m.calls m.begun (points_of m) before.0 before.1 (side_of n.a) (side_of n.b) old_a old_b grow t c le left);
       }
 
 -- sides that stay
@@ -131,11 +131,11 @@ module _ (m n : ModelDisk) (settles : Settles m n) where
   settled_looks called = record {
     reads = λ i. record { a = settles.bytes_a i; b = settles.bytes_b i };
     images = settled_images;
-    elapses = ⊎_elim marked clear settles.past;
+    elapses = ⊎_elim with_point clear settles.past;
   }
     where
-      marked : IsMarked m n → calls.Elapses (view_of m) (view_of n)
-      marked is =
+      with_point : HasPoint m n → calls.Elapses (view_of m) (view_of n)
+      with_point is =
           let before = counted_before m in
           let a : side_of n.a ≡ side_after m.a.bytes.items [] = clean_a in
           let b : side_of n.b ≡ side_after m.b.bytes.items [] = clean_b in
@@ -143,11 +143,11 @@ module _ (m n : ModelDisk) (settles : Settles m n) where
             nothing_else = λ t c le left. ⊎_elim
                 (λ past. inl past)
                 (λ now. inr (subst (λ x. Leaves x (side_of n.b) c) (sym a) (subst (λ y. Leaves (side_after m.a.bytes.items []) y c) (sym b) now)))
-                (settled_nothing_else m.a.bytes.items m.b.bytes.items (writes_of m.a) (writes_of m.b) m.calls m.begun is.mark (marks_of m) before.0 before.1 (is.call ∙ called) is.a is.b t c le
-                (moved (side_of n.a) (side_after m.a.bytes.items []) (side_of n.b) (side_after m.b.bytes.items []) n.calls (suc m.calls) n.begun m.begun (marks_of n) (is.mark ∷ marks_of m) t c a b called settles.begun is.more left));
+                (settled_nothing_else m.a.bytes.items m.b.bytes.items (writes_of m.a) (writes_of m.b) m.calls m.begun is.point (points_of m) before.0 before.1 (is.call ∙ called) is.a is.b t c le
+                (moved (side_of n.a) (side_after m.a.bytes.items []) (side_of n.b) (side_after m.b.bytes.items []) n.calls (suc m.calls) n.begun m.begun (points_of n) (is.point ∷ points_of m) t c a b called settles.begun is.more left));
             keeps = λ t c le left.
-                moved (side_after m.a.bytes.items []) (side_of n.a) (side_after m.b.bytes.items []) (side_of n.b) (suc m.calls) n.calls m.begun n.begun (is.mark ∷ marks_of m) (marks_of n) t c (sym a) (sym b) (sym called) (sym settles.begun) (sym is.more)
-                (settled_keeps m.a.bytes.items m.b.bytes.items (writes_of m.a) (writes_of m.b) m.calls m.begun is.mark (marks_of m) before.0 before.1 (is.call ∙ called) is.a is.b t c le left);
+                moved (side_after m.a.bytes.items []) (side_of n.a) (side_after m.b.bytes.items []) (side_of n.b) (suc m.calls) n.calls m.begun n.begun (is.point ∷ points_of m) (points_of n) t c (sym a) (sym b) (sym called) (sym settles.begun) (sym is.more)
+                (settled_keeps m.a.bytes.items m.b.bytes.items (writes_of m.a) (writes_of m.b) m.calls m.begun is.point (points_of m) before.0 before.1 (is.call ∙ called) is.a is.b t c le left);
           }
 
       clear : IsClear m n → calls.Elapses (view_of m) (view_of n)
@@ -182,7 +182,7 @@ settles_after m k n same settles = record {
   writes_b = settles.writes_b;
   begun = settles.begun ∙ same.begun;
   past = ⊎_elim
-      (λ is. inl (record { mark = is.mark; more = is.more ∙ ap (λ marks. is.mark ∷ marks) (same_marks m k same.past); call = is.call; a = is.a ∙ ap reverse same.writes_a; b = is.b ∙ ap reverse same.writes_b }))
+      (λ is. inl (record { point = is.point; more = is.more ∙ ap (λ points. is.point ∷ points) (same_points m k same.past); call = is.call; a = is.a ∙ ap reverse same.writes_a; b = is.b ∙ ap reverse same.writes_b }))
       (λ is. inr (record { a = sym same.writes_a ∙ is.a; b = sym same.writes_b ∙ is.b; past = is.past ∙ same.past }))
       settles.past;
 }

@@ -6,14 +6,14 @@ use Rattle.cg_disk.specs.State.{SideState, Strike, Leaves, left_by, synced_side}
 use Rattle.cg_disk.specs.View.{IsAtRest}
 use Rattle.cg_disk.specs.Crashes.{IsCrashed, clean_side}
 use Rattle.cg_disk.specs.Model.{side_of, state_of, view_of, view_with}
-use Rattle.cg_disk.specs.declared.mark.Mark.{Mark}
+use Rattle.cg_disk.specs.declared.sync_point.SyncPoint.{SyncPoint}
 use Rattle.cg_disk.specs.declared.model_disk.ModelDisk.{ModelDisk}
 use Rattle.cg_disk.proofs.Images.{only_seen}
 use Rattle.cg_disk.proofs.Counting.{has_images}
 
-module _ (a b : SideState) (calls faults begun : ℕ) (marks : List Mark) where
+module _ (a b : SideState) (calls faults begun : ℕ) (points : List SyncPoint) where
   -- where everything is synced a crash leaves what a read gives
-  pub rests : (strike : Option Strike) (bytes_a bytes_b : List ℕ) → a ≡ clean_side bytes_a → b ≡ clean_side bytes_b → IsAtRest (view_with a b strike calls faults begun marks)
+  pub rests : (strike : Option Strike) (bytes_a bytes_b : List ℕ) → a ≡ clean_side bytes_a → b ≡ clean_side bytes_b → IsAtRest (view_with a b strike calls faults begun points)
   rests strike bytes_a bytes_b clean_a clean_b = record {
     only = λ c left.
         let on_a = only_seen a c.a (λ i. (clean_a i).unsynced) ((λ i. (clean_a i).old) ∙ sym (λ i. (clean_a i).seen)) left.on_a in
@@ -22,7 +22,7 @@ module _ (a b : SideState) (calls faults begun : ℕ) (marks : List Mark) where
     clean = (clean_a ∙ sym (ap synced_side clean_a), clean_b ∙ sym (ap synced_side clean_b));
   }
 
-  pub crashed : (fill : List ℕ) (m : ModelDisk) → a ≡ clean_side (left_by (state_of m) fill).a → b ≡ clean_side (left_by (state_of m) fill).b → calls ≡ m.calls → faults ≡ m.faults → IsCrashed fill (view_of m) (view_with a b None calls faults begun marks)
+  pub crashed : (fill : List ℕ) (m : ModelDisk) → a ≡ clean_side (left_by (state_of m) fill).a → b ≡ clean_side (left_by (state_of m) fill).b → calls ≡ m.calls → faults ≡ m.faults → IsCrashed fill (view_of m) (view_with a b None calls faults begun points)
   crashed fill m clean_a clean_b same_calls same_faults =
       let image : Image = record { a = a.seen; b = b.seen } in
       let reads : image ≡ left_by (state_of m) fill = λ i. record { a = (clean_a i).seen; b = (clean_b i).seen } in

@@ -9,7 +9,7 @@ use Rattle.cg_disk.specs.declared.disk.Side.{Side}
 use Rattle.cg_disk.specs.declared.disk.DiskFault.{DiskFault}
 use Rattle.cg_disk.specs.declared.disk.DiskFault.TheVariants.{Failed, NoMemory}
 use Rattle.cg_disk.specs.declared.written.Written.{Written}
-use Rattle.cg_disk.specs.declared.mark.Mark.{Mark}
+use Rattle.cg_disk.specs.declared.sync_point.SyncPoint.{SyncPoint}
 use Rattle.cg_disk.specs.declared.model_side.ModelSide.{ModelSide}
 use Rattle.cg_disk.specs.declared.model_disk.ModelDisk.{ModelDisk}
 
@@ -19,28 +19,28 @@ writes_of s = reverse s.unsynced.items
 abbrev pub side_of : ModelSide → SideState
 side_of s = side_after s.bytes.items (writes_of s)
 
-abbrev pub marks_of : ModelDisk → List Mark
-marks_of m = reverse m.past.items
+abbrev pub points_of : ModelDisk → List SyncPoint
+points_of m = reverse m.past.items
 
 abbrev pub state_of : ModelDisk → DiskState
 state_of m = record { a = side_of m.a; b = side_of m.b; strike = strike_of m.calls m.armed }
 
 -- what contracts see of a disk with these sides, this strike, so many calls and faults, so many calls before the last
--- `begin`, and these marks since
-abbrev pub view_with : SideState → SideState → Option Strike → ℕ → ℕ → ℕ → List Mark → DiskView
-view_with a b strike calls faults begun marks = record {
+-- `begin`, and these sync points since
+abbrev pub view_with : SideState → SideState → Option Strike → ℕ → ℕ → ℕ → List SyncPoint → DiskView
+view_with a b strike calls faults begun points = record {
   reads = record { a = a.seen; b = b.seen };
   may_leave = Leaves a b;
-  left_since = MayHaveLeft a b calls begun marks;
+  left_since = MayHaveLeft a b calls begun points;
   time = calls;
   faults = faults;
   state = Some (record { a = a; b = b; strike = strike });
 }
 
 abbrev pub view_of : ModelDisk → DiskView
-view_of m = view_with (side_of m.a) (side_of m.b) (strike_of m.calls m.armed) m.calls m.faults m.begun (marks_of m)
+view_of m = view_with (side_of m.a) (side_of m.b) (strike_of m.calls m.armed) m.calls m.faults m.begun (points_of m)
 
--- both sides, the marks and the moments answered for are as before
+-- both sides, the sync points and the moments answered for are as before
 pub record SameSides (old new : ModelDisk) : Type 0 where
   pub bytes_a : new.a.bytes.items ≡ old.a.bytes.items
   pub bytes_b : new.b.bytes.items ≡ old.b.bytes.items
@@ -49,13 +49,13 @@ pub record SameSides (old new : ModelDisk) : Type 0 where
   pub past : new.past.items ≡ old.past.items
   pub begun : new.begun ≡ old.begun
 
--- a mark with all writes since the last one was added to the marks
-pub record IsMarked (old new : ModelDisk) : Type 0 where
-  pub mark : Mark
-  pub more : marks_of new ≡ mark ∷ marks_of old
-  pub call : mark.call ≡ new.calls
-  pub a : reverse mark.a.items ≡ writes_of old.a
-  pub b : reverse mark.b.items ≡ writes_of old.b
+-- a sync point with all writes since the last one was added
+pub record HasPoint (old new : ModelDisk) : Type 0 where
+  pub point : SyncPoint
+  pub more : points_of new ≡ point ∷ points_of old
+  pub call : point.call ≡ new.calls
+  pub a : reverse point.a.items ≡ writes_of old.a
+  pub b : reverse point.b.items ≡ writes_of old.b
 
 -- there was nothing to settle
 pub record IsClear (old new : ModelDisk) : Type 0 where
@@ -70,7 +70,7 @@ pub record Settles (old new : ModelDisk) : Type 0 where
   pub writes_a : new.a.unsynced.items ≡ []
   pub writes_b : new.b.unsynced.items ≡ []
   pub begun : new.begun ≡ old.begun
-  pub past : IsMarked old new ⊎ IsClear old new
+  pub past : HasPoint old new ⊎ IsClear old new
 
 -- a call was counted that nothing strikes
 pub record IsCounted (old new : ModelDisk) : Type 0 where
@@ -102,7 +102,7 @@ Counts old new (Ok _) = IsCounted old new
 Counts old new (Err Failed) = IsStopped old new ⊎ FailsOnce old new
 Counts old new (Err NoMemory) = ⊥
 
--- these bytes were written on a side, and nothing else has changed of the sides and the marks
+-- these bytes were written on a side, and nothing else has changed of the sides and the sync points
 pub record IsWritten (side : Side) (place : ℕ) (bytes : List ℕ) (old new : ModelDisk) : Type 0 where
   pub a : side_of new.a ≡ (wrote side place bytes (state_of old)).a
   pub b : side_of new.b ≡ (wrote side place bytes (state_of old)).b

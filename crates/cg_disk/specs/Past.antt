@@ -5,28 +5,28 @@ use Rattle.cg_disk.specs.Sides.{Image}
 use Rattle.cg_disk.specs.State.{SideState, Leaves}
 use Rattle.cg_disk.specs.Undo.{undone, side_after}
 use Rattle.cg_disk.specs.declared.written.Written.{Written}
-use Rattle.cg_disk.specs.declared.mark.Mark.{Mark}
+use Rattle.cg_disk.specs.declared.sync_point.SyncPoint.{SyncPoint}
 
--- the writes that a mark settled, the newest first
-abbrev pub settled_a : Mark → List Written
+-- the writes that a sync point settled, the newest first
+abbrev pub settled_a : SyncPoint → List Written
 settled_a m = reverse m.a.items
 
-abbrev pub settled_b : Mark → List Written
+abbrev pub settled_b : SyncPoint → List Written
 settled_b m = reverse m.b.items
 
--- with these bytes after the newest of these marks, a crash just before one of them, after a time, may have left this
-abbrev pub HadLeft : List ℕ → List ℕ → List Mark → ℕ → Image → Type 0
+-- with these bytes after the newest of these sync points, a crash just before one of them, after a time, may have left this
+abbrev pub HadLeft : List ℕ → List ℕ → List SyncPoint → ℕ → Image → Type 0
 HadLeft a b [] t c = ⊥
-HadLeft a b (m ∷ marks) t c =
+HadLeft a b (m ∷ points) t c =
     (t < m.call)
-    × (Leaves (side_after a (settled_a m)) (side_after b (settled_b m)) c ⊎ HadLeft (undone a (settled_a m)) (undone b (settled_b m)) marks t c)
+    × (Leaves (side_after a (settled_a m)) (side_after b (settled_b m)) c ⊎ HadLeft (undone a (settled_a m)) (undone b (settled_b m)) points t c)
 
--- of a disk with these sides, this many calls, so many before the last `begin`, and these marks since, the newest first:
+-- of a disk with these sides, this many calls, so many before the last `begin`, and these sync points since, the newest first:
 -- a crash at some moment since a time may have left this, and for a time before that `begin` any image counts
-abbrev pub MayHaveLeft : SideState → SideState → ℕ → ℕ → List Mark → ℕ → Image → Type 0
-MayHaveLeft a b calls begun marks t c = Leaves a b c ⊎ (t < calls) × ((t < begun) ⊎ HadLeft a.old b.old marks t c)
+abbrev pub MayHaveLeft : SideState → SideState → ℕ → ℕ → List SyncPoint → ℕ → Image → Type 0
+MayHaveLeft a b calls begun points t c = Leaves a b c ⊎ (t < calls) × ((t < begun) ⊎ HadLeft a.old b.old points t c)
 
 -- the number of the last call that settled something
-abbrev pub last_call : List Mark → ℕ
+abbrev pub last_call : List SyncPoint → ℕ
 last_call [] = 0
-last_call (m ∷ marks) = max m.call (last_call marks)
+last_call (m ∷ points) = max m.call (last_call points)

@@ -10,9 +10,9 @@ mod armed;
 mod bytes;
 mod crash;
 mod disk;
-mod mark;
 mod model_disk;
 mod model_side;
+mod sync_point;
 mod written;
 
 pub use disk::{Disk, DiskFault, Side};

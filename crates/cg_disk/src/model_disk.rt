@@ -3,8 +3,8 @@ ghost use Rattle.std.specs.Prelude.{◌≡◌, ◌+◌, ◌<◌, ◌≤◌, ◌^
 ghost use Rattle.cg_disk.specs.Past.{last_call};
 
 use crate::armed::Armed;
-use crate::mark::Mark;
 use crate::model_side::ModelSide;
+use crate::sync_point::SyncPoint;
 use crate::{Disk, DiskFault, Side};
 use cg_base::NoMemory;
 use std::alloc::Global;
@@ -14,7 +14,7 @@ use std::mem::replace;
 mod tests;
 
 /// A disk in memory whose calls can be made to fail. It keeps what it needs to tell what a crash may have left at each
-/// moment since the last `begin`: each mark has the writes that it settled, with the bytes that they wrote over.
+/// moment since the last `begin`: each sync point has the writes that it settled, with the bytes that they wrote over.
 #[derive(Drop)]
 pub struct ModelDisk {
     alloc: Global,
@@ -24,7 +24,7 @@ pub struct ModelDisk {
     calls: u64,
     faults: u64,
     begun: u64,
-    past: Vec<Mark>,
+    past: Vec<SyncPoint>,
     ghost counted: { (faults ≤ calls) × (begun ≤ calls) × (last_call (reverse past.items) ≤ calls) },
     ghost room: { 0 < vec_len a.unsynced + vec_len b.unsynced → vec_len past < vec_capacity past },
 }
@@ -117,12 +117,12 @@ impl ModelDisk {
         if self.a.unsynced.is_empty() && self.b.unsynced.is_empty() {
             return;
         }
-        let mark = Mark {
+        let point = SyncPoint {
             call: self.calls,
             a: replace(&mut self.a.unsynced, Vec::new(self.alloc)),
             b: replace(&mut self.b.unsynced, Vec::new(self.alloc)),
         };
-        match self.past.push(mark) {
+        match self.past.push(point) {
             Ok(()) => (),
             Err(_) => unreachable!(),
         }

@@ -13,7 +13,7 @@ returns-in-Failure-eq0 c =
         writes_a = s.writes_a;
         writes_b = s.writes_b;
         begun = s.begun;
-        past = ⊎_elim (λ m. inl (record { mark = m.mark; more = m.more; call = m.call; a = m.a; b = m.b })) (λ n. inr (record { a = n.a; b = n.b; past = n.past })) s.past;
+        past = ⊎_elim (λ m. inl (record { point = m.point; more = m.more; call = m.call; a = m.a; b = m.b })) (λ n. inr (record { a = n.a; b = n.b; past = n.past })) s.past;
       };
       calls = omega (arith, c.settle.ensures.calls);
       faults = omega (arith, c.settle.ensures.faults);

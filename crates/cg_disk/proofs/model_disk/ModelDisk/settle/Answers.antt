@@ -1,11 +1,11 @@
 use Rattle.std.proofs.Common.{rules, inl, ap, ◌∙◌, reverse, refl}
-use Rattle.cg_disk.specs.declared.mark.Mark.{Mark}
+use Rattle.cg_disk.specs.declared.sync_point.SyncPoint.{SyncPoint}
 use Rattle.cg_disk.proofs.Undoing.{reverse_push}
 use Rattle.cg_disk.proofs.model_disk.ModelDisk.settle.Goals as goal
 
 pub returns-clause-settles : goal.returns-clause-settles
 returns-clause-settles c =
-    let m : Mark = record { call = c.args.self.now.calls; a = c.replace.result; b = c.replace-2.result } in
+    let m : SyncPoint = record { call = c.args.self.now.calls; a = c.replace.result; b = c.replace-2.result } in
     record {
       bytes_a = search rules;
       bytes_b = search rules;
@@ -13,7 +13,7 @@ returns-clause-settles c =
       writes_b = search rules;
       begun = search rules;
       past = inl (record {
-        mark = m;
+        point = m;
         more = ap reverse c.in-Ok.ensures.items ∙ reverse_push c.args.self.now.past.items m;
         call = refl;
         a = λ i. reverse ((c.replace.ensures.value i).items);
