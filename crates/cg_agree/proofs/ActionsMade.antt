@@ -21,7 +21,7 @@ use Rattle.cg_agree.specs.Step.{world_step}
 use Rattle.cg_agree.specs.Run.{Step}
 use Rattle.cg_agree.specs.Agreement.{through}
 use Rattle.cg_agree.specs.Chronicle.{Chronicle, no_chronicle}
-use Rattle.cg_agree.specs.FactsReplica.{run_on, cut_behind, AreBooked}
+use Rattle.cg_agree.specs.FactsReplica.{AreBooked}
 use Rattle.cg_agree.specs.Noting.{chronicle_step}
 use Rattle.cg_agree.specs.Played.{StandsBeside, HoldsFrom}
 use Rattle.cg_agree.specs.Standing.{LeadTo, IsReached}
@@ -31,16 +31,18 @@ use Rattle.cg_agree.proofs.AlwaysMade.{always-holds}
 use Rattle.cg_agree.proofs.BookedCores.{each-booked}
 use Rattle.cg_agree.proofs.BookGrows.{IsNamed}
 use Rattle.cg_agree.proofs.BookStays.{event-book}
-use Rattle.cg_agree.proofs.CutRaise.{same_name, Rising, rising-raise, index-same, index-other}
+use Rattle.cg_step.specs.Holds.{run_on, cut_behind, Rising}
 use Rattle.cg_agree.proofs.EventsLead.{are-admitted, always-stands}
 use Rattle.cg_agree.proofs.LinesShown.{ArePrinted, each-find, lines-on}
 use Rattle.cg_agree.proofs.MadeShown.{IsThere, Adds, names_in}
 use Rattle.cg_agree.proofs.MadeTold.{each-contains, found-in, step-adds}
 use Rattle.cg_agree.proofs.PrimaryOne.{holds-here}
 use Rattle.cg_agree.proofs.RunForward.{IsStepOf}
-use Rattle.cg_agree.proofs.RunMarks.{run-head, run-rest}
+use Rattle.cg_queue.specs.NameLaws.{same_name}
 use Rattle.cg_agree.proofs.SeatFacts.{seat-id}
 use Rattle.cg_agree.proofs.TellsRun.{HasTold, told-on, nothing-told}
+use Rattle.cg_step.specs.CutRaiseLaws.{rising-raise, index-same, index-other}
+use Rattle.cg_step.specs.RunMarkLaws.{run-head, run-rest}
 
 -- ---- names that run on, of each creator
 

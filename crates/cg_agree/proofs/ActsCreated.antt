@@ -22,7 +22,7 @@ use Rattle.cg_agree.specs.Chronicle.{Told, Chronicle}
 use Rattle.cg_agree.specs.Looks.{told_in, members_in, greens_of, said_in, OfCores}
 use Rattle.cg_agree.specs.Talk.{Talk, act_in, is_ended, is_full, is_through, known_up_to}
 use Rattle.cg_agree.specs.FactsNet.{PhaseSound, IsPhase}
-use Rattle.cg_agree.specs.FactsReplica.{cut_behind, IsModeData, IsCore}
+use Rattle.cg_agree.specs.FactsReplica.{IsModeData, IsCore}
 use Rattle.cg_agree.specs.FactsTalk.{whole_talk, handed_talk, of_creator, count_behind, AreContents, Content, AreNumbered, AreNumberedAt, ActsNumbered, IsStateIn, TalkFacts}
 use Rattle.cg_agree.specs.Small.{Asks, Settles, small_step, turning, turning_as, after_turn, take_request}
 use Rattle.cg_agree.proofs.ActsSaid.{handed-heard}
@@ -35,6 +35,7 @@ use Rattle.cg_agree.proofs.TalkKept.{said-own, handed-own}
 use Rattle.cg_agree.proofs.TalkSame.{said-of, talk-from, content-same, acts-same}
 use Rattle.cg_agree.proofs.TurnActs.{content-turn, acts-turn}
 use Rattle.cg_agree.proofs.TurnTalk.{IsQuiet, CreatesOrIsQuiet, quiet-same, creating-regular, number-of, settle-each, ask-each, asks-kept, settles-kept}
+use Rattle.cg_step.specs.Holds.{cut_behind}
 
 -- ---- what a turn creates
 

@@ -30,7 +30,7 @@ use Rattle.cg_agree.specs.Fronts.{IsSomeWith}
 use Rattle.cg_agree.specs.Levels.{is_record_of}
 use Rattle.cg_agree.specs.FactsReplica.{is_attempting, IsAsOnDisk}
 use Rattle.cg_agree.proofs.TurnValues.{even-mark_red, even-mark_yellow, even-mark_green, even-send_part, even-create_kept, even-create}
-use Rattle.cg_agree.proofs.OneValue.{one-value}
+use Rattle.cg_step.specs.ValueLaws.{one-value}
 
 -- the attempt was under way and the reds are the same, or its record is another one
 abbrev pub IsSameOrNew : Replica → Held → Type 0

@@ -20,17 +20,18 @@ use Rattle.cg_agree.specs.Step.{joined, without_snapshot}
 use Rattle.cg_agree.specs.Chronicle.{Chronicle, no_chronicle}
 use Rattle.cg_agree.specs.Looks.{core_of, disk_held, on_disk, stood_of, copied_for, OfCores}
 use Rattle.cg_agree.specs.Small.{start, turning, turning_as, after_turn, commit_as, crash_as, recover_as, join_with}
-use Rattle.cg_agree.specs.FactsReplica.{run_on, GoesOn, IsAsOnDisk, IsCore}
+use Rattle.cg_agree.specs.FactsReplica.{GoesOn, IsAsOnDisk, IsCore}
 use Rattle.cg_agree.specs.Played.{IsWritten}
-use Rattle.cg_agree.proofs.RunMarks.{run-names}
+use Rattle.cg_step.specs.Holds.{run_on}
 use Rattle.cg_agree.proofs.HeldMarks.{IsOneself}
 use Rattle.cg_agree.proofs.HeldOwn.{created-same}
 use Rattle.cg_agree.proofs.HeldCommit.{recovered-id}
 use Rattle.cg_agree.proofs.ChronicleFacts.{seat_of-set}
 use Rattle.cg_agree.proofs.CoresKept.{seat-of}
 use Rattle.cg_agree.proofs.CoresSmall.{start-cores}
-use Rattle.cg_agree.proofs.OneValue.{same-from}
+use Rattle.cg_queue.specs.NameLaws.{same_id-is}
 use Rattle.cg_agree.proofs.BookGrows.{named_in, same-self, IsNamed, cut_of, IsCounted}
+use Rattle.cg_step.specs.RunMarkLaws.{run-names}
 
 pub record BookCounts (c : Chronicle) : Type 0 where
   pub numbered : run_on [] (names_of c.book) ≡ true
@@ -150,14 +151,14 @@ counts-recover c p own core s e (Down disk green) life is =
 pub found-name : (book : List Action) (id : ActionId) (a : Action) → named_in book id ≡ Some a → names (names_of book) id ≡ true
 found-name [] id a e = absurd (let clash : None ≡ Some a = e in cc)
 found-name (x ∷ book) id a e = elim (cases_Bool (same_id x.id id)) [
-  | inl here ↦ ap (λ b. b || names (names_of book) id) (let one = same-from x.id id here in subst (λ (y : ActionId). same_id id y ≡ true) (sym one) (same-self id))
+  | inl here ↦ ap (λ b. b || names (names_of book) id) (let one = same_id-is x.id id here in subst (λ (y : ActionId). same_id id y ≡ true) (sym one) (same-self id))
   | inr other ↦ or_right (same_id id x.id) (names (names_of book) id) (found-name book id a (sym (cond-false (same_id x.id id) (Some x) (named_in book id) other) ∙ e))
 ]
 
 names-booked : (book all : List Action) (id : ActionId) → Each (IsNamed book) all → names (names_of all) id ≡ true → names (names_of book) id ≡ true
 names-booked book [] id each e = absurd (let clash : false ≡ true = e in cc)
 names-booked book (x ∷ all) id each e = elim (cases_Bool (same_id id x.id)) [
-  | inl here ↦ (let one = same-from id x.id here in subst (λ (y : ActionId). names (names_of book) y ≡ true) (sym one) (found-name book x.id x each.0))
+  | inl here ↦ (let one = same_id-is id x.id here in subst (λ (y : ActionId). names (names_of book) y ≡ true) (sym one) (found-name book x.id x each.0))
   | inr other ↦ names-booked book all id each.1 (sym (ap (λ b. b || names (names_of all) id) other) ∙ e)
 ]
 

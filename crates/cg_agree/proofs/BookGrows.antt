@@ -13,13 +13,12 @@ use Rattle.cg_queue.specs.Queue.{names_of}
 use Rattle.cg_client.specs.Replica.{Held, State, RegPrim, TransPrim, ExchangeStates, ExchangeActions, Construct, No, Un, NonPrim, Left, Replica, last_index, created}
 use Rattle.cg_client.specs.Turn.{Turn, begin, with_held}
 use Rattle.cg_client.specs.Requests.{is_creating, next_action, create, create_kept, empty_buffer, buffer, settle, request_in, request}
-use Rattle.cg_agree.specs.FactsReplica.{run_on, cut_behind}
-use Rattle.cg_agree.proofs.CutRaise.{Rising, index-same, index-other, rising-behind}
-use Rattle.cg_agree.proofs.RunFacts.{cut_behind-append, run_on-append, run_on-next}
-use Rattle.cg_agree.proofs.RunMarks.{names-new, run-head}
-use Rattle.cg_agree.proofs.HeldMarks.{names-behind, are_of}
-use Rattle.cg_agree.proofs.HeldTurns.{created-behind}
-use Rattle.cg_agree.proofs.OneValue.{same-from}
+use Rattle.cg_step.specs.Holds.{run_on, cut_behind, Rising}
+use Rattle.cg_step.specs.CutRaiseLaws.{index-same, index-other, rising-behind}
+use Rattle.cg_step.specs.RunLaws.{cut_behind-append, run_on-append, run_on-next}
+use Rattle.cg_step.specs.RunMarkLaws.{names-new, run-head}
+use Rattle.cg_step.specs.HeldLaws.{names-behind, are_of, created-behind}
+use Rattle.cg_queue.specs.NameLaws.{same_id-is}
 use Rattle.cg_agree.proofs.DiskAhead.{OwnRuns}
 
 -- the action of a name
@@ -61,7 +60,7 @@ found-last (x ∷ xs) a ys none =
 
     other-way : (m n : ActionId) → same_id n m ≡ false → same_id m n ≡ false
     other-way m n e = false_from_ne_true (same_id m n) (λ y.
-        let one = same-from m n y in
+        let one = same_id-is m n y in
         let back : same_id n m ≡ true = same_id-true n m (ap (λ (x : ActionId). x.creator) (sym one)) (ap (λ (x : ActionId). x.index) (sym one)) in
         let clash : true ≡ false = sym back ∙ e in cc)
 

@@ -16,7 +16,7 @@ use Rattle.cg_agree.specs.Fronts.{IsSomeWith}
 use Rattle.cg_agree.specs.Looks.{greens_of, told_in, is_regular_at, members_in}
 use Rattle.cg_agree.specs.Talk.{Talk, hears_from, is_full, is_through, is_ended, known_up_to}
 use Rattle.cg_agree.specs.Facts.{Invariant}
-use Rattle.cg_agree.specs.FactsReplica.{IsCore, cut_behind, is_exchanging}
+use Rattle.cg_agree.specs.FactsReplica.{IsCore, is_exchanging}
 use Rattle.cg_agree.specs.FactsTalk.{handed_talk, whole_talk}
 use Rattle.cg_agree.specs.FactsExchange.{best_told}
 use Rattle.cg_agree.specs.Small.{Hands, small_step}
@@ -34,6 +34,7 @@ use Rattle.cg_agree.proofs.PlanEnd.{AtPlanEnd, is_behind, behind-ended}
 use Rattle.cg_agree.proofs.PlanThere.{end-fits}
 use Rattle.cg_agree.proofs.ToldBeside.{told-id, told-fits}
 use Rattle.cg_agree.proofs.TurnKinds.{HasAttempted}
+use Rattle.cg_step.specs.Holds.{cut_behind}
 
 module _ (c : Chronicle) (p : ℕ) (i : Invariant c) (may : may_make c (Hands p) ≡ true) (n : HandsNow c p) (is : is_exchanging n.replica.state ≡ true) (conf : ℕ) (heard : List Summary)
     (end : AtPlanEnd c p n.replica conf heard) (begun : HasAttempted conf heard n.replica (new c p i n)) where

@@ -1,5 +1,5 @@
 -- What is found in a chronicle behind a turn.
-use Rattle.std.proofs.Common.{◌≡◌, ℕ, Bool, true, false, cond, List, [], ◌∷◌, ◌++◌, Option, Some, None, find, refl, sym, ap, ◌∙◌, eqb-true, eq-eqb, option_map, if◌then◌else◌, nat_lt, ◌&&◌}
+use Rattle.std.proofs.Common.{◌≡◌, ℕ, Bool, true, false, cond, List, [], ◌∷◌, ◌++◌, Option, Some, None, find, refl, sym, ap, ◌∙◌, eqb-true, eq-eqb, option_map, nat_lt, ◌&&◌}
 use Rattle.std.specs.Prelude.{◌==◌}
 use Rattle.std.specs.Option.{option_map_or}
 use Rattle.std.proofs.lemmas.Bool.{cond-true, cond-false, cond_both, ne_eqb, eqb-false}
@@ -7,35 +7,12 @@ use Rattle.cg_client.specs.Replica.{Replica}
 use Rattle.cg_client.specs.Turn.{Turn}
 use Rattle.cg_step.specs.Crash.{Disk}
 use Rattle.cg_group.specs.LookupLaws.{at-cond}
-use Rattle.cg_agree.specs.World.{Life, Seat, World, seat_of, with_seat, set_life}
+use Rattle.cg_agree.specs.World.{Life, World, seat_of, set_life}
 use Rattle.cg_agree.specs.Chronicle.{Past, Told, Attempt, Chronicle}
 use Rattle.cg_agree.specs.Looks.{past_of, greens_of, told_in}
 use Rattle.cg_agree.specs.Small.{after_turn, newly_green, with_greens, with_past, changed_attempt, with_installer, told_with}
 use Rattle.cg_agree.proofs.Keyed.{found-changed, find-append}
-
--- the choices behind a changed seat
-chosen : {X : Type 0} (a b x y : Bool) (new old rest with_new : X) → (a ≡ true → x ≡ y) → (a ≡ false → x ≡ true → y ≡ false) →
-    with_new ≡ cond y new rest → cond a (cond y new rest) (cond b (cond y new (cond x old rest)) (cond x old with_new)) ≡ cond y new (cond x old rest)
-chosen true b x true new old rest with_new s o e = refl
-chosen true b true false new old rest with_new s o e = absurd (let clash : true ≡ false = s refl in cc)
-chosen true b false false new old rest with_new s o e = refl
-chosen false true x y new old rest with_new s o e = refl
-chosen false false true true new old rest with_new s o e = absurd (let clash : true ≡ false = o refl refl in cc)
-chosen false false true false new old rest with_new s o e = refl
-chosen false false false y new old rest with_new s o e = e
-
-abbrev seat_in : List Seat → ℕ → Option Seat
-seat_in seats q = find (λ s. s.id == q) seats
-
-found-seat : (seats : List Seat) (new : Seat) (q : ℕ) → seat_in (with_seat seats new) q ≡ (if new.id == q then Some new else seat_in seats q)
-found-seat [] new q = refl
-found-seat (s ∷ seats) new q =
-    at-cond (λ z. seat_in z q) (s.id == new.id) (new ∷ seats) (if nat_lt new.id s.id then new ∷ s ∷ seats else s ∷ with_seat seats new)
-    ∙ ap (cond (s.id == new.id) (seat_in (new ∷ seats) q)) (at-cond (λ z. seat_in z q) (nat_lt new.id s.id) (new ∷ s ∷ seats) (s ∷ with_seat seats new))
-    ∙ chosen (s.id == new.id) (nat_lt new.id s.id) (s.id == q) (new.id == q) (Some new) (Some s) (seat_in seats q) (seat_in (with_seat seats new) q)
-    (λ same. ap (λ z. z == q) (eqb-true s.id new.id same))
-    (λ other here. ne_eqb new.id q (λ e. eqb-false s.id new.id other (eqb-true s.id q here ∙ sym e)))
-    (found-seat seats new q)
+use Rattle.cg_agree.specs.SeatLaws.{found-seat}
 
 -- one seat has another life, and every other one is as before
 pub seat_of-set : (w : World) (p : ℕ) (life : Life) (q : ℕ) → seat_of (set_life w p life) q ≡ cond (p == q) (Some (record { id = p; life = life })) (seat_of w q)

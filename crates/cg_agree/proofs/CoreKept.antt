@@ -38,7 +38,7 @@ use Rattle.cg_knowledge.specs.Verdict.{decides}
 use Rattle.cg_agree.specs.Looks.{greens_of, members_in, OfCores}
 use Rattle.cg_agree.specs.Talk.{Talk, is_full, is_through, is_announced as is_announced_in, state_in}
 use Rattle.cg_agree.specs.FactsTalk.{handed_talk}
-use Rattle.cg_agree.specs.FactsReplica.{IsCore, IsModeData, HasModeData, cut_behind}
+use Rattle.cg_agree.specs.FactsReplica.{IsCore, IsModeData, HasModeData}
 use Rattle.cg_agree.specs.Facts.{Invariant}
 use Rattle.cg_agree.specs.Small.{Small, Starts, Makes, Enters, Orders, Receives, Hands, Leaves, Asks, Settles, Commits, Crashes, Recovers, Copies, Joins, newly_green, take_all, take_newest, take_next, take_parting, take_request, newest_conf, small_step}
 use Rattle.cg_agree.specs.Smalls.{may_make, is_set}
@@ -59,6 +59,7 @@ use Rattle.cg_agree.proofs.TurnParts.{is_parted, stays-parted}
 use Rattle.cg_agree.proofs.HandsNow.{HandsNow, hands-now, found-now, running-now}
 use Rattle.cg_agree.proofs.RecordKept.{same-replica}
 use Rattle.cg_agree.proofs.LevelsKept.{start-kept}
+use Rattle.cg_step.specs.Holds.{cut_behind}
 
 -- the state of the transitional phase of a primary component, and of its regular one
 abbrev pub is_trans : State → Bool

@@ -32,7 +32,7 @@ use Rattle.cg_agree.specs.Admission.{first_refusal, takes_part, never_named, beg
 use Rattle.cg_agree.specs.Show.{ended}
 use Rattle.cg_agree.specs.Run.{MayStand}
 use Rattle.cg_agree.specs.Agreement.{may_move}
-use Rattle.cg_agree.specs.Step.{quietly, hand_out, ask, name_also, begin_replica, arm_at, crash_at, recover_from, recover, joined, piece_count, snapshot_for, without_snapshot, with_pieces, take_pieces, transfer, happens, world_step}
+use Rattle.cg_agree.specs.Step.{quietly, hand_out, ask, name_also, begin_replica, arm_at, crash_at, recover_from, recover, joined, snapshot_for, without_snapshot, with_pieces, take_pieces, transfer, happens, world_step}
 use Rattle.cg_agree.specs.Chronicle.{Chronicle}
 use Rattle.cg_agree.specs.Looks.{greens_of, stood_of, on_disk, disk_held}
 use Rattle.cg_agree.specs.FactsReplica.{IsCore, IsModeData}
@@ -52,6 +52,7 @@ use Rattle.cg_agree.proofs.RestsBehind.{handed-ids, split-to}
 use Rattle.cg_agree.proofs.StepGreens.{step-follows, whitened-count}
 use Rattle.cg_agree.proofs.TurnWorlds.{life_at}
 use Rattle.cg_agree.proofs.WorldTurns.{IsBehind, hand-behind, from-same, handed-behind}
+use Rattle.cg_client.specs.Joined.{piece_count}
 
 -- the greens of a replica, as it runs or as its disk has them; none of one that hasn't begun
 abbrev pub held_at : Life → Held

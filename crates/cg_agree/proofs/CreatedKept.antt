@@ -17,12 +17,12 @@ use Rattle.cg_client.specs.Replica.{Held, last_index, created}
 use Rattle.cg_client.specs.Turn.{Turn}
 use Rattle.cg_client.specs.Marks.{is_unmade, after_first, marked, with_green, place_green}
 use Rattle.cg_client.specs.Summary.{redden, forget_own, own_to_red}
-use Rattle.cg_agree.specs.FactsReplica.{run_on, cut_behind}
-use Rattle.cg_agree.proofs.CutRaise.{Rising, index-same, index-other, index-rises, rising-raise, rising-behind, behind-rises, raise-below}
-use Rattle.cg_agree.proofs.RunMarks.{run-head, run-rest}
-use Rattle.cg_agree.proofs.HeldMarks.{IsOneself, rising-green, rising-red, are_of, are-after, own-after}
-use Rattle.cg_agree.proofs.HeldTurns.{created-behind}
-use Rattle.cg_agree.proofs.OneValue.{same-from}
+use Rattle.cg_step.specs.Holds.{run_on, cut_behind, Rising}
+use Rattle.cg_step.specs.CutRaiseLaws.{index-same, index-other, index-rises, rising-raise, rising-behind, behind-rises, raise-below}
+use Rattle.cg_step.specs.RunMarkLaws.{run-head, run-rest}
+use Rattle.cg_agree.proofs.HeldMarks.{IsOneself, rising-green, rising-red}
+use Rattle.cg_step.specs.HeldLaws.{are_of, are-after, own-after, created-behind}
+use Rattle.cg_queue.specs.NameLaws.{same_id-is}
 use Rattle.cg_agree.proofs.DiskAhead.{OwnRuns, LeftOwn, left-own, made-by}
 use Rattle.cg_agree.proofs.TurnRows.{IsRule}
 
@@ -77,7 +77,7 @@ after-known : (red : List ActionId) (own : List Action) (id : ActionId) → run_
 after-known red [] id run known = refl
 after-known red (b ∷ own) id run known = elim (cases_Bool (same_id b.id id)) [
   | inl same ↦
-      let one = same-from b.id id same in
+      let one = same_id-is b.id id same in
       let first : b.id.index ≡ suc (index_in red b.id.creator) = run-head red b.id (names_of own) run in
       let here : id.index ≡ suc (index_in red id.creator) = subst (λ (x : ActionId). x.index ≡ suc (index_in red x.creator)) one first in
       absurd (omega arith)

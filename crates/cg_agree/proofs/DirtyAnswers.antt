@@ -33,7 +33,7 @@ use Rattle.cg_agree.specs.Chronicle.{Chronicle, no_chronicle}
 use Rattle.cg_agree.specs.Fronts.{IsSomeWith}
 use Rattle.cg_agree.specs.Looks.{greens_of}
 use Rattle.cg_agree.specs.Noting.{chronicle_after}
-use Rattle.cg_agree.specs.FactsReplica.{AreBooked, run_on}
+use Rattle.cg_agree.specs.FactsReplica.{AreBooked}
 use Rattle.cg_agree.specs.Played.{StandsBeside, AlwaysHolds}
 use Rattle.cg_agree.proofs.BookGrows.{IsNamed}
 use Rattle.cg_agree.proofs.BookedCores.{each-booked}
@@ -47,10 +47,11 @@ use Rattle.cg_agree.proofs.OrderReached.{in-order}
 use Rattle.cg_agree.proofs.OrderTold.{order_told}
 use Rattle.cg_agree.proofs.OrderedActions.{IsShownAs, shown-as, each-shown_as, all-as, ordered-as}
 use Rattle.cg_agree.proofs.RedsShown.{each-front, reds-shown}
-use Rattle.cg_agree.proofs.RunMarks.{run-head, run-rest}
+use Rattle.cg_step.specs.Holds.{run_on}
 use Rattle.cg_agree.proofs.RunPrefix.{world-last, comes}
 use Rattle.cg_agree.proofs.TellsRun.{has-told}
 use Rattle.cg_agree.proofs.TurnRows.{each-named}
+use Rattle.cg_step.specs.RunMarkLaws.{run-head, run-rest}
 
 -- ---- lists
 

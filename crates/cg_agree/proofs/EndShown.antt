@@ -26,7 +26,7 @@ use Rattle.cg_agree.specs.Fronts.{Front, When, IsSomeWith}
 use Rattle.cg_agree.specs.Looks.{attempt_of, attempt_at, top_of, told_in, is_in, left_count}
 use Rattle.cg_agree.specs.Levels.{bound_in, line_at, reach_at, is_dead, is_frozen, is_installed, is_live, is_out_lacking, is_record_of, is_evidence, names_with, prim_at, prim_of}
 use Rattle.cg_agree.specs.FactsTalk.{AreTold}
-use Rattle.cg_agree.specs.FactsReplica.{run_on, cut_behind}
+use Rattle.cg_step.specs.Holds.{run_on, cut_behind}
 use Rattle.cg_agree.specs.FactsExchange.{HasRecord, IsRecord}
 use Rattle.cg_agree.specs.FactsAttempts.{IsWitnessed, AreWitnessed, is_without}
 use Rattle.cg_agree.specs.FactsGreens.{Covers}
@@ -42,8 +42,9 @@ use Rattle.cg_agree.proofs.Knowledge.{known-of, each-bounded, sender-told, IsKno
 use Rattle.cg_agree.proofs.NewestLevel.{ids-weighted, newest-level, installed-inside, prim-top, frozen-by}
 use Rattle.cg_agree.proofs.ReachFacts.{line_in}
 use Rattle.cg_agree.proofs.ReachWorld.{when-is}
-use Rattle.cg_agree.proofs.RunFacts.{run_on-append, run_on-front}
+use Rattle.cg_step.specs.RunLaws.{run_on-append}
 use Rattle.cg_agree.proofs.ToldLine.{Behind, told-conf, told-fits, told-levels, told-run, told-line, told-reach, told-front}
+use Rattle.cg_agree.proofs.RunFronts.{run_on-front}
 
 -- evidence that was told covers
 abbrev pub ToldCovers : Chronicle → Type 0

@@ -28,7 +28,7 @@ use Rattle.cg_agree.specs.World.{Life, Up, Down, Seat, Snapshot, World, no_world
 use Rattle.cg_agree.specs.Show.{Going, unshown, news_of_recovery}
 use Rattle.cg_agree.specs.Agreement.{is_recovery_of}
 use Rattle.cg_agree.specs.Looks.{on_disk, disk_held}
-use Rattle.cg_agree.specs.Step.{quietly, hand, hand_over, ask, name_also, begin_replica, arm_at, arm, crash_at, recover_from, recover, joined, piece_count, without_snapshot, take_pieces}
+use Rattle.cg_agree.specs.Step.{quietly, hand, hand_over, ask, name_also, begin_replica, arm_at, arm, crash_at, recover_from, recover, joined, without_snapshot, take_pieces}
 use Rattle.cg_agree.specs.FactsLists.{IsRising}
 use Rattle.cg_agree.proofs.ChronicleFacts.{seat_of-set}
 use Rattle.cg_agree.proofs.HeldCommit.{recovered-id}
@@ -38,6 +38,7 @@ use Rattle.cg_agree.proofs.RepliesPlaced.{IsIn, times, reply_ids, plain, ids_in}
 use Rattle.cg_agree.proofs.OwedNames.{own_name}
 use Rattle.cg_agree.proofs.EventInputs.{IsHanded}
 use Rattle.cg_agree.proofs.EventSays.{Said, said-none, tell-said, made_ids, SeatOwes, Comes, hand-comes, handed-comes, made_by, replies_by}
+use Rattle.cg_client.specs.Joined.{piece_count}
 
 -- nothing was made or answered before the event
 abbrev pub no_going : Going

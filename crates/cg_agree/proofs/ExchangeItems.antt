@@ -21,7 +21,7 @@ use Rattle.cg_agree.specs.Fronts.{Either, IsSomeWith}
 use Rattle.cg_agree.specs.Looks.{greens_of, members_in, ordered_in}
 use Rattle.cg_agree.specs.Talk.{Talk, is_full, is_through}
 use Rattle.cg_agree.specs.Facts.{Invariant}
-use Rattle.cg_agree.specs.FactsReplica.{cut_behind}
+use Rattle.cg_step.specs.Holds.{cut_behind}
 use Rattle.cg_agree.specs.FactsTalk.{AreTold, handed_talk}
 use Rattle.cg_agree.specs.FactsExchange.{IsUnmoved, IsGoingOn, best_told, IsInExchange}
 use Rattle.cg_agree.proofs.ExchangeHands.{EndsAs, grown-front}

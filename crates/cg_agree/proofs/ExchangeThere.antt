@@ -34,10 +34,10 @@ use Rattle.cg_agree.specs.Talk.{Talk, no_talk, talk_of, hears_from, is_full, is_
 use Rattle.cg_agree.specs.Fronts.{Front, Either, IsSomeWith}
 use Rattle.cg_agree.specs.Facts.{Invariant}
 use Rattle.cg_agree.specs.FactsNet.{IsPhase}
-use Rattle.cg_agree.specs.FactsReplica.{cut_behind, IsMadeOf, IsModeData, IsCore, IsLined}
+use Rattle.cg_agree.specs.FactsReplica.{IsMadeOf, IsModeData, IsCore, IsLined}
 use Rattle.cg_agree.specs.FactsExchange.{IsUnmoved, IsGoingOn, IsInExchange, greens_behind, best_told}
 use Rattle.cg_agree.specs.FactsTalk.{AreTold, handed_talk, IsStateIn, IsContent}
-use Rattle.cg_agree.proofs.CutRaise.{rising-behind, behind-rises}
+use Rattle.cg_step.specs.Holds.{cut_behind}
 use Rattle.cg_agree.proofs.EndReached.{best-bounds}
 use Rattle.cg_agree.proofs.FrontFacts.{Front-take, Front-map, take-Front, split_by_Front}
 use Rattle.cg_agree.proofs.HandNext.{take-next, talk-append, legal-at}
@@ -48,9 +48,10 @@ use Rattle.cg_agree.proofs.MessageThere.{message-made, message-content}
 use Rattle.cg_agree.proofs.PartsOwn.{white-held, HoldsAll}
 use Rattle.cg_agree.proofs.PlanItems.{plan-sender}
 use Rattle.cg_agree.proofs.PlanProgress.{AreBeside, IsBehind, greens_there, length-taken, taken-all, item-green, item-red}
-use Rattle.cg_agree.proofs.RunFacts.{cut_behind-append}
+use Rattle.cg_step.specs.CutRaiseLaws.{rising-behind, behind-rises}
 use Rattle.cg_agree.proofs.TalkEarly.{all-member, due_parts}
 use Rattle.cg_agree.proofs.ToldBeside.{told-fits, told-front, told-so_far, IsBest, best-of_heard, mine-of, beside}
+use Rattle.cg_step.specs.RunLaws.{cut_behind-append}
 
 -- ---- marks discard nothing
 

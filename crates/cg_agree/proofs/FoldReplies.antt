@@ -28,15 +28,15 @@ use Rattle.cg_agree.specs.Agreement.{through, is_down_in, is_created_in, lives_s
 use Rattle.cg_agree.specs.Chronicle.{Chronicle}
 use Rattle.cg_agree.specs.Fronts.{Front}
 use Rattle.cg_agree.specs.Looks.{greens_of}
-use Rattle.cg_agree.specs.FactsReplica.{run_on, cut_behind, AreBooked}
+use Rattle.cg_agree.specs.FactsReplica.{AreBooked}
 use Rattle.cg_agree.specs.Smalls.{smalls_in}
 use Rattle.cg_agree.specs.Played.{AlwaysHolds}
 use Rattle.cg_agree.proofs.FrontFacts.{Front-of_append, split_by_Front}
-use Rattle.cg_agree.proofs.CutRaise.{Rising, rising-behind}
+use Rattle.cg_step.specs.Holds.{run_on, cut_behind, Rising}
 use Rattle.cg_agree.proofs.BookGrows.{same-self}
 use Rattle.cg_agree.proofs.ShownActions.{each-action, actions-shown}
 use Rattle.cg_agree.proofs.FoldHeld.{IsInOrder, in-order}
-use Rattle.cg_agree.proofs.RunMarks.{run-names}
+use Rattle.cg_step.specs.CutRaiseLaws.{rising-behind}
 use Rattle.cg_agree.proofs.CreatorNumbered.{order-runs}
 use Rattle.cg_agree.proofs.TurnWorlds.{life_at}
 use Rattle.cg_agree.proofs.TurnReplies.{db_behind, replies_in}
@@ -53,6 +53,7 @@ use Rattle.cg_agree.proofs.LivesSince.{lives-next}
 use Rattle.cg_agree.proofs.OwedRun.{LivesAt, OwedAt, step-shows}
 use Rattle.cg_agree.proofs.NamesTimes.{named-times, times-named, times-passing, times-failing, times-once, in-times, times-contains, contains-in, placed-within, within-placed}
 use Rattle.cg_agree.proofs.OwedKept.{whitened-created, no-more, meets, runs-now, created-now, was, says, turned-lives, owed-next, owed-run}
+use Rattle.cg_step.specs.RunMarkLaws.{run-names}
 
 -- ---- where a reply comes from
 

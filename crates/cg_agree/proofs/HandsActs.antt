@@ -27,7 +27,7 @@ use Rattle.cg_agree.specs.World.{Seat, replica_of, running}
 use Rattle.cg_agree.specs.Chronicle.{Attempt, Chronicle}
 use Rattle.cg_agree.specs.Looks.{greens_of, attempt_of, members_in, ordered_in, placed_of, waiting_in, said_in}
 use Rattle.cg_agree.specs.Talk.{Talk, no_talk, talk_of, hears, hears_from, is_full, is_through, is_ended, is_announced as all_announced, may_say, may_go_on, is_legal, act_in, known_up_to, state_in}
-use Rattle.cg_agree.specs.FactsReplica.{HasModeData, IsInAttempt, IsCore, cut_behind}
+use Rattle.cg_agree.specs.FactsReplica.{HasModeData, IsInAttempt, IsCore}
 use Rattle.cg_agree.specs.FactsTalk.{whole_talk, handed_talk, of_creator, count_behind, AreOnTheWay, AreNumbered, AreNumberedAt, ActsNumbered, TalkFacts}
 use Rattle.cg_agree.proofs.ActsOrdered.{heard-ended}
 use Rattle.cg_agree.proofs.ActsSaid.{handed-parts, handed-heard, handed-ended}
@@ -44,6 +44,7 @@ use Rattle.cg_agree.proofs.TalkEarly.{IsEarly, early-legal, early-none, all-memb
 use Rattle.cg_agree.proofs.TalkKept.{said-own, handed-own}
 use Rattle.cg_agree.proofs.TalkSame.{said-of}
 use Rattle.cg_agree.proofs.TurnActs.{acts-turn}
+use Rattle.cg_step.specs.Holds.{cut_behind}
 
 -- who comes to the end of the plan by a message knows all that some member knew, and waits for nothing
 pub record KnowsAll (set : List ℕ) (p : ℕ) (t : Talk) (h : Held) : Type 0 where

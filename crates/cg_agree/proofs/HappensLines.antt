@@ -16,7 +16,8 @@ use Rattle.cg_schedule.specs.declared.event.Event.{Event}
 use Rattle.cg_schedule.specs.declared.event.Event.TheVariants.{Start, Split, Merge, Request, Weak, Dirty, Order, Recover, Show, ShowOrder, Gather, End, Receive, Deliver, Rounds, Stop, Fail, Join, Leave, Transfer}
 use Rattle.cg_agree.specs.World.{Life, Up, Down, Seat, Snapshot, World, seat_of, replica_of, bring_up}
 use Rattle.cg_agree.specs.Show.{Going}
-use Rattle.cg_agree.specs.Step.{quietly, after_event, hand_to, hand, hand_over, name_also, begin_replica, arm_at, crash_at, recover_from, recover, joined, piece_count, snapshot_for, without_snapshot, with_pieces, take_pieces, transfer, happens}
+use Rattle.cg_agree.specs.Step.{quietly, after_event, hand_to, hand, hand_over, name_also, begin_replica, arm_at, crash_at, recover_from, recover, joined, snapshot_for, without_snapshot, with_pieces, take_pieces, transfer, happens}
+use Rattle.cg_client.specs.Joined.{piece_count}
 
 hand-lines : (go : Going) (p : ℕ) (input : Input) → (hand go p input).world.lines ≡ go.world.lines
 unfolding hand

@@ -18,7 +18,8 @@ use Rattle.cg_schedule.specs.declared.event.Event.{Event}
 use Rattle.cg_schedule.specs.declared.event.Event.TheVariants.{Start, Split, Merge, Request, Weak, Dirty, Order, Recover, Show, ShowOrder, Gather, End, Receive, Deliver, Rounds, Stop, Fail, Join, Leave, Transfer}
 use Rattle.cg_agree.specs.World.{Life, Up, Down, Seat, World, seat_of, replica_of}
 use Rattle.cg_agree.specs.Show.{Going, ended}
-use Rattle.cg_agree.specs.Step.{quietly, after_event, hand_to, hand, hand_over, name_also, recover_from, recover, piece_count, snapshot_for, take_pieces, transfer, shown_of, happens, world_step}
+use Rattle.cg_agree.specs.Step.{quietly, after_event, hand_to, hand, hand_over, name_also, recover_from, recover, snapshot_for, take_pieces, transfer, shown_of, happens, world_step}
+use Rattle.cg_client.specs.Joined.{piece_count}
 
 abbrev pub pieces_by : World → ℕ → ℕ → ℕ → Replica → List Shown
 pieces_by w p joiner pieces r = let s = snapshot_for w p joiner r in Pieces s.joiner (min (piece_count s.content) (s.taken + pieces)) (piece_count s.content) ∷ []

@@ -11,14 +11,15 @@ use Rattle.cg_base.specs.Ids.{names, same_id}
 use Rattle.cg_base.specs.Cuts.{index_in, raise}
 use Rattle.cg_action.specs.declared.action.Action.{Action}
 use Rattle.cg_queue.specs.Queue.{QueueView, names_of, action_of}
+use Rattle.cg_queue.specs.NameLaws.{same_id-is}
 use Rattle.cg_client.specs.Replica.{Held}
 use Rattle.cg_client.specs.Turn.{Turn}
 use Rattle.cg_client.specs.Install.{actions_named, valid_yellow, yellow_green, reds_green}
-use Rattle.cg_agree.specs.FactsReplica.{run_on, cut_behind}
-use Rattle.cg_agree.proofs.CutRaise.{Rising, index-same, rising-raise, same_name, behind-rises}
-use Rattle.cg_agree.proofs.RunMarks.{run-head, run-rest, run-names}
+use Rattle.cg_step.specs.Holds.{run_on, cut_behind, Rising}
+use Rattle.cg_step.specs.CutRaiseLaws.{index-same, rising-raise, behind-rises}
 use Rattle.cg_agree.proofs.HeldMarks.{IsOneself, are_within, rising-green}
 use Rattle.cg_agree.proofs.HeldInstall.{green-run, reds_but}
+use Rattle.cg_step.specs.RunMarkLaws.{run-head, run-rest, run-names}
 
 -- ---- reds
 
@@ -67,11 +68,6 @@ reds-green start all t is =
 
 -- ---- yellow actions
 
-same-from : (a b : ActionId) → same_id a b ≡ true → a ≡ b
-same-from a b e =
-    let parts = and_parts (a.creator == b.creator) (a.index == b.index) e in
-    same_name a b (eqb-true a.creator b.creator parts.0) (eqb-true a.index b.index parts.1)
-
 same-back : (a b : ActionId) → same_id a b ≡ true → same_id b a ≡ true
 same-back a b e =
     let parts = and_parts (a.creator == b.creator) (a.index == b.index) e in
@@ -82,12 +78,12 @@ same-back a b e =
 one-named : (greens reds : List Action) (id : ActionId) → names (names_of reds) id ≡ true →
     names_of (option_to_list (find (λ a. same_id a.id id) (greens ++ reds))) ≡ id ∷ []
 one-named (g ∷ greens) reds id there = elim (cases_Bool (same_id g.id id)) [
-  | inl same ↦ rw same (ap (λ x. x ∷ []) (same-from g.id id same))
+  | inl same ↦ rw same (ap (λ x. x ∷ []) (same_id-is g.id id same))
   | inr other ↦ rw other (one-named greens reds id there)
 ]
 one-named [] [] id there = absurd (let clash : false ≡ true = there in cc)
 one-named [] (a ∷ reds) id there = elim (cases_Bool (same_id a.id id)) [
-  | inl same ↦ rw same (ap (λ x. x ∷ []) (same-from a.id id same))
+  | inl same ↦ rw same (ap (λ x. x ∷ []) (same_id-is a.id id same))
   | inr other ↦ rw other (one-named [] reds id (rest (cases_Bool (same_id id a.id)) other))
 ] where
   rest : (same_id id a.id ≡ true) ⊎ (same_id id a.id ≡ false) → same_id a.id id ≡ false → names (names_of reds) id ≡ true

@@ -1,16 +1,13 @@
 -- One replica's facts: the white count at a commit, what stands on the disk, a recovery, a new configuration, a request.
-use Rattle.std.proofs.Common.{◌≡◌, ℕ, zero, suc, ◌+◌, ◌-◌, ◌<◌, ◌≤◌, List, [], ◌∷◌, ◌++◌, length, drop, true, false, map, fold, min, refl, sym, ap, ◌∙◌, subst, arith, inl, inr, append-nil, length-append}
-use Rattle.std.specs.Prelude.{None, Some}
+use Rattle.std.proofs.Common.{◌≡◌, ℕ, zero, suc, ◌+◌, ◌-◌, ◌<◌, ◌≤◌, List, [], ◌∷◌, ◌++◌, length, drop, true, false, fold, refl, sym, ap, ◌∙◌, subst, arith, inl, inr, append-nil, length-append}
+use Rattle.std.specs.Prelude.{None}
 use Rattle.std.specs.Option.{unwrap_or}
 use Rattle.std.proofs.lemmas.Bool.{cases_order, ne_eqb, lt-leb}
 use Rattle.cg_base.specs.declared.weighted.Weighted.{Weighted}
 use Rattle.cg_base.specs.Cuts.{index_in}
-use Rattle.cg_base.specs.Lists.{lesser}
 use Rattle.cg_action.specs.declared.action.Action.{Action}
 use Rattle.cg_action.specs.declared.action.Kind.{Kind}
-use Rattle.cg_members.specs.declared.server.Server.{Server}
-use Rattle.cg_members.specs.Servers.{white_line, least_line, members_of}
-use Rattle.cg_members.specs.Laws.{NoLineAbove}
+use Rattle.cg_members.specs.Servers.{white_line, members_of}
 use Rattle.cg_members.specs.MemberLaws.{members_of-apart}
 use Rattle.cg_queue.specs.Queue.{QueueView, Gaps, marked_red}
 use Rattle.cg_queue.specs.MarkLaws.{red-known, red-placed}
@@ -28,19 +25,9 @@ use Rattle.cg_step.specs.Step.{on_regular, take}
 use Rattle.cg_agree.specs.Small.{take_request}
 use Rattle.cg_agree.proofs.HeldMarks.{IsOneself}
 use Rattle.cg_agree.proofs.HeldTurns.{Keeps, grows-none, keeps-none, keeps-both, keeps-by_replica, keeps-create, keeps-enter_exchange, keeps-own_to_red, oneself-with}
+use Rattle.cg_step.specs.HeldLaws.{line-below}
 
 -- ---- the white count
-
-least-below : (n : ℕ) (ns : List ℕ) → unwrap_or (fold lesser (Some n) ns) 0 ≤ n
-least-below n [] = omega arith
-least-below n (k ∷ ns) = let rest = least-below (min k n) ns in omega arith
-
-pub line-below : (n : ℕ) (servers : List Server) → NoLineAbove n servers → unwrap_or (least_line servers) 0 ≤ n
-line-below n [] lines = omega arith
-line-below n (s ∷ servers) lines =
-    let first : s.line ≤ n = lines.0 in
-    let least : unwrap_or (fold lesser (Some s.line) (map (λ (x : Server). x.line) servers)) 0 ≤ s.line = least-below s.line (map (λ (x : Server). x.line) servers) in
-    omega arith
 
 drop-nil : (n : ℕ) → drop n [] ≡ (let none : List Action = [] in none)
 drop-nil zero = refl

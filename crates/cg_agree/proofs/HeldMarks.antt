@@ -1,26 +1,26 @@
 -- What a replica holds is made of its greens, contiguous and yellow-closed, behind each mark.
-use Rattle.std.proofs.Common.{◌⊎◌, ◌≡◌, ℕ, zero, suc, ◌+◌, ◌<◌, ◌≤◌, ◌≢◌, List, [], ◌∷◌, ◌++◌, length, drop, Bool, true, false, not, filter, refl, sym, ap, ap₂, ◌∙◌, subst, arith, inl, inr, eqb-true, nat_le, leb-true, length-append}
-use Rattle.std.specs.Prelude.{◌==◌}
+use Rattle.std.proofs.Common.{◌≡◌, ℕ, zero, suc, ◌+◌, ◌≤◌, List, [], ◌∷◌, ◌++◌, length, drop, Bool, true, not, filter, refl, sym, ap, ap₂, ◌∙◌, subst, arith, inl, inr, nat_le, leb-true, length-append}
 use Rattle.std.specs.List.{list_all}
-use Rattle.std.proofs.lemmas.Bool.{cases_eq, cases_order, cases_Bool, ne_eqb, le-leb, and_parts, and_from, cond-true, cond-false}
-use Rattle.std.proofs.lemmas.List.{map-append, drop-append-le}
+use Rattle.std.proofs.lemmas.Bool.{cases_Bool, le-leb, and_parts, and_from, cond-true, cond-false}
+use Rattle.std.proofs.lemmas.List.{drop-append-le}
 use Rattle.std.proofs.lemmas.List.Sums.{fold_push}
 use Rattle.cg_base.specs.declared.action_id.ActionId.{ActionId}
 use Rattle.cg_base.specs.declared.weighted.Weighted.{Weighted}
-use Rattle.cg_base.specs.Ids.{same_id, id_before}
+use Rattle.cg_base.specs.Ids.{same_id}
 use Rattle.cg_base.specs.Cuts.{index_in, raise}
 use Rattle.cg_action.specs.declared.action.Action.{Action}
 use Rattle.cg_db.specs.Apply.{apply}
 use Rattle.cg_members.specs.Servers.{after_green}
 use Rattle.cg_members.specs.MemberLaws.{members_of-more}
-use Rattle.cg_queue.specs.Queue.{names_of, green_count, with_red, without_action, placed_red}
-use Rattle.cg_base.specs.IdLaws.{same_id-true, same_id-false}
+use Rattle.cg_queue.specs.Queue.{names_of, green_count, placed_red}
 use Rattle.cg_client.specs.Replica.{Held}
 use Rattle.cg_client.specs.Marks.{after_first, with_green}
-use Rattle.cg_agree.specs.FactsReplica.{run_on, cut_behind, ascend, IsMadeOf, IsContiguous, IsYellowClosed}
-use Rattle.cg_agree.proofs.RunFacts.{run_on-next, cut_behind-append}
-use Rattle.cg_agree.proofs.CutRaise.{same_name, Rising, rising-behind, behind-rises, index-rises, raise-below}
-use Rattle.cg_agree.proofs.RunMarks.{run-head, run-rest, lacks, run-other, without, taken-out, inserted, run-inserted, behind-inserted, ascend-inserted, ascend-filter, names-new}
+use Rattle.cg_agree.specs.FactsReplica.{IsMadeOf, IsContiguous, IsYellowClosed}
+use Rattle.cg_step.specs.Holds.{run_on, cut_behind, ascend, Rising}
+use Rattle.cg_step.specs.RunLaws.{run_on-next, cut_behind-append}
+use Rattle.cg_step.specs.CutRaiseLaws.{rising-behind, behind-rises, index-rises}
+use Rattle.cg_step.specs.RunMarkLaws.{without, taken-out, run-inserted, behind-inserted, ascend-inserted, ascend-filter, names-new}
+use Rattle.cg_step.specs.HeldLaws.{names-with_red, names-without, names-behind, are-after, own-after}
 
 -- the facts of one replica by itself
 pub record IsOneself (start : List Weighted) (h : Held) (all : List Action) : Type 0 where
@@ -30,73 +30,7 @@ pub record IsOneself (start : List Weighted) (h : Held) (all : List Action) : Ty
 
 -- ---- lists of names
 
-pub names-with_red : (reds : List Action) (a : Action) → names_of (with_red reds a) ≡ inserted (names_of reds) a.id
-names-with_red [] a = refl
-names-with_red (b ∷ reds) a = elim (cases_Bool (id_before a.id b.id)) [
-  | inl before ↦ rw before refl
-  | inr later ↦ rw later (ap (λ ids. b.id ∷ ids) (names-with_red reds a))
-]
-
-pub names-without : (actions : List Action) (id : ActionId) → names_of (without_action actions id) ≡ without id (names_of actions)
-names-without [] id = refl
-names-without (b ∷ actions) id = elim (cases_Bool (same_id b.id id)) [
-  | inl same ↦ rw same (names-without actions id)
-  | inr other ↦ rw other (ap (λ ids. b.id ∷ ids) (names-without actions id))
-]
-
-pub names-behind : (all : List Action) (a : Action) → names_of (all ++ a ∷ []) ≡ names_of all ++ a.id ∷ []
-names-behind all a = map-append (λ (b : Action). b.id) all (a ∷ [])
-
 -- ---- own actions
-
-abbrev pub are_of : ℕ → List Action → Bool
-are_of me own = list_all (λ a. a.id.creator == me) own
-
-pub are-lacks : (me p : ℕ) (own : List Action) → me ≢ p → are_of me own ≡ true → lacks p (names_of own) ≡ true
-are-lacks me p [] apart mine = refl
-are-lacks me p (a ∷ own) apart mine =
-    let parts = and_parts (a.id.creator == me) (are_of me own) mine in
-    let of_me : a.id.creator ≡ me = eqb-true a.id.creator me parts.0 in
-    and_from (not (a.id.creator == p)) (lacks p (names_of own)) (ap not (ne_eqb a.id.creator p (λ e. apart (sym of_me ∙ e)))) (are-lacks me p own apart parts.1)
-
-pub are-after : (me : ℕ) (own : List Action) (id : ActionId) → are_of me own ≡ true → are_of me (after_first own id) ≡ true
-are-after me [] id mine = refl
-are-after me (a ∷ own) id mine = elim (cases_Bool (same_id a.id id)) [
-  | inl same ↦ rw same ((and_parts (a.id.creator == me) (are_of me own) mine).1)
-  | inr other ↦ rw other mine
-]
-
-after-there : (a : Action) (own : List Action) (id : ActionId) → same_id a.id id ≡ false → after_first (a ∷ own) id ≡ a ∷ own
-after-there a own id other = rw other refl
-
-after-here : (a : Action) (own : List Action) (id : ActionId) → same_id a.id id ≡ true → after_first (a ∷ own) id ≡ own
-after-here a own id same = rw same refl
-
--- where a name becomes known that was known, or is the next of its creator, the own actions go on behind it
-pub own-after : (me : ℕ) (red : List ActionId) (own : List Action) (id : ActionId) → Rising 0 red → run_on red (names_of own) ≡ true → are_of me own ≡ true →
-    id.index ≤ suc (index_in red id.creator) → run_on (raise red id) (names_of (after_first own id)) ≡ true
-own-after me red [] id rising run mine le = refl
-own-after me red (a ∷ own) id rising run mine le =
-    let next : a.id.index ≡ suc (index_in red a.id.creator) = run-head red a.id (names_of own) run in
-    let of_me : a.id.creator ≡ me = eqb-true a.id.creator me (and_parts (a.id.creator == me) (are_of me own) mine).0 in
-    elim (cases_eq a.id.creator id.creator) [
-      | inl same ↦
-          let at_red : index_in red a.id.creator ≡ index_in red id.creator = ap (index_in red) same in
-          elim (cases_order a.id.index id.index) [
-            | inl index ↦
-                ap (λ xs. run_on (raise red id) (names_of xs)) (after-here a own id (same_id-true a.id id same index))
-                ∙ ap (λ x. run_on (raise red x) (names_of own)) (sym (same_name a.id id same index)) ∙ run-rest red a.id (names_of own) run
-            | inr apart ↦
-                ap (λ xs. run_on (raise red id) (names_of xs)) (after-there a own id (same_id-false a.id id (inr (λ e. differ apart e))))
-                ∙ ap (λ c. run_on c (names_of (a ∷ own))) (raise-below red id rising (elim apart [ inl lt ↦ absurd (omega arith) | inr gt ↦ omega arith ])) ∙ run
-          ]
-      | inr apart ↦
-          ap (λ xs. run_on (raise red id) (names_of xs)) (after-there a own id (same_id-false a.id id (inl apart)))
-          ∙ run-other red (names_of (a ∷ own)) id rising (are-lacks me id.creator (a ∷ own) (λ e. apart (of_me ∙ e)) mine) run
-    ]
-  where
-    differ : (a.id.index < id.index) ⊎ (id.index < a.id.index) → a.id.index ≡ id.index → ⊥
-    differ apart e = elim apart [ inl lt ↦ omega arith | inr gt ↦ omega arith ]
 
 -- ---- yellow names
 

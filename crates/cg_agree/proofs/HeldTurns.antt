@@ -1,28 +1,27 @@
 -- One replica's facts through the parts of a turn: marks, own actions, an installation, creation.
-use Rattle.std.proofs.Common.{◌≡◌, ℕ, suc, ◌+◌, ◌<◌, List, [], ◌∷◌, ◌++◌, length, cond, Bool, true, false, not, max, fold, refl, sym, ap, ◌∙◌, subst, arith, inl, inr, eqb-true, append-nil}
+use Rattle.std.proofs.Common.{◌≡◌, ℕ, suc, ◌+◌, ◌<◌, List, [], ◌∷◌, ◌++◌, length, cond, Bool, true, false, not, fold, refl, sym, ap, ◌∙◌, subst, arith, inl, inr, eqb-true, append-nil}
 use Rattle.std.specs.Prelude.{◌==◌, Option}
 use Rattle.std.proofs.lemmas.Bool.{cases_order, cases_Bool, eq-eqb, ne_eqb, lt-leb, and_parts, and_from}
 use Rattle.std.proofs.lemmas.List.{append_assoc}
 use Rattle.cg_base.specs.declared.action_id.ActionId.{ActionId}
 use Rattle.cg_base.specs.declared.weighted.Weighted.{Weighted}
-use Rattle.cg_base.specs.Cuts.{index_in, raise}
+use Rattle.cg_base.specs.Cuts.{index_in}
 use Rattle.cg_action.specs.declared.action.Action.{Action}
 use Rattle.cg_action.specs.declared.action.Kind.{Kind}
 use Rattle.cg_queue.specs.Queue.{QueueView, Marking, Gaps, names_of, marked_red, placed_red}
 use Rattle.cg_queue.specs.MarkLaws.{red-known, red-placed}
 use Rattle.cg_records.specs.declared.primary.Primary.{Primary}
 use Rattle.cg_records.specs.declared.vulnerable.Vulnerable.{Vulnerable}
-use Rattle.cg_client.specs.Replica.{Held, Replica, last_index}
+use Rattle.cg_client.specs.Replica.{Held, Replica}
 use Rattle.cg_client.specs.Turn.{Turn, with_held}
 use Rattle.cg_client.specs.Marks.{is_unmade, marked, mark_red, can_be_green, place_green, mark_green, mark_green_at, after_first}
 use Rattle.cg_client.specs.Requests.{next_action, create, create_kept, empty_buffer, settle, is_creating}
 use Rattle.cg_client.specs.Summary.{redden, forget_own, own_to_red, tell, enter_exchange}
 use Rattle.cg_client.specs.Install.{valid_yellow, yellow_green, reds_green, prim_after, install}
-use Rattle.cg_agree.specs.FactsReplica.{run_on, cut_behind}
-use Rattle.cg_agree.proofs.RunFacts.{run_on-next}
-use Rattle.cg_agree.proofs.CutRaise.{Rising, rising-raise, index-same}
-use Rattle.cg_agree.proofs.RunMarks.{run-head, run-rest}
-use Rattle.cg_agree.proofs.HeldMarks.{IsOneself, are_of, are_within, names-behind, rising-red, red-oneself, green-oneself}
+use Rattle.cg_step.specs.Holds.{run_on}
+use Rattle.cg_step.specs.RunLaws.{run_on-next}
+use Rattle.cg_agree.proofs.HeldMarks.{IsOneself, are_within, rising-red, red-oneself, green-oneself}
+use Rattle.cg_step.specs.HeldLaws.{are_of, names-behind, created-behind}
 
 -- what was held became what is held: the greens grew, and one replica's facts hold of all of them
 pub record Grows (start : List Weighted) (old new : Held) (all : List Action) : Type 0 where
@@ -175,35 +174,6 @@ keeps-install start all t is =
     }
 
 -- ---- creation
-
--- behind a run of own actions the last index is the creator's
-last-above : (cut : List ActionId) (me : ℕ) (a : Action) (own : List Action) → Rising 0 cut → run_on cut (names_of (a ∷ own)) ≡ true → are_of me (a ∷ own) ≡ true →
-    index_in cut me < last_index (a ∷ own)
-last-above cut me a [] rising run mine =
-    let next : a.id.index ≡ suc (index_in cut a.id.creator) = run-head cut a.id [] run in
-    let of_me : a.id.creator ≡ me = eqb-true a.id.creator me (and_parts (a.id.creator == me) true mine).0 in
-    let here : index_in cut a.id.creator ≡ index_in cut me = ap (index_in cut) of_me in
-    omega arith
-last-above cut me a (b ∷ own) rising run mine =
-    let parts = and_parts (a.id.creator == me) (are_of me (b ∷ own)) mine in
-    let of_me : a.id.creator ≡ me = eqb-true a.id.creator me parts.0 in
-    let reached : index_in (raise cut a.id) me ≡ max (index_in cut me) a.id.index = index-same cut a.id rising me of_me in
-    let rest = last-above (raise cut a.id) me b own (rising-raise cut a.id rising) (run-rest cut a.id (names_of (b ∷ own)) run) parts.1 in
-    omega arith
-
-pub created-behind : (cut : List ActionId) (me : ℕ) (own : List Action) → Rising 0 cut → run_on cut (names_of own) ≡ true → are_of me own ≡ true →
-    index_in (cut_behind cut (names_of own)) me ≡ max (index_in cut me) (last_index own)
-created-behind cut me [] rising run mine = omega arith
-created-behind cut me (a ∷ []) rising run mine =
-    index-same cut a.id rising me (eqb-true a.id.creator me (and_parts (a.id.creator == me) true mine).0)
-created-behind cut me (a ∷ b ∷ own) rising run mine =
-    let parts = and_parts (a.id.creator == me) (are_of me (b ∷ own)) mine in
-    let of_me : a.id.creator ≡ me = eqb-true a.id.creator me parts.0 in
-    let reached : index_in (raise cut a.id) me ≡ max (index_in cut me) a.id.index = index-same cut a.id rising me of_me in
-    let rest_run = run-rest cut a.id (names_of (b ∷ own)) run in
-    let above = last-above (raise cut a.id) me b own (rising-raise cut a.id rising) rest_run parts.1 in
-    let rest = created-behind (raise cut a.id) me (b ∷ own) (rising-raise cut a.id rising) rest_run parts.1 in
-    rest ∙ (let most : max (index_in (raise cut a.id) me) (last_index (b ∷ own)) ≡ max (index_in cut me) (last_index (b ∷ own)) = omega arith in most)
 
 all-behind : (me : ℕ) (own : List Action) (a : Action) → are_of me own ≡ true → a.id.creator ≡ me → are_of me (own ++ a ∷ []) ≡ true
 all-behind me [] a mine of_me = and_from (a.id.creator == me) true (eq-eqb a.id.creator me of_me) refl

@@ -24,7 +24,7 @@ use Rattle.cg_agree.specs.Chronicle.{Told, Attempt, Chronicle}
 use Rattle.cg_agree.specs.Fronts.{When, IsSomeWith}
 use Rattle.cg_agree.specs.Looks.{greens_of, told_in, conf_at, members_in, attempt_of, installation}
 use Rattle.cg_agree.specs.Talk.{Talk, is_full, is_through, is_announced, known_up_to, state_in}
-use Rattle.cg_agree.specs.FactsReplica.{IsCore, is_attempting, cut_behind}
+use Rattle.cg_agree.specs.FactsReplica.{IsCore, is_attempting}
 use Rattle.cg_agree.specs.FactsTalk.{handed_talk, whole_talk, of_creator, count_behind, IsStateIn, AreNumbered, AreNumberedAt}
 use Rattle.cg_agree.specs.FactsExchange.{best_told}
 use Rattle.cg_agree.specs.FactsAttempts.{IsAttempt, HoldsParts, names_between, red_names}
@@ -44,6 +44,7 @@ use Rattle.cg_agree.proofs.PartsNamed.{known-names}
 use Rattle.cg_agree.proofs.ReachWorld.{when-is}
 use Rattle.cg_agree.proofs.StatesSaid.{announcing}
 use Rattle.cg_agree.proofs.ToldBeside.{told-fits}
+use Rattle.cg_step.specs.Holds.{cut_behind}
 
 -- ---- lists
 

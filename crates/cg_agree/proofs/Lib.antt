@@ -14,9 +14,7 @@ pub mod HandTalk
 pub mod DueAll
 pub mod SaidSoFar
 pub mod HandLegal
-pub mod RunFacts
-pub mod CutRaise
-pub mod RunMarks
+pub mod RunFronts
 pub mod HeldMarks
 pub mod HeldTurns
 pub mod HeldInstall
@@ -186,7 +184,6 @@ pub mod ExchangeStill
 pub mod ExchangeSmalls
 pub mod ExchangeBehind
 pub mod TurnRows
-pub mod OneValue
 pub mod DiskAhead
 pub mod AttemptNew
 pub mod KeptEmpty

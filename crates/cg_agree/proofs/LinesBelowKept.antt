@@ -28,7 +28,7 @@ use Rattle.cg_agree.specs.Chronicle.{Chronicle, no_chronicle}
 use Rattle.cg_agree.specs.Fronts.{Front}
 use Rattle.cg_agree.specs.Looks.{greens_of, stood_of, disk_held, snapshot_of, copied_for, top_of}
 use Rattle.cg_agree.specs.Levels.{line_at, reached_at}
-use Rattle.cg_agree.specs.FactsReplica.{run_on, AreBelow, IsLined, LinesBelow, IsCore, IsModeData}
+use Rattle.cg_agree.specs.FactsReplica.{AreBelow, IsLined, LinesBelow, IsCore, IsModeData}
 use Rattle.cg_agree.specs.FactsGreens.{OneOrder}
 use Rattle.cg_agree.specs.Facts.{Invariant}
 use Rattle.cg_agree.specs.Played.{AtRest}
@@ -54,6 +54,7 @@ use Rattle.cg_agree.proofs.BookGrows.{IsNamed}
 use Rattle.cg_agree.proofs.BookedCores.{each-booked, front-each}
 use Rattle.cg_agree.proofs.CopiesBooked.{UnbegunMadeNone, greens-on_line, joiners-booked}
 use Rattle.cg_agree.proofs.MadeOnceKept.{made_once-kept}
+use Rattle.cg_step.specs.Holds.{run_on}
 
 -- ---- the actions that a turn makes
 

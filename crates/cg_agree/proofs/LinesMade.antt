@@ -2,7 +2,7 @@
 use Rattle.std.proofs.Common.{◌≡◌, ℕ, ◌+◌, ◌≤◌, ◌<◌, Bool, true, false, ◌||◌, List, [], ◌∷◌, fold, map, min, length, Option, Some, None, IfSome, refl, sym, ap, ◌∙◌, subst, arith, inl, inr, eqb-true, nat_lt}
 use Rattle.std.specs.Prelude.{◌==◌, nat_le}
 use Rattle.std.specs.Option.{unwrap_or}
-use Rattle.std.proofs.lemmas.Bool.{cases_Bool, cases_lt, cond-true, cond-false, and_parts, leb-true, ltb-true, ltb-false, cond_both, false_from_ne_true}
+use Rattle.std.proofs.lemmas.Bool.{cases_Bool, cases_lt, cond-true, cond-false, and_parts, leb-true, ltb-true, false_from_ne_true}
 use Rattle.cg_group.specs.EachLaws.{Each}
 use Rattle.cg_base.specs.declared.action_id.ActionId.{ActionId}
 use Rattle.cg_base.specs.Cuts.{index_in}
@@ -20,13 +20,14 @@ use Rattle.cg_agree.specs.Looks.{greens_of, stood_of, top_of}
 use Rattle.cg_agree.specs.Levels.{line_at}
 use Rattle.cg_client.specs.Replica.{Held}
 use Rattle.cg_agree.specs.FactsExchange.{AreReached}
-use Rattle.cg_agree.specs.FactsReplica.{run_on, AreBelow, join_from, IsLined}
+use Rattle.cg_agree.specs.FactsReplica.{AreBelow, join_from, IsLined}
 use Rattle.cg_agree.proofs.FrontFacts.{Front-of_both}
-use Rattle.cg_agree.proofs.RunMarks.{run-names}
+use Rattle.cg_step.specs.Holds.{run_on}
 use Rattle.cg_agree.proofs.LinesTold.{JoinsBelow, greens-below, first-lines}
 use Rattle.cg_agree.proofs.LinesGreens.{join-within, join-front, ever-joined, line-first}
 use Rattle.cg_agree.proofs.BookGrows.{named_in, IsNamed, cut_of}
 use Rattle.cg_agree.proofs.BookCounts.{found-name}
+use Rattle.cg_step.specs.RunMarkLaws.{run-names}
 
 -- ---- what holds of the book holds of each of its actions
 

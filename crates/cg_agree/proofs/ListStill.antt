@@ -22,14 +22,15 @@ use Rattle.cg_agree.specs.Chronicle.{Attempt, Chronicle}
 use Rattle.cg_agree.specs.Fronts.{When, IsSomeWith}
 use Rattle.cg_agree.specs.Looks.{greens_of, conf_at, attempt_of}
 use Rattle.cg_agree.specs.FactsAttempts.{HoldsParts, AttemptList}
-use Rattle.cg_agree.specs.FactsReplica.{cut_behind, is_attempting}
+use Rattle.cg_agree.specs.FactsReplica.{is_attempting}
 use Rattle.cg_agree.proofs.EndCuts.{run-above}
 use Rattle.cg_agree.proofs.ExchangeStill.{OneMoves}
 use Rattle.cg_agree.proofs.HeldMarks.{IsOneself}
 use Rattle.cg_agree.proofs.NamesAscend.{same-parts}
-use Rattle.cg_agree.proofs.RunMarks.{run-names}
+use Rattle.cg_step.specs.Holds.{cut_behind}
 use Rattle.cg_agree.proofs.SameAttempt.{KeepsAttempts}
 use Rattle.cg_agree.proofs.TurnKinds.{IsQuiet}
+use Rattle.cg_step.specs.RunMarkLaws.{run-names}
 
 -- what a member holds of its attempt
 abbrev pub ListAt : Chronicle → ℕ → Type 0

@@ -19,7 +19,7 @@ use Rattle.cg_step.specs.Crash.{Disk, whitened, end_event, recovered}
 use Rattle.cg_agree.specs.World.{Life, Up, Down, Seat, running}
 use Rattle.cg_agree.specs.Looks.{on_disk}
 use Rattle.cg_agree.specs.FactsReplica.{GoesOn, IsAsOnDisk, IsEmptyIn}
-use Rattle.cg_agree.proofs.CutRaise.{behind-rises}
+use Rattle.cg_step.specs.CutRaiseLaws.{behind-rises}
 use Rattle.cg_agree.proofs.HeldMarks.{IsOneself, rising-red}
 use Rattle.cg_agree.proofs.HeldOwn.{own-reddened, created-same}
 use Rattle.cg_agree.proofs.DiskEnds.{end-cases}

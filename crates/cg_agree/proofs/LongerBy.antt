@@ -22,7 +22,7 @@ use Rattle.cg_agree.specs.Admission.{first_refusal}
 use Rattle.cg_agree.specs.Show.{ended}
 use Rattle.cg_agree.specs.Run.{MayStand}
 use Rattle.cg_agree.specs.Agreement.{may_move, is_recovery_of}
-use Rattle.cg_agree.specs.Step.{quietly, hand_out, joined, piece_count, snapshot_for, without_snapshot, with_pieces, take_pieces, transfer, happens, world_step}
+use Rattle.cg_agree.specs.Step.{quietly, hand_out, joined, snapshot_for, without_snapshot, with_pieces, take_pieces, transfer, happens, world_step}
 use Rattle.cg_agree.specs.Chronicle.{Chronicle}
 use Rattle.cg_agree.specs.FactsReplica.{is_primary}
 use Rattle.cg_agree.specs.Played.{StandsBeside}
@@ -40,6 +40,7 @@ use Rattle.cg_agree.proofs.SnapshotsReached.{snapshot-within}
 use Rattle.cg_agree.proofs.StepGreens.{step-follows, whitened-count}
 use Rattle.cg_agree.proofs.TurnWorlds.{life_at}
 use Rattle.cg_agree.proofs.WorldTurns.{IsBehind, from-same, hand-behind, handed-behind}
+use Rattle.cg_client.specs.Joined.{piece_count}
 
 -- ---- what is handed
 

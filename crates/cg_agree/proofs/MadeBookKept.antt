@@ -26,7 +26,7 @@ use Rattle.cg_agree.specs.Run.{MayStand}
 use Rattle.cg_agree.specs.Chronicle.{Chronicle}
 use Rattle.cg_agree.specs.Attempts.{held_in}
 use Rattle.cg_agree.specs.Looks.{greens_of, stood_of, on_disk, disk_held}
-use Rattle.cg_agree.specs.Step.{quietly, ask, name_also, recover_from, joined, piece_count, snapshot_for, without_snapshot, with_pieces, take_pieces, transfer, happens, world_step}
+use Rattle.cg_agree.specs.Step.{quietly, ask, name_also, recover_from, joined, snapshot_for, without_snapshot, with_pieces, take_pieces, transfer, happens, world_step}
 use Rattle.cg_agree.specs.FactsBooks.{MadeBook}
 use Rattle.cg_agree.specs.FactsReplica.{IsCore, IsModeData}
 use Rattle.cg_agree.specs.Played.{StandsBeside, with_world}
@@ -37,6 +37,7 @@ use Rattle.cg_agree.proofs.LivesRest.{LifeRests, SeatRests, seat-in}
 use Rattle.cg_agree.proofs.RestsBehind.{handed-ids, split-to}
 use Rattle.cg_agree.proofs.MadeWorlds.{LifeMade, SeatMade, MadeFits, IsCoreAt, LifeSound, SeatSound, fits-same, hand-fits, handed-fits, begun-fits, stopped-fits, armed-fits, came-up, joined-fits}
 use Rattle.cg_agree.proofs.JoinersMadeNone.{snapshot-none}
+use Rattle.cg_client.specs.Joined.{piece_count}
 
 -- ---- the book
 

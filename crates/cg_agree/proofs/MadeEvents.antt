@@ -22,7 +22,7 @@ use Rattle.cg_report.specs.declared.entry.Made.{Made}
 use Rattle.cg_agree.specs.World.{Life, Up, Down, Seat, Snapshot, World, seat_of, replica_of, bring_up}
 use Rattle.cg_agree.specs.Show.{Going, ended}
 use Rattle.cg_agree.specs.Run.{MayStand}
-use Rattle.cg_agree.specs.Step.{quietly, hand_to, hand, hand_over, name_also, begin_replica, arm_at, crash_at, recover_from, joined, piece_count, snapshot_for, without_snapshot, with_pieces, take_pieces, transfer, happens, world_step}
+use Rattle.cg_agree.specs.Step.{quietly, hand_to, hand, hand_over, name_also, begin_replica, arm_at, crash_at, recover_from, joined, snapshot_for, without_snapshot, with_pieces, take_pieces, transfer, happens, world_step}
 use Rattle.cg_agree.specs.Chronicle.{Chronicle}
 use Rattle.cg_agree.specs.Looks.{on_disk, disk_held, stood_of}
 use Rattle.cg_agree.specs.FactsLists.{IsRising}
@@ -35,6 +35,7 @@ use Rattle.cg_agree.proofs.WorldTurns.{hand-behind}
 use Rattle.cg_agree.proofs.MadeWorlds.{LifeMade, SeatMade, MadeFits, SeatSound, fits-same, hand-fits}
 use Rattle.cg_agree.proofs.MadeBookKept.{sound-at}
 use Rattle.cg_agree.proofs.MadeShown.{AreLast, SeatLast, AddsTo, Adds, adds-wider, LifeWell, SeatWell, last-set, core-last, turn-adds, none-adds, recovery-adds}
+use Rattle.cg_client.specs.Joined.{piece_count}
 
 -- ---- what is handed
 

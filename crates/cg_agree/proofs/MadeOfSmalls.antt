@@ -20,7 +20,7 @@ use Rattle.cg_agree.specs.World.{Seat, running, World, no_world, replica_of, lef
 use Rattle.cg_agree.specs.Admission.{first_refusal, unknown, has_left, takes_part, never_named, begun_already, joiner_left, not_green}
 use Rattle.cg_agree.specs.Run.{MayStand}
 use Rattle.cg_agree.specs.Looks.{told_in, snapshot_of, disk_held}
-use Rattle.cg_agree.specs.Step.{world_step, snapshot_for, piece_count}
+use Rattle.cg_agree.specs.Step.{world_step, snapshot_for}
 use Rattle.cg_agree.specs.Chronicle.{Chronicle, no_chronicle}
 use Rattle.cg_agree.specs.Turns.{turns_of, taken}
 use Rattle.cg_agree.specs.Small.{Small, Makes, Enters, Orders, Receives, Hands, Asks, Settles, Copies, Joins, small_step}
@@ -47,6 +47,7 @@ use Rattle.cg_agree.proofs.EventMembers.{not-empty, leaving-members, coming-memb
 use Rattle.cg_agree.proofs.RestFacts.{IsOpening, IsQuiet, IsKept, rest-quiet, rest-with, rest-among, smalls_for, written-kept}
 use Rattle.cg_agree.proofs.SmallWorlds.{played_in, MayIn, RestAlong, may-all, played-world, small-world}
 use Rattle.cg_base.specs.Sets.{has}
+use Rattle.cg_client.specs.Joined.{piece_count}
 
 -- ---- in which crashes come where disks agree
 

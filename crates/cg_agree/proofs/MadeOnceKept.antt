@@ -26,13 +26,13 @@ use Rattle.cg_agree.specs.Attempts.{held_in}
 use Rattle.cg_agree.specs.Step.{joined}
 use Rattle.cg_agree.specs.Chronicle.{Chronicle}
 use Rattle.cg_agree.specs.Looks.{greens_of, core_of, ordered_in, snapshot_of, copied_for, OfCores}
-use Rattle.cg_agree.specs.FactsReplica.{run_on, cut_behind, MadeOnce, IsCore, IsModeData}
+use Rattle.cg_agree.specs.FactsReplica.{MadeOnce, IsCore, IsModeData}
 use Rattle.cg_agree.specs.Facts.{Invariant}
 use Rattle.cg_agree.specs.Played.{AtRest}
 use Rattle.cg_agree.specs.Small.{Small, Starts, Makes, Enters, Orders, Receives, Hands, Leaves, Asks, Settles, Commits, Crashes, Recovers, Copies, Joins, small_step, start, newly_green, turning, turning_as, take_all, coming, handed_next, leaving, take_request, take_newest, take_next, take_parting, newest_conf, commit_as, crash_as, recover_as, copy_as, join_with}
 use Rattle.cg_agree.specs.Smalls.{may_make, is_set}
-use Rattle.cg_agree.proofs.CutRaise.{behind-rises}
-use Rattle.cg_agree.proofs.RunFacts.{cut_behind-append}
+use Rattle.cg_step.specs.Holds.{run_on, cut_behind}
+use Rattle.cg_step.specs.CutRaiseLaws.{behind-rises}
 use Rattle.cg_agree.proofs.HeldMarks.{IsOneself, rising-red}
 use Rattle.cg_agree.proofs.CoresKept.{TurnKeeps, cores-weaker, held-known}
 use Rattle.cg_agree.proofs.CoresSmall.{StepKeeps, cores-kept, ready-of}
@@ -50,6 +50,7 @@ use Rattle.cg_agree.proofs.BookedRows.{HoldsFine, AllFine, each-drop, fine-rule,
 use Rattle.cg_agree.proofs.BookGrows.{IsNamed, cut_of, rising-of, IsCounted, named-more, named-all, settle-counted, request-counted, counted-first}
 use Rattle.cg_agree.proofs.BookedCores.{FineHeld, JoinersBooked, cores-booked, booked-closed, placed-booked, waiting-booked, greens-booked, memory-booked, disk-booked, copies-booked, messages-booked, waits-booked}
 use Rattle.cg_agree.proofs.BookCounts.{BookCounts, counts-same, counts-turning, book-turn, counts-commit, counts-crash, counts-recover, counts-join, counts-start}
+use Rattle.cg_step.specs.RunLaws.{cut_behind-append}
 
 -- ---- requests
 

@@ -21,9 +21,8 @@ use Rattle.cg_agree.specs.World.{Life, Up, Down, Seat, World, running, seat_of}
 use Rattle.cg_agree.specs.Looks.{on_disk}
 use Rattle.cg_agree.specs.Show.{Going, beyond, made_of_action, unshown}
 use Rattle.cg_agree.specs.Step.{after_event, recover_from}
-use Rattle.cg_agree.specs.FactsReplica.{run_on, cut_behind}
-use Rattle.cg_agree.proofs.CutRaise.{Rising}
-use Rattle.cg_agree.proofs.RunFacts.{cut_behind-append, run_on-append}
+use Rattle.cg_step.specs.Holds.{run_on, cut_behind, Rising}
+use Rattle.cg_step.specs.RunLaws.{cut_behind-append, run_on-append}
 use Rattle.cg_agree.proofs.ChronicleFacts.{seat_of-set}
 use Rattle.cg_agree.proofs.HeldMarks.{rising-red}
 use Rattle.cg_agree.proofs.DiskAhead.{OwnRuns}

@@ -24,7 +24,7 @@ use Rattle.cg_agree.specs.Chronicle.{Chronicle, no_chronicle}
 use Rattle.cg_agree.specs.Fronts.{IsSomeWith}
 use Rattle.cg_agree.specs.Looks.{greens_of}
 use Rattle.cg_agree.specs.Noting.{chronicle_after}
-use Rattle.cg_agree.specs.FactsReplica.{IsModeData, cut_behind}
+use Rattle.cg_agree.specs.FactsReplica.{IsModeData}
 use Rattle.cg_agree.specs.Played.{StandsBeside, AlwaysHolds}
 use Rattle.cg_agree.proofs.CreatorNumbered.{stands-of, names-count}
 use Rattle.cg_agree.proofs.FrontFacts.{take-Front}
@@ -35,9 +35,10 @@ use Rattle.cg_agree.proofs.MadeTold.{names-last, each-contains, step-adds, made-
 use Rattle.cg_agree.proofs.OrderReached.{in-order}
 use Rattle.cg_agree.proofs.OrderTold.{order_told}
 use Rattle.cg_agree.proofs.PositionsGrow.{down-still}
-use Rattle.cg_agree.proofs.RunMarks.{run-names}
+use Rattle.cg_step.specs.Holds.{cut_behind}
 use Rattle.cg_agree.proofs.RunPrefix.{world-last, ComesThere, comes}
 use Rattle.cg_agree.proofs.TellsRun.{HasTold, has-told}
+use Rattle.cg_step.specs.RunMarkLaws.{run-names}
 
 -- ---- the names that were shown as made
 

@@ -11,10 +11,12 @@ use Rattle.cg_queue.specs.Queue.{QueueView, names_of}
 use Rattle.cg_client.specs.Replica.{Held, created}
 use Rattle.cg_client.specs.Queries.{plain_reds}
 use Rattle.cg_agree.specs.Chronicle.{Chronicle}
-use Rattle.cg_agree.specs.FactsReplica.{IsCore, run_on, cut_behind}
-use Rattle.cg_agree.proofs.CutRaise.{Rising, rising-behind, same_name}
-use Rattle.cg_agree.proofs.HeldTurns.{created-behind}
-use Rattle.cg_agree.proofs.RunMarks.{run-names}
+use Rattle.cg_agree.specs.FactsReplica.{IsCore}
+use Rattle.cg_step.specs.Holds.{run_on, cut_behind, Rising}
+use Rattle.cg_step.specs.HeldLaws.{created-behind}
+use Rattle.cg_step.specs.CutRaiseLaws.{rising-behind}
+use Rattle.cg_queue.specs.NameLaws.{same_name}
+use Rattle.cg_step.specs.RunMarkLaws.{run-names}
 
 -- ---- names and elements
 

@@ -21,9 +21,9 @@ use Rattle.cg_agree.specs.Agreement.{through}
 use Rattle.cg_agree.specs.Chronicle.{Chronicle}
 use Rattle.cg_agree.specs.Noting.{chronicle_step}
 use Rattle.cg_agree.specs.Played.{StandsBeside}
-use Rattle.cg_agree.specs.FactsReplica.{run_on, cut_behind, AreBooked}
-use Rattle.cg_agree.proofs.RunFacts.{cut_behind-append, run_on-append}
-use Rattle.cg_agree.proofs.RunMarks.{run-names}
+use Rattle.cg_agree.specs.FactsReplica.{AreBooked}
+use Rattle.cg_step.specs.Holds.{run_on, cut_behind}
+use Rattle.cg_step.specs.RunLaws.{cut_behind-append, run_on-append}
 use Rattle.cg_agree.proofs.BookGrows.{IsNamed, named_in}
 use Rattle.cg_agree.proofs.BookedCores.{each-booked}
 use Rattle.cg_agree.proofs.BookStays.{event-book}
@@ -32,6 +32,7 @@ use Rattle.cg_agree.proofs.MadeBookKept.{event-made}
 use Rattle.cg_agree.proofs.MadeShown.{IsThere, AreLast, Adds, names_in}
 use Rattle.cg_agree.proofs.MadeEvents.{AddsSome, event-adds}
 use Rattle.cg_agree.proofs.RunForward.{IsStepOf}
+use Rattle.cg_step.specs.RunMarkLaws.{run-names}
 
 -- what was shown as made so far, against the world and the book
 pub record IsMadeTold (earlier : List Step) (c : Chronicle) (w : World) : Type 0 where

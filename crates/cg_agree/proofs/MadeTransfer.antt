@@ -12,7 +12,7 @@ use Rattle.cg_schedule.specs.declared.event.Event.TheVariants.{Transfer}
 use Rattle.cg_agree.specs.World.{Seat, Snapshot, World, has_begun, seat_of, replica_of, bring_up}
 use Rattle.cg_agree.specs.Admission.{first_refusal, takes_part, never_named, begun_already, joiner_left, not_green}
 use Rattle.cg_agree.specs.Show.{Going, ended}
-use Rattle.cg_agree.specs.Step.{happens, world_step, quietly, joined, piece_count, snapshot_for, without_snapshot, with_pieces, take_pieces, transfer}
+use Rattle.cg_agree.specs.Step.{happens, world_step, quietly, joined, snapshot_for, without_snapshot, with_pieces, take_pieces, transfer}
 use Rattle.cg_agree.specs.Looks.{snapshot_of, snapshots_for, disk_held}
 use Rattle.cg_agree.specs.Small.{Small, Copies, Joins}
 use Rattle.cg_agree.specs.Smalls.{may_make, smalls_in, copy_steps, join_steps}
@@ -23,6 +23,7 @@ use Rattle.cg_agree.proofs.HandSays.{find-holds}
 use Rattle.cg_agree.proofs.MadeQuietly.{IsMadeIn, same-worlds}
 use Rattle.cg_agree.proofs.MadeAlone.{not-refused, is-running}
 use Rattle.cg_agree.proofs.SmallWorlds.{small_in, may_in, copy_in, join_in, played_in, MayIn}
+use Rattle.cg_client.specs.Joined.{piece_count}
 
 -- ---- lists
 

@@ -19,15 +19,16 @@ use Rattle.cg_agree.specs.World.{Life, Up, Down, Seat, World, seat_of, bring_up}
 use Rattle.cg_agree.specs.Show.{Going, unshown}
 use Rattle.cg_agree.specs.Step.{after_event, hand_to, hand, hand_over, begin_replica, name_also, arm_at, crash_at, recover_from, joined}
 use Rattle.cg_agree.specs.FactsLists.{IsRising}
-use Rattle.cg_agree.specs.FactsReplica.{cut_behind, GoesOn}
+use Rattle.cg_agree.specs.FactsReplica.{GoesOn}
 use Rattle.cg_agree.proofs.ChronicleFacts.{seat_of-set}
-use Rattle.cg_agree.proofs.CutRaise.{Rising, rising-behind}
+use Rattle.cg_step.specs.Holds.{cut_behind, Rising}
 use Rattle.cg_agree.proofs.HeldMarks.{IsOneself}
 use Rattle.cg_agree.proofs.DiskEnds.{end-cases}
 use Rattle.cg_agree.proofs.CreatedKept.{created-first}
 use Rattle.cg_agree.proofs.WorldTurns.{hand-behind}
 use Rattle.cg_agree.proofs.MadeGrows.{IsShown, step-shown}
 use Rattle.cg_agree.proofs.MadeRecovered.{recovery-shown}
+use Rattle.cg_step.specs.CutRaiseLaws.{rising-behind}
 
 -- so many were shown as made: all that a replica that is up has created; of one that is down no more than it has, and its greens; and
 -- none of one that hasn't begun

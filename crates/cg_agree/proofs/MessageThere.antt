@@ -16,10 +16,11 @@ use Rattle.cg_client.specs.Marks.{is_unmade}
 use Rattle.cg_agree.specs.Chronicle.{Told, Chronicle}
 use Rattle.cg_agree.specs.Looks.{core_of, told_in, ordered_in, placed_of, waiting_in, said_in}
 use Rattle.cg_agree.specs.Talk.{action_in}
-use Rattle.cg_agree.specs.FactsReplica.{cut_behind, booked, AreBooked, MadeOnce}
+use Rattle.cg_agree.specs.FactsReplica.{booked, AreBooked, MadeOnce}
 use Rattle.cg_agree.specs.FactsTalk.{IsContent, AreContents, Content}
 use Rattle.cg_agree.proofs.HandMarks.{made-so}
-use Rattle.cg_agree.proofs.RunMarks.{run-names}
+use Rattle.cg_step.specs.Holds.{cut_behind}
+use Rattle.cg_step.specs.RunMarkLaws.{run-names}
 
 -- ---- booked actions
 

@@ -24,7 +24,7 @@ use Rattle.cg_agree.specs.Step.{joined, without_snapshot}
 use Rattle.cg_agree.specs.Chronicle.{Attempt, Chronicle, no_chronicle}
 use Rattle.cg_agree.specs.Looks.{greens_of, conf_at, ordered_in, on_disk, attempt_of, top_of, snapshot_of}
 use Rattle.cg_agree.specs.Levels.{prim_at}
-use Rattle.cg_agree.specs.FactsReplica.{is_attempting, is_primary, own_record, IsInPrimary, HasModeData, IsCounted, IsModeData, cut_behind, is_exchanging}
+use Rattle.cg_agree.specs.FactsReplica.{is_attempting, is_primary, own_record, IsInPrimary, HasModeData, IsCounted, IsModeData, is_exchanging}
 use Rattle.cg_agree.specs.Facts.{Invariant}
 use Rattle.cg_agree.specs.Small.{Small, Starts, Makes, Enters, Orders, Receives, Hands, Leaves, Asks, Settles, Commits, Crashes, Recovers, Copies, Joins, newly_green, with_installer, installing, turning, take_parting, take_newest, take_next, take_request, coming, handed_next, leaving, commit_as, crash_as, recover_as, copy_as, join_with, newest_conf, start, small_step}
 use Rattle.cg_agree.specs.Smalls.{may_make, may_join, is_running, is_set}
@@ -61,6 +61,7 @@ use Rattle.cg_agree.proofs.ModeStill.{mode-still}
 use Rattle.cg_agree.proofs.ModeCounted.{Flow, flow-none, counted-flow, counted-installed}
 use Rattle.cg_agree.proofs.ModeStates.{in-primary-as, in-attempt-as, attempting-data, from-attempting, from-primary, parted-data, quiet-flow}
 use Rattle.cg_agree.proofs.ModeHands.{phase-data, hands-data}
+use Rattle.cg_step.specs.Holds.{cut_behind}
 
 -- ---- replicas behind a step
 

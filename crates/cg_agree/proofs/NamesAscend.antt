@@ -6,13 +6,14 @@ use Rattle.cg_base.specs.declared.action_id.ActionId.{ActionId}
 use Rattle.cg_base.specs.Cuts.{index_in}
 use Rattle.cg_base.specs.Ids.{same_id, id_before, names}
 use Rattle.cg_base.specs.IdLaws.{same_id-true, same_id-false}
-use Rattle.cg_base.specs.Lists.{count_up, above_up_to}
+use Rattle.cg_base.specs.Lists.{count_up}
 use Rattle.cg_base.specs.Sets.{has}
+use Rattle.cg_base.specs.IdRuns.{names_above}
 use Rattle.cg_group.specs.EachLaws.{Each, Each-append}
 use Rattle.cg_agree.specs.FactsLists.{IsRising}
-use Rattle.cg_agree.specs.FactsReplica.{run_on, cut_behind, ascend}
-use Rattle.cg_agree.proofs.CutRaise.{Rising, same_name}
-use Rattle.cg_agree.proofs.RunMarks.{run-names, before-parts, before-creator, before-index, before-trans}
+use Rattle.cg_step.specs.Holds.{run_on, cut_behind, ascend, Rising}
+use Rattle.cg_queue.specs.NameLaws.{same_name}
+use Rattle.cg_step.specs.RunMarkLaws.{run-names, before-parts, before-creator, before-index, before-trans}
 
 -- ---- names in order
 
@@ -91,10 +92,6 @@ same-ascending (x ∷ xs) (y ∷ ys) up down same =
     ap₂ (λ z zs. z ∷ zs) e (same-ascending xs ys (ascend-rest x xs up) (ascend-rest y ys down) (same-rest x y xs ys up down same e))
 
 -- ---- the names between two cuts
-
--- a creator's names above one number and up to another
-abbrev pub names_above : ℕ → ℕ → ℕ → List ActionId
-names_above low high creator = map (λ n. record { creator = creator; index = n }) (above_up_to low high)
 
 abbrev numbered : ℕ → ℕ → ℕ → List ActionId
 numbered creator from count = map (λ n. record { creator = creator; index = n }) (count_up from count)

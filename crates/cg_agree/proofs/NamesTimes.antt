@@ -6,17 +6,17 @@ use Rattle.cg_base.specs.declared.action_id.ActionId.{ActionId}
 use Rattle.cg_base.specs.Cuts.{index_in, raise}
 use Rattle.cg_base.specs.Ids.{same_id, names}
 use Rattle.cg_agree.specs.Fronts.{Front}
-use Rattle.cg_agree.specs.FactsReplica.{run_on, cut_behind}
+use Rattle.cg_step.specs.Holds.{run_on, cut_behind, Rising}
 use Rattle.cg_agree.proofs.FrontFacts.{Front-of_both, Front-append}
-use Rattle.cg_agree.proofs.CutRaise.{Rising, index-same, index-rises, rising-raise}
-use Rattle.cg_agree.proofs.RunFacts.{run_on-append}
-use Rattle.cg_agree.proofs.RunMarks.{run-head, run-rest, names-new}
+use Rattle.cg_step.specs.CutRaiseLaws.{index-same, index-rises, rising-raise}
+use Rattle.cg_step.specs.RunLaws.{run_on-append}
+use Rattle.cg_step.specs.RunMarkLaws.{run-head, run-rest, names-new}
 use Rattle.cg_agree.proofs.BookGrows.{same-self}
-use Rattle.cg_agree.proofs.OneValue.{same-from}
+use Rattle.cg_queue.specs.NameLaws.{same_id-is}
 use Rattle.cg_agree.proofs.RepliesPlaced.{IsIn, times}
 
 pub same_id-swap : (a b : ActionId) → same_id a b ≡ true → same_id b a ≡ true
-same_id-swap a b e = (let same = same-from a b e in subst (λ x. same_id x a ≡ true) same (same-self a))
+same_id-swap a b e = (let same = same_id-is a b e in subst (λ x. same_id x a ≡ true) same (same-self a))
 
 -- ---- how often
 
@@ -54,7 +54,7 @@ times-passing t id [] e = refl
 times-passing t id (x ∷ ids) e = elim (cases_Bool (t x)) [
   | inl passes ↦ ap (times id) (cond-true (t x) (x ∷ filter t ids) (filter t ids) passes) ∙ ap (λ n. if same_id x id then suc n else n) (times-passing t id ids e)
   | inr out ↦
-      let other : same_id x id ≡ false = false_from_ne_true (same_id x id) (λ y. (let clash : true ≡ false = sym e ∙ ap t (sym (same-from x id y)) ∙ out in cc)) in
+      let other : same_id x id ≡ false = false_from_ne_true (same_id x id) (λ y. (let clash : true ≡ false = sym e ∙ ap t (sym (same_id-is x id y)) ∙ out in cc)) in
       ap (times id) (cond-false (t x) (x ∷ filter t ids) (filter t ids) out) ∙ times-passing t id ids e ∙ sym (times-not id x ids other)
 ]
 
@@ -62,7 +62,7 @@ pub times-failing : (t : ActionId → Bool) (id : ActionId) (ids : List ActionId
 times-failing t id [] e = refl
 times-failing t id (x ∷ ids) e = elim (cases_Bool (t x)) [
   | inl passes ↦
-      let other : same_id x id ≡ false = false_from_ne_true (same_id x id) (λ y. (let clash : true ≡ false = sym passes ∙ ap t (same-from x id y) ∙ e in cc)) in
+      let other : same_id x id ≡ false = false_from_ne_true (same_id x id) (λ y. (let clash : true ≡ false = sym passes ∙ ap t (same_id-is x id y) ∙ e in cc)) in
       ap (times id) (cond-true (t x) (x ∷ filter t ids) (filter t ids) passes) ∙ times-not id x (filter t ids) other ∙ times-failing t id ids e
   | inr out ↦ ap (times id) (cond-false (t x) (x ∷ filter t ids) (filter t ids) out) ∙ times-failing t id ids e
 ]
@@ -72,7 +72,7 @@ times-known : (cut ids : List ActionId) (id : ActionId) → Rising 0 cut → run
 times-known cut [] id rising run low = refl
 times-known cut (x ∷ ids) id rising run low = elim (cases_Bool (same_id x id)) [
   | inl here ↦
-      let same = same-from x id here in
+      let same = same_id-is x id here in
       let next : x.index ≡ suc (index_in cut x.creator) = run-head cut x ids run in
       let at : id.index ≡ suc (index_in cut id.creator) = subst (λ (y : ActionId). y.index ≡ suc (index_in cut y.creator)) same next in
       absurd (omega arith)
@@ -83,7 +83,7 @@ pub times-once : (cut ids : List ActionId) (id : ActionId) → Rising 0 cut → 
 times-once cut [] id rising run = omega arith
 times-once cut (x ∷ ids) id rising run = elim (cases_Bool (same_id x id)) [
   | inl here ↦
-      let same = same-from x id here in
+      let same = same_id-is x id here in
       let reached : index_in (raise cut x) id.creator ≡ max (index_in cut id.creator) x.index = index-same cut x rising id.creator (ap (λ (y : ActionId). y.creator) same) in
       let index : x.index ≡ id.index = ap (λ (y : ActionId). y.index) same in
       let none = times-known (raise cut x) ids id (rising-raise cut x rising) (run-rest cut x ids run) (omega arith) in
@@ -105,7 +105,7 @@ in-times id (x ∷ ids) (inr later) = (let rest = in-times id ids later in at (s
 pub times-contains : (id : ActionId) (ids : List ActionId) → 1 ≤ times id ids → Contains ids id
 times-contains id [] le = absurd (omega arith)
 times-contains id (x ∷ ids) le = elim (cases_Bool (same_id x id)) [
-  | inl here ↦ (0, omega arith, same-from x id here)
+  | inl here ↦ (0, omega arith, same_id-is x id here)
   | inr other ↦ (let rest = times-contains id ids (let now = times-not id x ids other in omega arith) in (suc rest.0, (let less = rest.1 in omega arith), rest.2))
 ]
 

@@ -15,7 +15,7 @@ use Rattle.cg_agree.specs.Fronts.{Front}
 use Rattle.cg_agree.specs.Looks.{greens_of, stood_of, past_of, on_disk, disk_held, is_in, left_count, ordered_in, attempt_of, attempt_at, top_of, installation}
 use Rattle.cg_agree.specs.Talk.{acts_in}
 use Rattle.cg_agree.specs.Levels.{line_at, count_in, reached_at}
-use Rattle.cg_agree.specs.FactsReplica.{run_on, IsCore}
+use Rattle.cg_agree.specs.FactsReplica.{IsCore}
 use Rattle.cg_agree.specs.FactsBooks.{ListsGrow}
 use Rattle.cg_agree.specs.Facts.{Invariant}
 use Rattle.cg_agree.specs.Played.{KeptBySmalls, MayBeMade}
@@ -23,7 +23,7 @@ use Rattle.cg_agree.specs.Small.{Small, small_step}
 use Rattle.cg_agree.specs.Smalls.{may_make}
 use Rattle.cg_agree.specs.Noting.{played}
 use Rattle.cg_agree.proofs.FrontFacts.{Front-trans, Front-length, Front-behind, Front-of_both, Front-map}
-use Rattle.cg_agree.proofs.RunFacts.{run_on-front}
+use Rattle.cg_step.specs.Holds.{run_on}
 use Rattle.cg_agree.proofs.SameAttempt.{SameAttempt, same-installation}
 use Rattle.cg_agree.proofs.Reach.{acts-front}
 use Rattle.cg_agree.proofs.ReachSteps.{goes_on-kept}
@@ -31,6 +31,7 @@ use Rattle.cg_agree.proofs.ReachWorld.{opened-at, opened-attempt, level-kept}
 use Rattle.cg_agree.proofs.OneLine.{IsOnTop, level-on_top}
 use Rattle.cg_agree.proofs.SpineKept.{start-line}
 use Rattle.cg_agree.proofs.CopiesBooked.{greens-on_line, greatest-from}
+use Rattle.cg_agree.proofs.RunFronts.{run_on-front}
 
 -- ---- small steps
 

@@ -18,14 +18,15 @@ use Rattle.cg_agree.specs.Agreement.{Reaches}
 use Rattle.cg_agree.specs.Chronicle.{Chronicle}
 use Rattle.cg_agree.specs.Fronts.{Front}
 use Rattle.cg_agree.specs.Looks.{greens_of}
-use Rattle.cg_agree.specs.FactsReplica.{IsCore, run_on}
+use Rattle.cg_agree.specs.FactsReplica.{IsCore}
 use Rattle.cg_agree.specs.Played.{StandsBeside}
 use Rattle.cg_agree.proofs.FrontFacts.{Front-length, take-Front}
 use Rattle.cg_agree.proofs.HeldMarks.{counted}
-use Rattle.cg_agree.proofs.OneValue.{same-from}
-use Rattle.cg_agree.proofs.RunMarks.{run-head, run-rest}
+use Rattle.cg_queue.specs.NameLaws.{same_id-is}
+use Rattle.cg_step.specs.Holds.{run_on}
 use Rattle.cg_agree.proofs.CreatorNumbered.{names-count, order-runs}
 use Rattle.cg_agree.proofs.MadeTold.{IsMadeTold, made-told, each-contains}
+use Rattle.cg_step.specs.RunMarkLaws.{run-head, run-rest}
 
 names-drop : (n : ℕ) (list : List Action) → names_of (drop n list) ≡ drop n (names_of list)
 names-drop zero list = refl
@@ -76,7 +77,7 @@ run-some cut (id ∷ ids) run = ((let next : id.index ≡ suc (index_in cut id.c
 names-contain : (ids : List ActionId) (id : ActionId) → names ids id ≡ true → Contains ids id
 names-contain [] id e = absurd (let clash : false ≡ true = e in cc)
 names-contain (x ∷ ids) id e = elim (or_cases (same_id id x) (names ids id) e) [
-  | inl here ↦ (zero, (let less : 0 < suc (length ids) = omega arith in less), sym (same-from id x here))
+  | inl here ↦ (zero, (let less : 0 < suc (length ids) = omega arith in less), sym (same_id-is id x here))
   | inr later ↦ Contains-append_right (x ∷ []) ids id (names-contain ids id later)
 ]
 

@@ -18,7 +18,7 @@ use Rattle.cg_agree.specs.Chronicle.{Chronicle}
 use Rattle.cg_agree.specs.Fronts.{Front}
 use Rattle.cg_agree.specs.Played.{StandsBeside}
 use Rattle.cg_agree.proofs.BookGrows.{IsNamed, named_in, same-self, named-all}
-use Rattle.cg_agree.proofs.OneValue.{same-from}
+use Rattle.cg_queue.specs.NameLaws.{same_id-is}
 use Rattle.cg_agree.proofs.MadeTold.{IsMadeTold, as-made, each-contains}
 use Rattle.cg_agree.proofs.OrderReached.{order-named}
 
@@ -48,12 +48,12 @@ found-there (a ∷ list) id is = elim (cases_Bool (same_id a.id id)) [
   | inl here ↦ record {
     action = a;
     found = cond-true (same_id a.id id) (Some a) (named_in list id) here;
-    name = same-from a.id id here;
+    name = same_id-is a.id id here;
     there = (zero, (let less : 0 < suc (length list) = omega arith in less), refl);
   }
   | inr other ↦
       let rest = found-there list id (elim (or_cases (same_id id a.id) (names (names_of list) id) is) [
-        | inl here ↦ absurd (let same : id ≡ a.id = same-from id a.id here in
+        | inl here ↦ absurd (let same : id ≡ a.id = same_id-is id a.id here in
             let self : same_id a.id id ≡ true = subst (λ (x : ActionId). same_id a.id x ≡ true) (sym same) (same-self a.id) in
             let clash : true ≡ false = sym self ∙ other in cc)
         | inr later ↦ later

@@ -5,7 +5,7 @@ use Rattle.cg_action.specs.declared.action.Kind.TheVariants.{Update, Join as Joi
 use Rattle.cg_schedule.specs.declared.event.Event.{Event}
 use Rattle.cg_schedule.specs.declared.event.Event.TheVariants.{Start, Split, Merge, Request, Weak, Dirty, Order, Recover, Show, ShowOrder, Gather, End, Receive, Deliver, Rounds, Stop, Fail, Join, Leave, Transfer}
 use Rattle.cg_group.specs.declared.delivery.Delivery.TheVariants.{Regular as RegularIn}
-use Rattle.cg_agree.specs.Step.{quietly, ask, hand_out, name_also, begin_replica, arm_at, arm, crash_at, stop, recover_from, recover, joined, piece_count, snapshot_for, without_snapshot, take_pieces, transfer, happens, world_step}
+use Rattle.cg_agree.specs.Step.{quietly, ask, hand_out, name_also, begin_replica, arm_at, arm, crash_at, stop, recover_from, recover, joined, snapshot_for, without_snapshot, take_pieces, transfer, happens, world_step}
 use Rattle.cg_agree.specs.World.{Life, Up, Down, Seat, Snapshot, World, no_world, running, seat_of, replica_of, bring_up}
 use Rattle.cg_agree.specs.Show.{ended}
 use Rattle.cg_agree.specs.Small.{Starts, small_step, Small}
@@ -72,6 +72,7 @@ use Rattle.cg_group.specs.declared.delivery.Handed.{Handed}
 use Rattle.cg_queue.specs.Queue.{green_count, names_of}
 use Rattle.cg_step.specs.Crash.{Disk, FailOnce, StopWith, Strike, crash_now, disk_recovered, new_disk, recovered}
 use Rattle.cg_wire.specs.declared.message.Msg.{Msg}
+use Rattle.cg_client.specs.Joined.{piece_count}
 
 module _ (kept : KeptBySmalls) (c : Chronicle) (w : World) (stands : StandsBeside c w) (order : OrderFits c w) where
   sound : IsSound w

@@ -4,7 +4,7 @@ use Rattle.cg_action.specs.declared.action.Kind.TheVariants.{Update, Join as Joi
 use Rattle.cg_schedule.specs.declared.event.Event.{Event}
 use Rattle.cg_schedule.specs.declared.event.Event.TheVariants.{Start, Split, Merge, Request, Weak, Dirty, Order, Recover, Show, ShowOrder, Gather, End, Receive, Deliver, Rounds, Stop, Fail, Join, Leave, Transfer}
 use Rattle.cg_group.specs.declared.delivery.Delivery.TheVariants.{Transitional as TransitionalIn, Regular as RegularIn}
-use Rattle.cg_agree.specs.Step.{quietly, hand, hand_over, name_also, begin_replica, arm_at, crash_at, recover_from, recover, joined, piece_count, snapshot_for, without_snapshot, with_pieces, take_pieces, transfer, happens, world_step}
+use Rattle.cg_agree.specs.Step.{quietly, hand, hand_over, name_also, begin_replica, arm_at, crash_at, recover_from, recover, joined, snapshot_for, without_snapshot, with_pieces, take_pieces, transfer, happens, world_step}
 use Rattle.cg_stored.specs.Stored.{recover as recover_disk}
 use Rattle.cg_agree.specs.World.{Life, Up, Down, Seat, Snapshot, World, has_begun, seat_of, replica_of, set_life, bring_up, bring_down}
 use Rattle.cg_group.specs.Events.{order, receive, gather, deliveries_at, handed_in_split, transitional_places, furthest, deliver, split, merge}
@@ -14,7 +14,7 @@ use Rattle.std.specs.Option.{option_map_or}
 use Rattle.std.specs.Prelude.{◌==◌}
 use Rattle.cg_agree.proofs.BookedRows.{own-fine}
 use Rattle.cg_agree.proofs.ChronicleFacts.{seat_of-set}
-use Rattle.cg_agree.proofs.CutRaise.{Rising, behind-rises, rising-behind}
+use Rattle.cg_step.specs.Holds.{Rising}
 use Rattle.cg_agree.proofs.GroupSays.{GroupSays, says-down, says-gather, says-handed, says-merge, says-order, says-receive, says-split, says-up}
 use Rattle.cg_agree.proofs.HeldCommit.{recovered-id}
 use Rattle.cg_agree.proofs.MadeBookKept.{sound-at, transfer-unbegun}
@@ -44,6 +44,8 @@ use Rattle.cg_group.specs.declared.delivery.Handed.{Handed}
 use Rattle.cg_queue.specs.Queue.{green_count, names_of}
 use Rattle.cg_step.specs.Crash.{Crashes, Ended, FailOnce, Runs, StopWith, Strike, crash_now, disk_recovered, end_event, new_disk, recovered}
 use Rattle.cg_wire.specs.declared.message.Msg.{Msg}
+use Rattle.cg_step.specs.CutRaiseLaws.{behind-rises, rising-behind}
+use Rattle.cg_client.specs.Joined.{piece_count}
 
 abbrev pub LifeIsDown : Life → Type 0
 LifeIsDown (Up r disk) = ⊥

@@ -26,11 +26,12 @@ use Rattle.cg_group.specs.EachLaws.{Each, Each-above}
 use Rattle.cg_group.specs.PlaceLaws.{at_place-within}
 use Rattle.cg_client.specs.Replica.{Held}
 use Rattle.cg_exchange.specs.ExchangeActions.{message_of}
-use Rattle.cg_agree.specs.FactsReplica.{IsMadeOf, cut_behind}
+use Rattle.cg_agree.specs.FactsReplica.{IsMadeOf}
 use Rattle.cg_agree.proofs.HandSays.{has_part}
 use Rattle.cg_agree.proofs.HandsContent.{turn-found}
 use Rattle.cg_agree.proofs.HeldMarks.{IsOneself, rising-green}
-use Rattle.cg_agree.proofs.RunMarks.{run-names}
+use Rattle.cg_step.specs.Holds.{cut_behind}
+use Rattle.cg_step.specs.RunMarkLaws.{run-names}
 
 -- how much of a part is held
 abbrev pub HoldsPart : Held → List Action → Part → Type 0

@@ -29,7 +29,7 @@ use Rattle.cg_step.specs.Step.{on_message, take as take_one, on_transitional}
 use Rattle.cg_agree.specs.World.{replica_of}
 use Rattle.cg_agree.specs.Chronicle.{Chronicle, Attempt}
 use Rattle.cg_agree.specs.Facts.{Invariant}
-use Rattle.cg_agree.specs.FactsReplica.{IsModeData, HasModeData, IsCore, cut_behind, is_attempting, is_primary, is_exchanging}
+use Rattle.cg_agree.specs.FactsReplica.{IsModeData, HasModeData, IsCore, is_attempting, is_primary, is_exchanging}
 use Rattle.cg_agree.specs.FactsTalk.{handed_talk, count_behind, AreNumbered, AreNumberedAt, IsStateIn}
 use Rattle.cg_agree.specs.Looks.{greens_of, conf_of, members_in, ordered_in, said_in, attempt_of, received_by_all, is_regular_at}
 use Rattle.cg_agree.specs.Small.{take_all}
@@ -46,7 +46,7 @@ use Rattle.cg_agree.proofs.HeldInstall.{IsAllYellow, yellow-oneself}
 use Rattle.cg_agree.proofs.HeldMarks.{IsOneself, rising-red, red-oneself}
 use Rattle.cg_agree.proofs.MessageThere.{message-made}
 use Rattle.cg_agree.proofs.RowYellow.{marks-yellow}
-use Rattle.cg_agree.proofs.RunFacts.{cut_behind-append}
+use Rattle.cg_step.specs.Holds.{cut_behind}
 use Rattle.cg_agree.proofs.StatesSaid.{creating-ended, count-quiet, never, announcing, undecided}
 use Rattle.cg_agree.proofs.TalkEarly.{all-member, not_full, due_parts}
 use Rattle.cg_base.specs.SetLaws.{has-with_member}
@@ -79,6 +79,7 @@ use Rattle.cg_agree.proofs.TurnKinds.{installs-to}
 use Rattle.cg_agree.proofs.TurnValues.{even-mark_yellow}
 use Rattle.cg_queue.specs.MarkLaws.{red-placed}
 use Rattle.cg_agree.proofs.PartingIdle.{taken-append, alone-taken, left-taken}
+use Rattle.cg_step.specs.RunLaws.{cut_behind-append}
 
 counted : (from n k : ℕ) → from ≤ k → k < from + n → has (count_up from n) k ≡ true
 counted from zero k le lt = absurd (omega arith)

@@ -20,7 +20,7 @@ use Rattle.cg_step.specs.Commit.{commits}
 use Rattle.cg_schedule.specs.declared.event.Event.{Event}
 use Rattle.cg_schedule.specs.declared.event.Event.TheVariants.{Start, Split, Merge, Request, Weak, Dirty, Order, Recover, Show, ShowOrder, Gather, End, Receive, Deliver, Rounds, Stop, Fail, Join, Leave, Transfer}
 use Rattle.cg_agree.specs.World.{Life, Up, Down, Seat, Snapshot, World, seat_of, replica_of}
-use Rattle.cg_agree.specs.Step.{snapshot_for, piece_count}
+use Rattle.cg_agree.specs.Step.{snapshot_for}
 use Rattle.cg_agree.specs.Turns.{Taken, stands, turns_of}
 use Rattle.cg_agree.specs.Chronicle.{Attempt, Chronicle}
 use Rattle.cg_agree.specs.Looks.{attempt_of, top_of, snapshot_of}
@@ -34,6 +34,7 @@ use Rattle.cg_agree.proofs.FrontFacts.{Front-length, Front-append}
 use Rattle.cg_agree.proofs.BegunKept.{start-turning, start-joins}
 use Rattle.cg_agree.proofs.SameAttempt.{KeepsAttempts, keeps-refl, keeps-then, attempts-kept}
 use Rattle.cg_agree.proofs.ReachWorld.{MoreLevels, levels-kept}
+use Rattle.cg_client.specs.Joined.{piece_count}
 
 -- ---- small steps
 

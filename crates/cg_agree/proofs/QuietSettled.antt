@@ -24,7 +24,7 @@ use Rattle.cg_agree.specs.Fronts.{IsSomeWith, When}
 use Rattle.cg_agree.specs.Looks.{greens_of, told_in, conf_at, members_in, ordered_in, attempt_of, attempt_at, installation}
 use Rattle.cg_agree.specs.Talk.{Talk, is_announced, state_behind, acts_in}
 use Rattle.cg_agree.specs.FactsTalk.{whole_talk, handed_talk, count_behind, AreNumbered, AreNumberedAt}
-use Rattle.cg_agree.specs.FactsReplica.{HasModeData, IsModeData, IsCore, is_primary, cut_behind, IsEmptyIn, BufferEmpty}
+use Rattle.cg_agree.specs.FactsReplica.{HasModeData, IsModeData, IsCore, is_primary, IsEmptyIn, BufferEmpty}
 use Rattle.cg_agree.specs.FactsExchange.{IsInExchange, HasTakenOver, best_told}
 use Rattle.cg_agree.specs.FactsGreens.{IsOnLine, IsHandedGreen}
 use Rattle.cg_agree.specs.Facts.{Invariant}
@@ -33,6 +33,7 @@ use Rattle.cg_agree.proofs.HeldMarks.{counted}
 use Rattle.cg_agree.proofs.ReachFacts.{all-from}
 use Rattle.cg_agree.proofs.QuietTalk.{quiet-at, regular-there, handed-all, up-there, told-there, member-of, all-announced, state-there, summaries-are}
 use Rattle.cg_agree.proofs.QuietKnown.{known-in}
+use Rattle.cg_step.specs.Holds.{cut_behind}
 
 -- ---- who has left, and who remains
 

@@ -30,7 +30,7 @@ use Rattle.cg_agree.specs.Looks.{greens_of, told_in, is_regular_at, is_regular_i
 use Rattle.cg_agree.specs.Talk.{Talk, is_full, is_through, is_announced, state_in}
 use Rattle.cg_agree.specs.Levels.{reach_at, is_evidence, is_record_of, names_with}
 use Rattle.cg_agree.specs.FactsTalk.{AreTold, IsStateIn, handed_talk}
-use Rattle.cg_agree.specs.FactsReplica.{run_on, cut_behind, IsCore, IsInPrimary, IsInAttempt, HasModeData, IsModeData, is_primary, is_attempting}
+use Rattle.cg_agree.specs.FactsReplica.{IsCore, IsInPrimary, IsInAttempt, HasModeData, IsModeData, is_primary, is_attempting}
 use Rattle.cg_agree.specs.FactsExchange.{HoldsStill, IsUnmoved, IsGoingOn, HasTakenOver, IsInExchange, best_told}
 use Rattle.cg_agree.specs.FactsAttempts.{HoldsParts}
 use Rattle.cg_agree.specs.FactsGreens.{Covers, CoversLevel}
@@ -47,11 +47,13 @@ use Rattle.cg_agree.proofs.LevelsOpen.{when-from}
 use Rattle.cg_agree.proofs.PartsNamed.{actions-names}
 use Rattle.cg_agree.proofs.PlanEnd.{is_behind, behind-ended}
 use Rattle.cg_agree.proofs.ReachWorld.{when-is}
-use Rattle.cg_agree.proofs.RunFacts.{run_on-append, run_on-front}
+use Rattle.cg_step.specs.Holds.{run_on, cut_behind}
 use Rattle.cg_agree.proofs.TalkEarly.{all-member}
 use Rattle.cg_agree.proofs.ToldCover.{CoversWhere}
 use Rattle.cg_agree.proofs.ToldLine.{Behind, begun-reach, told-begun, told-fits, told-greens, told-run}
 use Rattle.cg_agree.proofs.YellowMeets.{reds-named}
+use Rattle.cg_step.specs.RunLaws.{run_on-append}
+use Rattle.cg_agree.proofs.RunFronts.{run_on-front}
 
 -- ---- names above a cut
 

@@ -24,7 +24,7 @@ use Rattle.cg_agree.specs.World.{Life, Up, Down, Seat, World, running, seat_of, 
 use Rattle.cg_agree.specs.Show.{ended}
 use Rattle.cg_agree.specs.Run.{MayStand}
 use Rattle.cg_agree.specs.Levels.{is_record_of}
-use Rattle.cg_agree.specs.Step.{quietly, hand_out, ask, name_also, begin_replica, arm_at, arm, crash_at, recover_from, recover, joined, piece_count, snapshot_for, without_snapshot, with_pieces, take_pieces, transfer, happens, world_step}
+use Rattle.cg_agree.specs.Step.{quietly, hand_out, ask, name_also, begin_replica, arm_at, arm, crash_at, recover_from, recover, joined, snapshot_for, without_snapshot, with_pieces, take_pieces, transfer, happens, world_step}
 use Rattle.cg_agree.specs.FactsLists.{IsRising}
 use Rattle.cg_agree.proofs.ChronicleFacts.{seat_of-set}
 use Rattle.cg_agree.proofs.HeldMarks.{IsOneself}
@@ -33,6 +33,7 @@ use Rattle.cg_agree.proofs.DiskAhead.{OwnRuns}
 use Rattle.cg_agree.proofs.AttemptNew.{HasNoRecordYet, IsNewConf, IsNewIn}
 use Rattle.cg_agree.proofs.LivesRest.{LifeRests, SeatRests, turn-rests, recovered-rests, begun-rests}
 use Rattle.cg_agree.proofs.WorldTurns.{IsBehind, hand-behind, from-same, handed-behind}
+use Rattle.cg_client.specs.Joined.{piece_count}
 
 -- there are greens of which a replica holds what they make
 pub record IsCoreOf (start : List Weighted) (h : Held) : Type 0 where

@@ -27,15 +27,15 @@ use Rattle.cg_agree.specs.Talk.{Talk, is_full, is_through, is_announced, state_b
 use Rattle.cg_agree.specs.Levels.{is_record_of}
 use Rattle.cg_agree.specs.FactsTalk.{handed_talk, IsTransitional, IsStateIn}
 use Rattle.cg_agree.specs.FactsExchange.{HasRecord, IsRecord}
-use Rattle.cg_agree.specs.FactsReplica.{run_on, cut_behind, GoesOn, IsCore, IsAsOnDisk, is_attempting, is_primary, has_entered, IsCounted, IsModeData, ReplicaRests}
+use Rattle.cg_agree.specs.FactsReplica.{GoesOn, IsCore, IsAsOnDisk, is_attempting, is_primary, has_entered, IsCounted, IsModeData, ReplicaRests}
 use Rattle.cg_agree.specs.Facts.{Invariant}
 use Rattle.cg_agree.specs.Played.{IsSame, StandsBeside, with_world}
 use Rattle.cg_agree.specs.Noting.{chronicle_step}
 use Rattle.cg_agree.specs.Step.{world_step}
 use Rattle.cg_agree.proofs.FrontFacts.{split_by_Front}
-use Rattle.cg_agree.proofs.RunFacts.{cut_behind-append, run_on-append}
-use Rattle.cg_agree.proofs.CutRaise.{rising-behind, rising-raise, index-same, behind-rises}
-use Rattle.cg_agree.proofs.RunMarks.{run-head}
+use Rattle.cg_step.specs.Holds.{run_on, cut_behind}
+use Rattle.cg_step.specs.RunLaws.{cut_behind-append, run_on-append}
+use Rattle.cg_step.specs.CutRaiseLaws.{rising-behind, rising-raise, index-same, behind-rises}
 use Rattle.cg_agree.proofs.HeldMarks.{IsOneself, rising-red}
 use Rattle.cg_agree.proofs.HandSays.{find-holds}
 use Rattle.cg_agree.proofs.DeadKept.{said-attempt}
@@ -43,6 +43,7 @@ use Rattle.cg_agree.proofs.MadeOfSmalls.{made-of-smalls}
 use Rattle.cg_agree.proofs.AttemptNew.{HasNoRecordYet}
 use Rattle.cg_agree.proofs.LivesRest.{seat-in, seat-agrees, seat-empty}
 use Rattle.cg_agree.proofs.RestsBehind.{LifeSteps, SeatSteps, RestsAt, event-rests}
+use Rattle.cg_step.specs.RunMarkLaws.{run-head}
 
 -- ---- records
 

@@ -30,7 +30,7 @@ use Rattle.cg_agree.specs.Fronts.{Front}
 use Rattle.cg_agree.specs.Looks.{greens_of, conf_of, members_in, ordered_in}
 use Rattle.cg_agree.specs.Talk.{Talk, talk_of, hears_from, is_ended, act_in, action_in, state_in}
 use Rattle.cg_agree.specs.FactsNet.{IsPhase}
-use Rattle.cg_agree.specs.FactsReplica.{IsModeData, HasModeData, IsCore, cut_behind}
+use Rattle.cg_agree.specs.FactsReplica.{IsModeData, HasModeData, IsCore}
 use Rattle.cg_agree.specs.FactsTalk.{handed_talk, count_behind, AreNumbered, AreNumberedAt, IsStateIn}
 use Rattle.cg_agree.specs.Facts.{Invariant}
 use Rattle.cg_agree.specs.Small.{take_all, take_parting}
@@ -45,9 +45,10 @@ use Rattle.cg_agree.proofs.HeldMarks.{IsOneself, rising-red}
 use Rattle.cg_agree.proofs.LeaverOutside.{act_at, acts_at}
 use Rattle.cg_agree.proofs.LeaverStep.{RowIsYellow}
 use Rattle.cg_agree.proofs.MessageThere.{message-made}
-use Rattle.cg_agree.proofs.RunFacts.{cut_behind-append}
+use Rattle.cg_step.specs.Holds.{cut_behind}
 use Rattle.cg_agree.proofs.StatesSaid.{creating-ended, count-quiet}
 use Rattle.cg_agree.proofs.YellowGrows.{places-keep}
+use Rattle.cg_step.specs.RunLaws.{cut_behind-append}
 
 -- ---- places one behind the other
 

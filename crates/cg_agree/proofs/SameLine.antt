@@ -20,7 +20,8 @@ use Rattle.cg_report.specs.declared.line.View.{View}
 use Rattle.cg_report.specs.declared.line.UpLine.{UpLine}
 use Rattle.cg_report.specs.declared.line.Line.{Line}
 use Rattle.cg_report.specs.Same.{state_number, same_phase, same_counts, same_lists, same_components, same_view, same_up, same_line}
-use Rattle.cg_agree.proofs.OneValue.{same-from, one-list, one-number, one-prim, one-record, one-yellow}
+use Rattle.cg_queue.specs.NameLaws.{same_id-is}
+use Rattle.cg_step.specs.ValueLaws.{one-list, one-number, one-prim, one-record, one-yellow}
 
 state_at : ℕ → StateName
 state_at zero = RegPrim
@@ -78,8 +79,8 @@ one-view a b e =
       attempt_index = one-number a.attempt_index b.attempt_index others.0 i;
       vulnerable = one-record a.vulnerable b.vulnerable marks.0 i;
       yellow = one-yellow a.yellow b.yellow marks.1 i;
-      reds = one-list same_id same-from a.reds b.reds reds.0 i;
-      own = one-list same_id same-from a.own b.own owns.0 i;
+      reds = one-list same_id same_id-is a.reds b.reds reds.0 i;
+      own = one-list same_id same_id-is a.own b.own owns.0 i;
       left = one-list nat_eq one-number a.left b.left owns.1 i;
       buffered = one-number a.buffered b.buffered others.1 i;
     }

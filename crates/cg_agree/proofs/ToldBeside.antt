@@ -20,7 +20,7 @@ use Rattle.cg_agree.specs.Attempts.{held_in}
 use Rattle.cg_agree.specs.Levels.{line_at, reached_at}
 use Rattle.cg_agree.specs.Facts.{Invariant}
 use Rattle.cg_agree.specs.FactsExchange.{IsSummary, IsOutdone}
-use Rattle.cg_agree.specs.FactsReplica.{run_on, IsCore, DiskBehind}
+use Rattle.cg_agree.specs.FactsReplica.{IsCore, DiskBehind}
 use Rattle.cg_agree.specs.FactsTalk.{AreTold, summaries_of, whole_talk}
 use Rattle.cg_agree.proofs.EndCovers.{OfEach}
 use Rattle.cg_agree.proofs.EndQuorum.{both-each}
@@ -34,7 +34,8 @@ use Rattle.cg_agree.proofs.Knowledge.{sender-told}
 use Rattle.cg_agree.proofs.KnownBounds.{least-greens, least-reds}
 use Rattle.cg_agree.proofs.PlanEnd.{told-each, own-told}
 use Rattle.cg_agree.proofs.PlanProgress.{AreBeside}
-use Rattle.cg_agree.proofs.RunFacts.{run_on-front}
+use Rattle.cg_step.specs.Holds.{run_on}
+use Rattle.cg_agree.proofs.RunFronts.{run_on-front}
 
 -- what holds of each core holds of all greens of who has begun
 pub core-now : (c : Chronicle) (P : Held → List Action → Type 0) → OfCores c P → DiskBehind c → (q : ℕ) → has_begun c.world q ≡ true → (h : Held) × P h (greens_of c q)

@@ -14,7 +14,7 @@ use Rattle.cg_agree.specs.Levels.{line_at, reach_at, reached_at}
 use Rattle.cg_agree.specs.Facts.{Invariant}
 use Rattle.cg_agree.specs.FactsNet.{NetFacts}
 use Rattle.cg_agree.specs.FactsTalk.{TalkFacts}
-use Rattle.cg_agree.specs.FactsReplica.{run_on, IsCore, ReplicaFacts}
+use Rattle.cg_agree.specs.FactsReplica.{IsCore, ReplicaFacts}
 use Rattle.cg_agree.specs.FactsExchange.{IsSummary, IsOutdone, KnowsLevels, ExchangeFacts}
 use Rattle.cg_agree.specs.FactsAttempts.{AttemptFacts}
 use Rattle.cg_agree.specs.FactsGreens.{InstalledCount, OneOrder}
@@ -26,9 +26,10 @@ use Rattle.cg_agree.proofs.FrontFacts.{Front-trans, Front-of_both, Front-map}
 use Rattle.cg_agree.proofs.HandSays.{find-holds}
 use Rattle.cg_agree.proofs.NetFactsKept.{net-kept}
 use Rattle.cg_agree.proofs.OneLine.{reached-front}
-use Rattle.cg_agree.proofs.RunFacts.{run_on-front}
+use Rattle.cg_step.specs.Holds.{run_on}
 use Rattle.cg_agree.proofs.TalkFactsKept.{talk-kept}
 use Rattle.cg_agree.proofs.ToldBeside.{core-now}
+use Rattle.cg_agree.proofs.RunFronts.{run_on-front}
 
 -- what holds behind a small step but for the facts about greens, with the two of these that are needed
 pub record Behind (c : Chronicle) : Type 0 where

@@ -1,16 +1,16 @@
 -- A fact of a turn that each change of it keeps is kept by every row of the table, and by the deliveries of an event.
-use Rattle.std.proofs.Common.{◌≡◌, ℕ, suc, ◌+◌, ◌<◌, List, [], ◌∷◌, ◌++◌, fold, find, length, cond, Bool, true, false, not, ◌&&◌, Option, Some, None, refl, sym, subst, arith, inl, inr, if◌then◌else◌, eqb-true, nat_lt}
+use Rattle.std.proofs.Common.{◌≡◌, ℕ, suc, ◌+◌, List, [], ◌∷◌, ◌++◌, fold, length, cond, Bool, true, false, not, ◌&&◌, Option, Some, None, refl, sym, subst, arith, inl, inr, if◌then◌else◌, eqb-true, nat_lt}
 use Rattle.std.specs.Prelude.{◌==◌}
 use Rattle.std.specs.Option.{option_to_list}
-use Rattle.std.proofs.lemmas.Bool.{cases_order, cases_Bool, ne_eqb, lt-leb, and_parts}
+use Rattle.std.proofs.lemmas.Bool.{cases_order, cases_Bool, and_parts}
 use Rattle.cg_group.specs.EachLaws.{Each, Each-append}
 use Rattle.cg_base.specs.declared.action_id.ActionId.{ActionId}
 use Rattle.cg_base.specs.Ids.{same_id, names}
 use Rattle.cg_base.specs.Cuts.{index_in}
 use Rattle.cg_base.specs.Sets.{has, is_within, with_member}
 use Rattle.cg_action.specs.declared.action.Action.{Action}
-use Rattle.cg_queue.specs.Queue.{QueueView, Gaps, marked_red, marked_yellow, and_yellow, with_yellow, placed_red, action_of}
-use Rattle.cg_queue.specs.MarkLaws.{red-known, red-placed}
+use Rattle.cg_queue.specs.Queue.{QueueView, marked_red, marked_yellow, and_yellow, with_yellow, placed_red, action_of}
+use Rattle.cg_queue.specs.MarkLaws.{red-gap, red-known, red-placed}
 use Rattle.cg_records.specs.declared.primary.Primary.{Primary}
 use Rattle.cg_records.specs.declared.vulnerable.Vulnerable.{Vulnerable}
 use Rattle.cg_knowledge.specs.declared.summary.Summary.{Summary}
@@ -43,6 +43,7 @@ use Rattle.cg_step.specs.Step.{on_message, on_transitional, on_regular, take}
 use Rattle.cg_step.specs.Recorded.{OfMessage}
 use Rattle.cg_agree.specs.World.{is_left_state}
 use Rattle.cg_agree.specs.Talk.{action_in}
+use Rattle.cg_step.specs.HeldLaws.{each-found}
 
 -- what is held with other values, and another yellow list
 abbrev pub with_values : Held → List ActionId → Bool → Primary → ℕ → Option Vulnerable → Held
@@ -73,22 +74,12 @@ OfDelivery Fine _ = Unit {0}
 
 -- ---- lists of fine actions
 
-each-found : (Fine : Action → Type 0) (p : Action → Bool) (xs : List Action) → Each Fine xs → Each Fine (option_to_list (find p xs))
-each-found Fine p [] fine = tt
-each-found Fine p (x ∷ xs) fine = elim (cases_Bool (p x)) [
-  | inl here ↦ rw here (fine.0, tt)
-  | inr other ↦ rw other (each-found Fine p xs fine.1)
-]
-
 pub each-named : (Fine : Action → Type 0) (q : QueueView) (ids : List ActionId) → Each Fine (q.greens ++ q.reds) → Each Fine (actions_named q ids)
 each-named Fine q [] fine = tt
 each-named Fine q (id ∷ ids) fine =
     Each-append Fine (option_to_list (action_of q id)) (actions_named q ids) (each-found Fine (λ a. same_id a.id id) (q.greens ++ q.reds) fine) (each-named Fine q ids fine)
 
 -- ---- marks
-
-red-gap : (q : QueueView) (a : Action) → suc (index_in q.red_cut a.id.creator) < a.id.index → marked_red q a ≡ Gaps (index_in q.red_cut a.id.creator)
-red-gap q a gt = rw (lt-leb a.id.index (index_in q.red_cut a.id.creator) (omega arith), ne_eqb a.id.index (suc (index_in q.red_cut a.id.creator)) (λ e. omega arith)) refl
 
 -- the yellow list with a name more, where it is none
 abbrev yellow_with : QueueView → ActionId → List ActionId

@@ -1,10 +1,10 @@
 -- Facts about what each replica holds, as it runs and as its disk has it.
-use Rattle.std.specs.Prelude.{◌≡◌, ℕ, suc, ◌-◌, ◌≤◌, ◌==◌, nat_le, Bool, true, false, not, ◌&&◌, ◌||◌, List, [], ◌∷◌, ◌++◌, Option, Some, None, find, fold, drop, length, IsTrue, IfSome, filter_map, if◌then◌else◌}
+use Rattle.std.specs.Prelude.{◌≡◌, ℕ, suc, ◌-◌, ◌≤◌, ◌==◌, nat_le, Bool, true, false, not, ◌&&◌, ◌||◌, List, [], ◌∷◌, ◌++◌, Option, Some, None, find, drop, length, IsTrue, IfSome, filter_map, if◌then◌else◌}
 use Rattle.std.specs.List.{list_all}
 use Rattle.cg_base.specs.declared.action_id.ActionId.{ActionId}
 use Rattle.cg_base.specs.declared.weighted.Weighted.{Weighted}
-use Rattle.cg_base.specs.Cuts.{index_in, raise}
-use Rattle.cg_base.specs.Ids.{same_id, id_before}
+use Rattle.cg_base.specs.Cuts.{index_in}
+use Rattle.cg_base.specs.Ids.{same_id}
 use Rattle.cg_base.specs.Sets.{has}
 use Rattle.cg_action.specs.declared.action.Action.{Action}
 use Rattle.cg_action.specs.declared.action.Kind.{Kind}
@@ -16,6 +16,7 @@ use Rattle.cg_records.specs.declared.vulnerable.Vulnerable.{Vulnerable}
 use Rattle.cg_group.specs.declared.phase.Phase.{Phase}
 use Rattle.cg_group.specs.State.{phase_of, unordered_of}
 use Rattle.cg_client.specs.Replica.{Held, State, RegPrim, TransPrim, ExchangeStates, ExchangeActions, Construct, No, Un, NonPrim, Left, Replica, created}
+use Rattle.cg_step.specs.Holds.{run_on, cut_behind, ascend}
 use Rattle.cg_agree.specs.Chronicle.{Attempt, Chronicle}
 use Rattle.cg_agree.specs.World.{has_begun, replica_of}
 use Rattle.cg_agree.specs.Fronts.{Front}
@@ -24,21 +25,6 @@ use Rattle.cg_agree.specs.Talk.{action_in}
 use Rattle.cg_agree.specs.Levels.{is_record_of}
 
 -- ---- what a replica holds is made of its greens
-
--- each of these names is the next of its creator
-abbrev pub run_on : List ActionId → List ActionId → Bool
-run_on cut [] = true
-run_on cut (id ∷ ids) = (id.index == suc (index_in cut id.creator)) && run_on (raise cut id) ids
-
--- the cut behind these names
-abbrev pub cut_behind : List ActionId → List ActionId → List ActionId
-cut_behind cut ids = fold raise cut ids
-
--- each name comes before the next
-abbrev pub ascend : List ActionId → Bool
-ascend [] = true
-ascend (id ∷ []) = true
-ascend (id ∷ next ∷ ids) = id_before id next && ascend (next ∷ ids)
 
 -- what is held is what the greens make of it, and those that aren't discarded
 pub record IsMadeOf (start : List Weighted) (h : Held) (greens : List Action) : Type 0 where

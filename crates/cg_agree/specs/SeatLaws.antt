@@ -1,8 +1,8 @@
 -- Seats stay: a start that is admitted begins a replica, and whoever has begun has begun behind every event.
-use Rattle.std.proofs.Common.{◌≡◌, ℕ, zero, suc, ◌+◌, ◌<◌, min, Bool, true, false, cond, List, [], ◌∷◌, ◌++◌, fold, filter, find, is_some, map, length, Option, Some, None, refl, ap, subst, arith, eqb-true, eq-eqb, nat_lt, if◌then◌else◌}
+use Rattle.std.proofs.Common.{◌≡◌, ℕ, zero, suc, ◌+◌, ◌<◌, min, Bool, true, false, cond, List, [], ◌∷◌, ◌++◌, fold, filter, find, is_some, map, length, Option, Some, None, refl, ap, subst, arith, eqb-true, eq-eqb, nat_lt, if◌then◌else◌, sym, ◌∙◌}
 use Rattle.std.specs.Prelude.{◌==◌}
 use Rattle.std.specs.Option.{option_map_or}
-use Rattle.std.proofs.lemmas.Bool.{cond_both}
+use Rattle.std.proofs.lemmas.Bool.{cond_both, ne_eqb, eqb-false}
 use Rattle.cg_base.specs.declared.weighted.Weighted.{Weighted}
 use Rattle.cg_base.specs.Weights.{ids}
 use Rattle.cg_action.specs.declared.action.Kind.TheVariants.{Update, Join as JoinKind, Leave as LeaveKind}
@@ -21,8 +21,36 @@ use Rattle.cg_schedule.specs.declared.event.Event.TheVariants.{Start, Split, Mer
 use Rattle.cg_agree.specs.World.{Life, Up, Down, Seat, Snapshot, World, running, seat_of, has_begun, replica_of, up_replicas, with_seat, bring_up}
 use Rattle.cg_agree.specs.Admission.{first_refusal}
 use Rattle.cg_agree.specs.Show.{Going, ended}
-use Rattle.cg_agree.specs.Step.{quietly, after_event, hand_to, hand, hand_over, name_also, begin_replica, arm_at, arm, crash_at, recover_from, recover, joined, piece_count, snapshot_for, without_snapshot, with_pieces, take_pieces, transfer, happens, world_step}
+use Rattle.cg_agree.specs.Step.{quietly, after_event, hand_to, hand, hand_over, name_also, begin_replica, arm_at, arm, crash_at, recover_from, recover, joined, snapshot_for, without_snapshot, with_pieces, take_pieces, transfer, happens, world_step}
 use Rattle.cg_agree.specs.Run.{MayStand}
+use Rattle.cg_client.specs.Joined.{piece_count}
+use Rattle.cg_group.specs.LookupLaws.{at-cond}
+
+-- ---- the seat that is found
+
+abbrev pub seat_in : List Seat → ℕ → Option Seat
+seat_in seats q = find (λ s. s.id == q) seats
+
+-- the choices behind a changed seat
+chosen : {X : Type 0} (a b x y : Bool) (new old rest with_new : X) → (a ≡ true → x ≡ y) → (a ≡ false → x ≡ true → y ≡ false) →
+    with_new ≡ cond y new rest → cond a (cond y new rest) (cond b (cond y new (cond x old rest)) (cond x old with_new)) ≡ cond y new (cond x old rest)
+chosen true b x true new old rest with_new s o e = refl
+chosen true b true false new old rest with_new s o e = absurd (let clash : true ≡ false = s refl in cc)
+chosen true b false false new old rest with_new s o e = refl
+chosen false true x y new old rest with_new s o e = refl
+chosen false false true true new old rest with_new s o e = absurd (let clash : true ≡ false = o refl refl in cc)
+chosen false false true false new old rest with_new s o e = refl
+chosen false false false y new old rest with_new s o e = e
+
+pub found-seat : (seats : List Seat) (new : Seat) (q : ℕ) → seat_in (with_seat seats new) q ≡ (if new.id == q then Some new else seat_in seats q)
+found-seat [] new q = refl
+found-seat (s ∷ seats) new q =
+    at-cond (λ z. seat_in z q) (s.id == new.id) (new ∷ seats) (if nat_lt new.id s.id then new ∷ s ∷ seats else s ∷ with_seat seats new)
+    ∙ ap (cond (s.id == new.id) (seat_in (new ∷ seats) q)) (at-cond (λ z. seat_in z q) (nat_lt new.id s.id) (new ∷ s ∷ seats) (s ∷ with_seat seats new))
+    ∙ chosen (s.id == new.id) (nat_lt new.id s.id) (s.id == q) (new.id == q) (Some new) (Some s) (seat_in seats q) (seat_in (with_seat seats new) q)
+    (λ same. ap (λ z. z == q) (eqb-true s.id new.id same))
+    (λ other here. ne_eqb new.id q (λ e. eqb-false s.id new.id other (eqb-true s.id q here ∙ sym e)))
+    (found-seat seats new q)
 
 -- ---- what a new or changed seat keeps
 

@@ -19,11 +19,12 @@ use Rattle.cg_step.specs.Crash.{Ended, Runs, Crashes as EndsInCrash}
 use Rattle.cg_schedule.specs.declared.event.Event.{Event}
 use Rattle.cg_schedule.specs.declared.event.Event.TheVariants.{Start, Split, Merge, Request, Order, Recover, Gather, Receive, Deliver, Stop, Join, Leave, Transfer}
 use Rattle.cg_agree.specs.World.{World, has_begun, replica_of, is_left}
-use Rattle.cg_agree.specs.Step.{snapshot_for, piece_count}
+use Rattle.cg_agree.specs.Step.{snapshot_for}
 use Rattle.cg_agree.specs.Turns.{Taken, turns_of, stands}
 use Rattle.cg_agree.specs.Chronicle.{Chronicle}
 use Rattle.cg_agree.specs.Looks.{told_in, ordered_in, is_member, snapshot_of}
 use Rattle.cg_agree.specs.Small.{Small, Starts, Makes, Enters, Orders, Receives, Hands, Leaves, Asks, Settles, Commits, Crashes, Recovers, Copies, Joins, newest_conf}
+use Rattle.cg_client.specs.Joined.{piece_count}
 
 -- ---- which may be made
 

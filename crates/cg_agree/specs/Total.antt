@@ -34,7 +34,7 @@ use Rattle.cg_agree.specs.World.{World, replica_of}
 use Rattle.cg_agree.specs.Admission.{first_refusal}
 use Rattle.cg_agree.specs.Run.{MayStand}
 use Rattle.cg_agree.specs.Chronicle.{Chronicle}
-use Rattle.cg_agree.specs.FactsReplica.{run_on, is_exchanging}
+use Rattle.cg_agree.specs.FactsReplica.{is_exchanging}
 use Rattle.cg_agree.specs.Fronts.{When, Either}
 use Rattle.cg_agree.specs.Looks.{disk_held}
 use Rattle.cg_agree.specs.Talk.{Talk, talk_of}
@@ -43,6 +43,7 @@ use Rattle.cg_agree.specs.Smalls.{smalls_in, turn_steps}
 use Rattle.cg_agree.specs.Played.{StandsBeside}
 use Rattle.cg_agree.specs.Turns.{Taken, turns_of}
 use Rattle.cg_schedule.specs.declared.event.Event.TheVariants.{Merge}
+use Rattle.cg_step.specs.Holds.{run_on}
 
 -- ---- messages that can be used
 

@@ -23,11 +23,12 @@ use Rattle.cg_agree.specs.Chronicle.{Told, Attempt, Chronicle}
 use Rattle.cg_agree.specs.Looks.{greens_of, core_of, ordered_in, told_in, is_in, is_regular_in, attempt_of, attempt_at, installation}
 use Rattle.cg_agree.specs.Levels.{prim_at}
 use Rattle.cg_agree.specs.FactsTalk.{handed_talk}
-use Rattle.cg_agree.specs.FactsReplica.{run_on, cut_behind, join_from}
+use Rattle.cg_agree.specs.FactsReplica.{join_from}
 use Rattle.cg_agree.specs.FactsExchange.{greens_behind, red_behind, best_told}
 use Rattle.cg_agree.specs.Smalls.{implies}
 use Rattle.cg_audit.specs.Same.{same_actions, front_actions, same_numbers}
 use Rattle.cg_audit.specs.Through.{if_some, is_some_with, for_replicas, for_confs, for_both}
+use Rattle.cg_step.specs.Holds.{run_on, cut_behind}
 
 abbrev is_record : Attempt → Vulnerable → Bool
 is_record a v = (v.from == a.from) && same_numbers v.set a.set && is_within v.bits a.entered

@@ -19,9 +19,10 @@ use Rattle.cg_agree.specs.Chronicle.{Attempt, Chronicle}
 use Rattle.cg_agree.specs.Looks.{greens_of, stood_of, disk_held, core_of, conf_at, ordered_in, attempt_of, attempt_at}
 use Rattle.cg_agree.specs.Talk.{action_in}
 use Rattle.cg_agree.specs.Levels.{is_record_of}
-use Rattle.cg_agree.specs.FactsReplica.{run_on, cut_behind, ascend, own_record, has_entered, has_installed, is_primary, is_attempting, booked, join_from}
+use Rattle.cg_agree.specs.FactsReplica.{own_record, has_entered, has_installed, is_primary, is_attempting, booked, join_from}
 use Rattle.cg_audit.specs.Same.{same_action, same_actions, front_actions, same_databases, same_members, same_attempt}
 use Rattle.cg_audit.specs.Through.{if_some, is_some_with, for_replicas, for_confs, for_cores}
+use Rattle.cg_step.specs.Holds.{run_on, cut_behind, ascend}
 
 abbrev is_made_of : List Weighted → Held → List Action → Bool
 is_made_of start h greens =

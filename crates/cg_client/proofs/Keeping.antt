@@ -166,21 +166,6 @@ found_in P test (x ∷ xs) all = elim (cases_Bool (test x)) [
 pub found : (q : QueueView) (id : ActionId) → AreKept q → IfSome (action_of q id) IsAction
 found q id kept = found_in IsAction (λ a. same_id a.id id) (q.greens ++ q.reds) (Each-append IsAction q.greens q.reds kept.greens kept.reds)
 
--- it has that name
-pub found-named : (q : QueueView) (id : ActionId) → IfSome (action_of q id) (λ a. a.id ≡ id)
-found-named q id = go (q.greens ++ q.reds) where
-  same : (x y : ActionId) → same_id x y ≡ true → x ≡ y
-  same x y e =
-      let parts = and_parts (x.creator == y.creator) (x.index == y.index) e in
-      λ i. record { creator = eqb-true x.creator y.creator parts.0 i; index = eqb-true x.index y.index parts.1 i }
-
-  go : (xs : List Action) → IfSome (find (λ a. same_id a.id id) xs) (λ a. a.id ≡ id)
-  go [] = tt
-  go (x ∷ xs) = elim (cases_Bool (same_id x.id id)) [
-    | inl here ↦ rw here (same x.id id here)
-    | inr other ↦ rw other (go xs)
-  ]
-
 -- and so is what a call leaves
 answer_keeps : (m : Marking) (old new : QueueView) (r : Result Mark QueueFault) → AreKept old → Keeps m → Answers m old new r → AreKept new
 answer_keeps m old new (Ok mark) kept keeps e = subst Keeps e keeps

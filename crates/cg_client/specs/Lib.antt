@@ -7,6 +7,7 @@ pub mod Marks
 pub mod Requests
 pub mod Summary
 pub mod Install
+pub mod Joined
 pub mod Queries
 pub mod ReplicaLaws
 pub mod Overlay

@@ -20,7 +20,7 @@ use crate::{Core, Draft};
 use cg_action::{Action, Kind};
 use cg_base::{ActionId, NoMemory, Row};
 use cg_db::{Answer, Effect};
-use cg_queue::{Mark, QueueFault};
+use cg_queue::{Mark, QueueFault, is_next};
 use cg_report::Reply;
 use std::alloc::Global;
 
@@ -28,13 +28,6 @@ pub(crate) fn name_of(a: &Action) -> ActionId
     ensures { result ≡ a.now.id }
 {
     a.id
-}
-
-fn is_next(index: u64, cut: u64) -> bool
-    ensures value { result ≡ (index == suc cut) }
-    ensures equal { IsTrue result → index ≡ suc cut }
-{
-    index > cut && index - cut == 1
 }
 
 pub(crate) fn drop_own(own: &mut Own, id: &ActionId)

@@ -6,7 +6,7 @@ use Rattle.std.proofs.lemmas.Bool.Decides.{nat_tests}
 use Rattle.cg_base.specs.declared.action_id.ActionId.{ActionId}
 use Rattle.cg_action.specs.declared.action.Action.{Action}
 use Rattle.cg_disk.specs.Calls.{Begins}
-use Rattle.cg_disk.specs.State.{DiskState, Strike as DiskStrike, Blow, Fails, Stops, left_by}
+use Rattle.cg_disk.specs.State.{DiskState, Strike as DiskStrike, Blow, left_by}
 use Rattle.cg_disk.specs.View.{DiskView}
 use Rattle.cg_journal.specs.Adds.{gate_stands}
 use Rattle.cg_journal.specs.Strikes.{strike_of, IsUnstruck}
@@ -28,6 +28,7 @@ use Rattle.cg_engine.specs.Defined.{strike_from, account, RunsAsDefined, FallsAs
 use Rattle.cg_engine.specs.Answers.{parts_of, IsLeft, EndsEvent, HandlesEvent}
 use Rattle.cg_engine.specs.declared.answers.Handled.{Handled}
 use Rattle.cg_engine.specs.declared.answers.Handled.TheVariants as handled
+use Rattle.cg_store.specs.StrikeLaws.{outcome, early_commit, early_checkpoint, late_commit}
 
 -- ---- the names that are told
 
@@ -50,9 +51,6 @@ told_all w h (id ∷ green) is count =
 abbrev armed_with : Option Strike → Disk → Disk
 armed_with a d = record d { armed = a }
 
-abbrev outcome : Disk → Turn → Bool → Bool → Disk
-outcome disk t checkpoint commit = if checkpoint then with_checkpoint (with_change disk t) else if commit then with_change disk t else disk
-
 outcome_armed : (a : Option Strike) (d : Disk) (t : Turn) (x y : Bool) → at_rest (outcome (armed_with a d) t x y) ≡ at_rest (outcome d t x y)
 unfolding with_change with_checkpoint
 outcome_armed a d t true y = refl
@@ -72,22 +70,6 @@ unfolding with_checkpoint
 checkpoint_armed a d = refl
 
 -- ---- which calls commit
-
-early_commit : (call : ℕ) (blow : Blow) (fill : List ℕ) → call ≤ 4 → is_committed (strike_at call blow fill) ≡ gate_stands blow call fill
-early_commit call Fails fill le = refl
-early_commit call Stops [] le = let four : nat_lt 4 call ≡ false = grind (arith, nat_tests) in rw four refl
-early_commit call Stops (byte ∷ fill) le = let four : nat_lt 4 call ≡ false = grind (arith, nat_tests) in rw four refl
-
-late_commit : (call : ℕ) (blow : Blow) (fill : List ℕ) → 5 ≤ call → is_committed (strike_at call blow fill) ≡ true
-late_commit call Fails fill le = grind (arith, nat_tests)
-late_commit call Stops fill le = let four : nat_lt 4 call ≡ true = grind (arith, nat_tests) in rw four refl
-
-early_checkpoint : (call : ℕ) (blow : Blow) (fill : List ℕ) → call ≤ 8 → is_checkpointed (strike_at call blow fill) ≡ false
-early_checkpoint call Fails fill le = grind (arith, nat_tests)
-early_checkpoint call Stops fill le =
-    let ten : nat_lt 10 call ≡ false = grind (arith, nat_tests) in
-    let nine : nat_le 9 call ≡ false = grind (arith, nat_tests) in
-    rw (ten, nine) refl
 
 -- ---- the account of a commit
 

@@ -17,7 +17,7 @@ use Rattle.cg_step.specs.Following.{Follows}
 use Rattle.cg_store.specs.Answers.{IsRefused, EachMoment}
 use Rattle.cg_store.specs.Calls.{Whether, Commits, Keeps, EndsWritten, IsEither, IsOneOfThree, paired}
 use Rattle.cg_store.specs.EndingLaws.{commit_stands, commit_is_written, keep_stands, keep_is_not_written, ends_long, ends_short, ends_failed, event_moments}
-use Rattle.cg_store.specs.MomentLaws.{stands_once, weakened, leaves_first}
+use Rattle.cg_store.specs.MomentLaws.{stands_once, leaves_first}
 use Rattle.cg_store.specs.Kept.{Kept}
 use Rattle.cg_store.specs.Stands.{Standing, Stands, disk_of, committed, checkpointed}
 use Rattle.cg_store.specs.declared.errors.CommitErr.{CommitErr}
@@ -30,6 +30,7 @@ use Rattle.cg_engine.specs.Ending.{MayEnd, MaySave, MayGoOn, up, wreck_of, falle
 use Rattle.cg_engine.specs.declared.answers.Handled.{Handled}
 use Rattle.cg_engine.specs.declared.answers.Handled.TheVariants as handled
 use Rattle.cg_engine.specs.declared.wreck.Last.{Last}
+use Rattle.cg_journal.specs.ViewLaws.{weakened}
 
 -- ---- the disk of a store that is given up
 

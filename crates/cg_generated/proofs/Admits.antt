@@ -19,7 +19,8 @@ use Rattle.cg_agree.specs.Admission.{unknown, has_left, already_up, takes_part, 
 use Rattle.cg_generated.proofs.Calm.{CalmState}
 use Rattle.cg_generated.proofs.CalmEnds.{CalmLife}
 use Rattle.cg_agree.specs.PhaseLaws.{phase_at, phase-where}
-use Rattle.cg_generated.proofs.WorldStands.{seat_in, StandsIn}
+use Rattle.cg_generated.proofs.WorldStands.{StandsIn}
+use Rattle.cg_agree.specs.SeatLaws.{seat_in}
 
 -- ---- lists of tests
 

@@ -1,8 +1,8 @@
 -- Who of a world has begun, who is up and in which phase, where all is calm: what a change of one seat and a turn make of that.
-use Rattle.std.proofs.Common.{◌≡◌, ℕ, Bool, true, false, ◌||◌, cond, List, [], ◌∷◌, fold, find, Option, Some, None, is_some, option_and_then, refl, sym, ap, subst, ◌∙◌, ⊎_elim, eqb-true, nat_lt, if◌then◌else◌}
+use Rattle.std.proofs.Common.{◌≡◌, ℕ, Bool, true, false, ◌||◌, cond, List, [], ◌∷◌, fold, Option, Some, None, is_some, option_and_then, refl, sym, ap, subst, ◌∙◌, ⊎_elim, eqb-true}
 use Rattle.std.specs.Prelude.{◌==◌, IfSome}
 use Rattle.std.specs.Option.{option_map_or}
-use Rattle.std.proofs.lemmas.Bool.{cond_both, cond-true, cond-false, cases_Bool, ne_eqb, eqb-false, or_cases}
+use Rattle.std.proofs.lemmas.Bool.{cond_both, cond-true, cond-false, cases_Bool, or_cases}
 use Rattle.cg_base.specs.declared.weighted.Weighted.{Weighted}
 use Rattle.cg_base.specs.Sets.{has}
 use Rattle.cg_wire.specs.declared.message.Msg.{Msg}
@@ -23,35 +23,12 @@ use Rattle.cg_generated.proofs.CalmRows.{CalmInput, step-calm}
 use Rattle.cg_generated.proofs.CalmEnds.{CalmLife, RunsOn, ended-calm, crashed-calm, recovered-calm, fresh-calm}
 use Rattle.cg_agree.specs.PhaseLaws.{Group, where_is, up-place, down-place}
 use Rattle.cg_generated.proofs.GroupStands.{CalmGroup, Keeps, sent-keeps, CalmHanded, up-calm, down-calm}
+use Rattle.cg_agree.specs.SeatLaws.{seat_in, found-seat}
 
 -- ---- seats
 
-abbrev pub seat_in : List Seat → ℕ → Option Seat
-seat_in seats p = find (λ s. s.id == p) seats
-
 abbrev running_in : List Seat → ℕ → Option Replica
 running_in seats p = option_and_then (λ s. running s.life) (seat_in seats p)
-
--- the choices behind a changed seat
-chosen : {X : Type 0} (a b x y : Bool) (new old rest with_new : X) → (a ≡ true → x ≡ y) → (a ≡ false → x ≡ true → y ≡ false) →
-    with_new ≡ cond y new rest → cond a (cond y new rest) (cond b (cond y new (cond x old rest)) (cond x old with_new)) ≡ cond y new (cond x old rest)
-chosen true b x true new old rest with_new s o e = refl
-chosen true b true false new old rest with_new s o e = absurd (let clash : true ≡ false = s refl in cc)
-chosen true b false false new old rest with_new s o e = refl
-chosen false true x y new old rest with_new s o e = refl
-chosen false false true true new old rest with_new s o e = absurd (let clash : true ≡ false = o refl refl in cc)
-chosen false false true false new old rest with_new s o e = refl
-chosen false false false y new old rest with_new s o e = e
-
-found-seat : (seats : List Seat) (new : Seat) (q : ℕ) → seat_in (with_seat seats new) q ≡ (if new.id == q then Some new else seat_in seats q)
-found-seat [] new q = refl
-found-seat (s ∷ seats) new q =
-    at-cond (λ z. seat_in z q) (s.id == new.id) (new ∷ seats) (if nat_lt new.id s.id then new ∷ s ∷ seats else s ∷ with_seat seats new)
-    ∙ ap (cond (s.id == new.id) (seat_in (new ∷ seats) q)) (at-cond (λ z. seat_in z q) (nat_lt new.id s.id) (new ∷ s ∷ seats) (s ∷ with_seat seats new))
-    ∙ chosen (s.id == new.id) (nat_lt new.id s.id) (s.id == q) (new.id == q) (Some new) (Some s) (seat_in seats q) (seat_in (with_seat seats new) q)
-    (λ same. ap (λ z. z == q) (eqb-true s.id new.id same))
-    (λ other here. ne_eqb new.id q (λ e. eqb-false s.id new.id other (eqb-true s.id q here ∙ sym e)))
-    (found-seat seats new q)
 
 -- ---- worlds
 

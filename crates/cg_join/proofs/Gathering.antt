@@ -16,8 +16,9 @@ use Rattle.cg_join.specs.declared.piece.Part.{Part}
 use Rattle.cg_join.specs.declared.piece.Part.TheVariants.{Start, Green, Entry, End}
 use Rattle.cg_join.specs.Gathered.{nothing, with_part, IsGathered}
 use Rattle.cg_join.specs.Limits.{IsPart}
-use Rattle.cg_join.specs.Snapshot.{head_of, parts_of, joined, joined_from}
+use Rattle.cg_join.specs.Snapshot.{head_of, parts_of, joined_from}
 use Rattle.cg_join.proofs.PartLists.{Each-push}
+use Rattle.cg_client.specs.Joined.{joined}
 
 -- ---- entries that ascend, put one after another
 

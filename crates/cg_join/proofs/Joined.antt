@@ -11,7 +11,7 @@ use Rattle.cg_queue.specs.Queue.{QueueView}
 use Rattle.cg_client.specs.Replica.{Held}
 use Rattle.cg_stored.specs.Stored.{stored_of}
 use Rattle.cg_stored.specs.Checkpoint.{Agrees, counts_up, count_to, indexes_of}
-use Rattle.cg_join.specs.Snapshot.{joined, joined_queue}
+use Rattle.cg_client.specs.Joined.{joined, joined_queue}
 
 -- nothing stands behind a number and up to it
 none-above : (n : ℕ) → pointwise nat_eq [] (above_up_to n n) ≡ true

@@ -1,9 +1,6 @@
 mod Variants
-mod ServerFields
-mod ReachedFields
 mod PieceFields
 mod PartLists
 mod Gathering
-mod Rebuilding
 mod Joined
 mod Handed

@@ -11,7 +11,8 @@ use Rattle.cg_join.specs.declared.name.SnapshotName.{SnapshotName}
 use Rattle.cg_join.specs.declared.piece.Part.{Part}
 use Rattle.cg_join.specs.declared.piece.Part.TheVariants.{Start, Green, Entry, End}
 use Rattle.cg_join.specs.Bytes.{piece_bytes, spelled_piece}
-use Rattle.cg_join.specs.Snapshot.{head_of, parts_of, piece_count, with_green_part, with_entry_part, bytes_at}
+use Rattle.cg_join.specs.Snapshot.{head_of, parts_of, with_green_part, with_entry_part, bytes_at}
+use Rattle.cg_client.specs.Joined.{piece_count}
 
 -- ---- limits
 

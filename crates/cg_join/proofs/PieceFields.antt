@@ -36,7 +36,6 @@ use Rattle.cg_join.specs.Limits.{IsSnapshotName, IsLabel, IsHead, IsPart, IsPiec
 use Rattle.cg_join.specs.Bytes.{spelled_snapshot_name, spelled_label, spelled_head, spelled_part, spelled_piece}
 use Rattle.cg_join.specs.Reading.{name_reading, label_reading, head_reading, any_entry_reading, start_reading, green_reading, entry_part_reading, part_of_tag, part_reading, piece_reading}
 use Rattle.cg_join.proofs.Variants.{variant_of_one}
-use Rattle.cg_join.proofs.ReachedFields.{reached_field}
 
 -- ---- the label
 
@@ -65,14 +64,6 @@ label_field =
 abbrev head_is : Primary → ℕ → Reached → Head
 head_is prim attempt_index reached = record { prim = prim; attempt_index = attempt_index; reached = reached }
 
-head_field : IsField IsHead spelled_head head_reading
-unfolding spelled_head head_reading
-head_field =
-    field_three head_is (λ h. h.prim) (λ h. h.attempt_index) (λ h. h.reached) IsPrimary IsNumber IsReached spelled_prim number64 spelled_reached take_prim take_number reached_reading IsHead spelled_head
-    prim_field number_field reached_field
-    (λ h has. (has.prim, has.attempt_index, has.reached, refl, refl))
-    (λ prim attempt_index reached p n r. (record { prim = p; attempt_index = n; reached = r }, refl, refl, refl))
-
 abbrev entry_is : List ℕ → Value → DbEntry
 entry_is key value = record { key = key; value = value }
 
@@ -99,17 +90,6 @@ part_behind End = []
 -- a part with that tag
 abbrev Brings : ℕ → Part → Type 0
 Brings tag p = IsPart p × (part_tag p ≡ tag)
-
-start_field : IsField (Brings 1) part_behind start_reading
-unfolding start_reading
-start_field =
-    variant_of_one Start IsHead spelled_head head_reading (Brings 1) part_behind head_field (λ head h. ((h, refl), refl)) parts
-  where
-    parts : (p : Part) → Brings 1 p → (head : Head) × IsHead head × (Start head ≡ p)
-    parts (Start head) has = (head, has.0, refl)
-    parts (Green action) has = absurd (omega arith)
-    parts (Entry entry) has = absurd (omega arith)
-    parts End has = absurd (omega arith)
 
 entry_part_field : IsField (Brings 3) part_behind entry_part_reading
 unfolding entry_part_reading
@@ -139,9 +119,28 @@ end_field =
     parts (Entry entry) has = absurd (omega arith)
     parts End has = refl
 
--- ---- parts and pieces; what is an action is the law of the crate of actions
+-- ---- parts and pieces; what is an action, and how far greens reach, are laws of the crates below
 
-module _ (action_field : IsField IsAction spelled_action action_reading) where
+module _ (action_field : IsField IsAction spelled_action action_reading) (reached_field : IsField IsReached spelled_reached reached_reading) where
+  head_field : IsField IsHead spelled_head head_reading
+  unfolding spelled_head head_reading
+  head_field =
+      field_three head_is (λ h. h.prim) (λ h. h.attempt_index) (λ h. h.reached) IsPrimary IsNumber IsReached spelled_prim number64 spelled_reached take_prim take_number reached_reading IsHead spelled_head
+      prim_field number_field reached_field
+      (λ h has. (has.prim, has.attempt_index, has.reached, refl, refl))
+      (λ prim attempt_index reached p n r. (record { prim = p; attempt_index = n; reached = r }, refl, refl, refl))
+
+  start_field : IsField (Brings 1) part_behind start_reading
+  unfolding start_reading
+  start_field =
+      variant_of_one Start IsHead spelled_head head_reading (Brings 1) part_behind head_field (λ head h. ((h, refl), refl)) parts
+    where
+      parts : (p : Part) → Brings 1 p → (head : Head) × IsHead head × (Start head ≡ p)
+      parts (Start head) has = (head, has.0, refl)
+      parts (Green action) has = absurd (omega arith)
+      parts (Entry entry) has = absurd (omega arith)
+      parts End has = absurd (omega arith)
+
   green_field : IsField (Brings 2) part_behind green_reading
   unfolding green_reading
   green_field =

@@ -14,7 +14,8 @@ use Rattle.cg_join.specs.declared.errors.FinishErr.{FinishErr}
 use Rattle.cg_join.specs.declared.errors.FinishErr.TheVariants.{Lost, NoMemory}
 use Rattle.cg_join.specs.declared.name.SnapshotName.{SnapshotName}
 use Rattle.cg_join.specs.declared.piece.Part.{Part}
-use Rattle.cg_join.specs.Snapshot.{parts_of, joined}
+use Rattle.cg_join.specs.Snapshot.{parts_of}
+use Rattle.cg_client.specs.Joined.{joined}
 
 -- a joiner: its disk, whose it is, the snapshot that it takes, and the parts of the pieces that were taken
 pub record Joining (D : Type 0) : Type 0 where

@@ -3,7 +3,6 @@ use Rattle.std.specs.Prelude.{ℕ, ◌+◌, ◌-◌, false, List, [], ◌∷◌,
 use Rattle.std.specs.Option.{option_map}
 use Rattle.cg_action.specs.declared.action.Action.{Action}
 use Rattle.cg_db.specs.declared.entry.DbEntry.{DbEntry}
-use Rattle.cg_queue.specs.Queue.{QueueView, placed_green}
 use Rattle.cg_client.specs.Replica.{Held}
 use Rattle.cg_stored.specs.Checkpoint.{reached_of}
 use Rattle.cg_join.specs.declared.name.SnapshotName.{SnapshotName}
@@ -19,9 +18,6 @@ head_of h = record { prim = h.prim; attempt_index = h.attempt_index; reached = r
 -- the head, the kept greens in their order, the entries ascending, the end
 abbrev pub parts_of : Held → List Part
 parts_of h = Start (head_of h) ∷ (map Green h.queue.greens ++ (map Entry h.db ++ End ∷ []))
-
-abbrev pub piece_count : Held → ℕ
-piece_count h = 2 + length h.queue.greens + length h.db
 
 -- one part more
 abbrev pub with_green_part : List Part → Action → List Part
@@ -44,15 +40,7 @@ bytes_at s n = option_map (λ part. spelled_piece (piece_at s n part)) (slice_ge
 
 -- ---- the replica that joins
 
--- the actions that it knows: the greens of its representative
-abbrev pub joined_queue : QueueView → QueueView
-joined_queue q = record q { red_cut = q.green_cut; reds = []; yellow = [] }
-
--- what it holds: what its representative has green and knows of primary components
-abbrev pub joined : ℕ → Held → Held
-joined id h = record h { id = id; queue = joined_queue h.queue; yellow_valid = false; own = []; vulnerable = None; buffered = []; owed = [] }
-
--- the same of what the parts bring
+-- what a joiner holds, of what the parts bring
 abbrev pub joined_from : ℕ → Head → List Action → List DbEntry → Held
 joined_from id head greens db =
     record {
@@ -68,7 +56,3 @@ joined_from id head greens db =
       buffered = [];
       owed = [];
     }
-
--- a kept green action behind the others; the database has it already
-abbrev pub with_kept_green : Held → Action → Held
-with_kept_green h a = record h { queue = placed_green h.queue a }

@@ -46,7 +46,8 @@ impl<D: Disk> Joiner<D> {
     ghost use Rattle.cg_client.specs.Replica.{Held};
     ghost use Rattle.cg_db.specs.Map.{Ascends};
     ghost use Rattle.cg_store.specs.Stands.{created};
-    ghost use Rattle.cg_join.specs.Snapshot.{parts_of, joined};
+    ghost use Rattle.cg_client.specs.Joined.{joined};
+    ghost use Rattle.cg_join.specs.Snapshot.{parts_of};
     ghost use Rattle.cg_join.specs.Taking.{Takes};
     ghost use Rattle.cg_join.specs.Finishing.{Finishes, IsSnapshotFor};
 

@@ -9,11 +9,13 @@ ghost use Rattle.cg_join.specs.Bytes.{spelled_piece};
 ghost use Rattle.cg_join.specs.Reading.{piece_reading};
 ghost use Rattle.cg_join.specs.declared.errors.JoinErr.{JoinErr};
 ghost use Rattle.cg_join.specs.declared.piece.Part.{Part};
-ghost use Rattle.cg_join.specs.Snapshot.{Snapshot, parts_of, piece_count, piece_at, bytes_at, joined};
+ghost use Rattle.cg_client.specs.Joined.{joined, piece_count};
+ghost use Rattle.cg_join.specs.Snapshot.{Snapshot, parts_of, piece_at, bytes_at};
 ghost use Rattle.cg_join.specs.Taking.{Takes};
 ghost use Rattle.cg_join.specs.Handing.{Proceeds};
 
 use cg_action::actions_are_exact;
+use cg_stored::parts_are_exact;
 
 /// Pieces are exactly their spellings: each one within the limits is read again as it was spelled, what is read is one
 /// within the limits, spelled so, and no spelling is the front of another one's.
@@ -23,6 +25,7 @@ pub fn pieces_are_exact()
     ensures apart { IsFrontOfNoOther IsPiece spelled_piece }
 {
     actions_are_exact();
+    parts_are_exact();
 }
 
 /// A snapshot has a piece for its head, for each kept green action, for each entry, and for its end.

@@ -16,7 +16,6 @@ mod parts;
 mod piece;
 mod reading;
 mod rebuild;
-mod servers;
 mod snapshot;
 mod taking;
 mod writing;

@@ -4,17 +4,15 @@ ghost use Rattle.std.specs.Prelude.{◌≡◌};
 ghost use Rattle.cg_codec.specs.Reading.{whole};
 ghost use Rattle.cg_codec.specs.Taking.{unread_of, Takes, TakesWithMemory, Decodes};
 ghost use Rattle.cg_action.specs.Reading.{byte_between};
-ghost use Rattle.cg_stored.specs.Reading.{reached_reading};
 ghost use Rattle.cg_join.specs.Reading.{name_reading, label_reading, head_reading, start_reading, green_reading, entry_part_reading, part_of_tag, part_reading, piece_reading};
 ghost use Rattle.cg_join.specs.Laws.{GivesPiece};
 
 use crate::entry::take_entry;
-use crate::servers::take_members;
 use crate::{Head, Label, Part, Piece, SnapshotName, pieces_are_exact};
 use cg_action::take_action;
 use cg_codec::{CodecFault, Fields};
-use cg_records::{take_cut, take_id, take_number, take_prim};
-use cg_stored::Reached;
+use cg_records::{take_id, take_number, take_prim};
+use cg_stored::take_reached;
 use std::alloc::Global;
 
 /// The piece that all of the bytes spell. Where they spell none, the first fault from the left.
@@ -146,23 +144,5 @@ fn take_head(f: &mut Fields<'_>) -> Result<Head, CodecFault>
         prim,
         attempt_index,
         reached,
-    })
-}
-
-#[tactic(auto, unfolding(cg_stored::specs::Reading::reached_reading))]
-fn take_reached(f: &mut Fields<'_>) -> Result<Reached, CodecFault>
-    ensures { TakesWithMemory (λ r. r) reached_reading (unread_of f.old) (unread_of f.new) result }
-{
-    let mut after = *f;
-    let count = take_number(&mut after)?;
-    let white = take_number(&mut after)?;
-    let cut = take_cut(&mut after)?;
-    let members = take_members(&mut after)?;
-    *f = after;
-    Ok(Reached {
-        count,
-        white,
-        cut,
-        members,
     })
 }

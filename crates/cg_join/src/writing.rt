@@ -1,19 +1,16 @@
 //! Pieces in bytes.
 
 ghost use Rattle.std.specs.Prelude.{◌≡◌, ◌++◌, OnOk, IfOk};
-ghost use Rattle.cg_stored.specs.Checkpoint.{spelled_reached};
-ghost use Rattle.cg_stored.specs.Limits.{IsReached};
 ghost use Rattle.cg_join.specs.Bytes.{spelled_label, spelled_head, spelled_part, piece_bytes};
 ghost use Rattle.cg_join.specs.Limits.{IsHead, IsPart};
 
 use crate::entry::put_entry;
-use crate::servers::put_servers;
 use crate::{Head, Label, Part};
 use cg_action::put_action;
 use cg_base::{Bytes, NoMemory};
 use cg_codec::{put_u8, put_u64};
-use cg_records::{put_cut, put_prim, put_set};
-use cg_stored::Reached;
+use cg_records::put_prim;
+use cg_stored::put_reached;
 use std::alloc::Global;
 
 /// The bytes of a piece.
@@ -66,17 +63,12 @@ fn write_head(out: &mut Vec<u8>, head: &Head) -> Result<(), NoMemory>
 {
     put_prim(out, &head.prim)?;
     put_u64(out, head.attempt_index)?;
-    write_reached(out, &head.reached)
-}
-
-#[tactic(auto, unfolding(cg_stored::specs::Checkpoint::spelled_reached))]
-fn write_reached(out: &mut Vec<u8>, reached: &Reached) -> Result<(), NoMemory>
-    requires { IsReached reached.now }
-    ensures { OnOk result (out.new.items ≡ out.old.items ++ spelled_reached reached.now) }
-{
-    put_u64(out, reached.count)?;
-    put_u64(out, reached.white)?;
-    put_cut(out, &reached.cut)?;
-    put_servers(out, &reached.members.servers)?;
-    put_set(out, &reached.members.left)
+    let reached = &head.reached;
+    put_reached(
+        out,
+        reached.count,
+        reached.white,
+        &reached.cut,
+        &reached.members,
+    )
 }

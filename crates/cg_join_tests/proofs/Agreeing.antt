@@ -10,7 +10,7 @@ use Rattle.cg_stored.specs.Checkpoint.{Agrees, parts_of, spelled_parts, spelled_
 use Rattle.cg_stored.specs.Limits.{IsStored, AreParts}
 use Rattle.cg_stored.specs.Parts.{Fits, do_agree, stored_in}
 use Rattle.cg_stored.specs.Reading.{checkpoint_reading}
-use Rattle.cg_join.specs.Snapshot.{joined}
+use Rattle.cg_client.specs.Joined.{joined}
 
 parts-within : (h : Held) → IsStored h → AreParts (parts_of 1 h)
 parts-within h is = record {

@@ -6,7 +6,8 @@ ghost use Rattle.cg_stored.specs.Checkpoint.{parts_of as saved_parts};
 ghost use Rattle.cg_stored.specs.Limits.{AreParts};
 ghost use Rattle.cg_stored.specs.Parts.{do_agree};
 ghost use Rattle.cg_join.specs.Finishing.{IsSnapshotFor};
-ghost use Rattle.cg_join.specs.Snapshot.{parts_of, joined};
+ghost use Rattle.cg_client.specs.Joined.{joined};
+ghost use Rattle.cg_join.specs.Snapshot.{parts_of};
 ghost use Rattle.cg_join_tests.specs.Taking.{IsTaking, with_parts};
 
 use super::giver::{giver, name};

@@ -1,5 +1,5 @@
 -- The two writes that add a record.
-use Rattle.std.proofs.Common.{◌≡◌, ◌≢◌, inl, inr, ⊎_elim, ◌⊎◌, ℕ, ◌+◌, ◌-◌, ◌^◌, ◌≤◌, ◌<◌, true, false, List, [], ◌∷◌, ◌++◌, length, get_or, take, drop, Option, Some, None, IfSome, Result, Ok, Err, refl, sym, ◌∙◌, ap, subst, arith, length-append}
+use Rattle.std.proofs.Common.{◌≡◌, ◌≢◌, inl, inr, ⊎_elim, ◌⊎◌, ℕ, ◌+◌, ◌-◌, ◌^◌, ◌≤◌, ◌<◌, true, false, List, [], ◌∷◌, ◌++◌, length, get_or, take, drop, Option, Some, IfSome, Result, Ok, Err, refl, sym, ◌∙◌, ap, subst, arith, length-append}
 use Rattle.std.specs.Bool.{if◌then◌else◌}
 use Rattle.std.specs.Option.{option_map}
 use Rattle.std.proofs.lemmas.List.{length-take-le}
@@ -7,7 +7,7 @@ use Rattle.std.proofs.lemmas.Bool.{cases_eq}
 use Rattle.std.proofs.lemmas.Bool.Decides.{nat_tests}
 use Rattle.cg_disk.specs.Sides.{Image, bytes_of, opposite}
 use Rattle.cg_disk.specs.Writes.{Torn, TornSide, overwritten}
-use Rattle.cg_disk.specs.State.{SideState, DiskState, Strike, Blow, Fails, Stops, is_unsynced, left_by, shown, synced_side, wrote, wrote_side, Range, filled, unsynced_from}
+use Rattle.cg_disk.specs.State.{SideState, DiskState, Blow, Fails, Stops, is_unsynced, left_by, shown, synced_side, wrote, wrote_side, Range, filled, unsynced_from}
 use Rattle.cg_disk.specs.View.{DiskView, IsView, IsSynced}
 use Rattle.cg_disk.specs.declared.disk.Side.{Side}
 use Rattle.cg_disk.specs.declared.disk.Side.TheVariants.{A, B}
@@ -21,19 +21,11 @@ use Rattle.cg_journal.proofs.Reading.{reads_as}
 use Rattle.cg_journal.proofs.Adding.{same_front, gate_of_same, take_staged, torn_open, torn_shut, gate_written, length-framed, end_within}
 use Rattle.cg_journal.proofs.Both.{put_this, put_other, records_same, records_added}
 use Rattle.cg_journal.proofs.Fills.{left_clean, filled_gate, first_or, gate_range, is_gate, no_places}
+use Rattle.cg_journal.specs.ViewLaws.{some_state, unstruck_more}
 
 gate_early : (blow : Blow) (call : ℕ) (fill : List ℕ) → call ≤ 2 → gate_stands blow call fill ≡ false
 gate_early Fails call fill early = grind (arith, nat_tests)
 gate_early Stops call fill early = grind (arith, nat_tests)
-
--- a state whose strike is told
-pub some_state : (state : Option DiskState) (strike : Option Strike) → option_map (λ (x : DiskState). x.strike) state ≡ Some strike → (s : DiskState) × (state ≡ Some s) × (s.strike ≡ strike)
-some_state None strike is = cc
-some_state (Some s) strike is = (s, refl, cc)
-
--- runs without a strike, one behind the other
-pub unstruck_more : (old mid new : DiskView) → IsUnstruck old mid → IsUnstruck mid new → IsUnstruck old new
-unstruck_more old mid new first second = record { faults = second.faults ∙ first.faults; stays = second.stays ∙ first.stays; ahead = second.ahead }
 
 pub struck_more : (old mid new : DiskView) → IsUnstruck old mid → old.time ≤ mid.time → IsStruck mid new → IsStruck old new
 struck_more old mid new first later second = record {

@@ -2,7 +2,8 @@
 use Rattle.std.proofs.Common.{◌≡◌, ◌≢◌, ℕ, ◌+◌, ◌-◌, ◌^◌, ◌≤◌, ◌<◌, List, [], ◌∷◌, ◌++◌, length, get_or, take, drop, refl, sym, ◌∙◌, ap, arith, append_assoc, length-append, take-append-drop}
 use Rattle.std.proofs.lemmas.List.{take_at, drop_at, drop_more, append-nil, get_or_at}
 use Rattle.cg_disk.specs.Writes.{Torn, overwritten}
-use Rattle.cg_journal.specs.Records.{header, number32, framed, spelled, AreShort, HasRecords}
+use Rattle.cg_codec.specs.Fields.{number32}
+use Rattle.cg_journal.specs.Records.{header, framed, spelled, AreShort, HasRecords}
 use Rattle.cg_journal.proofs.Reading.{length-number32}
 
 -- the front of a side up to the gate behind its records

@@ -10,7 +10,8 @@ use Rattle.cg_disk.specs.View.{DiskView}
 use Rattle.cg_disk.specs.declared.disk.Side.{Side}
 use Rattle.cg_disk.specs.declared.disk.DiskFault.{DiskFault}
 use Rattle.cg_disk.specs.declared.disk.DiskFault.TheVariants.{Failed, NoMemory}
-use Rattle.cg_journal.specs.Records.{header, spelled, number32, HasRecords, records, bodies_of, emptied}
+use Rattle.cg_codec.specs.Fields.{number32}
+use Rattle.cg_journal.specs.Records.{header, spelled, HasRecords, records, bodies_of, emptied}
 use Rattle.cg_journal.specs.Put.{IsPut, IsCut, Puts}
 use Rattle.cg_journal.specs.Adds.{IsEither}
 use Rattle.cg_journal.specs.Closes.{IsClosed, IsLostClosing, Closes}

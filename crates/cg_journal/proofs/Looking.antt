@@ -10,7 +10,8 @@ use Rattle.cg_disk.specs.declared.disk.DiskFault.TheVariants.{Failed, NoMemory}
 use Rattle.cg_journal.specs.Strikes.{IsUnstruck, IsStruck}
 use Rattle.cg_journal.specs.Reads.{IsReadOnly, IsRead, IsReadStruck, IsReadRefused, Reads}
 use Rattle.cg_journal.proofs.Moments.{started, goes_on, chained, armed_at, ahead_of}
-use Rattle.cg_journal.proofs.AddSteps.{unstruck_more, struck_more}
+use Rattle.cg_journal.proofs.AddSteps.{struck_more}
+use Rattle.cg_journal.specs.ViewLaws.{unstruck_more}
 
 -- a call that isn't struck and leaves the strike as it is
 pub passes_unstruck : (done : DiskState → DiskState) → ((s : DiskState) → (done s).strike ≡ s.strike) → (old new : DiskView) → IsView new → calls.Passes done old new → IsUnstruck old new

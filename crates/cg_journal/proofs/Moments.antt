@@ -30,14 +30,6 @@ chained old mid new P Q first second weaker = record {
   before = λ t c le left. ⊎_elim (first.before t c le) (λ q. inr (weaker c q)) (second.before t c (omega (arith, le, first.later)) left);
 }
 
--- a weaker fact
-pub weakened : (old new : DiskView) (P Q : Image → Type 0) → LeavesOnly old new P → ((c : Image) → P c → Q c) → LeavesOnly old new Q
-weakened old new P Q run weaker = record {
-  later = run.later;
-  each = λ c left. weaker c (run.each c left);
-  before = λ t c le left. ⊎_elim (λ past. inl past) (λ p. inr (weaker c p)) (run.before t c le left);
-}
-
 -- nothing torn
 pub torn_same : (place count : ℕ) (bytes : List ℕ) → Torn place count bytes bytes
 torn_same place count bytes = record { before = refl; after = refl; no_shorter = omega arith; no_longer = omega arith }

@@ -21,8 +21,9 @@ use Rattle.cg_journal.proofs.Reading.{reads_as}
 use Rattle.cg_journal.proofs.Adding.{end_within}
 use Rattle.cg_journal.proofs.Closing.{closed_behind}
 use Rattle.cg_journal.proofs.Putting.{wrote_strike}
-use Rattle.cg_journal.proofs.AddSteps.{unstruck_more, struck_more}
+use Rattle.cg_journal.proofs.AddSteps.{struck_more}
 use Rattle.cg_journal.proofs.Looking.{passes_unstruck, unchanged_unstruck, fails_struck}
+use Rattle.cg_journal.specs.ViewLaws.{unstruck_more}
 
 -- a journal of two sides
 pub journal_of : (d : DiskView) (ends : Ends) → Ended d.reads.a ends.a → Ended d.reads.b ends.b → IsAtRest d → IsJournal d ends

@@ -8,7 +8,8 @@ use Rattle.std.proofs.lemmas.List.{drop-drop, drop_more, length-take-le, get_or-
 use Rattle.std.proofs.lemmas.Nat.{be_bytes_4}
 use Rattle.std.proofs.lemmas.Bool.{cases_lt}
 use Rattle.std.proofs.lemmas.Bool.Decides.{nat_tests}
-use Rattle.cg_journal.specs.Records.{header, number32, number_at, spelled, AreShort, HasRecords, body_and, bodies_from, bodies_of}
+use Rattle.cg_codec.specs.Fields.{number32}
+use Rattle.cg_journal.specs.Records.{header, number_at, spelled, AreShort, HasRecords, body_and, bodies_from, bodies_of}
 use Rattle.cg_journal.proofs.Reading.{body_here, length-number32, number_at-number32, from_header}
 use Rattle.cg_journal.proofs.Adding.{spelled-push, short-push}
 

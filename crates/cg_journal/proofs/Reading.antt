@@ -5,7 +5,8 @@ use Rattle.std.specs.Option.{option_map}
 use Rattle.std.proofs.lemmas.List.{take_at, drop_at, drop-drop}
 use Rattle.std.proofs.lemmas.Nat.{from_be_bytes-to_be_bytes_4}
 use Rattle.std.proofs.lemmas.Bool.Decides.{nat_tests}
-use Rattle.cg_journal.specs.Records.{header, number32, number_at, spelled, AreShort, HasRecords, body_and, bodies_from, bodies_of}
+use Rattle.cg_codec.specs.Fields.{number32}
+use Rattle.cg_journal.specs.Records.{header, number_at, spelled, AreShort, HasRecords, body_and, bodies_from, bodies_of}
 
 pub length-number32 : (n : ℕ) → length (number32 n) ≡ 4
 unfolding number32

@@ -8,3 +8,4 @@ pub mod Answers
 pub mod Reads
 pub mod Fresh
 pub mod Opens
+pub mod ViewLaws

@@ -1,8 +1,9 @@
 -- The records of a side of a disk, and of both sides.
 use Rattle.std.specs.Prelude.{◌≡◌, ◌≢◌, ℕ, zero, suc, ◌+◌, ◌^◌, ◌<◌, ◌==◌, nat_lt, List, [], ◌∷◌, ◌++◌, length, take, drop, Option, Some, None, if◌then◌else◌}
 use Rattle.std.specs.Option.{option_map}
-use Rattle.std.specs.Int.{to_be_bytes, from_be_bytes, w32}
+use Rattle.std.specs.Int.{from_be_bytes, w32}
 use Rattle.std.specs.Str.{bytes_eq}
+use Rattle.cg_codec.specs.Fields.{number32}
 use Rattle.cg_disk.specs.Sides.{Image}
 use Rattle.cg_disk.specs.declared.disk.Side.{Side}
 use Rattle.cg_disk.specs.declared.disk.Side.TheVariants.{A, B}
@@ -10,10 +11,6 @@ use Rattle.cg_disk.specs.declared.disk.Side.TheVariants.{A, B}
 -- the eight bytes at the front of a side
 abbrev pub header : List ℕ
 header = 67 ∷ 71 ∷ 82 ∷ 85 ∷ 73 ∷ 84 ∷ 89 ∷ 50 ∷ []
-
--- a number in four bytes, the highest first
-unfoldable pub number32 : ℕ → List ℕ
-number32 n = to_be_bytes w32 n
 
 -- the number that the first four bytes spell
 unfoldable pub number_at : List ℕ → ℕ

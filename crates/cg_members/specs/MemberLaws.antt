@@ -155,14 +155,18 @@ AreApart-raised m count p line are le = record {
   lines = NoLineAbove-with_line count m.servers p line are.lines le;
 }
 
+-- one green action more
+pub AreApart-after_green : (m : Members) (count : ℕ) (a : Action) → AreApart m count → AreApart (after_green m (suc count) a) (suc count)
+AreApart-after_green m count a are =
+    AreApart-raised (after_kind m (suc count) a.kind) (suc count) a.id.creator (min a.green_line (suc count)) (AreApart-after_kind m count a.kind are) (omega arith)
+
 AreApart-after_greens : (m : Members) (count : ℕ) (greens : List Action) → AreApart m count → AreApart (after_greens m (suc count) greens) (count + length greens)
 AreApart-after_greens m count [] are = let same : count ≡ count + 0 = omega arith in rw (← same) are
 AreApart-after_greens m count (a ∷ greens) are =
     let next : suc count + length greens ≡ count + suc (length greens) = omega arith in
-    let one = AreApart-raised (after_kind m (suc count) a.kind) (suc count) a.id.creator (min a.green_line (suc count)) (AreApart-after_kind m count a.kind are) (omega arith) in
-    rw (← next) (AreApart-after_greens (after_green m (suc count) a) (suc count) greens one)
+    rw (← next) (AreApart-after_greens (after_green m (suc count) a) (suc count) greens (AreApart-after_green m count a are))
 
-AreApart-starting : (set : List Weighted) → AreApart (starting set) 0
+pub AreApart-starting : (set : List Weighted) → AreApart (starting set) 0
 AreApart-starting set = record { apart = λ p here. refl; lines = none set }
   where
     none : (set : List Weighted) → NoLineAbove 0 (map first_line set)

@@ -54,14 +54,14 @@ Follows-le c from last (a ∷ greens) follows = elim (cases_eq a.id.creator c) [
   | inr apart ↦ Follows-le c from last greens (rw (ne_eqb a.id.creator c apart) at follows)
 ]
 
-pub Follows-count : (c slot from last : ℕ) (greens : List Action) → Follows c from last greens → from + length (positions_of c slot greens) ≡ suc last
-Follows-count c slot from last [] follows = omega arith
-Follows-count c slot from last (a ∷ greens) follows = elim (cases_eq a.id.creator c) [
+pub Follows-count : (c position from last : ℕ) (greens : List Action) → Follows c from last greens → from + length (positions_of c position greens) ≡ suc last
+Follows-count c position from last [] follows = omega arith
+Follows-count c position from last (a ∷ greens) follows = elim (cases_eq a.id.creator c) [
   | inl same ↦
       let here = rw (eq-eqb a.id.creator c same) at follows in
-      let more = Follows-count c (suc slot) (suc from) last greens here.1 in
+      let more = Follows-count c (suc position) (suc from) last greens here.1 in
       rw (eq-eqb a.id.creator c same) (omega arith)
-  | inr apart ↦ rw (ne_eqb a.id.creator c apart) (Follows-count c (suc slot) from last greens (rw (ne_eqb a.id.creator c apart) at follows))
+  | inr apart ↦ rw (ne_eqb a.id.creator c apart) (Follows-count c (suc position) from last greens (rw (ne_eqb a.id.creator c apart) at follows))
 ]
 
 greens-none : (id : ActionId) (c from last : ℕ) (greens : List Action) → Follows c from last greens → id.creator ≡ c → (id.index < from) ⊎ (last < id.index) → named id greens ≡ None
@@ -82,47 +82,47 @@ greens-none id c from last (a ∷ greens) follows creator outside = elim (cases_
   | inr apart ↦ named-skips id a greens (inl (λ e. apart (e ∙ creator))) ∙ greens-none id c from last greens (rw (ne_eqb a.id.creator c apart) at follows) creator outside
 ]
 
--- where a green stands among those that begin at a place
-pub record StandsAt (id : ActionId) (greens : List Action) (slot spot : ℕ) : Type 0 where
-  pub behind : slot ≤ spot
-  pub found : named id greens ≡ slice_get greens (spot - slot)
+-- where a green stands among those that begin at a position
+pub record StandsAt (id : ActionId) (greens : List Action) (position spot : ℕ) : Type 0 where
+  pub behind : position ≤ spot
+  pub found : named id greens ≡ slice_get greens (spot - position)
 
 same_some : (x y : ℕ) → Some x ≡ Some y → x ≡ y
 same_some x y e = cc
 
-stands-later : (id : ActionId) (a : Action) (greens : List Action) (slot spot : ℕ) → StandsAt id greens (suc slot) spot → (a.id.creator ≢ id.creator) ⊎ (a.id.index ≢ id.index) → StandsAt id (a ∷ greens) slot spot
-stands-later id a greens slot spot rest apart =
+stands-later : (id : ActionId) (a : Action) (greens : List Action) (position spot : ℕ) → StandsAt id greens (suc position) spot → (a.id.creator ≢ id.creator) ⊎ (a.id.index ≢ id.index) → StandsAt id (a ∷ greens) position spot
+stands-later id a greens position spot rest apart =
     let le = rest.behind in
-    let next : spot - slot ≡ suc (spot - suc slot) = omega arith in
+    let next : spot - position ≡ suc (spot - suc position) = omega arith in
     record { behind = omega arith; found = named-skips id a greens apart ∙ rest.found ∙ ap (slice_get (a ∷ greens)) (sym next) }
 
-stands-here : (id : ActionId) (a : Action) (greens : List Action) (slot spot : ℕ) → Some slot ≡ Some spot → a.id.creator ≡ id.creator → a.id.index ≡ id.index → StandsAt id (a ∷ greens) slot spot
-stands-here id a greens slot spot is_first creators indexes =
-    let here : slot ≡ spot = same_some slot spot is_first in
-    let none : spot - slot ≡ 0 = omega arith in
+stands-here : (id : ActionId) (a : Action) (greens : List Action) (position spot : ℕ) → Some position ≡ Some spot → a.id.creator ≡ id.creator → a.id.index ≡ id.index → StandsAt id (a ∷ greens) position spot
+stands-here id a greens position spot is_first creators indexes =
+    let here : position ≡ spot = same_some position spot is_first in
+    let none : spot - position ≡ 0 = omega arith in
     record { behind = omega arith; found = named-first id a greens creators indexes ∙ ap (slice_get (a ∷ greens)) (sym none) }
 
 nothing-there : (spot : ℕ) → None ≡ Some spot → ⊥
 nothing-there spot e = cc
 
--- the own one is at the place, or further back
-stands-own : (id : ActionId) (c slot from : ℕ) (a : Action) (greens : List Action) (i spot : ℕ) → id.creator ≡ c → id.index ≡ from + i → a.id.creator ≡ c → a.id.index ≡ from
-    → slice_get (slot ∷ positions_of c (suc slot) greens) i ≡ Some spot → ((j : ℕ) → id.index ≡ suc from + j → slice_get (positions_of c (suc slot) greens) j ≡ Some spot → StandsAt id greens (suc slot) spot)
-    → StandsAt id (a ∷ greens) slot spot
-stands-own id c slot from a greens zero spot creator index same own there rest = stands-here id a greens slot spot there (same ∙ sym creator) (omega arith)
-stands-own id c slot from a greens (suc j) spot creator index same own there rest = stands-later id a greens slot spot (rest j (omega arith) there) (inr (λ e. omega arith))
+-- the own one is at the position, or further back
+stands-own : (id : ActionId) (c position from : ℕ) (a : Action) (greens : List Action) (i spot : ℕ) → id.creator ≡ c → id.index ≡ from + i → a.id.creator ≡ c → a.id.index ≡ from
+    → slice_get (position ∷ positions_of c (suc position) greens) i ≡ Some spot → ((j : ℕ) → id.index ≡ suc from + j → slice_get (positions_of c (suc position) greens) j ≡ Some spot → StandsAt id greens (suc position) spot)
+    → StandsAt id (a ∷ greens) position spot
+stands-own id c position from a greens zero spot creator index same own there rest = stands-here id a greens position spot there (same ∙ sym creator) (omega arith)
+stands-own id c position from a greens (suc j) spot creator index same own there rest = stands-later id a greens position spot (rest j (omega arith) there) (inr (λ e. omega arith))
 
-pub greens-found : (id : ActionId) (c slot from last : ℕ) (greens : List Action) (i spot : ℕ) → Follows c from last greens → id.creator ≡ c → id.index ≡ from + i
-    → slice_get (positions_of c slot greens) i ≡ Some spot → StandsAt id greens slot spot
-greens-found id c slot from last [] i spot follows creator index there = absurd (nothing-there spot there)
-greens-found id c slot from last (a ∷ greens) i spot follows creator index there = elim (cases_eq a.id.creator c) [
+pub greens-found : (id : ActionId) (c position from last : ℕ) (greens : List Action) (i spot : ℕ) → Follows c from last greens → id.creator ≡ c → id.index ≡ from + i
+    → slice_get (positions_of c position greens) i ≡ Some spot → StandsAt id greens position spot
+greens-found id c position from last [] i spot follows creator index there = absurd (nothing-there spot there)
+greens-found id c position from last (a ∷ greens) i spot follows creator index there = elim (cases_eq a.id.creator c) [
   | inl same ↦
       let here = rw (eq-eqb a.id.creator c same) at follows in
       let spots = rw (eq-eqb a.id.creator c same) at there in
-      stands-own id c slot from a greens i spot creator index same here.0 spots (λ j at_later later. greens-found id c (suc slot) (suc from) last greens j spot here.1 creator at_later later)
+      stands-own id c position from a greens i spot creator index same here.0 spots (λ j at_later later. greens-found id c (suc position) (suc from) last greens j spot here.1 creator at_later later)
   | inr apart ↦
-      let rest = greens-found id c (suc slot) from last greens i spot (rw (ne_eqb a.id.creator c apart) at follows) creator index (rw (ne_eqb a.id.creator c apart) at there) in
-      stands-later id a greens slot spot rest (inl (λ e. apart (e ∙ creator)))
+      let rest = greens-found id c (suc position) from last greens i spot (rw (ne_eqb a.id.creator c apart) at follows) creator index (rw (ne_eqb a.id.creator c apart) at there) in
+      stands-later id a greens position spot rest (inl (λ e. apart (e ∙ creator)))
 ]
 
 -- ---- reds
@@ -213,7 +213,7 @@ module _ (b : Parts) (id : ActionId) (sound : IsSound b) (is_id : IsId id.creato
 
   pub found-green : (i spot : ℕ) → id.index ≤ green_index → i + suc (green_index - id.index) ≡ length (b.positions (lane_of id)) → slice_get (b.positions (lane_of id)) i ≡ Some spot
       → (suc b.white ≤ spot) × (action_of (seen b) id ≡ slice_get b.greens (spot - suc b.white))
-  found-green i spot le at_place there =
+  found-green i spot le at_index there =
       let own = has_lane id is_id in
       let lane = sound.lanes (lane_of id) own.within in
       let count = kept-count in
@@ -224,8 +224,8 @@ module _ (b : Parts) (id : ActionId) (sound : IsSound b) (is_id : IsId id.creato
 -- ---- whether a name is one of a red
 
 module _ (b : Parts) (id : ActionId) (sound : IsSound b) (is_id : IsId id.creator) where
-  place_there : index_in b.green_cut (suc (lane_of id)) ≡ index_in b.green_cut id.creator
-  place_there = ap (index_in b.green_cut) (has_lane id is_id).creator
+  cut_there : index_in b.green_cut (suc (lane_of id)) ≡ index_in b.green_cut id.creator
+  cut_there = ap (index_in b.green_cut) (has_lane id is_id).creator
 
   pub red-not : id.index ≤ index_in b.green_cut id.creator → names (names_of (all_reds b.reds)) id ≡ false
   red-not le = false_from_ne_true (names (names_of (all_reds b.reds)) id) (λ there.
@@ -238,7 +238,7 @@ module _ (b : Parts) (id : ActionId) (sound : IsSound b) (is_id : IsId id.creato
   pub red-test : (i : ℕ) → id.index ≡ suc (index_in b.green_cut id.creator) + i → nat_lt i (length (b.reds (lane_of id))) ≡ names (names_of (all_reds b.reds)) id
   red-test i index =
       let own = has_lane id is_id in
-      let green = place_there in
+      let green = cut_there in
       elim (cases_lt i (length (b.reds (lane_of id)))) [
         | inl lt ↦ lt-ltb i (length (b.reds (lane_of id))) lt ∙ sym (names-all b.reds (low_of b) (runs_of b sound) (lane_of id) i id own.within (sym own.creator) (omega arith) lt)
         | inr le ↦ le-ltb i (length (b.reds (lane_of id))) le ∙ sym (false_from_ne_true (names (names_of (all_reds b.reds)) id) (λ there.

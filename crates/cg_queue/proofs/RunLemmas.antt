@@ -65,21 +65,21 @@ Follows-others c from last (x ∷ greens) a follows other = elim (cases_eq x.id.
       rw (ne_eqb x.id.creator c apart) (Follows-others c from last greens a here other)
 ]
 
-pub positions_of-more : (c slot : ℕ) (greens : List Action) (a : Action) → a.id.creator ≡ c → positions_of c slot (greens ++ a ∷ []) ≡ positions_of c slot greens ++ (slot + length greens) ∷ []
-positions_of-more c slot [] a creator = rw (eq-eqb a.id.creator c creator) (let none : slot ≡ slot + 0 = omega arith in ap (λ n. n ∷ []) none)
-positions_of-more c slot (x ∷ greens) a creator =
-    let next : suc slot + length greens ≡ slot + suc (length greens) = omega arith in
-    let rest = positions_of-more c (suc slot) greens a creator ∙ ap (λ n. positions_of c (suc slot) greens ++ n ∷ []) next in
+pub positions_of-more : (c position : ℕ) (greens : List Action) (a : Action) → a.id.creator ≡ c → positions_of c position (greens ++ a ∷ []) ≡ positions_of c position greens ++ (position + length greens) ∷ []
+positions_of-more c position [] a creator = rw (eq-eqb a.id.creator c creator) (let none : position ≡ position + 0 = omega arith in ap (λ n. n ∷ []) none)
+positions_of-more c position (x ∷ greens) a creator =
+    let next : suc position + length greens ≡ position + suc (length greens) = omega arith in
+    let rest = positions_of-more c (suc position) greens a creator ∙ ap (λ n. positions_of c (suc position) greens ++ n ∷ []) next in
     elim (cases_eq x.id.creator c) [
-      | inl same ↦ rw (eq-eqb x.id.creator c same) (ap (λ xs. slot ∷ xs) rest)
+      | inl same ↦ rw (eq-eqb x.id.creator c same) (ap (λ xs. position ∷ xs) rest)
       | inr apart ↦ rw (ne_eqb x.id.creator c apart) rest
     ]
 
-pub positions_of-others : (c slot : ℕ) (greens : List Action) (a : Action) → a.id.creator ≢ c → positions_of c slot (greens ++ a ∷ []) ≡ positions_of c slot greens
-positions_of-others c slot [] a other = rw (ne_eqb a.id.creator c other)
-positions_of-others c slot (x ∷ greens) a other =
-    let rest = positions_of-others c (suc slot) greens a other in
+pub positions_of-others : (c position : ℕ) (greens : List Action) (a : Action) → a.id.creator ≢ c → positions_of c position (greens ++ a ∷ []) ≡ positions_of c position greens
+positions_of-others c position [] a other = rw (ne_eqb a.id.creator c other)
+positions_of-others c position (x ∷ greens) a other =
+    let rest = positions_of-others c (suc position) greens a other in
     elim (cases_eq x.id.creator c) [
-      | inl same ↦ rw (eq-eqb x.id.creator c same) (ap (λ xs. slot ∷ xs) rest)
+      | inl same ↦ rw (eq-eqb x.id.creator c same) (ap (λ xs. position ∷ xs) rest)
       | inr apart ↦ rw (ne_eqb x.id.creator c apart) rest
     ]

@@ -354,8 +354,8 @@ cleared-seen b = rw (filter-twice (is_above b.green_cut) b.yellow)
 
 -- ---- the first green is discarded
 
-first-positions : (c slot : ℕ) (a : Action) (rest : List Action) → a.id.creator ≡ c → positions_of c slot (a ∷ rest) ≡ slot ∷ positions_of c (suc slot) rest
-first-positions c slot a rest same = rw (eq-eqb a.id.creator c same)
+first-positions : (c position : ℕ) (a : Action) (rest : List Action) → a.id.creator ≡ c → positions_of c position (a ∷ rest) ≡ position ∷ positions_of c (suc position) rest
+first-positions c position a rest same = rw (eq-eqb a.id.creator c same)
 
 module _ (b : Parts) (sound : IsSound b) (a : Action) (rest : List Action) (whole : b.greens ≡ a ∷ rest) (is_id : IsId a.id.creator) where
   dropped-lane : (k : ℕ) → k < 32 → IsLane (dropped_from b (a ∷ rest)) k

@@ -84,9 +84,9 @@ Follows creator from last (a ∷ greens) =
 
 -- where the creator's actions stand among those that begin at a position of the order
 abbrev pub positions_of : ℕ → ℕ → List Action → List ℕ
-positions_of creator slot [] = []
-positions_of creator slot (a ∷ greens) =
-    if a.id.creator == creator then slot ∷ positions_of creator (suc slot) greens else positions_of creator (suc slot) greens
+positions_of creator position [] = []
+positions_of creator position (a ∷ greens) =
+    if a.id.creator == creator then position ∷ positions_of creator (suc position) greens else positions_of creator (suc position) greens
 
 -- each flag says whether the action's name is in the list
 abbrev pub Flagged : List ActionId → List Red → Type 0

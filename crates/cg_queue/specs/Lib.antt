@@ -3,3 +3,4 @@ pub mod Queue
 pub mod Body
 pub mod MarkLaws
 pub mod Shown
+pub mod NameLaws

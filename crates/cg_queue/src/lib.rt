@@ -10,8 +10,10 @@
 mod body;
 mod lanes;
 mod mark;
+mod next;
 mod queue;
 mod red;
 
 pub use mark::{Mark, QueueFault};
+pub use next::is_next;
 pub use queue::Queue;

@@ -14,7 +14,7 @@ use Rattle.cg_store.specs.Stands.{Stands, created}
 use Rattle.cg_engine.specs.Engines.{Fallen}
 use Rattle.cg_join.specs.Finishing.{Joining}
 use Rattle.cg_join.specs.Snapshot.{Snapshot as JoinSnapshot, parts_of}
-use Rattle.cg_agree.specs.Step.{joined, piece_count}
+use Rattle.cg_agree.specs.Step.{joined}
 use Rattle.cg_agree.specs.World.{Up, Snapshot}
 use Rattle.cg_seat.specs.Calls.{seat, arrived, risen}
 use Rattle.cg_seat.specs.Copies.{IsTaking}
@@ -22,6 +22,7 @@ use Rattle.cg_seat.specs.Resting.{IsResting}
 use Rattle.cg_seat.specs.Seen.{disk_left, down_seen}
 use Rattle.cg_seat.specs.SeenLaws.{disk-left}
 use Rattle.cg_seat.proofs.Beginning.{stays_unarmed}
+use Rattle.cg_client.specs.Joined.{piece_count}
 
 -- all parts of a snapshot were taken
 pub all-taken : {D : Type 0} (s : JoinSnapshot) (j : Joining D) (h : Held) → IsTaking s j → s.parts ≡ parts_of h → length j.parts ≡ piece_count h → ((h : Held) → length (parts_of h) ≡ piece_count h) →

@@ -1,6 +1,6 @@
 -- Knowing an action before others become green, or behind them, leaves the same.
 use Rattle.std.proofs.Common.{◌≡◌, suc, ◌<◌, ◌≤◌, List, [], ◌∷◌, ◌++◌, find, cond, Bool, true, false, not, ◌&&◌, ◌||◌, Option, Some, None, refl, sym, ap, ap₂, ◌∙◌, subst, arith, inl, inr, eqb-true, nat_lt, nat_le, leb-true}
-use Rattle.std.specs.Prelude.{◌==◌, option_and_then}
+use Rattle.std.specs.Prelude.{◌==◌, option_and_then, IfSome}
 use Rattle.std.specs.Option.{unwrap_or}
 use Rattle.std.proofs.lemmas.Bool.{cases_eq, cases_Bool, eq-eqb, and_parts, and_from}
 use Rattle.std.proofs.lemmas.Option.{none-some}
@@ -15,12 +15,13 @@ use Rattle.cg_stored.specs.Stored.{Stored}
 use Rattle.cg_stored.specs.Change.{fits_known, turn_green, green_by_name, all_of}
 use Rattle.cg_step.specs.Holds.{cut_behind, ascend, Holds}
 use Rattle.cg_base.specs.IdLaws.{same_id-false}
-use Rattle.cg_step.proofs.IdFacts.{same-from, same-back}
-use Rattle.cg_step.proofs.CutRaise.{raise-commute, index-rises, raise-below}
-use Rattle.cg_step.proofs.RunMarks.{run-names, ascend-less, ascend-filter-from}
-use Rattle.cg_step.proofs.HoldsMarks.{known_by, own-same, rising-red, holds-known, holds-green, names-without}
+use Rattle.cg_queue.specs.NameLaws.{same_id-back, found-named}
+use Rattle.cg_step.specs.CutRaiseLaws.{raise-commute, index-rises, raise-below}
+use Rattle.cg_step.specs.RunMarkLaws.{run-names, ascend-less, ascend-filter-from}
+use Rattle.cg_step.proofs.HoldsMarks.{known_by, own-same, rising-red, holds-known, holds-green}
 use Rattle.cg_step.proofs.Rows.{find-red}
 use Rattle.cg_step.proofs.Knowing.{fits-next}
+use Rattle.cg_step.specs.HeldLaws.{names-without}
 
 pub some-same : {A : Type 0} (x y : A) → Some x ≡ Some y → x ≡ y
 some-same x y e = ap (λ o. unwrap_or o x) e
@@ -55,17 +56,13 @@ greened-to s id b found next =
 
 -- ---- what is found
 
-found-named : (xs : List Action) (id : ActionId) (b : Action) → find (λ a. same_id a.id id) xs ≡ Some b → b.id ≡ id
-found-named [] id b e = absurd (none-some b e)
-found-named (x ∷ xs) id b e = elim (cases_Bool (same_id x.id id)) [
-  | inl here ↦ ap (λ (a : Action). a.id) (sym (some-same x b (rw here at e))) ∙ same-from x.id id here
-  | inr other ↦ found-named xs id b (rw other at e)
-]
+named-so : (xs : List Action) (id : ActionId) (b : Action) → find (λ a. same_id a.id id) xs ≡ Some b → b.id ≡ id
+named-so xs id b e = subst (λ (o : Option Action). IfSome o (λ a. a.id ≡ id)) e (found-named xs id)
 
 names-found : (xs : List Action) (id : ActionId) (b : Action) → find (λ a. same_id a.id id) xs ≡ Some b → names (names_of xs) id ≡ true
 names-found [] id b e = absurd (none-some b e)
 names-found (x ∷ xs) id b e = elim (cases_Bool (same_id x.id id)) [
-  | inl here ↦ rw (same-back x.id id here) refl
+  | inl here ↦ rw (same_id-back x.id id here) refl
   | inr other ↦ or-second (same_id id x.id) (names (names_of xs) id) (names-found xs id b (rw other at e))
 ]
   where
@@ -83,7 +80,7 @@ red-within h id is red =
 greened-known : (h : Held) (id : ActionId) (b : Action) → Holds h → action_of h.queue id ≡ Some b → b.id.index ≡ suc (index_in h.queue.green_cut b.id.creator) →
     b.id.index ≤ index_in h.queue.red_cut b.id.creator
 greened-known h id b is found next =
-    let named : b.id ≡ id = found-named (h.queue.greens ++ h.queue.reds) id b found in
+    let named : b.id ≡ id = named-so (h.queue.greens ++ h.queue.reds) id b found in
     let above : index_in h.queue.green_cut id.creator < id.index =
     subst (λ (x : ActionId). index_in h.queue.green_cut x.creator < x.index) named (let lt : index_in h.queue.green_cut b.id.creator < b.id.index = omega arith in lt) in
     let among : find (λ a. same_id a.id id) h.queue.reds ≡ Some b =
@@ -157,7 +154,7 @@ commutes y b id a is found next fits =
           same_id-false a.id b.id (inr (λ e. omega arith))
       | inr differ ↦ same_id-false a.id b.id (inl differ)
     ] in
-    let named : b.id ≡ id = found-named (y.queue.greens ++ y.queue.reds) id b found in
+    let named : b.id ≡ id = named-so (y.queue.greens ++ y.queue.reds) id b found in
     let still : action_of (known_by y a).queue id ≡ Some b =
     find-beside y.queue.greens y.queue.reds a id (ap (same_id a.id) (sym named) ∙ apart) ∙ found in
     let reached : index_in rc b.id.creator ≤ index_in (raise rc a.id) b.id.creator = index-rises rc a.id (rising-red y is) b.id.creator in

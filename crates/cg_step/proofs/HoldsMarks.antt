@@ -1,9 +1,8 @@
 -- What holds of what a replica holds, behind a red mark and behind a green one.
-use Rattle.std.proofs.Common.{◌⊎◌, ◌≡◌, ℕ, suc, ◌+◌, ◌<◌, ◌≤◌, ◌≢◌, List, [], ◌∷◌, ◌++◌, length, Bool, true, false, not, ◌||◌, max, fold, refl, sym, ap, ◌∙◌, subst, arith, inl, inr, eqb-true, length-append, sum_by}
+use Rattle.std.proofs.Common.{◌≡◌, ℕ, suc, ◌+◌, ◌<◌, ◌≤◌, ◌≢◌, List, [], ◌∷◌, ◌++◌, length, Bool, true, false, not, ◌||◌, max, fold, refl, sym, ap, ◌∙◌, subst, arith, inl, inr, length-append, sum_by}
 use Rattle.std.specs.Prelude.{◌==◌}
 use Rattle.std.specs.List.{list_all}
 use Rattle.std.proofs.lemmas.Bool.{cases_eq, cases_order, cases_Bool, eq-eqb, ne_eqb, lt-ltb, le-ltb, and_parts, and_from}
-use Rattle.std.proofs.lemmas.List.{map-append}
 use Rattle.cg_base.specs.declared.action_id.ActionId.{ActionId}
 use Rattle.cg_base.specs.Ids.{same_id, id_before, names}
 use Rattle.cg_base.specs.Cuts.{index_in, with_top, raise}
@@ -16,35 +15,19 @@ use Rattle.cg_client.specs.Marks.{after_first, with_green}
 use Rattle.cg_stored.specs.Change.{is_distinct}
 use Rattle.cg_stored.specs.Checkpoint.{indexes_of}
 use Rattle.cg_step.specs.Holds.{run_on, cut_behind, ascend, Rising, CountsTo, Holds}
-use Rattle.cg_base.specs.IdLaws.{same_id-true, same_id-false}
+use Rattle.cg_base.specs.IdLaws.{same_id-false}
 use Rattle.cg_base.specs.CutLaws.{raise-some}
-use Rattle.cg_step.proofs.IdFacts.{same_name, same-from}
-use Rattle.cg_step.proofs.CutRaise.{rising-raise, rising-behind, behind-rises, index-same, index-other, raise-below}
-use Rattle.cg_step.proofs.RunMarks.{run-head, run-rest, lacks, run-other, without, taken-out, inserted, run-inserted, behind-inserted, ascend-inserted, ascend-filter, names-new}
-use Rattle.cg_step.proofs.Apart.{apart-green}
+use Rattle.cg_queue.specs.NameLaws.{same_id-is}
+use Rattle.cg_step.specs.CutRaiseLaws.{rising-raise, rising-behind, behind-rises, index-same, index-other}
+use Rattle.cg_step.specs.RunMarkLaws.{run-head, without, taken-out, inserted, run-inserted, behind-inserted, ascend-inserted, ascend-filter, names-new}
+use Rattle.cg_members.specs.MemberLaws.{AreApart-after_green}
+use Rattle.cg_step.specs.HeldLaws.{names-with_red, names-without, are-after, after-there, own-after}
 
 -- what is held behind an action that becomes known
 abbrev pub known_by : Held → Action → Held
 known_by h a = record h { queue = placed_red h.queue a; own = after_first h.own a.id }
 
 -- ---- lists of names
-
-pub names-with_red : (reds : List Action) (a : Action) → names_of (with_red reds a) ≡ inserted (names_of reds) a.id
-names-with_red [] a = refl
-names-with_red (b ∷ reds) a = elim (cases_Bool (id_before a.id b.id)) [
-  | inl before ↦ rw before refl
-  | inr later ↦ rw later (ap (λ ids. b.id ∷ ids) (names-with_red reds a))
-]
-
-pub names-without : (actions : List Action) (id : ActionId) → names_of (without_action actions id) ≡ without id (names_of actions)
-names-without [] id = refl
-names-without (b ∷ actions) id = elim (cases_Bool (same_id b.id id)) [
-  | inl same ↦ rw same (names-without actions id)
-  | inr other ↦ rw other (ap (λ ids. b.id ∷ ids) (names-without actions id))
-]
-
-pub names-behind : (all : List Action) (a : Action) → names_of (all ++ a ∷ []) ≡ names_of all ++ a.id ∷ []
-names-behind all a = map-append (λ (b : Action). b.id) all (a ∷ [])
 
 or-second : (a b : Bool) → b ≡ true → (a || b) ≡ true
 or-second true b e = refl
@@ -66,7 +49,7 @@ names-left : (ids : List ActionId) (id y : ActionId) → same_id y id ≡ false 
 names-left [] id y other there = there
 names-left (x ∷ ids) id y other there = elim (cases_Bool (same_id x id)) [
   | inl taken ↦
-      rw taken (names-left ids id y other (rw (ap (λ z. same_id y z) (same-from x id taken) ∙ other) at there))
+      rw taken (names-left ids id y other (rw (ap (λ z. same_id y z) (same_id-is x id taken) ∙ other) at there))
   | inr stays ↦ rw stays (elim (cases_Bool (same_id y x)) [
     | inl here ↦ rw here refl
     | inr apart ↦ or-second (same_id y x) (names (without id ids) y) (names-left ids id y other (rw apart at there))
@@ -116,55 +99,6 @@ distinct-left id (y ∷ ids) distinct =
     none false e = refl
 
 -- ---- own actions
-
-abbrev pub are_of : ℕ → List Action → Bool
-are_of me own = list_all (λ a. a.id.creator == me) own
-
-are-lacks : (me p : ℕ) (own : List Action) → me ≢ p → are_of me own ≡ true → lacks p (names_of own) ≡ true
-are-lacks me p [] apart mine = refl
-are-lacks me p (a ∷ own) apart mine =
-    let parts = and_parts (a.id.creator == me) (are_of me own) mine in
-    let of_me : a.id.creator ≡ me = eqb-true a.id.creator me parts.0 in
-    and_from (not (a.id.creator == p)) (lacks p (names_of own)) (ap not (ne_eqb a.id.creator p (λ e. apart (sym of_me ∙ e)))) (are-lacks me p own apart parts.1)
-
-are-after : (me : ℕ) (own : List Action) (id : ActionId) → are_of me own ≡ true → are_of me (after_first own id) ≡ true
-are-after me [] id mine = refl
-are-after me (a ∷ own) id mine = elim (cases_Bool (same_id a.id id)) [
-  | inl same ↦ rw same ((and_parts (a.id.creator == me) (are_of me own) mine).1)
-  | inr other ↦ rw other mine
-]
-
-pub after-there : (a : Action) (own : List Action) (id : ActionId) → same_id a.id id ≡ false → after_first (a ∷ own) id ≡ a ∷ own
-after-there a own id other = rw other refl
-
-pub after-here : (a : Action) (own : List Action) (id : ActionId) → same_id a.id id ≡ true → after_first (a ∷ own) id ≡ own
-after-here a own id same = rw same refl
-
--- where a name becomes known that was known, or is the next of its creator, the own actions go on behind it
-own-after : (me : ℕ) (red : List ActionId) (own : List Action) (id : ActionId) → Rising 0 red → run_on red (names_of own) ≡ true → are_of me own ≡ true →
-    id.index ≤ suc (index_in red id.creator) → run_on (raise red id) (names_of (after_first own id)) ≡ true
-own-after me red [] id rising run mine le = refl
-own-after me red (a ∷ own) id rising run mine le =
-    let next : a.id.index ≡ suc (index_in red a.id.creator) = run-head red a.id (names_of own) run in
-    let of_me : a.id.creator ≡ me = eqb-true a.id.creator me (and_parts (a.id.creator == me) (are_of me own) mine).0 in
-    elim (cases_eq a.id.creator id.creator) [
-      | inl same ↦
-          let at_red : index_in red a.id.creator ≡ index_in red id.creator = ap (index_in red) same in
-          elim (cases_order a.id.index id.index) [
-            | inl index ↦
-                ap (λ xs. run_on (raise red id) (names_of xs)) (after-here a own id (same_id-true a.id id same index))
-                ∙ ap (λ x. run_on (raise red x) (names_of own)) (sym (same_name a.id id same index)) ∙ run-rest red a.id (names_of own) run
-            | inr apart ↦
-                ap (λ xs. run_on (raise red id) (names_of xs)) (after-there a own id (same_id-false a.id id (inr (λ e. differ apart e))))
-                ∙ ap (λ c. run_on c (names_of (a ∷ own))) (raise-below red id rising (elim apart [ inl lt ↦ absurd (omega arith) | inr gt ↦ omega arith ])) ∙ run
-          ]
-      | inr apart ↦
-          ap (λ xs. run_on (raise red id) (names_of xs)) (after-there a own id (same_id-false a.id id (inl apart)))
-          ∙ run-other red (names_of (a ∷ own)) id rising (are-lacks me id.creator (a ∷ own) (λ e. apart (of_me ∙ e)) mine) run
-    ]
-  where
-    differ : (a.id.index < id.index) ⊎ (id.index < a.id.index) → a.id.index ≡ id.index → ⊥
-    differ apart e = elim apart [ inl lt ↦ omega arith | inr gt ↦ omega arith ]
 
 -- an own action that is known already isn't the first of those that aren't
 pub own-same : (red : List ActionId) (own : List Action) (id : ActionId) → run_on red (names_of own) ≡ true → id.index ≤ index_in red id.creator → after_first own id ≡ own
@@ -303,7 +237,7 @@ module _ (h : Held) (is : Holds h) where
         yellow = and_from (is_distinct (without a.id h.queue.yellow)) (are_red (names_of (without_action h.queue.reds a.id)) (without a.id h.queue.yellow))
             (distinct-left a.id h.queue.yellow yellow.0)
             (ap (λ ids. are_red ids (without a.id h.queue.yellow)) named ∙ red-left reds a.id h.queue.yellow yellow.1);
-        members = subst (AreApart (after_green h.members (suc (green_count h.queue)) a)) counted (apart-green h.members (green_count h.queue) a is.members);
+        members = subst (AreApart (after_green h.members (suc (green_count h.queue)) a)) counted (AreApart-after_green h.members (green_count h.queue) a is.members);
       }
     where
       counts : (a : Action) → a.id.index ≡ suc (index_in h.queue.green_cut a.id.creator) → (p : ℕ) →

@@ -1,35 +1,33 @@
 -- What holds of what a replica holds, where other things change than its actions: values, own actions, the white count.
-use Rattle.std.proofs.Common.{◌≡◌, ℕ, zero, suc, ◌+◌, ◌-◌, ◌<◌, ◌≤◌, List, [], ◌∷◌, ◌++◌, length, drop, fold, map, max, min, Bool, true, false, not, refl, sym, ap, ◌∙◌, subst, arith, inl, inr, eqb-true, nat_lt, nat_le}
-use Rattle.std.specs.Prelude.{◌==◌, Option, Some}
+use Rattle.std.proofs.Common.{◌≡◌, ℕ, zero, suc, ◌+◌, ◌-◌, ◌≤◌, List, [], ◌∷◌, ◌++◌, length, drop, fold, Bool, true, false, not, refl, sym, ap, ◌∙◌, subst, arith, inl, inr, nat_lt, nat_le}
+use Rattle.std.specs.Prelude.{◌==◌, Option}
 use Rattle.std.specs.Option.{unwrap_or}
 use Rattle.std.specs.List.{list_all}
 use Rattle.std.proofs.lemmas.Bool.{cases_eq, cases_Bool, eq-eqb, le-leb, and_parts, and_from, or_from}
 use Rattle.cg_base.specs.declared.action_id.ActionId.{ActionId}
 use Rattle.cg_base.specs.declared.weighted.Weighted.{Weighted}
 use Rattle.cg_base.specs.Ids.{same_id, names}
-use Rattle.cg_base.specs.Lists.{lesser}
-use Rattle.cg_base.specs.Cuts.{index_in, raise}
+use Rattle.cg_base.specs.Cuts.{index_in}
 use Rattle.cg_action.specs.declared.action.Action.{Action}
 use Rattle.cg_action.specs.declared.action.Kind.{Kind}
-use Rattle.cg_members.specs.declared.server.Server.{Server}
-use Rattle.cg_members.specs.Servers.{white_line, least_line}
-use Rattle.cg_members.specs.Laws.{AreApart, NoLineAbove}
+use Rattle.cg_members.specs.Servers.{white_line}
+use Rattle.cg_members.specs.Laws.{AreApart}
 use Rattle.cg_queue.specs.Queue.{QueueView, names_of, green_count, with_yellow}
 use Rattle.cg_records.specs.declared.primary.Primary.{Primary}
 use Rattle.cg_records.specs.declared.vulnerable.Vulnerable.{Vulnerable}
-use Rattle.cg_client.specs.Replica.{Held, fresh_held, created, last_index}
+use Rattle.cg_client.specs.Replica.{Held, fresh_held, created}
 use Rattle.cg_exchange.specs.PlanEnd.{with_name, usable_names}
 use Rattle.cg_client.specs.Whitening.{IsLineGreen, white_at}
 use Rattle.cg_stored.specs.Stored.{whiten}
 use Rattle.cg_stored.specs.Change.{is_distinct, are_yellow}
 use Rattle.cg_stored.specs.Checkpoint.{indexes_of}
-use Rattle.cg_step.specs.Holds.{run_on, cut_behind, Rising, CountsTo, Holds}
+use Rattle.cg_step.specs.Holds.{run_on, cut_behind, CountsTo, Holds}
 use Rattle.cg_base.specs.IdLaws.{same_id-true, same_id-false}
-use Rattle.cg_step.proofs.CutRaise.{rising-raise, index-same}
-use Rattle.cg_step.proofs.RunFacts.{run_on-next}
-use Rattle.cg_step.proofs.RunMarks.{run-head, run-rest, run-names}
-use Rattle.cg_step.proofs.HoldsMarks.{are_of, are_red, names-behind, rising-red}
-use Rattle.cg_step.proofs.Apart.{apart-starting}
+use Rattle.cg_step.specs.RunLaws.{run_on-next}
+use Rattle.cg_step.specs.RunMarkLaws.{run-names}
+use Rattle.cg_step.proofs.HoldsMarks.{are_red, rising-red}
+use Rattle.cg_members.specs.MemberLaws.{AreApart-starting}
+use Rattle.cg_step.specs.HeldLaws.{are_of, names-behind, created-behind, line-below}
 
 -- what is held with other values
 abbrev pub with_values_of : Held → List ActionId → Bool → Primary → ℕ → Option Vulnerable → List Kind → Held
@@ -138,35 +136,6 @@ yellowed h id is le =
 
 -- ---- own actions
 
--- behind a run of own actions the last index is the creator's
-last-above : (cut : List ActionId) (me : ℕ) (a : Action) (own : List Action) → Rising 0 cut → run_on cut (names_of (a ∷ own)) ≡ true → are_of me (a ∷ own) ≡ true →
-    index_in cut me < last_index (a ∷ own)
-last-above cut me a [] rising run mine =
-    let next : a.id.index ≡ suc (index_in cut a.id.creator) = run-head cut a.id [] run in
-    let of_me : a.id.creator ≡ me = eqb-true a.id.creator me (and_parts (a.id.creator == me) true mine).0 in
-    let here : index_in cut a.id.creator ≡ index_in cut me = ap (index_in cut) of_me in
-    omega arith
-last-above cut me a (b ∷ own) rising run mine =
-    let parts = and_parts (a.id.creator == me) (are_of me (b ∷ own)) mine in
-    let of_me : a.id.creator ≡ me = eqb-true a.id.creator me parts.0 in
-    let reached : index_in (raise cut a.id) me ≡ max (index_in cut me) a.id.index = index-same cut a.id rising me of_me in
-    let rest = last-above (raise cut a.id) me b own (rising-raise cut a.id rising) (run-rest cut a.id (names_of (b ∷ own)) run) parts.1 in
-    omega arith
-
-pub created-behind : (cut : List ActionId) (me : ℕ) (own : List Action) → Rising 0 cut → run_on cut (names_of own) ≡ true → are_of me own ≡ true →
-    index_in (cut_behind cut (names_of own)) me ≡ max (index_in cut me) (last_index own)
-created-behind cut me [] rising run mine = omega arith
-created-behind cut me (a ∷ []) rising run mine =
-    index-same cut a.id rising me (eqb-true a.id.creator me (and_parts (a.id.creator == me) true mine).0)
-created-behind cut me (a ∷ b ∷ own) rising run mine =
-    let parts = and_parts (a.id.creator == me) (are_of me (b ∷ own)) mine in
-    let of_me : a.id.creator ≡ me = eqb-true a.id.creator me parts.0 in
-    let reached : index_in (raise cut a.id) me ≡ max (index_in cut me) a.id.index = index-same cut a.id rising me of_me in
-    let rest_run = run-rest cut a.id (names_of (b ∷ own)) run in
-    let above = last-above (raise cut a.id) me b own (rising-raise cut a.id rising) rest_run parts.1 in
-    let rest = created-behind (raise cut a.id) me (b ∷ own) (rising-raise cut a.id rising) rest_run parts.1 in
-    rest ∙ (let most : max (index_in (raise cut a.id) me) (last_index (b ∷ own)) ≡ max (index_in cut me) (last_index (b ∷ own)) = omega arith in most)
-
 mine-behind : (me : ℕ) (own : List Action) (a : Action) → are_of me own ≡ true → a.id.creator ≡ me → are_of me (own ++ a ∷ []) ≡ true
 mine-behind me [] a mine of_me = and_from (a.id.creator == me) true (eq-eqb a.id.creator me of_me) refl
 mine-behind me (b ∷ own) a mine of_me =
@@ -196,17 +165,6 @@ holds-made h a owed mine next is =
     }
 
 -- ---- the white count
-
-least-below : (n : ℕ) (ns : List ℕ) → unwrap_or (fold lesser (Some n) ns) 0 ≤ n
-least-below n [] = omega arith
-least-below n (k ∷ ns) = let rest = least-below (min k n) ns in omega arith
-
-line-below : (n : ℕ) (servers : List Server) → NoLineAbove n servers → unwrap_or (least_line servers) 0 ≤ n
-line-below n [] lines = omega arith
-line-below n (s ∷ servers) lines =
-    let first : s.line ≤ n = lines.0 in
-    let least : unwrap_or (fold lesser (Some s.line) (map (λ (x : Server). x.line) servers)) 0 ≤ s.line = least-below s.line (map (λ (x : Server). x.line) servers) in
-    omega arith
 
 dropped : (n : ℕ) (xs : List Action) → n ≤ length xs → n + length (drop n xs) ≡ length xs
 dropped zero xs le = omega arith
@@ -266,5 +224,5 @@ holds-fresh id set = record {
   own = refl;
   mine = refl;
   yellow = refl;
-  members = apart-starting set;
+  members = AreApart-starting set;
 }

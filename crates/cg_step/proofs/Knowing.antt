@@ -15,11 +15,12 @@ use Rattle.cg_stored.specs.Change.{fits_known, know}
 use Rattle.cg_step.specs.Holds.{run_on, Holds}
 use Rattle.cg_base.specs.IdLaws.{same_id-true}
 use Rattle.cg_queue.specs.MarkLaws.{red-placed}
-use Rattle.cg_step.proofs.IdFacts.{same-self}
-use Rattle.cg_step.proofs.RunMarks.{run-head, run-rest}
-use Rattle.cg_step.proofs.HoldsMarks.{known_by, are_of, after-here, holds-known, holds-green}
+use Rattle.cg_queue.specs.NameLaws.{same_id-self}
+use Rattle.cg_step.specs.RunMarkLaws.{run-head, run-rest}
+use Rattle.cg_step.proofs.HoldsMarks.{known_by, holds-known, holds-green}
 use Rattle.cg_step.proofs.HoldsValues.{holds-values}
 use Rattle.cg_step.proofs.Rows.{IsRule}
+use Rattle.cg_step.specs.HeldLaws.{are_of, after-here}
 
 -- ---- an action that may become known
 
@@ -36,7 +37,7 @@ pub fits-own : (h : Held) (a : Action) (rest : List Action) → h.own ≡ a ∷ 
 fits-own h a rest own next =
     and_from (a.id.index == suc (index_in h.queue.red_cut a.id.creator)) (not (a.id.creator == h.id) || is_first (names_of h.own) a.id)
     (eq-eqb a.id.index (suc (index_in h.queue.red_cut a.id.creator)) next)
-    (or-second (not (a.id.creator == h.id)) (is_first (names_of h.own) a.id) (ap (λ xs. is_first (names_of xs) a.id) own ∙ same-self a.id))
+    (or-second (not (a.id.creator == h.id)) (is_first (names_of h.own) a.id) (ap (λ xs. is_first (names_of xs) a.id) own ∙ same_id-self a.id))
   where
     or-second : (x y : Bool) → y ≡ true → (x || y) ≡ true
     or-second true y e = refl
@@ -110,7 +111,7 @@ reddens (a ∷ list) h t held own run =
     let u = newly_known t a (placed_red t.replica.held.queue a) in
     let placed : redden t a ≡ u = ap (marked t a) (red-placed t.replica.held.queue a (next ∙ ap (λ (q : QueueView). suc (index_in q.red_cut a.id.creator)) (sym queue))) in
     let there : u.replica.held ≡ record (known_by h a) { own = [] } = ap (λ (x : Held). record x { queue = placed_red x.queue a; own = after_first x.own a.id }) held in
-    let rest = reddens list (known_by h a) u there (ap (λ xs. after_first xs a.id) own ∙ after-here a list a.id (same-self a.id)) (run-rest h.queue.red_cut a.id (names_of list) run) in
+    let rest = reddens list (known_by h a) u there (ap (λ xs. after_first xs a.id) own ∙ after-here a list a.id (same_id-self a.id)) (run-rest h.queue.red_cut a.id (names_of list) run) in
     subst (λ (v : Turn). Reddened t (fold redden v list) h (a ∷ list)) (sym placed) (record {
       held = rest.held;
       known = rest.known ∙ append_assoc t.known (a ∷ []) list;

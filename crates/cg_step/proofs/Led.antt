@@ -19,13 +19,14 @@ use Rattle.cg_stored.specs.Stored.{Stored, stored_of}
 use Rattle.cg_stored.specs.Change.{fits_known, know, green_by_name, all_of}
 use Rattle.cg_step.specs.Holds.{run_on, cut_behind, Holds}
 use Rattle.cg_step.specs.Recorded.{Named}
-use Rattle.cg_step.proofs.IdFacts.{same-from, same-back, same-self}
-use Rattle.cg_step.proofs.CutRaise.{rising-raise, index-same, raise-below}
-use Rattle.cg_step.proofs.RunMarks.{run-names, names-new, run-head, run-rest}
-use Rattle.cg_step.proofs.HoldsMarks.{known_by, own-same, after-here, rising-red, green-below, holds-known}
+use Rattle.cg_queue.specs.NameLaws.{same_id-is, same_id-back, same_id-self}
+use Rattle.cg_step.specs.CutRaiseLaws.{rising-raise, index-same, raise-below}
+use Rattle.cg_step.specs.RunMarkLaws.{run-names, names-new, run-head, run-rest}
+use Rattle.cg_step.proofs.HoldsMarks.{known_by, own-same, rising-red, green-below, holds-known}
 use Rattle.cg_step.proofs.Rows.{find-red, IsRule}
 use Rattle.cg_step.proofs.Knowing.{know-some, fits-next, fits-own, fits-made, known_all, own-reddened, holds-placed, holds-own, holds-rule}
 use Rattle.cg_step.proofs.Commuting.{greened-to, known-before}
+use Rattle.cg_step.specs.HeldLaws.{after-here}
 
 -- without the values that a record has at any time
 abbrev pub no_prim : Primary
@@ -89,7 +90,7 @@ led-known_all (a ∷ list) s known green h own run led =
     let next = run-head h.queue.red_cut a.id (names_of list) run in
     let one = led-known s known green h a (fits-own h a list own next) led in
     subst (λ k. Led s k green (known_all (known_by h a) list)) (append_assoc known (a ∷ []) list)
-    (led-known_all list s (known ++ a ∷ []) green (known_by h a) (ap (λ xs. after_first xs a.id) own ∙ after-here a list a.id (same-self a.id))
+    (led-known_all list s (known ++ a ∷ []) green (known_by h a) (ap (λ xs. after_first xs a.id) own ∙ after-here a list a.id (same_id-self a.id))
     (run-rest h.queue.red_cut a.id (names_of list) run) one)
 
 -- ---- an action becomes green
@@ -111,9 +112,9 @@ led-green s known green h a found next led =
     }
 
 find-new : (reds : List Action) (a : Action) → names (names_of reds) a.id ≡ false → find (λ b. same_id b.id a.id) (with_red reds a) ≡ Some a
-find-new [] a new = rw (same-self a.id) refl
+find-new [] a new = rw (same_id-self a.id) refl
 find-new (x ∷ reds) a new = elim (cases_Bool (id_before a.id x.id)) [
-  | inl before ↦ rw (before, same-self a.id) refl
+  | inl before ↦ rw (before, same_id-self a.id) refl
   | inr later ↦
       let news = or_parts (same_id a.id x.id) (names (names_of reds) a.id) new in
       rw (later, apart news.0) (find-new reds a news.1)
@@ -121,14 +122,14 @@ find-new (x ∷ reds) a new = elim (cases_Bool (id_before a.id x.id)) [
   where
     apart : same_id a.id x.id ≡ false → same_id x.id a.id ≡ false
     apart off = elim (cases_Bool (same_id x.id a.id)) [
-      | inl same ↦ absurd (let clash : true ≡ false = sym (same-back x.id a.id same) ∙ off in cc)
+      | inl same ↦ absurd (let clash : true ≡ false = sym (same_id-back x.id a.id same) ∙ off in cc)
       | inr other ↦ other
     ]
 
 without-new : (reds : List Action) (a : Action) → without_action (with_red reds a) a.id ≡ without_action reds a.id
-without-new [] a = rw (same-self a.id) refl
+without-new [] a = rw (same_id-self a.id) refl
 without-new (x ∷ reds) a = elim (cases_Bool (id_before a.id x.id)) [
-  | inl before ↦ rw (before, same-self a.id) refl
+  | inl before ↦ rw (before, same_id-self a.id) refl
   | inr later ↦ rw later (elim (cases_Bool (same_id x.id a.id)) [
     | inl taken ↦ rw taken (without-new reds a)
     | inr stays ↦ rw stays (ap (λ zs. x ∷ zs) (without-new reds a))
@@ -212,12 +213,12 @@ found-booked book h a is reds fine next le =
     in-reds : (list : List Action) → Each (Named book) list → names (names_of list) a.id ≡ true → find (λ b. same_id b.id a.id) list ≡ Some a
     in-reds [] each there = absurd (let clash : false ≡ true = there in cc)
     in-reds (x ∷ list) each there = elim (cases_Bool (same_id x.id a.id)) [
-      | inl here ↦ rw here (ap Some (sym each.0 ∙ ap book (same-from x.id a.id here) ∙ fine))
+      | inl here ↦ rw here (ap Some (sym each.0 ∙ ap book (same_id-is x.id a.id here) ∙ fine))
       | inr other ↦ rw other (in-reds list each.1 (rest (cases_Bool (same_id a.id x.id)) other there))
     ]
       where
         rest : (same_id a.id x.id ≡ true) ⊎ (same_id a.id x.id ≡ false) → same_id x.id a.id ≡ false → names (names_of (x ∷ list)) a.id ≡ true → names (names_of list) a.id ≡ true
-        rest (inl same) other there = absurd (let clash : true ≡ false = sym (same-back a.id x.id same) ∙ other in cc)
+        rest (inl same) other there = absurd (let clash : true ≡ false = sym (same_id-back a.id x.id same) ∙ other in cc)
         rest (inr apart) other there = rw apart at there
 
 module _ (book : ActionId → Action) (s : Stored) (unwritten : List Action) where

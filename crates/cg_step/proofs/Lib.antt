@@ -1,8 +1,3 @@
-mod IdFacts
-mod CutRaise
-mod RunFacts
-mod RunMarks
-mod Apart
 mod HoldsMarks
 mod HoldsValues
 mod Rows
@@ -10,7 +5,6 @@ mod Knowing
 mod Commuting
 mod Led
 mod Steps
-mod SameValues
 mod Recording
 mod Settling
 mod Opening

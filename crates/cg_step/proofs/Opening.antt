@@ -25,14 +25,15 @@ use Rattle.cg_stored.specs.Change.{fits_known, know, green_by_name, make, all_of
 use Rattle.cg_stored.specs.Checkpoint.{Agrees, indexes_of, count_to, counts_up, is_by_name, is_present}
 use Rattle.cg_stored.specs.Limits.{IsStored}
 use Rattle.cg_step.specs.Holds.{run_on, ascend, Rising, CountsTo, Holds}
-use Rattle.cg_step.proofs.CutRaise.{rising-raise, index-same, index-other}
-use Rattle.cg_step.proofs.RunMarks.{run-from}
-use Rattle.cg_step.proofs.HoldsMarks.{known_by, are_of, holds-known, holds-green}
+use Rattle.cg_step.specs.CutRaiseLaws.{rising-raise, index-same, index-other}
+use Rattle.cg_step.specs.RunMarkLaws.{run-from}
+use Rattle.cg_step.proofs.HoldsMarks.{known_by, holds-known, holds-green}
 use Rattle.cg_step.proofs.HoldsValues.{holds-values, holds-made, holds-whiten}
 use Rattle.cg_step.proofs.Knowing.{fits-next}
 use Rattle.cg_step.proofs.Commuting.{some-same, none-all, greened-from}
 use Rattle.cg_step.proofs.Settling.{mine-indexes}
-use Rattle.cg_step.proofs.SameValues.{one-list, one-number}
+use Rattle.cg_step.specs.HeldLaws.{are_of}
+use Rattle.cg_step.specs.ValueLaws.{one-list, one-number}
 
 -- ---- a change that fits
 

@@ -19,15 +19,16 @@ use Rattle.cg_step.specs.Step.{Input, Deliveries, Asks, take, replica_step}
 use Rattle.cg_step.specs.Commit.{same_values, commits}
 use Rattle.cg_step.specs.Holds.{run_on, Holds}
 use Rattle.cg_step.specs.Recorded.{Named, AreBooked, AlwaysRecorded, AlwaysAhead}
-use Rattle.cg_step.proofs.IdFacts.{same-self}
-use Rattle.cg_step.proofs.RunMarks.{run-head, run-rest}
-use Rattle.cg_step.proofs.HoldsMarks.{known_by, after-here}
+use Rattle.cg_queue.specs.NameLaws.{same_id-self}
+use Rattle.cg_step.specs.RunMarkLaws.{run-head, run-rest}
+use Rattle.cg_step.proofs.HoldsMarks.{known_by}
 use Rattle.cg_step.proofs.Rows.{of-deliveries}
 use Rattle.cg_step.proofs.Knowing.{know-some, fits-own, known_all, own-reddened}
 use Rattle.cg_step.proofs.Commuting.{some-same, none-all}
 use Rattle.cg_step.proofs.Led.{bare, Led, led-begin, Goes, goes-rule}
 use Rattle.cg_step.proofs.Steps.{IsKeptByMaking, of-settle, of-request_in, holds-making}
-use Rattle.cg_step.proofs.SameValues.{HaveOneValue, one-value}
+use Rattle.cg_step.specs.HeldLaws.{after-here}
+use Rattle.cg_step.specs.ValueLaws.{HaveOneValue, one-value}
 
 -- a turn with the actions that it has made
 pub record Made (s : Stored) (unwritten : List Action) (t : Turn) : Type 0 where
@@ -222,7 +223,7 @@ known-own : (list : List Action) (h : Held) → h.own ≡ list → run_on h.queu
 known-own [] h own run = refl
 known-own (a ∷ list) h own run =
     ap (λ o. all_of know o list) (know-some h a (fits-own h a list own (run-head h.queue.red_cut a.id (names_of list) run)))
-    ∙ known-own list (known_by h a) (ap (λ xs. after_first xs a.id) own ∙ after-here a list a.id (same-self a.id)) (run-rest h.queue.red_cut a.id (names_of list) run)
+    ∙ known-own list (known_by h a) (ap (λ xs. after_first xs a.id) own ∙ after-here a list a.id (same_id-self a.id)) (run-rest h.queue.red_cut a.id (names_of list) run)
 
 known-memory : (list : List Action) (h : Held) → h.buffered ≡ [] → h.owed ≡ [] → known_all h list ≡ stored_of (known_all h list)
 known-memory [] h buffered owed = λ i. record h { buffered = buffered i; owed = owed i }

@@ -45,12 +45,12 @@ use Rattle.cg_step.specs.Recorded.{OfMessage, OfDelivery}
 use Rattle.cg_stored.specs.Change.{are_yellow, is_distinct}
 use Rattle.cg_stored.specs.Checkpoint.{indexes_of}
 use Rattle.cg_base.specs.IdLaws.{same_id-false}
-use Rattle.cg_queue.specs.MarkLaws.{red-known, red-placed}
-use Rattle.cg_step.proofs.IdFacts.{red-gap}
-use Rattle.cg_step.proofs.CutRaise.{index-same}
-use Rattle.cg_step.proofs.RunMarks.{run-names}
+use Rattle.cg_queue.specs.MarkLaws.{red-known, red-placed, red-gap}
+use Rattle.cg_step.specs.CutRaiseLaws.{index-same}
+use Rattle.cg_step.specs.RunMarkLaws.{run-names}
 use Rattle.cg_step.proofs.HoldsMarks.{are_red, known_by, holds-known, rising-red}
 use Rattle.cg_step.proofs.HoldsValues.{with_values_of, usable-yellow, yellowed}
+use Rattle.cg_step.specs.HeldLaws.{each-found}
 
 -- the replica goes to a state, and messages are sent
 abbrev pub quietly : Turn → State → List Msg → Turn
@@ -74,13 +74,6 @@ pub record IsRule (P : Turn → Type 0) (Fine : Action → Type 0) : Type 0 wher
 each-both : (Fine : Action → Type 0) (xs ys : List Action) → Each Fine xs → Each Fine ys → Each Fine (xs ++ ys)
 each-both Fine [] ys fine more = more
 each-both Fine (x ∷ xs) ys fine more = (fine.0, each-both Fine xs ys fine.1 more)
-
-each-found : (Fine : Action → Type 0) (p : Action → Bool) (xs : List Action) → Each Fine xs → Each Fine (option_to_list (find p xs))
-each-found Fine p [] fine = tt
-each-found Fine p (x ∷ xs) fine = elim (cases_Bool (p x)) [
-  | inl here ↦ rw here (fine.0, tt)
-  | inr other ↦ rw other (each-found Fine p xs fine.1)
-]
 
 -- an action that isn't green is looked for among the reds
 pub find-red : (greens reds : List Action) (id : ActionId) (last : ℕ) → CountsTo last (indexes_of greens id.creator) → last < id.index →

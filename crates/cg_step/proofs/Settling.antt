@@ -19,10 +19,11 @@ use Rattle.cg_stored.specs.Stored.{stored_of, whiten}
 use Rattle.cg_stored.specs.Checkpoint.{Agrees, indexes_of, count_to, counts_up, is_by_name, is_present}
 use Rattle.cg_step.specs.Holds.{run_on, cut_behind, ascend, Rising, CountsTo, Holds}
 use Rattle.cg_step.specs.Recorded.{AlwaysSettled}
-use Rattle.cg_step.proofs.CutRaise.{rising-raise, index-same, index-other, behind-rises}
-use Rattle.cg_step.proofs.RunMarks.{run-head, run-rest, ascend-less}
-use Rattle.cg_step.proofs.HoldsMarks.{are_of, rising-red}
-use Rattle.cg_step.proofs.HoldsValues.{created-behind, holds-whiten}
+use Rattle.cg_step.specs.CutRaiseLaws.{rising-raise, index-same, index-other, behind-rises}
+use Rattle.cg_step.specs.RunMarkLaws.{run-head, run-rest, ascend-less}
+use Rattle.cg_step.proofs.HoldsMarks.{rising-red}
+use Rattle.cg_step.proofs.HoldsValues.{holds-whiten}
+use Rattle.cg_step.specs.HeldLaws.{are_of, created-behind}
 
 -- ---- numbers that count up
 

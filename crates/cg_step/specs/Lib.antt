@@ -1,4 +1,9 @@
 pub mod Holds
+pub mod CutRaiseLaws
+pub mod RunLaws
+pub mod RunMarkLaws
+pub mod HeldLaws
+pub mod ValueLaws
 pub mod Step
 pub mod Hearing
 pub mod HearingLaws

@@ -23,10 +23,11 @@ use Rattle.cg_store.specs.Kept.{Kept, IsStore}
 use Rattle.cg_store.specs.Answers.{IsReached, IsRefused, IsLost, EachMoment}
 use Rattle.cg_store.specs.Due.{IsLed, IsBehind}
 use Rattle.cg_store.specs.Calls.{IsEither, IsSaved, IsFirst, Writes, Moves, commit_fault}
-use Rattle.cg_store.specs.MomentLaws.{one_standing, weakened}
+use Rattle.cg_store.specs.MomentLaws.{one_standing}
 use Rattle.cg_store.specs.declared.due.Due.{Due}
 use Rattle.cg_store.proofs.Standing.{stands_added, stands_emptied, stands_moved, stands_begun}
 use Rattle.cg_store.proofs.Writing.{either_of, reached, lost, lost_closing}
+use Rattle.cg_journal.specs.ViewLaws.{weakened}
 
 -- a store's own record of what its disk stands for
 abbrev pub standing_at : (side : Side) (generation size : ℕ) (content : Stored) → Standing

@@ -1,15 +1,14 @@
 -- What a store's disk stands for, in the account of a replica's events: a commit, a checkpoint, and a crash in each call.
-use Rattle.std.specs.Prelude.{◌≡◌, ℕ, ◌+◌, ◌≤◌, nat_le, nat_lt, Bool, true, false, List, [], ◌∷◌, refl, if◌then◌else◌}
+use Rattle.std.specs.Prelude.{◌≡◌, ◌+◌, Bool, true, false, List, [], refl, if◌then◌else◌}
 use Rattle.std.proofs.Common.{arith, sym, ap, ◌∙◌}
-use Rattle.std.proofs.lemmas.Bool.Decides.{nat_tests}
 use Rattle.cg_action.specs.declared.action.Action.{Action}
-use Rattle.cg_disk.specs.State.{Blow, Fails, Stops}
 use Rattle.cg_journal.specs.Adds.{gate_stands}
 use Rattle.cg_client.specs.Turn.{Turn}
 use Rattle.cg_stored.specs.Stored.{Stored}
 use Rattle.cg_step.specs.Crash.{Strike, Disk, new_disk, with_change, with_checkpoint, is_committed, is_checkpointed, at_rest, crash_outcome}
 use Rattle.cg_store.specs.Stands.{Standing, committed, checkpointed, created, disk_of}
 use Rattle.cg_store.specs.Defined.{strike_at, EndsAsDefined}
+use Rattle.cg_store.specs.StrikeLaws.{outcome, early_commit, early_checkpoint, late_commit, late_checkpoint}
 
 change_is_written : (unwritten : List Action) (t : Turn) (u : Standing) → disk_of [] (committed unwritten t u) ≡ with_change (disk_of unwritten u) t
 unfolding with_change
@@ -24,40 +23,9 @@ new_is_written s = refl
 
 -- ---- the outcome of a strike, by what it has let stand
 
-abbrev outcome : Disk → Turn → Bool → Bool → Disk
-outcome disk t checkpoint commit = if checkpoint then with_checkpoint (with_change disk t) else if commit then with_change disk t else disk
-
 crash_is : (disk : Disk) (t : Turn) (strike : Strike) (checkpoint commit : Bool) → is_checkpointed strike ≡ checkpoint → is_committed strike ≡ commit → crash_outcome disk t strike ≡ outcome disk t checkpoint commit
 unfolding crash_outcome
 crash_is disk t strike checkpoint commit a b = ap (λ x. outcome disk t x (is_committed strike)) a ∙ ap (λ x. outcome disk t checkpoint x) b
-
--- in the four calls of the change
-early_commit : (call : ℕ) (blow : Blow) (fill : List ℕ) → call ≤ 4 → is_committed (strike_at call blow fill) ≡ gate_stands blow call fill
-early_commit call Fails fill le = refl
-early_commit call Stops [] le = let four : nat_lt 4 call ≡ false = grind (arith, nat_tests) in rw four refl
-early_commit call Stops (byte ∷ fill) le = let four : nat_lt 4 call ≡ false = grind (arith, nat_tests) in rw four refl
-
-early_checkpoint : (call : ℕ) (blow : Blow) (fill : List ℕ) → call ≤ 8 → is_checkpointed (strike_at call blow fill) ≡ false
-early_checkpoint call Fails fill le = grind (arith, nat_tests)
-early_checkpoint call Stops fill le =
-    let ten : nat_lt 10 call ≡ false = grind (arith, nat_tests) in
-    let nine : nat_le 9 call ≡ false = grind (arith, nat_tests) in
-    rw (ten, nine) refl
-
-late_commit : (call : ℕ) (blow : Blow) (fill : List ℕ) → 5 ≤ call → is_committed (strike_at call blow fill) ≡ true
-late_commit call Fails fill le = grind (arith, nat_tests)
-late_commit call Stops fill le = let four : nat_lt 4 call ≡ true = grind (arith, nat_tests) in rw four refl
-
-late_checkpoint : (call : ℕ) (blow : Blow) (fill : List ℕ) → call ≤ 4 → is_checkpointed (strike_at (6 + call) blow fill) ≡ gate_stands blow call fill
-late_checkpoint call Fails fill le = grind (arith, nat_tests)
-late_checkpoint call Stops [] le =
-    let ten : nat_lt 10 (6 + call) ≡ false = grind (arith, nat_tests) in
-    let nine : nat_le 9 (6 + call) ≡ nat_lt 2 call = grind (arith, nat_tests) in
-    rw (ten, nine) refl
-late_checkpoint call Stops (byte ∷ fill) le =
-    let ten : nat_lt 10 (6 + call) ≡ false = grind (arith, nat_tests) in
-    let nine : nat_le 9 (6 + call) ≡ nat_lt 2 call = grind (arith, nat_tests) in
-    rw (ten, nine) refl
 
 -- ---- each of them
 

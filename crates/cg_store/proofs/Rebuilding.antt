@@ -1,20 +1,18 @@
 -- What the parts of a checkpoint make, put in one after another.
-use Rattle.std.proofs.Common.{◌⊎◌, ◌≡◌, ◌≢◌, ◌^◌, ℕ, ◌<◌, ◌≤◌, List, [], ◌∷◌, ◌++◌, Bool, true, false, fold, append-nil, append_assoc, refl, sym, ap, ◌∙◌, subst, arith, inl, inr, if◌then◌else◌, nat_lt, eqb-true}
-use Rattle.std.specs.Prelude.{◌==◌}
-use Rattle.std.proofs.lemmas.Bool.{cases_eq, cases_order, eq-eqb, ne_eqb, le-ltb, and_parts}
+use Rattle.std.proofs.Common.{◌⊎◌, ◌≡◌, ℕ, ◌<◌, List, [], ◌∷◌, ◌++◌, true, false, fold, append-nil, append_assoc, refl, sym, ap, ◌∙◌, subst, arith, inl, inr}
+use Rattle.std.proofs.lemmas.Bool.{cases_order, eq-eqb, ne_eqb, le-ltb, and_parts}
 use Rattle.cg_base.specs.declared.action_id.ActionId.{ActionId}
-use Rattle.cg_base.specs.Ids.{same_id, id_before}
-use Rattle.std.specs.Cmp.Lexicographic.{pointwise}
-use Rattle.cg_base.specs.Cuts.{raise, with_top}
-use Rattle.cg_records.specs.Limits.{Each, IsIndex}
+use Rattle.cg_base.specs.Ids.{id_before}
+use Rattle.cg_base.specs.Cuts.{raise}
 use Rattle.cg_action.specs.declared.action.Action.{Action}
-use Rattle.cg_queue.specs.Queue.{QueueView, names_of, with_red, resumed}
+use Rattle.cg_queue.specs.Queue.{QueueView, names_of, with_red}
 use Rattle.cg_client.specs.Replica.{Held}
 use Rattle.cg_stored.specs.declared.checkpoint.Checkpoint.{Checkpoint}
 use Rattle.cg_stored.specs.Change.{put_values}
 use Rattle.cg_stored.specs.Checkpoint.{is_by_name}
 use Rattle.cg_stored.specs.Parts.{stored_in}
-use Rattle.cg_store.specs.Rebuilt.{with_kept_green, with_kept_red, with_kept_own}
+use Rattle.cg_store.specs.declared.resuming.GreenState.{GreenState}
+use Rattle.cg_store.specs.Rebuilt.{with_kept_red, with_kept_own, resumed_with}
 
 -- ---- names in order
 
@@ -73,21 +71,10 @@ with_red_last (x ∷ xs) a rest up =
 
 -- ---- the queue
 
--- a queue of greens alone
-abbrev flat : ℕ → List Action → List ActionId → QueueView
-flat white greens cut = record { white = white; greens = greens; green_cut = cut; red_cut = cut; reds = []; yellow = [] }
-
 abbrev holding : Held → QueueView → List Action → Held
 holding h q own = record h { queue = q; own = own }
 
-greens_put : (h : Held) (white : ℕ) (had : List Action) (cut : List ActionId) (greens : List Action) →
-    fold with_kept_green (holding h (flat white had cut) []) greens ≡ holding h (flat white (had ++ greens) (fold raise cut (names_of greens))) []
-greens_put h white had cut [] = ap (λ l. holding h (flat white l cut) []) (sym (append-nil had))
-greens_put h white had cut (a ∷ greens) =
-    greens_put h white (had ++ a ∷ []) (raise cut a.id) greens
-    ∙ ap (λ l. holding h (flat white l (fold raise (raise cut a.id) (names_of greens))) []) (append_assoc had (a ∷ []) greens)
-
--- the same with reds
+-- a queue with these reds
 abbrev with_reds : QueueView → List ActionId → List Action → QueueView
 with_reds q cut reds = record q { red_cut = cut; reds = reds }
 
@@ -103,75 +90,15 @@ own_put : (h : Held) (had own : List Action) → fold with_kept_own (record h { 
 own_put h had [] = ap (λ l. record h { own = l }) (sym (append-nil had))
 own_put h had (a ∷ own) = own_put h (had ++ a ∷ []) own ∙ ap (λ l. record h { own = l }) (append_assoc had (a ∷ []) own)
 
--- what a replica holds before the kept actions are put in
-abbrev pub bare : ℕ → Checkpoint → List ActionId → Held
-bare id p cut =
-    record {
-      id = id;
-      queue = resumed p.reached.white cut;
-      yellow_valid = false;
-      own = [];
-      db = p.db;
-      members = p.reached.members;
-      prim = p.stable.prim;
-      attempt_index = p.stable.attempt_index;
-      vulnerable = p.stable.vulnerable;
-      buffered = [];
-      owed = [];
-    }
+-- what a checkpoint says of greens
+abbrev pub greens_in : Checkpoint → GreenState
+greens_in p = record { reached = p.reached; greens = p.kept.greens; db = p.db; prim = p.stable.prim; attempt_index = p.stable.attempt_index; vulnerable = p.stable.vulnerable }
 
 -- all parts of a checkpoint, put in one after another
-pub rebuilt : (id : ℕ) (p : Checkpoint) (below : List ActionId) (h0 h1 h2 h3 h4 : Held) → h0 ≡ bare id p below → h1 ≡ fold with_kept_green h0 p.kept.greens → h1.queue.green_cut ≡ p.reached.cut →
+pub rebuilt : (id : ℕ) (p : Checkpoint) (h1 h2 h3 h4 : Held) → h1 ≡ resumed_with id (greens_in p) →
     h2 ≡ fold with_kept_red h1 p.kept.reds → h3 ≡ fold with_kept_own h2 p.kept.own → h4 ≡ put_values h3 p.stable → is_by_name p.kept.reds ≡ true → h4 ≡ stored_in id p
-rebuilt id p below h0 h1 h2 h3 h4 e0 e1 at_cut e2 e3 e4 up =
-    let base = bare id p below in
-    let cut = fold raise below (names_of p.kept.greens) in
-    let one : h1 ≡ holding base (flat p.reached.white p.kept.greens cut) [] = e1 ∙ ap (λ h. fold with_kept_green h p.kept.greens) e0 ∙ greens_put base p.reached.white [] below p.kept.greens in
-    let cut_is : cut ≡ p.reached.cut = sym (ap (λ (h : Held). h.queue.green_cut) one) ∙ at_cut in
-    let there : h1 ≡ holding base (flat p.reached.white p.kept.greens p.reached.cut) [] = one ∙ ap (λ c. holding base (flat p.reached.white p.kept.greens c) []) cut_is in
-    let two = e2 ∙ ap (λ h. fold with_kept_red h p.kept.reds) there ∙ reds_put base (flat p.reached.white p.kept.greens p.reached.cut) p.reached.cut [] p.kept.reds up in
-    let three = e3 ∙ ap (λ (h : Held). fold with_kept_own h p.kept.own) two ∙ own_put (holding base (with_reds (flat p.reached.white p.kept.greens p.reached.cut) (fold raise p.reached.cut (names_of p.kept.reds)) p.kept.reds) []) [] p.kept.own in
+rebuilt id p h1 h2 h3 h4 e1 e2 e3 e4 up =
+    let base = resumed_with id (greens_in p) in
+    let two = e2 ∙ ap (λ h. fold with_kept_red h p.kept.reds) e1 ∙ reds_put base base.queue p.reached.cut [] p.kept.reds up in
+    let three = e3 ∙ ap (λ (h : Held). fold with_kept_own h p.kept.own) two ∙ own_put (holding base (with_reds base.queue (fold raise p.reached.cut (names_of p.kept.reds)) p.kept.reds) []) [] p.kept.own in
     e4 ∙ ap (λ h. put_values h p.stable) three
-
--- ---- cuts
-
-abbrev Indexed : List ActionId → Type 0
-Indexed cut = Each (λ top. IsIndex top.index) cut
-
-indexed_if : (b : Bool) (c d : List ActionId) → Indexed c → Indexed d → Indexed (if b then c else d)
-indexed_if true c d kc kd = kc
-indexed_if false c d kc kd = kd
-
-with_top_indexed : (cut : List ActionId) (id : ActionId) → 1 ≤ id.index → id.index < 2 ^ 63 → Indexed cut → Indexed (with_top cut id)
-with_top_indexed [] id from below all = ((from, below), tt)
-with_top_indexed (top ∷ cut) id from below all =
-    let top_from : 1 ≤ top.index = all.0.0 in
-    let top_below : top.index < 2 ^ 63 = all.0.1 in
-    indexed_if (top.creator == id.creator) _ _ ((omega arith, omega arith), all.1)
-    (indexed_if (nat_lt id.creator top.creator) _ _ ((from, below), all) (all.0, with_top_indexed cut id from below all.1))
-
-pub raise_indexed : (cut : List ActionId) (id : ActionId) → id.index < 2 ^ 63 → Each (λ top. IsIndex top.index) cut → Each (λ top. IsIndex top.index) (raise cut id)
-raise_indexed cut id below all = at (cases_eq id.index 0)
-  where
-    at : (id.index ≡ 0) ⊎ (id.index ≢ 0) → Indexed (raise cut id)
-    at (inl none) = rw (eq-eqb id.index 0 none) all
-    at (inr some) = rw (ne_eqb id.index 0 some) (with_top_indexed cut id (omega (arith, some)) below all)
-
--- ---- cuts that are one
-
-same_names : (a b : ActionId) → same_id a b ≡ true → a ≡ b
-same_names a b same =
-    let parts = and_parts (a.creator == b.creator) (a.index == b.index) same in
-    let creator = eqb-true a.creator b.creator parts.0 in
-    let index = eqb-true a.index b.index parts.1 in
-    λ i. record { creator = creator i; index = index i }
-
-pub same_cuts : (a b : List ActionId) → pointwise same_id a b ≡ true → a ≡ b
-same_cuts [] [] same = refl
-same_cuts [] (y ∷ ys) same = cc
-same_cuts (x ∷ xs) [] same = cc
-same_cuts (x ∷ xs) (y ∷ ys) same =
-    let parts = and_parts (same_id x y) (pointwise same_id xs ys) same in
-    let first = same_names x y parts.0 in
-    let rest = same_cuts xs ys parts.1 in
-    λ i. first i ∷ rest i

@@ -7,7 +7,8 @@ use Rattle.std.proofs.lemmas.Bool.Decides.{nat_tests}
 use Rattle.cg_disk.specs.Sides.{Image, opposite}
 use Rattle.cg_disk.specs.declared.disk.Side.{Side}
 use Rattle.cg_disk.specs.declared.disk.Side.TheVariants.{A, B}
-use Rattle.cg_journal.specs.Records.{Records, records, number32, spelled, added, emptied, on_side}
+use Rattle.cg_codec.specs.Fields.{number32}
+use Rattle.cg_journal.specs.Records.{Records, records, spelled, added, emptied, on_side}
 use Rattle.cg_journal.specs.Held.{end_of}
 use Rattle.cg_journal.specs.Opens.{no_records}
 use Rattle.cg_stored.specs.Stored.{Stored}

@@ -1,8 +1,8 @@
 -- How an event ends: with its commit, and behind a commit that left its side too long with a checkpoint.
-use Rattle.std.proofs.Common.{◌≡◌, ◌⊎◌, inl, inr, ⊎_elim, ℕ, ◌+◌, ◌≤◌, nat_lt, [], Bool, true, false, Option, Some, None, Result, Ok, Err, refl, sym, ◌∙◌, ap, subst, arith}
+use Rattle.std.proofs.Common.{◌≡◌, ◌⊎◌, inl, inr, ⊎_elim, ℕ, ◌+◌, ◌≤◌, nat_lt, [], Bool, true, false, Some, Result, Ok, Err, refl, sym, ◌∙◌, ap, subst, arith}
 use Rattle.std.specs.Option.{option_map}
 use Rattle.cg_disk.specs.Sides.{Image}
-use Rattle.cg_disk.specs.State.{DiskState, Strike}
+use Rattle.cg_disk.specs.State.{DiskState}
 use Rattle.cg_disk.specs.View.{DiskView, LeavesOnly}
 use Rattle.cg_journal.specs.Strikes.{IsUnstruck, IsStruck}
 use Rattle.cg_client.specs.Replica.{Held}
@@ -17,16 +17,9 @@ use Rattle.cg_store.specs.MomentLaws.{stands_once, moments_joined}
 use Rattle.cg_store.specs.declared.outputs.Outputs.{Outputs}
 use Rattle.cg_store.specs.declared.errors.CommitErr.{CommitErr}
 use Rattle.cg_store.specs.declared.errors.CommitErr.TheVariants.{Lost, NoMemory}
+use Rattle.cg_journal.specs.ViewLaws.{some_state, unstruck_more}
 
 -- ---- calls behind earlier ones
-
-some_state : (state : Option DiskState) (strike : Option Strike) → option_map (λ (x : DiskState). x.strike) state ≡ Some strike → (s : DiskState) × (state ≡ Some s) × (s.strike ≡ strike)
-some_state None strike is = cc
-some_state (Some s) strike is = (s, refl, cc)
-
--- runs without a strike, one behind the other
-pub unstruck_more : (old mid new : DiskView) → IsUnstruck old mid → IsUnstruck mid new → IsUnstruck old new
-unstruck_more old mid new first second = record { faults = second.faults ∙ first.faults; stays = second.stays ∙ first.stays; ahead = second.ahead }
 
 -- the strike of the state that a disk tells later
 same_strike : (old mid : DiskView) (s : DiskState) → IsUnstruck old mid → old.state ≡ Some s → (t : DiskState) × (mid.state ≡ Some t) × (t.strike ≡ s.strike)

@@ -8,3 +8,4 @@ pub mod Opening
 pub mod Defined
 pub mod MomentLaws
 pub mod EndingLaws
+pub mod StrikeLaws

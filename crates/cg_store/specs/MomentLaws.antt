@@ -8,6 +8,7 @@ use Rattle.cg_store.specs.Answers.{EachMoment}
 use Rattle.cg_store.specs.Calls.{IsEither, IsOneOfThree}
 use Rattle.cg_store.specs.declared.errors.CommitErr.{CommitErr}
 use Rattle.cg_store.specs.declared.errors.CommitErr.TheVariants.{Lost, NoMemory}
+use Rattle.cg_journal.specs.ViewLaws.{weakened}
 
 pub one_standing : (found : Option Standing) (u v : Standing) → found ≡ Some u → found ≡ Some v → u ≡ v
 one_standing None u v a b = cc
@@ -17,13 +18,6 @@ pub stands_once : (id : ℕ) (c : Image) (u v : Standing) → Stands id c u → 
 stands_once id c u v a b = one_standing (stands_for id (records c)) u v a b
 
 -- ---- what holds at each moment of a run
-
-pub weakened : (old new : DiskView) (P Q : Image → Type 0) → LeavesOnly old new P → ((c : Image) → P c → Q c) → LeavesOnly old new Q
-weakened old new P Q run weaker = record {
-  later = run.later;
-  each = λ c left. weaker c (run.each c left);
-  before = λ t c le left. ⊎_elim (λ past. inl past) (λ p. inr (weaker c p)) (run.before t c le left);
-}
 
 pub chained : (old mid new : DiskView) (P Q R : Image → Type 0) → LeavesOnly old mid P → LeavesOnly mid new Q → ((c : Image) → P c → R c) → ((c : Image) → Q c → R c) → LeavesOnly old new R
 chained old mid new P Q R first second p q = record {

@@ -17,9 +17,10 @@ ghost use Rattle.cg_store.specs.Opening.{Follows};
 use cg_action::{Action, ActionList};
 use cg_base::{ActionId, IdList, NoMemory};
 use cg_client::Core;
+use cg_queue::is_next;
 use cg_records::Stable;
 use cg_step::what_is_held_agrees;
-use cg_stored::{Change, read_change};
+use cg_stored::{Change, is_distinct, read_change};
 use std::alloc::Global;
 
 /// Puts a record into what the replica holds, where it is a change that fits.
@@ -91,12 +92,6 @@ fn fits_known(core: &Core, a: &Action) -> bool
 {
     is_next(a.id.index, core.red_cut().get(a.id.creator))
         && (a.id.creator != core.id() || is_first_own(core, &a.id))
-}
-
-pub(crate) fn is_next(index: u64, before: u64) -> bool
-    ensures { result ≡ (index == suc before) }
-{
-    index > before && index - before == 1
 }
 
 // it is the own action that is waited for first
@@ -213,23 +208,4 @@ fn are_red(core: &Core, ids: &[ActionId]) -> bool
         }
     }
     true
-}
-
-fn is_distinct(ids: &[ActionId]) -> bool
-    ensures { result ≡ is_distinct ids.now }
-{
-    let mut rest = ids;
-    while let Some((first, others)) = rest.split_first() {
-        if has_name(others, first) {
-            return false;
-        }
-        rest = others;
-    }
-    true
-}
-
-fn has_name(ids: &[ActionId], id: &ActionId) -> bool
-    ensures { result ≡ names ids.now id.now }
-{
-    ids.iter().any(|other| *id == *other)
 }

@@ -1,5 +1,5 @@
 -- What the calls that are struck ask for: a new replica, and an event that begins an attempt with its commit.
-use Rattle.std.proofs.Common.{◌≡◌, ℕ, List, [], Bool, true, Option, Ok, refl, sym, ◌∙◌, ap, subst}
+use Rattle.std.proofs.Common.{◌≡◌, ℕ, List, [], Bool, true, Option, Ok, refl, sym, ap, subst}
 use Rattle.std.specs.Prelude.{IsTrue, ◌==◌}
 use Rattle.std.proofs.lemmas.Bool.{and_from, eq-eqb}
 use Rattle.cg_base.specs.declared.weighted.Weighted.{Weighted}

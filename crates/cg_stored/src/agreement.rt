@@ -126,8 +126,8 @@ fn are_present(servers: &ServerSet, left: IdSet, count: u64) -> bool
     true
 }
 
-// how many of the actions are the creator's
-fn count_of(actions: &[Action], id: ReplicaId) -> u64
+/// How many of the actions are the creator's.
+pub fn count_of(actions: &[Action], id: ReplicaId) -> u64
     ensures { result ≡ length (indexes_of actions.now id) }
 {
     let mut count = 0;
@@ -207,7 +207,8 @@ fn is_before_first(id: &ActionId, actions: &[Action]) -> bool
     }
 }
 
-fn is_distinct(ids: &[ActionId]) -> bool
+/// Each name stands in the list once.
+pub fn is_distinct(ids: &[ActionId]) -> bool
     ensures { result ≡ is_distinct ids.now }
 {
     let mut rest = ids;

@@ -1,19 +1,19 @@
 ghost use Rattle.std.specs.Prelude.{◌≡◌, IfOk};
 ghost use Rattle.cg_codec.specs.Reading.{whole};
 ghost use Rattle.cg_codec.specs.Taking.{unread_of, TakesWithMemory, Decodes};
-ghost use Rattle.cg_stored.specs.Reading.{reached_reading, kept_reading, checkpoint_reading};
+ghost use Rattle.cg_stored.specs.Reading.{kept_reading, checkpoint_reading};
 ghost use Rattle.cg_stored.specs.Parts.{checkpoint_of};
 ghost use Rattle.cg_stored.specs.Laws.{GivesParts, FindsCheckpoint};
 
 use crate::entries::take_entries;
 use crate::lists::take_actions;
-use crate::servers::take_members;
+use crate::reached::take_reached;
 use cg_action::ActionList;
 use cg_base::{Cut, NoMemory, ReplicaId};
 use cg_codec::{CodecFault, Fields};
 use cg_db::Db;
 use cg_members::Members;
-use cg_records::{Stable, take_cut, take_number, take_stable};
+use cg_records::{Stable, take_number, take_stable};
 use std::alloc::Global;
 
 /// How far the greens reach, and what they make of the members.
@@ -114,24 +114,6 @@ fn take_checkpoint(alloc: Global, fields: &mut Fields<'_>) -> Result<Checkpoint,
         reached,
         db,
         kept,
-    })
-}
-
-#[tactic(auto, unfolding(crate::specs::Reading::reached_reading))]
-fn take_reached(fields: &mut Fields<'_>) -> Result<Reached, CodecFault>
-    ensures { TakesWithMemory (λ r. r) reached_reading (unread_of fields.old) (unread_of fields.new) result }
-{
-    let mut after = *fields;
-    let count = take_number(&mut after)?;
-    let white = take_number(&mut after)?;
-    let cut = take_cut(&mut after)?;
-    let members = take_members(&mut after)?;
-    *fields = after;
-    Ok(Reached {
-        count,
-        white,
-        cut,
-        members,
     })
 }
 

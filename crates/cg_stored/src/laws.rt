@@ -6,9 +6,9 @@ ghost use Rattle.cg_stored.specs.declared.change.Change.{Change};
 ghost use Rattle.cg_stored.specs.declared.checkpoint.Checkpoint.{Checkpoint};
 ghost use Rattle.cg_stored.specs.Stored.{Stored};
 ghost use Rattle.cg_stored.specs.Change.{spelled_change};
-ghost use Rattle.cg_stored.specs.Checkpoint.{spelled_parts};
-ghost use Rattle.cg_stored.specs.Limits.{IsChange, AreParts};
-ghost use Rattle.cg_stored.specs.Reading.{change_reading, checkpoint_reading};
+ghost use Rattle.cg_stored.specs.Checkpoint.{spelled_reached, spelled_parts};
+ghost use Rattle.cg_stored.specs.Limits.{IsChange, IsReached, AreParts};
+ghost use Rattle.cg_stored.specs.Reading.{change_reading, reached_reading, checkpoint_reading};
 ghost use Rattle.cg_stored.specs.Parts.{Fits, do_agree, change_in, Saved, checkpoint_in};
 ghost use Rattle.cg_stored.specs.Laws.{IsCheckpoint};
 
@@ -22,8 +22,9 @@ pub fn changes_are_exact()
     ensures apart { IsFrontOfNoOther IsChange spelled_change }
 {}
 
-/// The same of the parts of a checkpoint, whether they agree or not.
+/// The same of the parts of a checkpoint, whether they agree or not, and of how far greens reach.
 pub fn parts_are_exact()
+    ensures reached { IsField IsReached spelled_reached reached_reading }
     ensures field { IsField AreParts spelled_parts checkpoint_reading }
     ensures whole { IsWhole AreParts spelled_parts checkpoint_reading }
     ensures apart { IsFrontOfNoOther AreParts spelled_parts }

@@ -8,11 +8,11 @@ ghost use Rattle.cg_stored.specs.Limits.{IsStored, HaveShortLists};
 
 use crate::entries::put_entries;
 use crate::kept::{KeptList, count_in, put_list};
-use crate::servers::put_servers;
+use crate::reached::put_reached;
 use cg_base::NoMemory;
 use cg_client::Core;
 use cg_codec::put_u64;
-use cg_records::{Stable, put_cut, put_set, put_stable};
+use cg_records::{Stable, put_stable};
 
 /// Puts a checkpoint of what a replica holds at the end. It copies neither actions nor entries. Where a list has 2^32 things
 /// or more, or a number is 2^63 or more, it is refused as want of memory.
@@ -65,35 +65,24 @@ fn write_checkpoint(
 {
     put_u64(out, generation)?;
     put_stable(out, stable)?;
-    put_reached(out, core)?;
+    put_reached_of(out, core)?;
     put_entries(out, core.db())?;
     put_kept(out, core)
 }
 
-fn put_reached(out: &mut Vec<u8>, core: &Core) -> Result<(), NoMemory>
-    requires { IsStored core.now }
+fn put_reached_of(out: &mut Vec<u8>, core: &Core) -> Result<(), NoMemory>
     ensures ok { OnOk result (out.new.items ≡ out.old.items ++ spelled_reached (reached_of core.now)) }
     ensures err { OnErr result (out.new.items ≡ out.old.items) }
 {
-    let before = out.len();
-    let put = write_reached(out, core);
-    if put.is_err() {
-        out.truncate(before);
-    }
-    put
-}
-
-#[tactic(auto, unfolding(crate::specs::Checkpoint::spelled_reached))]
-fn write_reached(out: &mut Vec<u8>, core: &Core) -> Result<(), NoMemory>
-    requires { IsStored core.now }
-    ensures ok { OnOk result (out.new.items ≡ out.old.items ++ spelled_reached (reached_of core.now)) }
-    ensures err { OnErr result (KeepsFront out.old.items out.new.items) }
-{
-    put_u64(out, core.queue().green_count())?;
-    put_u64(out, core.queue().white_count())?;
-    put_cut(out, &core.green_cut())?;
-    put_servers(out, &core.members().servers)?;
-    put_set(out, &core.members().left)
+    let queue = core.queue();
+    let cut = core.green_cut();
+    put_reached(
+        out,
+        queue.green_count(),
+        queue.white_count(),
+        &cut,
+        core.members(),
+    )
 }
 
 fn put_kept(out: &mut Vec<u8>, core: &Core) -> Result<(), NoMemory>

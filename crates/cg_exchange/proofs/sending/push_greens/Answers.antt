@@ -1,11 +1,10 @@
-use Rattle.std.proofs.Common.{◌≡◌, ◌∙◌, ap, rules, ◌++◌, ◌+◌, ◌<◌}
+use Rattle.std.proofs.Common.{rules, ◌++◌, ◌+◌, ◌<◌}
 use Rattle.std.specs.Prelude.{List, map, flat_map}
 use Rattle.std.specs.Option.{option_to_list}
 use Rattle.cg_base.specs.Lists.{above_up_to}
 use Rattle.cg_plan.specs.declared.parts.Item.{Item}
 use Rattle.cg_plan.specs.declared.parts.Item.TheVariants.{Green}
 use Rattle.cg_wire.specs.declared.message.Msg.{Msg}
-use Rattle.cg_client.specs.declared.parts.DraftParts.{DraftParts}
 use Rattle.cg_exchange.specs.ExchangeActions.{message_of}
 use Rattle.cg_exchange.proofs.ItemSteps.{items-step, rest-step}
 use Rattle.cg_exchange.proofs.sending.push_greens.Goals as goal

@@ -9,5 +9,6 @@ use Rattle.cg_join.proofs.laws.pieces_are_exact.Goals as goal
 pub returns : goal.returns
 returns c =
     let action = c.actions_are_exact.ensures.action in
-    let field : IsField IsPiece spelled_piece piece_reading = piece_field action in
-    record { field = field; whole = piece_whole action; apart = field_front IsPiece spelled_piece piece_reading field }
+    let reached = c.parts_are_exact.ensures.reached in
+    let field : IsField IsPiece spelled_piece piece_reading = piece_field action reached in
+    record { field = field; whole = piece_whole action reached; apart = field_front IsPiece spelled_piece piece_reading field }

@@ -4,7 +4,7 @@ use Rattle.cg_disk.specs.Sides.{bytes_of}
 use Rattle.cg_disk.specs.Writes.{TornSide}
 use Rattle.cg_journal.specs.Records.{records, emptied}
 use Rattle.cg_journal.specs.Adds.{IsEither}
-use Rattle.cg_journal.proofs.Moments.{weakened}
+use Rattle.cg_journal.specs.ViewLaws.{weakened}
 use Rattle.cg_journal.proofs.Closing.{closes, close_either}
 use Rattle.cg_journal.proofs.close.close.Goals as goal
 

@@ -1,6 +1,6 @@
 use Rattle.std.proofs.Common.{sym, subst}
 use Rattle.cg_client.specs.Replica.{Held}
-use Rattle.cg_join.specs.Snapshot.{joined}
+use Rattle.cg_client.specs.Joined.{joined}
 use Rattle.cg_stored.specs.Checkpoint.{Agrees}
 use Rattle.cg_seat.proofs.HeldAgrees.{held-agrees}
 use Rattle.cg_seat.proofs.copying.copy_of.Goals as goal

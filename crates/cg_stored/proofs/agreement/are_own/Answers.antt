@@ -1,5 +1,5 @@
-use Rattle.std.proofs.Common.{◌≡◌, true, eqb, ap, sym, ◌∙◌, ◌&&◌, rules}
-use Rattle.std.specs.Prelude.{nat_eq, map}
+use Rattle.std.proofs.Common.{◌≡◌, true, eqb, ap, ◌∙◌, rules}
+use Rattle.std.specs.Prelude.{nat_eq}
 use Rattle.std.specs.List.{list_all}
 use Rattle.std.specs.Cmp.Lexicographic.{pointwise}
 use Rattle.cg_base.specs.Lists.{above_up_to}

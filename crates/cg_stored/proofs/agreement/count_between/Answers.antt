@@ -1,11 +1,4 @@
-use Rattle.std.proofs.Common.{◌≡◌, ◌+◌, suc, List, [], length, drop, get_or, ap, sym, ◌∙◌, add-one, rules, arith}
-use Rattle.std.specs.Prelude.{nat_eq}
-use Rattle.std.specs.Cmp.Lexicographic.{pointwise}
-use Rattle.std.proofs.Math.Seq.{drop-cons}
-use Rattle.std.proofs.lemmas.List.{drop_all}
-use Rattle.cg_base.specs.Lists.{above_up_to}
-use Rattle.cg_action.specs.declared.action.Action.{Action}
-use Rattle.cg_stored.specs.Checkpoint.{indexes_of}
+use Rattle.std.proofs.Common.{sym, ◌∙◌, rules}
 use Rattle.cg_stored.proofs.Agreeing.{counts-left, counts-stop, counts-end}
 use Rattle.cg_stored.proofs.agreement.count_between.Goals as goal
 

@@ -1,4 +1,4 @@
-use Rattle.std.proofs.Common.{◌≡◌, ◌≤◌, ◌-◌, length, get_or, ap, ◌∙◌, rules, arith}
+use Rattle.std.proofs.Common.{◌≡◌, ◌-◌, length, get_or, ap, ◌∙◌, rules, arith}
 use Rattle.cg_action.specs.declared.action.Action.{Action}
 use Rattle.cg_stored.proofs.Agreeing.{last-at, last-none}
 use Rattle.cg_stored.proofs.agreement.last_index.Goals as goal

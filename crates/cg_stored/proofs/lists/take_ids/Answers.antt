@@ -1,5 +1,4 @@
-use Rattle.std.proofs.Common.{◌≡◌, Err, refl, rules}
-use Rattle.std.proofs.lemmas.Result.{err_from_is_err_and}
+use Rattle.std.proofs.Common.{◌≡◌, rules}
 use Rattle.cg_codec.specs.Taking.{unread_of}
 use Rattle.cg_codec.specs.ItemLaws.{items_go_on, items_end}
 use Rattle.cg_action.specs.Reading.{id_reading}

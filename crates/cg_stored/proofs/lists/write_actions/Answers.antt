@@ -1,4 +1,4 @@
-use Rattle.std.proofs.Common.{◌+◌, ◌++◌, length, length-append, flat_map, arith}
+use Rattle.std.proofs.Common.{◌+◌, ◌++◌, length, flat_map}
 use Rattle.cg_codec.specs.Fields.{number32}
 use Rattle.cg_action.specs.Limits.{IsAction}
 use Rattle.cg_action.specs.Bytes.{spelled_action}

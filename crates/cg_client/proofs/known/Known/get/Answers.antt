@@ -1,4 +1,6 @@
-use Rattle.cg_client.proofs.Keeping.{found, found-named}
+use Rattle.std.proofs.Common.{◌++◌}
+use Rattle.cg_queue.specs.NameLaws.{found-named}
+use Rattle.cg_client.proofs.Keeping.{found}
 use Rattle.cg_client.proofs.known.Known.get.Goals as goal
 
 -- src/known.rt:75:5
@@ -6,4 +8,4 @@ pub returns-clause-action : goal.returns-clause-action
 returns-clause-action c = rw (← c.self.view_is) (found c.self.inside.queue c.args.id c.self.invariant)
 
 pub returns-clause-name : goal.returns-clause-name
-returns-clause-name c = rw (← c.self.view_is) (found-named c.self.inside.queue c.args.id)
+returns-clause-name c = rw (← c.self.view_is) (found-named (c.self.inside.queue.greens ++ c.self.inside.queue.reds) c.args.id)

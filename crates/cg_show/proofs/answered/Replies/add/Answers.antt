@@ -1,4 +1,4 @@
-use Rattle.std.proofs.Common.{◌≡◌, sym, ap, ◌∙◌, subst}
+use Rattle.std.proofs.Common.{sym, ap, ◌∙◌, subst}
 use Rattle.cg_agree.specs.Show.{Answered}
 use Rattle.cg_show.specs.Showing.{Ascend}
 use Rattle.cg_show.proofs.Ordered.{ascend-with}

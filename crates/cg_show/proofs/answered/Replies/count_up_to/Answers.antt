@@ -1,5 +1,4 @@
-use Rattle.std.proofs.Common.{◌≡◌, ◌<◌, ◌-◌, suc, length, take, drop, refl, sym, ap, ◌∙◌, subst, arith}
-use Rattle.std.specs.Prelude.{slice_get}
+use Rattle.std.proofs.Common.{◌≡◌, ◌<◌, ◌-◌, suc, length, take, drop, sym, ◌∙◌, subst, arith}
 use Rattle.cg_show.specs.Showing.{StartsFrom, Ascend, is_behind}
 use Rattle.cg_show.proofs.Ordered.{UpTo, above-head, up-to, with-at}
 use Rattle.cg_show.proofs.answered.Replies.count_up_to.Goals as goal

@@ -1,4 +1,4 @@
-use Rattle.std.proofs.Common.{◌≡◌, sym, ◌∙◌}
+use Rattle.std.proofs.Common.{sym, ◌∙◌}
 use Rattle.cg_show.proofs.Printing.{printed-there, printed-nowhere}
 use Rattle.cg_show.proofs.lines.Lines.put.Goals as goal
 

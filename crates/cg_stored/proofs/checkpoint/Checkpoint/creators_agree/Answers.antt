@@ -1,8 +1,8 @@
-use Rattle.std.proofs.Common.{◌≡◌, ◌+◌, ◌-◌, true, false, refl, sym, ap, ◌∙◌, rules, arith}
+use Rattle.std.proofs.Common.{◌≡◌, ◌+◌, ◌-◌, true, refl, sym, ◌∙◌, rules, arith}
 use Rattle.cg_base.specs.Sets.{every_replica}
 use Rattle.cg_stored.specs.Checkpoint.{counts_up}
 use Rattle.cg_stored.specs.Parts.{queue_in}
-use Rattle.cg_stored.proofs.Agreeing.{all-step, all-stop}
+use Rattle.cg_stored.proofs.Agreeing.{all-step}
 use Rattle.cg_stored.proofs.checkpoint.Checkpoint.creators_agree.Goals as goal
 
 pub loop-place-init : goal.loop-place-init

@@ -13,7 +13,7 @@ use Rattle.cg_records.specs.declared.yellow.Yellow.{Yellow}
 use Rattle.cg_records.specs.Same.{same_prim, same_vulnerable, same_record, same_yellow}
 use Rattle.cg_client.specs.Replica.{Held, yellow_of}
 use Rattle.cg_step.specs.Commit.{same_values}
-use Rattle.cg_step.proofs.IdFacts.{same-from}
+use Rattle.cg_queue.specs.NameLaws.{same_id-is}
 
 pub one-list : {A : Type 0} (eq : A → A → Bool) → ((x y : A) → eq x y ≡ true → x ≡ y) → (xs ys : List A) → pointwise eq xs ys ≡ true → xs ≡ ys
 one-list eq exact [] [] e = refl
@@ -26,7 +26,7 @@ one-list eq exact (x ∷ xs) (y ∷ ys) e =
 pub one-number : (m n : ℕ) → nat_eq m n ≡ true → m ≡ n
 one-number m n e = eqb-true m n e
 
-one-weighted : (m n : Weighted) → same_weighted m n ≡ true → m ≡ n
+pub one-weighted : (m n : Weighted) → same_weighted m n ≡ true → m ≡ n
 one-weighted m n e =
     let parts = and_parts (m.id == n.id) (m.weight == n.weight) e in
     λ i. record { id = eqb-true m.id n.id parts.0 i; weight = eqb-true m.weight n.weight parts.1 i }
@@ -38,7 +38,7 @@ one-prim a b e =
     let rest = and_parts (nat_eq a.conf b.conf) (pointwise same_weighted a.set b.set) first.1 in
     λ i. record { index = one-number a.index b.index first.0 i; conf = one-number a.conf b.conf rest.0 i; set = one-list same_weighted one-weighted a.set b.set rest.1 i }
 
-one-vulnerable : (a b : Vulnerable) → same_vulnerable a b ≡ true → a ≡ b
+pub one-vulnerable : (a b : Vulnerable) → same_vulnerable a b ≡ true → a ≡ b
 unfolding same_vulnerable
 one-vulnerable a b e =
     let first = and_parts (nat_eq a.attempt b.attempt) (nat_eq a.from b.from && (pointwise nat_eq a.set b.set && pointwise nat_eq a.bits b.bits)) e in
@@ -51,24 +51,24 @@ one-vulnerable a b e =
       bits = one-list nat_eq one-number a.bits b.bits third.1 i;
     }
 
-one-record : (a b : Option Vulnerable) → same_record a b ≡ true → a ≡ b
+pub one-record : (a b : Option Vulnerable) → same_record a b ≡ true → a ≡ b
 unfolding same_record
 one-record None None e = refl
 one-record (Some a) (Some b) e = ap Some (one-vulnerable a b e)
 one-record None (Some b) e = absurd (let clash : false ≡ true = e in cc)
 one-record (Some a) None e = absurd (let clash : false ≡ true = e in cc)
 
-one-bool : (a b : Bool) → beq a b ≡ true → a ≡ b
+pub one-bool : (a b : Bool) → beq a b ≡ true → a ≡ b
 one-bool true true e = refl
 one-bool false false e = refl
 one-bool true false e = absurd (let clash : false ≡ true = e in cc)
 one-bool false true e = absurd (let clash : false ≡ true = e in cc)
 
-one-yellow : (a b : Yellow) → same_yellow a b ≡ true → a ≡ b
+pub one-yellow : (a b : Yellow) → same_yellow a b ≡ true → a ≡ b
 unfolding same_yellow
 one-yellow a b e =
     let parts = and_parts (beq a.valid b.valid) (pointwise same_id a.list b.list) e in
-    λ i. record { valid = one-bool a.valid b.valid parts.0 i; list = one-list same_id same-from a.list b.list parts.1 i }
+    λ i. record { valid = one-bool a.valid b.valid parts.0 i; list = one-list same_id same_id-is a.list b.list parts.1 i }
 
 -- the values of what a replica holds
 pub record HaveOneValue (old new : Held) : Type 0 where

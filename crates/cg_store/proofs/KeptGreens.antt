@@ -1,6 +1,6 @@
--- The kept greens of a snapshot, put in one after another, and how far they reach.
-use Rattle.std.proofs.Common.{◌⊎◌, ◌≡◌, ◌≢◌, ◌^◌, ℕ, ◌<◌, ◌≤◌, List, [], ◌∷◌, ◌++◌, Bool, true, false, fold, append-nil, append_assoc, refl, sym, ap, ◌∙◌, arith, inl, inr, if◌then◌else◌, nat_lt, eqb-true}
-use Rattle.std.specs.Prelude.{◌==◌, None}
+-- Kept greens, put in one after another, and how far they reach.
+use Rattle.std.proofs.Common.{◌⊎◌, ◌≡◌, ◌≢◌, ◌^◌, ℕ, ◌<◌, ◌≤◌, List, [], ◌∷◌, ◌++◌, Bool, true, false, fold, append-nil, append_assoc, refl, sym, ap, ◌∙◌, arith, inl, inr, if◌then◌else◌, nat_lt}
+use Rattle.std.specs.Prelude.{◌==◌}
 use Rattle.std.proofs.lemmas.Bool.{cases_eq, eq-eqb, ne_eqb, and_parts}
 use Rattle.std.specs.Cmp.Lexicographic.{pointwise}
 use Rattle.cg_base.specs.declared.action_id.ActionId.{ActionId}
@@ -8,11 +8,11 @@ use Rattle.cg_base.specs.Ids.{same_id}
 use Rattle.cg_base.specs.Cuts.{raise, with_top}
 use Rattle.cg_records.specs.Limits.{Each, IsIndex}
 use Rattle.cg_action.specs.declared.action.Action.{Action}
-use Rattle.cg_db.specs.declared.entry.DbEntry.{DbEntry}
 use Rattle.cg_queue.specs.Queue.{QueueView, names_of, resumed}
+use Rattle.cg_queue.specs.NameLaws.{same_id-is}
 use Rattle.cg_client.specs.Replica.{Held}
-use Rattle.cg_join.specs.declared.piece.Head.{Head}
-use Rattle.cg_join.specs.Snapshot.{joined_from, with_kept_green}
+use Rattle.cg_store.specs.declared.resuming.GreenState.{GreenState}
+use Rattle.cg_store.specs.Rebuilt.{with_kept_green, resumed_with}
 
 -- ---- the queue
 
@@ -30,31 +30,30 @@ greens_put h white had cut (a ∷ greens) =
     greens_put h white (had ++ a ∷ []) (raise cut a.id) greens
     ∙ ap (λ l. holding h (flat white l (fold raise (raise cut a.id) (names_of greens)))) (append_assoc had (a ∷ []) greens)
 
--- what a joiner holds before the kept actions are put in
-abbrev bare : ℕ → Head → List DbEntry → List ActionId → Held
-bare id head db cut =
+-- what it holds before the greens are put in
+abbrev bare : ℕ → GreenState → List ActionId → Held
+bare id g cut =
     record {
       id = id;
-      queue = resumed head.reached.white cut;
+      queue = resumed g.reached.white cut;
       yellow_valid = false;
       own = [];
-      db = db;
-      members = head.reached.members;
-      prim = head.prim;
-      attempt_index = head.attempt_index;
-      vulnerable = None;
+      db = g.db;
+      members = g.reached.members;
+      prim = g.prim;
+      attempt_index = g.attempt_index;
+      vulnerable = g.vulnerable;
       buffered = [];
       owed = [];
     }
 
-pub rebuilt : (id : ℕ) (head : Head) (greens : List Action) (db : List DbEntry) (below : List ActionId) (h0 h1 : Held) → h0 ≡ bare id head db below → h1 ≡ fold with_kept_green h0 greens
-    → h1.queue.green_cut ≡ head.reached.cut → h1 ≡ joined_from id head greens db
-rebuilt id head greens db below h0 h1 e0 e1 at_cut =
-    let base = bare id head db below in
-    let cut = fold raise below (names_of greens) in
-    let one : h1 ≡ holding base (flat head.reached.white greens cut) = e1 ∙ ap (λ h. fold with_kept_green h greens) e0 ∙ greens_put base head.reached.white [] below greens in
-    let cut_is : cut ≡ head.reached.cut = sym (ap (λ (h : Held). h.queue.green_cut) one) ∙ at_cut in
-    one ∙ ap (λ c. holding base (flat head.reached.white greens c)) cut_is
+pub greens_resumed : (id : ℕ) (g : GreenState) (below : List ActionId) (h0 h1 : Held) → h0 ≡ bare id g below → h1 ≡ fold with_kept_green h0 g.greens → h1.queue.green_cut ≡ g.reached.cut → h1 ≡ resumed_with id g
+greens_resumed id g below h0 h1 e0 e1 at_cut =
+    let base = bare id g below in
+    let cut = fold raise below (names_of g.greens) in
+    let one : h1 ≡ holding base (flat g.reached.white g.greens cut) = e1 ∙ ap (λ h. fold with_kept_green h g.greens) e0 ∙ greens_put base g.reached.white [] below g.greens in
+    let cut_is : cut ≡ g.reached.cut = sym (ap (λ (h : Held). h.queue.green_cut) one) ∙ at_cut in
+    one ∙ ap (λ c. holding base (flat g.reached.white g.greens c)) cut_is
 
 -- ---- cuts
 
@@ -82,19 +81,12 @@ raise_indexed cut id below all = at (cases_eq id.index 0)
 
 -- ---- cuts that are one
 
-same_names : (a b : ActionId) → same_id a b ≡ true → a ≡ b
-same_names a b same =
-    let parts = and_parts (a.creator == b.creator) (a.index == b.index) same in
-    let creator = eqb-true a.creator b.creator parts.0 in
-    let index = eqb-true a.index b.index parts.1 in
-    λ i. record { creator = creator i; index = index i }
-
 pub same_cuts : (a b : List ActionId) → pointwise same_id a b ≡ true → a ≡ b
 same_cuts [] [] same = refl
 same_cuts [] (y ∷ ys) same = cc
 same_cuts (x ∷ xs) [] same = cc
 same_cuts (x ∷ xs) (y ∷ ys) same =
     let parts = and_parts (same_id x y) (pointwise same_id xs ys) same in
-    let first = same_names x y parts.0 in
+    let first = same_id-is x y parts.0 in
     let rest = same_cuts xs ys parts.1 in
     λ i. first i ∷ rest i

@@ -2,8 +2,8 @@ use Rattle.std.proofs.Common.{◌≡◌, fold}
 use Rattle.std.specs.Vec.Iter.{into_iter_items}
 use Rattle.cg_action.specs.Limits.{IsAction}
 use Rattle.cg_records.specs.Limits.{Each}
-use Rattle.cg_join.specs.Snapshot.{with_kept_green}
-use Rattle.cg_join.proofs.rebuild.put_greens.Given as goal
+use Rattle.cg_store.specs.Rebuilt.{with_kept_green}
+use Rattle.cg_store.proofs.resuming.put_greens.Given as goal
 
 -- those that are left give what all gave
 abbrev pub invariant-loop-a : goal.invariant-loop-a

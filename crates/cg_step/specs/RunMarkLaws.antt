@@ -6,9 +6,10 @@ use Rattle.std.proofs.lemmas.Bool.{cases_eq, cases_order, cases_Bool, eq-eqb, ne
 use Rattle.cg_base.specs.declared.action_id.ActionId.{ActionId}
 use Rattle.cg_base.specs.Ids.{same_id, id_before, names}
 use Rattle.cg_base.specs.Cuts.{index_in, raise}
+use Rattle.cg_step.specs.Holds.{run_on, cut_behind, ascend, Rising}
 use Rattle.cg_base.specs.IdLaws.{same_id-true, same_id-false}
-use Rattle.cg_agree.specs.FactsReplica.{run_on, cut_behind, ascend}
-use Rattle.cg_agree.proofs.CutRaise.{same_name, raise-commute, behind-raised, Rising, rising-raise, index-same, index-other, index-rises, behind-rises, raise-below}
+use Rattle.cg_queue.specs.NameLaws.{same_name}
+use Rattle.cg_step.specs.CutRaiseLaws.{raise-commute, behind-raised, rising-raise, index-same, index-other, index-rises, behind-rises, raise-below}
 
 -- ---- one run
 
@@ -195,7 +196,7 @@ before-trans a b c f g = elim (before-parts a b f) [
 ascend-parts : (x y : ActionId) (ids : List ActionId) → ascend (x ∷ y ∷ ids) ≡ true → (id_before x y ≡ true) × (ascend (y ∷ ids) ≡ true)
 ascend-parts x y ids up = and_parts (id_before x y) (ascend (y ∷ ids)) up
 
-ascend-less : (x : ActionId) (ids : List ActionId) → ascend (x ∷ ids) ≡ true → ascend ids ≡ true
+pub ascend-less : (x : ActionId) (ids : List ActionId) → ascend (x ∷ ids) ≡ true → ascend ids ≡ true
 ascend-less x [] up = refl
 ascend-less x (y ∷ ids) up = (ascend-parts x y ids up).1
 
@@ -207,7 +208,7 @@ ascend-skip x y (z ∷ ids) up =
     and_from (id_before x z) (ascend (z ∷ ids)) (before-trans x y z first.0 second.0) second.1
 
 -- names before all that follow, and in front of names that ascend
-ascend-filter-from : (p : ActionId → Bool) (x : ActionId) (ids : List ActionId) → ascend (x ∷ ids) ≡ true → ascend (x ∷ filter p ids) ≡ true
+pub ascend-filter-from : (p : ActionId → Bool) (x : ActionId) (ids : List ActionId) → ascend (x ∷ ids) ≡ true → ascend (x ∷ filter p ids) ≡ true
 ascend-filter-from p x [] up = refl
 ascend-filter-from p x (y ∷ ids) up = elim (cases_Bool (p y)) [
   | inl keeps ↦

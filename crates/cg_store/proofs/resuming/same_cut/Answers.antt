@@ -1,6 +1,6 @@
 use Rattle.std.proofs.Common.{sym, ◌∙◌}
-use Rattle.cg_store.proofs.Rebuilding.{same_cuts}
-use Rattle.cg_store.proofs.rebuild.same_cut.Goals as goal
+use Rattle.cg_store.proofs.KeptGreens.{same_cuts}
+use Rattle.cg_store.proofs.resuming.same_cut.Goals as goal
 
 pub returns : goal.returns
 returns c = λ yes. same_cuts c.args.a.now c.args.b.now (sym c.eq.ensures ∙ yes)
