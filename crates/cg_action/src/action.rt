@@ -1,6 +1,6 @@
 ghost use Rattle.std.specs.Prelude.{◌≡◌, IfOk};
 
-use crate::command::copy_commands;
+use crate::commands::copy_commands;
 use crate::query::copy_query;
 use crate::{CmdList, Query};
 use cg_base::{ActionId, NoMemory, ReplicaId, Row};

@@ -2,7 +2,7 @@ ghost use Rattle.std.specs.Prelude.{◌≡◌, IfOk};
 
 use crate::Value;
 use crate::value::copy_want;
-use cg_base::{NoMemory, Row};
+use cg_base::NoMemory;
 use cg_text::Txt;
 use std::alloc::Global;
 
@@ -41,9 +41,6 @@ pub enum Cmd {
         want: Option<Value>,
     },
 }
-
-/// Commands in the order in which they run.
-pub type CmdList = Row<Cmd>;
 
 impl Cmd {
     /// Another command that is the same.
@@ -90,15 +87,4 @@ impl Cmd {
             }
         }
     }
-}
-
-/// Other commands that are the same.
-pub fn copy_commands(alloc: Global, cmds: &[Cmd]) -> Result<CmdList, NoMemory>
-    ensures { IfOk result (λ list. list ≡ cmds.now) }
-{
-    let mut copies = Row::with_capacity(alloc, cmds.len())?;
-    for cmd in cmds {
-        copies.push(cmd.copy(alloc)?)?;
-    }
-    Ok(copies)
 }

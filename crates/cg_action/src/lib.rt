@@ -7,6 +7,7 @@
 
 mod action;
 mod command;
+mod commands;
 mod laws;
 mod print;
 mod query;
@@ -15,7 +16,8 @@ mod value;
 mod writing;
 
 pub use action::{Action, ActionList, Kind, copy_actions};
-pub use command::{Cmd, CmdList, copy_commands};
+pub use command::Cmd;
+pub use commands::{CmdList, copy_commands};
 pub use laws::{actions_are_exact, spellings_stand_apart};
 pub use print::{Update, print_kind, print_query, print_update, print_value};
 pub use query::{Query, copy_query};

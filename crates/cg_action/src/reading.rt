@@ -7,7 +7,7 @@ ghost use Rattle.cg_action.specs.Limits.{IsAction};
 ghost use Rattle.cg_action.specs.Reading.{byte_between, number_from, id_reading, key_reading, value_of_tag, value_reading, want_of_tag, want_reading, amount_reading, put_reading, del_reading, inc_reading, cas_reading, move_reading, need_reading, command_of_tag, command_reading, query_of_tag, query_reading, commands_reading, query_behind, update_reading, heavy_join_reading, kind_of_tag, kind_reading, action_reading};
 
 use crate::{Action, Cmd, CmdList, Kind, Query, Value};
-use cg_base::{ActionId, ReplicaId, Row};
+use cg_base::{ActionId, ReplicaId};
 use cg_codec::{CodecFault, Fields};
 use cg_text::Txt;
 use std::alloc::Global;
@@ -277,7 +277,7 @@ fn take_commands(alloc: Global, fields: &mut Fields) -> Result<CmdList, CodecFau
 {
     let mut after = *fields;
     let count = after.take_count(16)?;
-    let mut cmds = Row::with_capacity(alloc, count as usize)?;
+    let mut cmds = CmdList::with_capacity(alloc, count as usize)?;
     for _ in 0..count {
         cmds.push(take_command(alloc, &mut after)?)?;
     }

@@ -81,7 +81,7 @@ fn take_command(alloc: Global, db: &Db, part: &mut Db, cmd: &Cmd) -> Result<(), 
 fn take_key(alloc: Global, db: &Db, part: &mut Db, key: &Txt) -> Result<(), NoMemory>
     ensures { OnOk result (part.new ≡ with_key db.now part.old key.now) }
 {
-    let Some(value) = db.value(key.as_str()) else {
+    let Some(value) = db.value(key) else {
         return Ok(());
     };
     let key = key.copy(alloc)?;
@@ -102,7 +102,7 @@ fn apply_all(db: &mut Db, actions: ActionList) -> Result<(), NoMemory>
 fn has_key(db: &Db, key: &Txt) -> bool
     ensures { result ≡ has_key db.now key.now }
 {
-    db.value(key.as_str()).is_some()
+    db.value(key).is_some()
 }
 
 // the answer of a database in which a part has become another one

@@ -1,7 +1,6 @@
 -- The keys of a database, and what a sort makes of the keys of a map.
 use Rattle.std.proofs.Common.{◌≡◌, ℕ, zero, suc, ◌+◌, ◌<◌, Bool, true, false, cond, ◌&&◌, ◌||◌, List, [], ◌∷◌, ◌++◌, length, drop, refl, sym, ap, ◌∙◌, add-one, arith}
-use Rattle.std.specs.Prelude.{Option, Some, None, is_some, map, filter, flat_map, String, pos, IsSorted, IsPermutation}
-use Rattle.std.specs.String.{string_bytes, string_eq}
+use Rattle.std.specs.Prelude.{Option, Some, None, is_some, map, filter, flat_map, pos, IsSorted, IsPermutation}
 use Rattle.std.specs.Str.{bytes_eq}
 use Rattle.std.proofs.lemmas.List.{append-nil}
 use Rattle.std.specs.List.{slice_get, list_any, IsDistinct, AllByRecursion}
@@ -94,12 +93,12 @@ is_in-keys : (db : List DbEntry) (q : List ℕ) → is_in q (keys db) ≡ is_som
 is_in-keys [] q = refl
 is_in-keys (e ∷ db) q = ap (λ b. same_text q e.key || b) (is_in-keys db q) ∙ sym (is_some-or (same_text q e.key) e.value (value_of db q))
 
-is_in-map : {Z : Type 0} (es : List (String Z × Value)) (q : List ℕ) → is_in q (map string_bytes (keys_of es)) ≡ is_some (lookup (λ (k : String Z). bytes_eq q (string_bytes k)) es)
+is_in-map : (es : List (List ℕ × Value)) (q : List ℕ) → is_in q (keys_of es) ≡ is_some (lookup (λ (k : List ℕ). bytes_eq q k) es)
 is_in-map [] q = refl
-is_in-map {Z} (e ∷ es) q = ap (λ b. same_text q (string_bytes e.0) || b) (is_in-map es q) ∙ sym (is_some-or (same_text q (string_bytes e.0)) e.1 (lookup (λ (k : String Z). bytes_eq q (string_bytes k)) es))
+is_in-map (e ∷ es) q = ap (λ b. same_text q e.0 || b) (is_in-map es q) ∙ sym (is_some-or (same_text q e.0) e.1 (lookup (λ (k : List ℕ). bytes_eq q k) es))
 
 -- the keys that are seen are the map's
-is_in-seen : {Z : Type 0} (es : List (String Z × Value)) (q : List ℕ) → is_in q (keys (of_entries es)) ≡ is_in q (map string_bytes (keys_of es))
+is_in-seen : (es : List (List ℕ × Value)) (q : List ℕ) → is_in q (keys (of_entries es)) ≡ is_in q (keys_of es)
 is_in-seen es q = is_in-keys (of_entries es) q ∙ ap is_some (value_of-of_entries es q) ∙ sym (is_in-map es q)
 
 -- ---- what a sort makes of different texts
@@ -123,23 +122,23 @@ apart-kept : (k t : List ℕ) (us : List (List ℕ)) → bytes_eq k t ≡ false 
 apart-kept k t us differ rest true = (differ, rest)
 apart-kept k t us differ rest false = rest
 
-apart-seen : {Z : Type 0} (p : List ℕ → Bool) (k : String Z) (ks : List (String Z)) → AllByRecursion (λ y. string_eq k y ≡ false) ks → AllByRecursion (λ y. bytes_eq (string_bytes k) y ≡ false) (filter p (map string_bytes ks))
+apart-seen : (p : List ℕ → Bool) (k : List ℕ) (ks : List (List ℕ)) → AllByRecursion (λ y. bytes_eq k y ≡ false) ks → AllByRecursion (λ y. bytes_eq k y ≡ false) (filter p (ks))
 apart-seen p k [] apart = tt
-apart-seen p k (x ∷ ks) apart = apart-kept (string_bytes k) (string_bytes x) (filter p (map string_bytes ks)) apart.0 (apart-seen p k ks apart.1) (p (string_bytes x))
+apart-seen p k (x ∷ ks) apart = apart-kept k x (filter p (ks)) apart.0 (apart-seen p k ks apart.1) (p x)
 
 distinct-kept : (t : List ℕ) (us : List (List ℕ)) → AllByRecursion (λ y. bytes_eq t y ≡ false) us → IsDistinct bytes_eq us → (b : Bool) → IsDistinct bytes_eq (cond b (t ∷ us) us)
 distinct-kept t us differ rest true = IsDistinct-cons bytes_eq t us differ rest
 distinct-kept t us differ rest false = rest
 
-distinct-seen : {Z : Type 0} (p : List ℕ → Bool) (ks : List (String Z)) → IsDistinct string_eq ks → IsDistinct bytes_eq (filter p (map string_bytes ks))
+distinct-seen : (p : List ℕ → Bool) (ks : List (List ℕ)) → IsDistinct bytes_eq ks → IsDistinct bytes_eq (filter p (ks))
 unfolding IsDistinct
 distinct-seen p [] apart = tt
-distinct-seen p (k ∷ ks) apart = distinct-kept (string_bytes k) (filter p (map string_bytes ks)) (apart-seen p k ks apart.0) (distinct-seen p ks apart.1) (p (string_bytes k))
+distinct-seen p (k ∷ ks) apart = distinct-kept k (filter p (ks)) (apart-seen p k ks apart.0) (distinct-seen p ks apart.1) (p k)
 
-pub sorted_is : {Z : Type 0} (es : List (String Z × Value)) (p : List ℕ → Bool) (found sorted : List (List ℕ)) → IsDistinct string_eq (keys_of es) → found ≡ filter p (map string_bytes (keys_of es))
+pub sorted_is : (es : List (List ℕ × Value)) (p : List ℕ → Bool) (found sorted : List (List ℕ)) → IsDistinct bytes_eq (keys_of es) → found ≡ filter p (keys_of es)
     → IsPermutation found sorted → IsSorted (slice_cmp nat_cmp) sorted → sorted ≡ filter p (keys (of_entries es))
 sorted_is es p found sorted unique is moved up =
-    let seen = map string_bytes (keys_of es) in
+    let seen = keys_of es in
     let differ : IsDistinct bytes_eq found = rw is (distinct-seen p (keys_of es) unique) in
     let apart = IsDistinct-IsPermutation bytes_eq same_flipped found sorted moved differ in
     let own : Ascends (as_db (filter p (keys (of_entries es)))) = rw as_db-filter (Ascends-filter (λ (e : DbEntry). p e.key) (as_db (keys (of_entries es))) (Ascends-as_db (of_entries es) (Ascends-of_entries es))) in
@@ -148,16 +147,16 @@ sorted_is es p found sorted unique is moved up =
 
 -- ---- the number of keys
 
-absent : {Z : Type 0} (k : String Z) (es : List (String Z × Value)) → AllByRecursion (λ y. string_eq k y ≡ false) (keys_of es) → lookup (λ (x : String Z). bytes_eq (string_bytes k) (string_bytes x)) es ≡ None
+absent : (k : List ℕ) (es : List (List ℕ × Value)) → AllByRecursion (λ y. bytes_eq k y ≡ false) (keys_of es) → lookup (λ (x : List ℕ). bytes_eq k x) es ≡ None
 absent k [] apart = refl
-absent k (e ∷ es) apart = let first : bytes_eq (string_bytes k) (string_bytes e.0) ≡ false = apart.0 in rw first (absent k es apart.1)
+absent k (e ∷ es) apart = let first : bytes_eq k e.0 ≡ false = apart.0 in rw first (absent k es apart.1)
 
-pub length-of_entries : {Z : Type 0} (es : List (String Z × Value)) → IsDistinct string_eq (keys_of es) → length (of_entries es) ≡ length es
+pub length-of_entries : (es : List (List ℕ × Value)) → IsDistinct bytes_eq (keys_of es) → length (of_entries es) ≡ length es
 unfolding IsDistinct
 length-of_entries [] apart = refl
 length-of_entries (e ∷ es) apart =
-    let none : value_of (of_entries es) (string_bytes e.0) ≡ None = value_of-of_entries es (string_bytes e.0) ∙ absent e.0 es apart.0 in
-    length-put (of_entries es) (string_bytes e.0) e.1 none ∙ ap suc (length-of_entries es apart.1)
+    let none : value_of (of_entries es) e.0 ≡ None = value_of-of_entries es e.0 ∙ absent e.0 es apart.0 in
+    length-put (of_entries es) e.0 e.1 none ∙ ap suc (length-of_entries es apart.1)
 
 -- ---- every key, and what is found at it
 
@@ -172,20 +171,20 @@ entries_are db entries left all so_far none every up =
     let whole = rw (none, known) at so_far in
     sym (append-nil entries) ∙ whole ∙ found_all db up
 
-pub found_is : {Z : Type 0} (es : List (String Z × Value)) (p : List ℕ → Bool) (found : List (List ℕ)) (left all : List (String Z)) → found ++ filter p (map string_bytes left) ≡ filter p (map string_bytes all)
-    → left ≡ [] → all ≡ keys_of es → found ≡ filter p (map string_bytes (keys_of es))
+pub found_is : (es : List (List ℕ × Value)) (p : List ℕ → Bool) (found : List (List ℕ)) (left all : List (List ℕ)) → found ++ filter p (left) ≡ filter p (all)
+    → left ≡ [] → all ≡ keys_of es → found ≡ filter p (keys_of es)
 found_is es p found left all so_far none every =
     let whole = rw (none, every) at so_far in
     sym (append-nil found) ∙ whole
 
 -- ---- one entry more is copied
 
-at_index : {Z : Type 0} (es : List (String Z × Value)) (i : ℕ) (x : String Z × Value) → slice_get es i ≡ Some x → drop i es ≡ x ∷ drop (suc i) es
+at_index : (es : List (List ℕ × Value)) (i : ℕ) (x : List ℕ × Value) → slice_get es i ≡ Some x → drop i es ≡ x ∷ drop (suc i) es
 at_index [] i x e = absurd (cc)
 at_index (y ∷ es) zero x e = let is : y ≡ x = cc in ap (λ z. z ∷ es) is
 at_index (y ∷ es) (suc i) x e = at_index es i x e
 
-pub copied_one : {Z : Type 0} (es : List (String Z × Value)) (i : ℕ) (k : String Z) (v : Value) (old new : List DbEntry) (key : List ℕ) (w : Value) → slice_get es i ≡ Some (k, v) → key ≡ string_bytes k → w ≡ v
+pub copied_one : (es : List (List ℕ × Value)) (i : ℕ) (k : List ℕ) (v : Value) (old new : List DbEntry) (key : List ℕ) (w : Value) → slice_get es i ≡ Some (k, v) → key ≡ k → w ≡ v
     → new ≡ put old key w → old ≡ of_entries (drop (i + 1) es) → new ≡ of_entries (drop i es)
 copied_one es i k v old new key w at same_key same_value made before =
     let whole = at_index es i (k, v) at in

@@ -17,7 +17,7 @@ use indexmap::IndexMap;
 use std::alloc::Global;
 use std::marker::Model;
 
-type Map = IndexMap<String, Value>;
+type Map = IndexMap<Txt, Value>;
 
 /// A database. Clauses see its entries, ascending by key.
 #[derive(Drop)]
@@ -87,7 +87,7 @@ impl Db {
         ensures { IfOk result (λ found. found ≡ answer self.now q.now) }
     {
         match q {
-            Query::Get(key) => match self.value(key.as_str()) {
+            Query::Get(key) => match self.value(key) {
                 None => Ok(Answer::Absent),
                 Some(value) => answer_of(self.alloc, value),
             },
@@ -147,7 +147,7 @@ impl Db {
     fn push_entry(&self, entries: &mut EntryList, key: Txt) -> Result<(), NoMemory>
         ensures { OnOk result (entries.new ≡ entries.old ++ entry_at key (value_of self.now key)) }
     {
-        let Some(value) = self.value(key.as_str()) else {
+        let Some(value) = self.value(&key) else {
             return Ok(());
         };
         let value = value.copy(self.alloc)?;
@@ -160,7 +160,7 @@ impl Db {
     {
         let mut found = Vec::new(self.alloc);
         for key in self.map.keys() {
-            push_if(self.alloc, &mut found, key.as_str(), prefix)?;
+            push_if(self.alloc, &mut found, key, prefix)?;
         }
         found.sort()?;
         Ok(found)
@@ -179,7 +179,7 @@ impl Db {
     }
 
     /// The value of a key, if it is there.
-    pub fn value(&self, key: &str) -> Option<&Value>
+    pub fn value(&self, key: &Txt) -> Option<&Value>
         ensures { option_copied result ≡ value_of self.now key.now }
     {
         self.map.get(key)
@@ -196,13 +196,13 @@ fn answer_of(alloc: Global, value: &Value) -> Result<Answer, NoMemory>
 }
 
 // the key, if it begins with the prefix
-fn push_if(alloc: Global, found: &mut Vec<Txt>, key: &str, prefix: &str) -> Result<(), NoMemory>
+fn push_if(alloc: Global, found: &mut Vec<Txt>, key: &Txt, prefix: &str) -> Result<(), NoMemory>
     ensures { OnOk result (found.new.items ≡ found.old.items ++ filter (λ k. begins_with k prefix.now) (key.now ∷ [])) }
 {
-    if !key.as_bytes().starts_with(prefix.as_bytes()) {
+    if !key.as_str().as_bytes().starts_with(prefix.as_bytes()) {
         return Ok(());
     }
-    let key = Txt::new(alloc, key)?;
+    let key = key.copy(alloc)?;
     found.push(key)?;
     Ok(())
 }
@@ -211,7 +211,7 @@ fn put_entry(map: &mut Map, key: Txt, value: Value) -> Result<(), NoMemory>
     ensures ok { OnOk result (of_entries map.new.entries ≡ put (of_entries map.old.entries) key value) }
     ensures err { OnErr result (of_entries map.new.entries ≡ of_entries map.old.entries) }
 {
-    map.insert(key.into_string(), value)?;
+    map.insert(key, value)?;
     Ok(())
 }
 
@@ -223,7 +223,7 @@ fn copy_entry(alloc: Global, from: &Map, place: usize, to: &mut Map) -> Result<(
     let Some((key, value)) = from.get_index(place) else {
         return Ok(());
     };
-    let key = String::from_str(alloc, key.as_str())?;
+    let key = key.copy(alloc)?;
     let value = value.copy(alloc)?;
     to.insert(key, value)?;
     Ok(())
@@ -249,10 +249,10 @@ fn write_one(map: &mut Map, change: Change)
     let Change { key, value } = change;
     match value {
         Some(value) => {
-            let _ = map.insert(key.into_string(), value);
+            let _ = map.insert(key, value);
         }
         None => {
-            let _ = map.swap_remove(key.as_str());
+            let _ = map.swap_remove(&key);
         }
     }
 }

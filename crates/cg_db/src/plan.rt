@@ -142,7 +142,7 @@ fn move_amount(
 fn value_in<'a>(db: &'a Db, changes: &'a [Change], key: &Txt) -> Option<&'a Value>
     ensures { option_copied result ≡ value_of (with_changes db.now changes.now) key.now }
 {
-    let mut value = db.value(key.as_str());
+    let mut value = db.value(key);
     for change in changes {
         if *key == change.key {
             value = change.value.as_ref();

@@ -37,7 +37,8 @@ fn an_action_that_fails_changes_nothing(rt: HostRuntime) -> Result<(), Fail> {
         amount: 7,
     };
     assert_eq!(rt; run(alloc, &mut db, shift)?, Effect::Aborted(1));
-    assert!(rt; matches!(db.value("x"), Some(Value::Int(5))));
-    assert!(rt; db.value("y").is_none());
+    let (x, y) = (Txt::new(alloc, "x")?, Txt::new(alloc, "y")?);
+    assert!(rt; matches!(db.value(&x), Some(Value::Int(5))));
+    assert!(rt; db.value(&y).is_none());
     Ok(())
 }

@@ -5,7 +5,7 @@ ghost use Rattle.cg_gen.specs.Generated.{asking, increment, set_and_get, weak_ge
 
 use crate::draws::Draws;
 use cg_action::{Cmd, CmdList, Query, Value};
-use cg_base::{NoMemory, ReplicaId, Row};
+use cg_base::{NoMemory, ReplicaId};
 use cg_schedule::Event;
 use cg_text::Txt;
 use std::alloc::Global;
@@ -96,7 +96,7 @@ fn name(alloc: Global, letter: u8, n: u64) -> Result<Txt, NoMemory>
 fn single(alloc: Global, cmd: Cmd) -> Result<CmdList, NoMemory>
     ensures { IfOk result (λ cmds. cmds ≡ cmd ∷ []) }
 {
-    let mut cmds = Row::new(alloc);
+    let mut cmds = CmdList::new(alloc);
     cmds.push(cmd)?;
     Ok(cmds)
 }

@@ -7,7 +7,6 @@ ghost use Rattle.cg_schedule.specs.Command.{key_part, put_reading, del_reading, 
 use crate::LineFault;
 use crate::part::{take_amount, take_integer, take_text, take_token, take_value, take_want};
 use cg_action::{Cmd, CmdList, Query};
-use cg_base::Row;
 use cg_text::{Txt, Words};
 use std::alloc::Global;
 
@@ -178,7 +177,7 @@ fn take_commands<'a>(
 ) -> Result<(CmdList, Option<Query>), LineFault>
     ensures { TakesWithMemory (λ u. u) (commands 16 [] first.now) words.old words.new result }
 {
-    let mut cmds = Row::new(alloc);
+    let mut cmds = CmdList::new(alloc);
     let mut word = first;
     for _ in 0..16_u32 {
         cmds.push(take_command(alloc, words, word)?)?;
@@ -206,7 +205,7 @@ fn take_update_of<'a>(
     ensures { TakesWithMemory (λ u. u) (update_of token.now) words.old words.new result }
 {
     if is_question_mark(token) {
-        return with_query(alloc, words, Row::new(alloc));
+        return with_query(alloc, words, CmdList::new(alloc));
     }
     take_commands(alloc, words, token)
 }

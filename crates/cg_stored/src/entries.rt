@@ -112,7 +112,7 @@ fn write_entry(out: &mut Vec<u8>, db: &Db, key: &Txt) -> Result<(), NoMemory>
     ensures ok { OnOk result (out.new.items ≡ out.old.items ++ flat_map spelled_entry (entry_at key.now (value_of db.now key.now))) }
     ensures err { OnErr result (KeepsFront out.old.items out.new.items) }
 {
-    let Some(value) = db.value(key.as_str()) else {
+    let Some(value) = db.value(key) else {
         return Ok(());
     };
     put_text(out, key.as_str())?;

@@ -1,50 +1,61 @@
 //! Texts.
 
-ghost use Rattle.std.specs.Prelude.{◌≡◌, ◌==◌, length, IfOk, string_bytes};
+ghost use Rattle.std.specs.Prelude.{◌≡◌, ◌==◌, [], length, IfOk, string_bytes};
 ghost use Rattle.std.specs.Str.{IsUtf8};
 
 use cg_base::NoMemory;
+use smallvec::SmallVec;
 use std::alloc::Global;
 use std::cmp::Ordering;
+use std::fmt;
+use std::fmt::{Debug, Formatter, Write};
+use std::hash::{Hash, Hasher};
 use std::marker::Model;
+use std::str::from_utf8_unchecked;
 
-/// A text in UTF-8. Clauses see its bytes, by which it is compared.
-#[derive(Debug, Drop)]
+/// A text in UTF-8. Clauses see its bytes, by which it is compared. One of at most 16 bytes, as most keys are, lies in the value
+/// itself and takes no memory.
+#[derive(Drop)]
 pub struct Txt {
-    text: String,
+    bytes: SmallVec<u8, 16>,
 }
 
 impl Model for Txt {
-    ghost use Rattle.std.specs.Prelude.{ℕ, List, string_bytes};
+    ghost use Rattle.std.specs.Prelude.{ℕ, List};
+    ghost use Rattle.std.specs.Str.{IsUtf8};
 
     ghost Value = { List ℕ };
 
-    ghost view = { λ t. string_bytes t.text };
+    ghost view = { λ t. t.bytes.items };
+
+    ghost invariant = { λ t. IsUtf8 t.bytes.items };
 }
 
 impl Txt {
+    /// A text without bytes.
+    pub fn empty(alloc: Global) -> Txt
+        ensures { result ≡ [] }
+    {
+        Txt {
+            bytes: SmallVec::new(alloc),
+        }
+    }
+
     /// A copy of the text.
     pub fn new(alloc: Global, t: &str) -> Result<Txt, NoMemory>
         ensures { IfOk result (λ text. text ≡ t.now) }
     {
-        Ok(Txt {
-            text: String::from_str(alloc, t)?,
-        })
+        let bytes = SmallVec::from_slice(alloc, t.as_bytes())?;
+        Ok(Txt { bytes })
     }
 
     /// The text itself. It takes no memory.
     pub fn from_string(text: String) -> Txt
         ensures { result ≡ string_bytes text }
     {
-        Txt { text }
-    }
-
-    /// The text itself. It takes no memory.
-    pub fn into_string(self) -> String
-        ensures { string_bytes result ≡ self }
-    {
-        let Txt { text } = self;
-        text
+        Txt {
+            bytes: SmallVec::from_vec(text.into_bytes()),
+        }
     }
 
     pub fn copy(&self, alloc: Global) -> Result<Txt, NoMemory>
@@ -57,7 +68,7 @@ impl Txt {
         ensures value { result.now ≡ self.now }
         ensures utf8 { IsUtf8 self.now }
     {
-        self.text.as_str()
+        unsafe { from_utf8_unchecked(self.bytes.as_slice()) }
     }
 
     /// How many bytes the text has.
@@ -123,5 +134,25 @@ impl Ord for Txt {
 
     fn cmp(&self, other: &Txt) -> Ordering {
         self.as_str().cmp(other.as_str())
+    }
+}
+
+impl Hash for Txt {
+    ghost use Rattle.std.specs.Hash as fed;
+    ghost use Rattle.std.proofs.Common.{ap};
+    ghost use Rattle.std.specs.Cmp.Lexicographic.{bytes_decides};
+
+    ghost hash_input = { λ t. fed.str t };
+
+    ghost respects_eq = { λ x y h. ap fed.str ((bytes_decides x y).0 h) };
+
+    fn hash<H: Hasher>(&self, state: &mut H) {
+        self.as_str().hash(state);
+    }
+}
+
+impl Debug for Txt {
+    fn fmt<W: Write>(&self, f: &mut Formatter<W>) -> fmt::Result {
+        Debug::fmt(self.as_str(), f)
     }
 }

@@ -11,7 +11,7 @@ ghost use Rattle.cg_action.specs.declared.action.Action.{Action as ActionOf};
 ghost use Rattle.cg_base.specs.declared.action_id.ActionId.{ActionId};
 ghost use Rattle.cg_struck.specs.Bench.{IsBooked, IsFree, IsAwaited, FallsWithin};
 
-use cg_action::{Action, Query, put_action};
+use cg_action::{Action, CmdList, Query, put_action};
 use cg_base::{Bytes, IdSet, NoMemory, ReplicaId, Row, WeightSet};
 use cg_client::{Core, Request};
 use cg_disk::{Disk, ModelDisk};
@@ -75,7 +75,7 @@ fn asked(alloc: Global) -> Input
     ensures limits { HasLimits result }
     ensures booked { IsBooked result }
 {
-    let cmds = Row::new(alloc);
+    let cmds = CmdList::new(alloc);
     Input::Request(Request::Update {
         cmds,
         query: Some(Query::Count),

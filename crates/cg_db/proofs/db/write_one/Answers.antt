@@ -1,5 +1,4 @@
 use Rattle.std.specs.Prelude.{Some, None, IsOk}
-use Rattle.std.specs.String.{string_bytes}
 use Rattle.cg_db.proofs.ViewLemmas.{of_entries-updated}
 use Rattle.cg_db.proofs.PlanLemmas.{OnOk_then}
 use Rattle.cg_db.proofs.db.write_one.Goals as goal
@@ -7,10 +6,8 @@ use Rattle.cg_db.proofs.db.write_one.Goals as goal
 pub returns-in-Some-clause-changed : goal.returns-in-Some-clause-changed
 returns-in-Some-clause-changed c =
     let ok : IsOk c.insert.result = c.insert.ensures.succeeds c.requires in
-    rw (c.in-Some.is, ← c.into_string.ensures)
-    (of_entries-updated (string_bytes c.into_string.result) c.args.map.now c.insert.new.self (Some c.in-Some.value) (OnOk_then c.insert.result ok c.insert.ensures.updates))
+    rw c.in-Some.is (of_entries-updated c.args.change.key c.args.map.now c.insert.new.self (Some c.in-Some.value) (OnOk_then c.insert.result ok c.insert.ensures.updates))
 
 pub returns-in-None-clause-changed : goal.returns-in-None-clause-changed
 returns-in-None-clause-changed c =
-    rw (c.in-None.is, ← c.as_str.ensures.value)
-    (of_entries-updated c.as_str.result.now c.args.map.now c.swap_remove.new.self None c.swap_remove.ensures.updates)
+    rw c.in-None.is (of_entries-updated c.args.change.key c.args.map.now c.swap_remove.new.self None c.swap_remove.ensures.updates)

@@ -8,7 +8,7 @@ use Rattle.cg_db.proofs.plan.value_in.Goals as goal
 use Rattle.cg_db.proofs.plan.value_in.Goals.{then-eq, else-eq}
 
 pub loop-change-init : goal.loop-change-init
-loop-change-init c = rw (with_changes-none, ← c.as_str.ensures.value) c.value-value.ensures
+loop-change-init c = rw with_changes-none c.value-value.ensures
 
 pub loop-change-preserved : goal.loop-change-preserved
 loop-change-preserved c =
