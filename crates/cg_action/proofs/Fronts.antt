@@ -1,11 +1,8 @@
 -- What stands at the front after two steps, of which the last may have failed.
-use Rattle.std.proofs.Common.{◌≡◌, ℕ, List, ◌++◌, append_assoc, ap, ◌∙◌}
+use Rattle.std.proofs.Common.{◌≡◌, ℕ, List, ◌++◌}
 use Rattle.std.specs.Prelude.{Result, Ok, Err, OnErr}
 use Rattle.cg_base.specs.Text.{KeepsFront}
-use Rattle.cg_base.specs.TextLaws.{KeepsFront-less}
-
-pub grown_twice : (before x one y two : List ℕ) → one ≡ before ++ x → two ≡ one ++ y → two ≡ before ++ (x ++ y)
-grown_twice before x one y two first second = second ∙ ap (λ s. s ++ y) first ∙ append_assoc before x y
+use Rattle.cg_base.specs.TextLaws.{KeepsFront-less, grown_twice}
 
 -- a text that grew twice is at the front, and so is what it grew from
 pub front_after : (before x one y two now : List ℕ) → one ≡ before ++ x → two ≡ one ++ y → KeepsFront two now → KeepsFront before now

@@ -6,8 +6,9 @@ use Rattle.std.specs.Int.{w64}
 use Rattle.cg_codec.specs.Fields.{byte, signed64, text}
 use Rattle.cg_codec.specs.Reading.{done, take_i64, take_text, ◌>>=◌}
 use Rattle.cg_codec.specs.Laws.{IsField}
-use Rattle.cg_codec.specs.FieldLaws.{field_done, field_has}
+use Rattle.cg_codec.specs.FieldLaws.{field_done, field_has, field_says}
 use Rattle.cg_codec.specs.PlainLaws.{i64_field}
+use Rattle.cg_codec.specs.ShapeLaws.{field_one, field_two, field_three, field_tagged}
 use Rattle.cg_action.specs.declared.value.Value.{Value}
 use Rattle.cg_action.specs.declared.value.Value.TheVariants.{Int}
 use Rattle.cg_action.specs.declared.command.Cmd.{Cmd}
@@ -17,7 +18,6 @@ use Rattle.cg_action.specs.declared.query.Query.TheVariants.{Get, Keys, Count}
 use Rattle.cg_action.specs.Limits.{IsKey, IsPrefix, IsValue, IsWant, IsCommand, IsQuery}
 use Rattle.cg_action.specs.Bytes.{spelled_value, spelled_want, spelled_command, spelled_query}
 use Rattle.cg_action.specs.Reading.{key_reading, value_reading, want_reading, amount_reading, put_reading, del_reading, inc_reading, cas_reading, move_reading, need_reading, command_of_tag, command_reading, query_of_tag, query_reading}
-use Rattle.cg_action.specs.ShapeLaws.{field_says, field_one, field_two, field_three, field_tagged}
 use Rattle.cg_action.specs.ValueLaws.{key_field, text_within_field, value_field, want_field, amount_field}
 
 abbrev command_tag : Cmd → ℕ

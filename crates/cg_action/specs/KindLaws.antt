@@ -7,11 +7,12 @@ use Rattle.std.specs.Prelude.{All, Option, None}
 use Rattle.cg_base.specs.Sets.{IsId}
 use Rattle.cg_base.specs.declared.action_id.ActionId.{ActionId}
 use Rattle.cg_codec.specs.Fields.{byte, number64, list, optional}
-use Rattle.cg_codec.specs.Reading.{done, take_optional, ◌>>=◌}
+use Rattle.cg_codec.specs.Reading.{done, take_optional, ◌>>=◌, byte_between}
 use Rattle.cg_codec.specs.Laws.{IsField, EachBehind, HasOptional}
-use Rattle.cg_codec.specs.FieldLaws.{field_has, field_only, field_bind, field_optional}
+use Rattle.cg_codec.specs.FieldLaws.{field_has, field_only, field_bind, field_optional, field_says}
 use Rattle.cg_codec.specs.ListLaws.{field_list}
-use Rattle.cg_codec.specs.PlainLaws.{truth_field, count_field}
+use Rattle.cg_codec.specs.PlainLaws.{truth_field, count_field, between_field}
+use Rattle.cg_codec.specs.ShapeLaws.{field_one, field_two, field_three, field_tagged}
 use Rattle.cg_action.specs.declared.command.Cmd.{Cmd}
 use Rattle.cg_action.specs.declared.query.Query.{Query}
 use Rattle.cg_action.specs.declared.action.Kind.{Kind}
@@ -19,8 +20,7 @@ use Rattle.cg_action.specs.declared.action.Kind.TheVariants.{Update, Join, Leave
 use Rattle.cg_action.specs.declared.action.Action.{Action}
 use Rattle.cg_action.specs.Limits.{does_something, IsCommand, IsQuery, IsKind, IsActionId, IsAction}
 use Rattle.cg_action.specs.Bytes.{spelled_command, spelled_query, spelled_kind, spelled_id, spelled_action}
-use Rattle.cg_action.specs.Reading.{byte_between, number_from, id_reading, command_reading, query_reading, commands_reading, query_behind, update_reading, heavy_join_reading, kind_of_tag, kind_reading, action_reading}
-use Rattle.cg_action.specs.ShapeLaws.{field_says, field_one, field_two, field_three, field_tagged, between_field}
+use Rattle.cg_action.specs.Reading.{number_from, id_reading, command_reading, query_reading, commands_reading, query_behind, update_reading, heavy_join_reading, kind_of_tag, kind_reading, action_reading}
 use Rattle.cg_action.specs.ValueLaws.{replica_field, number_field, id_field}
 use Rattle.cg_action.specs.CommandLaws.{command_field, query_field}
 

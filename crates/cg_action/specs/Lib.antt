@@ -2,8 +2,6 @@ pub mod Limits
 pub mod Bytes
 pub mod Reading
 pub mod Print
-pub mod Laws
-pub mod ShapeLaws
 pub mod ValueLaws
 pub mod CommandLaws
 pub mod KindLaws

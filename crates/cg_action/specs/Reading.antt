@@ -1,6 +1,6 @@
 -- How actions are read, field by field from the left.
 use Rattle.std.specs.Prelude.{ℕ, ◌==◌, nat_lt, nat_le, ◌^◌, Bool, true, false, ◌&&◌, List, length, ℤ, pos, negsuc, Option, Some, None, if◌then◌else◌}
-use Rattle.cg_codec.specs.Reading.{Reading, ◌>>=◌, done, only, take_u8, take_u64, take_i64, take_text, take_optional, take_list}
+use Rattle.cg_codec.specs.Reading.{Reading, ◌>>=◌, done, only, take_u64, take_i64, take_text, take_optional, take_list}
 use Rattle.cg_base.specs.declared.action_id.ActionId.{ActionId}
 use Rattle.cg_action.specs.declared.value.Value.{Value}
 use Rattle.cg_action.specs.declared.value.Value.TheVariants.{Text, Int}
@@ -12,13 +12,6 @@ use Rattle.cg_action.specs.declared.action.Kind.{Kind}
 use Rattle.cg_action.specs.declared.action.Kind.TheVariants.{Update, Join, Leave}
 use Rattle.cg_action.specs.declared.action.Action.{Action}
 use Rattle.cg_action.specs.Limits.{does_something}
-
--- a byte from low to high
-abbrev pub is_between : ℕ → ℕ → ℕ → Bool
-is_between low high n = nat_le low n && nat_le n high
-
-unfoldable pub byte_between : ℕ → ℕ → Reading ℕ
-byte_between low high left = only (is_between low high) take_u8 left
 
 -- a number of at least low, below 2 ^ 63
 abbrev pub is_number : ℕ → ℕ → Bool

@@ -7,16 +7,16 @@ use Rattle.std.specs.Str.{IsUtf8}
 use Rattle.cg_base.specs.Sets.{IsId}
 use Rattle.cg_base.specs.declared.action_id.ActionId.{ActionId}
 use Rattle.cg_codec.specs.Fields.{byte, number64, signed64, text}
-use Rattle.cg_codec.specs.Reading.{done, take_u64, take_i64, take_text, ◌>>=◌}
+use Rattle.cg_codec.specs.Reading.{done, take_u64, take_i64, take_text, ◌>>=◌, byte_between}
 use Rattle.cg_codec.specs.Laws.{IsField}
-use Rattle.cg_codec.specs.FieldLaws.{field_done, field_has, field_only}
-use Rattle.cg_codec.specs.PlainLaws.{u64_field, i64_field, text_field}
+use Rattle.cg_codec.specs.FieldLaws.{field_done, field_has, field_only, field_says}
+use Rattle.cg_codec.specs.PlainLaws.{u64_field, i64_field, text_field, between_field}
+use Rattle.cg_codec.specs.ShapeLaws.{field_one, field_two, field_tagged}
 use Rattle.cg_action.specs.declared.value.Value.{Value}
 use Rattle.cg_action.specs.declared.value.Value.TheVariants.{Text, Int}
 use Rattle.cg_action.specs.Limits.{IsTextWithin, IsKey, IsValue, IsWant, IsActionId}
 use Rattle.cg_action.specs.Bytes.{spelled_id, spelled_value, spelled_want}
-use Rattle.cg_action.specs.Reading.{is_number, number_from, byte_between, id_reading, is_key, key_reading, value_of_tag, value_reading, want_of_tag, want_reading, is_amount, amount_reading}
-use Rattle.cg_action.specs.ShapeLaws.{field_says, field_one, field_two, field_tagged, between_field}
+use Rattle.cg_action.specs.Reading.{is_number, number_from, id_reading, is_key, key_reading, value_of_tag, value_reading, want_of_tag, want_reading, is_amount, amount_reading}
 
 -- a number of at least low, below 2 ^ 63
 pub number_field : (low : ℕ) → IsField (λ n. (low ≤ n) × (n < 2 ^ 63)) number64 (number_from low)

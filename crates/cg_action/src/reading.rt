@@ -1,10 +1,10 @@
 //! Actions from bytes.
 
 ghost use Rattle.std.specs.Prelude.{IfOk};
-ghost use Rattle.cg_codec.specs.Reading.{whole, take_text, take_optional};
+ghost use Rattle.cg_codec.specs.Reading.{whole, take_text, take_optional, byte_between};
 ghost use Rattle.cg_codec.specs.Taking.{unread_of, Takes, TakesWithMemory, Decodes};
 ghost use Rattle.cg_action.specs.Limits.{IsAction};
-ghost use Rattle.cg_action.specs.Reading.{byte_between, number_from, id_reading, key_reading, value_of_tag, value_reading, want_of_tag, want_reading, amount_reading, put_reading, del_reading, inc_reading, cas_reading, move_reading, need_reading, command_of_tag, command_reading, query_of_tag, query_reading, commands_reading, query_behind, update_reading, heavy_join_reading, kind_of_tag, kind_reading, action_reading};
+ghost use Rattle.cg_action.specs.Reading.{number_from, id_reading, key_reading, value_of_tag, value_reading, want_of_tag, want_reading, amount_reading, put_reading, del_reading, inc_reading, cas_reading, move_reading, need_reading, command_of_tag, command_reading, query_of_tag, query_reading, commands_reading, query_behind, update_reading, heavy_join_reading, kind_of_tag, kind_reading, action_reading};
 
 use crate::{Action, Cmd, CmdList, Kind, Query, Value};
 use cg_base::{ActionId, ReplicaId};
@@ -58,26 +58,13 @@ pub fn take_value(alloc: Global, fields: &mut Fields) -> Result<Value, CodecFaul
     ensures { TakesWithMemory (λ v. v) value_reading (unread_of fields.old) (unread_of fields.new) result }
 {
     let mut after = *fields;
-    let tag = take_between(&mut after, 1, 2)?;
+    let tag = after.take_between(1, 2)?;
     let value = take_value_of(alloc, &mut after, tag)?;
     *fields = after;
     Ok(value)
 }
 
-#[tactic(auto, unfolding(crate::specs::Reading::byte_between))]
-fn take_between(fields: &mut Fields, low: u8, high: u8) -> Result<u8, CodecFault>
-    ensures { Takes (λ n. n) (byte_between low high) (unread_of fields.old) (unread_of fields.new) result }
-{
-    let mut after = *fields;
-    let byte = after.take_u8()?;
-    if byte < low || high < byte {
-        return Err(fields.bad());
-    }
-    *fields = after;
-    Ok(byte)
-}
-
-#[tactic(auto, unfolding(crate::specs::Reading::byte_between))]
+#[tactic(auto, unfolding(cg_codec::specs::Reading::byte_between))]
 fn take_replica(fields: &mut Fields) -> Result<ReplicaId, CodecFault>
     ensures { Takes (λ id. id) (byte_between 1 32) (unread_of fields.old) (unread_of fields.new) result }
 {
@@ -158,7 +145,7 @@ fn take_want(alloc: Global, fields: &mut Fields) -> Result<Option<Value>, CodecF
     ensures { TakesWithMemory (λ w. w) want_reading (unread_of fields.old) (unread_of fields.new) result }
 {
     let mut after = *fields;
-    let tag = take_between(&mut after, 0, 2)?;
+    let tag = after.take_between(0, 2)?;
     let want = take_want_of(alloc, &mut after, tag)?;
     *fields = after;
     Ok(want)
@@ -265,7 +252,7 @@ fn take_command(alloc: Global, fields: &mut Fields) -> Result<Cmd, CodecFault>
     ensures { TakesWithMemory (λ c. c) command_reading (unread_of fields.old) (unread_of fields.new) result }
 {
     let mut after = *fields;
-    let tag = take_between(&mut after, 1, 6)?;
+    let tag = after.take_between(1, 6)?;
     let cmd = take_command_of(alloc, &mut after, tag)?;
     *fields = after;
     Ok(cmd)
@@ -305,7 +292,7 @@ fn take_query(alloc: Global, fields: &mut Fields) -> Result<Query, CodecFault>
     ensures { TakesWithMemory (λ q. q) query_reading (unread_of fields.old) (unread_of fields.new) result }
 {
     let mut after = *fields;
-    let tag = take_between(&mut after, 1, 3)?;
+    let tag = after.take_between(1, 3)?;
     let query = take_query_of(alloc, &mut after, tag)?;
     *fields = after;
     Ok(query)
@@ -359,7 +346,7 @@ fn take_heavy_join(fields: &mut Fields) -> Result<Kind, CodecFault>
 {
     let mut after = *fields;
     let joiner = take_replica(&mut after)?;
-    let weight = take_between(&mut after, 2, 255)?;
+    let weight = after.take_between(2, 255)?;
     *fields = after;
     Ok(Kind::Join(joiner, weight))
 }
@@ -387,7 +374,7 @@ fn take_kind(alloc: Global, fields: &mut Fields) -> Result<Kind, CodecFault>
     ensures { TakesWithMemory (λ k. k) kind_reading (unread_of fields.old) (unread_of fields.new) result }
 {
     let mut after = *fields;
-    let tag = take_between(&mut after, 1, 4)?;
+    let tag = after.take_between(1, 4)?;
     let kind = take_kind_of(alloc, &mut after, tag)?;
     *fields = after;
     Ok(kind)

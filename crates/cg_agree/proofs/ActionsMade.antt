@@ -8,6 +8,7 @@ use Rattle.cg_group.specs.EachLaws.{Each}
 use Rattle.cg_group.specs.State.{phase_of}
 use Rattle.cg_base.specs.declared.action_id.ActionId.{ActionId}
 use Rattle.cg_base.specs.Cuts.{index_in, raise}
+use Rattle.cg_base.specs.IdLaws.{same_name}
 use Rattle.cg_action.specs.declared.action.Action.{Action}
 use Rattle.cg_queue.specs.Queue.{green_count, names_of}
 use Rattle.cg_report.specs.declared.entry.Made.{Made}
@@ -38,7 +39,6 @@ use Rattle.cg_agree.proofs.MadeShown.{IsThere, Adds, names_in}
 use Rattle.cg_agree.proofs.MadeTold.{each-contains, found-in, step-adds}
 use Rattle.cg_agree.proofs.PrimaryOne.{holds-here}
 use Rattle.cg_agree.proofs.RunForward.{IsStepOf}
-use Rattle.cg_queue.specs.NameLaws.{same_name}
 use Rattle.cg_agree.proofs.SeatFacts.{seat-id}
 use Rattle.cg_agree.proofs.TellsRun.{HasTold, told-on, nothing-told}
 use Rattle.cg_step.specs.CutRaiseLaws.{rising-raise, index-same, index-other}

@@ -8,6 +8,7 @@ use Rattle.cg_base.specs.declared.action_id.ActionId.{ActionId}
 use Rattle.cg_base.specs.declared.weighted.Weighted.{Weighted}
 use Rattle.cg_base.specs.Cuts.{index_in}
 use Rattle.cg_base.specs.Ids.{same_id, names}
+use Rattle.cg_base.specs.IdLaws.{same_id-is}
 use Rattle.cg_action.specs.declared.action.Action.{Action}
 use Rattle.cg_queue.specs.Queue.{names_of}
 use Rattle.cg_client.specs.Replica.{Held, Replica, NonPrim, created}
@@ -29,7 +30,6 @@ use Rattle.cg_agree.proofs.HeldCommit.{recovered-id}
 use Rattle.cg_agree.proofs.ChronicleFacts.{seat_of-set}
 use Rattle.cg_agree.proofs.CoresKept.{seat-of}
 use Rattle.cg_agree.proofs.CoresSmall.{start-cores}
-use Rattle.cg_queue.specs.NameLaws.{same_id-is}
 use Rattle.cg_agree.proofs.BookGrows.{named_in, same-self, IsNamed, cut_of, IsCounted}
 use Rattle.cg_step.specs.RunMarkLaws.{run-names}
 

@@ -6,7 +6,7 @@ use Rattle.cg_group.specs.EachLaws.{Each}
 use Rattle.cg_base.specs.declared.action_id.ActionId.{ActionId}
 use Rattle.cg_base.specs.Cuts.{index_in, raise}
 use Rattle.cg_base.specs.Ids.{same_id, names}
-use Rattle.cg_base.specs.IdLaws.{same_id-true}
+use Rattle.cg_base.specs.IdLaws.{same_id-true, same_id-is}
 use Rattle.cg_action.specs.declared.action.Action.{Action}
 use Rattle.cg_action.specs.declared.action.Kind.{Kind}
 use Rattle.cg_queue.specs.Queue.{names_of}
@@ -18,7 +18,6 @@ use Rattle.cg_step.specs.CutRaiseLaws.{index-same, index-other, rising-behind}
 use Rattle.cg_step.specs.RunLaws.{cut_behind-append, run_on-append, run_on-next}
 use Rattle.cg_step.specs.RunMarkLaws.{names-new, run-head}
 use Rattle.cg_step.specs.HeldLaws.{names-behind, are_of, created-behind}
-use Rattle.cg_queue.specs.NameLaws.{same_id-is}
 use Rattle.cg_agree.proofs.DiskAhead.{OwnRuns}
 
 -- the action of a name

@@ -6,6 +6,7 @@ use Rattle.cg_base.specs.declared.action_id.ActionId.{ActionId}
 use Rattle.cg_base.specs.declared.weighted.Weighted.{Weighted}
 use Rattle.cg_base.specs.Cuts.{index_in, raise}
 use Rattle.cg_base.specs.Ids.{same_id}
+use Rattle.cg_base.specs.IdLaws.{same_id-is}
 use Rattle.cg_action.specs.declared.action.Action.{Action}
 use Rattle.cg_action.specs.declared.action.Kind.{Kind}
 use Rattle.cg_queue.specs.Queue.{names_of, Marks, placed_red}
@@ -22,7 +23,6 @@ use Rattle.cg_step.specs.CutRaiseLaws.{index-same, index-other, index-rises, ris
 use Rattle.cg_step.specs.RunMarkLaws.{run-head, run-rest}
 use Rattle.cg_agree.proofs.HeldMarks.{IsOneself, rising-green, rising-red}
 use Rattle.cg_step.specs.HeldLaws.{are_of, are-after, own-after, created-behind}
-use Rattle.cg_queue.specs.NameLaws.{same_id-is}
 use Rattle.cg_agree.proofs.DiskAhead.{OwnRuns, LeftOwn, left-own, made-by}
 use Rattle.cg_agree.proofs.TurnRows.{IsRule}
 

@@ -6,7 +6,7 @@ use Rattle.cg_group.specs.EachLaws.{Each-all}
 use Rattle.cg_base.specs.declared.action_id.ActionId.{ActionId}
 use Rattle.cg_base.specs.Cuts.{index_in, raise}
 use Rattle.cg_base.specs.Ids.{same_id}
-use Rattle.cg_base.specs.IdLaws.{same_id-true, same_id-false}
+use Rattle.cg_base.specs.IdLaws.{same_id-true, same_id-false, same_name}
 use Rattle.cg_base.specs.Text.{is_nil}
 use Rattle.cg_action.specs.declared.action.Action.{Action}
 use Rattle.cg_action.specs.declared.action.Kind.{Kind}
@@ -22,7 +22,6 @@ use Rattle.cg_client.specs.Summary.{redden, forget_own, own_to_red}
 use Rattle.cg_step.specs.Commit.{same_values, commits}
 use Rattle.cg_agree.specs.FactsReplica.{GoesOn}
 use Rattle.cg_step.specs.Holds.{run_on, Rising}
-use Rattle.cg_queue.specs.NameLaws.{same_name}
 use Rattle.cg_step.specs.HeldLaws.{are_of, are-after, own-after, created-behind}
 use Rattle.cg_step.specs.ValueLaws.{one-value}
 use Rattle.cg_agree.proofs.TurnRows.{IsRule}

@@ -3,6 +3,7 @@ use Rattle.std.proofs.Common.{◌≡◌, ℕ, zero, suc, ◌≤◌, true, false,
 use Rattle.std.specs.Prelude.{option_and_then}
 use Rattle.std.proofs.lemmas.Bool.{cond_both}
 use Rattle.cg_base.specs.Sets.{has}
+use Rattle.cg_base.specs.Choice.{Either}
 use Rattle.cg_action.specs.declared.action.Action.{Action}
 use Rattle.cg_records.specs.declared.yellow.Yellow.{Yellow}
 use Rattle.cg_knowledge.specs.declared.summary.Summary.{Summary}
@@ -19,7 +20,7 @@ use Rattle.cg_client.specs.Requests.{empty_buffer}
 use Rattle.cg_exchange.specs.ExchangeActions.{progress, send_part, go_on}
 use Rattle.cg_exchange.specs.PlanEnd.{usable_names, take_over, attempt, decide, end_plan}
 use Rattle.cg_agree.specs.Chronicle.{Told, Chronicle}
-use Rattle.cg_agree.specs.Fronts.{Front, Either, IsSomeWith}
+use Rattle.cg_agree.specs.Fronts.{Front, IsSomeWith}
 use Rattle.cg_agree.specs.Looks.{told_in}
 use Rattle.cg_agree.specs.FactsTalk.{handed_talk}
 use Rattle.cg_agree.specs.FactsExchange.{IsUnmoved, IsGoingOn, HasTakenOver, best_told, IsInExchange}

@@ -2,6 +2,7 @@
 use Rattle.std.proofs.Common.{◌≡◌, ℕ, suc, true, false, not, List, [], ◌∷◌, ◌++◌, Option, Some, None, IfSome, refl, sym, ap, ap₂, ◌∙◌, subst, ⊎_elim, if◌then◌else◌}
 use Rattle.std.proofs.lemmas.Bool.{cases_Bool, cond_both, and_parts, cond-true}
 use Rattle.cg_base.specs.Sets.{has, is_within}
+use Rattle.cg_base.specs.Choice.{Either}
 use Rattle.cg_action.specs.declared.action.Action.{Action}
 use Rattle.cg_knowledge.specs.declared.summary.Summary.{Summary}
 use Rattle.cg_knowledge.specs.Members.{senders, gone}
@@ -23,7 +24,7 @@ use Rattle.cg_step.specs.Step.{on_message}
 use Rattle.cg_agree.specs.FactsReplica.{is_exchanging}
 use Rattle.cg_agree.specs.World.{replica_of}
 use Rattle.cg_agree.specs.Chronicle.{Told, Chronicle}
-use Rattle.cg_agree.specs.Fronts.{Either, IsSomeWith}
+use Rattle.cg_agree.specs.Fronts.{IsSomeWith}
 use Rattle.cg_agree.specs.Looks.{greens_of, told_in, members_in, is_regular_in}
 use Rattle.cg_agree.specs.Talk.{Talk, hears_from, is_full, is_through, is_announced, is_due, state_behind, state_in}
 use Rattle.cg_agree.specs.FactsTalk.{AreTold, handed_talk}

@@ -5,6 +5,7 @@ use Rattle.std.specs.Option.{option_map_or}
 use Rattle.std.proofs.lemmas.Bool.{cond-true, cond-false, cond_both, and_parts}
 use Rattle.cg_base.specs.Cuts.{index_in}
 use Rattle.cg_base.specs.Sets.{has, is_within}
+use Rattle.cg_base.specs.Choice.{Either}
 use Rattle.cg_action.specs.declared.action.Action.{Action}
 use Rattle.cg_queue.specs.Queue.{names_of, Marks, Gaps, placed_red, marked_red}
 use Rattle.cg_queue.specs.declared.mark.Mark.TheVariants.{Placed, Known}
@@ -31,7 +32,7 @@ use Rattle.cg_agree.specs.Attempts.{held_in}
 use Rattle.cg_agree.specs.Chronicle.{Told, Chronicle}
 use Rattle.cg_agree.specs.Looks.{greens_of, told_in, core_of, is_regular_at, is_regular_in, members_in, ordered_in}
 use Rattle.cg_agree.specs.Talk.{Talk, no_talk, talk_of, hears_from, is_full, is_through, is_due, may_say, state_behind, state_in, action_in}
-use Rattle.cg_agree.specs.Fronts.{Front, Either, IsSomeWith}
+use Rattle.cg_agree.specs.Fronts.{Front, IsSomeWith}
 use Rattle.cg_agree.specs.Facts.{Invariant}
 use Rattle.cg_agree.specs.FactsNet.{IsPhase}
 use Rattle.cg_agree.specs.FactsReplica.{IsMadeOf, IsModeData, IsCore, IsLined}

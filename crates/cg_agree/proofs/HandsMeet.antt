@@ -5,6 +5,7 @@ use Rattle.std.specs.Prelude.{◌==◌, slice_get, nat_le, IsTrue}
 use Rattle.std.proofs.lemmas.Bool.{cases_Bool, cond-true, and_parts, and_from, le-leb, leb-true, not-true}
 use Rattle.cg_base.specs.Cuts.{index_in}
 use Rattle.cg_base.specs.Sets.{has, is_within, with_member}
+use Rattle.cg_base.specs.Choice.{Either}
 use Rattle.cg_action.specs.declared.action.Action.{Action}
 use Rattle.cg_queue.specs.Queue.{QueueView, green_count}
 use Rattle.cg_knowledge.specs.declared.summary.Summary.{Summary}
@@ -34,7 +35,7 @@ use Rattle.cg_agree.specs.Facts.{Invariant}
 use Rattle.cg_agree.specs.FactsExchange.{red_index}
 use Rattle.cg_agree.specs.FactsReplica.{IsModeData, HasModeData}
 use Rattle.cg_agree.specs.FactsTalk.{AreTold, handed_talk, count_behind, AreNumbered, AreNumberedAt}
-use Rattle.cg_agree.specs.Fronts.{When, Either}
+use Rattle.cg_agree.specs.Fronts.{When}
 use Rattle.cg_agree.specs.Looks.{greens_of, members_in, ordered_in}
 use Rattle.cg_agree.specs.Talk.{Talk, action_in, hears_from, state_in, is_full, is_through, is_ended, is_announced as all_announced, is_due, may_go_on, may_say}
 use Rattle.cg_agree.specs.Total.{fits_red, fits_green, fits_item, CanInstall, keeps_part, TakesNames, GoesOn, TakesItem, IsUsed}

@@ -6,6 +6,7 @@ use Rattle.std.proofs.lemmas.List.Elements.{Contains-append_left, Contains-appen
 use Rattle.cg_base.specs.declared.action_id.ActionId.{ActionId}
 use Rattle.cg_base.specs.Ids.{names, same_id}
 use Rattle.cg_base.specs.Cuts.{index_in}
+use Rattle.cg_base.specs.IdLaws.{same_name}
 use Rattle.cg_action.specs.declared.action.Action.{Action}
 use Rattle.cg_queue.specs.Queue.{QueueView, names_of}
 use Rattle.cg_client.specs.Replica.{Held, created}
@@ -15,7 +16,6 @@ use Rattle.cg_agree.specs.FactsReplica.{IsCore}
 use Rattle.cg_step.specs.Holds.{run_on, cut_behind, Rising}
 use Rattle.cg_step.specs.HeldLaws.{created-behind}
 use Rattle.cg_step.specs.CutRaiseLaws.{rising-behind}
-use Rattle.cg_queue.specs.NameLaws.{same_name}
 use Rattle.cg_step.specs.RunMarkLaws.{run-names}
 
 -- ---- names and elements

@@ -5,14 +5,13 @@ use Rattle.std.proofs.lemmas.Bool.{cases_eq, cases_lt, cases_Bool, and_parts, an
 use Rattle.cg_base.specs.declared.action_id.ActionId.{ActionId}
 use Rattle.cg_base.specs.Cuts.{index_in}
 use Rattle.cg_base.specs.Ids.{same_id, id_before, names}
-use Rattle.cg_base.specs.IdLaws.{same_id-true, same_id-false}
+use Rattle.cg_base.specs.IdLaws.{same_id-true, same_id-false, same_name}
 use Rattle.cg_base.specs.Lists.{count_up}
 use Rattle.cg_base.specs.Sets.{has}
 use Rattle.cg_base.specs.IdRuns.{names_above}
 use Rattle.cg_group.specs.EachLaws.{Each, Each-append}
 use Rattle.cg_agree.specs.FactsLists.{IsRising}
 use Rattle.cg_step.specs.Holds.{run_on, cut_behind, ascend, Rising}
-use Rattle.cg_queue.specs.NameLaws.{same_name}
 use Rattle.cg_step.specs.RunMarkLaws.{run-names, before-parts, before-creator, before-index, before-trans}
 
 -- ---- names in order

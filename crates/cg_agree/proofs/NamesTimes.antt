@@ -5,6 +5,7 @@ use Rattle.std.proofs.lemmas.Bool.{cases_lt, cases_Bool, cond-true, cond-false, 
 use Rattle.cg_base.specs.declared.action_id.ActionId.{ActionId}
 use Rattle.cg_base.specs.Cuts.{index_in, raise}
 use Rattle.cg_base.specs.Ids.{same_id, names}
+use Rattle.cg_base.specs.IdLaws.{same_id-is}
 use Rattle.cg_agree.specs.Fronts.{Front}
 use Rattle.cg_step.specs.Holds.{run_on, cut_behind, Rising}
 use Rattle.cg_agree.proofs.FrontFacts.{Front-of_both, Front-append}
@@ -12,7 +13,6 @@ use Rattle.cg_step.specs.CutRaiseLaws.{index-same, index-rises, rising-raise}
 use Rattle.cg_step.specs.RunLaws.{run_on-append}
 use Rattle.cg_step.specs.RunMarkLaws.{run-head, run-rest, names-new}
 use Rattle.cg_agree.proofs.BookGrows.{same-self}
-use Rattle.cg_queue.specs.NameLaws.{same_id-is}
 use Rattle.cg_agree.proofs.RepliesPlaced.{IsIn, times}
 
 pub same_id-swap : (a b : ActionId) → same_id a b ≡ true → same_id b a ≡ true

@@ -6,6 +6,7 @@ use Rattle.std.proofs.lemmas.Bool.{cases_eq, cond-true}
 use Rattle.std.proofs.lemmas.List.{append_assoc}
 use Rattle.cg_base.specs.Lists.{at_place}
 use Rattle.cg_base.specs.Sets.{has}
+use Rattle.cg_base.specs.Choice.{Either}
 use Rattle.cg_action.specs.declared.action.Action.{Action}
 use Rattle.cg_knowledge.specs.declared.summary.Summary.{Summary}
 use Rattle.cg_knowledge.specs.Members.{gone, most_updated}
@@ -16,7 +17,7 @@ use Rattle.cg_client.specs.Replica.{Held, State, RegPrim, TransPrim, ExchangeSta
 use Rattle.cg_agree.specs.Attempts.{held_in}
 use Rattle.cg_agree.specs.World.{Seat, seat_of, replica_of}
 use Rattle.cg_agree.specs.Chronicle.{Past, Told, Attempt, Chronicle}
-use Rattle.cg_agree.specs.Fronts.{Front, When, Either, IsSomeWith}
+use Rattle.cg_agree.specs.Fronts.{Front, When, IsSomeWith}
 use Rattle.cg_agree.specs.Looks.{past_of, greens_of, stood_of, conf_at, is_at, is_in, is_regular_at, is_regular_in, told_in, disk_held, core_of, ordered_in, attempt_of, attempt_at, top_of, installation, left_count, on_disk}
 use Rattle.cg_agree.specs.Talk.{Talk, is_full, is_through, is_announced, acts_in, state_in}
 use Rattle.cg_agree.specs.Levels.{line_at, count_in, reached_at, reach_at, prim_at, is_installed}

@@ -8,6 +8,7 @@ use Rattle.cg_group.specs.EachLaws.{Each, Each-list_all}
 use Rattle.cg_base.specs.declared.action_id.ActionId.{ActionId}
 use Rattle.cg_base.specs.Ids.{same_id, names}
 use Rattle.cg_base.specs.Cuts.{index_in, raise}
+use Rattle.cg_base.specs.IdLaws.{same_id-is}
 use Rattle.cg_action.specs.declared.action.Action.{Action}
 use Rattle.cg_queue.specs.Queue.{names_of, green_count}
 use Rattle.cg_client.specs.Replica.{Replica}
@@ -22,7 +23,6 @@ use Rattle.cg_agree.specs.FactsReplica.{IsCore}
 use Rattle.cg_agree.specs.Played.{StandsBeside}
 use Rattle.cg_agree.proofs.FrontFacts.{Front-length, take-Front}
 use Rattle.cg_agree.proofs.HeldMarks.{counted}
-use Rattle.cg_queue.specs.NameLaws.{same_id-is}
 use Rattle.cg_step.specs.Holds.{run_on}
 use Rattle.cg_agree.proofs.CreatorNumbered.{names-count, order-runs}
 use Rattle.cg_agree.proofs.MadeTold.{IsMadeTold, made-told, each-contains}

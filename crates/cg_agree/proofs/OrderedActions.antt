@@ -8,6 +8,7 @@ use Rattle.cg_group.specs.EachLaws.{Each}
 use Rattle.cg_base.specs.declared.action_id.ActionId.{ActionId}
 use Rattle.cg_base.specs.Ids.{same_id, names}
 use Rattle.cg_base.specs.Lists.{present}
+use Rattle.cg_base.specs.IdLaws.{same_id-is}
 use Rattle.cg_action.specs.declared.action.Action.{Action}
 use Rattle.cg_queue.specs.Queue.{names_of}
 use Rattle.cg_report.specs.declared.entry.Made.{Made}
@@ -18,7 +19,6 @@ use Rattle.cg_agree.specs.Chronicle.{Chronicle}
 use Rattle.cg_agree.specs.Fronts.{Front}
 use Rattle.cg_agree.specs.Played.{StandsBeside}
 use Rattle.cg_agree.proofs.BookGrows.{IsNamed, named_in, same-self, named-all}
-use Rattle.cg_queue.specs.NameLaws.{same_id-is}
 use Rattle.cg_agree.proofs.MadeTold.{IsMadeTold, as-made, each-contains}
 use Rattle.cg_agree.proofs.OrderReached.{order-named}
 

@@ -5,6 +5,7 @@ use Rattle.std.specs.Option.{option_map_or}
 use Rattle.std.proofs.lemmas.Bool.{and_parts}
 use Rattle.cg_action.specs.declared.action.Action.{Action}
 use Rattle.cg_base.specs.Sets.{has}
+use Rattle.cg_base.specs.Choice.{Either}
 use Rattle.cg_knowledge.specs.declared.summary.Summary.{Summary}
 use Rattle.cg_knowledge.specs.Members.{senders, gone}
 use Rattle.cg_knowledge.specs.Verdict.{decides}
@@ -14,7 +15,7 @@ use Rattle.cg_client.specs.Replica.{Held, State, RegPrim, TransPrim, ExchangeSta
 use Rattle.cg_agree.specs.Chronicle.{Told, Chronicle}
 use Rattle.cg_agree.specs.Looks.{greens_of, told_in, is_regular_at, is_regular_in, members_in}
 use Rattle.cg_agree.specs.Talk.{Talk, hears_from, is_full, is_through, is_ended, is_announced, state_behind, state_in}
-use Rattle.cg_agree.specs.Fronts.{IsSomeWith, Either}
+use Rattle.cg_agree.specs.Fronts.{IsSomeWith}
 use Rattle.cg_agree.specs.FactsTalk.{AreTold, summaries_of, whole_talk}
 use Rattle.cg_agree.specs.FactsExchange.{HoldsStill, IsInExchange, IsUnmoved, IsGoingOn, best_told}
 use Rattle.cg_agree.specs.Facts.{Invariant}

@@ -8,6 +8,7 @@ use Rattle.std.proofs.lemmas.List.{map-append, append_assoc}
 use Rattle.cg_base.specs.declared.action_id.ActionId.{ActionId}
 use Rattle.cg_base.specs.Cuts.{index_in}
 use Rattle.cg_base.specs.Sets.{has}
+use Rattle.cg_base.specs.Choice.{Either}
 use Rattle.cg_action.specs.declared.action.Action.{Action}
 use Rattle.cg_queue.specs.Queue.{names_of}
 use Rattle.cg_records.specs.declared.primary.Primary.{Primary}
@@ -25,7 +26,7 @@ use Rattle.cg_client.specs.Replica.{Held, State, RegPrim, TransPrim, ExchangeSta
 use Rattle.cg_client.specs.Install.{actions_named, valid_yellow}
 use Rattle.cg_agree.specs.World.{replica_of}
 use Rattle.cg_agree.specs.Chronicle.{Told, Attempt, Chronicle}
-use Rattle.cg_agree.specs.Fronts.{Front, When, Either, IsSomeWith}
+use Rattle.cg_agree.specs.Fronts.{Front, When, IsSomeWith}
 use Rattle.cg_agree.specs.Looks.{greens_of, told_in, is_regular_at, is_regular_in, conf_at, members_in, attempt_of, attempt_at, top_of}
 use Rattle.cg_agree.specs.Talk.{Talk, is_full, is_through, is_announced, state_in}
 use Rattle.cg_agree.specs.Levels.{reach_at, is_evidence, is_record_of, names_with}

@@ -8,6 +8,7 @@ use Rattle.cg_base.specs.declared.action_id.ActionId.{ActionId}
 use Rattle.cg_base.specs.declared.weighted.Weighted.{Weighted}
 use Rattle.cg_base.specs.Ids.{same_id}
 use Rattle.cg_base.specs.Weights.{same_weighted}
+use Rattle.cg_base.specs.IdLaws.{same_id-is}
 use Rattle.cg_records.specs.declared.primary.Primary.{Primary}
 use Rattle.cg_records.specs.declared.vulnerable.Vulnerable.{Vulnerable}
 use Rattle.cg_records.specs.declared.yellow.Yellow.{Yellow}
@@ -20,7 +21,6 @@ use Rattle.cg_report.specs.declared.line.View.{View}
 use Rattle.cg_report.specs.declared.line.UpLine.{UpLine}
 use Rattle.cg_report.specs.declared.line.Line.{Line}
 use Rattle.cg_report.specs.Same.{state_number, same_phase, same_counts, same_lists, same_components, same_view, same_up, same_line}
-use Rattle.cg_queue.specs.NameLaws.{same_id-is}
 use Rattle.cg_step.specs.ValueLaws.{one-list, one-number, one-prim, one-record, one-yellow}
 
 state_at : ℕ → StateName

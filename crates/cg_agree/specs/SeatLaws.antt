@@ -5,6 +5,7 @@ use Rattle.std.specs.Option.{option_map_or}
 use Rattle.std.proofs.lemmas.Bool.{cond_both, ne_eqb, eqb-false}
 use Rattle.cg_base.specs.declared.weighted.Weighted.{Weighted}
 use Rattle.cg_base.specs.Weights.{ids}
+use Rattle.cg_base.specs.ChoiceLaws.{chosen}
 use Rattle.cg_action.specs.declared.action.Kind.TheVariants.{Update, Join as JoinKind, Leave as LeaveKind}
 use Rattle.cg_records.specs.Limits.{Each}
 use Rattle.cg_wire.specs.declared.message.Msg.{Msg}
@@ -30,17 +31,6 @@ use Rattle.cg_group.specs.LookupLaws.{at-cond}
 
 abbrev pub seat_in : List Seat → ℕ → Option Seat
 seat_in seats q = find (λ s. s.id == q) seats
-
--- the choices behind a changed seat
-chosen : {X : Type 0} (a b x y : Bool) (new old rest with_new : X) → (a ≡ true → x ≡ y) → (a ≡ false → x ≡ true → y ≡ false) →
-    with_new ≡ cond y new rest → cond a (cond y new rest) (cond b (cond y new (cond x old rest)) (cond x old with_new)) ≡ cond y new (cond x old rest)
-chosen true b x true new old rest with_new s o e = refl
-chosen true b true false new old rest with_new s o e = absurd (let clash : true ≡ false = s refl in cc)
-chosen true b false false new old rest with_new s o e = refl
-chosen false true x y new old rest with_new s o e = refl
-chosen false false true true new old rest with_new s o e = absurd (let clash : true ≡ false = o refl refl in cc)
-chosen false false true false new old rest with_new s o e = refl
-chosen false false false y new old rest with_new s o e = e
 
 pub found-seat : (seats : List Seat) (new : Seat) (q : ℕ) → seat_in (with_seat seats new) q ≡ (if new.id == q then Some new else seat_in seats q)
 found-seat [] new q = refl

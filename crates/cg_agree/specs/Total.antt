@@ -5,6 +5,7 @@ use Rattle.std.specs.List.{list_all}
 use Rattle.cg_base.specs.Cuts.{index_in}
 use Rattle.cg_base.specs.Lists.{at_place}
 use Rattle.cg_base.specs.Sets.{has, is_within, with_member}
+use Rattle.cg_base.specs.Choice.{Either}
 use Rattle.cg_action.specs.declared.action.Action.{Action}
 use Rattle.cg_queue.specs.Queue.{QueueView, green_count, names_of}
 use Rattle.cg_knowledge.specs.declared.summary.Summary.{Summary}
@@ -35,7 +36,7 @@ use Rattle.cg_agree.specs.Admission.{first_refusal}
 use Rattle.cg_agree.specs.Run.{MayStand}
 use Rattle.cg_agree.specs.Chronicle.{Chronicle}
 use Rattle.cg_agree.specs.FactsReplica.{is_exchanging}
-use Rattle.cg_agree.specs.Fronts.{When, Either}
+use Rattle.cg_agree.specs.Fronts.{When}
 use Rattle.cg_agree.specs.Looks.{disk_held}
 use Rattle.cg_agree.specs.Talk.{Talk, talk_of}
 use Rattle.cg_agree.specs.Small.{Small, Enters, Hands, Leaves, Recovers, small_step, Makes}

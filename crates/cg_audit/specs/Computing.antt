@@ -7,8 +7,8 @@ use Rattle.cg_base.specs.Sets.{every_replica}
 use Rattle.cg_base.specs.Slots.{held_from, held, array_of}
 use Rattle.cg_text.specs.Tokens.{tokens_from}
 use Rattle.cg_codec.specs.Fields.{byte, number32, number64, signed64, truth, text as text_of_codec_fields}
-use Rattle.cg_codec.specs.Reading.{take_u8, take_u32, take_u64, take_i64, take_truth, take_count, take_text, take_items}
-use Rattle.cg_action.specs.Reading.{byte_between, number_from, id_reading, key_reading, value_of_tag, value_reading, want_of_tag, want_reading, amount_reading, put_reading as put_reading_of_action_reading, del_reading as del_reading_of_action_reading, inc_reading as inc_reading_of_action_reading, cas_reading as cas_reading_of_action_reading, move_reading as move_reading_of_action_reading, need_reading as need_reading_of_action_reading, command_of_tag, command_reading, query_of_tag, query_reading as query_reading_of_action_reading, commands_reading, query_behind, update_reading as update_reading_of_action_reading, heavy_join_reading, kind_of_tag, kind_reading, action_reading}
+use Rattle.cg_codec.specs.Reading.{take_u8, take_u32, take_u64, take_i64, take_truth, take_count, take_text, take_items, byte_between}
+use Rattle.cg_action.specs.Reading.{number_from, id_reading, key_reading, value_of_tag, value_reading, want_of_tag, want_reading, amount_reading, put_reading as put_reading_of_action_reading, del_reading as del_reading_of_action_reading, inc_reading as inc_reading_of_action_reading, cas_reading as cas_reading_of_action_reading, move_reading as move_reading_of_action_reading, need_reading as need_reading_of_action_reading, command_of_tag, command_reading, query_of_tag, query_reading as query_reading_of_action_reading, commands_reading, query_behind, update_reading as update_reading_of_action_reading, heavy_join_reading, kind_of_tag, kind_reading, action_reading}
 use Rattle.cg_db.specs.Apply.{run_commands}
 use Rattle.cg_db.specs.Plan.{with_changes}
 use Rattle.cg_vote.specs.Quorum.{is_quorum}

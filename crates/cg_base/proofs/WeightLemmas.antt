@@ -1,9 +1,9 @@
 -- Sets with weights: what a member weighs after a change, and sums.
-use Rattle.std.proofs.Common.{◌≡◌, ℕ, zero, suc, ◌+◌, ◌-◌, ◌<◌, ◌≤◌, ◌≢◌, ◌||◌, List, [], ◌∷◌, ◌++◌, filter, fold, cond, Bool, not, true, false, eqb, set, refl, sym, ap, ◌∙◌, arith, inl, inr, append_assoc, append-nil}
+use Rattle.std.proofs.Common.{◌≡◌, ℕ, zero, suc, ◌+◌, ◌-◌, ◌<◌, ◌≤◌, ◌≢◌, List, [], ◌∷◌, ◌++◌, filter, fold, cond, Bool, not, true, false, eqb, set, refl, sym, ap, ◌∙◌, arith, inl, inr, append_assoc, append-nil}
 use Rattle.std.specs.List.{sum_by}
 use Rattle.std.specs.Bool.{Decides}
 use Rattle.std.specs.Cmp.Lexicographic.{pointwise, pointwise_decides}
-use Rattle.std.proofs.lemmas.Bool.{cases_eq, cases_Bool, eq-eqb, ne_eqb, le-ltb, eqb-true, and_parts, and_from, or_right, or_cases, false_from_ne_true}
+use Rattle.std.proofs.lemmas.Bool.{cases_eq, cases_Bool, eq-eqb, ne_eqb, eqb-true, and_parts, and_from, or_cases, false_from_ne_true}
 use Rattle.std.proofs.lemmas.List.Sums.{sum_by-append}
 use Rattle.std.proofs.lemmas.List.Elements.{filter-append}
 use Rattle.std.proofs.lemmas.Slice.Eq.{bytes_eq-Decides}
@@ -15,7 +15,7 @@ use Rattle.cg_base.specs.SlotLaws.{held_from-empty, held_from-filled, weights_te
 use Rattle.cg_base.proofs.Canonical.{EachMade, held-is}
 use Rattle.cg_base.specs.ArrayLaws.{zeros, array_slot-zeros, array_slot-set_same, array_slot-set_other}
 use Rattle.cg_base.proofs.ArrayLemmas.{held_from-more_empty, held_from-more_filled}
-use Rattle.cg_base.specs.WeightLaws.{weight_in-with_weight, IsWeightSet-with_weight}
+use Rattle.cg_base.specs.WeightLaws.{weight_in-with_weight, IsWeightSet-with_weight, with_weight-last, ids-append}
 
 -- the members that the slots of an array weigh
 abbrev pub weights_of : List ℕ → List Weighted
@@ -157,24 +157,9 @@ total_of-more slot present count =
 
 -- ---- each with weight 1
 
-with_weight-last : (set : List Weighted) (n : Weighted) → (has_below : (m : ℕ) → has (ids set) m ≡ true → m < n.id) → with_weight set n ≡ set ++ n ∷ []
-with_weight-last [] n below = refl
-with_weight-last (m ∷ set) n below =
-    let later : m.id < n.id = below m.id (rw (eq-eqb m.id m.id refl)) in
-    rw (ne_eqb n.id m.id (λ e. omega arith), le-ltb n.id m.id (omega arith))
-    (ap (λ s. m ∷ s) (with_weight-last set n (λ k h. below k (or_right (eqb m.id k) (has (ids set) k) h))))
-
 -- a member put in with weight 1
 abbrev pub put_once : List Weighted → ℕ → List Weighted
 put_once set p = with_weight set (record { id = p; weight = 1 })
-
-ids-append : (xs ys : List Weighted) (k : ℕ) → has (ids (xs ++ ys)) k ≡ (has (ids xs) k || has (ids ys) k)
-ids-append [] ys k = refl
-ids-append (m ∷ xs) ys k = ap (λ b. eqb m.id k || b) (ids-append xs ys k) ∙ or_group (eqb m.id k) (has (ids xs) k) (has (ids ys) k)
-  where
-    or_group : (a b c : Bool) → (a || (b || c)) ≡ ((a || b) || c)
-    or_group true b c = refl
-    or_group false b c = refl
 
 pub fold-put_once : (xs : List Weighted) (set : List ℕ) (low : ℕ) → ((k : ℕ) → has (ids xs) k ≡ true → k < low) → Ascends low set → fold put_once xs set ≡ xs ++ each_once set
 fold-put_once xs [] low below ascends = sym (append-nil xs)

@@ -1,6 +1,7 @@
 -- When two names of actions are one.
-use Rattle.std.proofs.Common.{◌≡◌, ◌≢◌, ◌⊎◌, true, false, eqb, inl, inr}
-use Rattle.std.proofs.lemmas.Bool.{cases_Bool, eq-eqb, ne_eqb}
+use Rattle.std.proofs.Common.{◌≡◌, ◌≢◌, ◌⊎◌, true, false, refl, sym, ap, eqb, eqb-true, inl, inr}
+use Rattle.std.specs.Prelude.{◌==◌}
+use Rattle.std.proofs.lemmas.Bool.{cases_Bool, and_parts, eq-eqb, ne_eqb}
 use Rattle.cg_base.specs.declared.action_id.ActionId.{ActionId}
 use Rattle.cg_base.specs.Ids.{same_id}
 
@@ -13,3 +14,19 @@ same_id-false a b (inr apart) = elim (cases_Bool (eqb a.creator b.creator)) [
 
 pub same_id-true : (a b : ActionId) → a.creator ≡ b.creator → a.index ≡ b.index → same_id a b ≡ true
 same_id-true a b creators indexes = rw (eq-eqb a.creator b.creator creators, eq-eqb a.index b.index indexes)
+
+pub same_name : (a b : ActionId) → a.creator ≡ b.creator → a.index ≡ b.index → a ≡ b
+same_name a b creators indexes i = record { creator = creators i; index = indexes i }
+
+pub same_id-is : (a b : ActionId) → same_id a b ≡ true → a ≡ b
+same_id-is a b same =
+    let parts = and_parts (a.creator == b.creator) (a.index == b.index) same in
+    same_name a b (eqb-true a.creator b.creator parts.0) (eqb-true a.index b.index parts.1)
+
+pub same_id-self : (a : ActionId) → same_id a a ≡ true
+same_id-self a = same_id-true a a refl refl
+
+pub same_id-back : (a b : ActionId) → same_id a b ≡ true → same_id b a ≡ true
+same_id-back a b same =
+    let is = same_id-is a b same in
+    same_id-true b a (ap (λ (x : ActionId). x.creator) (sym is)) (ap (λ (x : ActionId). x.index) (sym is))

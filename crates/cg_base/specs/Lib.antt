@@ -1,4 +1,5 @@
 pub mod Lists
+pub mod Choice
 pub mod Sets
 pub mod Weights
 pub mod Ids
@@ -8,6 +9,7 @@ pub mod Slots
 pub mod SlotLaws
 pub mod Iterators
 pub mod Text
+pub mod ChoiceLaws
 pub mod IdLaws
 pub mod SetLaws
 pub mod ArrayLaws

@@ -1,6 +1,9 @@
 -- What stands at the front of a text that grows.
-use Rattle.std.proofs.Common.{◌≡◌, ℕ, List, [], ◌∷◌, ◌++◌, length, take, ap, ◌∙◌, refl}
+use Rattle.std.proofs.Common.{◌≡◌, ℕ, false, List, [], ◌∷◌, ◌++◌, length, take, ap, ◌∙◌, refl, append_assoc}
 use Rattle.std.specs.Prelude.{Result, Ok, Err, OnErr}
+use Rattle.std.specs.Str.{IsUtf8, is_utf8}
+use Rattle.std.proofs.lemmas.Bool.{false_from_ne_true}
+use Rattle.std.proofs.lemmas.Str.{IsUtf8-from_is_utf8}
 use Rattle.std.proofs.Math.Seq.{take-append_seam}
 use Rattle.cg_base.specs.Text.{KeepsFront}
 
@@ -33,3 +36,11 @@ KeepsFront-put before now more keeps = KeepsFront-through before now (now ++ mor
 
 pub KeepsFront-is : (a b more : List ℕ) → b ≡ a ++ more → KeepsFront a b
 KeepsFront-is a b more is = rw is (KeepsFront-grown a more)
+
+-- a text that grew twice
+pub grown_twice : (before x one y two : List ℕ) → one ≡ before ++ x → two ≡ one ++ y → two ≡ before ++ (x ++ y)
+grown_twice before x one y two first second = second ∙ ap (λ s. s ++ y) first ∙ append_assoc before x y
+
+-- what is no text fails the test
+pub is_utf8-otherwise : (bs : List ℕ) → ¬ (IsUtf8 bs) → is_utf8 bs ≡ false
+is_utf8-otherwise bs none = false_from_ne_true (is_utf8 bs) (λ test. none (IsUtf8-from_is_utf8 bs test))

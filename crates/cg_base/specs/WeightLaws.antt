@@ -1,8 +1,8 @@
--- A set with weights that has one more member: what each weighs in it.
-use Rattle.std.proofs.Common.{◌≡◌, ℕ, ◌≤◌, List, [], ◌∷◌, cond, eqb, refl, ap, ◌∙◌, arith, inl, inr}
-use Rattle.std.proofs.lemmas.Bool.{cases_eq, cases_order, eq-eqb, ne_eqb, lt-ltb, le-ltb}
+-- A set with weights that has one more member: what each weighs in it, and where it stands.
+use Rattle.std.proofs.Common.{◌≡◌, ℕ, ◌<◌, ◌≤◌, ◌||◌, List, [], ◌∷◌, ◌++◌, cond, Bool, true, false, eqb, refl, ap, ◌∙◌, arith, inl, inr}
+use Rattle.std.proofs.lemmas.Bool.{cases_eq, cases_order, eq-eqb, ne_eqb, lt-ltb, le-ltb, or_right}
 use Rattle.cg_base.specs.declared.weighted.Weighted.{Weighted}
-use Rattle.cg_base.specs.Sets.{IsId, with_member}
+use Rattle.cg_base.specs.Sets.{IsId, has, with_member}
 use Rattle.cg_base.specs.Weights.{IsWeightSet, Weigh, ids, weight_in, with_weight}
 use Rattle.cg_base.specs.SetLaws.{Ascends-with_member}
 
@@ -47,3 +47,19 @@ IsWeightSet-with_weight set n is_id some most is_set = record {
   ascends = rw (ids-with_weight set n) (Ascends-with_member (ids set) 1 n.id is_id.0 is_id.1 is_set.ascends);
   weigh = Weigh-with_weight set n some most is_set.weigh;
 }
+
+-- a member above all others stands last
+pub with_weight-last : (set : List Weighted) (n : Weighted) → (has_below : (m : ℕ) → has (ids set) m ≡ true → m < n.id) → with_weight set n ≡ set ++ n ∷ []
+with_weight-last [] n below = refl
+with_weight-last (m ∷ set) n below =
+    let later : m.id < n.id = below m.id (rw (eq-eqb m.id m.id refl)) in
+    rw (ne_eqb n.id m.id (λ e. omega arith), le-ltb n.id m.id (omega arith))
+    (ap (λ s. m ∷ s) (with_weight-last set n (λ k h. below k (or_right (eqb m.id k) (has (ids set) k) h))))
+
+pub ids-append : (xs ys : List Weighted) (k : ℕ) → has (ids (xs ++ ys)) k ≡ (has (ids xs) k || has (ids ys) k)
+ids-append [] ys k = refl
+ids-append (m ∷ xs) ys k = ap (λ b. eqb m.id k || b) (ids-append xs ys k) ∙ or_group (eqb m.id k) (has (ids xs) k) (has (ids ys) k)
+  where
+    or_group : (a b c : Bool) → (a || (b || c)) ≡ ((a || b) || c)
+    or_group true b c = refl
+    or_group false b c = refl

@@ -78,12 +78,12 @@ field_has Has Has' spelling reading into back field = record {
   found = λ x old new fits e. let f = field.found x old new fits e in record { has = into x f.has; took = f.took };
 }
 
--- the same spelling, said in another way
-pub field_spelled : {X : Type 0} (Has : X → Type 0) (spelling spelling' : X → List ℕ) (reading : Reading X) → ((x : X) → spelling x ≡ spelling' x)
+-- the same spelling of the values that the field has, said in another way
+pub field_says : {X : Type 0} (Has : X → Type 0) (spelling spelling' : X → List ℕ) (reading : Reading X) → ((x : X) → Has x → spelling x ≡ spelling' x)
     → IsField Has spelling reading → IsField Has spelling' reading
-field_spelled Has spelling spelling' reading same field = record {
-  again = λ x at rest has. rw (← same x) (field.again x at rest has);
-  found = λ x old new fits e. let f = field.found x old new fits e in record { has = f.has; took = rw (← same x) f.took };
+field_says Has spelling spelling' reading same field = record {
+  again = λ x at rest has. rw (← same x has) (field.again x at rest has);
+  found = λ x old new fits e. let f = field.found x old new fits e in record { has = f.has; took = rw (← same x f.has) f.took };
 }
 
 -- only the values that pass a test
@@ -181,7 +181,7 @@ optional_is spelling (Some x) = refl
 pub field_optional : {X : Type 0} (Has : X → Type 0) (spelling : X → List ℕ) (item : Reading X) → IsField (λ (b : Bool). Unit {0}) truth take_truth → IsField Has spelling item
     → IsField (HasOptional Has) (optional spelling) (take_optional item)
 field_optional {X = X} Has spelling item truths field =
-    field_spelled (HasOptional Has) (λ (o : Option X). truth (is_some o) ++ inner spelling o) (optional spelling) (take_optional item) (optional_is spelling)
+    field_says (HasOptional Has) (λ (o : Option X). truth (is_some o) ++ inner spelling o) (optional spelling) (take_optional item) (λ o _. optional_is spelling o)
     (field_bind is_some (λ (b : Bool). Unit {0}) truth take_truth (HasOptional Has) (inner spelling) (λ present. cond present (item >>= λ x. done (Some x)) (done None)) (λ o has. tt) truths by_presence)
   where
     by_presence : (b : Bool) → Unit {0} → IsField (λ (o : Option X). HasOptional Has o × (is_some o ≡ b)) (inner spelling) (cond b (item >>= λ x. done (Some x)) (done None))

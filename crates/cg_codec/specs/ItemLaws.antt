@@ -1,6 +1,7 @@
 -- Reading items one after the other, as a loop does: what is still to be read, behind those that were taken, gives what the whole list gives.
-use Rattle.std.proofs.Common.{◌≡◌, ℕ, suc, ◌-◌, ◌+◌, ◌≤◌, ◌<◌, List, [], ◌∷◌, ◌++◌, Result, Ok, Err, refl, sym, ◌∙◌, arith}
+use Rattle.std.proofs.Common.{◌≡◌, ◌≢◌, ℕ, suc, ◌-◌, ◌+◌, ◌≤◌, ◌<◌, List, [], ◌∷◌, ◌++◌, Result, Ok, Err, refl, sym, ◌∙◌, arith}
 use Rattle.cg_codec.specs.declared.fault.CodecFault.{CodecFault}
+use Rattle.cg_codec.specs.declared.fault.CodecFault.TheVariants.{NoMemory}
 use Rattle.cg_codec.specs.Reading.{Unread, Reading, take_items}
 
 -- how many items are still to be read, before the next one
@@ -23,6 +24,11 @@ unfolding take_items
 items_stop item count i taken left fault total lt one so_far =
     let step : take_items item (count - i) taken left ≡ Err fault = rw (left_over count i lt, one) refl in
     sym so_far ∙ step
+
+-- the next item is at fault, unless memory was refused
+pub items_stop_unless : {X : Type 0} (item : List X → Reading X) (count i : ℕ) (taken : List X) (left : Unread) (fault : CodecFault) (total : Result (List X × Unread) CodecFault)
+    → i < count → (fault ≢ NoMemory → item taken left ≡ Err fault) → take_items item (count - i) taken left ≡ total → fault ≢ NoMemory → total ≡ Err fault
+items_stop_unless item count i taken left fault total lt one so_far known = items_stop item count i taken left fault total lt (one known) so_far
 
 -- no item is left
 pub items_end : {X : Type 0} (item : List X → Reading X) (count i : ℕ) (taken : List X) (left : Unread) (total : Result (List X × Unread) CodecFault)

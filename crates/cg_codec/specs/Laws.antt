@@ -34,3 +34,7 @@ EachBehind Has taken (x ∷ xs) = Has taken x × EachBehind Has (taken ++ x ∷ 
 pub record IsWhole {X : Type 0} (Has : X → Type 0) (spelling : X → List ℕ) (reading : Reading X) : Type 0 where
   pub again : (x : X) → Has x → whole reading (spelling x) ≡ Ok x
   pub found : (x : X) (bytes : List ℕ) → AreBytes bytes → whole reading bytes ≡ Ok x → Has x × (bytes ≡ spelling x)
+
+-- where one spelling is at the front of another, the two are of one value, and nothing stands behind it
+abbrev pub IsFrontOfNoOther : {X : Type 0} → (X → Type 0) → (X → List ℕ) → Type 0
+IsFrontOfNoOther {X} Has spelling = (x y : X) (rest : List ℕ) → Has x → Has y → spelling y ≡ spelling x ++ rest → (y ≡ x) × (rest ≡ [])

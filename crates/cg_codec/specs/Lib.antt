@@ -7,3 +7,4 @@ pub mod FieldLaws
 pub mod PlainLaws
 pub mod ItemLaws
 pub mod ListLaws
+pub mod ShapeLaws

@@ -7,13 +7,13 @@ use Rattle.std.proofs.Math.Facts.{sfits_to_z, Fits-of_z}
 use Rattle.std.proofs.lemmas.Int.{of_z-to_z, to_z-of_z}
 use Rattle.std.proofs.lemmas.Str.{IsUtf8-from_is_utf8, is_utf8-from_IsUtf8}
 use mir.Val.{SFits}
-use Rattle.std.proofs.lemmas.Bool.{cases_lt, ltb-true, ltb-false, le-ltb, leb-true, le-leb}
+use Rattle.std.proofs.lemmas.Bool.{cases_lt, ltb-true, ltb-false, le-ltb, leb-true, le-leb, and_parts, and_from}
 use Rattle.std.proofs.lemmas.List.{take_at, drop_at, take-append-drop, length-take, get_or-take, get_or_past}
 use Rattle.std.proofs.lemmas.Nat.{be_bytes_4, be_bytes_8, from_be_bytes-to_be_bytes_4, from_be_bytes-to_be_bytes_8}
 use Rattle.cg_codec.specs.declared.fault.CodecFault.{CodecFault}
 use Rattle.cg_codec.specs.declared.fault.CodecFault.TheVariants.{Short, Bad}
 use Rattle.cg_codec.specs.Fields.{byte, number32, number64, signed64, truth, text}
-use Rattle.cg_codec.specs.Reading.{Unread, behind, byte_of, take_number, take_u8, take_u32, take_u64, take_i64, take_truth, take_count, take_text, text_bytes, only}
+use Rattle.cg_codec.specs.Reading.{Unread, behind, byte_of, take_number, take_u8, take_u32, take_u64, take_i64, take_truth, take_count, take_text, text_bytes, only, is_between, byte_between}
 use Rattle.cg_codec.specs.Laws.{AreBytes, Took, Found, IsField}
 use Rattle.cg_codec.specs.FieldLaws.{Took-then, same_pair, go_on-ok, given, guarded, gives, field_has, field_only, field_map}
 
@@ -35,6 +35,19 @@ u8_field = record {
   again = λ x at rest has. refl;
   found = λ x old new fits e. byte_found x old.at old.bytes new fits e;
 }
+
+-- a byte from low to high
+pub between_field : (low high : ℕ) → high < 256 → IsField (λ n. (low ≤ n) × (n ≤ high)) byte (byte_between low high)
+unfolding byte_between
+between_field low high small =
+    field_has (λ n. (n < 256) × (is_between low high n ≡ true)) (λ n. (low ≤ n) × (n ≤ high)) byte (byte_between low high)
+    (λ n has. is_between-true low high n has.1) (λ n has. (omega arith, between-true low high n has.0 has.1)) (field_only (λ n. n < 256) byte take_u8 (is_between low high) u8_field)
+  where
+    is_between-true : (low high n : ℕ) → is_between low high n ≡ true → (low ≤ n) × (n ≤ high)
+    is_between-true low high n e = let both = and_parts (nat_le low n) (nat_le n high) e in (leb-true low n both.0, leb-true n high both.1)
+
+    between-true : (low high n : ℕ) → low ≤ n → n ≤ high → is_between low high n ≡ true
+    between-true low high n l h = and_from (nat_le low n) (nat_le n high) (le-leb low n l) (le-leb n high h)
 
 -- ---- numbers
 

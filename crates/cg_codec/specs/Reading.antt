@@ -48,6 +48,13 @@ byte_of at (byte ∷ bytes) = Ok (byte, record { at = at + 1; bytes = bytes })
 unfoldable pub take_u8 : Reading ℕ
 take_u8 left = byte_of left.at left.bytes
 
+-- a byte from low to high
+abbrev pub is_between : ℕ → ℕ → ℕ → Bool
+is_between low high n = nat_le low n && nat_le n high
+
+unfoldable pub byte_between : ℕ → ℕ → Reading ℕ
+byte_between low high left = only (is_between low high) take_u8 left
+
 -- a number of so many bytes, the highest first
 abbrev pub take_number : Width → Reading ℕ
 take_number w left =

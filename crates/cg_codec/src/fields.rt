@@ -26,7 +26,7 @@ pub struct Fields<'a> {
 
 impl<'a> Fields<'a> {
     ghost use Rattle.std.specs.Prelude.{◌≤◌, take};
-    ghost use Rattle.cg_codec.specs.Reading.{take_u8, take_u32, take_u64, take_i64, take_truth, take_count, take_text, behind};
+    ghost use Rattle.cg_codec.specs.Reading.{take_u8, byte_between, take_u32, take_u64, take_i64, take_truth, take_count, take_text, behind};
     ghost use Rattle.cg_codec.specs.Taking.{unread_of, Takes, Ends};
 
     /// The fields of all these bytes.
@@ -52,6 +52,20 @@ impl<'a> Fields<'a> {
                 Ok(*byte)
             }
         }
+    }
+
+    /// Takes one byte, from `low` to `high`. Another one is `Bad`.
+    #[tactic(auto, unfolding(crate::specs::Reading::byte_between))]
+    pub fn take_between(&mut self, low: u8, high: u8) -> Result<u8, CodecFault>
+        ensures { Takes (λ x. x) (byte_between low high) (unread_of self.old) (unread_of self.new) result }
+    {
+        let mut after = *self;
+        let byte = after.take_u8()?;
+        if byte < low || high < byte {
+            return Err(self.bad());
+        }
+        *self = after;
+        Ok(byte)
     }
 
     /// Takes a number of four bytes.

@@ -1,6 +1,6 @@
 -- The keys of a database, and what a sort makes of the keys of a map.
 use Rattle.std.proofs.Common.{◌≡◌, ℕ, zero, suc, ◌+◌, ◌<◌, Bool, true, false, cond, ◌&&◌, ◌||◌, List, [], ◌∷◌, ◌++◌, length, drop, refl, sym, ap, ◌∙◌, add-one, arith}
-use Rattle.std.specs.Prelude.{Option, Some, None, is_some, map, filter, flat_map, pos, IsSorted, IsPermutation}
+use Rattle.std.specs.Prelude.{Option, Some, None, is_some, filter, flat_map, pos, IsSorted, IsPermutation}
 use Rattle.std.specs.Str.{bytes_eq}
 use Rattle.std.proofs.lemmas.List.{append-nil}
 use Rattle.std.specs.List.{slice_get, list_any, IsDistinct, AllByRecursion}

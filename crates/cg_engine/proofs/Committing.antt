@@ -6,7 +6,8 @@ use Rattle.cg_client.specs.Drafts.{turn_with}
 use Rattle.cg_client.specs.Replica.{Held, Replica}
 use Rattle.cg_step.specs.Commit.{commits}
 use Rattle.cg_store.specs.Answers.{EachMoment}
-use Rattle.cg_store.specs.Calls.{Whether, Commits, Keeps, IsEither}
+use Rattle.cg_base.specs.Choice.{Either}
+use Rattle.cg_store.specs.Calls.{Commits, Keeps, IsEither}
 use Rattle.cg_store.specs.Kept.{Kept}
 use Rattle.cg_store.specs.Stands.{Standing, committed}
 use Rattle.cg_store.specs.declared.errors.CommitErr.{CommitErr}
@@ -15,9 +16,9 @@ use Rattle.cg_replica.specs.Seen.{turn_of}
 
 module _ {D : Type 0} (view : D → DiskView) (k : Kept D) (u : Standing) (r : Replica) (d : DraftParts) (core : Held) (same : core ≡ r.held) (a : Result (Kept D × Outputs) (CommitErr D)) where
   pub ended_at :
-      (let t = turn_with core r.state d in Whether (commits u.content t) (Commits view k u (committed k.unwritten t u) d a) (Keeps k d a)) →
-      (let t = turn_of r d in Whether (commits u.content t) (Commits view k u (committed k.unwritten t u) d a) (Keeps k d a))
-  ended_at is = subst (λ h. (let t = turn_with h r.state d in Whether (commits u.content t) (Commits view k u (committed k.unwritten t u) d a) (Keeps k d a))) same is
+      (let t = turn_with core r.state d in Either (commits u.content t) (Commits view k u (committed k.unwritten t u) d a) (Keeps k d a)) →
+      (let t = turn_of r d in Either (commits u.content t) (Commits view k u (committed k.unwritten t u) d a) (Keeps k d a))
+  ended_at is = subst (λ h. (let t = turn_with h r.state d in Either (commits u.content t) (Commits view k u (committed k.unwritten t u) d a) (Keeps k d a))) same is
 
   pub moments_at : EachMoment {T = Kept D × Outputs} view (λ done. done.0.disk) (IsEither k.id u (committed k.unwritten (turn_with core r.state d) u)) (view k.disk) a →
       EachMoment {T = Kept D × Outputs} view (λ done. done.0.disk) (IsEither k.id u (committed k.unwritten (turn_of r d) u)) (view k.disk) a

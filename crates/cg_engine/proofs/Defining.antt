@@ -4,6 +4,7 @@ use Rattle.std.specs.Prelude.{IfSome}
 use Rattle.std.specs.Option.{option_map}
 use Rattle.std.proofs.lemmas.Bool.Decides.{nat_tests}
 use Rattle.cg_base.specs.declared.action_id.ActionId.{ActionId}
+use Rattle.cg_base.specs.Choice.{Either}
 use Rattle.cg_action.specs.declared.action.Action.{Action}
 use Rattle.cg_disk.specs.Calls.{Begins}
 use Rattle.cg_disk.specs.State.{DiskState, Strike as DiskStrike, Blow, left_by}
@@ -17,7 +18,7 @@ use Rattle.cg_stored.specs.Checkpoint.{size_limit}
 use Rattle.cg_step.specs.Commit.{commits}
 use Rattle.cg_step.specs.Crash.{Strike, Disk, Ended, Runs, Crashes, with_change, with_checkpoint, calls_of, checkpointed as with_long, is_committed, is_checkpointed, at_rest, crash_outcome, whitened, later, struck, commit_under, keep, end_event}
 use Rattle.cg_store.specs.Answers.{IsLost}
-use Rattle.cg_store.specs.Calls.{Whether, Commits, EndsLong}
+use Rattle.cg_store.specs.Calls.{Commits, EndsLong}
 use Rattle.cg_store.specs.Defined.{strike_at, EndsAsDefined as StrikesEndAsDefined}
 use Rattle.cg_store.specs.Kept.{Kept}
 use Rattle.cg_store.specs.declared.errors.CommitErr.TheVariants.{Lost}
@@ -282,7 +283,7 @@ module _ {D : Type 0} (view : D → DiskView) (strikes : StrikesEndAsDefined) (o
     begun mid = let k = old.store in record k { disk = mid }
 
     written_runs : (e : Up D) (o : Outputs) (mid : D) → Begins (view old.store.disk) (view mid) → commits old.replica.held t ≡ true → e.replica ≡ whitened t.replica →
-        (long : Bool) → nat_lt size_limit behind.size ≡ long → Whether long (EndsLong view (begun mid) u behind (checkpointed behind) (parts_of t) (Ok (e.store, o))) (Commits view (begun mid) u behind (parts_of t) (Ok (e.store, o))) →
+        (long : Bool) → nat_lt size_limit behind.size ≡ long → Either long (EndsLong view (begun mid) u behind (checkpointed behind) (parts_of t) (Ok (e.store, o))) (Commits view (begun mid) u behind (parts_of t) (Ok (e.store, o))) →
         RunsAsDefined view disk_before old.replica.held t fill e
     written_runs e o mid begins test replica true size is =
         let z = tells e.store.disk in
@@ -293,7 +294,7 @@ module _ {D : Type 0} (view : D → DiskView) (strikes : StrikesEndAsDefined) (o
 
     written_falls : (w : Fallen D) (mid : D) → Begins (view old.store.disk) (view mid) → commits old.replica.held t ≡ true → IsLeft old.store.id (green_count old.replica.held.queue) w → w.green ≡ t.green →
         (long : Bool) → nat_lt size_limit behind.size ≡ long →
-        Whether long (EndsLong view (begun mid) u behind (checkpointed behind) (parts_of t) (Err (Lost w.disk))) (Commits view (begun mid) u behind (parts_of t) (Err (Lost w.disk))) →
+        Either long (EndsLong view (begun mid) u behind (checkpointed behind) (parts_of t) (Err (Lost w.disk))) (Commits view (begun mid) u behind (parts_of t) (Err (Lost w.disk))) →
         FallsAsDefined view disk_before old.replica.held t fill w
     written_falls w mid begins test left green true size is =
         let e = tells w.disk in

@@ -3,6 +3,7 @@ use Rattle.std.proofs.Common.{◌≡◌, List, [], ◌∙◌, inl, inr, ℕ, nat
 use Rattle.std.specs.Prelude.{◌<◌, IfSome}
 use Rattle.std.specs.Option.{option_map}
 use Rattle.cg_base.specs.declared.action_id.ActionId.{ActionId}
+use Rattle.cg_base.specs.Choice.{Either}
 use Rattle.cg_disk.specs.State.{DiskState, Strike}
 use Rattle.cg_disk.specs.View.{DiskView, IsView, IsAtRest, LeavesOnly}
 use Rattle.cg_client.specs.declared.parts.DraftParts.{DraftParts}
@@ -15,7 +16,7 @@ use Rattle.cg_step.specs.Commit.{commits}
 use Rattle.cg_step.specs.Crash.{whitened}
 use Rattle.cg_step.specs.Following.{Follows}
 use Rattle.cg_store.specs.Answers.{IsRefused, EachMoment}
-use Rattle.cg_store.specs.Calls.{Whether, Commits, Keeps, EndsWritten, IsEither, IsOneOfThree, paired}
+use Rattle.cg_store.specs.Calls.{Commits, Keeps, EndsWritten, IsEither, IsOneOfThree, paired}
 use Rattle.cg_store.specs.EndingLaws.{commit_stands, commit_is_written, keep_stands, keep_is_not_written, ends_long, ends_short, ends_failed, event_moments}
 use Rattle.cg_store.specs.MomentLaws.{stands_once, leaves_first}
 use Rattle.cg_store.specs.Kept.{Kept}
@@ -97,7 +98,7 @@ module _ {D : Type 0} (view : D → DiskView) (k : Kept D) (u : Standing) (r : R
 
   -- a commit that was not done ends the event
   pub failed : IsView (view k.disk) → IsAtRest (view k.disk) → Stands k.id (view k.disk).reads u → (fault : CommitErr D) (b : Bool) →
-      Whether b (Commits view k u after d (Err fault)) (Keeps k d (Err fault)) → EachMoment {T = Kept D × Outputs} view (λ done. done.0.disk) (IsEither k.id u after) (view k.disk) (Err fault) →
+      Either b (Commits view k u after d (Err fault)) (Keeps k d (Err fault)) → EachMoment {T = Kept D × Outputs} view (λ done. done.0.disk) (IsEither k.id u after) (view k.disk) (Err fault) →
       EndsEvent view k last.count u turn b (fallen fault k.id last)
   failed is rest stands (Lost disk) true ends moments = record {
     ends = ends_failed view k u after d (Lost disk) ends;
@@ -140,19 +141,19 @@ module _ {D : Type 0} (view : D → DiskView) (k : Kept D) (u : Standing) (r : R
         })
 
     by_size : (b : Bool) → nat_lt size_limit after.size ≡ b → Commits view k u after d (Ok (mid, o)) → LeavesOnly (view k.disk) (view mid.disk) (IsEither k.id u after) →
-        Whether b (Saved view mid after (whitened r) o last result) (result ≡ handled.Running (up mid (whitened r)) o) → EndsEvent view k last.count u turn true result
+        Either b (Saved view mid after (whitened r) o last result) (result ≡ handled.Running (up mid (whitened r)) o) → EndsEvent view k last.count u turn true result
     by_size true size ends first is = long ends first size is
     by_size false size ends first is = short ends first size is
 
     pub ends_with : IsView (view k.disk) → IsAtRest (view k.disk) → Stands k.id (view k.disk).reads u → (b : Bool) →
-        Whether b (Commits view k u after d (Ok (mid, o))) (Keeps k d (Ok (mid, o))) → LeavesOnly (view k.disk) (view mid.disk) (IsEither k.id u after) →
+        Either b (Commits view k u after d (Ok (mid, o))) (Keeps k d (Ok (mid, o))) → LeavesOnly (view k.disk) (view mid.disk) (IsEither k.id u after) →
         ((w : Standing) → Stands mid.id (view mid.disk).reads w → GoesOn view mid w r o last result) → EndsEvent view k last.count u turn b result
     ends_with is rest stands true ends first goes =
-        let saves = subst (λ x. Whether x (Saves view mid after (whitened r) o last result) (result ≡ handled.Running (up mid r) o)) (commit_is_written view k mid u after d o ends)
+        let saves = subst (λ x. Either x (Saves view mid after (whitened r) o last result) (result ≡ handled.Running (up mid r) o)) (commit_is_written view k mid u after d o ends)
         (goes after (commit_stands view k mid u after d o ends)) in
         by_size (nat_lt size_limit after.size) refl ends first saves
     ends_with is rest stands false ends first goes =
-        let same = subst (λ x. Whether x (Saves view mid u (whitened r) o last result) (result ≡ handled.Running (up mid r) o)) (keep_is_not_written view k mid u after d o ends)
+        let same = subst (λ x. Either x (Saves view mid u (whitened r) o last result) (result ≡ handled.Running (up mid r) o)) (keep_is_not_written view k mid u after d o ends)
         (goes u (keep_stands view k mid u after d o ends stands)) in
         subst (λ x. EndsEvent view k last.count u turn false x) (sym same) (record {
           ends = ends;
@@ -162,7 +163,7 @@ module _ {D : Type 0} (view : D → DiskView) (k : Kept D) (u : Standing) (r : R
 
   -- what follows may be done
   pub may_go_on : MayEnd k.unwritten u turn → Stands k.id (view k.disk).reads u → (mid : Kept D) (o : Outputs) (b : Bool) → commits u.content turn ≡ b →
-      Whether b (Commits view k u after d (Ok (mid, o))) (Keeps k d (Ok (mid, o))) → (w : Standing) → Stands mid.id (view mid.disk).reads w → MayGoOn o.written mid.unwritten w r.held
+      Either b (Commits view k u after d (Ok (mid, o))) (Keeps k d (Ok (mid, o))) → (w : Standing) → Stands mid.id (view mid.disk).reads w → MayGoOn o.written mid.unwritten w r.held
   may_go_on may stands mid o true test ends w here =
       let same : after ≡ w = stands_once mid.id (view mid.disk).reads after w (commit_stands view k mid u after d o ends) here in
       let save : MaySave mid.unwritten after (whiten r.held) = record {
@@ -171,10 +172,10 @@ module _ {D : Type 0} (view : D → DiskView) (k : Kept D) (u : Standing) (r : R
         follows = subst (λ x. Follows (disk_of x after) (whiten r.held)) (sym ends.0.2) may.changed;
         later = subst (λ x. Follows (disk_of x (checkpointed after)) (whiten r.held)) (sym ends.0.2) may.saved;
       } in
-      subst (λ x. Whether x (IsLineGreen r.held × MaySave mid.unwritten w (whiten r.held)) (Follows (disk_of mid.unwritten w) r.held)) (sym (commit_is_written view k mid u after d o ends))
+      subst (λ x. Either x (IsLineGreen r.held × MaySave mid.unwritten w (whiten r.held)) (Follows (disk_of mid.unwritten w) r.held)) (sym (commit_is_written view k mid u after d o ends))
       (may.line, subst (λ x. MaySave mid.unwritten x (whiten r.held)) same save)
   may_go_on may stands mid o false test ends w here =
       let same : u ≡ w = stands_once mid.id (view mid.disk).reads u w (keep_stands view k mid u after d o ends stands) here in
       let follows : Follows (disk_of mid.unwritten u) r.held = subst (λ (x : Kept D). Follows (disk_of x.unwritten u) r.held) (sym ends.0) (may.kept test) in
-      subst (λ x. Whether x (IsLineGreen r.held × MaySave mid.unwritten w (whiten r.held)) (Follows (disk_of mid.unwritten w) r.held)) (sym (keep_is_not_written view k mid u after d o ends))
+      subst (λ x. Either x (IsLineGreen r.held × MaySave mid.unwritten w (whiten r.held)) (Follows (disk_of mid.unwritten w) r.held)) (sym (keep_is_not_written view k mid u after d o ends))
       (subst (λ x. Follows (disk_of mid.unwritten x) r.held) same follows)

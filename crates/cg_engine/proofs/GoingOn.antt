@@ -8,7 +8,8 @@ use Rattle.cg_stored.specs.Checkpoint.{size_limit}
 use Rattle.cg_step.specs.Crash.{whitened}
 use Rattle.cg_step.specs.Following.{Follows}
 use Rattle.cg_store.specs.Answers.{EachMoment}
-use Rattle.cg_store.specs.Calls.{Whether, Moves, IsEither}
+use Rattle.cg_base.specs.Choice.{Either}
+use Rattle.cg_store.specs.Calls.{Moves, IsEither}
 use Rattle.cg_store.specs.Kept.{Kept}
 use Rattle.cg_store.specs.Stands.{Standing, Stands, disk_of, checkpointed}
 use Rattle.cg_store.specs.declared.errors.CommitErr.{CommitErr}
@@ -20,11 +21,11 @@ use Rattle.cg_engine.specs.declared.answers.Handled.{Handled}
 use Rattle.cg_engine.specs.declared.answers.Handled.TheVariants as handled
 use Rattle.cg_engine.specs.declared.wreck.Last.{Last}
 
-chosen : (b : Bool) (A B : Type 0) → b ≡ true → Whether b A B → A
-chosen b A B is one = subst (λ x. Whether x A B) is one
+chosen : (b : Bool) (A B : Type 0) → b ≡ true → Either b A B → A
+chosen b A B is one = subst (λ x. Either x A B) is one
 
-as_chosen : (b : Bool) (A B : Type 0) → b ≡ true → A → Whether b A B
-as_chosen b A B is one = subst (λ x. Whether x A B) (sym is) one
+as_chosen : (b : Bool) (A B : Type 0) → b ≡ true → A → Either b A B
+as_chosen b A B is one = subst (λ x. Either x A B) (sym is) one
 
 -- the white count rises as the definitions say
 whitened_is : (r : Replica) → white_in r ≡ whitened r

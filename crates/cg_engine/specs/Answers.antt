@@ -2,6 +2,7 @@
 use Rattle.std.specs.Prelude.{◌≡◌, ◌⊎◌, ℕ, Bool, List, [], Result, Ok, Err, if◌then◌else◌}
 use Rattle.cg_base.specs.declared.action_id.ActionId.{ActionId}
 use Rattle.cg_base.specs.declared.weighted.Weighted.{Weighted}
+use Rattle.cg_base.specs.Choice.{Either}
 use Rattle.cg_disk.specs.Calls.{Begins}
 use Rattle.cg_disk.specs.Sides.{Image}
 use Rattle.cg_disk.specs.View.{DiskView}
@@ -15,7 +16,7 @@ use Rattle.cg_stored.specs.Stored.{recover}
 use Rattle.cg_step.specs.Commit.{commits}
 use Rattle.cg_step.specs.Crash.{whitened}
 use Rattle.cg_store.specs.Answers.{IsReached, EachMoment}
-use Rattle.cg_store.specs.Calls.{Whether, Keeps, EndsWritten, IsOneOfThree}
+use Rattle.cg_store.specs.Calls.{Keeps, EndsWritten, IsOneOfThree}
 use Rattle.cg_store.specs.Kept.{Kept}
 use Rattle.cg_store.specs.Opening.{IsNoStore}
 use Rattle.cg_store.specs.Stands.{Standing, Stands, committed, checkpointed, created}
@@ -59,12 +60,12 @@ Leaves view id count u t written (handled.NoMemory w) = IsLeft id count w × ((w
 
 -- an image in an event: of the state before, or of the one behind, in the records before a checkpoint or in it
 abbrev pub IsBetween : Bool → ℕ → Standing → Standing → Image → Type 0
-IsBetween written id u v c = Whether written (IsOneOfThree id u v (checkpointed v) c) (Stands id c u)
+IsBetween written id u v c = Either written (IsOneOfThree id u v (checkpointed v) c) (Stands id c u)
 
 -- an event that is written makes one commit, and one that isn't makes no call: how it ends, and what each moment leaves
 pub record EndsEvent {D : Type 0} (view : D → DiskView) (k : Kept D) (count : ℕ) (u : Standing) (t : Turn) (written : Bool) (result : Handled D) : Type 0 where
   pub ends : (let v = committed k.unwritten t u in
-      Whether written (EndsWritten view k u v (parts_of t) (answer_of result)) (Keeps k (parts_of t) (answer_of result)))
+      Either written (EndsWritten view k u v (parts_of t) (answer_of result)) (Keeps k (parts_of t) (answer_of result)))
   pub leaves : Leaves view k.id count u t written result
   pub moments : EachMoment view (λ done. done.0.disk) (IsBetween written k.id u (committed k.unwritten t u)) (view k.disk) (answer_of result)
 

@@ -13,7 +13,8 @@ use Rattle.cg_step.specs.Commit.{commits}
 use Rattle.cg_step.specs.Crash.{whitened}
 use Rattle.cg_step.specs.Following.{Follows}
 use Rattle.cg_store.specs.Answers.{EachMoment}
-use Rattle.cg_store.specs.Calls.{Whether, Moves, IsEither}
+use Rattle.cg_base.specs.Choice.{Either}
+use Rattle.cg_store.specs.Calls.{Moves, IsEither}
 use Rattle.cg_store.specs.Kept.{Kept}
 use Rattle.cg_store.specs.Opening.{IsSound}
 use Rattle.cg_store.specs.Stands.{Standing, Stands, disk_of, committed, checkpointed}
@@ -76,7 +77,7 @@ pub record MaySave (unwritten : List Action) (w : Standing) (h : Held) : Type 0 
 
 -- where the event was written this is so of the white count that has risen
 abbrev pub MayGoOn : Bool → List Action → Standing → Held → Type 0
-MayGoOn written unwritten w h = Whether written (IsLineGreen h × MaySave unwritten w (whiten h)) (Follows (disk_of unwritten w) h)
+MayGoOn written unwritten w h = Either written (IsLineGreen h × MaySave unwritten w (whiten h)) (Follows (disk_of unwritten w) h)
 
 -- ---- what it gives
 
@@ -95,10 +96,10 @@ pub record Saved {D : Type 0} (view : D → DiskView) (k : Kept D) (w : Standing
   pub is : result ≡ saved answer r outputs k.id last
 
 abbrev pub Saves : {D : Type 0} → (D → DiskView) → Kept D → Standing → Replica → Outputs → Last → Handled D → Type 0
-Saves view k w r outputs last result = Whether (nat_lt size_limit w.size) (Saved view k w r outputs last result) (result ≡ handled.Running (up k r) outputs)
+Saves view k w r outputs last result = Either (nat_lt size_limit w.size) (Saved view k w r outputs last result) (result ≡ handled.Running (up k r) outputs)
 
 abbrev pub GoesOn : {D : Type 0} → (D → DiskView) → Kept D → Standing → Replica → Outputs → Last → Handled D → Type 0
-GoesOn view k w r outputs last result = Whether outputs.written (Saves view k w (whitened r) outputs last result) (result ≡ handled.Running (up k r) outputs)
+GoesOn view k w r outputs last result = Either outputs.written (Saves view k w (whitened r) outputs last result) (result ≡ handled.Running (up k r) outputs)
 
 -- ---- a recovery
 

@@ -6,7 +6,8 @@ use Rattle.cg_client.specs.Turn.{Turn}
 use Rattle.cg_stored.specs.Checkpoint.{size_limit}
 use Rattle.cg_step.specs.Commit.{commits}
 use Rattle.cg_store.specs.Answers.{IsLost}
-use Rattle.cg_store.specs.Calls.{Whether, Commits, Keeps, EndsLong, EndsWritten}
+use Rattle.cg_base.specs.Choice.{Either}
+use Rattle.cg_store.specs.Calls.{Commits, Keeps, EndsLong, EndsWritten}
 use Rattle.cg_store.specs.Kept.{Kept}
 use Rattle.cg_store.specs.Stands.{Standing, committed, checkpointed}
 use Rattle.cg_store.specs.declared.errors.CommitErr.TheVariants.{Lost}
@@ -18,14 +19,14 @@ lost_within : (id earlier : ℕ) (x y : Standing) (old new : DiskView) → earli
 lost_within id earlier x y old new le lost = omega (arith, le, lost.time, lost.within.1)
 
 module _ {D : Type 0} (view : D → DiskView) (k : Kept D) (u v : Standing) (d : DraftParts) (disk : D) where
-  written_within : (long : Bool) → Whether long (EndsLong view k u v (checkpointed v) d (Err (Lost disk))) (Commits view k u v d (Err (Lost disk))) →
+  written_within : (long : Bool) → Either long (EndsLong view k u v (checkpointed v) d (Err (Lost disk))) (Commits view k u v d (Err (Lost disk))) →
       (view disk).time ≤ (view k.disk).time + 10
   written_within true is =
       ⊎_elim (λ a. lost_within k.id 0 u v (view k.disk) (view disk) (omega arith) a)
       (λ rest. ⊎_elim (λ b. lost_within k.id 4 v v (view k.disk) (view disk) (omega arith) b) (λ c. lost_within k.id 6 v (checkpointed v) (view k.disk) (view disk) (omega arith) c) rest) is
   written_within false is = lost_within k.id 0 u v (view k.disk) (view disk) (omega arith) is
 
-  ended_within : (written : Bool) → Whether written (EndsWritten view k u v d (Err (Lost disk))) (Keeps k d (Err (Lost disk))) → (view disk).time ≤ (view k.disk).time + 10
+  ended_within : (written : Bool) → Either written (EndsWritten view k u v d (Err (Lost disk))) (Keeps k d (Err (Lost disk))) → (view disk).time ≤ (view k.disk).time + 10
   ended_within true is = written_within (nat_lt size_limit v.size) is
   ended_within false is = absurd is
 

@@ -5,6 +5,7 @@ use Rattle.std.specs.Prelude.{◌==◌}
 use Rattle.std.specs.Option.{option_map_or}
 use Rattle.std.proofs.lemmas.Bool.{cond_both, cases_Bool, cases_eq, cond-true, cond-false, ne_eqb, eqb-false}
 use Rattle.cg_base.specs.Lists.{at_place}
+use Rattle.cg_base.specs.ChoiceLaws.{chosen}
 use Rattle.cg_group.specs.declared.phase.Phase.TheVariants.{Down}
 use Rattle.cg_group.specs.State.{Configuration, Standing, GroupState, no_configuration, standing_of, configuration, phase_of, delivered_to, unordered_of, set_standing, set_configuration, with_standing, changed_at}
 use Rattle.cg_group.specs.Events.{go_down}
@@ -67,17 +68,6 @@ module _ {X : Type 0} where
   pub changed_at-zero : (f : X → X) (list : List X) → changed_at f list 0 ≡ list
   changed_at-zero f [] = refl
   changed_at-zero f (x ∷ list) = ap (λ z. x ∷ z) (changed_at-zero f list)
-
--- the choices behind a changed replica
-chosen : {X : Type 0} (a b x y : Bool) (new old rest with_new : X) → (a ≡ true → x ≡ y) → (a ≡ false → x ≡ true → y ≡ false) →
-    with_new ≡ cond y new rest → cond a (cond y new rest) (cond b (cond y new (cond x old rest)) (cond x old with_new)) ≡ cond y new (cond x old rest)
-chosen true b x true new old rest with_new s o e = refl
-chosen true b true false new old rest with_new s o e = absurd (let clash : true ≡ false = s refl in cc)
-chosen true b false false new old rest with_new s o e = refl
-chosen false true x y new old rest with_new s o e = refl
-chosen false false true true new old rest with_new s o e = absurd (let clash : true ≡ false = o refl refl in cc)
-chosen false false true false new old rest with_new s o e = refl
-chosen false false false y new old rest with_new s o e = e
 
 -- the choices behind a removed replica
 dropped : {X : Type 0} (a x z : Bool) (old none rest without : X) → (a ≡ true → x ≡ true → z ≡ true) → (a ≡ false → z ≡ true → x ≡ false) →

@@ -1,4 +1,3 @@
-mod Variants
 mod PieceFields
 mod PartLists
 mod Gathering

@@ -6,13 +6,13 @@ use Rattle.cg_codec.specs.Fields.{byte, number64, text}
 use Rattle.cg_codec.specs.Reading.{whole, done}
 use Rattle.cg_codec.specs.Taking.{Decodes}
 use Rattle.cg_codec.specs.Laws.{IsField, IsWhole, AreBytes}
-use Rattle.cg_codec.specs.FieldLaws.{field_whole, field_has, field_done}
+use Rattle.cg_codec.specs.FieldLaws.{field_whole, field_has, field_done, field_says}
+use Rattle.cg_codec.specs.ShapeLaws.{field_two, field_three, field_tagged, variant_of_one}
 use Rattle.cg_action.specs.declared.action.Action.{Action}
 use Rattle.cg_action.specs.declared.value.Value.{Value}
 use Rattle.cg_action.specs.Limits.{IsAction, IsKey, IsValue}
 use Rattle.cg_action.specs.Bytes.{spelled_action, spelled_value}
 use Rattle.cg_action.specs.Reading.{key_reading, value_reading, action_reading}
-use Rattle.cg_action.specs.ShapeLaws.{field_says, field_two, field_three, field_tagged}
 use Rattle.cg_action.specs.ValueLaws.{key_field, value_field}
 use Rattle.cg_db.specs.declared.entry.DbEntry.{DbEntry}
 use Rattle.cg_db.specs.Limits.{IsEntry}
@@ -35,7 +35,6 @@ use Rattle.cg_join.specs.declared.piece.Piece.{Piece}
 use Rattle.cg_join.specs.Limits.{IsSnapshotName, IsLabel, IsHead, IsPart, IsPiece}
 use Rattle.cg_join.specs.Bytes.{spelled_snapshot_name, spelled_label, spelled_head, spelled_part, spelled_piece}
 use Rattle.cg_join.specs.Reading.{name_reading, label_reading, head_reading, any_entry_reading, start_reading, green_reading, entry_part_reading, part_of_tag, part_reading, piece_reading}
-use Rattle.cg_join.proofs.Variants.{variant_of_one}
 
 -- ---- the label
 

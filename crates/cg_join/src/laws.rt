@@ -1,7 +1,6 @@
 ghost use Rattle.std.specs.Prelude.{◌≡◌, ℕ, suc, Bool, List, length, take, slice_get, IfSome, Some, Result};
 ghost use Rattle.cg_client.specs.Replica.{Held};
-ghost use Rattle.cg_codec.specs.Laws.{IsField, IsWhole};
-ghost use Rattle.cg_action.specs.Laws.{IsFrontOfNoOther};
+ghost use Rattle.cg_codec.specs.Laws.{IsField, IsWhole, IsFrontOfNoOther};
 ghost use Rattle.cg_stored.specs.Stored.{stored_of};
 ghost use Rattle.cg_stored.specs.Checkpoint.{Agrees};
 ghost use Rattle.cg_join.specs.Limits.{IsPiece};

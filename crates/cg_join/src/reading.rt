@@ -3,7 +3,6 @@
 ghost use Rattle.std.specs.Prelude.{◌≡◌};
 ghost use Rattle.cg_codec.specs.Reading.{whole};
 ghost use Rattle.cg_codec.specs.Taking.{unread_of, Takes, TakesWithMemory, Decodes};
-ghost use Rattle.cg_action.specs.Reading.{byte_between};
 ghost use Rattle.cg_join.specs.Reading.{name_reading, label_reading, head_reading, start_reading, green_reading, entry_part_reading, part_of_tag, part_reading, piece_reading};
 ghost use Rattle.cg_join.specs.Laws.{GivesPiece};
 
@@ -76,23 +75,10 @@ fn take_part(alloc: Global, f: &mut Fields<'_>) -> Result<Part, CodecFault>
     ensures { TakesWithMemory (λ p. p) part_reading (unread_of f.old) (unread_of f.new) result }
 {
     let mut after = *f;
-    let tag = take_between(&mut after, 1, 4)?;
+    let tag = after.take_between(1, 4)?;
     let part = take_part_of(alloc, &mut after, tag)?;
     *f = after;
     Ok(part)
-}
-
-#[tactic(auto, unfolding(cg_action::specs::Reading::byte_between))]
-fn take_between(f: &mut Fields<'_>, low: u8, high: u8) -> Result<u8, CodecFault>
-    ensures { Takes (λ n. n) (byte_between low high) (unread_of f.old) (unread_of f.new) result }
-{
-    let mut after = *f;
-    let byte = after.take_u8()?;
-    if byte < low || high < byte {
-        return Err(f.bad());
-    }
-    *f = after;
-    Ok(byte)
 }
 
 #[tactic(auto, unfolding(crate::specs::Reading::part_of_tag))]

@@ -4,6 +4,7 @@ use Rattle.std.specs.Prelude.{slice_get}
 use Rattle.std.proofs.lemmas.List.{map-append}
 use Rattle.cg_base.specs.declared.action_id.ActionId.{ActionId}
 use Rattle.cg_base.specs.Ids.{names}
+use Rattle.cg_base.specs.IdLaws.{same_name}
 use Rattle.cg_base.specs.Lists.{count_up}
 use Rattle.cg_base.specs.Cuts.{index_in}
 use Rattle.cg_base.specs.IdRuns.{names_above}
@@ -19,9 +20,6 @@ use Rattle.cg_queue.proofs.Soundness.{drop-end, reds-step}
 abbrev pub plain : List ActionId → List ActionId → List ActionId
 plain yellow ids = filter (λ id. not (names yellow id)) ids
 
-same_name : (id : ActionId) (creator index : ℕ) → id.creator ≡ creator → id.index ≡ index → id ≡ record { creator = creator; index = index }
-same_name id creator index c i = λ k. record { creator = c k; index = i k }
-
 -- ---- no name is yellow
 
 pub no_names : (ids : List ActionId) → length ids ≡ 0 → ids ≡ []
@@ -35,7 +33,7 @@ plain-all (id ∷ ids) = ap (λ xs. id ∷ xs) (plain-all ids)
 run-names : (creator from : ℕ) (reds : List Red) → Run creator from reds → names_of (actions_in reds) ≡ map (λ n. record { creator = creator; index = n }) (count_up from (length reds))
 run-names creator from [] run = refl
 run-names creator from (r ∷ reds) run =
-    ap (λ id. id ∷ names_of (actions_in reds)) (same_name r.action.id creator from run.0 run.1)
+    ap (λ id. id ∷ names_of (actions_in reds)) (same_name r.action.id (record { creator = creator; index = from }) run.0 run.1)
     ∙ ap (λ (ids : List ActionId). record { creator = creator; index = from } ∷ ids) (run-names creator (suc from) reds run.2)
 
 -- they are those between the two cuts

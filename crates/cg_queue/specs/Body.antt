@@ -4,6 +4,7 @@ use Rattle.cg_base.specs.declared.action_id.ActionId.{ActionId}
 use Rattle.cg_base.specs.Ids.{names}
 use Rattle.cg_base.specs.Sets.{IsId}
 use Rattle.cg_base.specs.Cuts.{IsCut, index_in, raise}
+use Rattle.cg_base.specs.Choice.{Either}
 use Rattle.cg_action.specs.declared.action.Action.{Action}
 use Rattle.cg_queue.specs.declared.red.Red.{Red}
 use Rattle.cg_queue.specs.declared.body.Body.{Body}
@@ -70,11 +71,6 @@ seen b =
 abbrev pub Run : ℕ → ℕ → List Red → Type 0
 Run creator from [] = Unit {0}
 Run creator from (r ∷ reds) = (r.action.id.creator ≡ creator) × (r.action.id.index ≡ from) × Run creator (suc from) reds
-
--- the first of two for true, the second for false
-abbrev pub Either : Bool → Type 0 → Type 0 → Type 0
-Either true A B = A
-Either false A B = B
 
 -- among the actions the creator's indexes count up to the last one
 abbrev pub Follows : ℕ → ℕ → ℕ → List Action → Type 0

@@ -5,3 +5,4 @@ pub mod Same
 pub mod RecordLaws
 pub mod AscendingLaws
 pub mod ItemLoopLaws
+pub mod PassedLaws

@@ -56,10 +56,10 @@ index_field =
     (λ n has. is_index n has.1) (λ n has. (let small : n < 2 ^ 63 = has.1 in omega arith, index_passes n has))
     (field_only (IsBelow (2 ^ 64)) number64 take_u64 (λ n. ltb 0 n && ltb n (2 ^ 63)) u64_field)
 
-abbrev IsWeight : ℕ → Type 0
+abbrev pub IsWeight : ℕ → Type 0
 IsWeight n = (1 ≤ n) × (n ≤ 255)
 
-weight_field : IsField IsWeight byte take_weight
+pub weight_field : IsField IsWeight byte take_weight
 unfolding take_weight
 weight_field =
     field_has (λ n. IsBelow 256 n × (ltb 0 n ≡ true)) IsWeight byte (only (ltb 0) take_u8)
@@ -68,10 +68,10 @@ weight_field =
     (field_only (IsBelow 256) byte take_u8 (ltb 0) u8_field)
 
 -- an identifier that may come behind the last one
-abbrev Follows : ℕ → ℕ → Type 0
+abbrev pub Follows : ℕ → ℕ → Type 0
 Follows last id = (last < id) × (id ≤ 32)
 
-id_field : (last : ℕ) → IsField (Follows last) byte (take_id_above last)
+pub id_field : (last : ℕ) → IsField (Follows last) byte (take_id_above last)
 unfolding take_id_above
 id_field last =
     field_has (λ n. IsBelow 256 n × ((ltb last n && leb n 32) ≡ true)) (Follows last) byte (only (λ n. ltb last n && leb n 32) take_u8)

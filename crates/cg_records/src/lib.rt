@@ -17,7 +17,7 @@ mod yellow;
 
 pub use laws::{all_bytes_are_stable, records_are_exact};
 pub use names::{put_cut, take_cut};
-pub use numbers::{take_id, take_number};
+pub use numbers::{take_id, take_id_above, take_number, take_weight};
 pub use primary::{Primary, put_prim, take_prim};
 pub use sets::{put_set, put_weight_set, take_set, take_weight_set};
 pub use stable::{Stable, put_stable, take_stable};

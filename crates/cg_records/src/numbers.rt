@@ -47,7 +47,7 @@ pub fn take_id(f: &mut Fields<'_>) -> Result<ReplicaId, CodecFault>
 
 /// Takes the identifier of a replica that is above the given one.
 #[tactic(auto, unfolding(crate::specs::Reading::take_id_above))]
-pub(crate) fn take_id_above(f: &mut Fields<'_>, last: u8) -> Result<ReplicaId, CodecFault>
+pub fn take_id_above(f: &mut Fields<'_>, last: u8) -> Result<ReplicaId, CodecFault>
     ensures { Takes (λ x. x) (id_above last) (unread_of f.old) (unread_of f.new) result }
 {
     let mut after = *f;
@@ -61,7 +61,7 @@ pub(crate) fn take_id_above(f: &mut Fields<'_>, last: u8) -> Result<ReplicaId, C
 
 /// Takes a weight: one byte that isn't 0.
 #[tactic(auto, unfolding(crate::specs::Reading::take_weight))]
-pub(crate) fn take_weight(f: &mut Fields<'_>) -> Result<u8, CodecFault>
+pub fn take_weight(f: &mut Fields<'_>) -> Result<u8, CodecFault>
     ensures { Takes (λ x. x) weight (unread_of f.old) (unread_of f.new) result }
 {
     let mut after = *f;

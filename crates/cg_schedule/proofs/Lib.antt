@@ -9,6 +9,5 @@ mod MemberParts
 mod PartLaws
 mod QuotedUtf8
 mod SetParts
-mod Texts
 mod TokenParts
 mod UpdateParts

@@ -2,6 +2,7 @@
 use Rattle.std.proofs.Common.{◌≡◌, ℕ, List, [], Bool, true, false, Option, Some, None, Result, Ok, Err, IfOk, refl, sym, ◌∙◌, ap, subst}
 use Rattle.std.specs.Prelude.{nat_lt}
 use Rattle.cg_base.specs.declared.action_id.ActionId.{ActionId}
+use Rattle.cg_base.specs.Choice.{Either}
 use Rattle.cg_action.specs.declared.action.Action.{Action}
 use Rattle.cg_disk.specs.State.{DiskState, left_by}
 use Rattle.cg_disk.specs.View.{DiskView}
@@ -12,7 +13,7 @@ use Rattle.cg_step.specs.Commit.{commits}
 use Rattle.cg_step.specs.Crash.{Disk, Ended, Runs, end_event}
 use Rattle.cg_step.specs.Recorded.{AlwaysHolds, AlwaysCounts, AreBooked}
 use Rattle.cg_step.specs.Step.{Input, replica_step}
-use Rattle.cg_store.specs.Calls.{Whether, Commits, EndsLong, outputs_of}
+use Rattle.cg_store.specs.Calls.{Commits, EndsLong, outputs_of}
 use Rattle.cg_store.specs.Kept.{Kept}
 use Rattle.cg_store.specs.Stands.{Standing, Stands, disk_of, committed, checkpointed}
 use Rattle.cg_store.specs.declared.outputs.Outputs.{Outputs}
@@ -56,7 +57,7 @@ module _ {D : Type 0} (view : D → DiskView) (law : HandlesAsDefined view) (hol
 
   -- whose the store is, and what was given out
   given_in_write : (e : UpEngine D) (o : Outputs) (mid : D) (v : Standing) (long : Bool) →
-      Whether long (EndsLong view (store_at mid) is.standing v (checkpointed v) (parts_of turn) (Ok (e.store, o))) (Commits view (store_at mid) is.standing v (parts_of turn) (Ok (e.store, o))) →
+      Either long (EndsLong view (store_at mid) is.standing v (checkpointed v) (parts_of turn) (Ok (e.store, o))) (Commits view (store_at mid) is.standing v (parts_of turn) (Ok (e.store, o))) →
       (e.store.id ≡ old.store.id) × (o ≡ outputs_of true (parts_of turn))
   given_in_write e o mid v true ends = (ends.1, ends.3)
   given_in_write e o mid v false ends = (ends.0.1, ends.1)

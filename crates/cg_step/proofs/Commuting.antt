@@ -14,8 +14,8 @@ use Rattle.cg_client.specs.Marks.{after_first, is_first, with_green}
 use Rattle.cg_stored.specs.Stored.{Stored}
 use Rattle.cg_stored.specs.Change.{fits_known, turn_green, green_by_name, all_of}
 use Rattle.cg_step.specs.Holds.{cut_behind, ascend, Holds}
-use Rattle.cg_base.specs.IdLaws.{same_id-false}
-use Rattle.cg_queue.specs.NameLaws.{same_id-back, found-named}
+use Rattle.cg_base.specs.IdLaws.{same_id-false, same_id-back}
+use Rattle.cg_queue.specs.NameLaws.{found-named}
 use Rattle.cg_step.specs.CutRaiseLaws.{raise-commute, index-rises, raise-below}
 use Rattle.cg_step.specs.RunMarkLaws.{run-names, ascend-less, ascend-filter-from}
 use Rattle.cg_step.proofs.HoldsMarks.{known_by, own-same, rising-red, holds-known, holds-green}

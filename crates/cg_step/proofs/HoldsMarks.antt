@@ -15,9 +15,8 @@ use Rattle.cg_client.specs.Marks.{after_first, with_green}
 use Rattle.cg_stored.specs.Change.{is_distinct}
 use Rattle.cg_stored.specs.Checkpoint.{indexes_of}
 use Rattle.cg_step.specs.Holds.{run_on, cut_behind, ascend, Rising, CountsTo, Holds}
-use Rattle.cg_base.specs.IdLaws.{same_id-false}
+use Rattle.cg_base.specs.IdLaws.{same_id-false, same_id-is}
 use Rattle.cg_base.specs.CutLaws.{raise-some}
-use Rattle.cg_queue.specs.NameLaws.{same_id-is}
 use Rattle.cg_step.specs.CutRaiseLaws.{rising-raise, rising-behind, behind-rises, index-same, index-other}
 use Rattle.cg_step.specs.RunMarkLaws.{run-head, without, taken-out, inserted, run-inserted, behind-inserted, ascend-inserted, ascend-filter, names-new}
 use Rattle.cg_members.specs.MemberLaws.{AreApart-after_green}

@@ -13,9 +13,8 @@ use Rattle.cg_client.specs.Marks.{is_unmade, after_first, is_first, marked, newl
 use Rattle.cg_client.specs.Summary.{redden, forget_own, own_to_red}
 use Rattle.cg_stored.specs.Change.{fits_known, know}
 use Rattle.cg_step.specs.Holds.{run_on, Holds}
-use Rattle.cg_base.specs.IdLaws.{same_id-true}
+use Rattle.cg_base.specs.IdLaws.{same_id-true, same_id-self}
 use Rattle.cg_queue.specs.MarkLaws.{red-placed}
-use Rattle.cg_queue.specs.NameLaws.{same_id-self}
 use Rattle.cg_step.specs.RunMarkLaws.{run-head, run-rest}
 use Rattle.cg_step.proofs.HoldsMarks.{known_by, holds-known, holds-green}
 use Rattle.cg_step.proofs.HoldsValues.{holds-values}

@@ -7,6 +7,7 @@ use Rattle.std.proofs.lemmas.List.Sums.{fold-append}
 use Rattle.cg_base.specs.declared.action_id.ActionId.{ActionId}
 use Rattle.cg_base.specs.Ids.{same_id, id_before, names}
 use Rattle.cg_base.specs.Cuts.{index_in, raise}
+use Rattle.cg_base.specs.IdLaws.{same_id-is, same_id-back, same_id-self}
 use Rattle.cg_action.specs.declared.action.Action.{Action}
 use Rattle.cg_queue.specs.Queue.{names_of, with_red, without_action, placed_red, action_of}
 use Rattle.cg_records.specs.declared.primary.Primary.{Primary}
@@ -19,7 +20,6 @@ use Rattle.cg_stored.specs.Stored.{Stored, stored_of}
 use Rattle.cg_stored.specs.Change.{fits_known, know, green_by_name, all_of}
 use Rattle.cg_step.specs.Holds.{run_on, cut_behind, Holds}
 use Rattle.cg_step.specs.Recorded.{Named}
-use Rattle.cg_queue.specs.NameLaws.{same_id-is, same_id-back, same_id-self}
 use Rattle.cg_step.specs.CutRaiseLaws.{rising-raise, index-same, raise-below}
 use Rattle.cg_step.specs.RunMarkLaws.{run-names, names-new, run-head, run-rest}
 use Rattle.cg_step.proofs.HoldsMarks.{known_by, own-same, rising-red, green-below, holds-known}

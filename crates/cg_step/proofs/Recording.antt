@@ -6,6 +6,7 @@ use Rattle.std.proofs.lemmas.Option.{none-some}
 use Rattle.std.proofs.lemmas.List.Sums.{fold-append}
 use Rattle.cg_base.specs.declared.action_id.ActionId.{ActionId}
 use Rattle.cg_base.specs.Text.{is_nil}
+use Rattle.cg_base.specs.IdLaws.{same_id-self}
 use Rattle.cg_action.specs.declared.action.Action.{Action}
 use Rattle.cg_action.specs.declared.action.Kind.{Kind}
 use Rattle.cg_queue.specs.Queue.{names_of}
@@ -19,7 +20,6 @@ use Rattle.cg_step.specs.Step.{Input, Deliveries, Asks, take, replica_step}
 use Rattle.cg_step.specs.Commit.{same_values, commits}
 use Rattle.cg_step.specs.Holds.{run_on, Holds}
 use Rattle.cg_step.specs.Recorded.{Named, AreBooked, AlwaysRecorded, AlwaysAhead}
-use Rattle.cg_queue.specs.NameLaws.{same_id-self}
 use Rattle.cg_step.specs.RunMarkLaws.{run-head, run-rest}
 use Rattle.cg_step.proofs.HoldsMarks.{known_by}
 use Rattle.cg_step.proofs.Rows.{of-deliveries}

@@ -5,7 +5,7 @@ use Rattle.cg_base.specs.declared.action_id.ActionId.{ActionId}
 use Rattle.cg_base.specs.Cuts.{index_in, with_top, raise}
 use Rattle.cg_step.specs.Holds.{cut_behind, Rising}
 use Rattle.cg_base.specs.CutLaws.{raise-0, raise-some}
-use Rattle.cg_queue.specs.NameLaws.{same_name}
+use Rattle.cg_base.specs.IdLaws.{same_name}
 
 abbrev top_at : ActionId → ℕ → ActionId
 top_at t n = record t { index = n }

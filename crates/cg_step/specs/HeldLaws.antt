@@ -5,17 +5,16 @@ use Rattle.std.specs.List.{list_all}
 use Rattle.std.proofs.lemmas.Bool.{cases_eq, cases_order, cases_Bool, ne_eqb, and_parts, and_from}
 use Rattle.std.proofs.lemmas.List.{map-append}
 use Rattle.cg_base.specs.declared.action_id.ActionId.{ActionId}
-use Rattle.cg_base.specs.Ids.{same_id, id_before, names}
+use Rattle.cg_base.specs.Ids.{same_id, id_before}
 use Rattle.cg_base.specs.Cuts.{index_in, raise}
 use Rattle.cg_action.specs.declared.action.Action.{Action}
 use Rattle.cg_members.specs.Laws.{NoLineAbove}
 use Rattle.cg_members.specs.Servers.{least_line}
 use Rattle.cg_queue.specs.Queue.{names_of, with_red, without_action}
-use Rattle.cg_client.specs.Replica.{created, last_index}
+use Rattle.cg_client.specs.Replica.{last_index}
 use Rattle.cg_client.specs.Marks.{after_first}
 use Rattle.cg_step.specs.Holds.{run_on, cut_behind, Rising}
-use Rattle.cg_base.specs.IdLaws.{same_id-true, same_id-false}
-use Rattle.cg_queue.specs.NameLaws.{same_name}
+use Rattle.cg_base.specs.IdLaws.{same_id-true, same_id-false, same_name}
 use Rattle.cg_step.specs.CutRaiseLaws.{rising-raise, index-same, raise-below}
 use Rattle.cg_step.specs.RunMarkLaws.{run-head, run-rest, lacks, run-other, without, inserted}
 use Rattle.std.specs.Option.{unwrap_or, option_to_list}

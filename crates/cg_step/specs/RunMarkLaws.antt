@@ -7,8 +7,7 @@ use Rattle.cg_base.specs.declared.action_id.ActionId.{ActionId}
 use Rattle.cg_base.specs.Ids.{same_id, id_before, names}
 use Rattle.cg_base.specs.Cuts.{index_in, raise}
 use Rattle.cg_step.specs.Holds.{run_on, cut_behind, ascend, Rising}
-use Rattle.cg_base.specs.IdLaws.{same_id-true, same_id-false}
-use Rattle.cg_queue.specs.NameLaws.{same_name}
+use Rattle.cg_base.specs.IdLaws.{same_id-true, same_id-false, same_name}
 use Rattle.cg_step.specs.CutRaiseLaws.{raise-commute, behind-raised, rising-raise, index-same, index-other, index-rises, behind-rises, raise-below}
 
 -- ---- one run

@@ -7,13 +7,13 @@ use Rattle.std.proofs.lemmas.Bool.{and_parts}
 use Rattle.cg_base.specs.declared.weighted.Weighted.{Weighted}
 use Rattle.cg_base.specs.Ids.{same_id}
 use Rattle.cg_base.specs.Weights.{same_weighted}
+use Rattle.cg_base.specs.IdLaws.{same_id-is}
 use Rattle.cg_records.specs.declared.primary.Primary.{Primary}
 use Rattle.cg_records.specs.declared.vulnerable.Vulnerable.{Vulnerable}
 use Rattle.cg_records.specs.declared.yellow.Yellow.{Yellow}
 use Rattle.cg_records.specs.Same.{same_prim, same_vulnerable, same_record, same_yellow}
 use Rattle.cg_client.specs.Replica.{Held, yellow_of}
 use Rattle.cg_step.specs.Commit.{same_values}
-use Rattle.cg_queue.specs.NameLaws.{same_id-is}
 
 pub one-list : {A : Type 0} (eq : A → A → Bool) → ((x y : A) → eq x y ≡ true → x ≡ y) → (xs ys : List A) → pointwise eq xs ys ≡ true → xs ≡ ys
 one-list eq exact [] [] e = refl

@@ -20,7 +20,8 @@ use Rattle.cg_store.specs.Stands.{led_by, Standing, Stands, led, committed}
 use Rattle.cg_store.specs.Kept.{Kept}
 use Rattle.cg_store.specs.Answers.{IsRefused, EachMoment}
 use Rattle.cg_store.specs.Due.{is_due, IsRecord, IsPrepared, IsReady, IsLed, IsBehind, WhetherDue}
-use Rattle.cg_store.specs.Calls.{Whether, outputs_of, Writes, Commits, KeepsMarks, Keeps, IsEither, paired}
+use Rattle.cg_base.specs.Choice.{Either}
+use Rattle.cg_store.specs.Calls.{outputs_of, Writes, Commits, KeepsMarks, Keeps, IsEither, paired}
 use Rattle.cg_store.specs.declared.due.Due.{Due}
 use Rattle.cg_store.specs.declared.outputs.Outputs.{Outputs}
 use Rattle.cg_store.specs.declared.errors.CommitErr.{CommitErr}
@@ -74,9 +75,9 @@ behind_of again u unwritten h d state None is recorded = tt
 behind_of again u unwritten h d state (Some due) is recorded =
     (stored_of (whiten h), leads_to again u.content unwritten h d state due is.1 recorded, ap (λ (bytes : List ℕ). led u bytes (stored_of (whiten h))) (sym is.1.body))
 
-pub whether_of : (s : Stored) (unwritten : List Action) (h : Held) (d : DraftParts) (state : State) (due : Option Due) (A B : Type 0) → IsReady s unwritten h d state due → WhetherDue due A B → Whether (commits s (turn_with h state d)) A B
-whether_of s unwritten h d state None A B is b = subst (λ x. Whether x A B) (sym is) b
-whether_of s unwritten h d state (Some due) A B is a = subst (λ x. Whether x A B) (sym is.0) a
+pub whether_of : (s : Stored) (unwritten : List Action) (h : Held) (d : DraftParts) (state : State) (due : Option Due) (A B : Type 0) → IsReady s unwritten h d state due → WhetherDue due A B → Either (commits s (turn_with h state d)) A B
+whether_of s unwritten h d state None A B is b = subst (λ x. Either x A B) (sym is) b
+whether_of s unwritten h d state (Some due) A B is a = subst (λ x. Either x A B) (sym is.0) a
 
 -- ---- outputs behind a call
 
@@ -105,7 +106,7 @@ module _ {D : Type 0} (view : D → DiskView) (k : Kept D) (is_view : IsView (vi
   pub refused_first : (most : ℕ) → IsRefused k.id most u (view k.disk) (view k.disk)
   refused_first most = record { stands = stands; rest = rest; time = omega arith; unstruck = unstruck_same (view k.disk) is_view }
 
-  pub refused_ends : (v : Standing) (d : DraftParts) (b : Bool) → Whether b (Commits view k u v d (Err (NoMemory k.disk))) (Keeps k d (Err (NoMemory k.disk)))
+  pub refused_ends : (v : Standing) (d : DraftParts) (b : Bool) → Either b (Commits view k u v d (Err (NoMemory k.disk))) (Keeps k d (Err (NoMemory k.disk)))
   refused_ends v d true = refused_first 2
   refused_ends v d false = refl
 

@@ -6,10 +6,10 @@ use Rattle.std.specs.Cmp.Lexicographic.{pointwise}
 use Rattle.cg_base.specs.declared.action_id.ActionId.{ActionId}
 use Rattle.cg_base.specs.Ids.{same_id}
 use Rattle.cg_base.specs.Cuts.{raise, with_top}
+use Rattle.cg_base.specs.IdLaws.{same_id-is}
 use Rattle.cg_records.specs.Limits.{Each, IsIndex}
 use Rattle.cg_action.specs.declared.action.Action.{Action}
 use Rattle.cg_queue.specs.Queue.{QueueView, names_of, resumed}
-use Rattle.cg_queue.specs.NameLaws.{same_id-is}
 use Rattle.cg_client.specs.Replica.{Held}
 use Rattle.cg_store.specs.declared.resuming.GreenState.{GreenState}
 use Rattle.cg_store.specs.Rebuilt.{with_kept_green, resumed_with}

@@ -1,5 +1,6 @@
 -- What each call of a store answers.
 use Rattle.std.specs.Prelude.{◌≡◌, ◌⊎◌, ℕ, nat_lt, Bool, true, false, List, [], ◌++◌, Some, Result, Ok, Err}
+use Rattle.cg_base.specs.Choice.{Either}
 use Rattle.cg_action.specs.declared.action.Action.{Action}
 use Rattle.cg_disk.specs.Sides.{Image}
 use Rattle.cg_disk.specs.View.{DiskView}
@@ -17,11 +18,6 @@ use Rattle.cg_store.specs.Answers.{IsReached, IsRefused, IsLost}
 use Rattle.cg_store.specs.declared.outputs.Outputs.{Outputs}
 use Rattle.cg_store.specs.declared.errors.CommitErr.{CommitErr}
 use Rattle.cg_store.specs.declared.errors.CommitErr.TheVariants.{Lost, NoMemory}
-
--- one of two statements, by a test
-abbrev pub Whether : Bool → Type 0 → Type 0 → Type 0
-Whether true A B = A
-Whether false A B = B
 
 -- what an event gives out, which was written or not
 abbrev pub outputs_of : Bool → DraftParts → Outputs
@@ -99,7 +95,7 @@ EndsLong view old before after moved d (Err (NoMemory disk)) =
 -- so it was where the commit leaves the side too long; else the event ends with it
 abbrev pub EndsWritten : {D : Type 0} → (D → DiskView) → Kept D → Standing → Standing → DraftParts → Result (Kept D × Outputs) (CommitErr D) → Type 0
 EndsWritten view old before after d result =
-    Whether (nat_lt size_limit after.size) (EndsLong view old before after (checkpointed after) d result) (Commits view old before after d result)
+    Either (nat_lt size_limit after.size) (EndsLong view old before after (checkpointed after) d result) (Commits view old before after d result)
 
 -- an image stands for one of three
 abbrev pub IsOneOfThree : ℕ → Standing → Standing → Standing → Image → Type 0

@@ -12,7 +12,8 @@ use Rattle.cg_stored.specs.Checkpoint.{size_limit}
 use Rattle.cg_store.specs.Stands.{Standing, Stands, checkpointed}
 use Rattle.cg_store.specs.Kept.{Kept}
 use Rattle.cg_store.specs.Answers.{IsReached, IsRefused, IsLost, EachMoment}
-use Rattle.cg_store.specs.Calls.{Whether, outputs_of, Commits, Keeps, Moves, EndsLong, EndsWritten, IsEither, IsOneOfThree, paired}
+use Rattle.cg_base.specs.Choice.{Either}
+use Rattle.cg_store.specs.Calls.{outputs_of, Commits, Keeps, Moves, EndsLong, EndsWritten, IsEither, IsOneOfThree, paired}
 use Rattle.cg_store.specs.MomentLaws.{stands_once, moments_joined}
 use Rattle.cg_store.specs.declared.outputs.Outputs.{Outputs}
 use Rattle.cg_store.specs.declared.errors.CommitErr.{CommitErr}
@@ -71,11 +72,11 @@ module _ {D : Type 0} (view : D → DiskView) (k mid : Kept D) (u v : Standing) 
       let refused = subst (λ id. IsRefused id 4 v (view mid.disk) (view disk)) id_is is in
       inr (record { stands = refused.stands; rest = refused.rest; time = omega (arith, refused.time, first.time); unstruck = unstruck_more (view k.disk) (view mid.disk) (view disk) first.unstruck refused.unstruck })
 
-whether_true : (b : Bool) (A B : Type 0) → b ≡ true → A → Whether b A B
-whether_true b A B is a = subst (λ x. Whether x A B) (sym is) a
+whether_true : (b : Bool) (A B : Type 0) → b ≡ true → A → Either b A B
+whether_true b A B is a = subst (λ x. Either x A B) (sym is) a
 
-whether_false : (b : Bool) (A B : Type 0) → b ≡ false → B → Whether b A B
-whether_false b A B is x = subst (λ y. Whether y A B) (sym is) x
+whether_false : (b : Bool) (A B : Type 0) → b ≡ false → B → Either b A B
+whether_false b A B is x = subst (λ y. Either y A B) (sym is) x
 
 -- ---- the store and the outputs behind a commit, or behind an event that was not to be written
 
@@ -93,14 +94,14 @@ module _ {D : Type 0} (view : D → DiskView) (k mid : Kept D) (u v : Standing) 
   keep_is_not_written is = ap (λ (x : Outputs). x.written) is.1
 
   -- the outputs say which of the two it was
-  pub written_by_commit : (b : Bool) → Whether b (Commits view k u v d (Ok (mid, o))) (Keeps k d (Ok (mid, o))) → o.written ≡ true → (b ≡ true) × Commits view k u v d (Ok (mid, o))
+  pub written_by_commit : (b : Bool) → Either b (Commits view k u v d (Ok (mid, o))) (Keeps k d (Ok (mid, o))) → o.written ≡ true → (b ≡ true) × Commits view k u v d (Ok (mid, o))
   written_by_commit true is written = (refl, is)
   written_by_commit false is written = absurd (clash (sym written ∙ keep_is_not_written is))
     where
       clash : true ≡ false → ⊥
       clash e = cc
 
-  pub unwritten_by_keep : (b : Bool) → Whether b (Commits view k u v d (Ok (mid, o))) (Keeps k d (Ok (mid, o))) → o.written ≡ false → (b ≡ false) × Keeps k d (Ok (mid, o))
+  pub unwritten_by_keep : (b : Bool) → Either b (Commits view k u v d (Ok (mid, o))) (Keeps k d (Ok (mid, o))) → o.written ≡ false → (b ≡ false) × Keeps k d (Ok (mid, o))
   unwritten_by_keep true is written = absurd (clash (sym (commit_is_written is) ∙ written))
     where
       clash : true ≡ false → ⊥
@@ -128,35 +129,35 @@ module _ {D : Type 0} (view : D → DiskView) (k : Kept D) (u v : Standing) (d :
   pub ends_failed : (fault : CommitErr D) → Commits view k u v d (Err fault) → EndsWritten view k u v d (Err fault)
   ends_failed (Lost disk) is = failed (nat_lt size_limit v.size)
     where
-      failed : (b : Bool) → Whether b (EndsLong view k u v (checkpointed v) d (Err (Lost disk))) (Commits view k u v d (Err (Lost disk)))
+      failed : (b : Bool) → Either b (EndsLong view k u v (checkpointed v) d (Err (Lost disk))) (Commits view k u v d (Err (Lost disk)))
       failed true = inl is
       failed false = is
   ends_failed (NoMemory disk) is = failed (nat_lt size_limit v.size)
     where
-      failed : (b : Bool) → Whether b (EndsLong view k u v (checkpointed v) d (Err (NoMemory disk))) (Commits view k u v d (Err (NoMemory disk)))
+      failed : (b : Bool) → Either b (EndsLong view k u v (checkpointed v) d (Err (NoMemory disk))) (Commits view k u v d (Err (NoMemory disk)))
       failed true = inl is
       failed false = is
 
   -- the same, by whether the event was to be written
-  pub event_ends_long : (b : Bool) (mid : Kept D) (o : Outputs) (r : Result (Kept D) (CommitErr D)) → Whether b (Commits view k u v d (Ok (mid, o))) (Keeps k d (Ok (mid, o))) → o.written ≡ true → nat_lt size_limit v.size ≡ true →
-      Moves view mid v (checkpointed v) r → Whether b (EndsWritten view k u v d (paired r o)) (Keeps k d (paired r o))
+  pub event_ends_long : (b : Bool) (mid : Kept D) (o : Outputs) (r : Result (Kept D) (CommitErr D)) → Either b (Commits view k u v d (Ok (mid, o))) (Keeps k d (Ok (mid, o))) → o.written ≡ true → nat_lt size_limit v.size ≡ true →
+      Moves view mid v (checkpointed v) r → Either b (EndsWritten view k u v d (paired r o)) (Keeps k d (paired r o))
   event_ends_long b mid o r is written long moves =
       let done = written_by_commit view k mid u v d o b is written in
       whether_true b (EndsWritten view k u v d (paired r o)) (Keeps k d (paired r o)) done.0 (ends_long mid o r done.1 long moves)
 
-  pub event_ends_short : (b : Bool) (mid : Kept D) (o : Outputs) → Whether b (Commits view k u v d (Ok (mid, o))) (Keeps k d (Ok (mid, o))) → o.written ≡ true → nat_lt size_limit v.size ≡ false →
-      Whether b (EndsWritten view k u v d (Ok (mid, o))) (Keeps k d (Ok (mid, o)))
+  pub event_ends_short : (b : Bool) (mid : Kept D) (o : Outputs) → Either b (Commits view k u v d (Ok (mid, o))) (Keeps k d (Ok (mid, o))) → o.written ≡ true → nat_lt size_limit v.size ≡ false →
+      Either b (EndsWritten view k u v d (Ok (mid, o))) (Keeps k d (Ok (mid, o)))
   event_ends_short b mid o is written short =
       let done = written_by_commit view k mid u v d o b is written in
       whether_true b (EndsWritten view k u v d (Ok (mid, o))) (Keeps k d (Ok (mid, o))) done.0 (ends_short (Ok (mid, o)) done.1 short)
 
-  pub event_ends_kept : (b : Bool) (mid : Kept D) (o : Outputs) → Whether b (Commits view k u v d (Ok (mid, o))) (Keeps k d (Ok (mid, o))) → o.written ≡ false →
-      Whether b (EndsWritten view k u v d (Ok (mid, o))) (Keeps k d (Ok (mid, o)))
+  pub event_ends_kept : (b : Bool) (mid : Kept D) (o : Outputs) → Either b (Commits view k u v d (Ok (mid, o))) (Keeps k d (Ok (mid, o))) → o.written ≡ false →
+      Either b (EndsWritten view k u v d (Ok (mid, o))) (Keeps k d (Ok (mid, o)))
   event_ends_kept b mid o is written =
       let kept = unwritten_by_keep view k mid u v d o b is written in
       whether_false b (EndsWritten view k u v d (Ok (mid, o))) (Keeps k d (Ok (mid, o))) kept.0 kept.1
 
-  pub event_ends_failed : (b : Bool) (fault : CommitErr D) → Whether b (Commits view k u v d (Err fault)) (Keeps k d (Err fault)) → Whether b (EndsWritten view k u v d (Err fault)) (Keeps k d (Err fault))
+  pub event_ends_failed : (b : Bool) (fault : CommitErr D) → Either b (Commits view k u v d (Err fault)) (Keeps k d (Err fault)) → Either b (EndsWritten view k u v d (Err fault)) (Keeps k d (Err fault))
   event_ends_failed true fault is = ends_failed fault is
   event_ends_failed false fault is = is
 

@@ -101,6 +101,7 @@ fn paired<D: Disk>(
 
 impl<D: Disk> Store<D> {
     ghost use Rattle.std.specs.Prelude.{IfOk, OnOk, IfSome, Some, length, ℕ};
+    ghost use Rattle.cg_base.specs.Choice.{Either};
     ghost use Rattle.cg_action.specs.Limits.{IsAction};
     ghost use Rattle.cg_disk.specs.Calls.{Begins as DiskBegins};
     ghost use Rattle.cg_journal.specs.Records.{records};
@@ -117,7 +118,7 @@ impl<D: Disk> Store<D> {
     ghost use Rattle.cg_store.specs.Due.{IsReady, IsLed, IsBehind, WhetherDue};
     ghost use Rattle.cg_disk.specs.View.{IsAtRest};
     ghost use Rattle.cg_store.specs.Opening.{Resumes, OpensStore};
-    ghost use Rattle.cg_store.specs.Calls.{Whether, Creates, Writes, Commits, KeepsMarks, Keeps, Moves, IsEither, IsSaved, IsFirst, Begins};
+    ghost use Rattle.cg_store.specs.Calls.{Creates, Writes, Commits, KeepsMarks, Keeps, Moves, IsEither, IsSaved, IsFirst, Begins};
 
     /// Ends an event: what it changes of what stands on the disk is written in four device calls, with the white count
     /// risen; the core's own is to rise behind it. Where nothing of it is to be written no call is made, and its red marks
@@ -130,7 +131,7 @@ impl<D: Disk> Store<D> {
 
         ensures ends { (u : Standing) (state : State) → Stands self.id (D.view self.disk).reads u →
             (let t = turn_with core.now state draft in
-            Whether (commits u.content t) (Commits D.view self u (committed self.unwritten t u) draft result) (Keeps self draft result)) }
+            Either (commits u.content t) (Commits D.view self u (committed self.unwritten t u) draft result) (Keeps self draft result)) }
 
         ensures time { IfOk result (λ done. (D.view done.0.disk).time ≤ (D.view self.disk).time + 4) }
 

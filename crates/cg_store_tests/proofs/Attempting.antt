@@ -3,6 +3,7 @@ use Rattle.std.proofs.Common.{◌≡◌, ℕ, List, [], Bool, true, Option, Ok, 
 use Rattle.std.specs.Prelude.{IsTrue, ◌==◌}
 use Rattle.std.proofs.lemmas.Bool.{and_from, eq-eqb}
 use Rattle.cg_base.specs.declared.weighted.Weighted.{Weighted}
+use Rattle.cg_base.specs.Choice.{Either}
 use Rattle.cg_action.specs.declared.action.Action.{Action}
 use Rattle.cg_disk.specs.View.{DiskView}
 use Rattle.cg_records.specs.declared.vulnerable.Vulnerable.{Vulnerable}
@@ -15,7 +16,7 @@ use Rattle.cg_stored.specs.Change.{are_yellow, after_change, IsRecorded}
 use Rattle.cg_stored.specs.Checkpoint.{Agrees}
 use Rattle.cg_step.specs.Holds.{Holds}
 use Rattle.cg_step.specs.Recorded.{AlwaysHolds, AlwaysSettled}
-use Rattle.cg_store.specs.Calls.{Whether, Commits, Keeps}
+use Rattle.cg_store.specs.Calls.{Commits, Keeps}
 use Rattle.cg_store.specs.EndingLaws.{written_by_commit, commit_held}
 use Rattle.cg_store.specs.Kept.{Kept}
 use Rattle.cg_store.specs.Stands.{Standing, Stands, committed}
@@ -56,7 +57,7 @@ attempt_recorded s unwritten h new n v content holds none is state =
 
 -- behind a commit the disk stands for what is held, once the white count has risen
 pub held_behind : {D : Type 0} (view : D → DiskView) (k : Kept D) (u : Standing) (h new : Held) (state : State) (d : DraftParts) (store : Kept D) (o : Outputs) (b : Bool) →
-    (let v = committed k.unwritten (turn_with h state d) u in Whether b (Commits view k u v d (Ok (store, o))) (Keeps k d (Ok (store, o)))) → o.written ≡ true → new ≡ with_white h →
+    (let v = committed k.unwritten (turn_with h state d) u in Either b (Commits view k u v d (Ok (store, o))) (Keeps k d (Ok (store, o)))) → o.written ≡ true → new ≡ with_white h →
     (w : Standing) → Stands store.id (view store.disk).reads w → stored_of new ≡ w.content
 unfolding whiten
 held_behind view k u h new state d store o b ends written white w stands =

@@ -5,9 +5,9 @@ use Rattle.cg_codec.specs.Fields.{number64, list}
 use Rattle.cg_codec.specs.Reading.{Reading, ◌>>=◌, done}
 use Rattle.cg_codec.specs.Laws.{IsField, IsWhole}
 use Rattle.cg_codec.specs.FieldLaws.{field_bind, field_map, field_whole}
+use Rattle.cg_codec.specs.ShapeLaws.{field_three}
 use Rattle.cg_action.specs.declared.action.Action.{Action}
 use Rattle.cg_action.specs.Bytes.{spelled_action}
-use Rattle.cg_action.specs.ShapeLaws.{field_three}
 use Rattle.cg_db.specs.declared.entry.DbEntry.{DbEntry}
 use Rattle.cg_members.specs.declared.members.Members.{Members}
 use Rattle.cg_records.specs.declared.stable.Stable.{Stable}

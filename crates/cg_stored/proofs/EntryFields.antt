@@ -15,12 +15,12 @@ use Rattle.cg_codec.specs.FieldLaws.{field_has, field_only, gives, go_on-ok, pas
 use Rattle.cg_codec.specs.ItemLaws.{items_go_on}
 use Rattle.cg_codec.specs.PlainLaws.{count_field}
 use Rattle.cg_codec.specs.ListLaws.{field_list}
+use Rattle.cg_codec.specs.ShapeLaws.{field_two}
 use Rattle.cg_text.specs.Order.{same_text, text_before}
 use Rattle.cg_action.specs.declared.value.Value.{Value}
 use Rattle.cg_action.specs.Limits.{IsKey, IsValue}
 use Rattle.cg_action.specs.Bytes.{spelled_value}
 use Rattle.cg_action.specs.Reading.{is_key, key_reading, value_reading}
-use Rattle.cg_action.specs.ShapeLaws.{field_two}
 use Rattle.cg_action.specs.ValueLaws.{key_field, value_field}
 use Rattle.cg_db.specs.declared.entry.DbEntry.{DbEntry}
 use Rattle.cg_db.specs.Map.{IsBefore, Ascends, value_of, put, keys}

@@ -1,50 +1,30 @@
 -- Members as fields, and the loop that reads servers.
-use Rattle.std.proofs.Common.{◌≡◌, ◌≢◌, ℕ, suc, ◌<◌, ◌≤◌, true, ltb, List, [], ◌∷◌, ◌++◌, length, Ok, refl, ap, ◌∙◌, arith}
-use Rattle.std.proofs.lemmas.Bool.{ltb-true, lt-ltb, ne_eqb, le-ltb}
+use Rattle.std.proofs.Common.{◌≡◌, ◌≢◌, ℕ, suc, ◌<◌, ◌≤◌, List, [], ◌∷◌, ◌++◌, length, Ok, refl, ap, ◌∙◌, arith}
+use Rattle.std.proofs.lemmas.Bool.{ne_eqb, le-ltb}
 use Rattle.std.proofs.lemmas.List.{length-map}
-use Rattle.cg_base.specs.Sets.{IsId, IsSet, Ascends}
+use Rattle.cg_base.specs.Sets.{IsSet, Ascends}
 use Rattle.cg_base.specs.SetLaws.{length-Ascends}
 use Rattle.cg_codec.specs.Fields.{byte, number64, list}
-use Rattle.cg_codec.specs.Reading.{Unread, ◌>>=◌, done, only, take_u8, take_list}
+use Rattle.cg_codec.specs.Reading.{Unread, ◌>>=◌, done, take_list}
 use Rattle.cg_codec.specs.Laws.{IsField, EachBehind}
-use Rattle.cg_codec.specs.FieldLaws.{field_has, field_only, go_on-ok, passed-ok, given}
-use Rattle.cg_codec.specs.PlainLaws.{IsBelow, u8_field, count_field}
+use Rattle.cg_codec.specs.FieldLaws.{field_has, go_on-ok, given}
+use Rattle.cg_codec.specs.PlainLaws.{count_field}
 use Rattle.cg_codec.specs.ListLaws.{field_list}
-use Rattle.cg_action.specs.ShapeLaws.{field_two, field_three}
+use Rattle.cg_codec.specs.ShapeLaws.{field_two, field_three}
 use Rattle.cg_members.specs.declared.server.Server.{Server}
 use Rattle.cg_members.specs.declared.members.Members.{Members}
 use Rattle.cg_members.specs.Servers.{server_ids, with_server, Count, AreServers}
 use Rattle.cg_records.specs.Limits.{IsNumber, Each}
 use Rattle.cg_records.specs.Bytes.{spelled_set}
-use Rattle.cg_records.specs.Reading.{take_number, take_id_above, last_of, take_set}
-use Rattle.cg_records.specs.RecordLaws.{any_id_field, number_field, set_field, map-push, last_of-push}
+use Rattle.cg_records.specs.Reading.{take_number, take_id_above, take_weight, last_of, take_set}
+use Rattle.cg_records.specs.RecordLaws.{Follows, IsWeight, id_field, weight_field, number_field, set_field, map-push, last_of-push}
 use Rattle.cg_records.specs.AscendingLaws.{AllBelow}
+use Rattle.cg_records.specs.PassedLaws.{id_above-ok, weight-ok}
 use Rattle.cg_stored.specs.Checkpoint.{spelled_server}
 use Rattle.cg_stored.specs.Limits.{AreMembers}
-use Rattle.cg_stored.specs.Reading.{id_behind_reading, weight_reading, server_reading, servers_reading, members_reading}
+use Rattle.cg_stored.specs.Reading.{server_reading, servers_reading, members_reading}
 
 -- ---- a server
-
-abbrev Follows : ℕ → ℕ → Type 0
-Follows last id = (last < id) × (id ≤ 32)
-
-id_behind_field : (last : ℕ) → IsField (Follows last) byte (id_behind_reading last)
-unfolding id_behind_reading
-id_behind_field last =
-    field_has (λ id. IsId id × (ltb last id ≡ true)) (Follows last) byte (only (ltb last) (take_id_above 0))
-    (λ id has. (ltb-true last id has.1, has.0.1)) (λ id has. let lt : last < id = has.0 in ((omega arith, has.1), lt-ltb last id lt))
-    (field_only IsId byte (take_id_above 0) (ltb last) any_id_field)
-
-abbrev IsWeight : ℕ → Type 0
-IsWeight n = (1 ≤ n) × (n ≤ 255)
-
-weight_field : IsField IsWeight byte weight_reading
-unfolding weight_reading
-weight_field =
-    field_has (λ n. IsBelow 256 n × (ltb 0 n ≡ true)) IsWeight byte (only (ltb 0) take_u8)
-    (λ n has. let low : 0 < n = ltb-true 0 n has.1 in let high : n < 256 = has.0 in (omega arith, omega arith))
-    (λ n has. let low : 1 ≤ n = has.0 in let high : n ≤ 255 = has.1 in (omega arith, lt-ltb 0 n low))
-    (field_only (IsBelow 256) byte take_u8 (ltb 0) u8_field)
 
 abbrev FollowsServer : ℕ → Server → Type 0
 FollowsServer last s = Follows last s.id × IsNumber s.line × IsWeight s.weight
@@ -55,8 +35,8 @@ server_is id line weight = record { id = id; line = line; weight = weight }
 server_field : (last : ℕ) → IsField (FollowsServer last) spelled_server (server_reading last)
 unfolding spelled_server server_reading
 server_field last =
-    field_three server_is (λ s. s.id) (λ s. s.line) (λ s. s.weight) (Follows last) IsNumber IsWeight byte number64 byte (id_behind_reading last) take_number weight_reading (FollowsServer last) spelled_server
-    (id_behind_field last) number_field weight_field
+    field_three server_is (λ s. s.id) (λ s. s.line) (λ s. s.weight) (Follows last) IsNumber IsWeight byte number64 byte (take_id_above last) take_number take_weight (FollowsServer last) spelled_server
+    (id_field last) number_field weight_field
     (λ s has. (has.0, has.1, has.2, refl, refl))
     (λ id line weight i l w. ((i, l, w), refl, refl, refl))
 
@@ -121,22 +101,14 @@ pub record Serves (last : ℕ) (s : Server) : Type 0 where
   pub above : last < s.id
   pub weight : 1 ≤ s.weight
 
-id_behind-ok : (last id : ℕ) (old new : Unread) → id_behind_reading last old ≡ Ok (id, new) → last < id
-unfolding id_behind_reading
-id_behind-ok last id old new e = let p = passed-ok (ltb last) old.at (take_id_above 0 old) id new e in ltb-true last id p.1
-
-weight-ok : (weight : ℕ) (old new : Unread) → weight_reading old ≡ Ok (weight, new) → 1 ≤ weight
-unfolding weight_reading
-weight-ok weight old new e = let p = passed-ok (ltb 0) old.at (take_u8 old) weight new e in ltb-true 0 weight p.1
-
 pub server-ok : (last : ℕ) (s : Server) (old new : Unread) → server_reading last old ≡ Ok (s, new) → Serves last s
 unfolding server_reading
 server-ok last s old new e =
-    let first = go_on-ok (id_behind_reading last old) (λ id. take_number >>= λ line. weight_reading >>= λ weight. done (server_is id line weight)) s new e in
-    let second = go_on-ok (take_number first.1) (λ line. weight_reading >>= λ weight. done (server_is first.0 line weight)) s new first.3 in
-    let third = go_on-ok (weight_reading second.1) (λ weight. done (server_is first.0 second.0 weight)) s new second.3 in
+    let first = go_on-ok (take_id_above last old) (λ id. take_number >>= λ line. take_weight >>= λ weight. done (server_is id line weight)) s new e in
+    let second = go_on-ok (take_number first.1) (λ line. take_weight >>= λ weight. done (server_is first.0 line weight)) s new first.3 in
+    let third = go_on-ok (take_weight second.1) (λ weight. done (server_is first.0 second.0 weight)) s new second.3 in
     let same = given (server_is first.0 second.0 third.0) s third.1 new third.3 in
-    rw (← same.0) record { above = id_behind-ok last first.0 old first.1 first.2; weight = weight-ok third.0 second.1 third.1 third.2 }
+    rw (← same.0) record { above = (id_above-ok last first.0 old first.1 first.2).0; weight = weight-ok third.0 second.1 third.1 third.2 }
 
 pub with_server-last : (servers : List Server) (n : Server) → AllBelow n.id (server_ids servers) → with_server servers n ≡ servers ++ n ∷ []
 with_server-last [] n below = refl

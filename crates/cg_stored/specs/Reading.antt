@@ -1,7 +1,7 @@
 -- How the records of a disk are read, field by field from the left.
-use Rattle.std.specs.Prelude.{ℕ, ◌-◌, ◌^◌, nat_lt, List, [], fold}
+use Rattle.std.specs.Prelude.{ℕ, ◌-◌, ◌^◌, List, [], fold}
 use Rattle.cg_base.specs.declared.action_id.ActionId.{ActionId}
-use Rattle.cg_codec.specs.Reading.{Reading, ◌>>=◌, done, only, take_u8, take_list}
+use Rattle.cg_codec.specs.Reading.{Reading, ◌>>=◌, done, only, take_list}
 use Rattle.cg_text.specs.Order.{text_before}
 use Rattle.cg_action.specs.declared.action.Action.{Action}
 use Rattle.cg_action.specs.Reading.{id_reading, key_reading, value_reading, action_reading}
@@ -9,7 +9,7 @@ use Rattle.cg_db.specs.declared.entry.DbEntry.{DbEntry}
 use Rattle.cg_members.specs.declared.server.Server.{Server}
 use Rattle.cg_members.specs.declared.members.Members.{Members}
 use Rattle.cg_members.specs.Servers.{server_ids}
-use Rattle.cg_records.specs.Reading.{take_number, take_id_above, last_of, take_set, take_cut, take_stable}
+use Rattle.cg_records.specs.Reading.{take_number, take_id_above, last_of, take_set, take_cut, take_stable, take_weight}
 use Rattle.cg_stored.specs.declared.change.Change.{Change}
 use Rattle.cg_stored.specs.declared.checkpoint.Reached.{Reached}
 use Rattle.cg_stored.specs.declared.checkpoint.Kept.{Kept}
@@ -31,19 +31,12 @@ change_reading = do
   made ← actions_reading
   done (record { stable = stable; known = known; green = green; made = made })
 
--- an identifier above the given one, and a weight
-unfoldable pub id_behind_reading : ℕ → Reading ℕ
-id_behind_reading last left = only (nat_lt last) (take_id_above 0) left
-
-unfoldable pub weight_reading : Reading ℕ
-weight_reading left = only (nat_lt 0) take_u8 left
-
 -- a server with an identifier above the given one
 unfoldable pub server_reading : ℕ → Reading Server
 server_reading last = do
-  id ← id_behind_reading last
+  id ← take_id_above last
   line ← take_number
-  weight ← weight_reading
+  weight ← take_weight
   done (record { id = id; line = line; weight = weight })
 
 -- servers: each above the one before

@@ -1,7 +1,6 @@
 ghost use Rattle.std.specs.Prelude.{◌≡◌, ℕ, true, List, Some};
 ghost use Rattle.cg_base.specs.Sets.{IsId};
-ghost use Rattle.cg_codec.specs.Laws.{AreBytes, IsField, IsWhole};
-ghost use Rattle.cg_action.specs.Laws.{IsFrontOfNoOther};
+ghost use Rattle.cg_codec.specs.Laws.{AreBytes, IsField, IsWhole, IsFrontOfNoOther};
 ghost use Rattle.cg_stored.specs.declared.change.Change.{Change};
 ghost use Rattle.cg_stored.specs.declared.checkpoint.Checkpoint.{Checkpoint};
 ghost use Rattle.cg_stored.specs.Stored.{Stored};

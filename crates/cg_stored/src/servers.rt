@@ -5,12 +5,12 @@ ghost use Rattle.cg_base.specs.Text.{KeepsFront};
 ghost use Rattle.cg_codec.specs.Fields.{list};
 ghost use Rattle.cg_codec.specs.Taking.{unread_of, Takes};
 ghost use Rattle.cg_stored.specs.Checkpoint.{spelled_server};
-ghost use Rattle.cg_stored.specs.Reading.{id_behind_reading, weight_reading, server_reading, servers_reading, members_reading};
+ghost use Rattle.cg_stored.specs.Reading.{server_reading, servers_reading, members_reading};
 
 use cg_base::{NoMemory, ReplicaId};
 use cg_codec::{CodecFault, Fields, put_u8, put_u32, put_u64};
 use cg_members::{Members, Server, ServerSet};
-use cg_records::{take_id, take_number, take_set};
+use cg_records::{take_id_above, take_number, take_set, take_weight};
 
 #[tactic(auto, unfolding(crate::specs::Reading::members_reading))]
 pub(crate) fn take_members(fields: &mut Fields<'_>) -> Result<Members, CodecFault>
@@ -45,37 +45,11 @@ fn take_server(fields: &mut Fields<'_>, last: u8) -> Result<Server, CodecFault>
     ensures { Takes (λ s. s) (server_reading last) (unread_of fields.old) (unread_of fields.new) result }
 {
     let mut after = *fields;
-    let id = take_id_behind(&mut after, last)?;
+    let id = take_id_above(&mut after, last)?;
     let line = take_number(&mut after)?;
     let weight = take_weight(&mut after)?;
     *fields = after;
     Ok(Server { id, line, weight })
-}
-
-#[tactic(auto, unfolding(crate::specs::Reading::id_behind_reading))]
-fn take_id_behind(fields: &mut Fields<'_>, last: u8) -> Result<ReplicaId, CodecFault>
-    ensures { Takes (λ id. id) (id_behind_reading last) (unread_of fields.old) (unread_of fields.new) result }
-{
-    let mut after = *fields;
-    let id = take_id(&mut after)?;
-    if id.get() <= last {
-        return Err(fields.bad());
-    }
-    *fields = after;
-    Ok(id)
-}
-
-#[tactic(auto, unfolding(crate::specs::Reading::weight_reading))]
-fn take_weight(fields: &mut Fields<'_>) -> Result<u8, CodecFault>
-    ensures { Takes (λ n. n) weight_reading (unread_of fields.old) (unread_of fields.new) result }
-{
-    let mut after = *fields;
-    let weight = after.take_u8()?;
-    if weight == 0 {
-        return Err(fields.bad());
-    }
-    *fields = after;
-    Ok(weight)
 }
 
 /// Puts servers at the end.

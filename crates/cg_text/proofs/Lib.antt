@@ -4,5 +4,4 @@ mod QuotedLaws
 mod QuotedChars
 mod Scanning
 mod TokenLaws
-mod Texts
 mod Unquoting

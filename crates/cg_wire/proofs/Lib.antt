@@ -1,3 +1,2 @@
-pub mod Variants
 pub mod SummaryFields
 pub mod MsgFields

@@ -7,11 +7,11 @@ use Rattle.cg_codec.specs.Reading.{whole}
 use Rattle.cg_codec.specs.Taking.{Decodes}
 use Rattle.cg_codec.specs.Laws.{IsField, IsWhole, AreBytes}
 use Rattle.cg_codec.specs.FieldLaws.{field_whole}
+use Rattle.cg_codec.specs.ShapeLaws.{field_tagged, variant_of_one, variant_of_two}
 use Rattle.cg_action.specs.declared.action.Action.{Action as ActionValue}
 use Rattle.cg_action.specs.Limits.{IsAction}
 use Rattle.cg_action.specs.Bytes.{spelled_action}
 use Rattle.cg_action.specs.Reading.{action_reading}
-use Rattle.cg_action.specs.ShapeLaws.{field_tagged}
 use Rattle.cg_records.specs.Limits.{IsNumber}
 use Rattle.cg_records.specs.Reading.{take_number, take_id_above}
 use Rattle.cg_records.specs.RecordLaws.{any_id_field, number_field}
@@ -22,7 +22,6 @@ use Rattle.cg_wire.specs.Limits.{IsSummary, IsMsg}
 use Rattle.cg_wire.specs.Bytes.{spelled_summary, spelled_msg}
 use Rattle.cg_wire.specs.Reading.{summary_reading, green_item_reading, red_item_reading, item_of_tag, item_reading, action_msg_reading, state_reading, cpc_reading, msg_of_tag, msg_reading}
 use Rattle.cg_wire.specs.Laws.{GivesSpelled}
-use Rattle.cg_wire.proofs.Variants.{variant_of_one, variant_of_two}
 use Rattle.cg_wire.proofs.SummaryFields.{summary_field}
 
 -- ---- the tags, and what is behind them

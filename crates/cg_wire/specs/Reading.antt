@@ -1,8 +1,8 @@
 -- How messages are read, field by field from the left.
 use Rattle.std.specs.Prelude.{ℕ, ◌==◌, List, Option, Some, None, Result, Ok, Err, if◌then◌else◌}
 use Rattle.cg_codec.specs.declared.fault.CodecFault.{CodecFault}
-use Rattle.cg_codec.specs.Reading.{Reading, ◌>>=◌, done, whole}
-use Rattle.cg_action.specs.Reading.{byte_between, action_reading}
+use Rattle.cg_codec.specs.Reading.{Reading, ◌>>=◌, done, whole, byte_between}
+use Rattle.cg_action.specs.Reading.{action_reading}
 use Rattle.cg_records.specs.Reading.{take_number, take_id_above, take_set, take_cut, take_prim, take_maybe_vulnerable, take_yellow}
 use Rattle.cg_knowledge.specs.declared.summary.Summary.{Summary}
 use Rattle.cg_wire.specs.declared.message.Msg.{Msg}

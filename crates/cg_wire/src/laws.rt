@@ -1,6 +1,5 @@
 ghost use Rattle.std.specs.Prelude.{◌≡◌, Some};
-ghost use Rattle.cg_codec.specs.Laws.{IsField, IsWhole};
-ghost use Rattle.cg_action.specs.Laws.{IsFrontOfNoOther};
+ghost use Rattle.cg_codec.specs.Laws.{IsField, IsWhole, IsFrontOfNoOther};
 ghost use Rattle.cg_wire.specs.declared.message.Msg.{Msg};
 ghost use Rattle.cg_wire.specs.Limits.{IsSummary, IsMsg};
 ghost use Rattle.cg_wire.specs.Bytes.{spelled_summary, spelled_msg};

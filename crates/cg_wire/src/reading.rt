@@ -3,7 +3,6 @@
 ghost use Rattle.std.specs.Prelude.{◌≡◌, IfOk, IfSome};
 ghost use Rattle.cg_codec.specs.Reading.{whole};
 ghost use Rattle.cg_codec.specs.Taking.{unread_of, Takes, TakesWithMemory, Decodes};
-ghost use Rattle.cg_action.specs.Reading.{byte_between};
 ghost use Rattle.cg_wire.specs.Reading.{summary_reading, green_item_reading, red_item_reading, item_of_tag, item_reading, action_msg_reading, state_reading, cpc_reading, msg_of_tag, msg_reading, message_in};
 ghost use Rattle.cg_wire.specs.Limits.{IsMsg};
 ghost use Rattle.cg_wire.specs.Laws.{GivesSpelled};
@@ -54,23 +53,10 @@ fn take_msg(alloc: Global, f: &mut Fields<'_>) -> Result<Msg, CodecFault>
     ensures { TakesWithMemory (λ m. m) msg_reading (unread_of f.old) (unread_of f.new) result }
 {
     let mut after = *f;
-    let tag = take_between(&mut after, 1, 4)?;
+    let tag = after.take_between(1, 4)?;
     let m = take_msg_of(alloc, &mut after, tag)?;
     *f = after;
     Ok(m)
-}
-
-#[tactic(auto, unfolding(cg_action::specs::Reading::byte_between))]
-fn take_between(f: &mut Fields<'_>, low: u8, high: u8) -> Result<u8, CodecFault>
-    ensures { Takes (λ n. n) (byte_between low high) (unread_of f.old) (unread_of f.new) result }
-{
-    let mut after = *f;
-    let byte = after.take_u8()?;
-    if byte < low || high < byte {
-        return Err(f.bad());
-    }
-    *f = after;
-    Ok(byte)
 }
 
 #[tactic(auto, unfolding(crate::specs::Reading::msg_of_tag))]
@@ -136,7 +122,7 @@ fn take_item(alloc: Global, f: &mut Fields<'_>) -> Result<Msg, CodecFault>
     ensures { TakesWithMemory (λ m. m) item_reading (unread_of f.old) (unread_of f.new) result }
 {
     let mut after = *f;
-    let tag = take_between(&mut after, 1, 2)?;
+    let tag = after.take_between(1, 2)?;
     let m = take_item_of(alloc, &mut after, tag)?;
     *f = after;
     Ok(m)

@@ -6,8 +6,8 @@ use Rattle.std.specs.Char.{encode_utf8}
 use Rattle.cg_base.specs.Sets.{every_replica}
 use Rattle.cg_text.specs.Tokens.{tokens_from}
 use Rattle.cg_codec.specs.Fields.{byte, number32, number64, signed64, truth, text as text_of_codec_fields}
-use Rattle.cg_codec.specs.Reading.{take_u8, take_u32, take_u64, take_i64, take_truth, take_count, take_text, take_items}
-use Rattle.cg_action.specs.Reading.{byte_between, number_from, id_reading, key_reading, value_of_tag, value_reading, want_of_tag, want_reading, amount_reading, put_reading as put_reading_of_action_reading, del_reading as del_reading_of_action_reading, inc_reading as inc_reading_of_action_reading, cas_reading as cas_reading_of_action_reading, move_reading as move_reading_of_action_reading, need_reading as need_reading_of_action_reading, command_of_tag, command_reading, query_of_tag, query_reading as query_reading_of_action_reading, commands_reading, query_behind, update_reading as update_reading_of_action_reading, heavy_join_reading, kind_of_tag, kind_reading, action_reading}
+use Rattle.cg_codec.specs.Reading.{take_u8, take_u32, take_u64, take_i64, take_truth, take_count, take_text, take_items, byte_between}
+use Rattle.cg_action.specs.Reading.{number_from, id_reading, key_reading, value_of_tag, value_reading, want_of_tag, want_reading, amount_reading, put_reading as put_reading_of_action_reading, del_reading as del_reading_of_action_reading, inc_reading as inc_reading_of_action_reading, cas_reading as cas_reading_of_action_reading, move_reading as move_reading_of_action_reading, need_reading as need_reading_of_action_reading, command_of_tag, command_reading, query_of_tag, query_reading as query_reading_of_action_reading, commands_reading, query_behind, update_reading as update_reading_of_action_reading, heavy_join_reading, kind_of_tag, kind_reading, action_reading}
 use Rattle.cg_db.specs.Apply.{run_commands}
 use Rattle.cg_db.specs.Plan.{with_changes}
 use Rattle.cg_vote.specs.Quorum.{is_quorum}
@@ -51,7 +51,7 @@ use Rattle.cg_construct.specs.Un.{un_on_message}
 use Rattle.cg_stored.specs.Change.{spelled_change, after_change}
 use Rattle.cg_stored.specs.Checkpoint.{spelled_server, spelled_entry, spelled_reached, spelled_kept, spelled_parts, spelled_checkpoint}
 use Rattle.cg_stored.specs.Parts.{do_agree, change_in, checkpoint_in}
-use Rattle.cg_stored.specs.Reading.{actions_reading, ids_reading, change_reading, id_behind_reading, weight_reading, server_reading, servers_reading, members_reading, key_behind_reading, entry_reading, entries_reading, reached_reading, kept_reading, checkpoint_reading}
+use Rattle.cg_stored.specs.Reading.{actions_reading, ids_reading, change_reading, server_reading, servers_reading, members_reading, key_behind_reading, entry_reading, entries_reading, reached_reading, kept_reading, checkpoint_reading}
 use Rattle.cg_stored.specs.Stored.{whiten, recover}
 use Rattle.cg_step.specs.Commit.{same_values, commits}
 use Rattle.cg_step.specs.Crash.{with_change, with_checkpoint, crash_outcome, end_event}
@@ -139,7 +139,7 @@ unfolding construct_on_message no_on_message un_on_message
 construct_computes = tt
 
 unfoldable pub stored_computes : ⊤
-unfolding spelled_change after_change spelled_server spelled_entry spelled_reached spelled_kept spelled_parts spelled_checkpoint do_agree change_in checkpoint_in actions_reading ids_reading change_reading id_behind_reading weight_reading server_reading servers_reading members_reading key_behind_reading entry_reading entries_reading reached_reading kept_reading checkpoint_reading whiten recover
+unfolding spelled_change after_change spelled_server spelled_entry spelled_reached spelled_kept spelled_parts spelled_checkpoint do_agree change_in checkpoint_in actions_reading ids_reading change_reading server_reading servers_reading members_reading key_behind_reading entry_reading entries_reading reached_reading kept_reading checkpoint_reading whiten recover
 stored_computes = tt
 
 unfoldable pub step_computes : ⊤

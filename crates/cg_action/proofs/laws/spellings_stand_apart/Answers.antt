@@ -1,7 +1,7 @@
 use Rattle.cg_action.specs.Limits.{IsActionId, IsValue, IsCommand, IsQuery, IsAction}
 use Rattle.cg_action.specs.Bytes.{spelled_id, spelled_value, spelled_command, spelled_query, spelled_action}
 use Rattle.cg_action.specs.Reading.{id_reading, value_reading, command_reading, query_reading, action_reading}
-use Rattle.cg_action.specs.ShapeLaws.{field_front}
+use Rattle.cg_codec.specs.ShapeLaws.{field_front}
 use Rattle.cg_action.specs.ValueLaws.{id_field, value_field}
 use Rattle.cg_action.specs.CommandLaws.{command_field, query_field}
 use Rattle.cg_action.specs.KindLaws.{action_field}

@@ -1,8 +1,7 @@
 use Rattle.std.proofs.Common.{◌≡◌, rules}
 use Rattle.cg_codec.specs.Taking.{unread_of}
-use Rattle.cg_codec.specs.ItemLaws.{items_go_on, items_end}
+use Rattle.cg_codec.specs.ItemLaws.{items_go_on, items_end, items_stop_unless}
 use Rattle.cg_action.specs.Reading.{command_reading, commands_reading}
-use Rattle.cg_action.proofs.Taken.{items_stop_unless}
 use Rattle.cg_action.proofs.reading.take_commands.Goals as goal
 
 pub returns-in_err-take_command : goal.returns-in_err-take_command

@@ -1,5 +1,5 @@
 use Rattle.std.proofs.lemmas.Str.{is_utf8-from_IsUtf8}
-use Rattle.cg_codec.proofs.Texts.{is_utf8-otherwise}
+use Rattle.cg_base.specs.TextLaws.{is_utf8-otherwise}
 use Rattle.cg_codec.proofs.fields.text_of.Goals as goal
 
 pub returns-in-Ok : goal.returns-in-Ok

@@ -1,4 +1,4 @@
-use Rattle.cg_action.specs.ShapeLaws.{field_front}
+use Rattle.cg_codec.specs.ShapeLaws.{field_front}
 use Rattle.cg_codec.specs.Laws.{IsField}
 use Rattle.cg_join.specs.Limits.{IsPiece}
 use Rattle.cg_join.specs.Bytes.{spelled_piece}

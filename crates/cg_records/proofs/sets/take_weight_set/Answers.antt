@@ -8,9 +8,9 @@ use Rattle.cg_codec.specs.ItemLaws.{items_stop, items_end}
 use Rattle.cg_records.specs.Reading.{take_weight_set, take_weighted_above, last_of}
 use Rattle.cg_records.specs.AscendingLaws.{AllBelow-more, with_weight-last}
 use Rattle.cg_records.specs.RecordLaws.{map-push}
-use Rattle.cg_records.proofs.Passed.{weighted_above-ok}
 use Rattle.cg_records.specs.ItemLoopLaws.{ReadSoFar-none, ReadSoFar-more}
 use Rattle.cg_records.proofs.sets.take_weight_set.Goals as goal
+use Rattle.cg_records.specs.PassedLaws.{weighted_above-ok}
 
 pub members-init : goal.members-init
 unfolding take_weight_set

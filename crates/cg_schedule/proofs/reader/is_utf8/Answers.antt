@@ -1,6 +1,6 @@
 use Rattle.std.proofs.Common.{sym}
 use Rattle.std.proofs.lemmas.Str.{is_utf8-from_IsUtf8}
-use Rattle.cg_schedule.proofs.Texts.{is_utf8-otherwise}
+use Rattle.cg_base.specs.TextLaws.{is_utf8-otherwise}
 use Rattle.cg_schedule.proofs.reader.is_utf8.Goals as goal
 
 pub returns-in-Ok : goal.returns-in-Ok

@@ -2,9 +2,8 @@ use Rattle.std.proofs.Common.{◌≡◌, ◌≢◌, Err, refl, subst, arith}
 use Rattle.std.proofs.lemmas.Result.{err_from_is_err_and}
 use Rattle.cg_codec.specs.declared.fault.CodecFault.TheVariants.{NoMemory}
 use Rattle.cg_codec.specs.Taking.{unread_of}
-use Rattle.cg_codec.specs.ItemLaws.{items_end}
+use Rattle.cg_codec.specs.ItemLaws.{items_end, items_stop_unless}
 use Rattle.cg_stored.specs.Reading.{entry_reading, entries_reading}
-use Rattle.cg_stored.proofs.Steps.{items_stop_unless}
 use Rattle.cg_stored.proofs.EntryFields.{entry_is, entry_item, entry-utf8, EntriesSoFar-more}
 use Rattle.cg_stored.proofs.entries.take_entries.Goals as goal
 

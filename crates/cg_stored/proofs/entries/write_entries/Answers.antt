@@ -8,7 +8,8 @@ use Rattle.cg_db.specs.Map.{keys, value_of}
 use Rattle.cg_db.specs.View.{entry_at}
 use Rattle.cg_records.specs.Limits.{Each}
 use Rattle.cg_stored.specs.Checkpoint.{spelled_entry}
-use Rattle.cg_stored.proofs.Steps.{grown_twice, keeps_after}
+use Rattle.cg_base.specs.TextLaws.{grown_twice}
+use Rattle.cg_stored.proofs.Steps.{keeps_after}
 use Rattle.cg_stored.proofs.ListFields.{Each-at}
 use Rattle.cg_stored.proofs.EntryFields.{keys-within, written-all}
 use Rattle.cg_stored.proofs.entries.write_entries.Goals as goal

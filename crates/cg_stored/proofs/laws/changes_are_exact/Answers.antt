@@ -1,4 +1,4 @@
-use Rattle.cg_action.specs.ShapeLaws.{field_front}
+use Rattle.cg_codec.specs.ShapeLaws.{field_front}
 use Rattle.cg_stored.specs.Change.{spelled_change}
 use Rattle.cg_stored.specs.Limits.{IsChange}
 use Rattle.cg_stored.specs.Reading.{change_reading}

@@ -1,4 +1,4 @@
-use Rattle.cg_action.specs.ShapeLaws.{field_front}
+use Rattle.cg_codec.specs.ShapeLaws.{field_front}
 use Rattle.cg_stored.specs.Checkpoint.{spelled_parts}
 use Rattle.cg_stored.specs.Limits.{AreParts}
 use Rattle.cg_stored.specs.Reading.{checkpoint_reading}

@@ -1,8 +1,7 @@
 use Rattle.std.proofs.Common.{◌≡◌, rules}
 use Rattle.cg_codec.specs.Taking.{unread_of}
-use Rattle.cg_codec.specs.ItemLaws.{items_go_on, items_end}
+use Rattle.cg_codec.specs.ItemLaws.{items_go_on, items_end, items_stop_unless}
 use Rattle.cg_action.specs.Reading.{action_reading}
-use Rattle.cg_stored.proofs.Steps.{items_stop_unless}
 use Rattle.cg_stored.specs.Reading.{actions_reading}
 use Rattle.cg_stored.proofs.lists.take_actions.Goals as goal
 

@@ -3,7 +3,8 @@ use Rattle.cg_codec.specs.Fields.{number32}
 use Rattle.cg_action.specs.Limits.{IsAction}
 use Rattle.cg_action.specs.Bytes.{spelled_action}
 use Rattle.cg_stored.proofs.ListFields.{Each-front, Each-rest}
-use Rattle.cg_stored.proofs.Steps.{front_after, grown_twice}
+use Rattle.cg_base.specs.TextLaws.{grown_twice}
+use Rattle.cg_stored.proofs.Steps.{front_after}
 use Rattle.cg_stored.proofs.lists.write_actions.Goals as goal
 
 pub write_each-requires : goal.write_each-requires

@@ -3,7 +3,7 @@ use mathlib.Core.Bool.{true≢false}
 use Rattle.std.specs.Str.{IsUtf8}
 use Rattle.std.specs.String.{string_vec}
 use Rattle.std.proofs.lemmas.Str.{IsUtf8-had, is_utf8-from_IsUtf8}
-use Rattle.cg_text.proofs.Texts.{is_utf8-otherwise}
+use Rattle.cg_base.specs.TextLaws.{is_utf8-otherwise}
 use Rattle.cg_text.proofs.quoted.text_of.Goals as goal
 
 pub returns-in-Ok : goal.returns-in-Ok

@@ -1,4 +1,4 @@
-use Rattle.cg_action.specs.ShapeLaws.{field_front}
+use Rattle.cg_codec.specs.ShapeLaws.{field_front}
 use Rattle.cg_wire.specs.Limits.{IsMsg}
 use Rattle.cg_wire.specs.Bytes.{spelled_msg}
 use Rattle.cg_wire.specs.Reading.{msg_reading}

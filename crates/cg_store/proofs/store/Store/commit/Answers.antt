@@ -6,7 +6,8 @@ use Rattle.cg_store.specs.Stands.{committed}
 use Rattle.cg_store.specs.Kept.{Kept}
 use Rattle.cg_store.specs.declared.outputs.Outputs.{Outputs}
 use Rattle.cg_store.specs.Answers.{EachMoment}
-use Rattle.cg_store.specs.Calls.{Whether, Commits, Keeps, IsEither}
+use Rattle.cg_base.specs.Choice.{Either}
+use Rattle.cg_store.specs.Calls.{Commits, Keeps, IsEither}
 use Rattle.cg_store.specs.declared.errors.CommitErr.TheVariants.{NoMemory}
 use Rattle.cg_store.proofs.Committing.{led_of, behind_of, whether_of, refused_ends, refused_moments}
 use Rattle.cg_store.proofs.store.Store.commit.Goals as goal
@@ -24,7 +25,7 @@ returns-in-Ok-clause-ends g c = λ u state stands.
     let ready = c.in-Ok.ensures.due u state stands in
     let behind = behind_of c.changes_are_exact.ensures.again u self.unwritten c.args.core.now d state c.in-Ok.due ready (c.requires.recorded u state stands) in
     let parts = c.into_parts.result in
-    subst (λ x. Whether (commits u.content (turn_with c.args.core.now state d)) (Commits view self u v x c.finish.result) (Keeps self x c.finish.result)) c.into_parts.ensures.value
+    subst (λ x. Either (commits u.content (turn_with c.args.core.now state d)) (Commits view self u v x c.finish.result) (Keeps self x c.finish.result)) c.into_parts.ensures.value
     (whether_of u.content self.unwritten c.args.core.now d state c.in-Ok.due (Commits view self u v parts c.finish.result) (Keeps self parts c.finish.result) ready (c.finish.ensures.ends u v stands behind))
 
 pub returns-in-Ok-clause-moments : goal.returns-in-Ok-clause-moments
@@ -43,7 +44,7 @@ returns-in-Err-clause-ends g c = λ u state stands.
     let d = c.args.draft in
     let t = turn_with c.args.core.now state d in
     let v = committed self.unwritten t u in
-    subst (λ x. Whether (commits u.content t) (Commits view self u v d (Err (NoMemory x))) (Keeps self d (Err (NoMemory x)))) (sym c.into_disk.ensures.disk)
+    subst (λ x. Either (commits u.content t) (Commits view self u v d (Err (NoMemory x))) (Keeps self d (Err (NoMemory x)))) (sym c.into_disk.ensures.disk)
     (refused_ends view self (g.met.D.Disk.is_view self.disk) c.into_disk.ensures.rest u stands v d (commits u.content t))
 
 pub returns-in-Err-clause-moments : goal.returns-in-Err-clause-moments

@@ -1,23 +1,11 @@
 -- Fields of one, two and three parts, and of a tag with what is behind it.
-use Rattle.std.proofs.Common.{◌≡◌, ℕ, ◌+◌, ◌<◌, ◌≤◌, true, List, [], ◌++◌, length, refl, sym, ap, ◌∙◌, arith}
-use Rattle.std.specs.Prelude.{nat_le}
-use Rattle.std.proofs.lemmas.Bool.{and_parts, and_from, leb-true, le-leb}
+use Rattle.std.proofs.Common.{◌≡◌, ℕ, ◌+◌, ◌<◌, ◌≤◌, List, [], ◌++◌, length, Ok, refl, sym, ap, subst, ◌∙◌, append_assoc, length-append, arith}
 use Rattle.std.proofs.lemmas.List.{append-nil}
 use Rattle.cg_codec.specs.Fields.{byte}
-use Rattle.cg_codec.specs.Reading.{Unread, Reading, done, take_u8, ◌>>=◌}
-use Rattle.cg_codec.specs.Laws.{IsField}
-use Rattle.cg_codec.specs.FieldLaws.{field_done, field_has, field_only, field_bind, given}
-use Rattle.cg_codec.specs.PlainLaws.{u8_field}
-use Rattle.cg_action.specs.Laws.{IsFrontOfNoOther}
-use Rattle.cg_action.specs.Reading.{is_between, byte_between}
-
--- the same spelling of the values that the field has, said in another way
-pub field_says : {X : Type 0} (Has : X → Type 0) (spelling spelling' : X → List ℕ) (reading : Reading X) → ((x : X) → Has x → spelling x ≡ spelling' x)
-    → IsField Has spelling reading → IsField Has spelling' reading
-field_says Has spelling spelling' reading same field = record {
-  again = λ x at rest has. rw (← same x has) (field.again x at rest has);
-  found = λ x old new fits e. let f = field.found x old new fits e in record { has = f.has; took = rw (← same x f.has) f.took };
-}
+use Rattle.cg_codec.specs.Reading.{Unread, Reading, done, ◌>>=◌, byte_between}
+use Rattle.cg_codec.specs.Laws.{Found, IsField, IsFrontOfNoOther}
+use Rattle.cg_codec.specs.FieldLaws.{Took-bytes, Took-then, go_on-ok, same_pair, given, field_done, field_has, field_says, field_bind}
+use Rattle.cg_codec.specs.PlainLaws.{between_field}
 
 -- a field's spelling is the front of no other value's
 pub field_front : {X : Type 0} (Has : X → Type 0) (spelling : X → List ℕ) (reading : Reading X) → IsField Has spelling reading → IsFrontOfNoOther Has spelling
@@ -69,19 +57,6 @@ field_three into a b c HasA HasB HasC first second third read_a read_b read_c Ha
     (λ y has. ((parts y has.0).1, (parts y has.0).2, rw (← has.1) (parts y has.0).3, refl))
     (λ z w z_has w_has. let m = whole x z w x_has z_has w_has in ((m.0, m.1), m.2, m.3))))
 
--- a byte from low to high
-pub between_field : (low high : ℕ) → high < 256 → IsField (λ n. (low ≤ n) × (n ≤ high)) byte (byte_between low high)
-unfolding byte_between
-between_field low high small =
-    field_has (λ n. (n < 256) × (is_between low high n ≡ true)) (λ n. (low ≤ n) × (n ≤ high)) byte (byte_between low high)
-    (λ n has. is_between-true low high n has.1) (λ n has. (omega arith, between-true low high n has.0 has.1)) (field_only (λ n. n < 256) byte take_u8 (is_between low high) u8_field)
-  where
-    is_between-true : (low high n : ℕ) → is_between low high n ≡ true → (low ≤ n) × (n ≤ high)
-    is_between-true low high n e = let both = and_parts (nat_le low n) (nat_le n high) e in (leb-true low n both.0, leb-true n high both.1)
-
-    between-true : (low high n : ℕ) → low ≤ n → n ≤ high → is_between low high n ≡ true
-    between-true low high n l h = and_from (nat_le low n) (nat_le n high) (le-leb low n l) (le-leb n high h)
-
 -- a tag, and what is behind it
 pub field_tagged : {Y : Type 0} (tag : Y → ℕ) (low high : ℕ) (HasY : Y → Type 0) (behind : Y → List ℕ) (spelling : Y → List ℕ) (next : ℕ → Reading Y) → high < 256
     → ((y : Y) → HasY y → (low ≤ tag y) × (tag y ≤ high)) → ((y : Y) → HasY y → byte (tag y) ++ behind y ≡ spelling y)
@@ -90,3 +65,53 @@ pub field_tagged : {Y : Type 0} (tag : Y → ℕ) (low high : ℕ) (HasY : Y →
 field_tagged tag low high HasY behind spelling next small tags spelled fields =
     field_says HasY (λ y. byte (tag y) ++ behind y) spelling (byte_between low high >>= next) spelled
     (field_bind tag (λ n. (low ≤ n) × (n ≤ high)) byte (byte_between low high) HasY behind next tags (between_field low high small) (λ n has. fields n has.0 has.1))
+
+-- a variant with one part
+pub variant_of_one : {X Y : Type 0} (into : X → Y) (HasX : X → Type 0) (first : X → List ℕ) (reading : Reading X) (HasY : Y → Type 0) (spelling : Y → List ℕ)
+    → IsField HasX first reading
+    → ((x : X) → HasX x → HasY (into x) × (spelling (into x) ≡ first x))
+    → ((y : Y) → HasY y → (x : X) × HasX x × (into x ≡ y))
+    → IsField HasY spelling (reading >>= λ x. done (into x))
+variant_of_one {X = X} {Y = Y} into HasX first reading HasY spelling field goes comes = record {
+  again = λ y at rest has.
+      let g = comes y has in
+      let known = goes g.0 g.1 in
+      let one = field.again g.0 at rest g.1 in
+      subst (λ (v : Y). (reading >>= λ x. done (into x)) (record { at = at; bytes = spelling v ++ rest }) ≡ Ok (v, record { at = at + length (spelling v); bytes = rest })) g.2 (rw (known.1, one) refl);
+  found = λ y old new fits e.
+      let step = go_on-ok (reading old) (λ x. done (into x)) y new e in
+      let a = field.found step.0 old step.1 fits step.2 in
+      let known = goes step.0 a.has in
+      let found : Found HasY spelling (into step.0) old step.1 = record { has = known.0; took = rw known.1 a.took } in
+      subst (λ (p : Y × Unread). Found HasY spelling p.0 old p.1) (same_pair (into step.0, step.1) (y, new) step.3) found;
+}
+
+-- a variant with two parts
+pub variant_of_two : {A B Y : Type 0} (into : A → B → Y) (HasA : A → Type 0) (HasB : B → Type 0) (first : A → List ℕ) (second : B → List ℕ)
+    (read_a : Reading A) (read_b : Reading B) (HasY : Y → Type 0) (spelling : Y → List ℕ)
+    → IsField HasA first read_a → IsField HasB second read_b
+    → ((x : A) (z : B) → HasA x → HasB z → HasY (into x z) × (spelling (into x z) ≡ first x ++ second z))
+    → ((y : Y) → HasY y → (x : A) × (z : B) × HasA x × HasB z × (into x z ≡ y))
+    → IsField HasY spelling (read_a >>= λ x. read_b >>= λ z. done (into x z))
+variant_of_two {A = A} {B = B} {Y = Y} into HasA HasB first second read_a read_b HasY spelling field_a field_b goes comes = record {
+  again = λ y at rest has.
+      let g = comes y has in
+      let x = g.0 in
+      let z = g.1 in
+      let known = goes x z g.2 g.3 in
+      let one = field_a.again x at (second z ++ rest) g.2 in
+      let two = field_b.again z (at + length (first x)) rest g.3 in
+      let grouped : (first x ++ second z) ++ rest ≡ first x ++ (second z ++ rest) = append_assoc (first x) (second z) rest in
+      let count : at + length (first x) + length (second z) ≡ at + length (first x ++ second z) = omega (arith, length-append (first x) (second z)) in
+      subst (λ (v : Y). (read_a >>= λ p. read_b >>= λ q. done (into p q)) (record { at = at; bytes = spelling v ++ rest }) ≡ Ok (v, record { at = at + length (spelling v); bytes = rest })) g.4
+      (rw (known.1, grouped, one, two, count) refl);
+  found = λ y old new fits e.
+      let step = go_on-ok (read_a old) (λ x. read_b >>= λ z. done (into x z)) y new e in
+      let a = field_a.found step.0 old step.1 fits step.2 in
+      let last = go_on-ok (read_b step.1) (λ z. done (into step.0 z)) y new step.3 in
+      let b = field_b.found last.0 step.1 last.1 (Took-bytes old (first step.0) step.1 a.took fits) last.2 in
+      let known = goes step.0 last.0 a.has b.has in
+      let both = Took-then old (first step.0) step.1 (second last.0) last.1 a.took b.took in
+      let found : Found HasY spelling (into step.0 last.0) old last.1 = record { has = known.0; took = rw known.1 both } in
+      subst (λ (p : Y × Unread). Found HasY spelling p.0 old p.1) (same_pair (into step.0 last.0, last.1) (y, new) last.3) found;
+}
