@@ -7,10 +7,11 @@ use Rattle.cg_plan.specs.declared.parts.Item.{Item}
 use Rattle.cg_plan.specs.declared.parts.Part.{Part}
 use Rattle.cg_plan.specs.declared.parts.Sent.{Sent as PlanSent}
 use Rattle.cg_plan.specs.declared.parts.Turn.{Turn}
-use Rattle.cg_plan.specs.Items.{size_of, items_of, items_of_turn, items_of_plan, sent_by}
+use Rattle.cg_plan.specs.Items.{items_of, items_of_turn, items_of_plan, sent_by}
 use Rattle.cg_plan.specs.Place.{AreFilled}
 use Rattle.cg_plan.specs.Progress.{turn_of}
 use Rattle.cg_plan.specs.PlanLaws.{length-items, length-turn, size-filled, items-cons, turn_of-none, turn_of-begun, turn_of-under_way}
+use Rattle.cg_plan.specs.Parts.{size_of}
 use Rattle.cg_agree.specs.Talk.{due_from}
 use Rattle.cg_agree.proofs.DueItems.{due-none, turn_of-beyond}
 

@@ -6,10 +6,11 @@ use Rattle.std.proofs.lemmas.List.{append_assoc}
 use Rattle.cg_plan.specs.declared.parts.Item.{Item}
 use Rattle.cg_plan.specs.declared.parts.Part.{Part}
 use Rattle.cg_plan.specs.declared.parts.Turn.{Turn}
-use Rattle.cg_plan.specs.Items.{size_of, items_of}
+use Rattle.cg_plan.specs.Items.{items_of}
 use Rattle.cg_plan.specs.Place.{AreFilled}
 use Rattle.cg_plan.specs.Progress.{turn_of}
 use Rattle.cg_plan.specs.PlanLaws.{length-items, size-filled, turn_of-none, turn_of-begun, turn_of-under_way}
+use Rattle.cg_plan.specs.Parts.{size_of}
 use Rattle.cg_agree.specs.Talk.{due_from}
 
 -- the items of a part, where there is one

@@ -4,7 +4,8 @@ use Rattle.std.proofs.lemmas.List.{length-drop}
 use Rattle.cg_base.specs.declared.weighted.Weighted.{Weighted}
 use Rattle.cg_action.specs.declared.action.Action.{Action}
 use Rattle.cg_members.specs.declared.members.Members.{Members}
-use Rattle.cg_members.specs.Servers.{is_server, line_of, starting, after_greens, members_of}
+use Rattle.cg_members.specs.Listed.{line_of}
+use Rattle.cg_members.specs.Servers.{is_server, starting, after_greens, members_of}
 use Rattle.cg_queue.specs.Queue.{green_count}
 use Rattle.cg_group.specs.declared.delivery.Delivery.TheVariants.{Transitional as TransitionalIn, Regular as RegularIn}
 use Rattle.cg_group.specs.State.{configuration, home, delivered_to, regular_in, phase_of}

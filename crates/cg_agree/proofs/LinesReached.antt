@@ -6,7 +6,8 @@ use Rattle.std.specs.Option.{option_map_or}
 use Rattle.std.proofs.lemmas.Bool.{cases_eq, cond-true, cond-false, and_parts, ne_eqb}
 use Rattle.cg_base.specs.declared.weighted.Weighted.{Weighted}
 use Rattle.cg_base.specs.Text.{is_nil}
-use Rattle.cg_members.specs.Servers.{line_of, starting, members_of}
+use Rattle.cg_members.specs.Listed.{line_of}
+use Rattle.cg_members.specs.Servers.{starting, members_of}
 use Rattle.cg_agree.specs.World.{has_begun}
 use Rattle.cg_agree.specs.Chronicle.{Told, Chronicle}
 use Rattle.cg_agree.specs.Looks.{greens_of, told_in, ordered_in, is_member}

@@ -5,7 +5,8 @@ use Rattle.std.proofs.lemmas.Bool.{cases_Bool, cases_lt, eqb-true}
 use Rattle.cg_group.specs.EachLaws.{Each}
 use Rattle.cg_base.specs.declared.weighted.Weighted.{Weighted}
 use Rattle.cg_action.specs.declared.action.Action.{Action}
-use Rattle.cg_members.specs.Servers.{members_of, is_server, line_of, starting}
+use Rattle.cg_members.specs.Listed.{line_of}
+use Rattle.cg_members.specs.Servers.{members_of, is_server, starting}
 use Rattle.cg_queue.specs.Queue.{names_of}
 use Rattle.cg_agree.specs.World.{World, no_world, has_begun}
 use Rattle.cg_agree.specs.Run.{Step, IsRunFrom, world_after}

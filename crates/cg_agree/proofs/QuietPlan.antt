@@ -14,10 +14,11 @@ use Rattle.cg_plan.specs.declared.parts.Part.{Part}
 use Rattle.cg_plan.specs.declared.parts.Part.TheVariants.{Greens, Reds}
 use Rattle.cg_plan.specs.declared.parts.Sent.{Sent as PlanSent}
 use Rattle.cg_plan.specs.declared.parts.Turn.{Turn}
-use Rattle.cg_plan.specs.Items.{size_of, items_of, items_of_turn, items_of_plan, sent_by}
+use Rattle.cg_plan.specs.Items.{items_of, items_of_turn, items_of_plan, sent_by}
 use Rattle.cg_plan.specs.Plan.{plan_of, farthest, least_greens}
 use Rattle.cg_plan.specs.PlanLaws.{length-items, length-turn, items-cons}
 use Rattle.cg_plan.specs.Progress.{is_done}
+use Rattle.cg_plan.specs.Parts.{size_of}
 use Rattle.cg_group.specs.EachLaws.{Each, Each-weaker}
 use Rattle.cg_agree.specs.Talk.{Talk, is_full, is_through, due_from, due_items}
 use Rattle.cg_agree.proofs.DueAll.{item_by, items_by, by-sender, take-beyond}

@@ -4,7 +4,8 @@ use Rattle.std.specs.Option.{option_map_or}
 use Rattle.cg_group.specs.EachLaws.{Each, Each-append, Each-weaker}
 use Rattle.cg_base.specs.declared.weighted.Weighted.{Weighted}
 use Rattle.cg_action.specs.declared.action.Action.{Action}
-use Rattle.cg_members.specs.Servers.{members_of, is_server, was_ever, line_of, starting}
+use Rattle.cg_members.specs.Listed.{line_of}
+use Rattle.cg_members.specs.Servers.{members_of, is_server, was_ever, starting}
 use Rattle.cg_queue.specs.Queue.{names_of, green_count}
 use Rattle.cg_report.specs.declared.entry.Made.{Made}
 use Rattle.cg_report.specs.declared.line.UpLine.{UpLine}

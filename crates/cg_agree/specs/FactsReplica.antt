@@ -10,7 +10,8 @@ use Rattle.cg_action.specs.declared.action.Action.{Action}
 use Rattle.cg_action.specs.declared.action.Kind.{Kind}
 use Rattle.cg_action.specs.declared.action.Kind.TheVariants.{Join}
 use Rattle.cg_db.specs.Apply.{fold_actions}
-use Rattle.cg_members.specs.Servers.{members_of, is_server, was_ever, line_of, starting}
+use Rattle.cg_members.specs.Listed.{line_of}
+use Rattle.cg_members.specs.Servers.{members_of, is_server, was_ever, starting}
 use Rattle.cg_queue.specs.Queue.{names_of}
 use Rattle.cg_records.specs.declared.vulnerable.Vulnerable.{Vulnerable}
 use Rattle.cg_group.specs.declared.phase.Phase.{Phase}

@@ -3,6 +3,7 @@ pub mod Admission
 pub mod Show
 pub mod Step
 pub mod Run
+pub mod Schedules
 pub mod SeatLaws
 pub mod PhaseLaws
 pub mod Shown

@@ -9,10 +9,11 @@ use Rattle.cg_base.specs.Cuts.{index_in, with_top, raise}
 use Rattle.cg_action.specs.declared.action.Action.{Action}
 use Rattle.cg_action.specs.Limits.{IsAction, IsActionId}
 use Rattle.cg_records.specs.Limits.{Each, IsIndex, IsName}
-use Rattle.cg_queue.specs.Queue.{QueueView, Marking, Marks, Gaps, Answers, with_red, marked_red, with_yellow, and_yellow, marked_yellow, marked_green, green_count, action_of, AreReds, names_of, placed_red, placed_green, discarded, resumed}
+use Rattle.cg_queue.specs.Queue.{QueueView, Marking, Marks, Gaps, with_red, marked_red, with_yellow, and_yellow, marked_yellow, green_count, action_of, names_of, placed_red, placed_green, discarded, resumed, marked_green}
 use Rattle.cg_queue.specs.declared.mark.Mark.{Mark}
 use Rattle.cg_queue.specs.declared.mark.QueueFault.{QueueFault}
 use Rattle.cg_queue.specs.declared.mark.QueueFault.TheVariants.{Gap, NoMemory}
+use Rattle.cg_queue.specs.Answers.{Answers, AreReds}
 use Rattle.cg_client.specs.Kept.{AreKept}
 
 Each-append : {X : Type 0} (P : X → Type 0) (xs ys : List X) → Each P xs → Each P ys → Each P (xs ++ ys)

@@ -7,7 +7,8 @@ ghost use Rattle.cg_base.specs.Lists.{at_place};
 ghost use Rattle.cg_action.specs.Limits.{IsAction};
 ghost use Rattle.cg_records.specs.Limits.{Each, IsIndex, IsName, IsSmallCut};
 ghost use Rattle.cg_client.specs.Kept.{AreKept};
-ghost use Rattle.cg_queue.specs.Queue.{Answers, AreReds, resumed, marked_red, marked_yellow, marked_green, placed_green, discarded, green_count, action_of, names_of};
+ghost use Rattle.cg_queue.specs.Answers.{Answers, AreReds};
+ghost use Rattle.cg_queue.specs.Queue.{resumed, marked_red, marked_yellow, placed_green, discarded, green_count, action_of, names_of, marked_green};
 
 use cg_action::{Action, ActionList};
 use cg_base::{ActionId, Cut, IdList, IdRuns, NoMemory};

@@ -1,6 +1,7 @@
 ghost use Rattle.std.specs.Prelude.{◌≡◌, ◌≤◌, ◌^◌};
 ghost use Rattle.cg_action.specs.Limits.{IsAction};
-ghost use Rattle.cg_members.specs.Servers.{AreServers, starting, after_green, weight_of, white_line};
+ghost use Rattle.cg_members.specs.Listed.{AreServers};
+ghost use Rattle.cg_members.specs.Servers.{starting, after_green, weight_of, white_line};
 ghost use Rattle.cg_records.specs.Limits.{Each, IsNumber};
 
 use cg_action::Action;

@@ -1,6 +1,6 @@
 //! What becomes of a primary component and of attempts, and what a replica tells the others as it enters an exchange.
 ghost use Rattle.std.specs.Prelude.{◌≡◌, ◌∷◌, ◌<◌, ◌^◌, [], suc, fold, true, Some, None, OnOk, IfOk};
-ghost use Rattle.cg_queue.specs.Queue.{AreReds};
+ghost use Rattle.cg_queue.specs.Answers.{AreReds};
 ghost use Rattle.cg_records.specs.Limits.{IsNumber};
 ghost use Rattle.cg_wire.specs.Limits.{IsSummary};
 ghost use Rattle.cg_client.specs.Drafts.{turn_with};

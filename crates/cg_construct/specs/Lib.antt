@@ -1,5 +1,6 @@
 pub mod Attempt
 pub mod Construct
+pub mod Hearing
 pub mod No
 pub mod Un
 pub mod Steps

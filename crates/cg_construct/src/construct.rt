@@ -6,9 +6,10 @@ ghost use Rattle.cg_client.specs.declared.parts.DraftParts.{DraftParts};
 ghost use Rattle.cg_client.specs.Requests.{kind_of, request};
 ghost use Rattle.cg_client.specs.Whitening.{IsLineGreen, with_white};
 ghost use Rattle.cg_construct.specs.Attempt.{attempt_of, in_construct};
-ghost use Rattle.cg_construct.specs.Construct.{construct_on_cpc, construct_on_message, construct_on_read, construct_on};
+ghost use Rattle.cg_construct.specs.Construct.{construct_on_cpc};
 ghost use Rattle.cg_prim.specs.Steps.{is_transitional};
 ghost use Rattle.cg_construct.specs.Steps.{turn_after, HasLimits};
+ghost use Rattle.cg_construct.specs.Hearing.{construct_on_message, construct_on_read, construct_on};
 
 use crate::attempt::{attempt_set, is_announced, set_of_attempt};
 use crate::{ConstructStep, No};
@@ -83,7 +84,7 @@ impl Construct {
         }
     }
 
-    #[tactic(auto, unfolding(crate::specs::Construct::construct_on_message))]
+    #[tactic(auto, unfolding(crate::specs::Hearing::construct_on_message))]
     fn hear_message(
         self,
         draft: &mut Draft,

@@ -6,8 +6,9 @@ ghost use Rattle.cg_client.specs.declared.parts.DraftParts.{DraftParts};
 ghost use Rattle.cg_client.specs.Requests.{kind_of, request};
 ghost use Rattle.cg_client.specs.Whitening.{IsLineGreen, with_white};
 ghost use Rattle.cg_construct.specs.Attempt.{attempt_of, in_no};
-ghost use Rattle.cg_construct.specs.No.{no_on_cpc, no_on_message, no_on_read, no_on};
+ghost use Rattle.cg_construct.specs.No.{no_on_cpc};
 ghost use Rattle.cg_construct.specs.Steps.{turn_after, HasLimits};
+ghost use Rattle.cg_construct.specs.Hearing.{no_on_message, no_on_read, no_on};
 
 use crate::attempt::{attempt_set, is_announced};
 use crate::{ConstructStep, Un};
@@ -82,7 +83,7 @@ impl No {
         }
     }
 
-    #[tactic(auto, unfolding(crate::specs::No::no_on_message))]
+    #[tactic(auto, unfolding(crate::specs::Hearing::no_on_message))]
     fn hear_message(self, from: ReplicaId, message: Msg) -> ConstructStep
         ensures turn { (draft : DraftParts) → turn_after result draft ≡ no_on_message (in_no self draft) self.conf self.heard from message }
         ensures limits { HasLimits result }

@@ -9,7 +9,7 @@ ghost use Rattle.cg_client.specs.Drafts.{turn_with};
 ghost use Rattle.cg_client.specs.Requests.{kind_of, request};
 ghost use Rattle.cg_client.specs.Whitening.{IsLineGreen, with_white};
 ghost use Rattle.cg_construct.specs.Attempt.{attempt_of};
-ghost use Rattle.cg_construct.specs.Un.{un_on_message, un_on_read, un_on};
+ghost use Rattle.cg_construct.specs.Hearing.{un_on_message, un_on_read, un_on};
 ghost use Rattle.cg_construct.specs.Steps.{turn_after, HasLimits};
 
 use crate::ConstructStep;
@@ -78,7 +78,7 @@ impl Un {
         }
     }
 
-    #[tactic(auto, unfolding(crate::specs::Un::un_on_message))]
+    #[tactic(auto, unfolding(crate::specs::Hearing::un_on_message))]
     fn hear_message(self, draft: &mut Draft, message: Msg) -> Result<ConstructStep, NoMemory>
         requires { IsMsg message }
         ensures turn { IfOk result (λ step. turn_after step draft.new ≡ un_on_message (turn_with self UnState draft.old) message) }

@@ -4,7 +4,7 @@ use Rattle.cg_base.specs.declared.action_id.ActionId.{ActionId}
 use Rattle.cg_action.specs.declared.action.Action.{Action}
 use Rattle.cg_client.specs.Replica.{Held, Replica}
 use Rattle.cg_stored.specs.Stored.{Stored, stored_of, whiten, recover}
-use Rattle.cg_stored.specs.Change.{IsAhead}
+use Rattle.cg_stored.specs.Following.{IsAhead}
 use Rattle.cg_step.specs.Crash.{Disk}
 use Rattle.cg_step.specs.Following.{Follows}
 use Rattle.cg_step.specs.Holds.{Holds}

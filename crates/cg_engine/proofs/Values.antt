@@ -9,7 +9,7 @@ use Rattle.cg_client.specs.Replica.{Held, yellow_of}
 use Rattle.cg_client.specs.Turn.{Turn}
 use Rattle.cg_client.specs.Marks.{after_first}
 use Rattle.cg_stored.specs.Stored.{Stored, stored_of}
-use Rattle.cg_stored.specs.Change.{fits_known, know, all_of, IsAhead}
+use Rattle.cg_stored.specs.Following.{fits_known, know, all_of, IsAhead}
 use Rattle.cg_step.specs.Commit.{same_values, commits}
 
 -- both have these values

@@ -7,8 +7,9 @@ use Rattle.cg_client.specs.Replica.{Held, Replica}
 use Rattle.cg_client.specs.Turn.{Turn}
 use Rattle.cg_client.specs.Whitening.{IsLineGreen}
 use Rattle.cg_stored.specs.Stored.{stored_of, whiten, recover}
-use Rattle.cg_stored.specs.Change.{IsRecorded}
-use Rattle.cg_stored.specs.Checkpoint.{Agrees, size_limit}
+use Rattle.cg_stored.specs.Following.{IsRecorded}
+use Rattle.cg_stored.specs.Agreeing.{Agrees}
+use Rattle.cg_stored.specs.Checkpoint.{size_limit}
 use Rattle.cg_step.specs.Commit.{commits}
 use Rattle.cg_step.specs.Crash.{whitened}
 use Rattle.cg_step.specs.Following.{Follows}

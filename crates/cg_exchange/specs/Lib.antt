@@ -3,4 +3,5 @@ pub mod NonPrim
 pub mod PlanEnd
 pub mod ExchangeActions
 pub mod ExchangeStates
+pub mod Hearing
 pub mod Steps

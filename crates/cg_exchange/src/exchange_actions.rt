@@ -11,9 +11,10 @@ ghost use Rattle.cg_client.specs.Drafts.{turn_with};
 ghost use Rattle.cg_client.specs.Replica.{State};
 ghost use Rattle.cg_client.specs.Requests.{kind_of, request};
 ghost use Rattle.cg_client.specs.Whitening.{IsLineGreen, with_white};
-ghost use Rattle.cg_exchange.specs.ExchangeActions.{progress, take_item, go_on, exchange_actions_on_item, exchange_actions_on_message, exchange_actions_on_read, exchange_actions_on};
+ghost use Rattle.cg_exchange.specs.ExchangeActions.{progress, take_item, go_on, exchange_actions_on_item};
 ghost use Rattle.cg_exchange.specs.States.{in_actions};
 ghost use Rattle.cg_exchange.specs.Steps.{turn_after, HasRecord};
+ghost use Rattle.cg_exchange.specs.Hearing.{exchange_actions_on_message, exchange_actions_on_read, exchange_actions_on};
 
 use crate::plan_end::end_plan;
 use crate::sending::send_turn;
@@ -146,7 +147,7 @@ impl ExchangeActions {
         }
     }
 
-    #[tactic(auto, unfolding(crate::specs::ExchangeActions::exchange_actions_on_message))]
+    #[tactic(auto, unfolding(crate::specs::Hearing::exchange_actions_on_message))]
     fn hear_message(
         self,
         draft: &mut Draft,

@@ -9,9 +9,10 @@ ghost use Rattle.cg_client.specs.Requests.{kind_of, request};
 ghost use Rattle.cg_client.specs.Summary.{enter_exchange};
 ghost use Rattle.cg_client.specs.Whitening.{IsLineGreen, with_white};
 ghost use Rattle.cg_exchange.specs.ExchangeActions.{go_on};
-ghost use Rattle.cg_exchange.specs.ExchangeStates.{is_usable, with_heard, exchange_states_on_summary, exchange_states_on_message, exchange_states_on_read, exchange_states_on};
+ghost use Rattle.cg_exchange.specs.ExchangeStates.{is_usable, with_heard, exchange_states_on_summary};
 ghost use Rattle.cg_exchange.specs.States.{in_states};
 ghost use Rattle.cg_exchange.specs.Steps.{turn_after, HasRecord};
+ghost use Rattle.cg_exchange.specs.Hearing.{exchange_states_on_message, exchange_states_on_read, exchange_states_on};
 
 use crate::{ExchangeActions, ExchangeStep, NonPrim};
 use cg_base::{IdSet, NoMemory, ReplicaId, Row};
@@ -114,7 +115,7 @@ impl ExchangeStates {
         }
     }
 
-    #[tactic(auto, unfolding(crate::specs::ExchangeStates::exchange_states_on_message))]
+    #[tactic(auto, unfolding(crate::specs::Hearing::exchange_states_on_message))]
     fn hear_message(
         self,
         draft: &mut Draft,

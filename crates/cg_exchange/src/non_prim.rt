@@ -5,9 +5,9 @@ ghost use Rattle.cg_wire.specs.Limits.{IsMsg};
 ghost use Rattle.cg_wire.specs.Reading.{message_in};
 ghost use Rattle.cg_client.specs.Requests.{kind_of, request, settle};
 ghost use Rattle.cg_client.specs.Whitening.{IsLineGreen, with_white};
-ghost use Rattle.cg_exchange.specs.NonPrim.{non_prim_on_message, non_prim_on_read, non_prim_on};
 ghost use Rattle.cg_exchange.specs.States.{in_non_prim};
 ghost use Rattle.cg_exchange.specs.Steps.{turn_after, HasRecord};
+ghost use Rattle.cg_exchange.specs.Hearing.{non_prim_on_message, non_prim_on_read, non_prim_on};
 
 use crate::{ExchangeStates, ExchangeStep};
 use cg_base::NoMemory;
@@ -84,7 +84,7 @@ impl NonPrim {
         }
     }
 
-    #[tactic(auto, unfolding(crate::specs::NonPrim::non_prim_on_message))]
+    #[tactic(auto, unfolding(crate::specs::Hearing::non_prim_on_message))]
     fn hear_message(self, draft: &mut Draft, message: Msg) -> Result<NonPrim, NoMemory>
         requires { IsMsg message }
         ensures { IfOk result (λ s. in_non_prim s draft.new ≡ non_prim_on_message (in_non_prim self draft.old) message) }

@@ -1,7 +1,7 @@
 //! The end of a plan: what a member takes over, and whether an attempt begins.
 ghost use Rattle.std.specs.Prelude.{◌≡◌, [], fold, OnOk, IfOk};
 ghost use Rattle.cg_base.specs.Ids.{names};
-ghost use Rattle.cg_queue.specs.Queue.{AreReds};
+ghost use Rattle.cg_queue.specs.Answers.{AreReds};
 ghost use Rattle.cg_knowledge.specs.Verdict.{verdict_of, decides};
 ghost use Rattle.cg_client.specs.Drafts.{turn_with};
 ghost use Rattle.cg_client.specs.Replica.{State};

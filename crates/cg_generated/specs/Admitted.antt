@@ -2,7 +2,7 @@
 use Rattle.std.specs.Prelude.{◌≡◌, ℕ, None}
 use Rattle.cg_base.specs.Sets.{IsId}
 use Rattle.cg_gen.specs.Generated.{generated}
-use Rattle.cg_agree.specs.Run.{run_of}
+use Rattle.cg_agree.specs.Schedules.{run_of}
 
 -- whatever the seed, however many replicas from 1 to 32 and however many lines: the run of the schedule is refused nowhere
 abbrev pub GeneratedAreAdmitted : Type 0

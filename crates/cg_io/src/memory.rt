@@ -1,6 +1,7 @@
 ghost use Rattle.std.specs.Prelude.{◌≡◌, ◌≤◌, ◌<◌, ◌^◌, ◌+◌, Some, vec_len, length, [], OnOk, IsErrOf, IsErr, ◌↔◌, Contains};
-ghost use Rattle.cg_io.specs.Outside.{Takes, TakeCause, PutsAll, PutsNothing, PutCause};
+ghost use Rattle.cg_io.specs.Outside.{PutsAll};
 ghost use Rattle.cg_io.specs.Memory.{from_place, kept};
+ghost use Rattle.cg_io.specs.Calls.{Takes, TakeCause, PutsNothing, PutCause};
 
 use crate::front::copy_front;
 use crate::{Failed, IoFault, Sink, Source};

@@ -1,5 +1,6 @@
 ghost use Rattle.std.specs.Prelude.{◌<◌, ◌^◌, length, OnOk, IsErrOf};
-ghost use Rattle.cg_io.specs.Outside.{SourceView, SinkView, Takes, TakeCause, PutsAll, PutsNothing, PutsFront, PutCause};
+ghost use Rattle.cg_io.specs.Calls.{Takes, TakeCause, PutsNothing, PutCause};
+ghost use Rattle.cg_io.specs.Outside.{SourceView, SinkView, PutsAll, PutsFront};
 
 use std::alloc::Global;
 use thiserror::Error;

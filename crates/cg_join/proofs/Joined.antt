@@ -10,7 +10,7 @@ use Rattle.cg_base.specs.Sets.{every_replica}
 use Rattle.cg_queue.specs.Queue.{QueueView}
 use Rattle.cg_client.specs.Replica.{Held}
 use Rattle.cg_stored.specs.Stored.{stored_of}
-use Rattle.cg_stored.specs.Checkpoint.{Agrees, counts_up, count_to, indexes_of}
+use Rattle.cg_stored.specs.Agreeing.{Agrees, counts_up, count_to, indexes_of}
 use Rattle.cg_client.specs.Joined.{joined, joined_queue}
 
 -- nothing stands behind a number and up to it

@@ -4,7 +4,7 @@ use Rattle.cg_client.specs.Replica.{Held}
 use Rattle.cg_db.specs.Map.{Ascends}
 use Rattle.cg_disk.specs.View.{DiskView}
 use Rattle.cg_journal.specs.Fresh.{IsLostWithin, IsRefusedWithin}
-use Rattle.cg_stored.specs.Checkpoint.{Agrees}
+use Rattle.cg_stored.specs.Agreeing.{Agrees}
 use Rattle.cg_store.specs.Answers.{IsReached}
 use Rattle.cg_store.specs.Kept.{Kept}
 use Rattle.cg_store.specs.Stands.{Standing}

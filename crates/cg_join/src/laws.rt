@@ -2,7 +2,7 @@ ghost use Rattle.std.specs.Prelude.{◌≡◌, ℕ, suc, Bool, List, length, tak
 ghost use Rattle.cg_client.specs.Replica.{Held};
 ghost use Rattle.cg_codec.specs.Laws.{IsField, IsWhole, IsFrontOfNoOther};
 ghost use Rattle.cg_stored.specs.Stored.{stored_of};
-ghost use Rattle.cg_stored.specs.Checkpoint.{Agrees};
+ghost use Rattle.cg_stored.specs.Agreeing.{Agrees};
 ghost use Rattle.cg_join.specs.Limits.{IsPiece};
 ghost use Rattle.cg_join.specs.Bytes.{spelled_piece};
 ghost use Rattle.cg_join.specs.Reading.{piece_reading};

@@ -6,10 +6,11 @@ use Rattle.cg_codec.specs.Reading.{whole}
 use Rattle.cg_codec.specs.declared.fault.CodecFault.{CodecFault}
 use Rattle.cg_stored.specs.declared.checkpoint.Checkpoint.{Checkpoint}
 use Rattle.cg_stored.specs.Stored.{stored_of}
-use Rattle.cg_stored.specs.Checkpoint.{Agrees, parts_of, spelled_parts, spelled_checkpoint}
+use Rattle.cg_stored.specs.Checkpoint.{parts_of, spelled_parts, spelled_checkpoint}
 use Rattle.cg_stored.specs.Limits.{IsStored, AreParts}
 use Rattle.cg_stored.specs.Parts.{Fits, do_agree, stored_in}
 use Rattle.cg_stored.specs.Reading.{checkpoint_reading}
+use Rattle.cg_stored.specs.Agreeing.{Agrees}
 use Rattle.cg_client.specs.Joined.{joined}
 
 parts-within : (h : Held) → IsStored h → AreParts (parts_of 1 h)

@@ -1,6 +1,5 @@
 -- Servers that lie in a set with weights and an array of lines.
-use Rattle.std.proofs.Common.{◌≡◌, ℕ, suc, ◌<◌, ◌≤◌, ◌≢◌, ◌||◌, List, [], ◌∷◌, ◌++◌, map, filter, fold, cond, max, not, eqb, Some, None, refl, sym, ap, ◌∙◌, arith, inl, inr, append_assoc}
-use Rattle.std.specs.Prelude.{nat_lt}
+use Rattle.std.proofs.Common.{◌≡◌, ℕ, suc, ◌<◌, ◌≤◌, ◌≢◌, ◌||◌, List, [], ◌∷◌, ◌++◌, map, filter, fold, cond, max, not, eqb, refl, sym, ap, ◌∙◌, arith, inl, inr, append_assoc}
 use Rattle.std.proofs.lemmas.Bool.{cases_eq, cases_order, eq-eqb, ne_eqb, lt-ltb, le-ltb}
 use Rattle.cg_base.specs.declared.weighted.Weighted.{Weighted}
 use Rattle.cg_base.specs.Sets.{Ascends, has}
@@ -9,7 +8,8 @@ use Rattle.cg_base.specs.Weights.{IsWeightSet, Weigh, ids, weight_in, with_weigh
 use Rattle.cg_base.specs.ArrayLaws.{zeros, array_slot-zeros}
 use Rattle.cg_base.specs.SetLaws.{Ascends-below}
 use Rattle.cg_members.specs.View.{server_with}
-use Rattle.cg_members.specs.Servers.{server_ids, is_among, weight_of, line_of, first_line, with_server, without_server, with_line, AreServers, Count}
+use Rattle.cg_members.specs.Listed.{server_ids, line_of, AreServers, Count}
+use Rattle.cg_members.specs.Servers.{is_among, weight_of, first_line, with_server, without_server, with_line}
 
 -- ---- looking up
 

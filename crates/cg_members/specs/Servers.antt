@@ -1,8 +1,8 @@
 -- The servers, their lines and weights, and those that have left.
-use Rattle.std.specs.Prelude.{ℕ, suc, ◌≤◌, max, min, ◌==◌, nat_lt, Bool, not, ◌||◌, List, [], ◌∷◌, Option, map, filter, if◌then◌else◌}
+use Rattle.std.specs.Prelude.{ℕ, suc, max, min, ◌==◌, nat_lt, Bool, not, ◌||◌, List, [], ◌∷◌, Option, map, filter, if◌then◌else◌}
 use Rattle.std.specs.List.{list_any}
 use Rattle.cg_base.specs.declared.weighted.Weighted.{Weighted}
-use Rattle.cg_base.specs.Sets.{Ascends, has, with_member}
+use Rattle.cg_base.specs.Sets.{has, with_member}
 use Rattle.cg_base.specs.Lists.{least_of}
 use Rattle.cg_action.specs.declared.action.Kind.{Kind}
 use Rattle.cg_action.specs.declared.action.Kind.TheVariants.{Update, Join, Leave}
@@ -12,10 +12,6 @@ use Rattle.cg_members.specs.declared.members.Members.{Members}
 
 -- ---- servers
 
--- the replicas that are servers
-abbrev pub server_ids : List Server → List ℕ
-server_ids servers = map (λ s. s.id) servers
-
 -- the replica is one of the servers
 abbrev pub is_among : List Server → ℕ → Bool
 is_among servers p = list_any (λ s. s.id == p) servers
@@ -24,11 +20,6 @@ is_among servers p = list_any (λ s. s.id == p) servers
 abbrev pub weight_of : List Server → ℕ → ℕ
 weight_of [] p = 0
 weight_of (s ∷ servers) p = if s.id == p then s.weight else weight_of servers p
-
--- the line of a server, 0 where it is none
-abbrev pub line_of : List Server → ℕ → ℕ
-line_of [] p = 0
-line_of (s ∷ servers) p = if s.id == p then s.line else line_of servers p
 
 -- a server of the start, with line 0
 abbrev pub first_line : Weighted → Server
@@ -51,16 +42,6 @@ with_line p line s = if s.id == p then record s { line = max s.line line } else 
 -- the least line, if there is a server
 abbrev pub least_line : List Server → Option ℕ
 least_line servers = least_of (map (λ s. s.line) servers)
-
--- each weight is one that a byte holds, and not 0
-abbrev pub Count : List Server → Type 0
-Count [] = Unit {0}
-Count (s ∷ servers) = (1 ≤ s.weight) × (s.weight ≤ 255) × Count servers
-
--- the list is one of servers
-pub record AreServers (servers : List Server) : Type 0 where
-  pub ascend : Ascends 1 (server_ids servers)
-  pub count : Count servers
 
 -- ---- members
 

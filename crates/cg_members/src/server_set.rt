@@ -26,7 +26,7 @@ impl Model for ServerSet {
 }
 
 impl ServerSet {
-    ghost use Rattle.cg_members.specs.Servers.{server_ids, is_among, line_of, weight_of, first_line, with_server, without_server, with_line, least_line};
+    ghost use Rattle.cg_members.specs.Servers.{is_among, weight_of, first_line, with_server, without_server, with_line, least_line};
 
     pub fn empty() -> ServerSet
         ensures { result ≡ [] }
@@ -141,7 +141,6 @@ pub struct Servers {
 
 impl ServerSet {
     ghost use Rattle.cg_members.specs.View.{servers_left};
-    ghost use Rattle.cg_members.specs.Servers.{AreServers};
 
     /// The servers, ascending. It also says what every set of servers is.
     pub fn iter(&self) -> Servers
@@ -160,6 +159,7 @@ impl Iterator for Servers {
 
     ghost use Rattle.std.specs.Iterator.{YieldsFirst, item_count};
     ghost use Rattle.cg_members.specs.View.{servers_left};
+    ghost use Rattle.cg_members.specs.Listed.{server_ids, line_of, AreServers};
 
     ghost next_gives = { YieldsFirst servers_left };
 

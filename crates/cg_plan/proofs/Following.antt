@@ -7,8 +7,9 @@ use Rattle.cg_plan.specs.declared.parts.Item.{Item}
 use Rattle.cg_plan.specs.declared.parts.Turn.{Turn}
 use Rattle.cg_plan.specs.declared.parts.Sent.{Sent}
 use Rattle.cg_plan.specs.Items.{same_item, items_of_plan}
-use Rattle.cg_plan.specs.Progress.{Progress, begun, next_item, is_wanted, after_item, after_items, is_done}
+use Rattle.cg_plan.specs.Progress.{Progress, next_item, is_wanted, is_done}
 use Rattle.cg_plan.specs.PlanLaws.{same_item-itself, same_item-is}
+use Rattle.cg_plan.specs.Following.{begun, after_item, after_items}
 
 pub same_item-tells : (a b : Item) → (same_item a b ≡ true) ↔ (a ≡ b)
 same_item-tells a b = (same_item-is a b, λ e. rw e (same_item-itself b))

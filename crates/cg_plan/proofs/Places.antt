@@ -8,10 +8,12 @@ use Rattle.cg_plan.specs.declared.parts.Item.TheVariants.{Green}
 use Rattle.cg_plan.specs.declared.parts.Part.{Part}
 use Rattle.cg_plan.specs.declared.parts.Part.TheVariants.{Greens, Reds}
 use Rattle.cg_plan.specs.declared.parts.Turn.{Turn}
-use Rattle.cg_plan.specs.Items.{red_item, items_of, sent_by, items_of_turn, items_of_plan, IsFilled, size_of, item_behind}
+use Rattle.cg_plan.specs.Items.{red_item, items_of, sent_by, items_of_turn, items_of_plan}
 use Rattle.cg_plan.specs.Place.{AreFilled, MadeFew, IsPlace, items_before}
-use Rattle.cg_plan.specs.Progress.{Progress, begun, turn_of}
+use Rattle.cg_plan.specs.Progress.{Progress, turn_of}
 use Rattle.cg_plan.specs.PlanLaws.{length-items, length-turn, size-filled, items-cons}
+use Rattle.cg_plan.specs.Following.{begun}
+use Rattle.cg_plan.specs.Parts.{IsFilled, size_of, item_behind}
 
 -- ---- the parts from a place on
 

@@ -5,9 +5,9 @@ use Rattle.std.proofs.lemmas.Bool.{ltb-true, cond_both}
 use Rattle.cg_knowledge.specs.declared.summary.Summary.{Summary}
 use Rattle.cg_knowledge.specs.Members.{most_updated}
 use Rattle.cg_plan.specs.declared.parts.Turn.{Turn}
-use Rattle.cg_plan.specs.Items.{IsFilled}
 use Rattle.cg_plan.specs.Plan.{part_above, green_part, red_part, reds_of, creators, farthest, least_greens, least_reds, plan_of}
 use Rattle.cg_plan.specs.Place.{AreFilled}
+use Rattle.cg_plan.specs.Parts.{IsFilled}
 
 AreFilled-append : (xs ys : List Turn) → AreFilled xs → AreFilled ys → AreFilled (xs ++ ys)
 AreFilled-append [] ys some more = more

@@ -1,5 +1,5 @@
 -- The items of a plan: what each part of it has, in order, and from whom.
-use Rattle.std.specs.Prelude.{ℕ, ◌+◌, ◌-◌, ◌≤◌, ◌==◌, Bool, false, List, map, flat_map}
+use Rattle.std.specs.Prelude.{ℕ, ◌-◌, ◌==◌, Bool, false, List, map, flat_map}
 use Rattle.cg_base.specs.Ids.{same_id}
 use Rattle.cg_base.specs.Lists.{above_up_to}
 use Rattle.cg_plan.specs.declared.parts.Item.{Item}
@@ -23,21 +23,6 @@ red_item creator index = Red (record { creator = creator; index = index })
 abbrev pub items_of : Part → List Item
 items_of (Greens from to) = map Green (above_up_to (from - 1) to)
 items_of (Reds creator from to) = map (red_item creator) (above_up_to (from - 1) to)
-
--- the part has an item
-abbrev pub IsFilled : Part → Type 0
-IsFilled (Greens from to) = (1 ≤ from) × (from ≤ to)
-IsFilled (Reds creator from to) = (1 ≤ from) × (from ≤ to)
-
--- how many items a part has
-abbrev pub size_of : Part → ℕ
-size_of (Greens from to) = to - (from - 1)
-size_of (Reds creator from to) = to - (from - 1)
-
--- the item behind so many others of a part
-abbrev pub item_behind : Part → ℕ → Item
-item_behind (Greens from to) made = Green (from + made)
-item_behind (Reds creator from to) made = red_item creator (from + made)
 
 -- an item with its sender
 abbrev pub sent_by : ℕ → Item → Sent

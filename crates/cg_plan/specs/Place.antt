@@ -1,7 +1,8 @@
 -- Where in a plan a replica is: at a part, behind some of its items.
 use Rattle.std.specs.Prelude.{◌≡◌, ℕ, ◌+◌, ◌<◌, ◌≤◌, List, [], ◌∷◌, length, take, drop}
 use Rattle.cg_plan.specs.declared.parts.Turn.{Turn}
-use Rattle.cg_plan.specs.Items.{IsFilled, size_of, items_of_plan}
+use Rattle.cg_plan.specs.Parts.{IsFilled, size_of}
+use Rattle.cg_plan.specs.Items.{items_of_plan}
 
 -- each part has an item
 abbrev pub AreFilled : List Turn → Type 0

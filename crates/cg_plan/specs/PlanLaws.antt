@@ -9,8 +9,9 @@ use Rattle.cg_plan.specs.declared.parts.Item.TheVariants.{Green, Red}
 use Rattle.cg_plan.specs.declared.parts.Part.{Part}
 use Rattle.cg_plan.specs.declared.parts.Part.TheVariants.{Greens, Reds}
 use Rattle.cg_plan.specs.declared.parts.Turn.{Turn}
-use Rattle.cg_plan.specs.Items.{same_item, red_item, items_of, sent_by, items_of_turn, items_of_plan, IsFilled, size_of}
+use Rattle.cg_plan.specs.Items.{same_item, red_item, items_of, sent_by, items_of_turn, items_of_plan}
 use Rattle.cg_plan.specs.Progress.{turn_of}
+use Rattle.cg_plan.specs.Parts.{IsFilled, size_of}
 
 -- ---- one item
 

@@ -2,7 +2,8 @@ ghost use Rattle.std.specs.Prelude.{◌≡◌, ◌≤◌, ◌==◌, ◌↔◌, �
 ghost use Rattle.cg_plan.specs.declared.parts.Item.{Item};
 ghost use Rattle.cg_plan.specs.declared.parts.Turn.{Turn};
 ghost use Rattle.cg_plan.specs.Items.{items_of_plan, same_item};
-ghost use Rattle.cg_plan.specs.Progress.{Progress, begun, after_items, is_done};
+ghost use Rattle.cg_plan.specs.Following.{begun, after_items};
+ghost use Rattle.cg_plan.specs.Progress.{Progress, is_done};
 
 /// After the items of a plan were accepted in their order it is done, and not before.
 pub fn plans_end()

@@ -1,5 +1,6 @@
 ghost use Rattle.std.specs.Prelude.{◌≡◌, ◌<◌};
-ghost use Rattle.cg_plan.specs.Items.{IsFilled, size_of, item_behind, same_item};
+ghost use Rattle.cg_plan.specs.Parts.{IsFilled, size_of, item_behind};
+ghost use Rattle.cg_plan.specs.Items.{same_item};
 
 use cg_base::{ActionId, ReplicaId};
 use thiserror::Error;

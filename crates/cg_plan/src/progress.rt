@@ -1,6 +1,7 @@
 ghost use Rattle.std.specs.Prelude.{◌≡◌, ◌+◌, IsSome, IfOk};
 ghost use Rattle.cg_plan.specs.Plan.{plan_of};
-ghost use Rattle.cg_plan.specs.Progress.{begun, next_item, is_wanted as is_wanted_item, after_item, Answers, is_done, turn_of};
+ghost use Rattle.cg_plan.specs.Following.{begun, after_item, Answers};
+ghost use Rattle.cg_plan.specs.Progress.{next_item, is_wanted as is_wanted_item, is_done, turn_of};
 
 use crate::making::turns_of;
 use crate::place::{item_at, part_at, place_after};

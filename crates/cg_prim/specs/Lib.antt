@@ -1,3 +1,4 @@
 pub mod RegPrim
+pub mod Hearing
 pub mod TransPrim
 pub mod Steps

@@ -7,7 +7,7 @@ ghost use Rattle.cg_client.specs.Replica.{RegPrim as RegPrimState, State};
 ghost use Rattle.cg_client.specs.Drafts.{turn_with};
 ghost use Rattle.cg_client.specs.Requests.{kind_of, request, settle};
 ghost use Rattle.cg_client.specs.Whitening.{IsLineGreen, with_white};
-ghost use Rattle.cg_prim.specs.RegPrim.{reg_prim_on_message, reg_prim_on_read, reg_prim_on};
+ghost use Rattle.cg_prim.specs.Hearing.{reg_prim_on_message, reg_prim_on_read, reg_prim_on};
 ghost use Rattle.cg_prim.specs.Steps.{turn_after, is_transitional};
 
 use crate::{PrimStep, TransPrim};
@@ -69,7 +69,7 @@ impl RegPrim {
         }
     }
 
-    #[tactic(auto, unfolding(crate::specs::RegPrim::reg_prim_on_message))]
+    #[tactic(auto, unfolding(crate::specs::Hearing::reg_prim_on_message))]
     fn hear_message(self, draft: &mut Draft, message: Msg) -> Result<RegPrim, NoMemory>
         requires { IsMsg message }
         ensures { IfOk result (λ s. turn_with s RegPrimState draft.new ≡ reg_prim_on_message (turn_with self RegPrimState draft.old) message) }

@@ -8,8 +8,9 @@ ghost use Rattle.cg_client.specs.declared.parts.DraftParts.{DraftParts};
 ghost use Rattle.cg_client.specs.Drafts.{turn_with};
 ghost use Rattle.cg_client.specs.Requests.{kind_of, request};
 ghost use Rattle.cg_client.specs.Whitening.{IsLineGreen, with_white};
-ghost use Rattle.cg_prim.specs.TransPrim.{trans_prim_on_action, trans_prim_on_message, trans_prim_on_read, trans_prim_on};
+ghost use Rattle.cg_prim.specs.TransPrim.{trans_prim_on_action};
 ghost use Rattle.cg_prim.specs.Steps.{turn_after};
+ghost use Rattle.cg_prim.specs.Hearing.{trans_prim_on_message, trans_prim_on_read, trans_prim_on};
 
 use crate::PrimStep;
 use cg_action::Action;
@@ -84,7 +85,7 @@ impl TransPrim {
         }
     }
 
-    #[tactic(auto, unfolding(crate::specs::TransPrim::trans_prim_on_message))]
+    #[tactic(auto, unfolding(crate::specs::Hearing::trans_prim_on_message))]
     fn hear_message(self, draft: &mut Draft, message: Msg) -> Result<TransPrim, NoMemory>
         requires { IsMsg message }
         ensures { IfOk result (λ s. turn_with s TransPrimState draft.new ≡ trans_prim_on_message (turn_with self TransPrimState draft.old) message) }

@@ -6,7 +6,6 @@ use Rattle.cg_base.specs.Sets.{IsId}
 use Rattle.cg_base.specs.Cuts.{index_in}
 use Rattle.cg_queue.specs.declared.red.Red.{Red}
 use Rattle.cg_queue.specs.Lanes.{marked_at}
-use Rattle.cg_queue.specs.Queue.{AreReds}
 use Rattle.cg_queue.specs.Body.{Parts, seen, all_reds, actions_in, is_above, Run, Flagged, AreKnown, IsSound, lane_of, flag_name, renamed}
 use Rattle.cg_queue.proofs.RowLemmas.{with_lane-same, with_lane-other, same_length, append-nothing}
 use Rattle.cg_queue.specs.MarkLaws.{is_above-true}
@@ -15,6 +14,7 @@ use Rattle.cg_queue.proofs.RunLemmas.{Run-marked, actions_in-marked}
 use Rattle.cg_queue.proofs.FlagLemmas.{OnlyFlagged, OnlyFlagged-from, OnlyFlagged-others, OnlyFlagged-unmarked, Flagged-none, Flagged-others, Flagged-marked}
 use Rattle.cg_queue.proofs.RedLemmas.{IsNamed, is_named, all_reds-same}
 use Rattle.cg_queue.proofs.Soundness.{low_of, runs_of, has_lane}
+use Rattle.cg_queue.specs.Answers.{AreReds}
 
 module _ (cut : List ActionId) where
   abbrev pub low_at : ℕ → ℕ

@@ -1,5 +1,6 @@
 pub mod Lanes
 pub mod Queue
+pub mod Answers
 pub mod Body
 pub mod MarkLaws
 pub mod Shown

@@ -1,13 +1,11 @@
 -- The actions that a replica knows, and what a mark makes of them.
-use Rattle.std.specs.Prelude.{◌≡◌, ℕ, suc, ◌+◌, ◌-◌, ◌==◌, nat_lt, nat_le, true, not, ◌&&◌, List, [], ◌∷◌, ◌++◌, length, filter, find, drop, map, Option, Result, Ok, Err, if◌then◌else◌}
+use Rattle.std.specs.Prelude.{ℕ, suc, ◌+◌, ◌-◌, ◌==◌, nat_lt, nat_le, not, ◌&&◌, List, [], ◌∷◌, ◌++◌, length, filter, find, drop, map, Option, if◌then◌else◌}
 use Rattle.cg_base.specs.declared.action_id.ActionId.{ActionId}
 use Rattle.cg_base.specs.Ids.{same_id, id_before, names}
 use Rattle.cg_base.specs.Cuts.{index_in, raise}
 use Rattle.cg_action.specs.declared.action.Action.{Action}
 use Rattle.cg_queue.specs.declared.mark.Mark.{Mark}
 use Rattle.cg_queue.specs.declared.mark.Mark.TheVariants.{Placed, Known}
-use Rattle.cg_queue.specs.declared.mark.QueueFault.{QueueFault}
-use Rattle.cg_queue.specs.declared.mark.QueueFault.TheVariants.{Gap, NoMemory}
 
 -- the number of greens that were discarded, the greens behind them, how far each creator's actions are green and how far
 -- they are known, the reds by name, and the names of those that are yellow in their order
@@ -91,14 +89,3 @@ discarded q count = record q { white = count; greens = drop (count - q.white) q.
 -- the kept action of a name
 abbrev pub action_of : QueueView → ActionId → Option Action
 action_of q id = find (λ a. same_id a.id id) (q.greens ++ q.reds)
-
--- what a call answers of a marking, and what it leaves: at a fault nothing is changed, and a gap is one
-abbrev pub Answers : Marking → QueueView → QueueView → Result Mark QueueFault → Type 0
-Answers marking old new (Ok mark) = marking ≡ Marks mark new
-Answers marking old new (Err (Gap cut)) = (marking ≡ Gaps cut) × (new ≡ old)
-Answers marking old new (Err NoMemory) = new ≡ old
-
--- each name is one of a red action
-abbrev pub AreReds : QueueView → List ActionId → Type 0
-AreReds q [] = Unit {0}
-AreReds q (id ∷ ids) = (names (names_of q.reds) id ≡ true) × AreReds q ids

@@ -10,7 +10,8 @@ use Rattle.cg_run.specs.declared.status.Status.{Status}
 use Rattle.cg_run.specs.declared.status.Status.TheVariants as status
 use Rattle.cg_run.specs.Status.{tail_text}
 use Rattle.cg_run.specs.Produced.{Finding, Produced, with_tail, entry_in, report_in, text_of, status_of, prepend, and_then}
-use Rattle.cg_run.specs.Putting.{Puts, PutsPart, Stopped, Performs, GoesOn}
+use Rattle.cg_run.specs.Performing.{Stopped, Performs, GoesOn}
+use Rattle.cg_run.specs.Putting.{Puts, PutsPart}
 
 pub Appends-none : (h : Option (List ℕ)) → Appends h h []
 Appends-none None = tt

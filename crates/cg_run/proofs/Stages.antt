@@ -18,11 +18,11 @@ use Rattle.cg_run.specs.declared.status.Status.{Status}
 use Rattle.cg_run.specs.declared.status.Status.TheVariants as status
 use Rattle.cg_run.specs.Produced.{Produced, report_in, prepend, went_on, ended_with, and_then}
 use Rattle.cg_run.specs.Outcome.{limit_of, whole_line, at_end, cut_line, last_piece, replayed}
-use Rattle.cg_run.specs.Putting.{Stopped, GoesOn}
 use Rattle.cg_run.specs.Streaming.{from_stage, IsUnended, held_limit, IsStage, IsHeld, IsMade, Passes, EndsLine, GoesThrough, HoldsRest, TakesUp}
 use Rattle.cg_run.proofs.Feeds.{one_piece, line_first, line_before, first_unended, some_piece}
 use Rattle.cg_run.proofs.GoingOn.{GoesOn-stop, Stopped-and_then, Puts-none, Puts-twice, and_then-none, report_in-append}
 use Rattle.cg_run.proofs.Lines.{replayed-more}
+use Rattle.cg_run.specs.Performing.{Stopped, GoesOn}
 
 -- ---- limits
 

@@ -14,12 +14,13 @@ use Rattle.cg_run.specs.declared.progress.Stage.{Stage}
 use Rattle.cg_run.specs.declared.status.Status.{Status}
 use Rattle.cg_run.specs.declared.status.Status.TheVariants as status
 use Rattle.cg_run.specs.Produced.{Produced, with_tail, report_in, text_of, prepend, went_on}
-use Rattle.cg_run.specs.Putting.{Puts, Stopped, GoesOn}
+use Rattle.cg_run.specs.Putting.{Puts}
 use Rattle.cg_run.specs.Taking.{HasCause, Begins, InTime}
 use Rattle.cg_run.specs.Streaming.{first_stage, from_stage, IsStage, IsHeld, IsMade, Passes, TakesUp, TakesTurn, Replays}
 use Rattle.cg_run.proofs.GoingOn.{GoesOn-stop, Puts-none, Puts-twice, Appends-twice, report_in-append}
 use Rattle.cg_run.proofs.Stages.{Passes-none, Passes-twice, front-held, held-within, held-went_on}
 use Rattle.cg_run.proofs.TakeLemmas.{Consumes-none, Consumes-twice}
+use Rattle.cg_run.specs.Performing.{Stopped, GoesOn}
 
 -- all but what is held was gone through, and what it comes to was put
 pub record Streams (report : Report) (old now : SourceView) (v v1 : SinkView) (held : List ℕ) (st : Stage) : Type 0 where

@@ -15,11 +15,12 @@ use Rattle.cg_run.specs.declared.status.Status.TheVariants as status
 use Rattle.cg_run.specs.Status.{tail_text}
 use Rattle.cg_run.specs.Produced.{Finding, Produced, with_tail, report_in, text_of, status_of, and_then}
 use Rattle.cg_run.specs.Outcome.{whole_line, replayed, lines_alone, trial_end, trial_text}
-use Rattle.cg_run.specs.Putting.{Puts, PutsPart, StopsWith, Stopped, GoesOn}
+use Rattle.cg_run.specs.Putting.{Puts, PutsPart, StopsWith}
 use Rattle.cg_run.specs.Streaming.{first_stage, IsStage, EndsLine}
 use Rattle.cg_run.proofs.GoingOn.{GoesOn-begin, GoesOn-part, Puts-twice, Appends-none, part-longer, part-later, and_then-some}
 use Rattle.cg_run.proofs.Lines.{replayed-more}
 use Rattle.cg_run.proofs.Spared.{is_of_end, whole-no_end}
+use Rattle.cg_run.specs.Performing.{Stopped, GoesOn}
 
 pub some_lines : (events : List Event) → is_nil (lines_alone events) ≡ false
 some_lines [] = refl

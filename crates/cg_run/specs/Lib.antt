@@ -2,6 +2,7 @@ pub mod Commands
 pub mod Outcome
 pub mod Produced
 pub mod Putting
+pub mod Performing
 pub mod Refusing
 pub mod Rounds
 pub mod Status

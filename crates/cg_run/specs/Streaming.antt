@@ -14,9 +14,10 @@ use Rattle.cg_run.specs.declared.status.Limit.{Limit}
 use Rattle.cg_run.specs.declared.status.Status.{Status}
 use Rattle.cg_run.specs.Produced.{Produced, before_all, prepend, report_in, text_of}
 use Rattle.cg_run.specs.Outcome.{limit_of, whole_line, replayed}
-use Rattle.cg_run.specs.Putting.{Puts, Stopped}
+use Rattle.cg_run.specs.Putting.{Puts}
 use Rattle.cg_run.specs.Taking.{most_taken, most_at_once, HasCause, InTime, OfTaken}
 use Rattle.cg_run.specs.UnderWay.{IsUnderWay}
+use Rattle.cg_run.specs.Performing.{Stopped}
 
 -- before the first line
 abbrev pub first_stage : Stage

@@ -1,7 +1,8 @@
 ghost use Rattle.std.specs.Prelude.{◌<◌, ◌^◌, OnOk, IfErr, Some};
 ghost use Rattle.cg_run.specs.Produced.{entry_in};
 ghost use Rattle.cg_run.specs.Status.{tail_text};
-ghost use Rattle.cg_run.specs.Putting.{Puts, CutShort, StopsWith, IsFinding};
+ghost use Rattle.cg_run.specs.Performing.{CutShort, IsFinding};
+ghost use Rattle.cg_run.specs.Putting.{Puts, StopsWith};
 
 use crate::progress::Report;
 use crate::status::Status;

@@ -8,9 +8,9 @@ ghost use Rattle.cg_run.specs.declared.status.Status.TheVariants as status;
 ghost use Rattle.cg_run.specs.Produced.{ended_with};
 ghost use Rattle.cg_run.specs.Rounds.{happened};
 ghost use Rattle.cg_run.specs.Outcome.{unreadable, word_outcome, line_outcome, without_return, limit_of, whole_line, at_end, cut_line, last_piece};
-ghost use Rattle.cg_run.specs.Putting.{Stopped, Performs};
 ghost use Rattle.cg_run.specs.Streaming.{held_limit};
 ghost use Rattle.cg_run.specs.UnderWay.{HasBegun, IsUnderWay, MayHappen, IsNext};
+ghost use Rattle.cg_run.specs.Performing.{Stopped, Performs};
 
 use crate::progress::{Progress, Report};
 use crate::putting::finish;

@@ -2,7 +2,7 @@ ghost use Rattle.std.specs.Prelude.{◌≡◌, ◌<◌, ◌^◌, true, IfOk};
 ghost use Rattle.cg_schedule.specs.declared.event.Event.TheVariants.{Gather};
 ghost use Rattle.cg_run.specs.Produced.{one_step};
 ghost use Rattle.cg_run.specs.Rounds.{deliver_ready, deliveries, one_pass, passes, happened};
-ghost use Rattle.cg_run.specs.Putting.{Performs};
+ghost use Rattle.cg_run.specs.Performing.{Performs};
 ghost use Rattle.cg_run.specs.UnderWay.{HasBegun, MayHappen};
 
 use crate::progress::{Progress, Report};

@@ -1,9 +1,9 @@
 ghost use Rattle.std.specs.Prelude.{◌≡◌, ◌<◌, ◌≤◌, ◌^◌, ◌++◌, length, MatchResult, None};
 ghost use Rattle.cg_run.specs.declared.progress.Report.{Report};
 ghost use Rattle.cg_run.specs.Outcome.{whole_line};
-ghost use Rattle.cg_run.specs.Putting.{Stopped};
 ghost use Rattle.cg_run.specs.declared.progress.Ending.TheVariants.{Ended, Failed};
 ghost use Rattle.cg_run.specs.Streaming.{from_stage, IsStage, IsUnended, IsHeld, held_limit, EndsLine, HoldsRest, TakesUp, TakesTurn, Replays};
+ghost use Rattle.cg_run.specs.Performing.{Stopped};
 
 use crate::progress::{Report, Stage};
 use crate::replay::{close, fail, passed_limit, refuse_limit, whole_line};

@@ -7,8 +7,9 @@ ghost use Rattle.cg_run.specs.declared.progress.Report.TheVariants.{Tail};
 ghost use Rattle.cg_run.specs.declared.status.Status.TheVariants as status;
 ghost use Rattle.cg_run.specs.Outcome.{whole_line, at_end, lines_alone, trial_text, replayed};
 ghost use Rattle.cg_run.specs.Produced.{before_all, status_of};
-ghost use Rattle.cg_run.specs.Putting.{Stopped, StopsWith};
+ghost use Rattle.cg_run.specs.Putting.{StopsWith};
 ghost use Rattle.cg_run.specs.Streaming.{IsStage, EndsLine};
+ghost use Rattle.cg_run.specs.Performing.{Stopped};
 
 use crate::progress::{Progress, Report, Stage};
 use crate::putting::{finish, put_text};

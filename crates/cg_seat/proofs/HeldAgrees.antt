@@ -4,7 +4,7 @@ use Rattle.std.specs.Prelude.{drop, IsTrue}
 use Rattle.std.specs.List.{list_all}
 use Rattle.cg_client.specs.Replica.{Held}
 use Rattle.cg_queue.specs.Queue.{green_count}
-use Rattle.cg_stored.specs.Checkpoint.{Agrees, is_present}
+use Rattle.cg_stored.specs.Agreeing.{Agrees, is_present}
 use Rattle.cg_stored.specs.Stored.{stored_of, whiten}
 use Rattle.cg_step.specs.Holds.{Holds}
 use Rattle.cg_step.specs.Recorded.{AlwaysCounts, AlwaysSettled}

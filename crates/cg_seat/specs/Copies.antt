@@ -7,7 +7,7 @@ use Rattle.cg_disk.specs.View.{DiskView}
 use Rattle.cg_join.specs.Finishing.{Joining}
 use Rattle.cg_join.specs.Snapshot.{Snapshot, parts_of}
 use Rattle.cg_join.specs.declared.piece.Part.{Part}
-use Rattle.cg_stored.specs.Checkpoint.{Agrees}
+use Rattle.cg_stored.specs.Agreeing.{Agrees}
 use Rattle.cg_client.specs.Joined.{joined}
 
 -- the joiner has taken the first pieces of the snapshot

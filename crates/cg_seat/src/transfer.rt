@@ -3,7 +3,7 @@ ghost use Rattle.std.specs.Prelude.{◌≡◌, ◌≤◌, ◌+◌, ◌^◌, [], 
 ghost use Rattle.cg_disk.specs.View.{DiskView};
 ghost use Rattle.cg_client.specs.Joined.{joined, piece_count};
 ghost use Rattle.cg_records.specs.Limits.{IsNumber};
-ghost use Rattle.cg_stored.specs.Checkpoint.{Agrees};
+ghost use Rattle.cg_stored.specs.Agreeing.{Agrees};
 ghost use Rattle.cg_seat.specs.Calls.{arrived, risen};
 ghost use Rattle.cg_seat.specs.Resting.{IsResting};
 ghost use Rattle.cg_seat.specs.Seen.{down_seen};

@@ -12,7 +12,7 @@ use Rattle.cg_queue.specs.Queue.{names_of, with_red, without_action, action_of}
 use Rattle.cg_client.specs.Replica.{Held}
 use Rattle.cg_client.specs.Marks.{after_first, is_first, with_green}
 use Rattle.cg_stored.specs.Stored.{Stored}
-use Rattle.cg_stored.specs.Change.{fits_known, turn_green, green_by_name, all_of}
+use Rattle.cg_stored.specs.Following.{fits_known, turn_green, green_by_name, all_of}
 use Rattle.cg_step.specs.Holds.{cut_behind, ascend, Holds}
 use Rattle.cg_base.specs.IdLaws.{same_id-false, same_id-back}
 use Rattle.cg_queue.specs.NameLaws.{found-named}

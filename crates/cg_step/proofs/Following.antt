@@ -6,7 +6,7 @@ use Rattle.cg_action.specs.declared.action.Action.{Action}
 use Rattle.cg_client.specs.Replica.{Held, Replica}
 use Rattle.cg_client.specs.Turn.{Turn}
 use Rattle.cg_stored.specs.Stored.{Stored, stored_of, whiten}
-use Rattle.cg_stored.specs.Change.{IsAhead}
+use Rattle.cg_stored.specs.Following.{IsAhead}
 use Rattle.cg_step.specs.Step.{Input, replica_step}
 use Rattle.cg_step.specs.Commit.{commits}
 use Rattle.cg_step.specs.Crash.{Strike, Disk, new_disk, with_change, with_checkpoint, is_long, calls_of, checkpointed, is_committed, is_checkpointed, at_rest, crash_outcome, Runs, whitened, later, struck, commit_under, keep, end_event}

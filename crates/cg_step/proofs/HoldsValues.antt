@@ -19,8 +19,8 @@ use Rattle.cg_client.specs.Replica.{Held, fresh_held, created}
 use Rattle.cg_exchange.specs.PlanEnd.{with_name, usable_names}
 use Rattle.cg_client.specs.Whitening.{IsLineGreen, white_at}
 use Rattle.cg_stored.specs.Stored.{whiten}
-use Rattle.cg_stored.specs.Change.{is_distinct, are_yellow}
-use Rattle.cg_stored.specs.Checkpoint.{indexes_of}
+use Rattle.cg_stored.specs.Following.{is_distinct, are_yellow}
+use Rattle.cg_stored.specs.Agreeing.{indexes_of}
 use Rattle.cg_step.specs.Holds.{run_on, cut_behind, CountsTo, Holds}
 use Rattle.cg_base.specs.IdLaws.{same_id-true, same_id-false}
 use Rattle.cg_step.specs.RunLaws.{run_on-next}

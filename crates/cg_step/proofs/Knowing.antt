@@ -11,7 +11,7 @@ use Rattle.cg_client.specs.Replica.{Held, created, last_index}
 use Rattle.cg_client.specs.Turn.{Turn}
 use Rattle.cg_client.specs.Marks.{is_unmade, after_first, is_first, marked, newly_known, place_green}
 use Rattle.cg_client.specs.Summary.{redden, forget_own, own_to_red}
-use Rattle.cg_stored.specs.Change.{fits_known, know}
+use Rattle.cg_stored.specs.Following.{fits_known, know}
 use Rattle.cg_step.specs.Holds.{run_on, Holds}
 use Rattle.cg_base.specs.IdLaws.{same_id-true, same_id-self}
 use Rattle.cg_queue.specs.MarkLaws.{red-placed}

@@ -17,7 +17,7 @@ use Rattle.cg_client.specs.Turn.{Turn}
 use Rattle.cg_client.specs.Marks.{is_unmade, after_first, with_green, unknown_in, newly_known, place_green}
 use Rattle.cg_client.specs.Summary.{own_to_red}
 use Rattle.cg_stored.specs.Stored.{Stored, stored_of}
-use Rattle.cg_stored.specs.Change.{fits_known, know, green_by_name, all_of}
+use Rattle.cg_stored.specs.Following.{fits_known, know, green_by_name, all_of}
 use Rattle.cg_step.specs.Holds.{run_on, cut_behind, Holds}
 use Rattle.cg_step.specs.Recorded.{Named}
 use Rattle.cg_step.specs.CutRaiseLaws.{rising-raise, index-same, raise-below}

@@ -21,9 +21,9 @@ use Rattle.cg_records.specs.Limits.{Each}
 use Rattle.cg_client.specs.Replica.{created}
 use Rattle.cg_stored.specs.Stored.{Stored, whiten}
 use Rattle.cg_stored.specs.declared.change.Change.{Change}
-use Rattle.cg_stored.specs.Change.{fits_known, know, green_by_name, make, all_of, are_yellow, put_values, with_values, after_change}
-use Rattle.cg_stored.specs.Checkpoint.{Agrees, indexes_of, count_to, counts_up, is_by_name, is_present}
 use Rattle.cg_stored.specs.Limits.{IsStored}
+use Rattle.cg_stored.specs.Following.{fits_known, know, green_by_name, make, all_of, are_yellow, put_values, with_values, after_change}
+use Rattle.cg_stored.specs.Agreeing.{Agrees, indexes_of, count_to, counts_up, is_by_name, is_present}
 use Rattle.cg_step.specs.Holds.{run_on, ascend, Rising, CountsTo, Holds}
 use Rattle.cg_step.specs.CutRaiseLaws.{rising-raise, index-same, index-other}
 use Rattle.cg_step.specs.RunMarkLaws.{run-from}

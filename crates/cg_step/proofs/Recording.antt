@@ -15,7 +15,7 @@ use Rattle.cg_client.specs.Turn.{Turn, begin}
 use Rattle.cg_client.specs.Marks.{after_first}
 use Rattle.cg_client.specs.Requests.{next_action, create}
 use Rattle.cg_stored.specs.Stored.{Stored, stored_of, stable_of, whiten, recover}
-use Rattle.cg_stored.specs.Change.{fits_known, know, green_by_name, make, all_of, are_yellow, put_values, with_values, after_change, IsAhead, IsRecorded}
+use Rattle.cg_stored.specs.Following.{fits_known, know, green_by_name, make, all_of, are_yellow, put_values, with_values, after_change, IsAhead, IsRecorded}
 use Rattle.cg_step.specs.Step.{Input, Deliveries, Asks, take, replica_step}
 use Rattle.cg_step.specs.Commit.{same_values, commits}
 use Rattle.cg_step.specs.Holds.{run_on, Holds}

@@ -42,8 +42,8 @@ use Rattle.cg_construct.specs.Un.{un_on_action}
 use Rattle.cg_step.specs.Step.{on_message, on_transitional, on_regular, take}
 use Rattle.cg_step.specs.Holds.{CountsTo, Holds}
 use Rattle.cg_step.specs.Recorded.{OfMessage, OfDelivery}
-use Rattle.cg_stored.specs.Change.{are_yellow, is_distinct}
-use Rattle.cg_stored.specs.Checkpoint.{indexes_of}
+use Rattle.cg_stored.specs.Following.{are_yellow, is_distinct}
+use Rattle.cg_stored.specs.Agreeing.{indexes_of}
 use Rattle.cg_base.specs.IdLaws.{same_id-false}
 use Rattle.cg_queue.specs.MarkLaws.{red-known, red-placed, red-gap}
 use Rattle.cg_step.specs.CutRaiseLaws.{index-same}

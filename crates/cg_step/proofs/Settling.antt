@@ -16,7 +16,7 @@ use Rattle.cg_members.specs.Laws.{NoLineAbove}
 use Rattle.cg_queue.specs.Queue.{names_of, green_count}
 use Rattle.cg_client.specs.Replica.{Held, created}
 use Rattle.cg_stored.specs.Stored.{stored_of, whiten}
-use Rattle.cg_stored.specs.Checkpoint.{Agrees, indexes_of, count_to, counts_up, is_by_name, is_present}
+use Rattle.cg_stored.specs.Agreeing.{Agrees, indexes_of, count_to, counts_up, is_by_name, is_present}
 use Rattle.cg_step.specs.Holds.{run_on, cut_behind, ascend, Rising, CountsTo, Holds}
 use Rattle.cg_step.specs.Recorded.{AlwaysSettled}
 use Rattle.cg_step.specs.CutRaiseLaws.{rising-raise, index-same, index-other, behind-rises}

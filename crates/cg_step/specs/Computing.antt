@@ -22,8 +22,9 @@ use Rattle.cg_client.specs.Queries.{view_of}
 use Rattle.cg_exchange.specs.PlanEnd.{usable_names, take_over, attempt, decide, end_plan}
 use Rattle.cg_exchange.specs.ExchangeActions.{send_part, go_on}
 use Rattle.cg_stored.specs.Stored.{whiten, recover}
-use Rattle.cg_stored.specs.Change.{spelled_change, after_change}
+use Rattle.cg_stored.specs.Change.{spelled_change}
 use Rattle.cg_stored.specs.Checkpoint.{spelled_server, spelled_entry, spelled_reached, spelled_kept, spelled_parts, spelled_checkpoint}
+use Rattle.cg_stored.specs.Following.{after_change}
 use Rattle.cg_step.specs.Step.{on_message, on_transitional, on_regular, take, replica_step}
 use Rattle.cg_step.specs.Commit.{same_values, commits}
 use Rattle.cg_step.specs.Crash.{with_change, with_checkpoint, crash_outcome, end_event}

@@ -5,7 +5,7 @@ use Rattle.cg_action.specs.declared.action.Action.{Action}
 use Rattle.cg_client.specs.Replica.{Held, Replica}
 use Rattle.cg_client.specs.Turn.{Turn}
 use Rattle.cg_stored.specs.Stored.{Stored, stored_of, whiten}
-use Rattle.cg_stored.specs.Change.{IsAhead}
+use Rattle.cg_stored.specs.Following.{IsAhead}
 use Rattle.cg_step.specs.Step.{Input, replica_step}
 use Rattle.cg_step.specs.Crash.{Disk, new_disk, Ended, Runs, Crashes, end_event, crash_now, recovered, disk_recovered}
 use Rattle.cg_step.specs.Holds.{Holds}

@@ -10,14 +10,11 @@ use Rattle.cg_group.specs.declared.delivery.Delivery.TheVariants.{Message, Trans
 use Rattle.cg_client.specs.declared.parts.DraftParts.{DraftParts}
 use Rattle.cg_client.specs.Drafts.{turn_with}
 use Rattle.cg_client.specs.Replica.{Held, RegPrim, TransPrim, ExchangeStates, ExchangeActions, Construct, No, Un, NonPrim, Left}
-use Rattle.cg_prim.specs.RegPrim.{reg_prim_on_message, reg_prim_on_read, reg_prim_on}
-use Rattle.cg_prim.specs.TransPrim.{trans_prim_on_message, trans_prim_on_read, trans_prim_on}
-use Rattle.cg_exchange.specs.NonPrim.{non_prim_on_message, non_prim_on_read, non_prim_on}
-use Rattle.cg_exchange.specs.ExchangeStates.{exchange_states_on_message, exchange_states_on_read, exchange_states_on}
-use Rattle.cg_exchange.specs.ExchangeActions.{exchange_actions_on_message, exchange_actions_on_read, exchange_actions_on}
-use Rattle.cg_construct.specs.Construct.{construct_on_message, construct_on_read, construct_on}
-use Rattle.cg_construct.specs.No.{no_on_message, no_on_read, no_on}
-use Rattle.cg_construct.specs.Un.{un_on_message, un_on_read, un_on}
+use Rattle.cg_prim.specs.Hearing.{reg_prim_on_message, reg_prim_on_read, reg_prim_on, trans_prim_on_message, trans_prim_on_read, trans_prim_on}
+use Rattle.cg_exchange.specs.Hearing.{non_prim_on_message, non_prim_on_read, non_prim_on}
+use Rattle.cg_exchange.specs.Hearing.{exchange_states_on_message, exchange_states_on_read, exchange_states_on, exchange_actions_on_message, exchange_actions_on_read, exchange_actions_on}
+use Rattle.cg_construct.specs.Hearing.{un_on_message, un_on_read, un_on}
+use Rattle.cg_construct.specs.Hearing.{construct_on_message, construct_on_read, construct_on, no_on_message, no_on_read, no_on}
 use Rattle.cg_step.specs.Step.{on_message, on_transitional, on_regular}
 use Rattle.cg_step.specs.Hearing.{hear, hear_delivery}
 

@@ -14,9 +14,9 @@ use Rattle.cg_client.specs.Replica.{Held, Replica, fresh_held}
 use Rattle.cg_client.specs.Whitening.{IsLineGreen}
 use Rattle.cg_stored.specs.Stored.{Stored, stored_of, whiten, recover}
 use Rattle.cg_stored.specs.declared.change.Change.{Change}
-use Rattle.cg_stored.specs.Change.{know, green_by_name, make, all_of, after_change, IsAhead, IsRecorded}
-use Rattle.cg_stored.specs.Checkpoint.{Agrees}
 use Rattle.cg_stored.specs.Limits.{IsStored}
+use Rattle.cg_stored.specs.Following.{know, green_by_name, make, all_of, after_change, IsAhead, IsRecorded}
+use Rattle.cg_stored.specs.Agreeing.{Agrees}
 use Rattle.cg_step.specs.Step.{Input, Deliveries, replica_step}
 use Rattle.cg_step.specs.Commit.{commits}
 use Rattle.cg_step.specs.Holds.{Holds}

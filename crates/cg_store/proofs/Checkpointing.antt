@@ -4,10 +4,11 @@ use Rattle.cg_journal.specs.Records.{Records}
 use Rattle.cg_records.specs.Limits.{IsNumber}
 use Rattle.cg_client.specs.Replica.{Held}
 use Rattle.cg_stored.specs.Stored.{Stored, stored_of}
-use Rattle.cg_stored.specs.Checkpoint.{spelled_checkpoint, Agrees}
+use Rattle.cg_stored.specs.Checkpoint.{spelled_checkpoint}
 use Rattle.cg_stored.specs.Limits.{IsStored}
 use Rattle.cg_stored.specs.Parts.{checkpoint_in}
 use Rattle.cg_stored.specs.Laws.{IsCheckpoint}
+use Rattle.cg_stored.specs.Agreeing.{Agrees}
 use Rattle.cg_store.specs.Stands.{Standing, stands_for}
 use Rattle.cg_store.specs.Calls.{IsSaved}
 use Rattle.cg_store.proofs.Owner.{standing-id}

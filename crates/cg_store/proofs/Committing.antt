@@ -12,9 +12,10 @@ use Rattle.cg_client.specs.Drafts.{turn_with}
 use Rattle.cg_client.specs.declared.parts.DraftParts.{DraftParts}
 use Rattle.cg_stored.specs.Stored.{Stored, stored_of, stable_of, whiten}
 use Rattle.cg_stored.specs.declared.change.Change.{Change}
-use Rattle.cg_stored.specs.Change.{spelled_change, change_of, after_change, IsRecorded}
+use Rattle.cg_stored.specs.Change.{spelled_change, change_of}
 use Rattle.cg_stored.specs.Limits.{IsChange}
 use Rattle.cg_stored.specs.Parts.{change_in}
+use Rattle.cg_stored.specs.Following.{after_change, IsRecorded}
 use Rattle.cg_step.specs.Commit.{same_values, commits}
 use Rattle.cg_store.specs.Stands.{led_by, Standing, Stands, led, committed}
 use Rattle.cg_store.specs.Kept.{Kept}

@@ -12,7 +12,7 @@ use Rattle.cg_queue.specs.Queue.{placed_red}
 use Rattle.cg_stored.specs.Stored.{Stored, whiten}
 use Rattle.cg_stored.specs.declared.change.Change.{Change}
 use Rattle.cg_stored.specs.declared.checkpoint.Checkpoint.{Checkpoint}
-use Rattle.cg_stored.specs.Change.{fits_known, know, turn_green, green_by_name, make, all_of, put_values, with_values, after_change}
+use Rattle.cg_stored.specs.Following.{fits_known, know, turn_green, green_by_name, make, all_of, put_values, with_values, after_change}
 use Rattle.cg_stored.specs.Parts.{Saved, saved_of, saved_in, do_agree, change_in, checkpoint_in}
 use Rattle.cg_store.specs.Stands.{led_by, led_by_all, Live, live_from, live_on, Standing, stands_for}
 use Rattle.cg_journal.specs.Records.{Records}

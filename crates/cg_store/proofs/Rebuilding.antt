@@ -8,9 +8,9 @@ use Rattle.cg_action.specs.declared.action.Action.{Action}
 use Rattle.cg_queue.specs.Queue.{QueueView, names_of, with_red}
 use Rattle.cg_client.specs.Replica.{Held}
 use Rattle.cg_stored.specs.declared.checkpoint.Checkpoint.{Checkpoint}
-use Rattle.cg_stored.specs.Change.{put_values}
-use Rattle.cg_stored.specs.Checkpoint.{is_by_name}
 use Rattle.cg_stored.specs.Parts.{stored_in}
+use Rattle.cg_stored.specs.Following.{put_values}
+use Rattle.cg_stored.specs.Agreeing.{is_by_name}
 use Rattle.cg_store.specs.declared.resuming.GreenState.{GreenState}
 use Rattle.cg_store.specs.Rebuilt.{with_kept_red, with_kept_own, resumed_with}
 

@@ -7,9 +7,10 @@ use Rattle.cg_base.specs.declared.action_id.ActionId.{ActionId}
 use Rattle.cg_base.specs.Ids.{names, same_id}
 use Rattle.cg_action.specs.declared.action.Action.{Action}
 use Rattle.cg_client.specs.Marks.{is_first}
-use Rattle.cg_queue.specs.Queue.{QueueView, names_of, AreReds}
+use Rattle.cg_queue.specs.Answers.{AreReds}
+use Rattle.cg_queue.specs.Queue.{QueueView, names_of}
 use Rattle.cg_stored.specs.Stored.{Stored}
-use Rattle.cg_stored.specs.Change.{know, green_by_name, make, all_of, with_values, after_change}
+use Rattle.cg_stored.specs.Following.{know, green_by_name, make, all_of, with_values, after_change}
 use Rattle.cg_stored.specs.declared.change.Change.{Change}
 use Rattle.cg_store.specs.Opening.{Follows}
 

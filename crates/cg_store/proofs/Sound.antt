@@ -8,10 +8,10 @@ use Rattle.cg_records.specs.declared.stable.Stable.{Stable}
 use Rattle.cg_client.specs.Marks.{with_green, after_first, after_owed}
 use Rattle.cg_stored.specs.Stored.{Stored, whiten}
 use Rattle.cg_stored.specs.declared.change.Change.{Change}
-use Rattle.cg_stored.specs.Change.{fits_known, know, turn_green, green_by_name, make, all_of, put_values, with_values, after_change}
-use Rattle.cg_stored.specs.Checkpoint.{Agrees}
 use Rattle.cg_stored.specs.Limits.{IsStored}
 use Rattle.cg_stored.specs.Parts.{change_in}
+use Rattle.cg_stored.specs.Following.{fits_known, know, turn_green, green_by_name, make, all_of, put_values, with_values, after_change}
+use Rattle.cg_stored.specs.Agreeing.{Agrees}
 use Rattle.cg_step.specs.Holds.{Holds}
 use Rattle.cg_step.specs.Recorded.{AlwaysHolds}
 use Rattle.cg_store.specs.Opening.{Follows, IsSound}

@@ -7,8 +7,9 @@ use Rattle.cg_records.specs.declared.stable.Stable.{Stable}
 use Rattle.cg_client.specs.Replica.{Held, State}
 use Rattle.cg_client.specs.declared.parts.DraftParts.{DraftParts}
 use Rattle.cg_stored.specs.Stored.{Stored, stable_of}
-use Rattle.cg_stored.specs.Change.{spelled_change, change_with}
+use Rattle.cg_stored.specs.Change.{spelled_change}
 use Rattle.cg_stored.specs.Limits.{IsChange}
+use Rattle.cg_stored.specs.Following.{change_with}
 use Rattle.cg_step.specs.Commit.{commits}
 use Rattle.cg_client.specs.Drafts.{turn_with}
 use Rattle.cg_store.specs.Stands.{Standing, led_by, led}

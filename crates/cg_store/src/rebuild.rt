@@ -3,9 +3,9 @@ ghost use Rattle.std.specs.Prelude.{◌≡◌, ◌==◌, suc, fold, IfOk, OnOk};
 ghost use Rattle.cg_action.specs.Limits.{IsAction};
 ghost use Rattle.cg_base.specs.Cuts.{index_in};
 ghost use Rattle.cg_records.specs.Limits.{Each};
-ghost use Rattle.cg_stored.specs.Change.{put_values};
 ghost use Rattle.cg_stored.specs.Laws.{AreSaved};
 ghost use Rattle.cg_stored.specs.Parts.{stored_in};
+ghost use Rattle.cg_stored.specs.Following.{put_values};
 ghost use Rattle.cg_store.specs.Rebuilt.{with_kept_red, with_kept_own};
 
 use crate::replay::{are_yellow, take_values};

@@ -1,9 +1,10 @@
 ghost use Rattle.std.specs.Prelude.{◌≡◌, ◌<◌, ◌^◌, ◌++◌, length, IfOk};
 ghost use Rattle.cg_action.specs.Limits.{IsAction};
 ghost use Rattle.cg_records.specs.Limits.{Each, IsStable};
-ghost use Rattle.cg_stored.specs.Change.{spelled_change, change_with};
+ghost use Rattle.cg_stored.specs.Change.{spelled_change};
 ghost use Rattle.cg_stored.specs.Checkpoint.{spelled_checkpoint};
 ghost use Rattle.cg_stored.specs.Limits.{IsChange, IsStored};
+ghost use Rattle.cg_stored.specs.Following.{change_with};
 
 use cg_action::Action;
 use cg_base::NoMemory;

@@ -8,7 +8,7 @@ ghost use Rattle.cg_client.specs.Marks.{is_first};
 ghost use Rattle.cg_client.specs.Whitening.{IsLineGreen};
 ghost use Rattle.cg_queue.specs.Queue.{names_of};
 ghost use Rattle.cg_records.specs.Limits.{Each};
-ghost use Rattle.cg_stored.specs.Change.{after_change, fits_known, know, green_by_name, make, all_of, is_distinct, are_yellow, put_values, with_values};
+ghost use Rattle.cg_stored.specs.Following.{after_change, fits_known, know, green_by_name, make, all_of, are_yellow, put_values, with_values};
 ghost use Rattle.cg_stored.specs.Limits.{IsChange};
 ghost use Rattle.cg_step.specs.Holds.{Holds};
 ghost use Rattle.cg_store.specs.Stands.{led_by};

@@ -110,9 +110,10 @@ impl<D: Disk> Store<D> {
     ghost use Rattle.cg_records.specs.Limits.{Each, IsNumber};
     ghost use Rattle.cg_step.specs.Commit.{commits};
     ghost use Rattle.cg_stored.specs.Stored.{Stored, stored_of};
-    ghost use Rattle.cg_stored.specs.Change.{IsRecorded};
-    ghost use Rattle.cg_stored.specs.Checkpoint.{Agrees, size_limit, spelled_checkpoint};
+    ghost use Rattle.cg_stored.specs.Checkpoint.{size_limit, spelled_checkpoint};
     ghost use Rattle.cg_stored.specs.Parts.{checkpoint_in};
+    ghost use Rattle.cg_stored.specs.Following.{IsRecorded};
+    ghost use Rattle.cg_stored.specs.Agreeing.{Agrees};
     ghost use Rattle.cg_store.specs.Stands.{Standing, Stands, begun, created, moved, committed, checkpointed};
     ghost use Rattle.cg_store.specs.Answers.{EachMoment};
     ghost use Rattle.cg_store.specs.Due.{IsReady, IsLed, IsBehind, WhetherDue};

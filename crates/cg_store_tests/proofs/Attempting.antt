@@ -12,8 +12,8 @@ use Rattle.cg_client.specs.Drafts.{turn_with, no_parts}
 use Rattle.cg_client.specs.Replica.{Held, State, fresh_held, created as last_created}
 use Rattle.cg_client.specs.Whitening.{with_white}
 use Rattle.cg_stored.specs.Stored.{Stored, stored_of, whiten}
-use Rattle.cg_stored.specs.Change.{are_yellow, after_change, IsRecorded}
-use Rattle.cg_stored.specs.Checkpoint.{Agrees}
+use Rattle.cg_stored.specs.Following.{are_yellow, after_change, IsRecorded}
+use Rattle.cg_stored.specs.Agreeing.{Agrees}
 use Rattle.cg_step.specs.Holds.{Holds}
 use Rattle.cg_step.specs.Recorded.{AlwaysHolds, AlwaysSettled}
 use Rattle.cg_store.specs.Calls.{Commits, Keeps}

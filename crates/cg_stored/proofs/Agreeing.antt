@@ -20,10 +20,10 @@ use Rattle.cg_client.specs.Replica.{last_index, created}
 use Rattle.cg_client.specs.ReplicaLaws.{last_index-get}
 use Rattle.cg_records.specs.Limits.{Each, IsIndex, IsName}
 use Rattle.cg_stored.specs.declared.checkpoint.Checkpoint.{Checkpoint}
-use Rattle.cg_stored.specs.Change.{is_distinct, are_yellow}
-use Rattle.cg_stored.specs.Checkpoint.{indexes_of, counts_up, is_by_name, is_present}
 use Rattle.cg_stored.specs.Limits.{AreParts}
 use Rattle.cg_stored.specs.Parts.{next_index, red_cut_of, queue_in, stored_in, Fits, is_between_cuts, greens_agree, yellow_agrees, do_agree}
+use Rattle.cg_stored.specs.Following.{is_distinct, are_yellow}
+use Rattle.cg_stored.specs.Agreeing.{indexes_of, counts_up, is_by_name, is_present}
 
 -- ---- red names
 

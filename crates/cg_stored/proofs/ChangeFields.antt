@@ -19,11 +19,12 @@ use Rattle.cg_records.specs.Bytes.{spelled_stable}
 use Rattle.cg_records.specs.Reading.{take_stable}
 use Rattle.cg_records.specs.RecordLaws.{stable_field}
 use Rattle.cg_stored.specs.declared.change.Change.{Change}
-use Rattle.cg_stored.specs.Change.{change_with, spelled_change}
+use Rattle.cg_stored.specs.Change.{spelled_change}
 use Rattle.cg_stored.specs.Limits.{AreActions, IsChange}
 use Rattle.cg_stored.specs.Reading.{actions_reading, ids_reading, change_reading}
 use Rattle.cg_stored.specs.Laws.{Gives}
 use Rattle.cg_stored.proofs.ListFields.{AreIds, actions_field, ids_field, Each-both}
+use Rattle.cg_stored.specs.Following.{change_with}
 
 -- ---- what is spelled and read behind each part
 

@@ -13,7 +13,8 @@ use Rattle.cg_codec.specs.ListLaws.{field_list}
 use Rattle.cg_codec.specs.ShapeLaws.{field_two, field_three}
 use Rattle.cg_members.specs.declared.server.Server.{Server}
 use Rattle.cg_members.specs.declared.members.Members.{Members}
-use Rattle.cg_members.specs.Servers.{server_ids, with_server, Count, AreServers}
+use Rattle.cg_members.specs.Listed.{server_ids, Count, AreServers}
+use Rattle.cg_members.specs.Servers.{with_server}
 use Rattle.cg_records.specs.Limits.{IsNumber, Each}
 use Rattle.cg_records.specs.Bytes.{spelled_set}
 use Rattle.cg_records.specs.Reading.{take_number, take_id_above, take_weight, last_of, take_set}

@@ -17,7 +17,7 @@ use Rattle.cg_stored.specs.declared.change.Change.{Change}
 use Rattle.cg_stored.specs.declared.checkpoint.Checkpoint.{Checkpoint}
 use Rattle.cg_stored.specs.Stored.{Stored}
 use Rattle.cg_stored.specs.Change.{spelled_change}
-use Rattle.cg_stored.specs.Checkpoint.{spelled_parts, parts_of, spelled_checkpoint, Agrees}
+use Rattle.cg_stored.specs.Checkpoint.{spelled_parts, parts_of, spelled_checkpoint}
 use Rattle.cg_stored.specs.Limits.{IsChange, IsStored, AreParts}
 use Rattle.cg_stored.specs.Reading.{change_reading, checkpoint_reading}
 use Rattle.cg_stored.specs.Parts.{red_cut_of, stored_in, Fits, do_agree, checkpoint_of, read_value, change_in, Saved, saved_in, saved_of, checkpoint_in}
@@ -25,6 +25,7 @@ use Rattle.cg_stored.specs.Laws.{IsCheckpoint, FindsChange, FindsCheckpoint}
 use Rattle.cg_stored.proofs.ChangeFields.{change_whole}
 use Rattle.cg_stored.proofs.CheckpointFields.{parts_whole}
 use Rattle.cg_stored.proofs.Agreeing.{fits-agree, agree-fits, small-raised}
+use Rattle.cg_stored.specs.Agreeing.{Agrees}
 
 -- ---- changes
 

@@ -11,10 +11,11 @@ use Rattle.cg_stored.specs.declared.checkpoint.Checkpoint.{Checkpoint}
 use Rattle.cg_stored.specs.Change.{spelled_change}
 use Rattle.cg_records.specs.Limits.{IsNumber}
 use Rattle.cg_stored.specs.Stored.{Stored}
-use Rattle.cg_stored.specs.Checkpoint.{spelled_parts, spelled_checkpoint, Agrees}
+use Rattle.cg_stored.specs.Checkpoint.{spelled_parts, spelled_checkpoint}
 use Rattle.cg_stored.specs.Limits.{IsChange, IsStored, AreParts}
 use Rattle.cg_stored.specs.Reading.{entry_reading}
 use Rattle.cg_stored.specs.Parts.{stored_in, Fits, change_in, saved_in, checkpoint_in}
+use Rattle.cg_stored.specs.Agreeing.{Agrees}
 
 -- the call gave the one value that the bytes spell; where it gave none they spell none, unless memory was refused
 abbrev pub Gives : {X : Type 0} → (X → Type 0) → (X → List ℕ) → List ℕ → Result X CodecFault → Type 0

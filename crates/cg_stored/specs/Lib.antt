@@ -1,6 +1,8 @@
 pub mod Stored
 pub mod Change
+pub mod Following
 pub mod Checkpoint
+pub mod Agreeing
 pub mod Limits
 pub mod Reading
 pub mod Parts

@@ -7,7 +7,7 @@ use Rattle.cg_db.specs.declared.entry.DbEntry.{DbEntry}
 use Rattle.cg_db.specs.Map.{Ascends}
 use Rattle.cg_db.specs.Limits.{AreEntries}
 use Rattle.cg_members.specs.declared.members.Members.{Members}
-use Rattle.cg_members.specs.Servers.{AreServers}
+use Rattle.cg_members.specs.Listed.{AreServers}
 use Rattle.cg_queue.specs.Queue.{QueueView, green_count}
 use Rattle.cg_records.specs.Limits.{Each, IsNumber, IsSmallCut, IsStable}
 use Rattle.cg_stored.specs.declared.change.Change.{Change}

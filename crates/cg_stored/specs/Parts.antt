@@ -15,9 +15,9 @@ use Rattle.cg_client.specs.Replica.{created}
 use Rattle.cg_stored.specs.declared.change.Change.{Change}
 use Rattle.cg_stored.specs.declared.checkpoint.Checkpoint.{Checkpoint}
 use Rattle.cg_stored.specs.Stored.{Stored}
-use Rattle.cg_stored.specs.Change.{is_distinct}
-use Rattle.cg_stored.specs.Checkpoint.{Agrees, is_present, counts_up, is_by_name, are_own}
 use Rattle.cg_stored.specs.Reading.{change_reading, checkpoint_reading}
+use Rattle.cg_stored.specs.Following.{is_distinct}
+use Rattle.cg_stored.specs.Agreeing.{Agrees, is_present, counts_up, is_by_name, are_own}
 
 -- how far actions are known: the green cut, and the reds behind it
 abbrev pub red_cut_of : Checkpoint → List ActionId

@@ -8,9 +8,9 @@ ghost use Rattle.cg_base.specs.Ids.{names};
 ghost use Rattle.cg_base.specs.Lists.{above_up_to};
 ghost use Rattle.cg_base.specs.Sets.{every_replica};
 ghost use Rattle.cg_client.specs.Replica.{last_index};
-ghost use Rattle.cg_stored.specs.Change.{is_distinct};
-ghost use Rattle.cg_stored.specs.Checkpoint.{indexes_of, count_to, counts_up, is_by_name, is_present};
 ghost use Rattle.cg_stored.specs.Parts.{next_index, red_cut_of, queue_in, greens_agree, is_before_first, is_between, yellow_agrees, are_own_between, names_agree, do_agree};
+ghost use Rattle.cg_stored.specs.Following.{is_distinct};
+ghost use Rattle.cg_stored.specs.Agreeing.{indexes_of, count_to, counts_up, is_by_name, is_present};
 
 use crate::Checkpoint;
 use cg_action::Action;

@@ -4,10 +4,11 @@ ghost use Rattle.cg_codec.specs.Reading.{whole};
 ghost use Rattle.cg_codec.specs.Taking.{unread_of, TakesWithMemory, Decodes};
 ghost use Rattle.cg_action.specs.Limits.{IsAction, IsActionId};
 ghost use Rattle.cg_records.specs.Limits.{Each, IsStable};
-ghost use Rattle.cg_stored.specs.Change.{spelled_change, change_with};
+ghost use Rattle.cg_stored.specs.Change.{spelled_change};
 ghost use Rattle.cg_stored.specs.Limits.{IsChange};
 ghost use Rattle.cg_stored.specs.Reading.{change_reading};
 ghost use Rattle.cg_stored.specs.Laws.{GivesChange, FindsChange};
+ghost use Rattle.cg_stored.specs.Following.{change_with};
 
 use crate::lists::{put_actions, put_ids, take_actions, take_ids};
 use cg_action::{Action, ActionList};

@@ -35,9 +35,10 @@ use Rattle.cg_schedule.specs.declared.event.Event.TheVariants.{Start, Merge, Rou
 use Rattle.cg_client.specs.Replica.{Held, Replica, NonPrim, fresh_held}
 use Rattle.cg_step.specs.Crash.{new_disk}
 use Rattle.cg_agree.specs.World.{Life, Up, Down, Seat, World, no_world}
-use Rattle.cg_agree.specs.Run.{Step, run_of}
+use Rattle.cg_agree.specs.Run.{Step}
 use Rattle.cg_agree.specs.Shown.{made_actions}
 use Rattle.cg_agree.specs.Agreement.{is_recovery_of, IsPrimary, OrderGrows, Prefix, CreatorOrder, FoldAnswers, DirtyAnswers, OnePrimary, QuietSettles, MadeStays, RefusedExactly}
+use Rattle.cg_agree.specs.Schedules.{run_of}
 use Rattle.cg_worked.specs.Computing.{cases_compute}
 
 -- ---- steps that show little

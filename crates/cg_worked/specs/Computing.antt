@@ -39,20 +39,18 @@ use Rattle.cg_client.specs.Marks.{is_unmade, mark_red, mark_yellow, can_be_green
 use Rattle.cg_client.specs.Queries.{view_of}
 use Rattle.cg_client.specs.Requests.{create, create_kept}
 use Rattle.cg_client.specs.Summary.{summary_of, own_to_red, enter_exchange}
-use Rattle.cg_prim.specs.RegPrim.{reg_prim_on_message}
-use Rattle.cg_prim.specs.TransPrim.{trans_prim_on_message}
-use Rattle.cg_exchange.specs.ExchangeActions.{send_part, go_on, exchange_actions_on_message}
-use Rattle.cg_exchange.specs.ExchangeStates.{exchange_states_on_message}
-use Rattle.cg_exchange.specs.NonPrim.{non_prim_on_message}
+use Rattle.cg_prim.specs.Hearing.{reg_prim_on_message, trans_prim_on_message}
+use Rattle.cg_exchange.specs.ExchangeActions.{send_part, go_on}
 use Rattle.cg_exchange.specs.PlanEnd.{usable_names, take_over, attempt, decide, end_plan}
-use Rattle.cg_construct.specs.Construct.{construct_on_message}
-use Rattle.cg_construct.specs.No.{no_on_message}
-use Rattle.cg_construct.specs.Un.{un_on_message}
-use Rattle.cg_stored.specs.Change.{spelled_change, after_change}
+use Rattle.cg_exchange.specs.Hearing.{exchange_states_on_message, exchange_actions_on_message, non_prim_on_message}
+use Rattle.cg_construct.specs.Hearing.{un_on_message}
+use Rattle.cg_construct.specs.Hearing.{construct_on_message, no_on_message}
+use Rattle.cg_stored.specs.Change.{spelled_change}
 use Rattle.cg_stored.specs.Checkpoint.{spelled_server, spelled_entry, spelled_reached, spelled_kept, spelled_parts, spelled_checkpoint}
 use Rattle.cg_stored.specs.Parts.{do_agree, change_in, checkpoint_in}
 use Rattle.cg_stored.specs.Reading.{actions_reading, ids_reading, change_reading, server_reading, servers_reading, members_reading, key_behind_reading, entry_reading, entries_reading, reached_reading, kept_reading, checkpoint_reading}
 use Rattle.cg_stored.specs.Stored.{whiten, recover}
+use Rattle.cg_stored.specs.Following.{after_change}
 use Rattle.cg_step.specs.Commit.{same_values, commits}
 use Rattle.cg_step.specs.Crash.{with_change, with_checkpoint, crash_outcome, end_event}
 use Rattle.cg_step.specs.Step.{on_message, on_transitional, on_regular, take, replica_step}

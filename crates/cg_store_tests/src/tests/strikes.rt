@@ -8,7 +8,7 @@
 //! opened: its body lies on the other side behind a closed gate, and a crash must not open it, since it would bring back the
 //! state from before the event.
 ghost use Rattle.std.specs.Prelude.{◌≡◌, ◌+◌, ◌≤◌, [], IfOk};
-ghost use Rattle.cg_stored.specs.Checkpoint.{Agrees};
+ghost use Rattle.cg_stored.specs.Agreeing.{Agrees};
 ghost use Rattle.cg_stored.specs.Stored.{stored_of};
 ghost use Rattle.cg_step.specs.Holds.{Holds};
 ghost use Rattle.cg_store_tests.specs.Bench.{IsHeld, calls_of};

@@ -1,6 +1,6 @@
 use Rattle.std.proofs.Common.{subst, sym}
 use Rattle.cg_stored.specs.Stored.{stored_of}
-use Rattle.cg_stored.specs.Checkpoint.{Agrees}
+use Rattle.cg_stored.specs.Agreeing.{Agrees}
 use Rattle.cg_client.specs.Replica.{Held}
 use Rattle.cg_examples.proofs.Starting.{fresh_agrees}
 use Rattle.cg_examples.proofs.store.a_replica_comes_up_with_what_its_disk_stands_for.Goals as goal

@@ -1,6 +1,7 @@
 use Rattle.std.proofs.Common.{◌≡◌, sym, subst, true}
 use Rattle.cg_base.specs.Ids.{names}
-use Rattle.cg_queue.specs.Queue.{AreReds, names_of}
+use Rattle.cg_queue.specs.Answers.{AreReds}
+use Rattle.cg_queue.specs.Queue.{names_of}
 use Rattle.cg_exchange.proofs.Names.{reds-push}
 use Rattle.cg_exchange.proofs.plan_end.push_name.Goals as goal
 

@@ -1,5 +1,5 @@
 use Rattle.std.proofs.Common.{◌≡◌, fold, take, []}
-use Rattle.cg_queue.specs.Queue.{AreReds}
+use Rattle.cg_queue.specs.Answers.{AreReds}
 use Rattle.cg_exchange.specs.PlanEnd.{with_name}
 use Rattle.cg_exchange.proofs.plan_end.usable_names.Given as goal
 

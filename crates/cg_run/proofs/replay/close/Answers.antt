@@ -1,7 +1,7 @@
 use Rattle.std.proofs.Common.{◌≡◌, length, sym, subst, rules}
-use Rattle.cg_run.specs.Putting.{Stopped}
 use Rattle.cg_run.proofs.Stages.{last-empty}
 use Rattle.cg_run.proofs.replay.close.Goals as goal
+use Rattle.cg_run.specs.Performing.{Stopped}
 
 pub returns-then-is_empty : goal.returns-then-is_empty
 returns-then-is_empty g c =

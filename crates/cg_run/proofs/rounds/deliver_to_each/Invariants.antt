@@ -1,9 +1,9 @@
 use Rattle.std.proofs.Common.{◌≡◌}
 use Rattle.cg_base.specs.Iterators.{members_left}
 use Rattle.cg_run.specs.Rounds.{deliveries}
-use Rattle.cg_run.specs.Putting.{GoesOn}
 use Rattle.cg_run.specs.UnderWay.{HasBegun}
 use Rattle.cg_run.proofs.rounds.deliver_to_each.Given as goal
+use Rattle.cg_run.specs.Performing.{GoesOn}
 
 abbrev pub invariant-loop-to : goal.invariant-loop-to
 invariant-loop-to g l =

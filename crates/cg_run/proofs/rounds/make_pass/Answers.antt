@@ -1,11 +1,11 @@
 use Rattle.std.proofs.Common.{ℕ, List, subst}
-use Rattle.cg_run.specs.Putting.{Performs}
 use Rattle.cg_schedule.specs.declared.event.Event.TheVariants.{Gather}
 use Rattle.cg_agree.specs.World.{up_replicas}
 use Rattle.cg_run.specs.Produced.{one_step}
 use Rattle.cg_run.specs.Rounds.{deliveries}
 use Rattle.cg_run.proofs.GoingOn.{Stopped-and_then, Performs-and_then}
 use Rattle.cg_run.proofs.rounds.make_pass.Goals as goal
+use Rattle.cg_run.specs.Performing.{Performs}
 
 pub returns-in-Err-clause-performs : goal.returns-in-Err-clause-performs
 returns-in-Err-clause-performs g c =

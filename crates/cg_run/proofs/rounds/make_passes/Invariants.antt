@@ -1,8 +1,8 @@
 use Rattle.std.proofs.Common.{◌≡◌, ◌-◌}
 use Rattle.cg_run.specs.Rounds.{passes}
-use Rattle.cg_run.specs.Putting.{GoesOn}
 use Rattle.cg_run.specs.UnderWay.{HasBegun}
 use Rattle.cg_run.proofs.rounds.make_passes.Given as goal
+use Rattle.cg_run.specs.Performing.{GoesOn}
 
 abbrev pub invariant-loop-made : goal.invariant-loop-made
 invariant-loop-made g l =

@@ -1,8 +1,8 @@
 use Rattle.std.proofs.Common.{sym, subst}
 use Rattle.cg_run.specs.declared.progress.Ending.TheVariants.{Ended}
-use Rattle.cg_run.specs.Putting.{Stopped}
 use Rattle.cg_run.proofs.Stages.{from-held}
 use Rattle.cg_run.proofs.streaming.close_stage.Goals as goal
+use Rattle.cg_run.specs.Performing.{Stopped}
 
 pub returns : goal.returns
 returns g c =

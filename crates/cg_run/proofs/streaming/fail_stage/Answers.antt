@@ -1,8 +1,8 @@
 use Rattle.std.proofs.Common.{sym, subst, ◌∙◌}
 use Rattle.cg_run.specs.declared.progress.Ending.TheVariants.{Failed}
-use Rattle.cg_run.specs.Putting.{Stopped}
 use Rattle.cg_run.proofs.Stages.{from-held, last-failed}
 use Rattle.cg_run.proofs.streaming.fail_stage.Goals as goal
+use Rattle.cg_run.specs.Performing.{Stopped}
 
 pub returns : goal.returns
 returns g c =

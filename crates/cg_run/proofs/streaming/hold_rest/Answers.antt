@@ -1,10 +1,10 @@
 use Rattle.std.proofs.Common.{◌≡◌, ◌==◌, ◌++◌, false, Some, sym, subst, ◌∙◌, rules}
 use Rattle.std.proofs.lemmas.List.Elements.{All-append}
 use Rattle.cg_run.specs.declared.progress.Ending.TheVariants.{Open}
-use Rattle.cg_run.specs.Putting.{Stopped}
 use Rattle.cg_run.specs.Streaming.{held_limit}
 use Rattle.cg_run.proofs.Stages.{from-held, last-passed}
 use Rattle.cg_run.proofs.streaming.hold_rest.Goals as goal
+use Rattle.cg_run.specs.Performing.{Stopped}
 
 pub returns-in-Some : goal.returns-in-Some
 returns-in-Some g c =

@@ -2,10 +2,10 @@ use Rattle.std.proofs.Common.{ℕ, ◌++◌, subst, take, rules}
 use Rattle.std.proofs.lemmas.List.{take-append-le}
 use Rattle.std.specs.Io.KnownBytes.{Consumes}
 use Rattle.cg_run.specs.declared.progress.Ending.TheVariants.{Ended, Failed}
-use Rattle.cg_run.specs.Putting.{Stopped}
 use Rattle.cg_run.specs.Streaming.{from_stage, TakesUp}
 use Rattle.cg_run.proofs.Streams.{turn-goes, turn-ended, turn-failed}
 use Rattle.cg_run.proofs.streaming.make_turn.Goals as goal
+use Rattle.cg_run.specs.Performing.{Stopped}
 
 pub returns-in-Err : goal.returns-in-Err
 returns-in-Err g c =

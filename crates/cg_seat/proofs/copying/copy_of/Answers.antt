@@ -1,7 +1,7 @@
 use Rattle.std.proofs.Common.{sym, subst}
 use Rattle.cg_client.specs.Replica.{Held}
 use Rattle.cg_client.specs.Joined.{joined}
-use Rattle.cg_stored.specs.Checkpoint.{Agrees}
+use Rattle.cg_stored.specs.Agreeing.{Agrees}
 use Rattle.cg_seat.proofs.HeldAgrees.{held-agrees}
 use Rattle.cg_seat.proofs.copying.copy_of.Goals as goal
 

@@ -1,5 +1,5 @@
 use Rattle.std.proofs.Common.{◌≡◌, Some, None, subst}
-use Rattle.cg_stored.specs.Change.{know, green_by_name, make, all_of, with_values, after_change}
+use Rattle.cg_stored.specs.Following.{know, green_by_name, make, all_of, with_values, after_change}
 use Rattle.cg_store.specs.Opening.{Follows}
 use Rattle.cg_store.proofs.Replaying.{unknown_none, ungreen_none, unmade_none, all_marked, all_fit, if_ok_follows}
 use Rattle.cg_store.proofs.replay.follow_change.Goals as goal

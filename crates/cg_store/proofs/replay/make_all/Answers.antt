@@ -1,6 +1,6 @@
 use Rattle.std.proofs.Common.{◌≡◌, ◌∷◌, Some, None, rules}
 use Rattle.std.specs.Vec.Iter.{into_iter_items}
-use Rattle.cg_stored.specs.Change.{make, all_of}
+use Rattle.cg_stored.specs.Following.{make, all_of}
 use Rattle.cg_store.proofs.Replaying.{stops_at}
 use Rattle.cg_store.proofs.replay.make_all.Goals as goal
 

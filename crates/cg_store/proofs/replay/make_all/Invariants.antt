@@ -2,7 +2,7 @@ use Rattle.std.proofs.Common.{◌≡◌, Some}
 use Rattle.std.specs.Vec.Iter.{into_iter_items}
 use Rattle.cg_action.specs.Limits.{IsAction}
 use Rattle.cg_records.specs.Limits.{Each}
-use Rattle.cg_stored.specs.Change.{make, all_of}
+use Rattle.cg_stored.specs.Following.{make, all_of}
 use Rattle.cg_store.proofs.replay.make_all.Given as goal
 
 -- those that are left lead to what all lead to

@@ -2,7 +2,7 @@ use Rattle.std.specs.List.{list_all}
 use Rattle.std.proofs.lemmas.Bool.{and_parts}
 use Rattle.cg_base.specs.Ids.{names}
 use Rattle.cg_queue.specs.Queue.{names_of}
-use Rattle.cg_stored.specs.Change.{is_distinct}
+use Rattle.cg_stored.specs.Following.{is_distinct}
 use Rattle.cg_store.proofs.Replaying.{are_reds}
 use Rattle.cg_store.proofs.replay.take_values.Goals as goal
 

@@ -1,6 +1,6 @@
 use Rattle.std.proofs.Common.{◌≡◌, ◌∷◌, Some, None, rules}
 use Rattle.std.specs.Vec.Iter.{into_iter_items}
-use Rattle.cg_stored.specs.Change.{green_by_name, all_of}
+use Rattle.cg_stored.specs.Following.{green_by_name, all_of}
 use Rattle.cg_store.proofs.Replaying.{stops_at}
 use Rattle.cg_store.proofs.replay.turn_all.Goals as goal
 

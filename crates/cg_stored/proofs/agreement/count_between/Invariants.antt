@@ -2,7 +2,7 @@ use Rattle.std.proofs.Common.{◌≡◌, drop}
 use Rattle.std.specs.Prelude.{nat_eq}
 use Rattle.std.specs.Cmp.Lexicographic.{pointwise}
 use Rattle.cg_base.specs.Lists.{above_up_to}
-use Rattle.cg_stored.specs.Checkpoint.{indexes_of}
+use Rattle.cg_stored.specs.Agreeing.{indexes_of}
 use Rattle.cg_stored.proofs.agreement.count_between.Given as goal
 
 -- the actions that are left count on from here, where all of them count from the first number

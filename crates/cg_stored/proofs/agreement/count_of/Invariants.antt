@@ -1,5 +1,5 @@
 use Rattle.std.proofs.Common.{◌≡◌, ◌≤◌, take, length}
-use Rattle.cg_stored.specs.Checkpoint.{indexes_of}
+use Rattle.cg_stored.specs.Agreeing.{indexes_of}
 use Rattle.cg_stored.proofs.agreement.count_of.Given as goal
 
 abbrev pub invariant-loop-a : goal.invariant-loop-a

@@ -1,5 +1,5 @@
 use Rattle.std.proofs.Common.{◌≡◌, length}
-use Rattle.cg_stored.specs.Checkpoint.{is_by_name}
+use Rattle.cg_stored.specs.Agreeing.{is_by_name}
 use Rattle.cg_stored.proofs.agreement.is_by_name.Given as goal
 
 abbrev pub invariant-loop-first : goal.invariant-loop-first

@@ -1,5 +1,5 @@
 use Rattle.std.proofs.Common.{◌≡◌, length}
-use Rattle.cg_stored.specs.Change.{is_distinct}
+use Rattle.cg_stored.specs.Following.{is_distinct}
 use Rattle.cg_stored.proofs.agreement.is_distinct.Given as goal
 
 abbrev pub invariant-loop-first : goal.invariant-loop-first

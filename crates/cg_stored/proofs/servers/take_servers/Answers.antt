@@ -4,7 +4,7 @@ use Rattle.cg_codec.specs.declared.fault.CodecFault.TheVariants.{NoMemory}
 use Rattle.cg_codec.specs.Reading.{take_count}
 use Rattle.cg_codec.specs.Taking.{unread_of}
 use Rattle.cg_codec.specs.ItemLaws.{items_stop, items_end}
-use Rattle.cg_members.specs.Servers.{server_ids}
+use Rattle.cg_members.specs.Listed.{server_ids}
 use Rattle.cg_records.specs.Reading.{last_of}
 use Rattle.cg_records.specs.AscendingLaws.{AllBelow-more}
 use Rattle.cg_records.specs.RecordLaws.{map-push}

@@ -1,5 +1,5 @@
 use Rattle.cg_codec.specs.Taking.{unread_of}
-use Rattle.cg_members.specs.Servers.{server_ids}
+use Rattle.cg_members.specs.Listed.{server_ids}
 use Rattle.cg_records.specs.Reading.{last_of}
 use Rattle.cg_records.specs.ItemLoopLaws.{ReadSoFar}
 use Rattle.cg_stored.specs.Reading.{server_reading, servers_reading}

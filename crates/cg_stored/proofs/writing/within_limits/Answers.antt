@@ -2,7 +2,7 @@ use Rattle.std.proofs.Common.{◌≡◌, subst, ap, arith}
 use Rattle.cg_base.specs.Sets.{IsId, IsSet}
 use Rattle.cg_db.specs.Map.{Ascends}
 use Rattle.cg_members.specs.declared.members.Members.{Members}
-use Rattle.cg_members.specs.Servers.{AreServers}
+use Rattle.cg_members.specs.Listed.{AreServers}
 use Rattle.cg_queue.specs.Queue.{green_count}
 use Rattle.cg_records.specs.Limits.{IsStable}
 use Rattle.cg_stored.proofs.writing.within_limits.Goals as goal

@@ -1,5 +1,6 @@
 use Rattle.std.proofs.Common.{subst, sym}
-use Rattle.cg_queue.specs.Queue.{QueueView, AreReds}
+use Rattle.cg_queue.specs.Answers.{AreReds}
+use Rattle.cg_queue.specs.Queue.{QueueView}
 use Rattle.cg_client.proofs.Keeping.{after_names}
 use Rattle.cg_client.proofs.known.Known.set_yellow.Goals as goal
 

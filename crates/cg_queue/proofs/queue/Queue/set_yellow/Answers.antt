@@ -1,8 +1,9 @@
 use Rattle.std.proofs.Common.{◌∙◌, ap, sym, subst}
-use Rattle.cg_queue.specs.Queue.{QueueView, AreReds}
+use Rattle.cg_queue.specs.Queue.{QueueView}
 use Rattle.cg_queue.specs.Body.{seen, parts_of, IsSound, renamed}
 use Rattle.cg_queue.proofs.Renaming.{renamed-sound, renamed-view}
 use Rattle.cg_queue.proofs.queue.Queue.set_yellow.Goals as goal
+use Rattle.cg_queue.specs.Answers.{AreReds}
 
 pub invariant_of-self : goal.invariant_of-self
 invariant_of-self c =

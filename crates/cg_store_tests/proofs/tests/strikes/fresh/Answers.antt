@@ -1,6 +1,6 @@
 use Rattle.std.proofs.Common.{sym, ◌∙◌, ap, subst}
 use Rattle.cg_client.specs.Whitening.{with_white}
-use Rattle.cg_stored.specs.Checkpoint.{Agrees}
+use Rattle.cg_stored.specs.Agreeing.{Agrees}
 use Rattle.cg_stored.specs.Stored.{stored_of}
 use Rattle.cg_store_tests.proofs.Attempting.{fresh_agrees}
 use Rattle.cg_store_tests.proofs.tests.strikes.fresh.Goals as goal

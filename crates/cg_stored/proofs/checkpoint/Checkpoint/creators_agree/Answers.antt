@@ -1,9 +1,9 @@
 use Rattle.std.proofs.Common.{◌≡◌, ◌+◌, ◌-◌, true, refl, sym, ◌∙◌, rules, arith}
 use Rattle.cg_base.specs.Sets.{every_replica}
-use Rattle.cg_stored.specs.Checkpoint.{counts_up}
 use Rattle.cg_stored.specs.Parts.{queue_in}
 use Rattle.cg_stored.proofs.Agreeing.{all-step}
 use Rattle.cg_stored.proofs.checkpoint.Checkpoint.creators_agree.Goals as goal
+use Rattle.cg_stored.specs.Agreeing.{counts_up}
 
 pub loop-place-init : goal.loop-place-init
 unfolding every_replica
