@@ -1,6 +1,6 @@
 -- How actions are read, field by field from the left.
 use Rattle.std.specs.Prelude.{ℕ, ◌==◌, nat_lt, nat_le, ◌^◌, Bool, true, false, ◌&&◌, List, length, ℤ, pos, negsuc, Option, Some, None, if◌then◌else◌}
-use Rattle.cg_codec.specs.Reading.{Reading, ◌>>=◌, done, only, take_u64, take_i64, take_text, take_optional, take_list}
+use Rattle.cg_codec.specs.Reading.{Reading, ◌>>=◌, done, only, take_u64, take_i64, take_text, take_optional, take_list, byte_between}
 use Rattle.cg_base.specs.declared.action_id.ActionId.{ActionId}
 use Rattle.cg_action.specs.declared.value.Value.{Value}
 use Rattle.cg_action.specs.declared.value.Value.TheVariants.{Text, Int}

@@ -41,6 +41,7 @@ impl<'a> Fields<'a> {
 
     /// Takes one byte.
     #[tactic(auto, unfolding(crate::specs::Reading::take_u8))]
+    #[inline(always)]
     pub fn take_u8(&mut self) -> Result<u8, CodecFault>
         ensures { Takes (λ x. x) take_u8 (unread_of self.old) (unread_of self.new) result }
     {
@@ -56,6 +57,7 @@ impl<'a> Fields<'a> {
 
     /// Takes one byte, from `low` to `high`. Another one is `Bad`.
     #[tactic(auto, unfolding(crate::specs::Reading::byte_between))]
+    #[inline(always)]
     pub fn take_between(&mut self, low: u8, high: u8) -> Result<u8, CodecFault>
         ensures { Takes (λ x. x) (byte_between low high) (unread_of self.old) (unread_of self.new) result }
     {
@@ -70,6 +72,7 @@ impl<'a> Fields<'a> {
 
     /// Takes a number of four bytes.
     #[tactic(auto, unfolding(crate::specs::Reading::take_u32))]
+    #[inline(always)]
     pub fn take_u32(&mut self) -> Result<u32, CodecFault>
         ensures { Takes (λ x. x) take_u32 (unread_of self.old) (unread_of self.new) result }
     {
@@ -82,6 +85,7 @@ impl<'a> Fields<'a> {
 
     /// Takes a number of eight bytes.
     #[tactic(auto, unfolding(crate::specs::Reading::take_u64))]
+    #[inline(always)]
     pub fn take_u64(&mut self) -> Result<u64, CodecFault>
         ensures { Takes (λ x. x) take_u64 (unread_of self.old) (unread_of self.new) result }
     {
@@ -119,6 +123,7 @@ impl<'a> Fields<'a> {
 
     /// Takes the number of items of a list, in four bytes. A number above `max` is `Bad`.
     #[tactic(auto, unfolding(crate::specs::Reading::take_count))]
+    #[inline(always)]
     pub fn take_count(&mut self, max: u32) -> Result<u32, CodecFault>
         ensures { Takes (λ x. x) (take_count max) (unread_of self.old) (unread_of self.new) result }
     {
@@ -165,6 +170,7 @@ impl<'a> Fields<'a> {
     }
 
     // the next bytes, behind which the reader then stands
+    #[inline(always)]
     fn skip(&mut self, count: usize) -> &'a [u8]
         requires { count ≤ length self.old.rest.now }
         ensures front { result.now ≡ take count self.old.rest.now }
@@ -176,6 +182,7 @@ impl<'a> Fields<'a> {
         front
     }
 
+    #[inline(always)]
     fn short(&self) -> CodecFault
         ensures { result ≡ CodecFault.Short (unread_of self.now).at }
     {
@@ -185,6 +192,7 @@ impl<'a> Fields<'a> {
     }
 
     /// The fault that the field that begins here has no such value.
+    #[inline(always)]
     pub fn bad(&self) -> CodecFault
         ensures { result ≡ CodecFault.Bad (unread_of self.now).at }
     {

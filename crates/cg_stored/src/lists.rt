@@ -15,6 +15,9 @@ use cg_base::{ActionId, IdList, NoMemory, Row};
 use cg_codec::{CodecFault, Fields, put_u32};
 use std::alloc::Global;
 
+// A list has room for at most so many things before any was read: the number in front of them may be wrong.
+const FIRST_ROOM: u32 = 64;
+
 /// Takes actions, in any order: how many, and these.
 #[tactic(auto, unfolding(crate::specs::Reading::actions_reading))]
 pub(crate) fn take_actions(alloc: Global, fields: &mut Fields<'_>) -> Result<ActionList, CodecFault>
@@ -22,7 +25,7 @@ pub(crate) fn take_actions(alloc: Global, fields: &mut Fields<'_>) -> Result<Act
 {
     let mut after = *fields;
     let count = after.take_count(u32::MAX)?;
-    let mut actions = Row::new(alloc);
+    let mut actions = Row::with_capacity(alloc, count.min(FIRST_ROOM) as usize)?;
     for _ in 0..count {
         actions.push(take_action(alloc, &mut after)?)?;
     }
@@ -37,7 +40,7 @@ pub(crate) fn take_ids(alloc: Global, fields: &mut Fields<'_>) -> Result<IdList,
 {
     let mut after = *fields;
     let count = after.take_count(u32::MAX)?;
-    let mut ids = Row::new(alloc);
+    let mut ids = Row::with_capacity(alloc, count.min(FIRST_ROOM) as usize)?;
     for _ in 0..count {
         let id = take_action_id(&mut after)?;
         ids.push(id)?;
