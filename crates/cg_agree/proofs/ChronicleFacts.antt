@@ -1,5 +1,5 @@
 -- What is found in a chronicle behind a turn.
-use Rattle.std.proofs.Common.{◌≡◌, ℕ, Bool, true, false, cond, List, [], ◌∷◌, ◌++◌, Option, Some, None, find, refl, sym, ap, ◌∙◌, eqb-true, eq-eqb, option_map, nat_lt, ◌&&◌}
+use Rattle.std.proofs.Common.{◌≡◌, ℕ, Bool, true, false, cond, List, [], ◌∷◌, ◌++◌, Option, Some, None, find, refl, sym, ap, ◌∙◌, eqb-true, eq-eqb, option_map, nat_lt}
 use Rattle.std.specs.Prelude.{◌==◌}
 use Rattle.std.specs.Option.{option_map_or}
 use Rattle.std.proofs.lemmas.Bool.{cond-true, cond-false, cond_both, ne_eqb, eqb-false}
@@ -8,10 +8,10 @@ use Rattle.cg_client.specs.Turn.{Turn}
 use Rattle.cg_step.specs.Crash.{Disk}
 use Rattle.cg_group.specs.LookupLaws.{at-cond}
 use Rattle.cg_agree.specs.World.{Life, World, seat_of, set_life}
-use Rattle.cg_agree.specs.Chronicle.{Past, Told, Attempt, Chronicle}
-use Rattle.cg_agree.specs.Looks.{past_of, greens_of, told_in}
-use Rattle.cg_agree.specs.Small.{after_turn, newly_green, with_greens, with_past, changed_attempt, with_installer, told_with}
-use Rattle.cg_agree.proofs.Keyed.{found-changed, find-append}
+use Rattle.cg_agree.specs.Chronicle.{Past, Chronicle}
+use Rattle.cg_agree.specs.Looks.{past_of, greens_of}
+use Rattle.cg_agree.specs.Small.{after_turn, newly_green, with_greens, with_past}
+use Rattle.cg_agree.proofs.Keyed.{found-changed}
 use Rattle.cg_agree.specs.SeatLaws.{found-seat}
 
 -- one seat has another life, and every other one is as before
@@ -56,13 +56,3 @@ past-begun (x ∷ pasts) new q absent =
       swapped true true x y o h = absurd (let clash : true ≡ false = h refl in cc)
       swapped true false x y o h = refl
       swapped false b x y o h = refl
-
--- what was told stays
-pub told_in-turn : (c : Chronicle) (p : ℕ) (r : Replica) (disk : Disk) (t : Turn) (conf q : ℕ) (x : Told) → told_in c conf q ≡ Some x →
-    told_in (after_turn c p r disk t) conf q ≡ Some x
-told_in-turn c p r disk t conf q x is = find-append (λ (y : Told). (y.summary.conf == conf) && (y.summary.id == q)) c.told (told_with (greens_of c p) t.sent) x is
-
--- the attempts behind an installation
-pub attempt_of-installed : (attempts : List Attempt) (p conf q : ℕ) →
-    find (λ a. a.conf == q) (changed_attempt (with_installer p) conf attempts) ≡ cond (q == conf) (option_map (with_installer p) (find (λ a. a.conf == q) attempts)) (find (λ a. a.conf == q) attempts)
-attempt_of-installed attempts p conf q = found-changed (λ (a : Attempt). a.conf) (with_installer p) (λ a. refl) conf attempts q

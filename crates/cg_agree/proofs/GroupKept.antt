@@ -23,11 +23,11 @@ use Rattle.cg_agree.specs.World.{Up, World, replica_of, has_begun}
 use Rattle.cg_agree.specs.Step.{begin_replica}
 use Rattle.cg_agree.specs.Chronicle.{Chronicle}
 use Rattle.cg_agree.specs.Looks.{conf_of, is_regular_at, members_in, ordered_in, received_by_all}
-use Rattle.cg_agree.specs.FactsNet.{PhaseSound, IsPhase, ReceiptsInside, SenderClosed, HandedReceived, Seated}
+use Rattle.cg_agree.specs.FactsNet.{PhaseSound, IsPhase, HandedReceived, Seated}
 use Rattle.cg_agree.specs.Small.{Small, Starts, Makes, Enters, Orders, Receives, Hands, Leaves, Asks, Settles, Commits, Crashes, Recovers, Copies, Joins, small_step, with_group, newest_conf, take_request}
 use Rattle.cg_agree.specs.Smalls.{may_make, is_running, ascend_within, hold_received, hold_earlier}
 use Rattle.cg_agree.proofs.ConfSound.{ConfSound, by_all, receipt-sound, message-sound}
-use Rattle.cg_agree.proofs.GroupSound.{GroupSound, ConfStep, inside-of, closed-of, sound-one, sound-grown, sound-made}
+use Rattle.cg_agree.proofs.GroupSound.{GroupSound, ConfStep, sound-one, sound-grown, sound-made}
 use Rattle.cg_agree.proofs.GroupTurn.{put-same}
 use Rattle.cg_agree.proofs.HandsKept.{regular-phase, next-there}
 use Rattle.cg_agree.proofs.NextThere.{orders-now, ReceivesNow, receives-now}
@@ -225,12 +225,6 @@ group-kept c (Joins joiner) seats m old = alone-sound c (small_step c (Joins joi
 
 pub phase_sound-kept : (c : Chronicle) (s : Small) → Seated c → may_make c s ≡ true → GroupSound c → PhaseSound (small_step c s)
 phase_sound-kept c s seats may old = (group-kept c s seats may old).phases
-
-pub receipts_inside-kept : (c : Chronicle) (s : Small) → Seated c → may_make c s ≡ true → GroupSound c → ReceiptsInside (small_step c s)
-receipts_inside-kept c s seats may old = inside-of (small_step c s) (group-kept c s seats may old)
-
-pub sender_closed-kept : (c : Chronicle) (s : Small) → Seated c → may_make c s ≡ true → GroupSound c → SenderClosed (small_step c s)
-sender_closed-kept c s seats may old = closed-of (small_step c s) (group-kept c s seats may old)
 
 pub handed_received-kept : (c : Chronicle) (s : Small) → Seated c → may_make c s ≡ true → GroupSound c → HandedReceived (small_step c s)
 handed_received-kept c s seats may old = (group-kept c s seats may old).handed

@@ -199,7 +199,6 @@ pub mod BookedCores
 pub mod BookCounts
 pub mod MadeOnceKept
 pub mod NothingStands
-pub mod AlwaysRests
 pub mod SummariesKept
 pub mod KnowsOn
 pub mod GreensFront

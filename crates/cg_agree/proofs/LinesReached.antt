@@ -6,8 +6,7 @@ use Rattle.std.specs.Option.{option_map_or}
 use Rattle.std.proofs.lemmas.Bool.{cases_eq, cond-true, cond-false, and_parts, ne_eqb}
 use Rattle.cg_base.specs.declared.weighted.Weighted.{Weighted}
 use Rattle.cg_base.specs.Text.{is_nil}
-use Rattle.cg_members.specs.Listed.{line_of}
-use Rattle.cg_members.specs.Servers.{starting, members_of}
+use Rattle.cg_members.specs.Servers.{starting}
 use Rattle.cg_agree.specs.World.{has_begun}
 use Rattle.cg_agree.specs.Chronicle.{Told, Chronicle}
 use Rattle.cg_agree.specs.Looks.{greens_of, told_in, ordered_in, is_member}
@@ -21,7 +20,7 @@ use Rattle.cg_agree.proofs.ToldKept.{IsUntold, told-same, told_in-same}
 use Rattle.cg_agree.proofs.PastKept.{EntersNow, enters-now, entry_told, told_in-enters}
 use Rattle.cg_agree.proofs.BookedCores.{each-booked}
 use Rattle.cg_agree.proofs.CopiesBooked.{greens-on_line}
-use Rattle.cg_agree.proofs.LinesTold.{JoinsBelow, joins-below, greens-below, first-lines}
+use Rattle.cg_agree.proofs.LinesTold.{JoinsBelow, joins-below}
 use Rattle.cg_agree.proofs.LinesMade.{below-each, named-fine, reached, joined}
 use Rattle.cg_agree.proofs.LinesBelowKept.{Beginnings}
 use Rattle.cg_agree.proofs.LevelsKept.{start-kept}
@@ -34,11 +33,6 @@ pub record ReachedBy (start : List Weighted) (by of : Told) : Type 0 where
 
 abbrev pub LinesReached : Chronicle → Type 0
 LinesReached c = (conf p q : ℕ) (by of : Told) → told_in c conf p ≡ Some by → told_in c conf q ≡ Some of → ReachedBy c.start by of
-
--- what it is for: no line that some member has of another is above what that one has told
-pub line-reached : (start : List Weighted) (by of : Told) → ReachedBy start by of → line_of (members_of start by.greens).servers of.summary.id ≤ of.summary.green_count
-line-reached start by of has =
-    greens-below by.greens (starting start) 0 of.summary.id of.summary.green_count has.joins has.lines (let none = first-lines start of.summary.id in omega arith)
 
 -- ---- it is so of the greens that all have
 

@@ -16,20 +16,20 @@ use Rattle.cg_client.specs.Replica.{Held, Replica}
 use Rattle.cg_step.specs.Step.{Input, Deliveries, Asks as AsksOf}
 use Rattle.cg_schedule.specs.declared.event.Event.{Event}
 use Rattle.cg_schedule.specs.declared.event.Event.TheVariants.{Start, Split, Merge, Request, Weak, Dirty, Order, Recover, Show, ShowOrder, Gather, End, Receive, Deliver, Rounds, Stop, Fail, Join, Leave, Transfer}
-use Rattle.cg_agree.specs.World.{Seat, running, World, no_world, replica_of, left_replicas}
+use Rattle.cg_agree.specs.World.{Seat, running, World, replica_of, left_replicas}
 use Rattle.cg_agree.specs.Admission.{first_refusal, unknown, has_left, takes_part, never_named, begun_already, joiner_left, not_green}
 use Rattle.cg_agree.specs.Run.{MayStand}
 use Rattle.cg_agree.specs.Looks.{told_in, snapshot_of, disk_held}
 use Rattle.cg_agree.specs.Step.{world_step, snapshot_for}
-use Rattle.cg_agree.specs.Chronicle.{Chronicle, no_chronicle}
+use Rattle.cg_agree.specs.Chronicle.{Chronicle}
 use Rattle.cg_agree.specs.Turns.{turns_of, taken}
 use Rattle.cg_agree.specs.Small.{Small, Makes, Enters, Orders, Receives, Hands, Asks, Settles, Copies, Joins, small_step}
 use Rattle.cg_agree.specs.Smalls.{is_between, smalls_in, turns_as, ending, leaving_steps, copy_steps, join_steps, gather_steps, missing}
 use Rattle.cg_agree.specs.FactsLists.{IsRising}
 use Rattle.cg_agree.specs.FactsReplica.{IsModeData, GoesOn, IsAsOnDisk}
-use Rattle.cg_agree.specs.Facts.{Invariant, Rests}
-use Rattle.cg_agree.specs.Played.{IsSame, IsWritten, MayBeMade, KeptBySmalls, StandsBeside, MadeOfSmalls, AreAdmitted, HoldsFrom, AlwaysHolds, with_world}
-use Rattle.cg_agree.specs.Noting.{played, chronicle_step}
+use Rattle.cg_agree.specs.Facts.{Invariant}
+use Rattle.cg_agree.specs.Played.{IsSame, IsWritten, MayBeMade, KeptBySmalls, StandsBeside, MadeOfSmalls}
+use Rattle.cg_agree.specs.Noting.{played}
 use Rattle.cg_agree.proofs.Standings.{rising-lower}
 use Rattle.cg_agree.proofs.UnorderedKept.{first-none}
 use Rattle.cg_agree.proofs.MadeQuietly.{IsMadeIn, order-made, receive-made, weak-made, dirty-made, show-made, show_order-made, fail-made, armed-made, start-made}
@@ -246,18 +246,3 @@ made-of-smalls c w e stands stand admitted =
 facts-along : KeptBySmalls → (smalls : List Small) (c : Chronicle) → Invariant c → MayBeMade c smalls → Invariant (played c smalls)
 facts-along kept [] c facts may = facts
 facts-along kept (s ∷ smalls) c facts may = facts-along kept smalls (small_step c s) (kept c s facts may.0 may.1).0 may.2
-
--- where small steps keep the facts, and all is at rest behind each event, the facts hold behind all of them
-pub always-holds : KeptBySmalls → StandsBeside no_chronicle no_world →
-    ((c : Chronicle) (w : World) (e : Event) → StandsBeside c w → MayStand w e → first_refusal w e ≡ None → Invariant (chronicle_step c w e) → Rests (with_world (chronicle_step c w e) (world_step w e).world)) →
-    AlwaysHolds
-always-holds kept first rests events admitted = from no_chronicle no_world events first admitted where
-  from : (c : Chronicle) (w : World) (events : List Event) → StandsBeside c w → AreAdmitted w events → HoldsFrom c w events
-  from c w [] stands admitted = stands
-  from c w (e ∷ events) stands admitted =
-      let made = made-of-smalls c w e stands admitted.0 admitted.1 in
-      let facts = facts-along kept (smalls_in w e) c stands.facts made.0 in (
-        stands,
-        from (chronicle_step c w e) (world_step w e).world events
-            (record { facts = facts; same = made.1; rests = rests c w e stands admitted.0 admitted.1 facts }) admitted.2,
-      )

@@ -2,7 +2,7 @@
 use Rattle.std.proofs.Common.{◌≡◌, true}
 use Rattle.cg_agree.specs.Chronicle.{Chronicle}
 use Rattle.cg_agree.specs.Facts.{Invariant}
-use Rattle.cg_agree.specs.FactsNet.{PhaseSound, ReceiptsInside, SenderClosed, HandedReceived, UnorderedRegular, MembersBegun, PastLeft, ReceiptsFixed, Seated, NetFacts}
+use Rattle.cg_agree.specs.FactsNet.{MembersBegun, ReceiptsFixed, Seated, NetFacts}
 use Rattle.cg_agree.specs.Small.{Small, small_step}
 use Rattle.cg_agree.specs.Smalls.{may_make}
 use Rattle.cg_agree.proofs.BegunKept.{members_begun-kept}
@@ -34,26 +34,8 @@ net-kept c s i m =
       past_left = past_left-kept c s i.net.seated (group-of c i) i.replica.mode_data m i.net.past_left;
     }
 
-pub phase_sound-in : (c : Chronicle) (s : Small) → Invariant c → may_make c s ≡ true → PhaseSound (small_step c s)
-phase_sound-in c s i m = (net-kept c s i m).phase_sound
-
-pub receipts_inside-in : (c : Chronicle) (s : Small) → Invariant c → may_make c s ≡ true → ReceiptsInside (small_step c s)
-receipts_inside-in c s i m = (net-kept c s i m).receipts_inside
-
-pub sender_closed-in : (c : Chronicle) (s : Small) → Invariant c → may_make c s ≡ true → SenderClosed (small_step c s)
-sender_closed-in c s i m = (net-kept c s i m).sender_closed
-
-pub handed_received-in : (c : Chronicle) (s : Small) → Invariant c → may_make c s ≡ true → HandedReceived (small_step c s)
-handed_received-in c s i m = (net-kept c s i m).handed_received
-
-pub unordered_regular-in : (c : Chronicle) (s : Small) → Invariant c → may_make c s ≡ true → UnorderedRegular (small_step c s)
-unordered_regular-in c s i m = (net-kept c s i m).unordered_regular
-
 pub members_begun-in : (c : Chronicle) (s : Small) → Invariant c → may_make c s ≡ true → MembersBegun (small_step c s)
 members_begun-in c s i m = (net-kept c s i m).members_begun
-
-pub past_left-in : (c : Chronicle) (s : Small) → Invariant c → may_make c s ≡ true → PastLeft (small_step c s)
-past_left-in c s i m = (net-kept c s i m).past_left
 
 pub seated-in : (c : Chronicle) (s : Small) → Invariant c → may_make c s ≡ true → Seated (small_step c s)
 seated-in c s i m = (net-kept c s i m).seated

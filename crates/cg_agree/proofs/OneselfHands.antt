@@ -11,14 +11,10 @@ use Rattle.cg_group.specs.Events.{delivery_at}
 use Rattle.cg_client.specs.Replica.{Replica}
 use Rattle.cg_client.specs.Turn.{begin}
 use Rattle.cg_step.specs.Step.{take}
-use Rattle.cg_agree.specs.World.{replica_of}
-use Rattle.cg_agree.specs.Chronicle.{Chronicle}
-use Rattle.cg_agree.specs.Looks.{greens_of}
-use Rattle.cg_agree.specs.Small.{Hands, take_all, take_next, handed_next, small_step}
+use Rattle.cg_agree.specs.Small.{take_all, take_next}
 use Rattle.cg_agree.proofs.HeldMarks.{IsOneself}
 use Rattle.cg_agree.proofs.HeldTurns.{Grows, keeps-none}
 use Rattle.cg_agree.proofs.HeldMessages.{FitsYellow, is_outside, message-grows}
-use Rattle.cg_agree.proofs.OneselfWorld.{AreOneself, HavePasts, turning-grows}
 
 -- a replica outside of an exchange, at which a yellow mark fits
 pub record IsOutside (r : Replica) : Type 0 where
@@ -32,9 +28,3 @@ takes-next start all r g p out is = at (at_place (home g p).ordered (suc (delive
   at : (o : Option (Sent Msg)) → Grows start r.held (take_all (option_map_or (λ s. Message (suc (delivered_to g p)) s.from s.message ∷ []) o []) (begin r)).replica.held all
   at None = keeps-none start all (begin r) is
   at (Some s) = message-grows r.state s.from s.message start all (begin r) out.outside out.yellow is
-
-pub hands-oneself : (c : Chronicle) (p : ℕ) → HavePasts c → ((r : Replica) → replica_of c.world p ≡ Some r → IsOutside r) → AreOneself c → AreOneself (small_step c (Hands p))
-unfolding small_step
-hands-oneself c p pasts out before =
-    let handed : AreOneself (handed_next c p) = record { memory = before.memory; disk = before.disk; snapshot = before.snapshot } in
-    turning-grows (handed_next c p) p (take_next c.world.group p) pasts (λ r e is. takes-next c.start (greens_of c p) r c.world.group p (out r e) is) handed

@@ -2,19 +2,17 @@
 use Rattle.std.proofs.Common.{◌≡◌, ℕ, ◌≢◌, true, false, not, List, [], ◌∷◌, Option, Some, None, IfSome, is_some, find, filter, refl, sym, ap, ◌∙◌, subst, inl, inr, eq-eqb}
 use Rattle.std.specs.Prelude.{◌==◌}
 use Rattle.std.specs.Option.{option_map_or}
-use Rattle.std.proofs.lemmas.Bool.{cases_eq, cond-true, cond-false, ne_eqb, and_parts, not-true}
-use Rattle.cg_members.specs.Servers.{is_server}
+use Rattle.std.proofs.lemmas.Bool.{cases_eq, cond-true, cond-false, ne_eqb}
 use Rattle.cg_client.specs.Replica.{Held}
 use Rattle.cg_step.specs.Crash.{new_disk}
-use Rattle.cg_agree.specs.World.{Up, Snapshot, has_begun}
+use Rattle.cg_agree.specs.World.{Up, Snapshot}
 use Rattle.cg_agree.specs.Step.{joined, without_snapshot}
 use Rattle.cg_agree.specs.Chronicle.{Past, Copy, Chronicle}
 use Rattle.cg_agree.specs.Looks.{past_of, snapshot_of, copied_for}
-use Rattle.cg_agree.specs.Small.{Joins, join_with, new_past, small_step}
-use Rattle.cg_agree.specs.Smalls.{may_make}
+use Rattle.cg_agree.specs.Small.{join_with, new_past}
 use Rattle.cg_agree.proofs.ChronicleFacts.{seat_of-set, past-begun}
 use Rattle.cg_agree.proofs.HeldMarks.{IsOneself}
-use Rattle.cg_agree.proofs.OneselfWorld.{AreOneself, HavePasts, reseated}
+use Rattle.cg_agree.proofs.OneselfWorld.{AreOneself, reseated}
 use Rattle.cg_agree.proofs.OneselfCopies.{found-without}
 
 module _ {X : Type 0} (key : X → ℕ) where
@@ -64,15 +62,3 @@ module _ (c : Chronicle) (joiner : ℕ) (content : Held) (before : AreOneself c)
         other_disks = λ q apart. ap (λ (o : Option Past). option_map_or (λ x. x.stood) o []) (found-other q apart);
       })
       is is snapshots before
-
-pub joins-oneself : (c : Chronicle) (joiner : ℕ) → HavePasts c → may_make c (Joins joiner) ≡ true → AreOneself c → AreOneself (small_step c (Joins joiner))
-unfolding small_step may_make
-joins-oneself c joiner pasts may before = at (snapshot_of c.world joiner) (before.snapshot joiner) where
-  absent : past_of c joiner ≡ None
-  absent = none-of (past_of c joiner) (pasts joiner
-      ∙ not-true (has_begun c.world joiner) (and_parts (not (has_begun c.world joiner)) (option_map_or (λ s. is_server s.content.members joiner) (snapshot_of c.world joiner) false) may).0)
-
-  at : (o : Option Snapshot) → IfSome o (λ s. IsOneself c.start (joined joiner s.content).held (copied_for c joiner)) →
-      AreOneself (option_map_or (λ s. join_with c joiner s.content) o c)
-  at None is = before
-  at (Some s) is = join-oneself c joiner s.content before absent is

@@ -1,26 +1,24 @@
 -- The facts of each replica by itself through the small steps of one replica: a new configuration, a request, a commit, a crash,
 -- a recovery, and a joiner's beginning.
-use Rattle.std.proofs.Common.{◌≡◌, ℕ, ◌≢◌, cond, List, [], Option, Some, None, IfSome, refl, sym, ap, ap₂, ◌∙◌, subst, eqb-true, eq-eqb, option_map}
+use Rattle.std.proofs.Common.{◌≡◌, ℕ, ◌≢◌, cond, List, [], Option, Some, None, IfSome, refl, sym, ap, ◌∙◌, subst, eq-eqb, option_map}
 use Rattle.std.specs.Prelude.{◌==◌, option_and_then}
 use Rattle.std.specs.Option.{option_map_or}
 use Rattle.std.proofs.lemmas.Bool.{cond-true, cond-false, ne_eqb}
 use Rattle.cg_base.specs.declared.action_id.ActionId.{ActionId}
 use Rattle.cg_action.specs.declared.action.Action.{Action}
-use Rattle.cg_action.specs.declared.action.Kind.{Kind}
 use Rattle.cg_group.specs.State.{configuration}
 use Rattle.cg_client.specs.Replica.{Held, Replica}
 use Rattle.cg_stored.specs.Stored.{stored_of, whiten}
 use Rattle.cg_step.specs.Crash.{Disk, crash_now, recovered, disk_recovered}
-use Rattle.cg_agree.specs.World.{Life, Up, Down, Seat, running, seat_of}
+use Rattle.cg_agree.specs.World.{Up, Down, Seat, running, seat_of}
 use Rattle.cg_agree.specs.Step.{joined}
 use Rattle.cg_agree.specs.Chronicle.{Past, Chronicle}
-use Rattle.cg_agree.specs.Looks.{past_of, greens_of, stood_of, on_disk, disk_held, snapshot_of, copied_for}
-use Rattle.cg_agree.specs.Small.{Enters, Asks, Commits, Crashes, Recovers, changed_past, written, struck, coming, take_newest, newest_conf, commit_as, crash_as, recover_as, take_request, small_step}
+use Rattle.cg_agree.specs.Looks.{past_of, greens_of, stood_of, on_disk, snapshot_of, copied_for}
+use Rattle.cg_agree.specs.Small.{Enters, changed_past, written, struck, coming, take_newest, newest_conf, commit_as, crash_as, recover_as, small_step}
 use Rattle.cg_agree.proofs.ChronicleFacts.{seat_of-set}
 use Rattle.cg_agree.proofs.Keyed.{found-changed}
-use Rattle.cg_agree.proofs.HandSays.{find-holds}
 use Rattle.cg_agree.proofs.HeldMarks.{IsOneself}
-use Rattle.cg_agree.proofs.HeldCommit.{white-oneself, stored-oneself, recovered-oneself, recovered-id, keeps-take_regular, keeps-request}
+use Rattle.cg_agree.proofs.HeldCommit.{white-oneself, stored-oneself, recovered-oneself, recovered-id, keeps-take_regular}
 use Rattle.cg_agree.proofs.OneselfWorld.{AreOneself, HavePasts, reseated, turning-kept}
 
 abbrev life_in : Option Seat → Option Replica
@@ -35,10 +33,6 @@ enters-oneself c p pasts before =
     let g = c.world.group in
     let come : AreOneself (coming c p) = record { memory = before.memory; disk = before.disk; snapshot = before.snapshot } in
     turning-kept (coming c p) p (take_newest g) pasts (keeps-take_regular (newest_conf g) (configuration g (newest_conf g)).members) come
-
-pub asks-oneself : (c : Chronicle) (p : ℕ) (kind : Kind) → HavePasts c → AreOneself c → AreOneself (small_step c (Asks p kind))
-unfolding small_step
-asks-oneself c p kind pasts before = turning-kept c p (take_request kind) pasts (keeps-request kind) before
 
 -- ---- what was noted of greens
 
@@ -113,32 +107,6 @@ module _ (c : Chronicle) (p : ℕ) (r : Replica) (disk : Disk) (seat : seat_of c
       })
       tt standing snapshots before
 
-pub commits-oneself : (c : Chronicle) (p : ℕ) → AreOneself c → AreOneself (small_step c (Commits p))
-unfolding small_step
-commits-oneself c p before = at (seat_of c.world p) refl where
-  life : (s : Seat) (life : Life) → s.life ≡ life → s.id ≡ p → seat_of c.world p ≡ Some s → AreOneself (commit_as c p life)
-  life s (Up r disk) is id e = commit-oneself c p r disk (e ∙ ap₂ (λ i l. Some (record { id = i; life = l })) id is) before
-  life s (Down disk green) is id e = before
-
-  at : (o : Option Seat) → seat_of c.world p ≡ o → AreOneself (option_map_or (λ s. commit_as c p s.life) o c)
-  at None e = before
-  at (Some s) e = life s s.life refl (eqb-true s.id p (find-holds (λ (s : Seat). s.id == p) c.world.seats s e)) e
-
--- the snapshots behind a step are as the facts want it
-abbrev pub AreSnapshots : Chronicle → Type 0
-AreSnapshots d = (joiner : ℕ) → IfSome (snapshot_of d.world joiner) (λ s. IsOneself d.start (joined joiner s.content).held (copied_for d joiner))
-
-pub crashes-oneself : (c : Chronicle) (p : ℕ) → AreSnapshots (small_step c (Crashes p)) → AreOneself c → AreOneself (small_step c (Crashes p))
-unfolding small_step
-crashes-oneself c p snapshots before = at (seat_of c.world p) refl snapshots where
-  life : (s : Seat) (life : Life) → s.life ≡ life → s.id ≡ p → seat_of c.world p ≡ Some s → AreSnapshots (crash_as c p life) → AreOneself (crash_as c p life)
-  life s (Up r disk) is id e left = crash-oneself c p r disk (e ∙ ap₂ (λ i l. Some (record { id = i; life = l })) id is) before left
-  life s (Down disk green) is id e left = before
-
-  at : (o : Option Seat) → seat_of c.world p ≡ o → AreSnapshots (option_map_or (λ s. crash_as c p s.life) o c) → AreOneself (option_map_or (λ s. crash_as c p s.life) o c)
-  at None e left = before
-  at (Some s) e left = life s s.life refl (eqb-true s.id p (find-holds (λ (s : Seat). s.id == p) c.world.seats s e)) e left
-
 -- ---- a recovery
 
 module _ (c : Chronicle) (p : ℕ) (disk : Disk) (green : List ActionId) (seat : seat_of c.world p ≡ Some (record { id = p; life = Down disk green }))
@@ -161,18 +129,3 @@ module _ (c : Chronicle) (p : ℕ) (disk : Disk) (green : List ActionId) (seat :
         other_disks = λ q apart. refl;
       })
       (subst (IsOneself c.start (recovered disk).held) (sym one) (recovered-oneself c.start disk.content (stood_of c p) down)) down before.snapshot before
-
--- where what is noted as green of a replica that is down is what stands on its disk
-pub recovers-oneself : (c : Chronicle) (p : ℕ) → ((q : ℕ) → IfSome (disk_held c.world q) (λ h. h.id ≡ q)) → greens_of c p ≡ stood_of c p →
-    AreOneself c → AreOneself (small_step c (Recovers p))
-unfolding small_step
-recovers-oneself c p ids one before = at (seat_of c.world p) refl where
-  life : (s : Seat) (life : Life) → s.life ≡ life → s.id ≡ p → seat_of c.world p ≡ Some s → AreOneself (recover_as c life)
-  life s (Up r disk) is id e = before
-  life s (Down disk green) is id e =
-      let seat : seat_of c.world p ≡ Some (record { id = p; life = Down disk green }) = e ∙ ap₂ (λ i l. Some (record { id = i; life = l })) id is in
-      recover-oneself c p disk green seat (subst (λ (o : Option Held). IfSome o (λ h. h.id ≡ p)) (ap disk_in seat) (ids p)) one before
-
-  at : (o : Option Seat) → seat_of c.world p ≡ o → AreOneself (option_map_or (λ s. recover_as c s.life) o c)
-  at None e = before
-  at (Some s) e = life s s.life refl (eqb-true s.id p (find-holds (λ (s : Seat). s.id == p) c.world.seats s e)) e

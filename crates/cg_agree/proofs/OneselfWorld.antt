@@ -6,18 +6,17 @@ use Rattle.std.proofs.lemmas.Bool.{cases_eq, cond-true, cond-false, ne_eqb}
 use Rattle.cg_action.specs.declared.action.Action.{Action}
 use Rattle.cg_client.specs.Replica.{Held, Replica}
 use Rattle.cg_client.specs.Turn.{Turn, begin}
-use Rattle.cg_client.specs.Requests.{settle}
 use Rattle.cg_step.specs.Crash.{Disk}
 use Rattle.cg_agree.specs.World.{Life, Up, Down, Seat, running, seat_of, replica_of, has_begun}
 use Rattle.cg_agree.specs.Step.{joined}
 use Rattle.cg_agree.specs.Chronicle.{Past, Chronicle}
 use Rattle.cg_agree.specs.Looks.{past_of, greens_of, stood_of, on_disk, disk_held, snapshot_of, copied_for, OfCores}
-use Rattle.cg_agree.specs.Small.{Orders, Receives, Makes, Settles, after_turn, turning, turning_as, newly_green, with_greens, small_step}
+use Rattle.cg_agree.specs.Small.{after_turn, turning, turning_as, newly_green, with_greens}
 use Rattle.cg_agree.specs.FactsReplica.{IsCore}
 use Rattle.cg_agree.proofs.ChronicleFacts.{seat_of-set, past_of-turn, greens_of-own, greens_of-other}
 use Rattle.cg_agree.proofs.HandSays.{find-holds}
 use Rattle.cg_agree.proofs.HeldMarks.{IsOneself}
-use Rattle.cg_agree.proofs.HeldTurns.{Grows, Keeps, keeps-settle}
+use Rattle.cg_agree.proofs.HeldTurns.{Grows, Keeps}
 
 abbrev pub AreOneself : Chronicle → Type 0
 AreOneself c = OfCores c (IsOneself c.start)
@@ -133,22 +132,6 @@ turning-grows c p part pasts grows before = at (seat_of c.world p) refl where
 -- a part that keeps one replica's facts at any time
 pub turning-kept : (c : Chronicle) (p : ℕ) (part : Turn → Turn) → HavePasts c → Keeps part → AreOneself c → AreOneself (turning c p part)
 turning-kept c p part pasts keeps before = turning-grows c p part pasts (λ r e is. keeps c.start (greens_of c p) (begin r) is) before
-
-pub settles-oneself : (c : Chronicle) (p : ℕ) → HavePasts c → AreOneself c → AreOneself (small_step c (Settles p))
-unfolding small_step
-settles-oneself c p pasts before = turning-kept c p settle pasts keeps-settle before
-
-pub orders-oneself : (c : Chronicle) (p : ℕ) → AreOneself c → AreOneself (small_step c (Orders p))
-unfolding small_step
-orders-oneself c p before = record { memory = before.memory; disk = before.disk; snapshot = before.snapshot }
-
-pub receives-oneself : (c : Chronicle) (p place : ℕ) → AreOneself c → AreOneself (small_step c (Receives p place))
-unfolding small_step
-receives-oneself c p place before = record { memory = before.memory; disk = before.disk; snapshot = before.snapshot }
-
-pub makes-oneself : (c : Chronicle) (set : List ℕ) → AreOneself c → AreOneself (small_step c (Makes set))
-unfolding small_step
-makes-oneself c set before = record { memory = before.memory; disk = before.disk; snapshot = before.snapshot }
 
 -- ---- as the invariant has it
 

@@ -37,13 +37,6 @@ state-yellow : (t : Turn) (a : Action) → (mark_yellow t a).replica.state ≡ t
 unfolding mark_yellow
 state-yellow t a = cond_both (is_unmade t.replica.held a) t (marked t a (marked_yellow t.replica.held.queue a)) (λ u. u.replica.state ≡ t.replica.state) (λ y. refl) (λ n. state-marked t a (marked_yellow t.replica.held.queue a))
 
--- a state is kept by every message, or goes over into one that is
-abbrev pub IsKept : (State → Type 0) → Type 0
-IsKept P = (state : State) → P state → (from : ℕ) (m : Msg) (t : Turn) → t.replica.state ≡ state → P (on_message state from m t).replica.state
-
-abbrev pub IsAlone : State → Type 0
-IsAlone state = state ≡ NonPrim false
-
 pub alone-kept : (from : ℕ) (m : Msg) (t : Turn) → t.replica.state ≡ NonPrim false → (on_message (NonPrim false) from m t).replica.state ≡ NonPrim false
 unfolding on_message
 alone-kept from (ActionMsg a) t e = state-red t a ∙ e

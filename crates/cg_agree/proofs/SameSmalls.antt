@@ -45,9 +45,6 @@ same-with w v g h e is = record { group = e; seats = is.seats; running = is.runn
 
 -- ---- two worlds that are one
 
-pub same-itself : (w : World) → IsSame w w
-same-itself w = record { group = refl; seats = refl; running = λ p. refl; disk = λ p. refl; given = λ joiner. refl }
-
 pub same-back : (w v : World) → IsSame w v → IsSame v w
 same-back w v a = record { group = sym a.group; seats = sym a.seats; running = λ p. sym (a.running p); disk = λ p. sym (a.disk p); given = λ joiner. sym (a.given joiner) }
 

@@ -112,13 +112,6 @@ module _ (c : Chronicle) (p conf place : ℕ) (regular : phase_of c.world.group 
   unfolding small_step
   receives-at said = subst (λ (h : GroupState Msg). SaidFacts (with_group c h)) (sym receive-is) (same-said c behind receive-same said)
 
-pub receives-kept : (c : Chronicle) (p place : ℕ) → PhaseSound c → is_regular c.world.group p ≡ true → SaidFacts c → SaidFacts (small_step c (Receives p place))
-receives-kept c p place sound regular said =
-    let phase = regular-phase (phase_of c.world.group p) regular in
-    let member = (subst (IsPhase c p (delivered_to c.world.group p)) phase.is (sound.phase p)).0 in
-    let range = conf-there c.world.group phase.at p member in
-    receives-at c p phase.at place phase.is range.0 range.1 said
-
 -- ---- a message gets its place
 
 refused-nothing : (b : Bool) (r : Reason) → cond b (Some r) None ≡ None → b ≡ false

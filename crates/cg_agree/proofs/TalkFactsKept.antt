@@ -4,7 +4,7 @@ use Rattle.std.proofs.lemmas.Bool.{and_parts}
 use Rattle.cg_agree.specs.World.{has_begun}
 use Rattle.cg_agree.specs.Chronicle.{Chronicle}
 use Rattle.cg_agree.specs.Facts.{Invariant}
-use Rattle.cg_agree.specs.FactsTalk.{TalkFacts, TalkLegal, SentIffDue, HeardIsTold, ModeFits, Content, ActsNumbered}
+use Rattle.cg_agree.specs.FactsTalk.{TalkFacts, TalkLegal, SentIffDue, ModeFits}
 use Rattle.cg_agree.specs.Small.{Small, Starts, Makes, Enters, Orders, Receives, Hands, Leaves, Asks, Settles, Commits, Crashes, Recovers, Copies, Joins, small_step}
 use Rattle.cg_agree.specs.Smalls.{may_make, is_running}
 use Rattle.cg_agree.proofs.ActsCreated.{talk-settles, talk-asks}
@@ -42,14 +42,5 @@ talk_legal-kept c s i m = (talk-kept c s i m).talk_legal
 pub sent_iff_due-kept : (c : Chronicle) (s : Small) → Invariant c → may_make c s ≡ true → SentIffDue (small_step c s)
 sent_iff_due-kept c s i m = (talk-kept c s i m).sent_iff_due
 
-pub heard_is_told-kept : (c : Chronicle) (s : Small) → Invariant c → may_make c s ≡ true → HeardIsTold (small_step c s)
-heard_is_told-kept c s i m = (talk-kept c s i m).heard_is_told
-
 pub mode_fits-kept : (c : Chronicle) (s : Small) → Invariant c → may_make c s ≡ true → ModeFits (small_step c s)
 mode_fits-kept c s i m = (talk-kept c s i m).mode_fits
-
-pub content-kept : (c : Chronicle) (s : Small) → Invariant c → may_make c s ≡ true → Content (small_step c s)
-content-kept c s i m = (talk-kept c s i m).content
-
-pub acts_numbered-kept : (c : Chronicle) (s : Small) → Invariant c → may_make c s ≡ true → ActsNumbered (small_step c s)
-acts_numbered-kept c s i m = (talk-kept c s i m).acts_numbered

@@ -24,7 +24,7 @@ use Rattle.cg_agree.specs.Talk.{summary_in}
 use Rattle.cg_agree.specs.FactsNet.{PhaseSound, IsPhase}
 use Rattle.cg_agree.specs.FactsTalk.{IsTransitional, IsStateIn}
 use Rattle.cg_agree.specs.FactsReplica.{IsModeData}
-use Rattle.cg_agree.specs.Small.{Settles, Asks, Commits, small_step, commit_as, turning, turning_as, after_turn, take_request}
+use Rattle.cg_agree.specs.Small.{Settles, Asks, small_step, commit_as, turning, turning_as, after_turn, take_request}
 use Rattle.cg_agree.proofs.HandSays.{find-holds}
 use Rattle.cg_agree.proofs.HandsTalk.{SaidFacts}
 use Rattle.cg_agree.proofs.CreatesTalk.{Adds, adds-create, adds-kept, creates-said}
@@ -201,14 +201,3 @@ commit-same c p r disk seat = record {
   replica = life-shown c.world p r (record r { held = whiten r.held }) disk (record disk { content = stored_of (whiten r.held) }) seat refl (white-set r.held);
   receipts = λ k q place out. refl;
 }
-
-pub commits-kept : (c : Chronicle) (p : ℕ) → SaidFacts c → SaidFacts (small_step c (Commits p))
-unfolding small_step
-commits-kept c p said = at (seat_of c.world p) refl where
-  life : (s : Seat) (life : Life) → s.life ≡ life → s.id ≡ p → seat_of c.world p ≡ Some s → SaidFacts (commit_as c p life)
-  life s (Up r disk) is id e = same-said c (commit_as c p (Up r disk)) (commit-same c p r disk (e ∙ ap₂ (λ i l. Some (record { id = i; life = l })) id is)) said
-  life s (DownLife disk green) is id e = said
-
-  at : (o : Option Seat) → seat_of c.world p ≡ o → SaidFacts (option_map_or (λ s. commit_as c p s.life) o c)
-  at None e = said
-  at (Some s) e = life s s.life refl (eqb-true s.id p (find-holds (λ (s : Seat). s.id == p) c.world.seats s e)) e

@@ -9,7 +9,7 @@ use Rattle.cg_base.specs.Cuts.{index_in, with_top, raise}
 use Rattle.cg_action.specs.declared.action.Action.{Action}
 use Rattle.cg_action.specs.Limits.{IsAction, IsActionId}
 use Rattle.cg_records.specs.Limits.{Each, IsIndex, IsName}
-use Rattle.cg_queue.specs.Queue.{QueueView, Marking, Marks, Gaps, with_red, marked_red, with_yellow, and_yellow, marked_yellow, green_count, action_of, names_of, placed_red, placed_green, discarded, resumed, marked_green}
+use Rattle.cg_queue.specs.Queue.{QueueView, Marking, Marks, Gaps, with_red, marked_red, with_yellow, and_yellow, marked_yellow, green_count, action_of, names_of, placed_red, placed_green, marked_green}
 use Rattle.cg_queue.specs.declared.mark.Mark.{Mark}
 use Rattle.cg_queue.specs.declared.mark.QueueFault.{QueueFault}
 use Rattle.cg_queue.specs.declared.mark.QueueFault.TheVariants.{Gap, NoMemory}
@@ -139,19 +139,6 @@ green_keeps : (q : QueueView) (at : ℕ) (a : Action) → AreKept q → IsAction
 green_keeps q at a kept here = keeps_if (nat_le at (green_count q)) _ _ kept (placed_green-kept q a kept here)
 
 -- ---- other calls
-
-pub resumed-kept : (white : ℕ) (cut : List ActionId) → Each (λ top. IsIndex top.index) cut → AreKept (resumed white cut)
-resumed-kept white cut all = record { greens = tt; reds = tt; green_cut = all; red_cut = all; yellow = tt }
-
-pub discarded-kept : (q : QueueView) (count : ℕ) → AreKept q → AreKept (discarded q count)
-discarded-kept q count kept =
-    record {
-      greens = Each-drop IsAction (count - q.white) q.greens kept.greens;
-      reds = kept.reds;
-      green_cut = kept.green_cut;
-      red_cut = kept.red_cut;
-      yellow = kept.yellow;
-    }
 
 pub renamed-kept : (q : QueueView) (ids : List ActionId) → AreKept q → AreReds q ids → AreKept (record q { yellow = ids })
 renamed-kept q ids kept reds =

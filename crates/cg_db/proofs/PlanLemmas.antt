@@ -9,14 +9,13 @@ use Rattle.std.proofs.lemmas.List.{nil_from_length}
 use Rattle.cg_text.specs.Order.{same_text}
 use Rattle.cg_text.specs.Numbers.{fits_i64}
 use Rattle.cg_action.specs.declared.value.Value.{Value}
-use Rattle.cg_action.specs.declared.value.Value.TheVariants.{Int}
 use Rattle.cg_action.specs.declared.command.Cmd.{Cmd}
 use Rattle.cg_db.specs.declared.entry.DbEntry.{DbEntry}
 use Rattle.cg_db.specs.declared.effect.Effect.{Effect}
 use Rattle.cg_db.specs.declared.effect.Effect.TheVariants.{Done, Aborted, Range}
 use Rattle.cg_db.specs.declared.plan.Change.{Change}
-use Rattle.cg_db.specs.Map.{value_of, put}
-use Rattle.cg_db.specs.Apply.{Ran, Changed, Aborts, Overflows, Applied, set_number, run_command, run_commands}
+use Rattle.cg_db.specs.Map.{value_of}
+use Rattle.cg_db.specs.Apply.{Ran, Changed, Aborts, Overflows, Applied, run_command, run_commands}
 use Rattle.cg_db.specs.Plan.{set_option, changed, with_changes, left_by}
 use Rattle.cg_db.proofs.ViewLemmas.{value_of-set}
 
@@ -125,12 +124,6 @@ pub fits_i64-to : (z : ℤ) → fits_i64 z ≡ true → FitsSigned w64 z
 fits_i64-to (pos n) e = let lt = ltb-true n (2 ^ 63) e in grind (arith, ints)
 fits_i64-to (negsuc n) e = let lt = ltb-true n (2 ^ 63) e in grind (arith, ints)
 
-pub set_number-fits : (db : List DbEntry) (key : List ℕ) (z : ℤ) → FitsSigned w64 z → set_number db key z ≡ Changed (put db key (Int z))
-set_number-fits db key z fits = rw (fits_i64-from z fits) refl
-
 unfit : (b : Bool) (x y : Ran) → (b ≡ true → ⊥) → cond b x y ≡ y
 unfit true x y never = absurd (never refl)
 unfit false x y never = refl
-
-pub set_number-unfit : (db : List DbEntry) (key : List ℕ) (z : ℤ) → (FitsSigned w64 z → ⊥) → set_number db key z ≡ Overflows
-set_number-unfit db key z never = unfit (fits_i64 z) (Changed (put db key (Int z))) Overflows (λ e. never (fits_i64-to z e))

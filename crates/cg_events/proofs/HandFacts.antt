@@ -26,10 +26,6 @@ find-passes p (x ∷ seats) s e = elim (cases_Bool (x.id == p)) [
   | inr other ↦ find-passes p seats s (sym (cond-false (x.id == p) (Some x) (find (λ s. s.id == p) seats) other) ∙ e)
 ]
 
-pub none_of : {X : Type 0} (o : Option X) → is_some o ≡ false → o ≡ None
-none_of None e = refl
-none_of (Some x) e = absurd (let clash : true ≡ false = e in cc)
-
 -- ---- a seat is taken out
 
 -- that of a replica that is up

@@ -1,5 +1,5 @@
 -- The snapshots under way, after one was taken out or its giver went down, and the one of which pieces are taken.
-use Rattle.std.proofs.Common.{◌≡◌, Bool, true, false, ℕ, zero, suc, ◌<◌, ◌≤◌, cond, not, List, [], ◌∷◌, length, Option, Some, None, is_some, refl, sym, ap, subst, ◌∙◌, arith, eqb-true, filter, find, position, get_or, inl, inr, ⊎_elim, nat_lt, option_and_then, option_map}
+use Rattle.std.proofs.Common.{◌≡◌, Bool, true, false, ℕ, zero, suc, ◌<◌, ◌≤◌, cond, not, List, [], ◌∷◌, length, Option, Some, None, is_some, refl, sym, ap, ◌∙◌, arith, eqb-true, filter, find, position, get_or, inl, inr, ⊎_elim, nat_lt, option_and_then, option_map}
 use Rattle.std.specs.Prelude.{◌==◌, ◌&&◌}
 use Rattle.std.specs.List.{remove, position_or_len, slice_get}
 use Rattle.std.specs.Option.{option_map_or}
@@ -17,7 +17,7 @@ use Rattle.cg_group.specs.State.{GroupState, is_up}
 use Rattle.cg_wire.specs.declared.message.Msg.{Msg}
 use Rattle.cg_base.specs.Lists.{first_some}
 use Rattle.cg_client.specs.Replica.{Replica}
-use Rattle.cg_agree.specs.World.{World, Seat, Snapshot, running, seat_of, has_begun, replica_of, with_seat}
+use Rattle.cg_agree.specs.World.{World, Seat, Snapshot, running, seat_of, has_begun, with_seat}
 use Rattle.cg_agree.specs.Admission.{transfer_refused, begun_already, takes_part, never_named, joiner_left, not_green}
 use Rattle.cg_agree.specs.Step.{quietly, snapshot_for, without_snapshot, transfer}
 use Rattle.cg_seat.specs.Calls.{copied}
@@ -79,29 +79,6 @@ pub copied-at : (w : World) (p joiner : ℕ) (s : Seat) → seat_of w p ≡ Some
 copied-at w p joiner s there =
     ap (λ n. copied joiner (record { id = n; life = s.life })) (found-id w.seats p s there)
     ∙ sym (ap (λ o. option_map (λ (r : Replica). (let x : Snapshot = record { joiner = joiner; giver = p; content = r.held; taken = 0 } in x)) (option_and_then (λ (s : Seat). running s.life) o)) there)
-
--- the one of which pieces are taken, where none was under way
-pub chooses-new : (w : World) (p joiner : ℕ) (found : Option Snapshot) → is_some (replica_of w p) ≡ true → find (is_between p joiner) w.snapshots ≡ None →
-    found ≡ new_copy (without_snapshot w joiner) p joiner → Chooses w (without_snapshot w joiner) p joiner found
-chooses-new w p joiner found up none is = at (replica_of w p) refl up is
-  where
-    make : Replica → Snapshot
-    make r = record { joiner = joiner; giver = p; content = r.held; taken = 0 }
-
-    at : (o : Option Replica) → replica_of w p ≡ o → is_some o ≡ true → found ≡ option_map make o → Chooses w (without_snapshot w joiner) p joiner found
-    at None e up is = absurd (let clash : false ≡ true = up in cc)
-    at (Some r) e up is =
-        subst (λ found. Chooses w (without_snapshot w joiner) p joiner found) (sym is)
-        (r, e, sym (ap (λ o. option_map_or (λ (s : Snapshot). s) o (make r)) none), refl)
-
--- or where one was
-pub chooses-old : (w : World) (p joiner : ℕ) (s : Snapshot) → is_some (replica_of w p) ≡ true → find (is_between p joiner) w.snapshots ≡ Some s →
-    Chooses w (without_snapshot w joiner) p joiner (Some s)
-chooses-old w p joiner s up there = at (replica_of w p) refl up
-  where
-    at : (o : Option Replica) → replica_of w p ≡ o → is_some o ≡ true → Chooses w (without_snapshot w joiner) p joiner (Some s)
-    at None e up = absurd (let clash : false ≡ true = up in cc)
-    at (Some r) e up = (r, e, sym (ap (λ o. option_map_or (λ (s : Snapshot). s) o (record { joiner = joiner; giver = p; content = r.held; taken = 0 })) there), refl)
 
 -- ---- its pieces
 

@@ -3,9 +3,9 @@ use Rattle.std.proofs.Common.{sym, ap, subst, ◌∙◌}
 use Rattle.std.specs.Prelude.{◌≡◌, is_some, IfSome}
 use Rattle.cg_group.specs.State.{is_up}
 use Rattle.cg_schedule.specs.declared.event.Event.{Event}
-use Rattle.cg_schedule.specs.declared.event.Event.TheVariants.{Start, Split, Merge, Rounds, End}
+use Rattle.cg_schedule.specs.declared.event.Event.TheVariants.{Start}
 use Rattle.cg_agree.specs.World.{World}
-use Rattle.cg_agree.specs.Run.{MayAsk, MayStand}
+use Rattle.cg_agree.specs.Run.{MayStand}
 use Rattle.cg_agree.specs.Chronicle.{Chronicle}
 use Rattle.cg_agree.specs.Played.{StandsBeside}
 use Rattle.cg_events.specs.Grounds.{ComesFirst, IsSeated}
@@ -24,11 +24,3 @@ IsSeated-beside c w stands =
 pub ComesFirst-stands : (w : World) (e : Event) → MayStand w e → ComesFirst w e
 ComesFirst-stands w (Start set) may = may.0
 ComesFirst-stands w _ may = tt
-
-pub MayAsk-stands : (w : World) (e : Event) → MayStand w e → MayAsk e
-MayAsk-stands w (Start set) may = tt
-MayAsk-stands w (Split set) may = tt
-MayAsk-stands w (Merge set) may = tt
-MayAsk-stands w (Rounds count) may = tt
-MayAsk-stands w End may = tt
-MayAsk-stands w _ may = may.1

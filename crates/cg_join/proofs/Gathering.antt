@@ -104,6 +104,3 @@ part-within g (Start head) within is = record { head = is; greens = within.green
 part-within g (Green action) within is = record { head = within.head; greens = Each-push IsAction g.greens action within.greens is; db = within.db }
 part-within g (Entry entry) within is = record { head = within.head; greens = within.greens; db = entries-put g.db entry within.db is }
 part-within g End within is = within
-
-pub nothing-within : IsGathered nothing
-nothing-within = record { head = tt; greens = tt; db = tt }

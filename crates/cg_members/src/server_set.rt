@@ -27,6 +27,7 @@ impl Model for ServerSet {
 
 impl ServerSet {
     ghost use Rattle.cg_members.specs.Servers.{is_among, weight_of, first_line, with_server, without_server, with_line, least_line};
+    ghost use Rattle.cg_members.specs.Listed.{server_ids, line_of};
 
     pub fn empty() -> ServerSet
         ensures { result ≡ [] }
@@ -140,6 +141,7 @@ pub struct Servers {
 }
 
 impl ServerSet {
+    ghost use Rattle.cg_members.specs.Listed.{AreServers};
     ghost use Rattle.cg_members.specs.View.{servers_left};
 
     /// The servers, ascending. It also says what every set of servers is.
@@ -159,7 +161,6 @@ impl Iterator for Servers {
 
     ghost use Rattle.std.specs.Iterator.{YieldsFirst, item_count};
     ghost use Rattle.cg_members.specs.View.{servers_left};
-    ghost use Rattle.cg_members.specs.Listed.{server_ids, line_of, AreServers};
 
     ghost next_gives = { YieldsFirst servers_left };
 

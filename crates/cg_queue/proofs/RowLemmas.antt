@@ -73,13 +73,6 @@ module _ {X : Type 0} (lanes : ℕ → List X) (slot : ℕ) (row : List X) where
   pub with_lane-other : (k : ℕ) → k ≢ slot → with_lane lanes slot row k ≡ lanes k
   with_lane-other k apart = rw (ne_eqb k slot apart)
 
--- the row that is there already changes nothing
-pub with_lane-own : {X : Type 0} (lanes : ℕ → List X) (slot : ℕ) (row : List X) → row ≡ lanes slot → (k : ℕ) → with_lane lanes slot row k ≡ lanes k
-with_lane-own lanes slot row own k = elim (cases_eq k slot) [
-  | inl same ↦ with_lane-same lanes slot row k same ∙ own ∙ ap lanes (sym same)
-  | inr apart ↦ with_lane-other lanes slot row k apart
-]
-
 pub same_lanes : {X : Type 0} (f g : ℕ → List X) → ((k : ℕ) → f k ≡ g k) → f ≡ g
 same_lanes f g same = λ i k. same k i
 
@@ -87,9 +80,6 @@ pub front_of-append : {X : Type 0} (xs : List X) (x : X) → front_of (xs ++ x �
 front_of-append [] x = refl
 front_of-append (y ∷ []) x = refl
 front_of-append (y ∷ z ∷ xs) x = ap (λ ys. y ∷ ys) (front_of-append (z ∷ xs) x)
-
-pub front_of-pop : {X : Type 0} (xs ys : List X) (x : X) → xs ≡ ys ++ x ∷ [] → ys ≡ front_of xs
-front_of-pop xs ys x whole = sym (front_of-append ys x) ∙ ap front_of (sym whole)
 
 -- as `pop` says it
 pub front_of-take : {X : Type 0} (xs : List X) (count : ℕ) → count ≡ length xs → take (count - 1) xs ≡ front_of xs

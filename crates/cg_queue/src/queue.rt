@@ -28,7 +28,7 @@ pub struct Queue {
 }
 
 impl Model for Queue {
-    ghost use Rattle.cg_queue.specs.Queue.{QueueView, marked_green};
+    ghost use Rattle.cg_queue.specs.Queue.{QueueView};
     ghost use Rattle.cg_queue.specs.Body.{parts_of, seen, IsSound};
 
     ghost Value = { QueueView };
@@ -39,7 +39,7 @@ impl Model for Queue {
 }
 
 impl Queue {
-    ghost use Rattle.cg_queue.specs.Queue.{resumed, marked_red, marked_yellow, placed_green, green_count, discarded, with_yellow, names_of, action_of};
+    ghost use Rattle.cg_queue.specs.Queue.{resumed, marked_red, marked_yellow, marked_green, placed_green, green_count, discarded, with_yellow, names_of, action_of};
     ghost use Rattle.cg_queue.specs.Shown.{IsShown};
     ghost use Rattle.cg_queue.specs.Answers.{Answers, AreReds};
 

@@ -1,5 +1,5 @@
 -- A run that goes on part by part: the steps made so far, and what the rest produces, make the whole.
-use Rattle.std.proofs.Common.{◌≡◌, ℕ, List, [], ◌∷◌, ◌++◌, append_assoc, Option, Some, None, refl, sym, ap, subst, ◌∙◌, arith, option_map, Result, Ok, Err}
+use Rattle.std.proofs.Common.{◌≡◌, ℕ, List, [], ◌∷◌, ◌++◌, append_assoc, Option, Some, None, refl, sym, ap, subst, ◌∙◌, option_map, Result, Ok, Err}
 use Rattle.std.proofs.lemmas.List.{append-nil}
 use Rattle.std.specs.Io.KnownBytes.{Appends}
 use Rattle.cg_io.specs.Outside.{SinkView}
@@ -50,10 +50,6 @@ and_then-none p more none = rw none
 
 pub and_then-some : (p : Produced) (more : Progress → Produced) (f : Finding) → p.found ≡ Some f → and_then p more ≡ p
 and_then-some p more f some = rw some
-
--- no step was made yet
-pub GoesOn-begin : (report : Report) (whole : Produced) (v : SinkView) → GoesOn report whole v v whole
-GoesOn-begin report whole v = record { made = []; put = Puts-none v; same = refl }
 
 -- a part was put, and the run goes on
 pub GoesOn-part : (report : Report) (whole p : Produced) (more : Progress → Produced) (v v1 v2 : SinkView) (s : Progress)
@@ -134,11 +130,6 @@ GoesOn-stop report whole p v v1 v2 other g s =
     let put : Puts v v2 (text_of report whole) =
     rw (text_of-whole report whole p g.made g.same) (Puts-twice v v1 v2 (report_in report g.made) (text_of report p) g.put s.1) in
     (found, put)
-
--- nothing was put, and memory was refused
-pub Stopped-nothing : (report : Report) (p : Produced) (v : SinkView) → Stopped report p v v status.NoMemory
-Stopped-nothing report p v =
-    record { front = record { front = []; rest = text_of report p; whole = refl; grown = Appends-none v.held }; counted = omega arith }
 
 -- a part was put, and the next one performs
 pub Performs-and_then : (report : Report) (p : Produced) (more : Progress → Produced) (v v1 v2 : SinkView) (s : Progress) (result : Result Progress Status)

@@ -4,24 +4,16 @@ use Rattle.std.proofs.lemmas.Bool.{true≢false}
 use Rattle.cg_base.specs.Text.{is_nil}
 use Rattle.cg_run.specs.declared.progress.Ending.{Ending}
 use Rattle.cg_run.specs.declared.progress.Progress.{Progress}
-use Rattle.cg_schedule.specs.declared.event.Event.{Event}
 use Rattle.cg_schedule.specs.declared.fault.LineFault.{LineFault}
 use Rattle.cg_schedule.specs.declared.word.Word.{Word}
-use Rattle.cg_schedule.specs.Reading.{whole}
-use Rattle.cg_schedule.specs.Line.{opening, event_reading}
+use Rattle.cg_schedule.specs.Line.{opening}
 use Rattle.cg_run.specs.Produced.{and_then}
-use Rattle.cg_run.specs.Outcome.{event_outcome, word_outcome, opened_outcome, line_outcome, whole_line, replayed}
+use Rattle.cg_run.specs.Outcome.{opened_outcome, line_outcome, whole_line, replayed}
 
 pub replayed-more : (n at : ℕ) (line : List ℕ) (rest : List (List ℕ)) (how : Ending) (s : Progress) → is_nil rest ≡ false
     → replayed n at (line ∷ rest) how s ≡ and_then (whole_line n at line s) (replayed (n + 1) (at + length line + 1) rest how)
 replayed-more n at line [] how s more = absurd (true≢false more)
 replayed-more n at line (next ∷ others) how s more = refl
-
--- what a word comes to
-pub word-read : (n : ℕ) (word : Word) (tokens : List (List ℕ)) (s : Progress) (r : Result Event LineFault) → whole (event_reading word) tokens ≡ r
-    → word_outcome n word tokens s ≡ event_outcome n r s
-unfolding word_outcome
-word-read n word tokens s r is = rw is refl
 
 -- a line that begins so
 pub line-opened : (n : ℕ) (line : List ℕ) (s : Progress) (r : Result (Option (Word × List (List ℕ))) LineFault) → opening s.reader line ≡ r

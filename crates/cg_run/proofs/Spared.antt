@@ -1,5 +1,5 @@
 -- A run says that its input failed only where the taking ended so, and that its output failed only where a put did.
-use Rattle.std.proofs.Common.{◌≡◌, ℕ, zero, suc, ◌+◌, ◌==◌, ◌-◌, nat_lt, List, [], ◌∷◌, Bool, true, false, length, Option, Some, None, refl, sym, ap, subst, ◌∙◌, arith, Result, Ok, Err}
+use Rattle.std.proofs.Common.{◌≡◌, ℕ, zero, suc, ◌+◌, ◌==◌, ◌-◌, nat_lt, List, [], ◌∷◌, Bool, true, false, length, Option, Some, None, refl, sym, ap, subst, ◌∙◌, Result, Ok, Err}
 use Rattle.std.proofs.lemmas.Bool.{false≢true, eq-eqb, cond_both}
 use Rattle.cg_base.specs.Text.{pieces_of}
 use Rattle.cg_group.specs.declared.reason.Reason.{Reason}
@@ -26,11 +26,9 @@ use Rattle.cg_run.specs.declared.status.Status.{Status}
 use Rattle.cg_run.specs.declared.status.Status.TheVariants as status
 use Rattle.cg_run.specs.declared.status.Limit.{Limit}
 use Rattle.cg_run.specs.declared.status.Limit.TheVariants.{Steps}
-use Rattle.cg_run.specs.Status.{write_faults}
 use Rattle.cg_run.specs.Produced.{Finding, Produced, before_all, status_of, went_on, ended_with, and_then, unless_refused, one_step}
 use Rattle.cg_run.specs.Rounds.{deliver_ready, deliveries, one_pass, passes, happened}
 use Rattle.cg_run.specs.Outcome.{lines_alone, event_outcome, word_outcome, opened_outcome, line_outcome, without_return, limit_of, unless_passed, whole_line, at_end, cut_line, last_piece, replayed, outcome_of}
-use Rattle.cg_run.specs.Putting.{StopsWith}
 use Rattle.cg_run.specs.Taking.{HasCause, ReadCause, Ends}
 
 -- a status that comes of the input's end or of a failed take, and not of a line
@@ -198,9 +196,3 @@ read-cause c taken Failed old new v v' status.ReadFault cause stopped = cause
 read-cause c taken Ended old new v v' status.ReadFault cause stopped = absurd (Spares-outcome Ended (λ e. cc) c taken stopped.0)
 read-cause c taken Open old new v v' status.ReadFault cause stopped = absurd (Spares-outcome Open (λ e. cc) c taken stopped.0)
 read-cause c taken how old new v v' other cause stopped = tt
-
--- and of a failed put exactly where one failed
-pub write-cause : (text : List ℕ) (found : Option Status) (v v' : SinkView) (st : Status) → StopsWith text found v v' st → v'.faults ≡ v.faults + write_faults st
-write-cause text found v v' status.WriteFault stopped = stopped.counted
-write-cause text found v v' status.NoMemory stopped = stopped.counted
-write-cause text found v v' other stopped = stopped.1.no_fault ∙ omega arith

@@ -17,7 +17,7 @@ use Rattle.cg_run.specs.declared.status.Limit.TheVariants as limit
 use Rattle.cg_run.specs.declared.status.Status.{Status}
 use Rattle.cg_run.specs.declared.status.Status.TheVariants as status
 use Rattle.cg_run.specs.Produced.{Produced, report_in, prepend, went_on, ended_with, and_then}
-use Rattle.cg_run.specs.Outcome.{limit_of, whole_line, at_end, cut_line, last_piece, replayed}
+use Rattle.cg_run.specs.Outcome.{limit_of, whole_line, at_end, last_piece, replayed}
 use Rattle.cg_run.specs.Streaming.{from_stage, IsUnended, held_limit, IsStage, IsHeld, IsMade, Passes, EndsLine, GoesThrough, HoldsRest, TakesUp}
 use Rattle.cg_run.proofs.Feeds.{one_piece, line_first, line_before, first_unended, some_piece}
 use Rattle.cg_run.proofs.GoingOn.{GoesOn-stop, Stopped-and_then, Puts-none, Puts-twice, and_then-none, report_in-append}
@@ -79,11 +79,6 @@ last-empty n at (b ∷ bs) s none = absurd (omega arith)
 pub last-failed : (n at : ℕ) (held : List ℕ) (s : Progress) → held_limit n at held ≡ None → last_piece n at held Failed s ≡ ended_with status.ReadFault (n - 1) s
 last-failed n at [] s none = refl
 last-failed n at (b ∷ bs) s none = rw none refl
-
-pub last-ended : (n at : ℕ) (held : List ℕ) (s : Progress) (b : ℕ) (bs : List ℕ) → held ≡ b ∷ bs → held_limit n at held ≡ None
-    → last_piece n at held Ended s ≡ cut_line n held Ended s
-last-ended n at [] s b bs is none = absurd (cc)
-last-ended n at (c ∷ cs) s b bs is none = rw none refl
 
 pub last-passed : (n at : ℕ) (held : List ℕ) (how : Ending) (s : Progress) (what : Limit) → held_limit n at held ≡ Some what
     → last_piece n at held how s ≡ ended_with (status.Limit n what) n s

@@ -179,12 +179,3 @@ pub turn-failed : (report : Report) (st : Stage) (held : List ℕ) (old new : So
     → TakesTurn report st held old new v v' held' (Err r)
 turn-failed report st held old new v v' held' r stands is keeps cause stopped =
     turn-ended report st held Failed old new v v' held' r stands is (Keeps-consumes old.left new.left keeps) cause stopped
-
--- something was taken, and taken up
-pub turn-taken : (report : Report) (st : Stage) (held chunk : List ℕ) (old new : SourceView) (v v' : SinkView) (held' : List ℕ) (r : Result Stage Status)
-    → Consumes old.left new.left chunk → new.faults ≡ old.faults → 0 < length chunk → length chunk ≤ 4096 → st.at + length held + length chunk ≤ 8388609
-    → TakesUp report st (held ++ chunk) v v' held' r → TakesTurn report st held old new v v' held' r
-turn-taken report st held chunk old new v v' held' (Ok next) consumed no_fault some few within up =
-    record { chunk = chunk; ending = Open; consumed = consumed; cause = no_fault; few = few; within = within; comes = (some, no_fault, up.0, up.1) }
-turn-taken report st held chunk old new v v' held' (Err r) consumed no_fault some few within stopped =
-    record { chunk = chunk; ending = Open; consumed = consumed; cause = no_fault; few = few; within = within; comes = stopped }

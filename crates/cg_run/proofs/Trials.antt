@@ -16,8 +16,8 @@ use Rattle.cg_run.specs.Status.{tail_text}
 use Rattle.cg_run.specs.Produced.{Finding, Produced, with_tail, report_in, text_of, status_of, and_then}
 use Rattle.cg_run.specs.Outcome.{whole_line, replayed, lines_alone, trial_end, trial_text}
 use Rattle.cg_run.specs.Putting.{Puts, PutsPart, StopsWith}
-use Rattle.cg_run.specs.Streaming.{first_stage, IsStage, EndsLine}
-use Rattle.cg_run.proofs.GoingOn.{GoesOn-begin, GoesOn-part, Puts-twice, Appends-none, part-longer, part-later, and_then-some}
+use Rattle.cg_run.specs.Streaming.{IsStage, EndsLine}
+use Rattle.cg_run.proofs.GoingOn.{GoesOn-part, Puts-twice, Appends-none, part-longer, part-later, and_then-some}
 use Rattle.cg_run.proofs.Lines.{replayed-more}
 use Rattle.cg_run.proofs.Spared.{is_of_end, whole-no_end}
 use Rattle.cg_run.specs.Performing.{Stopped, GoesOn}
@@ -87,9 +87,6 @@ from-event : (st : Stage) (event : Event) (events : List Event)
     → from_stage_of st (event ∷ events)
     ≡ and_then (whole_line st.line st.at (line_of event) st.progress) (replayed (st.line + 1) (st.at + length (line_of event) + 1) (lines_alone events) Ended)
 from-event st event events = replayed-more st.line st.at (line_of event) (lines_alone events) Ended st.progress (some_lines events)
-
-pub Plays-begin : (events : List Event) (v : SinkView) → IsStage first_stage → Plays (from_stage_of first_stage events) v v events first_stage
-Plays-begin events v stands = record { goes = GoesOn-begin Tail (from_stage_of first_stage events) v; stands = stands }
 
 -- the run ends in the next line
 pub Plays-ended : (whole : Produced) (v v1 v2 : SinkView) (event : Event) (events : List Event) (st : Stage) (status : Status) → Plays whole v v1 (event ∷ events) st

@@ -111,10 +111,6 @@ bound {A = A} {B = B} {Y = Y} Ends HasA first reading HasB others into next is_p
       record { from = (f.from, g.from); is = same ∙ g.is; has = (f.has, g.has); tokens = whole_is ∙ sym (append_assoc (first f.from) (others g.from) new) };
 }
 
--- more may be said of what follows
-pub ends_with : {X Y : Type 0} (Has : X → Type 0) (spelled : X → List (List ℕ)) (into : X → Y) (reading : Reading Y) → Makes Anything Has spelled into reading → Makes Nothing Has spelled into reading
-ends_with Has spelled into reading makes = record { again = λ x left ends has. makes.again x left tt has; found = makes.found }
-
 -- all of the tokens
 pub whole-again : {X Y : Type 0} (Ends : List (List ℕ) → Type 0) (Has : X → Type 0) (spelled : X → List (List ℕ)) (into : X → Y) (reading : Reading Y) → Makes Ends Has spelled into reading
     → (x : X) → Ends [] → Has x → whole reading (spelled x) ≡ Ok (into x)

@@ -72,15 +72,6 @@ chosen_first id a b None (Some q) found_a found_b f is =
     })
 chosen_first id a b (Some p) (Some q) found_a found_b f is = both_found id a b p q (nat_lt p.generation q.generation) refl found_a found_b f is
 
-pub none_chosen : (id : ℕ) (a b : List (List ℕ)) (fa fb : Option Checkpoint) → FindsFirst id a fa → FindsFirst id b fb → greater fa fb ≡ None → standing_in id (of_two a b) ≡ None
-none_chosen id a b None None found_a found_b is = ap (λ x. chosen x (live_on id b)) (live_none id a found_a) ∙ ap (λ x. chosen None x) (live_none id b found_b)
-none_chosen id a b (Some p) None found_a found_b is = cc
-none_chosen id a b None (Some q) found_a found_b is = cc
-none_chosen id a b (Some p) (Some q) found_a found_b is = at (nat_lt p.generation q.generation) is where
-  at : (later : Bool) → later_of later p q ≡ None → standing_in id (of_two a b) ≡ None
-  at true e = cc
-  at false e = cc
-
 -- what its records stand for
 pub replayed_finds : AlwaysHolds → (id : ℕ) (r : Records) (side : Side) (first : Checkpoint) (found : Option Found) → IsChosen id r side first → Replays id side first (drop 1 (on_side side r)) found → Finds id r found
 replayed_finds always id r side first None chose none =

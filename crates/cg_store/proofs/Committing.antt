@@ -1,5 +1,5 @@
 -- An event that is written, and one that isn't.
-use Rattle.std.proofs.Common.{◌≡◌, inl, ℕ, ◌<◌, ◌^◌, List, length, Bool, true, false, Option, Some, None, Result, Ok, Err, IfSome, refl, sym, ◌∙◌, ap, subst, arith}
+use Rattle.std.proofs.Common.{◌≡◌, inl, ℕ, ◌<◌, List, Bool, true, false, Option, Some, None, Result, Ok, Err, IfSome, refl, sym, ◌∙◌, ap, subst, arith}
 use Rattle.std.specs.Prelude.{option_and_then}
 use Rattle.std.specs.Option.{option_map}
 use Rattle.cg_action.specs.declared.action.Action.{Action}
@@ -22,7 +22,7 @@ use Rattle.cg_store.specs.Kept.{Kept}
 use Rattle.cg_store.specs.Answers.{IsRefused, EachMoment}
 use Rattle.cg_store.specs.Due.{is_due, IsRecord, IsPrepared, IsReady, IsLed, IsBehind, WhetherDue}
 use Rattle.cg_base.specs.Choice.{Either}
-use Rattle.cg_store.specs.Calls.{outputs_of, Writes, Commits, KeepsMarks, Keeps, IsEither, paired}
+use Rattle.cg_store.specs.Calls.{outputs_of, Writes, Commits, Keeps, IsEither, paired}
 use Rattle.cg_store.specs.declared.due.Due.{Due}
 use Rattle.cg_store.specs.declared.outputs.Outputs.{Outputs}
 use Rattle.cg_store.specs.declared.errors.CommitErr.{CommitErr}
@@ -42,10 +42,6 @@ ready_from s unwritten h d state (Some due) is = (sym (due_same s h d state) ∙
 pub ready_of : (values : Stable) (s : Stored) (unwritten : List Action) (h : Held) (d : DraftParts) (state : State) (due : Option Due) → values ≡ stable_of s → IsPrepared values unwritten h d due →
     IsReady s unwritten h d state due
 ready_of values s unwritten h d state due same is = ready_from s unwritten h d state due (subst (λ v. IsPrepared v unwritten h d due) same is)
-
-pub short_of : (values : Stable) (unwritten : List Action) (h : Held) (d : DraftParts) (due : Option Due) → IsPrepared values unwritten h d due → IfSome due (λ x. length x.body < 2 ^ 32)
-short_of values unwritten h d None is = tt
-short_of values unwritten h d (Some due) is = is.1.short
 
 -- ---- what the record leads to
 
@@ -87,11 +83,6 @@ module _ {D : Type 0} (view : D → DiskView) where
   paired_writes k u v d (Ok store) o same is = (is, same)
   paired_writes k u v d (Err (Lost disk)) o same is = is
   paired_writes k u v d (Err (NoMemory disk)) o same is = is
-
-pub paired_keeps : {D : Type 0} (k : Kept D) (d : DraftParts) (r : Result (Kept D) (CommitErr D)) (o : Outputs) → o ≡ outputs_of false d → KeepsMarks k d.known r → Keeps k d (paired r o)
-paired_keeps k d (Ok store) o same is = (is, same)
-paired_keeps k d (Err (Lost disk)) o same is = is
-paired_keeps k d (Err (NoMemory disk)) o same is = is
 
 -- ---- no call was made
 

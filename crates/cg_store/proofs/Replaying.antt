@@ -19,10 +19,6 @@ pub all_of_none : {A : Type 0} (go : Stored → A → Option Stored) (items : Li
 all_of_none go [] = refl
 all_of_none go (a ∷ items) = all_of_none go items
 
--- one item more fits, and the others give what all gave
-pub goes_on : {A : Type 0} (go : Stored → A → Option Stored) (s t : Stored) (a : A) (items : List A) (total : Option Stored) → go s a ≡ Some t → all_of go (Some s) (a ∷ items) ≡ total → all_of go (Some t) items ≡ total
-goes_on go s t a items total one all = sym (ap (λ now. all_of go now items) one) ∙ all
-
 -- an item that doesn't fit
 pub stops : {A : Type 0} (go : Stored → A → Option Stored) (s : Stored) (a : A) (items : List A) (total : Option Stored) → go s a ≡ None → all_of go (Some s) (a ∷ items) ≡ total → total ≡ None
 stops go s a items total none all = sym all ∙ ap (λ now. all_of go now items) none ∙ all_of_none go items

@@ -1,5 +1,5 @@
 -- What the calls of the journal make of what the disk stands for.
-use Rattle.std.proofs.Common.{◌≡◌, inl, inr, ⊎_elim, ℕ, ◌+◌, ◌≤◌, List, Bool, true, false, Option, Some, IfSome, refl, sym, ◌∙◌, ap, subst, arith}
+use Rattle.std.proofs.Common.{◌≡◌, inl, inr, ⊎_elim, ℕ, List, Bool, true, false, Option, Some, IfSome, refl, sym, ◌∙◌, ap, subst, arith}
 use Rattle.std.specs.Prelude.{if◌then◌else◌}
 use Rattle.cg_disk.specs.Sides.{Image}
 use Rattle.cg_disk.specs.State.{left_by}
@@ -10,7 +10,7 @@ use Rattle.cg_journal.specs.Adds.{IsLostIn, IsEither as IsOneOf, gate_stands}
 use Rattle.cg_journal.specs.Closes.{IsLostClosing}
 use Rattle.cg_journal.specs.Answers.{IsDone}
 use Rattle.cg_store.specs.Stands.{Standing, stands_for, Stands}
-use Rattle.cg_store.specs.Answers.{IsReached, IsRefused, IsCutShort, IsLost}
+use Rattle.cg_store.specs.Answers.{IsReached, IsCutShort, IsLost}
 use Rattle.cg_store.specs.Calls.{IsEither}
 
 -- ---- one state
@@ -86,10 +86,6 @@ lost_closing id call side before closed u old new is first second =
             fills = λ fill. stands (left_by e fill) (all fill) ∙ ap Some (same_both (gate_stands struck.0.blow call fill) u);
           };
     }
-
-pub refused : (id calls most : ℕ) (u : Standing) (r : Option Records) (old new : DiskView) → IsAtRest new → new.time ≤ old.time + calls → calls ≤ most → Rattle.cg_journal.specs.Strikes.IsUnstruck old new →
-    records new.reads ≡ r → stands_for id r ≡ Some u → IsRefused id most u old new
-refused id calls most u r old new rest time le unstruck is stands = record { stands = ap (stands_for id) is ∙ stands; rest = rest; time = omega (arith, time, le); unstruck = unstruck }
 
 -- ---- moments
 

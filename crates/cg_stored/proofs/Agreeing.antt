@@ -160,11 +160,6 @@ all-step P n lt here =
     let next : suc (n + 1) ≡ n + 1 + 1 = omega arith in
     ap (λ k. list_all P (count_up (n + 1) k)) one ∙ ap (λ b. b && list_all P (count_up (suc (n + 1)) (32 - (n + 1)))) here ∙ ap (λ k. list_all P (count_up k (32 - (n + 1)))) next
 
-pub all-stop : (P : ℕ → Bool) (n : ℕ) → n < 32 → P (n + 1) ≡ false → list_all P (count_up (n + 1) (32 - n)) ≡ false
-all-stop P n lt here =
-    let one : 32 - n ≡ suc (32 - (n + 1)) = omega arith in
-    ap (λ k. list_all P (count_up (n + 1) k)) one ∙ ap (λ b. b && list_all P (count_up (suc (n + 1)) (32 - (n + 1)))) here
-
 -- an index is the next one, and the others behind it go on from there
 counts-on : (n : ℕ) (ns : List ℕ) (at high : ℕ) (before : Bool) → ltb at high ≡ before
     → pointwise nat_eq (n ∷ ns) (above_up_to at high) ≡ cond (before && eqb n (suc at)) (pointwise nat_eq ns (above_up_to (suc at) high)) false

@@ -1,6 +1,6 @@
 -- A change as a field, by its four parts.
-use Rattle.std.proofs.Common.{◌≡◌, ◌≢◌, ℕ, ◌+◌, ◌<◌, ◌^◌, List, ◌++◌, length, length-append, Result, Ok, Err, refl, arith}
-use Rattle.std.specs.Prelude.{Some, OnOk}
+use Rattle.std.proofs.Common.{◌≡◌, ◌≢◌, ℕ, ◌+◌, List, ◌++◌, Result, Ok, Err, refl}
+use Rattle.std.specs.Prelude.{Some}
 use Rattle.cg_base.specs.declared.action_id.ActionId.{ActionId}
 use Rattle.cg_codec.specs.declared.fault.CodecFault.{CodecFault}
 use Rattle.cg_codec.specs.declared.fault.CodecFault.TheVariants.{Short, Bad, Rest, NoMemory}
@@ -11,10 +11,9 @@ use Rattle.cg_codec.specs.Taking.{Decodes}
 use Rattle.cg_codec.specs.Laws.{IsField, IsWhole, AreBytes}
 use Rattle.cg_codec.specs.FieldLaws.{field_bind, field_map, field_whole}
 use Rattle.cg_action.specs.declared.action.Action.{Action}
-use Rattle.cg_action.specs.Limits.{IsAction, IsActionId}
 use Rattle.cg_action.specs.Bytes.{spelled_id, spelled_action}
 use Rattle.cg_records.specs.declared.stable.Stable.{Stable}
-use Rattle.cg_records.specs.Limits.{Each, IsStable}
+use Rattle.cg_records.specs.Limits.{IsStable}
 use Rattle.cg_records.specs.Bytes.{spelled_stable}
 use Rattle.cg_records.specs.Reading.{take_stable}
 use Rattle.cg_records.specs.RecordLaws.{stable_field}
@@ -23,7 +22,7 @@ use Rattle.cg_stored.specs.Change.{spelled_change}
 use Rattle.cg_stored.specs.Limits.{AreActions, IsChange}
 use Rattle.cg_stored.specs.Reading.{actions_reading, ids_reading, change_reading}
 use Rattle.cg_stored.specs.Laws.{Gives}
-use Rattle.cg_stored.proofs.ListFields.{AreIds, actions_field, ids_field, Each-both}
+use Rattle.cg_stored.proofs.ListFields.{AreIds, actions_field, ids_field}
 use Rattle.cg_stored.specs.Following.{change_with}
 
 -- ---- what is spelled and read behind each part
@@ -83,22 +82,6 @@ whole-gives {X} Has spelling reading bytes (Err fault) field fits read = λ know
     let again : whole reading bytes ≡ Ok x = rw is (field.again x has) in
     let refused : whole reading bytes ≡ Err fault = read known in
     absurd cc
-
--- a change of two lists of known actions, where they are short
-pub change-within : (stable : Stable) (unwritten known made : List Action) (green : List ActionId) → IsStable stable → Each IsAction unwritten → Each IsAction known → Each IsActionId green → Each IsAction made
-    → length unwritten + length known < 2 ^ 32 → length green < 2 ^ 32 → length made < 2 ^ 32 → IsChange (change_with stable (unwritten ++ known) green made)
-change-within stable unwritten known made green is first second names third both some last = record {
-  stable = is;
-  known = record { short = omega (arith, both, length-append unwritten known); each = Each-both IsAction unwritten known first second };
-  short = some;
-  green = names;
-  made = record { short = last; each = third };
-}
-
--- what is so in any case is so where a call did its work
-pub OnOk_from : {T E : Type 0} (r : Result T E) {P : Type 0} → P → OnOk r P
-OnOk_from (Ok x) p = p
-OnOk_from (Err e) p = tt
 
 -- a fault that has a number is one of the bytes
 pub numbered : (fault : CodecFault) (n : ℕ) → codec_fault_number fault ≡ Some n → fault ≢ NoMemory

@@ -151,11 +151,6 @@ pub record EntriesSoFar (total : Result (List DbEntry × Unread) CodecFault) (co
   pub last_is : last ≡ last_key db
   pub before : (key : List ℕ) → text_before last key ≡ true → EachBefore key db
 
-pub EntriesSoFar-none : (total : Result (List DbEntry × Unread) CodecFault) (count : ℕ) (left : Unread) → take_items entry_item count [] left ≡ total → EntriesSoFar total count 0 [] [] left
-EntriesSoFar-none total count left e =
-    let all : count - 0 ≡ count = omega arith in
-    record { rest = rw all e; last_is = refl; before = λ key first. tt }
-
 pub EntriesSoFar-more : (total : Result (List DbEntry × Unread) CodecFault) (count i : ℕ) (last : List ℕ) (db db' : List DbEntry) (left after : Unread) (key : List ℕ) (value : Value)
     → EntriesSoFar total count i last db left → i < count → entry_reading last left ≡ Ok (entry_is key value, after) → db' ≡ put db key value → EntriesSoFar total count (i + 1) key db' after
 EntriesSoFar-more total count i last db db' left after key value so_far lt read put_in =

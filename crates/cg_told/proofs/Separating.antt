@@ -102,9 +102,6 @@ on part s = record { apart = λ x y u v hx hy eu ev e. s.apart (part x) (part y)
 pub within : {A : Type 0} {E : List ℕ → Bool} {H G : A → Type 0} {f : A → List ℕ} {P : A → A → Type 0} → ((x : A) → G x → H x) → Separates E H f P → Separates E G f P
 within has s = record { apart = λ x y u v hx hy eu ev e. s.apart x y u v (has x hx) (has y hy) eu ev e }
 
-pub followed : {A : Type 0} {E F : List ℕ → Bool} {H : A → Type 0} {f : A → List ℕ} {P : A → A → Type 0} → ((u : List ℕ) → F u ≡ true → E u ≡ true) → Separates E H f P → Separates F H f P
-followed follows s = record { apart = λ x y u v hx hy eu ev e. s.apart x y u v hx hy (follows u eu) (follows v ev) e }
-
 pub same : {A : Type 0} {E : List ℕ → Bool} {H : A → Type 0} {f : A → List ℕ} {P Q : A → A → Type 0} → ((x y : A) → P x y → Q x y) → Separates E H f P → Separates E H f Q
 same weaker s = record { apart = λ x y u v hx hy eu ev e. let g = s.apart x y u v hx hy eu ev e in (weaker x y g.0, g.1) }
 
