@@ -238,6 +238,7 @@ pub(crate) fn put_green(queue: &mut Known, at: u64, a: Action) -> Result<(), NoM
 {
     match queue.mark_green(at, a) {
         Ok(_) => Ok(()),
-        Err(_) => Err(NoMemory),
+        Err(QueueFault::NoMemory) => Err(NoMemory),
+        Err(QueueFault::Gap { .. }) => unreachable!(),
     }
 }

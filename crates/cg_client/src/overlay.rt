@@ -1,6 +1,7 @@
 //! Queries behind actions that aren't written: only a part of the database, at the keys that the actions name, is copied.
-ghost use Rattle.std.specs.Prelude.{◌≡◌, ◌∷◌, [], not, fold, filter, IfOk, OnOk};
+ghost use Rattle.std.specs.Prelude.{◌≡◌, ℕ, List, ◌∷◌, [], not, fold, filter, IfOk, OnOk};
 ghost use Rattle.cg_action.specs.Limits.{IsAction};
+ghost use Rattle.cg_action.specs.declared.query.Query.TheVariants.{Keys as KeysOf};
 ghost use Rattle.cg_db.specs.Find.{answer};
 ghost use Rattle.cg_db.specs.declared.answer.Answer.TheVariants.{Keys};
 ghost use Rattle.cg_records.specs.Limits.{Each};
@@ -138,11 +139,12 @@ fn answer_with(
 
 // the keys that a query for keys finds
 fn keys_found(db: &Db, q: &Query) -> Result<TxtList, NoMemory>
+    requires { (prefix : List ℕ) × (q.now ≡ KeysOf prefix) }
     ensures { IfOk result (λ list. answer db.now q.now ≡ Keys list) }
 {
     match db.answer(q)? {
         Answer::Keys(list) => Ok(list),
-        _ => Err(NoMemory),
+        _ => unreachable!(),
     }
 }
 

@@ -23,6 +23,7 @@ use cg_action::Action;
 use cg_base::{ActionId, Cut, NoMemory, ReplicaId, Row};
 use cg_db::Db;
 use cg_members::Members;
+use cg_queue::QueueFault;
 use cg_records::{Primary, Stable, Vulnerable, Yellow};
 use std::alloc::Global;
 
@@ -167,6 +168,7 @@ fn put_red(queue: &mut Known, a: Action) -> Result<(), NoMemory>
 {
     match queue.mark_red(a) {
         Ok(_) => Ok(()),
-        Err(_) => Err(NoMemory),
+        Err(QueueFault::NoMemory) => Err(NoMemory),
+        Err(QueueFault::Gap { .. }) => unreachable!(),
     }
 }

@@ -1,6 +1,8 @@
 -- The parts of a snapshot bring what it has, each once.
 use Rattle.std.proofs.Common.{◌≡◌, ℕ, true, false, Bool, List, [], ◌∷◌, ◌++◌, map, fold, append-nil, append_assoc, refl, sym, ap, subst, ◌∙◌, if◌then◌else◌}
-use Rattle.std.specs.Prelude.{Option, Some}
+use Rattle.std.specs.Prelude.{Option, Some, None}
+use Rattle.std.proofs.lemmas.Bool.{and_parts}
+use Rattle.std.proofs.lemmas.Option.{none-some}
 use Rattle.std.proofs.lemmas.Grind.{fold-append}
 use Rattle.cg_text.specs.Order.{same_text, text_before}
 use Rattle.cg_action.specs.declared.action.Action.{Action}
@@ -10,15 +12,19 @@ use Rattle.cg_db.specs.Limits.{IsEntry, AreEntries}
 use Rattle.cg_db.specs.Map.{Ascends, put}
 use Rattle.cg_db.specs.TextOrderLaws.{same-sym, before-trans, before-back, before-apart}
 use Rattle.cg_client.specs.Replica.{Held}
+use Rattle.cg_stored.specs.Agreeing.{counts_up}
+use Rattle.cg_stored.specs.AgreeingLaws.{each-replica}
+use Rattle.cg_store.specs.Leading.{LeadTo}
 use Rattle.cg_join.specs.declared.gather.Gathered.{Gathered}
 use Rattle.cg_join.specs.declared.piece.Head.{Head}
 use Rattle.cg_join.specs.declared.piece.Part.{Part}
 use Rattle.cg_join.specs.declared.piece.Part.TheVariants.{Start, Green, Entry, End}
 use Rattle.cg_join.specs.Gathered.{nothing, with_part, IsGathered}
+use Rattle.cg_join.specs.Finishing.{IsSnapshotFor}
 use Rattle.cg_join.specs.Limits.{IsPart}
 use Rattle.cg_join.specs.Snapshot.{head_of, parts_of, joined_from}
 use Rattle.cg_join.proofs.PartLists.{Each-push}
-use Rattle.cg_client.specs.Joined.{joined}
+use Rattle.cg_client.specs.Joined.{joined, joined_queue}
 
 -- ---- entries that ascend, put one after another
 
@@ -87,6 +93,22 @@ unfolding some_head
 joined_by id h g head is first =
     let same : head ≡ head_of h = same_head head (head_of h) (sym first ∙ ap (λ (x : Gathered). x.head) is) in
     ap (λ x. joined_from id x g.greens g.db) same ∙ ap (λ (x : Gathered). joined_from id (head_of h) x.greens x.db) is
+
+-- the parts of a snapshot bring a head, and greens that lead to its cut
+module _ (id : ℕ) (parts : List Part) (from : IsSnapshotFor id parts) (g : Gathered) (is : g ≡ fold with_part nothing parts) where
+  all-of-it : g ≡ brought from.source
+  all-of-it = is ∙ ap (λ ps. fold with_part nothing ps) from.all ∙ all_brought from.source from.ascends
+
+  pub never-headless : g.head ≡ None → ⊥
+  never-headless none = none-some (head_of from.source) (sym none ∙ ap (λ (x : Gathered). x.head) all-of-it)
+
+  pub brought-lead : (head : Head) → g.head ≡ Some head → LeadTo head.reached.cut g.greens
+  unfolding some_head
+  brought-lead head first =
+      let same : head ≡ head_of from.source = same_head head (head_of from.source) (sym first ∙ ap (λ (x : Gathered). x.head) all-of-it) in
+      let lead : LeadTo from.source.queue.green_cut from.source.queue.greens = λ p one. (and_parts _ _ (each-replica (counts_up (joined_queue from.source.queue)) p from.agrees.each one)).0 in
+      subst (λ (x : Head). LeadTo x.reached.cut g.greens) (sym same)
+      (subst (λ greens. LeadTo from.source.queue.green_cut greens) (sym (ap (λ (x : Gathered). x.greens) all-of-it)) lead)
 
 -- ---- limits
 

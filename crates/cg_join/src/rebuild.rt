@@ -6,6 +6,8 @@ ghost use Rattle.cg_db.specs.Limits.{AreEntries};
 ghost use Rattle.cg_db.specs.Map.{Ascends};
 ghost use Rattle.cg_records.specs.Limits.{Each};
 ghost use Rattle.cg_join.specs.Limits.{IsHead};
+ghost use Rattle.cg_join.specs.Finishing.{IsSnapshotFor};
+ghost use Rattle.cg_store.specs.Leading.{LeadTo};
 ghost use Rattle.cg_client.specs.Joined.{joined};
 ghost use Rattle.cg_join.specs.Snapshot.{parts_of, joined_from};
 
@@ -19,14 +21,15 @@ use cg_db::Db;
 use cg_store::{GreenState, resume};
 use std::alloc::Global;
 
-/// What a joiner holds to which these parts came, where they are those of a snapshot.
+/// What a joiner holds to which these parts came: those of a snapshot.
 pub(crate) fn core_of(alloc: Global, id: ReplicaId, parts: Parts) -> Result<Core, NoMemory>
+    requires { IsSnapshotFor id parts }
     ensures { (h : Held) → Ascends h.db → parts ≡ parts_of h → IfOk result (λ core. core ≡ joined id h) }
 {
     let Gathered { head, greens, db } = gather(alloc, parts.into_vec())?;
     match head {
         Some(head) => rebuild(alloc, id, head, greens, db),
-        None => Err(NoMemory),
+        None => unreachable!(),
     }
 }
 
@@ -39,6 +42,7 @@ fn rebuild(
 ) -> Result<Core, NoMemory>
     requires head { IsHead head }
     requires greens { Each IsAction greens }
+    requires lead { LeadTo head.reached.cut greens }
     requires db { AreEntries db }
     ensures { IfOk result (λ core. core ≡ joined_from id head greens db) }
 {

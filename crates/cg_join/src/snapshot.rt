@@ -79,7 +79,7 @@ impl SnapshotWriter {
         };
         match self.parts.get((n - 1) as usize) {
             Some(part) => encode(self.alloc, &label, part),
-            None => Err(NoMemory),
+            None => unreachable!(),
         }
     }
 }

@@ -79,7 +79,7 @@ fn is_count(kind: &Kind) -> bool {
         Kind::Update {
             cmds,
             query: Some(Query::Count),
-        } => cmds.is_empty(),
+        } => cmds.as_slice().is_empty(),
         _ => false,
     }
 }

@@ -1,5 +1,5 @@
 -- What holds of a replica holds of a checkpoint whose parts agree, and is kept by each change that fits.
-use Rattle.std.proofs.Common.{◌⊎◌, ◌≡◌, ℕ, zero, suc, ◌+◌, ◌-◌, ◌<◌, ◌≤◌, ◌≢◌, List, [], ◌∷◌, ◌++◌, length, max, map, cond, Bool, true, false, not, ◌&&◌, Option, Some, None, refl, sym, ap, ap₂, ◌∙◌, subst, arith, inl, inr, eqb-true, nat_le, leb-true}
+use Rattle.std.proofs.Common.{◌⊎◌, ◌≡◌, ℕ, zero, suc, ◌+◌, ◌-◌, ◌≤◌, ◌≢◌, List, [], ◌∷◌, ◌++◌, length, max, map, cond, Bool, true, false, not, ◌&&◌, Option, Some, None, refl, sym, ap, ap₂, ◌∙◌, subst, arith, inl, inr, eqb-true, nat_le, leb-true}
 use Rattle.std.specs.Prelude.{◌==◌, nat_eq, option_and_then}
 use Rattle.std.specs.Cmp.Lexicographic.{pointwise}
 use Rattle.std.specs.List.{list_all}
@@ -9,7 +9,7 @@ use Rattle.cg_base.specs.declared.action_id.ActionId.{ActionId}
 use Rattle.cg_base.specs.Cuts.{index_in, raise, creators_in}
 use Rattle.cg_base.specs.Ids.{id_before}
 use Rattle.cg_base.specs.Lists.{count_up, above_up_to}
-use Rattle.cg_base.specs.Sets.{IsId, Ascends, has, every_replica}
+use Rattle.cg_base.specs.Sets.{IsId, Ascends, has}
 use Rattle.cg_action.specs.declared.action.Action.{Action}
 use Rattle.cg_action.specs.Limits.{IsAction}
 use Rattle.cg_members.specs.declared.server.Server.{Server}
@@ -23,6 +23,7 @@ use Rattle.cg_stored.specs.Stored.{Stored, whiten}
 use Rattle.cg_stored.specs.declared.change.Change.{Change}
 use Rattle.cg_stored.specs.Limits.{IsStored}
 use Rattle.cg_stored.specs.Following.{fits_known, know, green_by_name, make, all_of, are_yellow, put_values, with_values, after_change}
+use Rattle.cg_stored.specs.AgreeingLaws.{each-replica}
 use Rattle.cg_stored.specs.Agreeing.{Agrees, indexes_of, count_to, counts_up, is_by_name, is_present}
 use Rattle.cg_step.specs.Holds.{run_on, ascend, Rising, CountsTo, Holds}
 use Rattle.cg_step.specs.CutRaiseLaws.{rising-raise, index-same, index-other}
@@ -114,25 +115,6 @@ rising-from (top ∷ cut) low up = (up.0, rising-from cut (suc top.creator) up.2
 rising-lower : (cut : List ActionId) → Rising 1 cut → Rising 0 cut
 rising-lower [] up = tt
 rising-lower (top ∷ cut) up = (omega arith, up.1)
-
--- it holds of each number that names a replica
-at-id : (test : ℕ → Bool) (p : ℕ) → list_all test every_replica ≡ true → IsId p → test p ≡ true
-unfolding every_replica
-at-id test p each id = at-count 32 1 each id.0 (let high : p ≤ 32 = id.1 in omega arith) where
-  above : {m : ℕ} → m ≢ p → m ≤ p → suc m ≤ p
-  above {m} apart low = elim (cases_order m p) [
-    | inl same ↦ absurd (apart same)
-    | inr other ↦ elim other [ inl lt ↦ lt | inr gt ↦ absurd (omega arith) ]
-  ]
-
-  at-count : (n from : ℕ) → list_all test (count_up from n) ≡ true → from ≤ p → p < from + n → test p ≡ true
-  at-count zero from each low high = absurd (omega arith)
-  at-count (suc n) from each low high =
-      let parts = and_parts (test from) (list_all test (count_up (suc from) n)) each in
-      elim (cases_eq from p) [
-        | inl same ↦ ap test (sym same) ∙ parts.0
-        | inr apart ↦ at-count n (suc from) parts.1 (above apart low) (omega arith)
-      ]
 
 -- an action of a number that names no replica isn't among them
 no-indexes : (actions : List Action) (p : ℕ) → Each IsAction actions → (IsId p → ⊥) → indexes_of actions p ≡ []
@@ -295,4 +277,4 @@ holds-opened s agrees is =
     both p id =
         and_parts (count_to (index_in s.queue.green_cut p) (indexes_of s.queue.greens p))
         (pointwise nat_eq (indexes_of s.queue.reds p) (above_up_to (index_in s.queue.green_cut p) (index_in s.queue.red_cut p)))
-        (at-id (counts_up s.queue) p agrees.each id)
+        (each-replica (counts_up s.queue) p agrees.each id)

@@ -3,6 +3,7 @@ mod Owner
 mod Writing
 mod Committing
 mod Rebuilding
+mod Leading
 mod KeptGreens
 mod Replaying
 mod Outcome

@@ -8,8 +8,8 @@ use Rattle.cg_action.specs.declared.action.Action.{Action}
 use Rattle.cg_queue.specs.Queue.{QueueView, names_of, with_red}
 use Rattle.cg_client.specs.Replica.{Held}
 use Rattle.cg_stored.specs.declared.checkpoint.Checkpoint.{Checkpoint}
-use Rattle.cg_stored.specs.Parts.{stored_in}
-use Rattle.cg_stored.specs.Following.{put_values}
+use Rattle.cg_stored.specs.Parts.{queue_in, stored_in}
+use Rattle.cg_stored.specs.Following.{are_yellow, put_values}
 use Rattle.cg_stored.specs.Agreeing.{is_by_name}
 use Rattle.cg_store.specs.declared.resuming.GreenState.{GreenState}
 use Rattle.cg_store.specs.Rebuilt.{with_kept_red, with_kept_own, resumed_with}
@@ -94,11 +94,23 @@ own_put h had (a ∷ own) = own_put h (had ++ a ∷ []) own ∙ ap (λ l. record
 abbrev pub greens_in : Checkpoint → GreenState
 greens_in p = record { reached = p.reached; greens = p.kept.greens; db = p.db; prim = p.stable.prim; attempt_index = p.stable.attempt_index; vulnerable = p.stable.vulnerable }
 
--- all parts of a checkpoint, put in one after another
-pub rebuilt : (id : ℕ) (p : Checkpoint) (h1 h2 h3 h4 : Held) → h1 ≡ resumed_with id (greens_in p) →
-    h2 ≡ fold with_kept_red h1 p.kept.reds → h3 ≡ fold with_kept_own h2 p.kept.own → h4 ≡ put_values h3 p.stable → is_by_name p.kept.reds ≡ true → h4 ≡ stored_in id p
-rebuilt id p h1 h2 h3 h4 e1 e2 e3 e4 up =
+-- before the values are put in
+abbrev before_values : ℕ → Checkpoint → Held
+before_values id p =
+    let base = resumed_with id (greens_in p) in
+    record (holding base (with_reds base.queue (fold raise p.reached.cut (names_of p.kept.reds)) p.kept.reds) []) { own = p.kept.own }
+
+pub all-but-values : (id : ℕ) (p : Checkpoint) (h1 h2 h3 : Held) → h1 ≡ resumed_with id (greens_in p) → h2 ≡ fold with_kept_red h1 p.kept.reds → h3 ≡ fold with_kept_own h2 p.kept.own →
+    is_by_name p.kept.reds ≡ true → h3 ≡ before_values id p
+all-but-values id p h1 h2 h3 e1 e2 e3 up =
     let base = resumed_with id (greens_in p) in
     let two = e2 ∙ ap (λ h. fold with_kept_red h p.kept.reds) e1 ∙ reds_put base base.queue p.reached.cut [] p.kept.reds up in
-    let three = e3 ∙ ap (λ (h : Held). fold with_kept_own h p.kept.own) two ∙ own_put (holding base (with_reds base.queue (fold raise p.reached.cut (names_of p.kept.reds)) p.kept.reds) []) [] p.kept.own in
-    e4 ∙ ap (λ h. put_values h p.stable) three
+    e3 ∙ ap (λ (h : Held). fold with_kept_own h p.kept.own) two ∙ own_put (holding base (with_reds base.queue (fold raise p.reached.cut (names_of p.kept.reds)) p.kept.reds) []) [] p.kept.own
+
+-- the yellow names are those of reds there
+pub yellow-red : (p : Checkpoint) (h : Held) (id : ℕ) → h ≡ before_values id p → are_yellow (queue_in p) p.stable.yellow.list ≡ true → are_yellow h.queue p.stable.yellow.list ≡ true
+yellow-red p h id is yellow = subst (λ (x : Held). are_yellow x.queue p.stable.yellow.list ≡ true) (sym is) yellow
+
+-- all parts of a checkpoint, put in one after another
+pub rebuilt : (id : ℕ) (p : Checkpoint) (h3 h4 : Held) → h3 ≡ before_values id p → h4 ≡ put_values h3 p.stable → h4 ≡ stored_in id p
+rebuilt id p h3 h4 e3 e4 = e4 ∙ ap (λ h. put_values h p.stable) e3

@@ -3,6 +3,7 @@ pub mod Kept
 pub mod Answers
 pub mod Due
 pub mod Calls
+pub mod Leading
 pub mod Rebuilt
 pub mod Opening
 pub mod Defined

@@ -193,7 +193,7 @@ pub(crate) fn take_values(core: &mut Core, stable: &Stable) -> Result<(), NoMemo
 }
 
 /// The names are those of red actions, each once.
-pub(crate) fn are_yellow(core: &Core, ids: &[ActionId]) -> bool
+fn are_yellow(core: &Core, ids: &[ActionId]) -> bool
     ensures { result ≡ are_yellow core.now.queue ids.now }
 {
     is_distinct(ids) && are_red(core, ids)

@@ -23,6 +23,7 @@ use Rattle.cg_stored.specs.declared.checkpoint.Checkpoint.{Checkpoint}
 use Rattle.cg_stored.specs.Limits.{AreParts}
 use Rattle.cg_stored.specs.Parts.{next_index, red_cut_of, queue_in, stored_in, Fits, is_between_cuts, greens_agree, yellow_agrees, do_agree}
 use Rattle.cg_stored.specs.Following.{is_distinct, are_yellow}
+use Rattle.cg_stored.specs.AgreeingLaws.{each-replica}
 use Rattle.cg_stored.specs.Agreeing.{indexes_of, counts_up, is_by_name, is_present}
 
 -- ---- red names
@@ -52,22 +53,10 @@ counted from (suc n) k = rw (counted (suc from) n k) (grind arith)
 above : (low high k : ℕ) → list_any (λ m. eqb m k) (above_up_to low high) ≡ (ltb low k && leb k high)
 above low high k = counted (suc low) (high - low) k ∙ grind arith
 
--- the replicas that there are
-among : (P : ℕ → Bool) (from n : ℕ) → list_all P (count_up from n) ≡ true → (p : ℕ) → from ≤ p → p < from + n → P p ≡ true
-among P from zero all p low high = absurd (omega arith)
-among P from (suc n) all p low high =
-    let parts = and_parts (P from) (list_all P (count_up (suc from) n)) all in
-    first (eqb p from) refl parts.0 (λ later. among P (suc from) n parts.1 p later (omega arith))
-  where
-    first : (b : Bool) → eqb p from ≡ b → P from ≡ true → (suc from ≤ p → P p ≡ true) → P p ≡ true
-    first true e here others = rw (eqb-true p from e) here
-    first false e here others = let apart : p ≢ from = eqb-false p from e in others (omega arith)
-
 -- each creator's reds count up from its green cut to its red cut
 reds-counted : (p : Checkpoint) → list_all (counts_up (queue_in p)) every_replica ≡ true → (c : ℕ) → IsId c → indexes_of p.kept.reds c ≡ above_up_to (index_in p.reached.cut c) (index_in (red_cut_of p) c)
-unfolding every_replica
 reds-counted p all c is =
-    let one = among (counts_up (queue_in p)) 1 32 all c is.0 (let high : c ≤ 32 = is.1 in omega arith) in
+    let one = each-replica (counts_up (queue_in p)) c all is in
     let parts = and_parts _ _ one in
     same_text _ _ (sym parts.1)
 

@@ -3,6 +3,7 @@ pub mod Change
 pub mod Following
 pub mod Checkpoint
 pub mod Agreeing
+pub mod AgreeingLaws
 pub mod Limits
 pub mod Reading
 pub mod Parts

@@ -1,10 +1,14 @@
 use Rattle.std.proofs.Common.{◌≡◌, fold}
 use Rattle.std.specs.Vec.Iter.{into_iter_items}
 use Rattle.cg_action.specs.Limits.{IsAction}
+use Rattle.cg_queue.specs.Queue.{names_of}
 use Rattle.cg_records.specs.Limits.{Each}
+use Rattle.cg_store.specs.Leading.{AreNext}
 use Rattle.cg_store.specs.Rebuilt.{with_kept_green}
 use Rattle.cg_store.proofs.resuming.put_greens.Given as goal
 
 -- those that are left give what all gave
 abbrev pub invariant-loop-a : goal.invariant-loop-a
-invariant-loop-a l = (fold with_kept_green l.core (into_iter_items l.a-iterator) ≡ fold with_kept_green l.fn.core l.fn.greens) × Each IsAction (into_iter_items l.a-iterator)
+invariant-loop-a l =
+    (fold with_kept_green l.core (into_iter_items l.a-iterator) ≡ fold with_kept_green l.fn.core l.fn.greens) × Each IsAction (into_iter_items l.a-iterator)
+    × AreNext l.core.queue.green_cut (names_of (into_iter_items l.a-iterator))
