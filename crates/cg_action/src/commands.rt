@@ -44,6 +44,15 @@ impl CmdList {
         }
     }
 
+    /// This command alone. It takes no memory.
+    pub fn one(alloc: Global, cmd: Cmd) -> CmdList
+        ensures { result ≡ cmd ∷ [] }
+    {
+        CmdList {
+            cmds: SmallVec::from_buf(alloc, [cmd]),
+        }
+    }
+
     /// No commands, with room for so many.
     pub fn with_capacity(alloc: Global, capacity: usize) -> Result<CmdList, NoMemory>
         ensures { IfOk result (λ list. list ≡ []) }
@@ -52,6 +61,7 @@ impl CmdList {
         Ok(CmdList { cmds })
     }
 
+    /// Adds a command at the end. Where memory is refused nothing is changed.
     pub fn push(&mut self, cmd: Cmd) -> Result<(), NoMemory>
         ensures ok { OnOk result (self.new ≡ self.old ++ cmd ∷ []) }
         ensures err { OnErr result (self.new ≡ self.old) }
@@ -62,6 +72,7 @@ impl CmdList {
         }
     }
 
+    /// The commands in their order.
     pub fn as_slice(&self) -> &[Cmd]
         ensures { result.now ≡ self.now }
     {
@@ -91,6 +102,18 @@ impl Eq for CmdList {
 
 /// Other commands that are the same.
 pub fn copy_commands(alloc: Global, cmds: &[Cmd]) -> Result<CmdList, NoMemory>
+    ensures { IfOk result (λ list. list ≡ cmds.now) }
+{
+    match cmds {
+        [cmd] => {
+            let copy = cmd.copy(alloc)?;
+            Ok(CmdList::one(alloc, copy))
+        }
+        _ => copy_each(alloc, cmds),
+    }
+}
+
+fn copy_each(alloc: Global, cmds: &[Cmd]) -> Result<CmdList, NoMemory>
     ensures { IfOk result (λ list. list ≡ cmds.now) }
 {
     let mut copies = CmdList::with_capacity(alloc, cmds.len())?;

@@ -1,7 +1,7 @@
 //! Actions from bytes.
 
-ghost use Rattle.std.specs.Prelude.{IfOk};
-ghost use Rattle.cg_codec.specs.Reading.{whole, take_text, take_optional, byte_between};
+ghost use Rattle.std.specs.Prelude.{[], IfOk};
+ghost use Rattle.cg_codec.specs.Reading.{whole, take_text, take_optional, take_items, byte_between};
 ghost use Rattle.cg_codec.specs.Taking.{unread_of, Takes, TakesWithMemory, Decodes};
 ghost use Rattle.cg_action.specs.Limits.{IsAction};
 ghost use Rattle.cg_action.specs.Reading.{number_from, id_reading, key_reading, value_of_tag, value_reading, want_of_tag, want_reading, amount_reading, put_reading, del_reading, inc_reading, cas_reading, move_reading, need_reading, command_of_tag, command_reading, query_of_tag, query_reading, commands_reading, query_behind, update_reading, heavy_join_reading, kind_of_tag, kind_reading, action_reading};
@@ -264,6 +264,28 @@ fn take_commands(alloc: Global, fields: &mut Fields) -> Result<CmdList, CodecFau
 {
     let mut after = *fields;
     let count = after.take_count(16)?;
+    let cmds = if count == 1 {
+        take_single(alloc, &mut after)?
+    } else {
+        take_each(alloc, &mut after, count)?
+    };
+    *fields = after;
+    Ok(cmds)
+}
+
+// one command, as most actions have: it lies in the list itself
+#[tactic(auto, unfolding(cg_codec::specs::Reading::take_items))]
+fn take_single(alloc: Global, fields: &mut Fields) -> Result<CmdList, CodecFault>
+    ensures { TakesWithMemory (λ l. l) (take_items (λ _. command_reading) 1 []) (unread_of fields.old) (unread_of fields.new) result }
+{
+    let cmd = take_command(alloc, fields)?;
+    Ok(CmdList::one(alloc, cmd))
+}
+
+fn take_each(alloc: Global, fields: &mut Fields, count: u32) -> Result<CmdList, CodecFault>
+    ensures { TakesWithMemory (λ l. l) (take_items (λ _. command_reading) count []) (unread_of fields.old) (unread_of fields.new) result }
+{
+    let mut after = *fields;
     let mut cmds = CmdList::with_capacity(alloc, count as usize)?;
     for _ in 0..count {
         cmds.push(take_command(alloc, &mut after)?)?;

@@ -69,6 +69,13 @@ impl Cut {
         self.indexes[usize::from(id.get() - 1)]
     }
 
+    /// Says what every cut is, as `get` does, where no index is asked for.
+    pub fn ascends(&self)
+        ensures { IsCut self.now }
+    {
+        let _ = &self.indexes;
+    }
+
     /// Raises the creator's index to the given one. It never lowers: a cut that is as far already stays as it is.
     pub fn raise(&mut self, id: ReplicaId, to: u64)
         ensures { self.new ≡ raise self.old (record { creator = id; index = to }) }

@@ -64,7 +64,7 @@ impl Core {
     pub(crate) fn last_created(&self) -> u64
         ensures { result ≡ created self.now }
     {
-        self.queue.red_cut().get(self.id).max(last_index(&self.own))
+        self.queue.red_index(self.id).max(last_index(&self.own))
     }
 }
 

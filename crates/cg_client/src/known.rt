@@ -1,5 +1,5 @@
 //! The actions that are known, each within the limits of an action.
-ghost use Rattle.std.specs.Prelude.{◌≡◌, ◌≤◌, ◌<◌, ◌^◌, ◌-◌, suc, filter, not, IfOk, IfSome, IsSome, MatchOption, OnOk, OnErr};
+ghost use Rattle.std.specs.Prelude.{◌≡◌, ◌≤◌, ◌<◌, ◌^◌, ◌-◌, suc, filter, not, IfOk, IfSome, IsSome, MatchOption, OnOk};
 ghost use Rattle.std.specs.Option.{option_copied};
 ghost use Rattle.cg_base.specs.Cuts.{index_in};
 ghost use Rattle.cg_base.specs.Ids.{names};
@@ -11,7 +11,7 @@ ghost use Rattle.cg_queue.specs.Answers.{Answers, AreReds};
 ghost use Rattle.cg_queue.specs.Queue.{resumed, marked_red, marked_yellow, placed_green, discarded, green_count, action_of, names_of, marked_green};
 
 use cg_action::{Action, ActionList};
-use cg_base::{ActionId, Cut, IdList, IdRuns, NoMemory};
+use cg_base::{ActionId, Cut, IdList, IdRuns, NoMemory, ReplicaId};
 use cg_queue::{Mark, Queue, QueueFault};
 use std::alloc::Global;
 use std::marker::Model;
@@ -163,8 +163,14 @@ impl Known {
         ensures small { IsSmallCut self.now.red_cut }
     {
         let cut = self.queue.red_cut();
-        let _tops = cut.iter();
+        cut.ascends();
         cut
+    }
+
+    pub(crate) fn red_index(&self, creator: ReplicaId) -> u64
+        ensures { result ≡ index_in self.now.red_cut creator }
+    {
+        self.queue.red_index(creator)
     }
 
     pub(crate) fn green_cut(&self) -> Cut
@@ -172,8 +178,14 @@ impl Known {
         ensures small { IsSmallCut self.now.green_cut }
     {
         let cut = self.queue.green_cut();
-        let _tops = cut.iter();
+        cut.ascends();
         cut
+    }
+
+    pub(crate) fn green_index(&self, creator: ReplicaId) -> u64
+        ensures { result ≡ index_in self.now.green_cut creator }
+    {
+        self.queue.green_index(creator)
     }
 
     pub(crate) fn green_count(&self) -> u64

@@ -64,7 +64,7 @@ impl Core {
         ensures value { result ≡ can_be_green self.now a.now }
         ensures next { IsTrue result → a.now.id.index ≡ suc (index_in self.now.queue.green_cut a.now.id.creator) }
     {
-        is_next(a.id.index, self.queue.green_cut().get(a.id.creator)) && !self.is_unmade(a)
+        is_next(a.id.index, self.queue.green_index(a.id.creator)) && !self.is_unmade(a)
     }
 
     /// Marks an action red, where it is the next of its creator.
@@ -179,7 +179,7 @@ fn note_unknown(
     requires { IsAction a.now }
     ensures { OnOk result (known.new ≡ known.old ++ unknown_in queue.now a.now) }
 {
-    if queue.red_cut().get(a.id.creator) < a.id.index {
+    if queue.red_index(a.id.creator) < a.id.index {
         known.push(a.copy(alloc)?)?;
     }
     Ok(())

@@ -1,6 +1,7 @@
 //! What stands in a replica: for the states, the store and the layers above.
 ghost use Rattle.std.specs.Prelude.{◌≡◌, ◌≤◌, ◌-◌, ◌^◌, length, slice_get, IfOk, IfSome, IsSome};
 ghost use Rattle.std.specs.Option.{option_copied};
+ghost use Rattle.cg_base.specs.Cuts.{index_in};
 ghost use Rattle.cg_base.specs.Ids.{names};
 ghost use Rattle.cg_base.specs.Lists.{at_place};
 ghost use Rattle.cg_action.specs.Limits.{IsAction};
@@ -115,11 +116,25 @@ impl Core {
         self.queue.green_cut()
     }
 
+    /// The index of the creator's last green action, 0 where it has none.
+    pub fn green_index(&self, creator: ReplicaId) -> u64
+        ensures { result ≡ index_in self.now.queue.green_cut creator }
+    {
+        self.queue.green_index(creator)
+    }
+
     pub fn red_cut(&self) -> Cut
         ensures value { result ≡ self.now.queue.red_cut }
         ensures small { IsSmallCut self.now.queue.red_cut }
     {
         self.queue.red_cut()
+    }
+
+    /// The index of the creator's last known action, 0 where it has none.
+    pub fn red_index(&self, creator: ReplicaId) -> u64
+        ensures { result ≡ index_in self.now.queue.red_cut creator }
+    {
+        self.queue.red_index(creator)
     }
 
     /// The number of greens, discarded ones counted.

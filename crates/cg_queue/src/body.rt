@@ -37,8 +37,7 @@ pub(crate) fn empty_body(alloc: Global, white: u64, cut: Cut) -> Body
     ensures parts { parts_of result ≡ no_parts white cut }
     ensures cut { IsCut cut }
 {
-    // it says that the cut is one
-    let _tops = cut.iter();
+    cut.ascends();
     Body {
         white,
         greens: VecDeque::new(alloc),

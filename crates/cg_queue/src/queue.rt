@@ -328,6 +328,20 @@ impl Queue {
         self.body.green_cut
     }
 
+    /// The index of the creator's last known action, 0 where it has none.
+    pub fn red_index(&self, creator: ReplicaId) -> u64
+        ensures { result ≡ index_in self.now.red_cut creator }
+    {
+        self.body.red_cut.get(creator)
+    }
+
+    /// The index of the creator's last green action, 0 where it has none.
+    pub fn green_index(&self, creator: ReplicaId) -> u64
+        ensures { result ≡ index_in self.now.green_cut creator }
+    {
+        self.body.green_cut.get(creator)
+    }
+
     /// The number of greens, discarded ones counted.
     pub fn green_count(&self) -> u64
         ensures count { result ≡ green_count self.now }

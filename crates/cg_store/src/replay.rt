@@ -90,7 +90,7 @@ fn know_one(core: &mut Core, a: Action) -> Result<bool, NoMemory>
 fn fits_known(core: &Core, a: &Action) -> bool
     ensures { result ≡ fits_known core.now a.now }
 {
-    is_next(a.id.index, core.red_cut().get(a.id.creator))
+    is_next(a.id.index, core.red_index(a.id.creator))
         && (a.id.creator != core.id() || is_first_own(core, &a.id))
 }
 
@@ -122,7 +122,7 @@ fn turn_one(core: &mut Core, id: ActionId) -> Result<bool, NoMemory>
     let Some(a) = core.get(id) else {
         return Ok(false);
     };
-    if !is_next(a.id.index, core.green_cut().get(a.id.creator)) {
+    if !is_next(a.id.index, core.green_index(a.id.creator)) {
         return Ok(false);
     }
     let name = a.id;
