@@ -13,7 +13,7 @@ use Rattle.cg_action.specs.declared.command.Cmd.{Cmd}
 use Rattle.cg_db.specs.declared.entry.DbEntry.{DbEntry}
 use Rattle.cg_db.specs.declared.effect.Effect.{Effect}
 use Rattle.cg_db.specs.declared.effect.Effect.TheVariants.{Done, Aborted, Range}
-use Rattle.cg_db.specs.declared.plan.Change.{Change}
+use Rattle.cg_db.specs.declared.changes.Change.{Change}
 use Rattle.cg_db.specs.Map.{value_of}
 use Rattle.cg_db.specs.Apply.{Ran, Changed, Aborts, Overflows, Applied, run_command, run_commands}
 use Rattle.cg_db.specs.Plan.{set_option, changed, with_changes, left_by}
@@ -99,7 +99,7 @@ pub written_all : (db : List DbEntry) (left : List Change) (total : List DbEntry
 unfolding with_changes
 written_all db left total none so_far = rw none at so_far
 
-fold_behind : (db : List DbEntry) (cs : List Change) (c : Change) → with_changes db (cs ++ c ∷ []) ≡ changed (with_changes db cs) c
+pub fold_behind : (db : List DbEntry) (cs : List Change) (c : Change) → with_changes db (cs ++ c ∷ []) ≡ changed (with_changes db cs) c
 unfolding with_changes
 fold_behind db [] c = refl
 fold_behind db (x ∷ cs) c = fold_behind (changed db x) cs c
@@ -113,6 +113,9 @@ pub value_of-more : (db : List DbEntry) (cs : List Change) (i : ℕ) (c : Change
 value_of-more db cs i c q lt is =
     let whole : take (i + 1) cs ≡ take i cs ++ c ∷ [] = rw add-one (take-suc cs i c lt ∙ ap (λ d. take i cs ++ d ∷ []) is) in
     rw (whole, fold_behind db (take i cs) c) (value_of-set (with_changes db (take i cs)) c.key c.value q)
+
+pub value_of-last : (db : List DbEntry) (cs : List Change) (c : Change) (q : List ℕ) → value_of (with_changes db (cs ++ c ∷ [])) q ≡ cond (same_text q c.key) c.value (value_of (with_changes db cs) q)
+value_of-last db cs c q = rw (fold_behind db cs c) (value_of-set (with_changes db cs) c.key c.value q)
 
 -- ---- numbers of 64 bits
 

@@ -1,14 +1,20 @@
 -- The changes that an action makes, before they are written.
-use Rattle.std.specs.Prelude.{ℕ, List, Option, Some, None, fold}
+use Rattle.std.specs.Prelude.{ℕ, List, ◌++◌, Option, Some, None, fold}
+use Rattle.std.specs.Option.{option_to_list}
 use Rattle.cg_action.specs.declared.value.Value.{Value}
 use Rattle.cg_db.specs.declared.entry.DbEntry.{DbEntry}
 use Rattle.cg_db.specs.declared.effect.Effect.{Effect}
 use Rattle.cg_db.specs.declared.effect.Effect.TheVariants.{Done, Aborted, Range}
-use Rattle.cg_db.specs.declared.plan.Change.{Change}
+use Rattle.cg_db.specs.declared.changes.Change.{Change}
+use Rattle.cg_db.specs.declared.changes.Changes.{Changes}
 use Rattle.cg_db.specs.declared.plan.Step.{Step}
 use Rattle.cg_db.specs.declared.plan.Step.TheVariants.{Goes, Fails, Overflows as Exceeds}
 use Rattle.cg_db.specs.Map.{put, remove}
 use Rattle.cg_db.specs.Apply.{Ran, Changed, Aborts, Overflows}
+
+-- the changes in order
+abbrev pub listed : Changes → List Change
+listed changes = changes.earlier.items ++ option_to_list changes.last
 
 -- the database with what a key is to have
 abbrev pub set_option : List DbEntry → List ℕ → Option Value → List DbEntry

@@ -5,10 +5,11 @@ ghost use Rattle.cg_text.specs.Order.{begins_with};
 ghost use Rattle.cg_db.specs.Find.{answer_of};
 ghost use Rattle.cg_db.specs.Map.{put};
 ghost use Rattle.cg_db.specs.View.{of_entries, entry_at};
-ghost use Rattle.cg_db.specs.Plan.{changed, with_changes};
+ghost use Rattle.cg_db.specs.Plan.{listed, changed, with_changes};
 ghost use Rattle.cg_action.specs.Limits.{IsAction, IsCommand};
 
-use crate::plan::{Change, plan};
+use crate::changes::{Change, Changes};
+use crate::plan::plan;
 use crate::{Answer, DbEntry, Effect, EntryList, TxtList};
 use cg_action::{Action, Cmd, Kind, Query, Value};
 use cg_base::{NoMemory, Row};
@@ -70,7 +71,7 @@ impl Db {
         ensures ok { IfOk result (λ effect. run_commands self.old 0 cmds.now (Changed self.old) ≡ record { db = self.new; effect = effect }) }
         ensures err { OnErr result (self.new ≡ self.old) }
     {
-        let mut changes = Vec::new(self.alloc);
+        let mut changes = Changes::new(self.alloc);
         let effect = plan(self, &mut changes, cmds)?;
         match effect {
             Effect::Done => {
@@ -230,15 +231,27 @@ fn copy_entry(alloc: Global, from: &Map, place: usize, to: &mut Map) -> Result<(
 }
 
 // all of the changes, or none where memory is refused
-fn write(map: &mut Map, changes: Vec<Change>) -> Result<(), NoMemory>
-    ensures ok { OnOk result (of_entries map.new.entries ≡ with_changes (of_entries map.old.entries) changes.items) }
+fn write(map: &mut Map, changes: Changes) -> Result<(), NoMemory>
+    ensures ok { OnOk result (of_entries map.new.entries ≡ with_changes (of_entries map.old.entries) (listed changes)) }
     ensures err { OnErr result (map.new.entries ≡ map.old.entries) }
 {
-    map.reserve(changes.len())?;
-    for change in changes {
+    map.reserve(changes.earlier.len() + 1)?;
+    let Changes { earlier, last } = changes;
+    write_each(map, earlier);
+    if let Some(change) = last {
         write_one(map, change);
     }
     Ok(())
+}
+
+fn write_each(map: &mut Map, changes: Vec<Change>)
+    requires { length changes.items < spare map.old }
+    ensures changed { of_entries map.new.entries ≡ with_changes (of_entries map.old.entries) changes.items }
+    ensures room { 0 < spare map.new }
+{
+    for change in changes {
+        write_one(map, change);
+    }
 }
 
 fn write_one(map: &mut Map, change: Change)

@@ -7,6 +7,7 @@
 #![tactic(auto)]
 
 mod answer;
+mod changes;
 mod db;
 mod effect;
 mod entry;

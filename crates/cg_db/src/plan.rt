@@ -6,19 +6,13 @@ ghost use Rattle.cg_action.specs.Limits.{IsCommand};
 ghost use Rattle.cg_action.specs.declared.command.Cmd.TheVariants.{Cas, Move};
 ghost use Rattle.cg_db.specs.Map.{value_of, same_value, same_option};
 ghost use Rattle.cg_db.specs.Apply.{Changed, number_of, add_to, move_number, run_command, run_commands};
-ghost use Rattle.cg_db.specs.Plan.{set_option, with_changes, ran, left_by};
+ghost use Rattle.cg_db.specs.Plan.{listed, set_option, with_changes, ran, left_by};
 
+use crate::changes::{Change, Changes};
 use crate::{Db, Effect};
 use cg_action::{Cmd, Value};
 use cg_base::NoMemory;
 use cg_text::Txt;
-
-/// What a key is going to have; `None` takes it out.
-#[derive(Drop)]
-pub(crate) struct Change {
-    pub(crate) key: Txt,
-    pub(crate) value: Option<Value>,
-}
 
 /// How a command ended.
 #[derive(Clone, Copy, Debug, PartialEq, Eq)]
@@ -29,11 +23,11 @@ pub(crate) enum Step {
 }
 
 /// Works out the changes of the commands, behind changes that aren't written yet.
-pub(crate) fn plan(db: &Db, changes: &mut Vec<Change>, cmds: &[Cmd]) -> Result<Effect, NoMemory>
+pub(crate) fn plan(db: &Db, changes: &mut Changes, cmds: &[Cmd]) -> Result<Effect, NoMemory>
     requires few { length cmds.now ≤ 16 }
     requires each { All IsCommand cmds.now }
-    ensures { IfOk result (λ effect. run_commands db.now 0 cmds.now (Changed (with_changes db.now changes.old.items))
-        ≡ record { db = left_by effect db.now (with_changes db.now changes.new.items); effect = effect }) }
+    ensures { IfOk result (λ effect. run_commands db.now 0 cmds.now (Changed (with_changes db.now (listed changes.old)))
+        ≡ record { db = left_by effect db.now (with_changes db.now (listed changes.new)); effect = effect }) }
 {
     for (i, cmd) in cmds.iter().enumerate() {
         let place = i as u8 + 1;
@@ -46,9 +40,9 @@ pub(crate) fn plan(db: &Db, changes: &mut Vec<Change>, cmds: &[Cmd]) -> Result<E
     Ok(Effect::Done)
 }
 
-fn run_command(db: &Db, changes: &mut Vec<Change>, cmd: &Cmd) -> Result<Step, NoMemory>
+fn run_command(db: &Db, changes: &mut Changes, cmd: &Cmd) -> Result<Step, NoMemory>
     requires { IsCommand cmd.now }
-    ensures { IfOk result (λ step. run_command (with_changes db.now changes.old.items) cmd.now ≡ ran step (with_changes db.now changes.new.items)) }
+    ensures { IfOk result (λ step. run_command (with_changes db.now (listed changes.old)) cmd.now ≡ ran step (with_changes db.now (listed changes.new))) }
 {
     match cmd {
         Cmd::Put { key, value } => {
@@ -68,7 +62,7 @@ fn run_command(db: &Db, changes: &mut Vec<Change>, cmd: &Cmd) -> Result<Step, No
             amount,
         } => move_amount(db, changes, source, target, *amount),
         Cmd::Need { key, want } => {
-            if has(db, changes.as_slice(), key, want) {
+            if has(db, changes, key, want) {
                 Ok(Step::Goes)
             } else {
                 Ok(Step::Fails)
@@ -78,18 +72,18 @@ fn run_command(db: &Db, changes: &mut Vec<Change>, cmd: &Cmd) -> Result<Step, No
 }
 
 // one more change
-fn set(db: &Db, changes: &mut Vec<Change>, key: &Txt, value: Option<Value>) -> Result<(), NoMemory>
-    ensures { OnOk result (with_changes db.now changes.new.items ≡ set_option (with_changes db.now changes.old.items) key.now value) }
+fn set(db: &Db, changes: &mut Changes, key: &Txt, value: Option<Value>) -> Result<(), NoMemory>
+    ensures { OnOk result (with_changes db.now (listed changes.new) ≡ set_option (with_changes db.now (listed changes.old)) key.now value) }
 {
     let key = key.copy(db.alloc())?;
     changes.push(Change { key, value })?;
     Ok(())
 }
 
-fn add(db: &Db, changes: &mut Vec<Change>, key: &Txt, by: i64) -> Result<Step, NoMemory>
-    ensures { IfOk result (λ step. add_to (with_changes db.now changes.old.items) key.now by ≡ ran step (with_changes db.now changes.new.items)) }
+fn add(db: &Db, changes: &mut Changes, key: &Txt, by: i64) -> Result<Step, NoMemory>
+    ensures { IfOk result (λ step. add_to (with_changes db.now (listed changes.old)) key.now by ≡ ran step (with_changes db.now (listed changes.new))) }
 {
-    let Some(number) = number_in(db, changes.as_slice(), key) else {
+    let Some(number) = number_in(db, changes, key) else {
         return Ok(Step::Fails);
     };
     let Some(sum) = number.checked_add(by) else {
@@ -102,14 +96,14 @@ fn add(db: &Db, changes: &mut Vec<Change>, key: &Txt, by: i64) -> Result<Step, N
 // sets the key where it has what is wanted
 fn swap(
     db: &Db,
-    changes: &mut Vec<Change>,
+    changes: &mut Changes,
     key: &Txt,
     want: &Option<Value>,
     value: &Value,
 ) -> Result<Step, NoMemory>
-    ensures { IfOk result (λ step. run_command (with_changes db.now changes.old.items) (Cas key.now want.now value.now) ≡ ran step (with_changes db.now changes.new.items)) }
+    ensures { IfOk result (λ step. run_command (with_changes db.now (listed changes.old)) (Cas key.now want.now value.now) ≡ ran step (with_changes db.now (listed changes.new))) }
 {
-    if !has(db, changes.as_slice(), key, want) {
+    if !has(db, changes, key, want) {
         return Ok(Step::Goes);
     }
     let value = value.copy(db.alloc())?;
@@ -120,15 +114,15 @@ fn swap(
 // The target may be the source: its number is read behind the first change.
 fn move_amount(
     db: &Db,
-    changes: &mut Vec<Change>,
+    changes: &mut Changes,
     source: &Txt,
     target: &Txt,
     amount: i64,
 ) -> Result<Step, NoMemory>
     requires { pos 0 ≤ℤ amount }
-    ensures { IfOk result (λ step. run_command (with_changes db.now changes.old.items) (Move source.now target.now amount) ≡ ran step (with_changes db.now changes.new.items)) }
+    ensures { IfOk result (λ step. run_command (with_changes db.now (listed changes.old)) (Move source.now target.now amount) ≡ ran step (with_changes db.now (listed changes.new))) }
 {
-    let Some(number) = number_in(db, changes.as_slice(), source) else {
+    let Some(number) = number_in(db, changes, source) else {
         return Ok(Step::Fails);
     };
     if number < amount {
@@ -139,7 +133,19 @@ fn move_amount(
 }
 
 // what a key has behind the changes
-fn value_in<'a>(db: &'a Db, changes: &'a [Change], key: &Txt) -> Option<&'a Value>
+fn value_in<'a>(db: &'a Db, changes: &'a Changes, key: &Txt) -> Option<&'a Value>
+    ensures { option_copied result ≡ value_of (with_changes db.now (listed changes.now)) key.now }
+{
+    let mut value = value_behind(db, changes.earlier.as_slice(), key);
+    if let Some(last) = &changes.last {
+        if *key == last.key {
+            value = last.value.as_ref();
+        }
+    }
+    value
+}
+
+fn value_behind<'a>(db: &'a Db, changes: &'a [Change], key: &Txt) -> Option<&'a Value>
     ensures { option_copied result ≡ value_of (with_changes db.now changes.now) key.now }
 {
     let mut value = db.value(key);
@@ -152,8 +158,8 @@ fn value_in<'a>(db: &'a Db, changes: &'a [Change], key: &Txt) -> Option<&'a Valu
 }
 
 // the number of a key behind the changes, 0 where it is absent; None says that it has a text
-fn number_in(db: &Db, changes: &[Change], key: &Txt) -> Option<i64>
-    ensures { result ≡ number_of (value_of (with_changes db.now changes.now) key.now) }
+fn number_in(db: &Db, changes: &Changes, key: &Txt) -> Option<i64>
+    ensures { result ≡ number_of (value_of (with_changes db.now (listed changes.now)) key.now) }
 {
     match value_in(db, changes, key) {
         None => Some(0),
@@ -165,8 +171,8 @@ fn number_in(db: &Db, changes: &[Change], key: &Txt) -> Option<i64>
 }
 
 // the key has what is wanted behind the changes
-fn has(db: &Db, changes: &[Change], key: &Txt, want: &Option<Value>) -> bool
-    ensures { result ≡ same_option (value_of (with_changes db.now changes.now) key.now) want.now }
+fn has(db: &Db, changes: &Changes, key: &Txt, want: &Option<Value>) -> bool
+    ensures { result ≡ same_option (value_of (with_changes db.now (listed changes.now)) key.now) want.now }
 {
     match value_in(db, changes, key) {
         None => want.is_none(),

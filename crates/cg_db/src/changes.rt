@@ -1,0 +1,44 @@
+//! Changes that aren't written yet.
+
+ghost use Rattle.std.specs.Prelude.{◌≡◌, ◌++◌, ◌∷◌, [], length, OnOk};
+ghost use Rattle.cg_db.specs.Plan.{listed};
+
+use cg_action::Value;
+use cg_base::NoMemory;
+use cg_text::Txt;
+use std::alloc::Global;
+
+/// What a key is going to have; `None` takes it out.
+#[derive(Drop)]
+pub(crate) struct Change {
+    pub(crate) key: Txt,
+    pub(crate) value: Option<Value>,
+}
+
+/// Changes in the order in which they are written. The last one lies in the value itself, for most actions make one.
+#[derive(Drop)]
+pub(crate) struct Changes {
+    pub(crate) earlier: Vec<Change>,
+    pub(crate) last: Option<Change>,
+}
+
+impl Changes {
+    pub(crate) fn new(alloc: Global) -> Changes
+        ensures { listed result ≡ [] }
+    {
+        Changes {
+            earlier: Vec::new(alloc),
+            last: None,
+        }
+    }
+
+    pub(crate) fn push(&mut self, change: Change) -> Result<(), NoMemory>
+        ensures { OnOk result (listed self.new ≡ listed self.old ++ change ∷ []) }
+    {
+        if let Some(previous) = self.last.take() {
+            self.earlier.push(previous)?;
+        }
+        self.last = Some(change);
+        Ok(())
+    }
+}
