@@ -5,7 +5,8 @@ use Rattle.std.specs.Option.{option_map_or}
 use Rattle.std.specs.List.{prefix_len}
 use Rattle.std.proofs.lemmas.Bool.{and_parts, cases_Bool, ltb-true, not-true}
 use Rattle.std.proofs.lemmas.List.Sums.{prefix_len-le-length, fold-append}
-use Rattle.cg_base.specs.Lists.{above_up_to, count_up}
+use Rattle.cg_base.specs.Lists.{above_up_to}
+use Rattle.cg_base.specs.ListLaws.{length-count_up}
 use Rattle.cg_base.specs.Sets.{has}
 use Rattle.cg_knowledge.specs.Members.{gone, remaining}
 use Rattle.cg_knowledge.specs.Verdict.{decides}
@@ -72,10 +73,6 @@ seated w p there = at (seat_of w p) refl there where
   at (Some s) e there = up s s.life refl (eqb-true s.id p (find-holds (λ (s : Seat). s.id == p) w.seats s e)) e there
 
 -- where places are ready, the next one is there
-length-up : (n from : ℕ) → length (count_up from n) ≡ n
-length-up zero from = refl
-length-up (suc n) from = ap suc (length-up n (suc from))
-
 pub some-at : {X : Type 0} (xs : List X) (n : ℕ) → n < length xs → (x : X) × (slice_get xs n ≡ Some x)
 some-at [] n lt = absurd (omega arith)
 some-at (x ∷ xs) zero lt = (x, refl)
@@ -92,7 +89,7 @@ next-there c p conf regular ready-now =
     let at : ready g p ≡ prefix_len test (above_up_to count (length list)) = ap (λ (x : ℕ). ready_in (configuration g x) count) (ap regular_in regular) in
     let some : 0 < ready g p = ltb-true 0 (ready g p) ready-now in
     let few : prefix_len test (above_up_to count (length list)) ≤ length (above_up_to count (length list)) = prefix_len-le-length test (above_up_to count (length list)) in
-    let long = length-up (length list - count) (suc count) in
+    let long = length-count_up (suc count) (length list - count) in
     omega (arith, at, some, few, long)
 
 pub take-drop : {X : Type 0} (xs : List X) (n : ℕ) → take n xs ++ drop n xs ≡ xs

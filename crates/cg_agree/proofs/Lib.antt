@@ -22,8 +22,6 @@ pub mod HeldAll
 pub mod HeldCommit
 pub mod HeldOwn
 pub mod OneselfCopies
-pub mod OneselfJoins
-pub mod OneselfHands
 pub mod HeldExchange
 pub mod HeldMessages
 pub mod OneselfWorld

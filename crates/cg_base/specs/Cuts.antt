@@ -20,10 +20,6 @@ with_top (top ∷ cut) id =
 abbrev pub raise : List ActionId → ActionId → List ActionId
 raise cut id = if id.index == 0 then cut else with_top cut id
 
--- the cut of a list of names
-abbrev pub cut_of : List ActionId → List ActionId
-cut_of ids = fold raise [] ids
-
 -- the creators that have an action in the cut
 abbrev pub creators_in : List ActionId → List ℕ
 creators_in cut = map (λ top. top.creator) cut

@@ -10,6 +10,7 @@ pub mod SlotLaws
 pub mod Iterators
 pub mod Text
 pub mod ChoiceLaws
+pub mod ListLaws
 pub mod IdLaws
 pub mod SetLaws
 pub mod ArrayLaws

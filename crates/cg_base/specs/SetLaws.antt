@@ -1,7 +1,9 @@
 -- What is in a set that is made from others, and that it is a set.
-use Rattle.std.proofs.Common.{◌≡◌, ℕ, suc, ◌+◌, ◌<◌, ◌≤◌, ◌||◌, ◌&&◌, List, [], ◌∷◌, length, filter, Bool, not, true, false, eqb, refl, sym, ap, subst, ◌∙◌, arith, inl, inr, Some}
+use Rattle.std.proofs.Common.{◌≡◌, ◌≢◌, ℕ, zero, suc, ◌+◌, ◌<◌, ◌≤◌, ◌||◌, ◌&&◌, List, [], ◌∷◌, length, filter, Bool, not, true, false, eqb, refl, sym, ap, subst, ◌∙◌, arith, inl, inr, Some}
+use Rattle.std.specs.List.{list_all}
 use Rattle.std.proofs.lemmas.Bool.{cases_eq, cases_order, cases_Bool, eq-eqb, ne_eqb, lt-ltb, le-ltb, eqb-true, and_parts, and_from, or_cases, or_left, or_right}
-use Rattle.cg_base.specs.Sets.{IsSet, Ascends, has, with_member, without_member, union, common, without, least, is_within}
+use Rattle.cg_base.specs.Lists.{count_up}
+use Rattle.cg_base.specs.Sets.{IsId, IsSet, Ascends, every_replica, has, with_member, without_member, union, common, without, least, is_within}
 
 -- ---- ascending lists
 
@@ -192,3 +194,24 @@ is_within-from [] t each = refl
 is_within-from (q ∷ s) t each =
     and_from (has t q) (is_within s t) (each q (or_left (eqb q q) (has s q) (eq-eqb q q refl)))
     (is_within-from s t (λ p here. each p (or_right (eqb q p) (has s p) here)))
+
+-- ---- all replicas
+
+-- what holds of all replicas holds of each
+pub each-replica : (test : ℕ → Bool) (p : ℕ) → list_all test every_replica ≡ true → IsId p → test p ≡ true
+unfolding every_replica
+each-replica test p each id = at-count 32 1 each id.0 (let high : p ≤ 32 = id.1 in omega arith) where
+  above : {m : ℕ} → m ≢ p → m ≤ p → suc m ≤ p
+  above {m} apart low = elim (cases_order m p) [
+    | inl same ↦ absurd (apart same)
+    | inr other ↦ elim other [ inl lt ↦ lt | inr gt ↦ absurd (omega arith) ]
+  ]
+
+  at-count : (n from : ℕ) → list_all test (count_up from n) ≡ true → from ≤ p → p < from + n → test p ≡ true
+  at-count zero from each low high = absurd (omega arith)
+  at-count (suc n) from each low high =
+      let parts = and_parts (test from) (list_all test (count_up (suc from) n)) each in
+      elim (cases_eq from p) [
+        | inl same ↦ ap test (sym same) ∙ parts.0
+        | inr apart ↦ at-count n (suc from) parts.1 (above apart low) (omega arith)
+      ]

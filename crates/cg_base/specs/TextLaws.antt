@@ -30,10 +30,6 @@ KeepsFront-through (x ∷ a) (y ∷ b) (z ∷ c) ab bc =
 pub KeepsFront-less : (before more now : List ℕ) → KeepsFront (before ++ more) now → KeepsFront before now
 KeepsFront-less before more now keeps = KeepsFront-through before (before ++ more) now (KeepsFront-grown before more) keeps
 
--- what was put at the end of a text leaves its front
-pub KeepsFront-put : (before now more : List ℕ) → KeepsFront before now → KeepsFront before (now ++ more)
-KeepsFront-put before now more keeps = KeepsFront-through before now (now ++ more) keeps (KeepsFront-grown now more)
-
 pub KeepsFront-is : (a b more : List ℕ) → b ≡ a ++ more → KeepsFront a b
 KeepsFront-is a b more is = rw is (KeepsFront-grown a more)
 

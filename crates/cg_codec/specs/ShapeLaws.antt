@@ -1,4 +1,4 @@
--- Fields of one, two and three parts, and of a tag with what is behind it.
+-- Fields of one, two and three parts, of a tag with what is behind it, and of a variant behind its tag.
 use Rattle.std.proofs.Common.{◌≡◌, ℕ, ◌+◌, ◌<◌, ◌≤◌, List, [], ◌++◌, length, Ok, refl, sym, ap, subst, ◌∙◌, append_assoc, length-append, arith}
 use Rattle.std.proofs.lemmas.List.{append-nil}
 use Rattle.cg_codec.specs.Fields.{byte}

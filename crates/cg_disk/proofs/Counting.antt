@@ -1,12 +1,12 @@
 -- What a call of a disk in memory shows of it.
 use Rattle.std.proofs.Common.{◌≡◌, inl, inr, ⊎_elim, ℕ, suc, ◌≤◌, ◌<◌, List, [], ◌∷◌, drop, reverse, Some, None, Result, Ok, Err, refl, sym, ◌∙◌, ap, subst, arith}
 use Rattle.cg_disk.specs.Sides.{Image}
-use Rattle.cg_disk.specs.State.{SideState, DiskState, Fails, Stops, Leaves, LeavesSide, blow_at, after_blow, synced_side, looked, shown, unsynced_from}
+use Rattle.cg_disk.specs.State.{SideState, DiskState, Fails, Leaves, LeavesSide, blow_at, after_blow, synced_side, shown, unsynced_from}
 use Rattle.cg_disk.specs.Writes.{Only}
 use Rattle.cg_disk.specs.Undo.{side_after}
 use Rattle.cg_disk.specs.Armed.{strike_of}
 use Rattle.cg_disk.specs.Past.{MayHaveLeft, last_call}
-use Rattle.cg_disk.specs.Model.{writes_of, side_of, points_of, state_of, view_of, SameSides, HasPoint, IsClear, Settles, IsCounted, Counts}
+use Rattle.cg_disk.specs.Model.{writes_of, side_of, points_of, state_of, view_of, SameSides, HasPoint, IsClear, Settles, Counts}
 use Rattle.cg_disk.specs.Calls as calls
 use Rattle.std.proofs.lemmas.Bool.Decides.{nat_tests}
 use Rattle.cg_disk.specs.declared.armed.Armed.{Armed}
@@ -73,36 +73,6 @@ same_looks m n same called =
       images = λ c left. subst (λ x. Leaves x (side_of m.b) c) a (subst (λ y. Leaves (side_of n.a) y c) b left);
       elapses = grown_elapses m n called same.begun same.past (λ i. (a i).old) (λ i. (b i).old) (λ c left. subst (λ x. Leaves x (side_of n.b) c) (sym a) (subst (λ y. Leaves (side_of m.a) y c) (sym b) left));
     }
-
-pub counted_passes : (m n : ModelDisk) → IsCounted m n → calls.Passes looked (view_of m) (view_of n)
-counted_passes m n counted =
-    let sides = same_sides m n counted.same in
-    let a = sides.0 in
-    let b = sides.1 in
-    record {
-      time = counted.calls;
-      faults = counted.faults;
-      state = λ i. Some (record { a = a i; b = b i; strike = counted.strike i });
-      unstruck = counted.unstruck;
-    }
-
--- a disk stops in a call that it has cut short
-pub stops : (m n : ModelDisk) (cut : DiskState → DiskState) → side_of n.a ≡ (cut (state_of m)).a → side_of n.b ≡ (cut (state_of m)).b → n.calls ≡ suc m.calls → m.faults < n.faults → blow_at (strike_of m.calls m.armed) n.calls ≡ Some Stops → strike_of n.calls n.armed ≡ Some (record { call = suc n.calls; blow = Stops }) → calls.Fails cut (view_of m) (view_of n)
-stops m n cut a b called faults struck strike = record {
-  time = called;
-  faults = faults;
-  untold = λ none. absurd (cc);
-  told = λ d is.
-      let told : state_of m ≡ d = cc in (
-        state_of n,
-        refl,
-        record {
-          blow = Stops;
-          struck = ap (λ s. blow_at s.strike n.calls) (sym told) ∙ struck;
-          left = (λ i. record { a = a i; b = b i; strike = strike i }) ∙ ap (λ s. after_blow Stops cut n.calls s) told;
-        },
-      );
-}
 
 -- what was settled
 module _ (m n : ModelDisk) (settles : Settles m n) where

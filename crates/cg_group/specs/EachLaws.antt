@@ -1,5 +1,5 @@
 -- What holds of each element of a list, by recursion; and lists made from it.
-use Rattle.std.proofs.Common.{◌≡◌, ℕ, zero, suc, ◌+◌, ◌-◌, ◌<◌, ◌≤◌, Bool, true, false, ◌||◌, List, [], ◌∷◌, ◌++◌, filter, flat_map, length, refl, sym, ap, ap₂, arith, subst, eq-eqb, eqb-true, true≢false, ⊎_elim}
+use Rattle.std.proofs.Common.{◌≡◌, ℕ, zero, suc, ◌+◌, ◌-◌, ◌<◌, ◌≤◌, Bool, true, false, ◌||◌, List, [], ◌∷◌, ◌++◌, filter, flat_map, refl, sym, ap₂, arith, subst, eq-eqb, eqb-true, true≢false, ⊎_elim}
 use Rattle.std.specs.List.{list_any, list_all}
 use Rattle.cg_base.specs.Lists.{count_up, above_up_to}
 use Rattle.std.specs.Prelude.{◌==◌}
@@ -96,7 +96,3 @@ above_up_to-add low mid high h k =
     let e : high - low ≡ (mid - low) + (high - mid) = omega arith in
     let e2 : suc low + (mid - low) ≡ suc mid = omega arith in
     rw (e, count_up-add (suc low) (mid - low) (high - mid), e2) refl
-
-pub length-count_up : (from n : ℕ) → length (count_up from n) ≡ n
-length-count_up from zero = refl
-length-count_up from (suc n) = ap suc (length-count_up (suc from) n)

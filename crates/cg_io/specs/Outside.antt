@@ -1,4 +1,4 @@
--- What is seen of a source and of a sink, and what a take and a put do to it.
+-- What is seen of a source and of a sink, and what of a part a put may have put.
 use Rattle.std.specs.Prelude.{◌≡◌, ◌+◌, ℕ, List, ◌++◌, Option}
 use Rattle.std.specs.Io.KnownBytes.{Appends}
 use Rattle.cg_io.specs.declared.outside.IoFault.TheVariants as fault

@@ -4,6 +4,7 @@ use Rattle.std.specs.Prelude.{Option, Some, None}
 use Rattle.std.proofs.lemmas.Bool.{and_parts}
 use Rattle.std.proofs.lemmas.Option.{none-some}
 use Rattle.std.proofs.lemmas.Grind.{fold-append}
+use Rattle.cg_base.specs.SetLaws.{each-replica}
 use Rattle.cg_text.specs.Order.{same_text, text_before}
 use Rattle.cg_action.specs.declared.action.Action.{Action}
 use Rattle.cg_action.specs.Limits.{IsAction}
@@ -13,7 +14,6 @@ use Rattle.cg_db.specs.Map.{Ascends, put}
 use Rattle.cg_db.specs.TextOrderLaws.{same-sym, before-trans, before-back, before-apart}
 use Rattle.cg_client.specs.Replica.{Held}
 use Rattle.cg_stored.specs.Agreeing.{counts_up}
-use Rattle.cg_stored.specs.AgreeingLaws.{each-replica}
 use Rattle.cg_store.specs.Leading.{LeadTo}
 use Rattle.cg_join.specs.declared.gather.Gathered.{Gathered}
 use Rattle.cg_join.specs.declared.piece.Head.{Head}

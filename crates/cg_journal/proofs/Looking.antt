@@ -1,5 +1,5 @@
 -- Runs of calls that only look, or sync.
-use Rattle.std.proofs.Common.{◌≡◌, ℕ, ◌+◌, ◌≤◌, Option, Some, None, IfSome, Result, Ok, Err, IsErrOf, OnOk, refl, sym, ◌∙◌, ap, subst, arith}
+use Rattle.std.proofs.Common.{◌≡◌, ◌≤◌, Option, Some, None, IfSome, Result, Ok, Err, IsErrOf, OnOk, refl, sym, ◌∙◌, ap, subst, arith}
 use Rattle.std.specs.Option.{option_map}
 use Rattle.cg_disk.specs.Writes.{Only}
 use Rattle.cg_disk.specs.State.{DiskState, looked, synced}
@@ -8,10 +8,8 @@ use Rattle.cg_disk.specs.Calls as calls
 use Rattle.cg_disk.specs.declared.disk.DiskFault.{DiskFault}
 use Rattle.cg_disk.specs.declared.disk.DiskFault.TheVariants.{Failed, NoMemory}
 use Rattle.cg_journal.specs.Strikes.{IsUnstruck, IsStruck}
-use Rattle.cg_journal.specs.Reads.{IsReadOnly, IsRead, IsReadStruck, IsReadRefused, Reads}
-use Rattle.cg_journal.proofs.Moments.{started, goes_on, chained, armed_at, ahead_of}
-use Rattle.cg_journal.proofs.AddSteps.{struck_more}
-use Rattle.cg_journal.specs.ViewLaws.{unstruck_more}
+use Rattle.cg_journal.specs.Reads.{IsReadOnly, IsReadStruck, Reads}
+use Rattle.cg_journal.proofs.Moments.{started, goes_on, armed_at, ahead_of}
 
 -- a call that isn't struck and leaves the strike as it is
 pub passes_unstruck : (done : DiskState → DiskState) → ((s : DiskState) → (done s).strike ≡ s.strike) → (old new : DiskView) → IsView new → calls.Passes done old new → IsUnstruck old new
@@ -85,29 +83,3 @@ module _ (old new : DiskView) (is_old : IsView old) (is_new : IsView new) (looks
       clean (Some s) after is = subst (λ x. IfSome x IsSynced) (sym is) (refl, refl)
   sync_reads (Err Failed) durable fails never = struck_look looked fails
   sync_reads (Err NoMemory) durable same never = absurd (never refl)
-
--- two runs, one behind the other
-read_only_more : (old mid new : DiskView) → IsReadOnly old mid → IsReadOnly mid new → IsReadOnly old new
-read_only_more old mid new first second = record {
-  reads = second.reads ∙ first.reads;
-  images = λ c left. first.images c (second.images c left);
-  moments = chained old mid new old.may_leave mid.may_leave first.moments second.moments first.images;
-}
-
-pub reads_more : {T : Type 0} (k n : ℕ) (old mid new : DiskView) (r : Result T DiskFault) → IsRead k old mid → Reads n mid new r → Reads (k + n) old new r
-reads_more k n old mid new (Ok x) first second = record { only = read_only_more old mid new first.only second.only; rest = second.rest; time = omega (arith, first.time, second.time); unstruck = unstruck_more old mid new first.unstruck second.unstruck }
-reads_more k n old mid new (Err Failed) first second = record { only = read_only_more old mid new first.only second.only; time = omega (arith, first.time, second.time); struck = struck_more old mid new first.unstruck (omega (arith, first.time)) second.struck }
-reads_more k n old mid new (Err NoMemory) first second = record { only = read_only_more old mid new first.only second.only; time = omega (arith, first.time, second.time); unstruck = unstruck_more old mid new first.unstruck second.unstruck }
-
--- a fault passed on, after fewer calls than there might have been
-pub reads_fault : (T S : Type 0) (k n : ℕ) (old new : DiskView) (fault : DiskFault) → k ≤ n → Reads {T = T} k old new (Err fault) → Reads {T = S} n old new (Err fault)
-reads_fault T S k n old new Failed le run = record { only = run.only; time = omega (arith, run.time, le); struck = run.struck }
-reads_fault T S k n old new NoMemory le run = record { only = run.only; time = omega (arith, run.time, le); unstruck = run.unstruck }
-
--- memory refused before a call
-pub refused_reads : (old : DiskView) → IsView old → IsReadRefused 1 old old
-refused_reads old is = record {
-  only = record { reads = refl; images = λ c left. left; moments = started old old.may_leave is (λ c left. left) };
-  time = omega arith;
-  unstruck = record { faults = refl; stays = refl; ahead = ahead_of old is };
-}

@@ -3,7 +3,8 @@ use Rattle.std.proofs.Common.{◌≡◌, ℕ, zero, suc, ◌-◌, ◌<◌, ◌�
 use Rattle.std.proofs.lemmas.Bool.{lt-ltb, eq-eqb, eqb-true, and_from, and_parts}
 use Rattle.std.proofs.lemmas.List.{length-map}
 use Rattle.std.proofs.lemmas.List.Concat.{flat_map-cons}
-use Rattle.cg_base.specs.Lists.{count_up, above_up_to}
+use Rattle.cg_base.specs.Lists.{above_up_to}
+use Rattle.cg_base.specs.ListLaws.{length-count_up}
 use Rattle.cg_plan.specs.declared.parts.Item.{Item}
 use Rattle.cg_plan.specs.declared.parts.Item.TheVariants.{Green, Red}
 use Rattle.cg_plan.specs.declared.parts.Part.{Part}
@@ -32,13 +33,9 @@ same_item-is (Red id) (Red id') e =
 
 -- ---- the items of one part
 
-length-count_up : (n first : ℕ) → length (count_up first n) ≡ n
-length-count_up zero first = refl
-length-count_up (suc n) first = ap suc (length-count_up n (suc first))
-
 pub length-items : (part : Part) → length (items_of part) ≡ size_of part
-length-items (Greens from to) = length-map (above_up_to (from - 1) to) Green ∙ length-count_up (to - (from - 1)) (suc (from - 1))
-length-items (Reds creator from to) = length-map (above_up_to (from - 1) to) (red_item creator) ∙ length-count_up (to - (from - 1)) (suc (from - 1))
+length-items (Greens from to) = length-map (above_up_to (from - 1) to) Green ∙ length-count_up (suc (from - 1)) (to - (from - 1))
+length-items (Reds creator from to) = length-map (above_up_to (from - 1) to) (red_item creator) ∙ length-count_up (suc (from - 1)) (to - (from - 1))
 
 pub length-turn : (turn : Turn) → length (items_of_turn turn) ≡ size_of turn.part
 length-turn turn = length-map (items_of turn.part) (sent_by turn.sender) ∙ length-items turn.part

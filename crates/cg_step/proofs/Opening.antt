@@ -9,7 +9,9 @@ use Rattle.cg_base.specs.declared.action_id.ActionId.{ActionId}
 use Rattle.cg_base.specs.Cuts.{index_in, raise, creators_in}
 use Rattle.cg_base.specs.Ids.{id_before}
 use Rattle.cg_base.specs.Lists.{count_up, above_up_to}
+use Rattle.cg_base.specs.ListLaws.{length-count_up}
 use Rattle.cg_base.specs.Sets.{IsId, Ascends, has}
+use Rattle.cg_base.specs.SetLaws.{each-replica}
 use Rattle.cg_action.specs.declared.action.Action.{Action}
 use Rattle.cg_action.specs.Limits.{IsAction}
 use Rattle.cg_members.specs.declared.server.Server.{Server}
@@ -23,7 +25,6 @@ use Rattle.cg_stored.specs.Stored.{Stored, whiten}
 use Rattle.cg_stored.specs.declared.change.Change.{Change}
 use Rattle.cg_stored.specs.Limits.{IsStored}
 use Rattle.cg_stored.specs.Following.{fits_known, know, green_by_name, make, all_of, are_yellow, put_values, with_values, after_change}
-use Rattle.cg_stored.specs.AgreeingLaws.{each-replica}
 use Rattle.cg_stored.specs.Agreeing.{Agrees, indexes_of, count_to, counts_up, is_by_name, is_present}
 use Rattle.cg_step.specs.Holds.{run_on, ascend, Rising, CountsTo, Holds}
 use Rattle.cg_step.specs.CutRaiseLaws.{rising-raise, index-same, index-other}
@@ -137,10 +138,7 @@ is-id (suc n) = elim (cases_order n 31) [
 
 counts-up-to : (n low last : ℕ) → low + n ≡ last → CountsTo last (count_up (suc low) n)
 counts-up-to zero low last e = tt
-counts-up-to (suc n) low last e = (omega arith, (ap (λ k. suc low + k) (long n (suc (suc low))) ∙ (let whole : suc low + n ≡ last = omega arith in whole)), counts-up-to n (suc low) last (omega arith)) where
-  long : (n from : ℕ) → length (count_up from n) ≡ n
-  long zero from = refl
-  long (suc n) from = ap suc (long n (suc from))
+counts-up-to (suc n) low last e = (omega arith, (ap (λ k. suc low + k) (length-count_up (suc (suc low)) n) ∙ (let whole : suc low + n ≡ last = omega arith in whole)), counts-up-to n (suc low) last (omega arith))
 
 counts-from : (last : ℕ) (ns : List ℕ) → count_to last ns ≡ true → CountsTo last ns
 counts-from last ns e =

@@ -1,5 +1,5 @@
 -- Actions that lead to a cut: the indexes of each creator's count up, from the cut in front of them.
-use Rattle.std.proofs.Common.{◌≡◌, ◌≢◌, ◌⊎◌, ℕ, zero, suc, ◌+◌, ◌-◌, ◌^◌, ◌<◌, ◌≤◌, max, Bool, true, false, cond, eqb, leb, List, [], ◌∷◌, length, map, filter, fold, refl, sym, ap, subst, ◌∙◌, arith, inl, inr, if◌then◌else◌, nat_lt}
+use Rattle.std.proofs.Common.{◌≡◌, ◌≢◌, ◌⊎◌, ℕ, suc, ◌+◌, ◌-◌, ◌^◌, ◌<◌, ◌≤◌, max, Bool, true, false, cond, eqb, leb, List, [], ◌∷◌, length, map, filter, fold, refl, sym, ap, subst, ◌∙◌, arith, inl, inr, if◌then◌else◌, nat_lt}
 use Rattle.std.specs.Prelude.{◌==◌, nat_eq, IsTrue}
 use Rattle.std.specs.List.{list_all}
 use Rattle.std.specs.Cmp.Lexicographic.{pointwise, same_text}
@@ -7,15 +7,17 @@ use Rattle.std.proofs.lemmas.Bool.{cases_eq, cases_order, cases_lt, eq-eqb, ne_e
 use Rattle.cg_base.specs.declared.action_id.ActionId.{ActionId}
 use Rattle.cg_base.specs.Sets.{IsId, Ascends, every_replica}
 use Rattle.cg_base.specs.Lists.{count_up, above_up_to}
+use Rattle.cg_base.specs.ListLaws.{length-count_up}
 use Rattle.cg_base.specs.Cuts.{IsCut, NameActions, index_in, with_top, raise, creators_in}
 use Rattle.cg_base.specs.CutLaws.{AreNames, index_in-before, index_in-raise, IsCut-raise, IsCut-raised}
 use Rattle.cg_base.specs.IdLaws.{same_name}
+use Rattle.cg_base.specs.SetLaws.{each-replica}
 use Rattle.cg_action.specs.declared.action.Action.{Action}
 use Rattle.cg_action.specs.Limits.{IsAction}
 use Rattle.cg_queue.specs.Queue.{QueueView, names_of}
-use Rattle.cg_records.specs.Limits.{Each, IsIndex, IsSmallCut}
+use Rattle.cg_records.specs.Limits.{Each, IsIndex}
 use Rattle.cg_stored.specs.Agreeing.{indexes_of, count_to, counts_up}
-use Rattle.cg_stored.specs.AgreeingLaws.{each-replica}
+use Rattle.cg_stored.specs.NameLaws.{names-within}
 use Rattle.cg_store.specs.Leading.{AreNext, LeadTo, IsBelow}
 
 -- the indexes of a creator's names, in the order of the list
@@ -136,12 +138,6 @@ cuts-same a b is_a is_b same = same-cuts 1 a b is_a.ascends is_b.ascends is_a.na
 
 -- ---- actions and their names
 
-named-actions : (actions : List Action) → Each IsAction actions → AreNames (names_of actions)
-named-actions [] are = tt
-named-actions (a ∷ actions) are =
-    let small : a.id.index < 2 ^ 63 = are.0.id.below in
-    (are.0.id.creator, omega (arith, small), named-actions actions are.1)
-
 indexes-named : (actions : List Action) (p : ℕ) → indexes_of actions p ≡ indexes_in (names_of actions) p
 indexes-named [] p = refl
 indexes-named (a ∷ actions) p = elim (cases_eq a.id.creator p) [
@@ -150,10 +146,6 @@ indexes-named (a ∷ actions) p = elim (cases_eq a.id.creator p) [
 ]
 
 -- ---- numbers that count up to the last one
-
-length-count_up : (from n : ℕ) → length (count_up from n) ≡ n
-length-count_up from zero = refl
-length-count_up from (suc n) = ap suc (length-count_up (suc from) n)
 
 counts-length : (last : ℕ) (ns : List ℕ) → count_to last ns ≡ true → length ns ≡ last - (last - length ns)
 counts-length last ns counts =
@@ -173,13 +165,13 @@ module _ (cut : List ActionId) (actions : List Action) (below : List ActionId) (
       (counts-from (index_in below p) (index_in cut p) (indexes_of actions p) (is.each p is_id) (lead p is_id))
 
   pub below-next : AreNext below (names_of actions)
-  below-next = counted-next below (names_of actions) is.is_cut (named-actions actions are) count-below
+  below-next = counted-next below (names_of actions) is.is_cut (names-within actions are) count-below
 
   pub below-leads : IsCut cut → fold raise below (names_of actions) ≡ cut
   below-leads is_cut =
-      cuts-same (fold raise below (names_of actions)) cut (IsCut-raised below (names_of actions) is.is_cut (named-actions actions are)) is_cut
+      cuts-same (fold raise below (names_of actions)) cut (IsCut-raised below (names_of actions) is.is_cut (names-within actions are)) is_cut
       (λ p is_id.
-      let led = index_in-led below (names_of actions) p is.is_cut (named-actions actions are) below-next in
+      let led = index_in-led below (names_of actions) p is.is_cut (names-within actions are) below-next in
       let count : length (indexes_of actions p) ≡ index_in cut p - (index_in cut p - length (indexes_of actions p)) = counts-length (index_in cut p) (indexes_of actions p) (lead p is_id) in
       led ∙ ap (λ ns. index_in below p + length ns) (sym (indexes-named actions p)) ∙ ap (λ n. n + length (indexes_of actions p)) (is.each p is_id) ∙ omega (arith, count))
 
@@ -276,13 +268,6 @@ below-made cut actions place id index below new few small so_far id_is index_is 
 
 -- ---- what a checkpoint says of its greens and reds
 
--- a cut whose indexes have bytes is one
-pub small-cut : (cut : List ActionId) → IsSmallCut cut → IsCut cut
-small-cut cut small = record { ascends = small.ascends; named = named cut small.indexes } where
-  named : (c : List ActionId) → Each (λ top. IsIndex top.index) c → NameActions c
-  named [] each = tt
-  named (t ∷ c) each = let high : t.index < 2 ^ 63 = each.0.1 in (each.0.0, omega (arith, high), named c each.1)
-
 pub greens-lead : (q : QueueView) → IsTrue (list_all (counts_up q) every_replica) → LeadTo q.green_cut q.greens
 greens-lead q all p is = (and_parts _ _ (each-replica (counts_up q) p all is)).0
 
@@ -292,6 +277,6 @@ counts-above low high ns counts =
     is ∙ ap (count_up (suc low)) (sym (ap length is ∙ length-count_up (suc low) (high - low)))
 
 pub reds-next : (q : QueueView) → IsTrue (list_all (counts_up q) every_replica) → IsCut q.green_cut → Each IsAction q.reds → AreNext q.green_cut (names_of q.reds)
-reds-next q all is_cut are = counted-next q.green_cut (names_of q.reds) is_cut (named-actions q.reds are)
+reds-next q all is_cut are = counted-next q.green_cut (names_of q.reds) is_cut (names-within q.reds are)
     (λ p is. subst (λ ns. ns ≡ count_up (suc (index_in q.green_cut p)) (length ns)) (indexes-named q.reds p)
     (counts-above (index_in q.green_cut p) (index_in q.red_cut p) (indexes_of q.reds p) (and_parts _ _ (each-replica (counts_up q) p all is)).1))

@@ -33,8 +33,9 @@ pub struct GreenState {
     pub vulnerable: Option<Vulnerable>,
 }
 
-/// What a replica holds that has these greens, and knows no other action. More than 2^62 greens, and numbers of primary
-/// components or attempts that have no bytes, are refused as want of memory.
+/// What a replica holds that has these greens, and knows no other action. Of each creator the greens that are kept are the
+/// last ones up to the cut, as those of a checkpoint and of a snapshot are (`lead`). More than 2^62 greens, and numbers of
+/// primary components or attempts that have no bytes, are refused as want of memory.
 pub fn resume(alloc: Global, id: ReplicaId, state: GreenState) -> Result<Core, NoMemory>
     requires reached { IsReached state.reached }
     requires greens { Each IsAction state.greens }

@@ -13,6 +13,7 @@ use Rattle.cg_base.specs.Ids.{same_id, names}
 use Rattle.cg_base.specs.Cuts.{index_in, raise, with_top}
 use Rattle.cg_base.specs.Lists.{count_up, above_up_to}
 use Rattle.cg_base.specs.Sets.{IsId, every_replica}
+use Rattle.cg_base.specs.SetLaws.{each-replica}
 use Rattle.cg_action.specs.declared.action.Action.{Action}
 use Rattle.cg_action.specs.Limits.{IsAction}
 use Rattle.cg_queue.specs.Queue.{green_count, names_of}
@@ -23,7 +24,6 @@ use Rattle.cg_stored.specs.declared.checkpoint.Checkpoint.{Checkpoint}
 use Rattle.cg_stored.specs.Limits.{AreParts}
 use Rattle.cg_stored.specs.Parts.{next_index, red_cut_of, queue_in, stored_in, Fits, is_between_cuts, greens_agree, yellow_agrees, do_agree}
 use Rattle.cg_stored.specs.Following.{is_distinct, are_yellow}
-use Rattle.cg_stored.specs.AgreeingLaws.{each-replica}
 use Rattle.cg_stored.specs.Agreeing.{indexes_of, counts_up, is_by_name, is_present}
 
 -- ---- red names

@@ -1,18 +1,14 @@
 -- Checkpoints and changes are exactly their bytes.
-use Rattle.std.proofs.Common.{◌≡◌, ℕ, ◌^◌, ◌<◌, Bool, true, false, cond, List, [], ◌∷◌, Result, Ok, Err, refl, sym, ap, subst, ◌∙◌, arith}
+use Rattle.std.proofs.Common.{◌≡◌, ℕ, Bool, true, false, cond, List, Result, Ok, Err, refl, sym, ap, subst, ◌∙◌, arith}
 use Rattle.std.specs.Prelude.{Option, Some, None, option_and_then}
-use Rattle.cg_base.specs.declared.action_id.ActionId.{ActionId}
-use Rattle.cg_base.specs.Cuts.{IsCut, NameActions}
 use Rattle.cg_base.specs.Sets.{IsId}
-use Rattle.cg_base.specs.CutLaws.{AreNames, IsCut-raised}
+use Rattle.cg_base.specs.CutLaws.{IsCut-raised}
 use Rattle.cg_codec.specs.declared.fault.CodecFault.{CodecFault}
 use Rattle.cg_codec.specs.Reading.{whole}
 use Rattle.cg_codec.specs.Laws.{AreBytes}
-use Rattle.cg_action.specs.declared.action.Action.{Action}
-use Rattle.cg_action.specs.Limits.{IsAction}
 use Rattle.cg_queue.specs.Queue.{names_of}
 use Rattle.cg_client.specs.Replica.{created}
-use Rattle.cg_records.specs.Limits.{Each, IsIndex, IsNumber, IsSmallCut, IsStable}
+use Rattle.cg_records.specs.Limits.{IsNumber, IsSmallCut, IsStable}
 use Rattle.cg_stored.specs.declared.change.Change.{Change}
 use Rattle.cg_stored.specs.declared.checkpoint.Checkpoint.{Checkpoint}
 use Rattle.cg_stored.specs.Stored.{Stored}
@@ -21,6 +17,7 @@ use Rattle.cg_stored.specs.Checkpoint.{spelled_parts, parts_of, spelled_checkpoi
 use Rattle.cg_stored.specs.Limits.{IsChange, IsStored, AreParts}
 use Rattle.cg_stored.specs.Reading.{change_reading, checkpoint_reading}
 use Rattle.cg_stored.specs.Parts.{red_cut_of, stored_in, Fits, do_agree, checkpoint_of, read_value, change_in, Saved, saved_in, saved_of, checkpoint_in}
+use Rattle.cg_stored.specs.NameLaws.{small-cut, names-within}
 use Rattle.cg_stored.specs.Laws.{IsCheckpoint, FindsChange, FindsCheckpoint}
 use Rattle.cg_stored.proofs.ChangeFields.{change_whole}
 use Rattle.cg_stored.proofs.CheckpointFields.{parts_whole}
@@ -97,19 +94,10 @@ parts-again id p fits = λ i. record {
   kept = p.kept;
 }
 
-named : (cut : List ActionId) → Each (λ top. IsIndex top.index) cut → NameActions cut
-named [] each = tt
-named (top ∷ cut) each = let small : top.index < 2 ^ 63 = each.0.1 in (each.0.0, omega arith, named cut each.1)
-
-names-within : (actions : List Action) → Each IsAction actions → AreNames (names_of actions)
-names-within [] each = tt
-names-within (a ∷ actions) each = let small : a.id.index < 2 ^ 63 = each.0.id.below in (each.0.id.creator, omega arith, names-within actions each.1)
-
 small-red_cut : (p : Checkpoint) → AreParts p → IsSmallCut (red_cut_of p)
 small-red_cut p are =
     let cut = are.reached.cut in
-    let is : IsCut p.reached.cut = record { ascends = cut.ascends; named = named p.reached.cut cut.indexes } in
-    let raised = IsCut-raised p.reached.cut (names_of p.kept.reds) is (names-within p.kept.reds are.kept.reds.each) in
+    let raised = IsCut-raised p.reached.cut (names_of p.kept.reds) (small-cut p.reached.cut cut) (names-within p.kept.reds are.kept.reds.each) in
     record { ascends = raised.ascends; indexes = small-raised p.kept.reds p.reached.cut cut.indexes are.kept.reds.each }
 
 stored-within : (id : ℕ) (p : Checkpoint) → IsId id → AreParts p → Fits id p → IsStored (stored_in id p)

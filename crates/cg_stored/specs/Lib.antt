@@ -3,9 +3,9 @@ pub mod Change
 pub mod Following
 pub mod Checkpoint
 pub mod Agreeing
-pub mod AgreeingLaws
 pub mod Limits
 pub mod Reading
 pub mod Parts
 pub mod Kept
+pub mod NameLaws
 pub mod Laws

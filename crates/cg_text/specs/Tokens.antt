@@ -1,7 +1,7 @@
 -- The tokens of a line, each as its bytes stand there: bare words, quoted texts with their quotes, semicolons and question marks.
 use Rattle.std.specs.Prelude.{ℕ, ◌==◌, Bool, true, false, ◌||◌, not, List, [], ◌∷◌, ◌++◌, Option, Some, None, if◌then◌else◌}
 use Rattle.std.specs.List.{list_all}
-use Rattle.cg_text.specs.Quoted.{quoted_text, ends_text, escapes}
+use Rattle.cg_text.specs.Quoted.{ends_text, escapes}
 
 -- a space or a tab
 abbrev pub is_blank : ℕ → Bool
@@ -73,15 +73,6 @@ pub data Token : Type 0 where
 abbrev pub text_token : Option (List ℕ) → Token
 text_token None = Broken
 text_token (Some text) = Quoted text
-
--- what the bytes of a token are, which are never none
-abbrev pub token_of : List ℕ → Token
-token_of [] = Broken
-token_of (byte ∷ bytes) =
-    if byte == 34 then text_token (quoted_text (byte ∷ bytes))
-    else if byte == 59 then Semicolon
-    else if byte == 63 then QuestionMark
-    else Bare (byte ∷ bytes)
 
 -- a bare word
 abbrev pub is_word : List ℕ → Bool
