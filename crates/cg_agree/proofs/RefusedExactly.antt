@@ -4,7 +4,8 @@ use Rattle.std.proofs.Common.{◌≡◌, List, Option, Some, subst}
 use Rattle.cg_agree.specs.World.{no_world}
 use Rattle.cg_agree.specs.Admission.{first_refusal}
 use Rattle.cg_agree.specs.Run.{Step, Refusal, IsRunFrom, world_after}
-use Rattle.cg_agree.specs.Agreement.{RefusedExactly, IsRefused}
+use Rattle.cg_agree.specs.Agreement.{RefusedExactly}
+use Rattle.cg_agree.specs.EveryRun.{IsRefused}
 use Rattle.cg_agree.proofs.RunPrefix.{made-there}
 
 pub refused-exactly : (steps : List Step) (refused : Option Refusal) → IsRunFrom no_world 0 steps → IsRefused (world_after no_world steps) refused → RefusedExactly steps refused

@@ -9,6 +9,7 @@ pub mod PhaseLaws
 pub mod Shown
 pub mod Quiet
 pub mod Agreement
+pub mod EveryRun
 pub mod Chronicle
 pub mod Turns
 pub mod Attempts

@@ -1,4 +1,4 @@
-ghost use Rattle.cg_agree.specs.Agreement.{EveryRunAgrees};
+ghost use Rattle.cg_agree.specs.EveryRun.{EveryRunAgrees};
 ghost use Rattle.cg_agree.specs.Making.{AlwaysMadeInBook};
 ghost use Rattle.cg_agree.specs.Standing.{AlwaysStands, AlwaysBooked};
 ghost use Rattle.cg_agree.specs.Telling.{EveryRunTells};

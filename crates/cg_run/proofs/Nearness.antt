@@ -16,7 +16,8 @@ use Rattle.cg_run.specs.declared.status.Status.{Status}
 use Rattle.cg_run.specs.declared.status.Status.TheVariants as status
 use Rattle.cg_run.specs.Produced.{Finding, Produced, before_all, status_of, ended_with, and_then}
 use Rattle.cg_run.specs.Outcome.{limit_of, unless_passed, line_outcome, whole_line, at_end, cut_line, last_piece, replayed, outcome_of, text_put}
-use Rattle.cg_run.specs.Taking.{most_taken, OfTaken, Runs, Ends, InTime, IsNear, found_in, end_of_line}
+use Rattle.cg_run.specs.Calls.{Runs}
+use Rattle.cg_run.specs.Taking.{most_taken, OfTaken, Ends, InTime, IsNear, found_in, end_of_line}
 use Rattle.cg_run.specs.Streaming.{IsUnended}
 use Rattle.cg_run.proofs.Feeds.{line_first, first_unended, some_piece}
 use Rattle.cg_run.proofs.GoingOn.{and_then-none, and_then-some}

@@ -17,7 +17,7 @@ use Rattle.cg_agree.specs.Admission.{first_refusal}
 use Rattle.cg_agree.specs.Show.{Moved}
 use Rattle.cg_agree.specs.Step.{world_step}
 use Rattle.cg_agree.specs.Run.{Step, world_after, step_limit, MayStand, IsRunFrom}
-use Rattle.cg_agree.specs.Agreement.{Agreement, IsRefused, EveryRunAgrees}
+use Rattle.cg_agree.specs.EveryRun.{Agreement, IsRefused, EveryRunAgrees}
 use Rattle.cg_agree.specs.SeatLaws.{step_seats}
 use Rattle.cg_run.specs.declared.progress.Ending.{Ending}
 use Rattle.cg_run.specs.declared.progress.Ending.TheVariants.{Ended, Failed, Open}

@@ -1,7 +1,6 @@
 -- The commands that words are.
 use Rattle.std.specs.Prelude.{ℕ, nat_le, ◌&&◌, Bool, true, false, List, [], ◌∷◌, codes, Option, Some, None, Result, Ok, Err, if◌then◌else◌}
 use Rattle.std.specs.Str.{bytes_eq}
-use Rattle.cg_base.specs.Sets.{IsId}
 use Rattle.cg_text.specs.Numbers.{read_u64}
 use Rattle.cg_text.specs.declared.fault.TextFault.{TextFault}
 use Rattle.cg_run.specs.declared.command.Command.{Command}
@@ -47,12 +46,6 @@ abbrev pub command_of : List (List ℕ) → Option Command
 command_of (word ∷ []) = word_alone word
 command_of (word ∷ seed ∷ replicas ∷ lines ∷ []) = generating word seed replicas lines
 command_of words = None
-
--- a generated schedule is for replicas
-abbrev pub IsCommand : Command → Type 0
-IsCommand (Generate seed replicas lines) = IsId replicas
-IsCommand (Trial seed replicas lines) = IsId replicas
-IsCommand other = Unit {0}
 
 -- the command reads the input
 abbrev pub reads_input : Option Command → Bool

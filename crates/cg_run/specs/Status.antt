@@ -1,4 +1,4 @@
--- The numbers of the statuses, and the tail that each puts.
+-- The tail that each status puts.
 use Rattle.std.specs.Prelude.{ℕ, List, [], ◌∷◌, ◌++◌, codes, decimal, Option, Some, None}
 use Rattle.cg_group.specs.declared.reason.Reason.{Reason}
 use Rattle.cg_group.specs.Reasons.{reason_number, reason_value}
@@ -6,17 +6,6 @@ use Rattle.cg_run.specs.declared.status.Status.{Status}
 use Rattle.cg_run.specs.declared.status.Status.TheVariants as status
 use Rattle.cg_run.specs.declared.status.Limit.{Limit}
 use Rattle.cg_run.specs.declared.status.Limit.TheVariants as limit
-
-abbrev pub status_number : Status → ℕ
-status_number status.Done = 0
-status_number status.Usage = 1
-status_number (status.Syntax line reason) = 2
-status_number (status.Refused line reason) = 3
-status_number status.ReadFault = 4
-status_number status.WriteFault = 5
-status_number (status.Limit line what) = 6
-status_number status.NoMemory = 7
-status_number (status.NoEnd lines) = 8
 
 -- how many puts have failed in a run with this status
 abbrev pub write_faults : Status → ℕ

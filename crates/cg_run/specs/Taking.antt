@@ -12,7 +12,7 @@ use Rattle.cg_run.specs.declared.status.Status.{Status}
 use Rattle.cg_run.specs.declared.status.Status.TheVariants as status
 use Rattle.cg_run.specs.Produced.{Produced, status_of, refusal_of}
 use Rattle.cg_run.specs.Refusing.{RefusesLine}
-use Rattle.cg_run.specs.Outcome.{outcome, outcome_of, pieces_for, text_put}
+use Rattle.cg_run.specs.Outcome.{outcome, pieces_for, text_put}
 use Rattle.cg_run.specs.Commands.{command_of}
 use Rattle.cg_run.specs.declared.command.Command.{Command}
 use Rattle.cg_run.specs.Putting.{StopsWith}
@@ -74,13 +74,6 @@ IsNear status taken = (n : ℕ) → found_in status ≡ Some n → length taken 
 -- the run has ended with this status, and put what the command puts of what it comes to
 abbrev pub Ends : Option Command → Produced → SinkView → SinkView → Status → Type 0
 Ends command p from to status = StopsWith (text_put command p) (status_of p) from to status
-
--- the command was run on what was taken as it was needed
-abbrev pub Runs : Option Command → SourceView → SourceView → SinkView → SinkView → Status → Type 0
-Runs command old new from to status =
-    OfTaken old new (λ taken how.
-    (length taken ≤ most_taken) × Ends command (outcome_of command taken how) from to status
-    × InTime (text_put command) (λ front. outcome_of command front Open) taken from to × IsNear status taken)
 
 -- what holds of the steps of the outcome, whatever was taken and however the taking ended
 abbrev pub OfSteps : List (List ℕ) → (List Step → Type 0) → Type 0

@@ -1,6 +1,7 @@
 ghost use Rattle.std.specs.Prelude.{◌≡◌, ◌≤◌, IfSome};
 ghost use Rattle.cg_base.specs.Sets.{IsId};
-ghost use Rattle.cg_run.specs.Commands.{IsCommand, number_in, word_alone, of_schedule, with_numbers, read_numbers, generating, command_of, reads_input};
+ghost use Rattle.cg_run.specs.Calls.{IsCommand};
+ghost use Rattle.cg_run.specs.Commands.{number_in, word_alone, of_schedule, with_numbers, read_numbers, generating, command_of, reads_input};
 
 use crate::arg_text::ArgText;
 use crate::progress::Report;

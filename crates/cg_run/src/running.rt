@@ -11,7 +11,8 @@ ghost use Rattle.cg_run.specs.Commands.{command_of, reads_input};
 ghost use Rattle.cg_run.specs.Outcome.{outcome, text_put};
 ghost use Rattle.cg_run.specs.Putting.{StopsWith};
 ghost use Rattle.cg_run.specs.Status.{write_faults};
-ghost use Rattle.cg_run.specs.Taking.{most_taken, Ends, InTime, IsNear, Runs, OfTaken, ReadCause, OfSteps, TellsOfRefusals, RefusesExactly};
+ghost use Rattle.cg_run.specs.Calls.{Runs};
+ghost use Rattle.cg_run.specs.Taking.{most_taken, Ends, InTime, IsNear, OfTaken, ReadCause, OfSteps, TellsOfRefusals, RefusesExactly};
 
 use crate::arg_text::ArgText;
 use crate::command::{Command, command_of};

@@ -1,5 +1,5 @@
 ghost use Rattle.std.specs.Prelude.{◌≡◌};
-ghost use Rattle.cg_run.specs.Status.{status_number};
+ghost use Rattle.cg_run.specs.Calls.{status_number};
 
 use cg_group::Reason;
 
