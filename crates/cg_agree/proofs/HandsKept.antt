@@ -72,12 +72,13 @@ seated w p there = at (seat_of w p) refl there where
   at None e there = absurd (let no : false ≡ true = there in cc)
   at (Some s) e there = up s s.life refl (eqb-true s.id p (find-holds (λ (s : Seat). s.id == p) w.seats s e)) e there
 
--- where places are ready, the next one is there
+-- below its length a list has something
 pub some-at : {X : Type 0} (xs : List X) (n : ℕ) → n < length xs → (x : X) × (slice_get xs n ≡ Some x)
 some-at [] n lt = absurd (omega arith)
 some-at (x ∷ xs) zero lt = (x, refl)
 some-at (x ∷ xs) (suc n) lt = some-at xs n (omega arith)
 
+-- where places are ready, the next one is there
 pub next-there : (c : Chronicle) (p conf : ℕ) → phase_of c.world.group p ≡ Regular conf → nat_lt 0 (ready c.world.group p) ≡ true →
     delivered_to c.world.group p < length (ordered_in c conf)
 unfolding ready_in

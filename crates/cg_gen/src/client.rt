@@ -1,6 +1,6 @@
 //! What clients ask for.
 
-ghost use Rattle.std.specs.Prelude.{◌≡◌, ◌<◌, [], ◌∷◌, IfOk};
+ghost use Rattle.std.specs.Prelude.{◌≡◌, ◌<◌, IfOk};
 ghost use Rattle.cg_gen.specs.Generated.{asking, increment, set_and_get, weak_get, passes, name};
 
 use crate::draws::Draws;
@@ -39,7 +39,7 @@ fn increment(alloc: Global, draws: &mut Draws, replicas: ReplicaId) -> Result<Ev
     let key = draws.draw(8);
     let n = draws.draw_from_one(9);
     let key = name(alloc, b'k', key)?;
-    let cmds = single(alloc, Cmd::Inc { key, by: n as i64 })?;
+    let cmds = CmdList::one(alloc, Cmd::Inc { key, by: n as i64 });
     Ok(Event::Request {
         p,
         cmds,
@@ -57,7 +57,7 @@ fn set_and_get(alloc: Global, draws: &mut Draws, replicas: ReplicaId) -> Result<
     let counter = name(alloc, b'k', key)?;
     let key = name(alloc, b't', key)?;
     let value = Value::Int(n as i64);
-    let cmds = single(alloc, Cmd::Put { key, value })?;
+    let cmds = CmdList::one(alloc, Cmd::Put { key, value });
     Ok(Event::Request {
         p,
         cmds,
@@ -91,12 +91,4 @@ fn name(alloc: Global, letter: u8, n: u64) -> Result<Txt, NoMemory>
     text.push(char::from(letter))?;
     text.push(char::from(b'0' + n as u8))?;
     Ok(Txt::from_string(text))
-}
-
-fn single(alloc: Global, cmd: Cmd) -> Result<CmdList, NoMemory>
-    ensures { IfOk result (λ cmds. cmds ≡ cmd ∷ []) }
-{
-    let mut cmds = CmdList::new(alloc);
-    cmds.push(cmd)?;
-    Ok(cmds)
 }

@@ -1,5 +1,5 @@
 -- The tokens of a line, each as its bytes stand there: bare words, quoted texts with their quotes, semicolons and question marks.
-use Rattle.std.specs.Prelude.{ℕ, ◌==◌, Bool, true, false, ◌||◌, not, List, [], ◌∷◌, ◌++◌, Option, Some, None, if◌then◌else◌}
+use Rattle.std.specs.Prelude.{ℕ, ◌==◌, Bool, true, false, ◌||◌, not, List, [], ◌∷◌, ◌++◌, if◌then◌else◌}
 use Rattle.std.specs.List.{list_all}
 use Rattle.cg_text.specs.Quoted.{ends_text, escapes}
 
@@ -60,19 +60,6 @@ tokens line = tokens_from Between line
 abbrev pub is_passed_over : List ℕ → Bool
 is_passed_over [] = true
 is_passed_over (byte ∷ bytes) = if is_blank byte then is_passed_over bytes else byte == 35
-
--- what a token is
-pub data Token : Type 0 where
-  Bare : (word : List ℕ) → Token
-  Quoted : (text : List ℕ) → Token
-  Broken : Token
-  Semicolon : Token
-  QuestionMark : Token
-
--- a quoted text that isn't closed, or has another escape or a byte that it must not have, is broken
-abbrev pub text_token : Option (List ℕ) → Token
-text_token None = Broken
-text_token (Some text) = Quoted text
 
 -- a bare word
 abbrev pub is_word : List ℕ → Bool
