@@ -32,6 +32,15 @@ impl Changes {
         }
     }
 
+    pub(crate) fn len(&self) -> usize
+        ensures { result ≡ length (listed self.now) }
+    {
+        match &self.last {
+            Some(_) => self.earlier.len() + 1,
+            None => self.earlier.len(),
+        }
+    }
+
     pub(crate) fn push(&mut self, change: Change) -> Result<(), NoMemory>
         ensures { OnOk result (listed self.new ≡ listed self.old ++ change ∷ []) }
     {

@@ -235,7 +235,7 @@ fn write(map: &mut Map, changes: Changes) -> Result<(), NoMemory>
     ensures ok { OnOk result (of_entries map.new.entries ≡ with_changes (of_entries map.old.entries) (listed changes)) }
     ensures err { OnErr result (map.new.entries ≡ map.old.entries) }
 {
-    map.reserve(changes.earlier.len() + 1)?;
+    map.reserve(changes.len())?;
     let Changes { earlier, last } = changes;
     write_each(map, earlier);
     if let Some(change) = last {
@@ -245,9 +245,9 @@ fn write(map: &mut Map, changes: Changes) -> Result<(), NoMemory>
 }
 
 fn write_each(map: &mut Map, changes: Vec<Change>)
-    requires { length changes.items < spare map.old }
+    requires { length changes.items ≤ spare map.old }
     ensures changed { of_entries map.new.entries ≡ with_changes (of_entries map.old.entries) changes.items }
-    ensures room { 0 < spare map.new }
+    ensures room { spare map.old ≤ spare map.new + length changes.items }
 {
     for change in changes {
         write_one(map, change);

@@ -15,6 +15,7 @@ loop-change-preserved c =
     record {
       same = written_more (of_entries c.loop-change.map.entries) (of_entries c.write_one.new.map.entries) c.in-Some.change left rest total first c.write_one.ensures.changed c.loop-change.invariant.same;
       room = omega (arith, ap length first);
+      used = omega (arith, ap length first);
     }
 
 pub returns-clause-changed : goal.returns-clause-changed
@@ -25,3 +26,10 @@ returns-clause-changed c =
     let total = with_changes (of_entries c.args.map.now.entries) (into_iter_items c.into_iter-change-iterator.result) in
     let written = written_all (of_entries c.loop-change.map.entries) left total none c.loop-change.invariant.same in
     rw all at written
+
+pub returns-clause-room : goal.returns-clause-room
+returns-clause-room c =
+    let left = into_iter_items c.loop-change.change-iterator in
+    let none : left ≡ [] = nil_from_length left (sym c.loop-change.change-iterator.rest.ok.0 ∙ c.in-None.ensures.steps.0) in
+    let all : into_iter_items c.into_iter-change-iterator.result ≡ c.args.changes.items = search rules in
+    omega (arith, ap length none, ap length all)

@@ -7,7 +7,7 @@ use Rattle.cg_db.proofs.db.Db.run.Goals as goal
 pub returns-in_ok-write-in-Done-clause-ok : goal.returns-in_ok-write-in-Done-clause-ok
 returns-in_ok-write-in-Done-clause-ok c =
     let db = c.args.self.now in
-    let changes = (listed c.plan.new.changes) in
+    let changes = listed c.plan.new.changes in
     let written : of_entries c.write.new.map.entries ≡ with_changes db changes = rw (← c.self.view_is) c.in_ok-write-in-Done.ensures.ok in
     run_done db (of_entries c.write.new.map.entries) c.args.cmds.now (listed c.new-changes.result) changes c.in_ok-effect.effect c.new-changes.ensures c.in_ok-effect.ensures c.in-Done.is written
 
