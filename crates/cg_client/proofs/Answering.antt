@@ -1,5 +1,5 @@
 -- What queries find behind actions is found in the database, but for the part at the keys that the actions name.
-use Rattle.std.proofs.Common.{◌≡◌, ℕ, ◌+◌, ◌-◌, Bool, true, false, cond, not, ◌||◌, List, [], ◌∷◌, length, refl, sym, ap, ◌∙◌, arith}
+use Rattle.std.proofs.Common.{◌≡◌, ℕ, ◌+◌, ◌-◌, ◌≤◌, Bool, true, false, cond, not, ◌||◌, List, [], ◌∷◌, length, refl, sym, ap, ◌∙◌, arith}
 use Rattle.std.specs.Prelude.{pos}
 use Rattle.std.specs.Prelude.{Option, Some, None, is_some, fold, filter, Result, Ok, Err, IfOk}
 use Rattle.std.proofs.lemmas.List.Filters.{length-filter_both}
@@ -46,6 +46,13 @@ counted p db new rest =
     let after : length (only p new) + length (only (others p) new) ≡ length new = length-filter_both (λ (e : DbEntry). p e.key) (λ (e : DbEntry). others p e.key) (λ e. refl) new in
     let same : length (only (others p) new) ≡ length (only (others p) db) = ap length rest in
     omega (arith, before, after, same)
+
+pub part-fits : (db part : List DbEntry) (actions : List Action) → part ≡ named_part db actions → Ascends db → length part ≤ length db
+part-fits db part actions is up =
+    let p = among (keys_in actions) in
+    let both : length (only p db) + length (only (others p) db) ≡ length db = length-filter_both (λ (e : DbEntry). p e.key) (λ (e : DbEntry). others p e.key) (λ e. refl) db in
+    let size : length part ≡ length (only p db) = ap length (is ∙ named_part-is db actions up) in
+    omega (arith, both, size)
 
 -- ---- which keys
 

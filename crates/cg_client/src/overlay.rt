@@ -1,5 +1,5 @@
 //! Queries behind actions that aren't written: only a part of the database, at the keys that the actions name, is copied.
-ghost use Rattle.std.specs.Prelude.{◌≡◌, ℕ, List, ◌∷◌, [], not, fold, filter, IfOk, OnOk};
+ghost use Rattle.std.specs.Prelude.{◌≡◌, ◌≤◌, ℕ, List, ◌∷◌, [], not, length, fold, filter, IfOk, OnOk};
 ghost use Rattle.cg_action.specs.Limits.{IsAction};
 ghost use Rattle.cg_action.specs.declared.query.Query.TheVariants.{Keys as KeysOf};
 ghost use Rattle.cg_db.specs.Find.{answer};
@@ -114,6 +114,7 @@ fn answer_with(
     after: &Db,
     q: &Query,
 ) -> Result<Answer, NoMemory>
+    requires { length before.now ≤ length db.now }
     ensures { IfOk result (λ found. found ≡ answer_with db.now before.now after.now q.now) }
 {
     match q {
@@ -130,8 +131,11 @@ fn answer_with(
             Ok(Answer::Keys(joined(alloc, before, found, others)?))
         }
         Query::Count => {
-            let left = db.count().checked_sub(before.count()).ok_or(NoMemory)?;
-            let count = left.checked_add(after.count()).ok_or(NoMemory)?;
+            let left = db.count() - before.count();
+            // so many entries fit no memory
+            let Some(count) = left.checked_add(after.count()) else {
+                return Err(NoMemory);
+            };
             Ok(Answer::Count(count))
         }
     }

@@ -1,8 +1,13 @@
 use Rattle.std.proofs.Common.{◌≡◌, rules}
 use Rattle.cg_client.specs.Queries.{behind}
 use Rattle.cg_client.specs.Overlay.{named_part}
-use Rattle.cg_client.proofs.Answering.{answered_ok}
+use Rattle.cg_client.proofs.Answering.{answered_ok, part-fits}
 use Rattle.cg_client.proofs.overlay.answer_behind.Goals as goal
+
+pub answer_with-requires : goal.answer_with-requires
+answer_with-requires c =
+    let part : c.in_ok-before.before ≡ named_part c.args.db.now c.args.actions = search rules in
+    part-fits c.args.db.now c.in_ok-before.before c.args.actions part c.count-count.ensures.ascends
 
 pub returns : goal.returns
 returns c =
