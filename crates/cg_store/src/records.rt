@@ -16,6 +16,9 @@ use std::alloc::Global;
 // a longer record has no length in four bytes
 const LONGEST: usize = 4294967295;
 
+// most records are no longer, and need no more room
+const USUAL: usize = 256;
+
 /// The record of a change, with the red marks that stand in no record first.
 pub(crate) fn change_record(
     alloc: Global,
@@ -29,7 +32,7 @@ pub(crate) fn change_record(
     ensures within { IfOk result (λ bytes. IsChange (change_with stable.now (unwritten.now ++ draft.now.known) draft.now.green draft.now.made)) }
     ensures short { IfOk result (λ bytes. length bytes.items < 2 ^ 32) }
 {
-    let mut bytes = Vec::new(alloc);
+    let mut bytes = Vec::with_capacity(alloc, USUAL)?;
     let known = draft.known().as_slice();
     let green = draft.green().as_slice();
     let made = draft.made().as_slice();
