@@ -21,9 +21,9 @@ pub struct Core {
     pub(crate) queue: Box<Known>,
     pub(crate) yellow_valid: bool,
     pub(crate) own: Own,
-    pub(crate) db: Entries,
+    pub(crate) db: Box<Entries>,
     pub(crate) members: Box<Servers>,
-    pub(crate) standing: Standing,
+    pub(crate) standing: Box<Standing>,
     pub(crate) buffered: Row<Kept>,
     pub(crate) owed: Waiting<ActionId>,
     pub(crate) alloc: Global,
@@ -34,7 +34,7 @@ impl Model for Core {
 
     ghost Value = { Held };
 
-    ghost view = { λ c. record { id = c.id; queue = c.queue.value; yellow_valid = c.yellow_valid; own = c.own; db = c.db; members = c.members.value; prim = c.standing.prim; attempt_index = c.standing.attempt_index; vulnerable = c.standing.vulnerable; buffered = c.buffered; owed = c.owed } };
+    ghost view = { λ c. record { id = c.id; queue = c.queue.value; yellow_valid = c.yellow_valid; own = c.own; db = c.db.value; members = c.members.value; prim = c.standing.value.prim; attempt_index = c.standing.value.attempt_index; vulnerable = c.standing.value.vulnerable; buffered = c.buffered; owed = c.owed } };
 }
 
 // so many of a replica's actions, and so many greens, fit no memory
@@ -46,15 +46,17 @@ impl Core {
         ensures { IfOk result (λ core. core ≡ fresh_held id servers.now) }
     {
         let queue = Box::new(alloc, Known::resume(alloc, 0, Cut::zero()))?;
+        let db = Box::new(alloc, Entries::new(alloc))?;
         let members = Box::new(alloc, Servers::start(*servers))?;
+        let standing = Box::new(alloc, Standing::start(*servers))?;
         Ok(Core {
             id,
             queue,
             yellow_valid: false,
             own: Own::new(alloc),
-            db: Entries::new(alloc),
+            db,
             members,
-            standing: Standing::start(*servers),
+            standing,
             buffered: Row::new(alloc),
             owed: Waiting::new(alloc),
             alloc,

@@ -55,7 +55,7 @@ impl Core {
     {
         self.queue.set_yellow(&Row::new(self.alloc))?;
         self.yellow_valid = false;
-        self.standing = Standing::of(prim, 0, self.standing.vulnerable())?;
+        *self.standing = Standing::of(prim, 0, self.standing.vulnerable())?;
         Ok(())
     }
 

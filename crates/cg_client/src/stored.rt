@@ -49,15 +49,18 @@ impl Core {
         ensures { IfOk result (λ core. core ≡ record { id = id; queue = resumed white cut; yellow_valid = false; own = []; db = db; members = members; prim = prim; attempt_index = attempt_index; vulnerable = vulnerable; buffered = []; owed = [] }) }
     {
         let queue = Box::new(alloc, Known::resume(alloc, white, cut))?;
+        let db = Box::new(alloc, Entries::of(db))?;
         let members = Box::new(alloc, Servers::of(members))?;
+        let standing = Standing::of(prim, attempt_index, vulnerable)?;
+        let standing = Box::new(alloc, standing)?;
         Ok(Core {
             id,
             queue,
             yellow_valid: false,
             own: Own::new(alloc),
-            db: Entries::of(db),
+            db,
             members,
-            standing: Standing::of(prim, attempt_index, vulnerable)?,
+            standing,
             buffered: Row::new(alloc),
             owed: Waiting::new(alloc),
             alloc,

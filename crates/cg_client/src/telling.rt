@@ -49,7 +49,7 @@ impl Core {
         let standing = Standing::of(prim, attempt_index, vulnerable)?;
         self.queue.set_yellow(&yellow.list)?;
         self.yellow_valid = yellow.valid;
-        self.standing = standing;
+        *self.standing = standing;
         Ok(())
     }
 
@@ -71,7 +71,7 @@ impl Core {
             set,
             bits,
         };
-        self.standing = Standing::of(prim, next, Some(record))?;
+        *self.standing = Standing::of(prim, next, Some(record))?;
         Ok(())
     }
 

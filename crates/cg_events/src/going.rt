@@ -1,5 +1,5 @@
 //! An event on the way.
-ghost use Rattle.std.specs.Prelude.{◌≡◌, ◌++◌, Some, None, map, fold, IfOk, IfSome};
+ghost use Rattle.std.specs.Prelude.{◌≡◌, ◌++◌, Some, None, map, fold, IfOk, OnOk, IfSome};
 ghost use Rattle.cg_base.specs.declared.action_id.ActionId.{ActionId as ActionName};
 ghost use Rattle.cg_action.specs.declared.action.Action.{Action as ActionView};
 ghost use Rattle.cg_action.specs.Limits.{IsKind};
@@ -11,10 +11,12 @@ ghost use Rattle.cg_agree.specs.Step.{quietly, hand, hand_over};
 ghost use Rattle.cg_agree.specs.Standing.{IsHandedBooked, AreBookedInTurn};
 ghost use Rattle.cg_agree.specs.Touched.{ShowsNewsOf};
 ghost use Rattle.cg_seat.specs.Calls.{taken, IsBookedFor};
+ghost use Rattle.cg_show.specs.Showing.{shows_after, order_after, made_after};
 ghost use Rattle.cg_events.specs.Going.{sending, seated, comes_back};
 ghost use Rattle.cg_agree.specs.Show.{ended, ended_with, tell};
 
 use crate::WorldState;
+use crate::made::MadeCut;
 use cg_base::{IdSet, NoMemory, ReplicaId, Row};
 use cg_client::Request;
 use cg_group::{Delivery, Handed};
@@ -38,6 +40,17 @@ impl Model for Going {
     ghost Value = { Going };
 
     ghost view = { λ g. record { world = g.state; made = g.showing.made; orders = g.showing.orders; replies = g.showing.replies; shown = g.showing.shown } };
+}
+
+// What came of an event at a replica, in the world and in what is shown.
+fn told(state: &mut WorldState, showing: &mut Showing, news: News) -> Result<(), NoMemory>
+    ensures shown { OnOk result (showing.new ≡ shows_after state.old.order showing.old news) }
+    ensures state { OnOk result (state.new ≡ record state.old { order = order_after state.old.order news; made = made_after state.old.made news }) }
+{
+    let mut made = state.made.take(state.seats.alloc())?;
+    showing.tell(&mut state.order, &mut made, news)?;
+    state.made = MadeCut::of(made);
+    Ok(())
 }
 
 impl Going {
@@ -73,7 +86,7 @@ impl Going {
             mut state,
             mut showing,
         } = self;
-        match showing.tell(&mut state.order, &mut state.made, news) {
+        match told(&mut state, &mut showing, news) {
             Ok(()) => Ok(Going { state, showing }),
             Err(NoMemory) => {
                 drop(state);

@@ -12,6 +12,7 @@ mod going;
 mod grouping;
 mod handing;
 mod happened;
+mod made;
 mod position;
 mod querying;
 mod seats;

@@ -1,5 +1,5 @@
 //! The replicas that have begun.
-ghost use Rattle.std.specs.Prelude.{◌≡◌, ◌==◌, nat_lt, [], Some, None, find, position, OnOk, MatchOption};
+ghost use Rattle.std.specs.Prelude.{◌≡◌, ◌==◌, nat_lt, [], Some, None, find, position, IfOk, OnOk, MatchOption};
 ghost use Rattle.std.specs.Option.{option_copied};
 ghost use Rattle.std.specs.List.{prefix_len};
 ghost use Rattle.cg_base.specs.Sets.{IsId};
@@ -12,10 +12,58 @@ use cg_seat::Seat;
 use std::alloc::Global;
 use std::marker::Model;
 
+// A seat in a place of its own, and whose it is: seats come and go with each event, those behind one that goes move up, and
+// they are looked through by their replicas. Clauses see the seat.
+#[derive(Drop)]
+pub(crate) struct BoxedSeat {
+    id: ReplicaId,
+    seat: Box<Seat>,
+}
+
+impl Model for BoxedSeat {
+    ghost use Rattle.std.specs.Prelude.{◌≡◌};
+    ghost use Rattle.cg_agree.specs.World.{Seat};
+
+    ghost Value = { Seat };
+
+    ghost view = { λ b. b.seat.value };
+
+    ghost invariant = { λ b. b.id ≡ b.seat.value.id };
+}
+
+impl BoxedSeat {
+    fn new(alloc: Global, seat: Seat) -> Result<BoxedSeat, NoMemory>
+        ensures { IfOk result (λ b. b ≡ seat) }
+    {
+        let id = seat.id();
+        let seat = Box::new(alloc, seat)?;
+        Ok(BoxedSeat { id, seat })
+    }
+
+    pub(crate) fn id(&self) -> ReplicaId
+        ensures { result ≡ self.now.id }
+    {
+        self.id
+    }
+
+    pub(crate) fn get(&self) -> &Seat
+        ensures { result.now ≡ self.now }
+    {
+        &self.seat
+    }
+
+    fn into_inner(self) -> Seat
+        ensures { result ≡ self }
+    {
+        let BoxedSeat { seat, .. } = self;
+        Box::into_inner(seat)
+    }
+}
+
 /// The replicas that have begun, ascending.
 #[derive(Drop)]
 pub struct Seats {
-    list: Vec<Seat>,
+    list: Vec<BoxedSeat>,
 }
 
 impl Model for Seats {
@@ -30,15 +78,22 @@ impl Model for Seats {
     ghost invariant = { λ s. AscendingSeats s.list.items };
 }
 
+// The replica's seat.
+fn seat_of(seats: &[BoxedSeat], p: ReplicaId) -> Option<&BoxedSeat>
+    ensures { option_copied result ≡ find (λ s. s.id == p) seats.now }
+{
+    seats.iter().find(|s| s.id() == p)
+}
+
 // Where the replica's seat stands, from 0.
-fn place_of(seats: &[Seat], p: ReplicaId) -> Option<usize>
+fn place_of(seats: &[BoxedSeat], p: ReplicaId) -> Option<usize>
     ensures { result ≡ position (λ s. s.id == p) seats.now }
 {
     seats.iter().position(|s| s.id() == p)
 }
 
 // Where the seat of a replica that hasn't begun belongs, from 0.
-fn place_for(seats: &[Seat], p: ReplicaId) -> usize
+fn place_for(seats: &[BoxedSeat], p: ReplicaId) -> usize
     ensures place { result ≡ prefix_len (λ s. nat_lt s.id p) seats.now }
     ensures range { IsId p }
 {
@@ -71,8 +126,8 @@ impl Seats {
         *self.list.allocator()
     }
 
-    /// Their seats, ascending by identifier. It takes no memory.
-    pub fn as_slice(&self) -> &[Seat]
+    // Their seats, ascending by identifier.
+    pub(crate) fn as_slice(&self) -> &[BoxedSeat]
         ensures { result.now ≡ self.now }
     {
         self.list.as_slice()
@@ -82,7 +137,10 @@ impl Seats {
     pub fn find(&self, p: ReplicaId) -> Option<&Seat>
         ensures { option_copied result ≡ find (λ s. s.id == p) self.now }
     {
-        self.list.as_slice().iter().find(|s| s.id() == p)
+        match seat_of(self.list.as_slice(), p) {
+            Some(seat) => Some(seat.get()),
+            None => None,
+        }
     }
 
     /// The replicas that are up. It takes no memory.
@@ -91,7 +149,7 @@ impl Seats {
     {
         let mut up = IdSet::empty();
         for seat in self.list.as_slice() {
-            up = with_up(up, seat);
+            up = with_up(up, seat.get());
         }
         up
     }
@@ -102,6 +160,7 @@ impl Seats {
         ensures { OnOk result (self.new ≡ with_seat self.old seat) }
     {
         self.clear(seat.id());
+        let seat = BoxedSeat::new(self.alloc(), seat)?;
         self.add(seat)
     }
 
@@ -113,7 +172,7 @@ impl Seats {
         ensures away { find (λ s. s.id == p) self.new ≡ None }
     {
         match place_of(self.list.as_slice(), p) {
-            Some(place) => Some(self.list.remove(place)),
+            Some(place) => Some(self.list.remove(place).into_inner()),
             None => None,
         }
     }
@@ -130,7 +189,7 @@ impl Seats {
     }
 
     // A seat of a replica that has none.
-    fn add(&mut self, seat: Seat) -> Result<(), NoMemory>
+    fn add(&mut self, seat: BoxedSeat) -> Result<(), NoMemory>
         requires { find (λ s. s.id == seat.id) self.old ≡ None }
         ensures { OnOk result (self.new ≡ with_seat self.old seat) }
     {

@@ -8,11 +8,12 @@ ghost use Rattle.cg_group.specs.Events.{send_all};
 ghost use Rattle.cg_agree.specs.World.{Life, no_world, running, seat_of, set_life, has_begun, replica_of, is_left, left_replicas, up_replicas};
 ghost use Rattle.cg_agree.specs.Show.{line_of};
 ghost use Rattle.cg_agree.specs.Touched.{new_lines_of};
-ghost use Rattle.cg_events.specs.Going.{said, with_news, with_line};
+ghost use Rattle.cg_events.specs.Going.{said, with_news};
 ghost use Rattle.cg_events.specs.Seating.{with_left};
 
+use crate::made::MadeCut;
 use crate::{Seats, Transfers};
-use cg_base::{Cut, IdList, IdSet, NoMemory, ReplicaId, Row};
+use cg_base::{IdList, IdSet, NoMemory, ReplicaId, Row};
 use cg_group::Group;
 use cg_letter::Letter;
 use cg_report::Line;
@@ -30,7 +31,7 @@ pub struct WorldState {
     pub(crate) transfers: Transfers,
     pub(crate) order: IdList,
     pub(crate) lines: Lines,
-    pub(crate) made: Cut,
+    pub(crate) made: MadeCut,
     pub(crate) named: IdSet,
 }
 
@@ -53,7 +54,7 @@ impl WorldState {
             transfers: Transfers::new(alloc),
             order: IdList::new(alloc),
             lines: Lines::new(alloc),
-            made: Cut::zero(),
+            made: MadeCut::zero(),
             named: IdSet::empty(),
         }
     }
@@ -200,18 +201,17 @@ impl WorldState {
     {
         let mut lines = Row::new(self.seats.alloc());
         for seat in self.seats.as_slice() {
-            lines = self.add_line(set, lines, seat)?;
+            if set.contains(seat.id()) {
+                lines = self.add_line(lines, seat.get())?;
+            }
         }
         Ok(lines)
     }
 
-    // The line of the replica too, where it is one of these and its line is news.
-    fn add_line(&self, set: &IdSet, lines: Row<Line>, seat: &Seat) -> Result<Row<Line>, NoMemory>
-        ensures { IfOk result (λ all. all ≡ with_line set.now self.now lines seat.now) }
+    // The replica's line too, where it is news.
+    fn add_line(&self, lines: Row<Line>, seat: &Seat) -> Result<Row<Line>, NoMemory>
+        ensures { IfOk result (λ all. all ≡ with_news self.now.lines lines (line_of self.now.group seat.now)) }
     {
-        if !set.contains(seat.id()) {
-            return Ok(lines);
-        }
         match self.line(seat) {
             Ok(line) => add_news(&self.lines, lines, line),
             Err(NoMemory) => {

@@ -180,7 +180,7 @@ fn rise(alloc: Global, state: &mut WorldState, seat: Seat) -> Result<Option<News
     ensures { IfOk result (λ news. (state.new ≡ returned state.old seat) × (news ≡ (risen state.old.made seat.id seat.life).1)) }
 {
     let id = seat.id();
-    let (seat, news) = seat.recover(alloc, &state.made)?;
+    let (seat, news) = seat.recover(alloc, &state.made.get())?;
     state.seats.put(seat)?;
     state.group.add(id)?;
     Ok(news)

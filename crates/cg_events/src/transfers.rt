@@ -8,12 +8,12 @@ use cg_seat::Transfer;
 use std::alloc::Global;
 use std::marker::Model;
 
-/// The snapshots under way, in the order of their last transfers, and how many each replica has given so far. Clauses see
-/// the snapshots.
+/// The snapshots under way, in the order of their last transfers, and how many each replica has given so far, once one has.
+/// Clauses see the snapshots.
 #[derive(Drop)]
 pub struct Transfers {
     list: Vec<Transfer>,
-    given: Cut,
+    given: Option<Box<Cut>>,
 }
 
 impl Model for Transfers {
@@ -62,7 +62,7 @@ impl Transfers {
     {
         Transfers {
             list: Vec::new(alloc),
-            given: Cut::zero(),
+            given: None,
         }
     }
 
@@ -107,11 +107,17 @@ impl Transfers {
         ensures number { IfOk result IsNumber }
         ensures list { self.new ≡ self.old }
     {
-        let last = self.given.get(giver);
+        let mut given = match self.given.take() {
+            Some(given) => given,
+            None => Box::new(*self.list.allocator(), Cut::zero())?,
+        };
+        let last = given.get(giver);
         if last >= MOST {
+            self.given = Some(given);
             return Err(NoMemory);
         }
-        self.given.raise(giver, last + 1);
+        given.raise(giver, last + 1);
+        self.given = Some(given);
         Ok(last + 1)
     }
 }

@@ -11,7 +11,7 @@ pub returns-in-Some-clause-taken : goal.returns-in-Some-clause-taken
 returns-in-Some-clause-taken c =
     let at = rw c.as_slice.ensures.value at (sym c.place_of.ensures ∙ c.in-Some.is) in
     let out = taken_out c.self.inside.list.items c.args.p c.in-Some.place c.remove.result c.self.invariant at in
-    rw (← c.self.view_is, c.remove.ensures.items) (out.seat ∙ ap Some (sym c.remove.ensures.value), out.again)
+    rw (← c.self.view_is, c.remove.ensures.items) (out.seat ∙ ap Some (sym c.remove.ensures.value) ∙ ap Some (sym c.into_inner.ensures), out.again)
 
 pub returns-in-Some-clause-away : goal.returns-in-Some-clause-away
 returns-in-Some-clause-away c =
