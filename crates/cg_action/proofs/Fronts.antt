@@ -1,7 +1,7 @@
 -- What stands at the front after two steps, of which the last may have failed.
 use Rattle.std.proofs.Common.{◌≡◌, ℕ, List, ◌++◌}
 use Rattle.std.specs.Prelude.{Result, Ok, Err, OnErr}
-use Rattle.cg_base.specs.Text.{KeepsFront}
+use Rattle.cg_base.specs.Fronts.{KeepsFront}
 use Rattle.cg_base.specs.TextLaws.{KeepsFront-less, grown_twice}
 
 -- a text that grew twice is at the front, and so is what it grew from

@@ -1,7 +1,6 @@
 -- Actions in bytes. Each kind of value begins with a tag.
 use Rattle.std.specs.Prelude.{ℕ, ◌==◌, List, ◌++◌, Option, Some, None, if◌then◌else◌}
-use Rattle.cg_codec.specs.Fields.{byte, number64, signed64, text, list, optional}
-use Rattle.cg_base.specs.declared.action_id.ActionId.{ActionId}
+use Rattle.cg_codec.specs.Fields.{byte, number64, signed64, text, list, optional, spelled_id}
 use Rattle.cg_action.specs.declared.value.Value.{Value}
 use Rattle.cg_action.specs.declared.value.Value.TheVariants.{Text, Int}
 use Rattle.cg_action.specs.declared.command.Cmd.{Cmd}
@@ -11,10 +10,6 @@ use Rattle.cg_action.specs.declared.query.Query.TheVariants.{Get, Keys, Count}
 use Rattle.cg_action.specs.declared.action.Kind.{Kind}
 use Rattle.cg_action.specs.declared.action.Kind.TheVariants.{Update, Join, Leave}
 use Rattle.cg_action.specs.declared.action.Action.{Action}
-
--- a name of an action: its creator and its index
-abbrev pub spelled_id : ActionId → List ℕ
-spelled_id id = byte id.creator ++ number64 id.index
 
 abbrev pub spelled_value : Value → List ℕ
 spelled_value (Text t) = byte 1 ++ text t

@@ -15,7 +15,8 @@ use Rattle.cg_action.specs.declared.command.Cmd.{Cmd}
 use Rattle.cg_action.specs.declared.command.Cmd.TheVariants.{Put, Del, Inc, Cas, Move, Need}
 use Rattle.cg_action.specs.declared.query.Query.{Query}
 use Rattle.cg_action.specs.declared.query.Query.TheVariants.{Get, Keys, Count}
-use Rattle.cg_action.specs.Limits.{IsKey, IsPrefix, IsValue, IsWant, IsCommand, IsQuery}
+use Rattle.cg_action.specs.Limits.{IsQuery}
+use Rattle.cg_action.specs.ActionLimits.{IsKey, IsPrefix, IsValue, IsWant, IsCommand}
 use Rattle.cg_action.specs.Bytes.{spelled_value, spelled_want, spelled_command, spelled_query}
 use Rattle.cg_action.specs.Reading.{key_reading, value_reading, want_reading, amount_reading, put_reading, del_reading, inc_reading, cas_reading, move_reading, need_reading, command_of_tag, command_reading, query_of_tag, query_reading}
 use Rattle.cg_action.specs.ValueLaws.{key_field, text_within_field, value_field, want_field, amount_field}

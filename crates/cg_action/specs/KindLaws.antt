@@ -18,8 +18,10 @@ use Rattle.cg_action.specs.declared.query.Query.{Query}
 use Rattle.cg_action.specs.declared.action.Kind.{Kind}
 use Rattle.cg_action.specs.declared.action.Kind.TheVariants.{Update, Join, Leave}
 use Rattle.cg_action.specs.declared.action.Action.{Action}
-use Rattle.cg_action.specs.Limits.{does_something, IsCommand, IsQuery, IsKind, IsActionId, IsAction}
-use Rattle.cg_action.specs.Bytes.{spelled_command, spelled_query, spelled_kind, spelled_id, spelled_action}
+use Rattle.cg_action.specs.Limits.{does_something, IsQuery, IsKind}
+use Rattle.cg_action.specs.ActionLimits.{IsCommand, IsActionId, IsAction}
+use Rattle.cg_codec.specs.Fields.{spelled_id}
+use Rattle.cg_action.specs.Bytes.{spelled_command, spelled_query, spelled_kind, spelled_action}
 use Rattle.cg_action.specs.Reading.{number_from, id_reading, command_reading, query_reading, commands_reading, query_behind, update_reading, heavy_join_reading, kind_of_tag, kind_reading, action_reading}
 use Rattle.cg_action.specs.ValueLaws.{replica_field, number_field, id_field}
 use Rattle.cg_action.specs.CommandLaws.{command_field, query_field}

@@ -1,4 +1,5 @@
 pub mod Limits
+pub mod ActionLimits
 pub mod Bytes
 pub mod Reading
 pub mod Print

@@ -1,10 +1,9 @@
--- What an action may be: the limits of its parts.
-use Rattle.std.specs.Prelude.{◌≡◌, ℕ, ◌==◌, ◌<◌, ◌≤◌, ◌^◌, Bool, true, not, ◌||◌, List, length, All, pos, ◌≤ℤ◌, FitsSigned, Option, is_some}
+-- The limits of what is asked.
+use Rattle.std.specs.Prelude.{◌≡◌, ℕ, ◌==◌, ◌≤◌, Bool, true, not, ◌||◌, List, length, All, pos, ◌≤ℤ◌, FitsSigned, Option, is_some}
 use Rattle.std.specs.Int.{w64}
 use Rattle.std.specs.Str.{IsUtf8}
 use Rattle.cg_base.specs.Sets.{IsId}
 use Rattle.cg_codec.specs.Laws.{HasOptional}
-use Rattle.cg_base.specs.declared.action_id.ActionId.{ActionId}
 use Rattle.cg_action.specs.declared.value.Value.{Value}
 use Rattle.cg_action.specs.declared.value.Value.TheVariants.{Text, Int}
 use Rattle.cg_action.specs.declared.command.Cmd.{Cmd}
@@ -13,7 +12,6 @@ use Rattle.cg_action.specs.declared.query.Query.{Query}
 use Rattle.cg_action.specs.declared.query.Query.TheVariants.{Get, Keys, Count}
 use Rattle.cg_action.specs.declared.action.Kind.{Kind}
 use Rattle.cg_action.specs.declared.action.Kind.TheVariants.{Update, Join, Leave}
-use Rattle.cg_action.specs.declared.action.Action.{Action}
 
 -- a text whose length lies between two bounds
 abbrev pub IsTextWithin : ℕ → ℕ → List ℕ → Type 0
@@ -66,21 +64,6 @@ module _ (IsText : ℕ → ℕ → List ℕ → Type 0) where
     pub does : does_something cmds query ≡ true
 
 -- the limits in an action
-abbrev pub IsKey : List ℕ → Type 0
-IsKey = IsKeyOf IsTextWithin
-
-abbrev pub IsPrefix : List ℕ → Type 0
-IsPrefix = IsPrefixOf IsTextWithin
-
-abbrev pub IsValue : Value → Type 0
-IsValue = IsValueOf IsTextWithin
-
-abbrev pub IsWant : Option Value → Type 0
-IsWant = IsWantOf IsTextWithin
-
-abbrev pub IsCommand : Cmd → Type 0
-IsCommand = IsCommandOf IsTextWithin
-
 abbrev pub IsQuery : Query → Type 0
 IsQuery = IsQueryOf IsTextWithin
 
@@ -92,14 +75,3 @@ abbrev pub IsKind : Kind → Type 0
 IsKind (Update cmds query) = IsUpdate cmds query
 IsKind (Join joiner weight) = IsId joiner × (1 ≤ weight) × (weight ≤ 255)
 IsKind (Leave server) = IsId server
-
--- indexes count from 1, and every number is below 2 ^ 63
-pub record IsActionId (id : ActionId) : Type 0 where
-  pub creator : IsId id.creator
-  pub from_one : 1 ≤ id.index
-  pub below : id.index < 2 ^ 63
-
-pub record IsAction (a : Action) : Type 0 where
-  pub id : IsActionId a.id
-  pub green_line : a.green_line < 2 ^ 63
-  pub kind : IsKind a.kind

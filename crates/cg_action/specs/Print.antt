@@ -2,14 +2,13 @@
 use Rattle.std.specs.Prelude.{ℕ, List, [], ◌∷◌, ◌++◌, Option, Some, None, codes, decimal, flat_map}
 use Rattle.std.specs.Fmt.{signed_decimal}
 use Rattle.cg_text.specs.Quoted.{quoted}
-use Rattle.cg_base.specs.Text.{id_text, weighted_text}
+use Rattle.cg_base.specs.Text.{weighted_text}
 use Rattle.cg_action.specs.declared.value.Value.{Value}
 use Rattle.cg_action.specs.declared.value.Value.TheVariants.{Text, Int}
 use Rattle.cg_action.specs.declared.command.Cmd.{Cmd}
 use Rattle.cg_action.specs.declared.command.Cmd.TheVariants.{Put, Del, Inc, Cas, Move, Need}
 use Rattle.cg_action.specs.declared.query.Query.{Query}
 use Rattle.cg_action.specs.declared.query.Query.TheVariants.{Get, Keys, Count}
-use Rattle.cg_action.specs.declared.action.Action.{Action}
 use Rattle.cg_action.specs.declared.action.Kind.{Kind}
 use Rattle.cg_action.specs.declared.action.Kind.TheVariants.{Update, Join, Leave}
 
@@ -55,7 +54,3 @@ abbrev pub kind_text : Kind → List ℕ
 kind_text (Update cmds query) = update_text cmds query
 kind_text (Join joiner weight) = codes "join " ++ weighted_text joiner weight
 kind_text (Leave server) = codes "leave " ++ decimal server
-
--- an action, with its name in front
-abbrev pub action_text : Action → List ℕ
-action_text action = id_text action.id ++ codes " " ++ kind_text action.kind

@@ -14,8 +14,10 @@ use Rattle.cg_codec.specs.PlainLaws.{u64_field, i64_field, text_field, between_f
 use Rattle.cg_codec.specs.ShapeLaws.{field_one, field_two, field_tagged}
 use Rattle.cg_action.specs.declared.value.Value.{Value}
 use Rattle.cg_action.specs.declared.value.Value.TheVariants.{Text, Int}
-use Rattle.cg_action.specs.Limits.{IsTextWithin, IsKey, IsValue, IsWant, IsActionId}
-use Rattle.cg_action.specs.Bytes.{spelled_id, spelled_value, spelled_want}
+use Rattle.cg_action.specs.Limits.{IsTextWithin}
+use Rattle.cg_action.specs.ActionLimits.{IsKey, IsValue, IsWant, IsActionId}
+use Rattle.cg_codec.specs.Fields.{spelled_id}
+use Rattle.cg_action.specs.Bytes.{spelled_value, spelled_want}
 use Rattle.cg_action.specs.Reading.{is_number, number_from, id_reading, is_key, key_reading, value_of_tag, value_reading, want_of_tag, want_reading, is_amount, amount_reading}
 
 -- a number of at least low, below 2 ^ 63

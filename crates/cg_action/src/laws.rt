@@ -1,6 +1,8 @@
 ghost use Rattle.cg_codec.specs.Laws.{IsField, IsWhole, IsFrontOfNoOther};
-ghost use Rattle.cg_action.specs.Limits.{IsActionId, IsValue, IsCommand, IsQuery, IsAction};
-ghost use Rattle.cg_action.specs.Bytes.{spelled_id, spelled_value, spelled_command, spelled_query, spelled_action};
+ghost use Rattle.cg_action.specs.Limits.{IsQuery};
+ghost use Rattle.cg_action.specs.ActionLimits.{IsActionId, IsValue, IsCommand, IsAction};
+ghost use Rattle.cg_codec.specs.Fields.{spelled_id};
+ghost use Rattle.cg_action.specs.Bytes.{spelled_value, spelled_command, spelled_query, spelled_action};
 ghost use Rattle.cg_action.specs.Reading.{id_reading, value_reading, command_reading, query_reading, action_reading};
 
 /// Actions are exactly their spellings: each one within the limits is read again as it was spelled, whatever

@@ -16,6 +16,7 @@ mod value;
 mod writing;
 
 pub use action::{Action, ActionList, Kind, copy_actions};
+pub use cg_codec::put_action_id;
 pub use command::Cmd;
 pub use commands::{CmdList, copy_commands};
 pub use laws::{actions_are_exact, spellings_stand_apart};
@@ -23,4 +24,4 @@ pub use print::{Update, print_kind, print_query, print_update, print_value};
 pub use query::{Query, copy_query};
 pub use reading::{decode, take_action, take_action_id, take_value};
 pub use value::Value;
-pub use writing::{encode, put_action, put_action_id, put_value};
+pub use writing::{encode, put_action, put_value};

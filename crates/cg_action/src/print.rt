@@ -1,8 +1,9 @@
 //! Actions and their parts, as lines show them.
 
-ghost use Rattle.std.specs.Prelude.{◌≡◌, ◌++◌, Some, OnOk, OnErr};
+ghost use Rattle.std.specs.Prelude.{◌≡◌, ◌++◌, Some, codes, OnOk, OnErr};
 ghost use Rattle.std.specs.Fmt.{WritesOnOk};
-ghost use Rattle.cg_action.specs.Print.{value_text, want_text, command_text, commands_text, query_text, update_text, kind_text, action_text};
+ghost use Rattle.cg_base.specs.Text.{id_text};
+ghost use Rattle.cg_action.specs.Print.{value_text, want_text, command_text, commands_text, query_text, update_text, kind_text};
 
 use crate::{Action, Cmd, Kind, Query, Value};
 use cg_base::{NoMemory, Weighted, put_shown};
@@ -127,7 +128,7 @@ impl Display for Kind {
 
 /// Its name and what it does, as a report shows it where it is made. Its green line isn't shown.
 impl Display for Action {
-    ghost output = { λ action. Some (action_text action) };
+    ghost output = { λ action. Some (id_text action.id ++ codes " " ++ kind_text action.kind) };
 
     fn fmt<W: Write>(&self, f: &mut Formatter<W>) -> fmt::Result {
         write!(f, "{} {}", self.id, &self.kind)

@@ -1,15 +1,16 @@
 //! Actions in bytes.
 
 ghost use Rattle.std.specs.Prelude.{◌≡◌, ◌≤◌, ◌++◌, length, All, OnOk, OnErr, IfSome};
-ghost use Rattle.cg_base.specs.Text.{KeepsFront};
+ghost use Rattle.cg_base.specs.Fronts.{KeepsFront};
 ghost use Rattle.cg_codec.specs.Laws.{HasOptional};
-ghost use Rattle.cg_codec.specs.Fields.{byte, list, optional, text};
-ghost use Rattle.cg_action.specs.Limits.{IsAction, IsActionId, IsKey, IsValue, IsWant, IsCommand, IsQuery, IsUpdate, IsKind};
-ghost use Rattle.cg_action.specs.Bytes.{spelled_id, spelled_value, spelled_want, spelled_command, spelled_query, spelled_join, spelled_kind, spelled_action};
+ghost use Rattle.cg_codec.specs.Fields.{byte, list, optional, text, spelled_id};
+ghost use Rattle.cg_action.specs.Limits.{IsQuery, IsUpdate, IsKind};
+ghost use Rattle.cg_action.specs.ActionLimits.{IsAction, IsKey, IsValue, IsWant, IsCommand};
+ghost use Rattle.cg_action.specs.Bytes.{spelled_value, spelled_want, spelled_command, spelled_query, spelled_join, spelled_kind, spelled_action};
 
 use crate::{Action, Cmd, Kind, Query, Value};
-use cg_base::{ActionId, NoMemory, ReplicaId};
-use cg_codec::{put_i64, put_text, put_truth, put_u8, put_u32, put_u64};
+use cg_base::{NoMemory, ReplicaId};
+use cg_codec::{put_action_id, put_i64, put_text, put_truth, put_u8, put_u32, put_u64};
 use cg_text::Txt;
 
 /// Puts an action at the end. Where memory is refused nothing is put.
@@ -29,20 +30,6 @@ pub fn put_action(out: &mut Vec<u8>, v: &Action) -> Result<(), NoMemory>
 {
     let before = out.len();
     let written = write_action(out, v);
-    if written.is_err() {
-        out.truncate(before);
-    }
-    written
-}
-
-/// Puts a name of an action at the end. Where memory is refused nothing is put.
-pub fn put_action_id(out: &mut Vec<u8>, v: &ActionId) -> Result<(), NoMemory>
-    requires { IsActionId v.now }
-    ensures ok { OnOk result (out.new.items ≡ out.old.items ++ spelled_id v.now) }
-    ensures err { OnErr result (out.new.items ≡ out.old.items) }
-{
-    let before = out.len();
-    let written = write_id(out, v);
     if written.is_err() {
         out.truncate(before);
     }
@@ -70,17 +57,9 @@ fn write_action(out: &mut Vec<u8>, action: &Action) -> Result<(), NoMemory>
     ensures ok { OnOk result (out.new.items ≡ out.old.items ++ spelled_action action.now) }
     ensures err { OnErr result (KeepsFront out.old.items out.new.items) }
 {
-    write_id(out, &action.id)?;
+    put_action_id(out, &action.id)?;
     put_u64(out, action.green_line)?;
     write_kind(out, &action.kind)
-}
-
-fn write_id(out: &mut Vec<u8>, id: &ActionId) -> Result<(), NoMemory>
-    ensures ok { OnOk result (out.new.items ≡ out.old.items ++ spelled_id id.now) }
-    ensures err { OnErr result (KeepsFront out.old.items out.new.items) }
-{
-    put_u8(out, id.creator.get())?;
-    put_u64(out, id.index)
 }
 
 fn write_value(out: &mut Vec<u8>, value: &Value) -> Result<(), NoMemory>

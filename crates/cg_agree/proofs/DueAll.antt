@@ -6,7 +6,7 @@ use Rattle.std.proofs.lemmas.List.Elements.{filter_map-append}
 use Rattle.cg_plan.specs.declared.parts.Item.{Item}
 use Rattle.cg_plan.specs.declared.parts.Part.{Part}
 use Rattle.cg_plan.specs.declared.parts.Sent.{Sent as PlanSent}
-use Rattle.cg_plan.specs.declared.parts.Turn.{Turn}
+use Rattle.cg_plan.specs.declared.parts.SentPart.{SentPart}
 use Rattle.cg_plan.specs.Items.{items_of, items_of_turn, items_of_plan, sent_by}
 use Rattle.cg_plan.specs.Place.{AreFilled}
 use Rattle.cg_plan.specs.Progress.{turn_of}
@@ -68,13 +68,13 @@ module _ {X : Type 0} where
   drop-past (x ∷ xs) zero le = absurd (omega arith)
   drop-past (x ∷ xs) (suc n) le = drop-past xs n (omega arith)
 
-by-turn : (turn : Turn) (me : ℕ) → items_by me (items_of_turn turn) ≡ cond (turn.sender == me) (items_of turn.part) []
+by-turn : (turn : SentPart) (me : ℕ) → items_by me (items_of_turn turn) ≡ cond (turn.sender == me) (items_of turn.part) []
 by-turn turn me = by-sender turn.sender me (items_of turn.part)
 
-nothing-there : {Z : Type 0} (turns : List Turn) (me k : ℕ) (part : Part) → turn_of turns me k ≡ None → turn_of turns me k ≡ Some part → Z
+nothing-there : {Z : Type 0} (turns : List SentPart) (me k : ℕ) (part : Part) → turn_of turns me k ≡ None → turn_of turns me k ≡ Some part → Z
 nothing-there turns me k part isnt is = absurd (let clash : None ≡ Some part = sym isnt ∙ is in cc)
 
-module _ (turn : Turn) (turns : List Turn) (start me n : ℕ) (part : Part) (filled : AreFilled (turn ∷ turns)) (le : start ≤ suc n)
+module _ (turn : SentPart) (turns : List SentPart) (start me n : ℕ) (part : Part) (filled : AreFilled (turn ∷ turns)) (le : start ≤ suc n)
     (begins : turn_of (turn ∷ turns) me (suc n - start) ≡ Some part) where
   abbrev DueAll : Type 0
   DueAll = due_from start (turn ∷ turns) me n ≡ items_by me (take (suc n - start) (items_of_plan (turn ∷ turns)))
@@ -108,7 +108,7 @@ module _ (turn : Turn) (turns : List Turn) (start me n : ℕ) (part : Part) (fil
       and-true true = refl
       and-true false = refl
 
-pub due-all : (turns : List Turn) (start me n : ℕ) (part : Part) → AreFilled turns → start ≤ suc n → turn_of turns me (suc n - start) ≡ Some part →
+pub due-all : (turns : List SentPart) (start me n : ℕ) (part : Part) → AreFilled turns → start ≤ suc n → turn_of turns me (suc n - start) ≡ Some part →
     due_from start turns me n ≡ items_by me (take (suc n - start) (items_of_plan turns))
 due-all [] start me n part filled le begins = nothing-there [] me (suc n - start) part (turn_of-none me (suc n - start)) begins
 due-all (turn ∷ turns) start me n part filled le begins = ⊎_elim
@@ -122,7 +122,7 @@ due-all (turn ∷ turns) start me n part filled le begins = ⊎_elim
 
 -- ---- the items of a part that begins
 
-pub record Begins (turns : List Turn) (me k : ℕ) (part : Part) : Type 0 where
+pub record Begins (turns : List SentPart) (me k : ℕ) (part : Part) : Type 0 where
   pub rest : List PlanSent
   pub here : drop k (items_of_plan turns) ≡ map (sent_by me) (items_of part) ++ rest
   pub some : 1 ≤ length (items_of part)
@@ -131,7 +131,7 @@ begins-first : (b : Bool) (sender me : ℕ) (mine part : Part) → (sender == me
 begins-first true sender me mine part is e = (eqb-true sender me is, (let same : Some mine ≡ Some part = e in cc))
 begins-first false sender me mine part is e = absurd (let none : None ≡ Some part = e in cc)
 
-pub begins : (turns : List Turn) (me k : ℕ) (part : Part) → AreFilled turns → turn_of turns me k ≡ Some part → Begins turns me k part
+pub begins : (turns : List SentPart) (me k : ℕ) (part : Part) → AreFilled turns → turn_of turns me k ≡ Some part → Begins turns me k part
 begins [] me k part filled e = nothing-there [] me k part (turn_of-none me k) e
 begins (turn ∷ turns) me zero part filled e =
     let here = begins-first (turn.sender == me) turn.sender me turn.part part refl (sym (turn_of-begun turn turns me) ∙ e) in
@@ -154,7 +154,7 @@ begins (turn ∷ turns) me (suc k) part filled e = ⊎_elim
     (cases_lt (suc k) (size_of turn.part))
 
 -- where a plan is through no part begins
-pub none-begins : (turns : List Turn) (me k : ℕ) → AreFilled turns → length (items_of_plan turns) ≤ k → turn_of turns me k ≡ None
+pub none-begins : (turns : List SentPart) (me k : ℕ) → AreFilled turns → length (items_of_plan turns) ≤ k → turn_of turns me k ≡ None
 none-begins turns me k filled le = at (turn_of turns me k) refl where
   nonempty : (items : List Item) (rest : List PlanSent) → 1 ≤ length items → [] ≡ map (sent_by me) items ++ rest → ⊥
   nonempty [] rest some e = omega arith

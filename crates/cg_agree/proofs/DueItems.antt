@@ -5,7 +5,7 @@ use Rattle.std.proofs.lemmas.Bool.{and_right, le-leb, lt-leb, le-ltb, cases_eq, 
 use Rattle.std.proofs.lemmas.List.{append_assoc}
 use Rattle.cg_plan.specs.declared.parts.Item.{Item}
 use Rattle.cg_plan.specs.declared.parts.Part.{Part}
-use Rattle.cg_plan.specs.declared.parts.Turn.{Turn}
+use Rattle.cg_plan.specs.declared.parts.SentPart.{SentPart}
 use Rattle.cg_plan.specs.Items.{items_of}
 use Rattle.cg_plan.specs.Place.{AreFilled}
 use Rattle.cg_plan.specs.Progress.{turn_of}
@@ -19,13 +19,13 @@ part_items None = []
 part_items (Some part) = items_of part
 
 -- no part that begins later is due
-pub due-none : (turns : List Turn) (start me n : ℕ) → n < start → due_from start turns me n ≡ []
+pub due-none : (turns : List SentPart) (start me n : ℕ) → n < start → due_from start turns me n ≡ []
 due-none [] start me n lt = refl
 due-none (turn ∷ turns) start me n lt =
     rw (and_right (turn.sender == me) (nat_le start n) (lt-leb start n lt), due-none turns (start + size_of turn.part) me n (omega arith)) refl
 
 -- the parts behind the first one
-pub turn_of-beyond : (turn : Turn) (turns : List Turn) (me made : ℕ) → 1 ≤ made → size_of turn.part ≤ made →
+pub turn_of-beyond : (turn : SentPart) (turns : List SentPart) (me made : ℕ) → 1 ≤ made → size_of turn.part ≤ made →
     turn_of (turn ∷ turns) me made ≡ turn_of turns me (made - size_of turn.part)
 unfolding turn_of
 turn_of-beyond turn turns me zero one le = absurd (omega arith)
@@ -38,7 +38,7 @@ begun-items true part = append-nil (items_of part)
 begun-items false part = refl
 
 -- a part that isn't the next to begin: what is due is that of the first part, and what is due of the others
-module _ (turn : Turn) (turns : List Turn) (start me n : ℕ) (filled : AreFilled (turn ∷ turns)) (le : start ≤ suc n) where
+module _ (turn : SentPart) (turns : List SentPart) (start me n : ℕ) (filled : AreFilled (turn ∷ turns)) (le : start ≤ suc n) where
   abbrev DueStep : Type 0
   DueStep = due_from start (turn ∷ turns) me (suc n) ≡ due_from start (turn ∷ turns) me n ++ part_items (turn_of (turn ∷ turns) me (suc n - start))
 
@@ -76,7 +76,7 @@ module _ (turn : Turn) (turns : List Turn) (start me n : ℕ) (filled : AreFille
       (sym (append_assoc (cond ((turn.sender == me) && true) (items_of turn.part) []) (due_from (start + size_of turn.part) turns me n)
       (part_items (turn_of turns me (suc n - (start + size_of turn.part))))))
 
-pub due-step : (turns : List Turn) (start me n : ℕ) → AreFilled turns → start ≤ suc n →
+pub due-step : (turns : List SentPart) (start me n : ℕ) → AreFilled turns → start ≤ suc n →
     due_from start turns me (suc n) ≡ due_from start turns me n ++ part_items (turn_of turns me (suc n - start))
 due-step [] start me n filled le = rw (turn_of-none me (suc n - start)) refl
 due-step (turn ∷ turns) start me n filled le = ⊎_elim
@@ -87,7 +87,7 @@ due-step (turn ∷ turns) start me n filled le = ⊎_elim
     (cases_lt (suc n - start) (size_of turn.part)))
     (cases_eq start (suc n))
 
-pub due-first : (turns : List Turn) (me : ℕ) → AreFilled turns → due_from 0 turns me 0 ≡ part_items (turn_of turns me 0)
+pub due-first : (turns : List SentPart) (me : ℕ) → AreFilled turns → due_from 0 turns me 0 ≡ part_items (turn_of turns me 0)
 due-first [] me filled = rw (turn_of-none me 0) refl
 due-first (turn ∷ turns) me filled =
     let some = size-filled turn.part filled.0 in

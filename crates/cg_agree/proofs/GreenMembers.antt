@@ -6,7 +6,7 @@ use Rattle.cg_group.specs.EachLaws.{Each-all}
 use Rattle.cg_base.specs.Cuts.{index_in}
 use Rattle.cg_action.specs.declared.action.Action.{Action}
 use Rattle.cg_action.specs.declared.action.Kind.{Kind}
-use Rattle.cg_members.specs.declared.members.Members.{Members}
+use Rattle.cg_members.specs.Members.{Members}
 use Rattle.cg_members.specs.Servers.{after_green, after_greens}
 use Rattle.cg_queue.specs.Queue.{Marks, Gaps, placed_red, green_count}
 use Rattle.cg_queue.specs.declared.mark.Mark.TheVariants.{Placed, Known}

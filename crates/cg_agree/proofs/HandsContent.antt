@@ -16,7 +16,7 @@ use Rattle.cg_plan.specs.declared.parts.Item.{Item}
 use Rattle.cg_plan.specs.declared.parts.Item.TheVariants.{Green, Red}
 use Rattle.cg_plan.specs.declared.parts.Part.{Part}
 use Rattle.cg_plan.specs.declared.parts.Part.TheVariants.{Greens, Reds}
-use Rattle.cg_plan.specs.declared.parts.Turn.{Turn as PlanTurn}
+use Rattle.cg_plan.specs.declared.parts.SentPart.{SentPart}
 use Rattle.cg_plan.specs.Items.{items_of, red_item}
 use Rattle.cg_plan.specs.Plan.{green_part, red_part, reds_of, creators, plan_of, least_greens, least_reds, farthest}
 use Rattle.cg_plan.specs.Progress.{is_done, turn_of}
@@ -75,7 +75,7 @@ kept-at start h all greens place a made front within found =
 -- ---- the plan's greens are the most updated member's
 
 -- a turn of a plan: where it is of greens, it is the most updated member's, up to its count
-abbrev pub IsTurnOf : Option Summary → PlanTurn → Part → Type 0
+abbrev pub IsTurnOf : Option Summary → SentPart → Part → Type 0
 IsTurnOf o turn (Greens from to) = IfSome o (λ b. (turn.sender ≡ b.id) × (to ≡ b.green_count)) × (o ≡ None → ⊥)
 IsTurnOf o turn (Reds creator from to) = Unit {0}
 
@@ -109,8 +109,8 @@ plan-turns heard =
     (green-turns (most_updated heard) (least_greens heard)) (all-reds (most_updated heard) heard (creators heard))
 
 -- the part that begins at a place, where it is a member's
-pub turn-found : (P : PlanTurn → Part → Type 0) (turns : List PlanTurn) (me n : ℕ) (part : Part) → Each (λ turn. P turn turn.part) turns → turn_of turns me n ≡ Some part →
-    (turn : PlanTurn) × (turn.sender ≡ me) × P turn part
+pub turn-found : (P : SentPart → Part → Type 0) (turns : List SentPart) (me n : ℕ) (part : Part) → Each (λ turn. P turn turn.part) turns → turn_of turns me n ≡ Some part →
+    (turn : SentPart) × (turn.sender ≡ me) × P turn part
 unfolding turn_of
 turn-found P [] me n part each e = absurd (let clash : None ≡ Some part = e in cc)
 turn-found P (turn ∷ turns) me zero part each e = ⊎_elim
@@ -188,7 +188,7 @@ of-part c conf t h all heard n (Some (Greens from to)) made front found count ar
     let turn = turn-found (IsTurnOf (most_updated heard)) (plan_of heard) h.id n (Greens from to) (plan-turns heard) e in
     of-greens c.start h all t.greens (above_up_to (from - 1) to) made front
     (each-within (above_up_to (from - 1) to) (bounded (most_updated heard) turn.0 turn.1 turn.2 (best-told c conf heard are)) (Each-above (from - 1) to)) where
-      bounded : (b : Option Summary) (turn : PlanTurn) → turn.sender ≡ h.id → IsTurnOf b turn (Greens from to) → IfSome b (IsTold c conf) → to ≤ length t.greens
+      bounded : (b : Option Summary) (turn : SentPart) → turn.sender ≡ h.id → IsTurnOf b turn (Greens from to) → IfSome b (IsTold c conf) → to ≤ length t.greens
       bounded None turn sender is told = absurd (is.1 refl)
       bounded (Some b) turn sender is told =
           let id : b.id ≡ h.id = sym is.0.0 ∙ sender in

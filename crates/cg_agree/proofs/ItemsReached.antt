@@ -11,7 +11,7 @@ use Rattle.cg_plan.specs.declared.parts.Item.TheVariants.{Green, Red}
 use Rattle.cg_plan.specs.declared.parts.Part.{Part}
 use Rattle.cg_plan.specs.declared.parts.Part.TheVariants.{Greens, Reds}
 use Rattle.cg_plan.specs.declared.parts.Sent.{Sent as PlanSent}
-use Rattle.cg_plan.specs.declared.parts.Turn.{Turn as PlanTurn}
+use Rattle.cg_plan.specs.declared.parts.SentPart.{SentPart}
 use Rattle.cg_plan.specs.Items.{red_item, items_of, sent_by, items_of_turn, items_of_plan}
 use Rattle.cg_plan.specs.Plan.{plan_of}
 use Rattle.cg_plan.specs.Progress.{next_item, is_wanted}
@@ -50,7 +50,7 @@ reds-within : (n creator : ℕ) (indices : List ℕ) → Each (IsPlaceWithin n) 
 reds-within n creator [] = tt
 reds-within n creator (i ∷ indices) = (tt, reds-within n creator indices)
 
-part-within : (n : ℕ) (o : Option Summary) (turn : PlanTurn) (part : Part) → IfSome o (IsSummaryWithin n) → IsTurnOf o turn part → Each (IsPlaceWithin n) (items_of part)
+part-within : (n : ℕ) (o : Option Summary) (turn : SentPart) (part : Part) → IfSome o (IsSummaryWithin n) → IsTurnOf o turn part → Each (IsPlaceWithin n) (items_of part)
 part-within n None turn (Greens from to) bound is = absurd (is.1 refl)
 part-within n (Some b) turn (Greens from to) bound is =
     let most : to ≡ b.green_count = is.0.1 in
@@ -61,7 +61,7 @@ sent-within : (n sender : ℕ) (items : List Item) → Each (IsPlaceWithin n) it
 sent-within n sender [] each = tt
 sent-within n sender (i ∷ items) each = (each.0, sent-within n sender items each.1)
 
-turns-within : (n : ℕ) (o : Option Summary) → IfSome o (IsSummaryWithin n) → (plan : List PlanTurn) → Each (λ turn. IsTurnOf o turn turn.part) plan → Each (λ x. IsPlaceWithin n x.item) (flat_map items_of_turn plan)
+turns-within : (n : ℕ) (o : Option Summary) → IfSome o (IsSummaryWithin n) → (plan : List SentPart) → Each (λ turn. IsTurnOf o turn turn.part) plan → Each (λ x. IsPlaceWithin n x.item) (flat_map items_of_turn plan)
 turns-within n o bound [] each = tt
 turns-within n o bound (turn ∷ plan) each =
     Each-append (λ x. IsPlaceWithin n x.item) (items_of_turn turn) (flat_map items_of_turn plan)

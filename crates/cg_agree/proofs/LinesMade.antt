@@ -10,7 +10,7 @@ use Rattle.cg_base.specs.Ids.{same_id}
 use Rattle.cg_base.specs.Lists.{least_of, lesser}
 use Rattle.cg_action.specs.declared.action.Action.{Action}
 use Rattle.cg_members.specs.declared.server.Server.{Server}
-use Rattle.cg_members.specs.declared.members.Members.{Members}
+use Rattle.cg_members.specs.Members.{Members}
 use Rattle.cg_members.specs.Listed.{line_of}
 use Rattle.cg_members.specs.Servers.{is_among, is_server, was_ever, white_line, starting, members_of}
 use Rattle.cg_queue.specs.Queue.{names_of}

@@ -5,7 +5,7 @@ use Rattle.std.specs.List.{list_all}
 use Rattle.std.proofs.lemmas.Bool.{cases_Bool, cond-false, ne_eqb}
 use Rattle.cg_base.specs.Sets.{has}
 use Rattle.cg_base.specs.Weights.{ids}
-use Rattle.cg_members.specs.declared.members.Members.{Members}
+use Rattle.cg_members.specs.Members.{Members}
 use Rattle.cg_client.specs.Install.{weighted}
 use Rattle.cg_agree.specs.Chronicle.{Attempt, Chronicle}
 use Rattle.cg_agree.specs.Fronts.{IsSomeWith}

@@ -15,7 +15,7 @@ use Rattle.cg_knowledge.specs.declared.summary.Summary.{Summary}
 use Rattle.cg_plan.specs.declared.parts.Item.TheVariants.{Green}
 use Rattle.cg_plan.specs.declared.parts.Part.{Part}
 use Rattle.cg_plan.specs.declared.parts.Part.TheVariants.{Greens, Reds}
-use Rattle.cg_plan.specs.declared.parts.Turn.{Turn as PlanTurn}
+use Rattle.cg_plan.specs.declared.parts.SentPart.{SentPart}
 use Rattle.cg_plan.specs.Items.{red_item}
 use Rattle.cg_plan.specs.Plan.{plan_of}
 use Rattle.cg_plan.specs.Progress.{turn_of}
@@ -107,7 +107,7 @@ part-held start h all (Reds creator from to) is holds = each (above_up_to (from 
 
 -- a member that holds each of its own parts of a plan holds the one that begins at a place
 pub turn-held : (start : List Weighted) (h : Held) (all : List Action) (heard : List Summary) (me n : ℕ) → IsOneself start h all →
-    Each (λ (turn : PlanTurn). turn.sender ≡ me → HoldsPart h all turn.part) (plan_of heard) → has_part h.queue (turn_of (plan_of heard) me n) ≡ true
+    Each (λ (turn : SentPart). turn.sender ≡ me → HoldsPart h all turn.part) (plan_of heard) → has_part h.queue (turn_of (plan_of heard) me n) ≡ true
 turn-held start h all heard me n is each = at (turn_of (plan_of heard) me n) refl where
   at : (o : Option Part) → turn_of (plan_of heard) me n ≡ o → has_part h.queue o ≡ true
   at None e = refl

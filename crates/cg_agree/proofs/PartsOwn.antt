@@ -11,7 +11,7 @@ use Rattle.cg_knowledge.specs.Members.{most_updated}
 use Rattle.cg_members.specs.Servers.{members_of, was_ever}
 use Rattle.cg_plan.specs.declared.parts.Part.{Part}
 use Rattle.cg_plan.specs.declared.parts.Part.TheVariants.{Greens, Reds}
-use Rattle.cg_plan.specs.declared.parts.Turn.{Turn as PlanTurn}
+use Rattle.cg_plan.specs.declared.parts.SentPart.{SentPart}
 use Rattle.cg_plan.specs.Plan.{green_part, red_part, reds_of, creators, farthest, least_greens, least_reds, plan_of}
 use Rattle.cg_group.specs.EachLaws.{Each, Each-append, Each-weaker}
 use Rattle.cg_client.specs.Replica.{Held}
@@ -40,7 +40,7 @@ IsPartOf best holder low sender (Reds creator from to) =
 
 module _ (o : Option Summary) (f : ℕ → Option Summary) (l : Option ℕ) where
   -- a part of a plan that these make
-  abbrev IsOf : PlanTurn → Type 0
+  abbrev IsOf : SentPart → Type 0
   IsOf turn = IsPartOf o f l turn.sender turn.part
 
   -- the part of greens is so
@@ -90,7 +90,7 @@ all-of heard (creator ∷ list) =
     (red-of (most_updated heard) (farthest heard) (least_greens heard) creator (most_updated heard) (farthest heard creator) (least_reds heard creator) refl refl) (all-of heard list)
 
 -- each part of a plan is so
-pub parts-of : (heard : List Summary) → Each (λ (turn : PlanTurn). IsPartOf (most_updated heard) (farthest heard) (least_greens heard) turn.sender turn.part) (plan_of heard)
+pub parts-of : (heard : List Summary) → Each (λ (turn : SentPart). IsPartOf (most_updated heard) (farthest heard) (least_greens heard) turn.sender turn.part) (plan_of heard)
 unfolding plan_of
 parts-of heard =
     Each-append (IsOf (most_updated heard) (farthest heard) (least_greens heard)) (green_part (most_updated heard) (least_greens heard)) (flat_map (reds_of heard) (creators heard))
@@ -147,9 +147,9 @@ module _ (c : Chronicle) (i : Invariant c) (conf : ℕ) where
 
   -- it holds each part of the plan that is its own
   pub parts-held : (p : ℕ) (heard : List Summary) (b : IsBest c i conf heard) (mine : Told) (h : Held) (all : List Action) → AreTold c conf heard → told_in c conf p ≡ Some mine →
-      HoldsAll p heard b.best mine h all → Each (λ (turn : PlanTurn). turn.sender ≡ p → HoldsPart h all turn.part) (plan_of heard)
+      HoldsAll p heard b.best mine h all → Each (λ (turn : SentPart). turn.sender ≡ p → HoldsPart h all turn.part) (plan_of heard)
   parts-held p heard b mine h all are found holds =
-      Each-weaker (λ (turn : PlanTurn). IsPartOf (most_updated heard) (farthest heard) (least_greens heard) turn.sender turn.part) (λ (turn : PlanTurn). turn.sender ≡ p → HoldsPart h all turn.part)
+      Each-weaker (λ (turn : SentPart). IsPartOf (most_updated heard) (farthest heard) (least_greens heard) turn.sender turn.part) (λ (turn : SentPart). turn.sender ≡ p → HoldsPart h all turn.part)
       (λ turn is own. one turn.sender turn.part is own) (plan_of heard) (parts-of heard)
     where
       told-best : IsTold c conf b.best.summary

@@ -13,7 +13,7 @@ use Rattle.cg_knowledge.specs.Members.{most_updated}
 use Rattle.cg_plan.specs.declared.parts.Item.{Item}
 use Rattle.cg_plan.specs.declared.parts.Item.TheVariants.{Green, Red}
 use Rattle.cg_plan.specs.declared.parts.Part.TheVariants.{Greens, Reds}
-use Rattle.cg_plan.specs.declared.parts.Turn.{Turn}
+use Rattle.cg_plan.specs.declared.parts.SentPart.{SentPart}
 use Rattle.cg_plan.specs.declared.parts.Sent.{Sent as PlanSent}
 use Rattle.cg_plan.specs.Items.{red_item, sent_by, items_of_turn, items_of_plan}
 use Rattle.cg_plan.specs.Plan.{green_part, red_part, reds_of, creators, farthest, least_greens, least_reds, plan_of}
@@ -171,7 +171,7 @@ module _ (heard : List Summary) where
       omega arith
 
   -- the items of two lists of parts are those of both
-  items-append : (xs ys : List Turn) → items_of_plan (xs ++ ys) ≡ items_of_plan xs ++ items_of_plan ys
+  items-append : (xs ys : List SentPart) → items_of_plan (xs ++ ys) ≡ items_of_plan xs ++ items_of_plan ys
   unfolding items_of_plan
   items-append [] ys = refl
   items-append (x ∷ xs) ys = ap (λ zs. items_of_turn x ++ zs) (items-append xs ys) ∙ sym (append_assoc (items_of_turn x) (flat_map items_of_turn xs) (flat_map items_of_turn ys))
@@ -194,7 +194,7 @@ module _ (heard : List Summary) where
       ∙ ap (λ k. map (sent_by holder.id) (map (red_item creator) (above_up_to k to))) e)
       (record { sender = holder.id; part = Reds creator (suc from) to }) refl
     where
-      at : (b : Bool) (xs ys : List PlanSent) → xs ≡ ys → (turn : Turn) → flat_map items_of_turn (turn ∷ []) ≡ xs → flat_map items_of_turn (cond b (turn ∷ []) []) ≡ cond b ys []
+      at : (b : Bool) (xs ys : List PlanSent) → xs ≡ ys → (turn : SentPart) → flat_map items_of_turn (turn ∷ []) ≡ xs → flat_map items_of_turn (cond b (turn ∷ []) []) ≡ cond b ys []
       at true xs ys e turn is = is ∙ e
       at false xs ys e turn is = refl
 

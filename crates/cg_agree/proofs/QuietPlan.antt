@@ -13,7 +13,7 @@ use Rattle.cg_plan.specs.declared.parts.Item.{Item}
 use Rattle.cg_plan.specs.declared.parts.Part.{Part}
 use Rattle.cg_plan.specs.declared.parts.Part.TheVariants.{Greens, Reds}
 use Rattle.cg_plan.specs.declared.parts.Sent.{Sent as PlanSent}
-use Rattle.cg_plan.specs.declared.parts.Turn.{Turn}
+use Rattle.cg_plan.specs.declared.parts.SentPart.{SentPart}
 use Rattle.cg_plan.specs.Items.{items_of, items_of_turn, items_of_plan, sent_by}
 use Rattle.cg_plan.specs.Plan.{plan_of, farthest, least_greens}
 use Rattle.cg_plan.specs.PlanLaws.{length-items, length-turn, items-cons}
@@ -70,9 +70,9 @@ module _ (M : ℕ → Type 0) (heard : List Summary) (each : OfEach (λ s. M s.i
     reds (Some b) None e d parts in_f = absurd (is.2 d)
     reds (Some b) (Some h) e d parts in_f = subst M (sym parts.0) in_f
 
-  pub senders-in : Each (λ (turn : Turn). M turn.sender) (plan_of heard)
+  pub senders-in : Each (λ (turn : SentPart). M turn.sender) (plan_of heard)
   senders-in =
-      Each-weaker (λ (turn : Turn). IsPartOf (most_updated heard) (farthest heard) (least_greens heard) turn.sender turn.part) (λ (turn : Turn). M turn.sender)
+      Each-weaker (λ (turn : SentPart). IsPartOf (most_updated heard) (farthest heard) (least_greens heard) turn.sender turn.part) (λ (turn : SentPart). M turn.sender)
       (λ turn is. sender-in turn.sender turn.part is) (plan_of heard) (parts-of heard)
 
 -- ---- the next item
@@ -86,7 +86,7 @@ sender-there sender [] k s there = absurd (let lt : k < 0 = slice_get_within [] 
 sender-there sender (item ∷ items) zero s there = let same : sent_by sender item ≡ s = cc in ap (λ (x : PlanSent). x.sender) (sym same)
 sender-there sender (item ∷ items) (suc k) s there = sender-there sender items k s there
 
-module _ (turn : Turn) (turns : List Turn) (k : ℕ) (s : PlanSent) (there : slice_get (items_of_plan (turn ∷ turns)) k ≡ Some s) where
+module _ (turn : SentPart) (turns : List SentPart) (k : ℕ) (s : PlanSent) (there : slice_get (items_of_plan (turn ∷ turns)) k ≡ Some s) where
   joined : slice_get (items_of_turn turn ++ items_of_plan turns) k ≡ Some s
   joined = sym (ap (λ (xs : List PlanSent). slice_get xs k) (items-cons turn turns)) ∙ there
 
@@ -101,14 +101,14 @@ module _ (turn : Turn) (turns : List Turn) (k : ℕ) (s : PlanSent) (there : sli
       ap (λ n. slice_get (items_of_plan turns) (k - n)) (sym size) ∙ sym (slice_get-right (items_of_turn turn) (items_of_plan turns) k (omega arith)) ∙ joined
 
 -- an item of a plan is one of a part
-item-in : (M : ℕ → Type 0) (turns : List Turn) (k : ℕ) (s : PlanSent) → Each (λ (turn : Turn). M turn.sender) turns → slice_get (items_of_plan turns) k ≡ Some s → M s.sender
+item-in : (M : ℕ → Type 0) (turns : List SentPart) (k : ℕ) (s : PlanSent) → Each (λ (turn : SentPart). M turn.sender) turns → slice_get (items_of_plan turns) k ≡ Some s → M s.sender
 item-in M [] k s each there = absurd (none-there k s there)
 item-in M (turn ∷ turns) k s each there = ⊎_elim
     (λ few. subst M (sym (of-first turn turns k s there few)) each.0)
     (λ all. item-in M turns (k - size_of turn.part) s each.1 (of-later turn turns k s there all))
     (cases_lt k (size_of turn.part))
 
-module _ (turn : Turn) (turns : List Turn) (start me k : ℕ) (s : PlanSent) (there : slice_get (items_of_plan (turn ∷ turns)) k ≡ Some s) where
+module _ (turn : SentPart) (turns : List SentPart) (start me k : ℕ) (s : PlanSent) (there : slice_get (items_of_plan (turn ∷ turns)) k ≡ Some s) where
   abbrev Fewer : Type 0
   Fewer = length (items_by me (take k (items_of_plan (turn ∷ turns)))) < length (due_from start (turn ∷ turns) me (start + k))
 
@@ -148,7 +148,7 @@ module _ (turn : Turn) (turns : List Turn) (start me k : ℕ) (s : PlanSent) (th
       and-whole false b e = refl
 
 -- an item of a member is due of it behind the items before it, and isn't one of these
-fewer : (turns : List Turn) (start me k : ℕ) (s : PlanSent) → slice_get (items_of_plan turns) k ≡ Some s → s.sender ≡ me →
+fewer : (turns : List SentPart) (start me k : ℕ) (s : PlanSent) → slice_get (items_of_plan turns) k ≡ Some s → s.sender ≡ me →
     length (items_by me (take k (items_of_plan turns))) < length (due_from start turns me (start + k))
 fewer [] start me k s there is = absurd (none-there k s there)
 fewer (turn ∷ turns) start me k s there is = ⊎_elim

@@ -3,7 +3,7 @@ use Rattle.std.specs.Prelude.{⊤}
 use Rattle.std.specs.Fmt.{digits}
 use Rattle.std.specs.Str.{chars, is_utf8}
 use Rattle.std.specs.Char.{encode_utf8}
-use Rattle.cg_base.specs.Sets.{every_replica}
+use Rattle.cg_base.specs.Replicas.{every_replica}
 use Rattle.cg_base.specs.Slots.{held_from, held, array_of}
 use Rattle.cg_text.specs.Tokens.{tokens_from}
 use Rattle.cg_codec.specs.Fields.{byte, number32, number64, signed64, truth, text as text_of_codec_fields}
@@ -13,12 +13,13 @@ use Rattle.cg_db.specs.Apply.{run_commands}
 use Rattle.cg_db.specs.Plan.{with_changes}
 use Rattle.cg_vote.specs.Quorum.{is_quorum}
 use Rattle.cg_queue.specs.Body.{reds_from, all_reds}
-use Rattle.cg_records.specs.Bytes.{spelled_set, spelled_name, spelled_names, spelled_cut, spelled_weighted, spelled_weight_set, spelled_prim, spelled_vulnerable, spelled_yellow, spelled_stable}
+use Rattle.cg_records.specs.Bytes.{spelled_set, spelled_names, spelled_cut, spelled_weighted, spelled_weight_set, spelled_prim, spelled_vulnerable, spelled_yellow, spelled_stable}
 use Rattle.cg_records.specs.Reading.{take_number, take_index, take_id_above, take_set, take_weight, take_weighted_above, take_weight_set, take_name_above, take_cut, take_names, take_prim, take_vulnerable, take_maybe_vulnerable, take_yellow, take_stable}
 use Rattle.cg_records.specs.Same.{same_prim, same_vulnerable, same_record, same_yellow}
 use Rattle.cg_knowledge.specs.Members.{senders, most_updated, lowest, gone, remaining}
 use Rattle.cg_knowledge.specs.Primary.{newest_index, newest, known_primary, known_attempt}
-use Rattle.cg_knowledge.specs.Verdict.{records_of, all_cleared, decides, verdict_of}
+use Rattle.cg_knowledge.specs.Verdict.{records_of, all_cleared, decides}
+use Rattle.cg_knowledge.specs.Calls.{verdict_of}
 use Rattle.cg_knowledge.specs.Vulnerable.{all_bits, is_long_past, is_overtaken, is_ended_by_one, is_ended_by_all, is_cleared}
 use Rattle.cg_knowledge.specs.Yellow.{yellow_group, is_green_at_most, is_in_each, common_yellow}
 use Rattle.cg_plan.specs.Items.{items_of_plan}
@@ -89,7 +90,7 @@ unfolding reds_from all_reds
 queue_computes = tt
 
 unfoldable pub records_computes : ⊤
-unfolding spelled_set spelled_name spelled_names spelled_cut spelled_weighted spelled_weight_set spelled_prim spelled_vulnerable spelled_yellow spelled_stable take_number take_index take_id_above take_set take_weight take_weighted_above take_weight_set take_name_above take_cut take_names take_prim take_vulnerable take_maybe_vulnerable take_yellow take_stable same_prim same_vulnerable same_record same_yellow
+unfolding spelled_set spelled_names spelled_cut spelled_weighted spelled_weight_set spelled_prim spelled_vulnerable spelled_yellow spelled_stable take_number take_index take_id_above take_set take_weight take_weighted_above take_weight_set take_name_above take_cut take_names take_prim take_vulnerable take_maybe_vulnerable take_yellow take_stable same_prim same_vulnerable same_record same_yellow
 records_computes = tt
 
 unfoldable pub knowledge_computes : ⊤

@@ -3,7 +3,8 @@ use Rattle.std.specs.Prelude.{ℕ, ◌==◌, Bool, true, false, ◌&&◌, List, 
 use Rattle.std.specs.Ordering.{int_eq}
 use Rattle.std.specs.Bool.{beq}
 use Rattle.cg_base.specs.declared.action_id.ActionId.{ActionId}
-use Rattle.cg_base.specs.Ids.{same_id, same_ids}
+use Rattle.cg_base.specs.Ids.{same_id}
+use Rattle.cg_base.specs.Calls.{same_ids}
 use Rattle.cg_text.specs.Order.{same_text}
 use Rattle.cg_action.specs.declared.action.Action.{Action}
 use Rattle.cg_action.specs.declared.action.Kind.{Kind}
@@ -15,7 +16,7 @@ use Rattle.cg_action.specs.declared.query.Query.TheVariants.{Get, Keys, Count}
 use Rattle.cg_db.specs.declared.entry.DbEntry.{DbEntry}
 use Rattle.cg_db.specs.Map.{same_value, same_option}
 use Rattle.cg_members.specs.declared.server.Server.{Server}
-use Rattle.cg_members.specs.declared.members.Members.{Members}
+use Rattle.cg_members.specs.Members.{Members}
 use Rattle.cg_queue.specs.Queue.{QueueView}
 use Rattle.cg_records.specs.Same.{same_prim, same_record, same_yellow}
 use Rattle.cg_knowledge.specs.declared.summary.Summary.{Summary}

@@ -1,7 +1,7 @@
 -- Tests of the facts about attempts.
 use Rattle.std.specs.Prelude.{ℕ, suc, ◌==◌, nat_lt, nat_le, Bool, true, not, ◌&&◌, ◌||◌, List, [], ◌∷◌, Option, Some, None, is_none, find, filter_map, length}
 use Rattle.std.specs.List.{list_all}
-use Rattle.cg_base.specs.Ids.{same_ids}
+use Rattle.cg_base.specs.Calls.{same_ids}
 use Rattle.cg_base.specs.Lists.{at_place, count_up}
 use Rattle.cg_base.specs.Sets.{has, is_within}
 use Rattle.cg_base.specs.Text.{is_nil}

@@ -4,7 +4,7 @@ use Rattle.std.specs.List.{list_all}
 use Rattle.std.specs.Bool.{beq}
 use Rattle.std.specs.Option.{option_map_or}
 use Rattle.cg_base.specs.Cuts.{index_in}
-use Rattle.cg_base.specs.Ids.{same_ids}
+use Rattle.cg_base.specs.Calls.{same_ids}
 use Rattle.cg_base.specs.Sets.{has, is_within}
 use Rattle.cg_base.specs.Text.{is_nil}
 use Rattle.cg_action.specs.declared.action.Action.{Action}

@@ -66,7 +66,7 @@ pub map-append : {X Y : Type 0} (f : X → Y) (xs ys : List X) → map f (xs ++ 
 map-append f [] ys = refl
 map-append f (x ∷ xs) ys = ap (λ zs. f x ∷ zs) (map-append f xs ys)
 
--- the keys as far as a loop has come, and at the next place
+-- the keys as far as a loop has come, and at the next slot
 pub keys-more_empty : {X : Type 0} (make : ℕ → ℕ → X) (slot : ℕ → ℕ) (key : X → ℕ) (count : ℕ) → slot (count + 1) ≡ 0
     → map key (held_from make slot count 1) ≡ map key (held_from make slot (count + 1) 1)
 keys-more_empty make slot key count empty =
@@ -85,19 +85,19 @@ keys-more_filled make slot key keyed count filled =
     ∙ ap (map key) (sym grown)
     ∙ ap (λ n. map key (held_from make slot n 1)) (sym next)
 
--- ---- the slot at a place, counted from 0
+-- ---- a slot, counted from 0
 
-pub array_slot-place : (slots : List ℕ) (place : ℕ) → array_slot slots (place + 1) ≡ get_or slots place 0
-array_slot-place slots place = let here : place + 1 - 1 ≡ place = omega arith in ap (λ n. get_or slots n 0) here
+pub array_slot-at : (slots : List ℕ) (place : ℕ) → array_slot slots (place + 1) ≡ get_or slots place 0
+array_slot-at slots place = let here : place + 1 - 1 ≡ place = omega arith in ap (λ n. get_or slots n 0) here
 
 pub array_keys-empty : {X : Type 0} (make : ℕ → ℕ → X) (key : X → ℕ) (slots : List ℕ) (place : ℕ) → get_or slots place 0 ≡ 0
     → map key (held_from make (array_slot slots) place 1) ≡ map key (held_from make (array_slot slots) (place + 1) 1)
-array_keys-empty make key slots place empty = keys-more_empty make (array_slot slots) key place (array_slot-place slots place ∙ empty)
+array_keys-empty make key slots place empty = keys-more_empty make (array_slot slots) key place (array_slot-at slots place ∙ empty)
 
 pub array_keys-filled : {X : Type 0} (make : ℕ → ℕ → X) (key : X → ℕ) → ((p n : ℕ) → key (make p n) ≡ p) → (slots : List ℕ) (place : ℕ) → get_or slots place 0 ≢ 0
     → with_member (map key (held_from make (array_slot slots) place 1)) (place + 1) ≡ map key (held_from make (array_slot slots) (place + 1) 1)
 array_keys-filled make key keyed slots place filled =
-    keys-more_filled make (array_slot slots) key keyed place (λ e. filled (sym (array_slot-place slots place) ∙ e))
+    keys-more_filled make (array_slot slots) key keyed place (λ e. filled (sym (array_slot-at slots place) ∙ e))
 
 -- at the end of the array that is all that is held
 pub held_from-all : {X : Type 0} (make : ℕ → ℕ → X) (slot : ℕ → ℕ) (places : ℕ) → places ≡ 32 → held_from make slot places 1 ≡ held make slot

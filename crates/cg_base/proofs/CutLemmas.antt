@@ -7,7 +7,9 @@ use Rattle.std.proofs.lemmas.Slice.Eq.{bytes_eq-Decides}
 use Rattle.cg_base.specs.declared.action_id.ActionId.{ActionId}
 use Rattle.cg_base.specs.Ids.{same_id}
 use Rattle.cg_base.specs.Sets.{IsId, Ascends}
-use Rattle.cg_base.specs.Cuts.{IsCut, NameActions, index_in, raise, creators_in, lesser_top, least_cut}
+use Rattle.cg_base.specs.Cuts.{index_in, raise, creators_in}
+use Rattle.cg_base.specs.CutLimits.{IsCut, NameActions}
+use Rattle.cg_base.specs.Calls.{lesser_top, least_cut}
 use Rattle.cg_base.specs.Slots.{held_from, held, IsArray, top, array_slot, array_of}
 use Rattle.cg_base.specs.SlotLaws.{held_from-empty, held_from-filled, indexes_tell, Ascends-held, index_in-value_in, index_in-held, array_of-indexes}
 use Rattle.cg_base.proofs.Canonical.{EachMade, held-is}

@@ -9,7 +9,8 @@ use Rattle.std.proofs.lemmas.List.Elements.{filter-append}
 use Rattle.std.proofs.lemmas.Slice.Eq.{bytes_eq-Decides}
 use Rattle.cg_base.specs.declared.weighted.Weighted.{Weighted}
 use Rattle.cg_base.specs.Sets.{IsSet, IsId, Ascends, has}
-use Rattle.cg_base.specs.Weights.{IsWeightSet, Weigh, same_weighted, ids, weight_in, with_weight, each_once, total, total_of}
+use Rattle.cg_base.specs.Weights.{IsWeightSet, Weigh, same_weighted, ids, with_weight, each_once, total, total_of}
+use Rattle.cg_base.specs.Calls.{weight_in}
 use Rattle.cg_base.specs.Slots.{held_from, held, IsArray, weighted, array_slot, array_of}
 use Rattle.cg_base.specs.SlotLaws.{held_from-empty, held_from-filled, weights_tell, Ascends-held, weight_in-value_in, weight_in-held, array_of-weights}
 use Rattle.cg_base.proofs.Canonical.{EachMade, held-is}

@@ -3,7 +3,8 @@ use Rattle.std.proofs.Common.{◌≡◌, ℕ, suc, ◌^◌, ◌<◌, ◌≤◌, 
 use Rattle.std.proofs.lemmas.Bool.{cases_eq, cases_order, eq-eqb, ne_eqb, lt-ltb, le-ltb}
 use Rattle.cg_base.specs.declared.action_id.ActionId.{ActionId}
 use Rattle.cg_base.specs.Sets.{IsId, Ascends, with_member}
-use Rattle.cg_base.specs.Cuts.{IsCut, NameActions, index_in, with_top, raise, creators_in}
+use Rattle.cg_base.specs.Cuts.{index_in, with_top, raise, creators_in}
+use Rattle.cg_base.specs.CutLimits.{IsCut, NameActions}
 use Rattle.cg_base.specs.SetLaws.{Ascends-with_member}
 
 pub index_in-before : (cut : List ActionId) (low p : ℕ) → Ascends low (creators_in cut) → p < low → index_in cut p ≡ 0

@@ -1,14 +1,18 @@
 pub mod Lists
 pub mod Choice
 pub mod Sets
+pub mod Replicas
 pub mod Weights
 pub mod Ids
 pub mod IdRuns
 pub mod Cuts
+pub mod Calls
+pub mod CutLimits
 pub mod Slots
 pub mod SlotLaws
 pub mod Iterators
 pub mod Text
+pub mod Fronts
 pub mod ChoiceLaws
 pub mod ListLaws
 pub mod IdLaws
@@ -16,4 +20,5 @@ pub mod SetLaws
 pub mod ArrayLaws
 pub mod WeightLaws
 pub mod CutLaws
+pub mod AscendingLaws
 pub mod TextLaws

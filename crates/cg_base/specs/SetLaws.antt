@@ -3,7 +3,8 @@ use Rattle.std.proofs.Common.{◌≡◌, ◌≢◌, ℕ, zero, suc, ◌+◌, ◌
 use Rattle.std.specs.List.{list_all}
 use Rattle.std.proofs.lemmas.Bool.{cases_eq, cases_order, cases_Bool, eq-eqb, ne_eqb, lt-ltb, le-ltb, eqb-true, and_parts, and_from, or_cases, or_left, or_right}
 use Rattle.cg_base.specs.Lists.{count_up}
-use Rattle.cg_base.specs.Sets.{IsId, IsSet, Ascends, every_replica, has, with_member, without_member, union, common, without, least, is_within}
+use Rattle.cg_base.specs.Sets.{IsId, IsSet, Ascends, has, with_member, without_member, union, common, without, least, is_within}
+use Rattle.cg_base.specs.Replicas.{every_replica}
 
 -- ---- ascending lists
 

@@ -1,15 +1,10 @@
 -- Identifiers of replicas, and sets of them. A set is the list of its members' identifiers, ascending, each once.
 use Rattle.std.specs.Prelude.{ℕ, suc, ◌≤◌, ◌==◌, nat_lt, Bool, not, ◌&&◌, List, [], ◌∷◌, Option, Some, None, filter, fold, if◌then◌else◌}
 use Rattle.std.specs.List.{list_any, list_all}
-use Rattle.cg_base.specs.Lists.{count_up}
 
 -- a number that names a replica
 abbrev pub IsId : ℕ → Type 0
 IsId n = (1 ≤ n) × (n ≤ 32)
-
--- the identifiers that there are
-unfoldable pub every_replica : List ℕ
-every_replica = count_up 1 32
 
 -- the numbers ascend strictly, from the given one on and no further than 32
 abbrev pub Ascends : ℕ → List ℕ → Type 0
@@ -57,7 +52,3 @@ same_set s t = is_within s t && is_within t s
 abbrev pub least : List ℕ → Option ℕ
 least [] = None
 least (p ∷ set) = Some p
-
--- the least member above the given one
-abbrev pub next_after : List ℕ → ℕ → Option ℕ
-next_after set p = least (filter (nat_lt p) set)

@@ -7,9 +7,10 @@ use Rattle.std.proofs.lemmas.Nat.Bits.{bit_at_or, bit_at-lt, bit_at-pow_same, bi
 use Rattle.cg_base.specs.declared.action_id.ActionId.{ActionId}
 use Rattle.cg_base.specs.declared.weighted.Weighted.{Weighted}
 use Rattle.cg_base.specs.Lists.{count_up}
-use Rattle.cg_base.specs.Sets.{Ascends, every_replica}
+use Rattle.cg_base.specs.Sets.{Ascends}
+use Rattle.cg_base.specs.Replicas.{every_replica}
 use Rattle.cg_base.specs.Slots.{held_from, held, IsArray, member, weighted, top, bit_slot, array_slot, word_of, array_of}
-use Rattle.cg_base.specs.Weights.{weight_in}
+use Rattle.cg_base.specs.Calls.{weight_in}
 use Rattle.cg_base.specs.Cuts.{index_in}
 
 -- the value of the element with that key, 0 where there is none

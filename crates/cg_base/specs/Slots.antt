@@ -3,7 +3,7 @@ use Rattle.std.specs.Prelude.{◌≡◌, ℕ, zero, suc, ◌-◌, ◌^◌, ◌<�
 use Rattle.std.specs.Int.{bit_at}
 use Rattle.cg_base.specs.declared.action_id.ActionId.{ActionId}
 use Rattle.cg_base.specs.declared.weighted.Weighted.{Weighted}
-use Rattle.cg_base.specs.Sets.{every_replica}
+use Rattle.cg_base.specs.Replicas.{every_replica}
 
 -- what the slots of `count` replicas from `first` on hold, ascending
 unfoldable pub held_from : {X : Type 0} → (ℕ → ℕ → X) → (ℕ → ℕ) → ℕ → ℕ → List X

@@ -1,12 +1,8 @@
 -- How plain values are printed, and how bytes fall into pieces.
-use Rattle.std.specs.Prelude.{◌≡◌, ℕ, ◌==◌, Bool, true, false, List, [], ◌∷◌, ◌++◌, decimal, take, length, if◌then◌else◌}
+use Rattle.std.specs.Prelude.{ℕ, ◌==◌, Bool, true, false, List, [], ◌∷◌, ◌++◌, decimal, if◌then◌else◌}
 use Rattle.std.specs.List.{slice_split, flat_map}
 use Rattle.cg_base.specs.declared.action_id.ActionId.{ActionId}
 use Rattle.cg_base.specs.declared.weighted.Weighted.{Weighted}
-
--- what stood there before stands at the front
-abbrev pub KeepsFront : List ℕ → List ℕ → Type 0
-KeepsFront before now = take (length before) now ≡ before
 
 -- the texts of the things, with a comma between two
 abbrev pub with_commas : {A : Type 0} → (A → List ℕ) → List A → List ℕ

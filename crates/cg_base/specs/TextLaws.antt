@@ -5,7 +5,7 @@ use Rattle.std.specs.Str.{IsUtf8, is_utf8}
 use Rattle.std.proofs.lemmas.Bool.{false_from_ne_true}
 use Rattle.std.proofs.lemmas.Str.{IsUtf8-from_is_utf8}
 use Rattle.std.proofs.Math.Seq.{take-append_seam}
-use Rattle.cg_base.specs.Text.{KeepsFront}
+use Rattle.cg_base.specs.Fronts.{KeepsFront}
 
 -- what holds in any case holds where a call failed
 pub OnErr_from : {T E : Type 0} (r : Result T E) {P : Type 0} → P → OnErr r P

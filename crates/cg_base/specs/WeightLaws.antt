@@ -3,7 +3,8 @@ use Rattle.std.proofs.Common.{◌≡◌, ℕ, ◌<◌, ◌≤◌, ◌||◌, List
 use Rattle.std.proofs.lemmas.Bool.{cases_eq, cases_order, eq-eqb, ne_eqb, lt-ltb, le-ltb, or_right}
 use Rattle.cg_base.specs.declared.weighted.Weighted.{Weighted}
 use Rattle.cg_base.specs.Sets.{IsId, has, with_member}
-use Rattle.cg_base.specs.Weights.{IsWeightSet, Weigh, ids, weight_in, with_weight}
+use Rattle.cg_base.specs.Weights.{IsWeightSet, Weigh, ids, with_weight}
+use Rattle.cg_base.specs.Calls.{weight_in}
 use Rattle.cg_base.specs.SetLaws.{Ascends-with_member}
 
 pub weight_in-with_weight : (set : List Weighted) (n : Weighted) (p : ℕ) → weight_in (with_weight set n) p ≡ cond (eqb n.id p) n.weight (weight_in set p)

@@ -11,11 +11,6 @@ same_weighted m n = (m.id == n.id) && (m.weight == n.weight)
 abbrev pub ids : List Weighted → List ℕ
 ids set = map (λ m. m.id) set
 
--- the weight of a replica, 0 where it is no member
-abbrev pub weight_in : List Weighted → ℕ → ℕ
-weight_in [] p = 0
-weight_in (m ∷ set) p = if m.id == p then m.weight else weight_in set p
-
 -- the set in which the member has its weight, and each other replica the weight that it had
 abbrev pub with_weight : List Weighted → Weighted → List Weighted
 with_weight [] n = n ∷ []

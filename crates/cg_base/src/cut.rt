@@ -7,7 +7,7 @@ use std::marker::Model;
 /// ascending by creator.
 #[derive(Clone, Copy, Debug)]
 pub struct Cut {
-    // place p - 1 has the index of p's last action, 0 where it has none
+    // slot p - 1 has the index of p's last action, 0 where it has none
     indexes: [u64; 32],
 }
 
@@ -51,7 +51,9 @@ impl Eq for Cut {
 }
 
 impl Cut {
-    ghost use Rattle.cg_base.specs.Cuts.{IsCut, index_in, raise, least_cut, greatest_cut, creators_in};
+    ghost use Rattle.cg_base.specs.Cuts.{index_in, raise, creators_in};
+    ghost use Rattle.cg_base.specs.CutLimits.{IsCut};
+    ghost use Rattle.cg_base.specs.Calls.{least_cut, greatest_cut};
 
     /// The cut that knows no action.
     pub fn zero() -> Cut
@@ -80,9 +82,9 @@ impl Cut {
     pub fn raise(&mut self, id: ReplicaId, to: u64)
         ensures { self.new ≡ raise self.old (record { creator = id; index = to }) }
     {
-        let place = usize::from(id.get() - 1);
-        if self.indexes[place] < to {
-            self.indexes[place] = to;
+        let slot = usize::from(id.get() - 1);
+        if self.indexes[slot] < to {
+            self.indexes[slot] = to;
         }
     }
 
@@ -91,8 +93,8 @@ impl Cut {
         ensures { result ≡ least_cut self.now o.now }
     {
         let mut indexes = self.indexes;
-        for (place, index) in o.indexes.iter().enumerate() {
-            indexes[place] = indexes[place].min(*index);
+        for (slot, index) in o.indexes.iter().enumerate() {
+            indexes[slot] = indexes[slot].min(*index);
         }
         Cut { indexes }
     }
@@ -113,9 +115,9 @@ impl Cut {
         ensures { result ≡ creators_in self.now }
     {
         let mut set = IdSet::empty();
-        for (place, index) in self.indexes.iter().enumerate() {
+        for (slot, index) in self.indexes.iter().enumerate() {
             if *index != 0 {
-                set.add(ReplicaId::known(place as u8 + 1));
+                set.add(ReplicaId::known(slot as u8 + 1));
             }
         }
         set
@@ -137,7 +139,7 @@ pub struct Tops {
 
 impl Cut {
     ghost use Rattle.cg_base.specs.Iterators.{tops_left};
-    ghost use Rattle.cg_base.specs.Cuts.{IsCut};
+    ghost use Rattle.cg_base.specs.CutLimits.{IsCut};
 
     /// The name of each creator's last action, ascending.
     pub fn iter(&self) -> Tops

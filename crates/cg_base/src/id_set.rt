@@ -49,7 +49,8 @@ impl Eq for IdSet {
 }
 
 impl IdSet {
-    ghost use Rattle.cg_base.specs.Sets.{IsSet, has, with_member, without_member, union, common, without, is_within, least, next_after};
+    ghost use Rattle.cg_base.specs.Sets.{IsSet, has, with_member, without_member, union, common, without, is_within, least};
+    ghost use Rattle.cg_base.specs.Calls.{next_after};
     ghost use Rattle.std.specs.Prelude.{◌==◌};
 
     pub fn empty() -> IdSet
@@ -58,18 +59,27 @@ impl IdSet {
         IdSet { word: 0 }
     }
 
+    /// The set of one replica.
+    pub fn single(id: ReplicaId) -> IdSet
+        ensures { result ≡ id ∷ [] }
+    {
+        let mut set = IdSet::empty();
+        set.add(id);
+        set
+    }
+
     pub fn add(&mut self, id: ReplicaId)
         ensures { self.new ≡ with_member self.old id }
     {
-        let place = u32::from(id.get() - 1);
-        self.word |= 1 << place;
+        let slot = u32::from(id.get() - 1);
+        self.word |= 1 << slot;
     }
 
     pub fn remove(&mut self, id: ReplicaId)
         ensures { self.new ≡ without_member self.old id }
     {
-        let place = u32::from(id.get() - 1);
-        self.word &= !(1 << place);
+        let slot = u32::from(id.get() - 1);
+        self.word &= !(1 << slot);
     }
 
     /// It also says what every set is: an ascending list of identifiers.
@@ -77,8 +87,8 @@ impl IdSet {
         ensures value { result ≡ has self.now id }
         ensures set { IsSet self.now }
     {
-        let place = u32::from(id.get() - 1);
-        (self.word >> place) & 1 == 1
+        let slot = u32::from(id.get() - 1);
+        (self.word >> slot) & 1 == 1
     }
 
     pub fn union(&self, o: &IdSet) -> IdSet
@@ -133,8 +143,8 @@ impl IdSet {
         if self.word == 0 {
             return None;
         }
-        let place = self.word.trailing_zeros();
-        Some(ReplicaId::known(place as u8 + 1))
+        let slot = self.word.trailing_zeros();
+        Some(ReplicaId::known(slot as u8 + 1))
     }
 
     /// The least member above the identifier, be it a member or not.

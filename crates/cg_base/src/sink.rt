@@ -2,7 +2,7 @@
 
 ghost use Rattle.std.specs.Prelude.{◌≡◌, ◌++◌, List, ℕ, [], OnOk, OnErr, length};
 ghost use Rattle.std.specs.Fmt.{AppendsText};
-ghost use Rattle.cg_base.specs.Text.{KeepsFront};
+ghost use Rattle.cg_base.specs.Fronts.{KeepsFront};
 
 use crate::NoMemory;
 use std::fmt;

@@ -1,5 +1,6 @@
 ghost use Rattle.std.specs.Prelude.{◌≡◌, ◌++◌, OnOk, OnErr, decimal};
-ghost use Rattle.cg_base.specs.Text.{KeepsFront, set_text, id_text, id_list_text, weighted_text, weight_set_text};
+ghost use Rattle.cg_base.specs.Text.{set_text, id_text, id_list_text, weighted_text, weight_set_text};
+ghost use Rattle.cg_base.specs.Fronts.{KeepsFront};
 
 use crate::display::Names;
 use crate::{ActionId, IdRuns, IdSet, NoMemory, ReplicaId, WeightSet, Weighted, put_shown};

@@ -7,7 +7,7 @@ use std::marker::Model;
 /// ascending.
 #[derive(Clone, Copy, Debug)]
 pub struct WeightSet {
-    // place p - 1 has the weight of p, 0 where p is no member
+    // slot p - 1 has the weight of p, 0 where p is no member
     weights: [u8; 32],
 }
 
@@ -15,7 +15,7 @@ impl Model for WeightSet {
     ghost use Rattle.std.specs.Prelude.{ℕ, List};
     ghost use Rattle.cg_base.specs.declared.weighted.Weighted.{Weighted};
     ghost use Rattle.cg_base.specs.Slots.{held, IsArray, weighted, array_slot, array_of};
-    ghost use Rattle.cg_base.specs.Weights.{weight_in};
+    ghost use Rattle.cg_base.specs.Calls.{weight_in};
     ghost use Rattle.cg_base.specs.SlotLaws.{array_of-weights};
 
     ghost Value = { List Weighted };
@@ -52,7 +52,8 @@ impl Eq for WeightSet {
 
 impl WeightSet {
     ghost use Rattle.cg_base.specs.Sets.{has, least};
-    ghost use Rattle.cg_base.specs.Weights.{IsWeightSet, ids, weight_in, with_weight, each_once, total, total_of};
+    ghost use Rattle.cg_base.specs.Weights.{IsWeightSet, ids, with_weight, each_once, total, total_of};
+    ghost use Rattle.cg_base.specs.Calls.{weight_in};
 
     pub fn empty() -> WeightSet
         ensures { result ≡ [] }
@@ -76,8 +77,8 @@ impl WeightSet {
         requires { 1 ≤ weight }
         ensures { self.new ≡ with_weight self.old (record { id = id; weight = weight }) }
     {
-        let place = usize::from(id.get() - 1);
-        self.weights[place] = weight;
+        let slot = usize::from(id.get() - 1);
+        self.weights[slot] = weight;
     }
 
     /// 0 where the replica is no member. It also says what every set with weights is: a list of members, ascending, with
@@ -99,9 +100,9 @@ impl WeightSet {
         ensures { result ≡ ids self.now }
     {
         let mut set = IdSet::empty();
-        for (place, weight) in self.weights.iter().enumerate() {
+        for (slot, weight) in self.weights.iter().enumerate() {
             if *weight != 0 {
-                set.add(ReplicaId::known(place as u8 + 1));
+                set.add(ReplicaId::known(slot as u8 + 1));
             }
         }
         set
@@ -136,8 +137,8 @@ impl WeightSet {
         ensures { result ≡ total_of self.now present.now }
     {
         let mut sum = 0;
-        for (place, weight) in self.weights.iter().enumerate() {
-            if present.contains(ReplicaId::known(place as u8 + 1)) {
+        for (slot, weight) in self.weights.iter().enumerate() {
+            if present.contains(ReplicaId::known(slot as u8 + 1)) {
                 sum += u32::from(*weight);
             }
         }

@@ -12,13 +12,15 @@ use Rattle.cg_action.specs.declared.query.Query.TheVariants.{Get, Keys as KeysOf
 use Rattle.cg_db.specs.declared.answer.Answer.{Answer}
 use Rattle.cg_db.specs.declared.answer.Answer.TheVariants.{Keys, Count}
 use Rattle.cg_db.specs.declared.entry.DbEntry.{DbEntry}
-use Rattle.cg_db.specs.Map.{IsBefore, Ascends, value_of, keys}
+use Rattle.cg_db.specs.Map.{value_of, keys}
+use Rattle.cg_db.specs.Ascending.{IsBefore, Ascends}
 use Rattle.cg_db.specs.Find.{answer, answer_of}
 use Rattle.cg_db.specs.TextOrderLaws.{same-refl}
 use Rattle.cg_db.specs.EntryLaws.{IsBefore-through}
 use Rattle.cg_client.specs.Queries.{behind}
 use Rattle.cg_client.specs.Overlay.{named_part, has_key, with_mark, joined, answer_with}
-use Rattle.cg_client.proofs.Splitting.{only, others, entry, put_entry, Ascends-filter, value_of-only, value_of-missing, built, built_alone}
+use Rattle.cg_db.specs.AscendingLaws.{entry, Ascends-filter}
+use Rattle.cg_client.proofs.Splitting.{only, others, put_entry, value_of-only, value_of-missing, built, built_alone}
 use Rattle.cg_client.proofs.Running.{IsPart, actions-run}
 use Rattle.cg_client.proofs.Choosing.{among, keys_in, named_part-is, named-all}
 
@@ -40,17 +42,22 @@ got_at p db new key rest false c =
 
 -- ---- how many
 
+-- each entry is in the part or among the others
+both-parts : (p : List ℕ → Bool) (db : List DbEntry) → length (only p db) + length (only (others p) db) ≡ length db
+both-parts p db = length-filter_both (λ (e : DbEntry). p e.key) (λ (e : DbEntry). others p e.key) (λ e. refl) db
+
 counted : (p : List ℕ → Bool) (db new : List DbEntry) → only (others p) new ≡ only (others p) db → length db - length (only p db) + length (only p new) ≡ length new
 counted p db new rest =
-    let before : length (only p db) + length (only (others p) db) ≡ length db = length-filter_both (λ (e : DbEntry). p e.key) (λ (e : DbEntry). others p e.key) (λ e. refl) db in
-    let after : length (only p new) + length (only (others p) new) ≡ length new = length-filter_both (λ (e : DbEntry). p e.key) (λ (e : DbEntry). others p e.key) (λ e. refl) new in
+    let before = both-parts p db in
+    let after = both-parts p new in
     let same : length (only (others p) new) ≡ length (only (others p) db) = ap length rest in
     omega (arith, before, after, same)
 
+-- the part at the keys that the actions name has no more entries than the database
 pub part-fits : (db part : List DbEntry) (actions : List Action) → part ≡ named_part db actions → Ascends db → length part ≤ length db
 part-fits db part actions is up =
     let p = among (keys_in actions) in
-    let both : length (only p db) + length (only (others p) db) ≡ length db = length-filter_both (λ (e : DbEntry). p e.key) (λ (e : DbEntry). others p e.key) (λ e. refl) db in
+    let both = both-parts p db in
     let size : length part ≡ length (only p db) = ap length (is ∙ named_part-is db actions up) in
     omega (arith, both, size)
 

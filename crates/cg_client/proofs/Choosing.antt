@@ -10,11 +10,13 @@ use Rattle.cg_action.specs.declared.value.Value.{Value}
 use Rattle.cg_action.specs.declared.command.Cmd.{Cmd}
 use Rattle.cg_action.specs.declared.action.Action.{Action}
 use Rattle.cg_db.specs.declared.entry.DbEntry.{DbEntry}
-use Rattle.cg_db.specs.Map.{IsBefore, Ascends, value_of, put}
+use Rattle.cg_db.specs.Map.{value_of, put}
+use Rattle.cg_db.specs.Ascending.{IsBefore, Ascends}
 use Rattle.cg_db.specs.TextOrderLaws.{same-is, same-refl, same-sym, before-apart}
 use Rattle.cg_db.specs.EntryLaws.{IsBefore-through}
 use Rattle.cg_client.specs.Overlay.{keys_of, commands_of, put_found, with_key, with_command, with_commands, with_action, named_part}
-use Rattle.cg_client.proofs.Splitting.{only, entry, IsBefore-filter, put-first, value_of-before}
+use Rattle.cg_db.specs.AscendingLaws.{entry, IsBefore-filter, value_of-before}
+use Rattle.cg_client.proofs.Splitting.{only, put-first}
 use Rattle.cg_client.proofs.Running.{Every, EveryOf, EveryIn}
 
 -- ---- one key more

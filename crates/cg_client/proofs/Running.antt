@@ -10,11 +10,13 @@ use Rattle.cg_action.specs.declared.action.Kind.{Kind}
 use Rattle.cg_action.specs.declared.action.Kind.TheVariants.{Update, Join, Leave}
 use Rattle.cg_action.specs.declared.action.Action.{Action}
 use Rattle.cg_db.specs.declared.entry.DbEntry.{DbEntry}
-use Rattle.cg_db.specs.Map.{Ascends, value_of, put, remove, same_option}
+use Rattle.cg_db.specs.Map.{value_of, put, remove, same_option}
+use Rattle.cg_db.specs.Ascending.{Ascends}
 use Rattle.cg_db.specs.Apply.{Ran, Changed, Aborts, Overflows, number_of, add_number, add_to, move_number, run_command, run_commands, apply_kind, apply}
 use Rattle.cg_client.specs.Queries.{behind}
 use Rattle.cg_client.specs.Overlay.{keys_of, commands_of}
-use Rattle.cg_client.proofs.Splitting.{only, others, Ascends-put, Ascends-filter, only-put, only-unput, only-remove, only-unremoved, value_of-only}
+use Rattle.cg_db.specs.AscendingLaws.{Ascends-put, Ascends-filter}
+use Rattle.cg_client.proofs.Splitting.{only, others, only-put, only-unput, only-remove, only-unremoved, value_of-only}
 
 -- each of the keys is chosen
 abbrev pub Every : (List ℕ → Bool) → List (List ℕ) → Type 0

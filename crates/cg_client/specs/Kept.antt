@@ -1,5 +1,5 @@
 -- What is always so of the actions that are known.
-use Rattle.cg_action.specs.Limits.{IsAction}
+use Rattle.cg_action.specs.ActionLimits.{IsAction}
 use Rattle.cg_records.specs.Limits.{Each, IsIndex, IsName}
 use Rattle.cg_queue.specs.Queue.{QueueView}
 

@@ -5,6 +5,7 @@ pub mod Kept
 pub mod Standing
 pub mod Marks
 pub mod Requests
+pub mod Calls
 pub mod Summary
 pub mod Install
 pub mod Joined

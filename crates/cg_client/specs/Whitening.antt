@@ -1,17 +1,13 @@
 -- How the white count of what a replica holds rises.
-use Rattle.std.specs.Prelude.{ℕ, ◌≤◌, max}
+use Rattle.std.specs.Prelude.{ℕ, max}
 use Rattle.std.specs.Option.{unwrap_or}
-use Rattle.cg_queue.specs.Queue.{discarded, green_count}
+use Rattle.cg_queue.specs.Queue.{discarded}
 use Rattle.cg_members.specs.Servers.{white_line}
 use Rattle.cg_client.specs.Replica.{Held}
 
 -- up to where all servers are known to have come
 abbrev pub line_of : Held → ℕ
 line_of h = unwrap_or (white_line h.members) 0
-
--- no server is ahead of this replica's own greens in its book, so that the line isn't
-abbrev pub IsLineGreen : Held → Type 0
-IsLineGreen h = line_of h ≤ green_count h.queue
 
 -- the white count at a commit: the white line, where that is greater
 abbrev pub white_at : Held → ℕ

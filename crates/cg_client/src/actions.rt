@@ -1,5 +1,5 @@
 ghost use Rattle.std.specs.Prelude.{◌≡◌, ◌++◌, ◌∷◌, [], OnOk};
-ghost use Rattle.cg_action.specs.Limits.{IsAction};
+ghost use Rattle.cg_action.specs.ActionLimits.{IsAction};
 ghost use Rattle.cg_records.specs.Limits.{Each};
 
 use cg_action::{Action, ActionList};
@@ -16,7 +16,7 @@ pub(crate) struct Actions {
 impl Model for Actions {
     ghost use Rattle.std.specs.Prelude.{List};
     ghost use Rattle.cg_action.specs.declared.action.Action.{Action};
-    ghost use Rattle.cg_action.specs.Limits.{IsAction};
+    ghost use Rattle.cg_action.specs.ActionLimits.{IsAction};
     ghost use Rattle.cg_records.specs.Limits.{Each};
 
     ghost Value = { List Action };

@@ -1,5 +1,5 @@
 ghost use Rattle.std.specs.Prelude.{◌≡◌, ◌++◌, ◌∷◌, [], OnOk};
-ghost use Rattle.cg_action.specs.Limits.{IsAction, IsActionId};
+ghost use Rattle.cg_action.specs.ActionLimits.{IsAction, IsActionId};
 ghost use Rattle.cg_records.specs.Limits.{Each};
 ghost use Rattle.cg_wire.specs.Limits.{IsMsg};
 ghost use Rattle.cg_client.specs.Drafts.{no_parts};

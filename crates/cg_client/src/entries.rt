@@ -1,9 +1,9 @@
 ghost use Rattle.std.specs.Prelude.{◌≡◌, [], IfOk, OnErr};
-ghost use Rattle.cg_action.specs.Limits.{IsAction};
+ghost use Rattle.cg_action.specs.ActionLimits.{IsAction};
 ghost use Rattle.cg_db.specs.Apply.{apply};
 ghost use Rattle.cg_db.specs.Find.{answer};
 ghost use Rattle.cg_db.specs.Limits.{AreEntries};
-ghost use Rattle.cg_db.specs.Map.{Ascends};
+ghost use Rattle.cg_db.specs.Ascending.{Ascends};
 
 use cg_action::{Action, Query};
 use cg_base::NoMemory;

@@ -1,7 +1,7 @@
 //! The installation of a primary component.
 ghost use Rattle.std.specs.Prelude.{◌≡◌, ◌∷◌, ◌++◌, [], fold, map, option_map, OnOk, IfOk, Some, Option};
 ghost use Rattle.std.specs.Option.{option_to_list};
-ghost use Rattle.cg_action.specs.Limits.{IsAction};
+ghost use Rattle.cg_action.specs.ActionLimits.{IsAction};
 ghost use Rattle.cg_records.specs.Limits.{Each};
 ghost use Rattle.cg_queue.specs.Queue.{action_of};
 ghost use Rattle.cg_client.specs.Replica.{State};

@@ -4,11 +4,11 @@ ghost use Rattle.std.specs.Option.{option_copied};
 ghost use Rattle.cg_base.specs.Cuts.{index_in};
 ghost use Rattle.cg_base.specs.Ids.{names};
 ghost use Rattle.cg_base.specs.Lists.{at_place};
-ghost use Rattle.cg_action.specs.Limits.{IsAction};
+ghost use Rattle.cg_action.specs.ActionLimits.{IsAction};
 ghost use Rattle.cg_records.specs.Limits.{Each, IsIndex, IsName, IsSmallCut};
 ghost use Rattle.cg_client.specs.Kept.{AreKept};
-ghost use Rattle.cg_queue.specs.Answers.{Answers, AreReds};
-ghost use Rattle.cg_queue.specs.Queue.{resumed, marked_red, marked_yellow, placed_green, discarded, green_count, action_of, names_of, marked_green};
+ghost use Rattle.cg_queue.specs.Answers.{Answers, AreReds, marked_green};
+ghost use Rattle.cg_queue.specs.Queue.{resumed, marked_red, marked_yellow, placed_green, discarded, green_count, action_of, names_of};
 
 use cg_action::{Action, ActionList};
 use cg_base::{ActionId, Cut, IdList, IdRuns, NoMemory, ReplicaId};

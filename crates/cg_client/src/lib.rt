@@ -33,4 +33,5 @@ pub use draft::Draft;
 pub use held::Core;
 pub use install::Installed;
 pub use parts::DraftParts;
+pub use queries::names_of;
 pub use request::Request;

@@ -1,5 +1,5 @@
 ghost use Rattle.std.specs.Prelude.{◌≡◌, ◌++◌, ◌∷◌, [], OnOk};
-ghost use Rattle.cg_action.specs.Limits.{IsActionId};
+ghost use Rattle.cg_action.specs.ActionLimits.{IsActionId};
 ghost use Rattle.cg_records.specs.Limits.{Each};
 
 use cg_base::{ActionId, IdList, NoMemory, Row};
@@ -15,7 +15,7 @@ pub(crate) struct Names {
 impl Model for Names {
     ghost use Rattle.std.specs.Prelude.{List};
     ghost use Rattle.cg_base.specs.declared.action_id.ActionId.{ActionId};
-    ghost use Rattle.cg_action.specs.Limits.{IsActionId};
+    ghost use Rattle.cg_action.specs.ActionLimits.{IsActionId};
     ghost use Rattle.cg_records.specs.Limits.{Each};
 
     ghost Value = { List ActionId };

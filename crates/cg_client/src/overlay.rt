@@ -1,6 +1,6 @@
 //! Queries behind actions that aren't written: only a part of the database, at the keys that the actions name, is copied.
 ghost use Rattle.std.specs.Prelude.{◌≡◌, ◌≤◌, ℕ, List, ◌∷◌, [], not, length, fold, filter, IfOk, OnOk};
-ghost use Rattle.cg_action.specs.Limits.{IsAction};
+ghost use Rattle.cg_action.specs.ActionLimits.{IsAction};
 ghost use Rattle.cg_action.specs.declared.query.Query.TheVariants.{Keys as KeysOf};
 ghost use Rattle.cg_db.specs.Find.{answer};
 ghost use Rattle.cg_db.specs.declared.answer.Answer.TheVariants.{Keys};

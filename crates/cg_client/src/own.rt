@@ -2,7 +2,7 @@
 ghost use Rattle.std.specs.Prelude.{◌≡◌, ◌<◌, ◌∷◌, ◌++◌, ◌-◌, [], suc, drop, length, slice_get, OnOk, IfOk, IfSome};
 ghost use Rattle.std.specs.Option.{option_copied};
 ghost use Rattle.cg_base.specs.Text.{is_nil};
-ghost use Rattle.cg_action.specs.Limits.{IsAction};
+ghost use Rattle.cg_action.specs.ActionLimits.{IsAction};
 ghost use Rattle.cg_queue.specs.Queue.{names_of};
 ghost use Rattle.cg_records.specs.Limits.{Each};
 
@@ -22,7 +22,7 @@ pub(crate) struct Own {
 impl Model for Own {
     ghost use Rattle.std.specs.Prelude.{List};
     ghost use Rattle.cg_action.specs.declared.action.Action.{Action};
-    ghost use Rattle.cg_action.specs.Limits.{IsAction};
+    ghost use Rattle.cg_action.specs.ActionLimits.{IsAction};
     ghost use Rattle.cg_records.specs.Limits.{Each};
 
     ghost Value = { List Action };

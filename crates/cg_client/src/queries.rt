@@ -1,7 +1,7 @@
 //! Queries that aren't ordered, and what a replica shows of itself.
 ghost use Rattle.std.specs.Prelude.{◌≡◌, ◌++◌, ◌∷◌, [], filter, not, OnOk, IfOk};
 ghost use Rattle.cg_base.specs.Ids.{names};
-ghost use Rattle.cg_action.specs.Limits.{IsAction};
+ghost use Rattle.cg_action.specs.ActionLimits.{IsAction};
 ghost use Rattle.cg_records.specs.Limits.{Each};
 ghost use Rattle.cg_queue.specs.Queue.{names_of};
 ghost use Rattle.cg_client.specs.Queries.{weak_answer, dirty_answer, plain_reds, view_of};
@@ -91,7 +91,7 @@ fn plain_names(queue: &Known) -> Result<IdRuns, NoMemory>
 }
 
 /// The names of these actions.
-pub(crate) fn names_of(alloc: Global, actions: &[Action]) -> Result<IdList, NoMemory>
+pub fn names_of(alloc: Global, actions: &[Action]) -> Result<IdList, NoMemory>
     ensures { IfOk result (λ ids. ids ≡ names_of actions.now) }
 {
     let mut ids = Row::new(alloc);

@@ -15,7 +15,7 @@ pub enum Request {
 }
 
 impl Request {
-    ghost use Rattle.cg_client.specs.Requests.{kind_of};
+    ghost use Rattle.cg_client.specs.Calls.{kind_of};
 
     /// What the action of the request does. It takes no memory.
     pub fn into_kind(self) -> Kind

@@ -1,5 +1,5 @@
 ghost use Rattle.std.specs.Prelude.{◌≡◌, ◌≤◌, ◌^◌};
-ghost use Rattle.cg_action.specs.Limits.{IsAction};
+ghost use Rattle.cg_action.specs.ActionLimits.{IsAction};
 ghost use Rattle.cg_members.specs.Listed.{AreServers};
 ghost use Rattle.cg_members.specs.Servers.{starting, after_green, weight_of, white_line};
 ghost use Rattle.cg_records.specs.Limits.{Each, IsNumber};
@@ -16,7 +16,7 @@ pub(crate) struct Servers {
 }
 
 impl Model for Servers {
-    ghost use Rattle.cg_members.specs.declared.members.Members.{Members};
+    ghost use Rattle.cg_members.specs.Members.{Members};
     ghost use Rattle.cg_records.specs.Limits.{Each, IsNumber};
 
     ghost Value = { Members };

@@ -1,13 +1,14 @@
 //! What a store rebuilds and changes: a replica from the parts of a checkpoint, and each part of a change.
 ghost use Rattle.std.specs.Prelude.{◌≡◌, ◌≤◌, ◌<◌, ◌^◌, ◌++◌, ◌∷◌, ◌↔◌, [], suc, false, IsTrue, MatchOption, OnOk, IfOk};
 ghost use Rattle.cg_base.specs.Cuts.{index_in};
-ghost use Rattle.cg_action.specs.Limits.{IsAction};
+ghost use Rattle.cg_action.specs.ActionLimits.{IsAction};
 ghost use Rattle.cg_db.specs.Limits.{AreEntries};
 ghost use Rattle.cg_records.specs.Limits.{Each, IsIndex, IsNumber, IsStable};
 ghost use Rattle.cg_queue.specs.Queue.{resumed, placed_red, placed_green, green_count, action_of};
 ghost use Rattle.cg_client.specs.Marks.{after_first, with_green};
 ghost use Rattle.cg_client.specs.Replica.{created, yellow_of};
-ghost use Rattle.cg_client.specs.Whitening.{IsLineGreen, with_white};
+ghost use Rattle.cg_client.specs.Whitening.{with_white};
+ghost use Rattle.cg_client.specs.Calls.{IsLineGreen};
 
 use crate::Core;
 use crate::entries::Entries;

@@ -10,14 +10,15 @@
 
 ghost use Rattle.std.specs.Prelude.{◌≡◌, ◌∷◌, [], suc, IfOk, IsTrue};
 ghost use Rattle.cg_base.specs.Cuts.{index_in};
-ghost use Rattle.cg_action.specs.Limits.{IsAction, IsKind};
+ghost use Rattle.cg_action.specs.Limits.{IsKind};
+ghost use Rattle.cg_action.specs.ActionLimits.{IsAction};
 
 use cg_action::{Action, Kind, Query, decode};
 use cg_base::{
-    ActionId, Cut, IdList, IdSet, NoMemory, ReplicaId, Row, WeightSet, put, put_id, put_id_list,
+    ActionId, Cut, IdSet, NoMemory, ReplicaId, Row, WeightSet, put, put_id, put_id_list,
     put_id_runs, put_number, put_shown,
 };
-use cg_client::{Core, Draft, Installed};
+use cg_client::{Core, Draft, Installed, names_of};
 use cg_db::{Answer, Db};
 use cg_members::{Members, ServerSet};
 use cg_records::{Primary, Stable, Yellow};
@@ -374,10 +375,7 @@ fn keep(core: &mut Core, name: &str) -> Result<(), Fail> {
 fn stored(core: &mut Core) -> Result<(), Fail> {
     let mut cut = Cut::zero();
     cut.raise(core.id(), 5);
-    let members = Members {
-        servers: ServerSet::empty(),
-        left: IdSet::empty(),
-    };
+    let members = Members::of(ServerSet::empty(), IdSet::empty());
     let prim = Primary {
         index: 3,
         conf: 4,
@@ -480,14 +478,6 @@ fn fill(core: &mut Core, word: &str, rest: &str) -> Result<bool, Fail> {
         "over" => over(core, rest),
         _ => make(core, rest),
     }
-}
-
-fn names_of(alloc: Global, actions: &[Action]) -> Result<IdList, NoMemory> {
-    let mut names = Row::new(alloc);
-    for a in actions {
-        names.push(a.id)?;
-    }
-    Ok(names)
 }
 
 fn put_names(alloc: Global, out: &mut Vec<u8>, actions: &[Action]) -> Result<(), NoMemory> {

@@ -1,6 +1,7 @@
 -- How values are spelled in bytes. Numbers are big-endian, and each value has one spelling.
 use Rattle.std.specs.Prelude.{ℕ, Bool, List, [], ◌∷◌, ◌++◌, Option, Some, None, flat_map, length, ℤ, if◌then◌else◌}
 use Rattle.std.specs.Int.{to_be_bytes, cast_unsigned, w32, w64}
+use Rattle.cg_base.specs.declared.action_id.ActionId.{ActionId}
 
 -- one byte
 unfoldable pub byte : ℕ → List ℕ
@@ -34,3 +35,7 @@ list item xs = number32 (length xs) ++ flat_map item xs
 abbrev pub optional : {X : Type 0} → (X → List ℕ) → Option X → List ℕ
 optional item None = byte 0
 optional item (Some x) = byte 1 ++ item x
+
+-- a name of an action: its creator and its index
+abbrev pub spelled_id : ActionId → List ℕ
+spelled_id id = byte id.creator ++ number64 id.index

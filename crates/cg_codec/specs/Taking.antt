@@ -7,7 +7,7 @@ use Rattle.cg_codec.specs.Reading.{Unread, Reading}
 
 -- what a reader has still to read
 abbrev pub unread_of : Fields → Unread
-unread_of fields = record { at = fields.place; bytes = fields.rest.now }
+unread_of fields = record { at = fields.at; bytes = fields.rest.now }
 
 -- the call gave what reading gives, seen by a view, and the reader stands behind it; after a fault, which is one of the bytes, the reader is as before
 abbrev pub Takes : {X Y : Type 0} → (X → Y) → Reading Y → Unread → Unread → Result X CodecFault → Type 0

@@ -20,8 +20,8 @@ fn text_of(bytes: &[u8]) -> Option<&str>
 #[derive(Clone, Copy, Debug)]
 pub struct Fields<'a> {
     rest: &'a [u8],
-    place: usize,
-    ghost within: { place + length rest.now < 2 ^ 64 },
+    at: usize,
+    ghost within: { at + length rest.now < 2 ^ 64 },
 }
 
 impl<'a> Fields<'a> {
@@ -33,10 +33,7 @@ impl<'a> Fields<'a> {
     pub fn new(bytes: &'a [u8]) -> Fields<'a>
         ensures { unread_of result ≡ record { at = 0; bytes = bytes.now } }
     {
-        Fields {
-            rest: bytes,
-            place: 0,
-        }
+        Fields { rest: bytes, at: 0 }
     }
 
     /// Takes one byte.
@@ -49,7 +46,7 @@ impl<'a> Fields<'a> {
             [] => Err(self.short()),
             [byte, rest @ ..] => {
                 self.rest = rest;
-                self.place += 1;
+                self.at += 1;
                 Ok(*byte)
             }
         }
@@ -163,9 +160,7 @@ impl<'a> Fields<'a> {
         if self.rest.is_empty() {
             Ok(())
         } else {
-            Err(CodecFault::Rest {
-                at: self.place as u64,
-            })
+            Err(CodecFault::Rest { at: self.at as u64 })
         }
     }
 
@@ -178,7 +173,7 @@ impl<'a> Fields<'a> {
     {
         let (front, rest) = self.rest.split_at(count);
         self.rest = rest;
-        self.place += count;
+        self.at += count;
         front
     }
 
@@ -186,9 +181,7 @@ impl<'a> Fields<'a> {
     fn short(&self) -> CodecFault
         ensures { result ≡ CodecFault.Short (unread_of self.now).at }
     {
-        CodecFault::Short {
-            at: self.place as u64,
-        }
+        CodecFault::Short { at: self.at as u64 }
     }
 
     /// The fault that the field that begins here has no such value.
@@ -196,8 +189,6 @@ impl<'a> Fields<'a> {
     pub fn bad(&self) -> CodecFault
         ensures { result ≡ CodecFault.Bad (unread_of self.now).at }
     {
-        CodecFault::Bad {
-            at: self.place as u64,
-        }
+        CodecFault::Bad { at: self.at as u64 }
     }
 }

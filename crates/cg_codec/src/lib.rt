@@ -14,4 +14,4 @@ mod writing;
 pub use fault::CodecFault;
 pub use fields::Fields;
 pub use laws::{fields_are_exact, fields_compose};
-pub use writing::{put_i64, put_text, put_truth, put_u8, put_u32, put_u64};
+pub use writing::{put_action_id, put_i64, put_text, put_truth, put_u8, put_u32, put_u64};

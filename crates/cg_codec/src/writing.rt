@@ -1,10 +1,10 @@
 //! Writers of fields.
 
 ghost use Rattle.std.specs.Prelude.{◌≡◌, ◌<◌, ◌^◌, ◌++◌, length, take, OnOk, OnErr};
-ghost use Rattle.cg_codec.specs.Fields.{byte, number32, number64, signed64, text, truth as truth_bytes};
+ghost use Rattle.cg_codec.specs.Fields.{byte, number32, number64, signed64, text, truth as truth_bytes, spelled_id};
 
 use byteorder::{BigEndian, ByteOrder};
-use cg_base::NoMemory;
+use cg_base::{ActionId, NoMemory};
 
 /// Puts one byte at the end.
 #[tactic(auto, unfolding(crate::specs::Fields::byte))]
@@ -56,6 +56,27 @@ pub fn put_truth(out: &mut Vec<u8>, truth: bool) -> Result<(), NoMemory>
     ensures err { OnErr result (out.new.items ≡ out.old.items) }
 {
     put_u8(out, u8::from(truth))
+}
+
+/// Puts a name of an action at the end: its creator and its index. Where memory is refused nothing is put.
+pub fn put_action_id(out: &mut Vec<u8>, v: &ActionId) -> Result<(), NoMemory>
+    ensures ok { OnOk result (out.new.items ≡ out.old.items ++ spelled_id v.now) }
+    ensures err { OnErr result (out.new.items ≡ out.old.items) }
+{
+    let before = out.len();
+    let put = write_action_id(out, v);
+    if put.is_err() {
+        out.truncate(before);
+    }
+    put
+}
+
+fn write_action_id(out: &mut Vec<u8>, v: &ActionId) -> Result<(), NoMemory>
+    ensures ok { OnOk result (out.new.items ≡ out.old.items ++ spelled_id v.now) }
+    ensures err { OnErr result (take (length out.old.items) out.new.items ≡ out.old.items) }
+{
+    put_u8(out, v.creator.get())?;
+    put_u64(out, v.index)
 }
 
 /// Puts a text at the end: how many bytes it has, in four bytes, and these.

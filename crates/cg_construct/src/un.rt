@@ -1,13 +1,15 @@
 ghost use Rattle.std.specs.Prelude.{◌≡◌, Some, IfOk, IfSome};
-ghost use Rattle.cg_action.specs.Limits.{IsAction, IsKind};
+ghost use Rattle.cg_action.specs.Limits.{IsKind};
+ghost use Rattle.cg_action.specs.ActionLimits.{IsAction};
 ghost use Rattle.cg_report.specs.declared.line.StateName.TheVariants.{Un as UnName};
 ghost use Rattle.cg_wire.specs.Limits.{IsMsg};
 ghost use Rattle.cg_wire.specs.Reading.{message_in};
 ghost use Rattle.cg_client.specs.declared.parts.DraftParts.{DraftParts};
 ghost use Rattle.cg_client.specs.Replica.{Un as UnState};
 ghost use Rattle.cg_client.specs.Drafts.{turn_with};
-ghost use Rattle.cg_client.specs.Requests.{kind_of, request};
-ghost use Rattle.cg_client.specs.Whitening.{IsLineGreen, with_white};
+ghost use Rattle.cg_client.specs.Requests.{request};
+ghost use Rattle.cg_client.specs.Calls.{kind_of, IsLineGreen};
+ghost use Rattle.cg_client.specs.Whitening.{with_white};
 ghost use Rattle.cg_construct.specs.Attempt.{attempt_of};
 ghost use Rattle.cg_construct.specs.Hearing.{un_on_message, un_on_read, un_on};
 ghost use Rattle.cg_construct.specs.Steps.{turn_after, HasLimits};

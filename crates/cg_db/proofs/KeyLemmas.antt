@@ -13,11 +13,13 @@ use Rattle.cg_text.specs.Order.{same_text, text_before, begins_with}
 use Rattle.cg_action.specs.declared.value.Value.{Value}
 use Rattle.cg_action.specs.declared.value.Value.TheVariants.{Int}
 use Rattle.cg_db.specs.declared.entry.DbEntry.{DbEntry}
-use Rattle.cg_db.specs.Map.{IsBefore, Ascends, value_of, put, keys}
+use Rattle.cg_db.specs.Map.{value_of, put, keys}
+use Rattle.cg_db.specs.Ascending.{IsBefore, Ascends}
 use Rattle.cg_db.specs.View.{of_entries, entry_at}
 use Rattle.cg_db.specs.TextOrderLaws.{same-is, same-sym, before-other}
 use Rattle.cg_db.specs.EntryLaws.{found_all}
-use Rattle.cg_db.proofs.MapLemmas.{entry, some, Ascends-filter, same_at_each_key, length-put}
+use Rattle.cg_db.specs.AscendingLaws.{entry, Ascends-filter}
+use Rattle.cg_db.proofs.MapLemmas.{some, same_at_each_key, length-put}
 use Rattle.cg_db.proofs.ViewLemmas.{Ascends-of_entries, value_of-of_entries, same_flipped}
 
 -- ---- texts as a database, in which each has one and the same value

@@ -14,12 +14,13 @@ use Rattle.cg_action.specs.declared.command.Cmd.TheVariants.{Put, Del, Inc, Cas,
 use Rattle.cg_action.specs.declared.action.Kind.{Kind}
 use Rattle.cg_action.specs.declared.action.Kind.TheVariants.{Update, Join, Leave}
 use Rattle.cg_action.specs.declared.action.Action.{Action}
-use Rattle.cg_action.specs.Limits.{IsKey, IsValue, IsCommand, IsKind, IsAction}
+use Rattle.cg_action.specs.Limits.{IsKind}
+use Rattle.cg_action.specs.ActionLimits.{IsKey, IsValue, IsCommand, IsAction}
 use Rattle.cg_db.specs.declared.entry.DbEntry.{DbEntry}
 use Rattle.cg_db.specs.Limits.{IsEntry, AreEntries}
 use Rattle.cg_db.specs.Map.{value_of, put, same_option}
 use Rattle.cg_db.specs.Apply.{Ran, Changed, Aborts, Overflows, number_of, add_number, add_to, move_number, run_command, run_commands, apply, apply_kind}
-use Rattle.cg_db.proofs.MapLemmas.{put_at}
+use Rattle.cg_db.specs.AscendingLaws.{put_at}
 use Rattle.cg_db.proofs.PlanLemmas.{fits_i64-to}
 
 put_at-within : (e : DbEntry) (db : List DbEntry) (key : List ℕ) (value : Value) → IsEntry e → AreEntries db → IsKey key → IsValue value → AreEntries (put db key value)
@@ -101,14 +102,14 @@ command-within db (Need key want) all is = either-within (same_option (value_of 
 
 -- ---- actions
 
-commands-within : (old : List DbEntry) (place : ℕ) (cmds : List Cmd) (r : Ran) → AreEntries old → All IsCommand cmds → AreRan r → AreEntries (run_commands old place cmds r).db
+commands-within : (old : List DbEntry) (number : ℕ) (cmds : List Cmd) (r : Ran) → AreEntries old → All IsCommand cmds → AreRan r → AreEntries (run_commands old number cmds r).db
 unfolding AreRan run_commands
-commands-within old place [] Aborts all each ran = all
-commands-within old place (c ∷ cmds) Aborts all each ran = all
-commands-within old place [] Overflows all each ran = all
-commands-within old place (c ∷ cmds) Overflows all each ran = all
-commands-within old place [] (Changed db) all each ran = ran
-commands-within old place (c ∷ cmds) (Changed db) all each ran = commands-within old (suc place) cmds (run_command db c) all (All-tail IsCommand c cmds each) (command-within db c ran (each 0 c (omega arith)))
+commands-within old number [] Aborts all each ran = all
+commands-within old number (c ∷ cmds) Aborts all each ran = all
+commands-within old number [] Overflows all each ran = all
+commands-within old number (c ∷ cmds) Overflows all each ran = all
+commands-within old number [] (Changed db) all each ran = ran
+commands-within old number (c ∷ cmds) (Changed db) all each ran = commands-within old (suc number) cmds (run_command db c) all (All-tail IsCommand c cmds each) (command-within db c ran (each 0 c (omega arith)))
 
 kind-within : (db : List DbEntry) (kind : Kind) → AreEntries db → IsKind kind → AreEntries (apply_kind db kind).db
 unfolding AreRan

@@ -39,13 +39,13 @@ pub run_more : (old db : List DbEntry) (i : ℕ) (cmds : List Cmd) (cmd : Cmd) (
 run_more old db i cmds cmd total r lt is so_far ended =
     ap (λ s. run_commands old (i + 1) (drop (i + 1) cmds) s) (sym ended) ∙ sym (run_one old db i cmds cmd lt is) ∙ so_far
 
-pub run_aborts : (old : List DbEntry) (place : ℕ) (cmds : List Cmd) → run_commands old place cmds Aborts ≡ record { db = old; effect = Aborted place }
+pub run_aborts : (old : List DbEntry) (number : ℕ) (cmds : List Cmd) → run_commands old number cmds Aborts ≡ record { db = old; effect = Aborted number }
 unfolding run_commands
-run_aborts old place cmds = refl
+run_aborts old number cmds = refl
 
-pub run_overflows : (old : List DbEntry) (place : ℕ) (cmds : List Cmd) → run_commands old place cmds Overflows ≡ record { db = old; effect = Range place }
+pub run_overflows : (old : List DbEntry) (number : ℕ) (cmds : List Cmd) → run_commands old number cmds Overflows ≡ record { db = old; effect = Range number }
 unfolding run_commands
-run_overflows old place cmds = refl
+run_overflows old number cmds = refl
 
 pub run_end : (old db : List DbEntry) (i : ℕ) (cmds : List Cmd) (total : Applied) → length cmds ≤ i → run_commands old i (drop i cmds) (Changed db) ≡ total → total ≡ record { db = db; effect = Done }
 unfolding run_commands
@@ -71,16 +71,16 @@ run_done db now cmds none changes effect is e done written =
     let known : run_commands db 0 cmds (Changed db) ≡ applied (with_changes db changes) Done = rw done at all in
     rw written known
 
-pub run_aborted : (db : List DbEntry) (cmds : List Cmd) (none changes : List Change) (effect : Effect) (place : ℕ) → none ≡ []
-    → run_commands db 0 cmds (Changed (with_changes db none)) ≡ applied (left_by effect db (with_changes db changes)) effect → effect ≡ Aborted place
-    → run_commands db 0 cmds (Changed db) ≡ applied db (Aborted place)
-run_aborted db cmds none changes effect place is e failed =
+pub run_aborted : (db : List DbEntry) (cmds : List Cmd) (none changes : List Change) (effect : Effect) (number : ℕ) → none ≡ []
+    → run_commands db 0 cmds (Changed (with_changes db none)) ≡ applied (left_by effect db (with_changes db changes)) effect → effect ≡ Aborted number
+    → run_commands db 0 cmds (Changed db) ≡ applied db (Aborted number)
+run_aborted db cmds none changes effect number is e failed =
     let all = planned db cmds none (applied (left_by effect db (with_changes db changes)) effect) is e in rw failed at all
 
-pub run_overflowed : (db : List DbEntry) (cmds : List Cmd) (none changes : List Change) (effect : Effect) (place : ℕ) → none ≡ []
-    → run_commands db 0 cmds (Changed (with_changes db none)) ≡ applied (left_by effect db (with_changes db changes)) effect → effect ≡ Range place
-    → run_commands db 0 cmds (Changed db) ≡ applied db (Range place)
-run_overflowed db cmds none changes effect place is e failed =
+pub run_overflowed : (db : List DbEntry) (cmds : List Cmd) (none changes : List Change) (effect : Effect) (number : ℕ) → none ≡ []
+    → run_commands db 0 cmds (Changed (with_changes db none)) ≡ applied (left_by effect db (with_changes db changes)) effect → effect ≡ Range number
+    → run_commands db 0 cmds (Changed db) ≡ applied db (Range number)
+run_overflowed db cmds none changes effect number is e failed =
     let all = planned db cmds none (applied (left_by effect db (with_changes db changes)) effect) is e in rw failed at all
 
 -- ---- changes

@@ -9,11 +9,13 @@ use Rattle.std.proofs.lemmas.Bool.{cases_Bool}
 use Rattle.cg_text.specs.Order.{same_text}
 use Rattle.cg_action.specs.declared.value.Value.{Value}
 use Rattle.cg_db.specs.declared.entry.DbEntry.{DbEntry}
-use Rattle.cg_db.specs.Map.{Ascends, value_of}
+use Rattle.cg_db.specs.Map.{value_of}
+use Rattle.cg_db.specs.Ascending.{Ascends}
 use Rattle.cg_db.specs.View.{of_entries}
 use Rattle.cg_db.specs.Plan.{set_option}
 use Rattle.cg_db.specs.TextOrderLaws.{same-sym}
-use Rattle.cg_db.proofs.MapLemmas.{value_of-put, value_of-remove, Ascends-put, Ascends-filter, same_at_each_key}
+use Rattle.cg_db.specs.AscendingLaws.{Ascends-put, Ascends-filter}
+use Rattle.cg_db.proofs.MapLemmas.{value_of-put, value_of-remove, same_at_each_key}
 
 pub Ascends-of_entries : (es : List (List ℕ × Value)) → Ascends (of_entries es)
 Ascends-of_entries [] = tt

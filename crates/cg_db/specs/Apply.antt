@@ -58,12 +58,12 @@ pub record Applied : Type 0 where
   pub db : List DbEntry
   pub effect : Effect
 
--- the commands in order, behind as many as the place says; where one fails the database stays as it was
+-- the commands in order, behind so many; where one fails the database stays as it was
 unfoldable pub run_commands : List DbEntry → ℕ → List Cmd → Ran → Applied
-run_commands old place cmds Aborts = record { db = old; effect = Aborted place }
-run_commands old place cmds Overflows = record { db = old; effect = Range place }
-run_commands old place [] (Changed db) = record { db = db; effect = Done }
-run_commands old place (cmd ∷ cmds) (Changed db) = run_commands old (suc place) cmds (run_command db cmd)
+run_commands old number cmds Aborts = record { db = old; effect = Aborted number }
+run_commands old number cmds Overflows = record { db = old; effect = Range number }
+run_commands old number [] (Changed db) = record { db = db; effect = Done }
+run_commands old number (cmd ∷ cmds) (Changed db) = run_commands old (suc number) cmds (run_command db cmd)
 
 -- what an action does
 abbrev pub apply_kind : List DbEntry → Kind → Applied

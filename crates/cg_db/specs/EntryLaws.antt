@@ -3,7 +3,8 @@ use Rattle.std.proofs.Common.{◌≡◌, ℕ, true, false, List, [], ◌∷◌, 
 use Rattle.std.specs.Prelude.{Some, flat_map}
 use Rattle.cg_text.specs.Order.{same_text, text_before}
 use Rattle.cg_db.specs.declared.entry.DbEntry.{DbEntry}
-use Rattle.cg_db.specs.Map.{IsBefore, Ascends, value_of, keys}
+use Rattle.cg_db.specs.Map.{value_of, keys}
+use Rattle.cg_db.specs.Ascending.{IsBefore, Ascends}
 use Rattle.cg_db.specs.View.{entry_at}
 use Rattle.cg_db.specs.TextOrderLaws.{same-refl, same-sym, before-trans, before-apart}
 

@@ -1,4 +1,5 @@
 pub mod Map
+pub mod Ascending
 pub mod View
 pub mod Apply
 pub mod Plan
@@ -7,3 +8,4 @@ pub mod Find
 pub mod Limits
 pub mod TextOrderLaws
 pub mod EntryLaws
+pub mod AscendingLaws

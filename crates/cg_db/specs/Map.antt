@@ -1,20 +1,10 @@
 -- A database: the list of its entries, ascending by key, each key once.
-use Rattle.std.specs.Prelude.{◌≡◌, ℕ, Bool, true, false, not, List, [], ◌∷◌, Option, Some, None, map, filter, if◌then◌else◌}
+use Rattle.std.specs.Prelude.{ℕ, Bool, true, false, not, List, [], ◌∷◌, Option, Some, None, map, filter, if◌then◌else◌}
 use Rattle.std.specs.Ordering.{int_eq}
 use Rattle.cg_text.specs.Order.{same_text, text_before}
 use Rattle.cg_action.specs.declared.value.Value.{Value}
 use Rattle.cg_action.specs.declared.value.Value.TheVariants.{Text, Int}
 use Rattle.cg_db.specs.declared.entry.DbEntry.{DbEntry}
-
--- the first of the keys comes after the given one
-abbrev pub IsBefore : List ℕ → List DbEntry → Type 0
-IsBefore key [] = Unit {0}
-IsBefore key (entry ∷ db) = text_before key entry.key ≡ true
-
--- the keys ascend strictly
-abbrev pub Ascends : List DbEntry → Type 0
-Ascends [] = Unit {0}
-Ascends (entry ∷ db) = IsBefore entry.key db × Ascends db
 
 -- the value of a key, if it is there
 abbrev pub value_of : List DbEntry → List ℕ → Option Value

@@ -7,8 +7,8 @@ use Rattle.cg_db.specs.declared.effect.Effect.{Effect}
 use Rattle.cg_db.specs.declared.effect.Effect.TheVariants.{Done, Aborted, Range}
 use Rattle.cg_db.specs.declared.changes.Change.{Change}
 use Rattle.cg_db.specs.declared.changes.Changes.{Changes}
-use Rattle.cg_db.specs.declared.plan.Step.{Step}
-use Rattle.cg_db.specs.declared.plan.Step.TheVariants.{Goes, Fails, Overflows as Exceeds}
+use Rattle.cg_db.specs.declared.plan.CommandEnd.{CommandEnd}
+use Rattle.cg_db.specs.declared.plan.CommandEnd.TheVariants.{Goes, Fails, Overflows as Exceeds}
 use Rattle.cg_db.specs.Map.{put, remove}
 use Rattle.cg_db.specs.Apply.{Ran, Changed, Aborts, Overflows}
 
@@ -29,7 +29,7 @@ unfoldable pub with_changes : List DbEntry → List Change → List DbEntry
 with_changes db changes = fold changed db changes
 
 -- how a command ended that led to this database
-abbrev pub ran : Step → List DbEntry → Ran
+abbrev pub ran : CommandEnd → List DbEntry → Ran
 ran Goes db = Changed db
 ran Fails db = Aborts
 ran Exceeds db = Overflows
@@ -37,5 +37,5 @@ ran Exceeds db = Overflows
 -- what an action with this effect leaves of two databases, the one before it and the one after its commands
 abbrev pub left_by : Effect → List DbEntry → List DbEntry → List DbEntry
 left_by Done old new = new
-left_by (Aborted place) old new = old
-left_by (Range place) old new = old
+left_by (Aborted number) old new = old
+left_by (Range number) old new = old

@@ -3,18 +3,16 @@ use Rattle.std.specs.Prelude.{List, ◌++◌, codes, decimal, ℕ}
 use Rattle.std.specs.List.{flat_map}
 use Rattle.std.specs.Fmt.{signed_decimal}
 use Rattle.cg_text.specs.Quoted.{quoted}
-use Rattle.cg_action.specs.Print.{value_text}
 use Rattle.cg_db.specs.declared.answer.Answer.{Answer}
 use Rattle.cg_db.specs.declared.answer.Answer.TheVariants.{Absent, Text, Int, Keys, Count}
 use Rattle.cg_db.specs.declared.effect.Effect.{Effect}
 use Rattle.cg_db.specs.declared.effect.Effect.TheVariants.{Done, Aborted, Range}
-use Rattle.cg_db.specs.declared.entry.DbEntry.{DbEntry}
 
 -- what an action did
 abbrev pub effect_text : Effect → List ℕ
 effect_text Done = codes "done"
-effect_text (Aborted place) = codes "aborted " ++ decimal place
-effect_text (Range place) = codes "range " ++ decimal place
+effect_text (Aborted number) = codes "aborted " ++ decimal number
+effect_text (Range number) = codes "range " ++ decimal number
 
 -- a key behind others
 abbrev pub next_key_text : List ℕ → List ℕ
@@ -27,7 +25,3 @@ answer_text (Text t) = quoted t
 answer_text (Int n) = signed_decimal n
 answer_text (Keys keys) = codes "keys" ++ flat_map next_key_text keys
 answer_text (Count n) = codes "count " ++ decimal n
-
--- a key with its value
-abbrev pub db_entry_text : DbEntry → List ℕ
-db_entry_text e = quoted e.key ++ codes "=" ++ value_text e.value

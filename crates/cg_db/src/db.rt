@@ -6,7 +6,7 @@ ghost use Rattle.cg_db.specs.Find.{answer_of};
 ghost use Rattle.cg_db.specs.Map.{put};
 ghost use Rattle.cg_db.specs.View.{of_entries, entry_at};
 ghost use Rattle.cg_db.specs.Plan.{listed, changed, with_changes};
-ghost use Rattle.cg_action.specs.Limits.{IsAction, IsCommand};
+ghost use Rattle.cg_action.specs.ActionLimits.{IsAction, IsCommand};
 
 use crate::changes::{Change, Changes};
 use crate::plan::plan;
@@ -38,7 +38,8 @@ impl Model for Db {
 }
 
 impl Db {
-    ghost use Rattle.cg_db.specs.Map.{value_of, Ascends, keys, put};
+    ghost use Rattle.cg_db.specs.Map.{value_of, keys, put};
+    ghost use Rattle.cg_db.specs.Ascending.{Ascends};
     ghost use Rattle.cg_db.specs.Apply.{Changed, apply, run_commands};
     ghost use Rattle.cg_db.specs.Find.{answer, keys_from};
 
@@ -78,8 +79,8 @@ impl Db {
                 write(&mut self.map, changes)?;
                 Ok(Effect::Done)
             }
-            Effect::Aborted(place) => Ok(Effect::Aborted(place)),
-            Effect::Range(place) => Ok(Effect::Range(place)),
+            Effect::Aborted(number) => Ok(Effect::Aborted(number)),
+            Effect::Range(number) => Ok(Effect::Range(number)),
         }
     }
 
@@ -216,12 +217,12 @@ fn put_entry(map: &mut Map, key: Txt, value: Value) -> Result<(), NoMemory>
     Ok(())
 }
 
-// a copy of the entry at a place, in front of those that stand behind it
-fn copy_entry(alloc: Global, from: &Map, place: usize, to: &mut Map) -> Result<(), NoMemory>
-    requires { place < length from.now.entries }
-    ensures { OnOk result (of_entries to.old.entries ≡ of_entries (drop (place + 1) from.now.entries) → of_entries to.new.entries ≡ of_entries (drop place from.now.entries)) }
+// a copy of the entry at an index, in front of those that stand behind it
+fn copy_entry(alloc: Global, from: &Map, index: usize, to: &mut Map) -> Result<(), NoMemory>
+    requires { index < length from.now.entries }
+    ensures { OnOk result (of_entries to.old.entries ≡ of_entries (drop (index + 1) from.now.entries) → of_entries to.new.entries ≡ of_entries (drop index from.now.entries)) }
 {
-    let Some((key, value)) = from.get_index(place) else {
+    let Some((key, value)) = from.get_index(index) else {
         return Ok(());
     };
     let key = key.copy(alloc)?;

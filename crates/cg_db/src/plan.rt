@@ -2,7 +2,7 @@
 
 ghost use Rattle.std.specs.Prelude.{◌≡◌, ◌≤◌, ◌≤ℤ◌, pos, length, All, IfOk, OnOk};
 ghost use Rattle.std.specs.Option.{option_copied};
-ghost use Rattle.cg_action.specs.Limits.{IsCommand};
+ghost use Rattle.cg_action.specs.ActionLimits.{IsCommand};
 ghost use Rattle.cg_action.specs.declared.command.Cmd.TheVariants.{Cas, Move};
 ghost use Rattle.cg_db.specs.Map.{value_of, same_value, same_option};
 ghost use Rattle.cg_db.specs.Apply.{Changed, number_of, add_to, move_number, run_command, run_commands};
@@ -16,7 +16,7 @@ use cg_text::Txt;
 
 /// How a command ended.
 #[derive(Clone, Copy, Debug, PartialEq, Eq)]
-pub(crate) enum Step {
+pub(crate) enum CommandEnd {
     Goes,
     Fails,
     Overflows,
@@ -30,17 +30,17 @@ pub(crate) fn plan(db: &Db, changes: &mut Changes, cmds: &[Cmd]) -> Result<Effec
         ≡ record { db = left_by effect db.now (with_changes db.now (listed changes.new)); effect = effect }) }
 {
     for (i, cmd) in cmds.iter().enumerate() {
-        let place = i as u8 + 1;
+        let number = i as u8 + 1;
         match run_command(db, changes, cmd)? {
-            Step::Goes => {}
-            Step::Fails => return Ok(Effect::Aborted(place)),
-            Step::Overflows => return Ok(Effect::Range(place)),
+            CommandEnd::Goes => {}
+            CommandEnd::Fails => return Ok(Effect::Aborted(number)),
+            CommandEnd::Overflows => return Ok(Effect::Range(number)),
         }
     }
     Ok(Effect::Done)
 }
 
-fn run_command(db: &Db, changes: &mut Changes, cmd: &Cmd) -> Result<Step, NoMemory>
+fn run_command(db: &Db, changes: &mut Changes, cmd: &Cmd) -> Result<CommandEnd, NoMemory>
     requires { IsCommand cmd.now }
     ensures { IfOk result (λ step. run_command (with_changes db.now (listed changes.old)) cmd.now ≡ ran step (with_changes db.now (listed changes.new))) }
 {
@@ -48,11 +48,11 @@ fn run_command(db: &Db, changes: &mut Changes, cmd: &Cmd) -> Result<Step, NoMemo
         Cmd::Put { key, value } => {
             let value = value.copy(db.alloc())?;
             set(db, changes, key, Some(value))?;
-            Ok(Step::Goes)
+            Ok(CommandEnd::Goes)
         }
         Cmd::Del { key } => {
             set(db, changes, key, None)?;
-            Ok(Step::Goes)
+            Ok(CommandEnd::Goes)
         }
         Cmd::Inc { key, by } => add(db, changes, key, *by),
         Cmd::Cas { key, want, value } => swap(db, changes, key, want, value),
@@ -63,9 +63,9 @@ fn run_command(db: &Db, changes: &mut Changes, cmd: &Cmd) -> Result<Step, NoMemo
         } => move_amount(db, changes, source, target, *amount),
         Cmd::Need { key, want } => {
             if has(db, changes, key, want) {
-                Ok(Step::Goes)
+                Ok(CommandEnd::Goes)
             } else {
-                Ok(Step::Fails)
+                Ok(CommandEnd::Fails)
             }
         }
     }
@@ -80,17 +80,17 @@ fn set(db: &Db, changes: &mut Changes, key: &Txt, value: Option<Value>) -> Resul
     Ok(())
 }
 
-fn add(db: &Db, changes: &mut Changes, key: &Txt, by: i64) -> Result<Step, NoMemory>
+fn add(db: &Db, changes: &mut Changes, key: &Txt, by: i64) -> Result<CommandEnd, NoMemory>
     ensures { IfOk result (λ step. add_to (with_changes db.now (listed changes.old)) key.now by ≡ ran step (with_changes db.now (listed changes.new))) }
 {
     let Some(number) = number_in(db, changes, key) else {
-        return Ok(Step::Fails);
+        return Ok(CommandEnd::Fails);
     };
     let Some(sum) = number.checked_add(by) else {
-        return Ok(Step::Overflows);
+        return Ok(CommandEnd::Overflows);
     };
     set(db, changes, key, Some(Value::Int(sum)))?;
-    Ok(Step::Goes)
+    Ok(CommandEnd::Goes)
 }
 
 // sets the key where it has what is wanted
@@ -100,15 +100,15 @@ fn swap(
     key: &Txt,
     want: &Option<Value>,
     value: &Value,
-) -> Result<Step, NoMemory>
+) -> Result<CommandEnd, NoMemory>
     ensures { IfOk result (λ step. run_command (with_changes db.now (listed changes.old)) (Cas key.now want.now value.now) ≡ ran step (with_changes db.now (listed changes.new))) }
 {
     if !has(db, changes, key, want) {
-        return Ok(Step::Goes);
+        return Ok(CommandEnd::Goes);
     }
     let value = value.copy(db.alloc())?;
     set(db, changes, key, Some(value))?;
-    Ok(Step::Goes)
+    Ok(CommandEnd::Goes)
 }
 
 // The target may be the source: its number is read behind the first change.
@@ -118,15 +118,15 @@ fn move_amount(
     source: &Txt,
     target: &Txt,
     amount: i64,
-) -> Result<Step, NoMemory>
+) -> Result<CommandEnd, NoMemory>
     requires { pos 0 ≤ℤ amount }
     ensures { IfOk result (λ step. run_command (with_changes db.now (listed changes.old)) (Move source.now target.now amount) ≡ ran step (with_changes db.now (listed changes.new))) }
 {
     let Some(number) = number_in(db, changes, source) else {
-        return Ok(Step::Fails);
+        return Ok(CommandEnd::Fails);
     };
     if number < amount {
-        return Ok(Step::Fails);
+        return Ok(CommandEnd::Fails);
     }
     set(db, changes, source, Some(Value::Int(number - amount)))?;
     add(db, changes, target, amount)

@@ -3,7 +3,9 @@
 ghost use Rattle.std.specs.Prelude.{◌++◌, Some, codes};
 ghost use Rattle.std.specs.List.{flat_map};
 ghost use Rattle.std.specs.Fmt.{WritesOnOk};
-ghost use Rattle.cg_db.specs.Print.{effect_text, next_key_text, answer_text, db_entry_text};
+ghost use Rattle.cg_text.specs.Quoted.{quoted};
+ghost use Rattle.cg_action.specs.Print.{value_text};
+ghost use Rattle.cg_db.specs.Print.{effect_text, next_key_text, answer_text};
 
 use crate::{Answer, DbEntry, Effect};
 use cg_text::{Quoted, Txt};
@@ -16,8 +18,8 @@ impl Display for Effect {
     fn fmt<W: Write>(&self, f: &mut Formatter<W>) -> fmt::Result {
         match self {
             Effect::Done => f.write_str("done"),
-            Effect::Aborted(place) => write!(f, "aborted {place}"),
-            Effect::Range(place) => write!(f, "range {place}"),
+            Effect::Aborted(number) => write!(f, "aborted {number}"),
+            Effect::Range(number) => write!(f, "range {number}"),
         }
     }
 }
@@ -48,7 +50,7 @@ fn write_keys<W: Write>(f: &mut Formatter<W>, keys: &[Txt]) -> fmt::Result
 
 /// As `"key"=value`.
 impl Display for DbEntry {
-    ghost output = { λ entry. Some (db_entry_text entry) };
+    ghost output = { λ entry. Some (quoted entry.key ++ codes "=" ++ value_text entry.value) };
 
     fn fmt<W: Write>(&self, f: &mut Formatter<W>) -> fmt::Result {
         write!(f, "{}={}", Quoted(&self.key), &self.value)

@@ -9,7 +9,7 @@ use Rattle.cg_disk.specs.View.{DiskView, IsView, IsAtRest, LeavesOnly}
 use Rattle.cg_client.specs.declared.parts.DraftParts.{DraftParts}
 use Rattle.cg_client.specs.Replica.{Replica}
 use Rattle.cg_client.specs.Turn.{Turn}
-use Rattle.cg_client.specs.Whitening.{IsLineGreen}
+use Rattle.cg_client.specs.Calls.{IsLineGreen}
 use Rattle.cg_stored.specs.Stored.{whiten}
 use Rattle.cg_stored.specs.Checkpoint.{size_limit}
 use Rattle.cg_step.specs.Commit.{commits}
@@ -44,7 +44,7 @@ fallen_as fault id own last result is same = sym (is ∙ ap (λ n. fallen fault 
 
 -- ---- no call was made
 
-if_mapped : (o : Option DiskState) (P : Option Strike → Type 0) → IfSome o (λ s. P s.strike) → IfSome (option_map (λ (s : DiskState). s.strike) o) P
+pub if_mapped : (o : Option DiskState) (P : Option Strike → Type 0) → IfSome o (λ s. P s.strike) → IfSome (option_map (λ (s : DiskState). s.strike) o) P
 if_mapped None P is = tt
 if_mapped (Some s) P is = is
 

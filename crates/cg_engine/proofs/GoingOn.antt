@@ -2,7 +2,7 @@
 use Rattle.std.proofs.Common.{◌≡◌, nat_lt, Bool, true, Result, Ok, refl, sym, subst}
 use Rattle.cg_disk.specs.View.{DiskView}
 use Rattle.cg_client.specs.Replica.{Held, Replica}
-use Rattle.cg_client.specs.Whitening.{IsLineGreen}
+use Rattle.cg_client.specs.Calls.{IsLineGreen}
 use Rattle.cg_stored.specs.Stored.{whiten}
 use Rattle.cg_stored.specs.Checkpoint.{size_limit}
 use Rattle.cg_step.specs.Crash.{whitened}

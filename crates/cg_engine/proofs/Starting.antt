@@ -1,11 +1,9 @@
 -- What a new replica holds has a checkpoint, and follows it.
-use Rattle.std.proofs.Common.{◌≡◌, ℕ, ◌≤◌, ◌-◌, List, [], Option, Some, None, max, refl, sym, subst, arith}
+use Rattle.std.proofs.Common.{◌≡◌, ℕ, ◌≤◌, ◌-◌, List, [], max, refl, sym, subst, arith}
 use Rattle.std.specs.Prelude.{◌<◌, IfSome}
-use Rattle.std.specs.Option.{option_map}
 use Rattle.std.proofs.Math.Seq.{drop-nil}
 use Rattle.cg_action.specs.declared.action.Action.{Action}
 use Rattle.cg_base.specs.declared.weighted.Weighted.{Weighted}
-use Rattle.cg_disk.specs.State.{DiskState, Strike}
 use Rattle.cg_disk.specs.View.{DiskView, IsView}
 use Rattle.cg_journal.specs.Fresh.{IsRefusedWithin}
 use Rattle.cg_client.specs.Replica.{Held, fresh_held}
@@ -20,6 +18,7 @@ use Rattle.cg_store.specs.Stands.{Stands, created, disk_of}
 use Rattle.cg_engine.specs.Answers.{Starts, IsBare}
 use Rattle.cg_engine.specs.Engines.{Fallen, IsEngine}
 use Rattle.cg_engine.specs.declared.answers.Started.TheVariants.{NoMemory}
+use Rattle.cg_engine.proofs.Ending.{if_mapped}
 
 module _ (holds : AlwaysHolds) (counts : AlwaysCounts) (id : ℕ) (set : List Weighted) where
   -- there is nothing to discard
@@ -55,10 +54,6 @@ module _ (holds : AlwaysHolds) (counts : AlwaysCounts) (id : ℕ) (set : List We
   }
 
 -- ---- memory was refused before the first call
-
-if_mapped : (o : Option DiskState) (P : Option Strike → Type 0) → IfSome o (λ s. P s.strike) → IfSome (option_map (λ (s : DiskState). s.strike) o) P
-if_mapped None P is = tt
-if_mapped (Some s) P is = is
 
 pub not_begun : {D : Type 0} (view : D → DiskView) (disk : D) (id : ℕ) (set : List Weighted) (w : Fallen D) → IsView (view disk) → w ≡ record { disk = disk; id = id; count = 0; green = [] } →
     Starts view id set (view disk) (NoMemory w)

@@ -5,7 +5,7 @@ use Rattle.cg_disk.specs.View.{DiskView}
 use Rattle.cg_queue.specs.Queue.{green_count}
 use Rattle.cg_client.specs.Replica.{Held, Replica}
 use Rattle.cg_client.specs.Turn.{Turn}
-use Rattle.cg_client.specs.Whitening.{IsLineGreen}
+use Rattle.cg_client.specs.Calls.{IsLineGreen}
 use Rattle.cg_stored.specs.Stored.{stored_of, whiten, recover}
 use Rattle.cg_stored.specs.Following.{IsRecorded}
 use Rattle.cg_stored.specs.Agreeing.{Agrees}

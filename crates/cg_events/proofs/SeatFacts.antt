@@ -10,6 +10,7 @@ use Rattle.std.proofs.lemmas.Option.{slice_get-get_or, slice_get_past}
 use Rattle.std.proofs.lemmas.Bool.{cases_Bool, cases_order, cases_lt, cond-true, cond-false, eq-eqb, ne_eqb, lt-ltb, le-ltb}
 use Rattle.cg_base.specs.Sets.{IsSet, Ascends, IsId, with_member, without_member}
 use Rattle.cg_base.specs.SetLaws.{Ascends-with_member, Ascends-filter, filter-keeps, filter-drops, with_member-same, with_member-front, with_member-later}
+use Rattle.cg_base.specs.AscendingLaws.{AllBelow, AllBelow-more, AllBelow-next, with_member-last}
 use Rattle.cg_agree.specs.World.{Seat, with_seat, running}
 use Rattle.cg_events.specs.Seating.{ids_of, AscendingSeats, ups, with_up}
 
@@ -166,44 +167,21 @@ taken_out seats p i d ascending at =
 
 -- ---- the replicas that are up
 
--- each is below the number
-AllBelow : ℕ → List ℕ → Type 0
-AllBelow p [] = Unit {0}
-AllBelow p (q ∷ set) = (q < p) × AllBelow p set
-
-below_more : (set : List ℕ) (low p : ℕ) → low ≤ p → AllBelow low set → AllBelow (suc p) set
-unfolding AllBelow
-below_more [] low p le below = tt
-below_more (q ∷ set) low p le below = (let lt : q < low = below.0 in omega arith, below_more set low p le below.1)
-
-below_append : (set : List ℕ) (p : ℕ) → AllBelow (suc p) set → AllBelow (suc p) (set ++ p ∷ [])
-unfolding AllBelow
-below_append [] p below = (omega arith, tt)
-below_append (q ∷ set) p below = (below.0, below_append set p below.1)
-
--- a member above all others stands last
-with_member-last : (set : List ℕ) (low p : ℕ) → low ≤ p → AllBelow low set → with_member set p ≡ set ++ p ∷ []
-unfolding AllBelow
-with_member-last [] low p le below = refl
-with_member-last (q ∷ set) low p le below =
-    let lt : q < low = below.0 in with_member-later q set p (omega arith) ∙ ap (λ z. q ∷ z) (with_member-last set low p le below.1)
-
 ups_from : (seats : List Seat) (set : List ℕ) (low : ℕ) → AllBelow low set → Ascends low (ids_of seats) → fold with_up set seats ≡ set ++ ups seats
 ups_from [] set low below ascends = sym (append-nil set)
 ups_from (s ∷ seats) set low below ascends =
     let above : low ≤ s.id = ascends.0 in
     ⊎_elim
-    (λ y. ap (λ z. fold with_up z seats) (cond-true (is_some (running s.life)) (with_member set s.id) set y ∙ with_member-last set low s.id above below)
-    ∙ ups_from seats (set ++ s.id ∷ []) (suc s.id) (below_append set s.id (below_more set low s.id above below)) ascends.2
+    (λ y. ap (λ z. fold with_up z seats) (cond-true (is_some (running s.life)) (with_member set s.id) set y ∙ with_member-last set s.id (AllBelow-more set low s.id above below))
+    ∙ ups_from seats (set ++ s.id ∷ []) (suc s.id) (AllBelow-next set s.id (AllBelow-more set low s.id above below)) ascends.2
     ∙ append_assoc set (s.id ∷ []) (ups seats)
     ∙ ap (λ z. set ++ map (λ s. s.id) z) (sym (filter-keeps (λ (s : Seat). is_some (running s.life)) s seats y)))
     (λ n. ap (λ z. fold with_up z seats) (cond-false (is_some (running s.life)) (with_member set s.id) set n)
-    ∙ ups_from seats set (suc s.id) (below_more set low s.id above below) ascends.2
+    ∙ ups_from seats set (suc s.id) (AllBelow-more set low (suc s.id) (omega (arith, above)) below) ascends.2
     ∙ ap (λ z. set ++ map (λ s. s.id) z) (sym (filter-drops (λ (s : Seat). is_some (running s.life)) s seats n)))
     (cases_Bool (is_some (running s.life)))
 
 pub ups-all : (seats : List Seat) → AscendingSeats seats → fold with_up [] seats ≡ ups seats
-unfolding AllBelow
 ups-all seats ascending = ups_from seats [] 1 tt ascending.ascends
 
 -- a set is made again from its members, but for those that fail a test
@@ -213,15 +191,14 @@ chosen_from test [] set low below ascends = sym (append-nil set)
 chosen_from test (p ∷ rest) set low below ascends =
     let above : low ≤ p = ascends.0 in
     ⊎_elim
-    (λ y. ap (λ z. fold (λ set p. if test p then with_member set p else set) z rest) (cond-true (test p) (with_member set p) set y ∙ with_member-last set low p above below)
-    ∙ chosen_from test rest (set ++ p ∷ []) (suc p) (below_append set p (below_more set low p above below)) ascends.2
+    (λ y. ap (λ z. fold (λ set p. if test p then with_member set p else set) z rest) (cond-true (test p) (with_member set p) set y ∙ with_member-last set p (AllBelow-more set low p above below))
+    ∙ chosen_from test rest (set ++ p ∷ []) (suc p) (AllBelow-next set p (AllBelow-more set low p above below)) ascends.2
     ∙ append_assoc set (p ∷ []) (filter test rest)
     ∙ ap (λ z. set ++ z) (sym (filter-keeps test p rest y)))
     (λ n. ap (λ z. fold (λ set p. if test p then with_member set p else set) z rest) (cond-false (test p) (with_member set p) set n)
-    ∙ chosen_from test rest set (suc p) (below_more set low p above below) ascends.2
+    ∙ chosen_from test rest set (suc p) (AllBelow-more set low (suc p) (omega (arith, above)) below) ascends.2
     ∙ ap (λ z. set ++ z) (sym (filter-drops test p rest n)))
     (cases_Bool (test p))
 
 pub chosen : (test : ℕ → Bool) (set : List ℕ) → IsSet set → fold (λ set p. if test p then with_member set p else set) [] set ≡ filter test set
-unfolding AllBelow
 chosen test set is_set = chosen_from test set [] 1 tt is_set.ascends

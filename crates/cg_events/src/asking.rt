@@ -4,7 +4,7 @@ ghost use Rattle.cg_base.specs.declared.action_id.ActionId.{ActionId as ActionNa
 ghost use Rattle.cg_action.specs.declared.action.Action.{Action as ActionView};
 ghost use Rattle.cg_action.specs.Limits.{IsKind, IsUpdate};
 ghost use Rattle.cg_action.specs.declared.action.Kind.TheVariants.{Join as JoinKind, Leave as LeaveKind, Update};
-ghost use Rattle.cg_client.specs.Requests.{kind_of};
+ghost use Rattle.cg_client.specs.Calls.{kind_of};
 ghost use Rattle.cg_schedule.specs.declared.event.Event.TheVariants.{Request as Requested, Join, Leave};
 ghost use Rattle.cg_step.specs.Recorded.{AreBooked};
 ghost use Rattle.cg_step.specs.Step.{Asks};

@@ -93,8 +93,8 @@ fn place_of(seats: &[BoxedSeat], p: ReplicaId) -> Option<usize>
 }
 
 // Where the seat of a replica that hasn't begun belongs, from 0.
-fn place_for(seats: &[BoxedSeat], p: ReplicaId) -> usize
-    ensures place { result ≡ prefix_len (λ s. nat_lt s.id p) seats.now }
+fn index_for(seats: &[BoxedSeat], p: ReplicaId) -> usize
+    ensures index { result ≡ prefix_len (λ s. nat_lt s.id p) seats.now }
     ensures range { IsId p }
 {
     let number = p.get();
@@ -172,7 +172,7 @@ impl Seats {
         ensures away { find (λ s. s.id == p) self.new ≡ None }
     {
         match place_of(self.list.as_slice(), p) {
-            Some(place) => Some(self.list.remove(place).into_inner()),
+            Some(index) => Some(self.list.remove(index).into_inner()),
             None => None,
         }
     }
@@ -193,8 +193,8 @@ impl Seats {
         requires { find (λ s. s.id == seat.id) self.old ≡ None }
         ensures { OnOk result (self.new ≡ with_seat self.old seat) }
     {
-        let place = place_for(self.list.as_slice(), seat.id());
-        self.list.insert(place, seat)?;
+        let index = index_for(self.list.as_slice(), seat.id());
+        self.list.insert(index, seat)?;
         Ok(())
     }
 }

@@ -1,5 +1,5 @@
 //! Which replicas an event touches.
-ghost use Rattle.std.specs.Prelude.{◌≡◌, ◌∷◌, []};
+ghost use Rattle.std.specs.Prelude.{◌≡◌};
 ghost use Rattle.cg_agree.specs.Touched.{touched};
 
 use cg_base::{IdSet, ReplicaId};
@@ -15,25 +15,17 @@ pub fn touched(event: &Event) -> IdSet
         Event::Start(set) => set.ids(),
         Event::Split(set) => *set,
         Event::Merge(set) => *set,
-        Event::Request { p, .. } => only(*p),
-        Event::Recover(p) => only(*p),
-        Event::Deliver { p, .. } => only(*p),
-        Event::Stop { p, .. } => only(*p),
-        Event::Fail { p, .. } => only(*p),
-        Event::Join { p, .. } => only(*p),
-        Event::Leave { p, .. } => only(*p),
-        Event::Transfer { joiner, .. } => only(*joiner),
+        Event::Request { p, .. } => IdSet::single(*p),
+        Event::Recover(p) => IdSet::single(*p),
+        Event::Deliver { p, .. } => IdSet::single(*p),
+        Event::Stop { p, .. } => IdSet::single(*p),
+        Event::Fail { p, .. } => IdSet::single(*p),
+        Event::Join { p, .. } => IdSet::single(*p),
+        Event::Leave { p, .. } => IdSet::single(*p),
+        Event::Transfer { joiner, .. } => IdSet::single(*joiner),
         Event::Weak { .. } | Event::Dirty { .. } => IdSet::empty(),
         Event::Show(_) | Event::ShowOrder => IdSet::empty(),
         Event::Order(_) | Event::Receive { .. } | Event::Gather => IdSet::empty(),
         Event::End | Event::Rounds(_) => IdSet::empty(),
     }
-}
-
-fn only(p: ReplicaId) -> IdSet
-    ensures { result ≡ p ∷ [] }
-{
-    let mut set = IdSet::empty();
-    set.add(p);
-    set
 }

@@ -82,7 +82,7 @@ impl Transfers {
         ensures others { filter (λ s. not (s.joiner == joiner)) self.new ≡ filter (λ s. not (s.joiner == joiner)) self.old }
     {
         match place_of(self.list.as_slice(), giver, joiner) {
-            Some(place) => Some(self.list.remove(place)),
+            Some(index) => Some(self.list.remove(index)),
             None => None,
         }
     }

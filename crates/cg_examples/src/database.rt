@@ -1,4 +1,4 @@
-ghost use Rattle.cg_action.specs.Limits.{IsCommand};
+ghost use Rattle.cg_action.specs.ActionLimits.{IsCommand};
 
 use cg_action::{Action, Cmd, CmdList, Kind, Value};
 use cg_base::{ActionId, NoMemory, ReplicaId};

@@ -1,5 +1,6 @@
 ghost use Rattle.std.specs.Prelude.{◌≡◌, suc, if◌then◌else◌, OnOk, IfOk};
-ghost use Rattle.cg_action.specs.Limits.{IsAction, IsKind};
+ghost use Rattle.cg_action.specs.Limits.{IsKind};
+ghost use Rattle.cg_action.specs.ActionLimits.{IsAction};
 ghost use Rattle.cg_plan.specs.Plan.{plan_of};
 ghost use Rattle.cg_plan.specs.Progress.{is_wanted, next_item};
 ghost use Rattle.cg_report.specs.declared.line.StateName.TheVariants.{ExchangeActions as ExchangeActionsName};
@@ -9,8 +10,9 @@ ghost use Rattle.cg_wire.specs.declared.message.Msg.TheVariants.{GreenItem, RedI
 ghost use Rattle.cg_client.specs.declared.parts.DraftParts.{DraftParts};
 ghost use Rattle.cg_client.specs.Drafts.{turn_with};
 ghost use Rattle.cg_client.specs.Replica.{State};
-ghost use Rattle.cg_client.specs.Requests.{kind_of, request};
-ghost use Rattle.cg_client.specs.Whitening.{IsLineGreen, with_white};
+ghost use Rattle.cg_client.specs.Requests.{request};
+ghost use Rattle.cg_client.specs.Calls.{kind_of, IsLineGreen};
+ghost use Rattle.cg_client.specs.Whitening.{with_white};
 ghost use Rattle.cg_exchange.specs.ExchangeActions.{progress, take_item, go_on, exchange_actions_on_item};
 ghost use Rattle.cg_exchange.specs.States.{in_actions};
 ghost use Rattle.cg_exchange.specs.Steps.{turn_after, HasRecord};

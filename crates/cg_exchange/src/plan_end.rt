@@ -2,7 +2,8 @@
 ghost use Rattle.std.specs.Prelude.{◌≡◌, [], fold, OnOk, IfOk};
 ghost use Rattle.cg_base.specs.Ids.{names};
 ghost use Rattle.cg_queue.specs.Answers.{AreReds};
-ghost use Rattle.cg_knowledge.specs.Verdict.{verdict_of, decides};
+ghost use Rattle.cg_knowledge.specs.Verdict.{decides};
+ghost use Rattle.cg_knowledge.specs.Calls.{verdict_of};
 ghost use Rattle.cg_client.specs.Drafts.{turn_with};
 ghost use Rattle.cg_client.specs.Replica.{State};
 ghost use Rattle.cg_exchange.specs.PlanEnd.{with_name, usable_names, take_over, attempt, decide, end_plan};
@@ -44,7 +45,7 @@ fn usable_names(core: &Core, ids: &[ActionId]) -> Result<IdList, NoMemory>
     Ok(list)
 }
 
-#[tactic(auto, unfolding(crate::specs::PlanEnd::take_over, cg_knowledge::specs::Verdict::verdict_of))]
+#[tactic(auto, unfolding(crate::specs::PlanEnd::take_over, cg_knowledge::specs::Calls::verdict_of))]
 fn take_over(mut core: Core, summaries: &[Summary], verdict: Verdict) -> Result<Core, NoMemory>
     requires { verdict ≡ verdict_of summaries.now }
     ensures { IfOk result (λ after. after ≡ take_over core summaries.now) }
@@ -99,7 +100,7 @@ fn decide_on(
 }
 
 /// The plan has come to its end.
-#[tactic(auto, unfolding(crate::specs::PlanEnd::end_plan, cg_knowledge::specs::Verdict::verdict_of))]
+#[tactic(auto, unfolding(crate::specs::PlanEnd::end_plan, cg_knowledge::specs::Calls::verdict_of))]
 pub(crate) fn end_plan(
     mut core: Core,
     draft: &mut Draft,

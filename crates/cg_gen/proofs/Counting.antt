@@ -1,5 +1,5 @@
 -- The first numbers as a set: the next one stands behind them.
-use Rattle.std.proofs.Common.{◌≡◌, ℕ, zero, suc, ◌+◌, ◌<◌, [], ◌∷◌, ◌∙◌, ap, sym, arith}
+use Rattle.std.proofs.Common.{◌≡◌, ℕ, zero, suc, ◌+◌, [], ◌∷◌, ◌∙◌, ap, arith}
 use Rattle.cg_base.specs.Lists.{count_up}
 use Rattle.cg_base.specs.Sets.{with_member}
 use Rattle.cg_base.specs.SetLaws.{with_member-later}

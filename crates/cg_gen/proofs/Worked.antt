@@ -4,7 +4,8 @@ use Rattle.std.specs.Str.{chars}
 use Rattle.std.specs.Fmt.{digits}
 use mathlib.Core.Path.{refl}
 use Rattle.cg_gen.specs.Generated.{generated, draw, with_cell, increment, set_and_get, weak_get, passes, parting, joining, regrouping, restarting, asking, block, events_left}
-use Rattle.cg_gen.specs.Lines.{lines_of, written}
+use Rattle.cg_gen.specs.Lines.{lines_of}
+use Rattle.cg_gen.specs.Written.{written}
 
 unfoldable computes : ⊤
 unfolding chars digits draw with_cell increment set_and_get weak_get passes parting joining regrouping restarting asking block events_left

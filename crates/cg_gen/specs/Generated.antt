@@ -1,5 +1,5 @@
 -- The schedule that a seed generates, of so many lines, for so many replicas.
-use Rattle.std.specs.Prelude.{ℕ, zero, suc, ◌+◌, ◌*◌, ◌/◌, ◌%◌, ◌^◌, ◌-◌, ◌==◌, nat_lt, ◌||◌, Bool, List, [], ◌∷◌, length, filter, find, slice_get, pos, Option, Some, None, if◌then◌else◌}
+use Rattle.std.specs.Prelude.{ℕ, zero, suc, ◌+◌, ◌*◌, ◌/◌, ◌%◌, ◌^◌, ◌==◌, nat_lt, ◌||◌, Bool, List, [], ◌∷◌, length, filter, find, slice_get, pos, Some, None, if◌then◌else◌}
 use Rattle.std.specs.List.{insert, prefix_len}
 use Rattle.std.specs.Option.{option_map_or, unwrap_or}
 use Rattle.cg_base.specs.Lists.{count_up}

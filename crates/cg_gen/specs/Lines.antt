@@ -1,6 +1,5 @@
 -- The lines that spell a list of events.
-use Rattle.std.specs.Prelude.{ℕ, List, [], ◌∷◌, ◌++◌, codes, flat_map}
-use Prim.Native.String.{String}
+use Rattle.std.specs.Prelude.{ℕ, List, [], ◌∷◌, ◌++◌, flat_map}
 use Rattle.cg_schedule.specs.declared.event.Event.{Event}
 use Rattle.cg_schedule.specs.Print.{line_of}
 
@@ -10,8 +9,3 @@ ended_line event = line_of event ++ 10 ∷ []
 
 abbrev pub lines_of : List Event → List ℕ
 lines_of events = flat_map ended_line events
-
--- the lines as they stand here
-abbrev pub written : List String → List ℕ
-written [] = []
-written (line ∷ lines) = codes line ++ 10 ∷ written lines

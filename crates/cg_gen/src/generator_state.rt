@@ -6,7 +6,7 @@ use crate::cells::Cells;
 use crate::client::ask;
 use crate::draws::Draws;
 use crate::halves::halve;
-use crate::waiting::{Waiting, next_waiting, only};
+use crate::waiting::{Waiting, next_waiting};
 use cg_base::{Bytes, IdSet, NoMemory, ReplicaId};
 use cg_schedule::Event;
 use std::alloc::Global;
@@ -152,7 +152,7 @@ impl GeneratorState {
         let p = draws.replica(replicas);
         let mut others = self.cells.of(p);
         others.remove(p);
-        self.cells.put_both(others, only(p))?;
+        self.cells.put_both(others, IdSet::single(p))?;
         self.draws = draws;
         self.waiting = Waiting::Recover(p);
         Ok(stop(alloc, p))

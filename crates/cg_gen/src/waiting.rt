@@ -1,6 +1,5 @@
 ghost use Rattle.std.specs.Prelude.{◌≡◌, ◌∷◌, [], MatchOption};
 ghost use Rattle.cg_gen.specs.Waiting.{waiting_lines};
-ghost use Rattle.cg_base.specs.Sets.{with_member};
 
 use cg_base::{IdSet, ReplicaId, WeightSet};
 use cg_schedule::Event;
@@ -50,17 +49,8 @@ pub(crate) fn next_waiting(waiting: &mut Waiting) -> Option<Event>
             Some(Event::Split(second))
         }
         Waiting::Recover(p) => {
-            *waiting = Waiting::Merge(only(p));
+            *waiting = Waiting::Merge(IdSet::single(p));
             Some(Event::Recover(p))
         }
     }
-}
-
-/// The set of one replica.
-pub(crate) fn only(p: ReplicaId) -> IdSet
-    ensures { result ≡ with_member [] p }
-{
-    let mut set = IdSet::empty();
-    set.add(p);
-    set
 }

@@ -9,7 +9,7 @@ use Rattle.cg_base.specs.Cuts.{index_in}
 use Rattle.cg_action.specs.declared.action.Action.{Action}
 use Rattle.cg_action.specs.declared.action.Kind.{Kind}
 use Rattle.cg_action.specs.declared.action.Kind.TheVariants.{Update, Join, Leave}
-use Rattle.cg_members.specs.declared.members.Members.{Members}
+use Rattle.cg_members.specs.Members.{Members}
 use Rattle.cg_members.specs.Servers.{was_ever, after_kind}
 use Rattle.cg_queue.specs.declared.mark.Mark.TheVariants.{Placed, Known}
 use Rattle.cg_queue.specs.Queue.{QueueView, Marking, Marks, Gaps, green_count, with_red, placed_red, marked_red, marked_yellow, and_yellow, with_yellow, action_of}

@@ -13,6 +13,7 @@ use Rattle.std.proofs.lemmas.Option.{slice_get-get_or, slice_get_past}
 use Rattle.std.proofs.lemmas.Bool.{cases_Bool, cases_order, cases_lt, cond-true, cond-false, eq-eqb, ne_eqb, lt-ltb, le-ltb}
 use Rattle.cg_base.specs.Sets.{Ascends, IsId, with_member, without_member}
 use Rattle.cg_base.specs.SetLaws.{Ascends-with_member, Ascends-filter, filter-keeps, filter-drops, with_member-same, with_member-front, with_member-later}
+use Rattle.cg_base.specs.AscendingLaws.{AllBelow, AllBelow-more, AllBelow-next, with_member-last}
 use Rattle.cg_group.specs.State.{Standing, with_standing, regular_in}
 use Rattle.cg_group.specs.Rosters.{ids_of, IsRoster, found, changing, waits_of, regulars_of}
 
@@ -173,28 +174,6 @@ module _ {M : Type 0} where
       let w = found_there replicas p i d at in
       (get_or replicas i d, new.unordered, w.2, h.0, set-with_standing replicas 1 i new d roster.ascends w.0 (sym same) ∙ ap (with_standing replicas) h.1)
 
--- each is below the number
-AllBelow : ℕ → List ℕ → Type 0
-AllBelow p [] = Unit {0}
-AllBelow p (q ∷ set) = (q < p) × AllBelow p set
-
-below_more : (set : List ℕ) (low p : ℕ) → low ≤ p → AllBelow low set → AllBelow (suc p) set
-unfolding AllBelow
-below_more [] low p le below = tt
-below_more (q ∷ set) low p le below = (let lt : q < low = below.0 in omega arith, below_more set low p le below.1)
-
-below_append : (set : List ℕ) (p : ℕ) → AllBelow (suc p) set → AllBelow (suc p) (set ++ p ∷ [])
-unfolding AllBelow
-below_append [] p below = (omega arith, tt)
-below_append (q ∷ set) p below = (below.0, below_append set p below.1)
-
--- a member above all others stands last
-with_member-last : (set : List ℕ) (low p : ℕ) → low ≤ p → AllBelow low set → with_member set p ≡ set ++ p ∷ []
-unfolding AllBelow
-with_member-last [] low p le below = refl
-with_member-last (q ∷ set) low p le below =
-    let lt : q < low = below.0 in with_member-later q set p (omega arith) ∙ ap (λ z. q ∷ z) (with_member-last set low p le below.1)
-
 module _ {M : Type 0} where
   -- the set, with a replica that is regular
   abbrev pub with_regular : List ℕ → Standing M → List ℕ
@@ -207,14 +186,13 @@ module _ {M : Type 0} where
       let above : low ≤ s.id = ascends.0 in
       ⊎_elim
       (λ y. ap (λ z. fold with_regular z replicas) (cond-true (regular_in s.phase == 0) set (with_member set s.id) y)
-      ∙ regulars_from replicas set (suc s.id) (below_more set low s.id above below) ascends.2
+      ∙ regulars_from replicas set (suc s.id) (AllBelow-more set low (suc s.id) (omega (arith, above)) below) ascends.2
       ∙ ap (λ z. set ++ map (λ s. s.id) z) (sym (filter-drops (λ (s : Standing M). not (regular_in s.phase == 0)) s replicas (ap not y))))
-      (λ n. ap (λ z. fold with_regular z replicas) (cond-false (regular_in s.phase == 0) set (with_member set s.id) n ∙ with_member-last set low s.id above below)
-      ∙ regulars_from replicas (set ++ s.id ∷ []) (suc s.id) (below_append set s.id (below_more set low s.id above below)) ascends.2
+      (λ n. ap (λ z. fold with_regular z replicas) (cond-false (regular_in s.phase == 0) set (with_member set s.id) n ∙ with_member-last set s.id (AllBelow-more set low s.id above below))
+      ∙ regulars_from replicas (set ++ s.id ∷ []) (suc s.id) (AllBelow-next set s.id (AllBelow-more set low s.id above below)) ascends.2
       ∙ append_assoc set (s.id ∷ []) (regulars_of replicas)
       ∙ ap (λ z. set ++ map (λ s. s.id) z) (sym (filter-keeps (λ (s : Standing M). not (regular_in s.phase == 0)) s replicas (ap not n))))
       (cases_Bool (regular_in s.phase == 0))
 
   pub regulars-all : (replicas : List (Standing M)) → IsRoster replicas → fold with_regular [] replicas ≡ regulars_of replicas
-  unfolding AllBelow
   regulars-all replicas roster = regulars_from replicas [] 1 tt roster.ascends

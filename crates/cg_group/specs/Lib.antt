@@ -3,6 +3,7 @@ pub mod State
 pub mod Ready
 pub mod Events
 pub mod Refusals
+pub mod Answers
 pub mod History
 pub mod Synchrony
 pub mod Rosters

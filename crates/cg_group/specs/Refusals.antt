@@ -1,5 +1,5 @@
 -- The tests by which the group refuses an event. Each gives the reason, or none.
-use Rattle.std.specs.Prelude.{ℕ, ◌-◌, ◌==◌, nat_lt, Bool, false, not, ◌&&◌, List, [], ◌∷◌, Option, Some, None, map, find, length, is_none, Result, Err, IfErr, ◌≡◌, if◌then◌else◌}
+use Rattle.std.specs.Prelude.{ℕ, ◌-◌, ◌==◌, nat_lt, Bool, false, not, ◌&&◌, List, [], ◌∷◌, Option, Some, None, map, find, length, is_none, if◌then◌else◌}
 use Rattle.std.specs.List.{list_any}
 use Rattle.std.specs.Option.{option_map_or, option_map}
 use Rattle.cg_base.specs.Lists.{above_up_to, at_place, first_some}
@@ -8,8 +8,6 @@ use Rattle.cg_group.specs.declared.phase.Phase.{Phase}
 use Rattle.cg_group.specs.declared.phase.Phase.TheVariants.{Transitional}
 use Rattle.cg_group.specs.declared.reason.Reason.{Reason}
 use Rattle.cg_group.specs.declared.reason.Reason.TheVariants.{NotUp, NotRegular, NothingToOrder, NoSuchPlace, AlreadyReceived, NotReady, NotOneConfiguration, NotTogether, EmptySet, EarlierMissing, StillRegular}
-use Rattle.cg_group.specs.declared.error.GroupErr.{GroupErr}
-use Rattle.cg_group.specs.declared.error.GroupErr.TheVariants.{Refused, NoMemory}
 use Rattle.cg_group.specs.State.{Configuration, GroupState, is_up, is_regular, regular_in, phase_of, home, unordered_of, has_received}
 use Rattle.cg_group.specs.Ready.{ready}
 
@@ -105,8 +103,3 @@ module _ {M : Type 0} where
   -- why the replicas can't be the members of a new configuration, where those named last have left for good
   unfoldable pub merge_refusal : GroupState M → List ℕ → List ℕ → Option Reason
   merge_refusal g set left = first_some (empty_set set ∷ any_of (not_up g) set ∷ any_of (still_regular g) set ∷ not_together g set left ∷ [])
-
--- a call is refused for exactly this reason; where there is none it is done, or memory was refused
-abbrev pub IsAnswer : {T : Type 0} → Option Reason → Result T GroupErr → Type 0
-IsAnswer (Some reason) result = result ≡ Err (Refused reason)
-IsAnswer None result = IfErr result (λ e. e ≡ NoMemory)

@@ -3,7 +3,8 @@ ghost use Rattle.std.specs.Option.{option_copied};
 ghost use Rattle.cg_group.specs.State.{GroupState, no_group, no_configuration, standing_of, is_up, is_regular, regular_in, phase_of, delivered_to, unordered_of, home};
 ghost use Rattle.cg_group.specs.Ready.{ready};
 ghost use Rattle.cg_group.specs.Events.{with_delivered, become_regular, become_transitional, come_up, go_down, send, order, receive, gather, deliver, split, merge};
-ghost use Rattle.cg_group.specs.Refusals.{order_refusal, receive_refusal, deliver_refusal, split_refusal, merge_refusal, IsAnswer};
+ghost use Rattle.cg_group.specs.Refusals.{order_refusal, receive_refusal, deliver_refusal, split_refusal, merge_refusal};
+ghost use Rattle.cg_group.specs.Answers.{IsAnswer};
 
 use crate::gathering::{self, order_oldest};
 use crate::log::Log;

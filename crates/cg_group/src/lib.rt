@@ -1,6 +1,7 @@
 //! The group layer: configurations, ordered messages, deliveries, partitions and merges.
 #![tactic(auto)]
 
+mod deliver;
 mod deliveries;
 mod delivery;
 mod error;
@@ -11,16 +12,16 @@ mod log;
 mod logs;
 mod member;
 mod merging;
-mod outgoing;
+mod order;
 mod parting;
 mod phase;
 mod place;
 mod placed;
 mod reason;
 mod receipts;
+mod receive;
 mod refusals;
 mod roster;
-mod steps;
 mod try_clone;
 
 pub use delivery::{Delivery, DeliveryList, Handed, HandedList};

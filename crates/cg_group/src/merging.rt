@@ -1,7 +1,8 @@
 ghost use Rattle.std.specs.Prelude.{◌≡◌, [], ◌∷◌, fold, map, IfOk, OnErr};
 ghost use Rattle.cg_group.specs.declared.delivery.Delivery.TheVariants.{Regular as RegularIn};
 ghost use Rattle.cg_group.specs.Events.{merge, become_regular};
-ghost use Rattle.cg_group.specs.Refusals.{merge_refusal, IsAnswer};
+ghost use Rattle.cg_group.specs.Refusals.{merge_refusal};
+ghost use Rattle.cg_group.specs.Answers.{IsAnswer};
 ghost use Rattle.cg_group.specs.Rosters.{AllUp};
 
 use crate::{Delivery, Group, GroupErr, Handed};

@@ -3,7 +3,8 @@ ghost use Rattle.std.specs.List.{list_any};
 ghost use Rattle.cg_base.specs.Lists.{above_up_to};
 ghost use Rattle.cg_group.specs.State.{has_received, home};
 ghost use Rattle.cg_group.specs.Events.{split, furthest, handed_in_split, become_transitional, delivery_at, deliveries_at, transitional_places};
-ghost use Rattle.cg_group.specs.Refusals.{split_refusal, IsAnswer};
+ghost use Rattle.cg_group.specs.Refusals.{split_refusal};
+ghost use Rattle.cg_group.specs.Answers.{IsAnswer};
 ghost use Rattle.cg_group.specs.Rosters.{AllUp};
 
 use crate::log::Log;

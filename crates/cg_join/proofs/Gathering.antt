@@ -7,10 +7,11 @@ use Rattle.std.proofs.lemmas.Grind.{fold-append}
 use Rattle.cg_base.specs.SetLaws.{each-replica}
 use Rattle.cg_text.specs.Order.{same_text, text_before}
 use Rattle.cg_action.specs.declared.action.Action.{Action}
-use Rattle.cg_action.specs.Limits.{IsAction}
+use Rattle.cg_action.specs.ActionLimits.{IsAction}
 use Rattle.cg_db.specs.declared.entry.DbEntry.{DbEntry}
 use Rattle.cg_db.specs.Limits.{IsEntry, AreEntries}
-use Rattle.cg_db.specs.Map.{Ascends, put}
+use Rattle.cg_db.specs.Map.{put}
+use Rattle.cg_db.specs.Ascending.{Ascends}
 use Rattle.cg_db.specs.TextOrderLaws.{same-sym, before-trans, before-back, before-apart}
 use Rattle.cg_client.specs.Replica.{Held}
 use Rattle.cg_stored.specs.Agreeing.{counts_up}

@@ -6,7 +6,7 @@ use Rattle.std.specs.Cmp.Lexicographic.{pointwise}
 use Rattle.std.proofs.lemmas.Bool.{and_parts, and_from}
 use Rattle.cg_base.specs.Cuts.{index_in}
 use Rattle.cg_base.specs.Lists.{above_up_to}
-use Rattle.cg_base.specs.Sets.{every_replica}
+use Rattle.cg_base.specs.Replicas.{every_replica}
 use Rattle.cg_queue.specs.Queue.{QueueView}
 use Rattle.cg_client.specs.Replica.{Held}
 use Rattle.cg_stored.specs.Stored.{stored_of}

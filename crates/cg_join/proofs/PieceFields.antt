@@ -10,7 +10,7 @@ use Rattle.cg_codec.specs.FieldLaws.{field_whole, field_has, field_done, field_s
 use Rattle.cg_codec.specs.ShapeLaws.{field_two, field_three, field_tagged, variant_of_one}
 use Rattle.cg_action.specs.declared.action.Action.{Action}
 use Rattle.cg_action.specs.declared.value.Value.{Value}
-use Rattle.cg_action.specs.Limits.{IsAction, IsKey, IsValue}
+use Rattle.cg_action.specs.ActionLimits.{IsAction, IsKey, IsValue}
 use Rattle.cg_action.specs.Bytes.{spelled_action, spelled_value}
 use Rattle.cg_action.specs.Reading.{key_reading, value_reading, action_reading}
 use Rattle.cg_action.specs.ValueLaws.{key_field, value_field}

@@ -1,7 +1,7 @@
 -- A joiner, and how the making of its disk ends.
 use Rattle.std.specs.Prelude.{◌≡◌, ℕ, List, Result, Ok, Err}
 use Rattle.cg_client.specs.Replica.{Held}
-use Rattle.cg_db.specs.Map.{Ascends}
+use Rattle.cg_db.specs.Ascending.{Ascends}
 use Rattle.cg_disk.specs.View.{DiskView}
 use Rattle.cg_journal.specs.Fresh.{IsLostWithin, IsRefusedWithin}
 use Rattle.cg_stored.specs.Agreeing.{Agrees}

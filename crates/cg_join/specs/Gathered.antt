@@ -1,6 +1,6 @@
 -- What the parts of a snapshot bring, put together.
 use Rattle.std.specs.Prelude.{[], ◌∷◌, ◌++◌, Some, None, IfSome}
-use Rattle.cg_action.specs.Limits.{IsAction}
+use Rattle.cg_action.specs.ActionLimits.{IsAction}
 use Rattle.cg_db.specs.Limits.{AreEntries}
 use Rattle.cg_db.specs.Map.{put}
 use Rattle.cg_records.specs.Limits.{Each}

@@ -1,7 +1,7 @@
 -- Which pieces there are: each part is within the limits of its bytes.
 use Rattle.std.specs.Prelude.{◌≤◌, ◌^◌, List, length}
 use Rattle.cg_base.specs.Sets.{IsId}
-use Rattle.cg_action.specs.Limits.{IsAction}
+use Rattle.cg_action.specs.ActionLimits.{IsAction}
 use Rattle.cg_db.specs.Limits.{IsEntry}
 use Rattle.cg_records.specs.Limits.{Each, IsNumber, IsPrimary}
 use Rattle.cg_stored.specs.Limits.{IsReached}

@@ -44,7 +44,7 @@ fn ended<D: Disk>(answer: Result<Store<D>, CommitErr<D>>) -> Result<D, FinishErr
 
 impl<D: Disk> Joiner<D> {
     ghost use Rattle.cg_client.specs.Replica.{Held};
-    ghost use Rattle.cg_db.specs.Map.{Ascends};
+    ghost use Rattle.cg_db.specs.Ascending.{Ascends};
     ghost use Rattle.cg_store.specs.Stands.{created};
     ghost use Rattle.cg_client.specs.Joined.{joined};
     ghost use Rattle.cg_join.specs.Snapshot.{parts_of};

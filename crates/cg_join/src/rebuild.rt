@@ -1,9 +1,9 @@
 //! What a joiner holds, rebuilt from a snapshot.
 ghost use Rattle.std.specs.Prelude.{◌≡◌, IfOk};
-ghost use Rattle.cg_action.specs.Limits.{IsAction};
+ghost use Rattle.cg_action.specs.ActionLimits.{IsAction};
 ghost use Rattle.cg_client.specs.Replica.{Held};
 ghost use Rattle.cg_db.specs.Limits.{AreEntries};
-ghost use Rattle.cg_db.specs.Map.{Ascends};
+ghost use Rattle.cg_db.specs.Ascending.{Ascends};
 ghost use Rattle.cg_records.specs.Limits.{Each};
 ghost use Rattle.cg_join.specs.Limits.{IsHead};
 ghost use Rattle.cg_join.specs.Finishing.{IsSnapshotFor};

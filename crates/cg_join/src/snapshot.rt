@@ -1,8 +1,8 @@
 //! A copy of what a replica had green, and its pieces.
 ghost use Rattle.std.specs.Prelude.{◌≡◌, ◌≤◌, ◌<◌, ◌^◌, ◌-◌, ◌++◌, Some, length, fold, slice_get, OnOk, IfOk, IfSome};
-ghost use Rattle.cg_action.specs.Limits.{IsAction};
+ghost use Rattle.cg_action.specs.ActionLimits.{IsAction};
 ghost use Rattle.cg_db.specs.Limits.{AreEntries};
-ghost use Rattle.cg_db.specs.Map.{Ascends};
+ghost use Rattle.cg_db.specs.Ascending.{Ascends};
 ghost use Rattle.cg_records.specs.Limits.{Each, IsNumber};
 ghost use Rattle.cg_join.specs.Limits.{IsHead, IsPiece};
 ghost use Rattle.cg_join.specs.Snapshot.{head_of, parts_of, with_green_part, with_entry_part, piece_at, bytes_at};
@@ -91,8 +91,8 @@ fn head_of(core: &Core) -> Head
     let queue = core.queue();
     let members = core.members();
     // these say what is so of every replica's members
-    let _servers = members.servers.iter();
-    let _left = members.left.count();
+    let _servers = members.servers().iter();
+    let _left = members.left().count();
     Head {
         prim: core.prim(),
         attempt_index: core.attempt_index(),

@@ -2,7 +2,7 @@
 //! red 2:2. Its snapshot, the first, has five pieces.
 ghost use Rattle.std.specs.Prelude.{◌≡◌, suc, IfOk, IsTrue};
 ghost use Rattle.cg_base.specs.Cuts.{index_in};
-ghost use Rattle.cg_action.specs.Limits.{IsAction};
+ghost use Rattle.cg_action.specs.ActionLimits.{IsAction};
 
 use cg_action::{Action, decode};
 use cg_base::{ActionId, Cut, NoMemory, ReplicaId, WeightSet, put};

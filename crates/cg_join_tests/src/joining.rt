@@ -1,6 +1,6 @@
 //! What is seen of the replica that a joiner's disk stands for, behind all pieces of a snapshot.
 ghost use Rattle.std.specs.Prelude.{◌≡◌, ◌<◌, ◌≤◌, ◌+◌, suc, true, [], length, take, IfOk, OnOk, IsTrue};
-ghost use Rattle.cg_db.specs.Map.{Ascends};
+ghost use Rattle.cg_db.specs.Ascending.{Ascends};
 ghost use Rattle.cg_stored.specs.Checkpoint.{parts_of as saved_parts};
 ghost use Rattle.cg_stored.specs.Limits.{AreParts};
 ghost use Rattle.cg_stored.specs.Parts.{do_agree};

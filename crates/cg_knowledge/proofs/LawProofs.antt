@@ -1,5 +1,5 @@
 -- Sets of members that both decide meet, and common yellow actions stand in each list.
-use Rattle.std.proofs.Common.{◌≡◌, true, not, ◌&&◌, List, Option, Some, None, sym, subst}
+use Rattle.std.proofs.Common.{◌≡◌, true, not, List, Option, Some, None, sym, subst}
 use Rattle.std.specs.List.{All}
 use Rattle.std.proofs.lemmas.Bool.{and_parts}
 use Rattle.std.proofs.lemmas.List.Elements.{All-nil, filter_passes}

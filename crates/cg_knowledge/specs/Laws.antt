@@ -1,8 +1,8 @@
 -- What the members' knowledge means, as laws over the definitions.
-use Rattle.std.specs.Prelude.{◌≡◌, ℕ, ◌≤◌, true, List, [], MatchOption}
+use Rattle.std.specs.Prelude.{◌≡◌, ◌≤◌, true, List, [], MatchOption}
 use Rattle.std.specs.List.{All, Contains}
 use Rattle.cg_base.specs.Ids.{names}
-use Rattle.cg_vote.specs.Quorum.{ShareMember}
+use Rattle.cg_vote.specs.Sharing.{ShareMember}
 use Rattle.cg_knowledge.specs.declared.summary.Summary.{Summary}
 use Rattle.cg_knowledge.specs.Members.{most_updated, remaining}
 use Rattle.cg_knowledge.specs.Primary.{known_primary}

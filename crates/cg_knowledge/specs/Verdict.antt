@@ -4,10 +4,8 @@ use Rattle.std.specs.List.{list_all}
 use Rattle.cg_vote.specs.Quorum.{is_quorum}
 use Rattle.cg_records.specs.declared.vulnerable.Vulnerable.{Vulnerable}
 use Rattle.cg_knowledge.specs.declared.summary.Summary.{Summary}
-use Rattle.cg_knowledge.specs.declared.verdict.Verdict.{Verdict}
-use Rattle.cg_knowledge.specs.Members.{gone, remaining}
-use Rattle.cg_knowledge.specs.Primary.{known_primary, known_attempt}
-use Rattle.cg_knowledge.specs.Yellow.{common_yellow}
+use Rattle.cg_knowledge.specs.Members.{remaining}
+use Rattle.cg_knowledge.specs.Primary.{known_primary}
 use Rattle.cg_knowledge.specs.Vulnerable.{decided}
 
 -- what becomes of each member's record
@@ -21,15 +19,3 @@ all_cleared summaries = list_all is_none (records_of summaries)
 -- the remaining members are a quorum of the known primary component, and no record stays
 unfoldable pub decides : List Summary → Bool
 decides summaries = is_quorum (known_primary summaries).set (remaining summaries) && all_cleared summaries
-
--- all that follows from the summaries
-unfoldable pub verdict_of : List Summary → Verdict
-verdict_of summaries =
-    record {
-      prim = known_primary summaries;
-      attempt_index = known_attempt summaries;
-      yellow = common_yellow summaries;
-      vulnerable = records_of summaries;
-      gone = gone summaries;
-      quorum = decides summaries;
-    }

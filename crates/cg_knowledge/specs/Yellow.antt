@@ -1,5 +1,5 @@
 -- The yellow actions that the members have in common.
-use Rattle.std.specs.Prelude.{ℕ, Bool, true, false, not, ◌&&◌, ◌||◌, nat_le, List, [], Option, Some, None, filter}
+use Rattle.std.specs.Prelude.{Bool, true, false, not, ◌&&◌, nat_le, List, [], Option, Some, None, filter}
 use Rattle.std.specs.Option.{option_map_or}
 use Rattle.std.specs.List.{list_all}
 use Rattle.cg_base.specs.declared.action_id.ActionId.{ActionId}
@@ -8,7 +8,7 @@ use Rattle.cg_base.specs.Cuts.{index_in}
 use Rattle.cg_records.specs.declared.yellow.Yellow.{Yellow}
 use Rattle.cg_knowledge.specs.declared.summary.Summary.{Summary}
 use Rattle.cg_knowledge.specs.Members.{most_updated, lowest}
-use Rattle.cg_knowledge.specs.Primary.{newest, knows_prim}
+use Rattle.cg_knowledge.specs.Primary.{newest}
 
 -- the members of the last primary component whose yellow list is valid
 unfoldable pub yellow_group : List Summary → List Summary
@@ -21,10 +21,6 @@ is_green_at_most summaries id = option_map_or (λ s. nat_le id.index (index_in s
 -- the action stands in the list of each member of the group
 unfoldable pub is_in_each : List Summary → ActionId → Bool
 is_in_each group id = list_all (λ s. names s.yellow.list id) group
-
--- the member's list doesn't count, or it has the action
-abbrev pub lets_stand : ℕ → ActionId → Summary → Bool
-lets_stand index id s = (not (knows_prim index s) || not s.yellow.valid) || names s.yellow.list id
 
 -- the action stands in each list, and isn't green at the most updated member
 abbrev pub is_common : List Summary → ActionId → Bool

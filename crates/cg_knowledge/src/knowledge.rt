@@ -1,6 +1,6 @@
 ghost use Rattle.std.specs.Prelude.{◌≡◌, IfOk, is_none};
 ghost use Rattle.std.specs.List.{list_all};
-ghost use Rattle.cg_knowledge.specs.Verdict.{verdict_of};
+ghost use Rattle.cg_knowledge.specs.Calls.{verdict_of};
 
 use crate::members::{gone, remaining};
 use crate::primary::{known_attempt, known_primary};
@@ -20,7 +20,7 @@ fn are_cleared(records: &VulnerableList) -> bool
 
 /// What follows from the summaries of all members of a configuration, in whatever order they stand. Members that have left
 /// count as present for the records.
-#[tactic(auto, unfolding(crate::specs::Verdict::verdict_of, crate::specs::Verdict::decides, crate::specs::Verdict::all_cleared))]
+#[tactic(auto, unfolding(crate::specs::Calls::verdict_of, crate::specs::Verdict::decides, crate::specs::Verdict::all_cleared))]
 pub fn decide(alloc: Global, summaries: &[Summary]) -> Result<Verdict, NoMemory>
     ensures { IfOk result (λ verdict. verdict ≡ verdict_of summaries.now) }
 {

@@ -3,7 +3,8 @@ ghost use Rattle.std.specs.List.{list_all};
 ghost use Rattle.std.specs.Option.{option_copied};
 ghost use Rattle.cg_base.specs.Ids.{names as names_id};
 ghost use Rattle.cg_knowledge.specs.Members.{lowest};
-ghost use Rattle.cg_knowledge.specs.Yellow.{yellow_group, lets_stand as stands, is_in_each as in_each, is_green_at_most as green_at_most, is_common as common, common_yellow as common_yellow_of};
+ghost use Rattle.cg_knowledge.specs.Yellow.{yellow_group, is_in_each as in_each, is_green_at_most as green_at_most, is_common as common, common_yellow as common_yellow_of};
+ghost use Rattle.cg_knowledge.specs.Calls.{lets_stand as stands};
 
 use crate::Summary;
 use crate::members::{lower, most_updated};

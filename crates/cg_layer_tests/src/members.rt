@@ -111,7 +111,8 @@ fn say_line(out: &mut Vec<u8>, line: Option<u64>) {
 
 // the weight of the first server, and all of them, of a copy
 fn say_servers(out: &mut Vec<u8>, members: &Members) {
-    let servers = members.copy().servers;
+    let copy = members.copy();
+    let servers = copy.servers();
     if let Some(first) = servers.iter().next() {
         say_number(out, u64::from(first.weight));
     }
@@ -125,7 +126,7 @@ fn say_one(out: &mut Vec<u8>, members: &Members, word: &str, p: ReplicaId) {
         "is_member" => say_truth(out, members.is_member(p)),
         "was_ever" => say_truth(out, members.was_ever(p)),
         "weight" => say_number(out, u64::from(members.weight(p))),
-        _ => say_number(out, members.servers.line(p)),
+        _ => say_number(out, members.servers().line(p)),
     }
 }
 

@@ -4,7 +4,8 @@ use Rattle.std.proofs.lemmas.Bool.{cases_eq, cases_order, eq-eqb, ne_eqb, lt-ltb
 use Rattle.cg_base.specs.declared.weighted.Weighted.{Weighted}
 use Rattle.cg_base.specs.Sets.{Ascends, has}
 use Rattle.cg_base.specs.Slots.{array_slot}
-use Rattle.cg_base.specs.Weights.{IsWeightSet, Weigh, ids, weight_in, with_weight}
+use Rattle.cg_base.specs.Weights.{IsWeightSet, Weigh, ids, with_weight}
+use Rattle.cg_base.specs.Calls.{weight_in}
 use Rattle.cg_base.specs.ArrayLaws.{zeros, array_slot-zeros}
 use Rattle.cg_base.specs.SetLaws.{Ascends-below}
 use Rattle.cg_members.specs.View.{server_with}

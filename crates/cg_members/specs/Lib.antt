@@ -1,4 +1,5 @@
 pub mod View
+pub mod Members
 pub mod Servers
 pub mod Listed
 pub mod Laws

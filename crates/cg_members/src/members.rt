@@ -1,15 +1,24 @@
 ghost use Rattle.std.specs.Prelude.{◌≡◌, ◌≤◌};
-ghost use Rattle.cg_action.specs.Limits.{IsAction};
+ghost use Rattle.cg_action.specs.ActionLimits.{IsAction};
 
 use crate::ServerSet;
 use cg_action::{Action, Kind};
 use cg_base::{IdSet, ReplicaId, WeightSet};
+use std::marker::Model;
 
-/// The servers, and those that have left.
+/// The servers, and those that have left. Clauses see both lists.
 #[derive(Drop)]
 pub struct Members {
-    pub servers: ServerSet,
-    pub left: IdSet,
+    servers: ServerSet,
+    left: IdSet,
+}
+
+impl Model for Members {
+    ghost use Rattle.cg_members.specs.Members.{Members};
+
+    ghost Value = { Members };
+
+    ghost view = { λ m. record { servers = m.servers; left = m.left } };
 }
 
 impl Members {
@@ -23,6 +32,13 @@ impl Members {
             servers: ServerSet::of(servers),
             left: IdSet::empty(),
         }
+    }
+
+    /// These servers, and these that have left.
+    pub fn of(servers: ServerSet, left: IdSet) -> Members
+        ensures { result ≡ record { servers = servers; left = left } }
+    {
+        Members { servers, left }
     }
 
     /// Other members that are the same.
@@ -87,6 +103,13 @@ impl Members {
         ensures { result ≡ is_server self.now id }
     {
         self.servers.contains(id)
+    }
+
+    /// The servers.
+    pub fn servers(&self) -> &ServerSet
+        ensures { result.now ≡ self.now.servers }
+    {
+        &self.servers
     }
 
     /// The replicas that have left. They never join again.

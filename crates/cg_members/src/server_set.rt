@@ -8,7 +8,7 @@ use std::marker::Model;
 #[derive(Drop)]
 pub struct ServerSet {
     weights: WeightSet,
-    // place p - 1 has the line of p, where p is a server
+    // slot p - 1 has the line of p, where p is a server
     lines: [u64; 32],
 }
 

@@ -4,10 +4,10 @@ use Rattle.std.specs.Prelude.{slice_get, ◌↔◌}
 use Rattle.std.proofs.lemmas.Bool.{eq-eqb, ne_eqb, and_from, le-leb, lt-leb, cases_eq}
 use Rattle.std.proofs.lemmas.List.Sums.{fold_more}
 use Rattle.cg_plan.specs.declared.parts.Item.{Item}
-use Rattle.cg_plan.specs.declared.parts.Turn.{Turn}
+use Rattle.cg_plan.specs.declared.parts.SentPart.{SentPart}
 use Rattle.cg_plan.specs.declared.parts.Sent.{Sent}
 use Rattle.cg_plan.specs.Items.{same_item, items_of_plan}
-use Rattle.cg_plan.specs.Progress.{Progress, next_item, is_wanted, is_done}
+use Rattle.cg_plan.specs.Progress.{PlanProgress, next_item, is_wanted, is_done}
 use Rattle.cg_plan.specs.PlanLaws.{same_item-itself, same_item-is}
 use Rattle.cg_plan.specs.Following.{begun, after_item, after_items}
 
@@ -17,11 +17,11 @@ same_item-tells a b = (same_item-is a b, λ e. rw e (same_item-itself b))
 wanted-itself : (s : Sent) → is_wanted (Some s) s.sender s.item ≡ true
 wanted-itself s = and_from (eqb s.sender s.sender) (same_item s.item s.item) (eq-eqb s.sender s.sender refl) (same_item-itself s.item)
 
-abbrev at : List Turn → ℕ → Progress
+abbrev at : List SentPart → ℕ → PlanProgress
 at plan n = record { turns = plan; accepted = n }
 
 -- the item at its turn is accepted
-after-next : (plan : List Turn) (n : ℕ) (s : Sent) → slice_get (items_of_plan plan) n ≡ Some s → after_item (at plan n) s.sender s.item ≡ at plan (n + 1)
+after-next : (plan : List SentPart) (n : ℕ) (s : Sent) → slice_get (items_of_plan plan) n ≡ Some s → after_item (at plan n) s.sender s.item ≡ at plan (n + 1)
 unfolding next_item
 after-next plan n s here = rw (here, wanted-itself s) refl
 
@@ -35,7 +35,7 @@ some_item [] n lt = absurd (omega arith)
 some_item (x ∷ xs) zero lt = (x, refl)
 some_item (x ∷ xs) (suc n) lt = some_item xs n (omega arith)
 
-pub follows : (plan : List Turn) (n : ℕ) → n ≤ length (items_of_plan plan) → after_items (begun plan) (take n (items_of_plan plan)) ≡ at plan n
+pub follows : (plan : List SentPart) (n : ℕ) → n ≤ length (items_of_plan plan) → after_items (begun plan) (take n (items_of_plan plan)) ≡ at plan n
 follows plan zero le = refl
 follows plan (suc n) le =
     let items = items_of_plan plan in
@@ -53,7 +53,7 @@ follows plan (suc n) le =
     get_or_from (x ∷ xs) zero s e = cc
     get_or_from (x ∷ xs) (suc k) s e = get_or_from xs k s e
 
-pub ends : (plan : List Turn) (n : ℕ) → n ≤ length (items_of_plan plan) → is_done (at plan n) ≡ eqb n (length (items_of_plan plan))
+pub ends : (plan : List SentPart) (n : ℕ) → n ≤ length (items_of_plan plan) → is_done (at plan n) ≡ eqb n (length (items_of_plan plan))
 unfolding is_done
 ends plan n le = elim (cases_eq n (length (items_of_plan plan))) [
   | inl all ↦ le-leb _ _ (omega arith) ∙ sym (eq-eqb _ _ all)

@@ -7,24 +7,24 @@ use Rattle.cg_base.specs.Lists.{count_up}
 use Rattle.cg_plan.specs.declared.parts.Item.TheVariants.{Green}
 use Rattle.cg_plan.specs.declared.parts.Part.{Part}
 use Rattle.cg_plan.specs.declared.parts.Part.TheVariants.{Greens, Reds}
-use Rattle.cg_plan.specs.declared.parts.Turn.{Turn}
+use Rattle.cg_plan.specs.declared.parts.SentPart.{SentPart}
 use Rattle.cg_plan.specs.Items.{red_item, items_of, sent_by, items_of_turn, items_of_plan}
 use Rattle.cg_plan.specs.Place.{AreFilled, MadeFew, IsPlace, items_before}
-use Rattle.cg_plan.specs.Progress.{Progress, turn_of}
+use Rattle.cg_plan.specs.Progress.{PlanProgress, turn_of}
 use Rattle.cg_plan.specs.PlanLaws.{length-items, length-turn, size-filled, items-cons}
 use Rattle.cg_plan.specs.Following.{begun}
 use Rattle.cg_plan.specs.Parts.{IsFilled, size_of, item_behind}
 
 -- ---- the parts from a place on
 
-pub ended : (turns rest : List Turn) (current : ℕ) → rest ≡ drop current turns → length rest ≡ 0 → drop current turns ≡ []
+pub ended : (turns rest : List SentPart) (current : ℕ) → rest ≡ drop current turns → length rest ≡ 0 → drop current turns ≡ []
 ended turns rest current is none = sym is ∙ nil_from_length rest none
 
 first-is : {X : Type 0} (xs : List X) (x : X) → 1 ≤ length xs → x ≡ get_or xs 0 x → xs ≡ x ∷ drop 1 xs
 first-is [] x some is = absurd (omega arith)
 first-is (y ∷ xs) x some is = ap (λ z. z ∷ xs) (sym is)
 
-pub opened : (turns rest : List Turn) (current : ℕ) (turn : Turn) → rest ≡ drop current turns → 1 ≤ length rest → turn ≡ get_or rest 0 turn → drop current turns ≡ turn ∷ drop 1 rest
+pub opened : (turns rest : List SentPart) (current : ℕ) (turn : SentPart) → rest ≡ drop current turns → 1 ≤ length rest → turn ≡ get_or rest 0 turn → drop current turns ≡ turn ∷ drop 1 rest
 opened turns rest current turn from some is = sym from ∙ first-is rest turn some is
 
 -- ---- the items of one part
@@ -72,7 +72,7 @@ none_before : (made : ℕ) → length (items_of_plan []) + made ≡ made
 none_before made = omega (arith, ap length items-none)
 
 -- the item at a place is that of the parts from there on
-pub get-place : (turns : List Turn) (current made : ℕ) → slice_get (items_of_plan turns) (items_before turns current made) ≡ slice_get (items_of_plan (drop current turns)) made
+pub get-place : (turns : List SentPart) (current made : ℕ) → slice_get (items_of_plan turns) (items_before turns current made) ≡ slice_get (items_of_plan (drop current turns)) made
 unfolding items_before
 get-place turns zero made = ap (slice_get (items_of_plan turns)) (none_before made)
 get-place [] (suc current) made = ap (slice_get (items_of_plan [])) (none_before made)
@@ -87,11 +87,11 @@ get-place (turn ∷ turns) (suc current) made =
     ∙ rest
 
 -- no part is left
-pub item-none : (turns : List Turn) (current made : ℕ) → drop current turns ≡ [] → slice_get (items_of_plan turns) (items_before turns current made) ≡ None
+pub item-none : (turns : List SentPart) (current made : ℕ) → drop current turns ≡ [] → slice_get (items_of_plan turns) (items_before turns current made) ≡ None
 item-none turns current made none = get-place turns current made ∙ rw (none, items-none) refl
 
 -- the next item is one of the first part that is left
-pub item-some : (turns more : List Turn) (turn : Turn) (current made : ℕ) → drop current turns ≡ turn ∷ more → IsFilled turn.part → made < size_of turn.part
+pub item-some : (turns more : List SentPart) (turn : SentPart) (current made : ℕ) → drop current turns ≡ turn ∷ more → IsFilled turn.part → made < size_of turn.part
     → slice_get (items_of_plan turns) (items_before turns current made) ≡ Some (sent_by turn.sender (item_behind turn.part made))
 item-some turns more turn current made here filled few =
     let first = get-map (sent_by turn.sender) (items_of turn.part) made (item_behind turn.part made) (get-items turn.part made filled few) in
@@ -99,23 +99,23 @@ item-some turns more turn current made here filled few =
 
 -- ---- what holds of the parts from a place on
 
-pub AreFilled-drop : (turns : List Turn) (current : ℕ) → AreFilled turns → AreFilled (drop current turns)
+pub AreFilled-drop : (turns : List SentPart) (current : ℕ) → AreFilled turns → AreFilled (drop current turns)
 AreFilled-drop turns zero filled = filled
 AreFilled-drop [] (suc current) filled = tt
 AreFilled-drop (turn ∷ turns) (suc current) filled = AreFilled-drop turns current filled.1
 
-pub filled-here : (turns more : List Turn) (turn : Turn) (current made : ℕ) → drop current turns ≡ turn ∷ more → IsPlace turns current made → IsFilled turn.part
+pub filled-here : (turns more : List SentPart) (turn : SentPart) (current made : ℕ) → drop current turns ≡ turn ∷ more → IsPlace turns current made → IsFilled turn.part
 filled-here turns more turn current made here place = let filled = AreFilled-drop turns current place.filled in (rw here at filled).0
 
-pub few-here : (turns more : List Turn) (turn : Turn) (current made : ℕ) → drop current turns ≡ turn ∷ more → IsPlace turns current made → made < size_of turn.part
+pub few-here : (turns more : List SentPart) (turn : SentPart) (current made : ℕ) → drop current turns ≡ turn ∷ more → IsPlace turns current made → made < size_of turn.part
 few-here turns more turn current made here place = let few = place.few in rw here at few
 
-pub few-none : (turns : List Turn) (current made : ℕ) → drop current turns ≡ [] → IsPlace turns current made → made ≡ 0
+pub few-none : (turns : List SentPart) (current made : ℕ) → drop current turns ≡ [] → IsPlace turns current made → made ≡ 0
 few-none turns current made none place = let few = place.few in rw none at few
 
 -- ---- the part that begins at a place
 
-turn_of-past : (turn : Turn) (turns : List Turn) (me n : ℕ) → 1 ≤ length (items_of turn.part) → turn_of (turn ∷ turns) me (length (items_of turn.part) + n) ≡ turn_of turns me n
+turn_of-past : (turn : SentPart) (turns : List SentPart) (me n : ℕ) → 1 ≤ length (items_of turn.part) → turn_of (turn ∷ turns) me (length (items_of turn.part) + n) ≡ turn_of turns me n
 unfolding turn_of
 turn_of-past turn turns me n some = past (length (items_of turn.part)) some refl
   where
@@ -127,7 +127,7 @@ turn_of-past turn turns me n some = past (length (items_of turn.part)) some refl
         let left : suc (size + n) - length (items_of turn.part) ≡ n = omega arith in
         ap (turn_of (turn ∷ turns) me) shape ∙ rw (beyond, left) refl
 
-pub turn_of-place : (turns : List Turn) (me current made : ℕ) → AreFilled turns → turn_of turns me (items_before turns current made) ≡ turn_of (drop current turns) me made
+pub turn_of-place : (turns : List SentPart) (me current made : ℕ) → AreFilled turns → turn_of turns me (items_before turns current made) ≡ turn_of (drop current turns) me made
 unfolding items_before
 turn_of-place turns me zero made filled = let same : 0 + made ≡ made = omega arith in rw (items-none, same) refl
 turn_of-place [] me (suc current) made filled = let same : 0 + made ≡ made = omega arith in rw (items-none, same) refl
@@ -154,7 +154,7 @@ take-suc [] more x (suc i) e = absurd (cc)
 take-suc (y ∷ xs) more x zero e = let same : y ≡ x = cc in rw same refl
 take-suc (y ∷ xs) more x (suc i) e = ap (λ zs. y ∷ zs) (take-suc xs more x i e)
 
-length-plan-push : (turns : List Turn) (turn : Turn) → length (items_of_plan (turns ++ turn ∷ [])) ≡ length (items_of_plan turns) + size_of turn.part
+length-plan-push : (turns : List SentPart) (turn : SentPart) → length (items_of_plan (turns ++ turn ∷ [])) ≡ length (items_of_plan turns) + size_of turn.part
 length-plan-push [] turn =
     rw (items-cons turn [], items-none, append-nil (items_of_turn turn)) (omega (arith, length-turn turn))
 length-plan-push (t ∷ turns) turn =
@@ -162,40 +162,40 @@ length-plan-push (t ∷ turns) turn =
     (omega (arith, length-append (items_of_turn t) (items_of_plan (turns ++ turn ∷ [])), length-append (items_of_turn t) (items_of_plan turns), length-plan-push turns turn))
 
 -- behind the last item of a part stands the next part
-pub before-next_part : (turns more : List Turn) (turn : Turn) (current made : ℕ) → drop current turns ≡ turn ∷ more → made + 1 ≡ size_of turn.part
+pub before-next_part : (turns more : List SentPart) (turn : SentPart) (current made : ℕ) → drop current turns ≡ turn ∷ more → made + 1 ≡ size_of turn.part
     → items_before turns (current + 1) 0 ≡ items_before turns current made + 1
 unfolding items_before
 before-next_part turns more turn current made here last =
     let next : current + 1 ≡ suc current = omega arith in
     rw (next, take-suc turns more turn current here) (omega (arith, length-plan-push (take current turns) turn))
 
-pub before-same_part : (turns : List Turn) (current made : ℕ) → items_before turns current (made + 1) ≡ items_before turns current made + 1
+pub before-same_part : (turns : List SentPart) (current made : ℕ) → items_before turns current (made + 1) ≡ items_before turns current made + 1
 unfolding items_before
 before-same_part turns current made = omega arith
 
-MadeFew-none : (turns : List Turn) → AreFilled turns → MadeFew 0 turns
+MadeFew-none : (turns : List SentPart) → AreFilled turns → MadeFew 0 turns
 MadeFew-none [] filled = refl
 MadeFew-none (turn ∷ turns) filled = size-filled turn.part filled.0
 
-pub place-next_part : (turns : List Turn) (current made : ℕ) → IsPlace turns current made → current < length turns → IsPlace turns (current + 1) 0
+pub place-next_part : (turns : List SentPart) (current made : ℕ) → IsPlace turns current made → current < length turns → IsPlace turns (current + 1) 0
 place-next_part turns current made place more =
     record { filled = place.filled; within = omega arith; few = MadeFew-none (drop (current + 1) turns) (AreFilled-drop turns (current + 1) place.filled) }
 
-pub place-same_part : (turns more : List Turn) (turn : Turn) (current made : ℕ) → drop current turns ≡ turn ∷ more → IsPlace turns current made → made + 1 < size_of turn.part → IsPlace turns current (made + 1)
+pub place-same_part : (turns more : List SentPart) (turn : SentPart) (current made : ℕ) → drop current turns ≡ turn ∷ more → IsPlace turns current made → made + 1 < size_of turn.part → IsPlace turns current (made + 1)
 place-same_part turns more turn current made here place less =
     record { filled = place.filled; within = place.within; few = rw here less }
 
-pub place-first : (turns : List Turn) → AreFilled turns → IsPlace turns 0 0
+pub place-first : (turns : List SentPart) → AreFilled turns → IsPlace turns 0 0
 place-first turns filled = record { filled = filled; within = omega arith; few = MadeFew-none turns filled }
 
-pub before-first : (turns : List Turn) → items_before turns 0 0 ≡ 0
+pub before-first : (turns : List SentPart) → items_before turns 0 0 ≡ 0
 unfolding items_before
 before-first turns = rw items-none refl
 
 -- ---- the end
 
 -- at the end all items come before, and nowhere else
-pub before-end : (turns : List Turn) (current made : ℕ) → drop current turns ≡ [] → made ≡ 0 → items_before turns current made ≡ length (items_of_plan turns)
+pub before-end : (turns : List SentPart) (current made : ℕ) → drop current turns ≡ [] → made ≡ 0 → items_before turns current made ≡ length (items_of_plan turns)
 unfolding items_before
 before-end turns zero made none zeroed = rw (none, items-none) (omega arith)
 before-end [] (suc current) made none zeroed = rw items-none (omega arith)
@@ -204,7 +204,7 @@ before-end (turn ∷ turns) (suc current) made none zeroed =
     rw (items-cons turn (take current turns), items-cons turn turns)
     (omega (arith, rest, length-append (items_of_turn turn) (items_of_plan (take current turns)), length-append (items_of_turn turn) (items_of_plan turns)))
 
-pub before-less : (turns more : List Turn) (turn : Turn) (current made : ℕ) → drop current turns ≡ turn ∷ more → made < size_of turn.part → items_before turns current made < length (items_of_plan turns)
+pub before-less : (turns more : List SentPart) (turn : SentPart) (current made : ℕ) → drop current turns ≡ turn ∷ more → made < size_of turn.part → items_before turns current made < length (items_of_plan turns)
 unfolding items_before
 before-less turns more turn zero made here few =
     rw (here, items-none, items-cons turn more) (omega (arith, length-append (items_of_turn turn) (items_of_plan more), length-turn turn))
@@ -219,7 +219,7 @@ nothing_there None e some = false≢true some
 nothing_there (Some x) e some = absurd (cc)
 
 -- where an item is still to come, a part is left
-pub within-next : (turns : List Turn) (current made : ℕ) → IsSome (slice_get (items_of_plan turns) (items_before turns current made)) → current < length turns
+pub within-next : (turns : List SentPart) (current made : ℕ) → IsSome (slice_get (items_of_plan turns) (items_before turns current made)) → current < length turns
 within-next turns current made some = elim (cases_lt current (length turns)) [
   | inl lt ↦ lt
   | inr le ↦ absurd (nothing_there _ (item-none turns current made (drop_all current turns le)) some)
@@ -232,7 +232,7 @@ part_there (x ∷ xs) zero lt = (x, xs, refl)
 part_there (x ∷ xs) (suc i) lt = part_there xs i (omega arith)
 
 -- the place is behind the last part exactly where all items come before it
-pub done-place : (turns : List Turn) (current made : ℕ) → IsPlace turns current made → eqb current (length turns) ≡ leb (length (items_of_plan turns)) (items_before turns current made)
+pub done-place : (turns : List SentPart) (current made : ℕ) → IsPlace turns current made → eqb current (length turns) ≡ leb (length (items_of_plan turns)) (items_before turns current made)
 done-place turns current made place = elim (cases_lt current (length turns)) [
   | inl lt ↦
       let part = part_there turns current lt in
@@ -245,9 +245,9 @@ done-place turns current made place = elim (cases_lt current (length turns)) [
       eq-eqb current (length turns) (omega arith) ∙ sym (le-leb _ _ (omega (arith, all)))
 ]
 
-abbrev at_place : List Turn → ℕ → Progress
+abbrev at_place : List SentPart → ℕ → PlanProgress
 at_place turns n = record { turns = turns; accepted = n }
 
 -- a plan of which nothing was taken
-pub begun-is : (turns plan : List Turn) → turns ≡ plan → at_place turns (items_before turns 0 0) ≡ begun plan
+pub begun-is : (turns plan : List SentPart) → turns ≡ plan → at_place turns (items_before turns 0 0) ≡ begun plan
 begun-is turns plan e = rw (e, before-first plan) refl

@@ -4,20 +4,20 @@ use Rattle.std.specs.Prelude.{Option, flat_map}
 use Rattle.std.proofs.lemmas.Bool.{ltb-true, cond_both}
 use Rattle.cg_knowledge.specs.declared.summary.Summary.{Summary}
 use Rattle.cg_knowledge.specs.Members.{most_updated}
-use Rattle.cg_plan.specs.declared.parts.Turn.{Turn}
+use Rattle.cg_plan.specs.declared.parts.SentPart.{SentPart}
 use Rattle.cg_plan.specs.Plan.{part_above, green_part, red_part, reds_of, creators, farthest, least_greens, least_reds, plan_of}
 use Rattle.cg_plan.specs.Place.{AreFilled}
 use Rattle.cg_plan.specs.Parts.{IsFilled}
 
-AreFilled-append : (xs ys : List Turn) → AreFilled xs → AreFilled ys → AreFilled (xs ++ ys)
+AreFilled-append : (xs ys : List SentPart) → AreFilled xs → AreFilled ys → AreFilled (xs ++ ys)
 AreFilled-append [] ys some more = more
 AreFilled-append (x ∷ xs) ys some more = (some.0, AreFilled-append xs ys some.1 more)
 
-AreFilled-flat_map : {X : Type 0} (f : X → List Turn) → ((x : X) → AreFilled (f x)) → (xs : List X) → AreFilled (flat_map f xs)
+AreFilled-flat_map : {X : Type 0} (f : X → List SentPart) → ((x : X) → AreFilled (f x)) → (xs : List X) → AreFilled (flat_map f xs)
 AreFilled-flat_map f each [] = tt
 AreFilled-flat_map f each (x ∷ xs) = AreFilled-append (f x) (flat_map f xs) (each x) (AreFilled-flat_map f each xs)
 
-part_above-filled : (low high : ℕ) (turn : Turn) → (low < high → IsFilled turn.part) → AreFilled (part_above low high turn)
+part_above-filled : (low high : ℕ) (turn : SentPart) → (low < high → IsFilled turn.part) → AreFilled (part_above low high turn)
 part_above-filled low high turn filled = cond_both (ltb low high) (turn ∷ []) [] AreFilled (λ e. (filled (ltb-true low high e), tt)) (λ e. tt)
 
 green_part-filled : (best : Option Summary) (low : Option ℕ) → AreFilled (green_part best low)

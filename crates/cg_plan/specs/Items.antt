@@ -6,7 +6,7 @@ use Rattle.cg_plan.specs.declared.parts.Item.{Item}
 use Rattle.cg_plan.specs.declared.parts.Item.TheVariants.{Green, Red}
 use Rattle.cg_plan.specs.declared.parts.Part.{Part}
 use Rattle.cg_plan.specs.declared.parts.Part.TheVariants.{Greens, Reds}
-use Rattle.cg_plan.specs.declared.parts.Turn.{Turn}
+use Rattle.cg_plan.specs.declared.parts.SentPart.{SentPart}
 use Rattle.cg_plan.specs.declared.parts.Sent.{Sent}
 
 -- the two are one item
@@ -29,9 +29,9 @@ abbrev pub sent_by : ℕ → Item → Sent
 sent_by sender item = record { sender = sender; item = item }
 
 -- the items of a part, each with the part's sender
-abbrev pub items_of_turn : Turn → List Sent
+abbrev pub items_of_turn : SentPart → List Sent
 items_of_turn turn = map (sent_by turn.sender) (items_of turn.part)
 
 -- the items of a plan, in order
-unfoldable pub items_of_plan : List Turn → List Sent
+unfoldable pub items_of_plan : List SentPart → List Sent
 items_of_plan plan = flat_map items_of_turn plan

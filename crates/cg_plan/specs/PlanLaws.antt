@@ -9,7 +9,7 @@ use Rattle.cg_plan.specs.declared.parts.Item.{Item}
 use Rattle.cg_plan.specs.declared.parts.Item.TheVariants.{Green, Red}
 use Rattle.cg_plan.specs.declared.parts.Part.{Part}
 use Rattle.cg_plan.specs.declared.parts.Part.TheVariants.{Greens, Reds}
-use Rattle.cg_plan.specs.declared.parts.Turn.{Turn}
+use Rattle.cg_plan.specs.declared.parts.SentPart.{SentPart}
 use Rattle.cg_plan.specs.Items.{same_item, red_item, items_of, sent_by, items_of_turn, items_of_plan}
 use Rattle.cg_plan.specs.Progress.{turn_of}
 use Rattle.cg_plan.specs.Parts.{IsFilled, size_of}
@@ -37,7 +37,7 @@ pub length-items : (part : Part) → length (items_of part) ≡ size_of part
 length-items (Greens from to) = length-map (above_up_to (from - 1) to) Green ∙ length-count_up (suc (from - 1)) (to - (from - 1))
 length-items (Reds creator from to) = length-map (above_up_to (from - 1) to) (red_item creator) ∙ length-count_up (suc (from - 1)) (to - (from - 1))
 
-pub length-turn : (turn : Turn) → length (items_of_turn turn) ≡ size_of turn.part
+pub length-turn : (turn : SentPart) → length (items_of_turn turn) ≡ size_of turn.part
 length-turn turn = length-map (items_of turn.part) (sent_by turn.sender) ∙ length-items turn.part
 
 pub size-filled : (part : Part) → IsFilled part → 1 ≤ size_of part
@@ -46,7 +46,7 @@ size-filled (Reds creator from to) filled = let one : 1 ≤ from = filled.0 in l
 
 -- ---- the items of a plan
 
-pub items-cons : (turn : Turn) (turns : List Turn) → items_of_plan (turn ∷ turns) ≡ items_of_turn turn ++ items_of_plan turns
+pub items-cons : (turn : SentPart) (turns : List SentPart) → items_of_plan (turn ∷ turns) ≡ items_of_turn turn ++ items_of_plan turns
 unfolding items_of_plan
 items-cons turn turns = flat_map-cons items_of_turn turn turns
 
@@ -56,11 +56,11 @@ pub turn_of-none : (me made : ℕ) → turn_of [] me made ≡ None
 unfolding turn_of
 turn_of-none me made = refl
 
-pub turn_of-begun : (turn : Turn) (turns : List Turn) (me : ℕ) → turn_of (turn ∷ turns) me 0 ≡ cond (eqb turn.sender me) (Some turn.part) None
+pub turn_of-begun : (turn : SentPart) (turns : List SentPart) (me : ℕ) → turn_of (turn ∷ turns) me 0 ≡ cond (eqb turn.sender me) (Some turn.part) None
 unfolding turn_of
 turn_of-begun turn turns me = refl
 
-pub turn_of-under_way : (turn : Turn) (turns : List Turn) (me made : ℕ) → 1 ≤ made → made < size_of turn.part → turn_of (turn ∷ turns) me made ≡ None
+pub turn_of-under_way : (turn : SentPart) (turns : List SentPart) (me made : ℕ) → 1 ≤ made → made < size_of turn.part → turn_of (turn ∷ turns) me made ≡ None
 unfolding turn_of
 turn_of-under_way turn turns me zero some few = absurd (omega arith)
 turn_of-under_way turn turns me (suc made) some few =

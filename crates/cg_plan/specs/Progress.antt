@@ -2,17 +2,17 @@
 use Rattle.std.specs.Prelude.{ℕ, zero, suc, ◌-◌, ◌==◌, nat_lt, nat_le, Bool, false, ◌&&◌, List, [], ◌∷◌, Option, Some, None, length, slice_get, if◌then◌else◌}
 use Rattle.cg_plan.specs.declared.parts.Item.{Item}
 use Rattle.cg_plan.specs.declared.parts.Part.{Part}
-use Rattle.cg_plan.specs.declared.parts.Turn.{Turn}
+use Rattle.cg_plan.specs.declared.parts.SentPart.{SentPart}
 use Rattle.cg_plan.specs.declared.parts.Sent.{Sent}
 use Rattle.cg_plan.specs.Items.{same_item, items_of, items_of_plan}
 
 -- a plan, and how many of its items were accepted
-pub record Progress : Type 0 where
-  pub turns : List Turn
+pub record PlanProgress : Type 0 where
+  pub turns : List SentPart
   pub accepted : ℕ
 
 -- the item that comes after those that were accepted
-unfoldable pub next_item : Progress → Option Sent
+unfoldable pub next_item : PlanProgress → Option Sent
 next_item p = slice_get (items_of_plan p.turns) p.accepted
 
 -- the item is the wanted one, and comes from its sender
@@ -21,11 +21,11 @@ is_wanted None from item = false
 is_wanted (Some sent) from item = (sent.sender == from) && same_item sent.item item
 
 -- every item was accepted
-unfoldable pub is_done : Progress → Bool
+unfoldable pub is_done : PlanProgress → Bool
 is_done p = nat_le (length (items_of_plan p.turns)) p.accepted
 
 -- the part that begins after the items that were accepted, where it is the given replica's turn
-unfoldable pub turn_of : List Turn → ℕ → ℕ → Option Part
+unfoldable pub turn_of : List SentPart → ℕ → ℕ → Option Part
 turn_of [] me accepted = None
 turn_of (turn ∷ turns) me zero = if turn.sender == me then Some turn.part else None
 turn_of (turn ∷ turns) me (suc accepted) =

@@ -3,7 +3,7 @@ ghost use Rattle.std.specs.Option.{option_copied};
 ghost use Rattle.cg_knowledge.specs.Members.{most_updated as most_updated_of};
 ghost use Rattle.cg_plan.specs.Plan.{least_greens as least_greens_of, green_part, farther as farther_of, farthest as farthest_of, least_reds as least_reds_of, reds_of, creators as creators_of, plan_of};
 
-use crate::{Part, Turn};
+use crate::{Part, SentPart};
 use cg_base::{IdSet, NoMemory, ReplicaId, lesser};
 use cg_knowledge::{Summary, most_updated, remaining};
 use std::alloc::Global;
@@ -80,7 +80,7 @@ fn creators(summaries: &[Summary]) -> IdSet
     set
 }
 
-fn push_greens(turns: &mut Vec<Turn>, summaries: &[Summary]) -> Result<(), NoMemory>
+fn push_greens(turns: &mut Vec<SentPart>, summaries: &[Summary]) -> Result<(), NoMemory>
     ensures { OnOk result (turns.new.items ≡ turns.old.items ++ green_part (most_updated_of summaries.now) (least_greens_of summaries.now)) }
 {
     let Some(best) = most_updated(summaries) else {
@@ -92,7 +92,7 @@ fn push_greens(turns: &mut Vec<Turn>, summaries: &[Summary]) -> Result<(), NoMem
     if low >= best.green_count {
         return Ok(());
     }
-    turns.push(Turn {
+    turns.push(SentPart {
         sender: best.id,
         part: Part::Greens {
             from: low + 1,
@@ -104,7 +104,7 @@ fn push_greens(turns: &mut Vec<Turn>, summaries: &[Summary]) -> Result<(), NoMem
 
 #[tactic(auto, unfolding(crate::specs::Plan::reds_of))]
 fn push_reds(
-    turns: &mut Vec<Turn>,
+    turns: &mut Vec<SentPart>,
     summaries: &[Summary],
     creator: ReplicaId,
 ) -> Result<(), NoMemory>
@@ -124,7 +124,7 @@ fn push_reds(
     if from >= to {
         return Ok(());
     }
-    turns.push(Turn {
+    turns.push(SentPart {
         sender: holder.id,
         part: Part::Reds {
             creator,
@@ -137,7 +137,7 @@ fn push_reds(
 
 /// The parts of the plan, in order.
 #[tactic(auto, unfolding(crate::specs::Plan::plan_of))]
-pub(crate) fn turns_of(alloc: Global, summaries: &[Summary]) -> Result<Vec<Turn>, NoMemory>
+pub(crate) fn turns_of(alloc: Global, summaries: &[Summary]) -> Result<Vec<SentPart>, NoMemory>
     ensures { IfOk result (λ turns. turns.items ≡ plan_of summaries.now) }
 {
     let mut turns = Vec::new(alloc);

@@ -29,7 +29,7 @@ pub enum Part {
 
 /// A part with its sender.
 #[derive(Clone, Copy, Debug, PartialEq, Eq)]
-pub struct Turn {
+pub struct SentPart {
     pub sender: ReplicaId,
     pub part: Part,
 }

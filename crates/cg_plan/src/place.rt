@@ -5,10 +5,10 @@ ghost use Rattle.cg_plan.specs.Items.{items_of_plan};
 ghost use Rattle.cg_plan.specs.Place.{IsPlace, items_before};
 ghost use Rattle.cg_plan.specs.Progress.{turn_of};
 
-use crate::{Part, Sent, Turn};
+use crate::{Part, Sent, SentPart};
 use cg_base::ReplicaId;
 
-fn parts_from(turns: &[Turn], current: usize) -> &[Turn]
+fn parts_from(turns: &[SentPart], current: usize) -> &[SentPart]
     requires { current ≤ length turns.now }
     ensures { result.now ≡ drop current turns.now }
 {
@@ -16,7 +16,7 @@ fn parts_from(turns: &[Turn], current: usize) -> &[Turn]
 }
 
 // the item at the place
-pub(crate) fn item_at(turns: &[Turn], current: usize, made: u64) -> Option<Sent>
+pub(crate) fn item_at(turns: &[SentPart], current: usize, made: u64) -> Option<Sent>
     requires { IsPlace turns.now current made }
     ensures { result ≡ slice_get (items_of_plan turns.now) (items_before turns.now current made) }
 {
@@ -30,7 +30,7 @@ pub(crate) fn item_at(turns: &[Turn], current: usize, made: u64) -> Option<Sent>
 }
 
 // the part that begins at the place, where the given replica sends it
-pub(crate) fn part_at(turns: &[Turn], current: usize, made: u64, me: ReplicaId) -> Option<Part>
+pub(crate) fn part_at(turns: &[SentPart], current: usize, made: u64, me: ReplicaId) -> Option<Part>
     requires { IsPlace turns.now current made }
     ensures { result ≡ turn_of turns.now me (items_before turns.now current made) }
 {
@@ -47,7 +47,7 @@ pub(crate) fn part_at(turns: &[Turn], current: usize, made: u64, me: ReplicaId) 
 }
 
 // the place behind the next item
-pub(crate) fn place_after(turns: &[Turn], current: usize, made: u64) -> (usize, u64)
+pub(crate) fn place_after(turns: &[SentPart], current: usize, made: u64) -> (usize, u64)
     requires place { IsPlace turns.now current made }
     requires more { current < length turns.now }
     ensures place { IsPlace turns.now result.0 result.1 }

@@ -5,7 +5,7 @@ ghost use Rattle.cg_plan.specs.Progress.{next_item, is_wanted as is_wanted_item,
 
 use crate::making::turns_of;
 use crate::place::{item_at, part_at, place_after};
-use crate::{Item, Other, Part, Sent, Turn};
+use crate::{Item, Other, Part, Sent, SentPart};
 use cg_base::{NoMemory, ReplicaId};
 use cg_knowledge::Summary;
 use std::alloc::Global;
@@ -14,16 +14,16 @@ use std::marker::Model;
 /// A plan, and how far it has been followed. Clauses see its parts, and how many items were accepted.
 #[derive(Drop)]
 pub struct Plan {
-    turns: Vec<Turn>,
+    turns: Vec<SentPart>,
     current: usize,
     made: u64,
 }
 
 impl Model for Plan {
-    ghost use Rattle.cg_plan.specs.Progress.{Progress};
+    ghost use Rattle.cg_plan.specs.Progress.{PlanProgress};
     ghost use Rattle.cg_plan.specs.Place.{IsPlace, items_before};
 
-    ghost Value = { Progress };
+    ghost Value = { PlanProgress };
 
     ghost view = { λ p. record { turns = p.turns.items; accepted = items_before p.turns.items p.current p.made } };
 

@@ -5,8 +5,9 @@ ghost use Rattle.cg_wire.specs.Limits.{IsMsg};
 ghost use Rattle.cg_wire.specs.Reading.{message_in};
 ghost use Rattle.cg_client.specs.Replica.{RegPrim as RegPrimState, State};
 ghost use Rattle.cg_client.specs.Drafts.{turn_with};
-ghost use Rattle.cg_client.specs.Requests.{kind_of, request, settle};
-ghost use Rattle.cg_client.specs.Whitening.{IsLineGreen, with_white};
+ghost use Rattle.cg_client.specs.Requests.{request, settle};
+ghost use Rattle.cg_client.specs.Calls.{kind_of, IsLineGreen};
+ghost use Rattle.cg_client.specs.Whitening.{with_white};
 ghost use Rattle.cg_prim.specs.Hearing.{reg_prim_on_message, reg_prim_on_read, reg_prim_on};
 ghost use Rattle.cg_prim.specs.Steps.{turn_after, is_transitional};
 

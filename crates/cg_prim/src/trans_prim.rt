@@ -1,13 +1,15 @@
 ghost use Rattle.std.specs.Prelude.{◌≡◌, IfOk};
-ghost use Rattle.cg_action.specs.Limits.{IsAction, IsKind};
+ghost use Rattle.cg_action.specs.Limits.{IsKind};
+ghost use Rattle.cg_action.specs.ActionLimits.{IsAction};
 ghost use Rattle.cg_report.specs.declared.line.StateName.TheVariants.{TransPrim as TransPrimName};
 ghost use Rattle.cg_wire.specs.Limits.{IsMsg};
 ghost use Rattle.cg_wire.specs.Reading.{message_in};
 ghost use Rattle.cg_client.specs.Replica.{TransPrim as TransPrimState, State};
 ghost use Rattle.cg_client.specs.declared.parts.DraftParts.{DraftParts};
 ghost use Rattle.cg_client.specs.Drafts.{turn_with};
-ghost use Rattle.cg_client.specs.Requests.{kind_of, request};
-ghost use Rattle.cg_client.specs.Whitening.{IsLineGreen, with_white};
+ghost use Rattle.cg_client.specs.Requests.{request};
+ghost use Rattle.cg_client.specs.Calls.{kind_of, IsLineGreen};
+ghost use Rattle.cg_client.specs.Whitening.{with_white};
 ghost use Rattle.cg_prim.specs.TransPrim.{trans_prim_on_action};
 ghost use Rattle.cg_prim.specs.Steps.{turn_after};
 ghost use Rattle.cg_prim.specs.Hearing.{trans_prim_on_message, trans_prim_on_read, trans_prim_on};

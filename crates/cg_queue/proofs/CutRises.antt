@@ -4,7 +4,8 @@ use Rattle.std.proofs.lemmas.Bool.{cases_eq, cases_lt, cases_Bool, eq-eqb, ne_eq
 use Rattle.cg_base.specs.declared.action_id.ActionId.{ActionId}
 use Rattle.cg_base.specs.Ids.{same_id, names}
 use Rattle.cg_base.specs.Sets.{IsId}
-use Rattle.cg_base.specs.Cuts.{IsCut, index_in, raise}
+use Rattle.cg_base.specs.Cuts.{index_in, raise}
+use Rattle.cg_base.specs.CutLimits.{IsCut}
 use Rattle.cg_base.specs.CutLaws.{index_in-raise}
 use Rattle.cg_queue.specs.Body.{is_above, AreKnown}
 use Rattle.cg_base.specs.IdLaws.{same_id-false, same_id-true}

@@ -5,7 +5,8 @@ use Rattle.std.proofs.lemmas.Bool.{cases_eq, eq-eqb, ne_eqb}
 use Rattle.cg_base.specs.declared.action_id.ActionId.{ActionId}
 use Rattle.cg_base.specs.Ids.{same_id, names}
 use Rattle.cg_base.specs.Sets.{IsId}
-use Rattle.cg_base.specs.Cuts.{IsCut, index_in, raise}
+use Rattle.cg_base.specs.Cuts.{index_in, raise}
+use Rattle.cg_base.specs.CutLimits.{IsCut}
 use Rattle.cg_base.specs.CutLaws.{IsCut-raise}
 use Rattle.cg_action.specs.declared.action.Action.{Action}
 use Rattle.cg_queue.specs.declared.red.Red.{Red}

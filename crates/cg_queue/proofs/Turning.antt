@@ -5,7 +5,6 @@ use Rattle.std.specs.Option.{option_map}
 use Rattle.cg_base.specs.declared.action_id.ActionId.{ActionId}
 use Rattle.cg_base.specs.Sets.{IsId}
 use Rattle.cg_base.specs.Cuts.{index_in}
-use Rattle.cg_action.specs.declared.action.Action.{Action}
 use Rattle.cg_queue.specs.declared.red.Red.{Red}
 use Rattle.cg_queue.specs.Queue.{action_of, placed_green}
 use Rattle.cg_queue.specs.Body.{Parts, seen, Run, IsSound, lane_of, added_green}

@@ -1,12 +1,17 @@
 -- What the calls of a queue answer.
-use Rattle.std.specs.Prelude.{◌≡◌, true, List, [], ◌∷◌, Result, Ok, Err}
+use Rattle.std.specs.Prelude.{◌≡◌, ℕ, nat_le, true, List, [], ◌∷◌, Result, Ok, Err, if◌then◌else◌}
 use Rattle.cg_base.specs.declared.action_id.ActionId.{ActionId}
 use Rattle.cg_base.specs.Ids.{names}
 use Rattle.cg_action.specs.declared.action.Action.{Action}
 use Rattle.cg_queue.specs.declared.mark.Mark.{Mark}
+use Rattle.cg_queue.specs.declared.mark.Mark.TheVariants.{Placed, Known}
 use Rattle.cg_queue.specs.declared.mark.QueueFault.{QueueFault}
 use Rattle.cg_queue.specs.declared.mark.QueueFault.TheVariants.{Gap, NoMemory}
-use Rattle.cg_queue.specs.Queue.{QueueView, names_of, Marking, Marks, Gaps}
+use Rattle.cg_queue.specs.Queue.{QueueView, names_of, green_count, placed_green, Marking, Marks, Gaps}
+
+-- an action is marked green at a place; the places up to the count are known
+abbrev pub marked_green : QueueView → ℕ → Action → Marking
+marked_green q at a = if nat_le at (green_count q) then Marks Known q else Marks Placed (placed_green q a)
 
 -- what a call answers of a marking, and what it leaves: at a fault nothing is changed, and a gap is one
 abbrev pub Answers : Marking → QueueView → QueueView → Result Mark QueueFault → Type 0

@@ -3,7 +3,8 @@ use Rattle.std.specs.Prelude.{◌≡◌, ℕ, zero, suc, ◌+◌, ◌-◌, ◌�
 use Rattle.cg_base.specs.declared.action_id.ActionId.{ActionId}
 use Rattle.cg_base.specs.Ids.{names}
 use Rattle.cg_base.specs.Sets.{IsId}
-use Rattle.cg_base.specs.Cuts.{IsCut, index_in, raise}
+use Rattle.cg_base.specs.Cuts.{index_in, raise}
+use Rattle.cg_base.specs.CutLimits.{IsCut}
 use Rattle.cg_base.specs.Choice.{Either}
 use Rattle.cg_action.specs.declared.action.Action.{Action}
 use Rattle.cg_queue.specs.declared.red.Red.{Red}

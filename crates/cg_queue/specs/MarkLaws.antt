@@ -8,7 +8,7 @@ use Rattle.cg_base.specs.Cuts.{index_in}
 use Rattle.cg_action.specs.declared.action.Action.{Action}
 use Rattle.cg_queue.specs.declared.mark.Mark.TheVariants.{Placed, Known}
 use Rattle.cg_queue.specs.Body.{is_above}
-use Rattle.cg_queue.specs.Queue.{marked_green}
+use Rattle.cg_queue.specs.Answers.{marked_green}
 use Rattle.cg_queue.specs.Queue.{QueueView, Marks, Gaps, placed_red, marked_red, placed_green, green_count, with_yellow}
 
 pub is_above-true : (cut : List ActionId) (id : ActionId) → index_in cut id.creator < id.index → is_above cut id ≡ true

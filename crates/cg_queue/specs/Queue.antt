@@ -78,10 +78,6 @@ placed_green q a =
       yellow = filter (λ id. not (same_id id a.id)) q.yellow;
     }
 
--- an action is marked green at a place; the places up to the count are known
-abbrev pub marked_green : QueueView → ℕ → Action → Marking
-marked_green q at a = if nat_le at (green_count q) then Marks Known q else Marks Placed (placed_green q a)
-
 -- the greens up to a count are discarded
 abbrev pub discarded : QueueView → ℕ → QueueView
 discarded q count = record q { white = count; greens = drop (count - q.white) q.greens }

@@ -3,7 +3,7 @@
 
 ghost use Rattle.std.specs.Prelude.{◌≡◌, ◌+◌, ◌<◌, ◌-◌, ◌^◌, suc, length, fold, IsSome, MatchOption, OnOk, OnErr};
 ghost use Rattle.cg_base.specs.Sets.{IsId};
-ghost use Rattle.cg_base.specs.Cuts.{IsCut};
+ghost use Rattle.cg_base.specs.CutLimits.{IsCut};
 ghost use Rattle.cg_queue.specs.Lanes.{rows_of};
 ghost use Rattle.cg_queue.specs.Body.{parts_of, flag_of, no_parts, BeginsWell, added_red, with_name, flagged, added_green, settled, cleared, dropped, renamed, flag_name, is_above, lane_of};
 ghost use Rattle.std.specs.Prelude.{filter, slice_get, ℕ, [], ◌∷◌, ◌++◌, true, ◌⊎◌};

@@ -39,9 +39,9 @@ impl Model for Queue {
 }
 
 impl Queue {
-    ghost use Rattle.cg_queue.specs.Queue.{resumed, marked_red, marked_yellow, marked_green, placed_green, green_count, discarded, with_yellow, names_of, action_of};
+    ghost use Rattle.cg_queue.specs.Queue.{resumed, marked_red, marked_yellow, placed_green, green_count, discarded, with_yellow, names_of, action_of};
+    ghost use Rattle.cg_queue.specs.Answers.{marked_green, Answers, AreReds};
     ghost use Rattle.cg_queue.specs.Shown.{IsShown};
-    ghost use Rattle.cg_queue.specs.Answers.{Answers, AreReds};
 
     /// A queue that knows no action.
     pub fn new(alloc: Global) -> Queue

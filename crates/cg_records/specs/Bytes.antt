@@ -2,7 +2,7 @@
 use Rattle.std.specs.Prelude.{ℕ, List, ◌++◌}
 use Rattle.cg_base.specs.declared.action_id.ActionId.{ActionId}
 use Rattle.cg_base.specs.declared.weighted.Weighted.{Weighted}
-use Rattle.cg_codec.specs.Fields.{byte, number64, truth, list, optional}
+use Rattle.cg_codec.specs.Fields.{byte, number64, truth, list, optional, spelled_id}
 use Rattle.cg_records.specs.declared.primary.Primary.{Primary}
 use Rattle.cg_records.specs.declared.vulnerable.Vulnerable.{Vulnerable}
 use Rattle.cg_records.specs.declared.yellow.Yellow.{Yellow}
@@ -12,17 +12,13 @@ use Rattle.cg_records.specs.declared.stable.Stable.{Stable}
 unfoldable pub spelled_set : List ℕ → List ℕ
 spelled_set set = list byte set
 
--- a name of an action: its creator and its index
-unfoldable pub spelled_name : ActionId → List ℕ
-spelled_name id = byte id.creator ++ number64 id.index
-
 -- names of actions, in order
 unfoldable pub spelled_names : List ActionId → List ℕ
-spelled_names ids = list spelled_name ids
+spelled_names ids = list spelled_id ids
 
 -- a cut: each creator that has an action, ascending, with the index of its last one
 unfoldable pub spelled_cut : List ActionId → List ℕ
-spelled_cut cut = list spelled_name cut
+spelled_cut cut = list spelled_id cut
 
 -- a member of a set with its weight
 unfoldable pub spelled_weighted : Weighted → List ℕ

@@ -4,7 +4,7 @@ use Rattle.cg_codec.specs.declared.fault.CodecFault.{CodecFault}
 use Rattle.cg_codec.specs.Reading.{Unread, Reading, take_items}
 use Rattle.cg_codec.specs.ItemLaws.{items_go_on}
 use Rattle.cg_records.specs.Reading.{last_of}
-use Rattle.cg_records.specs.AscendingLaws.{AllBelow, AllBelow-more, AllBelow-push}
+use Rattle.cg_base.specs.AscendingLaws.{AllBelow, AllBelow-more, AllBelow-push}
 use Rattle.cg_records.specs.RecordLaws.{last_of-push}
 
 -- i of the items were read, with these keys

@@ -3,6 +3,5 @@ pub mod Bytes
 pub mod Reading
 pub mod Same
 pub mod RecordLaws
-pub mod AscendingLaws
 pub mod ItemLoopLaws
 pub mod PassedLaws

@@ -22,7 +22,8 @@ use Rattle.cg_records.specs.declared.vulnerable.Vulnerable.{Vulnerable}
 use Rattle.cg_records.specs.declared.yellow.Yellow.{Yellow}
 use Rattle.cg_records.specs.declared.stable.Stable.{Stable}
 use Rattle.cg_records.specs.Limits.{IsNumber, IsIndex, IsName, Each, IsSmallCut, IsPrimary, IsVulnerable, IsMaybeVulnerable, IsYellow, IsStable}
-use Rattle.cg_records.specs.Bytes.{spelled_set, spelled_name, spelled_names, spelled_cut, spelled_weighted, spelled_weight_set, spelled_prim, spelled_vulnerable, spelled_yellow, spelled_stable}
+use Rattle.cg_codec.specs.Fields.{spelled_id}
+use Rattle.cg_records.specs.Bytes.{spelled_set, spelled_names, spelled_cut, spelled_weighted, spelled_weight_set, spelled_prim, spelled_vulnerable, spelled_yellow, spelled_stable}
 use Rattle.cg_records.specs.Reading.{take_number, take_index, take_id_above, last_of, take_set, take_weight, take_weighted_above, take_weight_set, take_name_above, take_cut, take_names, take_prim, take_vulnerable, take_maybe_vulnerable, take_yellow, take_stable}
 
 -- ---- what comes last
@@ -106,17 +107,17 @@ FollowsName last id = Follows last id.creator × IsIndex id.index
 abbrev name : ℕ → ℕ → ActionId
 name creator index = record { creator = creator; index = index }
 
-name_field : (last : ℕ) → IsField (FollowsName last) spelled_name (take_name_above last)
-unfolding spelled_name take_name_above
+name_field : (last : ℕ) → IsField (FollowsName last) spelled_id (take_name_above last)
+unfolding take_name_above
 name_field last =
     field_bind (λ (id : ActionId). id.creator) (Follows last) byte (take_id_above last) (FollowsName last) (λ (id : ActionId). number64 id.index) (λ creator. take_index >>= λ index. done (name creator index))
     (λ id has. has.0) (id_field last)
     (λ creator follows. field_map (name creator) (λ (id : ActionId). id.index) IsIndex number64 take_index (λ (id : ActionId). FollowsName last id × (id.creator ≡ creator))
     (λ id has. (has.0.1, ap (λ p. name p id.index) (sym has.1))) (λ index has. (((follows, has), refl), refl)) index_field)
 
-any_name_field : IsField IsName spelled_name (take_name_above 0)
+any_name_field : IsField IsName spelled_id (take_name_above 0)
 any_name_field =
-    field_has (FollowsName 0) IsName spelled_name (take_name_above 0)
+    field_has (FollowsName 0) IsName spelled_id (take_name_above 0)
     (λ id has. let low : 0 < id.creator = has.0.0 in ((omega arith, has.0.1), has.1)) (λ id has. let low : 1 ≤ id.creator = has.0.0 in ((omega arith, has.0.1), has.1)) (name_field 0)
 
 -- ---- lists whose keys ascend
@@ -195,9 +196,9 @@ weight_set_field =
 pub cut_field : IsField IsSmallCut spelled_cut take_cut
 unfolding spelled_cut take_cut
 cut_field =
-    field_has (IsAscendingList (λ t. t.creator) (λ t. IsIndex t.index)) IsSmallCut (list spelled_name) take_cut
+    field_has (IsAscendingList (λ t. t.creator) (λ t. IsIndex t.index)) IsSmallCut (list spelled_id) take_cut
     (λ cut has. record { ascends = has.ascends; indexes = has.each }) (λ cut has. record { ascends = has.ascends; each = has.indexes })
-    (ascending_field (λ t. t.creator) (λ t. IsIndex t.index) creators_in (λ cut t. map-push (λ u. u.creator) cut t) refl spelled_name (λ taken. take_name_above (last_of (creators_in taken))) (λ taken. name_field (last_of (creators_in taken))))
+    (ascending_field (λ t. t.creator) (λ t. IsIndex t.index) creators_in (λ cut t. map-push (λ u. u.creator) cut t) refl spelled_id (λ taken. take_name_above (last_of (creators_in taken))) (λ taken. name_field (last_of (creators_in taken))))
 
 -- ---- names in any order
 
@@ -217,10 +218,10 @@ pub record AreNames (ids : List ActionId) : Type 0 where
 names_field : IsField AreNames spelled_names take_names
 unfolding spelled_names take_names
 names_field =
-    field_has (λ ids. (length ids ≤ 2 ^ 32 - 1) × EachBehind (λ _. IsName) [] ids) AreNames (list spelled_name) take_names
+    field_has (λ ids. (length ids ≤ 2 ^ 32 - 1) × EachBehind (λ _. IsName) [] ids) AreNames (list spelled_id) take_names
     (λ ids has. let short : length ids ≤ 2 ^ 32 - 1 = has.0 in record { short = omega arith; names = each-behind ids [] has.1 })
     (λ ids has. let short = has.short in (omega arith, behind-each ids [] has.names))
-    (field_list (2 ^ 32 - 1) (λ _. IsName) spelled_name (λ _. take_name_above 0) (count_field (2 ^ 32 - 1) (omega arith)) (λ _. any_name_field))
+    (field_list (2 ^ 32 - 1) (λ _. IsName) spelled_id (λ _. take_name_above 0) (count_field (2 ^ 32 - 1) (omega arith)) (λ _. any_name_field))
 
 -- ---- records
 

@@ -1,14 +1,15 @@
 //! Names of actions in bytes, alone and as cuts.
 
 ghost use Rattle.std.specs.Prelude.{◌≡◌, ◌++◌, ◌^◌, ◌<◌, length, OnOk, OnErr};
-ghost use Rattle.cg_base.specs.Text.{KeepsFront};
+ghost use Rattle.cg_base.specs.Fronts.{KeepsFront};
 ghost use Rattle.cg_codec.specs.Taking.{unread_of, Takes, TakesWithMemory};
-ghost use Rattle.cg_records.specs.Bytes.{spelled_cut, spelled_name, spelled_names};
+ghost use Rattle.cg_codec.specs.Fields.{spelled_id};
+ghost use Rattle.cg_records.specs.Bytes.{spelled_cut, spelled_names};
 ghost use Rattle.cg_records.specs.Reading.{take_cut as reading_cut, take_name_above as name_above, take_names as reading_names};
 
 use crate::numbers::{take_id_above, take_index};
 use cg_base::{ActionId, Cut, IdList, NoMemory};
-use cg_codec::{CodecFault, Fields, put_u8, put_u32, put_u64};
+use cg_codec::{CodecFault, Fields, put_action_id, put_u32};
 use std::alloc::Global;
 
 #[tactic(auto, unfolding(crate::specs::Reading::take_name_above))]
@@ -56,15 +57,6 @@ pub(crate) fn take_names(alloc: Global, f: &mut Fields<'_>) -> Result<IdList, Co
     Ok(ids)
 }
 
-#[tactic(auto, unfolding(crate::specs::Bytes::spelled_name))]
-fn write_name(out: &mut Vec<u8>, id: ActionId) -> Result<(), NoMemory>
-    ensures ok { OnOk result (out.new.items ≡ out.old.items ++ spelled_name id) }
-    ensures err { OnErr result (KeepsFront out.old.items out.new.items) }
-{
-    put_u8(out, id.creator.get())?;
-    put_u64(out, id.index)
-}
-
 /// Puts a cut at the end.
 pub fn put_cut(out: &mut Vec<u8>, v: &Cut) -> Result<(), NoMemory>
     ensures ok { OnOk result (out.new.items ≡ out.old.items ++ spelled_cut v.now) }
@@ -85,7 +77,7 @@ fn write_cut(out: &mut Vec<u8>, v: &Cut) -> Result<(), NoMemory>
 {
     put_u32(out, u32::from(v.creators().count()))?;
     for top in v.iter() {
-        write_name(out, top)?;
+        put_action_id(out, &top)?;
     }
     Ok(())
 }
@@ -98,7 +90,7 @@ pub(crate) fn write_names(out: &mut Vec<u8>, ids: &[ActionId]) -> Result<(), NoM
 {
     put_u32(out, ids.len() as u32)?;
     for id in ids {
-        write_name(out, *id)?;
+        put_action_id(out, id)?;
     }
     Ok(())
 }

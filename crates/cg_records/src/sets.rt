@@ -1,7 +1,7 @@
 //! Sets of replicas in bytes.
 
 ghost use Rattle.std.specs.Prelude.{◌≡◌, ◌++◌, OnOk, OnErr};
-ghost use Rattle.cg_base.specs.Text.{KeepsFront};
+ghost use Rattle.cg_base.specs.Fronts.{KeepsFront};
 ghost use Rattle.cg_codec.specs.Taking.{unread_of, Takes};
 ghost use Rattle.cg_records.specs.Bytes.{spelled_set, spelled_weight_set, spelled_weighted};
 ghost use Rattle.cg_records.specs.Reading.{take_set as reading_set, take_weight_set as reading_weight_set, take_weighted_above as weighted_above};

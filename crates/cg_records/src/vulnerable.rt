@@ -1,5 +1,5 @@
 ghost use Rattle.std.specs.Prelude.{◌≡◌, ◌++◌, OnOk, OnErr};
-ghost use Rattle.cg_base.specs.Text.{KeepsFront};
+ghost use Rattle.cg_base.specs.Fronts.{KeepsFront};
 ghost use Rattle.cg_codec.specs.Fields.{optional};
 ghost use Rattle.cg_codec.specs.Taking.{unread_of, Takes};
 ghost use Rattle.cg_records.specs.Bytes.{spelled_vulnerable};

@@ -1,5 +1,5 @@
 ghost use Rattle.std.specs.Prelude.{◌≡◌, ◌++◌, ◌^◌, ◌<◌, length, false, [], OnOk, OnErr, IfOk};
-ghost use Rattle.cg_base.specs.Text.{KeepsFront};
+ghost use Rattle.cg_base.specs.Fronts.{KeepsFront};
 ghost use Rattle.cg_codec.specs.Taking.{unread_of, TakesWithMemory};
 ghost use Rattle.cg_records.specs.Bytes.{spelled_yellow};
 ghost use Rattle.cg_records.specs.Reading.{take_yellow as reading_yellow};

@@ -5,7 +5,8 @@ use Rattle.cg_wire.specs.declared.message.Msg.{Msg}
 use Rattle.cg_wire.specs.Reading.{message_in}
 use Rattle.cg_group.specs.declared.delivery.Delivery.{Delivery}
 use Rattle.cg_group.specs.declared.delivery.Delivery.TheVariants.{Message, Transitional as TransitionalIn, Regular as RegularIn}
-use Rattle.cg_client.specs.Requests.{kind_of, request, settle}
+use Rattle.cg_client.specs.Requests.{request, settle}
+use Rattle.cg_client.specs.Calls.{kind_of}
 use Rattle.cg_client.specs.Turn.{Turn}
 use Rattle.cg_step.specs.Hearing.{hear_delivery}
 use Rattle.cg_step.specs.Step.{Input, Deliveries, Asks}

@@ -74,10 +74,6 @@ shown_line s = shown_text s ++ codes "\n"
 abbrev pub body_text : Entry → List ℕ
 body_text e = flat_map made_line e.made ++ flat_map order_line e.orders ++ flat_map ended_line e.lines ++ flat_map reply_line e.replies ++ flat_map shown_line e.shown
 
--- nothing is shown
-abbrev pub no_entry : Entry
-no_entry = record { made = []; orders = []; lines = []; replies = []; shown = [] }
-
 abbrev pub is_silent : Entry → Bool
 is_silent e = (length e.made == 0) && (length e.orders == 0) && (length e.lines == 0) && (length e.replies == 0) && (length e.shown == 0)
 

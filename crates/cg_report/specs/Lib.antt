@@ -1,3 +1,4 @@
 pub mod EntryText
+pub mod NoEntry
 pub mod LineText
 pub mod Same

@@ -74,7 +74,7 @@ pub struct Entry {
 }
 
 impl Entry {
-    ghost use Rattle.cg_report.specs.EntryText.{no_entry};
+    ghost use Rattle.cg_report.specs.NoEntry.{no_entry};
     ghost use Rattle.cg_report.specs.EntryText.{is_silent};
 
     pub(crate) fn is_silent(&self) -> bool

@@ -9,6 +9,7 @@ use Rattle.cg_action.specs.declared.command.Cmd.TheVariants.{Put, Del, Inc, Cas,
 use Rattle.cg_action.specs.declared.query.Query.{Query}
 use Rattle.cg_action.specs.declared.query.Query.TheVariants.{Get, Keys, Count}
 use Rattle.cg_action.specs.Limits as action
+use Rattle.cg_action.specs.ActionLimits.{IsKey, IsValue, IsWant, IsCommand}
 use Rattle.cg_schedule.specs.declared.event.Event.{Event}
 use Rattle.cg_schedule.specs.declared.event.Event.TheVariants.{Start, Split, Merge, Request, Weak, Dirty, Order, Recover, Show, ShowOrder, Gather, End, Receive, Deliver, Rounds, Stop, Fail, Join, Leave, Transfer}
 use Rattle.cg_schedule.specs.declared.reader_state.ReaderState.{ReaderState}
@@ -25,18 +26,18 @@ use Rattle.cg_run.specs.UnderWay.{IsUnderWay, MayHappen, IsNext}
 text_within : (low high : ℕ) (t : List ℕ) → line.IsPrintable low high t → action.IsTextWithin low high t
 text_within low high t is = (is.0, is.2, is.3)
 
-key_within : (t : List ℕ) → action.IsKeyOf line.IsPrintable t → action.IsKey t
+key_within : (t : List ℕ) → action.IsKeyOf line.IsPrintable t → IsKey t
 key_within t is = text_within 1 64 t is
 
-value_within : (v : Value) → action.IsValueOf line.IsPrintable v → action.IsValue v
+value_within : (v : Value) → action.IsValueOf line.IsPrintable v → IsValue v
 value_within (Text t) is = text_within 0 1024 t is
 value_within (Int n) is = is
 
-want_within : (want : Option Value) → action.IsWantOf line.IsPrintable want → action.IsWant want
+want_within : (want : Option Value) → action.IsWantOf line.IsPrintable want → IsWant want
 want_within None is = tt
 want_within (Some v) is = value_within v is
 
-command_within : (cmd : Cmd) → action.IsCommandOf line.IsPrintable cmd → action.IsCommand cmd
+command_within : (cmd : Cmd) → action.IsCommandOf line.IsPrintable cmd → IsCommand cmd
 command_within (Put key value) is = (key_within key is.0, value_within value is.1)
 command_within (Del key) is = key_within key is
 command_within (Inc key by) is = (key_within key is.0, is.1)
@@ -56,7 +57,7 @@ asked_within (Some query) is = query_within query is
 update_within : (cmds : List Cmd) (query : Option Query) → line.IsUpdate cmds query → action.IsUpdate cmds query
 update_within cmds query is = record {
   few = is.few;
-  each = All-weaker (action.IsCommandOf line.IsPrintable) action.IsCommand command_within cmds is.each;
+  each = All-weaker (action.IsCommandOf line.IsPrintable) IsCommand command_within cmds is.each;
   asks = asked_within query is.asks;
   does = is.does;
 }

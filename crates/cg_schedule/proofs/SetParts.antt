@@ -1,12 +1,13 @@
 -- Sets are read as they are spelled.
-use Rattle.std.proofs.Common.{◌≡◌, ℕ, suc, ◌<◌, ◌≤◌, Bool, true, false, cond, ltb, List, [], ◌∷◌, ◌++◌, Result, Ok, Err, refl, sym, ap, ◌∙◌, append_assoc, arith}
+use Rattle.std.proofs.Common.{◌≡◌, ℕ, suc, ◌<◌, Bool, true, false, cond, ltb, List, [], ◌∷◌, ◌++◌, Result, Ok, Err, refl, sym, ap, ◌∙◌, append_assoc, arith}
 use Rattle.std.specs.Prelude.{decimal, map}
 use Rattle.std.proofs.lemmas.List.{append-nil}
-use Rattle.std.proofs.lemmas.Bool.{ne_eqb, le-ltb, lt-ltb, ltb-true}
+use Rattle.std.proofs.lemmas.Bool.{lt-ltb, ltb-true}
 use Rattle.cg_base.specs.declared.weighted.Weighted.{Weighted}
 use Rattle.cg_base.specs.Sets.{Ascends, IsSet, with_member}
 use Rattle.cg_base.specs.Weights.{IsWeightSet, Weigh, with_weight, ids as members}
 use Rattle.cg_base.specs.Text.{weighted_text}
+use Rattle.cg_base.specs.AscendingLaws.{AllBelow, AllBelow-more, AllBelow-next, with_member-last, with_weight-last}
 use Rattle.cg_schedule.specs.declared.fault.LineFault.{LineFault}
 use Rattle.cg_schedule.specs.Fault.{bad_list}
 use Rattle.cg_schedule.specs.Part.{number, weighted}
@@ -15,32 +16,6 @@ use Rattle.cg_schedule.specs.Limits.{IsWithin}
 use Rattle.cg_schedule.proofs.PartLaws.{Nothing, Given, IsToken, IsPart, given}
 use Rattle.cg_schedule.proofs.TokenParts.{TextFacts, number_token}
 use Rattle.cg_schedule.proofs.MemberParts.{weighted_token}
-
--- each number of the list is below p
-abbrev AllBelow : ℕ → List ℕ → Type 0
-AllBelow p [] = Unit {0}
-AllBelow p (q ∷ set) = (q < p) × AllBelow p set
-
-AllBelow-more : (p q : ℕ) (set : List ℕ) → p ≤ q → AllBelow p set → AllBelow q set
-AllBelow-more p q [] le below = tt
-AllBelow-more p q (r ∷ set) le below = (let first = below.0 in omega arith, AllBelow-more p q set le below.1)
-
-AllBelow-put : (p : ℕ) (set : List ℕ) → AllBelow p set → AllBelow (suc p) (set ++ p ∷ [])
-AllBelow-put p [] below = (omega arith, tt)
-AllBelow-put p (q ∷ set) below = (let first = below.0 in omega arith, AllBelow-put p set below.1)
-
--- a member above all others comes last
-with_member-last : (p : ℕ) (set : List ℕ) → AllBelow p set → with_member set p ≡ set ++ p ∷ []
-with_member-last p [] below = refl
-with_member-last p (q ∷ set) below =
-    let first = below.0 in
-    rw (ne_eqb p q (λ same. absurd (omega arith)), le-ltb p q (omega arith), with_member-last p set below.1) refl
-
-with_weight-last : (n : Weighted) (set : List Weighted) → AllBelow n.id (members set) → with_weight set n ≡ set ++ n ∷ []
-with_weight-last n [] below = refl
-with_weight-last n (m ∷ set) below =
-    let first = below.0 in
-    rw (ne_eqb n.id m.id (λ same. absurd (omega arith)), le-ltb n.id m.id (omega arith), with_weight-last n set below.1) refl
 
 members-put : (set : List Weighted) (n : Weighted) → members (set ++ n ∷ []) ≡ members set ++ n.id ∷ []
 members-put [] n = refl
@@ -56,8 +31,8 @@ unfolding ids
 ids-again facts last set [] below ascends = rw (append-nil set) refl
 ids-again facts last set (p ∷ rest) below ascends =
     let low = ascends.0 in
-    let last_one : with_member set p ≡ set ++ p ∷ [] = with_member-last p set (AllBelow-more (suc last) p set low below) in
-    let put : AllBelow (suc p) (set ++ p ∷ []) = AllBelow-put p set (AllBelow-more (suc last) p set low below) in
+    let last_one : with_member set p ≡ set ++ p ∷ [] = with_member-last set p (AllBelow-more set (suc last) p low below) in
+    let put : AllBelow (suc p) (set ++ p ∷ []) = AllBelow-next set p (AllBelow-more set (suc last) p low below) in
     let more = ids-again facts p (set ++ p ∷ []) rest put ascends.2 in
     rw ((identifiers facts).again p (omega arith, ascends.1), lt-ltb last p (omega arith), last_one, more, append_assoc set (p ∷ []) rest) refl
 
@@ -89,10 +64,10 @@ ids-found facts last set (token ∷ left) s new below e =
     let p = g.0 in
     let above = g.2 in
     let f = (identifiers facts).found p token g.1 in
-    let under : AllBelow p set = AllBelow-more (suc last) p set (omega arith) below in
-    let last_one = with_member-last p set under in
+    let under : AllBelow p set = AllBelow-more set (suc last) p (omega arith) below in
+    let last_one = with_member-last set p under in
     let next : ids p (set ++ p ∷ []) left ≡ Ok (s, new) = rw (← last_one) g.3 in
-    let more = ids-found facts p (set ++ p ∷ []) left s new (AllBelow-put p set under) next in
+    let more = ids-found facts p (set ++ p ∷ []) left s new (AllBelow-next set p under) next in
     record {
       rest = p ∷ more.rest;
       grown = more.grown ∙ append_assoc set (p ∷ []) more.rest;
@@ -122,10 +97,10 @@ unfolding weights
 weights-again facts last set [] below ascends weigh = rw (append-nil set) refl
 weights-again facts last set (m ∷ rest) below ascends weigh =
     let low = ascends.0 in
-    let under : AllBelow m.id (members set) = AllBelow-more (suc last) m.id (members set) low below in
-    let put : AllBelow (suc m.id) (members (set ++ m ∷ [])) = rw (members-put set m) (AllBelow-put m.id (members set) under) in
+    let under : AllBelow m.id (members set) = AllBelow-more (members set) (suc last) m.id low below in
+    let put : AllBelow (suc m.id) (members (set ++ m ∷ [])) = rw (members-put set m) (AllBelow-next (members set) m.id under) in
     let more = weights-again facts m.id (set ++ m ∷ []) rest put ascends.2 weigh.2 in
-    rw ((weighted_token facts).again m ((omega arith, ascends.1), (weigh.0, weigh.1)), lt-ltb last m.id (omega arith), with_weight-last m set under, more, append_assoc set (m ∷ []) rest) refl
+    rw ((weighted_token facts).again m ((omega arith, ascends.1), (weigh.0, weigh.1)), lt-ltb last m.id (omega arith), with_weight-last set m under, more, append_assoc set (m ∷ []) rest) refl
 
 record WeightsFound (last : ℕ) (set : List Weighted) (ts : List (List ℕ)) (s : List Weighted) (new : List (List ℕ)) : Type 0 where
   rest : List Weighted
@@ -156,9 +131,9 @@ weights-found facts last set (token ∷ left) s new below e =
     let m = g.0 in
     let above = g.2 in
     let f = (weighted_token facts).found m token g.1 in
-    let under : AllBelow m.id (members set) = AllBelow-more (suc last) m.id (members set) (omega arith) below in
-    let next : weights m.id (set ++ m ∷ []) left ≡ Ok (s, new) = rw (← with_weight-last m set under) g.3 in
-    let put : AllBelow (suc m.id) (members (set ++ m ∷ [])) = rw (members-put set m) (AllBelow-put m.id (members set) under) in
+    let under : AllBelow m.id (members set) = AllBelow-more (members set) (suc last) m.id (omega arith) below in
+    let next : weights m.id (set ++ m ∷ []) left ≡ Ok (s, new) = rw (← with_weight-last set m under) g.3 in
+    let put : AllBelow (suc m.id) (members (set ++ m ∷ [])) = rw (members-put set m) (AllBelow-next (members set) m.id under) in
     let more = weights-found facts m.id (set ++ m ∷ []) left s new put next in
     record {
       rest = m ∷ more.rest;

@@ -11,7 +11,8 @@ use Rattle.cg_text.specs.declared.fault.TextFault.{TextFault}
 use Rattle.cg_text.specs.Fault.{IsSpelling}
 use Rattle.cg_text.specs.Order.{same_text}
 use Rattle.cg_text.specs.Numbers.{read_u64, read_i64}
-use Rattle.cg_text.specs.Quoted.{quoted, is_printable, read_quoted}
+use Rattle.cg_text.specs.Quoted.{quoted, read_quoted}
+use Rattle.cg_text.specs.Printable.{is_printable}
 use Rattle.cg_action.specs.declared.value.Value.{Value}
 use Rattle.cg_action.specs.declared.value.Value.TheVariants.{Text, Int}
 use Rattle.cg_action.specs.Limits.{IsValueOf, IsWantOf}

@@ -4,7 +4,7 @@ use Rattle.std.specs.Str.{IsUtf8}
 use Rattle.cg_base.specs.Sets.{IsId, IsSet}
 use Rattle.cg_base.specs.Weights.{IsWeightSet}
 use Rattle.cg_base.specs.declared.weighted.Weighted.{Weighted}
-use Rattle.cg_text.specs.Quoted.{is_printable}
+use Rattle.cg_text.specs.Printable.{is_printable}
 use Rattle.cg_action.specs.Limits.{IsQueryOf, IsUpdateOf}
 use Rattle.cg_action.specs.declared.command.Cmd.{Cmd}
 use Rattle.cg_action.specs.declared.query.Query.{Query}

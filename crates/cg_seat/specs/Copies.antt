@@ -1,7 +1,7 @@
 -- A snapshot under way: the copy that its giver made, and the joiner that takes the pieces.
 use Rattle.std.specs.Prelude.{◌≡◌, ℕ, List, length, take}
 use Rattle.cg_client.specs.Replica.{Held}
-use Rattle.cg_db.specs.Map.{Ascends}
+use Rattle.cg_db.specs.Ascending.{Ascends}
 use Rattle.cg_disk.specs.Crashes.{IsNew}
 use Rattle.cg_disk.specs.View.{DiskView}
 use Rattle.cg_join.specs.Finishing.{Joining}

@@ -1,7 +1,6 @@
 //! What is seen of a replica with its disk.
 ghost use Rattle.std.specs.Prelude.{◌≡◌, ◌∷◌, [], IfOk, is_some};
 ghost use Rattle.cg_client.specs.Queries.{weak_answer, dirty_answer};
-ghost use Rattle.cg_queue.specs.Queue.{names_of};
 ghost use Rattle.cg_report.specs.declared.entry.Shown.TheVariants.{Weak as ShownWeak, Dirty as ShownDirty};
 ghost use Rattle.cg_agree.specs.World.{running};
 ghost use Rattle.cg_seat.specs.Calls.{line_in, is_gone, knows_left, knows_server, shows, shows_weak, shows_dirty};
@@ -9,9 +8,9 @@ ghost use Rattle.cg_seat.specs.Looks.{shown_in};
 
 use crate::Seat;
 use crate::life::Life;
-use cg_action::{Action, Query};
-use cg_base::{IdList, NoMemory, ReplicaId, Row};
-use cg_client::Core;
+use cg_action::Query;
+use cg_base::{NoMemory, ReplicaId, Row};
+use cg_client::{Core, names_of};
 use cg_group::Phase;
 use cg_report::{Line, Shown};
 use cg_show::up_line;
@@ -125,16 +124,6 @@ fn shown_in(alloc: Global, core: &Core) -> Result<Row<Shown>, NoMemory>
     shown.push(Shown::Greens { p, list })?;
     shown.push(Shown::Database { p, entries })?;
     Ok(shown)
-}
-
-fn names_of(alloc: Global, actions: &[Action]) -> Result<IdList, NoMemory>
-    ensures { IfOk result (λ ids. ids ≡ names_of actions.now) }
-{
-    let mut ids = Row::new(alloc);
-    for a in actions {
-        ids.push(a.id)?;
-    }
-    Ok(ids)
 }
 
 fn weak_in(alloc: Global, p: ReplicaId, core: &Core, query: &Query) -> Result<Row<Shown>, NoMemory>

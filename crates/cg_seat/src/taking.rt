@@ -3,7 +3,7 @@ ghost use Rattle.std.specs.Prelude.{◌≡◌, ◌+◌, ◌≤◌, ◌^◌, IfOk
 ghost use Rattle.cg_action.specs.Limits.{IsKind};
 ghost use Rattle.cg_action.specs.declared.action.Action.{Action};
 ghost use Rattle.cg_base.specs.declared.action_id.ActionId.{ActionId};
-ghost use Rattle.cg_client.specs.Requests.{kind_of};
+ghost use Rattle.cg_client.specs.Calls.{kind_of};
 ghost use Rattle.cg_replica.specs.Inputs.{input_of, HasLimits};
 ghost use Rattle.cg_step.specs.Recorded.{AreBooked};
 ghost use Rattle.cg_step.specs.Step.{Deliveries, Asks};

@@ -67,8 +67,8 @@ impl Lines {
     {
         let id = new.id;
         match place_of(self.list.as_slice(), id) {
-            Some(place) => {
-                self.list[place] = new;
+            Some(index) => {
+                self.list[index] = new;
                 Ok(())
             }
             None => {

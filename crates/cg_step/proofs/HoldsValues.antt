@@ -17,7 +17,8 @@ use Rattle.cg_records.specs.declared.primary.Primary.{Primary}
 use Rattle.cg_records.specs.declared.vulnerable.Vulnerable.{Vulnerable}
 use Rattle.cg_client.specs.Replica.{Held, fresh_held, created}
 use Rattle.cg_exchange.specs.PlanEnd.{with_name, usable_names}
-use Rattle.cg_client.specs.Whitening.{IsLineGreen, white_at}
+use Rattle.cg_client.specs.Whitening.{white_at}
+use Rattle.cg_client.specs.Calls.{IsLineGreen}
 use Rattle.cg_stored.specs.Stored.{whiten}
 use Rattle.cg_stored.specs.Following.{is_distinct, are_yellow}
 use Rattle.cg_stored.specs.Agreeing.{indexes_of}

@@ -13,7 +13,7 @@ use Rattle.cg_base.specs.ListLaws.{length-count_up}
 use Rattle.cg_base.specs.Sets.{IsId, Ascends, has}
 use Rattle.cg_base.specs.SetLaws.{each-replica}
 use Rattle.cg_action.specs.declared.action.Action.{Action}
-use Rattle.cg_action.specs.Limits.{IsAction}
+use Rattle.cg_action.specs.ActionLimits.{IsAction}
 use Rattle.cg_members.specs.declared.server.Server.{Server}
 use Rattle.cg_members.specs.Servers.{is_among}
 use Rattle.cg_members.specs.Laws.{NoLineAbove}

@@ -8,7 +8,8 @@ use Rattle.cg_base.specs.declared.action_id.ActionId.{ActionId}
 use Rattle.cg_base.specs.Cuts.{index_in, raise}
 use Rattle.cg_base.specs.Ids.{id_before}
 use Rattle.cg_base.specs.Lists.{count_up, above_up_to}
-use Rattle.cg_base.specs.Sets.{has, every_replica}
+use Rattle.cg_base.specs.Sets.{has}
+use Rattle.cg_base.specs.Replicas.{every_replica}
 use Rattle.cg_action.specs.declared.action.Action.{Action}
 use Rattle.cg_members.specs.declared.server.Server.{Server}
 use Rattle.cg_members.specs.Servers.{is_among}

@@ -1,16 +1,17 @@
 -- All that has to unfold for a replica's step and its commit to compute: a case names the last of these words alone.
 use Rattle.std.specs.Prelude.{⊤}
-use Rattle.cg_base.specs.Sets.{every_replica}
+use Rattle.cg_base.specs.Replicas.{every_replica}
 use Rattle.cg_codec.specs.Fields.{byte, number32, number64, signed64, truth, text}
 use Rattle.cg_db.specs.Apply.{run_commands}
-use Rattle.cg_records.specs.Bytes.{spelled_set, spelled_name, spelled_names, spelled_cut, spelled_weighted, spelled_weight_set, spelled_prim, spelled_vulnerable, spelled_yellow, spelled_stable}
+use Rattle.cg_records.specs.Bytes.{spelled_set, spelled_names, spelled_cut, spelled_weighted, spelled_weight_set, spelled_prim, spelled_vulnerable, spelled_yellow, spelled_stable}
 use Rattle.cg_records.specs.Same.{same_prim, same_vulnerable, same_record, same_yellow}
 use Rattle.cg_vote.specs.Quorum.{is_quorum}
 use Rattle.cg_knowledge.specs.Members.{senders, most_updated, lowest, gone, remaining}
 use Rattle.cg_knowledge.specs.Primary.{newest_index, newest, known_primary, known_attempt}
 use Rattle.cg_knowledge.specs.Yellow.{yellow_group, is_green_at_most, is_in_each, common_yellow}
 use Rattle.cg_knowledge.specs.Vulnerable.{all_bits, is_long_past, is_overtaken, is_ended_by_one, is_ended_by_all, is_cleared}
-use Rattle.cg_knowledge.specs.Verdict.{records_of, all_cleared, decides, verdict_of}
+use Rattle.cg_knowledge.specs.Verdict.{records_of, all_cleared, decides}
+use Rattle.cg_knowledge.specs.Calls.{verdict_of}
 use Rattle.cg_plan.specs.Items.{items_of_plan}
 use Rattle.cg_plan.specs.Plan.{of_remaining, least_greens, farthest, least_reds, reds_of, creators, plan_of}
 use Rattle.cg_plan.specs.Progress.{next_item, is_done, turn_of}
@@ -34,7 +35,7 @@ unfolding every_replica byte number32 number64 signed64 truth text run_commands
 values_compute = tt
 
 unfoldable pub records_compute : ⊤
-unfolding spelled_set spelled_name spelled_names spelled_cut spelled_weighted spelled_weight_set spelled_prim spelled_vulnerable spelled_yellow spelled_stable same_prim same_vulnerable same_record same_yellow
+unfolding spelled_set spelled_names spelled_cut spelled_weighted spelled_weight_set spelled_prim spelled_vulnerable spelled_yellow spelled_stable same_prim same_vulnerable same_record same_yellow
 records_compute = tt
 
 unfoldable pub knowledge_computes : ⊤

@@ -11,7 +11,7 @@ use Rattle.cg_group.specs.declared.delivery.Delivery.TheVariants.{Message}
 use Rattle.cg_queue.specs.Queue.{green_count}
 use Rattle.cg_records.specs.Limits.{Each}
 use Rattle.cg_client.specs.Replica.{Held, Replica, fresh_held}
-use Rattle.cg_client.specs.Whitening.{IsLineGreen}
+use Rattle.cg_client.specs.Calls.{IsLineGreen}
 use Rattle.cg_stored.specs.Stored.{Stored, stored_of, whiten, recover}
 use Rattle.cg_stored.specs.declared.change.Change.{Change}
 use Rattle.cg_stored.specs.Limits.{IsStored}

@@ -5,15 +5,17 @@ use Rattle.std.specs.List.{list_all}
 use Rattle.std.specs.Cmp.Lexicographic.{pointwise, same_text}
 use Rattle.std.proofs.lemmas.Bool.{cases_eq, cases_order, cases_lt, eq-eqb, ne_eqb, le-leb, lt-leb, and_parts}
 use Rattle.cg_base.specs.declared.action_id.ActionId.{ActionId}
-use Rattle.cg_base.specs.Sets.{IsId, Ascends, every_replica}
+use Rattle.cg_base.specs.Sets.{IsId, Ascends}
+use Rattle.cg_base.specs.Replicas.{every_replica}
 use Rattle.cg_base.specs.Lists.{count_up, above_up_to}
 use Rattle.cg_base.specs.ListLaws.{length-count_up}
-use Rattle.cg_base.specs.Cuts.{IsCut, NameActions, index_in, with_top, raise, creators_in}
+use Rattle.cg_base.specs.Cuts.{index_in, with_top, raise, creators_in}
+use Rattle.cg_base.specs.CutLimits.{IsCut, NameActions}
 use Rattle.cg_base.specs.CutLaws.{AreNames, index_in-before, index_in-raise, IsCut-raise, IsCut-raised}
 use Rattle.cg_base.specs.IdLaws.{same_name}
 use Rattle.cg_base.specs.SetLaws.{each-replica}
 use Rattle.cg_action.specs.declared.action.Action.{Action}
-use Rattle.cg_action.specs.Limits.{IsAction}
+use Rattle.cg_action.specs.ActionLimits.{IsAction}
 use Rattle.cg_queue.specs.Queue.{QueueView, names_of}
 use Rattle.cg_records.specs.Limits.{Each, IsIndex}
 use Rattle.cg_stored.specs.Agreeing.{indexes_of, count_to, counts_up}
@@ -175,7 +177,7 @@ module _ (cut : List ActionId) (actions : List Action) (below : List ActionId) (
       let count : length (indexes_of actions p) ≡ index_in cut p - (index_in cut p - length (indexes_of actions p)) = counts-length (index_in cut p) (indexes_of actions p) (lead p is_id) in
       led ∙ ap (λ ns. index_in below p + length ns) (sym (indexes-named actions p)) ∙ ap (λ n. n + length (indexes_of actions p)) (is.each p is_id) ∙ omega (arith, count))
 
--- ---- the cut below, made place by place
+-- ---- the cut below, made slot by slot
 
 index_in-small : (cut : List ActionId) (p : ℕ) → Each (λ top. IsIndex top.index) cut → index_in cut p < 2 ^ 63
 index_in-small [] p each = omega arith
@@ -206,11 +208,11 @@ raise_indexed cut id below all = at (cases_eq id.index 0)
     at (inl none) = rw (eq-eqb id.index 0 none) all
     at (inr some) = rw (ne_eqb id.index 0 some) (with_top_indexed cut id (omega (arith, some)) below all)
 
--- the same of the replicas up to a place, and nothing of the others
-pub record IsBelowTo (cut : List ActionId) (actions : List Action) (place : ℕ) (below : List ActionId) : Type 0 where
+-- the same of the replicas up to a slot, and nothing of the others
+pub record IsBelowTo (cut : List ActionId) (actions : List Action) (slot : ℕ) (below : List ActionId) : Type 0 where
   pub is_cut : IsCut below
   pub indexes : Each (λ top. IsIndex top.index) below
-  pub each : (p : ℕ) → IsId p → index_in below p ≡ cond (leb p place) (index_in cut p - length (indexes_of actions p)) 0
+  pub each : (p : ℕ) → IsId p → index_in below p ≡ cond (leb p slot) (index_in cut p - length (indexes_of actions p)) 0
 
 below-none : (cut : List ActionId) (actions : List Action) → IsBelowTo cut actions 0 []
 below-none cut actions = record {
@@ -219,33 +221,33 @@ below-none cut actions = record {
   each = λ p is. let low : 1 ≤ p = is.0 in rw (lt-leb p 0 (omega arith)) refl;
 }
 
-module _ (cut : List ActionId) (actions : List Action) (place : ℕ) (below : List ActionId) (few : place < 32) (small : Each (λ top. IsIndex top.index) cut) (so_far : IsBelowTo cut actions place below) where
+module _ (cut : List ActionId) (actions : List Action) (slot : ℕ) (below : List ActionId) (few : slot < 32) (small : Each (λ top. IsIndex top.index) cut) (so_far : IsBelowTo cut actions slot below) where
   abbrev front : ℕ → ℕ
   front p = index_in cut p - length (indexes_of actions p)
 
   abbrev next : ActionId
-  next = record { creator = place + 1; index = front (place + 1) }
+  next = record { creator = slot + 1; index = front (slot + 1) }
 
-  next-small : front (place + 1) < 2 ^ 63
-  next-small = let all = index_in-small cut (place + 1) small in omega (arith, all)
+  next-small : front (slot + 1) < 2 ^ 63
+  next-small = let all = index_in-small cut (slot + 1) small in omega (arith, all)
 
-  not-yet : index_in below (place + 1) ≡ 0
-  not-yet = so_far.each (place + 1) (omega arith, omega arith) ∙ rw (lt-leb (place + 1) place (omega arith)) refl
+  not-yet : index_in below (slot + 1) ≡ 0
+  not-yet = so_far.each (slot + 1) (omega arith, omega arith) ∙ rw (lt-leb (slot + 1) slot (omega arith)) refl
 
-  same-below : (p : ℕ) → place + 1 ≢ p → leb p place ≡ leb p (place + 1)
-  same-below p apart = elim (cases_lt p (place + 1)) [
-    | inl lower ↦ le-leb p place (omega (arith, lower)) ∙ sym (le-leb p (place + 1) (omega (arith, lower)))
-    | inr above ↦ lt-leb p place (omega (arith, above)) ∙ sym (lt-leb p (place + 1) (omega (arith, above, apart)))
+  same-below : (p : ℕ) → slot + 1 ≢ p → leb p slot ≡ leb p (slot + 1)
+  same-below p apart = elim (cases_lt p (slot + 1)) [
+    | inl lower ↦ le-leb p slot (omega (arith, lower)) ∙ sym (le-leb p (slot + 1) (omega (arith, lower)))
+    | inr above ↦ lt-leb p slot (omega (arith, above)) ∙ sym (lt-leb p (slot + 1) (omega (arith, above, apart)))
   ]
 
-  below-each : (p : ℕ) → IsId p → index_in (raise below next) p ≡ cond (leb p (place + 1)) (front p) 0
-  below-each p is = index_in-raise below next p so_far.is_cut ∙ elim (cases_eq (place + 1) p) [
-    | inl same ↦ subst (λ q. cond (eqb (place + 1) q) (max (index_in below q) (front (place + 1))) (index_in below q) ≡ cond (leb q (place + 1)) (front q) 0) same
-        (rw (eq-eqb (place + 1) (place + 1) refl, le-leb (place + 1) (place + 1) (omega arith), not-yet) (omega arith))
-    | inr apart ↦ rw (ne_eqb (place + 1) p apart) (so_far.each p is ∙ ap (λ b. cond b (front p) 0) (same-below p apart))
+  below-each : (p : ℕ) → IsId p → index_in (raise below next) p ≡ cond (leb p (slot + 1)) (front p) 0
+  below-each p is = index_in-raise below next p so_far.is_cut ∙ elim (cases_eq (slot + 1) p) [
+    | inl same ↦ subst (λ q. cond (eqb (slot + 1) q) (max (index_in below q) (front (slot + 1))) (index_in below q) ≡ cond (leb q (slot + 1)) (front q) 0) same
+        (rw (eq-eqb (slot + 1) (slot + 1) refl, le-leb (slot + 1) (slot + 1) (omega arith), not-yet) (omega arith))
+    | inr apart ↦ rw (ne_eqb (slot + 1) p apart) (so_far.each p is ∙ ap (λ b. cond b (front p) 0) (same-below p apart))
   ]
 
-  pub below-step : IsBelowTo cut actions (place + 1) (raise below next)
+  pub below-step : IsBelowTo cut actions (slot + 1) (raise below next)
   below-step = record {
     is_cut = IsCut-raise below next (omega arith, omega arith) (omega (arith, next-small)) so_far.is_cut;
     indexes = raise_indexed below next next-small so_far.indexes;
@@ -259,12 +261,12 @@ below-all cut actions below all = record {
   each = λ p is. all.each p is ∙ (let high : p ≤ 32 = is.1 in rw (le-leb p 32 high) refl);
 }
 
--- one place more, by the numbers that a call has
-pub below-made : (cut : List ActionId) (actions : List Action) (place id index : ℕ) (below new : List ActionId) → place < 32 → Each (λ top. IsIndex top.index) cut → IsBelowTo cut actions place below
-    → id ≡ place + 1 → index ≡ index_in cut id - length (indexes_of actions id) → new ≡ raise below (record { creator = id; index = index }) → IsBelowTo cut actions (place + 1) new
-below-made cut actions place id index below new few small so_far id_is index_is new_is =
-    let there : index ≡ index_in cut (place + 1) - length (indexes_of actions (place + 1)) = index_is ∙ ap (λ p. index_in cut p - length (indexes_of actions p)) id_is in
-    subst (λ c. IsBelowTo cut actions (place + 1) c) (sym (new_is ∙ (λ i. raise below (record { creator = id_is i; index = there i })))) (below-step cut actions place below few small so_far)
+-- one slot more, by the numbers that a call has
+pub below-made : (cut : List ActionId) (actions : List Action) (slot id index : ℕ) (below new : List ActionId) → slot < 32 → Each (λ top. IsIndex top.index) cut → IsBelowTo cut actions slot below
+    → id ≡ slot + 1 → index ≡ index_in cut id - length (indexes_of actions id) → new ≡ raise below (record { creator = id; index = index }) → IsBelowTo cut actions (slot + 1) new
+below-made cut actions slot id index below new few small so_far id_is index_is new_is =
+    let there : index ≡ index_in cut (slot + 1) - length (indexes_of actions (slot + 1)) = index_is ∙ ap (λ p. index_in cut p - length (indexes_of actions p)) id_is in
+    subst (λ c. IsBelowTo cut actions (slot + 1) c) (sym (new_is ∙ (λ i. raise below (record { creator = id_is i; index = there i })))) (below-step cut actions slot below few small so_far)
 
 -- ---- what a checkpoint says of its greens and reds
 

@@ -2,7 +2,8 @@
 use Rattle.std.specs.Prelude.{◌≡◌, ℕ, suc, ◌-◌, true, List, [], ◌∷◌, length}
 use Rattle.cg_base.specs.declared.action_id.ActionId.{ActionId}
 use Rattle.cg_base.specs.Sets.{IsId}
-use Rattle.cg_base.specs.Cuts.{IsCut, index_in, raise}
+use Rattle.cg_base.specs.Cuts.{index_in, raise}
+use Rattle.cg_base.specs.CutLimits.{IsCut}
 use Rattle.cg_action.specs.declared.action.Action.{Action}
 use Rattle.cg_records.specs.Limits.{Each, IsIndex}
 use Rattle.cg_stored.specs.Agreeing.{indexes_of, count_to}

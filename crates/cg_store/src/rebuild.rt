@@ -1,6 +1,6 @@
 //! What a replica holds, rebuilt from a checkpoint.
 ghost use Rattle.std.specs.Prelude.{◌≡◌, fold, IfOk, OnOk};
-ghost use Rattle.cg_action.specs.Limits.{IsAction};
+ghost use Rattle.cg_action.specs.ActionLimits.{IsAction};
 ghost use Rattle.cg_queue.specs.Queue.{names_of};
 ghost use Rattle.cg_records.specs.Limits.{Each};
 ghost use Rattle.cg_stored.specs.Laws.{AreSaved};

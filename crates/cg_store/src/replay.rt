@@ -2,10 +2,10 @@
 ghost use Rattle.std.specs.Prelude.{◌≡◌, ◌==◌, ◌&&◌, suc, true, IfOk, OnOk, Some};
 ghost use Rattle.cg_client.specs.Replica.{created};
 ghost use Rattle.std.specs.List.{list_all};
-ghost use Rattle.cg_action.specs.Limits.{IsAction};
+ghost use Rattle.cg_action.specs.ActionLimits.{IsAction};
 ghost use Rattle.cg_base.specs.Ids.{names};
 ghost use Rattle.cg_client.specs.Marks.{is_first};
-ghost use Rattle.cg_client.specs.Whitening.{IsLineGreen};
+ghost use Rattle.cg_client.specs.Calls.{IsLineGreen};
 ghost use Rattle.cg_queue.specs.Queue.{names_of};
 ghost use Rattle.cg_records.specs.Limits.{Each};
 ghost use Rattle.cg_stored.specs.Following.{after_change, fits_known, know, green_by_name, make, all_of, are_yellow, put_values, with_values};

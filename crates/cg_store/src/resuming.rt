@@ -1,6 +1,6 @@
 //! What a replica holds that begins with greens alone.
 ghost use Rattle.std.specs.Prelude.{◌≡◌, fold, IfOk, OnOk};
-ghost use Rattle.cg_action.specs.Limits.{IsAction};
+ghost use Rattle.cg_action.specs.ActionLimits.{IsAction};
 ghost use Rattle.cg_db.specs.Limits.{AreEntries};
 ghost use Rattle.cg_queue.specs.Queue.{names_of};
 ghost use Rattle.cg_records.specs.Limits.{Each, IsSmallCut};
@@ -82,8 +82,8 @@ fn cut_below(cut: &Cut, greens: &[Action]) -> Cut
     ensures { IsBelow cut.now greens.now result }
 {
     let mut below = Cut::zero();
-    for place in 0..32 {
-        let id = ReplicaId::known(place + 1);
+    for slot in 0..32 {
+        let id = ReplicaId::known(slot + 1);
         below.raise(id, cut.get(id).saturating_sub(count_of(greens, id)));
     }
     below

@@ -102,7 +102,7 @@ fn paired<D: Disk>(
 impl<D: Disk> Store<D> {
     ghost use Rattle.std.specs.Prelude.{IfOk, OnOk, IfSome, Some, length, ℕ};
     ghost use Rattle.cg_base.specs.Choice.{Either};
-    ghost use Rattle.cg_action.specs.Limits.{IsAction};
+    ghost use Rattle.cg_action.specs.ActionLimits.{IsAction};
     ghost use Rattle.cg_disk.specs.Calls.{Begins as DiskBegins};
     ghost use Rattle.cg_journal.specs.Records.{records};
     ghost use Rattle.cg_journal.specs.Opens.{no_records};

@@ -12,10 +12,11 @@ use Rattle.cg_base.specs.declared.action_id.ActionId.{ActionId}
 use Rattle.cg_base.specs.Ids.{same_id, names}
 use Rattle.cg_base.specs.Cuts.{index_in, raise, with_top}
 use Rattle.cg_base.specs.Lists.{count_up, above_up_to}
-use Rattle.cg_base.specs.Sets.{IsId, every_replica}
+use Rattle.cg_base.specs.Sets.{IsId}
+use Rattle.cg_base.specs.Replicas.{every_replica}
 use Rattle.cg_base.specs.SetLaws.{each-replica}
 use Rattle.cg_action.specs.declared.action.Action.{Action}
-use Rattle.cg_action.specs.Limits.{IsAction}
+use Rattle.cg_action.specs.ActionLimits.{IsAction}
 use Rattle.cg_queue.specs.Queue.{green_count, names_of}
 use Rattle.cg_client.specs.Replica.{last_index, created}
 use Rattle.cg_client.specs.ReplicaLaws.{last_index-get}

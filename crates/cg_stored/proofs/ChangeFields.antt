@@ -11,7 +11,8 @@ use Rattle.cg_codec.specs.Taking.{Decodes}
 use Rattle.cg_codec.specs.Laws.{IsField, IsWhole, AreBytes}
 use Rattle.cg_codec.specs.FieldLaws.{field_bind, field_map, field_whole}
 use Rattle.cg_action.specs.declared.action.Action.{Action}
-use Rattle.cg_action.specs.Bytes.{spelled_id, spelled_action}
+use Rattle.cg_codec.specs.Fields.{spelled_id}
+use Rattle.cg_action.specs.Bytes.{spelled_action}
 use Rattle.cg_records.specs.declared.stable.Stable.{Stable}
 use Rattle.cg_records.specs.Limits.{IsStable}
 use Rattle.cg_records.specs.Bytes.{spelled_stable}

@@ -9,7 +9,7 @@ use Rattle.cg_codec.specs.ShapeLaws.{field_three}
 use Rattle.cg_action.specs.declared.action.Action.{Action}
 use Rattle.cg_action.specs.Bytes.{spelled_action}
 use Rattle.cg_db.specs.declared.entry.DbEntry.{DbEntry}
-use Rattle.cg_members.specs.declared.members.Members.{Members}
+use Rattle.cg_members.specs.Members.{Members}
 use Rattle.cg_records.specs.declared.stable.Stable.{Stable}
 use Rattle.cg_records.specs.Limits.{IsNumber, IsSmallCut, IsStable}
 use Rattle.cg_records.specs.Bytes.{spelled_cut, spelled_stable}

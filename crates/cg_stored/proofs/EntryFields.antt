@@ -18,12 +18,13 @@ use Rattle.cg_codec.specs.ListLaws.{field_list}
 use Rattle.cg_codec.specs.ShapeLaws.{field_two}
 use Rattle.cg_text.specs.Order.{same_text, text_before}
 use Rattle.cg_action.specs.declared.value.Value.{Value}
-use Rattle.cg_action.specs.Limits.{IsKey, IsValue}
+use Rattle.cg_action.specs.ActionLimits.{IsKey, IsValue}
 use Rattle.cg_action.specs.Bytes.{spelled_value}
 use Rattle.cg_action.specs.Reading.{is_key, key_reading, value_reading}
 use Rattle.cg_action.specs.ValueLaws.{key_field, value_field}
 use Rattle.cg_db.specs.declared.entry.DbEntry.{DbEntry}
-use Rattle.cg_db.specs.Map.{IsBefore, Ascends, value_of, put, keys}
+use Rattle.cg_db.specs.Map.{value_of, put, keys}
+use Rattle.cg_db.specs.Ascending.{IsBefore, Ascends}
 use Rattle.cg_db.specs.Limits.{AreEntries}
 use Rattle.cg_db.specs.View.{entry_at}
 use Rattle.cg_db.specs.EntryLaws.{found_all}

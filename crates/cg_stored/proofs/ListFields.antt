@@ -10,8 +10,9 @@ use Rattle.cg_codec.specs.FieldLaws.{field_has}
 use Rattle.cg_codec.specs.PlainLaws.{count_field}
 use Rattle.cg_codec.specs.ListLaws.{field_list}
 use Rattle.cg_action.specs.declared.action.Action.{Action}
-use Rattle.cg_action.specs.Limits.{IsActionId, IsAction}
-use Rattle.cg_action.specs.Bytes.{spelled_id, spelled_action}
+use Rattle.cg_action.specs.ActionLimits.{IsActionId, IsAction}
+use Rattle.cg_codec.specs.Fields.{spelled_id}
+use Rattle.cg_action.specs.Bytes.{spelled_action}
 use Rattle.cg_action.specs.Reading.{id_reading, action_reading}
 use Rattle.cg_action.specs.ValueLaws.{id_field}
 use Rattle.cg_action.specs.KindLaws.{action_field}

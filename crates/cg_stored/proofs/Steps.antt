@@ -1,7 +1,7 @@
 -- Steps of calls that write one part behind the other.
 use Rattle.std.proofs.Common.{◌≡◌, ℕ, List, ◌++◌}
 use Rattle.std.specs.Prelude.{Result, Ok, Err, OnErr}
-use Rattle.cg_base.specs.Text.{KeepsFront}
+use Rattle.cg_base.specs.Fronts.{KeepsFront}
 use Rattle.cg_base.specs.TextLaws.{KeepsFront-less}
 
 -- what was there before a part was put is at the front, if the next step keeps what there was then

@@ -2,7 +2,8 @@
 use Rattle.std.specs.Prelude.{ℕ, List, ◌++◌}
 use Rattle.cg_codec.specs.Fields.{list}
 use Rattle.cg_action.specs.declared.action.Action.{Action}
-use Rattle.cg_action.specs.Bytes.{spelled_id, spelled_action}
+use Rattle.cg_codec.specs.Fields.{spelled_id}
+use Rattle.cg_action.specs.Bytes.{spelled_action}
 use Rattle.cg_records.specs.Bytes.{spelled_stable}
 use Rattle.cg_client.specs.Turn.{Turn}
 use Rattle.cg_stored.specs.declared.change.Change.{Change}

@@ -2,11 +2,11 @@
 use Rattle.std.specs.Prelude.{◌<◌, ◌^◌, List, length}
 use Rattle.cg_base.specs.Sets.{IsId, IsSet}
 use Rattle.cg_action.specs.declared.action.Action.{Action}
-use Rattle.cg_action.specs.Limits.{IsAction, IsActionId}
+use Rattle.cg_action.specs.ActionLimits.{IsAction, IsActionId}
 use Rattle.cg_db.specs.declared.entry.DbEntry.{DbEntry}
-use Rattle.cg_db.specs.Map.{Ascends}
+use Rattle.cg_db.specs.Ascending.{Ascends}
 use Rattle.cg_db.specs.Limits.{AreEntries}
-use Rattle.cg_members.specs.declared.members.Members.{Members}
+use Rattle.cg_members.specs.Members.{Members}
 use Rattle.cg_members.specs.Listed.{AreServers}
 use Rattle.cg_queue.specs.Queue.{QueueView, green_count}
 use Rattle.cg_records.specs.Limits.{Each, IsNumber, IsSmallCut, IsStable}

@@ -1,10 +1,10 @@
 -- What is within the limits of a record is a cut, or names of actions.
 use Rattle.std.proofs.Common.{◌^◌, ◌<◌, List, [], ◌∷◌, arith}
 use Rattle.cg_base.specs.declared.action_id.ActionId.{ActionId}
-use Rattle.cg_base.specs.Cuts.{IsCut, NameActions}
+use Rattle.cg_base.specs.CutLimits.{IsCut, NameActions}
 use Rattle.cg_base.specs.CutLaws.{AreNames}
 use Rattle.cg_action.specs.declared.action.Action.{Action}
-use Rattle.cg_action.specs.Limits.{IsAction}
+use Rattle.cg_action.specs.ActionLimits.{IsAction}
 use Rattle.cg_queue.specs.Queue.{names_of}
 use Rattle.cg_records.specs.Limits.{Each, IsIndex, IsSmallCut}
 

@@ -6,7 +6,7 @@ use Rattle.cg_base.specs.declared.action_id.ActionId.{ActionId}
 use Rattle.cg_base.specs.Ids.{id_before}
 use Rattle.cg_base.specs.Cuts.{index_in, raise}
 use Rattle.cg_base.specs.Lists.{above_up_to}
-use Rattle.cg_base.specs.Sets.{every_replica}
+use Rattle.cg_base.specs.Replicas.{every_replica}
 use Rattle.cg_codec.specs.declared.fault.CodecFault.{CodecFault}
 use Rattle.cg_codec.specs.Reading.{whole}
 use Rattle.cg_action.specs.declared.action.Action.{Action}

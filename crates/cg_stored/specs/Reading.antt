@@ -7,7 +7,7 @@ use Rattle.cg_action.specs.declared.action.Action.{Action}
 use Rattle.cg_action.specs.Reading.{id_reading, key_reading, value_reading, action_reading}
 use Rattle.cg_db.specs.declared.entry.DbEntry.{DbEntry}
 use Rattle.cg_members.specs.declared.server.Server.{Server}
-use Rattle.cg_members.specs.declared.members.Members.{Members}
+use Rattle.cg_members.specs.Members.{Members}
 use Rattle.cg_members.specs.Listed.{server_ids}
 use Rattle.cg_records.specs.Reading.{take_number, take_id_above, last_of, take_set, take_cut, take_stable, take_weight}
 use Rattle.cg_stored.specs.declared.change.Change.{Change}

@@ -6,7 +6,7 @@ ghost use Rattle.std.specs.Cmp.Lexicographic.{pointwise};
 ghost use Rattle.cg_base.specs.Cuts.{raise};
 ghost use Rattle.cg_base.specs.Ids.{names};
 ghost use Rattle.cg_base.specs.Lists.{above_up_to};
-ghost use Rattle.cg_base.specs.Sets.{every_replica};
+ghost use Rattle.cg_base.specs.Replicas.{every_replica};
 ghost use Rattle.cg_client.specs.Replica.{last_index};
 ghost use Rattle.cg_stored.specs.Parts.{next_index, red_cut_of, queue_in, greens_agree, is_before_first, is_between, yellow_agrees, are_own_between, names_agree, do_agree};
 ghost use Rattle.cg_stored.specs.Following.{is_distinct};
@@ -40,15 +40,15 @@ impl Checkpoint {
         let kept = self.kept.greens.len() as u64;
         is_sum(r.count, r.white, kept)
             && counts(&r.cut, r.count)
-            && are_present(&r.members.servers, r.members.left, r.count)
+            && are_present(r.members.servers(), r.members.left(), r.count)
     }
 
     fn creators_agree(&self) -> bool
         ensures { result ≡ list_all (counts_up (queue_in self.now)) every_replica }
     {
         let red_cut = self.red_cut();
-        for place in 0..32 {
-            if !self.counts_up(ReplicaId::known(place + 1), &red_cut) {
+        for slot in 0..32 {
+            if !self.counts_up(ReplicaId::known(slot + 1), &red_cut) {
                 return false;
             }
         }

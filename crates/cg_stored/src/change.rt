@@ -1,8 +1,8 @@
 ghost use Rattle.std.specs.Prelude.{◌≡◌, ◌++◌, ◌+◌, ◌<◌, ◌^◌, IsTrue, OnOk, OnErr, IfOk};
-ghost use Rattle.cg_base.specs.Text.{KeepsFront};
+ghost use Rattle.cg_base.specs.Fronts.{KeepsFront};
 ghost use Rattle.cg_codec.specs.Reading.{whole};
 ghost use Rattle.cg_codec.specs.Taking.{unread_of, TakesWithMemory, Decodes};
-ghost use Rattle.cg_action.specs.Limits.{IsAction, IsActionId};
+ghost use Rattle.cg_action.specs.ActionLimits.{IsAction, IsActionId};
 ghost use Rattle.cg_records.specs.Limits.{Each, IsStable};
 ghost use Rattle.cg_stored.specs.Change.{spelled_change};
 ghost use Rattle.cg_stored.specs.Limits.{IsChange};

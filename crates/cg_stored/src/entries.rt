@@ -1,11 +1,11 @@
 //! The entries of a database in bytes.
 
 ghost use Rattle.std.specs.Prelude.{◌≡◌, ◌≢◌, ◌++◌, flat_map, OnOk, OnErr, Result, Ok, Err};
-ghost use Rattle.cg_base.specs.Text.{KeepsFront};
+ghost use Rattle.cg_base.specs.Fronts.{KeepsFront};
 ghost use Rattle.cg_codec.specs.Fields.{list};
 ghost use Rattle.cg_codec.specs.Taking.{unread_of, Takes, TakesWithMemory};
 ghost use Rattle.cg_text.specs.Order.{text_before};
-ghost use Rattle.cg_action.specs.Limits.{IsKey};
+ghost use Rattle.cg_action.specs.ActionLimits.{IsKey};
 ghost use Rattle.cg_db.specs.Map.{value_of};
 ghost use Rattle.cg_db.specs.View.{entry_at};
 ghost use Rattle.cg_db.specs.Limits.{AreEntries};

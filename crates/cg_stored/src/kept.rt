@@ -2,9 +2,9 @@
 
 ghost use Rattle.std.specs.Prelude.{◌≡◌, ◌≤◌, ◌<◌, ◌^◌, ◌++◌, length, slice_get, OnOk, OnErr, IfSome, MatchOption};
 ghost use Rattle.std.specs.Option.{option_copied};
-ghost use Rattle.cg_base.specs.Text.{KeepsFront};
+ghost use Rattle.cg_base.specs.Fronts.{KeepsFront};
 ghost use Rattle.cg_codec.specs.Fields.{list};
-ghost use Rattle.cg_action.specs.Limits.{IsAction};
+ghost use Rattle.cg_action.specs.ActionLimits.{IsAction};
 ghost use Rattle.cg_action.specs.Bytes.{spelled_action};
 ghost use Rattle.cg_stored.specs.Kept.{list_in, spelled_next};
 ghost use Rattle.cg_stored.specs.Limits.{AreActions};
@@ -42,7 +42,7 @@ fn small(count: u64) -> Option<u32>
     Some(count as u32)
 }
 
-// the action at a place of the list, counted from 0
+// the action at an index of the list
 fn action_at(core: &Core, which: KeptList, i: u32) -> Option<&Action>
     ensures { option_copied result ≡ slice_get (list_in core.now which) i }
 {

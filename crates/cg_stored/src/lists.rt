@@ -1,18 +1,18 @@
 //! Lists of actions and of their names in bytes.
 
 ghost use Rattle.std.specs.Prelude.{◌≡◌, ◌++◌, flat_map, OnOk, OnErr};
-ghost use Rattle.cg_base.specs.Text.{KeepsFront};
-ghost use Rattle.cg_codec.specs.Fields.{list};
+ghost use Rattle.cg_base.specs.Fronts.{KeepsFront};
+ghost use Rattle.cg_codec.specs.Fields.{list, spelled_id};
 ghost use Rattle.cg_codec.specs.Taking.{unread_of, TakesWithMemory};
 ghost use Rattle.cg_records.specs.Limits.{Each};
-ghost use Rattle.cg_action.specs.Limits.{IsAction, IsActionId};
-ghost use Rattle.cg_action.specs.Bytes.{spelled_action, spelled_id};
+ghost use Rattle.cg_action.specs.ActionLimits.{IsAction, IsActionId};
+ghost use Rattle.cg_action.specs.Bytes.{spelled_action};
 ghost use Rattle.cg_stored.specs.Limits.{IsShort, AreActions};
 ghost use Rattle.cg_stored.specs.Reading.{actions_reading, ids_reading};
 
-use cg_action::{Action, ActionList, put_action, put_action_id, take_action, take_action_id};
+use cg_action::{Action, ActionList, put_action, take_action, take_action_id};
 use cg_base::{ActionId, IdList, NoMemory, Row};
-use cg_codec::{CodecFault, Fields, put_u32};
+use cg_codec::{CodecFault, Fields, put_action_id, put_u32};
 use std::alloc::Global;
 
 // A list has room for at most so many things before any was read: the number in front of them may be wrong.

@@ -1,7 +1,7 @@
 //! How far the greens of a replica reach, in bytes.
 
 ghost use Rattle.std.specs.Prelude.{◌≡◌, ◌++◌, OnOk, OnErr};
-ghost use Rattle.cg_base.specs.Text.{KeepsFront};
+ghost use Rattle.cg_base.specs.Fronts.{KeepsFront};
 ghost use Rattle.cg_codec.specs.Taking.{unread_of, TakesWithMemory};
 ghost use Rattle.cg_stored.specs.Checkpoint.{spelled_reached};
 ghost use Rattle.cg_stored.specs.Reading.{reached_reading};
@@ -65,6 +65,6 @@ fn write_reached(
     put_u64(out, count)?;
     put_u64(out, white)?;
     put_cut(out, cut)?;
-    put_servers(out, &members.servers)?;
-    put_set(out, &members.left)
+    put_servers(out, members.servers())?;
+    put_set(out, &members.left())
 }

@@ -1,7 +1,7 @@
 //! Members in bytes.
 
 ghost use Rattle.std.specs.Prelude.{◌≡◌, ◌++◌, OnOk, OnErr};
-ghost use Rattle.cg_base.specs.Text.{KeepsFront};
+ghost use Rattle.cg_base.specs.Fronts.{KeepsFront};
 ghost use Rattle.cg_codec.specs.Fields.{list};
 ghost use Rattle.cg_codec.specs.Taking.{unread_of, Takes};
 ghost use Rattle.cg_stored.specs.Checkpoint.{spelled_server};
@@ -20,7 +20,7 @@ pub(crate) fn take_members(fields: &mut Fields<'_>) -> Result<Members, CodecFaul
     let servers = take_servers(&mut after)?;
     let left = take_set(&mut after)?;
     *fields = after;
-    Ok(Members { servers, left })
+    Ok(Members::of(servers, left))
 }
 
 #[tactic(auto, unfolding(crate::specs::Reading::servers_reading))]

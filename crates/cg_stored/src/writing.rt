@@ -1,7 +1,7 @@
 //! A checkpoint of what a replica holds.
 
 ghost use Rattle.std.specs.Prelude.{◌≡◌, ◌<◌, ◌^◌, ◌++◌, OnOk, OnErr, IfOk};
-ghost use Rattle.cg_base.specs.Text.{KeepsFront};
+ghost use Rattle.cg_base.specs.Fronts.{KeepsFront};
 ghost use Rattle.cg_stored.specs.Stored.{stable_of};
 ghost use Rattle.cg_stored.specs.Checkpoint.{reached_of, kept_of, spelled_reached, spelled_kept, spelled_checkpoint};
 ghost use Rattle.cg_stored.specs.Limits.{IsStored, HaveShortLists};
@@ -46,8 +46,8 @@ fn within_limits(core: &Core) -> Result<Stable, NoMemory>
     let _own = core.own_at(0);
     let _entries = core.db().count();
     let members = core.members();
-    let _servers = members.servers.iter();
-    let _left = members.left.count();
+    let _servers = members.servers().iter();
+    let _left = members.left().count();
     Ok(stable)
 }
 

@@ -8,7 +8,8 @@ use Rattle.std.proofs.lemmas.Option.{cond_some, none-some, same_Some, option_and
 use Rattle.std.proofs.lemmas.Str.{IsUtf8-from_is_utf8, is_utf8-from_IsUtf8}
 use Rattle.cg_text.specs.declared.fault.TextFault.TheVariants.{BadQuote, TooLong}
 use Rattle.cg_text.specs.Fault.{IsSpelling}
-use Rattle.cg_text.specs.Quoted.{is_special, is_control, escaped, quoted, is_printable, closed, onto, kept, text_up_to_quote, text_between, if_text, quoted_text, read_quoted}
+use Rattle.cg_text.specs.Quoted.{is_special, is_control, escaped, quoted, closed, onto, kept, text_up_to_quote, text_between, if_text, quoted_text, read_quoted}
+use Rattle.cg_text.specs.Printable.{is_printable}
 use Rattle.cg_text.proofs.NumberLaws.{fitting-ok}
 use Rattle.cg_text.proofs.Scanning.{one_of}
 

@@ -2,4 +2,5 @@ pub mod Order
 pub mod Fault
 pub mod Numbers
 pub mod Quoted
+pub mod Printable
 pub mod Tokens

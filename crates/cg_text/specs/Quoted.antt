@@ -1,6 +1,5 @@
 -- Texts between quotes.
 use Rattle.std.specs.Prelude.{ℕ, ◌==◌, nat_lt, nat_le, Bool, false, ◌||◌, ◌&&◌, not, List, [], ◌∷◌, ◌++◌, flat_map, length, Option, Some, None, Result, option_map, option_and_then, if◌then◌else◌}
-use Rattle.std.specs.List.{list_all}
 use Rattle.std.specs.Str.{is_utf8}
 use Rattle.cg_text.specs.declared.fault.TextFault.{TextFault}
 use Rattle.cg_text.specs.declared.fault.TextFault.TheVariants.{BadQuote, TooLong}
@@ -21,10 +20,6 @@ escaped byte = if is_special byte then 92 ∷ byte ∷ [] else byte ∷ []
 -- a text between quotes
 abbrev pub quoted : List ℕ → List ℕ
 quoted text = 34 ∷ flat_map escaped text ++ 34 ∷ []
-
--- the text has a spelling that is read
-abbrev pub is_printable : List ℕ → Bool
-is_printable text = list_all (λ byte. not (is_control byte)) text
 
 -- nothing may stand behind the closing quote
 abbrev pub closed : List ℕ → Option (List ℕ)

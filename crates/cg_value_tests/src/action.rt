@@ -1,6 +1,6 @@
 //! Actions: their bytes, with what they do as lines show it, and what is at fault in other bytes.
 
-ghost use Rattle.cg_action.specs.Limits.{IsAction};
+ghost use Rattle.cg_action.specs.ActionLimits.{IsAction};
 
 use crate::bytes::{bytes_of, changed, say_fault};
 use crate::table::{follows, parts, say, say_shown};

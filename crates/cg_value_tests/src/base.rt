@@ -13,8 +13,9 @@ const IDENTIFIERS: &str = "no;yes;yes;no;no;32;";
 // 1:9 before 2:1, 2:1 before 2:2, 2:1 before itself; and by the operator 1:9 before 2:1
 const NAMES: &str = "yes;yes;no;yes;";
 
-// {1,32} and {5,32}: the first one, both, what they share, the first without the other, and the first without 32
-const SETS: &str = "{1,32}{1,5,32}{32}{1}{1}";
+// {1,32} and {5,32}: the first one, both, what they share, the first without the other, and the first without 32;
+// and that of 32 alone
+const SETS: &str = "{1,32}{1,5,32}{32}{1}{1}{32}";
 
 // of {1,32}: how many, the least, the greatest, those after 1, 31 and 32, and whether 32 is a member, and 2
 const MEMBERS: &str = "2;1;32;32;32;none;yes;no;";
@@ -131,6 +132,7 @@ fn sets_of_two(rt: HostRuntime) {
     say_set(&mut out, set.common(&other));
     say_set(&mut out, set.without(&other));
     say_set(&mut out, less());
+    say_set(&mut out, IdSet::single(id(32)));
     is(&rt, out.as_slice(), SETS);
 }
 

@@ -1,5 +1,5 @@
 -- Weighted dynamic linear voting.
-use Rattle.std.specs.Prelude.{ℕ, ◌*◌, ◌==◌, nat_lt, Bool, false, IsTrue, ◌&&◌, ◌||◌, List}
+use Rattle.std.specs.Prelude.{ℕ, ◌*◌, ◌==◌, nat_lt, Bool, false, ◌&&◌, ◌||◌, List}
 use Rattle.std.specs.Option.{option_map_or}
 use Rattle.cg_base.specs.declared.weighted.Weighted.{Weighted}
 use Rattle.cg_base.specs.Sets.{has, least}
@@ -20,10 +20,3 @@ has_least last here = option_map_or (has here) (least (ids last)) false
 -- those present are a quorum: they have more than half, or exactly half with the least member
 unfoldable pub is_quorum : List Weighted → List ℕ → Bool
 is_quorum last here = has_more_than_half last here || (has_half last here && has_least last here)
-
--- some member of the set is in both of the others
-pub record ShareMember (set : List Weighted) (one other : List ℕ) : Type 0 where
-  pub member : ℕ
-  pub is_member : IsTrue (has (ids set) member)
-  pub is_in_one : IsTrue (has one member)
-  pub is_in_other : IsTrue (has other member)

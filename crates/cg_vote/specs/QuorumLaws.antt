@@ -6,7 +6,8 @@ use Rattle.std.proofs.lemmas.List.Sums.{sum_by-cons}
 use Rattle.cg_base.specs.declared.weighted.Weighted.{Weighted}
 use Rattle.cg_base.specs.Sets.{has}
 use Rattle.cg_base.specs.Weights.{ids, total, total_of}
-use Rattle.cg_vote.specs.Quorum.{has_more_than_half, has_half, has_least, is_quorum, ShareMember}
+use Rattle.cg_vote.specs.Quorum.{has_more_than_half, has_half, has_least, is_quorum}
+use Rattle.cg_vote.specs.Sharing.{ShareMember}
 
 -- what a member weighs among those present
 abbrev weight_here : Weighted → List ℕ → ℕ

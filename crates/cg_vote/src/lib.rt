@@ -7,7 +7,8 @@
 
 ghost use Rattle.std.specs.Prelude.{◌≡◌, ℕ, List, [], IsTrue, false};
 ghost use Rattle.cg_base.specs.declared.weighted.Weighted.{Weighted};
-ghost use Rattle.cg_vote.specs.Quorum.{is_quorum, ShareMember};
+ghost use Rattle.cg_vote.specs.Quorum.{is_quorum};
+ghost use Rattle.cg_vote.specs.Sharing.{ShareMember};
 
 use cg_base::{IdSet, WeightSet};
 

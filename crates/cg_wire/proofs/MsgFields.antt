@@ -9,7 +9,7 @@ use Rattle.cg_codec.specs.Laws.{IsField, IsWhole, AreBytes}
 use Rattle.cg_codec.specs.FieldLaws.{field_whole}
 use Rattle.cg_codec.specs.ShapeLaws.{field_tagged, variant_of_one, variant_of_two}
 use Rattle.cg_action.specs.declared.action.Action.{Action as ActionValue}
-use Rattle.cg_action.specs.Limits.{IsAction}
+use Rattle.cg_action.specs.ActionLimits.{IsAction}
 use Rattle.cg_action.specs.Bytes.{spelled_action}
 use Rattle.cg_action.specs.Reading.{action_reading}
 use Rattle.cg_records.specs.Limits.{IsNumber}

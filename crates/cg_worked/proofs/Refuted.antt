@@ -19,7 +19,7 @@ use Rattle.cg_db.specs.declared.entry.DbEntry.{DbEntry}
 use Rattle.cg_db.specs.Apply.{apply, fold_actions}
 use Rattle.cg_db.specs.Find.{answer, query_of}
 use Rattle.cg_group.specs.declared.reason.Reason.TheVariants.{NotUp}
-use Rattle.cg_report.specs.EntryText.{no_entry}
+use Rattle.cg_report.specs.NoEntry.{no_entry}
 use Rattle.cg_report.specs.declared.entry.Entry.{Entry}
 use Rattle.cg_report.specs.declared.entry.Placed.{Placed}
 use Rattle.cg_report.specs.declared.entry.Reply.{Reply}

@@ -3,7 +3,7 @@ use Rattle.std.specs.Prelude.{⊤}
 use Rattle.std.specs.Fmt.{digits}
 use Rattle.std.specs.Str.{chars, is_utf8}
 use Rattle.std.specs.Char.{encode_utf8}
-use Rattle.cg_base.specs.Sets.{every_replica}
+use Rattle.cg_base.specs.Replicas.{every_replica}
 use Rattle.cg_text.specs.Tokens.{tokens_from}
 use Rattle.cg_codec.specs.Fields.{byte, number32, number64, signed64, truth, text as text_of_codec_fields}
 use Rattle.cg_codec.specs.Reading.{take_u8, take_u32, take_u64, take_i64, take_truth, take_count, take_text, take_items, byte_between}
@@ -12,12 +12,13 @@ use Rattle.cg_db.specs.Apply.{run_commands}
 use Rattle.cg_db.specs.Plan.{with_changes}
 use Rattle.cg_vote.specs.Quorum.{is_quorum}
 use Rattle.cg_queue.specs.Body.{reds_from, all_reds}
-use Rattle.cg_records.specs.Bytes.{spelled_set, spelled_name, spelled_names, spelled_cut, spelled_weighted, spelled_weight_set, spelled_prim, spelled_vulnerable, spelled_yellow, spelled_stable}
+use Rattle.cg_records.specs.Bytes.{spelled_set, spelled_names, spelled_cut, spelled_weighted, spelled_weight_set, spelled_prim, spelled_vulnerable, spelled_yellow, spelled_stable}
 use Rattle.cg_records.specs.Reading.{take_number, take_index, take_id_above, take_set, take_weight, take_weighted_above, take_weight_set, take_name_above, take_cut, take_names, take_prim, take_vulnerable, take_maybe_vulnerable, take_yellow, take_stable}
 use Rattle.cg_records.specs.Same.{same_prim, same_vulnerable, same_record, same_yellow}
 use Rattle.cg_knowledge.specs.Members.{senders, most_updated, lowest, gone, remaining}
 use Rattle.cg_knowledge.specs.Primary.{newest_index, newest, known_primary, known_attempt}
-use Rattle.cg_knowledge.specs.Verdict.{records_of, all_cleared, decides, verdict_of}
+use Rattle.cg_knowledge.specs.Verdict.{records_of, all_cleared, decides}
+use Rattle.cg_knowledge.specs.Calls.{verdict_of}
 use Rattle.cg_knowledge.specs.Vulnerable.{all_bits, is_long_past, is_overtaken, is_ended_by_one, is_ended_by_all, is_cleared}
 use Rattle.cg_knowledge.specs.Yellow.{yellow_group, is_green_at_most, is_in_each, common_yellow}
 use Rattle.cg_plan.specs.Items.{items_of_plan}
@@ -43,8 +44,7 @@ use Rattle.cg_prim.specs.Hearing.{reg_prim_on_message, trans_prim_on_message}
 use Rattle.cg_exchange.specs.ExchangeActions.{send_part, go_on}
 use Rattle.cg_exchange.specs.PlanEnd.{usable_names, take_over, attempt, decide, end_plan}
 use Rattle.cg_exchange.specs.Hearing.{exchange_states_on_message, exchange_actions_on_message, non_prim_on_message}
-use Rattle.cg_construct.specs.Hearing.{un_on_message}
-use Rattle.cg_construct.specs.Hearing.{construct_on_message, no_on_message}
+use Rattle.cg_construct.specs.Hearing.{un_on_message, construct_on_message, no_on_message}
 use Rattle.cg_stored.specs.Change.{spelled_change}
 use Rattle.cg_stored.specs.Checkpoint.{spelled_server, spelled_entry, spelled_reached, spelled_kept, spelled_parts, spelled_checkpoint}
 use Rattle.cg_stored.specs.Parts.{do_agree, change_in, checkpoint_in}
@@ -93,7 +93,7 @@ unfolding reds_from all_reds
 queue_computes = tt
 
 unfoldable pub records_computes : ⊤
-unfolding spelled_set spelled_name spelled_names spelled_cut spelled_weighted spelled_weight_set spelled_prim spelled_vulnerable spelled_yellow spelled_stable take_number take_index take_id_above take_set take_weight take_weighted_above take_weight_set take_name_above take_cut take_names take_prim take_vulnerable take_maybe_vulnerable take_yellow take_stable same_prim same_vulnerable same_record same_yellow
+unfolding spelled_set spelled_names spelled_cut spelled_weighted spelled_weight_set spelled_prim spelled_vulnerable spelled_yellow spelled_stable take_number take_index take_id_above take_set take_weight take_weighted_above take_weight_set take_name_above take_cut take_names take_prim take_vulnerable take_maybe_vulnerable take_yellow take_stable same_prim same_vulnerable same_record same_yellow
 records_computes = tt
 
 unfoldable pub knowledge_computes : ⊤

@@ -22,26 +22,26 @@ row-append [] row (suc k) none = refl
 row-append (r ∷ rows) row zero none = refl
 row-append (r ∷ rows) row (suc k) none = row-append rows row k none
 
-set-here : (rows : List (List Action)) (place : ℕ) (row : List Action) → place < length rows → row_at (set rows place row) place ≡ row
-set-here [] place row less = absurd (omega arith)
+set-here : (rows : List (List Action)) (slot : ℕ) (row : List Action) → slot < length rows → row_at (set rows slot row) slot ≡ row
+set-here [] slot row less = absurd (omega arith)
 set-here (r ∷ rows) zero row less = refl
-set-here (r ∷ rows) (suc place) row less = set-here rows place row (omega arith)
+set-here (r ∷ rows) (suc slot) row less = set-here rows slot row (omega arith)
 
-set-other : (rows : List (List Action)) (place : ℕ) (row : List Action) (k : ℕ) → place ≢ k → row_at (set rows place row) k ≡ row_at rows k
-set-other [] place row k apart = refl
+set-other : (rows : List (List Action)) (slot : ℕ) (row : List Action) (k : ℕ) → slot ≢ k → row_at (set rows slot row) k ≡ row_at rows k
+set-other [] slot row k apart = refl
 set-other (r ∷ rows) zero row zero apart = absurd (apart refl)
 set-other (r ∷ rows) zero row (suc k) apart = refl
-set-other (r ∷ rows) (suc place) row zero apart = refl
-set-other (r ∷ rows) (suc place) row (suc k) apart = set-other rows place row k (λ e. apart (ap suc e))
+set-other (r ∷ rows) (suc slot) row zero apart = refl
+set-other (r ∷ rows) (suc slot) row (suc k) apart = set-other rows slot row k (λ e. apart (ap suc e))
 
 -- its creator's row is written with one action more
-pub row-with : (rows : List (List Action)) (a : Action) (place : ℕ) (row : List Action) → place ≡ a.id.creator → place < length rows → row ≡ row_at rows place ++ a ∷ [] → row_at (set rows place row) ≡ with_made (row_at rows) a
-row-with rows a place row own less is = λ i k. (at k) i where
-  at : (k : ℕ) → row_at (set rows place row) k ≡ with_made (row_at rows) a k
+pub row-with : (rows : List (List Action)) (a : Action) (slot : ℕ) (row : List Action) → slot ≡ a.id.creator → slot < length rows → row ≡ row_at rows slot ++ a ∷ [] → row_at (set rows slot row) ≡ with_made (row_at rows) a
+row-with rows a slot row own less is = λ i k. (at k) i where
+  at : (k : ℕ) → row_at (set rows slot row) k ≡ with_made (row_at rows) a k
   at k = elim (cases_eq a.id.creator k) [
-    | inl mine ↦ ap (row_at (set rows place row)) (sym (own ∙ mine)) ∙ set-here rows place row less ∙ is ∙ ap (λ n. row_at rows n ++ a ∷ []) (own ∙ mine)
+    | inl mine ↦ ap (row_at (set rows slot row)) (sym (own ∙ mine)) ∙ set-here rows slot row less ∙ is ∙ ap (λ n. row_at rows n ++ a ∷ []) (own ∙ mine)
         ∙ sym (cond-true (a.id.creator == k) (row_at rows k ++ a ∷ []) (row_at rows k) (eq-eqb a.id.creator k mine))
-    | inr other ↦ set-other rows place row k (λ e. other (sym own ∙ e)) ∙ sym (cond-false (a.id.creator == k) (row_at rows k ++ a ∷ []) (row_at rows k) (ne_eqb a.id.creator k other))
+    | inr other ↦ set-other rows slot row k (λ e. other (sym own ∙ e)) ∙ sym (cond-false (a.id.creator == k) (row_at rows k ++ a ∷ []) (row_at rows k) (ne_eqb a.id.creator k other))
   ]
 
 pub same-rows : (rows others : List (List Action)) → ((p : ℕ) → row_at rows p ≡ row_at others p) → row_at rows ≡ row_at others

@@ -35,11 +35,11 @@ impl MadeActions {
         if index == 0 {
             return None;
         }
-        let place = creator.get() as usize;
-        if self.rows.len() <= place {
+        let slot = creator.get() as usize;
+        if self.rows.len() <= slot {
             return None;
         }
-        self.rows[place].get((index - 1) as usize)
+        self.rows[slot].get((index - 1) as usize)
     }
 
     /// What the step to this world shows as made is made too. An action's green line is its creator's position there.
@@ -61,27 +61,27 @@ impl MadeActions {
     fn push(&mut self, a: Action) -> Result<(), NoMemory>
         ensures { OnOk result (rows_of self.new ≡ with_made (rows_of self.old) a) }
     {
-        let place = place_of(&a);
-        grow(&mut self.rows, place)?;
-        self.rows[place].push(a)?;
+        let slot = slot_of(&a);
+        grow(&mut self.rows, slot)?;
+        self.rows[slot].push(a)?;
         Ok(())
     }
 }
 
-fn place_of(a: &Action) -> usize
-    ensures place { result ≡ a.now.id.creator }
+fn slot_of(a: &Action) -> usize
+    ensures slot { result ≡ a.now.id.creator }
     ensures small { result ≤ 32 }
 {
     a.id.creator.get() as usize
 }
 
-// There are rows up to this place; all but those that were there are empty.
-fn grow(rows: &mut Vec<ActionList>, place: usize) -> Result<(), NoMemory>
-    requires { place ≤ 32 }
+// There are rows up to this slot; all but those that were there are empty.
+fn grow(rows: &mut Vec<ActionList>, slot: usize) -> Result<(), NoMemory>
+    requires { slot ≤ 32 }
     ensures same { (p : ℕ) → row_at rows.new.items p ≡ row_at rows.old.items p }
-    ensures ok { OnOk result (place < vec_len rows.new) }
+    ensures ok { OnOk result (slot < vec_len rows.new) }
 {
-    while rows.len() <= place {
+    while rows.len() <= slot {
         let alloc = *rows.allocator();
         rows.push(Row::new(alloc))?;
     }

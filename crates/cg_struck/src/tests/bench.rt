@@ -1,6 +1,6 @@
 //! One engine on a disk in memory, alone, and what it said last.
 ghost use Rattle.std.specs.Prelude.{◌≡◌, ◌≤◌, true, [], ◌∷◌, length, IfOk};
-ghost use Rattle.cg_action.specs.Limits.{IsAction};
+ghost use Rattle.cg_action.specs.ActionLimits.{IsAction};
 ghost use Rattle.cg_wire.specs.Bytes.{spelled_msg};
 ghost use Rattle.cg_wire.specs.declared.message.Msg.TheVariants.{Action as ActionMsg};
 ghost use Rattle.cg_replica.specs.Inputs.{HasLimits, input_of as read_of};

@@ -1,6 +1,6 @@
 //! What a client asks for.
 ghost use Rattle.cg_action.specs.Limits.{IsKind};
-ghost use Rattle.cg_client.specs.Requests.{kind_of};
+ghost use Rattle.cg_client.specs.Calls.{kind_of};
 
 use cg_base::ReplicaId;
 use cg_client::Request;

@@ -1,5 +1,5 @@
 use Rattle.cg_codec.specs.FieldLaws.{field_whole}
-use Rattle.cg_action.specs.Limits.{IsAction}
+use Rattle.cg_action.specs.ActionLimits.{IsAction}
 use Rattle.cg_action.specs.Bytes.{spelled_action}
 use Rattle.cg_action.specs.Reading.{action_reading}
 use Rattle.cg_action.specs.ValueLaws.{id_field, value_field}

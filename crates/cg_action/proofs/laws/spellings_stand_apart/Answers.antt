@@ -1,5 +1,7 @@
-use Rattle.cg_action.specs.Limits.{IsActionId, IsValue, IsCommand, IsQuery, IsAction}
-use Rattle.cg_action.specs.Bytes.{spelled_id, spelled_value, spelled_command, spelled_query, spelled_action}
+use Rattle.cg_action.specs.Limits.{IsQuery}
+use Rattle.cg_action.specs.ActionLimits.{IsActionId, IsValue, IsCommand, IsAction}
+use Rattle.cg_codec.specs.Fields.{spelled_id}
+use Rattle.cg_action.specs.Bytes.{spelled_value, spelled_command, spelled_query, spelled_action}
 use Rattle.cg_action.specs.Reading.{id_reading, value_reading, command_reading, query_reading, action_reading}
 use Rattle.cg_codec.specs.ShapeLaws.{field_front}
 use Rattle.cg_action.specs.ValueLaws.{id_field, value_field}

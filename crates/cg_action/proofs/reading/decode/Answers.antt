@@ -2,7 +2,7 @@ use Rattle.std.proofs.Common.{◌≡◌, Ok, rules}
 use Rattle.cg_codec.specs.Reading.{whole}
 use Rattle.cg_codec.specs.Laws.{AreBytes}
 use Rattle.cg_codec.specs.FieldLaws.{field_whole}
-use Rattle.cg_action.specs.Limits.{IsAction}
+use Rattle.cg_action.specs.ActionLimits.{IsAction}
 use Rattle.cg_action.specs.Bytes.{spelled_action}
 use Rattle.cg_action.specs.Reading.{action_reading}
 use Rattle.cg_action.specs.KindLaws.{action_field}

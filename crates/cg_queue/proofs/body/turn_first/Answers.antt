@@ -1,11 +1,11 @@
-use Rattle.std.proofs.Common.{◌≡◌, ◌∙◌, ◌+◌, ◌<◌, ◌^◌, ◌++◌, ◌∷◌, [], ℕ, Option, Some, None, suc, drop, length, slice_get, sym, ap, subst, arith}
+use Rattle.std.proofs.Common.{◌≡◌, ◌∙◌, ◌+◌, ◌<◌, ◌^◌, ◌++◌, ◌∷◌, [], ℕ, Option, Some, suc, drop, length, slice_get, sym, ap, subst, arith}
 use Rattle.std.specs.Prelude.{MatchOption}
 use Rattle.cg_base.specs.declared.action_id.ActionId.{ActionId}
 use Rattle.cg_base.specs.Cuts.{raise}
 use Rattle.cg_base.specs.TextLaws.{OnErr_from}
 use Rattle.cg_queue.specs.declared.red.Red.{Red}
 use Rattle.cg_queue.specs.Lanes.{rows_of, with_lane}
-use Rattle.cg_queue.specs.Body.{Parts, lane_of}
+use Rattle.cg_queue.specs.Body.{Parts}
 use Rattle.cg_queue.proofs.body.turn_first.Goals as goal
 
 there-is : {X : Type 0} (o : Option X) (A : Type 0) (B : X → Type 0) (x : X) → Some x ≡ o → B x → MatchOption o A B

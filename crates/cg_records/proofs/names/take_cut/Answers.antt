@@ -6,7 +6,7 @@ use Rattle.cg_codec.specs.Reading.{take_count}
 use Rattle.cg_codec.specs.Taking.{unread_of}
 use Rattle.cg_codec.specs.ItemLaws.{items_stop, items_end}
 use Rattle.cg_records.specs.Reading.{take_cut, take_name_above, last_of}
-use Rattle.cg_records.specs.AscendingLaws.{AllBelow-more, raise-last}
+use Rattle.cg_base.specs.AscendingLaws.{AllBelow-more, raise-last}
 use Rattle.cg_records.specs.RecordLaws.{map-push}
 use Rattle.cg_records.specs.ItemLoopLaws.{ReadSoFar-none, ReadSoFar-more}
 use Rattle.cg_records.proofs.names.take_cut.Goals as goal

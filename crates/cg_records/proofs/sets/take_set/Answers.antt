@@ -5,7 +5,7 @@ use Rattle.cg_codec.specs.Reading.{take_count}
 use Rattle.cg_codec.specs.Taking.{unread_of}
 use Rattle.cg_codec.specs.ItemLaws.{items_stop, items_end}
 use Rattle.cg_records.specs.Reading.{take_set, take_id_above, last_of}
-use Rattle.cg_records.specs.AscendingLaws.{AllBelow-more, with_member-last}
+use Rattle.cg_base.specs.AscendingLaws.{AllBelow-more, with_member-last}
 use Rattle.cg_records.specs.ItemLoopLaws.{ReadSoFar-none, ReadSoFar-more}
 use Rattle.cg_records.proofs.sets.take_set.Goals as goal
 use Rattle.cg_records.specs.PassedLaws.{id_above-ok}

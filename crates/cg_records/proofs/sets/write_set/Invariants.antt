@@ -1,7 +1,7 @@
 use Rattle.std.proofs.Common.{◌≡◌, ◌++◌}
 use Rattle.std.specs.List.{flat_map}
 use Rattle.cg_base.specs.Iterators.{members_left}
-use Rattle.cg_base.specs.Text.{KeepsFront}
+use Rattle.cg_base.specs.Fronts.{KeepsFront}
 use Rattle.cg_codec.specs.Fields.{byte}
 use Rattle.cg_records.proofs.sets.write_set.Given as goal
 

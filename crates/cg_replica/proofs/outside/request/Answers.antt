@@ -1,5 +1,6 @@
 use Rattle.std.proofs.Common.{sym, ap, ◌∙◌}
-use Rattle.cg_client.specs.Requests.{kind_of, request}
+use Rattle.cg_client.specs.Requests.{request}
+use Rattle.cg_client.specs.Calls.{kind_of}
 use Rattle.cg_replica.specs.Seen.{outside_seen, turn_of}
 use Rattle.cg_replica.proofs.outside.request.Goals as goal
 

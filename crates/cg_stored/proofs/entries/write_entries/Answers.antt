@@ -1,14 +1,13 @@
 use Rattle.std.proofs.Common.{◌≡◌, ℕ, List, ◌++◌, length, take, sym, ap, subst, ◌∙◌, arith}
 use Rattle.std.proofs.lemmas.List.{take_all}
 use Rattle.std.specs.List.{flat_map}
-use Rattle.cg_base.specs.TextLaws.{OnErr_from}
+use Rattle.cg_base.specs.TextLaws.{OnErr_from, grown_twice}
 use Rattle.cg_codec.specs.Fields.{number32}
-use Rattle.cg_action.specs.Limits.{IsKey}
+use Rattle.cg_action.specs.ActionLimits.{IsKey}
 use Rattle.cg_db.specs.Map.{keys, value_of}
 use Rattle.cg_db.specs.View.{entry_at}
 use Rattle.cg_records.specs.Limits.{Each}
 use Rattle.cg_stored.specs.Checkpoint.{spelled_entry}
-use Rattle.cg_base.specs.TextLaws.{grown_twice}
 use Rattle.cg_stored.proofs.Steps.{keeps_after}
 use Rattle.cg_stored.proofs.ListFields.{Each-at}
 use Rattle.cg_stored.proofs.EntryFields.{keys-within, written-all}

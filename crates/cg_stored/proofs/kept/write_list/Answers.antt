@@ -1,6 +1,6 @@
 use Rattle.std.proofs.Common.{◌≡◌, ◌+◌, ◌++◌, drop, sym, ap, subst, ◌∙◌, append_assoc}
 use Rattle.std.specs.List.{flat_map, slice_get}
-use Rattle.cg_base.specs.Text.{KeepsFront}
+use Rattle.cg_base.specs.Fronts.{KeepsFront}
 use Rattle.cg_base.specs.TextLaws.{OnErr_from, KeepsFront-is, KeepsFront-through}
 use Rattle.cg_codec.specs.Fields.{number32}
 use Rattle.cg_action.specs.Bytes.{spelled_action}

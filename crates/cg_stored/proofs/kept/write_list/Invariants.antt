@@ -1,6 +1,6 @@
 use Rattle.std.proofs.Common.{◌≡◌, ◌++◌, drop}
 use Rattle.std.specs.List.{flat_map}
-use Rattle.cg_base.specs.Text.{KeepsFront}
+use Rattle.cg_base.specs.Fronts.{KeepsFront}
 use Rattle.cg_action.specs.Bytes.{spelled_action}
 use Rattle.cg_stored.specs.Kept.{list_in}
 use Rattle.cg_stored.proofs.kept.write_list.Given as goal

@@ -1,6 +1,6 @@
 use Rattle.std.proofs.Common.{◌+◌, ◌++◌, length, flat_map}
 use Rattle.cg_codec.specs.Fields.{number32}
-use Rattle.cg_action.specs.Limits.{IsAction}
+use Rattle.cg_action.specs.ActionLimits.{IsAction}
 use Rattle.cg_action.specs.Bytes.{spelled_action}
 use Rattle.cg_stored.proofs.ListFields.{Each-front, Each-rest}
 use Rattle.cg_base.specs.TextLaws.{grown_twice}

@@ -1,6 +1,6 @@
 use Rattle.std.proofs.Common.{◌≡◌, ◌++◌, take}
 use Rattle.std.specs.List.{flat_map}
-use Rattle.cg_action.specs.Bytes.{spelled_id}
+use Rattle.cg_codec.specs.Fields.{spelled_id}
 use Rattle.cg_stored.proofs.lists.write_ids.Given as goal
 
 abbrev pub invariant-loop-id : goal.invariant-loop-id

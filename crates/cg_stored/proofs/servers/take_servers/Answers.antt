@@ -6,7 +6,7 @@ use Rattle.cg_codec.specs.Taking.{unread_of}
 use Rattle.cg_codec.specs.ItemLaws.{items_stop, items_end}
 use Rattle.cg_members.specs.Listed.{server_ids}
 use Rattle.cg_records.specs.Reading.{last_of}
-use Rattle.cg_records.specs.AscendingLaws.{AllBelow-more}
+use Rattle.cg_base.specs.AscendingLaws.{AllBelow-more}
 use Rattle.cg_records.specs.RecordLaws.{map-push}
 use Rattle.cg_records.specs.ItemLoopLaws.{ReadSoFar-none, ReadSoFar-more}
 use Rattle.cg_stored.specs.Reading.{server_reading, servers_reading}

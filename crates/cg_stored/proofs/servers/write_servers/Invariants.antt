@@ -1,6 +1,6 @@
 use Rattle.std.proofs.Common.{◌≡◌, ◌++◌}
 use Rattle.std.specs.List.{flat_map}
-use Rattle.cg_base.specs.Text.{KeepsFront}
+use Rattle.cg_base.specs.Fronts.{KeepsFront}
 use Rattle.cg_members.specs.View.{servers_left}
 use Rattle.cg_stored.specs.Checkpoint.{spelled_server}
 use Rattle.cg_stored.proofs.servers.write_servers.Given as goal

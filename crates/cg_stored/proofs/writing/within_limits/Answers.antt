@@ -1,7 +1,7 @@
-use Rattle.std.proofs.Common.{◌≡◌, subst, ap, arith}
+use Rattle.std.proofs.Common.{◌≡◌, subst, ap, ◌∙◌, arith}
 use Rattle.cg_base.specs.Sets.{IsId, IsSet}
-use Rattle.cg_db.specs.Map.{Ascends}
-use Rattle.cg_members.specs.declared.members.Members.{Members}
+use Rattle.cg_db.specs.Ascending.{Ascends}
+use Rattle.cg_members.specs.Members.{Members}
 use Rattle.cg_members.specs.Listed.{AreServers}
 use Rattle.cg_queue.specs.Queue.{green_count}
 use Rattle.cg_records.specs.Limits.{IsStable}
@@ -24,9 +24,9 @@ returns-clause-within c =
         reds = record { short = short.reds; each = kept.reds };
       };
       members = record {
-        servers = subst (λ (m : Members). AreServers m.servers) members.value c.iter-servers.ensures.servers;
+        servers = subst AreServers (c.servers.ensures ∙ ap (λ (m : Members). m.servers) members.value) c.iter-servers.ensures.servers;
         lines = members.lines;
-        left = subst (λ (m : Members). IsSet m.left) members.value c.count-left.ensures.set;
+        left = subst IsSet (c.left.ensures ∙ ap (λ (m : Members). m.left) members.value) c.count-left.ensures.set;
       };
       short = short.db;
       entries = c.db.ensures.limits;

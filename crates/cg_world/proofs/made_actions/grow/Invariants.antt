@@ -6,4 +6,4 @@ abbrev pub invariant-loop-rows : goal.invariant-loop-rows
 invariant-loop-rows l = (p : ℕ) → row_at l.rows.items p ≡ row_at l.fn.rows.items p
 
 abbrev pub decreases-loop-rows : goal.decreases-loop-rows
-decreases-loop-rows l = l.place + 1 - vec_len l.rows
+decreases-loop-rows l = l.slot + 1 - vec_len l.rows

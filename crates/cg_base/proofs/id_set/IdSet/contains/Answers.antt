@@ -5,7 +5,7 @@ use Rattle.cg_base.proofs.id_set.IdSet.contains.Goals as goal
 
 pub returns-clause-value : goal.returns-clause-value
 returns-clause-value c =
-    rw (← c.self.view_is, shr_and_one c.self.inside.word c.from-place.result, c.from-place.ensures, c.get.ensures.value)
+    rw (← c.self.view_is, shr_and_one c.self.inside.word c.from-slot.result, c.from-slot.ensures, c.get.ensures.value)
     (sym (has-members c.self.inside.word c.args.id c.get.ensures.range.0 c.get.ensures.range.1))
 
 pub returns-clause-set : goal.returns-clause-set

@@ -6,20 +6,20 @@ use Rattle.cg_base.proofs.ArrayLemmas.{array_keys-empty, array_keys-filled, held
 use Rattle.cg_base.proofs.weight_set.WeightSet.ids.Goals as goal
 use Rattle.cg_base.proofs.weight_set.WeightSet.ids.Goals.{then-weight-ne0, else-weight-ne0}
 
-pub loop-place-init : goal.loop-place-init
+pub loop-slot-init : goal.loop-slot-init
 unfolding held_from
-loop-place-init c = c.empty-set.ensures
+loop-slot-init c = c.empty-set.ensures
 
-pub loop-place-preserved : goal.loop-place-preserved
-loop-place-preserved c =
+pub loop-slot-preserved : goal.loop-slot-preserved
+loop-slot-preserved c =
     let slots = c.self.inside.weights in
     elim c.if-weight-ne0.branch [
       | then-weight-ne0 w ↦ w.set-is ∙ w.add.ensures
-          ∙ ap (λ s. with_member s w.known.result) c.loop-place.invariant
-          ∙ ap (with_member (ids (held_from weighted (array_slot slots) c.loop-place.place 1))) w.known.ensures
-          ∙ array_keys-filled weighted (λ m. m.id) (λ p n. refl) slots c.loop-place.place w.if-weight-ne0.true
-      | else-weight-ne0 w ↦ w.set-is ∙ c.loop-place.invariant ∙ array_keys-empty weighted (λ m. m.id) slots c.loop-place.place w.if-weight-ne0.false
+          ∙ ap (λ s. with_member s w.known.result) c.loop-slot.invariant
+          ∙ ap (with_member (ids (held_from weighted (array_slot slots) c.loop-slot.slot 1))) w.known.ensures
+          ∙ array_keys-filled weighted (λ m. m.id) (λ p n. refl) slots c.loop-slot.slot w.if-weight-ne0.true
+      | else-weight-ne0 w ↦ w.set-is ∙ c.loop-slot.invariant ∙ array_keys-empty weighted (λ m. m.id) slots c.loop-slot.slot w.if-weight-ne0.false
     ]
 
 pub returns : goal.returns
-returns c = rw (← c.self.view_is) (c.loop-place.invariant ∙ ap ids (held_from-all weighted (array_slot c.self.inside.weights) c.loop-place.place (omega arith)))
+returns c = rw (← c.self.view_is) (c.loop-slot.invariant ∙ ap ids (held_from-all weighted (array_slot c.self.inside.weights) c.loop-slot.slot (omega arith)))

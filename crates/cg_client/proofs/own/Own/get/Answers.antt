@@ -1,4 +1,4 @@
-use Rattle.cg_action.specs.Limits.{IsAction}
+use Rattle.cg_action.specs.ActionLimits.{IsAction}
 use Rattle.cg_client.proofs.Keeping.{Each-get}
 use Rattle.cg_client.proofs.own.Own.get.Goals as goal
 

@@ -1,5 +1,5 @@
 use Rattle.std.proofs.Common.{subst, sym}
-use Rattle.cg_members.specs.declared.members.Members.{Members}
+use Rattle.cg_members.specs.Members.{Members}
 use Rattle.cg_client.proofs.Lines.{Lined, green-lined}
 use Rattle.cg_client.proofs.servers.Servers.note_green.Goals as goal
 

@@ -2,7 +2,7 @@ use Rattle.std.proofs.Common.{◌≡◌, [], sym, ◌∙◌, rules}
 use Rattle.std.proofs.lemmas.List.{nil_from_length}
 use Rattle.std.specs.Vec.Iter.{into_iter_items}
 use Rattle.cg_db.specs.Find.{keys_from}
-use Rattle.cg_db.specs.Map.{Ascends}
+use Rattle.cg_db.specs.Ascending.{Ascends}
 use Rattle.cg_db.proofs.ViewLemmas.{Ascends-of_entries}
 use Rattle.cg_db.proofs.KeyLemmas.{entries_are}
 use Rattle.cg_db.proofs.db.Db.entries.Goals as goal

@@ -13,8 +13,8 @@ returns-in_ok-write-in-Done-clause-ok c =
 
 pub returns-in-Aborted-clause-ok : goal.returns-in-Aborted-clause-ok
 returns-in-Aborted-clause-ok c =
-    run_aborted c.args.self.now c.args.cmds.now (listed c.new-changes.result) (listed c.plan.new.changes) c.in_ok-effect.effect c.in-Aborted.place c.new-changes.ensures c.in_ok-effect.ensures c.in-Aborted.is
+    run_aborted c.args.self.now c.args.cmds.now (listed c.new-changes.result) (listed c.plan.new.changes) c.in_ok-effect.effect c.in-Aborted.number c.new-changes.ensures c.in_ok-effect.ensures c.in-Aborted.is
 
 pub returns-in-Range-clause-ok : goal.returns-in-Range-clause-ok
 returns-in-Range-clause-ok c =
-    run_overflowed c.args.self.now c.args.cmds.now (listed c.new-changes.result) (listed c.plan.new.changes) c.in_ok-effect.effect c.in-Range.place c.new-changes.ensures c.in_ok-effect.ensures c.in-Range.is
+    run_overflowed c.args.self.now c.args.cmds.now (listed c.new-changes.result) (listed c.plan.new.changes) c.in_ok-effect.effect c.in-Range.number c.new-changes.ensures c.in_ok-effect.ensures c.in-Range.is

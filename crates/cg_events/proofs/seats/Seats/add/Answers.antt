@@ -6,19 +6,19 @@ use Rattle.cg_events.proofs.seats.Seats.add.Goals as goal
 
 pub insert-requires : goal.insert-requires
 insert-requires c =
-    let placed = rw (c.as_slice.ensures.value, c.id.ensures) at c.place_for-place.ensures.place in
+    let placed = rw (c.as_slice.ensures.value, c.id.ensures) at c.index_for-index.ensures.index in
     let within = prefix_len-le-length (λ s. nat_lt s.id c.args.seat.id) c.self.inside.list.items in
     omega arith
 
 pub invariant_of-self-2 : goal.invariant_of-self-2
 invariant_of-self-2 c =
-    let placed = rw (c.as_slice.ensures.value, c.id.ensures) at c.place_for-place.ensures.place in
+    let placed = rw (c.as_slice.ensures.value, c.id.ensures) at c.index_for-index.ensures.index in
     let away = rw (← c.self.view_is) at c.requires in
     rw (c.in_ok-insert.ensures.items, placed, insert-with_seat c.self.inside.list.items c.args.seat away)
-    (ascends-with_seat c.self.inside.list.items c.args.seat (rw c.id.ensures at c.place_for-place.ensures.range) c.self.invariant)
+    (ascends-with_seat c.self.inside.list.items c.args.seat (rw c.id.ensures at c.index_for-index.ensures.range) c.self.invariant)
 
 pub returns : goal.returns
 returns c =
-    let placed = rw (c.as_slice.ensures.value, c.id.ensures) at c.place_for-place.ensures.place in
+    let placed = rw (c.as_slice.ensures.value, c.id.ensures) at c.index_for-index.ensures.index in
     let away = rw (← c.self.view_is) at c.requires in
     rw (c.in_ok-insert.ensures.items, placed, ← c.self.view_is) (insert-with_seat c.self.inside.list.items c.args.seat away)

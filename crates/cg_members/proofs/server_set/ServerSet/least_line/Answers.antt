@@ -1,6 +1,5 @@
-use Rattle.std.proofs.Common.{◌≡◌, refl, rules, map}
+use Rattle.std.proofs.Common.{◌≡◌, refl, rules}
 use Rattle.cg_base.specs.Iterators.{weights_left}
-use Rattle.cg_members.specs.View.{server_with}
 use Rattle.cg_members.proofs.server_set.ServerSet.least_line.Goals as goal
 
 pub loop-member-init : goal.loop-member-init

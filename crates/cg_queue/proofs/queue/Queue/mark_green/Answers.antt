@@ -2,7 +2,8 @@ use Rattle.std.proofs.Common.{◌≡◌, ◌∙◌, ◌+◌, ◌<◌, ◌^◌, s
 use Rattle.cg_base.specs.declared.action_id.ActionId.{ActionId}
 use Rattle.cg_base.specs.Cuts.{index_in}
 use Rattle.cg_queue.specs.declared.mark.Mark.TheVariants.{Placed}
-use Rattle.cg_queue.specs.Queue.{Marks, green_count, marked_green}
+use Rattle.cg_queue.specs.Queue.{Marks, green_count}
+use Rattle.cg_queue.specs.Answers.{marked_green}
 use Rattle.cg_queue.specs.Body.{seen, parts_of, IsSound}
 use Rattle.cg_queue.proofs.Soundness.{green-sound, green-seen, cleared-sound, cleared-seen}
 use Rattle.cg_queue.specs.MarkLaws.{green-placed}

@@ -1,6 +1,6 @@
 use Rattle.std.proofs.Common.{ℕ, List, Option, Some, IfSome, ◌≡◌, subst, sym, ◌∙◌}
 use Rattle.cg_action.specs.declared.action.Action.{Action}
-use Rattle.cg_action.specs.Limits.{IsAction}
+use Rattle.cg_action.specs.ActionLimits.{IsAction}
 use Rattle.cg_wire.specs.declared.message.Msg.TheVariants.{Action as ActionMsg}
 use Rattle.cg_wire.specs.Reading.{message_in}
 use Rattle.cg_struck.specs.BookingLaws.{only-one}

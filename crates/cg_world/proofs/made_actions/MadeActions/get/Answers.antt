@@ -7,12 +7,12 @@ use Rattle.cg_world.proofs.made_actions.MadeActions.get.Goals as goal
 pub returns-then-index-eq0 : goal.returns-then-index-eq0
 returns-then-index-eq0 c = ap (at_place (row_at c.args.self.now.rows.items c.args.id.creator)) (let none : 0 ≡ c.args.id.index = omega arith in none)
 
-pub returns-then-len-place : goal.returns-then-len-place
-returns-then-len-place c =
+pub returns-then-len-slot : goal.returns-then-len-slot
+returns-then-len-slot c =
     let rows = c.args.self.now.rows in
     let p = c.args.id.creator in
     let long = rows.ok.0 in
-    let at = c.get-place.ensures.value in
+    let at = c.get-slot.ensures.value in
     let behind : length rows.items ≤ p = omega arith in
     none-at (row_at rows.items p) c.args.id.index (row-behind rows.items p behind)
 
@@ -21,9 +21,9 @@ returns c =
     let rows = c.args.self.now.rows in
     let id = c.args.id in
     let row = c.index.result.now in
-    let place = c.get-place.result in
+    let slot = c.get-slot.result in
     let long = rows.ok.0 in
-    let within : place < length rows.items = omega arith in
-    let there = c.index.ensures ∙ sym (row-there rows.items place row within) ∙ ap (row_at rows.items) c.get-place.ensures.value in
+    let within : slot < length rows.items = omega arith in
+    let there = c.index.ensures ∙ sym (row-there rows.items slot row within) ∙ ap (row_at rows.items) c.get-slot.ensures.value in
     c.get.ensures ∙ ap (λ xs. slice_get xs (id.index - 1)) there
     ∙ first-at (row_at rows.items id.creator) id.index (id.index - 1) (let some : id.index ≡ suc (id.index - 1) = omega arith in some)

@@ -6,10 +6,10 @@ use Rattle.cg_world.proofs.made_actions.MadeActions.push.Goals as goal
 pub returns : goal.returns
 returns c =
     let rows = c.grow.new.rows in
-    let place = c.place_of-place.result in
+    let slot = c.slot_of-slot.result in
     let a = c.args.a in
     let long = rows.ok.0 in
-    let within : place < length rows.items = omega (arith, c.in_ok-grow.ensures.ok) in
-    let there = c.index_mut.ensures.value ∙ sym (row-there rows.items place c.index_mut.result.now within) in
-    row-with rows.items a place c.push.new.self c.place_of-place.ensures.place within (c.in_ok-push.ensures.ok ∙ ap (λ xs. xs ++ a ∷ []) there)
+    let within : slot < length rows.items = omega (arith, c.in_ok-grow.ensures.ok) in
+    let there = c.index_mut.ensures.value ∙ sym (row-there rows.items slot c.index_mut.result.now within) in
+    row-with rows.items a slot c.push.new.self c.slot_of-slot.ensures.slot within (c.in_ok-push.ensures.ok ∙ ap (λ xs. xs ++ a ∷ []) there)
     ∙ ap (λ f. with_made f a) (same-rows rows.items c.args.self.now.rows.items c.grow.ensures.same)

@@ -2,7 +2,8 @@ ghost use Rattle.std.specs.Prelude.{◌≡◌, ◌+◌, ◌<◌, ◌^◌, [], �
 ghost use Rattle.cg_base.specs.Lists.{above_up_to};
 ghost use Rattle.cg_group.specs.State.{home, delivered_to};
 ghost use Rattle.cg_group.specs.Events.{deliver, deliveries_at};
-ghost use Rattle.cg_group.specs.Refusals.{deliver_refusal, IsAnswer};
+ghost use Rattle.cg_group.specs.Refusals.{deliver_refusal};
+ghost use Rattle.cg_group.specs.Answers.{IsAnswer};
 
 use crate::{Delivery, Group, GroupErr, TryClone};
 use cg_base::{NoMemory, ReplicaId, Row};

@@ -1,5 +1,5 @@
 -- What comes last into an ascending list comes at its end.
-use Rattle.std.proofs.Common.{◌≡◌, ℕ, ◌<◌, ◌≤◌, ◌≢◌, List, [], ◌∷◌, ◌++◌, refl, arith}
+use Rattle.std.proofs.Common.{◌≡◌, ℕ, suc, ◌<◌, ◌≤◌, ◌≢◌, List, [], ◌∷◌, ◌++◌, refl, arith}
 use Rattle.std.proofs.lemmas.Bool.{ne_eqb, le-ltb}
 use Rattle.cg_base.specs.declared.action_id.ActionId.{ActionId}
 use Rattle.cg_base.specs.declared.weighted.Weighted.{Weighted}
@@ -19,6 +19,10 @@ AllBelow-more (p ∷ ps) high higher le below = let lt : p < high = below.0 in (
 pub AllBelow-push : (ps : List ℕ) (p high : ℕ) → p < high → AllBelow high ps → AllBelow high (ps ++ p ∷ [])
 AllBelow-push [] p high lt below = (lt, tt)
 AllBelow-push (q ∷ ps) p high lt below = (below.0, AllBelow-push ps p high lt below.1)
+
+-- one more behind all of them
+pub AllBelow-next : (ps : List ℕ) (p : ℕ) → AllBelow p ps → AllBelow (suc p) (ps ++ p ∷ [])
+AllBelow-next ps p below = AllBelow-push ps p (suc p) (omega arith) (AllBelow-more ps p (suc p) (omega arith) below)
 
 pub with_member-last : (set : List ℕ) (p : ℕ) → AllBelow p set → with_member set p ≡ set ++ p ∷ []
 with_member-last [] p below = refl

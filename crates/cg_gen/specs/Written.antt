@@ -1,0 +1,8 @@
+-- Lines that are written out.
+use Rattle.std.specs.Prelude.{ℕ, List, [], ◌∷◌, ◌++◌, codes}
+use Prim.Native.String.{String}
+
+-- the lines as they stand here
+abbrev pub written : List String → List ℕ
+written [] = []
+written (line ∷ lines) = codes line ++ 10 ∷ written lines
