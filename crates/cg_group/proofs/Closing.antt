@@ -112,6 +112,8 @@ module _ {M : Type 0} (P : Picture M) (h : Holds P) (closing : ℕ → Bool) (ph
     there = at_stay (λ q c s. has (P.conf c).members q ≡ true → s.way ≡ Never → ⊥) (λ q c a b pos m e. not_never e) (λ q c n. h.there q c);
     told = at_stay (λ q c s. was_there s.way ≡ true → s.members ≡ (P.conf c).members)
         (λ q c a b pos w. h.told q c (ap was_there (h.present q c b pos))) (λ q c n. h.told q c);
+    member = at_stay (λ q c s. was_there s.way ≡ true → has (P.conf c).members q ≡ true)
+        (λ q c a b pos w. h.member q c (ap was_there (h.present q c b pos))) (λ q c n. h.member q c);
     absent = at_stay (λ q c s. s.way ≡ Never → (s.regular ≡ []) × (s.parting ≡ None)) (λ q c a b pos e. absurd (not_never e)) (λ q c n. h.absent q c);
     short = at_stay (λ q c s. length s.regular ≤ length (P.conf c).ordered) (λ q c a b pos. h.short q c) (λ q c n. h.short q c);
     in_order = at_stay (λ q c s. s.regular ≡ deliveries_at (P.conf c) (above_up_to 0 (length s.regular))) (λ q c a b pos. h.in_order q c) (λ q c n. h.in_order q c);

@@ -77,6 +77,7 @@ module _ {M : Type 0} (P : Picture M) (h : Holds P) (p k n : ℕ) (ms : List (De
     nowhere = λ q. way_kept q 0 ∙ h.nowhere q;
     there = λ q c m e. h.there q c m (sym (way_kept q c) ∙ e);
     told = at_stay (λ q c s. was_there s.way ≡ true → s.members ≡ (P.conf c).members) (h.told p k) h.told;
+    member = at_stay (λ q c s. was_there s.way ≡ true → has (P.conf c).members q ≡ true) (h.member p k) h.member;
     absent = at_stay (λ q c s. s.way ≡ Never → (s.regular ≡ []) × (s.parting ≡ None))
         (λ e. let clash : Never ≡ Here = sym e ∙ there_now in cc) h.absent;
     short = at_stay (λ q c s. length s.regular ≤ length (P.conf c).ordered) (let e = longer in omega arith) h.short;

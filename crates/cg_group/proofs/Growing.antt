@@ -48,6 +48,8 @@ module _ {M : Type 0} (P : Picture M) (h : Holds P) (p k : ℕ) (D : Configurati
         (λ m. h.there q k (subst (λ ms. has ms q ≡ true) g.members m)) (h.there q);
     told = λ q. at_conf (λ c C. was_there (P.stay q c).way ≡ true → (P.stay q c).members ≡ C.members)
         (λ w. h.told q k w ∙ sym g.members) (h.told q);
+    member = λ q. at_conf (λ c C. was_there (P.stay q c).way ≡ true → has C.members q ≡ true)
+        (λ w. subst (λ ms. has ms q ≡ true) (sym g.members) (h.member q k w)) (h.member q);
     absent = h.absent;
     short = λ q. at_conf (λ c C. length (P.stay q c).regular ≤ length C.ordered)
         (let le = h.short q k in let l = long in omega arith) (h.short q);

@@ -116,6 +116,8 @@ module _ {M : Type 0} (P : Picture M) (h : Holds P) (set : List ℕ)
     there = at_stay (λ q c s C. has C.members q ≡ true → s.way ≡ Never → ⊥) (λ q m a e. cc) (λ q n a e. let clash : false ≡ true = sym n ∙ a in cc) (λ q c ne. h.there q c);
     told = at_stay (λ q c s C. was_there s.way ≡ true → s.members ≡ C.members) (λ q m w. refl)
         (λ q n w. let clash : false ≡ true = sym (ap was_there (before_new q)) ∙ w in absurd cc) (λ q c ne. h.told q c);
+    member = at_stay (λ q c s C. was_there s.way ≡ true → has C.members q ≡ true) (λ q m w. m)
+        (λ q n w. let clash : false ≡ true = sym (ap was_there (before_new q)) ∙ w in absurd cc) (λ q c ne. h.member q c);
     absent = at_stay (λ q c s C. s.way ≡ Never → (s.regular ≡ []) × (s.parting ≡ None)) (λ q m e. (refl, refl)) (λ q n. h.absent q k) (λ q c ne. h.absent q c);
     short = at_stay (λ q c s C. length s.regular ≤ length C.ordered) (λ q m. omega arith)
         (λ q n. let a = ap length (h.absent q k (before_new q)).0 in omega arith) (λ q c ne. h.short q c);

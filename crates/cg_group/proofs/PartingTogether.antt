@@ -106,6 +106,7 @@ module _ {M : Type 0} (P : Picture M) (h : Holds P) (set : List ℕ) (k K : ℕ)
     nowhere = λ q. way_kept q 0 ∙ h.nowhere q;
     there = λ q c m e. h.there q c m (sym (way_kept q c) ∙ e);
     told = at_stay (λ q c s. was_there s.way ≡ true → s.members ≡ (P.conf c).members) (λ q m. h.told q k) (λ q c n. h.told q c);
+    member = at_stay (λ q c s. was_there s.way ≡ true → has (P.conf c).members q ≡ true) (λ q m. h.member q k) (λ q c n. h.member q c);
     absent = at_stay (λ q c s. s.way ≡ Never → (s.regular ≡ []) × (s.parting ≡ None))
         (λ q m e. let clash : Never ≡ Here = sym e ∙ there_now q m in cc) (λ q c n. h.absent q c);
     short = at_stay (λ q c s. length s.regular ≤ length (P.conf c).ordered) (λ q m. let e = longer q m in omega arith) (λ q c n. h.short q c);

@@ -49,6 +49,7 @@ pub record Holds {M : Type 0} (P : Picture M) : Type 0 where
   pub nowhere : (q : ℕ) → (P.stay q 0).way ≡ Never
   pub there : (q c : ℕ) → has (P.conf c).members q ≡ true → (P.stay q c).way ≡ Never → ⊥
   pub told : (q c : ℕ) → was_there (P.stay q c).way ≡ true → (P.stay q c).members ≡ (P.conf c).members
+  pub member : (q c : ℕ) → was_there (P.stay q c).way ≡ true → has (P.conf c).members q ≡ true
   pub absent : (q c : ℕ) → (P.stay q c).way ≡ Never → ((P.stay q c).regular ≡ []) × ((P.stay q c).parting ≡ None)
   -- what was handed
   pub short : (q c : ℕ) → length (P.stay q c).regular ≤ length (P.conf c).ordered

@@ -69,6 +69,7 @@ module _ {M : Type 0} where
     nowhere = h.nowhere;
     there = h.there;
     told = h.told;
+    member = h.member;
     absent = h.absent;
     short = h.short;
     in_order = h.in_order;

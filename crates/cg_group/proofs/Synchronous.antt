@@ -12,7 +12,7 @@ use Rattle.cg_group.specs.declared.phase.Phase.TheVariants.{Down, Regular}
 use Rattle.cg_group.specs.State.{Configuration, Sent, Standing, GroupState, no_group, no_configuration, standing_of, configuration, phase_of, home, has_received}
 use Rattle.cg_group.specs.Events.{deliveries_at, delivery_at, transitional_places}
 use Rattle.cg_group.specs.Refusals.{not_up, not_regular, no_such_place, already_received, earlier_missing, refuse, receive_refusal}
-use Rattle.cg_group.specs.History.{Call, Add, Fall, SendFrom, OrderNext, ReceiveAt, GatherAll, DeliverNext, SplitOff, MergeInto, Parting, Way, Never, Here, WentDown, WentOn, Diary, Stay, Run, stay_in, no_stay, was_there, diary_after, outcome_of, MayCall, step, beginning, run_from, MayCallAll}
+use Rattle.cg_group.specs.History.{Call, Add, Fall, SendFrom, OrderNext, ReceiveAt, GatherAll, DeliverNext, SplitOff, MergeInto, Parting, Way, Never, Here, WentDown, WentOn, Diary, Run, stay_in, no_stay, diary_after, outcome_of, MayCall, step, beginning, run_from, MayCallAll}
 use Rattle.cg_group.specs.Synchrony.{IsVirtuallySynchronous, AlwaysSynchronous, IsDownThere, AscendsAbove, places_of, later_of}
 use Rattle.cg_group.specs.EachLaws.{Each, Each-weaker, Each-above}
 use Rattle.cg_group.specs.PlaceLaws.{at_place-within, all_received-at, Each-transitional}
@@ -98,6 +98,7 @@ module _ {M : Type 0} where
     nowhere = λ q. refl;
     there = λ q c m e. cc;
     told = λ q c e. absurd cc;
+    member = λ q c e. absurd cc;
     absent = λ q c e. (refl, refl);
     short = λ q c. omega arith;
     in_order = λ q c. refl;
@@ -262,6 +263,8 @@ module _ {M : Type 0} where
     in_order = s.holds.in_order;
     received = s.holds.received;
     told = s.holds.told;
+    member = s.holds.member;
+    parts_itself = s.holds.own;
     together = s.holds.together;
     same_list = s.holds.same_list;
     with_all = s.holds.with_all;

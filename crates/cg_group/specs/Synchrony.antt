@@ -63,6 +63,9 @@ module _ {M : Type 0} where
     pub received : (p conf place : ℕ) → 0 < place → place ≤ count_of r p conf → IsTrue (all_received (configuration r.group conf) place)
     -- each member is told who the members are
     pub told : (p conf : ℕ) → IsTrue (was_there (stay_of r p conf).way) → (stay_of r p conf).members ≡ (configuration r.group conf).members
+    -- who is handed a configuration is a member of it, and who is handed a parting is in its set
+    pub member : (p conf : ℕ) → IsTrue (was_there (stay_of r p conf).way) → IsTrue (has (configuration r.group conf).members p)
+    pub parts_itself : (p conf : ℕ) (t : Parting M) → (stay_of r p conf).parting ≡ Some t → IsTrue (has t.set p)
     -- those who part together are told so in one call, after the same places, and are then handed the same list: the
     -- places after these that some of them had received
     pub together : (p q conf : ℕ) (t : Parting M) → (stay_of r p conf).parting ≡ Some t → IsTrue (has t.set q) →
