@@ -8,5 +8,6 @@ pub mod Soundness
 pub mod Renaming
 mod Turning
 mod Places
+mod AscendingReds
 pub mod ShownReds
 mod PlainReds

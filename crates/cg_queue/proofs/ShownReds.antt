@@ -8,8 +8,9 @@ use Rattle.cg_base.specs.Sets.{IsId}
 use Rattle.cg_base.specs.Cuts.{index_in}
 use Rattle.cg_queue.specs.Queue.{names_of}
 use Rattle.cg_queue.specs.Body.{Parts, seen, all_reds, is_above, AreKnown, IsSound, lane_of}
-use Rattle.cg_queue.specs.Shown.{IsBetween, IsShown}
+use Rattle.cg_queue.specs.Shown.{IsBetween, LeadUp, IsShown}
 use Rattle.cg_queue.proofs.RedLemmas.{is_named, names-all}
+use Rattle.cg_queue.proofs.AscendingReds.{rows-ascend}
 use Rattle.cg_queue.proofs.Soundness.{low_of, runs_of, has_lane}
 
 module _ (b : Parts) (sound : IsSound b) (id : ActionId) where
@@ -57,9 +58,15 @@ yellow_between low high (x ∷ ids) id are there =
     yellow_first low high x id ids (yellow_between low high ids id are.2) are.0 are.1 (is_above low x) refl there
 
 pub shown_of : (b : Parts) → IsSound b → IsShown (seen b)
+unfolding all_reds
 shown_of b sound = record {
   green = sound.green;
   red = sound.red;
+  greens = λ p is_id.
+      let slot : suc (p - 1) ≡ p = omega (arith, is_id.0) in
+      let lane = sound.lanes (p - 1) (omega (arith, is_id.0, is_id.1)) in
+      subst (λ q. LeadUp (seen b) q) slot (record { first = lane.first; follows = lane.greens });
+  ascend = (rows-ascend b.reds (low_of b) (runs_of b sound) 32 0 (omega arith)).0;
   reds = λ id. (between_from_red b sound id, red_from_between b sound id);
   yellow = λ id there. red_from_between b sound id (yellow_between b.green_cut b.red_cut b.yellow id sound.yellow there);
 }

@@ -1,0 +1,64 @@
+-- The names of the reds ascend.
+use Rattle.std.proofs.Common.{◌≡◌, ℕ, zero, suc, ◌+◌, ◌<◌, ◌≤◌, ◌||◌, Bool, true, false, List, [], ◌∷◌, ◌++◌, map, refl, sym, ap, subst, ◌∙◌, arith}
+use Rattle.std.specs.Prelude.{nat_lt}
+use Rattle.std.proofs.lemmas.Bool.{eq-eqb, lt-ltb}
+use Rattle.cg_base.specs.declared.action_id.ActionId.{ActionId}
+use Rattle.cg_base.specs.Ids.{id_before}
+use Rattle.cg_action.specs.declared.action.Action.{Action}
+use Rattle.cg_queue.specs.declared.red.Red.{Red}
+use Rattle.cg_queue.specs.Queue.{names_of}
+use Rattle.cg_queue.specs.Body.{Run, actions_in, reds_from}
+use Rattle.cg_queue.specs.Shown.{IsAhead, NamesAscend}
+
+-- the first of the names is of a later creator
+abbrev BeginsAbove : ℕ → List ActionId → Type 0
+BeginsAbove c [] = Unit {0}
+BeginsAbove c (id ∷ ids) = c < id.creator
+
+BeginsAbove-less : (c d : ℕ) (ids : List ActionId) → c ≤ d → BeginsAbove d ids → BeginsAbove c ids
+BeginsAbove-less c d [] le above = tt
+BeginsAbove-less c d (id ∷ ids) le above = omega (arith, le, above)
+
+or_true : (x : Bool) → (x || true) ≡ true
+or_true true = refl
+or_true false = refl
+
+before-creator : (a b : ActionId) → a.creator < b.creator → id_before a b ≡ true
+before-creator a b lt = rw (lt-ltb a.creator b.creator lt) refl
+
+before-index : (a b : ActionId) → a.creator ≡ b.creator → a.index < b.index → id_before a b ≡ true
+before-index a b same lt = rw (same, lt-ltb a.index b.index lt, eq-eqb b.creator b.creator refl) (or_true (nat_lt b.creator b.creator))
+
+names-append : (xs ys : List Action) → names_of (xs ++ ys) ≡ names_of xs ++ names_of ys
+names-append [] ys = refl
+names-append (x ∷ xs) ys = ap (λ ids. x.id ∷ ids) (names-append xs ys)
+
+-- what stands behind a creator's action: its next one, or one of a later creator
+ahead : (c from : ℕ) (id : ActionId) (reds : List Red) (rest : List ActionId) → id.creator ≡ c → id.index < from → Run c from reds → BeginsAbove c rest
+    → IsAhead id (names_of (actions_in reds) ++ rest)
+ahead c from id [] [] own less run above = tt
+ahead c from id [] (next ∷ rest) own less run above = before-creator id next (let e = own in omega (arith, e, above))
+ahead c from id (r ∷ reds) rest own less run above = before-index id r.action.id (own ∙ sym run.0) (let e = run.1 in omega (arith, e, less))
+
+run-ascends : (c from : ℕ) (reds : List Red) (rest : List ActionId) → Run c from reds → BeginsAbove c rest → NamesAscend rest → NamesAscend (names_of (actions_in reds) ++ rest)
+run-ascends c from [] rest run above ascend = ascend
+run-ascends c from (r ∷ reds) rest run above ascend =
+    (ahead c (suc from) r.action.id reds rest run.0 (let e = run.1 in omega (arith, e)) run.2 above, run-ascends c (suc from) reds rest run.2 above ascend)
+
+begins : (first from : ℕ) (reds : List Red) (rest : List ActionId) → Run (suc first) from reds → BeginsAbove (suc first) rest → BeginsAbove first (names_of (actions_in reds) ++ rest)
+begins first from [] rest run above = BeginsAbove-less first (suc first) rest (omega arith) above
+begins first from (r ∷ reds) rest run above = let e = run.0 in omega (arith, e)
+
+-- the rows one behind the other
+module _ (lanes : ℕ → List Red) (low : ℕ → ℕ) (runs : (slot : ℕ) → slot < 32 → Run (suc slot) (low slot) (lanes slot)) where
+  pub rows-ascend : (count first : ℕ) → first + count ≤ 32 → NamesAscend (names_of (reds_from lanes count first)) × BeginsAbove first (names_of (reds_from lanes count first))
+  unfolding reds_from
+  rows-ascend zero first few = (tt, tt)
+  rows-ascend (suc count) first few =
+      let rest = rows-ascend count (suc first) (omega arith) in
+      let run = runs first (omega arith) in
+      let names = names_of (reds_from lanes count (suc first)) in
+      let split : names_of (actions_in (lanes first)) ++ names ≡ names_of (reds_from lanes (suc count) first) = sym (names-append (actions_in (lanes first)) (reds_from lanes count (suc first))) in (
+        subst NamesAscend split (run-ascends (suc first) (low first) (lanes first) names run rest.1 rest.0),
+        subst (BeginsAbove first) split (begins first (low first) (lanes first) names run rest.1),
+      )
