@@ -8,7 +8,7 @@ use Rattle.cg_action.specs.declared.action.Kind.{Kind}
 use Rattle.cg_action.specs.declared.action.Kind.TheVariants.{Update, Join, Leave}
 use Rattle.cg_action.specs.declared.action.Action.{Action}
 use Rattle.cg_members.specs.declared.server.Server.{Server}
-use Rattle.cg_members.specs.declared.members.Members.{Members}
+use Rattle.cg_members.specs.Members.{Members}
 use Rattle.cg_members.specs.Servers.{is_among, is_server, was_ever, first_line, with_server, without_server, with_line, starting, joined, departed, raise_line, after_kind, after_green, after_greens, members_of}
 use Rattle.cg_members.specs.Laws.{NoLineAbove, AreApart}
 
@@ -59,7 +59,7 @@ is_among-with_server (s ∷ servers) new q here = elim (cases_order new.id s.id)
     or_second true b e = refl
     or_second false b e = e
 
-is_among-without : (servers : List Server) (p q : ℕ) → is_among (without_server servers p) q ≡ true → (is_among servers q ≡ true) × (q ≢ p)
+pub is_among-without : (servers : List Server) (p q : ℕ) → is_among (without_server servers p) q ≡ true → (is_among servers q ≡ true) × (q ≢ p)
 is_among-without [] p q here = absurd (true≢false (sym here))
 is_among-without (s ∷ servers) p q here = elim (cases_eq s.id p) [
   | inl same ↦
@@ -77,7 +77,7 @@ is_among-without (s ∷ servers) p q here = elim (cases_eq s.id p) [
     or_second true b e = refl
     or_second false b e = e
 
-is_among-with_line : (servers : List Server) (p line q : ℕ) → is_among (map (with_line p line) servers) q ≡ is_among servers q
+pub is_among-with_line : (servers : List Server) (p line q : ℕ) → is_among (map (with_line p line) servers) q ≡ is_among servers q
 is_among-with_line [] p line q = refl
 is_among-with_line (s ∷ servers) p line q = elim (cases_Bool (eqb s.id p)) [
   | inl same ↦ rw same (ap (λ b. eqb s.id q || b) (is_among-with_line servers p line q))

@@ -11,7 +11,7 @@ mod members;
 mod server;
 mod server_set;
 
-pub use laws::{members_follow_greens, servers_stay_apart};
+pub use laws::{lines_never_fall, members_follow_greens, servers_stay_apart};
 pub use members::Members;
 pub use server::Server;
 pub use server_set::{ServerSet, Servers};
