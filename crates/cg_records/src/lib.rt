@@ -15,7 +15,7 @@ mod stable;
 mod vulnerable;
 mod yellow;
 
-pub use laws::{all_bytes_are_stable, records_are_exact};
+pub use laws::{all_bytes_are_stable, records_are_exact, records_stand_apart};
 pub use names::{put_cut, take_cut};
 pub use numbers::{take_id, take_id_above, take_number, take_weight};
 pub use primary::{Primary, put_prim, take_prim};
