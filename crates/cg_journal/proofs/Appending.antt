@@ -15,7 +15,7 @@ use Rattle.cg_journal.proofs.Both.{records_emptied}
 use Rattle.cg_journal.proofs.AddSteps.{struck_more}
 use Rattle.cg_journal.specs.Adds.{IsLostIn, IsAdded, IsNotAdded}
 use Rattle.cg_journal.specs.Held.{end_of, end_on, with_end, Ended, IsJournal}
-use Rattle.cg_journal.specs.Answers.{with_record, without_records, with_record_alone, IsDone, IsRefused, IsLostAppend, IsLostRestart, Appends, Restarts}
+use Rattle.cg_journal.specs.Answers.{CanBeRead, with_record, without_records, with_record_alone, IsDone, IsRefused, IsLostAppend, IsLostRestart, Appends, Restarts}
 use Rattle.cg_journal.specs.declared.ends.Ends.{Ends}
 use Rattle.cg_journal.proofs.Reading.{reads_as}
 use Rattle.cg_journal.specs.ViewLaws.{some_state, unstruck_more}
@@ -29,6 +29,13 @@ bodies_on None b r is = cc
 pub records_on : (side : Side) (image : Image) (r : Records) → records image ≡ Some r → bodies_of (bytes_of side image) ≡ Some (on_side side r)
 records_on A image r is = (bodies_on (bodies_of image.a) (bodies_of image.b) r is).0
 records_on B image r is = (bodies_on (bodies_of image.a) (bodies_of image.b) r is).1
+
+-- what stands on both sides of a journal can be read
+pub can_be_read : (d : DiskView) (ends : Ends) → IsJournal d ends → CanBeRead d
+can_be_read d ends held =
+    let on_a = reads_as d.reads.a (end_on A ends) (held.on A).bodies (held.on A).has in
+    let on_b = reads_as d.reads.b (end_on B ends) (held.on B).bodies (held.on B).has in
+    record { all = record { a = (held.on A).bodies; b = (held.on B).bodies }; read = λ i. both (on_a i) (on_b i) }
 
 -- a side's records end where a journal says
 pub ends_at : (side : Side) (d : DiskView) (end : ℕ) (bodies : List (List ℕ)) → HasRecords (bytes_of side d.reads) end bodies → (r : Records) → records d.reads ≡ Some r → end ≡ end_of (on_side side r)

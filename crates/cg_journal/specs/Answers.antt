@@ -12,6 +12,11 @@ use Rattle.cg_journal.specs.Held.{end_of}
 use Rattle.cg_journal.specs.declared.journal.AppendErr.{AppendErr}
 use Rattle.cg_journal.specs.declared.journal.AppendErr.TheVariants.{Lost, NoMemory}
 
+-- the records of both sides can be read
+pub record CanBeRead (d : DiskView) : Type 0 where
+  pub all : Records
+  pub read : records d.reads ≡ Some all
+
 -- the records with one more on a side
 abbrev pub with_record : Side → List ℕ → DiskView → Option Records
 with_record side body old = option_map (added side body) (records old.reads)

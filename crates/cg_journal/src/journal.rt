@@ -44,7 +44,7 @@ pub enum AppendErr<D: Disk> {
 }
 
 impl<D: Disk> Journal<D> {
-    ghost use Rattle.cg_journal.specs.Answers.{Appends, Restarts, ClosesSide, EachMoment, IsRestarting, with_record, without_records};
+    ghost use Rattle.cg_journal.specs.Answers.{CanBeRead, Appends, Restarts, ClosesSide, EachMoment, IsRestarting, with_record, without_records};
     ghost use Rattle.cg_journal.specs.Adds.{IsEither};
     ghost use Rattle.cg_journal.specs.Opens.{Formats, Opens};
     ghost use Rattle.cg_journal.specs.Held.{end_of};
@@ -101,11 +101,12 @@ impl<D: Disk> Journal<D> {
         requires calls { (D.view self).time + 4 ≤ 2 ^ 62 }
         requires short { length body.now < 2 ^ 32 }
 
-        ensures ends { Appends D.view side body.now (D.view self) result }
-
         // At each moment every image stands for the records before, or for those with the new one.
         ensures moments { EachMoment D.view (IsEither (records (D.view self).reads) (with_record side body.now (D.view self))) (D.view self) result }
+        ensures ends { Appends D.view side body.now (D.view self) result }
+        ensures readable { CanBeRead (D.view self) }
     {
+        self.readable();
         match framed(alloc, body) {
             Ok(bytes) => self.append_framed(side, &bytes),
             Err(_) => Err(AppendErr::NoMemory(self)),
@@ -117,11 +118,12 @@ impl<D: Disk> Journal<D> {
         requires calls { (D.view self).time + 6 ≤ 2 ^ 62 }
         requires short { length body.now < 2 ^ 32 }
 
-        ensures ends { Restarts D.view side body.now (D.view self) result }
-
         // At each moment every image has the records before on that side, or none, or the new one alone.
         ensures moments { EachMoment D.view (IsRestarting side body.now (D.view self)) (D.view self) result }
+        ensures ends { Restarts D.view side body.now (D.view self) result }
+        ensures readable { CanBeRead (D.view self) }
     {
+        self.readable();
         let bytes = match framed(alloc, body) {
             Ok(bytes) => bytes,
             Err(_) => return Err(AppendErr::NoMemory(self)),
@@ -130,6 +132,13 @@ impl<D: Disk> Journal<D> {
             Ok(journal) => journal.append_framed(side, &bytes),
             Err(fault) => Err(fault),
         }
+    }
+
+    // The records of both sides can be read.
+    fn readable(&self)
+        ensures { CanBeRead (D.view self.now) }
+    {
+        let _ends = &self.ends;
     }
 
     // Adds a record that is spelled here.
@@ -171,22 +180,28 @@ impl<D: Disk> Journal<D> {
 
     /// Where the records of a side end: the place just past the gate behind the last one. It takes no memory.
     pub fn length(&self, side: Side) -> u64
-        ensures { (r : Records) → records (D.view self.now).reads ≡ Some r → result ≡ end_of (on_side side r) }
+        ensures end { (r : Records) → records (D.view self.now).reads ≡ Some r → result ≡ end_of (on_side side r) }
+        ensures readable { CanBeRead (D.view self.now) }
     {
+        self.readable();
         self.ends.on(side)
     }
 
     /// The disk's `begin`.
     pub fn begin(&mut self)
-        ensures { Begins (D.view self.old) (D.view self.new) }
+        ensures begins { Begins (D.view self.old) (D.view self.new) }
+        ensures readable { CanBeRead (D.view self.old) }
     {
+        self.readable();
         self.disk.begin();
     }
 
     /// Its disk. It takes no memory.
     pub fn into_disk(self) -> D
-        ensures { result ≡ self }
+        ensures disk { result ≡ self }
+        ensures readable { CanBeRead (D.view self) }
     {
+        self.readable();
         let Journal { disk, .. } = self;
         disk
     }
