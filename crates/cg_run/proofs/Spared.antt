@@ -29,7 +29,7 @@ use Rattle.cg_run.specs.declared.status.Limit.TheVariants.{Steps}
 use Rattle.cg_run.specs.Produced.{Finding, Produced, before_all, status_of, went_on, ended_with, and_then, unless_refused, one_step}
 use Rattle.cg_run.specs.Rounds.{deliver_ready, deliveries, one_pass, passes, happened}
 use Rattle.cg_run.specs.Outcome.{lines_alone, event_outcome, word_outcome, opened_outcome, line_outcome, without_return, limit_of, unless_passed, whole_line, at_end, cut_line, last_piece, replayed, outcome_of}
-use Rattle.cg_run.specs.Taking.{HasCause, ReadCause, Ends}
+use Rattle.cg_run.specs.Taking.{HasCause, FailedIsLast, ReadCause, Ends}
 
 -- a status that comes of the input's end or of a failed take, and not of a line
 abbrev pub is_of_end : Option Status → Bool
@@ -189,10 +189,38 @@ module _ (how : Ending) (not_failed : how ≡ Failed → ⊥) where
   Spares-outcome (Some (Generate seed replicas lines)) taken = λ e. cc
   Spares-outcome (Some (Trial seed replicas lines)) taken = Spares-lines (lines_alone (generated seed replicas lines))
 
--- the status tells of a failed take only where one failed
+-- no take failed where the taking ended in another way
+none-failed : (how : Ending) (old new : SourceView) → HasCause how old new → (how ≡ Failed → ⊥) → new.faults ≡ old.faults
+none-failed Ended old new cause other = cause.1
+none-failed Failed old new cause other = absurd (other refl)
+none-failed Open old new cause other = cause
+
+abbrev some : Status → Option Status
+some s = Some s
+
+-- what comes to a failed take comes to no other status
+not-read : (s : Status) → (status.ReadFault ≡ s → ⊥) → (o : Option Status) → o ≡ some status.ReadFault → o ≡ some s → ⊥
+not-read s apart o read is = apart (same (sym read ∙ is)) where
+  same : some status.ReadFault ≡ some s → status.ReadFault ≡ s
+  same e = cc
+
+-- the status tells of a failed take where one failed
 pub read-cause : (c : Option Command) (taken : List ℕ) (how : Ending) (old new : SourceView) (v v' : SinkView) (st : Status)
-    → HasCause how old new → Ends c (outcome_of c taken how) v v' st → ReadCause old new st
-read-cause c taken Failed old new v v' status.ReadFault cause stopped = cause
-read-cause c taken Ended old new v v' status.ReadFault cause stopped = absurd (Spares-outcome Ended (λ e. cc) c taken stopped.0)
-read-cause c taken Open old new v v' status.ReadFault cause stopped = absurd (Spares-outcome Open (λ e. cc) c taken stopped.0)
-read-cause c taken how old new v v' other cause stopped = tt
+    → HasCause how old new → FailedIsLast how (outcome_of c taken how) → Ends c (outcome_of c taken how) v v' st → ReadCause old new st
+read-cause c taken Failed old new v v' status.ReadFault cause last stopped = cause
+read-cause c taken Ended old new v v' status.ReadFault cause last stopped = absurd (Spares-outcome Ended (λ e. cc) c taken stopped.0)
+read-cause c taken Open old new v v' status.ReadFault cause last stopped = absurd (Spares-outcome Open (λ e. cc) c taken stopped.0)
+read-cause c taken how old new v v' status.WriteFault cause last stopped = tt
+read-cause c taken how old new v v' status.NoMemory cause last stopped = tt
+read-cause c taken how old new v v' status.Done cause last stopped =
+    none-failed how old new cause (λ e. not-read status.Done (λ f. cc) (status_of (outcome_of c taken how)) (last e) stopped.0)
+read-cause c taken how old new v v' status.Usage cause last stopped =
+    none-failed how old new cause (λ e. not-read status.Usage (λ f. cc) (status_of (outcome_of c taken how)) (last e) stopped.0)
+read-cause c taken how old new v v' (status.Syntax line reason) cause last stopped =
+    none-failed how old new cause (λ e. not-read (status.Syntax line reason) (λ f. cc) (status_of (outcome_of c taken how)) (last e) stopped.0)
+read-cause c taken how old new v v' (status.Refused line reason) cause last stopped =
+    none-failed how old new cause (λ e. not-read (status.Refused line reason) (λ f. cc) (status_of (outcome_of c taken how)) (last e) stopped.0)
+read-cause c taken how old new v v' (status.Limit line what) cause last stopped =
+    none-failed how old new cause (λ e. not-read (status.Limit line what) (λ f. cc) (status_of (outcome_of c taken how)) (last e) stopped.0)
+read-cause c taken how old new v v' (status.NoEnd lines) cause last stopped =
+    none-failed how old new cause (λ e. not-read (status.NoEnd lines) (λ f. cc) (status_of (outcome_of c taken how)) (last e) stopped.0)

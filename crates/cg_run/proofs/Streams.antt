@@ -13,12 +13,12 @@ use Rattle.cg_run.specs.declared.progress.Report.{Report}
 use Rattle.cg_run.specs.declared.progress.Stage.{Stage}
 use Rattle.cg_run.specs.declared.status.Status.{Status}
 use Rattle.cg_run.specs.declared.status.Status.TheVariants as status
-use Rattle.cg_run.specs.Produced.{Produced, with_tail, report_in, text_of, prepend, went_on}
+use Rattle.cg_run.specs.Produced.{Produced, status_of, with_tail, report_in, text_of, prepend, went_on}
 use Rattle.cg_run.specs.Putting.{Puts}
-use Rattle.cg_run.specs.Taking.{HasCause, Begins, InTime}
+use Rattle.cg_run.specs.Taking.{HasCause, Begins, InTime, FailedIsLast}
 use Rattle.cg_run.specs.Streaming.{first_stage, from_stage, IsStage, IsHeld, IsMade, Passes, TakesUp, TakesTurn, Replays}
 use Rattle.cg_run.proofs.GoingOn.{GoesOn-stop, Puts-none, Puts-twice, Appends-twice, report_in-append}
-use Rattle.cg_run.proofs.Stages.{Passes-none, Passes-twice, front-held, held-within, held-went_on}
+use Rattle.cg_run.proofs.Stages.{Passes-none, Passes-twice, front-held, held-within, held-went_on, from-held, last-failed}
 use Rattle.cg_run.proofs.TakeLemmas.{Consumes-none, Consumes-twice}
 use Rattle.cg_run.specs.Performing.{Stopped, GoesOn}
 
@@ -138,6 +138,7 @@ module _ (report : Report) (old now new : SourceView) (v v1 v2 : SinkView) (held
           omega (arith, some, all, s.passes.placed, t.within),
           GoesOn-stop report (from_stage first_stage taken t.ending) (from_stage st (held ++ t.chunk) t.ending) v v1 v2 status goes t.comes,
           in_time,
+          λ e. ap status_of goes.same ∙ t.last e,
         );
       }
 
@@ -153,15 +154,15 @@ pub turn-goes : (report : Report) (st : Stage) (held : List ℕ) (old new : Sour
     → Consumes old.left new.left chunk → new.faults ≡ old.faults → 0 < length chunk → length chunk ≤ 4096 → st.at + length held + length chunk ≤ 8388609
     → TakesUp report st (held ++ chunk) v v' held' r → TakesTurn report st held old new v v' held' r
 turn-goes report st held old new v v' held' (Ok next) chunk consumed none some few within up =
-    record { chunk = chunk; ending = Open; consumed = consumed; cause = none; few = few; within = within; comes = (some, none, up.0, up.1) }
+    record { chunk = chunk; ending = Open; consumed = consumed; cause = none; few = few; within = within; last = λ e. absurd cc; comes = (some, none, up.0, up.1) }
 turn-goes report st held old new v v' held' (Err status) chunk consumed none some few within up =
-    record { chunk = chunk; ending = Open; consumed = consumed; cause = none; few = few; within = within; comes = up }
+    record { chunk = chunk; ending = Open; consumed = consumed; cause = none; few = few; within = within; last = λ e. absurd cc; comes = up }
 
 -- a turn in which nothing was taken, and the run ended
 pub turn-ended : (report : Report) (st : Stage) (held : List ℕ) (how : Ending) (old new : SourceView) (v v' : SinkView) (held' : List ℕ) (r : Status)
-    → IsStage st → IsHeld st held → Consumes old.left new.left [] → HasCause how old new → Stopped report (from_stage st held how) v v' r
+    → IsStage st → IsHeld st held → Consumes old.left new.left [] → HasCause how old new → FailedIsLast how (from_stage st held how) → Stopped report (from_stage st held how) v v' r
     → TakesTurn report st held old new v v' held' (Err r)
-turn-ended report st held how old new v v' held' r stands is consumed cause stopped =
+turn-ended report st held how old new v v' held' r stands is consumed cause last stopped =
     let within = held-within st.line st.at held stands.within is.unpassed in
     record {
       chunk = [];
@@ -170,6 +171,7 @@ turn-ended report st held how old new v v' held' r stands is consumed cause stop
       cause = cause;
       few = omega arith;
       within = omega (arith, within.1);
+      last = subst (λ bytes. FailedIsLast how (from_stage st bytes how)) (sym (append-nil held)) last;
       comes = subst (λ bytes. Stopped report (from_stage st bytes how) v v' r) (sym (append-nil held)) stopped;
     }
 
@@ -178,4 +180,5 @@ pub turn-failed : (report : Report) (st : Stage) (held : List ℕ) (old new : So
     → IsStage st → IsHeld st held → Keeps old.left new.left → new.faults ≡ old.faults + 1 → Stopped report (from_stage st held Failed) v v' r
     → TakesTurn report st held old new v v' held' (Err r)
 turn-failed report st held old new v v' held' r stands is keeps cause stopped =
-    turn-ended report st held Failed old new v v' held' r stands is (Keeps-consumes old.left new.left keeps) cause stopped
+    turn-ended report st held Failed old new v v' held' r stands is (Keeps-consumes old.left new.left keeps) cause
+    (λ e. ap status_of (from-held st held Failed is.unended ∙ last-failed st.line st.at held st.progress is.unpassed)) stopped

@@ -15,7 +15,7 @@ use Rattle.cg_run.specs.declared.status.Status.{Status}
 use Rattle.cg_run.specs.Produced.{Produced, before_all, prepend, report_in, text_of}
 use Rattle.cg_run.specs.Outcome.{limit_of, whole_line, replayed}
 use Rattle.cg_run.specs.Putting.{Puts}
-use Rattle.cg_run.specs.Taking.{most_taken, most_at_once, HasCause, InTime, OfTaken}
+use Rattle.cg_run.specs.Taking.{most_taken, most_at_once, HasCause, InTime, OfTaken, FailedIsLast}
 use Rattle.cg_run.specs.UnderWay.{IsUnderWay}
 use Rattle.cg_run.specs.Performing.{Stopped}
 
@@ -103,6 +103,7 @@ pub record TakesTurn (report : Report) (st : Stage) (held : List ℕ) (old new :
   pub cause : HasCause ending old new
   pub few : length chunk ≤ most_at_once
   pub within : st.at + length held + length chunk ≤ most_taken
+  pub last : FailedIsLast ending (from_stage st (held ++ chunk) ending)
   pub comes :
       MatchResult result
       (λ next. (0 < length chunk) × (new.faults ≡ old.faults) × GoesThrough report st (held ++ chunk) from to held' next × IsHeld next held')
@@ -113,4 +114,5 @@ abbrev pub Replays : Report → SourceView → SourceView → SinkView → SinkV
 Replays report old new from to status =
     OfTaken old new (λ taken how.
     (length taken ≤ most_taken) × Stopped report (from_stage first_stage taken how) from to status
-    × InTime (text_of report) (λ front. from_stage first_stage front Open) taken from to)
+    × InTime (text_of report) (λ front. from_stage first_stage front Open) taken from to
+    × FailedIsLast how (from_stage first_stage taken how))

@@ -30,10 +30,16 @@ HasCause Ended old new = IsAtEnd new.left × (new.faults ≡ old.faults)
 HasCause Failed old new = new.faults ≡ old.faults + 1
 HasCause Open old new = new.faults ≡ old.faults
 
--- a status tells of a failed take only where one failed
+-- a failed take ends the run, which comes to that and to nothing else
+abbrev pub FailedIsLast : Ending → Produced → Type 0
+FailedIsLast how p = how ≡ Failed → status_of p ≡ Some status.ReadFault
+
+-- a status tells of a failed take where one failed, unless the rest couldn't be put or memory was refused
 abbrev pub ReadCause : SourceView → SourceView → Status → Type 0
 ReadCause old new status.ReadFault = new.faults ≡ old.faults + 1
-ReadCause old new other = Unit {0}
+ReadCause old new status.WriteFault = Unit {0}
+ReadCause old new status.NoMemory = Unit {0}
+ReadCause old new other = new.faults ≡ old.faults
 
 -- some bytes were taken, the taking ended in some way, and this holds of them
 pub record OfTaken (old new : SourceView) (Holds : List ℕ → Ending → Type 0) : Type 0 where

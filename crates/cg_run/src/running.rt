@@ -122,7 +122,8 @@ pub fn run<S: Source, K: Sink>(
     // Without a command that reads the input nothing is taken.
     ensures usage { reads_input (command_of words.now) ≡ false → S.view input.new ≡ S.view input.old }
 
-    // Where the status tells of a failed take, one failed; a put failed exactly where it tells of that.
+    // Where the status tells of a failed take one failed, and else none did, unless a put failed or memory was refused; a put
+    // failed exactly where the status tells of that.
     ensures read_fault { ReadCause (S.view input.old) (S.view input.new) result }
     ensures write_fault { (K.view output.new).faults ≡ (K.view output.old).faults + write_faults result }
 

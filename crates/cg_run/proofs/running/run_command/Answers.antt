@@ -18,24 +18,38 @@ returns-in-None-clause-ran g c =
 
 pub returns-in-Some-Replay-clause-ran : goal.returns-in-Some-Replay-clause-ran
 returns-in-Some-Replay-clause-ran g c =
+    let r = c.replay.ensures in
     let old = g.S.Source.view c.args.input.now in
     let new = g.S.Source.view c.replay.new.input in
     let v = g.K.Sink.view c.args.output.now in
     let v1 = g.K.Sink.view c.replay.new.output in
     let is : command_of c.args.words.now ≡ Some (Replay c.in-Some-Replay.report) = sym c.command_of.ensures.value ∙ c.in-Some-Replay.is ∙ ap Some c.in-Some-Replay.field-0-is in
-    subst (λ (command : Option Command). Runs command old new v v1 c.replay.result) (sym is) (Runs-near (Some (Replay c.in-Some-Replay.report)) old new v v1 c.replay.result c.replay.ensures)
+    subst (λ (command : Option Command). Runs command old new v v1 c.replay.result) (sym is)
+    (Runs-near (Some (Replay c.in-Some-Replay.report)) old new v v1 c.replay.result
+    (record { taken = r.taken; ending = r.ending; consumed = r.consumed; cause = r.cause; holds = (r.holds.0, r.holds.1, r.holds.2) }))
 
 pub returns-in-Some-Replay-clause-read_fault : goal.returns-in-Some-Replay-clause-read_fault
 returns-in-Some-Replay-clause-read_fault g c =
     let r = c.replay.ensures in
     read-cause (Some (Replay c.in-Some-Replay.report)) r.taken r.ending (g.S.Source.view c.args.input.now) (g.S.Source.view c.replay.new.input) (g.K.Sink.view c.args.output.now) (g.K.Sink.view c.replay.new.output)
-    c.replay.result r.cause r.holds.1
+    c.replay.result r.cause r.holds.3 r.holds.1
 
 pub returns-in-Some-Trial-clause-read_fault : goal.returns-in-Some-Trial-clause-read_fault
 returns-in-Some-Trial-clause-read_fault g c =
     let old = g.S.Source.view c.args.input.now in
     read-cause (Some (Trial c.in-Some-Trial.seed c.in-Some-Trial.replicas c.in-Some-Trial.lines)) [] Open old old (g.K.Sink.view c.args.output.now) (g.K.Sink.view c.try_schedule.new.output)
-    c.try_schedule.result refl c.try_schedule.ensures
+    c.try_schedule.result refl (λ e. absurd cc) c.try_schedule.ensures
+
+pub returns-in-None-clause-read_fault : goal.returns-in-None-clause-read_fault
+returns-in-None-clause-read_fault g c =
+    let old = g.S.Source.view c.args.input.now in
+    read-cause None [] Open old old (g.K.Sink.view c.args.output.now) (g.K.Sink.view c.finish.new.output) c.finish.result refl (λ e. absurd cc) c.finish.ensures
+
+pub returns-in-Some-Generate-clause-read_fault : goal.returns-in-Some-Generate-clause-read_fault
+returns-in-Some-Generate-clause-read_fault g c =
+    let old = g.S.Source.view c.args.input.now in
+    read-cause (Some (Generate c.in-Some-Generate.seed c.in-Some-Generate.replicas c.in-Some-Generate.lines)) [] Open old old (g.K.Sink.view c.args.output.now) (g.K.Sink.view c.put_schedule.new.output)
+    c.put_schedule.result refl (λ e. absurd cc) c.put_schedule.ensures
 
 pub returns-in-Some-Generate-clause-ran : goal.returns-in-Some-Generate-clause-ran
 returns-in-Some-Generate-clause-ran g c =

@@ -23,7 +23,7 @@ returns-in-Ok-eq0 g c =
     let new = g.S.Source.view c.take.new.self in
     let took = c.in-Ok-eq0.ensures in
     turn-ended c.args.report c.args.stage c.args.held.now.items Ended old new v v1 c.args.held.now.items c.close_stage.result c.requires.stands c.requires.held
-    (subst (λ (n : ℕ). Consumes old.left new.left (take n c.take.new.buf)) c.in-Ok-eq0.field-0-test took.bytes.1) (took.bytes.2 c.in-Ok-eq0.field-0-test, took.cause)
+    (subst (λ (n : ℕ). Consumes old.left new.left (take n c.take.new.buf)) c.in-Ok-eq0.field-0-test took.bytes.1) (took.bytes.2 c.in-Ok-eq0.field-0-test, took.cause) (λ e. absurd cc)
     (subst (λ held. Stopped c.args.report (from_stage c.args.stage held Ended) v v1 c.close_stage.result) c.as_slice-in-Ok-eq0.ensures.value c.close_stage.ensures)
 
 pub returns-in-Ok : goal.returns-in-Ok
