@@ -1,0 +1,5 @@
+mod Near
+mod Best
+mod Joined
+mod Knowing
+mod Planning
