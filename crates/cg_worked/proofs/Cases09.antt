@@ -1,10 +1,11 @@
--- A long run of four replicas: requests that are kept, a sum past the range, and replies far behind their requests.
+-- Cases of cases/ with their whole reports, which `.ci/theorems` writes down here.
 use Rattle.std.specs.Prelude.{◌≡◌, [], ◌∷◌}
 use mathlib.Core.Path.{refl}
 use Rattle.cg_worked.specs.Replaying.{replayed_text, written}
 use Rattle.cg_worked.specs.Computing.{cases_compute}
 
-four_alternate :
+-- Replicas at the start: 4: actions are ordered.
+four_replicas_actions_ordered_b_from_discarding :
     replayed_text (
     "start 8 18 21 27" ∷
     "merge 8 18 21 27" ∷
@@ -363,4 +364,267 @@ four_alternate :
     "end 98" ∷
     [])
 unfolding cases_compute
-four_alternate = refl
+four_replicas_actions_ordered_b_from_discarding = refl
+
+-- Replicas at the start: 4: actions are ordered.
+four_replicas_actions_ordered_e_from_discarding :
+    replayed_text (
+    "start 1 2 3 4" ∷
+    "merge 1 2 3 4" ∷
+    "rounds 2" ∷
+    "rounds 1" ∷
+    "request 1 cas \"ab\" absent -1 ? get \"z\"" ∷
+    "request 2 put \"y\" 36" ∷
+    "request 2 move \"k2\" \"z\" 5" ∷
+    "rounds 2" ∷
+    "request 2 cas \"abc\" \"-1\" 77 ? count" ∷
+    "rounds 3" ∷
+    "request 2 put \"a\" 88" ∷
+    "gather" ∷
+    "deliver 3 1" ∷
+    "request 1 move \"ab\" \"x\" 5 ? get \"y\"" ∷
+    "order 1" ∷
+    "gather" ∷
+    "request 1 inc \"a\" 2" ∷
+    "deliver 1 2" ∷
+    "request 1 need \"z\" 16 ? get \"ab\"" ∷
+    "deliver 4 2" ∷
+    "gather" ∷
+    "request 2 inc \"z\" 12" ∷
+    "deliver 2 4" ∷
+    "request 4 inc \"b\" 4; put \"a\" 43; inc \"y\" 9223372036854775807; put \"y\" \"\" ? count" ∷
+    "request 2 put \"a\" -8; move \"a\" \"x\" 9223372036854775807 ? get \"z\"" ∷
+    "request 4 cas \"x\" \"absent\" 9223372036854775806 ? get \"y\"" ∷
+    "rounds 3" ∷
+    "gather" ∷
+    "gather" ∷
+    "request 3 need \"z\" 87; move \"y\" \"b\" 6; put \"y\" 0" ∷
+    "order 3" ∷
+    "request 2 inc \"b\" 7" ∷
+    "rounds 3" ∷
+    "request 3 inc \"a\" 6 ? get \"y\"" ∷
+    "request 1 inc \"z\" 4" ∷
+    "rounds 3" ∷
+    "rounds 3" ∷
+    "rounds 1" ∷
+    "request 3 need \"y\" -9223372036854775808 ? get \"y\"" ∷
+    "request 3 inc \"ab\" 7; inc \"x\" 1; put \"a\" 22; del \"a\"" ∷
+    "request 4 inc \"b\" 2; need \"y\" 71; put \"y\" 82; inc \"z\" 6 ? get \"a\"" ∷
+    "request 1 need \"y\" 45" ∷
+    "gather" ∷
+    "request 2 put \"y\" 74; need \"y\" 20; inc \"a\" -1" ∷
+    "show 3" ∷
+    "deliver 1 3" ∷
+    "show order" ∷
+    "deliver 3 3" ∷
+    "request 1 put \"a\" 47; put \"z\" 8" ∷
+    "request 3 inc \"ab\" -2; inc \"y\" 7; need \"b\" absent" ∷
+    "request 3 cas \"a\" \"\" 38" ∷
+    "request 2 put \"z\" 14; del \"z\"; inc \"ab\" 8" ∷
+    "request 1 del \"z\"" ∷
+    "end" ∷
+    [])
+    ≡ written (
+    "= 1" ∷
+    "1 NonPrim - g0 w0 p0@0{1,2,3,4} a0 v- y- r[] o[] x{} b0" ∷
+    "2 NonPrim - g0 w0 p0@0{1,2,3,4} a0 v- y- r[] o[] x{} b0" ∷
+    "3 NonPrim - g0 w0 p0@0{1,2,3,4} a0 v- y- r[] o[] x{} b0" ∷
+    "4 NonPrim - g0 w0 p0@0{1,2,3,4} a0 v- y- r[] o[] x{} b0" ∷
+    "= 2" ∷
+    "1 ExchangeStates c1 g0 w0 p0@0{1,2,3,4} a0 v- y- r[] o[] x{} b0" ∷
+    "2 ExchangeStates c1 g0 w0 p0@0{1,2,3,4} a0 v- y- r[] o[] x{} b0" ∷
+    "3 ExchangeStates c1 g0 w0 p0@0{1,2,3,4} a0 v- y- r[] o[] x{} b0" ∷
+    "4 ExchangeStates c1 g0 w0 p0@0{1,2,3,4} a0 v- y- r[] o[] x{} b0" ∷
+    "= 4" ∷
+    "1 Construct c1 g0 w0 p0@0{1,2,3,4} a1 v1/0{1,2,3,4}{1} y- r[] o[] x{} b0" ∷
+    "= 5" ∷
+    "2 Construct c1 g0 w0 p0@0{1,2,3,4} a1 v1/0{1,2,3,4}{2} y- r[] o[] x{} b0" ∷
+    "= 6" ∷
+    "3 Construct c1 g0 w0 p0@0{1,2,3,4} a1 v1/0{1,2,3,4}{3} y- r[] o[] x{} b0" ∷
+    "= 7" ∷
+    "4 Construct c1 g0 w0 p0@0{1,2,3,4} a1 v1/0{1,2,3,4}{4} y- r[] o[] x{} b0" ∷
+    "= 9" ∷
+    "1 RegPrim c1 g0 w0 p1@1{1,2,3,4} a0 v1/0{1,2,3,4}{1} y- r[] o[] x{} b0" ∷
+    "= 10" ∷
+    "2 RegPrim c1 g0 w0 p1@1{1,2,3,4} a0 v1/0{1,2,3,4}{2} y- r[] o[] x{} b0" ∷
+    "= 11" ∷
+    "3 RegPrim c1 g0 w0 p1@1{1,2,3,4} a0 v1/0{1,2,3,4}{3} y- r[] o[] x{} b0" ∷
+    "= 12" ∷
+    "4 RegPrim c1 g0 w0 p1@1{1,2,3,4} a0 v1/0{1,2,3,4}{4} y- r[] o[] x{} b0" ∷
+    "= 14" ∷
+    "made 1:1 cas \"ab\" absent -1 ? get \"z\"" ∷
+    "1 RegPrim c1 g0 w0 p1@1{1,2,3,4} a0 v1/0{1,2,3,4}{1} y- r[] o[1:1] x{} b0" ∷
+    "= 15" ∷
+    "made 2:1 put \"y\" 36" ∷
+    "2 RegPrim c1 g0 w0 p1@1{1,2,3,4} a0 v1/0{1,2,3,4}{2} y- r[] o[2:1] x{} b0" ∷
+    "= 16" ∷
+    "made 2:2 move \"k2\" \"z\" 5" ∷
+    "2 RegPrim c1 g0 w0 p1@1{1,2,3,4} a0 v1/0{1,2,3,4}{2} y- r[] o[2:1,2:2] x{} b0" ∷
+    "= 18" ∷
+    "order 1 1:1" ∷
+    "order 2 2:1" ∷
+    "order 3 2:2" ∷
+    "1 RegPrim c1 g3 w0 p1@1{1,2,3,4} a0 v1/0{1,2,3,4}{1} y- r[] o[] x{} b0" ∷
+    "reply 1:1 done ? absent" ∷
+    "= 19" ∷
+    "2 RegPrim c1 g3 w0 p1@1{1,2,3,4} a0 v1/0{1,2,3,4}{2} y- r[] o[] x{} b0" ∷
+    "reply 2:1 done" ∷
+    "reply 2:2 aborted 1" ∷
+    "= 20" ∷
+    "3 RegPrim c1 g3 w0 p1@1{1,2,3,4} a0 v1/0{1,2,3,4}{3} y- r[] o[] x{} b0" ∷
+    "= 21" ∷
+    "4 RegPrim c1 g3 w0 p1@1{1,2,3,4} a0 v1/0{1,2,3,4}{4} y- r[] o[] x{} b0" ∷
+    "= 23" ∷
+    "made 2:3 cas \"abc\" \"-1\" 77 ? count" ∷
+    "2 RegPrim c1 g3 w0 p1@1{1,2,3,4} a0 v1/0{1,2,3,4}{2} y- r[] o[2:3] x{} b0" ∷
+    "= 25" ∷
+    "order 4 2:3" ∷
+    "1 RegPrim c1 g4 w0 p1@1{1,2,3,4} a0 v1/0{1,2,3,4}{1} y- r[] o[] x{} b0" ∷
+    "= 26" ∷
+    "2 RegPrim c1 g4 w0 p1@1{1,2,3,4} a0 v1/0{1,2,3,4}{2} y- r[] o[] x{} b0" ∷
+    "reply 2:3 done ? count 2" ∷
+    "= 27" ∷
+    "3 RegPrim c1 g4 w0 p1@1{1,2,3,4} a0 v1/0{1,2,3,4}{3} y- r[] o[] x{} b0" ∷
+    "= 28" ∷
+    "4 RegPrim c1 g4 w0 p1@1{1,2,3,4} a0 v1/0{1,2,3,4}{4} y- r[] o[] x{} b0" ∷
+    "= 31" ∷
+    "made 2:4 put \"a\" 88" ∷
+    "2 RegPrim c1 g4 w0 p1@1{1,2,3,4} a0 v1/0{1,2,3,4}{2} y- r[] o[2:4] x{} b0" ∷
+    "= 33" ∷
+    "order 5 2:4" ∷
+    "3 RegPrim c1 g5 w0 p1@1{1,2,3,4} a0 v1/0{1,2,3,4}{3} y- r[] o[] x{} b0" ∷
+    "= 34" ∷
+    "made 1:2 move \"ab\" \"x\" 5 ? get \"y\"" ∷
+    "1 RegPrim c1 g4 w0 p1@1{1,2,3,4} a0 v1/0{1,2,3,4}{1} y- r[] o[1:2] x{} b0" ∷
+    "= 37" ∷
+    "made 1:3 inc \"a\" 2" ∷
+    "1 RegPrim c1 g4 w0 p1@1{1,2,3,4} a0 v1/0{1,2,3,4}{1} y- r[] o[1:2,1:3] x{} b0" ∷
+    "= 38" ∷
+    "order 6 1:2" ∷
+    "1 RegPrim c1 g6 w0 p1@1{1,2,3,4} a0 v1/0{1,2,3,4}{1} y- r[] o[1:3] x{} b0" ∷
+    "reply 1:2 aborted 1 ? 36" ∷
+    "= 39" ∷
+    "made 1:4 need \"z\" 16 ? get \"ab\"" ∷
+    "1 RegPrim c1 g6 w0 p1@1{1,2,3,4} a0 v1/0{1,2,3,4}{1} y- r[] o[1:3,1:4] x{} b0" ∷
+    "= 40" ∷
+    "4 RegPrim c1 g6 w0 p1@1{1,2,3,4} a0 v1/0{1,2,3,4}{4} y- r[] o[] x{} b0" ∷
+    "= 42" ∷
+    "made 2:5 inc \"z\" 12" ∷
+    "2 RegPrim c1 g4 w0 p1@1{1,2,3,4} a0 v1/0{1,2,3,4}{2} y- r[] o[2:4,2:5] x{} b0" ∷
+    "= 43" ∷
+    "order 7 1:3" ∷
+    "order 8 1:4" ∷
+    "2 RegPrim c1 g8 w0 p1@1{1,2,3,4} a0 v1/0{1,2,3,4}{2} y- r[] o[2:5] x{} b0" ∷
+    "reply 2:4 done" ∷
+    "= 44" ∷
+    "made 4:1 inc \"b\" 4; put \"a\" 43; inc \"y\" 9223372036854775807; put \"y\" \"\" ? count" ∷
+    "4 RegPrim c1 g6 w0 p1@1{1,2,3,4} a0 v1/0{1,2,3,4}{4} y- r[] o[4:1] x{} b0" ∷
+    "= 45" ∷
+    "made 2:6 put \"a\" -8; move \"a\" \"x\" 9223372036854775807 ? get \"z\"" ∷
+    "2 RegPrim c1 g8 w0 p1@1{1,2,3,4} a0 v1/0{1,2,3,4}{2} y- r[] o[2:5,2:6] x{} b0" ∷
+    "= 46" ∷
+    "made 4:2 cas \"x\" \"absent\" 9223372036854775806 ? get \"y\"" ∷
+    "4 RegPrim c1 g6 w0 p1@1{1,2,3,4} a0 v1/0{1,2,3,4}{4} y- r[] o[4:1,4:2] x{} b0" ∷
+    "= 48" ∷
+    "order 9 2:5" ∷
+    "order 10 2:6" ∷
+    "order 11 4:1" ∷
+    "order 12 4:2" ∷
+    "1 RegPrim c1 g12 w0 p1@1{1,2,3,4} a0 v1/0{1,2,3,4}{1} y- r[] o[] x{} b0" ∷
+    "reply 1:3 done" ∷
+    "reply 1:4 aborted 1 ? -1" ∷
+    "= 49" ∷
+    "2 RegPrim c1 g12 w0 p1@1{1,2,3,4} a0 v1/0{1,2,3,4}{2} y- r[] o[] x{} b0" ∷
+    "reply 2:5 done" ∷
+    "reply 2:6 aborted 2 ? 12" ∷
+    "= 50" ∷
+    "3 RegPrim c1 g12 w0 p1@1{1,2,3,4} a0 v1/0{1,2,3,4}{3} y- r[] o[] x{} b0" ∷
+    "= 51" ∷
+    "4 RegPrim c1 g12 w0 p1@1{1,2,3,4} a0 v1/0{1,2,3,4}{4} y- r[] o[] x{} b0" ∷
+    "reply 4:1 range 3 ? count 4" ∷
+    "reply 4:2 done ? 36" ∷
+    "= 56" ∷
+    "made 3:1 need \"z\" 87; move \"y\" \"b\" 6; put \"y\" 0" ∷
+    "3 RegPrim c1 g12 w0 p1@1{1,2,3,4} a0 v1/0{1,2,3,4}{3} y- r[] o[3:1] x{} b0" ∷
+    "= 58" ∷
+    "made 2:7 inc \"b\" 7" ∷
+    "2 RegPrim c1 g12 w0 p1@1{1,2,3,4} a0 v1/0{1,2,3,4}{2} y- r[] o[2:7] x{} b0" ∷
+    "= 60" ∷
+    "order 13 3:1" ∷
+    "order 14 2:7" ∷
+    "1 RegPrim c1 g14 w6 p1@1{1,2,3,4} a0 v1/0{1,2,3,4}{1} y- r[] o[] x{} b0" ∷
+    "= 61" ∷
+    "2 RegPrim c1 g14 w6 p1@1{1,2,3,4} a0 v1/0{1,2,3,4}{2} y- r[] o[] x{} b0" ∷
+    "reply 2:7 done" ∷
+    "= 62" ∷
+    "3 RegPrim c1 g14 w6 p1@1{1,2,3,4} a0 v1/0{1,2,3,4}{3} y- r[] o[] x{} b0" ∷
+    "reply 3:1 aborted 1" ∷
+    "= 63" ∷
+    "4 RegPrim c1 g14 w6 p1@1{1,2,3,4} a0 v1/0{1,2,3,4}{4} y- r[] o[] x{} b0" ∷
+    "= 66" ∷
+    "made 3:2 inc \"a\" 6 ? get \"y\"" ∷
+    "3 RegPrim c1 g14 w6 p1@1{1,2,3,4} a0 v1/0{1,2,3,4}{3} y- r[] o[3:2] x{} b0" ∷
+    "= 67" ∷
+    "made 1:5 inc \"z\" 4" ∷
+    "1 RegPrim c1 g14 w6 p1@1{1,2,3,4} a0 v1/0{1,2,3,4}{1} y- r[] o[1:5] x{} b0" ∷
+    "= 69" ∷
+    "order 15 1:5" ∷
+    "order 16 3:2" ∷
+    "1 RegPrim c1 g16 w6 p1@1{1,2,3,4} a0 v1/0{1,2,3,4}{1} y- r[] o[] x{} b0" ∷
+    "reply 1:5 done" ∷
+    "= 70" ∷
+    "2 RegPrim c1 g16 w6 p1@1{1,2,3,4} a0 v1/0{1,2,3,4}{2} y- r[] o[] x{} b0" ∷
+    "= 71" ∷
+    "3 RegPrim c1 g16 w6 p1@1{1,2,3,4} a0 v1/0{1,2,3,4}{3} y- r[] o[] x{} b0" ∷
+    "reply 3:2 done ? 36" ∷
+    "= 72" ∷
+    "4 RegPrim c1 g16 w6 p1@1{1,2,3,4} a0 v1/0{1,2,3,4}{4} y- r[] o[] x{} b0" ∷
+    "= 79" ∷
+    "made 3:3 need \"y\" -9223372036854775808 ? get \"y\"" ∷
+    "3 RegPrim c1 g16 w6 p1@1{1,2,3,4} a0 v1/0{1,2,3,4}{3} y- r[] o[3:3] x{} b0" ∷
+    "= 80" ∷
+    "made 3:4 inc \"ab\" 7; inc \"x\" 1; put \"a\" 22; del \"a\"" ∷
+    "3 RegPrim c1 g16 w6 p1@1{1,2,3,4} a0 v1/0{1,2,3,4}{3} y- r[] o[3:3,3:4] x{} b0" ∷
+    "= 81" ∷
+    "made 4:3 inc \"b\" 2; need \"y\" 71; put \"y\" 82; inc \"z\" 6 ? get \"a\"" ∷
+    "4 RegPrim c1 g16 w6 p1@1{1,2,3,4} a0 v1/0{1,2,3,4}{4} y- r[] o[4:3] x{} b0" ∷
+    "= 82" ∷
+    "made 1:6 need \"y\" 45" ∷
+    "1 RegPrim c1 g16 w6 p1@1{1,2,3,4} a0 v1/0{1,2,3,4}{1} y- r[] o[1:6] x{} b0" ∷
+    "= 84" ∷
+    "made 2:8 put \"y\" 74; need \"y\" 20; inc \"a\" -1" ∷
+    "2 RegPrim c1 g16 w6 p1@1{1,2,3,4} a0 v1/0{1,2,3,4}{2} y- r[] o[2:8] x{} b0" ∷
+    "= 85" ∷
+    "greens 3 [1:3,1:4,2:5,2:6,4:1,4:2,3:1,2:7,1:5,3:2]" ∷
+    "db 3 \"a\"=96 \"ab\"=-1 \"b\"=7 \"y\"=36 \"z\"=16" ∷
+    "= 86" ∷
+    "order 17 1:6" ∷
+    "order 18 3:3" ∷
+    "order 19 3:4" ∷
+    "1 RegPrim c1 g19 w6 p1@1{1,2,3,4} a0 v1/0{1,2,3,4}{1} y- r[] o[] x{} b0" ∷
+    "reply 1:6 aborted 1" ∷
+    "= 87" ∷
+    "all [1:1,2:1,2:2,2:3,2:4,1:2,1:3,1:4,2:5,2:6,4:1,4:2,3:1,2:7,1:5,3:2,1:6,3:3,3:4]" ∷
+    "= 88" ∷
+    "3 RegPrim c1 g19 w6 p1@1{1,2,3,4} a0 v1/0{1,2,3,4}{3} y- r[] o[] x{} b0" ∷
+    "reply 3:3 aborted 1 ? 36" ∷
+    "reply 3:4 done" ∷
+    "= 89" ∷
+    "made 1:7 put \"a\" 47; put \"z\" 8" ∷
+    "1 RegPrim c1 g19 w6 p1@1{1,2,3,4} a0 v1/0{1,2,3,4}{1} y- r[] o[1:7] x{} b0" ∷
+    "= 90" ∷
+    "made 3:5 inc \"ab\" -2; inc \"y\" 7; need \"b\" absent" ∷
+    "3 RegPrim c1 g19 w6 p1@1{1,2,3,4} a0 v1/0{1,2,3,4}{3} y- r[] o[3:5] x{} b0" ∷
+    "= 91" ∷
+    "made 3:6 cas \"a\" \"\" 38" ∷
+    "3 RegPrim c1 g19 w6 p1@1{1,2,3,4} a0 v1/0{1,2,3,4}{3} y- r[] o[3:5,3:6] x{} b0" ∷
+    "= 92" ∷
+    "made 2:9 put \"z\" 14; del \"z\"; inc \"ab\" 8" ∷
+    "2 RegPrim c1 g16 w6 p1@1{1,2,3,4} a0 v1/0{1,2,3,4}{2} y- r[] o[2:8,2:9] x{} b0" ∷
+    "= 93" ∷
+    "made 1:8 del \"z\"" ∷
+    "1 RegPrim c1 g19 w6 p1@1{1,2,3,4} a0 v1/0{1,2,3,4}{1} y- r[] o[1:7,1:8] x{} b0" ∷
+    "end 93" ∷
+    [])
+unfolding cases_compute
+four_replicas_actions_ordered_e_from_discarding = refl
