@@ -117,6 +117,35 @@ plain -> [1:1,2:7,2:9]
 yellow 2:7 -> known | 5 6 [2:6] [1:1,2:7,2:8,2:9] [2:8,2:7]
 plain -> [1:1,2:9]";
 
+// the reds of a creator above an index: behind two greens of 2, beside those of 1 and 32, and behind one green more
+const ABOVE: &str = "green 2:1 at 1 -> placed | 0 1 [2:1] [] []
+green 2:2 at 2 -> placed | 0 2 [2:1,2:2] [] []
+above 2:0 -> []
+red 2:3 -> placed | 0 2 [2:1,2:2] [2:3] []
+yellow 2:4 -> placed | 0 2 [2:1,2:2] [2:3,2:4] [2:4]
+red 2:5 -> placed | 0 2 [2:1,2:2] [2:3,2:4,2:5] [2:4]
+red 1:1 -> placed | 0 2 [2:1,2:2] [1:1,2:3,2:4,2:5] [2:4]
+red 32:1 -> placed | 0 2 [2:1,2:2] [1:1,2:3,2:4,2:5,32:1] [2:4]
+red 32:2 -> placed | 0 2 [2:1,2:2] [1:1,2:3,2:4,2:5,32:1,32:2] [2:4]
+above 2:0 -> [2:3,2:4,2:5]
+above 2:1 -> [2:3,2:4,2:5]
+above 2:2 -> [2:3,2:4,2:5]
+above 2:3 -> [2:4,2:5]
+above 2:4 -> [2:5]
+above 2:5 -> []
+above 2:6 -> []
+above 2:18446744073709551615 -> []
+above 1:0 -> [1:1]
+above 1:1 -> []
+above 3:0 -> []
+above 32:0 -> [32:1,32:2]
+above 32:1 -> [32:2]
+green 2:3 at 3 -> placed | 0 3 [2:1,2:2,2:3] [1:1,2:4,2:5,32:1,32:2] [2:4]
+above 2:0 -> [2:4,2:5]
+above 2:4 -> [2:5]
+discard 3 -> done | 3 3 [] [1:1,2:4,2:5,32:1,32:2] [2:4]
+above 2:3 -> [2:4,2:5]";
+
 // an action of that name
 fn action(creator: ReplicaId, index: u64) -> Action
     ensures creator { result.id.creator ≡ creator }
@@ -131,7 +160,7 @@ fn action(creator: ReplicaId, index: u64) -> Action
 
 fn say_names(out: &mut Vec<u8>, actions: &ActionList) {
     let mut is_first = true;
-    say(out, " [");
+    say(out, "[");
     for action in actions.as_slice() {
         if !is_first {
             say(out, ",");
@@ -168,8 +197,10 @@ fn say_queue(out: &mut Vec<u8>, queue: &Queue) {
     say_with(out, " | ", white);
     say_with(out, " ", queue.green_count());
     if white < 1 << 62 {
+        say(out, " ");
         say_list(out, queue.greens_from(white + 1));
     }
+    say(out, " ");
     say_list(out, queue.reds());
     say_yellow(out, queue.yellow());
 }
@@ -245,10 +276,15 @@ fn say_place(out: &mut Vec<u8>, queue: &Queue, place: u64) {
     }
 }
 
+fn say_above(out: &mut Vec<u8>, queue: &Queue, name: ActionId) {
+    say_list(out, queue.reds_above(name.creator, name.index));
+}
+
 fn perform(alloc: Global, queue: &mut Queue, call: &str, out: &mut Vec<u8>) {
     let (word, text) = parts(call, " ");
     match word {
         "kept" => say_kept(out, queue, text),
+        "above" => say_above(out, queue, name(text)),
         "green_at" => say_place(out, queue, number(text)),
         "green_cut" => say_number(out, queue.green_cut().get(id(text))),
         "red_cut" => say_number(out, queue.red_cut().get(id(text))),
@@ -284,6 +320,13 @@ fn reds_that_are_not_yellow(rt: HostRuntime) {
     cut.raise(ReplicaId::known(2), 5);
     let mut queue = Queue::resume(rt.alloc(), 5, cut);
     follows(&rt, &mut queue, PLAIN, perform);
+    drop(queue);
+}
+
+#[test]
+fn reds_above_an_index(rt: HostRuntime) {
+    let mut queue = Queue::new(rt.alloc());
+    follows(&rt, &mut queue, ABOVE, perform);
     drop(queue);
 }
 

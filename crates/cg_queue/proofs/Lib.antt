@@ -11,3 +11,4 @@ mod Places
 mod AscendingReds
 pub mod ShownReds
 mod PlainReds
+mod RedsAbove

@@ -1,4 +1,4 @@
-ghost use Rattle.std.specs.Prelude.{◌≡◌, ◌≤◌, ◌<◌, ◌-◌, ◌^◌, ◌++◌, ◌∷◌, [], suc, drop, filter, not, length, slice_get, IfOk, OnOk, OnErr, MatchOption};
+ghost use Rattle.std.specs.Prelude.{◌≡◌, ◌≤◌, ◌<◌, ◌-◌, ◌^◌, ◌++◌, ◌∷◌, ◌==◌, ◌&&◌, [], nat_lt, suc, drop, filter, not, length, slice_get, IfOk, OnOk, OnErr, MatchOption};
 ghost use Rattle.std.specs.Option.{option_copied};
 ghost use Rattle.cg_base.specs.Cuts.{index_in};
 ghost use Rattle.cg_base.specs.Lists.{at_place};
@@ -162,7 +162,7 @@ impl Queue {
         Ok(())
     }
 
-    /// These names, each that of a red action and none twice, are the yellow list.
+    /// These names, each that of a red action, are the yellow list.
     pub fn set_yellow(&mut self, list: &IdList) -> Result<(), NoMemory>
         requires { AreReds self.old list.now }
         ensures ok { OnOk result (self.new ≡ record self.old { yellow = list.now }) }
@@ -216,8 +216,20 @@ impl Queue {
     {
         let mut list = Row::new(self.alloc);
         for slot in 0..32 {
-            copy_reds(self.alloc, &self.body.reds, slot, &mut list)?;
+            copy_reds_from(self.alloc, &self.body.reds, slot, 0, &mut list)?;
         }
+        Ok(list)
+    }
+
+    /// The reds of a creator whose index is above this one, in order. Its time doesn't depend on how many others there
+    /// are.
+    pub fn reds_above(&self, creator: ReplicaId, index: u64) -> Result<ActionList, NoMemory>
+        ensures { IfOk result (λ list. list ≡ filter (λ a. (a.id.creator == creator) && nat_lt index a.id.index) self.now.reds) }
+    {
+        let slot = lane_of(&ActionId { creator, index });
+        let first = index.saturating_sub(self.body.green_cut.get(creator)) as usize;
+        let mut list = Row::new(self.alloc);
+        copy_reds_from(self.alloc, &self.body.reds, slot, first, &mut list)?;
         Ok(list)
     }
 
@@ -411,16 +423,17 @@ fn copy_greens(
     Ok(list)
 }
 
-// the reds of a slot, behind those that are listed
-fn copy_reds(
+// the reds of a slot from a place on, counted from 0, behind those that are listed
+fn copy_reds_from(
     alloc: Global,
     reds: &Lanes<Red>,
     slot: usize,
+    first: usize,
     list: &mut ActionList,
 ) -> Result<(), NoMemory>
-    ensures { OnOk result (list.new ≡ list.old ++ actions_in (rows_of reds.now slot)) }
+    ensures { OnOk result (list.new ≡ list.old ++ actions_in (drop first (rows_of reds.now slot))) }
 {
-    for i in 0..reds.len(slot) {
+    for i in first..reds.len(slot) {
         push_red_at(alloc, reds, slot, i, list)?;
     }
     Ok(())

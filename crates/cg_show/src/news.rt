@@ -1,8 +1,7 @@
-ghost use Rattle.std.specs.Prelude.{◌≡◌, ◌++◌, IfOk, OnOk, slice_get};
+ghost use Rattle.std.specs.Prelude.{◌≡◌, IfOk};
 ghost use Rattle.cg_agree.specs.Show.{news_of_recovery, unshown};
-ghost use Rattle.cg_show.specs.Unshown.{is_unshown, unshown_one};
 
-use cg_action::{Action, ActionList};
+use cg_action::ActionList;
 use cg_base::{Cut, IdList, NoMemory, Row};
 use cg_client::Core;
 use cg_report::Reply;
@@ -83,35 +82,10 @@ impl News {
     }
 }
 
-// The replica's own red actions that weren't shown as made. No other one is copied.
+// the replica's own red actions that weren't shown as made
 fn unshown(made: &Cut, core: &Core) -> Result<ActionList, NoMemory>
     ensures { IfOk result (λ list. list ≡ unshown made.now core.now) }
 {
-    let Some(count) = core.queue().red_count() else {
-        return Err(NoMemory);
-    };
-    let mut list = Row::new(core.alloc());
-    for i in 0..count {
-        add_unshown(&mut list, made, core, i)?;
-    }
-    Ok(list)
-}
-
-// the red action at this place, counted from 0, where it is one of these
-fn add_unshown(list: &mut ActionList, made: &Cut, core: &Core, i: u32) -> Result<(), NoMemory>
-    ensures { OnOk result (list.new ≡ list.old ++ unshown_one made.now core.now (slice_get core.now.queue.reds i)) }
-{
-    match core.queue().red_at(i as usize) {
-        Some(a) if is_unshown(made, core, a) => {
-            list.push(a.copy(core.alloc())?)?;
-            Ok(())
-        }
-        _ => Ok(()),
-    }
-}
-
-fn is_unshown(made: &Cut, core: &Core, a: &Action) -> bool
-    ensures { result ≡ is_unshown made.now core.now a.now }
-{
-    a.id.creator == core.id() && made.get(core.id()) < a.id.index
+    let id = core.id();
+    core.queue().reds_above(id, made.get(id))
 }

@@ -15,7 +15,7 @@ loop-slot-preserved c =
     let lanes = rows_of c.self.inside.body.reds in
     let slot = c.loop-slot.slot in
     let next : slot + 1 ≡ suc slot = omega arith in
-    ap (λ xs. xs ++ reds_from lanes (32 - (slot + 1)) (slot + 1)) c.in_ok-copy_reds.ensures
+    ap (λ xs. xs ++ reds_from lanes (32 - (slot + 1)) (slot + 1)) c.in_ok-copy_reds_from.ensures
     ∙ append_assoc c.loop-slot.list (actions_in (lanes slot)) (reds_from lanes (32 - (slot + 1)) (slot + 1))
     ∙ ap (λ n. c.loop-slot.list ++ (actions_in (lanes slot) ++ reds_from lanes (32 - n) n)) next
     ∙ ap (λ xs. c.loop-slot.list ++ xs) (sym (reds-step lanes slot (omega arith)))
