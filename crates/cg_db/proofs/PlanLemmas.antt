@@ -119,7 +119,7 @@ value_of-last db cs c q = rw (fold_behind db cs c) (value_of-set (with_changes d
 
 -- ---- numbers of 64 bits
 
-fits_i64-from : (z : ℤ) → FitsSigned w64 z → fits_i64 z ≡ true
+pub fits_i64-from : (z : ℤ) → FitsSigned w64 z → fits_i64 z ≡ true
 fits_i64-from (pos n) fits = lt-ltb n (2 ^ 63) (omega (arith, ints))
 fits_i64-from (negsuc n) fits = lt-ltb n (2 ^ 63) (omega (arith, ints))
 
@@ -127,6 +127,6 @@ pub fits_i64-to : (z : ℤ) → fits_i64 z ≡ true → FitsSigned w64 z
 fits_i64-to (pos n) e = let lt = ltb-true n (2 ^ 63) e in grind (arith, ints)
 fits_i64-to (negsuc n) e = let lt = ltb-true n (2 ^ 63) e in grind (arith, ints)
 
-unfit : (b : Bool) (x y : Ran) → (b ≡ true → ⊥) → cond b x y ≡ y
+pub unfit : (b : Bool) (x y : Ran) → (b ≡ true → ⊥) → cond b x y ≡ y
 unfit true x y never = absurd (never refl)
 unfit false x y never = refl

@@ -15,7 +15,7 @@ pub(crate) struct Change {
     pub(crate) value: Option<Value>,
 }
 
-/// Changes in the order in which they are written. The last one lies in the value itself, for most actions make one.
+/// Changes in the order in which they are written. The last one lies in the value itself, so that one alone takes no memory.
 #[derive(Drop)]
 pub(crate) struct Changes {
     pub(crate) earlier: Vec<Change>,

@@ -1,11 +1,15 @@
-ghost use Rattle.std.specs.Prelude.{◌≡◌, ◌≤◌, ◌<◌, ◌+◌, ◌++◌, [], ◌∷◌, length, drop, filter, All, Some, IfOk, OnOk, OnErr};
+ghost use Rattle.std.specs.Prelude.{◌≡◌, ℕ, List, ◌≤◌, ◌<◌, ◌+◌, ◌++◌, [], ◌∷◌, length, drop, filter, All, Some, IfOk, OnOk, OnErr};
 ghost use Rattle.std.specs.Option.{option_copied};
 ghost use Rattle.indexmap.specs.IndexMap.{spare};
 ghost use Rattle.cg_text.specs.Order.{begins_with};
 ghost use Rattle.cg_db.specs.Find.{answer_of};
-ghost use Rattle.cg_db.specs.Map.{put};
+ghost use Rattle.cg_db.specs.Map.{put, value_of};
+ghost use Rattle.cg_db.specs.Ascending.{Ascends};
+ghost use Rattle.cg_db.specs.Apply.{Changed, run_commands};
 ghost use Rattle.cg_db.specs.View.{of_entries, entry_at};
 ghost use Rattle.cg_db.specs.Plan.{listed, changed, with_changes};
+ghost use Rattle.cg_db.specs.declared.entry.DbEntry.{DbEntry};
+ghost use Rattle.cg_action.specs.declared.command.Cmd.TheVariants.{Put, Inc};
 ghost use Rattle.cg_action.specs.ActionLimits.{IsAction, IsCommand};
 
 use crate::changes::{Change, Changes};
@@ -67,6 +71,19 @@ impl Db {
     }
 
     fn run(&mut self, cmds: &[Cmd]) -> Result<Effect, NoMemory>
+        requires few { length cmds.now ≤ 16 }
+        requires each { All IsCommand cmds.now }
+        ensures ok { IfOk result (λ effect. run_commands self.old 0 cmds.now (Changed self.old) ≡ record { db = self.new; effect = effect }) }
+        ensures err { OnErr result (self.new ≡ self.old) }
+    {
+        match cmds {
+            [Cmd::Put { key, value }] => put_alone(self.alloc, &mut self.map, key, value),
+            [Cmd::Inc { key, by }] => add_alone(self.alloc, &mut self.map, key, *by),
+            _ => self.run_planned(cmds),
+        }
+    }
+
+    fn run_planned(&mut self, cmds: &[Cmd]) -> Result<Effect, NoMemory>
         requires few { length cmds.now ≤ 16 }
         requires each { All IsCommand cmds.now }
         ensures ok { IfOk result (λ effect. run_commands self.old 0 cmds.now (Changed self.old) ≡ record { db = self.new; effect = effect }) }
@@ -215,6 +232,49 @@ fn put_entry(map: &mut Map, key: Txt, value: Value) -> Result<(), NoMemory>
 {
     map.insert(key, value)?;
     Ok(())
+}
+
+// a put that is an action's only command
+fn put_alone(alloc: Global, map: &mut Map, key: &Txt, value: &Value) -> Result<Effect, NoMemory>
+    ensures ok { IfOk result (λ effect. run_commands (of_entries map.old.entries) 0 (Put key.now value.now ∷ []) (Changed (of_entries map.old.entries)) ≡ record { db = of_entries map.new.entries; effect = effect }) }
+    ensures err { OnErr result (of_entries map.new.entries ≡ of_entries map.old.entries) }
+{
+    let value = value.copy(alloc)?;
+    if let Some(place) = map.get_mut(key) {
+        *place = value;
+        return Ok(Effect::Done);
+    }
+    let key = key.copy(alloc)?;
+    put_entry(map, key, value)?;
+    Ok(Effect::Done)
+}
+
+// an addition that is an action's only command
+fn add_alone(alloc: Global, map: &mut Map, key: &Txt, by: i64) -> Result<Effect, NoMemory>
+    ensures ok { IfOk result (λ effect. run_commands (of_entries map.old.entries) 0 (Inc key.now by ∷ []) (Changed (of_entries map.old.entries)) ≡ record { db = of_entries map.new.entries; effect = effect }) }
+    ensures err { OnErr result (of_entries map.new.entries ≡ of_entries map.old.entries) }
+{
+    if let Some(place) = map.get_mut(key) {
+        return Ok(add_in_place(place, by));
+    }
+    let key = key.copy(alloc)?;
+    put_entry(map, key, Value::Int(by))?;
+    Ok(Effect::Done)
+}
+
+// what it makes of the value of its key
+fn add_in_place(place: &mut Value, by: i64) -> Effect
+    ensures { (db : List DbEntry) (key : List ℕ) → Ascends db → value_of db key ≡ Some place.old
+        → run_commands db 0 (Inc key by ∷ []) (Changed db) ≡ record { db = put db key place.new; effect = result } }
+{
+    let Value::Int(number) = place else {
+        return Effect::Aborted(1);
+    };
+    let Some(sum) = number.checked_add(by) else {
+        return Effect::Range(1);
+    };
+    *number = sum;
+    Effect::Done
 }
 
 // a copy of the entry at an index, in front of those that stand behind it

@@ -18,6 +18,8 @@ const EFFECTS: &str =
     r#"run: put t "v" ; put n 5 ; put l -9223372036854775808 ; put h 9223372036854775807 -> done
 put n "w" -> done h=9223372036854775807 l=-9223372036854775808 n="w" t="v"
 put q 1 -> done h=9223372036854775807 l=-9223372036854775808 n=5 q=1 t="v"
+put t "w" -> done h=9223372036854775807 l=-9223372036854775808 n=5 t="w"
+put t 6 -> done h=9223372036854775807 l=-9223372036854775808 n=5 t=6
 del n -> done h=9223372036854775807 l=-9223372036854775808 t="v"
 del q -> done h=9223372036854775807 l=-9223372036854775808 n=5 t="v"
 inc n by 3 -> done h=9223372036854775807 l=-9223372036854775808 n=8 t="v"
@@ -53,6 +55,20 @@ need t "v" -> done h=9223372036854775807 l=-9223372036854775808 n=5 t="v"
 put q 1 ; need n 6 -> aborted 2 h=9223372036854775807 l=-9223372036854775808 n=5 t="v"
 inc n by 1 ; del t ; inc h by 1 ; put q 1 -> range 3 h=9223372036854775807 l=-9223372036854775808 n=5 t="v"
 del t ; inc t by 2 ; inc t by 2 -> done h=9223372036854775807 l=-9223372036854775808 n=5 t=4"#;
+
+// one after the other on what stands there; the longer texts have memory of their own
+const ALONE: &str =
+    r#"see: put t "text-of-more-than-16-bytes" -> done t="text-of-more-than-16-bytes"
+see: put t "another-of-more-than-16-bytes" -> done t="another-of-more-than-16-bytes"
+see: inc t by 1 -> aborted 1 t="another-of-more-than-16-bytes"
+see: put t 6 -> done t=6
+see: inc t by 3 -> done t=9
+see: inc n by -2 -> done n=-2 t=9
+see: inc n by -9223372036854775807 -> range 1 n=-2 t=9
+see: inc n by -9223372036854775806 -> done n=-9223372036854775808 t=9
+see: put n "w" -> done n="w" t=9
+see: inc key-of-more-than-16-bytes by 4 -> done key-of-more-than-16-bytes=4 n="w" t=9
+see: put key-of-more-than-16-bytes "v" -> done key-of-more-than-16-bytes="v" n="w" t=9"#;
 
 const NO_COMMANDS: &str = "see: put n 5 -> done n=5
 see: join 5 -> done n=5
@@ -227,7 +243,7 @@ fn perform(alloc: Global, db: &mut Db, call: &str, out: &mut Vec<u8>) {
 
 #[test]
 fn actions_and_queries(rt: HostRuntime) {
-    for table in [EFFECTS, NO_COMMANDS, FOUND] {
+    for table in [EFFECTS, ALONE, NO_COMMANDS, FOUND] {
         let mut db = Db::new(rt.alloc());
         follows(&rt, &mut db, table, perform);
         drop(db);

@@ -2,7 +2,7 @@ use Rattle.std.proofs.Common.{◌≡◌}
 use Rattle.cg_db.specs.View.{of_entries}
 use Rattle.cg_db.specs.Plan.{listed, with_changes}
 use Rattle.cg_db.proofs.PlanLemmas.{run_done, run_aborted, run_overflowed}
-use Rattle.cg_db.proofs.db.Db.run.Goals as goal
+use Rattle.cg_db.proofs.db.Db.run_planned.Goals as goal
 
 pub returns-in_ok-write-in-Done-clause-ok : goal.returns-in_ok-write-in-Done-clause-ok
 returns-in_ok-write-in-Done-clause-ok c =
