@@ -20,7 +20,7 @@ pub use cg_codec::put_action_id;
 pub use command::Cmd;
 pub use commands::{CmdList, copy_commands};
 pub use laws::{actions_are_exact, spellings_stand_apart};
-pub use print::{Update, print_kind, print_query, print_update, print_value};
+pub use print::{Update, print_kind, print_value};
 pub use query::{Query, copy_query};
 pub use reading::{decode, take_action, take_action_id, take_value};
 pub use value::Value;

@@ -143,23 +143,6 @@ pub fn print_kind(k: &Kind, out: &mut Vec<u8>) -> Result<(), NoMemory>
     put_shown(out, k)
 }
 
-/// Puts commands, and the query behind them where there is one, as lines show them. Where memory is refused nothing is
-/// put.
-pub fn print_update(cmds: &[Cmd], query: &Option<Query>, out: &mut Vec<u8>) -> Result<(), NoMemory>
-    ensures ok { OnOk result (out.new.items ≡ out.old.items ++ update_text cmds.now query.now) }
-    ensures err { OnErr result (out.new.items ≡ out.old.items) }
-{
-    put_shown(out, &Update { cmds, query })
-}
-
-/// Puts a query as lines show it. Where memory is refused nothing is put.
-pub fn print_query(query: &Query, out: &mut Vec<u8>) -> Result<(), NoMemory>
-    ensures ok { OnOk result (out.new.items ≡ out.old.items ++ query_text query.now) }
-    ensures err { OnErr result (out.new.items ≡ out.old.items) }
-{
-    put_shown(out, query)
-}
-
 /// Puts a value as lines show it. Where memory is refused nothing is put.
 pub fn print_value(value: &Value, out: &mut Vec<u8>) -> Result<(), NoMemory>
     ensures ok { OnOk result (out.new.items ≡ out.old.items ++ value_text value.now) }

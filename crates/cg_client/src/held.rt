@@ -37,7 +37,7 @@ impl Model for Core {
     ghost view = { λ c. record { id = c.id; queue = c.queue.value; yellow_valid = c.yellow_valid; own = c.own; db = c.db.value; members = c.members.value; prim = c.standing.value.prim; attempt_index = c.standing.value.attempt_index; vulnerable = c.standing.value.vulnerable; buffered = c.buffered; owed = c.owed } };
 }
 
-// so many of a replica's actions, and so many greens, fit no memory
+// more of a replica's actions, and more greens, than any run makes
 pub(crate) const MOST: u64 = 4611686018427387904;
 
 impl Core {

@@ -67,7 +67,7 @@ impl Core {
         let Some(v) = self.standing.vulnerable() else {
             return Ok(prim);
         };
-        // so many primary components fit no memory
+        // more primary components than any run makes
         let Some(index) = prim.index.checked_add(1) else {
             return Err(NoMemory);
         };

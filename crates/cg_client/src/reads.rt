@@ -7,13 +7,13 @@ ghost use Rattle.cg_base.specs.Lists.{at_place};
 ghost use Rattle.cg_action.specs.ActionLimits.{IsAction};
 ghost use Rattle.cg_db.specs.Limits.{AreEntries};
 ghost use Rattle.cg_db.specs.Ascending.{Ascends};
-ghost use Rattle.cg_records.specs.Limits.{Each, IsName, IsNumber, IsSmallCut, IsPrimary, IsMaybeVulnerable};
+ghost use Rattle.cg_records.specs.Limits.{Each, IsNumber, IsSmallCut, IsPrimary, IsMaybeVulnerable};
 ghost use Rattle.cg_queue.specs.Queue.{action_of, green_count, names_of};
 ghost use Rattle.cg_client.specs.Replica.{created};
 
 use crate::Core;
 use cg_action::{Action, ActionList};
-use cg_base::{ActionId, Cut, IdList, IdSet, NoMemory, ReplicaId};
+use cg_base::{ActionId, Cut, IdSet, NoMemory, ReplicaId};
 use cg_db::EntryList;
 use cg_members::Members;
 use cg_records::{Primary, Vulnerable};
@@ -51,21 +51,6 @@ impl Core {
         ensures limits { IsMaybeVulnerable self.now.vulnerable }
     {
         self.standing.vulnerable()
-    }
-
-    /// The yellow list counts.
-    pub fn yellow_valid(&self) -> bool
-        ensures { result ≡ self.now.yellow_valid }
-    {
-        self.yellow_valid
-    }
-
-    /// The yellow names, in their order.
-    pub fn yellow(&self) -> Result<IdList, NoMemory>
-        ensures value { IfOk result (λ list. list ≡ self.now.queue.yellow) }
-        ensures each { Each IsName self.now.queue.yellow }
-    {
-        self.queue.yellow()
     }
 
     /// The kept action of a name: a green one that isn't discarded, or a red one.

@@ -59,7 +59,7 @@ impl Core {
         ensures conf { OnOk result (IsNumber conf) }
     {
         let prim = self.standing.prim();
-        // so many attempts fit no memory
+        // more attempts than any run makes
         let Some(next) = self.standing.attempt_index().checked_add(1) else {
             return Err(NoMemory);
         };

@@ -66,6 +66,10 @@ shown_of b sound = record {
       let slot : suc (p - 1) ≡ p = omega (arith, is_id.0) in
       let lane = sound.lanes (p - 1) (omega (arith, is_id.0, is_id.1)) in
       subst (λ q. LeadUp (seen b) q) slot (record { first = lane.first; follows = lane.greens });
+  cuts = λ p is_id.
+      let slot : suc (p - 1) ≡ p = omega (arith, is_id.0) in
+      let last : index_in b.green_cut (suc (p - 1)) + length (b.reds (p - 1)) ≡ index_in b.red_cut (suc (p - 1)) = (sound.lanes (p - 1) (omega (arith, is_id.0, is_id.1))).last in
+      subst (λ q. index_in b.green_cut q ≤ index_in b.red_cut q) slot (omega arith);
   ascend = (rows-ascend b.reds (low_of b) (runs_of b sound) 32 0 (omega arith)).0;
   reds = λ id. (between_from_red b sound id, red_from_between b sound id);
   yellow = λ id there. red_from_between b sound id (yellow_between b.green_cut b.red_cut b.yellow id sound.yellow there);

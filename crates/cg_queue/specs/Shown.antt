@@ -26,10 +26,12 @@ pub record LeadUp (q : QueueView) (p : ℕ) : Type 0 where
   pub first : ℕ
   pub follows : Follows p first (index_in q.green_cut p) q.greens
 
--- the reds are exactly the actions between the green cut and the red cut, and the yellow names are names of reds
+-- the green cut is within the red one; the reds are exactly the actions between the green cut and the red cut, and the yellow names
+-- are names of reds
 pub record IsShown (q : QueueView) : Type 0 where
   pub green : IsCut q.green_cut
   pub red : IsCut q.red_cut
+  pub cuts : (p : ℕ) → IsId p → index_in q.green_cut p ≤ index_in q.red_cut p
   pub greens : (p : ℕ) → IsId p → LeadUp q p
   pub ascend : NamesAscend (names_of q.reds)
   pub reds : (id : ActionId) → (names (names_of q.reds) id ≡ true) ↔ IsBetween q.green_cut q.red_cut id

@@ -99,30 +99,4 @@ impl Entry {
             shown: Row::new(alloc),
         }
     }
-
-    /// These lines are shown.
-    pub fn of_lines(alloc: Global, lines: Row<Line>) -> Entry
-        ensures { result ≡ record no_entry { lines = lines } }
-    {
-        Entry {
-            made: Row::new(alloc),
-            orders: Row::new(alloc),
-            lines,
-            replies: Row::new(alloc),
-            shown: Row::new(alloc),
-        }
-    }
-
-    /// What was asked for is shown.
-    pub fn of_shown(alloc: Global, shown: Row<Shown>) -> Entry
-        ensures { result ≡ record no_entry { shown = shown } }
-    {
-        Entry {
-            made: Row::new(alloc),
-            orders: Row::new(alloc),
-            lines: Row::new(alloc),
-            replies: Row::new(alloc),
-            shown,
-        }
-    }
 }

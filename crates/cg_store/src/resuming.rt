@@ -16,7 +16,7 @@ use cg_records::{Primary, Vulnerable};
 use cg_stored::{Reached, count_of};
 use std::alloc::Global;
 
-// so many greens fit no memory
+// more greens than any run makes
 const MOST: u64 = 4611686018427387904;
 
 /// What a replica has green, and where it stands among primary components.

@@ -281,7 +281,7 @@ impl<D: Disk> Store<D> {
         ensures within { OnOk result (IsStored core.now) }
         ensures short { IfOk result (λ bytes. length bytes.items < 2 ^ 32) }
     {
-        // so many checkpoints fit no disk
+        // more checkpoints than any run makes
         if self.generation >= LAST {
             return Err(NoMemory);
         }
