@@ -2,15 +2,15 @@
 use Rattle.std.proofs.Common.{◌≡◌, ℕ, List, [], ◌∷◌, drop, Bool, true, false, Option, Some, None, Result, Ok, Err, IfOk, refl, sym, ◌∙◌, ap, subst}
 use Rattle.std.specs.Prelude.{nat_lt, if◌then◌else◌}
 use Rattle.std.specs.Option.{option_map}
+use Rattle.cg_disk.specs.Sides.{opposite}
 use Rattle.cg_disk.specs.declared.disk.Side.{Side}
 use Rattle.cg_disk.specs.declared.disk.Side.TheVariants.{A, B}
 use Rattle.cg_journal.specs.Records.{Records, on_side}
-use Rattle.cg_stored.specs.Parts.{saved_in, stored_in}
-use Rattle.cg_stored.specs.Laws.{AreSaved}
+use Rattle.cg_stored.specs.Parts.{Saved, saved_in, stored_in}
 use Rattle.cg_stored.specs.declared.checkpoint.Checkpoint.{Checkpoint}
 use Rattle.cg_step.specs.Recorded.{AlwaysHolds}
-use Rattle.cg_store.specs.Stands.{Live, size_of, live_from, live_on, standing_on, chosen, standing_in}
-use Rattle.cg_store.specs.Opening.{front, first_on, FindsFirst, greater, Replays, Finds}
+use Rattle.cg_store.specs.Stands.{size_of, live_from, live_on, Standing, standing_on, chosen}
+use Rattle.cg_store.specs.Opening.{first_on, FindsFirst, IsInFront, later_side, IsLater, live_of, IsChosen, FindsFront, Replays, Finds}
 use Rattle.cg_store.specs.declared.finding.Found.{Found}
 use Rattle.cg_store.specs.declared.finding.Front.{Front}
 use Rattle.cg_store.proofs.Sound.{stored-sound, led_all-sound}
@@ -19,58 +19,67 @@ live_by_first : (id : ℕ) (bodies : List (List ℕ)) → live_on id bodies ≡ 
 live_by_first id [] = refl
 live_by_first id (body ∷ changes) = refl
 
--- the side of a checkpoint
-abbrev live_of : ℕ → List (List ℕ) → Checkpoint → Live
-live_of id bodies p = live_from bodies (drop 1 bodies) (saved_in id p)
-
 live_some : (id : ℕ) (bodies : List (List ℕ)) (p : Checkpoint) → FindsFirst id bodies (Some p) → live_on id bodies ≡ Some (live_of id bodies p)
 live_some id bodies p finds = live_by_first id bodies ∙ ap (option_map (live_from bodies (drop 1 bodies))) finds.0
 
 live_none : (id : ℕ) (bodies : List (List ℕ)) → FindsFirst id bodies None → live_on id bodies ≡ None
 live_none id bodies finds = live_by_first id bodies ∙ ap (option_map (live_from bodies (drop 1 bodies))) finds
 
--- the side in use begins with this checkpoint
-pub record IsChosen (id : ℕ) (r : Records) (side : Side) (first : Checkpoint) : Type 0 where
-  pub saved : AreSaved id first
-  pub standing : standing_in id r ≡ standing_on side (live_of id (on_side side r) first)
+abbrev front : Side → Checkpoint → Front
+front side first = record { side = side; first = first }
 
 abbrev of_two : List (List ℕ) → List (List ℕ) → Records
 of_two a b = record { a = a; b = b }
 
-abbrev later_of : Bool → Checkpoint → Checkpoint → Option Front
-later_of later p q = if later then Some (front B q) else Some (front A p)
+-- ---- the later side
 
-both_found : (id : ℕ) (a b : List (List ℕ)) (p q : Checkpoint) (later : Bool) → nat_lt p.generation q.generation ≡ later → FindsFirst id a (Some p) → FindsFirst id b (Some q) →
-    (f : Front) → later_of later p q ≡ Some f → IsChosen id (of_two a b) f.side f.first
-both_found id a b p q true e fa fb f is =
-    let same : front B q ≡ f = cc in
-    subst (λ (x : Front). IsChosen id (of_two a b) x.side x.first) same (record {
-      saved = fb.1;
-      standing = ap (λ x. chosen x (live_on id b)) (live_some id a p fa) ∙ ap (λ x. chosen (Some (live_of id a p)) x) (live_some id b q fb) ∙ rw e refl;
-    })
-both_found id a b p q false e fa fb f is =
-    let same : front A p ≡ f = cc in
-    subst (λ (x : Front). IsChosen id (of_two a b) x.side x.first) same (record {
-      saved = fa.1;
-      standing = ap (λ x. chosen x (live_on id b)) (live_some id a p fa) ∙ ap (λ x. chosen (Some (live_of id a p)) x) (live_some id b q fb) ∙ rw e refl;
-    })
+pub later_told : (a b : List (List ℕ)) (m n : ℕ) → IsInFront a (Some m) → IsInFront b (Some n) → IsLater a b (later_side m n)
+later_told a b m n front_a front_b id s t is_s is_t =
+    let same_a : m ≡ s.generation = (let is : Some m ≡ Some s.generation = front_a id s is_s in cc) in
+    let same_b : n ≡ t.generation = (let is : Some n ≡ Some t.generation = front_b id t is_t in cc) in
+    ap (λ x. later_side x n) same_a ∙ ap (later_side s.generation) same_b
 
-pub chosen_first : (id : ℕ) (a b : List (List ℕ)) (fa fb : Option Checkpoint) → FindsFirst id a fa → FindsFirst id b fb → (f : Front) → greater fa fb ≡ Some f →
-    IsChosen id (of_two a b) f.side f.first
-chosen_first id a b None None found_a found_b f is = cc
-chosen_first id a b (Some p) None found_a found_b f is =
-    let same : front A p ≡ f = cc in
-    subst (λ (x : Front). IsChosen id (of_two a b) x.side x.first) same (record {
-      saved = found_a.1;
-      standing = ap (λ x. chosen x (live_on id b)) (live_some id a p found_a) ∙ ap (λ x. chosen (Some (live_of id a p)) x) (live_none id b found_b);
-    })
-chosen_first id a b None (Some q) found_a found_b f is =
-    let same : front B q ≡ f = cc in
-    subst (λ (x : Front). IsChosen id (of_two a b) x.side x.first) same (record {
-      saved = found_b.1;
-      standing = ap (λ x. chosen x (live_on id b)) (live_none id a found_a) ∙ ap (λ x. chosen None x) (live_some id b q found_b);
-    })
-chosen_first id a b (Some p) (Some q) found_a found_b f is = both_found id a b p q (nat_lt p.generation q.generation) refl found_a found_b f is
+pub none_in_a : (a b : List (List ℕ)) (side : Side) → IsInFront a None → IsLater a b side
+none_in_a a b side front_a id s t is_s is_t = let no : None ≡ Some s.generation = front_a id s is_s in cc
+
+pub none_in_b : (a b : List (List ℕ)) (side : Side) → IsInFront b None → IsLater a b side
+none_in_b a b side front_b id s t is_s is_t = let no : None ≡ Some t.generation = front_b id t is_t in cc
+
+-- ---- the checkpoint in use
+
+is_a : (less : Bool) (x y : Option Standing) → A ≡ (if less then B else A) → (if less then x else y) ≡ y
+is_a true x y is = cc
+is_a false x y is = refl
+
+is_b : (less : Bool) (x y : Option Standing) → B ≡ (if less then B else A) → (if less then x else y) ≡ x
+is_b true x y is = refl
+is_b false x y is = cc
+
+live_at : (id : ℕ) (bodies : List (List ℕ)) (o : Option Saved) → first_on id bodies ≡ o → live_on id bodies ≡ option_map (live_from bodies (drop 1 bodies)) o
+live_at id bodies o is = live_by_first id bodies ∙ ap (option_map (live_from bodies (drop 1 bodies))) is
+
+in_a : (id : ℕ) (a b : List (List ℕ)) (p : Checkpoint) (o : Option Saved) → first_on id b ≡ o → FindsFirst id a (Some p) → IsLater a b A → chosen (Some (live_of id a p)) (live_on id b) ≡ standing_on A (live_of id a p)
+in_a id a b p None is finds later = ap (chosen (Some (live_of id a p))) (live_at id b None is)
+in_a id a b p (Some t) is finds later =
+    ap (chosen (Some (live_of id a p))) (live_at id b (Some t) is) ∙ is_a (nat_lt p.generation t.generation) _ _ (later id (saved_in id p) t finds.0 is)
+
+in_b : (id : ℕ) (a b : List (List ℕ)) (p : Checkpoint) (o : Option Saved) → first_on id a ≡ o → FindsFirst id b (Some p) → IsLater a b B → chosen (live_on id a) (Some (live_of id b p)) ≡ standing_on B (live_of id b p)
+in_b id a b p None is finds later = ap (λ x. chosen x (Some (live_of id b p))) (live_at id a None is)
+in_b id a b p (Some s) is finds later =
+    ap (λ x. chosen x (Some (live_of id b p))) (live_at id a (Some s) is) ∙ is_b (nat_lt s.generation p.generation) _ _ (later id s (saved_in id p) is finds.0)
+
+-- the later side begins with a checkpoint
+pub chosen_later : (id : ℕ) (a b : List (List ℕ)) (side : Side) (p : Checkpoint) → IsLater a b side → FindsFirst id (on_side side (of_two a b)) (Some p) → IsChosen id (of_two a b) side p
+chosen_later id a b A p later finds = record { saved = finds.1; standing = ap (λ x. chosen x (live_on id b)) (live_some id a p finds) ∙ in_a id a b p (first_on id b) refl finds later }
+chosen_later id a b B p later finds = record { saved = finds.1; standing = ap (chosen (live_on id a)) (live_some id b p finds) ∙ in_b id a b p (first_on id a) refl finds later }
+
+-- it doesn't, and what the other one begins with is in use
+pub chosen_other : (id : ℕ) (a b : List (List ℕ)) (side : Side) (o : Option Checkpoint) → FindsFirst id (on_side side (of_two a b)) None → FindsFirst id (on_side (opposite side) (of_two a b)) o →
+    FindsFront id (of_two a b) (option_map (front (opposite side)) o)
+chosen_other id a b A None none finds = ap (λ x. chosen x (live_on id b)) (live_none id a none) ∙ ap (chosen None) (live_none id b finds)
+chosen_other id a b B None none finds = ap (λ x. chosen x (live_on id b)) (live_none id a finds) ∙ ap (chosen None) (live_none id b none)
+chosen_other id a b A (Some p) none finds = record { saved = finds.1; standing = ap (λ x. chosen x (live_on id b)) (live_none id a none) ∙ ap (chosen None) (live_some id b p finds) }
+chosen_other id a b B (Some p) none finds = record { saved = finds.1; standing = ap (λ x. chosen x (live_on id b)) (live_some id a p finds) ∙ ap (chosen (Some (live_of id a p))) (live_none id b none) }
 
 -- what its records stand for
 pub replayed_finds : AlwaysHolds → (id : ℕ) (r : Records) (side : Side) (first : Checkpoint) (found : Option Found) → IsChosen id r side first → Replays id side first (drop 1 (on_side side r)) found → Finds id r found

@@ -1,9 +1,9 @@
 -- How a disk is opened.
-use Rattle.std.specs.Prelude.{◌≡◌, ℕ, nat_lt, Bool, true, false, List, [], ◌∷◌, Option, Some, None, Result, Ok, Err, if◌then◌else◌}
+use Rattle.std.specs.Prelude.{◌≡◌, ℕ, nat_lt, Bool, true, false, List, [], ◌∷◌, drop, Option, Some, None, Result, Ok, Err, if◌then◌else◌}
 use Rattle.cg_disk.specs.View.{DiskView}
 use Rattle.cg_disk.specs.declared.disk.Side.{Side}
 use Rattle.cg_disk.specs.declared.disk.Side.TheVariants.{A, B}
-use Rattle.cg_journal.specs.Records.{Records, records}
+use Rattle.cg_journal.specs.Records.{Records, records, on_side}
 use Rattle.cg_journal.specs.Reads.{IsRead, IsReadStruck, IsReadRefused}
 use Rattle.cg_records.specs.Limits.{IsNumber}
 use Rattle.cg_client.specs.Replica.{Held}
@@ -12,7 +12,7 @@ use Rattle.cg_stored.specs.Parts.{Saved, saved_in, stored_in, checkpoint_in}
 use Rattle.cg_stored.specs.Laws.{AreSaved}
 use Rattle.cg_stored.specs.declared.checkpoint.Checkpoint.{Checkpoint}
 use Rattle.cg_step.specs.Holds.{Holds}
-use Rattle.cg_store.specs.Stands.{Standing, Stands, stands_for, standing_in, led_by_all}
+use Rattle.cg_store.specs.Stands.{Live, live_from, Standing, standing_on, Stands, stands_for, standing_in, led_by_all}
 use Rattle.cg_store.specs.Kept.{Kept}
 use Rattle.cg_store.specs.declared.finding.Found.{Found}
 use Rattle.cg_store.specs.declared.finding.Front.{Front}
@@ -33,15 +33,29 @@ abbrev pub FindsFirst : ℕ → List (List ℕ) → Option Checkpoint → Type 0
 FindsFirst id bodies None = first_on id bodies ≡ None
 FindsFirst id bodies (Some p) = (first_on id bodies ≡ Some (saved_in id p)) × AreSaved id p
 
--- the one with the greater generation, the first one where the two are equal
-abbrev pub front : Side → Checkpoint → Front
-front side first = record { side = side; first = first }
+-- the number is the generation of the checkpoint at the front of a side, if there is one
+abbrev pub IsInFront : List (List ℕ) → Option ℕ → Type 0
+IsInFront bodies number = (id : ℕ) (s : Saved) → first_on id bodies ≡ Some s → number ≡ Some s.generation
 
-abbrev pub greater : Option Checkpoint → Option Checkpoint → Option Front
-greater None None = None
-greater (Some a) None = Some (front A a)
-greater None (Some b) = Some (front B b)
-greater (Some a) (Some b) = if nat_lt a.generation b.generation then Some (front B b) else Some (front A a)
+-- of two sides that begin with checkpoints this is the one with the greater generation, A where the two are equal
+abbrev pub later_side : ℕ → ℕ → Side
+later_side a b = if nat_lt a b then B else A
+
+abbrev pub IsLater : List (List ℕ) → List (List ℕ) → Side → Type 0
+IsLater a b side = (id : ℕ) (s t : Saved) → first_on id a ≡ Some s → first_on id b ≡ Some t → side ≡ later_side s.generation t.generation
+
+-- what stands on a side with this checkpoint at its front
+abbrev pub live_of : ℕ → List (List ℕ) → Checkpoint → Live
+live_of id bodies p = live_from bodies (drop 1 bodies) (saved_in id p)
+
+-- the side in use begins with this checkpoint
+pub record IsChosen (id : ℕ) (r : Records) (side : Side) (first : Checkpoint) : Type 0 where
+  pub saved : AreSaved id first
+  pub standing : standing_in id r ≡ standing_on side (live_of id (on_side side r) first)
+
+abbrev pub FindsFront : ℕ → Records → Option Front → Type 0
+FindsFront id r None = standing_in id r ≡ None
+FindsFront id r (Some f) = IsChosen id r f.side f.first
 
 -- the changes behind a checkpoint were put into what it stands for
 pub record IsReplayed (id : ℕ) (side : Side) (first : Checkpoint) (changes : List (List ℕ)) (f : Found) : Type 0 where

@@ -1,11 +1,12 @@
 //! What the records of a disk stand for.
 ghost use Rattle.std.specs.Prelude.{◌≡◌, drop, Some, IfOk};
+ghost use Rattle.cg_disk.specs.Sides.{opposite};
 ghost use Rattle.cg_journal.specs.Records.{on_side};
 ghost use Rattle.cg_stored.specs.Laws.{AreSaved};
 ghost use Rattle.cg_stored.specs.Parts.{stored_in};
 ghost use Rattle.cg_step.specs.Holds.{Holds};
 ghost use Rattle.cg_store.specs.Stands.{led_by_all};
-ghost use Rattle.cg_store.specs.Opening.{Follows, FindsFirst, greater, Replays, Finds};
+ghost use Rattle.cg_store.specs.Opening.{Follows, FindsFirst, IsInFront, IsLater, FindsFront, Replays, Finds};
 
 use crate::rebuild::rebuild;
 use crate::replay::follow;
@@ -14,7 +15,7 @@ use cg_client::Core;
 use cg_disk::Side;
 use cg_records::Stable;
 use cg_step::what_is_held_agrees;
-use cg_stored::{Checkpoint, read_checkpoint};
+use cg_stored::{Checkpoint, generation_of, read_checkpoint};
 use std::alloc::Global;
 
 /// The side in use, the generation of its checkpoint, the values that stand there, and all that the replica holds.
@@ -36,9 +37,7 @@ pub(crate) fn find(
     ensures { IfOk result (Finds id (record { a = a.now; b = b.now })) }
 {
     what_is_held_agrees();
-    let first_a = first_of(alloc, id, a)?;
-    let first_b = first_of(alloc, id, b)?;
-    match greater(first_a, first_b) {
+    match front_of(alloc, id, a, b)? {
         Some(front) => {
             let changes = behind_first(bodies_on(front.side, a, b));
             replay(alloc, id, front, changes)
@@ -52,6 +51,15 @@ pub(crate) fn find(
 pub(crate) struct Front {
     side: Side,
     first: Checkpoint,
+}
+
+pub(crate) fn other(side: Side) -> Side
+    ensures { result ≡ opposite side }
+{
+    match side {
+        Side::A => Side::B,
+        Side::B => Side::A,
+    }
 }
 
 fn bodies_on<'a>(side: Side, a: &'a [Bytes], b: &'a [Bytes]) -> &'a [Bytes]
@@ -82,32 +90,46 @@ fn behind_first(bodies: &[Bytes]) -> &[Bytes]
     }
 }
 
-fn greater(a: Option<Checkpoint>, b: Option<Checkpoint>) -> Option<Front>
-    ensures { result ≡ greater a b }
+// The checkpoint in use. Where both sides begin with one, only that of the later side is read whole.
+fn front_of(
+    alloc: Global,
+    id: ReplicaId,
+    a: &[Bytes],
+    b: &[Bytes],
+) -> Result<Option<Front>, NoMemory>
+    ensures { IfOk result (FindsFront id (record { a = a.now; b = b.now })) }
 {
-    match (a, b) {
-        (None, None) => None,
-        (Some(first), None) => Some(Front {
-            side: Side::A,
-            first,
-        }),
-        (None, Some(first)) => Some(Front {
-            side: Side::B,
-            first,
-        }),
-        (Some(a), Some(b)) => {
-            if a.generation < b.generation {
-                Some(Front {
-                    side: Side::B,
-                    first: b,
-                })
-            } else {
-                Some(Front {
-                    side: Side::A,
-                    first: a,
-                })
-            }
-        }
+    let side = later(a, b);
+    if let Some(first) = first_of(alloc, id, bodies_on(side, a, b))? {
+        return Ok(Some(Front { side, first }));
+    }
+    let side = other(side);
+    match first_of(alloc, id, bodies_on(side, a, b))? {
+        Some(first) => Ok(Some(Front { side, first })),
+        None => Ok(None),
+    }
+}
+
+// of two sides that begin with checkpoints the one with the greater generation, A where the two are equal
+fn later(a: &[Bytes], b: &[Bytes]) -> Side
+    ensures { IsLater a.now b.now result }
+{
+    let Some(front_a) = front_generation(a) else {
+        return Side::A;
+    };
+    let Some(front_b) = front_generation(b) else {
+        return Side::A;
+    };
+    if front_a < front_b { Side::B } else { Side::A }
+}
+
+// the generation of the checkpoint at the front, if there is one
+fn front_generation(bodies: &[Bytes]) -> Option<u64>
+    ensures { IsInFront bodies.now result }
+{
+    match bodies.first() {
+        Some(body) => generation_of(body.as_slice()),
+        None => None,
     }
 }
 

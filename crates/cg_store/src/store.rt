@@ -1,7 +1,6 @@
 //! A replica's store, and the calls that write.
 ghost use Rattle.std.specs.Prelude.{◌≡◌, ◌+◌, ◌<◌, ◌≤◌, ◌^◌, ◌⊎◌, suc, [], nat_lt};
 ghost use Rattle.std.specs.Prelude.{IfOk, OnOk, length};
-ghost use Rattle.cg_disk.specs.Sides.{opposite};
 ghost use Rattle.cg_stored.specs.Stored.{stable_of};
 ghost use Rattle.cg_stored.specs.Checkpoint.{spelled_checkpoint};
 ghost use Rattle.cg_stored.specs.Limits.{IsStored};
@@ -10,7 +9,7 @@ ghost use Rattle.cg_client.specs.Drafts.{turn_with};
 ghost use Rattle.cg_client.specs.Replica.{State};
 
 use crate::due::{Due, prepare};
-use crate::finding::{Found, find};
+use crate::finding::{Found, find, other};
 use crate::letters::seal_all;
 use crate::records::checkpoint_record;
 use crate::unwritten::Unwritten;
@@ -55,15 +54,6 @@ const LAST: u64 = 9223372036854775807;
 
 // a side longer than this is followed by a checkpoint on the other side
 const LIMIT: u64 = 1048576;
-
-fn other(side: Side) -> Side
-    ensures { result ≡ opposite side }
-{
-    match side {
-        Side::A => Side::B,
-        Side::B => Side::A,
-    }
-}
 
 // What the first record has, and its bytes.
 fn first_record(alloc: Global, core: &Core) -> Result<(Stable, Vec<u8>), NoMemory>

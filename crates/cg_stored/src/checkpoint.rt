@@ -3,7 +3,7 @@ ghost use Rattle.cg_codec.specs.Reading.{whole};
 ghost use Rattle.cg_codec.specs.Taking.{unread_of, TakesWithMemory, Decodes};
 ghost use Rattle.cg_stored.specs.Reading.{kept_reading, checkpoint_reading};
 ghost use Rattle.cg_stored.specs.Parts.{checkpoint_of};
-ghost use Rattle.cg_stored.specs.Laws.{GivesParts, FindsCheckpoint};
+ghost use Rattle.cg_stored.specs.Laws.{GivesParts, FindsCheckpoint, HasGeneration};
 
 use crate::entries::take_entries;
 use crate::lists::take_actions;
@@ -85,6 +85,18 @@ pub fn read_checkpoint(
             Some(_) => Ok(None),
             None => Err(NoMemory),
         },
+    }
+}
+
+/// The generation of the checkpoint that the bytes are: it stands in front, and nothing behind it is read. Other bytes have
+/// any number, or none.
+pub fn generation_of(bytes: &[u8]) -> Option<u64>
+    ensures { HasGeneration bytes.now result }
+{
+    let mut fields = Fields::new(bytes);
+    match take_number(&mut fields) {
+        Ok(generation) => Some(generation),
+        Err(_) => None,
     }
 }
 

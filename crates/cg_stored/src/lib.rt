@@ -18,7 +18,9 @@ mod writing;
 
 pub use agreement::{count_of, is_distinct};
 pub use change::{Change, decode_change, put_change, read_change};
-pub use checkpoint::{Checkpoint, Kept, Reached, decode_checkpoint, read_checkpoint};
+pub use checkpoint::{
+    Checkpoint, Kept, Reached, decode_checkpoint, generation_of, read_checkpoint,
+};
 pub use laws::{agreement_is_tested, changes_are_exact, checkpoints_are_exact, parts_are_exact};
 pub use reached::{put_reached, take_reached};
 pub use writing::put_checkpoint;

@@ -16,7 +16,7 @@ use cg_codec::{CodecFault, Fields, put_action_id, put_u32};
 use std::alloc::Global;
 
 // A list has room for at most so many things before any was read: the number in front of them may be wrong.
-const FIRST_ROOM: u32 = 4096;
+const FIRST_ROOM: u32 = 1024;
 
 /// Takes actions, in any order: how many, and these.
 #[tactic(auto, unfolding(crate::specs::Reading::actions_reading))]
