@@ -154,8 +154,7 @@ impl Seats {
         up
     }
 
-    /// The seat comes in the place of the replica's earlier one, or is a new one. After want of memory the replica
-    /// has none.
+    /// The seat comes in the place of the replica's earlier one, or is a new one.
     pub fn put(&mut self, seat: Seat) -> Result<(), NoMemory>
         ensures { OnOk result (self.new ≡ with_seat self.old seat) }
     {

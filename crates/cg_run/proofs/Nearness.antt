@@ -16,8 +16,7 @@ use Rattle.cg_run.specs.declared.status.Status.{Status}
 use Rattle.cg_run.specs.declared.status.Status.TheVariants as status
 use Rattle.cg_run.specs.Produced.{Finding, Produced, before_all, status_of, ended_with, and_then}
 use Rattle.cg_run.specs.Outcome.{limit_of, unless_passed, line_outcome, whole_line, at_end, cut_line, last_piece, replayed, outcome_of, text_put}
-use Rattle.cg_run.specs.Calls.{Runs}
-use Rattle.cg_run.specs.Taking.{most_taken, OfTaken, Ends, InTime, IsNear, found_in, end_of_line}
+use Rattle.cg_run.specs.Taking.{most_taken, OfTaken, Ends, InTime, IsNear, Runs, found_in, end_of_line}
 use Rattle.cg_run.specs.Streaming.{IsUnended}
 use Rattle.cg_run.proofs.Feeds.{line_first, first_unended, some_piece}
 use Rattle.cg_run.proofs.GoingOn.{and_then-none, and_then-some}
@@ -239,7 +238,7 @@ Runs-near c old new v v' st r = record {
   ending = r.ending;
   consumed = r.consumed;
   cause = r.cause;
-  holds = (r.holds.0, r.holds.1, r.holds.2, near c r.taken r.ending v v' st r.holds.1 r.holds.2);
+  holds = record { most = r.holds.0; ends = r.holds.1; in_time = r.holds.2; near = near c r.taken r.ending v v' st r.holds.1 r.holds.2 };
 }
 
 -- a command that reads no input takes nothing

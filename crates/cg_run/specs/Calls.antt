@@ -1,14 +1,10 @@
 -- What single calls of this crate say, and nothing that `run` says rests on.
-use Rattle.std.specs.Prelude.{ℕ, ◌≤◌, length, Option}
+use Rattle.std.specs.Prelude.{ℕ}
 use Rattle.cg_base.specs.Sets.{IsId}
-use Rattle.cg_io.specs.Outside.{SourceView, SinkView}
 use Rattle.cg_run.specs.declared.command.Command.{Command}
 use Rattle.cg_run.specs.declared.command.Command.TheVariants.{Generate, Trial}
-use Rattle.cg_run.specs.declared.progress.Ending.TheVariants.{Open}
 use Rattle.cg_run.specs.declared.status.Status.{Status}
 use Rattle.cg_run.specs.declared.status.Status.TheVariants as status
-use Rattle.cg_run.specs.Outcome.{outcome_of, text_put}
-use Rattle.cg_run.specs.Taking.{most_taken, OfTaken, Ends, InTime, IsNear}
 
 -- the numbers of the statuses
 abbrev pub status_number : Status → ℕ
@@ -27,10 +23,3 @@ abbrev pub IsCommand : Command → Type 0
 IsCommand (Generate seed replicas lines) = IsId replicas
 IsCommand (Trial seed replicas lines) = IsId replicas
 IsCommand other = Unit {0}
-
--- the command was run on what was taken as it was needed
-abbrev pub Runs : Option Command → SourceView → SourceView → SinkView → SinkView → Status → Type 0
-Runs command old new from to status =
-    OfTaken old new (λ taken how.
-    (length taken ≤ most_taken) × Ends command (outcome_of command taken how) from to status
-    × InTime (text_put command) (λ front. outcome_of command front Open) taken from to × IsNear status taken)

@@ -12,7 +12,7 @@ use Rattle.cg_run.specs.declared.status.Status.{Status}
 use Rattle.cg_run.specs.declared.status.Status.TheVariants as status
 use Rattle.cg_run.specs.Produced.{Produced, status_of, refusal_of}
 use Rattle.cg_run.specs.Refusing.{RefusesLine}
-use Rattle.cg_run.specs.Outcome.{outcome, pieces_for, text_put}
+use Rattle.cg_run.specs.Outcome.{outcome_of, outcome, pieces_for, text_put}
 use Rattle.cg_run.specs.Commands.{command_of}
 use Rattle.cg_run.specs.declared.command.Command.{Command}
 use Rattle.cg_run.specs.Putting.{StopsWith}
@@ -80,6 +80,17 @@ IsNear status taken = (n : ℕ) → found_in status ≡ Some n → length taken 
 -- the run has ended with this status, and put what the command puts of what it comes to
 abbrev pub Ends : Option Command → Produced → SinkView → SinkView → Status → Type 0
 Ends command p from to status = StopsWith (text_put command p) (status_of p) from to status
+
+-- a command has run on what was taken: no more than the most; what was put and the status are what these bytes come to; and
+-- they were taken as they were needed
+pub record HasRun (command : Option Command) (taken : List ℕ) (how : Ending) (from to : SinkView) (status : Status) : Type 0 where
+  pub most : length taken ≤ most_taken
+  pub ends : Ends command (outcome_of command taken how) from to status
+  pub in_time : InTime (text_put command) (λ front. outcome_of command front Open) taken from to
+  pub near : IsNear status taken
+
+abbrev pub Runs : Option Command → SourceView → SourceView → SinkView → SinkView → Status → Type 0
+Runs command old new from to status = OfTaken old new (λ taken how. HasRun command taken how from to status)
 
 -- what holds of the steps of the outcome, whatever was taken and however the taking ended
 abbrev pub OfSteps : List (List ℕ) → (List Step → Type 0) → Type 0

@@ -4,6 +4,7 @@ ghost use Rattle.cg_run.specs.Calls.{IsCommand};
 ghost use Rattle.cg_run.specs.Commands.{number_in, word_alone, of_schedule, with_numbers, read_numbers, generating, command_of, reads_input};
 
 use crate::arg_text::ArgText;
+use crate::limits::LINES;
 use crate::progress::Report;
 use cg_text::read_u64;
 
@@ -98,7 +99,7 @@ fn read_numbers(
 {
     let seed = number_in(0, u64::MAX, seed);
     let replicas = replicas_in(replicas);
-    let lines = number_in(3, 200_000, lines);
+    let lines = number_in(3, LINES, lines);
     with_numbers(is_trial, seed, replicas, lines)
 }
 

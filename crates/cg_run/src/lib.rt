@@ -7,6 +7,7 @@
 
 mod arg_text;
 mod command;
+mod limits;
 mod progress;
 mod putting;
 mod replay;

@@ -12,6 +12,7 @@ ghost use Rattle.cg_run.specs.Streaming.{held_limit};
 ghost use Rattle.cg_run.specs.UnderWay.{HasBegun, IsUnderWay, MayHappen, IsNext};
 ghost use Rattle.cg_run.specs.Performing.{Stopped, Performs};
 
+use crate::limits::{INPUT_BYTES, LINE_BYTES, LINES};
 use crate::progress::{Progress, Report};
 use crate::putting::finish;
 use crate::rounds::perform;
@@ -139,11 +140,11 @@ fn without_return(line: &[u8]) -> &[u8]
 pub fn passed_limit(line: u64, len: usize, end: usize) -> Option<Limit>
     ensures { result ≡ limit_of line len end }
 {
-    if len > 32_768 {
+    if len > LINE_BYTES {
         Some(Limit::Line)
-    } else if end > 8_388_608 {
+    } else if end > INPUT_BYTES {
         Some(Limit::Input)
-    } else if line > 200_000 {
+    } else if line > LINES {
         Some(Limit::Lines)
     } else {
         None

@@ -1,18 +1,15 @@
-ghost use Rattle.std.specs.Prelude.{◌≡◌, ◌+◌, ◌<◌, ◌≤◌, ◌^◌, false, length, Some};
+ghost use Rattle.std.specs.Prelude.{◌≡◌, ◌+◌, ◌<◌, ◌^◌, false, Some};
 ghost use Rattle.cg_agree.specs.World.{no_world};
 ghost use Rattle.cg_agree.specs.Run.{IsRunFrom};
 ghost use Rattle.cg_agree.specs.Agreement.{OrderGrows, Prefix, CreatorOrder, FoldAnswers, DirtyAnswers, OnePrimary, QuietSettles, MadeStays};
-ghost use Rattle.cg_run.specs.declared.progress.Ending.TheVariants.{Open};
 ghost use Rattle.cg_gen.specs.Generated.{generated};
 ghost use Rattle.cg_gen.specs.Lines.{lines_of};
 ghost use Rattle.cg_run.specs.declared.status.Status.TheVariants as status;
 ghost use Rattle.cg_base.specs.Sets.{IsId};
 ghost use Rattle.cg_run.specs.Commands.{command_of, reads_input};
-ghost use Rattle.cg_run.specs.Outcome.{outcome, text_put};
 ghost use Rattle.cg_run.specs.Putting.{StopsWith};
 ghost use Rattle.cg_run.specs.Status.{write_faults};
-ghost use Rattle.cg_run.specs.Calls.{Runs};
-ghost use Rattle.cg_run.specs.Taking.{most_taken, Ends, InTime, IsNear, OfTaken, ReadCause, OfSteps, TellsOfRefusals, RefusesExactly};
+ghost use Rattle.cg_run.specs.Taking.{Runs, ReadCause, OfSteps, TellsOfRefusals, RefusesExactly};
 
 use crate::arg_text::ArgText;
 use crate::command::{Command, command_of};
@@ -114,10 +111,7 @@ pub fn run<S: Source, K: Sink>(
     // but the last 4,096 of them had been gone through before the last take: they come to no finding, and what they come to
     // was put; so the line of an entry that wasn't wholly put ends among the last 4,096 bytes. Where a line is the first
     // finding, at most 4,096 bytes past its end were taken.
-    ensures ran { OfTaken (S.view input.old) (S.view input.new) (λ taken how.
-        (length taken ≤ most_taken) × Ends (command_of words.now) (outcome words.now taken how) (K.view output.old) (K.view output.new) result
-        × InTime (text_put (command_of words.now)) (λ front. outcome words.now front Open) taken (K.view output.old) (K.view output.new)
-        × IsNear result taken) }
+    ensures ran { Runs (command_of words.now) (S.view input.old) (S.view input.new) (K.view output.old) (K.view output.new) result }
 
     // Without a command that reads the input nothing is taken.
     ensures usage { reads_input (command_of words.now) ≡ false → S.view input.new ≡ S.view input.old }

@@ -6,6 +6,7 @@ ghost use Rattle.cg_run.specs.Produced.{stepped, one_step};
 ghost use Rattle.cg_run.specs.Performing.{Performs};
 ghost use Rattle.cg_run.specs.UnderWay.{HasBegun};
 
+use crate::limits::STEPS;
 use crate::progress::{Progress, Report};
 use crate::putting::{finish, put_step};
 use crate::status::{Limit, Status};
@@ -35,7 +36,7 @@ fn count_step<K: Sink>(
         (K.view output.old) (K.view output.new) result }
     ensures begun { IfOk result (λ s. HasBegun s) }
 {
-    if count >= 2_000_000 {
+    if count >= STEPS {
         drop(world);
         let what = Limit::Steps;
         let status = Status::Limit { line, what };

@@ -5,6 +5,7 @@ ghost use Rattle.cg_run.specs.declared.progress.Ending.TheVariants.{Ended, Faile
 ghost use Rattle.cg_run.specs.Streaming.{from_stage, IsStage, IsUnended, IsHeld, held_limit, EndsLine, HoldsRest, TakesUp, TakesTurn, Replays};
 ghost use Rattle.cg_run.specs.Performing.{Stopped};
 
+use crate::limits::{INPUT_BYTES, TAKE_BYTES};
 use crate::progress::{Report, Stage};
 use crate::replay::{close, fail, passed_limit, refuse_limit, whole_line};
 use crate::status::{Limit, Status};
@@ -151,8 +152,8 @@ fn make_turn<S: Source, K: Sink>(
     requires held { IsHeld stage held.old.items }
     ensures { TakesTurn report stage held.old.items (S.view input.old) (S.view input.new) (K.view output.old) (K.view output.new) held.new.items result }
 {
-    let mut buffer = [0u8; 4096];
-    let room = (8_388_609 - stage.at - held.len()).min(4096);
+    let mut buffer = [0u8; TAKE_BYTES];
+    let room = (INPUT_BYTES + 1 - stage.at - held.len()).min(TAKE_BYTES);
     match input.take(&mut buffer[..room]) {
         Err(_) => Err(fail_stage(alloc, output, held.as_slice(), stage)),
         Ok(0) => Err(close_stage(alloc, output, report, held.as_slice(), stage)),

@@ -5,7 +5,7 @@
 
 use cg_base::{Bytes, NoMemory};
 use cg_io::{StdSink, StdSource};
-use cg_run::{ArgText, run};
+use cg_run::{ArgText, Status, run};
 use std::alloc::Global;
 use std::process::ExitCode;
 use std::{env, io};
@@ -37,7 +37,7 @@ fn words_of(rt: &(impl env::Env + AllocGlobal)) -> Result<Vec<ArgText>, NoMemory
 
 fn main(rt: HostRuntime) -> ExitCode {
     let Ok(words) = words_of(&rt) else {
-        return ExitCode::from(7);
+        return ExitCode::from(Status::NoMemory.number());
     };
     let mut input = StdSource::new(rt.reader());
     let mut output = StdSink::new(io::writer(&rt));

@@ -3,7 +3,7 @@ use Rattle.cg_run.specs.declared.progress.Ending.TheVariants.{Open}
 use Rattle.cg_run.specs.declared.command.Command.{Command}
 use Rattle.cg_run.specs.declared.command.Command.TheVariants.{Replay, Generate, Trial}
 use Rattle.cg_run.specs.Commands.{command_of}
-use Rattle.cg_run.specs.Calls.{Runs}
+use Rattle.cg_run.specs.Taking.{Runs}
 use Rattle.cg_run.proofs.Spared.{read-cause}
 use Rattle.cg_run.proofs.Nearness.{Runs-near, Runs-nothing}
 use Rattle.cg_run.proofs.running.run_command.Goals as goal
