@@ -1,5 +1,5 @@
--- The first places of a configuration, which every member has received.
-use Rattle.std.proofs.Common.{◌≡◌, ℕ, zero, suc, ◌+◌, ◌-◌, ◌<◌, ◌≤◌, Bool, true, false, not, ◌&&◌, List, [], ◌∷◌, ◌++◌, length, Option, Some, None, refl, sym, ap, subst, ◌∙◌, arith, fold, find, option_map, inl, inr, ⊎_elim, ◌⊎◌}
+-- The first places of a configuration, which every member has received, and those that one of them has.
+use Rattle.std.proofs.Common.{◌≡◌, ℕ, zero, suc, ◌+◌, ◌-◌, ◌<◌, ◌≤◌, Bool, true, false, not, ◌&&◌, List, [], ◌∷◌, ◌++◌, length, Option, Some, None, refl, sym, ap, subst, ◌∙◌, arith, fold, find, option_map, inl, inr, ⊎_elim, ◌⊎◌, eq-eqb}
 use Rattle.std.specs.Prelude.{◌==◌}
 use Rattle.std.proofs.Math.ListN.{set, get_or}
 use Rattle.std.specs.List.{slice_get, prefix_len}
@@ -14,7 +14,7 @@ use Rattle.cg_group.specs.declared.placed.Placed.{Placed}
 use Rattle.cg_group.specs.State.{Configuration, has_received}
 use Rattle.cg_group.specs.Ready.{all_received}
 use Rattle.cg_group.specs.Events.{with_receipt}
-use Rattle.cg_group.specs.Logs.{IsSettled, configuration_of}
+use Rattle.cg_group.specs.Logs.{IsSettled, AreFronts, configuration_of}
 use Rattle.cg_group.proofs.LogFacts.{above_up_to-next, above_up_to-none, all_received-at_place, has_received-at, prefix-goes_on, at_place-map}
 use Rattle.cg_group.specs.PlaceLaws.{at_place-within}
 use Rattle.cg_group.proofs.OrderFacts.{changed_at-here, changed_at-itself}
@@ -29,6 +29,9 @@ with_member-there low (q ∷ set) p ascends there = ⊎_elim
     let above = has-within set (suc q) p ascends.2 rest in
     with_member-later q set p (omega (arith, above.0)) ∙ ap (λ z. q ∷ z) (with_member-there (suc q) set p ascends.2 rest))
     (cases_eq q p)
+
+has_itself : (p : ℕ) → has (p ∷ []) p ≡ true
+has_itself p = rw (eq-eqb p p refl) refl
 
 -- one more who has received leaves the members among them
 pub is_within-more : (s t : List ℕ) (p : ℕ) → is_within s t ≡ true → is_within s (with_member t p) ≡ true
@@ -73,6 +76,22 @@ fold-skip f x zero to le same = refl
 fold-skip f x (suc k) to le same =
     fold-skip f x k to (omega arith) (λ place pos le. same place pos (omega arith))
     ∙ ap (fold f x) (above_up_to-next k to (omega arith)) ∙ ap (λ y. fold f y (above_up_to (suc k) to)) (same (suc k) (omega arith) (omega arith))
+
+module _ {X : Type 0} where
+  -- an element of a list with one more behind it
+  slice_get_pushed : (xs : List X) (x y : X) (i : ℕ) → slice_get (xs ++ x ∷ []) i ≡ Some y → (slice_get xs i ≡ Some y) ⊎ (x ≡ y)
+  slice_get_pushed [] x y zero e = inr (let same : x ≡ y = cc in same)
+  slice_get_pushed [] x y (suc i) e = inl e
+  slice_get_pushed (z ∷ xs) x y zero e = inl e
+  slice_get_pushed (z ∷ xs) x y (suc i) e = slice_get_pushed xs x y i e
+
+  -- an element of a list in which one was written
+  slice_get_set : (xs : List X) (k i : ℕ) (x y : X) → slice_get (set xs k x) i ≡ Some y → (slice_get xs i ≡ Some y) ⊎ ((k ≡ i) × (x ≡ y))
+  slice_get_set [] k i x y e = inl e
+  slice_get_set (z ∷ xs) zero zero x y e = inr (refl, (let same : x ≡ y = cc in same))
+  slice_get_set (z ∷ xs) zero (suc i) x y e = inl e
+  slice_get_set (z ∷ xs) (suc k) zero x y e = inl e
+  slice_get_set (z ∷ xs) (suc k) (suc i) x y e = ⊎_elim inl (λ w. inr (ap suc w.0, w.1)) (slice_get_set xs k i x y e)
 
 module _ {M : Type 0} where
   pub IsSettled-none : (members : List ℕ) (ordered : List (Placed M)) → IsSettled members ordered 0
@@ -149,10 +168,11 @@ module _ {M : Type 0} where
   settled_at members ordered n zero x settled pos le e = absurd (omega arith)
   settled_at members ordered n (suc i) x settled pos le e = settled.received i x (omega arith) e
 
-  pub settled-same : (members : List ℕ) (ordered : List (Placed M)) (n p place : ℕ) → IsSettled members ordered n → has members p ≡ true → 0 < place → place ≤ n →
+  -- what is counted of a replica it has received
+  pub settled-same : (members : List ℕ) (ordered : List (Placed M)) (n p place : ℕ) → IsSettled (p ∷ []) ordered n → 0 < place → place ≤ n →
       with_receipt (configuration_of members ordered) p place ≡ configuration_of members ordered
   unfolding with_receipt
-  settled-same members ordered n p place settled member pos le =
+  settled-same members ordered n p place settled pos le =
       let c : Configuration M = configuration_of members ordered in
       ap (λ (r : List (List ℕ)). record c { received = r })
       (changed_at-here (λ set. with_member set p) (λ set. set) c.received place
@@ -162,14 +182,45 @@ module _ {M : Type 0} where
       by_option : (o : Option (Placed M)) → at_place ordered place ≡ o → (set : List ℕ) → option_map (λ (x : Placed M). x.received) o ≡ Some set → with_member set p ≡ set
       by_option None e set there = absurd (cc)
       by_option (Some x) e set there =
-          let known = settled_at members ordered n place x settled pos le e in
+          let known = settled_at (p ∷ []) ordered n place x settled pos le e in
           let same : x.received ≡ set = cc in
-          subst (λ z. with_member z p ≡ z) same (with_member-there 1 x.received p known.0.ascends (is_within-has members x.received p known.1 member))
+          subst (λ z. with_member z p ≡ z) same (with_member-there 1 x.received p known.0.ascends (is_within-has (p ∷ []) x.received p known.1 (has_itself p)))
 
-  pub settled-has : (members : List ℕ) (ordered : List (Placed M)) (n p place : ℕ) → IsSettled members ordered n → has members p ≡ true → 0 < place → place ≤ n →
+  pub settled-has : (members : List ℕ) (ordered : List (Placed M)) (n p place : ℕ) → IsSettled (p ∷ []) ordered n → 0 < place → place ≤ n →
       has_received (configuration_of members ordered) p place ≡ true
-  settled-has members ordered n p place settled member pos le =
+  settled-has members ordered n p place settled pos le =
       let within : place ≤ length ordered = let under = settled.within in omega arith in
       let there = at_place-within ordered place pos within in
-      let known = settled_at members ordered n place there.0 settled pos le there.1 in
-      has_received-at members ordered p place ∙ ap (λ o. option_map_or (λ (x : Placed M). has x.received p) o false) there.1 ∙ is_within-has members there.0.received p known.1 member
+      let known = settled_at (p ∷ []) ordered n place there.0 settled pos le there.1 in
+      has_received-at members ordered p place ∙ ap (λ o. option_map_or (λ (x : Placed M). has x.received p) o false) there.1
+      ∙ is_within-has (p ∷ []) there.0.received p known.1 (has_itself p)
+
+  -- one more slot, at which nothing is counted yet
+  pub AreFronts-slot : (ordered : List (Placed M)) (fronts : List ℕ) → AreFronts ordered fronts → AreFronts ordered (fronts ++ 0 ∷ [])
+  AreFronts-slot ordered fronts are = λ slot n e. ⊎_elim
+      (are slot n)
+      (λ (none : 0 ≡ n). subst (IsSettled (suc slot ∷ []) ordered) none (IsSettled-none (suc slot ∷ []) ordered))
+      (slice_get_pushed fronts 0 n slot e)
+
+  -- the count at a slot, written anew
+  pub AreFronts-counted : (ordered : List (Placed M)) (fronts : List ℕ) (k m : ℕ) → AreFronts ordered fronts → IsSettled (suc k ∷ []) ordered m →
+      AreFronts ordered (set fronts k m)
+  AreFronts-counted ordered fronts k m are settled = λ slot n e. ⊎_elim
+      (are slot n)
+      (λ (w : (k ≡ slot) × (m ≡ n)). subst (λ i. IsSettled (suc i ∷ []) ordered n) w.0 (subst (IsSettled (suc k ∷ []) ordered) w.1 settled))
+      (slice_get_set fronts k slot m n e)
+
+  -- the count at a replica's slot
+  pub front_of : (ordered : List (Placed M)) (fronts : List ℕ) (p slot n : ℕ) → AreFronts ordered fronts → suc slot ≡ p → slot < length fronts →
+      n ≡ get_or fronts slot n → IsSettled (p ∷ []) ordered n
+  front_of ordered fronts p slot n are own lt e =
+      subst (λ (q : ℕ). IsSettled (q ∷ []) ordered n) own (are slot n (slice_get-get_or fronts slot n lt ∙ ap Some (sym e)))
+
+  pub AreFronts-append : (ordered : List (Placed M)) (x : Placed M) (fronts : List ℕ) → AreFronts ordered fronts → AreFronts (ordered ++ x ∷ []) fronts
+  AreFronts-append ordered x fronts are = λ slot n e. IsSettled-append (suc slot ∷ []) ordered x n (are slot n e)
+
+  -- one more has received a place
+  pub AreFronts-receipt : (ordered : List (Placed M)) (k p : ℕ) (y d : Placed M) (fronts : List ℕ) → k < length ordered → AreFronts ordered fronts →
+      y.received ≡ with_member (get_or ordered k d).received p → IsSet y.received → AreFronts (set ordered k y) fronts
+  AreFronts-receipt ordered k p y d fronts lt are value is_set = λ slot n e.
+      IsSettled-receipt (suc slot ∷ []) ordered k n p y d lt (are slot n e) value is_set

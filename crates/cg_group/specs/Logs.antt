@@ -1,5 +1,5 @@
 -- How a configuration lies in memory.
-use Rattle.std.specs.Prelude.{◌≡◌, ℕ, ◌≤◌, ◌<◌, ◌-◌, true, slice_get, length, List, [], ◌∷◌, map, fold, find, Option, Some, is_none}
+use Rattle.std.specs.Prelude.{◌≡◌, ℕ, ◌≤◌, ◌<◌, ◌-◌, suc, true, slice_get, length, List, [], ◌∷◌, map, fold, find, Option, Some, is_none}
 use Rattle.cg_base.specs.Lists.{at_place, above_up_to, first_some}
 use Rattle.cg_base.specs.Sets.{IsSet, is_within}
 use Rattle.std.specs.Option.{option_map}
@@ -30,6 +30,10 @@ module _ {M : Type 0} where
   pub record IsSettled (members : List ℕ) (ordered : List (Placed M)) (n : ℕ) : Type 0 where
     pub within : n ≤ length ordered
     pub received : (i : ℕ) (x : Placed M) → i < n → slice_get ordered i ≡ Some x → IsSet x.received × (is_within members x.received ≡ true)
+
+  -- at each slot is counted how many of the first places the replica has received, whose number is one above the slot's
+  abbrev pub AreFronts : List (Placed M) → List ℕ → Type 0
+  AreFronts ordered fronts = (slot n : ℕ) → slice_get fronts slot ≡ Some n → IsSettled (suc slot ∷ []) ordered n
 
   -- the configurations alone
   abbrev pub configurations_of : List (Stored M) → List (Configuration M)

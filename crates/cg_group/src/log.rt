@@ -3,7 +3,7 @@ ghost use Rattle.std.specs.Option.{option_copied, option_map};
 ghost use Rattle.cg_base.specs.Lists.{at_place};
 ghost use Rattle.cg_base.specs.Sets.{IsSet, with_member, is_within};
 ghost use Rattle.cg_group.specs.State.{has_received};
-ghost use Rattle.cg_group.specs.Logs.{sent_of, with_all_receipts, IsSettled};
+ghost use Rattle.cg_group.specs.Logs.{sent_of, with_all_receipts, IsSettled, AreFronts};
 ghost use Rattle.cg_group.specs.Ready.{ready_in, all_received};
 ghost use Rattle.cg_group.specs.Events.{with_message, with_receipt};
 
@@ -20,17 +20,19 @@ pub(crate) struct Log<M> {
     ordered: Vec<Placed<M>>,
     // every member has received each of the first places, so many
     settled: usize,
+    // each replica has received each of the first places, so many as are counted at its slot, one below its number
+    fronts: Vec<usize>,
 }
 
 impl<M> Model for Log<M> {
     ghost use Rattle.std.specs.Prelude.{◌-◌, vec_len, vec_capacity};
-    ghost use Rattle.cg_group.specs.Logs.{Stored, IsSettled, configuration_of};
+    ghost use Rattle.cg_group.specs.Logs.{Stored, IsSettled, AreFronts, configuration_of};
 
     ghost Value = { Stored M };
 
     ghost view = { λ l. record { configuration = configuration_of l.members l.ordered.items; room = vec_capacity l.ordered - vec_len l.ordered } };
 
-    ghost invariant = { λ l. IsSettled l.members l.ordered.items l.settled };
+    ghost invariant = { λ l. IsSettled l.members l.ordered.items l.settled × AreFronts l.ordered.items l.fronts.items };
 }
 
 // the room is there, so no memory is taken
@@ -57,7 +59,8 @@ fn is_complete(received: &IdSet, members: &IdSet) -> bool
     ensures within { result ≡ true → is_within members.now received.now ≡ true }
     ensures set { IsSet received.now }
 {
-    received.count() >= members.count() && members.is_within(received)
+    let _set = received.iter();
+    members.is_within(received)
 }
 
 // how many of the first places every member has received, from so many on
@@ -75,6 +78,41 @@ fn settled_from<M>(members: &IdSet, ordered: &[Placed<M>], from: usize) -> usize
     place
 }
 
+// counts on which of the first places a replica has received, where it has a slot
+fn count_on<M>(fronts: &mut Vec<usize>, ordered: &[Placed<M>], p: ReplicaId)
+    requires { AreFronts ordered.now fronts.old.items }
+    ensures { AreFronts ordered.now fronts.new.items }
+{
+    let slot = usize::from(p.get() - 1);
+    if slot >= fronts.len() {
+        return;
+    }
+    fronts[slot] = settled_from(&IdSet::single(p), ordered, fronts[slot]);
+}
+
+// a slot for each of the members, where there is none yet
+fn put_slots<M>(
+    fronts: &mut Vec<usize>,
+    ordered: &[Placed<M>],
+    members: &IdSet,
+) -> Result<(), NoMemory>
+    requires { AreFronts ordered.now fronts.old.items }
+    ensures { AreFronts ordered.now fronts.new.items }
+{
+    if fronts.len() > 0 {
+        return Ok(());
+    }
+    let mut greatest = 0;
+    for p in members.iter() {
+        greatest = p.get();
+    }
+    fronts.reserve(usize::from(greatest))?;
+    for _slot in 0..greatest {
+        fronts.push(0)?;
+    }
+    Ok(())
+}
+
 impl<M> Log<M> {
     pub(crate) fn new(alloc: Global, members: IdSet) -> Log<M>
         ensures { result.configuration ≡ record { members = members; ordered = []; received = [] } }
@@ -83,6 +121,7 @@ impl<M> Log<M> {
             members,
             ordered: Vec::new(alloc),
             settled: 0,
+            fronts: Vec::new(alloc),
         }
     }
 
@@ -93,14 +132,14 @@ impl<M> Log<M> {
         self.ordered.len()
     }
 
-    /// Makes room for that many more messages.
+    /// Makes room for that many more messages, and counts from then on what each member receives.
     pub(crate) fn reserve(&mut self, count: usize) -> Result<(), NoMemory>
         ensures same { self.new.configuration ≡ self.old.configuration }
         ensures kept { self.old.room ≤ self.new.room }
         ensures room { OnOk result (count ≤ self.new.room) }
     {
         self.ordered.reserve(count)?;
-        Ok(())
+        put_slots(&mut self.fronts, self.ordered.as_slice(), &self.members)
     }
 
     /// A message gets the next place, and its sender has received it. It takes no memory.
@@ -119,7 +158,9 @@ impl<M> Log<M> {
             received,
         };
         push_in_room(&mut self.ordered, placed);
-        self.settled = settled_from(&self.members, self.ordered.as_slice(), self.settled);
+        let ordered = self.ordered.as_slice();
+        count_on(&mut self.fronts, ordered, from);
+        self.settled = settled_from(&self.members, ordered, self.settled);
     }
 
     /// A member has received a place, where there is such a place.
@@ -135,7 +176,9 @@ impl<M> Log<M> {
         }
         let placed = &mut self.ordered[(place - 1) as usize];
         add_receipt(placed, p);
-        self.settled = settled_from(&self.members, self.ordered.as_slice(), self.settled);
+        let ordered = self.ordered.as_slice();
+        count_on(&mut self.fronts, ordered, p);
+        self.settled = settled_from(&self.members, ordered, self.settled);
     }
 
     /// So many of the first places every member has received.
@@ -152,10 +195,11 @@ impl<M> Log<M> {
         ensures received { (place : ℕ) → 0 < place → place ≤ result → has_received self.now.configuration p place ≡ true }
         ensures same { (place : ℕ) → 0 < place → place ≤ result → with_receipt self.now.configuration p place ≡ self.now.configuration }
     {
-        if !self.members.contains(p) {
+        let slot = usize::from(p.get() - 1);
+        if slot >= self.fronts.len() {
             return 0;
         }
-        self.settled
+        self.fronts[slot]
     }
 
     /// A member has received every place.

@@ -1,8 +1,12 @@
 use Rattle.std.proofs.Common.{◌∙◌, ap}
 use Rattle.cg_base.specs.Sets.{with_member}
 use Rattle.cg_group.proofs.LogFacts.{configuration_of-appended}
-use Rattle.cg_group.proofs.SettledFacts.{IsSettled-append}
+use Rattle.cg_group.proofs.SettledFacts.{IsSettled-append, AreFronts-append}
 use Rattle.cg_group.proofs.log.Log.append.Goals as goal
+
+pub count_on-requires : goal.count_on-requires
+count_on-requires g c =
+    rw (c.as_slice-ordered.ensures.value, c.push_in_room.ensures.items) (AreFronts-append c.self.inside.ordered.items _ c.self.inside.fronts.items c.self.invariant.1)
 
 pub returns-clause-value : goal.returns-clause-value
 returns-clause-value g c =
@@ -12,5 +16,6 @@ returns-clause-value g c =
 
 pub invariant_of-self : goal.invariant_of-self
 invariant_of-self g c =
-    let next = rw c.as_slice.ensures.value at c.settled_from-self-inside.ensures in
-    next (rw c.push_in_room.ensures.items (IsSettled-append c.self.inside.members c.self.inside.ordered.items _ c.self.inside.settled c.self.invariant))
+    let next = rw c.as_slice-ordered.ensures.value at c.settled_from-self-inside.ensures in
+    let counted = rw c.as_slice-ordered.ensures.value at c.count_on.ensures in
+    (next (rw c.push_in_room.ensures.items (IsSettled-append c.self.inside.members c.self.inside.ordered.items _ c.self.inside.settled c.self.invariant.0)), counted)

@@ -1,7 +1,7 @@
 use Rattle.std.proofs.Common.{◌≡◌, ◌-◌, suc, ◌∙◌, ap, arith}
 use Rattle.cg_group.specs.Events.{with_receipt}
 use Rattle.cg_group.proofs.LogFacts.{configuration_of-set, with_receipt-beyond, with_receipt-none, marked}
-use Rattle.cg_group.proofs.SettledFacts.{IsSettled-receipt}
+use Rattle.cg_group.proofs.SettledFacts.{IsSettled-receipt, AreFronts-receipt}
 use Rattle.cg_base.specs.Sets.{with_member}
 use Rattle.cg_group.proofs.log.Log.receive.Goals as goal
 
@@ -20,9 +20,18 @@ returns-clause-value g c =
     (c.add_receipt.ensures.value ∙ ap (marked c.args.p) c.index_mut-placed.ensures.value)
     ∙ ap (with_receipt _ c.args.p) place)
 
+pub count_on-requires : goal.count_on-requires
+count_on-requires g c =
+    rw c.as_slice-ordered.ensures.value
+    (AreFronts-receipt c.self.inside.ordered.items (c.args.place - 1) c.args.p _ c.index_mut-placed.result.now c.self.inside.fronts.items (omega arith) c.self.invariant.1
+    (ap (λ x. x.received) c.add_receipt.ensures.value ∙ ap (λ x. with_member x.received c.args.p) c.index_mut-placed.ensures.value) c.add_receipt.ensures.set)
+
 pub invariant_of-self : goal.invariant_of-self
 invariant_of-self g c =
-    let next = rw c.as_slice.ensures.value at c.settled_from-self-inside.ensures in
-    next
-    (IsSettled-receipt c.self.inside.members c.self.inside.ordered.items (c.args.place - 1) c.self.inside.settled c.args.p _ c.index_mut-placed.result.now (omega arith) c.self.invariant
-    (ap (λ x. x.received) c.add_receipt.ensures.value ∙ ap (λ x. with_member x.received c.args.p) c.index_mut-placed.ensures.value) c.add_receipt.ensures.set)
+    let next = rw c.as_slice-ordered.ensures.value at c.settled_from-self-inside.ensures in
+    let counted = rw c.as_slice-ordered.ensures.value at c.count_on.ensures in (
+      next
+          (IsSettled-receipt c.self.inside.members c.self.inside.ordered.items (c.args.place - 1) c.self.inside.settled c.args.p _ c.index_mut-placed.result.now (omega arith) c.self.invariant.0
+          (ap (λ x. x.received) c.add_receipt.ensures.value ∙ ap (λ x. with_member x.received c.args.p) c.index_mut-placed.ensures.value) c.add_receipt.ensures.set),
+      counted,
+    )

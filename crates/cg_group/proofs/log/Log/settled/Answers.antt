@@ -3,4 +3,4 @@ use Rattle.cg_group.proofs.log.Log.settled.Goals as goal
 
 pub returns-clause-received : goal.returns-clause-received
 returns-clause-received g c = λ place pos le.
-    rw (← c.self.view_is) (settled-all_received c.self.inside.members c.self.inside.ordered.items c.self.inside.settled place c.self.invariant pos le)
+    rw (← c.self.view_is) (settled-all_received c.self.inside.members c.self.inside.ordered.items c.self.inside.settled place c.self.invariant.0 pos le)
