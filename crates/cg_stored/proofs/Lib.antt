@@ -6,3 +6,4 @@ mod EntryFields
 mod CheckpointFields
 mod Agreeing
 mod StandingLaws
+pub mod Distinct
