@@ -1,12 +1,12 @@
 -- What holds of what a replica holds, where other things change than its actions: values, own actions, the white count.
-use Rattle.std.proofs.Common.{◌≡◌, ℕ, zero, suc, ◌+◌, ◌-◌, ◌≤◌, List, [], ◌∷◌, ◌++◌, length, drop, fold, Bool, true, false, not, refl, sym, ap, ◌∙◌, subst, arith, inl, inr, nat_lt, nat_le}
+use Rattle.std.proofs.Common.{◌≡◌, ℕ, zero, suc, ◌+◌, ◌-◌, ◌≤◌, List, [], ◌∷◌, ◌++◌, length, drop, fold, Bool, true, false, refl, sym, ap, ◌∙◌, subst, arith, inl, inr, nat_lt, nat_le}
 use Rattle.std.specs.Prelude.{◌==◌, Option}
 use Rattle.std.specs.Option.{unwrap_or}
 use Rattle.std.specs.List.{list_all}
-use Rattle.std.proofs.lemmas.Bool.{cases_eq, cases_Bool, eq-eqb, le-leb, and_parts, and_from, or_from}
+use Rattle.std.proofs.lemmas.Bool.{cases_Bool, eq-eqb, le-leb, and_parts, and_from}
 use Rattle.cg_base.specs.declared.action_id.ActionId.{ActionId}
 use Rattle.cg_base.specs.declared.weighted.Weighted.{Weighted}
-use Rattle.cg_base.specs.Ids.{same_id, names}
+use Rattle.cg_base.specs.Ids.{names}
 use Rattle.cg_base.specs.Cuts.{index_in}
 use Rattle.cg_action.specs.declared.action.Action.{Action}
 use Rattle.cg_action.specs.declared.action.Kind.{Kind}
@@ -22,8 +22,8 @@ use Rattle.cg_client.specs.Calls.{IsLineGreen}
 use Rattle.cg_stored.specs.Stored.{whiten}
 use Rattle.cg_stored.specs.Following.{is_distinct, are_yellow}
 use Rattle.cg_stored.specs.Agreeing.{indexes_of}
+use Rattle.cg_stored.proofs.Distinct.{distinct-behind}
 use Rattle.cg_step.specs.Holds.{run_on, cut_behind, CountsTo, Holds}
-use Rattle.cg_base.specs.IdLaws.{same_id-true, same_id-false}
 use Rattle.cg_step.specs.RunLaws.{run_on-next}
 use Rattle.cg_step.specs.RunMarkLaws.{run-names}
 use Rattle.cg_step.proofs.HoldsMarks.{are_red, rising-red}
@@ -56,37 +56,6 @@ holds-values h yellow valid prim index v buffered red is = record {
 all-behind : (p : ActionId → Bool) (ids : List ActionId) (id : ActionId) → list_all p ids ≡ true → p id ≡ true → list_all p (ids ++ id ∷ []) ≡ true
 all-behind p [] id every last = and_from (p id) true last refl
 all-behind p (x ∷ ids) id every last = let parts = and_parts (p x) (list_all p ids) every in and_from (p x) (list_all p (ids ++ id ∷ [])) parts.0 (all-behind p ids id parts.1 last)
-
-names-apart : (ids : List ActionId) (id x : ActionId) → same_id x id ≡ false → names ids x ≡ false → names (ids ++ id ∷ []) x ≡ false
-names-apart [] id x apart none = or_from (same_id x id) false apart refl
-names-apart (y ∷ ids) id x apart none = elim (cases_Bool (same_id x y)) [
-  | inl here ↦ absurd (let clash : true ≡ false = rw here at none in cc)
-  | inr other ↦ rw other (names-apart ids id x apart (rw other at none))
-]
-
-distinct-behind : (ids : List ActionId) (id : ActionId) → is_distinct ids ≡ true → names ids id ≡ false → is_distinct (ids ++ id ∷ []) ≡ true
-distinct-behind [] id distinct new = refl
-distinct-behind (x ∷ ids) id distinct new =
-    let parts = and_parts (not (names ids x)) (is_distinct ids) distinct in
-    elim (cases_Bool (same_id id x)) [
-      | inl here ↦ absurd (let clash : true ≡ false = rw here at new in cc)
-      | inr other ↦
-          and_from (not (names (ids ++ id ∷ []) x)) (is_distinct (ids ++ id ∷ []))
-          (ap not (names-apart ids id x (turned x other) (none (names ids x) parts.0))) (distinct-behind ids id parts.1 (rw other at new))
-    ]
-  where
-    none : (b : Bool) → not b ≡ true → b ≡ false
-    none true e = absurd (let clash : false ≡ true = e in cc)
-    none false e = refl
-
-    turned : (x : ActionId) → same_id id x ≡ false → same_id x id ≡ false
-    turned x other = elim (cases_eq x.creator id.creator) [
-      | inl same ↦ elim (cases_eq x.index id.index) [
-        | inl equal ↦ absurd (let clash : true ≡ false = sym (same_id-true id x (sym same) (sym equal)) ∙ other in cc)
-        | inr differ ↦ same_id-false x id (inr differ)
-      ]
-      | inr differ ↦ same_id-false x id (inl differ)
-    ]
 
 yellow-behind : (q : QueueView) (ids : List ActionId) (id : ActionId) → are_yellow q ids ≡ true → names (names_of q.reds) id ≡ true → names ids id ≡ false → are_yellow q (ids ++ id ∷ []) ≡ true
 yellow-behind q ids id yellow red new =

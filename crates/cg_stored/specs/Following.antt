@@ -4,7 +4,6 @@ use Rattle.std.specs.List.{list_all}
 use Rattle.cg_base.specs.declared.action_id.ActionId.{ActionId}
 use Rattle.cg_base.specs.Ids.{names}
 use Rattle.cg_base.specs.Cuts.{index_in}
-use Rattle.cg_codec.specs.Fields.{list}
 use Rattle.cg_action.specs.declared.action.Action.{Action}
 use Rattle.cg_queue.specs.Queue.{QueueView, names_of, placed_red, action_of}
 use Rattle.cg_records.specs.declared.stable.Stable.{Stable}

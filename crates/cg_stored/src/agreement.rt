@@ -211,12 +211,13 @@ fn is_before_first(id: &ActionId, actions: &[Action]) -> bool
 pub fn is_distinct(ids: &[ActionId]) -> bool
     ensures { result ≡ is_distinct ids.now }
 {
-    let mut rest = ids;
-    while let Some((first, others)) = rest.split_first() {
-        if has_name(others, first) {
+    // a name behind all of its creator before it is new: only another is looked for
+    let mut last = Cut::zero();
+    for (place, id) in ids.iter().enumerate() {
+        if id.index <= last.get(id.creator) && has_name(&ids[..place], id) {
             return false;
         }
-        rest = others;
+        last.raise(id.creator, id.index);
     }
     true
 }

@@ -1,9 +1,10 @@
-use Rattle.std.proofs.Common.{◌≡◌, length}
+use Rattle.std.proofs.Common.{◌≡◌, true, take}
 use Rattle.cg_stored.specs.Following.{is_distinct}
+use Rattle.cg_stored.proofs.Distinct.{AreBehind}
 use Rattle.cg_stored.proofs.agreement.is_distinct.Given as goal
 
-abbrev pub invariant-loop-first : goal.invariant-loop-first
-invariant-loop-first l = is_distinct l.rest ≡ is_distinct l.ids
-
-abbrev pub decreases-loop-first : goal.decreases-loop-first
-decreases-loop-first l = length l.rest
+abbrev pub invariant-loop-place : goal.invariant-loop-place
+invariant-loop-place l = record {
+  behind : AreBehind l.last (take l.place l.ids);
+  distinct : is_distinct (take l.place l.ids) ≡ true;
+}

@@ -1,4 +1,4 @@
-use Rattle.std.proofs.Common.{◌≡◌, ◌+◌, ◌-◌, true, refl, sym, ◌∙◌, rules, arith}
+use Rattle.std.proofs.Common.{◌≡◌, ◌+◌, true, refl, sym, ◌∙◌, rules, arith}
 use Rattle.cg_base.specs.Replicas.{every_replica}
 use Rattle.cg_stored.specs.Parts.{queue_in}
 use Rattle.cg_stored.proofs.Agreeing.{all-step}
