@@ -22,7 +22,7 @@ use Rattle.cg_client.specs.Calls.{IsLineGreen}
 use Rattle.cg_stored.specs.Stored.{whiten}
 use Rattle.cg_stored.specs.Following.{is_distinct, are_yellow}
 use Rattle.cg_stored.specs.Agreeing.{indexes_of}
-use Rattle.cg_stored.proofs.Distinct.{distinct-behind}
+use Rattle.cg_stored.specs.DistinctLaws.{distinct-behind}
 use Rattle.cg_step.specs.Holds.{run_on, cut_behind, CountsTo, Holds}
 use Rattle.cg_step.specs.RunLaws.{run_on-next}
 use Rattle.cg_step.specs.RunMarkLaws.{run-names}

@@ -7,4 +7,4 @@ mod CheckpointFields
 mod Agreeing
 mod StandingLaws
 mod Generations
-pub mod Distinct
+mod Distinct

@@ -9,3 +9,4 @@ pub mod Parts
 pub mod Kept
 pub mod NameLaws
 pub mod Laws
+pub mod DistinctLaws

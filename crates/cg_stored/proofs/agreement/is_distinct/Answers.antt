@@ -3,7 +3,8 @@ use Rattle.std.proofs.lemmas.List.{take_all}
 use Rattle.cg_base.specs.Ids.{names}
 use Rattle.cg_base.specs.Cuts.{index_in}
 use Rattle.cg_stored.specs.Following.{is_distinct}
-use Rattle.cg_stored.proofs.Distinct.{AreBehind, behind-next, new-beyond, distinct-behind, not_distinct, placed, taken-next}
+use Rattle.cg_stored.specs.DistinctLaws.{distinct-behind}
+use Rattle.cg_stored.proofs.Distinct.{AreBehind, behind-next, new-beyond, not_distinct, placed, taken-next}
 use Rattle.cg_stored.proofs.agreement.is_distinct.Goals as goal
 use Rattle.cg_stored.proofs.agreement.is_distinct.Goals.{else-id-get-via-then-id-get+else-has_name, else-id-get-via-else-id-get}
 
