@@ -1,9 +1,10 @@
-ghost use Rattle.std.specs.Prelude.{◌≡◌, IfOk, filter};
+ghost use Rattle.std.specs.Prelude.{◌≡◌, false, nat_le, IfOk, filter};
 ghost use Rattle.std.specs.List.{list_all};
-ghost use Rattle.std.specs.Option.{option_copied};
+ghost use Rattle.std.specs.Option.{option_copied, option_map_or};
 ghost use Rattle.cg_base.specs.Ids.{names as names_id};
+ghost use Rattle.cg_base.specs.Cuts.{index_in};
 ghost use Rattle.cg_knowledge.specs.Members.{lowest};
-ghost use Rattle.cg_knowledge.specs.Yellow.{yellow_group, is_in_each as in_each, is_green_at_most as green_at_most, is_common as common, common_yellow as common_yellow_of};
+ghost use Rattle.cg_knowledge.specs.Yellow.{yellow_group, is_common as common, common_yellow as common_yellow_of};
 ghost use Rattle.cg_knowledge.specs.Calls.{lets_stand as stands};
 
 use crate::Summary;
@@ -48,34 +49,23 @@ fn all_let_stand(summaries: &[Summary], newest: u64, id: &ActionId) -> bool
     summaries.iter().all(|s| lets_stand(s, newest, id))
 }
 
-fn is_in_each(summaries: &[Summary], id: &ActionId) -> bool
-    ensures { result ≡ in_each (yellow_group summaries.now) id.now }
+fn is_green_at(best: Option<&Summary>, id: &ActionId) -> bool
+    ensures { result ≡ option_map_or (λ s. nat_le id.now.index (index_in s.green_cut id.now.creator)) (option_copied best.entry) false }
 {
-    all_let_stand(summaries, newest_index(summaries), id)
-}
-
-#[tactic(auto, unfolding(crate::specs::Yellow::is_green_at_most))]
-fn is_green_at_most(summaries: &[Summary], id: &ActionId) -> bool
-    ensures { result ≡ green_at_most summaries.now id.now }
-{
-    match most_updated(summaries) {
+    match best {
         None => false,
-        Some(best) => id.index <= best.green_cut.get(id.creator),
+        Some(s) => id.index <= s.green_cut.get(id.creator),
     }
-}
-
-fn is_common(summaries: &[Summary], id: &ActionId) -> bool
-    ensures { result ≡ common summaries.now id.now }
-{
-    is_in_each(summaries, id) && !is_green_at_most(summaries, id)
 }
 
 fn common_names(alloc: Global, summaries: &[Summary], list: &[ActionId]) -> Result<IdList, NoMemory>
     ensures { IfOk result (λ ids. ids ≡ filter (common summaries.now) list.now) }
 {
+    let newest = newest_index(summaries);
+    let best = most_updated(summaries);
     let mut ids = IdList::new(alloc);
     for id in list {
-        if is_common(summaries, id) {
+        if all_let_stand(summaries, newest, id) && !is_green_at(best, id) {
             ids.push(*id)?;
         }
     }
