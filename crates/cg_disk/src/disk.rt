@@ -18,12 +18,16 @@ pub enum Side {
 /// Why a device call didn't do what it was asked to.
 #[derive(Clone, Copy, Debug, PartialEq, Eq, Error)]
 pub enum DiskFault {
+    /// The device failed, or a stop struck the call. The disk's count of faults rises.
     #[error("a device call failed")]
     Failed,
+    /// The disk is as it was, and the call doesn't count.
     #[error("memory was refused")]
     NoMemory,
 }
 
+/// A disk of two sides, each a row of bytes. Clauses see what a read gives, which bytes a crash at each moment may leave, and
+/// the time, which is the number of device calls made. A disk makes at most 2^62 of them.
 pub trait Disk {
     ghost view: { Self → DiskView };
 

@@ -1,6 +1,6 @@
 use cg_base::ReplicaId;
 
-/// The name of a snapshot: of which replica it is, and the how many-th of that replica.
+/// The name of a snapshot: whose it is, and its number among that replica's snapshots, from 1.
 #[derive(Clone, Copy, Debug, PartialEq, Eq)]
 pub struct SnapshotName {
     pub rep: ReplicaId,

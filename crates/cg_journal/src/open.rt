@@ -8,6 +8,7 @@ use std::fmt::{Display, Formatter, Write};
 pub enum FormatErr<D: Disk> {
     /// A device call failed.
     Lost(D),
+    /// Memory was refused to a device call.
     NoMemory(D),
 }
 
@@ -18,6 +19,7 @@ pub enum JournalOpen<D: Disk> {
     Lost(D),
     /// A side is shorter than nine bytes, lacks the header, or ends in a record that doesn't fit.
     NotAJournal(D),
+    /// Memory was refused. What a read gives is as it was.
     NoMemory(D),
 }
 

@@ -12,7 +12,8 @@ use cg_join::joiners_agree;
 use cg_step::what_is_held_agrees;
 
 impl Seat {
-    /// Its snapshot for a joiner, where it is up: a copy of what it has green, the how many-th of its snapshots.
+    /// Its snapshot for a joiner, where it is up: a copy of what it has green. The number is that of the snapshot
+    /// among this replica's.
     pub fn copy_for(&self, joiner: ReplicaId, number: u64) -> Result<Option<Transfer>, NoMemory>
         requires { IsNumber number }
         ensures { IfOk result (λ t. t ≡ copied joiner self.now) }
