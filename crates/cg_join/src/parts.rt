@@ -28,7 +28,7 @@ impl Model for Parts {
 }
 
 // so many pieces fit no memory
-const MOST: usize = 4611686018427387904;
+const MOST: usize = 1 << 62;
 
 impl Parts {
     pub(crate) fn new(alloc: Global) -> Parts

@@ -14,7 +14,7 @@ use cg_stored::{put_change, put_checkpoint};
 use std::alloc::Global;
 
 // a longer record has no length in four bytes
-const LONGEST: usize = 4294967295;
+const LONGEST: usize = (1 << 32) - 1;
 
 // most records are no longer, and need no more room
 const USUAL: usize = 256;

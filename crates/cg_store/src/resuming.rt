@@ -17,7 +17,7 @@ use cg_stored::{Reached, count_of};
 use std::alloc::Global;
 
 // more greens than any run makes
-const MOST: u64 = 4611686018427387904;
+const MOST: u64 = 1 << 62;
 
 /// What a replica has green, and where it stands among primary components.
 #[derive(Drop)]

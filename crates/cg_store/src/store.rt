@@ -50,10 +50,10 @@ impl<D: Disk> Model for Store<D> {
 }
 
 // the generation of the last checkpoint that has bytes
-const LAST: u64 = 9223372036854775807;
+const LAST: u64 = (1 << 63) - 1;
 
 // a side longer than this is followed by a checkpoint on the other side
-const LIMIT: u64 = 1048576;
+const LIMIT: u64 = 1 << 20;
 
 // What the first record has, and its bytes.
 fn first_record(alloc: Global, core: &Core) -> Result<(Stable, Vec<u8>), NoMemory>
