@@ -211,27 +211,34 @@ impl<D: Disk> Journal<D> {
 impl Journal<ModelDisk> {
     ghost use Rattle.cg_disk.specs.State.{Fails, Stops};
     ghost use Rattle.cg_disk.specs.Crashes.{Arms};
+    ghost use Rattle.cg_journal.specs.Answers.{CanBeRead};
 
     /// Arms the nth next device call, n at least 1, to fail once.
     pub fn fail_at(&mut self, n: u64)
         requires { 1 ≤ n }
-        ensures { Arms Fails n (⟦<ModelDisk as Disk>⟧.view self.old) (⟦<ModelDisk as Disk>⟧.view self.new) }
+        ensures arms { Arms Fails n (⟦<ModelDisk as Disk>⟧.view self.old) (⟦<ModelDisk as Disk>⟧.view self.new) }
+        ensures readable { CanBeRead (⟦<ModelDisk as Disk>⟧.view self.old) }
     {
+        self.readable();
         self.disk.fail_at(n);
     }
 
     /// Arms a stop inside the nth next device call, n at least 1.
     pub fn stop_at(&mut self, n: u64)
         requires { 1 ≤ n }
-        ensures { Arms Stops n (⟦<ModelDisk as Disk>⟧.view self.old) (⟦<ModelDisk as Disk>⟧.view self.new) }
+        ensures arms { Arms Stops n (⟦<ModelDisk as Disk>⟧.view self.old) (⟦<ModelDisk as Disk>⟧.view self.new) }
+        ensures readable { CanBeRead (⟦<ModelDisk as Disk>⟧.view self.old) }
     {
+        self.readable();
         self.disk.stop_at(n);
     }
 
     /// The device calls made so far.
     pub fn calls(&self) -> u64
-        ensures { result ≡ (⟦<ModelDisk as Disk>⟧.view self.now).time }
+        ensures calls { result ≡ (⟦<ModelDisk as Disk>⟧.view self.now).time }
+        ensures readable { CanBeRead (⟦<ModelDisk as Disk>⟧.view self.now) }
     {
+        self.readable();
         self.disk.calls()
     }
 }
