@@ -6,7 +6,7 @@
 
 mod bench;
 
-use bench::{How, comes};
+use bench::{How, is_right};
 use std::alloc::AllocGlobal;
 use std::process::Abort;
 use std::test::Fail;
@@ -239,17 +239,6 @@ const FAILED_AND_UP: &str = "&= 3
 1 NonPrim - g0 w0 p0@0{1} a0 v- y- r[] o[] x{} b0
 end 6
  -> 0 Done";
-
-fn is_right(
-    rt: &(impl Abort + AllocGlobal),
-    how: How<'_>,
-    input: &str,
-    expected: &str,
-) -> Result<(), Fail> {
-    let is_right = comes(rt.alloc(), how, input, expected)?;
-    assert!(rt; is_right, "{} < {input}", how.words);
-    Ok(())
-}
 
 fn are_right(rt: &(impl Abort + AllocGlobal), how: How<'_>, lines: &str) -> Result<(), Fail> {
     for line in lines.lines() {
