@@ -1,17 +1,18 @@
-//! Verdicts worked by hand: what a case shows, a line for each summary, and the verdict. Behind the arrow stand the bits of
-//! each summary's record, where it stays.
+//! Verdicts worked by hand: what a case shows, a line for each summary, and the verdict. Behind the arrow stands each
+//! summary's record, where it stays, as the line of a replica shows one.
 
 use crate::summaries::take;
 use crate::table::{follows, say, say_set, say_with};
 use cg_base::{put_id_list, put_weight_set};
 use cg_knowledge::{Summary, Verdict, decide};
+use cg_records::Vulnerable;
 use std::alloc::Global;
 
 const CASES: &str = "# two records that stay get the bits of both
 2 prim=1/1/1,2,3 record=2/1/1,2,4/2
 3 prim=1/1/1,2,3
 4 prim=1/1/1,2,3 record=2/1/1,2,4/4
-decide -> 1/1 {1,2,3}, attempt 0, no yellow [], gone {}, no quorum, records {2,4} none {2,4}
+decide -> 1/1 {1,2,3}, attempt 0, no yellow [], gone {}, no quorum, records v2/1{1,2,4}{2,4} none v2/1{1,2,4}{2,4}
 # a replica alone in its set
 1 prim=0/0/1
 decide -> 0/0 {1}, attempt 0, no yellow [], gone {}, quorum, records none
@@ -66,7 +67,7 @@ decide -> 3/9 {1,2}, attempt 0, no yellow [], gone {}, quorum, records none none
 # its own primary component clears none
 1 prim=2/2/1,2 record=2/1/1,2,3/1
 2 prim=2/2/1,2 record=2/1/1,2,3/2
-decide -> 2/2 {1,2}, attempt 0, no yellow [], gone {}, no quorum, records {1,2} {1,2}
+decide -> 2/2 {1,2}, attempt 0, no yellow [], gone {}, no quorum, records v2/1{1,2,3}{1,2} v2/1{1,2,3}{1,2}
 # that of another attempt clears it
 1 prim=2/7/1,2 record=2/1/1,2,3/1
 2 prim=2/7/1,2 record=2/1/1,2,3/2
@@ -82,7 +83,7 @@ decide -> 1/1 {1,2}, attempt 0, no yellow [], gone {}, quorum, records none none
 # one that was no member of the attempt does not
 1 prim=1/1/1,2 record=2/1/1,3/1
 2 prim=1/1/1,2
-decide -> 1/1 {1,2}, attempt 0, no yellow [], gone {}, no quorum, records {1} none
+decide -> 1/1 {1,2}, attempt 0, no yellow [], gone {}, no quorum, records v2/1{1,3}{1} none
 # the bits of all members of the attempt clear it
 1 prim=1/1/1,2 record=2/1/1,2/1
 2 prim=1/1/1,2 record=2/1/1,2/2
@@ -94,7 +95,7 @@ decide -> 1/1 {1,2}, attempt 0, no yellow [], gone {}, quorum, records none none
 # bits of another attempt do not count
 1 prim=1/1/1,4 record=2/1/1,2,3/1,2
 4 prim=1/1/1,4 record=5/1/4,5/3
-decide -> 1/1 {1,4}, attempt 0, no yellow [], gone {}, no quorum, records {1,2} {3}
+decide -> 1/1 {1,4}, attempt 0, no yellow [], gone {}, no quorum, records v2/1{1,2,3}{1,2} v5/1{4,5}{3}
 # a member that left counts as present
 1 prim=1/1/1,2 record=2/1/1,2/1 left=2
 2 prim=1/1/1,2
@@ -102,12 +103,12 @@ decide -> 1/1 {1,2}, attempt 0, no yellow [], gone {2}, quorum, records none non
 # the record of one that left stays too
 1 prim=1/1/1,2 left=2
 2 prim=1/1/1,2 record=3/1/2,5/2
-decide -> 1/1 {1,2}, attempt 0, no yellow [], gone {2}, no quorum, records none {2}
+decide -> 1/1 {1,2}, attempt 0, no yellow [], gone {2}, no quorum, records none v3/1{2,5}{2}
 # a record outside of the last primary component stays
 1 prim=1/1/1,2,3
 2 prim=1/1/1,2,3
 4 prim=1/1/1,2,3 record=2/1/4,5/4
-decide -> 1/1 {1,2,3}, attempt 0, no yellow [], gone {}, no quorum, records none none {4}
+decide -> 1/1 {1,2,3}, attempt 0, no yellow [], gone {}, no quorum, records none none v2/1{4,5}{4}
 # one yellow list
 1 prim=1/1/1,2 yellow=1:1,2:1
 2 prim=1/1/1,2
@@ -153,13 +154,20 @@ decide -> 1/1 {1,2}, attempt 0, no yellow [], gone {}, quorum, records none none
 1 prim=1/1/1,2 yellow=1:2 green=1 cut=1:1
 decide -> 1/1 {1,2}, attempt 0, yellow [1:2], gone {}, quorum, records none";
 
+fn say_record(out: &mut Vec<u8>, record: &Vulnerable) {
+    say_with(out, "v", record.attempt);
+    say_with(out, "/", record.from);
+    say_set(out, record.set);
+    say_set(out, record.bits);
+}
+
 fn say_records(out: &mut Vec<u8>, verdict: &Verdict) {
     say(out, ", records");
     for record in verdict.vulnerable.as_slice() {
         say(out, " ");
         match record {
             None => say(out, "none"),
-            Some(v) => say_set(out, v.bits),
+            Some(record) => say_record(out, record),
         }
     }
 }

@@ -1,5 +1,5 @@
 //! The tests of the layers that a replica is made of: the group, the database, the queue, the server list, the journal,
-//! what members know together, and the plan of an exchange.
+//! what members know together, the plan of an exchange, and what a step shows.
 //!
 //! Tests alone, a module a layer, over the public calls of each; nothing stands on this crate. They stand here and not in
 //! the crates, since the gate proves a crate that has tests a second time. Each expected value was worked out by hand.

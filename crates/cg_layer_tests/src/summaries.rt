@@ -11,8 +11,8 @@ use cg_knowledge::Summary;
 use cg_records::{Primary, Vulnerable, Yellow};
 use std::alloc::Global;
 
-// the names of a list as `1:1,2:2`
-fn names(alloc: Global, text: &str) -> IdList {
+/// The names of a list as `1:1,2:2`.
+pub(crate) fn names(alloc: Global, text: &str) -> IdList {
     let mut list = IdList::new(alloc);
     for part in text.split(',') {
         if part != "" {
@@ -22,7 +22,8 @@ fn names(alloc: Global, text: &str) -> IdList {
     list
 }
 
-fn primary(text: &str) -> Primary {
+/// A primary component as `1/2/1,2`.
+pub(crate) fn primary(text: &str) -> Primary {
     let (index, rest) = parts(text, "/");
     let (conf, members) = parts(rest, "/");
     Primary {
@@ -32,7 +33,8 @@ fn primary(text: &str) -> Primary {
     }
 }
 
-fn record(text: &str) -> Vulnerable {
+/// A record as `2/1/1,2/1`.
+pub(crate) fn record(text: &str) -> Vulnerable {
     let (attempt, rest) = parts(text, "/");
     let (from, sets) = parts(rest, "/");
     let (members, bits) = parts(sets, "/");

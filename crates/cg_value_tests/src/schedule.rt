@@ -456,13 +456,13 @@ fn lines_behind_one_another(rt: HostRuntime) {
     assert!(rt; reader.state().ended);
 }
 
-// whether the lines are one event
-fn are_one(alloc: Global, a: &[u8], b: &[u8]) -> bool {
+// whether the lines are one event, where both are read
+fn are_one(alloc: Global, a: &[u8], b: &[u8]) -> Option<bool> {
     let mut reader = started(alloc);
-    let mut is_same = false;
+    let mut is_same = None;
     if let Ok(Some(one)) = reader.read_line(alloc, a) {
         if let Ok(Some(other)) = reader.read_line(alloc, b) {
-            is_same = one == other;
+            is_same = Some(one == other);
             let_go(other);
         }
         let_go(one);
@@ -472,15 +472,22 @@ fn are_one(alloc: Global, a: &[u8], b: &[u8]) -> bool {
 
 #[test]
 fn events_are_compared(rt: HostRuntime) {
-    assert!(rt;
+    assert_eq!(rt;
         are_one(
             rt.alloc(),
             b"request 1 ? get \"x\"",
             b"request  1  ?get \"x\""
-        )
+        ),
+        Some(true)
     );
-    assert!(rt; !are_one(rt.alloc(), b"weak 1 count", b"dirty 1 count"));
-    assert!(rt; !are_one(rt.alloc(), b"stop 1 0 -", b"stop 1 0 00"));
+    assert_eq!(rt;
+        are_one(rt.alloc(), b"weak 1 count", b"dirty 1 count"),
+        Some(false)
+    );
+    assert_eq!(rt;
+        are_one(rt.alloc(), b"stop 1 0 -", b"stop 1 0 00"),
+        Some(false)
+    );
 }
 
 #[test]

@@ -3,7 +3,8 @@
 use cg_base::Bytes;
 use cg_io::{MemSink, MemSource};
 use cg_run::{ArgText, Status, run};
-use std::alloc::{AllocError, Global};
+use std::alloc::{AllocError, AllocGlobal, Global};
+use std::process::Abort;
 use std::test::Fail;
 
 /// What a `&` stands for.
@@ -128,15 +129,23 @@ fn is_end(alloc: Global, status: Status, expected: &str) -> Result<bool, Fail> {
     Ok(text.starts_with(expected))
 }
 
-/// Whether the run puts what is expected, and ends so.
-pub(super) fn comes(
-    alloc: Global,
+/// Whether the run puts what is expected, and ends so; where it doesn't, what came is told.
+pub(super) fn is_right(
+    rt: &(impl Abort + AllocGlobal),
     how: How<'_>,
     input: &str,
     expected: &str,
-) -> Result<bool, Fail> {
+) -> Result<(), Fail> {
+    let alloc = rt.alloc();
     let (text, end) = expected.split_once(" -> ").unwrap_or((expected, ""));
     let (status, sink) = ran(alloc, how, input)?;
     let is_right = is_put(alloc, sink.bytes(), text)? && is_end(alloc, status, end)?;
-    Ok(is_right)
+    let seen = str::from_utf8(sink.bytes()).unwrap_or("no text");
+    assert!(rt;
+        is_right,
+        "{} < {input} -> {expected}\nwhat came: {seen} -> {} {status:?}",
+        how.words,
+        status.number()
+    );
+    Ok(())
 }
