@@ -87,10 +87,6 @@ join-cores Q c joiner pasts may f = at (snapshot_of c.world joiner) (f.snapshot 
 
 -- ---- the start
 
--- the seat of a replica that begins
-abbrev seat_at_start : List Weighted → ℕ → Seat
-seat_at_start set q = record { id = q; life = Up (fresh q set) (new_disk (fresh_held q set)) }
-
 abbrev pub IsFresh : List Weighted → World → Type 0
 IsFresh set w = (q : ℕ) → IfSome (seat_of w q) (λ s. s.life ≡ Up (fresh q set) (new_disk (fresh_held q set)))
 

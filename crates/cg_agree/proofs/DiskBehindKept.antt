@@ -1,5 +1,5 @@
 -- A disk has no greens that its replica hasn't, and of a replica that is down the disk is all: every small step keeps both.
-use Rattle.std.proofs.Common.{◌≡◌, ℕ, ◌≢◌, true, false, cond, not, List, [], ◌++◌, find, Option, Some, None, IfSome, is_some, option_map, refl, sym, ap, ◌∙◌, subst, inl, inr, eq-eqb}
+use Rattle.std.proofs.Common.{◌≡◌, ℕ, ◌≢◌, true, false, cond, not, List, [], ◌++◌, Option, Some, None, IfSome, is_some, option_map, refl, sym, ap, ◌∙◌, subst, inl, inr, eq-eqb}
 use Rattle.std.specs.Prelude.{◌==◌, option_and_then}
 use Rattle.std.specs.Option.{option_map_or}
 use Rattle.std.proofs.lemmas.Bool.{cases_eq, cond-true, cond-false, ne_eqb, and_parts, not-true}
@@ -56,14 +56,6 @@ behind-moved c d p life now stood at front same old = record {
         ∙ old.down q (sym (ap life_in (at.seat q ∙ cond-false (p == q) (Some (record { id = p; life = life })) (seat_of c.world q) (ne_eqb p q apart))) ∙ none)
         ∙ sym (at.other_disks q apart)
   ];
-}
-
--- nothing of that has changed
-behind-same : (c d : Chronicle) → d.world.seats ≡ c.world.seats → d.pasts ≡ c.pasts → DiskBehind c → DiskBehind d
-behind-same c d seats pasts old = record {
-  behind = λ q. subst (λ xs. Front (stood-in (find (λ (x : Past). x.id == q) xs)) (greens-in (find (λ (x : Past). x.id == q) xs))) (sym pasts) (old.behind q);
-  down = λ q none. ap (λ xs. greens-in (find (λ (x : Past). x.id == q) xs)) pasts ∙ old.down q (ap (λ xs. life_in (find (λ (s : Seat). s.id == q) xs)) (sym seats) ∙ none)
-      ∙ sym (ap (λ xs. stood-in (find (λ (x : Past). x.id == q) xs)) pasts);
 }
 
 never-none : (r : Replica) → Some r ≡ None → {A : Type 0} → A

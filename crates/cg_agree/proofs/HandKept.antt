@@ -26,9 +26,6 @@ use Rattle.cg_group.specs.LookupLaws.{at-cond}
 use Rattle.cg_agree.proofs.TalkEarly.{IsEarly, all-member, not_full, due_parts}
 use Rattle.cg_agree.proofs.HandState.{IsKept, kept-mark_red, kept-mark_green, state_at_end, state-go_on, state-full}
 
-state_of : Turn → State
-state_of t = t.replica.state
-
 module _ (set : List ℕ) (conf me : ℕ) (t : Talk) (early : IsEarly set t) (tr : Turn) (id : tr.replica.held.id ≡ me)
     (at : tr.replica.state ≡ state_in set conf t me)
     (attempt : is_ended set t ≡ true → has (gone t.heard) me ≡ false → decides t.heard ≡ true → attempt_set tr.replica.held ≡ remaining t.heard) where

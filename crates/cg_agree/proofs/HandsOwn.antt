@@ -1,5 +1,5 @@
 -- In an exchange nothing is waited for, whatever is handed: own actions became red as the replica came.
-use Rattle.std.proofs.Common.{◌≡◌, ℕ, suc, Bool, true, false, cond, List, [], ◌∷◌, ◌++◌, Option, Some, None, ap}
+use Rattle.std.proofs.Common.{◌≡◌, ℕ, suc, true, List, [], ◌∷◌, ◌++◌, Option, Some, None, ap}
 use Rattle.std.specs.Prelude.{◌==◌}
 use Rattle.std.proofs.lemmas.Bool.{cond_both}
 use Rattle.cg_base.specs.Sets.{has, is_within}
@@ -26,10 +26,6 @@ use Rattle.cg_step.specs.Step.{on_message}
 -- a part of a turn behind which nothing is waited for, where nothing was before it
 abbrev WaitsForNone : (Turn → Turn) → Type 0
 WaitsForNone f = (t : Turn) → t.replica.held.own ≡ [] → (f t).replica.held.own ≡ []
-
-none-choice : (test : Bool) (f g : Turn → Turn) → WaitsForNone f → WaitsForNone g → WaitsForNone (λ t. cond test (f t) (g t))
-none-choice true f g a b = a
-none-choice false f g a b = b
 
 none-marked : (t : Turn) (a : Action) (m : Marking) → t.replica.held.own ≡ [] → (marked t a m).replica.held.own ≡ []
 none-marked t a (Marks Placed q) none = ap (λ xs. after_first xs a.id) none

@@ -40,10 +40,6 @@ installer-begun c i conf a p found installed none =
 pub same-installed : (p n q : ℕ) (a : Attempt) → has (with_leaver p n a).installed q ≡ has a.installed q
 same-installed p n q a = cond_both (has a.entered p) (record a { left = a.left ++ record { member = p; count = n } ∷ [] }) a (λ (x : Attempt). has x.installed q ≡ has a.installed q) (λ y. refl) (λ n. refl)
 
--- the count of one that leaves
-count-in : Option Leaving → ℕ
-count-in o = option_map_or (λ l. l.count) o 0
-
 leaver-count : (p n q m : ℕ) (a : Attempt) → (q ≡ p → n ≤ m) → left_count a q ≤ m → left_count (with_leaver p n a) q ≤ m
 leaver-count p n q m a new old =
     cond_both (has a.entered p) (record a { left = a.left ++ record { member = p; count = n } ∷ [] }) a (λ (x : Attempt). left_count x q ≤ m) (λ y. at (find (λ l. l.member == q) a.left) refl) (λ n. old) where

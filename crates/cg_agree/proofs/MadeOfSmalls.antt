@@ -28,7 +28,7 @@ use Rattle.cg_agree.specs.Smalls.{is_between, smalls_in, turns_as, ending, leavi
 use Rattle.cg_agree.specs.FactsLists.{IsRising}
 use Rattle.cg_agree.specs.FactsReplica.{IsModeData, GoesOn, IsAsOnDisk}
 use Rattle.cg_agree.specs.Facts.{Invariant}
-use Rattle.cg_agree.specs.Played.{IsSame, IsWritten, MayBeMade, KeptBySmalls, StandsBeside, MadeOfSmalls}
+use Rattle.cg_agree.specs.Played.{IsSame, IsWritten, MayBeMade, StandsBeside, MadeOfSmalls}
 use Rattle.cg_agree.specs.Noting.{played}
 use Rattle.cg_agree.proofs.Standings.{rising-lower}
 use Rattle.cg_agree.proofs.UnorderedKept.{first-none}
@@ -242,7 +242,3 @@ made-of-smalls c w e stands stand admitted =
     (all.0, same-back (played c (smalls_in w e)).world (world_step w e).world all.1)
 
 -- ---- behind all events
-
-facts-along : KeptBySmalls → (smalls : List Small) (c : Chronicle) → Invariant c → MayBeMade c smalls → Invariant (played c smalls)
-facts-along kept [] c facts may = facts
-facts-along kept (s ∷ smalls) c facts may = facts-along kept smalls (small_step c s) (kept c s facts may.0 may.1).0 may.2

@@ -1,7 +1,6 @@
 -- What a state says of what is held stays so through a small step, where neither changes: attempts and levels only grow.
 use Rattle.std.proofs.Common.{◌≡◌, ℕ, suc, ◌≤◌, [], ◌∷◌, Option, Some, None, refl, sym, ap, ◌∙◌, subst, arith, eqb-true}
 use Rattle.std.specs.Prelude.{◌==◌}
-use Rattle.std.specs.Option.{option_map_or}
 use Rattle.cg_base.specs.Lists.{at_place}
 use Rattle.cg_group.specs.declared.phase.Phase.{Phase}
 use Rattle.cg_client.specs.Replica.{Held, State, RegPrim, TransPrim, ExchangeStates, ExchangeActions, Construct, No, Un, NonPrim, Left}
@@ -19,9 +18,6 @@ use Rattle.cg_agree.proofs.LevelsOpen.{place-there, installed-grows}
 -- a member's own record is of what stays of an attempt
 pub record-same : (a b : Attempt) (p : ℕ) → SameAttempt a b → own_record b p ≡ own_record a p
 record-same a b p same i = record { attempt = same.conf i; from = same.from i; set = same.set i; bits = p ∷ [] }
-
-some-same : (a b : Attempt) → Some a ≡ Some b → a ≡ b
-some-same a b e = ap (λ o. option_map_or (λ x. x) o a) e
 
 -- a member of a primary component whose index is that of a level that stands
 pub in-primary-still : (c : Chronicle) (s : Small) (h : Held) (conf : ℕ) → LevelsStand c → h.prim.index ≤ top_of c → IsInPrimary c h conf → IsInPrimary (small_step c s) h conf

@@ -1,7 +1,7 @@
 -- What is green of a replica behind an event: what was, and behind it the names that its turn noted, where the turn stands.
 use Rattle.std.proofs.lemmas.List.{length-drop, drop-append-le}
 use Rattle.std.proofs.Math.Seq.{drop-append_seam}
-use Rattle.std.proofs.Common.{◌≡◌, ◌++◌, ◌∷◌, ◌≤◌, ◌∙◌, ◌⊎◌, ◌-◌, IfSome, List, Option, Some, ap, arith, drop, inl, inr, length, refl, subst, suc, sym, zero, ℕ, []}
+use Rattle.std.proofs.Common.{◌≡◌, ◌++◌, ◌∷◌, ◌≤◌, ◌∙◌, ◌⊎◌, ◌-◌, IfSome, List, Option, Some, ap, arith, drop, inl, inr, length, refl, subst, suc, sym, ℕ, []}
 use Rattle.cg_action.specs.declared.action.Action.{Action}
 use Rattle.cg_agree.proofs.FrontFacts.{Front-refl, Front-trans, same_from_Front, split_by_Front}
 use Rattle.cg_agree.proofs.GreensTold.{IsNoted}
@@ -24,11 +24,6 @@ use Rattle.cg_queue.specs.Queue.{green_count, names_of}
 use Rattle.cg_stored.specs.Stored.{stored_of, whiten}
 
 -- ---- lists
-
-names-drop : (n : ℕ) (xs : List Action) → names_of (drop n xs) ≡ drop n (names_of xs)
-names-drop zero xs = refl
-names-drop (suc n) [] = refl
-names-drop (suc n) (x ∷ xs) = names-drop n xs
 
 pub names-append : (xs ys : List Action) → names_of (xs ++ ys) ≡ names_of xs ++ names_of ys
 names-append [] ys = refl

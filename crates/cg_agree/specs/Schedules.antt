@@ -1,9 +1,7 @@
--- The run of a schedule, and its report.
+-- The run of a schedule.
 use Rattle.std.specs.Prelude.{ℕ, zero, suc, List, [], ◌∷◌, ◌++◌, Option, Some, None, fold}
-use Rattle.std.specs.List.{flat_map}
 use Rattle.cg_group.specs.declared.reason.Reason.{Reason}
 use Rattle.cg_group.specs.Ready.{ready}
-use Rattle.cg_report.specs.EntryText.{entry_text}
 use Rattle.cg_schedule.specs.declared.event.Event.{Event}
 use Rattle.cg_schedule.specs.declared.event.Event.TheVariants.{Gather, End, Deliver, Rounds}
 use Rattle.cg_agree.specs.World.{World, no_world, up_replicas}
@@ -11,10 +9,6 @@ use Rattle.cg_agree.specs.Admission.{first_refusal}
 use Rattle.cg_agree.specs.Show.{Moved}
 use Rattle.cg_agree.specs.Step.{world_step}
 use Rattle.cg_agree.specs.Run.{Step, Refusal}
-
--- the report of a run, without its tail
-abbrev pub report_text : List Step → List ℕ
-report_text steps = flat_map (λ s. entry_text s.number s.entry) steps
 
 -- how far a schedule has come: the world, the count of steps, the steps, and the refusal at which it stopped, if it did
 pub record Run : Type 0 where

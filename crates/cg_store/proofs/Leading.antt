@@ -214,13 +214,6 @@ pub record IsBelowTo (cut : List ActionId) (actions : List Action) (slot : ℕ) 
   pub indexes : Each (λ top. IsIndex top.index) below
   pub each : (p : ℕ) → IsId p → index_in below p ≡ cond (leb p slot) (index_in cut p - length (indexes_of actions p)) 0
 
-below-none : (cut : List ActionId) (actions : List Action) → IsBelowTo cut actions 0 []
-below-none cut actions = record {
-  is_cut = record { ascends = tt; named = tt };
-  indexes = tt;
-  each = λ p is. let low : 1 ≤ p = is.0 in rw (lt-leb p 0 (omega arith)) refl;
-}
-
 module _ (cut : List ActionId) (actions : List Action) (slot : ℕ) (below : List ActionId) (few : slot < 32) (small : Each (λ top. IsIndex top.index) cut) (so_far : IsBelowTo cut actions slot below) where
   abbrev front : ℕ → ℕ
   front p = index_in cut p - length (indexes_of actions p)
@@ -253,13 +246,6 @@ module _ (cut : List ActionId) (actions : List Action) (slot : ℕ) (below : Lis
     indexes = raise_indexed below next next-small so_far.indexes;
     each = below-each;
   }
-
-pub below-all : (cut : List ActionId) (actions : List Action) (below : List ActionId) → IsBelowTo cut actions 32 below → IsBelow cut actions below
-below-all cut actions below all = record {
-  is_cut = all.is_cut;
-  indexes = all.indexes;
-  each = λ p is. all.each p is ∙ (let high : p ≤ 32 = is.1 in rw (le-leb p 32 high) refl);
-}
 
 -- one slot more, by the numbers that a call has
 pub below-made : (cut : List ActionId) (actions : List Action) (slot id index : ℕ) (below new : List ActionId) → slot < 32 → Each (λ top. IsIndex top.index) cut → IsBelowTo cut actions slot below

@@ -223,9 +223,6 @@ kind-begins (Update (c ∷ cmds) o) u ends = kind-command c cmds o u
 kind-begins (Join joiner weight) u ends = refl
 kind-begins (Leave server) u ends = refl
 
-abbrev Joining : Type 0
-Joining = ℕ × ℕ
-
 kind-apart : (x y : Kind) (u v : List ℕ) → IsShortKind x → IsShortKind y → line_ends u ≡ true → line_ends v ≡ true → kind_text x ++ u ≡ kind_text y ++ v → number_of x ≡ number_of y → (x ≡ y) × (u ≡ v)
 kind-apart (Update cmds o) (Update others p) u v hx hy eu ev e n = let g = update-apart cmds others o p u v hx hy eu ev e in ((λ i. Update (g.0.0 i) (g.0.1 i)), g.1)
 kind-apart (Join p m) (Join q n) u v hx hy eu ev e c =
