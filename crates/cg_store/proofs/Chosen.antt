@@ -2,7 +2,6 @@
 use Rattle.std.proofs.Common.{◌≡◌, ℕ, List, [], ◌∷◌, drop, Bool, true, false, Option, Some, None, Result, Ok, Err, IfOk, refl, sym, ◌∙◌, ap, subst}
 use Rattle.std.specs.Prelude.{nat_lt, if◌then◌else◌}
 use Rattle.std.specs.Option.{option_map}
-use Rattle.cg_disk.specs.Sides.{opposite}
 use Rattle.cg_disk.specs.declared.disk.Side.{Side}
 use Rattle.cg_disk.specs.declared.disk.Side.TheVariants.{A, B}
 use Rattle.cg_journal.specs.Records.{Records, on_side}
@@ -10,9 +9,8 @@ use Rattle.cg_stored.specs.Parts.{Saved, saved_in, stored_in}
 use Rattle.cg_stored.specs.declared.checkpoint.Checkpoint.{Checkpoint}
 use Rattle.cg_step.specs.Recorded.{AlwaysHolds}
 use Rattle.cg_store.specs.Stands.{size_of, live_from, live_on, Standing, standing_on, chosen}
-use Rattle.cg_store.specs.Opening.{first_on, FindsFirst, IsInFront, later_side, IsLater, live_of, IsChosen, FindsFront, Replays, Finds}
+use Rattle.cg_store.specs.Opening.{first_on, FindsFirst, IsLater, live_of, IsChosen, Replays, Finds}
 use Rattle.cg_store.specs.declared.finding.Found.{Found}
-use Rattle.cg_store.specs.declared.finding.Front.{Front}
 use Rattle.cg_store.proofs.Sound.{stored-sound, led_all-sound}
 
 live_by_first : (id : ℕ) (bodies : List (List ℕ)) → live_on id bodies ≡ option_map (live_from bodies (drop 1 bodies)) (first_on id bodies)
@@ -22,30 +20,8 @@ live_by_first id (body ∷ changes) = refl
 live_some : (id : ℕ) (bodies : List (List ℕ)) (p : Checkpoint) → FindsFirst id bodies (Some p) → live_on id bodies ≡ Some (live_of id bodies p)
 live_some id bodies p finds = live_by_first id bodies ∙ ap (option_map (live_from bodies (drop 1 bodies))) finds.0
 
-live_none : (id : ℕ) (bodies : List (List ℕ)) → FindsFirst id bodies None → live_on id bodies ≡ None
-live_none id bodies finds = live_by_first id bodies ∙ ap (option_map (live_from bodies (drop 1 bodies))) finds
-
-abbrev front : Side → Checkpoint → Front
-front side first = record { side = side; first = first }
-
 abbrev of_two : List (List ℕ) → List (List ℕ) → Records
 of_two a b = record { a = a; b = b }
-
--- ---- the later side
-
-pub later_told : (a b : List (List ℕ)) (m n : ℕ) → IsInFront a (Some m) → IsInFront b (Some n) → IsLater a b (later_side m n)
-later_told a b m n front_a front_b id s t is_s is_t =
-    let same_a : m ≡ s.generation = (let is : Some m ≡ Some s.generation = front_a id s is_s in cc) in
-    let same_b : n ≡ t.generation = (let is : Some n ≡ Some t.generation = front_b id t is_t in cc) in
-    ap (λ x. later_side x n) same_a ∙ ap (later_side s.generation) same_b
-
-pub none_in_a : (a b : List (List ℕ)) (side : Side) → IsInFront a None → IsLater a b side
-none_in_a a b side front_a id s t is_s is_t = let no : None ≡ Some s.generation = front_a id s is_s in cc
-
-pub none_in_b : (a b : List (List ℕ)) (side : Side) → IsInFront b None → IsLater a b side
-none_in_b a b side front_b id s t is_s is_t = let no : None ≡ Some t.generation = front_b id t is_t in cc
-
--- ---- the checkpoint in use
 
 is_a : (less : Bool) (x y : Option Standing) → A ≡ (if less then B else A) → (if less then x else y) ≡ y
 is_a true x y is = cc
@@ -72,14 +48,6 @@ in_b id a b p (Some s) is finds later =
 pub chosen_later : (id : ℕ) (a b : List (List ℕ)) (side : Side) (p : Checkpoint) → IsLater a b side → FindsFirst id (on_side side (of_two a b)) (Some p) → IsChosen id (of_two a b) side p
 chosen_later id a b A p later finds = record { saved = finds.1; standing = ap (λ x. chosen x (live_on id b)) (live_some id a p finds) ∙ in_a id a b p (first_on id b) refl finds later }
 chosen_later id a b B p later finds = record { saved = finds.1; standing = ap (chosen (live_on id a)) (live_some id b p finds) ∙ in_b id a b p (first_on id a) refl finds later }
-
--- it doesn't, and what the other one begins with is in use
-pub chosen_other : (id : ℕ) (a b : List (List ℕ)) (side : Side) (o : Option Checkpoint) → FindsFirst id (on_side side (of_two a b)) None → FindsFirst id (on_side (opposite side) (of_two a b)) o →
-    FindsFront id (of_two a b) (option_map (front (opposite side)) o)
-chosen_other id a b A None none finds = ap (λ x. chosen x (live_on id b)) (live_none id a none) ∙ ap (chosen None) (live_none id b finds)
-chosen_other id a b B None none finds = ap (λ x. chosen x (live_on id b)) (live_none id a finds) ∙ ap (chosen None) (live_none id b none)
-chosen_other id a b A (Some p) none finds = record { saved = finds.1; standing = ap (λ x. chosen x (live_on id b)) (live_none id a none) ∙ ap (chosen None) (live_some id b p finds) }
-chosen_other id a b B (Some p) none finds = record { saved = finds.1; standing = ap (λ x. chosen x (live_on id b)) (live_some id a p finds) ∙ ap (chosen (Some (live_of id a p))) (live_none id b none) }
 
 -- what its records stand for
 pub replayed_finds : AlwaysHolds → (id : ℕ) (r : Records) (side : Side) (first : Checkpoint) (found : Option Found) → IsChosen id r side first → Replays id side first (drop 1 (on_side side r)) found → Finds id r found
