@@ -1,6 +1,7 @@
 -- For each thing that the steps of a run agree on, small transcripts that don't: a definition that let one of them pass would
 -- say too little.
-use Rattle.std.specs.Prelude.{◌≡◌, ◌⊎◌, IsTrue, ℕ, Bool, true, false, List, [], ◌∷◌, ◌++◌, Option, Some, None, codes, map, option_map, pos}
+use Rattle.std.specs.Prelude.{◌≡◌, ◌⊎◌, IsTrue, ℕ, ◌==◌, ◌≤◌, Bool, true, false, List, [], ◌∷◌, ◌++◌, Option, Some, None, codes, map, option_map, is_some, pos, if◌then◌else◌}
+use Rattle.std.specs.Option.{option_map_or}
 use Rattle.std.proofs.Common.{refl, sym, ap, subst, inl, inr, arith, length}
 use Rattle.std.proofs.lemmas.Bool.{true≢false, false≢true}
 use Rattle.cg_base.specs.declared.action_id.ActionId.{ActionId}
@@ -8,13 +9,14 @@ use Rattle.cg_base.specs.declared.weighted.Weighted.{Weighted}
 use Rattle.cg_action.specs.declared.action.Action.{Action}
 use Rattle.cg_action.specs.declared.action.Kind.{Kind}
 use Rattle.cg_action.specs.declared.action.Kind.TheVariants.{Update}
-use Rattle.cg_action.specs.declared.command.Cmd.TheVariants.{Put}
+use Rattle.cg_action.specs.declared.command.Cmd.TheVariants.{Put, Need}
 use Rattle.cg_action.specs.declared.query.Query.TheVariants.{Get, Count}
 use Rattle.cg_action.specs.declared.value.Value.{Value}
 use Rattle.cg_action.specs.declared.value.Value.TheVariants.{Int}
 use Rattle.cg_db.specs.declared.answer.Answer.{Answer}
-use Rattle.cg_db.specs.declared.answer.Answer.TheVariants.{Absent, Count as Counted}
-use Rattle.cg_db.specs.declared.effect.Effect.TheVariants.{Done}
+use Rattle.cg_db.specs.declared.answer.Answer.TheVariants.{Absent, Int as Number, Count as Counted}
+use Rattle.cg_db.specs.declared.effect.Effect.{Effect}
+use Rattle.cg_db.specs.declared.effect.Effect.TheVariants.{Done, Aborted}
 use Rattle.cg_db.specs.declared.entry.DbEntry.{DbEntry}
 use Rattle.cg_db.specs.Apply.{apply, fold_actions}
 use Rattle.cg_db.specs.Find.{answer, query_of}
@@ -31,13 +33,17 @@ use Rattle.cg_report.specs.declared.line.StateName.{StateName}
 use Rattle.cg_report.specs.declared.line.StateName.TheVariants as state
 use Rattle.cg_report.specs.declared.line.UpLine.{UpLine}
 use Rattle.cg_schedule.specs.declared.event.Event.{Event}
-use Rattle.cg_schedule.specs.declared.event.Event.TheVariants.{Start, Merge, Rounds, Gather, Recover, Weak, Dirty}
+use Rattle.cg_schedule.specs.declared.event.Event.TheVariants.{Start, Split, Merge, Request, Rounds, Gather, Recover, Weak, Dirty, Leave}
+use Rattle.cg_base.specs.Sets.{has}
+use Rattle.cg_knowledge.specs.Members.{remaining}
+use Rattle.cg_queue.specs.Queue.{green_count}
 use Rattle.cg_client.specs.Replica.{Held, Replica, NonPrim, fresh_held}
 use Rattle.cg_step.specs.Crash.{new_disk}
-use Rattle.cg_agree.specs.World.{Life, Up, Down, Seat, World, no_world}
+use Rattle.cg_agree.specs.World.{Life, Up, Down, Seat, World, no_world, replica_of}
 use Rattle.cg_agree.specs.Run.{Step}
 use Rattle.cg_agree.specs.Shown.{made_actions}
 use Rattle.cg_agree.specs.Agreement.{is_recovery_of, IsPrimary, OrderGrows, Prefix, CreatorOrder, FoldAnswers, DirtyAnswers, OnePrimary, QuietSettles, MadeStays, RefusedExactly}
+use Rattle.cg_agree.specs.Quiet.{IsSettled, Remains, summaries_in, is_known_in, knows}
 use Rattle.cg_agree.specs.Schedules.{run_of}
 use Rattle.cg_worked.specs.Computing.{cases_compute}
 
@@ -93,6 +99,10 @@ holding h =
 
 abbrev servers : List Weighted
 servers = record { id = 1; weight = 1 } ∷ record { id = 2; weight = 1 } ∷ []
+
+-- a step that shows these orders and so many greens of a replica, behind which it holds so much
+abbrev holding_at : List Placed → ℕ → Held → Step
+holding_at orders greens h = record (holding h) { entry = record no_entry { orders = orders; lines = line_of_primary 1 greens ∷ [] } }
 
 -- the creator of the first name
 abbrev first_creator : List ActionId → ℕ
@@ -158,11 +168,70 @@ greens_beside_the_order g =
 abbrev puts_one : Kind
 puts_one = Update (Put (codes "x") (Int (pos 1)) ∷ []) (Some (Get (codes "x")))
 
+abbrev green_action : ActionId → Action
+green_action id = record { id = id; green_line = 0; kind = puts_one }
+
+-- so many greens were discarded, and these stand behind them
+abbrev held_greens : ℕ → List ActionId → Held
+held_greens white ids = let h = fresh_held 1 servers in record h { queue = record h.queue { white = white; greens = map green_action ids } }
+
 abbrev held_alone : Held
-held_alone = let h = fresh_held 1 servers in record h { queue = record h.queue { greens = record { id = name 1 1; green_line = 0; kind = puts_one } ∷ [] } }
+held_alone = held_greens 0 (name 1 1 ∷ [])
 
 holds_what_no_order_has : Prefix (holding held_alone ∷ []) → ⊥
 holds_what_no_order_has g = let reaches = g.held [] (holding held_alone) 1 (holder held_alone) ([], refl) refl in omega (arith, reaches.0.0)
+
+-- as many greens as the order has, and as the line shows, but another action
+abbrev held_other : Held
+held_other = held_greens 0 (name 2 1 ∷ [])
+
+abbrev holds_other : Step
+holds_other = holding_at (at 1 (name 1 1) ∷ []) 1 held_other
+
+holds_an_action_that_was_not_ordered : Prefix (holds_other ∷ []) → ⊥
+holds_an_action_that_was_not_ordered g =
+    let reaches = g.held [] holds_other 1 (holder held_other) ([], refl) refl in
+    let same : name 2 1 ∷ [] ≡ name 1 1 ∷ [] = reaches.0.1 in
+    omega (arith, ap first_creator same)
+
+abbrev two_ordered : List Placed
+two_ordered = at 1 (name 1 1) ∷ at 2 (name 2 1) ∷ []
+
+-- both actions, the other way round
+abbrev held_turned : Held
+held_turned = held_greens 0 (name 2 1 ∷ name 1 1 ∷ [])
+
+abbrev holds_turned : Step
+holds_turned = holding_at two_ordered 2 held_turned
+
+holds_greens_in_another_order : Prefix (holds_turned ∷ []) → ⊥
+holds_greens_in_another_order g =
+    let reaches = g.held [] holds_turned 1 (holder held_turned) ([], refl) refl in
+    let same : name 2 1 ∷ name 1 1 ∷ [] ≡ name 1 1 ∷ name 2 1 ∷ [] = reaches.0.1 in
+    omega (arith, ap first_creator same)
+
+-- the first of two greens is counted as discarded, and is the one that is kept
+abbrev held_at_first : Held
+held_at_first = held_greens 1 (name 1 1 ∷ [])
+
+abbrev holds_at_first : Step
+holds_at_first = holding_at two_ordered 2 held_at_first
+
+holds_the_green_before_its_place : Prefix (holds_at_first ∷ []) → ⊥
+holds_the_green_before_its_place g =
+    let reaches = g.held [] holds_at_first 1 (holder held_at_first) ([], refl) refl in
+    let same : name 1 1 ∷ [] ≡ name 2 1 ∷ [] = reaches.0.1 in
+    omega (arith, ap first_creator same)
+
+-- the line shows one green less than is held
+abbrev holds_more : Step
+holds_more = holding_at (at 1 (name 1 1) ∷ []) 0 held_alone
+
+holds_more_than_its_line : Prefix (holds_more ∷ []) → ⊥
+holds_more_than_its_line g =
+    let reaches = g.held [] holds_more 1 (holder held_alone) ([], refl) refl in
+    let same : 0 ≡ 1 = reaches.1 in
+    omega (arith, same)
 
 -- it has discarded what another server doesn't have
 abbrev discards : UpLine
@@ -250,6 +319,58 @@ reply_from_before_its_request g =
     let r = g.reply [] read_too_early early ([], refl) (0, omega arith, refl) in
     never_absent r.0 r.1 r.2 r.3 r.4 r.5.1
 
+-- a reply with this effect and this answer, to an action that does so much
+abbrev reply_so : Effect → Option Answer → Reply
+reply_so effect answer = record { id = name 1 1; effect = effect; answer = answer }
+
+abbrev replied_so : Kind → Effect → Option Answer → Step
+replied_so kind effect answer =
+    showing 1 Gather (record no_entry {
+      made = record { id = name 1 1; kind = kind } ∷ [];
+      orders = at 1 (name 1 1) ∷ [];
+      lines = line_of_primary 1 1 ∷ [];
+      replies = reply_so effect answer ∷ [];
+    })
+
+-- what the action does to a database of nothing
+abbrev effect_alone : Kind → Effect
+effect_alone kind = (apply [] (record { id = name 1 1; green_line = 1; kind = kind })).effect
+
+-- the effect of a reply to the first action of the order
+told_effect : (kind : Kind) (effect : Effect) (told : Option Answer) → FoldAnswers (replied_so kind effect told ∷ []) → effect ≡ effect_alone kind
+unfolding cases_compute
+told_effect kind effect told g =
+    let s = replied_so kind effect told in
+    let r = g.reply [] s (reply_so effect told) ([], refl) (0, omega arith, refl) in
+    at_place r.0 r.1 r.2 r.3 r.4 r.5.0 where
+      at_place : (before after : List ActionId) (a : Action) → name 1 1 ∷ [] ≡ before ++ name 1 1 ∷ after → Some (record { id = name 1 1; green_line = 1; kind = kind }) ≡ Some a
+          → effect ≡ (apply (fold_actions (made_actions (replied_so kind effect told ∷ []) before)) a).effect → effect ≡ effect_alone kind
+      at_place [] after a place made is =
+          let same : record { id = name 1 1; green_line = 1; kind = kind } ≡ a = cc in
+          subst (λ (b : Action). effect ≡ (apply [] b).effect) (sym same) is
+      at_place (b ∷ []) after a place made is = absurd (omega (arith, ap length place))
+      at_place (b ∷ c ∷ before) after a place made is = absurd (omega (arith, ap length place))
+
+abbrev is_done : Effect → Bool
+is_done Done = true
+is_done other = false
+
+-- an action that wants a key of a database that has none
+abbrev needs_one : Kind
+needs_one = Update (Need (codes "x") (Some (Int (pos 1))) ∷ []) None
+
+done_where_it_aborts : FoldAnswers (replied_so needs_one Done None ∷ []) → ⊥
+unfolding cases_compute
+done_where_it_aborts g =
+    let same : Done ≡ Aborted 1 = told_effect needs_one Done None g in
+    true≢false (ap is_done same)
+
+aborted_where_it_is_done : FoldAnswers (replied_so puts_one (Aborted 1) (Some (Number (pos 1))) ∷ []) → ⊥
+unfolding cases_compute
+aborted_where_it_is_done g =
+    let same : Aborted 1 ≡ Done = told_effect puts_one (Aborted 1) (Some (Number (pos 1))) g in
+    false≢true (ap is_done same)
+
 -- a reply where nobody has passed its place
 abbrev replied_before : Step
 replied_before = showing 1 Gather (record no_entry { replies = record { id = name 1 1; effect = Done; answer = None } ∷ []; orders = at 1 (name 1 1) ∷ []; lines = line_of_primary 2 1 ∷ [] })
@@ -275,6 +396,26 @@ reply_behind_a_crash g =
     let given = g.when (made_alone ∷ gone_down ∷ []) replied_behind [] [] (name 1 1) ([], refl) refl in
     let due = given.0 (0, omega arith, refl) in
     false≢true due.1
+
+-- its creator, who lives, passes the request's place, and nothing is replied
+abbrev passed_in_silence : Step
+passed_in_silence = showing 2 Gather (record no_entry { orders = at 1 (name 1 1) ∷ []; lines = line_of_primary 1 1 ∷ [] })
+
+reply_withheld : FoldAnswers (made_alone ∷ passed_in_silence ∷ []) → ⊥
+reply_withheld g =
+    let given = g.when (made_alone ∷ []) passed_in_silence [] [] (name 1 1) ([], refl) refl in
+    let there = given.1 ((omega arith, omega arith), refl) in
+    omega (arith, there.1)
+
+-- a reply in the step behind the one in which its place was passed
+abbrev replied_later : Step
+replied_later = showing 3 Gather (record no_entry { replies = record { id = name 1 1; effect = Done; answer = Some (Number (pos 1)) } ∷ [] })
+
+reply_behind_its_place : FoldAnswers (made_alone ∷ passed_in_silence ∷ replied_later ∷ []) → ⊥
+reply_behind_its_place g =
+    let given = g.when (made_alone ∷ passed_in_silence ∷ []) replied_later [] [] (name 1 1) ([], refl) refl in
+    let due = given.0 (0, omega arith, refl) in
+    omega (arith, due.0.0)
 
 -- one reply twice
 abbrev replied_twice : Step
@@ -326,6 +467,20 @@ two_components g =
     let clash : 1 ≡ 2 = same.0 in
     omega (arith, clash)
 
+-- one index and one configuration, and a set of the first replica beside one of the second
+abbrev two_of_one_configuration : Step
+two_of_one_configuration = showing 1 Gather (record no_entry { lines = line_with 1 state.RegPrim 0 1 1 ∷ line_with 2 state.RegPrim 0 1 1 ∷ [] })
+
+-- the first replica of a set
+abbrev first_member : List Weighted → ℕ
+first_member [] = 0
+first_member (m ∷ set) = m.id
+
+two_sets : OnePrimary (two_of_one_configuration ∷ []) → ⊥
+two_sets g =
+    let same = g.one (up_with 1 state.RegPrim 0 1 1) (up_with 2 state.RegPrim 0 1 1) (0, omega arith, refl) (1, omega arith, refl) refl in
+    omega (arith, ap first_member same.1)
+
 abbrev longer_outside : Step
 longer_outside = showing 1 Gather (record no_entry { orders = at 1 (name 1 1) ∷ []; lines = line_with 1 state.NonPrim 1 1 1 ∷ [] })
 
@@ -350,12 +505,101 @@ waits_for_ever =
     let w = (run_of (Start (record { id = 1; weight = 1 } ∷ []) ∷ Merge (1 ∷ []) ∷ Rounds 2 ∷ [])).world in
     record w { seats = map (λ (s : Seat). record s { life = put_out s.life }) w.seats }
 
+-- a step that leads to a world
+abbrev leads_to : World → Step
+leads_to w = record { number = 1; event = Gather; entry = no_entry; world = w }
+
 abbrev quiet_step : Step
-quiet_step = record { number = 1; event = Gather; entry = no_entry; world = waits_for_ever }
+quiet_step = leads_to waits_for_ever
 
 quiet_and_not_settled : QuietSettles (quiet_step ∷ []) → ⊥
 unfolding cases_compute
 quiet_and_not_settled g = let settled = g quiet_step 1 (0, omega arith, refl) (omega arith) (omega arith) refl in false≢true settled.states
+
+-- a world in which a replica that is up is another one
+abbrev changed_life : (Replica → Replica) → Life → Life
+changed_life change (Up r disk) = Up (change r) disk
+changed_life change (Down disk green) = Down disk green
+
+abbrev changed_at : ℕ → (Replica → Replica) → World → World
+changed_at p change w = record w { seats = map (λ (s : Seat). if s.id == p then record s { life = changed_life change s.life } else s) w.seats }
+
+-- a replica that is up
+abbrev replica_in : World → ℕ → Replica
+replica_in w p = option_map_or (λ r. r) (replica_of w p) (holder (fresh_held p servers))
+
+remains : (w : World) (conf p : ℕ) → IsTrue (has (remaining (summaries_in w conf)) p) → IsTrue (is_some (replica_of w p)) → Remains w conf p (replica_in w p)
+remains w conf p among is_up = (among, up (replica_of w p) is_up) where
+  up : (o : Option Replica) → IsTrue (is_some o) → o ≡ Some (option_map_or (λ r. r) o (holder (fresh_held p servers)))
+  up None is = absurd (false≢true is)
+  up (Some r) is = refl
+
+-- 2 comes in behind its leave, hears of it, and goes on
+abbrev stays : Replica → Replica
+stays r = record r { state = NonPrim true }
+
+abbrev left_and_stays : World
+left_and_stays =
+    let heavier : List Weighted = record { id = 1; weight = 2 } ∷ record { id = 2; weight = 1 } ∷ [] in
+    let alone = Start heavier ∷ Merge (1 ∷ []) ∷ Rounds 2 ∷ Leave 1 2 ∷ Rounds 1 ∷ [] in
+    let both = Split (1 ∷ []) ∷ Merge (1 ∷ 2 ∷ []) ∷ Rounds 3 ∷ [] in
+    changed_at 2 stays (run_of (alone ++ both)).world
+
+who_has_left_goes_on : QuietSettles (leads_to left_and_stays ∷ []) → ⊥
+unfolding cases_compute
+who_has_left_goes_on g = let settled = g (leads_to left_and_stays) 2 (0, omega arith, refl) (omega arith) (omega arith) refl in false≢true settled.left
+
+-- two replicas that have formed a primary component
+abbrev two_inside : World
+two_inside = (run_of (Start servers ∷ Merge (1 ∷ 2 ∷ []) ∷ Rounds 2 ∷ [])).world
+
+-- 2 has a green more, which was discarded
+abbrev with_white : Replica → Replica
+with_white r = record r { held = record r.held { queue = record r.held.queue { white = 1 } } }
+
+abbrev one_ahead : World
+one_ahead = changed_at 2 with_white two_inside
+
+one_has_a_green_more : QuietSettles (leads_to one_ahead ∷ []) → ⊥
+unfolding cases_compute
+one_has_a_green_more g =
+    let settled = g (leads_to one_ahead) 1 (0, omega arith, refl) (omega arith) (omega arith) refl in
+    let same : 0 ≡ 1 = as_many one_ahead 1 1 2 settled (remains one_ahead 1 1 refl refl) (remains one_ahead 1 2 refl refl) in
+    omega (arith, same) where
+      as_many : (w : World) (conf p q : ℕ) → IsSettled w conf → Remains w conf p (replica_in w p) → Remains w conf q (replica_in w q)
+          → green_count (replica_in w p).held.queue ≡ green_count (replica_in w q).held.queue
+      as_many w conf p q settled a b = settled.greens p q (replica_in w p) (replica_in w q) a b
+
+-- it knows these actions
+abbrev with_red_cut : List ActionId → Replica → Replica
+with_red_cut cut r = record r { held = record r.held { queue = record r.held.queue { red_cut = cut } } }
+
+knows_alike : (w : World) (conf p : ℕ) (id : ActionId) → IsSettled w conf → Remains w conf p (replica_in w p) → 1 ≤ id.index → knows (replica_in w p) id ≡ is_known_in w conf id
+knows_alike w conf p id settled a some = settled.actions p (replica_in w p) id a some
+
+-- 2 knows an action that nobody told
+abbrev one_knows : World
+one_knows = changed_at 2 (with_red_cut (name 1 1 ∷ [])) two_inside
+
+one_knows_what_none_told : QuietSettles (leads_to one_knows ∷ []) → ⊥
+unfolding cases_compute
+one_knows_what_none_told g =
+    let settled = g (leads_to one_knows) 1 (0, omega arith, refl) (omega arith) (omega arith) refl in
+    let same : true ≡ false = knows_alike one_knows 1 2 (name 1 1) settled (remains one_knows 1 2 refl refl) (omega arith) in
+    true≢false same
+
+-- 2 doesn't know the action that was handed to both
+abbrev one_forgets : World
+one_forgets =
+    let events = Start servers ∷ Merge (1 ∷ 2 ∷ []) ∷ Rounds 2 ∷ Request 1 (Put (codes "x") (Int (pos 1)) ∷ []) None ∷ Rounds 1 ∷ [] in
+    changed_at 2 (with_red_cut []) (run_of events).world
+
+one_forgets_what_all_were_handed : QuietSettles (leads_to one_forgets ∷ []) → ⊥
+unfolding cases_compute
+one_forgets_what_all_were_handed g =
+    let settled = g (leads_to one_forgets) 1 (0, omega arith, refl) (omega arith) (omega arith) refl in
+    let same : false ≡ true = knows_alike one_forgets 1 2 (name 1 1) settled (remains one_forgets 1 2 refl refl) (omega arith) in
+    false≢true same
 
 -- ---- a made action stays
 
