@@ -94,7 +94,7 @@ Each-take P zero xs each = tt
 Each-take P (suc n) [] each = tt
 Each-take P (suc n) (x ∷ xs) each = (each.0, Each-take P n xs each.1)
 
-Each-insert : {X : Type 0} (P : X → Type 0) (i : ℕ) (x : X) (xs : List X) → P x → Each P xs → Each P (insert xs i x)
+pub Each-insert : {X : Type 0} (P : X → Type 0) (i : ℕ) (x : X) (xs : List X) → P x → Each P xs → Each P (insert xs i x)
 Each-insert P i x xs new each = Each-append P (take i xs) (x ∷ drop i xs) (Each-take P i xs each) (new, Each-drop P i xs each)
 
 apart-insert : (i : ℕ) (set : List ℕ) (cells : List (List ℕ)) → Each (IsApart set) cells → AreApart cells → AreApart (insert cells i set)

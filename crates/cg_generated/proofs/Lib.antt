@@ -9,3 +9,7 @@ pub mod Steps
 pub mod Cells
 pub mod Blocks
 pub mod Schedule
+pub mod Within
+pub mod Spelling
+pub mod Playing
+pub mod Trials

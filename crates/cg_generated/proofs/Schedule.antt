@@ -19,7 +19,7 @@ use Rattle.cg_generated.proofs.Blocks.{regular_at, GoesOn, drawn-below, block-go
 
 -- ---- all replicas
 
-Ascends-count_up : (n from : ℕ) → from + n ≤ 33 → Ascends from (count_up from n)
+pub Ascends-count_up : (n from : ℕ) → from + n ≤ 33 → Ascends from (count_up from n)
 Ascends-count_up zero from high = tt
 Ascends-count_up (suc n) from high = (omega arith, omega (arith, high), Ascends-count_up n (suc from) (omega (arith, high)))
 

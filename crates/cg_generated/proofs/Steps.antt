@@ -197,7 +197,7 @@ started set (p ∷ rest) w begun at s =
     regrouped true b c = refl
     regrouped false b c = refl
 
-ids-once : (set : List ℕ) → ids (each_once set) ≡ set
+pub ids-once : (set : List ℕ) → ids (each_once set) ≡ set
 ids-once [] = refl
 ids-once (p ∷ set) = ap (λ xs. p ∷ xs) (ids-once set)
 

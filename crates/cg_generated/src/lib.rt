@@ -1,6 +1,6 @@
 //! Generated schedules run to their end: no event of them is refused.
 //!
-//! One law over the definitions of the world and of the generator (`laws.rt`). What the generator does is said by `cg_gen`.
+//! One law over the definitions of the world, of the generator and of a run (`laws.rt`). What the generator does is said by `cg_gen`.
 #![tactic(auto)]
 
 mod laws;

@@ -1,0 +1,149 @@
+-- The lines of a generated schedule come to its end, or to a limit.
+use Rattle.std.proofs.Common.{◌≡◌, ℕ, zero, suc, ◌+◌, ◌<◌, ◌-◌, true, List, [], ◌∷◌, fold, length, Option, Some, None, option_map, Result, Ok, Err, Bool, false, cond, refl, sym, ap, subst, ◌∙◌, arith, codes}
+use Rattle.std.specs.Str.{is_utf8}
+use Rattle.cg_base.specs.Sets.{IsId}
+use Rattle.cg_text.specs.Tokens.{tokens, tokens_from}
+use Rattle.cg_group.specs.EachLaws.{Each}
+use Rattle.cg_schedule.specs.declared.event.Event.{Event}
+use Rattle.cg_schedule.specs.declared.fault.LineFault.{LineFault}
+use Rattle.cg_schedule.specs.declared.reader_state.ReaderState.{ReaderState}
+use Rattle.cg_schedule.specs.declared.word.Word.{Word}
+use Rattle.cg_schedule.specs.Fault.{not_utf8}
+use Rattle.cg_schedule.specs.Laws.{MayStand, Reads}
+use Rattle.cg_schedule.specs.Limits.{IsEvent}
+use Rattle.cg_schedule.specs.Line.{first_state, state_after, word_of, opening, opening_of, event_reading, reading_behind, some_event}
+use Rattle.cg_schedule.specs.Print.{line_of}
+use Rattle.cg_schedule.specs.Reading.{whole}
+use Rattle.cg_agree.specs.Schedules.{Run, no_run, play, run_of}
+use Rattle.cg_gen.specs.Generated.{events_left, generated}
+use Rattle.cg_gen.specs.GeneratedLaws.{AllStand, generated-stands}
+use Rattle.cg_run.specs.declared.progress.Ending.TheVariants.{Ended}
+use Rattle.cg_run.specs.declared.progress.Progress.{Progress}
+use Rattle.cg_run.specs.declared.status.Status.TheVariants as status
+use Rattle.cg_run.specs.declared.status.Limit.{Limit}
+use Rattle.cg_run.specs.Produced.{Finding, Produced, before_all, refusal_in, refusal_of, status_of, ended_with, prepend, and_then}
+use Rattle.cg_run.specs.Outcome.{event_outcome, word_outcome, opened_outcome, line_outcome, without_return, limit_of, unless_passed, whole_line, replayed, lines_alone}
+use Rattle.cg_generated.specs.Admitted.{GeneratedAreAdmitted, IsEndOrLimit, TrialsAreAdmitted, TrialsEnd, TrialsAreReplays}
+use Rattle.cg_generated.proofs.Playing.{IsFree, all-free, IsSpared, Follows, Follows-limit, Follows-happened}
+use Rattle.cg_generated.proofs.Spelling.{as-it-is, pieces-are}
+use Rattle.cg_generated.proofs.Within.{generated-within, state_past, generated-ends}
+
+-- ---- a line that reads as an event
+
+as-event : (n : ℕ) (e : Event) (s : Progress) (r : Result (Option (Word × List (List ℕ))) LineFault) → reading_behind r ≡ Ok (Some e) → opened_outcome n r s ≡ event_outcome n (Ok e) s
+unfolding word_outcome
+as-event n e s (Ok None) is = absurd cc
+as-event n e s (Err fault) is = absurd cc
+as-event n e s (Ok (Some o)) is = by (whole (event_reading o.0) o.1) is where
+  by : (r : Result Event LineFault) → some_event r ≡ Ok (Some e) → event_outcome n r s ≡ event_outcome n (Ok e) s
+  by (Ok f) read = let same : f ≡ e = cc in ap (λ (x : Event). event_outcome n (Ok x) s) same
+  by (Err fault) read = absurd cc
+
+line-happens : (n : ℕ) (line : List ℕ) (e : Event) (s : Progress) → Reads s.reader line e → line_outcome n line s ≡ event_outcome n (Ok e) s
+unfolding line_outcome
+line-happens n line e s reads = as-event n e s (opening s.reader line) reads
+
+-- ---- a schedule
+
+-- each printed line is read
+abbrev ArePrinted : Type 0
+ArePrinted = (state : ReaderState) (e : Event) → IsEvent e → MayStand state e → Reads state (line_of e) e
+
+unless : (o : Option Limit) (n : ℕ) (run : Run) (reader : ReaderState) (s : Progress) (p : Produced) → Follows run reader p → Follows run reader (unless_passed o n s p)
+unless None n run reader s p follows = follows
+unless (Some what) n run reader s p follows = Follows-limit run reader (status.Limit n what) n s tt
+
+line-follows : ArePrinted → (n at : ℕ) (e : Event) (run : Run) (s : Progress) → s.world ≡ run.world → MayStand s.reader e → IsEvent e → IsFree run → IsFree (play run e) →
+    Follows (play run e) (state_after s.reader e) (whole_line n at (line_of e) s)
+line-follows printed n at e run s same stands is before free =
+    let line = line_of e in
+    let next = play run e in
+    let state = state_after s.reader e in
+    let read = line-happens n line e s (printed s.reader e is stands) in
+    let text : line_outcome n (without_return line) s ≡ event_outcome n (Ok e) s = ap (λ t. line_outcome n t s) (as-it-is e is) ∙ read in
+    unless (limit_of n (length line) (at + length line + 1)) n next state s (line_outcome n (without_return line) s)
+    (subst (Follows next state) (sym text) (Follows-happened n e run (record s { reader = state }) same before free))
+
+-- the run ends in these lines, and no event is refused
+abbrev IsEnded : Option Finding → Type 0
+IsEnded None = ⊥
+IsEnded (Some f) = IsSpared (Some f)
+
+ended-by : (p : Produced) (more : Progress → Produced) → IsSpared p.found → (p.found ≡ None → IsEnded (more p.progress).found) → IsEnded (and_then p more).found
+ended-by p more spared next = by p.found refl where
+  by : (o : Option Finding) → p.found ≡ o → IsEnded (and_then p more).found
+  by None is =
+      let same : and_then p more ≡ prepend p.steps (more p.progress) = rw is refl in
+      subst (λ (q : Produced). IsEnded q.found) (sym same) (next is)
+  by (Some f) is =
+      let same : and_then p more ≡ p = rw is refl in
+      subst (λ (q : Produced). IsEnded q.found) (sym same) (subst IsEnded (sym is) (subst IsSpared is spared))
+
+next-line : (n at : ℕ) (e : Event) (events : List Event) (s : Progress)
+    → replayed n at (lines_alone (e ∷ events)) Ended s
+    ≡ and_then (whole_line n at (line_of e) s) (replayed (n + 1) (at + length (line_of e) + 1) (lines_alone events) Ended)
+next-line n at e [] s = refl
+next-line n at e (f ∷ events) s = refl
+
+module _ (printed : ArePrinted) where
+  lines-end : (events : List Event) (n at : ℕ) (run : Run) (s : Progress) → s.world ≡ run.world → AllStand s.reader events → Each IsEvent events →
+      (state_past s.reader events).ended ≡ true → IsFree (fold play run events) → IsEnded (replayed n at (lines_alone events) Ended s).found
+  lines-end [] n at run s same stand are ended free =
+      subst (λ b. IsEnded (cond b (ended_with status.Done (n - 1) s) (ended_with (status.NoEnd (n - 1)) (n - 1) s)).found) (sym ended) (refl, tt)
+  lines-end (e ∷ events) n at run s same stand are ended free =
+      let next = play run e in
+      let state = state_after s.reader e in
+      let between : IsFree next = all-free events next free in
+      let before : IsFree run = all-free (e ∷ events) run free in
+      let p = whole_line n at (line_of e) s in
+      let more = replayed (n + 1) (at + length (line_of e) + 1) (lines_alone events) Ended in
+      let here : Follows next state p = line-follows printed n at e run s same stand.0 are.0 before between in
+      subst (λ (q : Produced). IsEnded q.found) (sym (next-line n at e events s))
+      (ended-by p more here.spared (λ none. (
+      let reader = here.reader none in
+      lines-end events (n + 1) (at + length (line_of e) + 1) next p.progress (here.world none)
+      (subst (λ (r : ReaderState). AllStand r events) (sym reader) stand.1) are.1
+      (subst (λ (r : ReaderState). (state_past r events).ended ≡ true) (sym reader) ended) free
+      )))
+
+  schedule-ends : (seed replicas lines : ℕ) → IsId replicas → 1 < lines → IsFree (run_of (generated seed replicas lines)) →
+      IsEnded (replayed 1 0 (lines_alone (generated seed replicas lines)) Ended before_all).found
+  schedule-ends seed replicas lines is some free =
+      lines-end (generated seed replicas lines) 1 0 no_run before_all refl (generated-stands seed replicas lines some) (generated-within seed replicas lines is)
+      (generated-ends seed replicas lines (omega (arith, some))) free
+
+-- ---- the laws
+
+no-refusal : (o : Option Finding) → IsEnded o → refusal_in o ≡ None
+no-refusal None is = absurd is
+no-refusal (Some f) is = is.0
+
+-- an end alone doesn't read
+end-alone : refusal_of (replayed 1 0 (codes "end" ∷ [] ∷ []) Ended before_all) ≡ None
+unfolding line_outcome opening tokens_from word_of
+end-alone = by (is_utf8 (codes "end")) where
+  by : (b : Bool) → refusal_of (and_then (opened_outcome 1 (cond b (opening_of first_state (tokens (codes "end"))) (Err not_utf8)) before_all) (replayed 2 4 ([] ∷ []) Ended)) ≡ None
+  by true = refl
+  by false = refl
+
+pub trials-are-admitted : ArePrinted → GeneratedAreAdmitted → TrialsAreAdmitted
+unfolding events_left
+trials-are-admitted printed admitted seed replicas zero is taken how = refl
+trials-are-admitted printed admitted seed replicas (suc zero) is taken how = end-alone
+trials-are-admitted printed admitted seed replicas (suc (suc lines)) is taken how =
+    let p = replayed 1 0 (lines_alone (generated seed replicas (suc (suc lines)))) Ended before_all in
+    no-refusal p.found (schedule-ends printed seed replicas (suc (suc lines)) is (omega arith) (admitted seed replicas (suc (suc lines)) is))
+
+has-status : (p : Produced) → IsEnded p.found → IsEndOrLimit (status_of p)
+has-status p is = by p.found is where
+  by : (o : Option Finding) → IsEnded o → IsEndOrLimit (option_map (λ f. f.status) o)
+  by None is = absurd is
+  by (Some f) is = is.1
+
+pub trials-end : ArePrinted → GeneratedAreAdmitted → TrialsEnd
+trials-end printed admitted seed replicas lines is some taken how =
+    has-status (replayed 1 0 (lines_alone (generated seed replicas lines)) Ended before_all) (schedule-ends printed seed replicas lines is some (admitted seed replicas lines is))
+
+pub trials-are-replays : TrialsAreReplays
+trials-are-replays seed replicas lines is report taken how =
+    ap (λ pieces. replayed 1 0 pieces Ended before_all) (pieces-are (generated seed replicas lines) (generated-within seed replicas lines is))
