@@ -1,5 +1,5 @@
 -- Names of actions held as runs: one run more, and that the names say which runs they are.
-use Rattle.std.proofs.Common.{◌≡◌, ℕ, zero, suc, ◌+◌, ◌-◌, ◌<◌, ◌≤◌, List, [], ◌∷◌, ◌++◌, append_assoc, length, map, get_or, set, take, Bool, true, false, cond, eqb, ◌&&◌, refl, sym, ap, subst, ◌∙◌, arith, inl, inr}
+use Rattle.std.proofs.Common.{◌≡◌, ℕ, zero, suc, ◌+◌, ◌-◌, ◌<◌, ◌≤◌, List, [], ◌∷◌, ◌++◌, append_assoc, length, map, get_or, set, take, drop, Bool, true, false, cond, eqb, ◌&&◌, refl, sym, ap, subst, ◌∙◌, arith, inl, inr}
 use Rattle.std.specs.Bool.{Decides}
 use Rattle.std.specs.List.{flat_map}
 use Rattle.std.specs.Cmp.Lexicographic.{pointwise, pointwise_decides}
@@ -222,3 +222,23 @@ text_runs (r ∷ runs) =
     ap (λ xs. (head ++ text own) ++ xs) (texts_runs runs)
     ∙ append_assoc head (text own) (text (ids_in runs))
     ∙ ap (λ xs. head ++ xs) (sym (flat_map-append (λ y. 44 ∷ id_text y) own (ids_in runs)))
+
+-- ---- one name less
+
+-- the first run without its first name
+shorter : (r : IdRun) (runs : List IdRun) → r.first < r.last → ids_in (record r { first = r.first + 1 } ∷ runs) ≡ drop 1 (ids_in (r ∷ runs))
+shorter r runs lt =
+    let name : ℕ → ActionId = λ n. record { creator = r.creator; index = n } in
+    let next : r.first + 1 ≡ suc r.first = omega arith in
+    ap (λ n. (name n ∷ names_above n r.last r.creator) ++ ids_in runs) next
+    ∙ ap (λ ids. (ids ++ name (suc r.first) ∷ names_above (suc r.first) r.last r.creator) ++ ids_in runs) (sym (names_above-none r.first r.first r.creator (omega arith)))
+    ∙ ap (λ ids. ids ++ ids_in runs) (sym (names_above-join r.first r.first r.last r.creator (omega arith) lt))
+
+pub shorter-ids : (runs : List IdRun) (a b c : IdRun) → 0 < length runs → a ≡ get_or runs 0 a → b ≡ get_or runs 0 b → c ≡ get_or runs 0 c → a.first < b.last
+    → ids_in (set runs 0 (record c { first = a.first + 1 })) ≡ drop 1 (ids_in runs)
+shorter-ids [] a b c some a_is b_is c_is lt = absurd (omega arith)
+shorter-ids (r ∷ runs) a b c some a_is b_is c_is lt =
+    let below : r.first < r.last = subst (λ (x : IdRun). x.first < r.last) a_is (subst (λ (x : IdRun). a.first < x.last) b_is lt) in
+    ap (λ (x : IdRun). ids_in (record x { first = a.first + 1 } ∷ runs)) c_is
+    ∙ ap (λ (x : IdRun). ids_in (record r { first = x.first + 1 } ∷ runs)) a_is
+    ∙ shorter r runs below

@@ -1,4 +1,4 @@
-ghost use Rattle.std.specs.Prelude.{◌≡◌, ◌≤◌, ◌∷◌, [], ◌++◌, OnOk, OnErr, IfOk};
+ghost use Rattle.std.specs.Prelude.{◌≡◌, ◌≤◌, ◌∷◌, [], ◌++◌, drop, OnOk, OnErr, IfOk};
 ghost use Rattle.cg_base.specs.IdRuns.{ids_of, ids_in, goes_on, AreRuns};
 
 use crate::{ActionId, NoMemory, ReplicaId};
@@ -73,6 +73,13 @@ impl IdRuns {
         add_run(&mut self.runs, run)
     }
 
+    /// Takes the first name away, if there is one.
+    pub fn drop_first(&mut self)
+        ensures { self.new ≡ drop 1 self.old }
+    {
+        drop_name(&mut self.runs);
+    }
+
     pub fn copy(&self, alloc: Global) -> Result<IdRuns, NoMemory>
         ensures { IfOk result (λ ids. ids ≡ self.now) }
     {
@@ -118,6 +125,22 @@ fn add_run(runs: &mut Vec<IdRun>, run: IdRun) -> Result<(), NoMemory>
     }
     runs.push(run)?;
     Ok(())
+}
+
+fn drop_name(runs: &mut Vec<IdRun>)
+    requires { AreRuns runs.old.items }
+    ensures kept { AreRuns runs.new.items }
+    ensures names { ids_in runs.new.items ≡ drop 1 (ids_in runs.old.items) }
+{
+    if runs.is_empty() {
+        return;
+    }
+    let first = runs[0].first;
+    if first < runs[0].last {
+        runs[0].first = first + 1;
+        return;
+    }
+    let _ = runs.remove(0);
 }
 
 fn goes_on(a: &IdRun, b: &IdRun) -> bool

@@ -49,7 +49,7 @@ const WEIGHT_TEXTS: &str = "{1*3,2,3}{}32*255";
 
 // 1:3 to 1:6 in two parts, 1:8 and 1:9, and 2:5: whether the same names in other parts are the same, and these with 1:7;
 // their text, and that of none
-const RUNS: &str = "yes;no;[1:3,1:4,1:5,1:6,1:8,1:9,2:5][]";
+const RUNS: &str = "yes;no;[1:3,1:4,1:5,1:6,1:8,1:9,2:5][][1:9,2:5]";
 
 const NAME_TEXTS: &str = "[][1:1,2:10]3:418446744073709551615";
 
@@ -348,6 +348,15 @@ fn runs(alloc: Global, parts: &[(u8, u8, u8)]) -> Result<IdRuns, NoMemory> {
     Ok(ids)
 }
 
+// without so many at the front
+fn behind(ids: &IdRuns, count: u8, alloc: Global) -> Result<IdRuns, NoMemory> {
+    let mut left = ids.copy(alloc)?;
+    for _ in 0..count {
+        left.drop_first();
+    }
+    Ok(left)
+}
+
 #[test]
 fn names_in_runs(rt: HostRuntime) -> Result<(), NoMemory> {
     let alloc = rt.alloc();
@@ -364,6 +373,7 @@ fn names_in_runs(rt: HostRuntime) -> Result<(), NoMemory> {
     say_truth(&mut out, runs(alloc, &[(1, 2, 9), (2, 4, 5)])? == ids);
     put_id_runs(&mut out, &ids.copy(alloc)?)?;
     put_id_runs(&mut out, &IdRuns::new(alloc))?;
+    put_id_runs(&mut out, &behind(&ids, 5, alloc)?)?;
     is(&rt, out.as_slice(), RUNS);
     Ok(())
 }
