@@ -1,5 +1,5 @@
 //! The own actions that weren't delivered yet.
-ghost use Rattle.std.specs.Prelude.{◌≡◌, ◌<◌, ◌∷◌, ◌++◌, ◌-◌, [], suc, drop, length, slice_get, OnOk, IfOk, IfSome};
+ghost use Rattle.std.specs.Prelude.{◌≡◌, ◌∷◌, ◌++◌, ◌-◌, [], drop, length, slice_get, OnOk, IfOk, IfSome};
 ghost use Rattle.std.specs.Option.{option_copied};
 ghost use Rattle.cg_base.specs.Text.{is_nil};
 ghost use Rattle.cg_action.specs.ActionLimits.{IsAction};
@@ -8,28 +8,30 @@ ghost use Rattle.cg_records.specs.Limits.{Each};
 
 use crate::waiting::Waiting;
 use cg_action::Action;
-use cg_base::{IdList, NoMemory, Row};
+use cg_base::{IdRuns, NoMemory};
 use std::alloc::Global;
 use std::collections::VecDeque;
 use std::marker::Model;
 
-/// Actions that wait. Clauses see the list of them; each is within the limits of an action.
+/// Actions that wait, and their names. Clauses see the list of the actions; each is within the limits of an action.
 #[derive(Drop)]
 pub(crate) struct Own {
     actions: Waiting<Action>,
+    names: IdRuns,
 }
 
 impl Model for Own {
-    ghost use Rattle.std.specs.Prelude.{List};
+    ghost use Rattle.std.specs.Prelude.{◌≡◌, List};
     ghost use Rattle.cg_action.specs.declared.action.Action.{Action};
     ghost use Rattle.cg_action.specs.ActionLimits.{IsAction};
+    ghost use Rattle.cg_queue.specs.Queue.{names_of};
     ghost use Rattle.cg_records.specs.Limits.{Each};
 
     ghost Value = { List Action };
 
     ghost view = { λ o. o.actions };
 
-    ghost invariant = { λ o. Each IsAction o.actions };
+    ghost invariant = { λ o. Each IsAction o.actions × (o.names ≡ names_of o.actions) };
 }
 
 impl Own {
@@ -38,6 +40,7 @@ impl Own {
     {
         Own {
             actions: Waiting::new(alloc),
+            names: IdRuns::new(alloc),
         }
     }
 
@@ -45,7 +48,13 @@ impl Own {
         requires { IsAction a }
         ensures { OnOk result (self.new ≡ self.old ++ a ∷ []) }
     {
-        self.actions.push(a)
+        let id = a.id;
+        self.actions.push(a)?;
+        if self.names.push(&id).is_err() {
+            self.actions.drop_last();
+            return Err(NoMemory);
+        }
+        Ok(())
     }
 
     pub(crate) fn first(&self) -> Option<&Action>
@@ -75,25 +84,11 @@ impl Own {
         self.actions.len()
     }
 
-    /// The names of the actions.
-    pub(crate) fn names(&self, alloc: Global) -> Result<IdList, NoMemory>
+    /// The names of the actions, in the time of their runs: the names of what one replica creates are one run.
+    pub(crate) fn names(&self, alloc: Global) -> Result<IdRuns, NoMemory>
         ensures { IfOk result (λ ids. ids ≡ names_of self.now) }
     {
-        let mut ids = Row::new(alloc);
-        for i in 0..self.len() {
-            self.push_name(i, &mut ids)?;
-        }
-        Ok(ids)
-    }
-
-    fn push_name(&self, i: usize, ids: &mut IdList) -> Result<(), NoMemory>
-        requires { i < length self.now }
-        ensures { OnOk result (ids.new ++ names_of (drop (suc i) self.now) ≡ ids.old ++ names_of (drop i self.now)) }
-    {
-        match self.get(i) {
-            Some(a) => ids.push(a.id),
-            None => Ok(()),
-        }
+        self.names.copy(alloc)
     }
 
     pub(crate) fn is_empty(&self) -> bool
@@ -106,6 +101,7 @@ impl Own {
         ensures { self.new ≡ drop 1 self.old }
     {
         self.actions.drop_first();
+        self.names.drop_first();
     }
 
     /// The actions themselves. It takes no memory.
@@ -113,7 +109,10 @@ impl Own {
         ensures value { result.items ≡ self }
         ensures each { Each IsAction self }
     {
-        let Own { actions } = self;
+        let Own {
+            actions,
+            names: _names,
+        } = self;
         actions.into_deque()
     }
 }

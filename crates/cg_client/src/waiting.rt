@@ -1,5 +1,5 @@
 //! Things that wait in a row.
-ghost use Rattle.std.specs.Prelude.{◌≡◌, ◌∷◌, ◌++◌, ◌-◌, [], drop, length, slice_get, OnOk, OnErr};
+ghost use Rattle.std.specs.Prelude.{◌≡◌, ◌∷◌, ◌++◌, ◌-◌, [], drop, take, length, slice_get, OnOk, OnErr};
 ghost use Rattle.std.specs.Option.{option_copied};
 ghost use Rattle.cg_base.specs.Text.{is_nil};
 
@@ -84,6 +84,15 @@ impl<T> Waiting<T> {
     {
         let Waiting { items } = self;
         items
+    }
+
+    /// Takes the last thing away, if there is one.
+    pub(crate) fn drop_last(&mut self)
+    where
+        T: Drop,
+        ensures { self.new ≡ take (length self.old - 1) self.old }
+    {
+        let _ = self.items.pop_back();
     }
 
     /// Takes the first thing away, if there is one.

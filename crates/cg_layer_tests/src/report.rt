@@ -7,7 +7,7 @@
 use crate::summaries::{names, primary, record};
 use crate::table::{follows, id, name, number, parts, say_shown, set};
 use cg_action::{Action, Value, decode};
-use cg_base::{ActionId, IdList, IdRuns, IdSet, NoMemory, ReplicaId, WeightSet, put};
+use cg_base::{ActionId, IdRuns, IdSet, NoMemory, ReplicaId, WeightSet, put};
 use cg_db::{Answer, DbEntry, Effect, EntryList, TxtList};
 use cg_records::{Primary, Yellow};
 use cg_report::{
@@ -106,7 +106,7 @@ fn first_line(alloc: Global) -> Result<Line, NoMemory> {
         vulnerable: None,
         yellow: Yellow::none(alloc),
         reds,
-        own: IdList::new(alloc),
+        own: IdRuns::new(alloc),
         left: IdSet::empty(),
         buffered: 0,
     };
@@ -352,24 +352,24 @@ fn blank(alloc: Global) -> View {
         vulnerable: None,
         yellow: Yellow::none(alloc),
         reds: IdRuns::new(alloc),
-        own: IdList::new(alloc),
+        own: IdRuns::new(alloc),
         left: IdSet::empty(),
         buffered: 0,
     }
 }
 
-fn add_reds(alloc: Global, reds: &mut IdRuns, text: &str) {
+fn add_names(alloc: Global, ids: &mut IdRuns, text: &str) {
     let list = names(alloc, text);
     for id in list.as_slice() {
-        let _done = reds.push(id);
+        let _done = ids.push(id);
     }
 }
 
 // a part that has names of actions
 fn tell_names(alloc: Global, view: &mut View, what: &str, text: &str) {
     match what {
-        "red" => add_reds(alloc, &mut view.reds, text),
-        "own" => view.own = names(alloc, text),
+        "red" => add_names(alloc, &mut view.reds, text),
+        "own" => add_names(alloc, &mut view.own, text),
         _ => {
             view.yellow = Yellow {
                 valid: what == "yellow",

@@ -1,4 +1,4 @@
-use cg_base::{IdList, IdRuns, IdSet, ReplicaId};
+use cg_base::{IdRuns, IdSet, ReplicaId};
 use cg_records::{Primary, Vulnerable, Yellow};
 
 /// The state of a replica.
@@ -33,7 +33,7 @@ pub struct View {
     pub vulnerable: Option<Vulnerable>,
     pub yellow: Yellow,
     pub reds: IdRuns,
-    pub own: IdList,
+    pub own: IdRuns,
     pub left: IdSet,
     pub buffered: u64,
 }

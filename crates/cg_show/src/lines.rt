@@ -3,7 +3,7 @@ ghost use Rattle.std.specs.Option.{option_copied};
 ghost use Rattle.cg_agree.specs.Show.{is_news, with_printed};
 
 use crate::same_line;
-use cg_base::{IdList, NoMemory, ReplicaId, Row};
+use cg_base::{NoMemory, ReplicaId};
 use cg_report::{Line, UpLine, View};
 use std::alloc::Global;
 use std::marker::Model;
@@ -116,7 +116,7 @@ fn copy_view(alloc: Global, view: &View) -> Result<View, NoMemory>
         vulnerable: view.vulnerable,
         yellow: view.yellow.copy(alloc)?,
         reds: view.reds.copy(alloc)?,
-        own: IdList::from_slice(alloc, view.own.as_slice())?,
+        own: view.own.copy(alloc)?,
         left: view.left,
         buffered: view.buffered,
     })

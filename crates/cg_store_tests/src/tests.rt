@@ -217,7 +217,7 @@ fn put_lists(view: &View, out: &mut Vec<u8>) -> Result<(), NoMemory> {
     put(out, b" ")?;
     put_id_runs(out, &view.reds)?;
     put(out, b" ")?;
-    put_id_list(out, view.own.as_slice())
+    put_id_runs(out, &view.own)
 }
 
 fn put_view(core: &Core, out: &mut Vec<u8>) -> Result<(), NoMemory> {
