@@ -1,5 +1,5 @@
 //! The actions that are known, each within the limits of an action.
-ghost use Rattle.std.specs.Prelude.{◌≡◌, ◌≤◌, ◌<◌, ◌^◌, ◌-◌, suc, filter, not, IfOk, IfSome, IsSome, MatchOption, OnOk};
+ghost use Rattle.std.specs.Prelude.{◌≡◌, ◌≤◌, ◌<◌, ◌^◌, ◌-◌, suc, filter, not, true, IfOk, IfSome, IsSome, MatchOption, OnOk};
 ghost use Rattle.std.specs.Option.{option_copied};
 ghost use Rattle.cg_base.specs.Cuts.{index_in};
 ghost use Rattle.cg_base.specs.Ids.{names};
@@ -8,6 +8,7 @@ ghost use Rattle.cg_action.specs.ActionLimits.{IsAction};
 ghost use Rattle.cg_records.specs.Limits.{Each, IsIndex, IsName, IsSmallCut};
 ghost use Rattle.cg_client.specs.Kept.{AreKept};
 ghost use Rattle.cg_queue.specs.Answers.{Answers, AreReds, marked_green};
+ghost use Rattle.cg_queue.specs.Distinct.{is_distinct};
 ghost use Rattle.cg_queue.specs.Queue.{resumed, marked_red, marked_yellow, placed_green, discarded, green_count, action_of, names_of};
 
 use cg_action::{Action, ActionList};
@@ -23,6 +24,7 @@ pub(crate) struct Known {
 }
 
 impl Model for Known {
+    ghost use Rattle.cg_queue.specs.Distinct.{is_distinct};
     ghost use Rattle.cg_queue.specs.Queue.{QueueView};
     ghost use Rattle.cg_client.specs.Kept.{AreKept};
 
@@ -77,7 +79,8 @@ impl Known {
     }
 
     pub(crate) fn set_yellow(&mut self, list: &IdList) -> Result<(), NoMemory>
-        requires { AreReds self.old list.now }
+        requires reds { AreReds self.old list.now }
+        requires distinct { is_distinct list.now ≡ true }
         ensures { OnOk result (self.new ≡ record self.old { yellow = list.now }) }
     {
         self.queue.set_yellow(list)

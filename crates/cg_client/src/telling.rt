@@ -1,6 +1,7 @@
 //! What becomes of a primary component and of attempts, and what a replica tells the others as it enters an exchange.
 ghost use Rattle.std.specs.Prelude.{◌≡◌, ◌∷◌, ◌<◌, ◌^◌, [], suc, fold, true, Some, None, OnOk, IfOk};
 ghost use Rattle.cg_queue.specs.Answers.{AreReds};
+ghost use Rattle.cg_queue.specs.Distinct.{is_distinct};
 ghost use Rattle.cg_records.specs.Limits.{IsNumber};
 ghost use Rattle.cg_wire.specs.Limits.{IsSummary};
 ghost use Rattle.cg_client.specs.Drafts.{turn_with};
@@ -35,7 +36,8 @@ impl Core {
         self.standing.forget_record();
     }
 
-    /// Takes over what an exchange has decided, or what stands in a record. Each yellow name is one of a red action.
+    /// Takes over what an exchange has decided, or what stands in a record. Each yellow name is one of a red action, and
+    /// none stands twice.
     pub fn take_over(
         &mut self,
         prim: Primary,
@@ -43,7 +45,8 @@ impl Core {
         vulnerable: Option<Vulnerable>,
         yellow: &Yellow,
     ) -> Result<(), NoMemory>
-        requires { AreReds self.old.queue yellow.now.list }
+        requires reds { AreReds self.old.queue yellow.now.list }
+        requires distinct { is_distinct yellow.now.list ≡ true }
         ensures { OnOk result (self.new ≡ (let q = self.old.queue in record self.old { queue = record q { yellow = yellow.now.list }; yellow_valid = yellow.now.valid; prim = prim; attempt_index = attempt_index; vulnerable = vulnerable })) }
     {
         let standing = Standing::of(prim, attempt_index, vulnerable)?;

@@ -1,7 +1,9 @@
 //! The end of a plan: what a member takes over, and whether an attempt begins.
-ghost use Rattle.std.specs.Prelude.{◌≡◌, [], fold, OnOk, IfOk};
+ghost use Rattle.std.specs.Prelude.{◌≡◌, [], filter, fold, true, OnOk, IfOk};
 ghost use Rattle.cg_base.specs.Ids.{names};
 ghost use Rattle.cg_queue.specs.Answers.{AreReds};
+ghost use Rattle.cg_queue.specs.Distinct.{is_distinct};
+ghost use Rattle.cg_queue.specs.Queue.{names_of};
 ghost use Rattle.cg_knowledge.specs.Verdict.{decides};
 ghost use Rattle.cg_knowledge.specs.Calls.{verdict_of};
 ghost use Rattle.cg_client.specs.Drafts.{turn_with};
@@ -13,6 +15,7 @@ use crate::{ExchangeStep, NonPrim};
 use cg_base::{ActionId, IdList, NoMemory, Row};
 use cg_client::{Core, Draft};
 use cg_knowledge::{Summary, Verdict, decide, decided, remaining};
+use cg_queue::is_distinct;
 use cg_records::Yellow;
 use cg_wire::Msg;
 
@@ -24,8 +27,7 @@ fn stands_in(list: &[ActionId], id: &ActionId) -> bool
 
 // the name comes behind the others, where it is one of a red action and doesn't stand there already
 fn push_name(core: &Core, list: &mut IdList, id: &ActionId) -> Result<(), NoMemory>
-    ensures value { OnOk result (list.new ≡ with_name core.now.queue list.old id.now) }
-    ensures reds { OnOk result (AreReds core.now.queue list.old → AreReds core.now.queue list.new) }
+    ensures { OnOk result (list.new ≡ with_name core.now.queue list.old id.now) }
 {
     if core.is_red(*id) && !stands_in(list.as_slice(), id) {
         list.push(*id)?;
@@ -34,15 +36,38 @@ fn push_name(core: &Core, list: &mut IdList, id: &ActionId) -> Result<(), NoMemo
 }
 
 #[tactic(auto, unfolding(crate::specs::PlanEnd::usable_names))]
-fn usable_names(core: &Core, ids: &[ActionId]) -> Result<IdList, NoMemory>
-    ensures value { IfOk result (λ list. list ≡ usable_names core.now.queue ids.now) }
-    ensures reds { IfOk result (λ list. AreReds core.now.queue list) }
+fn names_once(core: &Core, ids: &[ActionId]) -> Result<IdList, NoMemory>
+    ensures { IfOk result (λ list. list ≡ usable_names core.now.queue ids.now) }
 {
     let mut list = Row::new(core.alloc());
     for id in ids {
         push_name(core, &mut list, id)?;
     }
     Ok(list)
+}
+
+fn red_names(core: &Core, ids: &[ActionId]) -> Result<IdList, NoMemory>
+    ensures { IfOk result (λ list. list ≡ filter (names (names_of core.now.queue.reds)) ids.now) }
+{
+    let mut list = Row::new(core.alloc());
+    for id in ids {
+        if core.is_red(*id) {
+            list.push(*id)?;
+        }
+    }
+    Ok(list)
+}
+
+fn usable_names(core: &Core, ids: &[ActionId]) -> Result<IdList, NoMemory>
+    ensures value { IfOk result (λ list. list ≡ usable_names core.now.queue ids.now) }
+    ensures reds { IfOk result (λ list. AreReds core.now.queue list) }
+    ensures distinct { IfOk result (λ list. is_distinct list ≡ true) }
+{
+    // of names that are distinct already none needs to be looked for
+    if is_distinct(ids) {
+        return red_names(core, ids);
+    }
+    names_once(core, ids)
 }
 
 #[tactic(auto, unfolding(crate::specs::PlanEnd::take_over, cg_knowledge::specs::Calls::verdict_of))]

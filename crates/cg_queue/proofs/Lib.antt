@@ -12,3 +12,4 @@ mod AscendingReds
 pub mod ShownReds
 mod PlainReds
 mod RedsAbove
+mod NoneTwice

@@ -8,6 +8,7 @@ use Rattle.cg_queue.specs.declared.red.Red.{Red}
 use Rattle.cg_queue.specs.Lanes.{marked_at}
 use Rattle.cg_queue.specs.Body.{Parts, seen, all_reds, actions_in, is_above, Run, Flagged, AreKnown, IsSound, lane_of, flag_name, renamed}
 use Rattle.cg_queue.proofs.RowLemmas.{with_lane-same, with_lane-other, same_length, append-nothing}
+use Rattle.cg_queue.specs.Distinct.{is_distinct}
 use Rattle.cg_queue.specs.MarkLaws.{is_above-true}
 use Rattle.cg_queue.proofs.CutRises.{is_above-false}
 use Rattle.cg_queue.proofs.RunLemmas.{Run-marked, actions_in-marked}
@@ -153,7 +154,7 @@ named-known b (id ∷ list) sound are =
     let red : index_in b.red_cut id.creator ≡ index_in b.red_cut (suc named.slot) = ap (index_in b.red_cut) creator in
     (omega arith, (omega arith, omega arith), named-known b list sound are.1)
 
-module _ (b : Parts) (list : List ActionId) (sound : IsSound b) (are : AreReds (seen b) list) where
+module _ (b : Parts) (list : List ActionId) (sound : IsSound b) (are : AreReds (seen b) list) (distinct : is_distinct list ≡ true) where
   rows-after : (k : ℕ) → k < 32 → IsOn b.green_cut (b.reds k) ((renamed b list).reds k) list k
   rows-after k lt =
       let cut = b.green_cut in
@@ -180,6 +181,7 @@ module _ (b : Parts) (list : List ActionId) (sound : IsSound b) (are : AreReds (
       flags = row.flags;
     });
     yellow = named-known b list sound (named-reds b list sound are);
+    distinct = distinct;
   }
 
   pub renamed-reds : all_reds ((renamed b list).reds) ≡ all_reds b.reds

@@ -8,6 +8,7 @@ use Rattle.cg_base.specs.Sets.{IsId}
 use Rattle.cg_base.specs.Cuts.{index_in}
 use Rattle.cg_queue.specs.Queue.{names_of}
 use Rattle.cg_queue.specs.Body.{Parts, seen, all_reds, is_above, AreKnown, IsSound, lane_of}
+use Rattle.cg_queue.specs.DistinctLaws.{distinct-kept}
 use Rattle.cg_queue.specs.Shown.{IsBetween, LeadUp, IsShown}
 use Rattle.cg_queue.proofs.RedLemmas.{is_named, names-all}
 use Rattle.cg_queue.proofs.AscendingReds.{rows-ascend}
@@ -73,4 +74,5 @@ shown_of b sound = record {
   ascend = (rows-ascend b.reds (low_of b) (runs_of b sound) 32 0 (omega arith)).0;
   reds = λ id. (between_from_red b sound id, red_from_between b sound id);
   yellow = λ id there. red_from_between b sound id (yellow_between b.green_cut b.red_cut b.yellow id sound.yellow there);
+  distinct = distinct-kept (is_above b.green_cut) b.yellow sound.distinct;
 }

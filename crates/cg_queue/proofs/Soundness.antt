@@ -13,6 +13,7 @@ use Rattle.cg_queue.specs.declared.red.Red.{Red}
 use Rattle.cg_queue.specs.Lanes.{with_lane, marked_at}
 use Rattle.cg_queue.specs.Queue.{with_yellow, placed_red, placed_green, with_red, without_action, discarded, resumed}
 use Rattle.cg_queue.specs.Body.{Parts, seen, all_reds, reds_from, no_parts, BeginsWell, actions_in, is_above, flag_of, Run, Follows, positions_of, Flagged, IsLane, IsSound, lane_of, added_red, with_name, flagged, added_green, cleared, dropped, dropped_from}
+use Rattle.cg_queue.specs.DistinctLaws.{distinct-behind, distinct-kept}
 use Rattle.cg_queue.specs.MarkLaws.{yellow-added, is_above-true}
 use Rattle.cg_queue.proofs.RowLemmas.{with_lane-same, with_lane-other, same_lanes, length-more, filter-more, filter-twice}
 use Rattle.cg_queue.proofs.CutRises.{raise-same, raise-other, raise-rises, AreKnown-rise, AreKnown-more, AreKnown-filter, names-unknown, names-above, above-raised}
@@ -85,6 +86,7 @@ module _ (b : Parts) (a : Action) (sound : IsSound b) (is_id : IsId a.id.creator
     count = sound.count;
     lanes = red-lane;
     yellow = AreKnown-rise b.red_cut (raise b.red_cut a.id) b.yellow (raise-rises b.red_cut a.id sound.red) sound.yellow;
+    distinct = sound.distinct;
   }
 
   -- the row's next index
@@ -138,8 +140,8 @@ module _ (b : Parts) (id : ActionId) (sound : IsSound b) (slot i : ℕ) (within 
             }
       ]
 
-  pub yellow-sound : IsSound (flagged (with_name b id) slot i)
-  yellow-sound =
+  pub yellow-sound : names b.yellow id ≡ false → IsSound (flagged (with_name b id) slot i)
+  yellow-sound new =
       let lane = sound.lanes slot within in
       let last = lane.last in
       let red : index_in b.red_cut id.creator ≡ index_in b.red_cut (suc slot) = ap (index_in b.red_cut) creator in
@@ -149,6 +151,7 @@ module _ (b : Parts) (id : ActionId) (sound : IsSound b) (slot i : ℕ) (within 
         count = sound.count;
         lanes = yellow-lane;
         yellow = AreKnown-more b.red_cut b.yellow id sound.yellow (omega arith) (omega arith, omega arith);
+        distinct = distinct-behind b.yellow id sound.distinct new;
       }
 
   pub yellow-reds : all_reds ((flagged (with_name b id) slot i).reds) ≡ all_reds b.reds
@@ -201,10 +204,10 @@ module _ (b : Parts) (id : ActionId) (sound : IsSound b) (is_id : IsId id.creato
       flag-named b.yellow id (suc (lane_of id)) (low_of b (lane_of id)) (b.reds (lane_of id)) red_place lane.reds lane.flags (sym own.creator) red-at red-inside
       ∙ sym (names-above b.green_cut b.yellow id (is_above-true b.green_cut id above))
 
-  pub red-named-sound : IsSound (flagged (with_name b id) (lane_of id) red_place)
-  red-named-sound =
+  pub red-named-sound : names (filter (is_above b.green_cut) b.yellow) id ≡ false → IsSound (flagged (with_name b id) (lane_of id) red_place)
+  red-named-sound new =
       let own = has_lane id is_id in
-      yellow-sound b id sound (lane_of id) red_place own.within (sym own.creator) red-at red-inside
+      yellow-sound b id sound (lane_of id) red_place own.within (sym own.creator) red-at red-inside (sym (names-above b.green_cut b.yellow id (is_above-true b.green_cut id above)) ∙ new)
 
   pub red-named-seen : seen (flagged (with_name b id) (lane_of id) red_place) ≡ record (seen b) { yellow = filter (is_above b.green_cut) b.yellow ++ id ∷ [] }
   red-named-seen =
@@ -239,7 +242,8 @@ module _ (b : Parts) (a : Action) (sound : IsSound b) (is_id : IsId a.id.creator
   pub both-sound : IsSound (added_red (with_name b a.id) a true)
   both-sound =
       let own = has_lane a.id is_id in
-      subst IsSound both-same (yellow-sound (added_red b a false) a.id (red-sound b a sound is_id small next) (lane_of a.id) both-row own.within (sym own.creator) (red-index b a sound is_id small next) both-inside)
+      subst IsSound both-same (yellow-sound (added_red b a false) a.id (red-sound b a sound is_id small next) (lane_of a.id) both-row own.within (sym own.creator) (red-index b a sound is_id small next) both-inside
+      (names-unknown b.red_cut b.yellow a.id sound.yellow (omega arith)))
 
   pub both-seen : seen (added_red (with_name b a.id) a true) ≡ record (placed_red (seen b) a) { yellow = filter (is_above b.green_cut) b.yellow ++ a.id ∷ [] }
   both-seen =
@@ -319,6 +323,7 @@ module _ (b : Parts) (a : Action) (sound : IsSound b) (is_id : IsId a.id.creator
         count = rw long (omega arith);
         lanes = green-lane;
         yellow = AreKnown-rise b.red_cut (raise b.red_cut a.id) b.yellow (raise-rises b.red_cut a.id sound.red) sound.yellow;
+        distinct = sound.distinct;
       }
 
   pub green-reds : all_reds ((added_green b a).reds) ≡ without_action (all_reds b.reds) a.id
@@ -348,6 +353,7 @@ cleared-sound b sound = record {
     flags = Flagged-above b.green_cut b.yellow (suc k) (low_of b k) (b.reds k) (omega arith) lane.reds lane.flags;
   });
   yellow = AreKnown-filter b.red_cut (is_above b.green_cut) b.yellow sound.yellow;
+  distinct = distinct-kept (is_above b.green_cut) b.yellow sound.distinct;
 }
 
 pub cleared-seen : (b : Parts) → seen (cleared b) ≡ seen b
@@ -405,6 +411,7 @@ module _ (b : Parts) (sound : IsSound b) (a : Action) (rest : List Action) (whol
         count = omega arith;
         lanes = dropped-lane;
         yellow = sound.yellow;
+        distinct = sound.distinct;
       }
 
 dropped-from : (b : Parts) (greens : List Action) → b.greens ≡ greens → BeginsWell greens → IsSound b → IsSound (dropped_from b greens)
@@ -448,6 +455,7 @@ no_parts-sound white cut is_cut few = record {
     flags = tt;
   };
   yellow = tt;
+  distinct = refl;
 }
 
 -- ---- one more of a list that is copied

@@ -11,6 +11,7 @@ use Rattle.cg_queue.specs.declared.red.Red.{Red}
 use Rattle.cg_queue.specs.declared.body.Body.{Body}
 use Rattle.cg_queue.specs.Lanes.{rows_of, with_lane, marked_at}
 use Rattle.cg_queue.specs.Queue.{QueueView}
+use Rattle.cg_queue.specs.Distinct.{is_distinct}
 
 -- the fields of a body as lists
 pub record Parts : Type 0 where
@@ -120,6 +121,7 @@ pub record IsSound (b : Parts) : Type 0 where
   pub count : b.white + length b.greens ≤ 2 ^ 62
   pub lanes : (slot : ℕ) → slot < 32 → IsLane b slot
   pub yellow : AreKnown b.red_cut b.yellow
+  pub distinct : is_distinct b.yellow ≡ true
 
 -- ---- steps
 

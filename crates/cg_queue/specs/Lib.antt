@@ -5,3 +5,5 @@ pub mod Body
 pub mod MarkLaws
 pub mod Shown
 pub mod NameLaws
+pub mod Distinct
+pub mod DistinctLaws

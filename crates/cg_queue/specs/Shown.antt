@@ -7,6 +7,7 @@ use Rattle.cg_base.specs.Cuts.{index_in}
 use Rattle.cg_base.specs.CutLimits.{IsCut}
 use Rattle.cg_queue.specs.Queue.{QueueView, names_of}
 use Rattle.cg_queue.specs.Body.{Follows}
+use Rattle.cg_queue.specs.Distinct.{is_distinct}
 
 -- the name of a replica's action behind the first cut, and within the second
 abbrev pub IsBetween : List ActionId → List ActionId → ActionId → Type 0
@@ -27,7 +28,7 @@ pub record LeadUp (q : QueueView) (p : ℕ) : Type 0 where
   pub follows : Follows p first (index_in q.green_cut p) q.greens
 
 -- the green cut is within the red one; the reds are exactly the actions between the green cut and the red cut, and the yellow names
--- are names of reds
+-- are names of reds, each once
 pub record IsShown (q : QueueView) : Type 0 where
   pub green : IsCut q.green_cut
   pub red : IsCut q.red_cut
@@ -36,3 +37,4 @@ pub record IsShown (q : QueueView) : Type 0 where
   pub ascend : NamesAscend (names_of q.reds)
   pub reds : (id : ActionId) → (names (names_of q.reds) id ≡ true) ↔ IsBetween q.green_cut q.red_cut id
   pub yellow : (id : ActionId) → names q.yellow id ≡ true → names (names_of q.reds) id ≡ true
+  pub distinct : is_distinct q.yellow ≡ true

@@ -8,12 +8,14 @@
 #![tactic(auto)]
 
 mod body;
+mod distinct;
 mod lanes;
 mod mark;
 mod next;
 mod queue;
 mod red;
 
+pub use distinct::is_distinct;
 pub use mark::{Mark, QueueFault};
 pub use next::is_next;
 pub use queue::Queue;

@@ -1,4 +1,4 @@
-ghost use Rattle.std.specs.Prelude.{◌≡◌, ◌≤◌, ◌<◌, ◌-◌, ◌^◌, ◌++◌, ◌∷◌, ◌==◌, ◌&&◌, [], nat_lt, suc, drop, filter, not, length, slice_get, IfOk, OnOk, OnErr, MatchOption};
+ghost use Rattle.std.specs.Prelude.{◌≡◌, ◌≤◌, ◌<◌, ◌-◌, ◌^◌, ◌++◌, ◌∷◌, ◌==◌, ◌&&◌, [], nat_lt, suc, drop, filter, not, true, length, slice_get, IfOk, OnOk, OnErr, MatchOption};
 ghost use Rattle.std.specs.Option.{option_copied};
 ghost use Rattle.cg_base.specs.Cuts.{index_in};
 ghost use Rattle.cg_base.specs.Lists.{at_place};
@@ -42,6 +42,7 @@ impl Queue {
     ghost use Rattle.cg_queue.specs.Queue.{resumed, marked_red, marked_yellow, placed_green, green_count, discarded, with_yellow, names_of, action_of};
     ghost use Rattle.cg_queue.specs.Answers.{marked_green, Answers, AreReds};
     ghost use Rattle.cg_queue.specs.Shown.{IsShown};
+    ghost use Rattle.cg_queue.specs.Distinct.{is_distinct};
 
     /// A queue that knows no action.
     pub fn new(alloc: Global) -> Queue
@@ -162,9 +163,10 @@ impl Queue {
         Ok(())
     }
 
-    /// These names, each that of a red action, are the yellow list.
+    /// These names, each that of a red action and none twice, are the yellow list.
     pub fn set_yellow(&mut self, list: &IdList) -> Result<(), NoMemory>
-        requires { AreReds self.old list.now }
+        requires reds { AreReds self.old list.now }
+        requires distinct { is_distinct list.now ≡ true }
         ensures ok { OnOk result (self.new ≡ record self.old { yellow = list.now }) }
         ensures err { OnErr result (self.new ≡ self.old) }
     {
@@ -325,7 +327,7 @@ impl Queue {
     }
 
     /// How far each creator's actions are known: red or green, discarded ones too. The reds are exactly those between the
-    /// green cut and this one, and what is yellow is red.
+    /// green cut and this one, and what is yellow is red; no yellow name stands twice.
     pub fn red_cut(&self) -> Cut
         ensures value { result ≡ self.now.red_cut }
         ensures shown { IsShown self.now }

@@ -9,10 +9,10 @@ use Rattle.cg_base.specs.Cuts.{index_in, with_top, raise}
 use Rattle.cg_action.specs.declared.action.Action.{Action}
 use Rattle.cg_members.specs.Laws.{AreApart}
 use Rattle.cg_members.specs.Servers.{after_green}
+use Rattle.cg_queue.specs.Distinct.{is_distinct}
 use Rattle.cg_queue.specs.Queue.{names_of, green_count, with_red, without_action, placed_red}
 use Rattle.cg_client.specs.Replica.{Held}
 use Rattle.cg_client.specs.Marks.{after_first, with_green}
-use Rattle.cg_stored.specs.Following.{is_distinct}
 use Rattle.cg_stored.specs.Agreeing.{indexes_of}
 use Rattle.cg_step.specs.Holds.{run_on, cut_behind, ascend, Rising, CountsTo, Holds}
 use Rattle.cg_base.specs.IdLaws.{same_id-false, same_id-is}

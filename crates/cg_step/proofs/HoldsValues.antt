@@ -12,6 +12,8 @@ use Rattle.cg_action.specs.declared.action.Action.{Action}
 use Rattle.cg_action.specs.declared.action.Kind.{Kind}
 use Rattle.cg_members.specs.Servers.{white_line}
 use Rattle.cg_members.specs.Laws.{AreApart}
+use Rattle.cg_queue.specs.Distinct.{is_distinct}
+use Rattle.cg_queue.specs.DistinctLaws.{distinct-behind}
 use Rattle.cg_queue.specs.Queue.{QueueView, names_of, green_count, with_yellow}
 use Rattle.cg_records.specs.declared.primary.Primary.{Primary}
 use Rattle.cg_records.specs.declared.vulnerable.Vulnerable.{Vulnerable}
@@ -20,9 +22,8 @@ use Rattle.cg_exchange.specs.PlanEnd.{with_name, usable_names}
 use Rattle.cg_client.specs.Whitening.{white_at}
 use Rattle.cg_client.specs.Calls.{IsLineGreen}
 use Rattle.cg_stored.specs.Stored.{whiten}
-use Rattle.cg_stored.specs.Following.{is_distinct, are_yellow}
+use Rattle.cg_stored.specs.Following.{are_yellow}
 use Rattle.cg_stored.specs.Agreeing.{indexes_of}
-use Rattle.cg_stored.specs.DistinctLaws.{distinct-behind}
 use Rattle.cg_step.specs.Holds.{run_on, cut_behind, CountsTo, Holds}
 use Rattle.cg_step.specs.RunLaws.{run_on-next}
 use Rattle.cg_step.specs.RunMarkLaws.{run-names}

@@ -9,6 +9,7 @@ use Rattle.cg_base.specs.Cuts.{index_in, raise}
 use Rattle.cg_base.specs.Sets.{has, is_within, with_member}
 use Rattle.cg_action.specs.declared.action.Action.{Action}
 use Rattle.cg_action.specs.declared.action.Kind.{Kind}
+use Rattle.cg_queue.specs.Distinct.{is_distinct}
 use Rattle.cg_queue.specs.Queue.{names_of, and_yellow, marked_red, marked_yellow, placed_red, action_of}
 use Rattle.cg_records.specs.declared.primary.Primary.{Primary}
 use Rattle.cg_records.specs.declared.vulnerable.Vulnerable.{Vulnerable}
@@ -42,7 +43,7 @@ use Rattle.cg_construct.specs.Un.{un_on_action}
 use Rattle.cg_step.specs.Step.{on_message, on_transitional, on_regular, take}
 use Rattle.cg_step.specs.Holds.{CountsTo, Holds}
 use Rattle.cg_step.specs.Recorded.{OfMessage, OfDelivery}
-use Rattle.cg_stored.specs.Following.{are_yellow, is_distinct}
+use Rattle.cg_stored.specs.Following.{are_yellow}
 use Rattle.cg_stored.specs.Agreeing.{indexes_of}
 use Rattle.cg_base.specs.IdLaws.{same_id-false}
 use Rattle.cg_queue.specs.MarkLaws.{red-known, red-placed, red-gap}

@@ -17,10 +17,10 @@ ghost use Rattle.cg_store.specs.Opening.{Follows};
 use cg_action::{Action, ActionList};
 use cg_base::{ActionId, IdList, NoMemory};
 use cg_client::Core;
-use cg_queue::is_next;
+use cg_queue::{is_distinct, is_next};
 use cg_records::Stable;
 use cg_step::what_is_held_agrees;
-use cg_stored::{Change, is_distinct, read_change};
+use cg_stored::{Change, read_change};
 use std::alloc::Global;
 
 /// Puts a record into what the replica holds, where it is a change that fits.

@@ -17,6 +17,7 @@ use Rattle.cg_base.specs.Replicas.{every_replica}
 use Rattle.cg_base.specs.SetLaws.{each-replica}
 use Rattle.cg_action.specs.declared.action.Action.{Action}
 use Rattle.cg_action.specs.ActionLimits.{IsAction}
+use Rattle.cg_queue.specs.Distinct.{is_distinct}
 use Rattle.cg_queue.specs.Queue.{green_count, names_of}
 use Rattle.cg_client.specs.Replica.{last_index, created}
 use Rattle.cg_client.specs.ReplicaLaws.{last_index-get}
@@ -24,7 +25,7 @@ use Rattle.cg_records.specs.Limits.{Each, IsIndex, IsName}
 use Rattle.cg_stored.specs.declared.checkpoint.Checkpoint.{Checkpoint}
 use Rattle.cg_stored.specs.Limits.{AreParts}
 use Rattle.cg_stored.specs.Parts.{next_index, red_cut_of, queue_in, stored_in, Fits, is_between_cuts, greens_agree, yellow_agrees, do_agree}
-use Rattle.cg_stored.specs.Following.{is_distinct, are_yellow}
+use Rattle.cg_stored.specs.Following.{are_yellow}
 use Rattle.cg_stored.specs.Agreeing.{indexes_of, counts_up, is_by_name, is_present}
 
 -- ---- red names

@@ -7,8 +7,7 @@ use Rattle.cg_codec.specs.Reading.{Unread, Reading, go_on, ◌>>=◌, done, ende
 use Rattle.cg_records.specs.Reading.{take_number, take_stable}
 use Rattle.cg_stored.specs.declared.checkpoint.Checkpoint.{Checkpoint}
 use Rattle.cg_stored.specs.Reading.{reached_reading, entries_reading, kept_reading, checkpoint_reading}
-use Rattle.cg_stored.specs.Parts.{read_value, Saved, saved_in, saved_of, do_agree, checkpoint_in}
-use Rattle.cg_stored.specs.Laws.{HasGeneration}
+use Rattle.cg_stored.specs.Parts.{read_value, Saved, saved_in, saved_of, do_agree, checkpoint_in, HasGeneration}
 
 -- what holds of all values that the next readings give holds of the last one's
 behind_first : {X Y : Type 0} (P : Y → Type 0) (r : Result (X × Unread) CodecFault) (next : X → Reading Y) →

@@ -7,4 +7,3 @@ mod CheckpointFields
 mod Agreeing
 mod StandingLaws
 mod Generations
-mod Distinct

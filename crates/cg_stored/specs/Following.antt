@@ -1,10 +1,11 @@
 -- What a record makes of what stands on the disk, where it fits.
-use Rattle.std.specs.Prelude.{◌≡◌, suc, ◌==◌, Bool, true, not, ◌&&◌, ◌||◌, List, [], ◌∷◌, ◌++◌, Option, Some, None, fold, option_and_then, if◌then◌else◌}
+use Rattle.std.specs.Prelude.{◌≡◌, suc, ◌==◌, Bool, not, ◌&&◌, ◌||◌, List, [], ◌∷◌, ◌++◌, Option, Some, None, fold, option_and_then, if◌then◌else◌}
 use Rattle.std.specs.List.{list_all}
 use Rattle.cg_base.specs.declared.action_id.ActionId.{ActionId}
 use Rattle.cg_base.specs.Ids.{names}
 use Rattle.cg_base.specs.Cuts.{index_in}
 use Rattle.cg_action.specs.declared.action.Action.{Action}
+use Rattle.cg_queue.specs.Distinct.{is_distinct}
 use Rattle.cg_queue.specs.Queue.{QueueView, names_of, placed_red, action_of}
 use Rattle.cg_records.specs.declared.stable.Stable.{Stable}
 use Rattle.cg_client.specs.Replica.{Held, created}
@@ -42,11 +43,6 @@ make s a = if (a.id.creator == s.id) && (a.id.index == suc (created s)) then Som
 -- the items of a list one after another, as long as each fits
 abbrev pub all_of : {A : Type 0} → (Stored → A → Option Stored) → Option Stored → List A → Option Stored
 all_of go s items = fold (λ now item. option_and_then (λ x. go x item) now) s items
-
--- no name stands in the list twice
-abbrev pub is_distinct : List ActionId → Bool
-is_distinct [] = true
-is_distinct (id ∷ ids) = not (names ids id) && is_distinct ids
 
 -- the yellow names are those of red actions, each once
 abbrev pub are_yellow : QueueView → List ActionId → Bool

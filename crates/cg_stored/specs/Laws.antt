@@ -14,7 +14,7 @@ use Rattle.cg_stored.specs.Stored.{Stored}
 use Rattle.cg_stored.specs.Checkpoint.{spelled_parts, spelled_checkpoint}
 use Rattle.cg_stored.specs.Limits.{IsChange, IsStored, AreParts}
 use Rattle.cg_stored.specs.Reading.{entry_reading}
-use Rattle.cg_stored.specs.Parts.{stored_in, Fits, change_in, Saved, saved_in, checkpoint_in}
+use Rattle.cg_stored.specs.Parts.{stored_in, Fits, change_in, saved_in, checkpoint_in}
 use Rattle.cg_stored.specs.Agreeing.{Agrees}
 
 -- the call gave the one value that the bytes spell; where it gave none they spell none, unless memory was refused
@@ -57,7 +57,3 @@ FindsCheckpoint id bytes (Some p) = (checkpoint_in id bytes ≡ Some (saved_in i
 abbrev pub TakesEntry : {X : Type 0} → (X → List ℕ) → List ℕ → List DbEntry → List DbEntry → Unread → Unread → Result X CodecFault → Type 0
 TakesEntry view last before db old new (Ok key) = (value : Value) × (entry_reading last old ≡ Ok (record { key = view key; value = value }, new)) × (db ≡ put before (view key) value)
 TakesEntry view last before db old new (Err fault) = fault ≢ NoMemory → entry_reading last old ≡ Err fault
-
--- the number is the generation of the checkpoint that the bytes are; where they are none of any replica it says nothing
-abbrev pub HasGeneration : List ℕ → Option ℕ → Type 0
-HasGeneration bytes number = (id : ℕ) (s : Saved) → checkpoint_in id bytes ≡ Some s → number ≡ Some s.generation

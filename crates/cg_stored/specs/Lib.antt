@@ -9,4 +9,3 @@ pub mod Parts
 pub mod Kept
 pub mod NameLaws
 pub mod Laws
-pub mod DistinctLaws

@@ -10,13 +10,13 @@ use Rattle.cg_base.specs.Replicas.{every_replica}
 use Rattle.cg_codec.specs.declared.fault.CodecFault.{CodecFault}
 use Rattle.cg_codec.specs.Reading.{whole}
 use Rattle.cg_action.specs.declared.action.Action.{Action}
+use Rattle.cg_queue.specs.Distinct.{is_distinct}
 use Rattle.cg_queue.specs.Queue.{QueueView, green_count, names_of}
 use Rattle.cg_client.specs.Replica.{created}
 use Rattle.cg_stored.specs.declared.change.Change.{Change}
 use Rattle.cg_stored.specs.declared.checkpoint.Checkpoint.{Checkpoint}
 use Rattle.cg_stored.specs.Stored.{Stored}
 use Rattle.cg_stored.specs.Reading.{change_reading, checkpoint_reading}
-use Rattle.cg_stored.specs.Following.{is_distinct}
 use Rattle.cg_stored.specs.Agreeing.{Agrees, is_present, counts_up, is_by_name, are_own}
 
 -- how far actions are known: the green cut, and the reds behind it
@@ -124,3 +124,7 @@ saved_of id p = if do_agree id p then Some (saved_in id p) else None
 -- the checkpoint of this replica that all of the bytes are, if they are one
 unfoldable pub checkpoint_in : ℕ → List ℕ → Option Saved
 checkpoint_in id bytes = option_and_then (saved_of id) (read_value (whole checkpoint_reading bytes))
+
+-- the number is the generation of the checkpoint that the bytes are; where they are none of any replica it says nothing
+abbrev pub HasGeneration : List ℕ → Option ℕ → Type 0
+HasGeneration bytes number = (id : ℕ) (s : Saved) → checkpoint_in id bytes ≡ Some s → number ≡ Some s.generation

@@ -4,18 +4,17 @@ ghost use Rattle.std.specs.Prelude.{◌≡◌, ◌+◌, ◌==◌, nat_eq, length
 ghost use Rattle.std.specs.List.{list_all};
 ghost use Rattle.std.specs.Cmp.Lexicographic.{pointwise};
 ghost use Rattle.cg_base.specs.Cuts.{raise};
-ghost use Rattle.cg_base.specs.Ids.{names};
 ghost use Rattle.cg_base.specs.Lists.{above_up_to};
 ghost use Rattle.cg_base.specs.Replicas.{every_replica};
 ghost use Rattle.cg_client.specs.Replica.{last_index};
 ghost use Rattle.cg_stored.specs.Parts.{next_index, red_cut_of, queue_in, greens_agree, is_before_first, is_between, yellow_agrees, are_own_between, names_agree, do_agree};
-ghost use Rattle.cg_stored.specs.Following.{is_distinct};
 ghost use Rattle.cg_stored.specs.Agreeing.{indexes_of, count_to, counts_up, is_by_name, is_present};
 
 use crate::Checkpoint;
 use cg_action::Action;
 use cg_base::{ActionId, Cut, IdSet, ReplicaId};
 use cg_members::ServerSet;
+use cg_queue::is_distinct;
 
 impl Checkpoint {
     /// The parts are those of a checkpoint of this replica.
@@ -205,27 +204,6 @@ fn is_before_first(id: &ActionId, actions: &[Action]) -> bool
         Some(a) => id.is_before(&a.id),
         None => true,
     }
-}
-
-/// Each name stands in the list once.
-pub fn is_distinct(ids: &[ActionId]) -> bool
-    ensures { result ≡ is_distinct ids.now }
-{
-    // a name behind all of its creator before it is new: only another is looked for
-    let mut last = Cut::zero();
-    for (place, id) in ids.iter().enumerate() {
-        if id.index <= last.get(id.creator) && has_name(&ids[..place], id) {
-            return false;
-        }
-        last.raise(id.creator, id.index);
-    }
-    true
-}
-
-fn has_name(ids: &[ActionId], id: &ActionId) -> bool
-    ensures { result ≡ names ids.now id.now }
-{
-    ids.iter().any(|other| *id == *other)
 }
 
 // each of the names is behind the first cut and not behind the second

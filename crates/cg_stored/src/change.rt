@@ -30,19 +30,6 @@ pub struct Change {
     pub made: ActionList,
 }
 
-impl Change {
-    /// Puts it at the end.
-    pub fn encode(&self, out: &mut Vec<u8>) -> Result<(), NoMemory>
-        requires { IsChange self.now }
-        ensures ok { OnOk result (out.new.items ≡ out.old.items ++ spelled_change self.now) }
-        ensures err { OnErr result (out.new.items ≡ out.old.items) }
-    {
-        let known = self.known.as_slice();
-        let made = self.made.as_slice();
-        put_change(out, &self.stable, &[], known, self.green.as_slice(), made)
-    }
-}
-
 /// Puts a change at the end, of which the newly known actions are those of two lists, one behind the other. Lists of 2^32
 /// things or more are refused as want of memory.
 pub fn put_change(

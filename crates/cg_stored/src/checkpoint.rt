@@ -2,8 +2,8 @@ ghost use Rattle.std.specs.Prelude.{◌≡◌, IfOk};
 ghost use Rattle.cg_codec.specs.Reading.{whole};
 ghost use Rattle.cg_codec.specs.Taking.{unread_of, TakesWithMemory, Decodes};
 ghost use Rattle.cg_stored.specs.Reading.{kept_reading, checkpoint_reading};
-ghost use Rattle.cg_stored.specs.Parts.{checkpoint_of};
-ghost use Rattle.cg_stored.specs.Laws.{GivesParts, FindsCheckpoint, HasGeneration};
+ghost use Rattle.cg_stored.specs.Parts.{checkpoint_of, HasGeneration};
+ghost use Rattle.cg_stored.specs.Laws.{GivesParts, FindsCheckpoint};
 
 use crate::entries::take_entries;
 use crate::lists::take_actions;

@@ -16,7 +16,7 @@ mod reached;
 mod servers;
 mod writing;
 
-pub use agreement::{count_of, is_distinct};
+pub use agreement::count_of;
 pub use change::{Change, decode_change, put_change, read_change};
 pub use checkpoint::{
     Checkpoint, Kept, Reached, decode_checkpoint, generation_of, read_checkpoint,

@@ -33,8 +33,12 @@ invariant_of-self-2 c =
     let green : c.get-green.result ≡ index_in b.green_cut id.creator = c.get-green.ensures.value in
     let known : id.index ≤ index_in b.red_cut id.creator = subst (λ q. id.index ≤ index_in q.red_cut id.creator) (sym c.self.view_is) c.requires in
     let i : id.index - c.get-green.result - 1 ≡ id.index - index_in b.green_cut id.creator - 1 = omega arith in
-    let made = c.in-Ok.ensures.ok ∙ ap (λ k. flagged (with_name b id) k (id.index - c.get-green.result - 1)) c.lane_of-slot.ensures.value ∙ ap (flagged (with_name b id) (lane_of id)) i in
-    subst IsSound (sym made) (red-named-sound b id c.self.invariant c.lane_of-slot.ensures.creator (omega arith) known)
+    let above : index_in b.green_cut id.creator < id.index = omega arith in
+    let slot = c.lane_of-slot.ensures.value in
+    let flag = c.is_flagged.ensures ∙ ap (λ k. flag_of (slice_get (b.reds k) (id.index - c.get-green.result - 1))) slot ∙ ap (λ j. flag_of (slice_get (b.reds (lane_of id)) j)) i in
+    let none : names (seen b).yellow id ≡ false = sym (red-flag b id c.self.invariant c.lane_of-slot.ensures.creator above known) ∙ sym flag ∙ c.if-is_flagged.false in
+    let made = c.in-Ok.ensures.ok ∙ ap (λ k. flagged (with_name b id) k (id.index - c.get-green.result - 1)) slot ∙ ap (flagged (with_name b id) (lane_of id)) i in
+    subst IsSound (sym made) (red-named-sound b id c.self.invariant c.lane_of-slot.ensures.creator above known none)
 
 pub returns-clause-ok : goal.returns-clause-ok
 returns-clause-ok c =

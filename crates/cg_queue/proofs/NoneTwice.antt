@@ -8,7 +8,7 @@ use Rattle.cg_base.specs.IdLaws.{same_id-is, same_id-back}
 use Rattle.cg_base.specs.Cuts.{index_in, raise}
 use Rattle.cg_base.specs.CutLimits.{IsCut}
 use Rattle.cg_base.specs.CutLaws.{index_in-raise}
-use Rattle.cg_stored.specs.Following.{is_distinct}
+use Rattle.cg_queue.specs.Distinct.{is_distinct}
 
 -- no name is beyond its creator's in the cut
 abbrev pub AreBehind : List ActionId → List ActionId → Type 0
@@ -69,13 +69,13 @@ not_distinct (x ∷ ids) rest id known = elim (cases_Bool (same_id id x)) [
     none true b e = e
     none false b e = refl
 
--- the list around the name at a place
-pub placed : (place : ℕ) (ids : List ActionId) (id : ActionId) → place < length ids → id ≡ slice_index_or ids place id → take place ids ++ id ∷ drop (suc place) ids ≡ ids
-placed place [] id within is = absurd (omega arith)
+-- the list around the name at an index
+pub placed : (i : ℕ) (ids : List ActionId) (id : ActionId) → i < length ids → id ≡ slice_index_or ids i id → take i ids ++ id ∷ drop (suc i) ids ≡ ids
+placed i [] id within is = absurd (omega arith)
 placed zero (x ∷ ids) id within is = ap (λ y. y ∷ ids) is
-placed (suc place) (x ∷ ids) id within is = ap (λ rest. x ∷ rest) (placed place ids id (omega arith) is)
+placed (suc i) (x ∷ ids) id within is = ap (λ rest. x ∷ rest) (placed i ids id (omega arith) is)
 
-pub taken-next : (place : ℕ) (ids : List ActionId) (id : ActionId) → place < length ids → id ≡ slice_index_or ids place id → take place ids ++ id ∷ [] ≡ take (suc place) ids
-taken-next place [] id within is = absurd (omega arith)
+pub taken-next : (i : ℕ) (ids : List ActionId) (id : ActionId) → i < length ids → id ≡ slice_index_or ids i id → take i ids ++ id ∷ [] ≡ take (suc i) ids
+taken-next i [] id within is = absurd (omega arith)
 taken-next zero (x ∷ ids) id within is = ap (λ y. y ∷ []) is
-taken-next (suc place) (x ∷ ids) id within is = ap (λ rest. x ∷ rest) (taken-next place ids id (omega arith) is)
+taken-next (suc i) (x ∷ ids) id within is = ap (λ rest. x ∷ rest) (taken-next i ids id (omega arith) is)

@@ -1,7 +1,0 @@
-use Rattle.std.proofs.Common.{◌≡◌, fold, take, []}
-use Rattle.cg_queue.specs.Answers.{AreReds}
-use Rattle.cg_exchange.specs.PlanEnd.{with_name}
-use Rattle.cg_exchange.proofs.plan_end.usable_names.Given as goal
-
-abbrev pub invariant-loop-id : goal.invariant-loop-id
-invariant-loop-id l = (l.list ≡ fold (with_name l.core.queue) [] (take l.id-index l.ids)) × AreReds l.core.queue l.list
