@@ -1,11 +1,11 @@
--- How fields are read from the left: the value and what is left behind it, or the first fault with its place.
+-- How fields are read from the left: the value and what is left behind it, or the first fault with its offset.
 use Rattle.std.specs.Prelude.{ℕ, zero, suc, ◌+◌, Bool, nat_lt, nat_le, ◌==◌, ◌&&◌, if◌then◌else◌, List, [], ◌∷◌, ◌++◌, length, take, drop, ℤ, Option, Some, None, Result, Ok, Err}
 use Rattle.std.specs.Int.{Width, w32, w64, byte_len, from_be_bytes, cast_signed}
 use Rattle.std.specs.Str.{is_utf8}
 use Rattle.cg_codec.specs.declared.fault.CodecFault.{CodecFault}
 use Rattle.cg_codec.specs.declared.fault.CodecFault.TheVariants.{Short, Bad, Rest}
 
--- the bytes that are still to be read, and the place of the first of them
+-- the bytes that are still to be read, and the offset of the first of them
 pub record Unread : Type 0 where
   pub at : ℕ
   pub bytes : List ℕ
@@ -79,7 +79,7 @@ take_truth left = (only (λ n. nat_lt n 2) take_u8 >>= λ n. done (n == 1)) left
 unfoldable pub take_count : ℕ → Reading ℕ
 take_count max left = only (λ n. nat_le n max) take_u32 left
 
--- the next n bytes as a text, in a field that begins at a place
+-- the next n bytes as a text, in a field that begins at an offset
 abbrev pub text_bytes : ℕ → ℕ → Reading (List ℕ)
 text_bytes at n left =
     if nat_lt (length left.bytes) n then Err (Short at)

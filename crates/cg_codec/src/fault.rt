@@ -11,13 +11,13 @@ use thiserror::Error;
 /// Places count from 0, over all the bytes that the reader was made of.
 #[derive(Clone, Copy, Debug, PartialEq, Eq, Error)]
 pub enum CodecFault {
-    /// The bytes end in the field whose first byte is at this place.
+    /// The bytes end in the field whose first byte is at this offset.
     #[error("the bytes end in the field at {at}")]
     Short { at: u64 },
-    /// The field whose first byte is at this place has no such value.
+    /// The field whose first byte is at this offset has no such value.
     #[error("the field at {at} has no such value")]
     Bad { at: u64 },
-    /// Bytes follow the last field. The first of them is at this place.
+    /// Bytes follow the last field. The first of them is at this offset.
     #[error("bytes follow the last field, from {at} on")]
     Rest { at: u64 },
     /// Memory was refused, which says nothing of the bytes.

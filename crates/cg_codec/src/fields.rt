@@ -16,7 +16,7 @@ fn text_of(bytes: &[u8]) -> Option<&str>
     }
 }
 
-/// A reader of the fields that bytes hold, from the left. It can be copied, to come back to a place.
+/// A reader of the fields that bytes hold, from the left. It can be copied, to come back to an offset.
 #[derive(Clone, Copy, Debug)]
 pub struct Fields<'a> {
     rest: &'a [u8],

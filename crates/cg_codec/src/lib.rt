@@ -2,7 +2,7 @@
 //!
 //! Each value has one spelling, which `specs/Fields.antt` defines. Reading is a function of the bytes
 //! that are left, in `specs/Reading.antt`: the value and what is behind it, or the first fault with its
-//! place. A reader gives exactly that, and stays where it was after a fault.
+//! offset. A reader gives exactly that, and stays where it was after a fault.
 //! Which values a field may have, beyond a text's length, is left to those who read it.
 #![tactic(auto)]
 

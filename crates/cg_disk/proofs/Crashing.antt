@@ -35,6 +35,6 @@ module _ (a b : SideState) (calls faults begun : ℕ) (points : List SyncPoint) 
         faults = same_faults;
       }
 
--- what is left of the fill behind the places that it filled
+-- what is left of the fill behind the offsets that it filled
 pub rest_of_fill : (used count : ℕ) (fill : List ℕ) → used ≡ min count (length fill) → take (length fill - used) (drop used fill) ≡ drop count fill
 rest_of_fill used count fill is = take_all (length fill - used) (drop used fill) (omega (arith, length-drop used fill)) ∙ ap (λ n. drop n fill) is ∙ drop_min count fill

@@ -1,11 +1,11 @@
--- Filling a side in place: which bytes stand there once the places below one have been gone through.
+-- Filling a side in place: which bytes stand there once the offsets below one have been gone through.
 use Rattle.std.proofs.Common.{◌≡◌, ℕ, ◌+◌, ◌-◌, ◌≤◌, ◌<◌, true, false, List, [], ◌∷◌, ◌++◌, length, get_or, set, take, drop, refl, sym, ◌∙◌, ap, subst, append_assoc, take-append-drop, length-append, length-drop, arith}
 use Rattle.std.proofs.lemmas.List.{drop_more, drop_all, drop-drop, drop-set-lt, take_more, take_more_set, length-set, append-nil, get_or-drop, get_or-append_right}
 use Rattle.cg_disk.specs.State.{SideState, is_unsynced, filled_from, filled}
 use Rattle.cg_disk.proofs.Images.{fill_kept, fill_next, fill_old, fill_ends}
 use Rattle.cg_disk.proofs.Untouched.{Untouched, filled_past, filled_rest}
 
--- the places below one are filled, by so many bytes of the fill, and from there on the side is as it was
+-- the offsets below one are filled, by so many bytes of the fill, and from there on the side is as it was
 pub record FilledBelow (s : SideState) (fill : List ℕ) (place used : ℕ) (left : List ℕ) : Type 0 where
   pub same : take place left ++ filled_from s place (drop place s.seen) (drop used fill) ≡ filled s fill
   pub rest : drop place left ≡ drop place s.seen
@@ -52,7 +52,7 @@ module _ (s : SideState) (fill : List ℕ) (place used : ℕ) (left : List ℕ) 
       size = below.size;
     }
 
-    -- the place gets another byte
+    -- another byte stands at the offset
     set_same : (x : ℕ) (rest' : List ℕ) → filled_from s place (drop place s.seen) (drop used fill) ≡ x ∷ rest' → take (place + 1) (set left place x) ++ rest' ≡ filled s fill
     set_same x rest' next = one_byte (take place left) (take (place + 1) (set left place x)) _ rest' (filled s fill) x below.same next (take_more_set left place x at_hand)
 
@@ -89,7 +89,7 @@ module _ (s : SideState) (fill : List ℕ) (place used : ℕ) (left : List ℕ) 
             ∙ ap (λ (l : List ℕ). take place left ++ l) (sym (ap (λ (l : List ℕ). filled_from s place (drop place s.seen) l) spent ∙ fill_ends s place s.seen inside past written))
             ∙ below.same
 
--- the old bytes from a place on tell those of the whole
+-- the old bytes from an offset on tell those of the whole
 pub old_at : (front old all : List ℕ) (from place : ℕ) → front ++ old ≡ all → length front ≡ from → from ≤ place → (length all ≡ from + length old) × (get_or all place 0 ≡ get_or old (place - from) 0)
 old_at front old all from place is size above =
     (omega (arith, ap length is, length-append front old), ap (λ (l : List ℕ). get_or l place 0) (sym is) ∙ get_or-append_right front old from place 0 size above)

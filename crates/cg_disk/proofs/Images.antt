@@ -6,7 +6,7 @@ use Rattle.std.proofs.lemmas.List.{ext_get_or, drop_more}
 use Rattle.std.proofs.lemmas.Option.{slice_get_cases, slice_get-get_or, slice_get_past}
 use Rattle.cg_disk.specs.State.{SideState, LeavesSide, is_unsynced, fill_place, filled_from, filled}
 
--- what the bytes from a place on come to
+-- what the bytes from an offset on come to
 record FromPlace (s : SideState) (place : ℕ) (seen c : List ℕ) : Type 0 where
   no_shorter : length s.old ≤ place + length seen → length s.old ≤ place + length c
   no_longer : length c ≤ length seen
@@ -23,7 +23,7 @@ one_more s place x seen c rest = record {
     places zero inside free = refl
     places (suc k) inside free = rest.same k (omega arith) (let e : suc place + k ≡ place + suc k = omega arith in ap (is_unsynced s.unsynced) e ∙ free)
 
--- a place that keeps a byte
+-- an offset that keeps a byte
 byte_kept : (s : SideState) (place x : ℕ) (seen c : List ℕ) → (is_unsynced s.unsynced place ≡ false → ⊥) → (byte : ℕ) → FromPlace s (suc place) seen c → FromPlace s place (x ∷ seen) (byte ∷ c)
 byte_kept s place x seen c written byte rest = record {
   no_shorter = λ h. omega (arith, rest.no_shorter);
@@ -65,12 +65,12 @@ filled_leaves s fill grown =
 pub seen_leaves : (s : SideState) → length s.old ≤ length s.seen → LeavesSide s s.seen
 seen_leaves s grown = record { no_shorter = grown; no_longer = omega arith; same = λ k inside free. refl }
 
--- with no unsynced place there is no other
+-- with no unsynced offset there is no other
 pub only_seen : (s : SideState) (c : List ℕ) → s.unsynced ≡ [] → s.old ≡ s.seen → LeavesSide s c → c ≡ s.seen
 only_seen s c none same left =
     ext_get_or 0 c s.seen (let e = ap length same in omega (arith, left.no_shorter, left.no_longer, e)) (λ k inside. left.same k inside (ap (λ ranges. is_unsynced ranges k) none))
 
--- one place more of what a fill leaves
+-- one offset more of what a fill leaves
 module _ (s : SideState) (place : ℕ) (seen : List ℕ) (inside : place < length seen) where
   opened : (fill : List ℕ) → filled_from s place (drop place seen) fill ≡ filled_from s place (get_or seen place 0 ∷ drop (place + 1) seen) fill
   opened fill = ap (λ (l : List ℕ). filled_from s place l fill) (drop_more seen place 0 inside)

@@ -1,4 +1,4 @@
--- The unsynced places of a side, in whatever order its writes are kept.
+-- The unsynced offsets of a side, in whatever order its writes are kept.
 use Rattle.std.proofs.Common.{◌≡◌, ℕ, suc, ◌+◌, ◌≤◌, ◌<◌, All, Bool, true, false, ◌||◌, ◌&&◌, nat_le, nat_lt, List, [], ◌∷◌, ◌++◌, length, drop, reverse, refl, sym, ◌∙◌, ap, arith}
 use Rattle.std.specs.Bool.{if◌then◌else◌}
 use Rattle.std.proofs.lemmas.Bool.Decides.{nat_tests}
@@ -40,7 +40,7 @@ among_reverse (x ∷ xs) place =
 pub count_step : (s : SideState) (place : ℕ) (seen : List ℕ) → place < length seen → unsynced_from s place (drop place seen) ≡ (if is_unsynced s.unsynced place then 1 else 0) + unsynced_from s (place + 1) (drop (place + 1) seen)
 count_step s place seen inside = ap (unsynced_from s place) (drop_more seen place 0 inside) ∙ ap (λ n. (if is_unsynced s.unsynced place then 1 else 0) + unsynced_from s n (drop (place + 1) seen)) (let e : suc place ≡ place + 1 = omega arith in e)
 
--- below the lowest place of the writes none is unsynced
+-- below the lowest offset of the writes none is unsynced
 outside : (place from : ℕ) (count : ℕ) → place < from → (nat_le from place && nat_lt place (from + count)) ≡ false
 outside place from count below = grind (arith, nat_tests)
 

@@ -7,7 +7,7 @@ use Rattle.cg_disk.specs.State.{Range, SideState, LeavesSide, is_unsynced, wrote
 use Rattle.cg_disk.specs.Writes.{Torn, overwritten}
 use Rattle.cg_disk.proofs.Undoing.{take_overwritten, drop_overwritten, length-overwritten}
 
--- a place in a new range, or not
+-- an offset in a new range, or not
 out_of_range : (from to k : ℕ) (ranges : List Range) → (k < from) ⊎ (to ≤ k) → is_unsynced ranges k ≡ false → is_unsynced (record { from = from; to = to } ∷ ranges) k ≡ false
 out_of_range from to k ranges (inl below) free = grind (arith, nat_tests)
 out_of_range from to k ranges (inr above) free = grind (arith, nat_tests)

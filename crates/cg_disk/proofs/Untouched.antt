@@ -8,7 +8,7 @@ use Rattle.cg_disk.specs.Undo.{ranges, side_after}
 use Rattle.cg_disk.specs.declared.written.Written.{Written}
 use Rattle.cg_disk.proofs.Places.{among_reverse, none_below}
 
--- no place of these, so many from one on, was written
+-- no offset of these, so many from one on, was written
 abbrev pub Untouched : SideState → ℕ → ℕ → Type 0
 Untouched s place count = (k : ℕ) → place ≤ k → k < place + count → is_unsynced s.unsynced k ≡ false
 
@@ -49,7 +49,7 @@ unsynced_rest s place seen free =
     unsynced_past s place (length seen) seen free
     ∙ ap (λ (l : List ℕ). unsynced_from s (place + length seen) l) (drop_all (length seen) seen (omega arith))
 
--- below the lowest place of its writes a side is untouched, and so it is from their highest end on
+-- below the lowest offset of its writes a side is untouched, and so it is from their highest end on
 pub untouched_below : (bytes : List ℕ) (writes : List Written) (from : ℕ) → All (λ w. from ≤ w.place) writes → Untouched (side_after bytes (reverse writes)) 0 from
 untouched_below bytes writes from above k low below = among_reverse writes k ∙ none_below writes from k above (omega arith)
 

@@ -1,4 +1,4 @@
--- What a disk that tells its state tells of it: what it held at the last sync, the places written since, and the call
+-- What a disk that tells its state tells of it: what it held at the last sync, the offsets written since, and the call
 -- that is to be struck next.
 use Rattle.std.specs.Prelude.{◌≡◌, ℕ, suc, ◌+◌, ◌≤◌, ◌<◌, ◌==◌, Bool, false, nat_le, nat_lt, ◌&&◌, List, [], ◌∷◌, length, drop, Option, Some, None, slice_get, slice_index, if◌then◌else◌}
 use Rattle.std.specs.List.{list_any}
@@ -7,7 +7,7 @@ use Rattle.cg_disk.specs.Writes.{overwritten}
 use Rattle.cg_disk.specs.declared.disk.Side.{Side}
 use Rattle.cg_disk.specs.declared.disk.Side.TheVariants.{A, B}
 
--- places in a row, the last one left out
+-- offsets in a row, the last one left out
 pub record Range : Type 0 where
   pub from : ℕ
   pub to : ℕ
@@ -38,11 +38,11 @@ pub record DiskState : Type 0 where
 abbrev pub shown : DiskState → Image
 shown d = record { a = d.a.seen; b = d.b.seen }
 
--- the place was written since the last sync
+-- the offset was written since the last sync
 abbrev pub is_unsynced : List Range → ℕ → Bool
 is_unsynced ranges place = list_any (λ r. nat_le r.from place && nat_lt place r.to) ranges
 
--- a crash may leave this of a side: any bytes in the unsynced places, and any end from the old one on
+-- a crash may leave this of a side: any bytes at the unsynced offsets, and any end from the old one on
 pub record LeavesSide (s : SideState) (c : List ℕ) : Type 0 where
   pub no_shorter : length s.old ≤ length c
   pub no_longer : length c ≤ length s.seen
@@ -53,13 +53,13 @@ pub record Leaves (a b : SideState) (c : Image) : Type 0 where
   pub on_a : LeavesSide a c.a
   pub on_b : LeavesSide b c.b
 
--- one unsynced place gets the next byte of the fill; without one its old byte stays, and without that the side ends
+-- one unsynced offset gets the next byte of the fill; without one its old byte stays, and without that the side ends
 abbrev pub fill_place : List ℕ → Option ℕ → (List ℕ → List ℕ) → List ℕ
 fill_place (byte ∷ fill) old rest = byte ∷ rest fill
 fill_place [] (Some byte) rest = byte ∷ rest []
 fill_place [] None rest = []
 
--- the bytes of a side from a place on after a crash: the fill in the unsynced places, elsewhere what a read gives
+-- the bytes of a side from an offset on after a crash: the fill at the unsynced offsets, elsewhere what a read gives
 abbrev pub filled_from : SideState → ℕ → List ℕ → List ℕ → List ℕ
 filled_from s place [] fill = []
 filled_from s place (byte ∷ seen) fill =
@@ -70,7 +70,7 @@ filled_from s place (byte ∷ seen) fill =
 abbrev pub filled : SideState → List ℕ → List ℕ
 filled s fill = filled_from s 0 s.seen fill
 
--- how many places from one on are unsynced
+-- how many offsets from one on are unsynced
 abbrev pub unsynced_from : SideState → ℕ → List ℕ → ℕ
 unsynced_from s place [] = 0
 unsynced_from s place (byte ∷ seen) = (if is_unsynced s.unsynced place then 1 else 0) + unsynced_from s (suc place) seen

@@ -12,7 +12,7 @@ abbrev pub undone : List ℕ → List Written → List ℕ
 undone bytes [] = bytes
 undone bytes (w ∷ writes) = undone (undo w bytes) writes
 
--- the places of these writes
+-- the offsets of these writes
 abbrev pub ranges : List Written → List Range
 ranges writes = map (λ w. record { from = w.place; to = w.place + w.count }) writes
 

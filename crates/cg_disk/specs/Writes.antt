@@ -3,11 +3,11 @@ use Rattle.std.specs.Prelude.{◌≡◌, ℕ, ◌+◌, ◌≤◌, max, List, ◌
 use Rattle.cg_disk.specs.Sides.{Image, bytes_of, opposite}
 use Rattle.cg_disk.specs.declared.disk.Side.{Side}
 
--- these bytes over the old ones from a place on, and past their end
+-- these bytes over the old ones from an offset on, and past their end
 abbrev pub overwritten : List ℕ → ℕ → List ℕ → List ℕ
 overwritten old place bytes = take place old ++ bytes ++ drop (place + length bytes) old
 
--- a write of some bytes at a place that a crash cuts short: any bytes in its range and past the old end, the same elsewhere
+-- a write of some bytes at an offset that a crash cuts short: any bytes in its range and past the old end, the same elsewhere
 pub record Torn (place count : ℕ) (old new : List ℕ) : Type 0 where
   pub before : take place new ≡ take place old
   pub after : drop (place + count) new ≡ drop (place + count) old

@@ -5,7 +5,7 @@ ghost use Rattle.cg_disk.specs.Writes.{overwritten};
 use cg_base::NoMemory;
 use std::alloc::Global;
 
-/// Writes over the bytes from a place on, and past their end.
+/// Writes over the bytes from an offset on, and past their end.
 pub fn overwrite(bytes: &mut Vec<u8>, place: usize, new: &[u8]) -> Result<(), NoMemory>
     requires { place ≤ length bytes.old.items }
     ensures ok { OnOk result (bytes.new.items ≡ overwritten bytes.old.items place new.now) }
@@ -18,7 +18,7 @@ pub fn overwrite(bytes: &mut Vec<u8>, place: usize, new: &[u8]) -> Result<(), No
     Ok(())
 }
 
-/// The bytes that a write of this many at a place writes over.
+/// The bytes that a write of this many at an offset writes over.
 pub fn written_over(
     alloc: Global,
     bytes: &[u8],
@@ -32,7 +32,7 @@ pub fn written_over(
     Ok(Vec::from_slice(alloc, &bytes[place..place + over])?)
 }
 
-/// Puts other bytes in place of so many from a place on, or of those that there are.
+/// Puts other bytes in place of so many from an offset on, or of those that there are.
 pub fn substitute(
     alloc: Global,
     bytes: &mut Vec<u8>,

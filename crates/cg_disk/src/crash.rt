@@ -7,7 +7,7 @@ use crate::written::{Written, before_writes, highest_end, is_among, lowest_place
 use cg_base::NoMemory;
 use std::alloc::Global;
 
-/// The bytes after a crash with this fill. They stay where they are, and the places from the lowest to the highest written
+/// The bytes after a crash with this fill. They stay where they are, and the offsets from the lowest to the highest written
 /// one alone are gone through.
 pub fn bytes_left(
     alloc: Global,

@@ -40,7 +40,7 @@ pub trait Disk {
         ensures images { HasImages (view self.new) }
         ensures no_memory { IsErrOf result DiskFault.NoMemory → ⊥ };
 
-    /// The bytes of a side from a place on, as many as the buffer has.
+    /// The bytes of a side from an offset on, as many as the buffer has.
     fn read(&mut self, side: Side, place: u64, buf: &mut [u8]) -> Result<(), DiskFault>
         requires calls { (view self.old).time < 2 ^ 62 }
         requires inside { place + length buf.old ≤ length (bytes_of side (view self.old).reads) }

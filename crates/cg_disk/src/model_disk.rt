@@ -77,9 +77,9 @@ impl ModelDisk {
         self.calls
     }
 
-    /// The disk after a crash. The fill goes into the places that were written since the last sync, side A before
-    /// side B, ascending on each; what is left of it isn't used. Where it ends old bytes stay, and a place without one
-    /// ends its side. On each side only the places from the lowest to the highest of those are gone through, and the bytes
+    /// The disk after a crash. The fill goes to the offsets that were written since the last sync, side A before
+    /// side B, ascending on each; what is left of it isn't used. Where it ends old bytes stay, and an offset without one
+    /// ends its side. On each side only the offsets from the lowest to the highest of those are gone through, and the bytes
     /// move.
     pub fn image(self, fill: &[u8]) -> Result<ModelDisk, NoMemory>
         ensures { IfOk result (λ disk. IsCrashed fill.now (⟦<ModelDisk as Disk>⟧.view self) (⟦<ModelDisk as Disk>⟧.view disk)) }

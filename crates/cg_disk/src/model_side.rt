@@ -54,7 +54,7 @@ impl ModelSide {
         }
     }
 
-    /// How many places were written since the last sync.
+    /// How many offsets were written since the last sync.
     pub fn unsynced_places(&self) -> usize
         ensures { result ≡ unsynced_from (side_of self.now) 0 self.now.bytes.items }
     {

@@ -15,7 +15,7 @@ pub struct Written {
     pub before: Vec<u8>,
 }
 
-/// The bytes from a place on before these writes, none of which is below it. The newest comes last.
+/// The bytes from an offset on before these writes, none of which is below it. The newest comes last.
 pub fn before_writes(
     alloc: Global,
     bytes: &[u8],
@@ -36,7 +36,7 @@ pub fn before_writes(
     Ok(old)
 }
 
-/// Whether one of these writes has written this place.
+/// Whether one of these writes has written at this offset.
 pub fn is_among(writes: &[Written], place: usize) -> bool
     ensures { result ≡ is_unsynced (ranges writes.now) place }
 {
@@ -48,7 +48,7 @@ pub fn is_among(writes: &[Written], place: usize) -> bool
     false
 }
 
-/// The lowest place at which one of these writes begins, or the limit where that is lower.
+/// The lowest offset at which one of these writes begins, or the limit where that is lower.
 pub fn lowest_place(writes: &[Written], limit: usize) -> usize
     ensures within { result ≤ limit }
     ensures above { All (λ w. result ≤ w.place) writes.now }
@@ -60,7 +60,7 @@ pub fn lowest_place(writes: &[Written], limit: usize) -> usize
     lowest
 }
 
-/// The highest place at which one of these writes ends, or the limit where that is lower.
+/// The highest offset at which one of these writes ends, or the limit where that is lower.
 pub fn highest_end(writes: &[Written], limit: usize) -> usize
     ensures within { result ≤ limit }
     ensures none { (k : ℕ) → result ≤ k → k < limit → is_unsynced (ranges writes.now) k ≡ false }

@@ -22,3 +22,4 @@ pub mod LogsFacts
 pub mod OrderFacts
 pub mod RoomFacts
 pub mod SettledFacts
+pub mod TurnFacts

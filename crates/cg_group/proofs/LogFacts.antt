@@ -13,6 +13,7 @@ use Rattle.cg_group.specs.declared.placed.Placed.{Placed}
 use Rattle.cg_group.specs.State.{Configuration, Sent, no_configuration, changed_at, has_received}
 use Rattle.cg_group.specs.Events.{with_message, with_receipt}
 use Rattle.cg_group.specs.Ready.{all_received, ready_in}
+use Rattle.cg_group.specs.Refusals.{sender_at}
 use Rattle.cg_group.specs.Logs.{sent_of, configuration_of}
 
 module _ {X Y : Type 0} where
@@ -66,35 +67,35 @@ module _ {X : Type 0} where
   changed_at-none change (x ∷ xs) = ap (λ z. x ∷ z) (changed_at-none change xs)
 
 module _ {M : Type 0} where
-  -- a member more among those who have received
-  abbrev pub marked : ℕ → Placed M → Placed M
-  marked p x = record x { received = with_member x.received p }
+  -- a member more among those who have received, and so many of them in turn
+  abbrev pub marked : ℕ → List ℕ → Placed M → Placed M
+  marked p turn x = record x { received = with_member x.received p; in_turn = turn }
 
   pub configuration_of-appended : (members : List ℕ) (ordered : List (Placed M)) (p : ℕ) (m : M) (x : Placed M) →
-      x ≡ record { from = p; message = m; received = p ∷ [] } →
+      x ≡ record { from = p; message = m; received = p ∷ []; in_turn = [] } →
       configuration_of members (ordered ++ x ∷ []) ≡ with_message (configuration_of members ordered) p m
   unfolding with_message
   configuration_of-appended members ordered p m x e = rw (e, map-append, map-append) refl
 
-  pub configuration_of-marked : (members : List ℕ) (ordered : List (Placed M)) (p place : ℕ) →
-      configuration_of members (changed_at (marked p) ordered place) ≡ with_receipt (configuration_of members ordered) p place
+  pub configuration_of-marked : (members : List ℕ) (ordered : List (Placed M)) (p place : ℕ) (turn : List ℕ) →
+      configuration_of members (changed_at (marked p turn) ordered place) ≡ with_receipt (configuration_of members ordered) p place
   unfolding with_receipt
-  configuration_of-marked members ordered p place =
+  configuration_of-marked members ordered p place turn =
       ap₂ (λ (o : List (Sent M)) (r : List (List ℕ)). let c : Configuration M = record { members = members; ordered = o; received = r } in c)
-      (map-changed_at_same sent_of (marked p) (λ x. refl) ordered place)
-      (map-changed_at (λ (x : Placed M). x.received) (marked p) (λ set. with_member set p) (λ x. refl) ordered place)
+      (map-changed_at_same sent_of (marked p turn) (λ x. refl) ordered place)
+      (map-changed_at (λ (x : Placed M). x.received) (marked p turn) (λ set. with_member set p) (λ x. refl) ordered place)
 
-  pub configuration_of-set : (members : List ℕ) (ordered : List (Placed M)) (p i : ℕ) (x d : Placed M) → i < length ordered →
-      x ≡ record (get_or ordered i d) { received = with_member (get_or ordered i d).received p } →
+  pub configuration_of-set : (members : List ℕ) (ordered : List (Placed M)) (p i : ℕ) (turn : List ℕ) (x d : Placed M) → i < length ordered →
+      x ≡ marked p turn (get_or ordered i d) →
       configuration_of members (set ordered i x) ≡ with_receipt (configuration_of members ordered) p (suc i)
-  configuration_of-set members ordered p i x d lt e =
+  configuration_of-set members ordered p i turn x d lt e =
       ap (λ z. configuration_of members (set ordered i z)) e
-      ∙ ap (configuration_of members) (set-changed_at (marked p) ordered i d lt) ∙ configuration_of-marked members ordered p (suc i)
+      ∙ ap (configuration_of members) (set-changed_at (marked p turn) ordered i d lt) ∙ configuration_of-marked members ordered p (suc i) turn
 
   pub with_receipt-beyond : (members : List ℕ) (ordered : List (Placed M)) (p place : ℕ) → length ordered < place →
       configuration_of members ordered ≡ with_receipt (configuration_of members ordered) p place
   with_receipt-beyond members ordered p place lt =
-      sym (ap (configuration_of members) (changed_at-beyond (marked p) ordered place lt)) ∙ configuration_of-marked members ordered p place
+      sym (ap (configuration_of members) (changed_at-beyond (marked p []) ordered place lt)) ∙ configuration_of-marked members ordered p place []
 
   pub with_receipt-none : (c : Configuration M) (p : ℕ) → c ≡ with_receipt c p 0
   unfolding with_receipt
@@ -107,6 +108,14 @@ module _ {M : Type 0} where
       ap (λ o. option_map_or (λ set. has set p) o false) (at_place-map (λ (x : Placed M). x.received) ordered place) ∙ by_option (at_place ordered place)
     where
       by_option : (o : Option (Placed M)) → option_map_or (λ set. has set p) (option_map (λ (x : Placed M). x.received) o) false ≡ option_map_or (λ (x : Placed M). has x.received p) o false
+      by_option None = refl
+      by_option (Some x) = refl
+
+  pub sender_at-at : (members : List ℕ) (ordered : List (Placed M)) (place : ℕ) →
+      sender_at (configuration_of members ordered) place ≡ option_map_or (λ x. x.from) (at_place ordered place) 0
+  sender_at-at members ordered place = ap (λ o. option_map_or (λ s. s.from) o 0) (at_place-map sent_of ordered place) ∙ by_option (at_place ordered place)
+    where
+      by_option : (o : Option (Placed M)) → option_map_or (λ s. s.from) (option_map sent_of o) 0 ≡ option_map_or (λ (x : Placed M). x.from) o 0
       by_option None = refl
       by_option (Some x) = refl
 

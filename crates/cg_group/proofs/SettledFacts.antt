@@ -30,7 +30,7 @@ with_member-there low (q ∷ set) p ascends there = ⊎_elim
     with_member-later q set p (omega (arith, above.0)) ∙ ap (λ z. q ∷ z) (with_member-there (suc q) set p ascends.2 rest))
     (cases_eq q p)
 
-has_itself : (p : ℕ) → has (p ∷ []) p ≡ true
+pub has_itself : (p : ℕ) → has (p ∷ []) p ≡ true
 has_itself p = rw (eq-eqb p p refl) refl
 
 -- one more who has received leaves the members among them
@@ -79,14 +79,14 @@ fold-skip f x (suc k) to le same =
 
 module _ {X : Type 0} where
   -- an element of a list with one more behind it
-  slice_get_pushed : (xs : List X) (x y : X) (i : ℕ) → slice_get (xs ++ x ∷ []) i ≡ Some y → (slice_get xs i ≡ Some y) ⊎ (x ≡ y)
+  pub slice_get_pushed : (xs : List X) (x y : X) (i : ℕ) → slice_get (xs ++ x ∷ []) i ≡ Some y → (slice_get xs i ≡ Some y) ⊎ (x ≡ y)
   slice_get_pushed [] x y zero e = inr (let same : x ≡ y = cc in same)
   slice_get_pushed [] x y (suc i) e = inl e
   slice_get_pushed (z ∷ xs) x y zero e = inl e
   slice_get_pushed (z ∷ xs) x y (suc i) e = slice_get_pushed xs x y i e
 
   -- an element of a list in which one was written
-  slice_get_set : (xs : List X) (k i : ℕ) (x y : X) → slice_get (set xs k x) i ≡ Some y → (slice_get xs i ≡ Some y) ⊎ ((k ≡ i) × (x ≡ y))
+  pub slice_get_set : (xs : List X) (k i : ℕ) (x y : X) → slice_get (set xs k x) i ≡ Some y → (slice_get xs i ≡ Some y) ⊎ ((k ≡ i) × (x ≡ y))
   slice_get_set [] k i x y e = inl e
   slice_get_set (z ∷ xs) zero zero x y e = inr (refl, (let same : x ≡ y = cc in same))
   slice_get_set (z ∷ xs) zero (suc i) x y e = inl e
@@ -112,7 +112,7 @@ module _ {M : Type 0} where
         (cases_lt i n);
   }
 
-  slice_get-front : (xs : List (Placed M)) (x : Placed M) (i : ℕ) → i < length xs → slice_get (xs ++ x ∷ []) i ≡ slice_get xs i
+  pub slice_get-front : (xs : List (Placed M)) (x : Placed M) (i : ℕ) → i < length xs → slice_get (xs ++ x ∷ []) i ≡ slice_get xs i
   slice_get-front [] x i lt = absurd (omega arith)
   slice_get-front (y ∷ xs) x zero lt = refl
   slice_get-front (y ∷ xs) x (suc i) lt = slice_get-front xs x i (omega arith)

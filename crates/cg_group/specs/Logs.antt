@@ -1,7 +1,7 @@
 -- How a configuration lies in memory.
 use Rattle.std.specs.Prelude.{◌≡◌, ℕ, ◌≤◌, ◌<◌, ◌-◌, suc, true, slice_get, length, List, [], ◌∷◌, map, fold, find, Option, Some, is_none}
 use Rattle.cg_base.specs.Lists.{at_place, above_up_to, first_some}
-use Rattle.cg_base.specs.Sets.{IsSet, is_within}
+use Rattle.cg_base.specs.Sets.{IsSet, has, is_within}
 use Rattle.std.specs.Option.{option_map}
 use Rattle.cg_group.specs.declared.placed.Placed.{Placed}
 use Rattle.cg_group.specs.State.{Configuration, Sent, Standing, GroupState, has_received}
@@ -34,6 +34,11 @@ module _ {M : Type 0} where
   -- at each slot is counted how many of the first places the replica has received, whose number is one above the slot's
   abbrev pub AreFronts : List (Placed M) → List ℕ → Type 0
   AreFronts ordered fronts = (slot n : ℕ) → slice_get fronts slot ≡ Some n → IsSettled (suc slot ∷ []) ordered n
+
+  -- who is noted at a place as in turn has received it and each of its sender's places before it
+  abbrev pub AreInTurn : List (Placed M) → Type 0
+  AreInTurn ordered =
+      (i j p : ℕ) (x y : Placed M) → j ≤ i → slice_get ordered i ≡ Some x → slice_get ordered j ≡ Some y → y.from ≡ x.from → has x.in_turn p ≡ true → has y.received p ≡ true
 
   -- the configurations alone
   abbrev pub configurations_of : List (Stored M) → List (Configuration M)

@@ -1,8 +1,9 @@
-ghost use Rattle.std.specs.Prelude.{◌≡◌, ℕ, true, ◌<◌, ◌≤◌, ◌+◌, ◌^◌, [], ◌==◌, ◌∷◌, ◌++◌, length, OnOk, OnErr, vec_len, vec_capacity};
+ghost use Rattle.std.specs.Prelude.{◌≡◌, ℕ, true, if◌then◌else◌, ◌<◌, ◌≤◌, ◌+◌, ◌^◌, [], ◌==◌, ◌∷◌, ◌++◌, length, OnOk, OnErr, vec_len, vec_capacity};
 ghost use Rattle.std.specs.Option.{option_copied, option_map};
 ghost use Rattle.cg_base.specs.Lists.{at_place};
 ghost use Rattle.cg_base.specs.Sets.{IsSet, with_member, is_within};
 ghost use Rattle.cg_group.specs.State.{has_received};
+ghost use Rattle.cg_group.specs.Refusals.{sender_at};
 ghost use Rattle.cg_group.specs.Logs.{sent_of, with_all_receipts, IsSettled, AreFronts};
 ghost use Rattle.cg_group.specs.Ready.{ready_in, all_received};
 ghost use Rattle.cg_group.specs.Events.{with_message, with_receipt};
@@ -26,13 +27,13 @@ pub(crate) struct Log<M> {
 
 impl<M> Model for Log<M> {
     ghost use Rattle.std.specs.Prelude.{◌-◌, vec_len, vec_capacity};
-    ghost use Rattle.cg_group.specs.Logs.{Stored, IsSettled, AreFronts, configuration_of};
+    ghost use Rattle.cg_group.specs.Logs.{Stored, IsSettled, AreFronts, AreInTurn, configuration_of};
 
     ghost Value = { Stored M };
 
     ghost view = { λ l. record { configuration = configuration_of l.members l.ordered.items; room = vec_capacity l.ordered - vec_len l.ordered } };
 
-    ghost invariant = { λ l. IsSettled l.members l.ordered.items l.settled × AreFronts l.ordered.items l.fronts.items };
+    ghost invariant = { λ l. IsSettled l.members l.ordered.items l.settled × AreFronts l.ordered.items l.fronts.items × AreInTurn l.ordered.items };
 }
 
 // the room is there, so no memory is taken
@@ -46,11 +47,14 @@ fn push_in_room<T: Drop>(items: &mut Vec<T>, item: T)
 }
 
 // the receiver is among those who have received the place, which are a set
-fn add_receipt<M>(placed: &mut Placed<M>, p: ReplicaId)
-    ensures value { placed.new ≡ record placed.old { received = with_member placed.old.received p } }
+fn add_receipt<M>(placed: &mut Placed<M>, p: ReplicaId, in_turn: bool)
+    ensures value { placed.new ≡ record placed.old { received = with_member placed.old.received p; in_turn = if in_turn then with_member placed.old.in_turn p else placed.old.in_turn } }
     ensures set { IsSet placed.new.received }
 {
     placed.received.add(p);
+    if in_turn {
+        placed.in_turn.add(p);
+    }
     let _is_there = placed.received.contains(p);
 }
 
@@ -152,10 +156,12 @@ impl<M> Log<M> {
     {
         let mut received = IdSet::empty();
         received.add(from);
+        let in_turn = IdSet::empty();
         let placed = Placed {
             from,
             message,
             received,
+            in_turn,
         };
         push_in_room(&mut self.ordered, placed);
         let ordered = self.ordered.as_slice();
@@ -174,8 +180,9 @@ impl<M> Log<M> {
         if place > self.ordered.len() as u64 {
             return;
         }
+        let in_turn = self.has_all_before(p, place);
         let placed = &mut self.ordered[(place - 1) as usize];
-        add_receipt(placed, p);
+        add_receipt(placed, p, in_turn);
         let ordered = self.ordered.as_slice();
         count_on(&mut self.fronts, ordered, p);
         self.settled = settled_from(&self.members, ordered, self.settled);
@@ -226,6 +233,16 @@ impl<M> Log<M> {
     {
         match at_place(self.ordered.as_slice(), place) {
             Some(placed) => placed.received.contains(p),
+            None => false,
+        }
+    }
+
+    /// The member is known to have received the place, and each of its sender's places before it.
+    pub(crate) fn has_received_in_turn(&self, p: ReplicaId, place: u64) -> bool
+        ensures { result ≡ true → (earlier : ℕ) → 0 < earlier → earlier ≤ place → sender_at self.now.configuration earlier ≡ sender_at self.now.configuration place → has_received self.now.configuration p earlier ≡ true }
+    {
+        match at_place(self.ordered.as_slice(), place) {
+            Some(placed) => placed.in_turn.contains(p),
             None => false,
         }
     }

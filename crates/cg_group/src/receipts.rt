@@ -1,4 +1,4 @@
-ghost use Rattle.std.specs.Prelude.{◌≡◌, ◌-◌, ◌==◌, ◌&&◌, not, find};
+ghost use Rattle.std.specs.Prelude.{◌≡◌, ℕ, true, false, ◌<◌, ◌-◌, ◌==◌, ◌&&◌, not, find};
 ghost use Rattle.cg_base.specs.Lists.{above_up_to};
 ghost use Rattle.cg_group.specs.State.{has_received};
 ghost use Rattle.cg_group.specs.Refusals.{is_missing, sender_at};
@@ -30,6 +30,9 @@ impl<M> Log<M> {
     fn first_missing(&self, p: ReplicaId, place: u64) -> Option<u64>
         ensures { result ≡ find (is_missing self.now.configuration p place) (above_up_to 0 (place - 1)) }
     {
+        if self.has_all_before(p, place) {
+            return None;
+        }
         let sender = self.sender(place);
         for before in self.received_by(p) as u64..place.saturating_sub(1) {
             if self.lacks(p, sender, before + 1) {
@@ -37,6 +40,23 @@ impl<M> Log<M> {
             }
         }
         None
+    }
+
+    /// The member is known to have received each place of the same sender before the given one. It looks no further back than
+    /// to the last of these, so that a place that never comes costs no more with each place behind it.
+    pub(crate) fn has_all_before(&self, p: ReplicaId, place: u64) -> bool
+        ensures { result ≡ true → (earlier : ℕ) → 0 < earlier → earlier < place → is_missing self.now.configuration p place earlier ≡ false }
+    {
+        let sender = self.sender(place);
+        let first = self.received_by(p) as u64;
+        let mut last = place.saturating_sub(1);
+        while last > first {
+            if self.sender(last) == sender {
+                return self.has_received_in_turn(p, last);
+            }
+            last -= 1;
+        }
+        true
     }
 
     // the sender of the message at a place, where there is one

@@ -71,7 +71,7 @@ stop_gate B gate s e fill clean a b inside =
     let none : unsynced_from e.a 0 e.a.seen ≡ 0 = no_places e.a (ap (λ (x : SideState). x.unsynced) a ∙ clean_unsynced s.a clean.0) in
     ap (λ n. get_or (filled e.b (drop n fill)) gate 0) none ∙ stop_byte s.b e.b gate fill clean.1 b inside
 
--- which places a strike in a gate's write or its sync leaves unsynced
+-- which offsets a strike in a gate's write or its sync leaves unsynced
 failed_clean : (call : ℕ) (s w e : DiskState) → IsSynced s → (call ≡ 1) ⊎ (call ≡ 2) → CutBy Fails s w call e → (e.a.unsynced ≡ []) × (e.b.unsynced ≡ [])
 failed_clean call s w e clean (inl one) by = (ap (λ (x : SideState). x.unsynced) ((by.0 one).0 ∙ clean.0), ap (λ (x : SideState). x.unsynced) ((by.0 one).1 ∙ clean.1))
 failed_clean call s w e clean (inr two) by = (ap (λ (x : SideState). x.unsynced) (by.1 two).0, ap (λ (x : SideState). x.unsynced) (by.1 two).1)

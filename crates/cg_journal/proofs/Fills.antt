@@ -37,7 +37,7 @@ abbrev pub first_or : List ℕ → ℕ → ℕ
 first_or [] old = old
 first_or (byte ∷ fill) old = byte
 
--- one place is unsynced
+-- one offset is unsynced
 abbrev pub gate_range : ℕ → List Range
 gate_range gate = record { from = gate; to = gate + 1 } ∷ []
 

@@ -37,7 +37,7 @@ gate_stands Fails call fill = nat_lt 3 call
 gate_stands Stops call fill = nat_lt 2 call && opens fill
 
 -- what a disk tells that was struck in one of the four calls: what each fill leaves, and that in the third and the
--- fourth no other place than the gate is unsynced
+-- fourth no other offset than the gate's is unsynced
 pub record IsCutShort (side : Side) (gate call : ℕ) (before after : Option Records) (s e : DiskState) : Type 0 where
   pub strike : Strike
   pub armed : s.strike ≡ Some strike

@@ -7,7 +7,7 @@ use Rattle.cg_disk.specs.declared.disk.Side.TheVariants.{A, B}
 use Rattle.cg_journal.specs.Records.{HasRecords, spelled}
 use Rattle.cg_journal.specs.declared.ends.Ends.{Ends}
 
--- the place just past the gate behind these records
+-- the offset just past the gate behind these records
 abbrev pub end_of : List (List ℕ) → ℕ
 end_of bodies = 9 + length (spelled bodies)
 
@@ -27,7 +27,7 @@ pub record Ended (side : List ℕ) (end : ℕ) : Type 0 where
   pub has : HasRecords side end bodies
   pub short : end < 2 ^ 63
 
--- both sides have records that end at these places, and everything is synced
+-- both sides have records that end at these offsets, and everything is synced
 pub record IsJournal (d : DiskView) (ends : Ends) : Type 0 where
   pub on : (side : Side) → Ended (bytes_of side d.reads) (end_on side ends)
   pub rest : IsAtRest d

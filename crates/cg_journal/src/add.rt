@@ -9,7 +9,7 @@ ghost use Rattle.cg_journal.specs.Adds.{Adds, IsEither};
 use crate::put::put;
 use cg_disk::{Disk, DiskFault, Side};
 
-/// Adds the record that is spelled here to a side whose records end at this place, in four device calls. It is written
+/// Adds the record that is spelled here to a side whose records end at this offset, in four device calls. It is written
 /// whole behind its closed gate before the gate is opened.
 pub fn add<D: Disk>(disk: &mut D, side: Side, end: u64, bytes: &[u8]) -> Result<(), DiskFault>
     requires calls { (D.view disk.old).time + 4 ≤ 2 ^ 62 }

@@ -10,7 +10,7 @@ ghost use Rattle.cg_journal.specs.Closes.{Closes};
 use crate::put::put;
 use cg_disk::{Disk, DiskFault, Side};
 
-/// Closes the first gate of a side whose records end at this place, in two device calls. A closed gate isn't written
+/// Closes the first gate of a side whose records end at this offset, in two device calls. A closed gate isn't written
 /// over, since a torn write could open it over a body that isn't whole.
 pub fn close<D: Disk>(disk: &mut D, side: Side, end: u64) -> Result<(), DiskFault>
     requires calls { (D.view disk.old).time + 2 ≤ 2 ^ 62 }

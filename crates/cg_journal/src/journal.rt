@@ -178,7 +178,7 @@ impl<D: Disk> Journal<D> {
         }
     }
 
-    /// Where the records of a side end: the place just past the gate behind the last one. It takes no memory.
+    /// Where the records of a side end: the offset just past the gate behind the last one. It takes no memory.
     pub fn length(&self, side: Side) -> u64
         ensures end { (r : Records) → records (D.view self.now).reads ≡ Some r → result ≡ end_of (on_side side r) }
         ensures readable { CanBeRead (D.view self.now) }

@@ -4,7 +4,7 @@ ghost use Rattle.cg_disk.specs.Model.{view_of};
 use crate::{Disk, DiskFault, ModelDisk, Side};
 use std::test::Fail;
 
-// Writes at a place that the side has or ends at.
+// Writes at an offset that the side has or ends at.
 fn write(disk: &mut ModelDisk, side: Side, place: u64, bytes: &[u8]) -> Result<(), DiskFault>
     requires { (view_of disk.old).time < 2 ^ 40 }
     ensures { (view_of disk.new).time ≤ (view_of disk.old).time + 1 }

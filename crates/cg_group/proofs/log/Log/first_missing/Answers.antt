@@ -5,7 +5,13 @@ use Rattle.cg_base.specs.Lists.{above_up_to}
 use Rattle.cg_group.specs.Refusals.{is_missing, sender_at}
 use Rattle.cg_group.proofs.LogFacts.{above_up_to-next}
 use Rattle.cg_group.proofs.SettledFacts.{find-skip, and_not}
+use Rattle.cg_group.proofs.TurnFacts.{find-nothing}
 use Rattle.cg_group.proofs.log.Log.first_missing.Goals as goal
+
+pub returns-then-has_all_before : goal.returns-then-has_all_before
+returns-then-has_all_before g c =
+    let none = c.has_all_before.ensures c.if-has_all_before.true in
+    sym (find-nothing (is_missing c.args.self.now.configuration c.args.p c.args.place) (c.args.place - 1) (λ place pos le. none place pos (omega arith)))
 
 pub loop-before-init : goal.loop-before-init
 loop-before-init g c =
