@@ -4,7 +4,7 @@ ghost use Rattle.std.specs.Prelude.{◌≡◌, ◌≤◌, ◌≤ℤ◌, pos, len
 ghost use Rattle.std.specs.Option.{option_copied};
 ghost use Rattle.cg_action.specs.ActionLimits.{IsCommand};
 ghost use Rattle.cg_action.specs.declared.command.Cmd.TheVariants.{Cas, Move};
-ghost use Rattle.cg_db.specs.Map.{value_of, same_value, same_option};
+ghost use Rattle.cg_db.specs.Map.{value_of, same_option};
 ghost use Rattle.cg_db.specs.Apply.{Changed, number_of, add_to, move_number, run_command, run_commands};
 ghost use Rattle.cg_db.specs.Plan.{listed, set_option, with_changes, ran, left_by};
 
@@ -178,22 +178,7 @@ fn has(db: &Db, changes: &Changes, key: &Txt, want: &Option<Value>) -> bool
         None => want.is_none(),
         Some(value) => match want {
             None => false,
-            Some(wanted) => same_value(value, wanted),
-        },
-    }
-}
-
-fn same_value(value: &Value, other: &Value) -> bool
-    ensures { result ≡ same_value value.now other.now }
-{
-    match value {
-        Value::Text(text) => match other {
-            Value::Text(other) => text == other,
-            Value::Int(_) => false,
-        },
-        Value::Int(number) => match other {
-            Value::Text(_) => false,
-            Value::Int(other) => *number == *other,
+            Some(wanted) => *value == *wanted,
         },
     }
 }

@@ -25,10 +25,6 @@ after-next : (plan : List SentPart) (n : ℕ) (s : Sent) → slice_get (items_of
 unfolding next_item
 after-next plan n s here = rw (here, wanted-itself s) refl
 
-no_item : (xs : List Sent) → length xs ≡ 0 → xs ≡ []
-no_item [] e = refl
-no_item (x ∷ xs) e = absurd (omega arith)
-
 -- a list with a first element has one to read
 some_item : (xs : List Sent) (n : ℕ) → n < length xs → (s : Sent) × (slice_get xs n ≡ Some s)
 some_item [] n lt = absurd (omega arith)

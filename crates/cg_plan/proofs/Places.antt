@@ -142,12 +142,6 @@ turn_of-place (turn ∷ turns) me (suc current) made filled =
 
 -- ---- the next place
 
-drop-suc : {X : Type 0} (xs more : List X) (x : X) (i : ℕ) → drop i xs ≡ x ∷ more → drop (suc i) xs ≡ more
-drop-suc [] more x zero e = absurd (cc)
-drop-suc [] more x (suc i) e = absurd (cc)
-drop-suc (y ∷ xs) more x zero e = cc
-drop-suc (y ∷ xs) more x (suc i) e = drop-suc xs more x i e
-
 take-suc : {X : Type 0} (xs more : List X) (x : X) (i : ℕ) → drop i xs ≡ x ∷ more → take (suc i) xs ≡ take i xs ++ x ∷ []
 take-suc [] more x zero e = absurd (cc)
 take-suc [] more x (suc i) e = absurd (cc)

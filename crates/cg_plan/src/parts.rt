@@ -1,6 +1,5 @@
 ghost use Rattle.std.specs.Prelude.{◌≡◌, ◌<◌};
 ghost use Rattle.cg_plan.specs.Parts.{IsFilled, size_of, item_behind};
-ghost use Rattle.cg_plan.specs.Items.{same_item};
 
 use cg_base::{ActionId, ReplicaId};
 use thiserror::Error;
@@ -81,20 +80,6 @@ impl Part {
                     },
                 }
             }
-        }
-    }
-}
-
-impl Item {
-    pub(crate) fn is_same(&self, other: &Item) -> bool
-        ensures { result ≡ same_item self.now other.now }
-    {
-        match (self, other) {
-            (Item::Green { at }, Item::Green { at: place }) => *at == *place,
-            (Item::Red { id }, Item::Red { id: name }) => {
-                id.creator.get() == name.creator.get() && id.index == name.index
-            }
-            _ => false,
         }
     }
 }

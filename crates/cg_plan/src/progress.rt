@@ -35,7 +35,7 @@ fn is_wanted(next: &Option<Sent>, from: ReplicaId, i: &Item) -> bool
 {
     match next {
         None => false,
-        Some(sent) => sent.sender.get() == from.get() && sent.item.is_same(i),
+        Some(sent) => sent.sender == from && sent.item == *i,
     }
 }
 

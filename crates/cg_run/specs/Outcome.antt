@@ -6,6 +6,7 @@ use Rattle.cg_schedule.specs.declared.event.Event.{Event}
 use Rattle.cg_schedule.specs.declared.fault.LineFault.{LineFault}
 use Rattle.cg_schedule.specs.declared.fault.LineFault.TheVariants.{Syntax, NoMemory}
 use Rattle.cg_schedule.specs.declared.word.Word.{Word}
+use Rattle.cg_schedule.specs.Fault.{syntax_number}
 use Rattle.cg_schedule.specs.Reading.{whole}
 use Rattle.cg_schedule.specs.Line.{opening, event_reading, state_after}
 use Rattle.cg_run.specs.declared.progress.Ending.{Ending}
@@ -30,7 +31,7 @@ use Rattle.cg_run.specs.Rounds.{happened}
 
 -- the number of the reason for which a line is no event
 abbrev pub reason_of : LineFault → ℕ
-reason_of (Syntax reason) = reason
+reason_of (Syntax reason) = syntax_number reason
 reason_of NoMemory = 0
 
 -- line n can't be read

@@ -36,7 +36,10 @@ fn refuse_line<K: Sink>(
 {
     match fault {
         LineFault::Syntax(reason) => {
-            let status = Status::Syntax { line, reason };
+            let status = Status::Syntax {
+                line,
+                reason: reason.number(),
+            };
             finish(alloc, output, status, count, line)
         }
         LineFault::NoMemory => Status::NoMemory,
@@ -85,7 +88,10 @@ fn finish_line<K: Sink>(
         Err(LineFault::Syntax(reason)) => {
             let count = progress.count;
             drop(progress);
-            let status = Status::Syntax { line, reason };
+            let status = Status::Syntax {
+                line,
+                reason: reason.number(),
+            };
             Err(finish(alloc, output, status, count, line))
         }
         Err(LineFault::NoMemory) => {

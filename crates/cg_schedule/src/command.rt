@@ -4,8 +4,8 @@ ghost use Rattle.std.specs.Prelude.{◌≡◌, [], Ok, Err};
 ghost use Rattle.cg_schedule.specs.Reading.{TakesWithMemory};
 ghost use Rattle.cg_schedule.specs.Command.{key_part, put_reading, del_reading, inc_reading, cas_reading, move_reading, need_reading, command_of, is_command_word, query_of, query_reading, is_semicolon, is_question_mark, with_query, one_too_many, commands, update_of, update_reading};
 
-use crate::LineFault;
 use crate::part::{take_amount, take_integer, take_text, take_token, take_value, take_want};
+use crate::{LineFault, SyntaxReason};
 use cg_action::{Cmd, CmdList, Query};
 use cg_text::{Txt, Words};
 use std::alloc::Global;
@@ -93,7 +93,7 @@ fn take_command(alloc: Global, words: &mut Words, word: &[u8]) -> Result<Cmd, Li
     } else if word == b"need".as_slice() {
         take_need(alloc, words)
     } else {
-        Err(LineFault::BAD_COMMAND)
+        Err(LineFault::Syntax(SyntaxReason::BadCommand))
     }
 }
 
@@ -122,7 +122,7 @@ fn take_query_of(alloc: Global, words: &mut Words, word: &[u8]) -> Result<Query,
     } else if word == b"count".as_slice() {
         Ok(Query::Count)
     } else {
-        Err(LineFault::BAD_COMMAND)
+        Err(LineFault::Syntax(SyntaxReason::BadCommand))
     }
 }
 
@@ -163,9 +163,9 @@ fn one_too_many(word: &[u8]) -> LineFault
     ensures { result ≡ one_too_many word.now }
 {
     if is_command_word(word) {
-        LineFault::BAD_LIST
+        LineFault::Syntax(SyntaxReason::BadList)
     } else {
-        LineFault::BAD_COMMAND
+        LineFault::Syntax(SyntaxReason::BadCommand)
     }
 }
 
@@ -188,7 +188,7 @@ fn take_commands<'a>(
             return with_query(alloc, words, cmds);
         }
         if !is_semicolon(joint) {
-            return Err(LineFault::EXTRA_PART);
+            return Err(LineFault::Syntax(SyntaxReason::ExtraPart));
         }
         word = take_token(words)?;
     }

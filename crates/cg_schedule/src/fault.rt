@@ -7,52 +7,68 @@ use cg_base::NoMemory;
 use cg_text::TextFault;
 use thiserror::Error;
 
+/// Why a line has no reading.
+#[derive(Clone, Copy, Debug, PartialEq, Eq, Error)]
+pub enum SyntaxReason {
+    /// The line isn't UTF-8.
+    #[error("the line isn't UTF-8")]
+    NotUtf8,
+    /// The first token is no event word.
+    #[error("the first token is no event word")]
+    UnknownWord,
+    /// The line ends where a part must stand.
+    #[error("the line ends where a part must stand")]
+    MissingPart,
+    /// A token stands where the line must end, or where `;`, `?` or the end must stand.
+    #[error("a token stands where the line must end")]
+    ExtraPart,
+    /// A number, an identifier or a value without quotes has another spelling, or is out of its range.
+    #[error("a number or an identifier has another spelling or is out of its range")]
+    BadNumber,
+    /// A text isn't quoted as it must be, or has a wrong length; the bytes of a stop aren't pairs of digits.
+    #[error("a text isn't quoted as it must be, or has a wrong length")]
+    BadText,
+    /// Where a command or query word must stand there is none.
+    #[error("a token where a command or query word must stand is none")]
+    BadCommand,
+    /// An identifier isn't above the one before, or the commands are too many.
+    #[error("an identifier isn't above the one before, or a 17th command stands")]
+    BadList,
+    /// The first event isn't `start`, a later one is, or an event follows `end`.
+    #[error("the first event isn't `start`, a later one is, or an event follows `end`")]
+    Misplaced,
+}
+
+impl SyntaxReason {
+    ghost use Rattle.cg_schedule.specs.Fault.{syntax_number};
+
+    /// The number that is printed for the reason.
+    pub fn number(&self) -> u8
+        ensures { result ≡ syntax_number self.now }
+    {
+        match self {
+            SyntaxReason::NotUtf8 => 1,
+            SyntaxReason::UnknownWord => 2,
+            SyntaxReason::MissingPart => 3,
+            SyntaxReason::ExtraPart => 4,
+            SyntaxReason::BadNumber => 5,
+            SyntaxReason::BadText => 6,
+            SyntaxReason::BadCommand => 7,
+            SyntaxReason::BadList => 8,
+            SyntaxReason::Misplaced => 9,
+        }
+    }
+}
+
 /// Why a line is no event.
 #[derive(Clone, Copy, Debug, PartialEq, Eq, Error)]
 pub enum LineFault {
-    /// The line has no reading, by one of the reasons 1 to 9.
-    #[error("{}", words_of(*.0))]
-    Syntax(u8),
+    /// The line has no reading.
+    #[error("{0}")]
+    Syntax(SyntaxReason),
     /// Memory was refused, which says nothing of the line.
     #[error("memory was refused")]
     NoMemory,
-}
-
-impl LineFault {
-    /// The line isn't UTF-8.
-    pub const NOT_UTF8: LineFault = LineFault::Syntax(1);
-    /// The first token is no event word.
-    pub const UNKNOWN_WORD: LineFault = LineFault::Syntax(2);
-    /// The line ends where a part must stand.
-    pub const MISSING_PART: LineFault = LineFault::Syntax(3);
-    /// A token stands where the line must end, or where `;`, `?` or the end must stand.
-    pub const EXTRA_PART: LineFault = LineFault::Syntax(4);
-    /// A number, an identifier or a value without quotes has another spelling, or is out of its range.
-    pub const BAD_NUMBER: LineFault = LineFault::Syntax(5);
-    /// A text isn't quoted as it must be, or has a wrong length; the bytes of a stop aren't pairs of digits.
-    pub const BAD_TEXT: LineFault = LineFault::Syntax(6);
-    /// Where a command or query word must stand there is none.
-    pub const BAD_COMMAND: LineFault = LineFault::Syntax(7);
-    /// An identifier isn't above the one before, or the commands are too many.
-    pub const BAD_LIST: LineFault = LineFault::Syntax(8);
-    /// The first event isn't `start`, a later one is, or an event follows `end`.
-    pub const MISPLACED: LineFault = LineFault::Syntax(9);
-}
-
-// the reason of this number
-fn words_of(reason: u8) -> &'static str {
-    match reason {
-        1 => "the line isn't UTF-8",
-        2 => "the first token is no event word",
-        3 => "the line ends where a part must stand",
-        4 => "a token stands where the line must end",
-        5 => "a number or an identifier has another spelling or is out of its range",
-        6 => "a text isn't quoted as it must be, or has a wrong length",
-        7 => "a token where a command or query word must stand is none",
-        8 => "an identifier isn't above the one before, or a 17th command stands",
-        9 => "the first event isn't `start`, a later one is, or an event follows `end`",
-        _ => "the line has no reading",
-    }
 }
 
 impl LineFault {
@@ -64,7 +80,7 @@ impl LineFault {
     {
         match fault {
             TextFault::NoMemory => LineFault::NoMemory,
-            _ => LineFault::BAD_TEXT,
+            _ => LineFault::Syntax(SyntaxReason::BadText),
         }
     }
 }

@@ -17,7 +17,7 @@ mod reader_state;
 mod word;
 
 pub use event::Event;
-pub use fault::LineFault;
+pub use fault::{LineFault, SyntaxReason};
 pub use laws::{lines_are_exact, printed_lines_are_read};
 pub use print::print_line;
 pub use reader::Reader;

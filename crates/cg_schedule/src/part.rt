@@ -5,7 +5,7 @@ ghost use Rattle.cg_schedule.specs.Fault.{Gives};
 ghost use Rattle.cg_schedule.specs.Reading.{Takes, TakesWithMemory, token_part};
 ghost use Rattle.cg_schedule.specs.Part.{number, integer, amount, weight_of, weighted, text, is_quoted, value, want, hex_digit, hex_byte, hex_bytes, fill, number_part, id_part, count_part, integer_part, amount_part, weighted_part, text_part, value_part, want_part, fill_part};
 
-use crate::LineFault;
+use crate::{LineFault, SyntaxReason};
 use cg_action::Value;
 use cg_base::{Bytes, Pieces, ReplicaId, Row, Weighted};
 use cg_text::{Txt, Words, read_i64, read_quoted, read_u64};
@@ -20,7 +20,7 @@ fn number(token: &[u8], low: u64, high: u64) -> Result<u64, LineFault>
 {
     match read_u64(token) {
         Ok(n) if low <= n && n <= high => Ok(n),
-        _ => Err(LineFault::BAD_NUMBER),
+        _ => Err(LineFault::Syntax(SyntaxReason::BadNumber)),
     }
 }
 
@@ -37,7 +37,7 @@ fn integer(token: &[u8]) -> Result<i64, LineFault>
 {
     match read_i64(token) {
         Ok(n) => Ok(n),
-        Err(_) => Err(LineFault::BAD_NUMBER),
+        Err(_) => Err(LineFault::Syntax(SyntaxReason::BadNumber)),
     }
 }
 
@@ -47,7 +47,7 @@ fn amount(token: &[u8]) -> Result<i64, LineFault>
 {
     let n = integer(token)?;
     if n < 0 {
-        return Err(LineFault::BAD_NUMBER);
+        return Err(LineFault::Syntax(SyntaxReason::BadNumber));
     }
     Ok(n)
 }
@@ -60,7 +60,7 @@ pub(crate) fn weighted(token: &[u8]) -> Result<Weighted, LineFault>
 {
     let mut pieces = Pieces::new(token, b'*');
     let Some(first) = pieces.next() else {
-        return Err(LineFault::BAD_NUMBER);
+        return Err(LineFault::Syntax(SyntaxReason::BadNumber));
     };
     let id = identifier(first)?;
     let weight = weight_of(&mut pieces)?;
@@ -75,7 +75,7 @@ fn weight_of(pieces: &mut Pieces) -> Result<u8, LineFault>
         return Ok(1);
     };
     if !pieces.is_empty() {
-        return Err(LineFault::BAD_NUMBER);
+        return Err(LineFault::Syntax(SyntaxReason::BadNumber));
     }
     let weight = number(piece, 2, 255)?;
     Ok(weight as u8)
@@ -90,7 +90,7 @@ fn text(alloc: Global, token: &[u8], low: usize, high: u64) -> Result<Txt, LineF
         Err(fault) => return Err(LineFault::of_text(fault)),
     };
     if text.len() < low {
-        return Err(LineFault::BAD_TEXT);
+        return Err(LineFault::Syntax(SyntaxReason::BadText));
     }
     Ok(text)
 }
@@ -154,10 +154,10 @@ fn hex_bytes(alloc: Global, digits: &[u8]) -> Result<Bytes, LineFault>
     let mut rest = digits;
     while let Some((high, behind)) = rest.split_first() {
         let Some((low, others)) = behind.split_first() else {
-            return Err(LineFault::BAD_TEXT);
+            return Err(LineFault::Syntax(SyntaxReason::BadText));
         };
         let Some(byte) = hex_byte(*high, *low) else {
-            return Err(LineFault::BAD_TEXT);
+            return Err(LineFault::Syntax(SyntaxReason::BadText));
         };
         bytes.push(byte)?;
         rest = others;
@@ -174,7 +174,7 @@ fn fill(alloc: Global, token: &[u8]) -> Result<Bytes, LineFault>
         return Ok(Row::new(alloc));
     }
     if token.is_empty() || token.len() > 8192 {
-        return Err(LineFault::BAD_TEXT);
+        return Err(LineFault::Syntax(SyntaxReason::BadText));
     }
     hex_bytes(alloc, token)
 }
@@ -184,7 +184,9 @@ fn fill(alloc: Global, token: &[u8]) -> Result<Bytes, LineFault>
 pub(crate) fn take_token<'a>(words: &mut Words<'a>) -> Result<&'a [u8], LineFault>
     ensures { Takes (λ token. token.now) token_part words.old words.new result }
 {
-    words.next().ok_or(LineFault::MISSING_PART)
+    words
+        .next()
+        .ok_or(LineFault::Syntax(SyntaxReason::MissingPart))
 }
 
 #[tactic(auto, unfolding(crate::specs::Part::number_part))]

@@ -10,7 +10,7 @@ use crate::command::{take_query, take_update};
 use crate::part::{
     identifier, take_count, take_fill, take_id, take_number, take_token, take_weighted, weighted,
 };
-use crate::{Event, LineFault, ReaderState, Word};
+use crate::{Event, LineFault, ReaderState, SyntaxReason, Word};
 use cg_base::{IdSet, WeightSet};
 use cg_text::{Words, is_passed_over};
 use std::alloc::Global;
@@ -73,17 +73,17 @@ impl Reader {
             return Ok(None);
         }
         if !is_utf8(line) {
-            return Err(LineFault::NOT_UTF8);
+            return Err(LineFault::Syntax(SyntaxReason::NotUtf8));
         }
         let mut words = Words::new(line);
         let Some(token) = words.next() else {
-            return Err(LineFault::UNKNOWN_WORD);
+            return Err(LineFault::Syntax(SyntaxReason::UnknownWord));
         };
         let Some(word) = Word::of(token) else {
-            return Err(LineFault::UNKNOWN_WORD);
+            return Err(LineFault::Syntax(SyntaxReason::UnknownWord));
         };
         if !self.state.fits(word) {
-            return Err(LineFault::MISPLACED);
+            return Err(LineFault::Syntax(SyntaxReason::Misplaced));
         }
         Ok(Some((word, words)))
     }
@@ -121,7 +121,7 @@ fn whole_event(alloc: Global, word: Word, words: Words) -> Result<Event, LineFau
     let event = take_event(alloc, &mut words, word)?;
     match words.next() {
         None => Ok(event),
-        Some(_) => Err(LineFault::EXTRA_PART),
+        Some(_) => Err(LineFault::Syntax(SyntaxReason::ExtraPart)),
     }
 }
 
@@ -162,7 +162,7 @@ fn take_ids(words: &mut Words) -> Result<IdSet, LineFault>
     while let Some(token) = words.next() {
         let id = identifier(token)?;
         if id.get() <= last {
-            return Err(LineFault::BAD_LIST);
+            return Err(LineFault::Syntax(SyntaxReason::BadList));
         }
         set.add(id);
         last = id.get();
@@ -180,7 +180,7 @@ fn take_weights(words: &mut Words) -> Result<WeightSet, LineFault>
     while let Some(token) = words.next() {
         let member = weighted(token)?;
         if member.id.get() <= last {
-            return Err(LineFault::BAD_LIST);
+            return Err(LineFault::Syntax(SyntaxReason::BadList));
         }
         set.put(member.id, member.weight);
         last = member.id.get();

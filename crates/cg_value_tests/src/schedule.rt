@@ -6,7 +6,7 @@
 use crate::bytes::bytes_of;
 use crate::table::{follows, is, number, parts, say, say_shown};
 use cg_base::put;
-use cg_schedule::{Event, LineFault, Reader, print_line};
+use cg_schedule::{Event, LineFault, Reader, SyntaxReason, print_line};
 use std::alloc::Global;
 
 // one of each reason
@@ -316,16 +316,16 @@ fn let_go(event: Event) {
 
 fn reason_of(fault: LineFault) -> &'static str {
     match fault {
-        LineFault::NOT_UTF8 => "not UTF-8",
-        LineFault::UNKNOWN_WORD => "unknown word",
-        LineFault::MISSING_PART => "missing part",
-        LineFault::EXTRA_PART => "extra part",
-        LineFault::BAD_NUMBER => "bad number",
-        LineFault::BAD_TEXT => "bad text",
-        LineFault::BAD_COMMAND => "bad command",
-        LineFault::BAD_LIST => "bad list",
-        LineFault::MISPLACED => "misplaced",
-        _ => "no memory",
+        LineFault::Syntax(SyntaxReason::NotUtf8) => "not UTF-8",
+        LineFault::Syntax(SyntaxReason::UnknownWord) => "unknown word",
+        LineFault::Syntax(SyntaxReason::MissingPart) => "missing part",
+        LineFault::Syntax(SyntaxReason::ExtraPart) => "extra part",
+        LineFault::Syntax(SyntaxReason::BadNumber) => "bad number",
+        LineFault::Syntax(SyntaxReason::BadText) => "bad text",
+        LineFault::Syntax(SyntaxReason::BadCommand) => "bad command",
+        LineFault::Syntax(SyntaxReason::BadList) => "bad list",
+        LineFault::Syntax(SyntaxReason::Misplaced) => "misplaced",
+        LineFault::NoMemory => "no memory",
     }
 }
 
@@ -493,6 +493,6 @@ fn events_are_compared(rt: HostRuntime) {
 #[test]
 fn faults_have_words(rt: HostRuntime) {
     let mut out = Vec::new(rt.alloc());
-    say_shown(&mut out, &LineFault::MISSING_PART);
+    say_shown(&mut out, &LineFault::Syntax(SyntaxReason::MissingPart));
     is(&rt, out.as_slice(), "the line ends where a part must stand");
 }
