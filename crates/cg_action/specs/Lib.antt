@@ -3,6 +3,7 @@ pub mod ActionLimits
 pub mod Bytes
 pub mod Reading
 pub mod Print
+pub mod OptionLaws
 pub mod ValueLaws
 pub mod CommandLaws
 pub mod KindLaws

@@ -1,7 +1,7 @@
 ghost use Rattle.std.specs.Prelude.{◌≡◌, IfOk};
 
-use crate::Value;
-use crate::value::copy_want;
+use crate::value::{copy_boxed, copy_want};
+use crate::{Boxed, BoxedOption, Value};
 use cg_base::NoMemory;
 use cg_text::Txt;
 use std::alloc::Global;
@@ -26,8 +26,8 @@ pub enum Cmd {
     /// Sets the key to the value where it has the wanted value, or where it is absent for `None`.
     Cas {
         key: Txt,
-        want: Option<Value>,
-        value: Value,
+        want: BoxedOption<Value>,
+        value: Boxed<Value>,
     },
     /// Takes the amount, 0 or more, from the source's number and adds it to the target's.
     Move {
@@ -38,7 +38,7 @@ pub enum Cmd {
     /// Fails where the key doesn't have the wanted value, or isn't absent for `None`.
     Need {
         key: Txt,
-        want: Option<Value>,
+        want: BoxedOption<Value>,
     },
 }
 
@@ -64,7 +64,7 @@ impl Cmd {
             Cmd::Cas { key, want, value } => {
                 let key = key.copy(alloc)?;
                 let want = copy_want(alloc, want)?;
-                let value = value.copy(alloc)?;
+                let value = copy_boxed(alloc, value)?;
                 Ok(Cmd::Cas { key, want, value })
             }
             Cmd::Move {

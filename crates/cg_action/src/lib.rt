@@ -6,6 +6,7 @@
 #![tactic(auto)]
 
 mod action;
+mod boxed;
 mod command;
 mod commands;
 mod laws;
@@ -16,6 +17,7 @@ mod value;
 mod writing;
 
 pub use action::{Action, ActionList, Kind, copy_actions};
+pub use boxed::{Boxed, BoxedOption};
 pub use cg_codec::put_action_id;
 pub use command::Cmd;
 pub use commands::{CmdList, copy_commands};

@@ -5,7 +5,7 @@ ghost use Rattle.std.specs.Fmt.{WritesOnOk};
 ghost use Rattle.cg_base.specs.Text.{id_text};
 ghost use Rattle.cg_action.specs.Print.{value_text, want_text, command_text, commands_text, query_text, update_text, kind_text};
 
-use crate::{Action, Cmd, Kind, Query, Value};
+use crate::{Action, BoxedOption, Cmd, Kind, Query, Value};
 use cg_base::{NoMemory, Weighted, put_shown};
 use cg_text::Quoted;
 use std::fmt;
@@ -24,13 +24,13 @@ impl Display for Value {
 
 // a wanted value, or that there is none
 #[derive(Clone, Copy)]
-struct Want<'a>(&'a Option<Value>);
+struct Want<'a>(&'a BoxedOption<Value>);
 
 impl Display for Want<'_> {
     ghost output = { λ want. Some (want_text want.0.now) };
 
     fn fmt<W: Write>(&self, f: &mut Formatter<W>) -> fmt::Result {
-        match self.0 {
+        match self.0.get() {
             None => f.write_str("absent"),
             Some(value) => write!(f, "{value}"),
         }
@@ -47,6 +47,7 @@ impl Display for Cmd {
             Cmd::Del { key } => write!(f, "del {}", Quoted(key)),
             Cmd::Inc { key, by } => write!(f, "inc {} {by}", Quoted(key)),
             Cmd::Cas { key, want, value } => {
+                let value = value.get();
                 write!(f, "cas {} {} {value}", Quoted(key), Want(want))
             }
             Cmd::Move {
@@ -76,14 +77,14 @@ impl Display for Query {
 #[derive(Clone, Copy)]
 pub struct Update<'a> {
     pub cmds: &'a [Cmd],
-    pub query: &'a Option<Query>,
+    pub query: &'a BoxedOption<Query>,
 }
 
 impl Display for Update<'_> {
     ghost output = { λ update. Some (update_text update.cmds.now update.query.now) };
 
     fn fmt<W: Write>(&self, f: &mut Formatter<W>) -> fmt::Result {
-        let Some(query) = self.query else {
+        let Some(query) = self.query.get() else {
             return write_commands(f, self.cmds);
         };
         if self.cmds.is_empty() {

@@ -6,7 +6,7 @@ ghost use Rattle.cg_codec.specs.Taking.{unread_of, Takes, TakesWithMemory, Decod
 ghost use Rattle.cg_action.specs.ActionLimits.{IsAction};
 ghost use Rattle.cg_action.specs.Reading.{number_from, id_reading, key_reading, value_of_tag, value_reading, want_of_tag, want_reading, amount_reading, put_reading, del_reading, inc_reading, cas_reading, move_reading, need_reading, command_of_tag, command_reading, query_of_tag, query_reading, commands_reading, query_behind, update_reading, heavy_join_reading, kind_of_tag, kind_reading, action_reading};
 
-use crate::{Action, Cmd, CmdList, Kind, Query, Value};
+use crate::{Action, Boxed, BoxedOption, Cmd, CmdList, Kind, Query, Value};
 use cg_base::{ActionId, ReplicaId};
 use cg_codec::{CodecFault, Fields};
 use cg_text::Txt;
@@ -130,18 +130,25 @@ fn take_value_of(alloc: Global, fields: &mut Fields, tag: u8) -> Result<Value, C
 }
 
 #[tactic(auto, unfolding(crate::specs::Reading::want_of_tag))]
-fn take_want_of(alloc: Global, fields: &mut Fields, tag: u8) -> Result<Option<Value>, CodecFault>
+fn take_want_of(
+    alloc: Global,
+    fields: &mut Fields,
+    tag: u8,
+) -> Result<BoxedOption<Value>, CodecFault>
     ensures { TakesWithMemory (λ w. w) (want_of_tag tag) (unread_of fields.old) (unread_of fields.new) result }
 {
     if tag == 0 {
-        return Ok(None);
+        return Ok(BoxedOption::none());
     }
-    let value = take_value_of(alloc, fields, tag)?;
-    Ok(Some(value))
+    let mut after = *fields;
+    let value = take_value_of(alloc, &mut after, tag)?;
+    let want = BoxedOption::some(alloc, value)?;
+    *fields = after;
+    Ok(want)
 }
 
 #[tactic(auto, unfolding(crate::specs::Reading::want_reading))]
-fn take_want(alloc: Global, fields: &mut Fields) -> Result<Option<Value>, CodecFault>
+fn take_want(alloc: Global, fields: &mut Fields) -> Result<BoxedOption<Value>, CodecFault>
     ensures { TakesWithMemory (λ w. w) want_reading (unread_of fields.old) (unread_of fields.new) result }
 {
     let mut after = *fields;
@@ -201,7 +208,7 @@ fn take_cas(alloc: Global, fields: &mut Fields) -> Result<Cmd, CodecFault>
     let mut after = *fields;
     let key = take_key(alloc, &mut after)?;
     let want = take_want(alloc, &mut after)?;
-    let value = take_value(alloc, &mut after)?;
+    let value = Boxed::new(alloc, take_value(alloc, &mut after)?)?;
     *fields = after;
     Ok(Cmd::Cas { key, want, value })
 }
@@ -320,17 +327,17 @@ fn take_query(alloc: Global, fields: &mut Fields) -> Result<Query, CodecFault>
     Ok(query)
 }
 
-fn take_query_or_none(alloc: Global, fields: &mut Fields) -> Result<Option<Query>, CodecFault>
+fn take_query_or_none(alloc: Global, fields: &mut Fields) -> Result<BoxedOption<Query>, CodecFault>
     ensures { TakesWithMemory (λ q. q) (take_optional query_reading) (unread_of fields.old) (unread_of fields.new) result }
 {
     let mut after = *fields;
     if !after.take_truth()? {
         *fields = after;
-        return Ok(None);
+        return Ok(BoxedOption::none());
     }
-    let query = take_query(alloc, &mut after)?;
+    let query = BoxedOption::some(alloc, take_query(alloc, &mut after)?)?;
     *fields = after;
-    Ok(Some(query))
+    Ok(query)
 }
 
 // the query behind the commands, of which there may be none where it is
@@ -339,12 +346,12 @@ fn take_query_behind(
     alloc: Global,
     fields: &mut Fields,
     cmds: &[Cmd],
-) -> Result<Option<Query>, CodecFault>
+) -> Result<BoxedOption<Query>, CodecFault>
     ensures { TakesWithMemory (λ q. q) (query_behind cmds.now) (unread_of fields.old) (unread_of fields.new) result }
 {
     let mut after = *fields;
     let query = take_query_or_none(alloc, &mut after)?;
-    if cmds.is_empty() && query.is_none() {
+    if cmds.is_empty() && query.get().is_none() {
         return Err(fields.bad());
     }
     *fields = after;

@@ -1,5 +1,6 @@
 ghost use Rattle.std.specs.Prelude.{◌≡◌, IfOk};
 
+use crate::{Boxed, BoxedOption};
 use cg_base::NoMemory;
 use cg_text::Txt;
 use std::alloc::Global;
@@ -23,11 +24,24 @@ impl Value {
     }
 }
 
-pub(crate) fn copy_want(alloc: Global, want: &Option<Value>) -> Result<Option<Value>, NoMemory>
+pub(crate) fn copy_boxed(alloc: Global, value: &Boxed<Value>) -> Result<Boxed<Value>, NoMemory>
+    ensures { IfOk result (λ copy. copy ≡ value.now) }
+{
+    let copy = value.get().copy(alloc)?;
+    Boxed::new(alloc, copy)
+}
+
+pub(crate) fn copy_want(
+    alloc: Global,
+    want: &BoxedOption<Value>,
+) -> Result<BoxedOption<Value>, NoMemory>
     ensures { IfOk result (λ copy. copy ≡ want.now) }
 {
-    match want {
-        Some(value) => Ok(Some(value.copy(alloc)?)),
-        None => Ok(None),
+    match want.get() {
+        Some(value) => {
+            let copy = value.copy(alloc)?;
+            BoxedOption::some(alloc, copy)
+        }
+        None => Ok(BoxedOption::none()),
     }
 }

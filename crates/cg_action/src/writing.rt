@@ -8,7 +8,7 @@ ghost use Rattle.cg_action.specs.Limits.{IsQuery, IsUpdate, IsKind};
 ghost use Rattle.cg_action.specs.ActionLimits.{IsAction, IsKey, IsValue, IsWant, IsCommand};
 ghost use Rattle.cg_action.specs.Bytes.{spelled_value, spelled_want, spelled_command, spelled_query, spelled_join, spelled_kind, spelled_action};
 
-use crate::{Action, Cmd, Kind, Query, Value};
+use crate::{Action, Boxed, BoxedOption, Cmd, Kind, Query, Value};
 use cg_base::{NoMemory, ReplicaId};
 use cg_codec::{put_action_id, put_i64, put_text, put_truth, put_u8, put_u32, put_u64};
 use cg_text::Txt;
@@ -79,12 +79,12 @@ fn write_value(out: &mut Vec<u8>, value: &Value) -> Result<(), NoMemory>
     }
 }
 
-fn write_want(out: &mut Vec<u8>, want: &Option<Value>) -> Result<(), NoMemory>
+fn write_want(out: &mut Vec<u8>, want: &BoxedOption<Value>) -> Result<(), NoMemory>
     requires { IsWant want.now }
     ensures ok { OnOk result (out.new.items ≡ out.old.items ++ spelled_want want.now) }
     ensures err { OnErr result (KeepsFront out.old.items out.new.items) }
 {
-    match want {
+    match want.get() {
         None => put_u8(out, 0),
         Some(value) => write_value(out, value),
     }
@@ -136,14 +136,18 @@ fn write_keyed(out: &mut Vec<u8>, tag: u8, key: &Txt) -> Result<(), NoMemory>
 }
 
 // what a key is wanted to have, and what it is set to
-fn write_swap(out: &mut Vec<u8>, want: &Option<Value>, value: &Value) -> Result<(), NoMemory>
+fn write_swap(
+    out: &mut Vec<u8>,
+    want: &BoxedOption<Value>,
+    value: &Boxed<Value>,
+) -> Result<(), NoMemory>
     requires want { IsWant want.now }
     requires value { IsValue value.now }
     ensures ok { OnOk result (out.new.items ≡ out.old.items ++ spelled_want want.now ++ spelled_value value.now) }
     ensures err { OnErr result (KeepsFront out.old.items out.new.items) }
 {
     write_want(out, want)?;
-    write_value(out, value)
+    write_value(out, value.get())
 }
 
 fn write_commands(out: &mut Vec<u8>, cmds: &[Cmd]) -> Result<(), NoMemory>
@@ -177,12 +181,12 @@ fn write_query(out: &mut Vec<u8>, query: &Query) -> Result<(), NoMemory>
     }
 }
 
-fn write_query_or_none(out: &mut Vec<u8>, query: &Option<Query>) -> Result<(), NoMemory>
+fn write_query_or_none(out: &mut Vec<u8>, query: &BoxedOption<Query>) -> Result<(), NoMemory>
     requires { HasOptional IsQuery query.now }
     ensures ok { OnOk result (out.new.items ≡ out.old.items ++ optional spelled_query query.now) }
     ensures err { OnErr result (KeepsFront out.old.items out.new.items) }
 {
-    match query {
+    match query.get() {
         None => put_u8(out, 0),
         Some(query) => {
             put_u8(out, 1)?;

@@ -10,7 +10,7 @@ ghost use Rattle.cg_db.specs.Plan.{listed, set_option, with_changes, ran, left_b
 
 use crate::changes::{Change, Changes};
 use crate::{Db, Effect};
-use cg_action::{Cmd, Value};
+use cg_action::{Boxed, BoxedOption, Cmd, Value};
 use cg_base::NoMemory;
 use cg_text::Txt;
 
@@ -98,15 +98,15 @@ fn swap(
     db: &Db,
     changes: &mut Changes,
     key: &Txt,
-    want: &Option<Value>,
-    value: &Value,
+    want: &BoxedOption<Value>,
+    value: &Boxed<Value>,
 ) -> Result<CommandEnd, NoMemory>
     ensures { IfOk result (λ step. run_command (with_changes db.now (listed changes.old)) (Cas key.now want.now value.now) ≡ ran step (with_changes db.now (listed changes.new))) }
 {
     if !has(db, changes, key, want) {
         return Ok(CommandEnd::Goes);
     }
-    let value = value.copy(db.alloc())?;
+    let value = value.get().copy(db.alloc())?;
     set(db, changes, key, Some(value))?;
     Ok(CommandEnd::Goes)
 }
@@ -171,12 +171,12 @@ fn number_in(db: &Db, changes: &Changes, key: &Txt) -> Option<i64>
 }
 
 // the key has what is wanted behind the changes
-fn has(db: &Db, changes: &Changes, key: &Txt, want: &Option<Value>) -> bool
+fn has(db: &Db, changes: &Changes, key: &Txt, want: &BoxedOption<Value>) -> bool
     ensures { result ≡ same_option (value_of (with_changes db.now (listed changes.now)) key.now) want.now }
 {
     match value_in(db, changes, key) {
-        None => want.is_none(),
-        Some(value) => match want {
+        None => want.get().is_none(),
+        Some(value) => match want.get() {
             None => false,
             Some(wanted) => *value == *wanted,
         },

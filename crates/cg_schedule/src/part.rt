@@ -6,7 +6,7 @@ ghost use Rattle.cg_schedule.specs.Reading.{Takes, TakesWithMemory, token_part};
 ghost use Rattle.cg_schedule.specs.Part.{number, integer, amount, weight_of, weighted, text, is_quoted, value, want, hex_digit, hex_byte, hex_bytes, fill, number_part, id_part, count_part, integer_part, amount_part, weighted_part, text_part, value_part, want_part, fill_part};
 
 use crate::{LineFault, SyntaxReason};
-use cg_action::Value;
+use cg_action::{BoxedOption, Value};
 use cg_base::{Bytes, Pieces, ReplicaId, Row, Weighted};
 use cg_text::{Txt, Words, read_i64, read_quoted, read_u64};
 use std::alloc::Global;
@@ -118,14 +118,14 @@ fn value(alloc: Global, token: &[u8]) -> Result<Value, LineFault>
 }
 
 #[tactic(auto, unfolding(crate::specs::Part::want))]
-fn want(alloc: Global, token: &[u8]) -> Result<Option<Value>, LineFault>
+fn want(alloc: Global, token: &[u8]) -> Result<BoxedOption<Value>, LineFault>
     ensures { Gives (want token.now) result }
 {
     if token == b"absent".as_slice() {
-        return Ok(None);
+        return Ok(BoxedOption::none());
     }
     let value = value(alloc, token)?;
-    Ok(Some(value))
+    Ok(BoxedOption::some(alloc, value)?)
 }
 
 fn hex_digit(byte: u8) -> Option<u8>
@@ -259,7 +259,7 @@ pub(crate) fn take_value(alloc: Global, words: &mut Words) -> Result<Value, Line
 }
 
 #[tactic(auto, unfolding(crate::specs::Part::want_part))]
-pub(crate) fn take_want(alloc: Global, words: &mut Words) -> Result<Option<Value>, LineFault>
+pub(crate) fn take_want(alloc: Global, words: &mut Words) -> Result<BoxedOption<Value>, LineFault>
     ensures { TakesWithMemory (λ w. w) want_part words.old words.new result }
 {
     let token = take_token(words)?;
