@@ -2,6 +2,7 @@
 
 ghost use Rattle.std.specs.Prelude.{◌≡◌, ◌+◌, ◌^◌, ◌<◌, length, true, false, MatchOption};
 ghost use Rattle.std.specs.Str.{is_utf8};
+ghost use Rattle.cg_codec.specs.Laws.{AreBytes};
 
 use crate::CodecFault;
 use std::str::from_utf8;
@@ -16,6 +17,11 @@ fn text_of(bytes: &[u8]) -> Option<&str>
     }
 }
 
+// a slice of bytes is seen as bytes
+fn are_bytes(bytes: &[u8])
+    ensures { AreBytes bytes.now }
+{}
+
 /// A reader of the fields that bytes hold, from the left. It can be copied, to come back to an offset.
 #[derive(Clone, Copy, Debug)]
 pub struct Fields<'a> {
@@ -27,6 +33,7 @@ pub struct Fields<'a> {
 impl<'a> Fields<'a> {
     ghost use Rattle.std.specs.Prelude.{◌≤◌, take};
     ghost use Rattle.cg_codec.specs.Reading.{take_u8, byte_between, take_u32, take_u64, take_i64, take_truth, take_count, take_text, behind};
+    ghost use Rattle.cg_codec.specs.Laws.{AreBytes};
     ghost use Rattle.cg_codec.specs.Taking.{unread_of, Takes, Ends};
 
     /// The fields of all these bytes.
@@ -151,6 +158,13 @@ impl<'a> Fields<'a> {
             }
             None => Err(self.bad()),
         }
+    }
+
+    /// What is left are bytes. It does nothing.
+    pub fn are_bytes(&self)
+        ensures { AreBytes (unread_of self.now).bytes }
+    {
+        are_bytes(self.rest);
     }
 
     /// Says that nothing is left to read.
