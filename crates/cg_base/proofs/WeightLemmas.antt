@@ -68,12 +68,6 @@ weights_of-set slots p n array is_id some most =
 
 -- ---- members
 
-weight_in-before : (set : List Weighted) (low p : ℕ) → Ascends low (ids set) → p < low → weight_in set p ≡ 0
-weight_in-before [] low p ascends lt = refl
-weight_in-before (m ∷ set) low p ascends lt =
-    let above : low ≤ m.id = ascends.0 in
-    rw (ne_eqb m.id p (λ e. omega arith)) (weight_in-before set (suc m.id) p ascends.2 (omega arith))
-
 pub weight_in-has : (set : List Weighted) (p : ℕ) → Weigh set → not (eqb (weight_in set p) 0) ≡ has (ids set) p
 weight_in-has [] p weigh = refl
 weight_in-has (m ∷ set) p weigh = elim (cases_eq m.id p) [

@@ -103,9 +103,6 @@ members-and_not a b small =
     (λ p low high. bit-and a (bit_not w32 b) p
     ∙ rw (bit-not b p small low high) (sym (has-without (members a) (members b) p ∙ rw (has-members a p low high, has-members b p low high))))
 
-eqb-places : (p id : ℕ) → 1 ≤ p → 1 ≤ id → (p - 1 ≡ id - 1 → ⊥) → p ≢ id
-eqb-places p id low one apart = λ e. apart (ap (λ n. n - 1) e)
-
 or_true : (a : Bool) → true ≡ (a || true)
 or_true true = refl
 or_true false = refl

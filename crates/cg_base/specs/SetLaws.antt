@@ -13,12 +13,6 @@ Ascends-below [] low lower le ascends = tt
 Ascends-below (p ∷ set) low lower le ascends =
     let above : low ≤ p = ascends.0 in (omega arith, ascends.1, ascends.2)
 
-pub has-before : (set : List ℕ) (low p : ℕ) → Ascends low set → p < low → has set p ≡ false
-has-before [] low p ascends lt = refl
-has-before (q ∷ set) low p ascends lt =
-    let above : low ≤ q = ascends.0 in
-    rw (ne_eqb q p (λ e. omega arith)) (has-before set (suc q) p ascends.2 (omega arith))
-
 -- a member is one of the identifiers, and not below the first
 pub has-within : (set : List ℕ) (low p : ℕ) → Ascends low set → has set p ≡ true → (low ≤ p) × (p ≤ 32)
 has-within [] low p ascends h = absurd (cc)
@@ -48,12 +42,6 @@ or_front false false = refl
 or_inner : (a b c : Bool) → (a || (b || c)) ≡ ((a || b) || c)
 or_inner true b c = refl
 or_inner false b c = refl
-
-eqb-either_way : (a b : ℕ) → eqb a b ≡ eqb b a
-eqb-either_way a b = elim (cases_eq a b) [
-  | inl same ↦ eq-eqb a b same ∙ sym (eq-eqb b a (sym same))
-  | inr apart ↦ ne_eqb a b apart ∙ sym (ne_eqb b a (λ e. apart (sym e)))
-]
 
 pub with_member-same : (q : ℕ) (set : List ℕ) (p : ℕ) → p ≡ q → with_member (q ∷ set) p ≡ q ∷ set
 with_member-same q set p same = rw (eq-eqb p q same)
@@ -91,10 +79,6 @@ filter-keeps test x xs passes = rw passes
 
 pub filter-drops : {X : Type 0} (test : X → Bool) (x : X) (xs : List X) → test x ≡ false → filter test (x ∷ xs) ≡ filter test xs
 filter-drops test x xs fails = rw fails
-
-and_true : (a : Bool) → a ≡ (a && true)
-and_true true = refl
-and_true false = refl
 
 and_false : (a : Bool) → false ≡ (a && false)
 and_false true = refl

@@ -1,5 +1,5 @@
 -- A mark keeps all that is known within the limits.
-use Rattle.std.specs.Prelude.{◌≡◌, ◌-◌, ◌≤◌, ◌<◌, ◌^◌, drop, ℕ, zero, suc, ◌==◌, nat_le, nat_lt, Bool, true, false, not, ◌&&◌, List, [], ◌∷◌, ◌++◌, find, filter, slice_get, Option, Some, None, Result, Ok, Err, IfSome, MatchOption, OnOk, OnErr, if◌then◌else◌}
+use Rattle.std.specs.Prelude.{◌≡◌, ◌-◌, ◌≤◌, ◌<◌, ◌^◌, ℕ, zero, suc, ◌==◌, nat_le, nat_lt, Bool, true, false, not, ◌&&◌, List, [], ◌∷◌, ◌++◌, find, filter, slice_get, Option, Some, None, Result, Ok, Err, IfSome, MatchOption, OnOk, OnErr, if◌then◌else◌}
 use Rattle.std.proofs.Common.{subst, sym, inl, inr, arith}
 use Rattle.std.proofs.lemmas.Bool.{cases_Bool, or_cases, and_parts, eqb-true}
 use Rattle.cg_base.specs.declared.action_id.ActionId.{ActionId}
@@ -34,11 +34,6 @@ Each-with_red P (b ∷ reds) a here all = elim (cases_Bool (id_before a.id b.id)
   | inl before ↦ rw before (here, all)
   | inr behind ↦ rw behind (all.0, Each-with_red P reds a here all.1)
 ]
-
-Each-drop : {X : Type 0} (P : X → Type 0) (n : ℕ) (xs : List X) → Each P xs → Each P (drop n xs)
-Each-drop P zero xs each = each
-Each-drop P (suc n) [] each = tt
-Each-drop P (suc n) (x ∷ xs) each = Each-drop P n xs each.1
 
 -- ---- cuts
 

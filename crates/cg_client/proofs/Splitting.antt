@@ -1,6 +1,6 @@
 -- A database in two parts, the entries at some keys and the others: what is written at these keys is written in the one part.
 use Rattle.std.proofs.Common.{◌≡◌, ℕ, Bool, true, false, cond, not, List, [], ◌∷◌, refl, sym, ap, ◌∙◌, true≢false}
-use Rattle.std.specs.Prelude.{Option, Some, None, filter, fold}
+use Rattle.std.specs.Prelude.{Some, None, filter, fold}
 use Rattle.cg_text.specs.Order.{same_text, text_before}
 use Rattle.cg_action.specs.declared.value.Value.{Value}
 use Rattle.cg_db.specs.declared.entry.DbEntry.{DbEntry}
@@ -19,15 +19,6 @@ others p q = not (p q)
 
 abbrev pub put_entry : List DbEntry → DbEntry → List DbEntry
 put_entry db e = put db e.key e.value
-
-abbrev some : Value → Option Value
-some v = Some v
-
-abbrev no_value : Option Value
-no_value = None
-
-some≢none : (v : Value) → some v ≡ no_value → ⊥
-some≢none v e = cc
 
 -- ---- what is put in front
 

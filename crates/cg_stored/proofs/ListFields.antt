@@ -78,7 +78,3 @@ next-left actions i = let next : i + 1 ≡ suc i = omega arith in rw next (next-
     next-behind [] (suc k) = refl
     next-behind (x ∷ xs) zero = sym (flat_map-cons spelled_action x xs)
     next-behind (x ∷ xs) (suc k) = next-behind xs k
-
-pub Each-both : {X : Type 0} (P : X → Type 0) (xs ys : List X) → Each P xs → Each P ys → Each P (xs ++ ys)
-Each-both P [] ys first second = second
-Each-both P (x ∷ xs) ys first second = (first.0, Each-both P xs ys first.1 second)
