@@ -6,6 +6,7 @@ mod Rebuilding
 mod Leading
 mod KeptGreens
 mod Replaying
+mod Putting
 mod Outcome
 mod Sound
 mod Chosen

@@ -6,6 +6,7 @@ pub mod Calls
 pub mod Leading
 pub mod Rebuilt
 pub mod Opening
+pub mod Putting
 pub mod Defined
 pub mod MomentLaws
 pub mod EndingLaws

@@ -1,5 +1,5 @@
 //! The changes behind a checkpoint, put into what a replica holds.
-ghost use Rattle.std.specs.Prelude.{◌≡◌, ◌==◌, ◌&&◌, suc, true, IfOk, OnOk, Some};
+ghost use Rattle.std.specs.Prelude.{◌≡◌, ◌≢◌, ◌==◌, ◌&&◌, suc, true, false, IfOk, OnOk};
 ghost use Rattle.cg_client.specs.Replica.{created};
 ghost use Rattle.std.specs.List.{list_all};
 ghost use Rattle.cg_action.specs.ActionLimits.{IsAction};
@@ -7,69 +7,87 @@ ghost use Rattle.cg_base.specs.Ids.{names};
 ghost use Rattle.cg_client.specs.Marks.{is_first};
 ghost use Rattle.cg_client.specs.Calls.{IsLineGreen};
 ghost use Rattle.cg_queue.specs.Queue.{names_of};
-ghost use Rattle.cg_records.specs.Limits.{Each};
-ghost use Rattle.cg_stored.specs.Following.{after_change, fits_known, know, green_by_name, make, all_of, are_yellow, put_values, with_values};
-ghost use Rattle.cg_stored.specs.Limits.{IsChange};
+ghost use Rattle.cg_codec.specs.Taking.{unread_of, TakesWithMemory};
+ghost use Rattle.cg_action.specs.Reading.{action_reading};
+ghost use Rattle.cg_codec.specs.declared.fault.CodecFault.TheVariants.{NoMemory as OutOfMemory};
+ghost use Rattle.cg_stored.specs.Following.{fits_known, know, green_by_name, make, are_yellow, put_values, with_values};
+ghost use Rattle.cg_stored.specs.Reading.{actions_reading, ids_reading};
 ghost use Rattle.cg_step.specs.Holds.{Holds};
 ghost use Rattle.cg_store.specs.Stands.{led_by};
 ghost use Rattle.cg_store.specs.Opening.{Follows};
+ghost use Rattle.cg_store.specs.Putting.{PutsAll};
 
-use cg_action::{Action, ActionList};
-use cg_base::{ActionId, IdList, NoMemory};
+use cg_action::{Action, actions_are_exact, take_action, take_action_id};
+use cg_base::{ActionId, NoMemory};
 use cg_client::Core;
+use cg_codec::{CodecFault, Fields};
 use cg_queue::{is_distinct, is_next};
-use cg_records::Stable;
+use cg_records::{Stable, take_stable};
 use cg_step::what_is_held_agrees;
-use cg_stored::{Change, read_change};
 use std::alloc::Global;
 
-/// Puts a record into what the replica holds, where it is a change that fits.
+/// Puts a record into what the replica holds, where it is a change that fits. Each of its actions is put in as it is read, so
+/// that no list of them is made; where the record doesn't fit, some of them have been.
+#[tactic(auto, unfolding(cg_stored::specs::Parts::change_in))]
 pub(crate) fn follow(alloc: Global, core: &mut Core, body: &[u8]) -> Result<bool, NoMemory>
     requires { Holds core.old }
     ensures follows { IfOk result (Follows (led_by core.old body.now) core.new) }
     ensures holds { IfOk result (λ fits. fits ≡ true → Holds core.new) }
 {
     what_is_held_agrees();
-    match read_change(alloc, body)? {
-        Some(change) => follow_change(core, change),
-        None => Ok(false),
+    let mut fields = Fields::new(body);
+    let stable = match take_stable(alloc, &mut fields) {
+        Ok(stable) => stable,
+        Err(fault) => return refused(fault),
+    };
+    if !know_all(alloc, core, &mut fields)? {
+        return Ok(false);
+    }
+    if !turn_all(core, &mut fields)? {
+        return Ok(false);
+    }
+    if !make_all(alloc, core, &mut fields)? {
+        return Ok(false);
+    }
+    match fields.finish() {
+        Ok(()) => put_values(core, &stable),
+        Err(_) => Ok(false),
     }
 }
 
-fn follow_change(core: &mut Core, change: Change) -> Result<bool, NoMemory>
-    requires limits { IsChange change }
-    requires holds { Holds core.old }
-    ensures { IfOk result (Follows (after_change core.old change) core.new) }
+// bytes at fault fit nowhere
+fn refused(fault: CodecFault) -> Result<bool, NoMemory>
+    ensures { IfOk result (λ fits. (fits ≡ false) × (fault ≢ OutOfMemory)) }
 {
-    what_is_held_agrees();
-    let Change {
-        stable,
-        known,
-        green,
-        made,
-    } = change;
-    let fits = know_all(core, known)?;
-    if !fits {
-        return Ok(false);
+    match fault.number() {
+        Some(_) => Ok(false),
+        None => Err(NoMemory),
     }
-    let fits = turn_all(core, green)?;
-    if !fits {
-        return Ok(false);
-    }
-    let fits = make_all(core, made)?;
-    if !fits {
-        return Ok(false);
-    }
-    put_values(core, &stable)
 }
 
-fn know_all(core: &mut Core, known: ActionList) -> Result<bool, NoMemory>
-    requires { Each IsAction known }
-    ensures { IfOk result (Follows (all_of know (Some core.old) known) core.new) }
+// an action that is read is within the limits
+fn take_one(alloc: Global, fields: &mut Fields<'_>) -> Result<Action, CodecFault>
+    ensures read { TakesWithMemory (λ a. a) action_reading (unread_of fields.old) (unread_of fields.new) result }
+    ensures within { IfOk result IsAction }
 {
-    for a in known.into_vec() {
-        let fits = know_one(core, a)?;
-        if !fits {
+    actions_are_exact();
+    fields.are_bytes();
+    take_action(alloc, fields)
+}
+
+fn know_all(alloc: Global, core: &mut Core, fields: &mut Fields<'_>) -> Result<bool, NoMemory>
+    ensures { IfOk result (PutsAll actions_reading know core.old (unread_of fields.old) core.new (unread_of fields.new)) }
+{
+    let count = match fields.take_count(u32::MAX) {
+        Ok(count) => count,
+        Err(fault) => return refused(fault),
+    };
+    for _ in 0..count {
+        let a = match take_one(alloc, fields) {
+            Ok(a) => a,
+            Err(fault) => return refused(fault),
+        };
+        if !know_one(core, a)? {
             return Ok(false);
         }
     }
@@ -104,12 +122,19 @@ fn is_first_own(core: &Core, id: &ActionId) -> bool
     }
 }
 
-fn turn_all(core: &mut Core, green: IdList) -> Result<bool, NoMemory>
-    ensures { IfOk result (Follows (all_of green_by_name (Some core.old) green) core.new) }
+fn turn_all(core: &mut Core, fields: &mut Fields<'_>) -> Result<bool, NoMemory>
+    ensures { IfOk result (PutsAll ids_reading green_by_name core.old (unread_of fields.old) core.new (unread_of fields.new)) }
 {
-    for id in green.into_vec() {
-        let fits = turn_one(core, id)?;
-        if !fits {
+    let count = match fields.take_count(u32::MAX) {
+        Ok(count) => count,
+        Err(fault) => return refused(fault),
+    };
+    for _ in 0..count {
+        let id = match take_action_id(fields) {
+            Ok(id) => id,
+            Err(fault) => return refused(fault),
+        };
+        if !turn_one(core, id)? {
             return Ok(false);
         }
     }
@@ -130,13 +155,19 @@ fn turn_one(core: &mut Core, id: ActionId) -> Result<bool, NoMemory>
     Ok(true)
 }
 
-fn make_all(core: &mut Core, made: ActionList) -> Result<bool, NoMemory>
-    requires { Each IsAction made }
-    ensures { IfOk result (Follows (all_of make (Some core.old) made) core.new) }
+fn make_all(alloc: Global, core: &mut Core, fields: &mut Fields<'_>) -> Result<bool, NoMemory>
+    ensures { IfOk result (PutsAll actions_reading make core.old (unread_of fields.old) core.new (unread_of fields.new)) }
 {
-    for a in made.into_vec() {
-        let fits = make_one(core, a)?;
-        if !fits {
+    let count = match fields.take_count(u32::MAX) {
+        Ok(count) => count,
+        Err(fault) => return refused(fault),
+    };
+    for _ in 0..count {
+        let a = match take_one(alloc, fields) {
+            Ok(a) => a,
+            Err(fault) => return refused(fault),
+        };
+        if !make_one(core, a)? {
             return Ok(false);
         }
     }

@@ -18,7 +18,7 @@ use Rattle.cg_stored.specs.Limits.{IsChange, IsStored, AreParts}
 use Rattle.cg_stored.specs.Reading.{change_reading, checkpoint_reading}
 use Rattle.cg_stored.specs.Parts.{red_cut_of, stored_in, Fits, do_agree, checkpoint_of, read_value, change_in, Saved, saved_in, saved_of, checkpoint_in}
 use Rattle.cg_stored.specs.NameLaws.{small-cut, names-within}
-use Rattle.cg_stored.specs.Laws.{IsCheckpoint, FindsChange, FindsCheckpoint}
+use Rattle.cg_stored.specs.Laws.{IsCheckpoint, FindsCheckpoint}
 use Rattle.cg_stored.proofs.ChangeFields.{change_whole}
 use Rattle.cg_stored.proofs.CheckpointFields.{parts_whole}
 use Rattle.cg_stored.proofs.Agreeing.{fits-agree, agree-fits, small-raised}
@@ -177,14 +177,6 @@ checkpoint-one id bytes g h s t first second =
     (ap (λ (q : Saved). q.generation) same, ap (λ (q : Saved). q.content) same)
 
 -- ---- what calls find
-
-pub change-finds : (bytes : List ℕ) (c : Change) → IsChange c → whole change_reading bytes ≡ Ok c → FindsChange bytes (Some c)
-unfolding change_in
-change-finds bytes c is read = (ap read_value read, is)
-
-pub change-none : (bytes : List ℕ) (fault : CodecFault) → whole change_reading bytes ≡ Err fault → FindsChange bytes None
-unfolding change_in
-change-none bytes fault read = ap read_value read
 
 pub checkpoint-finds : (id : ℕ) (bytes : List ℕ) (p : Checkpoint) → IsId id → AreParts p → whole checkpoint_reading bytes ≡ Ok p → do_agree id p ≡ true → FindsCheckpoint id bytes (Some p)
 unfolding checkpoint_in

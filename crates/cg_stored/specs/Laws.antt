@@ -6,15 +6,13 @@ use Rattle.cg_db.specs.declared.entry.DbEntry.{DbEntry}
 use Rattle.cg_db.specs.Map.{put}
 use Rattle.cg_codec.specs.declared.fault.CodecFault.{CodecFault}
 use Rattle.cg_codec.specs.declared.fault.CodecFault.TheVariants.{NoMemory}
-use Rattle.cg_stored.specs.declared.change.Change.{Change}
 use Rattle.cg_stored.specs.declared.checkpoint.Checkpoint.{Checkpoint}
-use Rattle.cg_stored.specs.Change.{spelled_change}
 use Rattle.cg_records.specs.Limits.{IsNumber}
 use Rattle.cg_stored.specs.Stored.{Stored}
 use Rattle.cg_stored.specs.Checkpoint.{spelled_parts, spelled_checkpoint}
-use Rattle.cg_stored.specs.Limits.{IsChange, IsStored, AreParts}
+use Rattle.cg_stored.specs.Limits.{IsStored, AreParts}
 use Rattle.cg_stored.specs.Reading.{entry_reading}
-use Rattle.cg_stored.specs.Parts.{stored_in, Fits, change_in, saved_in, checkpoint_in}
+use Rattle.cg_stored.specs.Parts.{stored_in, Fits, saved_in, checkpoint_in}
 use Rattle.cg_stored.specs.Agreeing.{Agrees}
 
 -- the call gave the one value that the bytes spell; where it gave none they spell none, unless memory was refused
@@ -22,10 +20,7 @@ abbrev pub Gives : {X : Type 0} → (X → Type 0) → (X → List ℕ) → List
 Gives Has spelling bytes (Ok x) = Has x × (bytes ≡ spelling x)
 Gives {X} Has spelling bytes (Err fault) = fault ≢ NoMemory → (x : X) → Has x → bytes ≢ spelling x
 
--- the same of a change, and of the parts of a checkpoint
-abbrev pub GivesChange : List ℕ → Result Change CodecFault → Type 0
-GivesChange bytes r = Gives IsChange spelled_change bytes r
-
+-- the same of the parts of a checkpoint
 abbrev pub GivesParts : List ℕ → Result Checkpoint CodecFault → Type 0
 GivesParts bytes r = Gives AreParts spelled_parts bytes r
 
@@ -36,11 +31,6 @@ pub record IsCheckpoint (id : ℕ) (bytes : List ℕ) (generation : ℕ) (s : St
   pub of : s.id ≡ id
   pub is : IsStored s
   pub agrees : Agrees s
-
--- a call found the change that the bytes are, which is within the limits, or that they are none
-abbrev pub FindsChange : List ℕ → Option Change → Type 0
-FindsChange bytes None = change_in bytes ≡ None
-FindsChange bytes (Some c) = (change_in bytes ≡ Some c) × IsChange c
 
 -- the parts of a checkpoint of a replica, within the limits
 pub record AreSaved (id : ℕ) (p : Checkpoint) : Type 0 where

@@ -1,21 +1,15 @@
-ghost use Rattle.std.specs.Prelude.{◌≡◌, ◌++◌, ◌+◌, ◌<◌, ◌^◌, IsTrue, OnOk, OnErr, IfOk};
+ghost use Rattle.std.specs.Prelude.{◌≡◌, ◌++◌, ◌+◌, ◌<◌, ◌^◌, IsTrue, OnOk, OnErr};
 ghost use Rattle.cg_base.specs.Fronts.{KeepsFront};
-ghost use Rattle.cg_codec.specs.Reading.{whole};
-ghost use Rattle.cg_codec.specs.Taking.{unread_of, TakesWithMemory, Decodes};
 ghost use Rattle.cg_action.specs.ActionLimits.{IsAction, IsActionId};
 ghost use Rattle.cg_records.specs.Limits.{Each, IsStable};
 ghost use Rattle.cg_stored.specs.Change.{spelled_change};
 ghost use Rattle.cg_stored.specs.Limits.{IsChange};
-ghost use Rattle.cg_stored.specs.Reading.{change_reading};
-ghost use Rattle.cg_stored.specs.Laws.{GivesChange, FindsChange};
 ghost use Rattle.cg_stored.specs.Following.{change_with};
 
-use crate::lists::{put_actions, put_ids, take_actions, take_ids};
+use crate::lists::{put_actions, put_ids};
 use cg_action::{Action, ActionList};
 use cg_base::{ActionId, IdList, NoMemory};
-use cg_codec::{CodecFault, Fields};
-use cg_records::{Stable, put_stable, take_stable};
-use std::alloc::Global;
+use cg_records::{Stable, put_stable};
 
 /// What a commit changes of what stands on the disk.
 #[derive(Drop)]
@@ -85,52 +79,4 @@ fn write_change(
     put_actions(out, unwritten, known)?;
     put_ids(out, green)?;
     put_actions(out, &[], made)
-}
-
-/// The change that all of the bytes spell. Where they spell none, the first fault from the left.
-pub fn decode_change(alloc: Global, bytes: &[u8]) -> Result<Change, CodecFault>
-    ensures read { Decodes (λ c. c) (whole change_reading bytes.now) result }
-    ensures exact { GivesChange bytes.now result }
-{
-    read_all(alloc, bytes)
-}
-
-fn read_all(alloc: Global, bytes: &[u8]) -> Result<Change, CodecFault>
-    ensures { Decodes (λ c. c) (whole change_reading bytes.now) result }
-{
-    let mut fields = Fields::new(bytes);
-    let change = take_change(alloc, &mut fields)?;
-    fields.finish()?;
-    Ok(change)
-}
-
-/// The change that all of the bytes are, if they are one.
-pub fn read_change(alloc: Global, bytes: &[u8]) -> Result<Option<Change>, NoMemory>
-    ensures { IfOk result (FindsChange bytes.now) }
-{
-    match decode_change(alloc, bytes) {
-        Ok(change) => Ok(Some(change)),
-        Err(fault) => match fault.number() {
-            Some(_) => Ok(None),
-            None => Err(NoMemory),
-        },
-    }
-}
-
-#[tactic(auto, unfolding(crate::specs::Reading::change_reading))]
-fn take_change(alloc: Global, fields: &mut Fields<'_>) -> Result<Change, CodecFault>
-    ensures { TakesWithMemory (λ c. c) change_reading (unread_of fields.old) (unread_of fields.new) result }
-{
-    let mut after = *fields;
-    let stable = take_stable(alloc, &mut after)?;
-    let known = take_actions(alloc, &mut after)?;
-    let green = take_ids(alloc, &mut after)?;
-    let made = take_actions(alloc, &mut after)?;
-    *fields = after;
-    Ok(Change {
-        stable,
-        known,
-        green,
-        made,
-    })
 }

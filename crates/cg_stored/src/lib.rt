@@ -17,7 +17,7 @@ mod servers;
 mod writing;
 
 pub use agreement::count_of;
-pub use change::{Change, decode_change, put_change, read_change};
+pub use change::{Change, put_change};
 pub use checkpoint::{
     Checkpoint, Kept, Reached, decode_checkpoint, generation_of, read_checkpoint,
 };

@@ -8,10 +8,10 @@ ghost use Rattle.cg_records.specs.Limits.{Each};
 ghost use Rattle.cg_action.specs.ActionLimits.{IsAction, IsActionId};
 ghost use Rattle.cg_action.specs.Bytes.{spelled_action};
 ghost use Rattle.cg_stored.specs.Limits.{IsShort, AreActions};
-ghost use Rattle.cg_stored.specs.Reading.{actions_reading, ids_reading};
+ghost use Rattle.cg_stored.specs.Reading.{actions_reading};
 
-use cg_action::{Action, ActionList, put_action, take_action, take_action_id};
-use cg_base::{ActionId, IdList, NoMemory, Row};
+use cg_action::{Action, ActionList, put_action, take_action};
+use cg_base::{ActionId, NoMemory, Row};
 use cg_codec::{CodecFault, Fields, put_action_id, put_u32};
 use std::alloc::Global;
 
@@ -31,22 +31,6 @@ pub(crate) fn take_actions(alloc: Global, fields: &mut Fields<'_>) -> Result<Act
     }
     *fields = after;
     Ok(actions)
-}
-
-/// Takes names of actions, in any order: how many, and these.
-#[tactic(auto, unfolding(crate::specs::Reading::ids_reading))]
-pub(crate) fn take_ids(alloc: Global, fields: &mut Fields<'_>) -> Result<IdList, CodecFault>
-    ensures { TakesWithMemory (λ l. l) ids_reading (unread_of fields.old) (unread_of fields.new) result }
-{
-    let mut after = *fields;
-    let count = after.take_count(u32::MAX)?;
-    let mut ids = Row::with_capacity(alloc, count.min(FIRST_ROOM) as usize)?;
-    for _ in 0..count {
-        let id = take_action_id(&mut after)?;
-        ids.push(id)?;
-    }
-    *fields = after;
-    Ok(ids)
 }
 
 /// Puts two lists of actions at the end, as one.

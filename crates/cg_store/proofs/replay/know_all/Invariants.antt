@@ -1,10 +1,8 @@
-use Rattle.std.proofs.Common.{◌≡◌, Some}
-use Rattle.std.specs.Vec.Iter.{into_iter_items}
-use Rattle.cg_action.specs.ActionLimits.{IsAction}
-use Rattle.cg_records.specs.Limits.{Each}
-use Rattle.cg_stored.specs.Following.{know, all_of}
+use Rattle.cg_codec.specs.Taking.{unread_of}
+use Rattle.cg_action.specs.Reading.{action_reading}
+use Rattle.cg_stored.specs.Following.{know}
+use Rattle.cg_store.proofs.Putting.{Goes}
 use Rattle.cg_store.proofs.replay.know_all.Given as goal
 
--- those that are left lead to what all lead to
-abbrev pub invariant-loop-a : goal.invariant-loop-a
-invariant-loop-a l = (all_of know (Some l.core) (into_iter_items l.a-iterator) ≡ all_of know (Some l.fn.core) l.fn.known) × Each IsAction (into_iter_items l.a-iterator)
+abbrev pub invariant-loop : goal.invariant-loop
+invariant-loop l = Goes action_reading know l.fn.core l.count (unread_of l.initial.fields) l.counter (unread_of l.fields) l.core

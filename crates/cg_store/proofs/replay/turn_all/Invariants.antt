@@ -1,8 +1,8 @@
-use Rattle.std.proofs.Common.{◌≡◌, Some}
-use Rattle.std.specs.Vec.Iter.{into_iter_items}
-use Rattle.cg_stored.specs.Following.{green_by_name, all_of}
+use Rattle.cg_codec.specs.Taking.{unread_of}
+use Rattle.cg_action.specs.Reading.{id_reading}
+use Rattle.cg_stored.specs.Following.{green_by_name}
+use Rattle.cg_store.proofs.Putting.{Goes}
 use Rattle.cg_store.proofs.replay.turn_all.Given as goal
 
--- those that are left lead to what all lead to
-abbrev pub invariant-loop-id : goal.invariant-loop-id
-invariant-loop-id l = all_of green_by_name (Some l.core) (into_iter_items l.id-iterator) ≡ all_of green_by_name (Some l.fn.core) l.fn.green
+abbrev pub invariant-loop : goal.invariant-loop
+invariant-loop l = Goes id_reading green_by_name l.fn.core l.count (unread_of l.initial.fields) l.counter (unread_of l.fields) l.core
