@@ -124,6 +124,28 @@ receive 2 3
 receive 1 2
 deliver 2 4 -> refused 6 3";
 
+// a member goes on receiving others' places behind one that it lacks, but none of its sender's
+const BEHIND_A_GAP: &str = "add 1
+add 2
+add 3
+merge 1,2,3 -> 1: regular 1 {1,2,3}; 2: regular 1 {1,2,3}; 3: regular 1 {1,2,3}
+send 1 a
+send 2 b
+send 2 c
+send 1 d
+send 2 e
+order 1
+order 2
+order 2
+order 1
+order 2
+receive 3 2
+receive 3 3
+receive 3 4 -> refused 15 1
+receive 3 5
+receive 3 1
+receive 3 4";
+
 // sets that can't part or be merged
 const NO_SUCH_SETS: &str = "split - -> refused 9
 merge - -> refused 9
@@ -272,6 +294,7 @@ fn lists_of_calls_hand_out_what_the_rules_say(rt: HostRuntime) {
         WITHOUT_A_PLACE,
         NOTHING_THERE,
         IN_TURN,
+        BEHIND_A_GAP,
         NO_SUCH_SETS,
     ] {
         let mut group = Group::new(rt.alloc());
