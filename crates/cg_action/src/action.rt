@@ -2,7 +2,7 @@ ghost use Rattle.std.specs.Prelude.{◌≡◌, IfOk};
 
 use crate::commands::copy_commands;
 use crate::query::copy_query;
-use crate::{BoxedOption, CmdList, Query};
+use crate::{CmdList, Query};
 use cg_base::{ActionId, NoMemory, ReplicaId, Row};
 use std::alloc::Global;
 
@@ -10,10 +10,7 @@ use std::alloc::Global;
 #[derive(Drop, PartialEq, Eq)]
 pub enum Kind {
     /// Runs at most 16 commands, and then asks the query. Without commands there is a query.
-    Update {
-        cmds: CmdList,
-        query: BoxedOption<Query>,
-    },
+    Update { cmds: CmdList, query: Option<Query> },
     /// Makes the replica a server that counts with this weight, from 1.
     Join(ReplicaId, u8),
     /// Takes the server out.

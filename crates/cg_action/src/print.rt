@@ -77,14 +77,14 @@ impl Display for Query {
 #[derive(Clone, Copy)]
 pub struct Update<'a> {
     pub cmds: &'a [Cmd],
-    pub query: &'a BoxedOption<Query>,
+    pub query: &'a Option<Query>,
 }
 
 impl Display for Update<'_> {
     ghost output = { λ update. Some (update_text update.cmds.now update.query.now) };
 
     fn fmt<W: Write>(&self, f: &mut Formatter<W>) -> fmt::Result {
-        let Some(query) = self.query.get() else {
+        let Some(query) = self.query else {
             return write_commands(f, self.cmds);
         };
         if self.cmds.is_empty() {

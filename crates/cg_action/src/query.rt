@@ -1,6 +1,5 @@
 ghost use Rattle.std.specs.Prelude.{◌≡◌, IfOk};
 
-use crate::BoxedOption;
 use cg_base::NoMemory;
 use cg_text::Txt;
 use std::alloc::Global;
@@ -30,14 +29,11 @@ impl Query {
 }
 
 /// Another query that is the same, or none.
-pub fn copy_query(alloc: Global, query: &BoxedOption<Query>) -> Result<BoxedOption<Query>, NoMemory>
+pub fn copy_query(alloc: Global, query: &Option<Query>) -> Result<Option<Query>, NoMemory>
     ensures { IfOk result (λ copy. copy ≡ query.now) }
 {
-    match query.get() {
-        Some(query) => {
-            let copy = query.copy(alloc)?;
-            BoxedOption::some(alloc, copy)
-        }
-        None => Ok(BoxedOption::none()),
+    match query {
+        Some(query) => Ok(Some(query.copy(alloc)?)),
+        None => Ok(None),
     }
 }

@@ -327,17 +327,17 @@ fn take_query(alloc: Global, fields: &mut Fields) -> Result<Query, CodecFault>
     Ok(query)
 }
 
-fn take_query_or_none(alloc: Global, fields: &mut Fields) -> Result<BoxedOption<Query>, CodecFault>
+fn take_query_or_none(alloc: Global, fields: &mut Fields) -> Result<Option<Query>, CodecFault>
     ensures { TakesWithMemory (λ q. q) (take_optional query_reading) (unread_of fields.old) (unread_of fields.new) result }
 {
     let mut after = *fields;
     if !after.take_truth()? {
         *fields = after;
-        return Ok(BoxedOption::none());
+        return Ok(None);
     }
-    let query = BoxedOption::some(alloc, take_query(alloc, &mut after)?)?;
+    let query = take_query(alloc, &mut after)?;
     *fields = after;
-    Ok(query)
+    Ok(Some(query))
 }
 
 // the query behind the commands, of which there may be none where it is
@@ -346,12 +346,12 @@ fn take_query_behind(
     alloc: Global,
     fields: &mut Fields,
     cmds: &[Cmd],
-) -> Result<BoxedOption<Query>, CodecFault>
+) -> Result<Option<Query>, CodecFault>
     ensures { TakesWithMemory (λ q. q) (query_behind cmds.now) (unread_of fields.old) (unread_of fields.new) result }
 {
     let mut after = *fields;
     let query = take_query_or_none(alloc, &mut after)?;
-    if cmds.is_empty() && query.get().is_none() {
+    if cmds.is_empty() && query.is_none() {
         return Err(fields.bad());
     }
     *fields = after;

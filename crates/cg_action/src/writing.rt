@@ -181,12 +181,12 @@ fn write_query(out: &mut Vec<u8>, query: &Query) -> Result<(), NoMemory>
     }
 }
 
-fn write_query_or_none(out: &mut Vec<u8>, query: &BoxedOption<Query>) -> Result<(), NoMemory>
+fn write_query_or_none(out: &mut Vec<u8>, query: &Option<Query>) -> Result<(), NoMemory>
     requires { HasOptional IsQuery query.now }
     ensures ok { OnOk result (out.new.items ≡ out.old.items ++ optional spelled_query query.now) }
     ensures err { OnErr result (KeepsFront out.old.items out.new.items) }
 {
-    match query.get() {
+    match query {
         None => put_u8(out, 0),
         Some(query) => {
             put_u8(out, 1)?;

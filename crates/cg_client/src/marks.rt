@@ -197,7 +197,7 @@ fn answer_to(db: &Entries, kind: &Kind) -> Result<Option<Answer>, NoMemory>
     ensures { IfOk result (λ found. found ≡ option_map (answer db.now) (query_of kind.now)) }
 {
     match kind {
-        Kind::Update { query, .. } => match query.get() {
+        Kind::Update { query, .. } => match query {
             Some(query) => {
                 let found = db.answer(query)?;
                 Ok(Some(found))

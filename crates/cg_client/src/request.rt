@@ -1,16 +1,13 @@
 ghost use Rattle.std.specs.Prelude.{◌≡◌};
 
-use cg_action::{BoxedOption, CmdList, Kind, Query};
+use cg_action::{CmdList, Kind, Query};
 use cg_base::ReplicaId;
 
 /// What a client asks of a replica.
 #[derive(Drop)]
 pub enum Request {
     /// Commands, and a query behind them.
-    Update {
-        cmds: CmdList,
-        query: BoxedOption<Query>,
-    },
+    Update { cmds: CmdList, query: Option<Query> },
     /// The replica is to become a server with this weight, from 1.
     Join(ReplicaId, u8),
     /// The server is to leave.

@@ -15,7 +15,7 @@ ghost use Rattle.cg_events.specs.Happening.{Happens};
 
 use crate::admission::{join_refused, leave_refused, takes_part};
 use crate::{Going, Happened, WorldState};
-use cg_action::{BoxedOption, CmdList, Query, copy_commands, copy_query};
+use cg_action::{CmdList, Query, copy_commands, copy_query};
 use cg_base::{NoMemory, ReplicaId};
 use cg_client::Request;
 use std::alloc::Global;
@@ -27,7 +27,7 @@ pub(crate) fn request(
     state: WorldState,
     p: ReplicaId,
     cmds: &CmdList,
-    query: &BoxedOption<Query>,
+    query: &Option<Query>,
 ) -> Happened
     requires limits { IsUpdate cmds.now query.now }
     requires booked { IsBooked state }
@@ -48,7 +48,7 @@ fn update(
     state: WorldState,
     p: ReplicaId,
     cmds: &CmdList,
-    query: &BoxedOption<Query>,
+    query: &Option<Query>,
 ) -> Result<Going, NoMemory>
     requires limits { IsUpdate cmds.now query.now }
     requires booked { IsBooked state }
@@ -59,7 +59,7 @@ fn update(
 }
 
 // What the client asks for.
-fn copied(alloc: Global, cmds: &CmdList, query: &BoxedOption<Query>) -> Result<Request, NoMemory>
+fn copied(alloc: Global, cmds: &CmdList, query: &Option<Query>) -> Result<Request, NoMemory>
     ensures { IfOk result (λ r. kind_of r ≡ Update cmds.now query.now) }
 {
     let cmds = copy_commands(alloc, cmds.as_slice())?;

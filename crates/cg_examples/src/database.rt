@@ -1,6 +1,6 @@
 ghost use Rattle.cg_action.specs.ActionLimits.{IsCommand};
 
-use cg_action::{Action, BoxedOption, Cmd, CmdList, Kind, Value};
+use cg_action::{Action, Cmd, CmdList, Kind, Value};
 use cg_base::{ActionId, NoMemory, ReplicaId};
 use cg_db::{Db, Effect};
 use cg_text::Txt;
@@ -17,10 +17,7 @@ fn run(alloc: Global, db: &mut Db, cmd: Cmd) -> Result<Effect, NoMemory>
     let action = Action {
         id: ActionId { creator, index: 1 },
         green_line: 0,
-        kind: Kind::Update {
-            cmds,
-            query: BoxedOption::none(),
-        },
+        kind: Kind::Update { cmds, query: None },
     };
     db.apply(&action)
 }

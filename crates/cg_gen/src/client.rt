@@ -4,7 +4,7 @@ ghost use Rattle.std.specs.Prelude.{◌≡◌, ◌<◌, IfOk};
 ghost use Rattle.cg_gen.specs.Generated.{asking, increment, set_and_get, weak_get, passes, name};
 
 use crate::draws::Draws;
-use cg_action::{BoxedOption, Cmd, CmdList, Query, Value};
+use cg_action::{Cmd, CmdList, Query, Value};
 use cg_base::{NoMemory, ReplicaId};
 use cg_schedule::Event;
 use cg_text::Txt;
@@ -43,7 +43,7 @@ fn increment(alloc: Global, draws: &mut Draws, replicas: ReplicaId) -> Result<Ev
     Ok(Event::Request {
         p,
         cmds,
-        query: BoxedOption::none(),
+        query: None,
     })
 }
 
@@ -58,8 +58,11 @@ fn set_and_get(alloc: Global, draws: &mut Draws, replicas: ReplicaId) -> Result<
     let key = name(alloc, b't', key)?;
     let value = Value::Int(n as i64);
     let cmds = CmdList::one(alloc, Cmd::Put { key, value });
-    let query = BoxedOption::some(alloc, Query::Get(counter))?;
-    Ok(Event::Request { p, cmds, query })
+    Ok(Event::Request {
+        p,
+        cmds,
+        query: Some(Query::Get(counter)),
+    })
 }
 
 #[tactic(auto, unfolding(crate::specs::Generated::weak_get))]

@@ -3,7 +3,7 @@ ghost use Rattle.cg_agree.specs.Run.{MayStand};
 ghost use Rattle.cg_agree.specs.SeatLaws.{IsSeated};
 ghost use Rattle.cg_world.specs.Steps.{IsCounted};
 
-use cg_action::{BoxedOption, CmdList, Kind, Query};
+use cg_action::{CmdList, Kind, Query};
 use cg_base::{ActionId, IdSet, ReplicaId, WeightSet};
 use cg_schedule::Event;
 use cg_world::{Stepped, World};
@@ -57,7 +57,7 @@ fn ask(alloc: Global, world: World, p: ReplicaId) -> Result<World, Fail>
     ensures { IfOk result IsSeated }
 {
     let cmds = CmdList::new(alloc);
-    let query = BoxedOption::some(alloc, Query::Count)?;
+    let query = Some(Query::Count);
     take_step(alloc, world, &Event::Request { p, cmds, query })
 }
 
@@ -76,9 +76,10 @@ fn is_asked(world: &World, creator: ReplicaId, index: u64, greens: u64) -> bool 
 
 fn is_count(kind: &Kind) -> bool {
     match kind {
-        Kind::Update { cmds, query } => {
-            matches!(query.get(), Some(Query::Count)) && cmds.as_slice().is_empty()
-        }
+        Kind::Update {
+            cmds,
+            query: Some(Query::Count),
+        } => cmds.as_slice().is_empty(),
         _ => false,
     }
 }

@@ -6,7 +6,7 @@ ghost use Rattle.cg_schedule.specs.Command.{key_part, put_reading, del_reading, 
 
 use crate::part::{take_amount, take_integer, take_text, take_token, take_value, take_want};
 use crate::{LineFault, SyntaxReason};
-use cg_action::{Boxed, BoxedOption, Cmd, CmdList, Query};
+use cg_action::{Boxed, Cmd, CmdList, Query};
 use cg_text::{Txt, Words};
 use std::alloc::Global;
 
@@ -152,11 +152,11 @@ fn with_query(
     alloc: Global,
     words: &mut Words,
     cmds: CmdList,
-) -> Result<(CmdList, BoxedOption<Query>), LineFault>
+) -> Result<(CmdList, Option<Query>), LineFault>
     ensures { TakesWithMemory (λ u. u) (with_query cmds) words.old words.new result }
 {
-    let query = BoxedOption::some(alloc, take_query(alloc, words)?)?;
-    Ok((cmds, query))
+    let query = take_query(alloc, words)?;
+    Ok((cmds, Some(query)))
 }
 
 fn one_too_many(word: &[u8]) -> LineFault
@@ -174,7 +174,7 @@ fn take_commands<'a>(
     alloc: Global,
     words: &mut Words<'a>,
     first: &'a [u8],
-) -> Result<(CmdList, BoxedOption<Query>), LineFault>
+) -> Result<(CmdList, Option<Query>), LineFault>
     ensures { TakesWithMemory (λ u. u) (commands 16 [] first.now) words.old words.new result }
 {
     let mut cmds = CmdList::new(alloc);
@@ -182,7 +182,7 @@ fn take_commands<'a>(
     for _ in 0..16_u32 {
         cmds.push(take_command(alloc, words, word)?)?;
         let Some(joint) = words.next() else {
-            return Ok((cmds, BoxedOption::none()));
+            return Ok((cmds, None));
         };
         if is_question_mark(joint) {
             return with_query(alloc, words, cmds);
@@ -201,7 +201,7 @@ fn take_update_of<'a>(
     alloc: Global,
     words: &mut Words<'a>,
     token: &'a [u8],
-) -> Result<(CmdList, BoxedOption<Query>), LineFault>
+) -> Result<(CmdList, Option<Query>), LineFault>
     ensures { TakesWithMemory (λ u. u) (update_of token.now) words.old words.new result }
 {
     if is_question_mark(token) {
@@ -215,7 +215,7 @@ fn take_update_of<'a>(
 pub(crate) fn take_update(
     alloc: Global,
     words: &mut Words,
-) -> Result<(CmdList, BoxedOption<Query>), LineFault>
+) -> Result<(CmdList, Option<Query>), LineFault>
     ensures { TakesWithMemory (λ u. u) update_reading words.old words.new result }
 {
     let token = take_token(words)?;

@@ -1,4 +1,4 @@
-use cg_action::{BoxedOption, CmdList, Query};
+use cg_action::{CmdList, Query};
 use cg_base::{Bytes, IdSet, ReplicaId, WeightSet};
 
 /// One event of a schedule.
@@ -14,7 +14,7 @@ pub enum Event {
     Request {
         p: ReplicaId,
         cmds: CmdList,
-        query: BoxedOption<Query>,
+        query: Option<Query>,
     },
     /// A client asks the replica for the answer of its green actions.
     Weak {

@@ -11,7 +11,7 @@ ghost use Rattle.cg_action.specs.declared.action.Action.{Action as ActionOf};
 ghost use Rattle.cg_base.specs.declared.action_id.ActionId.{ActionId};
 ghost use Rattle.cg_struck.specs.Bench.{IsBooked, IsFree, IsAwaited, FallsWithin};
 
-use cg_action::{Action, BoxedOption, CmdList, Query, put_action};
+use cg_action::{Action, CmdList, Query, put_action};
 use cg_base::{Bytes, IdSet, NoMemory, ReplicaId, Row, WeightSet};
 use cg_client::{Core, Request};
 use cg_disk::{Disk, ModelDisk};
@@ -71,13 +71,15 @@ fn entered(alloc: Global) -> Result<Input, NoMemory>
     delivered(alloc, Delivery::Regular { conf: 1, set })
 }
 
-fn asked(alloc: Global) -> Result<Input, NoMemory>
-    ensures limits { IfOk result HasLimits }
-    ensures booked { IfOk result IsBooked }
+fn asked(alloc: Global) -> Input
+    ensures limits { HasLimits result }
+    ensures booked { IsBooked result }
 {
     let cmds = CmdList::new(alloc);
-    let query = BoxedOption::some(alloc, Query::Count)?;
-    Ok(Input::Request(Request::Update { cmds, query }))
+    Input::Request(Request::Update {
+        cmds,
+        query: Some(Query::Count),
+    })
 }
 
 fn input_of(alloc: Global, event: &str, said: Bytes) -> Result<Input, NoMemory>
@@ -85,7 +87,7 @@ fn input_of(alloc: Global, event: &str, said: Bytes) -> Result<Input, NoMemory>
     ensures booked { IfOk result IsBooked }
 {
     match event {
-        "request" => asked(alloc),
+        "request" => Ok(asked(alloc)),
         "regular" => entered(alloc),
         _ => heard(alloc, said),
     }

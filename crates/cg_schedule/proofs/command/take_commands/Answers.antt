@@ -11,7 +11,7 @@ returns-in_err-take_command c =
 pub returns-in_default : goal.returns-in_default
 returns-in_default c =
     let read = commands-read 16 c.loop.counter c.loop.cmds c.push.new.self c.loop.word.now c.in_ok-take_command.field-0 c.loop.words c.take_command.new.words _ c.loop-test.true c.in_ok-take_command.ensures c.in_ok-push.ensures.ok c.loop.invariant in
-    rw (c.in_default.ensures.1, c.none.ensures) (sym (rw (c.in_default.ensures.0) at read))
+    rw c.in_default.ensures.1 (sym (rw (c.in_default.ensures.0) at read))
 
 pub returns-then-is_question_mark : goal.returns-then-is_question_mark
 returns-then-is_question_mark c =
