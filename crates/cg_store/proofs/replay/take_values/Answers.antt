@@ -6,14 +6,14 @@ use Rattle.cg_queue.specs.Queue.{names_of}
 use Rattle.cg_store.proofs.Replaying.{are_reds}
 use Rattle.cg_store.proofs.replay.take_values.Goals as goal
 
-pub take_over-requires-reds : goal.take_over-requires-reds
-take_over-requires-reds c =
+pub take_over-requires-clause-reds : goal.take_over-requires-clause-reds
+take_over-requires-clause-reds c =
     let q = c.args.core.now.queue in
     let ids = c.args.stable.now.yellow.list in
     are_reds q ids (and_parts (is_distinct ids) (list_all (names (names_of q.reds)) ids) c.requires).1
 
-pub take_over-requires-distinct : goal.take_over-requires-distinct
-take_over-requires-distinct c =
+pub take_over-requires-clause-distinct : goal.take_over-requires-clause-distinct
+take_over-requires-clause-distinct c =
     let q = c.args.core.now.queue in
     let ids = c.args.stable.now.yellow.list in
     (and_parts (is_distinct ids) (list_all (names (names_of q.reds)) ids) c.requires).0
