@@ -10,32 +10,34 @@ use crate::limits::STEPS;
 use crate::progress::{Progress, Report};
 use crate::putting::{finish, put_step};
 use crate::status::{Limit, Status};
-use crate::totals::Totals;
 use cg_io::Sink;
 use cg_report::Entry;
 use cg_schedule::{Event, Reader};
 use cg_world::{Stepped, World};
 use std::alloc::Global;
 
-// The step of an event that was admitted, from how far the run had come before it to this world.
+// The step of an event that was admitted, which has led to this world: the rest is as it was before it.
 fn count_step<K: Sink>(
     alloc: Global,
     output: &mut K,
     report: Report,
     line: u64,
-    world: World,
+    next: Progress,
     entry: Entry,
-    reader: Reader,
-    count: u64,
-    totals: Totals,
 ) -> Result<Progress, Status>
     requires few_faults { (K.view output.old).faults < 2 ^ 62 }
-    requires started { reader.started ≡ true }
-    requires seated { 0 < length world.seats }
-    ensures performs { (s : Progress) (event : Event) → s.reader ≡ reader → s.count ≡ count → s.totals ≡ totals → Performs report (stepped line event (record { entry = entry; world = world }) s)
+    requires started { next.reader.started ≡ true }
+    requires seated { 0 < length next.world.seats }
+    ensures performs { (s : Progress) (event : Event) → s.reader ≡ next.reader → s.count ≡ next.count → s.totals ≡ next.totals → Performs report (stepped line event (record { entry = entry; world = next.world }) s)
         (K.view output.old) (K.view output.new) result }
     ensures begun { IfOk result (λ s. HasBegun s) }
 {
+    let Progress {
+        world,
+        reader,
+        count,
+        totals,
+    } = next;
     if count >= STEPS {
         drop(world);
         let what = Limit::Steps;
@@ -85,9 +87,13 @@ pub fn take_step<K: Sink>(
     } = progress;
     match world.step(alloc, event) {
         Stepped::Done { world, entry } => {
-            count_step(
-                alloc, output, report, line, world, entry, reader, count, totals,
-            )
+            let next = Progress {
+                world,
+                reader,
+                count,
+                totals,
+            };
+            count_step(alloc, output, report, line, next, entry)
         }
         Stepped::Refused {
             world: same,
