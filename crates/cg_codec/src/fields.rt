@@ -178,11 +178,18 @@ impl<'a> Fields<'a> {
         }
     }
 
-    // the next bytes, behind which the reader then stands
+    /// How many bytes are left to read.
+    pub fn left(&self) -> usize
+        ensures { result ≡ length (unread_of self.now).bytes }
+    {
+        self.rest.len()
+    }
+
+    /// The next bytes, behind which the reader then stands.
     #[inline(always)]
-    fn skip(&mut self, count: usize) -> &'a [u8]
-        requires { count ≤ length self.old.rest.now }
-        ensures front { result.now ≡ take count self.old.rest.now }
+    pub fn skip(&mut self, count: usize) -> &'a [u8]
+        requires { count ≤ length (unread_of self.old).bytes }
+        ensures front { result.now ≡ take count (unread_of self.old).bytes }
         ensures left { unread_of self.new ≡ behind count (unread_of self.old) }
     {
         let (front, rest) = self.rest.split_at(count);

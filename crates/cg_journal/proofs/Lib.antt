@@ -10,3 +10,4 @@ mod Opening
 mod Parsing
 mod Putting
 mod Reading
+mod Spans

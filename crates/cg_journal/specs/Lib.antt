@@ -1,4 +1,5 @@
 pub mod Records
+pub mod Bodies
 pub mod Strikes
 pub mod Put
 pub mod Adds

@@ -3,6 +3,7 @@ ghost use Rattle.std.specs.Prelude.{◌≡◌, ℕ, ◌+◌, ◌<◌, ◌≤◌,
 ghost use Rattle.cg_journal.specs.Records.{records, framed, IsFramed};
 
 use crate::add::add;
+use crate::bodies::Bodies;
 use crate::close::close;
 use crate::ends::Ends;
 use crate::format::format_sides;
@@ -10,7 +11,6 @@ use crate::framed::framed;
 use crate::load::load;
 use crate::open::{FormatErr, JournalOpen};
 use crate::parse::parse_both;
-use cg_base::BytesList;
 use cg_disk::{Disk, DiskFault, ModelDisk, Side};
 use std::alloc::Global;
 use std::fmt;
@@ -73,7 +73,7 @@ impl<D: Disk> Journal<D> {
     pub fn open(
         alloc: Global,
         mut disk: D,
-    ) -> Result<(Journal<D>, BytesList, BytesList), JournalOpen<D>>
+    ) -> Result<(Journal<D>, Bodies, Bodies), JournalOpen<D>>
         requires { (D.view disk).time + 5 ≤ 2 ^ 62 }
         ensures { Opens D.view (D.view disk) result }
     {
@@ -82,7 +82,7 @@ impl<D: Disk> Journal<D> {
             Err(DiskFault::Failed) => return Err(JournalOpen::Lost(disk)),
             Err(DiskFault::NoMemory) => return Err(JournalOpen::NoMemory(disk)),
         };
-        match parse_both(alloc, &a, &b) {
+        match parse_both(alloc, a, b) {
             Ok(Some((a, b))) => Ok((
                 Journal {
                     disk,

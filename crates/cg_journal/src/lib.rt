@@ -7,6 +7,7 @@
 #![tactic(auto)]
 
 mod add;
+mod bodies;
 mod close;
 mod ends;
 mod format;
@@ -17,5 +18,6 @@ mod open;
 mod parse;
 mod put;
 
+pub use bodies::Bodies;
 pub use journal::{AppendErr, Journal};
 pub use open::{FormatErr, JournalOpen};

@@ -1,8 +1,10 @@
 //! The records that the bytes of a side spell.
 ghost use Rattle.std.specs.Prelude.{◌≡◌, ◌+◌, ◌<◌, ◌≤◌, ◌^◌, nat_lt, None, Some, length, IfOk, MatchOption};
+ghost use Rattle.cg_journal.specs.Bodies.{bodies_at, AreWithin};
 ghost use Rattle.cg_journal.specs.Records.{HasRecords, both, bodies_of, number_at};
 
-use cg_base::{Bytes, BytesList, NoMemory};
+use crate::bodies::{Bodies, Span};
+use cg_base::NoMemory;
 use std::alloc::Global;
 
 /// The bytes at the front of a side.
@@ -11,17 +13,37 @@ pub const HEADER: [u8; 8] = *b"CGRUITY2";
 /// The byte of an open gate.
 pub const OPEN: u8 = 1;
 
-/// The records of a side, and where they end.
+/// The bodies of a side's records, and where the records end.
 #[derive(Drop)]
 pub struct Parsed {
-    pub bodies: BytesList,
+    pub bodies: Bodies,
     pub end: u64,
 }
 
 /// Reads a side from its front. There is no answer where it isn't the side of a journal.
-pub fn parse(alloc: Global, side: &[u8]) -> Result<Option<Parsed>, NoMemory>
-    ensures read { IfOk result (λ parsed. MatchOption parsed (bodies_of side.now ≡ None) (λ p. bodies_of side.now ≡ Some p.bodies)) }
-    ensures end { IfOk result (λ parsed. MatchOption parsed (⊥ → ⊥) (λ p. HasRecords side.now p.end p.bodies)) }
+pub fn parse(alloc: Global, side: Vec<u8>) -> Result<Option<Parsed>, NoMemory>
+    ensures read { IfOk result (λ parsed. MatchOption parsed (bodies_of side.items ≡ None) (λ p. bodies_of side.items ≡ Some p.bodies)) }
+    ensures end { IfOk result (λ parsed. MatchOption parsed (⊥ → ⊥) (λ p. HasRecords side.items p.end p.bodies)) }
+{
+    let Some(found) = find(alloc, &side)? else {
+        return Ok(None);
+    };
+    let Found { spans, end } = found;
+    let bodies = Bodies::new(side, spans);
+    Ok(Some(Parsed { bodies, end }))
+}
+
+// Where the bodies of a side's records stand, and where the records end.
+#[derive(Drop)]
+struct Found {
+    spans: Vec<Span>,
+    end: u64,
+}
+
+fn find(alloc: Global, side: &[u8]) -> Result<Option<Found>, NoMemory>
+    ensures read { IfOk result (λ found. MatchOption found (bodies_of side.now ≡ None) (λ f. bodies_of side.now ≡ Some (bodies_at side.now f.spans.items))) }
+    ensures end { IfOk result (λ found. MatchOption found (⊥ → ⊥) (λ f. HasRecords side.now f.end (bodies_at side.now f.spans.items))) }
+    ensures within { IfOk result (λ found. MatchOption found (⊥ → ⊥) (λ f. AreWithin side.now f.spans.items)) }
 {
     if side.len() < 9 {
         return Ok(None);
@@ -29,7 +51,7 @@ pub fn parse(alloc: Global, side: &[u8]) -> Result<Option<Parsed>, NoMemory>
     if side[..8] != HEADER[..] {
         return Ok(None);
     }
-    let mut bodies = Vec::new(alloc);
+    let mut spans = Vec::new(alloc);
     let mut gate = 8;
     while side[gate] == OPEN {
         let rest = &side[gate + 1..];
@@ -37,11 +59,14 @@ pub fn parse(alloc: Global, side: &[u8]) -> Result<Option<Parsed>, NoMemory>
             return Ok(None);
         }
         let size = size_at(rest) as usize;
-        bodies.push(Bytes::from_slice(alloc, &rest[4..4 + size])?)?;
+        spans.push(Span {
+            start: gate + 5,
+            size,
+        })?;
         gate += 5 + size;
     }
-    Ok(Some(Parsed {
-        bodies: BytesList::from_vec(bodies),
+    Ok(Some(Found {
+        spans,
         end: gate as u64 + 1,
     }))
 }
@@ -62,10 +87,14 @@ fn fits(bytes: &[u8]) -> bool
 }
 
 /// Reads both sides. There is no answer where one of them isn't the side of a journal.
-pub fn parse_both(alloc: Global, a: &[u8], b: &[u8]) -> Result<Option<(Parsed, Parsed)>, NoMemory>
-    ensures read { IfOk result (λ parsed. MatchOption parsed (both (bodies_of a.now) (bodies_of b.now) ≡ None) (λ p. both (bodies_of a.now) (bodies_of b.now) ≡ Some (record { a = p.0.bodies; b = p.1.bodies }))) }
-    ensures end_a { IfOk result (λ parsed. MatchOption parsed (⊥ → ⊥) (λ p. HasRecords a.now p.0.end p.0.bodies)) }
-    ensures end_b { IfOk result (λ parsed. MatchOption parsed (⊥ → ⊥) (λ p. HasRecords b.now p.1.end p.1.bodies)) }
+pub fn parse_both(
+    alloc: Global,
+    a: Vec<u8>,
+    b: Vec<u8>,
+) -> Result<Option<(Parsed, Parsed)>, NoMemory>
+    ensures read { IfOk result (λ parsed. MatchOption parsed (both (bodies_of a.items) (bodies_of b.items) ≡ None) (λ p. both (bodies_of a.items) (bodies_of b.items) ≡ Some (record { a = p.0.bodies; b = p.1.bodies }))) }
+    ensures end_a { IfOk result (λ parsed. MatchOption parsed (⊥ → ⊥) (λ p. HasRecords a.items p.0.end p.0.bodies)) }
+    ensures end_b { IfOk result (λ parsed. MatchOption parsed (⊥ → ⊥) (λ p. HasRecords b.items p.1.end p.1.bodies)) }
 {
     let parsed_a = match parse(alloc, a)? {
         Some(parsed) => parsed,

@@ -1,7 +1,6 @@
 //! The journal, struck in each of its device calls: what stands on side A behind the crash, worked by hand.
 
 use crate::table::{follows, number, parts, say, say_shown, say_with};
-use cg_base::BytesList;
 use cg_disk::{Disk, DiskFault, ModelDisk, Side};
 use cg_journal::{AppendErr, FormatErr, Journal, JournalOpen};
 use std::alloc::Global;
@@ -97,7 +96,7 @@ fn arm(journal: &mut Journal<ModelDisk>, stops: bool, call: u64) {
     }
 }
 
-fn open(alloc: Global, disk: ModelDisk) -> Answer<Option<(BytesList, BytesList)>> {
+fn open(alloc: Global, disk: ModelDisk) -> Answer<Option<(Bodies, Bodies)>> {
     if disk.calls() > 1000 {
         return Err("it was called too often");
     }
@@ -109,7 +108,7 @@ fn open(alloc: Global, disk: ModelDisk) -> Answer<Option<(BytesList, BytesList)>
 }
 
 // the bodies on side A, after a crash with this fill
-fn opened(alloc: Global, disk: ModelDisk, fill: &[u8]) -> Answer<BytesList> {
+fn opened(alloc: Global, disk: ModelDisk, fill: &[u8]) -> Answer<Bodies> {
     let left = match disk.image(fill) {
         Ok(left) => left,
         Err(_) => return Err("there is no image"),
@@ -134,7 +133,7 @@ fn before(alloc: Global, what: &str) -> Answer<Journal<ModelDisk>> {
 }
 
 // what is left where a call is struck, and how
-fn left(alloc: Global, call: &str, body: &[u8], fill: &[u8]) -> Answer<BytesList> {
+fn left(alloc: Global, call: &str, body: &[u8], fill: &[u8]) -> Answer<Bodies> {
     let (what, strike) = parts(call, " ");
     let (how, place) = parts(strike, " ");
     let mut journal = before(alloc, what)?;
@@ -143,14 +142,14 @@ fn left(alloc: Global, call: &str, body: &[u8], fill: &[u8]) -> Answer<BytesList
     opened(alloc, lost(written)?, fill)
 }
 
-fn say_bodies(out: &mut Vec<u8>, bodies: &BytesList, body: &[u8]) {
+fn say_bodies(out: &mut Vec<u8>, bodies: &Bodies, body: &[u8]) {
     let first = b"first".as_slice();
-    match bodies.as_slice() {
-        [] => say(out, "none;"),
-        [one] if one.as_slice() == first => say(out, "first;"),
-        [one] if one.as_slice() == body => say(out, "new;"),
-        [one, other] if one.as_slice() == first && other.as_slice() == body => say(out, "both;"),
-        [one, other] if one.as_slice() == first && other.as_slice() == b"second".as_slice() => {
+    match (bodies.len(), bodies.get(0), bodies.get(1)) {
+        (0, _, _) => say(out, "none;"),
+        (1, Some(one), _) if one == first => say(out, "first;"),
+        (1, Some(one), _) if one == body => say(out, "new;"),
+        (2, Some(one), Some(other)) if one == first && other == body => say(out, "both;"),
+        (2, Some(one), Some(other)) if one == first && other == b"second".as_slice() => {
             say(out, "both;");
         }
         _ => say(out, "others;"),
@@ -174,7 +173,7 @@ fn disk_of(alloc: Global, a: &[u8], b: &[u8]) -> Result<ModelDisk, DiskFault> {
     Ok(disk)
 }
 
-fn say_found(out: &mut Vec<u8>, found: Answer<Option<(BytesList, BytesList)>>) {
+fn say_found(out: &mut Vec<u8>, found: Answer<Option<(Bodies, Bodies)>>) {
     match found {
         Ok(Some(_)) => say(out, "yes;"),
         Ok(None) => say(out, "no;"),

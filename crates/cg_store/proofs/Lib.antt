@@ -7,6 +7,7 @@ mod Leading
 mod KeptGreens
 mod Replaying
 mod Putting
+mod Repeated
 mod Outcome
 mod Sound
 mod Chosen

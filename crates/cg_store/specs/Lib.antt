@@ -7,6 +7,7 @@ pub mod Leading
 pub mod Rebuilt
 pub mod Opening
 pub mod Putting
+pub mod Repeating
 pub mod Defined
 pub mod MomentLaws
 pub mod EndingLaws

@@ -9,10 +9,12 @@ ghost use Rattle.cg_store.specs.Stands.{led_by_all};
 ghost use Rattle.cg_store.specs.Opening.{Follows, FindsFirst, IsInFront, IsLater, FindsFront, Replays, Finds};
 
 use crate::rebuild::rebuild;
+use crate::recent::Recent;
 use crate::replay::follow;
-use cg_base::{Bytes, NoMemory, ReplicaId};
+use cg_base::{NoMemory, ReplicaId};
 use cg_client::Core;
 use cg_disk::Side;
+use cg_journal::Bodies;
 use cg_records::Stable;
 use cg_step::what_is_held_agrees;
 use cg_stored::{Checkpoint, generation_of, read_checkpoint};
@@ -31,16 +33,16 @@ pub(crate) struct Found {
 pub(crate) fn find(
     alloc: Global,
     id: ReplicaId,
-    a: &[Bytes],
-    b: &[Bytes],
+    a: &Bodies,
+    b: &Bodies,
 ) -> Result<Option<Found>, NoMemory>
     ensures { IfOk result (Finds id (record { a = a.now; b = b.now })) }
 {
     what_is_held_agrees();
     match front_of(alloc, id, a, b)? {
         Some(front) => {
-            let changes = behind_first(bodies_on(front.side, a, b));
-            replay(alloc, id, front, changes)
+            let bodies = bodies_on(front.side, a, b);
+            replay(alloc, id, front, bodies)
         }
         None => Ok(None),
     }
@@ -62,7 +64,7 @@ pub(crate) fn other(side: Side) -> Side
     }
 }
 
-fn bodies_on<'a>(side: Side, a: &'a [Bytes], b: &'a [Bytes]) -> &'a [Bytes]
+fn bodies_on<'a>(side: Side, a: &'a Bodies, b: &'a Bodies) -> &'a Bodies
     ensures { result.now ≡ on_side side (record { a = a.now; b = b.now }) }
 {
     match side {
@@ -72,21 +74,12 @@ fn bodies_on<'a>(side: Side, a: &'a [Bytes], b: &'a [Bytes]) -> &'a [Bytes]
 }
 
 // the checkpoint at the front of a side
-fn first_of(alloc: Global, id: ReplicaId, bodies: &[Bytes]) -> Result<Option<Checkpoint>, NoMemory>
+fn first_of(alloc: Global, id: ReplicaId, bodies: &Bodies) -> Result<Option<Checkpoint>, NoMemory>
     ensures { IfOk result (FindsFirst id bodies.now) }
 {
-    match bodies.first() {
-        Some(body) => read_checkpoint(alloc, id, body.as_slice()),
+    match bodies.get(0) {
+        Some(body) => read_checkpoint(alloc, id, body),
         None => Ok(None),
-    }
-}
-
-fn behind_first(bodies: &[Bytes]) -> &[Bytes]
-    ensures { result.now ≡ drop 1 bodies.now }
-{
-    match bodies.split_first() {
-        Some((_, changes)) => changes,
-        None => bodies,
     }
 }
 
@@ -94,8 +87,8 @@ fn behind_first(bodies: &[Bytes]) -> &[Bytes]
 fn front_of(
     alloc: Global,
     id: ReplicaId,
-    a: &[Bytes],
-    b: &[Bytes],
+    a: &Bodies,
+    b: &Bodies,
 ) -> Result<Option<Front>, NoMemory>
     ensures { IfOk result (FindsFront id (record { a = a.now; b = b.now })) }
 {
@@ -111,7 +104,7 @@ fn front_of(
 }
 
 // of two sides that begin with checkpoints the one with the greater generation, A where the two are equal
-fn later(a: &[Bytes], b: &[Bytes]) -> Side
+fn later(a: &Bodies, b: &Bodies) -> Side
     ensures { IsLater a.now b.now result }
 {
     let Some(front_a) = front_generation(a) else {
@@ -124,11 +117,11 @@ fn later(a: &[Bytes], b: &[Bytes]) -> Side
 }
 
 // the generation of the checkpoint at the front, if there is one
-fn front_generation(bodies: &[Bytes]) -> Option<u64>
+fn front_generation(bodies: &Bodies) -> Option<u64>
     ensures { IsInFront bodies.now result }
 {
-    match bodies.first() {
-        Some(body) => generation_of(body.as_slice()),
+    match bodies.get(0) {
+        Some(body) => generation_of(body),
         None => None,
     }
 }
@@ -137,16 +130,16 @@ fn replay(
     alloc: Global,
     id: ReplicaId,
     front: Front,
-    changes: &[Bytes],
+    bodies: &Bodies,
 ) -> Result<Option<Found>, NoMemory>
     requires saved { AreSaved id front.first }
     requires holds { Holds (stored_in id front.first) }
-    ensures { IfOk result (Replays id front.side front.first changes.now) }
+    ensures { IfOk result (Replays id front.side front.first (drop 1 bodies.now)) }
 {
     let Front { side, first } = front;
     let generation = first.generation;
     let mut core = rebuild(alloc, id, first)?;
-    let fits = follow_all(alloc, &mut core, changes)?;
+    let fits = follow_all(alloc, &mut core, bodies)?;
     if !fits {
         return Ok(None);
     }
@@ -159,14 +152,17 @@ fn replay(
     }))
 }
 
-// Puts all records into what the replica holds, where each is a change that fits.
-fn follow_all(alloc: Global, core: &mut Core, changes: &[Bytes]) -> Result<bool, NoMemory>
+// Puts all records behind the first one into what the replica holds, where each is a change that fits.
+fn follow_all(alloc: Global, core: &mut Core, bodies: &Bodies) -> Result<bool, NoMemory>
     requires { Holds core.old }
-    ensures { IfOk result (Follows (led_by_all (Some core.old) changes.now) core.new) }
+    ensures { IfOk result (Follows (led_by_all (Some core.old) (drop 1 bodies.now)) core.new) }
 {
-    for body in changes {
-        let fits = follow(alloc, core, body.as_slice())?;
-        if !fits {
+    let mut recent = Recent::new(core.stable()?);
+    for i in 1..bodies.len() {
+        let Some(body) = bodies.get(i) else {
+            unreachable!();
+        };
+        if !follow(alloc, core, &mut recent, body)? {
             return Ok(false);
         }
     }

@@ -14,6 +14,7 @@ mod laws;
 mod letters;
 mod outputs;
 mod rebuild;
+mod recent;
 mod records;
 mod replay;
 mod resuming;

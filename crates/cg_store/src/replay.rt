@@ -16,28 +16,36 @@ ghost use Rattle.cg_step.specs.Holds.{Holds};
 ghost use Rattle.cg_store.specs.Stands.{led_by};
 ghost use Rattle.cg_store.specs.Opening.{Follows};
 ghost use Rattle.cg_store.specs.Putting.{PutsAll};
+ghost use Rattle.cg_store.specs.Repeating.{IsRecent};
 
+use crate::recent::Recent;
 use cg_action::{Action, actions_are_exact, take_action, take_action_id};
 use cg_base::{ActionId, NoMemory};
 use cg_client::Core;
 use cg_codec::{CodecFault, Fields};
 use cg_queue::{is_distinct, is_next};
-use cg_records::{Stable, take_stable};
+use cg_records::Stable;
 use cg_step::what_is_held_agrees;
 use std::alloc::Global;
 
 /// Puts a record into what the replica holds, where it is a change that fits. Each of its actions is put in as it is read, so
 /// that no list of them is made; where the record doesn't fit, some of them have been.
 #[tactic(auto, unfolding(cg_stored::specs::Parts::change_in))]
-pub(crate) fn follow(alloc: Global, core: &mut Core, body: &[u8]) -> Result<bool, NoMemory>
-    requires { Holds core.old }
+pub(crate) fn follow<'a>(
+    alloc: Global,
+    core: &mut Core,
+    recent: &mut Recent<'a>,
+    body: &'a [u8],
+) -> Result<bool, NoMemory>
+    requires holds { Holds core.old }
+    requires recent { IsRecent recent.old }
+    ensures recent { IsRecent recent.new }
     ensures follows { IfOk result (Follows (led_by core.old body.now) core.new) }
     ensures holds { IfOk result (λ fits. fits ≡ true → Holds core.new) }
 {
     what_is_held_agrees();
-    let mut fields = Fields::new(body);
-    let stable = match take_stable(alloc, &mut fields) {
-        Ok(stable) => stable,
+    let mut fields = match recent.take(alloc, body) {
+        Ok(fields) => fields,
         Err(fault) => return refused(fault),
     };
     if !know_all(alloc, core, &mut fields)? {
@@ -50,7 +58,7 @@ pub(crate) fn follow(alloc: Global, core: &mut Core, body: &[u8]) -> Result<bool
         return Ok(false);
     }
     match fields.finish() {
-        Ok(()) => put_values(core, &stable),
+        Ok(()) => put_values(core, &recent.values),
         Err(_) => Ok(false),
     }
 }

@@ -15,10 +15,10 @@ use crate::records::checkpoint_record;
 use crate::unwritten::Unwritten;
 use crate::{CommitErr, OpenErr, Outputs};
 use cg_action::ActionList;
-use cg_base::{BytesList, NoMemory, ReplicaId, Row};
+use cg_base::{NoMemory, ReplicaId, Row};
 use cg_client::{Core, Draft, DraftParts};
 use cg_disk::{Disk, ModelDisk, Side};
-use cg_journal::{AppendErr, FormatErr, Journal, JournalOpen};
+use cg_journal::{AppendErr, Bodies, FormatErr, Journal, JournalOpen};
 use cg_letter::Letter;
 use cg_records::Stable;
 use cg_stored::{changes_are_exact, checkpoints_are_exact};
@@ -390,14 +390,14 @@ impl<D: Disk> Store<D> {
         alloc: Global,
         journal: Journal<D>,
         id: ReplicaId,
-        a: &BytesList,
-        b: &BytesList,
+        a: &Bodies,
+        b: &Bodies,
     ) -> Result<(Store<D>, Core), OpenErr<D>>
         requires records { records (D.view journal).reads ≡ Some (record { a = a.now; b = b.now }) }
         requires rest { IsAtRest (D.view journal) }
         ensures { Resumes id journal (record { a = a.now; b = b.now }) result }
     {
-        match find(alloc, id, a.as_slice(), b.as_slice()) {
+        match find(alloc, id, a, b) {
             Ok(Some(found)) => {
                 let Found {
                     side,

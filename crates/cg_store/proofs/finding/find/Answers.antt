@@ -16,5 +16,5 @@ replay-requires-clause-holds c =
 pub returns-in-Some : goal.returns-in-Some
 returns-in-Some c =
     let front = c.in-Some.front in
-    if_ok_finds c.what_is_held_agrees.ensures.holds c.args.id _ front.side front.first c.behind_first-changes.result.now _ c.replay.result
-    (subst (FindsFront c.args.id _) c.in-Some.is c.in_ok-front.ensures) (c.behind_first-changes.ensures ∙ ap (drop 1) c.bodies_on.ensures) c.replay.ensures
+    if_ok_finds c.what_is_held_agrees.ensures.holds c.args.id _ front.side front.first (drop 1 c.bodies_on-bodies.result.now) _ c.replay.result
+    (subst (FindsFront c.args.id _) c.in-Some.is c.in_ok-front.ensures) (ap (drop 1) c.bodies_on-bodies.ensures) c.replay.ensures
