@@ -142,6 +142,9 @@ impl<M> Log<M> {
         ensures kept { self.old.room ≤ self.new.room }
         ensures room { OnOk result (count ≤ self.new.room) }
     {
+        if count == 0 {
+            return Ok(());
+        }
         self.ordered.reserve(count)?;
         put_slots(&mut self.fronts, self.ordered.as_slice(), &self.members)
     }
