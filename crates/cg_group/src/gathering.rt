@@ -83,6 +83,9 @@ fn make_room<M>(logs: &mut [Log<M>], members: &[Member<M>]) -> Result<(), NoMemo
 {
     let mut last = 0;
     for member in members {
+        if member.unordered() == 0 {
+            continue;
+        }
         let conf = member.regular_in();
         if conf != last {
             reserve_pending(logs, members, conf)?;
