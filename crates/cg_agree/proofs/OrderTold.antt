@@ -10,7 +10,7 @@ use Rattle.cg_base.specs.Weights.{ids}
 use Rattle.cg_action.specs.declared.action.Kind.TheVariants.{Update, Join as JoinKind, Leave as LeaveKind}
 use Rattle.cg_wire.specs.declared.message.Msg.{Msg}
 use Rattle.cg_group.specs.declared.delivery.Handed.{Handed}
-use Rattle.cg_group.specs.Events.{Outcome, split, merge, deliver}
+use Rattle.cg_group.specs.Events.{HandedOut, split, merge, deliver}
 use Rattle.cg_client.specs.Replica.{Replica}
 use Rattle.cg_client.specs.Turn.{Turn}
 use Rattle.cg_step.specs.Step.{Input, Deliveries, Asks, replica_step}
@@ -116,7 +116,7 @@ all_handed w g (h ∷ handed) k = all_handed w (hand_over g h) handed (hand_orde
 still : (w : World) → Keeps w (quietly w)
 still w = record { names = sym (append-nil w.order); places = refl }
 
-out_order : (w : World) (o : Outcome Msg) → Keeps w (hand_out w o)
+out_order : (w : World) (o : HandedOut Msg) → Keeps w (hand_out w o)
 out_order w o = all_handed w (quietly (record w { group = o.group })) o.handed (still w)
 
 pub begun_order : (set : List Weighted) (w : World) (names : List ℕ) → (fold (begin_replica set) w names).order ≡ w.order

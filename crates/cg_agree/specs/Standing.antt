@@ -7,7 +7,7 @@ use Rattle.cg_action.specs.declared.action.Action.{Action}
 use Rattle.cg_action.specs.declared.action.Kind.{Kind}
 use Rattle.cg_wire.specs.declared.message.Msg.{Msg}
 use Rattle.cg_group.specs.declared.delivery.Handed.{Handed}
-use Rattle.cg_group.specs.Events.{Outcome, deliver, split, merge}
+use Rattle.cg_group.specs.Events.{HandedOut, deliver, split, merge}
 use Rattle.cg_schedule.specs.declared.event.Event.{Event}
 use Rattle.cg_step.specs.Step.{Deliveries, Asks}
 use Rattle.cg_step.specs.Recorded.{AreBooked}
@@ -49,7 +49,7 @@ abbrev pub AreBookedInTurn : (ActionId → Action) → Going → List (Handed Ms
 AreBookedInTurn book g [] = Unit {0}
 AreBookedInTurn book g (h ∷ list) = IsHandedBooked book g.world h × AreBookedInTurn book (hand_over g h) list
 
-abbrev pub IsHandedOutBooked : (ActionId → Action) → World → Outcome Msg → Type 0
+abbrev pub IsHandedOutBooked : (ActionId → Action) → World → HandedOut Msg → Type 0
 IsHandedOutBooked book w o = AreBookedInTurn book (quietly (record w { group = o.group })) o.handed
 
 -- whatever a delivery, a split, a merge and a request bring to replicas

@@ -3,7 +3,7 @@ use Rattle.std.specs.Prelude.{ℕ, Bool, true, false, List, [], ◌∷◌, Optio
 use Rattle.std.specs.Option.{option_map_or}
 use Rattle.cg_action.specs.declared.action.Kind.TheVariants.{Update, Join as JoinKind, Leave as LeaveKind}
 use Rattle.cg_wire.specs.declared.message.Msg.{Msg}
-use Rattle.cg_group.specs.Events.{Outcome, deliver, split, merge}
+use Rattle.cg_group.specs.Events.{HandedOut, deliver, split, merge}
 use Rattle.cg_client.specs.Replica.{Replica}
 use Rattle.cg_client.specs.Turn.{Turn}
 use Rattle.cg_step.specs.Step.{Input, Deliveries, Asks, replica_step}
@@ -33,7 +33,7 @@ abbrev pub taken : World → ℕ → Input → List Taken
 taken w p input = option_map_or (λ s. taken_as p input s.life) (seat_of w p) []
 
 -- the turns of those to whom the group hands something
-abbrev pub turns_in : World → Outcome Msg → List Taken
+abbrev pub turns_in : World → HandedOut Msg → List Taken
 turns_in w o = flat_map (λ h. taken w h.to (Deliveries h.list)) o.handed
 
 -- the turns that replicas take with an event

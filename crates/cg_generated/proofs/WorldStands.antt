@@ -9,7 +9,7 @@ use Rattle.cg_wire.specs.declared.message.Msg.{Msg}
 use Rattle.cg_group.specs.declared.phase.Phase.{Phase}
 use Rattle.cg_group.specs.declared.phase.Phase.TheVariants.{Alone}
 use Rattle.cg_group.specs.declared.delivery.Handed.{Handed}
-use Rattle.cg_group.specs.Events.{Outcome, send_all, come_up, go_down}
+use Rattle.cg_group.specs.Events.{HandedOut, send_all, come_up, go_down}
 use Rattle.cg_group.specs.EachLaws.{Each}
 use Rattle.cg_group.specs.LookupLaws.{at-cond, put, put-own, eqb_comm}
 use Rattle.cg_client.specs.Replica.{Replica, fresh}
@@ -135,7 +135,7 @@ module _ (begun : ℕ → Bool) (at : ℕ → Option Phase) where
   handed-stands [] x each s = s
   handed-stands (h ∷ list) x each s = handed-stands list (hand_over x h) each.1 (hand-stands x h.to (Deliveries h.list) each.0 s)
 
-  pub handed_out-stands : (w : World) (o : Outcome Msg) → Each CalmHanded o.handed → Stands begun at w.seats o.group → StandsIn begun at (hand_out w o).world
+  pub handed_out-stands : (w : World) (o : HandedOut Msg) → Each CalmHanded o.handed → Stands begun at w.seats o.group → StandsIn begun at (hand_out w o).world
   handed_out-stands w o each s = handed-stands o.handed (quietly (record w { group = o.group })) each s
 
   -- ---- replicas that begin, go down and come up again

@@ -1,13 +1,24 @@
 -- One of the configurations in memory is written again.
-use Rattle.std.proofs.Common.{◌≡◌, ℕ, zero, suc, ◌<◌, ◌≤◌, ◌-◌, List, [], ◌∷◌, length, Some, refl, sym, ap, subst, ◌∙◌, arith, Result, Ok, Err, OnOk}
+use Rattle.std.proofs.Common.{◌≡◌, ℕ, Bool, true, false, zero, suc, ◌<◌, ◌≤◌, ◌+◌, ◌-◌, if◌then◌else◌, List, [], ◌∷◌, length, Some, refl, sym, ap, subst, ◌∙◌, arith, Result, Ok, Err, OnOk, ⊎_elim}
 use Rattle.std.proofs.Math.ListN.{set, get_or, get_or-map}
 use Rattle.std.proofs.lemmas.List.{map-set, length-map}
 use Rattle.std.proofs.lemmas.Option.{slice_get-get_or}
+use Rattle.std.proofs.lemmas.Bool.{cases_Bool, eqb-false}
+use Rattle.std.specs.Prelude.{◌==◌}
 use Rattle.std.specs.List.{slice_get}
 use Rattle.cg_base.specs.Lists.{at_place}
 use Rattle.cg_group.specs.State.{Configuration, changed_at}
 use Rattle.cg_group.specs.Logs.{Stored, configurations_of, RoomFor}
 use Rattle.cg_group.proofs.LogFacts.{set-changed_at, changed_at-none, changed_at-beyond}
+
+-- a number to which one is added by a test
+one-more : (b : Bool) (n : ℕ) → b ≡ true → (if b then 1 else 0) + n ≡ suc n
+one-more true n e = omega arith
+one-more false n e = absurd (cc)
+
+none-more : (b : Bool) (n : ℕ) → b ≡ false → (if b then 1 else 0) + n ≡ n
+none-more true n e = absurd (cc)
+none-more false n e = omega arith
 
 module _ {M : Type 0} where
   pub written : (change : Configuration M → Configuration M) (logs : List (Stored M)) (conf : ℕ) (d new : Stored M) → (conf ≡ 0 → ⊥) → conf ≤ length logs →
@@ -40,6 +51,31 @@ module _ {M : Type 0} where
       RoomFor logs k m → RoomFor (set logs i new) k n
   room_written logs i zero m n new d lt step le room = λ s e. absurd (cc)
   room_written logs i (suc j) m n new d lt step le room = λ s e. room_step logs i j m n new d s lt step le room e
+
+  -- the others have the room that they had
+  room_beside : (logs : List (Stored M)) (i j n : ℕ) (new s : Stored M) → (i ≡ j → ⊥) → ((t : Stored M) → slice_get logs j ≡ Some t → n ≤ t.room) →
+      slice_get (set logs i new) j ≡ Some s → n ≤ s.room
+  room_beside [] i j n new s apart room e = room s e
+  room_beside (x ∷ logs) zero zero n new s apart room e = absurd (apart refl)
+  room_beside (x ∷ logs) zero (suc j) n new s apart room e = room s e
+  room_beside (x ∷ logs) (suc i) zero n new s apart room e = room s e
+  room_beside (x ∷ logs) (suc i) (suc j) n new s apart room e = room_beside logs i j n new s (λ same. apart (ap suc same)) room e
+
+  room_elsewhere : (logs : List (Stored M)) (i k n : ℕ) (new : Stored M) → (suc i ≡ k → ⊥) → RoomFor logs k n → RoomFor (set logs i new) k n
+  room_elsewhere logs i zero n new apart room = λ s e. absurd (cc)
+  room_elsewhere logs i (suc j) n new apart room = λ s e. room_beside logs i j n new s (λ same. apart (ap suc same)) room e
+
+  -- a place of a configuration was taken
+  pub room_spent : (logs : List (Stored M)) (conf k n : ℕ) (new d : Stored M) → (conf ≡ 0 → ⊥) → conf ≤ length logs → (get_or logs (conf - 1) d).room ≤ new.room + 1 →
+      RoomFor logs k ((if conf == k then 1 else 0) + n) → RoomFor (set logs (conf - 1) new) k n
+  room_spent logs conf k n new d pos le step room = ⊎_elim
+      (λ y.
+      let spent : RoomFor logs k (suc n) = subst (λ m. RoomFor logs k m) (one-more (conf == k) n y) room in
+      room_written logs (conf - 1) k (suc n) n new d (omega arith) (λ enough. omega arith) (omega arith) spent)
+      (λ ne.
+      let kept : RoomFor logs k n = subst (λ m. RoomFor logs k m) (none-more (conf == k) n ne) room in
+      room_elsewhere logs (conf - 1) k n new (λ same. let apart = eqb-false conf k ne in apart (omega (arith, same))) kept)
+      (cases_Bool (conf == k))
 
   -- the room of the configuration that was written
   room_there : (logs : List (Stored M)) (i n : ℕ) (new s : Stored M) → i < length logs → n ≤ new.room → slice_get (set logs i new) i ≡ Some s → n ≤ s.room

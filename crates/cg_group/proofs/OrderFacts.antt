@@ -1,15 +1,14 @@
 -- What ordering and receiving do to a group in memory.
-use Rattle.std.proofs.Common.{◌⊎◌, ◌≡◌, ℕ, zero, suc, pred, ◌-◌, ◌<◌, ◌≤◌, List, [], ◌∷◌, length, Option, Some, None, refl, sym, ap, ◌∙◌, arith, fold, inl, inr, ⊎_elim, eqb-true}
+use Rattle.std.proofs.Common.{◌≡◌, ℕ, zero, suc, pred, ◌-◌, ◌<◌, List, [], ◌∷◌, length, Option, Some, None, refl, sym, ap, ◌∙◌, arith, fold, ⊎_elim, eqb-true}
 use Rattle.std.specs.Prelude.{◌==◌}
 use Rattle.std.specs.Option.{option_map_or}
-use Rattle.std.proofs.lemmas.Bool.{cases_Bool, cases_eq, cond-true, cond-false, eqb-false, eq-eqb, ne_eqb}
+use Rattle.std.proofs.lemmas.Bool.{cases_Bool, cond-true, cond-false, eqb-false}
 use Rattle.cg_base.specs.Lists.{at_place, above_up_to}
 use Rattle.cg_group.specs.declared.phase.Phase.TheVariants.{Down}
-use Rattle.cg_group.specs.State.{Configuration, Standing, GroupState, no_configuration, configuration, standing_of, set_standing, set_configuration, phase_of, unordered_of, home, regular_in, changed_at, with_standing}
+use Rattle.cg_group.specs.State.{Configuration, Standing, GroupState, no_configuration, configuration, standing_of, set_standing, set_configuration, phase_of, home, regular_in, changed_at, with_standing}
 use Rattle.cg_group.specs.Events.{with_message, with_receipt, order, order_from, order_all, receive, receive_all}
 use Rattle.cg_group.specs.Logs.{Stored, configurations_of, group_of, with_all_receipts}
 use Rattle.cg_group.specs.Rosters.{found, waits_of, conf_of, with_unordered}
-use Rattle.cg_group.specs.LookupLaws.{put, standing_of-set}
 
 -- only what stands there is changed
 at_next : {X : Type 0} (x : X) (xs : List X) (k : ℕ) → (k ≡ 1 → ⊥) → (z : X) → at_place xs (pred k) ≡ Some z → at_place (x ∷ xs) k ≡ Some z
@@ -116,68 +115,6 @@ pub times-less : {X : Type 0} (f : X → X) (x : X) (m n : ℕ) → n < m → ti
 times-less f x m n lt = let e : m - n ≡ suc (m - suc n) = omega arith in ap (λ k. times k f x) e
 
 module _ {M : Type 0} where
-  pub found-with_standing : (replicas : List (Standing M)) (new : Standing M) (q : ℕ) → found (with_standing replicas new) q ≡ put (found replicas) new.id (Some new) q
-  unfolding standing_of set_standing
-  found-with_standing replicas new q = let g : GroupState M = record { configurations = []; replicas = replicas } in standing_of-set g new q
-
-  -- nobody changes the configuration, and nobody has more messages that wait
-  pub record Stays (before after : List (Standing M)) : Type 0 where
-    pub confs : (q : ℕ) → conf_of after q ≡ conf_of before q
-    pub fewer : (q : ℕ) → length (waits_of after q) ≤ length (waits_of before q)
-
-  pub Stays-refl : (replicas : List (Standing M)) → Stays replicas replicas
-  Stays-refl replicas = record { confs = λ q. refl; fewer = λ q. omega arith }
-
-  pub Stays-then : (a b c : List (Standing M)) → Stays a b → Stays b c → Stays a c
-  Stays-then a b c s t = record { confs = λ q. t.confs q ∙ s.confs q; fewer = λ q. omega (arith, s.fewer q, t.fewer q) }
-
-  -- the replica that was found has changed, or it is another one
-  found_after : (replicas : List (Standing M)) (p q : ℕ) (s new : Standing M) → found replicas p ≡ Some s → new.id ≡ s.id →
-      ((found (with_standing replicas new) q ≡ Some new) × (found replicas q ≡ Some s)) ⊎ (found (with_standing replicas new) q ≡ found replicas q)
-  found_after replicas p q s new there same = ⊎_elim
-      (λ e. inl (
-        found-with_standing replicas new q ∙ cond-true (q == new.id) (Some new) (found replicas q) (eq-eqb q new.id e),
-        ap (found replicas) (e ∙ same ∙ found_id replicas p s there) ∙ there,
-      ))
-      (λ ne. inr (found-with_standing replicas new q ∙ cond-false (q == new.id) (Some new) (found replicas q) (ne_eqb q new.id ne)))
-      (cases_eq q new.id)
-
-  Stays-taken : (replicas : List (Standing M)) (p : ℕ) (m : M) (s : Standing M) (rest : List M) → found replicas p ≡ Some s → s.unordered ≡ m ∷ rest →
-      Stays replicas (with_standing replicas (with_unordered s rest))
-  Stays-taken replicas p m s rest there waits = record {
-    confs = λ q. ⊎_elim
-        (λ w. ap (λ o. regular_in (option_map_or (λ (s : Standing M). s.phase) o Down)) w.0 ∙ sym (ap (λ o. regular_in (option_map_or (λ (s : Standing M). s.phase) o Down)) w.1))
-        (λ e. ap (λ o. regular_in (option_map_or (λ (s : Standing M). s.phase) o Down)) e)
-        (found_after replicas p q s (with_unordered s rest) there refl);
-    fewer = λ q. ⊎_elim
-        (λ w.
-        let after : length (waits_of (with_standing replicas (with_unordered s rest)) q) ≡ length rest = ap (λ o. length (option_map_or (λ (s : Standing M). s.unordered) o [])) w.0 in
-        let before : length (waits_of replicas q) ≡ suc (length rest) = ap (λ o. length (option_map_or (λ (s : Standing M). s.unordered) o [])) w.1 ∙ ap length waits in
-        omega arith)
-        (λ e. let same : length (waits_of (with_standing replicas (with_unordered s rest)) q) ≡ length (waits_of replicas q) = ap (λ o. length (option_map_or (λ (s : Standing M). s.unordered) o [])) e in omega arith)
-        (found_after replicas p q s (with_unordered s rest) there refl);
-  }
-
-  pub Stays-order : (g : GroupState M) (p : ℕ) → Stays g.replicas (order g p).replicas
-  unfolding order order_from standing_of set_standing set_configuration
-  Stays-order g p = by_option (found g.replicas p) refl
-    where
-      by_waits : (s : Standing M) → found g.replicas p ≡ Some s → (w : List M) → s.unordered ≡ w → Stays g.replicas (order_from g s w).replicas
-      by_waits s there [] e = Stays-refl g.replicas
-      by_waits s there (m ∷ rest) e = Stays-taken g.replicas p m s rest there e
-
-      by_option : (o : Option (Standing M)) → found g.replicas p ≡ o → Stays g.replicas (option_map_or (λ s. order_from g s s.unordered) o g).replicas
-      by_option None e = Stays-refl g.replicas
-      by_option (Some s) e = by_waits s e s.unordered refl
-
-  Stays-orders : (g : GroupState M) (p : ℕ) (ms : List M) → Stays g.replicas (fold (λ g m. order g p) g ms).replicas
-  Stays-orders g p [] = Stays-refl g.replicas
-  Stays-orders g p (m ∷ ms) = Stays-then g.replicas (order g p).replicas (fold (λ g m. order g p) (order g p) ms).replicas (Stays-order g p) (Stays-orders (order g p) p ms)
-
-  pub Stays-order_all : (g : GroupState M) (p : ℕ) → Stays g.replicas (order_all g p).replicas
-  unfolding order_all
-  Stays-order_all g p = Stays-orders g p (unordered_of g p)
-
   -- ordering all of a replica's messages is ordering as often as messages wait
   pub order_all-times : (g : GroupState M) (p : ℕ) → order_all g p ≡ times (length (waits_of g.replicas p)) (λ h. order h p) g
   unfolding order_all standing_of

@@ -12,7 +12,7 @@ use Rattle.cg_group.specs.declared.phase.Phase.TheVariants.{Down, Regular}
 use Rattle.cg_group.specs.State.{Configuration, Sent, Standing, GroupState, no_group, no_configuration, standing_of, configuration, phase_of, home, has_received}
 use Rattle.cg_group.specs.Events.{deliveries_at, delivery_at, transitional_places}
 use Rattle.cg_group.specs.Refusals.{not_up, not_regular, no_such_place, already_received, earlier_missing, refuse, receive_refusal}
-use Rattle.cg_group.specs.History.{Call, Add, Fall, SendFrom, OrderNext, ReceiveAt, GatherAll, DeliverNext, SplitOff, MergeInto, Parting, Way, Never, Here, WentDown, WentOn, Diary, Run, stay_in, no_stay, diary_after, outcome_of, MayCall, step, beginning, run_from, MayCallAll}
+use Rattle.cg_group.specs.History.{Call, Add, Fall, SendFrom, OrderNext, ReceiveAt, GatherAll, DeliverNext, SplitOff, MergeInto, Parting, Way, Never, Here, WentDown, WentOn, Diary, History, stay_in, no_stay, diary_after, handed_out_by, MayCall, step, beginning, history_from, MayCallAll}
 use Rattle.cg_group.specs.Synchrony.{IsVirtuallySynchronous, AlwaysSynchronous, IsDownThere, AscendsAbove, places_of, later_of}
 use Rattle.cg_group.specs.EachLaws.{Each, Each-weaker, Each-above}
 use Rattle.cg_group.specs.PlaceLaws.{at_place-within, all_received-at, Each-transitional}
@@ -51,9 +51,9 @@ phase_none : (M : Type 0) (q : ℕ) → phase_of {M = M} no_group q ≡ Down
 phase_none M q = ap (λ (o : Option (Standing M)). option_map_or (λ s. s.phase) o Down) (none_standing M q)
 
 module _ {M : Type 0} where
-  -- the invariant of a run
-  abbrev SoundRun : Run M → Type 0
-  SoundRun r = Sound r.group r.diary r.sent r.time
+  -- the invariant of a history
+  abbrev SoundHistory : History M → Type 0
+  SoundHistory r = Sound r.group r.diary r.sent r.time
 
   receivable : (g : GroupState M) (p place : ℕ) → receive_refusal g p place ≡ None → (0 < place) × (place ≤ length (home g p).ordered)
   unfolding receive_refusal
@@ -68,8 +68,8 @@ module _ {M : Type 0} where
       by_none None e = absurd cc
       by_none (Some s) e = refl
 
-  stepped : (r : Run M) (call : Call M) → SoundRun r → MayCall r.group call → SoundRun (step r call)
-  unfolding step outcome_of diary_after
+  stepped : (r : History M) (call : Call M) → SoundHistory r → MayCall r.group call → SoundHistory (step r call)
+  unfolding step handed_out_by diary_after
   stepped r (Add p) s may = up_sound r.group r.diary r.sent r.time p s may
   stepped r (Fall p) s may = down_sound r.group r.diary r.sent r.time p s
   stepped r (SendFrom p m) s may = Sound-ticked _ _ _ _ (send_sound r.group r.diary r.sent r.time p m s)
@@ -120,7 +120,7 @@ module _ {M : Type 0} where
   unfolding configuration
   none_configured c = ap (λ (o : Option (Configuration M)). option_map_or (λ c. c) o no_configuration) (none_at c)
 
-  begins_sound : SoundRun beginning
+  begins_sound : SoundHistory beginning
   begins_sound = record {
     holds = subst Holds (sym (same_picture (picture no_group (λ p. Rattle.cg_group.specs.History.blank) 0) empty (phase_none M)
         (λ q. ap (λ (o : Option (Standing M)). option_map_or (λ s. s.delivered) o 0) (none_standing M q)) none_configured refl
@@ -134,8 +134,8 @@ module _ {M : Type 0} where
     };
   }
 
-  -- a run of calls that may be made keeps the invariant
-  ran : (calls : List (Call M)) (r : Run M) → SoundRun r → MayCallAll r calls → SoundRun (run_from r calls)
+  -- calls that may be made keep the invariant
+  ran : (calls : List (Call M)) (r : History M) → SoundHistory r → MayCallAll r calls → SoundHistory (history_from r calls)
   ran [] r s may = s
   ran (call ∷ calls) r s may = ran calls (step r call) (stepped r call s may.0) may.1
 
@@ -257,7 +257,7 @@ module _ {M : Type 0} where
           (Each-weaker (λ place. (k < place) × (place ≤ length C.ordered)) (λ place. (0 < place) × (place ≤ length C.ordered)) (λ place b. (omega arith, b.1)) (transitional_places C t.set k) (Each-transitional C t.set k))))
           (ascending_count (suc k) (length C.ordered - k) (λ place. list_any (λ r. has_received C r place) t.set) k (omega arith)))
 
-  synchronous : (r : Run M) → SoundRun r → IsVirtuallySynchronous r
+  synchronous : (r : History M) → SoundHistory r → IsVirtuallySynchronous r
   synchronous r s = record {
     in_turn = λ p. (s.books p).in_turn;
     in_order = s.holds.in_order;
@@ -274,4 +274,4 @@ module _ {M : Type 0} where
   }
 
   pub always : AlwaysSynchronous M
-  always calls may = synchronous (run_from beginning calls) (ran calls beginning begins_sound may)
+  always calls may = synchronous (history_from beginning calls) (ran calls beginning begins_sound may)

@@ -11,7 +11,7 @@ use Rattle.cg_group.specs.declared.delivery.Handed.{Handed}
 use Rattle.cg_group.specs.State.{Configuration, Standing, GroupState, standing_of, configuration, regular_in, phase_of, home, delivered_to, unordered_of, has_received, set_standing, set_configuration, changed_at}
 
 -- the group after an event, and what it hands out, ascending by replica
-pub record Outcome (M : Type 0) : Type 0 where
+pub record HandedOut (M : Type 0) : Type 0 where
   pub group : GroupState M
   pub handed : List (Handed M)
 
@@ -90,7 +90,7 @@ module _ {M : Type 0} where
   with_delivered g p n = option_map_or (λ s. set_standing g (record s { delivered = n })) (standing_of g p) g
 
   -- the next places of its configuration are handed to a replica
-  unfoldable pub deliver : GroupState M → ℕ → ℕ → Outcome M
+  unfoldable pub deliver : GroupState M → ℕ → ℕ → HandedOut M
   deliver g p k =
       let from = delivered_to g p in
       record {
@@ -125,7 +125,7 @@ module _ {M : Type 0} where
       set_standing g (record { id = p; phase = Transitional (regular_in (phase_of g p)) set; delivered = delivered_to g p; unordered = [] })
 
   -- the replicas of a set leave their configuration together
-  unfoldable pub split : GroupState M → List ℕ → Outcome M
+  unfoldable pub split : GroupState M → List ℕ → HandedOut M
   split g set = record { group = fold (become_transitional set) g set; handed = map (handed_in_split g set) set }
 
   -- a replica begins the regular phase of a configuration
@@ -133,7 +133,7 @@ module _ {M : Type 0} where
   become_regular conf g p = set_standing g (record { id = p; phase = Regular conf; delivered = 0; unordered = [] })
 
   -- a new configuration is made, and handed to each of its members
-  unfoldable pub merge : GroupState M → List ℕ → Outcome M
+  unfoldable pub merge : GroupState M → List ℕ → HandedOut M
   merge g set =
       let conf = suc (length g.configurations) in
       let made : GroupState M = record g { configurations = g.configurations ++ record { members = set; ordered = []; received = [] } ∷ [] } in

@@ -5,7 +5,7 @@ use Rattle.cg_group.specs.declared.delivery.Delivery.{Delivery}
 use Rattle.cg_group.specs.declared.delivery.Delivery.TheVariants.{Message, Transitional, Regular}
 use Rattle.cg_group.specs.declared.delivery.Handed.{Handed}
 use Rattle.cg_group.specs.State.{GroupState, no_group, regular_in, phase_of, is_up}
-use Rattle.cg_group.specs.Events.{Outcome, come_up, go_down, send, order, receive, gather, deliver, split, merge}
+use Rattle.cg_group.specs.Events.{HandedOut, come_up, go_down, send, order, receive, gather, deliver, split, merge}
 use Rattle.cg_group.specs.Refusals.{order_refusal, receive_refusal, deliver_refusal, split_refusal, merge_refusal}
 
 -- what may be asked of a group; a merge is told which replicas have left for good
@@ -51,7 +51,7 @@ pub record Diary (M : Type 0) : Type 0 where
   pub strays : List (Delivery M)
 
 -- a group after a list of calls, what each replica was handed and sent in each configuration, and the number of calls
-pub record Run (M : Type 0) : Type 0 where
+pub record History (M : Type 0) : Type 0 where
   pub group : GroupState M
   pub diary : ℕ → Diary M
   pub sent : ℕ → ℕ → List M
@@ -156,20 +156,20 @@ module _ {M : Type 0} where
       if falls p call then ended d (WentDown time) else fold (note time (left_in call)) d list
 
   -- a group that hands out nothing
-  abbrev pub silent : GroupState M → Outcome M
+  abbrev pub silent : GroupState M → HandedOut M
   silent g = record { group = g; handed = [] }
 
   -- what a call does
-  unfoldable pub outcome_of : GroupState M → Call M → Outcome M
-  outcome_of g (Add p) = silent (come_up g p)
-  outcome_of g (Fall p) = silent (go_down g p)
-  outcome_of g (SendFrom p m) = silent (send g p m)
-  outcome_of g (OrderNext p) = silent (order g p)
-  outcome_of g (ReceiveAt p place) = silent (receive g p place)
-  outcome_of g GatherAll = silent (gather g)
-  outcome_of g (DeliverNext p k) = deliver g p k
-  outcome_of g (SplitOff set) = split g set
-  outcome_of g (MergeInto set left) = merge g set
+  unfoldable pub handed_out_by : GroupState M → Call M → HandedOut M
+  handed_out_by g (Add p) = silent (come_up g p)
+  handed_out_by g (Fall p) = silent (go_down g p)
+  handed_out_by g (SendFrom p m) = silent (send g p m)
+  handed_out_by g (OrderNext p) = silent (order g p)
+  handed_out_by g (ReceiveAt p place) = silent (receive g p place)
+  handed_out_by g GatherAll = silent (gather g)
+  handed_out_by g (DeliverNext p k) = deliver g p k
+  handed_out_by g (SplitOff set) = split g set
+  handed_out_by g (MergeInto set left) = merge g set
 
   -- a call meets its condition, and isn't refused
   abbrev pub MayCall : GroupState M → Call M → Type 0
@@ -189,10 +189,10 @@ module _ {M : Type 0} where
       if (q == p) && ((conf == regular_in (phase_of g p)) && not (conf == 0)) then sent conf q ++ m ∷ [] else sent conf q
   sent_after g _ sent conf q = sent conf q
 
-  -- a run after one more call
-  unfoldable pub step : Run M → Call M → Run M
+  -- a history after one more call
+  unfoldable pub step : History M → Call M → History M
   step r call =
-      let o = outcome_of r.group call in
+      let o = handed_out_by r.group call in
       record {
         group = o.group;
         diary = λ p. diary_after r.time call p (r.diary p) (handed_to p o.handed);
@@ -201,15 +201,15 @@ module _ {M : Type 0} where
       }
 
   -- the empty group, and nobody was handed anything
-  abbrev pub beginning : Run M
+  abbrev pub beginning : History M
   beginning = record { group = no_group; diary = λ p. blank; sent = λ conf p. []; time = 0 }
 
-  -- a run after more calls
-  abbrev pub run_from : Run M → List (Call M) → Run M
-  run_from r [] = r
-  run_from r (call ∷ calls) = run_from (step r call) calls
+  -- a history after more calls
+  abbrev pub history_from : History M → List (Call M) → History M
+  history_from r [] = r
+  history_from r (call ∷ calls) = history_from (step r call) calls
 
   -- each of the calls may be made in its turn
-  abbrev pub MayCallAll : Run M → List (Call M) → Type 0
+  abbrev pub MayCallAll : History M → List (Call M) → Type 0
   MayCallAll r [] = Unit {0}
   MayCallAll r (call ∷ calls) = MayCall r.group call × MayCallAll (step r call) calls

@@ -9,7 +9,7 @@ use Rattle.cg_group.specs.declared.reason.Reason.{Reason}
 use Rattle.cg_group.specs.declared.reason.Reason.TheVariants.{NoSuchPlace, AlreadyReceived, EarlierMissing}
 use Rattle.cg_group.specs.Refusals.{refuse, is_missing}
 use Rattle.cg_group.specs.Events.{with_receipt}
-use Rattle.cg_group.specs.Rosters.{conf_of}
+use Rattle.cg_group.specs.Rosters.{pending}
 
 -- a configuration, and how many more messages it takes without more memory
 pub record Stored (M : Type 0) : Type 0 where
@@ -52,10 +52,9 @@ module _ {M : Type 0} where
   abbrev pub RoomFor : List (Stored M) → ℕ → ℕ → Type 0
   RoomFor logs conf n = (s : Stored M) → at_place logs conf ≡ Some s → n ≤ s.room
 
-  -- the configuration of each of these replicas takes so many more messages without more memory
-  abbrev pub RoomForAll : List (Stored M) → List (Standing M) → ℕ → List ℕ → Type 0
-  RoomForAll logs replicas n [] = Unit {0}
-  RoomForAll logs replicas n (p ∷ set) = RoomFor logs (conf_of replicas p) n × RoomForAll logs replicas n set
+  -- each configuration takes the messages that wait for a place of it without more memory
+  abbrev pub RoomForAll : List (Stored M) → List (Standing M) → Type 0
+  RoomForAll logs replicas = (conf : ℕ) → RoomFor logs conf (pending replicas conf)
 
   -- a member has received every place
   abbrev pub with_all_receipts : Configuration M → ℕ → Configuration M

@@ -1,5 +1,5 @@
 -- The replicas that are up, ascending, and what one of them does.
-use Rattle.std.specs.Prelude.{◌≡◌, ℕ, ◌==◌, true, not, ◌+◌, length, List, [], ◌∷◌, ◌++◌, Option, map, filter, find}
+use Rattle.std.specs.Prelude.{◌≡◌, ℕ, ◌==◌, true, not, ◌+◌, length, List, [], ◌∷◌, ◌++◌, if◌then◌else◌, Option, map, filter, find}
 use Rattle.std.specs.Option.{option_map_or}
 use Rattle.cg_base.specs.Sets.{Ascends}
 use Rattle.cg_group.specs.declared.phase.Phase.TheVariants.{Down}
@@ -46,10 +46,10 @@ module _ {M : Type 0} where
   abbrev pub regulars_of : List (Standing M) → List ℕ
   regulars_of replicas = map (λ s. s.id) (filter (λ s. not (regular_in s.phase == 0)) replicas)
 
-  -- how many messages of these replicas wait for a place
-  abbrev pub pending : List (Standing M) → List ℕ → ℕ
-  pending replicas [] = 0
-  pending replicas (p ∷ set) = length (waits_of replicas p) + pending replicas set
+  -- how many messages wait for a place of the configuration
+  abbrev pub pending : List (Standing M) → ℕ → ℕ
+  pending [] conf = 0
+  pending (s ∷ replicas) conf = (if regular_in s.phase == conf then length s.unordered else 0) + pending replicas conf
 
   -- each of the replicas is up
   abbrev pub AllUp : GroupState M → List ℕ → Type 0

@@ -8,7 +8,7 @@ use Rattle.cg_group.specs.declared.phase.Phase.TheVariants.{Regular}
 use Rattle.cg_group.specs.State.{Sent, configuration, phase_of}
 use Rattle.cg_group.specs.Ready.{all_received}
 use Rattle.cg_group.specs.Events.{deliveries_at, transitional_places}
-use Rattle.cg_group.specs.History.{Call, Parting, Way, WentDown, WentOn, Stay, Run, stay_in, was_there, beginning, run_from, MayCallAll}
+use Rattle.cg_group.specs.History.{Call, Parting, Way, WentDown, WentOn, Stay, History, stay_in, was_there, beginning, history_from, MayCallAll}
 
 -- the stay ended before the call of that number
 abbrev pub EndedBefore : ℕ → Way → Type 0
@@ -42,11 +42,11 @@ module _ {M : Type 0} where
   ordered_from p ordered = map (λ s. s.message) (filter (λ s. s.from == p) ordered)
 
   -- what a replica was handed in a configuration
-  abbrev pub stay_of : Run M → ℕ → ℕ → Stay M
+  abbrev pub stay_of : History M → ℕ → ℕ → Stay M
   stay_of r p conf = stay_in (r.diary p) conf
 
   -- how many messages a replica was handed in its regular phase
-  abbrev pub count_of : Run M → ℕ → ℕ → ℕ
+  abbrev pub count_of : History M → ℕ → ℕ → ℕ
   count_of r p conf = length (stay_of r p conf).regular
 
   -- what a replica was handed behind its parting, where it parted
@@ -54,8 +54,8 @@ module _ {M : Type 0} where
   later_of None = []
   later_of (Some t) = t.later
 
-  -- what was handed in a run, with the group after it, is virtually synchronous
-  pub record IsVirtuallySynchronous (r : Run M) : Type 0 where
+  -- what was handed in a history, with the group after it, is virtually synchronous
+  pub record IsVirtuallySynchronous (r : History M) : Type 0 where
     -- nothing is handed out of turn: after a parting comes a regular configuration, or the replica goes down
     pub in_turn : (p : ℕ) → (r.diary p).strays ≡ []
     -- in its regular phase a replica is handed the first places, in order, and every member has received each of them
@@ -88,4 +88,4 @@ module _ {M : Type 0} where
 
 -- whatever a list of calls hands out, from the empty group on, is virtually synchronous
 abbrev pub AlwaysSynchronous : (M : Type 0) → Type 0
-AlwaysSynchronous M = (calls : List (Call M)) → MayCallAll beginning calls → IsVirtuallySynchronous (run_from beginning calls)
+AlwaysSynchronous M = (calls : List (Call M)) → MayCallAll beginning calls → IsVirtuallySynchronous (history_from beginning calls)

@@ -1,18 +1,19 @@
-ghost use Rattle.std.specs.Prelude.{◌≡◌, ℕ, suc, ◌+◌, length, fold, IfSome, OnOk, OnErr};
+ghost use Rattle.std.specs.Prelude.{◌≡◌, ℕ, ◌<◌, length, fold, IfSome, OnOk, OnErr};
 ghost use Rattle.cg_group.specs.Events.{order, order_all, receive, receive_all, gather};
 ghost use Rattle.cg_group.specs.Logs.{RoomFor, RoomForAll, group_of, configurations_of};
 ghost use Rattle.cg_group.specs.Rosters.{conf_of, waits_of, pending};
 
 use crate::log::Log;
 use crate::logs::{append_at, receive_all_at, receive_at, reserve_at};
+use crate::member::Member;
 use crate::roster::Roster;
 use cg_base::{IdSet, NoMemory, ReplicaId};
 
 /// The oldest message of a replica gets the next place of its configuration, where it has one. There is room for it.
 pub(crate) fn order_oldest<M: Drop>(logs: &mut [Log<M>], roster: &mut Roster<M>, p: ReplicaId)
-    requires { RoomFor logs.old (conf_of roster.old p) 1 }
+    requires { 0 < length (waits_of roster.old p) → RoomFor logs.old (conf_of roster.old p) 1 }
     ensures group { group_of logs.new roster.new ≡ order (group_of logs.old roster.old) p }
-    ensures room { (k n : ℕ) → RoomFor logs.old k (suc n) → RoomFor logs.new k n }
+    ensures room { RoomForAll logs.old roster.old → RoomForAll logs.new roster.new }
 {
     let conf = roster.regular_in(p);
     match roster.take_oldest(p) {
@@ -28,11 +29,11 @@ pub(crate) fn receive_place<M>(logs: &mut [Log<M>], roster: &Roster<M>, p: Repli
     receive_at(logs, roster.regular_in(p), p, place);
 }
 
-// all messages of a replica get the next places of its configuration. There is room for them
+// all messages of a replica get the next places of its configuration. There is room for all that wait
 fn order_all<M: Drop>(logs: &mut [Log<M>], roster: &mut Roster<M>, p: ReplicaId)
-    requires { RoomFor logs.old (conf_of roster.old p) (length (waits_of roster.old p)) }
+    requires { RoomForAll logs.old roster.old }
     ensures group { group_of logs.new roster.new ≡ order_all (group_of logs.old roster.old) p }
-    ensures room { (k n : ℕ) → RoomFor logs.old k (length (waits_of roster.old p) + n) → RoomFor logs.new k n }
+    ensures room { RoomForAll logs.new roster.new }
 {
     let count = roster.waiting(p);
     for _i in 0..count {
@@ -40,9 +41,9 @@ fn order_all<M: Drop>(logs: &mut [Log<M>], roster: &mut Roster<M>, p: ReplicaId)
     }
 }
 
-// all messages of these replicas get places. There is room for them
+// all messages of these replicas get places. There is room for all that wait
 fn order_everything<M: Drop>(logs: &mut [Log<M>], roster: &mut Roster<M>, set: &IdSet)
-    requires { RoomForAll logs.old roster.old (pending roster.old set.now) set.now }
+    requires { RoomForAll logs.old roster.old }
     ensures { group_of logs.new roster.new ≡ fold order_all (group_of logs.old roster.old) set.now }
 {
     for p in set.iter() {
@@ -50,42 +51,48 @@ fn order_everything<M: Drop>(logs: &mut [Log<M>], roster: &mut Roster<M>, set: &
     }
 }
 
-// how many messages of these replicas wait for a place, where a number is that large
-fn pending<M>(roster: &Roster<M>, set: &IdSet) -> Option<usize>
-    ensures { IfSome result (λ n. n ≡ pending roster.now set.now) }
+// how many messages wait for a place of the configuration, where a number is that large
+fn pending<M>(members: &[Member<M>], conf: u64) -> Option<usize>
+    ensures { IfSome result (λ n. n ≡ pending members.now conf) }
 {
     let mut count: usize = 0;
-    for p in set.iter() {
-        count = count.checked_add(roster.waiting(p))?;
+    for member in members {
+        if member.regular_in() == conf {
+            count = count.checked_add(member.unordered())?;
+        }
     }
     Some(count)
 }
 
-// makes room in the configuration of each of these replicas
-fn reserve_for_all<M>(
-    logs: &mut [Log<M>],
-    roster: &Roster<M>,
-    set: &IdSet,
-    count: usize,
-) -> Result<(), NoMemory>
+// makes room for the messages that wait for a place of the configuration
+fn reserve_pending<M>(logs: &mut [Log<M>], members: &[Member<M>], conf: u64) -> Result<(), NoMemory>
     ensures same { configurations_of logs.new ≡ configurations_of logs.old }
-    ensures room { OnOk result (RoomForAll logs.new roster.now count set.now) }
+    ensures kept { (k n : ℕ) → RoomFor logs.old k n → RoomFor logs.new k n }
+    ensures room { OnOk result (RoomFor logs.new conf (pending members.now conf)) }
 {
-    for p in set.iter() {
-        reserve_at(logs, roster.regular_in(p), count)?;
-    }
-    Ok(())
-}
-
-// makes room for all that these replicas' messages need
-fn make_room<M>(logs: &mut [Log<M>], roster: &Roster<M>, set: &IdSet) -> Result<(), NoMemory>
-    ensures same { configurations_of logs.new ≡ configurations_of logs.old }
-    ensures room { OnOk result (RoomForAll logs.new roster.now (pending roster.now set.now) set.now) }
-{
-    match pending(roster, set) {
-        Some(count) => reserve_for_all(logs, roster, set, count),
+    match pending(members, conf) {
+        Some(count) => reserve_at(logs, conf, count),
         None => Err(NoMemory),
     }
+}
+
+// makes room for all messages that wait, each configuration for its own
+fn make_room<M>(logs: &mut [Log<M>], members: &[Member<M>]) -> Result<(), NoMemory>
+    ensures same { configurations_of logs.new ≡ configurations_of logs.old }
+    ensures room { OnOk result (RoomForAll logs.new members.now) }
+{
+    let mut last = 0;
+    for member in members {
+        if member.unordered() == 0 {
+            continue;
+        }
+        let conf = member.regular_in();
+        if conf != last {
+            reserve_pending(logs, members, conf)?;
+            last = conf;
+        }
+    }
+    Ok(())
 }
 
 // each of these replicas receives every place of its configuration
@@ -102,8 +109,8 @@ pub(crate) fn gather<M: Drop>(logs: &mut [Log<M>], roster: &mut Roster<M>) -> Re
     ensures ok { OnOk result (group_of logs.new roster.new ≡ gather (group_of logs.old roster.old)) }
     ensures err { OnErr result (group_of logs.new roster.new ≡ group_of logs.old roster.old) }
 {
+    make_room(logs, roster.as_slice())?;
     let regulars = roster.regulars();
-    make_room(logs, roster, &regulars)?;
     order_everything(logs, roster, &regulars);
     let regulars_now = roster.regulars();
     receive_everything(logs, roster, &regulars_now);

@@ -1,4 +1,4 @@
-ghost use Rattle.std.specs.Prelude.{◌≡◌, ℕ, true, if◌then◌else◌, ◌<◌, ◌≤◌, ◌+◌, ◌^◌, [], ◌==◌, ◌∷◌, ◌++◌, length, OnOk, OnErr, vec_len, vec_capacity};
+ghost use Rattle.std.specs.Prelude.{◌≡◌, ℕ, true, if◌then◌else◌, ◌<◌, ◌≤◌, ◌+◌, ◌-◌, ◌^◌, [], ◌==◌, ◌∷◌, ◌++◌, length, OnOk, OnErr, vec_len, vec_capacity};
 ghost use Rattle.std.specs.Option.{option_copied, option_map};
 ghost use Rattle.cg_base.specs.Lists.{at_place};
 ghost use Rattle.cg_base.specs.Sets.{IsSet, with_member, is_within};
@@ -117,6 +117,20 @@ fn put_slots<M>(
     Ok(())
 }
 
+// makes room for that many more, where there is less, and then for a quarter more at least: room that a configuration doesn't need
+// before everybody has left it stays unused
+fn reserve_some<T>(items: &mut Vec<T>, count: usize) -> Result<(), NoMemory>
+    ensures items { items.new.items ≡ items.old.items }
+    ensures kept { vec_capacity items.old - vec_len items.old ≤ vec_capacity items.new - vec_len items.new }
+    ensures room { OnOk result (count ≤ vec_capacity items.new - vec_len items.new) }
+{
+    if count <= items.capacity() - items.len() {
+        return Ok(());
+    }
+    items.reserve_exact(count.max(items.len() / 4))?;
+    Ok(())
+}
+
 impl<M> Log<M> {
     pub(crate) fn new(alloc: Global, members: IdSet) -> Log<M>
         ensures { result.configuration ≡ record { members = members; ordered = []; received = [] } }
@@ -142,7 +156,7 @@ impl<M> Log<M> {
         ensures kept { self.old.room ≤ self.new.room }
         ensures room { OnOk result (count ≤ self.new.room) }
     {
-        self.ordered.reserve(count)?;
+        reserve_some(&mut self.ordered, count)?;
         put_slots(&mut self.fronts, self.ordered.as_slice(), &self.members)
     }
 

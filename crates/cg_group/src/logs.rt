@@ -1,5 +1,5 @@
 //! What is done to the configuration of a number, where there is one.
-ghost use Rattle.std.specs.Prelude.{◌≡◌, ℕ, suc, OnOk};
+ghost use Rattle.std.specs.Prelude.{◌≡◌, ℕ, ◌==◌, ◌+◌, if◌then◌else◌, OnOk};
 ghost use Rattle.cg_group.specs.State.{changed_at};
 ghost use Rattle.cg_group.specs.Events.{with_message, with_receipt};
 ghost use Rattle.cg_group.specs.Logs.{RoomFor, configurations_of, with_all_receipts};
@@ -27,7 +27,7 @@ pub(crate) fn reserve_at<M>(logs: &mut [Log<M>], conf: u64, count: usize) -> Res
 pub(crate) fn append_at<M: Drop>(logs: &mut [Log<M>], conf: u64, from: ReplicaId, message: M)
     requires { RoomFor logs.old conf 1 }
     ensures changed { configurations_of logs.new ≡ changed_at (λ c. with_message c from message) (configurations_of logs.old) conf }
-    ensures room { (k n : ℕ) → RoomFor logs.old k (suc n) → RoomFor logs.new k n }
+    ensures room { (k n : ℕ) → RoomFor logs.old k ((if conf == k then 1 else 0) + n) → RoomFor logs.new k n }
 {
     if conf == 0 {
         return;

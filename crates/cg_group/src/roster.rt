@@ -3,7 +3,7 @@ ghost use Rattle.std.specs.Option.{option_copied};
 ghost use Rattle.std.specs.List.{prefix_len};
 ghost use Rattle.cg_base.specs.Sets.{IsId, with_member};
 ghost use Rattle.cg_group.specs.State.{Standing, with_standing, regular_in};
-ghost use Rattle.cg_group.specs.Rosters.{found, changing, waiting, handed_so_far, with_unordered, waits_of, conf_of, regulars_of};
+ghost use Rattle.cg_group.specs.Rosters.{found, changing, waiting, handed_so_far, with_unordered, waits_of, conf_of, regulars_of, IsRoster};
 
 use crate::Phase;
 use crate::member::Member;
@@ -151,11 +151,12 @@ impl<M> Roster<M> {
         }
     }
 
-    /// The oldest message of a replica leaves, if there is one.
+    /// The oldest message of a replica leaves, if there is one. It also says that the replicas ascend.
     pub(crate) fn take_oldest(&mut self, p: ReplicaId) -> Option<M>
-        ensures { MatchOption result
+        ensures taken { MatchOption result
             ((self.new ≡ self.old) × (waits_of self.old p ≡ []))
             (λ m. (s : Standing M) × (rest : List M) × (found self.old p ≡ Some s) × (s.unordered ≡ m ∷ rest) × (self.new ≡ with_standing self.old (with_unordered s rest))) }
+        ensures roster { IsRoster self.old }
     {
         match position_of(self.members.as_slice(), p) {
             Some(i) => {
