@@ -2,7 +2,7 @@
 
 ghost use Rattle.std.specs.Prelude.{◌≡◌, ◌<◌, ℕ, List, [], ◌∷◌, ◌++◌, length, drop, slice_get, OnOk, OnErr, vec_len, map};
 ghost use Rattle.std.specs.Option.{option_copied};
-ghost use Rattle.std.specs.VecDeque.{deque_items};
+ghost use Rattle.std.specs.VecDeque.{deque_items, deque_len, deque_capacity};
 ghost use Rattle.cg_queue.specs.Lanes.{lane_at, rows_of, with_lane, front_of, marked_at};
 
 use crate::red::Red;
@@ -57,8 +57,7 @@ impl<T> Lanes<T> {
         ensures err { OnErr result (rows_of self.new ≡ rows_of self.old) }
     {
         grow(&mut self.rows, self.alloc, slot)?;
-        self.rows[slot].push_back(item)?;
-        Ok(())
+        push_in(&mut self.rows[slot], item)
     }
 
     /// Takes the first thing of a row, if there is one.
@@ -99,6 +98,32 @@ pub(crate) fn item_in<T>(row: &VecDeque<T>, i: usize) -> Option<&T>
     ensures { option_copied result ≡ slice_get row.now.items i }
 {
     row.get(i)
+}
+
+/// Puts a thing at the end of a row.
+pub(crate) fn push_in<T>(row: &mut VecDeque<T>, item: T) -> Result<(), NoMemory>
+where
+    T: Drop,
+    ensures ok { OnOk result (row.new.items ≡ row.old.items ++ item ∷ []) }
+    ensures err { OnErr result (row.new.items ≡ row.old.items) }
+{
+    make_room(row)?;
+    row.push_back_reserved(item);
+    Ok(())
+}
+
+/// Makes room for one thing more. Long rows are most of a replica's memory, so a full one grows by a quarter, where it
+/// would double by itself.
+pub(crate) fn make_room<T>(row: &mut VecDeque<T>) -> Result<(), NoMemory>
+    ensures items { row.new.items ≡ row.old.items }
+    ensures len { deque_len row.new ≡ deque_len row.old }
+    ensures room { OnOk result (deque_len row.new < deque_capacity row.new) }
+{
+    if row.len() < row.capacity() {
+        return Ok(());
+    }
+    row.reserve_exact(row.len() / 4 + 4)?;
+    Ok(())
 }
 
 // rows for the slots up to this one, all but those that were there empty
