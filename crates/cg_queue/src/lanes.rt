@@ -3,7 +3,7 @@
 ghost use Rattle.std.specs.Prelude.{◌≡◌, ◌<◌, ℕ, List, [], ◌∷◌, ◌++◌, length, drop, slice_get, OnOk, OnErr, vec_len, map};
 ghost use Rattle.std.specs.Option.{option_copied};
 ghost use Rattle.std.specs.VecDeque.{deque_items, deque_len, deque_capacity};
-ghost use Rattle.cg_queue.specs.Lanes.{lane_at, rows_of, with_lane, front_of, marked_at};
+ghost use Rattle.cg_queue.specs.Lanes.{HasRoom, lane_at, rows_of, with_lane, front_of, marked_at};
 
 use crate::red::Red;
 use cg_base::NoMemory;
@@ -56,8 +56,29 @@ impl<T> Lanes<T> {
         ensures ok { OnOk result (rows_of self.new ≡ with_lane (rows_of self.old) slot (rows_of self.old slot ++ item ∷ [])) }
         ensures err { OnErr result (rows_of self.new ≡ rows_of self.old) }
     {
+        self.make_room(slot)?;
+        self.push_reserved(slot, item);
+        Ok(())
+    }
+
+    /// Makes room for one thing more in a row.
+    pub(crate) fn make_room(&mut self, slot: usize) -> Result<(), NoMemory>
+    where
+        T: Drop,
+        requires { slot < 32 }
+        ensures same { rows_of self.new ≡ rows_of self.old }
+        ensures room { OnOk result (HasRoom self.new slot) }
+    {
         grow(&mut self.rows, self.alloc, slot)?;
-        push_in(&mut self.rows[slot], item)
+        make_room(&mut self.rows[slot])
+    }
+
+    /// Puts a thing at the end of a row that has room for it.
+    pub(crate) fn push_reserved(&mut self, slot: usize, item: T)
+        requires { HasRoom self.old slot }
+        ensures { rows_of self.new ≡ with_lane (rows_of self.old) slot (rows_of self.old slot ++ item ∷ []) }
+    {
+        self.rows[slot].push_back_reserved(item);
     }
 
     /// Takes the first thing of a row, if there is one.
