@@ -18,6 +18,10 @@ pub server_ids-with : (lines : List ℕ) (set : List Weighted) → server_ids (m
 server_ids-with lines [] = refl
 server_ids-with lines (m ∷ set) = ap (λ s. m.id ∷ s) (server_ids-with lines set)
 
+pub lines-with : (lines : List ℕ) (set : List Weighted) → map (λ s. s.line) (map (server_with lines) set) ≡ map (array_slot lines) (ids set)
+lines-with lines [] = refl
+lines-with lines (m ∷ set) = ap (λ ns. array_slot lines m.id ∷ ns) (lines-with lines set)
+
 pub is_among-with : (lines : List ℕ) (set : List Weighted) (p : ℕ) → is_among (map (server_with lines) set) p ≡ has (ids set) p
 is_among-with lines [] p = refl
 is_among-with lines (m ∷ set) p = ap (λ b. eqb m.id p || b) (is_among-with lines set p)

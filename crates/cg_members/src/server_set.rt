@@ -8,21 +8,23 @@ use std::marker::Model;
 #[derive(Drop)]
 pub struct ServerSet {
     weights: WeightSet,
+    // the same members, kept beside since the white line goes over them at every record
+    members: IdSet,
     // slot p - 1 has the line of p, where p is a server
     lines: [u64; 32],
 }
 
 impl Model for ServerSet {
-    ghost use Rattle.std.specs.Prelude.{List, map};
+    ghost use Rattle.std.specs.Prelude.{◌≡◌, List, map};
     ghost use Rattle.cg_members.specs.declared.server.Server.{Server};
-    ghost use Rattle.cg_base.specs.Weights.{IsWeightSet};
+    ghost use Rattle.cg_base.specs.Weights.{IsWeightSet, ids};
     ghost use Rattle.cg_members.specs.View.{server_with};
 
     ghost Value = { List Server };
 
     ghost view = { λ s. map (server_with s.lines) s.weights };
 
-    ghost invariant = { λ s. IsWeightSet s.weights };
+    ghost invariant = { λ s. IsWeightSet s.weights × (s.members ≡ ids s.weights) };
 }
 
 impl ServerSet {
@@ -34,6 +36,7 @@ impl ServerSet {
     {
         ServerSet {
             weights: WeightSet::empty(),
+            members: IdSet::empty(),
             lines: [0; 32],
         }
     }
@@ -46,6 +49,7 @@ impl ServerSet {
         let _members = set.iter();
         ServerSet {
             weights: set,
+            members: set.ids(),
             lines: [0; 32],
         }
     }
@@ -56,6 +60,7 @@ impl ServerSet {
     {
         ServerSet {
             weights: self.weights,
+            members: self.members,
             lines: self.lines,
         }
     }
@@ -66,6 +71,7 @@ impl ServerSet {
         ensures { self.new ≡ with_server self.old (record { id = id; line = line; weight = weight }) }
     {
         self.weights.put(id, weight);
+        self.members = self.weights.ids();
         self.lines[usize::from(id.get() - 1)] = line;
     }
 
@@ -79,6 +85,7 @@ impl ServerSet {
             }
         }
         self.weights = kept;
+        self.members = kept.ids();
     }
 
     /// Raises a server's line to the given one. It never lowers; a replica that is no server stays none.
@@ -117,7 +124,7 @@ impl ServerSet {
     pub fn ids(&self) -> IdSet
         ensures { result ≡ server_ids self.now }
     {
-        self.weights.ids()
+        self.members
     }
 
     /// The least of the lines, if there is a server.
@@ -125,9 +132,8 @@ impl ServerSet {
         ensures { result ≡ least_line self.now }
     {
         let mut least = None;
-        for member in self.weights.iter() {
-            let line = self.lines[usize::from(member.id.get() - 1)];
-            least = lesser(least, line);
+        for id in self.members.iter() {
+            least = lesser(least, self.lines[usize::from(id.get() - 1)]);
         }
         least
     }

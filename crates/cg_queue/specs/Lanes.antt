@@ -1,6 +1,6 @@
 -- Things in a row for each slot.
-use Rattle.std.specs.Prelude.{ℕ, zero, suc, ◌==◌, Bool, List, [], ◌∷◌, if◌then◌else◌}
-use Rattle.std.specs.VecDeque.{deque_items}
+use Rattle.std.specs.Prelude.{◌≡◌, ◌<◌, ℕ, zero, suc, ◌==◌, Bool, List, [], ◌∷◌, length, get_or, if◌then◌else◌}
+use Rattle.std.specs.VecDeque.{deque_items, deque_len, deque_capacity}
 use Rattle.cg_queue.specs.declared.red.Red.{Red}
 use Rattle.cg_queue.specs.declared.lanes.Lanes.{Lanes}
 
@@ -13,6 +13,14 @@ lane_at items (row ∷ rows) (suc k) = lane_at items rows k
 -- the row of each slot
 abbrev pub rows_of : {T : Type 0} → Lanes T → ℕ → List T
 rows_of lanes = lane_at deque_items lanes.rows.items
+
+-- a row stands at the slot, and is longer than what stands in it
+abbrev pub RoomAt : {R : Type 0} → (R → ℕ) → (R → ℕ) → List R → ℕ → Type 0
+RoomAt {R} len capacity rows slot = (slot < length rows) × ((row : R) → row ≡ get_or rows slot row → len row < capacity row)
+
+-- the row of a slot has room for one thing more
+abbrev pub HasRoom : {T : Type 0} → Lanes T → ℕ → Type 0
+HasRoom lanes slot = RoomAt deque_len deque_capacity lanes.rows.items slot
 
 -- the rows with another one at a slot
 abbrev pub with_lane : {X : Type 0} → (ℕ → List X) → ℕ → List X → ℕ → List X

@@ -1,14 +1,14 @@
 //! How the actions of a queue are kept. `IsSound` in `specs/Body.antt` says what is always so of a body between two calls
 //! of the queue.
 
-ghost use Rattle.std.specs.Prelude.{◌≡◌, ◌+◌, ◌<◌, ◌-◌, ◌^◌, suc, length, fold, IsSome, MatchOption, OnOk, OnErr};
+ghost use Rattle.std.specs.Prelude.{◌≡◌, ◌+◌, ◌<◌, ◌-◌, ◌^◌, suc, length, fold, IsSome, MatchOption, OnOk, OnErr, vec_len, vec_capacity};
 ghost use Rattle.cg_base.specs.Sets.{IsId};
 ghost use Rattle.cg_base.specs.CutLimits.{IsCut};
-ghost use Rattle.cg_queue.specs.Lanes.{rows_of};
+ghost use Rattle.cg_queue.specs.Lanes.{HasRoom, rows_of};
 ghost use Rattle.cg_queue.specs.Body.{parts_of, flag_of, no_parts, BeginsWell, added_red, with_name, flagged, added_green, settled, cleared, dropped, renamed, flag_name, is_above, lane_of};
 ghost use Rattle.std.specs.Prelude.{filter, slice_get, ℕ, [], ◌∷◌, ◌++◌, true, ◌⊎◌};
 
-use crate::lanes::Lanes;
+use crate::lanes::{Lanes, make_room, push_in};
 use crate::red::Red;
 use cg_action::Action;
 use cg_base::{ActionId, Cut, NoMemory};
@@ -99,35 +99,45 @@ pub(crate) fn starts_yellow(body: &Body, id: &ActionId) -> bool {
     }
 }
 
-/// A creator's next action, as red.
-pub(crate) fn add_red(body: &mut Body, a: Action, is_yellow: bool) -> Result<(), NoMemory>
-    ensures ok { OnOk result (parts_of body.new ≡ added_red (parts_of body.old) a is_yellow) }
-    ensures err { OnErr result (parts_of body.new ≡ parts_of body.old) }
+/// Makes room for one more red of a creator.
+pub(crate) fn make_red_room(body: &mut Body, id: &ActionId) -> Result<(), NoMemory>
+    ensures same { parts_of body.new ≡ parts_of body.old }
+    ensures room { OnOk result (HasRoom body.new.reds (lane_of id.now)) }
+{
+    body.reds.make_room(lane_of(id))
+}
+
+/// A creator's next action, as red; there is room for it.
+pub(crate) fn add_red(body: &mut Body, a: Action, is_yellow: bool)
+    requires { HasRoom body.old.reds (lane_of a.id) }
+    ensures { parts_of body.new ≡ added_red (parts_of body.old) a is_yellow }
 {
     let id = name_of(&a);
-    let slot = lane_of(&id);
     let red = Red {
         action: a,
         is_yellow,
     };
-    body.reds.push(slot, red)?;
+    body.reds.push_reserved(lane_of(&id), red);
     body.red_cut.raise(id.creator, id.index);
-    Ok(())
 }
 
-/// A creator's next action, as red and yellow.
-pub(crate) fn add_yellow(body: &mut Body, a: Action) -> Result<(), NoMemory>
-    ensures ok { OnOk result (parts_of body.new ≡ added_red (with_name (parts_of body.old) a.id) a true) }
-    ensures err { OnErr result (parts_of body.new ≡ parts_of body.old) }
+/// Makes room for one more red of a creator, and for its name among the yellow ones.
+pub(crate) fn make_yellow_room(body: &mut Body, id: &ActionId) -> Result<(), NoMemory>
+    ensures same { parts_of body.new ≡ parts_of body.old }
+    ensures room { OnOk result (HasRoom body.new.reds (lane_of id.now) × (vec_len body.new.yellow < vec_capacity body.new.yellow)) }
 {
-    body.yellow.push(name_of(&a))?;
-    match add_red(body, a, true) {
-        Ok(()) => Ok(()),
-        Err(fault) => {
-            let _ = body.yellow.pop();
-            Err(fault)
-        }
-    }
+    body.yellow.reserve(1)?;
+    body.reds.make_room(lane_of(id))
+}
+
+/// A creator's next action, as red and yellow; there is room for it.
+pub(crate) fn add_yellow(body: &mut Body, a: Action)
+    requires room { HasRoom body.old.reds (lane_of a.id) }
+    requires name { vec_len body.old.yellow < vec_capacity body.old.yellow }
+    ensures { parts_of body.new ≡ added_red (with_name (parts_of body.old) a.id) a true }
+{
+    body.yellow.push_reserved(name_of(&a));
+    add_red(body, a, true);
 }
 
 /// A red action that isn't yellow becomes yellow.
@@ -171,8 +181,7 @@ fn push_green(body: &mut Body, a: Action) -> Result<(), NoMemory>
     ensures ok { OnOk result (parts_of body.new ≡ record (parts_of body.old) { greens = body.old.greens.items ++ a ∷ [] }) }
     ensures err { OnErr result (parts_of body.new ≡ parts_of body.old) }
 {
-    body.greens.push_back(a)?;
-    Ok(())
+    push_in(&mut body.greens, a)
 }
 
 // the creator's next action is green, and red no more
@@ -196,7 +205,7 @@ pub(crate) fn turn_first(body: &mut Body, slot: usize) -> Result<(), NoMemory>
         Some(red) => name_of(&red.action),
         None => return Ok(()),
     };
-    body.greens.reserve(1)?;
+    make_room(&mut body.greens)?;
     let at = body.white + body.greens.len() as u64 + 1;
     body.positions.push(slot, at)?;
     let Some(red) = body.reds.take_first(slot) else {

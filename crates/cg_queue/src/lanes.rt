@@ -2,8 +2,8 @@
 
 ghost use Rattle.std.specs.Prelude.{◌≡◌, ◌<◌, ℕ, List, [], ◌∷◌, ◌++◌, length, drop, slice_get, OnOk, OnErr, vec_len, map};
 ghost use Rattle.std.specs.Option.{option_copied};
-ghost use Rattle.std.specs.VecDeque.{deque_items};
-ghost use Rattle.cg_queue.specs.Lanes.{lane_at, rows_of, with_lane, front_of, marked_at};
+ghost use Rattle.std.specs.VecDeque.{deque_items, deque_len, deque_capacity};
+ghost use Rattle.cg_queue.specs.Lanes.{HasRoom, lane_at, rows_of, with_lane, front_of, marked_at};
 
 use crate::red::Red;
 use cg_base::NoMemory;
@@ -56,9 +56,29 @@ impl<T> Lanes<T> {
         ensures ok { OnOk result (rows_of self.new ≡ with_lane (rows_of self.old) slot (rows_of self.old slot ++ item ∷ [])) }
         ensures err { OnErr result (rows_of self.new ≡ rows_of self.old) }
     {
-        grow(&mut self.rows, self.alloc, slot)?;
-        self.rows[slot].push_back(item)?;
+        self.make_room(slot)?;
+        self.push_reserved(slot, item);
         Ok(())
+    }
+
+    /// Makes room for one thing more in a row.
+    pub(crate) fn make_room(&mut self, slot: usize) -> Result<(), NoMemory>
+    where
+        T: Drop,
+        requires { slot < 32 }
+        ensures same { rows_of self.new ≡ rows_of self.old }
+        ensures room { OnOk result (HasRoom self.new slot) }
+    {
+        grow(&mut self.rows, self.alloc, slot)?;
+        make_room(&mut self.rows[slot])
+    }
+
+    /// Puts a thing at the end of a row that has room for it.
+    pub(crate) fn push_reserved(&mut self, slot: usize, item: T)
+        requires { HasRoom self.old slot }
+        ensures { rows_of self.new ≡ with_lane (rows_of self.old) slot (rows_of self.old slot ++ item ∷ []) }
+    {
+        self.rows[slot].push_back_reserved(item);
     }
 
     /// Takes the first thing of a row, if there is one.
@@ -99,6 +119,32 @@ pub(crate) fn item_in<T>(row: &VecDeque<T>, i: usize) -> Option<&T>
     ensures { option_copied result ≡ slice_get row.now.items i }
 {
     row.get(i)
+}
+
+/// Puts a thing at the end of a row.
+pub(crate) fn push_in<T>(row: &mut VecDeque<T>, item: T) -> Result<(), NoMemory>
+where
+    T: Drop,
+    ensures ok { OnOk result (row.new.items ≡ row.old.items ++ item ∷ []) }
+    ensures err { OnErr result (row.new.items ≡ row.old.items) }
+{
+    make_room(row)?;
+    row.push_back_reserved(item);
+    Ok(())
+}
+
+/// Makes room for one thing more. Long rows are most of a replica's memory, so a full one grows by a quarter, where it
+/// would double by itself.
+pub(crate) fn make_room<T>(row: &mut VecDeque<T>) -> Result<(), NoMemory>
+    ensures items { row.new.items ≡ row.old.items }
+    ensures len { deque_len row.new ≡ deque_len row.old }
+    ensures room { OnOk result (deque_len row.new < deque_capacity row.new) }
+{
+    if row.len() < row.capacity() {
+        return Ok(());
+    }
+    row.reserve_exact(row.len() / 4 + 4)?;
+    Ok(())
 }
 
 // rows for the slots up to this one, all but those that were there empty

@@ -9,7 +9,7 @@ ghost use Rattle.cg_queue.specs.Queue.{names_of};
 
 use crate::body::{
     Body, add_green, add_name, add_red, add_yellow, drop_green, empty_body, forget_green,
-    is_flagged, lane_of, name_of, rename, starts_yellow, turn_first,
+    is_flagged, lane_of, make_red_room, make_yellow_room, name_of, rename, starts_yellow, turn_first,
 };
 use crate::lanes::{Lanes, item_in};
 use crate::red::Red;
@@ -75,9 +75,10 @@ impl Queue {
         if id.index - 1 > cut {
             return Err(QueueFault::Gap { cut });
         }
-        let Ok(()) = add_red(&mut self.body, a, false) else {
+        let Ok(()) = make_red_room(&mut self.body, &id) else {
             return Err(QueueFault::NoMemory);
         };
+        add_red(&mut self.body, a, false);
         Ok(Mark::Placed)
     }
 
@@ -97,9 +98,10 @@ impl Queue {
         if id.index - 1 > known {
             return Err(QueueFault::Gap { cut: known });
         }
-        let Ok(()) = add_yellow(&mut self.body, a) else {
+        let Ok(()) = make_yellow_room(&mut self.body, &id) else {
             return Err(QueueFault::NoMemory);
         };
+        add_yellow(&mut self.body, a);
         Ok(Mark::Placed)
     }
 

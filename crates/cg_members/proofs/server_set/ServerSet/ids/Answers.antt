@@ -3,4 +3,4 @@ use Rattle.cg_members.proofs.ServerLemmas.{server_ids-with}
 use Rattle.cg_members.proofs.server_set.ServerSet.ids.Goals as goal
 
 pub returns : goal.returns
-returns c = rw (← c.self.view_is) (c.ids.ensures ∙ sym (server_ids-with c.self.inside.lines c.self.inside.weights))
+returns c = rw (← c.self.view_is) (c.self.invariant.1 ∙ sym (server_ids-with c.self.inside.lines c.self.inside.weights))

@@ -1,18 +1,18 @@
-use Rattle.std.proofs.Common.{◌≡◌, ◌∙◌, ◌<◌, ◌^◌, suc, ap, sym, subst, arith}
+use Rattle.std.proofs.Common.{◌≡◌, ◌∙◌, ◌<◌, ◌^◌, true, suc, ap, sym, subst, arith}
 use Rattle.cg_base.specs.declared.action_id.ActionId.{ActionId}
 use Rattle.cg_base.specs.Cuts.{index_in}
 use Rattle.cg_queue.specs.declared.mark.Mark.TheVariants.{Placed}
 use Rattle.cg_queue.specs.Queue.{Marks, marked_yellow, and_yellow}
-use Rattle.cg_queue.specs.Body.{seen, parts_of, IsSound}
+use Rattle.cg_queue.specs.Body.{added_red, with_name, seen, parts_of, IsSound}
 use Rattle.cg_queue.proofs.Soundness.{both-sound, both-view}
 use Rattle.cg_queue.specs.MarkLaws.{red-placed}
 use Rattle.cg_queue.proofs.queue.Queue.mark_yellow.Goals as goal
 
 pub invariant_of-self : goal.invariant_of-self
-invariant_of-self c = subst IsSound (sym c.in_default.ensures.err) c.self.invariant
+invariant_of-self c = subst IsSound (sym c.make_yellow_room.ensures.same) c.self.invariant
 
 pub returns-in_default : goal.returns-in_default
-returns-in_default c = ap seen c.in_default.ensures.err ∙ c.self.view_is
+returns-in_default c = ap seen c.make_yellow_room.ensures.same ∙ c.self.view_is
 
 pub invariant_of-self-2 : goal.invariant_of-self-2
 invariant_of-self-2 c =
@@ -23,7 +23,8 @@ invariant_of-self-2 c =
     let index : c.name_of-id.result.index ≡ a.id.index = ap (λ (n : ActionId). n.index) same in
     let cut : c.get-known.result ≡ index_in b.red_cut a.id.creator = c.get-known.ensures.value ∙ ap (λ (n : ActionId). index_in b.red_cut n.creator) same in
     let next : a.id.index ≡ suc (index_in b.red_cut a.id.creator) = omega arith in
-    subst IsSound (sym c.in-Ok-add_yellow.ensures.ok) (both-sound b a c.self.invariant c.name_of-id.ensures.creator small next)
+    let added = c.add_yellow.ensures ∙ ap (λ p. added_red (with_name p a.id) a true) c.make_yellow_room.ensures.same in
+    subst IsSound (sym added) (both-sound b a c.self.invariant c.name_of-id.ensures.creator small next)
 
 pub returns : goal.returns
 returns c =
@@ -34,6 +35,7 @@ returns c =
     let index : c.name_of-id.result.index ≡ a.id.index = ap (λ (n : ActionId). n.index) same in
     let cut : c.get-known.result ≡ index_in b.red_cut a.id.creator = c.get-known.ensures.value ∙ ap (λ (n : ActionId). index_in b.red_cut n.creator) same in
     let next : a.id.index ≡ suc (index_in b.red_cut a.id.creator) = omega arith in
+    let added = c.add_yellow.ensures ∙ ap (λ p. added_red (with_name p a.id) a true) c.make_yellow_room.ensures.same in
     ap (λ q. marked_yellow q a) (sym c.self.view_is)
     ∙ ap (and_yellow a.id) (red-placed (seen b) a next)
-    ∙ ap (Marks Placed) (sym (ap seen c.in-Ok-add_yellow.ensures.ok ∙ both-view b a c.self.invariant c.name_of-id.ensures.creator small next))
+    ∙ ap (Marks Placed) (sym (ap seen added ∙ both-view b a c.self.invariant c.name_of-id.ensures.creator small next))
