@@ -24,7 +24,6 @@ pub(crate) struct Known {
 }
 
 impl Model for Known {
-    ghost use Rattle.cg_queue.specs.Distinct.{is_distinct};
     ghost use Rattle.cg_queue.specs.Queue.{QueueView};
     ghost use Rattle.cg_client.specs.Kept.{AreKept};
 

@@ -35,3 +35,4 @@ pub use install::Installed;
 pub use parts::DraftParts;
 pub use queries::names_of;
 pub use request::Request;
+pub use stored::WhiteState;

@@ -28,27 +28,44 @@ use cg_queue::QueueFault;
 use cg_records::{Primary, Stable, Vulnerable, Yellow};
 use std::alloc::Global;
 
+/// What a replica holds of which every green is discarded.
+#[derive(Drop)]
+pub struct WhiteState {
+    /// How many were discarded.
+    pub white: u64,
+    /// How far they reach.
+    pub cut: Cut,
+    /// What all greens have made of the database, those still to be put among them.
+    pub db: Db,
+    /// What they have made of the members.
+    pub members: Members,
+    /// The last primary component that is known.
+    pub prim: Primary,
+    /// The number of its last attempt.
+    pub attempt_index: u64,
+    /// The record of an attempt whose end isn't known.
+    pub vulnerable: Option<Vulnerable>,
+}
+
 impl Core {
-    /// What a replica holds that knows no action but those that were discarded: so many greens, of each creator those up
-    /// to the cut. The database and the members are what all greens have made of them, those still to be put among them.
-    /// A number of the primary component or of the record that has no bytes is refused.
-    pub fn stored(
-        alloc: Global,
-        id: ReplicaId,
-        white: u64,
-        cut: Cut,
-        db: Db,
-        members: Members,
-        prim: Primary,
-        attempt_index: u64,
-        vulnerable: Option<Vulnerable>,
-    ) -> Result<Core, NoMemory>
-        requires white { white ≤ 2 ^ 62 }
-        requires cut { Each (λ top. IsIndex top.index) cut }
-        requires db { AreEntries db }
-        requires lines { Each (λ server. IsNumber server.line) members.servers }
-        ensures { IfOk result (λ core. core ≡ record { id = id; queue = resumed white cut; yellow_valid = false; own = []; db = db; members = members; prim = prim; attempt_index = attempt_index; vulnerable = vulnerable; buffered = []; owed = [] }) }
+    /// What a replica holds that knows no action but those that were discarded. A number of the primary component or of the
+    /// record that has no bytes is refused.
+    pub fn stored(alloc: Global, id: ReplicaId, state: WhiteState) -> Result<Core, NoMemory>
+        requires white { state.white ≤ 2 ^ 62 }
+        requires cut { Each (λ top. IsIndex top.index) state.cut }
+        requires db { AreEntries state.db }
+        requires lines { Each (λ server. IsNumber server.line) state.members.servers }
+        ensures { IfOk result (λ core. core ≡ record { id = id; queue = resumed state.white state.cut; yellow_valid = false; own = []; db = state.db; members = state.members; prim = state.prim; attempt_index = state.attempt_index; vulnerable = state.vulnerable; buffered = []; owed = [] }) }
     {
+        let WhiteState {
+            white,
+            cut,
+            db,
+            members,
+            prim,
+            attempt_index,
+            vulnerable,
+        } = state;
         let queue = Box::new(alloc, Known::resume(alloc, white, cut))?;
         let db = Box::new(alloc, Entries::of(db))?;
         let members = Box::new(alloc, Servers::of(members))?;

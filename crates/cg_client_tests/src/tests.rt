@@ -18,7 +18,7 @@ use cg_base::{
     ActionId, Cut, IdSet, NoMemory, ReplicaId, Row, WeightSet, put, put_id, put_id_list,
     put_id_runs, put_number, put_shown,
 };
-use cg_client::{Core, Draft, Installed, names_of};
+use cg_client::{Core, Draft, Installed, WhiteState, names_of};
 use cg_db::{Answer, Db};
 use cg_members::{Members, ServerSet};
 use cg_records::{Primary, Stable, Yellow};
@@ -381,8 +381,16 @@ fn stored(core: &mut Core) -> Result<(), Fail> {
         conf: 4,
         set: servers("1,2,3"),
     };
-    let db = Db::new(core.alloc());
-    *core = Core::stored(core.alloc(), core.id(), 5, cut, db, members, prim, 2, None)?;
+    let state = WhiteState {
+        white: 5,
+        cut,
+        db: Db::new(core.alloc()),
+        members,
+        prim,
+        attempt_index: 2,
+        vulnerable: None,
+    };
+    *core = Core::stored(core.alloc(), core.id(), state)?;
     Ok(())
 }
 

@@ -1,6 +1,5 @@
 -- The names that may be yellow: those of reds, each once.
 use Rattle.std.proofs.Common.{◌≡◌, List, [], ◌∷◌, ◌++◌, filter, fold, true, false, not, refl, sym, ◌∙◌, inl, inr, append_assoc}
-use Rattle.std.specs.Prelude.{Result, Ok, Err, IfOk}
 use Rattle.std.proofs.lemmas.List.{append-nil}
 use Rattle.std.proofs.lemmas.Bool.{cases_Bool, and_parts}
 use Rattle.cg_base.specs.declared.action_id.ActionId.{ActionId}
@@ -75,9 +74,3 @@ filter-from q list (id ∷ ids) new distinct =
 pub usable-filter : (q : QueueView) (ids : List ActionId) → is_distinct ids ≡ true → usable_names q ids ≡ filter (names (names_of q.reds)) ids
 unfolding usable_names
 usable-filter q ids distinct = filter-from q [] ids (all-new ids) distinct
-
--- ---- what a call gives
-
-pub IfOk_with : {T E : Type 0} {P Q : T → Type 0} (r : Result T E) → IfOk r P → ((x : T) → P x → Q x) → IfOk r Q
-IfOk_with (Ok x) p step = step x p
-IfOk_with (Err e) p step = tt

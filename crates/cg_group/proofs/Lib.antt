@@ -1,4 +1,3 @@
-mod Examples
 pub mod Picture
 pub mod Growing
 pub mod Delivering

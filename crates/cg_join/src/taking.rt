@@ -1,7 +1,7 @@
 //! A piece is taken, or refused.
 ghost use Rattle.std.specs.Prelude.{◌≡◌, ◌≤◌, ◌^◌};
 ghost use Rattle.cg_join.specs.Limits.{IsPart};
-ghost use Rattle.cg_join.specs.Taking.{same_snapshot, refusal, Adds, Takes};
+ghost use Rattle.cg_join.specs.Taking.{refusal, Adds, Takes};
 
 use crate::errors::bad;
 use crate::parts::Parts;
@@ -42,7 +42,7 @@ fn refusal(name: &SnapshotName, taken: u64, label: &Label) -> Option<JoinErr>
     requires { taken ≤ 2 ^ 62 }
     ensures { result ≡ refusal name.now taken label.now }
 {
-    if !is_same(&label.name, name) {
+    if label.name != *name {
         return Some(JoinErr::OtherSnapshot {
             want: *name,
             got: label.name,
@@ -55,10 +55,4 @@ fn refusal(name: &SnapshotName, taken: u64, label: &Label) -> Option<JoinErr>
         });
     }
     None
-}
-
-fn is_same(a: &SnapshotName, b: &SnapshotName) -> bool
-    ensures { result ≡ same_snapshot a.now b.now }
-{
-    a.rep.get() == b.rep.get() && a.number == b.number
 }

@@ -10,6 +10,7 @@ use Rattle.cg_action.specs.declared.action.Action.{Action}
 use Rattle.cg_members.specs.Laws.{AreApart}
 use Rattle.cg_members.specs.Servers.{after_green}
 use Rattle.cg_queue.specs.Distinct.{is_distinct}
+use Rattle.cg_queue.specs.DistinctLaws.{distinct-kept}
 use Rattle.cg_queue.specs.Queue.{names_of, green_count, with_red, without_action, placed_red}
 use Rattle.cg_client.specs.Replica.{Held}
 use Rattle.cg_client.specs.Marks.{after_first, with_green}
@@ -74,28 +75,6 @@ red-left reds id (y ∷ ids) red =
       | inl taken ↦ rw taken (red-left reds id ids parts.1)
       | inr stays ↦ rw stays (and_from (names (without id reds) y) (are_red (without id reds) (without id ids)) (names-left reds id y stays parts.0) (red-left reds id ids parts.1))
     ]
-
-names-gone : (ids : List ActionId) (id y : ActionId) → names ids y ≡ false → names (without id ids) y ≡ false
-names-gone [] id y none = none
-names-gone (x ∷ ids) id y none = elim (cases_Bool (same_id y x)) [
-  | inl here ↦ absurd (let clash : true ≡ false = rw here at none in cc)
-  | inr apart ↦
-      let rest = names-gone ids id y (rw apart at none) in
-      elim (cases_Bool (same_id x id)) [ inl taken ↦ rw taken rest | inr stays ↦ rw (stays, apart) rest ]
-]
-
-distinct-left : (id : ActionId) (ids : List ActionId) → is_distinct ids ≡ true → is_distinct (without id ids) ≡ true
-distinct-left id [] distinct = refl
-distinct-left id (y ∷ ids) distinct =
-    let parts = and_parts (not (names ids y)) (is_distinct ids) distinct in
-    elim (cases_Bool (same_id y id)) [
-      | inl taken ↦ rw taken (distinct-left id ids parts.1)
-      | inr stays ↦ rw stays (and_from (not (names (without id ids) y)) (is_distinct (without id ids)) (ap not (names-gone ids id y (none (names ids y) parts.0))) (distinct-left id ids parts.1))
-    ]
-  where
-    none : (b : Bool) → not b ≡ true → b ≡ false
-    none true e = absurd (let clash : false ≡ true = e in cc)
-    none false e = refl
 
 -- ---- own actions
 
@@ -234,7 +213,7 @@ module _ (h : Held) (is : Holds h) where
         own = own-after h.id h.queue.red_cut h.own a.id rising-red is.own is.mine (omega arith);
         mine = are-after h.id h.own a.id is.mine;
         yellow = and_from (is_distinct (without a.id h.queue.yellow)) (are_red (names_of (without_action h.queue.reds a.id)) (without a.id h.queue.yellow))
-            (distinct-left a.id h.queue.yellow yellow.0)
+            (distinct-kept (λ x. not (same_id x a.id)) h.queue.yellow yellow.0)
             (ap (λ ids. are_red ids (without a.id h.queue.yellow)) named ∙ red-left reds a.id h.queue.yellow yellow.1);
         members = subst (AreApart (after_green h.members (suc (green_count h.queue)) a)) counted (AreApart-after_green h.members (green_count h.queue) a is.members);
       }

@@ -11,4 +11,3 @@ pub mod Recorded
 pub mod Following
 pub mod Commit
 pub mod Crash
-pub mod Computing

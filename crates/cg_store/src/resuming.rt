@@ -10,7 +10,7 @@ ghost use Rattle.cg_store.specs.Rebuilt.{with_kept_green, resumed_with};
 
 use cg_action::{Action, ActionList};
 use cg_base::{Cut, NoMemory, ReplicaId};
-use cg_client::Core;
+use cg_client::{Core, WhiteState};
 use cg_db::Db;
 use cg_records::{Primary, Vulnerable};
 use cg_stored::{Reached, count_of};
@@ -61,17 +61,16 @@ pub fn resume(alloc: Global, id: ReplicaId, state: GreenState) -> Result<Core, N
         return Err(NoMemory);
     }
     let below = cut_below(&cut, greens.as_slice());
-    let mut core = Core::stored(
-        alloc,
-        id,
+    let state = WhiteState {
         white,
-        below,
+        cut: below,
         db,
         members,
         prim,
         attempt_index,
         vulnerable,
-    )?;
+    };
+    let mut core = Core::stored(alloc, id, state)?;
     put_greens(&mut core, greens)?;
     Ok(core)
 }

@@ -8,4 +8,3 @@ pub mod Lines
 pub mod Shows
 pub mod Entries
 pub mod Reports
-pub mod Longer

@@ -1,5 +1,5 @@
 -- What is printed whole. `decimal` prints the last 64 digits of a number, so that two numbers with more digits may have
--- one text (`proofs/Longer.antt` has two). The numbers of an entry have 64 bits at most, and so 20 digits.
+-- one text, as 10 ^ 64 + 1 and 2 * 10 ^ 64 + 1. The numbers of an entry have 64 bits at most, and so 20 digits.
 use Rattle.std.specs.Prelude.{ℕ, suc, ◌^◌, ◌<◌, Option, Some, None, ℤ, pos, negsuc}
 use Rattle.cg_base.specs.declared.action_id.ActionId.{ActionId}
 use Rattle.cg_base.specs.declared.weighted.Weighted.{Weighted}
