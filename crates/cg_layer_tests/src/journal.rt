@@ -2,7 +2,7 @@
 
 use crate::table::{follows, number, parts, say, say_shown, say_with};
 use cg_disk::{Disk, DiskFault, ModelDisk, Side};
-use cg_journal::{AppendErr, FormatErr, Journal, JournalOpen};
+use cg_journal::{AppendErr, Bodies, FormatErr, Journal, JournalOpen};
 use std::alloc::Global;
 
 type Answer<T> = Result<T, &'static str>;
