@@ -70,10 +70,7 @@ impl<D: Disk> Journal<D> {
 
     /// Opens a journal, with the bodies of its records on side A and on side B, in five device calls: a sync, the two
     /// sizes, and one read of each side.
-    pub fn open(
-        alloc: Global,
-        mut disk: D,
-    ) -> Result<(Journal<D>, Bodies, Bodies), JournalOpen<D>>
+    pub fn open(alloc: Global, mut disk: D) -> Result<(Journal<D>, Bodies, Bodies), JournalOpen<D>>
         requires { (D.view disk).time + 5 ≤ 2 ^ 62 }
         ensures { Opens D.view (D.view disk) result }
     {

@@ -84,12 +84,7 @@ fn first_of(alloc: Global, id: ReplicaId, bodies: &Bodies) -> Result<Option<Chec
 }
 
 // The checkpoint in use. Where both sides begin with one, only that of the later side is read whole.
-fn front_of(
-    alloc: Global,
-    id: ReplicaId,
-    a: &Bodies,
-    b: &Bodies,
-) -> Result<Option<Front>, NoMemory>
+fn front_of(alloc: Global, id: ReplicaId, a: &Bodies, b: &Bodies) -> Result<Option<Front>, NoMemory>
     ensures { IfOk result (FindsFront id (record { a = a.now; b = b.now })) }
 {
     let side = later(a, b);

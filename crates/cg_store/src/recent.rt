@@ -26,11 +26,7 @@ impl<'a> Recent<'a> {
     }
 
     /// Takes the values at the front of a record.
-    pub(crate) fn take(
-        &mut self,
-        alloc: Global,
-        body: &'a [u8],
-    ) -> Result<Fields<'a>, CodecFault>
+    pub(crate) fn take(&mut self, alloc: Global, body: &'a [u8]) -> Result<Fields<'a>, CodecFault>
         requires { IsRecent self.old }
         ensures recent { IsRecent self.new }
         ensures read { MatchResult result (λ fields. reading_stable (record { at = 0; bytes = body.now }) ≡ Ok (self.new.values, unread_of fields))

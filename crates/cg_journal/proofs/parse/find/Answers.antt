@@ -32,11 +32,12 @@ loop-gate-preserved c =
     let fit : 4 + size < length (drop (gate + 1) side) = grind (arith, nat_tests) in
     let body = take size (drop (gate + 5) side) in
     let more : IsReadTo side (gate + (5 + size)) (bodies_at side spans ++ body ∷ []) =
-        read_more side gate (bodies_at side spans) c.loop-gate.invariant.0 c.loop-gate-test.true size body fits is (body-behind side gate size) (λ i. omega (arith, c.type_inv.side i)) (omega (arith, c.size_at-size.type_inv)) in
+    read_more side gate (bodies_at side spans) c.loop-gate.invariant.0 c.loop-gate-test.true size body fits is (body-behind side gate size) (λ i. omega (arith, c.type_inv.side i)) (omega (arith, c.size_at-size.type_inv)) in
     let span : Span = record { start = gate + 5; size = size } in
-    subst (λ l. IsReadTo side (gate + (5 + size)) (bodies_at side l) × AreWithin side l) (sym c.in_ok-push.ensures.items)
-    ( subst (IsReadTo side (gate + (5 + size))) (sym (bodies-push side spans span)) more
-    , within-push side spans span c.loop-gate.invariant.1 (omega (arith, fit, length-drop (gate + 1) side)) )
+    subst (λ l. IsReadTo side (gate + (5 + size)) (bodies_at side l) × AreWithin side l) (sym c.in_ok-push.ensures.items) (
+      subst (IsReadTo side (gate + (5 + size))) (sym (bodies-push side spans span)) more,
+      within-push side spans span c.loop-gate.invariant.1 (omega (arith, fit, length-drop (gate + 1) side)),
+    )
 
 pub returns-then-ne-clause-read : goal.returns-then-ne-clause-read
 returns-then-ne-clause-read c = other_header c.args.side.now (was_false (bytes_eq (take 8 c.args.side.now) header) (sym c.ne.ensures ∙ c.if-ne.true))

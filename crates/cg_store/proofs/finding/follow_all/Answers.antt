@@ -31,13 +31,14 @@ loop-i-preserved c =
     let body = c.in-Some.body.now in
     let at : slice_get all i ≡ Some body = sym c.in-Some.ensures in
     let leads : led_by c.loop-i.core body ≡ Some c.follow.new.core = subst (λ b. Follows (led_by c.loop-i.core body) c.follow.new.core b) c.if-not-branch.false c.in_ok-follow.ensures.follows in
-    let next : i + 1 ≡ suc i = omega arith in
-    ( ap (λ n. led_by_all (Some c.follow.new.core) (drop n all)) next
-      ∙ ap (λ s. led_by_all s (drop (suc i) all)) (sym leads)
-      ∙ ap (led_by_all (Some c.loop-i.core)) (sym (drop-at all i body at))
-      ∙ c.loop-i.invariant.0
-    , c.in_ok-follow.ensures.holds c.if-not-branch.false
-    , c.follow.ensures.recent )
+    let next : i + 1 ≡ suc i = omega arith in (
+      ap (λ n. led_by_all (Some c.follow.new.core) (drop n all)) next
+          ∙ ap (λ s. led_by_all s (drop (suc i) all)) (sym leads)
+          ∙ ap (led_by_all (Some c.loop-i.core)) (sym (drop-at all i body at))
+          ∙ c.loop-i.invariant.0,
+      c.in_ok-follow.ensures.holds c.if-not-branch.false,
+      c.follow.ensures.recent,
+    )
 
 pub returns : goal.returns
 returns c =

@@ -29,5 +29,5 @@ returns-clause-recent c =
     let left = unread_of c.take_stable.new.f in
     let values = c.in_ok-values.values in
     let is : IsStable values × (take (length c.args.body.now - length left.bytes) c.args.body.now ≡ spelled_stable values) =
-        recent c.args.body.now values left bytes (sym (ap take_stable c.new-fields.ensures) ∙ c.in_ok-values.ensures) in
+    recent c.args.body.now values left bytes (sym (ap take_stable c.new-fields.ensures) ∙ c.in_ok-values.ensures) in
     inr (is.0, ap (λ n. take (length c.args.body.now - n) c.args.body.now) c.left.ensures ∙ is.1)
