@@ -7,7 +7,7 @@ use Rattle.cg_base.specs.Ids.{id_before}
 use Rattle.cg_action.specs.declared.action.Action.{Action}
 use Rattle.cg_queue.specs.declared.red.Red.{Red}
 use Rattle.cg_queue.specs.Queue.{names_of}
-use Rattle.cg_queue.specs.Body.{Run, actions_in, reds_from}
+use Rattle.cg_queue.specs.Body.{Stretch, actions_in, reds_from}
 use Rattle.cg_queue.specs.Shown.{IsAhead, NamesAscend}
 
 -- the first of the names is of a later creator
@@ -34,31 +34,31 @@ names-append [] ys = refl
 names-append (x ∷ xs) ys = ap (λ ids. x.id ∷ ids) (names-append xs ys)
 
 -- what stands behind a creator's action: its next one, or one of a later creator
-ahead : (c from : ℕ) (id : ActionId) (reds : List Red) (rest : List ActionId) → id.creator ≡ c → id.index < from → Run c from reds → BeginsAbove c rest
+ahead : (c from : ℕ) (id : ActionId) (reds : List Red) (rest : List ActionId) → id.creator ≡ c → id.index < from → Stretch c from reds → BeginsAbove c rest
     → IsAhead id (names_of (actions_in reds) ++ rest)
-ahead c from id [] [] own less run above = tt
-ahead c from id [] (next ∷ rest) own less run above = before-creator id next (let e = own in omega (arith, e, above))
-ahead c from id (r ∷ reds) rest own less run above = before-index id r.action.id (own ∙ sym run.0) (let e = run.1 in omega (arith, e, less))
+ahead c from id [] [] own less stretch above = tt
+ahead c from id [] (next ∷ rest) own less stretch above = before-creator id next (let e = own in omega (arith, e, above))
+ahead c from id (r ∷ reds) rest own less stretch above = before-index id r.action.id (own ∙ sym stretch.0) (let e = stretch.1 in omega (arith, e, less))
 
-run-ascends : (c from : ℕ) (reds : List Red) (rest : List ActionId) → Run c from reds → BeginsAbove c rest → NamesAscend rest → NamesAscend (names_of (actions_in reds) ++ rest)
-run-ascends c from [] rest run above ascend = ascend
-run-ascends c from (r ∷ reds) rest run above ascend =
-    (ahead c (suc from) r.action.id reds rest run.0 (let e = run.1 in omega (arith, e)) run.2 above, run-ascends c (suc from) reds rest run.2 above ascend)
+stretch-ascends : (c from : ℕ) (reds : List Red) (rest : List ActionId) → Stretch c from reds → BeginsAbove c rest → NamesAscend rest → NamesAscend (names_of (actions_in reds) ++ rest)
+stretch-ascends c from [] rest stretch above ascend = ascend
+stretch-ascends c from (r ∷ reds) rest stretch above ascend =
+    (ahead c (suc from) r.action.id reds rest stretch.0 (let e = stretch.1 in omega (arith, e)) stretch.2 above, stretch-ascends c (suc from) reds rest stretch.2 above ascend)
 
-begins : (first from : ℕ) (reds : List Red) (rest : List ActionId) → Run (suc first) from reds → BeginsAbove (suc first) rest → BeginsAbove first (names_of (actions_in reds) ++ rest)
-begins first from [] rest run above = BeginsAbove-less first (suc first) rest (omega arith) above
-begins first from (r ∷ reds) rest run above = let e = run.0 in omega (arith, e)
+begins : (first from : ℕ) (reds : List Red) (rest : List ActionId) → Stretch (suc first) from reds → BeginsAbove (suc first) rest → BeginsAbove first (names_of (actions_in reds) ++ rest)
+begins first from [] rest stretch above = BeginsAbove-less first (suc first) rest (omega arith) above
+begins first from (r ∷ reds) rest stretch above = let e = stretch.0 in omega (arith, e)
 
 -- the rows one behind the other
-module _ (lanes : ℕ → List Red) (low : ℕ → ℕ) (runs : (slot : ℕ) → slot < 32 → Run (suc slot) (low slot) (lanes slot)) where
+module _ (lanes : ℕ → List Red) (low : ℕ → ℕ) (stretches : (slot : ℕ) → slot < 32 → Stretch (suc slot) (low slot) (lanes slot)) where
   pub rows-ascend : (count first : ℕ) → first + count ≤ 32 → NamesAscend (names_of (reds_from lanes count first)) × BeginsAbove first (names_of (reds_from lanes count first))
   unfolding reds_from
   rows-ascend zero first few = (tt, tt)
   rows-ascend (suc count) first few =
       let rest = rows-ascend count (suc first) (omega arith) in
-      let run = runs first (omega arith) in
+      let stretch = stretches first (omega arith) in
       let names = names_of (reds_from lanes count (suc first)) in
       let split : names_of (actions_in (lanes first)) ++ names ≡ names_of (reds_from lanes (suc count) first) = sym (names-append (actions_in (lanes first)) (reds_from lanes count (suc first))) in (
-        subst NamesAscend split (run-ascends (suc first) (low first) (lanes first) names run rest.1 rest.0),
-        subst (BeginsAbove first) split (begins first (low first) (lanes first) names run rest.1),
+        subst NamesAscend split (stretch-ascends (suc first) (low first) (lanes first) names stretch rest.1 rest.0),
+        subst (BeginsAbove first) split (begins first (low first) (lanes first) names stretch rest.1),
       )

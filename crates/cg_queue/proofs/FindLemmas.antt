@@ -10,10 +10,10 @@ use Rattle.cg_base.specs.Cuts.{index_in}
 use Rattle.cg_action.specs.declared.action.Action.{Action}
 use Rattle.cg_queue.specs.declared.red.Red.{Red}
 use Rattle.cg_queue.specs.Queue.{action_of, names_of}
-use Rattle.cg_queue.specs.Body.{Parts, seen, Run, Follows, positions_of, actions_in, reds_from, all_reds, IsSound, lane_of}
+use Rattle.cg_queue.specs.Body.{Parts, seen, Stretch, Follows, positions_of, actions_in, reds_from, all_reds, IsSound, lane_of}
 use Rattle.cg_base.specs.IdLaws.{same_id-false, same_id-true}
 use Rattle.cg_queue.proofs.RedLemmas.{is_named, names-all}
-use Rattle.cg_queue.proofs.Soundness.{low_of, runs_of, has_lane}
+use Rattle.cg_queue.proofs.Soundness.{low_of, stretches_of, has_lane}
 
 -- the action of that name
 abbrev pub named : ActionId → List Action → Option Action
@@ -127,33 +127,33 @@ greens-found id c position from last (a ∷ greens) i spot follows creator index
 
 -- ---- reds
 
-run-none : (id : ActionId) (c from : ℕ) (reds : List Red) (others : List Action) → Run c from reds → (c ≢ id.creator) ⊎ (id.index < from) → named id (actions_in reds ++ others) ≡ named id others
-run-none id c from [] others run outside = refl
-run-none id c from (r ∷ reds) others run outside =
-    let creator : r.action.id.creator ≡ c = run.0 in
-    let index : r.action.id.index ≡ from = run.1 in
+stretch-none : (id : ActionId) (c from : ℕ) (reds : List Red) (others : List Action) → Stretch c from reds → (c ≢ id.creator) ⊎ (id.index < from) → named id (actions_in reds ++ others) ≡ named id others
+stretch-none id c from [] others stretch outside = refl
+stretch-none id c from (r ∷ reds) others stretch outside =
+    let creator : r.action.id.creator ≡ c = stretch.0 in
+    let index : r.action.id.index ≡ from = stretch.1 in
     named-skips id r.action (actions_in reds ++ others) (elim outside [
       | inl apart ↦ inl (λ e. apart (sym creator ∙ e))
       | inr before ↦ inr (λ e. omega arith)
-    ]) ∙ run-none id c (suc from) reds others run.2 (elim outside [
+    ]) ∙ stretch-none id c (suc from) reds others stretch.2 (elim outside [
       | inl apart ↦ inl apart
       | inr before ↦ inr (omega arith)
     ])
 
-run-found : (id : ActionId) (c from : ℕ) (reds : List Red) (others : List Action) (i : ℕ) → Run c from reds → id.creator ≡ c → id.index ≡ from + i → named id others ≡ None
+stretch-found : (id : ActionId) (c from : ℕ) (reds : List Red) (others : List Action) (i : ℕ) → Stretch c from reds → id.creator ≡ c → id.index ≡ from + i → named id others ≡ None
     → named id (actions_in reds ++ others) ≡ option_map (λ r. r.action) (slice_get reds i)
-run-found id c from [] others i run creator index none = none
-run-found id c from (r ∷ reds) others zero run creator index none = named-first id r.action (actions_in reds ++ others) (run.0 ∙ sym creator) (let own : r.action.id.index ≡ from = run.1 in omega arith)
-run-found id c from (r ∷ reds) others (suc i) run creator index none =
-    named-skips id r.action (actions_in reds ++ others) (inr (λ e. let own : r.action.id.index ≡ from = run.1 in omega arith))
-    ∙ run-found id c (suc from) reds others i run.2 creator (omega arith) none
+stretch-found id c from [] others i stretch creator index none = none
+stretch-found id c from (r ∷ reds) others zero stretch creator index none = named-first id r.action (actions_in reds ++ others) (stretch.0 ∙ sym creator) (let own : r.action.id.index ≡ from = stretch.1 in omega arith)
+stretch-found id c from (r ∷ reds) others (suc i) stretch creator index none =
+    named-skips id r.action (actions_in reds ++ others) (inr (λ e. let own : r.action.id.index ≡ from = stretch.1 in omega arith))
+    ∙ stretch-found id c (suc from) reds others i stretch.2 creator (omega arith) none
 
-module _ (lanes : ℕ → List Red) (low : ℕ → ℕ) (runs : (k : ℕ) → k < 32 → Run (suc k) (low k) (lanes k)) (id : ActionId) where
+module _ (lanes : ℕ → List Red) (low : ℕ → ℕ) (stretches : (k : ℕ) → k < 32 → Stretch (suc k) (low k) (lanes k)) (id : ActionId) where
   reds-none : (count first : ℕ) → first + count ≤ 32 → ((k : ℕ) → first ≤ k → k < 32 → (suc k ≢ id.creator) ⊎ (id.index < low k)) → named id (reds_from lanes count first) ≡ None
   unfolding reds_from
   reds-none zero first within outside = refl
   reds-none (suc count) first within outside =
-      run-none id (suc first) (low first) (lanes first) (reds_from lanes count (suc first)) (runs first (omega arith)) (outside first (omega arith) (omega arith))
+      stretch-none id (suc first) (low first) (lanes first) (reds_from lanes count (suc first)) (stretches first (omega arith)) (outside first (omega arith) (omega arith))
       ∙ reds-none count (suc first) (omega arith) (λ k le lt. outside k (omega arith) lt)
 
   reds-found : (count first slot i : ℕ) → first + count ≤ 32 → first ≤ slot → slot < first + count → id.creator ≡ suc slot → id.index ≡ low slot + i
@@ -163,11 +163,11 @@ module _ (lanes : ℕ → List Red) (low : ℕ → ℕ) (runs : (k : ℕ) → k 
   reds-found (suc count) first slot i within le lt creator index = elim (cases_eq first slot) [
     | inl same ↦
         let at_first : id.index ≡ low first + i = rw (← same) at index in
-        run-found id (suc first) (low first) (lanes first) (reds_from lanes count (suc first)) i (runs first (omega arith)) (creator ∙ ap suc (sym same)) at_first
+        stretch-found id (suc first) (low first) (lanes first) (reds_from lanes count (suc first)) i (stretches first (omega arith)) (creator ∙ ap suc (sym same)) at_first
         (reds-none count (suc first) (omega arith) (λ k above under. inl (λ e. omega (arith, e, creator))))
         ∙ ap (λ k. option_map (λ r. r.action) (slice_get (lanes k) i)) same
     | inr apart ↦
-        run-none id (suc first) (low first) (lanes first) (reds_from lanes count (suc first)) (runs first (omega arith)) (inl (λ e. apart (omega (arith, e, creator))))
+        stretch-none id (suc first) (low first) (lanes first) (reds_from lanes count (suc first)) (stretches first (omega arith)) (inl (λ e. apart (omega (arith, e, creator))))
         ∙ reds-found count (suc first) slot i (omega arith) (omega arith) (omega arith) creator index
   ]
 
@@ -187,11 +187,11 @@ module _ (b : Parts) (id : ActionId) (sound : IsSound b) (is_id : IsId id.creato
       let lane = sound.lanes (lane_of id) own.within in
       let green = green_there in
       named-behind id b.greens (all_reds b.reds) (greens-none id (suc (lane_of id)) lane.first (index_in b.green_cut (suc (lane_of id))) b.greens lane.greens (sym own.creator) (inr (omega arith)))
-      ∙ reds-found b.reds (low_of b) (runs_of b sound) id 32 0 (lane_of id) i (omega arith) (omega arith) (let lt = own.within in omega arith) (sym own.creator) (omega arith)
+      ∙ reds-found b.reds (low_of b) (stretches_of b sound) id 32 0 (lane_of id) i (omega arith) (omega arith) (let lt = own.within in omega arith) (sym own.creator) (omega arith)
 
   no_red : id.index ≤ green_index → named id (all_reds b.reds) ≡ None
   unfolding all_reds
-  no_red le = reds-none b.reds (low_of b) (runs_of b sound) id 32 0 (omega arith) (λ k low lt. elim (cases_eq (suc k) id.creator) [
+  no_red le = reds-none b.reds (low_of b) (stretches_of b sound) id 32 0 (omega arith) (λ k low lt. elim (cases_eq (suc k) id.creator) [
     | inl same ↦ inr (let here : index_in b.green_cut (suc k) ≡ green_index = ap (index_in b.green_cut) same in omega arith)
     | inr apart ↦ inl apart
   ])
@@ -229,7 +229,7 @@ module _ (b : Parts) (id : ActionId) (sound : IsSound b) (is_id : IsId id.creato
 
   pub red-not : id.index ≤ index_in b.green_cut id.creator → names (names_of (all_reds b.reds)) id ≡ false
   red-not le = false_from_ne_true (names (names_of (all_reds b.reds)) id) (λ there.
-      let found = is_named b.reds (low_of b) (runs_of b sound) id there in
+      let found = is_named b.reds (low_of b) (stretches_of b sound) id there in
       let creator = found.creator in
       let above = found.above in
       let green : index_in b.green_cut (suc found.slot) ≡ index_in b.green_cut id.creator = ap (index_in b.green_cut) (sym creator) in
@@ -240,9 +240,9 @@ module _ (b : Parts) (id : ActionId) (sound : IsSound b) (is_id : IsId id.creato
       let own = has_lane id is_id in
       let green = cut_there in
       elim (cases_lt i (length (b.reds (lane_of id)))) [
-        | inl lt ↦ lt-ltb i (length (b.reds (lane_of id))) lt ∙ sym (names-all b.reds (low_of b) (runs_of b sound) (lane_of id) i id own.within (sym own.creator) (omega arith) lt)
+        | inl lt ↦ lt-ltb i (length (b.reds (lane_of id))) lt ∙ sym (names-all b.reds (low_of b) (stretches_of b sound) (lane_of id) i id own.within (sym own.creator) (omega arith) lt)
         | inr le ↦ le-ltb i (length (b.reds (lane_of id))) le ∙ sym (false_from_ne_true (names (names_of (all_reds b.reds)) id) (λ there.
-            let found = is_named b.reds (low_of b) (runs_of b sound) id there in
+            let found = is_named b.reds (low_of b) (stretches_of b sound) id there in
             let creator = found.creator in
             let row : found.slot ≡ lane_of id = omega arith in
             let below : id.index < low_of b (lane_of id) + length (b.reds (lane_of id)) = subst (λ k. id.index < low_of b k + length (b.reds k)) row found.below in

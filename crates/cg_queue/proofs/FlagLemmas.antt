@@ -6,7 +6,7 @@ use Rattle.cg_base.specs.Ids.{names}
 use Rattle.cg_base.specs.Cuts.{index_in}
 use Rattle.cg_queue.specs.declared.red.Red.{Red}
 use Rattle.cg_queue.specs.Lanes.{marked_at}
-use Rattle.cg_queue.specs.Body.{Run, Flagged, is_above}
+use Rattle.cg_queue.specs.Body.{Stretch, Flagged, is_above}
 use Rattle.cg_queue.proofs.CutRises.{names-other, names-last, names-above}
 use Rattle.cg_queue.specs.MarkLaws.{is_above-true}
 use Rattle.cg_base.specs.IdLaws.{same_id-false}
@@ -27,24 +27,24 @@ outside-first id x c from count (inr (inr behind)) creator index = inr (λ e. om
 
 -- ---- a name more
 
-pub Flagged-others : (yellow : List ActionId) (id : ActionId) (c from : ℕ) (reds : List Red) → Run c from reds → IsOutside id c from (length reds) → Flagged yellow reds → Flagged (yellow ++ id ∷ []) reds
-Flagged-others yellow id c from [] run outside flags = tt
-Flagged-others yellow id c from (r ∷ reds) run outside flags = (
-  flags.0 ∙ names-other yellow id r.action.id (outside-first id r.action.id c from (length reds) outside run.0 run.1),
-  Flagged-others yellow id c (suc from) reds run.2 (outside-rest id c from (length reds) outside) flags.1,
+pub Flagged-others : (yellow : List ActionId) (id : ActionId) (c from : ℕ) (reds : List Red) → Stretch c from reds → IsOutside id c from (length reds) → Flagged yellow reds → Flagged (yellow ++ id ∷ []) reds
+Flagged-others yellow id c from [] stretch outside flags = tt
+Flagged-others yellow id c from (r ∷ reds) stretch outside flags = (
+  flags.0 ∙ names-other yellow id r.action.id (outside-first id r.action.id c from (length reds) outside stretch.0 stretch.1),
+  Flagged-others yellow id c (suc from) reds stretch.2 (outside-rest id c from (length reds) outside) flags.1,
 )
 
-pub Flagged-marked : (yellow : List ActionId) (id : ActionId) (c from : ℕ) (reds : List Red) (i : ℕ) → Run c from reds → i < length reds → id.creator ≡ c → id.index ≡ from + i → Flagged yellow reds
+pub Flagged-marked : (yellow : List ActionId) (id : ActionId) (c from : ℕ) (reds : List Red) (i : ℕ) → Stretch c from reds → i < length reds → id.creator ≡ c → id.index ≡ from + i → Flagged yellow reds
     → Flagged (yellow ++ id ∷ []) (marked_at reds i true)
-Flagged-marked yellow id c from [] i run lt creator index flags = absurd (omega arith)
-Flagged-marked yellow id c from (r ∷ reds) zero run lt creator index flags =
+Flagged-marked yellow id c from [] i stretch lt creator index flags = absurd (omega arith)
+Flagged-marked yellow id c from (r ∷ reds) zero stretch lt creator index flags =
     let here : id.index ≡ from = omega arith in (
-      names-last yellow id r.action.id (run.0 ∙ sym creator) (run.1 ∙ sym here),
-      Flagged-others yellow id c (suc from) reds run.2 (inr (inl (omega arith))) flags.1,
+      names-last yellow id r.action.id (stretch.0 ∙ sym creator) (stretch.1 ∙ sym here),
+      Flagged-others yellow id c (suc from) reds stretch.2 (inr (inl (omega arith))) flags.1,
     )
-Flagged-marked yellow id c from (r ∷ reds) (suc i) run lt creator index flags = (
-  flags.0 ∙ names-other yellow id r.action.id (inr (λ e. let own : r.action.id.index ≡ from = run.1 in omega arith)),
-  Flagged-marked yellow id c (suc from) reds i run.2 (omega arith) creator (omega arith) flags.1,
+Flagged-marked yellow id c from (r ∷ reds) (suc i) stretch lt creator index flags = (
+  flags.0 ∙ names-other yellow id r.action.id (inr (λ e. let own : r.action.id.index ≡ from = stretch.1 in omega arith)),
+  Flagged-marked yellow id c (suc from) reds i stretch.2 (omega arith) creator (omega arith) flags.1,
 )
 
 -- ---- an action more or less
@@ -58,14 +58,14 @@ Flagged-less yellow [] flags = tt
 Flagged-less yellow (r ∷ reds) flags = flags.1
 
 -- names that are no longer red may go
-pub Flagged-above : (cut yellow : List ActionId) (c from : ℕ) (reds : List Red) → index_in cut c < from → Run c from reds → Flagged yellow reds → Flagged (filter (is_above cut) yellow) reds
-Flagged-above cut yellow c from [] above run flags = tt
-Flagged-above cut yellow c from (r ∷ reds) above run flags =
-    let creator : r.action.id.creator ≡ c = run.0 in
-    let index : r.action.id.index ≡ from = run.1 in
+pub Flagged-above : (cut yellow : List ActionId) (c from : ℕ) (reds : List Red) → index_in cut c < from → Stretch c from reds → Flagged yellow reds → Flagged (filter (is_above cut) yellow) reds
+Flagged-above cut yellow c from [] above stretch flags = tt
+Flagged-above cut yellow c from (r ∷ reds) above stretch flags =
+    let creator : r.action.id.creator ≡ c = stretch.0 in
+    let index : r.action.id.index ≡ from = stretch.1 in
     let cut_there : index_in cut r.action.id.creator ≡ index_in cut c = ap (index_in cut) creator in
     let here : is_above cut r.action.id ≡ true = is_above-true cut r.action.id (omega arith) in
-    (flags.0 ∙ sym (names-above cut yellow r.action.id here), Flagged-above cut yellow c (suc from) reds (omega arith) run.2 flags.1)
+    (flags.0 ∙ sym (names-above cut yellow r.action.id here), Flagged-above cut yellow c (suc from) reds (omega arith) stretch.2 flags.1)
 
 -- ---- flags that are taken off
 
@@ -81,25 +81,25 @@ OnlyFlagged-from yellow (r ∷ reds) flags = ((λ on. sym (flags.0) ∙ on), Onl
 rest_of : (yellow : List ActionId) (id x : ActionId) → (x.creator ≢ id.creator) ⊎ (x.index ≢ id.index) → names (id ∷ yellow) x ≡ true → names yellow x ≡ true
 rest_of yellow id x apart there = let e : names (id ∷ yellow) x ≡ names yellow x = ap (λ b. b || names yellow x) (same_id-false x id apart) in sym e ∙ there
 
-pub OnlyFlagged-others : (yellow : List ActionId) (id : ActionId) (c from : ℕ) (reds : List Red) → Run c from reds → IsOutside id c from (length reds) → OnlyFlagged (id ∷ yellow) reds → OnlyFlagged yellow reds
-OnlyFlagged-others yellow id c from [] run outside only = tt
-OnlyFlagged-others yellow id c from (r ∷ reds) run outside only = (
-  (λ on. rest_of yellow id r.action.id (outside-first id r.action.id c from (length reds) outside run.0 run.1) (only.0 on)),
-  OnlyFlagged-others yellow id c (suc from) reds run.2 (outside-rest id c from (length reds) outside) only.1,
+pub OnlyFlagged-others : (yellow : List ActionId) (id : ActionId) (c from : ℕ) (reds : List Red) → Stretch c from reds → IsOutside id c from (length reds) → OnlyFlagged (id ∷ yellow) reds → OnlyFlagged yellow reds
+OnlyFlagged-others yellow id c from [] stretch outside only = tt
+OnlyFlagged-others yellow id c from (r ∷ reds) stretch outside only = (
+  (λ on. rest_of yellow id r.action.id (outside-first id r.action.id c from (length reds) outside stretch.0 stretch.1) (only.0 on)),
+  OnlyFlagged-others yellow id c (suc from) reds stretch.2 (outside-rest id c from (length reds) outside) only.1,
 )
 
 never : false ≡ true → ⊥
 never e = cc
 
-pub OnlyFlagged-unmarked : (yellow : List ActionId) (id : ActionId) (c from : ℕ) (reds : List Red) (i : ℕ) → Run c from reds → id.index ≡ from + i → OnlyFlagged (id ∷ yellow) reds → OnlyFlagged yellow (marked_at reds i false)
-OnlyFlagged-unmarked yellow id c from [] i run index only = tt
-OnlyFlagged-unmarked yellow id c from (r ∷ reds) zero run index only = (
+pub OnlyFlagged-unmarked : (yellow : List ActionId) (id : ActionId) (c from : ℕ) (reds : List Red) (i : ℕ) → Stretch c from reds → id.index ≡ from + i → OnlyFlagged (id ∷ yellow) reds → OnlyFlagged yellow (marked_at reds i false)
+OnlyFlagged-unmarked yellow id c from [] i stretch index only = tt
+OnlyFlagged-unmarked yellow id c from (r ∷ reds) zero stretch index only = (
   (λ on. absurd (never on)),
-  OnlyFlagged-others yellow id c (suc from) reds run.2 (inr (inl (omega arith))) only.1,
+  OnlyFlagged-others yellow id c (suc from) reds stretch.2 (inr (inl (omega arith))) only.1,
 )
-OnlyFlagged-unmarked yellow id c from (r ∷ reds) (suc i) run index only = (
-  (λ on. rest_of yellow id r.action.id (inr (λ e. let own : r.action.id.index ≡ from = run.1 in omega arith)) (only.0 on)),
-  OnlyFlagged-unmarked yellow id c (suc from) reds i run.2 (omega arith) only.1,
+OnlyFlagged-unmarked yellow id c from (r ∷ reds) (suc i) stretch index only = (
+  (λ on. rest_of yellow id r.action.id (inr (λ e. let own : r.action.id.index ≡ from = stretch.1 in omega arith)) (only.0 on)),
+  OnlyFlagged-unmarked yellow id c (suc from) reds i stretch.2 (omega arith) only.1,
 )
 
 -- without a name no flag is left

@@ -1,6 +1,6 @@
 pub mod RowLemmas
 pub mod CutRises
-pub mod RunLemmas
+pub mod StretchLemmas
 pub mod FlagLemmas
 pub mod RedLemmas
 pub mod FindLemmas

@@ -11,7 +11,7 @@ use Rattle.cg_base.specs.IdRuns.{names_above}
 use Rattle.cg_action.specs.declared.action.Action.{Action}
 use Rattle.cg_queue.specs.declared.red.Red.{Red}
 use Rattle.cg_queue.specs.Queue.{names_of}
-use Rattle.cg_queue.specs.Body.{Parts, seen, Run, Flagged, IsLane, actions_in, reds_from, flag_of, unless}
+use Rattle.cg_queue.specs.Body.{Parts, seen, Stretch, Flagged, IsLane, actions_in, reds_from, flag_of, unless}
 use Rattle.cg_queue.proofs.RowLemmas.{filter-join}
 use Rattle.cg_queue.proofs.FlagLemmas.{Flagged-above}
 use Rattle.cg_queue.proofs.Soundness.{drop-end, reds-step}
@@ -30,11 +30,11 @@ plain-all : (ids : List ActionId) → plain [] ids ≡ ids
 plain-all [] = refl
 plain-all (id ∷ ids) = ap (λ xs. id ∷ xs) (plain-all ids)
 
-run-names : (creator from : ℕ) (reds : List Red) → Run creator from reds → names_of (actions_in reds) ≡ map (λ n. record { creator = creator; index = n }) (count_up from (length reds))
-run-names creator from [] run = refl
-run-names creator from (r ∷ reds) run =
-    ap (λ id. id ∷ names_of (actions_in reds)) (same_name r.action.id (record { creator = creator; index = from }) run.0 run.1)
-    ∙ ap (λ (ids : List ActionId). record { creator = creator; index = from } ∷ ids) (run-names creator (suc from) reds run.2)
+stretch-names : (creator from : ℕ) (reds : List Red) → Stretch creator from reds → names_of (actions_in reds) ≡ map (λ n. record { creator = creator; index = n }) (count_up from (length reds))
+stretch-names creator from [] stretch = refl
+stretch-names creator from (r ∷ reds) stretch =
+    ap (λ id. id ∷ names_of (actions_in reds)) (same_name r.action.id (record { creator = creator; index = from }) stretch.0 stretch.1)
+    ∙ ap (λ (ids : List ActionId). record { creator = creator; index = from } ∷ ids) (stretch-names creator (suc from) reds stretch.2)
 
 -- they are those between the two cuts
 pub lane-names : (b : Parts) (slot low high : ℕ) → IsLane b slot → low ≡ index_in b.green_cut (suc slot) → high ≡ index_in b.red_cut (suc slot) → b.yellow ≡ []
@@ -44,7 +44,7 @@ lane-names b slot low high lane is_low is_high none =
     let count : high - low ≡ length (b.reds slot) = omega arith in
     ap (λ n. map (λ k. record { creator = suc slot; index = k }) (count_up (suc low) n)) count
     ∙ ap (λ n. map (λ k. record { creator = suc slot; index = k }) (count_up (suc n) (length (b.reds slot)))) is_low
-    ∙ sym (run-names (suc slot) (suc (index_in b.green_cut (suc slot))) (b.reds slot) lane.reds)
+    ∙ sym (stretch-names (suc slot) (suc (index_in b.green_cut (suc slot))) (b.reds slot) lane.reds)
     ∙ sym (plain-all (names_of (actions_in (b.reds slot))))
     ∙ ap (λ yellow. plain (seen (record b { yellow = yellow })).yellow (names_of (actions_in (b.reds slot)))) (sym none)
 
@@ -54,14 +54,14 @@ plain-first : (yellow : List ActionId) (id : ActionId) (ids : List ActionId) (fl
 plain-first yellow id ids true is = rw (← is)
 plain-first yellow id ids false is = rw (← is)
 
-plain-next : (yellow : List ActionId) (creator from : ℕ) (reds : List Red) (i : ℕ) (id : ActionId) → Run creator from reds → Flagged yellow reds → i < length reds → id.creator ≡ creator → id.index ≡ from + i
+plain-next : (yellow : List ActionId) (creator from : ℕ) (reds : List Red) (i : ℕ) (id : ActionId) → Stretch creator from reds → Flagged yellow reds → i < length reds → id.creator ≡ creator → id.index ≡ from + i
     → plain yellow (names_of (actions_in (drop i reds))) ≡ unless (flag_of (slice_get reds i)) id ++ plain yellow (names_of (actions_in (drop (suc i) reds)))
-plain-next yellow creator from [] i id run flags lt c index = absurd (omega arith)
-plain-next yellow creator from (r ∷ reds) zero id run flags lt c index =
-    let own : id ≡ r.action.id = let e : id.index ≡ r.action.id.index = omega (arith, run.1) in λ k. record { creator = (c ∙ sym run.0) k; index = e k } in
+plain-next yellow creator from [] i id stretch flags lt c index = absurd (omega arith)
+plain-next yellow creator from (r ∷ reds) zero id stretch flags lt c index =
+    let own : id ≡ r.action.id = let e : id.index ≡ r.action.id.index = omega (arith, stretch.1) in λ k. record { creator = (c ∙ sym stretch.0) k; index = e k } in
     plain-first yellow r.action.id (names_of (actions_in reds)) r.is_yellow flags.0
     ∙ ap (λ x. unless r.is_yellow x ++ plain yellow (names_of (actions_in reds))) (sym own)
-plain-next yellow creator from (r ∷ reds) (suc i) id run flags lt c index = plain-next yellow creator (suc from) reds i id run.2 flags.1 (omega arith) c (omega arith)
+plain-next yellow creator from (r ∷ reds) (suc i) id stretch flags lt c index = plain-next yellow creator (suc from) reds i id stretch.2 flags.1 (omega arith) c (omega arith)
 
 module _ (b : Parts) (slot low high : ℕ) (lane : IsLane b slot) (is_low : low ≡ index_in b.green_cut (suc slot)) (is_high : high ≡ index_in b.red_cut (suc slot)) where
   flags-seen : Flagged (seen b).yellow (b.reds slot)

@@ -7,7 +7,7 @@ use Rattle.cg_action.specs.declared.action.Action.{Action}
 use Rattle.cg_queue.specs.declared.red.Red.{Red}
 use Rattle.cg_queue.specs.Lanes.{with_lane}
 use Rattle.cg_queue.specs.Queue.{with_red, without_action, names_of}
-use Rattle.cg_queue.specs.Body.{Run, actions_in, reds_from, all_reds}
+use Rattle.cg_queue.specs.Body.{Stretch, actions_in, reds_from, all_reds}
 use Rattle.cg_queue.proofs.RowLemmas.{with_lane-same, with_lane-other, filter-join, map-more}
 use Rattle.cg_base.specs.IdLaws.{same_id-false, same_id-true}
 
@@ -33,32 +33,32 @@ id_before-true : (id other : ActionId) → id.creator < other.creator → id_bef
 id_before-true id other lt = rw (lt-ltb id.creator other.creator lt)
 
 -- an action goes behind a row that comes before it
-with_red-behind : (reds : List Red) (others : List Action) (a : Action) (c from : ℕ) → Run c from reds → (c < a.id.creator) ⊎ ((c ≡ a.id.creator) × (from + length reds ≤ a.id.index))
+with_red-behind : (reds : List Red) (others : List Action) (a : Action) (c from : ℕ) → Stretch c from reds → (c < a.id.creator) ⊎ ((c ≡ a.id.creator) × (from + length reds ≤ a.id.index))
     → with_red (actions_in reds ++ others) a ≡ actions_in reds ++ with_red others a
-with_red-behind [] others a c from run before = refl
-with_red-behind (r ∷ reds) others a c from run before =
-    let creator : r.action.id.creator ≡ c = run.0 in
-    let index : r.action.id.index ≡ from = run.1 in
+with_red-behind [] others a c from stretch before = refl
+with_red-behind (r ∷ reds) others a c from stretch before =
+    let creator : r.action.id.creator ≡ c = stretch.0 in
+    let index : r.action.id.index ≡ from = stretch.1 in
     rw (id_before-false a.id r.action.id (elim before [
       | inl lower ↦ inl (omega arith)
       | inr same ↦ inr (creator ∙ same.0, (let le = same.1 in omega arith))
-    ])) (ap (λ xs. r.action ∷ xs) (with_red-behind reds others a c (suc from) run.2 (elim before [
+    ])) (ap (λ xs. r.action ∷ xs) (with_red-behind reds others a c (suc from) stretch.2 (elim before [
       | inl lower ↦ inl lower
       | inr same ↦ inr (same.0, (let le = same.1 in omega arith))
     ])))
 
 -- an action goes before a row of a later creator
-with_red-row : (reds : List Red) (others : List Action) (a : Action) (c from : ℕ) → Run c from reds → a.id.creator < c → with_red others a ≡ a ∷ others → with_red (actions_in reds ++ others) a ≡ a ∷ (actions_in reds ++ others)
-with_red-row [] others a c from run lt rest = rest
-with_red-row (r ∷ reds) others a c from run lt rest = let creator : r.action.id.creator ≡ c = run.0 in rw (id_before-true a.id r.action.id (omega arith))
+with_red-row : (reds : List Red) (others : List Action) (a : Action) (c from : ℕ) → Stretch c from reds → a.id.creator < c → with_red others a ≡ a ∷ others → with_red (actions_in reds ++ others) a ≡ a ∷ (actions_in reds ++ others)
+with_red-row [] others a c from stretch lt rest = rest
+with_red-row (r ∷ reds) others a c from stretch lt rest = let creator : r.action.id.creator ≡ c = stretch.0 in rw (id_before-true a.id r.action.id (omega arith))
 
-module _ (lanes : ℕ → List Red) (low : ℕ → ℕ) (runs : (k : ℕ) → k < 32 → Run (suc k) (low k) (lanes k)) where
+module _ (lanes : ℕ → List Red) (low : ℕ → ℕ) (stretches : (k : ℕ) → k < 32 → Stretch (suc k) (low k) (lanes k)) where
   -- an action goes before the rows that come behind it
   with_red-front : (count first : ℕ) (a : Action) → first + count ≤ 32 → a.id.creator ≤ first → with_red (reds_from lanes count first) a ≡ a ∷ reds_from lanes count first
   unfolding reds_from
   with_red-front zero first a within le = refl
   with_red-front (suc count) first a within le =
-      with_red-row (lanes first) (reds_from lanes count (suc first)) a (suc first) (low first) (runs first (omega arith)) (omega arith) (with_red-front count (suc first) a (omega arith) (omega arith))
+      with_red-row (lanes first) (reds_from lanes count (suc first)) a (suc first) (low first) (stretches first (omega arith)) (omega arith) (with_red-front count (suc first) a (omega arith) (omega arith))
 
   reds_from-added : (count first slot : ℕ) (r : Red) → first + count ≤ 32 → first ≤ slot → slot < first + count → r.action.id.creator ≡ suc slot
       → r.action.id.index ≡ low slot + length (lanes slot)
@@ -78,12 +78,12 @@ module _ (lanes : ℕ → List Red) (low : ℕ → ℕ) (runs : (k : ℕ) → k 
         ∙ append_assoc (actions_in row) (r.action ∷ []) (reds_from new count (suc first))
         ∙ ap (λ xs. actions_in row ++ r.action ∷ xs) rest
         ∙ ap (λ xs. actions_in row ++ xs) (sym (with_red-front count (suc first) r.action (omega arith) (omega arith)))
-        ∙ sym (with_red-behind row (reds_from lanes count (suc first)) r.action (suc first) (low first) (runs first (omega arith)) (inr (ap suc same ∙ sym creator, omega arith)))
+        ∙ sym (with_red-behind row (reds_from lanes count (suc first)) r.action (suc first) (low first) (stretches first (omega arith)) (inr (ap suc same ∙ sym creator, omega arith)))
     | inr apart ↦
         let new = with_lane lanes slot (lanes slot ++ r ∷ []) in
         ap (λ xs. actions_in xs ++ reds_from new count (suc first)) (with_lane-other lanes slot (lanes slot ++ r ∷ []) first apart)
         ∙ ap (λ xs. actions_in (lanes first) ++ xs) (reds_from-added count (suc first) slot r (omega arith) (omega arith) (omega arith) creator index)
-        ∙ sym (with_red-behind (lanes first) (reds_from lanes count (suc first)) r.action (suc first) (low first) (runs first (omega arith)) (inl (omega arith)))
+        ∙ sym (with_red-behind (lanes first) (reds_from lanes count (suc first)) r.action (suc first) (low first) (stretches first (omega arith)) (inl (omega arith)))
   ]
 
   pub all_reds-added : (slot : ℕ) (r : Red) → slot < 32 → r.action.id.creator ≡ suc slot → r.action.id.index ≡ low slot + length (lanes slot)
@@ -94,25 +94,25 @@ module _ (lanes : ℕ → List Red) (low : ℕ → ℕ) (runs : (k : ℕ) → k 
 -- ---- one less
 
 -- in a row that doesn't have the name nothing is lost
-without-outside : (reds : List Red) (id : ActionId) (c from : ℕ) → Run c from reds → (c ≢ id.creator) ⊎ (id.index < from) → without_action (actions_in reds) id ≡ actions_in reds
-without-outside [] id c from run outside = refl
-without-outside (r ∷ reds) id c from run outside =
-    let creator : r.action.id.creator ≡ c = run.0 in
-    let index : r.action.id.index ≡ from = run.1 in
+without-outside : (reds : List Red) (id : ActionId) (c from : ℕ) → Stretch c from reds → (c ≢ id.creator) ⊎ (id.index < from) → without_action (actions_in reds) id ≡ actions_in reds
+without-outside [] id c from stretch outside = refl
+without-outside (r ∷ reds) id c from stretch outside =
+    let creator : r.action.id.creator ≡ c = stretch.0 in
+    let index : r.action.id.index ≡ from = stretch.1 in
     rw (same_id-false r.action.id id (elim outside [
       | inl apart ↦ inl (λ e. apart (sym creator ∙ e))
       | inr before ↦ inr (λ e. omega arith)
-    ])) (ap (λ xs. r.action ∷ xs) (without-outside reds id c (suc from) run.2 (elim outside [
+    ])) (ap (λ xs. r.action ∷ xs) (without-outside reds id c (suc from) stretch.2 (elim outside [
       | inl apart ↦ inl apart
       | inr before ↦ inr (omega arith)
     ])))
 
-without-first : (reds : List Red) (id : ActionId) (c from : ℕ) → Run c from reds → id.creator ≡ c → id.index ≡ from → without_action (actions_in reds) id ≡ actions_in (drop 1 reds)
-without-first [] id c from run creator index = refl
-without-first (r ∷ reds) id c from run creator index =
-    rw (same_id-true r.action.id id (run.0 ∙ sym creator) (run.1 ∙ sym index)) (without-outside reds id c (suc from) run.2 (inr (omega arith)))
+without-first : (reds : List Red) (id : ActionId) (c from : ℕ) → Stretch c from reds → id.creator ≡ c → id.index ≡ from → without_action (actions_in reds) id ≡ actions_in (drop 1 reds)
+without-first [] id c from stretch creator index = refl
+without-first (r ∷ reds) id c from stretch creator index =
+    rw (same_id-true r.action.id id (stretch.0 ∙ sym creator) (stretch.1 ∙ sym index)) (without-outside reds id c (suc from) stretch.2 (inr (omega arith)))
 
-module _ (lanes : ℕ → List Red) (low : ℕ → ℕ) (runs : (k : ℕ) → k < 32 → Run (suc k) (low k) (lanes k)) where
+module _ (lanes : ℕ → List Red) (low : ℕ → ℕ) (stretches : (k : ℕ) → k < 32 → Stretch (suc k) (low k) (lanes k)) where
   reds_from-dropped : (count first slot : ℕ) (id : ActionId) → first + count ≤ 32 → id.creator ≡ suc slot → id.index ≡ low slot
       → reds_from (with_lane lanes slot (drop 1 (lanes slot))) count first ≡ without_action (reds_from lanes count first) id
   unfolding reds_from
@@ -125,12 +125,12 @@ module _ (lanes : ℕ → List Red) (low : ℕ → ℕ) (runs : (k : ℕ) → k 
         | inl same ↦
             let at_place : id.index ≡ low first = rw (← same) at index in
             ap (λ xs. actions_in xs ++ reds_from new count (suc first)) (with_lane-same lanes slot (drop 1 (lanes slot)) first same ∙ ap (λ k. drop 1 (lanes k)) (sym same))
-            ∙ ap (λ xs. xs ++ reds_from new count (suc first)) (sym (without-first (lanes first) id (suc first) (low first) (runs first (omega arith)) (creator ∙ ap suc (sym same)) at_place))
+            ∙ ap (λ xs. xs ++ reds_from new count (suc first)) (sym (without-first (lanes first) id (suc first) (low first) (stretches first (omega arith)) (creator ∙ ap suc (sym same)) at_place))
             ∙ ap (λ xs. without_action (actions_in (lanes first)) id ++ xs) rest
             ∙ sym whole
         | inr apart ↦
             ap (λ xs. actions_in xs ++ reds_from new count (suc first)) (with_lane-other lanes slot (drop 1 (lanes slot)) first apart)
-            ∙ ap (λ xs. xs ++ reds_from new count (suc first)) (sym (without-outside (lanes first) id (suc first) (low first) (runs first (omega arith)) (inl (λ e. apart (omega arith)))))
+            ∙ ap (λ xs. xs ++ reds_from new count (suc first)) (sym (without-outside (lanes first) id (suc first) (low first) (stretches first (omega arith)) (inl (λ e. apart (omega arith)))))
             ∙ ap (λ xs. without_action (actions_in (lanes first)) id ++ xs) rest
             ∙ sym whole
       ]
@@ -166,32 +166,32 @@ names-join (x ∷ xs) ys id there = elim (or_cases (same_id id x.id) (names (nam
 never : false ≡ true → ⊥
 never e = cc
 
-names-run : (reds : List Red) (id : ActionId) (c from : ℕ) → Run c from reds → names (names_of (actions_in reds)) id ≡ true → (id.creator ≡ c) × (from ≤ id.index) × (id.index < from + length reds)
-names-run [] id c from run there = absurd (never there)
-names-run (r ∷ reds) id c from run there =
-    let creator : r.action.id.creator ≡ c = run.0 in
-    let index : r.action.id.index ≡ from = run.1 in
+names-stretch : (reds : List Red) (id : ActionId) (c from : ℕ) → Stretch c from reds → names (names_of (actions_in reds)) id ≡ true → (id.creator ≡ c) × (from ≤ id.index) × (id.index < from + length reds)
+names-stretch [] id c from stretch there = absurd (never there)
+names-stretch (r ∷ reds) id c from stretch there =
+    let creator : r.action.id.creator ≡ c = stretch.0 in
+    let index : r.action.id.index ≡ from = stretch.1 in
     elim (cases_eq id.creator r.action.id.creator) [
       | inl same ↦ elim (cases_eq id.index r.action.id.index) [
         | inl equal ↦ (same ∙ creator, omega arith, omega arith)
         | inr differ ↦
-            let rest = names-run reds id c (suc from) run.2 (rw (same_id-false id r.action.id (inr differ)) at there) in
+            let rest = names-stretch reds id c (suc from) stretch.2 (rw (same_id-false id r.action.id (inr differ)) at there) in
             let low = rest.1 in
             (rest.0, omega arith, (let high = rest.2 in omega arith))
       ]
       | inr apart ↦
-          let rest = names-run reds id c (suc from) run.2 (rw (same_id-false id r.action.id (inl apart)) at there) in
+          let rest = names-stretch reds id c (suc from) stretch.2 (rw (same_id-false id r.action.id (inl apart)) at there) in
           let low = rest.1 in
           (rest.0, omega arith, (let high = rest.2 in omega arith))
     ]
 
-module _ (lanes : ℕ → List Red) (low : ℕ → ℕ) (runs : (k : ℕ) → k < 32 → Run (suc k) (low k) (lanes k)) where
+module _ (lanes : ℕ → List Red) (low : ℕ → ℕ) (stretches : (k : ℕ) → k < 32 → Stretch (suc k) (low k) (lanes k)) where
   named-from : (count first : ℕ) (id : ActionId) → first + count ≤ 32 → names (names_of (reds_from lanes count first)) id ≡ true → IsNamed lanes low id
   unfolding reds_from
   named-from zero first id within there = absurd (never there)
   named-from (suc count) first id within there = elim (names-join (actions_in (lanes first)) (reds_from lanes count (suc first)) id there) [
     | inl here ↦
-        let named = names-run (lanes first) id (suc first) (low first) (runs first (omega arith)) here in
+        let named = names-stretch (lanes first) id (suc first) (low first) (stretches first (omega arith)) here in
         record { slot = first; within = omega arith; creator = named.0; above = named.1; below = named.2 }
     | inr later ↦ named-from count (suc first) id (omega arith) later
   ]
@@ -206,13 +206,13 @@ or_second : (a b : Bool) → b ≡ true → (a || b) ≡ true
 or_second true b e = refl
 or_second false b e = e
 
-names-row : (reds : List Red) (id : ActionId) (c from i : ℕ) → Run c from reds → id.creator ≡ c → id.index ≡ from + i → i < length reds → names (names_of (actions_in reds)) id ≡ true
-names-row [] id c from i run creator index lt = absurd (omega arith)
-names-row (r ∷ reds) id c from zero run creator index lt =
-    let own : r.action.id.index ≡ from = run.1 in
-    rw (same_id-true id r.action.id (creator ∙ sym run.0) (omega arith))
-names-row (r ∷ reds) id c from (suc i) run creator index lt =
-    or_second (same_id id r.action.id) (names (names_of (actions_in reds)) id) (names-row reds id c (suc from) i run.2 creator (omega arith) (omega arith))
+names-row : (reds : List Red) (id : ActionId) (c from i : ℕ) → Stretch c from reds → id.creator ≡ c → id.index ≡ from + i → i < length reds → names (names_of (actions_in reds)) id ≡ true
+names-row [] id c from i stretch creator index lt = absurd (omega arith)
+names-row (r ∷ reds) id c from zero stretch creator index lt =
+    let own : r.action.id.index ≡ from = stretch.1 in
+    rw (same_id-true id r.action.id (creator ∙ sym stretch.0) (omega arith))
+names-row (r ∷ reds) id c from (suc i) stretch creator index lt =
+    or_second (same_id id r.action.id) (names (names_of (actions_in reds)) id) (names-row reds id c (suc from) i stretch.2 creator (omega arith) (omega arith))
 
 names-left : (xs ys : List Action) (id : ActionId) → names (names_of xs) id ≡ true → names (names_of (xs ++ ys)) id ≡ true
 names-left [] ys id there = absurd (never there)
@@ -225,7 +225,7 @@ names-right : (xs ys : List Action) (id : ActionId) → names (names_of ys) id �
 names-right [] ys id there = there
 names-right (x ∷ xs) ys id there = or_second (same_id id x.id) (names (names_of (xs ++ ys)) id) (names-right xs ys id there)
 
-module _ (lanes : ℕ → List Red) (low : ℕ → ℕ) (runs : (k : ℕ) → k < 32 → Run (suc k) (low k) (lanes k)) where
+module _ (lanes : ℕ → List Red) (low : ℕ → ℕ) (stretches : (k : ℕ) → k < 32 → Stretch (suc k) (low k) (lanes k)) where
   names-from : (count first slot i : ℕ) (id : ActionId) → first + count ≤ 32 → first ≤ slot → slot < first + count → id.creator ≡ suc slot → id.index ≡ low slot + i → i < length (lanes slot)
       → names (names_of (reds_from lanes count first)) id ≡ true
   unfolding reds_from
@@ -235,7 +235,7 @@ module _ (lanes : ℕ → List Red) (low : ℕ → ℕ) (runs : (k : ℕ) → k 
         let at_first : id.index ≡ low first + i = rw (← same) at index in
         let in_first : i < length (lanes first) = rw (← same) at inside in
         names-left (actions_in (lanes first)) (reds_from lanes count (suc first)) id
-        (names-row (lanes first) id (suc first) (low first) i (runs first (omega arith)) (creator ∙ ap suc (sym same)) at_first in_first)
+        (names-row (lanes first) id (suc first) (low first) i (stretches first (omega arith)) (creator ∙ ap suc (sym same)) at_first in_first)
     | inr apart ↦
         names-right (actions_in (lanes first)) (reds_from lanes count (suc first)) id (names-from count (suc first) slot i id (omega arith) (omega arith) (omega arith) creator index inside)
   ]

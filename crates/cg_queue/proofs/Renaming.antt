@@ -6,15 +6,15 @@ use Rattle.cg_base.specs.Sets.{IsId}
 use Rattle.cg_base.specs.Cuts.{index_in}
 use Rattle.cg_queue.specs.declared.red.Red.{Red}
 use Rattle.cg_queue.specs.Lanes.{marked_at}
-use Rattle.cg_queue.specs.Body.{Parts, seen, all_reds, actions_in, is_above, Run, Flagged, AreKnown, IsSound, lane_of, flag_name, renamed}
+use Rattle.cg_queue.specs.Body.{Parts, seen, all_reds, actions_in, is_above, Stretch, Flagged, AreKnown, IsSound, lane_of, flag_name, renamed}
 use Rattle.cg_queue.proofs.RowLemmas.{with_lane-same, with_lane-other, same_length, append-nothing}
 use Rattle.cg_queue.specs.Distinct.{is_distinct}
 use Rattle.cg_queue.specs.MarkLaws.{is_above-true}
 use Rattle.cg_queue.proofs.CutRises.{is_above-false}
-use Rattle.cg_queue.proofs.RunLemmas.{Run-marked, actions_in-marked}
+use Rattle.cg_queue.proofs.StretchLemmas.{Stretch-marked, actions_in-marked}
 use Rattle.cg_queue.proofs.FlagLemmas.{OnlyFlagged, OnlyFlagged-from, OnlyFlagged-others, OnlyFlagged-unmarked, Flagged-none, Flagged-others, Flagged-marked}
 use Rattle.cg_queue.proofs.RedLemmas.{IsNamed, is_named, all_reds-same}
-use Rattle.cg_queue.proofs.Soundness.{low_of, runs_of, has_lane}
+use Rattle.cg_queue.proofs.Soundness.{low_of, stretches_of, has_lane}
 use Rattle.cg_queue.specs.Answers.{AreReds}
 
 module _ (cut : List ActionId) where
@@ -23,7 +23,7 @@ module _ (cut : List ActionId) where
 
   -- a row whose flags alone have changed
   pub record IsLike (before after : List Red) (k : ℕ) : Type 0 where
-    pub run : Run (suc k) (low_at k) after
+    pub stretch : Stretch (suc k) (low_at k) after
     pub same : actions_in after ≡ actions_in before
 
   -- the row of each place after one name
@@ -59,19 +59,19 @@ module _ (cut : List ActionId) where
                   let creator : suc k ≡ id.creator = ap suc same ∙ own.creator in
                   let low : index_in cut (suc k) ≡ index_in cut id.creator = ap (index_in cut) creator in
                   rw (flag_row false lanes id k is_it same) (record {
-                    like = record { run = Run-marked (suc k) (low_at k) (lanes k) i false now.like.run; same = actions_in-marked (lanes k) i false ∙ now.like.same };
-                    only = OnlyFlagged-unmarked ids id (suc k) (low_at k) (lanes k) i now.like.run (omega arith) now.only;
+                    like = record { stretch = Stretch-marked (suc k) (low_at k) (lanes k) i false now.like.stretch; same = actions_in-marked (lanes k) i false ∙ now.like.same };
+                    only = OnlyFlagged-unmarked ids id (suc k) (low_at k) (lanes k) i now.like.stretch (omega arith) now.only;
                   })
               | inr apart ↦
                   rw (flag_other false lanes id k is_it apart) (record {
                     like = now.like;
-                    only = OnlyFlagged-others ids id (suc k) (low_at k) (lanes k) now.like.run (inl (λ e. apart (omega (arith, own.creator, e)))) now.only;
+                    only = OnlyFlagged-others ids id (suc k) (low_at k) (lanes k) now.like.stretch (inl (λ e. apart (omega (arith, own.creator, e)))) now.only;
                   })
             ]
         | inr le ↦
             rw (flag_none false lanes id k (is_above-false cut id le)) (record {
               like = now.like;
-              only = OnlyFlagged-others ids id (suc k) (low_at k) (lanes k) now.like.run (elim (cases_eq (suc k) id.creator) [
+              only = OnlyFlagged-others ids id (suc k) (low_at k) (lanes k) now.like.stretch (elim (cases_eq (suc k) id.creator) [
                 | inl same ↦ inr (inl (let low : index_in cut (suc k) ≡ index_in cut id.creator = ap (index_in cut) same in omega arith))
                 | inr apart ↦ inl apart
               ]) now.only;
@@ -112,13 +112,13 @@ module _ (cut : List ActionId) where
             let inside : id.index < low_at k + length (start k) = rw (← here) at named.below in
             let long : length (lanes k) ≡ length (start k) = same_length (λ r. r.action) (lanes k) (start k) now.like.same in
             rw (flag_row true lanes id k is_it same) (record {
-              like = record { run = Run-marked (suc k) (low_at k) (lanes k) i true now.like.run; same = actions_in-marked (lanes k) i true ∙ now.like.same };
-              flags = Flagged-marked done id (suc k) (low_at k) (lanes k) i now.like.run (omega arith) (creator ∙ ap suc (sym here)) (omega arith) now.flags;
+              like = record { stretch = Stretch-marked (suc k) (low_at k) (lanes k) i true now.like.stretch; same = actions_in-marked (lanes k) i true ∙ now.like.same };
+              flags = Flagged-marked done id (suc k) (low_at k) (lanes k) i now.like.stretch (omega arith) (creator ∙ ap suc (sym here)) (omega arith) now.flags;
             })
         | inr apart ↦
             rw (flag_other true lanes id k is_it apart) (record {
               like = now.like;
-              flags = Flagged-others done id (suc k) (low_at k) (lanes k) now.like.run (inl (λ e. apart (omega (arith, own, creator, e)))) now.flags;
+              flags = Flagged-others done id (suc k) (low_at k) (lanes k) now.like.stretch (inl (λ e. apart (omega (arith, own, creator, e)))) now.flags;
             })
       ]
 
@@ -136,7 +136,7 @@ module _ (cut : List ActionId) where
 
 named-reds : (b : Parts) (list : List ActionId) → IsSound b → AreReds (seen b) list → AreNamed b.green_cut b.reds list
 named-reds b [] sound are = tt
-named-reds b (id ∷ list) sound are = (is_named b.reds (low_of b) (runs_of b sound) id are.0, named-reds b list sound are.1)
+named-reds b (id ∷ list) sound are = (is_named b.reds (low_of b) (stretches_of b sound) id are.0, named-reds b list sound are.1)
 
 known-names : (cut ids : List ActionId) → AreKnown cut ids → AreNames cut ids
 known-names cut [] known = tt
@@ -159,7 +159,7 @@ module _ (b : Parts) (list : List ActionId) (sound : IsSound b) (are : AreReds (
   rows-after k lt =
       let cut = b.green_cut in
       let off = off-all cut b.reds b.reds b.yellow (known-names b.red_cut b.yellow sound.yellow) (λ j under. record {
-        like = record { run = runs_of b sound j under; same = refl };
+        like = record { stretch = stretches_of b sound j under; same = refl };
         only = OnlyFlagged-from b.yellow (b.reds j) ((sound.lanes j under).flags);
       }) in
       on-all cut b.reds (fold (flag_name cut false) b.reds b.yellow) [] list (named-reds b list sound are) (λ j under. record {
@@ -176,7 +176,7 @@ module _ (b : Parts) (list : List ActionId) (sound : IsSound b) (are : AreReds (
       first = lane.first;
       greens = lane.greens;
       positions = lane.positions;
-      reds = row.like.run;
+      reds = row.like.stretch;
       last = ap (λ n. index_in b.green_cut (suc k) + n) (same_length (λ r. r.action) ((renamed b list).reds k) (b.reds k) row.like.same) ∙ lane.last;
       flags = row.flags;
     });

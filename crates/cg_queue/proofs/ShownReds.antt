@@ -12,12 +12,12 @@ use Rattle.cg_queue.specs.DistinctLaws.{distinct-kept}
 use Rattle.cg_queue.specs.Shown.{IsBetween, LeadUp, IsShown}
 use Rattle.cg_queue.proofs.RedLemmas.{is_named, names-all}
 use Rattle.cg_queue.proofs.AscendingReds.{rows-ascend}
-use Rattle.cg_queue.proofs.Soundness.{low_of, runs_of, has_lane}
+use Rattle.cg_queue.proofs.Soundness.{low_of, stretches_of, has_lane}
 
 module _ (b : Parts) (sound : IsSound b) (id : ActionId) where
   between_from_red : names (names_of (all_reds b.reds)) id ≡ true → IsBetween b.green_cut b.red_cut id
   between_from_red there =
-      let found = is_named b.reds (low_of b) (runs_of b sound) id there in
+      let found = is_named b.reds (low_of b) (stretches_of b sound) id there in
       let within : found.slot < 32 = found.within in
       let creator : id.creator ≡ suc found.slot = found.creator in
       let low : index_in b.green_cut id.creator ≡ index_in b.green_cut (suc found.slot) = ap (index_in b.green_cut) creator in
@@ -33,7 +33,7 @@ module _ (b : Parts) (sound : IsSound b) (id : ActionId) where
       let low : index_in b.green_cut (suc (lane_of id)) ≡ index_in b.green_cut id.creator = ap (index_in b.green_cut) own.creator in
       let high : index_in b.red_cut (suc (lane_of id)) ≡ index_in b.red_cut id.creator = ap (index_in b.red_cut) own.creator in
       let last : index_in b.green_cut (suc (lane_of id)) + length (b.reds (lane_of id)) ≡ index_in b.red_cut (suc (lane_of id)) = (sound.lanes (lane_of id) own.within).last in
-      names-all b.reds (low_of b) (runs_of b sound) (lane_of id) (id.index - suc (index_in b.green_cut id.creator)) id own.within (sym own.creator) (omega arith) (omega arith)
+      names-all b.reds (low_of b) (stretches_of b sound) (lane_of id) (id.index - suc (index_in b.green_cut id.creator)) id own.within (sym own.creator) (omega arith) (omega arith)
 
 -- ---- a yellow name that isn't green
 
@@ -71,7 +71,7 @@ shown_of b sound = record {
       let slot : suc (p - 1) ≡ p = omega (arith, is_id.0) in
       let last : index_in b.green_cut (suc (p - 1)) + length (b.reds (p - 1)) ≡ index_in b.red_cut (suc (p - 1)) = (sound.lanes (p - 1) (omega (arith, is_id.0, is_id.1))).last in
       subst (λ q. index_in b.green_cut q ≤ index_in b.red_cut q) slot (omega arith);
-  ascend = (rows-ascend b.reds (low_of b) (runs_of b sound) 32 0 (omega arith)).0;
+  ascend = (rows-ascend b.reds (low_of b) (stretches_of b sound) 32 0 (omega arith)).0;
   reds = λ id. (between_from_red b sound id, red_from_between b sound id);
   yellow = λ id there. red_from_between b sound id (yellow_between b.green_cut b.red_cut b.yellow id sound.yellow there);
   distinct = distinct-kept (is_above b.green_cut) b.yellow sound.distinct;

@@ -12,12 +12,12 @@ use Rattle.cg_action.specs.declared.action.Action.{Action}
 use Rattle.cg_queue.specs.declared.red.Red.{Red}
 use Rattle.cg_queue.specs.Lanes.{with_lane, marked_at}
 use Rattle.cg_queue.specs.Queue.{with_yellow, placed_red, placed_green, with_red, without_action, discarded, resumed}
-use Rattle.cg_queue.specs.Body.{Parts, seen, all_reds, reds_from, no_parts, BeginsWell, actions_in, is_above, flag_of, Run, Follows, positions_of, Flagged, IsLane, IsSound, lane_of, added_red, with_name, flagged, added_green, cleared, dropped, dropped_from}
+use Rattle.cg_queue.specs.Body.{Parts, seen, all_reds, reds_from, no_parts, BeginsWell, actions_in, is_above, flag_of, Stretch, Follows, positions_of, Flagged, IsLane, IsSound, lane_of, added_red, with_name, flagged, added_green, cleared, dropped, dropped_from}
 use Rattle.cg_queue.specs.DistinctLaws.{distinct-behind, distinct-kept}
 use Rattle.cg_queue.specs.MarkLaws.{yellow-added, is_above-true}
 use Rattle.cg_queue.proofs.RowLemmas.{with_lane-same, with_lane-other, same_lanes, length-more, filter-more, filter-twice}
 use Rattle.cg_queue.proofs.CutRises.{raise-same, raise-other, raise-rises, AreKnown-rise, AreKnown-more, AreKnown-filter, names-unknown, names-above, above-raised}
-use Rattle.cg_queue.proofs.RunLemmas.{Run-more, Run-less, Run-marked, length-marked, actions_in-marked, marked-last, length-less, Follows-more, Follows-others, positions_of-more, positions_of-others}
+use Rattle.cg_queue.proofs.StretchLemmas.{Stretch-more, Stretch-less, Stretch-marked, length-marked, actions_in-marked, marked-last, length-less, Follows-more, Follows-others, positions_of-more, positions_of-others}
 use Rattle.cg_queue.proofs.FlagLemmas.{Flagged-others, Flagged-marked, Flagged-append, Flagged-less, Flagged-above}
 use Rattle.cg_queue.proofs.RedLemmas.{all_reds-added, all_reds-dropped, all_reds-same}
 
@@ -25,8 +25,8 @@ use Rattle.cg_queue.proofs.RedLemmas.{all_reds-added, all_reds-dropped, all_reds
 abbrev pub low_of : Parts → ℕ → ℕ
 low_of b k = suc (index_in b.green_cut (suc k))
 
-pub runs_of : (b : Parts) → IsSound b → (k : ℕ) → k < 32 → Run (suc k) (low_of b k) (b.reds k)
-runs_of b sound k lt = (sound.lanes k lt).reds
+pub stretches_of : (b : Parts) → IsSound b → (k : ℕ) → k < 32 → Stretch (suc k) (low_of b k) (b.reds k)
+stretches_of b sound k lt = (sound.lanes k lt).reds
 
 -- a creator's row
 pub record HasLane (id : ActionId) : Type 0 where
@@ -62,7 +62,7 @@ module _ (b : Parts) (a : Action) (sound : IsSound b) (is_id : IsId a.id.creator
               first = lane.first;
               greens = lane.greens;
               positions = lane.positions;
-              reds = rw there (Run-more (suc k) (low_of b k) (b.reds k) (record { action = a; is_yellow = false }) lane.reds (sym is_creator) (omega arith));
+              reds = rw there (Stretch-more (suc k) (low_of b k) (b.reds k) (record { action = a; is_yellow = false }) lane.reds (sym is_creator) (omega arith));
               last = rw (there, long, top) (omega arith);
               flags = rw there (Flagged-append b.yellow (b.reds k) (record { action = a; is_yellow = false }) lane.flags (sym unknown));
             }
@@ -101,7 +101,7 @@ module _ (b : Parts) (a : Action) (sound : IsSound b) (is_id : IsId a.id.creator
   pub red-seen : (flag : Bool) → all_reds ((added_red b a flag).reds) ≡ with_red (all_reds b.reds) a
   red-seen flag =
       let own = has_lane a.id is_id in
-      all_reds-added b.reds (low_of b) (runs_of b sound) (lane_of a.id) (record { action = a; is_yellow = flag }) own.within (sym own.creator) red-index
+      all_reds-added b.reds (low_of b) (stretches_of b sound) (lane_of a.id) (record { action = a; is_yellow = flag }) own.within (sym own.creator) red-index
 
   pub red-view : seen (added_red b a false) ≡ placed_red (seen b) a
   red-view = rw (red-seen false)
@@ -124,7 +124,7 @@ module _ (b : Parts) (id : ActionId) (sound : IsSound b) (slot i : ℕ) (within 
               first = lane.first;
               greens = lane.greens;
               positions = lane.positions;
-              reds = rw row (Run-marked (suc k) (low_of b k) (b.reds k) i true lane.reds);
+              reds = rw row (Stretch-marked (suc k) (low_of b k) (b.reds k) i true lane.reds);
               last = rw (row, long) last;
               flags = rw row (Flagged-marked b.yellow id (suc k) (low_of b k) (b.reds k) i lane.reds inside (creator ∙ ap suc (sym same)) at_row lane.flags);
             }
@@ -169,15 +169,15 @@ module _ (b : Parts) (id : ActionId) (sound : IsSound b) (slot i : ℕ) (within 
   yellow-names = filter-more (is_above b.green_cut) b.yellow id yellow-above
 
 -- the flag of an action that has the name
-flag-named : (yellow : List ActionId) (id : ActionId) (c from : ℕ) (reds : List Red) (i : ℕ) → Run c from reds → Flagged yellow reds → id.creator ≡ c → id.index ≡ from + i → i < length reds
+flag-named : (yellow : List ActionId) (id : ActionId) (c from : ℕ) (reds : List Red) (i : ℕ) → Stretch c from reds → Flagged yellow reds → id.creator ≡ c → id.index ≡ from + i → i < length reds
     → flag_of (slice_get reds i) ≡ names yellow id
-flag-named yellow id c from [] i run flags creator index lt = absurd (omega arith)
-flag-named yellow id c from (r ∷ reds) zero run flags creator index lt =
-    let creators : r.action.id.creator ≡ id.creator = run.0 ∙ sym creator in
-    let indexes : r.action.id.index ≡ id.index = let own : r.action.id.index ≡ from = run.1 in omega arith in
+flag-named yellow id c from [] i stretch flags creator index lt = absurd (omega arith)
+flag-named yellow id c from (r ∷ reds) zero stretch flags creator index lt =
+    let creators : r.action.id.creator ≡ id.creator = stretch.0 ∙ sym creator in
+    let indexes : r.action.id.index ≡ id.index = let own : r.action.id.index ≡ from = stretch.1 in omega arith in
     let same : r.action.id ≡ id = λ j. record { creator = creators j; index = indexes j } in
     flags.0 ∙ ap (names yellow) same
-flag-named yellow id c from (r ∷ reds) (suc i) run flags creator index lt = flag-named yellow id c (suc from) reds i run.2 flags.1 creator (omega arith) (omega arith)
+flag-named yellow id c from (r ∷ reds) (suc i) stretch flags creator index lt = flag-named yellow id c (suc from) reds i stretch.2 flags.1 creator (omega arith) (omega arith)
 
 module _ (b : Parts) (id : ActionId) (sound : IsSound b) (is_id : IsId id.creator) (above : index_in b.green_cut id.creator < id.index) (known : id.index ≤ index_in b.red_cut id.creator) where
   -- where a red action stands in its row
@@ -293,7 +293,7 @@ module _ (b : Parts) (a : Action) (sound : IsSound b) (is_id : IsId a.id.creator
               greens = rw green (Follows-more (suc k) lane.first (index_in b.green_cut (suc k)) b.greens a lane.greens (sym is_creator) index);
               positions = where_kept ∙ ap (λ xs. xs ++ suc (b.white + length b.greens) ∷ []) lane.positions
                   ∙ ap (λ n. positions_of (suc k) (suc b.white) b.greens ++ n ∷ []) (sym spot) ∙ sym (positions_of-more (suc k) (suc b.white) b.greens a (sym is_creator));
-              reds = rw (row, green) (Run-less (suc k) (low_of b k) (b.reds k) lane.reds);
+              reds = rw (row, green) (Stretch-less (suc k) (low_of b k) (b.reds k) lane.reds);
               last = rw (row, green, red, long) (omega arith);
               flags = rw row (Flagged-less b.yellow (b.reds k) lane.flags);
             }
@@ -329,7 +329,7 @@ module _ (b : Parts) (a : Action) (sound : IsSound b) (is_id : IsId a.id.creator
   pub green-reds : all_reds ((added_green b a).reds) ≡ without_action (all_reds b.reds) a.id
   green-reds =
       let own = has_lane a.id is_id in
-      all_reds-dropped b.reds (low_of b) (runs_of b sound) (lane_of a.id) a.id (sym own.creator) (next ∙ ap (λ c. suc (index_in b.green_cut c)) (sym own.creator))
+      all_reds-dropped b.reds (low_of b) (stretches_of b sound) (lane_of a.id) a.id (sym own.creator) (next ∙ ap (λ c. suc (index_in b.green_cut c)) (sym own.creator))
 
   pub green-yellow : filter (is_above (raise b.green_cut a.id)) b.yellow ≡ filter (λ y. not (same_id y a.id)) (filter (is_above b.green_cut) b.yellow)
   green-yellow = above-raised b.green_cut b.yellow a.id sound.green next

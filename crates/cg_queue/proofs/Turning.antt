@@ -7,15 +7,15 @@ use Rattle.cg_base.specs.Sets.{IsId}
 use Rattle.cg_base.specs.Cuts.{index_in}
 use Rattle.cg_queue.specs.declared.red.Red.{Red}
 use Rattle.cg_queue.specs.Queue.{action_of, placed_green}
-use Rattle.cg_queue.specs.Body.{Parts, seen, Run, IsSound, lane_of, added_green}
+use Rattle.cg_queue.specs.Body.{Parts, seen, Stretch, IsSound, lane_of, added_green}
 use Rattle.cg_queue.proofs.FindLemmas.{found-red}
-use Rattle.cg_queue.proofs.Soundness.{has_lane, runs_of, low_of, green-sound, green-seen}
+use Rattle.cg_queue.proofs.Soundness.{has_lane, stretches_of, low_of, green-sound, green-seen}
 
-first-named : (creator from : ℕ) (reds : List Red) (r : Red) → Run creator from reds → Some r ≡ slice_get reds 0 → (r.action.id.creator ≡ creator) × (r.action.id.index ≡ from)
-first-named creator from [] r run there = absurd (let clash : Some r ≡ None = there in cc)
-first-named creator from (x ∷ reds) r run there =
+first-named : (creator from : ℕ) (reds : List Red) (r : Red) → Stretch creator from reds → Some r ≡ slice_get reds 0 → (r.action.id.creator ≡ creator) × (r.action.id.index ≡ from)
+first-named creator from [] r stretch there = absurd (let clash : Some r ≡ None = there in cc)
+first-named creator from (x ∷ reds) r stretch there =
     let same : x ≡ r = (let e : Some x ≡ Some r = sym there in cc) in
-    subst (λ y. (y.action.id.creator ≡ creator) × (y.action.id.index ≡ from)) same (run.0, run.1)
+    subst (λ y. (y.action.id.creator ≡ creator) × (y.action.id.index ≡ from)) same (stretch.0, stretch.1)
 
 -- what becomes of a body where its first red action of a creator becomes green, if there is one
 abbrev pub Turned : Parts → Parts → ℕ → Option Red → Type 0
@@ -30,7 +30,7 @@ module _ (b after : Parts) (id : ActionId) (sound : IsSound b) (is_id : IsId id.
   is-next : (r : Red) → Some r ≡ slice_get (b.reds (lane_of id)) 0 → IsNext r
   is-next r there =
       let own = has_lane id is_id in
-      let named = first-named (suc (lane_of id)) (low_of b (lane_of id)) (b.reds (lane_of id)) r (runs_of b sound (lane_of id) own.within) there in
+      let named = first-named (suc (lane_of id)) (low_of b (lane_of id)) (b.reds (lane_of id)) r (stretches_of b sound (lane_of id) own.within) there in
       let creator : r.action.id.creator ≡ id.creator = named.0 ∙ own.creator in
       record {
         lane = ap (λ n. n - 1) creator;

@@ -69,10 +69,10 @@ seen b =
 
 -- ---- what is always so
 
--- the actions are the creator's, and their indexes count up
-abbrev pub Run : ℕ → ℕ → List Red → Type 0
-Run creator from [] = Unit {0}
-Run creator from (r ∷ reds) = (r.action.id.creator ≡ creator) × (r.action.id.index ≡ from) × Run creator (suc from) reds
+-- a stretch of a creator: the actions are its own, and their indexes count up from the given one
+abbrev pub Stretch : ℕ → ℕ → List Red → Type 0
+Stretch creator from [] = Unit {0}
+Stretch creator from (r ∷ reds) = (r.action.id.creator ≡ creator) × (r.action.id.index ≡ from) × Stretch creator (suc from) reds
 
 -- among the actions the creator's indexes count up to the last one
 abbrev pub Follows : ℕ → ℕ → ℕ → List Action → Type 0
@@ -111,7 +111,7 @@ pub record IsLane (b : Parts) (slot : ℕ) : Type 0 where
   pub first : ℕ
   pub greens : Follows (suc slot) first (index_in b.green_cut (suc slot)) b.greens
   pub positions : b.positions slot ≡ positions_of (suc slot) (suc b.white) b.greens
-  pub reds : Run (suc slot) (suc (index_in b.green_cut (suc slot))) (b.reds slot)
+  pub reds : Stretch (suc slot) (suc (index_in b.green_cut (suc slot))) (b.reds slot)
   pub last : index_in b.green_cut (suc slot) + length (b.reds slot) ≡ index_in b.red_cut (suc slot)
   pub flags : Flagged b.yellow (b.reds slot)
 

@@ -8,7 +8,7 @@ ghost use Rattle.cg_queue.specs.Lanes.{HasRoom, rows_of};
 ghost use Rattle.cg_queue.specs.Body.{parts_of, flag_of, no_parts, BeginsWell, added_red, with_name, flagged, added_green, settled, cleared, dropped, renamed, flag_name, is_above, lane_of};
 ghost use Rattle.std.specs.Prelude.{filter, slice_get, ℕ, [], ◌∷◌, ◌++◌, true, ◌⊎◌};
 
-use crate::lanes::{Lanes, make_room, push_in};
+use crate::lanes::Lanes;
 use crate::red::Red;
 use cg_action::Action;
 use cg_base::{ActionId, Cut, NoMemory};
@@ -181,7 +181,8 @@ fn push_green(body: &mut Body, a: Action) -> Result<(), NoMemory>
     ensures ok { OnOk result (parts_of body.new ≡ record (parts_of body.old) { greens = body.old.greens.items ++ a ∷ [] }) }
     ensures err { OnErr result (parts_of body.new ≡ parts_of body.old) }
 {
-    push_in(&mut body.greens, a)
+    body.greens.push_back(a)?;
+    Ok(())
 }
 
 // the creator's next action is green, and red no more
@@ -205,7 +206,7 @@ pub(crate) fn turn_first(body: &mut Body, slot: usize) -> Result<(), NoMemory>
         Some(red) => name_of(&red.action),
         None => return Ok(()),
     };
-    make_room(&mut body.greens)?;
+    body.greens.reserve(1)?;
     let at = body.white + body.greens.len() as u64 + 1;
     body.positions.push(slot, at)?;
     let Some(red) = body.reds.take_first(slot) else {

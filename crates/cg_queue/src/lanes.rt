@@ -2,7 +2,7 @@
 
 ghost use Rattle.std.specs.Prelude.{◌≡◌, ◌<◌, ℕ, List, [], ◌∷◌, ◌++◌, length, drop, slice_get, OnOk, OnErr, vec_len, map};
 ghost use Rattle.std.specs.Option.{option_copied};
-ghost use Rattle.std.specs.VecDeque.{deque_items, deque_len, deque_capacity};
+ghost use Rattle.std.specs.VecDeque.{deque_items};
 ghost use Rattle.cg_queue.specs.Lanes.{HasRoom, lane_at, rows_of, with_lane, front_of, marked_at};
 
 use crate::red::Red;
@@ -70,7 +70,8 @@ impl<T> Lanes<T> {
         ensures room { OnOk result (HasRoom self.new slot) }
     {
         grow(&mut self.rows, self.alloc, slot)?;
-        make_room(&mut self.rows[slot])
+        self.rows[slot].reserve(1)?;
+        Ok(())
     }
 
     /// Puts a thing at the end of a row that has room for it.
@@ -119,32 +120,6 @@ pub(crate) fn item_in<T>(row: &VecDeque<T>, i: usize) -> Option<&T>
     ensures { option_copied result ≡ slice_get row.now.items i }
 {
     row.get(i)
-}
-
-/// Puts a thing at the end of a row.
-pub(crate) fn push_in<T>(row: &mut VecDeque<T>, item: T) -> Result<(), NoMemory>
-where
-    T: Drop,
-    ensures ok { OnOk result (row.new.items ≡ row.old.items ++ item ∷ []) }
-    ensures err { OnErr result (row.new.items ≡ row.old.items) }
-{
-    make_room(row)?;
-    row.push_back_reserved(item);
-    Ok(())
-}
-
-/// Makes room for one thing more. Long rows are most of a replica's memory, so a full one grows by a quarter, where it
-/// would double by itself.
-pub(crate) fn make_room<T>(row: &mut VecDeque<T>) -> Result<(), NoMemory>
-    ensures items { row.new.items ≡ row.old.items }
-    ensures len { deque_len row.new ≡ deque_len row.old }
-    ensures room { OnOk result (deque_len row.new < deque_capacity row.new) }
-{
-    if row.len() < row.capacity() {
-        return Ok(());
-    }
-    row.reserve_exact(row.len() / 4 + 4)?;
-    Ok(())
 }
 
 // rows for the slots up to this one, all but those that were there empty

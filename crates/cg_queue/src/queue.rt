@@ -9,7 +9,8 @@ ghost use Rattle.cg_queue.specs.Queue.{names_of};
 
 use crate::body::{
     Body, add_green, add_name, add_red, add_yellow, drop_green, empty_body, forget_green,
-    is_flagged, lane_of, make_red_room, make_yellow_room, name_of, rename, starts_yellow, turn_first,
+    is_flagged, lane_of, make_red_room, make_yellow_room, name_of, rename, starts_yellow,
+    turn_first,
 };
 use crate::lanes::{Lanes, item_in};
 use crate::red::Red;

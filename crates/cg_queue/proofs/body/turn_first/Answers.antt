@@ -16,7 +16,7 @@ returns-in_err-push-clause-err c =
     let b = c.args.body.now in
     OnErr_from c.from_residual-in_err-push.result (λ i. record {
       white = b.white;
-      greens = c.make_room.ensures.items i;
+      greens = c.reserve.ensures.items i;
       green_cut = b.green_cut;
       red_cut = b.red_cut;
       reds = rows_of b.reds;
@@ -43,9 +43,9 @@ returns-clause-ok c =
       positions = with_lane (rows_of b.positions) lane (rows_of b.positions lane ++ n ∷ []);
       yellow = b.yellow.items;
     } in
-    let greens : c.push_back_reserved.new.self.items ≡ b.greens.items ++ taken.action ∷ [] = c.push_back_reserved.ensures.items ∙ ap (λ xs. xs ++ taken.action ∷ []) c.make_room.ensures.items in
+    let greens : c.push_back_reserved.new.self.items ≡ b.greens.items ++ taken.action ∷ [] = c.push_back_reserved.ensures.items ∙ ap (λ xs. xs ++ taken.action ∷ []) c.reserve.ensures.items in
     let long = b.greens.ok.0 in
-    let here : at ≡ suc (b.white + length b.greens.items) = omega (arith, c.len.ensures, c.make_room.ensures.len) in
+    let here : at ≡ suc (b.white + length b.greens.items) = omega (arith, c.len.ensures, c.reserve.ensures.len) in
     there-is _ _ _ r there (
       subst (λ (id : ActionId). id.index < 2 ^ 64) c.name_of-id.ensures.value c.name_of-id.ensures.small,
       λ own.

@@ -4,24 +4,24 @@ use Rattle.std.proofs.lemmas.Bool.{cases_eq, eq-eqb, ne_eqb}
 use Rattle.cg_action.specs.declared.action.Action.{Action}
 use Rattle.cg_queue.specs.declared.red.Red.{Red}
 use Rattle.cg_queue.specs.Lanes.{marked_at}
-use Rattle.cg_queue.specs.Body.{Run, Follows, positions_of, actions_in}
+use Rattle.cg_queue.specs.Body.{Stretch, Follows, positions_of, actions_in}
 
 -- ---- reds
 
-pub Run-more : (c from : ℕ) (reds : List Red) (r : Red) → Run c from reds → r.action.id.creator ≡ c → r.action.id.index ≡ from + length reds → Run c from (reds ++ r ∷ [])
-Run-more c from [] r run creator index = (creator, (let none : from + 0 ≡ from = omega arith in index ∙ none), tt)
-Run-more c from (x ∷ reds) r run creator index =
+pub Stretch-more : (c from : ℕ) (reds : List Red) (r : Red) → Stretch c from reds → r.action.id.creator ≡ c → r.action.id.index ≡ from + length reds → Stretch c from (reds ++ r ∷ [])
+Stretch-more c from [] r stretch creator index = (creator, (let none : from + 0 ≡ from = omega arith in index ∙ none), tt)
+Stretch-more c from (x ∷ reds) r stretch creator index =
     let next : from + suc (length reds) ≡ suc from + length reds = omega arith in
-    (run.0, run.1, Run-more c (suc from) reds r run.2 creator (index ∙ next))
+    (stretch.0, stretch.1, Stretch-more c (suc from) reds r stretch.2 creator (index ∙ next))
 
-pub Run-less : (c from : ℕ) (reds : List Red) → Run c from reds → Run c (suc from) (drop 1 reds)
-Run-less c from [] run = tt
-Run-less c from (r ∷ reds) run = run.2
+pub Stretch-less : (c from : ℕ) (reds : List Red) → Stretch c from reds → Stretch c (suc from) (drop 1 reds)
+Stretch-less c from [] stretch = tt
+Stretch-less c from (r ∷ reds) stretch = stretch.2
 
-pub Run-marked : (c from : ℕ) (reds : List Red) (i : ℕ) (flag : Bool) → Run c from reds → Run c from (marked_at reds i flag)
-Run-marked c from [] i flag run = tt
-Run-marked c from (r ∷ reds) zero flag run = run
-Run-marked c from (r ∷ reds) (suc i) flag run = (run.0, run.1, Run-marked c (suc from) reds i flag run.2)
+pub Stretch-marked : (c from : ℕ) (reds : List Red) (i : ℕ) (flag : Bool) → Stretch c from reds → Stretch c from (marked_at reds i flag)
+Stretch-marked c from [] i flag stretch = tt
+Stretch-marked c from (r ∷ reds) zero flag stretch = stretch
+Stretch-marked c from (r ∷ reds) (suc i) flag stretch = (stretch.0, stretch.1, Stretch-marked c (suc from) reds i flag stretch.2)
 
 pub length-marked : (reds : List Red) (i : ℕ) (flag : Bool) → length (marked_at reds i flag) ≡ length reds
 length-marked [] i flag = refl
