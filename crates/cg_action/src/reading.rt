@@ -1,10 +1,10 @@
 //! Actions from bytes.
 
 ghost use Rattle.std.specs.Prelude.{[], IfOk};
-ghost use Rattle.cg_codec.specs.Reading.{whole, take_text, take_optional, take_items, byte_between};
+ghost use Rattle.cg_codec.specs.Reading.{whole, take_text, take_items, byte_between};
 ghost use Rattle.cg_codec.specs.Taking.{unread_of, Takes, TakesWithMemory, Decodes};
 ghost use Rattle.cg_action.specs.ActionLimits.{IsAction};
-ghost use Rattle.cg_action.specs.Reading.{number_from, id_reading, key_reading, value_of_tag, value_reading, want_of_tag, want_reading, amount_reading, put_reading, del_reading, inc_reading, cas_reading, move_reading, need_reading, command_of_tag, command_reading, query_of_tag, query_reading, commands_reading, query_behind, update_reading, heavy_join_reading, kind_of_tag, kind_reading, action_reading};
+ghost use Rattle.cg_action.specs.Reading.{number_from, id_reading, key_reading, value_of_tag, value_reading, want_of_tag, want_reading, amount_reading, put_reading, del_reading, inc_reading, cas_reading, move_reading, need_reading, command_reading, query_reading, commands_reading, query_behind, update_reading, heavy_join_reading, action_reading};
 
 use crate::{Action, Boxed, BoxedOption, Cmd, CmdList, Kind, Query, Value};
 use cg_base::{ActionId, ReplicaId};
@@ -24,14 +24,19 @@ pub fn decode(alloc: Global, bytes: &[u8]) -> Result<Action, CodecFault>
 }
 
 /// Takes an action.
-#[tactic(auto, unfolding(crate::specs::Reading::action_reading))]
+#[tactic(auto, unfolding(crate::specs::Reading::action_reading, crate::specs::Reading::kind_reading, crate::specs::Reading::kind_of_tag))]
 pub fn take_action(alloc: Global, fields: &mut Fields) -> Result<Action, CodecFault>
     ensures { TakesWithMemory (λ a. a) action_reading (unread_of fields.old) (unread_of fields.new) result }
 {
     let mut after = *fields;
     let id = take_action_id(&mut after)?;
     let green_line = take_number(&mut after, 0)?;
-    let kind = take_kind(alloc, &mut after)?;
+    let kind = match after.take_between(1, 4)? {
+        1 => take_update(alloc, &mut after)?,
+        2 => Kind::Join(take_replica(&mut after)?, 1),
+        3 => Kind::Leave(take_replica(&mut after)?),
+        _ => take_heavy_join(&mut after)?,
+    };
     *fields = after;
     Ok(Action {
         id,
@@ -240,53 +245,38 @@ fn take_need(alloc: Global, fields: &mut Fields) -> Result<Cmd, CodecFault>
     Ok(Cmd::Need { key, want })
 }
 
-#[tactic(auto, unfolding(crate::specs::Reading::command_of_tag))]
-fn take_command_of(alloc: Global, fields: &mut Fields, tag: u8) -> Result<Cmd, CodecFault>
-    ensures { TakesWithMemory (λ c. c) (command_of_tag tag) (unread_of fields.old) (unread_of fields.new) result }
-{
-    match tag {
-        1 => take_put(alloc, fields),
-        2 => take_del(alloc, fields),
-        3 => take_inc(alloc, fields),
-        4 => take_cas(alloc, fields),
-        5 => take_move(alloc, fields),
-        _ => take_need(alloc, fields),
-    }
-}
-
-#[tactic(auto, unfolding(crate::specs::Reading::command_reading))]
+#[tactic(auto, unfolding(crate::specs::Reading::command_reading, crate::specs::Reading::command_of_tag))]
 fn take_command(alloc: Global, fields: &mut Fields) -> Result<Cmd, CodecFault>
     ensures { TakesWithMemory (λ c. c) command_reading (unread_of fields.old) (unread_of fields.new) result }
 {
     let mut after = *fields;
-    let tag = after.take_between(1, 6)?;
-    let cmd = take_command_of(alloc, &mut after, tag)?;
+    let cmd = match after.take_between(1, 6)? {
+        1 => take_put(alloc, &mut after)?,
+        2 => take_del(alloc, &mut after)?,
+        3 => take_inc(alloc, &mut after)?,
+        4 => take_cas(alloc, &mut after)?,
+        5 => take_move(alloc, &mut after)?,
+        _ => take_need(alloc, &mut after)?,
+    };
     *fields = after;
     Ok(cmd)
 }
 
-#[tactic(auto, unfolding(crate::specs::Reading::commands_reading))]
+#[tactic(auto, unfolding(crate::specs::Reading::commands_reading, cg_codec::specs::Reading::take_items))]
 fn take_commands(alloc: Global, fields: &mut Fields) -> Result<CmdList, CodecFault>
     ensures { TakesWithMemory (λ l. l) commands_reading (unread_of fields.old) (unread_of fields.new) result }
 {
     let mut after = *fields;
     let count = after.take_count(16)?;
+    // one command, as most actions have, lies in the list itself
     let cmds = if count == 1 {
-        take_single(alloc, &mut after)?
+        let cmd = take_command(alloc, &mut after)?;
+        CmdList::one(alloc, cmd)
     } else {
         take_each(alloc, &mut after, count)?
     };
     *fields = after;
     Ok(cmds)
-}
-
-// one command, as most actions have: it lies in the list itself
-#[tactic(auto, unfolding(cg_codec::specs::Reading::take_items))]
-fn take_single(alloc: Global, fields: &mut Fields) -> Result<CmdList, CodecFault>
-    ensures { TakesWithMemory (λ l. l) (take_items (λ _. command_reading) 1 []) (unread_of fields.old) (unread_of fields.new) result }
-{
-    let cmd = take_command(alloc, fields)?;
-    Ok(CmdList::one(alloc, cmd))
 }
 
 fn take_each(alloc: Global, fields: &mut Fields, count: u32) -> Result<CmdList, CodecFault>
@@ -301,43 +291,18 @@ fn take_each(alloc: Global, fields: &mut Fields, count: u32) -> Result<CmdList, 
     Ok(cmds)
 }
 
-#[tactic(auto, unfolding(crate::specs::Reading::query_of_tag))]
-fn take_query_of(alloc: Global, fields: &mut Fields, tag: u8) -> Result<Query, CodecFault>
-    ensures { TakesWithMemory (λ q. q) (query_of_tag tag) (unread_of fields.old) (unread_of fields.new) result }
-{
-    if tag == 1 {
-        let key = take_key(alloc, fields)?;
-        Ok(Query::Get(key))
-    } else if tag == 2 {
-        let prefix = take_txt(alloc, fields, 64)?;
-        Ok(Query::Keys(prefix))
-    } else {
-        Ok(Query::Count)
-    }
-}
-
-#[tactic(auto, unfolding(crate::specs::Reading::query_reading))]
+#[tactic(auto, unfolding(crate::specs::Reading::query_reading, crate::specs::Reading::query_of_tag))]
 fn take_query(alloc: Global, fields: &mut Fields) -> Result<Query, CodecFault>
     ensures { TakesWithMemory (λ q. q) query_reading (unread_of fields.old) (unread_of fields.new) result }
 {
     let mut after = *fields;
-    let tag = after.take_between(1, 3)?;
-    let query = take_query_of(alloc, &mut after, tag)?;
+    let query = match after.take_between(1, 3)? {
+        1 => Query::Get(take_key(alloc, &mut after)?),
+        2 => Query::Keys(take_txt(alloc, &mut after, 64)?),
+        _ => Query::Count,
+    };
     *fields = after;
     Ok(query)
-}
-
-fn take_query_or_none(alloc: Global, fields: &mut Fields) -> Result<Option<Query>, CodecFault>
-    ensures { TakesWithMemory (λ q. q) (take_optional query_reading) (unread_of fields.old) (unread_of fields.new) result }
-{
-    let mut after = *fields;
-    if !after.take_truth()? {
-        *fields = after;
-        return Ok(None);
-    }
-    let query = take_query(alloc, &mut after)?;
-    *fields = after;
-    Ok(Some(query))
 }
 
 // the query behind the commands, of which there may be none where it is
@@ -350,7 +315,11 @@ fn take_query_behind(
     ensures { TakesWithMemory (λ q. q) (query_behind cmds.now) (unread_of fields.old) (unread_of fields.new) result }
 {
     let mut after = *fields;
-    let query = take_query_or_none(alloc, &mut after)?;
+    let query = if after.take_truth()? {
+        Some(take_query(alloc, &mut after)?)
+    } else {
+        None
+    };
     if cmds.is_empty() && query.is_none() {
         return Err(fields.bad());
     }
@@ -378,33 +347,4 @@ fn take_heavy_join(fields: &mut Fields) -> Result<Kind, CodecFault>
     let weight = after.take_between(2, 255)?;
     *fields = after;
     Ok(Kind::Join(joiner, weight))
-}
-
-#[tactic(auto, unfolding(crate::specs::Reading::kind_of_tag))]
-fn take_kind_of(alloc: Global, fields: &mut Fields, tag: u8) -> Result<Kind, CodecFault>
-    ensures { TakesWithMemory (λ k. k) (kind_of_tag tag) (unread_of fields.old) (unread_of fields.new) result }
-{
-    match tag {
-        1 => take_update(alloc, fields),
-        2 => {
-            let joiner = take_replica(fields)?;
-            Ok(Kind::Join(joiner, 1))
-        }
-        3 => {
-            let server = take_replica(fields)?;
-            Ok(Kind::Leave(server))
-        }
-        _ => take_heavy_join(fields),
-    }
-}
-
-#[tactic(auto, unfolding(crate::specs::Reading::kind_reading))]
-fn take_kind(alloc: Global, fields: &mut Fields) -> Result<Kind, CodecFault>
-    ensures { TakesWithMemory (λ k. k) kind_reading (unread_of fields.old) (unread_of fields.new) result }
-{
-    let mut after = *fields;
-    let tag = after.take_between(1, 4)?;
-    let kind = take_kind_of(alloc, &mut after, tag)?;
-    *fields = after;
-    Ok(kind)
 }
