@@ -34,20 +34,8 @@ impl Display for IdList {
     ghost output = { λ ids. Some (id_list_text ids) };
 
     fn fmt<W: Write>(&self, f: &mut Formatter<W>) -> fmt::Result {
-        Names(self.as_slice()).fmt(f)
-    }
-}
-
-// names of actions in a slice
-#[derive(Clone, Copy)]
-pub(crate) struct Names<'a>(pub(crate) &'a [ActionId]);
-
-impl Display for Names<'_> {
-    ghost output = { λ ids. Some (id_list_text ids.0.now) };
-
-    fn fmt<W: Write>(&self, f: &mut Formatter<W>) -> fmt::Result {
         f.write_str("[")?;
-        write_names(f, self.0)?;
+        write_names(f, self.as_slice())?;
         f.write_str("]")
     }
 }

@@ -31,8 +31,6 @@ pub use pieces::{Pieces, cut_at};
 pub use replica_id::ReplicaId;
 pub use row::{Bytes, BytesList, IdList, Row};
 pub use sink::put_shown;
-pub use text::{
-    put, put_id, put_id_list, put_id_runs, put_number, put_set, put_weight_set, put_weighted,
-};
+pub use text::{put, put_number};
 pub use weight_set::{WeightSet, Weights};
 pub use weighted::Weighted;

@@ -15,8 +15,7 @@ ghost use Rattle.cg_action.specs.ActionLimits.{IsAction};
 
 use cg_action::{Action, Kind, Query, decode};
 use cg_base::{
-    ActionId, Cut, IdSet, NoMemory, ReplicaId, Row, WeightSet, put, put_id, put_id_list,
-    put_id_runs, put_number, put_shown,
+    ActionId, Cut, IdSet, NoMemory, ReplicaId, Row, WeightSet, put, put_number, put_shown,
 };
 use cg_client::{Core, Draft, Installed, WhiteState, names_of};
 use cg_db::{Answer, Db};
@@ -490,7 +489,7 @@ fn fill(core: &mut Core, word: &str, rest: &str) -> Result<bool, Fail> {
 
 fn put_names(alloc: Global, out: &mut Vec<u8>, actions: &[Action]) -> Result<(), NoMemory> {
     let names = names_of(alloc, actions)?;
-    put_id_list(out, names.as_slice())
+    put_shown(out, &names)
 }
 
 fn put_greens(core: &Core, out: &mut Vec<u8>) -> Result<(), NoMemory> {
@@ -505,11 +504,11 @@ fn put_view(view: &View, out: &mut Vec<u8>) -> Result<(), NoMemory> {
     put(out, b" ")?;
     put_number(out, view.green_count)?;
     put(out, b" ")?;
-    put_id_list(out, view.yellow.list.as_slice())?;
+    put_shown(out, &view.yellow.list)?;
     put(out, b" ")?;
-    put_id_runs(out, &view.reds)?;
+    put_shown(out, &view.reds)?;
     put(out, b" ")?;
-    put_id_runs(out, &view.own)
+    put_shown(out, &view.own)
 }
 
 fn put_core(core: &Core, out: &mut Vec<u8>) -> Result<(), NoMemory> {
@@ -523,7 +522,7 @@ fn put_draft(alloc: Global, draft: &Draft, out: &mut Vec<u8>) -> Result<(), NoMe
     put(out, b" | ")?;
     put_names(alloc, out, draft.known().as_slice())?;
     put(out, b" ")?;
-    put_id_list(out, draft.green().as_slice())
+    put_shown(out, draft.green())
 }
 
 fn line_of(id: ReplicaId, view: View) -> Line {
@@ -600,7 +599,7 @@ fn put_reply(out: &mut Vec<u8>, reply: &Reply) -> Result<(), NoMemory> {
     if !out.is_empty() {
         put(out, b" ")?;
     }
-    put_id(out, reply.id)?;
+    put_shown(out, &reply.id)?;
     put(out, b"=")?;
     match &reply.answer {
         Some(answer) => put_answer(out, answer),

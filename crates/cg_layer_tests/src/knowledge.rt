@@ -2,8 +2,7 @@
 //! summary's record, where it stays, as the line of a replica shows one.
 
 use crate::summaries::take;
-use crate::table::{follows, say, say_set, say_with};
-use cg_base::{put_id_list, put_weight_set};
+use crate::table::{follows, say, say_set, say_shown, say_with};
 use cg_knowledge::{Summary, Verdict, decide};
 use cg_records::Vulnerable;
 use std::alloc::Global;
@@ -177,7 +176,7 @@ fn say_verdict(out: &mut Vec<u8>, verdict: &Verdict) {
     say_with(out, "", verdict.prim.index);
     say_with(out, "/", verdict.prim.conf);
     say(out, " ");
-    let _done = put_weight_set(out, &verdict.prim.set);
+    say_shown(out, &verdict.prim.set);
     say_with(out, ", attempt ", verdict.attempt_index);
     say(
         out,
@@ -187,7 +186,7 @@ fn say_verdict(out: &mut Vec<u8>, verdict: &Verdict) {
             ", no yellow "
         },
     );
-    let _done = put_id_list(out, yellow.list.as_slice());
+    say_shown(out, &yellow.list);
     say(out, ", gone ");
     say_set(out, verdict.gone);
     say(

@@ -6,7 +6,7 @@ use crate::table::{
     follows, id, name, number, parts, say, say_name, say_number, say_shown, say_truth, say_with,
 };
 use cg_action::{Action, ActionList, Kind};
-use cg_base::{ActionId, Cut, IdList, IdRuns, NoMemory, ReplicaId, put_id_list, put_id_runs};
+use cg_base::{ActionId, Cut, IdList, IdRuns, NoMemory, ReplicaId};
 use cg_queue::{Mark, Queue, QueueFault};
 use std::alloc::Global;
 
@@ -181,13 +181,13 @@ fn say_list(out: &mut Vec<u8>, list: Result<ActionList, NoMemory>) {
 fn say_yellow(out: &mut Vec<u8>, list: Result<IdList, NoMemory>) {
     if let Ok(names) = list {
         say(out, " ");
-        let _done = put_id_list(out, names.as_slice());
+        say_shown(out, &names);
     }
 }
 
 fn say_plain(out: &mut Vec<u8>, names: Result<IdRuns, NoMemory>) {
     if let Ok(names) = names {
-        let _done = put_id_runs(out, &names);
+        say_shown(out, &names);
         drop(names);
     }
 }

@@ -3,7 +3,7 @@
 //! What is seen is put into a text without a word on want of memory: that leaves a gap, which the comparison finds. So no
 //! function has an exit while it holds something, which is what would cost most to prove.
 
-use cg_base::{ActionId, IdSet, ReplicaId, put, put_id, put_number, put_set, put_shown};
+use cg_base::{ActionId, IdSet, ReplicaId, put, put_number, put_shown};
 use std::alloc::Global;
 use std::fmt::Display;
 use std::process::Abort;
@@ -89,11 +89,11 @@ pub(crate) fn say_truth(out: &mut Vec<u8>, truth: bool) {
 }
 
 pub(crate) fn say_name(out: &mut Vec<u8>, id: ActionId) {
-    let _done = put_id(out, id);
+    let _done = put_shown(out, &id);
 }
 
 pub(crate) fn say_set(out: &mut Vec<u8>, set: IdSet) {
-    let _done = put_set(out, set);
+    let _done = put_shown(out, &set);
 }
 
 /// What `{}` shows.

@@ -9,9 +9,7 @@
 //! so on; all but 2:1 and 1:2 have green line 1.
 
 use cg_action::{Action, Query};
-use cg_base::{
-    IdList, NoMemory, ReplicaId, Row, put, put_id_list, put_id_runs, put_number, put_shown,
-};
+use cg_base::{IdList, NoMemory, ReplicaId, Row, put, put_number, put_shown};
 use cg_client::Core;
 use cg_db::Answer;
 use cg_disk::{Disk, DiskFault, ModelDisk, Side};
@@ -201,7 +199,7 @@ fn names_of(alloc: Global, actions: &[Action]) -> Result<IdList, NoMemory> {
 
 fn put_names(alloc: Global, actions: &[Action], out: &mut Vec<u8>) -> Result<(), NoMemory> {
     let names = names_of(alloc, actions)?;
-    put_id_list(out, names.as_slice())
+    put_shown(out, &names)
 }
 
 fn put_greens(core: &Core, out: &mut Vec<u8>) -> Result<(), NoMemory> {
@@ -213,11 +211,11 @@ fn put_greens(core: &Core, out: &mut Vec<u8>) -> Result<(), NoMemory> {
 
 fn put_lists(view: &View, out: &mut Vec<u8>) -> Result<(), NoMemory> {
     put(out, b" ")?;
-    put_id_list(out, view.yellow.list.as_slice())?;
+    put_shown(out, &view.yellow.list)?;
     put(out, b" ")?;
-    put_id_runs(out, &view.reds)?;
+    put_shown(out, &view.reds)?;
     put(out, b" ")?;
-    put_id_runs(out, &view.own)
+    put_shown(out, &view.own)
 }
 
 fn put_view(core: &Core, out: &mut Vec<u8>) -> Result<(), NoMemory> {

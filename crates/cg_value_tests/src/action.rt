@@ -8,7 +8,7 @@ use cg_action::{
     Action, Value, copy_actions, decode, encode, print_kind, print_value, put_action,
     put_action_id, put_value, take_action, take_action_id, take_value,
 };
-use cg_base::{ActionId, ReplicaId, put, put_id};
+use cg_base::{ActionId, ReplicaId, put};
 use cg_codec::Fields;
 use std::alloc::Global;
 
@@ -155,7 +155,7 @@ fn show_list(alloc: Global, fields: &mut Fields, out: &mut Vec<u8>) {
 
 fn show_id(fields: &mut Fields, out: &mut Vec<u8>) {
     if let Ok(id) = take_action_id(fields) {
-        let _done = put_id(out, id);
+        say_shown(out, &id);
     }
 }
 

@@ -3,7 +3,7 @@
 use crate::table::{is, say, say_name, say_number, say_set, say_shown, say_truth};
 use cg_base::{
     ActionId, Bytes, BytesList, Cut, IdList, IdRuns, IdSet, NoMemory, Pieces, ReplicaId, WeightSet,
-    cut_at, put, put_id_list, put_id_runs, put_weight_set, put_weighted,
+    Weighted, cut_at, put, put_shown,
 };
 use std::alloc::Global;
 
@@ -180,7 +180,7 @@ fn weights_of_two(rt: HostRuntime) {
     say_set(&mut out, few.ids());
     say_id(&mut out, few.least());
     if let Some(first) = few.iter().next() {
-        let _done = put_weighted(&mut out, first.id, first.weight);
+        say_shown(&mut out, &first);
     }
     say_truth(&mut out, few == few);
     is(&rt, out.as_slice(), WEIGHTS);
@@ -297,9 +297,13 @@ fn text_of_sets_and_weights(rt: HostRuntime) {
     out.clear();
     let mut weights = WeightSet::of(&set_of(&[1, 2, 3]));
     weights.put(id(1), 3);
-    let _done = put_weight_set(&mut out, &weights);
-    let _done = put_weight_set(&mut out, &WeightSet::empty());
-    let _done = put_weighted(&mut out, id(32), 255);
+    say_shown(&mut out, &weights);
+    say_shown(&mut out, &WeightSet::empty());
+    let heaviest = Weighted {
+        id: id(32),
+        weight: 255,
+    };
+    say_shown(&mut out, &heaviest);
     is(&rt, out.as_slice(), WEIGHT_TEXTS);
 }
 
@@ -314,8 +318,8 @@ fn two_names(alloc: Global) -> Result<IdList, NoMemory> {
 fn text_of_names(rt: HostRuntime) -> Result<(), NoMemory> {
     let mut out = Vec::new(rt.alloc());
     let names = two_names(rt.alloc())?;
-    let _done = put_id_list(&mut out, &[]);
-    let _done = put_id_list(&mut out, names.as_slice());
+    say_shown(&mut out, &IdList::new(rt.alloc()));
+    say_shown(&mut out, &names);
     say_name(&mut out, name(3, 4));
     say_number(&mut out, u64::MAX);
     is(&rt, out.as_slice(), NAME_TEXTS);
@@ -371,9 +375,9 @@ fn names_in_runs(rt: HostRuntime) -> Result<(), NoMemory> {
     )?;
     say_truth(&mut out, same == ids);
     say_truth(&mut out, runs(alloc, &[(1, 2, 9), (2, 4, 5)])? == ids);
-    put_id_runs(&mut out, &ids.copy(alloc)?)?;
-    put_id_runs(&mut out, &IdRuns::new(alloc))?;
-    put_id_runs(&mut out, &behind(&ids, 5, alloc)?)?;
+    put_shown(&mut out, &ids.copy(alloc)?)?;
+    put_shown(&mut out, &IdRuns::new(alloc))?;
+    put_shown(&mut out, &behind(&ids, 5, alloc)?)?;
     is(&rt, out.as_slice(), RUNS);
     Ok(())
 }

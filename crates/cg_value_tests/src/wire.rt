@@ -4,9 +4,9 @@
 ghost use Rattle.cg_wire.specs.Limits.{IsMsg};
 
 use crate::bytes::{bytes_of, changed, say_fault};
-use crate::table::{follows, parts, say, say_name, say_number, say_set};
+use crate::table::{follows, parts, say, say_name, say_number, say_set, say_shown};
 use cg_action::Action;
-use cg_base::{Cut, put_id_list, put_weight_set};
+use cg_base::Cut;
 use cg_codec::CodecFault;
 use cg_knowledge::Summary;
 use cg_records::Vulnerable;
@@ -155,7 +155,7 @@ fn say_primary(out: &mut Vec<u8>, summary: &Summary) {
     say_with(out, ", ", summary.prim.index);
     say_with(out, "/", summary.prim.conf);
     say(out, " ");
-    let _done = put_weight_set(out, &summary.prim.set);
+    say_shown(out, &summary.prim.set);
     say_with(out, ", attempt ", summary.attempt_index);
 }
 
@@ -174,7 +174,7 @@ fn say_summary(out: &mut Vec<u8>, summary: &Summary) {
             ", no yellow "
         },
     );
-    let _done = put_id_list(out, summary.yellow.list.as_slice());
+    say_shown(out, &summary.yellow.list);
     say_with(out, ", green ", summary.green_count);
     say(out, " ");
     say_cut(out, &summary.green_cut);

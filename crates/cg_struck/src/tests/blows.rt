@@ -3,7 +3,7 @@ ghost use Rattle.std.specs.Prelude.{◌≡◌, ◌≤◌, IfOk, IfSome};
 ghost use Rattle.cg_struck.specs.Bench.{FallsWithin};
 
 use super::bench::{Bench, Done, happens, led};
-use cg_base::{IdList, NoMemory, put, put_id_list};
+use cg_base::{IdList, NoMemory, put, put_shown};
 use cg_disk::{Disk, ModelDisk};
 use cg_engine::{Engine, Handled, Recovered, Wreck};
 use cg_report::{Line, ShownPhase, UpLine, put_line};
@@ -128,7 +128,7 @@ fn put_seen(
     put_engine(out, engine)?;
     if !green.is_empty() {
         put(out, b" tells ")?;
-        put_id_list(out, green.as_slice())?;
+        put_shown(out, green)?;
     }
     if engine.calls() != calls {
         put(out, b" after other calls")?;

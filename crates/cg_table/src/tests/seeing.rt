@@ -4,7 +4,7 @@
 //! the names newly green, those that got a reply, and the messages that are sent, where there are any.
 
 use super::bench::{Member, core_of, name_of};
-use cg_base::{ActionId, IdList, NoMemory, put, put_id, put_id_list, put_number};
+use cg_base::{ActionId, IdList, NoMemory, put, put_number, put_shown};
 use cg_client::DraftParts;
 use cg_report::{Line, Reply, ShownPhase, UpLine, put_line};
 use cg_wire::Msg;
@@ -33,7 +33,7 @@ fn put_names(out: &mut Vec<u8>, word: &[u8], names: &IdList) -> Result<(), NoMem
         return Ok(());
     }
     put(out, word)?;
-    put_id_list(out, names.as_slice())
+    put_shown(out, names)
 }
 
 fn answered(alloc: Global, replies: &[Reply]) -> Result<IdList, NoMemory> {
@@ -46,7 +46,7 @@ fn answered(alloc: Global, replies: &[Reply]) -> Result<IdList, NoMemory> {
 
 fn put_named(out: &mut Vec<u8>, word: &[u8], id: ActionId) -> Result<(), NoMemory> {
     put(out, word)?;
-    put_id(out, id)
+    put_shown(out, &id)
 }
 
 fn put_counted(out: &mut Vec<u8>, word: &[u8], count: u64) -> Result<(), NoMemory> {
