@@ -16,7 +16,7 @@ use Rattle.cg_run.specs.declared.status.Status.TheVariants as status
 use Rattle.cg_run.specs.Produced.{Produced, status_of, with_tail, report_in, text_of, prepend, went_on}
 use Rattle.cg_run.specs.Putting.{Puts}
 use Rattle.cg_run.specs.Taking.{HasCause, Begins, InTime, FailedIsLast}
-use Rattle.cg_run.specs.Streaming.{first_stage, from_stage, IsStage, IsHeld, IsMade, Passes, TakesUp, TakesTurn, Replays}
+use Rattle.cg_run.specs.Streaming.{first_stage, from_stage, IsStage, IsHeld, IsMade, Passes, TakesUp, BetweenTakes, TakesTurn, Replays}
 use Rattle.cg_run.proofs.GoingOn.{GoesOn-stop, Puts-none, Puts-twice, Appends-twice, report_in-append}
 use Rattle.cg_run.proofs.Stages.{Passes-none, Passes-twice, front-held, held-within, held-went_on, from-held, last-failed}
 use Rattle.cg_run.proofs.TakeLemmas.{Consumes-none, Consumes-twice}
@@ -82,61 +82,61 @@ later-cause Ended old now new same cause = (cause.0, cause.1 ∙ same)
 later-cause Failed old now new same cause = cause ∙ ap (λ n. n + 1) same
 later-cause Open old now new same cause = cause ∙ same
 
-module _ (report : Report) (old now new : SourceView) (v v1 v2 : SinkView) (held held' : List ℕ) (st : Stage) (s : Streams report old now v v1 held st) where
+module _ (report : Report) (old : SourceView) (v : SinkView) (before after : BetweenTakes) (st : Stage) (s : Streams report old before.input v before.output before.held st) where
   -- a turn after which the run goes on
-  pub Streams-turn : (next : Stage) → TakesTurn report st held now new v1 v2 held' (Ok next) → Streams report old new v v2 held' next
+  pub Streams-turn : (next : Stage) → TakesTurn report st before after (Ok next) → Streams report old after.input v after.output after.held next
   Streams-turn next t =
       let g = t.comes.2 in
-      let all : (s.gone ++ held) ++ t.chunk ≡ (s.gone ++ g.gone) ++ held' =
-      append_assoc s.gone held t.chunk ∙ ap (λ r. s.gone ++ r) g.whole ∙ sym (append_assoc s.gone g.gone held') in
+      let all : (s.gone ++ before.held) ++ t.chunk ≡ (s.gone ++ g.gone) ++ after.held =
+      append_assoc s.gone before.held t.chunk ∙ ap (λ r. s.gone ++ r) g.whole ∙ sym (append_assoc s.gone g.gone after.held) in
       record {
         gone = s.gone ++ g.gone;
         made = s.made ++ g.made;
-        consumed = subst (Consumes old.left new.left) all (Consumes-twice old.left now.left new.left (s.gone ++ held) t.chunk s.consumed t.consumed);
+        consumed = subst (Consumes old.left after.input.left) all (Consumes-twice old.left before.input.left after.input.left (s.gone ++ before.held) t.chunk s.consumed t.consumed);
         no_fault = t.comes.1 ∙ s.no_fault;
         passes = Passes-twice first_stage st next s.gone g.gone s.made g.made s.passes g.passes;
-        put = rw (report_in-append report s.made g.made) (Puts-twice v v1 v2 (report_in report s.made) (report_in report g.made) s.put g.put);
+        put = rw (report_in-append report s.made g.made) (Puts-twice v before.output after.output (report_in report s.made) (report_in report g.made) s.put g.put);
         stands = g.stands;
         is_held = t.comes.3;
       }
 
   -- and in which less is left to be taken
-  pub turn-smaller : (next : Stage) → TakesTurn report st held now new v1 v2 held' (Ok next)
-      → 8388609 - (next.at + length held') < 8388609 - (st.at + length held)
+  pub turn-smaller : (next : Stage) → TakesTurn report st before after (Ok next)
+      → 8388609 - (next.at + length after.held) < 8388609 - (st.at + length before.held)
   turn-smaller next t =
       let g = t.comes.2 in
-      let all : length (held ++ t.chunk) ≡ length (g.gone ++ held') = ap length g.whole in
-      omega (arith, all, length-append held t.chunk, length-append g.gone held', g.passes.placed, t.within, t.comes.0)
+      let all : length (before.held ++ t.chunk) ≡ length (g.gone ++ after.held) = ap length g.whole in
+      omega (arith, all, length-append before.held t.chunk, length-append g.gone after.held, g.passes.placed, t.within, t.comes.0)
 
   -- a turn in which the run ends
-  pub Streams-stop : (status : Status) → TakesTurn report st held now new v1 v2 held' (Err status) → Replays report old new v v2 status
+  pub Streams-stop : (status : Status) → TakesTurn report st before after (Err status) → Replays report old after.input v after.output status
   Streams-stop status t =
-      let taken = (s.gone ++ held) ++ t.chunk in
-      let some = length-append s.gone held in
-      let all = length-append (s.gone ++ held) t.chunk in
-      let goes : GoesOn report (from_stage first_stage taken t.ending) v v1 (from_stage st (held ++ t.chunk) t.ending) =
+      let taken = (s.gone ++ before.held) ++ t.chunk in
+      let some = length-append s.gone before.held in
+      let all = length-append (s.gone ++ before.held) t.chunk in
+      let goes : GoesOn report (from_stage first_stage taken t.ending) v before.output (from_stage st (before.held ++ t.chunk) t.ending) =
       record {
         made = s.made;
         put = s.put;
-        same = ap (λ b. from_stage first_stage b t.ending) (append_assoc s.gone held t.chunk) ∙ s.passes.same (held ++ t.chunk) t.ending;
+        same = ap (λ b. from_stage first_stage b t.ending) (append_assoc s.gone before.held t.chunk) ∙ s.passes.same (before.held ++ t.chunk) t.ending;
       } in
-      let more = grown report (from_stage st (held ++ t.chunk) t.ending) v1 v2 status t.comes in
-      let in_time : InTime (text_of report) (λ front. from_stage first_stage front Open) taken v v2 =
+      let more = grown report (from_stage st (before.held ++ t.chunk) t.ending) before.output after.output status t.comes in
+      let in_time : InTime (text_of report) (λ front. from_stage first_stage front Open) taken v after.output =
       λ m lt.
-      let le : m ≤ length s.gone + length held = omega (arith, lt, some, all, t.few) in
-      let within : m ≤ length (s.gone ++ held) = omega (arith, le, some) in
-      let cut : take m taken ≡ take m (s.gone ++ held) = take-append-le m (s.gone ++ held) t.chunk within in
+      let le : m ≤ length s.gone + length before.held = omega (arith, lt, some, all, t.few) in
+      let within : m ≤ length (s.gone ++ before.held) = omega (arith, le, some) in
+      let cut : take m taken ≡ take m (s.gone ++ before.held) = take-append-le m (s.gone ++ before.held) t.chunk within in
       let made : IsMade (from_stage first_stage (take m taken) Open) s.made =
-      subst (λ bytes. IsMade (from_stage first_stage bytes Open) s.made) (sym cut) (reached st s.gone held s.made s.passes s.is_held m le) in
-      (made.none, made-put report (from_stage first_stage (take m taken) Open) s.made v v1 v2 more.0 made s.put more.1) in
+      subst (λ bytes. IsMade (from_stage first_stage bytes Open) s.made) (sym cut) (reached st s.gone before.held s.made s.passes s.is_held m le) in
+      (made.none, made-put report (from_stage first_stage (take m taken) Open) s.made v before.output after.output more.0 made s.put more.1) in
       record {
         taken = taken;
         ending = t.ending;
-        consumed = Consumes-twice old.left now.left new.left (s.gone ++ held) t.chunk s.consumed t.consumed;
-        cause = later-cause t.ending old now new s.no_fault t.cause;
+        consumed = Consumes-twice old.left before.input.left after.input.left (s.gone ++ before.held) t.chunk s.consumed t.consumed;
+        cause = later-cause t.ending old before.input after.input s.no_fault t.cause;
         holds = (
           omega (arith, some, all, s.passes.placed, t.within),
-          GoesOn-stop report (from_stage first_stage taken t.ending) (from_stage st (held ++ t.chunk) t.ending) v v1 v2 status goes t.comes,
+          GoesOn-stop report (from_stage first_stage taken t.ending) (from_stage st (before.held ++ t.chunk) t.ending) v before.output after.output status goes t.comes,
           in_time,
           λ e. ap status_of goes.same ∙ t.last e,
         );
@@ -150,20 +150,22 @@ Keeps-consumes (Some xs) None k = absurd k
 Keeps-consumes (Some xs) (Some ys) k = sym k
 
 -- a chunk was taken, and is taken up
-pub turn-goes : (report : Report) (st : Stage) (held : List ℕ) (old new : SourceView) (v v' : SinkView) (held' : List ℕ) (r : Result Stage Status) (chunk : List ℕ)
-    → Consumes old.left new.left chunk → new.faults ≡ old.faults → 0 < length chunk → length chunk ≤ 4096 → st.at + length held + length chunk ≤ 8388609
-    → TakesUp report st (held ++ chunk) v v' held' r → TakesTurn report st held old new v v' held' r
-turn-goes report st held old new v v' held' (Ok next) chunk consumed none some few within up =
+pub turn-goes : (report : Report) (st : Stage) (before after : BetweenTakes) (r : Result Stage Status) (chunk : List ℕ)
+    → Consumes before.input.left after.input.left chunk → after.input.faults ≡ before.input.faults → 0 < length chunk → length chunk ≤ 4096
+    → st.at + length before.held + length chunk ≤ 8388609 → TakesUp report st (before.held ++ chunk) before.output after.output after.held r
+    → TakesTurn report st before after r
+turn-goes report st before after (Ok next) chunk consumed none some few within up =
     record { chunk = chunk; ending = Open; consumed = consumed; cause = none; few = few; within = within; last = λ e. absurd cc; comes = (some, none, up.0, up.1) }
-turn-goes report st held old new v v' held' (Err status) chunk consumed none some few within up =
+turn-goes report st before after (Err status) chunk consumed none some few within up =
     record { chunk = chunk; ending = Open; consumed = consumed; cause = none; few = few; within = within; last = λ e. absurd cc; comes = up }
 
 -- a turn in which nothing was taken, and the run ended
-pub turn-ended : (report : Report) (st : Stage) (held : List ℕ) (how : Ending) (old new : SourceView) (v v' : SinkView) (held' : List ℕ) (r : Status)
-    → IsStage st → IsHeld st held → Consumes old.left new.left [] → HasCause how old new → FailedIsLast how (from_stage st held how) → Stopped report (from_stage st held how) v v' r
-    → TakesTurn report st held old new v v' held' (Err r)
-turn-ended report st held how old new v v' held' r stands is consumed cause last stopped =
-    let within = held-within st.line st.at held stands.within is.unpassed in
+pub turn-ended : (report : Report) (st : Stage) (how : Ending) (before after : BetweenTakes) (r : Status)
+    → IsStage st → IsHeld st before.held → Consumes before.input.left after.input.left [] → HasCause how before.input after.input
+    → FailedIsLast how (from_stage st before.held how) → Stopped report (from_stage st before.held how) before.output after.output r
+    → TakesTurn report st before after (Err r)
+turn-ended report st how before after r stands is consumed cause last stopped =
+    let within = held-within st.line st.at before.held stands.within is.unpassed in
     record {
       chunk = [];
       ending = how;
@@ -171,14 +173,14 @@ turn-ended report st held how old new v v' held' r stands is consumed cause last
       cause = cause;
       few = omega arith;
       within = omega (arith, within.1);
-      last = subst (λ bytes. FailedIsLast how (from_stage st bytes how)) (sym (append-nil held)) last;
-      comes = subst (λ bytes. Stopped report (from_stage st bytes how) v v' r) (sym (append-nil held)) stopped;
+      last = subst (λ bytes. FailedIsLast how (from_stage st bytes how)) (sym (append-nil before.held)) last;
+      comes = subst (λ bytes. Stopped report (from_stage st bytes how) before.output after.output r) (sym (append-nil before.held)) stopped;
     }
 
 -- a take failed
-pub turn-failed : (report : Report) (st : Stage) (held : List ℕ) (old new : SourceView) (v v' : SinkView) (held' : List ℕ) (r : Status)
-    → IsStage st → IsHeld st held → Keeps old.left new.left → new.faults ≡ old.faults + 1 → Stopped report (from_stage st held Failed) v v' r
-    → TakesTurn report st held old new v v' held' (Err r)
-turn-failed report st held old new v v' held' r stands is keeps cause stopped =
-    turn-ended report st held Failed old new v v' held' r stands is (Keeps-consumes old.left new.left keeps) cause
-    (λ e. ap status_of (from-held st held Failed is.unended ∙ last-failed st.line st.at held st.progress is.unpassed)) stopped
+pub turn-failed : (report : Report) (st : Stage) (before after : BetweenTakes) (r : Status)
+    → IsStage st → IsHeld st before.held → Keeps before.input.left after.input.left → after.input.faults ≡ before.input.faults + 1
+    → Stopped report (from_stage st before.held Failed) before.output after.output r → TakesTurn report st before after (Err r)
+turn-failed report st before after r stands is keeps cause stopped =
+    turn-ended report st Failed before after r stands is (Keeps-consumes before.input.left after.input.left keeps) cause
+    (λ e. ap status_of (from-held st before.held Failed is.unended ∙ last-failed st.line st.at before.held st.progress is.unpassed)) stopped

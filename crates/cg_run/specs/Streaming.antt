@@ -95,19 +95,26 @@ TakesUp report st bytes from to held result =
     (λ next. GoesThrough report st bytes from to held next × IsHeld next held)
     (λ status. Stopped report (from_stage st bytes Open) from to status)
 
+-- what there is between two takes: what the input still gives, what was put, and the bytes of a line that are held
+pub record BetweenTakes : Type 0 where
+  pub input : SourceView
+  pub output : SinkView
+  pub held : List ℕ
+
 -- one take behind what is held: a chunk of the input, which is taken up; or the taking has ended, and the run with it
-pub record TakesTurn (report : Report) (st : Stage) (held : List ℕ) (old new : SourceView) (from to : SinkView) (held' : List ℕ) (result : Result Stage Status) : Type 0 where
+pub record TakesTurn (report : Report) (st : Stage) (before after : BetweenTakes) (result : Result Stage Status) : Type 0 where
   pub chunk : List ℕ
   pub ending : Ending
-  pub consumed : Consumes old.left new.left chunk
-  pub cause : HasCause ending old new
+  pub consumed : Consumes before.input.left after.input.left chunk
+  pub cause : HasCause ending before.input after.input
   pub few : length chunk ≤ most_at_once
-  pub within : st.at + length held + length chunk ≤ most_taken
-  pub last : FailedIsLast ending (from_stage st (held ++ chunk) ending)
+  pub within : st.at + length before.held + length chunk ≤ most_taken
+  pub last : FailedIsLast ending (from_stage st (before.held ++ chunk) ending)
   pub comes :
       MatchResult result
-      (λ next. (0 < length chunk) × (new.faults ≡ old.faults) × GoesThrough report st (held ++ chunk) from to held' next × IsHeld next held')
-      (λ status. Stopped report (from_stage st (held ++ chunk) ending) from to status)
+      (λ next. (0 < length chunk) × (after.input.faults ≡ before.input.faults)
+      × GoesThrough report st (before.held ++ chunk) before.output after.output after.held next × IsHeld next after.held)
+      (λ status. Stopped report (from_stage st (before.held ++ chunk) ending) before.output after.output status)
 
 -- the input was taken as it was needed, and replayed
 abbrev pub Replays : Report → SourceView → SourceView → SinkView → SinkView → Status → Type 0

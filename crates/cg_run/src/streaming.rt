@@ -150,7 +150,9 @@ fn make_turn<S: Source, K: Sink>(
     requires few_write_faults { (K.view output.old).faults < 2 ^ 62 }
     requires stands { IsStage stage }
     requires held { IsHeld stage held.old.items }
-    ensures { TakesTurn report stage held.old.items (S.view input.old) (S.view input.new) (K.view output.old) (K.view output.new) held.new.items result }
+    ensures { TakesTurn report stage
+        (record { input = S.view input.old; output = K.view output.old; held = held.old.items })
+        (record { input = S.view input.new; output = K.view output.new; held = held.new.items }) result }
 {
     let mut buffer = [0u8; TAKE_BYTES];
     let room = (INPUT_BYTES + 1 - stage.at - held.len()).min(TAKE_BYTES);

@@ -1,8 +1,8 @@
-use Rattle.std.proofs.Common.{ℕ, ◌++◌, subst, take, rules}
+use Rattle.std.proofs.Common.{ℕ, ◌+◌, ◌≤◌, ◌++◌, length, subst, take, rules}
 use Rattle.std.proofs.lemmas.List.{take-append-le}
 use Rattle.std.specs.Io.KnownBytes.{Consumes}
 use Rattle.cg_run.specs.declared.progress.Ending.TheVariants.{Ended, Failed}
-use Rattle.cg_run.specs.Streaming.{from_stage, TakesUp}
+use Rattle.cg_run.specs.Streaming.{from_stage, TakesUp, BetweenTakes}
 use Rattle.cg_run.proofs.Streams.{turn-goes, turn-ended, turn-failed}
 use Rattle.cg_run.proofs.streaming.make_turn.Goals as goal
 use Rattle.cg_run.specs.Performing.{Stopped}
@@ -11,8 +11,9 @@ pub returns-in-Err : goal.returns-in-Err
 returns-in-Err g c =
     let v = g.K.Sink.view c.args.output.now in
     let v1 = g.K.Sink.view c.fail_stage.new.output in
-    turn-failed c.args.report c.args.stage c.args.held.now.items (g.S.Source.view c.args.input.now) (g.S.Source.view c.take.new.self) v v1 c.args.held.now.items c.fail_stage.result
-    c.requires.stands c.requires.held c.in-Err.ensures.bytes c.in-Err.ensures.cause
+    let before : BetweenTakes = record { input = g.S.Source.view c.args.input.now; output = v; held = c.args.held.now.items } in
+    let after : BetweenTakes = record { input = g.S.Source.view c.take.new.self; output = v1; held = c.args.held.now.items } in
+    turn-failed c.args.report c.args.stage before after c.fail_stage.result c.requires.stands c.requires.held c.in-Err.ensures.bytes c.in-Err.ensures.cause
     (subst (λ held. Stopped c.args.report (from_stage c.args.stage held Failed) v v1 c.fail_stage.result) c.as_slice.ensures.value (c.fail_stage.ensures c.args.report))
 
 pub returns-in-Ok-eq0 : goal.returns-in-Ok-eq0
@@ -21,8 +22,10 @@ returns-in-Ok-eq0 g c =
     let v1 = g.K.Sink.view c.close_stage.new.output in
     let old = g.S.Source.view c.args.input.now in
     let new = g.S.Source.view c.take.new.self in
+    let before : BetweenTakes = record { input = old; output = v; held = c.args.held.now.items } in
+    let after : BetweenTakes = record { input = new; output = v1; held = c.args.held.now.items } in
     let took = c.in-Ok-eq0.ensures in
-    turn-ended c.args.report c.args.stage c.args.held.now.items Ended old new v v1 c.args.held.now.items c.close_stage.result c.requires.stands c.requires.held
+    turn-ended c.args.report c.args.stage Ended before after c.close_stage.result c.requires.stands c.requires.held
     (subst (λ (n : ℕ). Consumes old.left new.left (take n c.take.new.buf)) c.in-Ok-eq0.field-0-test took.bytes.1) (took.bytes.2 c.in-Ok-eq0.field-0-test, took.cause) (λ e. absurd cc)
     (subst (λ held. Stopped c.args.report (from_stage c.args.stage held Ended) v v1 c.close_stage.result) c.as_slice-in-Ok-eq0.ensures.value c.close_stage.ensures)
 
@@ -30,10 +33,10 @@ pub returns-in-Ok : goal.returns-in-Ok
 returns-in-Ok g c =
     let v = g.K.Sink.view c.args.output.now in
     let v1 = g.K.Sink.view c.take_up.new.output in
-    let old = g.S.Source.view c.args.input.now in
-    let new = g.S.Source.view c.take.new.self in
+    let before : BetweenTakes = record { input = g.S.Source.view c.args.input.now; output = v; held = c.args.held.now.items } in
+    let after : BetweenTakes = record { input = g.S.Source.view c.take.new.self; output = v1; held = c.take_up.new.held.items } in
     let took = c.in-Ok.ensures in
-    turn-goes c.args.report c.args.stage c.args.held.now.items old new v v1 c.take_up.new.held.items c.take_up.result (take c.in-Ok.count c.take.new.buf)
-    took.bytes.1 took.cause (search rules) (search rules) (search rules)
+    let within : c.args.stage.at + length c.args.held.now.items + length (take c.in-Ok.count c.take.new.buf) ≤ 8388609 = search rules in
+    turn-goes c.args.report c.args.stage before after c.take_up.result (take c.in-Ok.count c.take.new.buf) took.bytes.1 took.cause (search rules) (search rules) within
     (subst (λ bytes. TakesUp c.args.report c.args.stage (c.args.held.now.items ++ bytes) v v1 c.take_up.new.held.items c.take_up.result)
     (take-append-le c.in-Ok.count c.take.new.buf _ took.bytes.0) c.take_up.ensures)
