@@ -1,5 +1,5 @@
 -- A mark keeps all that is known within the limits.
-use Rattle.std.specs.Prelude.{◌≡◌, ◌-◌, ◌≤◌, ◌<◌, ◌^◌, ℕ, zero, suc, ◌==◌, nat_le, nat_lt, Bool, true, false, not, ◌&&◌, List, [], ◌∷◌, ◌++◌, find, filter, slice_get, Option, Some, None, Result, Ok, Err, IfSome, MatchOption, OnOk, OnErr, if◌then◌else◌}
+use Rattle.std.specs.Prelude.{◌≡◌, ◌≤◌, ◌<◌, ◌^◌, ℕ, zero, suc, ◌==◌, nat_le, nat_lt, Bool, true, false, not, ◌&&◌, List, [], ◌∷◌, ◌++◌, find, filter, slice_get, Option, Some, None, Result, Ok, Err, IfSome, MatchOption, OnOk, OnErr, if◌then◌else◌}
 use Rattle.std.proofs.Common.{subst, sym, inl, inr, arith}
 use Rattle.std.proofs.lemmas.Bool.{cases_Bool, or_cases, and_parts, eqb-true}
 use Rattle.cg_base.specs.declared.action_id.ActionId.{ActionId}

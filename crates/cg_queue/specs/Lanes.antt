@@ -14,7 +14,7 @@ lane_at items (row ∷ rows) (suc k) = lane_at items rows k
 abbrev pub rows_of : {T : Type 0} → Lanes T → ℕ → List T
 rows_of lanes = lane_at deque_items lanes.rows.items
 
--- a row stands at the slot, and is longer than what stands in it
+-- there is a row at the slot, and its capacity is above its length
 abbrev pub RoomAt : {R : Type 0} → (R → ℕ) → (R → ℕ) → List R → ℕ → Type 0
 RoomAt {R} len capacity rows slot = (slot < length rows) × ((row : R) → row ≡ get_or rows slot row → len row < capacity row)
 
