@@ -1,6 +1,6 @@
 ghost use Rattle.std.specs.Prelude.{◌≡◌, ◌≤◌, ◌<◌, ◌^◌, ◌+◌, Some, vec_len, length, [], OnOk, IsErrOf, IsErr, ◌↔◌, Contains};
 ghost use Rattle.cg_io.specs.Outside.{PutsAll};
-ghost use Rattle.cg_io.specs.Memory.{from_place, kept};
+ghost use Rattle.cg_io.specs.Memory.{from_offset, kept};
 ghost use Rattle.cg_io.specs.Calls.{Takes, TakeCause, PutsNothing, PutCause};
 
 use crate::front::copy_front;
@@ -11,23 +11,23 @@ use std::alloc::Global;
 #[derive(Drop)]
 pub struct MemSource {
     bytes: Vec<u8>,
-    place: usize,
+    offset: usize,
     fail: Vec<u64>,
     calls: u64,
     faults: u64,
-    ghost within: { place ≤ vec_len bytes },
+    ghost within: { offset ≤ vec_len bytes },
 }
 
 impl MemSource {
     /// The takes named by `fail`, counted from 1, fail.
     pub fn new(bytes: Vec<u8>, fail: Vec<u64>) -> MemSource
-        ensures view { ⟦<MemSource as Source>⟧.view result ≡ from_place 0 bytes.items 0 }
+        ensures view { ⟦<MemSource as Source>⟧.view result ≡ from_offset 0 bytes.items 0 }
         ensures fail { result.fail.items ≡ fail.items }
         ensures calls { result.calls ≡ 0 }
     {
         MemSource {
             bytes,
-            place: 0,
+            offset: 0,
             fail,
             calls: 0,
             faults: 0,
@@ -36,13 +36,13 @@ impl MemSource {
 }
 
 impl Source for MemSource {
-    ghost view = { λ s. from_place s.place s.bytes.items s.faults };
+    ghost view = { λ s. from_offset s.offset s.bytes.items s.faults };
 
     fn take(&mut self, buf: &mut [u8]) -> Result<usize, Failed>
         requires room { 0 < length buf.old }
         requires few_faults { self.old.faults < 2 ^ 62 }
-        ensures bytes { Takes (from_place self.old.place self.old.bytes.items self.old.faults) (from_place self.new.place self.new.bytes.items self.new.faults) result buf.new }
-        ensures cause { TakeCause (from_place self.old.place self.old.bytes.items self.old.faults) (from_place self.new.place self.new.bytes.items self.new.faults) result }
+        ensures bytes { Takes (from_offset self.old.offset self.old.bytes.items self.old.faults) (from_offset self.new.offset self.new.bytes.items self.new.faults) result buf.new }
+        ensures cause { TakeCause (from_offset self.old.offset self.old.bytes.items self.old.faults) (from_offset self.new.offset self.new.bytes.items self.new.faults) result }
         ensures chosen { self.old.calls < 2 ^ 62 → IsErr result ↔ Contains self.old.fail.items (self.old.calls + 1) }
         ensures counted { self.old.calls < 2 ^ 62 → self.new.calls ≡ self.old.calls + 1 }
         ensures kept { self.new.fail ≡ self.old.fail }
@@ -52,8 +52,8 @@ impl Source for MemSource {
             self.faults += 1;
             return Err(Failed);
         }
-        let count = copy_front(&self.bytes[self.place..], buf);
-        self.place += count;
+        let count = copy_front(&self.bytes[self.offset..], buf);
+        self.offset += count;
         Ok(count)
     }
 }

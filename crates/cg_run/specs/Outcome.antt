@@ -61,7 +61,7 @@ line_outcome n line s = opened_outcome n (opening s.reader line) s
 abbrev pub without_return : List ℕ → List ℕ
 without_return line = if ends_with nat_eq line (codes "\r") then take (length line - 1) line else line
 
--- the limit that line n passes, with its length and the place where it ends
+-- the limit that line n passes, with its length and the offset at which it ends
 abbrev pub limit_of : ℕ → ℕ → ℕ → Option Limit
 limit_of n len end =
     if nat_lt 32768 len then Some limit.Line
@@ -74,7 +74,7 @@ abbrev pub unless_passed : Option Limit → ℕ → Progress → Produced → Pr
 unless_passed (Some what) n s otherwise = ended_with (status.Limit n what) n s
 unless_passed None n s otherwise = otherwise
 
--- line n, which begins at a place of the input and has its end
+-- line n, which begins at an offset of the input and has its end
 abbrev pub whole_line : ℕ → ℕ → List ℕ → Progress → Produced
 whole_line n at line s =
     unless_passed (limit_of n (length line) (at + length line + 1)) n s (line_outcome n (without_return line) s)
@@ -96,7 +96,7 @@ abbrev pub last_piece : ℕ → ℕ → List ℕ → Ending → Progress → Pro
 last_piece n at [] how s = at_end (n - 1) how s
 last_piece n at (b ∷ bs) how s = unless_passed (limit_of n (length (b ∷ bs)) (at + length (b ∷ bs))) n s (cut_line n (b ∷ bs) how s)
 
--- the lines from number n on, which begin at a place of the input
+-- the lines from number n on, which begin at an offset of the input
 abbrev pub replayed : ℕ → ℕ → List (List ℕ) → Ending → Progress → Produced
 replayed n at [] how s = went_on s
 replayed n at (rest ∷ []) how s = last_piece n at rest how s

@@ -67,7 +67,7 @@ found_in (status.Refused line reason) = Some line
 found_in (status.Limit line what) = Some line
 found_in other = None
 
--- the place just behind the ends of so many lines
+-- the offset just behind the ends of so many lines
 abbrev pub end_of_line : ℕ → List (List ℕ) → ℕ
 end_of_line zero lines = 0
 end_of_line (suc n) [] = 0
