@@ -9,12 +9,12 @@ use Rattle.cg_store.specs.Answers.{EachMoment}
 use Rattle.cg_base.specs.Choice.{Either}
 use Rattle.cg_store.specs.Calls.{Commits, Keeps, IsEither}
 use Rattle.cg_store.specs.Kept.{Kept}
-use Rattle.cg_store.specs.Stands.{Standing, committed}
+use Rattle.cg_store.specs.Stands.{OnDisk, committed}
 use Rattle.cg_store.specs.declared.errors.CommitErr.{CommitErr}
 use Rattle.cg_store.specs.declared.outputs.Outputs.{Outputs}
 use Rattle.cg_replica.specs.Seen.{turn_of}
 
-module _ {D : Type 0} (view : D → DiskView) (k : Kept D) (u : Standing) (r : Replica) (d : DraftParts) (core : Held) (same : core ≡ r.held) (a : Result (Kept D × Outputs) (CommitErr D)) where
+module _ {D : Type 0} (view : D → DiskView) (k : Kept D) (u : OnDisk) (r : Replica) (d : DraftParts) (core : Held) (same : core ≡ r.held) (a : Result (Kept D × Outputs) (CommitErr D)) where
   pub ended_at :
       (let t = turn_with core r.state d in Either (commits u.content t) (Commits view k u (committed k.unwritten t u) d a) (Keeps k d a)) →
       (let t = turn_of r d in Either (commits u.content t) (Commits view k u (committed k.unwritten t u) d a) (Keeps k d a))

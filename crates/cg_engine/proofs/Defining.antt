@@ -23,7 +23,7 @@ use Rattle.cg_store.specs.Defined.{strike_at, EndsAsDefined as StrikesEndAsDefin
 use Rattle.cg_store.specs.Kept.{Kept}
 use Rattle.cg_store.specs.declared.errors.CommitErr.TheVariants.{Lost}
 use Rattle.cg_store.specs.declared.outputs.Outputs.{Outputs}
-use Rattle.cg_store.specs.Stands.{Standing, Stands, disk_of, committed, checkpointed}
+use Rattle.cg_store.specs.Stands.{OnDisk, Stands, disk_of, committed, checkpointed}
 use Rattle.cg_engine.specs.Engines.{Up, Fallen, told}
 use Rattle.cg_engine.specs.Defined.{strike_from, account, RunsAsDefined, FallsAsDefined, EndsAsDefined}
 use Rattle.cg_engine.specs.Answers.{parts_of, IsLeft, EndsEvent, HandlesEvent}
@@ -74,8 +74,8 @@ checkpoint_armed a d = refl
 
 -- ---- the account of a commit
 
-module _ (strikes : StrikesEndAsDefined) (unwritten : List Action) (u : Standing) (t : Turn) (now : ℕ) (fill : List ℕ) where
-  abbrev after : Standing
+module _ (strikes : StrikesEndAsDefined) (unwritten : List Action) (u : OnDisk) (t : Turn) (now : ℕ) (fill : List ℕ) where
+  abbrev after : OnDisk
   after = committed unwritten t u
 
   abbrev arms : Option DiskStrike → Option Strike
@@ -87,7 +87,7 @@ module _ (strikes : StrikesEndAsDefined) (unwritten : List Action) (u : Standing
   abbrev calls : Bool → ℕ
   calls long = if long then 10 else 4
 
-  abbrev reached : Bool → Standing
+  abbrev reached : Bool → OnDisk
   reached long = if long then checkpointed after else after
 
   changed_is : (a : Option DiskStrike) → with_change (from a) t ≡ armed_with (arms a) (disk_of [] after)
@@ -166,8 +166,8 @@ strike_kept old new s z unstruck is now =
     let both : Some z.strike ≡ Some s.strike = sym there ∙ unstruck.stays ∙ here in
     (let same : z.strike ≡ s.strike = cc in same, subst (λ x. IfSome x (λ strike. IfSome strike (λ k. new.time < k.call))) there unstruck.ahead)
 
-module _ {D : Type 0} (view : D → DiskView) (strikes : StrikesEndAsDefined) (old : Up D) (u : Standing) (t : Turn) (fill : List ℕ) (s : DiskState) (state : (view old.store.disk).state ≡ Some s) where
-  abbrev behind : Standing
+module _ {D : Type 0} (view : D → DiskView) (strikes : StrikesEndAsDefined) (old : Up D) (u : OnDisk) (t : Turn) (fill : List ℕ) (s : DiskState) (state : (view old.store.disk).state ≡ Some s) where
+  abbrev behind : OnDisk
   behind = committed old.store.unwritten t u
 
   abbrev now : ℕ
@@ -188,7 +188,7 @@ module _ {D : Type 0} (view : D → DiskView) (strikes : StrikesEndAsDefined) (o
         let kept = strike_kept (view mid) (view e.store.disk) s z unstruck mid_state shown in
         let clock : (view e.store.disk).time ≡ now + (if long then 10 else 4) = time ∙ ap (λ n. n + (if long then 10 else 4)) begins.time in
         let ahead : IfSome s.strike (λ k. now + (if long then 10 else 4) < k.call) = subst (λ n. IfSome s.strike (λ k. n < k.call)) clock (subst (λ a. IfSome a (λ k. (view e.store.disk).time < k.call)) kept.0 kept.1) in
-        let x : Standing = if long then checkpointed behind else behind in
+        let x : OnDisk = if long then checkpointed behind else behind in
         record {
           standing = x;
           stands = stands;
@@ -211,7 +211,7 @@ module _ {D : Type 0} (view : D → DiskView) (strikes : StrikesEndAsDefined) (o
       names_behind true = sym (told_all w behind.content t.green green_is count_v)
       names_behind false = sym (told_all w behind.content t.green green_is count_v)
 
-      fell : (long : Bool) → nat_lt size_limit behind.size ≡ long → (x : Standing) (k : DiskStrike) (n : ℕ) → s.strike ≡ Some k → k.call ≡ now + n → n ≤ (if long then 10 else 4) →
+      fell : (long : Bool) → nat_lt size_limit behind.size ≡ long → (x : OnDisk) (k : DiskStrike) (n : ℕ) → s.strike ≡ Some k → k.call ≡ now + n → n ≤ (if long then 10 else 4) →
           at_rest (crash_outcome (disk_of old.store.unwritten u) t (strike_at n k.blow fill)) ≡ disk_of [] x → (if is_committed (strike_at n k.blow fill) then t.green else []) ≡ told w x.content →
           Stands old.store.id (left_by e fill) x → FallsAsDefined view disk_before old.replica.held t fill w
       fell long size x k n armed call within outcome_is names_are stands = record {
@@ -226,7 +226,7 @@ module _ {D : Type 0} (view : D → DiskView) (strikes : StrikesEndAsDefined) (o
       }
 
       -- the strike that was reached
-      struck_at : (id earlier : ℕ) (x y : Standing) (lost : IsLost id earlier x y (view mid) (view w.disk)) → (k : DiskStrike) → s.strike ≡ Some k → k.call ≡ now + (earlier + lost.call)
+      struck_at : (id earlier : ℕ) (x y : OnDisk) (lost : IsLost id earlier x y (view mid) (view w.disk)) → (k : DiskStrike) → s.strike ≡ Some k → k.call ≡ now + (earlier + lost.call)
       struck_at id earlier x y lost k armed =
           let found = lost.struck.reached s mid_state in
           let same : found.0 ≡ k = (let a = found.1 in cc) in

@@ -20,7 +20,7 @@ use Rattle.cg_store.specs.Calls.{Commits, Keeps, EndsWritten, IsEither, IsOneOfT
 use Rattle.cg_store.specs.EndingLaws.{commit_stands, commit_is_written, keep_stands, keep_is_not_written, ends_long, ends_short, ends_failed, event_moments}
 use Rattle.cg_store.specs.MomentLaws.{stands_once, leaves_first}
 use Rattle.cg_store.specs.Kept.{Kept}
-use Rattle.cg_store.specs.Stands.{Standing, Stands, disk_of, committed, checkpointed}
+use Rattle.cg_store.specs.Stands.{OnDisk, Stands, disk_of, committed, checkpointed}
 use Rattle.cg_store.specs.declared.errors.CommitErr.{CommitErr}
 use Rattle.cg_store.specs.declared.errors.CommitErr.TheVariants.{Lost, NoMemory}
 use Rattle.cg_store.specs.declared.outputs.Outputs.{Outputs}
@@ -48,7 +48,7 @@ pub if_mapped : (o : Option DiskState) (P : Option Strike → Type 0) → IfSome
 if_mapped None P is = tt
 if_mapped (Some s) P is = is
 
-module _ {D : Type 0} (view : D → DiskView) (k : Kept D) (u : Standing) (is : IsView (view k.disk)) (rest : IsAtRest (view k.disk)) (stands : Stands k.id (view k.disk).reads u) where
+module _ {D : Type 0} (view : D → DiskView) (k : Kept D) (u : OnDisk) (is : IsView (view k.disk)) (rest : IsAtRest (view k.disk)) (stands : Stands k.id (view k.disk).reads u) where
   -- a disk at rest leaves what it stands for
   pub resting : LeavesOnly (view k.disk) (view k.disk) (λ c. Stands k.id c u)
   resting = record {
@@ -81,11 +81,11 @@ answer_saved (Ok store) r o id last = refl
 answer_saved (Err (Lost disk)) r o id last = refl
 answer_saved (Err (NoMemory disk)) r o id last = refl
 
-module _ {D : Type 0} (view : D → DiskView) (k : Kept D) (u : Standing) (r : Replica) (d : DraftParts) (last : Last) (named : last.green ≡ d.green) where
+module _ {D : Type 0} (view : D → DiskView) (k : Kept D) (u : OnDisk) (r : Replica) (d : DraftParts) (last : Last) (named : last.green ≡ d.green) where
   abbrev turn : Turn
   turn = turn_of r d
 
-  abbrev after : Standing
+  abbrev after : OnDisk
   after = committed k.unwritten turn u
 
   fallen_leaves : (fault : CommitErr D) (id : ℕ) (written : Bool) → id ≡ k.id → Leaves view k.id last.count u turn written (fallen fault id last)
@@ -147,7 +147,7 @@ module _ {D : Type 0} (view : D → DiskView) (k : Kept D) (u : Standing) (r : R
 
     pub ends_with : IsView (view k.disk) → IsAtRest (view k.disk) → Stands k.id (view k.disk).reads u → (b : Bool) →
         Either b (Commits view k u after d (Ok (mid, o))) (Keeps k d (Ok (mid, o))) → LeavesOnly (view k.disk) (view mid.disk) (IsEither k.id u after) →
-        ((w : Standing) → Stands mid.id (view mid.disk).reads w → GoesOn view mid w r o last result) → EndsEvent view k last.count u turn b result
+        ((w : OnDisk) → Stands mid.id (view mid.disk).reads w → GoesOn view mid w r o last result) → EndsEvent view k last.count u turn b result
     ends_with is rest stands true ends first goes =
         let saves = subst (λ x. Either x (Saves view mid after (whitened r) o last result) (result ≡ handled.Running (up mid r) o)) (commit_is_written view k mid u after d o ends)
         (goes after (commit_stands view k mid u after d o ends)) in
@@ -163,7 +163,7 @@ module _ {D : Type 0} (view : D → DiskView) (k : Kept D) (u : Standing) (r : R
 
   -- what follows may be done
   pub may_go_on : MayEnd k.unwritten u turn → Stands k.id (view k.disk).reads u → (mid : Kept D) (o : Outputs) (b : Bool) → commits u.content turn ≡ b →
-      Either b (Commits view k u after d (Ok (mid, o))) (Keeps k d (Ok (mid, o))) → (w : Standing) → Stands mid.id (view mid.disk).reads w → MayGoOn o.written mid.unwritten w r.held
+      Either b (Commits view k u after d (Ok (mid, o))) (Keeps k d (Ok (mid, o))) → (w : OnDisk) → Stands mid.id (view mid.disk).reads w → MayGoOn o.written mid.unwritten w r.held
   may_go_on may stands mid o true test ends w here =
       let same : after ≡ w = stands_once mid.id (view mid.disk).reads after w (commit_stands view k mid u after d o ends) here in
       let save : MaySave mid.unwritten after (whiten r.held) = record {

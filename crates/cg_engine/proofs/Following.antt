@@ -11,7 +11,7 @@ use Rattle.cg_step.specs.Holds.{Holds}
 use Rattle.cg_step.specs.Recorded.{AlwaysHolds, AlwaysCounts, AlwaysSettled, AlwaysRecorded, AlwaysAhead, AreBooked}
 use Rattle.cg_step.specs.Step.{Input, replica_step}
 use Rattle.cg_store.specs.Opening.{IsSound}
-use Rattle.cg_store.specs.Stands.{Standing, disk_of, committed, checkpointed}
+use Rattle.cg_store.specs.Stands.{OnDisk, disk_of, committed, checkpointed}
 use Rattle.cg_engine.specs.Ending.{MayEnd}
 use Rattle.cg_engine.proofs.Values.{same_commits}
 
@@ -28,7 +28,7 @@ module _ (holds : AlwaysHolds) (counts : AlwaysCounts) (settled : AlwaysSettled)
     ahead = subst (λ (u : List Action). IsAhead disk.content u (whiten h)) (sym none) (subst (λ (s : Stored). IsAhead s [] (whiten h)) (sym same) (ahead.committed h));
   }
 
-  pub may_end : (unwritten : List Action) (u : Standing) (r : Replica) (input : Input) (book : ActionId → Action) → Follows (disk_of unwritten u) r.held → AreBooked book r.held input →
+  pub may_end : (unwritten : List Action) (u : OnDisk) (r : Replica) (input : Input) (book : ActionId → Action) → Follows (disk_of unwritten u) r.held → AreBooked book r.held input →
       MayEnd unwritten u (replica_step r input)
   may_end unwritten u r input book follows booked =
       let t = replica_step r input in
@@ -48,7 +48,7 @@ module _ (holds : AlwaysHolds) (counts : AlwaysCounts) (settled : AlwaysSettled)
       }
 
   -- a replica that has come up follows its disk
-  pub recovered_follows : (u : Standing) → IsSound u.content → Follows (disk_of (recover u.content).known u) (recover u.content).replica.held
+  pub recovered_follows : (u : OnDisk) → IsSound u.content → Follows (disk_of (recover u.content).known u) (recover u.content).replica.held
   recovered_follows u sound = record {
     on_disk = record { content = sound.holds; buffered = sound.buffered; owed = sound.owed };
     held = holds.recovered u.content sound.holds;

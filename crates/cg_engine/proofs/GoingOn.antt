@@ -11,7 +11,7 @@ use Rattle.cg_store.specs.Answers.{EachMoment}
 use Rattle.cg_base.specs.Choice.{Either}
 use Rattle.cg_store.specs.Calls.{Moves, IsEither}
 use Rattle.cg_store.specs.Kept.{Kept}
-use Rattle.cg_store.specs.Stands.{Standing, Stands, disk_of, checkpointed}
+use Rattle.cg_store.specs.Stands.{OnDisk, Stands, disk_of, checkpointed}
 use Rattle.cg_store.specs.declared.errors.CommitErr.{CommitErr}
 use Rattle.cg_store.specs.declared.outputs.Outputs.{Outputs}
 use Rattle.cg_replica.specs.Seen.{white_in}
@@ -33,7 +33,7 @@ unfolding whiten
 whitened_is r = refl
 
 module _ {D : Type 0} (view : D → DiskView) (k : Kept D) where
-  module _ (h : Held) (may : (w : Standing) → Stands k.id (view k.disk).reads w → MaySave k.unwritten w h) (here : (u : Standing) × Stands k.id (view k.disk).reads u) where
+  module _ (h : Held) (may : (w : OnDisk) → Stands k.id (view k.disk).reads w → MaySave k.unwritten w h) (here : (u : OnDisk) × Stands k.id (view k.disk).reads u) where
     -- there is an engine before a checkpoint, and behind it
     pub engine_here : IsEngine (view k.disk) k.id k.unwritten h
     engine_here = record { standing = here.0; stands = here.1; follows = (may here.0 here.1).follows }
@@ -45,7 +45,7 @@ module _ {D : Type 0} (view : D → DiskView) (k : Kept D) where
       follows = subst (λ x. Follows (disk_of x (checkpointed here.0)) h) (sym moves.2) (may here.0 here.1).later;
     }
 
-  module _ (w : Standing) (r : Replica) (o : Outputs) (last : Last) (result : Handled D) where
+  module _ (w : OnDisk) (r : Replica) (o : Outputs) (last : Last) (result : Handled D) where
     -- a checkpoint was made, or ended the event
     pub saved_as : (a : Result (Kept D) (CommitErr D)) → nat_lt size_limit w.size ≡ true → Moves view k w (checkpointed w) a → EachMoment view (λ s. s.disk) (IsEither k.id w (checkpointed w)) (view k.disk) a →
         result ≡ saved a r o k.id last → Saves view k w r o last result
@@ -58,13 +58,13 @@ module _ {D : Type 0} (view : D → DiskView) (k : Kept D) where
         as_chosen o.written (Saves view k w (whitened r) o last result) (result ≡ handled.Running (up k r) o) written
         (subst (λ (x : Replica). Saves view k w x o last result) (whitened_is r) (subst (λ (x : Replica). Saves view k w x o last result) same saves))
 
-  module _ (r : Replica) (written : Bool) (may : (w : Standing) → Stands k.id (view k.disk).reads w → MayGoOn written k.unwritten w r.held) (is : written ≡ true) where
-    both_at : (w : Standing) → Stands k.id (view k.disk).reads w → IsLineGreen r.held × MaySave k.unwritten w (whiten r.held)
+  module _ (r : Replica) (written : Bool) (may : (w : OnDisk) → Stands k.id (view k.disk).reads w → MayGoOn written k.unwritten w r.held) (is : written ≡ true) where
+    both_at : (w : OnDisk) → Stands k.id (view k.disk).reads w → IsLineGreen r.held × MaySave k.unwritten w (whiten r.held)
     both_at w stands = chosen written (IsLineGreen r.held × MaySave k.unwritten w (whiten r.held)) (Follows (disk_of k.unwritten w) r.held) is (may w stands)
 
-    pub line_here : (u : Standing) × Stands k.id (view k.disk).reads u → IsLineGreen r.held
+    pub line_here : (u : OnDisk) × Stands k.id (view k.disk).reads u → IsLineGreen r.held
     line_here here = (both_at here.0 here.1).0
 
-    pub may_save_at : (white : Replica) → white ≡ white_in r → (w : Standing) → Stands k.id (view k.disk).reads w → MaySave k.unwritten w white.held
+    pub may_save_at : (white : Replica) → white ≡ white_in r → (w : OnDisk) → Stands k.id (view k.disk).reads w → MaySave k.unwritten w white.held
     may_save_at white same w stands =
         subst (λ (x : Replica). MaySave k.unwritten w x.held) (sym same) (subst (λ (x : Replica). MaySave k.unwritten w x.held) (sym (whitened_is r)) (both_at w stands).1)

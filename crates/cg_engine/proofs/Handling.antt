@@ -13,7 +13,7 @@ use Rattle.cg_step.specs.Recorded.{AlwaysHolds, AlwaysCounts, AlwaysSettled, Alw
 use Rattle.cg_step.specs.Step.{Input, replica_step}
 use Rattle.cg_store.specs.Kept.{Kept}
 use Rattle.cg_store.specs.MomentLaws.{stands_once}
-use Rattle.cg_store.specs.Stands.{Standing, Stands, disk_of}
+use Rattle.cg_store.specs.Stands.{OnDisk, Stands, disk_of}
 use Rattle.cg_engine.specs.Engines.{Up, IsEngine}
 use Rattle.cg_engine.specs.Answers.{EndsEvent, HandlesEvent}
 use Rattle.cg_engine.specs.declared.answers.Handled.{Handled}
@@ -22,7 +22,7 @@ use Rattle.cg_engine.proofs.Following.{may_end}
 use Rattle.cg_engine.proofs.Values.{same_commits}
 
 -- the replica follows whatever the disk stands for
-pub follows_at : (d : DiskView) (id : ℕ) (unwritten : List Action) (h : Held) (u : Standing) → IsEngine d id unwritten h → Stands id d.reads u → Follows (disk_of unwritten u) h
+pub follows_at : (d : DiskView) (id : ℕ) (unwritten : List Action) (h : Held) (u : OnDisk) → IsEngine d id unwritten h → Stands id d.reads u → Follows (disk_of unwritten u) h
 follows_at d id unwritten h u is stands = subst (λ x. Follows (disk_of unwritten x) h) (stands_once id d.reads is.standing u is.stands stands) is.follows
 
 module _ {D : Type 0} (view : D → DiskView) (old : Up D) (mid : Kept D) (begins : Begins (view old.store.disk) (view mid.disk)) (id_is : mid.id ≡ old.store.id) (marks : mid.unwritten ≡ old.store.unwritten) where
@@ -30,13 +30,13 @@ module _ {D : Type 0} (view : D → DiskView) (old : Up D) (mid : Kept D) (begin
   store_is : (let k = old.store in mid ≡ record k { disk = mid.disk })
   store_is = λ i. record { disk = mid.disk; id = id_is i; unwritten = marks i }
 
-  pub stands_there : (u : Standing) → Stands old.store.id (view old.store.disk).reads u → Stands mid.id (view mid.disk).reads u
+  pub stands_there : (u : OnDisk) → Stands old.store.id (view old.store.disk).reads u → Stands mid.id (view mid.disk).reads u
   stands_there u stands = subst (λ id. Stands id (view mid.disk).reads u) (sym id_is) (subst (λ c. Stands old.store.id c u) (sym begins.reads) stands)
 
-  pub stood_here : (u : Standing) → Stands mid.id (view mid.disk).reads u → Stands old.store.id (view old.store.disk).reads u
+  pub stood_here : (u : OnDisk) → Stands mid.id (view mid.disk).reads u → Stands old.store.id (view old.store.disk).reads u
   stood_here u stands = subst (λ c. Stands old.store.id c u) begins.reads (subst (λ id. Stands id (view mid.disk).reads u) id_is stands)
 
-  pub handles : (u : Standing) (t : Turn) (count : ℕ) (written : Bool) (result : Handled D) → count ≡ green_count old.replica.held.queue → written ≡ commits old.replica.held t → EndsEvent view mid count u t written result → HandlesEvent view old u t result
+  pub handles : (u : OnDisk) (t : Turn) (count : ℕ) (written : Bool) (result : Handled D) → count ≡ green_count old.replica.held.queue → written ≡ commits old.replica.held t → EndsEvent view mid count u t written result → HandlesEvent view old u t result
   handles u t count written result counted test ends = record {
     disk = mid.disk;
     begins = begins;
@@ -45,7 +45,7 @@ module _ {D : Type 0} (view : D → DiskView) (old : Up D) (mid : Kept D) (begin
   }
 
   -- the step was made
-  pub handles_step : (u : Standing) (t made : Turn) (count : ℕ) (result : Handled D) → Follows (disk_of old.store.unwritten u) old.replica.held → made ≡ t → count ≡ green_count old.replica.held.queue →
+  pub handles_step : (u : OnDisk) (t made : Turn) (count : ℕ) (result : Handled D) → Follows (disk_of old.store.unwritten u) old.replica.held → made ≡ t → count ≡ green_count old.replica.held.queue →
       EndsEvent view mid count u made (commits u.content made) result → HandlesEvent view old u t result
   handles_step u t made count result follows same counted ends =
       handles u t count (commits u.content t) result counted (same_commits u.content old.store.unwritten old.replica.held t follows.ahead)
@@ -54,7 +54,7 @@ module _ {D : Type 0} (view : D → DiskView) (old : Up D) (mid : Kept D) (begin
 -- the end of an event may be made behind `begin`
 pub may_end_there : AlwaysHolds → AlwaysCounts → AlwaysSettled → AlwaysRecorded → AlwaysAhead → {D : Type 0} (view : D → DiskView) (old : Up D) (mid : Kept D) (input : Input) (book : ActionId → Action) (made : Turn) →
     IsEngine (view old.store.disk) old.store.id old.store.unwritten old.replica.held → AreBooked book old.replica.held input → Begins (view old.store.disk) (view mid.disk) → mid.id ≡ old.store.id → mid.unwritten ≡ old.store.unwritten →
-    made ≡ replica_step old.replica input → (u : Standing) → Stands mid.id (view mid.disk).reads u → MayEnd mid.unwritten u made
+    made ≡ replica_step old.replica input → (u : OnDisk) → Stands mid.id (view mid.disk).reads u → MayEnd mid.unwritten u made
 may_end_there holds counts settled records ahead view old mid input book made is booked begins id_is marks same u stands =
     let follows = follows_at (view old.store.disk) old.store.id old.store.unwritten old.replica.held u is (stood_here view old mid begins id_is marks u stands) in
     subst (λ (m : List Action). MayEnd m u made) (sym marks)

@@ -19,7 +19,7 @@ use Rattle.cg_store.specs.Answers.{IsReached, EachMoment}
 use Rattle.cg_store.specs.Calls.{Keeps, EndsWritten, IsOneOfThree}
 use Rattle.cg_store.specs.Kept.{Kept}
 use Rattle.cg_store.specs.Opening.{IsNoStore}
-use Rattle.cg_store.specs.Stands.{Standing, Stands, committed, checkpointed, created}
+use Rattle.cg_store.specs.Stands.{OnDisk, Stands, committed, checkpointed, created}
 use Rattle.cg_store.specs.declared.errors.CommitErr.{CommitErr}
 use Rattle.cg_store.specs.declared.errors.CommitErr.TheVariants.{Lost, NoMemory as NoMemoryErr}
 use Rattle.cg_store.specs.declared.outputs.Outputs.{Outputs}
@@ -53,24 +53,24 @@ pub record IsLeft {D : Type 0} (id count : ℕ) (w : Fallen D) : Type 0 where
   pub count_is : w.count ≡ count
 
 -- the replica behind the event; or, with the disk, the names newly green, unless it stands for the state before the event
-abbrev pub Leaves : {D : Type 0} → (D → DiskView) → ℕ → ℕ → Standing → Turn → Bool → Handled D → Type 0
+abbrev pub Leaves : {D : Type 0} → (D → DiskView) → ℕ → ℕ → OnDisk → Turn → Bool → Handled D → Type 0
 Leaves view id count u t written (handled.Running e outputs) = e.replica ≡ replica_behind written t.replica
 Leaves view id count u t written (handled.Down w) = IsLeft id count w × (w.green ≡ t.green)
 Leaves view id count u t written (handled.NoMemory w) = IsLeft id count w × ((w.green ≡ t.green) ⊎ Stands id (view w.disk).reads u)
 
 -- an image in an event: of the state before, or of the one behind, in the records before a checkpoint or in it
-abbrev pub IsBetween : Bool → ℕ → Standing → Standing → Image → Type 0
+abbrev pub IsBetween : Bool → ℕ → OnDisk → OnDisk → Image → Type 0
 IsBetween written id u v c = Either written (IsOneOfThree id u v (checkpointed v) c) (Stands id c u)
 
 -- an event that is written makes one commit, and one that isn't makes no call: how it ends, and what each moment leaves
-pub record EndsEvent {D : Type 0} (view : D → DiskView) (k : Kept D) (count : ℕ) (u : Standing) (t : Turn) (written : Bool) (result : Handled D) : Type 0 where
+pub record EndsEvent {D : Type 0} (view : D → DiskView) (k : Kept D) (count : ℕ) (u : OnDisk) (t : Turn) (written : Bool) (result : Handled D) : Type 0 where
   pub ends : (let v = committed k.unwritten t u in
       Either written (EndsWritten view k u v (parts_of t) (answer_of result)) (Keeps k (parts_of t) (answer_of result)))
   pub leaves : Leaves view k.id count u t written result
   pub moments : EachMoment view (λ done. done.0.disk) (IsBetween written k.id u (committed k.unwritten t u)) (view k.disk) (answer_of result)
 
 -- so it is behind the disk's `begin`
-pub record HandlesEvent {D : Type 0} (view : D → DiskView) (old : Up D) (u : Standing) (t : Turn) (result : Handled D) : Type 0 where
+pub record HandlesEvent {D : Type 0} (view : D → DiskView) (old : Up D) (u : OnDisk) (t : Turn) (result : Handled D) : Type 0 where
   pub disk : D
   pub begins : Begins (view old.store.disk) (view disk)
   pub ends : (let k = old.store in
@@ -97,7 +97,7 @@ Starts view id set old (started.NoMemory w) = IsRefusedWithin 7 old (view w.disk
 
 -- the replica that comes up from the state that its disk stands for, and the names of its last event that are green there
 pub record IsRecovered {D : Type 0} (view : D → DiskView) (w : Fallen D) (e : Up D) (green : List ActionId) : Type 0 where
-  pub standing : Standing
+  pub standing : OnDisk
   pub stands : Stands w.id (view w.disk).reads standing
   pub replica : e.replica ≡ (recover standing.content).replica
   pub id_is : e.store.id ≡ w.id

@@ -11,7 +11,7 @@ use Rattle.cg_step.specs.Crash.{Strike, Disk, Runs, Crashes, end_event}
 use Rattle.cg_step.specs.Recorded.{AreBooked}
 use Rattle.cg_step.specs.Step.{Input, replica_step}
 use Rattle.cg_store.specs.Defined.{strike_at}
-use Rattle.cg_store.specs.Stands.{Standing, Stands, disk_of}
+use Rattle.cg_store.specs.Stands.{OnDisk, Stands, disk_of}
 use Rattle.cg_engine.specs.Engines.{Up, Fallen, IsEngine, told}
 use Rattle.cg_engine.specs.Answers.{HandlesEvent}
 use Rattle.cg_engine.specs.declared.answers.Handled.{Handled}
@@ -22,12 +22,12 @@ abbrev pub strike_from : ℕ → List ℕ → DiskStrike → Strike
 strike_from now fill s = strike_at (s.call - now) s.blow fill
 
 -- a disk that tells its state
-abbrev pub account : List Action → Standing → ℕ → List ℕ → DiskState → Disk
+abbrev pub account : List Action → OnDisk → ℕ → List ℕ → DiskState → Disk
 account unwritten u now fill s = let d = disk_of unwritten u in record d { armed = option_map (strike_from now fill) s.strike }
 
 -- the event ends with the replica and the disk of the account
 pub record RunsAsDefined {D : Type 0} (view : D → DiskView) (disk : Disk) (old : Held) (t : Turn) (fill : List ℕ) (e : Up D) : Type 0 where
-  pub standing : Standing
+  pub standing : OnDisk
   pub stands : Stands e.store.id (view e.store.disk).reads standing
   pub state : DiskState
   pub told : (view e.store.disk).state ≡ Some state
@@ -35,7 +35,7 @@ pub record RunsAsDefined {D : Type 0} (view : D → DiskView) (disk : Disk) (old
 
 -- or in the crash of the account, which leaves its disk and the names that a recovery tells
 pub record FallsAsDefined {D : Type 0} (view : D → DiskView) (disk : Disk) (old : Held) (t : Turn) (fill : List ℕ) (w : Fallen D) : Type 0 where
-  pub standing : Standing
+  pub standing : OnDisk
   pub state : DiskState
   pub shown : (view w.disk).state ≡ Some state
   pub stands : Stands w.id (left_by state fill) standing
@@ -49,7 +49,7 @@ EndsAsDefined view disk old t fill (handled.NoMemory w) = Unit {0}
 
 -- an engine's event is that of the account, whatever strikes, and with any bytes that a crash may leave
 pub record HandlesAsDefined {D : Type 0} (view : D → DiskView) : Type 0 where
-  pub event : (old : Up D) (u : Standing) (input : Input) (book : ActionId → Action) (fill : List ℕ) (s : DiskState) (result : Handled D) →
+  pub event : (old : Up D) (u : OnDisk) (input : Input) (book : ActionId → Action) (fill : List ℕ) (s : DiskState) (result : Handled D) →
       IsEngine (view old.store.disk) old.store.id old.store.unwritten old.replica.held → Stands old.store.id (view old.store.disk).reads u → AreBooked book old.replica.held input →
       (view old.store.disk).state ≡ Some s → HandlesEvent view old u (replica_step old.replica input) result →
       EndsAsDefined view (account old.store.unwritten u (view old.store.disk).time fill s) old.replica.held (replica_step old.replica input) fill result

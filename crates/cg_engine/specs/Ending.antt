@@ -18,7 +18,7 @@ use Rattle.cg_base.specs.Choice.{Either}
 use Rattle.cg_store.specs.Calls.{Moves, IsEither}
 use Rattle.cg_store.specs.Kept.{Kept}
 use Rattle.cg_store.specs.Opening.{IsSound}
-use Rattle.cg_store.specs.Stands.{Standing, Stands, disk_of, committed, checkpointed}
+use Rattle.cg_store.specs.Stands.{OnDisk, Stands, disk_of, committed, checkpointed}
 use Rattle.cg_store.specs.declared.errors.CommitErr.{CommitErr}
 use Rattle.cg_store.specs.declared.errors.CommitErr.TheVariants.{Lost, NoMemory as NoMemoryErr}
 use Rattle.cg_store.specs.declared.errors.OpenErr.{OpenErr}
@@ -61,7 +61,7 @@ unkept (NoMemoryErr disk) id last = recovered.NoMemory (wreck_of disk id last)
 -- ---- what the end of an event asks for
 
 -- the event's record leads from what the disk stands for, and the replica follows what the event leaves there
-pub record MayEnd (unwritten : List Action) (u : Standing) (t : Turn) : Type 0 where
+pub record MayEnd (unwritten : List Action) (u : OnDisk) (t : Turn) : Type 0 where
   pub recorded : IsRecorded u.content unwritten t
   pub agrees : Agrees (stored_of (whiten t.replica.held))
   pub line : IsLineGreen t.replica.held
@@ -70,14 +70,14 @@ pub record MayEnd (unwritten : List Action) (u : Standing) (t : Turn) : Type 0 w
   pub kept : commits u.content t ≡ false → Follows (disk_of (unwritten ++ t.known) u) t.replica.held
 
 -- behind a commit the disk stands for what is held, in the records or in a checkpoint
-pub record MaySave (unwritten : List Action) (w : Standing) (h : Held) : Type 0 where
+pub record MaySave (unwritten : List Action) (w : OnDisk) (h : Held) : Type 0 where
   pub held : stored_of h ≡ w.content
   pub agrees : Agrees (stored_of h)
   pub follows : Follows (disk_of unwritten w) h
   pub later : Follows (disk_of unwritten (checkpointed w)) h
 
 -- where the event was written this is so of the white count that has risen
-abbrev pub MayGoOn : Bool → List Action → Standing → Held → Type 0
+abbrev pub MayGoOn : Bool → List Action → OnDisk → Held → Type 0
 MayGoOn written unwritten w h = Either written (IsLineGreen h × MaySave unwritten w (whiten h)) (Follows (disk_of unwritten w) h)
 
 -- ---- what it gives
@@ -90,23 +90,23 @@ saved (Ok store) r outputs id last = handled.Running (up store r) outputs
 saved (Err fault) r outputs id last = fallen fault id last
 
 -- a checkpoint was made
-pub record Saved {D : Type 0} (view : D → DiskView) (k : Kept D) (w : Standing) (r : Replica) (outputs : Outputs) (last : Last) (result : Handled D) : Type 0 where
+pub record Saved {D : Type 0} (view : D → DiskView) (k : Kept D) (w : OnDisk) (r : Replica) (outputs : Outputs) (last : Last) (result : Handled D) : Type 0 where
   pub answer : Result (Kept D) (CommitErr D)
   pub moves : Moves view k w (checkpointed w) answer
   pub moments : EachMoment view (λ s. s.disk) (IsEither k.id w (checkpointed w)) (view k.disk) answer
   pub is : result ≡ saved answer r outputs k.id last
 
-abbrev pub Saves : {D : Type 0} → (D → DiskView) → Kept D → Standing → Replica → Outputs → Last → Handled D → Type 0
+abbrev pub Saves : {D : Type 0} → (D → DiskView) → Kept D → OnDisk → Replica → Outputs → Last → Handled D → Type 0
 Saves view k w r outputs last result = Either (nat_lt size_limit w.size) (Saved view k w r outputs last result) (result ≡ handled.Running (up k r) outputs)
 
-abbrev pub GoesOn : {D : Type 0} → (D → DiskView) → Kept D → Standing → Replica → Outputs → Last → Handled D → Type 0
+abbrev pub GoesOn : {D : Type 0} → (D → DiskView) → Kept D → OnDisk → Replica → Outputs → Last → Handled D → Type 0
 GoesOn view k w r outputs last result = Either outputs.written (Saves view k w (whitened r) outputs last result) (result ≡ handled.Running (up k r) outputs)
 
 -- ---- a recovery
 
 -- the disk of an opened store stands for what a core holds, and there are no red marks beside it
 pub record IsOpen {D : Type 0} (d : DiskView) (k : Kept D) (core : Held) : Type 0 where
-  pub standing : Standing
+  pub standing : OnDisk
   pub stands : Stands k.id d.reads standing
   pub sound : IsSound standing.content
   pub core_is : core ≡ standing.content

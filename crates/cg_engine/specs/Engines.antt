@@ -7,7 +7,7 @@ use Rattle.cg_queue.specs.Queue.{green_count}
 use Rattle.cg_client.specs.Replica.{Held, Replica}
 use Rattle.cg_step.specs.Following.{Follows}
 use Rattle.cg_store.specs.Kept.{Kept}
-use Rattle.cg_store.specs.Stands.{Standing, Stands, disk_of}
+use Rattle.cg_store.specs.Stands.{OnDisk, Stands, disk_of}
 
 -- a replica that is up: its store, and what it is in memory
 pub record Up (D : Type 0) : Type 0 where
@@ -24,7 +24,7 @@ pub record Fallen (D : Type 0) : Type 0 where
 
 -- the disk stands for a state that the replica follows
 pub record IsEngine (d : DiskView) (id : ℕ) (unwritten : List Action) (h : Held) : Type 0 where
-  pub standing : Standing
+  pub standing : OnDisk
   pub stands : Stands id d.reads standing
   pub follows : Follows (disk_of unwritten standing) h
 

@@ -9,16 +9,16 @@ use Rattle.cg_store.specs.Answers.{IsLost}
 use Rattle.cg_base.specs.Choice.{Either}
 use Rattle.cg_store.specs.Calls.{Commits, Keeps, EndsLong, EndsWritten}
 use Rattle.cg_store.specs.Kept.{Kept}
-use Rattle.cg_store.specs.Stands.{Standing, committed, checkpointed}
+use Rattle.cg_store.specs.Stands.{OnDisk, committed, checkpointed}
 use Rattle.cg_store.specs.declared.errors.CommitErr.TheVariants.{Lost}
 use Rattle.cg_engine.specs.Answers.{parts_of, HandlesEvent}
 use Rattle.cg_engine.specs.Engines.{Up, Fallen}
 use Rattle.cg_engine.specs.declared.answers.Handled.TheVariants.{Down}
 
-lost_within : (id earlier : ℕ) (x y : Standing) (old new : DiskView) → earlier ≤ 6 → IsLost id earlier x y old new → new.time ≤ old.time + 10
+lost_within : (id earlier : ℕ) (x y : OnDisk) (old new : DiskView) → earlier ≤ 6 → IsLost id earlier x y old new → new.time ≤ old.time + 10
 lost_within id earlier x y old new le lost = omega (arith, le, lost.time, lost.within.1)
 
-module _ {D : Type 0} (view : D → DiskView) (k : Kept D) (u v : Standing) (d : DraftParts) (disk : D) where
+module _ {D : Type 0} (view : D → DiskView) (k : Kept D) (u v : OnDisk) (d : DraftParts) (disk : D) where
   written_within : (long : Bool) → Either long (EndsLong view k u v (checkpointed v) d (Err (Lost disk))) (Commits view k u v d (Err (Lost disk))) →
       (view disk).time ≤ (view k.disk).time + 10
   written_within true is =
@@ -31,7 +31,7 @@ module _ {D : Type 0} (view : D → DiskView) (k : Kept D) (u v : Standing) (d :
   ended_within false is = absurd is
 
 -- ten calls at the most
-pub fallen_within : {D : Type 0} (view : D → DiskView) (old : Up D) (u : Standing) (t : Turn) (w : Fallen D) → HandlesEvent view old u t (Down w) →
+pub fallen_within : {D : Type 0} (view : D → DiskView) (old : Up D) (u : OnDisk) (t : Turn) (w : Fallen D) → HandlesEvent view old u t (Down w) →
     (view w.disk).time ≤ (view old.store.disk).time + 10
 fallen_within view old u t w is =
     let k : Kept _ = (let s = old.store in record s { disk = is.disk }) in

@@ -92,7 +92,7 @@ impl<D: Disk> Engine<D> {
     ghost use Rattle.cg_step.specs.Step.{replica_step};
     ghost use Rattle.cg_step.specs.Commit.{commits};
     ghost use Rattle.cg_disk.specs.View.{IsAtRest};
-    ghost use Rattle.cg_store.specs.Stands.{Standing, Stands};
+    ghost use Rattle.cg_store.specs.Stands.{OnDisk, Stands};
     ghost use Rattle.cg_engine.specs.Engines.{IsEngine};
     ghost use Rattle.cg_engine.specs.Answers.{Starts, EndsEvent, HandlesEvent, Recovers, Falls};
     ghost use Rattle.cg_engine.specs.declared.answers.Handled.TheVariants.{Running as RunningOn};
@@ -142,7 +142,7 @@ impl<D: Disk> Engine<D> {
         // No two actions have one name, of those that the replica waits with and of those that come.
         requires booked { (book : ActionId → Action) × AreBooked book self.replica.held (input_of input) }
 
-        ensures { (u : Standing) → Stands self.store.id (D.view self.store.disk).reads u →
+        ensures { (u : OnDisk) → Stands self.store.id (D.view self.store.disk).reads u →
             HandlesEvent D.view self u (replica_step self.replica (input_of input)) result }
     {
         what_is_held_agrees();
@@ -159,7 +159,7 @@ impl<D: Disk> Engine<D> {
 
     // Memory was refused before the first device call.
     fn refuse(alloc: Global, store: Store<D>, count: u64) -> Handled<D>
-        ensures { (u : Standing) (t : Turn) (written : Bool) → Stands store.id (D.view store.disk).reads u → EndsEvent D.view store count u t written result }
+        ensures { (u : OnDisk) (t : Turn) (written : Bool) → Stands store.id (D.view store.disk).reads u → EndsEvent D.view store count u t written result }
     {
         let id = store.id();
         let green = Row::new(alloc);
@@ -169,8 +169,8 @@ impl<D: Disk> Engine<D> {
     // The step was made: the event ends.
     fn end(alloc: Global, store: Store<D>, replica: Replica, draft: Draft, count: u64) -> Handled<D>
         requires calls { (D.view store.disk).time + 10 ≤ 2 ^ 62 }
-        requires may { (u : Standing) → Stands store.id (D.view store.disk).reads u → MayEnd store.unwritten u (turn_of replica draft) }
-        ensures { (u : Standing) → Stands store.id (D.view store.disk).reads u → (let t = turn_of replica draft in EndsEvent D.view store count u t (commits u.content t) result) }
+        requires may { (u : OnDisk) → Stands store.id (D.view store.disk).reads u → MayEnd store.unwritten u (turn_of replica draft) }
+        ensures { (u : OnDisk) → Stands store.id (D.view store.disk).reads u → (let t = turn_of replica draft in EndsEvent D.view store count u t (commits u.content t) result) }
     {
         match Row::from_slice(alloc, draft.green().as_slice()) {
             Ok(green) => Engine::write(store, replica, draft, Last { count, green }),
@@ -185,9 +185,9 @@ impl<D: Disk> Engine<D> {
     // The commit, and what follows it.
     fn write(store: Store<D>, replica: Replica, draft: Draft, last: Last) -> Handled<D>
         requires calls { (D.view store.disk).time + 10 ≤ 2 ^ 62 }
-        requires may { (u : Standing) → Stands store.id (D.view store.disk).reads u → MayEnd store.unwritten u (turn_of replica draft) }
+        requires may { (u : OnDisk) → Stands store.id (D.view store.disk).reads u → MayEnd store.unwritten u (turn_of replica draft) }
         requires named { last.green ≡ draft.green }
-        ensures { (u : Standing) → Stands store.id (D.view store.disk).reads u → (let t = turn_of replica draft in EndsEvent D.view store last.count u t (commits u.content t) result) }
+        ensures { (u : OnDisk) → Stands store.id (D.view store.disk).reads u → (let t = turn_of replica draft in EndsEvent D.view store last.count u t (commits u.content t) result) }
     {
         let id = store.id();
         match store.commit(replica.core(), draft) {
@@ -202,8 +202,8 @@ impl<D: Disk> Engine<D> {
     // Behind a commit the white count rises, and a checkpoint may follow.
     fn go_on(store: Store<D>, replica: Replica, outputs: Outputs, last: Last) -> Handled<D>
         requires calls { (D.view store.disk).time + 6 ≤ 2 ^ 62 }
-        requires may { (w : Standing) → Stands store.id (D.view store.disk).reads w → MayGoOn outputs.written store.unwritten w replica.held }
-        ensures { (w : Standing) → Stands store.id (D.view store.disk).reads w → GoesOn D.view store w replica outputs last result }
+        requires may { (w : OnDisk) → Stands store.id (D.view store.disk).reads w → MayGoOn outputs.written store.unwritten w replica.held }
+        ensures { (w : OnDisk) → Stands store.id (D.view store.disk).reads w → GoesOn D.view store w replica outputs last result }
     {
         // its clause says that the disk stands for a state
         let _id = store.id();
@@ -219,8 +219,8 @@ impl<D: Disk> Engine<D> {
     // The checkpoint, where the side is too long.
     fn save(store: Store<D>, replica: Replica, outputs: Outputs, last: Last) -> Handled<D>
         requires calls { (D.view store.disk).time + 6 ≤ 2 ^ 62 }
-        requires may { (w : Standing) → Stands store.id (D.view store.disk).reads w → MaySave store.unwritten w replica.held }
-        ensures { (w : Standing) → Stands store.id (D.view store.disk).reads w → Saves D.view store w replica outputs last result }
+        requires may { (w : OnDisk) → Stands store.id (D.view store.disk).reads w → MaySave store.unwritten w replica.held }
+        ensures { (w : OnDisk) → Stands store.id (D.view store.disk).reads w → Saves D.view store w replica outputs last result }
     {
         let id = store.id();
         if !store.is_long() {

@@ -7,7 +7,7 @@ use Rattle.cg_journal.specs.Fresh.{IsLostWithin, IsRefusedWithin}
 use Rattle.cg_stored.specs.Agreeing.{Agrees}
 use Rattle.cg_store.specs.Answers.{IsReached}
 use Rattle.cg_store.specs.Kept.{Kept}
-use Rattle.cg_store.specs.Stands.{Standing}
+use Rattle.cg_store.specs.Stands.{OnDisk}
 use Rattle.cg_store.specs.declared.errors.CommitErr.{CommitErr}
 use Rattle.cg_store.specs.declared.errors.CommitErr.TheVariants.{Lost as LostInCommit, NoMemory as NoMemoryInCommit}
 use Rattle.cg_join.specs.declared.errors.FinishErr.{FinishErr}
@@ -38,7 +38,7 @@ ended (Err (LostInCommit disk)) = Err (Lost disk)
 ended (Err (NoMemoryInCommit disk)) = Err (NoMemory disk)
 
 -- the disk was made, in seven calls, and stands for this; after an error it may be no replica's disk
-abbrev pub Finishes : {D : Type 0} → (D → DiskView) → ℕ → Standing → DiskView → Result D (FinishErr D) → Type 0
+abbrev pub Finishes : {D : Type 0} → (D → DiskView) → ℕ → OnDisk → DiskView → Result D (FinishErr D) → Type 0
 Finishes view id after old (Ok disk) = IsReached id 7 after old (view disk)
 Finishes view id after old (Err (Lost disk)) = IsLostWithin 7 old (view disk)
 Finishes view id after old (Err (NoMemory disk)) = IsRefusedWithin 7 old (view disk)

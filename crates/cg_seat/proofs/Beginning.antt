@@ -10,7 +10,7 @@ use Rattle.cg_journal.specs.Strikes.{strike_of, IsUnstruck}
 use Rattle.cg_client.specs.Replica.{fresh_held}
 use Rattle.cg_step.specs.Crash.{Disk, new_disk}
 use Rattle.cg_store.specs.Defined.{EndsAsDefined}
-use Rattle.cg_store.specs.Stands.{Standing, Stands, created, disk_of}
+use Rattle.cg_store.specs.Stands.{OnDisk, Stands, created, disk_of}
 use Rattle.cg_engine.specs.Answers.{IsStarted}
 use Rattle.cg_engine.specs.Defined.{strike_from}
 use Rattle.cg_engine.specs.Engines.{Up as UpEngine}
@@ -29,7 +29,7 @@ stays_unarmed old new s z unstruck before none behind =
     same ∙ none
 
 -- a disk on which this is armed
-abbrev armed_so : List Action → Standing → Option DiskStrike → ℕ → List ℕ → Disk
+abbrev armed_so : List Action → OnDisk → Option DiskStrike → ℕ → List ℕ → Disk
 armed_so unwritten u strike now fill = let d = disk_of unwritten u in record d { armed = option_map (strike_from now fill) strike }
 
 pub starts_so : {D : Type 0} (view : D → DiskView) → EndsAsDefined → (id : ℕ) (set : List Weighted) (old : DiskView) (e : UpEngine D) (fill : List ℕ) (z : DiskState) →

@@ -7,7 +7,7 @@ use Rattle.cg_disk.specs.State.{SideState, DiskState, synced_side, filled_from, 
 use Rattle.cg_disk.specs.View.{DiskView, IsView, IsSynced, IsAtRest}
 use Rattle.cg_client.specs.Replica.{Held}
 use Rattle.cg_step.specs.Crash.{at_rest}
-use Rattle.cg_store.specs.Stands.{Standing, Stands, disk_of}
+use Rattle.cg_store.specs.Stands.{OnDisk, Stands, disk_of}
 use Rattle.cg_engine.specs.Answers.{Falls}
 use Rattle.cg_engine.specs.Engines.{Up as UpEngine, Fallen, told}
 use Rattle.cg_agree.specs.World.{Down}
@@ -44,7 +44,7 @@ told_empty w h none = at (nat_lt w.count (green_count h.queue)) where
 -- ---- the crash
 
 module _ {D : Type 0} (view : D → DiskView) (e : UpEngine D) (w : Fallen D) (falls : Falls e w) (is : IsView (view e.store.disk)) (rest : IsAtRest (view e.store.disk))
-    (s : DiskState) (state : (view e.store.disk).state ≡ Some s) (u : Standing) (stands : Stands e.store.id (view e.store.disk).reads u) where
+    (s : DiskState) (state : (view e.store.disk).state ≡ Some s) (u : OnDisk) (stands : Stands e.store.id (view e.store.disk).reads u) where
   pub falls_to : FallsTo view w [] u
   falls_to =
       let clean : IsSynced s = subst (λ x. IfSome x IsSynced) state rest.clean in

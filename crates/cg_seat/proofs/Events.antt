@@ -15,7 +15,7 @@ use Rattle.cg_step.specs.Recorded.{AlwaysHolds, AlwaysCounts, AreBooked}
 use Rattle.cg_step.specs.Step.{Input, replica_step}
 use Rattle.cg_store.specs.Calls.{Commits, EndsLong, outputs_of}
 use Rattle.cg_store.specs.Kept.{Kept}
-use Rattle.cg_store.specs.Stands.{Standing, Stands, disk_of, committed, checkpointed}
+use Rattle.cg_store.specs.Stands.{OnDisk, Stands, disk_of, committed, checkpointed}
 use Rattle.cg_store.specs.declared.outputs.Outputs.{Outputs}
 use Rattle.cg_engine.specs.Answers.{parts_of, replica_behind, EndsEvent, HandlesEvent}
 use Rattle.cg_engine.specs.Defined.{EndsAsDefined, HandlesAsDefined}
@@ -31,7 +31,7 @@ use Rattle.cg_seat.specs.SeenLaws.{disk-seen, state-at}
 abbrev pub gone_on : {D : Type 0} → (D → DiskView) → UpEngine D → List ℕ → Outputs → Seat × Option Spoken
 gone_on view e fill o = (up_seen view e fill, Some (said o e.replica.held))
 
-abbrev pub fallen_down : {D : Type 0} → Fallen D → Standing → Seat × Option Spoken
+abbrev pub fallen_down : {D : Type 0} → Fallen D → OnDisk → Seat × Option Spoken
 fallen_down w u = (fallen w u, None)
 
 module _ {D : Type 0} (view : D → DiskView) (law : HandlesAsDefined view) (holds : AlwaysHolds) (counts : AlwaysCounts) (old : UpEngine D) (fill : List ℕ) (input : Input) (book : ActionId → Action) (s : DiskState)
@@ -56,7 +56,7 @@ module _ {D : Type 0} (view : D → DiskView) (law : HandlesAsDefined view) (hol
   -- ---- it goes on
 
   -- whose the store is, and what was given out
-  given_in_write : (e : UpEngine D) (o : Outputs) (mid : D) (v : Standing) (long : Bool) →
+  given_in_write : (e : UpEngine D) (o : Outputs) (mid : D) (v : OnDisk) (long : Bool) →
       Either long (EndsLong view (store_at mid) is.standing v (checkpointed v) (parts_of turn) (Ok (e.store, o))) (Commits view (store_at mid) is.standing v (parts_of turn) (Ok (e.store, o))) →
       (e.store.id ≡ old.store.id) × (o ≡ outputs_of true (parts_of turn))
   given_in_write e o mid v true ends = (ends.1, ends.3)
@@ -91,7 +91,7 @@ module _ {D : Type 0} (view : D → DiskView) (law : HandlesAsDefined view) (hol
   -- ---- or it falls
 
   pub falls_down : (w : Fallen D) → HandlesEvent view old is.standing turn (handled.Down w) →
-      (u : Standing) × FallsTo view w fill u × (fallen_down w u ≡ taken old.store.id input (Up old.replica disk_before))
+      (u : OnDisk) × FallsTo view w fill u × (fallen_down w u ≡ taken old.store.id input (Up old.replica disk_before))
   falls_down w handles =
       let fell = ends_seen (handled.Down w) handles in
       let u = fell.standing in
@@ -100,7 +100,7 @@ module _ {D : Type 0} (view : D → DiskView) (law : HandlesAsDefined view) (hol
       (u, falls, (λ i. (seat (id_is i) (Down (disk_of [] u) (told w u.content)), None)) ∙ ap wanted (sym fell.is))
 
 -- what is answered of each state that a crash leaves is answered of this one
-pub fallen_so : {D E : Type 0} (view : D → DiskView) (w : Fallen D) (fill : List ℕ) (u : Standing) → FallsTo view w fill u → (result : Result (Seat × Option Spoken) E) (wanted : Seat × Option Spoken) → fallen_down w u ≡ wanted →
-    IfOk result (λ x. (u : Standing) → FallsTo view w fill u → x ≡ fallen_down w u) → IfOk result (λ x. x ≡ wanted)
+pub fallen_so : {D E : Type 0} (view : D → DiskView) (w : Fallen D) (fill : List ℕ) (u : OnDisk) → FallsTo view w fill u → (result : Result (Seat × Option Spoken) E) (wanted : Seat × Option Spoken) → fallen_down w u ≡ wanted →
+    IfOk result (λ x. (u : OnDisk) → FallsTo view w fill u → x ≡ fallen_down w u) → IfOk result (λ x. x ≡ wanted)
 fallen_so view w fill u falls (Ok x) wanted is each = each u falls ∙ is
 fallen_so view w fill u falls (Err fault) wanted is each = tt

@@ -1,11 +1,11 @@
 -- What is known of the disk of a replica that is down.
 use Rattle.std.specs.Prelude.{◌≡◌, ◌≤◌, ◌+◌, ◌^◌, ℕ, None, IfSome}
 use Rattle.cg_disk.specs.View.{DiskView, IsAtRest}
-use Rattle.cg_store.specs.Stands.{Standing, Stands}
+use Rattle.cg_store.specs.Stands.{OnDisk, Stands}
 
 -- the disk stands for a state, nothing on it is unsynced, nothing is armed, and there is room for the calls of a recovery
 pub record IsResting (d : DiskView) (id : ℕ) : Type 0 where
-  pub standing : Standing
+  pub standing : OnDisk
   pub stands : Stands id d.reads standing
   pub rest : IsAtRest d
   pub unarmed : IfSome d.state (λ s. s.strike ≡ None)

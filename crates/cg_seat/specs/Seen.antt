@@ -10,7 +10,7 @@ use Rattle.cg_journal.specs.Records.{records}
 use Rattle.cg_queue.specs.Queue.{green_count}
 use Rattle.cg_client.specs.Replica.{Held, fresh_held}
 use Rattle.cg_step.specs.Crash.{Disk}
-use Rattle.cg_store.specs.Stands.{Standing, Stands, stands_for, created, disk_of}
+use Rattle.cg_store.specs.Stands.{OnDisk, Stands, stands_for, created, disk_of}
 use Rattle.cg_store.specs.declared.outputs.Outputs.{Outputs}
 use Rattle.cg_engine.specs.Engines.{Up as UpEngine, Fallen, told}
 use Rattle.cg_engine.specs.Defined.{account}
@@ -20,7 +20,7 @@ use Rattle.cg_seat.specs.declared.life.Life.{Life}
 use Rattle.cg_seat.specs.declared.life.Life.TheVariants.{Up as UpHeld, Down as DownHeld}
 
 -- what the bytes of a replica's disk stand for, or any state where they stand for none
-abbrev pub standing_at : ℕ → Image → Standing
+abbrev pub standing_at : ℕ → Image → OnDisk
 standing_at id image = unwrap_or (stands_for id (records image)) (created (fresh_held 1 []))
 
 -- the state that a disk tells, or any where it tells none
@@ -51,10 +51,10 @@ seen (DownHeld w) = down_seen view_of w
 -- ---- a crash
 
 -- a crash with this fill leaves a disk that stands for this
-abbrev pub FallsTo : {D : Type 0} → (D → DiskView) → Fallen D → List ℕ → Standing → Type 0
+abbrev pub FallsTo : {D : Type 0} → (D → DiskView) → Fallen D → List ℕ → OnDisk → Type 0
 FallsTo view w fill u = Stands w.id (left_by (state_at (view w.disk)) fill) u
 
-abbrev pub fallen : {D : Type 0} → Fallen D → Standing → Seat
+abbrev pub fallen : {D : Type 0} → Fallen D → OnDisk → Seat
 fallen w u = seat w.id (Down (disk_of [] u) (told w u.content))
 
 -- ---- what it says

@@ -1,5 +1,5 @@
 ghost use Rattle.std.specs.Prelude.{◌≡◌, ◌≤◌, ◌+◌, ◌^◌, IfOk};
-ghost use Rattle.cg_store.specs.Stands.{Standing};
+ghost use Rattle.cg_store.specs.Stands.{OnDisk};
 ghost use Rattle.cg_seat.specs.Seen.{seen, up_seen, down_seen, FallsTo, fallen};
 
 use crate::life::Life;
@@ -52,9 +52,9 @@ impl Seat {
     // The wreck of a replica that is up has its crash, which leaves these bytes in places that weren't synced. It takes
     // memory for the bytes of the disk alone.
     pub(crate) fn fall(wreck: Wreck<ModelDisk>, fill: &[u8]) -> Result<Seat, NoMemory>
-        requires falls { (u : Standing) × FallsTo (⟦<ModelDisk as Disk>⟧.view) wreck fill.now u }
+        requires falls { (u : OnDisk) × FallsTo (⟦<ModelDisk as Disk>⟧.view) wreck fill.now u }
         requires room { (⟦<ModelDisk as Disk>⟧.view wreck.disk).time + 5 ≤ 2 ^ 62 }
-        ensures { IfOk result (λ s. (u : Standing) → FallsTo (⟦<ModelDisk as Disk>⟧.view) wreck fill.now u → s ≡ fallen wreck u) }
+        ensures { IfOk result (λ s. (u : OnDisk) → FallsTo (⟦<ModelDisk as Disk>⟧.view) wreck fill.now u → s ≡ fallen wreck u) }
     {
         let wreck = wreck.image(fill)?;
         Ok(Seat::down(Resting::new(wreck)))

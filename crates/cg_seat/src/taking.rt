@@ -9,7 +9,7 @@ ghost use Rattle.cg_step.specs.Recorded.{AreBooked};
 ghost use Rattle.cg_step.specs.Step.{Deliveries, Asks};
 ghost use Rattle.cg_agree.specs.World.{Up};
 ghost use Rattle.cg_seat.specs.Calls.{begun, taken, IsBookedFor};
-ghost use Rattle.cg_store.specs.Stands.{Standing};
+ghost use Rattle.cg_store.specs.Stands.{OnDisk};
 ghost use Rattle.cg_seat.specs.Seen.{disk_seen, up_seen, FallsTo, fallen, said};
 
 use crate::life::Life;
@@ -153,9 +153,9 @@ fn go_on(engine: Engine<ModelDisk>, fill: Bytes, outputs: Outputs) -> (Seat, Opt
 
 // The event ended in its crash.
 fn fall(wreck: Wreck<ModelDisk>, fill: Bytes) -> Result<(Seat, Option<Spoken>), NoMemory>
-    requires falls { (u : Standing) × FallsTo (⟦<ModelDisk as Disk>⟧.view) wreck fill u }
+    requires falls { (u : OnDisk) × FallsTo (⟦<ModelDisk as Disk>⟧.view) wreck fill u }
     requires room { (⟦<ModelDisk as Disk>⟧.view wreck.disk).time + 5 ≤ 2 ^ 62 }
-    ensures { IfOk result (λ x. (u : Standing) → FallsTo (⟦<ModelDisk as Disk>⟧.view) wreck fill u → x ≡ (fallen wreck u, None)) }
+    ensures { IfOk result (λ x. (u : OnDisk) → FallsTo (⟦<ModelDisk as Disk>⟧.view) wreck fill u → x ≡ (fallen wreck u, None)) }
 {
     let seat = Seat::fall(wreck, fill.as_slice())?;
     Ok((seat, None))

@@ -18,7 +18,7 @@ use Rattle.cg_records.specs.declared.stable.Stable.{Stable}
 use Rattle.cg_stored.specs.Stored.{Stored}
 use Rattle.cg_stored.specs.Checkpoint.{size_with, empty_size}
 use Rattle.cg_stored.specs.Parts.{checkpoint_in}
-use Rattle.cg_store.specs.Stands.{Standing, stands_for, Stands, moved, begun}
+use Rattle.cg_store.specs.Stands.{OnDisk, stands_for, Stands, moved, begun}
 use Rattle.cg_store.specs.Kept.{Kept, IsStore}
 use Rattle.cg_store.specs.Answers.{IsReached, IsRefused, IsLost, EachMoment}
 use Rattle.cg_store.specs.Due.{IsLed, IsBehind}
@@ -30,30 +30,30 @@ use Rattle.cg_store.proofs.Writing.{either_of, reached, lost, lost_closing}
 use Rattle.cg_journal.specs.ViewLaws.{weakened}
 
 -- a store's own record of what its disk stands for
-abbrev pub standing_at : (side : Side) (generation size : ℕ) (content : Stored) → Standing
+abbrev pub standing_at : (side : Side) (generation size : ℕ) (content : Stored) → OnDisk
 standing_at side generation size content = record { side = side; generation = generation; size = size; content = content }
 
 module _ (old : DiskView) (id : ℕ) (side : Side) (generation : ℕ) (values : Stable) (held : IsStore old id side generation values) where
-  pub its_standing : Standing
+  pub its_standing : OnDisk
   its_standing = standing_at side generation held.size held.content
 
-  pub its_side : (u : Standing) → Stands id old.reads u → u.side ≡ side
-  its_side u stands = ap (λ (x : Standing). x.side) (one_standing (stands_for id (records old.reads)) u (standing_at side generation held.size held.content) stands held.stands)
+  pub its_side : (u : OnDisk) → Stands id old.reads u → u.side ≡ side
+  its_side u stands = ap (λ (x : OnDisk). x.side) (one_standing (stands_for id (records old.reads)) u (standing_at side generation held.size held.content) stands held.stands)
 
-  pub its_generation : (u : Standing) → Stands id old.reads u → u.generation ≡ generation
-  its_generation u stands = ap (λ (x : Standing). x.generation) (one_standing (stands_for id (records old.reads)) u (standing_at side generation held.size held.content) stands held.stands)
+  pub its_generation : (u : OnDisk) → Stands id old.reads u → u.generation ≡ generation
+  its_generation u stands = ap (λ (x : OnDisk). x.generation) (one_standing (stands_for id (records old.reads)) u (standing_at side generation held.size held.content) stands held.stands)
 
-  pub its_content : (u : Standing) → Stands id old.reads u → u.content ≡ held.content
-  its_content u stands = ap (λ (x : Standing). x.content) (one_standing (stands_for id (records old.reads)) u (standing_at side generation held.size held.content) stands held.stands)
+  pub its_content : (u : OnDisk) → Stands id old.reads u → u.content ≡ held.content
+  its_content u stands = ap (λ (x : OnDisk). x.content) (one_standing (stands_for id (records old.reads)) u (standing_at side generation held.size held.content) stands held.stands)
 
   -- ---- a change behind the others
 
-  behind_stands : (due : Due) (u v : Standing) → Stands id old.reads u → IsBehind u (Some due) v → stands_for id (with_record side due.body old) ≡ Some v
+  behind_stands : (due : Due) (u v : OnDisk) → Stands id old.reads u → IsBehind u (Some due) v → stands_for id (with_record side due.body old) ≡ Some v
   behind_stands due u v stands behind =
       subst (λ x. stands_for id (option_map (added x due.body) (records old.reads)) ≡ Some v) (its_side u stands)
       (stands_added id (records old.reads) due.body u behind.0 stands behind.1 ∙ ap Some (sym behind.2))
 
-  pub written_held : (due : Due) (new : DiskView) → IsDone (with_record side due.body old) 4 old new → ((u : Standing) → Stands id old.reads u → IsLed u due) → IsStore new id side generation due.values
+  pub written_held : (due : Due) (new : DiskView) → IsDone (with_record side due.body old) 4 old new → ((u : OnDisk) → Stands id old.reads u → IsLed u due) → IsStore new id side generation due.values
   written_held due new done leads =
       let u = standing_at side generation held.size held.content in
       let goes = leads u held.stands in
@@ -66,17 +66,17 @@ module _ (old : DiskView) (id : ℕ) (side : Side) (generation : ℕ) (values : 
         rest = done.rest;
       }
 
-  pub written_reached : (due : Due) (new : DiskView) (u v : Standing) → IsDone (with_record side due.body old) 4 old new → Stands id old.reads u → IsBehind u (Some due) v → IsReached id 4 v old new
+  pub written_reached : (due : Due) (new : DiskView) (u v : OnDisk) → IsDone (with_record side due.body old) 4 old new → Stands id old.reads u → IsBehind u (Some due) v → IsReached id 4 v old new
   written_reached due new u v done stands behind = reached id 4 (with_record side due.body old) v old new done (behind_stands due u v stands behind)
 
-  pub written_lost : (due : Due) (new : DiskView) (u v : Standing) → IsLostAppend side due.body old new → Stands id old.reads u → IsBehind u (Some due) v → IsLost id 0 u v old new
+  pub written_lost : (due : Due) (new : DiskView) (u v : OnDisk) → IsLostAppend side due.body old new → Stands id old.reads u → IsBehind u (Some due) v → IsLost id 0 u v old new
   written_lost due new u v is stands behind =
       lost id 0 is.call side is.gate (records old.reads) (with_record side due.body old) u v old new is.lost stands (behind_stands due u v stands behind)
 
-  pub written_refused : (new : DiskView) (u : Standing) → IsJournalRefused (λ r. r ≡ records old.reads) 2 old new → Stands id old.reads u → IsRefused id 2 u old new
+  pub written_refused : (new : DiskView) (u : OnDisk) → IsJournalRefused (λ r. r ≡ records old.reads) 2 old new → Stands id old.reads u → IsRefused id 2 u old new
   written_refused new u is stands = record { stands = ap (stands_for id) is.records_new ∙ stands; rest = is.rest; time = is.time; unstruck = is.unstruck }
 
-  pub written_moments : (due : Due) (new : DiskView) (u v : Standing) → LeavesOnly old new (IsOneOf (records old.reads) (with_record side due.body old)) → Stands id old.reads u → IsBehind u (Some due) v →
+  pub written_moments : (due : Due) (new : DiskView) (u v : OnDisk) → LeavesOnly old new (IsOneOf (records old.reads) (with_record side due.body old)) → Stands id old.reads u → IsBehind u (Some due) v →
       LeavesOnly old new (IsEither id u v)
   written_moments due new u v run stands behind =
       weakened old new (IsOneOf (records old.reads) (with_record side due.body old)) (IsEither id u v) run
@@ -84,11 +84,11 @@ module _ (old : DiskView) (id : ℕ) (side : Side) (generation : ℕ) (values : 
 
   -- ---- a checkpoint on the other side
 
-  empty_stands : (u : Standing) → Stands id old.reads u → stands_for id (without_records (opposite side) old) ≡ Some u
+  empty_stands : (u : OnDisk) → Stands id old.reads u → stands_for id (without_records (opposite side) old) ≡ Some u
   empty_stands u stands = subst (λ x. stands_for id (option_map (emptied (opposite x)) (records old.reads)) ≡ Some u) (its_side u stands) (stands_emptied id (records old.reads) u stands)
 
-  module _ (body : List ℕ) (saved : (u : Standing) → Stands id old.reads u → checkpoint_in id body ≡ Some (record { generation = suc u.generation; content = u.content })) where
-    moved_stands : (u : Standing) → Stands id old.reads u → stands_for id (with_record_alone (opposite side) body old) ≡ Some (moved u body)
+  module _ (body : List ℕ) (saved : (u : OnDisk) → Stands id old.reads u → checkpoint_in id body ≡ Some (record { generation = suc u.generation; content = u.content })) where
+    moved_stands : (u : OnDisk) → Stands id old.reads u → stands_for id (with_record_alone (opposite side) body old) ≡ Some (moved u body)
     moved_stands u stands =
         subst (λ x. stands_for id (option_map (added (opposite x) body) (option_map (emptied (opposite x)) (records old.reads))) ≡ Some (moved u body)) (its_side u stands)
         (stands_moved id (records old.reads) body u stands (saved u stands))
@@ -103,10 +103,10 @@ module _ (old : DiskView) (id : ℕ) (side : Side) (generation : ℕ) (values : 
       rest = done.rest;
     }
 
-    pub moved_reached : (new : DiskView) (u : Standing) → IsDone (with_record_alone (opposite side) body old) 6 old new → Stands id old.reads u → IsReached id 6 (moved u body) old new
+    pub moved_reached : (new : DiskView) (u : OnDisk) → IsDone (with_record_alone (opposite side) body old) 6 old new → Stands id old.reads u → IsReached id 6 (moved u body) old new
     moved_reached new u done stands = reached id 6 (with_record_alone (opposite side) body old) (moved u body) old new done (moved_stands u stands)
 
-    pub moved_lost : (new : DiskView) (u : Standing) →
+    pub moved_lost : (new : DiskView) (u : OnDisk) →
         ((call : ℕ) × IsLostClosing call (records old.reads) (without_records (opposite side) old) old new) ⊎ IsLostRestart (opposite side) body old new →
         Stands id old.reads u → IsLost id 0 u u old new ⊎ IsLost id 2 u (moved u body) old new
     moved_lost new u is stands = ⊎_elim
@@ -114,7 +114,7 @@ module _ (old : DiskView) (id : ℕ) (side : Side) (generation : ℕ) (values : 
         (λ writing. inr (lost id 2 writing.call (opposite side) writing.gate (without_records (opposite side) old) (with_record_alone (opposite side) body old) u (moved u body) old new writing.lost (empty_stands u stands) (moved_stands u stands)))
         is
 
-    pub moved_refused : (new : DiskView) (u : Standing) → IsJournalRefused (λ r. (r ≡ records old.reads) ⊎ (r ≡ without_records (opposite side) old)) 4 old new → Stands id old.reads u → IsRefused id 4 u old new
+    pub moved_refused : (new : DiskView) (u : OnDisk) → IsJournalRefused (λ r. (r ≡ records old.reads) ⊎ (r ≡ without_records (opposite side) old)) 4 old new → Stands id old.reads u → IsRefused id 4 u old new
     moved_refused new u is stands = record {
       stands = ⊎_elim (λ e. ap (stands_for id) e ∙ stands) (λ e. ap (stands_for id) e ∙ empty_stands u stands) is.records_new;
       rest = is.rest;
@@ -122,7 +122,7 @@ module _ (old : DiskView) (id : ℕ) (side : Side) (generation : ℕ) (values : 
       unstruck = is.unstruck;
     }
 
-    pub moved_moments : (new : DiskView) (u : Standing) → LeavesOnly old new (IsRestarting (opposite side) body old) → Stands id old.reads u → LeavesOnly old new (IsEither id u (moved u body))
+    pub moved_moments : (new : DiskView) (u : OnDisk) → LeavesOnly old new (IsRestarting (opposite side) body old) → Stands id old.reads u → LeavesOnly old new (IsEither id u (moved u body))
     moved_moments new u run stands =
         weakened old new (IsRestarting (opposite side) body old) (IsEither id u (moved u body)) run
         (λ c one. ⊎_elim (λ two. ⊎_elim (λ e. inl (ap (stands_for id) e ∙ stands)) (λ e. inl (ap (stands_for id) e ∙ empty_stands u stands)) two) (λ e. inr (ap (stands_for id) e ∙ moved_stands u stands)) one)
@@ -155,21 +155,21 @@ module _ (old new : DiskView) (id : ℕ) (body : List ℕ) (empty : records old.
 -- ---- what ended a call of the journal
 
 module _ {D : Type 0} (view : D → DiskView) (k : Kept D) (side : Side) (generation : ℕ) (values : Stable) (held : IsStore (view k.disk) k.id side generation values) where
-  pub written_fails : (due : Due) (u v : Standing) (fault : AppendErr D) → Appends view side due.body (view k.disk) (Err fault) → Stands k.id (view k.disk).reads u → IsBehind u (Some due) v → Writes view k u v (Err (commit_fault fault))
+  pub written_fails : (due : Due) (u v : OnDisk) (fault : AppendErr D) → Appends view side due.body (view k.disk) (Err fault) → Stands k.id (view k.disk).reads u → IsBehind u (Some due) v → Writes view k u v (Err (commit_fault fault))
   written_fails due u v (AppendLost disk) is stands behind = written_lost (view k.disk) k.id side generation values held due (view disk) u v is stands behind
   written_fails due u v (AppendNoMemory journal) is stands behind = written_refused (view k.disk) k.id side generation values held (view journal) u is stands
 
-  pub written_fails_moments : (due : Due) (u v : Standing) (fault : AppendErr D) → EachJournalMoment view (IsOneOf (records (view k.disk).reads) (with_record side due.body (view k.disk))) (view k.disk) (Err fault) →
+  pub written_fails_moments : (due : Due) (u v : OnDisk) (fault : AppendErr D) → EachJournalMoment view (IsOneOf (records (view k.disk).reads) (with_record side due.body (view k.disk))) (view k.disk) (Err fault) →
       Stands k.id (view k.disk).reads u → IsBehind u (Some due) v → EachMoment {T = Kept D} view (λ s. s.disk) (IsEither k.id u v) (view k.disk) (Err (commit_fault fault))
   written_fails_moments due u v (AppendLost disk) is stands behind = written_moments (view k.disk) k.id side generation values held due (view disk) u v is stands behind
   written_fails_moments due u v (AppendNoMemory journal) is stands behind = written_moments (view k.disk) k.id side generation values held due (view journal) u v is stands behind
 
-  module _ (body : List ℕ) (saved : (u : Standing) → Stands k.id (view k.disk).reads u → checkpoint_in k.id body ≡ Some (record { generation = suc u.generation; content = u.content })) where
-    pub moved_fails : (u : Standing) (fault : AppendErr D) → Restarts view (opposite side) body (view k.disk) (Err fault) → Stands k.id (view k.disk).reads u → Moves view k u (moved u body) (Err (commit_fault fault))
+  module _ (body : List ℕ) (saved : (u : OnDisk) → Stands k.id (view k.disk).reads u → checkpoint_in k.id body ≡ Some (record { generation = suc u.generation; content = u.content })) where
+    pub moved_fails : (u : OnDisk) (fault : AppendErr D) → Restarts view (opposite side) body (view k.disk) (Err fault) → Stands k.id (view k.disk).reads u → Moves view k u (moved u body) (Err (commit_fault fault))
     moved_fails u (AppendLost disk) is stands = moved_lost (view k.disk) k.id side generation values held body saved (view disk) u is stands
     moved_fails u (AppendNoMemory journal) is stands = moved_refused (view k.disk) k.id side generation values held body saved (view journal) u is stands
 
-    pub moved_fails_moments : (u : Standing) (fault : AppendErr D) → EachJournalMoment view (IsRestarting (opposite side) body (view k.disk)) (view k.disk) (Err fault) → Stands k.id (view k.disk).reads u →
+    pub moved_fails_moments : (u : OnDisk) (fault : AppendErr D) → EachJournalMoment view (IsRestarting (opposite side) body (view k.disk)) (view k.disk) (Err fault) → Stands k.id (view k.disk).reads u →
         EachMoment {T = Kept D} view (λ s. s.disk) (IsEither k.id u (moved u body)) (view k.disk) (Err (commit_fault fault))
     moved_fails_moments u (AppendLost disk) is stands = moved_moments (view k.disk) k.id side generation values held body saved (view disk) u is stands
     moved_fails_moments u (AppendNoMemory journal) is stands = moved_moments (view k.disk) k.id side generation values held body saved (view journal) u is stands

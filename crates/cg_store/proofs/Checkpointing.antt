@@ -9,7 +9,7 @@ use Rattle.cg_stored.specs.Limits.{IsStored}
 use Rattle.cg_stored.specs.Parts.{checkpoint_in}
 use Rattle.cg_stored.specs.Laws.{IsCheckpoint}
 use Rattle.cg_stored.specs.Agreeing.{Agrees}
-use Rattle.cg_store.specs.Stands.{Standing, stands_for}
+use Rattle.cg_store.specs.Stands.{OnDisk, stands_for}
 use Rattle.cg_store.specs.Calls.{IsSaved}
 use Rattle.cg_store.proofs.Owner.{standing-id}
 
@@ -43,13 +43,13 @@ read_again again id generation h same bytes is small within agrees = again id by
   agrees = agrees;
 })
 
-pub saved : ReadsAgain → (id : ℕ) (found : Option Records) (u : Standing) → stands_for id found ≡ Some u → (h : Held) → stored_of h ≡ u.content → (bytes : List ℕ) → bytes ≡ spelled_checkpoint (suc u.generation) h →
+pub saved : ReadsAgain → (id : ℕ) (found : Option Records) (u : OnDisk) → stands_for id found ≡ Some u → (h : Held) → stored_of h ≡ u.content → (bytes : List ℕ) → bytes ≡ spelled_checkpoint (suc u.generation) h →
     IsNumber (suc u.generation) → IsStored h → Agrees (stored_of h) → checkpoint_in id bytes ≡ Some (record { generation = suc u.generation; content = u.content })
 saved again id found u stands h held bytes is small within agrees =
     read_again again id (suc u.generation) h (ap (λ (s : Stored). s.id) held ∙ standing-id id found u stands) bytes is small within agrees
     ∙ ap (λ (s : Stored). Some (record { generation = suc u.generation; content = s })) held
 
-pub same_bytes : (u : Standing) (h : Held) → stored_of h ≡ u.content → (bytes : List ℕ) → bytes ≡ spelled_checkpoint (suc u.generation) h → bytes ≡ spelled_checkpoint (suc u.generation) u.content
+pub same_bytes : (u : OnDisk) (h : Held) → stored_of h ≡ u.content → (bytes : List ℕ) → bytes ≡ spelled_checkpoint (suc u.generation) h → bytes ≡ spelled_checkpoint (suc u.generation) u.content
 same_bytes u h held bytes is = is ∙ sym (same_spelling (suc u.generation) h) ∙ ap (spelled_checkpoint (suc u.generation)) held
 
 pub first_saved : ReadsAgain → (id : ℕ) (h : Held) → h.id ≡ id → (bytes : List ℕ) → bytes ≡ spelled_checkpoint 1 h → IsStored h → Agrees (stored_of h) → IsSaved id bytes (stored_of h)

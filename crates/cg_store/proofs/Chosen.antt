@@ -8,7 +8,7 @@ use Rattle.cg_journal.specs.Records.{Records, on_side}
 use Rattle.cg_stored.specs.Parts.{Saved, saved_in, stored_in}
 use Rattle.cg_stored.specs.declared.checkpoint.Checkpoint.{Checkpoint}
 use Rattle.cg_step.specs.Recorded.{AlwaysHolds}
-use Rattle.cg_store.specs.Stands.{size_of, live_from, live_on, Standing, standing_on, chosen}
+use Rattle.cg_store.specs.Stands.{size_of, live_from, live_on, OnDisk, standing_on, chosen}
 use Rattle.cg_store.specs.Opening.{first_on, FindsFirst, IsLater, live_of, IsChosen, Replays, Finds}
 use Rattle.cg_store.specs.declared.finding.Found.{Found}
 use Rattle.cg_store.proofs.Sound.{stored-sound, led_all-sound}
@@ -23,11 +23,11 @@ live_some id bodies p finds = live_by_first id bodies ∙ ap (option_map (live_f
 abbrev of_two : List (List ℕ) → List (List ℕ) → Records
 of_two a b = record { a = a; b = b }
 
-is_a : (less : Bool) (x y : Option Standing) → A ≡ (if less then B else A) → (if less then x else y) ≡ y
+is_a : (less : Bool) (x y : Option OnDisk) → A ≡ (if less then B else A) → (if less then x else y) ≡ y
 is_a true x y is = cc
 is_a false x y is = refl
 
-is_b : (less : Bool) (x y : Option Standing) → B ≡ (if less then B else A) → (if less then x else y) ≡ x
+is_b : (less : Bool) (x y : Option OnDisk) → B ≡ (if less then B else A) → (if less then x else y) ≡ x
 is_b true x y is = refl
 is_b false x y is = cc
 

@@ -17,7 +17,7 @@ use Rattle.cg_stored.specs.Limits.{IsChange}
 use Rattle.cg_stored.specs.Parts.{change_in}
 use Rattle.cg_stored.specs.Following.{after_change, IsRecorded}
 use Rattle.cg_step.specs.Commit.{same_values, commits}
-use Rattle.cg_store.specs.Stands.{led_by, Standing, Stands, led, committed}
+use Rattle.cg_store.specs.Stands.{led_by, OnDisk, Stands, led, committed}
 use Rattle.cg_store.specs.Kept.{Kept}
 use Rattle.cg_store.specs.Answers.{IsRefused, EachMoment}
 use Rattle.cg_store.specs.Due.{is_due, IsRecord, IsPrepared, IsReady, IsLed, IsBehind, WhetherDue}
@@ -57,7 +57,7 @@ leads_to : ReadsAgain → (s : Stored) (unwritten : List Action) (h : Held) (d :
 leads_to again s unwritten h d state due is recorded =
     ap (led_by s) is.body ∙ ap (option_and_then (after_change s)) (again (change_of unwritten (turn_with h state d)) is.within) ∙ recorded
 
-pub led_of : ReadsAgain → (u : Standing) (unwritten : List Action) (h : Held) (d : DraftParts) (state : State) (due : Option Due) → IsReady u.content unwritten h d state due → IsRecorded u.content unwritten (turn_with h state d) →
+pub led_of : ReadsAgain → (u : OnDisk) (unwritten : List Action) (h : Held) (d : DraftParts) (state : State) (due : Option Due) → IsReady u.content unwritten h d state due → IsRecorded u.content unwritten (turn_with h state d) →
     IfSome due (IsLed u)
 led_of again u unwritten h d state None is recorded = tt
 led_of again u unwritten h d state (Some due) is recorded = record {
@@ -66,7 +66,7 @@ led_of again u unwritten h d state (Some due) is recorded = record {
   values = is.1.values ∙ values_behind h;
 }
 
-pub behind_of : ReadsAgain → (u : Standing) (unwritten : List Action) (h : Held) (d : DraftParts) (state : State) (due : Option Due) → IsReady u.content unwritten h d state due → IsRecorded u.content unwritten (turn_with h state d) →
+pub behind_of : ReadsAgain → (u : OnDisk) (unwritten : List Action) (h : Held) (d : DraftParts) (state : State) (due : Option Due) → IsReady u.content unwritten h d state due → IsRecorded u.content unwritten (turn_with h state d) →
     IsBehind u due (committed unwritten (turn_with h state d) u)
 behind_of again u unwritten h d state None is recorded = tt
 behind_of again u unwritten h d state (Some due) is recorded =
@@ -79,7 +79,7 @@ whether_of s unwritten h d state (Some due) A B is a = subst (λ x. Either x A B
 -- ---- outputs behind a call
 
 module _ {D : Type 0} (view : D → DiskView) where
-  pub paired_writes : (k : Kept D) (u v : Standing) (d : DraftParts) (r : Result (Kept D) (CommitErr D)) (o : Outputs) → o ≡ outputs_of true d → Writes view k u v r → Commits view k u v d (paired r o)
+  pub paired_writes : (k : Kept D) (u v : OnDisk) (d : DraftParts) (r : Result (Kept D) (CommitErr D)) (o : Outputs) → o ≡ outputs_of true d → Writes view k u v r → Commits view k u v d (paired r o)
   paired_writes k u v d (Ok store) o same is = (is, same)
   paired_writes k u v d (Err (Lost disk)) o same is = is
   paired_writes k u v d (Err (NoMemory disk)) o same is = is
@@ -94,13 +94,13 @@ unstruck_same d is = record { faults = refl; stays = refl; ahead = told d.state 
     told (Some s) ahead = ahead
 
 -- memory was refused before the first call
-module _ {D : Type 0} (view : D → DiskView) (k : Kept D) (is_view : IsView (view k.disk)) (rest : IsAtRest (view k.disk)) (u : Standing) (stands : Stands k.id (view k.disk).reads u) where
+module _ {D : Type 0} (view : D → DiskView) (k : Kept D) (is_view : IsView (view k.disk)) (rest : IsAtRest (view k.disk)) (u : OnDisk) (stands : Stands k.id (view k.disk).reads u) where
   pub refused_first : (most : ℕ) → IsRefused k.id most u (view k.disk) (view k.disk)
   refused_first most = record { stands = stands; rest = rest; time = omega arith; unstruck = unstruck_same (view k.disk) is_view }
 
-  pub refused_ends : (v : Standing) (d : DraftParts) (b : Bool) → Either b (Commits view k u v d (Err (NoMemory k.disk))) (Keeps k d (Err (NoMemory k.disk)))
+  pub refused_ends : (v : OnDisk) (d : DraftParts) (b : Bool) → Either b (Commits view k u v d (Err (NoMemory k.disk))) (Keeps k d (Err (NoMemory k.disk)))
   refused_ends v d true = refused_first 2
   refused_ends v d false = refl
 
-  pub refused_moments : (T : Type 0) (disk_in : T → D) (v : Standing) → EachMoment {T = T} view disk_in (IsEither k.id u v) (view k.disk) (Err (NoMemory k.disk))
+  pub refused_moments : (T : Type 0) (disk_in : T → D) (v : OnDisk) → EachMoment {T = T} view disk_in (IsEither k.id u v) (view k.disk) (Err (NoMemory k.disk))
   refused_moments T disk_in v = unmoved (view k.disk) (IsEither k.id u v) is_view (λ c left. inl (stands_at_rest k.id (view k.disk) u c rest stands left))

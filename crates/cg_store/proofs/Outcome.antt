@@ -6,15 +6,15 @@ use Rattle.cg_journal.specs.Adds.{gate_stands}
 use Rattle.cg_client.specs.Turn.{Turn}
 use Rattle.cg_stored.specs.Stored.{Stored}
 use Rattle.cg_step.specs.Crash.{Strike, Disk, new_disk, with_change, with_checkpoint, is_committed, is_checkpointed, at_rest, crash_outcome}
-use Rattle.cg_store.specs.Stands.{Standing, committed, checkpointed, created, disk_of}
+use Rattle.cg_store.specs.Stands.{OnDisk, committed, checkpointed, created, disk_of}
 use Rattle.cg_store.specs.Defined.{strike_at, EndsAsDefined}
 use Rattle.cg_store.specs.StrikeLaws.{outcome, early_commit, early_checkpoint, late_commit, late_checkpoint}
 
-change_is_written : (unwritten : List Action) (t : Turn) (u : Standing) → disk_of [] (committed unwritten t u) ≡ with_change (disk_of unwritten u) t
+change_is_written : (unwritten : List Action) (t : Turn) (u : OnDisk) → disk_of [] (committed unwritten t u) ≡ with_change (disk_of unwritten u) t
 unfolding with_change
 change_is_written unwritten t u = refl
 
-checkpoint_is_written : (u : Standing) → disk_of [] (checkpointed u) ≡ with_checkpoint (disk_of [] u)
+checkpoint_is_written : (u : OnDisk) → disk_of [] (checkpointed u) ≡ with_checkpoint (disk_of [] u)
 unfolding with_checkpoint
 checkpoint_is_written u = refl
 
@@ -29,7 +29,7 @@ crash_is disk t strike checkpoint commit a b = ap (λ x. outcome disk t x (is_co
 
 -- ---- each of them
 
-module _ (unwritten : List Action) (t : Turn) (u : Standing) where
+module _ (unwritten : List Action) (t : Turn) (u : OnDisk) where
   crashed : (strike : Strike) (checkpoint commit : Bool) → is_checkpointed strike ≡ checkpoint → is_committed strike ≡ commit →
       at_rest (crash_outcome (disk_of unwritten u) t strike) ≡ at_rest (outcome (disk_of unwritten u) t checkpoint commit)
   crashed strike checkpoint commit a b = ap at_rest (crash_is (disk_of unwritten u) t strike checkpoint commit a b)

@@ -14,7 +14,7 @@ use Rattle.cg_stored.specs.declared.change.Change.{Change}
 use Rattle.cg_stored.specs.declared.checkpoint.Checkpoint.{Checkpoint}
 use Rattle.cg_stored.specs.Following.{fits_known, know, turn_green, green_by_name, make, all_of, put_values, with_values, after_change}
 use Rattle.cg_stored.specs.Parts.{Saved, saved_of, saved_in, do_agree, change_in, checkpoint_in}
-use Rattle.cg_store.specs.Stands.{led_by, led_by_all, Live, live_from, live_on, Standing, stands_for}
+use Rattle.cg_store.specs.Stands.{led_by, led_by_all, Live, live_from, live_on, OnDisk, stands_for}
 use Rattle.cg_journal.specs.Records.{Records}
 use Rattle.cg_store.proofs.Standing.{standing_parts}
 
@@ -103,7 +103,7 @@ live-id id (first ∷ changes) l s is content = at (checkpoint_in id first) refl
       led_all-id x.content s changes (ap (λ (y : Live). y.content) same ∙ content) ∙ saved-id id first x e
 
 -- the state is the replica's
-pub standing-id : (id : ℕ) (found : Option Records) (u : Standing) → stands_for id found ≡ Some u → u.content.id ≡ id
+pub standing-id : (id : ℕ) (found : Option Records) (u : OnDisk) → stands_for id found ≡ Some u → u.content.id ≡ id
 standing-id id None u is = cc
 standing-id id (Some r) u is =
     let parts = standing_parts id r u is in

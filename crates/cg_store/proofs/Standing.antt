@@ -14,7 +14,7 @@ use Rattle.cg_journal.specs.Opens.{no_records}
 use Rattle.cg_stored.specs.Stored.{Stored}
 use Rattle.cg_stored.specs.Checkpoint.{size_with, empty_size}
 use Rattle.cg_stored.specs.Parts.{Saved, checkpoint_in}
-use Rattle.cg_store.specs.Stands.{led_by, led_by_all, size_of, Live, live_from, live_on, Standing, standing_on, chosen, standing_in, stands_for, led, moved, begun}
+use Rattle.cg_store.specs.Stands.{led_by, led_by_all, size_of, Live, live_from, live_on, OnDisk, standing_on, chosen, standing_in, stands_for, led, moved, begun}
 
 -- a side of this generation comes before the other one
 abbrev Leads : Side → ℕ → Option Live → Type 0
@@ -28,42 +28,42 @@ of_side A a b = a
 of_side B a b = b
 
 -- a side is in use, and stands for this
-record InUse (side : Side) (a b : Option Live) (u : Standing) : Type 0 where
+record InUse (side : Side) (a b : Option Live) (u : OnDisk) : Type 0 where
   live : Live
   is : of_side side a b ≡ Some live
   leads : Leads side live.generation (of_side (opposite side) a b)
   stands : standing_on side live ≡ Some u
 
 -- what a side stands for has its parts
-record HasParts (side : Side) (generation size : ℕ) (content : Option Stored) (u : Standing) : Type 0 where
+record HasParts (side : Side) (generation size : ℕ) (content : Option Stored) (u : OnDisk) : Type 0 where
   side_is : side ≡ u.side
   generation_is : generation ≡ u.generation
   size_is : size ≡ u.size
   content_is : content ≡ Some u.content
 
-has_parts : (side : Side) (generation size : ℕ) (content : Option Stored) (u : Standing) →
+has_parts : (side : Side) (generation size : ℕ) (content : Option Stored) (u : OnDisk) →
     option_map (λ s. record { side = side; generation = generation; size = size; content = s }) content ≡ Some u → HasParts side generation size content u
 has_parts side generation size None u is = cc
 has_parts side generation size (Some s) u is =
     let same : record { side = side; generation = generation; size = size; content = s } ≡ u = cc in
     record { side_is = λ i. (same i).side; generation_is = λ i. (same i).generation; size_is = λ i. (same i).size; content_is = λ i. Some ((same i).content) }
 
-parts_on : (side : Side) (l : Live) (u : Standing) → standing_on side l ≡ Some u → HasParts side l.generation l.size l.content u
+parts_on : (side : Side) (l : Live) (u : OnDisk) → standing_on side l ≡ Some u → HasParts side l.generation l.size l.content u
 parts_on side l u is = has_parts side l.generation l.size l.content u is
 
 -- the side in use
-use_of_both : (a b : Live) (u : Standing) (later : Bool) → nat_lt a.generation b.generation ≡ later → (if later then standing_on B b else standing_on A a) ≡ Some u →
+use_of_both : (a b : Live) (u : OnDisk) (later : Bool) → nat_lt a.generation b.generation ≡ later → (if later then standing_on B b else standing_on A a) ≡ Some u →
     (side : Side) × InUse side (Some a) (Some b) u
 use_of_both a b u true e is = (B, record { live = b; is = refl; leads = e; stands = is })
 use_of_both a b u false e is = (A, record { live = a; is = refl; leads = e; stands = is })
 
-use_of : (a b : Option Live) (u : Standing) → chosen a b ≡ Some u → (side : Side) × InUse side a b u
+use_of : (a b : Option Live) (u : OnDisk) → chosen a b ≡ Some u → (side : Side) × InUse side a b u
 use_of None None u is = cc
 use_of (Some a) None u is = (A, record { live = a; is = refl; leads = tt; stands = is })
 use_of None (Some b) u is = (B, record { live = b; is = refl; leads = tt; stands = is })
 use_of (Some a) (Some b) u is = use_of_both a b u (nat_lt a.generation b.generation) refl is
 
-in_use : (id : ℕ) (r : Records) (u : Standing) → standing_in id r ≡ Some u → InUse u.side (live_on id r.a) (live_on id r.b) u
+in_use : (id : ℕ) (r : Records) (u : OnDisk) → standing_in id r ≡ Some u → InUse u.side (live_on id r.a) (live_on id r.b) u
 in_use id r u is =
     let found = use_of (live_on id r.a) (live_on id r.b) u is in
     subst (λ side. InUse side (live_on id r.a) (live_on id r.b) u) (parts_on found.0 found.1.live u found.1.stands).side_is found.1
@@ -96,7 +96,7 @@ size_further bodies body = fold-append size_with empty_size bodies (body ∷ [])
 abbrev live_with : ℕ → ℕ → Stored → Live
 live_with generation size s = record { generation = generation; size = size; content = Some s }
 
-live_further : (id : ℕ) (bodies : List (List ℕ)) (body : List ℕ) (l : Live) (u : Standing) (t : Stored) → live_on id bodies ≡ Some l → standing_on u.side l ≡ Some u → led_by u.content body ≡ Some t →
+live_further : (id : ℕ) (bodies : List (List ℕ)) (body : List ℕ) (l : Live) (u : OnDisk) (t : Stored) → live_on id bodies ≡ Some l → standing_on u.side l ≡ Some u → led_by u.content body ≡ Some t →
     live_on id (bodies ++ body ∷ []) ≡ Some (live_with u.generation (size_with u.size body) t)
 live_further id [] body l u t is stands led = cc
 live_further id (first ∷ changes) body l u t is stands led = at (checkpoint_in id first) is
@@ -123,7 +123,7 @@ on_of : (side : Side) (id : ℕ) (r : Records) → of_side side (live_on id r.a)
 on_of A id r = refl
 on_of B id r = refl
 
-standing_added : (id : ℕ) (r : Records) (body : List ℕ) (u : Standing) (t : Stored) → standing_in id r ≡ Some u → led_by u.content body ≡ Some t →
+standing_added : (id : ℕ) (r : Records) (body : List ℕ) (u : OnDisk) (t : Stored) → standing_in id r ≡ Some u → led_by u.content body ≡ Some t →
     standing_in id (added u.side body r) ≡ Some (led u body t)
 standing_added id r body u t is goes =
     let here = in_use id r u is in
@@ -132,18 +132,18 @@ standing_added id r body u t is goes =
     let leads = subst (λ g. Leads u.side g (of_side (opposite u.side) (live_on id r.a) (live_on id r.b))) (parts_on u.side here.live u here.stands).generation_is here.leads in
     added_on u.side id r body l on leads
 
-pub stands_added : (id : ℕ) (found : Option Records) (body : List ℕ) (u : Standing) (t : Stored) → stands_for id found ≡ Some u → led_by u.content body ≡ Some t →
+pub stands_added : (id : ℕ) (found : Option Records) (body : List ℕ) (u : OnDisk) (t : Stored) → stands_for id found ≡ Some u → led_by u.content body ≡ Some t →
     stands_for id (option_map (added u.side body) found) ≡ Some (led u body t)
 stands_added id None body u t is goes = cc
 stands_added id (Some r) body u t is goes = standing_added id r body u t is goes
 
 -- ---- the other side begins anew
 
-emptied_on : (side : Side) (id : ℕ) (r : Records) (u : Standing) → InUse side (live_on id r.a) (live_on id r.b) u → standing_in id (emptied (opposite side) r) ≡ Some u
+emptied_on : (side : Side) (id : ℕ) (r : Records) (u : OnDisk) → InUse side (live_on id r.a) (live_on id r.b) u → standing_in id (emptied (opposite side) r) ≡ Some u
 emptied_on A id r u here = leads_chosen A here.live (live_on id r.a) None here.is tt ∙ here.stands
 emptied_on B id r u here = leads_chosen B here.live None (live_on id r.b) here.is tt ∙ here.stands
 
-pub stands_emptied : (id : ℕ) (found : Option Records) (u : Standing) → stands_for id found ≡ Some u → stands_for id (option_map (emptied (opposite u.side)) found) ≡ Some u
+pub stands_emptied : (id : ℕ) (found : Option Records) (u : OnDisk) → stands_for id found ≡ Some u → stands_for id (option_map (emptied (opposite u.side)) found) ≡ Some u
 stands_emptied id None u is = cc
 stands_emptied id (Some r) u is = emptied_on u.side id r u (in_use id r u is)
 
@@ -161,7 +161,7 @@ alone_on : (side : Side) (id generation : ℕ) (r : Records) (body : List ℕ) (
 alone_on A id generation r body l new was is leads = leads_chosen B new (live_on id r.a) (live_on id (body ∷ [])) is (subst (λ x. Leads B new.generation x) (sym was) leads)
 alone_on B id generation r body l new was is leads = leads_chosen A new (live_on id (body ∷ [])) (live_on id r.b) is (subst (λ x. Leads A new.generation x) (sym was) leads)
 
-pub stands_moved : (id : ℕ) (found : Option Records) (body : List ℕ) (u : Standing) → stands_for id found ≡ Some u → checkpoint_in id body ≡ Some (record { generation = suc u.generation; content = u.content }) →
+pub stands_moved : (id : ℕ) (found : Option Records) (body : List ℕ) (u : OnDisk) → stands_for id found ≡ Some u → checkpoint_in id body ≡ Some (record { generation = suc u.generation; content = u.content }) →
     stands_for id (option_map (added (opposite u.side) body) (option_map (emptied (opposite u.side)) found)) ≡ Some (moved u body)
 stands_moved id None body u is saved = cc
 stands_moved id (Some r) body u is saved =
@@ -179,7 +179,7 @@ stands_begun id body s is = leads_chosen A (live_with 1 (size_with empty_size bo
 -- ---- the parts of what a disk stands for
 
 -- the records of the side in use
-pub record HasSide (id : ℕ) (r : Records) (u : Standing) : Type 0 where
+pub record HasSide (id : ℕ) (r : Records) (u : OnDisk) : Type 0 where
   pub bodies : List (List ℕ)
   pub live : Live
   pub are : bodies ≡ on_side u.side r
@@ -187,7 +187,7 @@ pub record HasSide (id : ℕ) (r : Records) (u : Standing) : Type 0 where
   pub content : live.content ≡ Some u.content
   pub size : live.size ≡ u.size
 
-pub standing_parts : (id : ℕ) (r : Records) (u : Standing) → standing_in id r ≡ Some u → HasSide id r u
+pub standing_parts : (id : ℕ) (r : Records) (u : OnDisk) → standing_in id r ≡ Some u → HasSide id r u
 standing_parts id r u is =
     let here = in_use id r u is in
     let parts = parts_on u.side here.live u here.stands in
@@ -208,7 +208,7 @@ live_size id (first ∷ changes) l is = at (checkpoint_in id first) is where
   at (Some x) is = let same : live_from (first ∷ changes) changes x ≡ l = cc in sym (ap (λ (y : Live). y.size) same)
 
 -- the length of the side in use
-pub standing_size : (id : ℕ) (r : Records) (u : Standing) → standing_in id r ≡ Some u → u.size ≡ size_of (on_side u.side r)
+pub standing_size : (id : ℕ) (r : Records) (u : OnDisk) → standing_in id r ≡ Some u → u.size ≡ size_of (on_side u.side r)
 standing_size id r u is =
     let parts = standing_parts id r u is in
     sym parts.size ∙ live_size id parts.bodies parts.live parts.on ∙ ap size_of parts.are
@@ -227,7 +227,7 @@ size_on n (body ∷ bodies) =
 pub size_is_end : (bodies : List (List ℕ)) → size_of bodies ≡ end_of bodies
 size_is_end bodies = size_on empty_size bodies
 
-pub stands_end : (id : ℕ) (image : Image) (u : Standing) (side : Side) (length : ℕ) → stands_for id (records image) ≡ Some u → u.side ≡ side →
+pub stands_end : (id : ℕ) (image : Image) (u : OnDisk) (side : Side) (length : ℕ) → stands_for id (records image) ≡ Some u → u.side ≡ side →
     ((r : Records) → records image ≡ Some r → length ≡ end_of (on_side side r)) → length ≡ u.size
 stands_end id image u side length stands same ends = at (records image) refl stands
   where

@@ -9,26 +9,26 @@ use Rattle.cg_journal.specs.Records.{Records, records}
 use Rattle.cg_journal.specs.Adds.{IsLostIn, IsEither as IsOneOf, gate_stands}
 use Rattle.cg_journal.specs.Closes.{IsLostClosing}
 use Rattle.cg_journal.specs.Answers.{IsDone}
-use Rattle.cg_store.specs.Stands.{Standing, stands_for, Stands}
+use Rattle.cg_store.specs.Stands.{OnDisk, stands_for, Stands}
 use Rattle.cg_store.specs.Answers.{IsReached, IsCutShort, IsLost}
 use Rattle.cg_store.specs.Calls.{IsEither}
 
 -- ---- one state
 
-either_way : (b : Bool) (id : ℕ) (r before after : Option Records) (u v : Standing) → r ≡ (if b then after else before) → stands_for id before ≡ Some u → stands_for id after ≡ Some v →
+either_way : (b : Bool) (id : ℕ) (r before after : Option Records) (u v : OnDisk) → r ≡ (if b then after else before) → stands_for id before ≡ Some u → stands_for id after ≡ Some v →
     stands_for id r ≡ Some (if b then v else u)
 either_way true id r before after u v is first second = ap (stands_for id) is ∙ second
 either_way false id r before after u v is first second = ap (stands_for id) is ∙ first
 
-pub either_of : (id : ℕ) (before after : Option Records) (u v : Standing) (c : Image) → stands_for id before ≡ Some u → stands_for id after ≡ Some v → IsOneOf before after c → IsEither id u v c
+pub either_of : (id : ℕ) (before after : Option Records) (u v : OnDisk) (c : Image) → stands_for id before ≡ Some u → stands_for id after ≡ Some v → IsOneOf before after c → IsEither id u v c
 either_of id before after u v c first second one = ⊎_elim (λ e. inl (ap (stands_for id) e ∙ first)) (λ e. inr (ap (stands_for id) e ∙ second)) one
 
 -- ---- the parts of an answer
 
-pub reached : (id calls : ℕ) (after : Option Records) (v : Standing) (old new : DiskView) → IsDone after calls old new → stands_for id after ≡ Some v → IsReached id calls v old new
+pub reached : (id calls : ℕ) (after : Option Records) (v : OnDisk) (old new : DiskView) → IsDone after calls old new → stands_for id after ≡ Some v → IsReached id calls v old new
 reached id calls after v old new done is = record { stands = ap (stands_for id) done.records_new ∙ is; rest = done.rest; time = done.time; unstruck = done.unstruck }
 
-pub lost : (id earlier call : ℕ) (side : Side) (gate : ℕ) (before after : Option Records) (u v : Standing) (old new : DiskView) → IsLostIn earlier call side gate before after old new →
+pub lost : (id earlier call : ℕ) (side : Side) (gate : ℕ) (before after : Option Records) (u v : OnDisk) (old new : DiskView) → IsLostIn earlier call side gate before after old new →
     stands_for id before ≡ Some u → stands_for id after ≡ Some v → IsLost id earlier u v old new
 lost id earlier call side gate before after u v old new is first second = record {
   call = call;
@@ -52,17 +52,17 @@ lost id earlier call side gate before after u v old new is first second = record
       });
 }
 
-same_both : (b : Bool) (u : Standing) → u ≡ (if b then u else u)
+same_both : (b : Bool) (u : OnDisk) → u ≡ (if b then u else u)
 same_both true u = refl
 same_both false u = refl
 
-one_of_both : (id : ℕ) (before after : Option Records) (u : Standing) (c : Image) → stands_for id before ≡ Some u → stands_for id after ≡ Some u → IsOneOf before after c → Stands id c u
+one_of_both : (id : ℕ) (before after : Option Records) (u : OnDisk) (c : Image) → stands_for id before ≡ Some u → stands_for id after ≡ Some u → IsOneOf before after c → Stands id c u
 one_of_both id before after u c first second one = ⊎_elim (λ e. ap (stands_for id) e ∙ first) (λ e. ap (stands_for id) e ∙ second) one
 
 if_some : {X : Type 0} (o : Option X) (P : X → Type 0) (x : X) → IfSome o P → o ≡ Some x → P x
 if_some o P x is e = subst (λ p. IfSome p P) e is
 
-pub lost_closing : (id call : ℕ) (side : Side) (before closed : Option Records) (u : Standing) (old new : DiskView) → IsLostClosing call before closed old new →
+pub lost_closing : (id call : ℕ) (side : Side) (before closed : Option Records) (u : OnDisk) (old new : DiskView) → IsLostClosing call before closed old new →
     stands_for id before ≡ Some u → stands_for id closed ≡ Some u → IsLost id 0 u u old new
 lost_closing id call side before closed u old new is first second =
     let stands : (c : Image) → IsOneOf before closed c → Stands id c u = λ c one. one_of_both id before closed u c first second one in
@@ -93,5 +93,5 @@ lost_closing id call side before closed u old new is first second =
 pub unmoved : (d : DiskView) (P : Image → Type 0) → IsView d → ((c : Image) → d.may_leave c → P c) → LeavesOnly d d P
 unmoved d P is here = record { later = omega arith; each = λ c left. here c (is.only_now c left); before = λ t c le left. inl left }
 
-pub stands_at_rest : (id : ℕ) (d : DiskView) (u : Standing) (c : Image) → IsAtRest d → Stands id d.reads u → d.may_leave c → Stands id c u
+pub stands_at_rest : (id : ℕ) (d : DiskView) (u : OnDisk) (c : Image) → IsAtRest d → Stands id d.reads u → d.may_leave c → Stands id c u
 stands_at_rest id d u c rest is left = ap (λ x. stands_for id (records x)) (rest.only c left) ∙ is

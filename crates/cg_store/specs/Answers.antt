@@ -6,37 +6,37 @@ use Rattle.cg_disk.specs.View.{DiskView, IsAtRest, LeavesOnly}
 use Rattle.cg_disk.specs.declared.disk.Side.{Side}
 use Rattle.cg_journal.specs.Adds.{gate_stands}
 use Rattle.cg_journal.specs.Strikes.{IsUnstruck, IsStruck}
-use Rattle.cg_store.specs.Stands.{Standing, Stands}
+use Rattle.cg_store.specs.Stands.{OnDisk, Stands}
 use Rattle.cg_store.specs.declared.errors.CommitErr.{CommitErr}
 use Rattle.cg_store.specs.declared.errors.CommitErr.TheVariants.{Lost, NoMemory}
 
 -- behind so many calls the disk, as it reads and in every image, stands for this
-pub record IsReached (id calls : ℕ) (after : Standing) (old new : DiskView) : Type 0 where
+pub record IsReached (id calls : ℕ) (after : OnDisk) (old new : DiskView) : Type 0 where
   pub stands : Stands id new.reads after
   pub rest : IsAtRest new
   pub time : new.time ≡ old.time + calls
   pub unstruck : IsUnstruck old new
 
 -- memory was refused behind at most so many calls: the disk, as it reads and in every image, stands for this
-pub record IsRefused (id calls : ℕ) (before : Standing) (old new : DiskView) : Type 0 where
+pub record IsRefused (id calls : ℕ) (before : OnDisk) (old new : DiskView) : Type 0 where
   pub stands : Stands id new.reads before
   pub rest : IsAtRest new
   pub time : new.time ≤ old.time + calls
   pub unstruck : IsUnstruck old new
 
 -- the byte at a gate decides what an image stands for
-pub record Decides (id : ℕ) (side : Side) (gate : ℕ) (before after : Standing) (c : Image) : Type 0 where
+pub record Decides (id : ℕ) (side : Side) (gate : ℕ) (before after : OnDisk) (c : Image) : Type 0 where
   pub opened : slice_index (bytes_of side c) gate ≡ 1 → Stands id c after
   pub closed : slice_index (bytes_of side c) gate ≢ 1 → Stands id c before
 
 -- what a disk tells that was struck in one of the four calls of a record: what each fill leaves
-pub record IsCutShort (id call : ℕ) (before after : Standing) (s e : DiskState) : Type 0 where
+pub record IsCutShort (id call : ℕ) (before after : OnDisk) (s e : DiskState) : Type 0 where
   pub strike : Strike
   pub armed : s.strike ≡ Some strike
   pub fills : (fill : List ℕ) → Stands id (left_by e fill) (if gate_stands strike.blow call fill then after else before)
 
 -- behind so many calls one of the four that write a record was struck: the byte at its gate decides
-pub record IsLost (id earlier : ℕ) (before after : Standing) (old new : DiskView) : Type 0 where
+pub record IsLost (id earlier : ℕ) (before after : OnDisk) (old new : DiskView) : Type 0 where
   pub call : ℕ
   pub side : Side
   pub gate : ℕ

@@ -12,7 +12,7 @@ use Rattle.cg_stored.specs.Limits.{IsChange}
 use Rattle.cg_stored.specs.Following.{change_with}
 use Rattle.cg_step.specs.Commit.{commits}
 use Rattle.cg_client.specs.Drafts.{turn_with}
-use Rattle.cg_store.specs.Stands.{Standing, led_by, led}
+use Rattle.cg_store.specs.Stands.{OnDisk, led_by, led}
 use Rattle.cg_store.specs.declared.due.Due.{Due}
 
 abbrev pub same_stable : Stable → Stable → Bool
@@ -41,13 +41,13 @@ IsReady s unwritten h d state None = commits s (turn_with h state d) ≡ false
 IsReady s unwritten h d state (Some due) = (commits s (turn_with h state d) ≡ true) × IsRecord unwritten h d due
 
 -- the record leads from what the disk stands for to a state with these values
-pub record IsLed (u : Standing) (due : Due) : Type 0 where
+pub record IsLed (u : OnDisk) (due : Due) : Type 0 where
   pub state : Stored
   pub leads : led_by u.content due.body ≡ Some state
   pub values : due.values ≡ stable_of state
 
 -- what the disk stands for behind the record, if there is one
-abbrev pub IsBehind : Standing → Option Due → Standing → Type 0
+abbrev pub IsBehind : OnDisk → Option Due → OnDisk → Type 0
 IsBehind u None v = Unit {0}
 IsBehind u (Some due) v = (s : Stored) × (led_by u.content due.body ≡ Some s) × (v ≡ led u due.body s)
 

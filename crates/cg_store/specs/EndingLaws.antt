@@ -9,7 +9,7 @@ use Rattle.cg_client.specs.Replica.{Held}
 use Rattle.cg_client.specs.declared.parts.DraftParts.{DraftParts}
 use Rattle.cg_stored.specs.Stored.{stored_of}
 use Rattle.cg_stored.specs.Checkpoint.{size_limit}
-use Rattle.cg_store.specs.Stands.{Standing, Stands, checkpointed}
+use Rattle.cg_store.specs.Stands.{OnDisk, Stands, checkpointed}
 use Rattle.cg_store.specs.Kept.{Kept}
 use Rattle.cg_store.specs.Answers.{IsReached, IsRefused, IsLost, EachMoment}
 use Rattle.cg_base.specs.Choice.{Either}
@@ -37,7 +37,7 @@ struck_more old mid new first later second = record {
 }
 
 -- a strike in calls behind earlier ones
-pub lost_later : (id calls earlier : ℕ) (u v : Standing) (old mid new : DiskView) → IsUnstruck old mid → mid.time ≡ old.time + calls → IsLost id earlier u v mid new → IsLost id (calls + earlier) u v old new
+pub lost_later : (id calls earlier : ℕ) (u v : OnDisk) (old mid new : DiskView) → IsUnstruck old mid → mid.time ≡ old.time + calls → IsLost id earlier u v mid new → IsLost id (calls + earlier) u v old new
 lost_later id calls earlier u v old mid new first time lost = record {
   call = lost.call;
   side = lost.side;
@@ -55,7 +55,7 @@ lost_later id calls earlier u v old mid new first time lost = record {
       record { strike = cut.strike; armed = sym next.2 ∙ cut.armed; fills = cut.fills };
 }
 
-module _ {D : Type 0} (view : D → DiskView) (k mid : Kept D) (u v : Standing) (d : DraftParts) (id_is : mid.id ≡ k.id) (none : mid.unwritten ≡ []) (first : IsReached k.id 4 v (view k.disk) (view mid.disk)) where
+module _ {D : Type 0} (view : D → DiskView) (k mid : Kept D) (u v : OnDisk) (d : DraftParts) (id_is : mid.id ≡ k.id) (none : mid.unwritten ≡ []) (first : IsReached k.id 4 v (view k.disk) (view mid.disk)) where
   long_ends : (r : Result (Kept D) (CommitErr D)) (o : Outputs) → o ≡ outputs_of true d → Moves view mid v (checkpointed v) r → EndsLong view k u v (checkpointed v) d (paired r o)
   long_ends (Ok store) o same is =
       let done = subst (λ id. IsReached id 6 (checkpointed v) (view mid.disk) (view store.disk)) id_is is.0 in (
@@ -80,7 +80,7 @@ whether_false b A B is x = subst (λ y. Either y A B) (sym is) x
 
 -- ---- the store and the outputs behind a commit, or behind an event that was not to be written
 
-module _ {D : Type 0} (view : D → DiskView) (k mid : Kept D) (u v : Standing) (d : DraftParts) (o : Outputs) where
+module _ {D : Type 0} (view : D → DiskView) (k mid : Kept D) (u v : OnDisk) (d : DraftParts) (o : Outputs) where
   pub commit_stands : Commits view k u v d (Ok (mid, o)) → Stands mid.id (view mid.disk).reads v
   commit_stands is = subst (λ id. Stands id (view mid.disk).reads v) (sym is.0.1) is.0.0.stands
 
@@ -109,12 +109,12 @@ module _ {D : Type 0} (view : D → DiskView) (k mid : Kept D) (u v : Standing) 
   unwritten_by_keep false is written = (refl, is)
 
   -- as a checkpoint behind it asks, a core holds what the disk stands for
-  pub commit_held : (h : Held) → v.content ≡ stored_of h → Commits view k u v d (Ok (mid, o)) → (w : Standing) → Stands mid.id (view mid.disk).reads w → stored_of h ≡ w.content
-  commit_held h content is w stands = sym content ∙ ap (λ (x : Standing). x.content) (stands_once mid.id (view mid.disk).reads v w (commit_stands is) stands)
+  pub commit_held : (h : Held) → v.content ≡ stored_of h → Commits view k u v d (Ok (mid, o)) → (w : OnDisk) → Stands mid.id (view mid.disk).reads w → stored_of h ≡ w.content
+  commit_held h content is w stands = sym content ∙ ap (λ (x : OnDisk). x.content) (stands_once mid.id (view mid.disk).reads v w (commit_stands is) stands)
 
 -- ---- how the event ends
 
-module _ {D : Type 0} (view : D → DiskView) (k : Kept D) (u v : Standing) (d : DraftParts) where
+module _ {D : Type 0} (view : D → DiskView) (k : Kept D) (u v : OnDisk) (d : DraftParts) where
   -- with a checkpoint behind the commit
   pub ends_long : (mid : Kept D) (o : Outputs) (r : Result (Kept D) (CommitErr D)) → Commits view k u v d (Ok (mid, o)) → nat_lt size_limit v.size ≡ true → Moves view mid v (checkpointed v) r → EndsWritten view k u v d (paired r o)
   ends_long mid o r is long moves =
@@ -169,7 +169,7 @@ paired_moments view P old (Ok store) o is = is
 paired_moments view P old (Err (Lost disk)) o is = is
 paired_moments view P old (Err (NoMemory disk)) o is = is
 
-pub event_moments : {D : Type 0} (view : D → DiskView) (k mid : Kept D) (u v w : Standing) (o : Outputs) (r : Result (Kept D) (CommitErr D)) → mid.id ≡ k.id → LeavesOnly (view k.disk) (view mid.disk) (IsEither k.id u v) →
+pub event_moments : {D : Type 0} (view : D → DiskView) (k mid : Kept D) (u v w : OnDisk) (o : Outputs) (r : Result (Kept D) (CommitErr D)) → mid.id ≡ k.id → LeavesOnly (view k.disk) (view mid.disk) (IsEither k.id u v) →
     EachMoment view (λ s. s.disk) (IsEither mid.id v w) (view mid.disk) r → EachMoment view (λ (done : Kept D × Outputs). done.0.disk) (IsOneOfThree k.id u v w) (view k.disk) (paired r o)
 event_moments {D} view k mid u v w o r id_is first second =
     moments_joined k.id u v w view (λ (done : Kept D × Outputs). done.0.disk) (view k.disk) (view mid.disk) (paired r o) first

@@ -3,18 +3,18 @@ use Rattle.std.proofs.Common.{◌≡◌, inl, inr, ⊎_elim, ℕ, Option, Some, 
 use Rattle.cg_disk.specs.Sides.{Image}
 use Rattle.cg_disk.specs.View.{DiskView, LeavesOnly}
 use Rattle.cg_journal.specs.Records.{records}
-use Rattle.cg_store.specs.Stands.{Standing, stands_for, Stands}
+use Rattle.cg_store.specs.Stands.{OnDisk, stands_for, Stands}
 use Rattle.cg_store.specs.Answers.{EachMoment}
 use Rattle.cg_store.specs.Calls.{IsEither, IsOneOfThree}
 use Rattle.cg_store.specs.declared.errors.CommitErr.{CommitErr}
 use Rattle.cg_store.specs.declared.errors.CommitErr.TheVariants.{Lost, NoMemory}
 use Rattle.cg_journal.specs.ViewLaws.{weakened}
 
-pub one_standing : (found : Option Standing) (u v : Standing) → found ≡ Some u → found ≡ Some v → u ≡ v
+pub one_standing : (found : Option OnDisk) (u v : OnDisk) → found ≡ Some u → found ≡ Some v → u ≡ v
 one_standing None u v a b = cc
 one_standing (Some w) u v a b = cc
 
-pub stands_once : (id : ℕ) (c : Image) (u v : Standing) → Stands id c u → Stands id c v → u ≡ v
+pub stands_once : (id : ℕ) (c : Image) (u v : OnDisk) → Stands id c u → Stands id c v → u ≡ v
 stands_once id c u v a b = one_standing (stands_for id (records c)) u v a b
 
 -- ---- what holds at each moment of a run
@@ -28,7 +28,7 @@ chained old mid new P Q R first second p q = record {
 
 -- ---- one of two, and one of three
 
-module _ (id : ℕ) (u v w : Standing) where
+module _ (id : ℕ) (u v w : OnDisk) where
   three_of_first : (c : Image) → IsEither id u v c → IsOneOfThree id u v w c
   three_of_first c one = ⊎_elim (λ a. inl a) (λ b. inr (inl b)) one
 

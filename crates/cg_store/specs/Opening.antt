@@ -12,7 +12,7 @@ use Rattle.cg_stored.specs.Parts.{Saved, saved_in, stored_in, checkpoint_in}
 use Rattle.cg_stored.specs.Laws.{AreSaved}
 use Rattle.cg_stored.specs.declared.checkpoint.Checkpoint.{Checkpoint}
 use Rattle.cg_step.specs.Holds.{Holds}
-use Rattle.cg_store.specs.Stands.{Live, live_from, Standing, standing_on, Stands, stands_for, standing_in, led_by_all}
+use Rattle.cg_store.specs.Stands.{Live, live_from, OnDisk, standing_on, Stands, stands_for, standing_in, led_by_all}
 use Rattle.cg_store.specs.Kept.{Kept}
 use Rattle.cg_store.specs.declared.finding.Found.{Found}
 use Rattle.cg_store.specs.declared.finding.Front.{Front}
@@ -89,14 +89,14 @@ Finds id r (Some f) = IsFound id r f
 
 -- the same with the store of the journal that has them
 abbrev pub Resumes : {D : Type 0} → ℕ → D → Records → Result (Kept D × Held) (OpenErr D) → Type 0
-Resumes id journal r (Ok opened) = (u : Standing) × (standing_in id r ≡ Some u) × (opened.1 ≡ u.content) × (opened.0 ≡ record { disk = journal; id = id; unwritten = [] }) × IsSound u.content
+Resumes id journal r (Ok opened) = (u : OnDisk) × (standing_in id r ≡ Some u) × (opened.1 ≡ u.content) × (opened.0 ≡ record { disk = journal; id = id; unwritten = [] }) × IsSound u.content
 Resumes id journal r (Err (Lost disk)) = ⊥
 Resumes id journal r (Err (NotAStore disk)) = (disk ≡ journal) × (standing_in id r ≡ None)
 Resumes id journal r (Err (NoMemory disk)) = disk ≡ journal
 
 -- the store of a disk that stands for a state, and the core that holds it
 pub record IsOpened {D : Type 0} (view : D → DiskView) (id : ℕ) (old : DiskView) (store : Kept D) (core : Held) : Type 0 where
-  pub standing : Standing
+  pub standing : OnDisk
   pub stands : Stands id old.reads standing
   pub core_is : core ≡ standing.content
   pub sound : IsSound standing.content

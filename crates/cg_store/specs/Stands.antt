@@ -41,57 +41,57 @@ live_on id [] = None
 live_on id (body ∷ changes) = option_map (live_from (body ∷ changes) changes) (checkpoint_in id body)
 
 -- what a disk stands for: the side in use, its generation and its length, and the state
-pub record Standing : Type 0 where
+pub record OnDisk : Type 0 where
   pub side : Side
   pub generation : ℕ
   pub size : ℕ
   pub content : Stored
 
-abbrev pub standing_on : Side → Live → Option Standing
+abbrev pub standing_on : Side → Live → Option OnDisk
 standing_on side l = option_map (λ s. record { side = side; generation = l.generation; size = l.size; content = s }) l.content
 
 -- the side with the greater generation is in use, side A where the two are equal
-abbrev pub chosen : Option Live → Option Live → Option Standing
+abbrev pub chosen : Option Live → Option Live → Option OnDisk
 chosen None None = None
 chosen (Some a) None = standing_on A a
 chosen None (Some b) = standing_on B b
 chosen (Some a) (Some b) = if nat_lt a.generation b.generation then standing_on B b else standing_on A a
 
 -- what records stand for, as those of a replica's disk
-abbrev pub standing_in : ℕ → Records → Option Standing
+abbrev pub standing_in : ℕ → Records → Option OnDisk
 standing_in id r = chosen (live_on id r.a) (live_on id r.b)
 
-abbrev pub stands_for : ℕ → Option Records → Option Standing
+abbrev pub stands_for : ℕ → Option Records → Option OnDisk
 stands_for id found = option_and_then (standing_in id) found
 
 -- an image of a replica's disk stands for this; it stands for no other
-abbrev pub Stands : ℕ → Image → Standing → Type 0
+abbrev pub Stands : ℕ → Image → OnDisk → Type 0
 Stands id image u = stands_for id (records image) ≡ Some u
 
 -- ---- what a record makes of it
 
 -- a change, which leads to this state, behind the others
-abbrev pub led : Standing → List ℕ → Stored → Standing
+abbrev pub led : OnDisk → List ℕ → Stored → OnDisk
 led u body s = record u { content = s; size = size_with u.size body }
 
 -- the state in one checkpoint on the other side
-abbrev pub moved : Standing → List ℕ → Standing
+abbrev pub moved : OnDisk → List ℕ → OnDisk
 moved u body = record { side = opposite u.side; generation = suc u.generation; size = size_with empty_size body; content = u.content }
 
 -- a checkpoint on a new disk
-abbrev pub begun : List ℕ → Stored → Standing
+abbrev pub begun : List ℕ → Stored → OnDisk
 begun body s = record { side = A; generation = 1; size = size_with empty_size body; content = s }
 
 -- a commit, a checkpoint, and a new disk
-abbrev pub committed : List Action → Turn → Standing → Standing
+abbrev pub committed : List Action → Turn → OnDisk → OnDisk
 committed unwritten t u = led u (spelled_change (change_of unwritten t)) (stored_of (whiten t.replica.held))
 
-abbrev pub checkpointed : Standing → Standing
+abbrev pub checkpointed : OnDisk → OnDisk
 checkpointed u = moved u (spelled_checkpoint (suc u.generation) u.content)
 
-abbrev pub created : Stored → Standing
+abbrev pub created : Stored → OnDisk
 created s = begun (spelled_checkpoint 1 s) s
 
 -- a disk in the account of a replica's events, with the red marks that stand in no record
-abbrev pub disk_of : List Action → Standing → Disk
+abbrev pub disk_of : List Action → OnDisk → Disk
 disk_of unwritten u = record { content = u.content; unwritten = unwritten; size = u.size; generation = u.generation; armed = None }

@@ -104,7 +104,7 @@ impl<D: Disk> Store<D> {
     ghost use Rattle.cg_stored.specs.Parts.{checkpoint_in};
     ghost use Rattle.cg_stored.specs.Following.{IsRecorded};
     ghost use Rattle.cg_stored.specs.Agreeing.{Agrees};
-    ghost use Rattle.cg_store.specs.Stands.{Standing, Stands, begun, created, moved, committed, checkpointed};
+    ghost use Rattle.cg_store.specs.Stands.{OnDisk, Stands, begun, created, moved, committed, checkpointed};
     ghost use Rattle.cg_store.specs.Answers.{EachMoment};
     ghost use Rattle.cg_store.specs.Due.{IsReady, IsLed, IsBehind, WhetherDue};
     ghost use Rattle.cg_disk.specs.View.{IsAtRest};
@@ -118,16 +118,16 @@ impl<D: Disk> Store<D> {
         requires calls { (D.view self.disk).time + 4 ≤ 2 ^ 62 }
 
         // The event's record leads from what the disk stands for to what the commit leaves.
-        requires recorded { (u : Standing) (state : State) → Stands self.id (D.view self.disk).reads u → IsRecorded u.content self.unwritten (turn_with core.now state draft) }
+        requires recorded { (u : OnDisk) (state : State) → Stands self.id (D.view self.disk).reads u → IsRecorded u.content self.unwritten (turn_with core.now state draft) }
 
-        ensures ends { (u : Standing) (state : State) → Stands self.id (D.view self.disk).reads u →
+        ensures ends { (u : OnDisk) (state : State) → Stands self.id (D.view self.disk).reads u →
             (let t = turn_with core.now state draft in
             Either (commits u.content t) (Commits D.view self u (committed self.unwritten t u) draft result) (Keeps self draft result)) }
 
         ensures time { IfOk result (λ done. (D.view done.0.disk).time ≤ (D.view self.disk).time + 4) }
 
         // At each moment every image stands for the state before, or for the one behind the commit.
-        ensures moments { (u : Standing) (state : State) → Stands self.id (D.view self.disk).reads u →
+        ensures moments { (u : OnDisk) (state : State) → Stands self.id (D.view self.disk).reads u →
             EachMoment D.view (λ done. done.0.disk) (IsEither self.id u (committed self.unwritten (turn_with core.now state draft) u)) (D.view self.disk) result }
     {
         changes_are_exact();
@@ -150,7 +150,7 @@ impl<D: Disk> Store<D> {
     ) -> Result<(Row<Letter>, Option<Due>), NoMemory>
         ensures letters { IfOk result (λ r. r.0 ≡ draft.now.sent) }
         ensures short { IfOk result (λ r. IfSome r.1 (λ x. length x.body < 2 ^ 32)) }
-        ensures due { IfOk result (λ r. (u : Standing) (state : State) → Stands self.now.id (D.view self.now.disk).reads u →
+        ensures due { IfOk result (λ r. (u : OnDisk) (state : State) → Stands self.now.id (D.view self.now.disk).reads u →
             IsReady u.content self.now.unwritten core.now draft.now state r.1) }
     {
         let letters = seal_all(alloc, draft.sent().as_slice())?;
@@ -170,11 +170,11 @@ impl<D: Disk> Store<D> {
         requires letters { letters ≡ parts.sent }
         requires known { Each IsAction parts.known }
         requires short { IfSome due (λ x. length x.body < 2 ^ 32) }
-        requires leads { (u : Standing) → Stands self.id (D.view self.disk).reads u → IfSome due (IsLed u) }
-        ensures ends { (u : Standing) (v : Standing) → Stands self.id (D.view self.disk).reads u → IsBehind u due v →
+        requires leads { (u : OnDisk) → Stands self.id (D.view self.disk).reads u → IfSome due (IsLed u) }
+        ensures ends { (u : OnDisk) (v : OnDisk) → Stands self.id (D.view self.disk).reads u → IsBehind u due v →
             WhetherDue due (Commits D.view self u v parts result) (Keeps self parts result) }
         ensures time { IfOk result (λ done. (D.view done.0.disk).time ≤ (D.view self.disk).time + 4) }
-        ensures moments { (u : Standing) (v : Standing) → Stands self.id (D.view self.disk).reads u → IsBehind u due v →
+        ensures moments { (u : OnDisk) (v : OnDisk) → Stands self.id (D.view self.disk).reads u → IsBehind u due v →
             EachMoment D.view (λ done. done.0.disk) (IsEither self.id u v) (D.view self.disk) result }
     {
         let DraftParts {
@@ -201,10 +201,10 @@ impl<D: Disk> Store<D> {
     fn write(self, alloc: Global, due: Due) -> Result<Store<D>, CommitErr<D>>
         requires calls { (D.view self.disk).time + 4 ≤ 2 ^ 62 }
         requires short { length due.body < 2 ^ 32 }
-        requires leads { (u : Standing) → Stands self.id (D.view self.disk).reads u → IsLed u due }
-        ensures ends { (u : Standing) (v : Standing) → Stands self.id (D.view self.disk).reads u → IsBehind u (Some due) v → Writes D.view self u v result }
+        requires leads { (u : OnDisk) → Stands self.id (D.view self.disk).reads u → IsLed u due }
+        ensures ends { (u : OnDisk) (v : OnDisk) → Stands self.id (D.view self.disk).reads u → IsBehind u (Some due) v → Writes D.view self u v result }
         ensures time { IfOk result (λ s. (D.view s.disk).time ≤ (D.view self.disk).time + 4) }
-        ensures moments { (u : Standing) (v : Standing) → Stands self.id (D.view self.disk).reads u → IsBehind u (Some due) v →
+        ensures moments { (u : OnDisk) (v : OnDisk) → Stands self.id (D.view self.disk).reads u → IsBehind u (Some due) v →
             EachMoment D.view (λ s. s.disk) (IsEither self.id u v) (D.view self.disk) result }
     {
         let Store {
@@ -232,7 +232,7 @@ impl<D: Disk> Store<D> {
     fn keep_marks(self, known: ActionList) -> Result<Store<D>, CommitErr<D>>
         requires { Each IsAction known }
         ensures ends { KeepsMarks self known result }
-        ensures moments { (u : Standing) (v : Standing) → Stands self.id (D.view self.disk).reads u →
+        ensures moments { (u : OnDisk) (v : OnDisk) → Stands self.id (D.view self.disk).reads u →
             EachMoment D.view (λ s. s.disk) (IsEither self.id u v) (D.view self.disk) result }
     {
         let mut store = self;
@@ -247,13 +247,13 @@ impl<D: Disk> Store<D> {
         requires calls { (D.view self.disk).time + 6 ≤ 2 ^ 62 }
 
         // The core holds what the disk stands for, as behind a commit.
-        requires held { (u : Standing) → Stands self.id (D.view self.disk).reads u → stored_of core.now ≡ u.content }
+        requires held { (u : OnDisk) → Stands self.id (D.view self.disk).reads u → stored_of core.now ≡ u.content }
         requires agrees { Agrees (stored_of core.now) }
 
-        ensures ends { (u : Standing) → Stands self.id (D.view self.disk).reads u → Moves D.view self u (checkpointed u) result }
+        ensures ends { (u : OnDisk) → Stands self.id (D.view self.disk).reads u → Moves D.view self u (checkpointed u) result }
 
         // At each moment every image stands for this state, in the records before or in the new one.
-        ensures moments { (u : Standing) → Stands self.id (D.view self.disk).reads u →
+        ensures moments { (u : OnDisk) → Stands self.id (D.view self.disk).reads u →
             EachMoment D.view (λ s. s.disk) (IsEither self.id u (checkpointed u)) (D.view self.disk) result }
     {
         checkpoints_are_exact();
@@ -266,8 +266,8 @@ impl<D: Disk> Store<D> {
 
     // The checkpoint that is next.
     fn next_record(&self, alloc: Global, core: &Core) -> Result<Vec<u8>, NoMemory>
-        ensures small { OnOk result ((u : Standing) → Stands self.now.id (D.view self.now.disk).reads u → IsNumber (suc u.generation)) }
-        ensures spelled { IfOk result (λ bytes. (u : Standing) → Stands self.now.id (D.view self.now.disk).reads u → bytes.items ≡ spelled_checkpoint (suc u.generation) core.now) }
+        ensures small { OnOk result ((u : OnDisk) → Stands self.now.id (D.view self.now.disk).reads u → IsNumber (suc u.generation)) }
+        ensures spelled { IfOk result (λ bytes. (u : OnDisk) → Stands self.now.id (D.view self.now.disk).reads u → bytes.items ≡ spelled_checkpoint (suc u.generation) core.now) }
         ensures within { OnOk result (IsStored core.now) }
         ensures short { IfOk result (λ bytes. length bytes.items < 2 ^ 32) }
     {
@@ -281,10 +281,10 @@ impl<D: Disk> Store<D> {
     fn restart(self, alloc: Global, body: &[u8]) -> Result<Store<D>, CommitErr<D>>
         requires calls { (D.view self.disk).time + 6 ≤ 2 ^ 62 }
         requires short { length body.now < 2 ^ 32 }
-        requires small { (u : Standing) → Stands self.id (D.view self.disk).reads u → IsNumber (suc u.generation) }
-        requires saved { (u : Standing) → Stands self.id (D.view self.disk).reads u → checkpoint_in self.id body.now ≡ Some (record { generation = suc u.generation; content = u.content }) }
-        ensures ends { (u : Standing) → Stands self.id (D.view self.disk).reads u → Moves D.view self u (moved u body.now) result }
-        ensures moments { (u : Standing) → Stands self.id (D.view self.disk).reads u →
+        requires small { (u : OnDisk) → Stands self.id (D.view self.disk).reads u → IsNumber (suc u.generation) }
+        requires saved { (u : OnDisk) → Stands self.id (D.view self.disk).reads u → checkpoint_in self.id body.now ≡ Some (record { generation = suc u.generation; content = u.content }) }
+        ensures ends { (u : OnDisk) → Stands self.id (D.view self.disk).reads u → Moves D.view self u (moved u body.now) result }
+        ensures moments { (u : OnDisk) → Stands self.id (D.view self.disk).reads u →
             EachMoment D.view (λ s. s.disk) (IsEither self.id u (moved u body.now)) (D.view self.disk) result }
     {
         let Store {
@@ -422,7 +422,7 @@ impl<D: Disk> Store<D> {
 
     /// The side in use is so long that a checkpoint is to follow. It takes no memory.
     pub fn is_long(&self) -> bool
-        ensures { (u : Standing) → Stands self.now.id (D.view self.now.disk).reads u → result ≡ nat_lt size_limit u.size }
+        ensures { (u : OnDisk) → Stands self.now.id (D.view self.now.disk).reads u → result ≡ nat_lt size_limit u.size }
     {
         self.journal.length(self.side) > LIMIT
     }
@@ -439,7 +439,7 @@ impl<D: Disk> Store<D> {
         ensures value { result ≡ self.now.id }
 
         // The disk stands for a state of this replica, and nothing on it is unsynced.
-        ensures stands { (u : Standing) × Stands self.now.id (D.view self.now.disk).reads u }
+        ensures stands { (u : OnDisk) × Stands self.now.id (D.view self.now.disk).reads u }
         ensures rest { IsAtRest (D.view self.now.disk) }
     {
         self.id

@@ -19,7 +19,7 @@ use Rattle.cg_step.specs.Recorded.{AlwaysHolds, AlwaysSettled}
 use Rattle.cg_store.specs.Calls.{Commits, Keeps}
 use Rattle.cg_store.specs.EndingLaws.{written_by_commit, commit_held}
 use Rattle.cg_store.specs.Kept.{Kept}
-use Rattle.cg_store.specs.Stands.{Standing, Stands, committed}
+use Rattle.cg_store.specs.Stands.{OnDisk, Stands, committed}
 use Rattle.cg_store.specs.declared.outputs.Outputs.{Outputs}
 
 -- what a new replica holds, with its white count risen, has a checkpoint
@@ -56,9 +56,9 @@ attempt_recorded s unwritten h new n v content holds none is state =
     (subst (λ x. IsRecorded x [] (turn_with new state no_parts)) content (subst (λ x. IsRecorded (stored_of h) [] (turn_with x state no_parts)) (sym is) (attempt_led h n v holds.yellow state)))
 
 -- behind a commit the disk stands for what is held, once the white count has risen
-pub held_behind : {D : Type 0} (view : D → DiskView) (k : Kept D) (u : Standing) (h new : Held) (state : State) (d : DraftParts) (store : Kept D) (o : Outputs) (b : Bool) →
+pub held_behind : {D : Type 0} (view : D → DiskView) (k : Kept D) (u : OnDisk) (h new : Held) (state : State) (d : DraftParts) (store : Kept D) (o : Outputs) (b : Bool) →
     (let v = committed k.unwritten (turn_with h state d) u in Either b (Commits view k u v d (Ok (store, o))) (Keeps k d (Ok (store, o)))) → o.written ≡ true → new ≡ with_white h →
-    (w : Standing) → Stands store.id (view store.disk).reads w → stored_of new ≡ w.content
+    (w : OnDisk) → Stands store.id (view store.disk).reads w → stored_of new ≡ w.content
 unfolding whiten
 held_behind view k u h new state d store o b ends written white w stands =
     let v = committed k.unwritten (turn_with h state d) u in

@@ -1,7 +1,7 @@
 use Rattle.std.proofs.Common.{◌≡◌, refl, ◌∙◌, List, [], ℕ}
 use Rattle.cg_disk.specs.Law.{is_view_of}
 use Rattle.cg_disk.specs.Model.{view_of, state_of}
-use Rattle.cg_store.specs.Stands.{Standing}
+use Rattle.cg_store.specs.Stands.{OnDisk}
 use Rattle.cg_seat.specs.Calls.{crashed}
 use Rattle.cg_seat.specs.Seen.{FallsTo, fallen, up_seen}
 use Rattle.cg_seat.proofs.Crashing.{falls_to, falls_seen, if_ok_then}
@@ -20,5 +20,5 @@ returns c =
     let follows = c.id-id.ensures.follows in
     let u = follows.standing in
     let falls = falls_to view_of e w c.stop.ensures (is_view_of e.store.disk) c.id-id.ensures.rest (state_of e.store.disk) refl u follows.stands in
-    if_ok_then c.fall.result (λ s. (u : Standing) → FallsTo view_of w [] u → s ≡ fallen w u) (λ s. (fill : List ℕ) → s ≡ crashed e.store.id (up_seen view_of e fill).life)
+    if_ok_then c.fall.result (λ s. (u : OnDisk) → FallsTo view_of w [] u → s ≡ fallen w u) (λ s. (fill : List ℕ) → s ≡ crashed e.store.id (up_seen view_of e fill).life)
     (λ s is fill. is u falls ∙ falls_seen view_of e w c.stop.ensures (is_view_of e.store.disk) c.id-id.ensures.rest (state_of e.store.disk) refl u follows.stands fill) c.fall.ensures

@@ -3,7 +3,7 @@ use Rattle.cg_journal.specs.Records.{records}
 use Rattle.cg_journal.specs.Adds.{IsEither as IsOneOf}
 use Rattle.cg_journal.specs.Answers.{with_record, IsDone, Appends, EachMoment as EachJournalMoment}
 use Rattle.cg_disk.specs.View.{LeavesOnly}
-use Rattle.cg_store.specs.Stands.{Standing, Stands}
+use Rattle.cg_store.specs.Stands.{OnDisk, Stands}
 use Rattle.cg_store.specs.Kept.{Kept}
 use Rattle.cg_store.specs.Answers.{IsReached, EachMoment}
 use Rattle.cg_store.specs.Due.{IsLed, IsBehind}
@@ -18,7 +18,7 @@ invariant_of-result g c =
     let old = g.D.Disk.view s.journal in
     let new = g.D.Disk.view c.in-Ok.journal in
     let done = subst (λ b. IsDone (with_record s.side b old) 4 old new) c.as_slice.ensures c.in-Ok.ensures.ends in
-    let leads = subst (λ k. (u : Standing) → Stands k.id (g.D.Disk.view k.disk).reads u → IsLed u c.args.due) (sym c.self.view_is) c.requires.leads in
+    let leads = subst (λ k. (u : OnDisk) → Stands k.id (g.D.Disk.view k.disk).reads u → IsLed u c.args.due) (sym c.self.view_is) c.requires.leads in
     written_held old s.id s.side s.generation s.values c.self.invariant c.args.due new done leads
 
 pub returns-in-Ok-clause-ends : goal.returns-in-Ok-clause-ends
@@ -27,7 +27,7 @@ returns-in-Ok-clause-ends g c =
     let old = g.D.Disk.view s.journal in
     let new = g.D.Disk.view c.in-Ok.journal in
     let done = subst (λ b. IsDone (with_record s.side b old) 4 old new) c.as_slice.ensures c.in-Ok.ensures.ends in
-    subst (λ k. (u v : Standing) → Stands k.id (g.D.Disk.view k.disk).reads u → IsBehind u (Some c.args.due) v → IsReached k.id 4 v (g.D.Disk.view k.disk) new × (s.id ≡ k.id) × (c.new.result ≡ [])) c.self.view_is
+    subst (λ k. (u v : OnDisk) → Stands k.id (g.D.Disk.view k.disk).reads u → IsBehind u (Some c.args.due) v → IsReached k.id 4 v (g.D.Disk.view k.disk) new × (s.id ≡ k.id) × (c.new.result ≡ [])) c.self.view_is
     (λ u v stands behind. (written_reached old s.id s.side s.generation s.values c.self.invariant c.args.due new u v done stands behind, refl, c.new.ensures))
 
 pub returns-in-Ok-clause-moments : goal.returns-in-Ok-clause-moments
@@ -36,7 +36,7 @@ returns-in-Ok-clause-moments g c =
     let old = g.D.Disk.view s.journal in
     let new = g.D.Disk.view c.in-Ok.journal in
     let run = subst (λ b. LeavesOnly old new (IsOneOf (records old.reads) (with_record s.side b old))) c.as_slice.ensures c.in-Ok.ensures.moments in
-    subst (λ k. (u v : Standing) → Stands k.id (g.D.Disk.view k.disk).reads u → IsBehind u (Some c.args.due) v → LeavesOnly (g.D.Disk.view k.disk) new (IsEither k.id u v)) c.self.view_is
+    subst (λ k. (u v : OnDisk) → Stands k.id (g.D.Disk.view k.disk).reads u → IsBehind u (Some c.args.due) v → LeavesOnly (g.D.Disk.view k.disk) new (IsEither k.id u v)) c.self.view_is
     (λ u v stands behind. written_moments old s.id s.side s.generation s.values c.self.invariant c.args.due new u v run stands behind)
 
 pub returns-clause-ends : goal.returns-clause-ends
@@ -45,7 +45,7 @@ returns-clause-ends g c =
     let view = g.D.Disk.view in
     let old = view s.journal in
     let failed = subst (λ b. Appends view s.side b old (Err c.in-Err.fault)) c.as_slice.ensures c.in-Err.ensures.ends in
-    subst (λ k. (u v : Standing) → Stands k.id (view k.disk).reads u → IsBehind u (Some c.args.due) v → Writes view k u v (Err c.commit_fault.result)) c.self.view_is
+    subst (λ k. (u v : OnDisk) → Stands k.id (view k.disk).reads u → IsBehind u (Some c.args.due) v → Writes view k u v (Err c.commit_fault.result)) c.self.view_is
     (λ u v stands behind. subst (λ f. Writes view (record { disk = s.journal; id = s.id; unwritten = s.unwritten }) u v (Err f)) (sym c.commit_fault.ensures)
     (written_fails view (record { disk = s.journal; id = s.id; unwritten = s.unwritten }) s.side s.generation s.values c.self.invariant c.args.due u v c.in-Err.fault failed stands behind))
 
@@ -55,6 +55,6 @@ returns-clause-moments g c =
     let view = g.D.Disk.view in
     let old = view s.journal in
     let failed = subst (λ b. EachJournalMoment view (IsOneOf (records old.reads) (with_record s.side b old)) old (Err c.in-Err.fault)) c.as_slice.ensures c.in-Err.ensures.moments in
-    subst (λ k. (u v : Standing) → Stands k.id (view k.disk).reads u → IsBehind u (Some c.args.due) v → EachMoment {T = Kept _} view (λ x. x.disk) (IsEither k.id u v) (view k.disk) (Err c.commit_fault.result)) c.self.view_is
+    subst (λ k. (u v : OnDisk) → Stands k.id (view k.disk).reads u → IsBehind u (Some c.args.due) v → EachMoment {T = Kept _} view (λ x. x.disk) (IsEither k.id u v) (view k.disk) (Err c.commit_fault.result)) c.self.view_is
     (λ u v stands behind. subst (λ f. EachMoment {T = Kept _} view (λ x. x.disk) (IsEither s.id u v) old (Err f)) (sym c.commit_fault.ensures)
     (written_fails_moments view (record { disk = s.journal; id = s.id; unwritten = s.unwritten }) s.side s.generation s.values c.self.invariant c.args.due u v c.in-Err.fault failed stands behind))
