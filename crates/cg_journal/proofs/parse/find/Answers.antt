@@ -1,9 +1,9 @@
-use Rattle.std.proofs.Common.{◌≡◌, ◌+◌, ◌-◌, ◌≤◌, ◌<◌, ℕ, nat_lt, true, List, [], ◌∷◌, ◌++◌, length, drop, take, sym, ◌∙◌, ap, subst, arith, Some}
+use Rattle.std.proofs.Common.{◌≡◌, ◌+◌, ◌<◌, ℕ, nat_lt, true, List, [], ◌∷◌, ◌++◌, length, drop, take, sym, ◌∙◌, ap, subst, arith}
 use Rattle.std.proofs.lemmas.List.{take_rest, length-drop}
 use Rattle.std.proofs.lemmas.Bool.Decides.{nat_tests}
 use Rattle.std.specs.Str.{bytes_eq}
 use Rattle.cg_journal.specs.Records.{header, number_at}
-use Rattle.cg_journal.specs.Bodies.{body_at, bodies_at, AreWithin}
+use Rattle.cg_journal.specs.Bodies.{bodies_at, AreWithin}
 use Rattle.cg_journal.specs.declared.bodies.Span.{Span}
 use Rattle.cg_journal.proofs.Reading.{reads_as}
 use Rattle.cg_journal.proofs.Parsing.{IsReadTo, was_false, too_short, other_header, read_unfit, read_more, read_all}

@@ -1,8 +1,8 @@
-use Rattle.std.proofs.Common.{rules, ◌≡◌, ◌<◌, ◌≤◌, slice_get, slice_index_or, nat_lt, length, ℕ, List, Some, None, refl, sym, ◌∙◌, ap, arith}
+use Rattle.std.proofs.Common.{◌≡◌, ◌<◌, ◌≤◌, slice_get, length, Some, refl, sym, ◌∙◌, ap, arith}
 use Rattle.std.proofs.lemmas.Bool.Decides.{nat_tests}
 use Rattle.std.proofs.lemmas.Option.{slice_get-map, slice_get_read, slice_get_past}
 use Rattle.std.specs.Option.{option_map}
-use Rattle.cg_journal.specs.Bodies.{body_at, bodies_at}
+use Rattle.cg_journal.specs.Bodies.{body_at}
 use Rattle.cg_journal.specs.declared.bodies.Span.{Span}
 use Rattle.cg_journal.proofs.bodies.Bodies.get.Goals as goal
 
