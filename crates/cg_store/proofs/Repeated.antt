@@ -1,5 +1,5 @@
 -- Values that a record repeats, and those that one has.
-use Rattle.std.proofs.Common.{◌≡◌, ◌⊎◌, inl, inr, refl, ℕ, ◌+◌, ◌-◌, ◌≤◌, List, [], ◌++◌, length, take, drop, Ok, sym, ◌∙◌, ap, subst, arith, take-append-drop, length-append}
+use Rattle.std.proofs.Common.{◌≡◌, ◌⊎◌, inl, inr, refl, ℕ, ◌+◌, ◌-◌, ◌≤◌, List, [], ◌++◌, length, take, drop, Ok, sym, ◌∙◌, ap, arith, take-append-drop, length-append}
 use Rattle.std.proofs.lemmas.List.{take_at}
 use Rattle.cg_codec.specs.Laws.{AreBytes}
 use Rattle.cg_codec.specs.Reading.{Unread, behind}

@@ -1,6 +1,5 @@
-use Rattle.std.proofs.Common.{◌≡◌, ◌∷◌, ◌+◌, ◌≤◌, [], Some, suc, drop, length, slice_get, subst, sym, refl, ◌∙◌, ap, arith, rules}
+use Rattle.std.proofs.Common.{◌≡◌, ◌+◌, ◌≤◌, [], Some, suc, drop, length, slice_get, subst, sym, refl, ◌∙◌, ap, arith, rules}
 use Rattle.std.proofs.lemmas.List.{drop_all}
-use Rattle.cg_step.specs.Holds.{Holds}
 use Rattle.cg_store.specs.Stands.{led_by, led_by_all}
 use Rattle.cg_store.specs.Opening.{Follows}
 use Rattle.cg_store.proofs.Replaying.{stops_at, drop-at}

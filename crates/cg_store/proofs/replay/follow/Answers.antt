@@ -1,4 +1,4 @@
-use Rattle.std.proofs.Common.{subst, ◌∙◌, refl}
+use Rattle.std.proofs.Common.{subst, refl}
 use Rattle.cg_codec.specs.Taking.{unread_of}
 use Rattle.cg_stored.specs.Following.{know, green_by_name, make, with_values, after_change}
 use Rattle.cg_stored.specs.Reading.{actions_reading, ids_reading}

@@ -1,4 +1,4 @@
-use Rattle.std.proofs.Common.{◌≡◌, [], ◌<◌, Some, None, refl, rules}
+use Rattle.std.proofs.Common.{◌≡◌, [], Some, None, refl, rules}
 use Rattle.cg_codec.specs.Taking.{unread_of}
 use Rattle.cg_action.specs.Reading.{action_reading}
 use Rattle.cg_stored.specs.Following.{know}

@@ -1,11 +1,10 @@
-use Rattle.std.proofs.Common.{◌≡◌, ◌-◌, ◌≤◌, ◌⊎◌, inr, ℕ, List, [], length, take, Ok, sym, ◌∙◌, ap, subst, arith, length-append}
+use Rattle.std.proofs.Common.{◌≡◌, ◌-◌, ◌≤◌, inr, length, take, Ok, sym, ◌∙◌, ap, subst, arith}
 use Rattle.cg_codec.specs.Laws.{AreBytes}
 use Rattle.cg_codec.specs.Reading.{Unread, behind}
 use Rattle.cg_codec.specs.Taking.{unread_of}
 use Rattle.cg_records.specs.Bytes.{spelled_stable}
 use Rattle.cg_records.specs.Limits.{IsStable}
 use Rattle.cg_records.specs.Reading.{take_stable}
-use Rattle.cg_store.proofs.Putting.{at_first}
 use Rattle.cg_store.proofs.Repeated.{repeated, recent, left-within}
 use Rattle.cg_store.proofs.recent.Recent.take.Goals as goal
 
