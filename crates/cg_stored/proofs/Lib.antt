@@ -5,5 +5,6 @@ mod ServerFields
 mod EntryFields
 mod CheckpointFields
 mod Agreeing
+mod Counting
 mod StandingLaws
 mod Generations

@@ -17,7 +17,7 @@ use Rattle.cg_stored.specs.declared.change.Change.{Change}
 use Rattle.cg_stored.specs.declared.checkpoint.Checkpoint.{Checkpoint}
 use Rattle.cg_stored.specs.Stored.{Stored}
 use Rattle.cg_stored.specs.Reading.{change_reading, checkpoint_reading}
-use Rattle.cg_stored.specs.Agreeing.{Agrees, is_present, counts_up, is_by_name, are_own}
+use Rattle.cg_stored.specs.Agreeing.{Agrees, indexes_of, count_to, is_present, counts_up, is_by_name, are_own}
 
 -- how far actions are known: the green cut, and the reds behind it
 abbrev pub red_cut_of : Checkpoint → List ActionId
@@ -55,6 +55,13 @@ stored_in id p =
 -- the next one, no further than to the last
 abbrev pub next_index : Action → ℕ → ℕ → ℕ → Option ℕ
 next_index a id at high = if a.id.creator == id then (if nat_lt at high && (a.id.index == suc at) then Some (suc at) else None) else Some at
+
+-- a creator's greens count up to its index in the cut; its reds from that in the one cut to that in the other
+abbrev pub greens_count : List Action → List ActionId → ℕ → Bool
+greens_count greens cut p = count_to (index_in cut p) (indexes_of greens p)
+
+abbrev pub reds_count : List Action → List ActionId → List ActionId → ℕ → Bool
+reds_count reds from to p = pointwise nat_eq (indexes_of reds p) (above_up_to (index_in from p) (index_in to p))
 
 -- own actions behind an index and up to another
 abbrev pub are_own_between : ℕ → List Action → ℕ → ℕ → Bool

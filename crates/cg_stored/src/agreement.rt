@@ -1,13 +1,13 @@
 //! Whether the parts of a checkpoint agree.
 
-ghost use Rattle.std.specs.Prelude.{◌≡◌, ◌+◌, ◌==◌, nat_eq, length, fold, sum_by};
+ghost use Rattle.std.specs.Prelude.{◌≡◌, ◌+◌, ◌==◌, nat_eq, nat_le, length, fold, sum_by};
 ghost use Rattle.std.specs.List.{list_all};
 ghost use Rattle.std.specs.Cmp.Lexicographic.{pointwise};
-ghost use Rattle.cg_base.specs.Cuts.{raise};
+ghost use Rattle.cg_base.specs.Cuts.{index_in, raise};
 ghost use Rattle.cg_base.specs.Lists.{above_up_to};
 ghost use Rattle.cg_base.specs.Replicas.{every_replica};
 ghost use Rattle.cg_client.specs.Replica.{last_index};
-ghost use Rattle.cg_stored.specs.Parts.{next_index, red_cut_of, queue_in, greens_agree, is_before_first, is_between, yellow_agrees, are_own_between, names_agree, do_agree};
+ghost use Rattle.cg_stored.specs.Parts.{next_index, red_cut_of, queue_in, greens_agree, is_before_first, is_between, yellow_agrees, are_own_between, greens_count, reds_count, names_agree, do_agree};
 ghost use Rattle.cg_stored.specs.Agreeing.{indexes_of, count_to, counts_up, is_by_name, is_present};
 
 use crate::Checkpoint;
@@ -22,7 +22,8 @@ impl Checkpoint {
     pub fn agrees(&self, id: ReplicaId) -> bool
         ensures { result ≡ do_agree id self.now }
     {
-        self.greens_agree() && self.creators_agree() && self.names_agree(id)
+        let red_cut = self.red_cut();
+        self.greens_agree() && self.creators_agree(&red_cut) && self.names_agree(id, &red_cut)
     }
 
     /// How far actions are known: the green cut, and the reds behind it.
@@ -42,36 +43,23 @@ impl Checkpoint {
             && are_present(r.members.servers(), r.members.left(), r.count)
     }
 
-    fn creators_agree(&self) -> bool
+    fn creators_agree(&self, red_cut: &Cut) -> bool
+        requires { red_cut.now ≡ red_cut_of self.now }
         ensures { result ≡ list_all (counts_up (queue_in self.now)) every_replica }
     {
-        let red_cut = self.red_cut();
-        for slot in 0..32 {
-            if !self.counts_up(ReplicaId::known(slot + 1), &red_cut) {
-                return false;
-            }
-        }
-        true
+        greens_count(self.kept.greens.as_slice(), &self.reached.cut)
+            && reds_count(self.kept.reds.as_slice(), self.reached.cut, red_cut)
     }
 
-    fn counts_up(&self, id: ReplicaId, red_cut: &Cut) -> bool
+    fn names_agree(&self, id: ReplicaId, red_cut: &Cut) -> bool
         requires { red_cut.now ≡ red_cut_of self.now }
-        ensures { result ≡ counts_up (queue_in self.now) id }
-    {
-        let green = self.reached.cut.get(id);
-        count_to(self.kept.greens.as_slice(), id, green)
-            && count_between(self.kept.reds.as_slice(), id, green, red_cut.get(id))
-    }
-
-    fn names_agree(&self, id: ReplicaId) -> bool
         ensures { result ≡ names_agree id self.now }
     {
         let own = self.kept.own.as_slice();
-        let red_cut = self.red_cut();
         let created = red_cut.get(id).max(last_index(own));
         self.stable.created == created
             && is_by_name(self.kept.reds.as_slice())
-            && self.yellow_agrees(&red_cut)
+            && self.yellow_agrees(red_cut)
             && are_own(own, id, red_cut.get(id), created)
     }
 
@@ -82,6 +70,50 @@ impl Checkpoint {
         let list = self.stable.yellow.list.as_slice();
         is_distinct(list) && are_between(list, &self.reached.cut, red_cut)
     }
+}
+
+// each creator's greens count up to its index
+fn greens_count(greens: &[Action], cut: &Cut) -> bool
+    ensures { result ≡ list_all (greens_count greens.now cut.now) every_replica }
+{
+    for slot in 0..32 {
+        let id = ReplicaId::known(slot + 1);
+        if !count_to(greens, id, cut.get(id)) {
+            return false;
+        }
+    }
+    true
+}
+
+// each creator's reds count up from its index in the first cut to that in the second; all in one pass, for there may be many
+fn reds_count(reds: &[Action], from: Cut, to: &Cut) -> bool
+    ensures { result ≡ list_all (reds_count reds.now from to.now) every_replica }
+{
+    let mut at = from;
+    for a in reds {
+        let ActionId { creator, index } = a.id;
+        // it says which creators there are
+        let _number = creator.get();
+        let last = at.get(creator);
+        if last >= to.get(creator) || index != last + 1 {
+            return false;
+        }
+        at.raise(creator, index);
+    }
+    reaches(&at, to)
+}
+
+// no creator's index is greater in the second cut
+fn reaches(at: &Cut, to: &Cut) -> bool
+    ensures { result ≡ list_all (λ p. nat_le (index_in to.now p) (index_in at.now p)) every_replica }
+{
+    for slot in 0..32 {
+        let id = ReplicaId::known(slot + 1);
+        if at.get(id) < to.get(id) {
+            return false;
+        }
+    }
+    true
 }
 
 fn raised(cut: Cut, actions: &[Action]) -> Cut

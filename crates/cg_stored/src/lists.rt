@@ -15,8 +15,8 @@ use cg_base::{ActionId, NoMemory, Row};
 use cg_codec::{CodecFault, Fields, put_action_id, put_u32};
 use std::alloc::Global;
 
-// A list has room for at most so many things before any was read: the number in front of them may be wrong.
-const FIRST_ROOM: u32 = 1024;
+// No action has fewer bytes. The number in front of a list may be wrong, and then there is no room for so many.
+const SHORTEST: usize = 19;
 
 /// Takes actions, in any order: how many, and these.
 #[tactic(auto, unfolding(crate::specs::Reading::actions_reading))]
@@ -25,7 +25,8 @@ pub(crate) fn take_actions(alloc: Global, fields: &mut Fields<'_>) -> Result<Act
 {
     let mut after = *fields;
     let count = after.take_count(u32::MAX)?;
-    let mut actions = Row::with_capacity(alloc, count.min(FIRST_ROOM) as usize)?;
+    let room = (count as usize).min(after.left() / SHORTEST);
+    let mut actions = Row::with_capacity(alloc, room)?;
     for _ in 0..count {
         actions.push(take_action(alloc, &mut after)?)?;
     }
