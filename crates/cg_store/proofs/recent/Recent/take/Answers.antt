@@ -13,7 +13,7 @@ returns-then-is_repeated-clause-read c =
     let last = c.args.self.now in
     let n = length last.front.now in
     repeated last.front.now c.args.body.now last.values c.requires (c.is_repeated.ensures c.if-is_repeated.true)
-    ∙ ap (λ (u : Unread). Ok (last.values, u)) (sym (c.skip.ensures ∙ ap (behind n) c.new-fields.ensures))
+    ∙ ap (λ (u : Unread). Ok (last.values, u)) (sym (c.skip.ensures.left ∙ ap (behind n) c.new-fields.ensures))
 
 pub slice_bounds-front-count : goal.slice_bounds-front-count
 slice_bounds-front-count c =
