@@ -1,10 +1,10 @@
 //! Actions from bytes.
 
 ghost use Rattle.std.specs.Prelude.{[], IfOk};
-ghost use Rattle.cg_codec.specs.Reading.{whole, take_text, take_items, byte_between};
+ghost use Rattle.cg_codec.specs.Reading.{whole, take_text, take_optional, take_items, byte_between};
 ghost use Rattle.cg_codec.specs.Taking.{unread_of, Takes, TakesWithMemory, Decodes};
 ghost use Rattle.cg_action.specs.ActionLimits.{IsAction};
-ghost use Rattle.cg_action.specs.Reading.{number_from, id_reading, key_reading, value_of_tag, value_reading, want_of_tag, want_reading, amount_reading, put_reading, del_reading, inc_reading, cas_reading, move_reading, need_reading, command_reading, query_reading, commands_reading, query_behind, update_reading, heavy_join_reading, action_reading};
+ghost use Rattle.cg_action.specs.Reading.{number_from, id_reading, key_reading, value_of_tag, value_reading, want_of_tag, want_reading, amount_reading, put_reading, del_reading, inc_reading, cas_reading, move_reading, need_reading, command_of_tag, command_reading, query_of_tag, query_reading, commands_reading, query_behind, update_reading, heavy_join_reading, kind_of_tag, kind_reading, action_reading};
 
 use crate::{Action, Boxed, BoxedOption, Cmd, CmdList, Kind, Query, Value};
 use cg_base::{ActionId, ReplicaId};
@@ -262,21 +262,28 @@ fn take_command(alloc: Global, fields: &mut Fields) -> Result<Cmd, CodecFault>
     Ok(cmd)
 }
 
-#[tactic(auto, unfolding(crate::specs::Reading::commands_reading, cg_codec::specs::Reading::take_items))]
+#[tactic(auto, unfolding(crate::specs::Reading::commands_reading))]
 fn take_commands(alloc: Global, fields: &mut Fields) -> Result<CmdList, CodecFault>
     ensures { TakesWithMemory (λ l. l) commands_reading (unread_of fields.old) (unread_of fields.new) result }
 {
     let mut after = *fields;
     let count = after.take_count(16)?;
-    // one command, as most actions have, lies in the list itself
     let cmds = if count == 1 {
-        let cmd = take_command(alloc, &mut after)?;
-        CmdList::one(alloc, cmd)
+        take_single(alloc, &mut after)?
     } else {
         take_each(alloc, &mut after, count)?
     };
     *fields = after;
     Ok(cmds)
+}
+
+// one command, as most actions have: it lies in the list itself
+#[tactic(auto, unfolding(cg_codec::specs::Reading::take_items))]
+fn take_single(alloc: Global, fields: &mut Fields) -> Result<CmdList, CodecFault>
+    ensures { TakesWithMemory (λ l. l) (take_items (λ _. command_reading) 1 []) (unread_of fields.old) (unread_of fields.new) result }
+{
+    let cmd = take_command(alloc, fields)?;
+    Ok(CmdList::one(alloc, cmd))
 }
 
 fn take_each(alloc: Global, fields: &mut Fields, count: u32) -> Result<CmdList, CodecFault>
@@ -305,6 +312,19 @@ fn take_query(alloc: Global, fields: &mut Fields) -> Result<Query, CodecFault>
     Ok(query)
 }
 
+fn take_query_or_none(alloc: Global, fields: &mut Fields) -> Result<Option<Query>, CodecFault>
+    ensures { TakesWithMemory (λ q. q) (take_optional query_reading) (unread_of fields.old) (unread_of fields.new) result }
+{
+    let mut after = *fields;
+    if !after.take_truth()? {
+        *fields = after;
+        return Ok(None);
+    }
+    let query = take_query(alloc, &mut after)?;
+    *fields = after;
+    Ok(Some(query))
+}
+
 // the query behind the commands, of which there may be none where it is
 #[tactic(auto, unfolding(crate::specs::Reading::query_behind))]
 fn take_query_behind(
@@ -315,11 +335,7 @@ fn take_query_behind(
     ensures { TakesWithMemory (λ q. q) (query_behind cmds.now) (unread_of fields.old) (unread_of fields.new) result }
 {
     let mut after = *fields;
-    let query = if after.take_truth()? {
-        Some(take_query(alloc, &mut after)?)
-    } else {
-        None
-    };
+    let query = take_query_or_none(alloc, &mut after)?;
     if cmds.is_empty() && query.is_none() {
         return Err(fields.bad());
     }
