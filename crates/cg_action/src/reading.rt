@@ -24,19 +24,14 @@ pub fn decode(alloc: Global, bytes: &[u8]) -> Result<Action, CodecFault>
 }
 
 /// Takes an action.
-#[tactic(auto, unfolding(crate::specs::Reading::action_reading, crate::specs::Reading::kind_reading, crate::specs::Reading::kind_of_tag))]
+#[tactic(auto, unfolding(crate::specs::Reading::action_reading))]
 pub fn take_action(alloc: Global, fields: &mut Fields) -> Result<Action, CodecFault>
     ensures { TakesWithMemory (λ a. a) action_reading (unread_of fields.old) (unread_of fields.new) result }
 {
     let mut after = *fields;
     let id = take_action_id(&mut after)?;
     let green_line = take_number(&mut after, 0)?;
-    let kind = match after.take_between(1, 4)? {
-        1 => take_update(alloc, &mut after)?,
-        2 => Kind::Join(take_replica(&mut after)?, 1),
-        3 => Kind::Leave(take_replica(&mut after)?),
-        _ => take_heavy_join(&mut after)?,
-    };
+    let kind = take_kind(alloc, &mut after)?;
     *fields = after;
     Ok(Action {
         id,
@@ -245,19 +240,27 @@ fn take_need(alloc: Global, fields: &mut Fields) -> Result<Cmd, CodecFault>
     Ok(Cmd::Need { key, want })
 }
 
-#[tactic(auto, unfolding(crate::specs::Reading::command_reading, crate::specs::Reading::command_of_tag))]
+#[tactic(auto, unfolding(crate::specs::Reading::command_of_tag))]
+fn take_command_of(alloc: Global, fields: &mut Fields, tag: u8) -> Result<Cmd, CodecFault>
+    ensures { TakesWithMemory (λ c. c) (command_of_tag tag) (unread_of fields.old) (unread_of fields.new) result }
+{
+    match tag {
+        1 => take_put(alloc, fields),
+        2 => take_del(alloc, fields),
+        3 => take_inc(alloc, fields),
+        4 => take_cas(alloc, fields),
+        5 => take_move(alloc, fields),
+        _ => take_need(alloc, fields),
+    }
+}
+
+#[tactic(auto, unfolding(crate::specs::Reading::command_reading))]
 fn take_command(alloc: Global, fields: &mut Fields) -> Result<Cmd, CodecFault>
     ensures { TakesWithMemory (λ c. c) command_reading (unread_of fields.old) (unread_of fields.new) result }
 {
     let mut after = *fields;
-    let cmd = match after.take_between(1, 6)? {
-        1 => take_put(alloc, &mut after)?,
-        2 => take_del(alloc, &mut after)?,
-        3 => take_inc(alloc, &mut after)?,
-        4 => take_cas(alloc, &mut after)?,
-        5 => take_move(alloc, &mut after)?,
-        _ => take_need(alloc, &mut after)?,
-    };
+    let tag = after.take_between(1, 6)?;
+    let cmd = take_command_of(alloc, &mut after, tag)?;
     *fields = after;
     Ok(cmd)
 }
@@ -298,16 +301,28 @@ fn take_each(alloc: Global, fields: &mut Fields, count: u32) -> Result<CmdList, 
     Ok(cmds)
 }
 
-#[tactic(auto, unfolding(crate::specs::Reading::query_reading, crate::specs::Reading::query_of_tag))]
+#[tactic(auto, unfolding(crate::specs::Reading::query_of_tag))]
+fn take_query_of(alloc: Global, fields: &mut Fields, tag: u8) -> Result<Query, CodecFault>
+    ensures { TakesWithMemory (λ q. q) (query_of_tag tag) (unread_of fields.old) (unread_of fields.new) result }
+{
+    if tag == 1 {
+        let key = take_key(alloc, fields)?;
+        Ok(Query::Get(key))
+    } else if tag == 2 {
+        let prefix = take_txt(alloc, fields, 64)?;
+        Ok(Query::Keys(prefix))
+    } else {
+        Ok(Query::Count)
+    }
+}
+
+#[tactic(auto, unfolding(crate::specs::Reading::query_reading))]
 fn take_query(alloc: Global, fields: &mut Fields) -> Result<Query, CodecFault>
     ensures { TakesWithMemory (λ q. q) query_reading (unread_of fields.old) (unread_of fields.new) result }
 {
     let mut after = *fields;
-    let query = match after.take_between(1, 3)? {
-        1 => Query::Get(take_key(alloc, &mut after)?),
-        2 => Query::Keys(take_txt(alloc, &mut after, 64)?),
-        _ => Query::Count,
-    };
+    let tag = after.take_between(1, 3)?;
+    let query = take_query_of(alloc, &mut after, tag)?;
     *fields = after;
     Ok(query)
 }
@@ -363,4 +378,33 @@ fn take_heavy_join(fields: &mut Fields) -> Result<Kind, CodecFault>
     let weight = after.take_between(2, 255)?;
     *fields = after;
     Ok(Kind::Join(joiner, weight))
+}
+
+#[tactic(auto, unfolding(crate::specs::Reading::kind_of_tag))]
+fn take_kind_of(alloc: Global, fields: &mut Fields, tag: u8) -> Result<Kind, CodecFault>
+    ensures { TakesWithMemory (λ k. k) (kind_of_tag tag) (unread_of fields.old) (unread_of fields.new) result }
+{
+    match tag {
+        1 => take_update(alloc, fields),
+        2 => {
+            let joiner = take_replica(fields)?;
+            Ok(Kind::Join(joiner, 1))
+        }
+        3 => {
+            let server = take_replica(fields)?;
+            Ok(Kind::Leave(server))
+        }
+        _ => take_heavy_join(fields),
+    }
+}
+
+#[tactic(auto, unfolding(crate::specs::Reading::kind_reading))]
+fn take_kind(alloc: Global, fields: &mut Fields) -> Result<Kind, CodecFault>
+    ensures { TakesWithMemory (λ k. k) kind_reading (unread_of fields.old) (unread_of fields.new) result }
+{
+    let mut after = *fields;
+    let tag = after.take_between(1, 4)?;
+    let kind = take_kind_of(alloc, &mut after, tag)?;
+    *fields = after;
+    Ok(kind)
 }
