@@ -5,7 +5,7 @@ use Rattle.cg_schedule.specs.declared.event.Event.TheVariants.{Rounds, End}
 use Rattle.cg_schedule.specs.Line.{state_after}
 use Rattle.cg_agree.specs.World.{World, no_world}
 use Rattle.cg_agree.specs.Run.{MayStand}
-use Rattle.cg_events.specs.Happening.{IsCounted}
+use Rattle.cg_world.specs.Steps.{IsCounted}
 use Rattle.cg_run.specs.declared.progress.Progress.{Progress}
 
 -- a start was read, and its replicas have begun
