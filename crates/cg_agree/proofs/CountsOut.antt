@@ -16,14 +16,14 @@ use Rattle.cg_agree.specs.FactsReplica.{has_installed}
 use Rattle.cg_agree.specs.Facts.{Invariant}
 use Rattle.cg_agree.specs.Small.{Small, small_step}
 use Rattle.cg_agree.specs.Smalls.{may_make}
-use Rattle.cg_agree.proofs.AttemptSteps.{attempt-step, group-of}
-use Rattle.cg_agree.proofs.AttemptsCame.{Came, Stayed, WasLeft, WasEntered, WasInstalled, WasMade, came}
+use Rattle.cg_agree.proofs.AttemptSteps.{group-of}
+use Rattle.cg_agree.proofs.AttemptsCame.{Came, Stayed, WasLeft, WasEntered, WasInstalled, WasMade}
 use Rattle.cg_agree.proofs.AttemptsGrow.{attempts-grow}
 use Rattle.cg_agree.proofs.BitsKept.{in-at, leaver-other}
 use Rattle.cg_agree.proofs.DeadKept.{said-attempt}
 use Rattle.cg_agree.proofs.HandSays.{find-holds}
 use Rattle.cg_agree.proofs.InstalledIndexKept.{same-installed}
-use Rattle.cg_agree.proofs.OutStays.{out-stays, said-number}
+use Rattle.cg_agree.proofs.OutStays.{said-number}
 use Rattle.cg_agree.proofs.Reach.{row-within, acts-more, take-front}
 use Rattle.cg_agree.proofs.ReachSteps.{goes_on-kept}
 use Rattle.cg_agree.proofs.ReachWorld.{when-is}
@@ -83,12 +83,6 @@ module _ (c : Chronicle) (s : Small) (i : Invariant c) (may : may_make c s ≡ t
       count-stays b p now installed
       (cond-true (is_in d b.conf p) (length (greens_of d p)) (left_count b p) (ap (λ k. is_in d k p) (conf-now b now) ∙ is) ∙ ap length greens
       ∙ sym (cond-true (is_in c a.conf p) (length (greens_of c p)) (left_count a p) (ap (λ k. is_in c k p) conf-is ∙ was)))
-
-  -- who was out of it before the step
-  pub outside-counted : (b : Attempt) (p : ℕ) → attempt_of d conf ≡ Some b → has b.installed p ≡ true → is_in c conf p ≡ false → IsCountedIn d conf b p
-  outside-counted b p now installed out = at (came c d conf b (attempt-step c s i may) now) where
-    out-now : is_in d conf p ≡ false
-    out-now = out-stays c s i.net.seated may (group-of c i) conf p said out
 
     same : (x : Attempt) → attempt_of c conf ≡ Some x → a ≡ x
     same x e = some-is a x (sym found ∙ e)
