@@ -17,7 +17,7 @@ use Rattle.cg_client.specs.Replica.{Replica}
 use Rattle.cg_client.specs.Queries.{view_of}
 use Rattle.cg_schedule.specs.declared.event.Event.{Event}
 use Rattle.cg_agree.specs.World.{Life, Up, Down, Seat, World, running, seat_of, replica_of}
-use Rattle.cg_agree.specs.Show.{Moved, line_of, up_line, is_news, with_printed, new_lines, ended}
+use Rattle.cg_agree.specs.Show.{Moved, line_of, up_line, is_news, with_printed, ended}
 use Rattle.cg_agree.specs.Step.{happens, world_step}
 use Rattle.cg_agree.specs.Run.{Step}
 use Rattle.cg_agree.specs.Shown.{lines_in, last_of, last_up, position_of, white_of}
@@ -28,6 +28,7 @@ use Rattle.cg_agree.specs.Agreement.{through}
 use Rattle.cg_agree.specs.Noting.{chronicle_step}
 use Rattle.cg_agree.specs.Played.{StandsBeside}
 use Rattle.cg_agree.specs.Telling.{latest, last_line, printed}
+use Rattle.cg_agree.specs.Touched.{new_lines}
 use Rattle.cg_agree.proofs.PrimaryOne.{IsFoundFrom, found-all}
 use Rattle.cg_agree.proofs.RunForward.{IsStepOf}
 use Rattle.cg_agree.proofs.SameLine.{one-line}
