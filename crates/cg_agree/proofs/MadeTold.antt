@@ -16,7 +16,8 @@ use Rattle.cg_client.specs.Replica.{Replica}
 use Rattle.cg_agree.specs.World.{World, replica_of}
 use Rattle.cg_agree.specs.Show.{Moved, made_of_action}
 use Rattle.cg_agree.specs.Run.{Step}
-use Rattle.cg_agree.specs.Shown.{made_names, made_at, made_from, made_of, position_of}
+use Rattle.cg_agree.specs.Shown.{made_names, made_at, made_from, position_of}
+use Rattle.cg_agree.specs.Telling.{made_of}
 use Rattle.cg_agree.specs.Agreement.{through}
 use Rattle.cg_agree.specs.Chronicle.{Chronicle}
 use Rattle.cg_agree.specs.Noting.{chronicle_step}
