@@ -1,4 +1,4 @@
--- Counts behind a small step: of who has as many as before it, and of who is in the configuration of an attempt with the greens that it had.
+-- Counts behind a small step of who was out of an attempt's configuration before it, and of who is in it with the greens that it had.
 use Rattle.std.proofs.Common.{◌≡◌, ℕ, ◌+◌, ◌≤◌, ◌<◌, true, take, length, Option, Some, IfSome, sym, ap, ◌∙◌, subst, arith, eqb-true}
 use Rattle.std.specs.Prelude.{◌==◌}
 use Rattle.std.specs.Option.{option_map_or}
