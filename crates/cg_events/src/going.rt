@@ -12,8 +12,8 @@ ghost use Rattle.cg_agree.specs.Standing.{IsHandedBooked, AreBookedInTurn};
 ghost use Rattle.cg_agree.specs.Touched.{ShowsNewsOf};
 ghost use Rattle.cg_seat.specs.Calls.{taken, IsBookedFor};
 ghost use Rattle.cg_show.specs.Showing.{shows_after, order_after, made_after};
-ghost use Rattle.cg_events.specs.Going.{sending, seated, comes_back};
-ghost use Rattle.cg_agree.specs.Show.{ended, ended_with, tell};
+ghost use Rattle.cg_events.specs.Going.{sending, seated, comes_back, ended_with};
+ghost use Rattle.cg_agree.specs.Show.{ended, tell};
 
 use crate::WorldState;
 use crate::made::MadeCut;

@@ -49,4 +49,4 @@ ascend-with (r ∷ xs) new ascends = elim (cases_Bool (nat_lt new.place r.place)
 
 pub none-left : (n : ℕ) (ids : List ActionId) → answered_from n ids [] ≡ []
 none-left n [] = refl
-none-left n (id ∷ ids) = none-left (suc n) ids
+none-left n (id ∷ ids) = refl
