@@ -113,10 +113,8 @@ fn place_all(order: &mut IdList, orders: &mut Row<Placed>, ids: &[ActionId]) -> 
     ensures order { OnOk result (order.new ≡ order.old ++ ids.now) }
     ensures orders { OnOk result (orders.new ≡ orders.old ++ placed_from (length order.old) ids.now) }
 {
-    let mut next = 0;
-    'names: while next < ids.len() {
-        place_one(order, orders, &ids[next])?;
-        next += 1;
+    for id in ids {
+        place_one(order, orders, id)?;
     }
     Ok(())
 }
