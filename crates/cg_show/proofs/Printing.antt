@@ -38,13 +38,13 @@ printed-behind (x ∷ xs) new past = elim (cases_Bool (x.id == new.id)) [
       rw other (ap (λ ys. x ∷ ys) (printed-behind xs new beyond)))
 ]
 
-there : (k n i : ℕ) → cond (nat_lt k n) (Some k) None ≡ Some i → (k < n) × (k ≡ i)
+pub there : (k n i : ℕ) → cond (nat_lt k n) (Some k) None ≡ Some i → (k < n) × (k ≡ i)
 there k n i e = elim (cases_lt k n) [
   | inl less ↦ (let same : Some k ≡ Some i = sym (cond-true (nat_lt k n) (Some k) None (lt-ltb k n less)) ∙ e in (less, cc))
   | inr past ↦ absurd (let clash : None ≡ Some i = sym (cond-false (nat_lt k n) (Some k) None (le-ltb k n past)) ∙ e in cc)
 ]
 
-nowhere : (k n : ℕ) → cond (nat_lt k n) (Some k) None ≡ None → n ≤ k
+pub nowhere : (k n : ℕ) → cond (nat_lt k n) (Some k) None ≡ None → n ≤ k
 nowhere k n e = elim (cases_lt k n) [
   | inl less ↦ absurd (let clash : Some k ≡ None = sym (cond-true (nat_lt k n) (Some k) None (lt-ltb k n less)) ∙ e in cc)
   | inr past ↦ past
