@@ -66,7 +66,7 @@ impl Lines {
         ensures { OnOk result (self.new ≡ with_printed self.old new) }
     {
         let id = new.id;
-        match place_of(self.list.as_slice(), id) {
+        match index_of(self.list.as_slice(), id) {
             Some(index) => {
                 self.list[index] = new;
                 Ok(())
@@ -79,7 +79,8 @@ impl Lines {
     }
 }
 
-fn place_of(lines: &[Line], p: ReplicaId) -> Option<usize>
+// Where the replica's line stands, from 0.
+fn index_of(lines: &[Line], p: ReplicaId) -> Option<usize>
     ensures { result ≡ position (λ l. l.id == p) lines.now }
 {
     lines.iter().position(|line| line.id == p)
