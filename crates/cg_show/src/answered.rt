@@ -11,7 +11,7 @@ use std::marker::Model;
 
 /// A reply, with the place of its action in the global order.
 #[derive(Drop)]
-pub struct Answered {
+pub(crate) struct Answered {
     place: u64,
     reply: Reply,
 }

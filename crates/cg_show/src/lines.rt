@@ -2,7 +2,7 @@ ghost use Rattle.std.specs.Prelude.{◌≡◌, ◌==◌, [], find, fold, positio
 ghost use Rattle.std.specs.Option.{option_copied};
 ghost use Rattle.cg_agree.specs.Show.{is_news, with_printed};
 
-use crate::same_line;
+use crate::same::same_line;
 use cg_base::{NoMemory, ReplicaId};
 use cg_report::{Line, UpLine, View};
 use std::alloc::Global;
