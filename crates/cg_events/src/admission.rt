@@ -14,9 +14,8 @@ fn first_of(reasons: &[Option<Reason>]) -> Option<Reason>
     ensures { result ≡ first_some reasons.now }
 {
     for reason in reasons {
-        match reason {
-            Some(reason) => return Some(*reason),
-            None => {}
+        if let Some(reason) = reason {
+            return Some(*reason);
         }
     }
     None

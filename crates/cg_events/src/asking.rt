@@ -33,9 +33,8 @@ pub(crate) fn request(
     requires booked { IsBooked state }
     ensures { Happens state (Requested p cmds.now query.now) result }
 {
-    match takes_part(&state, p) {
-        Some(reason) => return Happened::Refused { state, reason },
-        None => {}
+    if let Some(reason) = takes_part(&state, p) {
+        return Happened::Refused { state, reason };
     }
     match update(alloc, state, p, cmds, query) {
         Ok(going) => Happened::Done(going),
@@ -89,9 +88,8 @@ pub(crate) fn join(
     requires booked { IsBooked state }
     ensures { Happens state (Join p joiner weight) result }
 {
-    match join_refused(&state, p, joiner) {
-        Some(reason) => return Happened::Refused { state, reason },
-        None => {}
+    if let Some(reason) = join_refused(&state, p, joiner) {
+        return Happened::Refused { state, reason };
     }
     match ask(
         alloc,
@@ -120,9 +118,8 @@ pub(crate) fn leave(alloc: Global, state: WorldState, p: ReplicaId, server: Repl
     requires booked { IsBooked state }
     ensures { Happens state (Leave p server) result }
 {
-    match leave_refused(&state, p, server) {
-        Some(reason) => return Happened::Refused { state, reason },
-        None => {}
+    if let Some(reason) = leave_refused(&state, p, server) {
+        return Happened::Refused { state, reason };
     }
     match ask(alloc, state, p, Request::Leave(server)) {
         Ok(going) => Happened::Done(going),

@@ -20,9 +20,8 @@ pub(crate) fn split(alloc: Global, state: WorldState, set: IdSet) -> Happened
     requires { IsBooked state }
     ensures { Happens state (Split set) result }
 {
-    match split_refused(&state, &set) {
-        Some(reason) => return Happened::Refused { state, reason },
-        None => {}
+    if let Some(reason) = split_refused(&state, &set) {
+        return Happened::Refused { state, reason };
     }
     let mut parted = state;
     match parted.group.split(set) {
@@ -47,9 +46,8 @@ pub(crate) fn merge(alloc: Global, state: WorldState, set: IdSet) -> Happened
     requires { IsBooked state }
     ensures { Happens state (Merge set) result }
 {
-    match merge_refused(&state, &set) {
-        Some(reason) => return Happened::Refused { state, reason },
-        None => {}
+    if let Some(reason) = merge_refused(&state, &set) {
+        return Happened::Refused { state, reason };
     }
     let left = state.left_replicas();
     let mut joined = state;
@@ -87,9 +85,8 @@ pub(crate) fn deliver(alloc: Global, state: WorldState, p: ReplicaId, count: u64
     requires { IsBooked state }
     ensures { Happens state (Deliver p count) result }
 {
-    match unknown(&state, p) {
-        Some(reason) => return Happened::Refused { state, reason },
-        None => {}
+    if let Some(reason) = unknown(&state, p) {
+        return Happened::Refused { state, reason };
     }
     let mut behind = state;
     match behind.group.deliver(p, count) {
@@ -121,9 +118,8 @@ fn hand_over(alloc: Global, state: WorldState, handed: Handed<Letter>) -> Result
 pub(crate) fn order(alloc: Global, state: WorldState, p: ReplicaId) -> Happened
     ensures { Happens state (Order p) result }
 {
-    match unknown(&state, p) {
-        Some(reason) => return Happened::Refused { state, reason },
-        None => {}
+    if let Some(reason) = unknown(&state, p) {
+        return Happened::Refused { state, reason };
     }
     let mut ordered = state;
     match ordered.group.order(p) {
@@ -144,9 +140,8 @@ pub(crate) fn order(alloc: Global, state: WorldState, p: ReplicaId) -> Happened
 pub(crate) fn receive(alloc: Global, state: WorldState, p: ReplicaId, place: u64) -> Happened
     ensures { Happens state (Receive p place) result }
 {
-    match unknown(&state, p) {
-        Some(reason) => return Happened::Refused { state, reason },
-        None => {}
+    if let Some(reason) = unknown(&state, p) {
+        return Happened::Refused { state, reason };
     }
     let mut behind = state;
     match behind.group.receive(p, place) {

@@ -29,9 +29,8 @@ pub(crate) fn transfer(
     requires { IsSeated state }
     ensures { Happens state (TransferEvent p joiner pieces) result }
 {
-    match transfer_refused(&state, p, joiner) {
-        Some(reason) => return Happened::Refused { state, reason },
-        None => {}
+    if let Some(reason) = transfer_refused(&state, p, joiner) {
+        return Happened::Refused { state, reason };
     }
     match hand_pieces(alloc, state, p, joiner, pieces) {
         Ok(going) => Happened::Done(going),

@@ -20,9 +20,8 @@ use std::alloc::Global;
 pub(crate) fn weak(alloc: Global, state: WorldState, p: ReplicaId, query: &Query) -> Happened
     ensures { Happens state (Weak p query.now) result }
 {
-    match takes_part(&state, p) {
-        Some(reason) => return Happened::Refused { state, reason },
-        None => {}
+    if let Some(reason) = takes_part(&state, p) {
+        return Happened::Refused { state, reason };
     }
     match weak_of(alloc, &state, p, query) {
         Ok(list) => match show_list(alloc, state, list) {
@@ -55,9 +54,8 @@ fn weak_of(
 pub(crate) fn dirty(alloc: Global, state: WorldState, p: ReplicaId, query: &Query) -> Happened
     ensures { Happens state (Dirty p query.now) result }
 {
-    match takes_part(&state, p) {
-        Some(reason) => return Happened::Refused { state, reason },
-        None => {}
+    if let Some(reason) = takes_part(&state, p) {
+        return Happened::Refused { state, reason };
     }
     match dirty_of(alloc, &state, p, query) {
         Ok(list) => match show_list(alloc, state, list) {
@@ -90,9 +88,8 @@ fn dirty_of(
 pub(crate) fn show(alloc: Global, state: WorldState, p: ReplicaId) -> Happened
     ensures { Happens state (Show p) result }
 {
-    match hidden(&state, p) {
-        Some(reason) => return Happened::Refused { state, reason },
-        None => {}
+    if let Some(reason) = hidden(&state, p) {
+        return Happened::Refused { state, reason };
     }
     match shown_of(alloc, &state, p) {
         Ok(list) => match show_list(alloc, state, list) {

@@ -30,9 +30,8 @@ pub(crate) fn stop(
 ) -> Happened
     ensures { Happens state (Stop p call fill.now) result }
 {
-    match takes_part(&state, p) {
-        Some(reason) => return Happened::Refused { state, reason },
-        None => {}
+    if let Some(reason) = takes_part(&state, p) {
+        return Happened::Refused { state, reason };
     }
     let mut struck = state;
     match stop_at(alloc, &mut struck, p, call, fill) {
@@ -102,9 +101,8 @@ pub(crate) fn fail(alloc: Global, state: WorldState, p: ReplicaId, call: u64) ->
     requires { 1 ≤ call }
     ensures { Happens state (Fail p call) result }
 {
-    match takes_part(&state, p) {
-        Some(reason) => return Happened::Refused { state, reason },
-        None => {}
+    if let Some(reason) = takes_part(&state, p) {
+        return Happened::Refused { state, reason };
     }
     let mut struck = state;
     match arm_fail(&mut struck, p, call) {
@@ -137,9 +135,8 @@ pub(crate) fn recover(alloc: Global, state: WorldState, p: ReplicaId) -> Happene
     requires { IsSeated state }
     ensures { Happens state (Recover p) result }
 {
-    match not_down(&state, p) {
-        Some(reason) => return Happened::Refused { state, reason },
-        None => {}
+    if let Some(reason) = not_down(&state, p) {
+        return Happened::Refused { state, reason };
     }
     match recover_down(alloc, state, p) {
         Ok(going) => Happened::Done(going),
