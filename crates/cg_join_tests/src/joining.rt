@@ -116,7 +116,7 @@ fn finished(joiner: Joiner<ModelDisk>) -> Done<ModelDisk>
 
 // the disk of replica 4, which has taken all pieces
 fn joined_by(core: &Core, writer: SnapshotWriter) -> Done<ModelDisk>
-    requires snapshot { writer ≡ record { name = record { rep = 1; number = 1 }; parts = parts_of core.now } }
+    requires snapshot { writer ≡ record { name = record { giver = 1; number = 1 }; parts = parts_of core.now } }
     requires ascends { Ascends core.now.db }
     requires agrees { Agrees (joined 4 core.now) }
 {
