@@ -11,7 +11,7 @@ use thiserror::Error;
 /// Why a piece isn't taken.
 #[derive(Clone, Copy, Debug, PartialEq, Eq, Error)]
 pub enum JoinErr {
-    /// The bytes are no piece; this is the place of the first that can't be read.
+    /// The bytes are no piece; this is the offset of the first that can't be read.
     #[error("the bytes at {at} are of no piece")]
     BadPiece {
         at: u64,
@@ -28,6 +28,7 @@ pub enum JoinErr {
         want: u64,
         got: u64,
     },
+    /// Memory was refused.
     #[error("memory was refused")]
     NoMemory,
 }
