@@ -3,9 +3,6 @@ ghost use Rattle.cg_join.specs.Taking.{bad};
 
 use crate::SnapshotName;
 use cg_codec::CodecFault;
-use cg_disk::Disk;
-use std::fmt;
-use std::fmt::{Display, Formatter, Write};
 use thiserror::Error;
 
 /// Why a piece isn't taken.
@@ -33,15 +30,6 @@ pub enum JoinErr {
     NoMemory,
 }
 
-/// What ended the making of a joiner's disk.
-#[derive(Drop)]
-pub enum FinishErr<D: Disk> {
-    /// A device call failed.
-    Lost(D),
-    /// Memory was refused, and no device call failed.
-    NoMemory(D),
-}
-
 pub(crate) fn bad(fault: CodecFault) -> JoinErr
     ensures { result ≡ bad fault }
 {
@@ -50,14 +38,5 @@ pub(crate) fn bad(fault: CodecFault) -> JoinErr
         CodecFault::Bad { at } => JoinErr::BadPiece { at },
         CodecFault::Rest { at } => JoinErr::BadPiece { at },
         CodecFault::NoMemory => JoinErr::NoMemory,
-    }
-}
-
-impl<D: Disk> Display for FinishErr<D> {
-    fn fmt<W: Write>(&self, f: &mut Formatter<W>) -> fmt::Result {
-        match self {
-            FinishErr::Lost(_) => f.write_str("a device call failed"),
-            FinishErr::NoMemory(_) => f.write_str("memory was refused"),
-        }
     }
 }

@@ -20,7 +20,7 @@ mod snapshot;
 mod taking;
 mod writing;
 
-pub use errors::{FinishErr, JoinErr};
+pub use errors::JoinErr;
 pub use joiner::Joiner;
 pub use laws::{joiners_agree, pieces_are_exact, snapshots_are_counted, snapshots_are_taken};
 pub use name::SnapshotName;

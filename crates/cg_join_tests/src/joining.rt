@@ -14,9 +14,9 @@ use super::giver::{giver, name};
 use cg_base::{NoMemory, ReplicaId};
 use cg_client::Core;
 use cg_disk::{Disk, ModelDisk};
-use cg_join::{FinishErr, JoinErr, Joiner, SnapshotWriter, joiners_agree, snapshots_are_taken};
+use cg_join::{JoinErr, Joiner, SnapshotWriter, joiners_agree, snapshots_are_taken};
 use cg_report::{Line, ShownPhase, StateName, UpLine, put_line};
-use cg_store::Store;
+use cg_store::{CommitErr, Store};
 use cg_stored::{
     Checkpoint, agreement_is_tested, decode_checkpoint, parts_are_exact, put_checkpoint,
 };
@@ -103,11 +103,11 @@ fn finished(joiner: Joiner<ModelDisk>) -> Done<ModelDisk>
 {
     match joiner.finish() {
         Ok(disk) => Ok(disk),
-        Err(FinishErr::Lost(disk)) => {
+        Err(CommitErr::Lost(disk)) => {
             drop(disk);
             Err("a device call failed")
         }
-        Err(FinishErr::NoMemory(disk)) => {
+        Err(CommitErr::NoMemory(disk)) => {
             drop(disk);
             Err("no memory")
         }

@@ -15,7 +15,8 @@ use cg_base::{Cut, NoMemory, ReplicaId};
 use cg_client::Core;
 use cg_disk::{Disk, ModelDisk};
 use cg_engine::Wreck;
-use cg_join::{FinishErr, Joiner, SnapshotName, SnapshotWriter, snapshots_are_counted};
+use cg_join::{Joiner, SnapshotName, SnapshotWriter, snapshots_are_counted};
+use cg_store::CommitErr;
 use std::alloc::Global;
 use std::marker::Model;
 use std::snapshot::Snapshot;
@@ -144,8 +145,8 @@ impl Transfer {
         drop(writer);
         match taking.finish() {
             Ok(disk) => arrive(alloc, disk, joiner),
-            Err(FinishErr::Lost(_)) => unreachable!(),
-            Err(FinishErr::NoMemory(disk)) => {
+            Err(CommitErr::Lost(_)) => unreachable!(),
+            Err(CommitErr::NoMemory(disk)) => {
                 drop(disk);
                 Err(NoMemory)
             }
