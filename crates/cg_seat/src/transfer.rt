@@ -58,8 +58,8 @@ impl Transfer {
         ensures { IfOk result (λ t. t ≡ record { joiner = joiner; giver = giver; content = core.now; taken = 0 }) }
     {
         let alloc = core.alloc();
-        let writer = SnapshotWriter::make(core, SnapshotName { giver, number })?;
         let name = SnapshotName { giver, number };
+        let writer = SnapshotWriter::make(core, name)?;
         Ok(Transfer {
             joiner,
             giver,
