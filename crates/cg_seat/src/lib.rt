@@ -7,6 +7,7 @@
 
 mod copying;
 mod life;
+mod limits;
 mod looks;
 mod pieces;
 mod resting;
