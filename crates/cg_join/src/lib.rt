@@ -9,6 +9,7 @@
 mod entry;
 mod errors;
 mod gather;
+mod handing;
 mod joiner;
 mod laws;
 mod name;
@@ -21,6 +22,7 @@ mod taking;
 mod writing;
 
 pub use errors::JoinErr;
+pub use handing::hand_pieces;
 pub use joiner::Joiner;
 pub use laws::{joiners_agree, pieces_are_exact, snapshots_are_counted, snapshots_are_taken};
 pub use name::SnapshotName;

@@ -1,5 +1,5 @@
 //! What is seen of the replica that a joiner's disk stands for, behind all pieces of a snapshot.
-ghost use Rattle.std.specs.Prelude.{◌≡◌, ◌<◌, ◌≤◌, ◌+◌, suc, true, [], length, take, IfOk, OnOk, IsTrue};
+ghost use Rattle.std.specs.Prelude.{◌≡◌, true, IfOk};
 ghost use Rattle.cg_db.specs.Ascending.{Ascends};
 ghost use Rattle.cg_stored.specs.Checkpoint.{parts_of as saved_parts};
 ghost use Rattle.cg_stored.specs.Limits.{AreParts};
@@ -8,13 +8,12 @@ ghost use Rattle.cg_stored.specs.Agreeing.{Agrees};
 ghost use Rattle.cg_join.specs.Finishing.{IsSnapshotFor};
 ghost use Rattle.cg_client.specs.Joined.{joined};
 ghost use Rattle.cg_join.specs.Snapshot.{parts_of};
-ghost use Rattle.cg_join_tests.specs.Taking.{IsTaking, with_parts};
 
 use super::giver::{giver, name};
 use cg_base::{NoMemory, ReplicaId};
 use cg_client::Core;
 use cg_disk::{Disk, ModelDisk};
-use cg_join::{JoinErr, Joiner, SnapshotWriter, joiners_agree, snapshots_are_taken};
+use cg_join::{Joiner, SnapshotWriter, hand_pieces, joiners_agree};
 use cg_report::{Line, ShownPhase, StateName, UpLine, put_line};
 use cg_store::{CommitErr, Store};
 use cg_stored::{
@@ -66,37 +65,6 @@ fn fits(saved: Checkpoint, id: ReplicaId) -> bool
     agrees
 }
 
-fn take_piece(writer: &SnapshotWriter, joiner: &mut Joiner<ModelDisk>) -> Result<(), NoMemory>
-    requires takes { IsTaking writer.now joiner.old }
-    requires there { length joiner.old.parts < length writer.now.parts }
-    ensures { OnOk result (joiner.new ≡ with_parts joiner.old (take (suc (length joiner.old.parts)) writer.now.parts)) }
-{
-    snapshots_are_taken();
-    // it says how many pieces there are at most
-    let _count = writer.count();
-    let bytes = writer.piece(joiner.taken() + 1)?;
-    match joiner.piece(bytes.as_slice()) {
-        Ok(_last) => Ok(()),
-        Err(JoinErr::NoMemory) => Err(NoMemory),
-        Err(_) => unreachable!(),
-    }
-}
-
-fn take_pieces(
-    writer: &SnapshotWriter,
-    joiner: &mut Joiner<ModelDisk>,
-    count: u64,
-) -> Result<(), NoMemory>
-    requires takes { IsTaking writer.now joiner.old }
-    requires there { length joiner.old.parts + count ≤ length writer.now.parts }
-    ensures { OnOk result (joiner.new ≡ with_parts joiner.old (take (length joiner.old.parts + count) writer.now.parts)) }
-{
-    for _ in 0..count {
-        take_piece(writer, joiner)?;
-    }
-    Ok(())
-}
-
 fn finished(joiner: Joiner<ModelDisk>) -> Done<ModelDisk>
     requires calls { (⟦<ModelDisk as Disk>⟧.view joiner.disk).time ≡ 0 }
     requires all { IsSnapshotFor joiner.id joiner.parts }
@@ -122,7 +90,7 @@ fn joined_by(core: &Core, writer: SnapshotWriter) -> Done<ModelDisk>
 {
     let alloc = core.alloc();
     let mut joiner = Joiner::new(alloc, ModelDisk::new(alloc), ReplicaId::known(4), name(1));
-    let taken = take_pieces(&writer, &mut joiner, writer.count());
+    let taken = hand_pieces(&writer, &mut joiner, writer.count());
     drop(writer);
     match taken {
         Ok(()) => finished(joiner),

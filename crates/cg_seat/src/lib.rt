@@ -9,7 +9,6 @@ mod copying;
 mod life;
 mod limits;
 mod looks;
-mod pieces;
 mod resting;
 mod rising;
 mod seat;

@@ -9,13 +9,12 @@ ghost use Rattle.cg_seat.specs.Resting.{IsResting};
 ghost use Rattle.cg_seat.specs.Seen.{down_seen};
 
 use crate::Seat;
-use crate::pieces::take_pieces;
 use crate::resting::Resting;
 use cg_base::{Cut, NoMemory, ReplicaId};
 use cg_client::Core;
 use cg_disk::{Disk, ModelDisk};
 use cg_engine::Wreck;
-use cg_join::{Joiner, SnapshotName, SnapshotWriter, snapshots_are_counted};
+use cg_join::{Joiner, SnapshotName, SnapshotWriter, hand_pieces, snapshots_are_counted};
 use cg_store::CommitErr;
 use std::alloc::Global;
 use std::marker::Model;
@@ -111,7 +110,7 @@ impl Transfer {
             writer,
             mut taking,
         } = self;
-        match take_pieces(&writer, &mut taking, more) {
+        match hand_pieces(&writer, &mut taking, more) {
             Ok(()) => Ok(Transfer {
                 joiner,
                 giver,
