@@ -56,9 +56,6 @@ module _ (c : Chronicle) (k q : ℕ) (legal : TalkLegal c) where
   pub way-later : (h : Held) → AreOnTheWay c k q h → h.own ≡ later_acts c k q
   way-later h way = way ∙ ap (drop (length before)) said-split ∙ drop-behind before (later_acts c k q)
 
-  pub way-from : (h : Held) → h.own ≡ later_acts c k q → AreOnTheWay c k q h
-  way-from h own = own ∙ sym (ap (drop (length before)) said-split ∙ drop-behind before (later_acts c k q))
-
 -- ---- rows
 
 pub row-both : (n : ℕ) (xs ys : List Action) → AreInRow n xs → AreInRow (n + length xs) ys → AreInRow n (xs ++ ys)

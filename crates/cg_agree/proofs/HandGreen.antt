@@ -14,7 +14,7 @@ use Rattle.cg_group.specs.declared.phase.Phase.TheVariants.{Regular}
 use Rattle.cg_group.specs.declared.delivery.Delivery.TheVariants.{Message}
 use Rattle.cg_group.specs.State.{Sent, Configuration, GroupState, phase_of, is_regular, regular_in, delivered_to, configuration}
 use Rattle.cg_group.specs.Events.{delivery_at, with_delivered}
-use Rattle.cg_client.specs.Replica.{Held, State, RegPrim, Replica}
+use Rattle.cg_client.specs.Replica.{State, RegPrim, Replica}
 use Rattle.cg_client.specs.Turn.{Turn, begin}
 use Rattle.cg_client.specs.Marks.{can_be_green, mark_green, place_green}
 use Rattle.cg_step.specs.Step.{take as take_one, on_message}
@@ -23,11 +23,11 @@ use Rattle.cg_group.specs.LookupLaws.{at-cond, eqb_comm}
 use Rattle.cg_agree.specs.World.{Up, Seat, seat_of, replica_of, running}
 use Rattle.cg_agree.specs.Chronicle.{Past, Attempt, Chronicle}
 use Rattle.cg_agree.specs.Fronts.{Front}
-use Rattle.cg_agree.specs.Looks.{past_of, greens_of, stood_of, is_at, is_in, conf_at, ordered_in, attempt_at, no_attempt, top_of, installation, left_count, on_disk, disk_held, snapshot_of, copied_for}
+use Rattle.cg_agree.specs.Looks.{past_of, greens_of, stood_of, is_at, is_in, conf_at, ordered_in, attempt_at, no_attempt, top_of, installation, left_count, on_disk, disk_held}
 use Rattle.cg_agree.specs.Talk.{act_in, acts_in}
 use Rattle.cg_agree.specs.Levels.{line_at, count_in, reached_in, reached_at}
 use Rattle.cg_agree.specs.FactsAttempts.{LevelsStand}
-use Rattle.cg_agree.specs.FactsGreens.{InstalledCount, Spine, OneOrder, IsOnLine, IsHandedGreen}
+use Rattle.cg_agree.specs.FactsGreens.{InstalledCount, Spine, IsOnLine, IsHandedGreen}
 use Rattle.cg_agree.specs.Small.{Hands, small_step, after_turn, newly_green, with_greens, attempts_behind, levels_behind, opened_by, is_entry, is_installation, entering, installing, handed_next, take_next, turning_as}
 use Rattle.cg_agree.proofs.ChronicleFacts.{seat_of-set, past_of-turn, greens_of-own, greens_of-other}
 use Rattle.cg_agree.proofs.GroupTurn.{Moved, moved-handed, moved-sent, regular-moved}
@@ -281,21 +281,3 @@ module _ (c : Chronicle) (p conf : ℕ) (r : Replica) (disk : Disk) (s : Sent Ms
 
   abbrev OnBehind : List Action → Type 0
   OnBehind xs = Front xs (line_at green_behind (top_of green_behind)) × (length xs ≤ reached_at green_behind (top_of green_behind))
-
-  -- All greens are a front of the newest level's line behind a place that is handed to a regular member of a primary component.
-  pub hands-one_order : OneOrder c → IsOnLine c p r → has (attempt_at c r.held.prim.index).installed p ≡ true →
-      LevelsStand (small_step c (Hands p)) → InstalledCount (small_step c (Hands p)) → Spine (small_step c (Hands p)) →
-      0 < r.held.prim.index → r.held.prim.index ≤ top_of c → OneOrder (small_step c (Hands p))
-  hands-one_order old on installed stands counts spine some le =
-      let own : IsOnTop green_behind (greens_of green_behind p) = own-on_top on installed (subst LevelsStand green-step stands) (subst InstalledCount green-step counts) (subst Spine green-step spine) some
-      (subst (λ n. r.held.prim.index ≤ n) (sym top-is) le) in
-      subst OneOrder (sym green-step) (record {
-        memory = λ q. ⊎_elim
-            (λ y. subst (λ k. IfSome (replica_of green_behind.world k) (λ z. OnBehind (greens_of green_behind k))) (sym (eqb-true q p y)) (any-on (replica_of green_behind.world p) (greens_of green_behind p) own))
-            (λ n. subst (λ (o : Option Replica). IfSome o (λ z. OnBehind (greens_of green_behind q))) (sym (replica-other q n))
-            (some-on (replica_of c.world q) (greens_of c q) (greens_of green_behind q) (greens-other q (λ is. (let clash : true ≡ false = sym (eq-eqb q p is) ∙ n in cc))) (old.memory q)))
-            (cases_Bool (q == p));
-        disk = λ q. subst (λ (o : Option Held). IfSome o (λ z. OnBehind (stood_of green_behind q))) (sym (disk-same q))
-            (some-on (disk_held c.world q) (stood_of c q) (stood_of green_behind q) (stood-same q) (old.disk q));
-        snapshot = λ joiner. some-on (snapshot_of c.world joiner) (copied_for c joiner) (copied_for c joiner) refl (old.snapshot joiner);
-      })

@@ -20,14 +20,14 @@ use Rattle.cg_agree.specs.World.{replica_of}
 use Rattle.cg_agree.specs.Chronicle.{Chronicle}
 use Rattle.cg_agree.specs.Looks.{conf_of, is_regular_at, is_regular_in, members_in, ordered_in}
 use Rattle.cg_agree.specs.FactsNet.{PhaseSound, IsPhase, ReceiptsInside}
-use Rattle.cg_agree.specs.Small.{Orders, Receives, small_step, with_group}
+use Rattle.cg_agree.specs.Small.{Orders, small_step, with_group}
 use Rattle.cg_agree.specs.Smalls.{may_make}
 use Rattle.cg_agree.proofs.HandsTalk.{SaidFacts}
 use Rattle.cg_agree.proofs.HandsKept.{regular-phase}
 use Rattle.cg_agree.proofs.GroupTurn.{standing-id, put-same}
 use Rattle.cg_agree.proofs.OrdersWorld.{orders-said}
 use Rattle.cg_agree.proofs.UnorderedKept.{regular-where_ordered, first-none}
-use Rattle.cg_agree.proofs.TalkFrame.{SameTalk, IsShownAs, same-said}
+use Rattle.cg_agree.proofs.TalkFrame.{SameTalk, IsShownAs}
 
 -- a configuration with a member is there
 pub conf-there : (g : GroupState Msg) (conf p : ℕ) → has (configuration g conf).members p ≡ true → (0 < conf) × (conf ≤ length g.configurations)
@@ -107,10 +107,6 @@ module _ (c : Chronicle) (p conf place : ℕ) (regular : phase_of c.world.group 
   } where
     other-one : (q : ℕ) → is_regular_in c conf p ≡ true → is_regular_in c conf q ≡ false → (q == p) ≡ false
     other-one q own out = false_from_ne_true (q == p) (λ is. absurd (let clash : true ≡ false = sym own ∙ ap (is_regular_in c conf) (sym (eqb-true q p is)) ∙ out in cc))
-
-  receives-at : SaidFacts c → SaidFacts (small_step c (Receives p place))
-  unfolding small_step
-  receives-at said = subst (λ (h : GroupState Msg). SaidFacts (with_group c h)) (sym receive-is) (same-said c behind receive-same said)
 
 -- ---- a message gets its place
 

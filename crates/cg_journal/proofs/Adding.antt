@@ -28,10 +28,6 @@ short-push [] body short one = (one, tt)
 short-push (b ∷ bodies) body short one = (short.0, short-push bodies body short.1 one)
 
 module _ (side : List ℕ) (end : ℕ) (bodies : List (List ℕ)) (has : HasRecords side end bodies) where
-  -- all up to the gate
-  closed_front : List ℕ
-  closed_front = front bodies ++ has.gate ∷ []
-
   length-closed : length (front bodies ++ has.gate ∷ []) ≡ end
   length-closed = omega (arith, has.ends, length-append (front bodies) (has.gate ∷ []), length-front bodies)
 

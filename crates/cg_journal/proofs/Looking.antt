@@ -1,14 +1,11 @@
 -- Runs of calls that only look, or sync.
-use Rattle.std.proofs.Common.{◌≡◌, ◌≤◌, Option, Some, None, IfSome, Result, Ok, Err, IsErrOf, OnOk, refl, sym, ◌∙◌, ap, subst, arith}
+use Rattle.std.proofs.Common.{◌≡◌, ◌≤◌, Option, Some, None, refl, ◌∙◌, ap, arith}
 use Rattle.std.specs.Option.{option_map}
-use Rattle.cg_disk.specs.Writes.{Only}
-use Rattle.cg_disk.specs.State.{DiskState, looked, synced}
-use Rattle.cg_disk.specs.View.{DiskView, IsView, IsAtRest, IsSynced}
+use Rattle.cg_disk.specs.State.{DiskState}
+use Rattle.cg_disk.specs.View.{DiskView, IsView}
 use Rattle.cg_disk.specs.Calls as calls
-use Rattle.cg_disk.specs.declared.disk.DiskFault.{DiskFault}
-use Rattle.cg_disk.specs.declared.disk.DiskFault.TheVariants.{Failed, NoMemory}
 use Rattle.cg_journal.specs.Strikes.{IsUnstruck, IsStruck}
-use Rattle.cg_journal.specs.Reads.{IsReadOnly, IsReadStruck, Reads}
+use Rattle.cg_journal.specs.Reads.{IsReadOnly, IsReadStruck}
 use Rattle.cg_journal.proofs.Moments.{started, goes_on, armed_at, ahead_of}
 
 -- a call that isn't struck and leaves the strike as it is
@@ -47,39 +44,3 @@ module _ (old new : DiskView) (is_old : IsView old) (is_new : IsView new) (looks
 
   struck_look : (cut : DiskState → DiskState) → calls.Fails cut old new → IsReadStruck 1 old new
   struck_look cut fails = record { only = read_only (omega (arith, fails.time)); time = omega (arith, fails.time); struck = fails_struck cut old new fails }
-
-  -- a look at a disk at rest
-  pub look_reads : {T : Type 0} (r : Result T DiskFault) → IsAtRest old → calls.Ends looked looked old new r → (IsErrOf r NoMemory → ⊥) → Reads 1 old new r
-  look_reads (Ok x) rest passes never = record {
-    only = read_only (omega (arith, passes.time));
-    rest = record {
-      only = λ c left. rest.only c (looks.images c left) ∙ sym looks.reads;
-      clean = clean old.state new.state passes.state rest.clean;
-    };
-    time = omega (arith, passes.time);
-    unstruck = passes_unstruck looked (λ s. refl) old new is_new passes;
-  }
-    where
-      clean : (before after : Option DiskState) → after ≡ option_map looked before → IfSome before IsSynced → IfSome after IsSynced
-      clean None after is was = subst (λ x. IfSome x IsSynced) (sym is) tt
-      clean (Some s) after is was = subst (λ x. IfSome x IsSynced) (sym is) was
-  look_reads (Err Failed) rest fails never = struck_look looked fails
-  look_reads (Err NoMemory) rest same never = absurd (never refl)
-
-  -- a sync of any disk
-  pub sync_reads : {T : Type 0} (r : Result T DiskFault) → OnOk r (Only old.reads new.may_leave) → calls.Ends synced looked old new r → (IsErrOf r NoMemory → ⊥) → Reads 1 old new r
-  sync_reads (Ok x) durable passes never = record {
-    only = read_only (omega (arith, passes.time));
-    rest = record {
-      only = λ c left. durable c left ∙ sym looks.reads;
-      clean = clean old.state new.state passes.state;
-    };
-    time = omega (arith, passes.time);
-    unstruck = passes_unstruck synced (λ s. refl) old new is_new passes;
-  }
-    where
-      clean : (before after : Option DiskState) → after ≡ option_map synced before → IfSome after IsSynced
-      clean None after is = subst (λ x. IfSome x IsSynced) (sym is) tt
-      clean (Some s) after is = subst (λ x. IfSome x IsSynced) (sym is) (refl, refl)
-  sync_reads (Err Failed) durable fails never = struck_look looked fails
-  sync_reads (Err NoMemory) durable same never = absurd (never refl)

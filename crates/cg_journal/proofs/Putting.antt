@@ -156,8 +156,3 @@ module _ (side : Side) (place : ℕ) (bytes : List ℕ) where
         (started old (TornSide side place (length bytes) old.reads) is_old (λ c left. subst (TornSide side place (length bytes) old.reads) (sym (rest.only c left)) (torn_side_same side place (length bytes) old.reads)))
         elapses later
         (λ c left. let from = crash c left in subst (λ x. TornSide side place (length bytes) x c) (rest.only from.0 from.1) from.2)
-
-    pub moments_second : (new : DiskView) → calls.Looks mid new → mid.time ≤ new.time → LeavesOnly old new (TornSide side place (length bytes) old.reads)
-    moments_second new looks after =
-        goes_on old mid new (TornSide side place (length bytes) old.reads) moments_first looks.elapses after
-        (λ c left. let from = crash c (looks.images c left) in subst (λ x. TornSide side place (length bytes) x c) (rest.only from.0 from.1) from.2)

@@ -6,6 +6,7 @@ ghost use Rattle.cg_disk.specs.View.{IsAtRest, LeavesOnly};
 ghost use Rattle.cg_journal.specs.Records.{HasRecords, framed, records, added};
 ghost use Rattle.cg_journal.specs.Adds.{Adds, IsEither};
 
+use crate::parse::OPEN;
 use crate::put::put;
 use cg_disk::{Disk, DiskFault, Side};
 
@@ -25,7 +26,7 @@ pub fn add<D: Disk>(disk: &mut D, side: Side, end: u64, bytes: &[u8]) -> Result<
         → LeavesOnly (D.view disk.old) (D.view disk.new) (IsEither (records (D.view disk.old).reads) (option_map (added side body) (records (D.view disk.old).reads))) }
 {
     match put(disk, side, end, bytes) {
-        Ok(()) => put(disk, side, end - 1, &[1]),
+        Ok(()) => put(disk, side, end - 1, &[OPEN]),
         Err(fault) => Err(fault),
     }
 }

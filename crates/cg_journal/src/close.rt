@@ -7,6 +7,7 @@ ghost use Rattle.cg_journal.specs.Records.{HasRecords, records, emptied};
 ghost use Rattle.cg_journal.specs.Adds.{IsEither};
 ghost use Rattle.cg_journal.specs.Closes.{Closes};
 
+use crate::parse::{CLOSED, EMPTY_END, GATE};
 use crate::put::put;
 use cg_disk::{Disk, DiskFault, Side};
 
@@ -24,9 +25,9 @@ pub fn close<D: Disk>(disk: &mut D, side: Side, end: u64) -> Result<(), DiskFaul
     ensures moments { (bodies : List (List ℕ)) → HasRecords (bytes_of side (D.view disk.old).reads) end bodies
         → LeavesOnly (D.view disk.old) (D.view disk.new) (IsEither (records (D.view disk.old).reads) (option_map (emptied side) (records (D.view disk.old).reads))) }
 {
-    if end > 9 {
-        put(disk, side, 8, &[0])
+    if end > EMPTY_END {
+        put(disk, side, GATE, &[CLOSED])
     } else {
-        put(disk, side, 8, &[])
+        put(disk, side, GATE, &[])
     }
 }

@@ -10,7 +10,7 @@ use crate::format::format_sides;
 use crate::framed::framed;
 use crate::load::load;
 use crate::open::{FormatErr, JournalOpen};
-use crate::parse::parse_both;
+use crate::parse::{EMPTY_END, parse_both};
 use cg_disk::{Disk, DiskFault, ModelDisk, Side};
 use std::alloc::Global;
 use std::fmt;
@@ -61,7 +61,10 @@ impl<D: Disk> Journal<D> {
         match format_sides(&mut disk) {
             Ok(()) => Ok(Journal {
                 disk,
-                ends: Ends { a: 9, b: 9 },
+                ends: Ends {
+                    a: EMPTY_END,
+                    b: EMPTY_END,
+                },
             }),
             Err(DiskFault::Failed) => Err(FormatErr::Lost(disk)),
             Err(DiskFault::NoMemory) => Err(FormatErr::NoMemory(disk)),
@@ -168,7 +171,7 @@ impl<D: Disk> Journal<D> {
         match close(&mut disk, side, ends.on(side)) {
             Ok(()) => Ok(Journal {
                 disk,
-                ends: ends.with(side, 9),
+                ends: ends.with(side, EMPTY_END),
             }),
             Err(DiskFault::Failed) => Err(AppendErr::Lost(disk)),
             Err(DiskFault::NoMemory) => Err(AppendErr::NoMemory(Journal { disk, ends })),

@@ -13,6 +13,15 @@ pub const HEADER: [u8; 8] = *b"CGRUITY2";
 /// The byte of an open gate.
 pub const OPEN: u8 = 1;
 
+/// The byte of a closed gate; any other that isn't that of an open one closes it too.
+pub const CLOSED: u8 = 0;
+
+/// The offset of a side's first gate, just behind the header.
+pub const GATE: u64 = 8;
+
+/// The end of a side without records, just behind its first gate.
+pub const EMPTY_END: u64 = 9;
+
 /// The bodies of a side's records, and where the records end.
 #[derive(Drop)]
 pub struct Parsed {

@@ -216,7 +216,7 @@ pub near : (c : Option Command) (taken : List ℕ) (how : Ending) (v v' : SinkVi
 near c taken how v v' st ended in_time k f = elim (cases_lt (end_of_line k (pieces_of 10 taken) + 4096) (length taken)) [
   | inl lt ↦
       let m = end_of_line k (pieces_of 10 taken) in
-      let none = (in_time m lt).0 in
+      let none = (in_time m (omega (arith, lt))).0 in
       let e = found-is c (outcome_of c taken how) v v' st k ended f in
       absurd (by_command c e none (omega (arith, lt)))
   | inr le ↦ le

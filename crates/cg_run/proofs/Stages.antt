@@ -162,9 +162,6 @@ module _ (a b c : Stage) (gone gone' : List ℕ) (made made' : List Step) (first
 
 -- a whole line in which nothing is found
 module _ (report : Report) (st next : Stage) (line : List ℕ) (v v1 : SinkView) (held : List ℕ) (stands : IsStage st) (is : IsUnended line) (ends : EndsLine report st line v v1 held next) where
-  line_part : Produced
-  line_part = whole_line st.line st.at line st.progress
-
   abbrev line_bytes : List ℕ
   line_bytes = line ++ 10 ∷ []
 

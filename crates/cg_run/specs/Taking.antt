@@ -1,5 +1,5 @@
 -- How what was taken stands to the bytes that the input had left, and what holds of all that a run comes to.
-use Rattle.std.specs.Prelude.{◌≡◌, ◌<◌, ◌+◌, ◌++◌, ℕ, zero, suc, List, [], ◌∷◌, ◌≤◌, length, take, Option, Some, None}
+use Rattle.std.specs.Prelude.{◌≡◌, ◌+◌, ◌++◌, ℕ, zero, suc, List, [], ◌∷◌, ◌≤◌, length, take, Option, Some, None}
 use Rattle.std.specs.Io.KnownBytes.{Consumes, IsAtEnd}
 use Rattle.cg_base.specs.Text.{pieces_of}
 use Rattle.cg_io.specs.Outside.{SourceView, SinkView, PutsAll}
@@ -58,7 +58,7 @@ pub record Begins (from to : SinkView) (text : List ℕ) : Type 0 where
 -- and what they come to was put.
 abbrev pub InTime : (Produced → List ℕ) → (List ℕ → Produced) → List ℕ → SinkView → SinkView → Type 0
 InTime text comes taken from to =
-    (m : ℕ) → m + most_at_once < length taken → ((comes (take m taken)).found ≡ None) × Begins from to (text (comes (take m taken)))
+    (m : ℕ) → m + most_at_once ≤ length taken → ((comes (take m taken)).found ≡ None) × Begins from to (text (comes (take m taken)))
 
 -- the line of a finding, where it is one of a line
 abbrev pub found_in : Status → Option ℕ

@@ -1,5 +1,5 @@
 -- What a store answers when its journal has appended a record, and when it has restarted the other side.
-use Rattle.std.proofs.Common.{◌≡◌, ◌⊎◌, inl, inr, ⊎_elim, ℕ, suc, List, Some, Err, sym, ◌∙◌, ap, subst, arith}
+use Rattle.std.proofs.Common.{◌≡◌, ◌⊎◌, inl, inr, ⊎_elim, ℕ, suc, List, Some, Err, sym, ◌∙◌, ap, subst}
 use Rattle.std.specs.Option.{option_map}
 use Rattle.cg_disk.specs.Sides.{opposite}
 use Rattle.cg_disk.specs.View.{DiskView, LeavesOnly}
@@ -7,7 +7,6 @@ use Rattle.cg_disk.specs.declared.disk.Side.{Side}
 use Rattle.cg_disk.specs.declared.disk.Side.TheVariants.{A}
 use Rattle.cg_journal.specs.Records.{records, added, emptied}
 use Rattle.cg_journal.specs.Opens.{no_records}
-use Rattle.cg_journal.specs.Fresh.{IsLostWithin, IsRefusedWithin}
 use Rattle.cg_journal.specs.Adds.{IsEither as IsOneOf}
 use Rattle.cg_journal.specs.Closes.{IsLostClosing}
 use Rattle.cg_journal.specs.Answers.{with_record, without_records, with_record_alone, IsDone, IsRefused as IsJournalRefused, IsLostAppend, IsLostRestart, IsRestarting, Appends, Restarts, EachMoment as EachJournalMoment}
@@ -34,14 +33,8 @@ abbrev pub standing_at : (side : Side) (generation size : ℕ) (content : Stored
 standing_at side generation size content = record { side = side; generation = generation; size = size; content = content }
 
 module _ (old : DiskView) (id : ℕ) (side : Side) (generation : ℕ) (values : Stable) (held : IsStore old id side generation values) where
-  pub its_standing : OnDisk
-  its_standing = standing_at side generation held.size held.content
-
   pub its_side : (u : OnDisk) → Stands id old.reads u → u.side ≡ side
   its_side u stands = ap (λ (x : OnDisk). x.side) (one_standing (stands_for id (records old.reads)) u (standing_at side generation held.size held.content) stands held.stands)
-
-  pub its_generation : (u : OnDisk) → Stands id old.reads u → u.generation ≡ generation
-  its_generation u stands = ap (λ (x : OnDisk). x.generation) (one_standing (stands_for id (records old.reads)) u (standing_at side generation held.size held.content) stands held.stands)
 
   pub its_content : (u : OnDisk) → Stands id old.reads u → u.content ≡ held.content
   its_content u stands = ap (λ (x : OnDisk). x.content) (one_standing (stands_for id (records old.reads)) u (standing_at side generation held.size held.content) stands held.stands)
@@ -103,9 +96,6 @@ module _ (old : DiskView) (id : ℕ) (side : Side) (generation : ℕ) (values : 
       rest = done.rest;
     }
 
-    pub moved_reached : (new : DiskView) (u : OnDisk) → IsDone (with_record_alone (opposite side) body old) 6 old new → Stands id old.reads u → IsReached id 6 (moved u body) old new
-    moved_reached new u done stands = reached id 6 (with_record_alone (opposite side) body old) (moved u body) old new done (moved_stands u stands)
-
     pub moved_lost : (new : DiskView) (u : OnDisk) →
         ((call : ℕ) × IsLostClosing call (records old.reads) (without_records (opposite side) old) old new) ⊎ IsLostRestart (opposite side) body old new →
         Stands id old.reads u → IsLost id 0 u u old new ⊎ IsLost id 2 u (moved u body) old new
@@ -142,15 +132,6 @@ module _ (old new : DiskView) (id : ℕ) (body : List ℕ) (empty : records old.
     small = small;
     rest = done.rest;
   }
-
-  pub begun_reached : (s : Stored) → IsSaved id body s → IsDone (with_record A body old) 4 old new → IsReached id 4 (begun body s) old new
-  begun_reached s saved done = reached id 4 (with_record A body old) (begun body s) old new done (begun_stands s saved)
-
-  pub begun_lost : IsLostAppend A body old new → IsLostWithin 4 old new
-  begun_lost is = record { struck = is.lost.struck; time = omega (arith, is.lost.time, is.lost.within.1) }
-
-  pub begun_refused : IsJournalRefused (λ r. r ≡ records old.reads) 2 old new → IsRefusedWithin 4 old new
-  begun_refused is = record { unstruck = is.unstruck; time = omega (arith, is.time) }
 
 -- ---- what ended a call of the journal
 

@@ -101,13 +101,6 @@ module _ {D : Type 0} (view : D → DiskView) (k mid : Kept D) (u v : OnDisk) (d
       clash : true ≡ false → ⊥
       clash e = cc
 
-  pub unwritten_by_keep : (b : Bool) → Either b (Commits view k u v d (Ok (mid, o))) (Keeps k d (Ok (mid, o))) → o.written ≡ false → (b ≡ false) × Keeps k d (Ok (mid, o))
-  unwritten_by_keep true is written = absurd (clash (sym (commit_is_written is) ∙ written))
-    where
-      clash : true ≡ false → ⊥
-      clash e = cc
-  unwritten_by_keep false is written = (refl, is)
-
   -- as a checkpoint behind it asks, a core holds what the disk stands for
   pub commit_held : (h : Held) → v.content ≡ stored_of h → Commits view k u v d (Ok (mid, o)) → (w : OnDisk) → Stands mid.id (view mid.disk).reads w → stored_of h ≡ w.content
   commit_held h content is w stands = sym content ∙ ap (λ (x : OnDisk). x.content) (stands_once mid.id (view mid.disk).reads v w (commit_stands is) stands)
@@ -137,29 +130,6 @@ module _ {D : Type 0} (view : D → DiskView) (k : Kept D) (u v : OnDisk) (d : D
       failed : (b : Bool) → Either b (EndsLong view k u v (checkpointed v) d (Err (NoMemory disk))) (Commits view k u v d (Err (NoMemory disk)))
       failed true = inl is
       failed false = is
-
-  -- the same, by whether the event was to be written
-  pub event_ends_long : (b : Bool) (mid : Kept D) (o : Outputs) (r : Result (Kept D) (CommitErr D)) → Either b (Commits view k u v d (Ok (mid, o))) (Keeps k d (Ok (mid, o))) → o.written ≡ true → nat_lt size_limit v.size ≡ true →
-      Moves view mid v (checkpointed v) r → Either b (EndsWritten view k u v d (paired r o)) (Keeps k d (paired r o))
-  event_ends_long b mid o r is written long moves =
-      let done = written_by_commit view k mid u v d o b is written in
-      whether_true b (EndsWritten view k u v d (paired r o)) (Keeps k d (paired r o)) done.0 (ends_long mid o r done.1 long moves)
-
-  pub event_ends_short : (b : Bool) (mid : Kept D) (o : Outputs) → Either b (Commits view k u v d (Ok (mid, o))) (Keeps k d (Ok (mid, o))) → o.written ≡ true → nat_lt size_limit v.size ≡ false →
-      Either b (EndsWritten view k u v d (Ok (mid, o))) (Keeps k d (Ok (mid, o)))
-  event_ends_short b mid o is written short =
-      let done = written_by_commit view k mid u v d o b is written in
-      whether_true b (EndsWritten view k u v d (Ok (mid, o))) (Keeps k d (Ok (mid, o))) done.0 (ends_short (Ok (mid, o)) done.1 short)
-
-  pub event_ends_kept : (b : Bool) (mid : Kept D) (o : Outputs) → Either b (Commits view k u v d (Ok (mid, o))) (Keeps k d (Ok (mid, o))) → o.written ≡ false →
-      Either b (EndsWritten view k u v d (Ok (mid, o))) (Keeps k d (Ok (mid, o)))
-  event_ends_kept b mid o is written =
-      let kept = unwritten_by_keep view k mid u v d o b is written in
-      whether_false b (EndsWritten view k u v d (Ok (mid, o))) (Keeps k d (Ok (mid, o))) kept.0 kept.1
-
-  pub event_ends_failed : (b : Bool) (fault : CommitErr D) → Either b (Commits view k u v d (Err fault)) (Keeps k d (Err fault)) → Either b (EndsWritten view k u v d (Err fault)) (Keeps k d (Err fault))
-  event_ends_failed true fault is = ends_failed fault is
-  event_ends_failed false fault is = is
 
 -- ---- moments of a commit and of the checkpoint behind it
 

@@ -366,8 +366,7 @@ impl<D: Disk> Store<D> {
                 values,
                 unwritten: Unwritten::new(alloc),
             }),
-            Err(AppendErr::Lost(disk)) => Err(CommitErr::Lost(disk)),
-            Err(AppendErr::NoMemory(journal)) => Err(CommitErr::NoMemory(journal.into_disk())),
+            Err(fault) => Err(commit_fault(fault)),
         }
     }
 
