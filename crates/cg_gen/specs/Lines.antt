@@ -3,9 +3,6 @@ use Rattle.std.specs.Prelude.{ℕ, List, [], ◌∷◌, ◌++◌, flat_map}
 use Rattle.cg_schedule.specs.declared.event.Event.{Event}
 use Rattle.cg_schedule.specs.Print.{line_of}
 
--- the line of an event, with its end
-abbrev pub ended_line : Event → List ℕ
-ended_line event = line_of event ++ 10 ∷ []
-
+-- the line of each event, with its end
 abbrev pub lines_of : List Event → List ℕ
-lines_of events = flat_map ended_line events
+lines_of events = flat_map (λ event. line_of event ++ 10 ∷ []) events

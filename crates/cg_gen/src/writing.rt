@@ -1,6 +1,7 @@
-ghost use Rattle.std.specs.Prelude.{◌≡◌, ◌++◌, IfOk, OnOk};
+ghost use Rattle.std.specs.Prelude.{◌≡◌, ◌++◌, ◌∷◌, [], IfOk, OnOk};
 ghost use Rattle.cg_gen.specs.Generated.{generated};
-ghost use Rattle.cg_gen.specs.Lines.{ended_line, lines_of};
+ghost use Rattle.cg_gen.specs.Lines.{lines_of};
+ghost use Rattle.cg_schedule.specs.Print.{line_of};
 
 use crate::Generator;
 use cg_base::{Bytes, NoMemory, ReplicaId, put};
@@ -32,7 +33,7 @@ fn put_lines(alloc: Global, generator: &mut Generator, out: &mut Vec<u8>) -> Res
 }
 
 fn put_line(out: &mut Vec<u8>, event: &Event) -> Result<(), NoMemory>
-    ensures { OnOk result (out.new.items ≡ out.old.items ++ ended_line event.now) }
+    ensures { OnOk result (out.new.items ≡ out.old.items ++ (line_of event.now ++ 10 ∷ [])) }
 {
     print_line(event, out)?;
     put(out, b"\n")
