@@ -100,10 +100,11 @@ impl Going {
     pub fn send(self, p: ReplicaId, sent: Row<Letter>) -> Result<Going, NoMemory>
         ensures { IfOk result (λ g. g ≡ sending self p sent) }
     {
-        let Going { state, showing } = self;
+        let Going { mut state, showing } = self;
         match state.say(p, sent) {
-            Ok(state) => Ok(Going { state, showing }),
+            Ok(()) => Ok(Going { state, showing }),
             Err(NoMemory) => {
+                drop(state);
                 drop(showing);
                 Err(NoMemory)
             }

@@ -1,5 +1,5 @@
 //! The world that events change.
-ghost use Rattle.std.specs.Prelude.{◌≡◌, true, false, Some, None, is_some, IfOk, MatchOption};
+ghost use Rattle.std.specs.Prelude.{◌≡◌, true, false, Some, None, is_some, IfOk, OnOk, MatchOption};
 ghost use Rattle.std.specs.Option.{option_map_or};
 ghost use Rattle.cg_base.specs.Sets.{has};
 ghost use Rattle.cg_members.specs.Servers.{is_server};
@@ -163,36 +163,10 @@ impl WorldState {
     }
 
     // A replica says these things to its group, one after another.
-    pub(crate) fn say(self, p: ReplicaId, sent: Row<Letter>) -> Result<WorldState, NoMemory>
-        ensures { IfOk result (λ w. w ≡ said self p sent) }
+    pub(crate) fn say(&mut self, p: ReplicaId, sent: Row<Letter>) -> Result<(), NoMemory>
+        ensures { OnOk result (self.new ≡ said self.old p sent) }
     {
-        let WorldState {
-            group,
-            seats,
-            transfers,
-            order,
-            lines,
-            made,
-            named,
-        } = self;
-        match say_all(group, p, sent) {
-            Ok(group) => Ok(WorldState {
-                group,
-                seats,
-                transfers,
-                order,
-                lines,
-                made,
-                named,
-            }),
-            Err(NoMemory) => {
-                drop(seats);
-                drop(transfers);
-                drop(order);
-                drop(lines);
-                Err(NoMemory)
-            }
-        }
+        say_all(&mut self.group, p, sent)
     }
 
     // Of these replicas the lines that differ from the last printed ones, ascending by replica.
@@ -228,14 +202,13 @@ impl WorldState {
     }
 }
 
-fn say_all(group: Group<Letter>, p: ReplicaId, sent: Row<Letter>) -> Result<Group<Letter>, NoMemory>
-    ensures { IfOk result (λ g. g ≡ send_all group p sent) }
+fn say_all(group: &mut Group<Letter>, p: ReplicaId, sent: Row<Letter>) -> Result<(), NoMemory>
+    ensures { OnOk result (group.new ≡ send_all group.old p sent) }
 {
-    let mut group = group;
     for letter in sent.into_vec() {
         let _waits = group.send(p, letter)?;
     }
-    Ok(group)
+    Ok(())
 }
 
 // The line too, where it is news.
