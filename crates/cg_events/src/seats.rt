@@ -86,7 +86,7 @@ fn seat_of(seats: &[BoxedSeat], p: ReplicaId) -> Option<&BoxedSeat>
 }
 
 // Where the replica's seat stands, from 0.
-fn place_of(seats: &[BoxedSeat], p: ReplicaId) -> Option<usize>
+fn index_of(seats: &[BoxedSeat], p: ReplicaId) -> Option<usize>
     ensures { result ≡ position (λ s. s.id == p) seats.now }
 {
     seats.iter().position(|s| s.id() == p)
@@ -170,7 +170,7 @@ impl Seats {
             (λ s. (find (λ t. t.id == p) self.old ≡ Some s) × ((t : SeatView) → t.id ≡ p → with_seat self.new t ≡ with_seat self.old t)) }
         ensures away { find (λ s. s.id == p) self.new ≡ None }
     {
-        match place_of(self.list.as_slice(), p) {
+        match index_of(self.list.as_slice(), p) {
             Some(index) => Some(self.list.remove(index).into_inner()),
             None => None,
         }
