@@ -12,7 +12,8 @@ ghost use Rattle.cg_events.specs.Going.{said, with_news};
 ghost use Rattle.cg_events.specs.Seating.{with_left};
 
 use crate::made::MadeCut;
-use crate::{Seats, Transfers};
+use crate::seats::Seats;
+use crate::transfers::Transfers;
 use cg_base::{IdList, IdSet, NoMemory, ReplicaId, Row};
 use cg_group::Group;
 use cg_letter::Letter;
@@ -60,14 +61,14 @@ impl WorldState {
     }
 
     /// The replica has begun. It takes no memory.
-    pub fn has_begun(&self, p: ReplicaId) -> bool
+    pub(crate) fn has_begun(&self, p: ReplicaId) -> bool
         ensures { result ≡ has_begun self.now p }
     {
         self.seats.find(p).is_some()
     }
 
     /// The replica is up. It takes no memory.
-    pub fn is_up(&self, p: ReplicaId) -> bool
+    pub(crate) fn is_up(&self, p: ReplicaId) -> bool
         ensures { result ≡ is_some (replica_of self.now p) }
     {
         match self.seats.find(p) {
@@ -77,7 +78,7 @@ impl WorldState {
     }
 
     /// The replica is up, and has left for good. It takes no memory.
-    pub fn is_left(&self, p: ReplicaId) -> bool
+    pub(crate) fn is_left(&self, p: ReplicaId) -> bool
         ensures { result ≡ is_left self.now p }
     {
         match self.seats.find(p) {
@@ -114,7 +115,7 @@ impl WorldState {
     }
 
     /// The replicas that are up and have left for good. It takes no memory.
-    pub fn left_replicas(&self) -> IdSet
+    pub(crate) fn left_replicas(&self) -> IdSet
         ensures { result ≡ left_replicas self.now }
     {
         let mut left = IdSet::empty();
@@ -143,7 +144,7 @@ impl WorldState {
     }
 
     /// Start or an admitted join has named the replica. It takes no memory.
-    pub fn names(&self, p: ReplicaId) -> bool
+    pub(crate) fn names(&self, p: ReplicaId) -> bool
         ensures { result ≡ has self.now.named p }
     {
         self.named.contains(p)

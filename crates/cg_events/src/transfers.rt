@@ -11,7 +11,7 @@ use std::marker::Model;
 /// The snapshots under way, in the order of their last transfers, and how many each replica has given so far, once one has.
 /// Clauses see the snapshots.
 #[derive(Drop)]
-pub struct Transfers {
+pub(crate) struct Transfers {
     list: Vec<Transfer>,
     given: Option<Box<Cut>>,
 }
