@@ -14,6 +14,7 @@ ghost use Rattle.cg_agree.specs.Standing.{IsBooked};
 ghost use Rattle.cg_events.specs.Happening.{Happens};
 
 use crate::admission::{join_refused, leave_refused, takes_part};
+use crate::happened::done;
 use crate::{Going, Happened, WorldState};
 use cg_action::{CmdList, Query, copy_commands, copy_query};
 use cg_base::{NoMemory, ReplicaId};
@@ -36,10 +37,7 @@ pub(crate) fn request(
     if let Some(reason) = takes_part(&state, p) {
         return Happened::Refused { state, reason };
     }
-    match update(alloc, state, p, cmds, query) {
-        Ok(going) => Happened::Done(going),
-        Err(NoMemory) => Happened::NoMemory,
-    }
+    done(update(alloc, state, p, cmds, query))
 }
 
 fn update(
@@ -91,15 +89,12 @@ pub(crate) fn join(
     if let Some(reason) = join_refused(&state, p, joiner) {
         return Happened::Refused { state, reason };
     }
-    match ask(
+    done(ask(
         alloc,
         named(state, joiner),
         p,
         Request::Join(joiner, weight),
-    ) {
-        Ok(going) => Happened::Done(going),
-        Err(NoMemory) => Happened::NoMemory,
-    }
+    ))
 }
 
 // The replica is named.
@@ -121,8 +116,5 @@ pub(crate) fn leave(alloc: Global, state: WorldState, p: ReplicaId, server: Repl
     if let Some(reason) = leave_refused(&state, p, server) {
         return Happened::Refused { state, reason };
     }
-    match ask(alloc, state, p, Request::Leave(server)) {
-        Ok(going) => Happened::Done(going),
-        Err(NoMemory) => Happened::NoMemory,
-    }
+    done(ask(alloc, state, p, Request::Leave(server)))
 }

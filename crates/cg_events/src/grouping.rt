@@ -8,9 +8,10 @@ ghost use Rattle.cg_agree.specs.Standing.{AreBookedInTurn, IsHandedBooked, IsBoo
 ghost use Rattle.cg_events.specs.Happening.{Happens};
 
 use crate::admission::{merge_refused, split_refused, unknown};
+use crate::happened::{done, refused};
 use crate::{Going, Happened, WorldState};
 use cg_base::{IdSet, NoMemory, ReplicaId, Row};
-use cg_group::{GroupErr, Handed};
+use cg_group::Handed;
 use cg_letter::Letter;
 use std::alloc::Global;
 
@@ -25,18 +26,8 @@ pub(crate) fn split(alloc: Global, state: WorldState, set: IdSet) -> Happened
     }
     let mut parted = state;
     match parted.group.split(set) {
-        Ok(handed) => match hand_out(alloc, parted, handed) {
-            Ok(going) => Happened::Done(going),
-            Err(NoMemory) => Happened::NoMemory,
-        },
-        Err(GroupErr::Refused(reason)) => Happened::Refused {
-            state: parted,
-            reason,
-        },
-        Err(GroupErr::NoMemory) => {
-            drop(parted);
-            Happened::NoMemory
-        }
+        Ok(handed) => done(hand_out(alloc, parted, handed)),
+        Err(fault) => refused(parted, fault),
     }
 }
 
@@ -52,18 +43,8 @@ pub(crate) fn merge(alloc: Global, state: WorldState, set: IdSet) -> Happened
     let left = state.left_replicas();
     let mut joined = state;
     match joined.group.merge(set, left) {
-        Ok(handed) => match hand_out(alloc, joined, handed) {
-            Ok(going) => Happened::Done(going),
-            Err(NoMemory) => Happened::NoMemory,
-        },
-        Err(GroupErr::Refused(reason)) => Happened::Refused {
-            state: joined,
-            reason,
-        },
-        Err(GroupErr::NoMemory) => {
-            drop(joined);
-            Happened::NoMemory
-        }
+        Ok(handed) => done(hand_out(alloc, joined, handed)),
+        Err(fault) => refused(joined, fault),
     }
 }
 
@@ -90,18 +71,8 @@ pub(crate) fn deliver(alloc: Global, state: WorldState, p: ReplicaId, count: u64
     }
     let mut behind = state;
     match behind.group.deliver(p, count) {
-        Ok(list) => match hand_over(alloc, behind, Handed { to: p, list }) {
-            Ok(going) => Happened::Done(going),
-            Err(NoMemory) => Happened::NoMemory,
-        },
-        Err(GroupErr::Refused(reason)) => Happened::Refused {
-            state: behind,
-            reason,
-        },
-        Err(GroupErr::NoMemory) => {
-            drop(behind);
-            Happened::NoMemory
-        }
+        Ok(list) => done(hand_over(alloc, behind, Handed { to: p, list })),
+        Err(fault) => refused(behind, fault),
     }
 }
 
@@ -124,14 +95,7 @@ pub(crate) fn order(alloc: Global, state: WorldState, p: ReplicaId) -> Happened
     let mut ordered = state;
     match ordered.group.order(p) {
         Ok(_place) => Happened::Done(Going::quietly(alloc, ordered)),
-        Err(GroupErr::Refused(reason)) => Happened::Refused {
-            state: ordered,
-            reason,
-        },
-        Err(GroupErr::NoMemory) => {
-            drop(ordered);
-            Happened::NoMemory
-        }
+        Err(fault) => refused(ordered, fault),
     }
 }
 
@@ -146,14 +110,7 @@ pub(crate) fn receive(alloc: Global, state: WorldState, p: ReplicaId, place: u64
     let mut behind = state;
     match behind.group.receive(p, place) {
         Ok(()) => Happened::Done(Going::quietly(alloc, behind)),
-        Err(GroupErr::Refused(reason)) => Happened::Refused {
-            state: behind,
-            reason,
-        },
-        Err(GroupErr::NoMemory) => {
-            drop(behind);
-            Happened::NoMemory
-        }
+        Err(fault) => refused(behind, fault),
     }
 }
 

@@ -12,6 +12,7 @@ ghost use Rattle.cg_events.specs.Going.{seated, fallen};
 ghost use Rattle.cg_events.specs.Striking.{returned, telling};
 
 use crate::admission::{not_down, takes_part};
+use crate::happened::done;
 use crate::{Going, Happened, WorldState};
 use cg_base::{Bytes, NoMemory, ReplicaId, Row};
 use cg_seat::Seat;
@@ -138,10 +139,7 @@ pub(crate) fn recover(alloc: Global, state: WorldState, p: ReplicaId) -> Happene
     if let Some(reason) = not_down(&state, p) {
         return Happened::Refused { state, reason };
     }
-    match recover_down(alloc, state, p) {
-        Ok(going) => Happened::Done(going),
-        Err(NoMemory) => Happened::NoMemory,
-    }
+    done(recover_down(alloc, state, p))
 }
 
 fn recover_down(alloc: Global, state: WorldState, p: ReplicaId) -> Result<Going, NoMemory>
