@@ -57,14 +57,16 @@ impl Transfer {
         ensures { IfOk result (λ t. t ≡ record { joiner = joiner; giver = giver; content = core.now; taken = 0 }) }
     {
         let alloc = core.alloc();
+        // one for the writer, and one for the joiner
         let name = SnapshotName { giver, number };
+        let copy = name;
         let writer = SnapshotWriter::make(core, name)?;
         Ok(Transfer {
             joiner,
             giver,
             held: Snapshot::of(core),
             writer,
-            taking: Joiner::new(alloc, ModelDisk::new(alloc), joiner, name),
+            taking: Joiner::new(alloc, ModelDisk::new(alloc), joiner, copy),
         })
     }
 
