@@ -1,15 +1,13 @@
 -- Counts behind a small step of who was out of an attempt's configuration before it, and of who is in it with the greens that it had.
-use Rattle.std.proofs.Common.{◌≡◌, ℕ, ◌+◌, ◌≤◌, ◌<◌, true, false, take, length, Option, Some, None, IfSome, eqb, sym, ap, ◌∙◌, subst, inl, inr, arith, eq-eqb, eqb-true}
+use Rattle.std.proofs.Common.{◌≡◌, ℕ, ◌+◌, ◌≤◌, ◌<◌, true, take, length, Option, Some, IfSome, sym, ap, ◌∙◌, subst, arith, eqb-true}
 use Rattle.std.specs.Prelude.{◌==◌}
 use Rattle.std.specs.Option.{option_map_or}
-use Rattle.std.proofs.lemmas.Bool.{or_cases, cond-true, cond-false, ne_eqb}
+use Rattle.std.proofs.lemmas.Bool.{cond-true}
 use Rattle.cg_base.specs.Sets.{has}
-use Rattle.cg_base.specs.SetLaws.{has-with_member}
 use Rattle.cg_group.specs.Ready.{all_received}
-use Rattle.cg_group.specs.State.{phase_of}
 use Rattle.cg_agree.specs.Chronicle.{Attempt, Chronicle}
 use Rattle.cg_agree.specs.Fronts.{When}
-use Rattle.cg_agree.specs.Looks.{greens_of, is_at, is_in, conf_of, ordered_in, received_by_all, attempt_of, left_count, installation}
+use Rattle.cg_agree.specs.Looks.{greens_of, is_in, conf_of, ordered_in, received_by_all, attempt_of, left_count, installation}
 use Rattle.cg_agree.specs.Talk.{acts_in}
 use Rattle.cg_agree.specs.Levels.{count_in}
 use Rattle.cg_agree.specs.FactsReplica.{has_installed}
@@ -17,13 +15,9 @@ use Rattle.cg_agree.specs.Facts.{Invariant}
 use Rattle.cg_agree.specs.Small.{Small, small_step}
 use Rattle.cg_agree.specs.Smalls.{may_make}
 use Rattle.cg_agree.proofs.AttemptSteps.{group-of}
-use Rattle.cg_agree.proofs.AttemptsCame.{Came, Stayed, WasLeft, WasEntered, WasInstalled, WasMade}
 use Rattle.cg_agree.proofs.AttemptsGrow.{attempts-grow}
-use Rattle.cg_agree.proofs.BitsKept.{in-at, leaver-other}
 use Rattle.cg_agree.proofs.DeadKept.{said-attempt}
 use Rattle.cg_agree.proofs.HandSays.{find-holds}
-use Rattle.cg_agree.proofs.InstalledIndexKept.{same-installed}
-use Rattle.cg_agree.proofs.OutStays.{said-number}
 use Rattle.cg_agree.proofs.Reach.{row-within, acts-more, take-front}
 use Rattle.cg_agree.proofs.ReachSteps.{goes_on-kept}
 use Rattle.cg_agree.proofs.ReachWorld.{when-is}
@@ -83,29 +77,3 @@ module _ (c : Chronicle) (s : Small) (i : Invariant c) (may : may_make c s ≡ t
       count-stays b p now installed
       (cond-true (is_in d b.conf p) (length (greens_of d p)) (left_count b p) (ap (λ k. is_in d k p) (conf-now b now) ∙ is) ∙ ap length greens
       ∙ sym (cond-true (is_in c a.conf p) (length (greens_of c p)) (left_count a p) (ap (λ k. is_in c k p) conf-is ∙ was)))
-
-    same : (x : Attempt) → attempt_of c conf ≡ Some x → a ≡ x
-    same x e = some-is a x (sym found ∙ e)
-
-    made : has a.installed p ≡ true → left_count b p ≡ left_count a p → IsCountedIn d conf b p
-    made is count =
-        count-stays b p now is
-        (cond-false (is_in d b.conf p) (length (greens_of d p)) (left_count b p) (ap (λ k. is_in d k p) (conf-now b now) ∙ out-now) ∙ count
-        ∙ sym (cond-false (is_in c a.conf p) (length (greens_of c p)) (left_count a p) (ap (λ k. is_in c k p) conf-is ∙ out)))
-
-    at : Came c d conf b → IsCountedIn d conf b p
-    at (Stayed e) = made (ap (λ (x : Attempt). has x.installed p) (same b e) ∙ installed) (ap (λ (x : Attempt). left_count x p) (sym (same b e)))
-    at (WasLeft x e q n here is low) =
-        let apart : (q == p) ≡ false = ne_eqb q p (λ this. (let clash : true ≡ false = sym (in-at conf (phase_of c.world.group q) (said-number c conf said) here) ∙ ap (is_in c conf) this ∙ out in absurd (let z = clash in cc))) in
-        made (ap (λ (x : Attempt). has x.installed p) (same x e) ∙ sym (same-installed q n p x) ∙ ap (λ (x : Attempt). has x.installed p) (sym is) ∙ installed)
-        (ap (λ (x : Attempt). left_count x p) is ∙ leaver-other q n p x apart ∙ ap (λ (x : Attempt). left_count x p) (sym (same x e)))
-    at (WasEntered x e q heard r new begins is moved) =
-        made (ap (λ (x : Attempt). has x.installed p) (same x e) ∙ ap (λ (x : Attempt). has x.installed p) (sym is) ∙ installed)
-        (ap (λ (x : Attempt). left_count x p) is ∙ ap (λ (x : Attempt). left_count x p) (sym (same x e)))
-    at (WasInstalled q r new ins done here is levels core moved) =
-        let mine = same ins.a (ap (attempt_of c) here ∙ ins.found) in
-        made (elim (or_cases (has ins.a.installed p) (eqb q p) (sym (has-with_member ins.a.installed q p) ∙ ap (λ (x : Attempt). has x.installed p) (sym is) ∙ installed)) [
-          | inl before ↦ ap (λ (x : Attempt). has x.installed p) mine ∙ before
-          | inr this ↦ absurd (let clash : true ≡ false = sym (ap (is_at conf) ins.regular ∙ eq-eqb ins.conf conf (sym here)) ∙ ap (is_in c conf) (eqb-true q p this) ∙ out in cc)
-        ]) (ap (λ (x : Attempt). left_count x p) is ∙ ap (λ (x : Attempt). left_count x p) (sym mine))
-    at (WasMade none q heard r new begins greens is moved handed) = absurd (let clash : None ≡ Some a = sym none ∙ found in cc)

@@ -13,8 +13,9 @@ use Rattle.cg_group.specs.Ready.{ready_in}
 use Rattle.cg_group.specs.Refusals.{empty_set, any_of, not_up, not_regular, not_one_configuration, still_regular, not_together, split_refusal, merge_refusal}
 use Rattle.cg_group.specs.EachLaws.{Each, Each-has, Each-weaker}
 use Rattle.cg_client.specs.Replica.{Replica}
+use Rattle.cg_schedule.specs.declared.event.Event.TheVariants.{Split, Merge}
 use Rattle.cg_agree.specs.World.{Seat, World, running, replica_of, is_left, is_left_state, left_replicas}
-use Rattle.cg_agree.specs.Admission.{unknown, has_left, split_refused, merge_refused}
+use Rattle.cg_agree.specs.Admission.{unknown, has_left, first_refusal}
 use Rattle.cg_agree.specs.Smalls.{is_between}
 use Rattle.cg_agree.proofs.UnorderedKept.{first-none, refused-not}
 use Rattle.cg_agree.proofs.MadeAlone.{not-refused}
@@ -67,8 +68,8 @@ module _ (w : World) (sound : IsSound w) where
 
   -- ---- a split
 
-  pub leaving-members : (set : List ℕ) → split_refused w set ≡ None → Each (IsLeaving w set) set
-  unfolding split_refusal
+  pub leaving-members : (set : List ℕ) → first_refusal w (Split set) ≡ None → Each (IsLeaving w set) set
+  unfolding first_refusal split_refusal
   leaving-members [] refused = tt
   leaving-members (p0 ∷ rest) refused =
       let set = p0 ∷ rest in
@@ -104,8 +105,8 @@ module _ (w : World) (sound : IsSound w) where
 
   -- ---- a merge
 
-  pub coming-members : (set : List ℕ) → merge_refused w set ≡ None → Each (IsComing w set) set
-  unfolding merge_refusal
+  pub coming-members : (set : List ℕ) → first_refusal w (Merge set) ≡ None → Each (IsComing w set) set
+  unfolding first_refusal merge_refusal
   coming-members set refused =
       let first = first-none (empty_set set) (any_of (unknown w) set ∷ any_of (not_up g) set ∷ any_of (has_left w) set ∷ merge_refusal g set (left_replicas w) ∷ []) (ap is_none refused) in
       let second = first-none (any_of (unknown w) set) (any_of (not_up g) set ∷ any_of (has_left w) set ∷ merge_refusal g set (left_replicas w) ∷ []) first.1 in

@@ -16,7 +16,7 @@ use Rattle.cg_agree.specs.Step.{happens, world_step}
 use Rattle.cg_agree.specs.Run.{Step, IsRunFrom}
 use Rattle.cg_agree.specs.Shown.{ordered_actions, position_of}
 use Rattle.cg_agree.specs.FactsReplica.{IsModeData}
-use Rattle.cg_agree.specs.Agreement.{ComesAfter, through, answer_at}
+use Rattle.cg_agree.specs.Agreement.{ComesAfter, through}
 use Rattle.cg_agree.specs.Played.{AlwaysHolds}
 use Rattle.cg_agree.proofs.MadeAlone.{takes-part, is-running}
 use Rattle.cg_agree.proofs.MadeTold.{each-contains}
@@ -77,7 +77,7 @@ module _ (always : AlwaysHolds) (steps : List Step) (run : IsRunFrom no_world 0 
       found.2 ∙ prefix-fold shown.asked r still ∙ ap (λ n. fold_actions (ordered_actions now (position_of n now))) (sym same)
 
   -- A weak answer.
-  pub fold-weak : (p : ℕ) (q : Query) → s.event ≡ Weak p q → s.entry.shown ≡ ShownWeak p (answer_at now p q) ∷ []
+  pub fold-weak : (p : ℕ) (q : Query) → s.event ≡ Weak p q → s.entry.shown ≡ ShownWeak p (answer (fold_actions (ordered_actions now (position_of p now))) q) ∷ []
   fold-weak p q event =
       let w = world_of earlier in
       let up = weak-admitted w p q (ap (first_refusal w) (sym event) ∙ is.admitted) in

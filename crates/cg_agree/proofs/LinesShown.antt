@@ -1,7 +1,7 @@
 -- Behind each step of a run the last printed line of each replica is the last one that was shown, and is its line as it stands.
 use Rattle.std.proofs.Common.{◌≡◌, ℕ, suc, ◌<◌, ◌≤◌, Bool, true, false, cond, List, [], ◌∷◌, ◌++◌, map, filter, find, fold, Option, Some, None, IfSome, refl, sym, ap, ◌∙◌, subst, inl, inr, arith, eq-eqb, option_map, option_and_then}
 use Rattle.std.specs.Prelude.{◌==◌}
-use Rattle.std.specs.Option.{option_map_or}
+use Rattle.std.specs.Option.{option_map_or, option_or}
 use Rattle.std.proofs.lemmas.Bool.{cases_eq, cases_Bool, cond-true, cond-false, ne_eqb, not-false}
 use Rattle.std.proofs.lemmas.List.{append-nil, append_assoc}
 use Rattle.std.proofs.lemmas.List.Sums.{fold-append}
@@ -17,17 +17,18 @@ use Rattle.cg_client.specs.Replica.{Replica}
 use Rattle.cg_client.specs.Queries.{view_of}
 use Rattle.cg_schedule.specs.declared.event.Event.{Event}
 use Rattle.cg_agree.specs.World.{Life, Up, Down, Seat, World, running, seat_of, replica_of}
-use Rattle.cg_agree.specs.Show.{Moved, line_of, up_line, is_news, with_printed, new_lines, ended}
+use Rattle.cg_agree.specs.Show.{Moved, line_of, up_line, is_news, with_printed, ended}
 use Rattle.cg_agree.specs.Step.{happens, world_step}
 use Rattle.cg_agree.specs.Run.{Step}
-use Rattle.cg_agree.specs.Shown.{lines_in, last_of, last_up, position_of, white_of}
+use Rattle.cg_agree.specs.Shown.{lines_in, last_up, position_of, white_of}
 use Rattle.cg_agree.specs.Chronicle.{Chronicle}
 use Rattle.cg_agree.specs.Fronts.{IsSomeWith}
 use Rattle.cg_agree.specs.FactsLists.{IsRising}
 use Rattle.cg_agree.specs.Agreement.{through}
 use Rattle.cg_agree.specs.Noting.{chronicle_step}
 use Rattle.cg_agree.specs.Played.{StandsBeside}
-use Rattle.cg_agree.specs.Telling.{latest, last_line, printed}
+use Rattle.cg_agree.specs.Telling.{latest, last_line, last_of, printed}
+use Rattle.cg_agree.specs.Touched.{new_lines}
 use Rattle.cg_agree.proofs.PrimaryOne.{IsFoundFrom, found-all}
 use Rattle.cg_agree.proofs.RunForward.{IsStepOf}
 use Rattle.cg_agree.proofs.SameLine.{one-line}
@@ -197,12 +198,12 @@ IsLastUp last up = IfSome last (λ l. IfSome l.up (λ u. up ≡ Some u))
 last-up : (p : ℕ) (lines : List Line) (last : Option Line) (up : Option UpLine) → IsLastUp last up → IsLastUp (fold (latest p) last lines) (fold (last_of p) up lines)
 last-up p [] last up is = is
 last-up p (l ∷ lines) last up is = last-up p lines (latest p last l) (last_of p up l) (elim (cases_eq l.id p) [
-  | inl mine ↦ subst (λ b. IsLastUp (cond b (Some l) last) (cond b (option_map_or (λ up. Some up) l.up up) up)) (sym (eq-eqb l.id p mine)) (of l.up refl)
-  | inr other ↦ subst (λ b. IsLastUp (cond b (Some l) last) (cond b (option_map_or (λ up. Some up) l.up up) up)) (sym (ne_eqb l.id p other)) is
+  | inl mine ↦ subst (λ b. IsLastUp (cond b (Some l) last) (cond b (option_or l.up up) up)) (sym (eq-eqb l.id p mine)) (of l.up refl)
+  | inr other ↦ subst (λ b. IsLastUp (cond b (Some l) last) (cond b (option_or l.up up) up)) (sym (ne_eqb l.id p other)) is
 ]) where
-  of : (o : Option UpLine) → l.up ≡ o → IfSome l.up (λ u. option_map_or (λ up. Some up) l.up up ≡ Some u)
-  of None e = subst (λ (o : Option UpLine). IfSome o (λ u. option_map_or (λ up. Some up) o up ≡ Some u)) (sym e) tt
-  of (Some x) e = subst (λ (o : Option UpLine). IfSome o (λ u. option_map_or (λ up. Some up) o up ≡ Some u)) (sym e) refl
+  of : (o : Option UpLine) → l.up ≡ o → IfSome l.up (λ u. option_or l.up up ≡ Some u)
+  of None e = subst (λ (o : Option UpLine). IfSome o (λ u. option_or o up ≡ Some u)) (sym e) tt
+  of (Some x) e = subst (λ (o : Option UpLine). IfSome o (λ u. option_or o up ≡ Some u)) (sym e) refl
 
 -- the last line of a replica that is up
 pub up-shown : (w : World) (steps : List Step) → ((p : ℕ) → printed w p ≡ last_line p steps) → ArePrinted w → (p : ℕ) (r : Replica) → replica_of w p ≡ Some r → IsSomeWith (last_up p steps) (λ up. up.view ≡ view_of r.held)

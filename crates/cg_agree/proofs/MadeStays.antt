@@ -19,7 +19,7 @@ use Rattle.cg_report.specs.declared.line.View.{View}
 use Rattle.cg_agree.specs.World.{World, no_world, replica_of}
 use Rattle.cg_agree.specs.Run.{Step, IsRunFrom, world_after}
 use Rattle.cg_agree.specs.Shown.{order_of, order_lines, made_names, last_up}
-use Rattle.cg_agree.specs.Agreement.{through, names_on, MadeStays}
+use Rattle.cg_agree.specs.Agreement.{through, MadeStays}
 use Rattle.cg_agree.specs.Chronicle.{Chronicle, no_chronicle}
 use Rattle.cg_agree.specs.Fronts.{IsSomeWith}
 use Rattle.cg_agree.specs.Looks.{greens_of}
@@ -65,6 +65,10 @@ take-more (suc n) (x ∷ xs) ys = let same : suc n - suc (length xs) ≡ n - len
 order-more : (earlier : List Step) (s : Step) → order_of (earlier ++ s ∷ []) ≡ order_of earlier ++ order_of (s ∷ [])
 order-more earlier s =
     ap (map (λ o. o.id)) (flat_map-append (λ (s : Step). s.entry.orders) earlier (s ∷ [])) ∙ map-append (λ o. o.id) (order_lines earlier) (order_lines (s ∷ []))
+
+-- the names of the actions on a line: own, red, yellow, or in the prefix of the order
+abbrev names_on : List Step → UpLine → List ActionId
+names_on steps up = up.view.own ++ up.view.reds ++ up.view.yellow.list ++ take up.view.green_count (order_of steps)
 
 -- what stands on a line stands on it as the order is longer
 stays-on : (earlier : List Step) (s : Step) (up : UpLine) (id : ActionId) → Contains (names_on earlier up) id → Contains (names_on (earlier ++ s ∷ []) up) id

@@ -1,7 +1,7 @@
 -- The order of a run is as long as the furthest line that a replica that is up has shown.
 use Rattle.std.proofs.Common.{◌≡◌, ℕ, ◌≤◌, max, cond, List, [], ◌∷◌, ◌++◌, map, fold, length, Option, Some, None, IfSome, refl, sym, ap, ◌∙◌, subst, inl, inr, arith, option_map, option_and_then}
 use Rattle.std.specs.Prelude.{◌==◌}
-use Rattle.std.specs.Option.{option_map_or}
+use Rattle.std.specs.Option.{option_map_or, option_or}
 use Rattle.std.proofs.lemmas.Bool.{cond_both}
 use Rattle.std.proofs.lemmas.List.{map-append, length-append}
 use Rattle.cg_group.specs.EachLaws.{Each}
@@ -16,7 +16,8 @@ use Rattle.cg_report.specs.declared.line.UpLine.{UpLine}
 use Rattle.cg_agree.specs.World.{Life, Up, Down, Seat, World, no_world, running, seat_of, replica_of}
 use Rattle.cg_agree.specs.Show.{line_of, up_line}
 use Rattle.cg_agree.specs.Run.{Step, IsRunFrom}
-use Rattle.cg_agree.specs.Shown.{order_of, lines_in, all_up_lines, last_of, position_of}
+use Rattle.cg_agree.specs.Shown.{order_of, lines_in, all_up_lines, position_of}
+use Rattle.cg_agree.specs.Telling.{last_of}
 use Rattle.cg_agree.specs.Agreement.{through}
 use Rattle.cg_agree.specs.Chronicle.{Chronicle}
 use Rattle.cg_agree.specs.Noting.{chronicle_step}
@@ -76,7 +77,7 @@ counts-last earlier s =
 abbrev count_of : Option UpLine → ℕ
 count_of o = option_map_or (λ up. up.view.green_count) o 0
 
-one-below : (p id : ℕ) (u o : Option UpLine) → count_of (cond (id == p) (option_map_or (λ up. Some up) u o) o) ≤ max (count_of o) (greatest (counts_of (present (u ∷ []))))
+one-below : (p id : ℕ) (u o : Option UpLine) → count_of (cond (id == p) (option_or u o) o) ≤ max (count_of o) (greatest (counts_of (present (u ∷ []))))
 one-below p id None o = cond_both (id == p) o o (λ x. count_of x ≤ max (count_of o) 0) (λ y. omega arith) (λ n. omega arith)
 one-below p id (Some up) o = cond_both (id == p) (Some up) o (λ x. count_of x ≤ max (count_of o) (max 0 up.view.green_count)) (λ y. omega arith) (λ n. omega arith)
 

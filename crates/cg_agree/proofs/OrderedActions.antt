@@ -14,7 +14,8 @@ use Rattle.cg_queue.specs.Queue.{names_of}
 use Rattle.cg_report.specs.declared.entry.Made.{Made}
 use Rattle.cg_agree.specs.World.{World}
 use Rattle.cg_agree.specs.Run.{Step}
-use Rattle.cg_agree.specs.Shown.{made_names, made_at, made_from, made_of, made_action, made_actions}
+use Rattle.cg_agree.specs.Shown.{made_names, made_at, made_from, made_action, made_actions}
+use Rattle.cg_agree.specs.Telling.{made_of}
 use Rattle.cg_agree.specs.Chronicle.{Chronicle}
 use Rattle.cg_agree.specs.Fronts.{Front}
 use Rattle.cg_agree.specs.Played.{StandsBeside}

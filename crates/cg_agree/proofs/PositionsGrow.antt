@@ -1,7 +1,7 @@
 -- What a run has shown of how far each replica came never falls, and moves only where an event moves the replica.
 use Rattle.std.proofs.Common.{◌⊎◌, ◌≡◌, ℕ, ◌≤◌, false, List, [], ◌∷◌, fold, Option, Some, None, refl, sym, ap, ◌∙◌, subst, inl, inr, arith, eqb-true, option_map, option_and_then}
 use Rattle.std.specs.Prelude.{◌==◌}
-use Rattle.std.specs.Option.{option_map_or}
+use Rattle.std.specs.Option.{option_map_or, option_or}
 use Rattle.std.proofs.lemmas.Bool.{cases_Bool, cond-true, cond-false}
 use Rattle.std.proofs.lemmas.List.Sums.{fold-append}
 use Rattle.cg_group.specs.EachLaws.{Each}
@@ -13,7 +13,8 @@ use Rattle.cg_report.specs.declared.line.UpLine.{UpLine}
 use Rattle.cg_agree.specs.World.{Life, Up, Down, Seat, World, no_world, running, seat_of, replica_of}
 use Rattle.cg_agree.specs.Show.{Moved, up_line}
 use Rattle.cg_agree.specs.Run.{Step, IsRunFrom, world_after}
-use Rattle.cg_agree.specs.Shown.{lines_in, last_of, last_up, position_of}
+use Rattle.cg_agree.specs.Shown.{lines_in, last_up, position_of}
+use Rattle.cg_agree.specs.Telling.{last_of}
 use Rattle.cg_agree.specs.Agreement.{through, may_move}
 use Rattle.cg_agree.specs.Chronicle.{Chronicle, no_chronicle}
 use Rattle.cg_agree.specs.Noting.{chronicle_step, chronicle_after}
@@ -32,8 +33,8 @@ last-still : (p : ℕ) (lines : List Line) (o : Option UpLine) → Each (IsDownL
 last-still p [] o each = refl
 last-still p (l ∷ lines) o each =
     ap (λ x. fold (last_of p) x lines) (elim (cases_Bool (l.id == p)) [
-      | inl here ↦ cond-true (l.id == p) (option_map_or (λ up. Some up) l.up o) o here ∙ ap (λ (u : Option UpLine). option_map_or (λ up. Some up) u o) (each.0 (eqb-true l.id p here))
-      | inr other ↦ cond-false (l.id == p) (option_map_or (λ up. Some up) l.up o) o other
+      | inl here ↦ cond-true (l.id == p) (option_or l.up o) o here ∙ ap (λ (u : Option UpLine). option_or u o) (each.0 (eqb-true l.id p here))
+      | inr other ↦ cond-false (l.id == p) (option_or l.up o) o other
     ]) ∙ last-still p lines o each.1
 
 module _ (earlier : List Step) (c : Chronicle) (w : World) (s : Step) (step : IsStepOf c w s) where

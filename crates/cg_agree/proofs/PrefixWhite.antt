@@ -10,7 +10,8 @@ use Rattle.cg_members.specs.Servers.{members_of, is_server, starting}
 use Rattle.cg_queue.specs.Queue.{names_of}
 use Rattle.cg_agree.specs.World.{World, no_world, has_begun}
 use Rattle.cg_agree.specs.Run.{Step, IsRunFrom, world_after}
-use Rattle.cg_agree.specs.Shown.{order_of, made_of, made_actions, ordered_actions, start_of, position_of, white_of}
+use Rattle.cg_agree.specs.Shown.{order_of, made_actions, ordered_actions, start_of, position_of, white_of}
+use Rattle.cg_agree.specs.Telling.{made_of}
 use Rattle.cg_agree.specs.Agreement.{ComesAfter, through, is_server_at, Prefix}
 use Rattle.cg_agree.specs.Chronicle.{Chronicle, no_chronicle}
 use Rattle.cg_agree.specs.Fronts.{Front, When}

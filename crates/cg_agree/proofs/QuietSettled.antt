@@ -1,9 +1,9 @@
 -- A quiet configuration is settled: all that was said was handed to each member, and what a member is follows from what was handed to it.
-use Rattle.std.proofs.Common.{◌≡◌, ℕ, ◌<◌, true, false, not, ◌&&◌, List, [], ◌++◌, Option, Some, None, IfSome, length, take, refl, sym, ap, ap₂, ◌∙◌, subst, inl, inr, arith, if◌then◌else◌}
+use Rattle.std.proofs.Common.{◌≡◌, ℕ, ◌<◌, Bool, true, false, not, ◌&&◌, List, [], ◌++◌, Option, Some, None, IfSome, length, take, refl, sym, ap, ap₂, ◌∙◌, subst, inl, inr, arith}
 use Rattle.std.specs.Prelude.{◌==◌, nat_le}
 use Rattle.std.specs.Option.{option_map_or}
 use Rattle.std.specs.List.{list_all}
-use Rattle.std.proofs.lemmas.Bool.{cases_Bool, cond-true, cond-false, and_parts, and_from, not-true}
+use Rattle.std.proofs.lemmas.Bool.{cases_Bool, and_parts, and_from, not-true}
 use Rattle.std.proofs.lemmas.List.{take_all}
 use Rattle.cg_base.specs.declared.action_id.ActionId.{ActionId}
 use Rattle.cg_base.specs.Cuts.{index_in}
@@ -18,7 +18,7 @@ use Rattle.cg_group.specs.declared.phase.Phase.TheVariants.{Regular}
 use Rattle.cg_group.specs.State.{phase_of, delivered_to}
 use Rattle.cg_client.specs.Replica.{RegPrim, NonPrim, Left, Replica}
 use Rattle.cg_agree.specs.World.{replica_of, is_left, is_left_state}
-use Rattle.cg_agree.specs.Quiet.{is_quiet, summaries_in, is_known_in, knows, is_reg_prim, is_non_prim, is_settled_inside, is_settled_outside, is_settled, passes_at, IsSettled}
+use Rattle.cg_agree.specs.Quiet.{is_quiet, summaries_in, is_known_in, knows, is_settled, passes_at, IsSettled}
 use Rattle.cg_agree.specs.Chronicle.{Told, Chronicle}
 use Rattle.cg_agree.specs.Fronts.{IsSomeWith, When}
 use Rattle.cg_agree.specs.Looks.{greens_of, told_in, conf_at, members_in, ordered_in, attempt_of, attempt_at, installation}
@@ -58,16 +58,21 @@ module _ (conf : ℕ) (t : Talk) (p : ℕ) where
   behind-inside : has (gone t.heard) p ≡ false → decides t.heard ≡ true → is_announced t ≡ true → state_behind conf t p ≡ RegPrim
   behind-inside here decided all = rw (here, decided, all) refl
 
-inside-is : (r : Replica) → r.state ≡ RegPrim → r.held.queue.reds ≡ [] → r.held.queue.yellow ≡ [] → r.held.buffered ≡ [] → is_settled_inside r ≡ true
+-- a member is settled where these summaries decide, or don't
+abbrev pub settles : List Summary → Replica → Bool
+settles heard r = is_settled (decides heard) r.state r.held
+
+inside-is : (r : Replica) → r.state ≡ RegPrim → r.held.queue.reds ≡ [] → r.held.queue.yellow ≡ [] → r.held.buffered ≡ [] → is_settled true r.state r.held ≡ true
 inside-is r state reds yellow kept =
     let red = length r.held.queue.reds == 0 in
     let marked = length r.held.queue.yellow == 0 in
-    and_from ((is_reg_prim r.state && red) && marked) (length r.held.buffered == 0)
-    (and_from (is_reg_prim r.state && red) marked (and_from (is_reg_prim r.state) red (ap is_reg_prim state) (ap (λ xs. length xs == 0) reds)) (ap (λ xs. length xs == 0) yellow))
+    ap (λ s. is_settled true s r.held) state
+    ∙ and_from (red && marked) (length r.held.buffered == 0)
+    (and_from red marked (ap (λ xs. length xs == 0) reds) (ap (λ xs. length xs == 0) yellow))
     (ap (λ xs. length xs == 0) kept)
 
-outside-is : (r : Replica) → r.state ≡ NonPrim true → r.held.buffered ≡ [] → is_settled_outside r ≡ true
-outside-is r state kept = and_from (is_non_prim r.state) (length r.held.buffered == 0) (ap is_non_prim state) (ap (λ xs. length xs == 0) kept)
+outside-is : (r : Replica) → r.state ≡ NonPrim true → r.held.buffered ≡ [] → is_settled false r.state r.held ≡ true
+outside-is r state kept = ap (λ s. is_settled false s r.held) state ∙ ap (λ xs. length xs == 0) kept
 
 module _ (c : Chronicle) (i : Invariant c) (kept : BufferEmpty c) (conf : ℕ) (some : 0 < conf) (quiet : is_quiet c.world conf ≡ true) where
   abbrev talk : Talk
@@ -107,15 +112,13 @@ module _ (c : Chronicle) (i : Invariant c) (kept : BufferEmpty c) (conf : ℕ) (
     core : IsCore c r.held (greens_of c p)
     core = subst (λ (o : Option Replica). IfSome o (λ r. IsCore c r.held (greens_of c p))) up (i.replica.cores.memory p)
 
-    settled : (if decides talk.heard then is_settled_inside r else is_settled_outside r) ≡ true
+    settled : settles talk.heard r ≡ true
     settled = elim (cases_Bool (decides talk.heard)) [
       | inl decided ↦
           let at = data_inside decided in
-          cond-true (decides talk.heard) (is_settled_inside r) (is_settled_outside r) decided
-          ∙ inside-is r (inside decided) at.1 at.2 (subst (IsEmptyIn r.held) (inside decided) empty_in)
+          ap (λ b. is_settled b r.state r.held) decided ∙ inside-is r (inside decided) at.1 at.2 (subst (IsEmptyIn r.held) (inside decided) empty_in)
       | inr undecided ↦
-          cond-false (decides talk.heard) (is_settled_inside r) (is_settled_outside r) undecided
-          ∙ outside-is r (outside undecided) (subst (IsEmptyIn r.held) (outside undecided) empty_in)
+          ap (λ b. is_settled b r.state r.held) undecided ∙ outside-is r (outside undecided) (subst (IsEmptyIn r.held) (outside undecided) empty_in)
     ]
 
     -- its greens are what the talk makes of them
@@ -164,10 +167,10 @@ module _ (c : Chronicle) (i : Invariant c) (kept : BufferEmpty c) (conf : ℕ) (
           at.0 creator ∙ ap (λ t. count_behind t creator) (handed-all c i conf some quiet p is)
     ]
 
-  settled-at : (p : ℕ) → has (remaining talk.heard) p ≡ true → passes_at c.world (is_settled talk.heard) p ≡ true
+  settled-at : (p : ℕ) → has (remaining talk.heard) p ≡ true → passes_at c.world (settles talk.heard) p ≡ true
   settled-at p stays =
       let up = up-there c i conf some quiet p (member-of c i conf some quiet p (remaining-senders talk.heard p stays)) in
-      ap (λ o. option_map_or (is_settled talk.heard) o false) up.1 ∙ settled p stays up.0 up.1
+      ap (λ o. option_map_or (settles talk.heard) o false) up.1 ∙ settled p stays up.0 up.1
 
   one-count : (p q : ℕ) (r s : Replica) → has (remaining talk.heard) p ≡ true → replica_of c.world p ≡ Some r → has (remaining talk.heard) q ≡ true → replica_of c.world q ≡ Some s →
       green_count r.held.queue ≡ green_count s.held.queue
@@ -187,7 +190,7 @@ module _ (c : Chronicle) (i : Invariant c) (kept : BufferEmpty c) (conf : ℕ) (
       let stays : (p : ℕ) → has (remaining (summaries_in c.world conf)) p ≡ true → has (remaining talk.heard) p ≡ true = λ p is. ap (λ h. has (remaining h) p) heard ∙ is in
       record {
         left = subst (λ h. list_all (is_left c.world) (gone h) ≡ true) heard (all-from (is_left c.world) (gone talk.heard) gone-left);
-        states = subst (λ h. list_all (passes_at c.world (is_settled h)) (remaining h) ≡ true) heard (all-from (passes_at c.world (is_settled talk.heard)) (remaining talk.heard) settled-at);
+        states = subst (λ h. list_all (passes_at c.world (settles h)) (remaining h) ≡ true) heard (all-from (passes_at c.world (settles talk.heard)) (remaining talk.heard) settled-at);
         greens = λ p q r s at_p at_q. one-count p q r s (stays p at_p.0) at_p.1 (stays q at_q.0) at_q.1;
         actions = λ p r id at_p one. knows-as p r id (stays p at_p.0) at_p.1;
       }

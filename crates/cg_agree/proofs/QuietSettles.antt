@@ -10,14 +10,14 @@ use Rattle.cg_group.specs.State.{GroupState}
 use Rattle.cg_client.specs.Replica.{Replica}
 use Rattle.cg_agree.specs.World.{World, no_world, is_left, is_left_state}
 use Rattle.cg_agree.specs.Run.{Step, IsRunFrom, world_after}
-use Rattle.cg_agree.specs.Quiet.{is_quiet, summaries_in, is_known_in, is_settled, passes_at, Remains, IsSettled}
+use Rattle.cg_agree.specs.Quiet.{is_quiet, summaries_in, is_known_in, passes_at, Remains, IsSettled}
 use Rattle.cg_agree.specs.Agreement.{ComesAfter, QuietSettles}
 use Rattle.cg_agree.specs.Chronicle.{Chronicle, no_chronicle}
 use Rattle.cg_agree.specs.Noting.{chronicle_step, chronicle_after}
 use Rattle.cg_agree.specs.FactsReplica.{IsEmptyIn, BufferEmpty}
 use Rattle.cg_agree.specs.Played.{IsSame, StandsBeside, AlwaysHolds}
 use Rattle.cg_agree.proofs.RunPrefix.{comes}
-use Rattle.cg_agree.proofs.QuietSettled.{quiet-settled}
+use Rattle.cg_agree.proofs.QuietSettled.{settles, quiet-settled}
 
 all-same : (s t : ℕ → Bool) → ((p : ℕ) → s p ≡ t p) → (set : List ℕ) → list_all s set ≡ list_all t set
 all-same s t same [] = refl
@@ -44,9 +44,9 @@ module _ (w v : World) (conf : ℕ) (same : IsSame w v) where
   settled-same is = record {
     left = ap (λ h. list_all (is_left w) (gone h)) summaries-same
         ∙ all-same (is_left w) (is_left v) (λ p. ap (λ o. option_map_or (λ (r : Replica). is_left_state r.state) o false) (same.running p)) (gone (summaries_in v conf)) ∙ is.left;
-    states = ap (λ h. list_all (passes_at w (is_settled h)) (remaining h)) summaries-same
-        ∙ all-same (passes_at w (is_settled (summaries_in v conf))) (passes_at v (is_settled (summaries_in v conf)))
-        (λ p. ap (λ o. option_map_or (is_settled (summaries_in v conf)) o false) (same.running p)) (remaining (summaries_in v conf)) ∙ is.states;
+    states = ap (λ h. list_all (passes_at w (settles h)) (remaining h)) summaries-same
+        ∙ all-same (passes_at w (settles (summaries_in v conf))) (passes_at v (settles (summaries_in v conf)))
+        (λ p. ap (λ o. option_map_or (settles (summaries_in v conf)) o false) (same.running p)) (remaining (summaries_in v conf)) ∙ is.states;
     greens = λ p q r s at_p at_q. is.greens p q r s (remains-same p r at_p) (remains-same q s at_q);
     actions = λ p r id at_p one. is.actions p r id (remains-same p r at_p) one ∙ sym (known-same id);
   }

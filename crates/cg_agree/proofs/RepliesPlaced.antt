@@ -4,7 +4,7 @@ use Rattle.std.proofs.lemmas.Bool.{cases_Bool, cond-true, cond-false}
 use Rattle.cg_base.specs.declared.action_id.ActionId.{ActionId}
 use Rattle.cg_base.specs.Ids.{same_id}
 use Rattle.cg_report.specs.declared.entry.Reply.{Reply}
-use Rattle.cg_agree.specs.Show.{Answered, after_answered, answered_from, with_answered}
+use Rattle.cg_agree.specs.Show.{Answered, answered_from, with_answered}
 use Rattle.cg_agree.proofs.BookGrows.{same-self}
 
 -- an element of a list
@@ -43,18 +43,18 @@ among-rest r replies (id ∷ ids) (inr later) = among-later replies id ids (amon
 pub answered-all : (ids : List ActionId) (n : ℕ) (replies : List Reply) → AreAmong replies ids → plain (answered_from n ids replies) ≡ replies
 answered-all [] n [] is = refl
 answered-all [] n (r ∷ replies) is = absurd is
-answered-all (id ∷ ids) n [] is = answered-all ids (suc n) [] tt
+answered-all (id ∷ ids) n [] is = refl
 answered-all (id ∷ ids) n (r ∷ replies) is = elim (cases_Bool (same_id id r.id)) [
   | inl here ↦
       let first = cond-true (same_id id r.id) (let x : Answered = record { place = suc n; reply = r } in x ∷ []) [] here in
       let rest = cond-true (same_id id r.id) replies (r ∷ replies) here in
-      ap (λ (xs : List Answered). plain (xs ++ answered_from (suc n) ids (after_answered id (r ∷ replies)))) first
+      ap (λ (xs : List Answered). plain (xs ++ answered_from (suc n) ids (if same_id id r.id then replies else r ∷ replies))) first
       ∙ ap (λ rs. r ∷ plain (answered_from (suc n) ids rs)) rest
       ∙ ap (λ rs. r ∷ rs) (answered-all ids (suc n) replies (either is))
   | inr other ↦
       let first = cond-false (same_id id r.id) (let x : Answered = record { place = suc n; reply = r } in x ∷ []) [] other in
       let rest = cond-false (same_id id r.id) replies (r ∷ replies) other in
-      ap (λ (xs : List Answered). plain (xs ++ answered_from (suc n) ids (after_answered id (r ∷ replies)))) first
+      ap (λ (xs : List Answered). plain (xs ++ answered_from (suc n) ids (if same_id id r.id then replies else r ∷ replies))) first
       ∙ ap (λ rs. plain (answered_from (suc n) ids rs)) rest
       ∙ answered-all ids (suc n) (r ∷ replies) (later is other)
 ] where

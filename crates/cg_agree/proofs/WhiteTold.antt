@@ -15,7 +15,8 @@ use Rattle.cg_client.specs.Replica.{Replica}
 use Rattle.cg_agree.specs.World.{Seat, World, no_world, running, has_begun, seat_of, replica_of}
 use Rattle.cg_agree.specs.Show.{Moved}
 use Rattle.cg_agree.specs.Run.{Step, MayStand, IsRunFrom, world_after}
-use Rattle.cg_agree.specs.Shown.{made_at, made_of, position_of, white_of}
+use Rattle.cg_agree.specs.Shown.{made_at, position_of, white_of}
+use Rattle.cg_agree.specs.Telling.{made_of}
 use Rattle.cg_agree.specs.Agreement.{through, may_move}
 use Rattle.cg_agree.specs.Chronicle.{Chronicle, no_chronicle}
 use Rattle.cg_agree.specs.Fronts.{Front}

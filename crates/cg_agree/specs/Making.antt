@@ -17,6 +17,10 @@ use Rattle.cg_agree.specs.Noting.{chronicle_step}
 use Rattle.cg_agree.specs.Standing.{IsReached}
 use Rattle.cg_agree.specs.Telling.{printed}
 
+-- an action that is shown as made
+abbrev pub made_of_action : Action → Made
+made_of_action a = record { id = a.id; kind = a.kind }
+
 -- the position on a line, 0 where its replica is down
 abbrev pub position_on : Line → ℕ
 position_on l = option_map_or (λ up. up.view.green_count) l.up 0

@@ -7,7 +7,7 @@ use Rattle.cg_schedule.specs.declared.event.Event.{Event}
 use Rattle.cg_schedule.specs.declared.event.Event.TheVariants.{Start, Split, Merge, Request, Weak, Dirty, Order, Recover, Show, ShowOrder, Gather, End, Receive, Deliver, Rounds, Stop, Fail, Join, Leave, Transfer}
 use Rattle.cg_agree.specs.World.{World}
 use Rattle.cg_agree.specs.Admission.{first_refusal}
-use Rattle.cg_agree.specs.Show.{line_of, is_news, new_lines}
+use Rattle.cg_agree.specs.Show.{line_of, is_news}
 use Rattle.cg_agree.specs.Step.{happens}
 use Rattle.cg_agree.specs.Run.{MayStand}
 use Rattle.cg_agree.specs.Chronicle.{Chronicle}
@@ -36,7 +36,11 @@ touched (Join p joiner weight) = p ∷ []
 touched (Leave p server) = p ∷ []
 touched (Transfer p joiner pieces) = joiner ∷ []
 
--- the lines of these replicas that differ from the last printed ones, ascending by replica
+-- the lines that differ from the last printed ones, ascending by replica
+abbrev pub new_lines : World → List Line
+new_lines w = filter (is_news w.lines) (map (line_of w.group) w.seats)
+
+-- those of these replicas
 abbrev pub new_lines_of : List ℕ → World → List Line
 new_lines_of set w = filter (is_news w.lines) (map (line_of w.group) (filter (λ s. has set s.id) w.seats))
 

@@ -30,7 +30,7 @@ use Rattle.cg_engine.specs.Engines.{Fallen}
 use Rattle.cg_engine.specs.Ending.{MayEnd, MaySave, MayGoOn, up, wreck_of, fallen, saved, Saved, Saves, GoesOn}
 use Rattle.cg_engine.specs.declared.answers.Handled.{Handled}
 use Rattle.cg_engine.specs.declared.answers.Handled.TheVariants as handled
-use Rattle.cg_engine.specs.declared.wreck.Last.{Last}
+use Rattle.cg_engine.specs.declared.wreck.LastEvent.{LastEvent}
 use Rattle.cg_journal.specs.ViewLaws.{weakened}
 
 -- ---- the disk of a store that is given up
@@ -39,7 +39,7 @@ pub refused_as : {D : Type 0} (disk now : D) (id own count : ℕ) (green : List 
     wreck_of disk own (record { count = count; green = [] }) ≡ w
 refused_as disk now id own count green w is here same none = (λ i. record { disk = sym here i; id = sym same i; count = count; green = sym none i }) ∙ sym is
 
-pub fallen_as : {D : Type 0} (fault : CommitErr D) (id own : ℕ) (last : Last) (result : Handled D) → result ≡ fallen fault id last → id ≡ own → fallen fault own last ≡ result
+pub fallen_as : {D : Type 0} (fault : CommitErr D) (id own : ℕ) (last : LastEvent) (result : Handled D) → result ≡ fallen fault id last → id ≡ own → fallen fault own last ≡ result
 fallen_as fault id own last result is same = sym (is ∙ ap (λ n. fallen fault n last) same)
 
 -- ---- no call was made
@@ -66,7 +66,7 @@ module _ {D : Type 0} (view : D → DiskView) (k : Kept D) (u : OnDisk) (is : Is
   }
 
   -- memory was refused before the first call
-  pub refuses : (t : Turn) (written : Bool) (last : Last) → EndsEvent view k last.count u t written (handled.NoMemory (wreck_of k.disk k.id last))
+  pub refuses : (t : Turn) (written : Bool) (last : LastEvent) → EndsEvent view k last.count u t written (handled.NoMemory (wreck_of k.disk k.id last))
   refuses t true last = record {
     ends = ends_failed view k u (committed k.unwritten t u) (parts_of t) (NoMemory k.disk) refused;
     leaves = (record { id_is = refl; count_is = refl }, inr stands);
@@ -76,12 +76,12 @@ module _ {D : Type 0} (view : D → DiskView) (k : Kept D) (u : OnDisk) (is : Is
 
 -- ---- what follows a commit
 
-answer_saved : {D : Type 0} (a : Result (Kept D) (CommitErr D)) (r : Replica) (o : Outputs) (id : ℕ) (last : Last) → answer_of (saved a r o id last) ≡ paired a o
+answer_saved : {D : Type 0} (a : Result (Kept D) (CommitErr D)) (r : Replica) (o : Outputs) (id : ℕ) (last : LastEvent) → answer_of (saved a r o id last) ≡ paired a o
 answer_saved (Ok store) r o id last = refl
 answer_saved (Err (Lost disk)) r o id last = refl
 answer_saved (Err (NoMemory disk)) r o id last = refl
 
-module _ {D : Type 0} (view : D → DiskView) (k : Kept D) (u : OnDisk) (r : Replica) (d : DraftParts) (last : Last) (named : last.green ≡ d.green) where
+module _ {D : Type 0} (view : D → DiskView) (k : Kept D) (u : OnDisk) (r : Replica) (d : DraftParts) (last : LastEvent) (named : last.green ≡ d.green) where
   abbrev turn : Turn
   turn = turn_of r d
 

@@ -19,7 +19,7 @@ use Rattle.cg_engine.specs.Engines.{IsEngine}
 use Rattle.cg_engine.specs.Ending.{MaySave, MayGoOn, up, saved, Saved, Saves, GoesOn}
 use Rattle.cg_engine.specs.declared.answers.Handled.{Handled}
 use Rattle.cg_engine.specs.declared.answers.Handled.TheVariants as handled
-use Rattle.cg_engine.specs.declared.wreck.Last.{Last}
+use Rattle.cg_engine.specs.declared.wreck.LastEvent.{LastEvent}
 
 chosen : (b : Bool) (A B : Type 0) → b ≡ true → Either b A B → A
 chosen b A B is one = subst (λ x. Either x A B) is one
@@ -45,7 +45,7 @@ module _ {D : Type 0} (view : D → DiskView) (k : Kept D) where
       follows = subst (λ x. Follows (disk_of x (checkpointed here.0)) h) (sym moves.2) (may here.0 here.1).later;
     }
 
-  module _ (w : OnDisk) (r : Replica) (o : Outputs) (last : Last) (result : Handled D) where
+  module _ (w : OnDisk) (r : Replica) (o : Outputs) (last : LastEvent) (result : Handled D) where
     -- a checkpoint was made, or ended the event
     pub saved_as : (a : Result (Kept D) (CommitErr D)) → nat_lt size_limit w.size ≡ true → Moves view k w (checkpointed w) a → EachMoment view (λ s. s.disk) (IsEither k.id w (checkpointed w)) (view k.disk) a →
         result ≡ saved a r o k.id last → Saves view k w r o last result

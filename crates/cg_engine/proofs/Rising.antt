@@ -18,7 +18,7 @@ use Rattle.cg_engine.specs.Answers.{Recovers}
 use Rattle.cg_engine.specs.Ending.{IsOpen, Rises}
 use Rattle.cg_engine.specs.declared.answers.Recovered.{Recovered}
 use Rattle.cg_engine.specs.declared.answers.Recovered.TheVariants as recovered
-use Rattle.cg_engine.specs.declared.wreck.Last.{Last}
+use Rattle.cg_engine.specs.declared.wreck.LastEvent.{LastEvent}
 use Rattle.cg_engine.proofs.Following.{recovered_follows}
 
 -- the replica of an opened store, with the red marks of its recovery
@@ -35,7 +35,7 @@ open_engine holds counts settled records ahead {D} view k new core t opened turn
       follows = subst (λ m. Follows (disk_of m u) t.replica.held) marks (subst (λ (x : Turn). Follows (disk_of (recover u.content).known u) x.replica.held) (sym is) follows);
     })
 
-module _ {D : Type 0} (view : D → DiskView) (w : Fallen D) (last : Last) (count_is : last.count ≡ w.count) (green_is : last.green ≡ w.green) (k : Kept D) (core : Held) (opened : IsOpened view w.id (view w.disk) k core) where
+module _ {D : Type 0} (view : D → DiskView) (w : Fallen D) (last : LastEvent) (count_is : last.count ≡ w.count) (green_is : last.green ≡ w.green) (k : Kept D) (core : Held) (opened : IsOpened view w.id (view w.disk) k core) where
   pub opened_is : IsOpen (view k.disk) k core
   opened_is = record {
     standing = opened.standing;

@@ -25,7 +25,7 @@ use Rattle.cg_store.specs.declared.errors.OpenErr.{OpenErr}
 use Rattle.cg_store.specs.declared.errors.OpenErr.TheVariants.{Lost as OpenLost, NotAStore as OpenNotAStore, NoMemory as OpenNoMemory}
 use Rattle.cg_store.specs.declared.outputs.Outputs.{Outputs}
 use Rattle.cg_engine.specs.Engines.{Up, Fallen}
-use Rattle.cg_engine.specs.declared.wreck.Last.{Last}
+use Rattle.cg_engine.specs.declared.wreck.LastEvent.{LastEvent}
 use Rattle.cg_engine.specs.declared.answers.Started.{Started}
 use Rattle.cg_engine.specs.declared.answers.Started.TheVariants as started
 use Rattle.cg_engine.specs.declared.answers.Handled.{Handled}
@@ -35,13 +35,13 @@ use Rattle.cg_engine.specs.declared.answers.Recovered.TheVariants as recovered
 
 -- ---- faults
 
-abbrev pub wreck_of : {D : Type 0} → D → ℕ → Last → Fallen D
+abbrev pub wreck_of : {D : Type 0} → D → ℕ → LastEvent → Fallen D
 wreck_of disk id last = record { disk = disk; id = id; count = last.count; green = last.green }
 
 abbrev pub bare_wreck : {D : Type 0} → D → ℕ → Fallen D
 bare_wreck disk id = record { disk = disk; id = id; count = 0; green = [] }
 
-abbrev pub fallen : {D : Type 0} → CommitErr D → ℕ → Last → Handled D
+abbrev pub fallen : {D : Type 0} → CommitErr D → ℕ → LastEvent → Handled D
 fallen (Lost disk) id last = handled.Down (wreck_of disk id last)
 fallen (NoMemoryErr disk) id last = handled.NoMemory (wreck_of disk id last)
 
@@ -49,12 +49,12 @@ abbrev pub unstarted : {D : Type 0} → CommitErr D → ℕ → Started D
 unstarted (Lost disk) id = started.Down (bare_wreck disk id)
 unstarted (NoMemoryErr disk) id = started.NoMemory (bare_wreck disk id)
 
-abbrev pub unopened : {D : Type 0} → OpenErr D → ℕ → Last → Recovered D
+abbrev pub unopened : {D : Type 0} → OpenErr D → ℕ → LastEvent → Recovered D
 unopened (OpenLost disk) id last = recovered.Down (wreck_of disk id last)
 unopened (OpenNotAStore disk) id last = recovered.NotAStore (wreck_of disk id last)
 unopened (OpenNoMemory disk) id last = recovered.NoMemory (wreck_of disk id last)
 
-abbrev pub unkept : {D : Type 0} → CommitErr D → ℕ → Last → Recovered D
+abbrev pub unkept : {D : Type 0} → CommitErr D → ℕ → LastEvent → Recovered D
 unkept (Lost disk) id last = recovered.Down (wreck_of disk id last)
 unkept (NoMemoryErr disk) id last = recovered.NoMemory (wreck_of disk id last)
 
@@ -85,21 +85,21 @@ MayGoOn written unwritten w h = Either written (IsLineGreen h × MaySave unwritt
 abbrev pub up : {D : Type 0} → Kept D → Replica → Up D
 up store r = record { store = store; replica = r }
 
-abbrev pub saved : {D : Type 0} → Result (Kept D) (CommitErr D) → Replica → Outputs → ℕ → Last → Handled D
+abbrev pub saved : {D : Type 0} → Result (Kept D) (CommitErr D) → Replica → Outputs → ℕ → LastEvent → Handled D
 saved (Ok store) r outputs id last = handled.Running (up store r) outputs
 saved (Err fault) r outputs id last = fallen fault id last
 
 -- a checkpoint was made
-pub record Saved {D : Type 0} (view : D → DiskView) (k : Kept D) (w : OnDisk) (r : Replica) (outputs : Outputs) (last : Last) (result : Handled D) : Type 0 where
+pub record Saved {D : Type 0} (view : D → DiskView) (k : Kept D) (w : OnDisk) (r : Replica) (outputs : Outputs) (last : LastEvent) (result : Handled D) : Type 0 where
   pub answer : Result (Kept D) (CommitErr D)
   pub moves : Moves view k w (checkpointed w) answer
   pub moments : EachMoment view (λ s. s.disk) (IsEither k.id w (checkpointed w)) (view k.disk) answer
   pub is : result ≡ saved answer r outputs k.id last
 
-abbrev pub Saves : {D : Type 0} → (D → DiskView) → Kept D → OnDisk → Replica → Outputs → Last → Handled D → Type 0
+abbrev pub Saves : {D : Type 0} → (D → DiskView) → Kept D → OnDisk → Replica → Outputs → LastEvent → Handled D → Type 0
 Saves view k w r outputs last result = Either (nat_lt size_limit w.size) (Saved view k w r outputs last result) (result ≡ handled.Running (up k r) outputs)
 
-abbrev pub GoesOn : {D : Type 0} → (D → DiskView) → Kept D → OnDisk → Replica → Outputs → Last → Handled D → Type 0
+abbrev pub GoesOn : {D : Type 0} → (D → DiskView) → Kept D → OnDisk → Replica → Outputs → LastEvent → Handled D → Type 0
 GoesOn view k w r outputs last result = Either outputs.written (Saves view k w (whitened r) outputs last result) (result ≡ handled.Running (up k r) outputs)
 
 -- ---- a recovery
@@ -113,12 +113,12 @@ pub record IsOpen {D : Type 0} (d : DiskView) (k : Kept D) (core : Held) : Type 
   pub unwritten : k.unwritten ≡ []
 
 -- the replica comes up; only memory may be wanting
-abbrev pub RisesWith : {D : Type 0} → Kept D → Turn → Last → Bool → Recovered D → Type 0
+abbrev pub RisesWith : {D : Type 0} → Kept D → Turn → LastEvent → Bool → Recovered D → Type 0
 RisesWith k t last more (recovered.Running e green) =
     (e.replica ≡ t.replica) × (e.store ≡ record k { unwritten = k.unwritten ++ t.known }) × (green ≡ (if more then last.green else []))
 RisesWith k t last more (recovered.Down w) = ⊥
 RisesWith k t last more (recovered.NotAStore w) = ⊥
 RisesWith k t last more (recovered.NoMemory w) = w ≡ wreck_of k.disk k.id last
 
-abbrev pub Rises : {D : Type 0} → Kept D → Held → Last → Recovered D → Type 0
+abbrev pub Rises : {D : Type 0} → Kept D → Held → LastEvent → Recovered D → Type 0
 Rises k core last result = RisesWith k (recover core) last (nat_lt last.count (green_count core.queue)) result

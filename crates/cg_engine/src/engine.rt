@@ -10,7 +10,7 @@ ghost use Rattle.cg_replica.specs.Inputs.{input_of, HasLimits};
 ghost use Rattle.cg_replica.specs.Seen.{turn_of, has_left};
 ghost use Rattle.cg_engine.specs.Ending.{fallen, unstarted, unopened, unkept};
 
-use crate::wreck::Last;
+use crate::wreck::LastEvent;
 use crate::{Handled, Recovered, Started, Wreck};
 use cg_base::{IdList, ReplicaId, Row, WeightSet};
 use cg_client::{Core, Draft};
@@ -40,7 +40,7 @@ impl<D: Disk> Model for Engine<D> {
 }
 
 // What ended a call of the store ends the event.
-fn fallen<D: Disk>(fault: CommitErr<D>, id: ReplicaId, last: Last) -> Handled<D>
+fn fallen<D: Disk>(fault: CommitErr<D>, id: ReplicaId, last: LastEvent) -> Handled<D>
     ensures { result ≡ fallen fault id last }
 {
     match fault {
@@ -60,7 +60,7 @@ fn unstarted<D: Disk>(alloc: Global, fault: CommitErr<D>, id: ReplicaId) -> Star
 }
 
 // A disk that couldn't be opened.
-fn unopened<D: Disk>(fault: OpenErr<D>, id: ReplicaId, last: Last) -> Recovered<D>
+fn unopened<D: Disk>(fault: OpenErr<D>, id: ReplicaId, last: LastEvent) -> Recovered<D>
     ensures { result ≡ unopened fault id last }
 {
     match fault {
@@ -71,7 +71,7 @@ fn unopened<D: Disk>(fault: OpenErr<D>, id: ReplicaId, last: Last) -> Recovered<
 }
 
 // The red marks of a recovery that couldn't be kept.
-fn unkept<D: Disk>(fault: CommitErr<D>, id: ReplicaId, last: Last) -> Recovered<D>
+fn unkept<D: Disk>(fault: CommitErr<D>, id: ReplicaId, last: LastEvent) -> Recovered<D>
     ensures { result ≡ unkept fault id last }
 {
     match fault {
@@ -81,7 +81,7 @@ fn unkept<D: Disk>(fault: CommitErr<D>, id: ReplicaId, last: Last) -> Recovered<
 }
 
 // The names of the last event, where there are more greens now.
-fn told(alloc: Global, last: Last, more: bool) -> IdList
+fn told(alloc: Global, last: LastEvent, more: bool) -> IdList
     ensures { result ≡ (if more then last.green else []) }
 {
     if more { last.green } else { Row::new(alloc) }
@@ -163,7 +163,7 @@ impl<D: Disk> Engine<D> {
     {
         let id = store.id();
         let green = Row::new(alloc);
-        Handled::NoMemory(Wreck::of(store.into_disk(), id, Last { count, green }))
+        Handled::NoMemory(Wreck::of(store.into_disk(), id, LastEvent { count, green }))
     }
 
     // The step was made: the event ends.
@@ -173,7 +173,7 @@ impl<D: Disk> Engine<D> {
         ensures { (u : OnDisk) → Stands store.id (D.view store.disk).reads u → (let t = turn_of replica draft in EndsEvent D.view store count u t (commits u.content t) result) }
     {
         match Row::from_slice(alloc, draft.green().as_slice()) {
-            Ok(green) => Engine::write(store, replica, draft, Last { count, green }),
+            Ok(green) => Engine::write(store, replica, draft, LastEvent { count, green }),
             Err(_) => {
                 draft.abandon();
                 drop(replica);
@@ -183,7 +183,7 @@ impl<D: Disk> Engine<D> {
     }
 
     // The commit, and what follows it.
-    fn write(store: Store<D>, replica: Replica, draft: Draft, last: Last) -> Handled<D>
+    fn write(store: Store<D>, replica: Replica, draft: Draft, last: LastEvent) -> Handled<D>
         requires calls { (D.view store.disk).time + 10 ≤ 2 ^ 62 }
         requires may { (u : OnDisk) → Stands store.id (D.view store.disk).reads u → MayEnd store.unwritten u (turn_of replica draft) }
         requires named { last.green ≡ draft.green }
@@ -200,7 +200,7 @@ impl<D: Disk> Engine<D> {
     }
 
     // Behind a commit the white count rises, and a checkpoint may follow.
-    fn go_on(store: Store<D>, replica: Replica, outputs: Outputs, last: Last) -> Handled<D>
+    fn go_on(store: Store<D>, replica: Replica, outputs: Outputs, last: LastEvent) -> Handled<D>
         requires calls { (D.view store.disk).time + 6 ≤ 2 ^ 62 }
         requires may { (w : OnDisk) → Stands store.id (D.view store.disk).reads w → MayGoOn outputs.written store.unwritten w replica.held }
         ensures { (w : OnDisk) → Stands store.id (D.view store.disk).reads w → GoesOn D.view store w replica outputs last result }
@@ -217,7 +217,7 @@ impl<D: Disk> Engine<D> {
     }
 
     // The checkpoint, where the side is too long.
-    fn save(store: Store<D>, replica: Replica, outputs: Outputs, last: Last) -> Handled<D>
+    fn save(store: Store<D>, replica: Replica, outputs: Outputs, last: LastEvent) -> Handled<D>
         requires calls { (D.view store.disk).time + 6 ≤ 2 ^ 62 }
         requires may { (w : OnDisk) → Stands store.id (D.view store.disk).reads w → MaySave store.unwritten w replica.held }
         ensures { (w : OnDisk) → Stands store.id (D.view store.disk).reads w → Saves D.view store w replica outputs last result }
@@ -263,7 +263,7 @@ impl<D: Disk> Engine<D> {
     }
 
     // The replica of an opened store.
-    fn rise(store: Store<D>, core: Core, last: Last) -> Recovered<D>
+    fn rise(store: Store<D>, core: Core, last: LastEvent) -> Recovered<D>
         requires { IsOpen (D.view store.disk) store core }
         ensures { Rises store core last result }
     {
@@ -282,7 +282,7 @@ impl<D: Disk> Engine<D> {
         store: Store<D>,
         replica: Replica,
         draft: Draft,
-        last: Last,
+        last: LastEvent,
         more: bool,
     ) -> Recovered<D>
         requires { (core : Held) × IsOpen (D.view store.disk) store core × (turn_of replica draft ≡ recover core) }
@@ -314,11 +314,11 @@ impl<D: Disk> Engine<D> {
         drop(replica);
         let id = store.id();
         let green = Row::new(alloc);
-        Wreck::of(store.into_disk(), id, Last { count, green })
+        Wreck::of(store.into_disk(), id, LastEvent { count, green })
     }
 
     /// It has left. It takes no memory.
-    pub fn left(&self) -> bool
+    pub fn is_left(&self) -> bool
         ensures { result ≡ has_left self.now.replica.state }
     {
         self.replica.is_left()

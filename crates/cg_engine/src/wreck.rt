@@ -5,9 +5,9 @@ use cg_disk::{Disk, ModelDisk};
 use std::alloc::Global;
 use std::marker::Model;
 
-/// What an event was to tell: so many greens stood before it, and these names it has newly made green.
+/// What the last event was to tell: so many greens stood before it, and these names it has newly made green.
 #[derive(Drop)]
-pub(crate) struct Last {
+pub(crate) struct LastEvent {
     pub(crate) count: u64,
     pub(crate) green: IdList,
 }
@@ -17,7 +17,7 @@ pub(crate) struct Last {
 pub struct Wreck<D: Disk> {
     disk: D,
     id: ReplicaId,
-    last: Last,
+    last: LastEvent,
 }
 
 impl<D: Disk> Model for Wreck<D> {
@@ -33,20 +33,20 @@ impl<D: Disk> Wreck<D> {
     pub fn new(alloc: Global, disk: D, id: ReplicaId) -> Wreck<D>
         ensures { result ≡ record { disk = disk; id = id; count = 0; green = [] } }
     {
-        let last = Last {
+        let last = LastEvent {
             count: 0,
             green: Row::new(alloc),
         };
         Wreck { disk, id, last }
     }
 
-    pub(crate) fn of(disk: D, id: ReplicaId, last: Last) -> Wreck<D>
+    pub(crate) fn of(disk: D, id: ReplicaId, last: LastEvent) -> Wreck<D>
         ensures { result ≡ record { disk = disk; id = id; count = last.count; green = last.green } }
     {
         Wreck { disk, id, last }
     }
 
-    pub(crate) fn into_parts(self) -> (D, ReplicaId, Last)
+    pub(crate) fn into_parts(self) -> (D, ReplicaId, LastEvent)
         ensures { result ≡ (self.disk, self.id, record { count = self.count; green = self.green }) }
     {
         let Wreck { disk, id, last } = self;

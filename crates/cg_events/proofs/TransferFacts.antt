@@ -18,7 +18,7 @@ use Rattle.cg_wire.specs.declared.message.Msg.{Msg}
 use Rattle.cg_base.specs.Lists.{first_some}
 use Rattle.cg_client.specs.Replica.{Replica}
 use Rattle.cg_agree.specs.World.{World, Seat, Snapshot, running, seat_of, has_begun, with_seat}
-use Rattle.cg_agree.specs.Admission.{transfer_refused, begun_already, takes_part, never_named, joiner_left, not_green}
+use Rattle.cg_agree.specs.Admission.{begun_already, takes_part, never_named, joiner_left, not_green}
 use Rattle.cg_agree.specs.Step.{quietly, snapshot_for, without_snapshot, transfer}
 use Rattle.cg_seat.specs.Calls.{copied}
 use Rattle.cg_events.specs.Going.{seated, fallen}
@@ -123,7 +123,7 @@ not-refused : (b : Bool) (reason : Reason) → refuse b reason ≡ None → b �
 not-refused true reason is = absurd (let clash : Some reason ≡ None = is in cc)
 not-refused false reason is = refl
 
-pub joiner-down : (w : World) (p joiner : ℕ) → IsSeated w → transfer_refused w p joiner ≡ None → is_up w.group joiner ≡ false
+pub joiner-down : (w : World) (p joiner : ℕ) → IsSeated w → first_some (takes_part w p ∷ never_named w joiner ∷ begun_already w joiner ∷ joiner_left w p joiner ∷ not_green w p joiner ∷ []) ≡ None → is_up w.group joiner ≡ false
 joiner-down w p joiner is admitted =
     let third : begun_already w joiner ≡ None =
     third-none (takes_part w p) (never_named w joiner) (begun_already w joiner) (joiner_left w p joiner) (not_green w p joiner) admitted in

@@ -1,11 +1,11 @@
 -- The parts of an event on the way.
-use Rattle.std.specs.Prelude.{ℕ, ◌==◌, not, List, ◌++◌, Option, Some, None, filter, if◌then◌else◌, [], ◌∷◌}
+use Rattle.std.specs.Prelude.{ℕ, ◌==◌, not, List, ◌++◌, Option, Some, None, map, filter, fold, if◌then◌else◌, [], ◌∷◌}
 use Rattle.cg_base.specs.Sets.{has}
 use Rattle.cg_wire.specs.declared.message.Msg.{Msg}
 use Rattle.cg_report.specs.declared.line.Line.{Line}
 use Rattle.cg_group.specs.Events.{send_all, go_down}
 use Rattle.cg_agree.specs.World.{Seat, World, with_seat}
-use Rattle.cg_agree.specs.Show.{Going, is_news, line_of, tell}
+use Rattle.cg_agree.specs.Show.{Going, Moved, is_news, line_of, with_printed, tell}
 use Rattle.cg_seat.specs.Calls.{Spoken}
 
 -- a replica says these things to its group
@@ -35,3 +35,12 @@ with_news old lines l = if is_news old l then lines ++ l ∷ [] else lines
 -- the line of a replica too, where it is one of these and its line is news
 abbrev pub with_line : List ℕ → World → List Line → Seat → List Line
 with_line set w lines s = if has set s.id then with_news w.lines lines (line_of w.group s) else lines
+
+-- a step ends, and these lines are printed
+abbrev pub ended_with : Going → List Line → Moved
+ended_with g lines =
+    let w = g.world in
+    record {
+      entry = record { made = g.made; orders = g.orders; lines = lines; replies = map (λ r. r.reply) g.replies; shown = g.shown };
+      world = record w { lines = fold with_printed w.lines lines };
+    }

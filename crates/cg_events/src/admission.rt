@@ -3,7 +3,7 @@ ghost use Rattle.std.specs.Prelude.{◌≡◌, ◌∷◌, []};
 ghost use Rattle.cg_base.specs.Lists.{first_some};
 ghost use Rattle.cg_base.specs.Sets.{IsSet};
 ghost use Rattle.cg_group.specs.Refusals.{any_of, empty_set, not_up};
-ghost use Rattle.cg_agree.specs.Admission.{unknown, has_left, already_up, begun_already, id_used, joiner_left, never_named, not_green, takes_part, transfer_refused};
+ghost use Rattle.cg_agree.specs.Admission.{unknown, has_left, already_up, begun_already, id_used, joiner_left, never_named, not_green, takes_part};
 
 use crate::WorldState;
 use cg_base::{IdSet, ReplicaId};
@@ -14,9 +14,8 @@ fn first_of(reasons: &[Option<Reason>]) -> Option<Reason>
     ensures { result ≡ first_some reasons.now }
 {
     for reason in reasons {
-        match reason {
-            Some(reason) => return Some(*reason),
-            None => {}
+        if let Some(reason) = reason {
+            return Some(*reason);
         }
     }
     None
@@ -153,7 +152,7 @@ pub(crate) fn transfer_refused(
     p: ReplicaId,
     joiner: ReplicaId,
 ) -> Option<Reason>
-    ensures { result ≡ transfer_refused state.now p joiner }
+    ensures { result ≡ first_some (takes_part state.now p ∷ never_named state.now joiner ∷ begun_already state.now joiner ∷ joiner_left state.now p joiner ∷ not_green state.now p joiner ∷ []) }
 {
     first_of(&[
         takes_part(state, p),

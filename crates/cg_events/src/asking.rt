@@ -14,6 +14,7 @@ ghost use Rattle.cg_agree.specs.Standing.{IsBooked};
 ghost use Rattle.cg_events.specs.Happening.{Happens};
 
 use crate::admission::{join_refused, leave_refused, takes_part};
+use crate::happened::done;
 use crate::{Going, Happened, WorldState};
 use cg_action::{CmdList, Query, copy_commands, copy_query};
 use cg_base::{NoMemory, ReplicaId};
@@ -33,14 +34,10 @@ pub(crate) fn request(
     requires booked { IsBooked state }
     ensures { Happens state (Requested p cmds.now query.now) result }
 {
-    match takes_part(&state, p) {
-        Some(reason) => return Happened::Refused { state, reason },
-        None => {}
+    if let Some(reason) = takes_part(&state, p) {
+        return Happened::Refused { state, reason };
     }
-    match update(alloc, state, p, cmds, query) {
-        Ok(going) => Happened::Done(going),
-        Err(NoMemory) => Happened::NoMemory,
-    }
+    done(update(alloc, state, p, cmds, query))
 }
 
 fn update(
@@ -89,19 +86,15 @@ pub(crate) fn join(
     requires booked { IsBooked state }
     ensures { Happens state (Join p joiner weight) result }
 {
-    match join_refused(&state, p, joiner) {
-        Some(reason) => return Happened::Refused { state, reason },
-        None => {}
+    if let Some(reason) = join_refused(&state, p, joiner) {
+        return Happened::Refused { state, reason };
     }
-    match ask(
+    done(ask(
         alloc,
         named(state, joiner),
         p,
         Request::Join(joiner, weight),
-    ) {
-        Ok(going) => Happened::Done(going),
-        Err(NoMemory) => Happened::NoMemory,
-    }
+    ))
 }
 
 // The replica is named.
@@ -120,12 +113,8 @@ pub(crate) fn leave(alloc: Global, state: WorldState, p: ReplicaId, server: Repl
     requires booked { IsBooked state }
     ensures { Happens state (Leave p server) result }
 {
-    match leave_refused(&state, p, server) {
-        Some(reason) => return Happened::Refused { state, reason },
-        None => {}
+    if let Some(reason) = leave_refused(&state, p, server) {
+        return Happened::Refused { state, reason };
     }
-    match ask(alloc, state, p, Request::Leave(server)) {
-        Ok(going) => Happened::Done(going),
-        Err(NoMemory) => Happened::NoMemory,
-    }
+    done(ask(alloc, state, p, Request::Leave(server)))
 }

@@ -19,9 +19,8 @@ pub(crate) fn start(alloc: Global, state: WorldState, set: &WeightSet) -> Happen
     requires { state ≡ no_world }
     ensures { Happens state (Start set.now) result }
 {
-    match empty_set(&set.ids()) {
-        Some(reason) => return Happened::Refused { state, reason },
-        None => {}
+    if let Some(reason) = empty_set(&set.ids()) {
+        return Happened::Refused { state, reason };
     }
     match begin_all(alloc, state, set) {
         Ok(state) => Happened::Done(Going::quietly(alloc, state)),

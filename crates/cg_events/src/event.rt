@@ -1,5 +1,4 @@
 //! One event, of any kind.
-ghost use Rattle.std.specs.Prelude.{◌≡◌};
 ghost use Rattle.cg_agree.specs.Run.{MayAsk};
 ghost use Rattle.cg_agree.specs.Standing.{IsBooked};
 ghost use Rattle.cg_events.specs.Grounds.{ComesFirst, IsSeated};

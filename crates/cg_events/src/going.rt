@@ -12,8 +12,8 @@ ghost use Rattle.cg_agree.specs.Standing.{IsHandedBooked, AreBookedInTurn};
 ghost use Rattle.cg_agree.specs.Touched.{ShowsNewsOf};
 ghost use Rattle.cg_seat.specs.Calls.{taken, IsBookedFor};
 ghost use Rattle.cg_show.specs.Showing.{shows_after, order_after, made_after};
-ghost use Rattle.cg_events.specs.Going.{sending, seated, comes_back};
-ghost use Rattle.cg_agree.specs.Show.{ended, ended_with, tell};
+ghost use Rattle.cg_events.specs.Going.{sending, seated, comes_back, ended_with};
+ghost use Rattle.cg_agree.specs.Show.{ended, tell};
 
 use crate::WorldState;
 use crate::made::MadeCut;
@@ -55,7 +55,7 @@ fn told(state: &mut WorldState, showing: &mut Showing, news: News) -> Result<(),
 
 impl Going {
     /// Nothing has come of an event but this world.
-    pub fn quietly(alloc: Global, state: WorldState) -> Going
+    pub(crate) fn quietly(alloc: Global, state: WorldState) -> Going
         ensures { result ≡ quietly state }
     {
         Going {
@@ -65,7 +65,7 @@ impl Going {
     }
 
     /// It is shown too, as an event asks for it.
-    pub fn show(self, list: Row<Shown>) -> Result<Going, NoMemory>
+    pub(crate) fn show(self, list: Row<Shown>) -> Result<Going, NoMemory>
         ensures { IfOk result (λ g. g ≡ record self { shown = self.shown ++ list }) }
     {
         let Going { state, showing } = self;
@@ -79,7 +79,7 @@ impl Going {
     }
 
     /// What came of an event at a replica is shown too.
-    pub fn tell(self, news: News) -> Result<Going, NoMemory>
+    pub(crate) fn tell(self, news: News) -> Result<Going, NoMemory>
         ensures { IfOk result (λ g. g ≡ tell self news) }
     {
         let Going {
@@ -97,13 +97,14 @@ impl Going {
     }
 
     /// The replica says these things to its group, one after another.
-    pub fn send(self, p: ReplicaId, sent: Row<Letter>) -> Result<Going, NoMemory>
+    pub(crate) fn send(self, p: ReplicaId, sent: Row<Letter>) -> Result<Going, NoMemory>
         ensures { IfOk result (λ g. g ≡ sending self p sent) }
     {
-        let Going { state, showing } = self;
+        let Going { mut state, showing } = self;
         match state.say(p, sent) {
-            Ok(state) => Ok(Going { state, showing }),
+            Ok(()) => Ok(Going { state, showing }),
             Err(NoMemory) => {
+                drop(state);
                 drop(showing);
                 Err(NoMemory)
             }
@@ -111,7 +112,7 @@ impl Going {
     }
 
     /// A replica takes what the group hands to it, where it is up.
-    pub fn deliver(self, h: Handed<Letter>) -> Result<Going, NoMemory>
+    pub(crate) fn deliver(self, h: Handed<Letter>) -> Result<Going, NoMemory>
         requires { (book : ActionName → ActionView) × IsHandedBooked book self.world h }
         ensures { IfOk result (λ g. g ≡ hand_over self h) }
     {
@@ -127,7 +128,7 @@ impl Going {
     }
 
     /// Each replica takes what the group hands to it, ascending.
-    pub fn hand_out(self, handed: Row<Handed<Letter>>) -> Result<Going, NoMemory>
+    pub(crate) fn hand_out(self, handed: Row<Handed<Letter>>) -> Result<Going, NoMemory>
         requires { (book : ActionName → ActionView) × AreBookedInTurn book self handed }
         ensures { IfOk result (λ g. g ≡ fold hand_over self handed) }
     {
@@ -139,7 +140,7 @@ impl Going {
     }
 
     /// A request comes to a replica, where it is up.
-    pub fn ask(self, p: ReplicaId, request: Request) -> Result<Going, NoMemory>
+    pub(crate) fn ask(self, p: ReplicaId, request: Request) -> Result<Going, NoMemory>
         requires limits { IsKind (kind_of request) }
         requires booked { (book : ActionName → ActionView) × IfSome (replica_of self.world p) (λ r. AreBooked book r.held (Asks (kind_of request))) }
         ensures { IfOk result (λ g. g ≡ hand self p (Asks (kind_of request))) }

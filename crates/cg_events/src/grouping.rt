@@ -8,9 +8,10 @@ ghost use Rattle.cg_agree.specs.Standing.{AreBookedInTurn, IsHandedBooked, IsBoo
 ghost use Rattle.cg_events.specs.Happening.{Happens};
 
 use crate::admission::{merge_refused, split_refused, unknown};
+use crate::happened::{done, refused};
 use crate::{Going, Happened, WorldState};
 use cg_base::{IdSet, NoMemory, ReplicaId, Row};
-use cg_group::{GroupErr, Handed};
+use cg_group::Handed;
 use cg_letter::Letter;
 use std::alloc::Global;
 
@@ -20,24 +21,13 @@ pub(crate) fn split(alloc: Global, state: WorldState, set: IdSet) -> Happened
     requires { IsBooked state }
     ensures { Happens state (Split set) result }
 {
-    match split_refused(&state, &set) {
-        Some(reason) => return Happened::Refused { state, reason },
-        None => {}
+    if let Some(reason) = split_refused(&state, &set) {
+        return Happened::Refused { state, reason };
     }
     let mut parted = state;
     match parted.group.split(set) {
-        Ok(handed) => match hand_out(alloc, parted, handed) {
-            Ok(going) => Happened::Done(going),
-            Err(NoMemory) => Happened::NoMemory,
-        },
-        Err(GroupErr::Refused(reason)) => Happened::Refused {
-            state: parted,
-            reason,
-        },
-        Err(GroupErr::NoMemory) => {
-            drop(parted);
-            Happened::NoMemory
-        }
+        Ok(handed) => done(hand_out(alloc, parted, handed)),
+        Err(fault) => refused(parted, fault),
     }
 }
 
@@ -47,25 +37,14 @@ pub(crate) fn merge(alloc: Global, state: WorldState, set: IdSet) -> Happened
     requires { IsBooked state }
     ensures { Happens state (Merge set) result }
 {
-    match merge_refused(&state, &set) {
-        Some(reason) => return Happened::Refused { state, reason },
-        None => {}
+    if let Some(reason) = merge_refused(&state, &set) {
+        return Happened::Refused { state, reason };
     }
     let left = state.left_replicas();
     let mut joined = state;
     match joined.group.merge(set, left) {
-        Ok(handed) => match hand_out(alloc, joined, handed) {
-            Ok(going) => Happened::Done(going),
-            Err(NoMemory) => Happened::NoMemory,
-        },
-        Err(GroupErr::Refused(reason)) => Happened::Refused {
-            state: joined,
-            reason,
-        },
-        Err(GroupErr::NoMemory) => {
-            drop(joined);
-            Happened::NoMemory
-        }
+        Ok(handed) => done(hand_out(alloc, joined, handed)),
+        Err(fault) => refused(joined, fault),
     }
 }
 
@@ -87,24 +66,13 @@ pub(crate) fn deliver(alloc: Global, state: WorldState, p: ReplicaId, count: u64
     requires { IsBooked state }
     ensures { Happens state (Deliver p count) result }
 {
-    match unknown(&state, p) {
-        Some(reason) => return Happened::Refused { state, reason },
-        None => {}
+    if let Some(reason) = unknown(&state, p) {
+        return Happened::Refused { state, reason };
     }
     let mut behind = state;
     match behind.group.deliver(p, count) {
-        Ok(list) => match hand_over(alloc, behind, Handed { to: p, list }) {
-            Ok(going) => Happened::Done(going),
-            Err(NoMemory) => Happened::NoMemory,
-        },
-        Err(GroupErr::Refused(reason)) => Happened::Refused {
-            state: behind,
-            reason,
-        },
-        Err(GroupErr::NoMemory) => {
-            drop(behind);
-            Happened::NoMemory
-        }
+        Ok(list) => done(hand_over(alloc, behind, Handed { to: p, list })),
+        Err(fault) => refused(behind, fault),
     }
 }
 
@@ -121,21 +89,13 @@ fn hand_over(alloc: Global, state: WorldState, handed: Handed<Letter>) -> Result
 pub(crate) fn order(alloc: Global, state: WorldState, p: ReplicaId) -> Happened
     ensures { Happens state (Order p) result }
 {
-    match unknown(&state, p) {
-        Some(reason) => return Happened::Refused { state, reason },
-        None => {}
+    if let Some(reason) = unknown(&state, p) {
+        return Happened::Refused { state, reason };
     }
     let mut ordered = state;
     match ordered.group.order(p) {
         Ok(_place) => Happened::Done(Going::quietly(alloc, ordered)),
-        Err(GroupErr::Refused(reason)) => Happened::Refused {
-            state: ordered,
-            reason,
-        },
-        Err(GroupErr::NoMemory) => {
-            drop(ordered);
-            Happened::NoMemory
-        }
+        Err(fault) => refused(ordered, fault),
     }
 }
 
@@ -144,21 +104,13 @@ pub(crate) fn order(alloc: Global, state: WorldState, p: ReplicaId) -> Happened
 pub(crate) fn receive(alloc: Global, state: WorldState, p: ReplicaId, place: u64) -> Happened
     ensures { Happens state (Receive p place) result }
 {
-    match unknown(&state, p) {
-        Some(reason) => return Happened::Refused { state, reason },
-        None => {}
+    if let Some(reason) = unknown(&state, p) {
+        return Happened::Refused { state, reason };
     }
     let mut behind = state;
     match behind.group.receive(p, place) {
         Ok(()) => Happened::Done(Going::quietly(alloc, behind)),
-        Err(GroupErr::Refused(reason)) => Happened::Refused {
-            state: behind,
-            reason,
-        },
-        Err(GroupErr::NoMemory) => {
-            drop(behind);
-            Happened::NoMemory
-        }
+        Err(fault) => refused(behind, fault),
     }
 }
 

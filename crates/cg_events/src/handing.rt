@@ -11,6 +11,7 @@ ghost use Rattle.cg_events.specs.Handing.{new_copy, Chooses, joins, handed, show
 ghost use Rattle.cg_events.specs.Happening.{Happens};
 
 use crate::admission::transfer_refused;
+use crate::happened::done;
 use crate::{Going, Happened, WorldState};
 use cg_base::{NoMemory, ReplicaId, Row};
 use cg_report::Shown;
@@ -29,14 +30,10 @@ pub(crate) fn transfer(
     requires { IsSeated state }
     ensures { Happens state (TransferEvent p joiner pieces) result }
 {
-    match transfer_refused(&state, p, joiner) {
-        Some(reason) => return Happened::Refused { state, reason },
-        None => {}
+    if let Some(reason) = transfer_refused(&state, p, joiner) {
+        return Happened::Refused { state, reason };
     }
-    match hand_pieces(alloc, state, p, joiner, pieces) {
-        Ok(going) => Happened::Done(going),
-        Err(NoMemory) => Happened::NoMemory,
-    }
+    done(hand_pieces(alloc, state, p, joiner, pieces))
 }
 
 fn hand_pieces(

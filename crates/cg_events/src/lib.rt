@@ -24,7 +24,5 @@ mod transfers;
 pub use event::happen;
 pub use going::Going;
 pub use happened::Happened;
-pub use seats::Seats;
 pub use state::WorldState;
 pub use touching::touched;
-pub use transfers::Transfers;

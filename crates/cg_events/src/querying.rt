@@ -1,5 +1,5 @@
 //! What is shown of a world that stays as it is.
-ghost use Rattle.std.specs.Prelude.{◌≡◌, [], ◌∷◌, IfOk};
+ghost use Rattle.std.specs.Prelude.{◌≡◌, [], ◌∷◌, Err, IfOk, MatchResult};
 ghost use Rattle.std.specs.Option.{option_map_or};
 ghost use Rattle.cg_client.specs.Queries.{weak_answer, dirty_answer};
 ghost use Rattle.cg_report.specs.declared.entry.Shown.TheVariants.{Weak as ShownWeak, Dirty as ShownDirty, All};
@@ -9,6 +9,7 @@ ghost use Rattle.cg_agree.specs.Step.{showing, shown_of};
 ghost use Rattle.cg_events.specs.Happening.{Happens};
 
 use crate::admission::{hidden, takes_part};
+use crate::happened::done;
 use crate::{Going, Happened, WorldState};
 use cg_action::Query;
 use cg_base::{ActionId, IdList, NoMemory, ReplicaId, Row};
@@ -20,20 +21,11 @@ use std::alloc::Global;
 pub(crate) fn weak(alloc: Global, state: WorldState, p: ReplicaId, query: &Query) -> Happened
     ensures { Happens state (Weak p query.now) result }
 {
-    match takes_part(&state, p) {
-        Some(reason) => return Happened::Refused { state, reason },
-        None => {}
+    if let Some(reason) = takes_part(&state, p) {
+        return Happened::Refused { state, reason };
     }
-    match weak_of(alloc, &state, p, query) {
-        Ok(list) => match show_list(alloc, state, list) {
-            Ok(going) => Happened::Done(going),
-            Err(NoMemory) => Happened::NoMemory,
-        },
-        Err(NoMemory) => {
-            drop(state);
-            Happened::NoMemory
-        }
-    }
+    let found = weak_of(alloc, &state, p, query);
+    done(show_found(alloc, state, found))
 }
 
 fn weak_of(
@@ -55,20 +47,11 @@ fn weak_of(
 pub(crate) fn dirty(alloc: Global, state: WorldState, p: ReplicaId, query: &Query) -> Happened
     ensures { Happens state (Dirty p query.now) result }
 {
-    match takes_part(&state, p) {
-        Some(reason) => return Happened::Refused { state, reason },
-        None => {}
+    if let Some(reason) = takes_part(&state, p) {
+        return Happened::Refused { state, reason };
     }
-    match dirty_of(alloc, &state, p, query) {
-        Ok(list) => match show_list(alloc, state, list) {
-            Ok(going) => Happened::Done(going),
-            Err(NoMemory) => Happened::NoMemory,
-        },
-        Err(NoMemory) => {
-            drop(state);
-            Happened::NoMemory
-        }
-    }
+    let found = dirty_of(alloc, &state, p, query);
+    done(show_found(alloc, state, found))
 }
 
 fn dirty_of(
@@ -90,20 +73,11 @@ fn dirty_of(
 pub(crate) fn show(alloc: Global, state: WorldState, p: ReplicaId) -> Happened
     ensures { Happens state (Show p) result }
 {
-    match hidden(&state, p) {
-        Some(reason) => return Happened::Refused { state, reason },
-        None => {}
+    if let Some(reason) = hidden(&state, p) {
+        return Happened::Refused { state, reason };
     }
-    match shown_of(alloc, &state, p) {
-        Ok(list) => match show_list(alloc, state, list) {
-            Ok(going) => Happened::Done(going),
-            Err(NoMemory) => Happened::NoMemory,
-        },
-        Err(NoMemory) => {
-            drop(state);
-            Happened::NoMemory
-        }
-    }
+    let found = shown_of(alloc, &state, p);
+    done(show_found(alloc, state, found))
 }
 
 fn shown_of(alloc: Global, state: &WorldState, p: ReplicaId) -> Result<Row<Shown>, NoMemory>
@@ -120,16 +94,8 @@ fn shown_of(alloc: Global, state: &WorldState, p: ReplicaId) -> Result<Row<Shown
 pub(crate) fn show_order(alloc: Global, state: WorldState) -> Happened
     ensures { Happens state ShowOrder result }
 {
-    match whole_order(alloc, state.order.as_slice()) {
-        Ok(list) => match show_list(alloc, state, list) {
-            Ok(going) => Happened::Done(going),
-            Err(NoMemory) => Happened::NoMemory,
-        },
-        Err(NoMemory) => {
-            drop(state);
-            Happened::NoMemory
-        }
-    }
+    let found = whole_order(alloc, state.order.as_slice());
+    done(show_found(alloc, state, found))
 }
 
 fn whole_order(alloc: Global, order: &[ActionId]) -> Result<Row<Shown>, NoMemory>
@@ -141,9 +107,19 @@ fn whole_order(alloc: Global, order: &[ActionId]) -> Result<Row<Shown>, NoMemory
     Ok(list)
 }
 
-// These are shown of a world that stays as it is.
-fn show_list(alloc: Global, state: WorldState, list: Row<Shown>) -> Result<Going, NoMemory>
-    ensures { IfOk result (λ g. g ≡ showing state list) }
+// What was found is shown of a world that stays as it is.
+fn show_found(
+    alloc: Global,
+    state: WorldState,
+    found: Result<Row<Shown>, NoMemory>,
+) -> Result<Going, NoMemory>
+    ensures { MatchResult found (λ list. IfOk result (λ g. g ≡ showing state list)) (λ e. result ≡ Err e) }
 {
-    Going::quietly(alloc, state).show(list)
+    match found {
+        Ok(list) => Going::quietly(alloc, state).show(list),
+        Err(NoMemory) => {
+            drop(state);
+            Err(NoMemory)
+        }
+    }
 }

@@ -62,7 +62,7 @@ impl BoxedSeat {
 
 /// The replicas that have begun, ascending.
 #[derive(Drop)]
-pub struct Seats {
+pub(crate) struct Seats {
     list: Vec<BoxedSeat>,
 }
 
@@ -86,7 +86,7 @@ fn seat_of(seats: &[BoxedSeat], p: ReplicaId) -> Option<&BoxedSeat>
 }
 
 // Where the replica's seat stands, from 0.
-fn place_of(seats: &[BoxedSeat], p: ReplicaId) -> Option<usize>
+fn index_of(seats: &[BoxedSeat], p: ReplicaId) -> Option<usize>
     ensures { result ≡ position (λ s. s.id == p) seats.now }
 {
     seats.iter().position(|s| s.id() == p)
@@ -114,7 +114,7 @@ fn with_up(set: IdSet, seat: &Seat) -> IdSet
 
 impl Seats {
     /// Nobody has begun.
-    pub fn new(alloc: Global) -> Seats
+    pub(crate) fn new(alloc: Global) -> Seats
         ensures { result ≡ [] }
     {
         Seats {
@@ -134,7 +134,7 @@ impl Seats {
     }
 
     /// The replica's seat, where it has begun. It takes no memory.
-    pub fn find(&self, p: ReplicaId) -> Option<&Seat>
+    pub(crate) fn find(&self, p: ReplicaId) -> Option<&Seat>
         ensures { option_copied result ≡ find (λ s. s.id == p) self.now }
     {
         match seat_of(self.list.as_slice(), p) {
@@ -155,7 +155,7 @@ impl Seats {
     }
 
     /// The seat comes in the place of the replica's earlier one, or is a new one.
-    pub fn put(&mut self, seat: Seat) -> Result<(), NoMemory>
+    pub(crate) fn put(&mut self, seat: Seat) -> Result<(), NoMemory>
         ensures { OnOk result (self.new ≡ with_seat self.old seat) }
     {
         self.clear(seat.id());
@@ -164,13 +164,13 @@ impl Seats {
     }
 
     /// The replica's seat is taken out, where it has begun: then there is none. It takes no memory.
-    pub fn take(&mut self, p: ReplicaId) -> Option<Seat>
+    pub(crate) fn take(&mut self, p: ReplicaId) -> Option<Seat>
         ensures taken { MatchOption result
             ((find (λ s. s.id == p) self.old ≡ None) × (self.new ≡ self.old))
             (λ s. (find (λ t. t.id == p) self.old ≡ Some s) × ((t : SeatView) → t.id ≡ p → with_seat self.new t ≡ with_seat self.old t)) }
         ensures away { find (λ s. s.id == p) self.new ≡ None }
     {
-        match place_of(self.list.as_slice(), p) {
+        match index_of(self.list.as_slice(), p) {
             Some(index) => Some(self.list.remove(index).into_inner()),
             None => None,
         }

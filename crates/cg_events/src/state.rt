@@ -1,5 +1,5 @@
 //! The world that events change.
-ghost use Rattle.std.specs.Prelude.{◌≡◌, true, false, Some, None, is_some, IfOk, MatchOption};
+ghost use Rattle.std.specs.Prelude.{◌≡◌, true, false, Some, None, is_some, IfOk, OnOk, MatchOption};
 ghost use Rattle.std.specs.Option.{option_map_or};
 ghost use Rattle.cg_base.specs.Sets.{has};
 ghost use Rattle.cg_members.specs.Servers.{is_server};
@@ -12,7 +12,8 @@ ghost use Rattle.cg_events.specs.Going.{said, with_news};
 ghost use Rattle.cg_events.specs.Seating.{with_left};
 
 use crate::made::MadeCut;
-use crate::{Seats, Transfers};
+use crate::seats::Seats;
+use crate::transfers::Transfers;
 use cg_base::{IdList, IdSet, NoMemory, ReplicaId, Row};
 use cg_group::Group;
 use cg_letter::Letter;
@@ -60,14 +61,14 @@ impl WorldState {
     }
 
     /// The replica has begun. It takes no memory.
-    pub fn has_begun(&self, p: ReplicaId) -> bool
+    pub(crate) fn has_begun(&self, p: ReplicaId) -> bool
         ensures { result ≡ has_begun self.now p }
     {
         self.seats.find(p).is_some()
     }
 
     /// The replica is up. It takes no memory.
-    pub fn is_up(&self, p: ReplicaId) -> bool
+    pub(crate) fn is_up(&self, p: ReplicaId) -> bool
         ensures { result ≡ is_some (replica_of self.now p) }
     {
         match self.seats.find(p) {
@@ -77,7 +78,7 @@ impl WorldState {
     }
 
     /// The replica is up, and has left for good. It takes no memory.
-    pub fn is_left(&self, p: ReplicaId) -> bool
+    pub(crate) fn is_left(&self, p: ReplicaId) -> bool
         ensures { result ≡ is_left self.now p }
     {
         match self.seats.find(p) {
@@ -114,7 +115,7 @@ impl WorldState {
     }
 
     /// The replicas that are up and have left for good. It takes no memory.
-    pub fn left_replicas(&self) -> IdSet
+    pub(crate) fn left_replicas(&self) -> IdSet
         ensures { result ≡ left_replicas self.now }
     {
         let mut left = IdSet::empty();
@@ -143,7 +144,7 @@ impl WorldState {
     }
 
     /// Start or an admitted join has named the replica. It takes no memory.
-    pub fn names(&self, p: ReplicaId) -> bool
+    pub(crate) fn names(&self, p: ReplicaId) -> bool
         ensures { result ≡ has self.now.named p }
     {
         self.named.contains(p)
@@ -163,36 +164,10 @@ impl WorldState {
     }
 
     // A replica says these things to its group, one after another.
-    pub(crate) fn say(self, p: ReplicaId, sent: Row<Letter>) -> Result<WorldState, NoMemory>
-        ensures { IfOk result (λ w. w ≡ said self p sent) }
+    pub(crate) fn say(&mut self, p: ReplicaId, sent: Row<Letter>) -> Result<(), NoMemory>
+        ensures { OnOk result (self.new ≡ said self.old p sent) }
     {
-        let WorldState {
-            group,
-            seats,
-            transfers,
-            order,
-            lines,
-            made,
-            named,
-        } = self;
-        match say_all(group, p, sent) {
-            Ok(group) => Ok(WorldState {
-                group,
-                seats,
-                transfers,
-                order,
-                lines,
-                made,
-                named,
-            }),
-            Err(NoMemory) => {
-                drop(seats);
-                drop(transfers);
-                drop(order);
-                drop(lines);
-                Err(NoMemory)
-            }
-        }
+        say_all(&mut self.group, p, sent)
     }
 
     // Of these replicas the lines that differ from the last printed ones, ascending by replica.
@@ -228,14 +203,13 @@ impl WorldState {
     }
 }
 
-fn say_all(group: Group<Letter>, p: ReplicaId, sent: Row<Letter>) -> Result<Group<Letter>, NoMemory>
-    ensures { IfOk result (λ g. g ≡ send_all group p sent) }
+fn say_all(group: &mut Group<Letter>, p: ReplicaId, sent: Row<Letter>) -> Result<(), NoMemory>
+    ensures { OnOk result (group.new ≡ send_all group.old p sent) }
 {
-    let mut group = group;
     for letter in sent.into_vec() {
         let _waits = group.send(p, letter)?;
     }
-    Ok(group)
+    Ok(())
 }
 
 // The line too, where it is news.

@@ -12,6 +12,7 @@ ghost use Rattle.cg_events.specs.Going.{seated, fallen};
 ghost use Rattle.cg_events.specs.Striking.{returned, telling};
 
 use crate::admission::{not_down, takes_part};
+use crate::happened::done;
 use crate::{Going, Happened, WorldState};
 use cg_base::{Bytes, NoMemory, ReplicaId, Row};
 use cg_seat::Seat;
@@ -30,9 +31,8 @@ pub(crate) fn stop(
 ) -> Happened
     ensures { Happens state (Stop p call fill.now) result }
 {
-    match takes_part(&state, p) {
-        Some(reason) => return Happened::Refused { state, reason },
-        None => {}
+    if let Some(reason) = takes_part(&state, p) {
+        return Happened::Refused { state, reason };
     }
     let mut struck = state;
     match stop_at(alloc, &mut struck, p, call, fill) {
@@ -102,9 +102,8 @@ pub(crate) fn fail(alloc: Global, state: WorldState, p: ReplicaId, call: u64) ->
     requires { 1 ≤ call }
     ensures { Happens state (Fail p call) result }
 {
-    match takes_part(&state, p) {
-        Some(reason) => return Happened::Refused { state, reason },
-        None => {}
+    if let Some(reason) = takes_part(&state, p) {
+        return Happened::Refused { state, reason };
     }
     let mut struck = state;
     match arm_fail(&mut struck, p, call) {
@@ -137,14 +136,10 @@ pub(crate) fn recover(alloc: Global, state: WorldState, p: ReplicaId) -> Happene
     requires { IsSeated state }
     ensures { Happens state (Recover p) result }
 {
-    match not_down(&state, p) {
-        Some(reason) => return Happened::Refused { state, reason },
-        None => {}
+    if let Some(reason) = not_down(&state, p) {
+        return Happened::Refused { state, reason };
     }
-    match recover_down(alloc, state, p) {
-        Ok(going) => Happened::Done(going),
-        Err(NoMemory) => Happened::NoMemory,
-    }
+    done(recover_down(alloc, state, p))
 }
 
 fn recover_down(alloc: Global, state: WorldState, p: ReplicaId) -> Result<Going, NoMemory>

@@ -2,7 +2,7 @@
 ghost use Rattle.std.specs.Prelude.{◌≡◌};
 ghost use Rattle.cg_agree.specs.Touched.{touched};
 
-use cg_base::{IdSet, ReplicaId};
+use cg_base::IdSet;
 use cg_schedule::Event;
 
 /// The replicas whose lines may be news behind the event, by the law `others_show_nothing_new` of `cg_agree`. It

@@ -11,7 +11,7 @@ use std::marker::Model;
 /// The snapshots under way, in the order of their last transfers, and how many each replica has given so far, once one has.
 /// Clauses see the snapshots.
 #[derive(Drop)]
-pub struct Transfers {
+pub(crate) struct Transfers {
     list: Vec<Transfer>,
     given: Option<Box<Cut>>,
 }
@@ -50,7 +50,7 @@ fn is_of_other(transfer: &Transfer, giver: ReplicaId) -> bool
 }
 
 // Where the giver's snapshot for the joiner stands, from 0.
-fn place_of(list: &[Transfer], giver: ReplicaId, joiner: ReplicaId) -> Option<usize>
+fn index_of(list: &[Transfer], giver: ReplicaId, joiner: ReplicaId) -> Option<usize>
     ensures { result ≡ position (λ s. (s.joiner == joiner) && (s.giver == giver)) list.now }
 {
     list.iter().position(|t| is_between(t, giver, joiner))
@@ -81,7 +81,7 @@ impl Transfers {
         ensures taken { result ≡ find (λ s. (s.joiner == joiner) && (s.giver == giver)) self.old }
         ensures others { filter (λ s. not (s.joiner == joiner)) self.new ≡ filter (λ s. not (s.joiner == joiner)) self.old }
     {
-        match place_of(self.list.as_slice(), giver, joiner) {
+        match index_of(self.list.as_slice(), giver, joiner) {
             Some(index) => Some(self.list.remove(index)),
             None => None,
         }

@@ -1,9 +1,10 @@
--- A generated schedule has as many events as it was asked for, and each may stand where it does: start first and once, end
--- last.
-use Rattle.std.proofs.Common.{◌≡◌, ℕ, zero, suc, ◌<◌, ◌==◌, nat_lt, ◌||◌, Bool, true, false, List, [], ◌∷◌, length, if◌then◌else◌, refl, sym, ap, subst, arith}
+-- A generated schedule has as many events as it was asked for, the last of them is the end, and each may stand where it does: start
+-- first and once, and nothing behind the end.
+use Rattle.std.proofs.Common.{◌≡◌, ℕ, zero, suc, ◌≤◌, ◌<◌, ◌==◌, nat_lt, ◌||◌, Bool, true, false, List, [], ◌∷◌, length, Option, Some, None, if◌then◌else◌, refl, sym, ap, subst, arith}
+use Rattle.std.specs.List.{last_or}
 use Rattle.cg_base.specs.Lists.{count_up}
 use Rattle.cg_schedule.specs.declared.event.Event.{Event}
-use Rattle.cg_schedule.specs.declared.event.Event.TheVariants.{Split, Merge, Gather}
+use Rattle.cg_schedule.specs.declared.event.Event.TheVariants.{Split, Merge, Gather, End}
 use Rattle.cg_schedule.specs.declared.reader_state.ReaderState.{ReaderState}
 use Rattle.cg_schedule.specs.Line.{first_state, state_after}
 use Rattle.cg_schedule.specs.Laws.{MayStand}
@@ -26,6 +27,19 @@ events_left-length replicas (suc (suc left)) state =
 
 pub generated-length : (seed replicas lines : ℕ) → length (generated seed replicas lines) ≡ lines
 generated-length seed replicas lines = events_left-length replicas lines (at_the_start seed (count_up 1 replicas))
+
+-- ---- the last one
+
+events_left-ends : (replicas left : ℕ) (state : GeneratorState) (before : Option Event) → 1 ≤ left → last_or before (events_left replicas left state) ≡ Some End
+unfolding events_left
+events_left-ends replicas zero state before some = absurd (omega (arith, some))
+events_left-ends replicas (suc zero) state before some = refl
+events_left-ends replicas (suc (suc left)) state before some =
+    let line : Event × GeneratorState = next_line replicas (suc left) state in
+    events_left-ends replicas (suc left) line.1 (Some line.0) (omega arith)
+
+pub generated-ends : (seed replicas lines : ℕ) → 1 ≤ lines → last_or None (generated seed replicas lines) ≡ Some End
+generated-ends seed replicas lines = events_left-ends replicas lines (at_the_start seed (count_up 1 replicas)) None
 
 -- ---- between start and end
 

@@ -14,8 +14,9 @@ use Rattle.cg_group.specs.Refusals.{refuse, empty_set, same_phase, any_of, not_u
 use Rattle.cg_group.specs.EachLaws.{Each, Each-has, Each-weaker, Each-all, list_any_nowhere}
 use Rattle.cg_client.specs.Replica.{State, RegPrim, TransPrim, ExchangeStates, ExchangeActions, Construct, No, Un, NonPrim, Left, Replica}
 use Rattle.cg_wire.specs.declared.message.Msg.{Msg}
+use Rattle.cg_schedule.specs.declared.event.Event.TheVariants.{Split, Merge}
 use Rattle.cg_agree.specs.World.{Life, Up, Down as DownLife, Seat, World, has_begun, running, replica_of, is_left_state, is_left, left_replicas}
-use Rattle.cg_agree.specs.Admission.{unknown, has_left, already_up, takes_part, split_refused, merge_refused}
+use Rattle.cg_agree.specs.Admission.{unknown, has_left, already_up, takes_part, first_refusal}
 use Rattle.cg_generated.proofs.Calm.{CalmState}
 use Rattle.cg_generated.proofs.CalmEnds.{CalmLife}
 use Rattle.cg_agree.specs.PhaseLaws.{phase_at, phase-where}
@@ -121,8 +122,8 @@ module _ (begun : ℕ → Bool) (at : ℕ → Option Phase) (w : World) (s : Sta
         ap not (eq-eqb (regular_in (phase_of w.group q)) (regular_in (phase_of w.group p)) (same q (or_right (p == q) (has rest q) later)
         ∙ sym (same p (ap (λ b. b || has rest p) (eq-eqb p p refl))))))))
 
-    pub may-split : split_refused w set ≡ None
-    unfolding split_refusal
+    pub may-split : first_refusal w (Split set) ≡ None
+    unfolding first_refusal split_refusal
     may-split =
         let up = none-of (not_up w.group) set (λ p here. stands-up p (Regular conf) (regular p here)) in
         let empty = some-member set first some in
@@ -162,8 +163,8 @@ module _ (begun : ℕ → Bool) (at : ℕ → Option Phase) (w : World) (s : Sta
         let all = map (λ (x : Standing Msg). x.id) w.group.replicas in
         ap (option_map NotTogether) (find-none test all (Each-all (λ q. test q ≡ false) (λ q. and_out (is_together w.group set q) (has set q) (has left q) (apart q)) all))
 
-    pub may-merge : merge_refused w set ≡ None
-    unfolding merge_refusal
+    pub may-merge : first_refusal w (Merge set) ≡ None
+    unfolding first_refusal merge_refusal
     may-merge =
         let up = none-of (not_up w.group) set (λ p here. (let is = out p here in stands-up p is.0 is.1)) in
         let empty = some-member set first some in

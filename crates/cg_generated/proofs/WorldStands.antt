@@ -17,7 +17,7 @@ use Rattle.cg_step.specs.Step.{Input, Deliveries, replica_step}
 use Rattle.cg_step.specs.Crash.{Disk, new_disk, Ended, Runs, Crashes, end_event, crash_now, recovered, disk_recovered}
 use Rattle.cg_agree.specs.World.{Life, Up, Down, Seat, World, running, seat_of, with_seat}
 use Rattle.cg_agree.specs.Show.{Going}
-use Rattle.cg_agree.specs.Step.{quietly, after_event, take_turn, hand_to, hand, hand_over, hand_out, begin_replica, crash_at, recover_from}
+use Rattle.cg_agree.specs.Step.{quietly, after_event, hand_to, hand, hand_over, hand_out, begin_replica, crash_at, recover_from}
 use Rattle.cg_generated.proofs.Calm.{CalmMessage, CalmTurn}
 use Rattle.cg_generated.proofs.CalmRows.{CalmInput, step-calm}
 use Rattle.cg_generated.proofs.CalmEnds.{CalmLife, RunsOn, ended-calm, crashed-calm, recovered-calm, fresh-calm}
@@ -109,7 +109,7 @@ module _ (begun : ℕ → Bool) (at : ℕ → Option Phase) where
       (stands-set begun begun at seats g (send_all g p sent) p (Up r disk) (at p) (λ q e n. e) fine (sym up) (λ q. keeps.place q ∙ s.place q ∙ sym (own q)) (keeps.calm s.calm) s)
 
   turn-stands : (x : Going) (p : ℕ) (r : Replica) (disk : Disk) (input : Input) → is_some (at p) ≡ true → CalmLife p (Up r disk) → CalmInput input →
-      StandsIn begun at x.world → StandsIn begun at (take_turn x p r disk input).world
+      StandsIn begun at x.world → StandsIn begun at (hand_to x p input (Up r disk)).world
   turn-stands x p r disk input up calm fine s = ends (end_event disk r.held (replica_step r input)) (ended-calm p disk r.held (replica_step r input) calm.2 turn) where
     turn : CalmTurn p (replica_step r input)
     turn = step-calm p r input calm.0 calm.1 fine

@@ -38,7 +38,7 @@ taken (y ∷ xs) (suc n) x at = ap suc (taken xs n x at)
 -- ---- the next piece isn't refused
 
 same-itself : (name : SnapshotName) → same_snapshot name name ≡ true
-same-itself name = rw (eq-eqb name.rep name.rep refl, eq-eqb name.number name.number refl) refl
+same-itself name = rw (eq-eqb name.giver name.giver refl, eq-eqb name.number name.number refl) refl
 
 not_refused : (s : Snapshot) (n : ℕ) (part : Part) → refusal s.name n (piece_at s (suc n) part).label ≡ None
 not_refused s n part = rw (same-itself s.name, eq-eqb (suc n) (suc n) refl) refl

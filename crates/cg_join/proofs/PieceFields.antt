@@ -39,13 +39,13 @@ use Rattle.cg_join.specs.Reading.{name_reading, label_reading, head_reading, any
 -- ---- the label
 
 abbrev name_is : ℕ → ℕ → SnapshotName
-name_is rep number = record { rep = rep; number = number }
+name_is giver number = record { giver = giver; number = number }
 
 name_field : IsField IsSnapshotName spelled_snapshot_name name_reading
 unfolding spelled_snapshot_name name_reading
 name_field =
-    field_two name_is (λ n. n.rep) (λ n. n.number) IsId IsNumber byte number64 (take_id_above 0) take_number IsSnapshotName spelled_snapshot_name
-    any_id_field number_field (λ n has. (has.rep, has.number, refl, refl)) (λ rep number r n. (record { rep = r; number = n }, refl, refl))
+    field_two name_is (λ n. n.giver) (λ n. n.number) IsId IsNumber byte number64 (take_id_above 0) take_number IsSnapshotName spelled_snapshot_name
+    any_id_field number_field (λ n has. (has.giver, has.number, refl, refl)) (λ giver number g n. (record { giver = g; number = n }, refl, refl))
 
 abbrev label_is : SnapshotName → ℕ → ℕ → Label
 label_is name number count = record { name = name; number = number; count = count }

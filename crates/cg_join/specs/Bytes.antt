@@ -12,7 +12,7 @@ use Rattle.cg_join.specs.declared.piece.Part.TheVariants.{Start, Green, Entry, E
 use Rattle.cg_join.specs.declared.piece.Piece.{Piece}
 
 unfoldable pub spelled_snapshot_name : SnapshotName → List ℕ
-spelled_snapshot_name name = byte name.rep ++ number64 name.number
+spelled_snapshot_name name = byte name.giver ++ number64 name.number
 
 unfoldable pub spelled_label : Label → List ℕ
 spelled_label label = spelled_snapshot_name label.name ++ (number64 label.number ++ number64 label.count)

@@ -9,9 +9,7 @@ use Rattle.cg_store.specs.Answers.{IsReached}
 use Rattle.cg_store.specs.Kept.{Kept}
 use Rattle.cg_store.specs.Stands.{OnDisk}
 use Rattle.cg_store.specs.declared.errors.CommitErr.{CommitErr}
-use Rattle.cg_store.specs.declared.errors.CommitErr.TheVariants.{Lost as LostInCommit, NoMemory as NoMemoryInCommit}
-use Rattle.cg_join.specs.declared.errors.FinishErr.{FinishErr}
-use Rattle.cg_join.specs.declared.errors.FinishErr.TheVariants.{Lost, NoMemory}
+use Rattle.cg_store.specs.declared.errors.CommitErr.TheVariants.{Lost, NoMemory}
 use Rattle.cg_join.specs.declared.name.SnapshotName.{SnapshotName}
 use Rattle.cg_join.specs.declared.piece.Part.{Part}
 use Rattle.cg_join.specs.Snapshot.{parts_of}
@@ -32,13 +30,12 @@ pub record IsSnapshotFor (id : ℕ) (parts : List Part) : Type 0 where
   pub agrees : Agrees (joined id source)
 
 -- a store's answer as a disk
-abbrev pub ended : {D : Type 0} → Result (Kept D) (CommitErr D) → Result D (FinishErr D)
+abbrev pub ended : {D E : Type 0} → Result (Kept D) E → Result D E
 ended (Ok store) = Ok store.disk
-ended (Err (LostInCommit disk)) = Err (Lost disk)
-ended (Err (NoMemoryInCommit disk)) = Err (NoMemory disk)
+ended (Err fault) = Err fault
 
 -- the disk was made, in seven calls, and stands for this; after an error it may be no replica's disk
-abbrev pub Finishes : {D : Type 0} → (D → DiskView) → ℕ → OnDisk → DiskView → Result D (FinishErr D) → Type 0
+abbrev pub Finishes : {D : Type 0} → (D → DiskView) → ℕ → OnDisk → DiskView → Result D (CommitErr D) → Type 0
 Finishes view id after old (Ok disk) = IsReached id 7 after old (view disk)
 Finishes view id after old (Err (Lost disk)) = IsLostWithin 7 old (view disk)
 Finishes view id after old (Err (NoMemory disk)) = IsRefusedWithin 7 old (view disk)

@@ -13,7 +13,7 @@ use Rattle.cg_join.specs.declared.piece.Part.TheVariants.{Start, Green, Entry, E
 use Rattle.cg_join.specs.declared.piece.Piece.{Piece}
 
 pub record IsSnapshotName (name : SnapshotName) : Type 0 where
-  pub rep : IsId name.rep
+  pub giver : IsId name.giver
   pub number : IsNumber name.number
 
 pub record IsLabel (label : Label) : Type 0 where

@@ -14,9 +14,9 @@ use Rattle.cg_join.specs.declared.piece.Piece.{Piece}
 
 unfoldable pub name_reading : Reading SnapshotName
 name_reading = do
-  rep ← take_id_above 0
+  giver ← take_id_above 0
   number ← take_number
-  done (record { rep = rep; number = number })
+  done (record { giver = giver; number = number })
 
 unfoldable pub label_reading : Reading Label
 label_reading = do

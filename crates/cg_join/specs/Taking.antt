@@ -12,7 +12,7 @@ use Rattle.cg_join.specs.declared.piece.Piece.{Piece}
 use Rattle.cg_join.specs.Reading.{piece_reading}
 
 abbrev pub same_snapshot : SnapshotName → SnapshotName → Bool
-same_snapshot a b = (a.rep == b.rep) && (a.number == b.number)
+same_snapshot a b = (a.giver == b.giver) && (a.number == b.number)
 
 -- bytes that are no piece
 abbrev pub bad : CodecFault → JoinErr

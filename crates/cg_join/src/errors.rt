@@ -3,15 +3,12 @@ ghost use Rattle.cg_join.specs.Taking.{bad};
 
 use crate::SnapshotName;
 use cg_codec::CodecFault;
-use cg_disk::Disk;
-use std::fmt;
-use std::fmt::{Display, Formatter, Write};
 use thiserror::Error;
 
 /// Why a piece isn't taken.
 #[derive(Clone, Copy, Debug, PartialEq, Eq, Error)]
 pub enum JoinErr {
-    /// The bytes are no piece; this is the place of the first that can't be read.
+    /// The bytes are no piece; this is the offset of the first that can't be read.
     #[error("the bytes at {at} are of no piece")]
     BadPiece {
         at: u64,
@@ -28,17 +25,9 @@ pub enum JoinErr {
         want: u64,
         got: u64,
     },
+    /// Memory was refused.
     #[error("memory was refused")]
     NoMemory,
-}
-
-/// What ended the making of a joiner's disk.
-#[derive(Drop)]
-pub enum FinishErr<D: Disk> {
-    /// A device call failed.
-    Lost(D),
-    /// Memory was refused, and no device call failed.
-    NoMemory(D),
 }
 
 pub(crate) fn bad(fault: CodecFault) -> JoinErr
@@ -49,14 +38,5 @@ pub(crate) fn bad(fault: CodecFault) -> JoinErr
         CodecFault::Bad { at } => JoinErr::BadPiece { at },
         CodecFault::Rest { at } => JoinErr::BadPiece { at },
         CodecFault::NoMemory => JoinErr::NoMemory,
-    }
-}
-
-impl<D: Disk> Display for FinishErr<D> {
-    fn fmt<W: Write>(&self, f: &mut Formatter<W>) -> fmt::Result {
-        match self {
-            FinishErr::Lost(_) => f.write_str("a device call failed"),
-            FinishErr::NoMemory(_) => f.write_str("memory was refused"),
-        }
     }
 }

@@ -5,7 +5,7 @@ ghost use Rattle.cg_join.specs.Finishing.{ended as ended_with};
 use crate::parts::Parts;
 use crate::rebuild::core_of;
 use crate::taking::take;
-use crate::{FinishErr, JoinErr, SnapshotName};
+use crate::{JoinErr, SnapshotName};
 use cg_base::ReplicaId;
 use cg_disk::Disk;
 use cg_store::{CommitErr, Store};
@@ -32,13 +32,12 @@ impl<D: Disk> Model for Joiner<D> {
 }
 
 // How the making of a disk ends.
-fn ended<D: Disk>(answer: Result<Store<D>, CommitErr<D>>) -> Result<D, FinishErr<D>>
+fn ended<D: Disk>(answer: Result<Store<D>, CommitErr<D>>) -> Result<D, CommitErr<D>>
     ensures { result ≡ ended_with answer }
 {
     match answer {
         Ok(store) => Ok(store.into_disk()),
-        Err(CommitErr::Lost(disk)) => Err(FinishErr::Lost(disk)),
-        Err(CommitErr::NoMemory(disk)) => Err(FinishErr::NoMemory(disk)),
+        Err(fault) => Err(fault),
     }
 }
 
@@ -81,7 +80,7 @@ impl<D: Disk> Joiner<D> {
     }
 
     /// The disk of the replica that joined, in seven device calls. After an error it may be no replica's disk.
-    pub fn finish(self) -> Result<D, FinishErr<D>>
+    pub fn finish(self) -> Result<D, CommitErr<D>>
         requires calls { (D.view self.disk).time + 7 ≤ 2 ^ 62 }
 
         // All pieces of one snapshot were taken.
@@ -97,7 +96,7 @@ impl<D: Disk> Joiner<D> {
         } = self;
         match core_of(alloc, id, parts) {
             Ok(core) => ended(Store::create(disk, &core)),
-            Err(_) => Err(FinishErr::NoMemory(disk)),
+            Err(_) => Err(CommitErr::NoMemory(disk)),
         }
     }
 }

@@ -9,6 +9,7 @@
 mod entry;
 mod errors;
 mod gather;
+mod handing;
 mod joiner;
 mod laws;
 mod name;
@@ -20,7 +21,8 @@ mod snapshot;
 mod taking;
 mod writing;
 
-pub use errors::{FinishErr, JoinErr};
+pub use errors::JoinErr;
+pub use handing::hand_pieces;
 pub use joiner::Joiner;
 pub use laws::{joiners_agree, pieces_are_exact, snapshots_are_counted, snapshots_are_taken};
 pub use name::SnapshotName;

@@ -48,10 +48,10 @@ fn take_name(f: &mut Fields<'_>) -> Result<SnapshotName, CodecFault>
     ensures { Takes (λ n. n) name_reading (unread_of f.old) (unread_of f.new) result }
 {
     let mut after = *f;
-    let rep = take_id(&mut after)?;
+    let giver = take_id(&mut after)?;
     let number = take_number(&mut after)?;
     *f = after;
-    Ok(SnapshotName { rep, number })
+    Ok(SnapshotName { giver, number })
 }
 
 #[tactic(auto, unfolding(crate::specs::Reading::label_reading))]

@@ -71,7 +71,7 @@ impl SnapshotWriter {
         ensures piece { IfSome (slice_get self.now.parts (n - 1)) (λ part. IsPiece (piece_at self.now n part)) }
     {
         // it says which identifiers there are
-        let _rep = self.name.rep.get();
+        let _giver = self.name.giver.get();
         let label = Label {
             name: self.name,
             number: n,

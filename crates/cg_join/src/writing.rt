@@ -28,7 +28,7 @@ pub(crate) fn encode(alloc: Global, label: &Label, part: &Part) -> Result<Bytes,
 fn write_label(out: &mut Vec<u8>, label: &Label) -> Result<(), NoMemory>
     ensures { OnOk result (out.new.items ≡ out.old.items ++ spelled_label label.now) }
 {
-    put_u8(out, label.name.rep.get())?;
+    put_u8(out, label.name.giver.get())?;
     put_u64(out, label.name.number)?;
     put_u64(out, label.number)?;
     put_u64(out, label.count)

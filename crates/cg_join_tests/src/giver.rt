@@ -13,10 +13,10 @@ use std::test::Fail;
 
 /// The name of one of its snapshots.
 pub(crate) fn name(number: u64) -> SnapshotName
-    ensures { result ≡ record { rep = 1; number = number } }
+    ensures { result ≡ record { giver = 1; number = number } }
 {
     SnapshotName {
-        rep: ReplicaId::known(1),
+        giver: ReplicaId::known(1),
         number,
     }
 }

@@ -1,5 +1,5 @@
 //! What is seen of the replica that a joiner's disk stands for, behind all pieces of a snapshot.
-ghost use Rattle.std.specs.Prelude.{◌≡◌, ◌<◌, ◌≤◌, ◌+◌, suc, true, [], length, take, IfOk, OnOk, IsTrue};
+ghost use Rattle.std.specs.Prelude.{◌≡◌, true, IfOk};
 ghost use Rattle.cg_db.specs.Ascending.{Ascends};
 ghost use Rattle.cg_stored.specs.Checkpoint.{parts_of as saved_parts};
 ghost use Rattle.cg_stored.specs.Limits.{AreParts};
@@ -8,15 +8,14 @@ ghost use Rattle.cg_stored.specs.Agreeing.{Agrees};
 ghost use Rattle.cg_join.specs.Finishing.{IsSnapshotFor};
 ghost use Rattle.cg_client.specs.Joined.{joined};
 ghost use Rattle.cg_join.specs.Snapshot.{parts_of};
-ghost use Rattle.cg_join_tests.specs.Taking.{IsTaking, with_parts};
 
 use super::giver::{giver, name};
 use cg_base::{NoMemory, ReplicaId};
 use cg_client::Core;
 use cg_disk::{Disk, ModelDisk};
-use cg_join::{FinishErr, JoinErr, Joiner, SnapshotWriter, joiners_agree, snapshots_are_taken};
+use cg_join::{Joiner, SnapshotWriter, hand_pieces, joiners_agree};
 use cg_report::{Line, ShownPhase, StateName, UpLine, put_line};
-use cg_store::Store;
+use cg_store::{CommitErr, Store};
 use cg_stored::{
     Checkpoint, agreement_is_tested, decode_checkpoint, parts_are_exact, put_checkpoint,
 };
@@ -66,48 +65,17 @@ fn fits(saved: Checkpoint, id: ReplicaId) -> bool
     agrees
 }
 
-fn take_piece(writer: &SnapshotWriter, joiner: &mut Joiner<ModelDisk>) -> Result<(), NoMemory>
-    requires takes { IsTaking writer.now joiner.old }
-    requires there { length joiner.old.parts < length writer.now.parts }
-    ensures { OnOk result (joiner.new ≡ with_parts joiner.old (take (suc (length joiner.old.parts)) writer.now.parts)) }
-{
-    snapshots_are_taken();
-    // it says how many pieces there are at most
-    let _count = writer.count();
-    let bytes = writer.piece(joiner.taken() + 1)?;
-    match joiner.piece(bytes.as_slice()) {
-        Ok(_last) => Ok(()),
-        Err(JoinErr::NoMemory) => Err(NoMemory),
-        Err(_) => unreachable!(),
-    }
-}
-
-fn take_pieces(
-    writer: &SnapshotWriter,
-    joiner: &mut Joiner<ModelDisk>,
-    count: u64,
-) -> Result<(), NoMemory>
-    requires takes { IsTaking writer.now joiner.old }
-    requires there { length joiner.old.parts + count ≤ length writer.now.parts }
-    ensures { OnOk result (joiner.new ≡ with_parts joiner.old (take (length joiner.old.parts + count) writer.now.parts)) }
-{
-    for _ in 0..count {
-        take_piece(writer, joiner)?;
-    }
-    Ok(())
-}
-
 fn finished(joiner: Joiner<ModelDisk>) -> Done<ModelDisk>
     requires calls { (⟦<ModelDisk as Disk>⟧.view joiner.disk).time ≡ 0 }
     requires all { IsSnapshotFor joiner.id joiner.parts }
 {
     match joiner.finish() {
         Ok(disk) => Ok(disk),
-        Err(FinishErr::Lost(disk)) => {
+        Err(CommitErr::Lost(disk)) => {
             drop(disk);
             Err("a device call failed")
         }
-        Err(FinishErr::NoMemory(disk)) => {
+        Err(CommitErr::NoMemory(disk)) => {
             drop(disk);
             Err("no memory")
         }
@@ -116,13 +84,13 @@ fn finished(joiner: Joiner<ModelDisk>) -> Done<ModelDisk>
 
 // the disk of replica 4, which has taken all pieces
 fn joined_by(core: &Core, writer: SnapshotWriter) -> Done<ModelDisk>
-    requires snapshot { writer ≡ record { name = record { rep = 1; number = 1 }; parts = parts_of core.now } }
+    requires snapshot { writer ≡ record { name = record { giver = 1; number = 1 }; parts = parts_of core.now } }
     requires ascends { Ascends core.now.db }
     requires agrees { Agrees (joined 4 core.now) }
 {
     let alloc = core.alloc();
     let mut joiner = Joiner::new(alloc, ModelDisk::new(alloc), ReplicaId::known(4), name(1));
-    let taken = take_pieces(&writer, &mut joiner, writer.count());
+    let taken = hand_pieces(&writer, &mut joiner, writer.count());
     drop(writer);
     match taken {
         Ok(()) => finished(joiner),

@@ -1,10 +1,10 @@
 //! What a joiner, replica 4, answers to a piece of the first snapshot, or of another one, a byte too short or too long.
 
 use super::giver::{giver, name};
-use cg_base::{Bytes, NoMemory, ReplicaId, put, put_number, put_shown};
+use cg_base::{Bytes, ReplicaId, put, put_number, put_shown};
 use cg_client::Core;
 use cg_disk::ModelDisk;
-use cg_join::{FinishErr, JoinErr, Joiner, SnapshotWriter};
+use cg_join::{JoinErr, Joiner, SnapshotWriter};
 use std::alloc::AllocGlobal;
 use std::process::Abort;
 use std::test::Fail;
@@ -97,26 +97,6 @@ fn takes(rt: &(impl Abort + AllocGlobal), core: &Core) -> Result<(), Fail> {
     let answered = answers(rt, core, &mut joiner);
     drop(joiner);
     answered
-}
-
-fn put_fault(out: &mut Vec<u8>, fault: FinishErr<ModelDisk>, end: &[u8]) -> Result<(), NoMemory> {
-    let shown = put_shown(out, &fault);
-    drop(fault);
-    shown?;
-    put(out, end)
-}
-
-#[test]
-fn what_ends_a_joiner_has_words(rt: HostRuntime) -> Result<(), Fail> {
-    let alloc = rt.alloc();
-    let mut out = Vec::new(alloc);
-    put_fault(&mut out, FinishErr::Lost(ModelDisk::new(alloc)), b"; ")?;
-    put_fault(&mut out, FinishErr::NoMemory(ModelDisk::new(alloc)), b"")?;
-    assert_eq!(rt;
-        out.as_slice(),
-        b"a device call failed; memory was refused".as_slice()
-    );
-    Ok(())
 }
 
 #[test]

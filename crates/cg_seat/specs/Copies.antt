@@ -1,23 +1,14 @@
 -- A snapshot under way: the copy that its giver made, and the joiner that takes the pieces.
-use Rattle.std.specs.Prelude.{◌≡◌, ℕ, List, length, take}
+use Rattle.std.specs.Prelude.{◌≡◌, ℕ}
 use Rattle.cg_client.specs.Replica.{Held}
 use Rattle.cg_db.specs.Ascending.{Ascends}
 use Rattle.cg_disk.specs.Crashes.{IsNew}
 use Rattle.cg_disk.specs.View.{DiskView}
 use Rattle.cg_join.specs.Finishing.{Joining}
+use Rattle.cg_join.specs.Handing.{IsTaking}
 use Rattle.cg_join.specs.Snapshot.{Snapshot, parts_of}
-use Rattle.cg_join.specs.declared.piece.Part.{Part}
 use Rattle.cg_stored.specs.Agreeing.{Agrees}
 use Rattle.cg_client.specs.Joined.{joined}
-
--- the joiner has taken the first pieces of the snapshot
-pub record IsTaking {D : Type 0} (s : Snapshot) (j : Joining D) : Type 0 where
-  pub name : j.name ≡ s.name
-  pub parts : j.parts ≡ take (length j.parts) s.parts
-
--- it has taken these
-abbrev pub with_parts : {D : Type 0} → Joining D → List Part → Joining D
-with_parts j parts = record j { parts = parts }
 
 -- the copy is of this, and a replica may hold what it makes of the joiner, whose disk is new
 pub record IsCopy {D : Type 0} (d : DiskView) (s : Snapshot) (j : Joining D) (id : ℕ) (h : Held) : Type 0 where

@@ -2,6 +2,7 @@
 use Rattle.std.specs.Prelude.{◌≡◌, ◌≤◌, ◌+◌, ◌^◌, ℕ, None, IfSome}
 use Rattle.cg_disk.specs.View.{DiskView, IsAtRest}
 use Rattle.cg_store.specs.Stands.{OnDisk, Stands}
+use Rattle.cg_seat.specs.declared.limits.TheConstants.{RECOVERY_CALLS}
 
 -- the disk stands for a state, nothing on it is unsynced, nothing is armed, and there is room for the calls of a recovery
 pub record IsResting (d : DiskView) (id : ℕ) : Type 0 where
@@ -9,4 +10,4 @@ pub record IsResting (d : DiskView) (id : ℕ) : Type 0 where
   pub stands : Stands id d.reads standing
   pub rest : IsAtRest d
   pub unarmed : IfSome d.state (λ s. s.strike ≡ None)
-  pub room : d.time + 5 ≤ 2 ^ 62
+  pub room : d.time + RECOVERY_CALLS ≤ 2 ^ 62

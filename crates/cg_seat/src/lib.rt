@@ -7,8 +7,8 @@
 
 mod copying;
 mod life;
+mod limits;
 mod looks;
-mod pieces;
 mod resting;
 mod rising;
 mod seat;

@@ -7,15 +7,13 @@ ghost use Rattle.cg_seat.specs.Seen.{up_seen, down_seen};
 
 use crate::Seat;
 use crate::life::Life;
+use crate::limits::CALLS_BEFORE_CRASH;
 use crate::resting::Resting;
 use cg_base::{Bytes, Cut, IdList, NoMemory, Row};
 use cg_disk::{Disk, ModelDisk};
 use cg_engine::{Engine, Recovered};
 use cg_show::News;
 use std::alloc::Global;
-
-// A recovery makes five device calls, and their number is below 2^62.
-const MAX_CALLS: u64 = (1 << 62) - 5;
 
 impl Seat {
     /// Arms the device call of this number, from 1 for the next one, to fail once, where the replica is up.
@@ -77,7 +75,7 @@ impl Seat {
 fn stop(engine: Engine<ModelDisk>) -> Result<Seat, NoMemory>
     ensures { IfOk result (λ s. (fill : List ℕ) → s ≡ crashed engine.store.id (up_seen (⟦<ModelDisk as Disk>⟧.view) engine fill).life) }
 {
-    if engine.calls() > MAX_CALLS {
+    if engine.calls() > CALLS_BEFORE_CRASH {
         drop(engine);
         return Err(NoMemory);
     }

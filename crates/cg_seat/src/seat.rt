@@ -1,6 +1,7 @@
 ghost use Rattle.std.specs.Prelude.{◌≡◌, ◌≤◌, ◌+◌, ◌^◌, IfOk};
 ghost use Rattle.cg_store.specs.Stands.{OnDisk};
 ghost use Rattle.cg_seat.specs.Seen.{seen, up_seen, down_seen, FallsTo, fallen};
+ghost use Rattle.cg_seat.specs.declared.limits.TheConstants.{RECOVERY_CALLS};
 
 use crate::life::Life;
 use crate::resting::Resting;
@@ -53,7 +54,7 @@ impl Seat {
     // memory for the bytes of the disk alone.
     pub(crate) fn fall(wreck: Wreck<ModelDisk>, fill: &[u8]) -> Result<Seat, NoMemory>
         requires falls { (u : OnDisk) × FallsTo (⟦<ModelDisk as Disk>⟧.view) wreck fill.now u }
-        requires room { (⟦<ModelDisk as Disk>⟧.view wreck.disk).time + 5 ≤ 2 ^ 62 }
+        requires room { (⟦<ModelDisk as Disk>⟧.view wreck.disk).time + RECOVERY_CALLS ≤ 2 ^ 62 }
         ensures { IfOk result (λ s. (u : OnDisk) → FallsTo (⟦<ModelDisk as Disk>⟧.view) wreck fill.now u → s ≡ fallen wreck u) }
     {
         let wreck = wreck.image(fill)?;

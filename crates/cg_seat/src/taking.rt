@@ -11,8 +11,10 @@ ghost use Rattle.cg_agree.specs.World.{Up};
 ghost use Rattle.cg_seat.specs.Calls.{begun, taken, IsBookedFor};
 ghost use Rattle.cg_store.specs.Stands.{OnDisk};
 ghost use Rattle.cg_seat.specs.Seen.{disk_seen, up_seen, FallsTo, fallen, said};
+ghost use Rattle.cg_seat.specs.declared.limits.TheConstants.{EVENT_CALLS, RECOVERY_CALLS};
 
 use crate::life::Life;
+use crate::limits::CALLS_BEFORE_EVENT;
 use crate::{Seat, Spoken};
 use cg_base::{Bytes, NoMemory, ReplicaId, Row, WeightSet};
 use cg_client::Request;
@@ -25,9 +27,6 @@ use cg_step::what_is_held_agrees;
 use cg_store::strikes_end_as_defined;
 use cg_wire::messages_are_exact;
 use std::alloc::Global;
-
-// An event makes ten device calls at most, a recovery behind it five, and their number is below 2^62.
-const MAX_CALLS: u64 = (1 << 62) - 15;
 
 impl Seat {
     /// A new replica, alone, among these servers, on an empty disk.
@@ -106,7 +105,7 @@ fn take(
     requires booked { (book : ActionId → Action) × AreBooked book engine.replica.held (input_of input) }
     ensures { IfOk result (λ x. x ≡ taken engine.store.id (input_of input) (Up engine.replica (disk_seen (⟦<ModelDisk as Disk>⟧.view) engine fill))) }
 {
-    if engine.calls() > MAX_CALLS {
+    if engine.calls() > CALLS_BEFORE_EVENT {
         drop(engine);
         drop(fill);
         drop(input);
@@ -121,7 +120,7 @@ fn handle(
     fill: Bytes,
     input: Input,
 ) -> Result<(Seat, Option<Spoken>), NoMemory>
-    requires calls { (⟦<ModelDisk as Disk>⟧.view engine.store.disk).time + 15 ≤ 2 ^ 62 }
+    requires calls { (⟦<ModelDisk as Disk>⟧.view engine.store.disk).time + EVENT_CALLS + RECOVERY_CALLS ≤ 2 ^ 62 }
     requires limits { HasLimits input }
     requires booked { (book : ActionId → Action) × AreBooked book engine.replica.held (input_of input) }
     ensures { IfOk result (λ x. x ≡ taken engine.store.id (input_of input) (Up engine.replica (disk_seen (⟦<ModelDisk as Disk>⟧.view) engine fill))) }
@@ -154,7 +153,7 @@ fn go_on(engine: Engine<ModelDisk>, fill: Bytes, outputs: Outputs) -> (Seat, Opt
 // The event ended in its crash.
 fn fall(wreck: Wreck<ModelDisk>, fill: Bytes) -> Result<(Seat, Option<Spoken>), NoMemory>
     requires falls { (u : OnDisk) × FallsTo (⟦<ModelDisk as Disk>⟧.view) wreck fill u }
-    requires room { (⟦<ModelDisk as Disk>⟧.view wreck.disk).time + 5 ≤ 2 ^ 62 }
+    requires room { (⟦<ModelDisk as Disk>⟧.view wreck.disk).time + RECOVERY_CALLS ≤ 2 ^ 62 }
     ensures { IfOk result (λ x. (u : OnDisk) → FallsTo (⟦<ModelDisk as Disk>⟧.view) wreck fill u → x ≡ (fallen wreck u, None)) }
 {
     let seat = Seat::fall(wreck, fill.as_slice())?;

@@ -9,13 +9,13 @@ ghost use Rattle.cg_seat.specs.Resting.{IsResting};
 ghost use Rattle.cg_seat.specs.Seen.{down_seen};
 
 use crate::Seat;
-use crate::pieces::take_pieces;
 use crate::resting::Resting;
 use cg_base::{Cut, NoMemory, ReplicaId};
 use cg_client::Core;
 use cg_disk::{Disk, ModelDisk};
 use cg_engine::Wreck;
-use cg_join::{FinishErr, Joiner, SnapshotName, SnapshotWriter, snapshots_are_counted};
+use cg_join::{Joiner, SnapshotName, SnapshotWriter, hand_pieces, snapshots_are_counted};
+use cg_store::CommitErr;
 use std::alloc::Global;
 use std::marker::Model;
 use std::snapshot::Snapshot;
@@ -57,14 +57,16 @@ impl Transfer {
         ensures { IfOk result (λ t. t ≡ record { joiner = joiner; giver = giver; content = core.now; taken = 0 }) }
     {
         let alloc = core.alloc();
-        let writer = SnapshotWriter::make(core, SnapshotName { rep: giver, number })?;
-        let name = SnapshotName { rep: giver, number };
+        // one for the writer, and one for the joiner
+        let name = SnapshotName { giver, number };
+        let copy = name;
+        let writer = SnapshotWriter::make(core, name)?;
         Ok(Transfer {
             joiner,
             giver,
             held: Snapshot::of(core),
             writer,
-            taking: Joiner::new(alloc, ModelDisk::new(alloc), joiner, name),
+            taking: Joiner::new(alloc, ModelDisk::new(alloc), joiner, copy),
         })
     }
 
@@ -110,7 +112,7 @@ impl Transfer {
             writer,
             mut taking,
         } = self;
-        match take_pieces(&writer, &mut taking, more) {
+        match hand_pieces(&writer, &mut taking, more) {
             Ok(()) => Ok(Transfer {
                 joiner,
                 giver,
@@ -144,8 +146,8 @@ impl Transfer {
         drop(writer);
         match taking.finish() {
             Ok(disk) => arrive(alloc, disk, joiner),
-            Err(FinishErr::Lost(_)) => unreachable!(),
-            Err(FinishErr::NoMemory(disk)) => {
+            Err(CommitErr::Lost(_)) => unreachable!(),
+            Err(CommitErr::NoMemory(disk)) => {
                 drop(disk);
                 Err(NoMemory)
             }

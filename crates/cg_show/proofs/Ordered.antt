@@ -1,37 +1,35 @@
 -- A reply comes into its place among those that ascend.
-use Rattle.std.proofs.Common.{◌≡◌, ℕ, zero, suc, ◌≤◌, ◌<◌, nat_lt, true, false, List, [], ◌∷◌, length, take, drop, refl, ap, ◌∙◌, inl, inr, arith}
-use Rattle.std.specs.Prelude.{slice_get}
+use Rattle.std.proofs.Common.{◌≡◌, ℕ, zero, suc, ◌+◌, ◌≤◌, ◌<◌, nat_lt, List, [], ◌∷◌, length, get_or, refl, ap, ◌∙◌, inl, inr, arith}
 use Rattle.std.specs.List.{insert}
 use Rattle.std.proofs.lemmas.Bool.{cond-true, cond-false, cases_Bool, ltb-true, ltb-false, lt-ltb, le-ltb}
 use Rattle.cg_base.specs.declared.action_id.ActionId.{ActionId}
 use Rattle.cg_agree.specs.Show.{Answered, answered_from, with_answered}
-use Rattle.cg_show.specs.Showing.{StartsFrom, Ascend, is_behind}
+use Rattle.cg_show.specs.Showing.{StartsFrom, Ascend}
 
--- each is of a place up to this one
-abbrev pub UpTo : ℕ → List Answered → Type 0
-UpTo place [] = Unit {0}
-UpTo place (r ∷ replies) = (r.place ≤ place) × UpTo place replies
+next-ascends : (xs : List Answered) → Ascend xs → (k : ℕ) (d : Answered) → suc k < length xs → (get_or xs k d).place ≤ (get_or xs (suc k) d).place
+next-ascends [] ascends k d less = absurd (omega (arith, less))
+next-ascends (r ∷ []) ascends k d less = absurd (omega (arith, less))
+next-ascends (r ∷ s ∷ xs) ascends zero d less = ascends.0
+next-ascends (r ∷ s ∷ xs) ascends (suc k) d less = next-ascends (s ∷ xs) ascends.1 k d (omega (arith, less))
 
-pub above-head : (xs : List Answered) (n place : ℕ) → is_behind place (slice_get xs n) ≡ true → StartsFrom (suc place) (drop n xs)
-above-head [] zero place behind = tt
-above-head [] (suc n) place behind = tt
-above-head (r ∷ xs) zero place behind = ltb-true place r.place behind
-above-head (r ∷ xs) (suc n) place behind = above-head xs n place behind
+pub neighbours-ascend : (xs : List Answered) → Ascend xs → (k : ℕ) (d : Answered) → k + 1 < length xs → (get_or xs k d).place ≤ (get_or xs (k + 1) d).place
+neighbours-ascend xs ascends k d less =
+    let next : k + 1 ≡ suc k = omega arith in
+    rw next (next-ascends xs ascends k d (omega (arith, less)))
 
-pub up-to : (xs : List Answered) (n place : ℕ) → Ascend xs → n < length xs → is_behind place (slice_get xs n) ≡ false → UpTo place (take (suc n) xs)
-up-to [] n place ascends less behind = tt
-up-to (r ∷ xs) zero place ascends less behind = (ltb-false place r.place behind, tt)
-up-to (r ∷ []) (suc n) place ascends less behind = absurd (omega (arith, less))
-up-to (r ∷ s ∷ xs) (suc n) place ascends less behind =
-    let rest = up-to (s ∷ xs) n place ascends.1 (omega (arith, less)) behind in
-    (omega (arith, ascends.0, rest.0), rest)
-
-pub with-at : (xs : List Answered) (at : ℕ) (new : Answered) → UpTo new.place (take at xs) → StartsFrom (suc new.place) (drop at xs) → with_answered xs new ≡ insert xs at new
-with-at [] zero new up above = refl
-with-at [] (suc at) new up above = refl
-with-at (r ∷ xs) zero new up above = cond-true (nat_lt new.place r.place) (new ∷ r ∷ xs) (r ∷ with_answered xs new) (lt-ltb new.place r.place above)
-with-at (r ∷ xs) (suc at) new up above =
-    cond-false (nat_lt new.place r.place) (new ∷ r ∷ xs) (r ∷ with_answered xs new) (le-ltb new.place r.place up.0) ∙ ap (λ ys. r ∷ ys) (with-at xs at new up.1 above)
+-- behind those of places up to its own, and before those of later ones
+pub with-at : (xs : List Answered) (at : ℕ) (new : Answered) → at ≤ length xs → ((k : ℕ) → k < at → (get_or xs k new).place ≤ new.place) →
+    ((k : ℕ) → at ≤ k → k < length xs → new.place < (get_or xs k new).place) → with_answered xs new ≡ insert xs at new
+with-at [] zero new within up above = refl
+with-at [] (suc at) new within up above = refl
+with-at (r ∷ xs) zero new within up above =
+    let first : new.place < r.place = above 0 (omega arith) (omega arith) in
+    cond-true (nat_lt new.place r.place) (new ∷ r ∷ xs) (r ∷ with_answered xs new) (lt-ltb new.place r.place first)
+with-at (r ∷ xs) (suc at) new within up above =
+    let first : r.place ≤ new.place = up 0 (omega arith) in
+    cond-false (nat_lt new.place r.place) (new ∷ r ∷ xs) (r ∷ with_answered xs new) (le-ltb new.place r.place first)
+    ∙ ap (λ ys. r ∷ ys)
+    (with-at xs at new (omega (arith, within)) (λ k less. up (suc k) (omega (arith, less))) (λ k le less. above (suc k) (omega (arith, le)) (omega (arith, less))))
 
 starts-with : (place : ℕ) (xs : List Answered) (new : Answered) → StartsFrom place xs → place ≤ new.place → StartsFrom place (with_answered xs new)
 starts-with place [] new starts le = le
@@ -49,4 +47,4 @@ ascend-with (r ∷ xs) new ascends = elim (cases_Bool (nat_lt new.place r.place)
 
 pub none-left : (n : ℕ) (ids : List ActionId) → answered_from n ids [] ≡ []
 none-left n [] = refl
-none-left n (id ∷ ids) = none-left (suc n) ids
+none-left n (id ∷ ids) = refl

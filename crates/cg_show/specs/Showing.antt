@@ -1,14 +1,14 @@
 -- What a step shows so far, but for its lines, and what was told before it.
-use Rattle.std.specs.Prelude.{◌≡◌, ℕ, suc, ◌+◌, ◌-◌, ◌≤◌, nat_lt, Bool, false, List, [], ◌∷◌, ◌++◌, Option, Some, None, map, fold, drop, length, if◌then◌else◌}
+use Rattle.std.specs.Prelude.{◌≡◌, ℕ, suc, ◌+◌, ◌-◌, ◌≤◌, nat_lt, List, [], ◌∷◌, ◌++◌, map, fold, drop, length, if◌then◌else◌}
 use Rattle.cg_base.specs.declared.action_id.ActionId.{ActionId}
 use Rattle.cg_base.specs.Cuts.{raise}
-use Rattle.cg_base.specs.Ids.{same_id}
 use Rattle.cg_queue.specs.Queue.{names_of}
 use Rattle.cg_report.specs.declared.entry.Made.{Made}
 use Rattle.cg_report.specs.declared.entry.Placed.{Placed}
 use Rattle.cg_report.specs.declared.entry.Reply.{Reply}
 use Rattle.cg_report.specs.declared.entry.Shown.{Shown}
-use Rattle.cg_agree.specs.Show.{Answered, News, made_of_action, beyond, placed_from, answered_from, with_answered}
+use Rattle.cg_agree.specs.Show.{Answered, News, beyond, placed_from, answered_from, with_answered}
+use Rattle.cg_agree.specs.Making.{made_of_action}
 
 -- what a step shows so far
 pub record Shows : Type 0 where
@@ -48,21 +48,11 @@ abbrev pub Ascend : List Answered → Type 0
 Ascend [] = Unit {0}
 Ascend (r ∷ replies) = StartsFrom r.place replies × Ascend replies
 
--- the reply is of a place behind this one
-abbrev pub is_behind : ℕ → Option Answered → Bool
-is_behind place None = false
-is_behind place (Some r) = nat_lt place r.place
-
 -- the replies to names from one of them on, where the next reply is to the one at this place, if it is there
 abbrev pub answered_at : ℕ → ℕ → List ActionId → Reply → List Reply → List Answered
 answered_at before at ids r replies =
     if nat_lt at (length ids) then record { place = suc (before + at); reply = r } ∷ answered_from (suc (before + at)) (drop (suc at) ids) replies
     else []
-
--- the name is the one at this place
-abbrev pub is_named : ActionId → Option ActionId → Bool
-is_named id None = false
-is_named id (Some x) = same_id x id
 
 -- of names from a place on this one stands first at the result, or it isn't there
 abbrev pub FindsFrom : ActionId → List ActionId → ℕ → ℕ → Type 0

@@ -1,8 +1,8 @@
-ghost use Rattle.std.specs.Prelude.{◌≡◌, ◌+◌, ◌≤◌, ◌<◌, ◌^◌, [], map, fold, length, slice_get, IfOk, OnOk};
+ghost use Rattle.std.specs.Prelude.{◌≡◌, ◌+◌, ◌≤◌, ◌<◌, ◌^◌, [], map, fold, length, position, IfOk, OnOk};
 ghost use Rattle.std.specs.List.{insert};
-ghost use Rattle.std.specs.Option.{option_copied};
+ghost use Rattle.cg_base.specs.Ids.{same_id};
 ghost use Rattle.cg_agree.specs.Show.{Answered, answered_from, with_answered};
-ghost use Rattle.cg_show.specs.Showing.{is_behind, is_named, FindsFrom};
+ghost use Rattle.cg_show.specs.Showing.{FindsFrom};
 
 use cg_base::{ActionId, NoMemory, Row};
 use cg_report::Reply;
@@ -11,7 +11,7 @@ use std::marker::Model;
 
 /// A reply, with the place of its action in the global order.
 #[derive(Drop)]
-pub struct Answered {
+pub(crate) struct Answered {
     place: u64,
     reply: Reply,
 }
@@ -75,7 +75,7 @@ impl Replies {
     {
         let mut next = 0;
         for reply in replies.into_vec() {
-            let at = find_from(ids, next, &reply.id);
+            let at = find_from(ids, next, reply.id);
             if at < ids.len() {
                 let place = before + at as u64 + 1;
                 self.add(Answered { place, reply })?;
@@ -101,42 +101,26 @@ impl Replies {
         ensures within { result ≤ length self.now }
         ensures value { (new : Answered) → new.place ≡ place → with_answered self.now new ≡ insert self.now result new }
     {
-        let mut at = self.list.len();
-        'back: while at > 0 && self.is_behind(at - 1, place) {
-            at -= 1;
-        }
-        at
-    }
-
-    // The reply there, counted from 0, is of a later place.
-    fn is_behind(&self, at: usize, place: u64) -> bool
-        ensures { result ≡ is_behind place (slice_get self.now at) }
-    {
-        match self.list.as_slice().get(at) {
-            Some(reply) => place < reply.place,
-            None => false,
-        }
+        self.list
+            .as_slice()
+            .partition_point(|reply| reply.place <= place)
     }
 }
 
 // Where the name stands among those from a place on; the end, if it doesn't.
-fn find_from(ids: &[ActionId], from: usize, id: &ActionId) -> usize
+fn find_from(ids: &[ActionId], from: usize, id: ActionId) -> usize
     requires { from ≤ length ids.now }
     ensures within { result ≤ length ids.now }
-    ensures value { FindsFrom id.now ids.now from result }
+    ensures value { FindsFrom id ids.now from result }
 {
-    let mut at = from;
-    'names: while at < ids.len() && !is_named(id, ids.get(at)) {
-        at += 1;
+    match index_of(&ids[from..], id) {
+        Some(index) => from + index,
+        None => ids.len(),
     }
-    at
 }
 
-fn is_named(id: &ActionId, at: Option<&ActionId>) -> bool
-    ensures { result ≡ is_named id.now (option_copied at.entry) }
+fn index_of(ids: &[ActionId], id: ActionId) -> Option<usize>
+    ensures { result ≡ position (λ name. same_id name id) ids.now }
 {
-    match at {
-        Some(name) => name == id,
-        None => false,
-    }
+    ids.iter().position(|name| *name == id)
 }

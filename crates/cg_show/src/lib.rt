@@ -12,9 +12,7 @@ mod phase;
 mod same;
 mod showing;
 
-pub use answered::Answered;
 pub use lines::Lines;
 pub use news::News;
-pub use phase::{shown_phase, up_line};
-pub use same::same_line;
+pub use phase::up_line;
 pub use showing::Showing;

@@ -2,7 +2,7 @@ ghost use Rattle.std.specs.Prelude.{◌≡◌, ◌==◌, [], find, fold, positio
 ghost use Rattle.std.specs.Option.{option_copied};
 ghost use Rattle.cg_agree.specs.Show.{is_news, with_printed};
 
-use crate::same_line;
+use crate::same::same_line;
 use cg_base::{NoMemory, ReplicaId};
 use cg_report::{Line, UpLine, View};
 use std::alloc::Global;
@@ -66,7 +66,7 @@ impl Lines {
         ensures { OnOk result (self.new ≡ with_printed self.old new) }
     {
         let id = new.id;
-        match place_of(self.list.as_slice(), id) {
+        match index_of(self.list.as_slice(), id) {
             Some(index) => {
                 self.list[index] = new;
                 Ok(())
@@ -79,7 +79,8 @@ impl Lines {
     }
 }
 
-fn place_of(lines: &[Line], p: ReplicaId) -> Option<usize>
+// Where the replica's line stands, from 0.
+fn index_of(lines: &[Line], p: ReplicaId) -> Option<usize>
     ensures { result ≡ position (λ l. l.id == p) lines.now }
 {
     lines.iter().position(|line| line.id == p)

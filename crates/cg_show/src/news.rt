@@ -11,10 +11,10 @@ use std::marker::Model;
 /// greens with these, and the replies that it gives, in the order of their actions.
 #[derive(Drop)]
 pub struct News {
-    made: ActionList,
-    green: IdList,
-    count: u64,
-    replies: Row<Reply>,
+    pub(crate) made: ActionList,
+    pub(crate) green: IdList,
+    pub(crate) count: u64,
+    pub(crate) replies: Row<Reply>,
 }
 
 impl Model for News {
@@ -23,15 +23,6 @@ impl Model for News {
     ghost Value = { News };
 
     ghost view = { λ n. record { made = n.made; green = n.green; count = n.count; replies = n.replies } };
-}
-
-/// What `News` holds.
-#[derive(Drop)]
-pub struct NewsParts {
-    pub made: ActionList,
-    pub green: IdList,
-    pub count: u64,
-    pub replies: Row<Reply>,
 }
 
 impl News {
@@ -59,26 +50,6 @@ impl News {
             count: core.green_count(),
             replies: Row::new(alloc),
         })
-    }
-
-    pub(crate) fn into_parts(self) -> NewsParts
-        ensures made { result.made ≡ self.made }
-        ensures green { result.green ≡ self.green }
-        ensures count { result.count ≡ self.count }
-        ensures replies { result.replies ≡ self.replies }
-    {
-        let News {
-            made,
-            green,
-            count,
-            replies,
-        } = self;
-        NewsParts {
-            made,
-            green,
-            count,
-            replies,
-        }
     }
 }
 

@@ -8,7 +8,7 @@ use cg_group::Phase;
 use cg_report::{ShownPhase, StateName, UpLine};
 
 /// A phase as a line shows it.
-pub fn shown_phase(phase: Phase) -> ShownPhase
+fn shown_phase(phase: Phase) -> ShownPhase
     ensures { result ≡ shown_phase phase }
 {
     match phase {

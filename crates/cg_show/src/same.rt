@@ -5,7 +5,7 @@ use cg_report::{Line, ShownPhase, StateName, UpLine, View};
 
 /// The two lines agree in every part.
 #[tactic(auto, unfolding(cg_report::specs::Same::same_line))]
-pub fn same_line(a: &Line, b: &Line) -> bool
+pub(crate) fn same_line(a: &Line, b: &Line) -> bool
     ensures { result ≡ same_line a.now b.now }
 {
     a.id == b.id && same_up(&a.up, &b.up)

@@ -2,12 +2,12 @@ ghost use Rattle.std.specs.Prelude.{◌≡◌, ◌++◌, ◌∷◌, [], List, ma
 ghost use Rattle.cg_base.specs.declared.action_id.ActionId.{ActionId as ActionName};
 ghost use Rattle.cg_base.specs.Cuts.{raise};
 ghost use Rattle.cg_queue.specs.Queue.{names_of};
-ghost use Rattle.cg_agree.specs.Show.{beyond, placed_from, made_of_action};
+ghost use Rattle.cg_agree.specs.Show.{beyond, placed_from};
+ghost use Rattle.cg_agree.specs.Making.{made_of_action};
 ghost use Rattle.cg_show.specs.Showing.{nothing_shown, shows_after, order_after, made_after};
 
 use crate::News;
 use crate::answered::Replies;
-use crate::news::NewsParts;
 use cg_action::{Action, ActionList};
 use cg_base::{ActionId, Cut, IdList, NoMemory, Row};
 use cg_report::{Entry, Line, Made, Placed, Shown};
@@ -51,12 +51,12 @@ impl Showing {
         ensures order { OnOk result (order.new ≡ order_after order.old news) }
         ensures made { OnOk result (made.new ≡ made_after made.old news) }
     {
-        let NewsParts {
+        let News {
             made: actions,
             green,
             count,
             replies,
-        } = news.into_parts();
+        } = news;
         let green = green.as_slice();
         let before = count.saturating_sub(green.len() as u64);
         self.replies.answer(before, green, replies)?;
@@ -113,10 +113,8 @@ fn place_all(order: &mut IdList, orders: &mut Row<Placed>, ids: &[ActionId]) -> 
     ensures order { OnOk result (order.new ≡ order.old ++ ids.now) }
     ensures orders { OnOk result (orders.new ≡ orders.old ++ placed_from (length order.old) ids.now) }
 {
-    let mut next = 0;
-    'names: while next < ids.len() {
-        place_one(order, orders, &ids[next])?;
-        next += 1;
+    for id in ids {
+        place_one(order, orders, id)?;
     }
     Ok(())
 }

@@ -3,95 +3,97 @@
 //! servers. Each expected value was worked out by hand from the table and the rules that it names.
 
 mod asking;
-mod attempt;
-mod bench;
 mod exchanges;
-mod outside;
-mod prim;
 mod reading;
 mod seeing;
 mod tables;
 
-use bench::{Member, deliver, newcomer, request, settle};
-use cg_base::{IdSet, NoMemory, ReplicaId};
+use asking::asked;
+use cg_base::{IdSet, NoMemory, ReplicaId, WeightSet};
 use cg_client::{Draft, DraftParts};
 use cg_group::Delivery;
+use cg_replica::Replica;
 use reading::{delivery, id_of, set_of};
-use seeing::{put_member, put_parts};
+use seeing::{put_parts, put_replica};
 use std::alloc::Global;
 use std::process::Abort;
 use std::test::Fail;
 
 // The one place where a replica is dropped, by a call: where the end of a scope drops one, that is shown over all the
 // fields of all the states, at each exit. So no function here has an exit while it holds one.
-fn let_go(member: Member) {
-    drop(member);
+fn let_go(replica: Replica) {
+    drop(replica);
 }
 
-fn given(member: Member, draft: &mut Draft, d: &Delivery) -> Result<Member, Fail> {
-    let next = deliver(member, draft, d)?;
+fn given(replica: Replica, draft: &mut Draft, d: &Delivery) -> Result<Replica, Fail> {
+    let next = replica.hear(draft, d)?;
     Ok(next)
 }
 
-fn hand(alloc: Global, member: Member, draft: &mut Draft, text: &str) -> Result<Member, Fail> {
+fn hand(alloc: Global, replica: Replica, draft: &mut Draft, text: &str) -> Result<Replica, Fail> {
     match delivery(alloc, text) {
-        Ok(d) => given(member, draft, &d),
+        Ok(d) => given(replica, draft, &d),
         Err(e) => {
-            let_go(member);
+            let_go(replica);
             Err(e)
         }
     }
 }
 
-fn ask(member: Member, draft: &mut Draft) -> Result<Member, Fail> {
-    let next = request(member, draft)?;
+fn ask(replica: Replica, draft: &mut Draft) -> Result<Replica, Fail> {
+    let next = replica.request(draft, asked())?;
     Ok(next)
 }
 
-fn end(member: Member, draft: &mut Draft) -> Result<Member, Fail> {
-    let next = settle(member, draft)?;
+fn end(replica: Replica, draft: &mut Draft) -> Result<Replica, Fail> {
+    let next = replica.settle(draft)?;
     Ok(next)
 }
 
 // what comes, but for a new replica
-fn come(alloc: Global, member: Member, draft: &mut Draft, text: &str) -> Result<Member, Fail> {
+fn come(alloc: Global, replica: Replica, draft: &mut Draft, text: &str) -> Result<Replica, Fail> {
     match text {
-        "request" => ask(member, draft),
-        "end" => end(member, draft),
-        _ => hand(alloc, member, draft, text),
+        "request" => ask(replica, draft),
+        "end" => end(replica, draft),
+        _ => hand(alloc, replica, draft, text),
     }
 }
 
-fn begin(alloc: Global, text: &str) -> Result<Member, Fail> {
+// among these servers
+fn newcomer(alloc: Global, id: ReplicaId, servers: &IdSet) -> Result<Replica, NoMemory> {
+    Replica::fresh(alloc, id, &WeightSet::of(servers))
+}
+
+fn begin(alloc: Global, text: &str) -> Result<Replica, Fail> {
     let (id, servers) = text.split_once(' ').ok_or("no servers")?;
     Ok(newcomer(alloc, id_of(id)?, &set_of(servers))?)
 }
 
-fn take(alloc: Global, member: Member, draft: &mut Draft, text: &str) -> Result<Member, Fail> {
+fn take(alloc: Global, replica: Replica, draft: &mut Draft, text: &str) -> Result<Replica, Fail> {
     match text.strip_prefix("new ") {
         Some(rest) => {
-            let_go(member);
+            let_go(replica);
             begin(alloc, rest)
         }
-        None => come(alloc, member, draft, text),
+        None => come(alloc, replica, draft, text),
     }
 }
 
 // the replica's line, and what an event has brought about
-fn seen(alloc: Global, member: &Member, parts: &DraftParts) -> Result<Vec<u8>, NoMemory> {
+fn seen(alloc: Global, replica: &Replica, parts: &DraftParts) -> Result<Vec<u8>, NoMemory> {
     let mut out = Vec::new(alloc);
-    put_member(&mut out, member)?;
+    put_replica(&mut out, replica)?;
     put_parts(alloc, &mut out, parts)?;
     Ok(out)
 }
 
-fn line_of(alloc: Global, member: &Member) -> Result<Vec<u8>, NoMemory> {
+fn line_of(alloc: Global, replica: &Replica) -> Result<Vec<u8>, NoMemory> {
     let mut out = Vec::new(alloc);
-    put_member(&mut out, member)?;
+    put_replica(&mut out, replica)?;
     Ok(out)
 }
 
-fn look(alloc: Global, next: &Result<Member, Fail>, draft: Draft) -> Result<Vec<u8>, NoMemory> {
+fn look(alloc: Global, next: &Result<Replica, Fail>, draft: Draft) -> Result<Vec<u8>, NoMemory> {
     let parts = draft.into_parts();
     match next {
         Ok(next) => seen(alloc, next, &parts),
@@ -122,26 +124,26 @@ fn compare(
 }
 
 // one line: the replica behind it
-fn follow(rt: &(impl Abort + AllocGlobal), member: Member, line: &str) -> Result<Member, Fail> {
+fn follow(rt: &(impl Abort + AllocGlobal), replica: Replica, line: &str) -> Result<Replica, Fail> {
     if line.starts_with('#') {
-        return Ok(member);
+        return Ok(replica);
     }
     let alloc = rt.alloc();
     let (text, _) = line.split_once(" -> ").unwrap_or((line, ""));
-    let before = line_of(alloc, &member);
+    let before = line_of(alloc, &replica);
     let mut draft = Draft::new(alloc);
-    let next = take(alloc, member, &mut draft, text);
+    let next = take(alloc, replica, &mut draft, text);
     let seen = look(alloc, &next, draft);
     compare(rt, line, before, seen);
     next
 }
 
 fn follows(rt: &(impl Abort + AllocGlobal), text: &str) -> Result<(), Fail> {
-    let mut member = newcomer(rt.alloc(), ReplicaId::known(1), &IdSet::empty())?;
+    let mut replica = newcomer(rt.alloc(), ReplicaId::known(1), &IdSet::empty())?;
     for line in text.lines() {
-        member = follow(rt, member, line)?;
+        replica = follow(rt, replica, line)?;
     }
-    let_go(member);
+    let_go(replica);
     Ok(())
 }
 

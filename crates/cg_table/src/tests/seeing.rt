@@ -3,19 +3,19 @@
 //! The replica's line is that of a report, with `-` in place of the phase, of which the states don't know. Behind it stand
 //! the names newly green, those that got a reply, and the messages that are sent, where there are any.
 
-use super::bench::{Member, core_of, name_of};
 use cg_base::{ActionId, IdList, NoMemory, put, put_number, put_shown};
 use cg_client::DraftParts;
+use cg_replica::Replica;
 use cg_report::{Line, Reply, ShownPhase, UpLine, put_line};
 use cg_wire::Msg;
 use std::alloc::Global;
 
 /// The line of a replica.
-pub(super) fn put_member(out: &mut Vec<u8>, member: &Member) -> Result<(), NoMemory> {
-    let core = core_of(member);
+pub(super) fn put_replica(out: &mut Vec<u8>, replica: &Replica) -> Result<(), NoMemory> {
+    let core = replica.core();
     let view = core.view()?;
     let up = UpLine {
-        state: name_of(member),
+        state: replica.state(),
         phase: ShownPhase::Alone,
         view,
     };

@@ -1,20 +1,19 @@
-use Rattle.std.proofs.Common.{◌≡◌, ◌<◌, ◌-◌, suc, length, take, drop, sym, ◌∙◌, subst, arith}
-use Rattle.cg_show.specs.Showing.{StartsFrom, Ascend, is_behind}
-use Rattle.cg_show.proofs.Ordered.{UpTo, above-head, up-to, with-at}
+use Rattle.std.proofs.Common.{leb, leb-true, leb-false, sym, subst, ◌∙◌, arith, rules}
+use Rattle.std.proofs.lemmas.List.Sorted.{IsPartitionPoint-from_clause, IsPartitionedBy-leb, IsNonDecreasingBy-from_all_adjacent}
+use Rattle.cg_agree.specs.Show.{Answered}
+use Rattle.cg_show.specs.Showing.{Ascend}
+use Rattle.cg_show.proofs.Ordered.{neighbours-ascend, with-at}
 use Rattle.cg_show.proofs.answered.Replies.count_up_to.Goals as goal
 
-pub back-preserved : goal.back-preserved
-back-preserved c =
-    (omega (arith, c.back.invariant.0), above-head c.args.self.now (c.back.at - 1) c.args.place (sym c.is_behind.ensures ∙ c.if-is_behind.true))
-
-pub returns-else-is_behind-clause-value : goal.returns-else-is_behind-clause-value
-returns-else-is_behind-clause-value c new same =
-    let at = c.back.at in
-    let xs = c.args.self.now in
-    let within = c.back.invariant.0 in
-    let some = c.back-test.true in
-    let less : at - 1 < length xs = omega (arith, within, some) in
-    let up = up-to xs (at - 1) c.args.place (subst Ascend c.self.view_is c.self.invariant) less (sym c.is_behind.ensures ∙ c.if-is_behind.false) in
-    let back : suc (at - 1) ≡ at = omega (arith, some) in
-    with-at xs at new (subst (λ p. UpTo p (take at xs)) (sym same) (subst (λ n. UpTo c.args.place (take n xs)) back up))
-    (subst (λ p. StartsFrom (suc p) (drop at xs)) (sym same) c.back.invariant.1)
+pub returns-clause-value : goal.returns-clause-value
+returns-clause-value c new same =
+    let xs = c.as_slice.result.now in
+    let all = c.as_slice.ensures.value ∙ c.self.view_is in
+    let ascend = subst Ascend (sym c.as_slice.ensures.value) c.self.invariant in
+    let sorted = IsNonDecreasingBy-from_all_adjacent (λ (r : Answered). r.place) xs (neighbours-ascend xs ascend) in
+    let point = IsPartitionPoint-from_clause (λ (r : Answered). leb r.place c.args.place) xs c.partition_point.result c.partition_point.ensures.partitioned
+    (IsPartitionedBy-leb (λ (r : Answered). r.place) xs c.args.place sorted) (λ a r q k. search rules) in
+    let within = c.partition_point.ensures.bound in
+    rw (← all) (with-at xs c.partition_point.result new within
+    (λ k less. (let up = leb-true _ _ (point.0 k new (omega arith) less) in omega (arith, up, same)))
+    (λ k le less. (let above = leb-false _ _ (point.1 k new le less) in omega (arith, above, same))))
