@@ -1,5 +1,5 @@
 -- The lines of a generated schedule come to its end, or to a limit.
-use Rattle.std.proofs.Common.{◌≡◌, ℕ, zero, suc, ◌+◌, ◌<◌, ◌-◌, true, List, [], ◌∷◌, fold, length, Option, Some, None, option_map, Result, Ok, Err, Bool, false, cond, refl, sym, ap, subst, ◌∙◌, arith, codes}
+use Rattle.std.proofs.Common.{◌≡◌, ℕ, zero, suc, ◌+◌, ◌<◌, ◌-◌, true, List, [], ◌∷◌, fold, length, Option, Some, None, option_map, option_and_then, Result, Ok, Err, Bool, false, cond, refl, sym, ap, subst, ◌∙◌, arith, codes}
 use Rattle.std.specs.Str.{is_utf8}
 use Rattle.cg_base.specs.Sets.{IsId}
 use Rattle.cg_text.specs.Tokens.{tokens, tokens_from}
@@ -7,13 +7,11 @@ use Rattle.cg_group.specs.EachLaws.{Each}
 use Rattle.cg_schedule.specs.declared.event.Event.{Event}
 use Rattle.cg_schedule.specs.declared.fault.LineFault.{LineFault}
 use Rattle.cg_schedule.specs.declared.reader_state.ReaderState.{ReaderState}
-use Rattle.cg_schedule.specs.declared.word.Word.{Word}
 use Rattle.cg_schedule.specs.Fault.{not_utf8}
 use Rattle.cg_schedule.specs.Laws.{MayStand, Reads}
 use Rattle.cg_schedule.specs.Limits.{IsEvent}
-use Rattle.cg_schedule.specs.Line.{first_state, state_after, word_of, opening, opening_of, event_reading, reading_behind, some_event}
+use Rattle.cg_schedule.specs.Line.{first_state, state_after, word_of, opening, opening_of, reading_behind}
 use Rattle.cg_schedule.specs.Print.{line_of}
-use Rattle.cg_schedule.specs.Reading.{whole}
 use Rattle.cg_agree.specs.Schedules.{Run, no_run, play, run_of}
 use Rattle.cg_gen.specs.Generated.{events_left, generated}
 use Rattle.cg_gen.specs.GeneratedLaws.{AllStand, generated-stands}
@@ -21,8 +19,8 @@ use Rattle.cg_run.specs.declared.progress.Ending.TheVariants.{Ended}
 use Rattle.cg_run.specs.declared.progress.Progress.{Progress}
 use Rattle.cg_run.specs.declared.status.Status.TheVariants as status
 use Rattle.cg_run.specs.declared.status.Limit.{Limit}
-use Rattle.cg_run.specs.Produced.{Finding, Produced, before_all, refusal_in, refusal_of, status_of, ended_with, prepend, and_then}
-use Rattle.cg_run.specs.Outcome.{event_outcome, word_outcome, opened_outcome, line_outcome, without_return, limit_of, unless_passed, whole_line, replayed, lines_alone}
+use Rattle.cg_run.specs.Produced.{Finding, Produced, before_all, refusal_of, status_of, ended_with, prepend, and_then}
+use Rattle.cg_run.specs.Outcome.{read_outcome, line_outcome, without_return, limit_of, unless_passed, whole_line, replayed, lines_alone}
 use Rattle.cg_generated.specs.Admitted.{GeneratedAreAdmitted, IsEndOrLimit, TrialsAreAdmitted, TrialsEnd, TrialsAreReplays}
 use Rattle.cg_generated.proofs.Playing.{IsFree, all-free, IsSpared, Follows, Follows-limit, Follows-happened}
 use Rattle.cg_generated.proofs.Spelling.{as-it-is, pieces-are}
@@ -30,18 +28,9 @@ use Rattle.cg_generated.proofs.Within.{generated-within, state_past, generated-e
 
 -- ---- a line that reads as an event
 
-as-event : (n : ℕ) (e : Event) (s : Progress) (r : Result (Option (Word × List (List ℕ))) LineFault) → reading_behind r ≡ Ok (Some e) → opened_outcome n r s ≡ event_outcome n (Ok e) s
-unfolding word_outcome
-as-event n e s (Ok None) is = absurd cc
-as-event n e s (Err fault) is = absurd cc
-as-event n e s (Ok (Some o)) is = by (whole (event_reading o.0) o.1) is where
-  by : (r : Result Event LineFault) → some_event r ≡ Ok (Some e) → event_outcome n r s ≡ event_outcome n (Ok e) s
-  by (Ok f) read = let same : f ≡ e = cc in ap (λ (x : Event). event_outcome n (Ok x) s) same
-  by (Err fault) read = absurd cc
-
-line-happens : (n : ℕ) (line : List ℕ) (e : Event) (s : Progress) → Reads s.reader line e → line_outcome n line s ≡ event_outcome n (Ok e) s
+line-happens : (n : ℕ) (line : List ℕ) (e : Event) (s : Progress) → Reads s.reader line e → line_outcome n line s ≡ read_outcome n (Ok (Some e)) s
 unfolding line_outcome
-line-happens n line e s reads = as-event n e s (opening s.reader line) reads
+line-happens n line e s reads = ap (λ (r : Result (Option Event) LineFault). read_outcome n r s) reads
 
 -- ---- a schedule
 
@@ -60,7 +49,7 @@ line-follows printed n at e run s same stands is before free =
     let next = play run e in
     let state = state_after s.reader e in
     let read = line-happens n line e s (printed s.reader e is stands) in
-    let text : line_outcome n (without_return line) s ≡ event_outcome n (Ok e) s = ap (λ t. line_outcome n t s) (as-it-is e is) ∙ read in
+    let text : line_outcome n (without_return line) s ≡ read_outcome n (Ok (Some e)) s = ap (λ t. line_outcome n t s) (as-it-is e is) ∙ read in
     unless (limit_of n (length line) (at + length line + 1)) n next state s (line_outcome n (without_return line) s)
     (subst (Follows next state) (sym text) (Follows-happened n e run (record s { reader = state }) same before free))
 
@@ -114,7 +103,7 @@ module _ (printed : ArePrinted) where
 
 -- ---- the laws
 
-no-refusal : (o : Option Finding) → IsEnded o → refusal_in o ≡ None
+no-refusal : (o : Option Finding) → IsEnded o → option_and_then (λ (f : Finding). f.refused) o ≡ None
 no-refusal None is = absurd is
 no-refusal (Some f) is = is.0
 
@@ -122,7 +111,7 @@ no-refusal (Some f) is = is.0
 end-alone : refusal_of (replayed 1 0 (codes "end" ∷ [] ∷ []) Ended before_all) ≡ None
 unfolding line_outcome opening tokens_from word_of
 end-alone = by (is_utf8 (codes "end")) where
-  by : (b : Bool) → refusal_of (and_then (opened_outcome 1 (cond b (opening_of first_state (tokens (codes "end"))) (Err not_utf8)) before_all) (replayed 2 4 ([] ∷ []) Ended)) ≡ None
+  by : (b : Bool) → refusal_of (and_then (read_outcome 1 (reading_behind (cond b (opening_of first_state (tokens (codes "end"))) (Err not_utf8))) before_all) (replayed 2 4 ([] ∷ []) Ended)) ≡ None
   by true = refl
   by false = refl
 

@@ -16,8 +16,8 @@ use Rattle.cg_run.specs.declared.status.Status.{Status}
 use Rattle.cg_run.specs.declared.status.Status.TheVariants as status
 use Rattle.cg_run.specs.Produced.{Finding, Produced, before_all, status_of, ended_with, and_then}
 use Rattle.cg_run.specs.Outcome.{limit_of, unless_passed, line_outcome, whole_line, at_end, cut_line, last_piece, replayed, outcome_of, text_put}
-use Rattle.cg_run.specs.Taking.{most_taken, OfTaken, Ends, InTime, IsNear, Runs, found_in, end_of_line}
-use Rattle.cg_run.specs.Streaming.{IsUnended}
+use Rattle.cg_run.specs.Taking.{most_taken, InTime, IsNear, Runs, found_in, end_of_line}
+use Rattle.cg_run.specs.Streaming.{IsUnended, OfTaken, Ends}
 use Rattle.cg_run.proofs.Feeds.{line_first, first_unended, some_piece}
 use Rattle.cg_run.proofs.GoingOn.{and_then-none, and_then-some}
 use Rattle.cg_run.proofs.Lines.{replayed-more}
@@ -42,6 +42,7 @@ of_line n None k is e = absurd (cc)
 of_line n (Some (status.Syntax line reason)) k is e = there n line k is e
 of_line n (Some (status.Refused line reason)) k is e = there n line k is e
 of_line n (Some (status.Limit line what)) k is e = there n line k is e
+of_line n (Some status.NoMemory) k is e = absurd (cc)
 of_line n (Some other) k is e = absurd (false≢true is)
 
 IsFrom-in_line : (n : ℕ) (p : Produced) → IsInLine n p → IsFrom n p
@@ -238,7 +239,10 @@ Runs-near c old new v v' st r = record {
   ending = r.ending;
   consumed = r.consumed;
   cause = r.cause;
-  holds = record { most = r.holds.0; ends = r.holds.1; in_time = r.holds.2; near = near c r.taken r.ending v v' st r.holds.1 r.holds.2 };
+  most = r.holds.0;
+  ends = r.holds.1;
+  in_time = r.holds.2;
+  near = near c r.taken r.ending v v' st r.holds.1 r.holds.2;
 }
 
 -- a command that reads no input takes nothing

@@ -1,10 +1,10 @@
 -- A run that ends by a refusal ends at the line that is refused, and rounds never are refused.
-use Rattle.std.proofs.Common.{◌≡◌, ℕ, zero, suc, ◌+◌, ◌==◌, ◌-◌, nat_lt, List, [], ◌∷◌, ◌++◌, length, Option, Some, None, Bool, true, false, cond, not, refl, sym, ap, ◌∙◌, subst, arith, append_assoc, length-append, Result, Ok, Err, eqb-true, is_some}
+use Rattle.std.proofs.Common.{◌≡◌, ℕ, zero, suc, ◌+◌, ◌==◌, ◌-◌, nat_lt, List, [], ◌∷◌, ◌++◌, length, Option, Some, None, Bool, true, false, cond, not, refl, sym, ap, ◌∙◌, subst, arith, append_assoc, length-append, Result, Ok, Err, eqb-true, is_some, if◌then◌else◌}
 use Rattle.std.specs.List.{prefix_len}
 use Rattle.std.specs.Option.{option_map_or}
 use Rattle.std.proofs.lemmas.Bool.{cond_both, le-ltb}
 use Rattle.cg_base.specs.Lists.{count_up}
-use Rattle.cg_base.specs.Text.{pieces_of}
+use Rattle.cg_base.specs.Text.{pieces_of, is_nil}
 use Rattle.cg_records.specs.Limits.{Each}
 use Rattle.cg_wire.specs.declared.message.Msg.{Msg}
 use Rattle.cg_group.specs.declared.phase.Phase.TheVariants.{Down}
@@ -15,11 +15,10 @@ use Rattle.cg_group.specs.Refusals.{deliver_refusal}
 use Rattle.cg_schedule.specs.declared.event.Event.{Event}
 use Rattle.cg_schedule.specs.declared.event.Event.TheVariants.{Gather, Deliver, Rounds, End}
 use Rattle.cg_schedule.specs.declared.fault.LineFault.{LineFault}
+use Rattle.cg_schedule.specs.declared.fault.LineFault.TheVariants.{Syntax, NoMemory}
 use Rattle.cg_schedule.specs.declared.reader_state.ReaderState.{ReaderState}
-use Rattle.cg_schedule.specs.declared.word.Word.{Word}
-use Rattle.cg_schedule.specs.Reading.{whole}
 use Rattle.cg_schedule.specs.Laws.{Reads}
-use Rattle.cg_schedule.specs.Line.{first_state, opening, event_reading, state_after, state_behind, reading_behind}
+use Rattle.cg_schedule.specs.Line.{first_state, reading, state_after, state_behind}
 use Rattle.cg_agree.specs.World.{World, has_begun, up_replicas}
 use Rattle.cg_agree.specs.Admission.{first_refusal}
 use Rattle.cg_agree.specs.Show.{Moved}
@@ -40,10 +39,10 @@ use Rattle.cg_run.specs.declared.status.Limit.{Limit}
 use Rattle.cg_run.specs.declared.status.Limit.TheVariants.{Steps}
 use Rattle.cg_run.specs.Produced.{Finding, Produced, before_all, status_of, went_on, ended_with, and_then, unless_refused, one_step}
 use Rattle.cg_run.specs.Rounds.{deliver_ready, deliveries, one_pass, passes, happened}
-use Rattle.cg_run.specs.Outcome.{lines_alone, pieces_for, event_outcome, word_outcome, opened_outcome, line_outcome, without_return, limit_of, unless_passed, whole_line, at_end, cut_line, last_piece, replayed, outcome_of, outcome}
-use Rattle.cg_run.specs.Refusing.{text_before, state_past, state_past_lines}
+use Rattle.cg_run.specs.Outcome.{lines_alone, pieces_for, read_outcome, line_outcome, without_return, limit_of, unless_passed, whole_line, at_end, cut_line, last_piece, replayed, outcome_of, outcome}
+use Rattle.cg_run.specs.Refusing.{state_past_lines}
 use Rattle.cg_run.specs.Taking.{TellsOfRefusals}
-use Rattle.cg_run.proofs.Asked.{ExactLines, reads_of}
+use Rattle.cg_run.proofs.Asked.{ExactLines}
 use Rattle.cg_run.proofs.GoingOn.{and_then-some}
 use Rattle.cg_run.proofs.RunFacts.{one_step-reader, Holds-outcome}
 
@@ -177,6 +176,14 @@ happened-reader n other s = one_step-reader n other s
 
 -- ---- lines
 
+-- the text of a line, with what stands behind it
+abbrev text_before : List (List ℕ) → List ℕ → List ℕ
+text_before behind line = if is_nil behind then line else without_return line
+
+-- the reader's state behind a line
+abbrev state_past : ReaderState → List ℕ → ReaderState
+state_past state text = state_behind state (reading state text)
+
 -- a line of this text: where it ends the run by a refusal, it reads as an event that is refused so; and where it doesn't end the run, the
 -- reader has come past it
 record IsLine (n : ℕ) (text : List ℕ) (s : Progress) (p : Produced) : Type 0 where
@@ -188,21 +195,16 @@ ends-line : (n : ℕ) (text : List ℕ) (s : Progress) (st : Status) (lines : �
 ends-line n text s st lines other = record { refuses = λ m r e. absurd (other m r cc); reader = λ e. absurd cc }
 
 is-line : (n : ℕ) (text : List ℕ) (s : Progress) → IsLine n text s (line_outcome n text s)
-unfolding line_outcome word_outcome
-is-line n text s = by_opening (opening s.reader text) refl where
-  by_event : (o : Word × List (List ℕ)) → opening s.reader text ≡ Ok (Some o) → (r : Result Event LineFault) → whole (event_reading o.0) o.1 ≡ r → IsLine n text s (event_outcome n r s)
-  by_event o is (Ok event) read =
-      let reads = reads_of s.reader text o event is read in
-      record {
-        refuses = λ m r e. (let why = happened-refuses n event (record s { reader = state_after s.reader event }) m r e in (why.0, event, reads, why.1));
-        reader = λ e. happened-reader n event (record s { reader = state_after s.reader event }) ∙ sym (ap (state_behind s.reader) reads);
-      }
-  by_event o is (Err fault) read = ends-line n text s _ n (λ m r e. cc)
-
-  by_opening : (r : Result (Option (Word × List (List ℕ))) LineFault) → opening s.reader text ≡ r → IsLine n text s (opened_outcome n r s)
-  by_opening (Ok None) is = record { refuses = λ m r e. cc; reader = λ e. sym (ap (λ r. state_behind s.reader (reading_behind r)) is) }
-  by_opening (Ok (Some o)) is = by_event o is (whole (event_reading o.0) o.1) refl
-  by_opening (Err fault) is = ends-line n text s _ n (λ m r e. cc)
+unfolding line_outcome
+is-line n text s = by_reading (reading s.reader text) refl where
+  by_reading : (r : Result (Option Event) LineFault) → reading s.reader text ≡ r → IsLine n text s (read_outcome n r s)
+  by_reading (Ok None) is = record { refuses = λ m r e. cc; reader = λ e. sym (ap (state_behind s.reader) is) }
+  by_reading (Ok (Some event)) is = record {
+    refuses = λ m r e. (let why = happened-refuses n event (record s { reader = state_after s.reader event }) m r e in (why.0, event, is, why.1));
+    reader = λ e. happened-reader n event (record s { reader = state_after s.reader event }) ∙ sym (ap (state_behind s.reader) is);
+  }
+  by_reading (Err (Syntax reason)) is = ends-line n text s _ n (λ m r e. cc)
+  by_reading (Err NoMemory) is = ends-line n text s _ n (λ m r e. cc)
 
 unless-line : (o : Option Limit) (n : ℕ) (text : List ℕ) (s : Progress) (p : Produced) → IsLine n text s p → IsLine n text s (unless_passed o n s p)
 unless-line None n text s p is = is

@@ -7,11 +7,11 @@ use Rattle.cg_group.specs.Ready.{ready}
 use Rattle.cg_schedule.specs.declared.event.Event.{Event}
 use Rattle.cg_schedule.specs.declared.event.Event.TheVariants.{Start, Split, Merge, Gather, Deliver, Rounds, End}
 use Rattle.cg_schedule.specs.declared.fault.LineFault.{LineFault}
+use Rattle.cg_schedule.specs.declared.fault.LineFault.TheVariants.{Syntax, NoMemory}
 use Rattle.cg_schedule.specs.declared.reader_state.ReaderState.{ReaderState}
-use Rattle.cg_schedule.specs.declared.word.Word.{Word}
+use Rattle.cg_schedule.specs.Fault.{syntax_number}
 use Rattle.cg_schedule.specs.Limits.{IsEvent}
-use Rattle.cg_schedule.specs.Reading.{whole}
-use Rattle.cg_schedule.specs.Line.{event_word, fits, opening, event_reading, state_after}
+use Rattle.cg_schedule.specs.Line.{event_word, fits, reading, state_after}
 use Rattle.cg_agree.specs.World.{World, no_world, up_replicas}
 use Rattle.cg_agree.specs.Admission.{first_refusal}
 use Rattle.cg_agree.specs.Show.{Moved}
@@ -33,9 +33,9 @@ use Rattle.cg_run.specs.declared.status.Limit.{Limit}
 use Rattle.cg_run.specs.declared.status.Limit.TheVariants.{Steps}
 use Rattle.cg_run.specs.Produced.{Finding, Produced, before_all, refusal_of, went_on, ended_with, refused_with, and_then, stepped, unless_refused, one_step}
 use Rattle.cg_run.specs.Rounds.{deliver_ready, deliveries, one_pass, passes, happened}
-use Rattle.cg_run.specs.Outcome.{lines_alone, reason_of, event_outcome, word_outcome, opened_outcome, line_outcome, without_return, limit_of, unless_passed, whole_line, at_end, cut_line, last_piece, replayed, outcome_of, outcome}
+use Rattle.cg_run.specs.Outcome.{lines_alone, read_outcome, line_outcome, without_return, limit_of, unless_passed, whole_line, at_end, cut_line, last_piece, replayed, outcome_of, outcome}
 use Rattle.cg_run.specs.UnderWay.{IsUnderWay}
-use Rattle.cg_run.proofs.Asked.{may_ask, ExactLines, reads_of}
+use Rattle.cg_run.proofs.Asked.{may_ask, ExactLines}
 use Rattle.cg_run.proofs.GoingOn.{and_then-some}
 
 -- what holds of a part of a run, from how far it had come
@@ -219,18 +219,13 @@ Holds-read n other s under fit within =
     Holds-moved s other (one_step n other (moved other s)) (Holds-one_step n other (moved other s) (other_stands s.world other tt (under.begun started) within) started)
 
 Holds-line : (n : ℕ) (line : List ℕ) (s : Progress) → ExactLines → IsUnderWay s → Holds s (line_outcome n line s)
-unfolding line_outcome word_outcome
-Holds-line n line s exact under = by_opening (opening s.reader line) refl where
-  by_event : (o : Word × List (List ℕ)) → opening s.reader line ≡ Ok (Some o) → (r : Result Event LineFault) → whole (event_reading o.0) o.1 ≡ r → Holds s (event_outcome n r s)
-  by_event o is (Ok e) e_is =
-      let reads_as = (exact s.reader line e).0 (reads_of s.reader line o e is e_is) in
-      Holds-read n e s under reads_as.may_stand reads_as.within
-  by_event o is (Err fault) e_is = Holds-ended_with (status.Syntax n (reason_of fault)) n s
-
-  by_opening : (r : Result (Option (Word × List (List ℕ))) LineFault) → opening s.reader line ≡ r → Holds s (opened_outcome n r s)
-  by_opening (Ok None) is = Holds-went_on s s refl refl under
-  by_opening (Ok (Some o)) is = by_event o is (whole (event_reading o.0) o.1) refl
-  by_opening (Err fault) is = Holds-ended_with (status.Syntax n (reason_of fault)) n s
+unfolding line_outcome
+Holds-line n line s exact under = by_reading (reading s.reader line) refl where
+  by_reading : (r : Result (Option Event) LineFault) → reading s.reader line ≡ r → Holds s (read_outcome n r s)
+  by_reading (Ok None) is = Holds-went_on s s refl refl under
+  by_reading (Ok (Some e)) is = let reads_as = (exact s.reader line e).0 is in Holds-read n e s under reads_as.may_stand reads_as.within
+  by_reading (Err (Syntax reason)) is = Holds-ended_with (status.Syntax n (syntax_number reason)) n s
+  by_reading (Err NoMemory) is = Holds-ended_with status.NoMemory n s
 
 Holds-unless_passed : (o : Option Limit) (n : ℕ) (s : Progress) (p : Produced) → Holds s p → Holds s (unless_passed o n s p)
 Holds-unless_passed None n s p h = h

@@ -8,9 +8,8 @@ use Rattle.cg_io.specs.Outside.{SourceView, SinkView}
 use Rattle.cg_schedule.specs.declared.event.Event.{Event}
 use Rattle.cg_schedule.specs.declared.event.Event.TheVariants.{Gather, Deliver, Rounds, End}
 use Rattle.cg_schedule.specs.declared.fault.LineFault.{LineFault}
-use Rattle.cg_schedule.specs.declared.word.Word.{Word}
-use Rattle.cg_schedule.specs.Reading.{whole}
-use Rattle.cg_schedule.specs.Line.{opening, event_reading, state_after}
+use Rattle.cg_schedule.specs.declared.fault.LineFault.TheVariants.{Syntax, NoMemory}
+use Rattle.cg_schedule.specs.Line.{reading, state_after}
 use Rattle.cg_agree.specs.World.{up_replicas}
 use Rattle.cg_agree.specs.Admission.{first_refusal}
 use Rattle.cg_agree.specs.Step.{world_step}
@@ -28,8 +27,9 @@ use Rattle.cg_run.specs.declared.status.Limit.{Limit}
 use Rattle.cg_run.specs.declared.status.Limit.TheVariants.{Steps}
 use Rattle.cg_run.specs.Produced.{Finding, Produced, before_all, status_of, went_on, ended_with, and_then, unless_refused, one_step}
 use Rattle.cg_run.specs.Rounds.{deliver_ready, deliveries, one_pass, passes, happened}
-use Rattle.cg_run.specs.Outcome.{lines_alone, event_outcome, word_outcome, opened_outcome, line_outcome, without_return, limit_of, unless_passed, whole_line, at_end, cut_line, last_piece, replayed, outcome_of}
-use Rattle.cg_run.specs.Taking.{HasCause, FailedIsLast, ReadCause, Ends}
+use Rattle.cg_run.specs.Outcome.{lines_alone, unreadable, read_outcome, line_outcome, without_return, limit_of, unless_passed, whole_line, at_end, cut_line, last_piece, replayed, outcome_of}
+use Rattle.cg_run.specs.Taking.{HasCause, ReadCause}
+use Rattle.cg_run.specs.Streaming.{FailedIsLast, Ends}
 
 -- a status that comes of the input's end or of a failed take, and not of a line
 abbrev pub is_of_end : Option Status → Bool
@@ -38,12 +38,13 @@ is_of_end (Some status.ReadFault) = true
 is_of_end (Some (status.NoEnd lines)) = true
 is_of_end other = false
 
--- nothing is found, or something in line n
+-- nothing is found, or something in line n, or memory was refused
 abbrev pub is_of_line : ℕ → Option Status → Bool
 is_of_line n None = true
 is_of_line n (Some (status.Syntax line reason)) = line == n
 is_of_line n (Some (status.Refused line reason)) = line == n
 is_of_line n (Some (status.Limit line what)) = line == n
+is_of_line n (Some status.NoMemory) = true
 is_of_line n other = false
 
 abbrev pub IsInLine : ℕ → Produced → Type 0
@@ -97,22 +98,18 @@ IsInLine-happened n End s = refl
 IsInLine-happened n (Rounds count) s = IsInLine-passes n count s
 IsInLine-happened n other s = IsInLine-one_step n other s
 
-IsInLine-event : (n : ℕ) (r : Result Event LineFault) (s : Progress) → IsInLine n (event_outcome n r s)
-IsInLine-event n (Ok event) s = IsInLine-happened n event (record s { reader = state_after s.reader event })
-IsInLine-event n (Err fault) s = same n
+IsInLine-unreadable : (n : ℕ) (fault : LineFault) (s : Progress) → IsInLine n (unreadable n fault s)
+IsInLine-unreadable n (Syntax reason) s = same n
+IsInLine-unreadable n NoMemory s = refl
 
-IsInLine-word : (n : ℕ) (word : Word) (tokens : List (List ℕ)) (s : Progress) → IsInLine n (word_outcome n word tokens s)
-unfolding word_outcome
-IsInLine-word n word tokens s = IsInLine-event n (whole (event_reading word) tokens) s
-
-IsInLine-opened : (n : ℕ) (r : Result (Option (Word × List (List ℕ))) LineFault) (s : Progress) → IsInLine n (opened_outcome n r s)
-IsInLine-opened n (Ok None) s = refl
-IsInLine-opened n (Ok (Some opened)) s = IsInLine-word n opened.0 opened.1 s
-IsInLine-opened n (Err fault) s = same n
+IsInLine-read : (n : ℕ) (r : Result (Option Event) LineFault) (s : Progress) → IsInLine n (read_outcome n r s)
+IsInLine-read n (Ok None) s = refl
+IsInLine-read n (Ok (Some event)) s = IsInLine-happened n event (record s { reader = state_after s.reader event })
+IsInLine-read n (Err fault) s = IsInLine-unreadable n fault s
 
 pub IsInLine-line : (n : ℕ) (line : List ℕ) (s : Progress) → IsInLine n (line_outcome n line s)
 unfolding line_outcome
-IsInLine-line n line s = IsInLine-opened n (opening s.reader line) s
+IsInLine-line n line s = IsInLine-read n (reading s.reader line) s
 
 IsInLine-unless_passed : (o : Option Limit) (n : ℕ) (s : Progress) (p : Produced) → IsInLine n p → IsInLine n (unless_passed o n s p)
 IsInLine-unless_passed None n s p spares = spares

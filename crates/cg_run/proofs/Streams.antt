@@ -5,7 +5,7 @@ use Rattle.std.proofs.lemmas.List.{append-nil, take-append-le}
 use Rattle.std.proofs.lemmas.List.Elements.{All-nil, All-take}
 use Rattle.std.proofs.Math.Seq.{take-append-add}
 use Rattle.std.specs.Io.KnownBytes.{Consumes, Keeps, Appends}
-use Rattle.cg_io.specs.Outside.{SourceView, SinkView}
+use Rattle.cg_io.specs.Outside.{SourceView, SinkView, PutsAll}
 use Rattle.cg_agree.specs.Run.{Step}
 use Rattle.cg_run.specs.declared.progress.Ending.{Ending}
 use Rattle.cg_run.specs.declared.progress.Ending.TheVariants.{Ended, Failed, Open}
@@ -15,8 +15,8 @@ use Rattle.cg_run.specs.declared.status.Status.{Status}
 use Rattle.cg_run.specs.declared.status.Status.TheVariants as status
 use Rattle.cg_run.specs.Produced.{Produced, status_of, with_tail, report_in, text_of, prepend, went_on}
 use Rattle.cg_run.specs.Putting.{Puts}
-use Rattle.cg_run.specs.Taking.{HasCause, Begins, InTime, FailedIsLast}
-use Rattle.cg_run.specs.Streaming.{first_stage, from_stage, IsStage, IsHeld, IsMade, Passes, TakesUp, BetweenTakes, TakesTurn, Replays}
+use Rattle.cg_run.specs.Taking.{HasCause, InTime}
+use Rattle.cg_run.specs.Streaming.{first_stage, from_stage, IsStage, IsHeld, IsMade, Passes, TakesUp, FailedIsLast, BetweenTakes, TakesTurn, Replays}
 use Rattle.cg_run.proofs.GoingOn.{GoesOn-stop, Puts-none, Puts-twice, Appends-twice, report_in-append}
 use Rattle.cg_run.proofs.Stages.{Passes-none, Passes-twice, front-held, held-within, held-went_on, from-held, last-failed}
 use Rattle.cg_run.proofs.TakeLemmas.{Consumes-none, Consumes-twice}
@@ -69,13 +69,13 @@ grown report p v v' other s = (text_of report p, s.1.all)
 
 -- what was made was put, whatever was put behind it
 made-put : (report : Report) (p : Produced) (made : List Step) (v v1 v2 : SinkView) (r : List ℕ) → IsMade p made → Puts v v1 (report_in report made) → Appends v1.held v2.held r
-    → Begins v v2 (text_of report p)
+    → (rest : List ℕ) × PutsAll v v2 (text_of report p ++ rest)
 made-put report p made v v1 v2 r is put more =
     let text : text_of report p ≡ report_in report p.steps = ap (λ found. with_tail (report_in report p.steps) found p.progress.count) is.none in
     let all : report_in report made ≡ report_in report p.steps ++ report_in report is.later = ap (report_in report) is.front ∙ report_in-append report p.steps is.later in
     let same : report_in report made ++ r ≡ text_of report p ++ (report_in report is.later ++ r) =
     ap (λ t. t ++ r) all ∙ append_assoc (report_in report p.steps) (report_in report is.later) r ∙ ap (λ t. t ++ (report_in report is.later ++ r)) (sym text) in
-    record { rest = report_in report is.later ++ r; grown = subst (Appends v.held v2.held) same (Appends-twice v.held v1.held v2.held (report_in report made) r put.all more) }
+    (report_in report is.later ++ r, subst (Appends v.held v2.held) same (Appends-twice v.held v1.held v2.held (report_in report made) r put.all more))
 
 later-cause : (how : Ending) (old now new : SourceView) → now.faults ≡ old.faults → HasCause how now new → HasCause how old new
 later-cause Ended old now new same cause = (cause.0, cause.1 ∙ same)
@@ -128,7 +128,8 @@ module _ (report : Report) (old : SourceView) (v : SinkView) (before after : Bet
       let cut : take m taken ≡ take m (s.gone ++ before.held) = take-append-le m (s.gone ++ before.held) t.chunk within in
       let made : IsMade (from_stage first_stage (take m taken) Open) s.made =
       subst (λ bytes. IsMade (from_stage first_stage bytes Open) s.made) (sym cut) (reached st s.gone before.held s.made s.passes s.is_held m le) in
-      (made.none, made-put report (from_stage first_stage (take m taken) Open) s.made v before.output after.output more.0 made s.put more.1) in
+      let put = made-put report (from_stage first_stage (take m taken) Open) s.made v before.output after.output more.0 made s.put more.1 in
+      (made.none, put.0, put.1) in
       record {
         taken = taken;
         ending = t.ending;

@@ -1,14 +1,13 @@
 -- What a run comes to, as a function of its words, of the bytes taken and of how the taking ended.
-use Rattle.std.specs.Prelude.{ℕ, ◌+◌, ◌-◌, nat_lt, nat_eq, take, Result, Ok, Err, if◌then◌else◌, List, [], ◌∷◌, length, codes, Option, Some, None}
+use Rattle.std.specs.Prelude.{ℕ, ◌+◌, ◌-◌, nat_lt, nat_eq, take, Result, Ok, Err, if◌then◌else◌, List, [], ◌∷◌, ◌++◌, map, length, codes, Option, Some, None}
+use Rattle.std.specs.Option.{option_map_or}
 use Rattle.cg_base.specs.Text.{pieces_of}
 use Rattle.std.specs.List.{ends_with}
 use Rattle.cg_schedule.specs.declared.event.Event.{Event}
 use Rattle.cg_schedule.specs.declared.fault.LineFault.{LineFault}
 use Rattle.cg_schedule.specs.declared.fault.LineFault.TheVariants.{Syntax, NoMemory}
-use Rattle.cg_schedule.specs.declared.word.Word.{Word}
 use Rattle.cg_schedule.specs.Fault.{syntax_number}
-use Rattle.cg_schedule.specs.Reading.{whole}
-use Rattle.cg_schedule.specs.Line.{opening, event_reading, state_after}
+use Rattle.cg_schedule.specs.Line.{reading, state_after}
 use Rattle.cg_run.specs.declared.progress.Ending.{Ending}
 use Rattle.cg_run.specs.declared.progress.Ending.TheVariants.{Ended, Failed, Open}
 use Rattle.cg_run.specs.declared.progress.Progress.{Progress}
@@ -26,36 +25,23 @@ use Rattle.cg_run.specs.declared.status.Status.{Status}
 use Rattle.cg_run.specs.declared.totals.Totals.{Totals}
 use Rattle.cg_run.specs.Status.{tail_text}
 use Rattle.cg_run.specs.Totals.{summary_text}
-use Rattle.cg_run.specs.Produced.{Finding, Produced, before_all, went_on, ended_with, and_then, text_of}
+use Rattle.cg_run.specs.Produced.{Produced, before_all, went_on, ended_with, and_then, text_of}
 use Rattle.cg_run.specs.Rounds.{happened}
-
--- the number of the reason for which a line is no event
-abbrev pub reason_of : LineFault → ℕ
-reason_of (Syntax reason) = syntax_number reason
-reason_of NoMemory = 0
 
 -- line n can't be read
 abbrev pub unreadable : ℕ → LineFault → Progress → Produced
-unreadable n fault s = ended_with (status.Syntax n (reason_of fault)) n s
+unreadable n (Syntax reason) s = ended_with (status.Syntax n (syntax_number reason)) n s
+unreadable n NoMemory s = ended_with status.NoMemory n s
 
--- what line n comes to, whose event reads so
-abbrev pub event_outcome : ℕ → Result Event LineFault → Progress → Produced
-event_outcome n (Ok event) s = happened n event (record s { reader = state_after s.reader event })
-event_outcome n (Err fault) s = unreadable n fault s
-
--- what line n comes to that begins with the word, before these tokens
-unfoldable pub word_outcome : ℕ → Word → List (List ℕ) → Progress → Produced
-word_outcome n word tokens s = event_outcome n (whole (event_reading word) tokens) s
-
--- what line n comes to that begins so
-abbrev pub opened_outcome : ℕ → Result (Option (Word × List (List ℕ))) LineFault → Progress → Produced
-opened_outcome n (Ok None) s = went_on s
-opened_outcome n (Ok (Some opened)) s = word_outcome n opened.0 opened.1 s
-opened_outcome n (Err fault) s = unreadable n fault s
+-- what line n comes to, which reads so
+abbrev pub read_outcome : ℕ → Result (Option Event) LineFault → Progress → Produced
+read_outcome n (Ok None) s = went_on s
+read_outcome n (Ok (Some event)) s = happened n event (record s { reader = state_after s.reader event })
+read_outcome n (Err fault) s = unreadable n fault s
 
 -- what line n comes to, without its end
 unfoldable pub line_outcome : ℕ → List ℕ → Progress → Produced
-line_outcome n line s = opened_outcome n (opening s.reader line) s
+line_outcome n line s = read_outcome n (reading s.reader line) s
 
 -- a line without the carriage return before its line feed
 abbrev pub without_return : List ℕ → List ℕ
@@ -88,8 +74,7 @@ at_end lines Open s = went_on s
 -- a last line without its end
 abbrev pub cut_line : ℕ → List ℕ → Ending → Progress → Produced
 cut_line n line Ended s = and_then (line_outcome n line s) (at_end n Ended)
-cut_line n line Failed s = ended_with status.ReadFault (n - 1) s
-cut_line n line Open s = went_on s
+cut_line n line other s = at_end (n - 1) other s
 
 -- what stands behind the last line's end
 abbrev pub last_piece : ℕ → ℕ → List ℕ → Ending → Progress → Produced
@@ -105,8 +90,7 @@ replayed n at (line ∷ next ∷ more) how s =
 
 -- the lines that spell events, and the nothing behind the last one's end
 abbrev pub lines_alone : List Event → List (List ℕ)
-lines_alone [] = [] ∷ []
-lines_alone (event ∷ events) = line_of event ∷ lines_alone events
+lines_alone events = map line_of events ++ [] ∷ []
 
 -- the pieces of the schedule that a command replays
 abbrev pub pieces_for : Option Command → List ℕ → List (List ℕ)
@@ -118,12 +102,8 @@ abbrev pub trial_end : Status → ℕ → ℕ → Totals → List ℕ
 trial_end status.Done lines steps totals = summary_text steps totals
 trial_end other lines steps totals = tail_text other steps lines
 
-abbrev pub found_text : Option Finding → ℕ → Totals → List ℕ
-found_text None steps totals = []
-found_text (Some f) steps totals = trial_end f.status f.lines steps totals
-
 abbrev pub trial_text : Produced → List ℕ
-trial_text p = found_text p.found p.progress.count p.progress.totals
+trial_text p = option_map_or (λ f. trial_end f.status f.lines p.progress.count p.progress.totals) p.found []
 
 -- what a command comes to; without one the run tells how it is used
 abbrev pub outcome_of : Option Command → List ℕ → Ending → Produced

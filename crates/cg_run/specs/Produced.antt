@@ -1,6 +1,6 @@
 -- What a part of a run comes to. Parts follow one another: the steps of the first come before those of the next, and the
 -- first finding ends the run.
-use Rattle.std.specs.Prelude.{ℕ, ◌+◌, nat_lt, List, [], ◌∷◌, ◌++◌, Option, Some, None, option_map, if◌then◌else◌}
+use Rattle.std.specs.Prelude.{ℕ, ◌+◌, nat_lt, List, [], ◌∷◌, ◌++◌, Option, Some, None, option_map, option_and_then, if◌then◌else◌}
 use Rattle.cg_group.specs.declared.reason.Reason.{Reason}
 use Rattle.cg_schedule.specs.declared.event.Event.{Event}
 use Rattle.cg_schedule.specs.Line.{first_state}
@@ -59,12 +59,8 @@ abbrev pub status_of : Produced → Option Status
 status_of p = option_map (λ f. f.status) p.found
 
 -- the refusal that ends the run, where one does
-abbrev pub refusal_in : Option Finding → Option Refusal
-refusal_in None = None
-refusal_in (Some f) = f.refused
-
 abbrev pub refusal_of : Produced → Option Refusal
-refusal_of p = refusal_in p.found
+refusal_of p = option_and_then (λ f. f.refused) p.found
 
 -- nothing is found and no step is made
 abbrev pub went_on : Progress → Produced

@@ -1,5 +1,6 @@
 -- The tail that each status puts.
-use Rattle.std.specs.Prelude.{ℕ, List, [], ◌∷◌, ◌++◌, codes, decimal, Option, Some, None}
+use Rattle.std.specs.Prelude.{ℕ, List, [], ◌∷◌, ◌++◌, codes, decimal}
+use Rattle.std.specs.Option.{option_map_or}
 use Rattle.cg_group.specs.declared.reason.Reason.{Reason}
 use Rattle.cg_group.specs.Reasons.{reason_number, reason_value}
 use Rattle.cg_run.specs.declared.status.Status.{Status}
@@ -18,13 +19,9 @@ limit_text limit.Input = codes "input"
 limit_text limit.Lines = codes "lines"
 limit_text limit.Steps = codes "steps"
 
--- the printed value of a reason, where it has one
-abbrev pub value_text : Option ℕ → List ℕ
-value_text None = []
-value_text (Some value) = codes " " ++ decimal value
-
+-- the number of a reason, and its value, where it has one
 abbrev pub refused_text : Reason → List ℕ
-refused_text reason = codes " " ++ decimal (reason_number reason) ++ value_text (reason_value reason)
+refused_text reason = codes " " ++ decimal (reason_number reason) ++ option_map_or (λ n. codes " " ++ decimal n) (reason_value reason) []
 
 -- the last line of the report, after so many steps and whole lines
 abbrev pub tail_line : Status → ℕ → ℕ → List ℕ
@@ -33,10 +30,9 @@ tail_line status.Usage steps lines = codes "usage: congruity replay | check | ge
 tail_line (status.Syntax line reason) steps lines = codes "syntax " ++ decimal line ++ codes " " ++ decimal reason
 tail_line (status.Refused line reason) steps lines = codes "refused " ++ decimal line ++ refused_text reason
 tail_line status.ReadFault steps lines = codes "read fault " ++ decimal lines
-tail_line status.WriteFault steps lines = []
 tail_line (status.Limit line what) steps lines = codes "limit " ++ decimal line ++ codes " " ++ limit_text what
-tail_line status.NoMemory steps lines = []
 tail_line (status.NoEnd all) steps lines = codes "no end " ++ decimal all
+tail_line other steps lines = []
 
 abbrev pub tail_text : Status → ℕ → ℕ → List ℕ
 tail_text status steps lines = tail_line status steps lines ++ 10 ∷ []

@@ -1,21 +1,23 @@
 -- A run that takes its input as it needs it: where it stands between two lines, what it has gone through, and what one
 -- take brings.
-use Rattle.std.specs.Prelude.{◌≡◌, ◌<◌, ◌≤◌, ◌+◌, ◌==◌, ℕ, false, List, [], ◌∷◌, ◌++◌, length, take, Option, None, Result, MatchResult}
+use Rattle.std.specs.Prelude.{◌≡◌, ◌<◌, ◌≤◌, ◌+◌, ◌==◌, ℕ, false, List, [], ◌∷◌, ◌++◌, length, take, Option, Some, None, Result, MatchResult}
 use Rattle.std.specs.List.{All}
 use Rattle.std.specs.Io.KnownBytes.{Consumes}
 use Rattle.cg_base.specs.Text.{pieces_of}
 use Rattle.cg_io.specs.Outside.{SourceView, SinkView}
 use Rattle.cg_agree.specs.Run.{Step}
+use Rattle.cg_run.specs.declared.command.Command.{Command}
 use Rattle.cg_run.specs.declared.progress.Ending.{Ending}
-use Rattle.cg_run.specs.declared.progress.Ending.TheVariants.{Open}
+use Rattle.cg_run.specs.declared.progress.Ending.TheVariants.{Failed, Open}
 use Rattle.cg_run.specs.declared.progress.Report.{Report}
 use Rattle.cg_run.specs.declared.progress.Stage.{Stage}
 use Rattle.cg_run.specs.declared.status.Limit.{Limit}
 use Rattle.cg_run.specs.declared.status.Status.{Status}
-use Rattle.cg_run.specs.Produced.{Produced, before_all, prepend, report_in, text_of}
-use Rattle.cg_run.specs.Outcome.{limit_of, whole_line, replayed}
-use Rattle.cg_run.specs.Putting.{Puts}
-use Rattle.cg_run.specs.Taking.{most_taken, most_at_once, HasCause, InTime, OfTaken, FailedIsLast}
+use Rattle.cg_run.specs.declared.status.Status.TheVariants as status
+use Rattle.cg_run.specs.Produced.{Produced, before_all, prepend, report_in, text_of, status_of}
+use Rattle.cg_run.specs.Outcome.{limit_of, whole_line, replayed, text_put}
+use Rattle.cg_run.specs.Putting.{Puts, StopsWith}
+use Rattle.cg_run.specs.Taking.{most_taken, most_at_once, HasCause, InTime}
 use Rattle.cg_run.specs.UnderWay.{IsUnderWay}
 use Rattle.cg_run.specs.Performing.{Stopped}
 
@@ -95,6 +97,10 @@ TakesUp report st bytes from to held result =
     (λ next. GoesThrough report st bytes from to held next × IsHeld next held)
     (λ status. Stopped report (from_stage st bytes Open) from to status)
 
+-- a failed take ends the run, which comes to that and to nothing else
+abbrev pub FailedIsLast : Ending → Produced → Type 0
+FailedIsLast how p = how ≡ Failed → status_of p ≡ Some status.ReadFault
+
 -- what there is between two takes: what the input still gives, what was put, and the bytes of a line that are held
 pub record BetweenTakes : Type 0 where
   pub input : SourceView
@@ -115,6 +121,18 @@ pub record TakesTurn (report : Report) (st : Stage) (before after : BetweenTakes
       (λ next. (0 < length chunk) × (after.input.faults ≡ before.input.faults)
       × GoesThrough report st (before.held ++ chunk) before.output after.output after.held next × IsHeld next after.held)
       (λ status. Stopped report (from_stage st (before.held ++ chunk) ending) before.output after.output status)
+
+-- some bytes were taken, the taking ended in some way, and this holds of them
+pub record OfTaken (old new : SourceView) (Holds : List ℕ → Ending → Type 0) : Type 0 where
+  pub taken : List ℕ
+  pub ending : Ending
+  pub consumed : Consumes old.left new.left taken
+  pub cause : HasCause ending old new
+  pub holds : Holds taken ending
+
+-- the run has ended with this status, and put what the command puts of what it comes to
+abbrev pub Ends : Option Command → Produced → SinkView → SinkView → Status → Type 0
+Ends command p from to status = StopsWith (text_put command p) (status_of p) from to status
 
 -- the input was taken as it was needed, and replayed
 abbrev pub Replays : Report → SourceView → SourceView → SinkView → SinkView → Status → Type 0

@@ -30,10 +30,6 @@ HasCause Ended old new = IsAtEnd new.left × (new.faults ≡ old.faults)
 HasCause Failed old new = new.faults ≡ old.faults + 1
 HasCause Open old new = new.faults ≡ old.faults
 
--- a failed take ends the run, which comes to that and to nothing else
-abbrev pub FailedIsLast : Ending → Produced → Type 0
-FailedIsLast how p = how ≡ Failed → status_of p ≡ Some status.ReadFault
-
 -- a status tells of a failed take where one failed, unless the rest couldn't be put or memory was refused
 abbrev pub ReadCause : SourceView → SourceView → Status → Type 0
 ReadCause old new status.ReadFault = new.faults ≡ old.faults + 1
@@ -41,24 +37,11 @@ ReadCause old new status.WriteFault = Unit {0}
 ReadCause old new status.NoMemory = Unit {0}
 ReadCause old new other = new.faults ≡ old.faults
 
--- some bytes were taken, the taking ended in some way, and this holds of them
-pub record OfTaken (old new : SourceView) (Holds : List ℕ → Ending → Type 0) : Type 0 where
-  pub taken : List ℕ
-  pub ending : Ending
-  pub consumed : Consumes old.left new.left taken
-  pub cause : HasCause ending old new
-  pub holds : Holds taken ending
-
--- some front of what was put since is this text
-pub record Begins (from to : SinkView) (text : List ℕ) : Type 0 where
-  pub rest : List ℕ
-  pub grown : PutsAll from to (text ++ rest)
-
 -- All but the last bytes, as many as are taken at once, had been gone through before the last take: they come to no finding,
--- and what they come to was put.
+-- and what they come to was put, before the rest.
 abbrev pub InTime : (Produced → List ℕ) → (List ℕ → Produced) → List ℕ → SinkView → SinkView → Type 0
 InTime text comes taken from to =
-    (m : ℕ) → m + most_at_once ≤ length taken → ((comes (take m taken)).found ≡ None) × Begins from to (text (comes (take m taken)))
+    (m : ℕ) → m + most_at_once ≤ length taken → ((comes (take m taken)).found ≡ None) × (rest : List ℕ) × PutsAll from to (text (comes (take m taken)) ++ rest)
 
 -- the line of a finding, where it is one of a line
 abbrev pub found_in : Status → Option ℕ
@@ -77,20 +60,17 @@ end_of_line (suc n) (line ∷ lines) = length line + 1 + end_of_line n lines
 abbrev pub IsNear : Status → List ℕ → Type 0
 IsNear status taken = (n : ℕ) → found_in status ≡ Some n → length taken ≤ end_of_line n (pieces_of 10 taken) + most_at_once
 
--- the run has ended with this status, and put what the command puts of what it comes to
-abbrev pub Ends : Option Command → Produced → SinkView → SinkView → Status → Type 0
-Ends command p from to status = StopsWith (text_put command p) (status_of p) from to status
-
--- a command has run on what was taken: no more than the most; what was put and the status are what these bytes come to; and
--- they were taken as they were needed
-pub record HasRun (command : Option Command) (taken : List ℕ) (how : Ending) (from to : SinkView) (status : Status) : Type 0 where
+-- A command has run: these bytes were taken, no more than the most, and the taking ended in some way; what was put and the status
+-- are what these bytes come to; and they were taken as they were needed.
+pub record Runs (command : Option Command) (old new : SourceView) (from to : SinkView) (status : Status) : Type 0 where
+  pub taken : List ℕ
+  pub ending : Ending
+  pub consumed : Consumes old.left new.left taken
+  pub cause : HasCause ending old new
   pub most : length taken ≤ most_taken
-  pub ends : Ends command (outcome_of command taken how) from to status
+  pub ends : StopsWith (text_put command (outcome_of command taken ending)) (status_of (outcome_of command taken ending)) from to status
   pub in_time : InTime (text_put command) (λ front. outcome_of command front Open) taken from to
   pub near : IsNear status taken
-
-abbrev pub Runs : Option Command → SourceView → SourceView → SinkView → SinkView → Status → Type 0
-Runs command old new from to status = OfTaken old new (λ taken how. HasRun command taken how from to status)
 
 -- what holds of the steps of the outcome, whatever was taken and however the taking ended
 abbrev pub OfSteps : List (List ℕ) → (List Step → Type 0) → Type 0

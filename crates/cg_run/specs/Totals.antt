@@ -1,27 +1,23 @@
 -- What the entries of a run have shown, in numbers, and the summary that tells it.
-use Rattle.std.specs.Prelude.{ℕ, ◌+◌, max, List, [], ◌∷◌, ◌++◌, length, fold, codes, decimal, Option, Some, None}
+use Rattle.std.specs.Prelude.{ℕ, ◌+◌, max, List, [], ◌∷◌, ◌++◌, length, fold, codes, decimal}
+use Rattle.std.specs.Option.{option_map_or}
 use Rattle.cg_report.specs.declared.entry.Entry.{Entry}
 use Rattle.cg_report.specs.declared.line.Line.{Line}
-use Rattle.cg_report.specs.declared.line.UpLine.{UpLine}
 use Rattle.cg_run.specs.declared.totals.Totals.{Totals}
 
 abbrev pub no_totals : Totals
-no_totals = record { made = 0; ordered = 0; prim = 0; replies = 0 }
+no_totals = record { made = 0; ordered = 0; prim_index = 0; replies = 0 }
 
--- the index of the primary component that a line shows, 0 where its replica is down
-abbrev pub index_of : Option UpLine → ℕ
-index_of None = 0
-index_of (Some up) = up.view.prim.index
-
+-- the greatest index of a primary component that was shown before, or is by these lines: a replica that is down shows none
 abbrev pub greatest_index : ℕ → List Line → ℕ
-greatest_index before lines = fold (λ n line. max n (index_of line.up)) before lines
+greatest_index before lines = fold (λ n line. max n (option_map_or (λ up. up.view.prim.index) line.up 0)) before lines
 
 -- with what an entry shows
 abbrev pub with_entry : Totals → Entry → Totals
 with_entry t entry = record {
   made = t.made + length entry.made;
   ordered = t.ordered + length entry.orders;
-  prim = greatest_index t.prim entry.lines;
+  prim_index = greatest_index t.prim_index entry.lines;
   replies = t.replies + length entry.replies;
 }
 
@@ -33,4 +29,4 @@ counted word n = word ++ (decimal n ++ 10 ∷ [])
 abbrev pub summary_text : ℕ → Totals → List ℕ
 summary_text steps t =
     counted (codes "steps ") steps ++ (counted (codes "made ") t.made ++ (counted (codes "ordered ") t.ordered
-    ++ (counted (codes "prim ") t.prim ++ counted (codes "replies ") t.replies)))
+    ++ (counted (codes "prim ") t.prim_index ++ counted (codes "replies ") t.replies)))

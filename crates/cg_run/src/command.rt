@@ -1,7 +1,7 @@
-ghost use Rattle.std.specs.Prelude.{◌≡◌, ◌≤◌, IfSome};
+ghost use Rattle.std.specs.Prelude.{◌≡◌, ◌≤◌, ◌∷◌, [], IfSome};
 ghost use Rattle.cg_base.specs.Sets.{IsId};
-ghost use Rattle.cg_run.specs.Calls.{IsCommand};
-ghost use Rattle.cg_run.specs.Commands.{number_in, word_alone, of_schedule, with_numbers, read_numbers, generating, command_of, reads_input};
+ghost use Rattle.cg_run.specs.Calls.{of_schedule, IsCommand};
+ghost use Rattle.cg_run.specs.Commands.{number_in, with_numbers, read_numbers, command_of};
 
 use crate::arg_text::ArgText;
 use crate::limits::LINES;
@@ -28,7 +28,7 @@ fn number_in(low: u64, high: u64, word: &ArgText) -> Option<u64>
 }
 
 fn word_alone(word: &ArgText) -> Option<Command>
-    ensures value { result ≡ word_alone word.now }
+    ensures value { result ≡ command_of (word.now ∷ []) }
     ensures fits { IfSome result IsCommand }
 {
     if word.as_slice() == b"replay".as_slice() {
@@ -77,7 +77,7 @@ fn with_numbers(
     lines: Option<u64>,
 ) -> Option<Command>
     requires range { IfSome replicas IsId }
-    ensures value { result ≡ with_numbers is_trial seed replicas lines }
+    ensures value { result ≡ with_numbers (of_schedule is_trial) seed replicas lines }
     ensures fits { IfSome result IsCommand }
 {
     match (seed, replicas, lines) {
@@ -94,7 +94,7 @@ fn read_numbers(
     replicas: &ArgText,
     lines: &ArgText,
 ) -> Option<Command>
-    ensures value { result ≡ read_numbers is_trial seed.now replicas.now lines.now }
+    ensures value { result ≡ read_numbers (of_schedule is_trial) seed.now replicas.now lines.now }
     ensures fits { IfSome result IsCommand }
 {
     let seed = number_in(0, u64::MAX, seed);
@@ -109,7 +109,7 @@ fn generating(
     replicas: &ArgText,
     lines: &ArgText,
 ) -> Option<Command>
-    ensures value { result ≡ generating word.now seed.now replicas.now lines.now }
+    ensures value { result ≡ command_of (word.now ∷ seed.now ∷ replicas.now ∷ lines.now ∷ []) }
     ensures fits { IfSome result IsCommand }
 {
     if word.as_slice() == b"generate".as_slice() {

@@ -1,5 +1,7 @@
-ghost use Rattle.std.specs.Prelude.{◌≡◌, ◌<◌, ◌^◌, ◌+◌, ◌≤◌, ℕ, true, length, IfOk, Ok, None};
+ghost use Rattle.std.specs.Prelude.{◌≡◌, ◌<◌, ◌^◌, ◌+◌, ◌≤◌, ℕ, true, length, Option, IfOk, Result, Ok, Err, None};
 ghost use Rattle.cg_schedule.specs.declared.event.Event.{Event};
+ghost use Rattle.cg_schedule.specs.declared.fault.LineFault.{LineFault};
+ghost use Rattle.cg_schedule.specs.Fault.{Gives};
 ghost use Rattle.cg_schedule.specs.Line.{event_reading};
 ghost use Rattle.cg_schedule.specs.Reading.{whole};
 ghost use Rattle.cg_run.specs.declared.progress.Ending.TheVariants.{Ended};
@@ -7,7 +9,8 @@ ghost use Rattle.cg_run.specs.declared.progress.Report.{Report};
 ghost use Rattle.cg_run.specs.declared.status.Status.TheVariants as status;
 ghost use Rattle.cg_run.specs.Produced.{ended_with};
 ghost use Rattle.cg_run.specs.Rounds.{happened};
-ghost use Rattle.cg_run.specs.Outcome.{unreadable, word_outcome, line_outcome, without_return, limit_of, whole_line, at_end, cut_line, last_piece};
+ghost use Rattle.cg_run.specs.Calls.{word_outcome};
+ghost use Rattle.cg_run.specs.Outcome.{read_outcome, line_outcome, without_return, limit_of, whole_line, at_end, cut_line, last_piece};
 ghost use Rattle.cg_run.specs.Streaming.{held_limit};
 ghost use Rattle.cg_run.specs.UnderWay.{HasBegun, IsUnderWay, MayHappen, IsNext};
 ghost use Rattle.cg_run.specs.Performing.{Stopped, Performs};
@@ -22,7 +25,7 @@ use cg_schedule::{Event, LineFault, Word, lines_are_exact};
 use cg_text::Words;
 use std::alloc::Global;
 
-// A line can't be read.
+// A line can't be read, or memory was refused while it was.
 fn refuse_line<K: Sink>(
     alloc: Global,
     output: &mut K,
@@ -31,8 +34,8 @@ fn refuse_line<K: Sink>(
     count: u64,
 ) -> Status
     requires { (K.view output.old).faults < 2 ^ 62 }
-    ensures { (s : Progress) → s.count ≡ count → (report : Report) → Stopped report (unreadable line fault s)
-        (K.view output.old) (K.view output.new) result }
+    ensures { (s : Progress) → s.count ≡ count → (read : Result (Option Event) LineFault) → Gives read (Err fault) → (report : Report)
+        → Stopped report (read_outcome line read s) (K.view output.old) (K.view output.new) result }
 {
     match fault {
         LineFault::Syntax(reason) => {
@@ -66,7 +69,7 @@ fn carry_out<K: Sink>(
 }
 
 // A line that begins with the word, before these tokens.
-#[tactic(auto, unfolding(crate::specs::Outcome::word_outcome))]
+#[tactic(auto, unfolding(crate::specs::Calls::word_outcome))]
 fn finish_line<K: Sink>(
     alloc: Global,
     output: &mut K,
@@ -85,18 +88,10 @@ fn finish_line<K: Sink>(
     let mut progress = progress;
     match progress.reader.finish_line(alloc, word, words) {
         Ok(event) => carry_out(alloc, output, report, line, event, progress),
-        Err(LineFault::Syntax(reason)) => {
+        Err(fault) => {
             let count = progress.count;
             drop(progress);
-            let status = Status::Syntax {
-                line,
-                reason: reason.number(),
-            };
-            Err(finish(alloc, output, status, count, line))
-        }
-        Err(LineFault::NoMemory) => {
-            drop(progress);
-            Err(Status::NoMemory)
+            Err(refuse_line(alloc, output, line, fault, count))
         }
     }
 }

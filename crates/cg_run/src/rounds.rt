@@ -53,10 +53,7 @@ fn deliver_to_each<K: Sink>(
 {
     let mut progress = progress;
     for to in set.iter() {
-        match deliver_ready(alloc, output, report, line, to, progress) {
-            Ok(next) => progress = next,
-            Err(status) => return Err(status),
-        }
+        progress = deliver_ready(alloc, output, report, line, to, progress)?;
     }
     Ok(progress)
 }
@@ -94,10 +91,8 @@ fn make_pass<K: Sink>(
     ensures begun { IfOk result (λ s. HasBegun s) }
 {
     let up = progress.world.up_replicas();
-    match gather(alloc, output, report, line, progress) {
-        Ok(next) => deliver_to_each(alloc, output, report, line, &up, next),
-        Err(status) => Err(status),
-    }
+    let next = gather(alloc, output, report, line, progress)?;
+    deliver_to_each(alloc, output, report, line, &up, next)
 }
 
 // So many passes.
@@ -117,10 +112,7 @@ fn make_passes<K: Sink>(
 {
     let mut progress = progress;
     for made in 0..count {
-        match make_pass(alloc, output, report, line, progress) {
-            Ok(next) => progress = next,
-            Err(status) => return Err(status),
-        }
+        progress = make_pass(alloc, output, report, line, progress)?;
     }
     Ok(progress)
 }

@@ -12,8 +12,8 @@ use crate::putting::{finish, put_step};
 use crate::status::{Limit, Status};
 use cg_io::Sink;
 use cg_report::Entry;
-use cg_schedule::{Event, Reader};
-use cg_world::{Stepped, World};
+use cg_schedule::Event;
+use cg_world::Stepped;
 use std::alloc::Global;
 
 // The step of an event that was admitted, which has led to this world: the rest is as it was before it.

@@ -1,4 +1,4 @@
-ghost use Rattle.std.specs.Prelude.{◌≡◌, ◌<◌, ◌≤◌, ◌^◌, ◌++◌, length, MatchResult, None};
+ghost use Rattle.std.specs.Prelude.{◌≡◌, ◌<◌, ◌≤◌, ◌^◌, ◌++◌, MatchResult, None};
 ghost use Rattle.cg_run.specs.declared.progress.Report.{Report};
 ghost use Rattle.cg_run.specs.Outcome.{whole_line};
 ghost use Rattle.cg_run.specs.declared.progress.Ending.TheVariants.{Ended, Failed};
@@ -99,10 +99,7 @@ fn take_up<K: Sink>(
     let mut stage = stage;
     let mut rest = chunk;
     while let Some((piece, behind)) = cut_at(rest, b'\n') {
-        match end_line(alloc, output, report, held, piece, stage) {
-            Ok(next) => stage = next,
-            Err(status) => return Err(status),
-        }
+        stage = end_line(alloc, output, report, held, piece, stage)?;
         rest = behind;
     }
     hold_rest(alloc, output, report, held, rest, stage)

@@ -1,5 +1,6 @@
-ghost use Rattle.std.specs.Prelude.{◌≡◌, ◌++◌, OnOk, decimal};
-ghost use Rattle.cg_run.specs.Status.{limit_text, value_text, refused_text, tail_line, tail_text};
+ghost use Rattle.std.specs.Prelude.{◌≡◌, ◌++◌, [], OnOk, codes, decimal};
+ghost use Rattle.std.specs.Option.{option_map_or};
+ghost use Rattle.cg_run.specs.Status.{limit_text, refused_text, tail_line, tail_text};
 
 use crate::status::{Limit, Status};
 use cg_base::{NoMemory, put, put_number};
@@ -17,22 +18,18 @@ fn put_limit(out: &mut Vec<u8>, what: Limit) -> Result<(), NoMemory>
 }
 
 fn put_value(out: &mut Vec<u8>, value: Option<u64>) -> Result<(), NoMemory>
-    ensures { OnOk result (out.new.items ≡ out.old.items ++ value_text value) }
+    ensures { OnOk result (out.new.items ≡ out.old.items ++ option_map_or (λ n. codes " " ++ decimal n) value []) }
 {
     match value {
         None => Ok(()),
-        Some(number) => {
-            put(out, b" ")?;
-            put_number(out, number)
-        }
+        Some(number) => put_numbered(out, b" ", number),
     }
 }
 
 fn put_reason(out: &mut Vec<u8>, reason: &Reason) -> Result<(), NoMemory>
     ensures { OnOk result (out.new.items ≡ out.old.items ++ refused_text reason.now) }
 {
-    put(out, b" ")?;
-    put_number(out, u64::from(reason.number()))?;
+    put_numbered(out, b" ", u64::from(reason.number()))?;
     put_value(out, reason.value())
 }
 

@@ -1,5 +1,6 @@
-ghost use Rattle.std.specs.Prelude.{◌≡◌, ◌+◌, ◌++◌, IfOk, IfSome, OnOk, decimal};
-ghost use Rattle.cg_run.specs.Totals.{no_totals, index_of, greatest_index, with_entry, counted, summary_text};
+ghost use Rattle.std.specs.Prelude.{◌≡◌, ◌+◌, ◌++◌, IfOk, OnOk};
+ghost use Rattle.std.specs.Option.{option_map_or};
+ghost use Rattle.cg_run.specs.Totals.{no_totals, greatest_index, with_entry, counted, summary_text};
 
 use cg_base::{NoMemory, put, put_number};
 use cg_report::{Entry, Line};
@@ -10,7 +11,7 @@ use cg_report::{Entry, Line};
 pub struct Totals {
     pub made: u64,
     pub ordered: u64,
-    pub prim: u64,
+    pub prim_index: u64,
     pub replies: u64,
 }
 
@@ -21,7 +22,7 @@ fn add(n: u64, more: usize) -> Result<u64, NoMemory>
 }
 
 fn index_of(line: &Line) -> u64
-    ensures { result ≡ index_of line.now.up }
+    ensures { result ≡ option_map_or (λ up. up.view.prim.index) line.now.up 0 }
 {
     match &line.up {
         Some(up) => up.view.prim.index,
@@ -47,7 +48,7 @@ impl Totals {
         Totals {
             made: 0,
             ordered: 0,
-            prim: 0,
+            prim_index: 0,
             replies: 0,
         }
     }
@@ -58,12 +59,12 @@ impl Totals {
     {
         let made = add(self.made, entry.made.len())?;
         let ordered = add(self.ordered, entry.orders.len())?;
-        let prim = greatest_index(self.prim, entry.lines.as_slice());
+        let prim_index = greatest_index(self.prim_index, entry.lines.as_slice());
         let replies = add(self.replies, entry.replies.len())?;
         Ok(Totals {
             made,
             ordered,
-            prim,
+            prim_index,
             replies,
         })
     }
@@ -84,6 +85,6 @@ pub fn put_summary(out: &mut Vec<u8>, steps: u64, totals: &Totals) -> Result<(),
     put_counted(out, b"steps ", steps)?;
     put_counted(out, b"made ", totals.made)?;
     put_counted(out, b"ordered ", totals.ordered)?;
-    put_counted(out, b"prim ", totals.prim)?;
+    put_counted(out, b"prim ", totals.prim_index)?;
     put_counted(out, b"replies ", totals.replies)
 }

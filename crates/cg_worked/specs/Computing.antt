@@ -57,7 +57,7 @@ use Rattle.cg_step.specs.Step.{on_message, on_transitional, on_regular, take, re
 use Rattle.cg_agree.specs.Admission.{first_refusal}
 use Rattle.cg_agree.specs.Show.{ended}
 use Rattle.cg_agree.specs.Step.{hand, happens, world_step}
-use Rattle.cg_run.specs.Outcome.{word_outcome, line_outcome}
+use Rattle.cg_run.specs.Outcome.{line_outcome}
 use Rattle.cg_run.specs.Rounds.{happened}
 
 unfoldable pub std_computes : ⊤
@@ -149,7 +149,7 @@ unfolding first_refusal ended hand happens world_step
 agree_computes = tt
 
 unfoldable pub run_computes : ⊤
-unfolding word_outcome line_outcome happened
+unfolding line_outcome happened
 run_computes = tt
 
 unfoldable pub cases_compute : ⊤

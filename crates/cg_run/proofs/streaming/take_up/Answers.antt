@@ -1,5 +1,6 @@
 use Rattle.std.proofs.Common.{◌≡◌, ◌++◌, ◌==◌, [], ◌∷◌, length, false, sym, ap, subst, arith, length-append}
 use Rattle.std.proofs.lemmas.List.Elements.{All-nil}
+use Rattle.std.proofs.lemmas.Result.{err_from_is_err_and}
 use Rattle.cg_run.specs.Streaming.{IsUnended}
 use Rattle.cg_run.proofs.Feeds.{line_before, first_unended}
 use Rattle.cg_run.proofs.Stages.{GoesThrough-begin, GoesThrough-line, GoesThrough-stop, line-stop, take_up-ends}
@@ -15,15 +16,18 @@ end_line-requires-clause-few_faults g c = omega (arith, c.loop-piece.invariant.0
 pub end_line-requires-clause-stands : goal.end_line-requires-clause-stands
 end_line-requires-clause-stands g c = c.loop-piece.invariant.0.stands
 
-pub returns-in-Err : goal.returns-in-Err
-returns-in-Err g c =
+pub returns-in_err-stage : goal.returns-in_err-stage
+returns-in_err-stage g c =
+    let exit = err_from_is_err_and c.from_residual.result c.from_residual.ensures.1 in
+    let status = c.in_err-stage.field-0.0 in
     let v = g.K.Sink.view c.args.output.now in
     let v1 = g.K.Sink.view c.loop-piece.output in
     let v2 = g.K.Sink.view c.end_line.new.output in
     let held = c.loop-piece.held.items in
     let rest = c.loop-piece.rest.now in
-    GoesThrough-stop c.args.report c.args.stage c.loop-piece.stage (c.args.held.now.items ++ c.args.chunk.now) (held ++ rest) Open v v1 v2 c.in-Err.status c.loop-piece.invariant.0
-    (line-stop c.args.report c.loop-piece.stage held rest c.in-Some.piece.now c.in-Some.behind.now v1 v2 c.in-Err.status c.loop-piece.invariant.1 c.in-Some.ensures c.in-Err.ensures)
+    rw (exit.1, exit.2)
+    (GoesThrough-stop c.args.report c.args.stage c.loop-piece.stage (c.args.held.now.items ++ c.args.chunk.now) (held ++ rest) Open v v1 v2 status c.loop-piece.invariant.0
+    (line-stop c.args.report c.loop-piece.stage held rest c.in-Some.piece.now c.in-Some.behind.now v1 v2 status c.loop-piece.invariant.1 c.in-Some.ensures c.in_err-stage.ensures))
 
 pub loop-piece-smaller : goal.loop-piece-smaller
 loop-piece-smaller g c =
@@ -36,10 +40,10 @@ pub loop-piece-preserved : goal.loop-piece-preserved
 loop-piece-preserved g c =
     let held = c.loop-piece.held.items in
     let rest = c.loop-piece.rest.now in (
-      GoesThrough-line c.args.report c.args.stage c.loop-piece.stage c.in-Ok.next (c.args.held.now.items ++ c.args.chunk.now) held rest c.in-Some.piece.now c.in-Some.behind.now c.end_line.new.held.items
+      GoesThrough-line c.args.report c.args.stage c.loop-piece.stage c.in_ok-stage.stage (c.args.held.now.items ++ c.args.chunk.now) held rest c.in-Some.piece.now c.in-Some.behind.now c.end_line.new.held.items
           (g.K.Sink.view c.args.output.now) (g.K.Sink.view c.loop-piece.output) (g.K.Sink.view c.end_line.new.output)
-          c.loop-piece.invariant.0 c.loop-piece.invariant.1 c.in-Some.ensures c.in-Ok.ensures,
-      subst IsUnended (sym c.in-Ok.ensures.empty) (All-nil (λ b. (b == 10) ≡ false)),
+          c.loop-piece.invariant.0 c.loop-piece.invariant.1 c.in-Some.ensures c.in_ok-stage.ensures,
+      subst IsUnended (sym c.in_ok-stage.ensures.empty) (All-nil (λ b. (b == 10) ≡ false)),
     )
 
 pub hold_rest-requires-clause-few_faults : goal.hold_rest-requires-clause-few_faults
