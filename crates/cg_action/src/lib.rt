@@ -1,6 +1,6 @@
 //! Actions: what a client asks of the database, or that a server joins or leaves.
 //!
-//! An action has one spelling in bytes, and what it does has one printed form. `specs/Limits.antt` says which
+//! An action has one spelling in bytes, and what it does has one printed form. `specs/ActionLimits.antt` says which
 //! actions there are: each of these is read again as it was written, and nothing else is read. Where bytes have no
 //! reading, the fault is the first from the left. What actions make of a database is left to the layers above.
 #![tactic(auto)]

@@ -8,7 +8,7 @@ use std::alloc::{AllocError, AllocFailed};
 use thiserror::Error;
 
 /// Why a value can't be read from bytes: the first fault from the left.
-/// Places count from 0, over all the bytes that the reader was made of.
+/// Offsets count from 0, over all the bytes that the reader was made of.
 #[derive(Clone, Copy, Debug, PartialEq, Eq, Error)]
 pub enum CodecFault {
     /// The bytes end in the field whose first byte is at this offset.
