@@ -1,26 +1,29 @@
--- What holds of all that a filter keeps.
-use Rattle.std.proofs.Common.{◌≡◌, Bool, true, false, not, cond, ◌&&◌, ◌||◌, List, [], ◌∷◌, refl, ap, ◌∙◌}
-use Rattle.std.specs.List.{filter, list_all}
+-- Filters, one after the other.
+use Rattle.std.proofs.Common.{◌≡◌, Bool, true, false, cond, ◌&&◌, List, [], ◌∷◌, refl, sym, ap, ◌∙◌}
+use Rattle.std.proofs.Math.Bool.{and_comm}
+use Rattle.std.specs.List.{filter, fold, list_all}
 
-same_all : {X : Type 0} (p q : X → Bool) → ((x : X) → p x ≡ q x) → (xs : List X) → list_all p xs ≡ list_all q xs
-same_all p q same [] = refl
-same_all p q same (x ∷ xs) = rw (same x, same_all p q same xs) refl
-
-pub list_all-filter : {X : Type 0} (p q : X → Bool) (xs : List X) → list_all p (filter q xs) ≡ list_all (λ x. not (q x) || p x) xs
-list_all-filter p q [] = refl
-list_all-filter p q (x ∷ xs) =
-    elim (q x) as (λ b. list_all p (cond b (x ∷ filter q xs) (filter q xs)) ≡ ((not b || p x) && list_all (λ y. not (q y) || p y) xs)) [
-      | true ↦ ap (λ b. p x && b) (list_all-filter p q xs)
-      | false ↦ list_all-filter p q xs
+filter-filter : {X : Type 0} (p q : X → Bool) (xs : List X) → filter q (filter p xs) ≡ filter (λ x. p x && q x) xs
+filter-filter p q [] = refl
+filter-filter p q (x ∷ xs) =
+    elim (p x) as (λ b. filter q (cond b (x ∷ filter p xs) (filter p xs)) ≡ cond (b && q x) (x ∷ filter (λ y. p y && q y) xs) (filter (λ y. p y && q y) xs)) [
+      | true ↦ ap (λ ys. cond (q x) (x ∷ ys) ys) (filter-filter p q xs)
+      | false ↦ filter-filter p q xs
     ]
 
-either : (a b c : Bool) → (not a || (not b || c)) ≡ ((not a || not b) || c)
-either true b c = refl
-either false b c = refl
+filter-all : {X : Type 0} (xs : List X) → filter (λ x. true) xs ≡ xs
+filter-all [] = refl
+filter-all (x ∷ xs) = ap (λ ys. x ∷ ys) (filter-all xs)
 
--- two filters, one after the other
-pub list_all-filters : {X : Type 0} (p q r : X → Bool) (xs : List X) → list_all p (filter q (filter r xs)) ≡ list_all (λ x. (not (r x) || not (q x)) || p x) xs
-list_all-filters p q r xs =
-    list_all-filter p q (filter r xs)
-    ∙ list_all-filter (λ x. not (q x) || p x) r xs
-    ∙ same_all (λ x. not (r x) || (not (q x) || p x)) (λ x. (not (r x) || not (q x)) || p x) (λ x. either (r x) (q x) (p x)) xs
+-- what one test after another keeps is what all of them keep
+fold-filter : {S X : Type 0} (p : S → X → Bool) (tests : List S) (xs : List X) → fold (λ ys s. filter (p s) ys) xs tests ≡ filter (λ x. list_all (λ s. p s x) tests) xs
+fold-filter p [] xs = sym (filter-all xs)
+fold-filter p (s ∷ tests) xs = fold-filter p tests (filter (p s) xs) ∙ filter-filter (p s) (λ x. list_all (λ t. p t x) tests) xs
+
+-- the same, where a test of another kind goes first
+pub fold-filter-behind : {S X : Type 0} (p : S → X → Bool) (q : X → Bool) (tests : List S) (xs : List X)
+    → fold (λ ys s. filter (p s) ys) (filter q xs) tests ≡ filter (λ x. list_all (λ s. p s x) tests && q x) xs
+fold-filter-behind p q tests xs =
+    fold-filter p tests (filter q xs)
+    ∙ filter-filter q (λ x. list_all (λ s. p s x) tests) xs
+    ∙ ap (λ r. filter r xs) (λ i x. and_comm (q x) (list_all (λ s. p s x) tests) i)

@@ -1,17 +1,11 @@
 -- What single calls answer.
-use Rattle.std.specs.Prelude.{ℕ, Bool, not, ◌||◌, List}
-use Rattle.cg_base.specs.declared.action_id.ActionId.{ActionId}
-use Rattle.cg_base.specs.Ids.{names}
+use Rattle.std.specs.Prelude.{List}
 use Rattle.cg_knowledge.specs.declared.summary.Summary.{Summary}
 use Rattle.cg_knowledge.specs.declared.verdict.Verdict.{Verdict}
 use Rattle.cg_knowledge.specs.Members.{gone}
-use Rattle.cg_knowledge.specs.Primary.{knows_prim, known_primary, known_attempt}
+use Rattle.cg_knowledge.specs.Primary.{known_primary, known_attempt}
 use Rattle.cg_knowledge.specs.Yellow.{common_yellow}
 use Rattle.cg_knowledge.specs.Verdict.{records_of, decides}
-
--- the member's list doesn't count, or it has the action
-abbrev pub lets_stand : ℕ → ActionId → Summary → Bool
-lets_stand index id s = (not (knows_prim index s) || not s.yellow.valid) || names s.yellow.list id
 
 -- all that follows from the summaries
 unfoldable pub verdict_of : List Summary → Verdict

@@ -9,6 +9,7 @@
 mod knowledge;
 mod laws;
 mod members;
+mod names;
 mod primary;
 mod summary;
 mod verdict;

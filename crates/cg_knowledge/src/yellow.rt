@@ -1,14 +1,12 @@
-ghost use Rattle.std.specs.Prelude.{◌≡◌, false, nat_le, IfOk, filter};
-ghost use Rattle.std.specs.List.{list_all};
+ghost use Rattle.std.specs.Prelude.{◌≡◌, false, not, nat_le, IfOk, filter};
 ghost use Rattle.std.specs.Option.{option_copied, option_map_or};
-ghost use Rattle.cg_base.specs.Ids.{names as names_id};
 ghost use Rattle.cg_base.specs.Cuts.{index_in};
 ghost use Rattle.cg_knowledge.specs.Members.{lowest};
-ghost use Rattle.cg_knowledge.specs.Yellow.{yellow_group, is_common as common, common_yellow as common_yellow_of};
-ghost use Rattle.cg_knowledge.specs.Calls.{lets_stand as stands};
+ghost use Rattle.cg_knowledge.specs.Yellow.{yellow_group, is_green_at_most, is_common as common, common_yellow as common_yellow_of};
 
 use crate::Summary;
 use crate::members::{lower, most_updated};
+use crate::names::keep_shared;
 use crate::primary::newest_index;
 use cg_base::{ActionId, IdList, NoMemory};
 use cg_records::Yellow;
@@ -29,26 +27,6 @@ fn lowest_of_group(summaries: &[Summary]) -> Option<&Summary>
     low
 }
 
-fn names(list: &IdList, id: &ActionId) -> bool
-    ensures { result ≡ names_id list.now id.now }
-{
-    list.as_slice().iter().any(|known| id.creator.get() == known.creator.get()
-        && id.index == known.index)
-}
-
-// the member's list doesn't count, or has the action
-fn lets_stand(s: &Summary, newest: u64, id: &ActionId) -> bool
-    ensures { result ≡ stands newest id.now s.now }
-{
-    s.prim.index != newest || !s.yellow.valid || names(&s.yellow.list, id)
-}
-
-fn all_let_stand(summaries: &[Summary], newest: u64, id: &ActionId) -> bool
-    ensures { result ≡ list_all (stands newest id.now) summaries.now }
-{
-    summaries.iter().all(|s| lets_stand(s, newest, id))
-}
-
 fn is_green_at(best: Option<&Summary>, id: &ActionId) -> bool
     ensures { result ≡ option_map_or (λ s. nat_le id.now.index (index_in s.green_cut id.now.creator)) (option_copied best.entry) false }
 {
@@ -58,18 +36,35 @@ fn is_green_at(best: Option<&Summary>, id: &ActionId) -> bool
     }
 }
 
+// the names that aren't green at the most updated member
+fn without_greens(
+    alloc: Global,
+    summaries: &[Summary],
+    list: &[ActionId],
+) -> Result<Vec<ActionId>, NoMemory>
+    ensures { IfOk result (λ names. names.items ≡ filter (λ id. not (is_green_at_most summaries.now id)) list.now) }
+{
+    let best = most_updated(summaries);
+    let names = list
+        .iter()
+        .copied()
+        .filter(|id| !is_green_at(best, id))
+        .collect(alloc)?;
+    Ok(names)
+}
+
 fn common_names(alloc: Global, summaries: &[Summary], list: &[ActionId]) -> Result<IdList, NoMemory>
     ensures { IfOk result (λ ids. ids ≡ filter (common summaries.now) list.now) }
 {
     let newest = newest_index(summaries);
-    let best = most_updated(summaries);
-    let mut ids = IdList::new(alloc);
-    for id in list {
-        if all_let_stand(summaries, newest, id) && !is_green_at(best, id) {
-            ids.push(*id)?;
+    // the greens go first, so that there is less to look for
+    let mut names = without_greens(alloc, summaries, list)?;
+    for s in summaries {
+        if s.prim.index == newest && s.yellow.valid {
+            keep_shared(alloc, &mut names, s.yellow.list.as_slice())?;
         }
     }
-    Ok(ids)
+    Ok(IdList::from_vec(names))
 }
 
 /// The yellow actions that the members have in common.
