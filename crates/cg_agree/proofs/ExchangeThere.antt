@@ -14,7 +14,8 @@ use Rattle.cg_knowledge.specs.Members.{senders, gone, remaining, leads, leader, 
 use Rattle.cg_plan.specs.declared.parts.Item.{Item}
 use Rattle.cg_plan.specs.declared.parts.Item.TheVariants.{Green, Red}
 use Rattle.cg_plan.specs.declared.parts.Sent.{Sent as PlanSent}
-use Rattle.cg_plan.specs.Items.{same_item, items_of_plan}
+use Rattle.cg_plan.specs.Items.{items_of_plan}
+use Rattle.cg_plan.specs.contracts.parts.ItemPartialEq.TheImpl.{ghosts as same_item}
 use Rattle.cg_plan.specs.Plan.{least_greens, plan_of}
 use Rattle.cg_plan.specs.Progress.{next_item, is_wanted}
 use Rattle.cg_plan.specs.PlanLaws.{same_item-is}
@@ -119,7 +120,7 @@ next-due heard n from item wanted = at (slice_get (items_of_plan (plan_of heard)
   at : (o : Option PlanSent) → slice_get (items_of_plan (plan_of heard)) n ≡ o → is_wanted o from item ≡ true → IsNextItem heard n from item
   at None e w = absurd (let clash : false ≡ true = w in cc)
   at (Some x) e w =
-      let parts = and_parts (x.sender == from) (same_item x.item item) w in
+      let parts = and_parts (x.sender == from) (same_item.eq x.item item) w in
       record { sent = x; here = e; kind = same_item-is x.item item parts.1; sender = eqb-true x.sender from parts.0 }
 
 -- ---- the member

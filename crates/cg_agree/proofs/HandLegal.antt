@@ -16,7 +16,8 @@ use Rattle.cg_plan.specs.declared.parts.Item.{Item}
 use Rattle.cg_plan.specs.declared.parts.Item.TheVariants.{Green, Red}
 use Rattle.cg_plan.specs.declared.parts.Part.{Part}
 use Rattle.cg_plan.specs.declared.parts.Sent.{Sent as PlanSent}
-use Rattle.cg_plan.specs.Items.{items_of, items_of_plan, same_item, sent_by as plan_sent}
+use Rattle.cg_plan.specs.Items.{items_of, items_of_plan, sent_by as plan_sent}
+use Rattle.cg_plan.specs.contracts.parts.ItemPartialEq.TheImpl.{ghosts as same_item}
 use Rattle.cg_plan.specs.Plan.{plan_of}
 use Rattle.cg_plan.specs.Progress.{is_wanted, next_item, is_done, turn_of}
 use Rattle.cg_plan.specs.PlanLaws.{same_item-itself, same_item-is}
@@ -39,7 +40,7 @@ module _ (set : List ℕ) (conf me : ℕ) where
   unfolding next_item
   due-there z item full here =
       and_from (is_full set z) (is_wanted (next_item (progress z.heard z.accepted)) me item) full
-      (ap (λ o. is_wanted o me item) here ∙ and_from (me == me) (same_item item item) (eq-eqb me me refl) (same_item-itself item))
+      (ap (λ o. is_wanted o me item) here ∙ and_from (me == me) (same_item.eq item item) (eq-eqb me me refl) (same_item-itself item))
 
   legal-green : (at : ℕ) (o : Option Action) (z : Talk) (rest : List Msg) → is_some (option_map (GreenItem at) o) ≡ true → is_due set z me (Green at) ≡ true →
       is_legal set conf (record z { accepted = suc z.accepted }) (map (sent_by me) rest) ≡ true →

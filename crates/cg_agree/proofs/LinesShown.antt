@@ -12,7 +12,7 @@ use Rattle.cg_queue.specs.Queue.{green_count}
 use Rattle.cg_report.specs.declared.line.Line.{Line}
 use Rattle.cg_report.specs.declared.line.UpLine.{UpLine}
 use Rattle.cg_report.specs.declared.line.View.{View}
-use Rattle.cg_report.specs.Same.{same_line}
+use Rattle.cg_report.specs.contracts.line.LinePartialEq.TheImpl.{ghosts as line}
 use Rattle.cg_client.specs.Replica.{Replica}
 use Rattle.cg_client.specs.Queries.{view_of}
 use Rattle.cg_schedule.specs.declared.event.Event.{Event}
@@ -76,8 +76,8 @@ step-printed w s moved p =
 -- ---- seats with their lines
 
 news-from : (lines : List Line) (l : Line) → is_news lines l ≡ false → line_in lines l.id ≡ Some l
-news-from lines l old = at (line_in lines l.id) refl (not-false (option_map_or (same_line l) (line_in lines l.id) false) old) where
-  at : (o : Option Line) → line_in lines l.id ≡ o → option_map_or (same_line l) o false ≡ true → line_in lines l.id ≡ Some l
+news-from lines l old = at (line_in lines l.id) refl (not-false (option_map_or (line.eq l) (line_in lines l.id) false) old) where
+  at : (o : Option Line) → line_in lines l.id ≡ o → option_map_or (line.eq l) o false ≡ true → line_in lines l.id ≡ Some l
   at None e same = absurd (let clash : false ≡ true = same in cc)
   at (Some x) e same = e ∙ ap Some (sym (one-line l x same))
 

@@ -8,7 +8,7 @@ use Rattle.cg_group.specs.EachLaws.{Each, Each-weaker}
 use Rattle.cg_group.specs.State.{GroupState, phase_of}
 use Rattle.cg_wire.specs.declared.message.Msg.{Msg}
 use Rattle.cg_report.specs.declared.line.Line.{Line}
-use Rattle.cg_report.specs.Same.{same_line}
+use Rattle.cg_report.specs.contracts.line.LinePartialEq.TheImpl.{ghosts as same_line}
 use Rattle.cg_client.specs.Replica.{Held}
 use Rattle.cg_schedule.specs.declared.event.Event.{Event}
 use Rattle.cg_agree.specs.World.{Seat, World, no_world, running, seat_of}
@@ -78,7 +78,7 @@ module _ (c : Chronicle) (w : World) (e : Event) (is : IsReached c w) (may : May
       let printed = each-find (λ s. find (λ l. l.id == s.id) w.lines ≡ Some (line_of w.group s)) (λ x. x.id == s.id) w.seats s (reached-printed c w is) before in
       let last : find (λ old. old.id == s.id) (happens w e).world.lines ≡ Some l =
       ap (λ (lines : List Line). find (λ old. old.id == s.id) lines) (happens-lines w e) ∙ printed ∙ ap Some line in
-      ap (λ (o : Option Line). not (option_map_or (same_line l) o false)) last ∙ ap not (self-line l)
+      ap (λ (o : Option Line). not (option_map_or (same_line.eq l) o false)) last ∙ ap not (self-line l)
 
   old-all : Each IsOld (happens w e).world.seats
   old-all =

@@ -9,7 +9,8 @@ use Rattle.cg_base.specs.SetLaws.{has-with_member}
 use Rattle.cg_plan.specs.declared.parts.Item.{Item}
 use Rattle.cg_plan.specs.declared.parts.Item.TheVariants.{Green, Red}
 use Rattle.cg_plan.specs.declared.parts.Sent.{Sent as PlanSent}
-use Rattle.cg_plan.specs.Items.{same_item, items_of_plan}
+use Rattle.cg_plan.specs.Items.{items_of_plan}
+use Rattle.cg_plan.specs.contracts.parts.ItemPartialEq.TheImpl.{ghosts as same_item}
 use Rattle.cg_plan.specs.Plan.{plan_of}
 use Rattle.cg_plan.specs.Progress.{is_wanted, next_item}
 use Rattle.cg_plan.specs.PlanLaws.{same_item-is}
@@ -76,7 +77,7 @@ module _ (set : List ℕ) (conf me : ℕ) where
             (s : PlanSent) × (slice_get (items_of_plan (plan_of t.heard)) t.accepted ≡ Some s) × (s.sender ≡ from) × (s.item ≡ item)
         there None e w = absurd (let none : false ≡ true = w in cc)
         there (Some s) e w =
-            let parts = and_parts (s.sender == from) (same_item s.item item) w in
+            let parts = and_parts (s.sender == from) (same_item.eq s.item item) w in
             (s, e, eqb-true s.sender from parts.0, same_item-is s.item item parts.1)
 
   -- one more item

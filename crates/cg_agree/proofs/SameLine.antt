@@ -1,18 +1,15 @@
 -- Lines that are found to be the same are one; and each line is found to be the same as itself.
-use Rattle.std.proofs.Common.{◌≡◌, ℕ, zero, suc, Bool, true, false, ◌&&◌, List, [], ◌∷◌, Option, Some, None, refl, sym, ap, ◌∙◌, eq-eqb}
-use Rattle.std.specs.Prelude.{◌==◌, nat_eq}
-use Rattle.std.specs.Bool.{beq}
+use Rattle.std.proofs.Common.{◌≡◌, ℕ, zero, suc, Bool, true, false, ◌&&◌, Option, Some, None, refl, sym, ap, ◌∙◌}
+use Rattle.std.specs.Prelude.{nat_eq}
+use Rattle.std.specs.Option.{option_eq}
 use Rattle.std.specs.Cmp.Lexicographic.{pointwise}
-use Rattle.std.proofs.lemmas.Bool.{and_parts, and_from}
-use Rattle.cg_base.specs.declared.action_id.ActionId.{ActionId}
-use Rattle.cg_base.specs.declared.weighted.Weighted.{Weighted}
+use Rattle.std.proofs.lemmas.Bool.{and_parts}
+use denote.Enum.Declared.{tag_of, declared}
 use Rattle.cg_base.specs.Ids.{same_id}
-use Rattle.cg_base.specs.Weights.{same_weighted}
 use Rattle.cg_base.specs.IdLaws.{same_id-is}
-use Rattle.cg_records.specs.declared.primary.Primary.{Primary}
-use Rattle.cg_records.specs.declared.vulnerable.Vulnerable.{Vulnerable}
-use Rattle.cg_records.specs.declared.yellow.Yellow.{Yellow}
-use Rattle.cg_records.specs.Same.{same_prim, same_vulnerable, same_record, same_yellow}
+use Rattle.cg_records.specs.contracts.primary.PrimaryPartialEq.TheImpl.{ghosts as primary}
+use Rattle.cg_records.specs.contracts.vulnerable.VulnerablePartialEq.TheImpl.{ghosts as vulnerable}
+use Rattle.cg_records.specs.contracts.yellow.YellowPartialEq.TheImpl.{ghosts as yellow}
 use Rattle.cg_report.specs.declared.line.StateName.{StateName}
 use Rattle.cg_report.specs.declared.line.StateName.TheVariants.{RegPrim, TransPrim, ExchangeStates, ExchangeActions, Construct, No, Un, NonPrim, Left}
 use Rattle.cg_report.specs.declared.line.ShownPhase.{ShownPhase}
@@ -20,8 +17,17 @@ use Rattle.cg_report.specs.declared.line.ShownPhase.TheVariants.{Alone, Regular,
 use Rattle.cg_report.specs.declared.line.View.{View}
 use Rattle.cg_report.specs.declared.line.UpLine.{UpLine}
 use Rattle.cg_report.specs.declared.line.Line.{Line}
-use Rattle.cg_report.specs.Same.{state_number, same_phase, same_counts, same_lists, same_components, same_view, same_up, same_line}
+use Rattle.cg_report.specs.contracts.line.StateName.{enum}
+use Rattle.cg_report.specs.contracts.line.StateNamePartialEq.TheImpl.{ghosts as state_name}
+use Rattle.cg_report.specs.contracts.line.ShownPhasePartialEq.TheImpl.{ghosts as shown_phase}
+use Rattle.cg_report.specs.contracts.line.ViewPartialEq.TheImpl.{ghosts as view}
+use Rattle.cg_report.specs.contracts.line.UpLinePartialEq.TheImpl.{ghosts as up_line}
+use Rattle.cg_report.specs.contracts.line.LinePartialEq.TheImpl.{ghosts as line}
+use Rattle.cg_report.specs.contracts.line.LineEq.TheImpl.Laws.{laws-law}
 use Rattle.cg_step.specs.ValueLaws.{one-list, one-number, one-prim, one-record, one-yellow}
+
+place : StateName → ℕ
+place a = tag_of (declared enum) a
 
 state_at : ℕ → StateName
 state_at zero = RegPrim
@@ -34,8 +40,8 @@ state_at (suc (suc (suc (suc (suc (suc zero)))))) = Un
 state_at (suc (suc (suc (suc (suc (suc (suc zero))))))) = NonPrim
 state_at (suc (suc (suc (suc (suc (suc (suc (suc n)))))))) = Left
 
-state-back : (a : StateName) → state_at (state_number a) ≡ a
-unfolding state_at
+state-back : (a : StateName) → state_at (place a) ≡ a
+unfolding state_at place
 state-back RegPrim = refl
 state-back TransPrim = refl
 state-back ExchangeStates = refl
@@ -46,10 +52,11 @@ state-back Un = refl
 state-back NonPrim = refl
 state-back Left = refl
 
-one-state : (a b : StateName) → nat_eq (state_number a) (state_number b) ≡ true → a ≡ b
-one-state a b e = sym (state-back a) ∙ ap state_at (one-number (state_number a) (state_number b) e) ∙ state-back b
+one-state : (a b : StateName) → state_name.eq a b ≡ true → a ≡ b
+unfolding place
+one-state a b e = sym (state-back a) ∙ ap state_at (one-number (place a) (place b) e) ∙ state-back b
 
-one-phase : (a b : ShownPhase) → same_phase a b ≡ true → a ≡ b
+one-phase : (a b : ShownPhase) → shown_phase.eq a b ≡ true → a ≡ b
 one-phase Alone Alone e = refl
 one-phase (Regular m) (Regular n) e = ap Regular (one-number m n e)
 one-phase (Transitional m) (Transitional n) e = ap Transitional (one-number m n e)
@@ -60,112 +67,46 @@ one-phase (Regular m) (Transitional n) e = absurd (let clash : false ≡ true = 
 one-phase (Transitional m) Alone e = absurd (let clash : false ≡ true = e in cc)
 one-phase (Transitional m) (Regular n) e = absurd (let clash : false ≡ true = e in cc)
 
-one-view : (a b : View) → same_view a b ≡ true → a ≡ b
-unfolding same_view
+both : (a : Bool) {b : Bool} → (a && b) ≡ true → (a ≡ true) × (b ≡ true)
+both a {b} e = and_parts a b e
+
+one-view : (a b : View) → view.eq a b ≡ true → a ≡ b
 one-view a b e =
-    let first = and_parts (same_counts a b) (same_components a b && same_lists a b) e in
-    let second = and_parts (same_components a b) (same_lists a b) first.1 in
-    let greens = and_parts (nat_eq a.green_count b.green_count) (nat_eq a.white_count b.white_count && (nat_eq a.attempt_index b.attempt_index && nat_eq a.buffered b.buffered)) first.0 in
-    let whites = and_parts (nat_eq a.white_count b.white_count) (nat_eq a.attempt_index b.attempt_index && nat_eq a.buffered b.buffered) greens.1 in
-    let others = and_parts (nat_eq a.attempt_index b.attempt_index) (nat_eq a.buffered b.buffered) whites.1 in
-    let prims = and_parts (same_prim a.prim b.prim) (same_record a.vulnerable b.vulnerable && same_yellow a.yellow b.yellow) second.0 in
-    let marks = and_parts (same_record a.vulnerable b.vulnerable) (same_yellow a.yellow b.yellow) prims.1 in
-    let reds = and_parts (pointwise same_id a.reds b.reds) (pointwise same_id a.own b.own && pointwise nat_eq a.left b.left) second.1 in
-    let owns = and_parts (pointwise same_id a.own b.own) (pointwise nat_eq a.left b.left) reds.1 in
+    let greens = both (nat_eq a.green_count b.green_count) e in
+    let whites = both (nat_eq a.white_count b.white_count) greens.1 in
+    let prims = both (primary.eq a.prim b.prim) whites.1 in
+    let attempts = both (nat_eq a.attempt_index b.attempt_index) prims.1 in
+    let marks = both (option_eq vulnerable.eq a.vulnerable b.vulnerable) attempts.1 in
+    let yellows = both (yellow.eq a.yellow b.yellow) marks.1 in
+    let reds = both (pointwise same_id a.reds b.reds) yellows.1 in
+    let owns = both (pointwise same_id a.own b.own) reds.1 in
+    let rest = both (pointwise nat_eq a.left b.left) owns.1 in
     λ i. record {
       green_count = one-number a.green_count b.green_count greens.0 i;
       white_count = one-number a.white_count b.white_count whites.0 i;
       prim = one-prim a.prim b.prim prims.0 i;
-      attempt_index = one-number a.attempt_index b.attempt_index others.0 i;
+      attempt_index = one-number a.attempt_index b.attempt_index attempts.0 i;
       vulnerable = one-record a.vulnerable b.vulnerable marks.0 i;
-      yellow = one-yellow a.yellow b.yellow marks.1 i;
+      yellow = one-yellow a.yellow b.yellow yellows.0 i;
       reds = one-list same_id same_id-is a.reds b.reds reds.0 i;
       own = one-list same_id same_id-is a.own b.own owns.0 i;
-      left = one-list nat_eq one-number a.left b.left owns.1 i;
-      buffered = one-number a.buffered b.buffered others.1 i;
+      left = one-list nat_eq one-number a.left b.left rest.0 i;
+      buffered = one-number a.buffered b.buffered rest.1 i;
     }
 
-one-up : (a b : Option UpLine) → same_up a b ≡ true → a ≡ b
-unfolding same_up
+one-up : (a b : Option UpLine) → option_eq up_line.eq a b ≡ true → a ≡ b
 one-up None None e = refl
 one-up None (Some b) e = absurd (let clash : false ≡ true = e in cc)
 one-up (Some a) None e = absurd (let clash : false ≡ true = e in cc)
 one-up (Some a) (Some b) e =
-    let first = and_parts (nat_eq (state_number a.state) (state_number b.state)) (same_phase a.phase b.phase && same_view a.view b.view) e in
-    let second = and_parts (same_phase a.phase b.phase) (same_view a.view b.view) first.1 in
+    let first = both (state_name.eq a.state b.state) e in
+    let second = both (shown_phase.eq a.phase b.phase) first.1 in
     ap Some (λ i. record { state = one-state a.state b.state first.0 i; phase = one-phase a.phase b.phase second.0 i; view = one-view a.view b.view second.1 i })
 
-pub one-line : (a b : Line) → same_line a b ≡ true → a ≡ b
-unfolding same_line
+pub one-line : (a b : Line) → line.eq a b ≡ true → a ≡ b
 one-line a b e =
-    let parts = and_parts (nat_eq a.id b.id) (same_up a.up b.up) e in
+    let parts = both (nat_eq a.id b.id) e in
     λ i. record { id = one-number a.id b.id parts.0 i; up = one-up a.up b.up parts.1 i }
 
--- ---- each is the same as itself
-
-self-number : (n : ℕ) → nat_eq n n ≡ true
-self-number n = eq-eqb n n refl
-
-self-list : {A : Type 0} (eq : A → A → Bool) → ((x : A) → eq x x ≡ true) → (xs : List A) → pointwise eq xs xs ≡ true
-self-list eq self [] = refl
-self-list eq self (x ∷ xs) = and_from (eq x x) (pointwise eq xs xs) (self x) (self-list eq self xs)
-
-self-id : (a : ActionId) → same_id a a ≡ true
-self-id a = and_from (a.creator == a.creator) (a.index == a.index) (self-number a.creator) (self-number a.index)
-
-self-weighted : (m : Weighted) → same_weighted m m ≡ true
-self-weighted m = and_from (m.id == m.id) (m.weight == m.weight) (self-number m.id) (self-number m.weight)
-
-self-prim : (a : Primary) → same_prim a a ≡ true
-unfolding same_prim
-self-prim a =
-    and_from (nat_eq a.index a.index) (nat_eq a.conf a.conf && pointwise same_weighted a.set a.set) (self-number a.index)
-    (and_from (nat_eq a.conf a.conf) (pointwise same_weighted a.set a.set) (self-number a.conf) (self-list same_weighted self-weighted a.set))
-
-self-vulnerable : (a : Vulnerable) → same_vulnerable a a ≡ true
-unfolding same_vulnerable
-self-vulnerable a =
-    let sets = and_from (pointwise nat_eq a.set a.set) (pointwise nat_eq a.bits a.bits) (self-list nat_eq self-number a.set) (self-list nat_eq self-number a.bits) in
-    let ends = and_from (nat_eq a.from a.from) (pointwise nat_eq a.set a.set && pointwise nat_eq a.bits a.bits) (self-number a.from) sets in
-    and_from (nat_eq a.attempt a.attempt) (nat_eq a.from a.from && (pointwise nat_eq a.set a.set && pointwise nat_eq a.bits a.bits)) (self-number a.attempt) ends
-
-self-record : (a : Option Vulnerable) → same_record a a ≡ true
-unfolding same_record
-self-record None = refl
-self-record (Some a) = self-vulnerable a
-
-self-bool : (a : Bool) → beq a a ≡ true
-self-bool true = refl
-self-bool false = refl
-
-self-yellow : (a : Yellow) → same_yellow a a ≡ true
-unfolding same_yellow
-self-yellow a = and_from (beq a.valid a.valid) (pointwise same_id a.list a.list) (self-bool a.valid) (self-list same_id self-id a.list)
-
-self-phase : (a : ShownPhase) → same_phase a a ≡ true
-self-phase Alone = refl
-self-phase (Regular n) = self-number n
-self-phase (Transitional n) = self-number n
-
-self-view : (a : View) → same_view a a ≡ true
-unfolding same_view
-self-view a =
-    let others = and_from (nat_eq a.attempt_index a.attempt_index) (nat_eq a.buffered a.buffered) (self-number a.attempt_index) (self-number a.buffered) in
-    let whites = and_from (nat_eq a.white_count a.white_count) (nat_eq a.attempt_index a.attempt_index && nat_eq a.buffered a.buffered) (self-number a.white_count) others in
-    let counts = and_from (nat_eq a.green_count a.green_count) (nat_eq a.white_count a.white_count && (nat_eq a.attempt_index a.attempt_index && nat_eq a.buffered a.buffered)) (self-number a.green_count) whites in
-    let marks = and_from (same_record a.vulnerable a.vulnerable) (same_yellow a.yellow a.yellow) (self-record a.vulnerable) (self-yellow a.yellow) in
-    let components = and_from (same_prim a.prim a.prim) (same_record a.vulnerable a.vulnerable && same_yellow a.yellow a.yellow) (self-prim a.prim) marks in
-    let owns = and_from (pointwise same_id a.own a.own) (pointwise nat_eq a.left a.left) (self-list same_id self-id a.own) (self-list nat_eq self-number a.left) in
-    let lists = and_from (pointwise same_id a.reds a.reds) (pointwise same_id a.own a.own && pointwise nat_eq a.left a.left) (self-list same_id self-id a.reds) owns in
-    and_from (same_counts a a) (same_components a a && same_lists a a) counts (and_from (same_components a a) (same_lists a a) components lists)
-
-self-up : (a : Option UpLine) → same_up a a ≡ true
-unfolding same_up
-self-up None = refl
-self-up (Some a) =
-    and_from (nat_eq (state_number a.state) (state_number a.state)) (same_phase a.phase a.phase && same_view a.view a.view) (self-number (state_number a.state))
-    (and_from (same_phase a.phase a.phase) (same_view a.view a.view) (self-phase a.phase) (self-view a.view))
-
-pub self-line : (a : Line) → same_line a a ≡ true
-unfolding same_line
-self-line a = and_from (nat_eq a.id a.id) (same_up a.up a.up) (self-number a.id) (self-up a.up)
+pub self-line : (a : Line) → line.eq a a ≡ true
+self-line a = laws-law.refl a

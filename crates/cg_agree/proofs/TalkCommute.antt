@@ -12,7 +12,7 @@ use Rattle.cg_knowledge.specs.Verdict.{decides}
 use Rattle.cg_plan.specs.declared.parts.Item.{Item}
 use Rattle.cg_plan.specs.declared.parts.Item.TheVariants.{Green, Red}
 use Rattle.cg_plan.specs.declared.parts.Sent.{Sent as PlanSent}
-use Rattle.cg_plan.specs.Items.{same_item}
+use Rattle.cg_plan.specs.contracts.parts.ItemPartialEq.TheImpl.{ghosts as same_item}
 use Rattle.cg_plan.specs.Progress.{is_wanted, next_item}
 use Rattle.cg_wire.specs.declared.message.Msg.{Msg}
 use Rattle.cg_wire.specs.declared.message.Msg.TheVariants.{Action as ActionMsg, State as StateMsg, GreenItem, RedItem, Cpc}
@@ -98,7 +98,7 @@ or-true false = refl
 pub wanted-one : (o : Option PlanSent) (p q : ℕ) (i j : Item) → is_wanted o p i ≡ true → is_wanted o q j ≡ true → p ≡ q
 wanted-one None p q i j x y = absurd (let no : false ≡ true = x in cc)
 wanted-one (Some s) p q i j x y =
-    sym (eqb-true s.sender p (and_parts (s.sender == p) (same_item s.item i) x).0) ∙ eqb-true s.sender q (and_parts (s.sender == q) (same_item s.item j) y).0
+    sym (eqb-true s.sender p (and_parts (s.sender == p) (same_item.eq s.item i) x).0) ∙ eqb-true s.sender q (and_parts (s.sender == q) (same_item.eq s.item j) y).0
 
 -- ---- when nothing may be said
 

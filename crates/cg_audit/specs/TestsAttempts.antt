@@ -7,7 +7,7 @@ use Rattle.cg_base.specs.Sets.{has, is_within}
 use Rattle.cg_base.specs.Text.{is_nil}
 use Rattle.cg_action.specs.declared.action.Action.{Action}
 use Rattle.cg_queue.specs.Queue.{names_of}
-use Rattle.cg_records.specs.Same.{same_prim}
+use Rattle.cg_records.specs.contracts.primary.PrimaryPartialEq.TheImpl.{ghosts as primary}
 use Rattle.cg_records.specs.declared.vulnerable.Vulnerable.{Vulnerable}
 use Rattle.cg_vote.specs.Quorum.{is_quorum}
 use Rattle.cg_knowledge.specs.declared.summary.Summary.{Summary}
@@ -76,7 +76,7 @@ opens c conf a = implies (is_installed a) (is_some_with (at_place c.levels (suc 
 abbrev pub levels_stand : Chronicle → Bool
 levels_stand c =
     list_all (is_opened c) (count_up 1 (top_of c)) && for_confs c (λ conf. if_some (attempt_of c conf) (opens c conf))
-    && for_cores c (λ h greens. nat_le h.prim.index (top_of c) && same_prim h.prim (prim_at c h.prim.index))
+    && for_cores c (λ h greens. nat_le h.prim.index (top_of c) && primary.eq h.prim (prim_at c h.prim.index))
 
 abbrev pub announced_entered : Chronicle → Bool
 announced_entered c = for_both c (λ conf p. is_nil (filter_map announcer_in (said_in c conf p)) || entered_in c conf p)

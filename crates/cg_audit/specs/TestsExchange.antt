@@ -2,7 +2,7 @@
 use Rattle.std.specs.Prelude.{ℕ, ◌==◌, nat_lt, nat_le, max, Bool, true, not, ◌&&◌, is_none, List, [], Option, Some, None, filter, take, length, if◌then◌else◌}
 use Rattle.std.specs.List.{list_all}
 use Rattle.std.specs.Bool.{beq}
-use Rattle.std.specs.Option.{option_map_or}
+use Rattle.std.specs.Option.{option_map_or, option_eq}
 use Rattle.cg_base.specs.Cuts.{index_in}
 use Rattle.cg_base.specs.Calls.{same_ids}
 use Rattle.cg_base.specs.Sets.{has, is_within}
@@ -10,7 +10,9 @@ use Rattle.cg_base.specs.Text.{is_nil}
 use Rattle.cg_action.specs.declared.action.Action.{Action}
 use Rattle.cg_members.specs.Servers.{members_of, was_ever, starting}
 use Rattle.cg_queue.specs.Queue.{names_of}
-use Rattle.cg_records.specs.Same.{same_prim, same_record, same_yellow}
+use Rattle.cg_records.specs.contracts.primary.PrimaryPartialEq.TheImpl.{ghosts as primary}
+use Rattle.cg_records.specs.contracts.vulnerable.VulnerablePartialEq.TheImpl.{ghosts as vulnerable}
+use Rattle.cg_records.specs.contracts.yellow.YellowPartialEq.TheImpl.{ghosts as yellow}
 use Rattle.cg_records.specs.declared.vulnerable.Vulnerable.{Vulnerable}
 use Rattle.cg_knowledge.specs.declared.summary.Summary.{Summary}
 use Rattle.cg_knowledge.specs.Members.{gone}
@@ -48,7 +50,7 @@ is_summary c t =
 abbrev knows_levels : Chronicle → Told → Bool
 knows_levels c t =
     let s = t.summary in
-    nat_le s.prim.index (length c.levels) && same_prim s.prim (prim_at c s.prim.index) && nat_lt s.prim.conf s.conf
+    nat_le s.prim.index (length c.levels) && primary.eq s.prim (prim_at c s.prim.index) && nat_lt s.prim.conf s.conf
     && front_actions (installation (attempt_at c s.prim.index)) t.greens && has_record c s.id s.prim.index s.vulnerable
     && nat_lt (option_map_or (λ v. v.attempt) s.vulnerable 0) s.conf
 
@@ -92,7 +94,7 @@ tellers_still c =
 
 abbrev holds_still : Told → Held → Bool
 holds_still t h =
-    same_prim h.prim t.summary.prim && (h.attempt_index == t.summary.attempt_index) && same_record h.vulnerable t.summary.vulnerable
+    primary.eq h.prim t.summary.prim && (h.attempt_index == t.summary.attempt_index) && option_eq vulnerable.eq h.vulnerable t.summary.vulnerable
     && beq h.yellow_valid t.summary.yellow.valid
 
 abbrev is_unmoved : Told → Held → List Action → Bool
@@ -112,8 +114,8 @@ is_going_on c heard accepted mine h greens best =
 
 abbrev has_taken_over : List Summary → Told → Held → List Action → Told → Bool
 has_taken_over heard mine h greens best =
-    same_actions greens best.greens && same_prim h.prim (known_primary heard) && same_yellow (yellow_of h) (common_yellow heard)
-    && same_record h.vulnerable (decided heard mine.summary.vulnerable)
+    same_actions greens best.greens && primary.eq h.prim (known_primary heard) && yellow.eq (yellow_of h) (common_yellow heard)
+    && option_eq vulnerable.eq h.vulnerable (decided heard mine.summary.vulnerable)
 
 abbrev is_in_exchange : Chronicle → ℕ → Told → Held → List Action → State → Bool
 is_in_exchange c conf t h greens (ExchangeStates at set heard) = is_unmoved t h greens

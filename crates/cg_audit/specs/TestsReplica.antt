@@ -10,7 +10,9 @@ use Rattle.cg_action.specs.declared.action.Action.{Action}
 use Rattle.cg_db.specs.Apply.{fold_actions}
 use Rattle.cg_members.specs.Servers.{members_of, starting}
 use Rattle.cg_queue.specs.Queue.{names_of}
-use Rattle.cg_records.specs.Same.{same_prim, same_record}
+use Rattle.std.specs.Option.{option_eq}
+use Rattle.cg_records.specs.contracts.primary.PrimaryPartialEq.TheImpl.{ghosts as primary}
+use Rattle.cg_records.specs.contracts.vulnerable.VulnerablePartialEq.TheImpl.{ghosts as vulnerable}
 use Rattle.cg_group.specs.declared.phase.Phase.{Phase}
 use Rattle.cg_group.specs.State.{phase_of, unordered_of}
 use Rattle.cg_client.specs.Replica.{Held, State, RegPrim, TransPrim, ExchangeStates, ExchangeActions, Construct, No, Un, NonPrim, Left, Replica, created}
@@ -50,12 +52,12 @@ yellow_closed c =
 abbrev is_in_primary : Chronicle → Held → ℕ → Bool
 is_in_primary c h conf =
     let a = attempt_at c h.prim.index in
-    is_some_with (attempt_of c conf) (same_attempt a) && (h.prim.conf == conf) && same_record h.vulnerable (Some (own_record a h.id))
+    is_some_with (attempt_of c conf) (same_attempt a) && (h.prim.conf == conf) && option_eq vulnerable.eq h.vulnerable (Some (own_record a h.id))
     && (h.prim.index == suc a.from) && not h.yellow_valid
 
 abbrev is_in_attempt : Held → Option Attempt → Bool
 is_in_attempt h None = false
-is_in_attempt h (Some a) = same_record h.vulnerable (Some (own_record a h.id)) && (h.prim.index == a.from) && is_nil h.own
+is_in_attempt h (Some a) = option_eq vulnerable.eq h.vulnerable (Some (own_record a h.id)) && (h.prim.index == a.from) && is_nil h.own
 
 abbrev has_data : Chronicle → Held → Phase → State → Bool
 has_data c h phase RegPrim = is_in_primary c h (conf_at phase) && is_nil h.queue.reds && is_nil h.queue.yellow
@@ -83,8 +85,8 @@ goes_on c now disk =
     (now.queue.white == disk.queue.white) && same_ids now.queue.green_cut disk.queue.green_cut
     && for_replicas c (λ q. nat_le (index_in disk.queue.red_cut q) (index_in now.queue.red_cut q))
     && same_ids now.queue.yellow disk.queue.yellow
-    && beq now.yellow_valid disk.yellow_valid && same_prim now.prim disk.prim && (now.attempt_index == disk.attempt_index)
-    && same_record now.vulnerable disk.vulnerable && (created now == created disk)
+    && beq now.yellow_valid disk.yellow_valid && primary.eq now.prim disk.prim && (now.attempt_index == disk.attempt_index)
+    && option_eq vulnerable.eq now.vulnerable disk.vulnerable && (created now == created disk)
     && same_actions now.own (drop (length disk.own - length now.own) disk.own)
 
 abbrev is_as_on_disk : Held → Held → State → Bool

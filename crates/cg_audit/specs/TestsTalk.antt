@@ -1,6 +1,7 @@
 -- Tests of the facts about what the members of a configuration say.
 use Rattle.std.specs.Prelude.{ℕ, suc, ◌==◌, Bool, true, false, not, ◌&&◌, ◌||◌, List, [], ◌∷◌, map, filter_map, drop, length}
 use Rattle.std.specs.List.{list_all}
+use Rattle.std.specs.Cmp.Lexicographic.{pointwise}
 use Rattle.cg_base.specs.declared.action_id.ActionId.{ActionId}
 use Rattle.cg_base.specs.Cuts.{index_in}
 use Rattle.cg_base.specs.Lists.{at_place, count_up}
@@ -8,7 +9,7 @@ use Rattle.cg_base.specs.Sets.{has, is_within}
 use Rattle.cg_base.specs.Text.{is_nil}
 use Rattle.cg_action.specs.declared.action.Action.{Action}
 use Rattle.cg_knowledge.specs.Members.{remaining}
-use Rattle.cg_plan.specs.Items.{same_item}
+use Rattle.cg_plan.specs.contracts.parts.ItemPartialEq.TheImpl.{ghosts as same_item}
 use Rattle.cg_wire.specs.declared.message.Msg.{Msg}
 use Rattle.cg_wire.specs.declared.message.Msg.TheVariants.{GreenItem}
 use Rattle.cg_group.specs.declared.phase.Phase.{Phase}
@@ -24,7 +25,7 @@ use Rattle.cg_agree.specs.Talk.{Talk, no_talk, is_ended, is_legal, state_in, sum
 use Rattle.cg_agree.specs.Levels.{lacks_announcement}
 use Rattle.cg_agree.specs.FactsTalk.{whole_talk, handed_talk, summaries_of, of_creator, count_behind}
 use Rattle.cg_agree.specs.Smalls.{implies}
-use Rattle.cg_audit.specs.Same.{same_lists, same_action, same_actions, same_numbers, same_summaries, same_state}
+use Rattle.cg_audit.specs.Same.{same_action, same_actions, same_numbers, same_summaries, same_state}
 use Rattle.cg_audit.specs.Through.{if_some, is_some_with, for_replicas, for_confs, for_both}
 
 abbrev pub talk_legal : Chronicle → Bool
@@ -35,7 +36,7 @@ talk_legal c =
 abbrev says_due : Chronicle → ℕ → ℕ → Talk → List Msg → Bool
 says_due c conf p t said =
     same_summaries (filter_map summary_in said) (summaries_of (told_in c conf p))
-    && same_lists same_item (filter_map item_in said) (due_items (members_in c conf) t p)
+    && pointwise same_item.eq (filter_map item_in said) (due_items (members_in c conf) t p)
     && same_numbers (filter_map announcer_in said) (due_announcement (members_in c conf) t p)
     && (is_creating (state_in (members_in c conf) conf t p) || is_nil (filter_map act_in said))
 

@@ -1,6 +1,7 @@
 -- Tests of what an event's small steps lead to, and of what may stand in a schedule.
 use Rattle.std.specs.Prelude.{◌==◌, nat_lt, Bool, true, false, ◌&&◌, Option, Some, None, map, length}
 use Rattle.std.specs.List.{list_all}
+use Rattle.std.specs.Cmp.Lexicographic.{pointwise}
 use Rattle.cg_base.specs.Text.{is_nil}
 use Rattle.cg_base.specs.Weights.{ids}
 use Rattle.cg_wire.specs.declared.message.Msg.{Msg}
@@ -15,7 +16,7 @@ use Rattle.cg_agree.specs.Chronicle.{Chronicle}
 use Rattle.cg_agree.specs.Looks.{disk_held, snapshot_of}
 use Rattle.cg_agree.specs.Small.{Small, Crashes}
 use Rattle.cg_agree.specs.Smalls.{is_set}
-use Rattle.cg_audit.specs.Same.{same_lists, same_numbers, same_held, same_state}
+use Rattle.cg_audit.specs.Same.{same_numbers, same_held, same_state}
 use Rattle.cg_audit.specs.Through.{is_some_with}
 use Rattle.cg_audit.specs.TestsReplica.{is_written}
 
@@ -33,10 +34,10 @@ same_standing s t =
 
 abbrev same_configuration : Configuration Msg → Configuration Msg → Bool
 same_configuration c d =
-    same_numbers c.members d.members && (length c.ordered == length d.ordered) && same_lists same_numbers c.received d.received
+    same_numbers c.members d.members && (length c.ordered == length d.ordered) && pointwise same_numbers c.received d.received
 
 abbrev same_group : GroupState Msg → GroupState Msg → Bool
-same_group g k = same_lists same_standing g.replicas k.replicas && same_lists same_configuration g.configurations k.configurations
+same_group g k = pointwise same_standing g.replicas k.replicas && pointwise same_configuration g.configurations k.configurations
 
 abbrev same_replicas : Option Replica → Option Replica → Bool
 same_replicas None None = true

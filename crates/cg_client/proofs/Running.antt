@@ -1,16 +1,18 @@
 -- Actions whose keys are all chosen, in a database and in its part at the chosen keys.
 use Rattle.std.proofs.Common.{◌≡◌, ℕ, suc, Bool, true, false, cond, not, List, [], ◌∷◌, refl, sym, ap, subst, ◌∙◌}
 use Rattle.std.specs.Prelude.{Option, Some, None, ℤ, ◌+ℤ◌, ◌-ℤ◌, int_lt}
+use Rattle.std.specs.Option.{option_eq}
 use Rattle.cg_text.specs.Numbers.{fits_i64}
 use Rattle.cg_action.specs.declared.value.Value.{Value}
 use Rattle.cg_action.specs.declared.value.Value.TheVariants.{Int}
+use Rattle.cg_action.specs.contracts.value.ValuePartialEq.TheImpl.{ghosts as values}
 use Rattle.cg_action.specs.declared.command.Cmd.{Cmd}
 use Rattle.cg_action.specs.declared.command.Cmd.TheVariants.{Put, Del, Inc, Cas, Move, Need}
 use Rattle.cg_action.specs.declared.action.Kind.{Kind}
 use Rattle.cg_action.specs.declared.action.Kind.TheVariants.{Update, Join, Leave}
 use Rattle.cg_action.specs.declared.action.Action.{Action}
 use Rattle.cg_db.specs.declared.entry.DbEntry.{DbEntry}
-use Rattle.cg_db.specs.Map.{value_of, put, remove, same_option}
+use Rattle.cg_db.specs.Map.{value_of, put, remove, has_value}
 use Rattle.cg_db.specs.Ascending.{Ascends}
 use Rattle.cg_db.specs.Apply.{Ran, Changed, Aborts, Overflows, number_of, add_number, add_to, move_number, run_command, run_commands, apply_kind, apply}
 use Rattle.cg_client.specs.Queries.{behind}
@@ -120,12 +122,12 @@ command-runs p db (Put key value) every up = put-runs p db key value every.0 up
 command-runs p db (Del key) every up = del-runs p db key every.0 up
 command-runs p db (Inc key by) every up = add_to-runs p db key by every.0 up
 command-runs p db (Cas key want value) every up =
-    subst (λ (o : Option Value). RunsIn p db (run_command db (Cas key want value)) (cond (same_option o want) (Changed (put (only p db) key value)) (Changed (only p db)))) (sym (value_of-only p db key every.0))
-    (swap-runs p db key value every.0 up (same_option (value_of db key) want))
+    subst (λ (o : Option Value). RunsIn p db (run_command db (Cas key want value)) (cond (option_eq values.eq o want) (Changed (put (only p db) key value)) (Changed (only p db)))) (sym (value_of-only p db key every.0))
+    (swap-runs p db key value every.0 up (has_value db key want))
 command-runs p db (Move source target amount) every up = move-runs p db source target amount every.0 every.1.0 up
 command-runs p db (Need key want) every up =
-    subst (λ (o : Option Value). RunsIn p db (run_command db (Need key want)) (cond (same_option o want) (Changed (only p db)) Aborts)) (sym (value_of-only p db key every.0))
-    (need-runs p db up (same_option (value_of db key) want))
+    subst (λ (o : Option Value). RunsIn p db (run_command db (Need key want)) (cond (option_eq values.eq o want) (Changed (only p db)) Aborts)) (sym (value_of-only p db key every.0))
+    (need-runs p db up (has_value db key want))
 
 -- ---- actions
 

@@ -18,7 +18,7 @@ use Rattle.cg_action.specs.Limits.{IsKind}
 use Rattle.cg_action.specs.ActionLimits.{IsKey, IsValue, IsCommand, IsAction}
 use Rattle.cg_db.specs.declared.entry.DbEntry.{DbEntry}
 use Rattle.cg_db.specs.Limits.{IsEntry, AreEntries}
-use Rattle.cg_db.specs.Map.{value_of, put, same_option}
+use Rattle.cg_db.specs.Map.{value_of, put, has_value}
 use Rattle.cg_db.specs.Apply.{Ran, Changed, Aborts, Overflows, number_of, add_number, add_to, move_number, run_command, run_commands, apply, apply_kind}
 use Rattle.cg_db.specs.AscendingLaws.{put_at}
 use Rattle.cg_db.proofs.PlanLemmas.{fits_i64-to}
@@ -96,9 +96,9 @@ unfolding AreRan
 command-within db (Put key value) all is = put-within db key value all is.0 is.1
 command-within db (Del key) all is = filter-within _ db all
 command-within db (Inc key by) all is = add_number-within db key by (number_of (value_of db key)) all is.0
-command-within db (Cas key want value) all is = either-within (same_option (value_of db key) want) (Changed (put db key value)) (Changed db) (put-within db key value all is.0 is.2) all
+command-within db (Cas key want value) all is = either-within (has_value db key want) (Changed (put db key value)) (Changed db) (put-within db key value all is.0 is.2) all
 command-within db (Move source target amount) all is = move-within db source target amount (value_of db source) (value_of-within db source all) all is.0 is.1 is.2 is.3
-command-within db (Need key want) all is = either-within (same_option (value_of db key) want) (Changed db) Aborts all tt
+command-within db (Need key want) all is = either-within (has_value db key want) (Changed db) Aborts all tt
 
 -- ---- actions
 

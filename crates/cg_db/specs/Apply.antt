@@ -11,7 +11,7 @@ use Rattle.cg_action.specs.declared.action.Action.{Action}
 use Rattle.cg_db.specs.declared.entry.DbEntry.{DbEntry}
 use Rattle.cg_db.specs.declared.effect.Effect.{Effect}
 use Rattle.cg_db.specs.declared.effect.Effect.TheVariants.{Done, Aborted, Range}
-use Rattle.cg_db.specs.Map.{value_of, put, remove, same_option}
+use Rattle.cg_db.specs.Map.{value_of, put, remove, has_value}
 
 -- how one command ends: with a changed database, or as one that fails
 pub data Ran : Type 0 where
@@ -49,9 +49,9 @@ abbrev pub run_command : List DbEntry → Cmd → Ran
 run_command db (Put key value) = Changed (put db key value)
 run_command db (Del key) = Changed (remove db key)
 run_command db (Inc key by) = add_to db key by
-run_command db (Cas key want value) = if same_option (value_of db key) want then Changed (put db key value) else Changed db
+run_command db (Cas key want value) = if has_value db key want then Changed (put db key value) else Changed db
 run_command db (Move source target amount) = move_number db source target amount (number_of (value_of db source))
-run_command db (Need key want) = if same_option (value_of db key) want then Changed db else Aborts
+run_command db (Need key want) = if has_value db key want then Changed db else Aborts
 
 -- a database, and the effect of what was applied to it
 pub record Applied : Type 0 where

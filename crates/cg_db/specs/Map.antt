@@ -1,9 +1,9 @@
 -- A database: the list of its entries, ascending by key, each key once.
-use Rattle.std.specs.Prelude.{ℕ, Bool, true, false, not, List, [], ◌∷◌, Option, Some, None, map, filter, if◌then◌else◌}
-use Rattle.std.specs.Ordering.{int_eq}
+use Rattle.std.specs.Prelude.{ℕ, Bool, not, List, [], ◌∷◌, Option, Some, None, map, filter, if◌then◌else◌}
+use Rattle.std.specs.Option.{option_eq}
 use Rattle.cg_text.specs.Order.{same_text, text_before}
 use Rattle.cg_action.specs.declared.value.Value.{Value}
-use Rattle.cg_action.specs.declared.value.Value.TheVariants.{Text, Int}
+use Rattle.cg_action.specs.contracts.value.ValuePartialEq.TheImpl.{ghosts as values}
 use Rattle.cg_db.specs.declared.entry.DbEntry.{DbEntry}
 
 -- the value of a key, if it is there
@@ -26,16 +26,6 @@ remove db key = filter (λ entry. not (same_text key entry.key)) db
 abbrev pub keys : List DbEntry → List (List ℕ)
 keys db = map (λ entry. entry.key) db
 
--- the two values are one
-abbrev pub same_value : Value → Value → Bool
-same_value (Text s) (Text t) = same_text s t
-same_value (Int x) (Int y) = int_eq x y
-same_value (Text s) (Int y) = false
-same_value (Int x) (Text t) = false
-
--- the two values are one, or both are absent
-abbrev pub same_option : Option Value → Option Value → Bool
-same_option None None = true
-same_option (Some v) (Some w) = same_value v w
-same_option None (Some w) = false
-same_option (Some v) None = false
+-- the key has the wanted value, or is absent where none is wanted
+abbrev pub has_value : List DbEntry → List ℕ → Option Value → Bool
+has_value db key want = option_eq values.eq (value_of db key) want

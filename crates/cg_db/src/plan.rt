@@ -4,7 +4,7 @@ ghost use Rattle.std.specs.Prelude.{◌≡◌, ◌≤◌, ◌≤ℤ◌, pos, len
 ghost use Rattle.std.specs.Option.{option_copied};
 ghost use Rattle.cg_action.specs.ActionLimits.{IsCommand};
 ghost use Rattle.cg_action.specs.declared.command.Cmd.TheVariants.{Cas, Move};
-ghost use Rattle.cg_db.specs.Map.{value_of, same_option};
+ghost use Rattle.cg_db.specs.Map.{value_of, has_value};
 ghost use Rattle.cg_db.specs.Apply.{Changed, number_of, add_to, move_number, run_command, run_commands};
 ghost use Rattle.cg_db.specs.Plan.{listed, set_option, with_changes, ran, left_by};
 
@@ -172,13 +172,7 @@ fn number_in(db: &Db, changes: &Changes, key: &Txt) -> Option<i64>
 
 // the key has what is wanted behind the changes
 fn has(db: &Db, changes: &Changes, key: &Txt, want: &BoxedOption<Value>) -> bool
-    ensures { result ≡ same_option (value_of (with_changes db.now (listed changes.now)) key.now) want.now }
+    ensures { result ≡ has_value (with_changes db.now (listed changes.now)) key.now want.now }
 {
-    match value_in(db, changes, key) {
-        None => want.get().is_none(),
-        Some(value) => match want.get() {
-            None => false,
-            Some(wanted) => *value == *wanted,
-        },
-    }
+    value_in(db, changes, key) == want.get()
 }

@@ -4,7 +4,10 @@ use Rattle.std.specs.Prelude.{◌==◌, if◌then◌else◌}
 use Rattle.cg_base.specs.Text.{is_nil}
 use Rattle.cg_action.specs.declared.action.Action.{Action}
 use Rattle.cg_queue.specs.Queue.{green_count, placed_red}
-use Rattle.cg_records.specs.Same.{same_prim, same_record, same_yellow}
+use Rattle.std.specs.Option.{option_eq}
+use Rattle.cg_records.specs.contracts.primary.PrimaryPartialEq.TheImpl.{ghosts as primary}
+use Rattle.cg_records.specs.contracts.vulnerable.VulnerablePartialEq.TheImpl.{ghosts as vulnerable}
+use Rattle.cg_records.specs.contracts.yellow.YellowPartialEq.TheImpl.{ghosts as yellow}
 use Rattle.cg_client.specs.Replica.{Held, yellow_of}
 use Rattle.cg_client.specs.Turn.{Turn}
 use Rattle.cg_client.specs.Marks.{after_first}
@@ -56,8 +59,8 @@ known-one s t (a ∷ items) is = at (know s a) (λ x e rest. joined s x t (know-
 one-same : (s h x : Held) → HaveOne s h → same_values s x ≡ same_values h x
 unfolding same_values
 one-same s h x one =
-    λ i. same_prim (one.prim i) x.prim && (one.attempt_index i == x.attempt_index) && same_record (one.vulnerable i) x.vulnerable
-    && same_yellow (record { valid = one.valid i; list = one.list i }) (yellow_of x)
+    λ i. primary.eq (one.prim i) x.prim && (one.attempt_index i == x.attempt_index) && option_eq vulnerable.eq (one.vulnerable i) x.vulnerable
+    && yellow.eq (record { valid = one.valid i; list = one.list i }) (yellow_of x)
 
 pub same_commits : (s : Stored) (unwritten : List Action) (h : Held) (t : Turn) → IsAhead s unwritten h → commits s t ≡ commits h t
 unfolding commits

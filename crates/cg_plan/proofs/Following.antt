@@ -6,16 +6,17 @@ use Rattle.std.proofs.lemmas.List.Sums.{fold_more}
 use Rattle.cg_plan.specs.declared.parts.Item.{Item}
 use Rattle.cg_plan.specs.declared.parts.SentPart.{SentPart}
 use Rattle.cg_plan.specs.declared.parts.Sent.{Sent}
-use Rattle.cg_plan.specs.Items.{same_item, items_of_plan}
+use Rattle.cg_plan.specs.Items.{items_of_plan}
+use Rattle.cg_plan.specs.contracts.parts.ItemPartialEq.TheImpl.{ghosts as same_item}
 use Rattle.cg_plan.specs.Progress.{PlanProgress, next_item, is_wanted, is_done}
 use Rattle.cg_plan.specs.PlanLaws.{same_item-itself, same_item-is}
 use Rattle.cg_plan.specs.Following.{begun, after_item, after_items}
 
-pub same_item-tells : (a b : Item) → (same_item a b ≡ true) ↔ (a ≡ b)
+pub same_item-tells : (a b : Item) → (same_item.eq a b ≡ true) ↔ (a ≡ b)
 same_item-tells a b = (same_item-is a b, λ e. rw e (same_item-itself b))
 
 wanted-itself : (s : Sent) → is_wanted (Some s) s.sender s.item ≡ true
-wanted-itself s = and_from (eqb s.sender s.sender) (same_item s.item s.item) (eq-eqb s.sender s.sender refl) (same_item-itself s.item)
+wanted-itself s = and_from (eqb s.sender s.sender) (same_item.eq s.item s.item) (eq-eqb s.sender s.sender refl) (same_item-itself s.item)
 
 abbrev at : List SentPart → ℕ → PlanProgress
 at plan n = record { turns = plan; accepted = n }

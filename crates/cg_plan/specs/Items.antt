@@ -9,12 +9,6 @@ use Rattle.cg_plan.specs.declared.parts.Part.TheVariants.{Greens, Reds}
 use Rattle.cg_plan.specs.declared.parts.SentPart.{SentPart}
 use Rattle.cg_plan.specs.declared.parts.Sent.{Sent}
 
--- the two are one item
-abbrev pub same_item : Item → Item → Bool
-same_item (Green at) (Green at') = at == at'
-same_item (Red id) (Red id') = same_id id id'
-same_item _ _ = false
-
 -- the red item of a creator with that index
 abbrev pub red_item : ℕ → ℕ → Item
 red_item creator index = Red (record { creator = creator; index = index })

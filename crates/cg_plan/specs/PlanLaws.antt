@@ -10,20 +10,21 @@ use Rattle.cg_plan.specs.declared.parts.Item.TheVariants.{Green, Red}
 use Rattle.cg_plan.specs.declared.parts.Part.{Part}
 use Rattle.cg_plan.specs.declared.parts.Part.TheVariants.{Greens, Reds}
 use Rattle.cg_plan.specs.declared.parts.SentPart.{SentPart}
-use Rattle.cg_plan.specs.Items.{same_item, red_item, items_of, sent_by, items_of_turn, items_of_plan}
+use Rattle.cg_plan.specs.Items.{red_item, items_of, sent_by, items_of_turn, items_of_plan}
+use Rattle.cg_plan.specs.contracts.parts.ItemPartialEq.TheImpl.{ghosts as same_item}
 use Rattle.cg_plan.specs.Progress.{turn_of}
 use Rattle.cg_plan.specs.Parts.{IsFilled, size_of}
 
 -- ---- one item
 
-pub same_item-itself : (i : Item) → same_item i i ≡ true
+pub same_item-itself : (i : Item) → same_item.eq i i ≡ true
 same_item-itself (Green at) = eq-eqb at at refl
 same_item-itself (Red id) = and_from (eqb id.creator id.creator) (eqb id.index id.index) (eq-eqb id.creator id.creator refl) (eq-eqb id.index id.index refl)
 
 abbrev named : ℕ → ℕ → Item
 named creator index = Red (record { creator = creator; index = index })
 
-pub same_item-is : (a b : Item) → same_item a b ≡ true → a ≡ b
+pub same_item-is : (a b : Item) → same_item.eq a b ≡ true → a ≡ b
 same_item-is (Green at) (Green at') e = ap Green (eqb-true at at' e)
 same_item-is (Green at) (Red id) e = absurd (cc)
 same_item-is (Red id) (Green at) e = absurd (cc)

@@ -4,7 +4,8 @@ use Rattle.cg_plan.specs.declared.parts.Item.{Item}
 use Rattle.cg_plan.specs.declared.parts.Part.{Part}
 use Rattle.cg_plan.specs.declared.parts.SentPart.{SentPart}
 use Rattle.cg_plan.specs.declared.parts.Sent.{Sent}
-use Rattle.cg_plan.specs.Items.{same_item, items_of, items_of_plan}
+use Rattle.cg_plan.specs.Items.{items_of, items_of_plan}
+use Rattle.cg_plan.specs.contracts.parts.ItemPartialEq.TheImpl.{ghosts as items}
 
 -- a plan, and how many of its items were accepted
 pub record PlanProgress : Type 0 where
@@ -18,7 +19,7 @@ next_item p = slice_get (items_of_plan p.turns) p.accepted
 -- the item is the wanted one, and comes from its sender
 abbrev pub is_wanted : Option Sent → ℕ → Item → Bool
 is_wanted None from item = false
-is_wanted (Some sent) from item = (sent.sender == from) && same_item sent.item item
+is_wanted (Some sent) from item = (sent.sender == from) && items.eq sent.item item
 
 -- every item was accepted
 unfoldable pub is_done : PlanProgress → Bool

@@ -1,7 +1,6 @@
 pub mod Limits
 pub mod Bytes
 pub mod Reading
-pub mod Same
 pub mod RecordLaws
 pub mod ItemLoopLaws
 pub mod PassedLaws

@@ -1,4 +1,3 @@
 pub mod EntryText
 pub mod NoEntry
 pub mod LineText
-pub mod Same

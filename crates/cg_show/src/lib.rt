@@ -9,7 +9,6 @@ mod answered;
 mod lines;
 mod news;
 mod phase;
-mod same;
 mod showing;
 
 pub use lines::Lines;

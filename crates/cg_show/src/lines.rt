@@ -2,7 +2,6 @@ ghost use Rattle.std.specs.Prelude.{◌≡◌, ◌==◌, [], find, fold, positio
 ghost use Rattle.std.specs.Option.{option_copied};
 ghost use Rattle.cg_agree.specs.Show.{is_news, with_printed};
 
-use crate::same::same_line;
 use cg_base::{NoMemory, ReplicaId};
 use cg_report::{Line, UpLine, View};
 use std::alloc::Global;
@@ -49,7 +48,7 @@ impl Lines {
         ensures { result ≡ is_news self.now line.now }
     {
         match self.last(line.id) {
-            Some(old) => !same_line(line, old),
+            Some(old) => line != old,
             None => true,
         }
     }

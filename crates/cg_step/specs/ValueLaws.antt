@@ -11,7 +11,10 @@ use Rattle.cg_base.specs.IdLaws.{same_id-is}
 use Rattle.cg_records.specs.declared.primary.Primary.{Primary}
 use Rattle.cg_records.specs.declared.vulnerable.Vulnerable.{Vulnerable}
 use Rattle.cg_records.specs.declared.yellow.Yellow.{Yellow}
-use Rattle.cg_records.specs.Same.{same_prim, same_vulnerable, same_record, same_yellow}
+use Rattle.std.specs.Option.{option_eq}
+use Rattle.cg_records.specs.contracts.primary.PrimaryPartialEq.TheImpl.{ghosts as primary}
+use Rattle.cg_records.specs.contracts.vulnerable.VulnerablePartialEq.TheImpl.{ghosts as vulnerable}
+use Rattle.cg_records.specs.contracts.yellow.YellowPartialEq.TheImpl.{ghosts as yellow}
 use Rattle.cg_client.specs.Replica.{Held, yellow_of}
 use Rattle.cg_step.specs.Commit.{same_values}
 
@@ -31,15 +34,13 @@ one-weighted m n e =
     let parts = and_parts (m.id == n.id) (m.weight == n.weight) e in
     λ i. record { id = eqb-true m.id n.id parts.0 i; weight = eqb-true m.weight n.weight parts.1 i }
 
-pub one-prim : (a b : Primary) → same_prim a b ≡ true → a ≡ b
-unfolding same_prim
+pub one-prim : (a b : Primary) → primary.eq a b ≡ true → a ≡ b
 one-prim a b e =
     let first = and_parts (nat_eq a.index b.index) (nat_eq a.conf b.conf && pointwise same_weighted a.set b.set) e in
     let rest = and_parts (nat_eq a.conf b.conf) (pointwise same_weighted a.set b.set) first.1 in
     λ i. record { index = one-number a.index b.index first.0 i; conf = one-number a.conf b.conf rest.0 i; set = one-list same_weighted one-weighted a.set b.set rest.1 i }
 
-pub one-vulnerable : (a b : Vulnerable) → same_vulnerable a b ≡ true → a ≡ b
-unfolding same_vulnerable
+pub one-vulnerable : (a b : Vulnerable) → vulnerable.eq a b ≡ true → a ≡ b
 one-vulnerable a b e =
     let first = and_parts (nat_eq a.attempt b.attempt) (nat_eq a.from b.from && (pointwise nat_eq a.set b.set && pointwise nat_eq a.bits b.bits)) e in
     let second = and_parts (nat_eq a.from b.from) (pointwise nat_eq a.set b.set && pointwise nat_eq a.bits b.bits) first.1 in
@@ -51,8 +52,7 @@ one-vulnerable a b e =
       bits = one-list nat_eq one-number a.bits b.bits third.1 i;
     }
 
-pub one-record : (a b : Option Vulnerable) → same_record a b ≡ true → a ≡ b
-unfolding same_record
+pub one-record : (a b : Option Vulnerable) → option_eq vulnerable.eq a b ≡ true → a ≡ b
 one-record None None e = refl
 one-record (Some a) (Some b) e = ap Some (one-vulnerable a b e)
 one-record None (Some b) e = absurd (let clash : false ≡ true = e in cc)
@@ -64,8 +64,7 @@ one-bool false false e = refl
 one-bool true false e = absurd (let clash : false ≡ true = e in cc)
 one-bool false true e = absurd (let clash : false ≡ true = e in cc)
 
-pub one-yellow : (a b : Yellow) → same_yellow a b ≡ true → a ≡ b
-unfolding same_yellow
+pub one-yellow : (a b : Yellow) → yellow.eq a b ≡ true → a ≡ b
 one-yellow a b e =
     let parts = and_parts (beq a.valid b.valid) (pointwise same_id a.list b.list) e in
     λ i. record { valid = one-bool a.valid b.valid parts.0 i; list = one-list same_id same_id-is a.list b.list parts.1 i }
@@ -80,10 +79,10 @@ pub record HaveOneValue (old new : Held) : Type 0 where
 pub one-value : (old new : Held) → same_values old new ≡ true → HaveOneValue old new
 unfolding same_values
 one-value old new e =
-    let p = same_prim old.prim new.prim in
+    let p = primary.eq old.prim new.prim in
     let n = old.attempt_index == new.attempt_index in
-    let v = same_record old.vulnerable new.vulnerable in
-    let y = same_yellow (yellow_of old) (yellow_of new) in
+    let v = option_eq vulnerable.eq old.vulnerable new.vulnerable in
+    let y = yellow.eq (yellow_of old) (yellow_of new) in
     let first = and_parts ((p && n) && v) y e in
     let second = and_parts (p && n) v first.0 in
     let third = and_parts p n second.0 in

@@ -2,7 +2,10 @@
 use Rattle.std.specs.Prelude.{◌≡◌, ◌==◌, ◌<◌, ◌^◌, Bool, true, false, not, ◌&&◌, ◌||◌, List, ◌++◌, length, Option, Some, None}
 use Rattle.cg_base.specs.Text.{is_nil}
 use Rattle.cg_action.specs.declared.action.Action.{Action}
-use Rattle.cg_records.specs.Same.{same_prim, same_record, same_yellow}
+use Rattle.std.specs.Option.{option_eq}
+use Rattle.cg_records.specs.contracts.primary.PrimaryPartialEq.TheImpl.{ghosts as primary}
+use Rattle.cg_records.specs.contracts.vulnerable.VulnerablePartialEq.TheImpl.{ghosts as vulnerable}
+use Rattle.cg_records.specs.contracts.yellow.YellowPartialEq.TheImpl.{ghosts as yellow}
 use Rattle.cg_records.specs.declared.stable.Stable.{Stable}
 use Rattle.cg_client.specs.Replica.{Held, State}
 use Rattle.cg_client.specs.declared.parts.DraftParts.{DraftParts}
@@ -17,8 +20,8 @@ use Rattle.cg_store.specs.declared.due.Due.{Due}
 
 abbrev pub same_stable : Stable → Stable → Bool
 same_stable old new =
-    same_prim old.prim new.prim && (old.attempt_index == new.attempt_index) && same_record old.vulnerable new.vulnerable
-    && same_yellow old.yellow new.yellow
+    primary.eq old.prim new.prim && (old.attempt_index == new.attempt_index) && option_eq vulnerable.eq old.vulnerable new.vulnerable
+    && yellow.eq old.yellow new.yellow
 
 abbrev pub is_due : Stable → Stable → DraftParts → Bool
 is_due old new d = d.marked_own || not (is_nil d.green) || not (is_nil d.made) || not (same_stable old new)

@@ -5,7 +5,6 @@ use cg_client::Draft;
 use cg_records::Stable;
 
 /// The values that a record has at any time are the same.
-#[tactic(auto, unfolding(cg_records::specs::Same::same_prim, cg_records::specs::Same::same_record, cg_records::specs::Same::same_vulnerable, cg_records::specs::Same::same_yellow))]
 fn same_values(old: &Stable, new: &Stable) -> bool
     ensures { result ≡ same_stable old.now new.now }
 {

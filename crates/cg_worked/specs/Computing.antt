@@ -14,7 +14,6 @@ use Rattle.cg_vote.specs.Quorum.{is_quorum}
 use Rattle.cg_queue.specs.Body.{reds_from, all_reds}
 use Rattle.cg_records.specs.Bytes.{spelled_set, spelled_names, spelled_cut, spelled_weighted, spelled_weight_set, spelled_prim, spelled_vulnerable, spelled_yellow, spelled_stable}
 use Rattle.cg_records.specs.Reading.{take_number, take_index, take_id_above, take_set, take_weight, take_weighted_above, take_weight_set, take_name_above, take_cut, take_names, take_prim, take_vulnerable, take_maybe_vulnerable, take_yellow, take_stable}
-use Rattle.cg_records.specs.Same.{same_prim, same_vulnerable, same_record, same_yellow}
 use Rattle.cg_knowledge.specs.Members.{senders, most_updated, lowest, gone, remaining}
 use Rattle.cg_knowledge.specs.Primary.{newest_index, newest, known_primary, known_attempt}
 use Rattle.cg_knowledge.specs.Verdict.{records_of, all_cleared, decides}
@@ -34,7 +33,6 @@ use Rattle.cg_group.specs.State.{standing_of, configuration, has_received, set_s
 use Rattle.cg_schedule.specs.Command.{put_reading as put_reading_of_schedule_command, del_reading as del_reading_of_schedule_command, inc_reading as inc_reading_of_schedule_command, cas_reading as cas_reading_of_schedule_command, move_reading as move_reading_of_schedule_command, need_reading as need_reading_of_schedule_command, command_of, query_of, query_reading as query_reading_of_schedule_command, with_query, commands, update_of, update_reading as update_reading_of_schedule_command}
 use Rattle.cg_schedule.specs.Line.{word_of, opening, ids, weights, start_reading, split_reading, merge_reading, request_reading, weak_reading, dirty_reading, order_reading, recover_reading, show_reading, receive_reading, deliver_reading, rounds_reading, stop_reading, fail_reading, join_reading, leave_reading, transfer_reading, event_reading}
 use Rattle.cg_schedule.specs.Part.{number, integer, amount, weighted, text as text_of_schedule_part, value, want, fill, number_part, id_part, count_part, integer_part, amount_part, weighted_part, text_part, value_part, want_part, fill_part}
-use Rattle.cg_report.specs.Same.{same_view, same_up, same_line}
 use Rattle.cg_client.specs.Install.{install}
 use Rattle.cg_client.specs.Marks.{is_unmade, mark_red, mark_yellow, can_be_green, place_green, mark_green}
 use Rattle.cg_client.specs.Queries.{view_of}
@@ -93,7 +91,7 @@ unfolding reds_from all_reds
 queue_computes = tt
 
 unfoldable pub records_computes : ⊤
-unfolding spelled_set spelled_names spelled_cut spelled_weighted spelled_weight_set spelled_prim spelled_vulnerable spelled_yellow spelled_stable take_number take_index take_id_above take_set take_weight take_weighted_above take_weight_set take_name_above take_cut take_names take_prim take_vulnerable take_maybe_vulnerable take_yellow take_stable same_prim same_vulnerable same_record same_yellow
+unfolding spelled_set spelled_names spelled_cut spelled_weighted spelled_weight_set spelled_prim spelled_vulnerable spelled_yellow spelled_stable take_number take_index take_id_above take_set take_weight take_weighted_above take_weight_set take_name_above take_cut take_names take_prim take_vulnerable take_maybe_vulnerable take_yellow take_stable
 records_computes = tt
 
 unfoldable pub knowledge_computes : ⊤
@@ -115,10 +113,6 @@ group_computes = tt
 unfoldable pub schedule_computes : ⊤
 unfolding put_reading_of_schedule_command del_reading_of_schedule_command inc_reading_of_schedule_command cas_reading_of_schedule_command move_reading_of_schedule_command need_reading_of_schedule_command command_of query_of query_reading_of_schedule_command with_query commands update_of update_reading_of_schedule_command word_of opening ids weights start_reading split_reading merge_reading request_reading weak_reading dirty_reading order_reading recover_reading show_reading receive_reading deliver_reading rounds_reading stop_reading fail_reading join_reading leave_reading transfer_reading event_reading number integer amount weighted text_of_schedule_part value want fill number_part id_part count_part integer_part amount_part weighted_part text_part value_part want_part fill_part
 schedule_computes = tt
-
-unfoldable pub report_computes : ⊤
-unfolding same_view same_up same_line
-report_computes = tt
 
 unfoldable pub client_computes : ⊤
 unfolding install is_unmade mark_red mark_yellow can_be_green place_green mark_green view_of create create_kept summary_of own_to_red enter_exchange
@@ -153,5 +147,5 @@ unfolding line_outcome happened
 run_computes = tt
 
 unfoldable pub cases_compute : ⊤
-unfolding std_computes base_computes text_computes codec_computes action_computes db_computes vote_computes queue_computes records_computes knowledge_computes plan_computes wire_computes group_computes schedule_computes report_computes client_computes prim_computes exchange_computes construct_computes stored_computes step_computes agree_computes run_computes
+unfolding std_computes base_computes text_computes codec_computes action_computes db_computes vote_computes queue_computes records_computes knowledge_computes plan_computes wire_computes group_computes schedule_computes client_computes prim_computes exchange_computes construct_computes stored_computes step_computes agree_computes run_computes
 cases_compute = tt
