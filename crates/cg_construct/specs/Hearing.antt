@@ -5,10 +5,12 @@ use Rattle.cg_wire.specs.declared.message.Msg.TheVariants.{Cpc, Action as Action
 use Rattle.cg_wire.specs.Reading.{message_in}
 use Rattle.cg_group.specs.declared.delivery.Delivery.{Delivery}
 use Rattle.cg_group.specs.declared.delivery.Delivery.TheVariants.{Message, Transitional as TransitionalIn, Regular as RegularIn}
-use Rattle.cg_client.specs.Turn.{Turn}
-use Rattle.cg_construct.specs.Construct.{construct_on_cpc, construct_on_transitional}
+use Rattle.cg_client.specs.Replica.{No}
+use Rattle.cg_client.specs.Turn.{Turn, go_to}
+use Rattle.cg_client.specs.Summary.{enter_exchange}
+use Rattle.cg_construct.specs.Construct.{construct_on_cpc}
 use Rattle.cg_construct.specs.No.{no_on_cpc, no_on_regular}
-use Rattle.cg_construct.specs.Un.{un_on_action, un_on_regular}
+use Rattle.cg_construct.specs.Un.{un_on_action}
 
 -- a message: anything but an announcement is ignored
 unfoldable pub construct_on_message : Turn → ℕ → List ℕ → ℕ → Msg → Turn
@@ -23,7 +25,7 @@ construct_on_read t conf heard from (Some m) = construct_on_message t conf heard
 -- one delivery
 abbrev pub construct_on : Turn → ℕ → List ℕ → Delivery (List ℕ) → Turn
 construct_on t conf heard (Message place from bytes) = construct_on_read t conf heard from (message_in bytes)
-construct_on t conf heard (TransitionalIn at set) = construct_on_transitional t conf heard
+construct_on t conf heard (TransitionalIn at set) = go_to t (No conf heard)
 construct_on t conf heard (RegularIn at set) = t
 
 -- a message: anything but an announcement is ignored
@@ -56,4 +58,4 @@ un_on_read t (Some m) = un_on_message t m
 abbrev pub un_on : Turn → Delivery (List ℕ) → Turn
 un_on t (Message place from bytes) = un_on_read t (message_in bytes)
 un_on t (TransitionalIn conf set) = t
-un_on t (RegularIn conf set) = un_on_regular t conf set
+un_on t (RegularIn conf set) = enter_exchange t conf set

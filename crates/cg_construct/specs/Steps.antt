@@ -5,7 +5,7 @@ use Rattle.cg_client.specs.Drafts.{turn_with}
 use Rattle.cg_client.specs.Replica.{RegPrim, TransPrim, Un as UnState}
 use Rattle.cg_client.specs.Summary.{enter_exchange}
 use Rattle.cg_client.specs.Turn.{Turn, go_to}
-use Rattle.cg_prim.specs.TransPrim.{trans_prim_on_action}
+use Rattle.cg_client.specs.Marks.{mark_yellow}
 use Rattle.cg_construct.specs.Attempt.{in_construct, in_no}
 use Rattle.cg_construct.specs.declared.step.ConstructStep.{ConstructStep}
 use Rattle.cg_construct.specs.declared.step.ConstructStep.TheVariants.{Construct, No, Un, Installed, InstalledBy, Exchange}
@@ -16,7 +16,7 @@ turn_after (Construct s) d = in_construct s d
 turn_after (No s) d = in_no s d
 turn_after (Un s) d = turn_with s UnState d
 turn_after (Installed i) d = turn_with i RegPrim d
-turn_after (InstalledBy i action) d = go_to (trans_prim_on_action (turn_with i UnState d) action) TransPrim
+turn_after (InstalledBy i action) d = go_to (mark_yellow (turn_with i UnState d) action) TransPrim
 turn_after (Exchange core conf set) d = enter_exchange (turn_with core UnState d) conf set
 
 -- an action that is still to be marked is within the limits of an action

@@ -1,6 +1,5 @@
-ghost use Rattle.std.specs.Prelude.{◌≡◌, Some, IfOk, IfSome};
+ghost use Rattle.std.specs.Prelude.{◌≡◌, Some, IfOk};
 ghost use Rattle.cg_action.specs.Limits.{IsKind};
-ghost use Rattle.cg_action.specs.ActionLimits.{IsAction};
 ghost use Rattle.cg_report.specs.declared.line.StateName.TheVariants.{Un as UnName};
 ghost use Rattle.cg_wire.specs.Limits.{IsMsg};
 ghost use Rattle.cg_wire.specs.Reading.{message_in};

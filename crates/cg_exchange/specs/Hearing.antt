@@ -1,15 +1,17 @@
 -- What comes of one delivery in a state: of a message, of the bytes of one, of a configuration.
-use Rattle.std.specs.Prelude.{ℕ, List, Option, Some, None}
+use Rattle.std.specs.Prelude.{ℕ, false, List, Option, Some, None}
 use Rattle.cg_knowledge.specs.declared.summary.Summary.{Summary}
 use Rattle.cg_wire.specs.declared.message.Msg.{Msg}
 use Rattle.cg_wire.specs.declared.message.Msg.TheVariants.{State as StateMsg, GreenItem, RedItem, Action as ActionMsg}
 use Rattle.cg_wire.specs.Reading.{message_in}
 use Rattle.cg_group.specs.declared.delivery.Delivery.{Delivery}
 use Rattle.cg_group.specs.declared.delivery.Delivery.TheVariants.{Message, Transitional as TransitionalIn, Regular as RegularIn}
-use Rattle.cg_client.specs.Turn.{Turn}
-use Rattle.cg_exchange.specs.ExchangeStates.{exchange_states_on_summary, exchange_states_on_transitional}
-use Rattle.cg_exchange.specs.ExchangeActions.{exchange_actions_on_item, exchange_actions_on_transitional}
-use Rattle.cg_exchange.specs.NonPrim.{non_prim_on_action, non_prim_on_transitional, non_prim_on_regular}
+use Rattle.cg_client.specs.Replica.{NonPrim}
+use Rattle.cg_client.specs.Turn.{Turn, go_to}
+use Rattle.cg_client.specs.Marks.{mark_red}
+use Rattle.cg_client.specs.Summary.{enter_exchange}
+use Rattle.cg_exchange.specs.ExchangeStates.{exchange_states_on_summary}
+use Rattle.cg_exchange.specs.ExchangeActions.{exchange_actions_on_item}
 
 -- a message: anything but a summary is ignored
 unfoldable pub exchange_states_on_message : Turn → ℕ → List ℕ → List Summary → ℕ → Msg → Turn
@@ -24,7 +26,7 @@ exchange_states_on_read t conf set heard from (Some m) = exchange_states_on_mess
 -- one delivery
 abbrev pub exchange_states_on : Turn → ℕ → List ℕ → List Summary → Delivery (List ℕ) → Turn
 exchange_states_on t conf set heard (Message place from bytes) = exchange_states_on_read t conf set heard from (message_in bytes)
-exchange_states_on t conf set heard (TransitionalIn at left) = exchange_states_on_transitional t
+exchange_states_on t conf set heard (TransitionalIn at left) = go_to t (NonPrim false)
 exchange_states_on t conf set heard (RegularIn at joined) = t
 
 -- a message: anything but an item is ignored
@@ -44,12 +46,12 @@ exchange_actions_on_read t conf summaries accepted from (Some m) = exchange_acti
 abbrev pub exchange_actions_on : Turn → ℕ → List Summary → ℕ → Delivery (List ℕ) → Turn
 exchange_actions_on t conf summaries accepted (Message place from bytes) =
     exchange_actions_on_read t conf summaries accepted from (message_in bytes)
-exchange_actions_on t conf summaries accepted (TransitionalIn at set) = exchange_actions_on_transitional t
+exchange_actions_on t conf summaries accepted (TransitionalIn at set) = go_to t (NonPrim false)
 exchange_actions_on t conf summaries accepted (RegularIn at set) = t
 
 -- a message: anything but an action is ignored
 unfoldable pub non_prim_on_message : Turn → Msg → Turn
-non_prim_on_message t (ActionMsg a) = non_prim_on_action t a
+non_prim_on_message t (ActionMsg a) = mark_red t a
 non_prim_on_message t _ = t
 
 -- what was read in a delivery's bytes: nothing comes of bytes that spell no message
@@ -60,5 +62,5 @@ non_prim_on_read t (Some m) = non_prim_on_message t m
 -- one delivery
 abbrev pub non_prim_on : Turn → Delivery (List ℕ) → Turn
 non_prim_on t (Message place from bytes) = non_prim_on_read t (message_in bytes)
-non_prim_on t (TransitionalIn conf set) = non_prim_on_transitional t
-non_prim_on t (RegularIn conf set) = non_prim_on_regular t conf set
+non_prim_on t (TransitionalIn conf set) = go_to t (NonPrim false)
+non_prim_on t (RegularIn conf set) = enter_exchange t conf set

@@ -1,5 +1,4 @@
 pub mod States
-pub mod NonPrim
 pub mod PlanEnd
 pub mod ExchangeActions
 pub mod ExchangeStates

@@ -1,5 +1,5 @@
 //! The end of a plan: what a member takes over, and whether an attempt begins.
-ghost use Rattle.std.specs.Prelude.{◌≡◌, [], filter, fold, true, OnOk, IfOk};
+ghost use Rattle.std.specs.Prelude.{◌≡◌, filter, true, OnOk, IfOk};
 ghost use Rattle.cg_base.specs.Ids.{names};
 ghost use Rattle.cg_queue.specs.Answers.{AreReds};
 ghost use Rattle.cg_queue.specs.Distinct.{is_distinct};

@@ -5,13 +5,14 @@ use Rattle.cg_wire.specs.declared.message.Msg.TheVariants.{Action as ActionMsg}
 use Rattle.cg_wire.specs.Reading.{message_in}
 use Rattle.cg_group.specs.declared.delivery.Delivery.{Delivery}
 use Rattle.cg_group.specs.declared.delivery.Delivery.TheVariants.{Message, Transitional as TransitionalIn, Regular as RegularIn}
-use Rattle.cg_client.specs.Turn.{Turn}
-use Rattle.cg_prim.specs.RegPrim.{reg_prim_on_action, reg_prim_on_transitional}
-use Rattle.cg_prim.specs.TransPrim.{trans_prim_on_action, trans_prim_on_regular}
+use Rattle.cg_client.specs.Replica.{TransPrim}
+use Rattle.cg_client.specs.Turn.{Turn, go_to}
+use Rattle.cg_client.specs.Marks.{mark_yellow, mark_green}
+use Rattle.cg_prim.specs.TransPrim.{trans_prim_on_regular}
 
 -- a message: anything but an action is ignored
 unfoldable pub reg_prim_on_message : Turn → Msg → Turn
-reg_prim_on_message t (ActionMsg a) = reg_prim_on_action t a
+reg_prim_on_message t (ActionMsg a) = mark_green t a
 reg_prim_on_message t _ = t
 
 -- what was read in a delivery's bytes: nothing comes of bytes that spell no message
@@ -22,12 +23,12 @@ reg_prim_on_read t (Some m) = reg_prim_on_message t m
 -- one delivery
 abbrev pub reg_prim_on : Turn → Delivery (List ℕ) → Turn
 reg_prim_on t (Message place from bytes) = reg_prim_on_read t (message_in bytes)
-reg_prim_on t (TransitionalIn conf set) = reg_prim_on_transitional t
+reg_prim_on t (TransitionalIn conf set) = go_to t TransPrim
 reg_prim_on t (RegularIn conf set) = t
 
 -- a message: anything but an action is ignored
 unfoldable pub trans_prim_on_message : Turn → Msg → Turn
-trans_prim_on_message t (ActionMsg a) = trans_prim_on_action t a
+trans_prim_on_message t (ActionMsg a) = mark_yellow t a
 trans_prim_on_message t _ = t
 
 -- what was read in a delivery's bytes: nothing comes of bytes that spell no message

@@ -1,4 +1,3 @@
-pub mod RegPrim
 pub mod Hearing
 pub mod TransPrim
 pub mod Steps

@@ -10,7 +10,7 @@ ghost use Rattle.cg_client.specs.Drafts.{turn_with};
 ghost use Rattle.cg_client.specs.Requests.{request};
 ghost use Rattle.cg_client.specs.Calls.{kind_of, IsLineGreen};
 ghost use Rattle.cg_client.specs.Whitening.{with_white};
-ghost use Rattle.cg_prim.specs.TransPrim.{trans_prim_on_action};
+ghost use Rattle.cg_client.specs.Marks.{mark_yellow};
 ghost use Rattle.cg_prim.specs.Steps.{turn_after};
 ghost use Rattle.cg_prim.specs.Hearing.{trans_prim_on_message, trans_prim_on_read, trans_prim_on};
 
@@ -49,7 +49,7 @@ impl TransPrim {
     /// yellow.
     pub fn after(i: Installed, draft: &mut Draft, a: Action) -> Result<TransPrim, NoMemory>
         requires { IsAction a }
-        ensures { IfOk result (λ s. (state : State) → turn_with s state draft.new ≡ trans_prim_on_action (turn_with i state draft.old) a) }
+        ensures { IfOk result (λ s. (state : State) → turn_with s state draft.new ≡ mark_yellow (turn_with i state draft.old) a) }
     {
         let mut core = i.into_core();
         core.mark_yellow(draft, a)?;
