@@ -1,5 +1,5 @@
 ghost use Rattle.std.specs.Prelude.{◌≡◌};
-ghost use Rattle.cg_group.specs.Reasons.{reason_number, reason_value};
+ghost use Rattle.cg_group.specs.Reasons.{reason_numbers};
 
 use cg_base::ReplicaId;
 use thiserror::Error;
@@ -60,7 +60,7 @@ pub enum Reason {
 impl Reason {
     /// The number that is printed for the reason.
     pub fn number(&self) -> u8
-        ensures { result ≡ reason_number self.now }
+        ensures { result ≡ (reason_numbers self.now).0 }
     {
         match self {
             Reason::NotUp(_) => 1,
@@ -84,7 +84,7 @@ impl Reason {
 
     /// The value that is printed behind the number, where there is one.
     pub fn value(&self) -> Option<u64>
-        ensures { result ≡ reason_value self.now }
+        ensures { result ≡ (reason_numbers self.now).1 }
     {
         match self {
             Reason::NotUp(id)

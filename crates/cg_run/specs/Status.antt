@@ -2,7 +2,7 @@
 use Rattle.std.specs.Prelude.{ℕ, List, [], ◌∷◌, ◌++◌, codes, decimal}
 use Rattle.std.specs.Option.{option_map_or}
 use Rattle.cg_group.specs.declared.reason.Reason.{Reason}
-use Rattle.cg_group.specs.Reasons.{reason_number, reason_value}
+use Rattle.cg_group.specs.Reasons.{reason_numbers}
 use Rattle.cg_run.specs.declared.status.Status.{Status}
 use Rattle.cg_run.specs.declared.status.Status.TheVariants as status
 use Rattle.cg_run.specs.declared.status.Limit.{Limit}
@@ -21,7 +21,7 @@ limit_text limit.Steps = codes "steps"
 
 -- the number of a reason, and its value, where it has one
 abbrev pub refused_text : Reason → List ℕ
-refused_text reason = codes " " ++ decimal (reason_number reason) ++ option_map_or (λ n. codes " " ++ decimal n) (reason_value reason) []
+refused_text reason = codes " " ++ decimal (reason_numbers reason).0 ++ option_map_or (λ n. codes " " ++ decimal n) (reason_numbers reason).1 []
 
 -- the last line of the report, after so many steps and whole lines
 abbrev pub tail_line : Status → ℕ → ℕ → List ℕ
