@@ -2,7 +2,7 @@ pub mod Replica
 pub mod Turn
 pub mod Drafts
 pub mod Kept
-pub mod Standing
+pub mod Components
 pub mod Marks
 pub mod Requests
 pub mod Calls

@@ -1,13 +1,12 @@
-ghost use Rattle.std.specs.Prelude.{◌≡◌, ◌<◌, ◌^◌, suc, IfOk};
-ghost use Rattle.cg_action.specs.ActionLimits.{IsAction};
+ghost use Rattle.std.specs.Prelude.{◌≡◌, ◌<◌, IfOk};
 ghost use Rattle.cg_client.specs.Replica.{fresh_held, created, last_index};
 
+use crate::components::Components;
 use crate::entries::Entries;
 use crate::kept::Kept;
 use crate::known::Known;
 use crate::own::Own;
 use crate::servers::Servers;
-use crate::standing::Standing;
 use crate::waiting::Waiting;
 use cg_base::{ActionId, Cut, NoMemory, ReplicaId, Row, WeightSet};
 use std::alloc::Global;
@@ -23,7 +22,7 @@ pub struct Core {
     pub(crate) own: Own,
     pub(crate) db: Box<Entries>,
     pub(crate) members: Box<Servers>,
-    pub(crate) standing: Box<Standing>,
+    pub(crate) components: Box<Components>,
     pub(crate) buffered: Row<Kept>,
     pub(crate) owed: Waiting<ActionId>,
     pub(crate) alloc: Global,
@@ -34,7 +33,7 @@ impl Model for Core {
 
     ghost Value = { Held };
 
-    ghost view = { λ c. record { id = c.id; queue = c.queue.value; yellow_valid = c.yellow_valid; own = c.own; db = c.db.value; members = c.members.value; prim = c.standing.value.prim; attempt_index = c.standing.value.attempt_index; vulnerable = c.standing.value.vulnerable; buffered = c.buffered; owed = c.owed } };
+    ghost view = { λ c. record { id = c.id; queue = c.queue.value; yellow_valid = c.yellow_valid; own = c.own; db = c.db.value; members = c.members.value; prim = c.components.value.prim; attempt_index = c.components.value.attempt_index; vulnerable = c.components.value.vulnerable; buffered = c.buffered; owed = c.owed } };
 }
 
 // more of a replica's actions, and more greens, than any run makes
@@ -48,7 +47,7 @@ impl Core {
         let queue = Box::new(alloc, Known::resume(alloc, 0, Cut::zero()))?;
         let db = Box::new(alloc, Entries::new(alloc))?;
         let members = Box::new(alloc, Servers::start(*servers))?;
-        let standing = Box::new(alloc, Standing::start(*servers))?;
+        let components = Box::new(alloc, Components::start(*servers))?;
         Ok(Core {
             id,
             queue,
@@ -56,7 +55,7 @@ impl Core {
             own: Own::new(alloc),
             db,
             members,
-            standing,
+            components,
             buffered: Row::new(alloc),
             owed: Waiting::new(alloc),
             alloc,

@@ -1,5 +1,5 @@
 //! The installation of a primary component.
-ghost use Rattle.std.specs.Prelude.{◌≡◌, ◌∷◌, ◌++◌, [], fold, map, option_map, OnOk, IfOk, Some, Option};
+ghost use Rattle.std.specs.Prelude.{◌≡◌, ◌++◌, fold, option_map, OnOk, IfOk, Some};
 ghost use Rattle.std.specs.Option.{option_to_list};
 ghost use Rattle.cg_action.specs.ActionLimits.{IsAction};
 ghost use Rattle.cg_records.specs.Limits.{Each};
@@ -7,13 +7,13 @@ ghost use Rattle.cg_queue.specs.Queue.{action_of};
 ghost use Rattle.cg_client.specs.Replica.{State};
 ghost use Rattle.cg_client.specs.Turn.{with_held};
 ghost use Rattle.cg_client.specs.Marks.{mark_green};
-ghost use Rattle.cg_client.specs.Install.{actions_named, valid_yellow, yellow_green, reds_green, with_prim, weighted, prim_after, install};
+ghost use Rattle.cg_client.specs.Install.{actions_named, yellow_green, reds_green, with_prim, weighted, prim_after, install};
 ghost use Rattle.cg_client.specs.Drafts.{turn_with};
 
 use crate::actions::Actions;
+use crate::components::Components;
 use crate::known::Known;
 use crate::servers::Servers;
-use crate::standing::Standing;
 use crate::{Core, Draft};
 use cg_action::ActionList;
 use cg_base::{ActionId, IdSet, NoMemory, Row, WeightSet};
@@ -55,7 +55,7 @@ impl Core {
     {
         self.queue.set_yellow(&Row::new(self.alloc))?;
         self.yellow_valid = false;
-        *self.standing = Standing::of(prim, 0, self.standing.vulnerable())?;
+        *self.components = Components::of(prim, 0, self.components.vulnerable())?;
         Ok(())
     }
 
@@ -63,8 +63,8 @@ impl Core {
     fn prim_after(&self) -> Result<Primary, NoMemory>
         ensures { IfOk result (λ prim. prim ≡ prim_after self.now self.now.vulnerable) }
     {
-        let prim = self.standing.prim();
-        let Some(v) = self.standing.vulnerable() else {
+        let prim = self.components.prim();
+        let Some(v) = self.components.vulnerable() else {
             return Ok(prim);
         };
         // more primary components than any run makes

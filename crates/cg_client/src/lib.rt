@@ -6,6 +6,7 @@
 #![tactic(auto)]
 
 mod actions;
+mod components;
 mod draft;
 mod entries;
 mod held;
@@ -24,7 +25,6 @@ mod reads;
 mod request;
 mod requests;
 mod servers;
-mod standing;
 mod stored;
 mod telling;
 mod waiting;

@@ -1,12 +1,11 @@
 //! The marks of actions.
-ghost use Rattle.std.specs.Prelude.{◌≡◌, ◌<◌, ◌≤◌, ◌^◌, ◌==◌, ◌++◌, ◌∷◌, [], suc, IsTrue, OnOk, IfOk, option_map};
+ghost use Rattle.std.specs.Prelude.{◌≡◌, ◌<◌, ◌^◌, ◌==◌, ◌++◌, suc, IsTrue, OnOk, IfOk, option_map};
 ghost use Rattle.cg_base.specs.Cuts.{index_in};
-ghost use Rattle.cg_base.specs.Ids.{same_id};
 ghost use Rattle.cg_action.specs.ActionLimits.{IsAction};
 ghost use Rattle.cg_db.specs.Apply.{apply};
 ghost use Rattle.cg_db.specs.Find.{answer, query_of};
 ghost use Rattle.cg_client.specs.Drafts.{turn_with};
-ghost use Rattle.cg_client.specs.Replica.{State, created};
+ghost use Rattle.cg_client.specs.Replica.{State};
 ghost use Rattle.cg_client.specs.Marks.{is_unmade, can_be_green, after_first, after_owed, is_first, given_to, unknown_in, place_green, mark_green, mark_green_at, mark_red, mark_yellow, marked};
 ghost use Rattle.cg_queue.specs.Queue.{green_count, placed_green, marked_red, marked_yellow};
 

@@ -2,7 +2,6 @@
 ghost use Rattle.std.specs.Prelude.{◌≡◌, ◌++◌, ◌∷◌, [], filter, not, OnOk, IfOk};
 ghost use Rattle.cg_base.specs.Ids.{names};
 ghost use Rattle.cg_action.specs.ActionLimits.{IsAction};
-ghost use Rattle.cg_records.specs.Limits.{Each};
 ghost use Rattle.cg_queue.specs.Queue.{names_of};
 ghost use Rattle.cg_client.specs.Queries.{weak_answer, dirty_answer, plain_reds, view_of};
 
@@ -47,9 +46,9 @@ impl Core {
         Ok(View {
             green_count: self.queue.green_count(),
             white_count: self.queue.white_count(),
-            prim: self.standing.prim(),
-            attempt_index: self.standing.attempt_index(),
-            vulnerable: self.standing.vulnerable(),
+            prim: self.components.prim(),
+            attempt_index: self.components.attempt_index(),
+            vulnerable: self.components.vulnerable(),
             reds: plain_names(&self.queue)?,
             yellow: Yellow {
                 valid: self.yellow_valid,

@@ -36,21 +36,21 @@ impl Core {
         ensures value { result ≡ self.now.prim }
         ensures limits { IsPrimary self.now.prim }
     {
-        self.standing.prim()
+        self.components.prim()
     }
 
     pub fn attempt_index(&self) -> u64
         ensures value { result ≡ self.now.attempt_index }
         ensures limits { IsNumber self.now.attempt_index }
     {
-        self.standing.attempt_index()
+        self.components.attempt_index()
     }
 
     pub fn vulnerable(&self) -> Option<Vulnerable>
         ensures value { result ≡ self.now.vulnerable }
         ensures limits { IsMaybeVulnerable self.now.vulnerable }
     {
-        self.standing.vulnerable()
+        self.components.vulnerable()
     }
 
     /// The kept action of a name: a green one that isn't discarded, or a red one.

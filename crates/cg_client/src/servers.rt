@@ -1,6 +1,5 @@
 ghost use Rattle.std.specs.Prelude.{◌≡◌, ◌≤◌, ◌^◌};
 ghost use Rattle.cg_action.specs.ActionLimits.{IsAction};
-ghost use Rattle.cg_members.specs.Listed.{AreServers};
 ghost use Rattle.cg_members.specs.Servers.{starting, after_green, weight_of, white_line};
 ghost use Rattle.cg_records.specs.Limits.{Each, IsNumber};
 

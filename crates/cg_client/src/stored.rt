@@ -11,13 +11,13 @@ ghost use Rattle.cg_client.specs.Whitening.{with_white};
 ghost use Rattle.cg_client.specs.Calls.{IsLineGreen};
 
 use crate::Core;
+use crate::components::{Components, is_number};
 use crate::entries::Entries;
 use crate::held::MOST;
 use crate::known::Known;
 use crate::marks::{drop_owed, drop_own, name_of, put_green};
 use crate::own::Own;
 use crate::servers::Servers;
-use crate::standing::{Standing, is_number};
 use crate::telling::LONG;
 use crate::waiting::Waiting;
 use cg_action::Action;
@@ -69,8 +69,8 @@ impl Core {
         let queue = Box::new(alloc, Known::resume(alloc, white, cut))?;
         let db = Box::new(alloc, Entries::of(db))?;
         let members = Box::new(alloc, Servers::of(members))?;
-        let standing = Standing::of(prim, attempt_index, vulnerable)?;
-        let standing = Box::new(alloc, standing)?;
+        let components = Components::of(prim, attempt_index, vulnerable)?;
+        let components = Box::new(alloc, components)?;
         Ok(Core {
             id,
             queue,
@@ -78,7 +78,7 @@ impl Core {
             own: Own::new(alloc),
             db,
             members,
-            standing,
+            components,
             buffered: Row::new(alloc),
             owed: Waiting::new(alloc),
             alloc,
@@ -170,9 +170,9 @@ impl Core {
             return Err(NoMemory);
         }
         Ok(Stable {
-            prim: self.standing.prim(),
-            attempt_index: self.standing.attempt_index(),
-            vulnerable: self.standing.vulnerable(),
+            prim: self.components.prim(),
+            attempt_index: self.components.attempt_index(),
+            vulnerable: self.components.vulnerable(),
             yellow: Yellow {
                 valid: self.yellow_valid,
                 list,

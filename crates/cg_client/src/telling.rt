@@ -1,5 +1,5 @@
 //! What becomes of a primary component and of attempts, and what a replica tells the others as it enters an exchange.
-ghost use Rattle.std.specs.Prelude.{◌≡◌, ◌∷◌, ◌<◌, ◌^◌, [], suc, fold, true, Some, None, OnOk, IfOk};
+ghost use Rattle.std.specs.Prelude.{◌≡◌, ◌∷◌, ◌<◌, [], suc, fold, true, Some, None, OnOk, IfOk};
 ghost use Rattle.cg_queue.specs.Answers.{AreReds};
 ghost use Rattle.cg_queue.specs.Distinct.{is_distinct};
 ghost use Rattle.cg_records.specs.Limits.{IsNumber};
@@ -8,8 +8,8 @@ ghost use Rattle.cg_client.specs.Drafts.{turn_with};
 ghost use Rattle.cg_client.specs.Replica.{State, ExchangeStates};
 ghost use Rattle.cg_client.specs.Summary.{redden, own_to_red, summary_of, enter_exchange};
 
+use crate::components::{Components, is_number};
 use crate::own::Own;
-use crate::standing::{Standing, is_number};
 use crate::{Core, Draft};
 use cg_base::{IdSet, NoMemory};
 use cg_knowledge::Summary;
@@ -25,7 +25,7 @@ impl Core {
     pub fn end_prim(&mut self)
         ensures { self.new ≡ record self.old { vulnerable = None; yellow_valid = true } }
     {
-        self.standing.forget_record();
+        self.components.forget_record();
         self.yellow_valid = true;
     }
 
@@ -33,7 +33,7 @@ impl Core {
     pub fn forget_record(&mut self)
         ensures { self.new ≡ record self.old { vulnerable = None } }
     {
-        self.standing.forget_record();
+        self.components.forget_record();
     }
 
     /// Takes over what an exchange has decided, or what stands in a record. Each yellow name is one of a red action, and
@@ -49,10 +49,10 @@ impl Core {
         requires distinct { is_distinct yellow.now.list ≡ true }
         ensures { OnOk result (self.new ≡ (let q = self.old.queue in record self.old { queue = record q { yellow = yellow.now.list }; yellow_valid = yellow.now.valid; prim = prim; attempt_index = attempt_index; vulnerable = vulnerable })) }
     {
-        let standing = Standing::of(prim, attempt_index, vulnerable)?;
+        let components = Components::of(prim, attempt_index, vulnerable)?;
         self.queue.set_yellow(&yellow.list)?;
         self.yellow_valid = yellow.valid;
-        *self.standing = standing;
+        *self.components = components;
         Ok(())
     }
 
@@ -61,9 +61,9 @@ impl Core {
         ensures value { OnOk result (self.new ≡ record self.old { attempt_index = suc self.old.attempt_index; vulnerable = Some (record { attempt = conf; from = self.old.prim.index; set = set; bits = self.old.id ∷ [] }) }) }
         ensures conf { OnOk result (IsNumber conf) }
     {
-        let prim = self.standing.prim();
+        let prim = self.components.prim();
         // more attempts than any run makes
-        let Some(next) = self.standing.attempt_index().checked_add(1) else {
+        let Some(next) = self.components.attempt_index().checked_add(1) else {
             return Err(NoMemory);
         };
         let mut bits = IdSet::empty();
@@ -74,7 +74,7 @@ impl Core {
             set,
             bits,
         };
-        *self.standing = Standing::of(prim, next, Some(record))?;
+        *self.components = Components::of(prim, next, Some(record))?;
         Ok(())
     }
 
@@ -117,9 +117,9 @@ impl Core {
         Ok(Summary {
             id: self.id,
             conf,
-            prim: self.standing.prim(),
-            attempt_index: self.standing.attempt_index(),
-            vulnerable: self.standing.vulnerable(),
+            prim: self.components.prim(),
+            attempt_index: self.components.attempt_index(),
+            vulnerable: self.components.vulnerable(),
             yellow: Yellow {
                 valid: self.yellow_valid,
                 list,

@@ -1,4 +1,4 @@
-ghost use Rattle.std.specs.Prelude.{◌≡◌, ◌<◌, ◌^◌, IsTrue, None, IfOk};
+ghost use Rattle.std.specs.Prelude.{◌≡◌, ◌<◌, IsTrue, None, IfOk};
 ghost use Rattle.cg_records.specs.Limits.{IsNumber, IsPrimary, IsMaybeVulnerable};
 
 use cg_base::{NoMemory, WeightSet};
@@ -8,20 +8,20 @@ use std::marker::Model;
 /// What is known of primary components: the last one, how many attempts there were since, and the record of an attempt
 /// that others may have installed. Its numbers are below 2 ^ 63.
 #[derive(Drop)]
-pub(crate) struct Standing {
+pub(crate) struct Components {
     prim: Primary,
     attempt_index: u64,
     vulnerable: Option<Vulnerable>,
 }
 
-impl Model for Standing {
-    ghost use Rattle.cg_client.specs.Standing.{StandingView, IsStanding};
+impl Model for Components {
+    ghost use Rattle.cg_client.specs.Components.{ComponentsView, AreComponents};
 
-    ghost Value = { StandingView };
+    ghost Value = { ComponentsView };
 
     ghost view = { λ s. record { prim = s.prim; attempt_index = s.attempt_index; vulnerable = s.vulnerable } };
 
-    ghost invariant = { λ s. IsStanding (record { prim = s.prim; attempt_index = s.attempt_index; vulnerable = s.vulnerable }) };
+    ghost invariant = { λ s. AreComponents (record { prim = s.prim; attempt_index = s.attempt_index; vulnerable = s.vulnerable }) };
 }
 
 pub(crate) fn is_number(n: u64) -> bool
@@ -55,13 +55,13 @@ fn is_record(v: &Option<Vulnerable>) -> bool
 // numbers from here on have no bytes
 const LIMIT: u64 = 9223372036854775808;
 
-impl Standing {
+impl Components {
     /// Before the first primary component: these are its members.
-    pub(crate) fn start(set: WeightSet) -> Standing
+    pub(crate) fn start(set: WeightSet) -> Components
         ensures { result ≡ record { prim = record { index = 0; conf = 0; set = set }; attempt_index = 0; vulnerable = None } }
     {
         let _members = set.iter();
-        Standing {
+        Components {
             prim: Primary {
                 index: 0,
                 conf: 0,
@@ -77,7 +77,7 @@ impl Standing {
         prim: Primary,
         attempt_index: u64,
         vulnerable: Option<Vulnerable>,
-    ) -> Result<Standing, NoMemory>
+    ) -> Result<Components, NoMemory>
         ensures { IfOk result (λ s. s ≡ record { prim = prim; attempt_index = attempt_index; vulnerable = vulnerable }) }
     {
         if !is_prim(&prim) {
@@ -89,7 +89,7 @@ impl Standing {
         if !is_record(&vulnerable) {
             return Err(NoMemory);
         }
-        Ok(Standing {
+        Ok(Components {
             prim,
             attempt_index,
             vulnerable,
