@@ -16,7 +16,7 @@ use Rattle.cg_run.specs.declared.status.Status.{Status}
 use Rattle.cg_run.specs.declared.status.Status.TheVariants as status
 use Rattle.cg_run.specs.Produced.{Finding, Produced, before_all, status_of, ended_with, and_then}
 use Rattle.cg_run.specs.Outcome.{limit_of, unless_passed, line_outcome, whole_line, at_end, cut_line, last_piece, replayed, outcome_of, text_put}
-use Rattle.cg_run.specs.Taking.{most_taken, InTime, IsNear, Runs, found_in, end_of_line}
+use Rattle.cg_run.specs.Taking.{most_taken, most_at_once, InTime, Runs, found_in, end_of_line}
 use Rattle.cg_run.specs.Streaming.{IsUnended, OfTaken, Ends}
 use Rattle.cg_run.proofs.Feeds.{line_first, first_unended, some_piece}
 use Rattle.cg_run.proofs.GoingOn.{and_then-none, and_then-some}
@@ -213,7 +213,8 @@ replay-near taken how k e lt none =
     (subst (λ ps. (replayed 1 0 ps Open before_all).found ≡ None) c.front none)
 
 pub near : (c : Option Command) (taken : List ℕ) (how : Ending) (v v' : SinkView) (st : Status) → Ends c (outcome_of c taken how) v v' st
-    → InTime (text_put c) (λ front. outcome_of c front Open) taken v v' → IsNear st taken
+    → InTime (text_put c) (λ front. outcome_of c front Open) taken v v'
+    → (k : ℕ) → found_in st ≡ Some k → length taken ≤ end_of_line k (pieces_of 10 taken) + most_at_once
 near c taken how v v' st ended in_time k f = elim (cases_lt (end_of_line k (pieces_of 10 taken) + 4096) (length taken)) [
   | inl lt ↦
       let m = end_of_line k (pieces_of 10 taken) in

@@ -57,8 +57,7 @@ limit_of n len end =
 
 -- unless a limit was passed
 abbrev pub unless_passed : Option Limit → ℕ → Progress → Produced → Produced
-unless_passed (Some what) n s otherwise = ended_with (status.Limit n what) n s
-unless_passed None n s otherwise = otherwise
+unless_passed passed n s otherwise = option_map_or (λ what. ended_with (status.Limit n what) n s) passed otherwise
 
 -- line n, which begins at an offset of the input and has its end
 abbrev pub whole_line : ℕ → ℕ → List ℕ → Progress → Produced

@@ -1,6 +1,7 @@
 -- What a part of a run comes to. Parts follow one another: the steps of the first come before those of the next, and the
 -- first finding ends the run.
 use Rattle.std.specs.Prelude.{ℕ, ◌+◌, nat_lt, List, [], ◌∷◌, ◌++◌, Option, Some, None, option_map, option_and_then, if◌then◌else◌}
+use Rattle.std.specs.Option.{option_map_or}
 use Rattle.cg_group.specs.declared.reason.Reason.{Reason}
 use Rattle.cg_schedule.specs.declared.event.Event.{Event}
 use Rattle.cg_schedule.specs.Line.{first_state}
@@ -73,11 +74,8 @@ ended_with status lines s = record { steps = []; found = Some record { status = 
 -- the event of line n isn't admitted
 abbrev pub refused_with : ℕ → Event → Reason → Progress → Produced
 refused_with n event reason s =
-    record {
-      steps = [];
-      found = Some record { status = status.Refused n reason; lines = n; refused = Some record { event = event; reason = reason } };
-      progress = s;
-    }
+    let f : Finding = record { status = status.Refused n reason; lines = n; refused = Some record { event = event; reason = reason } } in
+    record { steps = []; found = Some f; progress = s }
 
 -- these steps come first
 abbrev pub prepend : List Step → Produced → Produced
@@ -85,10 +83,7 @@ prepend steps p = record { steps = steps ++ p.steps; found = p.found; progress =
 
 -- what comes after, unless the run has ended
 abbrev pub and_then : Produced → (Progress → Produced) → Produced
-and_then p more = by_finding p.found where
-  by_finding : Option Finding → Produced
-  by_finding None = prepend p.steps (more p.progress)
-  by_finding (Some f) = p
+and_then p more = option_map_or (λ f. p) p.found (prepend p.steps (more p.progress))
 
 -- a step is made, unless there are too many; what it moves to is given, and its line's number
 abbrev pub stepped : ℕ → Event → Moved → Progress → Produced
@@ -102,8 +97,7 @@ stepped n event m s =
 
 -- an event that is admitted makes its step; another ends the run
 abbrev pub unless_refused : Option Reason → ℕ → Event → Progress → Produced
-unless_refused None n event s = stepped n event (world_step s.world event) s
-unless_refused (Some reason) n event s = refused_with n event reason s
+unless_refused refusal n event s = option_map_or (λ reason. refused_with n event reason s) refusal (stepped n event (world_step s.world event) s)
 
 -- one step of line n, where its event is admitted
 abbrev pub one_step : ℕ → Event → Progress → Produced

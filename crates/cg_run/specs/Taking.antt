@@ -56,12 +56,9 @@ end_of_line zero lines = 0
 end_of_line (suc n) [] = 0
 end_of_line (suc n) (line ∷ lines) = length line + 1 + end_of_line n lines
 
--- where a line is the first finding, no more was taken past its end than is taken at once
-abbrev pub IsNear : Status → List ℕ → Type 0
-IsNear status taken = (n : ℕ) → found_in status ≡ Some n → length taken ≤ end_of_line n (pieces_of 10 taken) + most_at_once
-
 -- A command has run: these bytes were taken, no more than the most, and the taking ended in some way; what was put and the status
--- are what these bytes come to; and they were taken as they were needed.
+-- are what these bytes come to; and they were taken as they were needed: where a line is the first finding, no more past its end than is
+-- taken at once.
 pub record Runs (command : Option Command) (old new : SourceView) (from to : SinkView) (status : Status) : Type 0 where
   pub taken : List ℕ
   pub ending : Ending
@@ -70,7 +67,7 @@ pub record Runs (command : Option Command) (old new : SourceView) (from to : Sin
   pub most : length taken ≤ most_taken
   pub ends : StopsWith (text_put command (outcome_of command taken ending)) (status_of (outcome_of command taken ending)) from to status
   pub in_time : InTime (text_put command) (λ front. outcome_of command front Open) taken from to
-  pub near : IsNear status taken
+  pub near : (n : ℕ) → found_in status ≡ Some n → length taken ≤ end_of_line n (pieces_of 10 taken) + most_at_once
 
 -- what holds of the steps of the outcome, whatever was taken and however the taking ended
 abbrev pub OfSteps : List (List ℕ) → (List Step → Type 0) → Type 0
