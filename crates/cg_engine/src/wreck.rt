@@ -1,4 +1,4 @@
-ghost use Rattle.std.specs.Prelude.{◌≡◌, [], nat_lt, if◌then◌else◌, IfOk};
+ghost use Rattle.std.specs.Prelude.{◌≡◌, [], IfOk};
 
 use cg_base::{IdList, NoMemory, ReplicaId, Row};
 use cg_disk::{Disk, ModelDisk};

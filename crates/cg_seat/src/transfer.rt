@@ -1,6 +1,5 @@
 //! A snapshot under way.
-ghost use Rattle.std.specs.Prelude.{◌≡◌, ◌≤◌, ◌+◌, ◌^◌, [], min, IfOk};
-ghost use Rattle.cg_disk.specs.View.{DiskView};
+ghost use Rattle.std.specs.Prelude.{◌≡◌, ◌≤◌, ◌+◌, [], min, IfOk};
 ghost use Rattle.cg_client.specs.Joined.{joined, piece_count};
 ghost use Rattle.cg_records.specs.Limits.{IsNumber};
 ghost use Rattle.cg_stored.specs.Agreeing.{Agrees};

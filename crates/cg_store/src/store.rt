@@ -1,5 +1,5 @@
 //! A replica's store, and the calls that write.
-ghost use Rattle.std.specs.Prelude.{◌≡◌, ◌+◌, ◌<◌, ◌≤◌, ◌^◌, ◌⊎◌, suc, [], nat_lt};
+ghost use Rattle.std.specs.Prelude.{◌≡◌, ◌+◌, ◌<◌, ◌≤◌, ◌^◌, suc, nat_lt};
 ghost use Rattle.std.specs.Prelude.{IfOk, OnOk, length};
 ghost use Rattle.cg_stored.specs.Stored.{stable_of};
 ghost use Rattle.cg_stored.specs.Checkpoint.{spelled_checkpoint};
@@ -90,7 +90,7 @@ fn paired<D: Disk>(
 }
 
 impl<D: Disk> Store<D> {
-    ghost use Rattle.std.specs.Prelude.{IfOk, OnOk, IfSome, Some, length, ℕ};
+    ghost use Rattle.std.specs.Prelude.{IfOk, OnOk, IfSome, Some, length};
     ghost use Rattle.cg_base.specs.Choice.{Either};
     ghost use Rattle.cg_action.specs.ActionLimits.{IsAction};
     ghost use Rattle.cg_disk.specs.Calls.{Begins as DiskBegins};
