@@ -20,7 +20,7 @@ use Rattle.cg_client.specs.Requests.{settle}
 use Rattle.cg_client.specs.Install.{valid_yellow}
 use Rattle.cg_client.specs.Queries.{plain_reds}
 use Rattle.cg_stored.specs.Stored.{stored_of, whiten}
-use Rattle.cg_step.specs.Crash.{new_disk, crash_now, recovered, disk_recovered}
+use Rattle.cg_step.specs.Crash.{new_disk, at_rest, recovered, disk_recovered}
 use Rattle.cg_agree.specs.World.{Life, Up, Down, Seat, running, Snapshot, World, replica_of, has_begun, is_left}
 use Rattle.cg_agree.specs.Step.{begin_replica, joined, name_also}
 use Rattle.cg_agree.specs.Chronicle.{Past, Attempt, Chronicle, no_chronicle}
@@ -222,7 +222,7 @@ module _ (c : Chronicle) (i : Invariant c) where
   crashes-list p may =
       let sits = seated c.world p may in
       let d = crash_as c p (Up sits.replica sits.disk) in
-      let life : Life = Down (crash_now sits.disk) [] in
+      let life : Life = Down (at_rest sits.disk) [] in
       subst AttemptList (sym (ap (λ (o : Option Seat). option_map_or (λ s. crash_as c p s.life) o c) sits.seat))
       (one-list c d p DownPhase 0 false
       (record {

@@ -14,7 +14,7 @@ use Rattle.cg_queue.specs.Queue.{names_of}
 use Rattle.cg_client.specs.Replica.{Held, Replica, NonPrim, created}
 use Rattle.cg_client.specs.Turn.{Turn, begin}
 use Rattle.cg_stored.specs.Stored.{stored_of, whiten, recover}
-use Rattle.cg_step.specs.Crash.{Disk, crash_now, new_disk, recovered, disk_recovered}
+use Rattle.cg_step.specs.Crash.{Disk, at_rest, new_disk, recovered, disk_recovered}
 use Rattle.cg_agree.specs.World.{Life, Up, Down, Seat, running, seat_of, replica_of, has_begun}
 use Rattle.cg_agree.specs.Attempts.{held_in}
 use Rattle.cg_agree.specs.Step.{joined, without_snapshot}
@@ -125,7 +125,7 @@ counts-crash c p written s e (Down disk green) life is = is
 counts-crash c p written s e (Up r disk) life is =
     let seat = seat-of c p s (Up r disk) life e in
     let agrees = subst (λ (o : Option Seat). IfSome (option_and_then (λ s. running s.life) o) (λ r. IfSome (option_map (λ s. on_disk s.life) o) (λ disk. GoesOn r.held disk × IsAsOnDisk r.held disk r.state))) seat written.up in
-    counts-moved c (crash_as c p (Up r disk)) p (Down (crash_now disk) []) (λ q. seat_of-set c.world p (Down (crash_now disk) []) q) is.numbered
+    counts-moved c (crash_as c p (Up r disk)) p (Down (at_rest disk) []) (λ q. seat_of-set c.world p (Down (at_rest disk) []) q) is.numbered
     (core-at c p r.held (ap core_in seat) is ∙ agrees.0.created) (λ q apart. refl) is
 
 pub counts-recover : (c : Chronicle) (p : ℕ) → IfSome (disk_held c.world p) (λ h. h.id ≡ p) → IfSome (disk_held c.world p) (λ h. IsCore c h (stood_of c p)) →

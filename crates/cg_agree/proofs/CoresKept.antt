@@ -9,7 +9,7 @@ use Rattle.cg_action.specs.declared.action.Action.{Action}
 use Rattle.cg_client.specs.Replica.{Held, Replica}
 use Rattle.cg_client.specs.Turn.{Turn, begin}
 use Rattle.cg_stored.specs.Stored.{stored_of, whiten, recover as recover_disk}
-use Rattle.cg_step.specs.Crash.{Disk, crash_now, recovered, disk_recovered}
+use Rattle.cg_step.specs.Crash.{Disk, at_rest, recovered, disk_recovered}
 use Rattle.cg_agree.specs.World.{Life, Up, Down, Seat, Snapshot, running, seat_of, replica_of}
 use Rattle.cg_agree.specs.Step.{joined}
 use Rattle.cg_agree.specs.Chronicle.{Past, Copy, Chronicle}
@@ -178,9 +178,9 @@ pub crash-cores : (Q : Held → List Action → Type 0) (c : Chronicle) (p : ℕ
 crash-cores Q c p left f = at (seat_of c.world p) refl left where
   done : (r : Replica) (disk : Disk) → seat_of c.world p ≡ Some (record { id = p; life = Up r disk }) → SnapshotsKeep (crash_as c p (Up r disk)) Q → OfCores (crash_as c p (Up r disk)) Q
   done r disk seat left =
-      reseated Q c (crash_as c p (Up r disk)) p (Down (crash_now disk) []) (stood_of c p) (stood_of c p)
+      reseated Q c (crash_as c p (Up r disk)) p (Down (at_rest disk) []) (stood_of c p) (stood_of c p)
       (record {
-        seat = λ q. seat_of-set c.world p (Down (crash_now disk) []) q;
+        seat = λ q. seat_of-set c.world p (Down (at_rest disk) []) q;
         greens = ap greens-in (past-here struck (λ x. refl) c p) ∙ struck-greens (past_of c p);
         disk = ap stood-in (past-here struck (λ x. refl) c p) ∙ struck-stood (past_of c p);
         other_greens = λ q apart. ap greens-in (past-there struck (λ x. refl) c p q apart);

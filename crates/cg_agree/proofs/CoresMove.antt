@@ -16,7 +16,7 @@ use Rattle.cg_client.specs.Turn.{Turn, begin}
 use Rattle.cg_client.specs.Install.{prim_after}
 use Rattle.cg_client.specs.Requests.{settle}
 use Rattle.cg_stored.specs.Stored.{stored_of, whiten, recover as recover_disk}
-use Rattle.cg_step.specs.Crash.{Disk, crash_now, recovered, disk_recovered, new_disk}
+use Rattle.cg_step.specs.Crash.{Disk, at_rest, recovered, disk_recovered, new_disk}
 use Rattle.cg_agree.specs.Attempts.{held_in}
 use Rattle.cg_agree.specs.World.{Life, Up, Down, Seat, seat_of, replica_of, running, has_begun}
 use Rattle.cg_agree.specs.Step.{joined, without_snapshot}
@@ -180,7 +180,7 @@ crash-moves c p rests s e (Up r disk) is =
     let both = subst (λ (o : Option Held). IfSome o (λ disk. GoesOn r.held disk × IsAsOnDisk r.held disk r.state)) (ap (λ (o : Option Seat). option_map (λ s. on_disk s.life) o) seat)
     (subst (λ (o : Option Replica). IfSome o (λ r. IfSome (disk_held c.world p) (λ disk. GoesOn r.held disk × IsAsOnDisk r.held disk r.state))) (ap (λ (o : Option Seat). option_and_then (λ s. running s.life) o) seat) rests.up) in
     let index = ap (λ (x : Primary). x.index) both.0.prim in
-    moved c (crash_as c p (Up r disk)) p (Down (crash_now disk) []) r.held (λ q. seat_of-set c.world p (Down (crash_now disk) []) q) (ap core_in seat) (omega (arith, index))
+    moved c (crash_as c p (Up r disk)) p (Down (at_rest disk) []) r.held (λ q. seat_of-set c.world p (Down (at_rest disk) []) q) (ap core_in seat) (omega (arith, index))
     (changed-greens c (crash_as c p (Up r disk)) struck p (λ x. refl) refl (same (past_of c p) (ap (λ (xs : List Action). length xs) rests.greens))) where
       same : (o : Option Past) → length (greens-in o) ≡ length (option_map_or (λ (x : Past). x.stood) o []) → length (greens-in o) ≤ length (greens-in (option_map struck o))
       same None e = omega arith

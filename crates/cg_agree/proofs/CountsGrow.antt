@@ -24,11 +24,12 @@ use Rattle.cg_client.specs.Turn.{Turn, begin}
 use Rattle.cg_client.specs.Requests.{request_in}
 use Rattle.cg_stored.specs.Stored.{whiten}
 use Rattle.cg_step.specs.Step.{Input, Deliveries, Asks as AsksOf, replica_step}
-use Rattle.cg_step.specs.Crash.{Disk, FailOnce, StopWith, Strike, whitened, end_event, crash_now, new_disk, recovered, disk_recovered}
+use Rattle.cg_step.specs.Crash.{Disk, FailOnce, StopWith, Strike, whitened, end_event, at_rest, new_disk, recovered, disk_recovered}
 use Rattle.cg_schedule.specs.declared.event.Event.{Event}
 use Rattle.cg_schedule.specs.declared.event.Event.TheVariants.{Start, Split, Merge, Request, Weak, Dirty, Order, Recover, Show, ShowOrder, Gather, End, Receive, Deliver, Rounds, Stop, Fail, Join, Leave, Transfer}
 use Rattle.cg_agree.specs.World.{Life, Up, Down, Seat, Snapshot, World, no_world, running, has_begun, seat_of, replica_of, bring_up}
-use Rattle.cg_agree.specs.Admission.{first_refusal, takes_part, never_named, begun_already, joiner_left, not_green}
+use Rattle.cg_agree.specs.Admission.{first_refusal, takes_part, never_named, joiner_left, not_green}
+use Rattle.cg_agree.specs.AdmissionCalls.{begun_already}
 use Rattle.cg_agree.specs.Show.{ended}
 use Rattle.cg_agree.specs.Run.{MayStand}
 use Rattle.cg_agree.specs.Agreement.{may_move}
@@ -229,7 +230,7 @@ module _ (start : List Weighted) (w : World) (even : (p : ℕ) → SeatEven star
     stopped : Grows (option_map_or (λ s. crash_at w p s.life) (seat_of w p) w) moved
     stopped = of-seat (crash_at w p) life where
       life : (l : Life) → seat_of w p ≡ Some (record { id = p; life = l }) → LifeEven start p l → Grows (crash_at w p l) moved
-      life (Up r disk) seat now = set-to (crash_at w p (Up r disk)) (Up r disk) (Down (crash_now disk) []) seat (λ q. seat_of-set w p (Down (crash_now disk) []) q)
+      life (Up r disk) seat now = set-to (crash_at w p (Up r disk)) (Up r disk) (Down (at_rest disk) []) seat (λ q. seat_of-set w p (Down (at_rest disk) []) q)
           (record { more = (let same = now.same in omega arith); still = λ idle. sym now.same; begun = λ some down. refl; up = λ idle x runs. inr (r, refl) })
       life (Down disk green) seat now = stays w moved refl
 

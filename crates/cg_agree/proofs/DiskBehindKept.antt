@@ -12,7 +12,7 @@ use Rattle.cg_client.specs.Replica.{Held, Replica}
 use Rattle.cg_client.specs.Turn.{Turn, begin}
 use Rattle.cg_client.specs.Requests.{settle}
 use Rattle.cg_stored.specs.Stored.{stored_of, whiten}
-use Rattle.cg_step.specs.Crash.{Disk, new_disk, crash_now, recovered, disk_recovered}
+use Rattle.cg_step.specs.Crash.{Disk, new_disk, at_rest, recovered, disk_recovered}
 use Rattle.cg_agree.specs.World.{Life, Up, Down, Seat, running, seat_of, replica_of, has_begun}
 use Rattle.cg_agree.specs.Step.{joined, without_snapshot}
 use Rattle.cg_agree.specs.Chronicle.{Past, Chronicle, no_chronicle}
@@ -120,9 +120,9 @@ behind-commit c p s e (Up r disk) is old =
 behind-crash : (c : Chronicle) (p : ℕ) (s : Seat) → seat_of c.world p ≡ Some s → (life : Life) → s.life ≡ life → DiskBehind c → DiskBehind (crash_as c p life)
 behind-crash c p s e (Down disk green) is old = old
 behind-crash c p s e (Up r disk) is old =
-    behind-moved c (crash_as c p (Up r disk)) p (Down (crash_now disk) []) (stood_of c p) (stood_of c p)
+    behind-moved c (crash_as c p (Up r disk)) p (Down (at_rest disk) []) (stood_of c p) (stood_of c p)
     (record {
-      seat = λ q. seat_of-set c.world p (Down (crash_now disk) []) q;
+      seat = λ q. seat_of-set c.world p (Down (at_rest disk) []) q;
       greens = ap greens-in (past-here struck (λ x. refl) c p) ∙ struck-greens (past_of c p);
       disk = ap stood-in (past-here struck (λ x. refl) c p) ∙ struck-stood (past_of c p);
       other_greens = λ q apart. ap greens-in (past-there struck (λ x. refl) c p q apart);

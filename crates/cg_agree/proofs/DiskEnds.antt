@@ -1,5 +1,5 @@
 -- What stands on a disk behind the end of an event: what stood there, or what the replica holds now.
-use Rattle.std.proofs.Common.{◌≡◌, ℕ, ◌<◌, ◌≤◌, true, false, cond, List, Option, Some, None, refl, sym, ap, ◌∙◌, subst, ⊎_elim, arith, nat_lt, nat_le, [], if◌then◌else◌}
+use Rattle.std.proofs.Common.{◌≡◌, ℕ, ◌-◌, ◌<◌, ◌≤◌, ◌++◌, true, false, cond, List, Option, Some, None, refl, sym, ap, ◌∙◌, subst, ⊎_elim, arith, nat_lt, nat_le, [], if◌then◌else◌}
 use Rattle.std.specs.Prelude.{◌&&◌}
 use Rattle.std.proofs.lemmas.Bool.{cases_Bool, cond-true, cond-false, cond_both, ltb-true, leb-true, lt-ltb, or_cases, and_parts, false_from_ne_true}
 use Rattle.cg_base.specs.declared.action_id.ActionId.{ActionId}
@@ -7,13 +7,14 @@ use Rattle.cg_client.specs.Replica.{Held}
 use Rattle.cg_client.specs.Turn.{Turn}
 use Rattle.cg_stored.specs.Stored.{stored_of, whiten}
 use Rattle.cg_step.specs.Commit.{commits}
-use Rattle.cg_step.specs.Crash.{Strike, Fault, FailOnce, StopWith, Disk, Ended, Runs, Crashes, opens, with_change, with_checkpoint, is_long, calls_of, checkpointed, whitened, later, commit_under, keep, struck, end_event, at_rest, crash_outcome, is_committed, is_checkpointed}
+use Rattle.cg_stored.specs.Checkpoint.{size_limit}
+use Rattle.cg_step.specs.Crash.{Strike, Fault, FailOnce, StopWith, Disk, Ended, Runs, Crashes, opens, with_change, with_checkpoint, calls_of, checkpointed, whitened, commit_under, struck, end_event, at_rest, crash_outcome, is_committed, is_checkpointed}
 use Rattle.cg_agree.specs.Turns.{is_kept}
 
 -- a checkpoint changes nothing of it
 content-checkpointed : (disk : Disk) → (checkpointed disk).content ≡ disk.content
 unfolding with_checkpoint
-content-checkpointed disk = cond_both (is_long disk) (with_checkpoint disk) disk (λ d. d.content ≡ disk.content) (λ y. refl) (λ n. refl)
+content-checkpointed disk = cond_both (nat_lt size_limit disk.size) (with_checkpoint disk) disk (λ d. d.content ≡ disk.content) (λ y. refl) (λ n. refl)
 
 content-changed : (disk : Disk) (t : Turn) → (with_change disk t).content ≡ stored_of (whiten t.replica.held)
 unfolding with_change
@@ -59,12 +60,12 @@ pub end-shown : (disk : Disk) (old : Held) (t : Turn) (G : Ended → Type 0) →
     G (end_event disk old t)
 unfolding end_event
 end-shown disk old t G kept committed stands lost =
-    cond_both (commits old t) (commit_under disk.armed disk t) (keep disk t) G (λ y. under y disk.armed refl) (λ n. kept n _ refl) where
+    cond_both (commits old t) (commit_under disk.armed disk t) (Runs t.replica (record disk { unwritten = disk.unwritten ++ t.known })) G (λ y. under y disk.armed refl) (λ n. kept n _ refl) where
       under : commits old t ≡ true → (armed : Option Strike) → disk.armed ≡ armed → G (commit_under armed disk t)
       under y None is = committed y (checkpointed (with_change disk t)) (content-checkpointed (with_change disk t) ∙ content-changed disk t)
       under y (Some strike) is =
           let done = checkpointed (with_change disk t) in
-          let after : Disk = record done { armed = Some (later (calls_of (with_change disk t)) strike) } in
+          let after : Disk = record done { armed = Some (record strike { call = strike.call - calls_of (with_change disk t) }) } in
           let left = at_rest (crash_outcome disk t strike) in
           cond_both (nat_le strike.call (calls_of (with_change disk t))) (struck disk t strike) (Runs (whitened t.replica) after) G
           (λ reached. ⊎_elim

@@ -21,7 +21,7 @@ use Rattle.cg_client.specs.Replica.{Held, Replica, NonPrim, fresh}
 use Rattle.cg_client.specs.Turn.{begin}
 use Rattle.cg_stored.specs.Stored.{recover as recover_disk}
 use Rattle.cg_step.specs.Step.{Input, Deliveries, Asks as AsksOf, replica_step}
-use Rattle.cg_step.specs.Crash.{Strike, Disk, crash_now, new_disk, recovered, disk_recovered, end_event}
+use Rattle.cg_step.specs.Crash.{Strike, Disk, at_rest, new_disk, recovered, disk_recovered, end_event}
 use Rattle.cg_schedule.specs.declared.event.Event.{Event}
 use Rattle.cg_schedule.specs.declared.event.Event.TheVariants.{Start, Recover}
 use Rattle.cg_agree.specs.World.{Life, Up, Down, Seat, Snapshot, World, no_world, running, seat_of, replica_of, set_life, bring_up, bring_down}
@@ -200,17 +200,17 @@ pub stop-meets : (w : World) (e : Event) (q p : ℕ) → Meets w e (quietly (opt
 stop-meets w e q p = at (seat_of w q) refl where
   life : (s : Seat) (l : Life) → s.life ≡ l → seat_of w q ≡ Some s → Meets w e (quietly (crash_at w q l)) p
   life s (Up r disk) is found =
-      let v = bring_down w q (crash_now disk) [] in
-      let seats : (x : ℕ) → seat_of v x ≡ seat_of (set_life w q (Down (crash_now disk) [])) x = λ x. refl in
+      let v = bring_down w q (at_rest disk) [] in
+      let seats : (x : ℕ) → seat_of v x ≡ seat_of (set_life w q (Down (at_rest disk) [])) x = λ x. refl in
       elim (cases_eq p q) [
-        | inr apart ↦ quiet-stays w v e p (set-kept w v q (Down (crash_now disk) []) p seats apart)
+        | inr apart ↦ quiet-stays w v e p (set-kept w v q (Down (at_rest disk) []) p seats apart)
         | inl same ↦
-            let here = set-here w v q (Down (crash_now disk) []) seats in
+            let here = set-here w v q (Down (at_rest disk) []) seats in
             let was : disk_held w q ≡ Some disk.content = ap (λ (o : Option Seat). option_map (λ s. on_disk s.life) o) found ∙ ap (λ l. Some (on_disk l)) is in
             Falls (record {
-              fallen = crash_now disk;
+              fallen = at_rest disk;
               green = [];
-              seat = ap (seat_of v) same ∙ here.2 ∙ ap (λ n. Some (record { id = n; life = Down (crash_now disk) [] })) (sym same);
+              seat = ap (seat_of v) same ∙ here.2 ∙ ap (λ n. Some (record { id = n; life = Down (at_rest disk) [] })) (sym same);
               disk = ap (disk_held v) same ∙ here.1 ∙ sym was ∙ ap (disk_held w) (sym same);
               said = said-none no_going (quietly v) p refl refl;
             })

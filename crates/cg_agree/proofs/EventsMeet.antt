@@ -17,7 +17,8 @@ use Rattle.cg_base.specs.declared.action_id.ActionId.{ActionId}
 use Rattle.cg_schedule.specs.declared.event.Event.{Event}
 use Rattle.cg_schedule.specs.declared.event.Event.TheVariants.{Start, Split, Merge, Request, Weak, Dirty, Order, Recover, Show, ShowOrder, Gather, End, Receive, Deliver, Rounds, Stop, Fail, Join, Leave, Transfer}
 use Rattle.cg_agree.specs.World.{Down, Seat, World, has_begun, seat_of, replica_of}
-use Rattle.cg_agree.specs.Admission.{first_refusal, takes_part, never_named, begun_already, joiner_left, not_green}
+use Rattle.cg_agree.specs.Admission.{first_refusal, takes_part, never_named, joiner_left, not_green}
+use Rattle.cg_agree.specs.AdmissionCalls.{begun_already}
 use Rattle.cg_agree.specs.Run.{MayStand}
 use Rattle.cg_agree.specs.Chronicle.{Chronicle}
 use Rattle.cg_agree.specs.Looks.{on_disk, disk_held}

@@ -18,7 +18,7 @@ use Rattle.cg_client.specs.Turn.{Turn, begin}
 use Rattle.cg_client.specs.Requests.{settle, is_creating, create, create_kept, empty_buffer, request_in, request}
 use Rattle.cg_client.specs.Summary.{summary_of}
 use Rattle.cg_stored.specs.Stored.{stored_of, whiten}
-use Rattle.cg_step.specs.Crash.{Disk, new_disk, crash_now, recovered, disk_recovered}
+use Rattle.cg_step.specs.Crash.{Disk, new_disk, at_rest, recovered, disk_recovered}
 use Rattle.cg_agree.specs.World.{Life, Up, Down, Seat, running, Snapshot, World, seat_of, replica_of, has_begun, is_left}
 use Rattle.cg_agree.specs.Step.{begin_replica, joined}
 use Rattle.cg_agree.specs.Chronicle.{Past, Told, Chronicle, no_chronicle}
@@ -306,7 +306,7 @@ module _ (c : Chronicle) (i : Invariant c) where
       (record {
         stands = stands-down c.world.group p;
         told = λ conf q t e. e;
-        replica = λ q other. replica-set c.world p (Down (crash_now sits.disk) []) q ∙ cond-false (q == p) None (replica_of c.world q) other;
+        replica = λ q other. replica-set c.world p (Down (at_rest sits.disk) []) q ∙ cond-false (q == p) None (replica_of c.world q) other;
         greens = λ q other. ap greens-in (past-there struck (λ x. refl) c p q (λ e. eqb-false q p other (sym e)));
       }))
 

@@ -15,7 +15,7 @@ use Rattle.cg_client.specs.Replica.{Replica, fresh}
 use Rattle.cg_client.specs.Turn.{Turn, begin}
 use Rattle.cg_client.specs.Requests.{settle}
 use Rattle.cg_stored.specs.Stored.{stored_of, whiten}
-use Rattle.cg_step.specs.Crash.{Disk, new_disk, crash_now, recovered, disk_recovered}
+use Rattle.cg_step.specs.Crash.{Disk, new_disk, at_rest, recovered, disk_recovered}
 use Rattle.cg_agree.specs.World.{Life, Up, Down, Seat, Snapshot, World, has_begun, seat_of, replica_of, set_life, bring_up}
 use Rattle.cg_agree.specs.Step.{begin_replica, name_also, joined, without_snapshot}
 use Rattle.cg_agree.specs.Chronicle.{Chronicle}
@@ -163,7 +163,7 @@ lists-in w (Commits p) may is = at (seat_of w p) where
   at (Some s) = life-lists s.life
 lists-in w (Crashes p) may is = at (seat_of w p) where
   life-lists : (life : Life) → AreLists (crash_in w p life)
-  life-lists (Up r disk) = record { seats = rising-seat w p (Down (crash_now disk) []) is.seats; keyed = keyed-down w.group p is.keyed; served = served-filtered (λ s. not (s.giver == p)) w.snapshots is.served }
+  life-lists (Up r disk) = record { seats = rising-seat w p (Down (at_rest disk) []) is.seats; keyed = keyed-down w.group p is.keyed; served = served-filtered (λ s. not (s.giver == p)) w.snapshots is.served }
   life-lists (Down disk green) = is
 
   at : (o : Option Seat) → AreLists (option_map_or (λ s. crash_in w p s.life) o w)

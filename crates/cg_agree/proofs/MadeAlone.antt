@@ -9,7 +9,8 @@ use Rattle.cg_group.specs.Refusals.{refuse, not_up}
 use Rattle.cg_client.specs.Replica.{Replica}
 use Rattle.cg_schedule.specs.declared.event.Event.TheVariants.{Recover, Stop}
 use Rattle.cg_agree.specs.World.{Life, Up, Down, Seat, World, has_begun, seat_of, replica_of}
-use Rattle.cg_agree.specs.Admission.{first_refusal, unknown, already_up, has_left, takes_part}
+use Rattle.cg_agree.specs.Admission.{first_refusal, unknown, has_left, takes_part}
+use Rattle.cg_agree.specs.AdmissionCalls.{already_up}
 use Rattle.cg_agree.specs.Show.{ended}
 use Rattle.cg_agree.specs.Step.{happens, world_step, quietly, crash_at, recover_from}
 use Rattle.cg_agree.specs.Smalls.{may_make, smalls_in}

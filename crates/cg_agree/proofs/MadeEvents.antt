@@ -15,7 +15,7 @@ use Rattle.cg_group.specs.State.{delivered_to, home}
 use Rattle.cg_group.specs.Events.{order, receive, gather, deliveries_at, handed_in_split, deliver, split, merge}
 use Rattle.cg_client.specs.Replica.{Held, Replica, fresh}
 use Rattle.cg_step.specs.Step.{Input, Deliveries, Asks as AsksOf}
-use Rattle.cg_step.specs.Crash.{FailOnce, StopWith, Strike, crash_now, new_disk}
+use Rattle.cg_step.specs.Crash.{FailOnce, StopWith, Strike, at_rest, new_disk}
 use Rattle.cg_schedule.specs.declared.event.Event.{Event}
 use Rattle.cg_schedule.specs.declared.event.Event.TheVariants.{Start, Split, Merge, Request, Weak, Dirty, Order, Recover, Show, ShowOrder, Gather, End, Receive, Deliver, Rounds, Stop, Fail, Join, Leave, Transfer}
 use Rattle.cg_report.specs.declared.entry.Made.{Made}
@@ -116,7 +116,7 @@ module _ (start : List Weighted) (w : World) (p : ℕ) (well : SeatWell start p 
     life (Up r disk) well made = record {
       made = refl;
       order = refl;
-      last = last-set w (crash_at w p (Up r disk)) p (Down (crash_now disk) []) (λ q. seat_of-set w p (Down (crash_now disk) []) q)
+      last = last-set w (crash_at w p (Up r disk)) p (Down (at_rest disk) []) (λ q. seat_of-set w p (Down (at_rest disk) []) q)
           (core-last start (index_in w.made p) p disk.content well.1 (made ∙ well.0.1.created)) (λ q apart. refl) last;
     }
     life (Down disk green) well made = record { made = refl; order = refl; last = last }

@@ -17,7 +17,8 @@ use Rattle.cg_step.specs.Step.{Input, Deliveries, Asks as AsksOf}
 use Rattle.cg_schedule.specs.declared.event.Event.{Event}
 use Rattle.cg_schedule.specs.declared.event.Event.TheVariants.{Start, Split, Merge, Request, Weak, Dirty, Order, Recover, Show, ShowOrder, Gather, End, Receive, Deliver, Rounds, Stop, Fail, Join, Leave, Transfer}
 use Rattle.cg_agree.specs.World.{Seat, running, World, replica_of, left_replicas}
-use Rattle.cg_agree.specs.Admission.{first_refusal, unknown, has_left, takes_part, never_named, begun_already, joiner_left, not_green}
+use Rattle.cg_agree.specs.Admission.{first_refusal, unknown, has_left, takes_part, never_named, joiner_left, not_green}
+use Rattle.cg_agree.specs.AdmissionCalls.{begun_already}
 use Rattle.cg_agree.specs.Run.{MayStand}
 use Rattle.cg_agree.specs.Looks.{told_in, snapshot_of, disk_held}
 use Rattle.cg_agree.specs.Step.{world_step, snapshot_for}

@@ -15,7 +15,8 @@ use Rattle.cg_step.specs.Crash.{Ended, Runs, Crashes as EndsInCrash, end_event}
 use Rattle.cg_schedule.specs.declared.event.Event.{Event}
 use Rattle.cg_schedule.specs.declared.event.Event.TheVariants.{Request, Join, Leave}
 use Rattle.cg_agree.specs.World.{Seat, World, replica_of, is_left}
-use Rattle.cg_agree.specs.Admission.{first_refusal, takes_part, id_used, never_named}
+use Rattle.cg_agree.specs.Admission.{first_refusal, takes_part, never_named}
+use Rattle.cg_agree.specs.AdmissionCalls.{id_used}
 use Rattle.cg_agree.specs.Show.{Moved, ended}
 use Rattle.cg_agree.specs.Step.{happens, world_step, quietly, hand}
 use Rattle.cg_agree.specs.Turns.{Taken, turns_of, taken, taken_as}

@@ -10,7 +10,8 @@ use Rattle.cg_client.specs.Replica.{Replica}
 use Rattle.cg_step.specs.Crash.{new_disk}
 use Rattle.cg_schedule.specs.declared.event.Event.TheVariants.{Transfer}
 use Rattle.cg_agree.specs.World.{Seat, Snapshot, World, has_begun, seat_of, replica_of, bring_up}
-use Rattle.cg_agree.specs.Admission.{first_refusal, takes_part, never_named, begun_already, joiner_left, not_green}
+use Rattle.cg_agree.specs.Admission.{first_refusal, takes_part, never_named, joiner_left, not_green}
+use Rattle.cg_agree.specs.AdmissionCalls.{begun_already}
 use Rattle.cg_agree.specs.Show.{Going, ended}
 use Rattle.cg_agree.specs.Step.{happens, world_step, quietly, joined, snapshot_for, without_snapshot, with_pieces, take_pieces, transfer}
 use Rattle.cg_agree.specs.Looks.{snapshot_of, snapshots_for, disk_held}

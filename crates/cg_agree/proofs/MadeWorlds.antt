@@ -14,7 +14,7 @@ use Rattle.cg_client.specs.Replica.{Held, Replica, created, fresh}
 use Rattle.cg_client.specs.Turn.{Turn}
 use Rattle.cg_stored.specs.Stored.{stored_of, whiten}
 use Rattle.cg_step.specs.Step.{Input, Deliveries, replica_step}
-use Rattle.cg_step.specs.Crash.{Disk, Strike, Runs, Crashes, whitened, end_event, crash_now, new_disk, recovered, disk_recovered}
+use Rattle.cg_step.specs.Crash.{Disk, Strike, Runs, Crashes, whitened, end_event, at_rest, new_disk, recovered, disk_recovered}
 use Rattle.cg_agree.specs.World.{Life, Up, Down, Seat, World, seat_of, bring_up}
 use Rattle.cg_agree.specs.Show.{Going, unshown}
 use Rattle.cg_agree.specs.Step.{after_event, hand_to, hand, hand_over, begin_replica, name_also, arm_at, crash_at, recover_from, joined}
@@ -180,7 +180,7 @@ module _ (start : List Weighted) (w : World) (p : ℕ) (sound : SeatSound start 
   pub stopped-fits : MadeFits (option_map_or (λ s. crash_at w p s.life) (seat_of w p) w)
   stopped-fits = of-seat (crash_at w p) life where
     life : (l : Life) → LifeSound start p l → LifeMade (index_in w.made p) p l → MadeFits (crash_at w p l)
-    life (Up r disk) sound made = fits-set w (crash_at w p (Up r disk)) p (Down (crash_now disk) []) (λ q. seat_of-set w p (Down (crash_now disk) []) q) fits.rising
+    life (Up r disk) sound made = fits-set w (crash_at w p (Up r disk)) p (Down (at_rest disk) []) (λ q. seat_of-set w p (Down (at_rest disk) []) q) fits.rising
         (lost-made start (index_in w.made p) p r.held disk.content disk.content refl sound.0 sound.1 made) (λ q apart. refl) fits
     life (Down disk green) sound made = fits
 

@@ -17,7 +17,7 @@ use Rattle.cg_client.specs.Replica.{Held, State, RegPrim, TransPrim, ExchangeSta
 use Rattle.cg_client.specs.Turn.{Turn, begin}
 use Rattle.cg_client.specs.Requests.{settle}
 use Rattle.cg_stored.specs.Stored.{stored_of, whiten, recover}
-use Rattle.cg_step.specs.Crash.{Disk, new_disk, crash_now, recovered, disk_recovered}
+use Rattle.cg_step.specs.Crash.{Disk, new_disk, at_rest, recovered, disk_recovered}
 use Rattle.cg_step.specs.Step.{on_transitional, take}
 use Rattle.cg_agree.specs.World.{Life, Up, Down, Seat, World, Snapshot, with_seat, seat_of, replica_of, running, has_begun, is_left}
 use Rattle.cg_agree.specs.Step.{joined, without_snapshot}
@@ -419,7 +419,7 @@ mode_data-kept c (Crashes p) i may q =
     let sits = seated c.world p may in
     let step = crashes-step c p may in
     mode-one c (Crashes p) i may p None
-    (λ q. ap (λ (o : Option Seat). replica_of (option_map_or (λ s. crash_as c p s.life) o c).world q) sits.seat ∙ replica-set c.world p (Down (crash_now sits.disk) []) q)
+    (λ q. ap (λ (o : Option Seat). replica_of (option_map_or (λ s. crash_as c p s.life) o c).world q) sits.seat ∙ replica-set c.world p (Down (at_rest sits.disk) []) q)
     DownPhase step.stands.phase (λ e. tt) q
 mode_data-kept c (Recovers p) i may q =
     let parts = and_parts (has_begun c.world p) (not (is_running c p)) may in

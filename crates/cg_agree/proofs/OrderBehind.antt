@@ -38,7 +38,7 @@ use Rattle.cg_group.specs.EachLaws.{Each}
 use Rattle.cg_group.specs.State.{GroupState}
 use Rattle.cg_group.specs.declared.delivery.Handed.{Handed}
 use Rattle.cg_queue.specs.Queue.{green_count, names_of}
-use Rattle.cg_step.specs.Crash.{Disk, Ended, crash_now, disk_recovered, end_event, recovered, whitened}
+use Rattle.cg_step.specs.Crash.{Disk, Ended, at_rest, disk_recovered, end_event, recovered, whitened}
 use Rattle.cg_step.specs.Step.{Deliveries, Input, replica_step}
 use Rattle.cg_stored.specs.Stored.{whiten}
 use Rattle.cg_wire.specs.declared.message.Msg.{Msg}
@@ -267,11 +267,11 @@ module _ (kept : KeptBySmalls) (c : Chronicle) (w : World) (stands : StandsBesid
 
   -- a replica goes down between events
   pub stopped-kept : (p : ℕ) (r : Replica) (disk : Disk) → seat_of w p ≡ Some (up_seat p r disk) →
-      ((q : ℕ) → seat_of u q ≡ cond (p == q) (Some (record { id = p; life = Down (crash_now disk) [] })) (seat_of w q)) → IsKept w.order
+      ((q : ℕ) → seat_of u q ≡ cond (p == q) (Some (record { id = p; life = Down (at_rest disk) [] })) (seat_of w q)) → IsKept w.order
   stopped-kept p r disk seat is =
-      let new : Seat = record { id = p; life = Down (crash_now disk) [] } in
+      let new : Seat = record { id = p; life = Down (at_rest disk) [] } in
       let there = is p ∙ cond-true (p == p) (Some new) (seat_of w p) (eq-eqb p p refl) in
-      moved-kept w.order p (Down (crash_now disk) []) is (Front-refl w.order) order-stays
+      moved-kept w.order p (Down (at_rest disk) []) is (Front-refl w.order) order-stays
       (falls-back p w.order (Front-refl w.order) r disk.content disk.content (running-of p w (up_seat p r disk) seat) (disk-of p w (up_seat p r disk) seat) (disk-of p u new there) refl)
 
   -- a fault is armed

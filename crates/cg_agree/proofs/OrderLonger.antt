@@ -4,6 +4,8 @@ use Rattle.std.specs.Option.{option_map_or}
 use Rattle.cg_queue.specs.Queue.{green_count}
 use Rattle.cg_group.specs.State.{phase_of}
 use Rattle.cg_report.specs.declared.line.Line.{Line}
+use Rattle.cg_report.specs.declared.line.StateName.{StateName}
+use Rattle.cg_report.specs.declared.line.StateName.TheVariants.{RegPrim as RegPrimName, TransPrim as TransPrimName}
 use Rattle.cg_report.specs.declared.line.UpLine.{UpLine}
 use Rattle.cg_client.specs.Replica.{State, RegPrim, TransPrim, ExchangeStates, ExchangeActions, Construct, No, Un, NonPrim, Left, Replica}
 use Rattle.cg_client.specs.Queries.{state_name, view_of}
@@ -12,7 +14,7 @@ use Rattle.cg_agree.specs.World.{Life, Up, Down, Seat, World, no_world, running,
 use Rattle.cg_agree.specs.Show.{Moved, line_of, up_line}
 use Rattle.cg_agree.specs.Run.{Step, IsRunFrom, world_after}
 use Rattle.cg_agree.specs.Shown.{order_of}
-use Rattle.cg_agree.specs.Agreement.{ComesAfter, through, IsPrimary, is_recovery_of, OnePrimary}
+use Rattle.cg_agree.specs.Agreement.{ComesAfter, through, is_recovery_of, OnePrimary}
 use Rattle.cg_agree.specs.Chronicle.{Chronicle, no_chronicle}
 use Rattle.cg_agree.specs.FactsReplica.{is_primary}
 use Rattle.cg_agree.specs.Noting.{chronicle_after}
@@ -24,6 +26,10 @@ use Rattle.cg_agree.proofs.OrderTold.{order_told}
 use Rattle.cg_agree.proofs.PrimaryOne.{one-primary}
 use Rattle.cg_agree.proofs.RunForward.{IsStepOf}
 use Rattle.cg_agree.proofs.RunPrefix.{comes}
+
+-- a state of a primary component
+abbrev IsPrimary : StateName → Type 0
+IsPrimary state = (state ≡ RegPrimName) ⊎ (state ≡ TransPrimName)
 
 -- a line beyond the order is one of a member of a primary component, or of who is recovered
 abbrev IsLineBy : ℕ → Event → Line → Type 0

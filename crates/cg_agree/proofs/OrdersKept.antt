@@ -70,7 +70,7 @@ use Rattle.cg_group.specs.EachLaws.{Each}
 use Rattle.cg_group.specs.State.{GroupState, delivered_to, home}
 use Rattle.cg_group.specs.declared.delivery.Handed.{Handed}
 use Rattle.cg_queue.specs.Queue.{green_count, names_of}
-use Rattle.cg_step.specs.Crash.{Disk, FailOnce, StopWith, Strike, crash_now, disk_recovered, new_disk, recovered}
+use Rattle.cg_step.specs.Crash.{Disk, FailOnce, StopWith, Strike, at_rest, disk_recovered, new_disk, recovered}
 use Rattle.cg_wire.specs.declared.message.Msg.{Msg}
 use Rattle.cg_client.specs.Joined.{piece_count}
 
@@ -119,7 +119,7 @@ module _ (kept : KeptBySmalls) (c : Chronicle) (w : World) (stands : StandsBesid
       life s e (Up r disk) l is =
           subst KeepsTo (ap (λ (x : World). x.order) is)
           (stopped-kept kept c w stands order smalls may j u same rest_on p r disk (named-seat p s e (Up r disk) l)
-          (λ q. seat-as (crash_at w p (Up r disk)) is q ∙ seat_of-set w p (Down (crash_now disk) []) q))
+          (λ q. seat-as (crash_at w p (Up r disk)) is q ∙ seat_of-set w p (Down (at_rest disk) []) q))
       life s e (Down disk green) l is = quiet w is (λ q. refl) refl
 
       at : (o : Option Seat) → seat_of w p ≡ o → option_map_or (λ s. crash_at w p s.life) o w ≡ u → KeepsTo u.order

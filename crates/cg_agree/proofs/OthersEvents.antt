@@ -42,7 +42,7 @@ use Rattle.cg_group.specs.EachLaws.{Each, Each-append}
 use Rattle.cg_group.specs.State.{GroupState, configuration, delivered_to, home, phase_of, regular_in}
 use Rattle.cg_group.specs.declared.delivery.Handed.{Handed}
 use Rattle.cg_queue.specs.Queue.{green_count, names_of}
-use Rattle.cg_step.specs.Crash.{Crashes, Ended, FailOnce, Runs, StopWith, Strike, crash_now, disk_recovered, end_event, new_disk, recovered}
+use Rattle.cg_step.specs.Crash.{Crashes, Ended, FailOnce, Runs, StopWith, Strike, at_rest, disk_recovered, end_event, new_disk, recovered}
 use Rattle.cg_wire.specs.declared.message.Msg.{Msg}
 use Rattle.cg_step.specs.CutRaiseLaws.{behind-rises, rising-behind}
 use Rattle.cg_client.specs.Joined.{piece_count}
@@ -164,7 +164,7 @@ module _ (c : Chronicle) (w : World) (stands : StandsBeside c w) (p n : ℕ) (is
   stopped q = at (seat_of w q) (is.seats q) where
     life : (l : Life) → ((q ≡ p → ⊥) → LifeShown p n l) → AreShown p n (crash_at w q l)
     life (Up r disk) shown =
-        set-shown (bring_down w q (crash_now disk) []) q (Down (crash_now disk) []) (λ x. seat_of-set w q (Down (crash_now disk) []) x) is.rising is.low
+        set-shown (bring_down w q (at_rest disk) []) q (Down (at_rest disk) []) (λ x. seat_of-set w q (Down (at_rest disk) []) x) is.rising is.low
         (says-down (IsMessageShown p n) w.group q is.group) is.order (λ other. ((shown other).1, tt))
     life (Down disk green) shown = is
 

@@ -16,7 +16,7 @@ use Rattle.cg_client.specs.Replica.{Held, State, RegPrim, TransPrim, ExchangeSta
 use Rattle.cg_client.specs.Turn.{Turn, begin}
 use Rattle.cg_client.specs.Requests.{settle}
 use Rattle.cg_stored.specs.Stored.{stored_of, whiten}
-use Rattle.cg_step.specs.Crash.{new_disk, crash_now, recovered, disk_recovered}
+use Rattle.cg_step.specs.Crash.{new_disk, at_rest, recovered, disk_recovered}
 use Rattle.cg_agree.specs.World.{Life, Up, Down, Seat, Snapshot, seat_of, replica_of, running, has_begun, is_left}
 use Rattle.cg_agree.specs.Step.{joined}
 use Rattle.cg_agree.specs.Chronicle.{Past, Attempt, Chronicle}
@@ -196,7 +196,7 @@ module _ (c : Chronicle) (i : Invariant c) where
   unfolding may_make small_step
   crashes-line p may =
       let sits = seated c.world p may in
-      let life : Life = Down (crash_now sits.disk) [] in
+      let life : Life = Down (at_rest sits.disk) [] in
       let is = ap (λ (o : Option Seat). option_map_or (λ s. crash_as c p s.life) o c) sits.seat in
       let step = crashes-step c p may in
       line-one (Crashes p) may p DownPhase 0 false step.stands

@@ -17,8 +17,8 @@ use Rattle.cg_queue.specs.Queue.{green_count, names_of}
 use Rattle.cg_group.specs.declared.phase.Phase.TheVariants.{Regular}
 use Rattle.cg_group.specs.State.{phase_of, delivered_to}
 use Rattle.cg_client.specs.Replica.{RegPrim, NonPrim, Left, Replica}
-use Rattle.cg_agree.specs.World.{replica_of, is_left, is_left_state}
-use Rattle.cg_agree.specs.Quiet.{is_quiet, summaries_in, is_known_in, knows, is_settled, passes_at, IsSettled}
+use Rattle.cg_agree.specs.World.{World, replica_of, is_left, is_left_state}
+use Rattle.cg_agree.specs.Quiet.{is_quiet, summaries_in, is_known_in, knows, is_settled, IsSettled}
 use Rattle.cg_agree.specs.Chronicle.{Told, Chronicle}
 use Rattle.cg_agree.specs.Fronts.{IsSomeWith, When}
 use Rattle.cg_agree.specs.Looks.{greens_of, told_in, conf_at, members_in, ordered_in, attempt_of, attempt_at, installation}
@@ -61,6 +61,10 @@ module _ (conf : ℕ) (t : Talk) (p : ℕ) where
 -- a member is settled where these summaries decide, or don't
 abbrev pub settles : List Summary → Replica → Bool
 settles heard r = is_settled (decides heard) r.state r.held
+
+-- the replica is up and passes the test
+abbrev pub passes_at : World → (Replica → Bool) → ℕ → Bool
+passes_at w test p = option_map_or test (replica_of w p) false
 
 inside-is : (r : Replica) → r.state ≡ RegPrim → r.held.queue.reds ≡ [] → r.held.queue.yellow ≡ [] → r.held.buffered ≡ [] → is_settled true r.state r.held ≡ true
 inside-is r state reds yellow kept =

@@ -19,7 +19,7 @@ use Rattle.cg_group.specs.State.{Sent, phase_of, regular_in, delivered_to, unord
 use Rattle.cg_group.specs.Ready.{all_received}
 use Rattle.cg_client.specs.Replica.{Replica}
 use Rattle.cg_agree.specs.World.{replica_of}
-use Rattle.cg_agree.specs.Quiet.{is_quiet_at, is_quiet, summary_in as quiet_summary, action_in as quiet_action, summaries_in, actions_in}
+use Rattle.cg_agree.specs.Quiet.{is_quiet_at, is_quiet, summary_in as quiet_summary, action_in as quiet_action, messages_of, summaries_in}
 use Rattle.cg_agree.specs.Chronicle.{Told, Chronicle}
 use Rattle.cg_agree.specs.Fronts.{IsSomeWith}
 use Rattle.cg_agree.specs.Looks.{greens_of, told_in, is_regular_at, is_regular_in, conf_of, members_in, ordered_in, placed_of, said_in}
@@ -251,5 +251,5 @@ module _ (c : Chronicle) (i : Invariant c) (conf : ℕ) (some : 0 < conf) (quiet
   pub summaries-are : summaries_in c.world conf ≡ talk.heard
   summaries-are = sym (heard-of list no_talk)
 
-  pub actions-are : actions_in c.world conf ≡ talk.acts
+  pub actions-are : filter_map quiet_action (messages_of c.world conf) ≡ talk.acts
   actions-are = sym (acted-of list no_talk)

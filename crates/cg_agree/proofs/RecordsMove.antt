@@ -17,7 +17,7 @@ use Rattle.cg_client.specs.Turn.{Turn, begin}
 use Rattle.cg_client.specs.Install.{prim_after}
 use Rattle.cg_client.specs.Requests.{settle}
 use Rattle.cg_stored.specs.Stored.{stored_of, whiten, recover as recover_disk}
-use Rattle.cg_step.specs.Crash.{Disk, crash_now, recovered, disk_recovered, new_disk}
+use Rattle.cg_step.specs.Crash.{Disk, at_rest, recovered, disk_recovered, new_disk}
 use Rattle.cg_agree.specs.Attempts.{held_in}
 use Rattle.cg_agree.specs.World.{Life, Up, Down, Seat, seat_of, replica_of, running, has_begun}
 use Rattle.cg_agree.specs.Step.{joined, without_snapshot}
@@ -143,7 +143,7 @@ crash-records c p rests s e (Up r disk) is =
     let both = subst (λ (o : Option Held). IfSome o (λ disk. GoesOn r.held disk × IsAsOnDisk r.held disk r.state)) (ap (λ (o : Option Seat). option_map (λ s. on_disk s.life) o) seat)
     (subst (λ (o : Option Replica). IfSome o (λ r. IfSome (disk_held c.world p) (λ disk. GoesOn r.held disk × IsAsOnDisk r.held disk r.state))) (runs-in c p r disk seat) rests.up) in
     let index = ap (λ (x : Primary). x.index) both.0.prim in
-    records-moved c (crash_as c p (Up r disk)) p (Down (crash_now disk) []) (λ q. seat_of-set c.world p (Down (crash_now disk) []) q)
+    records-moved c (crash_as c p (Up r disk)) p (Down (at_rest disk) []) (λ q. seat_of-set c.world p (Down (at_rest disk) []) q)
     (Still r.held (ap core_in seat) (omega (arith, index)) (sym both.0.vulnerable))
 
 recover-records : (c : Chronicle) (p : ℕ) (i : Invariant c) (s : Seat) → seat_of c.world p ≡ Some s → (life : Life) → s.life ≡ life → RecordsMove c (recover_as c life)

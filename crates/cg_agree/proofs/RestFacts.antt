@@ -11,7 +11,7 @@ use Rattle.cg_client.specs.Requests.{settle}
 use Rattle.cg_stored.specs.Stored.{stored_of, whiten}
 use Rattle.cg_step.specs.Commit.{commits}
 use Rattle.cg_step.specs.Step.{Input, replica_step}
-use Rattle.cg_step.specs.Crash.{Disk, Ended, Runs, Crashes as EndsInCrash, crash_now}
+use Rattle.cg_step.specs.Crash.{Disk, Ended, Runs, Crashes as EndsInCrash, at_rest}
 use Rattle.cg_agree.specs.World.{Life, Up, Down, Seat, World, running, seat_of, replica_of, set_life}
 use Rattle.cg_agree.specs.Chronicle.{Past, Chronicle}
 use Rattle.cg_agree.specs.Looks.{past_of, on_disk}
@@ -90,7 +90,7 @@ module _ (c : Chronicle) (p q : ℕ) (apart : q ≡ p → ⊥) where
   crash-kept : IsKept c (crash c p) q
   crash-kept = at (seat_of c.world p) where
     life-kept : (life : Life) → IsKept c (crash_as c p life) q
-    life-kept (Up r disk) = record { seat = other-seat c.world (Down (crash_now disk) []); past = other-past struck (λ x. refl) }
+    life-kept (Up r disk) = record { seat = other-seat c.world (Down (at_rest disk) []); past = other-past struck (λ x. refl) }
     life-kept (Down disk green) = record { seat = refl; past = refl }
 
     at : (o : Option Seat) → IsKept c (option_map_or (λ s. crash_as c p s.life) o c) q

@@ -17,7 +17,7 @@ use Rattle.cg_group.specs.Events.{delivery_at, deliveries_at, transitional_place
 use Rattle.cg_group.specs.EachLaws.{Each, Each-append}
 use Rattle.cg_client.specs.Replica.{Held, Replica, fresh}
 use Rattle.cg_step.specs.Step.{Input, Deliveries, Asks as AsksOf}
-use Rattle.cg_step.specs.Crash.{FailOnce, StopWith, Strike, crash_now, new_disk, recovered, disk_recovered}
+use Rattle.cg_step.specs.Crash.{FailOnce, StopWith, Strike, at_rest, new_disk, recovered, disk_recovered}
 use Rattle.cg_schedule.specs.declared.event.Event.{Event}
 use Rattle.cg_schedule.specs.declared.event.Event.TheVariants.{Start, Split, Merge, Request, Weak, Dirty, Order, Recover, Show, ShowOrder, Gather, End, Receive, Deliver, Rounds, Stop, Fail, Join, Leave, Transfer}
 use Rattle.cg_agree.specs.World.{Life, Up, Down, Seat, World, running, seat_of, replica_of, set_life, bring_up, Snapshot}
@@ -156,7 +156,7 @@ module _ (start : List Weighted) (w : World) (rests : (q : ℕ) → RestsAt w q)
   stopped : (p q : ℕ) → RestsAt (option_map_or (λ s. crash_at w p s.life) (seat_of w p) w) q
   stopped p q = of-seat w q (rests q) p (crash_at w p) (λ s e. life s.life) where
     life : (l : Life) → RestsAt (crash_at w p l) q
-    life (Up r disk) = rests-set w p (Down (crash_now disk) []) q tt (rests q)
+    life (Up r disk) = rests-set w p (Down (at_rest disk) []) q tt (rests q)
     life (Down disk green) = rests q
 
   armed : (p : ℕ) (strike : Strike) (q : ℕ) → RestsAt (arm w p strike) q

@@ -17,7 +17,7 @@ use Rattle.cg_client.specs.Replica.{Held, Replica, fresh}
 use Rattle.cg_client.specs.Turn.{Turn, begin}
 use Rattle.cg_client.specs.Requests.{settle}
 use Rattle.cg_stored.specs.Stored.{stored_of, whiten, recover}
-use Rattle.cg_step.specs.Crash.{Disk, new_disk, crash_now, recovered, disk_recovered}
+use Rattle.cg_step.specs.Crash.{Disk, new_disk, at_rest, recovered, disk_recovered}
 use Rattle.cg_agree.specs.World.{Life, Up, Down, Seat, Snapshot, World, running, seat_of, replica_of, is_left_state, has_begun, set_life, bring_up, bring_down}
 use Rattle.cg_agree.specs.Step.{begin_replica, name_also, joined, without_snapshot}
 use Rattle.cg_agree.specs.Looks.{on_disk, disk_held, snapshot_of}
@@ -223,9 +223,9 @@ module _ (w v : World) (g : GroupState Msg) (is : IsShared w v) where
     at None e = rw (down w (is.running p ∙ e), down v e) (same-with w v g g refl is)
     at (Some r) e =
         let ups = are-up w v is p r e in
-        let shared = shared-set w v is p (Down (crash_now ups.first) []) (Down (crash_now ups.second) []) refl ups.content in
+        let shared = shared-set w v is p (Down (at_rest ups.first) []) (Down (at_rest ups.second) []) refl ups.content in
         subst (λ (o : Option Seat). IsSame (option_map_or (λ (s : Seat). crash_in (grouped w g) p s.life) o (grouped w g)) (option_map_or (λ (s : Seat). crash_in (grouped v g) p s.life) (seat_of v p) (grouped v g))) (sym ups.in_first)
-        (subst (λ (o : Option Seat). IsSame (bring_down (grouped w g) p (crash_now ups.first) []) (option_map_or (λ (s : Seat). crash_in (grouped v g) p s.life) o (grouped v g))) (sym ups.in_second)
+        (subst (λ (o : Option Seat). IsSame (bring_down (grouped w g) p (at_rest ups.first) []) (option_map_or (λ (s : Seat). crash_in (grouped v g) p s.life) o (grouped v g))) (sym ups.in_second)
         record { group = refl; seats = shared.seats; running = shared.running; disk = shared.disk; given = given-gone w.snapshots v.snapshots is.given p })
 
   recover-same : (p : ℕ) → IsSame (small_in (grouped w g) (Recovers p)) (small_in (grouped v g) (Recovers p))

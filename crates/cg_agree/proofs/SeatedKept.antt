@@ -17,7 +17,7 @@ use Rattle.cg_client.specs.Replica.{Held, Replica, fresh}
 use Rattle.cg_client.specs.Requests.{settle}
 use Rattle.cg_client.specs.Turn.{Turn, begin}
 use Rattle.cg_stored.specs.Stored.{stored_of, whiten}
-use Rattle.cg_step.specs.Crash.{new_disk, crash_now, recovered, disk_recovered}
+use Rattle.cg_step.specs.Crash.{new_disk, at_rest, recovered, disk_recovered}
 use Rattle.cg_members.specs.Servers.{is_server}
 use Rattle.cg_agree.specs.World.{Life, Up, Down as DownLife, Seat, Snapshot, World, running, seat_of, replica_of, has_begun, set_life, is_left}
 use Rattle.cg_agree.specs.Step.{begin_replica, joined, without_snapshot}
@@ -135,7 +135,7 @@ kept-crashes c p old = at (seat_of c.world p) refl where
   life s (DownLife disk green) is e = kept-itself c c refl refl refl refl old
   life s (Up r disk) is e = record {
     past = past-some c (crash_as c p (Up r disk)) struck p (λ x. refl) refl;
-    disk = disks-set c.world p (DownLife (crash_now disk) []) (ap (λ l. (on_disk l).id) (sym is) ∙ disk-id c p s old.disk e) old.disk;
+    disk = disks-set c.world p (DownLife (at_rest disk) []) (ap (λ l. (on_disk l).id) (sym is) ∙ disk-id c p s old.disk e) old.disk;
     given = given-crashed c (crash_as c p (Up r disk)) p refl refl (given-of c old);
   }
 

@@ -12,7 +12,7 @@ use Rattle.cg_client.specs.Replica.{Held, Replica}
 use Rattle.cg_client.specs.Turn.{Turn, begin}
 use Rattle.cg_client.specs.Requests.{settle}
 use Rattle.cg_stored.specs.Stored.{stored_of, whiten}
-use Rattle.cg_step.specs.Crash.{Disk, new_disk, crash_now, recovered, disk_recovered}
+use Rattle.cg_step.specs.Crash.{Disk, new_disk, at_rest, recovered, disk_recovered}
 use Rattle.cg_agree.specs.World.{Life, Up, Down, World, seat_of, replica_of, set_life, bring_up, bring_down}
 use Rattle.cg_agree.specs.Step.{begin_replica, joined, without_snapshot}
 use Rattle.cg_agree.specs.Chronicle.{Told, Chronicle, no_chronicle}
@@ -43,7 +43,7 @@ commit_in w p (Up r disk) = let h = whiten r.held in set_life w p (Up (record r 
 commit_in w p (Down disk green) = w
 
 abbrev pub crash_in : World → ℕ → Life → World
-crash_in w p (Up r disk) = bring_down w p (crash_now disk) []
+crash_in w p (Up r disk) = bring_down w p (at_rest disk) []
 crash_in w p (Down disk green) = w
 
 abbrev pub recover_in : World → Life → World

@@ -14,7 +14,7 @@ use Rattle.cg_group.specs.Events.{delivery_at, deliveries_at}
 use Rattle.cg_client.specs.Replica.{Replica}
 use Rattle.cg_client.specs.Turn.{Turn, begin}
 use Rattle.cg_stored.specs.Stored.{stored_of, whiten}
-use Rattle.cg_step.specs.Crash.{Disk, whitened, crash_now}
+use Rattle.cg_step.specs.Crash.{Disk, whitened, at_rest}
 use Rattle.cg_agree.specs.World.{Life, Up, Down, Seat, running, seat_of, replica_of}
 use Rattle.cg_agree.specs.Chronicle.{Chronicle}
 use Rattle.cg_agree.specs.Looks.{greens_of, is_at, is_in}
@@ -140,7 +140,7 @@ module _ (c : Chronicle) (i : Invariant c) (conf : ℕ) (some : 0 < conf) where
 
   pub crash-goal : (p : ℕ) (l : Life) → Goal (crash_as c p l)
   crash-goal p (Down disk green) = goal-same
-  crash-goal p (Up r disk) = down-goal p (Down (crash_now disk) []) refl (crash_as c p (Up r disk)) (λ q. seat_of-set c.world p (Down (crash_now disk) []) q)
+  crash-goal p (Up r disk) = down-goal p (Down (at_rest disk) []) refl (crash_as c p (Up r disk)) (λ q. seat_of-set c.world p (Down (at_rest disk) []) q)
 
 -- a replica that begins, or comes up, is in no configuration
 pub alone-goal : (c : Chronicle) (conf : ℕ) (d : Chronicle) (p : ℕ) (life : Life) → ((q : ℕ) → seat_of d.world q ≡ cond (p == q) (Some (record { id = p; life = life })) (seat_of c.world q)) → is_in d conf p ≡ false →

@@ -12,7 +12,7 @@ use Rattle.cg_group.specs.Events.{come_up, go_down}
 use Rattle.cg_group.specs.LookupLaws.{standing_of-set, standing_of-down, eqb_comm, at-cond}
 use Rattle.cg_client.specs.Replica.{NonPrim, Replica, fresh}
 use Rattle.cg_client.specs.Turn.{begin}
-use Rattle.cg_step.specs.Crash.{Disk, new_disk, crash_now, recovered, disk_recovered}
+use Rattle.cg_step.specs.Crash.{Disk, new_disk, at_rest, recovered, disk_recovered}
 use Rattle.cg_stored.specs.Stored.{recover}
 use Rattle.cg_agree.specs.World.{Life, Up, Down as DownLife, Seat, Snapshot, World, running, seat_of, has_begun, replica_of, set_life}
 use Rattle.cg_agree.specs.Step.{begin_replica, joined}
@@ -90,8 +90,8 @@ crash-life : (c : Chronicle) (p : ℕ) (s : Seat) (l : Life) → s.life ≡ l �
 crash-life c p s (DownLife disk green) is runs old = old
 crash-life c p s (Up r disk) is runs old =
     let d = crash_as c p (Up r disk) in
-    talk-apart c d p Down (apart-down c d p (DownLife (crash_now disk) []) refl (λ q. refl) refl)
-    (subst (λ o. IfSome o (IsStateIn d p Down)) (sym (own-replica c.world p (DownLife (crash_now disk) []))) tt) old
+    talk-apart c d p Down (apart-down c d p (DownLife (at_rest disk) []) refl (λ q. refl) refl)
+    (subst (λ o. IfSome o (IsStateIn d p Down)) (sym (own-replica c.world p (DownLife (at_rest disk) []))) tt) old
 
 pub talk-crashes : (c : Chronicle) (p : ℕ) → is_running c p ≡ true → TalkFacts c → TalkFacts (small_step c (Crashes p))
 unfolding small_step

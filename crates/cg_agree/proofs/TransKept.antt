@@ -17,7 +17,7 @@ use Rattle.cg_client.specs.Replica.{Held, State, RegPrim, TransPrim, ExchangeSta
 use Rattle.cg_client.specs.Turn.{Turn, begin}
 use Rattle.cg_client.specs.Requests.{settle}
 use Rattle.cg_stored.specs.Stored.{stored_of, whiten, recover}
-use Rattle.cg_step.specs.Crash.{Disk, new_disk, crash_now, recovered, disk_recovered}
+use Rattle.cg_step.specs.Crash.{Disk, new_disk, at_rest, recovered, disk_recovered}
 use Rattle.cg_agree.specs.World.{Life, Up, Down, Seat, Snapshot, seat_of, replica_of, running, has_begun, is_left}
 use Rattle.cg_agree.specs.Step.{joined}
 use Rattle.cg_agree.specs.Chronicle.{Past, Chronicle, no_chronicle}
@@ -206,9 +206,9 @@ module _ (c : Chronicle) (i : Invariant c) where
       let sits = seated c.world p may in
       let d = crash_as c p (Up sits.replica sits.disk) in
       let step : small_step c (Crashes p) ≡ d = ap (λ (o : Option Seat). option_map_or (λ s. crash_as c p s.life) o c) sits.seat in
-      let none : replica_of (small_step c (Crashes p)).world p ≡ None = ap (λ (x : Chronicle). replica_of x.world p) step ∙ replica-set c.world p (Down (crash_now sits.disk) []) p ∙ cond-true (p == p) None (replica_of c.world p) (eq-eqb p p refl) in
+      let none : replica_of (small_step c (Crashes p)).world p ≡ None = ap (λ (x : Chronicle). replica_of x.world p) step ∙ replica-set c.world p (Down (at_rest sits.disk) []) p ∙ cond-true (p == p) None (replica_of c.world p) (eq-eqb p p refl) in
       trans-one c (Crashes p) i may shrinks p
-      (λ q other. ap (λ (x : Chronicle). replica_of x.world q) step ∙ replica-set c.world p (Down (crash_now sits.disk) []) q ∙ cond-false (q == p) None (replica_of c.world q) other)
+      (λ q other. ap (λ (x : Chronicle). replica_of x.world q) step ∙ replica-set c.world p (Down (at_rest sits.disk) []) q ∙ cond-false (q == p) None (replica_of c.world q) other)
       (λ q other. ap (λ (x : Chronicle). greens_of x q) step ∙ ap greens-in (past-there struck (λ x. refl) c p q (λ e. eqb-false q p other (sym e))))
       (subst (λ (o : Option Replica). IfSome o (λ r. CoversAsYellow (small_step c (Crashes p)) r.held (greens_of (small_step c (Crashes p)) p) r.state)) (sym none) tt)
 

@@ -11,7 +11,7 @@ use Rattle.cg_client.specs.Replica.{Replica}
 use Rattle.cg_client.specs.Turn.{Turn, begin}
 use Rattle.cg_stored.specs.Stored.{stored_of, whiten}
 use Rattle.cg_step.specs.Commit.{commits}
-use Rattle.cg_step.specs.Crash.{Disk, Ended, Runs, Crashes as EndsInCrash, crash_now, whitened, end_event}
+use Rattle.cg_step.specs.Crash.{Disk, Ended, Runs, Crashes as EndsInCrash, at_rest, whitened, end_event}
 use Rattle.cg_agree.specs.World.{Life, Up, Down, Seat, World, running, seat_of, replica_of, with_seat, set_life, bring_down}
 use Rattle.cg_agree.specs.Looks.{on_disk}
 use Rattle.cg_agree.specs.Turns.{Taken, is_kept}
@@ -106,13 +106,13 @@ module _ (w : World) (g : GroupState Msg) (p : ℕ) (r : Replica) (disk : Disk) 
       )
 
   up-crashed : (v : World) (r : Replica) (d : Disk) (h : GroupState Msg) → v ≡ seated w p r d h → (may_in v (Crashes p) ≡ true)
-      × (small_in v (Crashes p) ≡ record w { group = go_down h p; seats = with_seat w.seats (record { id = p; life = Down (crash_now d) [] }); snapshots = filter (λ s. not (s.giver == p)) w.snapshots })
+      × (small_in v (Crashes p) ≡ record w { group = go_down h p; seats = with_seat w.seats (record { id = p; life = Down (at_rest d) [] }); snapshots = filter (λ s. not (s.giver == p)) w.snapshots })
   unfolding may_in may_make small_in
   up-crashed v r d h is =
       let found = ap (λ (x : World). seat_of x p) is ∙ seat-seated w p r d h in (
         ap (λ (o : Option Seat). is_some (option_and_then (λ s. running s.life) o)) found,
         ap (λ (o : Option Seat). option_map_or (λ s. crash_in v p s.life) o v) found ∙ ap (λ (x : World). crash_in x p (Up r d)) is
-            ∙ ap (λ (list : List Seat). record w { group = go_down h p; seats = list; snapshots = filter (λ s. not (s.giver == p)) w.snapshots }) (seated-twice w.seats p (Up r d) (Down (crash_now d) [])),
+            ∙ ap (λ (list : List Seat). record w { group = go_down h p; seats = list; snapshots = filter (λ s. not (s.giver == p)) w.snapshots }) (seated-twice w.seats p (Up r d) (Down (at_rest d) [])),
       )
 
   -- the group without the replica is the one that it was
@@ -165,7 +165,7 @@ module _ (w : World) (g : GroupState Msg) (p : ℕ) (r : Replica) (disk : Disk) 
         record {
           group = ap (λ (v : World). v.group) leads ∙ without;
           snapshots = ap (λ (v : World). v.snapshots) leads;
-          life = Down (crash_now whites) [];
+          life = Down (at_rest whites) [];
           seats = ap (λ (v : World). v.seats) leads;
           same = refl;
           disk = sym is;
@@ -177,13 +177,13 @@ module _ (w : World) (g : GroupState Msg) (p : ℕ) (r : Replica) (disk : Disk) 
   lost-ends gone d green is =
       let steps = cond-false (is_kept disk.armed) (opening ++ Commits p ∷ Crashes p ∷ []) (Crashes p ∷ []) gone in
       let up = ap (λ (o : Option Seat). is_some (option_and_then (λ s. running s.life) o)) seat in
-      let leads : option_map_or (λ s. crash_in w p s.life) (seat_of w p) w ≡ bring_down w p (crash_now disk) [] = ap (λ (o : Option Seat). option_map_or (λ s. crash_in w p s.life) o w) seat in
+      let leads : option_map_or (λ s. crash_in w p s.life) (seat_of w p) w ≡ bring_down w p (at_rest disk) [] = ap (λ (o : Option Seat). option_map_or (λ s. crash_in w p s.life) o w) seat in
       rw steps (
         (up, tt),
         record {
           group = ap (λ (v : World). v.group) leads;
           snapshots = ap (λ (v : World). v.snapshots) leads;
-          life = Down (crash_now disk) [];
+          life = Down (at_rest disk) [];
           seats = ap (λ (v : World). v.seats) leads;
           same = refl;
           disk = sym is;

@@ -13,7 +13,7 @@ use Rattle.cg_client.specs.Replica.{Held, Replica, fresh}
 use Rattle.cg_client.specs.Turn.{Turn, begin}
 use Rattle.cg_client.specs.Requests.{settle}
 use Rattle.cg_stored.specs.Stored.{stored_of, whiten}
-use Rattle.cg_step.specs.Crash.{Disk, new_disk, crash_now, recovered, disk_recovered}
+use Rattle.cg_step.specs.Crash.{Disk, new_disk, at_rest, recovered, disk_recovered}
 use Rattle.cg_agree.specs.World.{Life, Up, Down, Seat, World, running, seat_of, replica_of}
 use Rattle.cg_agree.specs.Step.{begin_replica, joined, name_also, without_snapshot}
 use Rattle.cg_agree.specs.Chronicle.{Chronicle, no_chronicle}
@@ -110,7 +110,7 @@ commit-valid c p old s e (Up r disk) is =
 
 crash-valid : (c : Chronicle) (p : ℕ) → YellowValid c → (l : Life) → YellowValid (crash_as c p l)
 crash-valid c p old (Down disk green) = old
-crash-valid c p old (Up r disk) = set-kept c (crash_as c p (Up r disk)) p (Down (crash_now disk) []) (λ q. replica-set c.world p (Down (crash_now disk) []) q) tt old
+crash-valid c p old (Up r disk) = set-kept c (crash_as c p (Up r disk)) p (Down (at_rest disk) []) (λ q. replica-set c.world p (Down (at_rest disk) []) q) tt old
 
 recover-valid : (c : Chronicle) → YellowValid c → (l : Life) → YellowValid (recover_as c l)
 recover-valid c old (Up r disk) = old

@@ -1,5 +1,6 @@
 pub mod World
 pub mod Admission
+pub mod AdmissionCalls
 pub mod Show
 pub mod Step
 pub mod Run

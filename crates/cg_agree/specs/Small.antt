@@ -18,7 +18,7 @@ use Rattle.cg_client.specs.Turn.{Turn, begin}
 use Rattle.cg_client.specs.Requests.{settle, request}
 use Rattle.cg_stored.specs.Stored.{stored_of, whiten}
 use Rattle.cg_step.specs.Step.{take}
-use Rattle.cg_step.specs.Crash.{Disk, new_disk, crash_now, recovered, disk_recovered}
+use Rattle.cg_step.specs.Crash.{Disk, new_disk, at_rest, recovered, disk_recovered}
 use Rattle.cg_agree.specs.World.{Life, Up, Down, World, seat_of, replica_of, set_life, bring_up, bring_down}
 use Rattle.cg_agree.specs.Step.{begin_replica, joined, without_snapshot}
 use Rattle.cg_agree.specs.Attempts.{with_attempt_of}
@@ -223,7 +223,7 @@ crash_as c p (Down disk green) = c
 crash_as c p (Up r disk) =
     let gone = note_leaving c p (length (stood_of c p)) in
     record gone {
-      world = bring_down c.world p (crash_now disk) [];
+      world = bring_down c.world p (at_rest disk) [];
       pasts = changed_past struck p c.pasts;
       copies = filter (λ x. not (x.giver == p)) c.copies;
     }

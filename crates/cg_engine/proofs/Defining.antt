@@ -16,7 +16,7 @@ use Rattle.cg_client.specs.Replica.{Held}
 use Rattle.cg_client.specs.Turn.{Turn}
 use Rattle.cg_stored.specs.Checkpoint.{size_limit}
 use Rattle.cg_step.specs.Commit.{commits}
-use Rattle.cg_step.specs.Crash.{Strike, Disk, Ended, Runs, Crashes, with_change, with_checkpoint, calls_of, checkpointed as with_long, is_committed, is_checkpointed, at_rest, crash_outcome, whitened, later, struck, commit_under, keep, end_event}
+use Rattle.cg_step.specs.Crash.{Strike, Disk, Ended, Runs, Crashes, with_change, with_checkpoint, calls_of, checkpointed as with_long, is_committed, is_checkpointed, at_rest, crash_outcome, whitened, struck, commit_under, end_event}
 use Rattle.cg_store.specs.Answers.{IsLost}
 use Rattle.cg_store.specs.Calls.{Commits, EndsLong}
 use Rattle.cg_store.specs.Defined.{strike_at, EndsAsDefined as StrikesEndAsDefined}
@@ -106,7 +106,7 @@ module _ (strikes : StrikesEndAsDefined) (unwritten : List Action) (u : OnDisk) 
   calls_is long e a = ap calls_of (changed_is a) ∙ ap calls e
 
   abbrev body : Disk → Strike → Bool → ℕ → Disk → Ended
-  body d strike b c done = if b then struck d t strike else Runs (whitened t.replica) (record done { armed = Some (later c strike) })
+  body d strike b c done = if b then struck d t strike else Runs (whitened t.replica) (record done { armed = Some (record strike { call = strike.call - c }) })
 
   runs_is : (long : Bool) → nat_lt size_limit after.size ≡ long → (a : Option DiskStrike) → IfSome a (λ k. now + calls long < k.call) →
       commit_under (arms a) (from a) t ≡ Runs (whitened t.replica) (armed_with (option_map (strike_from (now + calls long) fill) a) (disk_of [] (reached long)))
@@ -152,11 +152,11 @@ module _ (strikes : StrikesEndAsDefined) (unwritten : List Action) (u : OnDisk) 
 
 event_writes : (disk : Disk) (old : Held) (t : Turn) → commits old t ≡ true → end_event disk old t ≡ commit_under disk.armed disk t
 unfolding end_event
-event_writes disk old t test = ap (λ b. if b then commit_under disk.armed disk t else keep disk t) test
+event_writes disk old t test = ap (λ b. if b then commit_under disk.armed disk t else Runs t.replica (record disk { unwritten = disk.unwritten ++ t.known })) test
 
-event_keeps : (disk : Disk) (old : Held) (t : Turn) → commits old t ≡ false → end_event disk old t ≡ keep disk t
+event_keeps : (disk : Disk) (old : Held) (t : Turn) → commits old t ≡ false → end_event disk old t ≡ Runs t.replica (record disk { unwritten = disk.unwritten ++ t.known })
 unfolding end_event
-event_keeps disk old t test = ap (λ b. if b then commit_under disk.armed disk t else keep disk t) test
+event_keeps disk old t test = ap (λ b. if b then commit_under disk.armed disk t else Runs t.replica (record disk { unwritten = disk.unwritten ++ t.known })) test
 
 -- a told strike that is still to come
 strike_kept : (old new : DiskView) (s z : DiskState) → IsUnstruck old new → old.state ≡ Some s → new.state ≡ Some z → (z.strike ≡ s.strike) × IfSome z.strike (λ k. new.time < k.call)

@@ -13,7 +13,7 @@ use Rattle.cg_client.specs.Turn.{Turn, begin}
 use Rattle.cg_client.specs.Marks.{marked}
 use Rattle.cg_client.specs.Summary.{redden, forget_own, own_to_red}
 use Rattle.cg_stored.specs.Stored.{recover as recover_stored}
-use Rattle.cg_step.specs.Crash.{Disk, Strike, crash_now, recovered, disk_recovered}
+use Rattle.cg_step.specs.Crash.{Disk, Strike, at_rest, recovered, disk_recovered}
 use Rattle.cg_agree.specs.World.{Life, Up, Down, Seat, World, running, seat_of, replica_of, with_seat, set_life}
 use Rattle.cg_agree.specs.Looks.{on_disk}
 use Rattle.cg_agree.specs.Show.{News, news_of_recovery, tell}
@@ -37,7 +37,7 @@ found-id (x ∷ seats) p s e = elim (cases_Bool (x.id == p)) [
 module _ (w v : World) (p : ℕ) (s : Seat) (there : seat_of w p ≡ Some s) (up : is_some (running s.life) ≡ true)
     (same : (life : Life) → set_life v p life ≡ set_life w p life) where
   fallen-up : (life : Life) → is_some (running life) ≡ true → fallen (seated v (crashed p life)) p ≡ crash_at w p life
-  fallen-up (Up r disk) up = ap (λ x. fallen x p) (same (Down (crash_now disk) []))
+  fallen-up (Up r disk) up = ap (λ x. fallen x p) (same (Down (at_rest disk) []))
   fallen-up (Down disk green) up = absurd (let clash : false ≡ true = up in cc)
 
   pub stop-up : (fill : List ℕ) → fallen (seated v (crashed s.id s.life)) s.id ≡ stop w p 0 fill

@@ -66,36 +66,29 @@ cell_of cells p = unwrap_or (find (λ cell. has cell p) cells) []
 
 -- ---- what clients ask for
 
--- a letter and a digit
+-- a letter and a digit: the keys k0 to k7 are of counters, t0 to t7 of settings
 abbrev pub name : ℕ → ℕ → List ℕ
 name letter n = letter ∷ (48 + n) ∷ []
-
--- the keys k0 to k7, and t0 to t7
-abbrev pub counter : ℕ → List ℕ
-counter = name 107
-
-abbrev pub setting : ℕ → List ℕ
-setting = name 116
 
 unfoldable pub increment : ℕ → Drawing Event
 increment replicas = do
   p ← draw_from_one replicas
   key ← draw 8
   n ← draw_from_one 9
-  done (Request p (Inc (counter key) (pos n) ∷ []) None)
+  done (Request p (Inc (name 107 key) (pos n) ∷ []) None)
 
 unfoldable pub set_and_get : ℕ → Drawing Event
 set_and_get replicas = do
   p ← draw_from_one replicas
   key ← draw 8
   n ← draw_from_one 9
-  done (Request p (Put (setting key) (Int (pos n)) ∷ []) (Some (Get (counter key))))
+  done (Request p (Put (name 116 key) (Int (pos n)) ∷ []) (Some (Get (name 107 key))))
 
 unfoldable pub weak_get : ℕ → Drawing Event
 weak_get replicas = do
   p ← draw_from_one replicas
   key ← draw 8
-  done (Weak p (Get (counter key)))
+  done (Weak p (Get (name 107 key)))
 
 unfoldable pub passes : Drawing Event
 passes = draw_from_one 6 >>= λ n. done (Rounds n)

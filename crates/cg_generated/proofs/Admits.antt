@@ -16,7 +16,8 @@ use Rattle.cg_client.specs.Replica.{State, RegPrim, TransPrim, ExchangeStates, E
 use Rattle.cg_wire.specs.declared.message.Msg.{Msg}
 use Rattle.cg_schedule.specs.declared.event.Event.TheVariants.{Split, Merge}
 use Rattle.cg_agree.specs.World.{Life, Up, Down as DownLife, Seat, World, has_begun, running, replica_of, is_left_state, is_left, left_replicas}
-use Rattle.cg_agree.specs.Admission.{unknown, has_left, already_up, takes_part, first_refusal}
+use Rattle.cg_agree.specs.Admission.{unknown, has_left, takes_part, first_refusal}
+use Rattle.cg_agree.specs.AdmissionCalls.{already_up}
 use Rattle.cg_generated.proofs.Calm.{CalmState}
 use Rattle.cg_generated.proofs.CalmEnds.{CalmLife}
 use Rattle.cg_agree.specs.PhaseLaws.{phase_at, phase-where}

@@ -1,5 +1,5 @@
 -- A calm replica is calm behind the end of its event, whose device calls nothing strikes; and a disk brings up a calm one.
-use Rattle.std.proofs.Common.{◌≡◌, ℕ, ◌-◌, false, List, Option, Some, None, refl}
+use Rattle.std.proofs.Common.{nat_lt, ◌≡◌, ℕ, ◌-◌, false, List, ◌++◌, Option, Some, None, refl}
 use Rattle.std.proofs.lemmas.Bool.{cond_both}
 use Rattle.cg_base.specs.declared.weighted.Weighted.{Weighted}
 use Rattle.cg_client.specs.Replica.{Held, NonPrim, fresh}
@@ -7,7 +7,8 @@ use Rattle.cg_client.specs.Turn.{Turn, begin}
 use Rattle.cg_client.specs.Whitening.{white_at}
 use Rattle.cg_stored.specs.Stored.{stored_of, whiten, recover}
 use Rattle.cg_step.specs.Commit.{commits}
-use Rattle.cg_step.specs.Crash.{Strike, Disk, new_disk, with_change, with_checkpoint, is_long, checkpointed, Ended, Runs, Crashes, commit_under, keep, end_event, crash_now, recovered, disk_recovered}
+use Rattle.cg_stored.specs.Checkpoint.{size_limit}
+use Rattle.cg_step.specs.Crash.{Strike, Disk, new_disk, with_change, with_checkpoint, checkpointed, Ended, Runs, Crashes, commit_under, end_event, at_rest, recovered, disk_recovered}
 use Rattle.cg_agree.specs.World.{Life, Up, Down}
 use Rattle.cg_generated.proofs.Calm.{Calm, CalmHeld, CalmState, CalmTurn, Each-drop}
 use Rattle.cg_generated.proofs.CalmMarks.{own_to_red-calm}
@@ -35,7 +36,7 @@ module _ (p : ℕ) where
 
   checkpointed-calm : (disk : Disk) → CalmDisk p disk → CalmDisk p (checkpointed disk)
   unfolding with_checkpoint
-  checkpointed-calm disk calm = cond_both (is_long disk) (with_checkpoint disk) disk (CalmDisk p) (λ y. calm) (λ n. calm)
+  checkpointed-calm disk calm = cond_both (nat_lt size_limit disk.size) (with_checkpoint disk) disk (CalmDisk p) (λ y. calm) (λ n. calm)
 
   changed-calm : (disk : Disk) (t : Turn) → CalmDisk p disk → CalmTurn p t → CalmDisk p (with_change disk t)
   unfolding with_change
@@ -48,12 +49,12 @@ module _ (p : ℕ) where
   pub ended-calm : (disk : Disk) (old : Held) (t : Turn) → CalmDisk p disk → CalmTurn p t → RunsOn p (end_event disk old t)
   unfolding end_event
   ended-calm disk old t calm turn =
-      cond_both (commits old t) (commit_under disk.armed disk t) (keep disk t) (RunsOn p)
+      cond_both (commits old t) (commit_under disk.armed disk t) (Runs t.replica (record disk { unwritten = disk.unwritten ++ t.known })) (RunsOn p)
       (λ y. committed-calm disk.armed disk t calm.1 calm turn) (λ n. (turn.0, turn.1, calm))
 
   -- ---- replicas that come up and go down
 
-  pub crashed-calm : (disk : Disk) → CalmDisk p disk → CalmDisk p (crash_now disk)
+  pub crashed-calm : (disk : Disk) → CalmDisk p disk → CalmDisk p (at_rest disk)
   crashed-calm disk calm = (calm.0, refl)
 
   pub recovered-calm : (disk : Disk) → CalmDisk p disk → CalmLife p (Up (recovered disk) (disk_recovered disk))

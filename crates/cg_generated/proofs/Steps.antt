@@ -18,7 +18,8 @@ use Rattle.cg_group.specs.LookupLaws.{put, eqb_comm}
 use Rattle.cg_schedule.specs.declared.event.Event.{Event}
 use Rattle.cg_schedule.specs.declared.event.Event.TheVariants.{Start, Split, Merge, Request, Weak, Recover, Gather, Deliver, Stop}
 use Rattle.cg_agree.specs.World.{Seat, World, no_world, running, up_replicas}
-use Rattle.cg_agree.specs.Admission.{unknown, already_up, first_refusal}
+use Rattle.cg_agree.specs.Admission.{unknown, first_refusal}
+use Rattle.cg_agree.specs.AdmissionCalls.{already_up}
 use Rattle.cg_agree.specs.Show.{ended}
 use Rattle.cg_agree.specs.Step.{quietly, begin_replica, happens, world_step}
 use Rattle.cg_agree.specs.PhaseLaws.{where_is, phase_at, phase-where, all_at, merged, split-place, next_conf, merge-place}

@@ -27,7 +27,7 @@ use Rattle.cg_schedule.specs.declared.event.Event.TheVariants.{Split, Merge, Gat
 use Rattle.cg_schedule.specs.declared.reader_state.ReaderState.{ReaderState}
 use Rattle.cg_schedule.specs.Limits.{IsPrintable, IsQuery, IsUpdate, IsEvent}
 use Rattle.cg_schedule.specs.Line.{first_state, state_after}
-use Rattle.cg_gen.specs.Generated.{Drawing, draw, draw_from_one, ◌>>=◌, done, first_of, are_apart, placed, with_cell, cell_at, cell_of, name, counter, setting, increment, set_and_get, weak_get, passes, Block, line_alone, parting, in_one, joining, parting_or_joining, regrouping, restarted, restarting, asking, block_of, block, GeneratorState, line_with, next_line, events_left, at_the_start, generated}
+use Rattle.cg_gen.specs.Generated.{Drawing, draw, draw_from_one, ◌>>=◌, done, first_of, are_apart, placed, with_cell, cell_at, cell_of, name, increment, set_and_get, weak_get, passes, Block, line_alone, parting, in_one, joining, parting_or_joining, regrouping, restarted, restarting, asking, block_of, block, GeneratorState, line_with, next_line, events_left, at_the_start, generated}
 use Rattle.cg_generated.proofs.Cells.{Each-insert, in_two, parted-cell}
 use Rattle.cg_generated.proofs.Blocks.{drawn-below}
 use Rattle.cg_generated.proofs.Steps.{ids-once}
@@ -105,10 +105,10 @@ module _ (replicas : ℕ) (some : 1 ≤ replicas) (high : replicas ≤ 32) where
   one-of : (x : ℕ) → IsId (draw_from_one replicas x).0
   one-of x = let below = drawn-below replicas x some in (omega arith, omega (arith, below, high))
 
-  key-of : (x : ℕ) → IsPrintable 1 64 (counter (draw 8 x).0)
+  key-of : (x : ℕ) → IsPrintable 1 64 (name 107 (draw 8 x).0)
   key-of x = named 107 (draw 8 x).0 (omega arith) (omega arith) (drawn-below 8 x (omega arith))
 
-  setting-of : (x : ℕ) → IsPrintable 1 64 (setting (draw 8 x).0)
+  setting-of : (x : ℕ) → IsPrintable 1 64 (name 116 (draw 8 x).0)
   setting-of x = named 116 (draw 8 x).0 (omega arith) (omega arith) (drawn-below 8 x (omega arith))
 
   digit-of : (x : ℕ) → FitsSigned w64 (pos (draw_from_one 9 x).0)
@@ -118,7 +118,7 @@ module _ (replicas : ℕ) (some : 1 ≤ replicas) (high : replicas ≤ 32) where
   unfolding increment
   increment-is x =
       let y = (draw_from_one replicas x).1 in
-      let key = counter (draw 8 y).0 in
+      let key = name 107 (draw 8 y).0 in
       let by = (draw_from_one 9 (draw 8 y).1).0 in
       (one-of x, one-command (Inc key (pos by)) None (key-of y, digit-of (draw 8 y).1) (λ q e. absurd cc))
 
@@ -129,8 +129,8 @@ module _ (replicas : ℕ) (some : 1 ≤ replicas) (high : replicas ≤ 32) where
       let k = (draw 8 y).0 in
       let by = (draw_from_one 9 (draw 8 y).1).0 in (
         one-of x,
-        one-command (Put (setting k) (Int (pos by))) (Some (Get (counter k))) (setting-of y, digit-of (draw 8 y).1)
-            (λ q e. (let same : Get (counter k) ≡ q = cc in subst IsQuery same (key-of y))),
+        one-command (Put (name 116 k) (Int (pos by))) (Some (Get (name 107 k))) (setting-of y, digit-of (draw 8 y).1)
+            (λ q e. (let same : Get (name 107 k) ≡ q = cc in subst IsQuery same (key-of y))),
       )
 
   weak_get-is : Asks (weak_get replicas)

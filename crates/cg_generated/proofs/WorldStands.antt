@@ -14,7 +14,7 @@ use Rattle.cg_group.specs.EachLaws.{Each}
 use Rattle.cg_group.specs.LookupLaws.{at-cond, put, put-own, eqb_comm}
 use Rattle.cg_client.specs.Replica.{Replica, fresh}
 use Rattle.cg_step.specs.Step.{Input, Deliveries, replica_step}
-use Rattle.cg_step.specs.Crash.{Disk, new_disk, Ended, Runs, Crashes, end_event, crash_now, recovered, disk_recovered}
+use Rattle.cg_step.specs.Crash.{Disk, new_disk, Ended, Runs, Crashes, end_event, at_rest, recovered, disk_recovered}
 use Rattle.cg_agree.specs.World.{Life, Up, Down, Seat, World, running, seat_of, with_seat}
 use Rattle.cg_agree.specs.Show.{Going}
 use Rattle.cg_agree.specs.Step.{quietly, after_event, hand_to, hand, hand_over, hand_out, begin_replica, crash_at, recover_from}
@@ -154,7 +154,7 @@ module _ (begun : ℕ → Bool) (at : ℕ → Option Phase) where
     lives : (seat : Seat) (life : Life) → seat_in w.seats p ≡ Some seat → seat.life ≡ life → CalmLife p life → StandsIn begun (put at p None) (crash_at w p life)
     lives seat (Down disk green) e is calm = absurd (let clash : false ≡ true = sym (ap (λ (o : Option Seat). is_some (option_and_then (λ s. running s.life) o)) e ∙ ap (λ l. is_some (running l)) is) ∙ s.runs p ∙ up in cc)
     lives seat (Up r disk) e is calm =
-        stands-set begun begun at w.seats w.group (go_down w.group p) p (Down (crash_now disk) []) None (λ q e n. e) (crashed-calm p disk calm.2) refl
+        stands-set begun begun at w.seats w.group (go_down w.group p) p (Down (at_rest disk) []) None (λ q e n. e) (crashed-calm p disk calm.2) refl
         (λ q. down-place w.group p q ∙ ap (cond (q == p) None) (s.place q)) (down-calm w.group p s.calm) s
 
     sits : (o : Option Seat) → seat_in w.seats p ≡ o → StandsIn begun (put at p None) (option_map_or (λ s. crash_at w p s.life) o w)

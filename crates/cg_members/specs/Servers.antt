@@ -39,10 +39,6 @@ without_server servers p = filter (λ s. not (s.id == p)) servers
 abbrev pub with_line : ℕ → ℕ → Server → Server
 with_line p line s = if s.id == p then record s { line = max s.line line } else s
 
--- the least line, if there is a server
-abbrev pub least_line : List Server → Option ℕ
-least_line servers = least_of (map (λ s. s.line) servers)
-
 -- ---- members
 
 -- at the start: the given servers, each with line 0
@@ -92,4 +88,4 @@ members_of set greens = after_greens (starting set) 1 greens
 
 -- the greens that every server is known to have: the least line, if there is a server
 abbrev pub white_line : Members → Option ℕ
-white_line m = least_line m.servers
+white_line m = least_of (map (λ s. s.line) m.servers)

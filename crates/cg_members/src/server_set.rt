@@ -28,7 +28,8 @@ impl Model for ServerSet {
 }
 
 impl ServerSet {
-    ghost use Rattle.cg_members.specs.Servers.{is_among, weight_of, first_line, with_server, without_server, with_line, least_line};
+    ghost use Rattle.cg_base.specs.Lists.{least_of};
+    ghost use Rattle.cg_members.specs.Servers.{is_among, weight_of, first_line, with_server, without_server, with_line};
     ghost use Rattle.cg_members.specs.Listed.{server_ids, line_of};
 
     pub fn empty() -> ServerSet
@@ -129,7 +130,7 @@ impl ServerSet {
 
     /// The least of the lines, if there is a server.
     pub fn least_line(&self) -> Option<u64>
-        ensures { result ≡ least_line self.now }
+        ensures { result ≡ least_of (map (λ s. s.line) self.now) }
     {
         let mut least = None;
         for id in self.members.iter() {

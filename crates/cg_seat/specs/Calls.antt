@@ -15,7 +15,7 @@ use Rattle.cg_client.specs.Turn.{Turn}
 use Rattle.cg_report.specs.declared.line.Line.{Line}
 use Rattle.cg_report.specs.declared.entry.Shown.{Shown}
 use Rattle.cg_report.specs.declared.entry.Shown.TheVariants.{Weak as ShownWeak, Dirty as ShownDirty}
-use Rattle.cg_step.specs.Crash.{Strike, Ended, Runs, Crashes, new_disk, end_event, crash_now, recovered, disk_recovered}
+use Rattle.cg_step.specs.Crash.{Strike, Ended, Runs, Crashes, new_disk, end_event, at_rest, recovered, disk_recovered}
 use Rattle.cg_step.specs.Recorded.{AreBooked}
 use Rattle.cg_step.specs.Step.{Input, replica_step}
 use Rattle.cg_agree.specs.World.{Life, Up, Down, Seat, Snapshot, running, is_left_state}
@@ -57,7 +57,7 @@ armed p strike (Down disk green) = seat p (Down disk green)
 
 -- a crash now
 abbrev pub crashed : ℕ → Life → Seat
-crashed p (Up r disk) = seat p (Down (crash_now disk) [])
+crashed p (Up r disk) = seat p (Down (at_rest disk) [])
 crashed p (Down disk green) = seat p (Down disk green)
 
 -- the replica comes up with what stands on its disk, and what is to be shown of that, where so much was shown as made

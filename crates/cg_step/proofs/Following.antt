@@ -1,5 +1,5 @@
 -- A replica follows its disk, event by event, whatever strikes.
-use Rattle.std.proofs.Common.{◌⊎◌, ◌≡◌, List, [], cond, Bool, true, false, Option, Some, None, refl, sym, ap, subst, inl, inr, if◌then◌else◌, nat_le}
+use Rattle.std.proofs.Common.{nat_lt, ◌⊎◌, ◌≡◌, ◌-◌, List, [], ◌++◌, cond, Bool, true, false, Option, Some, None, refl, sym, ap, subst, inl, inr, if◌then◌else◌, nat_le}
 use Rattle.std.proofs.lemmas.Bool.{cases_Bool}
 use Rattle.cg_base.specs.declared.action_id.ActionId.{ActionId}
 use Rattle.cg_action.specs.declared.action.Action.{Action}
@@ -9,7 +9,8 @@ use Rattle.cg_stored.specs.Stored.{Stored, stored_of, whiten}
 use Rattle.cg_stored.specs.Following.{IsAhead}
 use Rattle.cg_step.specs.Step.{Input, replica_step}
 use Rattle.cg_step.specs.Commit.{commits}
-use Rattle.cg_step.specs.Crash.{Strike, Disk, new_disk, with_change, with_checkpoint, is_long, calls_of, checkpointed, is_committed, is_checkpointed, at_rest, crash_outcome, Runs, whitened, later, struck, commit_under, keep, end_event}
+use Rattle.cg_stored.specs.Checkpoint.{size_limit}
+use Rattle.cg_step.specs.Crash.{Strike, Disk, new_disk, with_change, with_checkpoint, calls_of, checkpointed, is_committed, is_checkpointed, at_rest, crash_outcome, Runs, whitened, struck, commit_under, end_event}
 use Rattle.cg_step.specs.Holds.{Holds}
 use Rattle.cg_step.specs.Recorded.{AreBooked}
 use Rattle.cg_step.specs.Following.{DiskHolds, Follows, EndsFollowing, AlwaysFollows}
@@ -45,7 +46,7 @@ unfolding with_checkpoint
 with-checkpoint disk h is = record { content = is.content; unwritten = is.unwritten }
 
 with-long : (disk : Disk) (h : Held) → Committed disk h → Committed (checkpointed disk) h
-with-long disk h is = at (is_long disk) where
+with-long disk h is = at (nat_lt size_limit disk.size) where
   at : (b : Bool) → Committed (if b then with_checkpoint disk else disk) h
   at true = with-checkpoint disk h is
   at false = is
@@ -76,12 +77,12 @@ commit-ends None disk t on_disk is =
     let c = with-long (with_change disk t) t.replica.held (changed disk t) in
     committed-follows (checkpointed (with_change disk t)) t.replica.held is c.content c.unwritten
 commit-ends (Some strike) disk t on_disk is = at (nat_le strike.call (calls_of (with_change disk t))) where
-  at : (b : Bool) → EndsFollowing disk t (if b then struck disk t strike else (let d = checkpointed (with_change disk t) in Runs (whitened t.replica) (record d { armed = Some (later (calls_of (with_change disk t)) strike) })))
+  at : (b : Bool) → EndsFollowing disk t (if b then struck disk t strike else (let d = checkpointed (with_change disk t) in Runs (whitened t.replica) (record d { armed = Some (record strike { call = strike.call - calls_of (with_change disk t) }) })))
   at true = struck-ends disk t strike on_disk is
   at false =
       let c = with-long (with_change disk t) t.replica.held (changed disk t) in
       let d = checkpointed (with_change disk t) in
-      committed-follows (record d { armed = Some (later (calls_of (with_change disk t)) strike) }) t.replica.held is c.content c.unwritten
+      committed-follows (record d { armed = Some (record strike { call = strike.call - calls_of (with_change disk t) }) }) t.replica.held is c.content c.unwritten
 
 event-ends : (disk : Disk) (r : Replica) (input : Input) (book : ActionId → Action) → Follows disk r.held → AreBooked book r.held input →
     EndsFollowing disk (replica_step r input) (end_event disk r.held (replica_step r input))
@@ -91,8 +92,8 @@ event-ends disk r input book follows booked =
     let is = always-holds.step r input follows.held in
     let recorded = always-recorded disk.content disk.unwritten r input book follows.held follows.ahead booked in
     elim (cases_Bool (commits r.held t)) [
-      | inl writes ↦ subst (λ b. EndsFollowing disk t (cond b (commit_under disk.armed disk t) (keep disk t))) (sym writes) (commit-ends disk.armed disk t follows.on_disk is)
-      | inr none ↦ subst (λ b. EndsFollowing disk t (cond b (commit_under disk.armed disk t) (keep disk t))) (sym none) (record {
+      | inl writes ↦ subst (λ b. EndsFollowing disk t (cond b (commit_under disk.armed disk t) (Runs t.replica (record disk { unwritten = disk.unwritten ++ t.known })))) (sym writes) (commit-ends disk.armed disk t follows.on_disk is)
+      | inr none ↦ subst (λ b. EndsFollowing disk t (cond b (commit_under disk.armed disk t) (Runs t.replica (record disk { unwritten = disk.unwritten ++ t.known })))) (sym none) (record {
         on_disk = record { content = follows.on_disk.content; buffered = follows.on_disk.buffered; owed = follows.on_disk.owed };
         held = is;
         ahead = recorded.keep none;

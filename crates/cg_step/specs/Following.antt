@@ -7,7 +7,7 @@ use Rattle.cg_client.specs.Turn.{Turn}
 use Rattle.cg_stored.specs.Stored.{Stored, stored_of, whiten}
 use Rattle.cg_stored.specs.Following.{IsAhead}
 use Rattle.cg_step.specs.Step.{Input, replica_step}
-use Rattle.cg_step.specs.Crash.{Disk, new_disk, Ended, Runs, Crashes, end_event, crash_now, recovered, disk_recovered}
+use Rattle.cg_step.specs.Crash.{Disk, new_disk, Ended, Runs, Crashes, end_event, at_rest, recovered, disk_recovered}
 use Rattle.cg_step.specs.Holds.{Holds}
 use Rattle.cg_step.specs.Recorded.{AreBooked}
 
@@ -35,5 +35,5 @@ pub record AlwaysFollows : Type 0 where
   pub new : (s : Stored) → Holds s → s.buffered ≡ [] → s.owed ≡ [] → Follows (new_disk s) s
   pub event : (disk : Disk) (r : Replica) (input : Input) (book : ActionId → Action) → Follows disk r.held → AreBooked book r.held input →
       EndsFollowing disk (replica_step r input) (end_event disk r.held (replica_step r input))
-  pub crash : (disk : Disk) → DiskHolds disk → DiskHolds (crash_now disk)
+  pub crash : (disk : Disk) → DiskHolds disk → DiskHolds (at_rest disk)
   pub recovery : (disk : Disk) → DiskHolds disk → Follows (disk_recovered disk) (recovered disk).held

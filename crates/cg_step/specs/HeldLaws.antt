@@ -9,7 +9,6 @@ use Rattle.cg_base.specs.Ids.{same_id, id_before}
 use Rattle.cg_base.specs.Cuts.{index_in, raise}
 use Rattle.cg_action.specs.declared.action.Action.{Action}
 use Rattle.cg_members.specs.Laws.{NoLineAbove}
-use Rattle.cg_members.specs.Servers.{least_line}
 use Rattle.cg_queue.specs.Queue.{names_of, with_red, without_action}
 use Rattle.cg_client.specs.Replica.{last_index}
 use Rattle.cg_client.specs.Marks.{after_first}
@@ -18,7 +17,7 @@ use Rattle.cg_base.specs.IdLaws.{same_id-true, same_id-false, same_name}
 use Rattle.cg_step.specs.CutRaiseLaws.{rising-raise, index-same, raise-below}
 use Rattle.cg_step.specs.RunMarkLaws.{run-head, run-rest, lacks, run-other, without, inserted}
 use Rattle.std.specs.Option.{unwrap_or, option_to_list}
-use Rattle.cg_base.specs.Lists.{lesser}
+use Rattle.cg_base.specs.Lists.{lesser, least_of}
 use Rattle.cg_members.specs.declared.server.Server.{Server}
 use Rattle.cg_records.specs.Limits.{Each}
 
@@ -121,7 +120,7 @@ pub least-below : (n : ℕ) (ns : List ℕ) → unwrap_or (fold lesser (Some n) 
 least-below n [] = omega arith
 least-below n (k ∷ ns) = let rest = least-below (min k n) ns in omega arith
 
-pub line-below : (n : ℕ) (servers : List Server) → NoLineAbove n servers → unwrap_or (least_line servers) 0 ≤ n
+pub line-below : (n : ℕ) (servers : List Server) → NoLineAbove n servers → unwrap_or (least_of (map (λ s. s.line) servers)) 0 ≤ n
 line-below n [] lines = omega arith
 line-below n (s ∷ servers) lines =
     let first : s.line ≤ n = lines.0 in

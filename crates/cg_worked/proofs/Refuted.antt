@@ -42,7 +42,7 @@ use Rattle.cg_step.specs.Crash.{new_disk}
 use Rattle.cg_agree.specs.World.{Life, Up, Down, Seat, World, no_world, replica_of}
 use Rattle.cg_agree.specs.Run.{Step}
 use Rattle.cg_agree.specs.Shown.{made_actions}
-use Rattle.cg_agree.specs.Agreement.{is_recovery_of, IsPrimary, OrderGrows, Prefix, CreatorOrder, FoldAnswers, DirtyAnswers, OnePrimary, QuietSettles, MadeStays, RefusedExactly}
+use Rattle.cg_agree.specs.Agreement.{is_recovery_of, OrderGrows, Prefix, CreatorOrder, FoldAnswers, DirtyAnswers, OnePrimary, QuietSettles, MadeStays, RefusedExactly}
 use Rattle.cg_agree.specs.Quiet.{IsSettled, Remains, summaries_in, is_known_in, knows}
 use Rattle.cg_agree.specs.Schedules.{run_of}
 use Rattle.cg_worked.specs.Computing.{cases_compute}
@@ -484,7 +484,7 @@ two_sets g =
 abbrev longer_outside : Step
 longer_outside = showing 1 Gather (record no_entry { orders = at 1 (name 1 1) ∷ []; lines = line_with 1 state.NonPrim 1 1 1 ∷ [] })
 
-is_outside : IsPrimary state.NonPrim ⊎ IsTrue (is_recovery_of 1 Gather) → ⊥
+is_outside : ((state.NonPrim ≡ state.RegPrim) ⊎ (state.NonPrim ≡ state.TransPrim)) ⊎ IsTrue (is_recovery_of 1 Gather) → ⊥
 is_outside (inl (inl e)) = cc
 is_outside (inl (inr e)) = cc
 is_outside (inr e) = false≢true e
