@@ -324,7 +324,6 @@ pub mod GreensBehind
 pub mod NamesTimes
 pub mod FoldReplies
 pub mod FoldAnswersRun
-pub mod SameLine
 pub mod RunForward
 pub mod HappensLines
 pub mod LinesShown

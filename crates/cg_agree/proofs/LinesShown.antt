@@ -31,7 +31,7 @@ use Rattle.cg_agree.specs.Telling.{latest, last_line, last_of, printed}
 use Rattle.cg_agree.specs.Touched.{new_lines}
 use Rattle.cg_agree.proofs.PrimaryOne.{IsFoundFrom, found-all}
 use Rattle.cg_agree.proofs.RunForward.{IsStepOf}
-use Rattle.cg_agree.proofs.SameLine.{one-line}
+use Rattle.cg_equal.specs.LineLaws.{one-line}
 use Rattle.cg_agree.proofs.HappensLines.{happens-lines}
 use Rattle.cg_agree.proofs.SeatFacts.{seat-id}
 

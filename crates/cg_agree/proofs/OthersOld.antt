@@ -29,7 +29,7 @@ use Rattle.cg_agree.proofs.EventsLead.{are-admitted, always-stands}
 use Rattle.cg_agree.proofs.HappensLines.{happens-lines}
 use Rattle.cg_agree.proofs.LinesShown.{ArePrinted, stepped-printed, each-find}
 use Rattle.cg_agree.proofs.PrimaryOne.{IsFoundFrom, found-all}
-use Rattle.cg_agree.proofs.SameLine.{self-line}
+use Rattle.cg_equal.specs.LineLaws.{self-line}
 use Rattle.cg_agree.proofs.TouchedSeats.{happens-stays}
 
 -- ---- worlds that events lead to
