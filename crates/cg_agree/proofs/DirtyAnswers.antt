@@ -9,7 +9,7 @@ use Rattle.cg_base.specs.Cuts.{index_in, raise}
 use Rattle.cg_base.specs.Ids.{names}
 use Rattle.cg_action.specs.declared.action.Action.{Action}
 use Rattle.cg_action.specs.declared.query.Query.{Query}
-use Rattle.cg_db.specs.declared.entry.DbEntry.{DbEntry}
+use Rattle.cg_answer.specs.declared.entry.DbEntry.{DbEntry}
 use Rattle.cg_db.specs.Apply.{apply, fold_actions}
 use Rattle.cg_db.specs.Find.{answer}
 use Rattle.cg_queue.specs.Queue.{green_count, names_of}

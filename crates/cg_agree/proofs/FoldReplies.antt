@@ -9,7 +9,7 @@ use Rattle.cg_base.specs.declared.action_id.ActionId.{ActionId}
 use Rattle.cg_base.specs.Cuts.{index_in}
 use Rattle.cg_base.specs.Ids.{same_id, names}
 use Rattle.cg_action.specs.declared.action.Action.{Action}
-use Rattle.cg_db.specs.declared.entry.DbEntry.{DbEntry}
+use Rattle.cg_answer.specs.declared.entry.DbEntry.{DbEntry}
 use Rattle.cg_db.specs.Apply.{apply, fold_actions}
 use Rattle.cg_db.specs.Find.{answer, query_of}
 use Rattle.cg_queue.specs.Queue.{names_of}

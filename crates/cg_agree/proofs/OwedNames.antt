@@ -8,7 +8,7 @@ use Rattle.cg_base.specs.Cuts.{index_in, raise}
 use Rattle.cg_base.specs.Ids.{same_id, names}
 use Rattle.cg_base.specs.IdLaws.{same_id-true, same_id-false}
 use Rattle.cg_action.specs.declared.action.Action.{Action}
-use Rattle.cg_db.specs.declared.entry.DbEntry.{DbEntry}
+use Rattle.cg_answer.specs.declared.entry.DbEntry.{DbEntry}
 use Rattle.cg_db.specs.Apply.{Applied, apply}
 use Rattle.cg_queue.specs.Queue.{names_of}
 use Rattle.cg_report.specs.declared.entry.Reply.{Reply}

@@ -8,7 +8,7 @@ use Rattle.cg_base.specs.declared.action_id.ActionId.{ActionId}
 use Rattle.cg_base.specs.Cuts.{index_in, raise}
 use Rattle.cg_action.specs.declared.action.Action.{Action}
 use Rattle.cg_action.specs.declared.action.Kind.{Kind}
-use Rattle.cg_db.specs.declared.entry.DbEntry.{DbEntry}
+use Rattle.cg_answer.specs.declared.entry.DbEntry.{DbEntry}
 use Rattle.cg_db.specs.Apply.{apply}
 use Rattle.cg_queue.specs.Queue.{Marks, Gaps, placed_red, names_of}
 use Rattle.cg_queue.specs.declared.mark.Mark.TheVariants.{Placed, Known}

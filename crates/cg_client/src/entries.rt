@@ -6,8 +6,9 @@ ghost use Rattle.cg_db.specs.Limits.{AreEntries};
 ghost use Rattle.cg_db.specs.Ascending.{Ascends};
 
 use cg_action::{Action, Query};
+use cg_answer::{Answer, Effect, EntryList};
 use cg_base::NoMemory;
-use cg_db::{Answer, Db, Effect, EntryList, entries_stay_within_limits};
+use cg_db::{Db, entries_stay_within_limits};
 use std::alloc::Global;
 use std::marker::Model;
 
@@ -19,7 +20,7 @@ pub(crate) struct Entries {
 
 impl Model for Entries {
     ghost use Rattle.std.specs.Prelude.{List};
-    ghost use Rattle.cg_db.specs.declared.entry.DbEntry.{DbEntry};
+    ghost use Rattle.cg_answer.specs.declared.entry.DbEntry.{DbEntry};
     ghost use Rattle.cg_db.specs.Limits.{AreEntries};
 
     ghost Value = { List DbEntry };

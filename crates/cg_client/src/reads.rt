@@ -13,8 +13,8 @@ ghost use Rattle.cg_client.specs.Replica.{created};
 
 use crate::Core;
 use cg_action::{Action, ActionList};
+use cg_answer::EntryList;
 use cg_base::{ActionId, Cut, IdSet, NoMemory, ReplicaId};
-use cg_db::EntryList;
 use cg_members::Members;
 use cg_records::{Primary, Vulnerable};
 use std::alloc::Global;

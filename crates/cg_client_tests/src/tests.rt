@@ -14,11 +14,12 @@ ghost use Rattle.cg_action.specs.Limits.{IsKind};
 ghost use Rattle.cg_action.specs.ActionLimits.{IsAction};
 
 use cg_action::{Action, Kind, Query, decode};
+use cg_answer::Answer;
 use cg_base::{
     ActionId, Cut, IdSet, NoMemory, ReplicaId, Row, WeightSet, put, put_number, put_shown,
 };
 use cg_client::{Core, Draft, Installed, WhiteState, names_of};
-use cg_db::{Answer, Db};
+use cg_db::Db;
 use cg_members::{Members, ServerSet};
 use cg_records::{Primary, Stable, Yellow};
 use cg_report::{Line, Reply, ShownPhase, StateName, UpLine, View, put_line};

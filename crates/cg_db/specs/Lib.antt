@@ -3,7 +3,6 @@ pub mod Ascending
 pub mod View
 pub mod Apply
 pub mod Plan
-pub mod Print
 pub mod Find
 pub mod Limits
 pub mod TextOrderLaws

@@ -8,14 +8,14 @@ ghost use Rattle.cg_db.specs.Ascending.{Ascends};
 ghost use Rattle.cg_db.specs.Apply.{Changed, run_commands};
 ghost use Rattle.cg_db.specs.View.{of_entries, entry_at};
 ghost use Rattle.cg_db.specs.Plan.{listed, changed, with_changes};
-ghost use Rattle.cg_db.specs.declared.entry.DbEntry.{DbEntry};
+ghost use Rattle.cg_answer.specs.declared.entry.DbEntry.{DbEntry};
 ghost use Rattle.cg_action.specs.declared.command.Cmd.TheVariants.{Put, Inc};
 ghost use Rattle.cg_action.specs.ActionLimits.{IsAction, IsCommand};
 
 use crate::changes::{Change, Changes};
 use crate::plan::plan;
-use crate::{Answer, DbEntry, Effect, EntryList, TxtList};
 use cg_action::{Action, Cmd, Kind, Query, Value};
+use cg_answer::{Answer, DbEntry, Effect, EntryList, TxtList};
 use cg_base::{NoMemory, Row};
 use cg_text::Txt;
 use indexmap::IndexMap;
@@ -33,7 +33,7 @@ pub struct Db {
 
 impl Model for Db {
     ghost use Rattle.std.specs.Prelude.{List};
-    ghost use Rattle.cg_db.specs.declared.entry.DbEntry.{DbEntry};
+    ghost use Rattle.cg_answer.specs.declared.entry.DbEntry.{DbEntry};
     ghost use Rattle.cg_db.specs.View.{of_entries};
 
     ghost Value = { List DbEntry };

@@ -7,17 +7,10 @@
 //! order, is left to the layers above.
 #![tactic(auto)]
 
-mod answer;
 mod changes;
 mod db;
-mod effect;
-mod entry;
 mod laws;
 mod plan;
-mod print;
 
-pub use answer::Answer;
 pub use db::Db;
-pub use effect::Effect;
-pub use entry::{DbEntry, EntryList, TxtList};
 pub use laws::entries_stay_within_limits;

@@ -8,9 +8,10 @@ ghost use Rattle.cg_db.specs.Map.{value_of, has_value};
 ghost use Rattle.cg_db.specs.Apply.{Changed, number_of, add_to, move_number, run_command, run_commands};
 ghost use Rattle.cg_db.specs.Plan.{listed, set_option, with_changes, ran, left_by};
 
+use crate::Db;
 use crate::changes::{Change, Changes};
-use crate::{Db, Effect};
 use cg_action::{Boxed, BoxedOption, Cmd, Value};
+use cg_answer::Effect;
 use cg_base::NoMemory;
 use cg_text::Txt;
 

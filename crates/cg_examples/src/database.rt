@@ -1,8 +1,9 @@
 ghost use Rattle.cg_action.specs.ActionLimits.{IsCommand};
 
 use cg_action::{Action, Cmd, CmdList, Kind, Value};
+use cg_answer::Effect;
 use cg_base::{ActionId, NoMemory, ReplicaId};
-use cg_db::{Db, Effect};
+use cg_db::Db;
 use cg_text::Txt;
 use std::alloc::Global;
 use std::test::Fail;

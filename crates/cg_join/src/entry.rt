@@ -8,9 +8,9 @@ ghost use Rattle.cg_stored.specs.Checkpoint.{spelled_entry};
 ghost use Rattle.cg_join.specs.Reading.{any_entry_reading};
 
 use cg_action::{put_value, take_value};
+use cg_answer::DbEntry;
 use cg_base::NoMemory;
 use cg_codec::{CodecFault, Fields, put_text};
-use cg_db::DbEntry;
 use cg_text::Txt;
 use std::alloc::Global;
 

@@ -1,6 +1,6 @@
 use crate::SnapshotName;
 use cg_action::Action;
-use cg_db::DbEntry;
+use cg_answer::DbEntry;
 use cg_records::Primary;
 use cg_stored::Reached;
 

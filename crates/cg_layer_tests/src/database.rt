@@ -4,9 +4,10 @@
 
 use crate::table::{follows, parts, say, say_shown};
 use cg_action::{Query, decode, print_value};
+use cg_answer::EntryList;
 use cg_base::{NoMemory, put};
 use cg_codec::{put_i64, put_u32};
-use cg_db::{Db, EntryList};
+use cg_db::Db;
 use cg_text::{Txt, read_i64};
 use std::alloc::Global;
 

@@ -7,8 +7,8 @@
 use crate::summaries::{names, primary, record};
 use crate::table::{follows, id, name, number, parts, say_shown, set};
 use cg_action::{Action, Value, decode};
+use cg_answer::{Answer, DbEntry, Effect, EntryList, TxtList};
 use cg_base::{ActionId, IdRuns, IdSet, NoMemory, ReplicaId, WeightSet, put};
-use cg_db::{Answer, DbEntry, Effect, EntryList, TxtList};
 use cg_records::{Primary, Yellow};
 use cg_report::{
     Entry, Line, Made, Placed, Reply, Shown, ShownPhase, StateName, UpLine, View, put_entry,

@@ -2,8 +2,8 @@ ghost use Rattle.std.specs.Prelude.{◌≡◌};
 
 use crate::Line;
 use cg_action::Kind;
+use cg_answer::{Answer, Effect, EntryList};
 use cg_base::{ActionId, IdList, ReplicaId, Row};
-use cg_db::{Answer, Effect, EntryList};
 use std::alloc::Global;
 
 /// An action that is shown as made: its name, and what it does.

@@ -9,9 +9,9 @@
 //! so on; all but 2:1 and 1:2 have green line 1.
 
 use cg_action::{Action, Query};
+use cg_answer::Answer;
 use cg_base::{IdList, NoMemory, ReplicaId, Row, put, put_number, put_shown};
 use cg_client::Core;
-use cg_db::Answer;
 use cg_disk::{Disk, DiskFault, ModelDisk, Side};
 use cg_report::View;
 use cg_store::{CommitErr, OpenErr, Store};

@@ -6,11 +6,11 @@ use Rattle.cg_base.specs.declared.action_id.ActionId.{ActionId}
 use Rattle.cg_base.specs.Text.{id_list_text}
 use Rattle.cg_text.specs.Numbers.{is_digit}
 use Rattle.cg_records.specs.Limits.{Each}
-use Rattle.cg_db.specs.declared.answer.Answer.{Answer}
-use Rattle.cg_db.specs.declared.answer.Answer.TheVariants.{Absent, Text, Int, Keys, Count}
-use Rattle.cg_db.specs.declared.effect.Effect.{Effect}
-use Rattle.cg_db.specs.declared.effect.Effect.TheVariants.{Done, Aborted, Range}
-use Rattle.cg_db.specs.declared.entry.DbEntry.{DbEntry}
+use Rattle.cg_answer.specs.declared.answer.Answer.{Answer}
+use Rattle.cg_answer.specs.declared.answer.Answer.TheVariants.{Absent, Text, Int, Keys, Count}
+use Rattle.cg_answer.specs.declared.effect.Effect.{Effect}
+use Rattle.cg_answer.specs.declared.effect.Effect.TheVariants.{Done, Aborted, Range}
+use Rattle.cg_answer.specs.declared.entry.DbEntry.{DbEntry}
 use Rattle.cg_report.specs.declared.entry.Made.{Made}
 use Rattle.cg_report.specs.declared.entry.Placed.{Placed}
 use Rattle.cg_report.specs.declared.entry.Reply.{Reply}

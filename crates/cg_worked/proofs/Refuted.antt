@@ -13,11 +13,11 @@ use Rattle.cg_action.specs.declared.command.Cmd.TheVariants.{Put, Need}
 use Rattle.cg_action.specs.declared.query.Query.TheVariants.{Get, Count}
 use Rattle.cg_action.specs.declared.value.Value.{Value}
 use Rattle.cg_action.specs.declared.value.Value.TheVariants.{Int}
-use Rattle.cg_db.specs.declared.answer.Answer.{Answer}
-use Rattle.cg_db.specs.declared.answer.Answer.TheVariants.{Absent, Int as Number, Count as Counted}
-use Rattle.cg_db.specs.declared.effect.Effect.{Effect}
-use Rattle.cg_db.specs.declared.effect.Effect.TheVariants.{Done, Aborted}
-use Rattle.cg_db.specs.declared.entry.DbEntry.{DbEntry}
+use Rattle.cg_answer.specs.declared.answer.Answer.{Answer}
+use Rattle.cg_answer.specs.declared.answer.Answer.TheVariants.{Absent, Int as Number, Count as Counted}
+use Rattle.cg_answer.specs.declared.effect.Effect.{Effect}
+use Rattle.cg_answer.specs.declared.effect.Effect.TheVariants.{Done, Aborted}
+use Rattle.cg_answer.specs.declared.entry.DbEntry.{DbEntry}
 use Rattle.cg_db.specs.Apply.{apply, fold_actions}
 use Rattle.cg_db.specs.Find.{answer, query_of}
 use Rattle.cg_group.specs.declared.reason.Reason.TheVariants.{NotUp}

@@ -1,8 +1,8 @@
 use Rattle.std.proofs.Common.{take}
 use Rattle.std.specs.List.{flat_map}
 use Rattle.std.specs.Fmt.{HasWritten, IsPlainFormatter}
-use Rattle.cg_db.specs.Print.{next_key_text}
-use Rattle.cg_db.proofs.print.write_keys.Given as goal
+use Rattle.cg_answer.specs.Print.{next_key_text}
+use Rattle.cg_answer.proofs.print.write_keys.Given as goal
 
 abbrev pub invariant-loop-key : goal.invariant-loop-key
 invariant-loop-key g l =

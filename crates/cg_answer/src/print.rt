@@ -5,7 +5,7 @@ ghost use Rattle.std.specs.List.{flat_map};
 ghost use Rattle.std.specs.Fmt.{WritesOnOk};
 ghost use Rattle.cg_text.specs.Quoted.{quoted};
 ghost use Rattle.cg_action.specs.Print.{value_text};
-ghost use Rattle.cg_db.specs.Print.{effect_text, next_key_text, answer_text};
+ghost use Rattle.cg_answer.specs.Print.{effect_text, next_key_text, answer_text};
 
 use crate::{Answer, DbEntry, Effect};
 use cg_text::{Quoted, Txt};

@@ -3,10 +3,10 @@ use Rattle.std.specs.Prelude.{List, ◌++◌, codes, decimal, ℕ}
 use Rattle.std.specs.List.{flat_map}
 use Rattle.std.specs.Fmt.{signed_decimal}
 use Rattle.cg_text.specs.Quoted.{quoted}
-use Rattle.cg_db.specs.declared.answer.Answer.{Answer}
-use Rattle.cg_db.specs.declared.answer.Answer.TheVariants.{Absent, Text, Int, Keys, Count}
-use Rattle.cg_db.specs.declared.effect.Effect.{Effect}
-use Rattle.cg_db.specs.declared.effect.Effect.TheVariants.{Done, Aborted, Range}
+use Rattle.cg_answer.specs.declared.answer.Answer.{Answer}
+use Rattle.cg_answer.specs.declared.answer.Answer.TheVariants.{Absent, Text, Int, Keys, Count}
+use Rattle.cg_answer.specs.declared.effect.Effect.{Effect}
+use Rattle.cg_answer.specs.declared.effect.Effect.TheVariants.{Done, Aborted, Range}
 
 -- what an action did
 abbrev pub effect_text : Effect → List ℕ
