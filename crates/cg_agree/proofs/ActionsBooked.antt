@@ -18,15 +18,15 @@ use Rattle.cg_group.specs.Events.{delivery_at, deliveries_at, transitional_place
 use Rattle.cg_client.specs.Replica.{Replica}
 use Rattle.cg_step.specs.Step.{Input, Deliveries, Asks}
 use Rattle.cg_step.specs.Recorded.{OfMessage, OfDelivery, OfInput, Named, AreBooked as AreInBook}
-use Rattle.cg_agree.specs.World.{Seat, World, running, seat_of, replica_of}
-use Rattle.cg_agree.specs.Show.{Going}
-use Rattle.cg_agree.specs.Step.{quietly, hand_over}
-use Rattle.cg_agree.specs.Chronicle.{Chronicle}
-use Rattle.cg_agree.specs.Talk.{action_in}
-use Rattle.cg_agree.specs.FactsLists.{IsRising}
-use Rattle.cg_agree.specs.FactsReplica.{booked, AreBooked}
-use Rattle.cg_agree.specs.Played.{StandsBeside}
-use Rattle.cg_agree.specs.Standing.{IsHandedBooked, AreBookedInTurn, IsHandedOutBooked, AlwaysBooked}
+use Rattle.cg_model.specs.World.{Seat, World, running, seat_of, replica_of}
+use Rattle.cg_model.specs.Show.{Going}
+use Rattle.cg_model.specs.Step.{quietly, hand_over}
+use Rattle.cg_model.specs.Chronicle.{Chronicle}
+use Rattle.cg_model.specs.Talk.{action_in}
+use Rattle.cg_model.specs.FactsLists.{IsRising}
+use Rattle.cg_model.specs.FactsReplica.{booked, AreBooked}
+use Rattle.cg_model.specs.Played.{StandsBeside}
+use Rattle.cg_model.specs.Standing.{IsHandedBooked, AreBookedInTurn, IsHandedOutBooked, AlwaysBooked}
 use Rattle.cg_agree.proofs.MadeSplit.{rising-set-list}
 use Rattle.cg_agree.proofs.RestsBehind.{handed-ids, split-to}
 use Rattle.cg_agree.proofs.WorldTurns.{hand-behind}

@@ -16,18 +16,18 @@ use Rattle.cg_report.specs.declared.line.UpLine.{UpLine}
 use Rattle.cg_client.specs.Replica.{Replica}
 use Rattle.cg_client.specs.Queries.{view_of}
 use Rattle.cg_schedule.specs.declared.event.Event.{Event}
-use Rattle.cg_agree.specs.World.{Seat, World, no_world, running, seat_of, replica_of}
-use Rattle.cg_agree.specs.Show.{line_of, up_line}
-use Rattle.cg_agree.specs.Step.{world_step}
-use Rattle.cg_agree.specs.Run.{Step}
-use Rattle.cg_agree.specs.Agreement.{through}
-use Rattle.cg_agree.specs.Chronicle.{Chronicle, no_chronicle}
-use Rattle.cg_agree.specs.FactsReplica.{AreBooked}
-use Rattle.cg_agree.specs.Noting.{chronicle_step}
-use Rattle.cg_agree.specs.Played.{StandsBeside, HoldsFrom}
-use Rattle.cg_agree.specs.Standing.{LeadTo, IsReached}
-use Rattle.cg_agree.specs.Telling.{printed}
-use Rattle.cg_agree.specs.Making.{made_of_action, position_on, printed_position, made_as, newly_made, made_by, AreNextOf, AlwaysMadeInBook}
+use Rattle.cg_model.specs.World.{Seat, World, no_world, running, seat_of, replica_of}
+use Rattle.cg_model.specs.Show.{line_of, up_line}
+use Rattle.cg_model.specs.Step.{world_step}
+use Rattle.cg_model.specs.Run.{Step}
+use Rattle.cg_model.specs.Agreement.{through}
+use Rattle.cg_model.specs.Chronicle.{Chronicle, no_chronicle}
+use Rattle.cg_model.specs.FactsReplica.{AreBooked}
+use Rattle.cg_model.specs.Noting.{chronicle_step}
+use Rattle.cg_model.specs.Played.{StandsBeside, HoldsFrom}
+use Rattle.cg_model.specs.Standing.{LeadTo, IsReached}
+use Rattle.cg_model.specs.Telling.{printed}
+use Rattle.cg_model.specs.Making.{made_of_action, position_on, printed_position, made_as, newly_made, made_by, AreNextOf, AlwaysMadeInBook}
 use Rattle.cg_agree.proofs.AlwaysMade.{always-holds}
 use Rattle.cg_agree.proofs.BookedCores.{each-booked}
 use Rattle.cg_agree.proofs.BookGrows.{IsNamed}

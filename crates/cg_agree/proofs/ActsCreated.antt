@@ -17,14 +17,14 @@ use Rattle.cg_client.specs.Replica.{Held, State, RegPrim, TransPrim, ExchangeSta
 use Rattle.cg_client.specs.Turn.{Turn, begin}
 use Rattle.cg_client.specs.Requests.{is_creating, next_action, create, create_kept, empty_buffer, buffer, settle, request, request_in}
 use Rattle.cg_step.specs.Crash.{Disk}
-use Rattle.cg_agree.specs.World.{Life, Up, Down as DownLife, Seat, seat_of, replica_of, running}
-use Rattle.cg_agree.specs.Chronicle.{Told, Chronicle}
-use Rattle.cg_agree.specs.Looks.{told_in, members_in, greens_of, said_in, OfCores}
-use Rattle.cg_agree.specs.Talk.{Talk, act_in, is_ended, is_full, is_through, known_up_to}
-use Rattle.cg_agree.specs.FactsNet.{PhaseSound, IsPhase}
-use Rattle.cg_agree.specs.FactsReplica.{IsModeData, IsCore}
-use Rattle.cg_agree.specs.FactsTalk.{whole_talk, handed_talk, of_creator, count_behind, AreContents, Content, AreNumbered, AreNumberedAt, ActsNumbered, IsStateIn, TalkFacts}
-use Rattle.cg_agree.specs.Small.{Asks, Settles, small_step, turning, turning_as, after_turn, take_request}
+use Rattle.cg_model.specs.World.{Life, Up, Down as DownLife, Seat, seat_of, replica_of, running}
+use Rattle.cg_model.specs.Chronicle.{Told, Chronicle}
+use Rattle.cg_model.specs.Looks.{told_in, members_in, greens_of, said_in, OfCores}
+use Rattle.cg_model.specs.Talk.{Talk, act_in, is_ended, is_full, is_through, known_up_to}
+use Rattle.cg_model.specs.FactsNet.{PhaseSound, IsPhase}
+use Rattle.cg_model.specs.FactsReplica.{IsModeData, IsCore}
+use Rattle.cg_model.specs.FactsTalk.{whole_talk, handed_talk, of_creator, count_behind, AreContents, Content, AreNumbered, AreNumberedAt, ActsNumbered, IsStateIn, TalkFacts}
+use Rattle.cg_model.specs.Small.{Asks, Settles, small_step, turning, turning_as, after_turn, take_request}
 use Rattle.cg_agree.proofs.ActsSaid.{handed-heard}
 use Rattle.cg_agree.proofs.ActsWay.{later_acts, said-split, way-later, row-both, created-count, drop-behind}
 use Rattle.cg_agree.proofs.CreatesTalk.{CreatesAt, can, turns, fits}

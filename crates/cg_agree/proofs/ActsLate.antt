@@ -11,10 +11,10 @@ use Rattle.cg_wire.specs.declared.message.Msg.{Msg}
 use Rattle.cg_wire.specs.declared.message.Msg.TheVariants.{Action as ActionMsg, State as StateMsg, GreenItem, RedItem, Cpc}
 use Rattle.cg_group.specs.State.{Sent, delivered_to}
 use Rattle.cg_client.specs.Replica.{Construct}
-use Rattle.cg_agree.specs.Chronicle.{Chronicle}
-use Rattle.cg_agree.specs.Looks.{members_in, ordered_in}
-use Rattle.cg_agree.specs.Talk.{Talk, no_talk, hears_from, hears, is_full, is_through, is_ended, is_announced, may_go_on, may_say, is_legal, state_in}
-use Rattle.cg_agree.specs.FactsTalk.{TalkLegal, handed_talk}
+use Rattle.cg_model.specs.Chronicle.{Chronicle}
+use Rattle.cg_model.specs.Looks.{members_in, ordered_in}
+use Rattle.cg_model.specs.Talk.{Talk, no_talk, hears_from, hears, is_full, is_through, is_ended, is_announced, may_go_on, may_say, is_legal, state_in}
+use Rattle.cg_model.specs.FactsTalk.{TalkLegal, handed_talk}
 use Rattle.cg_agree.proofs.ActsSaid.{handed-parts}
 use Rattle.cg_agree.proofs.ReachFacts.{all-at, all-from}
 use Rattle.cg_agree.proofs.StatesSaid.{announcing}

@@ -11,10 +11,10 @@ use Rattle.cg_agree.proofs.HandNext.{legal-at, take-next, talk-append}
 use Rattle.cg_agree.proofs.HandsNow.{whole-ended, whole-through}
 use Rattle.cg_agree.proofs.NumbersSame.{AreInRow}
 use Rattle.cg_agree.proofs.SaidSoFar.{kind-mine, rest-through}
-use Rattle.cg_agree.specs.Chronicle.{Chronicle}
-use Rattle.cg_agree.specs.FactsTalk.{TalkFacts, count_behind, of_creator, whole_talk}
-use Rattle.cg_agree.specs.Looks.{members_in, ordered_in, placed_of, said_in, waiting_in}
-use Rattle.cg_agree.specs.Talk.{Talk, act_in, is_announced as all_announced, hears, is_ended, is_full, is_through, known_up_to, may_go_on, may_say, no_talk, talk_of}
+use Rattle.cg_model.specs.Chronicle.{Chronicle}
+use Rattle.cg_model.specs.FactsTalk.{TalkFacts, count_behind, of_creator, whole_talk}
+use Rattle.cg_model.specs.Looks.{members_in, ordered_in, placed_of, said_in, waiting_in}
+use Rattle.cg_model.specs.Talk.{Talk, act_in, is_announced as all_announced, hears, is_ended, is_full, is_through, known_up_to, may_go_on, may_say, no_talk, talk_of}
 use Rattle.cg_base.specs.Sets.{has}
 use Rattle.cg_group.specs.State.{Sent}
 use Rattle.cg_knowledge.specs.Members.{remaining}

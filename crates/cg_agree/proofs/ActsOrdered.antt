@@ -8,14 +8,14 @@ use Rattle.cg_wire.specs.declared.message.Msg.{Msg}
 use Rattle.cg_wire.specs.declared.message.Msg.TheVariants.{Action as ActionMsg, State as StateMsg, GreenItem, RedItem, Cpc}
 use Rattle.cg_group.specs.State.{phase_of}
 use Rattle.cg_group.specs.declared.phase.Phase.TheVariants.{Regular}
-use Rattle.cg_agree.specs.World.{replica_of}
-use Rattle.cg_agree.specs.Chronicle.{Told, Chronicle}
-use Rattle.cg_agree.specs.Looks.{told_in, is_regular_at, is_regular_in, members_in, sent_by, said_in}
-use Rattle.cg_agree.specs.Talk.{Talk, talk_of, hears_from, is_full, is_through, is_ended, may_say, is_legal, act_in, known_up_to}
-use Rattle.cg_agree.specs.FactsNet.{PhaseSound, ReceiptsInside}
-use Rattle.cg_agree.specs.FactsTalk.{whole_talk, AreContents, Content, AreNumberedAt, ActsNumbered, TalkLegal, SentIffDue, TalkFacts}
-use Rattle.cg_agree.specs.Small.{Orders, small_step}
-use Rattle.cg_agree.specs.Smalls.{may_make}
+use Rattle.cg_model.specs.World.{replica_of}
+use Rattle.cg_model.specs.Chronicle.{Told, Chronicle}
+use Rattle.cg_model.specs.Looks.{told_in, is_regular_at, is_regular_in, members_in, sent_by, said_in}
+use Rattle.cg_model.specs.Talk.{Talk, talk_of, hears_from, is_full, is_through, is_ended, may_say, is_legal, act_in, known_up_to}
+use Rattle.cg_model.specs.FactsNet.{PhaseSound, ReceiptsInside}
+use Rattle.cg_model.specs.FactsTalk.{whole_talk, AreContents, Content, AreNumberedAt, ActsNumbered, TalkLegal, SentIffDue, TalkFacts}
+use Rattle.cg_model.specs.Small.{Orders, small_step}
+use Rattle.cg_model.specs.Smalls.{may_make}
 use Rattle.cg_agree.proofs.ActsSaid.{no-acts}
 use Rattle.cg_agree.proofs.NextThere.{orders-now}
 use Rattle.cg_agree.proofs.NumbersSame.{numbered-at, numbered-itself, AreInRow}

@@ -12,10 +12,10 @@ use Rattle.cg_wire.specs.declared.message.Msg.TheVariants.{Action as ActionMsg, 
 use Rattle.cg_group.specs.State.{Sent, delivered_to, unordered_of}
 use Rattle.cg_client.specs.Replica.{ExchangeStates, ExchangeActions}
 use Rattle.cg_client.specs.Requests.{is_creating}
-use Rattle.cg_agree.specs.Chronicle.{Chronicle}
-use Rattle.cg_agree.specs.Looks.{is_regular_in, members_in, ordered_in, placed_of, said_in}
-use Rattle.cg_agree.specs.Talk.{Talk, no_talk, talk_of, hears, hears_from, is_full, is_through, is_ended, is_announced, may_go_on, may_say, is_legal, state_in, state_behind, act_in, acts_in}
-use Rattle.cg_agree.specs.FactsTalk.{whole_talk, handed_talk, SentIffDue, TalkLegal, of_creator}
+use Rattle.cg_model.specs.Chronicle.{Chronicle}
+use Rattle.cg_model.specs.Looks.{is_regular_in, members_in, ordered_in, placed_of, said_in}
+use Rattle.cg_model.specs.Talk.{Talk, no_talk, talk_of, hears, hears_from, is_full, is_through, is_ended, is_announced, may_go_on, may_say, is_legal, state_in, state_behind, act_in, acts_in}
+use Rattle.cg_model.specs.FactsTalk.{whole_talk, handed_talk, SentIffDue, TalkLegal, of_creator}
 use Rattle.cg_agree.proofs.HandsKept.{take-drop}
 use Rattle.cg_agree.proofs.SaidSoFar.{rest-through}
 use Rattle.cg_agree.proofs.TalkCommute.{legal-append}

@@ -8,10 +8,10 @@ use Rattle.cg_action.specs.declared.action.Action.{Action}
 use Rattle.cg_wire.specs.declared.message.Msg.{Msg}
 use Rattle.cg_group.specs.State.{Sent, delivered_to}
 use Rattle.cg_client.specs.Replica.{Held, created, last_index}
-use Rattle.cg_agree.specs.Chronicle.{Chronicle}
-use Rattle.cg_agree.specs.Looks.{members_in, ordered_in, placed_of, waiting_in, said_in}
-use Rattle.cg_agree.specs.Talk.{no_talk, talk_of, is_legal, act_in}
-use Rattle.cg_agree.specs.FactsTalk.{handed_talk, TalkLegal, of_creator, AreOnTheWay}
+use Rattle.cg_model.specs.Chronicle.{Chronicle}
+use Rattle.cg_model.specs.Looks.{members_in, ordered_in, placed_of, waiting_in, said_in}
+use Rattle.cg_model.specs.Talk.{no_talk, talk_of, is_legal, act_in}
+use Rattle.cg_model.specs.FactsTalk.{handed_talk, TalkLegal, of_creator, AreOnTheWay}
 use Rattle.cg_agree.proofs.ActsSaid.{acts-by, acts-of}
 use Rattle.cg_agree.proofs.HandsKept.{take-drop}
 use Rattle.cg_agree.proofs.NumbersSame.{AreInRow}

@@ -2,14 +2,14 @@
 -- have nothing that wasn't shown are carried from event to event.
 use Rattle.std.proofs.Common.{◌≡◌, List, [], ◌∷◌, None}
 use Rattle.cg_schedule.specs.declared.event.Event.{Event}
-use Rattle.cg_agree.specs.World.{World, no_world}
-use Rattle.cg_agree.specs.Admission.{first_refusal}
-use Rattle.cg_agree.specs.Run.{MayStand}
-use Rattle.cg_agree.specs.Step.{world_step}
-use Rattle.cg_agree.specs.Chronicle.{Chronicle, no_chronicle}
-use Rattle.cg_agree.specs.Smalls.{smalls_in}
-use Rattle.cg_agree.specs.Noting.{chronicle_step}
-use Rattle.cg_agree.specs.Played.{StandsBeside, AreAdmitted, HoldsFrom, AlwaysHolds}
+use Rattle.cg_model.specs.World.{World, no_world}
+use Rattle.cg_model.specs.Admission.{first_refusal}
+use Rattle.cg_model.specs.Run.{MayStand}
+use Rattle.cg_model.specs.Step.{world_step}
+use Rattle.cg_model.specs.Chronicle.{Chronicle, no_chronicle}
+use Rattle.cg_model.specs.Smalls.{smalls_in}
+use Rattle.cg_model.specs.Noting.{chronicle_step}
+use Rattle.cg_model.specs.Played.{StandsBeside, AreAdmitted, HoldsFrom, AlwaysHolds}
 use Rattle.cg_agree.proofs.MadeOfSmalls.{made-of-smalls}
 use Rattle.cg_agree.proofs.MovesKept.{kept-by-smalls}
 use Rattle.cg_agree.proofs.NothingStands.{nothing-stands}

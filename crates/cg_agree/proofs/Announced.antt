@@ -9,10 +9,10 @@ use Rattle.cg_knowledge.specs.Members.{senders}
 use Rattle.cg_wire.specs.declared.message.Msg.{Msg}
 use Rattle.cg_wire.specs.declared.message.Msg.TheVariants.{Action as ActionMsg, State as StateMsg, GreenItem, RedItem, Cpc}
 use Rattle.cg_group.specs.State.{Sent}
-use Rattle.cg_agree.specs.Talk.{Talk, no_talk, hears, hears_from, talk_of, may_say, is_legal, announcer_in}
-use Rattle.cg_agree.specs.Levels.{announced_from}
-use Rattle.cg_agree.specs.Looks.{placed_of}
-use Rattle.cg_agree.specs.Fronts.{Front}
+use Rattle.cg_model.specs.Talk.{Talk, no_talk, hears, hears_from, talk_of, may_say, is_legal, announcer_in}
+use Rattle.cg_model.specs.Levels.{announced_from}
+use Rattle.cg_model.specs.Looks.{placed_of}
+use Rattle.cg_model.specs.Fronts.{Front}
 use Rattle.cg_agree.proofs.TalkCommute.{senders-more}
 
 -- ---- places

@@ -18,19 +18,19 @@ use Rattle.cg_group.specs.declared.phase.Phase.TheVariants.{Down, Alone, Regular
 use Rattle.cg_group.specs.State.{Sent, phase_of, is_regular, regular_in, delivered_to, unordered_of}
 use Rattle.cg_client.specs.Replica.{Held, State, RegPrim, TransPrim, ExchangeStates, ExchangeActions, Construct, No, Un, NonPrim, Left, Replica}
 use Rattle.cg_client.specs.Requests.{is_creating}
-use Rattle.cg_agree.specs.World.{Seat, replica_of, running}
-use Rattle.cg_agree.specs.Chronicle.{Attempt, Chronicle}
-use Rattle.cg_agree.specs.Looks.{conf_at, is_regular_at, is_regular_in, members_in, ordered_in, placed_of, waiting_in, said_in, attempt_of, attempt_at}
-use Rattle.cg_agree.specs.Talk.{Talk, no_talk, talk_of, is_full, is_through, is_ended, is_announced, may_say, may_go_on, state_in, announcer_in, act_in}
-use Rattle.cg_agree.specs.Levels.{is_installed}
-use Rattle.cg_agree.specs.Fronts.{Front}
-use Rattle.cg_agree.specs.FactsNet.{PhaseSound, IsPhase}
-use Rattle.cg_agree.specs.FactsTalk.{TalkLegal, SentIffDue, ModeFits, IsStateIn, handed_talk, whole_talk}
-use Rattle.cg_agree.specs.FactsReplica.{is_attempting, is_primary, has_entered, HasModeData, IsInAttempt, IsCounted, IsModeData}
-use Rattle.cg_agree.specs.FactsAttempts.{AnnouncedEntered, ActInstalled, entered_in, installed_in}
-use Rattle.cg_agree.specs.Facts.{Invariant}
-use Rattle.cg_agree.specs.Small.{Small, small_step}
-use Rattle.cg_agree.specs.Smalls.{may_make}
+use Rattle.cg_model.specs.World.{Seat, replica_of, running}
+use Rattle.cg_model.specs.Chronicle.{Attempt, Chronicle}
+use Rattle.cg_model.specs.Looks.{conf_at, is_regular_at, is_regular_in, members_in, ordered_in, placed_of, waiting_in, said_in, attempt_of, attempt_at}
+use Rattle.cg_model.specs.Talk.{Talk, no_talk, talk_of, is_full, is_through, is_ended, is_announced, may_say, may_go_on, state_in, announcer_in, act_in}
+use Rattle.cg_model.specs.Levels.{is_installed}
+use Rattle.cg_model.specs.Fronts.{Front}
+use Rattle.cg_model.specs.FactsNet.{PhaseSound, IsPhase}
+use Rattle.cg_model.specs.FactsTalk.{TalkLegal, SentIffDue, ModeFits, IsStateIn, handed_talk, whole_talk}
+use Rattle.cg_model.specs.FactsReplica.{is_attempting, is_primary, has_entered, HasModeData, IsInAttempt, IsCounted, IsModeData}
+use Rattle.cg_model.specs.FactsAttempts.{AnnouncedEntered, ActInstalled, entered_in, installed_in}
+use Rattle.cg_model.specs.Facts.{Invariant}
+use Rattle.cg_model.specs.Small.{Small, small_step}
+use Rattle.cg_model.specs.Smalls.{may_make}
 use Rattle.cg_agree.proofs.SmallTalk.{conf-there}
 use Rattle.cg_agree.proofs.HandNext.{legal-at}
 use Rattle.cg_agree.proofs.HandsKept.{seated, regular-up}

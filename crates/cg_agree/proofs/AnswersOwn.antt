@@ -26,14 +26,14 @@ use Rattle.cg_exchange.specs.ExchangeActions.{progress, take_item, send_part, go
 use Rattle.cg_exchange.specs.ExchangeStates.{is_usable, with_heard}
 use Rattle.cg_exchange.specs.PlanEnd.{take_over, attempt, decide, end_plan}
 use Rattle.cg_step.specs.Step.{on_message}
-use Rattle.cg_agree.specs.World.{replica_of}
-use Rattle.cg_agree.specs.Chronicle.{Told, Chronicle}
-use Rattle.cg_agree.specs.Looks.{greens_of, members_in, ordered_in}
-use Rattle.cg_agree.specs.Talk.{Talk, no_talk, hears_from, is_full, is_through, is_ended, is_due, may_say, known_up_to}
-use Rattle.cg_agree.specs.Fronts.{IsSomeWith}
-use Rattle.cg_agree.specs.Facts.{Invariant}
-use Rattle.cg_agree.specs.FactsExchange.{IsInExchange, IsUnmoved}
-use Rattle.cg_agree.specs.FactsTalk.{AreTold, handed_talk}
+use Rattle.cg_model.specs.World.{replica_of}
+use Rattle.cg_model.specs.Chronicle.{Told, Chronicle}
+use Rattle.cg_model.specs.Looks.{greens_of, members_in, ordered_in}
+use Rattle.cg_model.specs.Talk.{Talk, no_talk, hears_from, is_full, is_through, is_ended, is_due, may_say, known_up_to}
+use Rattle.cg_model.specs.Fronts.{IsSomeWith}
+use Rattle.cg_model.specs.Facts.{Invariant}
+use Rattle.cg_model.specs.FactsExchange.{IsInExchange, IsUnmoved}
+use Rattle.cg_model.specs.FactsTalk.{AreTold, handed_talk}
 use Rattle.cg_agree.proofs.EndReached.{best-of}
 use Rattle.cg_agree.proofs.HandMay.{HasNext}
 use Rattle.cg_agree.proofs.HandNext.{legal-front}

@@ -1,15 +1,15 @@
 -- Facts about attempts behind each small step, all together: what they need of what is said and of an exchange stands behind the step too.
 use Rattle.std.proofs.Common.{◌≡◌, ℕ, true, IfSome}
-use Rattle.cg_agree.specs.World.{replica_of}
-use Rattle.cg_agree.specs.Chronicle.{Chronicle}
-use Rattle.cg_agree.specs.FactsTalk.{TalkLegal, SentIffDue, ModeFits}
-use Rattle.cg_agree.specs.FactsReplica.{IsModeData, DiskBehind}
-use Rattle.cg_agree.specs.FactsExchange.{ExchangeProgress}
-use Rattle.cg_agree.specs.FactsAttempts.{LevelsStand, AnnouncedEntered, InstalledAnnounced, ActInstalled, RecordOfAttempt, InstalledIndex, BitsWitness, DeadEvidence, OneAttempt}
-use Rattle.cg_agree.specs.Facts.{Invariant}
-use Rattle.cg_agree.specs.Played.{AtRest}
-use Rattle.cg_agree.specs.Small.{Small, small_step}
-use Rattle.cg_agree.specs.Smalls.{may_make}
+use Rattle.cg_model.specs.World.{replica_of}
+use Rattle.cg_model.specs.Chronicle.{Chronicle}
+use Rattle.cg_model.specs.FactsTalk.{TalkLegal, SentIffDue, ModeFits}
+use Rattle.cg_model.specs.FactsReplica.{IsModeData, DiskBehind}
+use Rattle.cg_model.specs.FactsExchange.{ExchangeProgress}
+use Rattle.cg_model.specs.FactsAttempts.{LevelsStand, AnnouncedEntered, InstalledAnnounced, ActInstalled, RecordOfAttempt, InstalledIndex, BitsWitness, DeadEvidence, OneAttempt}
+use Rattle.cg_model.specs.Facts.{Invariant}
+use Rattle.cg_model.specs.Played.{AtRest}
+use Rattle.cg_model.specs.Small.{Small, small_step}
+use Rattle.cg_model.specs.Smalls.{may_make}
 use Rattle.cg_agree.proofs.GroupKept.{phase_sound-kept}
 use Rattle.cg_agree.proofs.AttemptSteps.{group-of}
 use Rattle.cg_agree.proofs.RecordKept.{record-kept}

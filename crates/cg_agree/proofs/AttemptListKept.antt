@@ -21,16 +21,16 @@ use Rattle.cg_client.specs.Install.{valid_yellow}
 use Rattle.cg_client.specs.Queries.{plain_reds}
 use Rattle.cg_stored.specs.Stored.{stored_of, whiten}
 use Rattle.cg_step.specs.Crash.{new_disk, at_rest, recovered, disk_recovered}
-use Rattle.cg_agree.specs.World.{Life, Up, Down, Seat, running, Snapshot, World, replica_of, has_begun, is_left}
-use Rattle.cg_agree.specs.Step.{begin_replica, joined, name_also}
-use Rattle.cg_agree.specs.Chronicle.{Past, Attempt, Chronicle, no_chronicle}
-use Rattle.cg_agree.specs.Fronts.{IsSomeWith}
-use Rattle.cg_agree.specs.Looks.{conf_of, past_of, greens_of, stood_of, conf_at, attempt_of, copied_for}
-use Rattle.cg_agree.specs.FactsAttempts.{HoldsParts, AttemptList}
-use Rattle.cg_agree.specs.FactsReplica.{AreBooked, IsCore, IsModeData, HasModeData, IsInAttempt, is_attempting, is_primary, is_exchanging}
-use Rattle.cg_agree.specs.Facts.{Invariant}
-use Rattle.cg_agree.specs.Small.{Small, Starts, Makes, Enters, Orders, Receives, Hands, Leaves, Asks, Settles, Commits, Crashes, Recovers, Copies, Joins, new_past, written, struck, newest_conf, turning, take_newest, take_next, take_parting, take_request, coming, handed_next, leaving, with_group, commit_as, crash_as, recover_as, copy_as, join_with, start, small_step}
-use Rattle.cg_agree.specs.Smalls.{may_make, is_running, is_set}
+use Rattle.cg_model.specs.World.{Life, Up, Down, Seat, running, Snapshot, World, replica_of, has_begun, is_left}
+use Rattle.cg_model.specs.Step.{begin_replica, joined, name_also}
+use Rattle.cg_model.specs.Chronicle.{Past, Attempt, Chronicle, no_chronicle}
+use Rattle.cg_model.specs.Fronts.{IsSomeWith}
+use Rattle.cg_model.specs.Looks.{conf_of, past_of, greens_of, stood_of, conf_at, attempt_of, copied_for}
+use Rattle.cg_model.specs.FactsAttempts.{HoldsParts, AttemptList}
+use Rattle.cg_model.specs.FactsReplica.{AreBooked, IsCore, IsModeData, HasModeData, IsInAttempt, is_attempting, is_primary, is_exchanging}
+use Rattle.cg_model.specs.Facts.{Invariant}
+use Rattle.cg_model.specs.Small.{Small, Starts, Makes, Enters, Orders, Receives, Hands, Leaves, Asks, Settles, Commits, Crashes, Recovers, Copies, Joins, new_past, written, struck, newest_conf, turning, take_newest, take_next, take_parting, take_request, coming, handed_next, leaving, with_group, commit_as, crash_as, recover_as, copy_as, join_with, start, small_step}
+use Rattle.cg_model.specs.Smalls.{may_make, is_running, is_set}
 use Rattle.cg_agree.proofs.AttemptSteps.{IsHanded}
 use Rattle.cg_agree.proofs.AttemptsCame.{Begins}
 use Rattle.cg_agree.proofs.AttemptsTurn.{ends-exchanging, ends-beside}

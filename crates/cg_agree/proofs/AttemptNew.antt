@@ -26,9 +26,9 @@ use Rattle.cg_construct.specs.Construct.{attempt_set, is_announced, construct_wi
 use Rattle.cg_construct.specs.No.{no_with}
 use Rattle.cg_step.specs.Commit.{same_values}
 use Rattle.cg_step.specs.Step.{Input, Deliveries, Asks, replica_step, on_message, on_transitional, on_regular, take}
-use Rattle.cg_agree.specs.Fronts.{IsSomeWith}
-use Rattle.cg_agree.specs.Levels.{is_record_of}
-use Rattle.cg_agree.specs.FactsReplica.{is_attempting, IsAsOnDisk}
+use Rattle.cg_model.specs.Fronts.{IsSomeWith}
+use Rattle.cg_model.specs.Levels.{is_record_of}
+use Rattle.cg_model.specs.FactsReplica.{is_attempting, IsAsOnDisk}
 use Rattle.cg_agree.proofs.TurnValues.{even-mark_red, even-mark_yellow, even-mark_green, even-send_part, even-create_kept, even-create}
 use Rattle.cg_step.specs.ValueLaws.{one-value}
 

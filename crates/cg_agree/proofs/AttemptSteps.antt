@@ -17,22 +17,22 @@ use Rattle.cg_client.specs.Replica.{Held, State, RegPrim, TransPrim, ExchangeSta
 use Rattle.cg_client.specs.Turn.{Turn, begin}
 use Rattle.cg_client.specs.Requests.{settle}
 use Rattle.cg_step.specs.Crash.{Disk}
-use Rattle.cg_agree.specs.World.{Life, Up, Down, Seat, seat_of, replica_of, running, is_left}
-use Rattle.cg_agree.specs.Chronicle.{Past, Attempt, Chronicle}
-use Rattle.cg_agree.specs.Looks.{past_of, greens_of, stood_of, core_of, conf_at, is_regular_at, members_in, ordered_in, said_in, placed_of, waiting_in, conf_of, attempt_of, received_by_all, snapshot_of}
-use Rattle.cg_agree.specs.Talk.{Talk, is_full, is_through, is_ended, is_announced, act_in, state_in}
-use Rattle.cg_agree.specs.Levels.{announced_at, is_installed}
-use Rattle.cg_agree.specs.FactsTalk.{handed_talk, whole_talk, IsStateIn}
-use Rattle.cg_agree.specs.FactsNet.{IsPhase}
-use Rattle.cg_agree.specs.FactsReplica.{is_attempting, is_primary, own_record, HasModeData, IsInAttempt, IsModeData, is_exchanging}
-use Rattle.cg_agree.specs.FactsAttempts.{IsAttempt, installed_in}
-use Rattle.cg_agree.specs.Facts.{Invariant}
-use Rattle.cg_agree.specs.Small.{Small, Starts, Makes, Enters, Orders, Receives, Hands, Leaves, Asks, Settles, Commits, Crashes, Recovers, Copies, Joins, turning, newly_green, struck, changed_attempt, with_leaver, entering, installing, opened_by, attempts_behind, levels_behind, coming, take_newest, handed_next, take_next, leaving, take_parting, take_request, commit_as, crash_as, recover_as, copy_as, join_with, newest_conf, small_step}
-use Rattle.cg_agree.specs.Smalls.{may_make, is_running}
+use Rattle.cg_model.specs.World.{Life, Up, Down, Seat, seat_of, replica_of, running, is_left}
+use Rattle.cg_model.specs.Chronicle.{Past, Attempt, Chronicle}
+use Rattle.cg_model.specs.Looks.{past_of, greens_of, stood_of, core_of, conf_at, is_regular_at, members_in, ordered_in, said_in, placed_of, waiting_in, conf_of, attempt_of, received_by_all, snapshot_of}
+use Rattle.cg_model.specs.Talk.{Talk, is_full, is_through, is_ended, is_announced, act_in, state_in}
+use Rattle.cg_model.specs.Levels.{announced_at, is_installed}
+use Rattle.cg_model.specs.FactsTalk.{handed_talk, whole_talk, IsStateIn}
+use Rattle.cg_model.specs.FactsNet.{IsPhase}
+use Rattle.cg_model.specs.FactsReplica.{is_attempting, is_primary, own_record, HasModeData, IsInAttempt, IsModeData, is_exchanging}
+use Rattle.cg_model.specs.FactsAttempts.{IsAttempt, installed_in}
+use Rattle.cg_model.specs.Facts.{Invariant}
+use Rattle.cg_model.specs.Small.{Small, Starts, Makes, Enters, Orders, Receives, Hands, Leaves, Asks, Settles, Commits, Crashes, Recovers, Copies, Joins, turning, newly_green, struck, changed_attempt, with_leaver, entering, installing, opened_by, attempts_behind, levels_behind, coming, take_newest, handed_next, take_next, leaving, take_parting, take_request, commit_as, crash_as, recover_as, copy_as, join_with, newest_conf, small_step}
+use Rattle.cg_model.specs.Smalls.{may_make, is_running}
 use Rattle.cg_agree.proofs.CoresKept.{greens-turn, past-here}
 use Rattle.cg_agree.proofs.OneselfWorld.{HavePasts}
 use Rattle.cg_agree.proofs.ChronicleFacts.{seat_of-set}
-use Rattle.cg_agree.specs.Attempts.{held_in}
+use Rattle.cg_model.specs.Attempts.{held_in}
 use Rattle.cg_agree.proofs.HandSays.{find-holds, remains-unless_gone}
 use Rattle.cg_agree.proofs.EndCases.{take-short}
 use Rattle.cg_agree.proofs.ConfSound.{by_all}

@@ -1,14 +1,14 @@
 -- All facts about attempts and levels behind each small step: what they need behind the step stands there too. Of an attempt's parts it
 -- is asked that each action is the one of its name.
 use Rattle.std.proofs.Common.{◌≡◌, true}
-use Rattle.cg_agree.specs.Chronicle.{Chronicle}
-use Rattle.cg_agree.specs.FactsAttempts.{AttemptFacts}
-use Rattle.cg_agree.specs.FactsReplica.{IsCore}
-use Rattle.cg_agree.specs.Facts.{Invariant}
-use Rattle.cg_agree.specs.Looks.{OfCores}
-use Rattle.cg_agree.specs.Played.{AtRest}
-use Rattle.cg_agree.specs.Small.{Small, Starts, Makes, Enters, Orders, Receives, Hands, Leaves, Asks, Settles, Commits, Crashes, Recovers, Copies, Joins, small_step}
-use Rattle.cg_agree.specs.Smalls.{may_make}
+use Rattle.cg_model.specs.Chronicle.{Chronicle}
+use Rattle.cg_model.specs.FactsAttempts.{AttemptFacts}
+use Rattle.cg_model.specs.FactsReplica.{IsCore}
+use Rattle.cg_model.specs.Facts.{Invariant}
+use Rattle.cg_model.specs.Looks.{OfCores}
+use Rattle.cg_model.specs.Played.{AtRest}
+use Rattle.cg_model.specs.Small.{Small, Starts, Makes, Enters, Orders, Receives, Hands, Leaves, Asks, Settles, Commits, Crashes, Recovers, Copies, Joins, small_step}
+use Rattle.cg_model.specs.Smalls.{may_make}
 use Rattle.cg_agree.proofs.AttemptFactsKept.{IsSaidNow, AttemptsNow, attempts-now}
 use Rattle.cg_agree.proofs.AttemptListKept.{attempt_list-kept}
 use Rattle.cg_agree.proofs.CountsMove.{left_out-kept}

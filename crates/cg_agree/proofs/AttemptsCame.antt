@@ -9,15 +9,15 @@ use Rattle.cg_action.specs.declared.action.Action.{Action}
 use Rattle.cg_knowledge.specs.declared.summary.Summary.{Summary}
 use Rattle.cg_group.specs.State.{phase_of}
 use Rattle.cg_client.specs.Replica.{Replica}
-use Rattle.cg_agree.specs.World.{replica_of}
-use Rattle.cg_agree.specs.Attempts.{new_attempt}
-use Rattle.cg_agree.specs.Chronicle.{Attempt, Chronicle}
-use Rattle.cg_agree.specs.Looks.{greens_of, core_of, conf_at, ordered_in, attempt_of}
-use Rattle.cg_agree.specs.Levels.{is_out_lacking, is_live, is_installed, is_dead}
-use Rattle.cg_agree.specs.FactsReplica.{own_record, is_attempting, is_primary}
-use Rattle.cg_agree.specs.Facts.{Invariant}
-use Rattle.cg_agree.specs.Small.{Small, small_step, with_leaver, with_entrant, with_installer, opened_by}
-use Rattle.cg_agree.specs.Smalls.{may_make}
+use Rattle.cg_model.specs.World.{replica_of}
+use Rattle.cg_model.specs.Attempts.{new_attempt}
+use Rattle.cg_model.specs.Chronicle.{Attempt, Chronicle}
+use Rattle.cg_model.specs.Looks.{greens_of, core_of, conf_at, ordered_in, attempt_of}
+use Rattle.cg_model.specs.Levels.{is_out_lacking, is_live, is_installed, is_dead}
+use Rattle.cg_model.specs.FactsReplica.{own_record, is_attempting, is_primary}
+use Rattle.cg_model.specs.Facts.{Invariant}
+use Rattle.cg_model.specs.Small.{Small, small_step, with_leaver, with_entrant, with_installer, opened_by}
+use Rattle.cg_model.specs.Smalls.{may_make}
 use Rattle.cg_agree.proofs.Keyed.{found-changed}
 use Rattle.cg_agree.proofs.HandSays.{find-holds}
 use Rattle.cg_agree.proofs.SameAttempt.{SameAttempt, same-refl}

@@ -9,12 +9,12 @@ use Rattle.cg_queue.specs.Queue.{names_of}
 use Rattle.cg_knowledge.specs.declared.summary.Summary.{Summary}
 use Rattle.cg_knowledge.specs.Members.{most_updated}
 use Rattle.cg_knowledge.specs.Yellow.{common_yellow}
-use Rattle.cg_agree.specs.Chronicle.{Told, Attempt, Chronicle}
-use Rattle.cg_agree.specs.Fronts.{IsSomeWith}
-use Rattle.cg_agree.specs.Looks.{attempt_of, told_in, top_of}
-use Rattle.cg_agree.specs.FactsTalk.{AreTold, whole_talk}
-use Rattle.cg_agree.specs.FactsExchange.{best_told}
-use Rattle.cg_agree.specs.FactsGreens.{Covers, CoversLevel}
+use Rattle.cg_model.specs.Chronicle.{Told, Attempt, Chronicle}
+use Rattle.cg_model.specs.Fronts.{IsSomeWith}
+use Rattle.cg_model.specs.Looks.{attempt_of, told_in, top_of}
+use Rattle.cg_model.specs.FactsTalk.{AreTold, whole_talk}
+use Rattle.cg_model.specs.FactsExchange.{best_told}
+use Rattle.cg_model.specs.FactsGreens.{Covers, CoversLevel}
 use Rattle.cg_agree.proofs.ClearedDead.{IsToldIn, each-told}
 use Rattle.cg_agree.proofs.CoversStay.{start-covers}
 use Rattle.cg_agree.proofs.EndReached.{best-of}

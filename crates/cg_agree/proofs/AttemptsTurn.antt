@@ -9,10 +9,10 @@ use Rattle.cg_records.specs.declared.vulnerable.Vulnerable.{Vulnerable}
 use Rattle.cg_knowledge.specs.declared.summary.Summary.{Summary}
 use Rattle.cg_client.specs.Replica.{Held, State, RegPrim, TransPrim, ExchangeStates, ExchangeActions, Construct, No, Un, NonPrim, Left, Replica}
 use Rattle.cg_wire.specs.declared.message.Msg.{Msg}
-use Rattle.cg_agree.specs.Attempts.{new_attempt, is_seen}
-use Rattle.cg_agree.specs.Chronicle.{Attempt, Chronicle}
-use Rattle.cg_agree.specs.FactsReplica.{is_attempting, is_primary, is_exchanging}
-use Rattle.cg_agree.specs.Small.{changed_attempt, with_entrant, with_installer, entering, installing, opened_by, attempts_behind, levels_behind, is_entry, is_installation}
+use Rattle.cg_model.specs.Attempts.{new_attempt, is_seen}
+use Rattle.cg_model.specs.Chronicle.{Attempt, Chronicle}
+use Rattle.cg_model.specs.FactsReplica.{is_attempting, is_primary, is_exchanging}
+use Rattle.cg_model.specs.Small.{changed_attempt, with_entrant, with_installer, entering, installing, opened_by, attempts_behind, levels_behind, is_entry, is_installation}
 use Rattle.cg_agree.proofs.Keyed.{found-changed, find-none}
 use Rattle.cg_agree.proofs.TurnKinds.{IsQuiet, HasInstalled, HasDecided, HasAttempted, new_record, EndsWith}
 use Rattle.cg_agree.proofs.TurnParts.{never-both, HasCome}

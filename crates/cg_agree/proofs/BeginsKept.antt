@@ -18,20 +18,20 @@ use Rattle.cg_client.specs.Requests.{settle}
 use Rattle.cg_stored.specs.Stored.{whiten, recover}
 use Rattle.cg_step.specs.Crash.{Disk}
 use Rattle.cg_step.specs.Step.{on_message}
-use Rattle.cg_agree.specs.World.{Up, Seat, seat_of, replica_of, running}
-use Rattle.cg_agree.specs.Chronicle.{Told, Attempt, Chronicle, no_chronicle}
-use Rattle.cg_agree.specs.Step.{joined}
-use Rattle.cg_agree.specs.Looks.{greens_of, stood_of, disk_held, snapshot_of, copied_for, told_in, attempt_at, top_of, installation, OfCores}
-use Rattle.cg_agree.specs.Fronts.{Front}
-use Rattle.cg_agree.specs.Levels.{prim_at}
-use Rattle.cg_agree.specs.FactsReplica.{is_primary, own_record}
-use Rattle.cg_agree.specs.FactsTalk.{handed_talk}
-use Rattle.cg_agree.specs.FactsExchange.{KnowsLevels}
-use Rattle.cg_agree.specs.FactsAttempts.{LevelsStand}
-use Rattle.cg_agree.specs.FactsGreens.{BeginsWith}
-use Rattle.cg_agree.specs.Facts.{Invariant}
-use Rattle.cg_agree.specs.Small.{Small, Starts, Makes, Enters, Orders, Receives, Hands, Leaves, Asks, Settles, Commits, Crashes, Recovers, Copies, Joins, newly_green, installing, take_newest, handed_next, take_next, take_parting, take_request, small_step}
-use Rattle.cg_agree.specs.Smalls.{may_make, is_set}
+use Rattle.cg_model.specs.World.{Up, Seat, seat_of, replica_of, running}
+use Rattle.cg_model.specs.Chronicle.{Told, Attempt, Chronicle, no_chronicle}
+use Rattle.cg_model.specs.Step.{joined}
+use Rattle.cg_model.specs.Looks.{greens_of, stood_of, disk_held, snapshot_of, copied_for, told_in, attempt_at, top_of, installation, OfCores}
+use Rattle.cg_model.specs.Fronts.{Front}
+use Rattle.cg_model.specs.Levels.{prim_at}
+use Rattle.cg_model.specs.FactsReplica.{is_primary, own_record}
+use Rattle.cg_model.specs.FactsTalk.{handed_talk}
+use Rattle.cg_model.specs.FactsExchange.{KnowsLevels}
+use Rattle.cg_model.specs.FactsAttempts.{LevelsStand}
+use Rattle.cg_model.specs.FactsGreens.{BeginsWith}
+use Rattle.cg_model.specs.Facts.{Invariant}
+use Rattle.cg_model.specs.Small.{Small, Starts, Makes, Enters, Orders, Receives, Hands, Leaves, Asks, Settles, Commits, Crashes, Recovers, Copies, Joins, newly_green, installing, take_newest, handed_next, take_next, take_parting, take_request, small_step}
+use Rattle.cg_model.specs.Smalls.{may_make, is_set}
 use Rattle.cg_agree.proofs.AttemptSteps.{Installing, hands-installing, leaves-installing}
 use Rattle.cg_agree.proofs.AttemptsTurn.{ends-exchanging, installed-attempts}
 use Rattle.cg_agree.proofs.BegunKept.{nothing-before}

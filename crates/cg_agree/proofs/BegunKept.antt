@@ -18,15 +18,15 @@ use Rattle.cg_client.specs.Replica.{Held, Replica, fresh}
 use Rattle.cg_client.specs.Requests.{settle}
 use Rattle.cg_client.specs.Turn.{Turn, begin}
 use Rattle.cg_step.specs.Crash.{new_disk}
-use Rattle.cg_agree.specs.World.{Life, Up, Down as DownLife, Seat, Snapshot, World, seat_of, replica_of, has_begun}
-use Rattle.cg_agree.specs.Step.{begin_replica, joined}
-use Rattle.cg_agree.specs.Chronicle.{Past, Chronicle, no_chronicle, Told}
-use Rattle.cg_agree.specs.Fronts.{Front}
-use Rattle.cg_agree.specs.Looks.{conf_of, past_of, stood_of, greens_of, is_member, copied_for, OfCores, told_in, snapshot_of}
-use Rattle.cg_agree.specs.FactsNet.{MembersBegun, Seated, PhaseSound}
-use Rattle.cg_agree.specs.FactsReplica.{IsCore, DiskBehind, IsModeData}
-use Rattle.cg_agree.specs.Small.{Small, Starts, Makes, Enters, Orders, Receives, Hands, Leaves, Asks, Settles, Commits, Crashes, Recovers, Copies, Joins, start, small_step, turning_as, turning, commit_as, crash_as, recover_as, copy_as, join_with, changed_past, with_greens, written, struck, new_past, with_past, newly_green, take_request, take_newest, take_next, take_parting, coming, handed_next, leaving, newest_conf}
-use Rattle.cg_agree.specs.Smalls.{may_make, is_set, may_come, is_between, is_running}
+use Rattle.cg_model.specs.World.{Life, Up, Down as DownLife, Seat, Snapshot, World, seat_of, replica_of, has_begun}
+use Rattle.cg_model.specs.Step.{begin_replica, joined}
+use Rattle.cg_model.specs.Chronicle.{Past, Chronicle, no_chronicle, Told}
+use Rattle.cg_model.specs.Fronts.{Front}
+use Rattle.cg_model.specs.Looks.{conf_of, past_of, stood_of, greens_of, is_member, copied_for, OfCores, told_in, snapshot_of}
+use Rattle.cg_model.specs.FactsNet.{MembersBegun, Seated, PhaseSound}
+use Rattle.cg_model.specs.FactsReplica.{IsCore, DiskBehind, IsModeData}
+use Rattle.cg_model.specs.Small.{Small, Starts, Makes, Enters, Orders, Receives, Hands, Leaves, Asks, Settles, Commits, Crashes, Recovers, Copies, Joins, start, small_step, turning_as, turning, commit_as, crash_as, recover_as, copy_as, join_with, changed_past, with_greens, written, struck, new_past, with_past, newly_green, take_request, take_newest, take_next, take_parting, coming, handed_next, leaving, newest_conf}
+use Rattle.cg_model.specs.Smalls.{may_make, is_set, may_come, is_between, is_running}
 use Rattle.cg_agree.proofs.ChronicleFacts.{past-begun}
 use Rattle.cg_group.specs.LookupLaws.{eqb_comm}
 use Rattle.cg_agree.proofs.EverServer.{was_ever-front, was_ever-start}

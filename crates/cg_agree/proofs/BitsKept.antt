@@ -20,19 +20,19 @@ use Rattle.cg_client.specs.Turn.{begin}
 use Rattle.cg_client.specs.Install.{prim_after}
 use Rattle.cg_client.specs.Requests.{settle}
 use Rattle.cg_client.specs.Summary.{summary_of}
-use Rattle.cg_agree.specs.Attempts.{held_in}
-use Rattle.cg_agree.specs.FactsExchange.{IsRecord, HasRecord}
+use Rattle.cg_model.specs.Attempts.{held_in}
+use Rattle.cg_model.specs.FactsExchange.{IsRecord, HasRecord}
 use Rattle.cg_stored.specs.Stored.{whiten, recover}
 use Rattle.cg_step.specs.Crash.{Disk}
-use Rattle.cg_agree.specs.World.{Up, Seat, seat_of, running}
-use Rattle.cg_agree.specs.Chronicle.{Leaving, Told, Attempt, Chronicle}
-use Rattle.cg_agree.specs.Looks.{greens_of, core_of, told_in, is_at, is_in, conf_at, ordered_in, attempt_of, left_count}
-use Rattle.cg_agree.specs.Fronts.{IsSomeWith}
-use Rattle.cg_agree.specs.FactsReplica.{has_installed}
-use Rattle.cg_agree.specs.FactsAttempts.{IsWitnessed, AreWitnessed, BitsWitness}
-use Rattle.cg_agree.specs.Facts.{Invariant}
-use Rattle.cg_agree.specs.Small.{Small, Starts, Makes, Enters, Orders, Receives, Hands, Leaves, Asks, Settles, Commits, Crashes, Recovers, Copies, Joins, newly_green, with_leaver, coming, take_newest, take_next, take_parting, take_request, newest_conf, small_step}
-use Rattle.cg_agree.specs.Smalls.{may_make}
+use Rattle.cg_model.specs.World.{Up, Seat, seat_of, running}
+use Rattle.cg_model.specs.Chronicle.{Leaving, Told, Attempt, Chronicle}
+use Rattle.cg_model.specs.Looks.{greens_of, core_of, told_in, is_at, is_in, conf_at, ordered_in, attempt_of, left_count}
+use Rattle.cg_model.specs.Fronts.{IsSomeWith}
+use Rattle.cg_model.specs.FactsReplica.{has_installed}
+use Rattle.cg_model.specs.FactsAttempts.{IsWitnessed, AreWitnessed, BitsWitness}
+use Rattle.cg_model.specs.Facts.{Invariant}
+use Rattle.cg_model.specs.Small.{Small, Starts, Makes, Enters, Orders, Receives, Hands, Leaves, Asks, Settles, Commits, Crashes, Recovers, Copies, Joins, newly_green, with_leaver, coming, take_newest, take_next, take_parting, take_request, newest_conf, small_step}
+use Rattle.cg_model.specs.Smalls.{may_make}
 use Rattle.cg_agree.proofs.HandSays.{find-holds}
 use Rattle.cg_agree.proofs.EndCovers.{OfEach}
 use Rattle.cg_agree.proofs.EndCases.{has_bit}

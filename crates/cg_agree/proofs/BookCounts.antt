@@ -15,14 +15,14 @@ use Rattle.cg_client.specs.Replica.{Held, Replica, NonPrim, created}
 use Rattle.cg_client.specs.Turn.{Turn, begin}
 use Rattle.cg_stored.specs.Stored.{stored_of, whiten, recover}
 use Rattle.cg_step.specs.Crash.{Disk, at_rest, new_disk, recovered, disk_recovered}
-use Rattle.cg_agree.specs.World.{Life, Up, Down, Seat, running, seat_of, replica_of, has_begun}
-use Rattle.cg_agree.specs.Attempts.{held_in}
-use Rattle.cg_agree.specs.Step.{joined, without_snapshot}
-use Rattle.cg_agree.specs.Chronicle.{Chronicle, no_chronicle}
-use Rattle.cg_agree.specs.Looks.{core_of, disk_held, on_disk, stood_of, copied_for, OfCores}
-use Rattle.cg_agree.specs.Small.{start, turning, turning_as, after_turn, commit_as, crash_as, recover_as, join_with}
-use Rattle.cg_agree.specs.FactsReplica.{GoesOn, IsAsOnDisk, IsCore}
-use Rattle.cg_agree.specs.Played.{IsWritten}
+use Rattle.cg_model.specs.World.{Life, Up, Down, Seat, running, seat_of, replica_of, has_begun}
+use Rattle.cg_model.specs.Attempts.{held_in}
+use Rattle.cg_model.specs.Step.{joined, without_snapshot}
+use Rattle.cg_model.specs.Chronicle.{Chronicle, no_chronicle}
+use Rattle.cg_model.specs.Looks.{core_of, disk_held, on_disk, stood_of, copied_for, OfCores}
+use Rattle.cg_model.specs.Small.{start, turning, turning_as, after_turn, commit_as, crash_as, recover_as, join_with}
+use Rattle.cg_model.specs.FactsReplica.{GoesOn, IsAsOnDisk, IsCore}
+use Rattle.cg_model.specs.Played.{IsWritten}
 use Rattle.cg_step.specs.Holds.{run_on}
 use Rattle.cg_agree.proofs.HeldMarks.{IsOneself}
 use Rattle.cg_agree.proofs.HeldOwn.{created-same}

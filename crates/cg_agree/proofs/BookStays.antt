@@ -7,12 +7,12 @@ use Rattle.cg_client.specs.Replica.{Replica}
 use Rattle.cg_client.specs.Turn.{Turn, begin}
 use Rattle.cg_client.specs.Requests.{settle}
 use Rattle.cg_schedule.specs.declared.event.Event.{Event}
-use Rattle.cg_agree.specs.World.{Life, Up, Down, Seat, Snapshot, World, seat_of, replica_of}
-use Rattle.cg_agree.specs.Chronicle.{Chronicle}
-use Rattle.cg_agree.specs.Looks.{snapshot_of}
-use Rattle.cg_agree.specs.Small.{Small, Starts, Makes, Enters, Orders, Receives, Hands, Leaves, Asks, Settles, Commits, Crashes, Recovers, Copies, Joins, small_step, turning, turning_as, commit_as, crash_as, recover_as, coming, take_newest, handed_next, take_next, leaving, take_parting, take_request, copy_as, join_with}
-use Rattle.cg_agree.specs.Smalls.{smalls_in}
-use Rattle.cg_agree.specs.Noting.{chronicle_step, played}
+use Rattle.cg_model.specs.World.{Life, Up, Down, Seat, Snapshot, World, seat_of, replica_of}
+use Rattle.cg_model.specs.Chronicle.{Chronicle}
+use Rattle.cg_model.specs.Looks.{snapshot_of}
+use Rattle.cg_model.specs.Small.{Small, Starts, Makes, Enters, Orders, Receives, Hands, Leaves, Asks, Settles, Commits, Crashes, Recovers, Copies, Joins, small_step, turning, turning_as, commit_as, crash_as, recover_as, coming, take_newest, handed_next, take_next, leaving, take_parting, take_request, copy_as, join_with}
+use Rattle.cg_model.specs.Smalls.{smalls_in}
+use Rattle.cg_model.specs.Noting.{chronicle_step, played}
 
 pub record BookGoesOn (c d : Chronicle) : Type 0 where
   pub more : List Action

@@ -13,15 +13,15 @@ use Rattle.cg_client.specs.Turn.{begin}
 use Rattle.cg_client.specs.Whitening.{white_at}
 use Rattle.cg_stored.specs.Stored.{whiten, recover}
 use Rattle.cg_step.specs.Recorded.{OfMessage}
-use Rattle.cg_agree.specs.World.{Seat, Snapshot, seat_of, replica_of, has_begun}
-use Rattle.cg_agree.specs.Step.{joined}
-use Rattle.cg_agree.specs.Chronicle.{Past, Chronicle}
-use Rattle.cg_agree.specs.Fronts.{Front}
-use Rattle.cg_agree.specs.Looks.{greens_of, stood_of, past_of, on_disk, disk_held, ordered_in, snapshot_of, copied_for, OfCores}
-use Rattle.cg_agree.specs.Talk.{action_in}
-use Rattle.cg_agree.specs.FactsNet.{Seated}
-use Rattle.cg_agree.specs.FactsReplica.{IsCore, DiskBehind, AreBooked, MadeOnce}
-use Rattle.cg_agree.specs.Facts.{Invariant}
+use Rattle.cg_model.specs.World.{Seat, Snapshot, seat_of, replica_of, has_begun}
+use Rattle.cg_model.specs.Step.{joined}
+use Rattle.cg_model.specs.Chronicle.{Past, Chronicle}
+use Rattle.cg_model.specs.Fronts.{Front}
+use Rattle.cg_model.specs.Looks.{greens_of, stood_of, past_of, on_disk, disk_held, ordered_in, snapshot_of, copied_for, OfCores}
+use Rattle.cg_model.specs.Talk.{action_in}
+use Rattle.cg_model.specs.FactsNet.{Seated}
+use Rattle.cg_model.specs.FactsReplica.{IsCore, DiskBehind, AreBooked, MadeOnce}
+use Rattle.cg_model.specs.Facts.{Invariant}
 use Rattle.cg_agree.proofs.CoresKept.{IsClosed}
 use Rattle.cg_agree.proofs.BookedRows.{HoldsFine, each-drop, own-fine}
 use Rattle.cg_agree.proofs.BookGrows.{IsNamed, cut_of}

@@ -24,7 +24,7 @@ use Rattle.cg_client.specs.Requests.{create, create_kept, empty_buffer, next_act
 use Rattle.cg_client.specs.Summary.{redden, forget_own, own_to_red}
 use Rattle.cg_exchange.specs.ExchangeActions.{message_of, messages_of}
 use Rattle.cg_step.specs.Recorded.{OfMessage}
-use Rattle.cg_agree.specs.Talk.{action_in}
+use Rattle.cg_model.specs.Talk.{action_in}
 use Rattle.cg_agree.proofs.TurnRows.{IsRule}
 
 module _ (Fine : Action → Type 0) where

@@ -11,16 +11,16 @@ use Rattle.cg_knowledge.specs.declared.summary.Summary.{Summary}
 use Rattle.cg_knowledge.specs.Members.{gone, most_updated}
 use Rattle.cg_knowledge.specs.Yellow.{common_yellow}
 use Rattle.cg_client.specs.Replica.{State, Construct, Replica, yellow_of}
-use Rattle.cg_agree.specs.Chronicle.{Told, Chronicle}
-use Rattle.cg_agree.specs.Fronts.{IsSomeWith}
-use Rattle.cg_agree.specs.Looks.{greens_of, told_in, is_regular_at, members_in}
-use Rattle.cg_agree.specs.Talk.{Talk, hears_from, is_full, is_through, is_ended, known_up_to}
-use Rattle.cg_agree.specs.Facts.{Invariant}
-use Rattle.cg_agree.specs.FactsReplica.{IsCore, is_exchanging}
-use Rattle.cg_agree.specs.FactsTalk.{handed_talk, whole_talk}
-use Rattle.cg_agree.specs.FactsExchange.{best_told}
-use Rattle.cg_agree.specs.Small.{Hands, small_step}
-use Rattle.cg_agree.specs.Smalls.{may_make}
+use Rattle.cg_model.specs.Chronicle.{Told, Chronicle}
+use Rattle.cg_model.specs.Fronts.{IsSomeWith}
+use Rattle.cg_model.specs.Looks.{greens_of, told_in, is_regular_at, members_in}
+use Rattle.cg_model.specs.Talk.{Talk, hears_from, is_full, is_through, is_ended, known_up_to}
+use Rattle.cg_model.specs.Facts.{Invariant}
+use Rattle.cg_model.specs.FactsReplica.{IsCore, is_exchanging}
+use Rattle.cg_model.specs.FactsTalk.{handed_talk, whole_talk}
+use Rattle.cg_model.specs.FactsExchange.{best_told}
+use Rattle.cg_model.specs.Small.{Hands, small_step}
+use Rattle.cg_model.specs.Smalls.{may_make}
 use Rattle.cg_agree.proofs.AnswersOwn.{knows-at-end}
 use Rattle.cg_agree.proofs.ClearedDead.{IsToldIn, each-told}
 use Rattle.cg_agree.proofs.CoreKept.{cores_core-kept}

@@ -7,12 +7,12 @@ use Rattle.cg_client.specs.Replica.{Replica}
 use Rattle.cg_client.specs.Turn.{Turn}
 use Rattle.cg_step.specs.Crash.{Disk}
 use Rattle.cg_group.specs.LookupLaws.{at-cond}
-use Rattle.cg_agree.specs.World.{Life, World, seat_of, set_life}
-use Rattle.cg_agree.specs.Chronicle.{Past, Chronicle}
-use Rattle.cg_agree.specs.Looks.{past_of, greens_of}
-use Rattle.cg_agree.specs.Small.{after_turn, newly_green, with_greens, with_past}
+use Rattle.cg_model.specs.World.{Life, World, seat_of, set_life}
+use Rattle.cg_model.specs.Chronicle.{Past, Chronicle}
+use Rattle.cg_model.specs.Looks.{past_of, greens_of}
+use Rattle.cg_model.specs.Small.{after_turn, newly_green, with_greens, with_past}
 use Rattle.cg_agree.proofs.Keyed.{found-changed}
-use Rattle.cg_agree.specs.SeatLaws.{found-seat}
+use Rattle.cg_model.specs.SeatLaws.{found-seat}
 
 -- one seat has another life, and every other one is as before
 pub seat_of-set : (w : World) (p : ℕ) (life : Life) (q : ℕ) → seat_of (set_life w p life) q ≡ cond (p == q) (Some (record { id = p; life = life })) (seat_of w q)

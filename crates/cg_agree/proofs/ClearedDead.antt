@@ -8,16 +8,16 @@ use Rattle.cg_records.specs.declared.vulnerable.Vulnerable.{Vulnerable}
 use Rattle.cg_knowledge.specs.declared.summary.Summary.{Summary}
 use Rattle.cg_knowledge.specs.Primary.{newest_index, known_primary}
 use Rattle.cg_knowledge.specs.Vulnerable.{is_long_past, is_overtaken, is_ended_by_one, is_ended_by_all, is_cleared}
-use Rattle.cg_agree.specs.Chronicle.{Told, Attempt, Chronicle}
-use Rattle.cg_agree.specs.Looks.{told_in, attempt_of, is_in, is_at, is_regular_at, is_regular_in}
+use Rattle.cg_model.specs.Chronicle.{Told, Attempt, Chronicle}
+use Rattle.cg_model.specs.Looks.{told_in, attempt_of, is_in, is_at, is_regular_at, is_regular_in}
 use Rattle.cg_group.specs.declared.phase.Phase.{Phase}
 use Rattle.cg_group.specs.declared.phase.Phase.TheVariants.{Down, Alone, Regular, Transitional}
 use Rattle.cg_group.specs.State.{phase_of}
-use Rattle.cg_agree.specs.Fronts.{When, IsSomeWith}
-use Rattle.cg_agree.specs.Levels.{is_out_lacking, is_installed, is_live, is_dead, is_record_of}
-use Rattle.cg_agree.specs.FactsTalk.{AreTold}
-use Rattle.cg_agree.specs.FactsAttempts.{IsAttempt, IsWitnessed, AreWitnessed, is_without}
-use Rattle.cg_agree.specs.Facts.{Invariant}
+use Rattle.cg_model.specs.Fronts.{When, IsSomeWith}
+use Rattle.cg_model.specs.Levels.{is_out_lacking, is_installed, is_live, is_dead, is_record_of}
+use Rattle.cg_model.specs.FactsTalk.{AreTold}
+use Rattle.cg_model.specs.FactsAttempts.{IsAttempt, IsWitnessed, AreWitnessed, is_without}
+use Rattle.cg_model.specs.Facts.{Invariant}
 use Rattle.cg_agree.proofs.HandSays.{find-holds}
 use Rattle.cg_agree.proofs.ReachFacts.{all-at}
 use Rattle.cg_agree.proofs.ReachWorld.{when-is}

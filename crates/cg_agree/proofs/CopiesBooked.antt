@@ -9,18 +9,18 @@ use Rattle.cg_base.specs.Sets.{has}
 use Rattle.cg_base.specs.Cuts.{index_in}
 use Rattle.cg_action.specs.declared.action.Action.{Action}
 use Rattle.cg_client.specs.Replica.{Held, Replica}
-use Rattle.cg_agree.specs.World.{Seat, Snapshot, seat_of, replica_of, has_begun}
-use Rattle.cg_agree.specs.Chronicle.{Past, Attempt, Chronicle}
-use Rattle.cg_agree.specs.Fronts.{Front}
-use Rattle.cg_agree.specs.Looks.{greens_of, stood_of, past_of, on_disk, disk_held, snapshot_of, copied_for, is_in, top_of, attempt_of, left_count}
-use Rattle.cg_agree.specs.Levels.{line_at, count_in, reached_at}
-use Rattle.cg_agree.specs.FactsNet.{Seated}
-use Rattle.cg_agree.specs.FactsReplica.{DiskBehind, MadeOnce}
-use Rattle.cg_agree.specs.FactsGreens.{OneOrder}
-use Rattle.cg_agree.specs.Facts.{Invariant}
-use Rattle.cg_agree.specs.Played.{AtRest}
-use Rattle.cg_agree.specs.Small.{Small, small_step}
-use Rattle.cg_agree.specs.Smalls.{may_make}
+use Rattle.cg_model.specs.World.{Seat, Snapshot, seat_of, replica_of, has_begun}
+use Rattle.cg_model.specs.Chronicle.{Past, Attempt, Chronicle}
+use Rattle.cg_model.specs.Fronts.{Front}
+use Rattle.cg_model.specs.Looks.{greens_of, stood_of, past_of, on_disk, disk_held, snapshot_of, copied_for, is_in, top_of, attempt_of, left_count}
+use Rattle.cg_model.specs.Levels.{line_at, count_in, reached_at}
+use Rattle.cg_model.specs.FactsNet.{Seated}
+use Rattle.cg_model.specs.FactsReplica.{DiskBehind, MadeOnce}
+use Rattle.cg_model.specs.FactsGreens.{OneOrder}
+use Rattle.cg_model.specs.Facts.{Invariant}
+use Rattle.cg_model.specs.Played.{AtRest}
+use Rattle.cg_model.specs.Small.{Small, small_step}
+use Rattle.cg_model.specs.Smalls.{may_make}
 use Rattle.cg_agree.proofs.FrontFacts.{Front-of_both}
 use Rattle.cg_agree.proofs.ReachWorld.{opened-at, opened-attempt}
 use Rattle.cg_agree.proofs.BookGrows.{IsNamed, cut_of}

@@ -13,15 +13,15 @@ use Rattle.cg_agree.proofs.OthersShown.{AreShown, IsActionShown, IsNameShown}
 use Rattle.cg_agree.proofs.SameSmalls.{as_given, first-given}
 use Rattle.cg_agree.proofs.SoundWorlds.{sound-of, sound-same}
 use Rattle.cg_agree.proofs.TurnGreens.{made-count, names-count}
-use Rattle.cg_agree.specs.Chronicle.{Chronicle}
-use Rattle.cg_agree.specs.Facts.{Invariant}
-use Rattle.cg_agree.specs.FactsReplica.{IsCore}
-use Rattle.cg_agree.specs.Fronts.{Front}
-use Rattle.cg_agree.specs.Levels.{line_at, reached_at}
-use Rattle.cg_agree.specs.Looks.{copied_for, greens_of, snapshot_of, top_of}
-use Rattle.cg_agree.specs.Played.{Given, IsSame, StandsBeside}
-use Rattle.cg_agree.specs.Step.{joined, snapshot_for}
-use Rattle.cg_agree.specs.World.{Snapshot, World, has_begun, replica_of}
+use Rattle.cg_model.specs.Chronicle.{Chronicle}
+use Rattle.cg_model.specs.Facts.{Invariant}
+use Rattle.cg_model.specs.FactsReplica.{IsCore}
+use Rattle.cg_model.specs.Fronts.{Front}
+use Rattle.cg_model.specs.Levels.{line_at, reached_at}
+use Rattle.cg_model.specs.Looks.{copied_for, greens_of, snapshot_of, top_of}
+use Rattle.cg_model.specs.Played.{Given, IsSame, StandsBeside}
+use Rattle.cg_model.specs.Step.{joined, snapshot_for}
+use Rattle.cg_model.specs.World.{Snapshot, World, has_begun, replica_of}
 use Rattle.cg_base.specs.declared.action_id.ActionId.{ActionId}
 use Rattle.cg_client.specs.Replica.{Held, Replica}
 use Rattle.cg_group.specs.EachLaws.{Each}

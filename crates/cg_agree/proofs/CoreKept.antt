@@ -32,16 +32,16 @@ use Rattle.cg_construct.specs.Construct.{attempt_set, is_announced}
 use Rattle.cg_construct.specs.No.{no_with}
 use Rattle.cg_step.specs.Crash.{Disk}
 use Rattle.cg_step.specs.Step.{on_message, on_transitional, take}
-use Rattle.cg_agree.specs.World.{Up, Seat, seat_of, replica_of, running}
-use Rattle.cg_agree.specs.Chronicle.{Chronicle}
+use Rattle.cg_model.specs.World.{Up, Seat, seat_of, replica_of, running}
+use Rattle.cg_model.specs.Chronicle.{Chronicle}
 use Rattle.cg_knowledge.specs.Verdict.{decides}
-use Rattle.cg_agree.specs.Looks.{greens_of, members_in, OfCores}
-use Rattle.cg_agree.specs.Talk.{Talk, is_full, is_through, is_announced as is_announced_in, state_in}
-use Rattle.cg_agree.specs.FactsTalk.{handed_talk}
-use Rattle.cg_agree.specs.FactsReplica.{IsCore, IsModeData, HasModeData}
-use Rattle.cg_agree.specs.Facts.{Invariant}
-use Rattle.cg_agree.specs.Small.{Small, Starts, Makes, Enters, Orders, Receives, Hands, Leaves, Asks, Settles, Commits, Crashes, Recovers, Copies, Joins, newly_green, take_all, take_newest, take_next, take_parting, take_request, newest_conf, small_step}
-use Rattle.cg_agree.specs.Smalls.{may_make, is_set}
+use Rattle.cg_model.specs.Looks.{greens_of, members_in, OfCores}
+use Rattle.cg_model.specs.Talk.{Talk, is_full, is_through, is_announced as is_announced_in, state_in}
+use Rattle.cg_model.specs.FactsTalk.{handed_talk}
+use Rattle.cg_model.specs.FactsReplica.{IsCore, IsModeData, HasModeData}
+use Rattle.cg_model.specs.Facts.{Invariant}
+use Rattle.cg_model.specs.Small.{Small, Starts, Makes, Enters, Orders, Receives, Hands, Leaves, Asks, Settles, Commits, Crashes, Recovers, Copies, Joins, newly_green, take_all, take_newest, take_next, take_parting, take_request, newest_conf, small_step}
+use Rattle.cg_model.specs.Smalls.{may_make, is_set}
 use Rattle.cg_agree.proofs.HeldMarks.{IsOneself}
 use Rattle.cg_agree.proofs.HeldTurns.{Grows, grows-none, grows-both, keeps-none, keeps-settle, keeps-install}
 use Rattle.cg_agree.proofs.HeldInstall.{IsAllYellow, yellow-kept-so}

@@ -19,16 +19,16 @@ use Rattle.cg_client.specs.Turn.{begin}
 use Rattle.cg_client.specs.Requests.{settle}
 use Rattle.cg_stored.specs.Stored.{whiten, recover}
 use Rattle.cg_step.specs.Crash.{Disk}
-use Rattle.cg_agree.specs.World.{Up, Seat, seat_of, replica_of, running, has_begun}
-use Rattle.cg_agree.specs.Step.{joined}
-use Rattle.cg_agree.specs.Chronicle.{Chronicle}
-use Rattle.cg_agree.specs.Looks.{greens_of, stood_of, disk_held, snapshot_of, copied_for, attempt_at, top_of, OfCores}
-use Rattle.cg_agree.specs.Levels.{is_evidence, is_record_of, names_with, prim_at}
-use Rattle.cg_agree.specs.FactsReplica.{IsModeData, is_primary, is_attempting}
-use Rattle.cg_agree.specs.FactsGreens.{Covers, CoversLevel}
-use Rattle.cg_agree.specs.Facts.{Invariant}
-use Rattle.cg_agree.specs.Small.{Small, Starts, Makes, Enters, Orders, Receives, Hands, Leaves, Asks, Settles, Commits, Crashes, Recovers, Copies, Joins, newly_green, coming, handed_next, leaving, take_newest, take_next, take_parting, take_request, newest_conf, copy_as, small_step}
-use Rattle.cg_agree.specs.Smalls.{may_make, is_set}
+use Rattle.cg_model.specs.World.{Up, Seat, seat_of, replica_of, running, has_begun}
+use Rattle.cg_model.specs.Step.{joined}
+use Rattle.cg_model.specs.Chronicle.{Chronicle}
+use Rattle.cg_model.specs.Looks.{greens_of, stood_of, disk_held, snapshot_of, copied_for, attempt_at, top_of, OfCores}
+use Rattle.cg_model.specs.Levels.{is_evidence, is_record_of, names_with, prim_at}
+use Rattle.cg_model.specs.FactsReplica.{IsModeData, is_primary, is_attempting}
+use Rattle.cg_model.specs.FactsGreens.{Covers, CoversLevel}
+use Rattle.cg_model.specs.Facts.{Invariant}
+use Rattle.cg_model.specs.Small.{Small, Starts, Makes, Enters, Orders, Receives, Hands, Leaves, Asks, Settles, Commits, Crashes, Recovers, Copies, Joins, newly_green, coming, handed_next, leaving, take_newest, take_next, take_parting, take_request, newest_conf, copy_as, small_step}
+use Rattle.cg_model.specs.Smalls.{may_make, is_set}
 use Rattle.cg_agree.proofs.CoresKept.{IsHeldClosed, held-known, greens-turn, cores-weaker}
 use Rattle.cg_agree.proofs.CoresSmall.{StepKeeps, JoinsKeep, ready-of, cores-kept-given}
 use Rattle.cg_agree.proofs.CoversStay.{ReachShrinks, start-covers}

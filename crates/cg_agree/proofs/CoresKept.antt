@@ -10,11 +10,11 @@ use Rattle.cg_client.specs.Replica.{Held, Replica}
 use Rattle.cg_client.specs.Turn.{Turn, begin}
 use Rattle.cg_stored.specs.Stored.{stored_of, whiten, recover as recover_disk}
 use Rattle.cg_step.specs.Crash.{Disk, at_rest, recovered, disk_recovered}
-use Rattle.cg_agree.specs.World.{Life, Up, Down, Seat, Snapshot, running, seat_of, replica_of}
-use Rattle.cg_agree.specs.Step.{joined}
-use Rattle.cg_agree.specs.Chronicle.{Past, Copy, Chronicle}
-use Rattle.cg_agree.specs.Looks.{past_of, greens_of, stood_of, on_disk, disk_held, snapshot_of, copied_for, OfCores}
-use Rattle.cg_agree.specs.Small.{changed_past, written, struck, after_turn, turning, turning_as, newly_green, with_greens, commit, commit_as, crash, crash_as, recover, recover_as, copy, copy_as}
+use Rattle.cg_model.specs.World.{Life, Up, Down, Seat, Snapshot, running, seat_of, replica_of}
+use Rattle.cg_model.specs.Step.{joined}
+use Rattle.cg_model.specs.Chronicle.{Past, Copy, Chronicle}
+use Rattle.cg_model.specs.Looks.{past_of, greens_of, stood_of, on_disk, disk_held, snapshot_of, copied_for, OfCores}
+use Rattle.cg_model.specs.Small.{changed_past, written, struck, after_turn, turning, turning_as, newly_green, with_greens, commit, commit_as, crash, crash_as, recover, recover_as, copy, copy_as}
 use Rattle.cg_agree.proofs.ChronicleFacts.{seat_of-set, greens_of-own, greens_of-other, past_of-turn}
 use Rattle.cg_agree.proofs.Keyed.{found-changed}
 use Rattle.cg_agree.proofs.HandSays.{find-holds}

@@ -11,15 +11,15 @@ use Rattle.cg_members.specs.Servers.{is_server}
 use Rattle.cg_client.specs.Replica.{Held, fresh_held, fresh}
 use Rattle.cg_client.specs.Requests.{settle}
 use Rattle.cg_step.specs.Crash.{new_disk}
-use Rattle.cg_agree.specs.World.{Life, Up, Seat, World, Snapshot, running, seat_of, replica_of, has_begun}
-use Rattle.cg_agree.specs.Step.{begin_replica, joined, without_snapshot}
-use Rattle.cg_agree.specs.Chronicle.{Past, Copy, Chronicle, no_chronicle}
-use Rattle.cg_agree.specs.Looks.{past_of, greens_of, stood_of, on_disk, disk_held, snapshot_of, copied_for, OfCores}
-use Rattle.cg_agree.specs.Small.{Small, Starts, Makes, Enters, Orders, Receives, Hands, Leaves, Asks, Settles, Commits, Crashes, Recovers, Copies, Joins, new_past, start, crash, join, join_with, coming, take_newest, handed_next, take_next, leaving, take_parting, take_request, small_step}
-use Rattle.cg_agree.specs.Smalls.{may_make, is_set}
+use Rattle.cg_model.specs.World.{Life, Up, Seat, World, Snapshot, running, seat_of, replica_of, has_begun}
+use Rattle.cg_model.specs.Step.{begin_replica, joined, without_snapshot}
+use Rattle.cg_model.specs.Chronicle.{Past, Copy, Chronicle, no_chronicle}
+use Rattle.cg_model.specs.Looks.{past_of, greens_of, stood_of, on_disk, disk_held, snapshot_of, copied_for, OfCores}
+use Rattle.cg_model.specs.Small.{Small, Starts, Makes, Enters, Orders, Receives, Hands, Leaves, Asks, Settles, Commits, Crashes, Recovers, Copies, Joins, new_past, start, crash, join, join_with, coming, take_newest, handed_next, take_next, leaving, take_parting, take_request, small_step}
+use Rattle.cg_model.specs.Smalls.{may_make, is_set}
 use Rattle.cg_agree.proofs.ChronicleFacts.{seat_of-set, past-begun}
-use Rattle.cg_agree.specs.FactsNet.{Seated}
-use Rattle.cg_agree.specs.FactsReplica.{DiskBehind}
+use Rattle.cg_model.specs.FactsNet.{Seated}
+use Rattle.cg_model.specs.FactsReplica.{DiskBehind}
 use Rattle.cg_agree.proofs.CrashCopies.{crash-left}
 use Rattle.cg_agree.proofs.OneselfWorld.{HavePasts, reseated}
 use Rattle.cg_agree.proofs.OneselfCopies.{found-without}

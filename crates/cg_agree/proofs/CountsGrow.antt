@@ -27,17 +27,17 @@ use Rattle.cg_step.specs.Step.{Input, Deliveries, Asks as AsksOf, replica_step}
 use Rattle.cg_step.specs.Crash.{Disk, FailOnce, StopWith, Strike, whitened, end_event, at_rest, new_disk, recovered, disk_recovered}
 use Rattle.cg_schedule.specs.declared.event.Event.{Event}
 use Rattle.cg_schedule.specs.declared.event.Event.TheVariants.{Start, Split, Merge, Request, Weak, Dirty, Order, Recover, Show, ShowOrder, Gather, End, Receive, Deliver, Rounds, Stop, Fail, Join, Leave, Transfer}
-use Rattle.cg_agree.specs.World.{Life, Up, Down, Seat, Snapshot, World, no_world, running, has_begun, seat_of, replica_of, bring_up}
-use Rattle.cg_agree.specs.Admission.{first_refusal, takes_part, never_named, joiner_left, not_green}
-use Rattle.cg_agree.specs.AdmissionCalls.{begun_already}
-use Rattle.cg_agree.specs.Show.{ended}
-use Rattle.cg_agree.specs.Run.{MayStand}
-use Rattle.cg_agree.specs.Agreement.{may_move}
-use Rattle.cg_agree.specs.Step.{quietly, hand_out, ask, name_also, begin_replica, arm_at, crash_at, recover_from, recover, joined, snapshot_for, without_snapshot, with_pieces, take_pieces, transfer, happens, world_step}
-use Rattle.cg_agree.specs.Chronicle.{Chronicle}
-use Rattle.cg_agree.specs.Looks.{greens_of, stood_of, on_disk, disk_held}
-use Rattle.cg_agree.specs.FactsReplica.{IsCore, IsModeData}
-use Rattle.cg_agree.specs.Played.{StandsBeside}
+use Rattle.cg_model.specs.World.{Life, Up, Down, Seat, Snapshot, World, no_world, running, has_begun, seat_of, replica_of, bring_up}
+use Rattle.cg_model.specs.Admission.{first_refusal, takes_part, never_named, joiner_left, not_green}
+use Rattle.cg_model.specs.AdmissionCalls.{begun_already}
+use Rattle.cg_model.specs.Show.{ended}
+use Rattle.cg_model.specs.Run.{MayStand}
+use Rattle.cg_model.specs.Agreement.{may_move}
+use Rattle.cg_model.specs.Step.{quietly, hand_out, ask, name_also, begin_replica, arm_at, crash_at, recover_from, recover, joined, snapshot_for, without_snapshot, with_pieces, take_pieces, transfer, happens, world_step}
+use Rattle.cg_model.specs.Chronicle.{Chronicle}
+use Rattle.cg_model.specs.Looks.{greens_of, stood_of, on_disk, disk_held}
+use Rattle.cg_model.specs.FactsReplica.{IsCore, IsModeData}
+use Rattle.cg_model.specs.Played.{StandsBeside}
 use Rattle.cg_agree.proofs.ChronicleFacts.{seat_of-set}
 use Rattle.cg_agree.proofs.SeatFacts.{seat-id}
 use Rattle.cg_agree.proofs.HeldMarks.{IsOneself, counted}

@@ -10,14 +10,14 @@ use Rattle.cg_group.specs.declared.phase.Phase.{Phase}
 use Rattle.cg_group.specs.declared.phase.Phase.TheVariants.{Down, Alone, Regular, Transitional}
 use Rattle.cg_group.specs.State.{phase_of, regular_in}
 use Rattle.cg_group.specs.LookupLaws.{eqb_comm}
-use Rattle.cg_agree.specs.Chronicle.{Leaving, Attempt, Chronicle}
-use Rattle.cg_agree.specs.Looks.{greens_of, conf_at, is_at, is_in, is_regular_at, is_regular_in, ordered_in, attempt_of}
-use Rattle.cg_agree.specs.Levels.{count_in}
-use Rattle.cg_agree.specs.FactsAttempts.{LeftOut}
-use Rattle.cg_agree.specs.Facts.{Invariant}
-use Rattle.cg_agree.specs.Played.{AtRest}
-use Rattle.cg_agree.specs.Small.{Small, small_step, changed_attempt, with_leaver}
-use Rattle.cg_agree.specs.Smalls.{may_make}
+use Rattle.cg_model.specs.Chronicle.{Leaving, Attempt, Chronicle}
+use Rattle.cg_model.specs.Looks.{greens_of, conf_at, is_at, is_in, is_regular_at, is_regular_in, ordered_in, attempt_of}
+use Rattle.cg_model.specs.Levels.{count_in}
+use Rattle.cg_model.specs.FactsAttempts.{LeftOut}
+use Rattle.cg_model.specs.Facts.{Invariant}
+use Rattle.cg_model.specs.Played.{AtRest}
+use Rattle.cg_model.specs.Small.{Small, small_step, changed_attempt, with_leaver}
+use Rattle.cg_model.specs.Smalls.{may_make}
 use Rattle.cg_agree.proofs.AttemptSteps.{group-of}
 use Rattle.cg_agree.proofs.AttemptsGrow.{grown-leaver}
 use Rattle.cg_agree.proofs.DeadKept.{said-attempt}

@@ -5,15 +5,15 @@ use Rattle.std.specs.Option.{option_map_or}
 use Rattle.std.proofs.lemmas.Bool.{cond-true}
 use Rattle.cg_base.specs.Sets.{has}
 use Rattle.cg_group.specs.Ready.{all_received}
-use Rattle.cg_agree.specs.Chronicle.{Attempt, Chronicle}
-use Rattle.cg_agree.specs.Fronts.{When}
-use Rattle.cg_agree.specs.Looks.{greens_of, is_in, conf_of, ordered_in, received_by_all, attempt_of, left_count, installation}
-use Rattle.cg_agree.specs.Talk.{acts_in}
-use Rattle.cg_agree.specs.Levels.{count_in}
-use Rattle.cg_agree.specs.FactsReplica.{has_installed}
-use Rattle.cg_agree.specs.Facts.{Invariant}
-use Rattle.cg_agree.specs.Small.{Small, small_step}
-use Rattle.cg_agree.specs.Smalls.{may_make}
+use Rattle.cg_model.specs.Chronicle.{Attempt, Chronicle}
+use Rattle.cg_model.specs.Fronts.{When}
+use Rattle.cg_model.specs.Looks.{greens_of, is_in, conf_of, ordered_in, received_by_all, attempt_of, left_count, installation}
+use Rattle.cg_model.specs.Talk.{acts_in}
+use Rattle.cg_model.specs.Levels.{count_in}
+use Rattle.cg_model.specs.FactsReplica.{has_installed}
+use Rattle.cg_model.specs.Facts.{Invariant}
+use Rattle.cg_model.specs.Small.{Small, small_step}
+use Rattle.cg_model.specs.Smalls.{may_make}
 use Rattle.cg_agree.proofs.AttemptSteps.{group-of}
 use Rattle.cg_agree.proofs.AttemptsGrow.{attempts-grow}
 use Rattle.cg_agree.proofs.DeadKept.{said-attempt}

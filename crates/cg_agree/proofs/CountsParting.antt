@@ -17,15 +17,15 @@ use Rattle.cg_client.specs.Replica.{State, RegPrim, TransPrim, Replica}
 use Rattle.cg_client.specs.Turn.{Turn, begin}
 use Rattle.cg_step.specs.Step.{on_message, on_transitional, take as take_one}
 use Rattle.cg_step.specs.Crash.{Disk}
-use Rattle.cg_agree.specs.World.{Seat, replica_of, running}
-use Rattle.cg_agree.specs.Chronicle.{Attempt, Chronicle}
-use Rattle.cg_agree.specs.Looks.{greens_of, conf_at, is_at, is_in, attempt_of, attempt_at, left_count, installation}
-use Rattle.cg_agree.specs.Levels.{count_in}
-use Rattle.cg_agree.specs.FactsReplica.{IsModeData, HasModeData, IsCounted, is_primary}
-use Rattle.cg_agree.specs.FactsTalk.{handed_talk}
-use Rattle.cg_agree.specs.Facts.{Invariant}
-use Rattle.cg_agree.specs.Small.{Leaves, take_all, take_parting, leaving, newly_green, small_step}
-use Rattle.cg_agree.specs.Smalls.{may_make}
+use Rattle.cg_model.specs.World.{Seat, replica_of, running}
+use Rattle.cg_model.specs.Chronicle.{Attempt, Chronicle}
+use Rattle.cg_model.specs.Looks.{greens_of, conf_at, is_at, is_in, attempt_of, attempt_at, left_count, installation}
+use Rattle.cg_model.specs.Levels.{count_in}
+use Rattle.cg_model.specs.FactsReplica.{IsModeData, HasModeData, IsCounted, is_primary}
+use Rattle.cg_model.specs.FactsTalk.{handed_talk}
+use Rattle.cg_model.specs.Facts.{Invariant}
+use Rattle.cg_model.specs.Small.{Leaves, take_all, take_parting, leaving, newly_green, small_step}
+use Rattle.cg_model.specs.Smalls.{may_make}
 use Rattle.cg_agree.proofs.AttemptSteps.{leaves-installing}
 use Rattle.cg_agree.proofs.AttemptsGrow.{attempts-grow}
 use Rattle.cg_agree.proofs.CoresKept.{greens-turn}

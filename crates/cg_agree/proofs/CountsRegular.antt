@@ -9,17 +9,17 @@ use Rattle.cg_group.specs.declared.phase.Phase.{Phase}
 use Rattle.cg_group.specs.declared.phase.Phase.TheVariants.{Down, Alone, Regular, Transitional}
 use Rattle.cg_group.specs.State.{phase_of, is_regular, regular_in, delivered_to}
 use Rattle.cg_client.specs.Replica.{RegPrim, Replica}
-use Rattle.cg_agree.specs.World.{replica_of}
-use Rattle.cg_agree.specs.Chronicle.{Attempt, Chronicle}
-use Rattle.cg_agree.specs.Looks.{greens_of, is_regular_at, is_regular_in, is_at, is_in, conf_at, members_in, ordered_in, received_by_all, attempt_of, attempt_at, left_count, installation}
-use Rattle.cg_agree.specs.Talk.{acts_in, state_in}
-use Rattle.cg_agree.specs.Levels.{count_in}
-use Rattle.cg_agree.specs.FactsNet.{IsPhase}
-use Rattle.cg_agree.specs.FactsTalk.{handed_talk, IsStateIn}
-use Rattle.cg_agree.specs.FactsReplica.{IsModeData, IsInPrimary, IsCounted, is_primary}
-use Rattle.cg_agree.specs.Facts.{Invariant}
-use Rattle.cg_agree.specs.Small.{Small, small_step}
-use Rattle.cg_agree.specs.Smalls.{may_make}
+use Rattle.cg_model.specs.World.{replica_of}
+use Rattle.cg_model.specs.Chronicle.{Attempt, Chronicle}
+use Rattle.cg_model.specs.Looks.{greens_of, is_regular_at, is_regular_in, is_at, is_in, conf_at, members_in, ordered_in, received_by_all, attempt_of, attempt_at, left_count, installation}
+use Rattle.cg_model.specs.Talk.{acts_in, state_in}
+use Rattle.cg_model.specs.Levels.{count_in}
+use Rattle.cg_model.specs.FactsNet.{IsPhase}
+use Rattle.cg_model.specs.FactsTalk.{handed_talk, IsStateIn}
+use Rattle.cg_model.specs.FactsReplica.{IsModeData, IsInPrimary, IsCounted, is_primary}
+use Rattle.cg_model.specs.Facts.{Invariant}
+use Rattle.cg_model.specs.Small.{Small, small_step}
+use Rattle.cg_model.specs.Smalls.{may_make}
 use Rattle.cg_agree.proofs.GreenLine.{HasGreenLine, primary-regular}
 use Rattle.cg_agree.proofs.HandSays.{find-holds}
 use Rattle.cg_agree.proofs.ModeKept.{mode_data-kept}

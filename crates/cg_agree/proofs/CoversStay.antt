@@ -4,14 +4,14 @@ use Rattle.std.specs.Prelude.{◌==◌}
 use Rattle.cg_base.specs.declared.action_id.ActionId.{ActionId}
 use Rattle.cg_action.specs.declared.action.Action.{Action}
 use Rattle.cg_queue.specs.Queue.{names_of}
-use Rattle.cg_agree.specs.Chronicle.{Attempt, Chronicle}
-use Rattle.cg_agree.specs.Fronts.{Front}
-use Rattle.cg_agree.specs.Looks.{attempt_at, ordered_in, top_of}
-use Rattle.cg_agree.specs.Levels.{bound_at, reach_at, is_frozen, is_frozen_in}
-use Rattle.cg_agree.specs.FactsGreens.{CoversLevel}
-use Rattle.cg_agree.specs.Facts.{Invariant}
-use Rattle.cg_agree.specs.Small.{Small, small_step}
-use Rattle.cg_agree.specs.Smalls.{may_make}
+use Rattle.cg_model.specs.Chronicle.{Attempt, Chronicle}
+use Rattle.cg_model.specs.Fronts.{Front}
+use Rattle.cg_model.specs.Looks.{attempt_at, ordered_in, top_of}
+use Rattle.cg_model.specs.Levels.{bound_at, reach_at, is_frozen, is_frozen_in}
+use Rattle.cg_model.specs.FactsGreens.{CoversLevel}
+use Rattle.cg_model.specs.Facts.{Invariant}
+use Rattle.cg_model.specs.Small.{Small, small_step}
+use Rattle.cg_model.specs.Smalls.{may_make}
 use Rattle.cg_agree.proofs.HandSays.{find-holds}
 use Rattle.cg_agree.proofs.FrontFacts.{Front-trans, Front-map}
 use Rattle.cg_agree.proofs.ReachWorld.{opened-at, opened-attempt, frozen-stays}

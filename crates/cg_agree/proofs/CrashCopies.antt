@@ -5,11 +5,11 @@ use Rattle.std.specs.Option.{option_map_or}
 use Rattle.std.proofs.lemmas.Bool.{cases_Bool}
 use Rattle.cg_step.specs.Crash.{Disk}
 use Rattle.cg_client.specs.Replica.{Replica}
-use Rattle.cg_agree.specs.World.{Life, Up, Down, Seat, Snapshot, seat_of}
-use Rattle.cg_agree.specs.Chronicle.{Copy, Chronicle}
-use Rattle.cg_agree.specs.Looks.{snapshot_of, snapshots_for, copies_for, copied_for}
-use Rattle.cg_agree.specs.FactsNet.{Seated}
-use Rattle.cg_agree.specs.Small.{Crashes, crash_as, small_step}
+use Rattle.cg_model.specs.World.{Life, Up, Down, Seat, Snapshot, seat_of}
+use Rattle.cg_model.specs.Chronicle.{Copy, Chronicle}
+use Rattle.cg_model.specs.Looks.{snapshot_of, snapshots_for, copies_for, copied_for}
+use Rattle.cg_model.specs.FactsNet.{Seated}
+use Rattle.cg_model.specs.Small.{Crashes, crash_as, small_step}
 
 module _ {X : Type 0} where
   abbrev first : List X → Option X

@@ -22,12 +22,12 @@ use Rattle.cg_client.specs.Replica.{ExchangeStates, ExchangeActions, Replica}
 use Rattle.cg_client.specs.Turn.{Turn, begin}
 use Rattle.cg_client.specs.Requests.{is_creating, next_action, create, create_kept, empty_buffer}
 use Rattle.cg_step.specs.Crash.{Disk}
-use Rattle.cg_agree.specs.World.{Up, Seat, seat_of, replica_of, running}
-use Rattle.cg_agree.specs.Chronicle.{Told, Chronicle}
-use Rattle.cg_agree.specs.Looks.{greens_of, is_regular_in, is_regular_at, members_in, ordered_in, sent_by, said_in}
-use Rattle.cg_agree.specs.Talk.{Talk, no_talk, talk_of, hears, hears_from, is_full, is_through, is_ended, is_announced, may_go_on, is_legal, state_behind, state_in, summary_in, item_in, announcer_in}
-use Rattle.cg_agree.specs.FactsTalk.{whole_talk, handed_talk}
-use Rattle.cg_agree.specs.Small.{after_turn}
+use Rattle.cg_model.specs.World.{Up, Seat, seat_of, replica_of, running}
+use Rattle.cg_model.specs.Chronicle.{Told, Chronicle}
+use Rattle.cg_model.specs.Looks.{greens_of, is_regular_in, is_regular_at, members_in, ordered_in, sent_by, said_in}
+use Rattle.cg_model.specs.Talk.{Talk, no_talk, talk_of, hears, hears_from, is_full, is_through, is_ended, is_announced, may_go_on, is_legal, state_behind, state_in, summary_in, item_in, announcer_in}
+use Rattle.cg_model.specs.FactsTalk.{whole_talk, handed_talk}
+use Rattle.cg_model.specs.Small.{after_turn}
 use Rattle.cg_agree.proofs.TalkEarly.{all-member}
 use Rattle.cg_agree.proofs.TalkCommute.{legal-append, clash}
 use Rattle.cg_agree.proofs.HandSays.{remains-unless_gone}

@@ -9,17 +9,17 @@ use Rattle.cg_action.specs.declared.action.Action.{Action}
 use Rattle.cg_queue.specs.Queue.{names_of}
 use Rattle.cg_wire.specs.declared.message.Msg.{Msg}
 use Rattle.cg_group.specs.State.{GroupState}
-use Rattle.cg_agree.specs.World.{World, no_world}
-use Rattle.cg_agree.specs.Show.{Moved}
-use Rattle.cg_agree.specs.Run.{Step, IsRunFrom, world_after}
-use Rattle.cg_agree.specs.Shown.{order_of}
-use Rattle.cg_agree.specs.Chronicle.{Chronicle, no_chronicle}
-use Rattle.cg_agree.specs.Fronts.{Front}
-use Rattle.cg_agree.specs.Looks.{top_of}
-use Rattle.cg_agree.specs.Levels.{line_at, reached_at}
-use Rattle.cg_agree.specs.Noting.{chronicle_step, chronicle_after}
+use Rattle.cg_model.specs.World.{World, no_world}
+use Rattle.cg_model.specs.Show.{Moved}
+use Rattle.cg_model.specs.Run.{Step, IsRunFrom, world_after}
+use Rattle.cg_model.specs.Shown.{order_of}
+use Rattle.cg_model.specs.Chronicle.{Chronicle, no_chronicle}
+use Rattle.cg_model.specs.Fronts.{Front}
+use Rattle.cg_model.specs.Looks.{top_of}
+use Rattle.cg_model.specs.Levels.{line_at, reached_at}
+use Rattle.cg_model.specs.Noting.{chronicle_step, chronicle_after}
 use Rattle.cg_step.specs.Holds.{run_on, Rising}
-use Rattle.cg_agree.specs.Played.{StandsBeside, AreAdmitted, HoldsFrom, AlwaysHolds, with_world}
+use Rattle.cg_model.specs.Played.{StandsBeside, AreAdmitted, HoldsFrom, AlwaysHolds, with_world}
 use Rattle.cg_agree.proofs.FrontFacts.{Front-take, take-Front}
 use Rattle.cg_step.specs.CutRaiseLaws.{rising-raise, index-same, index-other}
 use Rattle.cg_step.specs.RunMarkLaws.{run-head, run-rest}

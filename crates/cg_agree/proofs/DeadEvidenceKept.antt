@@ -8,19 +8,19 @@ use Rattle.cg_records.specs.declared.primary.Primary.{Primary}
 use Rattle.cg_records.specs.declared.vulnerable.Vulnerable.{Vulnerable}
 use Rattle.cg_client.specs.Replica.{Held, Replica}
 use Rattle.cg_client.specs.Summary.{summary_of}
-use Rattle.cg_agree.specs.Attempts.{held_in}
-use Rattle.cg_agree.specs.World.{Seat, Up, seat_of, replica_of, running}
-use Rattle.cg_agree.specs.Chronicle.{Told, Attempt, Chronicle}
-use Rattle.cg_agree.specs.Looks.{told_in, attempt_of, core_of, is_regular_in}
-use Rattle.cg_agree.specs.Fronts.{When}
-use Rattle.cg_agree.specs.Levels.{is_dead, is_record_of}
-use Rattle.cg_agree.specs.FactsNet.{PastLeft}
-use Rattle.cg_agree.specs.FactsTalk.{ModeFits}
-use Rattle.cg_agree.specs.FactsAttempts.{IsAttempt, AnnouncedEntered, InstalledAnnounced, DeadEvidence, is_without}
-use Rattle.cg_agree.specs.Facts.{Invariant}
-use Rattle.cg_agree.specs.Played.{AtRest}
-use Rattle.cg_agree.specs.Small.{Small, Starts, Makes, Enters, Orders, Receives, Hands, Leaves, Asks, Settles, Commits, Crashes, Recovers, Copies, Joins, coming, newest_conf, small_step}
-use Rattle.cg_agree.specs.Smalls.{may_make}
+use Rattle.cg_model.specs.Attempts.{held_in}
+use Rattle.cg_model.specs.World.{Seat, Up, seat_of, replica_of, running}
+use Rattle.cg_model.specs.Chronicle.{Told, Attempt, Chronicle}
+use Rattle.cg_model.specs.Looks.{told_in, attempt_of, core_of, is_regular_in}
+use Rattle.cg_model.specs.Fronts.{When}
+use Rattle.cg_model.specs.Levels.{is_dead, is_record_of}
+use Rattle.cg_model.specs.FactsNet.{PastLeft}
+use Rattle.cg_model.specs.FactsTalk.{ModeFits}
+use Rattle.cg_model.specs.FactsAttempts.{IsAttempt, AnnouncedEntered, InstalledAnnounced, DeadEvidence, is_without}
+use Rattle.cg_model.specs.Facts.{Invariant}
+use Rattle.cg_model.specs.Played.{AtRest}
+use Rattle.cg_model.specs.Small.{Small, Starts, Makes, Enters, Orders, Receives, Hands, Leaves, Asks, Settles, Commits, Crashes, Recovers, Copies, Joins, coming, newest_conf, small_step}
+use Rattle.cg_model.specs.Smalls.{may_make}
 use Rattle.cg_agree.proofs.HandSays.{find-holds}
 use Rattle.cg_agree.proofs.HandsKept.{seated}
 use Rattle.cg_agree.proofs.ReachFacts.{all-at}

@@ -14,14 +14,14 @@ use Rattle.cg_group.specs.State.{Sent, Configuration, has_received}
 use Rattle.cg_group.specs.Ready.{all_received}
 use Rattle.cg_wire.specs.declared.message.Msg.{Msg}
 use Rattle.cg_client.specs.Replica.{Replica}
-use Rattle.cg_agree.specs.Chronicle.{Attempt, Chronicle}
-use Rattle.cg_agree.specs.Looks.{conf_of, members_in, ordered_in, is_regular_at, is_regular_in, attempt_of, received_by_all}
-use Rattle.cg_agree.specs.Talk.{no_talk, talk_of}
-use Rattle.cg_agree.specs.Levels.{prim_at, announced_at, lacks_announcement, is_out_lacking, is_installed, is_live, is_dead}
-use Rattle.cg_agree.specs.FactsNet.{ReceiptsInside, ReceiptsFixed}
-use Rattle.cg_agree.specs.FactsTalk.{whole_talk}
-use Rattle.cg_agree.specs.FactsAttempts.{IsAttempt}
-use Rattle.cg_agree.specs.Facts.{Invariant}
+use Rattle.cg_model.specs.Chronicle.{Attempt, Chronicle}
+use Rattle.cg_model.specs.Looks.{conf_of, members_in, ordered_in, is_regular_at, is_regular_in, attempt_of, received_by_all}
+use Rattle.cg_model.specs.Talk.{no_talk, talk_of}
+use Rattle.cg_model.specs.Levels.{prim_at, announced_at, lacks_announcement, is_out_lacking, is_installed, is_live, is_dead}
+use Rattle.cg_model.specs.FactsNet.{ReceiptsInside, ReceiptsFixed}
+use Rattle.cg_model.specs.FactsTalk.{whole_talk}
+use Rattle.cg_model.specs.FactsAttempts.{IsAttempt}
+use Rattle.cg_model.specs.Facts.{Invariant}
 use Rattle.cg_agree.proofs.Reach.{passes}
 use Rattle.cg_agree.proofs.ReachFacts.{GoesOnIn, all-at, any-more}
 use Rattle.cg_agree.proofs.Announced.{announced-front, announced-behind, senders-members}

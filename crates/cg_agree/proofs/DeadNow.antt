@@ -15,16 +15,16 @@ use Rattle.cg_client.specs.Replica.{State, RegPrim, TransPrim, ExchangeStates, E
 use Rattle.cg_construct.specs.Construct.{attempt_set}
 use Rattle.cg_knowledge.specs.Members.{gone}
 use Rattle.cg_knowledge.specs.Verdict.{decides}
-use Rattle.cg_agree.specs.World.{replica_of}
-use Rattle.cg_agree.specs.Chronicle.{Attempt, Chronicle}
-use Rattle.cg_agree.specs.Looks.{attempt_of, conf_at, conf_of, members_in, ordered_in, placed_of, waiting_in, received_by_all, is_regular_in, is_regular_at}
-use Rattle.cg_agree.specs.Fronts.{When, IsSomeWith}
-use Rattle.cg_agree.specs.Talk.{Talk, announcer_in, state_in, is_full, is_through, is_announced}
-use Rattle.cg_agree.specs.Levels.{announced_at, lacks_announcement, is_out_lacking, is_installed, is_live, is_dead}
-use Rattle.cg_agree.specs.FactsNet.{PhaseSound, IsPhase}
-use Rattle.cg_agree.specs.FactsTalk.{ModeFits, IsStateIn, IsTransitional, handed_talk}
-use Rattle.cg_agree.specs.FactsReplica.{IsModeData, HasModeData, IsInAttempt, IsCounted, has_entered, is_attempting, is_primary}
-use Rattle.cg_agree.specs.FactsAttempts.{AnnouncedEntered, InstalledAnnounced, entered_in, is_no}
+use Rattle.cg_model.specs.World.{replica_of}
+use Rattle.cg_model.specs.Chronicle.{Attempt, Chronicle}
+use Rattle.cg_model.specs.Looks.{attempt_of, conf_at, conf_of, members_in, ordered_in, placed_of, waiting_in, received_by_all, is_regular_in, is_regular_at}
+use Rattle.cg_model.specs.Fronts.{When, IsSomeWith}
+use Rattle.cg_model.specs.Talk.{Talk, announcer_in, state_in, is_full, is_through, is_announced}
+use Rattle.cg_model.specs.Levels.{announced_at, lacks_announcement, is_out_lacking, is_installed, is_live, is_dead}
+use Rattle.cg_model.specs.FactsNet.{PhaseSound, IsPhase}
+use Rattle.cg_model.specs.FactsTalk.{ModeFits, IsStateIn, IsTransitional, handed_talk}
+use Rattle.cg_model.specs.FactsReplica.{IsModeData, HasModeData, IsInAttempt, IsCounted, has_entered, is_attempting, is_primary}
+use Rattle.cg_model.specs.FactsAttempts.{AnnouncedEntered, InstalledAnnounced, entered_in, is_no}
 use Rattle.cg_agree.proofs.Reach.{passes}
 use Rattle.cg_agree.proofs.ReachFacts.{all-at}
 use Rattle.cg_agree.proofs.ReachWorld.{when-is}

@@ -33,7 +33,7 @@ use Rattle.cg_construct.specs.Construct.{attempt_set, is_announced, construct_wi
 use Rattle.cg_construct.specs.No.{no_with, no_on_cpc}
 use Rattle.cg_construct.specs.Un.{un_on_action}
 use Rattle.cg_step.specs.Step.{on_message, on_transitional, take}
-use Rattle.cg_agree.specs.Small.{take_next, take_parting}
+use Rattle.cg_model.specs.Small.{take_next, take_parting}
 use Rattle.cg_agree.proofs.HandSays.{part_messages, cpc_at_end, sent-part, sent-end}
 use Rattle.cg_agree.proofs.HandTalk.{sent-marked, sent-mark_red, sent-mark_green, sent-install, sent-mark_green_at}
 

@@ -22,19 +22,19 @@ use Rattle.cg_report.specs.declared.entry.Shown.TheVariants.{Dirty as ShownDirty
 use Rattle.cg_report.specs.declared.line.UpLine.{UpLine}
 use Rattle.cg_report.specs.declared.line.View.{View}
 use Rattle.cg_schedule.specs.declared.event.Event.TheVariants.{Dirty}
-use Rattle.cg_agree.specs.World.{World, no_world, replica_of}
-use Rattle.cg_agree.specs.Admission.{first_refusal}
-use Rattle.cg_agree.specs.Show.{Moved, ended}
-use Rattle.cg_agree.specs.Step.{happens, world_step}
-use Rattle.cg_agree.specs.Run.{Step, IsRunFrom, world_after}
-use Rattle.cg_agree.specs.Shown.{order_of, made_names, made_actions, ordered_actions}
-use Rattle.cg_agree.specs.Agreement.{through, known_actions, DirtyAnswers}
-use Rattle.cg_agree.specs.Chronicle.{Chronicle, no_chronicle}
-use Rattle.cg_agree.specs.Fronts.{IsSomeWith}
-use Rattle.cg_agree.specs.Looks.{greens_of}
-use Rattle.cg_agree.specs.Noting.{chronicle_after}
-use Rattle.cg_agree.specs.FactsReplica.{AreBooked}
-use Rattle.cg_agree.specs.Played.{StandsBeside, AlwaysHolds}
+use Rattle.cg_model.specs.World.{World, no_world, replica_of}
+use Rattle.cg_model.specs.Admission.{first_refusal}
+use Rattle.cg_model.specs.Show.{Moved, ended}
+use Rattle.cg_model.specs.Step.{happens, world_step}
+use Rattle.cg_model.specs.Run.{Step, IsRunFrom, world_after}
+use Rattle.cg_model.specs.Shown.{order_of, made_names, made_actions, ordered_actions}
+use Rattle.cg_model.specs.Agreement.{through, known_actions, DirtyAnswers}
+use Rattle.cg_model.specs.Chronicle.{Chronicle, no_chronicle}
+use Rattle.cg_model.specs.Fronts.{IsSomeWith}
+use Rattle.cg_model.specs.Looks.{greens_of}
+use Rattle.cg_model.specs.Noting.{chronicle_after}
+use Rattle.cg_model.specs.FactsReplica.{AreBooked}
+use Rattle.cg_model.specs.Played.{StandsBeside, AlwaysHolds}
 use Rattle.cg_agree.proofs.BookGrows.{IsNamed}
 use Rattle.cg_agree.proofs.BookedCores.{each-booked}
 use Rattle.cg_agree.proofs.CreatorNumbered.{stands-of, names-count}

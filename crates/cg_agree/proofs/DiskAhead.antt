@@ -20,7 +20,7 @@ use Rattle.cg_client.specs.Turn.{Turn}
 use Rattle.cg_client.specs.Marks.{is_unmade, after_first, marked, place_green}
 use Rattle.cg_client.specs.Summary.{redden, forget_own, own_to_red}
 use Rattle.cg_step.specs.Commit.{same_values, commits}
-use Rattle.cg_agree.specs.FactsReplica.{GoesOn}
+use Rattle.cg_model.specs.FactsReplica.{GoesOn}
 use Rattle.cg_step.specs.Holds.{run_on, Rising}
 use Rattle.cg_step.specs.HeldLaws.{are_of, are-after, own-after, created-behind}
 use Rattle.cg_step.specs.ValueLaws.{one-value}

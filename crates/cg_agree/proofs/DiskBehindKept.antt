@@ -13,15 +13,15 @@ use Rattle.cg_client.specs.Turn.{Turn, begin}
 use Rattle.cg_client.specs.Requests.{settle}
 use Rattle.cg_stored.specs.Stored.{stored_of, whiten}
 use Rattle.cg_step.specs.Crash.{Disk, new_disk, at_rest, recovered, disk_recovered}
-use Rattle.cg_agree.specs.World.{Life, Up, Down, Seat, running, seat_of, replica_of, has_begun}
-use Rattle.cg_agree.specs.Step.{joined, without_snapshot}
-use Rattle.cg_agree.specs.Chronicle.{Past, Chronicle, no_chronicle}
-use Rattle.cg_agree.specs.Looks.{past_of, greens_of, stood_of, on_disk, snapshot_of, copied_for}
-use Rattle.cg_agree.specs.Fronts.{Front}
-use Rattle.cg_agree.specs.FactsReplica.{DiskBehind}
-use Rattle.cg_agree.specs.FactsNet.{Seated}
-use Rattle.cg_agree.specs.Small.{Small, Starts, Makes, Enters, Orders, Receives, Hands, Leaves, Asks, Settles, Commits, Crashes, Recovers, Copies, Joins, written, struck, new_past, newly_green, after_turn, turning, turning_as, commit_as, crash_as, recover_as, copy_as, join_with, start, coming, take_newest, handed_next, take_next, leaving, take_parting, take_request, small_step}
-use Rattle.cg_agree.specs.Smalls.{may_make, is_set}
+use Rattle.cg_model.specs.World.{Life, Up, Down, Seat, running, seat_of, replica_of, has_begun}
+use Rattle.cg_model.specs.Step.{joined, without_snapshot}
+use Rattle.cg_model.specs.Chronicle.{Past, Chronicle, no_chronicle}
+use Rattle.cg_model.specs.Looks.{past_of, greens_of, stood_of, on_disk, snapshot_of, copied_for}
+use Rattle.cg_model.specs.Fronts.{Front}
+use Rattle.cg_model.specs.FactsReplica.{DiskBehind}
+use Rattle.cg_model.specs.FactsNet.{Seated}
+use Rattle.cg_model.specs.Small.{Small, Starts, Makes, Enters, Orders, Receives, Hands, Leaves, Asks, Settles, Commits, Crashes, Recovers, Copies, Joins, written, struck, new_past, newly_green, after_turn, turning, turning_as, commit_as, crash_as, recover_as, copy_as, join_with, start, coming, take_newest, handed_next, take_next, leaving, take_parting, take_request, small_step}
+use Rattle.cg_model.specs.Smalls.{may_make, is_set}
 use Rattle.cg_agree.proofs.ChronicleFacts.{seat_of-set, greens_of-other, past-begun}
 use Rattle.cg_agree.proofs.FrontFacts.{Front-refl, Front-trans, Front-append}
 use Rattle.cg_agree.proofs.HeldCommit.{recovered-id}

@@ -12,7 +12,7 @@ use Rattle.cg_plan.specs.Place.{AreFilled}
 use Rattle.cg_plan.specs.Progress.{turn_of}
 use Rattle.cg_plan.specs.PlanLaws.{length-items, length-turn, size-filled, items-cons, turn_of-none, turn_of-begun, turn_of-under_way}
 use Rattle.cg_plan.specs.Parts.{size_of}
-use Rattle.cg_agree.specs.Talk.{due_from}
+use Rattle.cg_model.specs.Talk.{due_from}
 use Rattle.cg_agree.proofs.DueItems.{due-none, turn_of-beyond}
 
 -- the items of a member among items with their senders

@@ -11,7 +11,7 @@ use Rattle.cg_plan.specs.Place.{AreFilled}
 use Rattle.cg_plan.specs.Progress.{turn_of}
 use Rattle.cg_plan.specs.PlanLaws.{length-items, size-filled, turn_of-none, turn_of-begun, turn_of-under_way}
 use Rattle.cg_plan.specs.Parts.{size_of}
-use Rattle.cg_agree.specs.Talk.{due_from}
+use Rattle.cg_model.specs.Talk.{due_from}
 
 -- the items of a part, where there is one
 abbrev pub part_items : Option Part → List Item

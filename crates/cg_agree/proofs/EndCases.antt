@@ -15,11 +15,11 @@ use Rattle.cg_records.specs.declared.vulnerable.Vulnerable.{Vulnerable}
 use Rattle.cg_knowledge.specs.declared.summary.Summary.{Summary}
 use Rattle.cg_knowledge.specs.Primary.{newest_index, known_primary}
 use Rattle.cg_knowledge.specs.Vulnerable.{is_vulnerable_for, with_bits, all_bits, is_long_past, is_overtaken, is_ended_by_one, is_ended_by_all, is_cleared}
-use Rattle.cg_agree.specs.Chronicle.{Attempt, Chronicle}
-use Rattle.cg_agree.specs.Fronts.{Front}
-use Rattle.cg_agree.specs.Looks.{greens_of, is_regular_at, is_regular_in, is_at, is_in, ordered_in, received_outside, installation, left_count}
-use Rattle.cg_agree.specs.Talk.{acts_in}
-use Rattle.cg_agree.specs.Levels.{count_in, reached_in, is_live, bound_in, is_record_of}
+use Rattle.cg_model.specs.Chronicle.{Attempt, Chronicle}
+use Rattle.cg_model.specs.Fronts.{Front}
+use Rattle.cg_model.specs.Looks.{greens_of, is_regular_at, is_regular_in, is_at, is_in, ordered_in, received_outside, installation, left_count}
+use Rattle.cg_model.specs.Talk.{acts_in}
+use Rattle.cg_model.specs.Levels.{count_in, reached_in, is_live, bound_in, is_record_of}
 use Rattle.cg_agree.proofs.FrontFacts.{Front-trans, Front-length, Front-of_both, Front-take}
 use Rattle.cg_agree.proofs.Reach.{greatest-least}
 use Rattle.cg_agree.proofs.ReachFacts.{all-at, line_in}

@@ -10,7 +10,7 @@ use Rattle.cg_knowledge.specs.declared.summary.Summary.{Summary}
 use Rattle.cg_knowledge.specs.Members.{lower, lowest}
 use Rattle.cg_knowledge.specs.Yellow.{yellow_group, is_green_at_most, is_in_each, is_common, yellow_of, common_yellow}
 use Rattle.cg_base.specs.IdLaws.{same_id-true}
-use Rattle.cg_agree.specs.Fronts.{Front}
+use Rattle.cg_model.specs.Fronts.{Front}
 use Rattle.cg_agree.proofs.FrontFacts.{Front-rest, split_by_Front, common-covers}
 
 -- it holds of each of the summaries

@@ -9,7 +9,7 @@ use Rattle.cg_base.specs.Cuts.{index_in, raise, with_top}
 use Rattle.cg_knowledge.specs.declared.summary.Summary.{Summary}
 use Rattle.cg_knowledge.specs.Members.{lowest, most_updated}
 use Rattle.cg_knowledge.specs.Yellow.{yellow_group, is_green_at_most, common_yellow}
-use Rattle.cg_agree.specs.Fronts.{Front}
+use Rattle.cg_model.specs.Fronts.{Front}
 use Rattle.cg_step.specs.Holds.{run_on, cut_behind}
 use Rattle.cg_agree.proofs.FrontFacts.{split_by_Front}
 use Rattle.cg_step.specs.RunLaws.{run_on-append}

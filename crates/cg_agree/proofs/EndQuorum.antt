@@ -15,9 +15,9 @@ use Rattle.cg_knowledge.specs.Members.{senders, gone, remaining}
 use Rattle.cg_knowledge.specs.Primary.{newest_index, known_primary}
 use Rattle.cg_knowledge.specs.Vulnerable.{is_cleared, all_bits, decided}
 use Rattle.cg_knowledge.specs.Verdict.{records_of, all_cleared, decides}
-use Rattle.cg_agree.specs.Chronicle.{Attempt, Chronicle}
-use Rattle.cg_agree.specs.Fronts.{Front}
-use Rattle.cg_agree.specs.Levels.{bound_in, is_record_of}
+use Rattle.cg_model.specs.Chronicle.{Attempt, Chronicle}
+use Rattle.cg_model.specs.Fronts.{Front}
+use Rattle.cg_model.specs.Levels.{bound_in, is_record_of}
 use Rattle.cg_agree.proofs.FrontFacts.{Front-trans}
 use Rattle.cg_agree.proofs.ReachFacts.{line_in}
 use Rattle.cg_agree.proofs.EndCovers.{OfEach}

@@ -10,17 +10,17 @@ use Rattle.cg_knowledge.specs.Members.{senders, leads, leader, most_updated}
 use Rattle.cg_group.specs.State.{phase_of, delivered_to}
 use Rattle.cg_client.specs.Replica.{State, NonPrim, Replica}
 use Rattle.cg_client.specs.Turn.{begin}
-use Rattle.cg_agree.specs.World.{Seat, seat_of, replica_of, running, Up}
-use Rattle.cg_agree.specs.Chronicle.{Told, Chronicle}
-use Rattle.cg_agree.specs.Looks.{greens_of, told_in, is_regular_at, is_regular_in, members_in, ordered_in}
-use Rattle.cg_agree.specs.Talk.{Talk, talk_of, is_full, is_through}
-use Rattle.cg_agree.specs.Fronts.{IsSomeWith}
-use Rattle.cg_agree.specs.FactsTalk.{handed_talk, whole_talk}
-use Rattle.cg_agree.specs.FactsExchange.{IsSummary, HasTakenOver, IsInExchange, best_told, ExchangeProgress}
-use Rattle.cg_agree.specs.FactsAttempts.{BitsWitness}
-use Rattle.cg_agree.specs.Facts.{Invariant}
-use Rattle.cg_agree.specs.Small.{Small, Starts, Makes, Enters, Orders, Receives, Hands, Leaves, Asks, Settles, Commits, Crashes, Recovers, Copies, Joins, newly_green, after_turn, handed_next, take_next, small_step}
-use Rattle.cg_agree.specs.Smalls.{may_make}
+use Rattle.cg_model.specs.World.{Seat, seat_of, replica_of, running, Up}
+use Rattle.cg_model.specs.Chronicle.{Told, Chronicle}
+use Rattle.cg_model.specs.Looks.{greens_of, told_in, is_regular_at, is_regular_in, members_in, ordered_in}
+use Rattle.cg_model.specs.Talk.{Talk, talk_of, is_full, is_through}
+use Rattle.cg_model.specs.Fronts.{IsSomeWith}
+use Rattle.cg_model.specs.FactsTalk.{handed_talk, whole_talk}
+use Rattle.cg_model.specs.FactsExchange.{IsSummary, HasTakenOver, IsInExchange, best_told, ExchangeProgress}
+use Rattle.cg_model.specs.FactsAttempts.{BitsWitness}
+use Rattle.cg_model.specs.Facts.{Invariant}
+use Rattle.cg_model.specs.Small.{Small, Starts, Makes, Enters, Orders, Receives, Hands, Leaves, Asks, Settles, Commits, Crashes, Recovers, Copies, Joins, newly_green, after_turn, handed_next, take_next, small_step}
+use Rattle.cg_model.specs.Smalls.{may_make}
 use Rattle.cg_agree.proofs.ChronicleFacts.{seat_of-set}
 use Rattle.cg_agree.proofs.EndCovers.{OfEach}
 use Rattle.cg_agree.proofs.EndQuorum.{both-each}

@@ -21,15 +21,15 @@ use Rattle.cg_knowledge.specs.Primary.{newest, newest_index, known_primary, know
 use Rattle.cg_knowledge.specs.Vulnerable.{decided}
 use Rattle.cg_knowledge.specs.Verdict.{all_cleared, decides}
 use Rattle.cg_knowledge.specs.Yellow.{yellow_group, yellow_of, common_yellow}
-use Rattle.cg_agree.specs.Chronicle.{Told, Attempt, Chronicle}
-use Rattle.cg_agree.specs.Fronts.{Front, When, IsSomeWith}
-use Rattle.cg_agree.specs.Looks.{attempt_of, attempt_at, top_of, told_in, is_in, left_count}
-use Rattle.cg_agree.specs.Levels.{bound_in, line_at, reach_at, is_dead, is_frozen, is_installed, is_live, is_out_lacking, is_record_of, is_evidence, names_with, prim_at, prim_of}
-use Rattle.cg_agree.specs.FactsTalk.{AreTold}
+use Rattle.cg_model.specs.Chronicle.{Told, Attempt, Chronicle}
+use Rattle.cg_model.specs.Fronts.{Front, When, IsSomeWith}
+use Rattle.cg_model.specs.Looks.{attempt_of, attempt_at, top_of, told_in, is_in, left_count}
+use Rattle.cg_model.specs.Levels.{bound_in, line_at, reach_at, is_dead, is_frozen, is_installed, is_live, is_out_lacking, is_record_of, is_evidence, names_with, prim_at, prim_of}
+use Rattle.cg_model.specs.FactsTalk.{AreTold}
 use Rattle.cg_step.specs.Holds.{run_on, cut_behind}
-use Rattle.cg_agree.specs.FactsExchange.{HasRecord, IsRecord}
-use Rattle.cg_agree.specs.FactsAttempts.{IsWitnessed, AreWitnessed, is_without}
-use Rattle.cg_agree.specs.FactsGreens.{Covers}
+use Rattle.cg_model.specs.FactsExchange.{HasRecord, IsRecord}
+use Rattle.cg_model.specs.FactsAttempts.{IsWitnessed, AreWitnessed, is_without}
+use Rattle.cg_model.specs.FactsGreens.{Covers}
 use Rattle.cg_agree.proofs.ClearedDead.{IsToldIn, each-told}
 use Rattle.cg_agree.proofs.CoversStay.{covers-more}
 use Rattle.cg_agree.proofs.EndCases.{ShowsEnd, has_bit, cleared-covers}

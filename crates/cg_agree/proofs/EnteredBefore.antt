@@ -8,16 +8,16 @@ use Rattle.cg_knowledge.specs.declared.summary.Summary.{Summary}
 use Rattle.cg_knowledge.specs.Members.{senders, gone, remaining}
 use Rattle.cg_group.specs.declared.phase.Phase.{Phase}
 use Rattle.cg_client.specs.Replica.{Held, State, RegPrim, TransPrim, ExchangeStates, ExchangeActions, Construct, No, Un, NonPrim, Left, Replica}
-use Rattle.cg_agree.specs.World.{Seat, seat_of, replica_of}
-use Rattle.cg_agree.specs.Attempts.{held_in}
-use Rattle.cg_agree.specs.Chronicle.{Attempt, Chronicle}
-use Rattle.cg_agree.specs.Looks.{attempt_of, attempt_at, conf_at, core_of}
-use Rattle.cg_agree.specs.Levels.{is_record_of}
-use Rattle.cg_agree.specs.FactsReplica.{HasModeData, IsInAttempt, IsInPrimary, is_attempting, is_primary, own_record}
-use Rattle.cg_agree.specs.FactsAttempts.{IsAttempt}
-use Rattle.cg_agree.specs.Facts.{Invariant}
-use Rattle.cg_agree.specs.Small.{Small, small_step, with_leaver}
-use Rattle.cg_agree.specs.Smalls.{may_make}
+use Rattle.cg_model.specs.World.{Seat, seat_of, replica_of}
+use Rattle.cg_model.specs.Attempts.{held_in}
+use Rattle.cg_model.specs.Chronicle.{Attempt, Chronicle}
+use Rattle.cg_model.specs.Looks.{attempt_of, attempt_at, conf_at, core_of}
+use Rattle.cg_model.specs.Levels.{is_record_of}
+use Rattle.cg_model.specs.FactsReplica.{HasModeData, IsInAttempt, IsInPrimary, is_attempting, is_primary, own_record}
+use Rattle.cg_model.specs.FactsAttempts.{IsAttempt}
+use Rattle.cg_model.specs.Facts.{Invariant}
+use Rattle.cg_model.specs.Small.{Small, small_step, with_leaver}
+use Rattle.cg_model.specs.Smalls.{may_make}
 use Rattle.cg_agree.proofs.ReachFacts.{all-at, all-from}
 use Rattle.cg_agree.proofs.SameAttempt.{SameAttempt, same-refl}
 use Rattle.cg_agree.proofs.AttemptsGrow.{grown-leaver, grown-entrant, grown-installer}

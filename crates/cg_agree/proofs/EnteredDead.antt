@@ -17,16 +17,16 @@ use Rattle.cg_group.specs.declared.phase.Phase.TheVariants.{Down, Alone, Regular
 use Rattle.cg_group.specs.State.{Standing, phase_of, standing_of, is_up}
 use Rattle.cg_wire.specs.declared.message.Msg.{Msg}
 use Rattle.cg_client.specs.Replica.{Held, State, RegPrim, TransPrim, ExchangeStates, ExchangeActions, Construct, No, Un, NonPrim, Left, Replica}
-use Rattle.cg_agree.specs.Attempts.{held_in}
-use Rattle.cg_agree.specs.World.{Seat, replica_of, running}
-use Rattle.cg_agree.specs.Chronicle.{Told, Attempt, Chronicle}
-use Rattle.cg_agree.specs.Looks.{attempt_of, attempt_at, conf_at, core_of, is_regular_in, is_regular_at}
-use Rattle.cg_agree.specs.Fronts.{When, IsSomeWith}
-use Rattle.cg_agree.specs.Levels.{is_dead, is_record_of}
-use Rattle.cg_agree.specs.FactsReplica.{IsModeData, IsCounted, IsInAttempt, HasModeData}
-use Rattle.cg_agree.specs.FactsExchange.{IsRecord, HasRecord, KnowsLevels}
-use Rattle.cg_agree.specs.FactsAttempts.{is_without, is_no}
-use Rattle.cg_agree.specs.Facts.{Invariant}
+use Rattle.cg_model.specs.Attempts.{held_in}
+use Rattle.cg_model.specs.World.{Seat, replica_of, running}
+use Rattle.cg_model.specs.Chronicle.{Told, Attempt, Chronicle}
+use Rattle.cg_model.specs.Looks.{attempt_of, attempt_at, conf_at, core_of, is_regular_in, is_regular_at}
+use Rattle.cg_model.specs.Fronts.{When, IsSomeWith}
+use Rattle.cg_model.specs.Levels.{is_dead, is_record_of}
+use Rattle.cg_model.specs.FactsReplica.{IsModeData, IsCounted, IsInAttempt, HasModeData}
+use Rattle.cg_model.specs.FactsExchange.{IsRecord, HasRecord, KnowsLevels}
+use Rattle.cg_model.specs.FactsAttempts.{is_without, is_no}
+use Rattle.cg_model.specs.Facts.{Invariant}
 use Rattle.cg_agree.proofs.HandSays.{find-holds}
 use Rattle.cg_agree.proofs.HandsKept.{seated}
 use Rattle.cg_agree.proofs.ReachWorld.{when-is}

@@ -13,8 +13,8 @@ use Rattle.cg_prim.specs.TransPrim.{end_prim}
 use Rattle.cg_construct.specs.No.{no_record}
 use Rattle.cg_step.specs.Step.{on_regular, take}
 use Rattle.cg_group.specs.State.{GroupState, configuration}
-use Rattle.cg_agree.specs.Small.{newest_conf, take_newest}
-use Rattle.cg_agree.specs.Smalls.{is_between}
+use Rattle.cg_model.specs.Small.{newest_conf, take_newest}
+use Rattle.cg_model.specs.Smalls.{is_between}
 
 -- nothing is said, in the same state and by the same replica
 record Says (t u : Turn) : Type 0 where

@@ -8,8 +8,8 @@ use Rattle.cg_client.specs.Summary.{enter_exchange}
 use Rattle.cg_prim.specs.TransPrim.{end_prim}
 use Rattle.cg_construct.specs.No.{no_record}
 use Rattle.cg_step.specs.Step.{on_regular, take}
-use Rattle.cg_agree.specs.Small.{newly_green, take_newest, newest_conf}
-use Rattle.cg_agree.specs.Smalls.{is_between}
+use Rattle.cg_model.specs.Small.{newly_green, take_newest, newest_conf}
+use Rattle.cg_model.specs.Smalls.{is_between}
 use Rattle.cg_agree.proofs.HeldCommit.{own-greens}
 
 exchange-greens : (t : Turn) (conf : ℕ) (set : List ℕ) → (enter_exchange t conf set).replica.held.queue.greens ≡ t.replica.held.queue.greens

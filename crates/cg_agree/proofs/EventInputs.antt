@@ -9,7 +9,7 @@ use Rattle.cg_group.specs.Events.{deliveries_at, handed_in_split}
 use Rattle.cg_step.specs.Step.{Input, Deliveries, Asks as AsksOf}
 use Rattle.cg_schedule.specs.declared.event.Event.{Event}
 use Rattle.cg_schedule.specs.declared.event.Event.TheVariants.{Split, Merge, Request, Deliver, Join, Leave}
-use Rattle.cg_agree.specs.World.{World}
+use Rattle.cg_model.specs.World.{World}
 
 -- the event hands this to the replica
 abbrev pub IsHanded : World → Event → ℕ → Input → Type 0

@@ -24,12 +24,12 @@ use Rattle.cg_step.specs.Step.{Input, Deliveries, Asks as AsksOf, replica_step}
 use Rattle.cg_step.specs.Crash.{Strike, Disk, at_rest, new_disk, recovered, disk_recovered, end_event}
 use Rattle.cg_schedule.specs.declared.event.Event.{Event}
 use Rattle.cg_schedule.specs.declared.event.Event.TheVariants.{Start, Recover}
-use Rattle.cg_agree.specs.World.{Life, Up, Down, Seat, Snapshot, World, no_world, running, seat_of, replica_of, set_life, bring_up, bring_down}
-use Rattle.cg_agree.specs.Show.{Going, unshown, news_of_recovery}
-use Rattle.cg_agree.specs.Agreement.{is_recovery_of}
-use Rattle.cg_agree.specs.Looks.{on_disk, disk_held}
-use Rattle.cg_agree.specs.Step.{quietly, hand, hand_over, ask, name_also, begin_replica, arm_at, arm, crash_at, recover_from, recover, joined, without_snapshot, take_pieces}
-use Rattle.cg_agree.specs.FactsLists.{IsRising}
+use Rattle.cg_model.specs.World.{Life, Up, Down, Seat, Snapshot, World, no_world, running, seat_of, replica_of, set_life, bring_up, bring_down}
+use Rattle.cg_model.specs.Show.{Going, unshown, news_of_recovery}
+use Rattle.cg_model.specs.Agreement.{is_recovery_of}
+use Rattle.cg_model.specs.Looks.{on_disk, disk_held}
+use Rattle.cg_model.specs.Step.{quietly, hand, hand_over, ask, name_also, begin_replica, arm_at, arm, crash_at, recover_from, recover, joined, without_snapshot, take_pieces}
+use Rattle.cg_model.specs.FactsLists.{IsRising}
 use Rattle.cg_agree.proofs.ChronicleFacts.{seat_of-set}
 use Rattle.cg_agree.proofs.HeldCommit.{recovered-id}
 use Rattle.cg_agree.proofs.TurnWorlds.{up_seat, life_at}

@@ -14,9 +14,9 @@ use Rattle.cg_group.specs.Refusals.{empty_set, any_of, not_up, not_regular, not_
 use Rattle.cg_group.specs.EachLaws.{Each, Each-has, Each-weaker}
 use Rattle.cg_client.specs.Replica.{Replica}
 use Rattle.cg_schedule.specs.declared.event.Event.TheVariants.{Split, Merge}
-use Rattle.cg_agree.specs.World.{Seat, World, running, replica_of, is_left, is_left_state, left_replicas}
-use Rattle.cg_agree.specs.Admission.{unknown, has_left, first_refusal}
-use Rattle.cg_agree.specs.Smalls.{is_between}
+use Rattle.cg_model.specs.World.{Seat, World, running, replica_of, is_left, is_left_state, left_replicas}
+use Rattle.cg_model.specs.Admission.{unknown, has_left, first_refusal}
+use Rattle.cg_model.specs.Smalls.{is_between}
 use Rattle.cg_agree.proofs.UnorderedKept.{first-none, refused-not}
 use Rattle.cg_agree.proofs.MadeAlone.{not-refused}
 use Rattle.cg_agree.proofs.MadeDeliver.{stands-regular}

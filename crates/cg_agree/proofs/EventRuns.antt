@@ -18,17 +18,17 @@ use Rattle.cg_step.specs.Step.{Input, Deliveries, Asks as AsksOf, replica_step}
 use Rattle.cg_step.specs.Crash.{Disk, Runs, end_event}
 use Rattle.cg_schedule.specs.declared.event.Event.{Event}
 use Rattle.cg_schedule.specs.declared.event.Event.TheVariants.{Start, Split, Merge, Request, Weak, Dirty, Order, Recover, Show, ShowOrder, Gather, End, Receive, Deliver, Rounds, Stop, Fail, Join, Leave, Transfer}
-use Rattle.cg_agree.specs.World.{Seat, World, seat_of}
-use Rattle.cg_agree.specs.Admission.{first_refusal, unknown}
-use Rattle.cg_agree.specs.Show.{Going}
-use Rattle.cg_agree.specs.Step.{quietly}
-use Rattle.cg_agree.specs.Run.{MayStand}
-use Rattle.cg_agree.specs.Chronicle.{Chronicle}
-use Rattle.cg_agree.specs.Turns.{Taken, turns_of, taken, taken_as}
-use Rattle.cg_agree.specs.Small.{Small, Makes, Enters, Hands, Leaves, Asks, Settles, take_request, small_step}
-use Rattle.cg_agree.specs.Smalls.{smalls_in, turns_as, leaving_steps, ending, ending_as}
-use Rattle.cg_agree.specs.FactsLists.{IsRising}
-use Rattle.cg_agree.specs.Played.{StandsBeside}
+use Rattle.cg_model.specs.World.{Seat, World, seat_of}
+use Rattle.cg_model.specs.Admission.{first_refusal, unknown}
+use Rattle.cg_model.specs.Show.{Going}
+use Rattle.cg_model.specs.Step.{quietly}
+use Rattle.cg_model.specs.Run.{MayStand}
+use Rattle.cg_model.specs.Chronicle.{Chronicle}
+use Rattle.cg_model.specs.Turns.{Taken, turns_of, taken, taken_as}
+use Rattle.cg_model.specs.Small.{Small, Makes, Enters, Hands, Leaves, Asks, Settles, take_request, small_step}
+use Rattle.cg_model.specs.Smalls.{smalls_in, turns_as, leaving_steps, ending, ending_as}
+use Rattle.cg_model.specs.FactsLists.{IsRising}
+use Rattle.cg_model.specs.Played.{StandsBeside}
 use Rattle.cg_agree.proofs.UnorderedKept.{first-none, refused-not}
 use Rattle.cg_agree.proofs.MadeAlone.{not-refused}
 use Rattle.cg_agree.proofs.Standings.{rising-lower}

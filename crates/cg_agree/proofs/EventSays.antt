@@ -19,11 +19,11 @@ use Rattle.cg_client.specs.Replica.{Held, Replica}
 use Rattle.cg_client.specs.Turn.{Turn}
 use Rattle.cg_step.specs.Step.{Input, Deliveries, replica_step}
 use Rattle.cg_step.specs.Crash.{Disk, Ended, Runs, Crashes, end_event}
-use Rattle.cg_agree.specs.World.{Life, Up, Down, Seat, seat_of}
-use Rattle.cg_agree.specs.Show.{Going, News, news_of, answered_from, tell}
-use Rattle.cg_agree.specs.Step.{after_event, hand_to, hand, hand_over}
-use Rattle.cg_agree.specs.FactsLists.{IsRising}
-use Rattle.cg_agree.specs.Making.{made_of_action}
+use Rattle.cg_model.specs.World.{Life, Up, Down, Seat, seat_of}
+use Rattle.cg_model.specs.Show.{Going, News, news_of, answered_from, tell}
+use Rattle.cg_model.specs.Step.{after_event, hand_to, hand, hand_over}
+use Rattle.cg_model.specs.FactsLists.{IsRising}
+use Rattle.cg_model.specs.Making.{made_of_action}
 use Rattle.cg_agree.proofs.ChronicleFacts.{seat_of-set}
 use Rattle.cg_agree.proofs.SeatFacts.{seat-id}
 use Rattle.cg_agree.proofs.TurnWorlds.{up_seat, life_at, seats-ended}

@@ -8,11 +8,11 @@ use Rattle.cg_client.specs.Replica.{Replica}
 use Rattle.cg_client.specs.Turn.{Turn}
 use Rattle.cg_step.specs.Step.{Input, replica_step}
 use Rattle.cg_step.specs.Crash.{Disk, Ended, Runs, Crashes as EndsInCrash, end_event}
-use Rattle.cg_agree.specs.World.{Life, Up, Down, Seat, Snapshot, World, running, seat_of, replica_of}
-use Rattle.cg_agree.specs.Show.{Going}
-use Rattle.cg_agree.specs.Step.{hand, hand_to, after_event}
-use Rattle.cg_agree.specs.Looks.{disk_held}
-use Rattle.cg_agree.specs.Played.{IsSame, given_for}
+use Rattle.cg_model.specs.World.{Life, Up, Down, Seat, Snapshot, World, running, seat_of, replica_of}
+use Rattle.cg_model.specs.Show.{Going}
+use Rattle.cg_model.specs.Step.{hand, hand_to, after_event}
+use Rattle.cg_model.specs.Looks.{disk_held}
+use Rattle.cg_model.specs.Played.{IsSame, given_for}
 use Rattle.cg_agree.proofs.SeatFacts.{seat-id, ids-seated, running-set, disk-set}
 use Rattle.cg_agree.proofs.TurnWorlds.{up_seat, ended_in, life_at, seats-ended, IsEndAt}
 

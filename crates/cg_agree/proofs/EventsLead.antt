@@ -1,14 +1,14 @@
 -- Events lead on from the worlds to which events lead, and the facts stand beside each such world.
 use Rattle.std.proofs.Common.{◌≡◌, List, [], ◌∷◌, ◌++◌, None, refl, sym, ap, ap₂, ◌∙◌, subst}
 use Rattle.cg_schedule.specs.declared.event.Event.{Event}
-use Rattle.cg_agree.specs.World.{World, no_world}
-use Rattle.cg_agree.specs.Admission.{first_refusal}
-use Rattle.cg_agree.specs.Run.{MayStand}
-use Rattle.cg_agree.specs.Step.{world_step}
-use Rattle.cg_agree.specs.Chronicle.{Chronicle, no_chronicle}
-use Rattle.cg_agree.specs.Noting.{chronicle_step}
-use Rattle.cg_agree.specs.Played.{StandsBeside, AreAdmitted, HoldsFrom}
-use Rattle.cg_agree.specs.Standing.{LeadTo, AlwaysStands}
+use Rattle.cg_model.specs.World.{World, no_world}
+use Rattle.cg_model.specs.Admission.{first_refusal}
+use Rattle.cg_model.specs.Run.{MayStand}
+use Rattle.cg_model.specs.Step.{world_step}
+use Rattle.cg_model.specs.Chronicle.{Chronicle, no_chronicle}
+use Rattle.cg_model.specs.Noting.{chronicle_step}
+use Rattle.cg_model.specs.Played.{StandsBeside, AreAdmitted, HoldsFrom}
+use Rattle.cg_model.specs.Standing.{LeadTo, AlwaysStands}
 use Rattle.cg_agree.proofs.AlwaysMade.{always-holds}
 
 lead-on : (c : Chronicle) (w : World) (events : List Event) (d : Chronicle) (v : World) (e : Event) → LeadTo c w events d v → MayStand v e → first_refusal v e ≡ None →

@@ -16,14 +16,14 @@ use Rattle.cg_step.specs.Crash.{FailOnce, StopWith, Disk}
 use Rattle.cg_base.specs.declared.action_id.ActionId.{ActionId}
 use Rattle.cg_schedule.specs.declared.event.Event.{Event}
 use Rattle.cg_schedule.specs.declared.event.Event.TheVariants.{Start, Split, Merge, Request, Weak, Dirty, Order, Recover, Show, ShowOrder, Gather, End, Receive, Deliver, Rounds, Stop, Fail, Join, Leave, Transfer}
-use Rattle.cg_agree.specs.World.{Down, Seat, World, has_begun, seat_of, replica_of}
-use Rattle.cg_agree.specs.Admission.{first_refusal, takes_part, never_named, joiner_left, not_green}
-use Rattle.cg_agree.specs.AdmissionCalls.{begun_already}
-use Rattle.cg_agree.specs.Run.{MayStand}
-use Rattle.cg_agree.specs.Chronicle.{Chronicle}
-use Rattle.cg_agree.specs.Looks.{on_disk, disk_held}
-use Rattle.cg_agree.specs.Step.{quietly, name_also, snapshot_for, take_pieces, transfer, happens}
-use Rattle.cg_agree.specs.Played.{StandsBeside}
+use Rattle.cg_model.specs.World.{Down, Seat, World, has_begun, seat_of, replica_of}
+use Rattle.cg_model.specs.Admission.{first_refusal, takes_part, never_named, joiner_left, not_green}
+use Rattle.cg_model.specs.AdmissionCalls.{begun_already}
+use Rattle.cg_model.specs.Run.{MayStand}
+use Rattle.cg_model.specs.Chronicle.{Chronicle}
+use Rattle.cg_model.specs.Looks.{on_disk, disk_held}
+use Rattle.cg_model.specs.Step.{quietly, name_also, snapshot_for, take_pieces, transfer, happens}
+use Rattle.cg_model.specs.Played.{StandsBeside}
 use Rattle.cg_agree.proofs.UnorderedKept.{first-none}
 use Rattle.cg_agree.proofs.MadeAlone.{not-refused}
 use Rattle.cg_agree.proofs.MadeSplit.{rising-set-list}

@@ -2,10 +2,10 @@
 use Rattle.cg_agree.proofs.MadeSplit.{IsLeaving, parted, parted-id, parted-placed, input as parting, block as parts, members-of as leaving-of, turns-split}
 use Rattle.cg_agree.proofs.MadeMerge.{IsComing, entered, entered-id, input as coming, block as comes, members-of as coming-of, turns-merge}
 use Rattle.cg_step.specs.Step.{Input, Deliveries, Asks as AsksOf, replica_step}
-use Rattle.cg_agree.specs.Small.{Small, Makes, Enters, Hands, Asks, Settles, make_configuration, take_request}
+use Rattle.cg_model.specs.Small.{Small, Makes, Enters, Hands, Asks, Settles, make_configuration, take_request}
 use Rattle.cg_action.specs.declared.action.Kind.TheVariants.{Update, Join as JoinKind, Leave as LeaveKind}
 use Rattle.cg_schedule.specs.declared.event.Event.TheVariants.{Split, Merge, Deliver, Request, Join, Leave}
-use Rattle.cg_agree.specs.World.{Life, Up, Down, Seat, World, seat_of}
+use Rattle.cg_model.specs.World.{Life, Up, Down, Seat, World, seat_of}
 use Rattle.std.proofs.Common.{◌≡◌, ◌++◌, ◌∷◌, ◌∙◌, ◌+◌, List, None, Option, Some, ap, append-nil, flat_map, fold, is_none, length, map, nat_lt, refl, replicate, subst, suc, sym, true, ℕ, []}
 use Rattle.std.proofs.lemmas.Bool.{ltb-false}
 use Rattle.cg_action.specs.declared.action.Kind.{Kind}
@@ -20,12 +20,12 @@ use Rattle.cg_agree.proofs.TogetherWorlds.{IsGoing, smalls_among}
 use Rattle.cg_agree.proofs.TurnWorlds.{turn-first, up_seat}
 use Rattle.cg_agree.proofs.TurnsReached.{IsReached, LifeReached, SeatReached, all-reached, reached-alone, reached-later}
 use Rattle.cg_agree.proofs.UnorderedKept.{first-none, refused-not}
-use Rattle.cg_agree.specs.Admission.{first_refusal, unknown}
-use Rattle.cg_agree.specs.FactsLists.{IsRising}
-use Rattle.cg_agree.specs.Show.{Going}
-use Rattle.cg_agree.specs.Smalls.{ending, leaving_steps, smalls_in, turns_as}
-use Rattle.cg_agree.specs.Step.{quietly}
-use Rattle.cg_agree.specs.Turns.{stands, taken, taken_by, turns_of}
+use Rattle.cg_model.specs.Admission.{first_refusal, unknown}
+use Rattle.cg_model.specs.FactsLists.{IsRising}
+use Rattle.cg_model.specs.Show.{Going}
+use Rattle.cg_model.specs.Smalls.{ending, leaving_steps, smalls_in, turns_as}
+use Rattle.cg_model.specs.Step.{quietly}
+use Rattle.cg_model.specs.Turns.{stands, taken, taken_by, turns_of}
 use Rattle.cg_base.specs.Lists.{above_up_to}
 use Rattle.cg_client.specs.Replica.{Replica}
 use Rattle.cg_client.specs.Turn.{begin}

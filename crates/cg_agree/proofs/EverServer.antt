@@ -12,7 +12,7 @@ use Rattle.cg_action.specs.declared.action.Kind.TheVariants.{Update, Join, Leave
 use Rattle.cg_members.specs.declared.server.Server.{Server}
 use Rattle.cg_members.specs.Members.{Members}
 use Rattle.cg_members.specs.Servers.{is_among, is_server, was_ever, first_line, with_server, without_server, with_line, starting, joined, departed, after_kind, after_green, after_greens, members_of}
-use Rattle.cg_agree.specs.Fronts.{Front}
+use Rattle.cg_model.specs.Fronts.{Front}
 
 among-with : (servers : List Server) (new : Server) (q : ℕ) → is_among servers q ≡ true → is_among (with_server servers new) q ≡ true
 among-with [] new q here = absurd (let clash : false ≡ true = here in cc)

@@ -24,17 +24,17 @@ use Rattle.cg_client.specs.Marks.{is_unmade, marked, mark_red}
 use Rattle.cg_construct.specs.Construct.{attempt_set, is_announced, construct_with}
 use Rattle.cg_construct.specs.No.{no_with}
 use Rattle.cg_step.specs.Step.{on_message, take as take_delivery}
-use Rattle.cg_agree.specs.FactsReplica.{is_exchanging}
-use Rattle.cg_agree.specs.World.{replica_of}
-use Rattle.cg_agree.specs.Chronicle.{Told, Chronicle}
-use Rattle.cg_agree.specs.Fronts.{IsSomeWith}
-use Rattle.cg_agree.specs.Looks.{greens_of, told_in, is_regular_at, is_regular_in, members_in, ordered_in}
-use Rattle.cg_agree.specs.Talk.{Talk, talk_of, is_full, is_through, is_announced as is_talk_announced, state_in}
-use Rattle.cg_agree.specs.FactsTalk.{handed_talk}
-use Rattle.cg_agree.specs.FactsExchange.{HasTakenOver, best_told, IsInExchange}
-use Rattle.cg_agree.specs.Facts.{Invariant}
-use Rattle.cg_agree.specs.Small.{Hands, take_all, take_next, handed_next, small_step}
-use Rattle.cg_agree.specs.Smalls.{may_make}
+use Rattle.cg_model.specs.FactsReplica.{is_exchanging}
+use Rattle.cg_model.specs.World.{replica_of}
+use Rattle.cg_model.specs.Chronicle.{Told, Chronicle}
+use Rattle.cg_model.specs.Fronts.{IsSomeWith}
+use Rattle.cg_model.specs.Looks.{greens_of, told_in, is_regular_at, is_regular_in, members_in, ordered_in}
+use Rattle.cg_model.specs.Talk.{Talk, talk_of, is_full, is_through, is_announced as is_talk_announced, state_in}
+use Rattle.cg_model.specs.FactsTalk.{handed_talk}
+use Rattle.cg_model.specs.FactsExchange.{HasTakenOver, best_told, IsInExchange}
+use Rattle.cg_model.specs.Facts.{Invariant}
+use Rattle.cg_model.specs.Small.{Hands, take_all, take_next, handed_next, small_step}
+use Rattle.cg_model.specs.Smalls.{may_make}
 use Rattle.cg_agree.proofs.ExchangeSmalls.{replica-behind, greens-behind}
 use Rattle.cg_agree.proofs.ExchangeStill.{ProgressAt, some-still, best-still}
 use Rattle.cg_agree.proofs.HandsNow.{HandsNow, hands-regular, new, behind, count, found-now, hand-state, running-now, whole-through}

@@ -19,11 +19,11 @@ use Rattle.cg_client.specs.Turn.{Turn, go_to, with_held}
 use Rattle.cg_client.specs.Requests.{empty_buffer}
 use Rattle.cg_exchange.specs.ExchangeActions.{progress, send_part, go_on}
 use Rattle.cg_exchange.specs.PlanEnd.{usable_names, take_over, attempt, decide, end_plan}
-use Rattle.cg_agree.specs.Chronicle.{Told, Chronicle}
-use Rattle.cg_agree.specs.Fronts.{Front, IsSomeWith}
-use Rattle.cg_agree.specs.Looks.{told_in}
-use Rattle.cg_agree.specs.FactsTalk.{handed_talk}
-use Rattle.cg_agree.specs.FactsExchange.{IsUnmoved, IsGoingOn, HasTakenOver, best_told, IsInExchange}
+use Rattle.cg_model.specs.Chronicle.{Told, Chronicle}
+use Rattle.cg_model.specs.Fronts.{Front, IsSomeWith}
+use Rattle.cg_model.specs.Looks.{told_in}
+use Rattle.cg_model.specs.FactsTalk.{handed_talk}
+use Rattle.cg_model.specs.FactsExchange.{IsUnmoved, IsGoingOn, HasTakenOver, best_told, IsInExchange}
 use Rattle.cg_agree.proofs.FrontFacts.{split_by_Front}
 
 -- ---- lists

@@ -16,15 +16,15 @@ use Rattle.cg_group.specs.State.{Sent, phase_of, delivered_to}
 use Rattle.cg_client.specs.Replica.{Held, ExchangeActions, Replica}
 use Rattle.cg_client.specs.Turn.{Turn, begin}
 use Rattle.cg_exchange.specs.ExchangeActions.{take_item}
-use Rattle.cg_agree.specs.World.{replica_of}
-use Rattle.cg_agree.specs.Chronicle.{Told, Chronicle}
-use Rattle.cg_agree.specs.Fronts.{IsSomeWith}
-use Rattle.cg_agree.specs.Looks.{greens_of, members_in, ordered_in}
-use Rattle.cg_agree.specs.Talk.{Talk, is_full, is_through}
-use Rattle.cg_agree.specs.Facts.{Invariant}
+use Rattle.cg_model.specs.World.{replica_of}
+use Rattle.cg_model.specs.Chronicle.{Told, Chronicle}
+use Rattle.cg_model.specs.Fronts.{IsSomeWith}
+use Rattle.cg_model.specs.Looks.{greens_of, members_in, ordered_in}
+use Rattle.cg_model.specs.Talk.{Talk, is_full, is_through}
+use Rattle.cg_model.specs.Facts.{Invariant}
 use Rattle.cg_step.specs.Holds.{cut_behind}
-use Rattle.cg_agree.specs.FactsTalk.{AreTold, handed_talk}
-use Rattle.cg_agree.specs.FactsExchange.{IsUnmoved, IsGoingOn, best_told, IsInExchange}
+use Rattle.cg_model.specs.FactsTalk.{AreTold, handed_talk}
+use Rattle.cg_model.specs.FactsExchange.{IsUnmoved, IsGoingOn, best_told, IsInExchange}
 use Rattle.cg_agree.proofs.ExchangeHands.{EndsAs, grown-front}
 use Rattle.cg_agree.proofs.ExchangeStill.{holds-still}
 use Rattle.cg_agree.proofs.ExchangeThere.{id, core, oneself, heard_before, in_exchange, best, near, best-is, unmoved-behind, unmoved-gone, going-at, before-greens, greens-count, take-gone, take-here, white-item}

@@ -21,17 +21,17 @@ use Rattle.cg_exchange.specs.ExchangeStates.{is_usable, with_heard}
 use Rattle.cg_exchange.specs.ExchangeActions.{progress, take_item, send_part, go_on}
 use Rattle.cg_exchange.specs.PlanEnd.{take_over, attempt, decide, end_plan}
 use Rattle.cg_step.specs.Step.{on_message}
-use Rattle.cg_agree.specs.FactsReplica.{is_exchanging}
-use Rattle.cg_agree.specs.World.{replica_of}
-use Rattle.cg_agree.specs.Chronicle.{Told, Chronicle}
-use Rattle.cg_agree.specs.Fronts.{IsSomeWith}
-use Rattle.cg_agree.specs.Looks.{greens_of, told_in, members_in, is_regular_in}
-use Rattle.cg_agree.specs.Talk.{Talk, hears_from, is_full, is_through, is_announced, is_due, state_behind, state_in}
-use Rattle.cg_agree.specs.FactsTalk.{AreTold, handed_talk}
-use Rattle.cg_agree.specs.FactsExchange.{IsUnmoved, IsGoingOn, IsInExchange, ExchangeProgress}
-use Rattle.cg_agree.specs.Facts.{Invariant}
-use Rattle.cg_agree.specs.Small.{Small, Starts, Makes, Enters, Orders, Receives, Hands, Leaves, Asks, Settles, Commits, Crashes, Recovers, Copies, Joins, newly_green, take_next, handed_next, small_step}
-use Rattle.cg_agree.specs.Smalls.{may_make}
+use Rattle.cg_model.specs.FactsReplica.{is_exchanging}
+use Rattle.cg_model.specs.World.{replica_of}
+use Rattle.cg_model.specs.Chronicle.{Told, Chronicle}
+use Rattle.cg_model.specs.Fronts.{IsSomeWith}
+use Rattle.cg_model.specs.Looks.{greens_of, told_in, members_in, is_regular_in}
+use Rattle.cg_model.specs.Talk.{Talk, hears_from, is_full, is_through, is_announced, is_due, state_behind, state_in}
+use Rattle.cg_model.specs.FactsTalk.{AreTold, handed_talk}
+use Rattle.cg_model.specs.FactsExchange.{IsUnmoved, IsGoingOn, IsInExchange, ExchangeProgress}
+use Rattle.cg_model.specs.Facts.{Invariant}
+use Rattle.cg_model.specs.Small.{Small, Starts, Makes, Enters, Orders, Receives, Hands, Leaves, Asks, Settles, Commits, Crashes, Recovers, Copies, Joins, newly_green, take_next, handed_next, small_step}
+use Rattle.cg_model.specs.Smalls.{may_make}
 use Rattle.cg_agree.proofs.AnswersOwn.{due-green, due-red, still}
 use Rattle.cg_agree.proofs.CoresKept.{greens-turn}
 use Rattle.cg_agree.proofs.ExchangeBehind.{message-now, up-now, greens-same, told-now, handed-now, at-conf, behind-kept}

@@ -19,17 +19,17 @@ use Rattle.cg_client.specs.Requests.{settle, is_creating, create, create_kept, e
 use Rattle.cg_client.specs.Summary.{summary_of}
 use Rattle.cg_stored.specs.Stored.{stored_of, whiten}
 use Rattle.cg_step.specs.Crash.{Disk, new_disk, at_rest, recovered, disk_recovered}
-use Rattle.cg_agree.specs.World.{Life, Up, Down, Seat, running, Snapshot, World, seat_of, replica_of, has_begun, is_left}
-use Rattle.cg_agree.specs.Step.{begin_replica, joined}
-use Rattle.cg_agree.specs.Chronicle.{Past, Told, Chronicle, no_chronicle}
-use Rattle.cg_agree.specs.Fronts.{IsSomeWith}
-use Rattle.cg_agree.specs.Looks.{conf_of, past_of, greens_of, told_in, is_regular_at, is_regular_in, copied_for}
-use Rattle.cg_agree.specs.Talk.{talk_of}
-use Rattle.cg_agree.specs.FactsReplica.{IsModeData}
-use Rattle.cg_agree.specs.FactsExchange.{IsUnmoved, IsInExchange, ExchangeProgress}
-use Rattle.cg_agree.specs.Facts.{Invariant}
-use Rattle.cg_agree.specs.Small.{Small, Starts, Makes, Enters, Orders, Receives, Hands, Leaves, Asks, Settles, Commits, Crashes, Recovers, Copies, Joins, new_past, written, struck, newest_conf, turning_as, turning, take_newest, take_next, take_parting, take_request, coming, handed_next, leaving, with_group, commit_as, crash_as, recover_as, copy_as, join_with, start, small_step}
-use Rattle.cg_agree.specs.Smalls.{may_make, is_running, is_set}
+use Rattle.cg_model.specs.World.{Life, Up, Down, Seat, running, Snapshot, World, seat_of, replica_of, has_begun, is_left}
+use Rattle.cg_model.specs.Step.{begin_replica, joined}
+use Rattle.cg_model.specs.Chronicle.{Past, Told, Chronicle, no_chronicle}
+use Rattle.cg_model.specs.Fronts.{IsSomeWith}
+use Rattle.cg_model.specs.Looks.{conf_of, past_of, greens_of, told_in, is_regular_at, is_regular_in, copied_for}
+use Rattle.cg_model.specs.Talk.{talk_of}
+use Rattle.cg_model.specs.FactsReplica.{IsModeData}
+use Rattle.cg_model.specs.FactsExchange.{IsUnmoved, IsInExchange, ExchangeProgress}
+use Rattle.cg_model.specs.Facts.{Invariant}
+use Rattle.cg_model.specs.Small.{Small, Starts, Makes, Enters, Orders, Receives, Hands, Leaves, Asks, Settles, Commits, Crashes, Recovers, Copies, Joins, new_past, written, struck, newest_conf, turning_as, turning, take_newest, take_next, take_parting, take_request, coming, handed_next, leaving, with_group, commit_as, crash_as, recover_as, copy_as, join_with, start, small_step}
+use Rattle.cg_model.specs.Smalls.{may_make, is_running, is_set}
 use Rattle.cg_agree.proofs.BegunKept.{nothing-before}
 use Rattle.cg_agree.proofs.ChronicleFacts.{greens_of-other, past-begun}
 use Rattle.cg_agree.proofs.CoresKept.{greens-turn, past-here, past-there}

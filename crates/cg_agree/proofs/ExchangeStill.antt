@@ -13,13 +13,13 @@ use Rattle.cg_wire.specs.declared.message.Msg.{Msg}
 use Rattle.cg_group.specs.declared.phase.Phase.{Phase}
 use Rattle.cg_group.specs.State.{Configuration, phase_of, delivered_to}
 use Rattle.cg_client.specs.Replica.{Held, State, RegPrim, TransPrim, ExchangeStates, ExchangeActions, Construct, No, Un, NonPrim, Left, Replica}
-use Rattle.cg_agree.specs.World.{replica_of}
-use Rattle.cg_agree.specs.Chronicle.{Told, Chronicle}
-use Rattle.cg_agree.specs.Fronts.{IsSomeWith}
-use Rattle.cg_agree.specs.Looks.{greens_of, told_in, is_regular_at, is_regular_in}
-use Rattle.cg_agree.specs.Talk.{Talk, talk_of}
-use Rattle.cg_agree.specs.FactsTalk.{handed_talk}
-use Rattle.cg_agree.specs.FactsExchange.{HoldsStill, IsUnmoved, red_behind, IsGoingOn, HasTakenOver, best_told, IsInExchange, ExchangeProgress}
+use Rattle.cg_model.specs.World.{replica_of}
+use Rattle.cg_model.specs.Chronicle.{Told, Chronicle}
+use Rattle.cg_model.specs.Fronts.{IsSomeWith}
+use Rattle.cg_model.specs.Looks.{greens_of, told_in, is_regular_at, is_regular_in}
+use Rattle.cg_model.specs.Talk.{Talk, talk_of}
+use Rattle.cg_model.specs.FactsTalk.{handed_talk}
+use Rattle.cg_model.specs.FactsExchange.{HoldsStill, IsUnmoved, red_behind, IsGoingOn, HasTakenOver, best_told, IsInExchange, ExchangeProgress}
 use Rattle.cg_agree.proofs.TurnValues.{SameValues, same-values}
 use Rattle.cg_agree.proofs.ModeHeld.{SameLists}
 use Rattle.cg_agree.proofs.OneStands.{Stands}

@@ -28,17 +28,17 @@ use Rattle.cg_client.specs.Replica.{Held, ExchangeStates, ExchangeActions, Repli
 use Rattle.cg_client.specs.Turn.{Turn, begin}
 use Rattle.cg_client.specs.Marks.{is_unmade, marked, mark_red, can_be_green, place_green, mark_green}
 use Rattle.cg_exchange.specs.ExchangeActions.{progress, mark_item, take_item}
-use Rattle.cg_agree.specs.World.{Seat, Life, Up, Down, seat_of, replica_of, running}
-use Rattle.cg_agree.specs.Attempts.{held_in}
-use Rattle.cg_agree.specs.Chronicle.{Told, Chronicle}
-use Rattle.cg_agree.specs.Looks.{greens_of, told_in, core_of, is_regular_at, is_regular_in, members_in, ordered_in}
-use Rattle.cg_agree.specs.Talk.{Talk, no_talk, talk_of, hears_from, is_full, is_through, is_due, may_say, state_behind, state_in, action_in}
-use Rattle.cg_agree.specs.Fronts.{Front, IsSomeWith}
-use Rattle.cg_agree.specs.Facts.{Invariant}
-use Rattle.cg_agree.specs.FactsNet.{IsPhase}
-use Rattle.cg_agree.specs.FactsReplica.{IsMadeOf, IsModeData, IsCore, IsLined}
-use Rattle.cg_agree.specs.FactsExchange.{IsUnmoved, IsGoingOn, IsInExchange, greens_behind, best_told}
-use Rattle.cg_agree.specs.FactsTalk.{AreTold, handed_talk, IsStateIn, IsContent}
+use Rattle.cg_model.specs.World.{Seat, Life, Up, Down, seat_of, replica_of, running}
+use Rattle.cg_model.specs.Attempts.{held_in}
+use Rattle.cg_model.specs.Chronicle.{Told, Chronicle}
+use Rattle.cg_model.specs.Looks.{greens_of, told_in, core_of, is_regular_at, is_regular_in, members_in, ordered_in}
+use Rattle.cg_model.specs.Talk.{Talk, no_talk, talk_of, hears_from, is_full, is_through, is_due, may_say, state_behind, state_in, action_in}
+use Rattle.cg_model.specs.Fronts.{Front, IsSomeWith}
+use Rattle.cg_model.specs.Facts.{Invariant}
+use Rattle.cg_model.specs.FactsNet.{IsPhase}
+use Rattle.cg_model.specs.FactsReplica.{IsMadeOf, IsModeData, IsCore, IsLined}
+use Rattle.cg_model.specs.FactsExchange.{IsUnmoved, IsGoingOn, IsInExchange, greens_behind, best_told}
+use Rattle.cg_model.specs.FactsTalk.{AreTold, handed_talk, IsStateIn, IsContent}
 use Rattle.cg_step.specs.Holds.{cut_behind}
 use Rattle.cg_agree.proofs.EndReached.{best-bounds}
 use Rattle.cg_agree.proofs.FrontFacts.{Front-take, Front-map, take-Front, split_by_Front}

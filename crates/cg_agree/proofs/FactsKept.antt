@@ -1,15 +1,15 @@
 -- The facts about lists, the group, what is said, replicas, exchanges and attempts, each group behind each small step, from all facts
 -- before it. What replicas hold of lines asks that greens are of one order behind it.
 use Rattle.std.proofs.Common.{◌≡◌, true}
-use Rattle.cg_agree.specs.Chronicle.{Chronicle}
-use Rattle.cg_agree.specs.FactsReplica.{MadeOnce, Origins, LinesBelow, ReplicaFacts}
-use Rattle.cg_agree.specs.FactsExchange.{SummaryOfSender, SummaryLines, TellersStill, ExchangeFacts}
-use Rattle.cg_agree.specs.FactsAttempts.{AttemptFacts}
-use Rattle.cg_agree.specs.FactsGreens.{OneOrder}
-use Rattle.cg_agree.specs.Facts.{Invariant}
-use Rattle.cg_agree.specs.Played.{AtRest}
-use Rattle.cg_agree.specs.Small.{Small, small_step}
-use Rattle.cg_agree.specs.Smalls.{may_make}
+use Rattle.cg_model.specs.Chronicle.{Chronicle}
+use Rattle.cg_model.specs.FactsReplica.{MadeOnce, Origins, LinesBelow, ReplicaFacts}
+use Rattle.cg_model.specs.FactsExchange.{SummaryOfSender, SummaryLines, TellersStill, ExchangeFacts}
+use Rattle.cg_model.specs.FactsAttempts.{AttemptFacts}
+use Rattle.cg_model.specs.FactsGreens.{OneOrder}
+use Rattle.cg_model.specs.Facts.{Invariant}
+use Rattle.cg_model.specs.Played.{AtRest}
+use Rattle.cg_model.specs.Small.{Small, small_step}
+use Rattle.cg_model.specs.Smalls.{may_make}
 use Rattle.cg_agree.proofs.AttemptsAll.{cores-kept-all, attempt_facts-kept}
 use Rattle.cg_agree.proofs.CopiesBooked.{made_once-in}
 use Rattle.cg_agree.proofs.DiskBehindKept.{disk_behind-kept}

@@ -12,13 +12,13 @@ use Rattle.cg_group.specs.State.{Configuration, Standing, phase_of, configuratio
 use Rattle.cg_group.specs.Events.{with_message, with_receipt}
 use Rattle.cg_group.specs.GrownLaws.{Grows, Grows-message, Grows-receipt}
 use Rattle.cg_client.specs.Requests.{settle}
-use Rattle.cg_agree.specs.World.{World, has_begun}
-use Rattle.cg_agree.specs.Step.{begin_replica}
-use Rattle.cg_agree.specs.Chronicle.{Chronicle}
-use Rattle.cg_agree.specs.Looks.{conf_of, is_regular_at, is_regular_in, ordered_in}
-use Rattle.cg_agree.specs.FactsNet.{ReceiptsFixed, Seated}
-use Rattle.cg_agree.specs.Small.{Small, Starts, Makes, Enters, Orders, Receives, Hands, Leaves, Asks, Settles, Commits, Crashes, Recovers, Copies, Joins, small_step, make_configuration, take_request}
-use Rattle.cg_agree.specs.Smalls.{may_make, is_running}
+use Rattle.cg_model.specs.World.{World, has_begun}
+use Rattle.cg_model.specs.Step.{begin_replica}
+use Rattle.cg_model.specs.Chronicle.{Chronicle}
+use Rattle.cg_model.specs.Looks.{conf_of, is_regular_at, is_regular_in, ordered_in}
+use Rattle.cg_model.specs.FactsNet.{ReceiptsFixed, Seated}
+use Rattle.cg_model.specs.Small.{Small, Starts, Makes, Enters, Orders, Receives, Hands, Leaves, Asks, Settles, Commits, Crashes, Recovers, Copies, Joins, small_step, make_configuration, take_request}
+use Rattle.cg_model.specs.Smalls.{may_make, is_running}
 use Rattle.cg_agree.proofs.GroupKept.{begins-step, orders-conf, receives-conf, leaving-regular}
 use Rattle.cg_agree.proofs.GroupSound.{GroupSound, ConfStep, inside-of, made-is}
 use Rattle.cg_agree.proofs.NextThere.{orders-now, receives-now}

@@ -1,9 +1,9 @@
 -- Every answer that a run gives is that of a prefix of its order.
 use Rattle.std.proofs.Common.{◌≡◌, zero, suc, List, [], ◌∷◌, ◌++◌, Contains, ap, arith}
-use Rattle.cg_agree.specs.World.{no_world}
-use Rattle.cg_agree.specs.Run.{Step, IsRunFrom}
-use Rattle.cg_agree.specs.Agreement.{FoldAnswers}
-use Rattle.cg_agree.specs.Played.{AlwaysHolds}
+use Rattle.cg_model.specs.World.{no_world}
+use Rattle.cg_model.specs.Run.{Step, IsRunFrom}
+use Rattle.cg_model.specs.Agreement.{FoldAnswers}
+use Rattle.cg_model.specs.Played.{AlwaysHolds}
 use Rattle.cg_agree.proofs.RunSteps.{step-of}
 use Rattle.cg_agree.proofs.FoldHeld.{fold-held}
 use Rattle.cg_agree.proofs.FoldShown.{fold-database, fold-weak}

@@ -4,15 +4,15 @@ use Rattle.cg_action.specs.declared.action.Action.{Action}
 use Rattle.cg_db.specs.Apply.{fold_actions}
 use Rattle.cg_queue.specs.Queue.{names_of, green_count}
 use Rattle.cg_client.specs.Replica.{Replica}
-use Rattle.cg_agree.specs.World.{World, no_world, replica_of}
-use Rattle.cg_agree.specs.Chronicle.{Chronicle}
-use Rattle.cg_agree.specs.Fronts.{Front}
-use Rattle.cg_agree.specs.Looks.{greens_of}
-use Rattle.cg_agree.specs.FactsReplica.{AreBooked, IsCore}
-use Rattle.cg_agree.specs.Played.{AlwaysHolds}
-use Rattle.cg_agree.specs.Run.{Step, IsRunFrom}
-use Rattle.cg_agree.specs.Shown.{order_of, ordered_actions}
-use Rattle.cg_agree.specs.Agreement.{ComesAfter, through}
+use Rattle.cg_model.specs.World.{World, no_world, replica_of}
+use Rattle.cg_model.specs.Chronicle.{Chronicle}
+use Rattle.cg_model.specs.Fronts.{Front}
+use Rattle.cg_model.specs.Looks.{greens_of}
+use Rattle.cg_model.specs.FactsReplica.{AreBooked, IsCore}
+use Rattle.cg_model.specs.Played.{AlwaysHolds}
+use Rattle.cg_model.specs.Run.{Step, IsRunFrom}
+use Rattle.cg_model.specs.Shown.{order_of, ordered_actions}
+use Rattle.cg_model.specs.Agreement.{ComesAfter, through}
 use Rattle.cg_agree.proofs.RunSteps.{world_of, chronicle_of, step-of, StandsFor, stands-for}
 use Rattle.cg_agree.proofs.ShownActions.{ordered-shown}
 

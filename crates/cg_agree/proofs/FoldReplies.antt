@@ -19,18 +19,18 @@ use Rattle.cg_client.specs.Turn.{Turn}
 use Rattle.cg_client.specs.Marks.{is_first, after_owed, reply_to, given_to}
 use Rattle.cg_step.specs.Step.{replica_step}
 use Rattle.cg_step.specs.Crash.{Disk, Ended, Runs, Crashes, end_event}
-use Rattle.cg_agree.specs.World.{Seat, World, has_begun, running, seat_of, replica_of}
-use Rattle.cg_agree.specs.Show.{Going}
-use Rattle.cg_agree.specs.Step.{happens}
-use Rattle.cg_agree.specs.Run.{Step}
-use Rattle.cg_agree.specs.Shown.{order_of, made_action, made_actions, position_of}
-use Rattle.cg_agree.specs.Agreement.{through, is_down_in, is_created_in, lives_since, IsDue}
-use Rattle.cg_agree.specs.Chronicle.{Chronicle}
-use Rattle.cg_agree.specs.Fronts.{Front}
-use Rattle.cg_agree.specs.Looks.{greens_of}
-use Rattle.cg_agree.specs.FactsReplica.{AreBooked}
-use Rattle.cg_agree.specs.Smalls.{smalls_in}
-use Rattle.cg_agree.specs.Played.{AlwaysHolds}
+use Rattle.cg_model.specs.World.{Seat, World, has_begun, running, seat_of, replica_of}
+use Rattle.cg_model.specs.Show.{Going}
+use Rattle.cg_model.specs.Step.{happens}
+use Rattle.cg_model.specs.Run.{Step}
+use Rattle.cg_model.specs.Shown.{order_of, made_action, made_actions, position_of}
+use Rattle.cg_model.specs.Agreement.{through, is_down_in, is_created_in, lives_since, IsDue}
+use Rattle.cg_model.specs.Chronicle.{Chronicle}
+use Rattle.cg_model.specs.Fronts.{Front}
+use Rattle.cg_model.specs.Looks.{greens_of}
+use Rattle.cg_model.specs.FactsReplica.{AreBooked}
+use Rattle.cg_model.specs.Smalls.{smalls_in}
+use Rattle.cg_model.specs.Played.{AlwaysHolds}
 use Rattle.cg_agree.proofs.FrontFacts.{Front-of_append, split_by_Front}
 use Rattle.cg_step.specs.Holds.{run_on, cut_behind, Rising}
 use Rattle.cg_agree.proofs.BookGrows.{same-self}

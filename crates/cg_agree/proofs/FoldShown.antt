@@ -9,15 +9,15 @@ use Rattle.cg_group.specs.State.{is_up}
 use Rattle.cg_client.specs.Replica.{Replica}
 use Rattle.cg_report.specs.declared.entry.Shown.TheVariants.{Weak as ShownWeak, Database}
 use Rattle.cg_schedule.specs.declared.event.Event.TheVariants.{Weak, Show}
-use Rattle.cg_agree.specs.World.{World, no_world, replica_of}
-use Rattle.cg_agree.specs.Admission.{first_refusal}
-use Rattle.cg_agree.specs.Show.{Moved, ended}
-use Rattle.cg_agree.specs.Step.{happens, world_step}
-use Rattle.cg_agree.specs.Run.{Step, IsRunFrom}
-use Rattle.cg_agree.specs.Shown.{ordered_actions, position_of}
-use Rattle.cg_agree.specs.FactsReplica.{IsModeData}
-use Rattle.cg_agree.specs.Agreement.{ComesAfter, through}
-use Rattle.cg_agree.specs.Played.{AlwaysHolds}
+use Rattle.cg_model.specs.World.{World, no_world, replica_of}
+use Rattle.cg_model.specs.Admission.{first_refusal}
+use Rattle.cg_model.specs.Show.{Moved, ended}
+use Rattle.cg_model.specs.Step.{happens, world_step}
+use Rattle.cg_model.specs.Run.{Step, IsRunFrom}
+use Rattle.cg_model.specs.Shown.{ordered_actions, position_of}
+use Rattle.cg_model.specs.FactsReplica.{IsModeData}
+use Rattle.cg_model.specs.Agreement.{ComesAfter, through}
+use Rattle.cg_model.specs.Played.{AlwaysHolds}
 use Rattle.cg_agree.proofs.MadeAlone.{takes-part, is-running}
 use Rattle.cg_agree.proofs.MadeTold.{each-contains}
 use Rattle.cg_agree.proofs.HappensShown.{shown_by, step-shows, OfShown, each-shown}

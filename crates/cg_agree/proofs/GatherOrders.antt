@@ -13,10 +13,10 @@ use Rattle.cg_group.specs.State.{Standing, GroupState, standing_of, configuratio
 use Rattle.cg_group.specs.Events.{order, order_from, order_all, with_message}
 use Rattle.cg_group.specs.Refusals.{refuse, not_up, not_regular, nothing_to_order, order_refusal}
 use Rattle.cg_group.specs.LookupLaws.{standing_of-set, put-other, put-same as put-here}
-use Rattle.cg_agree.specs.World.{World}
-use Rattle.cg_agree.specs.Small.{Small, Orders}
-use Rattle.cg_agree.specs.Smalls.{may_make}
-use Rattle.cg_agree.specs.FactsLists.{IsRising}
+use Rattle.cg_model.specs.World.{World}
+use Rattle.cg_model.specs.Small.{Small, Orders}
+use Rattle.cg_model.specs.Smalls.{may_make}
+use Rattle.cg_model.specs.FactsLists.{IsRising}
 use Rattle.cg_agree.proofs.GroupTurn.{standing-id}
 use Rattle.cg_agree.proofs.SmallWorlds.{grouped, small_in, may_in, played_in, MayIn, played-append, may-append}
 

@@ -16,10 +16,10 @@ use Rattle.cg_group.specs.Refusals.{refuse, not_up, not_regular, no_such_place, 
 use Rattle.cg_group.specs.EachLaws.{Each, Each-above, Each-weaker}
 use Rattle.cg_group.specs.LookupLaws.{at_place-changed}
 use Rattle.cg_group.specs.PlaceLaws.{at_place-within}
-use Rattle.cg_agree.specs.World.{World}
-use Rattle.cg_agree.specs.Small.{Receives}
-use Rattle.cg_agree.specs.Smalls.{may_make, missing}
-use Rattle.cg_agree.specs.FactsLists.{IsRising, AreRising}
+use Rattle.cg_model.specs.World.{World}
+use Rattle.cg_model.specs.Small.{Receives}
+use Rattle.cg_model.specs.Smalls.{may_make, missing}
+use Rattle.cg_model.specs.FactsLists.{IsRising, AreRising}
 use Rattle.cg_agree.proofs.Standings.{rising-lower}
 use Rattle.cg_agree.proofs.GroupChanges.{DoRise, rising-set}
 use Rattle.cg_agree.proofs.GatherReceipts.{member-same, changed-same, changed-twice, got, gets, gets-same, got-other, rising-all, length-all, lacks, IsReached, reached-next}

@@ -8,7 +8,7 @@ use Rattle.cg_base.specs.Sets.{has, with_member}
 use Rattle.cg_base.specs.SetLaws.{has-with_member}
 use Rattle.cg_group.specs.State.{changed_at}
 use Rattle.cg_group.specs.LookupLaws.{at_place-changed, length-changed_at}
-use Rattle.cg_agree.specs.FactsLists.{IsRising, AreRising}
+use Rattle.cg_model.specs.FactsLists.{IsRising, AreRising}
 use Rattle.cg_agree.proofs.Standings.{rising-with_member, compared}
 
 -- a member of a set isn't added again

@@ -3,9 +3,9 @@ use Rattle.std.proofs.Common.{◌≡◌, ℕ, suc, ◌≤◌, Bool, true, false,
 use Rattle.std.specs.Prelude.{◌==◌}
 use Rattle.std.proofs.lemmas.Bool.{cases_Bool, cases_eq, cond-true, cond-false, cond_both, ne_eqb}
 use Rattle.cg_group.specs.LookupLaws.{at-cond}
-use Rattle.cg_agree.specs.World.{Snapshot}
-use Rattle.cg_agree.specs.Chronicle.{Copy, Chronicle}
-use Rattle.cg_agree.specs.Looks.{snapshots_for, copies_for}
+use Rattle.cg_model.specs.World.{Snapshot}
+use Rattle.cg_model.specs.Chronicle.{Copy, Chronicle}
+use Rattle.cg_model.specs.Looks.{snapshots_for, copies_for}
 
 module _ {X : Type 0} (giver joiner : X → ℕ) where
   -- those of one joiner, without those of one giver

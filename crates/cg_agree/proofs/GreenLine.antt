@@ -16,19 +16,19 @@ use Rattle.cg_group.specs.State.{phase_of, delivered_to}
 use Rattle.cg_client.specs.Replica.{State, RegPrim, ExchangeStates, ExchangeActions, Construct, NonPrim, Left, Replica}
 use Rattle.cg_client.specs.Turn.{Turn}
 use Rattle.cg_client.specs.Marks.{can_be_green, mark_green, place_green}
-use Rattle.cg_agree.specs.World.{replica_of}
-use Rattle.cg_agree.specs.Chronicle.{Attempt, Chronicle}
-use Rattle.cg_agree.specs.Fronts.{When}
-use Rattle.cg_agree.specs.Looks.{greens_of, conf_at, members_in, ordered_in, attempt_at, top_of, installation}
-use Rattle.cg_agree.specs.Talk.{Talk, hears_from, is_full, is_through, is_announced, acts_in, state_in}
-use Rattle.cg_agree.specs.Levels.{prim_at}
-use Rattle.cg_agree.specs.FactsNet.{IsPhase}
-use Rattle.cg_agree.specs.FactsTalk.{handed_talk, count_behind, IsStateIn}
-use Rattle.cg_agree.specs.FactsReplica.{IsModeData, HasModeData, IsInPrimary, is_primary}
-use Rattle.cg_agree.specs.FactsGreens.{IsOnLine, IsHandedGreen}
-use Rattle.cg_agree.specs.Facts.{Invariant}
-use Rattle.cg_agree.specs.Small.{Small, small_step}
-use Rattle.cg_agree.specs.Smalls.{may_make}
+use Rattle.cg_model.specs.World.{replica_of}
+use Rattle.cg_model.specs.Chronicle.{Attempt, Chronicle}
+use Rattle.cg_model.specs.Fronts.{When}
+use Rattle.cg_model.specs.Looks.{greens_of, conf_at, members_in, ordered_in, attempt_at, top_of, installation}
+use Rattle.cg_model.specs.Talk.{Talk, hears_from, is_full, is_through, is_announced, acts_in, state_in}
+use Rattle.cg_model.specs.Levels.{prim_at}
+use Rattle.cg_model.specs.FactsNet.{IsPhase}
+use Rattle.cg_model.specs.FactsTalk.{handed_talk, count_behind, IsStateIn}
+use Rattle.cg_model.specs.FactsReplica.{IsModeData, HasModeData, IsInPrimary, is_primary}
+use Rattle.cg_model.specs.FactsGreens.{IsOnLine, IsHandedGreen}
+use Rattle.cg_model.specs.Facts.{Invariant}
+use Rattle.cg_model.specs.Small.{Small, small_step}
+use Rattle.cg_model.specs.Smalls.{may_make}
 use Rattle.cg_agree.proofs.CoresKept.{held-known}
 use Rattle.cg_agree.proofs.DeadKept.{said-attempt}
 use Rattle.cg_agree.proofs.HandMarks.{one_of, counted-next}

@@ -17,7 +17,7 @@ use Rattle.cg_client.specs.Turn.{Turn, begin}
 use Rattle.cg_client.specs.Marks.{marked, with_green, place_green}
 use Rattle.cg_client.specs.Requests.{is_creating, create, create_kept, empty_buffer, buffer, settle, request_in, request}
 use Rattle.cg_client.specs.Summary.{redden, forget_own, own_to_red}
-use Rattle.cg_agree.specs.Small.{newly_green, take_all}
+use Rattle.cg_model.specs.Small.{newly_green, take_all}
 use Rattle.cg_agree.proofs.KeptEmpty.{anything}
 use Rattle.cg_agree.proofs.TurnRows.{IsRule, of-deliveries}
 

@@ -13,12 +13,12 @@ use Rattle.cg_client.specs.Turn.{Turn, begin}
 use Rattle.cg_client.specs.Requests.{is_creating, create, create_kept, empty_buffer, buffer, settle, request_in}
 use Rattle.cg_action.specs.declared.action.Kind.{Kind}
 use Rattle.cg_step.specs.Crash.{Disk}
-use Rattle.cg_agree.specs.World.{Life, Up, Down, Seat, World, running, seat_of, replica_of}
-use Rattle.cg_agree.specs.Chronicle.{Past, Chronicle}
-use Rattle.cg_agree.specs.Looks.{past_of, greens_of}
-use Rattle.cg_agree.specs.Small.{Small, Starts, Makes, Enters, Orders, Receives, Hands, Leaves, Asks, Settles, Commits, Crashes, Recovers, Copies, Joins, newly_green, with_greens, after_turn, turning, turning_as, take_newest, take_next, take_parting, take_request, newest_conf, coming, handed_next, leaving, small_step}
-use Rattle.cg_agree.specs.Noting.{played}
-use Rattle.cg_agree.specs.Played.{IsSame}
+use Rattle.cg_model.specs.World.{Life, Up, Down, Seat, World, running, seat_of, replica_of}
+use Rattle.cg_model.specs.Chronicle.{Past, Chronicle}
+use Rattle.cg_model.specs.Looks.{past_of, greens_of}
+use Rattle.cg_model.specs.Small.{Small, Starts, Makes, Enters, Orders, Receives, Hands, Leaves, Asks, Settles, Commits, Crashes, Recovers, Copies, Joins, newly_green, with_greens, after_turn, turning, turning_as, take_newest, take_next, take_parting, take_request, newest_conf, coming, handed_next, leaving, small_step}
+use Rattle.cg_model.specs.Noting.{played}
+use Rattle.cg_model.specs.Played.{IsSame}
 use Rattle.cg_agree.proofs.ChronicleFacts.{seat_of-set, past_of-turn}
 use Rattle.cg_agree.proofs.SameSmalls.{played-same}
 use Rattle.cg_agree.proofs.SmallWorlds.{played_in, played-world}

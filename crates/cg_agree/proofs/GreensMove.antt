@@ -13,15 +13,15 @@ use Rattle.cg_group.specs.State.{home, regular_in, configuration}
 use Rattle.cg_client.specs.Replica.{State, RegPrim, TransPrim, ExchangeStates, ExchangeActions, Construct, No, Un, NonPrim, Left, Replica}
 use Rattle.cg_client.specs.Turn.{Turn, begin}
 use Rattle.cg_client.specs.Requests.{is_creating, create_kept, empty_buffer, request_in, settle}
-use Rattle.cg_agree.specs.World.{Life, Up, Down, Seat, Snapshot, running, seat_of, replica_of, has_begun}
-use Rattle.cg_agree.specs.Chronicle.{Past, Chronicle, no_chronicle}
-use Rattle.cg_agree.specs.Looks.{past_of, greens_of, snapshot_of, copied_for}
-use Rattle.cg_agree.specs.Levels.{is_installed}
-use Rattle.cg_agree.specs.FactsReplica.{IsCore}
-use Rattle.cg_agree.specs.Facts.{Invariant}
-use Rattle.cg_agree.specs.Played.{AtRest}
-use Rattle.cg_agree.specs.Small.{Small, Starts, Makes, Enters, Orders, Receives, Hands, Leaves, Asks, Settles, Commits, Crashes, Recovers, Copies, Joins, small_step, start, new_past, turning, turning_as, newly_green, coming, handed_next, leaving, take_newest, take_next, take_parting, take_request, commit_as, crash_as, recover_as, copy_as, join_with}
-use Rattle.cg_agree.specs.Smalls.{may_make, is_set}
+use Rattle.cg_model.specs.World.{Life, Up, Down, Seat, Snapshot, running, seat_of, replica_of, has_begun}
+use Rattle.cg_model.specs.Chronicle.{Past, Chronicle, no_chronicle}
+use Rattle.cg_model.specs.Looks.{past_of, greens_of, snapshot_of, copied_for}
+use Rattle.cg_model.specs.Levels.{is_installed}
+use Rattle.cg_model.specs.FactsReplica.{IsCore}
+use Rattle.cg_model.specs.Facts.{Invariant}
+use Rattle.cg_model.specs.Played.{AtRest}
+use Rattle.cg_model.specs.Small.{Small, Starts, Makes, Enters, Orders, Receives, Hands, Leaves, Asks, Settles, Commits, Crashes, Recovers, Copies, Joins, small_step, start, new_past, turning, turning_as, newly_green, coming, handed_next, leaving, take_newest, take_next, take_parting, take_request, commit_as, crash_as, recover_as, copy_as, join_with}
+use Rattle.cg_model.specs.Smalls.{may_make, is_set}
 use Rattle.cg_agree.proofs.AttemptSteps.{Installing, leaves-installing, act-shows}
 use Rattle.cg_agree.proofs.BegunKept.{nothing-before}
 use Rattle.cg_agree.proofs.ChronicleFacts.{greens_of-other, past-begun}

@@ -6,7 +6,7 @@ use Rattle.std.proofs.lemmas.List.{append_assoc}
 use Rattle.cg_group.specs.State.{Standing, GroupState, standing_of, regular_in, set_standing}
 use Rattle.cg_group.specs.Events.{go_down, send_from, send, send_all}
 use Rattle.cg_group.specs.LookupLaws.{configurations-set_standing, standing_of-set, put-other, put-same as put-here}
-use Rattle.cg_agree.specs.FactsLists.{IsRising}
+use Rattle.cg_model.specs.FactsLists.{IsRising}
 use Rattle.cg_agree.proofs.GroupTurn.{standing-id}
 use Rattle.cg_agree.proofs.Standings.{standing-twice, standing-commute, standing-self, gone-own, gone-other, ids-standing, rising-with_member, rising-gone}
 

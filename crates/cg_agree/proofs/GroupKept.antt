@@ -19,13 +19,13 @@ use Rattle.cg_group.specs.GrownLaws.{Grows-message, Grows-receipt}
 use Rattle.cg_client.specs.Replica.{fresh}
 use Rattle.cg_client.specs.Requests.{settle}
 use Rattle.cg_step.specs.Crash.{new_disk}
-use Rattle.cg_agree.specs.World.{Up, World, replica_of, has_begun}
-use Rattle.cg_agree.specs.Step.{begin_replica}
-use Rattle.cg_agree.specs.Chronicle.{Chronicle}
-use Rattle.cg_agree.specs.Looks.{conf_of, is_regular_at, members_in, ordered_in, received_by_all}
-use Rattle.cg_agree.specs.FactsNet.{PhaseSound, IsPhase, HandedReceived, Seated}
-use Rattle.cg_agree.specs.Small.{Small, Starts, Makes, Enters, Orders, Receives, Hands, Leaves, Asks, Settles, Commits, Crashes, Recovers, Copies, Joins, small_step, with_group, newest_conf, take_request}
-use Rattle.cg_agree.specs.Smalls.{may_make, is_running, ascend_within, hold_received, hold_earlier}
+use Rattle.cg_model.specs.World.{Up, World, replica_of, has_begun}
+use Rattle.cg_model.specs.Step.{begin_replica}
+use Rattle.cg_model.specs.Chronicle.{Chronicle}
+use Rattle.cg_model.specs.Looks.{conf_of, is_regular_at, members_in, ordered_in, received_by_all}
+use Rattle.cg_model.specs.FactsNet.{PhaseSound, IsPhase, HandedReceived, Seated}
+use Rattle.cg_model.specs.Small.{Small, Starts, Makes, Enters, Orders, Receives, Hands, Leaves, Asks, Settles, Commits, Crashes, Recovers, Copies, Joins, small_step, with_group, newest_conf, take_request}
+use Rattle.cg_model.specs.Smalls.{may_make, is_running, ascend_within, hold_received, hold_earlier}
 use Rattle.cg_agree.proofs.ConfSound.{ConfSound, by_all, receipt-sound, message-sound}
 use Rattle.cg_agree.proofs.GroupSound.{GroupSound, ConfStep, sound-one, sound-grown, sound-made}
 use Rattle.cg_agree.proofs.GroupTurn.{put-same}

@@ -7,7 +7,7 @@ use Rattle.std.specs.Option.{option_map_or}
 use Rattle.std.specs.Prelude.{◌==◌}
 use Rattle.cg_agree.proofs.GroupChanges.{configurations-down, configurations-sent}
 use Rattle.cg_agree.proofs.GroupSound.{made-is}
-use Rattle.cg_agree.specs.Small.{make_configuration}
+use Rattle.cg_model.specs.Small.{make_configuration}
 use Rattle.cg_base.specs.Lists.{above_up_to, at_place}
 use Rattle.cg_group.specs.EachLaws.{Each, Each-append}
 use Rattle.cg_group.specs.Events.{become_regular, become_transitional, come_up, gather, go_down, merge, order, order_all, order_from, receive, receive_all, regulars, send_all, split, with_delivered, with_message, with_receipt}

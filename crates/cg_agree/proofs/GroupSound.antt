@@ -11,11 +11,11 @@ use Rattle.cg_group.specs.declared.phase.Phase.TheVariants.{Down, Alone, Regular
 use Rattle.cg_group.specs.State.{Configuration, GroupState, Standing, no_configuration, phase_of, is_up, delivered_to, configuration, has_received, standing_of}
 use Rattle.cg_group.specs.GrownLaws.{Grows}
 use Rattle.cg_group.specs.PlaceLaws.{at_place-append, at_place-last, at_place-past}
-use Rattle.cg_agree.specs.World.{replica_of}
-use Rattle.cg_agree.specs.Chronicle.{Chronicle}
-use Rattle.cg_agree.specs.Looks.{conf_of, is_regular_at, is_regular_in, received_by_all}
-use Rattle.cg_agree.specs.FactsNet.{PhaseSound, IsPhase, ReceiptsInside, SenderClosed, HandedReceived}
-use Rattle.cg_agree.specs.Small.{make_configuration}
+use Rattle.cg_model.specs.World.{replica_of}
+use Rattle.cg_model.specs.Chronicle.{Chronicle}
+use Rattle.cg_model.specs.Looks.{conf_of, is_regular_at, is_regular_in, received_by_all}
+use Rattle.cg_model.specs.FactsNet.{PhaseSound, IsPhase, ReceiptsInside, SenderClosed, HandedReceived}
+use Rattle.cg_model.specs.Small.{make_configuration}
 use Rattle.cg_agree.proofs.ConfSound.{ConfSound, by_all, by_all-grows}
 use Rattle.cg_agree.proofs.OneSteps.{OneStep}
 use Rattle.cg_agree.proofs.SmallTalk.{conf-there}

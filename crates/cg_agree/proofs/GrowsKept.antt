@@ -11,18 +11,18 @@ use Rattle.cg_wire.specs.declared.message.Msg.{Msg}
 use Rattle.cg_wire.specs.declared.message.Msg.TheVariants.{Action as ActionMsg, State as StateMsg, GreenItem, RedItem, Cpc}
 use Rattle.cg_group.specs.State.{Sent}
 use Rattle.cg_client.specs.Replica.{Held, created}
-use Rattle.cg_agree.specs.World.{Seat, seat_of}
-use Rattle.cg_agree.specs.Attempts.{held_in}
-use Rattle.cg_agree.specs.Chronicle.{Told, Attempt, Chronicle}
-use Rattle.cg_agree.specs.Fronts.{Front, IsSomeWith}
-use Rattle.cg_agree.specs.Looks.{greens_of, core_of, told_in, members_in, ordered_in, attempt_of}
-use Rattle.cg_agree.specs.Talk.{Talk, no_talk, talk_of, hears, hears_from, is_full, may_say, is_legal}
-use Rattle.cg_agree.specs.FactsTalk.{whole_talk}
-use Rattle.cg_agree.specs.FactsBooks.{HasGrown}
-use Rattle.cg_agree.specs.Facts.{Invariant}
-use Rattle.cg_agree.specs.Played.{AtRest}
-use Rattle.cg_agree.specs.Small.{Small, small_step}
-use Rattle.cg_agree.specs.Smalls.{may_make}
+use Rattle.cg_model.specs.World.{Seat, seat_of}
+use Rattle.cg_model.specs.Attempts.{held_in}
+use Rattle.cg_model.specs.Chronicle.{Told, Attempt, Chronicle}
+use Rattle.cg_model.specs.Fronts.{Front, IsSomeWith}
+use Rattle.cg_model.specs.Looks.{greens_of, core_of, told_in, members_in, ordered_in, attempt_of}
+use Rattle.cg_model.specs.Talk.{Talk, no_talk, talk_of, hears, hears_from, is_full, may_say, is_legal}
+use Rattle.cg_model.specs.FactsTalk.{whole_talk}
+use Rattle.cg_model.specs.FactsBooks.{HasGrown}
+use Rattle.cg_model.specs.Facts.{Invariant}
+use Rattle.cg_model.specs.Played.{AtRest}
+use Rattle.cg_model.specs.Small.{Small, small_step}
+use Rattle.cg_model.specs.Smalls.{may_make}
 use Rattle.cg_agree.proofs.AttemptsGrow.{attempts-grow}
 use Rattle.cg_agree.proofs.CopiesBooked.{joiners-booked}
 use Rattle.cg_agree.proofs.CoresMove.{CoreMove, Was, Begins, cores-move}

@@ -20,15 +20,15 @@ use Rattle.cg_client.specs.Marks.{can_be_green, mark_green, place_green}
 use Rattle.cg_step.specs.Step.{take as take_one, on_message}
 use Rattle.cg_step.specs.Crash.{Disk}
 use Rattle.cg_group.specs.LookupLaws.{at-cond, eqb_comm}
-use Rattle.cg_agree.specs.World.{Up, Seat, seat_of, replica_of, running}
-use Rattle.cg_agree.specs.Chronicle.{Past, Attempt, Chronicle}
-use Rattle.cg_agree.specs.Fronts.{Front}
-use Rattle.cg_agree.specs.Looks.{past_of, greens_of, stood_of, is_at, is_in, conf_at, ordered_in, attempt_at, no_attempt, top_of, installation, left_count, on_disk, disk_held}
-use Rattle.cg_agree.specs.Talk.{act_in, acts_in}
-use Rattle.cg_agree.specs.Levels.{line_at, count_in, reached_in, reached_at}
-use Rattle.cg_agree.specs.FactsAttempts.{LevelsStand}
-use Rattle.cg_agree.specs.FactsGreens.{InstalledCount, Spine, IsOnLine, IsHandedGreen}
-use Rattle.cg_agree.specs.Small.{Hands, small_step, after_turn, newly_green, with_greens, attempts_behind, levels_behind, opened_by, is_entry, is_installation, entering, installing, handed_next, take_next, turning_as}
+use Rattle.cg_model.specs.World.{Up, Seat, seat_of, replica_of, running}
+use Rattle.cg_model.specs.Chronicle.{Past, Attempt, Chronicle}
+use Rattle.cg_model.specs.Fronts.{Front}
+use Rattle.cg_model.specs.Looks.{past_of, greens_of, stood_of, is_at, is_in, conf_at, ordered_in, attempt_at, no_attempt, top_of, installation, left_count, on_disk, disk_held}
+use Rattle.cg_model.specs.Talk.{act_in, acts_in}
+use Rattle.cg_model.specs.Levels.{line_at, count_in, reached_in, reached_at}
+use Rattle.cg_model.specs.FactsAttempts.{LevelsStand}
+use Rattle.cg_model.specs.FactsGreens.{InstalledCount, Spine, IsOnLine, IsHandedGreen}
+use Rattle.cg_model.specs.Small.{Hands, small_step, after_turn, newly_green, with_greens, attempts_behind, levels_behind, opened_by, is_entry, is_installation, entering, installing, handed_next, take_next, turning_as}
 use Rattle.cg_agree.proofs.ChronicleFacts.{seat_of-set, past_of-turn, greens_of-own, greens_of-other}
 use Rattle.cg_agree.proofs.GroupTurn.{Moved, moved-handed, moved-sent, regular-moved}
 use Rattle.cg_agree.proofs.HandNext.{take-next}

@@ -27,8 +27,8 @@ use Rattle.cg_wire.specs.declared.message.Msg.TheVariants.{GreenItem, RedItem, C
 use Rattle.cg_group.specs.State.{Sent}
 use Rattle.cg_client.specs.Turn.{Turn}
 use Rattle.cg_exchange.specs.ExchangeActions.{message_of, progress, go_on}
-use Rattle.cg_agree.specs.Looks.{sent_by}
-use Rattle.cg_agree.specs.Talk.{Talk, hears, is_full, is_through, is_ended, is_due, may_go_on, may_say, is_legal, item_in, announcer_in}
+use Rattle.cg_model.specs.Looks.{sent_by}
+use Rattle.cg_model.specs.Talk.{Talk, hears, is_full, is_through, is_ended, is_due, may_go_on, may_say, is_legal, item_in, announcer_in}
 use Rattle.cg_agree.proofs.TalkEarly.{all-member}
 use Rattle.cg_agree.proofs.TalkCommute.{wanted-one}
 use Rattle.cg_agree.proofs.DueAll.{begins, none-begins, get-drop, next-drop}

@@ -13,8 +13,8 @@ use Rattle.cg_client.specs.Replica.{Held, created}
 use Rattle.cg_client.specs.Turn.{Turn}
 use Rattle.cg_client.specs.Marks.{is_unmade, after_first, marked, mark_red, can_be_green, place_green, mark_green}
 use Rattle.cg_client.specs.Install.{valid_yellow, yellow_green, install}
-use Rattle.cg_agree.specs.Talk.{Talk}
-use Rattle.cg_agree.specs.FactsTalk.{of_creator, count_behind}
+use Rattle.cg_model.specs.Talk.{Talk}
+use Rattle.cg_model.specs.FactsTalk.{of_creator, count_behind}
 use Rattle.cg_step.specs.Holds.{Rising}
 use Rattle.cg_step.specs.CutRaiseLaws.{index-same, index-other}
 

@@ -20,10 +20,10 @@ use Rattle.cg_group.specs.State.{Sent}
 use Rattle.cg_client.specs.Turn.{Turn}
 use Rattle.cg_exchange.specs.ExchangeActions.{go_on, take_item}
 use Rattle.cg_step.specs.Step.{on_message}
-use Rattle.cg_agree.specs.Chronicle.{Told}
-use Rattle.cg_agree.specs.Looks.{sent_by, placed_of}
-use Rattle.cg_agree.specs.Talk.{Talk, no_talk, hears, hears_from, is_full, is_through, is_ended, may_say, is_legal, state_in, item_in, announcer_in, due_items, due_from, due_announcement}
-use Rattle.cg_agree.specs.FactsTalk.{SaysWhatIsDue}
+use Rattle.cg_model.specs.Chronicle.{Told}
+use Rattle.cg_model.specs.Looks.{sent_by, placed_of}
+use Rattle.cg_model.specs.Talk.{Talk, no_talk, hears, hears_from, is_full, is_through, is_ended, may_say, is_legal, state_in, item_in, announcer_in, due_items, due_from, due_announcement}
+use Rattle.cg_model.specs.FactsTalk.{SaysWhatIsDue}
 use Rattle.cg_agree.proofs.TalkEarly.{early-legal, early-none, not_full, due_parts}
 use Rattle.cg_agree.proofs.TalkCommute.{legal-append, tells}
 use Rattle.cg_agree.proofs.DueAll.{items_by, due-all}

@@ -29,9 +29,9 @@ use Rattle.cg_client.specs.Turn.{Turn, go_to, with_held}
 use Rattle.cg_client.specs.Requests.{empty_buffer}
 use Rattle.cg_exchange.specs.ExchangeActions.{message_of, messages_of, send_part, progress, go_on}
 use Rattle.cg_exchange.specs.PlanEnd.{take_over, attempt, decide, end_plan}
-use Rattle.cg_agree.specs.Chronicle.{Told}
-use Rattle.cg_agree.specs.Talk.{Talk, is_full, summary_in, item_in, announcer_in, act_in, due_items}
-use Rattle.cg_agree.specs.FactsTalk.{SaysWhatIsDue, summaries_of}
+use Rattle.cg_model.specs.Chronicle.{Told}
+use Rattle.cg_model.specs.Talk.{Talk, is_full, summary_in, item_in, announcer_in, act_in, due_items}
+use Rattle.cg_model.specs.FactsTalk.{SaysWhatIsDue, summaries_of}
 use Rattle.cg_group.specs.LookupLaws.{at-cond}
 use Rattle.cg_agree.proofs.TalkEarly.{all-member}
 use Rattle.cg_agree.proofs.DueItems.{part_items}

@@ -26,9 +26,9 @@ use Rattle.cg_exchange.specs.ExchangeStates.{is_usable, with_heard}
 use Rattle.cg_exchange.specs.ExchangeActions.{progress, go_on, take_item, mark_item}
 use Rattle.cg_construct.specs.Construct.{attempt_set, is_announced as is_usable_announcement, construct_with}
 use Rattle.cg_step.specs.Step.{on_message}
-use Rattle.cg_agree.specs.Chronicle.{Told}
-use Rattle.cg_agree.specs.Talk.{Talk, hears_from, is_full, is_through, is_announced, is_due, may_say, state_behind, state_in, item_in, announcer_in, act_in, due_from, due_items, due_announcement}
-use Rattle.cg_agree.specs.FactsTalk.{SaysWhatIsDue}
+use Rattle.cg_model.specs.Chronicle.{Told}
+use Rattle.cg_model.specs.Talk.{Talk, hears_from, is_full, is_through, is_announced, is_due, may_say, state_behind, state_in, item_in, announcer_in, act_in, due_from, due_items, due_announcement}
+use Rattle.cg_model.specs.FactsTalk.{SaysWhatIsDue}
 use Rattle.cg_group.specs.LookupLaws.{at-cond}
 use Rattle.cg_agree.proofs.TalkEarly.{IsEarly, not_full, due_parts}
 use Rattle.cg_agree.proofs.TalkCommute.{tells, announces, acts}

@@ -18,9 +18,9 @@ use Rattle.cg_client.specs.Turn.{Turn, begin}
 use Rattle.cg_client.specs.Requests.{settle}
 use Rattle.cg_step.specs.Step.{take}
 use Rattle.cg_step.specs.Crash.{Disk}
-use Rattle.cg_agree.specs.World.{World}
-use Rattle.cg_agree.specs.Small.{Hands, Settles, take_all, take_next}
-use Rattle.cg_agree.specs.Smalls.{may_make}
+use Rattle.cg_model.specs.World.{World}
+use Rattle.cg_model.specs.Small.{Hands, Settles, take_all, take_next}
+use Rattle.cg_model.specs.Smalls.{may_make}
 use Rattle.cg_agree.proofs.Parts.{IsPart}
 use Rattle.cg_agree.proofs.PartsTaken.{part-take_all, part-settle}
 use Rattle.cg_agree.proofs.GroupChanges.{set-twice, sent-waits}

@@ -23,12 +23,12 @@ use Rattle.cg_construct.specs.Construct.{attempt_set, is_announced, construct_wi
 use Rattle.cg_queue.specs.Queue.{names_of}
 use Rattle.cg_step.specs.Step.{on_message}
 use Rattle.cg_step.specs.Crash.{Disk}
-use Rattle.cg_agree.specs.World.{Seat, replica_of, running}
-use Rattle.cg_agree.specs.Chronicle.{Attempt, Chronicle}
-use Rattle.cg_agree.specs.Looks.{greens_of, attempt_of, members_in, ordered_in, placed_of, waiting_in, said_in}
-use Rattle.cg_agree.specs.Talk.{Talk, no_talk, talk_of, hears, hears_from, is_full, is_through, is_ended, is_announced as all_announced, may_say, may_go_on, is_legal, act_in, known_up_to, state_in}
-use Rattle.cg_agree.specs.FactsReplica.{HasModeData, IsInAttempt, IsCore}
-use Rattle.cg_agree.specs.FactsTalk.{whole_talk, handed_talk, of_creator, count_behind, AreOnTheWay, AreNumbered, AreNumberedAt, ActsNumbered, TalkFacts}
+use Rattle.cg_model.specs.World.{Seat, replica_of, running}
+use Rattle.cg_model.specs.Chronicle.{Attempt, Chronicle}
+use Rattle.cg_model.specs.Looks.{greens_of, attempt_of, members_in, ordered_in, placed_of, waiting_in, said_in}
+use Rattle.cg_model.specs.Talk.{Talk, no_talk, talk_of, hears, hears_from, is_full, is_through, is_ended, is_announced as all_announced, may_say, may_go_on, is_legal, act_in, known_up_to, state_in}
+use Rattle.cg_model.specs.FactsReplica.{HasModeData, IsInAttempt, IsCore}
+use Rattle.cg_model.specs.FactsTalk.{whole_talk, handed_talk, of_creator, count_behind, AreOnTheWay, AreNumbered, AreNumberedAt, ActsNumbered, TalkFacts}
 use Rattle.cg_agree.proofs.ActsOrdered.{heard-ended}
 use Rattle.cg_agree.proofs.ActsSaid.{handed-parts, handed-heard, handed-ended}
 use Rattle.cg_agree.proofs.ActsWay.{later_acts, said-split, way-later, row-at, created-count, acts-split, drop-behind}

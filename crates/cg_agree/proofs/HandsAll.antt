@@ -15,17 +15,17 @@ use Rattle.cg_client.specs.Replica.{State, ExchangeStates, ExchangeActions, Repl
 use Rattle.cg_client.specs.Turn.{begin}
 use Rattle.cg_step.specs.Step.{on_message}
 use Rattle.cg_step.specs.Crash.{Disk}
-use Rattle.cg_agree.specs.World.{Seat, replica_of, running}
-use Rattle.cg_agree.specs.Chronicle.{Chronicle}
-use Rattle.cg_agree.specs.Looks.{greens_of, members_in, ordered_in, OfCores}
-use Rattle.cg_agree.specs.Talk.{Talk, hears_from, is_full, is_through, is_ended, known_up_to, state_behind, state_in}
-use Rattle.cg_agree.specs.FactsAttempts.{AttemptShape}
-use Rattle.cg_agree.specs.FactsExchange.{SummaryOfSender}
-use Rattle.cg_agree.specs.FactsNet.{PhaseSound, IsPhase}
-use Rattle.cg_agree.specs.FactsReplica.{HasModeData, IsModeData, IsCore}
-use Rattle.cg_agree.specs.FactsTalk.{handed_talk, Content, ActsNumbered, IsStateIn, TalkFacts}
-use Rattle.cg_agree.specs.Small.{Hands, small_step}
-use Rattle.cg_agree.specs.Smalls.{may_make}
+use Rattle.cg_model.specs.World.{Seat, replica_of, running}
+use Rattle.cg_model.specs.Chronicle.{Chronicle}
+use Rattle.cg_model.specs.Looks.{greens_of, members_in, ordered_in, OfCores}
+use Rattle.cg_model.specs.Talk.{Talk, hears_from, is_full, is_through, is_ended, known_up_to, state_behind, state_in}
+use Rattle.cg_model.specs.FactsAttempts.{AttemptShape}
+use Rattle.cg_model.specs.FactsExchange.{SummaryOfSender}
+use Rattle.cg_model.specs.FactsNet.{PhaseSound, IsPhase}
+use Rattle.cg_model.specs.FactsReplica.{HasModeData, IsModeData, IsCore}
+use Rattle.cg_model.specs.FactsTalk.{handed_talk, Content, ActsNumbered, IsStateIn, TalkFacts}
+use Rattle.cg_model.specs.Small.{Hands, small_step}
+use Rattle.cg_model.specs.Smalls.{may_make}
 use Rattle.cg_agree.proofs.HandsActs.{hands-acts}
 use Rattle.cg_agree.proofs.HandsKept.{CanAnswer, regular-phase, regular-up, seated, some-at, next-there, attempt-named, hands-kept}
 use Rattle.cg_agree.proofs.HandsSent.{hands-content}

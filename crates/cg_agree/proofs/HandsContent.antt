@@ -27,11 +27,11 @@ use Rattle.cg_client.specs.Replica.{Held, ExchangeActions}
 use Rattle.cg_client.specs.Turn.{Turn, go_to}
 use Rattle.cg_exchange.specs.ExchangeActions.{message_of, send_part, progress, go_on}
 use Rattle.cg_exchange.specs.PlanEnd.{end_plan}
-use Rattle.cg_agree.specs.Fronts.{Front}
-use Rattle.cg_agree.specs.Chronicle.{Told, Chronicle}
-use Rattle.cg_agree.specs.Looks.{told_in}
-use Rattle.cg_agree.specs.FactsReplica.{IsMadeOf}
-use Rattle.cg_agree.specs.FactsTalk.{summaries_of, AreTold, AreContents}
+use Rattle.cg_model.specs.Fronts.{Front}
+use Rattle.cg_model.specs.Chronicle.{Told, Chronicle}
+use Rattle.cg_model.specs.Looks.{told_in}
+use Rattle.cg_model.specs.FactsReplica.{IsMadeOf}
+use Rattle.cg_model.specs.FactsTalk.{summaries_of, AreTold, AreContents}
 use Rattle.cg_agree.proofs.FrontFacts.{split_by_Front}
 use Rattle.cg_agree.proofs.HandSays.{part_messages, cpc_at_end, sent-part, sent-end}
 use Rattle.cg_agree.proofs.NumbersSame.{contents-both}

@@ -19,16 +19,16 @@ use Rattle.cg_client.specs.Replica.{Held, State, RegPrim, Construct, Replica}
 use Rattle.cg_client.specs.Turn.{begin}
 use Rattle.cg_construct.specs.Construct.{attempt_set}
 use Rattle.cg_step.specs.Crash.{Disk}
-use Rattle.cg_agree.specs.World.{Life, Up, Down as DownLife, Seat, World, seat_of, replica_of, running}
-use Rattle.cg_agree.specs.Chronicle.{Attempt, Chronicle}
-use Rattle.cg_agree.specs.Looks.{conf_of, members_in, ordered_in, attempt_of, attempt_at}
-use Rattle.cg_agree.specs.Talk.{Talk, no_talk, talk_of, hears, is_full, is_through, is_ended, is_announced, is_legal, state_in}
-use Rattle.cg_agree.specs.FactsNet.{PhaseSound, IsPhase}
-use Rattle.cg_agree.specs.FactsTalk.{handed_talk, whole_talk, IsStateIn}
-use Rattle.cg_agree.specs.FactsReplica.{HasModeData, IsInAttempt, IsModeData, own_record}
-use Rattle.cg_agree.specs.FactsAttempts.{AttemptShape}
-use Rattle.cg_agree.specs.Small.{Hands, small_step}
-use Rattle.cg_agree.specs.Smalls.{may_make}
+use Rattle.cg_model.specs.World.{Life, Up, Down as DownLife, Seat, World, seat_of, replica_of, running}
+use Rattle.cg_model.specs.Chronicle.{Attempt, Chronicle}
+use Rattle.cg_model.specs.Looks.{conf_of, members_in, ordered_in, attempt_of, attempt_at}
+use Rattle.cg_model.specs.Talk.{Talk, no_talk, talk_of, hears, is_full, is_through, is_ended, is_announced, is_legal, state_in}
+use Rattle.cg_model.specs.FactsNet.{PhaseSound, IsPhase}
+use Rattle.cg_model.specs.FactsTalk.{handed_talk, whole_talk, IsStateIn}
+use Rattle.cg_model.specs.FactsReplica.{HasModeData, IsInAttempt, IsModeData, own_record}
+use Rattle.cg_model.specs.FactsAttempts.{AttemptShape}
+use Rattle.cg_model.specs.Small.{Hands, small_step}
+use Rattle.cg_model.specs.Smalls.{may_make}
 use Rattle.cg_agree.proofs.HandSays.{find-holds}
 use Rattle.cg_agree.proofs.TalkCommute.{legal-append}
 use Rattle.cg_agree.proofs.SaidSoFar.{rest-through}

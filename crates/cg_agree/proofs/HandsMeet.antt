@@ -29,16 +29,16 @@ use Rattle.cg_client.specs.Marks.{is_unmade, can_be_green, mark_red, mark_green_
 use Rattle.cg_construct.specs.Construct.{attempt_set}
 use Rattle.cg_exchange.specs.ExchangeActions.{progress, take_item}
 use Rattle.cg_exchange.specs.PlanEnd.{usable_names}
-use Rattle.cg_agree.specs.World.{replica_of}
-use Rattle.cg_agree.specs.Chronicle.{Chronicle}
-use Rattle.cg_agree.specs.Facts.{Invariant}
-use Rattle.cg_agree.specs.FactsExchange.{red_index}
-use Rattle.cg_agree.specs.FactsReplica.{IsModeData, HasModeData}
-use Rattle.cg_agree.specs.FactsTalk.{AreTold, handed_talk, count_behind, AreNumbered, AreNumberedAt}
-use Rattle.cg_agree.specs.Fronts.{When}
-use Rattle.cg_agree.specs.Looks.{greens_of, members_in, ordered_in}
-use Rattle.cg_agree.specs.Talk.{Talk, action_in, hears_from, state_in, is_full, is_through, is_ended, is_announced as all_announced, is_due, may_go_on, may_say}
-use Rattle.cg_agree.specs.Total.{fits_red, fits_green, fits_item, CanInstall, keeps_part, TakesNames, GoesOn, TakesItem, IsUsed}
+use Rattle.cg_model.specs.World.{replica_of}
+use Rattle.cg_model.specs.Chronicle.{Chronicle}
+use Rattle.cg_model.specs.Facts.{Invariant}
+use Rattle.cg_model.specs.FactsExchange.{red_index}
+use Rattle.cg_model.specs.FactsReplica.{IsModeData, HasModeData}
+use Rattle.cg_model.specs.FactsTalk.{AreTold, handed_talk, count_behind, AreNumbered, AreNumberedAt}
+use Rattle.cg_model.specs.Fronts.{When}
+use Rattle.cg_model.specs.Looks.{greens_of, members_in, ordered_in}
+use Rattle.cg_model.specs.Talk.{Talk, action_in, hears_from, state_in, is_full, is_through, is_ended, is_announced as all_announced, is_due, may_go_on, may_say}
+use Rattle.cg_model.specs.Total.{fits_red, fits_green, fits_item, CanInstall, keeps_part, TakesNames, GoesOn, TakesItem, IsUsed}
 use Rattle.cg_agree.proofs.ActsNext.{numbered-next}
 use Rattle.cg_agree.proofs.AnswersOwn.{few-summary, due-green, due-red, still, answer-there}
 use Rattle.cg_agree.proofs.ExchangeThere.{may, id, state, oneself, up, in_exchange, in-states, in-actions, heard_before, heard_behind, best, near, unmoved-behind, before-item, behind-green, behind-red, take-here, next-due}

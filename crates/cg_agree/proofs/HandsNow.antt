@@ -16,16 +16,16 @@ use Rattle.cg_group.specs.State.{Sent, phase_of, is_regular, regular_in, deliver
 use Rattle.cg_client.specs.Replica.{Replica}
 use Rattle.cg_client.specs.Turn.{begin}
 use Rattle.cg_step.specs.Crash.{Disk}
-use Rattle.cg_agree.specs.World.{Up, Seat, seat_of, replica_of, running}
-use Rattle.cg_agree.specs.Chronicle.{Chronicle}
-use Rattle.cg_agree.specs.Looks.{members_in, ordered_in}
-use Rattle.cg_agree.specs.Talk.{Talk, no_talk, talk_of, hears, is_full, is_through, is_ended, is_legal, state_in}
-use Rattle.cg_agree.specs.FactsNet.{IsPhase}
-use Rattle.cg_agree.specs.FactsTalk.{TalkLegal, handed_talk, whole_talk, IsStateIn}
-use Rattle.cg_agree.specs.FactsReplica.{HasModeData, IsModeData}
-use Rattle.cg_agree.specs.Facts.{Invariant}
-use Rattle.cg_agree.specs.Small.{Hands, take_all, take_next}
-use Rattle.cg_agree.specs.Smalls.{may_make}
+use Rattle.cg_model.specs.World.{Up, Seat, seat_of, replica_of, running}
+use Rattle.cg_model.specs.Chronicle.{Chronicle}
+use Rattle.cg_model.specs.Looks.{members_in, ordered_in}
+use Rattle.cg_model.specs.Talk.{Talk, no_talk, talk_of, hears, is_full, is_through, is_ended, is_legal, state_in}
+use Rattle.cg_model.specs.FactsNet.{IsPhase}
+use Rattle.cg_model.specs.FactsTalk.{TalkLegal, handed_talk, whole_talk, IsStateIn}
+use Rattle.cg_model.specs.FactsReplica.{HasModeData, IsModeData}
+use Rattle.cg_model.specs.Facts.{Invariant}
+use Rattle.cg_model.specs.Small.{Hands, take_all, take_next}
+use Rattle.cg_model.specs.Smalls.{may_make}
 use Rattle.cg_agree.proofs.HandNext.{take-next, talk-append, state-handed}
 use Rattle.cg_agree.proofs.HandsKept.{regular-phase, regular-up, seated, some-at, next-there, take-drop, attempt-named}
 use Rattle.cg_agree.proofs.HandsTalk.{SaidFacts}

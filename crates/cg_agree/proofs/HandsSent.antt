@@ -20,15 +20,15 @@ use Rattle.cg_exchange.specs.ExchangeActions.{go_on, is_next, take_item, exchang
 use Rattle.cg_exchange.specs.ExchangeStates.{is_usable, with_heard, exchange_states_on_summary}
 use Rattle.cg_step.specs.Step.{on_message}
 use Rattle.cg_step.specs.Crash.{Disk}
-use Rattle.cg_agree.specs.World.{Seat}
-use Rattle.cg_agree.specs.Attempts.{held_in}
-use Rattle.cg_agree.specs.Fronts.{Front}
-use Rattle.cg_agree.specs.Chronicle.{Told, Chronicle}
-use Rattle.cg_agree.specs.Looks.{told_in, core_of, greens_of, members_in, ordered_in}
-use Rattle.cg_agree.specs.Talk.{Talk, no_talk, talk_of, hears, hears_from, is_full, is_through, is_announced as all_announced, state_behind, state_in}
-use Rattle.cg_agree.specs.FactsExchange.{SummaryOfSender, IsSummary, IsOutdone}
-use Rattle.cg_agree.specs.FactsReplica.{IsCore}
-use Rattle.cg_agree.specs.FactsTalk.{whole_talk, handed_talk, AreTold, summaries_of, AreContents, Content, TalkFacts}
+use Rattle.cg_model.specs.World.{Seat}
+use Rattle.cg_model.specs.Attempts.{held_in}
+use Rattle.cg_model.specs.Fronts.{Front}
+use Rattle.cg_model.specs.Chronicle.{Told, Chronicle}
+use Rattle.cg_model.specs.Looks.{told_in, core_of, greens_of, members_in, ordered_in}
+use Rattle.cg_model.specs.Talk.{Talk, no_talk, talk_of, hears, hears_from, is_full, is_through, is_announced as all_announced, state_behind, state_in}
+use Rattle.cg_model.specs.FactsExchange.{SummaryOfSender, IsSummary, IsOutdone}
+use Rattle.cg_model.specs.FactsReplica.{IsCore}
+use Rattle.cg_model.specs.FactsTalk.{whole_talk, handed_talk, AreTold, summaries_of, AreContents, Content, TalkFacts}
 use Rattle.cg_agree.proofs.DeliveriesSay.{sent-mark_yellow}
 use Rattle.cg_agree.proofs.FrontFacts.{Front-refl, Front-append, Front-trans}
 use Rattle.cg_agree.proofs.HandSays.{find-holds}

@@ -22,12 +22,12 @@ use Rattle.cg_client.specs.Turn.{Turn, begin}
 use Rattle.cg_construct.specs.Construct.{attempt_set}
 use Rattle.cg_step.specs.Step.{take as take_one, on_message}
 use Rattle.cg_step.specs.Crash.{Disk}
-use Rattle.cg_agree.specs.World.{Up, Seat, seat_of, replica_of, running}
-use Rattle.cg_agree.specs.Chronicle.{Told, Chronicle}
-use Rattle.cg_agree.specs.Looks.{told_in, greens_of, is_regular_in, is_regular_at, members_in, ordered_in, sent_by, placed_of, waiting_in, said_in}
-use Rattle.cg_agree.specs.Talk.{Talk, no_talk, talk_of, hears, hears_from, is_full, is_ended, may_say, is_legal, state_in, summary_in}
-use Rattle.cg_agree.specs.FactsTalk.{whole_talk, handed_talk, TalkLegal, SaysWhatIsDue, SentIffDue, HeardIsTold, ModeFits}
-use Rattle.cg_agree.specs.Small.{Hands, small_step, after_turn, turning_as, handed_next, take_next}
+use Rattle.cg_model.specs.World.{Up, Seat, seat_of, replica_of, running}
+use Rattle.cg_model.specs.Chronicle.{Told, Chronicle}
+use Rattle.cg_model.specs.Looks.{told_in, greens_of, is_regular_in, is_regular_at, members_in, ordered_in, sent_by, placed_of, waiting_in, said_in}
+use Rattle.cg_model.specs.Talk.{Talk, no_talk, talk_of, hears, hears_from, is_full, is_ended, may_say, is_legal, state_in, summary_in}
+use Rattle.cg_model.specs.FactsTalk.{whole_talk, handed_talk, TalkLegal, SaysWhatIsDue, SentIffDue, HeardIsTold, ModeFits}
+use Rattle.cg_model.specs.Small.{Hands, small_step, after_turn, turning_as, handed_next, take_next}
 use Rattle.cg_agree.proofs.TalkEarly.{IsEarly, early-legal, early-none}
 use Rattle.cg_agree.proofs.TalkCommute.{legal-append}
 use Rattle.cg_agree.proofs.DueAll.{take-next}

@@ -14,9 +14,9 @@ use Rattle.cg_step.specs.Step.{Input, Deliveries, Asks as AsksOf, replica_step}
 use Rattle.cg_step.specs.Crash.{FailOnce, StopWith, Strike, Ended, Runs, Crashes, end_event, new_disk}
 use Rattle.cg_schedule.specs.declared.event.Event.{Event}
 use Rattle.cg_schedule.specs.declared.event.Event.TheVariants.{Start, Split, Merge, Request, Weak, Dirty, Order, Recover, Show, ShowOrder, Gather, End, Receive, Deliver, Rounds, Stop, Fail, Join, Leave, Transfer}
-use Rattle.cg_agree.specs.World.{Life, Up, Down, Seat, Snapshot, World, seat_of, replica_of, bring_up}
-use Rattle.cg_agree.specs.Show.{Going}
-use Rattle.cg_agree.specs.Step.{quietly, after_event, hand_to, hand, hand_over, name_also, begin_replica, arm_at, crash_at, recover_from, recover, joined, snapshot_for, without_snapshot, with_pieces, take_pieces, transfer, happens}
+use Rattle.cg_model.specs.World.{Life, Up, Down, Seat, Snapshot, World, seat_of, replica_of, bring_up}
+use Rattle.cg_model.specs.Show.{Going}
+use Rattle.cg_model.specs.Step.{quietly, after_event, hand_to, hand, hand_over, name_also, begin_replica, arm_at, crash_at, recover_from, recover, joined, snapshot_for, without_snapshot, with_pieces, take_pieces, transfer, happens}
 use Rattle.cg_client.specs.Joined.{piece_count}
 
 hand-lines : (go : Going) (p : ℕ) (input : Input) → (hand go p input).world.lines ≡ go.world.lines

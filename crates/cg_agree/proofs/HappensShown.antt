@@ -16,9 +16,9 @@ use Rattle.cg_step.specs.Step.{Input, Deliveries, Asks as AsksOf, replica_step}
 use Rattle.cg_step.specs.Crash.{Ended, Runs, Crashes, end_event}
 use Rattle.cg_schedule.specs.declared.event.Event.{Event}
 use Rattle.cg_schedule.specs.declared.event.Event.TheVariants.{Start, Split, Merge, Request, Weak, Dirty, Order, Recover, Show, ShowOrder, Gather, End, Receive, Deliver, Rounds, Stop, Fail, Join, Leave, Transfer}
-use Rattle.cg_agree.specs.World.{Life, Up, Down, Seat, World, seat_of, replica_of}
-use Rattle.cg_agree.specs.Show.{Going, ended}
-use Rattle.cg_agree.specs.Step.{quietly, after_event, hand_to, hand, hand_over, name_also, recover_from, recover, snapshot_for, take_pieces, transfer, shown_of, happens, world_step}
+use Rattle.cg_model.specs.World.{Life, Up, Down, Seat, World, seat_of, replica_of}
+use Rattle.cg_model.specs.Show.{Going, ended}
+use Rattle.cg_model.specs.Step.{quietly, after_event, hand_to, hand, hand_over, name_also, recover_from, recover, snapshot_for, take_pieces, transfer, shown_of, happens, world_step}
 use Rattle.cg_client.specs.Joined.{piece_count}
 
 abbrev pub pieces_by : World → ℕ → ℕ → ℕ → Replica → List Shown

@@ -22,7 +22,7 @@ use Rattle.cg_construct.specs.No.{no_record}
 use Rattle.cg_client.specs.Whitening.{white_at}
 use Rattle.cg_stored.specs.Stored.{stored_of, whiten, recover}
 use Rattle.cg_step.specs.Step.{on_regular, take}
-use Rattle.cg_agree.specs.Small.{take_request}
+use Rattle.cg_model.specs.Small.{take_request}
 use Rattle.cg_agree.proofs.HeldMarks.{IsOneself}
 use Rattle.cg_agree.proofs.HeldTurns.{Keeps, grows-none, keeps-none, keeps-both, keeps-by_replica, keeps-create, keeps-enter_exchange, keeps-own_to_red, oneself-with}
 use Rattle.cg_step.specs.HeldLaws.{line-below}

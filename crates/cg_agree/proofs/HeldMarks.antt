@@ -15,7 +15,7 @@ use Rattle.cg_members.specs.MemberLaws.{members_of-more}
 use Rattle.cg_queue.specs.Queue.{names_of, green_count, placed_red}
 use Rattle.cg_client.specs.Replica.{Held}
 use Rattle.cg_client.specs.Marks.{after_first, with_green}
-use Rattle.cg_agree.specs.FactsReplica.{IsMadeOf, IsContiguous, IsYellowClosed}
+use Rattle.cg_model.specs.FactsReplica.{IsMadeOf, IsContiguous, IsYellowClosed}
 use Rattle.cg_step.specs.Holds.{run_on, cut_behind, ascend, Rising}
 use Rattle.cg_step.specs.RunLaws.{run_on-next, cut_behind-append}
 use Rattle.cg_step.specs.CutRaiseLaws.{rising-behind, behind-rises, index-rises}

@@ -9,18 +9,18 @@ use Rattle.cg_base.specs.SetLaws.{has-with_member}
 use Rattle.cg_group.specs.declared.phase.Phase.TheVariants.{Down}
 use Rattle.cg_group.specs.State.{phase_of}
 use Rattle.cg_client.specs.Replica.{Replica}
-use Rattle.cg_agree.specs.World.{Seat, seat_of, replica_of}
-use Rattle.cg_agree.specs.Chronicle.{Attempt, Chronicle}
-use Rattle.cg_agree.specs.Fronts.{When}
-use Rattle.cg_agree.specs.Looks.{greens_of, stood_of, is_at, is_in, is_regular_at, is_regular_in, attempt_of, left_count}
-use Rattle.cg_agree.specs.Levels.{count_in}
-use Rattle.cg_agree.specs.FactsReplica.{has_installed}
-use Rattle.cg_agree.specs.FactsAttempts.{IsAttempt, LeftOut}
-use Rattle.cg_agree.specs.FactsGreens.{InstalledCount}
-use Rattle.cg_agree.specs.Facts.{Invariant}
-use Rattle.cg_agree.specs.Played.{AtRest}
-use Rattle.cg_agree.specs.Small.{Small, Crashes, small_step, crash_as}
-use Rattle.cg_agree.specs.Smalls.{may_make}
+use Rattle.cg_model.specs.World.{Seat, seat_of, replica_of}
+use Rattle.cg_model.specs.Chronicle.{Attempt, Chronicle}
+use Rattle.cg_model.specs.Fronts.{When}
+use Rattle.cg_model.specs.Looks.{greens_of, stood_of, is_at, is_in, is_regular_at, is_regular_in, attempt_of, left_count}
+use Rattle.cg_model.specs.Levels.{count_in}
+use Rattle.cg_model.specs.FactsReplica.{has_installed}
+use Rattle.cg_model.specs.FactsAttempts.{IsAttempt, LeftOut}
+use Rattle.cg_model.specs.FactsGreens.{InstalledCount}
+use Rattle.cg_model.specs.Facts.{Invariant}
+use Rattle.cg_model.specs.Played.{AtRest}
+use Rattle.cg_model.specs.Small.{Small, Crashes, small_step, crash_as}
+use Rattle.cg_model.specs.Smalls.{may_make}
 use Rattle.cg_agree.proofs.AttemptSteps.{attempt-step}
 use Rattle.cg_agree.proofs.AttemptsCame.{Came, Stayed, WasLeft, WasEntered, WasInstalled, WasMade, came}
 use Rattle.cg_agree.proofs.CountsMove.{found-conf, count-move}

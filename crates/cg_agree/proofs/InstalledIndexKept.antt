@@ -8,16 +8,16 @@ use Rattle.cg_base.specs.SetLaws.{has-with_member}
 use Rattle.cg_records.specs.declared.primary.Primary.{Primary}
 use Rattle.cg_client.specs.Install.{prim_after}
 use Rattle.cg_client.specs.Replica.{Held}
-use Rattle.cg_agree.specs.World.{Seat, seat_of}
-use Rattle.cg_agree.specs.Attempts.{held_in}
-use Rattle.cg_agree.specs.Chronicle.{Leaving, Attempt, Chronicle}
-use Rattle.cg_agree.specs.Looks.{greens_of, core_of, attempt_of, left_count}
-use Rattle.cg_agree.specs.FactsReplica.{has_installed}
-use Rattle.cg_agree.specs.FactsAttempts.{IsAttempt, InstalledIndex}
-use Rattle.cg_agree.specs.Facts.{Invariant}
-use Rattle.cg_agree.specs.Played.{AtRest}
-use Rattle.cg_agree.specs.Small.{Small, small_step, with_leaver}
-use Rattle.cg_agree.specs.Smalls.{may_make}
+use Rattle.cg_model.specs.World.{Seat, seat_of}
+use Rattle.cg_model.specs.Attempts.{held_in}
+use Rattle.cg_model.specs.Chronicle.{Leaving, Attempt, Chronicle}
+use Rattle.cg_model.specs.Looks.{greens_of, core_of, attempt_of, left_count}
+use Rattle.cg_model.specs.FactsReplica.{has_installed}
+use Rattle.cg_model.specs.FactsAttempts.{IsAttempt, InstalledIndex}
+use Rattle.cg_model.specs.Facts.{Invariant}
+use Rattle.cg_model.specs.Played.{AtRest}
+use Rattle.cg_model.specs.Small.{Small, small_step, with_leaver}
+use Rattle.cg_model.specs.Smalls.{may_make}
 use Rattle.cg_agree.proofs.ReachFacts.{all-at}
 use Rattle.cg_agree.proofs.Keyed.{find-append, find-none}
 use Rattle.cg_agree.proofs.AttemptsGrow.{grown-leaver}

@@ -20,16 +20,16 @@ use Rattle.cg_group.specs.State.{phase_of, delivered_to}
 use Rattle.cg_client.specs.Replica.{Held, State, RegPrim, ExchangeStates, ExchangeActions, Construct, NonPrim, Left, Replica}
 use Rattle.cg_client.specs.Install.{valid_yellow}
 use Rattle.cg_client.specs.Queries.{plain_reds}
-use Rattle.cg_agree.specs.Chronicle.{Told, Attempt, Chronicle}
-use Rattle.cg_agree.specs.Fronts.{When, IsSomeWith}
-use Rattle.cg_agree.specs.Looks.{greens_of, told_in, conf_at, members_in, attempt_of, installation}
-use Rattle.cg_agree.specs.Talk.{Talk, is_full, is_through, is_announced, known_up_to, state_in}
-use Rattle.cg_agree.specs.FactsReplica.{IsCore, is_attempting}
-use Rattle.cg_agree.specs.FactsTalk.{handed_talk, whole_talk, of_creator, count_behind, IsStateIn, AreNumbered, AreNumberedAt}
-use Rattle.cg_agree.specs.FactsExchange.{best_told}
-use Rattle.cg_agree.specs.FactsAttempts.{IsAttempt, HoldsParts, names_between, red_names}
-use Rattle.cg_agree.specs.Facts.{Invariant}
-use Rattle.cg_agree.specs.Small.{newly_green}
+use Rattle.cg_model.specs.Chronicle.{Told, Attempt, Chronicle}
+use Rattle.cg_model.specs.Fronts.{When, IsSomeWith}
+use Rattle.cg_model.specs.Looks.{greens_of, told_in, conf_at, members_in, attempt_of, installation}
+use Rattle.cg_model.specs.Talk.{Talk, is_full, is_through, is_announced, known_up_to, state_in}
+use Rattle.cg_model.specs.FactsReplica.{IsCore, is_attempting}
+use Rattle.cg_model.specs.FactsTalk.{handed_talk, whole_talk, of_creator, count_behind, IsStateIn, AreNumbered, AreNumberedAt}
+use Rattle.cg_model.specs.FactsExchange.{best_told}
+use Rattle.cg_model.specs.FactsAttempts.{IsAttempt, HoldsParts, names_between, red_names}
+use Rattle.cg_model.specs.Facts.{Invariant}
+use Rattle.cg_model.specs.Small.{newly_green}
 use Rattle.cg_agree.proofs.ActsLate.{none-handed}
 use Rattle.cg_agree.proofs.AttemptSteps.{Installing}
 use Rattle.cg_agree.proofs.AttemptsCame.{ins-conf}

@@ -1,11 +1,11 @@
 -- All facts hold behind each small step, from all facts before it.
 use Rattle.std.proofs.Common.{◌≡◌, true}
-use Rattle.cg_agree.specs.Chronicle.{Chronicle}
-use Rattle.cg_agree.specs.FactsGreens.{InstalledCount, GreenFacts}
-use Rattle.cg_agree.specs.Facts.{Invariant}
-use Rattle.cg_agree.specs.Played.{AtRest}
-use Rattle.cg_agree.specs.Small.{Small, small_step}
-use Rattle.cg_agree.specs.Smalls.{may_make}
+use Rattle.cg_model.specs.Chronicle.{Chronicle}
+use Rattle.cg_model.specs.FactsGreens.{InstalledCount, GreenFacts}
+use Rattle.cg_model.specs.Facts.{Invariant}
+use Rattle.cg_model.specs.Played.{AtRest}
+use Rattle.cg_model.specs.Small.{Small, small_step}
+use Rattle.cg_model.specs.Smalls.{may_make}
 use Rattle.cg_agree.proofs.BeginsKept.{begins_with-kept}
 use Rattle.cg_agree.proofs.CoverageKept.{coverage-kept}
 use Rattle.cg_agree.proofs.FactsKept.{replica-now, exchange-now, attempt-now}

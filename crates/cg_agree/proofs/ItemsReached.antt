@@ -19,12 +19,12 @@ use Rattle.cg_wire.specs.declared.message.Msg.{Msg}
 use Rattle.cg_wire.specs.declared.message.Msg.TheVariants.{Action as ActionMsg, State as StateMsg, GreenItem, RedItem, Cpc}
 use Rattle.cg_group.specs.State.{GroupState, Sent, configuration}
 use Rattle.cg_exchange.specs.ExchangeActions.{progress}
-use Rattle.cg_agree.specs.World.{World}
-use Rattle.cg_agree.specs.Chronicle.{Told, Chronicle}
-use Rattle.cg_agree.specs.Looks.{told_in, members_in, ordered_in}
-use Rattle.cg_agree.specs.Talk.{Talk, no_talk, hears, hears_from, is_full, may_say, is_legal}
-use Rattle.cg_agree.specs.FactsTalk.{summaries_of, AreTold, whole_talk}
-use Rattle.cg_agree.specs.Played.{StandsBeside}
+use Rattle.cg_model.specs.World.{World}
+use Rattle.cg_model.specs.Chronicle.{Told, Chronicle}
+use Rattle.cg_model.specs.Looks.{told_in, members_in, ordered_in}
+use Rattle.cg_model.specs.Talk.{Talk, no_talk, hears, hears_from, is_full, may_say, is_legal}
+use Rattle.cg_model.specs.FactsTalk.{summaries_of, AreTold, whole_talk}
+use Rattle.cg_model.specs.Played.{StandsBeside}
 use Rattle.cg_agree.proofs.ExchangeThere.{next-due}
 use Rattle.cg_agree.proofs.HandsContent.{IsTurnOf, led, plan-turns}
 

@@ -7,12 +7,12 @@ use Rattle.cg_group.specs.EachLaws.{Each}
 use Rattle.cg_base.specs.Cuts.{index_in}
 use Rattle.cg_action.specs.declared.action.Action.{Action}
 use Rattle.cg_client.specs.Replica.{Held, Replica}
-use Rattle.cg_agree.specs.World.{Seat, Snapshot, World, has_begun, seat_of, replica_of}
-use Rattle.cg_agree.specs.Step.{joined, snapshot_for}
-use Rattle.cg_agree.specs.Chronicle.{Chronicle}
-use Rattle.cg_agree.specs.Looks.{greens_of, on_disk, snapshot_of, copied_for}
-use Rattle.cg_agree.specs.FactsReplica.{IsCore}
-use Rattle.cg_agree.specs.Played.{Given, StandsBeside}
+use Rattle.cg_model.specs.World.{Seat, Snapshot, World, has_begun, seat_of, replica_of}
+use Rattle.cg_model.specs.Step.{joined, snapshot_for}
+use Rattle.cg_model.specs.Chronicle.{Chronicle}
+use Rattle.cg_model.specs.Looks.{greens_of, on_disk, snapshot_of, copied_for}
+use Rattle.cg_model.specs.FactsReplica.{IsCore}
+use Rattle.cg_model.specs.Played.{Given, StandsBeside}
 use Rattle.cg_agree.proofs.SameSmalls.{as_given, first-given}
 use Rattle.cg_agree.proofs.HandSays.{find-holds}
 use Rattle.cg_agree.proofs.SoundWorlds.{IsSound, sound-same, sound-of}

@@ -16,8 +16,8 @@ use Rattle.cg_client.specs.Requests.{is_creating, next_action, create, create_ke
 use Rattle.cg_client.specs.Summary.{redden, forget_own, own_to_red}
 use Rattle.cg_step.specs.Recorded.{OfMessage}
 use Rattle.cg_step.specs.Step.{Input, Deliveries, Asks, replica_step, take}
-use Rattle.cg_agree.specs.World.{is_left_state}
-use Rattle.cg_agree.specs.FactsReplica.{IsEmptyIn}
+use Rattle.cg_model.specs.World.{is_left_state}
+use Rattle.cg_model.specs.FactsReplica.{IsEmptyIn}
 use Rattle.cg_agree.proofs.TurnValues.{even-own_to_red}
 use Rattle.cg_agree.proofs.TurnRows.{IsRule, OfDelivery, of-deliveries}
 use Rattle.cg_agree.proofs.DiskAhead.{IsUnnoted, IsFurther, OwnRuns, StaysBehind, further-refl, nil-more, stays-rule}

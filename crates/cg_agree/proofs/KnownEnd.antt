@@ -11,9 +11,9 @@ use Rattle.cg_knowledge.specs.Members.{most_updated}
 use Rattle.cg_plan.specs.Items.{items_of_plan}
 use Rattle.cg_plan.specs.Plan.{least_reds, creators, plan_of}
 use Rattle.cg_client.specs.Replica.{Held}
-use Rattle.cg_agree.specs.Chronicle.{Told}
+use Rattle.cg_model.specs.Chronicle.{Told}
 use Rattle.cg_step.specs.Holds.{cut_behind}
-use Rattle.cg_agree.specs.Talk.{known_up_to}
+use Rattle.cg_model.specs.Talk.{known_up_to}
 use Rattle.cg_agree.proofs.KnownBounds.{known-most, most-known, unknown-creator}
 use Rattle.cg_agree.proofs.PlanItems.{plan-within, plan-reaches, plan-greens}
 use Rattle.cg_agree.proofs.PlanProgress.{AreBeside, IsBehind, greens_there, taken-all}

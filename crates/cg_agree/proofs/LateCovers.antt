@@ -38,21 +38,21 @@ use Rattle.cg_agree.proofs.TransKept.{TransAt}
 use Rattle.cg_agree.proofs.TurnKinds.{HasInstalled}
 use Rattle.cg_agree.proofs.TurnParts.{never-both}
 use Rattle.cg_agree.proofs.YellowGrows.{places-keep}
-use Rattle.cg_agree.specs.Chronicle.{Attempt, Chronicle}
-use Rattle.cg_agree.specs.Facts.{Invariant}
-use Rattle.cg_agree.specs.FactsAttempts.{IsAttempt, LevelsStand}
-use Rattle.cg_agree.specs.FactsGreens.{CoversAsYellow, CoversLevel}
-use Rattle.cg_agree.specs.FactsNet.{IsPhase}
-use Rattle.cg_agree.specs.FactsReplica.{IsInPrimary, is_attempting, own_record}
-use Rattle.cg_agree.specs.FactsTalk.{IsStateIn, handed_talk, whole_talk}
-use Rattle.cg_agree.specs.Fronts.{Front}
-use Rattle.cg_agree.specs.Levels.{prim_at}
-use Rattle.cg_agree.specs.Looks.{attempt_at, conf_of, greens_of, is_member, is_regular_at, is_regular_in, members_in, ordered_in, received_outside, said_in, top_of, installation}
-use Rattle.cg_agree.specs.Played.{AtRest}
-use Rattle.cg_agree.specs.Small.{Leaves, leaving, newly_green, small_step, take_all, take_parting, installing}
-use Rattle.cg_agree.specs.Smalls.{ascend_within, hold_received, may_make}
-use Rattle.cg_agree.specs.Talk.{Talk, act_in, acts_in, hears, is_ended, known_up_to, no_talk, state_in, talk_of}
-use Rattle.cg_agree.specs.World.{Up, replica_of, seat_of}
+use Rattle.cg_model.specs.Chronicle.{Attempt, Chronicle}
+use Rattle.cg_model.specs.Facts.{Invariant}
+use Rattle.cg_model.specs.FactsAttempts.{IsAttempt, LevelsStand}
+use Rattle.cg_model.specs.FactsGreens.{CoversAsYellow, CoversLevel}
+use Rattle.cg_model.specs.FactsNet.{IsPhase}
+use Rattle.cg_model.specs.FactsReplica.{IsInPrimary, is_attempting, own_record}
+use Rattle.cg_model.specs.FactsTalk.{IsStateIn, handed_talk, whole_talk}
+use Rattle.cg_model.specs.Fronts.{Front}
+use Rattle.cg_model.specs.Levels.{prim_at}
+use Rattle.cg_model.specs.Looks.{attempt_at, conf_of, greens_of, is_member, is_regular_at, is_regular_in, members_in, ordered_in, received_outside, said_in, top_of, installation}
+use Rattle.cg_model.specs.Played.{AtRest}
+use Rattle.cg_model.specs.Small.{Leaves, leaving, newly_green, small_step, take_all, take_parting, installing}
+use Rattle.cg_model.specs.Smalls.{ascend_within, hold_received, may_make}
+use Rattle.cg_model.specs.Talk.{Talk, act_in, acts_in, hears, is_ended, known_up_to, no_talk, state_in, talk_of}
+use Rattle.cg_model.specs.World.{Up, replica_of, seat_of}
 use Rattle.cg_base.specs.Cuts.{index_in}
 use Rattle.cg_base.specs.Lists.{above_up_to, count_up}
 use Rattle.cg_base.specs.Sets.{has}

@@ -15,9 +15,9 @@ use Rattle.cg_step.specs.RunLaws.{cut_behind-append}
 use Rattle.cg_agree.proofs.StatesSaid.{count-quiet}
 use Rattle.cg_agree.proofs.TurnKinds.{installs-to}
 use Rattle.cg_agree.proofs.TurnValues.{even-mark_yellow}
-use Rattle.cg_agree.specs.FactsReplica.{is_attempting}
-use Rattle.cg_agree.specs.FactsTalk.{count_behind, of_creator}
-use Rattle.cg_agree.specs.Talk.{Talk, act_in, is_announced as all_announced, hears_from, is_ended, known_up_to, may_go_on, may_say}
+use Rattle.cg_model.specs.FactsReplica.{is_attempting}
+use Rattle.cg_model.specs.FactsTalk.{count_behind, of_creator}
+use Rattle.cg_model.specs.Talk.{Talk, act_in, is_announced as all_announced, hears_from, is_ended, known_up_to, may_go_on, may_say}
 use Rattle.cg_base.specs.Cuts.{index_in, raise}
 use Rattle.cg_base.specs.Sets.{is_within, with_member, has}
 use Rattle.cg_base.specs.declared.weighted.Weighted.{Weighted}

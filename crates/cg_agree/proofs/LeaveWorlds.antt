@@ -16,9 +16,9 @@ use Rattle.cg_group.specs.EachLaws.{Each, Each-above, Each-weaker}
 use Rattle.cg_client.specs.Turn.{Turn, begin}
 use Rattle.cg_client.specs.Requests.{settle}
 use Rattle.cg_step.specs.Crash.{Disk}
-use Rattle.cg_agree.specs.World.{World}
-use Rattle.cg_agree.specs.Small.{Leaves, Settles, take_all, take_parting, become_past}
-use Rattle.cg_agree.specs.Smalls.{implies, ascend_within, hold_received, hold_earlier}
+use Rattle.cg_model.specs.World.{World}
+use Rattle.cg_model.specs.Small.{Leaves, Settles, take_all, take_parting, become_past}
+use Rattle.cg_model.specs.Smalls.{implies, ascend_within, hold_received, hold_earlier}
 use Rattle.cg_agree.proofs.Parts.{IsPart}
 use Rattle.cg_agree.proofs.PartsTaken.{part-take_all, part-settle}
 use Rattle.cg_agree.proofs.GroupChanges.{set-twice, sent-dropped}

@@ -1,11 +1,11 @@
 -- What was left to prove of who leaves a primary component: its yellow names begin with those of the row that it has received, and who
 -- installs its attempt in the parting covers its level.
 use Rattle.std.proofs.Common.{◌≡◌, true}
-use Rattle.cg_agree.specs.Chronicle.{Chronicle}
-use Rattle.cg_agree.specs.Facts.{Invariant}
-use Rattle.cg_agree.specs.Played.{AtRest}
-use Rattle.cg_agree.specs.Small.{Small, Starts, Makes, Enters, Orders, Receives, Hands, Leaves, Asks, Settles, Commits, Crashes, Recovers, Copies, Joins}
-use Rattle.cg_agree.specs.Smalls.{may_make}
+use Rattle.cg_model.specs.Chronicle.{Chronicle}
+use Rattle.cg_model.specs.Facts.{Invariant}
+use Rattle.cg_model.specs.Played.{AtRest}
+use Rattle.cg_model.specs.Small.{Small, Starts, Makes, Enters, Orders, Receives, Hands, Leaves, Asks, Settles, Commits, Crashes, Recovers, Copies, Joins}
+use Rattle.cg_model.specs.Smalls.{may_make}
 use Rattle.cg_agree.proofs.LateCovers.{late-covers}
 use Rattle.cg_agree.proofs.LeaverStep.{LeaverLeft}
 use Rattle.cg_agree.proofs.RowYellow.{row-is-yellow}

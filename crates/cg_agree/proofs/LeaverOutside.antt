@@ -11,13 +11,13 @@ use Rattle.cg_action.specs.declared.action.Action.{Action}
 use Rattle.cg_queue.specs.Queue.{names_of}
 use Rattle.cg_wire.specs.declared.message.Msg.{Msg}
 use Rattle.cg_group.specs.State.{Sent}
-use Rattle.cg_agree.specs.Chronicle.{Chronicle}
-use Rattle.cg_agree.specs.Fronts.{Front}
-use Rattle.cg_agree.specs.Looks.{ordered_in, is_regular_in, is_member, received_outside, top_of, attempt_at, installation}
-use Rattle.cg_agree.specs.Talk.{act_in, acts_in}
-use Rattle.cg_agree.specs.Levels.{reach_at}
-use Rattle.cg_agree.specs.FactsAttempts.{LevelsStand}
-use Rattle.cg_agree.specs.FactsGreens.{InstalledCount, CoversLevel}
+use Rattle.cg_model.specs.Chronicle.{Chronicle}
+use Rattle.cg_model.specs.Fronts.{Front}
+use Rattle.cg_model.specs.Looks.{ordered_in, is_regular_in, is_member, received_outside, top_of, attempt_at, installation}
+use Rattle.cg_model.specs.Talk.{act_in, acts_in}
+use Rattle.cg_model.specs.Levels.{reach_at}
+use Rattle.cg_model.specs.FactsAttempts.{LevelsStand}
+use Rattle.cg_model.specs.FactsGreens.{InstalledCount, CoversLevel}
 use Rattle.cg_agree.proofs.FrontFacts.{Front-trans, Front-append, Front-behind, Front-takes, Front-map}
 use Rattle.cg_agree.proofs.LeaverReach.{level-frozen, line_outside, reach-outside}
 use Rattle.cg_agree.proofs.Reach.{acts-front}

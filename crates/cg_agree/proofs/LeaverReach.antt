@@ -5,17 +5,17 @@ use Rattle.std.specs.List.{list_all}
 use Rattle.std.proofs.lemmas.Bool.{cases_Bool, cond_both, or_cases, or_right, not_from_false}
 use Rattle.cg_action.specs.declared.action.Action.{Action}
 use Rattle.cg_group.specs.State.{has_received}
-use Rattle.cg_agree.specs.Chronicle.{Attempt, Chronicle}
-use Rattle.cg_agree.specs.Fronts.{Front}
-use Rattle.cg_agree.specs.Looks.{conf_of, members_in, ordered_in, is_regular_in, is_member, received_by_all, is_received_outside, received_outside, top_of, attempt_at, installation}
-use Rattle.cg_agree.specs.Talk.{acts_in}
-use Rattle.cg_agree.specs.Levels.{reached_in, is_live, bound_in, reach_at, is_frozen, is_frozen_in}
+use Rattle.cg_model.specs.Chronicle.{Attempt, Chronicle}
+use Rattle.cg_model.specs.Fronts.{Front}
+use Rattle.cg_model.specs.Looks.{conf_of, members_in, ordered_in, is_regular_in, is_member, received_by_all, is_received_outside, received_outside, top_of, attempt_at, installation}
+use Rattle.cg_model.specs.Talk.{acts_in}
+use Rattle.cg_model.specs.Levels.{reached_in, is_live, bound_in, reach_at, is_frozen, is_frozen_in}
 use Rattle.cg_agree.proofs.FrontFacts.{Front-behind, Front-take}
 use Rattle.cg_agree.proofs.Reach.{passes, acts-front, acts-more, take-front}
 use Rattle.cg_agree.proofs.ReachFacts.{AreCounted, all-at, all-outside, reached-received, line_in}
 use Rattle.cg_agree.proofs.ReachWorld.{level-counted}
-use Rattle.cg_agree.specs.FactsAttempts.{LevelsStand}
-use Rattle.cg_agree.specs.FactsGreens.{InstalledCount}
+use Rattle.cg_model.specs.FactsAttempts.{LevelsStand}
+use Rattle.cg_model.specs.FactsGreens.{InstalledCount}
 
 module _ (c : Chronicle) (conf p : ℕ) (member : is_member c conf p ≡ true) (out : is_regular_in c conf p ≡ false) where
   -- who is out freezes the configuration

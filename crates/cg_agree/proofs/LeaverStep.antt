@@ -13,19 +13,19 @@ use Rattle.cg_group.specs.declared.phase.Phase.TheVariants.{Regular, Transitiona
 use Rattle.cg_group.specs.State.{Configuration, phase_of, regular_in, configuration, is_regular, delivered_to, has_received, home}
 use Rattle.cg_client.specs.Replica.{Held, State, RegPrim, TransPrim, ExchangeStates, ExchangeActions, Construct, No, Un, NonPrim, Left, Replica}
 use Rattle.cg_client.specs.Turn.{Turn, begin}
-use Rattle.cg_agree.specs.World.{Seat, replica_of, running}
-use Rattle.cg_agree.specs.Chronicle.{Chronicle}
-use Rattle.cg_agree.specs.Fronts.{Front}
-use Rattle.cg_agree.specs.Looks.{greens_of, conf_of, is_regular_at, is_regular_in, is_member, ordered_in, received_outside, attempt_at, installation, top_of}
-use Rattle.cg_agree.specs.Talk.{acts_in}
-use Rattle.cg_agree.specs.Levels.{prim_at}
-use Rattle.cg_agree.specs.FactsNet.{IsPhase}
-use Rattle.cg_agree.specs.FactsReplica.{is_primary}
-use Rattle.cg_agree.specs.FactsGreens.{CoversLevel, CoversAsYellow}
-use Rattle.cg_agree.specs.Facts.{Invariant}
-use Rattle.cg_agree.specs.Played.{AtRest}
-use Rattle.cg_agree.specs.Small.{Small, Starts, Makes, Enters, Orders, Receives, Hands, Leaves, Asks, Settles, Commits, Crashes, Recovers, Copies, Joins, take_parting, leaving, newly_green, small_step}
-use Rattle.cg_agree.specs.Smalls.{may_make, ascend_within, hold_received, hold_earlier}
+use Rattle.cg_model.specs.World.{Seat, replica_of, running}
+use Rattle.cg_model.specs.Chronicle.{Chronicle}
+use Rattle.cg_model.specs.Fronts.{Front}
+use Rattle.cg_model.specs.Looks.{greens_of, conf_of, is_regular_at, is_regular_in, is_member, ordered_in, received_outside, attempt_at, installation, top_of}
+use Rattle.cg_model.specs.Talk.{acts_in}
+use Rattle.cg_model.specs.Levels.{prim_at}
+use Rattle.cg_model.specs.FactsNet.{IsPhase}
+use Rattle.cg_model.specs.FactsReplica.{is_primary}
+use Rattle.cg_model.specs.FactsGreens.{CoversLevel, CoversAsYellow}
+use Rattle.cg_model.specs.Facts.{Invariant}
+use Rattle.cg_model.specs.Played.{AtRest}
+use Rattle.cg_model.specs.Small.{Small, Starts, Makes, Enters, Orders, Receives, Hands, Leaves, Asks, Settles, Commits, Crashes, Recovers, Copies, Joins, take_parting, leaving, newly_green, small_step}
+use Rattle.cg_model.specs.Smalls.{may_make, ascend_within, hold_received, hold_earlier}
 use Rattle.cg_agree.proofs.CoresKept.{greens-turn, held-known}
 use Rattle.cg_agree.proofs.CountsParting.{prim-parting}
 use Rattle.cg_agree.proofs.EntryGreens.{nothing-new}

@@ -20,17 +20,17 @@ use Rattle.cg_client.specs.Turn.{Turn, begin}
 use Rattle.cg_construct.specs.Construct.{attempt_set}
 use Rattle.cg_step.specs.Step.{on_transitional, take as take_one}
 use Rattle.cg_step.specs.Crash.{Disk}
-use Rattle.cg_agree.specs.World.{Up, Seat, seat_of, replica_of, running}
-use Rattle.cg_agree.specs.Chronicle.{Chronicle}
-use Rattle.cg_agree.specs.Looks.{conf_of, members_in, ordered_in}
-use Rattle.cg_agree.specs.Levels.{announced_from, announced_at, lacks_announcement}
-use Rattle.cg_agree.specs.Talk.{Talk, no_talk, hears, hears_from, is_full, is_through, is_ended, is_announced, may_say, may_go_on, announcer_in, state_in}
-use Rattle.cg_agree.specs.FactsAttempts.{AttemptShape}
-use Rattle.cg_agree.specs.FactsNet.{PhaseSound}
-use Rattle.cg_agree.specs.FactsReplica.{HasModeData, IsModeData}
-use Rattle.cg_agree.specs.FactsTalk.{handed_talk, TalkLegal, IsTransitional, IsStateIn, TalkFacts}
-use Rattle.cg_agree.specs.Small.{Leaves, small_step, turning_as, leaving, take_parting}
-use Rattle.cg_agree.specs.Smalls.{may_make, implies, ascend_within, hold_received, hold_earlier}
+use Rattle.cg_model.specs.World.{Up, Seat, seat_of, replica_of, running}
+use Rattle.cg_model.specs.Chronicle.{Chronicle}
+use Rattle.cg_model.specs.Looks.{conf_of, members_in, ordered_in}
+use Rattle.cg_model.specs.Levels.{announced_from, announced_at, lacks_announcement}
+use Rattle.cg_model.specs.Talk.{Talk, no_talk, hears, hears_from, is_full, is_through, is_ended, is_announced, may_say, may_go_on, announcer_in, state_in}
+use Rattle.cg_model.specs.FactsAttempts.{AttemptShape}
+use Rattle.cg_model.specs.FactsNet.{PhaseSound}
+use Rattle.cg_model.specs.FactsReplica.{HasModeData, IsModeData}
+use Rattle.cg_model.specs.FactsTalk.{handed_talk, TalkLegal, IsTransitional, IsStateIn, TalkFacts}
+use Rattle.cg_model.specs.Small.{Leaves, small_step, turning_as, leaving, take_parting}
+use Rattle.cg_model.specs.Smalls.{may_make, implies, ascend_within, hold_received, hold_earlier}
 use Rattle.cg_agree.proofs.CreatesTalk.{grows-all}
 use Rattle.cg_agree.proofs.GroupKept.{leaving-regular}
 use Rattle.cg_agree.proofs.HandNext.{legal-at}

@@ -14,15 +14,15 @@ use Rattle.cg_group.specs.State.{Standing, standing_of, phase_of, regular_in}
 use Rattle.cg_client.specs.Replica.{Held, Replica}
 use Rattle.cg_client.specs.Turn.{Turn, begin}
 use Rattle.cg_client.specs.Requests.{settle}
-use Rattle.cg_agree.specs.World.{Life, Up, Down, Seat, seat_of, replica_of, has_begun}
-use Rattle.cg_agree.specs.Attempts.{new_attempt, is_seen, with_attempt_of}
-use Rattle.cg_agree.specs.Chronicle.{Leaving, Attempt, Chronicle, no_chronicle}
-use Rattle.cg_agree.specs.Looks.{greens_of, stood_of, conf_at, is_at, is_in, ordered_in, snapshot_of}
-use Rattle.cg_agree.specs.FactsNet.{PhaseSound}
-use Rattle.cg_agree.specs.Facts.{Invariant}
-use Rattle.cg_agree.specs.Played.{AtRest}
-use Rattle.cg_agree.specs.Small.{Small, Starts, Makes, Enters, Orders, Receives, Hands, Leaves, Asks, Settles, Commits, Crashes, Recovers, Copies, Joins, small_step, changed_attempt, with_entrant, with_installer, with_leaver, entering, installing, attempts_behind, is_entry, is_installation, newly_green, turning, turning_as, coming, handed_next, leaving, take_newest, take_next, take_parting, take_request, newest_conf, commit_as, crash_as, recover_as, copy_as, join_with}
-use Rattle.cg_agree.specs.Smalls.{may_make, is_running, is_set}
+use Rattle.cg_model.specs.World.{Life, Up, Down, Seat, seat_of, replica_of, has_begun}
+use Rattle.cg_model.specs.Attempts.{new_attempt, is_seen, with_attempt_of}
+use Rattle.cg_model.specs.Chronicle.{Leaving, Attempt, Chronicle, no_chronicle}
+use Rattle.cg_model.specs.Looks.{greens_of, stood_of, conf_at, is_at, is_in, ordered_in, snapshot_of}
+use Rattle.cg_model.specs.FactsNet.{PhaseSound}
+use Rattle.cg_model.specs.Facts.{Invariant}
+use Rattle.cg_model.specs.Played.{AtRest}
+use Rattle.cg_model.specs.Small.{Small, Starts, Makes, Enters, Orders, Receives, Hands, Leaves, Asks, Settles, Commits, Crashes, Recovers, Copies, Joins, small_step, changed_attempt, with_entrant, with_installer, with_leaver, entering, installing, attempts_behind, is_entry, is_installation, newly_green, turning, turning_as, coming, handed_next, leaving, take_newest, take_next, take_parting, take_request, newest_conf, commit_as, crash_as, recover_as, copy_as, join_with}
+use Rattle.cg_model.specs.Smalls.{may_make, is_running, is_set}
 use Rattle.cg_agree.proofs.AttemptsTurn.{at_conf}
 use Rattle.cg_agree.proofs.BegunKept.{nothing-before}
 use Rattle.cg_agree.proofs.GroupKept.{orders-conf, receives-conf, leaving-regular}

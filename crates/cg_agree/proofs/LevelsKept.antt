@@ -19,17 +19,17 @@ use Rattle.cg_client.specs.Install.{weighted, prim_after}
 use Rattle.cg_client.specs.Requests.{settle}
 use Rattle.cg_stored.specs.Stored.{whiten, recover}
 use Rattle.cg_step.specs.Crash.{Disk}
-use Rattle.cg_agree.specs.World.{Life, Up, Down, Seat, seat_of, replica_of, running}
-use Rattle.cg_agree.specs.Chronicle.{Told, Attempt, Chronicle, no_chronicle}
-use Rattle.cg_agree.specs.Looks.{greens_of, conf_at, attempt_of, attempt_at, top_of, snapshot_of, OfCores}
-use Rattle.cg_agree.specs.Fronts.{When, IsSomeWith}
-use Rattle.cg_agree.specs.Levels.{prim_of, prim_at, is_installed}
-use Rattle.cg_agree.specs.FactsReplica.{IsInPrimary, IsCore, is_attempting, own_record}
-use Rattle.cg_agree.specs.FactsExchange.{KnowsLevels}
-use Rattle.cg_agree.specs.FactsAttempts.{LevelsStand, HoldsParts}
-use Rattle.cg_agree.specs.Facts.{Invariant}
-use Rattle.cg_agree.specs.Small.{Small, Starts, Makes, Enters, Orders, Receives, Hands, Leaves, Asks, Settles, Commits, Crashes, Recovers, Copies, Joins, turning_as, turning, newly_green, with_installer, installing, attempts_behind, coming, take_newest, handed_next, take_next, leaving, take_parting, take_request, commit_as, crash_as, recover_as, copy_as, join_with, small_step}
-use Rattle.cg_agree.specs.Smalls.{may_make, is_set}
+use Rattle.cg_model.specs.World.{Life, Up, Down, Seat, seat_of, replica_of, running}
+use Rattle.cg_model.specs.Chronicle.{Told, Attempt, Chronicle, no_chronicle}
+use Rattle.cg_model.specs.Looks.{greens_of, conf_at, attempt_of, attempt_at, top_of, snapshot_of, OfCores}
+use Rattle.cg_model.specs.Fronts.{When, IsSomeWith}
+use Rattle.cg_model.specs.Levels.{prim_of, prim_at, is_installed}
+use Rattle.cg_model.specs.FactsReplica.{IsInPrimary, IsCore, is_attempting, own_record}
+use Rattle.cg_model.specs.FactsExchange.{KnowsLevels}
+use Rattle.cg_model.specs.FactsAttempts.{LevelsStand, HoldsParts}
+use Rattle.cg_model.specs.Facts.{Invariant}
+use Rattle.cg_model.specs.Small.{Small, Starts, Makes, Enters, Orders, Receives, Hands, Leaves, Asks, Settles, Commits, Crashes, Recovers, Copies, Joins, turning_as, turning, newly_green, with_installer, installing, attempts_behind, coming, take_newest, handed_next, take_next, leaving, take_parting, take_request, commit_as, crash_as, recover_as, copy_as, join_with, small_step}
+use Rattle.cg_model.specs.Smalls.{may_make, is_set}
 use Rattle.cg_agree.proofs.SameAttempt.{SameAttempt}
 use Rattle.cg_agree.proofs.ReachWorld.{Opened, opened-attempt, level-kept, levels-kept, when-is}
 use Rattle.cg_agree.proofs.Knowledge.{known-of, some-sender}

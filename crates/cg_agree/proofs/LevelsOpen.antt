@@ -6,15 +6,15 @@ use Rattle.std.proofs.lemmas.Bool.{cases_Bool, cases_eq, cases_order, cond-true,
 use Rattle.cg_base.specs.Sets.{has}
 use Rattle.cg_base.specs.Lists.{at_place}
 use Rattle.cg_client.specs.Replica.{Replica}
-use Rattle.cg_agree.specs.Chronicle.{Attempt, Chronicle}
-use Rattle.cg_agree.specs.Looks.{ordered_in, attempt_of, top_of, received_by_all}
-use Rattle.cg_agree.specs.Fronts.{When, IsSomeWith}
-use Rattle.cg_agree.specs.Levels.{announced_at, is_installed, is_dead}
-use Rattle.cg_agree.specs.FactsReplica.{own_record}
-use Rattle.cg_agree.specs.FactsAttempts.{IsAttempt, InstalledAnnounced, installed_in}
-use Rattle.cg_agree.specs.Facts.{Invariant}
-use Rattle.cg_agree.specs.Small.{Small, small_step, opened_by, with_installer}
-use Rattle.cg_agree.specs.Smalls.{may_make}
+use Rattle.cg_model.specs.Chronicle.{Attempt, Chronicle}
+use Rattle.cg_model.specs.Looks.{ordered_in, attempt_of, top_of, received_by_all}
+use Rattle.cg_model.specs.Fronts.{When, IsSomeWith}
+use Rattle.cg_model.specs.Levels.{announced_at, is_installed, is_dead}
+use Rattle.cg_model.specs.FactsReplica.{own_record}
+use Rattle.cg_model.specs.FactsAttempts.{IsAttempt, InstalledAnnounced, installed_in}
+use Rattle.cg_model.specs.Facts.{Invariant}
+use Rattle.cg_model.specs.Small.{Small, small_step, opened_by, with_installer}
+use Rattle.cg_model.specs.Smalls.{may_make}
 use Rattle.cg_agree.proofs.ReachWorld.{levels-kept, when-is}
 use Rattle.cg_agree.proofs.ReachSteps.{goes_on-kept}
 use Rattle.cg_agree.proofs.ReceivedKept.{received-kept}

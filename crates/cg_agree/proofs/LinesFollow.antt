@@ -14,14 +14,14 @@ use Rattle.cg_client.specs.Replica.{Held, NonPrim, Replica}
 use Rattle.cg_client.specs.Turn.{Turn, begin}
 use Rattle.cg_client.specs.Requests.{settle}
 use Rattle.cg_stored.specs.Stored.{whiten, recover}
-use Rattle.cg_agree.specs.World.{Seat, running, replica_of}
-use Rattle.cg_agree.specs.Step.{joined}
-use Rattle.cg_agree.specs.Chronicle.{Chronicle}
-use Rattle.cg_agree.specs.Looks.{greens_of, stood_of, disk_held, snapshot_of, copied_for, OfCores}
-use Rattle.cg_agree.specs.FactsReplica.{IsLined, IsCore}
-use Rattle.cg_agree.specs.Facts.{Invariant}
-use Rattle.cg_agree.specs.Small.{Small, Starts, Makes, Enters, Orders, Receives, Hands, Leaves, Asks, Settles, Commits, Crashes, Recovers, Copies, Joins, small_step, newly_green, take_newest, take_next, take_parting, take_request, newest_conf}
-use Rattle.cg_agree.specs.Smalls.{may_make}
+use Rattle.cg_model.specs.World.{Seat, running, replica_of}
+use Rattle.cg_model.specs.Step.{joined}
+use Rattle.cg_model.specs.Chronicle.{Chronicle}
+use Rattle.cg_model.specs.Looks.{greens_of, stood_of, disk_held, snapshot_of, copied_for, OfCores}
+use Rattle.cg_model.specs.FactsReplica.{IsLined, IsCore}
+use Rattle.cg_model.specs.Facts.{Invariant}
+use Rattle.cg_model.specs.Small.{Small, Starts, Makes, Enters, Orders, Receives, Hands, Leaves, Asks, Settles, Commits, Crashes, Recovers, Copies, Joins, small_step, newly_green, take_newest, take_next, take_parting, take_request, newest_conf}
+use Rattle.cg_model.specs.Smalls.{may_make}
 use Rattle.cg_agree.proofs.CoresKept.{IsClosed, TurnKeeps}
 use Rattle.cg_agree.proofs.CoresSmall.{StepKeeps, cores-kept, ready-of}
 use Rattle.cg_agree.proofs.GreenMembers.{FollowsGreens, greens-behind, own-same, takes-follow, settles-follow, asks-follow, newly-more}

@@ -12,8 +12,8 @@ use Rattle.cg_members.specs.declared.server.Server.{Server}
 use Rattle.cg_members.specs.Members.{Members}
 use Rattle.cg_members.specs.Listed.{line_of}
 use Rattle.cg_members.specs.Servers.{is_among, is_server, was_ever, with_server, without_server, with_line, after_kind, after_green, after_greens}
-use Rattle.cg_agree.specs.Fronts.{Front}
-use Rattle.cg_agree.specs.FactsReplica.{joins, join_from}
+use Rattle.cg_model.specs.Fronts.{Front}
+use Rattle.cg_model.specs.FactsReplica.{joins, join_from}
 use Rattle.cg_agree.proofs.EverServer.{ever-green, among-raised}
 use Rattle.cg_agree.proofs.LinesTold.{line-with}
 

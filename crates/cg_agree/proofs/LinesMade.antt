@@ -14,14 +14,14 @@ use Rattle.cg_members.specs.Members.{Members}
 use Rattle.cg_members.specs.Listed.{line_of}
 use Rattle.cg_members.specs.Servers.{is_among, is_server, was_ever, white_line, starting, members_of}
 use Rattle.cg_queue.specs.Queue.{names_of}
-use Rattle.cg_agree.specs.World.{has_begun}
-use Rattle.cg_agree.specs.Chronicle.{Chronicle}
-use Rattle.cg_agree.specs.Fronts.{Front, When}
-use Rattle.cg_agree.specs.Looks.{greens_of, stood_of, top_of}
-use Rattle.cg_agree.specs.Levels.{line_at}
+use Rattle.cg_model.specs.World.{has_begun}
+use Rattle.cg_model.specs.Chronicle.{Chronicle}
+use Rattle.cg_model.specs.Fronts.{Front, When}
+use Rattle.cg_model.specs.Looks.{greens_of, stood_of, top_of}
+use Rattle.cg_model.specs.Levels.{line_at}
 use Rattle.cg_client.specs.Replica.{Held}
-use Rattle.cg_agree.specs.FactsExchange.{AreReached}
-use Rattle.cg_agree.specs.FactsReplica.{AreBelow, join_from, IsLined}
+use Rattle.cg_model.specs.FactsExchange.{AreReached}
+use Rattle.cg_model.specs.FactsReplica.{AreBelow, join_from, IsLined}
 use Rattle.cg_agree.proofs.FrontFacts.{Front-of_both}
 use Rattle.cg_step.specs.Holds.{run_on}
 use Rattle.cg_agree.proofs.LinesTold.{JoinsBelow, greens-below, first-lines}

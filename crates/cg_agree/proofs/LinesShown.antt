@@ -16,19 +16,19 @@ use Rattle.cg_report.specs.contracts.line.LinePartialEq.TheImpl.{ghosts as line}
 use Rattle.cg_client.specs.Replica.{Replica}
 use Rattle.cg_client.specs.Queries.{view_of}
 use Rattle.cg_schedule.specs.declared.event.Event.{Event}
-use Rattle.cg_agree.specs.World.{Life, Up, Down, Seat, World, running, seat_of, replica_of}
-use Rattle.cg_agree.specs.Show.{Moved, line_of, up_line, is_news, with_printed, ended}
-use Rattle.cg_agree.specs.Step.{happens, world_step}
-use Rattle.cg_agree.specs.Run.{Step}
-use Rattle.cg_agree.specs.Shown.{lines_in, last_up, position_of, white_of}
-use Rattle.cg_agree.specs.Chronicle.{Chronicle}
-use Rattle.cg_agree.specs.Fronts.{IsSomeWith}
-use Rattle.cg_agree.specs.FactsLists.{IsRising}
-use Rattle.cg_agree.specs.Agreement.{through}
-use Rattle.cg_agree.specs.Noting.{chronicle_step}
-use Rattle.cg_agree.specs.Played.{StandsBeside}
-use Rattle.cg_agree.specs.Telling.{latest, last_line, last_of, printed}
-use Rattle.cg_agree.specs.Touched.{new_lines}
+use Rattle.cg_model.specs.World.{Life, Up, Down, Seat, World, running, seat_of, replica_of}
+use Rattle.cg_model.specs.Show.{Moved, line_of, up_line, is_news, with_printed, ended}
+use Rattle.cg_model.specs.Step.{happens, world_step}
+use Rattle.cg_model.specs.Run.{Step}
+use Rattle.cg_model.specs.Shown.{lines_in, last_up, position_of, white_of}
+use Rattle.cg_model.specs.Chronicle.{Chronicle}
+use Rattle.cg_model.specs.Fronts.{IsSomeWith}
+use Rattle.cg_model.specs.FactsLists.{IsRising}
+use Rattle.cg_model.specs.Agreement.{through}
+use Rattle.cg_model.specs.Noting.{chronicle_step}
+use Rattle.cg_model.specs.Played.{StandsBeside}
+use Rattle.cg_model.specs.Telling.{latest, last_line, last_of, printed}
+use Rattle.cg_model.specs.Touched.{new_lines}
 use Rattle.cg_agree.proofs.PrimaryOne.{IsFoundFrom, found-all}
 use Rattle.cg_agree.proofs.RunForward.{IsStepOf}
 use Rattle.cg_equal.specs.LineLaws.{one-line}

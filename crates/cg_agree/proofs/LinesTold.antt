@@ -11,10 +11,10 @@ use Rattle.cg_members.specs.declared.server.Server.{Server}
 use Rattle.cg_members.specs.Members.{Members}
 use Rattle.cg_members.specs.Listed.{line_of}
 use Rattle.cg_members.specs.Servers.{is_among, is_server, was_ever, first_line, with_server, without_server, with_line, starting, after_kind, after_green, after_greens, members_of}
-use Rattle.cg_agree.specs.Chronicle.{Told}
-use Rattle.cg_agree.specs.Fronts.{When}
-use Rattle.cg_agree.specs.FactsExchange.{AreReached, HasReached}
-use Rattle.cg_agree.specs.FactsReplica.{joins, join_from}
+use Rattle.cg_model.specs.Chronicle.{Told}
+use Rattle.cg_model.specs.Fronts.{When}
+use Rattle.cg_model.specs.FactsExchange.{AreReached, HasReached}
+use Rattle.cg_model.specs.FactsReplica.{joins, join_from}
 use Rattle.cg_agree.proofs.EverServer.{ever-green, among-raised}
 
 -- ---- one line

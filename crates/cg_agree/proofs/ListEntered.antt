@@ -8,16 +8,16 @@ use Rattle.cg_knowledge.specs.declared.summary.Summary.{Summary}
 use Rattle.cg_client.specs.Replica.{Replica}
 use Rattle.cg_client.specs.Install.{valid_yellow}
 use Rattle.cg_client.specs.Queries.{plain_reds}
-use Rattle.cg_agree.specs.World.{replica_of}
-use Rattle.cg_agree.specs.Chronicle.{Told, Attempt, Chronicle}
-use Rattle.cg_agree.specs.Fronts.{IsSomeWith}
-use Rattle.cg_agree.specs.Looks.{greens_of, attempt_of}
-use Rattle.cg_agree.specs.FactsAttempts.{IsAttempt, AreParts, HoldsParts}
-use Rattle.cg_agree.specs.FactsExchange.{best_told}
-use Rattle.cg_agree.specs.FactsReplica.{AreBooked, is_attempting}
-use Rattle.cg_agree.specs.Facts.{Invariant}
-use Rattle.cg_agree.specs.Small.{Hands, with_entrant, with_installer, with_leaver, take_next, handed_next, small_step}
-use Rattle.cg_agree.specs.Smalls.{may_make}
+use Rattle.cg_model.specs.World.{replica_of}
+use Rattle.cg_model.specs.Chronicle.{Told, Attempt, Chronicle}
+use Rattle.cg_model.specs.Fronts.{IsSomeWith}
+use Rattle.cg_model.specs.Looks.{greens_of, attempt_of}
+use Rattle.cg_model.specs.FactsAttempts.{IsAttempt, AreParts, HoldsParts}
+use Rattle.cg_model.specs.FactsExchange.{best_told}
+use Rattle.cg_model.specs.FactsReplica.{AreBooked, is_attempting}
+use Rattle.cg_model.specs.Facts.{Invariant}
+use Rattle.cg_model.specs.Small.{Hands, with_entrant, with_installer, with_leaver, take_next, handed_next, small_step}
+use Rattle.cg_model.specs.Smalls.{may_make}
 use Rattle.cg_agree.proofs.AttemptSteps.{IsHanded, attempt-step}
 use Rattle.cg_agree.proofs.AttemptsCame.{Begins, Came, Stayed, WasLeft, WasEntered, WasInstalled, WasMade, came}
 use Rattle.cg_agree.proofs.BookedParts.{same-booked, booked-left, booked-right}

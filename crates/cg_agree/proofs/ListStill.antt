@@ -17,12 +17,12 @@ use Rattle.cg_client.specs.Install.{actions_named, valid_yellow}
 use Rattle.cg_client.specs.Queries.{plain_reds}
 use Rattle.cg_client.specs.Whitening.{white_at}
 use Rattle.cg_stored.specs.Stored.{whiten}
-use Rattle.cg_agree.specs.World.{replica_of}
-use Rattle.cg_agree.specs.Chronicle.{Attempt, Chronicle}
-use Rattle.cg_agree.specs.Fronts.{When, IsSomeWith}
-use Rattle.cg_agree.specs.Looks.{greens_of, conf_at, attempt_of}
-use Rattle.cg_agree.specs.FactsAttempts.{HoldsParts, AttemptList}
-use Rattle.cg_agree.specs.FactsReplica.{is_attempting}
+use Rattle.cg_model.specs.World.{replica_of}
+use Rattle.cg_model.specs.Chronicle.{Attempt, Chronicle}
+use Rattle.cg_model.specs.Fronts.{When, IsSomeWith}
+use Rattle.cg_model.specs.Looks.{greens_of, conf_at, attempt_of}
+use Rattle.cg_model.specs.FactsAttempts.{HoldsParts, AttemptList}
+use Rattle.cg_model.specs.FactsReplica.{is_attempting}
 use Rattle.cg_agree.proofs.EndCuts.{run-above}
 use Rattle.cg_agree.proofs.ExchangeStill.{OneMoves}
 use Rattle.cg_agree.proofs.HeldMarks.{IsOneself}

@@ -16,13 +16,13 @@ use Rattle.cg_client.specs.Turn.{Turn, begin}
 use Rattle.cg_client.specs.Requests.{settle}
 use Rattle.cg_stored.specs.Stored.{stored_of, whiten}
 use Rattle.cg_step.specs.Crash.{Disk, new_disk, at_rest, recovered, disk_recovered}
-use Rattle.cg_agree.specs.World.{Life, Up, Down, Seat, Snapshot, World, has_begun, seat_of, replica_of, set_life, bring_up}
-use Rattle.cg_agree.specs.Step.{begin_replica, name_also, joined, without_snapshot}
-use Rattle.cg_agree.specs.Chronicle.{Chronicle}
-use Rattle.cg_agree.specs.Looks.{snapshot_of}
-use Rattle.cg_agree.specs.Small.{Small, Starts, Makes, Enters, Orders, Receives, Hands, Leaves, Asks, Settles, Commits, Crashes, Recovers, Copies, Joins, newest_conf, make_configuration, become_past, take_newest, take_next, take_parting, take_request, small_step}
-use Rattle.cg_agree.specs.Smalls.{may_make}
-use Rattle.cg_agree.specs.FactsLists.{IsRising, AreRising, AreReceived, AreForServers, ListFacts}
+use Rattle.cg_model.specs.World.{Life, Up, Down, Seat, Snapshot, World, has_begun, seat_of, replica_of, set_life, bring_up}
+use Rattle.cg_model.specs.Step.{begin_replica, name_also, joined, without_snapshot}
+use Rattle.cg_model.specs.Chronicle.{Chronicle}
+use Rattle.cg_model.specs.Looks.{snapshot_of}
+use Rattle.cg_model.specs.Small.{Small, Starts, Makes, Enters, Orders, Receives, Hands, Leaves, Asks, Settles, Commits, Crashes, Recovers, Copies, Joins, newest_conf, make_configuration, become_past, take_newest, take_next, take_parting, take_request, small_step}
+use Rattle.cg_model.specs.Smalls.{may_make}
+use Rattle.cg_model.specs.FactsLists.{IsRising, AreRising, AreReceived, AreForServers, ListFacts}
 use Rattle.cg_agree.proofs.Standings.{rising-with_member}
 use Rattle.cg_agree.proofs.GroupChanges.{DoRise, rising-set, rising-down, rising-sent, configurations-sent, configurations-down}
 use Rattle.cg_agree.proofs.SeatFacts.{ids-seated}

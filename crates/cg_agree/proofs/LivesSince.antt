@@ -11,13 +11,13 @@ use Rattle.cg_report.specs.declared.line.Line.{Line}
 use Rattle.cg_report.specs.declared.line.UpLine.{UpLine}
 use Rattle.cg_client.specs.Replica.{Replica}
 use Rattle.cg_schedule.specs.declared.event.Event.{Event}
-use Rattle.cg_agree.specs.World.{Seat, World, running, replica_of}
-use Rattle.cg_agree.specs.Show.{line_of, up_line, is_news, ended}
-use Rattle.cg_agree.specs.Step.{happens, world_step}
-use Rattle.cg_agree.specs.Run.{Step}
-use Rattle.cg_agree.specs.Agreement.{is_down_in, is_created_in, lives_since}
-use Rattle.cg_agree.specs.FactsLists.{IsRising}
-use Rattle.cg_agree.specs.Telling.{latest}
+use Rattle.cg_model.specs.World.{Seat, World, running, replica_of}
+use Rattle.cg_model.specs.Show.{line_of, up_line, is_news, ended}
+use Rattle.cg_model.specs.Step.{happens, world_step}
+use Rattle.cg_model.specs.Run.{Step}
+use Rattle.cg_model.specs.Agreement.{is_down_in, is_created_in, lives_since}
+use Rattle.cg_model.specs.FactsLists.{IsRising}
+use Rattle.cg_model.specs.Telling.{latest}
 
 -- ---- lives since
 

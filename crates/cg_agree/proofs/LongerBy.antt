@@ -17,15 +17,15 @@ use Rattle.cg_step.specs.Step.{Input, Deliveries, replica_step}
 use Rattle.cg_step.specs.Crash.{whitened, new_disk}
 use Rattle.cg_schedule.specs.declared.event.Event.{Event}
 use Rattle.cg_schedule.specs.declared.event.Event.TheVariants.{Start, Split, Merge, Request, Weak, Dirty, Order, Recover, Show, ShowOrder, Gather, End, Receive, Deliver, Rounds, Stop, Fail, Join, Leave, Transfer}
-use Rattle.cg_agree.specs.World.{Up, Seat, Snapshot, World, running, has_begun, seat_of, replica_of, bring_up}
-use Rattle.cg_agree.specs.Admission.{first_refusal}
-use Rattle.cg_agree.specs.Show.{ended}
-use Rattle.cg_agree.specs.Run.{MayStand}
-use Rattle.cg_agree.specs.Agreement.{may_move, is_recovery_of}
-use Rattle.cg_agree.specs.Step.{quietly, hand_out, joined, snapshot_for, without_snapshot, with_pieces, take_pieces, transfer, happens, world_step}
-use Rattle.cg_agree.specs.Chronicle.{Chronicle}
-use Rattle.cg_agree.specs.FactsReplica.{is_primary}
-use Rattle.cg_agree.specs.Played.{StandsBeside}
+use Rattle.cg_model.specs.World.{Up, Seat, Snapshot, World, running, has_begun, seat_of, replica_of, bring_up}
+use Rattle.cg_model.specs.Admission.{first_refusal}
+use Rattle.cg_model.specs.Show.{ended}
+use Rattle.cg_model.specs.Run.{MayStand}
+use Rattle.cg_model.specs.Agreement.{may_move, is_recovery_of}
+use Rattle.cg_model.specs.Step.{quietly, hand_out, joined, snapshot_for, without_snapshot, with_pieces, take_pieces, transfer, happens, world_step}
+use Rattle.cg_model.specs.Chronicle.{Chronicle}
+use Rattle.cg_model.specs.FactsReplica.{is_primary}
+use Rattle.cg_model.specs.Played.{StandsBeside}
 use Rattle.cg_agree.proofs.ChronicleFacts.{seat_of-set}
 use Rattle.cg_agree.proofs.CountsGrow.{count_at, SeatEven, even-at, event-counts, unbegun}
 use Rattle.cg_agree.proofs.DiskEnds.{end-cases}

@@ -8,13 +8,13 @@ use Rattle.cg_group.specs.State.{is_up}
 use Rattle.cg_group.specs.Refusals.{refuse, not_up}
 use Rattle.cg_client.specs.Replica.{Replica}
 use Rattle.cg_schedule.specs.declared.event.Event.TheVariants.{Recover, Stop}
-use Rattle.cg_agree.specs.World.{Life, Up, Down, Seat, World, has_begun, seat_of, replica_of}
-use Rattle.cg_agree.specs.Admission.{first_refusal, unknown, has_left, takes_part}
-use Rattle.cg_agree.specs.AdmissionCalls.{already_up}
-use Rattle.cg_agree.specs.Show.{ended}
-use Rattle.cg_agree.specs.Step.{happens, world_step, quietly, crash_at, recover_from}
-use Rattle.cg_agree.specs.Smalls.{may_make, smalls_in}
-use Rattle.cg_agree.specs.Played.{IsSame}
+use Rattle.cg_model.specs.World.{Life, Up, Down, Seat, World, has_begun, seat_of, replica_of}
+use Rattle.cg_model.specs.Admission.{first_refusal, unknown, has_left, takes_part}
+use Rattle.cg_model.specs.AdmissionCalls.{already_up}
+use Rattle.cg_model.specs.Show.{ended}
+use Rattle.cg_model.specs.Step.{happens, world_step, quietly, crash_at, recover_from}
+use Rattle.cg_model.specs.Smalls.{may_make, smalls_in}
+use Rattle.cg_model.specs.Played.{IsSame}
 use Rattle.cg_agree.proofs.UnorderedKept.{first-none, refused-not}
 use Rattle.cg_agree.proofs.MadeQuietly.{IsMadeIn, same-worlds}
 use Rattle.cg_agree.proofs.SmallWorlds.{small_in, may_in, crash_in, recover_in}

@@ -1,13 +1,13 @@
 -- No action stands in the order before it was made.
 use Rattle.std.proofs.Common.{List, Contains, sym, subst}
 use Rattle.cg_base.specs.declared.action_id.ActionId.{ActionId}
-use Rattle.cg_agree.specs.World.{no_world}
-use Rattle.cg_agree.specs.Run.{Step, IsRunFrom, world_after}
-use Rattle.cg_agree.specs.Shown.{order_of, made_names}
-use Rattle.cg_agree.specs.Agreement.{through, CreatorOrder}
-use Rattle.cg_agree.specs.Chronicle.{no_chronicle}
-use Rattle.cg_agree.specs.Noting.{chronicle_after}
-use Rattle.cg_agree.specs.Played.{AlwaysHolds}
+use Rattle.cg_model.specs.World.{no_world}
+use Rattle.cg_model.specs.Run.{Step, IsRunFrom, world_after}
+use Rattle.cg_model.specs.Shown.{order_of, made_names}
+use Rattle.cg_model.specs.Agreement.{through, CreatorOrder}
+use Rattle.cg_model.specs.Chronicle.{no_chronicle}
+use Rattle.cg_model.specs.Noting.{chronicle_after}
+use Rattle.cg_model.specs.Played.{AlwaysHolds}
 use Rattle.cg_agree.proofs.CreatorNumbered.{stands-of, creator-numbered}
 use Rattle.cg_agree.proofs.OrderReached.{ordered-made}
 use Rattle.cg_agree.proofs.OrderTold.{order_told}

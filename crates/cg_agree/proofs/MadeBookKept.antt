@@ -19,18 +19,18 @@ use Rattle.cg_step.specs.Step.{Deliveries, Asks as AsksOf}
 use Rattle.cg_step.specs.Crash.{FailOnce, StopWith, new_disk}
 use Rattle.cg_schedule.specs.declared.event.Event.{Event}
 use Rattle.cg_schedule.specs.declared.event.Event.TheVariants.{Start, Split, Merge, Request, Weak, Dirty, Order, Recover, Show, ShowOrder, Gather, End, Receive, Deliver, Rounds, Stop, Fail, Join, Leave, Transfer}
-use Rattle.cg_agree.specs.World.{Life, Up, Down, Seat, World, no_world, running, has_begun, seat_of, replica_of, bring_up, Snapshot}
-use Rattle.cg_agree.specs.Admission.{first_refusal, takes_part, never_named, joiner_left, not_green}
-use Rattle.cg_agree.specs.AdmissionCalls.{begun_already}
-use Rattle.cg_agree.specs.Show.{ended}
-use Rattle.cg_agree.specs.Run.{MayStand}
-use Rattle.cg_agree.specs.Chronicle.{Chronicle}
-use Rattle.cg_agree.specs.Attempts.{held_in}
-use Rattle.cg_agree.specs.Looks.{greens_of, stood_of, on_disk, disk_held}
-use Rattle.cg_agree.specs.Step.{quietly, ask, name_also, recover_from, joined, snapshot_for, without_snapshot, with_pieces, take_pieces, transfer, happens, world_step}
-use Rattle.cg_agree.specs.FactsBooks.{MadeBook}
-use Rattle.cg_agree.specs.FactsReplica.{IsCore, IsModeData}
-use Rattle.cg_agree.specs.Played.{StandsBeside, with_world}
+use Rattle.cg_model.specs.World.{Life, Up, Down, Seat, World, no_world, running, has_begun, seat_of, replica_of, bring_up, Snapshot}
+use Rattle.cg_model.specs.Admission.{first_refusal, takes_part, never_named, joiner_left, not_green}
+use Rattle.cg_model.specs.AdmissionCalls.{begun_already}
+use Rattle.cg_model.specs.Show.{ended}
+use Rattle.cg_model.specs.Run.{MayStand}
+use Rattle.cg_model.specs.Chronicle.{Chronicle}
+use Rattle.cg_model.specs.Attempts.{held_in}
+use Rattle.cg_model.specs.Looks.{greens_of, stood_of, on_disk, disk_held}
+use Rattle.cg_model.specs.Step.{quietly, ask, name_also, recover_from, joined, snapshot_for, without_snapshot, with_pieces, take_pieces, transfer, happens, world_step}
+use Rattle.cg_model.specs.FactsBooks.{MadeBook}
+use Rattle.cg_model.specs.FactsReplica.{IsCore, IsModeData}
+use Rattle.cg_model.specs.Played.{StandsBeside, with_world}
 use Rattle.cg_agree.proofs.UnorderedKept.{first-none}
 use Rattle.cg_agree.proofs.MadeAlone.{not-refused}
 use Rattle.cg_agree.proofs.MadeSplit.{rising-set-list}

@@ -16,14 +16,14 @@ use Rattle.cg_client.specs.Turn.{Turn, begin}
 use Rattle.cg_step.specs.Step.{Deliveries, replica_step}
 use Rattle.cg_step.specs.Crash.{Disk, Ended, Runs, Crashes as EndsInCrash, end_event}
 use Rattle.cg_schedule.specs.declared.event.Event.TheVariants.{Deliver}
-use Rattle.cg_agree.specs.World.{Up, Seat, World, seat_of, replica_of}
-use Rattle.cg_agree.specs.Admission.{first_refusal, unknown}
-use Rattle.cg_agree.specs.Show.{ended}
-use Rattle.cg_agree.specs.Step.{happens, world_step, quietly, hand}
-use Rattle.cg_agree.specs.Turns.{Taken, turns_of, taken_as}
-use Rattle.cg_agree.specs.Small.{Small, Hands, Settles, take_all}
-use Rattle.cg_agree.specs.Smalls.{may_make, smalls_in, ending, ending_as}
-use Rattle.cg_agree.specs.FactsLists.{IsRising}
+use Rattle.cg_model.specs.World.{Up, Seat, World, seat_of, replica_of}
+use Rattle.cg_model.specs.Admission.{first_refusal, unknown}
+use Rattle.cg_model.specs.Show.{ended}
+use Rattle.cg_model.specs.Step.{happens, world_step, quietly, hand}
+use Rattle.cg_model.specs.Turns.{Taken, turns_of, taken_as}
+use Rattle.cg_model.specs.Small.{Small, Hands, Settles, take_all}
+use Rattle.cg_model.specs.Smalls.{may_make, smalls_in, ending, ending_as}
+use Rattle.cg_model.specs.FactsLists.{IsRising}
 use Rattle.cg_agree.proofs.UnorderedKept.{first-none, refused-not}
 use Rattle.cg_agree.proofs.GroupTurn.{standing-id}
 use Rattle.cg_agree.proofs.GroupChanges.{DoRise, set-self, down-own, sent-waits}

@@ -19,15 +19,15 @@ use Rattle.cg_step.specs.Crash.{FailOnce, StopWith, Strike, at_rest, new_disk}
 use Rattle.cg_schedule.specs.declared.event.Event.{Event}
 use Rattle.cg_schedule.specs.declared.event.Event.TheVariants.{Start, Split, Merge, Request, Weak, Dirty, Order, Recover, Show, ShowOrder, Gather, End, Receive, Deliver, Rounds, Stop, Fail, Join, Leave, Transfer}
 use Rattle.cg_report.specs.declared.entry.Made.{Made}
-use Rattle.cg_agree.specs.World.{Life, Up, Down, Seat, Snapshot, World, seat_of, replica_of, bring_up}
-use Rattle.cg_agree.specs.Show.{Going, ended}
-use Rattle.cg_agree.specs.Run.{MayStand}
-use Rattle.cg_agree.specs.Step.{quietly, hand_to, hand, hand_over, name_also, begin_replica, arm_at, crash_at, recover_from, joined, snapshot_for, without_snapshot, with_pieces, take_pieces, transfer, happens, world_step}
-use Rattle.cg_agree.specs.Chronicle.{Chronicle}
-use Rattle.cg_agree.specs.Looks.{on_disk, disk_held, stood_of}
-use Rattle.cg_agree.specs.FactsLists.{IsRising}
-use Rattle.cg_agree.specs.FactsReplica.{IsCore}
-use Rattle.cg_agree.specs.Played.{StandsBeside}
+use Rattle.cg_model.specs.World.{Life, Up, Down, Seat, Snapshot, World, seat_of, replica_of, bring_up}
+use Rattle.cg_model.specs.Show.{Going, ended}
+use Rattle.cg_model.specs.Run.{MayStand}
+use Rattle.cg_model.specs.Step.{quietly, hand_to, hand, hand_over, name_also, begin_replica, arm_at, crash_at, recover_from, joined, snapshot_for, without_snapshot, with_pieces, take_pieces, transfer, happens, world_step}
+use Rattle.cg_model.specs.Chronicle.{Chronicle}
+use Rattle.cg_model.specs.Looks.{on_disk, disk_held, stood_of}
+use Rattle.cg_model.specs.FactsLists.{IsRising}
+use Rattle.cg_model.specs.FactsReplica.{IsCore}
+use Rattle.cg_model.specs.Played.{StandsBeside}
 use Rattle.cg_agree.proofs.ChronicleFacts.{seat_of-set}
 use Rattle.cg_agree.proofs.MadeSplit.{rising-set-list}
 use Rattle.cg_agree.proofs.RestsBehind.{handed-ids, split-to}

@@ -11,12 +11,12 @@ use Rattle.cg_group.specs.declared.phase.Phase.TheVariants.{Down}
 use Rattle.cg_group.specs.State.{Standing, Configuration, GroupState, no_configuration, standing_of, configuration, phase_of, regular_in, is_regular, home, has_received, set_configuration}
 use Rattle.cg_group.specs.Events.{order_all, receive, receive_all, regulars, gather}
 use Rattle.cg_schedule.specs.declared.event.Event.TheVariants.{Gather}
-use Rattle.cg_agree.specs.World.{World}
-use Rattle.cg_agree.specs.Show.{ended}
-use Rattle.cg_agree.specs.Step.{happens, world_step}
-use Rattle.cg_agree.specs.Small.{Receives}
-use Rattle.cg_agree.specs.Smalls.{missing, order_steps, receive_steps, smalls_in}
-use Rattle.cg_agree.specs.FactsLists.{IsRising}
+use Rattle.cg_model.specs.World.{World}
+use Rattle.cg_model.specs.Show.{ended}
+use Rattle.cg_model.specs.Step.{happens, world_step}
+use Rattle.cg_model.specs.Small.{Receives}
+use Rattle.cg_model.specs.Smalls.{missing, order_steps, receive_steps, smalls_in}
+use Rattle.cg_model.specs.FactsLists.{IsRising}
 use Rattle.cg_agree.proofs.GroupChanges.{DoRise}
 use Rattle.cg_agree.proofs.GatherReceipts.{gets, lacks, IsReached}
 use Rattle.cg_agree.proofs.GatherOrders.{orders-all}

@@ -23,14 +23,14 @@ use Rattle.cg_client.specs.Requests.{settle}
 use Rattle.cg_step.specs.Step.{Deliveries, replica_step}
 use Rattle.cg_step.specs.Crash.{Disk}
 use Rattle.cg_schedule.specs.declared.event.Event.TheVariants.{Merge}
-use Rattle.cg_agree.specs.World.{Seat, World, running, seat_of, replica_of}
-use Rattle.cg_agree.specs.Show.{Going, ended}
-use Rattle.cg_agree.specs.Step.{happens, world_step, quietly, hand_over, hand_out}
-use Rattle.cg_agree.specs.Turns.{turns_of, turns_in, taken}
-use Rattle.cg_agree.specs.Small.{Small, Enters, Settles, make_configuration, newest_conf, take_all, take_newest}
-use Rattle.cg_agree.specs.Smalls.{is_set, is_between, may_come, may_make, smalls_in, ending, turns_as}
-use Rattle.cg_agree.specs.FactsLists.{IsRising}
-use Rattle.cg_agree.specs.Played.{IsSame}
+use Rattle.cg_model.specs.World.{Seat, World, running, seat_of, replica_of}
+use Rattle.cg_model.specs.Show.{Going, ended}
+use Rattle.cg_model.specs.Step.{happens, world_step, quietly, hand_over, hand_out}
+use Rattle.cg_model.specs.Turns.{turns_of, turns_in, taken}
+use Rattle.cg_model.specs.Small.{Small, Enters, Settles, make_configuration, newest_conf, take_all, take_newest}
+use Rattle.cg_model.specs.Smalls.{is_set, is_between, may_come, may_make, smalls_in, ending, turns_as}
+use Rattle.cg_model.specs.FactsLists.{IsRising}
+use Rattle.cg_model.specs.Played.{IsSame}
 use Rattle.cg_agree.proofs.PartsTaken.{part-settle}
 use Rattle.cg_agree.proofs.GroupChanges.{DoRise}
 use Rattle.cg_agree.proofs.MadeQuietly.{IsMadeIn, same-lined, set-is}

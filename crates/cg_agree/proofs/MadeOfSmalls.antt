@@ -16,21 +16,21 @@ use Rattle.cg_client.specs.Replica.{Held, Replica}
 use Rattle.cg_step.specs.Step.{Input, Deliveries, Asks as AsksOf}
 use Rattle.cg_schedule.specs.declared.event.Event.{Event}
 use Rattle.cg_schedule.specs.declared.event.Event.TheVariants.{Start, Split, Merge, Request, Weak, Dirty, Order, Recover, Show, ShowOrder, Gather, End, Receive, Deliver, Rounds, Stop, Fail, Join, Leave, Transfer}
-use Rattle.cg_agree.specs.World.{Seat, running, World, replica_of, left_replicas}
-use Rattle.cg_agree.specs.Admission.{first_refusal, unknown, has_left, takes_part, never_named, joiner_left, not_green}
-use Rattle.cg_agree.specs.AdmissionCalls.{begun_already}
-use Rattle.cg_agree.specs.Run.{MayStand}
-use Rattle.cg_agree.specs.Looks.{told_in, snapshot_of, disk_held}
-use Rattle.cg_agree.specs.Step.{world_step, snapshot_for}
-use Rattle.cg_agree.specs.Chronicle.{Chronicle}
-use Rattle.cg_agree.specs.Turns.{turns_of, taken}
-use Rattle.cg_agree.specs.Small.{Small, Makes, Enters, Orders, Receives, Hands, Asks, Settles, Copies, Joins, small_step}
-use Rattle.cg_agree.specs.Smalls.{is_between, smalls_in, turns_as, ending, leaving_steps, copy_steps, join_steps, gather_steps, missing}
-use Rattle.cg_agree.specs.FactsLists.{IsRising}
-use Rattle.cg_agree.specs.FactsReplica.{IsModeData, GoesOn, IsAsOnDisk}
-use Rattle.cg_agree.specs.Facts.{Invariant}
-use Rattle.cg_agree.specs.Played.{IsSame, IsWritten, MayBeMade, StandsBeside, MadeOfSmalls}
-use Rattle.cg_agree.specs.Noting.{played}
+use Rattle.cg_model.specs.World.{Seat, running, World, replica_of, left_replicas}
+use Rattle.cg_model.specs.Admission.{first_refusal, unknown, has_left, takes_part, never_named, joiner_left, not_green}
+use Rattle.cg_model.specs.AdmissionCalls.{begun_already}
+use Rattle.cg_model.specs.Run.{MayStand}
+use Rattle.cg_model.specs.Looks.{told_in, snapshot_of, disk_held}
+use Rattle.cg_model.specs.Step.{world_step, snapshot_for}
+use Rattle.cg_model.specs.Chronicle.{Chronicle}
+use Rattle.cg_model.specs.Turns.{turns_of, taken}
+use Rattle.cg_model.specs.Small.{Small, Makes, Enters, Orders, Receives, Hands, Asks, Settles, Copies, Joins, small_step}
+use Rattle.cg_model.specs.Smalls.{is_between, smalls_in, turns_as, ending, leaving_steps, copy_steps, join_steps, gather_steps, missing}
+use Rattle.cg_model.specs.FactsLists.{IsRising}
+use Rattle.cg_model.specs.FactsReplica.{IsModeData, GoesOn, IsAsOnDisk}
+use Rattle.cg_model.specs.Facts.{Invariant}
+use Rattle.cg_model.specs.Played.{IsSame, IsWritten, MayBeMade, StandsBeside, MadeOfSmalls}
+use Rattle.cg_model.specs.Noting.{played}
 use Rattle.cg_agree.proofs.Standings.{rising-lower}
 use Rattle.cg_agree.proofs.UnorderedKept.{first-none}
 use Rattle.cg_agree.proofs.MadeQuietly.{IsMadeIn, order-made, receive-made, weak-made, dirty-made, show-made, show_order-made, fail-made, armed-made, start-made}

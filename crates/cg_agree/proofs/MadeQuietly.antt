@@ -14,15 +14,15 @@ use Rattle.cg_group.specs.Refusals.{order_refusal, receive_refusal}
 use Rattle.cg_step.specs.Crash.{Strike, FailOnce, StopWith}
 use Rattle.cg_schedule.specs.declared.event.Event.{Event}
 use Rattle.cg_schedule.specs.declared.event.Event.TheVariants.{Start, Weak, Dirty, Order, Show, ShowOrder, Receive, Fail, Stop}
-use Rattle.cg_agree.specs.World.{Life, Up, Down, Seat, Snapshot, World, no_world, seat_of, replica_of, running}
-use Rattle.cg_agree.specs.Admission.{first_refusal, unknown}
-use Rattle.cg_agree.specs.Show.{ended}
-use Rattle.cg_agree.specs.Step.{happens, world_step, arm, arm_at}
-use Rattle.cg_agree.specs.Looks.{on_disk, disk_held}
-use Rattle.cg_agree.specs.Small.{Starts, Crashes}
-use Rattle.cg_agree.specs.Smalls.{is_set_from, is_set, may_make, smalls_in}
-use Rattle.cg_agree.specs.FactsLists.{IsRising}
-use Rattle.cg_agree.specs.Played.{IsSame, given_for}
+use Rattle.cg_model.specs.World.{Life, Up, Down, Seat, Snapshot, World, no_world, seat_of, replica_of, running}
+use Rattle.cg_model.specs.Admission.{first_refusal, unknown}
+use Rattle.cg_model.specs.Show.{ended}
+use Rattle.cg_model.specs.Step.{happens, world_step, arm, arm_at}
+use Rattle.cg_model.specs.Looks.{on_disk, disk_held}
+use Rattle.cg_model.specs.Small.{Starts, Crashes}
+use Rattle.cg_model.specs.Smalls.{is_set_from, is_set, may_make, smalls_in}
+use Rattle.cg_model.specs.FactsLists.{IsRising}
+use Rattle.cg_model.specs.Played.{IsSame, given_for}
 use Rattle.cg_agree.proofs.UnorderedKept.{first-none}
 use Rattle.cg_agree.proofs.SeatFacts.{put-found, ids-found, running-set, disk-set}
 use Rattle.cg_agree.proofs.SmallWorlds.{small_in, may_in, played_in, MayIn}

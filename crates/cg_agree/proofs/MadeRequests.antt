@@ -14,15 +14,15 @@ use Rattle.cg_step.specs.Step.{Asks as AsksOf, replica_step}
 use Rattle.cg_step.specs.Crash.{Ended, Runs, Crashes as EndsInCrash, end_event}
 use Rattle.cg_schedule.specs.declared.event.Event.{Event}
 use Rattle.cg_schedule.specs.declared.event.Event.TheVariants.{Request, Join, Leave}
-use Rattle.cg_agree.specs.World.{Seat, World, replica_of, is_left}
-use Rattle.cg_agree.specs.Admission.{first_refusal, takes_part, never_named}
-use Rattle.cg_agree.specs.AdmissionCalls.{id_used}
-use Rattle.cg_agree.specs.Show.{Moved, ended}
-use Rattle.cg_agree.specs.Step.{happens, world_step, quietly, hand}
-use Rattle.cg_agree.specs.Turns.{Taken, turns_of, taken, taken_as}
-use Rattle.cg_agree.specs.Small.{Small, Asks, take_request}
-use Rattle.cg_agree.specs.Smalls.{may_make, smalls_in, turns_as, ending, ending_as}
-use Rattle.cg_agree.specs.Played.{IsSame}
+use Rattle.cg_model.specs.World.{Seat, World, replica_of, is_left}
+use Rattle.cg_model.specs.Admission.{first_refusal, takes_part, never_named}
+use Rattle.cg_model.specs.AdmissionCalls.{id_used}
+use Rattle.cg_model.specs.Show.{Moved, ended}
+use Rattle.cg_model.specs.Step.{happens, world_step, quietly, hand}
+use Rattle.cg_model.specs.Turns.{Taken, turns_of, taken, taken_as}
+use Rattle.cg_model.specs.Small.{Small, Asks, take_request}
+use Rattle.cg_model.specs.Smalls.{may_make, smalls_in, turns_as, ending, ending_as}
+use Rattle.cg_model.specs.Played.{IsSame}
 use Rattle.cg_agree.proofs.UnorderedKept.{first-none}
 use Rattle.cg_agree.proofs.MadeQuietly.{IsMadeIn}
 use Rattle.cg_agree.proofs.MadeAlone.{not-refused, TakesPart, takes-part}

@@ -23,14 +23,14 @@ use Rattle.cg_client.specs.Requests.{settle}
 use Rattle.cg_step.specs.Step.{Deliveries, replica_step}
 use Rattle.cg_step.specs.Crash.{Disk}
 use Rattle.cg_schedule.specs.declared.event.Event.TheVariants.{Split}
-use Rattle.cg_agree.specs.World.{World}
-use Rattle.cg_agree.specs.Show.{Going, ended}
-use Rattle.cg_agree.specs.Step.{happens, world_step, quietly, hand, hand_over, hand_out}
-use Rattle.cg_agree.specs.Turns.{turns_of, turns_in, taken}
-use Rattle.cg_agree.specs.Small.{Small, Hands, Leaves, Settles, take_all}
-use Rattle.cg_agree.specs.Smalls.{may_make, ascend_within, hold_received, hold_earlier, smalls_in, leaving_steps, ending, turns_as}
-use Rattle.cg_agree.specs.FactsLists.{IsRising}
-use Rattle.cg_agree.specs.Played.{IsSame}
+use Rattle.cg_model.specs.World.{World}
+use Rattle.cg_model.specs.Show.{Going, ended}
+use Rattle.cg_model.specs.Step.{happens, world_step, quietly, hand, hand_over, hand_out}
+use Rattle.cg_model.specs.Turns.{turns_of, turns_in, taken}
+use Rattle.cg_model.specs.Small.{Small, Hands, Leaves, Settles, take_all}
+use Rattle.cg_model.specs.Smalls.{may_make, ascend_within, hold_received, hold_earlier, smalls_in, leaving_steps, ending, turns_as}
+use Rattle.cg_model.specs.FactsLists.{IsRising}
+use Rattle.cg_model.specs.Played.{IsSame}
 use Rattle.cg_agree.proofs.GroupChanges.{DoRise, placed, sent-dropped}
 use Rattle.cg_agree.proofs.MadeQuietly.{IsMadeIn, same-lined}
 use Rattle.cg_agree.proofs.TurnWorlds.{seated, runs-seated}

@@ -11,8 +11,8 @@ use Rattle.cg_action.specs.declared.action.Action.{Action}
 use Rattle.cg_queue.specs.Queue.{QueueView, names_of}
 use Rattle.cg_client.specs.Replica.{Held, created}
 use Rattle.cg_client.specs.Queries.{plain_reds}
-use Rattle.cg_agree.specs.Chronicle.{Chronicle}
-use Rattle.cg_agree.specs.FactsReplica.{IsCore}
+use Rattle.cg_model.specs.Chronicle.{Chronicle}
+use Rattle.cg_model.specs.FactsReplica.{IsCore}
 use Rattle.cg_step.specs.Holds.{run_on, cut_behind, Rising}
 use Rattle.cg_step.specs.HeldLaws.{created-behind}
 use Rattle.cg_step.specs.CutRaiseLaws.{rising-behind}

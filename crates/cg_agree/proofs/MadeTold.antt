@@ -13,17 +13,17 @@ use Rattle.cg_action.specs.declared.action.Action.{Action}
 use Rattle.cg_queue.specs.Queue.{green_count}
 use Rattle.cg_report.specs.declared.entry.Made.{Made}
 use Rattle.cg_client.specs.Replica.{Replica}
-use Rattle.cg_agree.specs.World.{World, replica_of}
-use Rattle.cg_agree.specs.Show.{Moved}
-use Rattle.cg_agree.specs.Run.{Step}
-use Rattle.cg_agree.specs.Shown.{made_names, made_at, made_from, position_of}
-use Rattle.cg_agree.specs.Telling.{made_of}
-use Rattle.cg_agree.specs.Agreement.{through}
-use Rattle.cg_agree.specs.Chronicle.{Chronicle}
-use Rattle.cg_agree.specs.Noting.{chronicle_step}
-use Rattle.cg_agree.specs.Played.{StandsBeside}
-use Rattle.cg_agree.specs.FactsReplica.{AreBooked}
-use Rattle.cg_agree.specs.Making.{made_of_action}
+use Rattle.cg_model.specs.World.{World, replica_of}
+use Rattle.cg_model.specs.Show.{Moved}
+use Rattle.cg_model.specs.Run.{Step}
+use Rattle.cg_model.specs.Shown.{made_names, made_at, made_from, position_of}
+use Rattle.cg_model.specs.Telling.{made_of}
+use Rattle.cg_model.specs.Agreement.{through}
+use Rattle.cg_model.specs.Chronicle.{Chronicle}
+use Rattle.cg_model.specs.Noting.{chronicle_step}
+use Rattle.cg_model.specs.Played.{StandsBeside}
+use Rattle.cg_model.specs.FactsReplica.{AreBooked}
+use Rattle.cg_model.specs.Making.{made_of_action}
 use Rattle.cg_step.specs.Holds.{run_on, cut_behind}
 use Rattle.cg_step.specs.RunLaws.{cut_behind-append, run_on-append}
 use Rattle.cg_agree.proofs.BookGrows.{IsNamed, named_in}

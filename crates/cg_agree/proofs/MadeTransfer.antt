@@ -9,16 +9,16 @@ use Rattle.cg_group.specs.LookupLaws.{at-cond}
 use Rattle.cg_client.specs.Replica.{Replica}
 use Rattle.cg_step.specs.Crash.{new_disk}
 use Rattle.cg_schedule.specs.declared.event.Event.TheVariants.{Transfer}
-use Rattle.cg_agree.specs.World.{Seat, Snapshot, World, has_begun, seat_of, replica_of, bring_up}
-use Rattle.cg_agree.specs.Admission.{first_refusal, takes_part, never_named, joiner_left, not_green}
-use Rattle.cg_agree.specs.AdmissionCalls.{begun_already}
-use Rattle.cg_agree.specs.Show.{Going, ended}
-use Rattle.cg_agree.specs.Step.{happens, world_step, quietly, joined, snapshot_for, without_snapshot, with_pieces, take_pieces, transfer}
-use Rattle.cg_agree.specs.Looks.{snapshot_of, snapshots_for, disk_held}
-use Rattle.cg_agree.specs.Small.{Small, Copies, Joins}
-use Rattle.cg_agree.specs.Smalls.{may_make, smalls_in, copy_steps, join_steps}
-use Rattle.cg_agree.specs.FactsLists.{AreForServers}
-use Rattle.cg_agree.specs.Played.{IsSame, Given}
+use Rattle.cg_model.specs.World.{Seat, Snapshot, World, has_begun, seat_of, replica_of, bring_up}
+use Rattle.cg_model.specs.Admission.{first_refusal, takes_part, never_named, joiner_left, not_green}
+use Rattle.cg_model.specs.AdmissionCalls.{begun_already}
+use Rattle.cg_model.specs.Show.{Going, ended}
+use Rattle.cg_model.specs.Step.{happens, world_step, quietly, joined, snapshot_for, without_snapshot, with_pieces, take_pieces, transfer}
+use Rattle.cg_model.specs.Looks.{snapshot_of, snapshots_for, disk_held}
+use Rattle.cg_model.specs.Small.{Small, Copies, Joins}
+use Rattle.cg_model.specs.Smalls.{may_make, smalls_in, copy_steps, join_steps}
+use Rattle.cg_model.specs.FactsLists.{AreForServers}
+use Rattle.cg_model.specs.Played.{IsSame, Given}
 use Rattle.cg_agree.proofs.UnorderedKept.{first-none, refused-not}
 use Rattle.cg_agree.proofs.HandSays.{find-holds}
 use Rattle.cg_agree.proofs.MadeQuietly.{IsMadeIn, same-worlds}

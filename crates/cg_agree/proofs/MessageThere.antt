@@ -13,11 +13,11 @@ use Rattle.cg_group.specs.State.{Sent}
 use Rattle.cg_group.specs.LookupLaws.{eqb_comm}
 use Rattle.cg_client.specs.Replica.{Held, created}
 use Rattle.cg_client.specs.Marks.{is_unmade}
-use Rattle.cg_agree.specs.Chronicle.{Told, Chronicle}
-use Rattle.cg_agree.specs.Looks.{core_of, told_in, ordered_in, placed_of, waiting_in, said_in}
-use Rattle.cg_agree.specs.Talk.{action_in}
-use Rattle.cg_agree.specs.FactsReplica.{booked, AreBooked, MadeOnce}
-use Rattle.cg_agree.specs.FactsTalk.{IsContent, AreContents, Content}
+use Rattle.cg_model.specs.Chronicle.{Told, Chronicle}
+use Rattle.cg_model.specs.Looks.{core_of, told_in, ordered_in, placed_of, waiting_in, said_in}
+use Rattle.cg_model.specs.Talk.{action_in}
+use Rattle.cg_model.specs.FactsReplica.{booked, AreBooked, MadeOnce}
+use Rattle.cg_model.specs.FactsTalk.{IsContent, AreContents, Content}
 use Rattle.cg_agree.proofs.HandMarks.{made-so}
 use Rattle.cg_step.specs.Holds.{cut_behind}
 use Rattle.cg_step.specs.RunMarkLaws.{run-names}

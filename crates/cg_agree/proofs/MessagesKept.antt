@@ -15,13 +15,13 @@ use Rattle.cg_client.specs.Replica.{Replica}
 use Rattle.cg_client.specs.Turn.{Turn, begin}
 use Rattle.cg_client.specs.Requests.{settle}
 use Rattle.cg_step.specs.Crash.{Disk, recovered}
-use Rattle.cg_agree.specs.World.{Life, Up, Down, Seat, World, seat_of, has_begun, replica_of}
-use Rattle.cg_agree.specs.Step.{begin_replica}
-use Rattle.cg_agree.specs.Chronicle.{Chronicle}
-use Rattle.cg_agree.specs.Looks.{conf_of, ordered_in, snapshot_of}
-use Rattle.cg_agree.specs.FactsNet.{Seated}
-use Rattle.cg_agree.specs.Small.{Small, Starts, Makes, Enters, Orders, Receives, Hands, Leaves, Asks, Settles, Commits, Crashes, Recovers, Copies, Joins, small_step, turning, turning_as, coming, handed_next, leaving, take_request, take_newest, take_next, take_parting, make_configuration, newest_conf, commit_as, crash_as, recover_as, copy_as, join_with}
-use Rattle.cg_agree.specs.Smalls.{may_make, is_running}
+use Rattle.cg_model.specs.World.{Life, Up, Down, Seat, World, seat_of, has_begun, replica_of}
+use Rattle.cg_model.specs.Step.{begin_replica}
+use Rattle.cg_model.specs.Chronicle.{Chronicle}
+use Rattle.cg_model.specs.Looks.{conf_of, ordered_in, snapshot_of}
+use Rattle.cg_model.specs.FactsNet.{Seated}
+use Rattle.cg_model.specs.Small.{Small, Starts, Makes, Enters, Orders, Receives, Hands, Leaves, Asks, Settles, Commits, Crashes, Recovers, Copies, Joins, small_step, turning, turning_as, coming, handed_next, leaving, take_request, take_newest, take_next, take_parting, make_configuration, newest_conf, commit_as, crash_as, recover_as, copy_as, join_with}
+use Rattle.cg_model.specs.Smalls.{may_make, is_running}
 use Rattle.cg_agree.proofs.GroupKept.{orders-conf, receives-conf, leaving-regular}
 use Rattle.cg_agree.proofs.GroupSound.{GroupSound, made-is}
 use Rattle.cg_agree.proofs.FixedKept.{confs-begun}

@@ -10,17 +10,17 @@ use Rattle.cg_knowledge.specs.declared.summary.Summary.{Summary}
 use Rattle.cg_group.specs.declared.phase.Phase.{Phase}
 use Rattle.cg_group.specs.State.{phase_of}
 use Rattle.cg_client.specs.Replica.{Held, State, RegPrim, TransPrim, ExchangeStates, ExchangeActions, Construct, No, Un, NonPrim, Left, Replica}
-use Rattle.cg_agree.specs.World.{replica_of}
-use Rattle.cg_agree.specs.Attempts.{new_attempt}
-use Rattle.cg_agree.specs.Chronicle.{Attempt, Chronicle}
-use Rattle.cg_agree.specs.Looks.{conf_at, attempt_of, attempt_at}
-use Rattle.cg_agree.specs.Fronts.{IsSomeWith}
-use Rattle.cg_agree.specs.Levels.{is_record_of}
-use Rattle.cg_agree.specs.FactsReplica.{is_attempting, is_primary, HasModeData, IsInAttempt, IsCounted, IsModeData}
-use Rattle.cg_agree.specs.FactsExchange.{IsRecord, HasRecord}
-use Rattle.cg_agree.specs.Facts.{Invariant}
-use Rattle.cg_agree.specs.Small.{Small, small_step, with_leaver, with_entrant, with_installer}
-use Rattle.cg_agree.specs.Smalls.{may_make}
+use Rattle.cg_model.specs.World.{replica_of}
+use Rattle.cg_model.specs.Attempts.{new_attempt}
+use Rattle.cg_model.specs.Chronicle.{Attempt, Chronicle}
+use Rattle.cg_model.specs.Looks.{conf_at, attempt_of, attempt_at}
+use Rattle.cg_model.specs.Fronts.{IsSomeWith}
+use Rattle.cg_model.specs.Levels.{is_record_of}
+use Rattle.cg_model.specs.FactsReplica.{is_attempting, is_primary, HasModeData, IsInAttempt, IsCounted, IsModeData}
+use Rattle.cg_model.specs.FactsExchange.{IsRecord, HasRecord}
+use Rattle.cg_model.specs.Facts.{Invariant}
+use Rattle.cg_model.specs.Small.{Small, small_step, with_leaver, with_entrant, with_installer}
+use Rattle.cg_model.specs.Smalls.{may_make}
 use Rattle.cg_agree.proofs.AttemptsGrow.{grown-leaver}
 use Rattle.cg_agree.proofs.AttemptsTurn.{entrant-has, installer-has}
 use Rattle.cg_agree.proofs.CoresKept.{held-known}

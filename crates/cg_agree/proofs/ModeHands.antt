@@ -17,19 +17,19 @@ use Rattle.cg_group.specs.Events.{delivery_at}
 use Rattle.cg_client.specs.Replica.{Held, State, RegPrim, TransPrim, ExchangeStates, ExchangeActions, Construct, No, Un, NonPrim, Left, Replica}
 use Rattle.cg_client.specs.Turn.{Turn, begin}
 use Rattle.cg_step.specs.Step.{on_message, take}
-use Rattle.cg_agree.specs.World.{replica_of}
-use Rattle.cg_agree.specs.Chronicle.{Attempt, Chronicle}
-use Rattle.cg_agree.specs.Looks.{greens_of, conf_at, members_in, attempt_of, top_of}
-use Rattle.cg_agree.specs.Talk.{Talk, is_full, is_through, is_announced, state_in}
-use Rattle.cg_agree.specs.Attempts.{new_attempt}
-use Rattle.cg_agree.specs.Levels.{prim_at}
-use Rattle.cg_agree.specs.Fronts.{IsSomeWith}
-use Rattle.cg_agree.specs.FactsTalk.{handed_talk}
-use Rattle.cg_agree.specs.FactsReplica.{is_attempting, is_primary, own_record, IsInPrimary, IsInAttempt, HasModeData, IsCounted, is_exchanging}
-use Rattle.cg_agree.specs.FactsExchange.{IsRecord, HasRecord}
-use Rattle.cg_agree.specs.Facts.{Invariant}
-use Rattle.cg_agree.specs.Small.{Hands, newly_green, with_installer, with_entrant, installing, entering, take_all, take_next, small_step}
-use Rattle.cg_agree.specs.Smalls.{may_make}
+use Rattle.cg_model.specs.World.{replica_of}
+use Rattle.cg_model.specs.Chronicle.{Attempt, Chronicle}
+use Rattle.cg_model.specs.Looks.{greens_of, conf_at, members_in, attempt_of, top_of}
+use Rattle.cg_model.specs.Talk.{Talk, is_full, is_through, is_announced, state_in}
+use Rattle.cg_model.specs.Attempts.{new_attempt}
+use Rattle.cg_model.specs.Levels.{prim_at}
+use Rattle.cg_model.specs.Fronts.{IsSomeWith}
+use Rattle.cg_model.specs.FactsTalk.{handed_talk}
+use Rattle.cg_model.specs.FactsReplica.{is_attempting, is_primary, own_record, IsInPrimary, IsInAttempt, HasModeData, IsCounted, is_exchanging}
+use Rattle.cg_model.specs.FactsExchange.{IsRecord, HasRecord}
+use Rattle.cg_model.specs.Facts.{Invariant}
+use Rattle.cg_model.specs.Small.{Hands, newly_green, with_installer, with_entrant, installing, entering, take_all, take_next, small_step}
+use Rattle.cg_model.specs.Smalls.{may_make}
 use Rattle.cg_agree.proofs.HandSays.{find-holds}
 use Rattle.cg_agree.proofs.HeldMarks.{IsOneself}
 use Rattle.cg_agree.proofs.OneselfWorld.{oneself-of}

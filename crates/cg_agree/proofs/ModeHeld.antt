@@ -28,9 +28,9 @@ use Rattle.cg_exchange.specs.ExchangeStates.{is_usable, with_heard}
 use Rattle.cg_exchange.specs.ExchangeActions.{progress, is_next, mark_item, take_item, send_part, go_on}
 use Rattle.cg_exchange.specs.PlanEnd.{take_over, attempt, decide, end_plan}
 use Rattle.cg_step.specs.Step.{on_message, on_regular, take}
-use Rattle.cg_agree.specs.FactsReplica.{is_exchanging}
-use Rattle.cg_agree.specs.Small.{take_newest, newest_conf}
-use Rattle.cg_agree.specs.Smalls.{is_between}
+use Rattle.cg_model.specs.FactsReplica.{is_exchanging}
+use Rattle.cg_model.specs.Small.{take_newest, newest_conf}
+use Rattle.cg_model.specs.Smalls.{is_between}
 
 -- ---- own actions
 

@@ -19,15 +19,15 @@ use Rattle.cg_client.specs.Requests.{settle}
 use Rattle.cg_stored.specs.Stored.{stored_of, whiten, recover}
 use Rattle.cg_step.specs.Crash.{Disk, new_disk, at_rest, recovered, disk_recovered}
 use Rattle.cg_step.specs.Step.{on_transitional, take}
-use Rattle.cg_agree.specs.World.{Life, Up, Down, Seat, World, Snapshot, with_seat, seat_of, replica_of, running, has_begun, is_left}
-use Rattle.cg_agree.specs.Step.{joined, without_snapshot}
-use Rattle.cg_agree.specs.Chronicle.{Attempt, Chronicle, no_chronicle}
-use Rattle.cg_agree.specs.Looks.{greens_of, conf_at, ordered_in, on_disk, attempt_of, top_of, snapshot_of}
-use Rattle.cg_agree.specs.Levels.{prim_at}
-use Rattle.cg_agree.specs.FactsReplica.{is_attempting, is_primary, own_record, IsInPrimary, HasModeData, IsCounted, IsModeData, is_exchanging}
-use Rattle.cg_agree.specs.Facts.{Invariant}
-use Rattle.cg_agree.specs.Small.{Small, Starts, Makes, Enters, Orders, Receives, Hands, Leaves, Asks, Settles, Commits, Crashes, Recovers, Copies, Joins, newly_green, with_installer, installing, turning, take_parting, take_newest, take_next, take_request, coming, handed_next, leaving, commit_as, crash_as, recover_as, copy_as, join_with, newest_conf, start, small_step}
-use Rattle.cg_agree.specs.Smalls.{may_make, may_join, is_running, is_set}
+use Rattle.cg_model.specs.World.{Life, Up, Down, Seat, World, Snapshot, with_seat, seat_of, replica_of, running, has_begun, is_left}
+use Rattle.cg_model.specs.Step.{joined, without_snapshot}
+use Rattle.cg_model.specs.Chronicle.{Attempt, Chronicle, no_chronicle}
+use Rattle.cg_model.specs.Looks.{greens_of, conf_at, ordered_in, on_disk, attempt_of, top_of, snapshot_of}
+use Rattle.cg_model.specs.Levels.{prim_at}
+use Rattle.cg_model.specs.FactsReplica.{is_attempting, is_primary, own_record, IsInPrimary, HasModeData, IsCounted, IsModeData, is_exchanging}
+use Rattle.cg_model.specs.Facts.{Invariant}
+use Rattle.cg_model.specs.Small.{Small, Starts, Makes, Enters, Orders, Receives, Hands, Leaves, Asks, Settles, Commits, Crashes, Recovers, Copies, Joins, newly_green, with_installer, installing, turning, take_parting, take_newest, take_next, take_request, coming, handed_next, leaving, commit_as, crash_as, recover_as, copy_as, join_with, newest_conf, start, small_step}
+use Rattle.cg_model.specs.Smalls.{may_make, may_join, is_running, is_set}
 use Rattle.cg_agree.proofs.ChronicleFacts.{seat_of-set}
 use Rattle.cg_group.specs.LookupLaws.{at-cond}
 use Rattle.cg_agree.proofs.HeldCommit.{recovered-id}

@@ -15,10 +15,10 @@ use Rattle.cg_client.specs.Turn.{Turn, go_to}
 use Rattle.cg_client.specs.Install.{install}
 use Rattle.cg_construct.specs.Construct.{attempt_set, is_announced}
 use Rattle.cg_step.specs.Step.{on_message}
-use Rattle.cg_agree.specs.Chronicle.{Attempt, Chronicle}
-use Rattle.cg_agree.specs.Looks.{conf_at, attempt_of}
-use Rattle.cg_agree.specs.Levels.{is_record_of}
-use Rattle.cg_agree.specs.FactsReplica.{is_attempting, is_primary, own_record, IsInPrimary, IsInAttempt, HasModeData}
+use Rattle.cg_model.specs.Chronicle.{Attempt, Chronicle}
+use Rattle.cg_model.specs.Looks.{conf_at, attempt_of}
+use Rattle.cg_model.specs.Levels.{is_record_of}
+use Rattle.cg_model.specs.FactsReplica.{is_attempting, is_primary, own_record, IsInPrimary, IsInAttempt, HasModeData}
 use Rattle.cg_agree.proofs.HeldMarks.{IsOneself}
 use Rattle.cg_agree.proofs.HeldMessages.{installed-all, no-yellow}
 use Rattle.cg_agree.proofs.TurnValues.{SameValues}

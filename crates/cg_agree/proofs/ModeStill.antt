@@ -4,11 +4,11 @@ use Rattle.std.specs.Prelude.{◌==◌}
 use Rattle.cg_base.specs.Lists.{at_place}
 use Rattle.cg_group.specs.declared.phase.Phase.{Phase}
 use Rattle.cg_client.specs.Replica.{Held, State, RegPrim, TransPrim, ExchangeStates, ExchangeActions, Construct, No, Un, NonPrim, Left}
-use Rattle.cg_agree.specs.Chronicle.{Attempt, Chronicle}
-use Rattle.cg_agree.specs.Looks.{conf_at, attempt_of, attempt_at, top_of}
-use Rattle.cg_agree.specs.FactsReplica.{own_record, IsInPrimary, IsInAttempt, HasModeData}
-use Rattle.cg_agree.specs.FactsAttempts.{LevelsStand}
-use Rattle.cg_agree.specs.Small.{Small, small_step}
+use Rattle.cg_model.specs.Chronicle.{Attempt, Chronicle}
+use Rattle.cg_model.specs.Looks.{conf_at, attempt_of, attempt_at, top_of}
+use Rattle.cg_model.specs.FactsReplica.{own_record, IsInPrimary, IsInAttempt, HasModeData}
+use Rattle.cg_model.specs.FactsAttempts.{LevelsStand}
+use Rattle.cg_model.specs.Small.{Small, small_step}
 use Rattle.cg_agree.proofs.HandSays.{find-holds}
 use Rattle.cg_agree.proofs.SameAttempt.{SameAttempt}
 use Rattle.cg_agree.proofs.ReachWorld.{Opened, opened-at, opened-attempt, levels-kept}

@@ -16,13 +16,13 @@ use Rattle.cg_group.specs.GrownLaws.{Grows-message, Grows-receipt}
 use Rattle.cg_client.specs.Requests.{settle}
 use Rattle.cg_step.specs.Crash.{Disk, recovered}
 use Rattle.cg_client.specs.Replica.{Held, Replica}
-use Rattle.cg_agree.specs.World.{Life, Up, Down as DownLife, Seat, World, running, seat_of, has_begun, replica_of}
-use Rattle.cg_agree.specs.Step.{begin_replica}
-use Rattle.cg_agree.specs.Chronicle.{Chronicle}
-use Rattle.cg_agree.specs.Looks.{conf_of, is_member, on_disk}
-use Rattle.cg_agree.specs.FactsNet.{Seated}
-use Rattle.cg_agree.specs.Small.{Small, Starts, Makes, Enters, Orders, Receives, Hands, Leaves, Asks, Settles, Commits, Crashes, Recovers, Copies, Joins, small_step, take_request, take_newest, take_next, take_parting, coming, handed_next, leaving, commit_as, crash_as, recover_as, copy_as}
-use Rattle.cg_agree.specs.Smalls.{may_make, is_running}
+use Rattle.cg_model.specs.World.{Life, Up, Down as DownLife, Seat, World, running, seat_of, has_begun, replica_of}
+use Rattle.cg_model.specs.Step.{begin_replica}
+use Rattle.cg_model.specs.Chronicle.{Chronicle}
+use Rattle.cg_model.specs.Looks.{conf_of, is_member, on_disk}
+use Rattle.cg_model.specs.FactsNet.{Seated}
+use Rattle.cg_model.specs.Small.{Small, Starts, Makes, Enters, Orders, Receives, Hands, Leaves, Asks, Settles, Commits, Crashes, Recovers, Copies, Joins, small_step, take_request, take_newest, take_next, take_parting, coming, handed_next, leaving, commit_as, crash_as, recover_as, copy_as}
+use Rattle.cg_model.specs.Smalls.{may_make, is_running}
 use Rattle.cg_agree.proofs.FixedKept.{confs-begun}
 use Rattle.cg_agree.proofs.GroupKept.{begins-step, orders-conf, receives-conf, leaving-regular}
 use Rattle.cg_agree.proofs.GroupSound.{GroupSound, same-where_member, members}

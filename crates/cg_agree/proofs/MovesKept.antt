@@ -10,17 +10,17 @@ use Rattle.cg_group.specs.State.{Sent, Configuration}
 use Rattle.cg_group.specs.Events.{with_message, with_receipt}
 use Rattle.cg_group.specs.GrownLaws.{Grows, Grows-message, Grows-receipt}
 use Rattle.cg_client.specs.Requests.{settle}
-use Rattle.cg_agree.specs.World.{has_begun}
-use Rattle.cg_agree.specs.Chronicle.{Chronicle}
-use Rattle.cg_agree.specs.Looks.{conf_of, members_in, ordered_in}
-use Rattle.cg_agree.specs.Talk.{no_talk, talk_of, is_full}
-use Rattle.cg_agree.specs.FactsNet.{Seated}
-use Rattle.cg_agree.specs.FactsTalk.{whole_talk}
-use Rattle.cg_agree.specs.FactsBooks.{ListsGrow}
-use Rattle.cg_agree.specs.Facts.{Invariant, Moves}
-use Rattle.cg_agree.specs.Played.{AtRest, KeptBySmalls}
-use Rattle.cg_agree.specs.Small.{Small, Starts, Makes, Enters, Orders, Receives, Hands, Leaves, Asks, Settles, Commits, Crashes, Recovers, Copies, Joins, small_step, take_request}
-use Rattle.cg_agree.specs.Smalls.{may_make, is_running}
+use Rattle.cg_model.specs.World.{has_begun}
+use Rattle.cg_model.specs.Chronicle.{Chronicle}
+use Rattle.cg_model.specs.Looks.{conf_of, members_in, ordered_in}
+use Rattle.cg_model.specs.Talk.{no_talk, talk_of, is_full}
+use Rattle.cg_model.specs.FactsNet.{Seated}
+use Rattle.cg_model.specs.FactsTalk.{whole_talk}
+use Rattle.cg_model.specs.FactsBooks.{ListsGrow}
+use Rattle.cg_model.specs.Facts.{Invariant, Moves}
+use Rattle.cg_model.specs.Played.{AtRest, KeptBySmalls}
+use Rattle.cg_model.specs.Small.{Small, Starts, Makes, Enters, Orders, Receives, Hands, Leaves, Asks, Settles, Commits, Crashes, Recovers, Copies, Joins, small_step, take_request}
+use Rattle.cg_model.specs.Smalls.{may_make, is_running}
 use Rattle.cg_agree.proofs.FixedKept.{confs-begun}
 use Rattle.cg_agree.proofs.GroupKept.{orders-conf, receives-conf, leaving-regular}
 use Rattle.cg_agree.proofs.GroupSound.{GroupSound, ConfStep, made-is}

@@ -6,7 +6,7 @@ use Rattle.cg_base.specs.declared.action_id.ActionId.{ActionId}
 use Rattle.cg_base.specs.Cuts.{index_in, raise}
 use Rattle.cg_base.specs.Ids.{same_id, names}
 use Rattle.cg_base.specs.IdLaws.{same_id-is}
-use Rattle.cg_agree.specs.Fronts.{Front}
+use Rattle.cg_model.specs.Fronts.{Front}
 use Rattle.cg_step.specs.Holds.{run_on, cut_behind, Rising}
 use Rattle.cg_agree.proofs.FrontFacts.{Front-of_both, Front-append}
 use Rattle.cg_step.specs.CutRaiseLaws.{index-same, index-rises, rising-raise}

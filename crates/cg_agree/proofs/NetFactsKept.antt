@@ -1,10 +1,10 @@
 -- Every small step keeps the net facts: each of them, from the whole invariant.
 use Rattle.std.proofs.Common.{◌≡◌, true}
-use Rattle.cg_agree.specs.Chronicle.{Chronicle}
-use Rattle.cg_agree.specs.Facts.{Invariant}
-use Rattle.cg_agree.specs.FactsNet.{MembersBegun, ReceiptsFixed, Seated, NetFacts}
-use Rattle.cg_agree.specs.Small.{Small, small_step}
-use Rattle.cg_agree.specs.Smalls.{may_make}
+use Rattle.cg_model.specs.Chronicle.{Chronicle}
+use Rattle.cg_model.specs.Facts.{Invariant}
+use Rattle.cg_model.specs.FactsNet.{MembersBegun, ReceiptsFixed, Seated, NetFacts}
+use Rattle.cg_model.specs.Small.{Small, small_step}
+use Rattle.cg_model.specs.Smalls.{may_make}
 use Rattle.cg_agree.proofs.BegunKept.{members_begun-kept}
 use Rattle.cg_agree.proofs.FixedKept.{receipts_fixed-kept}
 use Rattle.cg_agree.proofs.GroupKept.{group-kept}

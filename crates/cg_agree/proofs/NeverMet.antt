@@ -13,16 +13,16 @@ use Rattle.cg_group.specs.Events.{deliveries_at}
 use Rattle.cg_group.specs.State.{Configuration, GroupState, Sent, configuration, home, delivered_to, is_regular, phase_of, regular_in}
 use Rattle.cg_client.specs.Replica.{Held, Replica}
 use Rattle.cg_client.specs.Turn.{begin}
-use Rattle.cg_agree.specs.World.{replica_of}
-use Rattle.cg_agree.specs.Chronicle.{Chronicle}
-use Rattle.cg_agree.specs.Facts.{Invariant}
-use Rattle.cg_agree.specs.FactsReplica.{IsCore, is_exchanging}
-use Rattle.cg_agree.specs.Looks.{greens_of, stood_of, disk_held, conf_of, members_in, ordered_in}
-use Rattle.cg_agree.specs.Played.{MayBeMade}
-use Rattle.cg_agree.specs.Small.{Small, Starts, Makes, Enters, Orders, Receives, Hands, Leaves, Asks, Settles, Commits, Crashes, Recovers, Copies, Joins, small_step}
-use Rattle.cg_agree.specs.Smalls.{may_make, smalls_in, ascend_within, hold_received, hold_earlier}
-use Rattle.cg_agree.specs.Talk.{Talk, no_talk, talk_of, may_go_on, may_say}
-use Rattle.cg_agree.specs.Total.{can_be_used, AreUsable, IsUsed, CanRedden, AreTakenLeaving, MeetsNone, MeetNone, NeverMet}
+use Rattle.cg_model.specs.World.{replica_of}
+use Rattle.cg_model.specs.Chronicle.{Chronicle}
+use Rattle.cg_model.specs.Facts.{Invariant}
+use Rattle.cg_model.specs.FactsReplica.{IsCore, is_exchanging}
+use Rattle.cg_model.specs.Looks.{greens_of, stood_of, disk_held, conf_of, members_in, ordered_in}
+use Rattle.cg_model.specs.Played.{MayBeMade}
+use Rattle.cg_model.specs.Small.{Small, Starts, Makes, Enters, Orders, Receives, Hands, Leaves, Asks, Settles, Commits, Crashes, Recovers, Copies, Joins, small_step}
+use Rattle.cg_model.specs.Smalls.{may_make, smalls_in, ascend_within, hold_received, hold_earlier}
+use Rattle.cg_model.specs.Talk.{Talk, no_talk, talk_of, may_go_on, may_say}
+use Rattle.cg_model.specs.Total.{can_be_used, AreUsable, IsUsed, CanRedden, AreTakenLeaving, MeetsNone, MeetNone, NeverMet}
 use Rattle.cg_agree.proofs.GroupKept.{leaving-regular}
 use Rattle.cg_agree.proofs.HandNext.{legal-at}
 use Rattle.cg_agree.proofs.HandsMeet.{hands-used}

@@ -7,12 +7,12 @@ use Rattle.cg_base.specs.Sets.{has}
 use Rattle.cg_base.specs.Weights.{ids}
 use Rattle.cg_members.specs.Members.{Members}
 use Rattle.cg_client.specs.Install.{weighted}
-use Rattle.cg_agree.specs.Chronicle.{Attempt, Chronicle}
-use Rattle.cg_agree.specs.Fronts.{IsSomeWith}
-use Rattle.cg_agree.specs.Looks.{attempt_of, attempt_at, top_of, told_in, members_in, is_member, is_regular_in}
-use Rattle.cg_agree.specs.Levels.{prim_at, prim_of, is_installed, is_frozen, is_frozen_in}
-use Rattle.cg_agree.specs.FactsTalk.{whole_talk}
-use Rattle.cg_agree.specs.FactsAttempts.{IsAttempt}
+use Rattle.cg_model.specs.Chronicle.{Attempt, Chronicle}
+use Rattle.cg_model.specs.Fronts.{IsSomeWith}
+use Rattle.cg_model.specs.Looks.{attempt_of, attempt_at, top_of, told_in, members_in, is_member, is_regular_in}
+use Rattle.cg_model.specs.Levels.{prim_at, prim_of, is_installed, is_frozen, is_frozen_in}
+use Rattle.cg_model.specs.FactsTalk.{whole_talk}
+use Rattle.cg_model.specs.FactsAttempts.{IsAttempt}
 use Rattle.cg_agree.proofs.ClearedDead.{IsToldIn, each-told, regular-in}
 use Rattle.cg_agree.proofs.DeadKept.{remaining-senders}
 use Rattle.cg_agree.proofs.HandSays.{find-holds}

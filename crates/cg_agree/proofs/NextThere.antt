@@ -12,11 +12,11 @@ use Rattle.cg_group.specs.declared.reason.Reason.TheVariants.{EarlierMissing}
 use Rattle.cg_group.specs.State.{Standing, GroupState, standing_of, phase_of, is_regular, regular_in, delivered_to, home, configuration, has_received}
 use Rattle.cg_group.specs.Refusals.{sender_at, is_missing, receive_refusal, not_up, not_regular, no_such_place, already_received, earlier_missing}
 use Rattle.cg_group.specs.PlaceLaws.{at_place-past}
-use Rattle.cg_agree.specs.Chronicle.{Chronicle}
-use Rattle.cg_agree.specs.Looks.{conf_of, members_in, ordered_in}
-use Rattle.cg_agree.specs.FactsNet.{PhaseSound, IsPhase}
-use Rattle.cg_agree.specs.Small.{Orders, Receives}
-use Rattle.cg_agree.specs.Smalls.{may_make}
+use Rattle.cg_model.specs.Chronicle.{Chronicle}
+use Rattle.cg_model.specs.Looks.{conf_of, members_in, ordered_in}
+use Rattle.cg_model.specs.FactsNet.{PhaseSound, IsPhase}
+use Rattle.cg_model.specs.Small.{Orders, Receives}
+use Rattle.cg_model.specs.Smalls.{may_make}
 use Rattle.cg_agree.proofs.ConfSound.{nothing-missing}
 use Rattle.cg_agree.proofs.GroupTurn.{standing-id}
 use Rattle.cg_agree.proofs.HandsKept.{regular-phase}

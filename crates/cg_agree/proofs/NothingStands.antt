@@ -4,18 +4,18 @@ use Rattle.cg_base.specs.Sets.{has}
 use Rattle.cg_knowledge.specs.Members.{senders, remaining}
 use Rattle.cg_wire.specs.declared.message.Msg.{Msg}
 use Rattle.cg_group.specs.State.{Sent, Configuration, configuration, no_configuration, standing_of, has_received}
-use Rattle.cg_agree.specs.World.{no_world}
-use Rattle.cg_agree.specs.Chronicle.{Told, no_chronicle}
-use Rattle.cg_agree.specs.Looks.{conf_of, members_in, ordered_in, placed_of, waiting_in, said_in, is_regular_in}
-use Rattle.cg_agree.specs.Talk.{talk_of, no_talk, is_legal, announcer_in, act_in, action_in}
-use Rattle.cg_agree.specs.FactsNet.{NetFacts}
-use Rattle.cg_agree.specs.FactsTalk.{AreTold, whole_talk, TalkFacts}
-use Rattle.cg_agree.specs.FactsReplica.{AreBooked, ReplicaFacts}
-use Rattle.cg_agree.specs.FactsExchange.{ExchangeFacts}
-use Rattle.cg_agree.specs.FactsAttempts.{AttemptFacts}
-use Rattle.cg_agree.specs.FactsGreens.{GreenFacts}
-use Rattle.cg_agree.specs.Facts.{Invariant, Rests}
-use Rattle.cg_agree.specs.Played.{StandsBeside, with_world}
+use Rattle.cg_model.specs.World.{no_world}
+use Rattle.cg_model.specs.Chronicle.{Told, no_chronicle}
+use Rattle.cg_model.specs.Looks.{conf_of, members_in, ordered_in, placed_of, waiting_in, said_in, is_regular_in}
+use Rattle.cg_model.specs.Talk.{talk_of, no_talk, is_legal, announcer_in, act_in, action_in}
+use Rattle.cg_model.specs.FactsNet.{NetFacts}
+use Rattle.cg_model.specs.FactsTalk.{AreTold, whole_talk, TalkFacts}
+use Rattle.cg_model.specs.FactsReplica.{AreBooked, ReplicaFacts}
+use Rattle.cg_model.specs.FactsExchange.{ExchangeFacts}
+use Rattle.cg_model.specs.FactsAttempts.{AttemptFacts}
+use Rattle.cg_model.specs.FactsGreens.{GreenFacts}
+use Rattle.cg_model.specs.Facts.{Invariant, Rests}
+use Rattle.cg_model.specs.Played.{StandsBeside, with_world}
 
 -- ---- no configuration is made
 

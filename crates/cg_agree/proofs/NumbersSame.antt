@@ -7,10 +7,10 @@ use Rattle.cg_wire.specs.declared.message.Msg.{Msg}
 use Rattle.cg_group.specs.declared.phase.Phase.{Phase}
 use Rattle.cg_group.specs.declared.phase.Phase.TheVariants.{Down, Alone, Regular, Transitional}
 use Rattle.cg_client.specs.Replica.{Held, State, RegPrim, TransPrim, ExchangeStates, ExchangeActions, Construct, No, Un, NonPrim, Left, Replica}
-use Rattle.cg_agree.specs.Chronicle.{Chronicle}
-use Rattle.cg_agree.specs.Looks.{said_in}
-use Rattle.cg_agree.specs.Talk.{Talk, act_in}
-use Rattle.cg_agree.specs.FactsTalk.{handed_talk, AreContents, of_creator, count_behind, AreOnTheWay, AreNumbered, AreNumberedAt}
+use Rattle.cg_model.specs.Chronicle.{Chronicle}
+use Rattle.cg_model.specs.Looks.{said_in}
+use Rattle.cg_model.specs.Talk.{Talk, act_in}
+use Rattle.cg_model.specs.FactsTalk.{handed_talk, AreContents, of_creator, count_behind, AreOnTheWay, AreNumbered, AreNumberedAt}
 
 -- two that hold the same numbers
 pub record SameNumbers (h i : Held) : Type 0 where

@@ -18,18 +18,18 @@ use Rattle.cg_knowledge.specs.Verdict.{decides, all_cleared}
 use Rattle.cg_wire.specs.declared.message.Msg.{Msg}
 use Rattle.cg_group.specs.State.{Sent, has_received}
 use Rattle.cg_client.specs.Replica.{Replica}
-use Rattle.cg_agree.specs.Chronicle.{Told, Attempt, Chronicle}
-use Rattle.cg_agree.specs.Looks.{told_in, attempt_of, ordered_in, placed_of, waiting_in, is_regular_in, conf_of}
-use Rattle.cg_agree.specs.Fronts.{IsSomeWith}
-use Rattle.cg_agree.specs.Talk.{announcer_in}
-use Rattle.cg_agree.specs.Levels.{prim_at, announced_at, announced_from, lacks_announcement, is_out_lacking, is_installed, is_live, is_dead, is_record_of}
-use Rattle.cg_agree.specs.FactsTalk.{whole_talk}
-use Rattle.cg_agree.specs.FactsExchange.{IsRecord, HasRecord, KnowsLevels}
-use Rattle.cg_agree.specs.FactsAttempts.{IsAttempt, OneAttempt, entered_in}
-use Rattle.cg_agree.specs.FactsReplica.{has_entered}
-use Rattle.cg_agree.specs.Facts.{Invariant}
-use Rattle.cg_agree.specs.Small.{Small, small_step}
-use Rattle.cg_agree.specs.Smalls.{may_make}
+use Rattle.cg_model.specs.Chronicle.{Told, Attempt, Chronicle}
+use Rattle.cg_model.specs.Looks.{told_in, attempt_of, ordered_in, placed_of, waiting_in, is_regular_in, conf_of}
+use Rattle.cg_model.specs.Fronts.{IsSomeWith}
+use Rattle.cg_model.specs.Talk.{announcer_in}
+use Rattle.cg_model.specs.Levels.{prim_at, announced_at, announced_from, lacks_announcement, is_out_lacking, is_installed, is_live, is_dead, is_record_of}
+use Rattle.cg_model.specs.FactsTalk.{whole_talk}
+use Rattle.cg_model.specs.FactsExchange.{IsRecord, HasRecord, KnowsLevels}
+use Rattle.cg_model.specs.FactsAttempts.{IsAttempt, OneAttempt, entered_in}
+use Rattle.cg_model.specs.FactsReplica.{has_entered}
+use Rattle.cg_model.specs.Facts.{Invariant}
+use Rattle.cg_model.specs.Small.{Small, small_step}
+use Rattle.cg_model.specs.Smalls.{may_make}
 use Rattle.cg_agree.proofs.HandSays.{find-holds}
 use Rattle.cg_agree.proofs.ReachSteps.{goes_on-kept}
 use Rattle.cg_agree.proofs.FixedKept.{receipts_fixed-kept}

@@ -2,13 +2,13 @@
 use Rattle.std.proofs.Common.{◌≡◌, ℕ, suc, ◌+◌, ◌-◌, ◌≤◌, ◌<◌, List, ◌++◌, length, take, sym, ⊎_elim, subst, arith}
 use Rattle.std.proofs.lemmas.Bool.{cases_eq, cases_lt}
 use Rattle.cg_action.specs.declared.action.Action.{Action}
-use Rattle.cg_agree.specs.Chronicle.{Chronicle}
-use Rattle.cg_agree.specs.Fronts.{Front}
-use Rattle.cg_agree.specs.Looks.{attempt_at, top_of, installation, ordered_in}
-use Rattle.cg_agree.specs.Talk.{acts_in}
-use Rattle.cg_agree.specs.Levels.{bound_at, line_at, reach_at, reached_at}
-use Rattle.cg_agree.specs.FactsAttempts.{LevelsStand}
-use Rattle.cg_agree.specs.FactsGreens.{InstalledCount, Spine}
+use Rattle.cg_model.specs.Chronicle.{Chronicle}
+use Rattle.cg_model.specs.Fronts.{Front}
+use Rattle.cg_model.specs.Looks.{attempt_at, top_of, installation, ordered_in}
+use Rattle.cg_model.specs.Talk.{acts_in}
+use Rattle.cg_model.specs.Levels.{bound_at, line_at, reach_at, reached_at}
+use Rattle.cg_model.specs.FactsAttempts.{LevelsStand}
+use Rattle.cg_model.specs.FactsGreens.{InstalledCount, Spine}
 use Rattle.cg_agree.proofs.FrontFacts.{Front-trans, Front-takes, Front-append, Front-behind, Front-length, take-Front, Front-take}
 use Rattle.cg_agree.proofs.Reach.{acts-front}
 use Rattle.cg_agree.proofs.ReachWorld.{act-bound, chain-installed}

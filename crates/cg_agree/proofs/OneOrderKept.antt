@@ -5,15 +5,15 @@ use Rattle.cg_client.specs.Replica.{Replica}
 use Rattle.cg_client.specs.Turn.{Turn, begin}
 use Rattle.cg_client.specs.Requests.{settle}
 use Rattle.cg_step.specs.Crash.{Disk}
-use Rattle.cg_agree.specs.World.{Up, Snapshot, seat_of}
-use Rattle.cg_agree.specs.Chronicle.{Chronicle}
-use Rattle.cg_agree.specs.Looks.{greens_of, snapshot_of, copied_for}
-use Rattle.cg_agree.specs.FactsAttempts.{LevelsStand, LeftOut, YellowValid}
-use Rattle.cg_agree.specs.FactsGreens.{PrimaryGreens, InstalledCount, Spine, OneOrder}
-use Rattle.cg_agree.specs.Facts.{Invariant}
-use Rattle.cg_agree.specs.Played.{AtRest}
-use Rattle.cg_agree.specs.Small.{Small, Starts, Makes, Enters, Orders, Receives, Hands, Leaves, Asks, Settles, Commits, Crashes, Recovers, Copies, Joins, small_step, turning, newly_green, coming, handed_next, leaving, take_newest, take_next, take_parting, take_request}
-use Rattle.cg_agree.specs.Smalls.{may_make}
+use Rattle.cg_model.specs.World.{Up, Snapshot, seat_of}
+use Rattle.cg_model.specs.Chronicle.{Chronicle}
+use Rattle.cg_model.specs.Looks.{greens_of, snapshot_of, copied_for}
+use Rattle.cg_model.specs.FactsAttempts.{LevelsStand, LeftOut, YellowValid}
+use Rattle.cg_model.specs.FactsGreens.{PrimaryGreens, InstalledCount, Spine, OneOrder}
+use Rattle.cg_model.specs.Facts.{Invariant}
+use Rattle.cg_model.specs.Played.{AtRest}
+use Rattle.cg_model.specs.Small.{Small, Starts, Makes, Enters, Orders, Receives, Hands, Leaves, Asks, Settles, Commits, Crashes, Recovers, Copies, Joins, small_step, turning, newly_green, coming, handed_next, leaving, take_newest, take_next, take_parting, take_request}
+use Rattle.cg_model.specs.Smalls.{may_make}
 use Rattle.cg_agree.proofs.CoresKept.{IsClosed, cores-weaker, greens-turn}
 use Rattle.cg_agree.proofs.CoresSmall.{StepKeeps, cores-kept, ready-of}
 use Rattle.cg_agree.proofs.FactsKept.{attempt-now}

@@ -14,22 +14,22 @@ use Rattle.cg_knowledge.specs.Verdict.{decides}
 use Rattle.cg_group.specs.declared.phase.Phase.TheVariants.{Regular}
 use Rattle.cg_group.specs.State.{phase_of, delivered_to}
 use Rattle.cg_client.specs.Replica.{Held, State, RegPrim, TransPrim, ExchangeStates, ExchangeActions, Construct, No, Un, NonPrim, Left, Replica}
-use Rattle.cg_agree.specs.Attempts.{held_in}
-use Rattle.cg_agree.specs.World.{Seat, seat_of, replica_of}
-use Rattle.cg_agree.specs.Chronicle.{Past, Told, Attempt, Chronicle}
-use Rattle.cg_agree.specs.Fronts.{Front, When, IsSomeWith}
-use Rattle.cg_agree.specs.Looks.{past_of, greens_of, stood_of, conf_at, is_at, is_in, is_regular_at, is_regular_in, told_in, disk_held, core_of, ordered_in, attempt_of, attempt_at, top_of, installation, left_count, on_disk}
-use Rattle.cg_agree.specs.Talk.{Talk, is_full, is_through, is_announced, acts_in, state_in}
-use Rattle.cg_agree.specs.Levels.{line_at, count_in, reached_at, reach_at, prim_at, is_installed}
-use Rattle.cg_agree.specs.FactsReplica.{is_attempting, is_primary, HasModeData, IsCounted, IsModeData}
-use Rattle.cg_agree.specs.FactsExchange.{IsOutdone, IsInExchange, IsUnmoved, IsGoingOn, HasTakenOver, best_told, greens_behind}
-use Rattle.cg_agree.specs.FactsAttempts.{IsAttempt, HoldsParts, LevelsStand, LeftOut, YellowValid}
-use Rattle.cg_agree.specs.FactsTalk.{handed_talk, whole_talk}
-use Rattle.cg_agree.specs.FactsGreens.{IsHandedGreen, IsOnLine, PrimaryGreens, InstalledCount, Spine}
-use Rattle.cg_agree.specs.Facts.{Invariant}
-use Rattle.cg_agree.specs.Played.{AtRest}
-use Rattle.cg_agree.specs.Small.{Small, Hands, small_step}
-use Rattle.cg_agree.specs.Smalls.{may_make}
+use Rattle.cg_model.specs.Attempts.{held_in}
+use Rattle.cg_model.specs.World.{Seat, seat_of, replica_of}
+use Rattle.cg_model.specs.Chronicle.{Past, Told, Attempt, Chronicle}
+use Rattle.cg_model.specs.Fronts.{Front, When, IsSomeWith}
+use Rattle.cg_model.specs.Looks.{past_of, greens_of, stood_of, conf_at, is_at, is_in, is_regular_at, is_regular_in, told_in, disk_held, core_of, ordered_in, attempt_of, attempt_at, top_of, installation, left_count, on_disk}
+use Rattle.cg_model.specs.Talk.{Talk, is_full, is_through, is_announced, acts_in, state_in}
+use Rattle.cg_model.specs.Levels.{line_at, count_in, reached_at, reach_at, prim_at, is_installed}
+use Rattle.cg_model.specs.FactsReplica.{is_attempting, is_primary, HasModeData, IsCounted, IsModeData}
+use Rattle.cg_model.specs.FactsExchange.{IsOutdone, IsInExchange, IsUnmoved, IsGoingOn, HasTakenOver, best_told, greens_behind}
+use Rattle.cg_model.specs.FactsAttempts.{IsAttempt, HoldsParts, LevelsStand, LeftOut, YellowValid}
+use Rattle.cg_model.specs.FactsTalk.{handed_talk, whole_talk}
+use Rattle.cg_model.specs.FactsGreens.{IsHandedGreen, IsOnLine, PrimaryGreens, InstalledCount, Spine}
+use Rattle.cg_model.specs.Facts.{Invariant}
+use Rattle.cg_model.specs.Played.{AtRest}
+use Rattle.cg_model.specs.Small.{Small, Hands, small_step}
+use Rattle.cg_model.specs.Smalls.{may_make}
 use Rattle.cg_agree.proofs.AttemptSteps.{attempt-step}
 use Rattle.cg_agree.proofs.ExchangeBehind.{up-now, told-now}
 use Rattle.cg_agree.proofs.ExchangeKept.{exchange_progress-kept}

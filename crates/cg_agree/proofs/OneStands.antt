@@ -10,9 +10,9 @@ use Rattle.cg_group.specs.State.{Standing, GroupState, standing_of, phase_of, is
 use Rattle.cg_group.specs.Events.{come_up, go_down, become_regular, send_from, send, send_all, with_delivered}
 use Rattle.cg_group.specs.LookupLaws.{at-cond, standing_of-set, phase_of-set, delivered_to-set, configuration-set_standing, standing_of-down}
 use Rattle.cg_client.specs.Turn.{Turn, begin}
-use Rattle.cg_agree.specs.World.{Life, Up, Down as DownLife, Seat, seat_of}
-use Rattle.cg_agree.specs.Chronicle.{Chronicle}
-use Rattle.cg_agree.specs.Small.{turning_as, turning, become_past}
+use Rattle.cg_model.specs.World.{Life, Up, Down as DownLife, Seat, seat_of}
+use Rattle.cg_model.specs.Chronicle.{Chronicle}
+use Rattle.cg_model.specs.Small.{turning_as, turning, become_past}
 use Rattle.cg_agree.proofs.GroupTurn.{put-same, standing-id}
 
 -- the replica's phase is that one now, it was handed so many places, and it is up or not

@@ -13,12 +13,12 @@ use Rattle.cg_group.specs.LookupLaws.{at-cond, eqb_comm, same_both}
 use Rattle.cg_client.specs.Replica.{Held, Replica}
 use Rattle.cg_client.specs.Turn.{Turn, begin}
 use Rattle.cg_step.specs.Crash.{recovered}
-use Rattle.cg_agree.specs.World.{Life, Up, Down as DownLife, Seat, World, Snapshot, running, seat_of, has_begun, replica_of, set_life}
-use Rattle.cg_agree.specs.Chronicle.{Chronicle}
-use Rattle.cg_agree.specs.Looks.{disk_held, on_disk, snapshot_of, told_in, is_member, ordered_in}
-use Rattle.cg_agree.specs.FactsNet.{PhaseSound, Seated}
-use Rattle.cg_agree.specs.Small.{Enters, Hands, Leaves, Commits, Crashes, Recovers, Copies, Joins, small_step, turning_as, turning, newest_conf, commit_as, crash_as, recover_as, copy_as, join_with, coming, take_newest, handed_next, take_next, leaving, take_parting}
-use Rattle.cg_agree.specs.Smalls.{may_join, may_enter, may_come, is_between, is_running}
+use Rattle.cg_model.specs.World.{Life, Up, Down as DownLife, Seat, World, Snapshot, running, seat_of, has_begun, replica_of, set_life}
+use Rattle.cg_model.specs.Chronicle.{Chronicle}
+use Rattle.cg_model.specs.Looks.{disk_held, on_disk, snapshot_of, told_in, is_member, ordered_in}
+use Rattle.cg_model.specs.FactsNet.{PhaseSound, Seated}
+use Rattle.cg_model.specs.Small.{Enters, Hands, Leaves, Commits, Crashes, Recovers, Copies, Joins, small_step, turning_as, turning, newest_conf, commit_as, crash_as, recover_as, copy_as, join_with, coming, take_newest, handed_next, take_next, leaving, take_parting}
+use Rattle.cg_model.specs.Smalls.{may_join, may_enter, may_come, is_between, is_running}
 use Rattle.cg_agree.proofs.ChronicleFacts.{seat_of-set}
 use Rattle.cg_agree.proofs.GroupTurn.{put-same}
 use Rattle.cg_agree.proofs.HeldCommit.{recovered-id}

@@ -5,7 +5,7 @@ use Rattle.std.proofs.lemmas.Bool.{cases_eq, ne_eqb}
 use Rattle.cg_base.specs.declared.weighted.Weighted.{Weighted}
 use Rattle.cg_action.specs.declared.action.Action.{Action}
 use Rattle.cg_client.specs.Replica.{Held}
-use Rattle.cg_agree.specs.Step.{joined}
+use Rattle.cg_model.specs.Step.{joined}
 use Rattle.cg_agree.proofs.HeldMarks.{IsOneself}
 
 -- what a joiner becomes of what its representative holds

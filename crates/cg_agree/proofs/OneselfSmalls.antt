@@ -1,8 +1,8 @@
 -- The facts of each replica by itself behind the small step in which one enters a new configuration.
 use Rattle.std.proofs.Common.{ℕ}
 use Rattle.cg_group.specs.State.{configuration}
-use Rattle.cg_agree.specs.Chronicle.{Chronicle}
-use Rattle.cg_agree.specs.Small.{Enters, coming, take_newest, newest_conf, small_step}
+use Rattle.cg_model.specs.Chronicle.{Chronicle}
+use Rattle.cg_model.specs.Small.{Enters, coming, take_newest, newest_conf, small_step}
 use Rattle.cg_agree.proofs.HeldCommit.{keeps-take_regular}
 use Rattle.cg_agree.proofs.OneselfWorld.{AreOneself, HavePasts, turning-kept}
 

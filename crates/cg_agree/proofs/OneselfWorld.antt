@@ -7,12 +7,12 @@ use Rattle.cg_action.specs.declared.action.Action.{Action}
 use Rattle.cg_client.specs.Replica.{Held, Replica}
 use Rattle.cg_client.specs.Turn.{Turn, begin}
 use Rattle.cg_step.specs.Crash.{Disk}
-use Rattle.cg_agree.specs.World.{Life, Up, Down, Seat, running, seat_of, replica_of, has_begun}
-use Rattle.cg_agree.specs.Step.{joined}
-use Rattle.cg_agree.specs.Chronicle.{Past, Chronicle}
-use Rattle.cg_agree.specs.Looks.{past_of, greens_of, stood_of, on_disk, disk_held, snapshot_of, copied_for, OfCores}
-use Rattle.cg_agree.specs.Small.{after_turn, turning, turning_as, newly_green, with_greens}
-use Rattle.cg_agree.specs.FactsReplica.{IsCore}
+use Rattle.cg_model.specs.World.{Life, Up, Down, Seat, running, seat_of, replica_of, has_begun}
+use Rattle.cg_model.specs.Step.{joined}
+use Rattle.cg_model.specs.Chronicle.{Past, Chronicle}
+use Rattle.cg_model.specs.Looks.{past_of, greens_of, stood_of, on_disk, disk_held, snapshot_of, copied_for, OfCores}
+use Rattle.cg_model.specs.Small.{after_turn, turning, turning_as, newly_green, with_greens}
+use Rattle.cg_model.specs.FactsReplica.{IsCore}
 use Rattle.cg_agree.proofs.ChronicleFacts.{seat_of-set, past_of-turn, greens_of-own, greens_of-other}
 use Rattle.cg_agree.proofs.HandSays.{find-holds}
 use Rattle.cg_agree.proofs.HeldMarks.{IsOneself}

@@ -18,19 +18,19 @@ use Rattle.cg_agree.proofs.TurnGreens.{IsBetween, facts-along, greens-along, gre
 use Rattle.cg_agree.proofs.TurnWorlds.{life_at, up_seat}
 use Rattle.cg_agree.proofs.TurnsReached.{IsReached, LifeReached, SeatReached}
 use Rattle.cg_agree.proofs.WorldTurns.{EndsSo, IsBehind, alone-ends, from-same, hand-behind, handed-behind, handed-ends}
-use Rattle.cg_agree.specs.Chronicle.{Chronicle}
-use Rattle.cg_agree.specs.Facts.{Invariant}
-use Rattle.cg_agree.specs.FactsLists.{IsRising}
-use Rattle.cg_agree.specs.Fronts.{Front}
-use Rattle.cg_agree.specs.Levels.{line_at, reached_at}
-use Rattle.cg_agree.specs.Looks.{disk_held, greens_of, on_disk, stood_of, top_of}
-use Rattle.cg_agree.specs.Noting.{played}
-use Rattle.cg_agree.specs.Played.{IsSame, KeptBySmalls, MayBeMade, StandsBeside}
-use Rattle.cg_agree.specs.Show.{beyond}
-use Rattle.cg_agree.specs.Small.{Small}
-use Rattle.cg_agree.specs.Step.{hand, hand_over, quietly}
-use Rattle.cg_agree.specs.Turns.{stands_as}
-use Rattle.cg_agree.specs.World.{Down, Life, Seat, Up, World, replica_of, running, seat_of}
+use Rattle.cg_model.specs.Chronicle.{Chronicle}
+use Rattle.cg_model.specs.Facts.{Invariant}
+use Rattle.cg_model.specs.FactsLists.{IsRising}
+use Rattle.cg_model.specs.Fronts.{Front}
+use Rattle.cg_model.specs.Levels.{line_at, reached_at}
+use Rattle.cg_model.specs.Looks.{disk_held, greens_of, on_disk, stood_of, top_of}
+use Rattle.cg_model.specs.Noting.{played}
+use Rattle.cg_model.specs.Played.{IsSame, KeptBySmalls, MayBeMade, StandsBeside}
+use Rattle.cg_model.specs.Show.{beyond}
+use Rattle.cg_model.specs.Small.{Small}
+use Rattle.cg_model.specs.Step.{hand, hand_over, quietly}
+use Rattle.cg_model.specs.Turns.{stands_as}
+use Rattle.cg_model.specs.World.{Down, Life, Seat, Up, World, replica_of, running, seat_of}
 use Rattle.cg_base.specs.declared.action_id.ActionId.{ActionId}
 use Rattle.cg_client.specs.Replica.{Held, Replica}
 use Rattle.cg_client.specs.Turn.{Turn}

@@ -2,8 +2,8 @@
 use Rattle.std.proofs.Common.{◌⊎◌, ◌≡◌, ℕ, zero, suc, ◌+◌, ◌-◌, ◌≤◌, List, [], ◌∷◌, ◌++◌, length, drop, refl, sym, ap, ◌∙◌, subst, inl, inr, arith, append-nil, length-append}
 use Rattle.std.proofs.lemmas.Bool.{cases_lt}
 use Rattle.cg_base.specs.declared.action_id.ActionId.{ActionId}
-use Rattle.cg_agree.specs.Fronts.{Front}
-use Rattle.cg_agree.specs.Show.{beyond}
+use Rattle.cg_model.specs.Fronts.{Front}
+use Rattle.cg_model.specs.Show.{beyond}
 use Rattle.cg_agree.proofs.FrontFacts.{Front-refl, Front-of_both, split_by_Front}
 
 drop-past : (xs ys : List ActionId) (n : ℕ) → length xs ≤ n → drop n (xs ++ ys) ≡ drop (n - length xs) ys

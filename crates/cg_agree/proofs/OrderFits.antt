@@ -4,17 +4,17 @@ use Rattle.std.proofs.Common.{◌≡◌, ◌++◌, List, None, Option, Some, ℕ
 use Rattle.cg_agree.proofs.MadeWorlds.{MadeFits}
 use Rattle.cg_agree.proofs.OthersEvents.{SeatIsDown}
 use Rattle.cg_agree.proofs.OthersShown.{AreShown}
-use Rattle.cg_agree.specs.Admission.{first_refusal}
-use Rattle.cg_agree.specs.Chronicle.{Chronicle}
-use Rattle.cg_agree.specs.Facts.{Invariant}
-use Rattle.cg_agree.specs.FactsBooks.{OrderBook}
-use Rattle.cg_agree.specs.Fronts.{Front}
-use Rattle.cg_agree.specs.Looks.{stood_of}
-use Rattle.cg_agree.specs.Noting.{chronicle_step}
-use Rattle.cg_agree.specs.Played.{StandsBeside, with_world}
-use Rattle.cg_agree.specs.Run.{MayStand}
-use Rattle.cg_agree.specs.Step.{world_step}
-use Rattle.cg_agree.specs.World.{Down, Life, Seat, Up, World, seat_of}
+use Rattle.cg_model.specs.Admission.{first_refusal}
+use Rattle.cg_model.specs.Chronicle.{Chronicle}
+use Rattle.cg_model.specs.Facts.{Invariant}
+use Rattle.cg_model.specs.FactsBooks.{OrderBook}
+use Rattle.cg_model.specs.Fronts.{Front}
+use Rattle.cg_model.specs.Looks.{stood_of}
+use Rattle.cg_model.specs.Noting.{chronicle_step}
+use Rattle.cg_model.specs.Played.{StandsBeside, with_world}
+use Rattle.cg_model.specs.Run.{MayStand}
+use Rattle.cg_model.specs.Step.{world_step}
+use Rattle.cg_model.specs.World.{Down, Life, Seat, Up, World, seat_of}
 use Rattle.cg_base.specs.declared.action_id.ActionId.{ActionId}
 use Rattle.cg_queue.specs.Queue.{names_of}
 use Rattle.cg_schedule.specs.declared.event.Event.{Event}

@@ -5,11 +5,11 @@ use Rattle.std.specs.Option.{option_map_or}
 use Rattle.cg_agree.proofs.FrontFacts.{Front-length, Front-refl, Front-trans}
 use Rattle.cg_agree.proofs.OrderExtends.{order-extends}
 use Rattle.cg_agree.proofs.WorldTurns.{hand-behind}
-use Rattle.cg_agree.specs.FactsLists.{IsRising}
-use Rattle.cg_agree.specs.Fronts.{Front}
-use Rattle.cg_agree.specs.Show.{Going, beyond}
-use Rattle.cg_agree.specs.Step.{after_event, hand, hand_over, hand_to}
-use Rattle.cg_agree.specs.World.{Down, Life, Seat, Up, World, seat_of}
+use Rattle.cg_model.specs.FactsLists.{IsRising}
+use Rattle.cg_model.specs.Fronts.{Front}
+use Rattle.cg_model.specs.Show.{Going, beyond}
+use Rattle.cg_model.specs.Step.{after_event, hand, hand_over, hand_to}
+use Rattle.cg_model.specs.World.{Down, Life, Seat, Up, World, seat_of}
 use Rattle.cg_base.specs.declared.action_id.ActionId.{ActionId}
 use Rattle.cg_client.specs.Turn.{Turn}
 use Rattle.cg_group.specs.EachLaws.{Each}

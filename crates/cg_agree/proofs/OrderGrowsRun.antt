@@ -6,14 +6,14 @@ use Rattle.cg_report.specs.declared.entry.Shown.{Shown}
 use Rattle.cg_report.specs.declared.entry.Shown.TheVariants.{All}
 use Rattle.cg_schedule.specs.declared.event.Event.{Event}
 use Rattle.cg_schedule.specs.declared.event.Event.TheVariants.{ShowOrder}
-use Rattle.cg_agree.specs.World.{World, no_world}
-use Rattle.cg_agree.specs.Show.{Moved, ended}
-use Rattle.cg_agree.specs.Step.{happens, world_step}
-use Rattle.cg_agree.specs.Run.{Step, IsRunFrom, world_after}
-use Rattle.cg_agree.specs.Shown.{order_of}
-use Rattle.cg_agree.specs.Agreement.{ComesAfter, through, OrderGrows}
-use Rattle.cg_agree.specs.Chronicle.{Chronicle}
-use Rattle.cg_agree.specs.Played.{AlwaysHolds}
+use Rattle.cg_model.specs.World.{World, no_world}
+use Rattle.cg_model.specs.Show.{Moved, ended}
+use Rattle.cg_model.specs.Step.{happens, world_step}
+use Rattle.cg_model.specs.Run.{Step, IsRunFrom, world_after}
+use Rattle.cg_model.specs.Shown.{order_of}
+use Rattle.cg_model.specs.Agreement.{ComesAfter, through, OrderGrows}
+use Rattle.cg_model.specs.Chronicle.{Chronicle}
+use Rattle.cg_model.specs.Played.{AlwaysHolds}
 use Rattle.cg_agree.proofs.HappensShown.{OfShown, step-shows, each-shown}
 use Rattle.cg_agree.proofs.MadeTold.{each-contains}
 use Rattle.cg_agree.proofs.OrderInTime.{in-time}

@@ -13,15 +13,15 @@ use Rattle.cg_client.specs.Replica.{Replica}
 use Rattle.cg_client.specs.Queries.{view_of}
 use Rattle.cg_report.specs.declared.line.Line.{Line}
 use Rattle.cg_report.specs.declared.line.UpLine.{UpLine}
-use Rattle.cg_agree.specs.World.{Life, Up, Down, Seat, World, no_world, running, seat_of, replica_of}
-use Rattle.cg_agree.specs.Show.{line_of, up_line}
-use Rattle.cg_agree.specs.Run.{Step, IsRunFrom}
-use Rattle.cg_agree.specs.Shown.{order_of, lines_in, all_up_lines, position_of}
-use Rattle.cg_agree.specs.Telling.{last_of}
-use Rattle.cg_agree.specs.Agreement.{through}
-use Rattle.cg_agree.specs.Chronicle.{Chronicle}
-use Rattle.cg_agree.specs.Noting.{chronicle_step}
-use Rattle.cg_agree.specs.Played.{AlwaysHolds}
+use Rattle.cg_model.specs.World.{Life, Up, Down, Seat, World, no_world, running, seat_of, replica_of}
+use Rattle.cg_model.specs.Show.{line_of, up_line}
+use Rattle.cg_model.specs.Run.{Step, IsRunFrom}
+use Rattle.cg_model.specs.Shown.{order_of, lines_in, all_up_lines, position_of}
+use Rattle.cg_model.specs.Telling.{last_of}
+use Rattle.cg_model.specs.Agreement.{through}
+use Rattle.cg_model.specs.Chronicle.{Chronicle}
+use Rattle.cg_model.specs.Noting.{chronicle_step}
+use Rattle.cg_model.specs.Played.{AlwaysHolds}
 use Rattle.cg_agree.proofs.OrderTold.{order_told, step_order}
 use Rattle.cg_agree.proofs.OrderReached.{within-order}
 use Rattle.cg_agree.proofs.LinesShown.{lines-each, lines-last, position-shown}

@@ -10,15 +10,15 @@ use Rattle.cg_report.specs.declared.line.UpLine.{UpLine}
 use Rattle.cg_client.specs.Replica.{State, RegPrim, TransPrim, ExchangeStates, ExchangeActions, Construct, No, Un, NonPrim, Left, Replica}
 use Rattle.cg_client.specs.Queries.{state_name, view_of}
 use Rattle.cg_schedule.specs.declared.event.Event.{Event}
-use Rattle.cg_agree.specs.World.{Life, Up, Down, Seat, World, no_world, running, seat_of, replica_of}
-use Rattle.cg_agree.specs.Show.{Moved, line_of, up_line}
-use Rattle.cg_agree.specs.Run.{Step, IsRunFrom, world_after}
-use Rattle.cg_agree.specs.Shown.{order_of}
-use Rattle.cg_agree.specs.Agreement.{ComesAfter, through, is_recovery_of, OnePrimary}
-use Rattle.cg_agree.specs.Chronicle.{Chronicle, no_chronicle}
-use Rattle.cg_agree.specs.FactsReplica.{is_primary}
-use Rattle.cg_agree.specs.Noting.{chronicle_after}
-use Rattle.cg_agree.specs.Played.{AlwaysHolds}
+use Rattle.cg_model.specs.World.{Life, Up, Down, Seat, World, no_world, running, seat_of, replica_of}
+use Rattle.cg_model.specs.Show.{Moved, line_of, up_line}
+use Rattle.cg_model.specs.Run.{Step, IsRunFrom, world_after}
+use Rattle.cg_model.specs.Shown.{order_of}
+use Rattle.cg_model.specs.Agreement.{ComesAfter, through, is_recovery_of, OnePrimary}
+use Rattle.cg_model.specs.Chronicle.{Chronicle, no_chronicle}
+use Rattle.cg_model.specs.FactsReplica.{is_primary}
+use Rattle.cg_model.specs.Noting.{chronicle_after}
+use Rattle.cg_model.specs.Played.{AlwaysHolds}
 use Rattle.cg_agree.proofs.LinesShown.{lines-each}
 use Rattle.cg_agree.proofs.LongerBy.{IsFarBy, event-far}
 use Rattle.cg_agree.proofs.MadeTold.{each-contains}

@@ -1,15 +1,15 @@
 -- The spine of levels and one order behind each small step, and what a small step leaves of counts and of what can become green. They ask
 -- for the facts before the step, and for those about members of primary components behind it.
 use Rattle.std.proofs.Common.{◌≡◌, ℕ, ◌≤◌, true}
-use Rattle.cg_agree.specs.Chronicle.{Chronicle}
-use Rattle.cg_agree.specs.Fronts.{Front}
-use Rattle.cg_agree.specs.Looks.{top_of}
-use Rattle.cg_agree.specs.Levels.{reached_at, reach_at, is_frozen}
-use Rattle.cg_agree.specs.FactsGreens.{PrimaryGreens, InstalledCount, Spine, OneOrder}
-use Rattle.cg_agree.specs.Facts.{Invariant}
-use Rattle.cg_agree.specs.Played.{AtRest}
-use Rattle.cg_agree.specs.Small.{Small, small_step}
-use Rattle.cg_agree.specs.Smalls.{may_make}
+use Rattle.cg_model.specs.Chronicle.{Chronicle}
+use Rattle.cg_model.specs.Fronts.{Front}
+use Rattle.cg_model.specs.Looks.{top_of}
+use Rattle.cg_model.specs.Levels.{reached_at, reach_at, is_frozen}
+use Rattle.cg_model.specs.FactsGreens.{PrimaryGreens, InstalledCount, Spine, OneOrder}
+use Rattle.cg_model.specs.Facts.{Invariant}
+use Rattle.cg_model.specs.Played.{AtRest}
+use Rattle.cg_model.specs.Small.{Small, small_step}
+use Rattle.cg_model.specs.Smalls.{may_make}
 use Rattle.cg_agree.proofs.FactsKept.{attempt-now}
 use Rattle.cg_agree.proofs.OneOrderKept.{one_order-now}
 use Rattle.cg_agree.proofs.ReachedGrows.{reached-grows, reach-still}

@@ -9,19 +9,19 @@ use Rattle.cg_queue.specs.Queue.{names_of}
 use Rattle.cg_wire.specs.declared.message.Msg.{Msg}
 use Rattle.cg_group.specs.State.{Sent}
 use Rattle.cg_client.specs.Replica.{Held, Replica}
-use Rattle.cg_agree.specs.World.{Seat, seat_of, replica_of}
-use Rattle.cg_agree.specs.Chronicle.{Past, Attempt, Chronicle}
-use Rattle.cg_agree.specs.Fronts.{Front}
-use Rattle.cg_agree.specs.Looks.{greens_of, stood_of, past_of, on_disk, disk_held, is_in, left_count, ordered_in, attempt_of, attempt_at, top_of, installation}
-use Rattle.cg_agree.specs.Talk.{acts_in}
-use Rattle.cg_agree.specs.Levels.{line_at, count_in, reached_at}
-use Rattle.cg_agree.specs.FactsReplica.{IsCore}
-use Rattle.cg_agree.specs.FactsBooks.{ListsGrow}
-use Rattle.cg_agree.specs.Facts.{Invariant}
-use Rattle.cg_agree.specs.Played.{KeptBySmalls, MayBeMade}
-use Rattle.cg_agree.specs.Small.{Small, small_step}
-use Rattle.cg_agree.specs.Smalls.{may_make}
-use Rattle.cg_agree.specs.Noting.{played}
+use Rattle.cg_model.specs.World.{Seat, seat_of, replica_of}
+use Rattle.cg_model.specs.Chronicle.{Past, Attempt, Chronicle}
+use Rattle.cg_model.specs.Fronts.{Front}
+use Rattle.cg_model.specs.Looks.{greens_of, stood_of, past_of, on_disk, disk_held, is_in, left_count, ordered_in, attempt_of, attempt_at, top_of, installation}
+use Rattle.cg_model.specs.Talk.{acts_in}
+use Rattle.cg_model.specs.Levels.{line_at, count_in, reached_at}
+use Rattle.cg_model.specs.FactsReplica.{IsCore}
+use Rattle.cg_model.specs.FactsBooks.{ListsGrow}
+use Rattle.cg_model.specs.Facts.{Invariant}
+use Rattle.cg_model.specs.Played.{KeptBySmalls, MayBeMade}
+use Rattle.cg_model.specs.Small.{Small, small_step}
+use Rattle.cg_model.specs.Smalls.{may_make}
+use Rattle.cg_model.specs.Noting.{played}
 use Rattle.cg_agree.proofs.FrontFacts.{Front-trans, Front-length, Front-behind, Front-of_both, Front-map}
 use Rattle.cg_step.specs.Holds.{run_on}
 use Rattle.cg_agree.proofs.SameAttempt.{SameAttempt, same-installation}

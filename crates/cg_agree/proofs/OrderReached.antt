@@ -12,15 +12,15 @@ use Rattle.cg_base.specs.IdLaws.{same_id-is}
 use Rattle.cg_action.specs.declared.action.Action.{Action}
 use Rattle.cg_queue.specs.Queue.{names_of, green_count}
 use Rattle.cg_client.specs.Replica.{Replica}
-use Rattle.cg_agree.specs.World.{World, replica_of}
-use Rattle.cg_agree.specs.Run.{Step}
-use Rattle.cg_agree.specs.Shown.{made_names}
-use Rattle.cg_agree.specs.Agreement.{Reaches}
-use Rattle.cg_agree.specs.Chronicle.{Chronicle}
-use Rattle.cg_agree.specs.Fronts.{Front}
-use Rattle.cg_agree.specs.Looks.{greens_of}
-use Rattle.cg_agree.specs.FactsReplica.{IsCore}
-use Rattle.cg_agree.specs.Played.{StandsBeside}
+use Rattle.cg_model.specs.World.{World, replica_of}
+use Rattle.cg_model.specs.Run.{Step}
+use Rattle.cg_model.specs.Shown.{made_names}
+use Rattle.cg_model.specs.Agreement.{Reaches}
+use Rattle.cg_model.specs.Chronicle.{Chronicle}
+use Rattle.cg_model.specs.Fronts.{Front}
+use Rattle.cg_model.specs.Looks.{greens_of}
+use Rattle.cg_model.specs.FactsReplica.{IsCore}
+use Rattle.cg_model.specs.Played.{StandsBeside}
 use Rattle.cg_agree.proofs.FrontFacts.{Front-length, take-Front}
 use Rattle.cg_agree.proofs.HeldMarks.{counted}
 use Rattle.cg_step.specs.Holds.{run_on}

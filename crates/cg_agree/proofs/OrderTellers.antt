@@ -6,9 +6,9 @@ use Rattle.cg_action.specs.declared.action.Kind.TheVariants.{Update, Join as Joi
 use Rattle.cg_schedule.specs.declared.event.Event.{Event}
 use Rattle.cg_schedule.specs.declared.event.Event.TheVariants.{Start, Split, Merge, Request, Weak, Dirty, Order, Recover, Show, ShowOrder, Gather, End, Receive, Deliver, Rounds, Stop, Fail, Join, Leave, Transfer}
 use Rattle.cg_group.specs.declared.delivery.Delivery.TheVariants.{Regular as RegularIn}
-use Rattle.cg_agree.specs.Small.{Small, Starts, Makes, Enters, Orders, Receives, Hands, Leaves, Asks, Settles, Commits, Crashes, Recovers, Copies, Joins, small_step, newest_conf}
-use Rattle.cg_agree.specs.World.{Life, Up, Down, Seat, World, running, seat_of, replica_of}
-use Rattle.cg_agree.specs.Played.{IsSame, KeptBySmalls, MayBeMade, StandsBeside}
+use Rattle.cg_model.specs.Small.{Small, Starts, Makes, Enters, Orders, Receives, Hands, Leaves, Asks, Settles, Commits, Crashes, Recovers, Copies, Joins, small_step, newest_conf}
+use Rattle.cg_model.specs.World.{Life, Up, Down, Seat, World, running, seat_of, replica_of}
+use Rattle.cg_model.specs.Played.{IsSame, KeptBySmalls, MayBeMade, StandsBeside}
 use Rattle.cg_group.specs.EachLaws.{Each, Each-append, Each-all, Each-weaker}
 use Rattle.std.proofs.Common.{◌≡◌, ◌++◌, ◌∷◌, ◌≤◌, ◌∙◌, ◌⊎◌, ◌&&◌, ◌-◌, if◌then◌else◌, IfSome, List, None, Option, Some, ap, append-nil, arith, eqb-true, false, flat_map, inl, inr, is_some, length, option_and_then, option_map, refl, replicate, subst, suc, sym, true, zero, ℕ, []}
 use Rattle.std.proofs.lemmas.Bool.{and_parts, cases_Bool, cond-false, cond_both}
@@ -28,15 +28,15 @@ use Rattle.cg_agree.proofs.ToldKept.{IsUntold, told-same, told_in-same}
 use Rattle.cg_agree.proofs.TurnGreens.{names-count}
 use Rattle.cg_agree.proofs.TurnWorlds.{life_at}
 use Rattle.cg_agree.proofs.WorldTurns.{IsBehind}
-use Rattle.cg_agree.specs.Attempts.{held_in}
-use Rattle.cg_agree.specs.Chronicle.{Chronicle, Told}
-use Rattle.cg_agree.specs.Facts.{Invariant}
-use Rattle.cg_agree.specs.FactsExchange.{IsOutdone, IsSummary}
-use Rattle.cg_agree.specs.Fronts.{Front}
-use Rattle.cg_agree.specs.Looks.{core_of, disk_held, greens_of, on_disk, stood_of, told_in}
-use Rattle.cg_agree.specs.Noting.{played}
-use Rattle.cg_agree.specs.Smalls.{copy_steps, ending, ending_as, gather_steps, join_steps, leaving_steps, may_make, smalls_in}
-use Rattle.cg_agree.specs.Turns.{Taken, stands, taken, taken_as, turns_in, turns_of}
+use Rattle.cg_model.specs.Attempts.{held_in}
+use Rattle.cg_model.specs.Chronicle.{Chronicle, Told}
+use Rattle.cg_model.specs.Facts.{Invariant}
+use Rattle.cg_model.specs.FactsExchange.{IsOutdone, IsSummary}
+use Rattle.cg_model.specs.Fronts.{Front}
+use Rattle.cg_model.specs.Looks.{core_of, disk_held, greens_of, on_disk, stood_of, told_in}
+use Rattle.cg_model.specs.Noting.{played}
+use Rattle.cg_model.specs.Smalls.{copy_steps, ending, ending_as, gather_steps, join_steps, leaving_steps, may_make, smalls_in}
+use Rattle.cg_model.specs.Turns.{Taken, stands, taken, taken_as, turns_in, turns_of}
 use Rattle.cg_base.specs.declared.action_id.ActionId.{ActionId}
 use Rattle.cg_client.specs.Replica.{Held}
 use Rattle.cg_client.specs.Turn.{Turn}

@@ -19,11 +19,11 @@ use Rattle.cg_schedule.specs.declared.event.Event.{Event}
 use Rattle.cg_schedule.specs.declared.event.Event.TheVariants.{Start, Split, Merge, Request, Weak, Dirty, Order, Recover, Show, ShowOrder, Gather, End, Receive, Deliver, Rounds, Stop, Fail, Join, Leave, Transfer}
 use Rattle.cg_queue.specs.Queue.{green_count}
 use Rattle.cg_report.specs.declared.entry.Placed.{Placed}
-use Rattle.cg_agree.specs.World.{Life, Up, Down, Seat, Snapshot, World, seat_of, replica_of}
-use Rattle.cg_agree.specs.Show.{Going, Moved, placed_from, beyond, ended}
-use Rattle.cg_agree.specs.Step.{quietly, after_event, hand_to, hand, hand_over, hand_out, name_also, begin_replica, arm_at, arm, crash_at, stop, recover_from, recover, take_pieces, transfer, snapshot_for, with_pieces, happens, world_step}
-use Rattle.cg_agree.specs.Run.{Step, IsRunFrom, world_after}
-use Rattle.cg_agree.specs.Shown.{order_of, order_lines}
+use Rattle.cg_model.specs.World.{Life, Up, Down, Seat, Snapshot, World, seat_of, replica_of}
+use Rattle.cg_model.specs.Show.{Going, Moved, placed_from, beyond, ended}
+use Rattle.cg_model.specs.Step.{quietly, after_event, hand_to, hand, hand_over, hand_out, name_also, begin_replica, arm_at, arm, crash_at, stop, recover_from, recover, take_pieces, transfer, snapshot_for, with_pieces, happens, world_step}
+use Rattle.cg_model.specs.Run.{Step, IsRunFrom, world_after}
+use Rattle.cg_model.specs.Shown.{order_of, order_lines}
 use Rattle.cg_client.specs.Joined.{piece_count}
 
 -- the order is that of a world and the names of these order lines, whose places go on behind it

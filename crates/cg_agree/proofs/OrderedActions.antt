@@ -12,13 +12,13 @@ use Rattle.cg_base.specs.IdLaws.{same_id-is}
 use Rattle.cg_action.specs.declared.action.Action.{Action}
 use Rattle.cg_queue.specs.Queue.{names_of}
 use Rattle.cg_report.specs.declared.entry.Made.{Made}
-use Rattle.cg_agree.specs.World.{World}
-use Rattle.cg_agree.specs.Run.{Step}
-use Rattle.cg_agree.specs.Shown.{made_names, made_at, made_from, made_action, made_actions}
-use Rattle.cg_agree.specs.Telling.{made_of}
-use Rattle.cg_agree.specs.Chronicle.{Chronicle}
-use Rattle.cg_agree.specs.Fronts.{Front}
-use Rattle.cg_agree.specs.Played.{StandsBeside}
+use Rattle.cg_model.specs.World.{World}
+use Rattle.cg_model.specs.Run.{Step}
+use Rattle.cg_model.specs.Shown.{made_names, made_at, made_from, made_action, made_actions}
+use Rattle.cg_model.specs.Telling.{made_of}
+use Rattle.cg_model.specs.Chronicle.{Chronicle}
+use Rattle.cg_model.specs.Fronts.{Front}
+use Rattle.cg_model.specs.Played.{StandsBeside}
 use Rattle.cg_agree.proofs.BookGrows.{IsNamed, named_in, same-self, named-all}
 use Rattle.cg_agree.proofs.MadeTold.{IsMadeTold, as-made, each-contains}
 use Rattle.cg_agree.proofs.OrderReached.{order-named}

@@ -5,15 +5,15 @@ use Rattle.cg_action.specs.declared.action.Kind.TheVariants.{Update, Join as Joi
 use Rattle.cg_schedule.specs.declared.event.Event.{Event}
 use Rattle.cg_schedule.specs.declared.event.Event.TheVariants.{Start, Split, Merge, Request, Weak, Dirty, Order, Recover, Show, ShowOrder, Gather, End, Receive, Deliver, Rounds, Stop, Fail, Join, Leave, Transfer}
 use Rattle.cg_group.specs.declared.delivery.Delivery.TheVariants.{Regular as RegularIn}
-use Rattle.cg_agree.specs.Step.{quietly, ask, hand_out, name_also, begin_replica, arm_at, arm, crash_at, stop, recover_from, recover, joined, snapshot_for, without_snapshot, take_pieces, transfer, happens, world_step}
-use Rattle.cg_agree.specs.World.{Life, Up, Down, Seat, Snapshot, World, no_world, running, seat_of, replica_of, bring_up}
-use Rattle.cg_agree.specs.Show.{ended}
-use Rattle.cg_agree.specs.Small.{Starts, small_step, Small}
-use Rattle.cg_agree.specs.Smalls.{smalls_in}
+use Rattle.cg_model.specs.Step.{quietly, ask, hand_out, name_also, begin_replica, arm_at, arm, crash_at, stop, recover_from, recover, joined, snapshot_for, without_snapshot, take_pieces, transfer, happens, world_step}
+use Rattle.cg_model.specs.World.{Life, Up, Down, Seat, Snapshot, World, no_world, running, seat_of, replica_of, bring_up}
+use Rattle.cg_model.specs.Show.{ended}
+use Rattle.cg_model.specs.Small.{Starts, small_step, Small}
+use Rattle.cg_model.specs.Smalls.{smalls_in}
 use Rattle.cg_agree.proofs.RestsBehind.{handed-ids, split-to, each-handed}
 use Rattle.cg_agree.proofs.MadeSplit.{rising-set-list}
 use Rattle.cg_agree.proofs.MovesKept.{kept-by-smalls}
-use Rattle.cg_agree.specs.Chronicle.{Chronicle, no_chronicle}
+use Rattle.cg_model.specs.Chronicle.{Chronicle, no_chronicle}
 use Rattle.std.proofs.Common.{◌≡◌, ◌++◌, ◌∷◌, ◌≤◌, ◌∙◌, ◌+◌, Bool, IfSome, List, None, Option, Some, ap, arith, cond, false, fold, length, map, min, nat_le, option_and_then, option_map, refl, subst, suc, sym, take, true, zero, ℕ, []}
 use Rattle.std.proofs.lemmas.Bool.{and_from, le-leb}
 use Rattle.std.specs.List.{list_all}
@@ -52,14 +52,14 @@ use Rattle.cg_agree.proofs.Standings.{rising-lower}
 use Rattle.cg_agree.proofs.TurnGreens.{greens-along, names-count}
 use Rattle.cg_agree.proofs.TurnsReached.{SeatReached}
 use Rattle.cg_agree.proofs.WorldTurns.{IsBehind, from-same, handed-behind}
-use Rattle.cg_agree.specs.Admission.{first_refusal}
-use Rattle.cg_agree.specs.Facts.{Invariant}
-use Rattle.cg_agree.specs.Fronts.{Front}
-use Rattle.cg_agree.specs.Levels.{line_at, reached_at}
-use Rattle.cg_agree.specs.Looks.{disk_held, greens_of, on_disk, stood_of, told_in, top_of}
-use Rattle.cg_agree.specs.Noting.{chronicle_step, played}
-use Rattle.cg_agree.specs.Played.{IsSame, KeptBySmalls, MayBeMade, StandsBeside, with_world}
-use Rattle.cg_agree.specs.Run.{MayStand}
+use Rattle.cg_model.specs.Admission.{first_refusal}
+use Rattle.cg_model.specs.Facts.{Invariant}
+use Rattle.cg_model.specs.Fronts.{Front}
+use Rattle.cg_model.specs.Levels.{line_at, reached_at}
+use Rattle.cg_model.specs.Looks.{disk_held, greens_of, on_disk, stood_of, told_in, top_of}
+use Rattle.cg_model.specs.Noting.{chronicle_step, played}
+use Rattle.cg_model.specs.Played.{IsSame, KeptBySmalls, MayBeMade, StandsBeside, with_world}
+use Rattle.cg_model.specs.Run.{MayStand}
 use Rattle.cg_base.specs.Cuts.{index_in}
 use Rattle.cg_base.specs.Lists.{above_up_to}
 use Rattle.cg_base.specs.Weights.{ids}

@@ -5,8 +5,8 @@ use Rattle.std.specs.List.{list_all}
 use Rattle.cg_base.specs.Sets.{has}
 use Rattle.cg_client.specs.Replica.{Held, State, RegPrim, TransPrim, ExchangeStates, ExchangeActions, Construct, No, Un, NonPrim, Left, Replica}
 use Rattle.cg_construct.specs.Construct.{attempt_set}
-use Rattle.cg_agree.specs.World.{replica_of}
-use Rattle.cg_agree.specs.Levels.{announced_from, announced_at, lacks_announcement}
+use Rattle.cg_model.specs.World.{replica_of}
+use Rattle.cg_model.specs.Levels.{announced_from, announced_at, lacks_announcement}
 use Rattle.std.proofs.lemmas.Bool.{and_parts, and_from, cases_Bool, cond-true, cond-false, cond_both, eqb-false, or_left, or_right, or_cases}
 use Rattle.std.proofs.lemmas.List.{append_assoc}
 use Rattle.std.proofs.lemmas.List.Elements.{filter_map-append}
@@ -17,10 +17,10 @@ use Rattle.cg_wire.specs.declared.message.Msg.TheVariants.{Action as ActionMsg, 
 use Rattle.cg_group.specs.declared.phase.Phase.{Phase}
 use Rattle.cg_group.specs.declared.phase.Phase.TheVariants.{Regular, Transitional, Alone, Down}
 use Rattle.cg_group.specs.State.{Sent, phase_of, delivered_to, unordered_of, has_received}
-use Rattle.cg_agree.specs.Chronicle.{Told, Chronicle}
-use Rattle.cg_agree.specs.Looks.{conf_of, told_in, is_regular_at, is_regular_in, members_in, ordered_in, sent_by, placed_of, waiting_in, said_in}
-use Rattle.cg_agree.specs.Talk.{Talk, no_talk, talk_of, hears, hears_from, may_say, is_legal, state_in, summary_in, announcer_in}
-use Rattle.cg_agree.specs.FactsTalk.{whole_talk, handed_talk, TalkLegal, SentIffDue, HeardIsTold, AreTold, summaries_of, IsTransitional, IsStateIn, ModeFits}
+use Rattle.cg_model.specs.Chronicle.{Told, Chronicle}
+use Rattle.cg_model.specs.Looks.{conf_of, told_in, is_regular_at, is_regular_in, members_in, ordered_in, sent_by, placed_of, waiting_in, said_in}
+use Rattle.cg_model.specs.Talk.{Talk, no_talk, talk_of, hears, hears_from, may_say, is_legal, state_in, summary_in, announcer_in}
+use Rattle.cg_model.specs.FactsTalk.{whole_talk, handed_talk, TalkLegal, SentIffDue, HeardIsTold, AreTold, summaries_of, IsTransitional, IsStateIn, ModeFits}
 use Rattle.cg_agree.proofs.TalkCommute.{legal-append, commute, tells, clash}
 use Rattle.cg_agree.proofs.SaidSoFar.{placed-append}
 use Rattle.cg_group.specs.LookupLaws.{eqb_comm}

@@ -11,9 +11,9 @@ use Rattle.cg_group.specs.State.{Configuration, Standing, GroupState, standing_o
 use Rattle.cg_group.specs.Events.{order, order_from, with_message}
 use Rattle.cg_group.specs.LookupLaws.{phase_of-set, unordered_of-set, delivered_to-set, standing_of-set_configuration, configuration-set, at-cond, eqb_comm}
 use Rattle.cg_group.specs.PlaceLaws.{at_place-append, at_place-last}
-use Rattle.cg_agree.specs.Chronicle.{Chronicle}
-use Rattle.cg_agree.specs.Looks.{conf_of, is_regular_in, members_in, ordered_in}
-use Rattle.cg_agree.specs.Small.{Orders, small_step, with_group}
+use Rattle.cg_model.specs.Chronicle.{Chronicle}
+use Rattle.cg_model.specs.Looks.{conf_of, is_regular_in, members_in, ordered_in}
+use Rattle.cg_model.specs.Small.{Orders, small_step, with_group}
 use Rattle.cg_agree.proofs.GroupTurn.{put-same}
 use Rattle.cg_agree.proofs.HandsTalk.{SaidFacts}
 use Rattle.cg_agree.proofs.OrdersTalk.{Ordered, legal-ordered-kept, says-ordered-kept, told-ordered-kept, modes-ordered-kept}

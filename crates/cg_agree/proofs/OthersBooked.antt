@@ -16,12 +16,12 @@ use Rattle.cg_agree.proofs.MadeWorlds.{MadeFits, SeatMade}
 use Rattle.cg_agree.proofs.OrderFits.{LifeToShow, OrderFits, SeatToShow}
 use Rattle.cg_agree.proofs.OthersShown.{AreShown, IsActionShown, IsMessageShown, IsNameShown, LifeShown, SeatShown, later-shown, names-shown}
 use Rattle.cg_step.specs.RunMarkLaws.{run-names}
-use Rattle.cg_agree.specs.Attempts.{held_in}
-use Rattle.cg_agree.specs.Chronicle.{Chronicle}
-use Rattle.cg_agree.specs.Facts.{Invariant}
-use Rattle.cg_agree.specs.Looks.{OfCores, disk_held, greens_of, on_disk, ordered_in, stood_of}
-use Rattle.cg_agree.specs.Played.{IsSame, StandsBeside}
-use Rattle.cg_agree.specs.World.{Down, Life, Seat, Up, World, replica_of, running, seat_of}
+use Rattle.cg_model.specs.Attempts.{held_in}
+use Rattle.cg_model.specs.Chronicle.{Chronicle}
+use Rattle.cg_model.specs.Facts.{Invariant}
+use Rattle.cg_model.specs.Looks.{OfCores, disk_held, greens_of, on_disk, ordered_in, stood_of}
+use Rattle.cg_model.specs.Played.{IsSame, StandsBeside}
+use Rattle.cg_model.specs.World.{Down, Life, Seat, Up, World, replica_of, running, seat_of}
 use Rattle.cg_base.specs.Cuts.{index_in}
 use Rattle.cg_base.specs.Ids.{names}
 use Rattle.cg_client.specs.Replica.{Held, Replica, created}

@@ -4,9 +4,9 @@ use Rattle.cg_action.specs.declared.action.Kind.TheVariants.{Update, Join as Joi
 use Rattle.cg_schedule.specs.declared.event.Event.{Event}
 use Rattle.cg_schedule.specs.declared.event.Event.TheVariants.{Start, Split, Merge, Request, Weak, Dirty, Order, Recover, Show, ShowOrder, Gather, End, Receive, Deliver, Rounds, Stop, Fail, Join, Leave, Transfer}
 use Rattle.cg_group.specs.declared.delivery.Delivery.TheVariants.{Transitional as TransitionalIn, Regular as RegularIn}
-use Rattle.cg_agree.specs.Step.{quietly, hand, hand_over, name_also, begin_replica, arm_at, crash_at, recover_from, recover, joined, snapshot_for, without_snapshot, with_pieces, take_pieces, transfer, happens, world_step}
+use Rattle.cg_model.specs.Step.{quietly, hand, hand_over, name_also, begin_replica, arm_at, crash_at, recover_from, recover, joined, snapshot_for, without_snapshot, with_pieces, take_pieces, transfer, happens, world_step}
 use Rattle.cg_stored.specs.Stored.{recover as recover_disk}
-use Rattle.cg_agree.specs.World.{Life, Up, Down, Seat, Snapshot, World, has_begun, seat_of, replica_of, set_life, bring_up, bring_down}
+use Rattle.cg_model.specs.World.{Life, Up, Down, Seat, Snapshot, World, has_begun, seat_of, replica_of, set_life, bring_up, bring_down}
 use Rattle.cg_group.specs.Events.{order, receive, gather, deliveries_at, handed_in_split, transitional_places, furthest, deliver, split, merge}
 use Rattle.std.proofs.Common.{◌≡◌, ◌++◌, ◌∷◌, ◌≤◌, ◌∙◌, ◌-◌, ◌+◌, List, None, Option, Some, ap, arith, cond, eq-eqb, eqb-true, false, fold, inl, inr, length, map, min, refl, subst, suc, sym, zero, ℕ, []}
 use Rattle.std.proofs.lemmas.Bool.{cases_eq, cond-true, cond_both}
@@ -26,12 +26,12 @@ use Rattle.cg_agree.proofs.RestsBehind.{handed-ids, split-to}
 use Rattle.cg_agree.proofs.TurnRows.{OfDelivery}
 use Rattle.cg_agree.proofs.TurnWorlds.{life_at}
 use Rattle.cg_agree.proofs.WorldTurns.{IsBehind, from-same, hand-behind, handed-behind}
-use Rattle.cg_agree.specs.Admission.{first_refusal}
-use Rattle.cg_agree.specs.Chronicle.{Chronicle}
-use Rattle.cg_agree.specs.FactsLists.{IsRising}
-use Rattle.cg_agree.specs.Played.{StandsBeside}
-use Rattle.cg_agree.specs.Run.{MayStand}
-use Rattle.cg_agree.specs.Show.{beyond, ended, unshown}
+use Rattle.cg_model.specs.Admission.{first_refusal}
+use Rattle.cg_model.specs.Chronicle.{Chronicle}
+use Rattle.cg_model.specs.FactsLists.{IsRising}
+use Rattle.cg_model.specs.Played.{StandsBeside}
+use Rattle.cg_model.specs.Run.{MayStand}
+use Rattle.cg_model.specs.Show.{beyond, ended, unshown}
 use Rattle.cg_base.specs.Cuts.{index_in}
 use Rattle.cg_base.specs.Lists.{above_up_to}
 use Rattle.cg_base.specs.Weights.{ids}

@@ -11,19 +11,19 @@ use Rattle.cg_report.specs.declared.line.Line.{Line}
 use Rattle.cg_report.specs.contracts.line.LinePartialEq.TheImpl.{ghosts as same_line}
 use Rattle.cg_client.specs.Replica.{Held}
 use Rattle.cg_schedule.specs.declared.event.Event.{Event}
-use Rattle.cg_agree.specs.World.{Seat, World, no_world, running, seat_of}
-use Rattle.cg_agree.specs.Admission.{first_refusal}
-use Rattle.cg_agree.specs.Show.{line_of, up_line, is_news, ended}
-use Rattle.cg_agree.specs.Step.{happens, world_step}
-use Rattle.cg_agree.specs.Run.{MayStand}
-use Rattle.cg_agree.specs.Chronicle.{Chronicle, no_chronicle}
-use Rattle.cg_agree.specs.Looks.{disk_held}
-use Rattle.cg_agree.specs.Noting.{chronicle_step}
-use Rattle.cg_agree.specs.FactsLists.{IsRising}
-use Rattle.cg_agree.specs.Played.{StandsBeside, HoldsFrom}
-use Rattle.cg_agree.specs.Standing.{LeadTo, IsReached}
-use Rattle.cg_agree.specs.PhaseLaws.{phase_at, phase-where}
-use Rattle.cg_agree.specs.Touched.{touched, OthersShowNothingNew}
+use Rattle.cg_model.specs.World.{Seat, World, no_world, running, seat_of}
+use Rattle.cg_model.specs.Admission.{first_refusal}
+use Rattle.cg_model.specs.Show.{line_of, up_line, is_news, ended}
+use Rattle.cg_model.specs.Step.{happens, world_step}
+use Rattle.cg_model.specs.Run.{MayStand}
+use Rattle.cg_model.specs.Chronicle.{Chronicle, no_chronicle}
+use Rattle.cg_model.specs.Looks.{disk_held}
+use Rattle.cg_model.specs.Noting.{chronicle_step}
+use Rattle.cg_model.specs.FactsLists.{IsRising}
+use Rattle.cg_model.specs.Played.{StandsBeside, HoldsFrom}
+use Rattle.cg_model.specs.Standing.{LeadTo, IsReached}
+use Rattle.cg_model.specs.PhaseLaws.{phase_at, phase-where}
+use Rattle.cg_model.specs.Touched.{touched, OthersShowNothingNew}
 use Rattle.cg_agree.proofs.AlwaysMade.{always-holds}
 use Rattle.cg_agree.proofs.EventsLead.{are-admitted, always-stands}
 use Rattle.cg_agree.proofs.HappensLines.{happens-lines}

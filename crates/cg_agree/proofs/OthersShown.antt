@@ -1,6 +1,6 @@
 -- While a replica is down nobody else has an action of it that wasn't shown as made: what the turns of an event make of that.
 use Rattle.cg_step.specs.Step.{Input, Deliveries, Asks, replica_step, take}
-use Rattle.cg_agree.specs.Step.{after_event, hand_to, hand, hand_over}
+use Rattle.cg_model.specs.Step.{after_event, hand_to, hand, hand_over}
 use Rattle.cg_agree.proofs.TurnRows.{OfDelivery, of-deliveries}
 use Rattle.cg_agree.proofs.BookedRows.{HoldsFine, AllFine, each-drop, fine-rule}
 use Rattle.cg_step.specs.Recorded.{OfMessage}
@@ -20,9 +20,9 @@ use Rattle.cg_agree.proofs.GroupSays.{GroupSays, says-down, says-sent}
 use Rattle.cg_agree.proofs.KeptEmpty.{anything}
 use Rattle.cg_agree.proofs.MadeWorlds.{IsCoreAt, LifeSound, SeatSound}
 use Rattle.cg_agree.proofs.WorldTurns.{hand-behind}
-use Rattle.cg_agree.specs.FactsLists.{IsRising}
-use Rattle.cg_agree.specs.Show.{Going, beyond}
-use Rattle.cg_agree.specs.World.{Down, Life, Seat, Up, World, bring_down, seat_of}
+use Rattle.cg_model.specs.FactsLists.{IsRising}
+use Rattle.cg_model.specs.Show.{Going, beyond}
+use Rattle.cg_model.specs.World.{Down, Life, Seat, Up, World, bring_down, seat_of}
 use Rattle.cg_base.specs.Cuts.{index_in}
 use Rattle.cg_base.specs.declared.action_id.ActionId.{ActionId}
 use Rattle.cg_base.specs.declared.weighted.Weighted.{Weighted}

@@ -8,12 +8,12 @@ use Rattle.cg_wire.specs.declared.message.Msg.{Msg}
 use Rattle.cg_group.specs.State.{Sent, Configuration, configuration, no_configuration}
 use Rattle.cg_group.specs.Events.{with_message, with_receipt}
 use Rattle.cg_client.specs.Requests.{settle}
-use Rattle.cg_agree.specs.World.{has_begun}
-use Rattle.cg_agree.specs.Chronicle.{Chronicle}
-use Rattle.cg_agree.specs.Looks.{conf_of, ordered_in, is_regular_at, is_regular_in, placed_of}
-use Rattle.cg_agree.specs.FactsNet.{Seated}
-use Rattle.cg_agree.specs.Small.{Small, Starts, Makes, Enters, Orders, Receives, Hands, Leaves, Asks, Settles, Commits, Crashes, Recovers, Copies, Joins, small_step, take_request, make_configuration}
-use Rattle.cg_agree.specs.Smalls.{may_make, is_running}
+use Rattle.cg_model.specs.World.{has_begun}
+use Rattle.cg_model.specs.Chronicle.{Chronicle}
+use Rattle.cg_model.specs.Looks.{conf_of, ordered_in, is_regular_at, is_regular_in, placed_of}
+use Rattle.cg_model.specs.FactsNet.{Seated}
+use Rattle.cg_model.specs.Small.{Small, Starts, Makes, Enters, Orders, Receives, Hands, Leaves, Asks, Settles, Commits, Crashes, Recovers, Copies, Joins, small_step, take_request, make_configuration}
+use Rattle.cg_model.specs.Smalls.{may_make, is_running}
 use Rattle.cg_agree.proofs.SaidSoFar.{placed-append}
 use Rattle.cg_agree.proofs.GroupKept.{orders-conf, receives-conf, leaving-regular}
 use Rattle.cg_agree.proofs.GroupSound.{GroupSound, made-is}

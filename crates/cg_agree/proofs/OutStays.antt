@@ -8,12 +8,12 @@ use Rattle.cg_group.specs.declared.phase.Phase.{Phase}
 use Rattle.cg_group.specs.declared.phase.Phase.TheVariants.{Down, Alone, Regular, Transitional}
 use Rattle.cg_group.specs.State.{phase_of, regular_in, configuration}
 use Rattle.cg_client.specs.Requests.{settle}
-use Rattle.cg_agree.specs.World.{has_begun}
-use Rattle.cg_agree.specs.Chronicle.{Chronicle, no_chronicle}
-use Rattle.cg_agree.specs.Looks.{ordered_in, is_at, is_in}
-use Rattle.cg_agree.specs.FactsNet.{Seated}
-use Rattle.cg_agree.specs.Small.{Small, Starts, Makes, Enters, Orders, Receives, Hands, Leaves, Asks, Settles, Commits, Crashes, Recovers, Copies, Joins, small_step, take_request, newest_conf}
-use Rattle.cg_agree.specs.Smalls.{may_make, is_running, is_set}
+use Rattle.cg_model.specs.World.{has_begun}
+use Rattle.cg_model.specs.Chronicle.{Chronicle, no_chronicle}
+use Rattle.cg_model.specs.Looks.{ordered_in, is_at, is_in}
+use Rattle.cg_model.specs.FactsNet.{Seated}
+use Rattle.cg_model.specs.Small.{Small, Starts, Makes, Enters, Orders, Receives, Hands, Leaves, Asks, Settles, Commits, Crashes, Recovers, Copies, Joins, small_step, take_request, newest_conf}
+use Rattle.cg_model.specs.Smalls.{may_make, is_running, is_set}
 use Rattle.cg_agree.proofs.BegunKept.{nothing-before}
 use Rattle.cg_agree.proofs.GroupKept.{orders-conf, receives-conf, leaving-regular}
 use Rattle.cg_agree.proofs.GroupSound.{GroupSound, phase-made}

@@ -13,16 +13,16 @@ use Rattle.cg_client.specs.Turn.{Turn}
 use Rattle.cg_stored.specs.Stored.{whiten}
 use Rattle.cg_step.specs.Step.{replica_step}
 use Rattle.cg_step.specs.Crash.{Disk, Ended, Runs, Crashes, whitened}
-use Rattle.cg_agree.specs.World.{Life, Up, Down, Seat, World, no_world, running, seat_of, replica_of}
-use Rattle.cg_agree.specs.Show.{Going, Moved, line_of, up_line}
-use Rattle.cg_agree.specs.Step.{happens}
-use Rattle.cg_agree.specs.Run.{Step, IsRunFrom}
-use Rattle.cg_agree.specs.Shown.{lines_in}
-use Rattle.cg_agree.specs.Agreement.{through, is_down_in, is_recovery_of, is_created_in, lives_since}
-use Rattle.cg_agree.specs.Looks.{on_disk, disk_held}
-use Rattle.cg_agree.specs.FactsLists.{IsRising}
-use Rattle.cg_agree.specs.Played.{AlwaysHolds}
-use Rattle.cg_agree.specs.Telling.{latest, last_line}
+use Rattle.cg_model.specs.World.{Life, Up, Down, Seat, World, no_world, running, seat_of, replica_of}
+use Rattle.cg_model.specs.Show.{Going, Moved, line_of, up_line}
+use Rattle.cg_model.specs.Step.{happens}
+use Rattle.cg_model.specs.Run.{Step, IsRunFrom}
+use Rattle.cg_model.specs.Shown.{lines_in}
+use Rattle.cg_model.specs.Agreement.{through, is_down_in, is_recovery_of, is_created_in, lives_since}
+use Rattle.cg_model.specs.Looks.{on_disk, disk_held}
+use Rattle.cg_model.specs.FactsLists.{IsRising}
+use Rattle.cg_model.specs.Played.{AlwaysHolds}
+use Rattle.cg_model.specs.Telling.{latest, last_line}
 use Rattle.cg_agree.proofs.DiskEnds.{end-cases}
 use Rattle.cg_agree.proofs.SeatFacts.{seat-id}
 use Rattle.cg_agree.proofs.MadeWorlds.{IsCoreAt, LifeSound, SeatSound, green-created}

@@ -7,14 +7,14 @@ use Rattle.std.proofs.lemmas.Bool.{cases_lt, cases_Bool, cond-true, cond-false, 
 use Rattle.cg_base.specs.Cuts.{index_in}
 use Rattle.cg_report.specs.declared.line.Line.{Line}
 use Rattle.cg_client.specs.Replica.{Held, Replica, created}
-use Rattle.cg_agree.specs.World.{Seat, World, seat_of, replica_of}
-use Rattle.cg_agree.specs.Show.{Moved, line_of, ended}
-use Rattle.cg_agree.specs.Step.{happens, world_step}
-use Rattle.cg_agree.specs.Run.{Step}
-use Rattle.cg_agree.specs.Shown.{lines_in}
-use Rattle.cg_agree.specs.Agreement.{through, lives_since}
-use Rattle.cg_agree.specs.Looks.{disk_held}
-use Rattle.cg_agree.specs.Telling.{latest, last_line, printed}
+use Rattle.cg_model.specs.World.{Seat, World, seat_of, replica_of}
+use Rattle.cg_model.specs.Show.{Moved, line_of, ended}
+use Rattle.cg_model.specs.Step.{happens, world_step}
+use Rattle.cg_model.specs.Run.{Step}
+use Rattle.cg_model.specs.Shown.{lines_in}
+use Rattle.cg_model.specs.Agreement.{through, lives_since}
+use Rattle.cg_model.specs.Looks.{disk_held}
+use Rattle.cg_model.specs.Telling.{latest, last_line, printed}
 use Rattle.cg_agree.proofs.RunSteps.{world_of, IsStepAt, StandsFor}
 use Rattle.cg_agree.proofs.RepliesPlaced.{plain}
 use Rattle.cg_agree.proofs.OwedNames.{own_name, own_names}

@@ -26,7 +26,7 @@ use Rattle.cg_group.specs.EachLaws.{Each, Each-above}
 use Rattle.cg_group.specs.PlaceLaws.{at_place-within}
 use Rattle.cg_client.specs.Replica.{Held}
 use Rattle.cg_exchange.specs.ExchangeActions.{message_of}
-use Rattle.cg_agree.specs.FactsReplica.{IsMadeOf}
+use Rattle.cg_model.specs.FactsReplica.{IsMadeOf}
 use Rattle.cg_agree.proofs.HandSays.{has_part}
 use Rattle.cg_agree.proofs.HandsContent.{turn-found}
 use Rattle.cg_agree.proofs.HeldMarks.{IsOneself, rising-green}

@@ -25,8 +25,8 @@ use Rattle.cg_client.specs.Install.{install}
 use Rattle.cg_construct.specs.Construct.{attempt_set, is_announced}
 use Rattle.cg_construct.specs.No.{no_with}
 use Rattle.cg_step.specs.Step.{on_message, on_transitional, take}
-use Rattle.cg_agree.specs.FactsReplica.{is_attempting}
-use Rattle.cg_agree.specs.Small.{take_all, take_parting}
+use Rattle.cg_model.specs.FactsReplica.{is_attempting}
+use Rattle.cg_model.specs.Small.{take_all, take_parting}
 use Rattle.cg_agree.proofs.HeldAll.{installed_by, install-all}
 use Rattle.cg_agree.proofs.HeldMarks.{IsOneself}
 use Rattle.cg_agree.proofs.TurnValues.{even-mark_red, even-mark_yellow}

@@ -14,9 +14,9 @@ use Rattle.cg_client.specs.Turn.{Turn, begin, go_to}
 use Rattle.cg_construct.specs.Construct.{attempt_set, is_announced}
 use Rattle.cg_construct.specs.No.{no_with}
 use Rattle.cg_step.specs.Step.{on_message, on_transitional, take}
-use Rattle.cg_agree.specs.Talk.{act_in}
-use Rattle.cg_agree.specs.FactsReplica.{is_attempting, is_primary}
-use Rattle.cg_agree.specs.Small.{take_all, take_parting}
+use Rattle.cg_model.specs.Talk.{act_in}
+use Rattle.cg_model.specs.FactsReplica.{is_attempting, is_primary}
+use Rattle.cg_model.specs.Small.{take_all, take_parting}
 use Rattle.cg_agree.proofs.TurnKinds.{IsQuiet, HasInstalled}
 use Rattle.cg_agree.proofs.TurnParts.{is_parted, HasParted, never-both, parted-then, parted-first, parted-message, stays-parted}
 

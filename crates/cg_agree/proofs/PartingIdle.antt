@@ -10,8 +10,8 @@ use Rattle.cg_group.specs.State.{Sent, Configuration}
 use Rattle.cg_client.specs.Replica.{NonPrim, Left, Replica}
 use Rattle.cg_client.specs.Turn.{Turn}
 use Rattle.cg_step.specs.Step.{on_message, take as take_one}
-use Rattle.cg_agree.specs.Small.{take_all}
-use Rattle.cg_agree.specs.Total.{IsUsedLeaving, AreTakenLeaving}
+use Rattle.cg_model.specs.Small.{take_all}
+use Rattle.cg_model.specs.Total.{IsUsedLeaving, AreTakenLeaving}
 use Rattle.cg_agree.proofs.PartingNo.{alone-kept, left-kept}
 
 pub taken-append : (ended : Bool) (xs ys : List (Delivery Msg)) (t : Turn) → AreTakenLeaving ended t xs → AreTakenLeaving ended (take_all xs t) ys → AreTakenLeaving ended t (xs ++ ys)

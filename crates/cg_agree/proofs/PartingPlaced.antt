@@ -26,16 +26,16 @@ use Rattle.cg_client.specs.Requests.{is_creating}
 use Rattle.cg_client.specs.Turn.{Turn, begin, go_to}
 use Rattle.cg_client.specs.Marks.{is_unmade, mark_yellow, mark_red, marked, after_first}
 use Rattle.cg_step.specs.Step.{on_message, take as take_one, on_transitional}
-use Rattle.cg_agree.specs.World.{replica_of}
-use Rattle.cg_agree.specs.Chronicle.{Chronicle, Attempt}
-use Rattle.cg_agree.specs.Facts.{Invariant}
-use Rattle.cg_agree.specs.FactsReplica.{IsModeData, HasModeData, IsCore, is_attempting, is_primary, is_exchanging}
-use Rattle.cg_agree.specs.FactsTalk.{handed_talk, count_behind, AreNumbered, AreNumberedAt, IsStateIn}
-use Rattle.cg_agree.specs.Looks.{greens_of, conf_of, members_in, ordered_in, said_in, attempt_of, received_by_all, is_regular_at}
-use Rattle.cg_agree.specs.Small.{take_all}
-use Rattle.cg_agree.specs.Smalls.{implies, ascend_within, hold_earlier, hold_received}
-use Rattle.cg_agree.specs.Talk.{Talk, talk_of, hears_from, is_ended, is_announced as all_announced, may_go_on, may_say, act_in, action_in, state_in, announcer_in, is_full, is_through}
-use Rattle.cg_agree.specs.Total.{fits_red, IsUsedLeaving, AreTakenLeaving}
+use Rattle.cg_model.specs.World.{replica_of}
+use Rattle.cg_model.specs.Chronicle.{Chronicle, Attempt}
+use Rattle.cg_model.specs.Facts.{Invariant}
+use Rattle.cg_model.specs.FactsReplica.{IsModeData, HasModeData, IsCore, is_attempting, is_primary, is_exchanging}
+use Rattle.cg_model.specs.FactsTalk.{handed_talk, count_behind, AreNumbered, AreNumberedAt, IsStateIn}
+use Rattle.cg_model.specs.Looks.{greens_of, conf_of, members_in, ordered_in, said_in, attempt_of, received_by_all, is_regular_at}
+use Rattle.cg_model.specs.Small.{take_all}
+use Rattle.cg_model.specs.Smalls.{implies, ascend_within, hold_earlier, hold_received}
+use Rattle.cg_model.specs.Talk.{Talk, talk_of, hears_from, is_ended, is_announced as all_announced, may_go_on, may_say, act_in, action_in, state_in, announcer_in, is_full, is_through}
+use Rattle.cg_model.specs.Total.{fits_red, IsUsedLeaving, AreTakenLeaving}
 use Rattle.cg_agree.proofs.ActsNext.{may-stand, talk-next, ended-next, heard-next, numbered-next, not-silent}
 use Rattle.cg_agree.proofs.DeadEvidenceKept.{running-core}
 use Rattle.cg_agree.proofs.DiskAhead.{left-own, made-by, LeftOwn}
@@ -57,9 +57,9 @@ use Rattle.cg_group.specs.Ready.{all_received}
 use Rattle.cg_client.specs.Install.{install}
 use Rattle.cg_construct.specs.Construct.{attempt_set, is_announced}
 use Rattle.cg_construct.specs.No.{no_with}
-use Rattle.cg_agree.specs.FactsNet.{IsPhase}
-use Rattle.cg_agree.specs.Fronts.{When}
-use Rattle.cg_agree.specs.Levels.{announced_at, lacks_announcement, is_installed}
+use Rattle.cg_model.specs.FactsNet.{IsPhase}
+use Rattle.cg_model.specs.Fronts.{When}
+use Rattle.cg_model.specs.Levels.{announced_at, lacks_announcement, is_installed}
 use Rattle.cg_agree.proofs.Announced.{announced-front, announced-within, announced-place}
 use Rattle.cg_agree.proofs.AttemptSteps.{attempting-now, act-shows, primary-announced}
 use Rattle.cg_agree.proofs.CreatesTalk.{grows-all}

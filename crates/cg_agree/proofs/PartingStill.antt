@@ -13,8 +13,8 @@ use Rattle.cg_client.specs.Replica.{State, RegPrim, TransPrim, ExchangeStates, E
 use Rattle.cg_client.specs.Turn.{Turn, begin}
 use Rattle.cg_client.specs.Marks.{is_unmade, marked, mark_red}
 use Rattle.cg_step.specs.Step.{on_message, on_transitional, take}
-use Rattle.cg_agree.specs.FactsReplica.{is_primary, is_attempting}
-use Rattle.cg_agree.specs.Small.{take_parting}
+use Rattle.cg_model.specs.FactsReplica.{is_primary, is_attempting}
+use Rattle.cg_model.specs.Small.{take_parting}
 use Rattle.cg_agree.proofs.PartingNo.{kept-places}
 
 -- in no primary component and in no attempt, behind a configuration

@@ -12,17 +12,17 @@ use Rattle.cg_knowledge.specs.declared.summary.Summary.{Summary}
 use Rattle.cg_knowledge.specs.Members.{senders}
 use Rattle.cg_knowledge.specs.Primary.{newest_index, known_primary}
 use Rattle.cg_client.specs.Replica.{Replica}
-use Rattle.cg_agree.specs.FactsReplica.{is_exchanging}
-use Rattle.cg_agree.specs.World.{replica_of}
-use Rattle.cg_agree.specs.Chronicle.{Told, Attempt, Chronicle, no_chronicle}
-use Rattle.cg_agree.specs.Fronts.{IsSomeWith}
-use Rattle.cg_agree.specs.Looks.{greens_of, told_in, ordered_in, attempt_of}
-use Rattle.cg_agree.specs.FactsAttempts.{AreParts, AttemptShape}
-use Rattle.cg_agree.specs.FactsExchange.{best_told}
-use Rattle.cg_agree.specs.FactsTalk.{whole_talk, TalkLegal}
-use Rattle.cg_agree.specs.Facts.{Invariant}
-use Rattle.cg_agree.specs.Small.{Small, Starts, Makes, Enters, Orders, Receives, Hands, Leaves, Asks, Settles, Commits, Crashes, Recovers, Copies, Joins, start, small_step}
-use Rattle.cg_agree.specs.Smalls.{may_make, is_set}
+use Rattle.cg_model.specs.FactsReplica.{is_exchanging}
+use Rattle.cg_model.specs.World.{replica_of}
+use Rattle.cg_model.specs.Chronicle.{Told, Attempt, Chronicle, no_chronicle}
+use Rattle.cg_model.specs.Fronts.{IsSomeWith}
+use Rattle.cg_model.specs.Looks.{greens_of, told_in, ordered_in, attempt_of}
+use Rattle.cg_model.specs.FactsAttempts.{AreParts, AttemptShape}
+use Rattle.cg_model.specs.FactsExchange.{best_told}
+use Rattle.cg_model.specs.FactsTalk.{whole_talk, TalkLegal}
+use Rattle.cg_model.specs.Facts.{Invariant}
+use Rattle.cg_model.specs.Small.{Small, Starts, Makes, Enters, Orders, Receives, Hands, Leaves, Asks, Settles, Commits, Crashes, Recovers, Copies, Joins, start, small_step}
+use Rattle.cg_model.specs.Smalls.{may_make, is_set}
 use Rattle.cg_agree.proofs.AttemptSteps.{IsHanded, attempt-step}
 use Rattle.cg_agree.proofs.AttemptsCame.{Begins, Came, Stayed, WasLeft, WasEntered, WasInstalled, WasMade, came}
 use Rattle.cg_agree.proofs.BegunKept.{nothing-before}

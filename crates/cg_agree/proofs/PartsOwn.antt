@@ -15,12 +15,12 @@ use Rattle.cg_plan.specs.declared.parts.SentPart.{SentPart}
 use Rattle.cg_plan.specs.Plan.{green_part, red_part, reds_of, creators, farthest, least_greens, least_reds, plan_of}
 use Rattle.cg_group.specs.EachLaws.{Each, Each-append, Each-weaker}
 use Rattle.cg_client.specs.Replica.{Held}
-use Rattle.cg_agree.specs.Chronicle.{Told, Chronicle}
-use Rattle.cg_agree.specs.Looks.{told_in}
-use Rattle.cg_agree.specs.Facts.{Invariant}
-use Rattle.cg_agree.specs.FactsExchange.{HasReached}
-use Rattle.cg_agree.specs.FactsReplica.{IsLined, IsMadeOf}
-use Rattle.cg_agree.specs.FactsTalk.{AreTold}
+use Rattle.cg_model.specs.Chronicle.{Told, Chronicle}
+use Rattle.cg_model.specs.Looks.{told_in}
+use Rattle.cg_model.specs.Facts.{Invariant}
+use Rattle.cg_model.specs.FactsExchange.{HasReached}
+use Rattle.cg_model.specs.FactsReplica.{IsLined, IsMadeOf}
+use Rattle.cg_model.specs.FactsTalk.{AreTold}
 use Rattle.cg_agree.proofs.EndCovers.{OfEach}
 use Rattle.cg_agree.proofs.EndReached.{best-bounds}
 use Rattle.cg_agree.proofs.EverServer.{was_ever-front}

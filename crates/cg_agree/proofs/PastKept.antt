@@ -14,15 +14,15 @@ use Rattle.cg_client.specs.Requests.{settle}
 use Rattle.cg_client.specs.Summary.{summary_of}
 use Rattle.cg_client.specs.Turn.{Turn, begin}
 use Rattle.cg_step.specs.Crash.{Disk}
-use Rattle.cg_agree.specs.World.{World, Up, Seat, running, seat_of, replica_of, has_begun}
-use Rattle.cg_agree.specs.Step.{begin_replica}
-use Rattle.cg_agree.specs.Chronicle.{Told, Chronicle}
-use Rattle.cg_agree.specs.Looks.{told_in, is_at, is_member, greens_of}
-use Rattle.cg_agree.specs.Talk.{summary_in}
-use Rattle.cg_agree.specs.FactsNet.{PhaseSound, PastLeft, Seated}
-use Rattle.cg_agree.specs.FactsReplica.{IsModeData}
-use Rattle.cg_agree.specs.Small.{start, Small, Starts, Makes, Enters, Orders, Receives, Hands, Leaves, Asks, Settles, Commits, Crashes, Recovers, Copies, Joins, small_step, turning_as, coming, take_newest, newest_conf, after_turn, take_request}
-use Rattle.cg_agree.specs.Smalls.{may_make, is_between, is_running}
+use Rattle.cg_model.specs.World.{World, Up, Seat, running, seat_of, replica_of, has_begun}
+use Rattle.cg_model.specs.Step.{begin_replica}
+use Rattle.cg_model.specs.Chronicle.{Told, Chronicle}
+use Rattle.cg_model.specs.Looks.{told_in, is_at, is_member, greens_of}
+use Rattle.cg_model.specs.Talk.{summary_in}
+use Rattle.cg_model.specs.FactsNet.{PhaseSound, PastLeft, Seated}
+use Rattle.cg_model.specs.FactsReplica.{IsModeData}
+use Rattle.cg_model.specs.Small.{start, Small, Starts, Makes, Enters, Orders, Receives, Hands, Leaves, Asks, Settles, Commits, Crashes, Recovers, Copies, Joins, small_step, turning_as, coming, take_newest, newest_conf, after_turn, take_request}
+use Rattle.cg_model.specs.Smalls.{may_make, is_between, is_running}
 use Rattle.cg_agree.proofs.EntersTurn.{told-newest}
 use Rattle.cg_agree.proofs.GroupKept.{in_world, begins-step, orders-conf, receives-conf, leaving-regular}
 use Rattle.cg_agree.proofs.GroupSound.{GroupSound, phase-made}

@@ -6,8 +6,8 @@ use Rattle.cg_base.specs.Lists.{count_up, above_up_to}
 use Rattle.cg_base.specs.Sets.{has}
 use Rattle.cg_wire.specs.declared.message.Msg.{Msg}
 use Rattle.cg_group.specs.State.{Configuration, has_received}
-use Rattle.cg_agree.specs.Fronts.{Front}
-use Rattle.cg_agree.specs.Smalls.{implies, ascend_within, hold_received}
+use Rattle.cg_model.specs.Fronts.{Front}
+use Rattle.cg_model.specs.Smalls.{implies, ascend_within, hold_received}
 use Rattle.cg_agree.proofs.ReachFacts.{all-at}
 
 -- places that ascend are above the first number

@@ -12,13 +12,13 @@ use Rattle.cg_knowledge.specs.Verdict.{decides}
 use Rattle.cg_wire.specs.declared.message.Msg.{Msg}
 use Rattle.cg_wire.specs.declared.message.Msg.TheVariants.{Action as ActionMsg, State as StateMsg, GreenItem, RedItem, Cpc}
 use Rattle.cg_client.specs.Replica.{Held, State, RegPrim, TransPrim, ExchangeStates, ExchangeActions, Construct, No, Un, NonPrim, Left, Replica}
-use Rattle.cg_agree.specs.Chronicle.{Told, Chronicle}
-use Rattle.cg_agree.specs.Looks.{greens_of, told_in, is_regular_at, is_regular_in, members_in}
-use Rattle.cg_agree.specs.Talk.{Talk, hears_from, is_full, is_through, is_ended, is_announced, state_behind, state_in}
-use Rattle.cg_agree.specs.Fronts.{IsSomeWith}
-use Rattle.cg_agree.specs.FactsTalk.{AreTold, summaries_of, whole_talk}
-use Rattle.cg_agree.specs.FactsExchange.{HoldsStill, IsInExchange, IsUnmoved, IsGoingOn, best_told}
-use Rattle.cg_agree.specs.Facts.{Invariant}
+use Rattle.cg_model.specs.Chronicle.{Told, Chronicle}
+use Rattle.cg_model.specs.Looks.{greens_of, told_in, is_regular_at, is_regular_in, members_in}
+use Rattle.cg_model.specs.Talk.{Talk, hears_from, is_full, is_through, is_ended, is_announced, state_behind, state_in}
+use Rattle.cg_model.specs.Fronts.{IsSomeWith}
+use Rattle.cg_model.specs.FactsTalk.{AreTold, summaries_of, whole_talk}
+use Rattle.cg_model.specs.FactsExchange.{HoldsStill, IsInExchange, IsUnmoved, IsGoingOn, best_told}
+use Rattle.cg_model.specs.Facts.{Invariant}
 use Rattle.cg_agree.proofs.EndCovers.{OfEach}
 use Rattle.cg_agree.proofs.EndQuorum.{both-each}
 use Rattle.cg_agree.proofs.HandSays.{find-holds}

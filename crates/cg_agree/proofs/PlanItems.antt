@@ -17,7 +17,7 @@ use Rattle.cg_plan.specs.declared.parts.SentPart.{SentPart}
 use Rattle.cg_plan.specs.declared.parts.Sent.{Sent as PlanSent}
 use Rattle.cg_plan.specs.Items.{red_item, sent_by, items_of_turn, items_of_plan}
 use Rattle.cg_plan.specs.Plan.{green_part, red_part, reds_of, creators, farthest, least_greens, least_reds, plan_of}
-use Rattle.cg_agree.specs.FactsExchange.{red_index, red_behind}
+use Rattle.cg_model.specs.FactsExchange.{red_index, red_behind}
 use Rattle.cg_agree.proofs.DueAll.{take-beyond, take-next}
 
 -- ---- the greatest of some numbers

@@ -19,9 +19,9 @@ use Rattle.cg_plan.specs.Plan.{least_greens, least_reds, plan_of}
 use Rattle.cg_client.specs.Replica.{Held}
 use Rattle.cg_client.specs.Turn.{Turn}
 use Rattle.cg_client.specs.Marks.{is_unmade, marked, mark_red, after_first, can_be_green, place_green, mark_green, mark_green_at, with_green}
-use Rattle.cg_agree.specs.Chronicle.{Told}
-use Rattle.cg_agree.specs.FactsExchange.{red_index, red_behind}
-use Rattle.cg_agree.specs.FactsReplica.{IsMadeOf}
+use Rattle.cg_model.specs.Chronicle.{Told}
+use Rattle.cg_model.specs.FactsExchange.{red_index, red_behind}
+use Rattle.cg_model.specs.FactsReplica.{IsMadeOf}
 use Rattle.cg_step.specs.Holds.{run_on, cut_behind}
 use Rattle.cg_agree.proofs.HandNext.{take-next}
 use Rattle.cg_agree.proofs.HeldMarks.{IsOneself, rising-green, rising-red, red-oneself, green-oneself}

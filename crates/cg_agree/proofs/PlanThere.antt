@@ -20,13 +20,13 @@ use Rattle.cg_client.specs.Replica.{Held, State, ExchangeStates, ExchangeActions
 use Rattle.cg_client.specs.Turn.{Turn, begin}
 use Rattle.cg_exchange.specs.ExchangeActions.{progress, mark_item, take_item}
 use Rattle.cg_exchange.specs.PlanEnd.{usable_names}
-use Rattle.cg_agree.specs.World.{replica_of}
-use Rattle.cg_agree.specs.Chronicle.{Told, Chronicle}
-use Rattle.cg_agree.specs.Looks.{members_in, ordered_in}
-use Rattle.cg_agree.specs.Talk.{Talk, hears_from, is_full, is_through, state_behind, state_in}
-use Rattle.cg_agree.specs.Facts.{Invariant}
+use Rattle.cg_model.specs.World.{replica_of}
+use Rattle.cg_model.specs.Chronicle.{Told, Chronicle}
+use Rattle.cg_model.specs.Looks.{members_in, ordered_in}
+use Rattle.cg_model.specs.Talk.{Talk, hears_from, is_full, is_through, state_behind, state_in}
+use Rattle.cg_model.specs.Facts.{Invariant}
 use Rattle.cg_step.specs.Holds.{run_on, cut_behind, Rising}
-use Rattle.cg_agree.specs.FactsTalk.{AreTold, handed_talk}
+use Rattle.cg_model.specs.FactsTalk.{AreTold, handed_talk}
 use Rattle.cg_agree.proofs.AnswersOwn.{due-green, due-red, still, ended-known}
 use Rattle.cg_agree.proofs.ClearedDead.{IsToldIn, each-told}
 use Rattle.cg_agree.proofs.CoreKept.{has_all, done_count, EndFits}

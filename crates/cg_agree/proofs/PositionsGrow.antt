@@ -10,15 +10,15 @@ use Rattle.cg_group.specs.State.{phase_of}
 use Rattle.cg_client.specs.Replica.{Replica}
 use Rattle.cg_report.specs.declared.line.Line.{Line}
 use Rattle.cg_report.specs.declared.line.UpLine.{UpLine}
-use Rattle.cg_agree.specs.World.{Life, Up, Down, Seat, World, no_world, running, seat_of, replica_of}
-use Rattle.cg_agree.specs.Show.{Moved, up_line}
-use Rattle.cg_agree.specs.Run.{Step, IsRunFrom, world_after}
-use Rattle.cg_agree.specs.Shown.{lines_in, last_up, position_of}
-use Rattle.cg_agree.specs.Telling.{last_of}
-use Rattle.cg_agree.specs.Agreement.{through, may_move}
-use Rattle.cg_agree.specs.Chronicle.{Chronicle, no_chronicle}
-use Rattle.cg_agree.specs.Noting.{chronicle_step, chronicle_after}
-use Rattle.cg_agree.specs.Played.{AlwaysHolds}
+use Rattle.cg_model.specs.World.{Life, Up, Down, Seat, World, no_world, running, seat_of, replica_of}
+use Rattle.cg_model.specs.Show.{Moved, up_line}
+use Rattle.cg_model.specs.Run.{Step, IsRunFrom, world_after}
+use Rattle.cg_model.specs.Shown.{lines_in, last_up, position_of}
+use Rattle.cg_model.specs.Telling.{last_of}
+use Rattle.cg_model.specs.Agreement.{through, may_move}
+use Rattle.cg_model.specs.Chronicle.{Chronicle, no_chronicle}
+use Rattle.cg_model.specs.Noting.{chronicle_step, chronicle_after}
+use Rattle.cg_model.specs.Played.{AlwaysHolds}
 use Rattle.cg_agree.proofs.CountsGrow.{held_at, count_at, CountGrows, event-counts}
 use Rattle.cg_agree.proofs.LinesShown.{lines-each, lines-last, position-shown}
 use Rattle.cg_agree.proofs.RunForward.{IsStepOf, of-run}

@@ -7,16 +7,16 @@ use Rattle.cg_report.specs.declared.entry.Shown.TheVariants.{Greens}
 use Rattle.cg_schedule.specs.declared.event.Event.{Event}
 use Rattle.cg_schedule.specs.declared.event.Event.TheVariants.{Show}
 use Rattle.cg_client.specs.Replica.{Replica}
-use Rattle.cg_agree.specs.World.{Seat, World, no_world, replica_of, running}
-use Rattle.cg_agree.specs.Show.{Moved, ended}
-use Rattle.cg_agree.specs.Step.{happens, world_step}
-use Rattle.cg_agree.specs.Run.{Step, IsRunFrom, world_after}
-use Rattle.cg_agree.specs.Shown.{order_of, position_of, white_of}
-use Rattle.cg_agree.specs.Agreement.{ComesAfter, through, may_move, Reaches}
-use Rattle.cg_agree.specs.Chronicle.{Chronicle, no_chronicle}
-use Rattle.cg_agree.specs.Noting.{chronicle_step, chronicle_after}
-use Rattle.cg_agree.specs.FactsReplica.{IsModeData}
-use Rattle.cg_agree.specs.Played.{StandsBeside, AlwaysHolds}
+use Rattle.cg_model.specs.World.{Seat, World, no_world, replica_of, running}
+use Rattle.cg_model.specs.Show.{Moved, ended}
+use Rattle.cg_model.specs.Step.{happens, world_step}
+use Rattle.cg_model.specs.Run.{Step, IsRunFrom, world_after}
+use Rattle.cg_model.specs.Shown.{order_of, position_of, white_of}
+use Rattle.cg_model.specs.Agreement.{ComesAfter, through, may_move, Reaches}
+use Rattle.cg_model.specs.Chronicle.{Chronicle, no_chronicle}
+use Rattle.cg_model.specs.Noting.{chronicle_step, chronicle_after}
+use Rattle.cg_model.specs.FactsReplica.{IsModeData}
+use Rattle.cg_model.specs.Played.{StandsBeside, AlwaysHolds}
 use Rattle.cg_agree.proofs.LinesShown.{AreLinesTold, position-shown, white-shown}
 use Rattle.cg_agree.proofs.OrderGrowsRun.{shown-of}
 use Rattle.cg_agree.proofs.OrderReached.{reaches-order}

@@ -8,17 +8,17 @@ use Rattle.cg_action.specs.declared.action.Action.{Action}
 use Rattle.cg_members.specs.Listed.{line_of}
 use Rattle.cg_members.specs.Servers.{members_of, is_server, starting}
 use Rattle.cg_queue.specs.Queue.{names_of}
-use Rattle.cg_agree.specs.World.{World, no_world, has_begun}
-use Rattle.cg_agree.specs.Run.{Step, IsRunFrom, world_after}
-use Rattle.cg_agree.specs.Shown.{order_of, made_actions, ordered_actions, start_of, position_of, white_of}
-use Rattle.cg_agree.specs.Telling.{made_of}
-use Rattle.cg_agree.specs.Agreement.{ComesAfter, through, is_server_at, Prefix}
-use Rattle.cg_agree.specs.Chronicle.{Chronicle, no_chronicle}
-use Rattle.cg_agree.specs.Fronts.{Front, When}
-use Rattle.cg_agree.specs.FactsExchange.{AreReached}
-use Rattle.cg_agree.specs.FactsReplica.{join_from}
-use Rattle.cg_agree.specs.Noting.{chronicle_after}
-use Rattle.cg_agree.specs.Played.{StandsBeside, AlwaysHolds}
+use Rattle.cg_model.specs.World.{World, no_world, has_begun}
+use Rattle.cg_model.specs.Run.{Step, IsRunFrom, world_after}
+use Rattle.cg_model.specs.Shown.{order_of, made_actions, ordered_actions, start_of, position_of, white_of}
+use Rattle.cg_model.specs.Telling.{made_of}
+use Rattle.cg_model.specs.Agreement.{ComesAfter, through, is_server_at, Prefix}
+use Rattle.cg_model.specs.Chronicle.{Chronicle, no_chronicle}
+use Rattle.cg_model.specs.Fronts.{Front, When}
+use Rattle.cg_model.specs.FactsExchange.{AreReached}
+use Rattle.cg_model.specs.FactsReplica.{join_from}
+use Rattle.cg_model.specs.Noting.{chronicle_after}
+use Rattle.cg_model.specs.Played.{StandsBeside, AlwaysHolds}
 use Rattle.cg_agree.proofs.FrontFacts.{Front-of_both, take-Front}
 use Rattle.cg_agree.proofs.CreatorNumbered.{stands-of, names-count}
 use Rattle.cg_agree.proofs.LinesGreens.{join-within, join-front}

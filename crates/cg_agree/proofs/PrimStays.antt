@@ -19,17 +19,17 @@ use Rattle.cg_step.specs.Crash.{Ended, Runs, Crashes as EndsInCrash}
 use Rattle.cg_step.specs.Commit.{commits}
 use Rattle.cg_schedule.specs.declared.event.Event.{Event}
 use Rattle.cg_schedule.specs.declared.event.Event.TheVariants.{Start, Split, Merge, Request, Weak, Dirty, Order, Recover, Show, ShowOrder, Gather, End, Receive, Deliver, Rounds, Stop, Fail, Join, Leave, Transfer}
-use Rattle.cg_agree.specs.World.{Life, Up, Down, Seat, Snapshot, World, seat_of, replica_of}
-use Rattle.cg_agree.specs.Step.{snapshot_for}
-use Rattle.cg_agree.specs.Turns.{Taken, stands, turns_of}
-use Rattle.cg_agree.specs.Chronicle.{Attempt, Chronicle}
-use Rattle.cg_agree.specs.Looks.{attempt_of, top_of, snapshot_of}
-use Rattle.cg_agree.specs.Levels.{prim_of}
-use Rattle.cg_agree.specs.Small.{Small, Starts, Makes, Enters, Orders, Receives, Hands, Leaves, Asks, Settles, Commits, Crashes, Recovers, Copies, Joins, small_step, commit_as, crash_as, recover_as, coming, take_newest, handed_next, take_next, leaving, take_parting, take_request, copy_as}
+use Rattle.cg_model.specs.World.{Life, Up, Down, Seat, Snapshot, World, seat_of, replica_of}
+use Rattle.cg_model.specs.Step.{snapshot_for}
+use Rattle.cg_model.specs.Turns.{Taken, stands, turns_of}
+use Rattle.cg_model.specs.Chronicle.{Attempt, Chronicle}
+use Rattle.cg_model.specs.Looks.{attempt_of, top_of, snapshot_of}
+use Rattle.cg_model.specs.Levels.{prim_of}
+use Rattle.cg_model.specs.Small.{Small, Starts, Makes, Enters, Orders, Receives, Hands, Leaves, Asks, Settles, Commits, Crashes, Recovers, Copies, Joins, small_step, commit_as, crash_as, recover_as, coming, take_newest, handed_next, take_next, leaving, take_parting, take_request, copy_as}
 use Rattle.cg_client.specs.Requests.{settle}
-use Rattle.cg_agree.specs.Smalls.{smalls_in, turns_as, ending, ending_as, leaving_steps, order_steps, receive_steps, missing, copy_steps, join_steps}
-use Rattle.cg_agree.specs.Noting.{chronicle_step, played}
-use Rattle.cg_agree.specs.Fronts.{Front}
+use Rattle.cg_model.specs.Smalls.{smalls_in, turns_as, ending, ending_as, leaving_steps, order_steps, receive_steps, missing, copy_steps, join_steps}
+use Rattle.cg_model.specs.Noting.{chronicle_step, played}
+use Rattle.cg_model.specs.Fronts.{Front}
 use Rattle.cg_agree.proofs.FrontFacts.{Front-length, Front-append}
 use Rattle.cg_agree.proofs.BegunKept.{start-turning, start-joins}
 use Rattle.cg_agree.proofs.SameAttempt.{KeepsAttempts, keeps-refl, keeps-then, attempts-kept}

@@ -14,15 +14,15 @@ use Rattle.cg_client.specs.Replica.{State, RegPrim, Replica}
 use Rattle.cg_client.specs.Turn.{begin}
 use Rattle.cg_client.specs.Marks.{can_be_green, mark_green}
 use Rattle.cg_step.specs.Step.{on_message}
-use Rattle.cg_agree.specs.Chronicle.{Past, Attempt, Chronicle}
-use Rattle.cg_agree.specs.Looks.{past_of, greens_of, conf_at, ordered_in, attempt_at, installation}
-use Rattle.cg_agree.specs.Talk.{Talk, no_talk, hears_from, hears, act_in, acts_in}
-use Rattle.cg_agree.specs.FactsTalk.{handed_talk, count_behind, AreNumbered, AreNumberedAt}
-use Rattle.cg_agree.specs.FactsReplica.{is_primary}
-use Rattle.cg_agree.specs.FactsGreens.{IsOnLine, IsHandedGreen}
-use Rattle.cg_agree.specs.Facts.{Invariant}
-use Rattle.cg_agree.specs.Small.{Hands, newly_green, installing, small_step}
-use Rattle.cg_agree.specs.Smalls.{may_make}
+use Rattle.cg_model.specs.Chronicle.{Past, Attempt, Chronicle}
+use Rattle.cg_model.specs.Looks.{past_of, greens_of, conf_at, ordered_in, attempt_at, installation}
+use Rattle.cg_model.specs.Talk.{Talk, no_talk, hears_from, hears, act_in, acts_in}
+use Rattle.cg_model.specs.FactsTalk.{handed_talk, count_behind, AreNumbered, AreNumberedAt}
+use Rattle.cg_model.specs.FactsReplica.{is_primary}
+use Rattle.cg_model.specs.FactsGreens.{IsOnLine, IsHandedGreen}
+use Rattle.cg_model.specs.Facts.{Invariant}
+use Rattle.cg_model.specs.Small.{Hands, newly_green, installing, small_step}
+use Rattle.cg_model.specs.Smalls.{may_make}
 use Rattle.cg_agree.proofs.ActsSaid.{acts-of}
 use Rattle.cg_agree.proofs.AttemptSteps.{hands-installing}
 use Rattle.cg_agree.proofs.AttemptsTurn.{installed-attempts}

@@ -17,18 +17,18 @@ use Rattle.cg_client.specs.Turn.{Turn, begin}
 use Rattle.cg_client.specs.Requests.{settle}
 use Rattle.cg_stored.specs.Stored.{stored_of, whiten}
 use Rattle.cg_step.specs.Crash.{new_disk, at_rest, recovered, disk_recovered}
-use Rattle.cg_agree.specs.World.{Life, Up, Down, Seat, Snapshot, seat_of, replica_of, running, has_begun, is_left}
-use Rattle.cg_agree.specs.Step.{joined}
-use Rattle.cg_agree.specs.Chronicle.{Past, Attempt, Chronicle}
-use Rattle.cg_agree.specs.Fronts.{When}
-use Rattle.cg_agree.specs.Looks.{past_of, greens_of, on_disk, disk_held, conf_at, attempt_of, attempt_at, copied_for}
-use Rattle.cg_agree.specs.FactsTalk.{ModeFits, IsStateIn, IsTransitional}
-use Rattle.cg_agree.specs.FactsReplica.{IsModeData, HasModeData, IsInPrimary, IsCounted, is_primary}
-use Rattle.cg_agree.specs.FactsAttempts.{IsAttempt}
-use Rattle.cg_agree.specs.FactsGreens.{IsOnLine, IsHandedGreen, PrimaryGreens}
-use Rattle.cg_agree.specs.Facts.{Invariant}
-use Rattle.cg_agree.specs.Small.{Small, Starts, Makes, Enters, Orders, Receives, Hands, Leaves, Asks, Settles, Commits, Crashes, Recovers, Copies, Joins, new_past, struck, newest_conf, turning, take_newest, take_next, take_parting, take_request, coming, handed_next, leaving, commit_as, crash_as, recover_as, copy_as, join_with, small_step}
-use Rattle.cg_agree.specs.Smalls.{may_make, is_running, is_set}
+use Rattle.cg_model.specs.World.{Life, Up, Down, Seat, Snapshot, seat_of, replica_of, running, has_begun, is_left}
+use Rattle.cg_model.specs.Step.{joined}
+use Rattle.cg_model.specs.Chronicle.{Past, Attempt, Chronicle}
+use Rattle.cg_model.specs.Fronts.{When}
+use Rattle.cg_model.specs.Looks.{past_of, greens_of, on_disk, disk_held, conf_at, attempt_of, attempt_at, copied_for}
+use Rattle.cg_model.specs.FactsTalk.{ModeFits, IsStateIn, IsTransitional}
+use Rattle.cg_model.specs.FactsReplica.{IsModeData, HasModeData, IsInPrimary, IsCounted, is_primary}
+use Rattle.cg_model.specs.FactsAttempts.{IsAttempt}
+use Rattle.cg_model.specs.FactsGreens.{IsOnLine, IsHandedGreen, PrimaryGreens}
+use Rattle.cg_model.specs.Facts.{Invariant}
+use Rattle.cg_model.specs.Small.{Small, Starts, Makes, Enters, Orders, Receives, Hands, Leaves, Asks, Settles, Commits, Crashes, Recovers, Copies, Joins, new_past, struck, newest_conf, turning, take_newest, take_next, take_parting, take_request, coming, handed_next, leaving, commit_as, crash_as, recover_as, copy_as, join_with, small_step}
+use Rattle.cg_model.specs.Smalls.{may_make, is_running, is_set}
 use Rattle.cg_agree.proofs.BegunKept.{nothing-before}
 use Rattle.cg_agree.proofs.ChronicleFacts.{past-begun}
 use Rattle.cg_agree.proofs.CoresKept.{past-there}

@@ -14,18 +14,18 @@ use Rattle.cg_report.specs.declared.line.Line.{Line}
 use Rattle.cg_report.specs.declared.line.UpLine.{UpLine}
 use Rattle.cg_schedule.specs.declared.event.Event.{Event}
 use Rattle.cg_schedule.specs.declared.event.Event.TheVariants.{Start}
-use Rattle.cg_agree.specs.World.{Life, Up, Down, Seat, World, no_world, running, replica_of}
-use Rattle.cg_agree.specs.Show.{Moved, line_of, is_news, ended}
-use Rattle.cg_agree.specs.Step.{happens, world_step}
-use Rattle.cg_agree.specs.Run.{Step, MayStand, IsRunFrom}
-use Rattle.cg_agree.specs.Shown.{lines_in, all_up_lines}
-use Rattle.cg_agree.specs.Chronicle.{Chronicle, no_chronicle}
-use Rattle.cg_agree.specs.Looks.{top_of, attempt_at}
-use Rattle.cg_agree.specs.Levels.{prim_at, prim_of}
-use Rattle.cg_agree.specs.FactsLists.{IsRising}
-use Rattle.cg_agree.specs.Noting.{chronicle_step, chronicle_after}
-use Rattle.cg_agree.specs.Played.{StandsBeside, HoldsFrom, AlwaysHolds}
-use Rattle.cg_agree.specs.SeatLaws.{IsSeated, seats_stay}
+use Rattle.cg_model.specs.World.{Life, Up, Down, Seat, World, no_world, running, replica_of}
+use Rattle.cg_model.specs.Show.{Moved, line_of, is_news, ended}
+use Rattle.cg_model.specs.Step.{happens, world_step}
+use Rattle.cg_model.specs.Run.{Step, MayStand, IsRunFrom}
+use Rattle.cg_model.specs.Shown.{lines_in, all_up_lines}
+use Rattle.cg_model.specs.Chronicle.{Chronicle, no_chronicle}
+use Rattle.cg_model.specs.Looks.{top_of, attempt_at}
+use Rattle.cg_model.specs.Levels.{prim_at, prim_of}
+use Rattle.cg_model.specs.FactsLists.{IsRising}
+use Rattle.cg_model.specs.Noting.{chronicle_step, chronicle_after}
+use Rattle.cg_model.specs.Played.{StandsBeside, HoldsFrom, AlwaysHolds}
+use Rattle.cg_model.specs.SeatLaws.{IsSeated, seats_stay}
 use Rattle.cg_agree.proofs.ReachWorld.{opened-at, opened-attempt}
 use Rattle.cg_agree.proofs.CreatorNumbered.{admitted-of}
 use Rattle.cg_agree.proofs.PrimStays.{StaysOn, stays-refl, stays-then, event-stays, IsKnownIn, known-stays, known-same}

@@ -14,12 +14,12 @@ use Rattle.cg_queue.specs.Queue.{names_of}
 use Rattle.cg_wire.specs.declared.message.Msg.{Msg}
 use Rattle.cg_wire.specs.declared.message.Msg.TheVariants.{Action as ActionMsg, State as StateMsg, GreenItem, RedItem, Cpc}
 use Rattle.cg_group.specs.State.{Sent}
-use Rattle.cg_agree.specs.Quiet.{is_quiet, is_known_in}
-use Rattle.cg_agree.specs.Chronicle.{Chronicle}
-use Rattle.cg_agree.specs.Looks.{members_in, ordered_in, placed_of}
-use Rattle.cg_agree.specs.Talk.{Talk, no_talk, hears, hears_from, is_full, is_through, is_legal, may_say, act_in, acts_in, known_up_to}
-use Rattle.cg_agree.specs.FactsTalk.{whole_talk, of_creator, count_behind}
-use Rattle.cg_agree.specs.Facts.{Invariant}
+use Rattle.cg_model.specs.Quiet.{is_quiet, is_known_in}
+use Rattle.cg_model.specs.Chronicle.{Chronicle}
+use Rattle.cg_model.specs.Looks.{members_in, ordered_in, placed_of}
+use Rattle.cg_model.specs.Talk.{Talk, no_talk, hears, hears_from, is_full, is_through, is_legal, may_say, act_in, acts_in, known_up_to}
+use Rattle.cg_model.specs.FactsTalk.{whole_talk, of_creator, count_behind}
+use Rattle.cg_model.specs.Facts.{Invariant}
 use Rattle.cg_agree.proofs.ActsSaid.{acts-by, acts-of}
 use Rattle.cg_agree.proofs.DeadKept.{remaining-senders}
 use Rattle.cg_agree.proofs.SaidSoFar.{rest-through}

@@ -17,17 +17,17 @@ use Rattle.cg_queue.specs.Queue.{green_count, names_of}
 use Rattle.cg_group.specs.declared.phase.Phase.TheVariants.{Regular}
 use Rattle.cg_group.specs.State.{phase_of, delivered_to}
 use Rattle.cg_client.specs.Replica.{RegPrim, NonPrim, Left, Replica}
-use Rattle.cg_agree.specs.World.{World, replica_of, is_left, is_left_state}
-use Rattle.cg_agree.specs.Quiet.{is_quiet, summaries_in, is_known_in, knows, is_settled, IsSettled}
-use Rattle.cg_agree.specs.Chronicle.{Told, Chronicle}
-use Rattle.cg_agree.specs.Fronts.{IsSomeWith, When}
-use Rattle.cg_agree.specs.Looks.{greens_of, told_in, conf_at, members_in, ordered_in, attempt_of, attempt_at, installation}
-use Rattle.cg_agree.specs.Talk.{Talk, is_announced, state_behind, acts_in}
-use Rattle.cg_agree.specs.FactsTalk.{whole_talk, handed_talk, count_behind, AreNumbered, AreNumberedAt}
-use Rattle.cg_agree.specs.FactsReplica.{HasModeData, IsModeData, IsCore, is_primary, IsEmptyIn, BufferEmpty}
-use Rattle.cg_agree.specs.FactsExchange.{IsInExchange, HasTakenOver, best_told}
-use Rattle.cg_agree.specs.FactsGreens.{IsOnLine, IsHandedGreen}
-use Rattle.cg_agree.specs.Facts.{Invariant}
+use Rattle.cg_model.specs.World.{World, replica_of, is_left, is_left_state}
+use Rattle.cg_model.specs.Quiet.{is_quiet, summaries_in, is_known_in, knows, is_settled, IsSettled}
+use Rattle.cg_model.specs.Chronicle.{Told, Chronicle}
+use Rattle.cg_model.specs.Fronts.{IsSomeWith, When}
+use Rattle.cg_model.specs.Looks.{greens_of, told_in, conf_at, members_in, ordered_in, attempt_of, attempt_at, installation}
+use Rattle.cg_model.specs.Talk.{Talk, is_announced, state_behind, acts_in}
+use Rattle.cg_model.specs.FactsTalk.{whole_talk, handed_talk, count_behind, AreNumbered, AreNumberedAt}
+use Rattle.cg_model.specs.FactsReplica.{HasModeData, IsModeData, IsCore, is_primary, IsEmptyIn, BufferEmpty}
+use Rattle.cg_model.specs.FactsExchange.{IsInExchange, HasTakenOver, best_told}
+use Rattle.cg_model.specs.FactsGreens.{IsOnLine, IsHandedGreen}
+use Rattle.cg_model.specs.Facts.{Invariant}
 use Rattle.cg_agree.proofs.DeadKept.{remaining-senders}
 use Rattle.cg_agree.proofs.HeldMarks.{counted}
 use Rattle.cg_agree.proofs.ReachFacts.{all-from}

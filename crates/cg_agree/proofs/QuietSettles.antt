@@ -8,14 +8,14 @@ use Rattle.cg_knowledge.specs.Members.{gone, remaining}
 use Rattle.cg_wire.specs.declared.message.Msg.{Msg}
 use Rattle.cg_group.specs.State.{GroupState}
 use Rattle.cg_client.specs.Replica.{Replica}
-use Rattle.cg_agree.specs.World.{World, no_world, is_left, is_left_state}
-use Rattle.cg_agree.specs.Run.{Step, IsRunFrom, world_after}
-use Rattle.cg_agree.specs.Quiet.{is_quiet, summaries_in, is_known_in, Remains, IsSettled}
-use Rattle.cg_agree.specs.Agreement.{ComesAfter, QuietSettles}
-use Rattle.cg_agree.specs.Chronicle.{Chronicle, no_chronicle}
-use Rattle.cg_agree.specs.Noting.{chronicle_step, chronicle_after}
-use Rattle.cg_agree.specs.FactsReplica.{IsEmptyIn, BufferEmpty}
-use Rattle.cg_agree.specs.Played.{IsSame, StandsBeside, AlwaysHolds}
+use Rattle.cg_model.specs.World.{World, no_world, is_left, is_left_state}
+use Rattle.cg_model.specs.Run.{Step, IsRunFrom, world_after}
+use Rattle.cg_model.specs.Quiet.{is_quiet, summaries_in, is_known_in, Remains, IsSettled}
+use Rattle.cg_model.specs.Agreement.{ComesAfter, QuietSettles}
+use Rattle.cg_model.specs.Chronicle.{Chronicle, no_chronicle}
+use Rattle.cg_model.specs.Noting.{chronicle_step, chronicle_after}
+use Rattle.cg_model.specs.FactsReplica.{IsEmptyIn, BufferEmpty}
+use Rattle.cg_model.specs.Played.{IsSame, StandsBeside, AlwaysHolds}
 use Rattle.cg_agree.proofs.RunPrefix.{comes}
 use Rattle.cg_agree.proofs.QuietSettled.{settles, passes_at, quiet-settled}
 

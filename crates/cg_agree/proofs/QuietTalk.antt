@@ -18,15 +18,15 @@ use Rattle.cg_group.specs.declared.phase.Phase.TheVariants.{Down, Alone, Regular
 use Rattle.cg_group.specs.State.{Sent, phase_of, regular_in, delivered_to, unordered_of}
 use Rattle.cg_group.specs.Ready.{all_received}
 use Rattle.cg_client.specs.Replica.{Replica}
-use Rattle.cg_agree.specs.World.{replica_of}
-use Rattle.cg_agree.specs.Quiet.{is_quiet_at, is_quiet, summary_in as quiet_summary, action_in as quiet_action, messages_of, summaries_in}
-use Rattle.cg_agree.specs.Chronicle.{Told, Chronicle}
-use Rattle.cg_agree.specs.Fronts.{IsSomeWith}
-use Rattle.cg_agree.specs.Looks.{greens_of, told_in, is_regular_at, is_regular_in, conf_of, members_in, ordered_in, placed_of, said_in}
-use Rattle.cg_agree.specs.Talk.{Talk, no_talk, talk_of, hears, hears_from, is_full, is_through, is_ended, is_announced, may_go_on, may_say, is_legal, state_in, state_behind, summary_in, item_in, announcer_in, due_items, due_announcement}
-use Rattle.cg_agree.specs.FactsTalk.{whole_talk, handed_talk, summaries_of, IsStateIn, SaysWhatIsDue}
-use Rattle.cg_agree.specs.FactsExchange.{IsInExchange}
-use Rattle.cg_agree.specs.Facts.{Invariant}
+use Rattle.cg_model.specs.World.{replica_of}
+use Rattle.cg_model.specs.Quiet.{is_quiet_at, is_quiet, summary_in as quiet_summary, action_in as quiet_action, messages_of, summaries_in}
+use Rattle.cg_model.specs.Chronicle.{Told, Chronicle}
+use Rattle.cg_model.specs.Fronts.{IsSomeWith}
+use Rattle.cg_model.specs.Looks.{greens_of, told_in, is_regular_at, is_regular_in, conf_of, members_in, ordered_in, placed_of, said_in}
+use Rattle.cg_model.specs.Talk.{Talk, no_talk, talk_of, hears, hears_from, is_full, is_through, is_ended, is_announced, may_go_on, may_say, is_legal, state_in, state_behind, summary_in, item_in, announcer_in, due_items, due_announcement}
+use Rattle.cg_model.specs.FactsTalk.{whole_talk, handed_talk, summaries_of, IsStateIn, SaysWhatIsDue}
+use Rattle.cg_model.specs.FactsExchange.{IsInExchange}
+use Rattle.cg_model.specs.Facts.{Invariant}
 use Rattle.cg_agree.proofs.ClearedDead.{IsToldIn, each-told}
 use Rattle.cg_agree.proofs.EndCovers.{OfEach, of_each-weaker}
 use Rattle.cg_agree.proofs.DeadKept.{remaining-senders}

@@ -7,8 +7,8 @@ use Rattle.cg_base.specs.Lists.{count_up, above_up_to, greatest}
 use Rattle.cg_base.specs.Sets.{has}
 use Rattle.cg_wire.specs.declared.message.Msg.{Msg}
 use Rattle.cg_group.specs.State.{Sent}
-use Rattle.cg_agree.specs.Fronts.{Front}
-use Rattle.cg_agree.specs.Talk.{act_in, acts_in}
+use Rattle.cg_model.specs.Fronts.{Front}
+use Rattle.cg_model.specs.Talk.{act_in, acts_in}
 use Rattle.cg_agree.proofs.FrontFacts.{Front-takes, Front-length}
 
 -- ---- places in a row

@@ -8,11 +8,11 @@ use Rattle.cg_base.specs.Sets.{has}
 use Rattle.cg_action.specs.declared.action.Action.{Action}
 use Rattle.cg_group.specs.State.{has_received}
 use Rattle.cg_group.specs.Ready.{all_received}
-use Rattle.cg_agree.specs.Chronicle.{Attempt, Chronicle}
-use Rattle.cg_agree.specs.Fronts.{Front}
-use Rattle.cg_agree.specs.Looks.{conf_of, members_in, ordered_in, is_regular_in, received_by_all, is_received_outside, received_outside, installation}
-use Rattle.cg_agree.specs.Talk.{acts_in}
-use Rattle.cg_agree.specs.Levels.{count_in, reached_in, is_live, bound_in, is_frozen_in, is_installed}
+use Rattle.cg_model.specs.Chronicle.{Attempt, Chronicle}
+use Rattle.cg_model.specs.Fronts.{Front}
+use Rattle.cg_model.specs.Looks.{conf_of, members_in, ordered_in, is_regular_in, received_by_all, is_received_outside, received_outside, installation}
+use Rattle.cg_model.specs.Talk.{acts_in}
+use Rattle.cg_model.specs.Levels.{count_in, reached_in, is_live, bound_in, is_frozen_in, is_installed}
 use Rattle.cg_agree.proofs.FrontFacts.{Front-behind, Front-length, Front-take}
 use Rattle.cg_agree.proofs.Reach.{row-within, row-shrinks, greatest-least, greatest-bounds, acts-front, acts-more, take-front, reach-front}
 

@@ -16,14 +16,14 @@ use Rattle.cg_group.specs.PlaceLaws.{at_place-append, at_place-past}
 use Rattle.cg_client.specs.Turn.{Turn, begin}
 use Rattle.cg_client.specs.Requests.{settle}
 use Rattle.cg_step.specs.Crash.{recovered}
-use Rattle.cg_agree.specs.World.{Life, Up, Down as DownLife, World, seat_of, replica_of}
-use Rattle.cg_agree.specs.Step.{begin_replica}
-use Rattle.cg_agree.specs.Chronicle.{Chronicle}
-use Rattle.cg_agree.specs.Fronts.{Front}
-use Rattle.cg_agree.specs.Looks.{conf_of, told_in, is_regular_at, is_regular_in, is_member, ordered_in, snapshot_of}
-use Rattle.cg_agree.specs.FactsNet.{PhaseSound, IsPhase, ReceiptsInside}
-use Rattle.cg_agree.specs.Small.{Small, Starts, Makes, Enters, Orders, Receives, Hands, Leaves, Asks, Settles, Commits, Crashes, Recovers, Copies, Joins, small_step, turning_as, turning, make_configuration, newest_conf, commit_as, crash_as, recover_as, copy_as, join_with, coming, take_newest, handed_next, take_next, leaving, take_parting, take_request, become_past}
-use Rattle.cg_agree.specs.Smalls.{may_make, may_enter, may_come}
+use Rattle.cg_model.specs.World.{Life, Up, Down as DownLife, World, seat_of, replica_of}
+use Rattle.cg_model.specs.Step.{begin_replica}
+use Rattle.cg_model.specs.Chronicle.{Chronicle}
+use Rattle.cg_model.specs.Fronts.{Front}
+use Rattle.cg_model.specs.Looks.{conf_of, told_in, is_regular_at, is_regular_in, is_member, ordered_in, snapshot_of}
+use Rattle.cg_model.specs.FactsNet.{PhaseSound, IsPhase, ReceiptsInside}
+use Rattle.cg_model.specs.Small.{Small, Starts, Makes, Enters, Orders, Receives, Hands, Leaves, Asks, Settles, Commits, Crashes, Recovers, Copies, Joins, small_step, turning_as, turning, make_configuration, newest_conf, commit_as, crash_as, recover_as, copy_as, join_with, coming, take_newest, handed_next, take_next, leaving, take_parting, take_request, become_past}
+use Rattle.cg_model.specs.Smalls.{may_make, may_enter, may_come}
 use Rattle.cg_agree.proofs.FrontFacts.{Front-refl, Front-append}
 use Rattle.cg_agree.proofs.GroupTurn.{standing-id}
 use Rattle.cg_agree.proofs.HandsKept.{regular-phase}

@@ -8,18 +8,18 @@ use Rattle.cg_base.specs.Sets.{has}
 use Rattle.cg_client.specs.Turn.{Turn, begin}
 use Rattle.cg_client.specs.Requests.{settle}
 use Rattle.cg_group.specs.PlaceLaws.{at_place-append}
-use Rattle.cg_agree.specs.World.{Life, Up, Down, seat_of, replica_of}
-use Rattle.cg_agree.specs.Chronicle.{Attempt, Chronicle}
-use Rattle.cg_agree.specs.Fronts.{Front, When, IsSomeWith}
-use Rattle.cg_agree.specs.Looks.{attempt_of, attempt_at, no_attempt, top_of, installation, ordered_in, snapshot_of, received_by_all}
-use Rattle.cg_agree.specs.Talk.{acts_in}
-use Rattle.cg_agree.specs.Levels.{count_in, is_live, bound_at, line_at, reach_at, is_frozen, is_frozen_in, is_installed, reached_at}
-use Rattle.cg_agree.specs.FactsNet.{PhaseSound, ReceiptsInside}
-use Rattle.cg_agree.specs.FactsReplica.{has_installed}
-use Rattle.cg_agree.specs.FactsAttempts.{LevelsStand}
-use Rattle.cg_agree.specs.FactsGreens.{InstalledCount, Spine}
-use Rattle.cg_agree.specs.Small.{Small, Starts, Makes, Enters, Orders, Receives, Hands, Leaves, Asks, Settles, Commits, Crashes, Recovers, Copies, Joins, small_step, opened_by, is_installation, turning_as, turning, commit_as, crash_as, recover_as, copy_as, join_with, coming, take_newest, handed_next, take_next, leaving, take_parting, take_request}
-use Rattle.cg_agree.specs.Smalls.{may_make}
+use Rattle.cg_model.specs.World.{Life, Up, Down, seat_of, replica_of}
+use Rattle.cg_model.specs.Chronicle.{Attempt, Chronicle}
+use Rattle.cg_model.specs.Fronts.{Front, When, IsSomeWith}
+use Rattle.cg_model.specs.Looks.{attempt_of, attempt_at, no_attempt, top_of, installation, ordered_in, snapshot_of, received_by_all}
+use Rattle.cg_model.specs.Talk.{acts_in}
+use Rattle.cg_model.specs.Levels.{count_in, is_live, bound_at, line_at, reach_at, is_frozen, is_frozen_in, is_installed, reached_at}
+use Rattle.cg_model.specs.FactsNet.{PhaseSound, ReceiptsInside}
+use Rattle.cg_model.specs.FactsReplica.{has_installed}
+use Rattle.cg_model.specs.FactsAttempts.{LevelsStand}
+use Rattle.cg_model.specs.FactsGreens.{InstalledCount, Spine}
+use Rattle.cg_model.specs.Small.{Small, Starts, Makes, Enters, Orders, Receives, Hands, Leaves, Asks, Settles, Commits, Crashes, Recovers, Copies, Joins, small_step, opened_by, is_installation, turning_as, turning, commit_as, crash_as, recover_as, copy_as, join_with, coming, take_newest, handed_next, take_next, leaving, take_parting, take_request}
+use Rattle.cg_model.specs.Smalls.{may_make}
 use Rattle.cg_agree.proofs.HandSays.{find-holds}
 use Rattle.cg_agree.proofs.FrontFacts.{Front-trans, Front-takes, Front-append, take-Front}
 use Rattle.cg_agree.proofs.ReachFacts.{AreCounted, reach-shrinks, frozen-kept, reached-bound, installed-reached, bound-line}

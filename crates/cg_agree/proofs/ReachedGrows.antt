@@ -8,16 +8,16 @@ use Rattle.cg_base.specs.Lists.{at_place}
 use Rattle.cg_base.specs.Sets.{has}
 use Rattle.cg_base.specs.SetLaws.{has-with_member}
 use Rattle.cg_group.specs.PlaceLaws.{at_place-append}
-use Rattle.cg_agree.specs.Chronicle.{Attempt, Chronicle}
-use Rattle.cg_agree.specs.Fronts.{Front}
-use Rattle.cg_agree.specs.Looks.{is_regular_at, is_regular_in, ordered_in, attempt_of, attempt_at, no_attempt, top_of}
-use Rattle.cg_agree.specs.Levels.{count_in, reached_in, reached_at, is_live, reach_at, is_frozen}
-use Rattle.cg_agree.specs.FactsAttempts.{IsAttempt, LevelsStand, LeftOut}
-use Rattle.cg_agree.specs.FactsGreens.{InstalledCount}
-use Rattle.cg_agree.specs.Facts.{Invariant}
-use Rattle.cg_agree.specs.Played.{AtRest}
-use Rattle.cg_agree.specs.Small.{Small, small_step}
-use Rattle.cg_agree.specs.Smalls.{may_make}
+use Rattle.cg_model.specs.Chronicle.{Attempt, Chronicle}
+use Rattle.cg_model.specs.Fronts.{Front}
+use Rattle.cg_model.specs.Looks.{is_regular_at, is_regular_in, ordered_in, attempt_of, attempt_at, no_attempt, top_of}
+use Rattle.cg_model.specs.Levels.{count_in, reached_in, reached_at, is_live, reach_at, is_frozen}
+use Rattle.cg_model.specs.FactsAttempts.{IsAttempt, LevelsStand, LeftOut}
+use Rattle.cg_model.specs.FactsGreens.{InstalledCount}
+use Rattle.cg_model.specs.Facts.{Invariant}
+use Rattle.cg_model.specs.Played.{AtRest}
+use Rattle.cg_model.specs.Small.{Small, small_step}
+use Rattle.cg_model.specs.Smalls.{may_make}
 use Rattle.cg_agree.proofs.AttemptSteps.{attempt-step}
 use Rattle.cg_agree.proofs.AttemptsCame.{Came, Stayed, WasLeft, WasEntered, WasInstalled, WasMade, came}
 use Rattle.cg_agree.proofs.AttemptsGrow.{Grown, attempts-grow}

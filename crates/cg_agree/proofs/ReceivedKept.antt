@@ -10,12 +10,12 @@ use Rattle.cg_group.specs.State.{Configuration}
 use Rattle.cg_group.specs.Events.{with_message, with_receipt}
 use Rattle.cg_group.specs.GrownLaws.{Grows, Grows-message, Grows-receipt}
 use Rattle.cg_client.specs.Requests.{settle}
-use Rattle.cg_agree.specs.World.{has_begun}
-use Rattle.cg_agree.specs.Chronicle.{Chronicle}
-use Rattle.cg_agree.specs.Looks.{conf_of, ordered_in, received_by_all}
-use Rattle.cg_agree.specs.FactsNet.{Seated}
-use Rattle.cg_agree.specs.Small.{Small, Starts, Makes, Enters, Orders, Receives, Hands, Leaves, Asks, Settles, Commits, Crashes, Recovers, Copies, Joins, small_step, take_request}
-use Rattle.cg_agree.specs.Smalls.{may_make, is_running}
+use Rattle.cg_model.specs.World.{has_begun}
+use Rattle.cg_model.specs.Chronicle.{Chronicle}
+use Rattle.cg_model.specs.Looks.{conf_of, ordered_in, received_by_all}
+use Rattle.cg_model.specs.FactsNet.{Seated}
+use Rattle.cg_model.specs.Small.{Small, Starts, Makes, Enters, Orders, Receives, Hands, Leaves, Asks, Settles, Commits, Crashes, Recovers, Copies, Joins, small_step, take_request}
+use Rattle.cg_model.specs.Smalls.{may_make, is_running}
 use Rattle.cg_agree.proofs.GroupKept.{orders-conf, receives-conf, leaving-regular}
 use Rattle.cg_agree.proofs.GroupSound.{GroupSound, ConfStep}
 use Rattle.cg_agree.proofs.NextThere.{orders-now, receives-now}

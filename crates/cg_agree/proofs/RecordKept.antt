@@ -12,23 +12,23 @@ use Rattle.cg_knowledge.specs.Members.{remaining}
 use Rattle.cg_knowledge.specs.Primary.{newest_index, known_primary}
 use Rattle.cg_knowledge.specs.Vulnerable.{all_bits, decided}
 use Rattle.cg_group.specs.State.{is_regular, configuration}
-use Rattle.cg_agree.specs.Attempts.{new_attempt}
+use Rattle.cg_model.specs.Attempts.{new_attempt}
 use Rattle.cg_client.specs.Replica.{Held, State, RegPrim, TransPrim, ExchangeStates, ExchangeActions, Construct, No, Un, NonPrim, Left, Replica}
 use Rattle.cg_client.specs.Turn.{Turn, begin}
 use Rattle.cg_client.specs.Install.{prim_after}
 use Rattle.cg_client.specs.Requests.{settle}
 use Rattle.cg_stored.specs.Stored.{whiten, recover}
 use Rattle.cg_step.specs.Crash.{Disk}
-use Rattle.cg_agree.specs.World.{Up, Seat, seat_of, replica_of, running}
-use Rattle.cg_agree.specs.Chronicle.{Told, Attempt, Chronicle}
-use Rattle.cg_agree.specs.Looks.{greens_of, attempt_of}
-use Rattle.cg_agree.specs.Fronts.{IsSomeWith}
-use Rattle.cg_agree.specs.FactsTalk.{AreTold}
-use Rattle.cg_agree.specs.FactsExchange.{IsRecord, HasRecord, KnowsLevels}
-use Rattle.cg_agree.specs.FactsAttempts.{IsAttempt, RecordOfAttempt}
-use Rattle.cg_agree.specs.Facts.{Invariant}
-use Rattle.cg_agree.specs.Small.{Small, Starts, Makes, Enters, Orders, Receives, Hands, Leaves, Asks, Settles, Commits, Crashes, Recovers, Copies, Joins, after_turn, turning, turning_as, newly_green, take_newest, handed_next, take_next, take_parting, take_request, entering, with_entrant, attempts_behind, small_step, newest_conf}
-use Rattle.cg_agree.specs.Smalls.{may_make, is_between}
+use Rattle.cg_model.specs.World.{Up, Seat, seat_of, replica_of, running}
+use Rattle.cg_model.specs.Chronicle.{Told, Attempt, Chronicle}
+use Rattle.cg_model.specs.Looks.{greens_of, attempt_of}
+use Rattle.cg_model.specs.Fronts.{IsSomeWith}
+use Rattle.cg_model.specs.FactsTalk.{AreTold}
+use Rattle.cg_model.specs.FactsExchange.{IsRecord, HasRecord, KnowsLevels}
+use Rattle.cg_model.specs.FactsAttempts.{IsAttempt, RecordOfAttempt}
+use Rattle.cg_model.specs.Facts.{Invariant}
+use Rattle.cg_model.specs.Small.{Small, Starts, Makes, Enters, Orders, Receives, Hands, Leaves, Asks, Settles, Commits, Crashes, Recovers, Copies, Joins, after_turn, turning, turning_as, newly_green, take_newest, handed_next, take_next, take_parting, take_request, entering, with_entrant, attempts_behind, small_step, newest_conf}
+use Rattle.cg_model.specs.Smalls.{may_make, is_between}
 use Rattle.cg_agree.proofs.EndCovers.{OfEach}
 use Rattle.cg_agree.proofs.EndCases.{has_bit}
 use Rattle.cg_agree.proofs.Knowledge.{known-of, each-bounded, bits-all, bits-witnessed, some-sender, Cleared, Kept, becomes}

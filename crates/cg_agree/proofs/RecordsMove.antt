@@ -18,16 +18,16 @@ use Rattle.cg_client.specs.Install.{prim_after}
 use Rattle.cg_client.specs.Requests.{settle}
 use Rattle.cg_stored.specs.Stored.{stored_of, whiten, recover as recover_disk}
 use Rattle.cg_step.specs.Crash.{Disk, at_rest, recovered, disk_recovered, new_disk}
-use Rattle.cg_agree.specs.Attempts.{held_in}
-use Rattle.cg_agree.specs.World.{Life, Up, Down, Seat, seat_of, replica_of, running, has_begun}
-use Rattle.cg_agree.specs.Step.{joined, without_snapshot}
-use Rattle.cg_agree.specs.Chronicle.{Chronicle}
-use Rattle.cg_agree.specs.Looks.{on_disk, disk_held, core_of, snapshot_of}
-use Rattle.cg_agree.specs.FactsReplica.{GoesOn, IsAsOnDisk, is_attempting, is_primary}
-use Rattle.cg_agree.specs.Facts.{Invariant}
-use Rattle.cg_agree.specs.Played.{IsWritten, AtRest}
-use Rattle.cg_agree.specs.Small.{Small, Starts, Makes, Enters, Orders, Receives, Hands, Leaves, Asks, Settles, Commits, Crashes, Recovers, Copies, Joins, after_turn, turning, turning_as, commit_as, crash_as, recover_as, copy_as, join_with, coming, take_newest, handed_next, take_next, leaving, take_parting, take_request, small_step}
-use Rattle.cg_agree.specs.Smalls.{may_make, is_set, is_between}
+use Rattle.cg_model.specs.Attempts.{held_in}
+use Rattle.cg_model.specs.World.{Life, Up, Down, Seat, seat_of, replica_of, running, has_begun}
+use Rattle.cg_model.specs.Step.{joined, without_snapshot}
+use Rattle.cg_model.specs.Chronicle.{Chronicle}
+use Rattle.cg_model.specs.Looks.{on_disk, disk_held, core_of, snapshot_of}
+use Rattle.cg_model.specs.FactsReplica.{GoesOn, IsAsOnDisk, is_attempting, is_primary}
+use Rattle.cg_model.specs.Facts.{Invariant}
+use Rattle.cg_model.specs.Played.{IsWritten, AtRest}
+use Rattle.cg_model.specs.Small.{Small, Starts, Makes, Enters, Orders, Receives, Hands, Leaves, Asks, Settles, Commits, Crashes, Recovers, Copies, Joins, after_turn, turning, turning_as, commit_as, crash_as, recover_as, copy_as, join_with, coming, take_newest, handed_next, take_next, leaving, take_parting, take_request, small_step}
+use Rattle.cg_model.specs.Smalls.{may_make, is_set, is_between}
 use Rattle.cg_agree.proofs.ChronicleFacts.{seat_of-set}
 use Rattle.cg_agree.proofs.HeldCommit.{recovered-id}
 use Rattle.cg_agree.proofs.BegunKept.{nothing-before}

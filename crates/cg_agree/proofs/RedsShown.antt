@@ -5,15 +5,15 @@ use Rattle.cg_base.specs.Cuts.{index_in}
 use Rattle.cg_action.specs.declared.action.Action.{Action}
 use Rattle.cg_group.specs.EachLaws.{Each}
 use Rattle.cg_client.specs.Replica.{Replica}
-use Rattle.cg_agree.specs.World.{Life, Up, Down, Seat, World, no_world, running, has_begun, seat_of, replica_of}
-use Rattle.cg_agree.specs.Show.{Moved}
-use Rattle.cg_agree.specs.Run.{Step, IsRunFrom, world_after}
-use Rattle.cg_agree.specs.Chronicle.{Chronicle, no_chronicle}
-use Rattle.cg_agree.specs.Noting.{chronicle_step, chronicle_after}
-use Rattle.cg_agree.specs.Agreement.{through}
-use Rattle.cg_agree.specs.FactsReplica.{AreBooked}
-use Rattle.cg_agree.specs.Looks.{on_disk}
-use Rattle.cg_agree.specs.Played.{StandsBeside, AlwaysHolds}
+use Rattle.cg_model.specs.World.{Life, Up, Down, Seat, World, no_world, running, has_begun, seat_of, replica_of}
+use Rattle.cg_model.specs.Show.{Moved}
+use Rattle.cg_model.specs.Run.{Step, IsRunFrom, world_after}
+use Rattle.cg_model.specs.Chronicle.{Chronicle, no_chronicle}
+use Rattle.cg_model.specs.Noting.{chronicle_step, chronicle_after}
+use Rattle.cg_model.specs.Agreement.{through}
+use Rattle.cg_model.specs.FactsReplica.{AreBooked}
+use Rattle.cg_model.specs.Looks.{on_disk}
+use Rattle.cg_model.specs.Played.{StandsBeside, AlwaysHolds}
 use Rattle.cg_agree.proofs.BookGrows.{IsNamed, cut_of}
 use Rattle.cg_agree.proofs.BookedCores.{each-booked}
 use Rattle.cg_agree.proofs.CreatorNumbered.{stands-of}

@@ -1,11 +1,11 @@
 -- An event is refused exactly where one of its tests gives a reason: each event that made a step was admitted, and the one that ended the
 -- run has the first reason.
 use Rattle.std.proofs.Common.{◌≡◌, List, Option, Some, subst}
-use Rattle.cg_agree.specs.World.{no_world}
-use Rattle.cg_agree.specs.Admission.{first_refusal}
-use Rattle.cg_agree.specs.Run.{Step, Refusal, IsRunFrom, world_after}
-use Rattle.cg_agree.specs.Agreement.{RefusedExactly}
-use Rattle.cg_agree.specs.EveryRun.{IsRefused}
+use Rattle.cg_model.specs.World.{no_world}
+use Rattle.cg_model.specs.Admission.{first_refusal}
+use Rattle.cg_model.specs.Run.{Step, Refusal, IsRunFrom, world_after}
+use Rattle.cg_model.specs.Agreement.{RefusedExactly}
+use Rattle.cg_model.specs.EveryRun.{IsRefused}
 use Rattle.cg_agree.proofs.RunPrefix.{made-there}
 
 pub refused-exactly : (steps : List Step) (refused : Option Refusal) → IsRunFrom no_world 0 steps → IsRefused (world_after no_world steps) refused → RefusedExactly steps refused

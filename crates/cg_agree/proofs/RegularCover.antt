@@ -24,17 +24,17 @@ use Rattle.cg_group.specs.declared.phase.Phase.TheVariants.{Regular}
 use Rattle.cg_group.specs.State.{phase_of, delivered_to}
 use Rattle.cg_client.specs.Replica.{Held, State, RegPrim, TransPrim, ExchangeStates, ExchangeActions, Construct, No, Un, NonPrim, Left, Replica}
 use Rattle.cg_client.specs.Install.{actions_named, valid_yellow}
-use Rattle.cg_agree.specs.World.{replica_of}
-use Rattle.cg_agree.specs.Chronicle.{Told, Attempt, Chronicle}
-use Rattle.cg_agree.specs.Fronts.{Front, When, IsSomeWith}
-use Rattle.cg_agree.specs.Looks.{greens_of, told_in, is_regular_at, is_regular_in, conf_at, members_in, attempt_of, attempt_at, top_of}
-use Rattle.cg_agree.specs.Talk.{Talk, is_full, is_through, is_announced, state_in}
-use Rattle.cg_agree.specs.Levels.{reach_at, is_evidence, is_record_of, names_with}
-use Rattle.cg_agree.specs.FactsTalk.{AreTold, IsStateIn, handed_talk}
-use Rattle.cg_agree.specs.FactsReplica.{IsCore, IsInPrimary, IsInAttempt, HasModeData, IsModeData, is_primary, is_attempting}
-use Rattle.cg_agree.specs.FactsExchange.{HoldsStill, IsUnmoved, IsGoingOn, HasTakenOver, IsInExchange, best_told}
-use Rattle.cg_agree.specs.FactsAttempts.{HoldsParts}
-use Rattle.cg_agree.specs.FactsGreens.{Covers, CoversLevel}
+use Rattle.cg_model.specs.World.{replica_of}
+use Rattle.cg_model.specs.Chronicle.{Told, Attempt, Chronicle}
+use Rattle.cg_model.specs.Fronts.{Front, When, IsSomeWith}
+use Rattle.cg_model.specs.Looks.{greens_of, told_in, is_regular_at, is_regular_in, conf_at, members_in, attempt_of, attempt_at, top_of}
+use Rattle.cg_model.specs.Talk.{Talk, is_full, is_through, is_announced, state_in}
+use Rattle.cg_model.specs.Levels.{reach_at, is_evidence, is_record_of, names_with}
+use Rattle.cg_model.specs.FactsTalk.{AreTold, IsStateIn, handed_talk}
+use Rattle.cg_model.specs.FactsReplica.{IsCore, IsInPrimary, IsInAttempt, HasModeData, IsModeData, is_primary, is_attempting}
+use Rattle.cg_model.specs.FactsExchange.{HoldsStill, IsUnmoved, IsGoingOn, HasTakenOver, IsInExchange, best_told}
+use Rattle.cg_model.specs.FactsAttempts.{HoldsParts}
+use Rattle.cg_model.specs.FactsGreens.{Covers, CoversLevel}
 use Rattle.cg_agree.proofs.AttemptsCover.{lead-of, attempts-cover}
 use Rattle.cg_agree.proofs.CoresKept.{held-known}
 use Rattle.cg_agree.proofs.CoversStay.{start-covers, covers-more}

@@ -9,12 +9,12 @@ use Rattle.cg_group.specs.declared.phase.Phase.{Phase}
 use Rattle.cg_group.specs.declared.phase.Phase.TheVariants.{Down, Alone, Regular, Transitional}
 use Rattle.cg_group.specs.State.{standing_of, phase_of, is_regular, regular_in}
 use Rattle.cg_client.specs.Requests.{settle}
-use Rattle.cg_agree.specs.World.{has_begun, replica_of}
-use Rattle.cg_agree.specs.Chronicle.{Chronicle, no_chronicle}
-use Rattle.cg_agree.specs.Looks.{is_at, is_in, is_regular_at, is_regular_in}
-use Rattle.cg_agree.specs.Facts.{Invariant}
-use Rattle.cg_agree.specs.Small.{Small, Starts, Makes, Enters, Orders, Receives, Hands, Leaves, Asks, Settles, Commits, Crashes, Recovers, Copies, Joins, small_step, take_request}
-use Rattle.cg_agree.specs.Smalls.{may_make, is_between, is_running, is_set}
+use Rattle.cg_model.specs.World.{has_begun, replica_of}
+use Rattle.cg_model.specs.Chronicle.{Chronicle, no_chronicle}
+use Rattle.cg_model.specs.Looks.{is_at, is_in, is_regular_at, is_regular_in}
+use Rattle.cg_model.specs.Facts.{Invariant}
+use Rattle.cg_model.specs.Small.{Small, Starts, Makes, Enters, Orders, Receives, Hands, Leaves, Asks, Settles, Commits, Crashes, Recovers, Copies, Joins, small_step, take_request}
+use Rattle.cg_model.specs.Smalls.{may_make, is_between, is_running, is_set}
 use Rattle.cg_agree.proofs.BegunKept.{nothing-before}
 use Rattle.cg_agree.proofs.GroupKept.{orders-conf, receives-conf, leaving-regular}
 use Rattle.cg_agree.proofs.GroupSound.{phase-made}

@@ -4,7 +4,7 @@ use Rattle.std.proofs.lemmas.Bool.{cases_Bool, cond-true, cond-false}
 use Rattle.cg_base.specs.declared.action_id.ActionId.{ActionId}
 use Rattle.cg_base.specs.Ids.{same_id}
 use Rattle.cg_report.specs.declared.entry.Reply.{Reply}
-use Rattle.cg_agree.specs.Show.{Answered, answered_from, with_answered}
+use Rattle.cg_model.specs.Show.{Answered, answered_from, with_answered}
 use Rattle.cg_agree.proofs.BookGrows.{same-self}
 
 -- an element of a list

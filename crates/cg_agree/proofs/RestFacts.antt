@@ -12,16 +12,16 @@ use Rattle.cg_stored.specs.Stored.{stored_of, whiten}
 use Rattle.cg_step.specs.Commit.{commits}
 use Rattle.cg_step.specs.Step.{Input, replica_step}
 use Rattle.cg_step.specs.Crash.{Disk, Ended, Runs, Crashes as EndsInCrash, at_rest}
-use Rattle.cg_agree.specs.World.{Life, Up, Down, Seat, World, running, seat_of, replica_of, set_life}
-use Rattle.cg_agree.specs.Chronicle.{Past, Chronicle}
-use Rattle.cg_agree.specs.Looks.{past_of, on_disk}
-use Rattle.cg_agree.specs.Turns.{Taken, taken, taken_as, taken_by, stands}
-use Rattle.cg_agree.specs.Small.{Small, Starts, Makes, Enters, Orders, Receives, Hands, Leaves, Asks, Settles, Commits, Crashes, Recovers, Copies, Joins, changed_past, written, struck, coming, handed_next, leaving, take_newest, take_next, take_parting, take_request, turning, turning_as, commit, commit_as, crash, crash_as, small_step}
-use Rattle.cg_agree.specs.Smalls.{is_running, may_make, ending, ending_as}
-use Rattle.cg_agree.specs.Noting.{played}
-use Rattle.cg_agree.specs.FactsLists.{IsRising}
-use Rattle.cg_agree.specs.FactsReplica.{GoesOn, IsAsOnDisk}
-use Rattle.cg_agree.specs.Played.{IsWritten}
+use Rattle.cg_model.specs.World.{Life, Up, Down, Seat, World, running, seat_of, replica_of, set_life}
+use Rattle.cg_model.specs.Chronicle.{Past, Chronicle}
+use Rattle.cg_model.specs.Looks.{past_of, on_disk}
+use Rattle.cg_model.specs.Turns.{Taken, taken, taken_as, taken_by, stands}
+use Rattle.cg_model.specs.Small.{Small, Starts, Makes, Enters, Orders, Receives, Hands, Leaves, Asks, Settles, Commits, Crashes, Recovers, Copies, Joins, changed_past, written, struck, coming, handed_next, leaving, take_newest, take_next, take_parting, take_request, turning, turning_as, commit, commit_as, crash, crash_as, small_step}
+use Rattle.cg_model.specs.Smalls.{is_running, may_make, ending, ending_as}
+use Rattle.cg_model.specs.Noting.{played}
+use Rattle.cg_model.specs.FactsLists.{IsRising}
+use Rattle.cg_model.specs.FactsReplica.{GoesOn, IsAsOnDisk}
+use Rattle.cg_model.specs.Played.{IsWritten}
 use Rattle.cg_agree.proofs.ChronicleFacts.{seat_of-set, past_of-turn}
 use Rattle.cg_agree.proofs.GatherReceipts.{member-same}
 use Rattle.cg_agree.proofs.Keyed.{found-changed}

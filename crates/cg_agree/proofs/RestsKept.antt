@@ -17,21 +17,21 @@ use Rattle.cg_group.specs.State.{Configuration, GroupState, no_configuration, ph
 use Rattle.cg_group.specs.PlaceLaws.{at_place-past}
 use Rattle.cg_client.specs.Replica.{Held, State, RegPrim, TransPrim, ExchangeStates, ExchangeActions, Construct, No, Un, NonPrim, Left, Replica}
 use Rattle.cg_schedule.specs.declared.event.Event.{Event}
-use Rattle.cg_agree.specs.World.{Life, Up, Down, Seat, World, running, seat_of, replica_of}
-use Rattle.cg_agree.specs.Admission.{first_refusal}
-use Rattle.cg_agree.specs.Run.{MayStand}
-use Rattle.cg_agree.specs.Chronicle.{Attempt, Chronicle}
-use Rattle.cg_agree.specs.Fronts.{Front, IsSomeWith}
-use Rattle.cg_agree.specs.Looks.{greens_of, stood_of, members_in, ordered_in, conf_at, attempt_of, on_disk, disk_held}
-use Rattle.cg_agree.specs.Talk.{Talk, is_full, is_through, is_announced, state_behind, state_in}
-use Rattle.cg_agree.specs.Levels.{is_record_of}
-use Rattle.cg_agree.specs.FactsTalk.{handed_talk, IsTransitional, IsStateIn}
-use Rattle.cg_agree.specs.FactsExchange.{HasRecord, IsRecord}
-use Rattle.cg_agree.specs.FactsReplica.{GoesOn, IsCore, IsAsOnDisk, is_attempting, is_primary, has_entered, IsCounted, IsModeData, ReplicaRests}
-use Rattle.cg_agree.specs.Facts.{Invariant}
-use Rattle.cg_agree.specs.Played.{IsSame, StandsBeside, with_world}
-use Rattle.cg_agree.specs.Noting.{chronicle_step}
-use Rattle.cg_agree.specs.Step.{world_step}
+use Rattle.cg_model.specs.World.{Life, Up, Down, Seat, World, running, seat_of, replica_of}
+use Rattle.cg_model.specs.Admission.{first_refusal}
+use Rattle.cg_model.specs.Run.{MayStand}
+use Rattle.cg_model.specs.Chronicle.{Attempt, Chronicle}
+use Rattle.cg_model.specs.Fronts.{Front, IsSomeWith}
+use Rattle.cg_model.specs.Looks.{greens_of, stood_of, members_in, ordered_in, conf_at, attempt_of, on_disk, disk_held}
+use Rattle.cg_model.specs.Talk.{Talk, is_full, is_through, is_announced, state_behind, state_in}
+use Rattle.cg_model.specs.Levels.{is_record_of}
+use Rattle.cg_model.specs.FactsTalk.{handed_talk, IsTransitional, IsStateIn}
+use Rattle.cg_model.specs.FactsExchange.{HasRecord, IsRecord}
+use Rattle.cg_model.specs.FactsReplica.{GoesOn, IsCore, IsAsOnDisk, is_attempting, is_primary, has_entered, IsCounted, IsModeData, ReplicaRests}
+use Rattle.cg_model.specs.Facts.{Invariant}
+use Rattle.cg_model.specs.Played.{IsSame, StandsBeside, with_world}
+use Rattle.cg_model.specs.Noting.{chronicle_step}
+use Rattle.cg_model.specs.Step.{world_step}
 use Rattle.cg_agree.proofs.FrontFacts.{split_by_Front}
 use Rattle.cg_step.specs.Holds.{run_on, cut_behind}
 use Rattle.cg_step.specs.RunLaws.{cut_behind-append, run_on-append}

@@ -24,16 +24,16 @@ use Rattle.cg_client.specs.Requests.{is_creating}
 use Rattle.cg_client.specs.Turn.{Turn, begin, go_to}
 use Rattle.cg_client.specs.Marks.{is_unmade, marked, mark_yellow}
 use Rattle.cg_step.specs.Step.{on_message, on_transitional, take as take_one}
-use Rattle.cg_agree.specs.World.{replica_of}
-use Rattle.cg_agree.specs.Chronicle.{Chronicle}
-use Rattle.cg_agree.specs.Fronts.{Front}
-use Rattle.cg_agree.specs.Looks.{greens_of, conf_of, members_in, ordered_in}
-use Rattle.cg_agree.specs.Talk.{Talk, talk_of, hears_from, is_ended, act_in, action_in, state_in}
-use Rattle.cg_agree.specs.FactsNet.{IsPhase}
-use Rattle.cg_agree.specs.FactsReplica.{IsModeData, HasModeData, IsCore}
-use Rattle.cg_agree.specs.FactsTalk.{handed_talk, count_behind, AreNumbered, AreNumberedAt, IsStateIn}
-use Rattle.cg_agree.specs.Facts.{Invariant}
-use Rattle.cg_agree.specs.Small.{take_all, take_parting}
+use Rattle.cg_model.specs.World.{replica_of}
+use Rattle.cg_model.specs.Chronicle.{Chronicle}
+use Rattle.cg_model.specs.Fronts.{Front}
+use Rattle.cg_model.specs.Looks.{greens_of, conf_of, members_in, ordered_in}
+use Rattle.cg_model.specs.Talk.{Talk, talk_of, hears_from, is_ended, act_in, action_in, state_in}
+use Rattle.cg_model.specs.FactsNet.{IsPhase}
+use Rattle.cg_model.specs.FactsReplica.{IsModeData, HasModeData, IsCore}
+use Rattle.cg_model.specs.FactsTalk.{handed_talk, count_behind, AreNumbered, AreNumberedAt, IsStateIn}
+use Rattle.cg_model.specs.Facts.{Invariant}
+use Rattle.cg_model.specs.Small.{take_all, take_parting}
 use Rattle.cg_agree.proofs.ActsNext.{talk-next, ended-next, heard-next, numbered-next}
 use Rattle.cg_agree.proofs.DeadEvidenceKept.{running-core}
 use Rattle.cg_agree.proofs.DiskAhead.{left-own, made-by}

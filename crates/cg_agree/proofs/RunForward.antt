@@ -1,15 +1,15 @@
 -- What each step of a run keeps, beside its chronicle, holds of the run.
 use Rattle.std.proofs.Common.{◌≡◌, ℕ, suc, List, [], ◌∷◌, ◌++◌, map, None, sym, ap, subst}
 use Rattle.std.proofs.lemmas.List.{append-nil, append_assoc}
-use Rattle.cg_agree.specs.World.{World, no_world}
-use Rattle.cg_agree.specs.Admission.{first_refusal}
-use Rattle.cg_agree.specs.Show.{Moved}
-use Rattle.cg_agree.specs.Step.{world_step}
-use Rattle.cg_agree.specs.Run.{Step, MayStand, IsRunFrom, world_after}
-use Rattle.cg_agree.specs.Agreement.{through}
-use Rattle.cg_agree.specs.Chronicle.{Chronicle, no_chronicle}
-use Rattle.cg_agree.specs.Noting.{chronicle_step, chronicle_after}
-use Rattle.cg_agree.specs.Played.{StandsBeside, HoldsFrom, AlwaysHolds}
+use Rattle.cg_model.specs.World.{World, no_world}
+use Rattle.cg_model.specs.Admission.{first_refusal}
+use Rattle.cg_model.specs.Show.{Moved}
+use Rattle.cg_model.specs.Step.{world_step}
+use Rattle.cg_model.specs.Run.{Step, MayStand, IsRunFrom, world_after}
+use Rattle.cg_model.specs.Agreement.{through}
+use Rattle.cg_model.specs.Chronicle.{Chronicle, no_chronicle}
+use Rattle.cg_model.specs.Noting.{chronicle_step, chronicle_after}
+use Rattle.cg_model.specs.Played.{StandsBeside, HoldsFrom, AlwaysHolds}
 use Rattle.cg_agree.proofs.CreatorNumbered.{admitted-of}
 use Rattle.cg_agree.proofs.PrimaryOne.{holds-here}
 

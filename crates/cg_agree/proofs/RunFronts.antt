@@ -5,7 +5,7 @@ use Rattle.std.proofs.lemmas.Bool.{and_parts, and_from}
 use Rattle.cg_base.specs.declared.action_id.ActionId.{ActionId}
 use Rattle.cg_base.specs.Cuts.{index_in, raise}
 use Rattle.cg_step.specs.Holds.{run_on}
-use Rattle.cg_agree.specs.Fronts.{Front}
+use Rattle.cg_model.specs.Fronts.{Front}
 
 -- it is one too
 pub run_on-front : (cut xs ys : List ActionId) → Front xs ys → run_on cut ys ≡ true → run_on cut xs ≡ true

@@ -1,15 +1,15 @@
 -- A step of a run: what stands before it and behind it, of the run up to there, and what the steps up to there have told.
 use Rattle.std.proofs.Common.{◌≡◌, List, None}
-use Rattle.cg_agree.specs.World.{World, no_world}
-use Rattle.cg_agree.specs.Admission.{first_refusal}
-use Rattle.cg_agree.specs.Show.{Moved}
-use Rattle.cg_agree.specs.Step.{world_step}
-use Rattle.cg_agree.specs.Run.{Step, MayStand, IsRunFrom, world_after}
-use Rattle.cg_agree.specs.Agreement.{ComesAfter, through}
-use Rattle.cg_agree.specs.Chronicle.{Chronicle, no_chronicle}
-use Rattle.cg_agree.specs.Noting.{chronicle_step, chronicle_after}
-use Rattle.cg_agree.specs.Played.{StandsBeside, AlwaysHolds, with_world}
-use Rattle.cg_agree.specs.Telling.{Tells}
+use Rattle.cg_model.specs.World.{World, no_world}
+use Rattle.cg_model.specs.Admission.{first_refusal}
+use Rattle.cg_model.specs.Show.{Moved}
+use Rattle.cg_model.specs.Step.{world_step}
+use Rattle.cg_model.specs.Run.{Step, MayStand, IsRunFrom, world_after}
+use Rattle.cg_model.specs.Agreement.{ComesAfter, through}
+use Rattle.cg_model.specs.Chronicle.{Chronicle, no_chronicle}
+use Rattle.cg_model.specs.Noting.{chronicle_step, chronicle_after}
+use Rattle.cg_model.specs.Played.{StandsBeside, AlwaysHolds, with_world}
+use Rattle.cg_model.specs.Telling.{Tells}
 use Rattle.cg_agree.proofs.CreatorNumbered.{stands-of}
 use Rattle.cg_agree.proofs.MadeTold.{IsMadeTold}
 use Rattle.cg_agree.proofs.TellsRun.{has-told, tells}

@@ -1,5 +1,5 @@
 -- The steps of every run agree, in all parts of Agreement.
-use Rattle.cg_agree.specs.EveryRun.{EveryRunAgrees}
+use Rattle.cg_model.specs.EveryRun.{EveryRunAgrees}
 use Rattle.cg_agree.proofs.AlwaysMade.{always-holds}
 use Rattle.cg_agree.proofs.DirtyAnswers.{dirty-answers}
 use Rattle.cg_agree.proofs.FoldAnswersRun.{fold-answers}

@@ -18,8 +18,8 @@ use Rattle.cg_wire.specs.declared.message.Msg.{Msg}
 use Rattle.cg_wire.specs.declared.message.Msg.TheVariants.{Action as ActionMsg, State as StateMsg, GreenItem, RedItem, Cpc}
 use Rattle.cg_group.specs.State.{Sent}
 use Rattle.cg_exchange.specs.ExchangeActions.{progress}
-use Rattle.cg_agree.specs.Looks.{placed_of, sent_by}
-use Rattle.cg_agree.specs.Talk.{Talk, hears_from, hears, is_full, is_through, is_due, may_say, is_legal, item_in, announcer_in}
+use Rattle.cg_model.specs.Looks.{placed_of, sent_by}
+use Rattle.cg_model.specs.Talk.{Talk, hears_from, hears, is_full, is_through, is_due, may_say, is_legal, item_in, announcer_in}
 use Rattle.cg_agree.proofs.TalkEarly.{IsEarly, early-hears, not_full, due_parts}
 use Rattle.cg_agree.proofs.TalkCommute.{tells, clash}
 use Rattle.cg_agree.proofs.DueAll.{item_by, items_by, by-sender, take-next}

@@ -10,11 +10,11 @@ use Rattle.cg_client.specs.Replica.{Held, Replica}
 use Rattle.cg_client.specs.Turn.{Turn, begin}
 use Rattle.cg_client.specs.Requests.{settle}
 use Rattle.cg_group.specs.State.{phase_of}
-use Rattle.cg_agree.specs.World.{Life, Up, Down, seat_of, replica_of}
-use Rattle.cg_agree.specs.Attempts.{new_attempt, is_seen, with_attempt_of}
-use Rattle.cg_agree.specs.Chronicle.{Attempt, Chronicle}
-use Rattle.cg_agree.specs.Looks.{installation, snapshot_of, greens_of, stood_of, conf_at}
-use Rattle.cg_agree.specs.Small.{Small, Starts, Makes, Enters, Orders, Receives, Hands, Leaves, Asks, Settles, Commits, Crashes, Recovers, Copies, Joins, small_step, changed_attempt, with_entrant, with_installer, with_leaver, entering, installing, attempts_behind, is_entry, is_installation, newly_green, turning_as, turning, commit_as, crash_as, recover_as, copy_as, join_with, coming, take_newest, handed_next, take_next, leaving, take_parting, take_request}
+use Rattle.cg_model.specs.World.{Life, Up, Down, seat_of, replica_of}
+use Rattle.cg_model.specs.Attempts.{new_attempt, is_seen, with_attempt_of}
+use Rattle.cg_model.specs.Chronicle.{Attempt, Chronicle}
+use Rattle.cg_model.specs.Looks.{installation, snapshot_of, greens_of, stood_of, conf_at}
+use Rattle.cg_model.specs.Small.{Small, Starts, Makes, Enters, Orders, Receives, Hands, Leaves, Asks, Settles, Commits, Crashes, Recovers, Copies, Joins, small_step, changed_attempt, with_entrant, with_installer, with_leaver, entering, installing, attempts_behind, is_entry, is_installation, newly_green, turning_as, turning, commit_as, crash_as, recover_as, copy_as, join_with, coming, take_newest, handed_next, take_next, leaving, take_parting, take_request}
 use Rattle.cg_agree.proofs.Keyed.{found-changed, find-append}
 
 pub record SameAttempt (a b : Attempt) : Type 0 where

@@ -18,12 +18,12 @@ use Rattle.cg_client.specs.Turn.{Turn, begin}
 use Rattle.cg_client.specs.Requests.{settle}
 use Rattle.cg_stored.specs.Stored.{stored_of, whiten, recover}
 use Rattle.cg_step.specs.Crash.{Disk, new_disk, at_rest, recovered, disk_recovered}
-use Rattle.cg_agree.specs.World.{Life, Up, Down, Seat, Snapshot, World, running, seat_of, replica_of, is_left_state, has_begun, set_life, bring_up, bring_down}
-use Rattle.cg_agree.specs.Step.{begin_replica, name_also, joined, without_snapshot}
-use Rattle.cg_agree.specs.Looks.{on_disk, disk_held, snapshot_of}
-use Rattle.cg_agree.specs.Small.{Small, Starts, Makes, Enters, Orders, Receives, Hands, Leaves, Asks, Settles, Commits, Crashes, Recovers, Copies, Joins, newest_conf, make_configuration, become_past, take_newest, take_next, take_parting, take_request}
-use Rattle.cg_agree.specs.Smalls.{is_set, is_between, may_make}
-use Rattle.cg_agree.specs.Played.{IsSame, Given, given_for}
+use Rattle.cg_model.specs.World.{Life, Up, Down, Seat, Snapshot, World, running, seat_of, replica_of, is_left_state, has_begun, set_life, bring_up, bring_down}
+use Rattle.cg_model.specs.Step.{begin_replica, name_also, joined, without_snapshot}
+use Rattle.cg_model.specs.Looks.{on_disk, disk_held, snapshot_of}
+use Rattle.cg_model.specs.Small.{Small, Starts, Makes, Enters, Orders, Receives, Hands, Leaves, Asks, Settles, Commits, Crashes, Recovers, Copies, Joins, newest_conf, make_configuration, become_past, take_newest, take_next, take_parting, take_request}
+use Rattle.cg_model.specs.Smalls.{is_set, is_between, may_make}
+use Rattle.cg_model.specs.Played.{IsSame, Given, given_for}
 use Rattle.cg_agree.proofs.SeatFacts.{ids-seated, running-set, disk-set}
 use Rattle.cg_agree.proofs.TurnWorlds.{seated, up_seat, turn-first}
 use Rattle.cg_agree.proofs.EventTurns.{is-up}

@@ -3,9 +3,9 @@ use Rattle.std.proofs.Common.{◌≡◌, ℕ, suc, ◌≤◌, arith, cond, List,
 use Rattle.std.specs.Prelude.{◌==◌}
 use Rattle.std.proofs.lemmas.Bool.{cases_Bool, cond-true, cond-false, cond_both, ne_eqb, lt-leb, lt-ltb, le-ltb}
 use Rattle.cg_base.specs.Sets.{with_member}
-use Rattle.cg_agree.specs.World.{Life, Seat, World, running, seat_of, replica_of, with_seat, set_life}
-use Rattle.cg_agree.specs.Looks.{on_disk, disk_held}
-use Rattle.cg_agree.specs.FactsLists.{IsRising}
+use Rattle.cg_model.specs.World.{Life, Seat, World, running, seat_of, replica_of, with_seat, set_life}
+use Rattle.cg_model.specs.Looks.{on_disk, disk_held}
+use Rattle.cg_model.specs.FactsLists.{IsRising}
 use Rattle.cg_agree.proofs.ChronicleFacts.{seat_of-set}
 use Rattle.cg_agree.proofs.HandSays.{find-holds}
 use Rattle.cg_agree.proofs.Standings.{compared}

@@ -19,14 +19,14 @@ use Rattle.cg_client.specs.Turn.{Turn, begin}
 use Rattle.cg_stored.specs.Stored.{stored_of, whiten}
 use Rattle.cg_step.specs.Crash.{new_disk, at_rest, recovered, disk_recovered}
 use Rattle.cg_members.specs.Servers.{is_server}
-use Rattle.cg_agree.specs.World.{Life, Up, Down as DownLife, Seat, Snapshot, World, running, seat_of, replica_of, has_begun, set_life, is_left}
-use Rattle.cg_agree.specs.Step.{begin_replica, joined, without_snapshot}
-use Rattle.cg_agree.specs.Chronicle.{Past, Copy, Chronicle, no_chronicle}
-use Rattle.cg_agree.specs.Looks.{past_of, greens_of, disk_held, on_disk, copied_for}
-use Rattle.cg_agree.specs.FactsNet.{PhaseSound, Seated}
-use Rattle.cg_agree.specs.FactsReplica.{IsModeData}
-use Rattle.cg_agree.specs.Small.{Small, Starts, Makes, Enters, Orders, Receives, Hands, Leaves, Asks, Settles, Commits, Crashes, Recovers, Copies, Joins, start, small_step, turning_as, turning, commit_as, crash_as, recover_as, copy_as, join_with, changed_past, with_greens, written, struck, new_past, newly_green, take_request, take_newest, take_next, take_parting, coming, handed_next, leaving}
-use Rattle.cg_agree.specs.Smalls.{may_make, is_set, may_come, is_running}
+use Rattle.cg_model.specs.World.{Life, Up, Down as DownLife, Seat, Snapshot, World, running, seat_of, replica_of, has_begun, set_life, is_left}
+use Rattle.cg_model.specs.Step.{begin_replica, joined, without_snapshot}
+use Rattle.cg_model.specs.Chronicle.{Past, Copy, Chronicle, no_chronicle}
+use Rattle.cg_model.specs.Looks.{past_of, greens_of, disk_held, on_disk, copied_for}
+use Rattle.cg_model.specs.FactsNet.{PhaseSound, Seated}
+use Rattle.cg_model.specs.FactsReplica.{IsModeData}
+use Rattle.cg_model.specs.Small.{Small, Starts, Makes, Enters, Orders, Receives, Hands, Leaves, Asks, Settles, Commits, Crashes, Recovers, Copies, Joins, start, small_step, turning_as, turning, commit_as, crash_as, recover_as, copy_as, join_with, changed_past, with_greens, written, struck, new_past, newly_green, take_request, take_newest, take_next, take_parting, coming, handed_next, leaving}
+use Rattle.cg_model.specs.Smalls.{may_make, is_set, may_come, is_running}
 use Rattle.cg_agree.proofs.BegunKept.{nothing-before, coming-begun}
 use Rattle.cg_agree.proofs.ChronicleFacts.{seat_of-set, past-begun}
 use Rattle.cg_agree.proofs.GivenKept.{without-own, Given, given-same, given-crashed, given-joined, given-more}

@@ -11,18 +11,18 @@ use Rattle.cg_knowledge.specs.Members.{senders, gone, remaining, most_updated}
 use Rattle.cg_knowledge.specs.Primary.{known_primary}
 use Rattle.cg_knowledge.specs.Verdict.{decides}
 use Rattle.cg_client.specs.Replica.{Replica}
-use Rattle.cg_agree.specs.Chronicle.{Told, Attempt, Chronicle}
-use Rattle.cg_agree.specs.Looks.{told_in, conf_at, members_in, ordered_in, attempt_of, top_of}
-use Rattle.cg_agree.specs.Talk.{talk_of, is_ended}
-use Rattle.cg_agree.specs.Fronts.{IsSomeWith}
-use Rattle.cg_agree.specs.Levels.{prim_at}
-use Rattle.cg_agree.specs.FactsReplica.{is_attempting, is_primary, IsCounted, IsModeData}
-use Rattle.cg_agree.specs.FactsTalk.{TalkLegal, whole_talk}
-use Rattle.cg_agree.specs.FactsExchange.{best_told}
-use Rattle.cg_agree.specs.FactsAttempts.{IsAttempt, AreParts, AttemptShape}
-use Rattle.cg_agree.specs.Facts.{Invariant}
-use Rattle.cg_agree.specs.Small.{Small, small_step, with_leaver, with_entrant, with_installer}
-use Rattle.cg_agree.specs.Smalls.{may_make}
+use Rattle.cg_model.specs.Chronicle.{Told, Attempt, Chronicle}
+use Rattle.cg_model.specs.Looks.{told_in, conf_at, members_in, ordered_in, attempt_of, top_of}
+use Rattle.cg_model.specs.Talk.{talk_of, is_ended}
+use Rattle.cg_model.specs.Fronts.{IsSomeWith}
+use Rattle.cg_model.specs.Levels.{prim_at}
+use Rattle.cg_model.specs.FactsReplica.{is_attempting, is_primary, IsCounted, IsModeData}
+use Rattle.cg_model.specs.FactsTalk.{TalkLegal, whole_talk}
+use Rattle.cg_model.specs.FactsExchange.{best_told}
+use Rattle.cg_model.specs.FactsAttempts.{IsAttempt, AreParts, AttemptShape}
+use Rattle.cg_model.specs.Facts.{Invariant}
+use Rattle.cg_model.specs.Small.{Small, small_step, with_leaver, with_entrant, with_installer}
+use Rattle.cg_model.specs.Smalls.{may_make}
 use Rattle.cg_agree.proofs.FrontFacts.{take-Front}
 use Rattle.cg_agree.proofs.HandSays.{find-holds, remains-unless_gone}
 use Rattle.cg_agree.proofs.ReachFacts.{all-at, all-from}

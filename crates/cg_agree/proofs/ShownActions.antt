@@ -3,12 +3,12 @@ use Rattle.std.proofs.Common.{◌≡◌, suc, List, [], ◌∷◌, take, length,
 use Rattle.cg_group.specs.EachLaws.{Each, Each-weaker}
 use Rattle.cg_action.specs.declared.action.Action.{Action}
 use Rattle.cg_queue.specs.Queue.{names_of}
-use Rattle.cg_agree.specs.Chronicle.{Chronicle}
-use Rattle.cg_agree.specs.Fronts.{Front}
-use Rattle.cg_agree.specs.FactsReplica.{AreBooked}
-use Rattle.cg_agree.specs.Run.{Step}
-use Rattle.cg_agree.specs.Shown.{order_of, made_action, made_actions, ordered_actions}
-use Rattle.cg_agree.specs.World.{World}
+use Rattle.cg_model.specs.Chronicle.{Chronicle}
+use Rattle.cg_model.specs.Fronts.{Front}
+use Rattle.cg_model.specs.FactsReplica.{AreBooked}
+use Rattle.cg_model.specs.Run.{Step}
+use Rattle.cg_model.specs.Shown.{order_of, made_action, made_actions, ordered_actions}
+use Rattle.cg_model.specs.World.{World}
 use Rattle.cg_agree.proofs.FrontFacts.{take-Front}
 use Rattle.cg_agree.proofs.BookGrows.{IsNamed}
 use Rattle.cg_agree.proofs.OrderedActions.{IsShownAs, each-shown_as, ordered-as}

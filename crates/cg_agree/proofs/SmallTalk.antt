@@ -16,12 +16,12 @@ use Rattle.cg_group.specs.Refusals.{order_refusal, not_up, not_regular, nothing_
 use Rattle.cg_group.specs.LookupLaws.{standing_of-set_configuration, configuration-set, at-cond, at_place-changed, eqb_comm}
 use Rattle.cg_group.specs.PlaceLaws.{at_place-past}
 use Rattle.cg_client.specs.Replica.{Replica}
-use Rattle.cg_agree.specs.World.{replica_of}
-use Rattle.cg_agree.specs.Chronicle.{Chronicle}
-use Rattle.cg_agree.specs.Looks.{conf_of, is_regular_at, is_regular_in, members_in, ordered_in}
-use Rattle.cg_agree.specs.FactsNet.{PhaseSound, IsPhase, ReceiptsInside}
-use Rattle.cg_agree.specs.Small.{Orders, small_step, with_group}
-use Rattle.cg_agree.specs.Smalls.{may_make}
+use Rattle.cg_model.specs.World.{replica_of}
+use Rattle.cg_model.specs.Chronicle.{Chronicle}
+use Rattle.cg_model.specs.Looks.{conf_of, is_regular_at, is_regular_in, members_in, ordered_in}
+use Rattle.cg_model.specs.FactsNet.{PhaseSound, IsPhase, ReceiptsInside}
+use Rattle.cg_model.specs.Small.{Orders, small_step, with_group}
+use Rattle.cg_model.specs.Smalls.{may_make}
 use Rattle.cg_agree.proofs.HandsTalk.{SaidFacts}
 use Rattle.cg_agree.proofs.HandsKept.{regular-phase}
 use Rattle.cg_agree.proofs.GroupTurn.{standing-id, put-same}

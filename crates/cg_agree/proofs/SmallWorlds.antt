@@ -13,14 +13,14 @@ use Rattle.cg_client.specs.Turn.{Turn, begin}
 use Rattle.cg_client.specs.Requests.{settle}
 use Rattle.cg_stored.specs.Stored.{stored_of, whiten}
 use Rattle.cg_step.specs.Crash.{Disk, new_disk, at_rest, recovered, disk_recovered}
-use Rattle.cg_agree.specs.World.{Life, Up, Down, World, seat_of, replica_of, set_life, bring_up, bring_down}
-use Rattle.cg_agree.specs.Step.{begin_replica, joined, without_snapshot}
-use Rattle.cg_agree.specs.Chronicle.{Told, Chronicle, no_chronicle}
-use Rattle.cg_agree.specs.Looks.{told_in, ordered_in, is_member, snapshot_of}
-use Rattle.cg_agree.specs.Small.{Small, Starts, Makes, Enters, Orders, Receives, Hands, Leaves, Asks, Settles, Commits, Crashes, Recovers, Copies, Joins, turning, turning_as, commit_as, crash_as, recover_as, copy_as, join_with, coming, handed_next, leaving, newest_conf, make_configuration, become_past, take_newest, take_next, take_parting, take_request, small_step}
-use Rattle.cg_agree.specs.Smalls.{may_come, may_make}
-use Rattle.cg_agree.specs.Noting.{played}
-use Rattle.cg_agree.specs.Played.{IsWritten, AtRest, MayBeMade}
+use Rattle.cg_model.specs.World.{Life, Up, Down, World, seat_of, replica_of, set_life, bring_up, bring_down}
+use Rattle.cg_model.specs.Step.{begin_replica, joined, without_snapshot}
+use Rattle.cg_model.specs.Chronicle.{Told, Chronicle, no_chronicle}
+use Rattle.cg_model.specs.Looks.{told_in, ordered_in, is_member, snapshot_of}
+use Rattle.cg_model.specs.Small.{Small, Starts, Makes, Enters, Orders, Receives, Hands, Leaves, Asks, Settles, Commits, Crashes, Recovers, Copies, Joins, turning, turning_as, commit_as, crash_as, recover_as, copy_as, join_with, coming, handed_next, leaving, newest_conf, make_configuration, become_past, take_newest, take_next, take_parting, take_request, small_step}
+use Rattle.cg_model.specs.Smalls.{may_come, may_make}
+use Rattle.cg_model.specs.Noting.{played}
+use Rattle.cg_model.specs.Played.{IsWritten, AtRest, MayBeMade}
 
 -- ---- worlds
 

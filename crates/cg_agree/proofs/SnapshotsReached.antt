@@ -5,13 +5,13 @@ use Rattle.std.specs.Option.{option_map_or}
 use Rattle.std.proofs.lemmas.Bool.{cases_Bool, cond-true, cond-false}
 use Rattle.cg_queue.specs.Queue.{green_count}
 use Rattle.cg_client.specs.Replica.{Held, Replica}
-use Rattle.cg_agree.specs.World.{Snapshot, World, replica_of}
-use Rattle.cg_agree.specs.Step.{joined, snapshot_for}
-use Rattle.cg_agree.specs.Chronicle.{Chronicle}
-use Rattle.cg_agree.specs.Fronts.{Front}
-use Rattle.cg_agree.specs.Looks.{greens_of, snapshot_of, copied_for}
-use Rattle.cg_agree.specs.FactsReplica.{IsCore}
-use Rattle.cg_agree.specs.Played.{Given, StandsBeside}
+use Rattle.cg_model.specs.World.{Snapshot, World, replica_of}
+use Rattle.cg_model.specs.Step.{joined, snapshot_for}
+use Rattle.cg_model.specs.Chronicle.{Chronicle}
+use Rattle.cg_model.specs.Fronts.{Front}
+use Rattle.cg_model.specs.Looks.{greens_of, snapshot_of, copied_for}
+use Rattle.cg_model.specs.FactsReplica.{IsCore}
+use Rattle.cg_model.specs.Played.{Given, StandsBeside}
 use Rattle.cg_agree.proofs.HeldMarks.{counted}
 use Rattle.cg_agree.proofs.MadeTransfer.{neither, only-both}
 use Rattle.cg_agree.proofs.OrderReached.{within-order}

@@ -14,15 +14,15 @@ use Rattle.cg_group.specs.Refusals.{sender_at}
 use Rattle.cg_group.specs.EachLaws.{Each}
 use Rattle.cg_group.specs.PlaceLaws.{at_place-past}
 use Rattle.cg_client.specs.Replica.{State, RegPrim, TransPrim, ExchangeStates, ExchangeActions, Construct, No, Un, NonPrim, Left, Replica}
-use Rattle.cg_agree.specs.World.{Snapshot, World, replica_of, is_left_state}
-use Rattle.cg_agree.specs.Chronicle.{Told, Chronicle}
-use Rattle.cg_agree.specs.Looks.{told_in, is_regular_at, is_member, snapshot_of, snapshots_for}
-use Rattle.cg_agree.specs.FactsLists.{IsRising, AreReceived}
-use Rattle.cg_agree.specs.FactsNet.{IsPhase}
-use Rattle.cg_agree.specs.FactsTalk.{IsStateIn, IsTransitional}
-use Rattle.cg_agree.specs.Facts.{Invariant}
-use Rattle.cg_agree.specs.Smalls.{is_between}
-use Rattle.cg_agree.specs.Played.{IsSame, Given}
+use Rattle.cg_model.specs.World.{Snapshot, World, replica_of, is_left_state}
+use Rattle.cg_model.specs.Chronicle.{Told, Chronicle}
+use Rattle.cg_model.specs.Looks.{told_in, is_regular_at, is_member, snapshot_of, snapshots_for}
+use Rattle.cg_model.specs.FactsLists.{IsRising, AreReceived}
+use Rattle.cg_model.specs.FactsNet.{IsPhase}
+use Rattle.cg_model.specs.FactsTalk.{IsStateIn, IsTransitional}
+use Rattle.cg_model.specs.Facts.{Invariant}
+use Rattle.cg_model.specs.Smalls.{is_between}
+use Rattle.cg_model.specs.Played.{IsSame, Given}
 use Rattle.cg_agree.proofs.GroupChanges.{DoRise}
 use Rattle.cg_agree.proofs.GatherPlaces.{IsFit, Fits}
 use Rattle.cg_agree.proofs.MadeTransfer.{served-found}

@@ -2,10 +2,10 @@
 use Rattle.std.proofs.Common.{◌≡◌, ℕ, zero, suc, ◌≤◌, ◌<◌, false, List, [], length, take, refl, sym, subst}
 use Rattle.cg_action.specs.declared.action.Action.{Action}
 use Rattle.cg_group.specs.State.{configuration}
-use Rattle.cg_agree.specs.Chronicle.{Chronicle}
-use Rattle.cg_agree.specs.Fronts.{Front}
-use Rattle.cg_agree.specs.Looks.{attempt_at, top_of, ordered_in}
-use Rattle.cg_agree.specs.Levels.{bound_at, line_at, reach_at, reached_at, is_live}
+use Rattle.cg_model.specs.Chronicle.{Chronicle}
+use Rattle.cg_model.specs.Fronts.{Front}
+use Rattle.cg_model.specs.Looks.{attempt_at, top_of, ordered_in}
+use Rattle.cg_model.specs.Levels.{bound_at, line_at, reach_at, reached_at, is_live}
 use Rattle.cg_agree.proofs.ReachFacts.{AreCounted}
 
 none-front : (n : ℕ) (ys : List Action) → Front (take n []) ys

@@ -12,18 +12,18 @@ use Rattle.cg_wire.specs.declared.message.Msg.{Msg}
 use Rattle.cg_wire.specs.declared.message.Msg.TheVariants.{Action as ActionMsg, State as StateMsg, GreenItem, RedItem, Cpc}
 use Rattle.cg_group.specs.State.{Sent, phase_of}
 use Rattle.cg_client.specs.Replica.{Replica}
-use Rattle.cg_agree.specs.Chronicle.{Attempt, Chronicle}
-use Rattle.cg_agree.specs.Fronts.{Front, IsSomeWith, When}
-use Rattle.cg_agree.specs.Looks.{greens_of, conf_at, ordered_in, attempt_of, attempt_at, top_of, installation}
-use Rattle.cg_agree.specs.Talk.{act_in, action_in, acts_in}
-use Rattle.cg_agree.specs.Levels.{reach_at, line_at, bound_at, is_installed, is_frozen}
-use Rattle.cg_agree.specs.FactsReplica.{booked, AreBooked, is_attempting, own_record}
-use Rattle.cg_agree.specs.FactsAttempts.{HoldsParts, LevelsStand, LeftOut}
-use Rattle.cg_agree.specs.FactsGreens.{InstalledCount, Spine, Covers}
-use Rattle.cg_agree.specs.Facts.{Invariant}
-use Rattle.cg_agree.specs.Played.{AtRest}
-use Rattle.cg_agree.specs.Small.{Small, small_step, with_installer}
-use Rattle.cg_agree.specs.Smalls.{may_make}
+use Rattle.cg_model.specs.Chronicle.{Attempt, Chronicle}
+use Rattle.cg_model.specs.Fronts.{Front, IsSomeWith, When}
+use Rattle.cg_model.specs.Looks.{greens_of, conf_at, ordered_in, attempt_of, attempt_at, top_of, installation}
+use Rattle.cg_model.specs.Talk.{act_in, action_in, acts_in}
+use Rattle.cg_model.specs.Levels.{reach_at, line_at, bound_at, is_installed, is_frozen}
+use Rattle.cg_model.specs.FactsReplica.{booked, AreBooked, is_attempting, own_record}
+use Rattle.cg_model.specs.FactsAttempts.{HoldsParts, LevelsStand, LeftOut}
+use Rattle.cg_model.specs.FactsGreens.{InstalledCount, Spine, Covers}
+use Rattle.cg_model.specs.Facts.{Invariant}
+use Rattle.cg_model.specs.Played.{AtRest}
+use Rattle.cg_model.specs.Small.{Small, small_step, with_installer}
+use Rattle.cg_model.specs.Smalls.{may_make}
 use Rattle.cg_agree.proofs.AttemptSteps.{Installing, AttemptStep, Same, Goes, Begun, Installed, attempt-step}
 use Rattle.cg_agree.proofs.AttemptsCame.{ins-conf}
 use Rattle.cg_agree.proofs.AttemptsTurn.{at_conf, installing-now}

@@ -4,7 +4,7 @@ use Rattle.std.specs.Prelude.{◌==◌}
 use Rattle.std.proofs.lemmas.Bool.{cases_eq, cases_Bool, cond-true, cond-false, cond_both, ne_eqb, eqb-false, lt-ltb, le-ltb, ltb-true, ltb-false}
 use Rattle.cg_base.specs.Sets.{with_member}
 use Rattle.cg_group.specs.State.{Standing, with_standing}
-use Rattle.cg_agree.specs.FactsLists.{IsRising}
+use Rattle.cg_model.specs.FactsLists.{IsRising}
 
 -- ---- sets
 

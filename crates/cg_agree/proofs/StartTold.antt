@@ -4,18 +4,18 @@ use Rattle.std.proofs.lemmas.List.{append-nil, append_assoc}
 use Rattle.cg_base.specs.declared.weighted.Weighted.{Weighted}
 use Rattle.cg_schedule.specs.declared.event.Event.{Event}
 use Rattle.cg_schedule.specs.declared.event.Event.TheVariants.{Start, Split, Merge, Request, Weak, Dirty, Order, Recover, Show, ShowOrder, Gather, End, Receive, Deliver, Rounds, Stop, Fail, Join, Leave, Transfer}
-use Rattle.cg_agree.specs.World.{World}
-use Rattle.cg_agree.specs.Admission.{first_refusal}
-use Rattle.cg_agree.specs.Show.{Moved}
-use Rattle.cg_agree.specs.Step.{world_step}
-use Rattle.cg_agree.specs.Run.{Step, MayStand}
-use Rattle.cg_agree.specs.Shown.{start_in, start_of}
-use Rattle.cg_agree.specs.Agreement.{through}
-use Rattle.cg_agree.specs.Chronicle.{Chronicle}
-use Rattle.cg_agree.specs.Small.{small_step}
-use Rattle.cg_agree.specs.Smalls.{smalls_in}
-use Rattle.cg_agree.specs.Noting.{chronicle_step}
-use Rattle.cg_agree.specs.SeatLaws.{IsSeated, start_seats, seats_stay}
+use Rattle.cg_model.specs.World.{World}
+use Rattle.cg_model.specs.Admission.{first_refusal}
+use Rattle.cg_model.specs.Show.{Moved}
+use Rattle.cg_model.specs.Step.{world_step}
+use Rattle.cg_model.specs.Run.{Step, MayStand}
+use Rattle.cg_model.specs.Shown.{start_in, start_of}
+use Rattle.cg_model.specs.Agreement.{through}
+use Rattle.cg_model.specs.Chronicle.{Chronicle}
+use Rattle.cg_model.specs.Small.{small_step}
+use Rattle.cg_model.specs.Smalls.{smalls_in}
+use Rattle.cg_model.specs.Noting.{chronicle_step}
+use Rattle.cg_model.specs.SeatLaws.{IsSeated, start_seats, seats_stay}
 use Rattle.cg_agree.proofs.RunForward.{IsStepOf}
 use Rattle.cg_agree.proofs.PrimStays.{event-stays}
 use Rattle.cg_agree.proofs.PrimaryOne.{seated-not}

@@ -18,15 +18,15 @@ use Rattle.cg_group.specs.State.{Configuration, configuration, no_configuration}
 use Rattle.cg_group.specs.PlaceLaws.{at_place-past}
 use Rattle.cg_client.specs.Replica.{Held, State, RegPrim, TransPrim, ExchangeStates, ExchangeActions, Construct, No, Un, NonPrim, Left, Replica}
 use Rattle.cg_client.specs.Summary.{summary_of}
-use Rattle.cg_agree.specs.World.{Up, Seat, running, seat_of, replica_of}
-use Rattle.cg_agree.specs.Chronicle.{Told, Attempt, Chronicle}
-use Rattle.cg_agree.specs.Fronts.{Front, IsSomeWith}
-use Rattle.cg_agree.specs.Looks.{greens_of, told_in, ordered_in, is_member, top_of, no_attempt, attempt_of, attempt_at, installation}
-use Rattle.cg_agree.specs.Levels.{is_installed, prim_of, prim_at}
-use Rattle.cg_agree.specs.FactsExchange.{IsRecord, HasRecord, IsSummary, KnowsLevels}
-use Rattle.cg_agree.specs.Facts.{Invariant}
-use Rattle.cg_agree.specs.Small.{Small, Starts, Makes, Enters, Orders, Receives, Hands, Leaves, Asks, Settles, Commits, Crashes, Recovers, Copies, Joins, small_step, coming, newest_conf}
-use Rattle.cg_agree.specs.Smalls.{may_make, is_set}
+use Rattle.cg_model.specs.World.{Up, Seat, running, seat_of, replica_of}
+use Rattle.cg_model.specs.Chronicle.{Told, Attempt, Chronicle}
+use Rattle.cg_model.specs.Fronts.{Front, IsSomeWith}
+use Rattle.cg_model.specs.Looks.{greens_of, told_in, ordered_in, is_member, top_of, no_attempt, attempt_of, attempt_at, installation}
+use Rattle.cg_model.specs.Levels.{is_installed, prim_of, prim_at}
+use Rattle.cg_model.specs.FactsExchange.{IsRecord, HasRecord, IsSummary, KnowsLevels}
+use Rattle.cg_model.specs.Facts.{Invariant}
+use Rattle.cg_model.specs.Small.{Small, Starts, Makes, Enters, Orders, Receives, Hands, Leaves, Asks, Settles, Commits, Crashes, Recovers, Copies, Joins, small_step, coming, newest_conf}
+use Rattle.cg_model.specs.Smalls.{may_make, is_set}
 use Rattle.cg_step.specs.CutRaiseLaws.{behind-rises}
 use Rattle.cg_agree.proofs.HeldMarks.{IsOneself, rising-green}
 use Rattle.cg_agree.proofs.ChronicleFacts.{seat_of-set}

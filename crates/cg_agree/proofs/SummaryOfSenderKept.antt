@@ -14,18 +14,18 @@ use Rattle.cg_client.specs.Replica.{Held, State, ExchangeStates, Replica, last_i
 use Rattle.cg_client.specs.Requests.{settle}
 use Rattle.cg_client.specs.Summary.{summary_of}
 use Rattle.cg_step.specs.Crash.{new_disk, recovered, disk_recovered}
-use Rattle.cg_agree.specs.World.{Life, Up, Down, Seat, running, seat_of, replica_of, has_begun}
-use Rattle.cg_agree.specs.Attempts.{held_in}
-use Rattle.cg_agree.specs.Step.{joined, without_snapshot}
-use Rattle.cg_agree.specs.Chronicle.{Told, Chronicle}
-use Rattle.cg_agree.specs.Fronts.{Front}
-use Rattle.cg_agree.specs.Looks.{greens_of, told_in, core_of, snapshot_of, is_at, is_in, is_member, on_disk}
-use Rattle.cg_agree.specs.FactsReplica.{HasModeData, IsModeData}
-use Rattle.cg_agree.specs.FactsExchange.{IsOutdone, HasMadeNothing, KnowsAsMuch, SummaryOfSender}
-use Rattle.cg_agree.specs.Facts.{Invariant}
-use Rattle.cg_agree.specs.Played.{AtRest}
-use Rattle.cg_agree.specs.Small.{Small, Starts, Makes, Enters, Orders, Receives, Hands, Leaves, Asks, Settles, Commits, Crashes, Recovers, Copies, Joins, small_step, handed_next, leaving, take_next, take_parting, take_request, newest_conf, commit_as, crash_as, recover_as, copy_as, join_with}
-use Rattle.cg_agree.specs.Smalls.{may_make, is_running, is_set}
+use Rattle.cg_model.specs.World.{Life, Up, Down, Seat, running, seat_of, replica_of, has_begun}
+use Rattle.cg_model.specs.Attempts.{held_in}
+use Rattle.cg_model.specs.Step.{joined, without_snapshot}
+use Rattle.cg_model.specs.Chronicle.{Told, Chronicle}
+use Rattle.cg_model.specs.Fronts.{Front}
+use Rattle.cg_model.specs.Looks.{greens_of, told_in, core_of, snapshot_of, is_at, is_in, is_member, on_disk}
+use Rattle.cg_model.specs.FactsReplica.{HasModeData, IsModeData}
+use Rattle.cg_model.specs.FactsExchange.{IsOutdone, HasMadeNothing, KnowsAsMuch, SummaryOfSender}
+use Rattle.cg_model.specs.Facts.{Invariant}
+use Rattle.cg_model.specs.Played.{AtRest}
+use Rattle.cg_model.specs.Small.{Small, Starts, Makes, Enters, Orders, Receives, Hands, Leaves, Asks, Settles, Commits, Crashes, Recovers, Copies, Joins, small_step, handed_next, leaving, take_next, take_parting, take_request, newest_conf, commit_as, crash_as, recover_as, copy_as, join_with}
+use Rattle.cg_model.specs.Smalls.{may_make, is_running, is_set}
 use Rattle.cg_agree.proofs.FrontFacts.{Front-refl, Front-trans}
 use Rattle.cg_agree.proofs.ChronicleFacts.{seat_of-set}
 use Rattle.cg_agree.proofs.HeldCommit.{recovered-id}

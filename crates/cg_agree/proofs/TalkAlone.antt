@@ -14,13 +14,13 @@ use Rattle.cg_client.specs.Replica.{NonPrim, Replica, fresh}
 use Rattle.cg_client.specs.Turn.{begin}
 use Rattle.cg_step.specs.Crash.{Disk, new_disk, at_rest, recovered, disk_recovered}
 use Rattle.cg_stored.specs.Stored.{recover}
-use Rattle.cg_agree.specs.World.{Life, Up, Down as DownLife, Seat, Snapshot, World, running, seat_of, has_begun, replica_of, set_life}
-use Rattle.cg_agree.specs.Step.{begin_replica, joined}
-use Rattle.cg_agree.specs.Chronicle.{Chronicle}
-use Rattle.cg_agree.specs.FactsNet.{Seated}
-use Rattle.cg_agree.specs.FactsTalk.{IsStateIn, TalkFacts}
-use Rattle.cg_agree.specs.Small.{Starts, Crashes, Recovers, Copies, Joins, start, small_step, crash_as, recover_as, copy_as, join_with}
-use Rattle.cg_agree.specs.Smalls.{is_running}
+use Rattle.cg_model.specs.World.{Life, Up, Down as DownLife, Seat, Snapshot, World, running, seat_of, has_begun, replica_of, set_life}
+use Rattle.cg_model.specs.Step.{begin_replica, joined}
+use Rattle.cg_model.specs.Chronicle.{Chronicle}
+use Rattle.cg_model.specs.FactsNet.{Seated}
+use Rattle.cg_model.specs.FactsTalk.{IsStateIn, TalkFacts}
+use Rattle.cg_model.specs.Small.{Starts, Crashes, Recovers, Copies, Joins, start, small_step, crash_as, recover_as, copy_as, join_with}
+use Rattle.cg_model.specs.Smalls.{is_running}
 use Rattle.cg_agree.proofs.ChronicleFacts.{seat_of-set}
 use Rattle.cg_agree.proofs.EntersTurn.{own-state}
 use Rattle.cg_agree.proofs.GroupKept.{in_world}

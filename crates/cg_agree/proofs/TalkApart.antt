@@ -12,12 +12,12 @@ use Rattle.cg_group.specs.declared.phase.Phase.TheVariants.{Regular, Transitiona
 use Rattle.cg_group.specs.State.{Configuration, phase_of, delivered_to, unordered_of, has_received}
 use Rattle.cg_client.specs.Replica.{Held, State, RegPrim, TransPrim, ExchangeStates, ExchangeActions, Construct, No, Un, NonPrim, Left, Replica}
 use Rattle.cg_construct.specs.Construct.{attempt_set}
-use Rattle.cg_agree.specs.Levels.{lacks_announcement, announced_from}
-use Rattle.cg_agree.specs.World.{replica_of}
-use Rattle.cg_agree.specs.Chronicle.{Told, Chronicle}
-use Rattle.cg_agree.specs.Looks.{conf_of, told_in, is_regular_at, is_regular_in, members_in, ordered_in, sent_by, placed_of, waiting_in, said_in}
-use Rattle.cg_agree.specs.Talk.{Talk, no_talk, talk_of, is_legal, is_ended, act_in, known_up_to, state_in}
-use Rattle.cg_agree.specs.FactsTalk.{whole_talk, handed_talk, TalkLegal, SaysWhatIsDue, SentIffDue, HeardIsTold, AreTold, summaries_of, IsTransitional, IsStateIn, ModeFits, AreContents, Content, AreNumberedAt, ActsNumbered, TalkFacts}
+use Rattle.cg_model.specs.Levels.{lacks_announcement, announced_from}
+use Rattle.cg_model.specs.World.{replica_of}
+use Rattle.cg_model.specs.Chronicle.{Told, Chronicle}
+use Rattle.cg_model.specs.Looks.{conf_of, told_in, is_regular_at, is_regular_in, members_in, ordered_in, sent_by, placed_of, waiting_in, said_in}
+use Rattle.cg_model.specs.Talk.{Talk, no_talk, talk_of, is_legal, is_ended, act_in, known_up_to, state_in}
+use Rattle.cg_model.specs.FactsTalk.{whole_talk, handed_talk, TalkLegal, SaysWhatIsDue, SentIffDue, HeardIsTold, AreTold, summaries_of, IsTransitional, IsStateIn, ModeFits, AreContents, Content, AreNumberedAt, ActsNumbered, TalkFacts}
 use Rattle.cg_agree.proofs.NumbersSame.{numbered-at, numbered-itself, contents-front, AreInRow, row-front}
 use Rattle.cg_agree.proofs.TalkKept.{list_all-same}
 

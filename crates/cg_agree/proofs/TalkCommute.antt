@@ -18,8 +18,8 @@ use Rattle.cg_wire.specs.declared.message.Msg.{Msg}
 use Rattle.cg_wire.specs.declared.message.Msg.TheVariants.{Action as ActionMsg, State as StateMsg, GreenItem, RedItem, Cpc}
 use Rattle.cg_group.specs.State.{Sent}
 use Rattle.cg_exchange.specs.ExchangeActions.{progress}
-use Rattle.cg_agree.specs.Looks.{sent_by}
-use Rattle.cg_agree.specs.Talk.{Talk, hears_from, hears, is_full, is_through, is_ended, is_announced, is_due, may_go_on, may_say, is_legal}
+use Rattle.cg_model.specs.Looks.{sent_by}
+use Rattle.cg_model.specs.Talk.{Talk, hears_from, hears, is_full, is_through, is_ended, is_announced, is_due, may_go_on, may_say, is_legal}
 use Rattle.cg_agree.proofs.TalkEarly.{all-member, not_full, due_parts}
 
 and-assoc : (a b c : Bool) → (a && (b && c)) ≡ ((a && b) && c)

@@ -13,14 +13,14 @@ use Rattle.cg_group.specs.Events.{become_regular, send_all}
 use Rattle.cg_group.specs.LookupLaws.{unordered_of-set}
 use Rattle.cg_client.specs.Turn.{Turn}
 use Rattle.cg_client.specs.Summary.{summary_of}
-use Rattle.cg_agree.specs.World.{Up, replica_of}
-use Rattle.cg_agree.specs.Chronicle.{Chronicle}
-use Rattle.cg_agree.specs.Looks.{told_in, is_regular_at, is_regular_in, members_in, ordered_in}
-use Rattle.cg_agree.specs.FactsNet.{PhaseSound, IsPhase}
-use Rattle.cg_agree.specs.FactsReplica.{IsModeData}
-use Rattle.cg_agree.specs.FactsTalk.{TalkFacts}
-use Rattle.cg_agree.specs.Small.{Enters, small_step, coming, newest_conf, after_turn}
-use Rattle.cg_agree.specs.Smalls.{may_make, is_between}
+use Rattle.cg_model.specs.World.{Up, replica_of}
+use Rattle.cg_model.specs.Chronicle.{Chronicle}
+use Rattle.cg_model.specs.Looks.{told_in, is_regular_at, is_regular_in, members_in, ordered_in}
+use Rattle.cg_model.specs.FactsNet.{PhaseSound, IsPhase}
+use Rattle.cg_model.specs.FactsReplica.{IsModeData}
+use Rattle.cg_model.specs.FactsTalk.{TalkFacts}
+use Rattle.cg_model.specs.Small.{Enters, small_step, coming, newest_conf, after_turn}
+use Rattle.cg_model.specs.Smalls.{may_make, is_between}
 use Rattle.cg_agree.proofs.EntersTurn.{Told as ToldIn, told-newest}
 use Rattle.cg_agree.proofs.GroupTurn.{Moved, moved-sent}
 use Rattle.cg_agree.proofs.OneStands.{Stands, stands-entered}

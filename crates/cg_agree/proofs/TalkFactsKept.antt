@@ -1,12 +1,12 @@
 -- Every small step keeps the facts about what is said.
 use Rattle.std.proofs.Common.{◌≡◌, true, not}
 use Rattle.std.proofs.lemmas.Bool.{and_parts}
-use Rattle.cg_agree.specs.World.{has_begun}
-use Rattle.cg_agree.specs.Chronicle.{Chronicle}
-use Rattle.cg_agree.specs.Facts.{Invariant}
-use Rattle.cg_agree.specs.FactsTalk.{TalkFacts, TalkLegal, SentIffDue, ModeFits}
-use Rattle.cg_agree.specs.Small.{Small, Starts, Makes, Enters, Orders, Receives, Hands, Leaves, Asks, Settles, Commits, Crashes, Recovers, Copies, Joins, small_step}
-use Rattle.cg_agree.specs.Smalls.{may_make, is_running}
+use Rattle.cg_model.specs.World.{has_begun}
+use Rattle.cg_model.specs.Chronicle.{Chronicle}
+use Rattle.cg_model.specs.Facts.{Invariant}
+use Rattle.cg_model.specs.FactsTalk.{TalkFacts, TalkLegal, SentIffDue, ModeFits}
+use Rattle.cg_model.specs.Small.{Small, Starts, Makes, Enters, Orders, Receives, Hands, Leaves, Asks, Settles, Commits, Crashes, Recovers, Copies, Joins, small_step}
+use Rattle.cg_model.specs.Smalls.{may_make, is_running}
 use Rattle.cg_agree.proofs.ActsCreated.{talk-settles, talk-asks}
 use Rattle.cg_agree.proofs.ActsOrdered.{talk-orders}
 use Rattle.cg_agree.proofs.AnswersOwn.{can-answer-there, knows-at-end}

@@ -9,12 +9,12 @@ use Rattle.cg_group.specs.declared.phase.Phase.TheVariants.{Down, Alone, Regular
 use Rattle.cg_group.specs.State.{phase_of, delivered_to, unordered_of, has_received}
 use Rattle.cg_client.specs.Replica.{Held, State, RegPrim, TransPrim, ExchangeStates, ExchangeActions, Construct, No, Un, NonPrim, Left, Replica}
 use Rattle.cg_construct.specs.Construct.{attempt_set}
-use Rattle.cg_agree.specs.World.{replica_of}
-use Rattle.cg_agree.specs.Chronicle.{Chronicle}
-use Rattle.cg_agree.specs.Looks.{conf_of, told_in, is_regular_at, is_regular_in, members_in, ordered_in, placed_of, waiting_in, said_in}
-use Rattle.cg_agree.specs.Talk.{Talk, talk_of, state_in}
-use Rattle.cg_agree.specs.Levels.{lacks_announcement, announced_at, announced_from}
-use Rattle.cg_agree.specs.FactsTalk.{whole_talk, handed_talk, AreTold, summaries_of, IsTransitional, IsStateIn}
+use Rattle.cg_model.specs.World.{replica_of}
+use Rattle.cg_model.specs.Chronicle.{Chronicle}
+use Rattle.cg_model.specs.Looks.{conf_of, told_in, is_regular_at, is_regular_in, members_in, ordered_in, placed_of, waiting_in, said_in}
+use Rattle.cg_model.specs.Talk.{Talk, talk_of, state_in}
+use Rattle.cg_model.specs.Levels.{lacks_announcement, announced_at, announced_from}
+use Rattle.cg_model.specs.FactsTalk.{whole_talk, handed_talk, AreTold, summaries_of, IsTransitional, IsStateIn}
 use Rattle.cg_agree.proofs.HandsTalk.{SaidFacts}
 use Rattle.cg_agree.proofs.TalkKept.{list_all-same}
 

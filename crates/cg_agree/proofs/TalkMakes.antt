@@ -13,14 +13,14 @@ use Rattle.cg_group.specs.State.{Standing, Configuration, no_configuration, conf
 use Rattle.cg_group.specs.PlaceLaws.{at_place-past}
 use Rattle.cg_client.specs.Replica.{Held, State, RegPrim, TransPrim, ExchangeStates, ExchangeActions, Construct, No, Un, NonPrim, Left, Replica}
 use Rattle.cg_construct.specs.Construct.{attempt_set}
-use Rattle.cg_agree.specs.Levels.{lacks_announcement, announced_from}
-use Rattle.cg_agree.specs.World.{replica_of}
-use Rattle.cg_agree.specs.Chronicle.{Told, Chronicle}
-use Rattle.cg_agree.specs.Looks.{conf_of, told_in, is_regular_at, is_regular_in, members_in, ordered_in, sent_by, placed_of, waiting_in, said_in}
-use Rattle.cg_agree.specs.Talk.{Talk, no_talk, talk_of, is_legal, is_ended, act_in, known_up_to, state_in}
-use Rattle.cg_agree.specs.FactsNet.{PhaseSound, IsPhase}
-use Rattle.cg_agree.specs.FactsTalk.{whole_talk, handed_talk, TalkLegal, SentIffDue, HeardIsTold, AreTold, IsTransitional, IsStateIn, ModeFits, AreContents, Content, AreNumberedAt, ActsNumbered, TalkFacts}
-use Rattle.cg_agree.specs.Small.{Makes, small_step, make_configuration, with_group}
+use Rattle.cg_model.specs.Levels.{lacks_announcement, announced_from}
+use Rattle.cg_model.specs.World.{replica_of}
+use Rattle.cg_model.specs.Chronicle.{Told, Chronicle}
+use Rattle.cg_model.specs.Looks.{conf_of, told_in, is_regular_at, is_regular_in, members_in, ordered_in, sent_by, placed_of, waiting_in, said_in}
+use Rattle.cg_model.specs.Talk.{Talk, no_talk, talk_of, is_legal, is_ended, act_in, known_up_to, state_in}
+use Rattle.cg_model.specs.FactsNet.{PhaseSound, IsPhase}
+use Rattle.cg_model.specs.FactsTalk.{whole_talk, handed_talk, TalkLegal, SentIffDue, HeardIsTold, AreTold, IsTransitional, IsStateIn, ModeFits, AreContents, Content, AreNumberedAt, ActsNumbered, TalkFacts}
+use Rattle.cg_model.specs.Small.{Makes, small_step, make_configuration, with_group}
 use Rattle.cg_agree.proofs.GroupSound.{made-is, same-where_member, member-of}
 use Rattle.cg_agree.proofs.NumbersSame.{numbered-at, numbered-itself, AreInRow}
 use Rattle.cg_agree.proofs.SmallTalk.{conf-there}

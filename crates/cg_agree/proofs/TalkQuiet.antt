@@ -13,12 +13,12 @@ use Rattle.cg_client.specs.Replica.{Held, Replica}
 use Rattle.cg_client.specs.Turn.{Turn, begin}
 use Rattle.cg_step.specs.Crash.{Disk}
 use Rattle.cg_stored.specs.Stored.{stored_of, whiten}
-use Rattle.cg_agree.specs.World.{Life, Up, Down as DownLife, Seat, seat_of, replica_of, running, set_life}
-use Rattle.cg_agree.specs.Chronicle.{Chronicle}
-use Rattle.cg_agree.specs.FactsNet.{PhaseSound}
-use Rattle.cg_agree.specs.FactsTalk.{IsStateIn, TalkFacts}
-use Rattle.cg_agree.specs.Small.{Receives, Commits, Leaves, small_step, turning_as, turning, commit_as, leaving, take_parting, with_group}
-use Rattle.cg_agree.specs.Smalls.{may_make}
+use Rattle.cg_model.specs.World.{Life, Up, Down as DownLife, Seat, seat_of, replica_of, running, set_life}
+use Rattle.cg_model.specs.Chronicle.{Chronicle}
+use Rattle.cg_model.specs.FactsNet.{PhaseSound}
+use Rattle.cg_model.specs.FactsTalk.{IsStateIn, TalkFacts}
+use Rattle.cg_model.specs.Small.{Receives, Commits, Leaves, small_step, turning_as, turning, commit_as, leaving, take_parting, with_group}
+use Rattle.cg_model.specs.Smalls.{may_make}
 use Rattle.cg_agree.proofs.GroupKept.{leaving-regular}
 use Rattle.cg_agree.proofs.GroupTurn.{standing-id}
 use Rattle.cg_agree.proofs.HandSays.{find-holds}

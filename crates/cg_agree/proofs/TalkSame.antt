@@ -3,11 +3,11 @@ use Rattle.std.proofs.Common.{◌≡◌, ℕ, true, [], ◌++◌, Option, Some, 
 use Rattle.cg_base.specs.Sets.{has}
 use Rattle.cg_knowledge.specs.Members.{remaining}
 use Rattle.cg_group.specs.State.{phase_of}
-use Rattle.cg_agree.specs.World.{replica_of}
-use Rattle.cg_agree.specs.Chronicle.{Told, Chronicle}
-use Rattle.cg_agree.specs.Looks.{told_in, is_regular_at, members_in, placed_of, said_in}
-use Rattle.cg_agree.specs.Talk.{Talk, talk_of, act_in, is_ended, known_up_to}
-use Rattle.cg_agree.specs.FactsTalk.{whole_talk, handed_talk, AreContents, Content, AreNumberedAt, ActsNumbered, TalkFacts}
+use Rattle.cg_model.specs.World.{replica_of}
+use Rattle.cg_model.specs.Chronicle.{Told, Chronicle}
+use Rattle.cg_model.specs.Looks.{told_in, is_regular_at, members_in, placed_of, said_in}
+use Rattle.cg_model.specs.Talk.{Talk, talk_of, act_in, is_ended, known_up_to}
+use Rattle.cg_model.specs.FactsTalk.{whole_talk, handed_talk, AreContents, Content, AreNumberedAt, ActsNumbered, TalkFacts}
 use Rattle.cg_agree.proofs.HandsTalk.{SaidFacts}
 use Rattle.cg_agree.proofs.NumbersSame.{IsNumberedAs, numbered-at, AreInRow}
 use Rattle.cg_agree.proofs.TalkFrame.{SameTalk, same-said}

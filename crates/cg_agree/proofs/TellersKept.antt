@@ -14,14 +14,14 @@ use Rattle.cg_group.specs.GrownLaws.{ordered-message, ordered-receipt}
 use Rattle.cg_client.specs.Replica.{Replica}
 use Rattle.cg_client.specs.Turn.{begin}
 use Rattle.cg_step.specs.Crash.{Disk}
-use Rattle.cg_agree.specs.World.{Up, Seat, running, seat_of, has_begun}
-use Rattle.cg_agree.specs.Chronicle.{Told, Chronicle}
-use Rattle.cg_agree.specs.Looks.{greens_of, told_in, conf_of, ordered_in}
-use Rattle.cg_agree.specs.FactsExchange.{TellersStill}
-use Rattle.cg_agree.specs.Facts.{Invariant}
-use Rattle.cg_agree.specs.Played.{AtRest}
-use Rattle.cg_agree.specs.Small.{Small, Starts, Makes, Enters, Orders, Receives, Hands, Leaves, Asks, Settles, Commits, Crashes, Recovers, Copies, Joins, small_step, newly_green, coming, take_newest, newest_conf, take_request}
-use Rattle.cg_agree.specs.Smalls.{may_make, is_between, is_running}
+use Rattle.cg_model.specs.World.{Up, Seat, running, seat_of, has_begun}
+use Rattle.cg_model.specs.Chronicle.{Told, Chronicle}
+use Rattle.cg_model.specs.Looks.{greens_of, told_in, conf_of, ordered_in}
+use Rattle.cg_model.specs.FactsExchange.{TellersStill}
+use Rattle.cg_model.specs.Facts.{Invariant}
+use Rattle.cg_model.specs.Played.{AtRest}
+use Rattle.cg_model.specs.Small.{Small, Starts, Makes, Enters, Orders, Receives, Hands, Leaves, Asks, Settles, Commits, Crashes, Recovers, Copies, Joins, small_step, newly_green, coming, take_newest, newest_conf, take_request}
+use Rattle.cg_model.specs.Smalls.{may_make, is_between, is_running}
 use Rattle.cg_client.specs.Requests.{settle}
 use Rattle.cg_agree.proofs.GroupKept.{orders-conf, receives-conf, leaving-regular}
 use Rattle.cg_agree.proofs.GroupSound.{made-is}

@@ -18,15 +18,15 @@ use Rattle.cg_client.specs.Turn.{Turn, begin}
 use Rattle.cg_client.specs.Requests.{is_creating, create_kept, empty_buffer, request_in, settle}
 use Rattle.cg_step.specs.Step.{on_transitional, take}
 use Rattle.cg_step.specs.Crash.{Disk}
-use Rattle.cg_agree.specs.World.{Life, Up, Down, Seat, seat_of, replica_of, has_begun}
-use Rattle.cg_agree.specs.Chronicle.{Past, Told, Chronicle}
-use Rattle.cg_agree.specs.Fronts.{IsSomeWith}
-use Rattle.cg_agree.specs.Looks.{past_of, greens_of, told_in, ordered_in, is_at, is_regular_at, is_regular_in, snapshot_of, copied_for}
-use Rattle.cg_agree.specs.FactsExchange.{IsInExchange}
-use Rattle.cg_agree.specs.Facts.{Invariant}
-use Rattle.cg_agree.specs.Played.{AtRest}
-use Rattle.cg_agree.specs.Small.{Small, Starts, Makes, Enters, Orders, Receives, Hands, Leaves, Asks, Settles, Commits, Crashes, Recovers, Copies, Joins, small_step, new_past, turning, turning_as, after_turn, newly_green, handed_next, leaving, take_next, take_parting, take_request, commit_as, crash_as, recover_as, copy_as, join_with}
-use Rattle.cg_agree.specs.Smalls.{may_make, is_set}
+use Rattle.cg_model.specs.World.{Life, Up, Down, Seat, seat_of, replica_of, has_begun}
+use Rattle.cg_model.specs.Chronicle.{Past, Told, Chronicle}
+use Rattle.cg_model.specs.Fronts.{IsSomeWith}
+use Rattle.cg_model.specs.Looks.{past_of, greens_of, told_in, ordered_in, is_at, is_regular_at, is_regular_in, snapshot_of, copied_for}
+use Rattle.cg_model.specs.FactsExchange.{IsInExchange}
+use Rattle.cg_model.specs.Facts.{Invariant}
+use Rattle.cg_model.specs.Played.{AtRest}
+use Rattle.cg_model.specs.Small.{Small, Starts, Makes, Enters, Orders, Receives, Hands, Leaves, Asks, Settles, Commits, Crashes, Recovers, Copies, Joins, small_step, new_past, turning, turning_as, after_turn, newly_green, handed_next, leaving, take_next, take_parting, take_request, commit_as, crash_as, recover_as, copy_as, join_with}
+use Rattle.cg_model.specs.Smalls.{may_make, is_set}
 use Rattle.cg_agree.proofs.ChronicleFacts.{greens_of-other, past-begun}
 use Rattle.cg_agree.proofs.CoresKept.{seat-of, greens-turn}
 use Rattle.cg_agree.proofs.GreensFront.{commit-same, crash-same}

@@ -1,13 +1,13 @@
 -- The steps of a run tell of the chronicle that they lead to.
 use Rattle.std.proofs.Common.{◌≡◌, List, [], Some, inl, refl, sym}
-use Rattle.cg_agree.specs.World.{World, no_world}
-use Rattle.cg_agree.specs.Show.{line_of}
-use Rattle.cg_agree.specs.Run.{Step, IsRunFrom, world_after}
-use Rattle.cg_agree.specs.Agreement.{through}
-use Rattle.cg_agree.specs.Chronicle.{Chronicle, no_chronicle}
-use Rattle.cg_agree.specs.Noting.{chronicle_step, chronicle_after}
-use Rattle.cg_agree.specs.Played.{AlwaysHolds, with_world}
-use Rattle.cg_agree.specs.Telling.{Tells, printed}
+use Rattle.cg_model.specs.World.{World, no_world}
+use Rattle.cg_model.specs.Show.{line_of}
+use Rattle.cg_model.specs.Run.{Step, IsRunFrom, world_after}
+use Rattle.cg_model.specs.Agreement.{through}
+use Rattle.cg_model.specs.Chronicle.{Chronicle, no_chronicle}
+use Rattle.cg_model.specs.Noting.{chronicle_step, chronicle_after}
+use Rattle.cg_model.specs.Played.{AlwaysHolds, with_world}
+use Rattle.cg_model.specs.Telling.{Tells, printed}
 use Rattle.cg_agree.proofs.OrderTold.{order_told}
 use Rattle.cg_agree.proofs.MadeBookKept.{nothing-made}
 use Rattle.cg_agree.proofs.RunForward.{IsStepOf, of-run}

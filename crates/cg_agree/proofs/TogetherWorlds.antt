@@ -15,15 +15,15 @@ use Rattle.cg_client.specs.Replica.{Replica}
 use Rattle.cg_client.specs.Turn.{Turn}
 use Rattle.cg_step.specs.Step.{Deliveries, replica_step}
 use Rattle.cg_step.specs.Crash.{Ended, Runs, Crashes as EndsInCrash, end_event}
-use Rattle.cg_agree.specs.World.{Life, Seat, Snapshot, World, seat_of, replica_of, with_seat}
-use Rattle.cg_agree.specs.Show.{Going}
-use Rattle.cg_agree.specs.Step.{hand}
-use Rattle.cg_agree.specs.Looks.{disk_held}
-use Rattle.cg_agree.specs.Turns.{Taken, taken, taken_as}
-use Rattle.cg_agree.specs.Small.{Small}
-use Rattle.cg_agree.specs.Smalls.{ending, ending_as}
-use Rattle.cg_agree.specs.FactsLists.{IsRising}
-use Rattle.cg_agree.specs.Played.{IsSame, given_for}
+use Rattle.cg_model.specs.World.{Life, Seat, Snapshot, World, seat_of, replica_of, with_seat}
+use Rattle.cg_model.specs.Show.{Going}
+use Rattle.cg_model.specs.Step.{hand}
+use Rattle.cg_model.specs.Looks.{disk_held}
+use Rattle.cg_model.specs.Turns.{Taken, taken, taken_as}
+use Rattle.cg_model.specs.Small.{Small}
+use Rattle.cg_model.specs.Smalls.{ending, ending_as}
+use Rattle.cg_model.specs.FactsLists.{IsRising}
+use Rattle.cg_model.specs.Played.{IsSame, given_for}
 use Rattle.cg_agree.proofs.Standings.{rising-with_member}
 use Rattle.cg_agree.proofs.ChronicleFacts.{seat_of-set}
 use Rattle.cg_agree.proofs.GroupChanges.{DoRise, rising-set, rising-down, rising-sent, down-own, standing-sent, configurations-sent, configurations-down, placed, placed-sent, placed-down}

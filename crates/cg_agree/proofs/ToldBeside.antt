@@ -11,17 +11,17 @@ use Rattle.cg_knowledge.specs.declared.summary.Summary.{Summary}
 use Rattle.cg_knowledge.specs.Members.{senders, remaining, most_updated}
 use Rattle.cg_plan.specs.Plan.{least_greens, least_reds}
 use Rattle.cg_client.specs.Replica.{Held, Replica}
-use Rattle.cg_agree.specs.World.{Seat, Life, Up, Down, seat_of, replica_of, running, has_begun}
-use Rattle.cg_agree.specs.Chronicle.{Told, Chronicle}
-use Rattle.cg_agree.specs.Looks.{greens_of, stood_of, told_in, core_of, disk_held, on_disk, ordered_in, OfCores, top_of}
-use Rattle.cg_agree.specs.Talk.{hears, no_talk, talk_of}
-use Rattle.cg_agree.specs.Fronts.{Front, IsSomeWith}
-use Rattle.cg_agree.specs.Attempts.{held_in}
-use Rattle.cg_agree.specs.Levels.{line_at, reached_at}
-use Rattle.cg_agree.specs.Facts.{Invariant}
-use Rattle.cg_agree.specs.FactsExchange.{IsSummary, IsOutdone}
-use Rattle.cg_agree.specs.FactsReplica.{IsCore, DiskBehind}
-use Rattle.cg_agree.specs.FactsTalk.{AreTold, summaries_of, whole_talk}
+use Rattle.cg_model.specs.World.{Seat, Life, Up, Down, seat_of, replica_of, running, has_begun}
+use Rattle.cg_model.specs.Chronicle.{Told, Chronicle}
+use Rattle.cg_model.specs.Looks.{greens_of, stood_of, told_in, core_of, disk_held, on_disk, ordered_in, OfCores, top_of}
+use Rattle.cg_model.specs.Talk.{hears, no_talk, talk_of}
+use Rattle.cg_model.specs.Fronts.{Front, IsSomeWith}
+use Rattle.cg_model.specs.Attempts.{held_in}
+use Rattle.cg_model.specs.Levels.{line_at, reached_at}
+use Rattle.cg_model.specs.Facts.{Invariant}
+use Rattle.cg_model.specs.FactsExchange.{IsSummary, IsOutdone}
+use Rattle.cg_model.specs.FactsReplica.{IsCore, DiskBehind}
+use Rattle.cg_model.specs.FactsTalk.{AreTold, summaries_of, whole_talk}
 use Rattle.cg_agree.proofs.EndCovers.{OfEach}
 use Rattle.cg_agree.proofs.EndQuorum.{both-each}
 use Rattle.cg_agree.proofs.EndReached.{best-bounds}

@@ -16,17 +16,17 @@ use Rattle.cg_client.specs.Summary.{summary_of, enter_exchange}
 use Rattle.cg_prim.specs.TransPrim.{end_prim}
 use Rattle.cg_construct.specs.No.{no_record}
 use Rattle.cg_step.specs.Step.{on_regular, take}
-use Rattle.cg_agree.specs.World.{Seat, replica_of, running}
-use Rattle.cg_agree.specs.Chronicle.{Told, Attempt, Chronicle}
-use Rattle.cg_agree.specs.Fronts.{When}
-use Rattle.cg_agree.specs.Looks.{greens_of, told_in, conf_at, attempt_of, attempt_at, top_of}
-use Rattle.cg_agree.specs.Levels.{is_evidence, is_record_of, names_with, prim_at}
-use Rattle.cg_agree.specs.FactsExchange.{KnowsLevels}
-use Rattle.cg_agree.specs.FactsReplica.{IsInAttempt, IsModeData, HasModeData}
-use Rattle.cg_agree.specs.FactsGreens.{CoversLevel, Covers, CoversAsYellow}
-use Rattle.cg_agree.specs.Facts.{Invariant}
-use Rattle.cg_agree.specs.Small.{Small, Starts, Makes, Enters, Orders, Receives, Hands, Leaves, Asks, Settles, Commits, Crashes, Recovers, Copies, Joins, newest_conf, small_step}
-use Rattle.cg_agree.specs.Smalls.{may_make, is_between}
+use Rattle.cg_model.specs.World.{Seat, replica_of, running}
+use Rattle.cg_model.specs.Chronicle.{Told, Attempt, Chronicle}
+use Rattle.cg_model.specs.Fronts.{When}
+use Rattle.cg_model.specs.Looks.{greens_of, told_in, conf_at, attempt_of, attempt_at, top_of}
+use Rattle.cg_model.specs.Levels.{is_evidence, is_record_of, names_with, prim_at}
+use Rattle.cg_model.specs.FactsExchange.{KnowsLevels}
+use Rattle.cg_model.specs.FactsReplica.{IsInAttempt, IsModeData, HasModeData}
+use Rattle.cg_model.specs.FactsGreens.{CoversLevel, Covers, CoversAsYellow}
+use Rattle.cg_model.specs.Facts.{Invariant}
+use Rattle.cg_model.specs.Small.{Small, Starts, Makes, Enters, Orders, Receives, Hands, Leaves, Asks, Settles, Commits, Crashes, Recovers, Copies, Joins, newest_conf, small_step}
+use Rattle.cg_model.specs.Smalls.{may_make, is_between}
 use Rattle.cg_agree.proofs.CoresKept.{held-known}
 use Rattle.cg_agree.proofs.CoversStay.{ReachShrinks, start-covers, covers-still}
 use Rattle.cg_agree.proofs.EndShown.{ToldCovers}

@@ -11,11 +11,11 @@ use Rattle.cg_group.specs.State.{GroupState}
 use Rattle.cg_client.specs.Replica.{State, RegPrim, TransPrim, ExchangeStates, ExchangeActions, Construct, No, Un, NonPrim, Left}
 use Rattle.cg_client.specs.Turn.{Turn, begin}
 use Rattle.cg_client.specs.Requests.{is_creating, create, create_kept, empty_buffer, settle, request_in}
-use Rattle.cg_agree.specs.World.{Life, Up, Down as DownLife, Seat, seat_of, replica_of}
-use Rattle.cg_agree.specs.Chronicle.{Told, Chronicle}
-use Rattle.cg_agree.specs.Looks.{greens_of, told_in, snapshot_of}
-use Rattle.cg_agree.specs.Talk.{summary_in}
-use Rattle.cg_agree.specs.Small.{Small, Starts, Makes, Enters, Orders, Receives, Hands, Leaves, Asks, Settles, Commits, Crashes, Recovers, Copies, Joins, small_step, turning_as, turning, commit_as, crash_as, recover_as, copy_as, join_with, take_request, take_next, take_parting, handed_next, leaving}
+use Rattle.cg_model.specs.World.{Life, Up, Down as DownLife, Seat, seat_of, replica_of}
+use Rattle.cg_model.specs.Chronicle.{Told, Chronicle}
+use Rattle.cg_model.specs.Looks.{greens_of, told_in, snapshot_of}
+use Rattle.cg_model.specs.Talk.{summary_in}
+use Rattle.cg_model.specs.Small.{Small, Starts, Makes, Enters, Orders, Receives, Hands, Leaves, Asks, Settles, Commits, Crashes, Recovers, Copies, Joins, small_step, turning_as, turning, commit_as, crash_as, recover_as, copy_as, join_with, take_request, take_next, take_parting, handed_next, leaving}
 use Rattle.cg_agree.proofs.DeliveriesSay.{silent-next, silent-parting}
 
 -- nothing that is told comes out of a part of a turn

@@ -5,22 +5,22 @@ use Rattle.std.proofs.lemmas.Bool.{and_parts}
 use Rattle.cg_action.specs.declared.action.Action.{Action}
 use Rattle.cg_queue.specs.Queue.{names_of}
 use Rattle.cg_client.specs.Replica.{Held}
-use Rattle.cg_agree.specs.World.{Seat, seat_of, has_begun}
-use Rattle.cg_agree.specs.Chronicle.{Told, Chronicle}
-use Rattle.cg_agree.specs.Looks.{greens_of, told_in, core_of, top_of}
-use Rattle.cg_agree.specs.Fronts.{Front}
-use Rattle.cg_agree.specs.Attempts.{held_in}
-use Rattle.cg_agree.specs.Levels.{line_at, reach_at, reached_at}
-use Rattle.cg_agree.specs.Facts.{Invariant}
-use Rattle.cg_agree.specs.FactsNet.{NetFacts}
-use Rattle.cg_agree.specs.FactsTalk.{TalkFacts}
-use Rattle.cg_agree.specs.FactsReplica.{IsCore, ReplicaFacts}
-use Rattle.cg_agree.specs.FactsExchange.{IsSummary, IsOutdone, KnowsLevels, ExchangeFacts}
-use Rattle.cg_agree.specs.FactsAttempts.{AttemptFacts}
-use Rattle.cg_agree.specs.FactsGreens.{InstalledCount, OneOrder}
-use Rattle.cg_agree.specs.Played.{AtRest}
-use Rattle.cg_agree.specs.Small.{Small, small_step}
-use Rattle.cg_agree.specs.Smalls.{may_make}
+use Rattle.cg_model.specs.World.{Seat, seat_of, has_begun}
+use Rattle.cg_model.specs.Chronicle.{Told, Chronicle}
+use Rattle.cg_model.specs.Looks.{greens_of, told_in, core_of, top_of}
+use Rattle.cg_model.specs.Fronts.{Front}
+use Rattle.cg_model.specs.Attempts.{held_in}
+use Rattle.cg_model.specs.Levels.{line_at, reach_at, reached_at}
+use Rattle.cg_model.specs.Facts.{Invariant}
+use Rattle.cg_model.specs.FactsNet.{NetFacts}
+use Rattle.cg_model.specs.FactsTalk.{TalkFacts}
+use Rattle.cg_model.specs.FactsReplica.{IsCore, ReplicaFacts}
+use Rattle.cg_model.specs.FactsExchange.{IsSummary, IsOutdone, KnowsLevels, ExchangeFacts}
+use Rattle.cg_model.specs.FactsAttempts.{AttemptFacts}
+use Rattle.cg_model.specs.FactsGreens.{InstalledCount, OneOrder}
+use Rattle.cg_model.specs.Played.{AtRest}
+use Rattle.cg_model.specs.Small.{Small, small_step}
+use Rattle.cg_model.specs.Smalls.{may_make}
 use Rattle.cg_agree.proofs.FactsKept.{replica-now, exchange-now, attempt-now}
 use Rattle.cg_agree.proofs.FrontFacts.{Front-trans, Front-of_both, Front-map}
 use Rattle.cg_agree.proofs.HandSays.{find-holds}

@@ -19,12 +19,12 @@ use Rattle.cg_step.specs.Step.{Input, Deliveries, Asks as AsksOf, replica_step}
 use Rattle.cg_step.specs.Crash.{Disk, FailOnce, StopWith, Strike, Ended, Runs, Crashes, end_event, new_disk, recovered, disk_recovered}
 use Rattle.cg_schedule.specs.declared.event.Event.{Event}
 use Rattle.cg_schedule.specs.declared.event.Event.TheVariants.{Start, Split, Merge, Request, Weak, Dirty, Order, Recover, Show, ShowOrder, Gather, End, Receive, Deliver, Rounds, Stop, Fail, Join, Leave, Transfer}
-use Rattle.cg_agree.specs.World.{Life, Up, Down, Seat, Snapshot, World, seat_of, replica_of, set_life, bring_up}
-use Rattle.cg_agree.specs.Show.{Going}
-use Rattle.cg_agree.specs.Step.{quietly, after_event, hand_to, hand, hand_over, name_also, begin_replica, arm_at, arm, crash_at, recover_from, recover, joined, snapshot_for, without_snapshot, with_pieces, take_pieces, transfer, happens}
-use Rattle.cg_agree.specs.Looks.{on_disk, disk_held}
-use Rattle.cg_agree.specs.PhaseLaws.{Group, where_is, sent-place, order-place, receive-place, gather-place, deliver-place, up-place, down-place, split-other, next_conf, merge-place}
-use Rattle.cg_agree.specs.Touched.{touched}
+use Rattle.cg_model.specs.World.{Life, Up, Down, Seat, Snapshot, World, seat_of, replica_of, set_life, bring_up}
+use Rattle.cg_model.specs.Show.{Going}
+use Rattle.cg_model.specs.Step.{quietly, after_event, hand_to, hand, hand_over, name_also, begin_replica, arm_at, arm, crash_at, recover_from, recover, joined, snapshot_for, without_snapshot, with_pieces, take_pieces, transfer, happens}
+use Rattle.cg_model.specs.Looks.{on_disk, disk_held}
+use Rattle.cg_model.specs.PhaseLaws.{Group, where_is, sent-place, order-place, receive-place, gather-place, deliver-place, up-place, down-place, split-other, next_conf, merge-place}
+use Rattle.cg_model.specs.Touched.{touched}
 use Rattle.cg_agree.proofs.ChronicleFacts.{seat_of-set}
 use Rattle.cg_agree.proofs.HandSays.{find-holds}
 use Rattle.cg_agree.proofs.HeldCommit.{recovered-id}

@@ -18,16 +18,16 @@ use Rattle.cg_client.specs.Turn.{Turn, begin}
 use Rattle.cg_client.specs.Requests.{settle}
 use Rattle.cg_stored.specs.Stored.{stored_of, whiten, recover}
 use Rattle.cg_step.specs.Crash.{Disk, new_disk, at_rest, recovered, disk_recovered}
-use Rattle.cg_agree.specs.World.{Life, Up, Down, Seat, Snapshot, seat_of, replica_of, running, has_begun, is_left}
-use Rattle.cg_agree.specs.Step.{joined}
-use Rattle.cg_agree.specs.Chronicle.{Past, Chronicle, no_chronicle}
-use Rattle.cg_agree.specs.Looks.{greens_of, past_of, copied_for, top_of}
-use Rattle.cg_agree.specs.Talk.{Talk, is_full, is_through, is_announced, state_in}
-use Rattle.cg_agree.specs.Levels.{prim_at}
-use Rattle.cg_agree.specs.FactsGreens.{CoversLevel, CoversAsYellow, TransCoverage}
-use Rattle.cg_agree.specs.Facts.{Invariant}
-use Rattle.cg_agree.specs.Small.{Small, Starts, Makes, Enters, Orders, Receives, Hands, Leaves, Asks, Settles, Commits, Crashes, Recovers, Copies, Joins, start, coming, handed_next, leaving, take_newest, take_next, take_parting, take_request, turning, commit_as, crash_as, recover_as, copy_as, join_with, new_past, written, struck, small_step}
-use Rattle.cg_agree.specs.Smalls.{may_make, is_set, is_running}
+use Rattle.cg_model.specs.World.{Life, Up, Down, Seat, Snapshot, seat_of, replica_of, running, has_begun, is_left}
+use Rattle.cg_model.specs.Step.{joined}
+use Rattle.cg_model.specs.Chronicle.{Past, Chronicle, no_chronicle}
+use Rattle.cg_model.specs.Looks.{greens_of, past_of, copied_for, top_of}
+use Rattle.cg_model.specs.Talk.{Talk, is_full, is_through, is_announced, state_in}
+use Rattle.cg_model.specs.Levels.{prim_at}
+use Rattle.cg_model.specs.FactsGreens.{CoversLevel, CoversAsYellow, TransCoverage}
+use Rattle.cg_model.specs.Facts.{Invariant}
+use Rattle.cg_model.specs.Small.{Small, Starts, Makes, Enters, Orders, Receives, Hands, Leaves, Asks, Settles, Commits, Crashes, Recovers, Copies, Joins, start, coming, handed_next, leaving, take_newest, take_next, take_parting, take_request, turning, commit_as, crash_as, recover_as, copy_as, join_with, new_past, written, struck, small_step}
+use Rattle.cg_model.specs.Smalls.{may_make, is_set, is_running}
 use Rattle.cg_agree.proofs.BegunKept.{nothing-before}
 use Rattle.cg_agree.proofs.ChronicleFacts.{past-begun}
 use Rattle.cg_agree.proofs.CoresKept.{past-here, past-there}

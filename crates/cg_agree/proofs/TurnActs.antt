@@ -7,11 +7,11 @@ use Rattle.cg_knowledge.specs.Members.{remaining}
 use Rattle.cg_wire.specs.declared.message.Msg.{Msg}
 use Rattle.cg_group.specs.State.{phase_of, unordered_of}
 use Rattle.cg_client.specs.Replica.{Replica}
-use Rattle.cg_agree.specs.World.{replica_of}
-use Rattle.cg_agree.specs.Chronicle.{Told, Chronicle}
-use Rattle.cg_agree.specs.Looks.{told_in, is_regular_in, members_in, placed_of, said_in}
-use Rattle.cg_agree.specs.Talk.{Talk, act_in, is_ended, known_up_to}
-use Rattle.cg_agree.specs.FactsTalk.{whole_talk, AreContents, Content, AreNumbered, AreNumberedAt, ActsNumbered}
+use Rattle.cg_model.specs.World.{replica_of}
+use Rattle.cg_model.specs.Chronicle.{Told, Chronicle}
+use Rattle.cg_model.specs.Looks.{told_in, is_regular_in, members_in, placed_of, said_in}
+use Rattle.cg_model.specs.Talk.{Talk, act_in, is_ended, known_up_to}
+use Rattle.cg_model.specs.FactsTalk.{whole_talk, AreContents, Content, AreNumbered, AreNumberedAt, ActsNumbered}
 use Rattle.cg_agree.proofs.NumbersSame.{numbered-at, numbered-itself, contents-both, AreInRow}
 use Rattle.cg_agree.proofs.TalkKept.{Turns, FitsAt, members-same, ordered-same, regular-same, whole-same, one-conf, said-other, said-own, handed-other}
 

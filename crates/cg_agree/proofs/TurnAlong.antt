@@ -15,15 +15,15 @@ use Rattle.cg_client.specs.Turn.{Turn}
 use Rattle.cg_step.specs.Step.{Deliveries, replica_step}
 use Rattle.cg_step.specs.Commit.{commits}
 use Rattle.cg_step.specs.Crash.{Disk, Ended, Runs, Crashes as EndsInCrash, end_event}
-use Rattle.cg_agree.specs.World.{Life, Up, Down, Seat, World, running, seat_of, replica_of}
-use Rattle.cg_agree.specs.Show.{Going}
-use Rattle.cg_agree.specs.Step.{hand}
-use Rattle.cg_agree.specs.Chronicle.{Chronicle}
-use Rattle.cg_agree.specs.Looks.{greens_of}
-use Rattle.cg_agree.specs.Turns.{Taken, taken, taken_as, stands}
-use Rattle.cg_agree.specs.Small.{Small, Starts, Makes, Enters, Orders, Receives, Hands, Leaves, Asks, Settles, Commits, Crashes, Recovers, Copies, Joins, commit_as, small_step}
-use Rattle.cg_agree.specs.Smalls.{ending, ending_as}
-use Rattle.cg_agree.specs.FactsLists.{IsRising}
+use Rattle.cg_model.specs.World.{Life, Up, Down, Seat, World, running, seat_of, replica_of}
+use Rattle.cg_model.specs.Show.{Going}
+use Rattle.cg_model.specs.Step.{hand}
+use Rattle.cg_model.specs.Chronicle.{Chronicle}
+use Rattle.cg_model.specs.Looks.{greens_of}
+use Rattle.cg_model.specs.Turns.{Taken, taken, taken_as, stands}
+use Rattle.cg_model.specs.Small.{Small, Starts, Makes, Enters, Orders, Receives, Hands, Leaves, Asks, Settles, Commits, Crashes, Recovers, Copies, Joins, commit_as, small_step}
+use Rattle.cg_model.specs.Smalls.{ending, ending_as}
+use Rattle.cg_model.specs.FactsLists.{IsRising}
 use Rattle.cg_agree.proofs.GroupChanges.{down-own}
 use Rattle.cg_agree.proofs.GreensFront.{commit-same}
 use Rattle.cg_agree.proofs.RestFacts.{IsOf, IsKept, others-kept}

@@ -7,15 +7,15 @@ use Rattle.cg_agree.proofs.FrontFacts.{Front-refl, Front-trans, same_from_Front,
 use Rattle.cg_agree.proofs.GreensTold.{IsNoted}
 use Rattle.cg_agree.proofs.HeldCommit.{white-oneself}
 use Rattle.cg_agree.proofs.HeldMarks.{IsOneself}
-use Rattle.cg_agree.specs.Chronicle.{Chronicle}
-use Rattle.cg_agree.specs.Facts.{Invariant}
-use Rattle.cg_agree.specs.FactsReplica.{IsCore, IsMadeOf}
-use Rattle.cg_agree.specs.Fronts.{Front}
-use Rattle.cg_agree.specs.Looks.{disk_held, greens_of, stood_of}
-use Rattle.cg_agree.specs.Noting.{played}
-use Rattle.cg_agree.specs.Played.{KeptBySmalls, MayBeMade}
-use Rattle.cg_agree.specs.Small.{Small, small_step}
-use Rattle.cg_agree.specs.World.{replica_of}
+use Rattle.cg_model.specs.Chronicle.{Chronicle}
+use Rattle.cg_model.specs.Facts.{Invariant}
+use Rattle.cg_model.specs.FactsReplica.{IsCore, IsMadeOf}
+use Rattle.cg_model.specs.Fronts.{Front}
+use Rattle.cg_model.specs.Looks.{disk_held, greens_of, stood_of}
+use Rattle.cg_model.specs.Noting.{played}
+use Rattle.cg_model.specs.Played.{KeptBySmalls, MayBeMade}
+use Rattle.cg_model.specs.Small.{Small, small_step}
+use Rattle.cg_model.specs.World.{replica_of}
 use Rattle.cg_base.specs.declared.action_id.ActionId.{ActionId}
 use Rattle.cg_base.specs.declared.weighted.Weighted.{Weighted}
 use Rattle.cg_client.specs.Replica.{Held, Replica}

@@ -21,9 +21,9 @@ use Rattle.cg_base.specs.Sets.{is_within, with_member}
 use Rattle.cg_construct.specs.Construct.{attempt_set, is_announced}
 use Rattle.cg_construct.specs.No.{no_record, no_with}
 use Rattle.cg_step.specs.Step.{on_message, on_transitional, on_regular, take}
-use Rattle.cg_agree.specs.FactsReplica.{is_attempting, is_primary}
-use Rattle.cg_agree.specs.Small.{take_all, take_newest, take_next, take_parting, take_request, newest_conf}
-use Rattle.cg_agree.specs.Smalls.{is_between}
+use Rattle.cg_model.specs.FactsReplica.{is_attempting, is_primary}
+use Rattle.cg_model.specs.Small.{take_all, take_newest, take_next, take_parting, take_request, newest_conf}
+use Rattle.cg_model.specs.Smalls.{is_between}
 use Rattle.cg_agree.proofs.TurnValues.{SameValues, same-values, even-settle, even-request, even-own_to_red, even-mark_yellow, even-mark_red}
 use Rattle.cg_agree.proofs.TurnKinds.{IsStill, still-refl, IsQuiet, HasInstalled, Turned, Quiet, Installs, Decides, Attempts, EndsWith, quiet-of, quiet-then, quiet-go_to, installed-then, message-turned}
 

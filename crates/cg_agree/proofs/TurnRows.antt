@@ -41,8 +41,8 @@ use Rattle.cg_construct.specs.No.{no_record, no_with, no_on_cpc}
 use Rattle.cg_construct.specs.Un.{un_on_action}
 use Rattle.cg_step.specs.Step.{on_message, on_transitional, on_regular, take}
 use Rattle.cg_step.specs.Recorded.{OfMessage}
-use Rattle.cg_agree.specs.World.{is_left_state}
-use Rattle.cg_agree.specs.Talk.{action_in}
+use Rattle.cg_model.specs.World.{is_left_state}
+use Rattle.cg_model.specs.Talk.{action_in}
 use Rattle.cg_step.specs.HeldLaws.{each-found}
 
 -- what is held with other values, and another yellow list

@@ -17,14 +17,14 @@ use Rattle.cg_client.specs.Requests.{is_creating, create_kept, buffer, settle, r
 use Rattle.cg_construct.specs.Construct.{attempt_set}
 use Rattle.cg_step.specs.Crash.{Disk}
 use Rattle.cg_stored.specs.Stored.{stored_of, whiten}
-use Rattle.cg_agree.specs.World.{Life, Up, Down as DownLife, Seat, World, set_life, seat_of, replica_of, running}
-use Rattle.cg_agree.specs.Chronicle.{Told, Chronicle}
-use Rattle.cg_agree.specs.Looks.{greens_of}
-use Rattle.cg_agree.specs.Talk.{summary_in}
-use Rattle.cg_agree.specs.FactsNet.{PhaseSound, IsPhase}
-use Rattle.cg_agree.specs.FactsTalk.{IsTransitional, IsStateIn}
-use Rattle.cg_agree.specs.FactsReplica.{IsModeData}
-use Rattle.cg_agree.specs.Small.{Settles, Asks, small_step, commit_as, turning, turning_as, after_turn, take_request}
+use Rattle.cg_model.specs.World.{Life, Up, Down as DownLife, Seat, World, set_life, seat_of, replica_of, running}
+use Rattle.cg_model.specs.Chronicle.{Told, Chronicle}
+use Rattle.cg_model.specs.Looks.{greens_of}
+use Rattle.cg_model.specs.Talk.{summary_in}
+use Rattle.cg_model.specs.FactsNet.{PhaseSound, IsPhase}
+use Rattle.cg_model.specs.FactsTalk.{IsTransitional, IsStateIn}
+use Rattle.cg_model.specs.FactsReplica.{IsModeData}
+use Rattle.cg_model.specs.Small.{Settles, Asks, small_step, commit_as, turning, turning_as, after_turn, take_request}
 use Rattle.cg_agree.proofs.HandSays.{find-holds}
 use Rattle.cg_agree.proofs.HandsTalk.{SaidFacts}
 use Rattle.cg_agree.proofs.CreatesTalk.{Adds, adds-create, adds-kept, creates-said}

@@ -12,11 +12,11 @@ use Rattle.cg_client.specs.Turn.{Turn, begin}
 use Rattle.cg_stored.specs.Stored.{stored_of, whiten}
 use Rattle.cg_step.specs.Commit.{commits}
 use Rattle.cg_step.specs.Crash.{Disk, Ended, Runs, Crashes as EndsInCrash, at_rest, whitened, end_event}
-use Rattle.cg_agree.specs.World.{Life, Up, Down, Seat, World, running, seat_of, replica_of, with_seat, set_life, bring_down}
-use Rattle.cg_agree.specs.Looks.{on_disk}
-use Rattle.cg_agree.specs.Turns.{Taken, is_kept}
-use Rattle.cg_agree.specs.Small.{Small, Commits, Crashes}
-use Rattle.cg_agree.specs.Smalls.{may_make, ending_as}
+use Rattle.cg_model.specs.World.{Life, Up, Down, Seat, World, running, seat_of, replica_of, with_seat, set_life, bring_down}
+use Rattle.cg_model.specs.Looks.{on_disk}
+use Rattle.cg_model.specs.Turns.{Taken, is_kept}
+use Rattle.cg_model.specs.Small.{Small, Commits, Crashes}
+use Rattle.cg_model.specs.Smalls.{may_make, ending_as}
 use Rattle.cg_agree.proofs.ChronicleFacts.{seat_of-set}
 use Rattle.cg_agree.proofs.Parts.{IsPart}
 use Rattle.cg_agree.proofs.GroupChanges.{sent-twice, down-sent}

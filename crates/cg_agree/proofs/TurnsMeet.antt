@@ -10,14 +10,14 @@ use Rattle.cg_group.specs.EachLaws.{Each, Each-append, Each-weaker, Each-has}
 use Rattle.cg_step.specs.Step.{Input, Deliveries, Asks as AsksOf}
 use Rattle.cg_schedule.specs.declared.event.Event.{Event}
 use Rattle.cg_schedule.specs.declared.event.Event.TheVariants.{Start, Split, Merge, Request, Weak, Dirty, Order, Recover, Show, ShowOrder, Gather, End, Receive, Deliver, Rounds, Stop, Fail, Join, Leave, Transfer}
-use Rattle.cg_agree.specs.World.{World}
-use Rattle.cg_agree.specs.Admission.{first_refusal}
-use Rattle.cg_agree.specs.Chronicle.{Chronicle}
-use Rattle.cg_agree.specs.Turns.{turns_of, taken}
-use Rattle.cg_agree.specs.Small.{Small, Makes, Enters, Hands, Asks, Settles, make_configuration, small_step}
-use Rattle.cg_agree.specs.Smalls.{smalls_in, leaving_steps, turn_steps}
-use Rattle.cg_agree.specs.Played.{IsSame, MayBeMade, StandsBeside}
-use Rattle.cg_agree.specs.Total.{MeetNone, TurnsMeetNone, before_turns}
+use Rattle.cg_model.specs.World.{World}
+use Rattle.cg_model.specs.Admission.{first_refusal}
+use Rattle.cg_model.specs.Chronicle.{Chronicle}
+use Rattle.cg_model.specs.Turns.{turns_of, taken}
+use Rattle.cg_model.specs.Small.{Small, Makes, Enters, Hands, Asks, Settles, make_configuration, small_step}
+use Rattle.cg_model.specs.Smalls.{smalls_in, leaving_steps, turn_steps}
+use Rattle.cg_model.specs.Played.{IsSame, MayBeMade, StandsBeside}
+use Rattle.cg_model.specs.Total.{MeetNone, TurnsMeetNone, before_turns}
 use Rattle.cg_agree.proofs.EventMembers.{leaving-members, coming-members}
 use Rattle.cg_agree.proofs.MadeDeliver.{delivering, may-opens}
 use Rattle.cg_agree.proofs.MadeMerge.{turns-merge, entered, entered-id, input as merging, members-of as merging-of}

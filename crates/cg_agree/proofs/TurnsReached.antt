@@ -1,7 +1,7 @@
 -- Where a replica's turn stands, the small steps of its event come to a world in which it is as the turn leaves it, before its commit.
 use Rattle.cg_step.specs.Crash.{Disk, Ended, Runs, Crashes as EndsInCrash, end_event}
-use Rattle.cg_agree.specs.Small.{Small, Commits, Crashes}
-use Rattle.cg_agree.specs.World.{Life, Up, Down, Seat, World, running, seat_of, replica_of}
+use Rattle.cg_model.specs.Small.{Small, Commits, Crashes}
+use Rattle.cg_model.specs.World.{Life, Up, Down, Seat, World, running, seat_of, replica_of}
 use Rattle.cg_agree.proofs.TurnWorlds.{up_seat, seated, seat-seated, turn-ends}
 use Rattle.std.proofs.Common.{◌≡◌, ◌++◌, ◌∷◌, ◌≤◌, ◌∙◌, if◌then◌else◌, List, None, Option, Some, ap, append_assoc, arith, flat_map, option_and_then, refl, subst, suc, sym, true, ℕ, []}
 use Rattle.std.proofs.lemmas.Bool.{cond-true}
@@ -10,11 +10,11 @@ use Rattle.cg_agree.proofs.EventTurns.{hand-leads}
 use Rattle.cg_agree.proofs.GroupChanges.{down-own}
 use Rattle.cg_agree.proofs.SmallWorlds.{played-append, played_in}
 use Rattle.cg_agree.proofs.TogetherWorlds.{IsGoing, IsMember, IsStill, one-on, smalls_among, turns_among}
-use Rattle.cg_agree.specs.FactsLists.{IsRising}
-use Rattle.cg_agree.specs.Show.{Going}
-use Rattle.cg_agree.specs.Smalls.{ending, ending_as}
-use Rattle.cg_agree.specs.Step.{hand}
-use Rattle.cg_agree.specs.Turns.{Taken, stands, taken, taken_as, taken_by}
+use Rattle.cg_model.specs.FactsLists.{IsRising}
+use Rattle.cg_model.specs.Show.{Going}
+use Rattle.cg_model.specs.Smalls.{ending, ending_as}
+use Rattle.cg_model.specs.Step.{hand}
+use Rattle.cg_model.specs.Turns.{Taken, stands, taken, taken_as, taken_by}
 use Rattle.cg_client.specs.Replica.{Replica}
 use Rattle.cg_client.specs.Turn.{Turn}
 use Rattle.cg_group.specs.EachLaws.{Each, Each-weaker}

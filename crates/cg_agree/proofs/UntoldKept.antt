@@ -12,14 +12,14 @@ use Rattle.cg_client.specs.Requests.{settle}
 use Rattle.cg_client.specs.Summary.{summary_of}
 use Rattle.cg_step.specs.Commit.{commits}
 use Rattle.cg_step.specs.Crash.{Ended, Runs, Crashes as EndsInCrash}
-use Rattle.cg_agree.specs.World.{Life, Up, Down, Seat, running, seat_of, replica_of}
-use Rattle.cg_agree.specs.Chronicle.{Told, Chronicle}
-use Rattle.cg_agree.specs.Looks.{greens_of, told_in}
-use Rattle.cg_agree.specs.Talk.{summary_in}
-use Rattle.cg_agree.specs.Turns.{Taken, stands}
-use Rattle.cg_agree.specs.Small.{Small, Starts, Makes, Enters, Orders, Receives, Hands, Leaves, Asks, Settles, Commits, Crashes, Recovers, Copies, Joins, newest_conf, coming, take_newest, turning, turning_as, after_turn, commit_as, crash_as, small_step}
-use Rattle.cg_agree.specs.Smalls.{is_between, ending, ending_as}
-use Rattle.cg_agree.specs.Noting.{played}
+use Rattle.cg_model.specs.World.{Life, Up, Down, Seat, running, seat_of, replica_of}
+use Rattle.cg_model.specs.Chronicle.{Told, Chronicle}
+use Rattle.cg_model.specs.Looks.{greens_of, told_in}
+use Rattle.cg_model.specs.Talk.{summary_in}
+use Rattle.cg_model.specs.Turns.{Taken, stands}
+use Rattle.cg_model.specs.Small.{Small, Starts, Makes, Enters, Orders, Receives, Hands, Leaves, Asks, Settles, Commits, Crashes, Recovers, Copies, Joins, newest_conf, coming, take_newest, turning, turning_as, after_turn, commit_as, crash_as, small_step}
+use Rattle.cg_model.specs.Smalls.{is_between, ending, ending_as}
+use Rattle.cg_model.specs.Noting.{played}
 use Rattle.cg_agree.proofs.Keyed.{find-none}
 use Rattle.cg_agree.proofs.EntersTurn.{told-newest}
 use Rattle.cg_agree.proofs.ToldKept.{IsUntold, told-same, told_in-same}

@@ -13,9 +13,9 @@ use Rattle.cg_members.specs.Servers.{members_of, is_server, was_ever}
 use Rattle.cg_plan.specs.Plan.{of_remaining, least_greens}
 use Rattle.cg_group.specs.EachLaws.{Each}
 use Rattle.cg_client.specs.Replica.{Held}
-use Rattle.cg_agree.specs.Chronicle.{Told, Chronicle}
-use Rattle.cg_agree.specs.FactsExchange.{HasReached}
-use Rattle.cg_agree.specs.FactsReplica.{IsLined, IsMadeOf}
+use Rattle.cg_model.specs.Chronicle.{Told, Chronicle}
+use Rattle.cg_model.specs.FactsExchange.{HasReached}
+use Rattle.cg_model.specs.FactsReplica.{IsLined, IsMadeOf}
 use Rattle.cg_agree.proofs.LinesTold.{line-told}
 
 -- who remains isn't among those that the most updated member knows to have left

@@ -12,18 +12,18 @@ use Rattle.cg_report.specs.declared.line.UpLine.{UpLine}
 use Rattle.cg_schedule.specs.declared.event.Event.{Event}
 use Rattle.cg_schedule.specs.declared.event.Event.TheVariants.{Start, Split, Merge, Request, Weak, Dirty, Order, Recover, Show, ShowOrder, Gather, End, Receive, Deliver, Rounds, Stop, Fail, Join, Leave, Transfer}
 use Rattle.cg_client.specs.Replica.{Replica}
-use Rattle.cg_agree.specs.World.{Seat, World, no_world, running, has_begun, seat_of, replica_of}
-use Rattle.cg_agree.specs.Show.{Moved}
-use Rattle.cg_agree.specs.Run.{Step, MayStand, IsRunFrom, world_after}
-use Rattle.cg_agree.specs.Shown.{made_at, position_of, white_of}
-use Rattle.cg_agree.specs.Telling.{made_of}
-use Rattle.cg_agree.specs.Agreement.{through, may_move}
-use Rattle.cg_agree.specs.Chronicle.{Chronicle, no_chronicle}
-use Rattle.cg_agree.specs.Fronts.{Front}
-use Rattle.cg_agree.specs.Looks.{greens_of}
-use Rattle.cg_agree.specs.FactsReplica.{IsLined, join_from}
-use Rattle.cg_agree.specs.Noting.{chronicle_step, chronicle_after}
-use Rattle.cg_agree.specs.Played.{StandsBeside, AlwaysHolds}
+use Rattle.cg_model.specs.World.{Seat, World, no_world, running, has_begun, seat_of, replica_of}
+use Rattle.cg_model.specs.Show.{Moved}
+use Rattle.cg_model.specs.Run.{Step, MayStand, IsRunFrom, world_after}
+use Rattle.cg_model.specs.Shown.{made_at, position_of, white_of}
+use Rattle.cg_model.specs.Telling.{made_of}
+use Rattle.cg_model.specs.Agreement.{through, may_move}
+use Rattle.cg_model.specs.Chronicle.{Chronicle, no_chronicle}
+use Rattle.cg_model.specs.Fronts.{Front}
+use Rattle.cg_model.specs.Looks.{greens_of}
+use Rattle.cg_model.specs.FactsReplica.{IsLined, join_from}
+use Rattle.cg_model.specs.Noting.{chronicle_step, chronicle_after}
+use Rattle.cg_model.specs.Played.{StandsBeside, AlwaysHolds}
 use Rattle.cg_agree.proofs.FrontFacts.{Front-trans, Front-append}
 use Rattle.cg_agree.proofs.BookGrows.{IsNamed, named-more}
 use Rattle.cg_agree.proofs.BookedCores.{each-booked}

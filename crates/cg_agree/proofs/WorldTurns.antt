@@ -9,10 +9,10 @@ use Rattle.cg_group.specs.EachLaws.{Each}
 use Rattle.cg_client.specs.Replica.{Replica}
 use Rattle.cg_step.specs.Step.{Input, Deliveries, replica_step}
 use Rattle.cg_step.specs.Crash.{Disk, end_event}
-use Rattle.cg_agree.specs.World.{Life, Up, Down, Seat, World, seat_of}
-use Rattle.cg_agree.specs.Show.{Going}
-use Rattle.cg_agree.specs.Step.{hand_to, hand, hand_over}
-use Rattle.cg_agree.specs.FactsLists.{IsRising}
+use Rattle.cg_model.specs.World.{Life, Up, Down, Seat, World, seat_of}
+use Rattle.cg_model.specs.Show.{Going}
+use Rattle.cg_model.specs.Step.{hand_to, hand, hand_over}
+use Rattle.cg_model.specs.FactsLists.{IsRising}
 use Rattle.cg_agree.proofs.ChronicleFacts.{seat_of-set}
 use Rattle.cg_agree.proofs.SeatFacts.{seat-id}
 use Rattle.cg_agree.proofs.TurnWorlds.{up_seat, life_at, seats-ended}

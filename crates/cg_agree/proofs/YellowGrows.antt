@@ -20,8 +20,8 @@ use Rattle.cg_client.specs.Replica.{State, TransPrim}
 use Rattle.cg_client.specs.Turn.{Turn}
 use Rattle.cg_client.specs.Marks.{is_unmade, marked, mark_yellow}
 use Rattle.cg_step.specs.Step.{on_message, take as take_one}
-use Rattle.cg_agree.specs.Fronts.{Front}
-use Rattle.cg_agree.specs.Small.{take_all}
+use Rattle.cg_model.specs.Fronts.{Front}
+use Rattle.cg_model.specs.Small.{take_all}
 use Rattle.cg_agree.proofs.FrontFacts.{Front-refl, Front-append, Front-trans}
 use Rattle.cg_agree.proofs.TurnValues.{even-mark_yellow}
 

@@ -14,16 +14,16 @@ use Rattle.cg_client.specs.Turn.{Turn, begin}
 use Rattle.cg_client.specs.Requests.{settle}
 use Rattle.cg_stored.specs.Stored.{stored_of, whiten}
 use Rattle.cg_step.specs.Crash.{Disk, new_disk, at_rest, recovered, disk_recovered}
-use Rattle.cg_agree.specs.World.{Life, Up, Down, Seat, World, running, seat_of, replica_of}
-use Rattle.cg_agree.specs.Step.{begin_replica, joined, name_also, without_snapshot}
-use Rattle.cg_agree.specs.Chronicle.{Chronicle, no_chronicle}
-use Rattle.cg_agree.specs.Fronts.{When}
-use Rattle.cg_agree.specs.Looks.{snapshot_of}
-use Rattle.cg_agree.specs.FactsReplica.{is_attempting}
-use Rattle.cg_agree.specs.FactsAttempts.{YellowValid}
-use Rattle.cg_agree.specs.Facts.{Invariant}
-use Rattle.cg_agree.specs.Small.{Small, Starts, Makes, Enters, Orders, Receives, Hands, Leaves, Asks, Settles, Commits, Crashes, Recovers, Copies, Joins, small_step, start, turning, turning_as, after_turn, coming, handed_next, leaving, take_newest, take_next, take_parting, take_request, commit_as, crash_as, recover_as, copy_as, join_with}
-use Rattle.cg_agree.specs.Smalls.{may_make, is_set}
+use Rattle.cg_model.specs.World.{Life, Up, Down, Seat, World, running, seat_of, replica_of}
+use Rattle.cg_model.specs.Step.{begin_replica, joined, name_also, without_snapshot}
+use Rattle.cg_model.specs.Chronicle.{Chronicle, no_chronicle}
+use Rattle.cg_model.specs.Fronts.{When}
+use Rattle.cg_model.specs.Looks.{snapshot_of}
+use Rattle.cg_model.specs.FactsReplica.{is_attempting}
+use Rattle.cg_model.specs.FactsAttempts.{YellowValid}
+use Rattle.cg_model.specs.Facts.{Invariant}
+use Rattle.cg_model.specs.Small.{Small, Starts, Makes, Enters, Orders, Receives, Hands, Leaves, Asks, Settles, Commits, Crashes, Recovers, Copies, Joins, small_step, start, turning, turning_as, after_turn, coming, handed_next, leaving, take_newest, take_next, take_parting, take_request, commit_as, crash_as, recover_as, copy_as, join_with}
+use Rattle.cg_model.specs.Smalls.{may_make, is_set}
 use Rattle.cg_agree.proofs.AttemptsTurn.{ends-exchanging}
 use Rattle.cg_agree.proofs.BegunKept.{nothing-before}
 use Rattle.cg_agree.proofs.BuiltThere.{built}

@@ -1,9 +1,9 @@
-ghost use Rattle.cg_agree.specs.EveryRun.{EveryRunAgrees};
-ghost use Rattle.cg_agree.specs.Making.{AlwaysMadeInBook};
-ghost use Rattle.cg_agree.specs.Standing.{AlwaysStands, AlwaysBooked};
-ghost use Rattle.cg_agree.specs.Telling.{EveryRunTells};
-ghost use Rattle.cg_agree.specs.Total.{NeverMet};
-ghost use Rattle.cg_agree.specs.Touched.{OthersShowNothingNew};
+ghost use Rattle.cg_model.specs.EveryRun.{EveryRunAgrees};
+ghost use Rattle.cg_model.specs.Making.{AlwaysMadeInBook};
+ghost use Rattle.cg_model.specs.Standing.{AlwaysStands, AlwaysBooked};
+ghost use Rattle.cg_model.specs.Telling.{EveryRunTells};
+ghost use Rattle.cg_model.specs.Total.{NeverMet};
+ghost use Rattle.cg_model.specs.Touched.{OthersShowNothingNew};
 
 /// The steps of every run agree: one order only grows, and what each replica holds, answers and shows is that of
 /// a prefix of it.

@@ -6,7 +6,7 @@ use Rattle.cg_schedule.specs.declared.event.Event.{Event}
 use Rattle.cg_schedule.specs.declared.event.Event.TheVariants.{Start, Merge, Request, Rounds}
 use Rattle.cg_wire.specs.declared.message.Msg.{Msg}
 use Rattle.cg_group.specs.State.{Configuration}
-use Rattle.cg_agree.specs.Chronicle.{Past, Told, Attempt, Chronicle}
+use Rattle.cg_model.specs.Chronicle.{Past, Told, Attempt, Chronicle}
 use Rattle.cg_audit.specs.TestsNet.{receipts_inside}
 use Rattle.cg_audit.specs.TestsTalk.{sent_iff_due}
 use Rattle.cg_audit.specs.TestsReplica.{made_of_greens, made_once, origins, disk_behind}

@@ -5,12 +5,12 @@ use Rattle.cg_base.specs.Text.{is_nil}
 use Rattle.cg_group.specs.Ready.{ready}
 use Rattle.cg_schedule.specs.declared.event.Event.{Event}
 use Rattle.cg_schedule.specs.declared.event.Event.TheVariants.{Gather, Deliver, Rounds}
-use Rattle.cg_agree.specs.World.{World, no_world, up_replicas}
-use Rattle.cg_agree.specs.Admission.{first_refusal}
-use Rattle.cg_agree.specs.Step.{world_step}
-use Rattle.cg_agree.specs.Chronicle.{Chronicle, no_chronicle}
-use Rattle.cg_agree.specs.Small.{Small, small_step}
-use Rattle.cg_agree.specs.Smalls.{may_make, smalls_in}
+use Rattle.cg_model.specs.World.{World, no_world, up_replicas}
+use Rattle.cg_model.specs.Admission.{first_refusal}
+use Rattle.cg_model.specs.Step.{world_step}
+use Rattle.cg_model.specs.Chronicle.{Chronicle, no_chronicle}
+use Rattle.cg_model.specs.Small.{Small, small_step}
+use Rattle.cg_model.specs.Smalls.{may_make, smalls_in}
 use Rattle.cg_audit.specs.TestsLists.{seats_rise, standings_rise, receivers_rise, joiners_are_servers}
 use Rattle.cg_audit.specs.TestsNet.{seated, phase_sound, receipts_inside, sender_closed, handed_received, unordered_regular, members_begun, past_left, receipts_fixed}
 use Rattle.cg_audit.specs.TestsTalk.{talk_legal, sent_iff_due, heard_is_told, mode_fits, content, acts_numbered}

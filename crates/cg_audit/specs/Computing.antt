@@ -48,12 +48,12 @@ use Rattle.cg_stored.specs.Following.{after_change}
 use Rattle.cg_step.specs.Commit.{same_values, commits}
 use Rattle.cg_step.specs.Crash.{with_change, with_checkpoint, crash_outcome, end_event}
 use Rattle.cg_step.specs.Step.{on_message, on_transitional, on_regular, take, replica_step}
-use Rattle.cg_agree.specs.Admission.{first_refusal}
-use Rattle.cg_agree.specs.Show.{ended}
-use Rattle.cg_agree.specs.Step.{hand, happens, world_step}
-use Rattle.cg_agree.specs.Turns.{turns_of}
-use Rattle.cg_agree.specs.Small.{small_step}
-use Rattle.cg_agree.specs.Smalls.{may_make, smalls_in}
+use Rattle.cg_model.specs.Admission.{first_refusal}
+use Rattle.cg_model.specs.Show.{ended}
+use Rattle.cg_model.specs.Step.{hand, happens, world_step}
+use Rattle.cg_model.specs.Turns.{turns_of}
+use Rattle.cg_model.specs.Small.{small_step}
+use Rattle.cg_model.specs.Smalls.{may_make, smalls_in}
 
 unfoldable pub std_computes : ⊤
 unfolding chars is_utf8 digits encode_utf8

@@ -20,7 +20,7 @@ use Rattle.cg_records.specs.contracts.vulnerable.VulnerablePartialEq.TheImpl.{gh
 use Rattle.cg_records.specs.contracts.yellow.YellowPartialEq.TheImpl.{ghosts as yellow}
 use Rattle.cg_knowledge.specs.declared.summary.Summary.{Summary}
 use Rattle.cg_client.specs.Replica.{Held, State, RegPrim, TransPrim, ExchangeStates, ExchangeActions, Construct, No, Un, NonPrim, Left, yellow_of}
-use Rattle.cg_agree.specs.Chronicle.{Leaving, Attempt}
+use Rattle.cg_model.specs.Chronicle.{Leaving, Attempt}
 
 -- the first list is the front of the second
 abbrev pub is_front : {X : Type 0} → (X → X → Bool) → List X → List X → Bool

@@ -19,16 +19,16 @@ use Rattle.cg_group.specs.State.{phase_of}
 use Rattle.cg_client.specs.Replica.{Held, State}
 use Rattle.cg_client.specs.Install.{valid_yellow}
 use Rattle.cg_client.specs.Queries.{plain_reds}
-use Rattle.cg_agree.specs.World.{replica_of}
-use Rattle.cg_agree.specs.Chronicle.{Attempt, Chronicle}
-use Rattle.cg_agree.specs.Looks.{greens_of, core_of, is_in, is_regular_in, conf_at, members_in, said_in, received_by_all, attempt_of, top_of, left_count}
-use Rattle.cg_agree.specs.Talk.{is_ended, announcer_in, act_in}
-use Rattle.cg_agree.specs.Levels.{prim_at, announced_at, is_installed, is_dead}
-use Rattle.cg_agree.specs.FactsTalk.{whole_talk}
-use Rattle.cg_agree.specs.FactsReplica.{has_installed, is_attempting}
-use Rattle.cg_agree.specs.FactsExchange.{best_told}
-use Rattle.cg_agree.specs.FactsAttempts.{red_names, entered_in, installed_in, is_no, is_without}
-use Rattle.cg_agree.specs.Smalls.{implies}
+use Rattle.cg_model.specs.World.{replica_of}
+use Rattle.cg_model.specs.Chronicle.{Attempt, Chronicle}
+use Rattle.cg_model.specs.Looks.{greens_of, core_of, is_in, is_regular_in, conf_at, members_in, said_in, received_by_all, attempt_of, top_of, left_count}
+use Rattle.cg_model.specs.Talk.{is_ended, announcer_in, act_in}
+use Rattle.cg_model.specs.Levels.{prim_at, announced_at, is_installed, is_dead}
+use Rattle.cg_model.specs.FactsTalk.{whole_talk}
+use Rattle.cg_model.specs.FactsReplica.{has_installed, is_attempting}
+use Rattle.cg_model.specs.FactsExchange.{best_told}
+use Rattle.cg_model.specs.FactsAttempts.{red_names, entered_in, installed_in, is_no, is_without}
+use Rattle.cg_model.specs.Smalls.{implies}
 use Rattle.cg_audit.specs.Same.{same_actions, same_numbers}
 use Rattle.cg_audit.specs.Through.{if_some, is_some_with, for_replicas, for_confs, for_both, for_cores}
 use Rattle.cg_audit.specs.TestsExchange.{has_record}

@@ -6,13 +6,13 @@ use Rattle.cg_base.specs.Lists.{count_up}
 use Rattle.cg_base.specs.Sets.{is_within}
 use Rattle.cg_queue.specs.Queue.{names_of}
 use Rattle.cg_client.specs.Replica.{created}
-use Rattle.cg_agree.specs.World.{replica_of}
-use Rattle.cg_agree.specs.Chronicle.{Attempt, Chronicle}
-use Rattle.cg_agree.specs.Looks.{greens_of, core_of, told_in, members_in, attempt_of, top_of, copied_for}
-use Rattle.cg_agree.specs.Talk.{is_full}
-use Rattle.cg_agree.specs.Levels.{line_at, reached_at, reach_at, is_frozen}
-use Rattle.cg_agree.specs.FactsTalk.{whole_talk}
-use Rattle.cg_agree.specs.Smalls.{implies}
+use Rattle.cg_model.specs.World.{replica_of}
+use Rattle.cg_model.specs.Chronicle.{Attempt, Chronicle}
+use Rattle.cg_model.specs.Looks.{greens_of, core_of, told_in, members_in, attempt_of, top_of, copied_for}
+use Rattle.cg_model.specs.Talk.{is_full}
+use Rattle.cg_model.specs.Levels.{line_at, reached_at, reach_at, is_frozen}
+use Rattle.cg_model.specs.FactsTalk.{whole_talk}
+use Rattle.cg_model.specs.Smalls.{implies}
 use Rattle.cg_audit.specs.Same.{same_actions, same_numbers, front_actions, front_ids, same_summary, same_summaries}
 use Rattle.cg_audit.specs.Through.{if_some, is_some_with, for_replicas, for_confs}
 

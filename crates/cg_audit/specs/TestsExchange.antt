@@ -20,14 +20,14 @@ use Rattle.cg_knowledge.specs.Primary.{known_primary}
 use Rattle.cg_knowledge.specs.Yellow.{common_yellow}
 use Rattle.cg_knowledge.specs.Vulnerable.{decided}
 use Rattle.cg_client.specs.Replica.{Held, State, RegPrim, TransPrim, ExchangeStates, ExchangeActions, NonPrim, Left, Replica, yellow_of, created}
-use Rattle.cg_agree.specs.World.{replica_of}
-use Rattle.cg_agree.specs.Chronicle.{Told, Attempt, Chronicle}
-use Rattle.cg_agree.specs.Looks.{greens_of, core_of, ordered_in, told_in, is_in, is_regular_in, attempt_of, attempt_at, installation}
-use Rattle.cg_agree.specs.Levels.{prim_at}
-use Rattle.cg_agree.specs.FactsTalk.{handed_talk}
-use Rattle.cg_agree.specs.FactsReplica.{join_from}
-use Rattle.cg_agree.specs.FactsExchange.{greens_behind, red_behind, best_told}
-use Rattle.cg_agree.specs.Smalls.{implies}
+use Rattle.cg_model.specs.World.{replica_of}
+use Rattle.cg_model.specs.Chronicle.{Told, Attempt, Chronicle}
+use Rattle.cg_model.specs.Looks.{greens_of, core_of, ordered_in, told_in, is_in, is_regular_in, attempt_of, attempt_at, installation}
+use Rattle.cg_model.specs.Levels.{prim_at}
+use Rattle.cg_model.specs.FactsTalk.{handed_talk}
+use Rattle.cg_model.specs.FactsReplica.{join_from}
+use Rattle.cg_model.specs.FactsExchange.{greens_behind, red_behind, best_told}
+use Rattle.cg_model.specs.Smalls.{implies}
 use Rattle.cg_audit.specs.Same.{same_actions, front_actions, same_numbers}
 use Rattle.cg_audit.specs.Through.{if_some, is_some_with, for_replicas, for_confs, for_both}
 use Rattle.cg_step.specs.Holds.{run_on, cut_behind}

@@ -9,13 +9,13 @@ use Rattle.cg_queue.specs.Queue.{names_of}
 use Rattle.cg_knowledge.specs.declared.summary.Summary.{Summary}
 use Rattle.cg_group.specs.State.{delivered_to, phase_of}
 use Rattle.cg_client.specs.Replica.{Held, State, RegPrim, TransPrim, Replica}
-use Rattle.cg_agree.specs.World.{replica_of}
-use Rattle.cg_agree.specs.Chronicle.{Attempt, Chronicle}
-use Rattle.cg_agree.specs.Looks.{greens_of, conf_at, ordered_in, received_by_all, attempt_of, attempt_at, top_of, installation}
-use Rattle.cg_agree.specs.Talk.{acts_in}
-use Rattle.cg_agree.specs.Levels.{line_at, count_in, reached_at, reach_at, is_frozen, is_evidence, names_with}
-use Rattle.cg_agree.specs.FactsReplica.{has_installed, is_primary}
-use Rattle.cg_agree.specs.Smalls.{implies}
+use Rattle.cg_model.specs.World.{replica_of}
+use Rattle.cg_model.specs.Chronicle.{Attempt, Chronicle}
+use Rattle.cg_model.specs.Looks.{greens_of, conf_at, ordered_in, received_by_all, attempt_of, attempt_at, top_of, installation}
+use Rattle.cg_model.specs.Talk.{acts_in}
+use Rattle.cg_model.specs.Levels.{line_at, count_in, reached_at, reach_at, is_frozen, is_evidence, names_with}
+use Rattle.cg_model.specs.FactsReplica.{has_installed, is_primary}
+use Rattle.cg_model.specs.Smalls.{implies}
 use Rattle.cg_audit.specs.Same.{same_actions, front_actions, front_ids}
 use Rattle.cg_audit.specs.Through.{if_some, for_replicas, for_both, for_cores}
 

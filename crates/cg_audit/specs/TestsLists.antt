@@ -2,7 +2,7 @@
 use Rattle.std.specs.Prelude.{ℕ, suc, nat_le, Bool, true, ◌&&◌, List, [], ◌∷◌, map}
 use Rattle.std.specs.List.{list_all}
 use Rattle.cg_members.specs.Servers.{is_server}
-use Rattle.cg_agree.specs.Chronicle.{Chronicle}
+use Rattle.cg_model.specs.Chronicle.{Chronicle}
 
 -- the numbers rise strictly, from the given one on
 abbrev is_rising : ℕ → List ℕ → Bool

@@ -9,10 +9,10 @@ use Rattle.cg_group.specs.declared.phase.Phase.{Phase}
 use Rattle.cg_group.specs.declared.phase.Phase.TheVariants.{Regular, Transitional}
 use Rattle.cg_group.specs.State.{phase_of, is_up, is_regular, delivered_to, unordered_of, has_received}
 use Rattle.cg_group.specs.Refusals.{sender_at}
-use Rattle.cg_agree.specs.World.{has_begun, replica_of}
-use Rattle.cg_agree.specs.Chronicle.{Chronicle}
-use Rattle.cg_agree.specs.Looks.{stood_of, disk_held, snapshots_for, copies_for, told_in, is_regular_in, is_in, conf_of, ordered_in, members_in, is_member, received_by_all}
-use Rattle.cg_agree.specs.Smalls.{implies}
+use Rattle.cg_model.specs.World.{has_begun, replica_of}
+use Rattle.cg_model.specs.Chronicle.{Chronicle}
+use Rattle.cg_model.specs.Looks.{stood_of, disk_held, snapshots_for, copies_for, told_in, is_regular_in, is_in, conf_of, ordered_in, members_in, is_member, received_by_all}
+use Rattle.cg_model.specs.Smalls.{implies}
 use Rattle.cg_audit.specs.Same.{same_numbers}
 use Rattle.cg_audit.specs.Through.{is_some_with, replicas_of, places_of, for_replicas, for_confs, for_both}
 

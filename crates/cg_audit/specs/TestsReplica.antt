@@ -16,12 +16,12 @@ use Rattle.cg_records.specs.contracts.vulnerable.VulnerablePartialEq.TheImpl.{gh
 use Rattle.cg_group.specs.declared.phase.Phase.{Phase}
 use Rattle.cg_group.specs.State.{phase_of, unordered_of}
 use Rattle.cg_client.specs.Replica.{Held, State, RegPrim, TransPrim, ExchangeStates, ExchangeActions, Construct, No, Un, NonPrim, Left, Replica, created}
-use Rattle.cg_agree.specs.World.{has_begun, replica_of}
-use Rattle.cg_agree.specs.Chronicle.{Attempt, Chronicle}
-use Rattle.cg_agree.specs.Looks.{greens_of, stood_of, disk_held, core_of, conf_at, ordered_in, attempt_of, attempt_at}
-use Rattle.cg_agree.specs.Talk.{action_in}
-use Rattle.cg_agree.specs.Levels.{is_record_of}
-use Rattle.cg_agree.specs.FactsReplica.{own_record, has_entered, has_installed, is_primary, is_attempting, booked, join_from}
+use Rattle.cg_model.specs.World.{has_begun, replica_of}
+use Rattle.cg_model.specs.Chronicle.{Attempt, Chronicle}
+use Rattle.cg_model.specs.Looks.{greens_of, stood_of, disk_held, core_of, conf_at, ordered_in, attempt_of, attempt_at}
+use Rattle.cg_model.specs.Talk.{action_in}
+use Rattle.cg_model.specs.Levels.{is_record_of}
+use Rattle.cg_model.specs.FactsReplica.{own_record, has_entered, has_installed, is_primary, is_attempting, booked, join_from}
 use Rattle.cg_audit.specs.Same.{same_action, same_actions, front_actions, same_databases, same_members, same_attempt}
 use Rattle.cg_audit.specs.Through.{if_some, is_some_with, for_replicas, for_confs, for_cores}
 use Rattle.cg_step.specs.Holds.{run_on, cut_behind, ascend}

@@ -18,13 +18,13 @@ use Rattle.cg_group.specs.State.{phase_of}
 use Rattle.cg_client.specs.Replica.{Held, State, RegPrim, TransPrim, Construct, No, Un, NonPrim, Left, Replica}
 use Rattle.cg_client.specs.Requests.{is_creating}
 use Rattle.cg_construct.specs.Construct.{attempt_set}
-use Rattle.cg_agree.specs.World.{replica_of}
-use Rattle.cg_agree.specs.Chronicle.{Chronicle}
-use Rattle.cg_agree.specs.Looks.{told_in, is_regular_in, members_in, ordered_in, sent_by, waiting_in, said_in}
-use Rattle.cg_agree.specs.Talk.{Talk, no_talk, is_ended, is_legal, state_in, summary_in, item_in, announcer_in, act_in, due_items, due_announcement, known_up_to}
-use Rattle.cg_agree.specs.Levels.{lacks_announcement}
-use Rattle.cg_agree.specs.FactsTalk.{whole_talk, handed_talk, summaries_of, of_creator, count_behind}
-use Rattle.cg_agree.specs.Smalls.{implies}
+use Rattle.cg_model.specs.World.{replica_of}
+use Rattle.cg_model.specs.Chronicle.{Chronicle}
+use Rattle.cg_model.specs.Looks.{told_in, is_regular_in, members_in, ordered_in, sent_by, waiting_in, said_in}
+use Rattle.cg_model.specs.Talk.{Talk, no_talk, is_ended, is_legal, state_in, summary_in, item_in, announcer_in, act_in, due_items, due_announcement, known_up_to}
+use Rattle.cg_model.specs.Levels.{lacks_announcement}
+use Rattle.cg_model.specs.FactsTalk.{whole_talk, handed_talk, summaries_of, of_creator, count_behind}
+use Rattle.cg_model.specs.Smalls.{implies}
 use Rattle.cg_audit.specs.Same.{same_action, same_actions, same_numbers, same_summaries, same_state}
 use Rattle.cg_audit.specs.Through.{if_some, is_some_with, for_replicas, for_confs, for_both}
 

@@ -11,11 +11,11 @@ use Rattle.cg_group.specs.State.{Standing, Configuration, GroupState}
 use Rattle.cg_schedule.specs.declared.event.Event.{Event}
 use Rattle.cg_schedule.specs.declared.event.Event.TheVariants.{Start, Split, Merge}
 use Rattle.cg_client.specs.Replica.{Replica, Held}
-use Rattle.cg_agree.specs.World.{Snapshot, World, replica_of}
-use Rattle.cg_agree.specs.Chronicle.{Chronicle}
-use Rattle.cg_agree.specs.Looks.{disk_held, snapshot_of}
-use Rattle.cg_agree.specs.Small.{Small, Crashes}
-use Rattle.cg_agree.specs.Smalls.{is_set}
+use Rattle.cg_model.specs.World.{Snapshot, World, replica_of}
+use Rattle.cg_model.specs.Chronicle.{Chronicle}
+use Rattle.cg_model.specs.Looks.{disk_held, snapshot_of}
+use Rattle.cg_model.specs.Small.{Small, Crashes}
+use Rattle.cg_model.specs.Smalls.{is_set}
 use Rattle.cg_audit.specs.Same.{same_numbers, same_held, same_state}
 use Rattle.cg_audit.specs.Through.{is_some_with}
 use Rattle.cg_audit.specs.TestsReplica.{is_written}

@@ -4,10 +4,10 @@ use Rattle.std.specs.List.{list_all}
 use Rattle.cg_base.specs.Lists.{count_up, above_up_to}
 use Rattle.cg_action.specs.declared.action.Action.{Action}
 use Rattle.cg_client.specs.Replica.{Held}
-use Rattle.cg_agree.specs.World.{replica_of}
-use Rattle.cg_agree.specs.Step.{joined}
-use Rattle.cg_agree.specs.Chronicle.{Chronicle}
-use Rattle.cg_agree.specs.Looks.{greens_of, stood_of, disk_held, copied_for, ordered_in}
+use Rattle.cg_model.specs.World.{replica_of}
+use Rattle.cg_model.specs.Step.{joined}
+use Rattle.cg_model.specs.Chronicle.{Chronicle}
+use Rattle.cg_model.specs.Looks.{greens_of, stood_of, disk_held, copied_for, ordered_in}
 
 module _ {X : Type 0} where
   -- it holds of the value, if there is one

@@ -5,8 +5,8 @@ use Rattle.std.proofs.lemmas.Bool.{cases_Bool, cond-true, cond-false}
 use Rattle.cg_base.specs.Sets.{has}
 use Rattle.cg_base.specs.SetLaws.{filter-keeps, filter-drops}
 use Rattle.cg_report.specs.declared.line.Line.{Line}
-use Rattle.cg_agree.specs.World.{Seat, World}
-use Rattle.cg_agree.specs.Show.{is_news, line_of}
+use Rattle.cg_model.specs.World.{Seat, World}
+use Rattle.cg_model.specs.Show.{is_news, line_of}
 use Rattle.cg_events.specs.Going.{with_news, with_line}
 
 pub lines-gathered : (set : List ℕ) (w : World) (seats : List Seat) (lines : List Line) →

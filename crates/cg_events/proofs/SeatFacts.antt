@@ -11,7 +11,7 @@ use Rattle.std.proofs.lemmas.Bool.{cases_Bool, cases_order, cases_lt, cond-true,
 use Rattle.cg_base.specs.Sets.{IsSet, Ascends, IsId, with_member, without_member}
 use Rattle.cg_base.specs.SetLaws.{Ascends-with_member, Ascends-filter, filter-keeps, filter-drops, with_member-same, with_member-front, with_member-later}
 use Rattle.cg_base.specs.AscendingLaws.{AllBelow, AllBelow-more, AllBelow-next, with_member-last}
-use Rattle.cg_agree.specs.World.{Seat, with_seat, running}
+use Rattle.cg_model.specs.World.{Seat, with_seat, running}
 use Rattle.cg_events.specs.Seating.{ids_of, AscendingSeats, ups, with_up}
 
 -- the replica's seat

@@ -6,7 +6,7 @@ use Rattle.cg_client.specs.Replica.{Replica}
 use Rattle.cg_client.specs.Queries.{weak_answer, dirty_answer}
 use Rattle.cg_report.specs.declared.entry.Shown.{Shown}
 use Rattle.cg_report.specs.declared.entry.Shown.TheVariants.{Weak as ShownWeak, Dirty as ShownDirty}
-use Rattle.cg_agree.specs.World.{Seat, World, running, seat_of, replica_of}
+use Rattle.cg_model.specs.World.{Seat, World, running, seat_of, replica_of}
 use Rattle.cg_seat.specs.Calls.{shows_weak, shows_dirty}
 use Rattle.cg_events.proofs.StruckSeats.{found-id}
 

@@ -14,10 +14,10 @@ use Rattle.cg_client.specs.Marks.{marked}
 use Rattle.cg_client.specs.Summary.{redden, forget_own, own_to_red}
 use Rattle.cg_stored.specs.Stored.{recover as recover_stored}
 use Rattle.cg_step.specs.Crash.{Disk, Strike, at_rest, recovered, disk_recovered}
-use Rattle.cg_agree.specs.World.{Life, Up, Down, Seat, World, running, seat_of, replica_of, with_seat, set_life}
-use Rattle.cg_agree.specs.Looks.{on_disk}
-use Rattle.cg_agree.specs.Show.{News, news_of_recovery, tell}
-use Rattle.cg_agree.specs.Step.{quietly, arm_at, arm, crash_at, stop, recover_from, recover}
+use Rattle.cg_model.specs.World.{Life, Up, Down, Seat, World, running, seat_of, replica_of, with_seat, set_life}
+use Rattle.cg_model.specs.Looks.{on_disk}
+use Rattle.cg_model.specs.Show.{News, news_of_recovery, tell}
+use Rattle.cg_model.specs.Step.{quietly, arm_at, arm, crash_at, stop, recover_from, recover}
 use Rattle.cg_seat.specs.Calls.{armed, crashed, risen}
 use Rattle.cg_events.specs.Going.{seated, fallen}
 use Rattle.cg_events.specs.Grounds.{IsSeated}

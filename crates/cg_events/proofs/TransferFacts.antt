@@ -17,10 +17,10 @@ use Rattle.cg_group.specs.State.{GroupState, is_up}
 use Rattle.cg_wire.specs.declared.message.Msg.{Msg}
 use Rattle.cg_base.specs.Lists.{first_some}
 use Rattle.cg_client.specs.Replica.{Replica}
-use Rattle.cg_agree.specs.World.{World, Seat, Snapshot, running, seat_of, has_begun, with_seat}
-use Rattle.cg_agree.specs.Admission.{takes_part, never_named, joiner_left, not_green}
-use Rattle.cg_agree.specs.AdmissionCalls.{begun_already}
-use Rattle.cg_agree.specs.Step.{quietly, snapshot_for, without_snapshot, transfer}
+use Rattle.cg_model.specs.World.{World, Seat, Snapshot, running, seat_of, has_begun, with_seat}
+use Rattle.cg_model.specs.Admission.{takes_part, never_named, joiner_left, not_green}
+use Rattle.cg_model.specs.AdmissionCalls.{begun_already}
+use Rattle.cg_model.specs.Step.{quietly, snapshot_for, without_snapshot, transfer}
 use Rattle.cg_seat.specs.Calls.{copied}
 use Rattle.cg_events.specs.Going.{seated, fallen}
 use Rattle.cg_events.specs.Grounds.{IsSeated}

@@ -4,8 +4,8 @@ use Rattle.cg_base.specs.Sets.{has}
 use Rattle.cg_wire.specs.declared.message.Msg.{Msg}
 use Rattle.cg_report.specs.declared.line.Line.{Line}
 use Rattle.cg_group.specs.Events.{send_all, go_down}
-use Rattle.cg_agree.specs.World.{Seat, World, with_seat}
-use Rattle.cg_agree.specs.Show.{Going, Moved, is_news, line_of, with_printed, tell}
+use Rattle.cg_model.specs.World.{Seat, World, with_seat}
+use Rattle.cg_model.specs.Show.{Going, Moved, is_news, line_of, with_printed, tell}
 use Rattle.cg_seat.specs.Calls.{Spoken}
 
 -- a replica says these things to its group

@@ -4,10 +4,10 @@ use Rattle.std.specs.Prelude.{◌≡◌, is_some, IfSome}
 use Rattle.cg_group.specs.State.{is_up}
 use Rattle.cg_schedule.specs.declared.event.Event.{Event}
 use Rattle.cg_schedule.specs.declared.event.Event.TheVariants.{Start}
-use Rattle.cg_agree.specs.World.{World}
-use Rattle.cg_agree.specs.Run.{MayStand}
-use Rattle.cg_agree.specs.Chronicle.{Chronicle}
-use Rattle.cg_agree.specs.Played.{StandsBeside}
+use Rattle.cg_model.specs.World.{World}
+use Rattle.cg_model.specs.Run.{MayStand}
+use Rattle.cg_model.specs.Chronicle.{Chronicle}
+use Rattle.cg_model.specs.Played.{StandsBeside}
 use Rattle.cg_events.specs.Grounds.{ComesFirst, IsSeated}
 
 -- ---- where the facts stand

@@ -3,8 +3,8 @@ use Rattle.std.specs.Prelude.{◌≡◌, ℕ, is_some, IfSome}
 use Rattle.cg_group.specs.State.{is_up}
 use Rattle.cg_schedule.specs.declared.event.Event.{Event}
 use Rattle.cg_schedule.specs.declared.event.Event.TheVariants.{Start}
-use Rattle.cg_agree.specs.World.{World, no_world, replica_of}
-use Rattle.cg_agree.specs.Looks.{disk_held}
+use Rattle.cg_model.specs.World.{World, no_world, replica_of}
+use Rattle.cg_model.specs.Looks.{disk_held}
 
 -- a start comes first
 abbrev pub ComesFirst : World → Event → Type 0

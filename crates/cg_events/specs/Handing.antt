@@ -3,9 +3,9 @@ use Rattle.std.specs.Prelude.{ℕ, ◌==◌, ◌+◌, ◌++◌, [], ◌∷◌, �
 use Rattle.cg_client.specs.Replica.{Replica}
 use Rattle.cg_step.specs.Crash.{new_disk}
 use Rattle.cg_report.specs.declared.entry.Shown.TheVariants.{Pieces}
-use Rattle.cg_agree.specs.World.{World, Snapshot, replica_of, bring_up}
-use Rattle.cg_agree.specs.Show.{Going}
-use Rattle.cg_agree.specs.Step.{joined, snapshot_for, without_snapshot, showing}
+use Rattle.cg_model.specs.World.{World, Snapshot, replica_of, bring_up}
+use Rattle.cg_model.specs.Show.{Going}
+use Rattle.cg_model.specs.Step.{joined, snapshot_for, without_snapshot, showing}
 use Rattle.cg_client.specs.Joined.{piece_count}
 
 -- a new snapshot of the replica, where it is up

@@ -4,10 +4,10 @@ use Rattle.cg_schedule.specs.declared.event.Event.{Event}
 use Rattle.cg_schedule.specs.declared.event.Event.TheVariants.{Fail}
 use Rattle.cg_group.specs.declared.error.GroupErr.{GroupErr}
 use Rattle.cg_group.specs.declared.error.GroupErr.TheVariants as fault
-use Rattle.cg_agree.specs.World.{World}
-use Rattle.cg_agree.specs.Show.{Going}
-use Rattle.cg_agree.specs.Admission.{first_refusal}
-use Rattle.cg_agree.specs.Step.{happens}
+use Rattle.cg_model.specs.World.{World}
+use Rattle.cg_model.specs.Show.{Going}
+use Rattle.cg_model.specs.Admission.{first_refusal}
+use Rattle.cg_model.specs.Step.{happens}
 use Rattle.cg_events.specs.declared.happened.Happened.{Happened}
 use Rattle.cg_events.specs.declared.happened.Happened.TheVariants as happened
 

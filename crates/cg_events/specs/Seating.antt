@@ -1,7 +1,7 @@
 -- The replicas that have begun, in their order.
 use Rattle.std.specs.Prelude.{ℕ, List, map, filter, is_some, if◌then◌else◌}
 use Rattle.cg_base.specs.Sets.{Ascends, with_member}
-use Rattle.cg_agree.specs.World.{Seat, World, running, is_left}
+use Rattle.cg_model.specs.World.{Seat, World, running, is_left}
 
 -- whose the seats are
 abbrev pub ids_of : List Seat → List ℕ

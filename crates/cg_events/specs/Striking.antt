@@ -2,9 +2,9 @@
 use Rattle.std.specs.Prelude.{Option, Some, None}
 use Rattle.cg_group.specs.Events.{come_up}
 use Rattle.cg_seat.specs.Calls.{risen}
-use Rattle.cg_agree.specs.World.{World, Seat}
-use Rattle.cg_agree.specs.Show.{Going, News, tell}
-use Rattle.cg_agree.specs.Step.{quietly}
+use Rattle.cg_model.specs.World.{World, Seat}
+use Rattle.cg_model.specs.Show.{Going, News, tell}
+use Rattle.cg_model.specs.Step.{quietly}
 use Rattle.cg_events.specs.Going.{seated}
 
 -- the replica of the seat has come up

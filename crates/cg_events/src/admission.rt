@@ -3,8 +3,8 @@ ghost use Rattle.std.specs.Prelude.{◌≡◌, ◌∷◌, []};
 ghost use Rattle.cg_base.specs.Lists.{first_some};
 ghost use Rattle.cg_base.specs.Sets.{IsSet};
 ghost use Rattle.cg_group.specs.Refusals.{any_of, empty_set, not_up};
-ghost use Rattle.cg_agree.specs.Admission.{unknown, has_left, joiner_left, never_named, not_green, takes_part};
-ghost use Rattle.cg_agree.specs.AdmissionCalls.{already_up, begun_already, id_used};
+ghost use Rattle.cg_model.specs.Admission.{unknown, has_left, joiner_left, never_named, not_green, takes_part};
+ghost use Rattle.cg_model.specs.AdmissionCalls.{already_up, begun_already, id_used};
 
 use crate::WorldState;
 use cg_base::{IdSet, ReplicaId};

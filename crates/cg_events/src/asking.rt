@@ -8,9 +8,9 @@ ghost use Rattle.cg_client.specs.Calls.{kind_of};
 ghost use Rattle.cg_schedule.specs.declared.event.Event.TheVariants.{Request as Requested, Join, Leave};
 ghost use Rattle.cg_step.specs.Recorded.{AreBooked};
 ghost use Rattle.cg_step.specs.Step.{Asks};
-ghost use Rattle.cg_agree.specs.World.{replica_of};
-ghost use Rattle.cg_agree.specs.Step.{ask, name_also};
-ghost use Rattle.cg_agree.specs.Standing.{IsBooked};
+ghost use Rattle.cg_model.specs.World.{replica_of};
+ghost use Rattle.cg_model.specs.Step.{ask, name_also};
+ghost use Rattle.cg_model.specs.Standing.{IsBooked};
 ghost use Rattle.cg_events.specs.Happening.{Happens};
 
 use crate::admission::{join_refused, leave_refused, takes_part};
@@ -22,7 +22,7 @@ use cg_client::Request;
 use std::alloc::Global;
 
 // A client asks the replica to run commands, and then to answer the query.
-#[tactic(auto, unfolding(cg_agree::specs::Admission::first_refusal, cg_agree::specs::Step::happens))]
+#[tactic(auto, unfolding(cg_model::specs::Admission::first_refusal, cg_model::specs::Step::happens))]
 pub(crate) fn request(
     alloc: Global,
     state: WorldState,
@@ -74,7 +74,7 @@ fn ask(alloc: Global, state: WorldState, p: ReplicaId, request: Request) -> Resu
 }
 
 // The replica creates the join of a new server, which is named by that.
-#[tactic(auto, unfolding(cg_agree::specs::Admission::first_refusal, cg_agree::specs::Step::happens))]
+#[tactic(auto, unfolding(cg_model::specs::Admission::first_refusal, cg_model::specs::Step::happens))]
 pub(crate) fn join(
     alloc: Global,
     state: WorldState,
@@ -107,7 +107,7 @@ fn named(state: WorldState, p: ReplicaId) -> WorldState
 }
 
 // The replica creates the leave of a server.
-#[tactic(auto, unfolding(cg_agree::specs::Admission::first_refusal, cg_agree::specs::Step::happens))]
+#[tactic(auto, unfolding(cg_model::specs::Admission::first_refusal, cg_model::specs::Step::happens))]
 pub(crate) fn leave(alloc: Global, state: WorldState, p: ReplicaId, server: ReplicaId) -> Happened
     requires limits { IsKind (LeaveKind server) }
     requires booked { IsBooked state }

@@ -3,8 +3,8 @@ ghost use Rattle.std.specs.Prelude.{◌≡◌, false, fold, IfOk, OnOk};
 ghost use Rattle.cg_base.specs.Weights.{ids};
 ghost use Rattle.cg_group.specs.State.{is_up};
 ghost use Rattle.cg_schedule.specs.declared.event.Event.TheVariants.{Start};
-ghost use Rattle.cg_agree.specs.World.{no_world};
-ghost use Rattle.cg_agree.specs.Step.{begin_replica};
+ghost use Rattle.cg_model.specs.World.{no_world};
+ghost use Rattle.cg_model.specs.Step.{begin_replica};
 ghost use Rattle.cg_events.specs.Happening.{Happens};
 
 use crate::admission::empty_set;
@@ -14,7 +14,7 @@ use cg_seat::Seat;
 use std::alloc::Global;
 
 // These replicas begin, each alone, as the servers of one database.
-#[tactic(auto, unfolding(cg_agree::specs::Admission::first_refusal, cg_agree::specs::Step::happens))]
+#[tactic(auto, unfolding(cg_model::specs::Admission::first_refusal, cg_model::specs::Step::happens))]
 pub(crate) fn start(alloc: Global, state: WorldState, set: &WeightSet) -> Happened
     requires { state ≡ no_world }
     ensures { Happens state (Start set.now) result }

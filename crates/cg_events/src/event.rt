@@ -1,6 +1,6 @@
 //! One event, of any kind.
-ghost use Rattle.cg_agree.specs.Run.{MayAsk};
-ghost use Rattle.cg_agree.specs.Standing.{IsBooked};
+ghost use Rattle.cg_model.specs.Run.{MayAsk};
+ghost use Rattle.cg_model.specs.Standing.{IsBooked};
 ghost use Rattle.cg_events.specs.Grounds.{ComesFirst, IsSeated};
 ghost use Rattle.cg_events.specs.Happening.{Happens, IsCounted};
 
@@ -16,7 +16,7 @@ use std::alloc::Global;
 
 /// What an event does, or the first reason by which it isn't admitted. Rounds are events of their own, and the end is none:
 /// both do nothing here.
-#[tactic(auto, unfolding(cg_agree::specs::Admission::first_refusal, cg_agree::specs::Step::happens))]
+#[tactic(auto, unfolding(cg_model::specs::Admission::first_refusal, cg_model::specs::Step::happens))]
 pub fn happen(alloc: Global, state: WorldState, event: &Event) -> Happened
     requires counted { IsCounted event.now }
     requires asks { MayAsk event.now }

@@ -6,14 +6,14 @@ ghost use Rattle.cg_action.specs.Limits.{IsKind};
 ghost use Rattle.cg_client.specs.Calls.{kind_of};
 ghost use Rattle.cg_step.specs.Recorded.{AreBooked};
 ghost use Rattle.cg_step.specs.Step.{Deliveries, Asks};
-ghost use Rattle.cg_agree.specs.World.{replica_of};
-ghost use Rattle.cg_agree.specs.Step.{quietly, hand, hand_over};
-ghost use Rattle.cg_agree.specs.Standing.{IsHandedBooked, AreBookedInTurn};
-ghost use Rattle.cg_agree.specs.Touched.{ShowsNewsOf};
+ghost use Rattle.cg_model.specs.World.{replica_of};
+ghost use Rattle.cg_model.specs.Step.{quietly, hand, hand_over};
+ghost use Rattle.cg_model.specs.Standing.{IsHandedBooked, AreBookedInTurn};
+ghost use Rattle.cg_model.specs.Touched.{ShowsNewsOf};
 ghost use Rattle.cg_seat.specs.Calls.{taken, IsBookedFor};
 ghost use Rattle.cg_show.specs.Showing.{shows_after, order_after, made_after};
 ghost use Rattle.cg_events.specs.Going.{sending, seated, comes_back, ended_with};
-ghost use Rattle.cg_agree.specs.Show.{ended, tell};
+ghost use Rattle.cg_model.specs.Show.{ended, tell};
 
 use crate::WorldState;
 use crate::made::MadeCut;
@@ -35,7 +35,7 @@ pub struct Going {
 }
 
 impl Model for Going {
-    ghost use Rattle.cg_agree.specs.Show.{Going};
+    ghost use Rattle.cg_model.specs.Show.{Going};
 
     ghost Value = { Going };
 
@@ -157,7 +157,7 @@ impl Going {
 
     /// The event ends: what it shows, with the lines that differ from the last printed ones, and the world behind it.
     /// They are looked for at these replicas alone, since nothing is new of others.
-    #[tactic(auto, unfolding(cg_agree::specs::Show::ended))]
+    #[tactic(auto, unfolding(cg_model::specs::Show::ended))]
     pub fn finish(self, touched: &IdSet) -> Result<(Entry, WorldState), NoMemory>
         requires { ShowsNewsOf touched.now self.world }
         ensures { IfOk result (λ x. record { entry = x.0; world = x.1 } ≡ ended self) }

@@ -3,8 +3,8 @@ ghost use Rattle.std.specs.Prelude.{◌≡◌, fold, IfOk};
 ghost use Rattle.cg_base.specs.declared.action_id.ActionId.{ActionId as ActionName};
 ghost use Rattle.cg_action.specs.declared.action.Action.{Action as ActionView};
 ghost use Rattle.cg_schedule.specs.declared.event.Event.TheVariants.{Split, Merge, Order, Gather, Receive, Deliver};
-ghost use Rattle.cg_agree.specs.Step.{quietly, hand_over};
-ghost use Rattle.cg_agree.specs.Standing.{AreBookedInTurn, IsHandedBooked, IsBooked};
+ghost use Rattle.cg_model.specs.Step.{quietly, hand_over};
+ghost use Rattle.cg_model.specs.Standing.{AreBookedInTurn, IsHandedBooked, IsBooked};
 ghost use Rattle.cg_events.specs.Happening.{Happens};
 
 use crate::admission::{merge_refused, split_refused, unknown};
@@ -16,7 +16,7 @@ use cg_letter::Letter;
 use std::alloc::Global;
 
 // These replicas leave their configuration together.
-#[tactic(auto, unfolding(cg_agree::specs::Admission::first_refusal, cg_agree::specs::Step::happens))]
+#[tactic(auto, unfolding(cg_model::specs::Admission::first_refusal, cg_model::specs::Step::happens))]
 pub(crate) fn split(alloc: Global, state: WorldState, set: IdSet) -> Happened
     requires { IsBooked state }
     ensures { Happens state (Split set) result }
@@ -32,7 +32,7 @@ pub(crate) fn split(alloc: Global, state: WorldState, set: IdSet) -> Happened
 }
 
 // A new configuration of these replicas is made.
-#[tactic(auto, unfolding(cg_agree::specs::Admission::first_refusal, cg_agree::specs::Step::happens))]
+#[tactic(auto, unfolding(cg_model::specs::Admission::first_refusal, cg_model::specs::Step::happens))]
 pub(crate) fn merge(alloc: Global, state: WorldState, set: IdSet) -> Happened
     requires { IsBooked state }
     ensures { Happens state (Merge set) result }
@@ -61,7 +61,7 @@ fn hand_out(
 }
 
 // The next places are handed to a replica.
-#[tactic(auto, unfolding(cg_agree::specs::Admission::first_refusal, cg_agree::specs::Step::happens))]
+#[tactic(auto, unfolding(cg_model::specs::Admission::first_refusal, cg_model::specs::Step::happens))]
 pub(crate) fn deliver(alloc: Global, state: WorldState, p: ReplicaId, count: u64) -> Happened
     requires { IsBooked state }
     ensures { Happens state (Deliver p count) result }
@@ -85,7 +85,7 @@ fn hand_over(alloc: Global, state: WorldState, handed: Handed<Letter>) -> Result
 }
 
 // The oldest message of a replica is ordered.
-#[tactic(auto, unfolding(cg_agree::specs::Admission::first_refusal, cg_agree::specs::Step::happens))]
+#[tactic(auto, unfolding(cg_model::specs::Admission::first_refusal, cg_model::specs::Step::happens))]
 pub(crate) fn order(alloc: Global, state: WorldState, p: ReplicaId) -> Happened
     ensures { Happens state (Order p) result }
 {
@@ -100,7 +100,7 @@ pub(crate) fn order(alloc: Global, state: WorldState, p: ReplicaId) -> Happened
 }
 
 // A replica receives a place of its configuration.
-#[tactic(auto, unfolding(cg_agree::specs::Admission::first_refusal, cg_agree::specs::Step::happens))]
+#[tactic(auto, unfolding(cg_model::specs::Admission::first_refusal, cg_model::specs::Step::happens))]
 pub(crate) fn receive(alloc: Global, state: WorldState, p: ReplicaId, place: u64) -> Happened
     ensures { Happens state (Receive p place) result }
 {
@@ -115,7 +115,7 @@ pub(crate) fn receive(alloc: Global, state: WorldState, p: ReplicaId, place: u64
 }
 
 // All messages are ordered and received.
-#[tactic(auto, unfolding(cg_agree::specs::Admission::first_refusal, cg_agree::specs::Step::happens))]
+#[tactic(auto, unfolding(cg_model::specs::Admission::first_refusal, cg_model::specs::Step::happens))]
 pub(crate) fn gather(alloc: Global, state: WorldState) -> Happened
     ensures { Happens state Gather result }
 {

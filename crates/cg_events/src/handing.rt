@@ -5,7 +5,7 @@ ghost use Rattle.cg_records.specs.Limits.{IsNumber};
 ghost use Rattle.cg_report.specs.declared.entry.Shown.TheVariants.{Pieces};
 ghost use Rattle.cg_schedule.specs.declared.event.Event.TheVariants.{Transfer as TransferEvent};
 ghost use Rattle.cg_client.specs.Joined.{piece_count};
-ghost use Rattle.cg_agree.specs.Step.{showing, transfer};
+ghost use Rattle.cg_model.specs.Step.{showing, transfer};
 ghost use Rattle.cg_events.specs.Grounds.{IsSeated};
 ghost use Rattle.cg_events.specs.Handing.{new_copy, Chooses, joins, handed, shows_taken, takes};
 ghost use Rattle.cg_events.specs.Happening.{Happens};
@@ -19,7 +19,7 @@ use cg_seat::Transfer;
 use std::alloc::Global;
 
 // The next pieces of a snapshot go to its joiner, which is up when it has all of them.
-#[tactic(auto, unfolding(cg_agree::specs::Admission::first_refusal, cg_agree::specs::Step::happens))]
+#[tactic(auto, unfolding(cg_model::specs::Admission::first_refusal, cg_model::specs::Step::happens))]
 pub(crate) fn transfer(
     alloc: Global,
     state: WorldState,

@@ -1,6 +1,6 @@
 //! What each event does to the group and to the replicas, and what of it is to be shown.
 //!
-//! A `WorldState` is the world of `cg_agree`'s definitions; an event on the way is its `Going`. The one contract:
+//! A `WorldState` is the world of `cg_model`'s definitions; an event on the way is its `Going`. The one contract:
 //! `happen` is `happens`, or the first refusal.
 #![tactic(auto)]
 

@@ -1,5 +1,5 @@
 ghost use Rattle.std.specs.Prelude.{◌≡◌};
-ghost use Rattle.cg_agree.specs.Making.{position_on, printed_position};
+ghost use Rattle.cg_model.specs.Making.{position_on, printed_position};
 
 use crate::WorldState;
 use cg_base::ReplicaId;

@@ -4,8 +4,8 @@ ghost use Rattle.std.specs.Option.{option_map_or};
 ghost use Rattle.cg_client.specs.Queries.{weak_answer, dirty_answer};
 ghost use Rattle.cg_report.specs.declared.entry.Shown.TheVariants.{Weak as ShownWeak, Dirty as ShownDirty, All};
 ghost use Rattle.cg_schedule.specs.declared.event.Event.TheVariants.{Weak, Dirty, Show, ShowOrder};
-ghost use Rattle.cg_agree.specs.World.{replica_of};
-ghost use Rattle.cg_agree.specs.Step.{showing, shown_of};
+ghost use Rattle.cg_model.specs.World.{replica_of};
+ghost use Rattle.cg_model.specs.Step.{showing, shown_of};
 ghost use Rattle.cg_events.specs.Happening.{Happens};
 
 use crate::admission::{hidden, takes_part};
@@ -17,7 +17,7 @@ use cg_report::Shown;
 use std::alloc::Global;
 
 // A client asks the replica for the answer of its green actions.
-#[tactic(auto, unfolding(cg_agree::specs::Admission::first_refusal, cg_agree::specs::Step::happens))]
+#[tactic(auto, unfolding(cg_model::specs::Admission::first_refusal, cg_model::specs::Step::happens))]
 pub(crate) fn weak(alloc: Global, state: WorldState, p: ReplicaId, query: &Query) -> Happened
     ensures { Happens state (Weak p query.now) result }
 {
@@ -43,7 +43,7 @@ fn weak_of(
 }
 
 // A client asks the replica for the answer of all actions that it knows.
-#[tactic(auto, unfolding(cg_agree::specs::Admission::first_refusal, cg_agree::specs::Step::happens))]
+#[tactic(auto, unfolding(cg_model::specs::Admission::first_refusal, cg_model::specs::Step::happens))]
 pub(crate) fn dirty(alloc: Global, state: WorldState, p: ReplicaId, query: &Query) -> Happened
     ensures { Happens state (Dirty p query.now) result }
 {
@@ -69,7 +69,7 @@ fn dirty_of(
 }
 
 // The replica shows its green actions and its database.
-#[tactic(auto, unfolding(cg_agree::specs::Admission::first_refusal, cg_agree::specs::Step::happens))]
+#[tactic(auto, unfolding(cg_model::specs::Admission::first_refusal, cg_model::specs::Step::happens))]
 pub(crate) fn show(alloc: Global, state: WorldState, p: ReplicaId) -> Happened
     ensures { Happens state (Show p) result }
 {
@@ -90,7 +90,7 @@ fn shown_of(alloc: Global, state: &WorldState, p: ReplicaId) -> Result<Row<Shown
 }
 
 // The global order is shown.
-#[tactic(auto, unfolding(cg_agree::specs::Admission::first_refusal, cg_agree::specs::Step::happens))]
+#[tactic(auto, unfolding(cg_model::specs::Admission::first_refusal, cg_model::specs::Step::happens))]
 pub(crate) fn show_order(alloc: Global, state: WorldState) -> Happened
     ensures { Happens state ShowOrder result }
 {

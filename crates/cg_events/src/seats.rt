@@ -3,9 +3,9 @@ ghost use Rattle.std.specs.Prelude.{◌≡◌, ◌==◌, nat_lt, [], Some, None,
 ghost use Rattle.std.specs.Option.{option_copied};
 ghost use Rattle.std.specs.List.{prefix_len};
 ghost use Rattle.cg_base.specs.Sets.{IsId};
-ghost use Rattle.cg_agree.specs.World.{with_seat};
+ghost use Rattle.cg_model.specs.World.{with_seat};
 ghost use Rattle.cg_events.specs.Seating.{ups, with_up};
-ghost use Rattle.cg_agree.specs.World.{Seat as SeatView};
+ghost use Rattle.cg_model.specs.World.{Seat as SeatView};
 
 use cg_base::{IdSet, NoMemory, ReplicaId};
 use cg_seat::Seat;
@@ -22,7 +22,7 @@ pub(crate) struct BoxedSeat {
 
 impl Model for BoxedSeat {
     ghost use Rattle.std.specs.Prelude.{◌≡◌};
-    ghost use Rattle.cg_agree.specs.World.{Seat};
+    ghost use Rattle.cg_model.specs.World.{Seat};
 
     ghost Value = { Seat };
 
@@ -68,7 +68,7 @@ pub(crate) struct Seats {
 
 impl Model for Seats {
     ghost use Rattle.std.specs.Prelude.{List};
-    ghost use Rattle.cg_agree.specs.World.{Seat};
+    ghost use Rattle.cg_model.specs.World.{Seat};
     ghost use Rattle.cg_events.specs.Seating.{AscendingSeats};
 
     ghost Value = { List Seat };

@@ -5,9 +5,9 @@ ghost use Rattle.cg_base.specs.Sets.{has};
 ghost use Rattle.cg_members.specs.Servers.{is_server};
 ghost use Rattle.cg_group.specs.Ready.{ready};
 ghost use Rattle.cg_group.specs.Events.{send_all};
-ghost use Rattle.cg_agree.specs.World.{Life, no_world, running, seat_of, set_life, has_begun, replica_of, is_left, left_replicas, up_replicas};
-ghost use Rattle.cg_agree.specs.Show.{line_of};
-ghost use Rattle.cg_agree.specs.Touched.{new_lines_of};
+ghost use Rattle.cg_model.specs.World.{Life, no_world, running, seat_of, set_life, has_begun, replica_of, is_left, left_replicas, up_replicas};
+ghost use Rattle.cg_model.specs.Show.{line_of};
+ghost use Rattle.cg_model.specs.Touched.{new_lines_of};
 ghost use Rattle.cg_events.specs.Going.{said, with_news};
 ghost use Rattle.cg_events.specs.Seating.{with_left};
 
@@ -37,7 +37,7 @@ pub struct WorldState {
 }
 
 impl Model for WorldState {
-    ghost use Rattle.cg_agree.specs.World.{World};
+    ghost use Rattle.cg_model.specs.World.{World};
 
     ghost Value = { World };
 

@@ -4,8 +4,8 @@ ghost use Rattle.cg_group.specs.State.{is_up};
 ghost use Rattle.cg_step.specs.Crash.{FailOnce, StopWith};
 ghost use Rattle.cg_schedule.specs.declared.event.Event.TheVariants.{Stop, Fail, Recover};
 ghost use Rattle.cg_seat.specs.Calls.{crashed, risen};
-ghost use Rattle.cg_agree.specs.World.{replica_of};
-ghost use Rattle.cg_agree.specs.Step.{arm, stop, recover};
+ghost use Rattle.cg_model.specs.World.{replica_of};
+ghost use Rattle.cg_model.specs.Step.{arm, stop, recover};
 ghost use Rattle.cg_events.specs.Grounds.{IsSeated};
 ghost use Rattle.cg_events.specs.Happening.{Happens};
 ghost use Rattle.cg_events.specs.Going.{seated, fallen};
@@ -21,7 +21,7 @@ use std::alloc::Global;
 
 // The replica crashes now, or in the device call of this number from the next one on, which leaves these bytes in places that
 // weren't synced.
-#[tactic(auto, unfolding(cg_agree::specs::Admission::first_refusal, cg_agree::specs::Step::happens))]
+#[tactic(auto, unfolding(cg_model::specs::Admission::first_refusal, cg_model::specs::Step::happens))]
 pub(crate) fn stop(
     alloc: Global,
     state: WorldState,
@@ -97,7 +97,7 @@ fn arm_stop(state: &mut WorldState, p: ReplicaId, call: u64, fill: Bytes) -> Res
 }
 
 // The device call of this number, from the next one on, fails once.
-#[tactic(auto, unfolding(cg_agree::specs::Admission::first_refusal, cg_agree::specs::Step::happens))]
+#[tactic(auto, unfolding(cg_model::specs::Admission::first_refusal, cg_model::specs::Step::happens))]
 pub(crate) fn fail(alloc: Global, state: WorldState, p: ReplicaId, call: u64) -> Happened
     requires { 1 ≤ call }
     ensures { Happens state (Fail p call) result }
@@ -131,7 +131,7 @@ fn arm_fail(state: &mut WorldState, p: ReplicaId, call: u64) -> Result<(), NoMem
 }
 
 // The replica comes back from its disk.
-#[tactic(auto, unfolding(cg_agree::specs::Admission::first_refusal, cg_agree::specs::Step::happens))]
+#[tactic(auto, unfolding(cg_model::specs::Admission::first_refusal, cg_model::specs::Step::happens))]
 pub(crate) fn recover(alloc: Global, state: WorldState, p: ReplicaId) -> Happened
     requires { IsSeated state }
     ensures { Happens state (Recover p) result }

@@ -1,13 +1,13 @@
 //! Which replicas an event touches.
 ghost use Rattle.std.specs.Prelude.{◌≡◌};
-ghost use Rattle.cg_agree.specs.Touched.{touched};
+ghost use Rattle.cg_model.specs.Touched.{touched};
 
 use cg_base::IdSet;
 use cg_schedule::Event;
 
 /// The replicas whose lines may be news behind the event, by the law `others_show_nothing_new` of `cg_agree`. It
 /// takes no memory.
-#[tactic(auto, unfolding(cg_agree::specs::Touched::touched))]
+#[tactic(auto, unfolding(cg_model::specs::Touched::touched))]
 pub fn touched(event: &Event) -> IdSet
     ensures { result ≡ touched event.now }
 {

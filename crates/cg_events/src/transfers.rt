@@ -1,7 +1,7 @@
 //! The snapshots under way.
 ghost use Rattle.std.specs.Prelude.{◌≡◌, ◌++◌, ◌∷◌, [], ◌==◌, ◌&&◌, not, find, filter, position, OnOk, IfOk};
 ghost use Rattle.cg_records.specs.Limits.{IsNumber};
-ghost use Rattle.cg_agree.specs.World.{Snapshot};
+ghost use Rattle.cg_model.specs.World.{Snapshot};
 
 use cg_base::{Cut, NoMemory, ReplicaId};
 use cg_seat::Transfer;
@@ -18,7 +18,7 @@ pub(crate) struct Transfers {
 
 impl Model for Transfers {
     ghost use Rattle.std.specs.Prelude.{List};
-    ghost use Rattle.cg_agree.specs.World.{Snapshot};
+    ghost use Rattle.cg_model.specs.World.{Snapshot};
 
     ghost Value = { List Snapshot };
 

@@ -15,14 +15,14 @@ use Rattle.cg_group.specs.EachLaws.{Each, Each-has, Each-weaker, Each-all, list_
 use Rattle.cg_client.specs.Replica.{State, RegPrim, TransPrim, ExchangeStates, ExchangeActions, Construct, No, Un, NonPrim, Left, Replica}
 use Rattle.cg_wire.specs.declared.message.Msg.{Msg}
 use Rattle.cg_schedule.specs.declared.event.Event.TheVariants.{Split, Merge}
-use Rattle.cg_agree.specs.World.{Life, Up, Down as DownLife, Seat, World, has_begun, running, replica_of, is_left_state, is_left, left_replicas}
-use Rattle.cg_agree.specs.Admission.{unknown, has_left, takes_part, first_refusal}
-use Rattle.cg_agree.specs.AdmissionCalls.{already_up}
+use Rattle.cg_model.specs.World.{Life, Up, Down as DownLife, Seat, World, has_begun, running, replica_of, is_left_state, is_left, left_replicas}
+use Rattle.cg_model.specs.Admission.{unknown, has_left, takes_part, first_refusal}
+use Rattle.cg_model.specs.AdmissionCalls.{already_up}
 use Rattle.cg_generated.proofs.Calm.{CalmState}
 use Rattle.cg_generated.proofs.CalmEnds.{CalmLife}
-use Rattle.cg_agree.specs.PhaseLaws.{phase_at, phase-where}
+use Rattle.cg_model.specs.PhaseLaws.{phase_at, phase-where}
 use Rattle.cg_generated.proofs.WorldStands.{StandsIn}
-use Rattle.cg_agree.specs.SeatLaws.{seat_in}
+use Rattle.cg_model.specs.SeatLaws.{seat_in}
 
 -- ---- lists of tests
 

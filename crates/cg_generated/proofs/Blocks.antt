@@ -14,8 +14,8 @@ use Rattle.cg_group.specs.LookupLaws.{put, put-same, put-other}
 use Rattle.cg_schedule.specs.declared.event.Event.{Event}
 use Rattle.cg_schedule.specs.declared.event.Event.TheVariants.{Split, Merge, Recover, Gather, Stop}
 use Rattle.cg_gen.specs.Generated.{Drawing, next_number, draw, draw_from_one, ◌>>=◌, done, with_cell, cell_at, cell_of, increment, set_and_get, weak_get, passes, Block, line_alone, parting, in_one, joining, parting_or_joining, regrouping, restarted, restarting, asking, block_of, block}
-use Rattle.cg_agree.specs.Schedules.{Run, play}
-use Rattle.cg_agree.specs.PhaseLaws.{phase_at, all_at}
+use Rattle.cg_model.specs.Schedules.{Run, play}
+use Rattle.cg_model.specs.PhaseLaws.{phase_at, all_at}
 use Rattle.cg_generated.proofs.Steps.{Fine, fine-same, request-fine, weak-fine, gather-fine, split-fine, merge-fine, stop-fine, recover-fine, passes-fine}
 use Rattle.cg_generated.proofs.Cells.{IsIn, IsApart, not-both, flipped, something, IsCell, CellsFit, moved, moved-here, moved-other, with_cell-fits, at-cell, apart-at, again-fits, cell-new, rest-fits, AreHalves, parted-cell}
 

@@ -12,7 +12,7 @@ use Rattle.cg_group.specs.State.{Sent, Configuration, Standing, no_group, no_con
 use Rattle.cg_group.specs.Events.{come_up, go_down, send_from, send, send_all, with_receipt, with_message, order_from, order, receive, regulars, order_all, receive_all, gather, delivery_at, deliveries_at, with_delivered, deliver, furthest, transitional_places, handed_in_split, become_transitional, split, become_regular, merge}
 use Rattle.cg_group.specs.EachLaws.{Each, Each-append, Each-all}
 use Rattle.cg_group.specs.LookupLaws.{at_place-changed, unordered_of-set, configuration-set_standing, standing_of-down}
-use Rattle.cg_agree.specs.PhaseLaws.{Group, StandAlike, sent-place, gather-place, deliver-place, next_conf}
+use Rattle.cg_model.specs.PhaseLaws.{Group, StandAlike, sent-place, gather-place, deliver-place, next_conf}
 use Rattle.cg_generated.proofs.Calm.{CalmMessage, CalmDelivery, Each-map}
 
 -- ---- calm groups

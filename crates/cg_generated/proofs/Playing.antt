@@ -6,11 +6,11 @@ use Rattle.cg_group.specs.Ready.{ready}
 use Rattle.cg_schedule.specs.declared.event.Event.{Event}
 use Rattle.cg_schedule.specs.declared.event.Event.TheVariants.{Gather, Deliver, Rounds, End}
 use Rattle.cg_schedule.specs.declared.reader_state.ReaderState.{ReaderState}
-use Rattle.cg_agree.specs.World.{World, up_replicas}
-use Rattle.cg_agree.specs.Admission.{first_refusal}
-use Rattle.cg_agree.specs.Step.{world_step}
-use Rattle.cg_agree.specs.Run.{Refusal, step_limit}
-use Rattle.cg_agree.specs.Schedules.{Run, with_step, step_unless, step_on, step, deliver_some, deliver_ready as hand_ready, pass, passes as play_passes, play}
+use Rattle.cg_model.specs.World.{World, up_replicas}
+use Rattle.cg_model.specs.Admission.{first_refusal}
+use Rattle.cg_model.specs.Step.{world_step}
+use Rattle.cg_model.specs.Run.{Refusal, step_limit}
+use Rattle.cg_model.specs.Schedules.{Run, with_step, step_unless, step_on, step, deliver_some, deliver_ready as hand_ready, pass, passes as play_passes, play}
 use Rattle.cg_run.specs.declared.progress.Progress.{Progress}
 use Rattle.cg_run.specs.declared.status.Status.{Status}
 use Rattle.cg_run.specs.declared.status.Status.TheVariants as status

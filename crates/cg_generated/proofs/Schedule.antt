@@ -12,8 +12,8 @@ use Rattle.cg_schedule.specs.declared.event.Event.{Event}
 use Rattle.cg_schedule.specs.declared.event.Event.TheVariants.{Start, Merge}
 use Rattle.cg_gen.specs.Generated.{draw, draw_from_one, GeneratorState, line_with, events_left, at_the_start, generated}
 use Rattle.cg_generated.specs.Admitted.{GeneratedAreAdmitted}
-use Rattle.cg_agree.specs.PhaseLaws.{phase_at, all_at}
-use Rattle.cg_agree.specs.Schedules.{Run, no_run, play, run_of}
+use Rattle.cg_model.specs.PhaseLaws.{phase_at, all_at}
+use Rattle.cg_model.specs.Schedules.{Run, no_run, play, run_of}
 use Rattle.cg_generated.proofs.Steps.{Fine, fine-same, merge-fine, start-fine}
 use Rattle.cg_generated.proofs.Blocks.{regular_at, GoesOn, drawn-below, block-goes}
 

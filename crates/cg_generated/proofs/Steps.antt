@@ -17,17 +17,17 @@ use Rattle.cg_group.specs.PlaceLaws.{ready_in-within}
 use Rattle.cg_group.specs.LookupLaws.{put, eqb_comm}
 use Rattle.cg_schedule.specs.declared.event.Event.{Event}
 use Rattle.cg_schedule.specs.declared.event.Event.TheVariants.{Start, Split, Merge, Request, Weak, Recover, Gather, Deliver, Stop}
-use Rattle.cg_agree.specs.World.{Seat, World, no_world, running, up_replicas}
-use Rattle.cg_agree.specs.Admission.{unknown, first_refusal}
-use Rattle.cg_agree.specs.AdmissionCalls.{already_up}
-use Rattle.cg_agree.specs.Show.{ended}
-use Rattle.cg_agree.specs.Step.{quietly, begin_replica, happens, world_step}
-use Rattle.cg_agree.specs.PhaseLaws.{where_is, phase_at, phase-where, all_at, merged, split-place, next_conf, merge-place}
+use Rattle.cg_model.specs.World.{Seat, World, no_world, running, up_replicas}
+use Rattle.cg_model.specs.Admission.{unknown, first_refusal}
+use Rattle.cg_model.specs.AdmissionCalls.{already_up}
+use Rattle.cg_model.specs.Show.{ended}
+use Rattle.cg_model.specs.Step.{quietly, begin_replica, happens, world_step}
+use Rattle.cg_model.specs.PhaseLaws.{where_is, phase_at, phase-where, all_at, merged, split-place, next_conf, merge-place}
 use Rattle.cg_generated.proofs.GroupStands.{none-calm, gather-keeps, deliver-keeps, deliver-calm, split-calm, merge-calm}
 use Rattle.cg_generated.proofs.WorldStands.{StandsIn, stands-same, stands-in, stands-kept, hand-stands, handed_out-stands, begun-stands, crashed-stands, recovered-stands}
 use Rattle.cg_generated.proofs.Admits.{none-then, passes as lets_pass, some-member, is-known, stands-up, is-down, takes-part, may-split, may-merge}
-use Rattle.cg_agree.specs.SeatLaws.{seat_in}
-use Rattle.cg_agree.specs.Schedules.{Run, no_run, step_unless, step_on, step, deliver_some, deliver_ready, pass, passes, play}
+use Rattle.cg_model.specs.SeatLaws.{seat_in}
+use Rattle.cg_model.specs.Schedules.{Run, no_run, step_unless, step_on, step, deliver_some, deliver_ready, pass, passes, play}
 
 pub record Fine (begun : ℕ → Bool) (at : ℕ → Option Phase) (run : Run) : Type 0 where
   pub free : run.refused ≡ None

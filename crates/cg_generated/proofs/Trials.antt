@@ -12,7 +12,7 @@ use Rattle.cg_schedule.specs.Laws.{MayStand, Reads}
 use Rattle.cg_schedule.specs.Limits.{IsEvent}
 use Rattle.cg_schedule.specs.Line.{first_state, state_after, word_of, opening, opening_of, reading_behind}
 use Rattle.cg_schedule.specs.Print.{line_of}
-use Rattle.cg_agree.specs.Schedules.{Run, no_run, play, run_of}
+use Rattle.cg_model.specs.Schedules.{Run, no_run, play, run_of}
 use Rattle.cg_gen.specs.Generated.{events_left, generated}
 use Rattle.cg_gen.specs.GeneratedLaws.{AllStand, generated-stands}
 use Rattle.cg_run.specs.declared.progress.Ending.TheVariants.{Ended}

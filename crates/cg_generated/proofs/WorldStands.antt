@@ -15,15 +15,15 @@ use Rattle.cg_group.specs.LookupLaws.{at-cond, put, put-own, eqb_comm}
 use Rattle.cg_client.specs.Replica.{Replica, fresh}
 use Rattle.cg_step.specs.Step.{Input, Deliveries, replica_step}
 use Rattle.cg_step.specs.Crash.{Disk, new_disk, Ended, Runs, Crashes, end_event, at_rest, recovered, disk_recovered}
-use Rattle.cg_agree.specs.World.{Life, Up, Down, Seat, World, running, seat_of, with_seat}
-use Rattle.cg_agree.specs.Show.{Going}
-use Rattle.cg_agree.specs.Step.{quietly, after_event, hand_to, hand, hand_over, hand_out, begin_replica, crash_at, recover_from}
+use Rattle.cg_model.specs.World.{Life, Up, Down, Seat, World, running, seat_of, with_seat}
+use Rattle.cg_model.specs.Show.{Going}
+use Rattle.cg_model.specs.Step.{quietly, after_event, hand_to, hand, hand_over, hand_out, begin_replica, crash_at, recover_from}
 use Rattle.cg_generated.proofs.Calm.{CalmMessage, CalmTurn}
 use Rattle.cg_generated.proofs.CalmRows.{CalmInput, step-calm}
 use Rattle.cg_generated.proofs.CalmEnds.{CalmLife, RunsOn, ended-calm, crashed-calm, recovered-calm, fresh-calm}
-use Rattle.cg_agree.specs.PhaseLaws.{Group, where_is, up-place, down-place}
+use Rattle.cg_model.specs.PhaseLaws.{Group, where_is, up-place, down-place}
 use Rattle.cg_generated.proofs.GroupStands.{CalmGroup, Keeps, sent-keeps, CalmHanded, up-calm, down-calm}
-use Rattle.cg_agree.specs.SeatLaws.{seat_in, found-seat}
+use Rattle.cg_model.specs.SeatLaws.{seat_in, found-seat}
 
 -- ---- seats
 

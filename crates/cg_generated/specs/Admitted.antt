@@ -3,7 +3,7 @@ use Rattle.std.specs.Prelude.{◌≡◌, ℕ, ◌<◌, List, Option, Some, None}
 use Rattle.cg_base.specs.Sets.{IsId}
 use Rattle.cg_gen.specs.Generated.{generated}
 use Rattle.cg_gen.specs.Lines.{lines_of}
-use Rattle.cg_agree.specs.Schedules.{run_of}
+use Rattle.cg_model.specs.Schedules.{run_of}
 use Rattle.cg_run.specs.declared.command.Command.TheVariants.{Replay, Trial}
 use Rattle.cg_run.specs.declared.progress.Ending.{Ending}
 use Rattle.cg_run.specs.declared.progress.Ending.TheVariants.{Ended}

@@ -18,7 +18,7 @@ use Rattle.cg_schedule.specs.Limits as line
 use Rattle.cg_schedule.specs.Laws.{Reads, ReadsAs}
 use Rattle.cg_schedule.specs.Reading.{whole}
 use Rattle.cg_schedule.specs.Line.{is_start, event_word, fits, state_after, opening, event_reading, reading_behind, some_event}
-use Rattle.cg_agree.specs.Run.{MayAsk}
+use Rattle.cg_model.specs.Run.{MayAsk}
 use Rattle.cg_world.specs.Steps.{IsCounted}
 use Rattle.cg_run.specs.declared.progress.Progress.{Progress}
 use Rattle.cg_run.specs.UnderWay.{IsUnderWay, MayHappen, IsNext}

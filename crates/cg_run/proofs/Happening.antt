@@ -2,7 +2,7 @@
 use Rattle.std.proofs.Common.{◌≡◌, ℕ, suc, ◌+◌, ◌-◌, ◌<◌, List, ◌∷◌, refl, sym, ap, arith}
 use Rattle.cg_report.specs.declared.entry.Entry.{Entry}
 use Rattle.cg_schedule.specs.declared.event.Event.{Event}
-use Rattle.cg_agree.specs.World.{World}
+use Rattle.cg_model.specs.World.{World}
 use Rattle.cg_world.specs.declared.world.Stepped.TheVariants as answer
 use Rattle.cg_world.specs.Steps.{Steps}
 use Rattle.cg_run.specs.declared.progress.Progress.{Progress}

@@ -19,12 +19,12 @@ use Rattle.cg_schedule.specs.declared.fault.LineFault.TheVariants.{Syntax, NoMem
 use Rattle.cg_schedule.specs.declared.reader_state.ReaderState.{ReaderState}
 use Rattle.cg_schedule.specs.Laws.{Reads}
 use Rattle.cg_schedule.specs.Line.{first_state, reading, state_after, state_behind}
-use Rattle.cg_agree.specs.World.{World, has_begun, up_replicas}
-use Rattle.cg_agree.specs.Admission.{first_refusal}
-use Rattle.cg_agree.specs.Show.{Moved}
-use Rattle.cg_agree.specs.Step.{world_step}
-use Rattle.cg_agree.specs.Run.{step_limit}
-use Rattle.cg_agree.specs.SeatLaws.{begun_stay, up_begun}
+use Rattle.cg_model.specs.World.{World, has_begun, up_replicas}
+use Rattle.cg_model.specs.Admission.{first_refusal}
+use Rattle.cg_model.specs.Show.{Moved}
+use Rattle.cg_model.specs.Step.{world_step}
+use Rattle.cg_model.specs.Run.{step_limit}
+use Rattle.cg_model.specs.SeatLaws.{begun_stay, up_begun}
 use Rattle.cg_run.specs.declared.progress.Ending.{Ending}
 use Rattle.cg_run.specs.declared.progress.Ending.TheVariants.{Ended, Failed, Open}
 use Rattle.cg_run.specs.declared.command.Command.{Command}

@@ -10,10 +10,10 @@ use Rattle.cg_schedule.specs.declared.event.Event.TheVariants.{Gather, Deliver, 
 use Rattle.cg_schedule.specs.declared.fault.LineFault.{LineFault}
 use Rattle.cg_schedule.specs.declared.fault.LineFault.TheVariants.{Syntax, NoMemory}
 use Rattle.cg_schedule.specs.Line.{reading, state_after}
-use Rattle.cg_agree.specs.World.{up_replicas}
-use Rattle.cg_agree.specs.Admission.{first_refusal}
-use Rattle.cg_agree.specs.Step.{world_step}
-use Rattle.cg_agree.specs.Run.{step_limit}
+use Rattle.cg_model.specs.World.{up_replicas}
+use Rattle.cg_model.specs.Admission.{first_refusal}
+use Rattle.cg_model.specs.Step.{world_step}
+use Rattle.cg_model.specs.Run.{step_limit}
 use Rattle.cg_run.specs.declared.progress.Ending.{Ending}
 use Rattle.cg_run.specs.declared.progress.Ending.TheVariants.{Ended, Failed, Open}
 use Rattle.cg_run.specs.declared.command.Command.{Command}

@@ -6,7 +6,7 @@ use Rattle.std.proofs.lemmas.List.Elements.{All-append, All-take}
 use Rattle.std.proofs.Math.Seq.{take-append-add}
 use Rattle.cg_base.specs.Text.{pieces_of}
 use Rattle.cg_io.specs.Outside.{SinkView}
-use Rattle.cg_agree.specs.Run.{Step}
+use Rattle.cg_model.specs.Run.{Step}
 use Rattle.cg_run.specs.declared.progress.Ending.{Ending}
 use Rattle.cg_run.specs.declared.progress.Ending.TheVariants.{Ended, Failed, Open}
 use Rattle.cg_run.specs.declared.progress.Progress.{Progress}

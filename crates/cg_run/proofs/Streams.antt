@@ -6,7 +6,7 @@ use Rattle.std.proofs.lemmas.List.Elements.{All-nil, All-take}
 use Rattle.std.proofs.Math.Seq.{take-append-add}
 use Rattle.std.specs.Io.KnownBytes.{Consumes, Keeps, Appends}
 use Rattle.cg_io.specs.Outside.{SourceView, SinkView, PutsAll}
-use Rattle.cg_agree.specs.Run.{Step}
+use Rattle.cg_model.specs.Run.{Step}
 use Rattle.cg_run.specs.declared.progress.Ending.{Ending}
 use Rattle.cg_run.specs.declared.progress.Ending.TheVariants.{Ended, Failed, Open}
 use Rattle.cg_run.specs.declared.progress.Report.{Report}

@@ -5,7 +5,7 @@ use Rattle.cg_base.specs.Text.{is_nil}
 use Rattle.cg_io.specs.Outside.{SinkView}
 use Rattle.cg_schedule.specs.declared.event.Event.{Event}
 use Rattle.cg_schedule.specs.Print.{line_of}
-use Rattle.cg_agree.specs.Run.{Step}
+use Rattle.cg_model.specs.Run.{Step}
 use Rattle.cg_run.specs.declared.progress.Ending.TheVariants.{Ended}
 use Rattle.cg_run.specs.declared.progress.Progress.{Progress}
 use Rattle.cg_run.specs.declared.progress.Report.TheVariants.{Tail}

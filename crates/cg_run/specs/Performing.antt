@@ -1,7 +1,7 @@
 -- What putting a part of a run comes to, where the run may go on.
 use Rattle.std.specs.Prelude.{◌≡◌, ℕ, List, None, Result, MatchResult, ⊤}
 use Rattle.cg_io.specs.Outside.{SinkView}
-use Rattle.cg_agree.specs.Run.{Step}
+use Rattle.cg_model.specs.Run.{Step}
 use Rattle.cg_run.specs.Produced.{Produced, prepend, report_in, text_of, status_of}
 use Rattle.cg_run.specs.declared.progress.Progress.{Progress}
 use Rattle.cg_run.specs.declared.progress.Report.{Report}

@@ -5,14 +5,14 @@ use Rattle.std.specs.Option.{option_map_or}
 use Rattle.cg_group.specs.declared.reason.Reason.{Reason}
 use Rattle.cg_schedule.specs.declared.event.Event.{Event}
 use Rattle.cg_schedule.specs.Line.{first_state}
-use Rattle.cg_agree.specs.World.{no_world}
-use Rattle.cg_agree.specs.Admission.{first_refusal}
-use Rattle.cg_agree.specs.Show.{Moved}
-use Rattle.cg_agree.specs.Step.{world_step}
+use Rattle.cg_model.specs.World.{no_world}
+use Rattle.cg_model.specs.Admission.{first_refusal}
+use Rattle.cg_model.specs.Show.{Moved}
+use Rattle.cg_model.specs.Step.{world_step}
 use Rattle.std.specs.List.{flat_map}
 use Rattle.cg_report.specs.declared.entry.Entry.{Entry}
 use Rattle.cg_report.specs.EntryText.{entry_text}
-use Rattle.cg_agree.specs.Run.{Step, Refusal, step_limit}
+use Rattle.cg_model.specs.Run.{Step, Refusal, step_limit}
 use Rattle.cg_run.specs.declared.progress.Progress.{Progress}
 use Rattle.cg_run.specs.declared.progress.Report.{Report}
 use Rattle.cg_run.specs.declared.progress.Report.TheVariants.{Whole, Tail}

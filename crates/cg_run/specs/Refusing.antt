@@ -6,9 +6,9 @@ use Rattle.cg_schedule.specs.declared.event.Event.{Event}
 use Rattle.cg_schedule.specs.declared.reader_state.ReaderState.{ReaderState}
 use Rattle.cg_schedule.specs.Line.{first_state, reading, state_behind}
 use Rattle.cg_schedule.specs.Laws.{Reads}
-use Rattle.cg_agree.specs.World.{no_world}
-use Rattle.cg_agree.specs.Admission.{first_refusal}
-use Rattle.cg_agree.specs.Run.{Step, world_after}
+use Rattle.cg_model.specs.World.{no_world}
+use Rattle.cg_model.specs.Admission.{first_refusal}
+use Rattle.cg_model.specs.Run.{Step, world_after}
 use Rattle.cg_run.specs.Outcome.{without_return}
 
 -- the reader's state behind whole lines

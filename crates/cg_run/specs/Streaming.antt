@@ -5,7 +5,7 @@ use Rattle.std.specs.List.{All}
 use Rattle.std.specs.Io.KnownBytes.{Consumes}
 use Rattle.cg_base.specs.Text.{pieces_of}
 use Rattle.cg_io.specs.Outside.{SourceView, SinkView}
-use Rattle.cg_agree.specs.Run.{Step}
+use Rattle.cg_model.specs.Run.{Step}
 use Rattle.cg_run.specs.declared.command.Command.{Command}
 use Rattle.cg_run.specs.declared.progress.Ending.{Ending}
 use Rattle.cg_run.specs.declared.progress.Ending.TheVariants.{Failed, Open}

@@ -4,8 +4,8 @@ use Rattle.std.specs.Io.KnownBytes.{Consumes, IsAtEnd}
 use Rattle.cg_base.specs.Text.{pieces_of}
 use Rattle.cg_io.specs.Outside.{SourceView, SinkView, PutsAll}
 use Rattle.cg_group.specs.declared.reason.Reason.{Reason}
-use Rattle.cg_agree.specs.Run.{Step}
-use Rattle.cg_agree.specs.Agreement.{RefusedExactly}
+use Rattle.cg_model.specs.Run.{Step}
+use Rattle.cg_model.specs.Agreement.{RefusedExactly}
 use Rattle.cg_run.specs.declared.progress.Ending.{Ending}
 use Rattle.cg_run.specs.declared.progress.Ending.TheVariants.{Ended, Failed, Open}
 use Rattle.cg_run.specs.declared.status.Status.{Status}

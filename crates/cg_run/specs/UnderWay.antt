@@ -3,8 +3,8 @@ use Rattle.std.specs.Prelude.{◌≡◌, ◌<◌, true, false, length}
 use Rattle.cg_schedule.specs.declared.event.Event.{Event}
 use Rattle.cg_schedule.specs.declared.event.Event.TheVariants.{Rounds, End}
 use Rattle.cg_schedule.specs.Line.{state_after}
-use Rattle.cg_agree.specs.World.{World, no_world}
-use Rattle.cg_agree.specs.Run.{MayStand}
+use Rattle.cg_model.specs.World.{World, no_world}
+use Rattle.cg_model.specs.Run.{MayStand}
 use Rattle.cg_world.specs.Steps.{IsCounted}
 use Rattle.cg_run.specs.declared.progress.Progress.{Progress}
 

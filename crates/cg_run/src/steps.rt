@@ -1,6 +1,6 @@
 ghost use Rattle.std.specs.Prelude.{◌≡◌, ◌<◌, ◌^◌, true, length, IfOk};
 ghost use Rattle.cg_schedule.specs.declared.event.Event.{Event};
-ghost use Rattle.cg_agree.specs.Run.{MayStand};
+ghost use Rattle.cg_model.specs.Run.{MayStand};
 ghost use Rattle.cg_world.specs.Steps.{IsCounted};
 ghost use Rattle.cg_run.specs.Produced.{stepped, one_step};
 ghost use Rattle.cg_run.specs.Performing.{Performs};

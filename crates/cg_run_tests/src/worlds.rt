@@ -1,6 +1,6 @@
 ghost use Rattle.std.specs.Prelude.{IfOk};
-ghost use Rattle.cg_agree.specs.Run.{MayStand};
-ghost use Rattle.cg_agree.specs.SeatLaws.{IsSeated};
+ghost use Rattle.cg_model.specs.Run.{MayStand};
+ghost use Rattle.cg_model.specs.SeatLaws.{IsSeated};
 ghost use Rattle.cg_world.specs.Steps.{IsCounted};
 
 use cg_action::{CmdList, Kind, Query};

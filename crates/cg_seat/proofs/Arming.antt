@@ -8,7 +8,7 @@ use Rattle.cg_step.specs.Crash.{Strike}
 use Rattle.cg_store.specs.Defined.{fault_of}
 use Rattle.cg_engine.specs.Engines.{Up as UpEngine, IsSame}
 use Rattle.cg_engine.specs.Defined.{strike_from}
-use Rattle.cg_agree.specs.World.{Up}
+use Rattle.cg_model.specs.World.{Up}
 use Rattle.cg_seat.specs.Calls.{seat, armed}
 use Rattle.cg_seat.specs.Seen.{standing_at, state_at, disk_seen, up_seen}
 use Rattle.cg_seat.specs.SeenLaws.{state-at}

@@ -15,8 +15,8 @@ use Rattle.cg_engine.specs.Engines.{Fallen}
 use Rattle.cg_join.specs.Finishing.{Joining}
 use Rattle.cg_join.specs.Handing.{IsTaking}
 use Rattle.cg_join.specs.Snapshot.{Snapshot as JoinSnapshot, parts_of}
-use Rattle.cg_agree.specs.Step.{joined}
-use Rattle.cg_agree.specs.World.{Up, Snapshot}
+use Rattle.cg_model.specs.Step.{joined}
+use Rattle.cg_model.specs.World.{Up, Snapshot}
 use Rattle.cg_seat.specs.Calls.{seat, arrived, risen}
 use Rattle.cg_seat.specs.Resting.{IsResting}
 use Rattle.cg_seat.specs.Seen.{disk_left, down_seen}

@@ -14,7 +14,7 @@ use Rattle.cg_store.specs.Stands.{OnDisk, Stands, created, disk_of}
 use Rattle.cg_engine.specs.Answers.{IsStarted}
 use Rattle.cg_engine.specs.Defined.{strike_from}
 use Rattle.cg_engine.specs.Engines.{Up as UpEngine}
-use Rattle.cg_agree.specs.World.{Up}
+use Rattle.cg_model.specs.World.{Up}
 use Rattle.cg_seat.specs.Calls.{seat, begun}
 use Rattle.cg_seat.specs.Seen.{disk_seen, up_seen}
 use Rattle.cg_seat.specs.SeenLaws.{disk-seen}

@@ -10,8 +10,8 @@ use Rattle.cg_store.specs.Stands.{Stands, disk_of}
 use Rattle.cg_engine.specs.Answers.{IsRecovered}
 use Rattle.cg_engine.specs.Defined.{strike_from}
 use Rattle.cg_engine.specs.Engines.{Up as UpEngine, Fallen}
-use Rattle.cg_agree.specs.Show.{News, news_of_recovery}
-use Rattle.cg_agree.specs.World.{Up, Seat}
+use Rattle.cg_model.specs.Show.{News, news_of_recovery}
+use Rattle.cg_model.specs.World.{Up, Seat}
 use Rattle.cg_seat.specs.Calls.{seat, risen}
 use Rattle.cg_seat.specs.Resting.{IsResting}
 use Rattle.cg_seat.specs.Seen.{disk_seen, disk_left, green_left, up_seen, down_seen}

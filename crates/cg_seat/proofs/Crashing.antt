@@ -10,7 +10,7 @@ use Rattle.cg_step.specs.Crash.{at_rest}
 use Rattle.cg_store.specs.Stands.{OnDisk, Stands, disk_of}
 use Rattle.cg_engine.specs.Answers.{Falls}
 use Rattle.cg_engine.specs.Engines.{Up as UpEngine, Fallen, told}
-use Rattle.cg_agree.specs.World.{Down}
+use Rattle.cg_model.specs.World.{Down}
 use Rattle.cg_seat.specs.Calls.{seat, crashed}
 use Rattle.cg_seat.specs.Seen.{state_at, disk_seen, up_seen, FallsTo, fallen}
 use Rattle.cg_seat.specs.SeenLaws.{state-at, disk-seen}

@@ -22,7 +22,7 @@ use Rattle.cg_engine.specs.Defined.{EndsAsDefined, HandlesAsDefined}
 use Rattle.cg_engine.specs.Engines.{Up as UpEngine, Fallen, IsEngine, told}
 use Rattle.cg_engine.specs.declared.answers.Handled.{Handled}
 use Rattle.cg_engine.specs.declared.answers.Handled.TheVariants as handled
-use Rattle.cg_agree.specs.World.{Up, Down, Seat}
+use Rattle.cg_model.specs.World.{Up, Down, Seat}
 use Rattle.cg_seat.specs.Calls.{Spoken, spoken_of, seat, behind, taken}
 use Rattle.cg_seat.specs.Seen.{disk_seen, up_seen, FallsTo, fallen, said}
 use Rattle.cg_seat.specs.SeenLaws.{disk-seen, state-at}

@@ -6,7 +6,7 @@ use Rattle.cg_disk.specs.State.{DiskState, left_by}
 use Rattle.cg_disk.specs.View.{DiskView}
 use Rattle.cg_store.specs.Stands.{OnDisk, Stands}
 use Rattle.cg_engine.specs.Engines.{Fallen, told}
-use Rattle.cg_agree.specs.World.{Down}
+use Rattle.cg_model.specs.World.{Down}
 use Rattle.cg_seat.specs.Calls.{seat}
 use Rattle.cg_seat.specs.Seen.{FallsTo, fallen, down_seen}
 use Rattle.cg_seat.specs.SeenLaws.{state-at, disk-left, green-left}

@@ -18,9 +18,9 @@ use Rattle.cg_report.specs.declared.entry.Shown.TheVariants.{Weak as ShownWeak, 
 use Rattle.cg_step.specs.Crash.{Strike, Ended, Runs, Crashes, new_disk, end_event, at_rest, recovered, disk_recovered}
 use Rattle.cg_step.specs.Recorded.{AreBooked}
 use Rattle.cg_step.specs.Step.{Input, replica_step}
-use Rattle.cg_agree.specs.World.{Life, Up, Down, Seat, Snapshot, running, is_left_state}
-use Rattle.cg_agree.specs.Show.{News, news_of, news_of_recovery, up_line}
-use Rattle.cg_agree.specs.Step.{shown_of, joined}
+use Rattle.cg_model.specs.World.{Life, Up, Down, Seat, Snapshot, running, is_left_state}
+use Rattle.cg_model.specs.Show.{News, news_of, news_of_recovery, up_line}
+use Rattle.cg_model.specs.Step.{shown_of, joined}
 
 -- what a replica has to say behind an event: what is to be shown of it, and its messages
 pub record Spoken : Type 0 where

@@ -14,7 +14,7 @@ use Rattle.cg_store.specs.Stands.{OnDisk, Stands, stands_for, created, disk_of}
 use Rattle.cg_store.specs.declared.outputs.Outputs.{Outputs}
 use Rattle.cg_engine.specs.Engines.{Up as UpEngine, Fallen, told}
 use Rattle.cg_engine.specs.Defined.{account}
-use Rattle.cg_agree.specs.World.{Up, Down, Seat}
+use Rattle.cg_model.specs.World.{Up, Down, Seat}
 use Rattle.cg_seat.specs.Calls.{Spoken, seat}
 use Rattle.cg_seat.specs.declared.life.Life.{Life}
 use Rattle.cg_seat.specs.declared.life.Life.TheVariants.{Up as UpHeld, Down as DownHeld}

@@ -2,7 +2,7 @@
 ghost use Rattle.std.specs.Prelude.{◌≡◌, ◌∷◌, [], IfOk, is_some};
 ghost use Rattle.cg_client.specs.Queries.{weak_answer, dirty_answer};
 ghost use Rattle.cg_report.specs.declared.entry.Shown.TheVariants.{Weak as ShownWeak, Dirty as ShownDirty};
-ghost use Rattle.cg_agree.specs.World.{running};
+ghost use Rattle.cg_model.specs.World.{running};
 ghost use Rattle.cg_seat.specs.Calls.{line_in, is_gone, knows_left, knows_server, shows, shows_weak, shows_dirty};
 ghost use Rattle.cg_seat.specs.Looks.{shown_in};
 

@@ -17,7 +17,7 @@ pub struct Seat {
 }
 
 impl Model for Seat {
-    ghost use Rattle.cg_agree.specs.World.{Seat};
+    ghost use Rattle.cg_model.specs.World.{Seat};
     ghost use Rattle.cg_seat.specs.Seen.{seen};
 
     ghost Value = { Seat };

@@ -7,7 +7,7 @@ ghost use Rattle.cg_client.specs.Calls.{kind_of};
 ghost use Rattle.cg_replica.specs.Inputs.{input_of, HasLimits};
 ghost use Rattle.cg_step.specs.Recorded.{AreBooked};
 ghost use Rattle.cg_step.specs.Step.{Deliveries, Asks};
-ghost use Rattle.cg_agree.specs.World.{Up};
+ghost use Rattle.cg_model.specs.World.{Up};
 ghost use Rattle.cg_seat.specs.Calls.{begun, taken, IsBookedFor};
 ghost use Rattle.cg_store.specs.Stands.{OnDisk};
 ghost use Rattle.cg_seat.specs.Seen.{disk_seen, up_seen, FallsTo, fallen, said};

@@ -33,7 +33,7 @@ pub struct Transfer {
 
 impl Model for Transfer {
     ghost use Rattle.std.specs.Prelude.{length};
-    ghost use Rattle.cg_agree.specs.World.{Snapshot};
+    ghost use Rattle.cg_model.specs.World.{Snapshot};
     ghost use Rattle.cg_seat.specs.Copies.{IsCopy};
 
     ghost Value = { Snapshot };

@@ -7,7 +7,7 @@ use Rattle.std.proofs.lemmas.Bool.{cases_Bool, cond-true, cond-false, lt-ltb, le
 use Rattle.cg_base.specs.declared.action_id.ActionId.{ActionId}
 use Rattle.cg_base.specs.Ids.{same_id}
 use Rattle.cg_report.specs.declared.entry.Reply.{Reply}
-use Rattle.cg_agree.specs.Show.{Answered, answered_from}
+use Rattle.cg_model.specs.Show.{Answered, answered_from}
 use Rattle.cg_show.specs.Showing.{FindsFrom}
 use Rattle.cg_show.proofs.Printing.{there, nowhere}
 

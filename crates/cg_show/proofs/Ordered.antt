@@ -3,7 +3,7 @@ use Rattle.std.proofs.Common.{◌≡◌, ℕ, zero, suc, ◌+◌, ◌≤◌, ◌
 use Rattle.std.specs.List.{insert}
 use Rattle.std.proofs.lemmas.Bool.{cond-true, cond-false, cases_Bool, ltb-true, ltb-false, lt-ltb, le-ltb}
 use Rattle.cg_base.specs.declared.action_id.ActionId.{ActionId}
-use Rattle.cg_agree.specs.Show.{Answered, answered_from, with_answered}
+use Rattle.cg_model.specs.Show.{Answered, answered_from, with_answered}
 use Rattle.cg_show.specs.Showing.{StartsFrom, Ascend}
 
 next-ascends : (xs : List Answered) → Ascend xs → (k : ℕ) (d : Answered) → suc k < length xs → (get_or xs k d).place ≤ (get_or xs (suc k) d).place

@@ -4,7 +4,7 @@ use Rattle.std.specs.Prelude.{◌==◌, nat_lt}
 use Rattle.std.specs.List.{position, slice_set, position_or_len}
 use Rattle.std.proofs.lemmas.Bool.{cases_Bool, cases_lt, cond-true, cond-false, lt-ltb, le-ltb}
 use Rattle.cg_report.specs.declared.line.Line.{Line}
-use Rattle.cg_agree.specs.Show.{with_printed}
+use Rattle.cg_model.specs.Show.{with_printed}
 
 index_of : ℕ → List Line → ℕ
 index_of p xs = position_or_len (λ l. l.id == p) xs

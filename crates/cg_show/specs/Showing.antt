@@ -7,8 +7,8 @@ use Rattle.cg_report.specs.declared.entry.Made.{Made}
 use Rattle.cg_report.specs.declared.entry.Placed.{Placed}
 use Rattle.cg_report.specs.declared.entry.Reply.{Reply}
 use Rattle.cg_report.specs.declared.entry.Shown.{Shown}
-use Rattle.cg_agree.specs.Show.{Answered, News, beyond, placed_from, answered_from, with_answered}
-use Rattle.cg_agree.specs.Making.{made_of_action}
+use Rattle.cg_model.specs.Show.{Answered, News, beyond, placed_from, answered_from, with_answered}
+use Rattle.cg_model.specs.Making.{made_of_action}
 
 -- what a step shows so far
 pub record Shows : Type 0 where

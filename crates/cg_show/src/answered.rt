@@ -1,7 +1,7 @@
 ghost use Rattle.std.specs.Prelude.{◌≡◌, ◌+◌, ◌≤◌, ◌<◌, ◌^◌, [], map, fold, length, position, IfOk, OnOk};
 ghost use Rattle.std.specs.List.{insert};
 ghost use Rattle.cg_base.specs.Ids.{same_id};
-ghost use Rattle.cg_agree.specs.Show.{Answered, answered_from, with_answered};
+ghost use Rattle.cg_model.specs.Show.{Answered, answered_from, with_answered};
 ghost use Rattle.cg_show.specs.Showing.{FindsFrom};
 
 use cg_base::{ActionId, NoMemory, Row};
@@ -17,7 +17,7 @@ pub(crate) struct Answered {
 }
 
 impl Model for Answered {
-    ghost use Rattle.cg_agree.specs.Show.{Answered};
+    ghost use Rattle.cg_model.specs.Show.{Answered};
 
     ghost Value = { Answered };
 
@@ -32,7 +32,7 @@ pub struct Replies {
 
 impl Model for Replies {
     ghost use Rattle.std.specs.Prelude.{List};
-    ghost use Rattle.cg_agree.specs.Show.{Answered};
+    ghost use Rattle.cg_model.specs.Show.{Answered};
     ghost use Rattle.cg_show.specs.Showing.{Ascend};
 
     ghost Value = { List Answered };

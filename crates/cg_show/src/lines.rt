@@ -1,6 +1,6 @@
 ghost use Rattle.std.specs.Prelude.{◌≡◌, ◌==◌, [], find, fold, position, IfOk, OnOk};
 ghost use Rattle.std.specs.Option.{option_copied};
-ghost use Rattle.cg_agree.specs.Show.{is_news, with_printed};
+ghost use Rattle.cg_model.specs.Show.{is_news, with_printed};
 
 use cg_base::{NoMemory, ReplicaId};
 use cg_report::{Line, UpLine, View};

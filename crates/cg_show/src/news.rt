@@ -1,5 +1,5 @@
 ghost use Rattle.std.specs.Prelude.{◌≡◌, IfOk};
-ghost use Rattle.cg_agree.specs.Show.{news_of_recovery, unshown};
+ghost use Rattle.cg_model.specs.Show.{news_of_recovery, unshown};
 
 use cg_action::ActionList;
 use cg_base::{Cut, IdList, NoMemory, Row};
@@ -18,7 +18,7 @@ pub struct News {
 }
 
 impl Model for News {
-    ghost use Rattle.cg_agree.specs.Show.{News};
+    ghost use Rattle.cg_model.specs.Show.{News};
 
     ghost Value = { News };
 

@@ -1,6 +1,6 @@
 ghost use Rattle.std.specs.Prelude.{◌≡◌, IfOk};
 ghost use Rattle.cg_client.specs.Queries.{view_of};
-ghost use Rattle.cg_agree.specs.Show.{shown_phase};
+ghost use Rattle.cg_model.specs.Show.{shown_phase};
 
 use cg_base::NoMemory;
 use cg_client::Core;

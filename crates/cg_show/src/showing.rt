@@ -2,8 +2,8 @@ ghost use Rattle.std.specs.Prelude.{◌≡◌, ◌++◌, ◌∷◌, [], List, ma
 ghost use Rattle.cg_base.specs.declared.action_id.ActionId.{ActionId as ActionName};
 ghost use Rattle.cg_base.specs.Cuts.{raise};
 ghost use Rattle.cg_queue.specs.Queue.{names_of};
-ghost use Rattle.cg_agree.specs.Show.{beyond, placed_from};
-ghost use Rattle.cg_agree.specs.Making.{made_of_action};
+ghost use Rattle.cg_model.specs.Show.{beyond, placed_from};
+ghost use Rattle.cg_model.specs.Making.{made_of_action};
 ghost use Rattle.cg_show.specs.Showing.{nothing_shown, shows_after, order_after, made_after};
 
 use crate::News;

@@ -39,12 +39,12 @@ use Rattle.cg_knowledge.specs.Members.{remaining}
 use Rattle.cg_queue.specs.Queue.{green_count}
 use Rattle.cg_client.specs.Replica.{Held, Replica, NonPrim, fresh_held}
 use Rattle.cg_step.specs.Crash.{new_disk}
-use Rattle.cg_agree.specs.World.{Life, Up, Down, Seat, World, no_world, replica_of}
-use Rattle.cg_agree.specs.Run.{Step}
-use Rattle.cg_agree.specs.Shown.{made_actions}
-use Rattle.cg_agree.specs.Agreement.{is_recovery_of, OrderGrows, Prefix, CreatorOrder, FoldAnswers, DirtyAnswers, OnePrimary, QuietSettles, MadeStays, RefusedExactly}
-use Rattle.cg_agree.specs.Quiet.{IsSettled, Remains, summaries_in, is_known_in, knows}
-use Rattle.cg_agree.specs.Schedules.{run_of}
+use Rattle.cg_model.specs.World.{Life, Up, Down, Seat, World, no_world, replica_of}
+use Rattle.cg_model.specs.Run.{Step}
+use Rattle.cg_model.specs.Shown.{made_actions}
+use Rattle.cg_model.specs.Agreement.{is_recovery_of, OrderGrows, Prefix, CreatorOrder, FoldAnswers, DirtyAnswers, OnePrimary, QuietSettles, MadeStays, RefusedExactly}
+use Rattle.cg_model.specs.Quiet.{IsSettled, Remains, summaries_in, is_known_in, knows}
+use Rattle.cg_model.specs.Schedules.{run_of}
 use Rattle.cg_worked.specs.Computing.{cases_compute}
 
 -- ---- steps that show little

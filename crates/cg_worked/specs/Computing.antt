@@ -52,9 +52,9 @@ use Rattle.cg_stored.specs.Following.{after_change}
 use Rattle.cg_step.specs.Commit.{same_values, commits}
 use Rattle.cg_step.specs.Crash.{with_change, with_checkpoint, crash_outcome, end_event}
 use Rattle.cg_step.specs.Step.{on_message, on_transitional, on_regular, take, replica_step}
-use Rattle.cg_agree.specs.Admission.{first_refusal}
-use Rattle.cg_agree.specs.Show.{ended}
-use Rattle.cg_agree.specs.Step.{hand, happens, world_step}
+use Rattle.cg_model.specs.Admission.{first_refusal}
+use Rattle.cg_model.specs.Show.{ended}
+use Rattle.cg_model.specs.Step.{hand, happens, world_step}
 use Rattle.cg_run.specs.Outcome.{line_outcome}
 use Rattle.cg_run.specs.Rounds.{happened}
 

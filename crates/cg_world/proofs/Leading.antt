@@ -2,17 +2,17 @@
 use Rattle.std.proofs.Common.{◌≡◌, ℕ, List, None, sym, ap, ◌∙◌, subst}
 use Rattle.cg_schedule.specs.declared.event.Event.{Event}
 use Rattle.cg_action.specs.declared.action.Action.{Action}
-use Rattle.cg_agree.specs.World.{World}
+use Rattle.cg_model.specs.World.{World}
 use Rattle.cg_events.specs.Grounds.{IsSeated}
 use Rattle.cg_events.specs.GroundLaws.{IsSeated-beside}
-use Rattle.cg_agree.specs.Admission.{first_refusal}
-use Rattle.cg_agree.specs.Run.{MayStand}
-use Rattle.cg_agree.specs.Show.{Going, ended}
-use Rattle.cg_agree.specs.Step.{happens, world_step}
-use Rattle.cg_agree.specs.Noting.{chronicle_step}
-use Rattle.cg_agree.specs.Making.{newly_made, AlwaysMadeInBook}
-use Rattle.cg_agree.specs.Standing.{AlwaysStands, AlwaysBooked, IsBooked}
-use Rattle.cg_agree.specs.Touched.{touched, ShowsNewsOf, OthersShowNothingNew}
+use Rattle.cg_model.specs.Admission.{first_refusal}
+use Rattle.cg_model.specs.Run.{MayStand}
+use Rattle.cg_model.specs.Show.{Going, ended}
+use Rattle.cg_model.specs.Step.{happens, world_step}
+use Rattle.cg_model.specs.Noting.{chronicle_step}
+use Rattle.cg_model.specs.Making.{newly_made, AlwaysMadeInBook}
+use Rattle.cg_model.specs.Standing.{AlwaysStands, AlwaysBooked, IsBooked}
+use Rattle.cg_model.specs.Touched.{touched, ShowsNewsOf, OthersShowNothingNew}
 use Rattle.cg_world.specs.declared.world.Stepped.{Stepped}
 use Rattle.cg_world.specs.declared.world.Stepped.TheVariants as stepped
 use Rattle.cg_world.specs.Led.{IsLedWith}

@@ -7,10 +7,10 @@ use Rattle.cg_group.specs.EachLaws.{Each, Each-weaker, Each-append, Each-filter}
 use Rattle.cg_base.specs.declared.action_id.ActionId.{ActionId}
 use Rattle.cg_base.specs.Cuts.{index_in}
 use Rattle.cg_action.specs.declared.action.Action.{Action}
-use Rattle.cg_agree.specs.World.{World}
-use Rattle.cg_agree.specs.Show.{Moved}
-use Rattle.cg_agree.specs.Chronicle.{Chronicle}
-use Rattle.cg_agree.specs.Making.{newly_made, made_by, AreNextOf, IsMade}
+use Rattle.cg_model.specs.World.{World}
+use Rattle.cg_model.specs.Show.{Moved}
+use Rattle.cg_model.specs.Chronicle.{Chronicle}
+use Rattle.cg_model.specs.Making.{newly_made, made_by, AreNextOf, IsMade}
 use Rattle.cg_world.specs.Led.{AreMade, IsLedWith, IsInBook}
 use Rattle.cg_world.specs.MadeActions.{with_made, with_all, action_at}
 

@@ -3,10 +3,10 @@ use Rattle.std.specs.Prelude.{◌≡◌, ℕ, List, Contains, length}
 use Rattle.cg_group.specs.EachLaws.{Each}
 use Rattle.cg_base.specs.Cuts.{index_in}
 use Rattle.cg_action.specs.declared.action.Action.{Action}
-use Rattle.cg_agree.specs.World.{World}
-use Rattle.cg_agree.specs.Chronicle.{Chronicle}
-use Rattle.cg_agree.specs.Standing.{IsReached}
-use Rattle.cg_agree.specs.Making.{AreNextOf}
+use Rattle.cg_model.specs.World.{World}
+use Rattle.cg_model.specs.Chronicle.{Chronicle}
+use Rattle.cg_model.specs.Standing.{IsReached}
+use Rattle.cg_model.specs.Making.{AreNextOf}
 
 -- admitted events lead to the world from before the start
 pub record IsLed (w : World) : Type 0 where

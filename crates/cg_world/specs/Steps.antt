@@ -1,10 +1,10 @@
 -- What comes of an event in a world.
 use Rattle.std.specs.Prelude.{◌≡◌, Some, None}
 use Rattle.cg_schedule.specs.declared.event.Event.{Event}
-use Rattle.cg_agree.specs.World.{World}
-use Rattle.cg_agree.specs.Admission.{first_refusal}
-use Rattle.cg_agree.specs.Show.{Moved}
-use Rattle.cg_agree.specs.Step.{world_step}
+use Rattle.cg_model.specs.World.{World}
+use Rattle.cg_model.specs.Admission.{first_refusal}
+use Rattle.cg_model.specs.Show.{Moved}
+use Rattle.cg_model.specs.Step.{world_step}
 use Rattle.cg_world.specs.declared.world.Stepped.{Stepped}
 use Rattle.cg_world.specs.declared.world.Stepped.TheVariants as stepped
 pub use Rattle.cg_events.specs.Happening.{IsCounted}

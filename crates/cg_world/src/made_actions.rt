@@ -1,7 +1,7 @@
 //! The actions that were shown as made.
 ghost use Rattle.std.specs.Prelude.{◌≡◌, ◌≤◌, ◌<◌, ℕ, [], map, vec_len, IfOk, OnOk};
 ghost use Rattle.std.specs.Option.{option_copied};
-ghost use Rattle.cg_agree.specs.Making.{made_as};
+ghost use Rattle.cg_model.specs.Making.{made_as};
 ghost use Rattle.cg_world.specs.MadeActions.{row_at, rows_of, with_made, with_all, action_at};
 
 use cg_action::{Action, ActionList};

@@ -3,7 +3,7 @@ ghost use Rattle.std.specs.Prelude.{◌≡◌, ◌&&◌, nat_lt, nat_le, is_some
 ghost use Rattle.std.specs.Option.{option_copied};
 ghost use Rattle.cg_base.specs.Cuts.{index_in};
 ghost use Rattle.cg_group.specs.Ready.{ready};
-ghost use Rattle.cg_agree.specs.World.{no_world, up_replicas};
+ghost use Rattle.cg_model.specs.World.{no_world, up_replicas};
 
 use crate::made_actions::MadeActions;
 use cg_action::Action;
@@ -21,7 +21,7 @@ pub struct World {
 }
 
 impl Model for World {
-    ghost use Rattle.cg_agree.specs.World.{World};
+    ghost use Rattle.cg_model.specs.World.{World};
     ghost use Rattle.cg_world.specs.Led.{IsLedWith};
     ghost use Rattle.cg_world.specs.MadeActions.{rows_of};
 

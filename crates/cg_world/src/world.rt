@@ -1,8 +1,8 @@
 //! The step of the world.
-ghost use Rattle.cg_agree.specs.Making.{newly_made};
-ghost use Rattle.cg_agree.specs.Run.{MayStand};
-ghost use Rattle.cg_agree.specs.Show.{ended};
-ghost use Rattle.cg_agree.specs.Touched.{ShowsNewsOf};
+ghost use Rattle.cg_model.specs.Making.{newly_made};
+ghost use Rattle.cg_model.specs.Run.{MayStand};
+ghost use Rattle.cg_model.specs.Show.{ended};
+ghost use Rattle.cg_model.specs.Touched.{ShowsNewsOf};
 ghost use Rattle.cg_world.specs.Led.{IsLedWith};
 ghost use Rattle.cg_world.specs.MadeActions.{rows_of, with_all};
 ghost use Rattle.cg_world.specs.Steps.{IsCounted, IsEnd, Steps};

@@ -1,8 +1,8 @@
 use Rattle.std.proofs.Common.{◌≡◌, ◌∷◌, suc, fold, sym, ap, subst, ◌∙◌, rules, arith}
 use Rattle.cg_base.specs.Iterators.{members_left}
 use Rattle.cg_group.specs.State.{no_group}
-use Rattle.cg_agree.specs.World.{World}
-use Rattle.cg_agree.specs.Step.{begin_replica}
+use Rattle.cg_model.specs.World.{World}
+use Rattle.cg_model.specs.Step.{begin_replica}
 use Rattle.cg_events.proofs.NotYetUp.{AreStillDown, down-lower, down-first, down-kept}
 use Rattle.cg_events.proofs.beginning.begin_all.Goals as goal
 

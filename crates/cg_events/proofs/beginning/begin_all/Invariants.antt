@@ -1,7 +1,7 @@
 use Rattle.std.proofs.Common.{◌≡◌, fold}
 use Rattle.cg_base.specs.Iterators.{members_left}
 use Rattle.cg_base.specs.Weights.{ids}
-use Rattle.cg_agree.specs.Step.{begin_replica}
+use Rattle.cg_model.specs.Step.{begin_replica}
 use Rattle.cg_events.proofs.NotYetUp.{AreStillDown}
 use Rattle.cg_events.proofs.beginning.begin_all.Given as goal
 

@@ -1,7 +1,7 @@
 use Rattle.std.proofs.Common.{[], ◌∷◌, refl, sym, ◌∙◌}
 use Rattle.cg_group.specs.Refusals.{any_of, empty_set, not_up, merge_refusal}
-use Rattle.cg_agree.specs.World.{left_replicas}
-use Rattle.cg_agree.specs.Admission.{first_refusal, unknown, has_left}
+use Rattle.cg_model.specs.World.{left_replicas}
+use Rattle.cg_model.specs.Admission.{first_refusal, unknown, has_left}
 use Rattle.cg_events.proofs.FirstReasons.{first_before}
 use Rattle.cg_events.proofs.grouping.merge.Goals as goal
 

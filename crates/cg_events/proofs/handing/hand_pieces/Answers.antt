@@ -1,5 +1,5 @@
 use Rattle.std.proofs.Common.{◌≡◌, IfOk, subst}
-use Rattle.cg_agree.specs.Show.{Going}
+use Rattle.cg_model.specs.Show.{Going}
 use Rattle.cg_events.specs.Handing.{Chooses}
 use Rattle.cg_events.proofs.TransferFacts.{chosen-down, chosen-takes}
 use Rattle.cg_events.proofs.handing.hand_pieces.Goals as goal

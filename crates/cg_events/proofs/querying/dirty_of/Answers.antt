@@ -1,6 +1,6 @@
 use Rattle.std.proofs.Common.{◌≡◌, IfOk, sym, ap, subst, ◌∙◌}
 use Rattle.std.specs.Option.{option_copied}
-use Rattle.cg_agree.specs.World.{World, seat_of}
+use Rattle.cg_model.specs.World.{World, seat_of}
 use Rattle.cg_events.proofs.SeenSeats.{dirty-at}
 use Rattle.cg_events.proofs.querying.dirty_of.Goals as goal
 

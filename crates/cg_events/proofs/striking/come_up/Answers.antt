@@ -1,6 +1,6 @@
 use Rattle.std.proofs.Common.{◌≡◌, IfOk, is_some, false, subst, sym}
-use Rattle.cg_agree.specs.World.{replica_of}
-use Rattle.cg_agree.specs.Step.{recover}
+use Rattle.cg_model.specs.World.{replica_of}
+use Rattle.cg_model.specs.Step.{recover}
 use Rattle.cg_events.specs.Grounds.{IsSeated}
 use Rattle.cg_events.specs.Striking.{telling}
 use Rattle.cg_events.specs.contracts.state.WorldState.{the_view}

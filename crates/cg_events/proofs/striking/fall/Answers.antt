@@ -1,5 +1,5 @@
 use Rattle.std.proofs.Common.{◌∙◌, ap}
-use Rattle.cg_agree.specs.World.{World, Seat}
+use Rattle.cg_model.specs.World.{World, Seat}
 use Rattle.cg_events.specs.Going.{fallen, seated}
 use Rattle.cg_events.specs.contracts.state.WorldState.{the_view}
 use Rattle.cg_events.proofs.TransferFacts.{down-with}

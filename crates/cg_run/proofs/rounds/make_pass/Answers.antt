@@ -1,7 +1,7 @@
 use Rattle.std.proofs.Common.{ℕ, List, subst}
 use Rattle.std.proofs.lemmas.Result.{err_from_is_err_and}
 use Rattle.cg_schedule.specs.declared.event.Event.TheVariants.{Gather}
-use Rattle.cg_agree.specs.World.{up_replicas}
+use Rattle.cg_model.specs.World.{up_replicas}
 use Rattle.cg_run.specs.Produced.{one_step}
 use Rattle.cg_run.specs.Rounds.{deliveries}
 use Rattle.cg_run.proofs.GoingOn.{Stopped-and_then, Performs-and_then}

@@ -1,6 +1,6 @@
 use Rattle.std.proofs.Common.{refl, sym, subst}
-use Rattle.cg_agree.specs.Show.{Moved}
-use Rattle.cg_agree.specs.SeatLaws.{IsSeated, step_seats}
+use Rattle.cg_model.specs.Show.{Moved}
+use Rattle.cg_model.specs.SeatLaws.{IsSeated, step_seats}
 use Rattle.cg_run.proofs.Happening.{one_step-done}
 use Rattle.cg_run.proofs.steps.take_step.Goals as goal
 

@@ -1,6 +1,6 @@
 use Rattle.std.proofs.Common.{sym, subst}
-use Rattle.cg_agree.specs.Show.{Moved}
-use Rattle.cg_agree.specs.SeatLaws.{IsSeated, step_seats}
+use Rattle.cg_model.specs.Show.{Moved}
+use Rattle.cg_model.specs.SeatLaws.{IsSeated, step_seats}
 use Rattle.cg_run_tests.proofs.worlds.take_step.Goals as goal
 
 -- src/worlds.rt: the world behind a step is seated

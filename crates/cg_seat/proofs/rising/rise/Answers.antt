@@ -1,7 +1,7 @@
 use Rattle.std.proofs.Common.{◌≡◌, IfOk, Option, refl, subst}
 use Rattle.cg_disk.specs.Model.{view_of, state_of}
-use Rattle.cg_agree.specs.Show.{News}
-use Rattle.cg_agree.specs.World.{Seat}
+use Rattle.cg_model.specs.Show.{News}
+use Rattle.cg_model.specs.World.{Seat}
 use Rattle.cg_engine.specs.Answers.{IsRecovered}
 use Rattle.cg_engine.specs.Engines.{Fallen}
 use Rattle.cg_seat.proofs.ComingUp.{rises_seen}

@@ -2,7 +2,7 @@ use Rattle.std.proofs.Common.{◌≡◌, sym, subst, IfOk}
 use Rattle.cg_disk.specs.Model.{view_of}
 use Rattle.cg_step.specs.Recorded.{AreBooked}
 use Rattle.cg_step.specs.Step.{Input}
-use Rattle.cg_agree.specs.World.{Up}
+use Rattle.cg_model.specs.World.{Up}
 use Rattle.cg_seat.specs.Calls.{taken}
 use Rattle.cg_seat.specs.Seen.{disk_seen}
 use Rattle.cg_seat.proofs.Opening.{opened_is}

@@ -1,5 +1,5 @@
 use Rattle.std.proofs.Common.{◌≡◌, ◌++◌, drop, length}
-use Rattle.cg_agree.specs.Show.{placed_from}
+use Rattle.cg_model.specs.Show.{placed_from}
 use Rattle.cg_show.proofs.showing.place_all.Given as goal
 
 -- the names so far and those that are left are all, and so are their places

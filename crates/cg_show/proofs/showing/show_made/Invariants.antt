@@ -2,7 +2,7 @@ use Rattle.std.proofs.Common.{◌≡◌, ◌++◌, map, fold}
 use Rattle.std.specs.Vec.Iter.{into_iter_items}
 use Rattle.cg_base.specs.Cuts.{raise}
 use Rattle.cg_queue.specs.Queue.{names_of}
-use Rattle.cg_agree.specs.Making.{made_of_action}
+use Rattle.cg_model.specs.Making.{made_of_action}
 use Rattle.cg_show.proofs.showing.show_made.Given as goal
 
 -- those so far and those that are left are all

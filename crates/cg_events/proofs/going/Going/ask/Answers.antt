@@ -1,7 +1,7 @@
 use Rattle.std.proofs.Common.{◌≡◌, IfOk, subst}
 use Rattle.cg_client.specs.Calls.{kind_of}
 use Rattle.cg_step.specs.Step.{Asks}
-use Rattle.cg_agree.specs.Show.{Going}
+use Rattle.cg_model.specs.Show.{Going}
 use Rattle.cg_events.proofs.HandFacts.{nobody-hands, seat-hands, seat-booked}
 use Rattle.cg_events.proofs.going.Going.ask.Goals as goal
 

@@ -1,6 +1,6 @@
 use Rattle.std.proofs.Common.{◌≡◌, IfOk, subst}
 use Rattle.cg_step.specs.Step.{Deliveries}
-use Rattle.cg_agree.specs.Show.{Going}
+use Rattle.cg_model.specs.Show.{Going}
 use Rattle.cg_events.proofs.HandFacts.{nobody-hands, seat-hands, seat-booked}
 use Rattle.cg_events.proofs.going.Going.deliver.Goals as goal
 

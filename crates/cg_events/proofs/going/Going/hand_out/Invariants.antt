@@ -2,8 +2,8 @@ use Rattle.std.proofs.Common.{◌≡◌, fold}
 use Rattle.std.specs.Vec.Iter.{into_iter_items}
 use Rattle.cg_base.specs.declared.action_id.ActionId.{ActionId}
 use Rattle.cg_action.specs.declared.action.Action.{Action}
-use Rattle.cg_agree.specs.Step.{hand_over}
-use Rattle.cg_agree.specs.Standing.{AreBookedInTurn}
+use Rattle.cg_model.specs.Step.{hand_over}
+use Rattle.cg_model.specs.Standing.{AreBookedInTurn}
 use Rattle.cg_events.proofs.going.Going.hand_out.Given as goal
 
 -- those that are left lead to where all lead, and are booked in their turn

@@ -1,5 +1,5 @@
 use Rattle.std.proofs.Common.{◌≡◌, None, sym, subst}
-use Rattle.cg_agree.specs.World.{Seat}
+use Rattle.cg_model.specs.World.{Seat}
 use Rattle.cg_events.proofs.SeatFacts.{found}
 use Rattle.cg_events.proofs.seats.Seats.put.Goals as goal
 

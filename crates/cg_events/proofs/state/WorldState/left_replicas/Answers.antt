@@ -1,7 +1,7 @@
 use Rattle.std.proofs.Common.{◌≡◌, [], fold, sym, ap, subst, ◌∙◌, rules}
 use Rattle.cg_base.specs.Iterators.{members_left}
 use Rattle.cg_base.specs.Sets.{IsSet}
-use Rattle.cg_agree.specs.World.{is_left, up_replicas}
+use Rattle.cg_model.specs.World.{is_left, up_replicas}
 use Rattle.cg_events.specs.Seating.{with_left}
 use Rattle.cg_events.proofs.SeatFacts.{chosen}
 use Rattle.cg_events.proofs.state.WorldState.left_replicas.Goals as goal

@@ -1,6 +1,6 @@
 use Rattle.std.proofs.Common.{◌≡◌, [], fold}
 use Rattle.cg_base.specs.Iterators.{members_left}
-use Rattle.cg_agree.specs.World.{up_replicas}
+use Rattle.cg_model.specs.World.{up_replicas}
 use Rattle.cg_events.specs.Seating.{with_left}
 use Rattle.cg_events.proofs.state.WorldState.left_replicas.Given as goal
 

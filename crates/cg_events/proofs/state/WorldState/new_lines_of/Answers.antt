@@ -1,7 +1,7 @@
 use Rattle.std.proofs.Common.{[], sym, ap, ◌∙◌, fold}
 use Rattle.std.proofs.lemmas.List.{drop_all}
-use Rattle.cg_agree.specs.World.{World}
-use Rattle.cg_agree.specs.Touched.{new_lines_of}
+use Rattle.cg_model.specs.World.{World}
+use Rattle.cg_model.specs.Touched.{new_lines_of}
 use Rattle.cg_events.specs.Going.{with_line}
 use Rattle.cg_events.proofs.LineFacts.{lines-gathered}
 use Rattle.cg_events.proofs.state.WorldState.new_lines_of.Goals as goal

@@ -1,5 +1,5 @@
 use Rattle.std.proofs.Common.{◌≡◌, true, Some, None, MatchOption, is_some, subst, sym, ap, ◌∙◌}
-use Rattle.cg_agree.specs.World.{Life, World, running, seat_of, replica_of, set_life}
+use Rattle.cg_model.specs.World.{Life, World, running, seat_of, replica_of, set_life}
 use Rattle.cg_events.specs.contracts.state.WorldState.{the_view}
 use Rattle.cg_events.proofs.HandFacts.{up_taken}
 use Rattle.cg_events.proofs.state.WorldState.take_up.Goals as goal

@@ -1,7 +1,7 @@
 use Rattle.std.proofs.Common.{not, filter, ap, ◌∙◌, rules}
 use Rattle.std.specs.Prelude.{◌==◌}
 use Rattle.std.proofs.lemmas.Fn.{filter_same}
-use Rattle.cg_agree.specs.World.{Snapshot}
+use Rattle.cg_model.specs.World.{Snapshot}
 use Rattle.cg_events.proofs.transfers.Transfers.end_of.Goals as goal
 
 pub returns : goal.returns

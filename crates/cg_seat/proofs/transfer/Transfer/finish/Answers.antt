@@ -1,7 +1,7 @@
 use Rattle.std.proofs.Common.{◌≡◌, IfOk, length, refl, sym, ap, subst, ◌∙◌}
 use Rattle.cg_disk.specs.Model.{view_of, state_of}
 use Rattle.cg_client.specs.Joined.{piece_count}
-use Rattle.cg_agree.specs.World.{Seat, Snapshot}
+use Rattle.cg_model.specs.World.{Seat, Snapshot}
 use Rattle.cg_seat.specs.Calls.{arrived}
 use Rattle.cg_seat.proofs.Arriving.{all-taken, rests-made, stands-made, arrives}
 use Rattle.cg_seat.proofs.transfer.Transfer.finish.Goals as goal

@@ -1,5 +1,5 @@
 use Rattle.std.proofs.Common.{sym, ap, ◌∙◌, subst}
-use Rattle.cg_agree.specs.Show.{Answered}
+use Rattle.cg_model.specs.Show.{Answered}
 use Rattle.cg_show.specs.Showing.{Ascend}
 use Rattle.cg_show.proofs.Ordered.{ascend-with}
 use Rattle.cg_show.proofs.answered.Replies.add.Goals as goal

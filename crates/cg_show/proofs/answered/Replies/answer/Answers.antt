@@ -1,7 +1,7 @@
 use Rattle.std.proofs.Common.{◌≡◌, ◌+◌, [], fold, drop, sym, ap, ◌∙◌}
 use Rattle.std.proofs.lemmas.List.{nil_from_length}
 use Rattle.std.specs.Vec.Iter.{into_iter_items}
-use Rattle.cg_agree.specs.Show.{with_answered}
+use Rattle.cg_model.specs.Show.{with_answered}
 use Rattle.cg_show.proofs.Ordered.{none-left}
 use Rattle.cg_show.proofs.answered.Replies.answer.Goals as goal
 

@@ -1,6 +1,6 @@
 use Rattle.std.proofs.Common.{◌≡◌, ◌+◌, ◌≤◌, fold, drop, length}
 use Rattle.std.specs.Vec.Iter.{into_iter_items}
-use Rattle.cg_agree.specs.Show.{answered_from, with_answered}
+use Rattle.cg_model.specs.Show.{answered_from, with_answered}
 use Rattle.cg_show.proofs.answered.Replies.answer.Given as goal
 
 -- the replies that are left, to the names that are left, give what all gave

@@ -1,6 +1,6 @@
 use Rattle.std.proofs.Common.{leb, leb-true, leb-false, sym, subst, ◌∙◌, arith, rules}
 use Rattle.std.proofs.lemmas.List.Sorted.{IsPartitionPoint-from_clause, IsPartitionedBy-leb, IsNonDecreasingBy-from_all_adjacent}
-use Rattle.cg_agree.specs.Show.{Answered}
+use Rattle.cg_model.specs.Show.{Answered}
 use Rattle.cg_show.specs.Showing.{Ascend}
 use Rattle.cg_show.proofs.Ordered.{neighbours-ascend, with-at}
 use Rattle.cg_show.proofs.answered.Replies.count_up_to.Goals as goal

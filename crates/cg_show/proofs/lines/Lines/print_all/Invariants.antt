@@ -1,5 +1,5 @@
 use Rattle.std.proofs.Common.{◌≡◌, fold, take}
-use Rattle.cg_agree.specs.Show.{with_printed}
+use Rattle.cg_model.specs.Show.{with_printed}
 use Rattle.cg_show.proofs.lines.Lines.print_all.Given as goal
 
 abbrev pub invariant-loop-line : goal.invariant-loop-line

@@ -1,5 +1,5 @@
 use Rattle.std.proofs.Common.{◌≡◌, map, take}
-use Rattle.cg_agree.specs.Making.{made_as}
+use Rattle.cg_model.specs.Making.{made_as}
 use Rattle.cg_world.specs.MadeActions.{rows_of, with_all}
 use Rattle.cg_world.proofs.made_actions.MadeActions.add_all.Given as goal
 

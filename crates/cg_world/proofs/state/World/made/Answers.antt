@@ -3,7 +3,7 @@ use Rattle.std.specs.Prelude.{nat_le}
 use Rattle.std.specs.Option.{option_copied}
 use Rattle.cg_base.specs.Cuts.{index_in}
 use Rattle.cg_action.specs.declared.action.Action.{Action}
-use Rattle.cg_agree.specs.World.{World}
+use Rattle.cg_model.specs.World.{World}
 use Rattle.cg_world.specs.Led.{IsInBook}
 use Rattle.cg_world.specs.MadeActions.{rows_of}
 use Rattle.cg_world.proofs.Making.{found-some, found-booked}

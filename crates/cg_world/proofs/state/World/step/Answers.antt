@@ -1,6 +1,6 @@
 use Rattle.std.proofs.Common.{sym, subst}
-use Rattle.cg_agree.specs.World.{World}
-use Rattle.cg_agree.specs.Run.{MayStand}
+use Rattle.cg_model.specs.World.{World}
+use Rattle.cg_model.specs.Run.{MayStand}
 use Rattle.cg_world.specs.MadeActions.{rows_of}
 use Rattle.cg_world.specs.Steps.{Steps}
 use Rattle.cg_events.specs.GroundLaws.{ComesFirst-stands}
