@@ -32,7 +32,7 @@ use Rattle.cg_agree.proofs.AlwaysMade.{always-holds}
 use Rattle.cg_agree.proofs.BookedCores.{each-booked}
 use Rattle.cg_agree.proofs.BookGrows.{IsNamed}
 use Rattle.cg_agree.proofs.BookStays.{event-book}
-use Rattle.cg_step.specs.Holds.{run_on, cut_behind, Rising}
+use Rattle.cg_commit.specs.Holds.{run_on, cut_behind, Rising}
 use Rattle.cg_agree.proofs.EventsLead.{are-admitted, always-stands}
 use Rattle.cg_agree.proofs.LinesShown.{ArePrinted, each-find, lines-on}
 use Rattle.cg_agree.proofs.MadeShown.{IsThere, Adds, names_in}
@@ -41,8 +41,8 @@ use Rattle.cg_agree.proofs.PrimaryOne.{holds-here}
 use Rattle.cg_agree.proofs.RunForward.{IsStepOf}
 use Rattle.cg_agree.proofs.SeatFacts.{seat-id}
 use Rattle.cg_agree.proofs.TellsRun.{HasTold, told-on, nothing-told}
-use Rattle.cg_step.specs.CutRaiseLaws.{rising-raise, index-same, index-other}
-use Rattle.cg_step.specs.RunMarkLaws.{run-head, run-rest}
+use Rattle.cg_commit.specs.CutRaiseLaws.{rising-raise, index-same, index-other}
+use Rattle.cg_commit.specs.RunMarkLaws.{run-head, run-rest}
 
 -- ---- names that run on, of each creator
 

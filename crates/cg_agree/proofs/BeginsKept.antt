@@ -16,7 +16,7 @@ use Rattle.cg_client.specs.Replica.{Held, State, Construct, NonPrim, Replica}
 use Rattle.cg_client.specs.Turn.{begin}
 use Rattle.cg_client.specs.Requests.{settle}
 use Rattle.cg_stored.specs.Stored.{whiten, recover}
-use Rattle.cg_step.specs.Crash.{Disk}
+use Rattle.cg_commit.specs.Crash.{Disk}
 use Rattle.cg_step.specs.Step.{on_message}
 use Rattle.cg_model.specs.World.{Up, Seat, seat_of, replica_of, running}
 use Rattle.cg_model.specs.Chronicle.{Told, Attempt, Chronicle, no_chronicle}

@@ -18,7 +18,7 @@ use Rattle.cg_client.specs.Replica.{Held, NonPrim, Replica}
 use Rattle.cg_client.specs.Turn.{begin}
 use Rattle.cg_client.specs.Requests.{settle}
 use Rattle.cg_stored.specs.Stored.{whiten, recover}
-use Rattle.cg_step.specs.Crash.{Disk}
+use Rattle.cg_commit.specs.Crash.{Disk}
 use Rattle.cg_model.specs.World.{Up, Seat, seat_of, replica_of, running, has_begun}
 use Rattle.cg_model.specs.Step.{joined}
 use Rattle.cg_model.specs.Chronicle.{Chronicle}

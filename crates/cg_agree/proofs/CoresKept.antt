@@ -9,7 +9,7 @@ use Rattle.cg_action.specs.declared.action.Action.{Action}
 use Rattle.cg_client.specs.Replica.{Held, Replica}
 use Rattle.cg_client.specs.Turn.{Turn, begin}
 use Rattle.cg_stored.specs.Stored.{stored_of, whiten, recover as recover_disk}
-use Rattle.cg_step.specs.Crash.{Disk, at_rest, recovered, disk_recovered}
+use Rattle.cg_commit.specs.Crash.{Disk, at_rest, recovered, disk_recovered}
 use Rattle.cg_model.specs.World.{Life, Up, Down, Seat, Snapshot, running, seat_of, replica_of}
 use Rattle.cg_model.specs.Step.{joined}
 use Rattle.cg_model.specs.Chronicle.{Past, Copy, Chronicle}

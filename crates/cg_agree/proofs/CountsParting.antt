@@ -16,7 +16,7 @@ use Rattle.cg_group.specs.State.{GroupState, Configuration, Sent, phase_of, regu
 use Rattle.cg_client.specs.Replica.{State, RegPrim, TransPrim, Replica}
 use Rattle.cg_client.specs.Turn.{Turn, begin}
 use Rattle.cg_step.specs.Step.{on_message, on_transitional, take as take_one}
-use Rattle.cg_step.specs.Crash.{Disk}
+use Rattle.cg_commit.specs.Crash.{Disk}
 use Rattle.cg_model.specs.World.{Seat, replica_of, running}
 use Rattle.cg_model.specs.Chronicle.{Attempt, Chronicle}
 use Rattle.cg_model.specs.Looks.{greens_of, conf_at, is_at, is_in, attempt_of, attempt_at, left_count, installation}

@@ -47,11 +47,11 @@ use Rattle.cg_agree.proofs.OrderReached.{in-order}
 use Rattle.cg_agree.proofs.OrderTold.{order_told}
 use Rattle.cg_agree.proofs.OrderedActions.{IsShownAs, shown-as, each-shown_as, all-as, ordered-as}
 use Rattle.cg_agree.proofs.RedsShown.{each-front, reds-shown}
-use Rattle.cg_step.specs.Holds.{run_on}
+use Rattle.cg_commit.specs.Holds.{run_on}
 use Rattle.cg_agree.proofs.RunPrefix.{world-last, comes}
 use Rattle.cg_agree.proofs.TellsRun.{has-told}
 use Rattle.cg_agree.proofs.TurnRows.{each-named}
-use Rattle.cg_step.specs.RunMarkLaws.{run-head, run-rest}
+use Rattle.cg_commit.specs.RunMarkLaws.{run-head, run-rest}
 
 -- ---- lists
 

@@ -21,7 +21,7 @@ use Rattle.cg_client.specs.Replica.{Held, Replica, NonPrim, fresh}
 use Rattle.cg_client.specs.Turn.{begin}
 use Rattle.cg_stored.specs.Stored.{recover as recover_disk}
 use Rattle.cg_step.specs.Step.{Input, Deliveries, Asks as AsksOf, replica_step}
-use Rattle.cg_step.specs.Crash.{Strike, Disk, at_rest, new_disk, recovered, disk_recovered, end_event}
+use Rattle.cg_commit.specs.Crash.{Strike, Disk, at_rest, new_disk, recovered, disk_recovered, end_event}
 use Rattle.cg_schedule.specs.declared.event.Event.{Event}
 use Rattle.cg_schedule.specs.declared.event.Event.TheVariants.{Start, Recover}
 use Rattle.cg_model.specs.World.{Life, Up, Down, Seat, Snapshot, World, no_world, running, seat_of, replica_of, set_life, bring_up, bring_down}

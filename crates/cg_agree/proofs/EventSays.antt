@@ -18,7 +18,7 @@ use Rattle.cg_report.specs.declared.entry.Reply.{Reply}
 use Rattle.cg_client.specs.Replica.{Held, Replica}
 use Rattle.cg_client.specs.Turn.{Turn}
 use Rattle.cg_step.specs.Step.{Input, Deliveries, replica_step}
-use Rattle.cg_step.specs.Crash.{Disk, Ended, Runs, Crashes, end_event}
+use Rattle.cg_commit.specs.Crash.{Disk, Ended, Runs, Crashes, end_event}
 use Rattle.cg_model.specs.World.{Life, Up, Down, Seat, seat_of}
 use Rattle.cg_model.specs.Show.{Going, News, news_of, answered_from, tell}
 use Rattle.cg_model.specs.Step.{after_event, hand_to, hand, hand_over}

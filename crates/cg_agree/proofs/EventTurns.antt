@@ -7,7 +7,7 @@ use Rattle.cg_group.specs.State.{GroupState}
 use Rattle.cg_client.specs.Replica.{Replica}
 use Rattle.cg_client.specs.Turn.{Turn}
 use Rattle.cg_step.specs.Step.{Input, replica_step}
-use Rattle.cg_step.specs.Crash.{Disk, Ended, Runs, Crashes as EndsInCrash, end_event}
+use Rattle.cg_commit.specs.Crash.{Disk, Ended, Runs, Crashes as EndsInCrash, end_event}
 use Rattle.cg_model.specs.World.{Life, Up, Down, Seat, Snapshot, World, running, seat_of, replica_of}
 use Rattle.cg_model.specs.Show.{Going}
 use Rattle.cg_model.specs.Step.{hand, hand_to, after_event}

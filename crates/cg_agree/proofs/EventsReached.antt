@@ -35,7 +35,7 @@ use Rattle.cg_group.specs.Ready.{ready}
 use Rattle.cg_group.specs.Refusals.{deliver_refusal, not_ready, not_regular, not_up}
 use Rattle.cg_group.specs.State.{delivered_to, home, is_regular}
 use Rattle.cg_group.specs.declared.delivery.Delivery.TheVariants.{Regular as RegularIn}
-use Rattle.cg_step.specs.Crash.{Disk}
+use Rattle.cg_commit.specs.Crash.{Disk}
 
 module _ (w : World) (rising : IsRising 0 (map (λ s. s.id) w.seats)) (rises : DoRise w.group) where
   pub split-reached : (set : List ℕ) → IsRising 0 set → Each (IsLeaving w set) set →

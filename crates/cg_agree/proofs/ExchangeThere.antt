@@ -39,7 +39,7 @@ use Rattle.cg_model.specs.FactsNet.{IsPhase}
 use Rattle.cg_model.specs.FactsReplica.{IsMadeOf, IsModeData, IsCore, IsLined}
 use Rattle.cg_model.specs.FactsExchange.{IsUnmoved, IsGoingOn, IsInExchange, greens_behind, best_told}
 use Rattle.cg_model.specs.FactsTalk.{AreTold, handed_talk, IsStateIn, IsContent}
-use Rattle.cg_step.specs.Holds.{cut_behind}
+use Rattle.cg_commit.specs.Holds.{cut_behind}
 use Rattle.cg_agree.proofs.EndReached.{best-bounds}
 use Rattle.cg_agree.proofs.FrontFacts.{Front-take, Front-map, take-Front, split_by_Front}
 use Rattle.cg_agree.proofs.HandNext.{take-next, talk-append, legal-at}
@@ -50,10 +50,10 @@ use Rattle.cg_agree.proofs.MessageThere.{message-made, message-content}
 use Rattle.cg_agree.proofs.PartsOwn.{white-held, HoldsAll}
 use Rattle.cg_agree.proofs.PlanItems.{plan-sender}
 use Rattle.cg_agree.proofs.PlanProgress.{AreBeside, IsBehind, greens_there, length-taken, taken-all, item-green, item-red}
-use Rattle.cg_step.specs.CutRaiseLaws.{rising-behind, behind-rises}
+use Rattle.cg_commit.specs.CutRaiseLaws.{rising-behind, behind-rises}
 use Rattle.cg_agree.proofs.TalkEarly.{all-member, due_parts}
 use Rattle.cg_agree.proofs.ToldBeside.{told-fits, told-front, told-so_far, IsBest, best-of_heard, mine-of, beside}
-use Rattle.cg_step.specs.RunLaws.{cut_behind-append}
+use Rattle.cg_commit.specs.RunLaws.{cut_behind-append}
 
 -- ---- marks discard nothing
 

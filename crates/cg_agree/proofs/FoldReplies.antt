@@ -18,7 +18,7 @@ use Rattle.cg_client.specs.Replica.{Replica, created}
 use Rattle.cg_client.specs.Turn.{Turn}
 use Rattle.cg_client.specs.Marks.{is_first, after_owed, reply_to, given_to}
 use Rattle.cg_step.specs.Step.{replica_step}
-use Rattle.cg_step.specs.Crash.{Disk, Ended, Runs, Crashes, end_event}
+use Rattle.cg_commit.specs.Crash.{Disk, Ended, Runs, Crashes, end_event}
 use Rattle.cg_model.specs.World.{Seat, World, has_begun, running, seat_of, replica_of}
 use Rattle.cg_model.specs.Show.{Going}
 use Rattle.cg_model.specs.Step.{happens}
@@ -32,11 +32,11 @@ use Rattle.cg_model.specs.FactsReplica.{AreBooked}
 use Rattle.cg_model.specs.Smalls.{smalls_in}
 use Rattle.cg_model.specs.Played.{AlwaysHolds}
 use Rattle.cg_agree.proofs.FrontFacts.{Front-of_append, split_by_Front}
-use Rattle.cg_step.specs.Holds.{run_on, cut_behind, Rising}
+use Rattle.cg_commit.specs.Holds.{run_on, cut_behind, Rising}
 use Rattle.cg_agree.proofs.BookGrows.{same-self}
 use Rattle.cg_agree.proofs.ShownActions.{each-action, actions-shown}
 use Rattle.cg_agree.proofs.FoldHeld.{IsInOrder, in-order}
-use Rattle.cg_step.specs.CutRaiseLaws.{rising-behind}
+use Rattle.cg_commit.specs.CutRaiseLaws.{rising-behind}
 use Rattle.cg_agree.proofs.CreatorNumbered.{order-runs}
 use Rattle.cg_agree.proofs.TurnWorlds.{life_at}
 use Rattle.cg_agree.proofs.TurnReplies.{db_behind, replies_in}
@@ -53,7 +53,7 @@ use Rattle.cg_agree.proofs.LivesSince.{lives-next}
 use Rattle.cg_agree.proofs.OwedRun.{LivesAt, OwedAt, step-shows}
 use Rattle.cg_agree.proofs.NamesTimes.{named-times, times-named, times-passing, times-failing, times-once, in-times, times-contains, contains-in, placed-within, within-placed}
 use Rattle.cg_agree.proofs.OwedKept.{whitened-created, no-more, meets, runs-now, created-now, was, says, turned-lives, owed-next, owed-run}
-use Rattle.cg_step.specs.RunMarkLaws.{run-names}
+use Rattle.cg_commit.specs.RunMarkLaws.{run-names}
 
 -- ---- where a reply comes from
 

@@ -18,7 +18,7 @@ use Rattle.cg_prim.specs.TransPrim.{end_prim}
 use Rattle.cg_construct.specs.No.{no_record}
 use Rattle.cg_group.specs.declared.delivery.Delivery.TheVariants.{Regular as RegularIn}
 use Rattle.cg_step.specs.Step.{Input, Deliveries, Asks, replica_step, take, on_regular}
-use Rattle.cg_step.specs.HeldLaws.{names-behind}
+use Rattle.cg_commit.specs.HeldLaws.{names-behind}
 use Rattle.cg_agree.proofs.TurnRows.{IsRule, of-deliveries}
 use Rattle.cg_agree.proofs.KeptEmpty.{anything}
 

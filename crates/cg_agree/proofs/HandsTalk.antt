@@ -21,7 +21,7 @@ use Rattle.cg_group.specs.LookupLaws.{at-cond, eqb_comm}
 use Rattle.cg_client.specs.Turn.{Turn, begin}
 use Rattle.cg_construct.specs.Construct.{attempt_set}
 use Rattle.cg_step.specs.Step.{take as take_one, on_message}
-use Rattle.cg_step.specs.Crash.{Disk}
+use Rattle.cg_commit.specs.Crash.{Disk}
 use Rattle.cg_model.specs.World.{Up, Seat, seat_of, replica_of, running}
 use Rattle.cg_model.specs.Chronicle.{Told, Chronicle}
 use Rattle.cg_model.specs.Looks.{told_in, greens_of, is_regular_in, is_regular_at, members_in, ordered_in, sent_by, placed_of, waiting_in, said_in}

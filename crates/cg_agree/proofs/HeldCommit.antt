@@ -25,7 +25,7 @@ use Rattle.cg_step.specs.Step.{on_regular, take}
 use Rattle.cg_model.specs.Small.{take_request}
 use Rattle.cg_agree.proofs.HeldMarks.{IsOneself}
 use Rattle.cg_agree.proofs.HeldTurns.{Keeps, grows-none, keeps-none, keeps-both, keeps-by_replica, keeps-create, keeps-enter_exchange, keeps-own_to_red, oneself-with}
-use Rattle.cg_step.specs.HeldLaws.{line-below}
+use Rattle.cg_commit.specs.HeldLaws.{line-below}
 
 -- ---- the white count
 

@@ -44,7 +44,7 @@ use Rattle.cg_agree.proofs.PartsNamed.{known-names}
 use Rattle.cg_agree.proofs.ReachWorld.{when-is}
 use Rattle.cg_agree.proofs.StatesSaid.{announcing}
 use Rattle.cg_agree.proofs.ToldBeside.{told-fits}
-use Rattle.cg_step.specs.Holds.{cut_behind}
+use Rattle.cg_commit.specs.Holds.{cut_behind}
 
 -- ---- lists
 

@@ -15,7 +15,7 @@ use Rattle.cg_client.specs.Requests.{is_creating, create, create_kept, empty_buf
 use Rattle.cg_queue.specs.Queue.{QueueView}
 use Rattle.cg_stored.specs.Stored.{whiten}
 use Rattle.cg_step.specs.Step.{on_message, on_transitional, take}
-use Rattle.cg_step.specs.Crash.{whitened}
+use Rattle.cg_commit.specs.Crash.{whitened}
 use Rattle.cg_model.specs.Chronicle.{Told}
 use Rattle.cg_model.specs.FactsExchange.{HasMadeNothing, KnowsAsMuch}
 use Rattle.cg_agree.proofs.TurnValues.{even-mark_red, even-mark_yellow, even-mark_green, even-create_kept, even-create}

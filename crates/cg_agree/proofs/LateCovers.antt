@@ -69,7 +69,7 @@ use Rattle.cg_knowledge.specs.Members.{remaining}
 use Rattle.cg_knowledge.specs.Verdict.{decides}
 use Rattle.cg_queue.specs.Queue.{names_of}
 use Rattle.cg_records.specs.declared.vulnerable.Vulnerable.{Vulnerable}
-use Rattle.cg_step.specs.Crash.{Disk}
+use Rattle.cg_commit.specs.Crash.{Disk}
 use Rattle.cg_step.specs.Step.{on_transitional, take as take_one}
 use Rattle.cg_wire.specs.declared.message.Msg.{Msg}
 

@@ -11,7 +11,7 @@ use Rattle.cg_agree.proofs.HeldAll.{installed_by}
 use Rattle.cg_agree.proofs.HeldInstall.{IsAllYellow, with_yellow_mark, yellow-oneself, yellow-placed}
 use Rattle.cg_agree.proofs.HeldMarks.{IsOneself, rising-red}
 use Rattle.cg_agree.proofs.HeldMessages.{installed-all, installed-yellow, no-yellow}
-use Rattle.cg_step.specs.RunLaws.{cut_behind-append}
+use Rattle.cg_commit.specs.RunLaws.{cut_behind-append}
 use Rattle.cg_agree.proofs.StatesSaid.{count-quiet}
 use Rattle.cg_agree.proofs.TurnKinds.{installs-to}
 use Rattle.cg_agree.proofs.TurnValues.{even-mark_yellow}

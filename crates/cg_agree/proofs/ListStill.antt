@@ -27,10 +27,10 @@ use Rattle.cg_agree.proofs.EndCuts.{run-above}
 use Rattle.cg_agree.proofs.ExchangeStill.{OneMoves}
 use Rattle.cg_agree.proofs.HeldMarks.{IsOneself}
 use Rattle.cg_agree.proofs.NamesAscend.{same-parts}
-use Rattle.cg_step.specs.Holds.{cut_behind}
+use Rattle.cg_commit.specs.Holds.{cut_behind}
 use Rattle.cg_agree.proofs.SameAttempt.{KeepsAttempts}
 use Rattle.cg_agree.proofs.TurnKinds.{IsQuiet}
-use Rattle.cg_step.specs.RunMarkLaws.{run-names}
+use Rattle.cg_commit.specs.RunMarkLaws.{run-names}
 
 -- what a member holds of its attempt
 abbrev pub ListAt : Chronicle → ℕ → Type 0

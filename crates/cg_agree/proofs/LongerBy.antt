@@ -14,7 +14,7 @@ use Rattle.cg_group.specs.Events.{delivery_at, deliveries_at, transitional_place
 use Rattle.cg_client.specs.Replica.{Replica}
 use Rattle.cg_stored.specs.Stored.{whiten}
 use Rattle.cg_step.specs.Step.{Input, Deliveries, replica_step}
-use Rattle.cg_step.specs.Crash.{whitened, new_disk}
+use Rattle.cg_commit.specs.Crash.{whitened, new_disk}
 use Rattle.cg_schedule.specs.declared.event.Event.{Event}
 use Rattle.cg_schedule.specs.declared.event.Event.TheVariants.{Start, Split, Merge, Request, Weak, Dirty, Order, Recover, Show, ShowOrder, Gather, End, Receive, Deliver, Rounds, Stop, Fail, Join, Leave, Transfer}
 use Rattle.cg_model.specs.World.{Up, Seat, Snapshot, World, running, has_begun, seat_of, replica_of, bring_up}

@@ -14,7 +14,7 @@ use Rattle.cg_group.specs.Events.{send_all, go_down, deliver, deliveries_at, wit
 use Rattle.cg_client.specs.Replica.{Replica}
 use Rattle.cg_client.specs.Turn.{Turn, begin}
 use Rattle.cg_step.specs.Step.{Deliveries, replica_step}
-use Rattle.cg_step.specs.Crash.{Disk, Ended, Runs, Crashes as EndsInCrash, end_event}
+use Rattle.cg_commit.specs.Crash.{Disk, Ended, Runs, Crashes as EndsInCrash, end_event}
 use Rattle.cg_schedule.specs.declared.event.Event.TheVariants.{Deliver}
 use Rattle.cg_model.specs.World.{Up, Seat, World, seat_of, replica_of}
 use Rattle.cg_model.specs.Admission.{first_refusal, unknown}

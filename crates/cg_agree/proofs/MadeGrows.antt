@@ -11,11 +11,11 @@ use Rattle.cg_client.specs.Replica.{Held, State, RegPrim, TransPrim, ExchangeSta
 use Rattle.cg_client.specs.Turn.{Turn, begin, with_held}
 use Rattle.cg_client.specs.Requests.{is_creating, next_action, create, create_kept, empty_buffer, buffer, settle, request_in, request}
 use Rattle.cg_step.specs.Step.{Input, Deliveries, Asks, replica_step, take}
-use Rattle.cg_step.specs.Holds.{run_on, cut_behind, Rising}
-use Rattle.cg_step.specs.CutRaiseLaws.{index-same, index-other, rising-behind}
-use Rattle.cg_step.specs.RunLaws.{cut_behind-append, run_on-next}
+use Rattle.cg_commit.specs.Holds.{run_on, cut_behind, Rising}
+use Rattle.cg_commit.specs.CutRaiseLaws.{index-same, index-other, rising-behind}
+use Rattle.cg_commit.specs.RunLaws.{cut_behind-append, run_on-next}
 use Rattle.cg_agree.proofs.HeldMarks.{IsOneself}
-use Rattle.cg_step.specs.HeldLaws.{names-behind, created-behind}
+use Rattle.cg_commit.specs.HeldLaws.{names-behind, created-behind}
 use Rattle.cg_agree.proofs.DiskAhead.{OwnRuns}
 use Rattle.cg_agree.proofs.BookGrows.{all-own}
 use Rattle.cg_agree.proofs.CreatedKept.{StaysCreated, created-rule, created-first}

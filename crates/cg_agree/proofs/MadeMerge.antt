@@ -21,7 +21,7 @@ use Rattle.cg_client.specs.Replica.{Replica}
 use Rattle.cg_client.specs.Turn.{Turn, begin}
 use Rattle.cg_client.specs.Requests.{settle}
 use Rattle.cg_step.specs.Step.{Deliveries, replica_step}
-use Rattle.cg_step.specs.Crash.{Disk}
+use Rattle.cg_commit.specs.Crash.{Disk}
 use Rattle.cg_schedule.specs.declared.event.Event.TheVariants.{Merge}
 use Rattle.cg_model.specs.World.{Seat, World, running, seat_of, replica_of}
 use Rattle.cg_model.specs.Show.{Going, ended}

@@ -20,7 +20,7 @@ use Rattle.cg_client.specs.Replica.{Held, State, RegPrim, TransPrim, ExchangeSta
 use Rattle.cg_client.specs.Turn.{Turn, begin}
 use Rattle.cg_client.specs.Requests.{is_creating, create_kept, buffer, settle, request_in, request}
 use Rattle.cg_step.specs.Recorded.{OfMessage}
-use Rattle.cg_step.specs.Crash.{Disk}
+use Rattle.cg_commit.specs.Crash.{Disk}
 use Rattle.cg_model.specs.World.{Life, Up, Down, Seat, Snapshot, running, seat_of, replica_of}
 use Rattle.cg_model.specs.Attempts.{held_in}
 use Rattle.cg_model.specs.Step.{joined}
@@ -31,8 +31,8 @@ use Rattle.cg_model.specs.Facts.{Invariant}
 use Rattle.cg_model.specs.Played.{AtRest}
 use Rattle.cg_model.specs.Small.{Small, Starts, Makes, Enters, Orders, Receives, Hands, Leaves, Asks, Settles, Commits, Crashes, Recovers, Copies, Joins, small_step, start, newly_green, turning, turning_as, take_all, coming, handed_next, leaving, take_request, take_newest, take_next, take_parting, newest_conf, commit_as, crash_as, recover_as, copy_as, join_with}
 use Rattle.cg_model.specs.Smalls.{may_make, is_set}
-use Rattle.cg_step.specs.Holds.{run_on, cut_behind}
-use Rattle.cg_step.specs.CutRaiseLaws.{behind-rises}
+use Rattle.cg_commit.specs.Holds.{run_on, cut_behind}
+use Rattle.cg_commit.specs.CutRaiseLaws.{behind-rises}
 use Rattle.cg_agree.proofs.HeldMarks.{IsOneself, rising-red}
 use Rattle.cg_agree.proofs.CoresKept.{TurnKeeps, cores-weaker, held-known}
 use Rattle.cg_agree.proofs.CoresSmall.{StepKeeps, cores-kept, ready-of}
@@ -50,7 +50,7 @@ use Rattle.cg_agree.proofs.BookedRows.{HoldsFine, AllFine, each-drop, fine-rule,
 use Rattle.cg_agree.proofs.BookGrows.{IsNamed, cut_of, rising-of, IsCounted, named-more, named-all, settle-counted, request-counted, counted-first}
 use Rattle.cg_agree.proofs.BookedCores.{FineHeld, JoinersBooked, cores-booked, booked-closed, placed-booked, waiting-booked, greens-booked, memory-booked, disk-booked, copies-booked, messages-booked, waits-booked}
 use Rattle.cg_agree.proofs.BookCounts.{BookCounts, counts-same, counts-turning, book-turn, counts-commit, counts-crash, counts-recover, counts-join, counts-start}
-use Rattle.cg_step.specs.RunLaws.{cut_behind-append}
+use Rattle.cg_commit.specs.RunLaws.{cut_behind-append}
 
 -- ---- requests
 

@@ -11,7 +11,7 @@ use Rattle.cg_action.specs.declared.query.Query.{Query}
 use Rattle.cg_group.specs.declared.reason.Reason.{Reason}
 use Rattle.cg_group.specs.Events.{order, receive}
 use Rattle.cg_group.specs.Refusals.{order_refusal, receive_refusal}
-use Rattle.cg_step.specs.Crash.{Strike, FailOnce, StopWith}
+use Rattle.cg_commit.specs.Crash.{Strike, FailOnce, StopWith}
 use Rattle.cg_schedule.specs.declared.event.Event.{Event}
 use Rattle.cg_schedule.specs.declared.event.Event.TheVariants.{Start, Weak, Dirty, Order, Show, ShowOrder, Receive, Fail, Stop}
 use Rattle.cg_model.specs.World.{Life, Up, Down, Seat, Snapshot, World, no_world, seat_of, replica_of, running}

@@ -11,7 +11,7 @@ use Rattle.cg_group.specs.State.{is_up}
 use Rattle.cg_client.specs.Turn.{Turn, begin}
 use Rattle.cg_client.specs.Requests.{request}
 use Rattle.cg_step.specs.Step.{Asks as AsksOf, replica_step}
-use Rattle.cg_step.specs.Crash.{Ended, Runs, Crashes as EndsInCrash, end_event}
+use Rattle.cg_commit.specs.Crash.{Ended, Runs, Crashes as EndsInCrash, end_event}
 use Rattle.cg_schedule.specs.declared.event.Event.{Event}
 use Rattle.cg_schedule.specs.declared.event.Event.TheVariants.{Request, Join, Leave}
 use Rattle.cg_model.specs.World.{Seat, World, replica_of, is_left}

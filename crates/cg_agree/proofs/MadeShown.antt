@@ -16,14 +16,14 @@ use Rattle.cg_client.specs.Replica.{Held, Replica, created}
 use Rattle.cg_client.specs.Turn.{Turn}
 use Rattle.cg_stored.specs.Stored.{stored_of, whiten}
 use Rattle.cg_step.specs.Step.{Input, replica_step}
-use Rattle.cg_step.specs.Crash.{Disk, Runs, Crashes, whitened, end_event, recovered, disk_recovered}
+use Rattle.cg_commit.specs.Crash.{Disk, Runs, Crashes, whitened, end_event, recovered, disk_recovered}
 use Rattle.cg_model.specs.World.{Life, Up, Down, Seat, World, running, seat_of}
 use Rattle.cg_model.specs.Looks.{on_disk}
 use Rattle.cg_model.specs.Show.{Going, beyond, unshown}
 use Rattle.cg_model.specs.Step.{after_event, recover_from}
 use Rattle.cg_model.specs.Making.{made_of_action}
-use Rattle.cg_step.specs.Holds.{run_on, cut_behind, Rising}
-use Rattle.cg_step.specs.RunLaws.{cut_behind-append, run_on-append}
+use Rattle.cg_commit.specs.Holds.{run_on, cut_behind, Rising}
+use Rattle.cg_commit.specs.RunLaws.{cut_behind-append, run_on-append}
 use Rattle.cg_agree.proofs.ChronicleFacts.{seat_of-set}
 use Rattle.cg_agree.proofs.HeldMarks.{rising-red}
 use Rattle.cg_agree.proofs.DiskAhead.{OwnRuns}

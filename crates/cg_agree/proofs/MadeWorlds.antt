@@ -14,21 +14,21 @@ use Rattle.cg_client.specs.Replica.{Held, Replica, created, fresh}
 use Rattle.cg_client.specs.Turn.{Turn}
 use Rattle.cg_stored.specs.Stored.{stored_of, whiten}
 use Rattle.cg_step.specs.Step.{Input, Deliveries, replica_step}
-use Rattle.cg_step.specs.Crash.{Disk, Strike, Runs, Crashes, whitened, end_event, at_rest, new_disk, recovered, disk_recovered}
+use Rattle.cg_commit.specs.Crash.{Disk, Strike, Runs, Crashes, whitened, end_event, at_rest, new_disk, recovered, disk_recovered}
 use Rattle.cg_model.specs.World.{Life, Up, Down, Seat, World, seat_of, bring_up}
 use Rattle.cg_model.specs.Show.{Going, unshown}
 use Rattle.cg_model.specs.Step.{after_event, hand_to, hand, hand_over, begin_replica, name_also, arm_at, crash_at, recover_from, joined}
 use Rattle.cg_model.specs.FactsLists.{IsRising}
 use Rattle.cg_model.specs.FactsReplica.{GoesOn}
 use Rattle.cg_agree.proofs.ChronicleFacts.{seat_of-set}
-use Rattle.cg_step.specs.Holds.{cut_behind, Rising}
+use Rattle.cg_commit.specs.Holds.{cut_behind, Rising}
 use Rattle.cg_agree.proofs.HeldMarks.{IsOneself}
 use Rattle.cg_agree.proofs.DiskEnds.{end-cases}
 use Rattle.cg_agree.proofs.CreatedKept.{created-first}
 use Rattle.cg_agree.proofs.WorldTurns.{hand-behind}
 use Rattle.cg_agree.proofs.MadeGrows.{IsShown, step-shown}
 use Rattle.cg_agree.proofs.MadeRecovered.{recovery-shown}
-use Rattle.cg_step.specs.CutRaiseLaws.{rising-behind}
+use Rattle.cg_commit.specs.CutRaiseLaws.{rising-behind}
 
 -- so many were shown as made: all that a replica that is up has created; of one that is down no more than it has, and its greens; and
 -- none of one that hasn't begun

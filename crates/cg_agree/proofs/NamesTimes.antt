@@ -7,11 +7,11 @@ use Rattle.cg_base.specs.Cuts.{index_in, raise}
 use Rattle.cg_base.specs.Ids.{same_id, names}
 use Rattle.cg_base.specs.IdLaws.{same_id-is}
 use Rattle.cg_model.specs.Fronts.{Front}
-use Rattle.cg_step.specs.Holds.{run_on, cut_behind, Rising}
+use Rattle.cg_commit.specs.Holds.{run_on, cut_behind, Rising}
 use Rattle.cg_agree.proofs.FrontFacts.{Front-of_both, Front-append}
-use Rattle.cg_step.specs.CutRaiseLaws.{index-same, index-rises, rising-raise}
-use Rattle.cg_step.specs.RunLaws.{run_on-append}
-use Rattle.cg_step.specs.RunMarkLaws.{run-head, run-rest, names-new}
+use Rattle.cg_commit.specs.CutRaiseLaws.{index-same, index-rises, rising-raise}
+use Rattle.cg_commit.specs.RunLaws.{run_on-append}
+use Rattle.cg_commit.specs.RunMarkLaws.{run-head, run-rest, names-new}
 use Rattle.cg_agree.proofs.BookGrows.{same-self}
 use Rattle.cg_agree.proofs.RepliesPlaced.{IsIn, times}
 

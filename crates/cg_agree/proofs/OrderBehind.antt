@@ -38,7 +38,7 @@ use Rattle.cg_group.specs.EachLaws.{Each}
 use Rattle.cg_group.specs.State.{GroupState}
 use Rattle.cg_group.specs.declared.delivery.Handed.{Handed}
 use Rattle.cg_queue.specs.Queue.{green_count, names_of}
-use Rattle.cg_step.specs.Crash.{Disk, Ended, at_rest, disk_recovered, end_event, recovered, whitened}
+use Rattle.cg_commit.specs.Crash.{Disk, Ended, at_rest, disk_recovered, end_event, recovered, whitened}
 use Rattle.cg_step.specs.Step.{Deliveries, Input, replica_step}
 use Rattle.cg_stored.specs.Stored.{whiten}
 use Rattle.cg_wire.specs.declared.message.Msg.{Msg}

@@ -18,7 +18,7 @@ use Rattle.cg_client.specs.Turn.{Turn}
 use Rattle.cg_group.specs.EachLaws.{Each, Each-append, Each-filter}
 use Rattle.cg_group.specs.Events.{deliver, handed_in_split, merge, split}
 use Rattle.cg_group.specs.declared.delivery.Handed.{Handed}
-use Rattle.cg_step.specs.Crash.{Crashes, Ended, FailOnce, Runs, StopWith, Strike, end_event, new_disk}
+use Rattle.cg_commit.specs.Crash.{Crashes, Ended, FailOnce, Runs, StopWith, Strike, end_event, new_disk}
 use Rattle.cg_wire.specs.declared.message.Msg.{Msg}
 use Rattle.cg_client.specs.Joined.{piece_count}
 

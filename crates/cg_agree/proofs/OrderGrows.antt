@@ -15,7 +15,7 @@ use Rattle.cg_client.specs.Turn.{Turn}
 use Rattle.cg_group.specs.EachLaws.{Each}
 use Rattle.cg_group.specs.declared.delivery.Handed.{Handed}
 use Rattle.cg_queue.specs.Queue.{green_count}
-use Rattle.cg_step.specs.Crash.{Crashes, Ended, Runs, end_event}
+use Rattle.cg_commit.specs.Crash.{Crashes, Ended, Runs, end_event}
 use Rattle.cg_step.specs.Step.{Deliveries, Input, replica_step}
 use Rattle.cg_wire.specs.declared.message.Msg.{Msg}
 

@@ -14,7 +14,7 @@ use Rattle.cg_group.specs.Events.{HandedOut, split, merge, deliver}
 use Rattle.cg_client.specs.Replica.{Replica}
 use Rattle.cg_client.specs.Turn.{Turn}
 use Rattle.cg_step.specs.Step.{Input, Deliveries, Asks, replica_step}
-use Rattle.cg_step.specs.Crash.{FailOnce, Strike, Ended, Runs, Crashes, end_event, recovered}
+use Rattle.cg_commit.specs.Crash.{FailOnce, Strike, Ended, Runs, Crashes, end_event, recovered}
 use Rattle.cg_schedule.specs.declared.event.Event.{Event}
 use Rattle.cg_schedule.specs.declared.event.Event.TheVariants.{Start, Split, Merge, Request, Weak, Dirty, Order, Recover, Show, ShowOrder, Gather, End, Receive, Deliver, Rounds, Stop, Fail, Join, Leave, Transfer}
 use Rattle.cg_queue.specs.Queue.{green_count}

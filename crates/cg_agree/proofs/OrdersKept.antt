@@ -70,7 +70,7 @@ use Rattle.cg_group.specs.EachLaws.{Each}
 use Rattle.cg_group.specs.State.{GroupState, delivered_to, home}
 use Rattle.cg_group.specs.declared.delivery.Handed.{Handed}
 use Rattle.cg_queue.specs.Queue.{green_count, names_of}
-use Rattle.cg_step.specs.Crash.{Disk, FailOnce, StopWith, Strike, at_rest, disk_recovered, new_disk, recovered}
+use Rattle.cg_commit.specs.Crash.{Disk, FailOnce, StopWith, Strike, at_rest, disk_recovered, new_disk, recovered}
 use Rattle.cg_wire.specs.declared.message.Msg.{Msg}
 use Rattle.cg_client.specs.Joined.{piece_count}
 

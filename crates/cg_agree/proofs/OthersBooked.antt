@@ -15,7 +15,7 @@ use Rattle.cg_agree.proofs.MadeOnceKept.{holds-weaker, message-weaker}
 use Rattle.cg_agree.proofs.MadeWorlds.{MadeFits, SeatMade}
 use Rattle.cg_agree.proofs.OrderFits.{LifeToShow, OrderFits, SeatToShow}
 use Rattle.cg_agree.proofs.OthersShown.{AreShown, IsActionShown, IsMessageShown, IsNameShown, LifeShown, SeatShown, later-shown, names-shown}
-use Rattle.cg_step.specs.RunMarkLaws.{run-names}
+use Rattle.cg_commit.specs.RunMarkLaws.{run-names}
 use Rattle.cg_model.specs.Attempts.{held_in}
 use Rattle.cg_model.specs.Chronicle.{Chronicle}
 use Rattle.cg_model.specs.Facts.{Invariant}

@@ -14,7 +14,7 @@ use Rattle.std.specs.Option.{option_map_or}
 use Rattle.std.specs.Prelude.{◌==◌}
 use Rattle.cg_agree.proofs.BookedRows.{own-fine}
 use Rattle.cg_agree.proofs.ChronicleFacts.{seat_of-set}
-use Rattle.cg_step.specs.Holds.{Rising}
+use Rattle.cg_commit.specs.Holds.{Rising}
 use Rattle.cg_agree.proofs.GroupSays.{GroupSays, says-down, says-gather, says-handed, says-merge, says-order, says-receive, says-split, says-up}
 use Rattle.cg_agree.proofs.HeldCommit.{recovered-id}
 use Rattle.cg_agree.proofs.MadeBookKept.{sound-at, transfer-unbegun}
@@ -42,9 +42,9 @@ use Rattle.cg_group.specs.EachLaws.{Each, Each-append}
 use Rattle.cg_group.specs.State.{GroupState, configuration, delivered_to, home, phase_of, regular_in}
 use Rattle.cg_group.specs.declared.delivery.Handed.{Handed}
 use Rattle.cg_queue.specs.Queue.{green_count, names_of}
-use Rattle.cg_step.specs.Crash.{Crashes, Ended, FailOnce, Runs, StopWith, Strike, at_rest, disk_recovered, end_event, new_disk, recovered}
+use Rattle.cg_commit.specs.Crash.{Crashes, Ended, FailOnce, Runs, StopWith, Strike, at_rest, disk_recovered, end_event, new_disk, recovered}
 use Rattle.cg_wire.specs.declared.message.Msg.{Msg}
-use Rattle.cg_step.specs.CutRaiseLaws.{behind-rises, rising-behind}
+use Rattle.cg_commit.specs.CutRaiseLaws.{behind-rises, rising-behind}
 use Rattle.cg_client.specs.Joined.{piece_count}
 
 abbrev pub LifeIsDown : Life → Type 0

@@ -13,7 +13,7 @@ use Rattle.cg_action.specs.declared.action.Action.{Action}
 use Rattle.cg_action.specs.declared.action.Kind.{Kind}
 use Rattle.cg_agree.proofs.ChronicleFacts.{seat_of-set}
 use Rattle.cg_agree.proofs.CreatedKept.{StaysCreated, created-first, created-rule}
-use Rattle.cg_step.specs.Holds.{Rising}
+use Rattle.cg_commit.specs.Holds.{Rising}
 use Rattle.cg_agree.proofs.DiskEnds.{end-shown}
 use Rattle.cg_agree.proofs.GreensTold.{step-noted}
 use Rattle.cg_agree.proofs.GroupSays.{GroupSays, says-down, says-sent}
@@ -32,11 +32,11 @@ use Rattle.cg_client.specs.Whitening.{white_at}
 use Rattle.cg_group.specs.EachLaws.{Each, Each-append}
 use Rattle.cg_group.specs.declared.delivery.Handed.{Handed}
 use Rattle.cg_queue.specs.Queue.{green_count, names_of}
-use Rattle.cg_step.specs.Crash.{Crashes, Disk, Ended, Runs, end_event, whitened}
+use Rattle.cg_commit.specs.Crash.{Crashes, Disk, Ended, Runs, end_event, whitened}
 use Rattle.cg_stored.specs.Stored.{stored_of, whiten}
 use Rattle.cg_wire.specs.declared.message.Msg.{Msg}
 use Rattle.cg_wire.specs.declared.message.Msg.TheVariants.{Action as ActionMsg}
-use Rattle.cg_step.specs.CutRaiseLaws.{behind-rises, rising-behind}
+use Rattle.cg_commit.specs.CutRaiseLaws.{behind-rises, rising-behind}
 
 module _ (p n : ℕ) where
   -- the name is of no action of the replica above that one

@@ -12,7 +12,7 @@ use Rattle.cg_client.specs.Replica.{Held, Replica, created}
 use Rattle.cg_client.specs.Turn.{Turn}
 use Rattle.cg_stored.specs.Stored.{whiten}
 use Rattle.cg_step.specs.Step.{replica_step}
-use Rattle.cg_step.specs.Crash.{Disk, Ended, Runs, Crashes, whitened}
+use Rattle.cg_commit.specs.Crash.{Disk, Ended, Runs, Crashes, whitened}
 use Rattle.cg_model.specs.World.{Life, Up, Down, Seat, World, no_world, running, seat_of, replica_of}
 use Rattle.cg_model.specs.Show.{Going, Moved, line_of, up_line}
 use Rattle.cg_model.specs.Step.{happens}

@@ -13,9 +13,9 @@ use Rattle.cg_db.specs.Apply.{Applied, apply}
 use Rattle.cg_queue.specs.Queue.{names_of}
 use Rattle.cg_report.specs.declared.entry.Reply.{Reply}
 use Rattle.cg_client.specs.Marks.{is_first, after_owed, given_to, reply_to}
-use Rattle.cg_step.specs.Holds.{run_on, cut_behind, Rising}
-use Rattle.cg_step.specs.CutRaiseLaws.{index-same, index-other, rising-raise, behind-rises}
-use Rattle.cg_step.specs.RunMarkLaws.{run-head, run-rest}
+use Rattle.cg_commit.specs.Holds.{run_on, cut_behind, Rising}
+use Rattle.cg_commit.specs.CutRaiseLaws.{index-same, index-other, rising-raise, behind-rises}
+use Rattle.cg_commit.specs.RunMarkLaws.{run-head, run-rest}
 use Rattle.cg_agree.proofs.TurnReplies.{owed_behind, replies_in}
 
 abbrev pub own_name : ℕ → ℕ → ActionId

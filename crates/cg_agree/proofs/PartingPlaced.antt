@@ -46,7 +46,7 @@ use Rattle.cg_agree.proofs.HeldInstall.{IsAllYellow, yellow-oneself}
 use Rattle.cg_agree.proofs.HeldMarks.{IsOneself, rising-red, red-oneself}
 use Rattle.cg_agree.proofs.MessageThere.{message-made}
 use Rattle.cg_agree.proofs.RowYellow.{marks-yellow}
-use Rattle.cg_step.specs.Holds.{cut_behind}
+use Rattle.cg_commit.specs.Holds.{cut_behind}
 use Rattle.cg_agree.proofs.StatesSaid.{creating-ended, count-quiet, never, announcing, undecided}
 use Rattle.cg_agree.proofs.TalkEarly.{all-member, not_full, due_parts}
 use Rattle.cg_base.specs.SetLaws.{has-with_member}
@@ -79,7 +79,7 @@ use Rattle.cg_agree.proofs.TurnKinds.{installs-to}
 use Rattle.cg_agree.proofs.TurnValues.{even-mark_yellow}
 use Rattle.cg_queue.specs.MarkLaws.{red-placed}
 use Rattle.cg_agree.proofs.PartingIdle.{taken-append, alone-taken, left-taken}
-use Rattle.cg_step.specs.RunLaws.{cut_behind-append}
+use Rattle.cg_commit.specs.RunLaws.{cut_behind-append}
 
 counted : (from n k : ℕ) → from ≤ k → k < from + n → has (count_up from n) k ≡ true
 counted from zero k le lt = absurd (omega arith)

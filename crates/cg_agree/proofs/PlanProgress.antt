@@ -22,16 +22,16 @@ use Rattle.cg_client.specs.Marks.{is_unmade, marked, mark_red, after_first, can_
 use Rattle.cg_model.specs.Chronicle.{Told}
 use Rattle.cg_model.specs.FactsExchange.{red_index, red_behind}
 use Rattle.cg_model.specs.FactsReplica.{IsMadeOf}
-use Rattle.cg_step.specs.Holds.{run_on, cut_behind}
+use Rattle.cg_commit.specs.Holds.{run_on, cut_behind}
 use Rattle.cg_agree.proofs.HandNext.{take-next}
 use Rattle.cg_agree.proofs.HeldMarks.{IsOneself, rising-green, rising-red, red-oneself, green-oneself}
-use Rattle.cg_step.specs.CutRaiseLaws.{index-same, index-other}
-use Rattle.cg_step.specs.RunLaws.{run_on-append}
+use Rattle.cg_commit.specs.CutRaiseLaws.{index-same, index-other}
+use Rattle.cg_commit.specs.RunLaws.{run_on-append}
 use Rattle.cg_agree.proofs.FrontFacts.{Front-take, Front-map}
 use Rattle.cg_agree.proofs.PlanItems.{ItemAt, plan-item, behind-next}
 use Rattle.cg_agree.proofs.RunFronts.{run_on-front}
-use Rattle.cg_step.specs.RunMarkLaws.{run-head}
-use Rattle.cg_step.specs.HeldLaws.{names-behind}
+use Rattle.cg_commit.specs.RunMarkLaws.{run-head}
+use Rattle.cg_commit.specs.HeldLaws.{names-behind}
 
 -- the most updated member and another one that remains, as they came: so many greens all that remain have
 pub record AreBeside (heard : List Summary) (low : ℕ) (best mine : Told) : Type 0 where

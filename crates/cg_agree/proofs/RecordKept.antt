@@ -18,7 +18,7 @@ use Rattle.cg_client.specs.Turn.{Turn, begin}
 use Rattle.cg_client.specs.Install.{prim_after}
 use Rattle.cg_client.specs.Requests.{settle}
 use Rattle.cg_stored.specs.Stored.{whiten, recover}
-use Rattle.cg_step.specs.Crash.{Disk}
+use Rattle.cg_commit.specs.Crash.{Disk}
 use Rattle.cg_model.specs.World.{Up, Seat, seat_of, replica_of, running}
 use Rattle.cg_model.specs.Chronicle.{Told, Attempt, Chronicle}
 use Rattle.cg_model.specs.Looks.{greens_of, attempt_of}

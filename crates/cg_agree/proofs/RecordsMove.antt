@@ -17,7 +17,7 @@ use Rattle.cg_client.specs.Turn.{Turn, begin}
 use Rattle.cg_client.specs.Install.{prim_after}
 use Rattle.cg_client.specs.Requests.{settle}
 use Rattle.cg_stored.specs.Stored.{stored_of, whiten, recover as recover_disk}
-use Rattle.cg_step.specs.Crash.{Disk, at_rest, recovered, disk_recovered, new_disk}
+use Rattle.cg_commit.specs.Crash.{Disk, at_rest, recovered, disk_recovered, new_disk}
 use Rattle.cg_model.specs.Attempts.{held_in}
 use Rattle.cg_model.specs.World.{Life, Up, Down, Seat, seat_of, replica_of, running, has_begun}
 use Rattle.cg_model.specs.Step.{joined, without_snapshot}

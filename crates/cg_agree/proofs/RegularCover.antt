@@ -48,12 +48,12 @@ use Rattle.cg_agree.proofs.LevelsOpen.{when-from}
 use Rattle.cg_agree.proofs.PartsNamed.{actions-names}
 use Rattle.cg_agree.proofs.PlanEnd.{is_behind, behind-ended}
 use Rattle.cg_agree.proofs.ReachWorld.{when-is}
-use Rattle.cg_step.specs.Holds.{run_on, cut_behind}
+use Rattle.cg_commit.specs.Holds.{run_on, cut_behind}
 use Rattle.cg_agree.proofs.TalkEarly.{all-member}
 use Rattle.cg_agree.proofs.ToldCover.{CoversWhere}
 use Rattle.cg_agree.proofs.ToldLine.{Behind, begun-reach, told-begun, told-fits, told-greens, told-run}
 use Rattle.cg_agree.proofs.YellowMeets.{reds-named}
-use Rattle.cg_step.specs.RunLaws.{run_on-append}
+use Rattle.cg_commit.specs.RunLaws.{run_on-append}
 use Rattle.cg_agree.proofs.RunFronts.{run_on-front}
 
 -- ---- names above a cut

@@ -45,10 +45,10 @@ use Rattle.cg_agree.proofs.HeldMarks.{IsOneself, rising-red}
 use Rattle.cg_agree.proofs.LeaverOutside.{act_at, acts_at}
 use Rattle.cg_agree.proofs.LeaverStep.{RowIsYellow}
 use Rattle.cg_agree.proofs.MessageThere.{message-made}
-use Rattle.cg_step.specs.Holds.{cut_behind}
+use Rattle.cg_commit.specs.Holds.{cut_behind}
 use Rattle.cg_agree.proofs.StatesSaid.{creating-ended, count-quiet}
 use Rattle.cg_agree.proofs.YellowGrows.{places-keep}
-use Rattle.cg_step.specs.RunLaws.{cut_behind-append}
+use Rattle.cg_commit.specs.RunLaws.{cut_behind-append}
 
 -- ---- places one behind the other
 

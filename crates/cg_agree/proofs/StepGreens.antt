@@ -15,7 +15,7 @@ use Rattle.cg_stored.specs.Stored.{whiten}
 use Rattle.cg_step.specs.Step.{Input, Deliveries, Asks, replica_step}
 use Rattle.cg_model.specs.Small.{take_all}
 use Rattle.cg_agree.proofs.HeldMarks.{IsOneself, counted}
-use Rattle.cg_step.specs.HeldLaws.{line-below}
+use Rattle.cg_commit.specs.HeldLaws.{line-below}
 use Rattle.cg_agree.proofs.GreenMembers.{FollowsGreens, greens-behind, takes-follow, asks-follow, follows-same, creates-same}
 
 settle-follows : (old : Held) (t : Turn) → FollowsGreens old t.replica.held → FollowsGreens old (settle t).replica.held

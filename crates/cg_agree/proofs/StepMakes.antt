@@ -14,10 +14,10 @@ use Rattle.cg_client.specs.Replica.{Held, State, RegPrim, TransPrim, ExchangeSta
 use Rattle.cg_client.specs.Turn.{Turn, begin, with_held}
 use Rattle.cg_client.specs.Requests.{is_creating, next_action, create, create_kept, empty_buffer, buffer, settle, request_in, request}
 use Rattle.cg_step.specs.Step.{Input, Deliveries, Asks, replica_step, take}
-use Rattle.cg_step.specs.Holds.{run_on, cut_behind, Rising}
-use Rattle.cg_step.specs.RunLaws.{run_on-next}
+use Rattle.cg_commit.specs.Holds.{run_on, cut_behind, Rising}
+use Rattle.cg_commit.specs.RunLaws.{run_on-next}
 use Rattle.cg_agree.proofs.HeldMarks.{IsOneself, are_within}
-use Rattle.cg_step.specs.HeldLaws.{names-behind, are_of, created-behind}
+use Rattle.cg_commit.specs.HeldLaws.{names-behind, are_of, created-behind}
 use Rattle.cg_agree.proofs.HeldAll.{run-within}
 use Rattle.cg_agree.proofs.DiskAhead.{OwnRuns}
 use Rattle.cg_agree.proofs.CreatedKept.{StaysCreated, created-rule, created-first}

@@ -11,7 +11,7 @@ use Rattle.cg_client.specs.Replica.{Held, State, RegPrim, TransPrim, ExchangeSta
 use Rattle.cg_client.specs.Turn.{Turn, begin, with_held}
 use Rattle.cg_client.specs.Requests.{is_creating, next_action, create, create_kept, empty_buffer, buffer, settle, request_in, request}
 use Rattle.cg_step.specs.Step.{Input, Deliveries, Asks, replica_step, take}
-use Rattle.cg_step.specs.Holds.{cut_behind}
+use Rattle.cg_commit.specs.Holds.{cut_behind}
 use Rattle.cg_agree.proofs.HeldMarks.{IsOneself, rising-green}
 use Rattle.cg_agree.proofs.CreatedKept.{StaysCreated, created-rule, created-first}
 use Rattle.cg_agree.proofs.TurnRows.{of-deliveries}
@@ -20,7 +20,7 @@ use Rattle.cg_agree.proofs.MadeWorlds.{IsCoreAt}
 use Rattle.cg_agree.proofs.RepliesPlaced.{reply_ids}
 use Rattle.cg_agree.proofs.TurnReplies.{owed_behind, replies_in, IsAnswered, step-answered}
 use Rattle.cg_agree.proofs.OwedNames.{own_name, own_names, own-append, is_behind, owed_names, owed-on}
-use Rattle.cg_step.specs.HeldLaws.{names-behind}
+use Rattle.cg_commit.specs.HeldLaws.{names-behind}
 
 -- ---- what is made
 

@@ -17,7 +17,7 @@ use Rattle.cg_client.specs.Replica.{State, RegPrim, TransPrim, ExchangeStates, E
 use Rattle.cg_client.specs.Turn.{Turn, begin}
 use Rattle.cg_client.specs.Requests.{is_creating, create_kept, empty_buffer, request_in, settle}
 use Rattle.cg_step.specs.Step.{on_transitional, take}
-use Rattle.cg_step.specs.Crash.{Disk}
+use Rattle.cg_commit.specs.Crash.{Disk}
 use Rattle.cg_model.specs.World.{Life, Up, Down, Seat, seat_of, replica_of, has_begun}
 use Rattle.cg_model.specs.Chronicle.{Past, Told, Chronicle}
 use Rattle.cg_model.specs.Fronts.{IsSomeWith}

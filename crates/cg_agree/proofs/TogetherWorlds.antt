@@ -14,7 +14,7 @@ use Rattle.cg_group.specs.LookupLaws.{configurations-set_standing, standing_of-s
 use Rattle.cg_client.specs.Replica.{Replica}
 use Rattle.cg_client.specs.Turn.{Turn}
 use Rattle.cg_step.specs.Step.{Deliveries, replica_step}
-use Rattle.cg_step.specs.Crash.{Ended, Runs, Crashes as EndsInCrash, end_event}
+use Rattle.cg_commit.specs.Crash.{Ended, Runs, Crashes as EndsInCrash, end_event}
 use Rattle.cg_model.specs.World.{Life, Seat, Snapshot, World, seat_of, replica_of, with_seat}
 use Rattle.cg_model.specs.Show.{Going}
 use Rattle.cg_model.specs.Step.{hand}

@@ -34,7 +34,7 @@ use Rattle.cg_agree.proofs.Knowledge.{sender-told}
 use Rattle.cg_agree.proofs.KnownBounds.{least-greens, least-reds}
 use Rattle.cg_agree.proofs.PlanEnd.{told-each, own-told}
 use Rattle.cg_agree.proofs.PlanProgress.{AreBeside}
-use Rattle.cg_step.specs.Holds.{run_on}
+use Rattle.cg_commit.specs.Holds.{run_on}
 use Rattle.cg_agree.proofs.RunFronts.{run_on-front}
 
 -- what holds of each core holds of all greens of who has begun

@@ -26,7 +26,7 @@ use Rattle.cg_agree.proofs.FrontFacts.{Front-trans, Front-of_both, Front-map}
 use Rattle.cg_agree.proofs.HandSays.{find-holds}
 use Rattle.cg_agree.proofs.NetFactsKept.{net-kept}
 use Rattle.cg_agree.proofs.OneLine.{reached-front}
-use Rattle.cg_step.specs.Holds.{run_on}
+use Rattle.cg_commit.specs.Holds.{run_on}
 use Rattle.cg_agree.proofs.TalkFactsKept.{talk-kept}
 use Rattle.cg_agree.proofs.ToldBeside.{core-now}
 use Rattle.cg_agree.proofs.RunFronts.{run_on-front}

@@ -16,7 +16,7 @@ use Rattle.cg_group.specs.LookupLaws.{put, eqb_comm}
 use Rattle.cg_client.specs.Replica.{Replica, Held, fresh}
 use Rattle.cg_client.specs.Turn.{Turn}
 use Rattle.cg_step.specs.Step.{Input, Deliveries, Asks as AsksOf, replica_step}
-use Rattle.cg_step.specs.Crash.{Disk, FailOnce, StopWith, Strike, Ended, Runs, Crashes, end_event, new_disk, recovered, disk_recovered}
+use Rattle.cg_commit.specs.Crash.{Disk, FailOnce, StopWith, Strike, Ended, Runs, Crashes, end_event, new_disk, recovered, disk_recovered}
 use Rattle.cg_schedule.specs.declared.event.Event.{Event}
 use Rattle.cg_schedule.specs.declared.event.Event.TheVariants.{Start, Split, Merge, Request, Weak, Dirty, Order, Recover, Show, ShowOrder, Gather, End, Receive, Deliver, Rounds, Stop, Fail, Join, Leave, Transfer}
 use Rattle.cg_model.specs.World.{Life, Up, Down, Seat, Snapshot, World, seat_of, replica_of, set_life, bring_up}

@@ -17,7 +17,7 @@ use Rattle.cg_client.specs.Replica.{Held, State, RegPrim, TransPrim, ExchangeSta
 use Rattle.cg_client.specs.Turn.{Turn, begin}
 use Rattle.cg_client.specs.Requests.{settle}
 use Rattle.cg_stored.specs.Stored.{stored_of, whiten, recover}
-use Rattle.cg_step.specs.Crash.{Disk, new_disk, at_rest, recovered, disk_recovered}
+use Rattle.cg_commit.specs.Crash.{Disk, new_disk, at_rest, recovered, disk_recovered}
 use Rattle.cg_model.specs.World.{Life, Up, Down, Seat, Snapshot, seat_of, replica_of, running, has_begun, is_left}
 use Rattle.cg_model.specs.Step.{joined}
 use Rattle.cg_model.specs.Chronicle.{Past, Chronicle, no_chronicle}

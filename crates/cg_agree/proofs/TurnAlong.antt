@@ -13,8 +13,8 @@ use Rattle.cg_group.specs.Events.{send_all}
 use Rattle.cg_client.specs.Replica.{Replica}
 use Rattle.cg_client.specs.Turn.{Turn}
 use Rattle.cg_step.specs.Step.{Deliveries, replica_step}
-use Rattle.cg_step.specs.Commit.{commits}
-use Rattle.cg_step.specs.Crash.{Disk, Ended, Runs, Crashes as EndsInCrash, end_event}
+use Rattle.cg_commit.specs.Commit.{commits}
+use Rattle.cg_commit.specs.Crash.{Disk, Ended, Runs, Crashes as EndsInCrash, end_event}
 use Rattle.cg_model.specs.World.{Life, Up, Down, Seat, World, running, seat_of, replica_of}
 use Rattle.cg_model.specs.Show.{Going}
 use Rattle.cg_model.specs.Step.{hand}

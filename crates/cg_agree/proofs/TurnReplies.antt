@@ -19,9 +19,9 @@ use Rattle.cg_client.specs.Marks.{marked, after_owed, given_to, place_green}
 use Rattle.cg_client.specs.Requests.{is_creating, next_action, create, create_kept, empty_buffer, buffer, settle, request_in, request}
 use Rattle.cg_client.specs.Summary.{redden, forget_own, own_to_red}
 use Rattle.cg_step.specs.Step.{Input, Deliveries, Asks, replica_step, take}
-use Rattle.cg_step.specs.Holds.{run_on, cut_behind}
-use Rattle.cg_step.specs.RunLaws.{cut_behind-append, run_on-next}
-use Rattle.cg_step.specs.HeldLaws.{names-behind}
+use Rattle.cg_commit.specs.Holds.{run_on, cut_behind}
+use Rattle.cg_commit.specs.RunLaws.{cut_behind-append, run_on-next}
+use Rattle.cg_commit.specs.HeldLaws.{names-behind}
 use Rattle.cg_agree.proofs.TurnRows.{IsRule, of-deliveries}
 use Rattle.cg_agree.proofs.KeptEmpty.{anything}
 

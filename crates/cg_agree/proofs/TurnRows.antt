@@ -43,7 +43,7 @@ use Rattle.cg_step.specs.Step.{on_message, on_transitional, on_regular, take}
 use Rattle.cg_step.specs.Recorded.{OfMessage}
 use Rattle.cg_model.specs.World.{is_left_state}
 use Rattle.cg_model.specs.Talk.{action_in}
-use Rattle.cg_step.specs.HeldLaws.{each-found}
+use Rattle.cg_commit.specs.HeldLaws.{each-found}
 
 -- what is held with other values, and another yellow list
 abbrev pub with_values : Held → List ActionId → Bool → Primary → ℕ → Option Vulnerable → Held

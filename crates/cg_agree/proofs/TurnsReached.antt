@@ -1,5 +1,5 @@
 -- Where a replica's turn stands, the small steps of its event come to a world in which it is as the turn leaves it, before its commit.
-use Rattle.cg_step.specs.Crash.{Disk, Ended, Runs, Crashes as EndsInCrash, end_event}
+use Rattle.cg_commit.specs.Crash.{Disk, Ended, Runs, Crashes as EndsInCrash, end_event}
 use Rattle.cg_model.specs.Small.{Small, Commits, Crashes}
 use Rattle.cg_model.specs.World.{Life, Up, Down, Seat, World, running, seat_of, replica_of}
 use Rattle.cg_agree.proofs.TurnWorlds.{up_seat, seated, seat-seated, turn-ends}
@@ -21,7 +21,7 @@ use Rattle.cg_group.specs.EachLaws.{Each, Each-weaker}
 use Rattle.cg_group.specs.Events.{send_all}
 use Rattle.cg_group.specs.State.{GroupState, Standing, set_standing}
 use Rattle.cg_group.specs.declared.delivery.Delivery.{Delivery}
-use Rattle.cg_step.specs.Commit.{commits}
+use Rattle.cg_commit.specs.Commit.{commits}
 use Rattle.cg_step.specs.Step.{Deliveries, Input, replica_step}
 use Rattle.cg_wire.specs.declared.message.Msg.{Msg}
 

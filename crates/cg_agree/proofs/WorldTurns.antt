@@ -8,7 +8,7 @@ use Rattle.cg_group.specs.declared.delivery.Handed.{Handed}
 use Rattle.cg_group.specs.EachLaws.{Each}
 use Rattle.cg_client.specs.Replica.{Replica}
 use Rattle.cg_step.specs.Step.{Input, Deliveries, replica_step}
-use Rattle.cg_step.specs.Crash.{Disk, end_event}
+use Rattle.cg_commit.specs.Crash.{Disk, end_event}
 use Rattle.cg_model.specs.World.{Life, Up, Down, Seat, World, seat_of}
 use Rattle.cg_model.specs.Show.{Going}
 use Rattle.cg_model.specs.Step.{hand_to, hand, hand_over}

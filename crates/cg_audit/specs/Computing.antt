@@ -45,8 +45,8 @@ use Rattle.cg_stored.specs.Change.{spelled_change}
 use Rattle.cg_stored.specs.Checkpoint.{spelled_server, spelled_entry, spelled_reached, spelled_kept, spelled_parts, spelled_checkpoint}
 use Rattle.cg_stored.specs.Stored.{whiten, recover}
 use Rattle.cg_stored.specs.Following.{after_change}
-use Rattle.cg_step.specs.Commit.{same_values, commits}
-use Rattle.cg_step.specs.Crash.{with_change, with_checkpoint, crash_outcome, end_event}
+use Rattle.cg_commit.specs.Commit.{same_values, commits}
+use Rattle.cg_commit.specs.Crash.{with_change, with_checkpoint, crash_outcome, end_event}
 use Rattle.cg_step.specs.Step.{on_message, on_transitional, on_regular, take, replica_step}
 use Rattle.cg_model.specs.Admission.{first_refusal}
 use Rattle.cg_model.specs.Show.{ended}

@@ -12,8 +12,8 @@ use Rattle.cg_client.specs.Turn.{Turn}
 use Rattle.cg_client.specs.Calls.{IsLineGreen}
 use Rattle.cg_stored.specs.Stored.{whiten}
 use Rattle.cg_stored.specs.Checkpoint.{size_limit}
-use Rattle.cg_step.specs.Commit.{commits}
-use Rattle.cg_step.specs.Crash.{whitened}
+use Rattle.cg_commit.specs.Commit.{commits}
+use Rattle.cg_commit.specs.Crash.{whitened}
 use Rattle.cg_step.specs.Following.{Follows}
 use Rattle.cg_store.specs.Answers.{IsRefused, EachMoment}
 use Rattle.cg_store.specs.Calls.{Commits, Keeps, EndsWritten, IsEither, IsOneOfThree, paired}

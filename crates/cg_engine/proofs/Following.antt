@@ -5,10 +5,11 @@ use Rattle.cg_action.specs.declared.action.Action.{Action}
 use Rattle.cg_client.specs.Replica.{Held, Replica}
 use Rattle.cg_stored.specs.Stored.{Stored, stored_of, whiten, recover}
 use Rattle.cg_stored.specs.Following.{IsAhead}
-use Rattle.cg_step.specs.Crash.{Disk}
+use Rattle.cg_commit.specs.Crash.{Disk}
 use Rattle.cg_step.specs.Following.{Follows}
-use Rattle.cg_step.specs.Holds.{Holds}
-use Rattle.cg_step.specs.Recorded.{AlwaysHolds, AlwaysCounts, AlwaysSettled, AlwaysRecorded, AlwaysAhead, AreBooked}
+use Rattle.cg_commit.specs.Holds.{Holds}
+use Rattle.cg_commit.specs.Always.{AlwaysHolds, AlwaysCounts, AlwaysSettled}
+use Rattle.cg_step.specs.Recorded.{AlwaysKept, AlwaysRecorded, AlwaysAhead, AreBooked}
 use Rattle.cg_step.specs.Step.{Input, replica_step}
 use Rattle.cg_store.specs.Opening.{IsSound}
 use Rattle.cg_store.specs.Stands.{OnDisk, disk_of, committed, checkpointed}
@@ -28,11 +29,11 @@ module _ (holds : AlwaysHolds) (counts : AlwaysCounts) (settled : AlwaysSettled)
     ahead = subst (λ (u : List Action). IsAhead disk.content u (whiten h)) (sym none) (subst (λ (s : Stored). IsAhead s [] (whiten h)) (sym same) (ahead.committed h));
   }
 
-  pub may_end : (unwritten : List Action) (u : OnDisk) (r : Replica) (input : Input) (book : ActionId → Action) → Follows (disk_of unwritten u) r.held → AreBooked book r.held input →
+  pub may_end : AlwaysKept → (unwritten : List Action) (u : OnDisk) (r : Replica) (input : Input) (book : ActionId → Action) → Follows (disk_of unwritten u) r.held → AreBooked book r.held input →
       MayEnd unwritten u (replica_step r input)
-  may_end unwritten u r input book follows booked =
+  may_end kept unwritten u r input book follows booked =
       let t = replica_step r input in
-      let is = holds.step r input follows.held in
+      let is = kept.step r input follows.held in
       let recorded = records u.content unwritten r input book follows.held follows.ahead booked in
       record {
         recorded = recorded.commit;

@@ -5,7 +5,7 @@ use Rattle.cg_client.specs.Replica.{Held, Replica}
 use Rattle.cg_client.specs.Calls.{IsLineGreen}
 use Rattle.cg_stored.specs.Stored.{whiten}
 use Rattle.cg_stored.specs.Checkpoint.{size_limit}
-use Rattle.cg_step.specs.Crash.{whitened}
+use Rattle.cg_commit.specs.Crash.{whitened}
 use Rattle.cg_step.specs.Following.{Follows}
 use Rattle.cg_store.specs.Answers.{EachMoment}
 use Rattle.cg_base.specs.Choice.{Either}

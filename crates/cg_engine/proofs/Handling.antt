@@ -7,9 +7,10 @@ use Rattle.cg_disk.specs.View.{DiskView}
 use Rattle.cg_queue.specs.Queue.{green_count}
 use Rattle.cg_client.specs.Replica.{Held}
 use Rattle.cg_client.specs.Turn.{Turn}
-use Rattle.cg_step.specs.Commit.{commits}
+use Rattle.cg_commit.specs.Commit.{commits}
 use Rattle.cg_step.specs.Following.{Follows}
-use Rattle.cg_step.specs.Recorded.{AlwaysHolds, AlwaysCounts, AlwaysSettled, AlwaysRecorded, AlwaysAhead, AreBooked}
+use Rattle.cg_commit.specs.Always.{AlwaysHolds, AlwaysCounts, AlwaysSettled}
+use Rattle.cg_step.specs.Recorded.{AlwaysKept, AlwaysRecorded, AlwaysAhead, AreBooked}
 use Rattle.cg_step.specs.Step.{Input, replica_step}
 use Rattle.cg_store.specs.Kept.{Kept}
 use Rattle.cg_store.specs.MomentLaws.{stands_once}
@@ -52,10 +53,10 @@ module _ {D : Type 0} (view : D → DiskView) (old : Up D) (mid : Kept D) (begin
       (subst (λ (x : Turn). EndsEvent view mid count u x (commits u.content x) result) same ends)
 
 -- the end of an event may be made behind `begin`
-pub may_end_there : AlwaysHolds → AlwaysCounts → AlwaysSettled → AlwaysRecorded → AlwaysAhead → {D : Type 0} (view : D → DiskView) (old : Up D) (mid : Kept D) (input : Input) (book : ActionId → Action) (made : Turn) →
+pub may_end_there : AlwaysHolds → AlwaysCounts → AlwaysSettled → AlwaysKept → AlwaysRecorded → AlwaysAhead → {D : Type 0} (view : D → DiskView) (old : Up D) (mid : Kept D) (input : Input) (book : ActionId → Action) (made : Turn) →
     IsEngine (view old.store.disk) old.store.id old.store.unwritten old.replica.held → AreBooked book old.replica.held input → Begins (view old.store.disk) (view mid.disk) → mid.id ≡ old.store.id → mid.unwritten ≡ old.store.unwritten →
     made ≡ replica_step old.replica input → (u : OnDisk) → Stands mid.id (view mid.disk).reads u → MayEnd mid.unwritten u made
-may_end_there holds counts settled records ahead view old mid input book made is booked begins id_is marks same u stands =
+may_end_there holds counts settled kept records ahead view old mid input book made is booked begins id_is marks same u stands =
     let follows = follows_at (view old.store.disk) old.store.id old.store.unwritten old.replica.held u is (stood_here view old mid begins id_is marks u stands) in
     subst (λ (m : List Action). MayEnd m u made) (sym marks)
-    (subst (λ (t : Turn). MayEnd old.store.unwritten u t) (sym same) (may_end holds counts settled records ahead old.store.unwritten u old.replica input book follows booked))
+    (subst (λ (t : Turn). MayEnd old.store.unwritten u t) (sym same) (may_end holds counts settled records ahead kept old.store.unwritten u old.replica input book follows booked))

@@ -9,7 +9,8 @@ use Rattle.cg_client.specs.Replica.{Held}
 use Rattle.cg_client.specs.Turn.{Turn}
 use Rattle.cg_stored.specs.Stored.{recover}
 use Rattle.cg_step.specs.Following.{Follows}
-use Rattle.cg_step.specs.Recorded.{AlwaysHolds, AlwaysCounts, AlwaysSettled, AlwaysRecorded, AlwaysAhead}
+use Rattle.cg_commit.specs.Always.{AlwaysHolds, AlwaysCounts, AlwaysSettled}
+use Rattle.cg_step.specs.Recorded.{AlwaysRecorded, AlwaysAhead}
 use Rattle.cg_store.specs.Kept.{Kept}
 use Rattle.cg_store.specs.Opening.{IsOpened}
 use Rattle.cg_store.specs.Stands.{Stands, disk_of}

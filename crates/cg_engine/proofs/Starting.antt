@@ -11,7 +11,7 @@ use Rattle.cg_client.specs.Whitening.{line_of}
 use Rattle.cg_stored.specs.Stored.{stored_of, whiten}
 use Rattle.cg_stored.specs.Agreeing.{Agrees}
 use Rattle.cg_step.specs.Following.{Follows}
-use Rattle.cg_step.specs.Recorded.{AlwaysHolds, AlwaysCounts, AlwaysSettled}
+use Rattle.cg_commit.specs.Always.{AlwaysHolds, AlwaysCounts, AlwaysSettled}
 use Rattle.cg_store.specs.Answers.{IsReached}
 use Rattle.cg_store.specs.Kept.{Kept}
 use Rattle.cg_store.specs.Stands.{Stands, created, disk_of}

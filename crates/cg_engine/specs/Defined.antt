@@ -7,7 +7,7 @@ use Rattle.cg_disk.specs.State.{DiskState, Strike as DiskStrike, left_by}
 use Rattle.cg_disk.specs.View.{DiskView}
 use Rattle.cg_client.specs.Replica.{Held}
 use Rattle.cg_client.specs.Turn.{Turn}
-use Rattle.cg_step.specs.Crash.{Strike, Disk, Runs, Crashes, end_event}
+use Rattle.cg_commit.specs.Crash.{Strike, Disk, Runs, Crashes, end_event}
 use Rattle.cg_step.specs.Recorded.{AreBooked}
 use Rattle.cg_step.specs.Step.{Input, replica_step}
 use Rattle.cg_store.specs.Defined.{strike_at}

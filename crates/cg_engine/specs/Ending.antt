@@ -10,8 +10,8 @@ use Rattle.cg_stored.specs.Stored.{stored_of, whiten, recover}
 use Rattle.cg_stored.specs.Following.{IsRecorded}
 use Rattle.cg_stored.specs.Agreeing.{Agrees}
 use Rattle.cg_stored.specs.Checkpoint.{size_limit}
-use Rattle.cg_step.specs.Commit.{commits}
-use Rattle.cg_step.specs.Crash.{whitened}
+use Rattle.cg_commit.specs.Commit.{commits}
+use Rattle.cg_commit.specs.Crash.{whitened}
 use Rattle.cg_step.specs.Following.{Follows}
 use Rattle.cg_store.specs.Answers.{EachMoment}
 use Rattle.cg_base.specs.Choice.{Either}

@@ -14,10 +14,11 @@ use crate::wreck::LastEvent;
 use crate::{Handled, Recovered, Started, Wreck};
 use cg_base::{IdList, ReplicaId, Row, WeightSet};
 use cg_client::{Core, Draft};
+use cg_commit::what_is_held_agrees;
 use cg_disk::{Disk, ModelDisk};
 use cg_replica::{Input, Replica};
 use cg_report::StateName;
-use cg_step::{each_commit_is_recorded, what_is_held_agrees};
+use cg_step::{each_commit_is_recorded, each_event_keeps_what_holds};
 use cg_store::{CommitErr, OpenErr, Outputs, Store};
 use std::alloc::Global;
 use std::marker::Model;
@@ -90,7 +91,7 @@ fn told(alloc: Global, last: LastEvent, more: bool) -> IdList
 impl<D: Disk> Engine<D> {
     ghost use Rattle.cg_step.specs.Recorded.{AreBooked};
     ghost use Rattle.cg_step.specs.Step.{replica_step};
-    ghost use Rattle.cg_step.specs.Commit.{commits};
+    ghost use Rattle.cg_commit.specs.Commit.{commits};
     ghost use Rattle.cg_disk.specs.View.{IsAtRest};
     ghost use Rattle.cg_store.specs.Stands.{OnDisk, Stands};
     ghost use Rattle.cg_engine.specs.Engines.{IsEngine};
@@ -146,6 +147,7 @@ impl<D: Disk> Engine<D> {
             HandlesEvent D.view self u (replica_step self.replica (input_of input)) result }
     {
         what_is_held_agrees();
+        each_event_keeps_what_holds();
         each_commit_is_recorded();
         let Engine { mut store, replica } = self;
         store.begin();

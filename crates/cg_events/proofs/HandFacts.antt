@@ -10,7 +10,7 @@ use Rattle.cg_client.specs.Replica.{Replica}
 use Rattle.cg_client.specs.Turn.{Turn}
 use Rattle.cg_step.specs.Recorded.{AreBooked}
 use Rattle.cg_step.specs.Step.{Input, replica_step}
-use Rattle.cg_step.specs.Crash.{Ended, Runs, Crashes, end_event}
+use Rattle.cg_commit.specs.Crash.{Ended, Runs, Crashes, end_event}
 use Rattle.cg_model.specs.World.{Life, Up, Down, Seat, World, running, seat_of, replica_of, with_seat, set_life}
 use Rattle.cg_model.specs.Show.{Going, news_of, tell}
 use Rattle.cg_model.specs.Step.{after_event, hand_to, hand}

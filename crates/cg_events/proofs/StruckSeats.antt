@@ -13,7 +13,7 @@ use Rattle.cg_client.specs.Turn.{Turn, begin}
 use Rattle.cg_client.specs.Marks.{marked}
 use Rattle.cg_client.specs.Summary.{redden, forget_own, own_to_red}
 use Rattle.cg_stored.specs.Stored.{recover as recover_stored}
-use Rattle.cg_step.specs.Crash.{Disk, Strike, at_rest, recovered, disk_recovered}
+use Rattle.cg_commit.specs.Crash.{Disk, Strike, at_rest, recovered, disk_recovered}
 use Rattle.cg_model.specs.World.{Life, Up, Down, Seat, World, running, seat_of, replica_of, with_seat, set_life}
 use Rattle.cg_model.specs.Looks.{on_disk}
 use Rattle.cg_model.specs.Show.{News, news_of_recovery, tell}

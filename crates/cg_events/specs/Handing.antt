@@ -1,7 +1,7 @@
 -- What pieces of a snapshot make of a world, where there is no other snapshot for their joiner.
 use Rattle.std.specs.Prelude.{ℕ, ◌==◌, ◌+◌, ◌++◌, [], ◌∷◌, ◌≡◌, min, Option, None, Some, MatchOption, option_map, if◌then◌else◌}
 use Rattle.cg_client.specs.Replica.{Replica}
-use Rattle.cg_step.specs.Crash.{new_disk}
+use Rattle.cg_commit.specs.Crash.{new_disk}
 use Rattle.cg_report.specs.declared.entry.Shown.TheVariants.{Pieces}
 use Rattle.cg_model.specs.World.{World, Snapshot, replica_of, bring_up}
 use Rattle.cg_model.specs.Show.{Going}

@@ -1,7 +1,7 @@
 //! Crashes, faults of devices, and the way back.
 ghost use Rattle.std.specs.Prelude.{◌≡◌, ◌≤◌, false, [], is_some, IfOk, OnOk};
 ghost use Rattle.cg_group.specs.State.{is_up};
-ghost use Rattle.cg_step.specs.Crash.{FailOnce, StopWith};
+ghost use Rattle.cg_commit.specs.Crash.{FailOnce, StopWith};
 ghost use Rattle.cg_schedule.specs.declared.event.Event.TheVariants.{Stop, Fail, Recover};
 ghost use Rattle.cg_seat.specs.Calls.{crashed, risen};
 ghost use Rattle.cg_model.specs.World.{replica_of};

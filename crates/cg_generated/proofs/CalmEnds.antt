@@ -6,9 +6,9 @@ use Rattle.cg_client.specs.Replica.{Held, NonPrim, fresh}
 use Rattle.cg_client.specs.Turn.{Turn, begin}
 use Rattle.cg_client.specs.Whitening.{white_at}
 use Rattle.cg_stored.specs.Stored.{stored_of, whiten, recover}
-use Rattle.cg_step.specs.Commit.{commits}
+use Rattle.cg_commit.specs.Commit.{commits}
 use Rattle.cg_stored.specs.Checkpoint.{size_limit}
-use Rattle.cg_step.specs.Crash.{Strike, Disk, new_disk, with_change, with_checkpoint, checkpointed, Ended, Runs, Crashes, commit_under, end_event, at_rest, recovered, disk_recovered}
+use Rattle.cg_commit.specs.Crash.{Strike, Disk, new_disk, with_change, with_checkpoint, checkpointed, Ended, Runs, Crashes, commit_under, end_event, at_rest, recovered, disk_recovered}
 use Rattle.cg_model.specs.World.{Life, Up, Down}
 use Rattle.cg_generated.proofs.Calm.{Calm, CalmHeld, CalmState, CalmTurn, Each-drop}
 use Rattle.cg_generated.proofs.CalmMarks.{own_to_red-calm}

@@ -14,7 +14,7 @@ use Rattle.cg_group.specs.EachLaws.{Each}
 use Rattle.cg_group.specs.LookupLaws.{at-cond, put, put-own, eqb_comm}
 use Rattle.cg_client.specs.Replica.{Replica, fresh}
 use Rattle.cg_step.specs.Step.{Input, Deliveries, replica_step}
-use Rattle.cg_step.specs.Crash.{Disk, new_disk, Ended, Runs, Crashes, end_event, at_rest, recovered, disk_recovered}
+use Rattle.cg_commit.specs.Crash.{Disk, new_disk, Ended, Runs, Crashes, end_event, at_rest, recovered, disk_recovered}
 use Rattle.cg_model.specs.World.{Life, Up, Down, Seat, World, running, seat_of, with_seat}
 use Rattle.cg_model.specs.Show.{Going}
 use Rattle.cg_model.specs.Step.{quietly, after_event, hand_to, hand, hand_over, hand_out, begin_replica, crash_at, recover_from}

@@ -16,7 +16,7 @@ use Rattle.cg_group.specs.Refusals.{empty_set}
 use Rattle.cg_client.specs.Replica.{Replica}
 use Rattle.cg_client.specs.Turn.{Turn}
 use Rattle.cg_step.specs.Step.{Input, Deliveries, Asks as AsksOf, replica_step}
-use Rattle.cg_step.specs.Crash.{FailOnce, StopWith, Strike, Ended, Runs, Crashes, end_event, new_disk}
+use Rattle.cg_commit.specs.Crash.{FailOnce, StopWith, Strike, Ended, Runs, Crashes, end_event, new_disk}
 use Rattle.cg_schedule.specs.declared.event.Event.{Event}
 use Rattle.cg_schedule.specs.declared.event.Event.TheVariants.{Start, Split, Merge, Request, Weak, Dirty, Order, Recover, Show, ShowOrder, Gather, End, Receive, Deliver, Rounds, Stop, Fail, Join, Leave, Transfer}
 use Rattle.cg_model.specs.World.{Life, Up, Down, Seat, Snapshot, World, running, seat_of, has_begun, replica_of, up_replicas, with_seat, bring_up}

@@ -18,7 +18,7 @@ use Rattle.cg_client.specs.Turn.{Turn, begin}
 use Rattle.cg_client.specs.Requests.{settle, request}
 use Rattle.cg_stored.specs.Stored.{stored_of, whiten}
 use Rattle.cg_step.specs.Step.{take}
-use Rattle.cg_step.specs.Crash.{Disk, new_disk, at_rest, recovered, disk_recovered}
+use Rattle.cg_commit.specs.Crash.{Disk, new_disk, at_rest, recovered, disk_recovered}
 use Rattle.cg_model.specs.World.{Life, Up, Down, World, seat_of, replica_of, set_life, bring_up, bring_down}
 use Rattle.cg_model.specs.Step.{begin_replica, joined, without_snapshot}
 use Rattle.cg_model.specs.Attempts.{with_attempt_of}

@@ -44,7 +44,7 @@ use Rattle.cg_model.specs.Smalls.{smalls_in, turn_steps}
 use Rattle.cg_model.specs.Played.{StandsBeside}
 use Rattle.cg_model.specs.Turns.{Taken, turns_of}
 use Rattle.cg_schedule.specs.declared.event.Event.TheVariants.{Merge}
-use Rattle.cg_step.specs.Holds.{run_on}
+use Rattle.cg_commit.specs.Holds.{run_on}
 
 -- ---- messages that can be used
 

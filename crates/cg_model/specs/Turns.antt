@@ -7,7 +7,7 @@ use Rattle.cg_group.specs.Events.{HandedOut, deliver, split, merge}
 use Rattle.cg_client.specs.Replica.{Replica}
 use Rattle.cg_client.specs.Turn.{Turn}
 use Rattle.cg_step.specs.Step.{Input, Deliveries, Asks, replica_step}
-use Rattle.cg_step.specs.Crash.{Strike, Disk, Ended, Runs, Crashes, is_committed, end_event}
+use Rattle.cg_commit.specs.Crash.{Strike, Disk, Ended, Runs, Crashes, is_committed, end_event}
 use Rattle.cg_schedule.specs.declared.event.Event.{Event}
 use Rattle.cg_schedule.specs.declared.event.Event.TheVariants.{Split, Merge, Request, Deliver, Join, Leave}
 use Rattle.cg_model.specs.World.{Life, Up, Down, World, seat_of}

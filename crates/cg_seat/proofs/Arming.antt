@@ -4,7 +4,7 @@ use Rattle.std.specs.Option.{option_map}
 use Rattle.cg_disk.specs.Crashes.{armed_at, Arms}
 use Rattle.cg_disk.specs.State.{DiskState, Blow}
 use Rattle.cg_disk.specs.View.{DiskView}
-use Rattle.cg_step.specs.Crash.{Strike}
+use Rattle.cg_commit.specs.Crash.{Strike}
 use Rattle.cg_store.specs.Defined.{fault_of}
 use Rattle.cg_engine.specs.Engines.{Up as UpEngine, IsSame}
 use Rattle.cg_engine.specs.Defined.{strike_from}

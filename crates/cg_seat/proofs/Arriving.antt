@@ -8,7 +8,7 @@ use Rattle.cg_disk.specs.View.{DiskView}
 use Rattle.cg_client.specs.Replica.{Held}
 use Rattle.cg_client.specs.Summary.{own_to_red}
 use Rattle.cg_stored.specs.Stored.{recover}
-use Rattle.cg_step.specs.Crash.{new_disk, recovered, disk_recovered}
+use Rattle.cg_commit.specs.Crash.{new_disk, recovered, disk_recovered}
 use Rattle.cg_store.specs.Answers.{IsReached}
 use Rattle.cg_store.specs.Stands.{Stands, created}
 use Rattle.cg_engine.specs.Engines.{Fallen}

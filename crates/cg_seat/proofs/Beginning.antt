@@ -8,7 +8,7 @@ use Rattle.cg_disk.specs.State.{DiskState, Strike as DiskStrike}
 use Rattle.cg_disk.specs.View.{DiskView}
 use Rattle.cg_journal.specs.Strikes.{strike_of, IsUnstruck}
 use Rattle.cg_client.specs.Replica.{fresh_held}
-use Rattle.cg_step.specs.Crash.{Disk, new_disk}
+use Rattle.cg_commit.specs.Crash.{Disk, new_disk}
 use Rattle.cg_store.specs.Defined.{EndsAsDefined}
 use Rattle.cg_store.specs.Stands.{OnDisk, Stands, created, disk_of}
 use Rattle.cg_engine.specs.Answers.{IsStarted}

@@ -5,7 +5,7 @@ use Rattle.std.specs.Option.{option_map}
 use Rattle.cg_base.specs.declared.action_id.ActionId.{ActionId}
 use Rattle.cg_disk.specs.State.{DiskState}
 use Rattle.cg_disk.specs.View.{DiskView}
-use Rattle.cg_step.specs.Crash.{recovered, disk_recovered}
+use Rattle.cg_commit.specs.Crash.{recovered, disk_recovered}
 use Rattle.cg_store.specs.Stands.{Stands, disk_of}
 use Rattle.cg_engine.specs.Answers.{IsRecovered}
 use Rattle.cg_engine.specs.Defined.{strike_from}

@@ -6,7 +6,7 @@ use Rattle.cg_disk.specs.Sides.{Image}
 use Rattle.cg_disk.specs.State.{SideState, DiskState, synced_side, filled_from, filled, unsynced_from, left_by, shown}
 use Rattle.cg_disk.specs.View.{DiskView, IsView, IsSynced, IsAtRest}
 use Rattle.cg_client.specs.Replica.{Held}
-use Rattle.cg_step.specs.Crash.{at_rest}
+use Rattle.cg_commit.specs.Crash.{at_rest}
 use Rattle.cg_store.specs.Stands.{OnDisk, Stands, disk_of}
 use Rattle.cg_engine.specs.Answers.{Falls}
 use Rattle.cg_engine.specs.Engines.{Up as UpEngine, Fallen, told}

@@ -9,9 +9,10 @@ use Rattle.cg_disk.specs.View.{DiskView}
 use Rattle.cg_queue.specs.Queue.{green_count}
 use Rattle.cg_client.specs.Turn.{Turn}
 use Rattle.cg_stored.specs.Checkpoint.{size_limit}
-use Rattle.cg_step.specs.Commit.{commits}
-use Rattle.cg_step.specs.Crash.{Disk, Ended, Runs, end_event}
-use Rattle.cg_step.specs.Recorded.{AlwaysHolds, AlwaysCounts, AreBooked}
+use Rattle.cg_commit.specs.Commit.{commits}
+use Rattle.cg_commit.specs.Crash.{Disk, Ended, Runs, end_event}
+use Rattle.cg_commit.specs.Always.{AlwaysCounts}
+use Rattle.cg_step.specs.Recorded.{AlwaysKept, AreBooked}
 use Rattle.cg_step.specs.Step.{Input, replica_step}
 use Rattle.cg_store.specs.Calls.{Commits, EndsLong, outputs_of}
 use Rattle.cg_store.specs.Kept.{Kept}
@@ -34,7 +35,7 @@ gone_on view e fill o = (up_seen view e fill, Some (said o e.replica.held))
 abbrev pub fallen_down : {D : Type 0} → Fallen D → OnDisk → Seat × Option Spoken
 fallen_down w u = (fallen w u, None)
 
-module _ {D : Type 0} (view : D → DiskView) (law : HandlesAsDefined view) (holds : AlwaysHolds) (counts : AlwaysCounts) (old : UpEngine D) (fill : List ℕ) (input : Input) (book : ActionId → Action) (s : DiskState)
+module _ {D : Type 0} (view : D → DiskView) (law : HandlesAsDefined view) (kept : AlwaysKept) (counts : AlwaysCounts) (old : UpEngine D) (fill : List ℕ) (input : Input) (book : ActionId → Action) (s : DiskState)
     (tells : (view old.store.disk).state ≡ Some s) (is : IsEngine (view old.store.disk) old.store.id old.store.unwritten old.replica.held) (booked : AreBooked book old.replica.held input) where
   abbrev turn : Turn
   turn = replica_step old.replica input
@@ -70,7 +71,7 @@ module _ {D : Type 0} (view : D → DiskView) (law : HandlesAsDefined view) (hol
   -- a commit leaves the number of greens
   says : (written : Bool) → said (outputs_of written (parts_of turn)) (replica_behind written turn.replica).held ≡ spoken_of turn
   says true = λ i. record {
-    news = record { made = turn.made; green = turn.green; count = counts.same_count turn.replica.held (holds.step old.replica input is.follows.held) i; replies = turn.replies };
+    news = record { made = turn.made; green = turn.green; count = counts.same_count turn.replica.held (kept.step old.replica input is.follows.held) i; replies = turn.replies };
     sent = turn.sent;
   }
   says false = refl

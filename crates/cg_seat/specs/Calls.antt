@@ -15,7 +15,7 @@ use Rattle.cg_client.specs.Turn.{Turn}
 use Rattle.cg_report.specs.declared.line.Line.{Line}
 use Rattle.cg_report.specs.declared.entry.Shown.{Shown}
 use Rattle.cg_report.specs.declared.entry.Shown.TheVariants.{Weak as ShownWeak, Dirty as ShownDirty}
-use Rattle.cg_step.specs.Crash.{Strike, Ended, Runs, Crashes, new_disk, end_event, at_rest, recovered, disk_recovered}
+use Rattle.cg_commit.specs.Crash.{Strike, Ended, Runs, Crashes, new_disk, end_event, at_rest, recovered, disk_recovered}
 use Rattle.cg_step.specs.Recorded.{AreBooked}
 use Rattle.cg_step.specs.Step.{Input, replica_step}
 use Rattle.cg_model.specs.World.{Life, Up, Down, Seat, Snapshot, running, is_left_state}

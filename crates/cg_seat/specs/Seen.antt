@@ -9,7 +9,7 @@ use Rattle.cg_disk.specs.View.{DiskView}
 use Rattle.cg_journal.specs.Records.{records}
 use Rattle.cg_queue.specs.Queue.{green_count}
 use Rattle.cg_client.specs.Replica.{Held, fresh_held}
-use Rattle.cg_step.specs.Crash.{Disk}
+use Rattle.cg_commit.specs.Crash.{Disk}
 use Rattle.cg_store.specs.Stands.{OnDisk, Stands, stands_for, created, disk_of}
 use Rattle.cg_store.specs.declared.outputs.Outputs.{Outputs}
 use Rattle.cg_engine.specs.Engines.{Up as UpEngine, Fallen, told}

@@ -6,10 +6,10 @@ ghost use Rattle.cg_seat.specs.Calls.{copied};
 use crate::life::Life;
 use crate::{Seat, Transfer};
 use cg_base::{NoMemory, ReplicaId};
+use cg_commit::what_is_held_agrees;
 use cg_disk::ModelDisk;
 use cg_engine::Engine;
 use cg_join::joiners_agree;
-use cg_step::what_is_held_agrees;
 
 impl Seat {
     /// Its snapshot for a joiner, where it is up: a copy of what it has green. The number is that of the snapshot

@@ -1,6 +1,6 @@
 //! Strikes are armed, a replica goes down, and it comes up again.
 ghost use Rattle.std.specs.Prelude.{◌≡◌, ◌≤◌, List, ℕ, [], Some, IfOk};
-ghost use Rattle.cg_step.specs.Crash.{FailOnce, StopWith};
+ghost use Rattle.cg_commit.specs.Crash.{FailOnce, StopWith};
 ghost use Rattle.cg_model.specs.Show.{news_of_recovery};
 ghost use Rattle.cg_seat.specs.Calls.{armed, crashed, risen};
 ghost use Rattle.cg_seat.specs.Seen.{up_seen, down_seen};

@@ -18,12 +18,13 @@ use crate::limits::CALLS_BEFORE_EVENT;
 use crate::{Seat, Spoken};
 use cg_base::{Bytes, NoMemory, ReplicaId, Row, WeightSet};
 use cg_client::Request;
+use cg_commit::what_is_held_agrees;
 use cg_disk::{Disk, ModelDisk};
 use cg_engine::{Engine, Handled, Input, Outputs, Started, Wreck, events_end_as_defined};
 use cg_group::Delivery;
 use cg_letter::{Letter, open_all};
 use cg_show::News;
-use cg_step::what_is_held_agrees;
+use cg_step::each_event_keeps_what_holds;
 use cg_store::strikes_end_as_defined;
 use cg_wire::messages_are_exact;
 use std::alloc::Global;
@@ -127,6 +128,7 @@ fn handle(
 {
     events_end_as_defined();
     what_is_held_agrees();
+    each_event_keeps_what_holds();
     // its clause says that the disk stands for a state that the replica follows
     let _id = engine.id();
     match engine.handle(input) {

@@ -1,7 +1,6 @@
 -- Knowing an action before others become green, or behind them, leaves the same.
-use Rattle.std.proofs.Common.{◌≡◌, suc, ◌<◌, ◌≤◌, List, [], ◌∷◌, ◌++◌, find, cond, Bool, true, false, not, ◌&&◌, ◌||◌, Option, Some, None, refl, sym, ap, ap₂, ◌∙◌, subst, arith, inl, inr, eqb-true, nat_lt, nat_le, leb-true}
+use Rattle.std.proofs.Common.{◌≡◌, suc, ◌<◌, ◌≤◌, List, [], ◌∷◌, ◌++◌, find, cond, Bool, true, false, not, ◌&&◌, ◌||◌, Option, Some, None, refl, sym, ap, ap₂, ◌∙◌, subst, arith, inl, inr, nat_lt, nat_le, leb-true}
 use Rattle.std.specs.Prelude.{◌==◌, option_and_then, IfSome}
-use Rattle.std.specs.Option.{unwrap_or}
 use Rattle.std.proofs.lemmas.Bool.{cases_eq, cases_Bool, eq-eqb, and_parts, and_from}
 use Rattle.std.proofs.lemmas.Option.{none-some}
 use Rattle.cg_base.specs.declared.action_id.ActionId.{ActionId}
@@ -13,40 +12,15 @@ use Rattle.cg_client.specs.Replica.{Held}
 use Rattle.cg_client.specs.Marks.{after_first, is_first, with_green}
 use Rattle.cg_stored.specs.Stored.{Stored}
 use Rattle.cg_stored.specs.Following.{fits_known, turn_green, green_by_name, all_of}
-use Rattle.cg_step.specs.Holds.{cut_behind, ascend, Holds}
+use Rattle.cg_commit.specs.Holds.{cut_behind, ascend, Holds}
 use Rattle.cg_base.specs.IdLaws.{same_id-false, same_id-back}
 use Rattle.cg_queue.specs.NameLaws.{found-named}
-use Rattle.cg_step.specs.CutRaiseLaws.{raise-commute, index-rises, raise-below}
-use Rattle.cg_step.specs.RunMarkLaws.{run-names, ascend-less, ascend-filter-from}
-use Rattle.cg_step.proofs.HoldsMarks.{known_by, own-same, rising-red, holds-known, holds-green}
+use Rattle.cg_commit.specs.CutRaiseLaws.{raise-commute, index-rises, raise-below}
+use Rattle.cg_commit.specs.RunMarkLaws.{run-names, ascend-less, ascend-filter-from}
 use Rattle.cg_step.proofs.Rows.{find-red}
-use Rattle.cg_step.proofs.Knowing.{fits-next}
-use Rattle.cg_step.specs.HeldLaws.{names-without}
-
-pub some-same : {A : Type 0} (x y : A) → Some x ≡ Some y → x ≡ y
-some-same x y e = ap (λ o. unwrap_or o x) e
-
--- ---- the name of an action that becomes green
-
-pub record Greened (s : Stored) (id : ActionId) (z : Stored) : Type 0 where
-  pub action : Action
-  pub found : action_of s.queue id ≡ Some action
-  pub next : action.id.index ≡ suc (index_in s.queue.green_cut action.id.creator)
-  pub is : z ≡ with_green s action
-
-pub greened-from : (s : Stored) (id : ActionId) (z : Stored) → green_by_name s id ≡ Some z → Greened s id z
-greened-from s id z e = go (action_of s.queue id) refl e where
-  go : (o : Option Action) → action_of s.queue id ≡ o → option_and_then (turn_green s) o ≡ Some z → Greened s id z
-  go None found e = absurd (none-some z e)
-  go (Some b) found e = elim (cases_Bool (b.id.index == suc (index_in s.queue.green_cut b.id.creator))) [
-    | inl next ↦ record {
-      action = b;
-      found = found;
-      next = eqb-true b.id.index (suc (index_in s.queue.green_cut b.id.creator)) next;
-      is = sym (some-same (with_green s b) z (let f : (cond true (Some (with_green s b)) None) ≡ Some z = rw next at e in f));
-    }
-    | inr other ↦ absurd (none-some z (let f : (cond false (Some (with_green s b)) None) ≡ Some z = rw other at e in f))
-  ]
+use Rattle.cg_commit.specs.HeldLaws.{names-without}
+use Rattle.cg_commit.specs.KnownLaws.{some-same, none-all, greened-from, fits-next}
+use Rattle.cg_commit.specs.HoldsMarkLaws.{known_by, own-same, rising-red, holds-known, holds-green}
 
 pub greened-to : (s : Stored) (id : ActionId) (b : Action) → action_of s.queue id ≡ Some b → b.id.index ≡ suc (index_in s.queue.green_cut b.id.creator) →
     green_by_name s id ≡ Some (with_green s b)
@@ -178,10 +152,6 @@ commutes y b id a is found next fits =
     one-order e f g = λ i. let h = with_green y b in let q = h.queue in record h { queue = record q { red_cut = e i; reds = f i }; own = g i }
 
 -- ---- and before many
-
-pub none-all : {A : Type 0} (go : Stored → A → Option Stored) (items : List A) → all_of go None items ≡ None
-none-all go [] = refl
-none-all go (x ∷ items) = none-all go items
 
 pub record KnownBefore (y x : Stored) (g : List ActionId) (a : Action) : Type 0 where
   pub fits : fits_known y a ≡ true

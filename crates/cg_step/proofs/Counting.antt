@@ -11,11 +11,13 @@ use Rattle.cg_client.specs.Marks.{is_unmade, place_green}
 use Rattle.cg_client.specs.Requests.{create}
 use Rattle.cg_client.specs.Summary.{own_to_red}
 use Rattle.cg_step.specs.Step.{Input, Deliveries, Asks, take, replica_step}
-use Rattle.cg_step.specs.Holds.{Holds}
-use Rattle.cg_step.proofs.HoldsMarks.{known_by}
+use Rattle.cg_commit.specs.Holds.{Holds}
+use Rattle.cg_step.specs.Recorded.{AlwaysKept}
 use Rattle.cg_step.proofs.Rows.{IsRule, of-deliveries, of-buffer, of-empty_buffer}
-use Rattle.cg_step.proofs.Knowing.{each-any, known_all, own-reddened, holds-rule}
-use Rattle.cg_step.proofs.Steps.{IsKeptByMaking, holds-making, of-settle, of-request_in, any-deliveries}
+use Rattle.cg_step.proofs.Knowing.{each-any, holds-rule}
+use Rattle.cg_step.proofs.Steps.{IsKeptByMaking, holds-making, of-settle, of-request_in, any-deliveries, holds-step}
+use Rattle.cg_commit.specs.HoldsMarkLaws.{known_by}
+use Rattle.cg_commit.specs.KnownLaws.{known_all, own-reddened}
 
 -- there are as many greens as at first, and the newly green ones
 record Counts (n : ℕ) (t : Turn) : Type 0 where
@@ -82,5 +84,11 @@ counts-step r (Asks kind) is =
     let n = green_count r.held.queue in
     of-request_in (Counts n) (counts-making n) r.state (begin r) kind (counts-first r is)
 
-pub step-counts : (r : Replica) (input : Input) → Holds r.held → green_count (replica_step r input).replica.held.queue ≡ green_count r.held.queue + length (replica_step r input).green
+step-counts : (r : Replica) (input : Input) → Holds r.held → green_count (replica_step r input).replica.held.queue ≡ green_count r.held.queue + length (replica_step r input).green
 step-counts r input is = (counts-step r input is).count
+
+pub always-kept : AlwaysKept
+always-kept = record {
+  step = λ r input is. holds-step r input is;
+  counted = λ r input is. step-counts r input is;
+}

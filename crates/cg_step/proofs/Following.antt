@@ -8,19 +8,21 @@ use Rattle.cg_client.specs.Turn.{Turn}
 use Rattle.cg_stored.specs.Stored.{Stored, stored_of, whiten}
 use Rattle.cg_stored.specs.Following.{IsAhead}
 use Rattle.cg_step.specs.Step.{Input, replica_step}
-use Rattle.cg_step.specs.Commit.{commits}
+use Rattle.cg_commit.specs.Commit.{commits}
 use Rattle.cg_stored.specs.Checkpoint.{size_limit}
-use Rattle.cg_step.specs.Crash.{Strike, Disk, new_disk, with_change, with_checkpoint, calls_of, checkpointed, is_committed, is_checkpointed, at_rest, crash_outcome, Runs, whitened, struck, commit_under, end_event}
-use Rattle.cg_step.specs.Holds.{Holds}
+use Rattle.cg_commit.specs.Crash.{Strike, Disk, new_disk, with_change, with_checkpoint, calls_of, checkpointed, is_committed, is_checkpointed, at_rest, crash_outcome, Runs, whitened, struck, commit_under, end_event}
+use Rattle.cg_commit.specs.Holds.{Holds}
 use Rattle.cg_step.specs.Recorded.{AreBooked}
 use Rattle.cg_step.specs.Following.{DiskHolds, Follows, EndsFollowing, AlwaysFollows}
-use Rattle.cg_step.proofs.Always.{always-holds}
+use Rattle.cg_commit.specs.HoldsValueLaws.{holds-stored, holds-whiten}
+use Rattle.cg_commit.specs.KnownLaws.{holds-recovered}
+use Rattle.cg_step.proofs.Steps.{holds-step}
 use Rattle.cg_step.proofs.Recording.{always-recorded, always-ahead}
 
 -- a disk that has what a commit leaves
 committed-holds : (disk : Disk) (h : Held) → Holds h → disk.content ≡ stored_of (whiten h) → DiskHolds disk
 committed-holds disk h is same = record {
-  content = subst Holds (sym same) (always-holds.stored (whiten h) (always-holds.whitened h is));
+  content = subst Holds (sym same) (holds-stored (whiten h) (holds-whiten h is));
   buffered = ap (λ (s : Stored). s.buffered) same;
   owed = ap (λ (s : Stored). s.owed) same;
 }
@@ -28,7 +30,7 @@ committed-holds disk h is same = record {
 committed-follows : (disk : Disk) (h : Held) → Holds h → disk.content ≡ stored_of (whiten h) → disk.unwritten ≡ [] → Follows disk (whiten h)
 committed-follows disk h is same none = record {
   on_disk = committed-holds disk h is same;
-  held = always-holds.whitened h is;
+  held = holds-whiten h is;
   ahead = subst (λ (u : List Action). IsAhead disk.content u (whiten h)) (sym none)
       (subst (λ (s : Stored). IsAhead s [] (whiten h)) (sym same) (always-ahead.committed h));
 }
@@ -89,7 +91,7 @@ event-ends : (disk : Disk) (r : Replica) (input : Input) (book : ActionId → Ac
 unfolding end_event
 event-ends disk r input book follows booked =
     let t = replica_step r input in
-    let is = always-holds.step r input follows.held in
+    let is = holds-step r input follows.held in
     let recorded = always-recorded disk.content disk.unwritten r input book follows.held follows.ahead booked in
     elim (cases_Bool (commits r.held t)) [
       | inl writes ↦ subst (λ b. EndsFollowing disk t (cond b (commit_under disk.armed disk t) (Runs t.replica (record disk { unwritten = disk.unwritten ++ t.known })))) (sym writes) (commit-ends disk.armed disk t follows.on_disk is)
@@ -116,7 +118,7 @@ always-follows = record {
   crash = λ disk is. rest-holds disk is;
   recovery = λ disk is. record {
     on_disk = record { content = is.content; buffered = is.buffered; owed = is.owed };
-    held = always-holds.recovered disk.content is.content;
+    held = holds-recovered disk.content is.content;
     ahead = always-ahead.recovered disk.content is.content is.buffered is.owed;
   };
 }

@@ -1,35 +1,28 @@
 -- Actions that become known, one after another; and that a turn keeps what holds of what a replica holds.
-use Rattle.std.proofs.Common.{◌≡◌, suc, ◌≤◌, List, [], ◌∷◌, ◌++◌, fold, Bool, true, false, not, ◌||◌, Some, refl, sym, ap, ◌∙◌, subst, arith, inl, inr, eqb-true, nat_lt, append-nil}
+use Rattle.std.proofs.Common.{◌≡◌, suc, ◌≤◌, List, [], ◌∷◌, Bool, true, false, not, ◌||◌, Some, refl, sym, ap, ◌∙◌, arith, inl, inr, eqb-true, nat_lt}
 use Rattle.std.specs.Prelude.{◌==◌}
 use Rattle.std.proofs.lemmas.Bool.{cases_eq, cases_order, eq-eqb, ne_eqb, lt-ltb, and_parts, and_from}
-use Rattle.std.proofs.lemmas.List.{append_assoc}
 use Rattle.cg_base.specs.Cuts.{index_in}
 use Rattle.cg_action.specs.declared.action.Action.{Action}
-use Rattle.cg_queue.specs.Queue.{QueueView, names_of, placed_red}
+use Rattle.cg_queue.specs.Queue.{names_of}
 use Rattle.cg_records.specs.Limits.{Each}
 use Rattle.cg_client.specs.Replica.{Held, created, last_index}
 use Rattle.cg_client.specs.Turn.{Turn}
-use Rattle.cg_client.specs.Marks.{is_unmade, after_first, is_first, marked, newly_known, place_green}
-use Rattle.cg_client.specs.Summary.{redden, forget_own, own_to_red}
+use Rattle.cg_client.specs.Marks.{is_unmade, is_first, place_green}
 use Rattle.cg_stored.specs.Following.{fits_known, know}
-use Rattle.cg_step.specs.Holds.{run_on, Holds}
+use Rattle.cg_commit.specs.Holds.{run_on, Holds}
 use Rattle.cg_base.specs.IdLaws.{same_id-true, same_id-self}
-use Rattle.cg_queue.specs.MarkLaws.{red-placed}
-use Rattle.cg_step.specs.RunMarkLaws.{run-head, run-rest}
-use Rattle.cg_step.proofs.HoldsMarks.{known_by, holds-known, holds-green}
-use Rattle.cg_step.proofs.HoldsValues.{holds-values}
+use Rattle.cg_commit.specs.RunMarkLaws.{run-head}
 use Rattle.cg_step.proofs.Rows.{IsRule}
-use Rattle.cg_step.specs.HeldLaws.{are_of, after-here}
+use Rattle.cg_commit.specs.HeldLaws.{are_of}
+use Rattle.cg_commit.specs.KnownLaws.{holds-own}
+use Rattle.cg_commit.specs.HoldsMarkLaws.{known_by, holds-known, holds-green}
+use Rattle.cg_commit.specs.HoldsValueLaws.{holds-values}
 
 -- ---- an action that may become known
 
 pub know-some : (s : Held) (a : Action) → fits_known s a ≡ true → know s a ≡ Some (known_by s a)
 know-some s a fits = rw fits refl
-
-pub fits-next : (s : Held) (a : Action) → fits_known s a ≡ true → a.id.index ≡ suc (index_in s.queue.red_cut a.id.creator)
-fits-next s a fits =
-    eqb-true a.id.index (suc (index_in s.queue.red_cut a.id.creator))
-    (and_parts (a.id.index == suc (index_in s.queue.red_cut a.id.creator)) (not (a.id.creator == s.id) || is_first (names_of s.own) a.id) fits).0
 
 -- the first own action may
 pub fits-own : (h : Held) (a : Action) (rest : List Action) → h.own ≡ a ∷ rest → a.id.index ≡ suc (index_in h.queue.red_cut a.id.creator) → fits_known h a ≡ true
@@ -79,51 +72,6 @@ fits-made h a is next made = elim (cases_eq a.id.creator h.id) [
         (eq-eqb a.id.index (suc (index_in h.queue.red_cut a.id.creator)) next)
         (rw (eq-eqb a.id.creator h.id same) (ap (λ xs. is_first (names_of xs) a.id) e ∙ same_id-true b.id a.id creators indexes))
 
--- ---- the own actions become known
-
-abbrev pub known_all : Held → List Action → Held
-known_all h list = fold known_by h list
-
-pub holds-known_all : (list : List Action) (h : Held) → Holds h → run_on h.queue.red_cut (names_of list) ≡ true → Holds (known_all h list)
-holds-known_all [] h is run = is
-holds-known_all (a ∷ list) h is run =
-    holds-known_all list (known_by h a) (holds-known h is a (run-head h.queue.red_cut a.id (names_of list) run)) (run-rest h.queue.red_cut a.id (names_of list) run)
-
--- what becomes of a turn whose own actions become red
-pub record Reddened (t u : Turn) (h : Held) (list : List Action) : Type 0 where
-  pub held : u.replica.held ≡ known_all h list
-  pub known : u.known ≡ t.known ++ list
-  pub green : u.green ≡ t.green
-  pub made : u.made ≡ t.made
-
-reddens : (list : List Action) (h : Held) (t : Turn) → t.replica.held ≡ record h { own = [] } → h.own ≡ list → run_on h.queue.red_cut (names_of list) ≡ true →
-    Reddened t (fold redden t list) h list
-reddens [] h t held own run = record {
-  held = held ∙ ap (λ (o : List Action). record h { own = o }) (sym own);
-  known = sym (append-nil t.known);
-  green = refl;
-  made = refl;
-}
-reddens (a ∷ list) h t held own run =
-    let next : a.id.index ≡ suc (index_in h.queue.red_cut a.id.creator) = run-head h.queue.red_cut a.id (names_of list) run in
-    let queue : t.replica.held.queue ≡ h.queue = ap (λ (x : Held). x.queue) held in
-    let u = newly_known t a (placed_red t.replica.held.queue a) in
-    let placed : redden t a ≡ u = ap (marked t a) (red-placed t.replica.held.queue a (next ∙ ap (λ (q : QueueView). suc (index_in q.red_cut a.id.creator)) (sym queue))) in
-    let there : u.replica.held ≡ record (known_by h a) { own = [] } = ap (λ (x : Held). record x { queue = placed_red x.queue a; own = after_first x.own a.id }) held in
-    let rest = reddens list (known_by h a) u there (ap (λ xs. after_first xs a.id) own ∙ after-here a list a.id (same_id-self a.id)) (run-rest h.queue.red_cut a.id (names_of list) run) in
-    subst (λ (v : Turn). Reddened t (fold redden v list) h (a ∷ list)) (sym placed) (record {
-      held = rest.held;
-      known = rest.known ∙ append_assoc t.known (a ∷ []) list;
-      green = rest.green;
-      made = rest.made;
-    })
-
-pub own-reddened : (t : Turn) → Holds t.replica.held → Reddened t (own_to_red t) t.replica.held t.replica.held.own
-unfolding own_to_red
-own-reddened t is =
-    let rest = reddens t.replica.held.own t.replica.held (forget_own t) refl refl is.own in
-    record { held = rest.held; known = rest.known; green = rest.green; made = rest.made }
-
 -- ---- what holds is kept
 
 pub each-any : (list : List Action) → Each (λ a. Unit {0}) list
@@ -136,11 +84,6 @@ HoldsIn t = Holds t.replica.held
 pub holds-placed : (t : Turn) (a : Action) → Holds t.replica.held → a.id.index ≡ suc (index_in t.replica.held.queue.green_cut a.id.creator) → Holds (place_green t a).replica.held
 unfolding place_green
 holds-placed t a is next = holds-green t.replica.held is a next
-
-pub holds-own : (t : Turn) → Holds t.replica.held → Holds (own_to_red t).replica.held
-holds-own t is =
-    let red = own-reddened t is in
-    subst Holds (sym red.held) (holds-known_all t.replica.held.own t.replica.held is is.own)
 
 pub holds-rule : IsRule HoldsIn (λ a. Unit {0})
 holds-rule = record {

@@ -18,15 +18,16 @@ use Rattle.cg_client.specs.Marks.{is_unmade, after_first, with_green, unknown_in
 use Rattle.cg_client.specs.Summary.{own_to_red}
 use Rattle.cg_stored.specs.Stored.{Stored, stored_of}
 use Rattle.cg_stored.specs.Following.{fits_known, know, green_by_name, all_of}
-use Rattle.cg_step.specs.Holds.{run_on, cut_behind, Holds}
+use Rattle.cg_commit.specs.Holds.{run_on, cut_behind, Holds}
 use Rattle.cg_step.specs.Recorded.{Named}
-use Rattle.cg_step.specs.CutRaiseLaws.{rising-raise, index-same, raise-below}
-use Rattle.cg_step.specs.RunMarkLaws.{run-names, names-new, run-head, run-rest}
-use Rattle.cg_step.proofs.HoldsMarks.{known_by, own-same, rising-red, green-below, holds-known}
+use Rattle.cg_commit.specs.CutRaiseLaws.{rising-raise, index-same, raise-below}
+use Rattle.cg_commit.specs.RunMarkLaws.{run-names, names-new, run-head, run-rest}
 use Rattle.cg_step.proofs.Rows.{find-red, IsRule}
-use Rattle.cg_step.proofs.Knowing.{know-some, fits-next, fits-own, fits-made, known_all, own-reddened, holds-placed, holds-own, holds-rule}
+use Rattle.cg_step.proofs.Knowing.{know-some, fits-own, fits-made, holds-placed, holds-rule}
 use Rattle.cg_step.proofs.Commuting.{greened-to, known-before}
-use Rattle.cg_step.specs.HeldLaws.{after-here}
+use Rattle.cg_commit.specs.HeldLaws.{after-here}
+use Rattle.cg_commit.specs.HoldsMarkLaws.{known_by, own-same, rising-red, green-below, holds-known}
+use Rattle.cg_commit.specs.KnownLaws.{fits-next, known_all, own-reddened, holds-own}
 
 -- without the values that a record has at any time
 abbrev pub no_prim : Primary

@@ -1,13 +1,8 @@
-mod HoldsMarks
-mod HoldsValues
 mod Rows
 mod Knowing
 mod Commuting
 mod Led
 mod Steps
 mod Recording
-mod Settling
-mod Opening
 mod Counting
-mod Always
 mod Following

@@ -17,18 +17,18 @@ use Rattle.cg_client.specs.Requests.{next_action, create}
 use Rattle.cg_stored.specs.Stored.{Stored, stored_of, stable_of, whiten, recover}
 use Rattle.cg_stored.specs.Following.{fits_known, know, green_by_name, make, all_of, are_yellow, put_values, with_values, after_change, IsAhead, IsRecorded}
 use Rattle.cg_step.specs.Step.{Input, Deliveries, Asks, take, replica_step}
-use Rattle.cg_step.specs.Commit.{same_values, commits}
-use Rattle.cg_step.specs.Holds.{run_on, Holds}
+use Rattle.cg_commit.specs.Commit.{same_values, commits}
+use Rattle.cg_commit.specs.Holds.{run_on, Holds}
 use Rattle.cg_step.specs.Recorded.{Named, AreBooked, AlwaysRecorded, AlwaysAhead}
-use Rattle.cg_step.specs.RunMarkLaws.{run-head, run-rest}
-use Rattle.cg_step.proofs.HoldsMarks.{known_by}
+use Rattle.cg_commit.specs.RunMarkLaws.{run-head, run-rest}
 use Rattle.cg_step.proofs.Rows.{of-deliveries}
-use Rattle.cg_step.proofs.Knowing.{know-some, fits-own, known_all, own-reddened}
-use Rattle.cg_step.proofs.Commuting.{some-same, none-all}
+use Rattle.cg_step.proofs.Knowing.{know-some, fits-own}
 use Rattle.cg_step.proofs.Led.{bare, Led, led-begin, Goes, goes-rule}
 use Rattle.cg_step.proofs.Steps.{IsKeptByMaking, of-settle, of-request_in, holds-making}
-use Rattle.cg_step.specs.HeldLaws.{after-here}
-use Rattle.cg_step.specs.ValueLaws.{HaveOneValue, one-value}
+use Rattle.cg_commit.specs.HeldLaws.{after-here}
+use Rattle.cg_commit.specs.ValueLaws.{HaveOneValue, one-value}
+use Rattle.cg_commit.specs.HoldsMarkLaws.{known_by}
+use Rattle.cg_commit.specs.KnownLaws.{known_all, own-reddened, some-same, none-all}
 
 -- a turn with the actions that it has made
 pub record Made (s : Stored) (unwritten : List Action) (t : Turn) : Type 0 where

@@ -10,7 +10,7 @@ use Rattle.cg_base.specs.Sets.{has, is_within, with_member}
 use Rattle.cg_action.specs.declared.action.Action.{Action}
 use Rattle.cg_action.specs.declared.action.Kind.{Kind}
 use Rattle.cg_queue.specs.Distinct.{is_distinct}
-use Rattle.cg_queue.specs.Queue.{names_of, and_yellow, marked_red, marked_yellow, placed_red, action_of}
+use Rattle.cg_queue.specs.Queue.{names_of, and_yellow, marked_red, marked_yellow, placed_red, action_of, QueueView}
 use Rattle.cg_records.specs.declared.primary.Primary.{Primary}
 use Rattle.cg_records.specs.declared.vulnerable.Vulnerable.{Vulnerable}
 use Rattle.cg_records.specs.Limits.{Each}
@@ -34,24 +34,24 @@ use Rattle.cg_client.specs.Requests.{empty_buffer, buffer}
 use Rattle.cg_client.specs.Summary.{own_to_red, tell, enter_exchange}
 use Rattle.cg_client.specs.Install.{actions_named, valid_yellow, yellow_green, reds_green, prim_after, install}
 use Rattle.cg_prim.specs.TransPrim.{end_prim}
-use Rattle.cg_exchange.specs.PlanEnd.{usable_names, take_over, begin_attempt, attempt, decide, end_plan}
+use Rattle.cg_exchange.specs.PlanEnd.{usable_names, take_over, begin_attempt, attempt, decide, end_plan, with_name}
 use Rattle.cg_exchange.specs.ExchangeActions.{mark_item, take_item, send_part, messages_of, progress, go_on, is_next, exchange_actions_on_item}
 use Rattle.cg_exchange.specs.ExchangeStates.{is_usable, with_heard, exchange_states_on_summary}
 use Rattle.cg_construct.specs.Construct.{attempt_set, is_announced, construct_with, construct_on_cpc}
 use Rattle.cg_construct.specs.No.{no_record, no_with, no_on_cpc}
 use Rattle.cg_construct.specs.Un.{un_on_action}
 use Rattle.cg_step.specs.Step.{on_message, on_transitional, on_regular, take}
-use Rattle.cg_step.specs.Holds.{CountsTo, Holds}
+use Rattle.cg_commit.specs.Holds.{CountsTo, Holds}
 use Rattle.cg_step.specs.Recorded.{OfMessage, OfDelivery}
 use Rattle.cg_stored.specs.Following.{are_yellow}
 use Rattle.cg_stored.specs.Agreeing.{indexes_of}
 use Rattle.cg_base.specs.IdLaws.{same_id-false}
 use Rattle.cg_queue.specs.MarkLaws.{red-known, red-placed, red-gap}
-use Rattle.cg_step.specs.CutRaiseLaws.{index-same}
-use Rattle.cg_step.specs.RunMarkLaws.{run-names}
-use Rattle.cg_step.proofs.HoldsMarks.{are_red, known_by, holds-known, rising-red}
-use Rattle.cg_step.proofs.HoldsValues.{with_values_of, usable-yellow, yellowed}
-use Rattle.cg_step.specs.HeldLaws.{each-found}
+use Rattle.cg_commit.specs.CutRaiseLaws.{index-same}
+use Rattle.cg_commit.specs.RunMarkLaws.{run-names}
+use Rattle.cg_commit.specs.HeldLaws.{each-found}
+use Rattle.cg_commit.specs.HoldsValueLaws.{yellow-behind, with_values_of, yellowed}
+use Rattle.cg_commit.specs.HoldsMarkLaws.{are_red, known_by, rising-red, holds-known}
 
 -- the replica goes to a state, and messages are sent
 abbrev pub quietly : Turn → State → List Msg → Turn
@@ -69,6 +69,22 @@ pub record IsRule (P : Turn → Type 0) (Fine : Action → Type 0) : Type 0 wher
   pub green : (t : Turn) (a : Action) → Fine a → a.id.index ≡ suc (index_in t.replica.held.queue.green_cut a.id.creator) → is_unmade t.replica.held a ≡ false →
       P t → P (place_green t a)
   pub own_red : (t : Turn) → P t → P (own_to_red t)
+
+-- ---- yellow names that may be used
+
+usable-from : (q : QueueView) (list ids : List ActionId) → are_yellow q list ≡ true → are_yellow q (fold (with_name q) list ids) ≡ true
+usable-from q list [] yellow = yellow
+usable-from q list (id ∷ ids) yellow = usable-from q (with_name q list id) ids (elim (cases_Bool (names (names_of q.reds) id)) [
+  | inl red ↦ elim (cases_Bool (names list id)) [
+    | inl there ↦ rw (red, there) yellow
+    | inr new ↦ rw (red, new) (yellow-behind q list id yellow red new)
+  ]
+  | inr other ↦ rw other yellow
+])
+
+pub usable-yellow : (q : QueueView) (ids : List ActionId) → are_yellow q (usable_names q ids) ≡ true
+unfolding usable_names
+usable-yellow q ids = usable-from q [] ids refl
 
 -- ---- lists of fine actions
 

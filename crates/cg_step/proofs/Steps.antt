@@ -6,16 +6,15 @@ use Rattle.cg_wire.specs.declared.message.Msg.{Msg}
 use Rattle.cg_wire.specs.declared.message.Msg.TheVariants.{Action as ActionMsg, State as StateMsg, GreenItem, RedItem, Cpc}
 use Rattle.cg_group.specs.declared.delivery.Delivery.{Delivery}
 use Rattle.cg_group.specs.declared.delivery.Delivery.TheVariants.{Message, Transitional as TransitionalIn, Regular as RegularIn}
-use Rattle.cg_client.specs.Replica.{Held, State, RegPrim, TransPrim, ExchangeStates, ExchangeActions, Construct, No, Un, NonPrim, Left, Replica}
+use Rattle.cg_client.specs.Replica.{State, RegPrim, TransPrim, ExchangeStates, ExchangeActions, Construct, No, Un, NonPrim, Left, Replica}
 use Rattle.cg_client.specs.Turn.{Turn, begin}
 use Rattle.cg_client.specs.Requests.{is_creating, next_action, create, create_kept, empty_buffer, buffer, settle, request_in}
-use Rattle.cg_stored.specs.Stored.{Stored, stored_of, recover}
 use Rattle.cg_step.specs.Step.{Input, Deliveries, Asks, take, replica_step}
-use Rattle.cg_step.specs.Holds.{Holds}
+use Rattle.cg_commit.specs.Holds.{Holds}
 use Rattle.cg_step.specs.Recorded.{OfMessage, OfDelivery}
-use Rattle.cg_step.proofs.HoldsValues.{holds-made}
 use Rattle.cg_step.proofs.Rows.{of-deliveries, of-buffer, of-empty_buffer}
-use Rattle.cg_step.proofs.Knowing.{HoldsIn, holds-rule, holds-own}
+use Rattle.cg_step.proofs.Knowing.{HoldsIn, holds-rule}
+use Rattle.cg_commit.specs.HoldsValueLaws.{holds-made}
 
 -- ---- what a turn with own actions made keeps
 
@@ -89,21 +88,3 @@ unfolding replica_step
 holds-step r (Deliveries list) is =
     of-settle HoldsIn holds-making (fold take (begin r) list) (of-deliveries HoldsIn (λ a. Unit {0}) holds-rule (begin r) list (any-deliveries list) is)
 holds-step r (Asks kind) is = of-request_in HoldsIn holds-making r.state (begin r) kind is
-
-pub holds-stored : (h : Held) → Holds h → Holds (stored_of h)
-holds-stored h is = record {
-  rising = is.rising;
-  greens = is.greens;
-  count = is.count;
-  red_cut = is.red_cut;
-  reds = is.reds;
-  by_name = is.by_name;
-  own = is.own;
-  mine = is.mine;
-  yellow = is.yellow;
-  members = is.members;
-}
-
-pub holds-recovered : (s : Stored) → Holds s → Holds (recover s).replica.held
-unfolding recover
-holds-recovered s is = holds-own (begin (record { held = s; state = NonPrim false })) is

@@ -7,8 +7,8 @@ use Rattle.cg_client.specs.Turn.{Turn}
 use Rattle.cg_stored.specs.Stored.{Stored, stored_of, whiten}
 use Rattle.cg_stored.specs.Following.{IsAhead}
 use Rattle.cg_step.specs.Step.{Input, replica_step}
-use Rattle.cg_step.specs.Crash.{Disk, new_disk, Ended, Runs, Crashes, end_event, at_rest, recovered, disk_recovered}
-use Rattle.cg_step.specs.Holds.{Holds}
+use Rattle.cg_commit.specs.Crash.{Disk, new_disk, Ended, Runs, Crashes, end_event, at_rest, recovered, disk_recovered}
+use Rattle.cg_commit.specs.Holds.{Holds}
 use Rattle.cg_step.specs.Recorded.{AreBooked}
 
 -- what stands on a disk holds, and has nothing that is kept in memory alone

@@ -1,13 +1,5 @@
-pub mod Holds
-pub mod CutRaiseLaws
-pub mod RunLaws
-pub mod RunMarkLaws
-pub mod HeldLaws
-pub mod ValueLaws
 pub mod Step
 pub mod Hearing
 pub mod HearingLaws
 pub mod Recorded
 pub mod Following
-pub mod Commit
-pub mod Crash

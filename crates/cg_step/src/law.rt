@@ -1,11 +1,9 @@
-ghost use Rattle.cg_step.specs.Recorded.{AlwaysHolds, AlwaysCounts, AlwaysSettled, AlwaysRecorded, AlwaysAhead};
+ghost use Rattle.cg_step.specs.Recorded.{AlwaysKept, AlwaysRecorded, AlwaysAhead};
 ghost use Rattle.cg_step.specs.Following.{AlwaysFollows};
 
-/// What holds of a new replica holds behind each event, whatever comes to it, on its disk, and where it comes up again.
-pub fn what_is_held_agrees()
-    ensures holds { AlwaysHolds }
-    ensures counts { AlwaysCounts }
-    ensures settled { AlwaysSettled }
+/// What holds of what a replica holds is kept by each event, whatever comes to it.
+pub fn each_event_keeps_what_holds()
+    ensures { AlwaysKept }
 {}
 
 /// The record of each commit leads from what stands on the disk to what the commit leaves, and behind an event without a

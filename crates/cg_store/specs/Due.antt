@@ -13,7 +13,7 @@ use Rattle.cg_stored.specs.Stored.{Stored, stable_of}
 use Rattle.cg_stored.specs.Change.{spelled_change}
 use Rattle.cg_stored.specs.Limits.{IsChange}
 use Rattle.cg_stored.specs.Following.{change_with}
-use Rattle.cg_step.specs.Commit.{commits}
+use Rattle.cg_commit.specs.Commit.{commits}
 use Rattle.cg_client.specs.Drafts.{turn_with}
 use Rattle.cg_store.specs.Stands.{OnDisk, led_by, led}
 use Rattle.cg_store.specs.declared.due.Due.{Due}

@@ -11,7 +11,7 @@ use Rattle.cg_stored.specs.Stored.{Stored, stable_of}
 use Rattle.cg_stored.specs.Parts.{Saved, saved_in, stored_in, checkpoint_in}
 use Rattle.cg_stored.specs.Laws.{AreSaved}
 use Rattle.cg_stored.specs.declared.checkpoint.Checkpoint.{Checkpoint}
-use Rattle.cg_step.specs.Holds.{Holds}
+use Rattle.cg_commit.specs.Holds.{Holds}
 use Rattle.cg_store.specs.Stands.{Live, live_from, OnDisk, standing_on, Stands, stands_for, standing_in, led_by_all}
 use Rattle.cg_store.specs.Kept.{Kept}
 use Rattle.cg_store.specs.declared.finding.Found.{Found}

@@ -4,7 +4,7 @@ ghost use Rattle.cg_disk.specs.Sides.{opposite};
 ghost use Rattle.cg_journal.specs.Records.{on_side};
 ghost use Rattle.cg_stored.specs.Laws.{AreSaved};
 ghost use Rattle.cg_stored.specs.Parts.{stored_in};
-ghost use Rattle.cg_step.specs.Holds.{Holds};
+ghost use Rattle.cg_commit.specs.Holds.{Holds};
 ghost use Rattle.cg_store.specs.Stands.{led_by_all};
 ghost use Rattle.cg_store.specs.Opening.{Follows, FindsFirst, IsInFront, IsLater, FindsFront, Replays, Finds};
 
@@ -13,10 +13,10 @@ use crate::recent::Recent;
 use crate::replay::follow;
 use cg_base::{NoMemory, ReplicaId};
 use cg_client::Core;
+use cg_commit::what_is_held_agrees;
 use cg_disk::Side;
 use cg_journal::Bodies;
 use cg_records::Stable;
-use cg_step::what_is_held_agrees;
 use cg_stored::{Checkpoint, generation_of, read_checkpoint};
 use std::alloc::Global;
 

@@ -12,7 +12,7 @@ ghost use Rattle.cg_action.specs.Reading.{action_reading};
 ghost use Rattle.cg_codec.specs.declared.fault.CodecFault.TheVariants.{NoMemory as OutOfMemory};
 ghost use Rattle.cg_stored.specs.Following.{fits_known, know, green_by_name, make, are_yellow, put_values, with_values};
 ghost use Rattle.cg_stored.specs.Reading.{actions_reading, ids_reading};
-ghost use Rattle.cg_step.specs.Holds.{Holds};
+ghost use Rattle.cg_commit.specs.Holds.{Holds};
 ghost use Rattle.cg_store.specs.Stands.{led_by};
 ghost use Rattle.cg_store.specs.Opening.{Follows};
 ghost use Rattle.cg_store.specs.Putting.{PutsAll};
@@ -23,9 +23,9 @@ use cg_action::{Action, actions_are_exact, take_action, take_action_id};
 use cg_base::{ActionId, NoMemory};
 use cg_client::Core;
 use cg_codec::{CodecFault, Fields};
+use cg_commit::what_is_held_agrees;
 use cg_queue::{is_distinct, is_next};
 use cg_records::Stable;
-use cg_step::what_is_held_agrees;
 use std::alloc::Global;
 
 /// Puts a record into what the replica holds, where it is a change that fits. Each of its actions is put in as it is read, so

@@ -98,7 +98,7 @@ impl<D: Disk> Store<D> {
     ghost use Rattle.cg_journal.specs.Opens.{no_records};
     ghost use Rattle.cg_stored.specs.Limits.{IsStored};
     ghost use Rattle.cg_records.specs.Limits.{Each, IsNumber};
-    ghost use Rattle.cg_step.specs.Commit.{commits};
+    ghost use Rattle.cg_commit.specs.Commit.{commits};
     ghost use Rattle.cg_stored.specs.Stored.{Stored, stored_of};
     ghost use Rattle.cg_stored.specs.Checkpoint.{size_limit, spelled_checkpoint};
     ghost use Rattle.cg_stored.specs.Parts.{checkpoint_in};

@@ -14,8 +14,8 @@ use Rattle.cg_client.specs.Whitening.{with_white}
 use Rattle.cg_stored.specs.Stored.{Stored, stored_of, whiten}
 use Rattle.cg_stored.specs.Following.{are_yellow, after_change, IsRecorded}
 use Rattle.cg_stored.specs.Agreeing.{Agrees}
-use Rattle.cg_step.specs.Holds.{Holds}
-use Rattle.cg_step.specs.Recorded.{AlwaysHolds, AlwaysSettled}
+use Rattle.cg_commit.specs.Holds.{Holds}
+use Rattle.cg_commit.specs.Always.{AlwaysHolds, AlwaysSettled}
 use Rattle.cg_store.specs.Calls.{Commits, Keeps}
 use Rattle.cg_store.specs.EndingLaws.{written_by_commit, commit_held}
 use Rattle.cg_store.specs.Kept.{Kept}

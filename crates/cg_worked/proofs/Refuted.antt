@@ -38,7 +38,7 @@ use Rattle.cg_base.specs.Sets.{has}
 use Rattle.cg_knowledge.specs.Members.{remaining}
 use Rattle.cg_queue.specs.Queue.{green_count}
 use Rattle.cg_client.specs.Replica.{Held, Replica, NonPrim, fresh_held}
-use Rattle.cg_step.specs.Crash.{new_disk}
+use Rattle.cg_commit.specs.Crash.{new_disk}
 use Rattle.cg_model.specs.World.{Life, Up, Down, Seat, World, no_world, replica_of}
 use Rattle.cg_model.specs.Run.{Step}
 use Rattle.cg_model.specs.Shown.{made_actions}

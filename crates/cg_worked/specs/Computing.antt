@@ -49,8 +49,8 @@ use Rattle.cg_stored.specs.Parts.{do_agree, change_in, checkpoint_in}
 use Rattle.cg_stored.specs.Reading.{actions_reading, ids_reading, change_reading, server_reading, servers_reading, members_reading, key_behind_reading, entry_reading, entries_reading, reached_reading, kept_reading, checkpoint_reading}
 use Rattle.cg_stored.specs.Stored.{whiten, recover}
 use Rattle.cg_stored.specs.Following.{after_change}
-use Rattle.cg_step.specs.Commit.{same_values, commits}
-use Rattle.cg_step.specs.Crash.{with_change, with_checkpoint, crash_outcome, end_event}
+use Rattle.cg_commit.specs.Commit.{same_values, commits}
+use Rattle.cg_commit.specs.Crash.{with_change, with_checkpoint, crash_outcome, end_event}
 use Rattle.cg_step.specs.Step.{on_message, on_transitional, on_regular, take, replica_step}
 use Rattle.cg_model.specs.Admission.{first_refusal}
 use Rattle.cg_model.specs.Show.{ended}

@@ -10,14 +10,14 @@
 ghost use Rattle.std.specs.Prelude.{◌≡◌, ◌+◌, ◌≤◌, [], IfOk};
 ghost use Rattle.cg_stored.specs.Agreeing.{Agrees};
 ghost use Rattle.cg_stored.specs.Stored.{stored_of};
-ghost use Rattle.cg_step.specs.Holds.{Holds};
+ghost use Rattle.cg_commit.specs.Holds.{Holds};
 ghost use Rattle.cg_store_tests.specs.Bench.{IsHeld, calls_of};
 
 use super::put_opened;
 use cg_base::{IdSet, NoMemory, ReplicaId, WeightSet};
 use cg_client::{Core, Draft};
+use cg_commit::what_is_held_agrees;
 use cg_disk::{Disk, ModelDisk};
-use cg_step::what_is_held_agrees;
 use cg_store::{CommitErr, Store};
 use std::alloc::{AllocGlobal, Global};
 use std::process::Abort;

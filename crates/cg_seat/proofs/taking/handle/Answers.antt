@@ -9,9 +9,10 @@ use Rattle.cg_seat.proofs.taking.handle.Goals as goal
 pub fall-requires-clause-falls : goal.fall-requires-clause-falls
 fall-requires-clause-falls c =
     let old = c.args.engine in
+    let kept = c.each_event_keeps_what_holds.ensures in
     let laws = c.what_is_held_agrees.ensures in
     let is = c.id-id.ensures.follows in
-    let fell = falls_down view_of c.events_end_as_defined.ensures laws.holds laws.counts old c.args.fill (input_of c.args.input) c.requires.booked.0 (state_of old.store.disk) refl is c.requires.booked.1
+    let fell = falls_down view_of c.events_end_as_defined.ensures kept laws.counts old c.args.fill (input_of c.args.input) c.requires.booked.0 (state_of old.store.disk) refl is c.requires.booked.1
     c.in-Down.wreck (c.in-Down.ensures is.standing is.stands) in
     (fell.0, fell.1)
 
@@ -26,17 +27,19 @@ fall-requires-clause-room c =
 pub returns-in-Running : goal.returns-in-Running
 returns-in-Running c =
     let old = c.args.engine in
+    let kept = c.each_event_keeps_what_holds.ensures in
     let laws = c.what_is_held_agrees.ensures in
     let is = c.id-id.ensures.follows in
     c.go_on.ensures
-    ∙ goes_on view_of c.events_end_as_defined.ensures laws.holds laws.counts old c.args.fill (input_of c.args.input) c.requires.booked.0 (state_of old.store.disk) refl is c.requires.booked.1
+    ∙ goes_on view_of c.events_end_as_defined.ensures kept laws.counts old c.args.fill (input_of c.args.input) c.requires.booked.0 (state_of old.store.disk) refl is c.requires.booked.1
     c.in-Running.engine c.in-Running.outputs (c.in-Running.ensures is.standing is.stands)
 
 pub returns-in-Down : goal.returns-in-Down
 returns-in-Down c =
     let old = c.args.engine in
+    let kept = c.each_event_keeps_what_holds.ensures in
     let laws = c.what_is_held_agrees.ensures in
     let is = c.id-id.ensures.follows in
-    let fell = falls_down view_of c.events_end_as_defined.ensures laws.holds laws.counts old c.args.fill (input_of c.args.input) c.requires.booked.0 (state_of old.store.disk) refl is c.requires.booked.1
+    let fell = falls_down view_of c.events_end_as_defined.ensures kept laws.counts old c.args.fill (input_of c.args.input) c.requires.booked.0 (state_of old.store.disk) refl is c.requires.booked.1
     c.in-Down.wreck (c.in-Down.ensures is.standing is.stands) in
     fallen_so view_of c.in-Down.wreck c.args.fill fell.0 fell.1 c.fall.result _ fell.2 c.fall.ensures

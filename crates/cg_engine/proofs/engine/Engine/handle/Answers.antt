@@ -1,6 +1,6 @@
 use Rattle.std.proofs.Common.{refl, sym, ◌∙◌, ap, subst}
 use Rattle.cg_queue.specs.Queue.{green_count}
-use Rattle.cg_step.specs.Commit.{commits}
+use Rattle.cg_commit.specs.Commit.{commits}
 use Rattle.cg_step.specs.Recorded.{AreBooked}
 use Rattle.cg_step.specs.Step.{replica_step}
 use Rattle.cg_store.specs.Stands.{Stands}
@@ -19,7 +19,7 @@ end-requires-clause-may g c =
     let old = up c.self.inside.store c.self.inside.replica in
     let input = input_of c.args.input in
     let book = c.requires.booked.0 in
-    may_end_there always.holds always.counts always.settled each.recorded each.ahead g.D.Disk.view old c.begin.new.self input book (turn_of c.in-Ok.replica c.in-Ok.draft) c.self.invariant
+    may_end_there always.holds always.counts always.settled c.each_event_keeps_what_holds.ensures each.recorded each.ahead g.D.Disk.view old c.begin.new.self input book (turn_of c.in-Ok.replica c.in-Ok.draft) c.self.invariant
     (subst (λ (x : Up _). AreBooked book x.replica.held input) (sym c.self.view_is) c.requires.booked.1) c.begin.ensures.disk c.begin.ensures.id c.begin.ensures.unwritten c.in-Ok.ensures
 
 pub returns-in-Ok : goal.returns-in-Ok

@@ -1,7 +1,7 @@
 use Rattle.std.proofs.Common.{refl, sym, ap, ◌∙◌}
 use Rattle.cg_disk.specs.Model.{view_of, state_of}
 use Rattle.cg_disk.specs.State.{Stops}
-use Rattle.cg_step.specs.Crash.{StopWith, Strike}
+use Rattle.cg_commit.specs.Crash.{StopWith, Strike}
 use Rattle.cg_model.specs.World.{Seat}
 use Rattle.cg_seat.specs.Calls.{armed}
 use Rattle.cg_seat.specs.Seen.{seen}

@@ -3,7 +3,7 @@ use Rattle.cg_disk.specs.Model.{view_of}
 use Rattle.cg_client.specs.Drafts.{turn_with}
 use Rattle.cg_client.specs.Replica.{NonPrim}
 use Rattle.cg_stored.specs.Following.{IsRecorded}
-use Rattle.cg_step.specs.Commit.{commits}
+use Rattle.cg_commit.specs.Commit.{commits}
 use Rattle.cg_store_tests.proofs.Attempting.{attempt_holds, attempt_recorded, held_behind, settled_behind}
 use Rattle.cg_store_tests.proofs.tests.strikes.written.Goals as goal
 

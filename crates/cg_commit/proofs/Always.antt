@@ -1,14 +1,12 @@
--- What always holds of a replica, put together.
-use Rattle.cg_step.specs.Recorded.{AlwaysHolds, AlwaysCounts}
-use Rattle.cg_step.proofs.Counting.{step-counts}
-use Rattle.cg_step.proofs.HoldsValues.{holds-fresh, line-green, holds-whiten, whitened-counts}
-use Rattle.cg_step.proofs.Opening.{holds-marked, holds-changed, holds-opened}
-use Rattle.cg_step.proofs.Steps.{holds-step, holds-stored, holds-recovered}
+-- What always holds of a replica and its disk, put together.
+use Rattle.cg_commit.specs.Always.{AlwaysHolds, AlwaysCounts}
+use Rattle.cg_commit.specs.HoldsValueLaws.{holds-fresh, holds-stored, holds-whiten, line-green, whitened-counts}
+use Rattle.cg_commit.specs.KnownLaws.{holds-recovered}
+use Rattle.cg_commit.proofs.Opening.{holds-marked, holds-changed, holds-opened}
 
 pub always-holds : AlwaysHolds
 always-holds = record {
   fresh = λ id set. holds-fresh id set;
-  step = λ r input is. holds-step r input is;
   whitened = λ h is. holds-whiten h is;
   stored = λ h is. holds-stored h is;
   recovered = λ s is. holds-recovered s is;
@@ -20,6 +18,5 @@ always-holds = record {
 pub always-counts : AlwaysCounts
 always-counts = record {
   line = λ h is. line-green h is;
-  counted = λ r input is. step-counts r input is;
   same_count = λ h is. whitened-counts h is;
 }

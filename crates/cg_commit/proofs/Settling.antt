@@ -18,13 +18,13 @@ use Rattle.cg_queue.specs.Queue.{names_of, green_count}
 use Rattle.cg_client.specs.Replica.{Held, created}
 use Rattle.cg_stored.specs.Stored.{stored_of, whiten}
 use Rattle.cg_stored.specs.Agreeing.{Agrees, indexes_of, count_to, counts_up, is_by_name, is_present}
-use Rattle.cg_step.specs.Holds.{run_on, cut_behind, ascend, Rising, CountsTo, Holds}
-use Rattle.cg_step.specs.Recorded.{AlwaysSettled}
-use Rattle.cg_step.specs.CutRaiseLaws.{rising-raise, index-same, index-other, behind-rises}
-use Rattle.cg_step.specs.RunMarkLaws.{run-head, run-rest, ascend-less}
-use Rattle.cg_step.proofs.HoldsMarks.{rising-red}
-use Rattle.cg_step.proofs.HoldsValues.{holds-whiten}
-use Rattle.cg_step.specs.HeldLaws.{are_of, created-behind}
+use Rattle.cg_commit.specs.Holds.{run_on, cut_behind, ascend, Rising, CountsTo, Holds}
+use Rattle.cg_commit.specs.CutRaiseLaws.{rising-raise, index-same, index-other, behind-rises}
+use Rattle.cg_commit.specs.RunMarkLaws.{run-head, run-rest, ascend-less}
+use Rattle.cg_commit.specs.HeldLaws.{are_of, created-behind}
+use Rattle.cg_commit.specs.HoldsMarkLaws.{rising-red}
+use Rattle.cg_commit.specs.HoldsValueLaws.{holds-whiten}
+use Rattle.cg_commit.specs.Always.{AlwaysSettled}
 
 -- ---- numbers that count up
 

@@ -6,9 +6,9 @@ use Rattle.std.proofs.lemmas.Bool.{cases_eq, cases_order, cases_Bool, eq-eqb, ne
 use Rattle.cg_base.specs.declared.action_id.ActionId.{ActionId}
 use Rattle.cg_base.specs.Ids.{same_id, id_before, names}
 use Rattle.cg_base.specs.Cuts.{index_in, raise}
-use Rattle.cg_step.specs.Holds.{run_on, cut_behind, ascend, Rising}
+use Rattle.cg_commit.specs.Holds.{run_on, cut_behind, ascend, Rising}
 use Rattle.cg_base.specs.IdLaws.{same_id-true, same_id-false, same_name}
-use Rattle.cg_step.specs.CutRaiseLaws.{raise-commute, behind-raised, rising-raise, index-same, index-other, index-rises, behind-rises, raise-below}
+use Rattle.cg_commit.specs.CutRaiseLaws.{raise-commute, behind-raised, rising-raise, index-same, index-other, index-rises, behind-rises, raise-below}
 
 -- ---- one run
 

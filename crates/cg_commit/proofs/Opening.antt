@@ -26,16 +26,15 @@ use Rattle.cg_stored.specs.declared.change.Change.{Change}
 use Rattle.cg_stored.specs.Limits.{IsStored}
 use Rattle.cg_stored.specs.Following.{fits_known, know, green_by_name, make, all_of, are_yellow, put_values, with_values, after_change}
 use Rattle.cg_stored.specs.Agreeing.{Agrees, indexes_of, count_to, counts_up, is_by_name, is_present}
-use Rattle.cg_step.specs.Holds.{run_on, ascend, Rising, CountsTo, Holds}
-use Rattle.cg_step.specs.CutRaiseLaws.{rising-raise, index-same, index-other}
-use Rattle.cg_step.specs.RunMarkLaws.{run-from}
-use Rattle.cg_step.proofs.HoldsMarks.{known_by, holds-known, holds-green}
-use Rattle.cg_step.proofs.HoldsValues.{holds-values, holds-made, holds-whiten}
-use Rattle.cg_step.proofs.Knowing.{fits-next}
-use Rattle.cg_step.proofs.Commuting.{some-same, none-all, greened-from}
-use Rattle.cg_step.proofs.Settling.{mine-indexes}
-use Rattle.cg_step.specs.HeldLaws.{are_of}
-use Rattle.cg_step.specs.ValueLaws.{one-list, one-number}
+use Rattle.cg_commit.specs.Holds.{run_on, ascend, Rising, CountsTo, Holds}
+use Rattle.cg_commit.specs.CutRaiseLaws.{rising-raise, index-same, index-other}
+use Rattle.cg_commit.specs.RunMarkLaws.{run-from}
+use Rattle.cg_commit.specs.HeldLaws.{are_of}
+use Rattle.cg_commit.specs.ValueLaws.{one-list, one-number}
+use Rattle.cg_commit.specs.HoldsMarkLaws.{known_by, holds-known, holds-green}
+use Rattle.cg_commit.specs.HoldsValueLaws.{holds-values, holds-made, holds-whiten}
+use Rattle.cg_commit.specs.KnownLaws.{fits-next, some-same, none-all, greened-from}
+use Rattle.cg_commit.proofs.Settling.{mine-indexes}
 
 -- ---- a change that fits
 

@@ -1,5 +1,5 @@
 -- What holds of what a replica holds, where other things change than its actions: values, own actions, the white count.
-use Rattle.std.proofs.Common.{◌≡◌, ℕ, zero, suc, ◌+◌, ◌-◌, ◌≤◌, List, [], ◌∷◌, ◌++◌, length, drop, fold, Bool, true, false, refl, sym, ap, ◌∙◌, subst, arith, inl, inr, nat_lt, nat_le}
+use Rattle.std.proofs.Common.{◌≡◌, ℕ, zero, suc, ◌+◌, ◌-◌, ◌≤◌, List, [], ◌∷◌, ◌++◌, length, drop, Bool, true, false, refl, sym, ap, ◌∙◌, subst, arith, inl, inr, nat_lt, nat_le}
 use Rattle.std.specs.Prelude.{◌==◌, Option}
 use Rattle.std.specs.Option.{unwrap_or}
 use Rattle.std.specs.List.{list_all}
@@ -18,18 +18,17 @@ use Rattle.cg_queue.specs.Queue.{QueueView, names_of, green_count, with_yellow}
 use Rattle.cg_records.specs.declared.primary.Primary.{Primary}
 use Rattle.cg_records.specs.declared.vulnerable.Vulnerable.{Vulnerable}
 use Rattle.cg_client.specs.Replica.{Held, fresh_held, created}
-use Rattle.cg_exchange.specs.PlanEnd.{with_name, usable_names}
 use Rattle.cg_client.specs.Whitening.{white_at}
 use Rattle.cg_client.specs.Calls.{IsLineGreen}
-use Rattle.cg_stored.specs.Stored.{whiten}
+use Rattle.cg_stored.specs.Stored.{stored_of, whiten}
 use Rattle.cg_stored.specs.Following.{are_yellow}
 use Rattle.cg_stored.specs.Agreeing.{indexes_of}
-use Rattle.cg_step.specs.Holds.{run_on, cut_behind, CountsTo, Holds}
-use Rattle.cg_step.specs.RunLaws.{run_on-next}
-use Rattle.cg_step.specs.RunMarkLaws.{run-names}
-use Rattle.cg_step.proofs.HoldsMarks.{are_red, rising-red}
+use Rattle.cg_commit.specs.Holds.{run_on, cut_behind, CountsTo, Holds}
+use Rattle.cg_commit.specs.RunLaws.{run_on-next}
+use Rattle.cg_commit.specs.RunMarkLaws.{run-names}
 use Rattle.cg_members.specs.MemberLaws.{AreApart-starting}
-use Rattle.cg_step.specs.HeldLaws.{are_of, names-behind, created-behind, line-below}
+use Rattle.cg_commit.specs.HeldLaws.{are_of, names-behind, created-behind, line-below}
+use Rattle.cg_commit.specs.HoldsMarkLaws.{are_red, rising-red}
 
 -- what is held with other values
 abbrev pub with_values_of : Held → List ActionId → Bool → Primary → ℕ → Option Vulnerable → List Kind → Held
@@ -58,25 +57,11 @@ all-behind : (p : ActionId → Bool) (ids : List ActionId) (id : ActionId) → l
 all-behind p [] id every last = and_from (p id) true last refl
 all-behind p (x ∷ ids) id every last = let parts = and_parts (p x) (list_all p ids) every in and_from (p x) (list_all p (ids ++ id ∷ [])) parts.0 (all-behind p ids id parts.1 last)
 
-yellow-behind : (q : QueueView) (ids : List ActionId) (id : ActionId) → are_yellow q ids ≡ true → names (names_of q.reds) id ≡ true → names ids id ≡ false → are_yellow q (ids ++ id ∷ []) ≡ true
+pub yellow-behind : (q : QueueView) (ids : List ActionId) (id : ActionId) → are_yellow q ids ≡ true → names (names_of q.reds) id ≡ true → names ids id ≡ false → are_yellow q (ids ++ id ∷ []) ≡ true
 yellow-behind q ids id yellow red new =
     let parts = and_parts (is_distinct ids) (are_red (names_of q.reds) ids) yellow in
     and_from (is_distinct (ids ++ id ∷ [])) (are_red (names_of q.reds) (ids ++ id ∷ [])) (distinct-behind ids id parts.0 new)
     (all-behind (names (names_of q.reds)) ids id parts.1 red)
-
-usable-from : (q : QueueView) (list ids : List ActionId) → are_yellow q list ≡ true → are_yellow q (fold (with_name q) list ids) ≡ true
-usable-from q list [] yellow = yellow
-usable-from q list (id ∷ ids) yellow = usable-from q (with_name q list id) ids (elim (cases_Bool (names (names_of q.reds) id)) [
-  | inl red ↦ elim (cases_Bool (names list id)) [
-    | inl there ↦ rw (red, there) yellow
-    | inr new ↦ rw (red, new) (yellow-behind q list id yellow red new)
-  ]
-  | inr other ↦ rw other yellow
-])
-
-pub usable-yellow : (q : QueueView) (ids : List ActionId) → are_yellow q (usable_names q ids) ≡ true
-unfolding usable_names
-usable-yellow q ids = usable-from q [] ids refl
 
 -- a name that is known comes to the yellow ones
 pub record Yellowed (q : QueueView) (id : ActionId) : Type 0 where
@@ -181,6 +166,22 @@ holds-whiten h is =
       yellow = is.yellow;
       members = subst (AreApart h.members) counted is.members;
     }
+
+-- ---- what stands on the disk
+
+pub holds-stored : (h : Held) → Holds h → Holds (stored_of h)
+holds-stored h is = record {
+  rising = is.rising;
+  greens = is.greens;
+  count = is.count;
+  red_cut = is.red_cut;
+  reds = is.reds;
+  by_name = is.by_name;
+  own = is.own;
+  mine = is.mine;
+  yellow = is.yellow;
+  members = is.members;
+}
 
 -- ---- a new replica
 

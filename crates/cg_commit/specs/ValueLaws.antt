@@ -16,7 +16,7 @@ use Rattle.cg_records.specs.contracts.primary.PrimaryPartialEq.TheImpl.{ghosts a
 use Rattle.cg_records.specs.contracts.vulnerable.VulnerablePartialEq.TheImpl.{ghosts as vulnerable}
 use Rattle.cg_records.specs.contracts.yellow.YellowPartialEq.TheImpl.{ghosts as yellow}
 use Rattle.cg_client.specs.Replica.{Held, yellow_of}
-use Rattle.cg_step.specs.Commit.{same_values}
+use Rattle.cg_commit.specs.Commit.{same_values}
 
 pub one-list : {A : Type 0} (eq : A → A → Bool) → ((x y : A) → eq x y ≡ true → x ≡ y) → (xs ys : List A) → pointwise eq xs ys ≡ true → xs ≡ ys
 one-list eq exact [] [] e = refl

@@ -15,13 +15,13 @@ use Rattle.cg_queue.specs.Queue.{names_of, green_count, with_red, without_action
 use Rattle.cg_client.specs.Replica.{Held}
 use Rattle.cg_client.specs.Marks.{after_first, with_green}
 use Rattle.cg_stored.specs.Agreeing.{indexes_of}
-use Rattle.cg_step.specs.Holds.{run_on, cut_behind, ascend, Rising, CountsTo, Holds}
+use Rattle.cg_commit.specs.Holds.{run_on, cut_behind, ascend, Rising, CountsTo, Holds}
 use Rattle.cg_base.specs.IdLaws.{same_id-false, same_id-is}
 use Rattle.cg_base.specs.CutLaws.{raise-some}
-use Rattle.cg_step.specs.CutRaiseLaws.{rising-raise, rising-behind, behind-rises, index-same, index-other}
-use Rattle.cg_step.specs.RunMarkLaws.{run-head, without, taken-out, inserted, run-inserted, behind-inserted, ascend-inserted, ascend-filter, names-new}
+use Rattle.cg_commit.specs.CutRaiseLaws.{rising-raise, rising-behind, behind-rises, index-same, index-other}
+use Rattle.cg_commit.specs.RunMarkLaws.{run-head, without, taken-out, inserted, run-inserted, behind-inserted, ascend-inserted, ascend-filter, names-new}
 use Rattle.cg_members.specs.MemberLaws.{AreApart-after_green}
-use Rattle.cg_step.specs.HeldLaws.{names-with_red, names-without, are-after, after-there, own-after}
+use Rattle.cg_commit.specs.HeldLaws.{names-with_red, names-without, are-after, after-there, own-after}
 
 -- what is held behind an action that becomes known
 abbrev pub known_by : Held → Action → Held

@@ -1,6 +1,6 @@
-use Rattle.cg_step.proofs.Always.{always-holds, always-counts}
-use Rattle.cg_step.proofs.Settling.{always-settled}
-use Rattle.cg_step.proofs.law.what_is_held_agrees.Goals as goal
+use Rattle.cg_commit.proofs.Always.{always-holds, always-counts}
+use Rattle.cg_commit.proofs.Settling.{always-settled}
+use Rattle.cg_commit.proofs.law.what_is_held_agrees.Goals as goal
 
 pub returns-clause-holds : goal.returns-clause-holds
 returns-clause-holds c = always-holds

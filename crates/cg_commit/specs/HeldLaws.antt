@@ -12,10 +12,10 @@ use Rattle.cg_members.specs.Laws.{NoLineAbove}
 use Rattle.cg_queue.specs.Queue.{names_of, with_red, without_action}
 use Rattle.cg_client.specs.Replica.{last_index}
 use Rattle.cg_client.specs.Marks.{after_first}
-use Rattle.cg_step.specs.Holds.{run_on, cut_behind, Rising}
+use Rattle.cg_commit.specs.Holds.{run_on, cut_behind, Rising}
 use Rattle.cg_base.specs.IdLaws.{same_id-true, same_id-false, same_name}
-use Rattle.cg_step.specs.CutRaiseLaws.{rising-raise, index-same, raise-below}
-use Rattle.cg_step.specs.RunMarkLaws.{run-head, run-rest, lacks, run-other, without, inserted}
+use Rattle.cg_commit.specs.CutRaiseLaws.{rising-raise, index-same, raise-below}
+use Rattle.cg_commit.specs.RunMarkLaws.{run-head, run-rest, lacks, run-other, without, inserted}
 use Rattle.std.specs.Option.{unwrap_or, option_to_list}
 use Rattle.cg_base.specs.Lists.{lesser, least_of}
 use Rattle.cg_members.specs.declared.server.Server.{Server}

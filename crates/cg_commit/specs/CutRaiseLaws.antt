@@ -3,7 +3,7 @@ use Rattle.std.proofs.Common.{◌≡◌, ℕ, suc, ◌<◌, ◌≤◌, ◌≢◌
 use Rattle.std.proofs.lemmas.Bool.{cases_eq, cases_order, eq-eqb, ne_eqb, lt-ltb, le-ltb}
 use Rattle.cg_base.specs.declared.action_id.ActionId.{ActionId}
 use Rattle.cg_base.specs.Cuts.{index_in, with_top, raise}
-use Rattle.cg_step.specs.Holds.{cut_behind, Rising}
+use Rattle.cg_commit.specs.Holds.{cut_behind, Rising}
 use Rattle.cg_base.specs.CutLaws.{raise-0, raise-some}
 use Rattle.cg_base.specs.IdLaws.{same_name}
 

@@ -1,0 +1,3 @@
+mod Settling
+mod Opening
+mod Always

@@ -1,0 +1,12 @@
+pub mod Holds
+pub mod CutRaiseLaws
+pub mod RunLaws
+pub mod RunMarkLaws
+pub mod HeldLaws
+pub mod HoldsMarkLaws
+pub mod HoldsValueLaws
+pub mod KnownLaws
+pub mod ValueLaws
+pub mod Always
+pub mod Commit
+pub mod Crash
