@@ -1,7 +1,3 @@
-pub mod Keeping
-pub mod Naming
-pub mod Lines
-pub mod Weighing
 pub mod Splitting
 pub mod Running
 pub mod Choosing

@@ -1,8 +1,6 @@
 pub mod Replica
 pub mod Turn
 pub mod Drafts
-pub mod Kept
-pub mod Components
 pub mod Marks
 pub mod Requests
 pub mod Calls
@@ -10,6 +8,5 @@ pub mod Summary
 pub mod Install
 pub mod Joined
 pub mod Queries
-pub mod ReplicaLaws
 pub mod Overlay
 pub mod Whitening

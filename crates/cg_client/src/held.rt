@@ -1,14 +1,9 @@
 ghost use Rattle.std.specs.Prelude.{◌≡◌, ◌<◌, IfOk};
-ghost use Rattle.cg_client.specs.Replica.{fresh_held, created, last_index};
+ghost use Rattle.cg_client.specs.Replica.{fresh_held, created};
 
-use crate::components::Components;
 use crate::entries::Entries;
-use crate::kept::Kept;
-use crate::known::Known;
-use crate::own::Own;
-use crate::servers::Servers;
-use crate::waiting::Waiting;
 use cg_base::{ActionId, Cut, NoMemory, ReplicaId, Row, WeightSet};
+use cg_parts::{Components, Kept, Known, Own, Servers, Waiting, last_index};
 use std::alloc::Global;
 use std::marker::Model;
 
@@ -66,14 +61,5 @@ impl Core {
         ensures { result ≡ created self.now }
     {
         self.queue.red_index(self.id).max(last_index(&self.own))
-    }
-}
-
-fn last_index(own: &Own) -> u64
-    ensures { result ≡ last_index own.now }
-{
-    match own.last() {
-        Some(a) => a.id.index,
-        None => 0,
     }
 }

@@ -1,24 +1,18 @@
 //! The installation of a primary component.
-ghost use Rattle.std.specs.Prelude.{◌≡◌, ◌++◌, fold, option_map, OnOk, IfOk, Some};
-ghost use Rattle.std.specs.Option.{option_to_list};
+ghost use Rattle.std.specs.Prelude.{◌≡◌, fold, option_map, OnOk, IfOk, Some};
 ghost use Rattle.cg_action.specs.ActionLimits.{IsAction};
 ghost use Rattle.cg_records.specs.Limits.{Each};
-ghost use Rattle.cg_queue.specs.Queue.{action_of};
 ghost use Rattle.cg_client.specs.Replica.{State};
 ghost use Rattle.cg_client.specs.Turn.{with_held};
 ghost use Rattle.cg_client.specs.Marks.{mark_green};
-ghost use Rattle.cg_client.specs.Install.{actions_named, yellow_green, reds_green, with_prim, weighted, prim_after, install};
+ghost use Rattle.cg_client.specs.Install.{yellow_green, reds_green, with_prim, prim_after, install};
 ghost use Rattle.cg_client.specs.Drafts.{turn_with};
 
-use crate::actions::Actions;
-use crate::components::Components;
-use crate::known::Known;
-use crate::servers::Servers;
 use crate::{Core, Draft};
 use cg_action::ActionList;
-use cg_base::{ActionId, IdSet, NoMemory, Row, WeightSet};
+use cg_base::{IdSet, NoMemory, Row};
+use cg_parts::{Components, actions_named, weigh};
 use cg_records::Primary;
-use std::alloc::Global;
 use std::marker::Model;
 
 impl Core {
@@ -130,44 +124,4 @@ impl Installed {
         let Installed { core } = self;
         core
     }
-}
-
-/// The kept actions of these names, in the order of the names.
-pub(crate) fn actions_named(
-    alloc: Global,
-    queue: &Known,
-    ids: &[ActionId],
-) -> Result<Actions, NoMemory>
-    ensures { IfOk result (λ list. list ≡ actions_named queue.now ids.now) }
-{
-    let mut list = Actions::new(alloc);
-    for id in ids {
-        push_named(alloc, queue, *id, &mut list)?;
-    }
-    Ok(list)
-}
-
-fn push_named(
-    alloc: Global,
-    queue: &Known,
-    id: ActionId,
-    list: &mut Actions,
-) -> Result<(), NoMemory>
-    ensures { OnOk result (list.new ≡ list.old ++ option_to_list (action_of queue.now id)) }
-{
-    match queue.get(id) {
-        Some(a) => list.push(a.copy(alloc)?),
-        None => Ok(()),
-    }
-}
-
-// the members of an attempt, each with the weight that it has as a server, and 1 where it is none
-fn weigh(members: &Servers, set: &IdSet) -> WeightSet
-    ensures { result ≡ weighted members.now set.now }
-{
-    let mut weighted = WeightSet::empty();
-    for id in set.iter() {
-        weighted.put(id, members.weight(id).max(1));
-    }
-    weighted
 }

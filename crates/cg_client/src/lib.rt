@@ -5,34 +5,25 @@
 //! the layers above. After `NoMemory` nothing is said of the two: they are to be let go.
 #![tactic(auto)]
 
-mod actions;
-mod components;
 mod draft;
 mod entries;
 mod held;
 mod install;
-mod kept;
-mod known;
 mod lent;
 mod marks;
-mod messages;
-mod names;
 mod overlay;
-mod own;
 mod parts;
 mod queries;
 mod reads;
 mod request;
 mod requests;
-mod servers;
 mod stored;
 mod telling;
-mod waiting;
 
+pub use cg_parts::names_of;
 pub use draft::Draft;
 pub use held::Core;
 pub use install::Installed;
 pub use parts::DraftParts;
-pub use queries::names_of;
 pub use request::Request;
 pub use stored::WhiteState;

@@ -1,45 +1,23 @@
 //! The marks of actions.
-ghost use Rattle.std.specs.Prelude.{◌≡◌, ◌<◌, ◌^◌, ◌==◌, ◌++◌, suc, IsTrue, OnOk, IfOk, option_map};
+ghost use Rattle.std.specs.Prelude.{◌≡◌, ◌==◌, ◌++◌, suc, IsTrue, OnOk, IfOk, option_map};
 ghost use Rattle.cg_base.specs.Cuts.{index_in};
 ghost use Rattle.cg_action.specs.ActionLimits.{IsAction};
 ghost use Rattle.cg_db.specs.Apply.{apply};
 ghost use Rattle.cg_db.specs.Find.{answer, query_of};
 ghost use Rattle.cg_client.specs.Drafts.{turn_with};
 ghost use Rattle.cg_client.specs.Replica.{State};
-ghost use Rattle.cg_client.specs.Marks.{is_unmade, can_be_green, after_first, after_owed, is_first, given_to, unknown_in, place_green, mark_green, mark_green_at, mark_red, mark_yellow, marked};
-ghost use Rattle.cg_queue.specs.Queue.{green_count, placed_green, marked_red, marked_yellow};
+ghost use Rattle.cg_client.specs.Marks.{is_unmade, can_be_green, after_owed, is_first, given_to, place_green, mark_green, mark_green_at, mark_red, mark_yellow, marked};
+ghost use Rattle.cg_queue.specs.Queue.{marked_red, marked_yellow};
 
-use crate::actions::Actions;
 use crate::entries::Entries;
 use crate::held::MOST;
-use crate::known::Known;
-use crate::own::Own;
-use crate::waiting::Waiting;
 use crate::{Core, Draft};
 use cg_action::{Action, Kind};
 use cg_answer::{Answer, Effect};
 use cg_base::{ActionId, NoMemory, Row};
+use cg_parts::{Waiting, drop_own, name_of, note_unknown, put_green};
 use cg_queue::{Mark, QueueFault, is_next};
 use cg_report::Reply;
-use std::alloc::Global;
-
-pub(crate) fn name_of(a: &Action) -> ActionId
-    ensures { result ≡ a.now.id }
-{
-    a.id
-}
-
-pub(crate) fn drop_own(own: &mut Own, id: &ActionId)
-    ensures { own.new ≡ after_first own.old id.now }
-{
-    let is_first = match own.first() {
-        Some(a) => a.id == *id,
-        None => false,
-    };
-    if is_first {
-        own.drop_first();
-    }
-}
 
 fn is_owed(owed: &Waiting<ActionId>, id: &ActionId) -> bool
     ensures { result ≡ is_first owed.now id.now }
@@ -168,22 +146,6 @@ impl Core {
     }
 }
 
-// the action is one more of those that are newly known, where it wasn't known
-fn note_unknown(
-    alloc: Global,
-    queue: &Known,
-    known: &mut Actions,
-    a: &Action,
-) -> Result<(), NoMemory>
-    requires { IsAction a.now }
-    ensures { OnOk result (known.new ≡ known.old ++ unknown_in queue.now a.now) }
-{
-    if queue.red_index(a.id.creator) < a.id.index {
-        known.push(a.copy(alloc)?)?;
-    }
-    Ok(())
-}
-
 pub(crate) fn drop_owed(owed: &mut Waiting<ActionId>, id: &ActionId)
     ensures { owed.new ≡ after_owed owed.old id.now }
 {
@@ -226,18 +188,4 @@ fn reply(
     }
     drop_owed(owed, &id);
     Ok(())
-}
-
-pub(crate) fn put_green(queue: &mut Known, at: u64, a: Action) -> Result<(), NoMemory>
-    requires action { IsAction a }
-    requires place { at ≡ suc (green_count queue.old) }
-    requires few { green_count queue.old < 2 ^ 62 }
-    requires next { a.id.index ≡ suc (index_in queue.old.green_cut a.id.creator) }
-    ensures { OnOk result (queue.new ≡ placed_green queue.old a) }
-{
-    match queue.mark_green(at, a) {
-        Ok(_) => Ok(()),
-        Err(QueueFault::NoMemory) => Err(NoMemory),
-        Err(QueueFault::Gap { .. }) => unreachable!(),
-    }
 }

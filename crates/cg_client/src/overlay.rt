@@ -8,11 +8,11 @@ ghost use Rattle.cg_records.specs.Limits.{Each};
 ghost use Rattle.cg_client.specs.Queries.{behind};
 ghost use Rattle.cg_client.specs.Overlay.{with_key, with_command, with_commands, with_action, named_part, has_key, with_mark, joined, answer_with};
 
-use crate::actions::Actions;
 use cg_action::{Action, ActionList, Cmd, Kind, Query, Value};
 use cg_answer::{Answer, TxtList};
 use cg_base::NoMemory;
 use cg_db::Db;
+use cg_parts::Actions;
 use cg_text::Txt;
 use std::alloc::Global;
 

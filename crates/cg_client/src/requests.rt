@@ -6,10 +6,10 @@ ghost use Rattle.cg_client.specs.Replica.{State};
 ghost use Rattle.cg_client.specs.Requests.{create, create_kept};
 
 use crate::held::MOST;
-use crate::kept::Kept;
 use crate::{Core, Draft};
 use cg_action::{Action, Kind};
 use cg_base::{ActionId, NoMemory, Row};
+use cg_parts::Kept;
 use cg_wire::Msg;
 use std::mem::replace;
 

@@ -5,26 +5,24 @@ ghost use Rattle.cg_action.specs.ActionLimits.{IsAction};
 ghost use Rattle.cg_db.specs.Limits.{AreEntries};
 ghost use Rattle.cg_records.specs.Limits.{Each, IsIndex, IsNumber, IsStable};
 ghost use Rattle.cg_queue.specs.Queue.{resumed, placed_red, placed_green, green_count, action_of};
-ghost use Rattle.cg_client.specs.Marks.{after_first, with_green};
+ghost use Rattle.cg_parts.specs.Own.{after_first};
+ghost use Rattle.cg_client.specs.Marks.{with_green};
 ghost use Rattle.cg_client.specs.Replica.{created, yellow_of};
 ghost use Rattle.cg_client.specs.Whitening.{with_white};
 ghost use Rattle.cg_client.specs.Calls.{IsLineGreen};
 
 use crate::Core;
-use crate::components::{Components, is_number};
 use crate::entries::Entries;
 use crate::held::MOST;
-use crate::known::Known;
-use crate::marks::{drop_owed, drop_own, name_of, put_green};
-use crate::own::Own;
-use crate::servers::Servers;
+use crate::marks::drop_owed;
 use crate::telling::LONG;
-use crate::waiting::Waiting;
 use cg_action::Action;
 use cg_base::{ActionId, Cut, NoMemory, ReplicaId, Row};
 use cg_db::Db;
 use cg_members::Members;
-use cg_queue::QueueFault;
+use cg_parts::{
+    Components, Known, Own, Servers, Waiting, drop_own, is_number, name_of, put_green, put_red,
+};
 use cg_records::{Primary, Stable, Vulnerable, Yellow};
 use std::alloc::Global;
 
@@ -179,17 +177,5 @@ impl Core {
             },
             created,
         })
-    }
-}
-
-fn put_red(queue: &mut Known, a: Action) -> Result<(), NoMemory>
-    requires action { IsAction a }
-    requires next { a.id.index ≡ suc (index_in queue.old.red_cut a.id.creator) }
-    ensures { OnOk result (queue.new ≡ placed_red queue.old a) }
-{
-    match queue.mark_red(a) {
-        Ok(_) => Ok(()),
-        Err(QueueFault::NoMemory) => Err(NoMemory),
-        Err(QueueFault::Gap { .. }) => unreachable!(),
     }
 }

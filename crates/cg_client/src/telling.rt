@@ -8,11 +8,10 @@ ghost use Rattle.cg_client.specs.Drafts.{turn_with};
 ghost use Rattle.cg_client.specs.Replica.{State, ExchangeStates};
 ghost use Rattle.cg_client.specs.Summary.{redden, own_to_red, summary_of, enter_exchange};
 
-use crate::components::{Components, is_number};
-use crate::own::Own;
 use crate::{Core, Draft};
 use cg_base::{IdSet, NoMemory};
 use cg_knowledge::Summary;
+use cg_parts::{Components, Own, is_number};
 use cg_records::{Primary, Vulnerable, Yellow};
 use cg_wire::Msg;
 use std::mem::replace;

@@ -1,0 +1,41 @@
+ghost use Rattle.std.specs.Prelude.{◌≡◌};
+ghost use Rattle.cg_action.specs.Limits.{IsKind};
+
+use cg_action::Kind;
+use std::marker::Model;
+
+/// What a request that is kept asks for. Clauses see it.
+#[derive(Drop)]
+pub struct Kept {
+    kind: Kind,
+}
+
+impl Model for Kept {
+    ghost use Rattle.cg_action.specs.declared.action.Kind.{Kind};
+    ghost use Rattle.cg_action.specs.Limits.{IsKind};
+
+    ghost Value = { Kind };
+
+    ghost view = { λ r. r.kind };
+
+    ghost invariant = { λ r. IsKind r.kind };
+}
+
+impl Kept {
+    /// A request that asks for this.
+    pub fn new(kind: Kind) -> Kept
+        requires { IsKind kind }
+        ensures { result ≡ kind }
+    {
+        Kept { kind }
+    }
+
+    /// What it asks for. It takes no memory.
+    pub fn into_kind(self) -> Kind
+        ensures value { result ≡ self }
+        ensures kind { IsKind result }
+    {
+        let Kept { kind } = self;
+        kind
+    }
+}

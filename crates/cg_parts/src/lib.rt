@@ -1,0 +1,34 @@
+//! The parts that a replica's core is made of, each within its limits: the actions that it knows, its own ones that weren't
+//! delivered yet, the requests that it keeps, the servers, what it knows of primary components, and lists of actions,
+//! names and messages.
+//!
+//! A part is seen as what it holds, and that each value of it has bytes is an invariant of its type: who has the part
+//! knows it. Each call is a function of `specs/`, or of those of the crates below, on what is held. What the parts make
+//! together, and when which call is made, is left to `cg_client`.
+#![tactic(auto)]
+
+mod actions;
+mod chosen;
+mod components;
+mod kept;
+mod known;
+mod marking;
+mod messages;
+mod names;
+mod own;
+mod servers;
+mod waiting;
+mod weights;
+
+pub use actions::Actions;
+pub use chosen::{actions_named, add_plain_reds, names_of, plain_names};
+pub use components::{Components, is_number};
+pub use kept::Kept;
+pub use known::Known;
+pub use marking::{drop_own, last_index, name_of, note_unknown, put_green, put_red};
+pub use messages::Messages;
+pub use names::Names;
+pub use own::Own;
+pub use servers::Servers;
+pub use waiting::Waiting;
+pub use weights::weigh;
