@@ -21,7 +21,7 @@ use Rattle.cg_model.specs.World.{World, Seat, Snapshot, running, seat_of, has_be
 use Rattle.cg_model.specs.Admission.{takes_part, never_named, joiner_left, not_green}
 use Rattle.cg_model.specs.AdmissionCalls.{begun_already}
 use Rattle.cg_model.specs.Step.{quietly, snapshot_for, without_snapshot, transfer}
-use Rattle.cg_seat.specs.Calls.{copied}
+use Rattle.cg_transfer.specs.Calls.{copied}
 use Rattle.cg_events.specs.Going.{seated, fallen}
 use Rattle.cg_events.specs.Grounds.{IsSeated}
 use Rattle.cg_events.specs.Handing.{new_copy, Chooses, takes}

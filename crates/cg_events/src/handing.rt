@@ -15,7 +15,7 @@ use crate::happened::done;
 use crate::{Going, Happened, WorldState};
 use cg_base::{NoMemory, ReplicaId, Row};
 use cg_report::Shown;
-use cg_seat::Transfer;
+use cg_transfer::Transfer;
 use std::alloc::Global;
 
 // The next pieces of a snapshot go to its joiner, which is up when it has all of them.
@@ -97,7 +97,7 @@ fn copy_of(
     ensures { IfOk result (λ found. found ≡ new_copy state.now p joiner) }
 {
     match state.seats.find(p) {
-        Some(seat) => seat.copy_for(joiner, number),
+        Some(seat) => Transfer::of(seat, joiner, number),
         None => Ok(None),
     }
 }

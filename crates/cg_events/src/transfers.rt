@@ -4,7 +4,7 @@ ghost use Rattle.cg_records.specs.Limits.{IsNumber};
 ghost use Rattle.cg_model.specs.World.{Snapshot};
 
 use cg_base::{Cut, NoMemory, ReplicaId};
-use cg_seat::Transfer;
+use cg_transfer::Transfer;
 use std::alloc::Global;
 use std::marker::Model;
 

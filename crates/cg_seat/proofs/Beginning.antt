@@ -1,12 +1,11 @@
 -- A new replica is up with a new disk.
-use Rattle.std.proofs.Common.{◌≡◌, ℕ, List, [], Option, Some, None, refl, sym, ◌∙◌, ap, subst}
+use Rattle.std.proofs.Common.{◌≡◌, ℕ, List, [], Option, Some, None, refl, sym, ◌∙◌, subst}
 use Rattle.std.specs.Option.{option_map}
 use Rattle.cg_base.specs.declared.weighted.Weighted.{Weighted}
 use Rattle.cg_action.specs.declared.action.Action.{Action}
 use Rattle.cg_disk.specs.Crashes.{IsNew, clean_disk}
 use Rattle.cg_disk.specs.State.{DiskState, Strike as DiskStrike}
 use Rattle.cg_disk.specs.View.{DiskView}
-use Rattle.cg_journal.specs.Strikes.{strike_of, IsUnstruck}
 use Rattle.cg_client.specs.Replica.{fresh_held}
 use Rattle.cg_commit.specs.Crash.{Disk, new_disk}
 use Rattle.cg_store.specs.Defined.{EndsAsDefined}
@@ -16,17 +15,9 @@ use Rattle.cg_engine.specs.Defined.{strike_from}
 use Rattle.cg_engine.specs.Engines.{Up as UpEngine}
 use Rattle.cg_model.specs.World.{Up}
 use Rattle.cg_seat.specs.Calls.{seat, begun}
+use Rattle.cg_seat.specs.RestingLaws.{stays_unarmed}
 use Rattle.cg_seat.specs.Seen.{disk_seen, up_seen}
 use Rattle.cg_seat.specs.SeenLaws.{disk-seen}
-
--- where nothing was armed nothing is
-pub stays_unarmed : (old new : DiskView) (s z : DiskState) → IsUnstruck old new → old.state ≡ Some s → s.strike ≡ None → new.state ≡ Some z → z.strike ≡ None
-stays_unarmed old new s z unstruck before none behind =
-    let there : strike_of new ≡ Some z.strike = ap (option_map (λ (x : DiskState). x.strike)) behind in
-    let here : strike_of old ≡ Some s.strike = ap (option_map (λ (x : DiskState). x.strike)) before in
-    let both : Some z.strike ≡ Some s.strike = sym there ∙ unstruck.stays ∙ here in
-    let same : z.strike ≡ s.strike = cc in
-    same ∙ none
 
 -- a disk on which this is armed
 abbrev armed_so : List Action → OnDisk → Option DiskStrike → ℕ → List ℕ → Disk

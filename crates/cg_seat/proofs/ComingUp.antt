@@ -14,9 +14,9 @@ use Rattle.cg_model.specs.Show.{News, news_of_recovery}
 use Rattle.cg_model.specs.World.{Up, Seat}
 use Rattle.cg_seat.specs.Calls.{seat, risen}
 use Rattle.cg_seat.specs.Resting.{IsResting}
+use Rattle.cg_seat.specs.RestingLaws.{stays_unarmed}
 use Rattle.cg_seat.specs.Seen.{disk_seen, disk_left, green_left, up_seen, down_seen}
 use Rattle.cg_seat.specs.SeenLaws.{disk-seen, disk-left, green-left}
-use Rattle.cg_seat.proofs.Beginning.{stays_unarmed}
 
 module _ {D : Type 0} (view : D → DiskView) (w : Fallen D) (rests : IsResting (view w.disk) w.id) (e : UpEngine D) (green : List ActionId) (is : IsRecovered view w e green)
     (s z : DiskState) (before : (view w.disk).state ≡ Some s) (after : (view e.store.disk).state ≡ Some z) where

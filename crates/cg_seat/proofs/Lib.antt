@@ -1,7 +1,5 @@
-mod Arriving
 mod Beginning
 mod Events
-mod HeldAgrees
 mod Falling
 mod Opening
 mod Arming

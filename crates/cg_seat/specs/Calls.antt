@@ -18,9 +18,9 @@ use Rattle.cg_report.specs.declared.entry.Shown.TheVariants.{Weak as ShownWeak, 
 use Rattle.cg_commit.specs.Crash.{Strike, Ended, Runs, Crashes, new_disk, end_event, at_rest, recovered, disk_recovered}
 use Rattle.cg_step.specs.Recorded.{AreBooked}
 use Rattle.cg_step.specs.Step.{Input, replica_step}
-use Rattle.cg_model.specs.World.{Life, Up, Down, Seat, Snapshot, running, is_left_state}
+use Rattle.cg_model.specs.World.{Life, Up, Down, Seat, running, is_left_state}
 use Rattle.cg_model.specs.Show.{News, news_of, news_of_recovery, up_line}
-use Rattle.cg_model.specs.Step.{shown_of, joined}
+use Rattle.cg_model.specs.Step.{shown_of}
 
 -- what a replica has to say behind an event: what is to be shown of it, and its messages
 pub record Spoken : Type 0 where
@@ -64,16 +64,6 @@ crashed p (Down disk green) = seat p (Down disk green)
 abbrev pub risen : List ActionId → ℕ → Life → Seat × Option News
 risen made p (Up r disk) = (seat p (Up r disk), None)
 risen made p (Down disk green) = let r = recovered disk in (seat p (Up r (disk_recovered disk)), Some (news_of_recovery made r.held green))
-
--- ---- snapshots
-
--- a copy for a joiner, where the replica is up; no piece was taken
-abbrev pub copied : ℕ → Seat → Option Snapshot
-copied joiner s = option_map (λ r. record { joiner = joiner; giver = s.id; content = r.held; taken = 0 }) (running s.life)
-
--- the joiner is up with a new disk
-abbrev pub arrived : Snapshot → Seat
-arrived s = let r = joined s.joiner s.content in seat s.joiner (Up r (new_disk r.held))
 
 -- ---- what is seen of it
 

@@ -1,6 +1,6 @@
 pub mod Calls
-pub mod Copies
 pub mod Resting
+pub mod RestingLaws
 pub mod Seen
 pub mod SeenLaws
 pub mod Looks

@@ -1,11 +1,9 @@
-//! A replica with its disk, as the world's definitions have it: up, with its engine, or down, with its wreck;
-//! and the snapshots by which replicas join.
+//! A replica with its disk, as the world's definitions have it: up, with its engine, or down, with its wreck.
 //!
 //! The one contract: each call is the function of the same matter of `specs/Calls.antt`; what the disk is in it stands in
 //! `specs/Seen.antt`.
 #![tactic(auto)]
 
-mod copying;
 mod life;
 mod limits;
 mod looks;
@@ -14,8 +12,6 @@ mod rising;
 mod seat;
 mod spoken;
 mod taking;
-mod transfer;
 
 pub use seat::Seat;
 pub use spoken::Spoken;
-pub use transfer::Transfer;

@@ -1,7 +1,9 @@
 //! What is seen of a replica with its disk.
-ghost use Rattle.std.specs.Prelude.{◌≡◌, ◌∷◌, [], IfOk, is_some};
+ghost use Rattle.std.specs.Prelude.{◌≡◌, ◌∷◌, [], IfOk, IfSome, is_some, option_map};
+ghost use Rattle.std.specs.Option.{option_copied};
 ghost use Rattle.cg_client.specs.Queries.{weak_answer, dirty_answer};
 ghost use Rattle.cg_report.specs.declared.entry.Shown.TheVariants.{Weak as ShownWeak, Dirty as ShownDirty};
+ghost use Rattle.cg_commit.specs.Holds.{Holds};
 ghost use Rattle.cg_model.specs.World.{running};
 ghost use Rattle.cg_seat.specs.Calls.{line_in, is_gone, knows_left, knows_server, shows, shows_weak, shows_dirty};
 ghost use Rattle.cg_seat.specs.Looks.{shown_in};
@@ -11,6 +13,8 @@ use crate::life::Life;
 use cg_action::Query;
 use cg_base::{NoMemory, ReplicaId, Row};
 use cg_client::{Core, names_of};
+use cg_disk::ModelDisk;
+use cg_engine::Engine;
 use cg_group::Phase;
 use cg_report::{Line, Shown};
 use cg_show::up_line;
@@ -67,6 +71,17 @@ impl Seat {
         }
     }
 
+    /// What it holds, where it is up, and the facts that stand of whatever a replica holds. It takes no memory.
+    pub fn core(&self) -> Option<&Core>
+        ensures value { option_copied result ≡ option_map (λ r. r.held) (running self.now.life) }
+        ensures holds { IfSome (option_copied result) Holds }
+    {
+        match &self.life {
+            Life::Up { engine, .. } => Some(core_of(engine)),
+            Life::Down(_) => None,
+        }
+    }
+
     /// Its line, where it stands so in the group.
     pub fn line(&self, phase: Phase) -> Result<Line, NoMemory>
         ensures { IfOk result (λ l. l ≡ line_in phase self.now) }
@@ -112,6 +127,16 @@ impl Seat {
             Life::Down(_) => Ok(Row::new(alloc)),
         }
     }
+}
+
+// What an engine holds.
+fn core_of(engine: &Engine<ModelDisk>) -> &Core
+    ensures value { result.now ≡ engine.now.replica.held }
+    ensures holds { Holds result.now }
+{
+    // its clause says that the replica follows its disk, so that what it holds agrees
+    let _id = engine.id();
+    engine.core()
 }
 
 fn shown_in(alloc: Global, core: &Core) -> Result<Row<Shown>, NoMemory>

@@ -3,15 +3,16 @@ ghost use Rattle.std.specs.Prelude.{◌≡◌, ◌≤◌, List, ℕ, [], Some, I
 ghost use Rattle.cg_commit.specs.Crash.{FailOnce, StopWith};
 ghost use Rattle.cg_model.specs.Show.{news_of_recovery};
 ghost use Rattle.cg_seat.specs.Calls.{armed, crashed, risen};
+ghost use Rattle.cg_seat.specs.Resting.{IsResting};
 ghost use Rattle.cg_seat.specs.Seen.{up_seen, down_seen};
 
 use crate::Seat;
 use crate::life::Life;
 use crate::limits::CALLS_BEFORE_CRASH;
 use crate::resting::Resting;
-use cg_base::{Bytes, Cut, IdList, NoMemory, Row};
+use cg_base::{Bytes, Cut, IdList, NoMemory, ReplicaId, Row};
 use cg_disk::{Disk, ModelDisk};
-use cg_engine::{Engine, Recovered};
+use cg_engine::{Engine, Recovered, Wreck};
 use cg_show::News;
 use std::alloc::Global;
 
@@ -68,6 +69,18 @@ impl Seat {
             Life::Up { engine, fill } => Ok((Seat::up(engine, fill), None)),
             Life::Down(resting) => rise(alloc, resting, made),
         }
+    }
+
+    /// The replica of a disk is up with what stands there, where the disk stands for a state, with nothing unsynced on it and
+    /// nothing armed. Nothing is to be shown of that.
+    pub fn from_disk(alloc: Global, disk: ModelDisk, id: ReplicaId) -> Result<Seat, NoMemory>
+        requires { IsResting (⟦<ModelDisk as Disk>⟧.view disk) id }
+        ensures { IfOk result (λ s. s ≡ (risen [] id (down_seen (⟦<ModelDisk as Disk>⟧.view) (record { disk = disk; id = id; count = 0; green = [] })).life).0) }
+    {
+        let resting = Resting::new(Wreck::new(alloc, disk, id));
+        let (seat, news) = Seat::down(resting).recover(alloc, &Cut::zero())?;
+        drop(news);
+        Ok(seat)
     }
 }
 

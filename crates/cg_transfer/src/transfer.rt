@@ -1,19 +1,15 @@
 //! A snapshot under way.
-ghost use Rattle.std.specs.Prelude.{◌≡◌, ◌≤◌, ◌+◌, [], min, IfOk};
+ghost use Rattle.std.specs.Prelude.{◌≡◌, ◌≤◌, ◌+◌, min, IfOk};
 ghost use Rattle.cg_client.specs.Joined.{joined, piece_count};
 ghost use Rattle.cg_records.specs.Limits.{IsNumber};
 ghost use Rattle.cg_stored.specs.Agreeing.{Agrees};
-ghost use Rattle.cg_seat.specs.Calls.{arrived, risen};
-ghost use Rattle.cg_seat.specs.Resting.{IsResting};
-ghost use Rattle.cg_seat.specs.Seen.{down_seen};
+ghost use Rattle.cg_transfer.specs.Calls.{arrived};
 
-use crate::Seat;
-use crate::resting::Resting;
-use cg_base::{Cut, NoMemory, ReplicaId};
+use cg_base::{NoMemory, ReplicaId};
 use cg_client::Core;
 use cg_disk::{Disk, ModelDisk};
-use cg_engine::Wreck;
 use cg_join::{Joiner, SnapshotName, SnapshotWriter, hand_pieces, snapshots_are_counted};
+use cg_seat::Seat;
 use cg_store::CommitErr;
 use std::alloc::Global;
 use std::marker::Model;
@@ -34,7 +30,7 @@ pub struct Transfer {
 impl Model for Transfer {
     ghost use Rattle.std.specs.Prelude.{length};
     ghost use Rattle.cg_model.specs.World.{Snapshot};
-    ghost use Rattle.cg_seat.specs.Copies.{IsCopy};
+    ghost use Rattle.cg_transfer.specs.Copies.{IsCopy};
 
     ghost Value = { Snapshot };
 
@@ -144,7 +140,7 @@ impl Transfer {
         drop(held);
         drop(writer);
         match taking.finish() {
-            Ok(disk) => arrive(alloc, disk, joiner),
+            Ok(disk) => Seat::from_disk(alloc, disk, joiner),
             Err(CommitErr::Lost(_)) => unreachable!(),
             Err(CommitErr::NoMemory(disk)) => {
                 drop(disk);
@@ -152,15 +148,4 @@ impl Transfer {
             }
         }
     }
-}
-
-// The replica of a disk comes up, and nothing is to be shown of that.
-fn arrive(alloc: Global, disk: ModelDisk, id: ReplicaId) -> Result<Seat, NoMemory>
-    requires { IsResting (⟦<ModelDisk as Disk>⟧.view disk) id }
-    ensures { IfOk result (λ s. s ≡ (risen [] id (down_seen (⟦<ModelDisk as Disk>⟧.view) (record { disk = disk; id = id; count = 0; green = [] })).life).0) }
-{
-    let resting = Resting::new(Wreck::new(alloc, disk, id));
-    let (seat, news) = Seat::down(resting).recover(alloc, &Cut::zero())?;
-    drop(news);
-    Ok(seat)
 }

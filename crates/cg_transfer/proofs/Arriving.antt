@@ -17,11 +17,12 @@ use Rattle.cg_join.specs.Handing.{IsTaking}
 use Rattle.cg_join.specs.Snapshot.{Snapshot as JoinSnapshot, parts_of}
 use Rattle.cg_model.specs.Step.{joined}
 use Rattle.cg_model.specs.World.{Up, Snapshot}
-use Rattle.cg_seat.specs.Calls.{seat, arrived, risen}
+use Rattle.cg_seat.specs.Calls.{seat, risen}
 use Rattle.cg_seat.specs.Resting.{IsResting}
+use Rattle.cg_seat.specs.RestingLaws.{stays_unarmed}
 use Rattle.cg_seat.specs.Seen.{disk_left, down_seen}
 use Rattle.cg_seat.specs.SeenLaws.{disk-left}
-use Rattle.cg_seat.proofs.Beginning.{stays_unarmed}
+use Rattle.cg_transfer.specs.Calls.{arrived}
 use Rattle.cg_client.specs.Joined.{piece_count}
 
 -- all parts of a snapshot were taken
