@@ -1,5 +1,5 @@
 -- What marks make of the names that a replica holds, of its own actions, of the last one that it created and of the white line.
-use Rattle.std.proofs.Common.{◌⊎◌, ◌≡◌, ℕ, suc, ◌+◌, ◌<◌, ◌≤◌, ◌≢◌, List, [], ◌∷◌, ◌++◌, Bool, true, false, not, max, fold, refl, sym, ap, ◌∙◌, arith, inl, inr, eqb-true, ◌-◌, map, min, find}
+use Rattle.std.proofs.Common.{◌⊎◌, ◌≡◌, ℕ, suc, ◌<◌, ◌≤◌, ◌≢◌, List, [], ◌∷◌, ◌++◌, Bool, true, false, not, max, fold, refl, sym, ap, ◌∙◌, arith, inl, inr, eqb-true, map, min, find}
 use Rattle.std.specs.Prelude.{◌==◌, Some}
 use Rattle.std.specs.List.{list_all}
 use Rattle.std.proofs.lemmas.Bool.{cases_eq, cases_order, cases_Bool, ne_eqb, and_parts, and_from}
