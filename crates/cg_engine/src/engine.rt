@@ -320,7 +320,7 @@ impl<D: Disk> Engine<D> {
     }
 
     /// It has left. It takes no memory.
-    pub fn is_left(&self) -> bool
+    pub fn left(&self) -> bool
         ensures { result ≡ has_left self.now.replica.state }
     {
         self.replica.is_left()

@@ -68,7 +68,7 @@ impl WorldState {
     }
 
     /// The replica is up. It takes no memory.
-    pub(crate) fn is_up(&self, p: ReplicaId) -> bool
+    pub fn is_up(&self, p: ReplicaId) -> bool
         ensures { result ≡ is_some (replica_of self.now p) }
     {
         match self.seats.find(p) {

@@ -46,7 +46,7 @@ impl Seat {
         ensures { result ≡ is_gone self.now.life }
     {
         match &self.life {
-            Life::Up { engine, .. } => engine.is_left(),
+            Life::Up { engine, .. } => engine.left(),
             Life::Down(_) => false,
         }
     }

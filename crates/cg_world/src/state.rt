@@ -3,7 +3,7 @@ ghost use Rattle.std.specs.Prelude.{◌≡◌, ◌&&◌, nat_lt, nat_le, is_some
 ghost use Rattle.std.specs.Option.{option_copied};
 ghost use Rattle.cg_base.specs.Cuts.{index_in};
 ghost use Rattle.cg_group.specs.Ready.{ready};
-ghost use Rattle.cg_model.specs.World.{no_world, up_replicas};
+ghost use Rattle.cg_model.specs.World.{no_world, replica_of, up_replicas};
 
 use crate::made_actions::MadeActions;
 use cg_action::Action;
@@ -51,6 +51,13 @@ impl World {
         ensures { result ≡ ready self.now.group p }
     {
         self.state.ready(p)
+    }
+
+    /// The replica is up. It takes no memory.
+    pub fn is_up(&self, p: ReplicaId) -> bool
+        ensures { result ≡ is_some (replica_of self.now p) }
+    {
+        self.state.is_up(p)
     }
 
     /// The replicas that are up. It takes no memory.
