@@ -12,13 +12,14 @@ use Rattle.cg_schedule.specs.declared.reader_state.ReaderState.{ReaderState}
 use Rattle.cg_schedule.specs.Fault.{syntax_number}
 use Rattle.cg_schedule.specs.Limits.{IsEvent}
 use Rattle.cg_schedule.specs.Line.{event_word, fits, reading, state_after}
-use Rattle.cg_model.specs.World.{World, no_world, up_replicas}
-use Rattle.cg_model.specs.Admission.{first_refusal}
-use Rattle.cg_model.specs.Show.{Moved}
-use Rattle.cg_model.specs.Step.{world_step}
-use Rattle.cg_model.specs.Run.{Step, world_after, step_limit, MayStand, IsRunFrom}
-use Rattle.cg_model.specs.EveryRun.{Agreement, IsRefused, EveryRunAgrees}
-use Rattle.cg_model.specs.SeatLaws.{step_seats}
+use Rattle.cg_agree.specs.World.{World, no_world, up_replicas}
+use Rattle.cg_agree.specs.Admission.{first_refusal}
+use Rattle.cg_agree.specs.Show.{Moved}
+use Rattle.cg_agree.specs.Step.{world_step}
+use Rattle.cg_agree.specs.Run.{Step, world_after, step_limit, MayStand, IsRunFrom}
+use Rattle.cg_agree.specs.EveryRun.{Agreement, IsRefused, EveryRunAgrees}
+use Rattle.cg_agree.specs.SeatLaws.{step_seats}
+use Rattle.cg_terms.specs.Terms.{Guarantees, AgreementGuarantees}
 use Rattle.cg_run.specs.declared.progress.Ending.{Ending}
 use Rattle.cg_run.specs.declared.progress.Ending.TheVariants.{Ended, Failed, Open}
 use Rattle.cg_run.specs.declared.command.Command.{Command}
@@ -288,3 +289,9 @@ pub outcome-agrees : (words : List (List ℕ)) (taken : List ℕ) (how : Ending)
 outcome-agrees words taken how exact agree =
     let p = outcome words taken how in
     agree p.steps (refusal_of p) (outcome-is_run words taken how exact) (outcome-refused words taken how exact)
+
+-- so it guarantees what follows from that
+pub outcome-guarantees : (words : List (List ℕ)) (taken : List ℕ) (how : Ending) → ExactLines → EveryRunAgrees → AgreementGuarantees → Guarantees (outcome words taken how).steps
+outcome-guarantees words taken how exact agree gives =
+    let p = outcome words taken how in
+    gives p.steps (refusal_of p) (outcome-agrees words taken how exact agree)

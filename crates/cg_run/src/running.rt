@@ -1,7 +1,9 @@
 ghost use Rattle.std.specs.Prelude.{◌≡◌, ◌+◌, ◌<◌, ◌^◌, false, Some};
-ghost use Rattle.cg_model.specs.World.{no_world};
-ghost use Rattle.cg_model.specs.Run.{IsRunFrom};
-ghost use Rattle.cg_model.specs.Agreement.{OrderGrows, Prefix, CreatorOrder, FoldAnswers, DirtyAnswers, OnePrimary, QuietSettles, MadeStays};
+ghost use Rattle.cg_agree.specs.World.{no_world};
+ghost use Rattle.cg_agree.specs.Run.{IsRunFrom};
+ghost use Rattle.cg_agree.specs.Agreement.{OrderGrows, Prefix, CreatorOrder, FoldAnswers, DirtyAnswers, OnePrimary, QuietSettles, MadeStays};
+ghost use Rattle.cg_terms.specs.Linearizable.{Linearizable, StronglyLinearizable};
+ghost use Rattle.cg_terms.specs.Guarantees.{Durable, ExactlyOnce, PrefixReads, NoSplitBrain};
 ghost use Rattle.cg_gen.specs.Generated.{generated};
 ghost use Rattle.cg_gen.specs.Lines.{lines_of};
 ghost use Rattle.cg_run.specs.declared.status.Status.TheVariants as status;
@@ -22,9 +24,10 @@ use cg_base::ReplicaId;
 use cg_gen::generate;
 use cg_io::{Sink, Source};
 use cg_schedule::lines_are_exact;
+use cg_terms::agreement_gives_guarantees;
 use std::alloc::Global;
 
-// Whatever is taken, a refusal tells of its line, and the steps are those of a run, which agree.
+// Whatever is taken, a refusal tells of its line, and the steps are those of a run, which agree; the guarantees follow from that.
 fn outcomes_agree(words: &[ArgText])
     ensures refused { TellsOfRefusals words.now }
     ensures is_run { OfSteps words.now (IsRunFrom no_world 0) }
@@ -37,9 +40,16 @@ fn outcomes_agree(words: &[ArgText])
     ensures quiet_settles { OfSteps words.now QuietSettles }
     ensures made_stays { OfSteps words.now MadeStays }
     ensures refused_exactly { RefusesExactly words.now }
+    ensures linearizable { OfSteps words.now Linearizable }
+    ensures strongly_linearizable { OfSteps words.now StronglyLinearizable }
+    ensures durable { OfSteps words.now Durable }
+    ensures exactly_once { OfSteps words.now ExactlyOnce }
+    ensures prefix_reads { OfSteps words.now PrefixReads }
+    ensures no_split_brain { OfSteps words.now NoSplitBrain }
 {
     lines_are_exact();
     runs_agree();
+    agreement_gives_guarantees();
 }
 
 // Puts the schedule of a seed.
@@ -135,6 +145,17 @@ pub fn run<S: Source, K: Sink>(
     ensures quiet_settles { OfSteps words.now QuietSettles }
     ensures made_stays { OfSteps words.now MadeStays }
     ensures refused_exactly { RefusesExactly words.now }
+
+    // So a run is linearizable and, an action being a transaction, strictly serializable: each reply is that of one database
+    // alone, which takes the actions one after another, and what was replied to before another action was made comes first.
+    // What was acknowledged stays, whichever replicas crash; each action counts once; weak answers are those of prefixes, which
+    // never become shorter; and no two parts of the network go ways of their own.
+    ensures linearizable { OfSteps words.now Linearizable }
+    ensures strongly_linearizable { OfSteps words.now StronglyLinearizable }
+    ensures durable { OfSteps words.now Durable }
+    ensures exactly_once { OfSteps words.now ExactlyOnce }
+    ensures prefix_reads { OfSteps words.now PrefixReads }
+    ensures no_split_brain { OfSteps words.now NoSplitBrain }
 {
     outcomes_agree(words);
     run_command(alloc, words, input, output)

@@ -1,4 +1,4 @@
-use Rattle.cg_run.proofs.RunFacts.{outcome-is_run, outcome-agrees}
+use Rattle.cg_run.proofs.RunFacts.{outcome-is_run, outcome-agrees, outcome-guarantees}
 use Rattle.cg_run.proofs.RefusedLines.{outcome-refuses}
 use Rattle.cg_run.proofs.running.outcomes_agree.Goals as goal
 
@@ -34,3 +34,21 @@ returns-clause-made_stays c = λ taken how. (outcome-agrees c.args.words.now tak
 
 pub returns-clause-refused_exactly : goal.returns-clause-refused_exactly
 returns-clause-refused_exactly c = λ taken how. (outcome-agrees c.args.words.now taken how c.lines_are_exact.ensures.event c.runs_agree.ensures).refused_exactly
+
+pub returns-clause-linearizable : goal.returns-clause-linearizable
+returns-clause-linearizable c = λ taken how. (outcome-guarantees c.args.words.now taken how c.lines_are_exact.ensures.event c.runs_agree.ensures c.agreement_gives_guarantees.ensures).linearizable
+
+pub returns-clause-strongly_linearizable : goal.returns-clause-strongly_linearizable
+returns-clause-strongly_linearizable c = λ taken how. (outcome-guarantees c.args.words.now taken how c.lines_are_exact.ensures.event c.runs_agree.ensures c.agreement_gives_guarantees.ensures).strongly_linearizable
+
+pub returns-clause-durable : goal.returns-clause-durable
+returns-clause-durable c = λ taken how. (outcome-guarantees c.args.words.now taken how c.lines_are_exact.ensures.event c.runs_agree.ensures c.agreement_gives_guarantees.ensures).durable
+
+pub returns-clause-exactly_once : goal.returns-clause-exactly_once
+returns-clause-exactly_once c = λ taken how. (outcome-guarantees c.args.words.now taken how c.lines_are_exact.ensures.event c.runs_agree.ensures c.agreement_gives_guarantees.ensures).exactly_once
+
+pub returns-clause-prefix_reads : goal.returns-clause-prefix_reads
+returns-clause-prefix_reads c = λ taken how. (outcome-guarantees c.args.words.now taken how c.lines_are_exact.ensures.event c.runs_agree.ensures c.agreement_gives_guarantees.ensures).prefix_reads
+
+pub returns-clause-no_split_brain : goal.returns-clause-no_split_brain
+returns-clause-no_split_brain c = λ taken how. (outcome-guarantees c.args.words.now taken how c.lines_are_exact.ensures.event c.runs_agree.ensures c.agreement_gives_guarantees.ensures).no_split_brain
