@@ -10,6 +10,7 @@ mod CaseLoneAlternate
 mod CaseStruckCommits
 mod CaseTails
 mod CaseLimits
+mod CaseGuarantees
 mod Refuted
 mod Cases01
 mod Cases02
