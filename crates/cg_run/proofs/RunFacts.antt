@@ -12,13 +12,13 @@ use Rattle.cg_schedule.specs.declared.reader_state.ReaderState.{ReaderState}
 use Rattle.cg_schedule.specs.Fault.{syntax_number}
 use Rattle.cg_schedule.specs.Limits.{IsEvent}
 use Rattle.cg_schedule.specs.Line.{event_word, fits, reading, state_after}
-use Rattle.cg_agree.specs.World.{World, no_world, up_replicas}
-use Rattle.cg_agree.specs.Admission.{first_refusal}
-use Rattle.cg_agree.specs.Show.{Moved}
-use Rattle.cg_agree.specs.Step.{world_step}
-use Rattle.cg_agree.specs.Run.{Step, world_after, step_limit, MayStand, IsRunFrom}
-use Rattle.cg_agree.specs.EveryRun.{Agreement, IsRefused, EveryRunAgrees}
-use Rattle.cg_agree.specs.SeatLaws.{step_seats}
+use Rattle.cg_model.specs.World.{World, no_world, up_replicas}
+use Rattle.cg_model.specs.Admission.{first_refusal}
+use Rattle.cg_model.specs.Show.{Moved}
+use Rattle.cg_model.specs.Step.{world_step}
+use Rattle.cg_model.specs.Run.{Step, world_after, step_limit, MayStand, IsRunFrom}
+use Rattle.cg_model.specs.EveryRun.{Agreement, IsRefused, EveryRunAgrees}
+use Rattle.cg_model.specs.SeatLaws.{step_seats}
 use Rattle.cg_terms.specs.Terms.{Guarantees, AgreementGuarantees}
 use Rattle.cg_run.specs.declared.progress.Ending.{Ending}
 use Rattle.cg_run.specs.declared.progress.Ending.TheVariants.{Ended, Failed, Open}

@@ -1,7 +1,7 @@
 ghost use Rattle.std.specs.Prelude.{◌≡◌, ◌+◌, ◌<◌, ◌^◌, false, Some};
-ghost use Rattle.cg_agree.specs.World.{no_world};
-ghost use Rattle.cg_agree.specs.Run.{IsRunFrom};
-ghost use Rattle.cg_agree.specs.Agreement.{OrderGrows, Prefix, CreatorOrder, FoldAnswers, DirtyAnswers, OnePrimary, QuietSettles, MadeStays};
+ghost use Rattle.cg_model.specs.World.{no_world};
+ghost use Rattle.cg_model.specs.Run.{IsRunFrom};
+ghost use Rattle.cg_model.specs.Agreement.{OrderGrows, Prefix, CreatorOrder, FoldAnswers, DirtyAnswers, OnePrimary, QuietSettles, MadeStays};
 ghost use Rattle.cg_terms.specs.Linearizable.{Linearizable, StronglyLinearizable};
 ghost use Rattle.cg_terms.specs.Guarantees.{Durable, ExactlyOnce, PrefixReads, NoSplitBrain};
 ghost use Rattle.cg_gen.specs.Generated.{generated};

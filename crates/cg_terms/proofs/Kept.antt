@@ -10,10 +10,10 @@ use Rattle.cg_report.specs.declared.entry.Shown.TheVariants.{Weak as ShownWeak}
 use Rattle.cg_client.specs.Replica.{Replica}
 use Rattle.cg_queue.specs.Queue.{green_count}
 use Rattle.cg_report.specs.declared.entry.Reply.{Reply}
-use Rattle.cg_agree.specs.World.{replica_of}
-use Rattle.cg_agree.specs.Run.{Step}
-use Rattle.cg_agree.specs.Shown.{made_actions, order_of, ordered_actions, position_of}
-use Rattle.cg_agree.specs.Agreement.{ComesAfter, through, IsDue, OrderGrows, Prefix, CreatorOrder, FoldAnswers, OnePrimary}
+use Rattle.cg_model.specs.World.{replica_of}
+use Rattle.cg_model.specs.Run.{Step}
+use Rattle.cg_model.specs.Shown.{made_actions, order_of, ordered_actions, position_of}
+use Rattle.cg_model.specs.Agreement.{ComesAfter, through, IsDue, OrderGrows, Prefix, CreatorOrder, FoldAnswers, OnePrimary}
 use Rattle.cg_terms.specs.Linearizable.{AllDiffer, replied_in}
 use Rattle.cg_terms.specs.Guarantees.{shown_by, IsPrefixState, Durable, ExactlyOnce, PrefixReads, NoSplitBrain}
 use Rattle.cg_terms.proofs.Places.{contains-none, contains-here, contains-later, contains-cases, contains-map_back, split-at, differ-append, through-append, order-append}

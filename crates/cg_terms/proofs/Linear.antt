@@ -4,16 +4,16 @@ use Rattle.std.specs.Prelude.{option_map}
 use Rattle.std.proofs.lemmas.List.Elements.{Contains-append_cases}
 use Rattle.cg_base.specs.declared.action_id.ActionId.{ActionId}
 use Rattle.cg_action.specs.declared.action.Action.{Action}
-use Rattle.cg_db.specs.declared.answer.Answer.{Answer}
-use Rattle.cg_db.specs.declared.entry.DbEntry.{DbEntry}
+use Rattle.cg_answer.specs.declared.answer.Answer.{Answer}
+use Rattle.cg_answer.specs.declared.entry.DbEntry.{DbEntry}
 use Rattle.cg_db.specs.Apply.{apply, fold_actions}
 use Rattle.cg_db.specs.Find.{answer, query_of}
 use Rattle.cg_queue.specs.Queue.{names_of}
 use Rattle.cg_report.specs.declared.entry.Reply.{Reply}
-use Rattle.cg_agree.specs.Run.{Step}
-use Rattle.cg_agree.specs.Shown.{made_names, made_action, made_actions, order_of}
-use Rattle.cg_agree.specs.Agreement.{ComesAfter, through, CreatorOrder, FoldAnswers}
-use Rattle.cg_agree.specs.Fronts.{Front}
+use Rattle.cg_model.specs.Run.{Step}
+use Rattle.cg_model.specs.Shown.{made_names, made_action, made_actions, order_of}
+use Rattle.cg_model.specs.Agreement.{ComesAfter, through, CreatorOrder, FoldAnswers}
+use Rattle.cg_model.specs.Fronts.{Front}
 use Rattle.cg_terms.specs.Linearizable.{AllDiffer, StandsBefore, IsOverBefore, responses, Linearizes, Linearizable, history_of, StronglyLinearizable}
 use Rattle.cg_terms.proofs.Places.{contains-none, contains-here, contains-later, contains-at, contains-map_back, split-at, last-of, front-append, differ-front, through-append, order-append}
 use Rattle.cg_terms.proofs.Made.{AreMade, made-found, actions-more, actions-append, actions-head, names-made, each-made}

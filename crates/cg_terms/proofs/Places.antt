@@ -3,10 +3,10 @@ use Rattle.std.proofs.Common.{◌≡◌, ◌⊎◌, zero, suc, ◌<◌, List, []
 use Rattle.std.proofs.lemmas.List.{map-append}
 use Rattle.std.proofs.lemmas.List.Elements.{Contains-append_left, Contains-append_right, Contains-append_cases}
 use Rattle.cg_base.specs.declared.action_id.ActionId.{ActionId}
-use Rattle.cg_agree.specs.Run.{Step}
-use Rattle.cg_agree.specs.Shown.{order_of, order_lines}
-use Rattle.cg_agree.specs.Agreement.{through}
-use Rattle.cg_agree.specs.Fronts.{Front}
+use Rattle.cg_model.specs.Run.{Step}
+use Rattle.cg_model.specs.Shown.{order_of, order_lines}
+use Rattle.cg_model.specs.Agreement.{through}
+use Rattle.cg_model.specs.Fronts.{Front}
 use Rattle.cg_report.specs.declared.entry.Placed.{Placed}
 use Rattle.cg_terms.specs.Linearizable.{AllDiffer}
 

@@ -13,10 +13,10 @@ use Rattle.cg_action.specs.declared.command.Cmd.TheVariants.{Put}
 use Rattle.cg_action.specs.declared.query.Query.TheVariants.{Get, Count}
 use Rattle.cg_action.specs.declared.value.Value.{Value}
 use Rattle.cg_action.specs.declared.value.Value.TheVariants.{Int}
-use Rattle.cg_db.specs.declared.answer.Answer.{Answer}
-use Rattle.cg_db.specs.declared.answer.Answer.TheVariants.{Absent, Int as Number, Count as Counted}
-use Rattle.cg_db.specs.declared.effect.Effect.TheVariants.{Done}
-use Rattle.cg_db.specs.declared.entry.DbEntry.{DbEntry}
+use Rattle.cg_answer.specs.declared.answer.Answer.{Answer}
+use Rattle.cg_answer.specs.declared.answer.Answer.TheVariants.{Absent, Int as Number, Count as Counted}
+use Rattle.cg_answer.specs.declared.effect.Effect.TheVariants.{Done}
+use Rattle.cg_answer.specs.declared.entry.DbEntry.{DbEntry}
 use Rattle.cg_db.specs.Apply.{run_commands}
 use Rattle.cg_db.specs.Plan.{with_changes}
 use Rattle.cg_report.specs.NoEntry.{no_entry}
@@ -33,11 +33,11 @@ use Rattle.cg_report.specs.declared.line.UpLine.{UpLine}
 use Rattle.cg_schedule.specs.declared.event.Event.{Event}
 use Rattle.cg_schedule.specs.declared.event.Event.TheVariants.{Gather, Recover, Weak, Split, Stop}
 use Rattle.cg_client.specs.Replica.{Held, Replica, NonPrim, fresh_held}
-use Rattle.cg_step.specs.Crash.{new_disk}
-use Rattle.cg_agree.specs.World.{Up, no_world}
-use Rattle.cg_agree.specs.Run.{Step}
-use Rattle.cg_agree.specs.Shown.{made_names}
-use Rattle.cg_agree.specs.Agreement.{through}
+use Rattle.cg_commit.specs.Crash.{new_disk}
+use Rattle.cg_model.specs.World.{Up, no_world}
+use Rattle.cg_model.specs.Run.{Step}
+use Rattle.cg_model.specs.Shown.{made_names}
+use Rattle.cg_model.specs.Agreement.{through}
 use Rattle.cg_queue.specs.Queue.{names_of}
 use Rattle.cg_terms.specs.Linearizable.{AllDiffer, StandsBefore, replied_in, responses, Linearizes, Linearizable, history_of, StronglyLinearizable}
 use Rattle.cg_terms.specs.Guarantees.{IsPrimary, Durable, ExactlyOnce, PrefixReads, NoSplitBrain}

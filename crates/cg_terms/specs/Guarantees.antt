@@ -13,10 +13,10 @@ use Rattle.cg_report.specs.declared.line.StateName.TheVariants.{RegPrim, TransPr
 use Rattle.cg_report.specs.declared.line.UpLine.{UpLine}
 use Rattle.cg_client.specs.Replica.{Replica}
 use Rattle.cg_queue.specs.Queue.{green_count}
-use Rattle.cg_agree.specs.World.{replica_of}
-use Rattle.cg_agree.specs.Run.{Step}
-use Rattle.cg_agree.specs.Shown.{order_of, ordered_actions, position_of, all_up_lines}
-use Rattle.cg_agree.specs.Agreement.{ComesAfter, through, is_recovery_of}
+use Rattle.cg_model.specs.World.{replica_of}
+use Rattle.cg_model.specs.Run.{Step}
+use Rattle.cg_model.specs.Shown.{order_of, ordered_actions, position_of, all_up_lines}
+use Rattle.cg_model.specs.Agreement.{ComesAfter, through, is_recovery_of}
 use Rattle.cg_terms.specs.Linearizable.{AllDiffer, replied_in}
 
 -- the actions that a replica has shown as applied: the order up to the replica's position

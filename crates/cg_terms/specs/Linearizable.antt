@@ -5,15 +5,15 @@
 use Rattle.std.specs.Prelude.{◌≡◌, List, [], ◌∷◌, ◌++◌, Contains, map, option_map}
 use Rattle.cg_base.specs.declared.action_id.ActionId.{ActionId}
 use Rattle.cg_action.specs.declared.action.Action.{Action}
-use Rattle.cg_db.specs.declared.entry.DbEntry.{DbEntry}
+use Rattle.cg_answer.specs.declared.entry.DbEntry.{DbEntry}
 use Rattle.cg_db.specs.Apply.{apply}
 use Rattle.cg_db.specs.Find.{answer, query_of}
 use Rattle.cg_queue.specs.Queue.{names_of}
 use Rattle.cg_report.specs.declared.entry.Reply.{Reply}
-use Rattle.cg_agree.specs.Run.{Step}
-use Rattle.cg_agree.specs.Shown.{made_names, made_from, made_actions, order_of}
-use Rattle.cg_agree.specs.Agreement.{ComesAfter, through}
-use Rattle.cg_agree.specs.Fronts.{Front}
+use Rattle.cg_model.specs.Run.{Step}
+use Rattle.cg_model.specs.Shown.{made_names, made_from, made_actions, order_of}
+use Rattle.cg_model.specs.Agreement.{ComesAfter, through}
+use Rattle.cg_model.specs.Fronts.{Front}
 
 -- no name stands in the list twice
 abbrev pub AllDiffer : List ActionId → Type 0
