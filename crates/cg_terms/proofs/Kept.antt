@@ -60,24 +60,35 @@ module _ {X Y : Type 0} (f : X → List Y) where
     | inr later ↦ let rest = flat-back xs y later in record { from = rest.from; there = contains-later x xs rest.from rest.there; is = rest.is }
   ]
 
-module _ (steps : List Step) (grows : OrderGrows steps) (prefix : Prefix steps) (creators : CreatorOrder steps) (answers : FoldAnswers steps) (primary : OnePrimary steps) where
-  -- ---- positions and the order
+-- ---- positions that never fall
 
-  behind-it : (earlier later : List Step) (s : Step) → steps ≡ earlier ++ s ∷ later → steps ≡ through earlier s ++ later
-  behind-it earlier later s is = is ∙ sym (through-append earlier s later)
+pub behind-it : (steps earlier later : List Step) (s : Step) → steps ≡ earlier ++ s ∷ later → steps ≡ through earlier s ++ later
+behind-it steps earlier later s is = is ∙ sym (through-append earlier s later)
 
-  position-grows : (earlier between later : List Step) (p : ℕ) → steps ≡ earlier ++ (between ++ later) → position_of p earlier ≤ position_of p (earlier ++ between)
+module _ (steps : List Step) (never_falls : (earlier : List Step) (s : Step) (p : ℕ) → ComesAfter steps earlier s → position_of p earlier ≤ position_of p (through earlier s)) where
+  pub position-grows : (earlier between later : List Step) (p : ℕ) → steps ≡ earlier ++ (between ++ later) → position_of p earlier ≤ position_of p (earlier ++ between)
   position-grows earlier [] later p is = (let same : position_of p (earlier ++ []) ≡ position_of p earlier = ap (position_of p) (append-nil earlier) in omega arith)
   position-grows earlier (s ∷ between) later p is =
-      let one = prefix.never_falls earlier s p (between ++ later, is) in
-      let rest = position-grows (through earlier s) between later p (behind-it earlier (between ++ later) s is) in
+      let one = never_falls earlier s p (between ++ later, is) in
+      let rest = position-grows (through earlier s) between later p (behind-it steps earlier (between ++ later) s is) in
       let same : position_of p (through earlier s ++ between) ≡ position_of p (earlier ++ s ∷ between) = ap (position_of p) (through-append earlier s between) in
       omega arith
 
-  shown-grows : (earlier between later : List Step) (p : ℕ) (id : ActionId) → steps ≡ earlier ++ (between ++ later) → Contains (shown_by p earlier) id → Contains (shown_by p (earlier ++ between)) id
+  pub shown-grows : (earlier between later : List Step) (p : ℕ) (id : ActionId) → steps ≡ earlier ++ (between ++ later) → Contains (shown_by p earlier) id → Contains (shown_by p (earlier ++ between)) id
   shown-grows earlier between later p id is there =
       subst (λ (ids : List ActionId). Contains (take (position_of p (earlier ++ between)) ids) id) (sym (order-append earlier between))
       (take-more (position_of p earlier) (position_of p (earlier ++ between)) (order_of earlier) (order_of between) id (position-grows earlier between later p is) there)
+
+  -- what was replied to, and shown so, is shown ever after
+  pub own-writes : ((earlier : List Step) (s : Step) (id : ActionId) → ComesAfter steps earlier s → Contains (replied_in s) id → Contains (shown_by id.creator (through earlier s)) id) →
+      (earlier between later : List Step) (s : Step) (id : ActionId) → steps ≡ earlier ++ s ∷ (between ++ later) →
+      Contains (replied_in s) id → Contains (shown_by id.creator (earlier ++ s ∷ between)) id
+  own-writes acknowledged earlier between later s id is told =
+      subst (λ (xs : List Step). Contains (shown_by id.creator xs) id) (through-append earlier s between)
+      (shown-grows (through earlier s) between later id.creator id (behind-it steps earlier (between ++ later) s is) (acknowledged earlier s id (between ++ later, is) told))
+
+module _ (steps : List Step) (grows : OrderGrows steps) (prefix : Prefix steps) (creators : CreatorOrder steps) (answers : FoldAnswers steps) (primary : OnePrimary steps) where
+  -- ---- the order
 
   -- the actions of the first places are the same behind each later step
   ordered-more : (front later : List Step) (n : ℕ) → steps ≡ front ++ later → n ≤ length (order_of front) → ordered_actions steps n ≡ ordered_actions front n
@@ -96,7 +107,7 @@ module _ (steps : List Step) (grows : OrderGrows steps) (prefix : Prefix steps) 
 
   prefix-state : (earlier : List Step) (s : Step) (p : ℕ) (r : Replica) → ComesAfter steps earlier s → replica_of s.world p ≡ Some r → IsPrefixState steps r
   prefix-state earlier s p r after up =
-      let is = behind-it earlier after.0 s after.1 in
+      let is = behind-it steps earlier after.0 s after.1 in
       let reaches = prefix.held earlier s p r after up in
       let longer = order-longer (through earlier s) after.0 is in
       let within = reaches.0.0 in (
@@ -133,7 +144,7 @@ module _ (steps : List Step) (grows : OrderGrows steps) (prefix : Prefix steps) 
   never-again earlier between later s t id is told again =
       let now : List Step = through earlier s in
       let first = given earlier s id (between ++ t ∷ later, is) told in
-      let whole : steps ≡ now ++ (between ++ t ∷ later) = behind-it earlier (between ++ t ∷ later) s is in
+      let whole : steps ≡ now ++ (between ++ t ∷ later) = behind-it steps earlier (between ++ t ∷ later) s is in
       let there : ComesAfter steps (now ++ between) t = (later, whole ∙ sym (append_assoc now between (t ∷ later))) in
       let order : order_of (through (now ++ between) t) ≡ first.before ++ id ∷ (first.after ++ (order_of between ++ order_of (t ∷ []))) =
       ap (λ (xs : List Step). order_of xs) (append_assoc now between (t ∷ [])) ∙ order-append now (between ++ t ∷ [])
@@ -143,7 +154,7 @@ module _ (steps : List Step) (grows : OrderGrows steps) (prefix : Prefix steps) 
       (answers.when (now ++ between) t first.before (first.after ++ (order_of between ++ order_of (t ∷ []))) id there order).0 again in
       let passed = first.due.0.1 in
       let not_yet = due.0.0 in
-      let grown = position-grows now between (t ∷ later) id.creator whole in
+      let grown = position-grows steps prefix.never_falls now between (t ∷ later) id.creator whole in
       omega arith
 
   replies-differ : (s : Step) → Contains steps s → (front rest : List Reply) → s.entry.replies ≡ front ++ rest → AllDiffer (map (λ r. r.id) rest)
@@ -160,7 +171,7 @@ module _ (steps : List Step) (grows : OrderGrows steps) (prefix : Prefix steps) 
   replied-once earlier [] is = tt
   replied-once earlier (s ∷ later) is =
       let there : Contains steps s = subst (λ (xs : List Step). Contains xs s) (sym is) (at-it earlier s later) in
-      differ-append (replied_in s) (flat_map replied_in later) (replies-differ s there [] s.entry.replies refl) (replied-once (through earlier s) later (behind-it earlier later s is))
+      differ-append (replied_in s) (flat_map replied_in later) (replies-differ s there [] s.entry.replies refl) (replied-once (through earlier s) later (behind-it steps earlier later s is))
       (λ id told again.
       let other = flat-back replied_in later id again in
       let at = split-at later other.from other.there in
@@ -175,9 +186,9 @@ module _ (steps : List Step) (grows : OrderGrows steps) (prefix : Prefix steps) 
   durable =
       record {
         acknowledged = acknowledged;
-        kept = shown-grows;
+        kept = shown-grows steps prefix.never_falls;
         applied = λ earlier s p r id after up there.
-            let is = behind-it earlier after.0 s after.1 in
+            let is = behind-it steps earlier after.0 s after.1 in
             let reaches = prefix.held earlier s p r after up in (
               subst (λ (ids : List ActionId). Contains (take (green_count r.held.queue) ids) id) (sym (ap (λ (xs : List Step). order_of xs) is ∙ order-append (through earlier s) after.0))
                   (take-more (position_of p (through earlier s)) (green_count r.held.queue) (order_of (through earlier s)) (order_of after.0) id
@@ -193,16 +204,14 @@ module _ (steps : List Step) (grows : OrderGrows steps) (prefix : Prefix steps) 
   prefix-reads =
       record {
         prefix = λ earlier s p q after weak.
-            let is = behind-it earlier after.0 s after.1 in
+            let is = behind-it steps earlier after.0 s after.1 in
             let within = position-within steps grows (through earlier s) after.0 p is in
             let longer = order-longer (through earlier s) after.0 is in (
               omega arith,
               answers.weak earlier s p q after weak ∙ ap (λ actions. ShownWeak p (answer (fold_actions actions) q) ∷ []) (sym (ordered-more (through earlier s) after.0 (position_of p (through earlier s)) is within)),
             );
-        monotonic = position-grows;
-        own_writes = λ earlier between later s id is told.
-            subst (λ (xs : List Step). Contains (shown_by id.creator xs) id) (through-append earlier s between)
-            (shown-grows (through earlier s) between later id.creator id (behind-it earlier (between ++ later) s is) (acknowledged earlier s id (between ++ later, is) told));
+        monotonic = position-grows steps prefix.never_falls;
+        own_writes = own-writes steps prefix.never_falls acknowledged;
       }
 
   pub no-split_brain : NoSplitBrain steps
@@ -212,7 +221,7 @@ module _ (steps : List Step) (grows : OrderGrows steps) (prefix : Prefix steps) 
         outside = λ earlier s l up after there shown not_primary not_recovery.
             elim (cases_lt (length (order_of earlier)) up.view.green_count) [
               | inl more ↦
-                  let within = count-within steps grows earlier after.0 s l up (behind-it earlier after.0 s after.1) there shown in
+                  let within = count-within steps grows earlier after.0 s l up (behind-it steps earlier after.0 s after.1) there shown in
                   absurd (elim (primary.longer earlier s l up after (omega arith) there shown more) [ inl is ↦ not_primary is | inr is ↦ not_recovery is ])
               | inr fewer ↦ fewer
             ];

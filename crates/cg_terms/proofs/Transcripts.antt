@@ -1,8 +1,6 @@
--- For each guarantee, small transcripts that break it: a definition that let one of them pass would say too little. And one that is
--- linearizable, with its history.
-use Rattle.std.specs.Prelude.{◌≡◌, ◌⊎◌, ℕ, zero, suc, ◌≤◌, take, Bool, true, false, List, [], ◌∷◌, ◌++◌, Option, Some, None, Contains, codes, pos}
-use Rattle.std.proofs.Common.{refl, sym, ap, ap₂, ◌∙◌, subst, inl, inr, arith, length, append-nil}
-use Rattle.std.proofs.lemmas.List.Elements.{Contains-append_left}
+-- For each guarantee, small transcripts that break it: a definition that let one of them pass would say too little.
+use Rattle.std.specs.Prelude.{◌≡◌, ◌⊎◌, ℕ, ◌≤◌, Bool, true, false, List, [], ◌∷◌, ◌++◌, Option, Some, None, Contains, codes, pos}
+use Rattle.std.proofs.Common.{refl, sym, ap, ◌∙◌, subst, inl, inr, arith, length, append-nil}
 use Rattle.std.proofs.lemmas.Bool.{false≢true}
 use Rattle.cg_base.specs.declared.action_id.ActionId.{ActionId}
 use Rattle.cg_base.specs.declared.weighted.Weighted.{Weighted}
@@ -31,28 +29,26 @@ use Rattle.cg_report.specs.declared.line.StateName.{StateName}
 use Rattle.cg_report.specs.declared.line.StateName.TheVariants as state
 use Rattle.cg_report.specs.declared.line.UpLine.{UpLine}
 use Rattle.cg_schedule.specs.declared.event.Event.{Event}
-use Rattle.cg_schedule.specs.declared.event.Event.TheVariants.{Gather, Recover, Weak, Split, Stop}
+use Rattle.cg_schedule.specs.declared.event.Event.TheVariants.{Gather, Recover, Weak}
 use Rattle.cg_client.specs.Replica.{Held, Replica, NonPrim, fresh_held}
 use Rattle.cg_commit.specs.Crash.{new_disk}
 use Rattle.cg_model.specs.World.{Up, no_world}
 use Rattle.cg_model.specs.Run.{Step}
-use Rattle.cg_model.specs.Shown.{made_names}
-use Rattle.cg_model.specs.Agreement.{through}
 use Rattle.cg_queue.specs.Queue.{names_of}
-use Rattle.cg_terms.specs.Linearizable.{AllDiffer, StandsBefore, replied_in, responses, Linearizes, Linearizable, history_of, StronglyLinearizable}
+use Rattle.cg_terms.specs.Linearizable.{AllDiffer, responses, Linearizes, Linearizable, history_of, StronglyLinearizable}
 use Rattle.cg_terms.specs.Guarantees.{IsPrimary, Durable, ExactlyOnce, PrefixReads, NoSplitBrain}
-use Rattle.cg_terms.proofs.Places.{contains-none, contains-here, contains-later, contains-cases, split-at}
+use Rattle.cg_terms.proofs.Places.{contains-none, contains-here, contains-later, contains-cases}
 
 -- ---- steps that show little
 
-abbrev name : ℕ → ℕ → ActionId
+abbrev pub name : ℕ → ℕ → ActionId
 name creator index = record { creator = creator; index = index }
 
-abbrev showing : ℕ → Event → Entry → Step
+abbrev pub showing : ℕ → Event → Entry → Step
 showing number event entry = record { number = number; event = event; entry = entry; world = no_world }
 
 -- a line of a replica in a state, with so many greens, its last primary component with this number
-abbrev up_with : ℕ → StateName → ℕ → ℕ → UpLine
+abbrev pub up_with : ℕ → StateName → ℕ → ℕ → UpLine
 up_with p state greens index =
     record {
       state = state;
@@ -77,17 +73,17 @@ line_with p state greens index = record { id = p; up = Some (up_with p state gre
 abbrev in_primary : ℕ → ℕ → Line
 in_primary p greens = line_with p state.RegPrim greens 1
 
-abbrev at : ℕ → ActionId → Placed
+abbrev pub at : ℕ → ActionId → Placed
 at place id = record { place = place; id = id }
 
 -- an action that puts 1, and asks for it
-abbrev puts_one : Kind
+abbrev pub puts_one : Kind
 puts_one = Update (Put (codes "x") (Int (pos 1)) ∷ []) (Some (Get (codes "x")))
 
-abbrev servers : List Weighted
+abbrev pub servers : List Weighted
 servers = record { id = 1; weight = 1 } ∷ record { id = 2; weight = 1 } ∷ []
 
-abbrev x_is : ℕ → List DbEntry
+abbrev pub x_is : ℕ → List DbEntry
 x_is n = record { key = codes "x"; value = Int (pos n) } ∷ []
 
 -- the number that stands at the first key
@@ -100,14 +96,14 @@ first_amount [] = 0
 first_amount (e ∷ es) = amount e.value
 
 -- what a replica holds with this database and one green, which it has discarded
-abbrev one_applied : ℕ → List DbEntry → Held
+abbrev pub one_applied : ℕ → List DbEntry → Held
 one_applied p db = let h = fresh_held p servers in record h { db = db; queue = record h.queue { white = 1 } }
 
-abbrev replica_with : ℕ → List DbEntry → Replica
+abbrev pub replica_with : ℕ → List DbEntry → Replica
 replica_with p db = record { held = one_applied p db; state = NonPrim false }
 
 -- the action is made, ordered and replied to
-abbrev one_done : Entry
+abbrev pub one_done : Entry
 one_done =
     record no_entry {
       made = record { id = name 1 1; kind = puts_one } ∷ [];
@@ -116,7 +112,7 @@ one_done =
       replies = record { id = name 1 1; effect = Done; answer = Some (Number (pos 1)) } ∷ [];
     }
 
-abbrev done : Step
+abbrev pub done : Step
 done = showing 1 Gather one_done
 
 -- behind it replicas 1 and 2 hold these databases
@@ -148,7 +144,7 @@ absent = record { id = name 1 1; effect = Done; answer = Some Absent }
 abbrev read_too_early : Step
 read_too_early = showing 1 Gather (record one_done { replies = absent ∷ [] })
 
-abbrev the_action : Action
+abbrev pub the_action : Action
 the_action = record { id = name 1 1; green_line = 1; kind = puts_one }
 
 abbrev is_absent : Option Answer → Bool
@@ -178,7 +174,7 @@ reply_from_before_its_action (history, g) = elim_history history g.invoked g.dis
       distinct.0 (subst (Contains (b.id ∷ names_of rest)) same (contains-here b.id (names_of rest)))
 
 -- a read that began when a write was over, and didn't see it
-abbrev asks_one : Kind
+abbrev pub asks_one : Kind
 asks_one = Update [] (Some (Get (codes "x")))
 
 abbrev stale : Reply
@@ -191,7 +187,7 @@ abbrev the_read : Action
 the_read = record { id = name 2 1; green_line = 0; kind = asks_one }
 
 -- the reply that finds 1
-abbrev finds_one : ActionId → Reply
+abbrev pub finds_one : ActionId → Reply
 finds_one id = record { id = id; effect = Done; answer = Some (Number (pos 1)) }
 
 stale_behind_the_write : Linearizes (done ∷ reads_stale ∷ []) (the_action ∷ the_read ∷ []) → ⊥
@@ -294,7 +290,7 @@ read_misses_the_write (history, g) = misses_the_write history g
 -- ---- strongly linearizable
 
 -- what isn't linearizable isn't strongly so
-strong-is_linearizable : (steps : List Step) → StronglyLinearizable steps → Linearizable steps
+pub strong-is_linearizable : (steps : List Step) → StronglyLinearizable steps → Linearizable steps
 strong-is_linearizable steps g = (history_of steps, (g steps [] [] (sym (append-nil steps))).0)
 
 -- a reply to what has no place in the order yet
@@ -429,98 +425,3 @@ databases_part g =
     let two = g.together s 2 (replica_with 2 (x_is 2)) (0, omega arith, refl) refl in
     let same : x_is 1 ≡ x_is 2 = one.1 ∙ sym two.1 in
     omega (arith, ap first_amount same)
-
--- ---- a right one, through a partition and a crash
-
-abbrev parted : Step
-parted = showing 2 (Split (3 ∷ [])) (record no_entry { lines = line_with 3 state.NonPrim 0 1 ∷ [] })
-
-abbrev crashed : Step
-crashed = showing 3 (Stop 1 0 []) (record no_entry { lines = record { id = 1; up = None } ∷ [] })
-
-abbrev reads_it : Step
-reads_it = showing 4 Gather (record no_entry { made = record { id = name 2 1; kind = asks_one } ∷ []; replies = finds_one (name 2 1) ∷ [] })
-
-abbrev right : List Step
-right = done ∷ parted ∷ crashed ∷ reads_it ∷ []
-
-abbrev its_history : List Action
-its_history = the_action ∷ the_read ∷ []
-
-abbrev its_names : List ActionId
-its_names = name 1 1 ∷ name 2 1 ∷ []
-
--- what a step replies to, by its place
-abbrev replied_at : ℕ → List Step → List ActionId
-replied_at n [] = []
-replied_at zero (s ∷ steps) = replied_in s
-replied_at (suc n) (s ∷ steps) = replied_at n steps
-
--- its replies
-abbrev replies_at : ℕ → List Step → List Reply
-replies_at n [] = []
-replies_at zero (s ∷ steps) = s.entry.replies
-replies_at (suc n) (s ∷ steps) = replies_at n steps
-
-replies-there : (earlier : List Step) (s : Step) (later : List Step) → replies_at (length earlier) (earlier ++ s ∷ later) ≡ s.entry.replies
-replies-there [] s later = refl
-replies-there (x ∷ earlier) s later = replies-there earlier s later
-
-replied-there : (earlier : List Step) (s : Step) (later : List Step) → replied_at (length earlier) (earlier ++ s ∷ later) ≡ replied_in s
-replied-there [] s later = refl
-replied-there (x ∷ earlier) s later = replied-there earlier s later
-
-taken-there : (earlier : List Step) (s : Step) (later : List Step) → take (suc (length earlier)) (earlier ++ s ∷ later) ≡ through earlier s
-taken-there [] s later = refl
-taken-there (x ∷ earlier) s later = ap (λ (steps : List Step). x ∷ steps) (taken-there earlier s later)
-
-not_yet_turned : Contains (name 2 1 ∷ []) (name 1 1) → ⊥
-not_yet_turned there = elim (contains-cases (name 2 1) [] (name 1 1) there) [
-  | inl same ↦ (let clash : 2 ≡ 1 = ap (λ (id : ActionId). id.creator) same in omega (arith, clash))
-  | inr none ↦ contains-none (name 1 1) none
-]
-
-in_time : (n : ℕ) (a b : ActionId) → Contains (replied_at n right) a → (Contains (made_names (take (suc n) right)) b → ⊥) → Contains its_names b → StandsBefore its_names a b
-in_time zero a b told not_made there = elim (contains-cases (name 1 1) [] a told) [
-  | inl first ↦ elim (contains-cases (name 1 1) (name 2 1 ∷ []) b there) [
-    | inl same ↦ absurd (not_made (subst (Contains (name 1 1 ∷ [])) same (contains-here (name 1 1) [])))
-    | inr later ↦ elim (contains-cases (name 2 1) [] b later) [
-      | inl second ↦ ([], [], [], ap₂ (λ (x y : ActionId). x ∷ y ∷ []) first second)
-      | inr none ↦ absurd (contains-none b none)
-    ]
-  ]
-  | inr none ↦ absurd (contains-none a none)
-]
-in_time (suc zero) a b told not_made there = absurd (contains-none a told)
-in_time (suc (suc zero)) a b told not_made there = absurd (contains-none a told)
-in_time (suc (suc (suc zero))) a b told not_made there = absurd (not_made there)
-in_time (suc (suc (suc (suc n)))) a b told not_made there = absurd (contains-none a told)
-
-its_replies : (n : ℕ) (r : Reply) → Contains (replies_at n right) r → Contains (finds_one (name 1 1) ∷ finds_one (name 2 1) ∷ []) r
-its_replies zero r told = Contains-append_left (finds_one (name 1 1) ∷ []) (finds_one (name 2 1) ∷ []) r told
-its_replies (suc zero) r told = absurd (contains-none r told)
-its_replies (suc (suc zero)) r told = absurd (contains-none r told)
-its_replies (suc (suc (suc zero))) r told = contains-later (finds_one (name 1 1)) (finds_one (name 2 1) ∷ []) r told
-its_replies (suc (suc (suc (suc n)))) r told = absurd (contains-none r told)
-
-it_is_linearizable : Linearizable right
-unfolding run_commands with_changes
-it_is_linearizable = (
-  its_history,
-  record {
-    invoked = λ a there. there;
-    distinct = (not_yet_turned, ((λ none. contains-none (name 2 1) none), tt));
-    legal = λ s r there told.
-        let at = split-at right s there in
-        its_replies (length at.before) r
-        (subst (λ (rs : List Reply). Contains rs r) (sym (ap (replies_at (length at.before)) at.is ∙ replies-there at.before s at.after)) told);
-    real_time = λ a b over there.
-        let earlier : List Step = over.0 in
-        let s : Step = over.1 in
-        let later : List Step = over.2.0 in
-        in_time (length earlier) a b
-        (subst (λ (ids : List ActionId). Contains ids a) (sym (ap (replied_at (length earlier)) over.2.1 ∙ replied-there earlier s later)) over.3)
-        (λ made. over.4 (subst (λ (steps : List Step). Contains (made_names steps) b) (ap (take (suc (length earlier))) over.2.1 ∙ taken-there earlier s later) made))
-        there;
-  },
-)
