@@ -1,3 +1,3 @@
 mod Arriving
-mod Copying
+mod CopiedParts
 mod HeldAgrees

@@ -2,7 +2,7 @@ use Rattle.std.proofs.Common.{◌≡◌, IfOk, Option, Some, None, IfSome, sym, 
 use Rattle.std.specs.Option.{option_copied}
 use Rattle.cg_commit.specs.Holds.{Holds}
 use Rattle.cg_model.specs.World.{Snapshot, running}
-use Rattle.cg_transfer.proofs.Copying.{held_of, copy_of, held-copied, none-copied}
+use Rattle.cg_transfer.proofs.CopiedParts.{held_of, copy_of, held-copied, none-copied}
 use Rattle.cg_transfer.proofs.transfer.Transfer.of.Goals as goal
 
 pub copy_of-requires-clause-holds : goal.copy_of-requires-clause-holds
