@@ -1,10 +1,9 @@
 //! Lines of a schedule: the event that a line is, as it is printed, or why it is none. A line is written as in `bytes`.
 //!
-//! It stands behind `start 1`, but for a `first` one, and for those that stand behind the lines before: `next`, and in two
-//! calls `begin` and `finish`.
+//! It stands behind `start 1`, but for a `first` one, and for those that stand behind the lines before: `next`.
 
 use crate::bytes::bytes_of;
-use crate::table::{follows, is, number, parts, say, say_shown};
+use crate::table::{follows, number, parts, say};
 use cg_base::put;
 use cg_schedule::{Event, LineFault, Reader, SyntaxReason, print_line};
 use std::alloc::Global;
@@ -304,11 +303,6 @@ long 1025 x request 1 need "k" "*" ? count -> bad text
 long 4096 0f stop 1 0 * -> itself
 long 4097 0f stop 1 0 * -> bad text"#;
 
-const TWO_CALLS: &str = r#"begin 'start 2*3' -> start
-finish 'start 2*3' -> itself
-begin 'weak 1 get "x' -> weak
-begin '# x' -> nothing"#;
-
 // the one place where an event is let go: each further one is shown over all variants
 fn let_go(event: Event) {
     drop(event);
@@ -344,24 +338,6 @@ fn say_line(alloc: Global, reader: &mut Reader, line: &[u8], out: &mut Vec<u8>) 
         Ok(Some(event)) => say_event(event, line, out),
         Ok(None) => say(out, "nothing"),
         Err(fault) => say(out, reason_of(fault)),
-    }
-}
-
-// the word that a line begins with; nothing else of the line is looked at
-fn say_word(reader: &Reader, line: &[u8], out: &mut Vec<u8>) {
-    match reader.begin_line(line) {
-        Ok(Some((word, _))) => say(out, word.text()),
-        Ok(None) => say(out, "nothing"),
-        Err(fault) => say(out, reason_of(fault)),
-    }
-}
-
-// the event of a line, in two calls
-fn say_finished(alloc: Global, reader: &mut Reader, line: &[u8], out: &mut Vec<u8>) {
-    if let Ok(Some((word, words))) = reader.begin_line(line) {
-        if let Ok(event) = reader.finish_line(alloc, word, words) {
-            say_event(event, line, out);
-        }
     }
 }
 
@@ -411,8 +387,6 @@ fn perform(alloc: Global, reader: &mut Reader, call: &str, out: &mut Vec<u8>) {
             out,
         ),
         "next" => say_line(alloc, reader, bytes_of(alloc, text).as_slice(), out),
-        "begin" => say_word(reader, bytes_of(alloc, text).as_slice(), out),
-        "finish" => say_finished(alloc, reader, bytes_of(alloc, text).as_slice(), out),
         "more" => say_line(alloc, &mut other, filled(alloc, text).as_slice(), out),
         "long" => say_line(alloc, &mut other, stretched(alloc, text).as_slice(), out),
         _ => say_line(alloc, &mut other, bytes_of(alloc, call).as_slice(), out),
@@ -450,49 +424,5 @@ fn lines_that_are_events_and_others(rt: HostRuntime) {
 #[test]
 fn lines_behind_one_another(rt: HostRuntime) {
     let mut reader = Reader::new();
-    follows(&rt, &mut reader, TWO_CALLS, perform);
-    reader = Reader::new();
     follows(&rt, &mut reader, PLACES, perform);
-    assert!(rt; reader.state().ended);
-}
-
-// whether the lines are one event, where both are read
-fn are_one(alloc: Global, a: &[u8], b: &[u8]) -> Option<bool> {
-    let mut reader = started(alloc);
-    let mut is_same = None;
-    if let Ok(Some(one)) = reader.read_line(alloc, a) {
-        if let Ok(Some(other)) = reader.read_line(alloc, b) {
-            is_same = Some(one == other);
-            let_go(other);
-        }
-        let_go(one);
-    }
-    is_same
-}
-
-#[test]
-fn events_are_compared(rt: HostRuntime) {
-    assert_eq!(rt;
-        are_one(
-            rt.alloc(),
-            b"request 1 ? get \"x\"",
-            b"request  1  ?get \"x\""
-        ),
-        Some(true)
-    );
-    assert_eq!(rt;
-        are_one(rt.alloc(), b"weak 1 count", b"dirty 1 count"),
-        Some(false)
-    );
-    assert_eq!(rt;
-        are_one(rt.alloc(), b"stop 1 0 -", b"stop 1 0 00"),
-        Some(false)
-    );
-}
-
-#[test]
-fn faults_have_words(rt: HostRuntime) {
-    let mut out = Vec::new(rt.alloc());
-    say_shown(&mut out, &LineFault::Syntax(SyntaxReason::MissingPart));
-    is(&rt, out.as_slice(), "the line ends where a part must stand");
 }

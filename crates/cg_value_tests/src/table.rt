@@ -57,10 +57,6 @@ pub(crate) fn say_number(out: &mut Vec<u8>, number: u64) {
     let _done = put_number(out, number);
 }
 
-pub(crate) fn say_truth(out: &mut Vec<u8>, truth: bool) {
-    say(out, if truth { "yes;" } else { "no;" });
-}
-
 pub(crate) fn say_name(out: &mut Vec<u8>, id: ActionId) {
     let _done = put_shown(out, &id);
 }
