@@ -6,6 +6,7 @@ use crate::bytes::bytes_of;
 use crate::table::{follows, is, parts, say, say_shown};
 use cg_action::{Action, Value, copy_actions, decode, encode, print_kind, print_value, put_action};
 use cg_base::put;
+use cg_schedule::Reader;
 use std::alloc::Global;
 
 // the action 1:1 with green line 0, up to the tag of what it does
@@ -24,10 +25,8 @@ kind 01 00000001 04 00000001'k' 00 01 00000000 00 -> cas "k" absent ""
 kind 01 00000001 04 00000001'k' 02 ffffffffffffffff 01 00000001'"' 00 -> cas "k" -1 "\""
 kind 01 00000001 05 00000001'a' 00000001'b' 7fffffffffffffff 00 -> move "a" "b" 9223372036854775807
 kind 01 00000001 06 00000001'k' 00 00 -> need "k" absent
-kind 01 00000002 02 00000001'a' 02 00000001'b' 01 03 -> del "a"; del "b" ? count"#;
-
-const COPIED: &str =
-    "actions 01 0000000000000001 0000000000000000 01 00000001 01 00000001'x' 02 0000000000000001 00 -> 1:1 put \"x\" 1";
+kind 01 00000002 02 00000001'a' 02 00000001'b' 01 03 -> del "a"; del "b" ? count
+actions 01 0000000000000001 0000000000000000 01 00000001 01 00000001'x' 02 0000000000000001 00 -> 1:1 put "x" 1"#;
 
 // the bytes of an action that does this
 fn named(alloc: Global, kind: &str) -> Vec<u8> {
@@ -57,7 +56,8 @@ fn say_kind(alloc: Global, action: &Action, bytes: &[u8], out: &mut Vec<u8>)
     }
 }
 
-fn show_kind(alloc: Global, kind: &str, out: &mut Vec<u8>) {
+/// What an action of these bytes does.
+pub(crate) fn show_kind(alloc: Global, kind: &str, out: &mut Vec<u8>) {
     let bytes = named(alloc, kind);
     if let Ok(action) = decode(alloc, bytes.as_slice()) {
         say_kind(alloc, &action, bytes.as_slice(), out);
@@ -65,9 +65,10 @@ fn show_kind(alloc: Global, kind: &str, out: &mut Vec<u8>) {
     }
 }
 
-// the copies of a list of one
-fn show_copies(alloc: Global, bytes: &[u8], out: &mut Vec<u8>) {
-    if let Ok(action) = decode(alloc, bytes) {
+/// The copies of a list of one.
+pub(crate) fn show_copies(alloc: Global, text: &str, out: &mut Vec<u8>) {
+    let bytes = bytes_of(alloc, text);
+    if let Ok(action) = decode(alloc, bytes.as_slice()) {
         if let Ok(copies) = copy_actions(alloc, &[action]) {
             for copy in copies.as_slice() {
                 say_shown(out, copy);
@@ -77,19 +78,10 @@ fn show_copies(alloc: Global, bytes: &[u8], out: &mut Vec<u8>) {
     }
 }
 
-fn perform(alloc: Global, _: &mut (), call: &str, out: &mut Vec<u8>) {
-    let (word, text) = parts(call, " ");
-    match word {
-        "kind" => show_kind(alloc, text, out),
-        _ => show_copies(alloc, bytes_of(alloc, text).as_slice(), out),
-    }
-}
-
 #[test]
 fn bytes_that_are_read(rt: HostRuntime) {
-    for table in [KINDS, COPIED] {
-        follows(&rt, &mut (), table, perform);
-    }
+    let mut reader = Reader::new();
+    follows(&rt, &mut reader, KINDS);
 }
 
 #[test]

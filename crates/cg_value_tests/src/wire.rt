@@ -3,11 +3,12 @@
 ghost use Rattle.cg_wire.specs.Limits.{IsMsg};
 
 use crate::bytes::bytes_of;
-use crate::table::{follows, parts, say, say_name, say_number, say_set, say_shown};
+use crate::table::{follows, say, say_name, say_number, say_set, say_shown};
 use cg_action::Action;
 use cg_base::Cut;
 use cg_knowledge::Summary;
 use cg_records::Vulnerable;
+use cg_schedule::Reader;
 use cg_wire::{Msg, decode, encode};
 use std::alloc::Global;
 
@@ -36,12 +37,12 @@ const RED: &str = "03 02 01 0000000000000001 0000000000000000 01 00000001 01 000
 // the member 5 is ready in configuration 258
 const CPC: &str = "04 05 0000000000000102";
 
-const SAID: &str = "action, said -> action 1:1 behind 0
-state, said -> member 3 in 9, 2/4 {1,3*5}, attempt 6, record 8/2 {1,3} {3}, yellow [1:11], green 7 [1:10], red [1:12][3:1], left {2}
-short state, said -> member 32 in 1, 0/0 {}, attempt 0, no record, no yellow [], green 0 , red , left {}
-green, said -> green 7, action 1:1 behind 0
-red, said -> red, action 1:1 behind 0
-cpc, said -> ready 5 in 258";
+const SAID: &str = "said action -> action 1:1 behind 0
+said state -> member 3 in 9, 2/4 {1,3*5}, attempt 6, record 8/2 {1,3} {3}, yellow [1:11], green 7 [1:10], red [1:12][3:1], left {2}
+said short state -> member 32 in 1, 0/0 {}, attempt 0, no record, no yellow [], green 0 , red , left {}
+said green -> green 7, action 1:1 behind 0
+said red -> red, action 1:1 behind 0
+said cpc -> ready 5 in 258";
 
 fn fields_of(kind: &str) -> &'static str {
     match kind {
@@ -148,23 +149,20 @@ fn is_spelled(alloc: Global, message: &Msg, bytes: &[u8]) -> bool
     }
 }
 
-// what a message says, and whether it is written again so
-fn say_said(alloc: Global, bytes: &[u8], out: &mut Vec<u8>) {
-    if let Ok(message) = decode(alloc, bytes) {
+/// What a message says, and whether it is written again so.
+pub(crate) fn show_said(alloc: Global, kind: &str, out: &mut Vec<u8>) {
+    let bytes = bytes_of(alloc, fields_of(kind));
+    if let Ok(message) = decode(alloc, bytes.as_slice()) {
         say_message(out, &message);
-        if !is_spelled(alloc, &message, bytes) {
+        if !is_spelled(alloc, &message, bytes.as_slice()) {
             say(out, ", and other bytes");
         }
         drop(message);
     }
 }
 
-fn perform(alloc: Global, _: &mut (), call: &str, out: &mut Vec<u8>) {
-    let (kind, _) = parts(call, ", ");
-    say_said(alloc, bytes_of(alloc, fields_of(kind)).as_slice(), out);
-}
-
 #[test]
 fn each_kind_in_bytes(rt: HostRuntime) {
-    follows(&rt, &mut (), SAID, perform);
+    let mut reader = Reader::new();
+    follows(&rt, &mut reader, SAID);
 }
