@@ -31,10 +31,7 @@ fn an_action_that_fails_changes_nothing(rt: HostRuntime) -> Result<(), Fail> {
     let (source, target) = (Txt::new(alloc, "x")?, Txt::new(alloc, "y")?);
     let key = Txt::new(alloc, "x")?;
     let mut db = Db::new(alloc);
-    assert_eq!(rt;
-        run(alloc, &mut db, Cmd::Inc { key, by: 5 }),
-        Ok(Effect::Done)
-    );
+    assert!(rt; run(alloc, &mut db, Cmd::Inc { key, by: 5 }) == Ok(Effect::Done));
 
     // "x" has no 7 to give
     let shift = Cmd::Move {
@@ -42,7 +39,7 @@ fn an_action_that_fails_changes_nothing(rt: HostRuntime) -> Result<(), Fail> {
         target,
         amount: 7,
     };
-    assert_eq!(rt; run(alloc, &mut db, shift), Ok(Effect::Aborted(1)));
+    assert!(rt; run(alloc, &mut db, shift) == Ok(Effect::Aborted(1)));
     assert!(rt; matches!(db.value(&x), Some(Value::Int(5))));
     assert!(rt; db.value(&y).is_none());
     drop(db);

@@ -35,7 +35,7 @@ fn what_a_member_lacks_is_sent_again(rt: HostRuntime) -> Result<(), Fail> {
     let made = Plan::make(alloc, &summaries);
     drop(summaries);
     let mut plan = made?;
-    assert_eq!(rt; plan.turn(two), Some(Part::Greens { from: 2, to: 2 }));
+    assert!(rt; plan.turn(two) == Some(Part::Greens { from: 2, to: 2 }));
 
     let item = Item::Green { at: 2 };
     assert!(rt; plan.accept(one, &item).is_err());
