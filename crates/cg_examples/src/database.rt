@@ -20,26 +20,29 @@ fn run(alloc: Global, db: &mut Db, cmd: Cmd) -> Result<Effect, NoMemory>
         green_line: 0,
         kind: Kind::Update { cmds, query: None },
     };
-    db.apply(&action)
+    let effect = db.apply(&action);
+    drop(action);
+    effect
 }
 
 #[test]
 fn an_action_that_fails_changes_nothing(rt: HostRuntime) -> Result<(), Fail> {
     let alloc = rt.alloc();
-    let mut db = Db::new(alloc);
+    let (x, y) = (Txt::new(alloc, "x")?, Txt::new(alloc, "y")?);
+    let (source, target) = (Txt::new(alloc, "x")?, Txt::new(alloc, "y")?);
     let key = Txt::new(alloc, "x")?;
-    assert_eq!(rt; run(alloc, &mut db, Cmd::Inc { key, by: 5 })?, Effect::Done);
+    let mut db = Db::new(alloc);
+    assert!(rt; run(alloc, &mut db, Cmd::Inc { key, by: 5 }) == Ok(Effect::Done));
 
     // "x" has no 7 to give
-    let (source, target) = (Txt::new(alloc, "x")?, Txt::new(alloc, "y")?);
     let shift = Cmd::Move {
         source,
         target,
         amount: 7,
     };
-    assert_eq!(rt; run(alloc, &mut db, shift)?, Effect::Aborted(1));
-    let (x, y) = (Txt::new(alloc, "x")?, Txt::new(alloc, "y")?);
+    assert!(rt; run(alloc, &mut db, shift) == Ok(Effect::Aborted(1)));
     assert!(rt; matches!(db.value(&x), Some(Value::Int(5))));
     assert!(rt; db.value(&y).is_none());
+    drop(db);
     Ok(())
 }

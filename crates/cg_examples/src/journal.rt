@@ -19,8 +19,8 @@ fn a_record_is_there_whole_or_not_at_all(rt: HostRuntime) -> Result<(), Fail> {
         return Err("it went on".into());
     };
     let left = disk.image(b"half of it")?;
-    assert_eq!(rt; left.calls(), 3 + 4 + 1);
+    assert!(rt; left.calls() == 3 + 4 + 1);
     let (_, a, _) = Journal::open(alloc, left).ok().ok_or("no journal")?;
-    assert_eq!(rt; a.len(), 1);
+    assert!(rt; a.len() == 1);
     Ok(())
 }

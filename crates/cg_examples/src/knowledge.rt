@@ -41,8 +41,11 @@ fn the_last_primary_component_says_who_goes_on(rt: HostRuntime) -> Result<(), Fa
 
     // 1 has missed the second one; 2 is half of it, with its least member
     let summaries = [summary(alloc, one, first), summary(alloc, two, second)];
-    let verdict = decide(alloc, &summaries)?;
-    assert_eq!(rt; verdict.prim, second);
+    let verdict = decide(alloc, &summaries);
+    drop(summaries);
+    let verdict = verdict?;
+    assert!(rt; verdict.prim == second);
     assert!(rt; verdict.quorum);
+    drop(verdict);
     Ok(())
 }

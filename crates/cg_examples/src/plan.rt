@@ -32,8 +32,10 @@ fn what_a_member_lacks_is_sent_again(rt: HostRuntime) -> Result<(), Fail> {
     let alloc = rt.alloc();
     let (one, two) = (ReplicaId::known(1), ReplicaId::known(2));
     let summaries = [summary(alloc, one, 1), summary(alloc, two, 2)];
-    let mut plan = Plan::make(alloc, &summaries)?;
-    assert_eq!(rt; plan.turn(two), Some(Part::Greens { from: 2, to: 2 }));
+    let made = Plan::make(alloc, &summaries);
+    drop(summaries);
+    let mut plan = made?;
+    assert!(rt; plan.turn(two) == Some(Part::Greens { from: 2, to: 2 }));
 
     let item = Item::Green { at: 2 };
     assert!(rt; plan.accept(one, &item).is_err());

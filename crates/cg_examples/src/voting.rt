@@ -1,9 +1,8 @@
 use cg_base::{IdSet, ReplicaId, WeightSet};
 use cg_vote::quorum;
-use std::test::Fail;
 
 #[test]
-fn half_goes_on_with_the_least_member(rt: HostRuntime) -> Result<(), Fail> {
+fn half_goes_on_with_the_least_member(rt: HostRuntime) {
     let (one, two) = (ReplicaId::known(1), ReplicaId::known(2));
     let mut last = WeightSet::empty();
     last.put(one, 1);
@@ -14,5 +13,4 @@ fn half_goes_on_with_the_least_member(rt: HostRuntime) -> Result<(), Fail> {
     present.remove(two);
     present.add(one);
     assert!(rt; quorum(&last, &present));
-    Ok(())
 }

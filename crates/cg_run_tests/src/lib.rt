@@ -1,7 +1,7 @@
-//! Runs over a source and a sink in memory, as texts, and steps of a world.
+//! Runs over a source and a sink of which a take or a put fails, and what a world says of an action that was made.
 //!
 //! Tests alone, over the public calls of `cg_run` and `cg_world`; nothing stands on this crate. What a whole report says is
-//! shown by the worked cases of the program; here stand findings, words, faults of a take and of a put, and limits.
+//! shown by the worked cases of the program.
 #![tactic(auto)]
 
 #[cfg(test)]

@@ -1,9 +1,7 @@
 //! Bytes as texts: digits of base 16, and letters between single quotes, as in `01 00000001'x'`. Blanks are passed over,
 //! but between quotes.
 
-use crate::table::{number, parts, say, say_number};
 use cg_base::put;
-use cg_codec::CodecFault;
 use std::alloc::Global;
 
 fn digit(byte: u8) -> u8 {
@@ -39,31 +37,4 @@ pub(crate) fn bytes_of(alloc: Global, text: &str) -> Vec<u8> {
         }
     }
     out
-}
-
-/// The bytes of a text behind a change: `54 bytes` of them stand, `33 at 0` is another byte at a place, `more` is a byte 0
-/// behind them.
-pub(crate) fn changed(alloc: Global, text: &str, change: &str) -> Vec<u8> {
-    let mut bytes = bytes_of(alloc, text);
-    let (what, place) = parts(change, " at ");
-    let place = number(place) as usize;
-    if what == "more" {
-        let _done = put(&mut bytes, &[0]);
-    } else if let Some(count) = what.strip_suffix(" bytes") {
-        bytes.truncate(number(count) as usize);
-    } else if place < bytes.len() {
-        bytes[place] = (number(what) % 256) as u8;
-    }
-    bytes
-}
-
-pub(crate) fn say_fault(out: &mut Vec<u8>, fault: CodecFault) {
-    let (what, at) = match fault {
-        CodecFault::Short { at } => ("short ", at),
-        CodecFault::Bad { at } => ("bad ", at),
-        CodecFault::Rest { at } => ("rest ", at),
-        CodecFault::NoMemory => ("no memory ", 0),
-    };
-    say(out, what);
-    say_number(out, at);
 }

@@ -1,12 +1,9 @@
-//! Sources and sinks: what each take and each put answers, and what was taken and put.
+//! Sources and sinks that the program has no report of: what each take and each put answers, and what was taken and put.
 
-use crate::table::{is, say, say_number, say_shown};
+use crate::table::{is, say, say_number};
 use cg_base::put;
-use cg_io::{
-    CleanSink, CleanSource, Failed, IoFault, MemSink, MemSource, Sink, Source, StdSink, StdSource,
-};
+use cg_io::{CleanSink, CleanSource, Failed, IoFault, Sink, Source, StdSink, StdSource};
 use std::io;
-use std::test::Fail;
 
 fn say_taken(out: &mut Vec<u8>, taken: Result<usize, Failed>) {
     match taken {
@@ -30,37 +27,10 @@ fn say_bytes(out: &mut Vec<u8>, bytes: &[u8]) {
 }
 
 #[test]
-fn chosen_takes_fail_and_take_nothing(rt: HostRuntime) -> Result<(), Fail> {
-    let fail = [1u64, 3].to_vec(rt.alloc())?;
-    let mut source = MemSource::new(b"abcde".to_vec(rt.alloc())?, fail);
-    let mut buf = [0u8; 3];
-    let mut out = Vec::new(rt.alloc());
-    say_taken(&mut out, source.take(&mut buf));
-    say_taken(&mut out, source.take(&mut buf));
-    say_bytes(&mut out, &buf);
-    say_taken(&mut out, source.take(&mut buf));
-    say_taken(&mut out, source.take(&mut buf));
-    say_bytes(&mut out, &buf[..2]);
-    say_taken(&mut out, source.take(&mut buf));
-    is(&rt, out.as_slice(), "failed;3;abc;failed;2;de;0;");
-    Ok(())
-}
-
-#[test]
-fn chosen_puts_fail_and_put_nothing(rt: HostRuntime) -> Result<(), Fail> {
-    let mut sink = MemSink::new(rt.alloc(), [2u64].to_vec(rt.alloc())?);
-    let mut out = Vec::new(rt.alloc());
-    say_put(&mut out, sink.put(rt.alloc(), b"ab"));
-    say_put(&mut out, sink.put(rt.alloc(), b"cd"));
-    say_put(&mut out, sink.put(rt.alloc(), b"ef"));
-    say_bytes(&mut out, sink.bytes());
-    is(&rt, out.as_slice(), "done;failed;done;abef;");
-    Ok(())
-}
-
-#[test]
-fn clean_ones_pass_all_on(rt: HostRuntime) -> Result<(), Fail> {
-    let mut source = CleanSource::new(b"xyz".to_vec(rt.alloc())?);
+fn clean_ones_pass_all_on(rt: HostRuntime) {
+    let mut bytes = Vec::new(rt.alloc());
+    say(&mut bytes, "xyz");
+    let mut source = CleanSource::new(bytes);
     let mut buf = [0u8; 2];
     let mut out = Vec::new(rt.alloc());
     say_taken(&mut out, source.take(&mut buf));
@@ -70,7 +40,6 @@ fn clean_ones_pass_all_on(rt: HostRuntime) -> Result<(), Fail> {
     say_put(&mut out, sink.put(rt.alloc(), b"z"));
     say_bytes(&mut out, sink.bytes());
     is(&rt, out.as_slice(), "2;1;done;done;xyz;");
-    Ok(())
 }
 
 // Reads one byte at a time, is interrupted once at the third call, and then goes on.
@@ -144,19 +113,4 @@ fn a_put_repeats_writes_and_a_write_of_nothing_is_a_fault(rt: HostRuntime) {
     say_put(&mut out, sink.put(rt.alloc(), b"f"));
     say_bytes(&mut out, sink.into_inner().bytes.as_slice());
     is(&rt, out.as_slice(), "done;done;failed;abcde;");
-}
-
-#[test]
-fn faults_have_words(rt: HostRuntime) {
-    let mut out = Vec::new(rt.alloc());
-    say_shown(&mut out, &Failed);
-    say(&mut out, ", ");
-    say_shown(&mut out, &IoFault::Failed);
-    say(&mut out, ", ");
-    say_shown(&mut out, &IoFault::NoMemory);
-    is(
-        &rt,
-        out.as_slice(),
-        "a take failed, a put failed, memory was refused",
-    );
 }

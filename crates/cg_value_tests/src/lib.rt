@@ -1,5 +1,5 @@
-//! The tests of the plain values and of what spells them: identifiers, sets and cuts, sources and sinks, texts, fields of
-//! bytes, records, actions, messages, and lines of a schedule.
+//! The tests of the plain values and of what spells them, where no contract and no case of the program says it: bytes
+//! made by hand, lines of a schedule, adapters of sources and sinks, and the words of faults.
 //!
 //! Tests alone, a module a layer, over the public calls of each; nothing stands on this crate. They stand here and not in
 //! the crates, since the gate proves a crate that has tests a second time. Each expected value was worked out by hand.
@@ -8,11 +8,7 @@
 #[cfg(test)]
 mod action;
 #[cfg(test)]
-mod base;
-#[cfg(test)]
 mod bytes;
-#[cfg(test)]
-mod codec;
 #[cfg(test)]
 mod io;
 #[cfg(test)]
@@ -25,3 +21,5 @@ mod table;
 mod text;
 #[cfg(test)]
 mod wire;
+#[cfg(test)]
+mod words;

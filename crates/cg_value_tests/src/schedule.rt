@@ -1,16 +1,15 @@
 //! Lines of a schedule: the event that a line is, as it is printed, or why it is none. A line is written as in `bytes`.
 //!
-//! It stands behind `start 1`, but for a `first` one, and for those that stand behind the lines before: `next`, and in two
-//! calls `begin` and `finish`.
+//! It stands behind `start 1`, but for a `first` one, and for those that stand behind the lines before: `next`.
 
 use crate::bytes::bytes_of;
-use crate::table::{follows, is, number, parts, say, say_shown};
+use crate::table::{follows, number, parts, say};
 use cg_base::put;
 use cg_schedule::{Event, LineFault, Reader, SyntaxReason, print_line};
 use std::alloc::Global;
 
-// one of each reason
-const EXAMPLES: &str = r#"'gather 'ff -> not UTF-8
+const NO_LINES: &str = r#"# one of each reason
+'gather 'ff -> not UTF-8
 'Request 1' -> unknown word
 'request 1 put "x"' -> missing part
 'rounds 1 2' -> extra part
@@ -18,21 +17,21 @@ const EXAMPLES: &str = r#"'gather 'ff -> not UTF-8
 'weak 1 get "x' -> bad text
 'request 1 set "x" 1' -> bad command
 'merge 2 1' -> bad list
-'start 1' -> misplaced"#;
-
-const PASSED_OVER: &str = "'' -> nothing
+'start 1' -> misplaced
+# lines that are passed over
+'' -> nothing
 ' '09' ' -> nothing
 '#' -> nothing
 09'# end' -> nothing
 ' #'ff -> nothing
-'#start 1' -> nothing";
-
-const NO_TEXTS: &str = r#"ff -> not UTF-8
+'#start 1' -> nothing
+# no texts
+ff -> not UTF-8
 'Request 'ff -> not UTF-8
 'end 'c3 -> not UTF-8
-'weak 1 get "'c3'"' -> not UTF-8"#;
-
-const NO_EVENTS: &str = r#"';' -> unknown word
+'weak 1 get "'c3'"' -> not UTF-8
+# no event word
+';' -> unknown word
 '?' -> unknown word
 '"end"' -> unknown word
 '"end' -> unknown word
@@ -42,9 +41,9 @@ const NO_EVENTS: &str = r#"';' -> unknown word
 '1' -> unknown word
 'show_order' -> unknown word
 '-' -> unknown word
-'compare 1 2' -> unknown word"#;
-
-const MISSING_PARTS: &str = r#"'request' -> missing part
+'compare 1 2' -> unknown word
+# parts that are missing
+'request' -> missing part
 'request 1' -> missing part
 'request 1 ?' -> missing part
 'request 1 ? get' -> missing part
@@ -69,9 +68,9 @@ const MISSING_PARTS: &str = r#"'request' -> missing part
 'fail 1' -> missing part
 'join 1' -> missing part
 'leave 1' -> missing part
-'transfer 1 2' -> missing part"#;
-
-const EXTRA_PARTS: &str = r#"'gather ;' -> extra part
+'transfer 1 2' -> missing part
+# parts too many
+'gather ;' -> extra part
 'end 1' -> extra part
 'show order 1' -> extra part
 'show 1 order' -> extra part
@@ -86,9 +85,9 @@ const EXTRA_PARTS: &str = r#"'gather ;' -> extra part
 'weak 1 count count' -> extra part
 'stop 1 0 - -' -> extra part
 'join 1 2 3' -> extra part
-'transfer 1 2 3 4' -> extra part"#;
-
-const NO_NUMBERS: &str = r#"'split 1 ;' -> bad number
+'transfer 1 2 3 4' -> extra part
+# no numbers
+'split 1 ;' -> bad number
 'merge ?' -> bad number
 'split "1"' -> bad number
 'request;1' -> bad number
@@ -110,9 +109,9 @@ const NO_NUMBERS: &str = r#"'split 1 ;' -> bad number
 'fail 1 0' -> bad number
 'fail 1 ?' -> bad number
 'leave 1 2*3' -> bad number
-'transfer 1 2 0' -> bad number"#;
-
-const NO_VALUES: &str = r#"'request 1 put "k" v' -> bad number
+'transfer 1 2 0' -> bad number
+# no values
+'request 1 put "k" v' -> bad number
 'request 1 put "k" absent' -> bad number
 'request 1 put "k" ;' -> bad number
 'request 1 put "k" 9223372036854775808' -> bad number
@@ -122,9 +121,9 @@ const NO_VALUES: &str = r#"'request 1 put "k" v' -> bad number
 'request 1 cas "k" Absent 1' -> bad number
 'request 1 cas "k" ; 1' -> bad number
 'request 1 move "a" "b" -1' -> bad number
-'request 1 need "k" absent1' -> bad number"#;
-
-const NO_WEIGHTS: &str = r#"first 'start 1*1' -> bad number
+'request 1 need "k" absent1' -> bad number
+# no weights
+first 'start 1*1' -> bad number
 first 'start 1*0' -> bad number
 first 'start 1*256' -> bad number
 first 'start 1*02' -> bad number
@@ -146,9 +145,9 @@ first 'start 2 1*1' -> bad number
 'join 1*2 2' -> bad number
 'split 1*2' -> bad number
 'merge 1*2' -> bad number
-'leave 1*2 1' -> bad number"#;
-
-const BAD_TEXTS: &str = r#"'weak 1 get x' -> bad text
+'leave 1*2 1' -> bad number
+# texts that are none
+'weak 1 get x' -> bad text
 'weak 1 get ;' -> bad text
 'weak 1 get ""' -> bad text
 'weak 1 get "a\n"' -> bad text
@@ -162,10 +161,9 @@ const BAD_TEXTS: &str = r#"'weak 1 get x' -> bad text
 'request 1 del absent' -> bad text
 'request 1 need "k" "\z"' -> bad text
 'request 1 move "a" b 1' -> bad text
-'request 1 ? get "' -> bad text"#;
-
-// the bytes of a stop
-const BAD_BYTES: &str = r#"'stop 1 0 ;' -> bad text
+'request 1 ? get "' -> bad text
+# the bytes of a stop
+'stop 1 0 ;' -> bad text
 'stop 1 0 ?' -> bad text
 'stop 1 0 "00"' -> bad text
 'stop 1 0 0' -> bad text
@@ -175,9 +173,9 @@ const BAD_BYTES: &str = r#"'stop 1 0 ;' -> bad text
 'stop 1 0 --' -> bad text
 'stop 1 0 -0' -> bad text
 'stop 1 0 0x00' -> bad text
-'stop 1 0 0:' -> bad text"#;
-
-const NO_COMMANDS: &str = r#"'request 1 ;' -> bad command
+'stop 1 0 0:' -> bad text
+# no commands
+'request 1 ;' -> bad command
 'request 1 "put"' -> bad command
 'request 1 get "x"' -> bad command
 'request 1 Put "x" 1' -> bad command
@@ -191,19 +189,18 @@ const NO_COMMANDS: &str = r#"'request 1 ;' -> bad command
 'weak 1 put "x" 1' -> bad command
 'weak 1 Count' -> bad command
 'dirty 1 "get"' -> bad command
-'dirty 1 ;' -> bad command"#;
-
-const NO_LISTS: &str = "'split 1 1' -> bad list
+'dirty 1 ;' -> bad command
+# lists that don't ascend
+'split 1 1' -> bad list
 'merge 1 3 2' -> bad list
 'split 2 1' -> bad list
 'merge 32 32' -> bad list
 'split 1 2 3 1' -> bad list
 first 'start 1 1' -> bad list
 first 'start 2*3 1*3' -> bad list
-first 'start 1*3 1' -> bad list";
-
-// the first part at fault decides
-const FIRST_FAULTS: &str = r#"'START 1 1' -> unknown word
+first 'start 1*3 1' -> bad list
+# the first part at fault decides
+'START 1 1' -> unknown word
 'start 1 1' -> misplaced
 'merge 2 1 x' -> bad list
 'merge 2 x 1' -> bad number
@@ -215,23 +212,8 @@ const FIRST_FAULTS: &str = r#"'START 1 1' -> unknown word
 'join 1 2* 3' -> bad number
 'transfer 1 x' -> bad number"#;
 
-const PLACES: &str = "next '# first' -> nothing
-next 'gather' -> misplaced
-next 'end' -> misplaced
-next 'ends' -> unknown word
-next 'start 2 1' -> bad list
-next 'start 1 2' -> itself
-next 'start x' -> misplaced
-next 'end 1' -> extra part
-next 'end'0d -> unknown word
-next 'end' -> itself
-next '# end' -> nothing
-next 'end' -> misplaced
-next 'start' -> misplaced
-next 'x' -> unknown word
-next ff -> not UTF-8";
-
-const EVENTS: &str = "'split' -> itself
+const LINES: &str = r#"# events
+'split' -> itself
 'split 1 2 32' -> itself
 'merge' -> itself
 'merge 7' -> itself
@@ -254,9 +236,9 @@ const EVENTS: &str = "'split' -> itself
 'join 32 31*255' -> itself
 'leave 1 1' -> itself
 'transfer 1 2 1000000' -> itself
-first 'start 1*3 2 32*255' -> itself";
-
-const REQUESTS: &str = r#"'request 1 ? count' -> itself
+first 'start 1*3 2 32*255' -> itself
+# requests
+'request 1 ? count' -> itself
 'request 1 ? keys ""' -> itself
 'request 1 ? get "a b"' -> itself
 'request 1 put "x" 1' -> itself
@@ -273,27 +255,25 @@ const REQUESTS: &str = r#"'request 1 ? count' -> itself
 'request 1 del "a"; del "a"; del "b" ? get "a"' -> itself
 'weak 1 get "x"' -> itself
 'weak 32 count' -> itself
-'dirty 2 keys "k"' -> itself"#;
-
-const BLANKS: &str = r#"' '09'end'09' ' -> end
+'dirty 2 keys "k"' -> itself
+# blanks between parts
+' '09'end'09' ' -> end
 'merge'09'1  2' -> merge 1 2
 'weak 1 get"x"' -> weak 1 get "x"
 'request 1?count' -> request 1 ? count
 'request 1 put"a""b"?count' -> request 1 put "a" "b" ? count
 'request 1 del"a";del"b"' -> request 1 del "a"; del "b"
-'request 1 inc "a" 1;inc "b" 2 ;del "c"?get "d"' -> request 1 inc "a" 1; inc "b" 2; del "c" ? get "d""#;
-
-// what stands behind 16 commands
-const MORE_COMMANDS: &str = r#"more '' -> itself
+'request 1 inc "a" 1;inc "b" 2 ;del "c"?get "d"' -> request 1 inc "a" 1; inc "b" 2; del "c" ? get "d"
+# what stands behind 16 commands
+more '' -> itself
 more ' ? count' -> itself
 more ';' -> missing part
 more '; del "a"' -> bad list
 more '; need' -> bad list
 more '; set "a"' -> bad command
-more ' del' -> extra part"#;
-
-// so many of a part stand at the star
-const LENGTHS: &str = r#"long 64 x weak 1 get "*" -> itself
+more ' del' -> extra part
+# so many of a part stand at the star
+long 64 x weak 1 get "*" -> itself
 long 65 x weak 1 get "*" -> bad text
 long 64 x weak 1 keys "*" -> itself
 long 65 x weak 1 keys "*" -> bad text
@@ -304,10 +284,21 @@ long 1025 x request 1 need "k" "*" ? count -> bad text
 long 4096 0f stop 1 0 * -> itself
 long 4097 0f stop 1 0 * -> bad text"#;
 
-const TWO_CALLS: &str = r#"begin 'start 2*3' -> start
-finish 'start 2*3' -> itself
-begin 'weak 1 get "x' -> weak
-begin '# x' -> nothing"#;
+const PLACES: &str = "next '# first' -> nothing
+next 'gather' -> misplaced
+next 'end' -> misplaced
+next 'ends' -> unknown word
+next 'start 2 1' -> bad list
+next 'start 1 2' -> itself
+next 'start x' -> misplaced
+next 'end 1' -> extra part
+next 'end'0d -> unknown word
+next 'end' -> itself
+next '# end' -> nothing
+next 'end' -> misplaced
+next 'start' -> misplaced
+next 'x' -> unknown word
+next ff -> not UTF-8";
 
 // the one place where an event is let go: each further one is shown over all variants
 fn let_go(event: Event) {
@@ -347,24 +338,6 @@ fn say_line(alloc: Global, reader: &mut Reader, line: &[u8], out: &mut Vec<u8>) 
     }
 }
 
-// the word that a line begins with; nothing else of the line is looked at
-fn say_word(reader: &Reader, line: &[u8], out: &mut Vec<u8>) {
-    match reader.begin_line(line) {
-        Ok(Some((word, _))) => say(out, word.text()),
-        Ok(None) => say(out, "nothing"),
-        Err(fault) => say(out, reason_of(fault)),
-    }
-}
-
-// the event of a line, in two calls
-fn say_finished(alloc: Global, reader: &mut Reader, line: &[u8], out: &mut Vec<u8>) {
-    if let Ok(Some((word, words))) = reader.begin_line(line) {
-        if let Ok(event) = reader.finish_line(alloc, word, words) {
-            say_event(event, line, out);
-        }
-    }
-}
-
 fn started(alloc: Global) -> Reader {
     let mut reader = Reader::new();
     if let Ok(Some(event)) = reader.read_line(alloc, b"start 1") {
@@ -400,7 +373,8 @@ fn filled(alloc: Global, more: &str) -> Vec<u8> {
     out
 }
 
-fn perform(alloc: Global, reader: &mut Reader, call: &str, out: &mut Vec<u8>) {
+/// Reads a line, as one behind a start where its first word is none of these.
+pub(crate) fn read(alloc: Global, reader: &mut Reader, call: &str, out: &mut Vec<u8>) {
     let (word, text) = parts(call, " ");
     let mut other = started(alloc);
     match word {
@@ -411,8 +385,6 @@ fn perform(alloc: Global, reader: &mut Reader, call: &str, out: &mut Vec<u8>) {
             out,
         ),
         "next" => say_line(alloc, reader, bytes_of(alloc, text).as_slice(), out),
-        "begin" => say_word(reader, bytes_of(alloc, text).as_slice(), out),
-        "finish" => say_finished(alloc, reader, bytes_of(alloc, text).as_slice(), out),
         "more" => say_line(alloc, &mut other, filled(alloc, text).as_slice(), out),
         "long" => say_line(alloc, &mut other, stretched(alloc, text).as_slice(), out),
         _ => say_line(alloc, &mut other, bytes_of(alloc, call).as_slice(), out),
@@ -422,77 +394,12 @@ fn perform(alloc: Global, reader: &mut Reader, call: &str, out: &mut Vec<u8>) {
 #[test]
 fn lines_that_are_events_and_others(rt: HostRuntime) {
     let mut reader = Reader::new();
-    for table in [
-        EXAMPLES,
-        PASSED_OVER,
-        NO_TEXTS,
-        NO_EVENTS,
-        MISSING_PARTS,
-        EXTRA_PARTS,
-        NO_NUMBERS,
-        NO_VALUES,
-        NO_WEIGHTS,
-        BAD_TEXTS,
-        BAD_BYTES,
-        NO_COMMANDS,
-        NO_LISTS,
-        FIRST_FAULTS,
-        EVENTS,
-        REQUESTS,
-        BLANKS,
-        MORE_COMMANDS,
-        LENGTHS,
-    ] {
-        follows(&rt, &mut reader, table, perform);
-    }
+    follows(&rt, &mut reader, NO_LINES);
+    follows(&rt, &mut reader, LINES);
 }
 
 #[test]
 fn lines_behind_one_another(rt: HostRuntime) {
     let mut reader = Reader::new();
-    follows(&rt, &mut reader, TWO_CALLS, perform);
-    reader = Reader::new();
-    follows(&rt, &mut reader, PLACES, perform);
-    assert!(rt; reader.state().ended);
-}
-
-// whether the lines are one event, where both are read
-fn are_one(alloc: Global, a: &[u8], b: &[u8]) -> Option<bool> {
-    let mut reader = started(alloc);
-    let mut is_same = None;
-    if let Ok(Some(one)) = reader.read_line(alloc, a) {
-        if let Ok(Some(other)) = reader.read_line(alloc, b) {
-            is_same = Some(one == other);
-            let_go(other);
-        }
-        let_go(one);
-    }
-    is_same
-}
-
-#[test]
-fn events_are_compared(rt: HostRuntime) {
-    assert_eq!(rt;
-        are_one(
-            rt.alloc(),
-            b"request 1 ? get \"x\"",
-            b"request  1  ?get \"x\""
-        ),
-        Some(true)
-    );
-    assert_eq!(rt;
-        are_one(rt.alloc(), b"weak 1 count", b"dirty 1 count"),
-        Some(false)
-    );
-    assert_eq!(rt;
-        are_one(rt.alloc(), b"stop 1 0 -", b"stop 1 0 00"),
-        Some(false)
-    );
-}
-
-#[test]
-fn faults_have_words(rt: HostRuntime) {
-    let mut out = Vec::new(rt.alloc());
-    say_shown(&mut out, &LineFault::Syntax(SyntaxReason::MissingPart));
-    is(&rt, out.as_slice(), "the line ends where a part must stand");
+    follows(&rt, &mut reader, PLACES);
 }

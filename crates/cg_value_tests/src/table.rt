@@ -3,25 +3,35 @@
 //! What comes is put into a text without a word on want of memory: that leaves a gap, which the comparison finds. So no
 //! function has an exit while it holds something, which is what would cost most to prove.
 
+use crate::action::{show_copies, show_kind};
+use crate::schedule::read;
+use crate::wire::show_said;
 use cg_base::{ActionId, IdSet, put, put_number, put_shown};
+use cg_schedule::Reader;
 use std::alloc::Global;
 use std::fmt::Display;
 use std::process::Abort;
 
-/// Makes the call of each line, and compares what it puts with what stands behind the arrow. A call may look at what
-/// those before it have left, and change it.
-pub(crate) fn follows<S, F: Fn(Global, &mut S, &str, &mut Vec<u8>)>(
-    rt: &(impl Abort + AllocGlobal),
-    state: &mut S,
-    table: &str,
-    perform: F,
-)
-    requires { F.IsAlwaysCallable perform }
-{
+// One function for all tables: what is passed by name costs three goals each time.
+fn perform(alloc: Global, reader: &mut Reader, call: &str, out: &mut Vec<u8>) {
+    let (word, text) = parts(call, " ");
+    match word {
+        "kind" => show_kind(alloc, text, out),
+        "actions" => show_copies(alloc, text, out),
+        "said" => show_said(alloc, text, out),
+        _ => read(alloc, reader, call, out),
+    }
+}
+
+/// Makes the call of each line, and compares what it puts with what stands behind the arrow. A line of a schedule may look
+/// at what those before it have left. A line that begins with `#` is a title.
+pub(crate) fn follows(rt: &(impl Abort + AllocGlobal), reader: &mut Reader, table: &str) {
     for line in table.lines() {
         let (call, expected) = parts(line, " -> ");
         let mut out = Vec::new(rt.alloc());
-        perform(rt.alloc(), state, call, &mut out);
+        if !line.starts_with('#') {
+            perform(rt.alloc(), reader, call, &mut out);
+        }
         let seen = str::from_utf8(out.as_slice()).unwrap_or("no text");
         assert_eq!(rt; seen, expected, "{line}");
     }
@@ -55,10 +65,6 @@ pub(crate) fn say(out: &mut Vec<u8>, text: &str) {
 
 pub(crate) fn say_number(out: &mut Vec<u8>, number: u64) {
     let _done = put_number(out, number);
-}
-
-pub(crate) fn say_truth(out: &mut Vec<u8>, truth: bool) {
-    say(out, if truth { "yes;" } else { "no;" });
 }
 
 pub(crate) fn say_name(out: &mut Vec<u8>, id: ActionId) {

@@ -1,15 +1,14 @@
-//! Messages. One is written as the bytes of its fields, with a blank between two of them: so the words of a line are the
-//! fields in which a fault may be.
+//! Messages. One is written as the bytes of its fields, with a blank between two of them.
 
 ghost use Rattle.cg_wire.specs.Limits.{IsMsg};
 
-use crate::bytes::{bytes_of, changed, say_fault};
-use crate::table::{follows, parts, say, say_name, say_number, say_set, say_shown};
+use crate::bytes::bytes_of;
+use crate::table::{follows, say, say_name, say_number, say_set, say_shown};
 use cg_action::Action;
 use cg_base::Cut;
-use cg_codec::CodecFault;
 use cg_knowledge::Summary;
 use cg_records::Vulnerable;
+use cg_schedule::Reader;
 use cg_wire::{Msg, decode, encode};
 use std::alloc::Global;
 
@@ -38,49 +37,12 @@ const RED: &str = "03 02 01 0000000000000001 0000000000000000 01 00000001 01 000
 // the member 5 is ready in configuration 258
 const CPC: &str = "04 05 0000000000000102";
 
-// where a message cut to each length is at fault: at the first byte of the field in which it ends
-const CUT: &str = "action, cut -> 0,1,2,10,18,19,23,24,29,30,38,
-state, cut -> 0,1,2,10,18,26,30,31,32,33,34,42,43,51,59,63,64,65,69,70,71,75,76,84,92,96,97,105,109,110,118,119,127,131,
-short state, cut -> 0,1,2,10,18,26,30,38,39,40,44,52,56,60,
-green, cut -> 0,1,2,10,11,19,27,28,32,33,38,39,47,
-red, cut -> 0,1,2,3,11,19,20,24,25,30,31,39,
-cpc, cut -> 0,1,2,";
-
-const SAID: &str = "action, said -> action 1:1 behind 0
-state, said -> member 3 in 9, 2/4 {1,3*5}, attempt 6, record 8/2 {1,3} {3}, yellow [1:11], green 7 [1:10], red [1:12][3:1], left {2}
-short state, said -> member 32 in 1, 0/0 {}, attempt 0, no record, no yellow [], green 0 , red , left {}
-green, said -> green 7, action 1:1 behind 0
-red, said -> red, action 1:1 behind 0
-cpc, said -> ready 5 in 258";
-
-const CHANGED: &str = "action, more -> rest 39
-state, more -> rest 132
-short state, more -> rest 64
-green, more -> rest 48
-red, more -> rest 40
-cpc, more -> rest 10
-cpc, 0 at 0 -> bad 0
-cpc, 5 at 0 -> bad 0
-cpc, 0 at 1 -> bad 1
-cpc, 33 at 1 -> bad 1
-cpc, 128 at 2 -> bad 2
-red, 0 at 1 -> bad 1
-red, 3 at 1 -> bad 1
-green, 128 at 2 -> bad 2
-green, 0 at 10 -> bad 10
-action, 9 at 18 -> bad 18
-state, 0 at 1 -> bad 1
-state, 128 at 2 -> bad 2
-state, 0 at 31 -> bad 31
-state, 128 at 34 -> bad 34
-state, 2 at 42 -> bad 42
-state, 1 at 64 -> bad 64
-state, 2 at 70 -> bad 70
-state, 0 at 83 -> bad 76
-state, 128 at 84 -> bad 84
-state, 1 at 118 -> bad 118
-state, 33 at 130 -> bad 127
-state, 0 at 131 -> bad 131";
+const SAID: &str = "said action -> action 1:1 behind 0
+said state -> member 3 in 9, 2/4 {1,3*5}, attempt 6, record 8/2 {1,3} {3}, yellow [1:11], green 7 [1:10], red [1:12][3:1], left {2}
+said short state -> member 32 in 1, 0/0 {}, attempt 0, no record, no yellow [], green 0 , red , left {}
+said green -> green 7, action 1:1 behind 0
+said red -> red, action 1:1 behind 0
+said cpc -> ready 5 in 258";
 
 fn fields_of(kind: &str) -> &'static str {
     match kind {
@@ -90,32 +52,6 @@ fn fields_of(kind: &str) -> &'static str {
         "green" => GREEN,
         "red" => RED,
         _ => CPC,
-    }
-}
-
-fn fault_of(alloc: Global, bytes: &[u8]) -> Option<CodecFault> {
-    decode(alloc, bytes).err()
-}
-
-fn short_at(alloc: Global, bytes: &[u8]) -> Option<u64> {
-    match fault_of(alloc, bytes) {
-        Some(CodecFault::Short { at }) => Some(at),
-        _ => None,
-    }
-}
-
-// the places of faults: a cut right before a field is at fault there, and one inside of it too
-fn say_cuts(alloc: Global, bytes: &[u8], out: &mut Vec<u8>) {
-    let mut start = 0;
-    for length in 0..bytes.len() {
-        let at = short_at(alloc, &bytes[..length]);
-        if at == Some(length as u64) {
-            start = length as u64;
-            say_number(out, start);
-            say(out, ",");
-        } else if at != Some(start) {
-            say(out, "otherwise,");
-        }
     }
 }
 
@@ -213,34 +149,20 @@ fn is_spelled(alloc: Global, message: &Msg, bytes: &[u8]) -> bool
     }
 }
 
-// what a message says, and whether it is written again so
-fn say_said(alloc: Global, bytes: &[u8], out: &mut Vec<u8>) {
-    if let Ok(message) = decode(alloc, bytes) {
+/// What a message says, and whether it is written again so.
+pub(crate) fn show_said(alloc: Global, kind: &str, out: &mut Vec<u8>) {
+    let bytes = bytes_of(alloc, fields_of(kind));
+    if let Ok(message) = decode(alloc, bytes.as_slice()) {
         say_message(out, &message);
-        if !is_spelled(alloc, &message, bytes) {
+        if !is_spelled(alloc, &message, bytes.as_slice()) {
             say(out, ", and other bytes");
         }
         drop(message);
     }
 }
 
-fn perform(alloc: Global, _: &mut (), call: &str, out: &mut Vec<u8>) {
-    let (kind, what) = parts(call, ", ");
-    let fields = fields_of(kind);
-    match what {
-        "said" => say_said(alloc, bytes_of(alloc, fields).as_slice(), out),
-        "cut" => say_cuts(alloc, bytes_of(alloc, fields).as_slice(), out),
-        change => {
-            if let Some(fault) = fault_of(alloc, changed(alloc, fields, change).as_slice()) {
-                say_fault(out, fault);
-            }
-        }
-    }
-}
-
 #[test]
 fn each_kind_in_bytes(rt: HostRuntime) {
-    for table in [SAID, CUT, CHANGED] {
-        follows(&rt, &mut (), table, perform);
-    }
+    let mut reader = Reader::new();
+    follows(&rt, &mut reader, SAID);
 }
