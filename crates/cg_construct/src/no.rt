@@ -91,10 +91,7 @@ impl No {
     {
         match message {
             Msg::Cpc { id, conf } => self.hear_cpc(from, id, conf),
-            Msg::Action(_) => ConstructStep::No(self),
-            Msg::State(_) => ConstructStep::No(self),
-            Msg::GreenItem { .. } => ConstructStep::No(self),
-            Msg::RedItem(_) => ConstructStep::No(self),
+            _ => ConstructStep::No(self),
         }
     }
 

@@ -92,10 +92,7 @@ impl Un {
                 let installed = Installed::make(core, draft, set)?;
                 Ok(ConstructStep::InstalledBy { installed, action })
             }
-            Msg::State(_) => Ok(ConstructStep::Un(self)),
-            Msg::GreenItem { .. } => Ok(ConstructStep::Un(self)),
-            Msg::RedItem(_) => Ok(ConstructStep::Un(self)),
-            Msg::Cpc { .. } => Ok(ConstructStep::Un(self)),
+            _ => Ok(ConstructStep::Un(self)),
         }
     }
 

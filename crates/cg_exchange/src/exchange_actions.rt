@@ -163,9 +163,7 @@ impl ExchangeActions {
         match message {
             Msg::GreenItem { at, action } => self.hear_green(draft, from, at, action),
             Msg::RedItem(action) => self.hear_red(draft, from, action),
-            Msg::Action(_) => Ok(ExchangeStep::Actions(self)),
-            Msg::State(_) => Ok(ExchangeStep::Actions(self)),
-            Msg::Cpc { .. } => Ok(ExchangeStep::Actions(self)),
+            _ => Ok(ExchangeStep::Actions(self)),
         }
     }
 

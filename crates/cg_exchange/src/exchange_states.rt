@@ -128,10 +128,7 @@ impl ExchangeStates {
     {
         match message {
             Msg::State(summary) => self.hear_summary(draft, from, summary),
-            Msg::Action(_) => Ok(ExchangeStep::States(self)),
-            Msg::GreenItem { .. } => Ok(ExchangeStep::States(self)),
-            Msg::RedItem(_) => Ok(ExchangeStep::States(self)),
-            Msg::Cpc { .. } => Ok(ExchangeStep::States(self)),
+            _ => Ok(ExchangeStep::States(self)),
         }
     }
 

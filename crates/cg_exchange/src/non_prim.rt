@@ -96,10 +96,7 @@ impl NonPrim {
                 core.mark_red(draft, a)?;
                 Ok(NonPrim { core, regular })
             }
-            Msg::State(_) => Ok(NonPrim { core, regular }),
-            Msg::GreenItem { .. } => Ok(NonPrim { core, regular }),
-            Msg::RedItem(_) => Ok(NonPrim { core, regular }),
-            Msg::Cpc { .. } => Ok(NonPrim { core, regular }),
+            _ => Ok(NonPrim { core, regular }),
         }
     }
 

@@ -81,10 +81,7 @@ impl RegPrim {
                 core.mark_green(draft, a)?;
                 Ok(RegPrim { core })
             }
-            Msg::State(_) => Ok(RegPrim { core }),
-            Msg::GreenItem { .. } => Ok(RegPrim { core }),
-            Msg::RedItem(_) => Ok(RegPrim { core }),
-            Msg::Cpc { .. } => Ok(RegPrim { core }),
+            _ => Ok(RegPrim { core }),
         }
     }
 

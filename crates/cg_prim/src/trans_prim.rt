@@ -98,10 +98,7 @@ impl TransPrim {
                 core.mark_yellow(draft, a)?;
                 Ok(TransPrim { core })
             }
-            Msg::State(_) => Ok(TransPrim { core }),
-            Msg::GreenItem { .. } => Ok(TransPrim { core }),
-            Msg::RedItem(_) => Ok(TransPrim { core }),
-            Msg::Cpc { .. } => Ok(TransPrim { core }),
+            _ => Ok(TransPrim { core }),
         }
     }
 
