@@ -373,3 +373,5 @@ pub mod PartingPlaced
 pub mod ActionsMade
 pub mod TouchedSeats
 pub mod OthersOld
+pub mod DownGreens
+pub mod DownAgrees

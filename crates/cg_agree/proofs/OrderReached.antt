@@ -28,7 +28,7 @@ use Rattle.cg_agree.proofs.CreatorNumbered.{names-count, order-runs}
 use Rattle.cg_agree.proofs.MadeTold.{IsMadeTold, made-told, each-contains}
 use Rattle.cg_commit.specs.RunMarkLaws.{run-head, run-rest}
 
-names-drop : (n : ℕ) (list : List Action) → names_of (drop n list) ≡ drop n (names_of list)
+pub names-drop : (n : ℕ) (list : List Action) → names_of (drop n list) ≡ drop n (names_of list)
 names-drop zero list = refl
 names-drop (suc n) [] = refl
 names-drop (suc n) (a ∷ list) = names-drop n list
@@ -70,7 +70,7 @@ module _ (c : Chronicle) (w : World) (stands : StandsBeside c w) where
 -- ---- made before
 
 -- each name of a run has an index
-run-some : (cut ids : List ActionId) → run_on cut ids ≡ true → Each (λ id. 1 ≤ id.index) ids
+pub run-some : (cut ids : List ActionId) → run_on cut ids ≡ true → Each (λ id. 1 ≤ id.index) ids
 run-some cut [] run = tt
 run-some cut (id ∷ ids) run = ((let next : id.index ≡ suc (index_in cut id.creator) = run-head cut id ids run in omega arith), run-some (raise cut id) ids (run-rest cut id ids run))
 
@@ -81,7 +81,7 @@ names-contain (x ∷ ids) id e = elim (or_cases (same_id id x) (names ids id) e)
   | inr later ↦ Contains-append_right (x ∷ []) ids id (names-contain ids id later)
 ]
 
-named-each : (steps : List Step) (c : Chronicle) (w : World) → IsMadeTold steps c w → (ids : List ActionId) → Each (λ id. 1 ≤ id.index) ids → Each (λ id. nat_le id.index (index_in w.made id.creator) ≡ true) ids →
+pub named-each : (steps : List Step) (c : Chronicle) (w : World) → IsMadeTold steps c w → (ids : List ActionId) → Each (λ id. 1 ≤ id.index) ids → Each (λ id. nat_le id.index (index_in w.made id.creator) ≡ true) ids →
     Each (λ id. names (made_names steps) id ≡ true) ids
 named-each steps c w told [] some made = tt
 named-each steps c w told (id ∷ ids) some made = (made-told steps c w told id some.0 ∙ made.0, named-each steps c w told ids some.1 made.1)

@@ -82,7 +82,7 @@ module _ (steps : List Step) (c : Chronicle) (w : World) (stands : StandsBeside 
       let same : Some is.action ≡ Some a = sym itself ∙ ap (named_in c.book) is.name ∙ booked in
       record { found = is.found ∙ same; there = subst (Contains (made_of steps)) (ap (λ o. option_map_or (λ x. x) o a) same) is.there }
 
-  each-as : (list : List Action) (ids : List ActionId) → Front (names_of list) ids → Each (λ id. names (made_names steps) id ≡ true) ids → Each (IsNamed c.book) list → Each IsShownAs list
+  pub each-as : (list : List Action) (ids : List ActionId) → Front (names_of list) ids → Each (λ id. names (made_names steps) id ≡ true) ids → Each (IsNamed c.book) list → Each IsShownAs list
   each-as [] ids front shown booked = tt
   each-as (a ∷ list) [] front shown booked = absurd front
   each-as (a ∷ list) (id ∷ ids) front shown booked =

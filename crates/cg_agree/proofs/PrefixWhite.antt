@@ -21,6 +21,7 @@ use Rattle.cg_model.specs.Noting.{chronicle_after}
 use Rattle.cg_model.specs.Played.{StandsBeside, AlwaysHolds}
 use Rattle.cg_agree.proofs.FrontFacts.{Front-of_both, take-Front}
 use Rattle.cg_agree.proofs.CreatorNumbered.{stands-of, names-count}
+use Rattle.cg_agree.proofs.DownAgrees.{down-prefix}
 use Rattle.cg_agree.proofs.LinesGreens.{join-within, join-front}
 use Rattle.cg_agree.proofs.LinesTold.{JoinsBelow, greens-below, first-lines}
 use Rattle.cg_agree.proofs.MadeTold.{each-contains}
@@ -101,5 +102,6 @@ prefix always steps run = record {
   moves_only = moves-only always steps run;
   shown = shown always steps run;
   held = held always steps run;
+  down = down-prefix always steps run;
   white = white always steps run;
 }

@@ -45,7 +45,7 @@ module _ (c : Chronicle) (w : World) (stands : StandsBeside c w) (fits : MadeFit
         mapped (Some s) = refl
 
   -- of whom is down, others have no more than was shown
-  abbrev OthersLow : Action → Type 0
+  abbrev pub OthersLow : Action → Type 0
   OthersLow a = SeatIsDown (seat_of w a.id.creator) → a.id.index ≤ index_in w.made a.id.creator
 
   one-low : (a : Action) → IsNamed c.book a → OthersLow a → a.id.index ≤ index_in w.made a.id.creator
@@ -67,7 +67,7 @@ module _ (c : Chronicle) (w : World) (stands : StandsBeside c w) (fits : MadeFit
     at None e = let low = index in let none : index_in (cut_of c.book) a.id.creator ≡ 0 = stands.facts.replica.origins.unbegun a.id.creator (not-begun a.id.creator e) in omega arith
     at (Some s) e = life s s.life e refl
 
-  each-low : (list : List Action) → Each (IsNamed c.book) list → Each OthersLow list → Each (λ (a : Action). a.id.index ≤ index_in w.made a.id.creator) list
+  pub each-low : (list : List Action) → Each (IsNamed c.book) list → Each OthersLow list → Each (λ (a : Action). a.id.index ≤ index_in w.made a.id.creator) list
   each-low [] booked others = tt
   each-low (a ∷ list) booked others = (one-low a booked.0 others.0, each-low list booked.1 others.1)
 
@@ -111,8 +111,12 @@ shown-on earlier c w s step old = record {
   order = subst (λ (m : Moved). OrderFits (chronicle_step c w s.event) m.world) (sym step.moved) (orders-kept c w s.event step.before old.fits old.order step.may step.admitted step.behind.facts);
 }
 
+pub has-shown : AlwaysHolds → (steps : List Step) → IsRunFrom no_world 0 steps → HasShown steps (chronicle_after no_chronicle no_world steps) (world_after no_world steps)
+has-shown always steps run =
+    let first : HasShown [] no_chronicle no_world = record { fits = nothing-made; order = record { book = nothing-stands.rests.order_book; down = λ p. tt; others = λ p down. absurd down } } in
+    of-run always HasShown shown-on first steps run
+
 pub reds-shown : AlwaysHolds → (steps : List Step) → IsRunFrom no_world 0 steps → AreRedsShown (world_after no_world steps)
 reds-shown always steps run p r up =
-    let first : HasShown [] no_chronicle no_world = record { fits = nothing-made; order = record { book = nothing-stands.rests.order_book; down = λ p. tt; others = λ p down. absurd down } } in
-    let shown = of-run always HasShown shown-on first steps run in
+    let shown = has-shown always steps run in
     reds-low (chronicle_after no_chronicle no_world steps) (world_after no_world steps) (stands-of always steps run) shown.fits shown.order p r up

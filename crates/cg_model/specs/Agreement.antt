@@ -19,10 +19,12 @@ use Rattle.cg_report.specs.declared.entry.Shown.TheVariants.{Weak as ShownWeak, 
 use Rattle.cg_report.specs.declared.line.Line.{Line}
 use Rattle.cg_report.specs.declared.line.StateName.TheVariants.{RegPrim, TransPrim}
 use Rattle.cg_report.specs.declared.line.UpLine.{UpLine}
-use Rattle.cg_model.specs.World.{no_world, has_begun, replica_of}
+use Rattle.cg_commit.specs.Crash.{Disk}
+use Rattle.cg_model.specs.World.{Down, no_world, has_begun, life_of, replica_of}
 use Rattle.cg_client.specs.Replica.{Replica}
 use Rattle.cg_queue.specs.Queue.{QueueView, green_count, names_of}
 use Rattle.cg_model.specs.Admission.{first_refusal}
+use Rattle.cg_model.specs.Show.{beyond}
 use Rattle.cg_model.specs.Run.{Step, Refusal, world_after}
 use Rattle.cg_model.specs.Shown.{order_lines, order_of, made_names, last_up, all_up_lines, position_of, white_of, made_action, made_actions, ordered_actions, start_of}
 use Rattle.cg_model.specs.Quiet.{is_quiet, IsSettled}
@@ -59,8 +61,14 @@ is_server_at steps p q = is_server (members_of (start_of steps) (ordered_actions
 abbrev pub Reaches : QueueView → List ActionId → Type 0
 Reaches q order = (green_count q ≤ length order) × (names_of q.greens ≡ drop q.white (take (green_count q) order))
 
+-- an order, and behind it the names that the recovery of a replica that is down will show: it has its disk, and the names that
+-- the event made green in which it went down
+abbrev pub order_recovered : List ActionId → Disk → List ActionId → List ActionId
+order_recovered order disk green = order ++ beyond order green (green_count disk.content.queue)
+
 -- Each replica's greens, shown or not, are a prefix of the order that never shrinks, and no server's white count is above
--- the prefix of another server that has begun.
+-- the prefix of another server that has begun. Those on the disk of a replica that is down are a front of the order, or all
+-- of it and behind that the names that its recovery will show; and they are no fewer than its last line showed.
 pub record Prefix (steps : List Step) : Type 0 where
   pub never_falls : (earlier : List Step) (s : Step) (p : ℕ) → ComesAfter steps earlier s → position_of p earlier ≤ position_of p (through earlier s)
   pub moves_only : (earlier : List Step) (s : Step) (p : ℕ) → ComesAfter steps earlier s →
@@ -69,6 +77,10 @@ pub record Prefix (steps : List Step) : Type 0 where
       (let now = through earlier s in list ≡ drop (white_of p now) (take (position_of p now) (order_of now)))
   pub held : (earlier : List Step) (s : Step) (p : ℕ) (r : Replica) → ComesAfter steps earlier s → replica_of s.world p ≡ Some r →
       Reaches r.held.queue (order_of (through earlier s)) × (position_of p (through earlier s) ≡ green_count r.held.queue)
+  pub down : (earlier : List Step) (s : Step) (p : ℕ) (disk : Disk) (green : List ActionId) → ComesAfter steps earlier s →
+      life_of s.world p ≡ Some (Down disk green) →
+      Reaches disk.content.queue (order_recovered (order_of (through earlier s)) disk green)
+      × (position_of p (through earlier s) ≤ green_count disk.content.queue)
   pub white : (earlier : List Step) (s : Step) (p q : ℕ) → ComesAfter steps earlier s → IsTrue (is_server_at (through earlier s) p q) →
       IsTrue (has_begun s.world q) → white_of p (through earlier s) ≤ position_of q (through earlier s)
 
@@ -103,13 +115,18 @@ IsDue earlier s id place =
     ((position_of id.creator earlier < place) × (place ≤ position_of id.creator (through earlier s))) × IsTrue (lives_since id (through earlier s))
 
 -- Every answer is that of a prefix of the order: a database, shown or not, is the fold of its replica's prefix, and a weak answer is read
--- from it; a reply is read from the fold up to its own request, and is given once, in the step in which its creator passes
--- the request's place without having crashed since the request, and in no other.
+-- from it; so is the database on the disk of a replica that is down, of what the disk has of the order and of the names behind it; a reply
+-- is read from the fold up to its own request, and is given once, in the step in which its creator passes the request's place without
+-- having crashed since the request, and in no other.
 pub record FoldAnswers (steps : List Step) : Type 0 where
   pub database : (earlier : List Step) (s : Step) (p : ℕ) (entries : List DbEntry) → ComesAfter steps earlier s → Contains s.entry.shown (Database p entries) →
       (let now = through earlier s in entries ≡ fold_actions (ordered_actions now (position_of p now)))
   pub held : (earlier : List Step) (s : Step) (p : ℕ) (r : Replica) → ComesAfter steps earlier s → replica_of s.world p ≡ Some r →
       r.held.db ≡ fold_actions (ordered_actions (through earlier s) (green_count r.held.queue))
+  pub down : (earlier : List Step) (s : Step) (p : ℕ) (disk : Disk) (green : List ActionId) → ComesAfter steps earlier s →
+      life_of s.world p ≡ Some (Down disk green) →
+      (let now = through earlier s in
+      disk.content.db ≡ fold_actions (made_actions now (take (green_count disk.content.queue) (order_recovered (order_of now) disk green))))
   pub weak : (earlier : List Step) (s : Step) (p : ℕ) (q : Query) → ComesAfter steps earlier s → s.event ≡ Weak p q →
       (let now = through earlier s in s.entry.shown ≡ ShownWeak p (answer (fold_actions (ordered_actions now (position_of p now))) q) ∷ [])
   pub reply : (earlier : List Step) (s : Step) (r : Reply) → ComesAfter steps earlier s → Contains s.entry.replies r →

@@ -38,7 +38,7 @@ use Rattle.cg_base.specs.Sets.{has}
 use Rattle.cg_knowledge.specs.Members.{remaining}
 use Rattle.cg_queue.specs.Queue.{green_count}
 use Rattle.cg_client.specs.Replica.{Held, Replica, NonPrim, fresh_held}
-use Rattle.cg_commit.specs.Crash.{new_disk}
+use Rattle.cg_commit.specs.Crash.{Disk, new_disk}
 use Rattle.cg_model.specs.World.{Life, Up, Down, Seat, World, no_world, replica_of}
 use Rattle.cg_model.specs.Run.{Step}
 use Rattle.cg_model.specs.Shown.{made_actions}
@@ -103,6 +103,16 @@ servers = record { id = 1; weight = 1 } ∷ record { id = 2; weight = 1 } ∷ []
 -- a step that shows these orders and so many greens of a replica, behind which it holds so much
 abbrev holding_at : List Placed → ℕ → Held → Step
 holding_at orders greens h = record (holding h) { entry = record no_entry { orders = orders; lines = line_of_primary 1 greens ∷ [] } }
+
+-- a disk that has so much
+abbrev disk_with : Held → Disk
+disk_with h = record { content = h; unwritten = []; size = 0; generation = 1; armed = None }
+
+-- a step that shows these orders and so many greens of a replica, behind which it is down, with so much on its disk, and these names are to
+-- be shown at its recovery
+abbrev fallen_at : List Placed → ℕ → Held → List ActionId → Step
+fallen_at orders greens h green =
+    record (holding_at orders greens h) { world = record no_world { seats = record { id = 1; life = Down (disk_with h) green } ∷ [] } }
 
 -- the creator of the first name
 abbrev first_creator : List ActionId → ℕ
@@ -232,6 +242,45 @@ holds_more_than_its_line g =
     let reaches = g.held [] holds_more 1 (holder held_alone) ([], refl) refl in
     let same : 0 ≡ 1 = reaches.1 in
     omega (arith, same)
+
+-- the disk of a replica that is down has a green that no order has and no recovery will show
+abbrev falls_with_one : Step
+falls_with_one = fallen_at [] 0 held_alone []
+
+keeps_what_no_recovery_shows : Prefix (falls_with_one ∷ []) → ⊥
+keeps_what_no_recovery_shows g =
+    let kept = g.down [] falls_with_one 1 (disk_with held_alone) [] ([], refl) refl in
+    omega (arith, kept.0.0)
+
+-- its recovery will show another action than the disk has
+abbrev falls_with_other : Step
+falls_with_other = fallen_at [] 0 held_other (name 1 1 ∷ [])
+
+keeps_another_than_it_will_show : Prefix (falls_with_other ∷ []) → ⊥
+keeps_another_than_it_will_show g =
+    let kept = g.down [] falls_with_other 1 (disk_with held_other) (name 1 1 ∷ []) ([], refl) refl in
+    let same : name 2 1 ∷ [] ≡ name 1 1 ∷ [] = kept.0.1 in
+    omega (arith, ap first_creator same)
+
+-- the disk has two greens the other way round than they stand in the order
+abbrev falls_turned : Step
+falls_turned = fallen_at two_ordered 2 held_turned []
+
+keeps_greens_in_another_order : Prefix (falls_turned ∷ []) → ⊥
+keeps_greens_in_another_order g =
+    let kept = g.down [] falls_turned 1 (disk_with held_turned) [] ([], refl) refl in
+    let same : name 2 1 ∷ name 1 1 ∷ [] ≡ name 1 1 ∷ name 2 1 ∷ [] = kept.0.1 in
+    omega (arith, ap first_creator same)
+
+-- the disk has fewer greens than the last line showed
+abbrev falls_behind : Step
+falls_behind = fallen_at (at 1 (name 1 1) ∷ []) 1 (fresh_held 1 servers) []
+
+keeps_less_than_its_line : Prefix (falls_behind ∷ []) → ⊥
+keeps_less_than_its_line g =
+    let kept = g.down [] falls_behind 1 (disk_with (fresh_held 1 servers)) [] ([], refl) refl in
+    let low : 1 ≤ 0 = kept.1 in
+    omega (arith, low)
 
 -- it has discarded what another server doesn't have
 abbrev discards : UpLine
@@ -430,6 +479,28 @@ held_two = record (fresh_held 1 servers) { db = x_is 2 }
 
 holds_a_database_of_its_own : FoldAnswers (holding held_two ∷ []) → ⊥
 holds_a_database_of_its_own g = let same : x_is 2 ≡ [] = g.held [] (holding held_two) 1 (holder held_two) ([], refl) refl in omega (arith, ap length same)
+
+-- so has the disk of a replica that is down
+abbrev falls_with_two : Step
+falls_with_two = fallen_at [] 0 held_two []
+
+keeps_a_database_of_its_own : FoldAnswers (falls_with_two ∷ []) → ⊥
+keeps_a_database_of_its_own g =
+    let same : x_is 2 ≡ [] = g.down [] falls_with_two 1 (disk_with held_two) [] ([], refl) refl in
+    omega (arith, ap length same)
+
+-- the disk has a green that its recovery will show, and its database is without it
+abbrev falls_without : Step
+falls_without =
+    record (fallen_at [] 0 held_alone (name 1 1 ∷ [])) {
+      entry = record no_entry { made = record { id = name 1 1; kind = puts_one } ∷ []; lines = line_of_primary 1 0 ∷ [] };
+    }
+
+keeps_a_database_without_its_last_green : FoldAnswers (falls_without ∷ []) → ⊥
+unfolding cases_compute
+keeps_a_database_without_its_last_green g =
+    let same : [] ≡ x_is 1 = g.down [] falls_without 1 (disk_with held_alone) (name 1 1 ∷ []) ([], refl) refl in
+    omega (arith, ap length same)
 
 -- what was counted, where that was shown
 abbrev counted : List Shown → ℕ
