@@ -375,3 +375,4 @@ pub mod TouchedSeats
 pub mod OthersOld
 pub mod DownGreens
 pub mod DownAgrees
+pub mod EventsUndo

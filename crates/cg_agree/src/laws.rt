@@ -1,6 +1,6 @@
 ghost use Rattle.cg_model.specs.EveryRun.{EveryRunAgrees};
 ghost use Rattle.cg_model.specs.Making.{AlwaysMadeInBook};
-ghost use Rattle.cg_model.specs.Standing.{AlwaysStands, AlwaysBooked};
+ghost use Rattle.cg_model.specs.Standing.{AlwaysStands, AlwaysBooked, EventsUndoNothing};
 ghost use Rattle.cg_model.specs.Telling.{EveryRunTells};
 ghost use Rattle.cg_model.specs.Total.{NeverMet};
 ghost use Rattle.cg_model.specs.Touched.{OthersShowNothingNew};
@@ -14,6 +14,12 @@ pub fn runs_agree()
 /// All facts stand beside each world to which admitted events lead, from before the start on.
 pub fn facts_stand_beside_each_world()
     ensures { AlwaysStands }
+{}
+
+/// No event undoes anything: what one who is out of a configuration has received there stays as it is, who is out
+/// stays out, and an attempt that is over stays over.
+pub fn events_undo_nothing()
+    ensures { EventsUndoNothing }
 {}
 
 /// Wherever the facts hold, what each replica holds and what an event brings to it stand in one book of actions:

@@ -71,7 +71,7 @@ pub record NetFacts (c : Chronicle) : Type 0 where
   pub members_begun : MembersBegun c
   pub past_left : PastLeft c
 
--- Of a small step: where a member isn't regular in a configuration with messages, what it has received there is fixed, and
+-- Of a small step, and of an event: where a member isn't regular in a configuration with messages, what it has received there is fixed, and
 -- it isn't regular there afterwards.
 pub record ReceiptsFixed (c d : Chronicle) : Type 0 where
   pub receipts : (conf p place : ℕ) → 0 < length (ordered_in c conf) → is_regular_in c conf p ≡ false →

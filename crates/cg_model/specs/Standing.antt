@@ -1,6 +1,6 @@
--- What the crates above cite: that the facts stand beside every world to which admitted events lead, and that what replicas hold and what
--- comes to them stands in one book of actions.
-use Rattle.std.specs.Prelude.{◌≡◌, ℕ, List, [], ◌∷◌, None, IfSome}
+-- What the crates above cite: that the facts stand beside every world to which admitted events lead, that an event undoes nothing, and that
+-- what replicas hold and what comes to them stands in one book of actions.
+use Rattle.std.specs.Prelude.{◌≡◌, ℕ, true, List, [], ◌∷◌, None, IfSome}
 use Rattle.cg_base.specs.declared.action_id.ActionId.{ActionId}
 use Rattle.cg_base.specs.Sets.{IsSet}
 use Rattle.cg_action.specs.declared.action.Action.{Action}
@@ -18,6 +18,10 @@ use Rattle.cg_model.specs.Step.{quietly, hand_over, world_step}
 use Rattle.cg_model.specs.Run.{MayStand}
 use Rattle.cg_model.specs.Chronicle.{Chronicle, no_chronicle}
 use Rattle.cg_model.specs.Noting.{chronicle_step}
+use Rattle.cg_model.specs.Fronts.{IsSomeWith}
+use Rattle.cg_model.specs.Looks.{attempt_of}
+use Rattle.cg_model.specs.Levels.{is_dead}
+use Rattle.cg_model.specs.FactsNet.{ReceiptsFixed}
 use Rattle.cg_model.specs.Played.{StandsBeside}
 
 -- ---- worlds that events lead to
@@ -37,6 +41,19 @@ pub record AlwaysStands : Type 0 where
   pub first : IsReached no_chronicle no_world
   pub step : (c : Chronicle) (w : World) (e : Event) → IsReached c w → MayStand w e → first_refusal w e ≡ None → IsReached (chronicle_step c w e) (world_step w e).world
   pub beside : (c : Chronicle) (w : World) → IsReached c w → StandsBeside c w
+
+-- ---- what never comes back
+
+-- from before an event to behind it: who is out of a configuration with messages stays out, and what it has received there stays as it is;
+-- and an attempt that is over is there still, and is over
+pub record UndoesNothing (c d : Chronicle) : Type 0 where
+  pub receipts_fixed : ReceiptsFixed c d
+  pub over : (conf : ℕ) → IfSome (attempt_of c conf) (λ a. is_dead c a ≡ true → IsSomeWith (attempt_of d conf) (λ b. is_dead d b ≡ true))
+
+-- no event that may stand and is admitted undoes any of it, in no world to which events lead
+abbrev pub EventsUndoNothing : Type 0
+EventsUndoNothing =
+    (c : Chronicle) (w : World) (e : Event) → IsReached c w → MayStand w e → first_refusal w e ≡ None → UndoesNothing c (chronicle_step c w e)
 
 -- ---- one book
 
