@@ -2,6 +2,7 @@
 -- have nothing that wasn't shown are carried from event to event.
 use Rattle.std.proofs.Common.{◌≡◌, List, [], ◌∷◌, None}
 use Rattle.cg_schedule.specs.declared.event.Event.{Event}
+use Rattle.cg_model.specs.FactsBooks.{MadeFits, OrderFits}
 use Rattle.cg_model.specs.World.{World, no_world}
 use Rattle.cg_model.specs.Admission.{first_refusal}
 use Rattle.cg_model.specs.Run.{MayStand}
@@ -14,10 +15,8 @@ use Rattle.cg_agree.proofs.MadeOfSmalls.{made-of-smalls}
 use Rattle.cg_agree.proofs.MovesKept.{kept-by-smalls}
 use Rattle.cg_agree.proofs.NothingStands.{nothing-stands}
 use Rattle.cg_agree.proofs.RestsKept.{rests-kept}
-use Rattle.cg_agree.proofs.MadeWorlds.{MadeFits}
 use Rattle.cg_agree.proofs.MadeBookKept.{made_book-of, nothing-made, event-made}
 use Rattle.cg_agree.proofs.TurnGreens.{facts-along}
-use Rattle.cg_agree.proofs.OrderFits.{OrderFits}
 use Rattle.cg_agree.proofs.OrdersKept.{orders-kept}
 
 -- the facts of a world and of the chronicle beside it, and what they need besides to stand behind the next event

@@ -13,6 +13,7 @@ use Rattle.cg_client.specs.Turn.{begin}
 use Rattle.cg_client.specs.Whitening.{white_at}
 use Rattle.cg_stored.specs.Stored.{whiten, recover}
 use Rattle.cg_step.specs.Recorded.{OfMessage}
+use Rattle.cg_model.specs.FactsBooks.{HoldsFine}
 use Rattle.cg_model.specs.World.{Seat, Snapshot, seat_of, replica_of, has_begun}
 use Rattle.cg_model.specs.Step.{joined}
 use Rattle.cg_model.specs.Chronicle.{Past, Chronicle}
@@ -23,7 +24,7 @@ use Rattle.cg_model.specs.FactsNet.{Seated}
 use Rattle.cg_model.specs.FactsReplica.{IsCore, DiskBehind, AreBooked, MadeOnce}
 use Rattle.cg_model.specs.Facts.{Invariant}
 use Rattle.cg_agree.proofs.CoresKept.{IsClosed}
-use Rattle.cg_agree.proofs.BookedRows.{HoldsFine, each-drop, own-fine}
+use Rattle.cg_agree.proofs.BookedRows.{each-drop, own-fine}
 use Rattle.cg_agree.proofs.BookGrows.{IsNamed, cut_of}
 
 -- all that is held, and these greens, are the actions of their names

@@ -24,19 +24,14 @@ use Rattle.cg_client.specs.Requests.{create, create_kept, empty_buffer, next_act
 use Rattle.cg_client.specs.Summary.{redden, forget_own, own_to_red}
 use Rattle.cg_exchange.specs.ExchangeActions.{message_of, messages_of}
 use Rattle.cg_step.specs.Recorded.{OfMessage}
+use Rattle.cg_model.specs.FactsBooks.{HoldsFine}
 use Rattle.cg_model.specs.Talk.{action_in}
 use Rattle.cg_agree.proofs.TurnRows.{IsRule}
 
 module _ (Fine : Action → Type 0) where
-  -- all that is held is fine
-  pub record HoldsFine (h : Held) : Type 0 where
-    pub greens : Each Fine h.queue.greens
-    pub reds : Each Fine h.queue.reds
-    pub own : Each Fine h.own
-
-  -- and all that is said
+  -- all that is held is fine, and all that is said
   pub record AllFine (t : Turn) : Type 0 where
-    pub held : HoldsFine t.replica.held
+    pub held : HoldsFine Fine t.replica.held
     pub sent : Each (OfMessage Fine) t.sent
 
   -- ---- lists
@@ -85,20 +80,20 @@ module _ (Fine : Action → Type 0) where
 
   -- ---- own actions become red
 
-  known-fine : (h : Held) (a : Action) → Fine a → HoldsFine h → HoldsFine (record h { queue = placed_red h.queue a; own = after_first h.own a.id })
+  known-fine : (h : Held) (a : Action) → Fine a → HoldsFine Fine h → HoldsFine Fine (record h { queue = placed_red h.queue a; own = after_first h.own a.id })
   known-fine h a fine is = record { greens = is.greens; reds = each-with_red h.queue.reds a fine is.reds; own = each-after h.own a.id is.own }
 
-  redden-fine : (t : Turn) (a : Action) → Fine a → HoldsFine t.replica.held → HoldsFine (redden t a).replica.held
+  redden-fine : (t : Turn) (a : Action) → Fine a → HoldsFine Fine t.replica.held → HoldsFine Fine (redden t a).replica.held
   redden-fine t a fine is =
       let q = t.replica.held.queue in
       let cut = index_in q.red_cut a.id.creator in
-      cond_both (nat_le a.id.index cut) (Marks Known q) (if a.id.index == suc cut then Marks Placed (placed_red q a) else Gaps cut) (λ m. HoldsFine (marked t a m).replica.held)
+      cond_both (nat_le a.id.index cut) (Marks Known q) (if a.id.index == suc cut then Marks Placed (placed_red q a) else Gaps cut) (λ m. HoldsFine Fine (marked t a m).replica.held)
       (λ y. record { greens = is.greens; reds = is.reds; own = is.own })
-      (λ n. cond_both (a.id.index == suc cut) (Marks Placed (placed_red q a)) (Gaps cut) (λ m. HoldsFine (marked t a m).replica.held)
+      (λ n. cond_both (a.id.index == suc cut) (Marks Placed (placed_red q a)) (Gaps cut) (λ m. HoldsFine Fine (marked t a m).replica.held)
       (λ y. known-fine t.replica.held a fine is)
       (λ n. is))
 
-  reddens-fine : (list : List Action) (t : Turn) → Each Fine list → HoldsFine t.replica.held → HoldsFine (fold redden t list).replica.held
+  reddens-fine : (list : List Action) (t : Turn) → Each Fine list → HoldsFine Fine t.replica.held → HoldsFine Fine (fold redden t list).replica.held
   reddens-fine [] t each is = is
   reddens-fine (a ∷ list) t each is = reddens-fine list (redden t a) each.1 (redden-fine t a each.0 is)
 
@@ -112,7 +107,7 @@ module _ (Fine : Action → Type 0) where
         cond_both (nat_le a.id.index cut) (Marks Known q) (if a.id.index == suc cut then Marks Placed (placed_red q a) else Gaps cut) (λ m. (marked t a m).sent ≡ t.sent)
         (λ y. refl) (λ n. cond_both (a.id.index == suc cut) (Marks Placed (placed_red q a)) (Gaps cut) (λ m. (marked t a m).sent ≡ t.sent) (λ y. refl) (λ n. refl))
 
-  pub own-fine : (t : Turn) → HoldsFine t.replica.held → HoldsFine (own_to_red t).replica.held
+  pub own-fine : (t : Turn) → HoldsFine Fine t.replica.held → HoldsFine Fine (own_to_red t).replica.held
   unfolding own_to_red
   own-fine t is = reddens-fine t.replica.held.own (forget_own t) is.own (record { greens = is.greens; reds = is.reds; own = tt })
 

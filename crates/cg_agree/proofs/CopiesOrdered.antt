@@ -9,10 +9,10 @@ use Rattle.cg_agree.proofs.CopiesBooked.{greens-on_line}
 use Rattle.cg_agree.proofs.CreatorNumbered.{order-on_top}
 use Rattle.cg_agree.proofs.FrontFacts.{Front-length, Front-map, Front-of_both}
 use Rattle.cg_agree.proofs.OrderCopies.{OfSnapshots, copy-of, each-found, found-each}
-use Rattle.cg_agree.proofs.OthersShown.{AreShown, IsActionShown, IsNameShown}
 use Rattle.cg_agree.proofs.SameSmalls.{as_given, first-given}
 use Rattle.cg_agree.proofs.SoundWorlds.{sound-of, sound-same}
 use Rattle.cg_agree.proofs.TurnGreens.{made-count, names-count}
+use Rattle.cg_model.specs.FactsBooks.{AreShown, IsActionShown, IsNameShown}
 use Rattle.cg_model.specs.Chronicle.{Chronicle}
 use Rattle.cg_model.specs.Facts.{Invariant}
 use Rattle.cg_model.specs.FactsReplica.{IsCore}

@@ -14,6 +14,7 @@ use Rattle.cg_commit.specs.Holds.{Rising, cut_behind}
 use Rattle.cg_commit.specs.CutRaiseLaws.{behind-rises, index-same, rising-raise}
 use Rattle.cg_model.specs.Agreement.{Reaches, order_recovered}
 use Rattle.cg_model.specs.Chronicle.{Chronicle}
+use Rattle.cg_model.specs.FactsBooks.{IsNameShown, IsToShow, LifeMade, LifeShown, LifeToShow, MadeFits, OrderFits, SeatIsDown, SeatMade, SeatShown, SeatToShow}
 use Rattle.cg_model.specs.FactsReplica.{AreBooked, IsCore}
 use Rattle.cg_model.specs.Fronts.{Front}
 use Rattle.cg_model.specs.Levels.{line_at, reached_at}
@@ -24,12 +25,8 @@ use Rattle.cg_agree.proofs.BookGrows.{IsNamed}
 use Rattle.cg_agree.proofs.BookedCores.{each-booked}
 use Rattle.cg_agree.proofs.CreatorNumbered.{order-on_top}
 use Rattle.cg_agree.proofs.FrontFacts.{Front-length, Front-map, take-Front}
-use Rattle.cg_agree.proofs.MadeWorlds.{LifeMade, MadeFits, SeatMade}
 use Rattle.cg_agree.proofs.OrderExtends.{IsExtended, order-extends}
-use Rattle.cg_agree.proofs.OrderFits.{IsToShow, LifeToShow, OrderFits, SeatToShow}
 use Rattle.cg_agree.proofs.OrderReached.{names-drop}
-use Rattle.cg_agree.proofs.OthersEvents.{SeatIsDown}
-use Rattle.cg_agree.proofs.OthersShown.{IsNameShown, LifeShown, SeatShown}
 use Rattle.cg_agree.proofs.RedsShown.{each-low}
 use Rattle.cg_agree.proofs.TurnGreens.{disk-count, names-count}
 

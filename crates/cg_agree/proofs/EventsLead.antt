@@ -1,4 +1,4 @@
--- Events lead on from the worlds to which events lead, and the facts stand beside each such world.
+-- Events lead on from the worlds to which events lead, and the facts stand beside each such world, with what is carried from event to event.
 use Rattle.std.proofs.Common.{◌≡◌, List, [], ◌∷◌, ◌++◌, None, refl, sym, ap, ap₂, ◌∙◌, subst}
 use Rattle.cg_schedule.specs.declared.event.Event.{Event}
 use Rattle.cg_model.specs.World.{World, no_world}
@@ -7,9 +7,9 @@ use Rattle.cg_model.specs.Run.{MayStand}
 use Rattle.cg_model.specs.Step.{world_step}
 use Rattle.cg_model.specs.Chronicle.{Chronicle, no_chronicle}
 use Rattle.cg_model.specs.Noting.{chronicle_step}
-use Rattle.cg_model.specs.Played.{StandsBeside, AreAdmitted, HoldsFrom}
-use Rattle.cg_model.specs.Standing.{LeadTo, AlwaysStands}
-use Rattle.cg_agree.proofs.AlwaysMade.{always-holds}
+use Rattle.cg_model.specs.Played.{AreAdmitted}
+use Rattle.cg_model.specs.Standing.{LeadTo, IsReached, AlwaysStands}
+use Rattle.cg_agree.proofs.AlwaysMade.{IsCarried, stands-first, stands-step}
 
 lead-on : (c : Chronicle) (w : World) (events : List Event) (d : Chronicle) (v : World) (e : Event) → LeadTo c w events d v → MayStand v e → first_refusal v e ≡ None →
     LeadTo c w (events ++ e ∷ []) (chronicle_step d v e) (world_step v e).world
@@ -24,13 +24,18 @@ pub are-admitted : (c : Chronicle) (w : World) (events : List Event) (d : Chroni
 are-admitted c w [] d v lead = tt
 are-admitted c w (e ∷ events) d v lead = (lead.0, lead.1, are-admitted (chronicle_step c w e) (world_step w e).world events d v lead.2)
 
-stands-behind : (c : Chronicle) (w : World) (events : List Event) (d : Chronicle) (v : World) → LeadTo c w events d v → HoldsFrom c w events → StandsBeside d v
-stands-behind c w [] d v lead holds = subst (StandsBeside d) lead.1 (subst (λ (x : Chronicle). StandsBeside x w) lead.0 holds)
-stands-behind c w (e ∷ events) d v lead holds = stands-behind (chronicle_step c w e) (world_step w e).world events d v lead.2 holds.1
+carried-behind : (c : Chronicle) (w : World) (events : List Event) (d : Chronicle) (v : World) → LeadTo c w events d v → IsCarried c w → IsCarried d v
+carried-behind c w [] d v lead is = subst (IsCarried d) lead.1 (subst (λ (x : Chronicle). IsCarried x w) lead.0 is)
+carried-behind c w (e ∷ events) d v lead is =
+    carried-behind (chronicle_step c w e) (world_step w e).world events d v lead.2 (stands-step c w e is.beside is.made is.order lead.0 lead.1)
+
+is-carried : (c : Chronicle) (w : World) → IsReached c w → IsCarried c w
+is-carried c w is = carried-behind no_chronicle no_world is.events c w is.lead stands-first
 
 pub always-stands : AlwaysStands
 always-stands = record {
   first = record { events = []; lead = (refl, refl) };
   step = λ c w e is may admitted. record { events = is.events ++ e ∷ []; lead = lead-on no_chronicle no_world is.events c w e is.lead may admitted };
-  beside = λ c w is. stands-behind no_chronicle no_world is.events c w is.lead (always-holds is.events (are-admitted no_chronicle no_world is.events c w is.lead));
+  beside = λ c w is. (is-carried c w is).beside;
+  carried = λ c w is. (let all = is-carried c w is in (all.made, all.order));
 }

@@ -276,7 +276,6 @@ pub mod OrderGrows
 pub mod GroupSays
 pub mod OthersShown
 pub mod OthersEvents
-pub mod OrderFits
 pub mod OthersBooked
 pub mod OrderCopies
 pub mod CopiesOrdered

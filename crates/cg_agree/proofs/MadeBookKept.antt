@@ -28,7 +28,7 @@ use Rattle.cg_model.specs.Chronicle.{Chronicle}
 use Rattle.cg_model.specs.Attempts.{held_in}
 use Rattle.cg_model.specs.Looks.{greens_of, stood_of, on_disk, disk_held}
 use Rattle.cg_model.specs.Step.{quietly, ask, name_also, recover_from, joined, snapshot_for, without_snapshot, with_pieces, take_pieces, transfer, happens, world_step}
-use Rattle.cg_model.specs.FactsBooks.{MadeBook}
+use Rattle.cg_model.specs.FactsBooks.{LifeMade, MadeBook, MadeFits, SeatMade}
 use Rattle.cg_model.specs.FactsReplica.{IsCore, IsModeData}
 use Rattle.cg_model.specs.Played.{StandsBeside, with_world}
 use Rattle.cg_agree.proofs.UnorderedKept.{first-none}
@@ -36,7 +36,7 @@ use Rattle.cg_agree.proofs.MadeAlone.{not-refused}
 use Rattle.cg_agree.proofs.MadeSplit.{rising-set-list}
 use Rattle.cg_agree.proofs.LivesRest.{LifeRests, SeatRests, seat-in}
 use Rattle.cg_agree.proofs.RestsBehind.{handed-ids, split-to}
-use Rattle.cg_agree.proofs.MadeWorlds.{LifeMade, SeatMade, MadeFits, IsCoreAt, LifeSound, SeatSound, fits-same, hand-fits, handed-fits, begun-fits, stopped-fits, armed-fits, came-up, joined-fits}
+use Rattle.cg_agree.proofs.MadeWorlds.{IsCoreAt, LifeSound, SeatSound, fits-same, hand-fits, handed-fits, begun-fits, stopped-fits, armed-fits, came-up, joined-fits}
 use Rattle.cg_agree.proofs.JoinersMadeNone.{snapshot-none}
 use Rattle.cg_client.specs.Joined.{piece_count}
 

@@ -19,6 +19,7 @@ use Rattle.cg_commit.specs.Crash.{FailOnce, StopWith, Strike, at_rest, new_disk}
 use Rattle.cg_schedule.specs.declared.event.Event.{Event}
 use Rattle.cg_schedule.specs.declared.event.Event.TheVariants.{Start, Split, Merge, Request, Weak, Dirty, Order, Recover, Show, ShowOrder, Gather, End, Receive, Deliver, Rounds, Stop, Fail, Join, Leave, Transfer}
 use Rattle.cg_report.specs.declared.entry.Made.{Made}
+use Rattle.cg_model.specs.FactsBooks.{LifeMade, MadeFits, SeatMade}
 use Rattle.cg_model.specs.World.{Life, Up, Down, Seat, Snapshot, World, seat_of, replica_of, bring_up}
 use Rattle.cg_model.specs.Show.{Going, ended}
 use Rattle.cg_model.specs.Run.{MayStand}
@@ -32,7 +33,7 @@ use Rattle.cg_agree.proofs.ChronicleFacts.{seat_of-set}
 use Rattle.cg_agree.proofs.MadeSplit.{rising-set-list}
 use Rattle.cg_agree.proofs.RestsBehind.{handed-ids, split-to}
 use Rattle.cg_agree.proofs.WorldTurns.{hand-behind}
-use Rattle.cg_agree.proofs.MadeWorlds.{LifeMade, SeatMade, MadeFits, SeatSound, fits-same, hand-fits}
+use Rattle.cg_agree.proofs.MadeWorlds.{SeatSound, fits-same, hand-fits}
 use Rattle.cg_agree.proofs.MadeBookKept.{sound-at}
 use Rattle.cg_agree.proofs.MadeShown.{AreLast, SeatLast, AddsTo, Adds, adds-wider, LifeWell, SeatWell, last-set, core-last, turn-adds, none-adds, recovery-adds}
 use Rattle.cg_client.specs.Joined.{piece_count}

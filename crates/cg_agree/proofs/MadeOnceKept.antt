@@ -21,6 +21,7 @@ use Rattle.cg_client.specs.Turn.{Turn, begin}
 use Rattle.cg_client.specs.Requests.{is_creating, create_kept, buffer, settle, request_in, request}
 use Rattle.cg_step.specs.Recorded.{OfMessage}
 use Rattle.cg_commit.specs.Crash.{Disk}
+use Rattle.cg_model.specs.FactsBooks.{HoldsFine}
 use Rattle.cg_model.specs.World.{Life, Up, Down, Seat, Snapshot, running, seat_of, replica_of}
 use Rattle.cg_model.specs.Attempts.{held_in}
 use Rattle.cg_model.specs.Step.{joined}
@@ -46,7 +47,7 @@ use Rattle.cg_agree.proofs.KeptEmpty.{anything}
 use Rattle.cg_agree.proofs.TurnRows.{OfDelivery, of-deliveries}
 use Rattle.cg_agree.proofs.MessagesKept.{DoWait, ArePlaced, TurnSays, StepSays, waits-kept, placed-kept}
 use Rattle.cg_agree.proofs.CreatedKept.{StaysCreated, created-rule, created-first}
-use Rattle.cg_agree.proofs.BookedRows.{HoldsFine, AllFine, each-drop, fine-rule, create-fine, kept-fine}
+use Rattle.cg_agree.proofs.BookedRows.{AllFine, each-drop, fine-rule, create-fine, kept-fine}
 use Rattle.cg_agree.proofs.BookGrows.{IsNamed, cut_of, rising-of, IsCounted, named-more, named-all, settle-counted, request-counted, counted-first}
 use Rattle.cg_agree.proofs.BookedCores.{FineHeld, JoinersBooked, cores-booked, booked-closed, placed-booked, waiting-booked, greens-booked, memory-booked, disk-booked, copies-booked, messages-booked, waits-booked}
 use Rattle.cg_agree.proofs.BookCounts.{BookCounts, counts-same, counts-turning, book-turn, counts-commit, counts-crash, counts-recover, counts-join, counts-start}

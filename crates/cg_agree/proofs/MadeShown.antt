@@ -17,6 +17,7 @@ use Rattle.cg_client.specs.Turn.{Turn}
 use Rattle.cg_stored.specs.Stored.{stored_of, whiten}
 use Rattle.cg_step.specs.Step.{Input, replica_step}
 use Rattle.cg_commit.specs.Crash.{Disk, Runs, Crashes, whitened, end_event, recovered, disk_recovered}
+use Rattle.cg_model.specs.FactsBooks.{LifeMade}
 use Rattle.cg_model.specs.World.{Life, Up, Down, Seat, World, running, seat_of}
 use Rattle.cg_model.specs.Looks.{on_disk}
 use Rattle.cg_model.specs.Show.{Going, beyond, unshown}
@@ -29,7 +30,7 @@ use Rattle.cg_agree.proofs.HeldMarks.{rising-red}
 use Rattle.cg_agree.proofs.DiskAhead.{OwnRuns}
 use Rattle.cg_agree.proofs.DiskEnds.{end-cases}
 use Rattle.cg_agree.proofs.MadeRecovered.{recovery-shown}
-use Rattle.cg_agree.proofs.MadeWorlds.{LifeMade, IsCoreAt, LifeSound}
+use Rattle.cg_agree.proofs.MadeWorlds.{IsCoreAt, LifeSound}
 use Rattle.cg_agree.proofs.StepMakes.{IsOwnNow, Makes, step-makes, own-below}
 use Rattle.cg_agree.proofs.StepGreens.{step-follows, whitened-count}
 use Rattle.cg_agree.proofs.RecoveryMakes.{IsOwnLast, recovery-makes}

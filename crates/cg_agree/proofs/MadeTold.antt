@@ -13,6 +13,7 @@ use Rattle.cg_action.specs.declared.action.Action.{Action}
 use Rattle.cg_queue.specs.Queue.{green_count}
 use Rattle.cg_report.specs.declared.entry.Made.{Made}
 use Rattle.cg_client.specs.Replica.{Replica}
+use Rattle.cg_model.specs.FactsBooks.{MadeFits}
 use Rattle.cg_model.specs.World.{World, replica_of}
 use Rattle.cg_model.specs.Show.{Moved}
 use Rattle.cg_model.specs.Run.{Step}
@@ -29,7 +30,6 @@ use Rattle.cg_commit.specs.RunLaws.{cut_behind-append, run_on-append}
 use Rattle.cg_agree.proofs.BookGrows.{IsNamed, named_in}
 use Rattle.cg_agree.proofs.BookedCores.{each-booked}
 use Rattle.cg_agree.proofs.BookStays.{event-book}
-use Rattle.cg_agree.proofs.MadeWorlds.{MadeFits}
 use Rattle.cg_agree.proofs.MadeBookKept.{event-made}
 use Rattle.cg_agree.proofs.MadeShown.{IsThere, AreLast, Adds, names_in}
 use Rattle.cg_agree.proofs.MadeEvents.{AddsSome, event-adds}

@@ -15,6 +15,7 @@ use Rattle.cg_client.specs.Turn.{Turn}
 use Rattle.cg_stored.specs.Stored.{stored_of, whiten}
 use Rattle.cg_step.specs.Step.{Input, Deliveries, replica_step}
 use Rattle.cg_commit.specs.Crash.{Disk, Strike, Runs, Crashes, whitened, end_event, at_rest, new_disk, recovered, disk_recovered}
+use Rattle.cg_model.specs.FactsBooks.{LifeMade, MadeFits, SeatMade}
 use Rattle.cg_model.specs.World.{Life, Up, Down, Seat, World, seat_of, bring_up}
 use Rattle.cg_model.specs.Show.{Going, unshown}
 use Rattle.cg_model.specs.Step.{after_event, hand_to, hand, hand_over, begin_replica, name_also, arm_at, crash_at, recover_from, joined}
@@ -29,20 +30,6 @@ use Rattle.cg_agree.proofs.WorldTurns.{hand-behind}
 use Rattle.cg_agree.proofs.MadeGrows.{IsShown, step-shown}
 use Rattle.cg_agree.proofs.MadeRecovered.{recovery-shown}
 use Rattle.cg_commit.specs.CutRaiseLaws.{rising-behind}
-
--- so many were shown as made: all that a replica that is up has created; of one that is down no more than it has, and its greens; and
--- none of one that hasn't begun
-abbrev pub LifeMade : ℕ → ℕ → Life → Type 0
-LifeMade n p (Up r disk) = n ≡ created r.held
-LifeMade n p (Down disk green) = (n ≤ created disk.content) × (index_in disk.content.queue.green_cut p ≤ n)
-
-abbrev pub SeatMade : ℕ → ℕ → Option Seat → Type 0
-SeatMade n p None = n ≡ 0
-SeatMade n p (Some s) = LifeMade n p s.life
-
-pub record MadeFits (w : World) : Type 0 where
-  pub rising : Rising 0 w.made
-  pub seats : (p : ℕ) → SeatMade (index_in w.made p) p (seat_of w p)
 
 -- what a replica holds is what some greens make of it
 pub record IsCoreAt (start : List Weighted) (p : ℕ) (h : Held) : Type 0 where

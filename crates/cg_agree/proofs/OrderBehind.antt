@@ -8,7 +8,6 @@ use Rattle.cg_agree.proofs.CreatorNumbered.{order-on_top}
 use Rattle.cg_agree.proofs.DiskEnds.{end-shown}
 use Rattle.cg_agree.proofs.FrontFacts.{Front-map, Front-of_both, Front-refl, Front-trans}
 use Rattle.cg_agree.proofs.GreensTold.{step-noted}
-use Rattle.cg_agree.proofs.OrderFits.{IsToShow, LifeToShow, OrderFits, SeatToShow}
 use Rattle.cg_agree.proofs.OrderGrows.{Adds, EndAdds, EndShows, IsOrder, LifeAdds, SeatAdds, SeatShows, extends, hand-grows, hands-grow}
 use Rattle.cg_agree.proofs.OrderOnTop.{on_top-along}
 use Rattle.cg_agree.proofs.SameSmalls.{played-same}
@@ -18,6 +17,7 @@ use Rattle.cg_agree.proofs.TurnGreens.{IsBetween, facts-along, greens-along, gre
 use Rattle.cg_agree.proofs.TurnWorlds.{life_at, up_seat}
 use Rattle.cg_agree.proofs.TurnsReached.{IsReached, LifeReached, SeatReached}
 use Rattle.cg_agree.proofs.WorldTurns.{EndsSo, IsBehind, alone-ends, from-same, hand-behind, handed-behind, handed-ends}
+use Rattle.cg_model.specs.FactsBooks.{IsToShow, LifeToShow, OrderFits, SeatToShow}
 use Rattle.cg_model.specs.Chronicle.{Chronicle}
 use Rattle.cg_model.specs.Facts.{Invariant}
 use Rattle.cg_model.specs.FactsLists.{IsRising}

@@ -6,6 +6,7 @@ use Rattle.cg_action.specs.declared.action.Kind.TheVariants.{Update, Join as Joi
 use Rattle.cg_schedule.specs.declared.event.Event.{Event}
 use Rattle.cg_schedule.specs.declared.event.Event.TheVariants.{Start, Split, Merge, Request, Weak, Dirty, Order, Recover, Show, ShowOrder, Gather, End, Receive, Deliver, Rounds, Stop, Fail, Join, Leave, Transfer}
 use Rattle.cg_group.specs.declared.delivery.Delivery.TheVariants.{Regular as RegularIn}
+use Rattle.cg_model.specs.FactsBooks.{OrderFits}
 use Rattle.cg_model.specs.Small.{Small, Starts, Makes, Enters, Orders, Receives, Hands, Leaves, Asks, Settles, Commits, Crashes, Recovers, Copies, Joins, small_step, newest_conf}
 use Rattle.cg_model.specs.World.{Life, Up, Down, Seat, World, running, seat_of, replica_of}
 use Rattle.cg_model.specs.Played.{IsSame, KeptBySmalls, MayBeMade, StandsBeside}
@@ -21,7 +22,6 @@ use Rattle.cg_agree.proofs.GreensTold.{entry-none}
 use Rattle.cg_agree.proofs.HandSays.{find-holds}
 use Rattle.cg_agree.proofs.MadeOfSmalls.{gather-quiet, transfer-quiet}
 use Rattle.cg_agree.proofs.OrderBehind.{IsKept, LifeOrder, SeatOrder}
-use Rattle.cg_agree.proofs.OrderFits.{OrderFits}
 use Rattle.cg_agree.proofs.PastKept.{enters-now, entry_told, told_in-enters}
 use Rattle.cg_agree.proofs.RestFacts.{IsQuiet}
 use Rattle.cg_agree.proofs.ToldKept.{IsUntold, told-same, told_in-same}

@@ -5,6 +5,7 @@ use Rattle.cg_action.specs.declared.action.Kind.TheVariants.{Update, Join as Joi
 use Rattle.cg_schedule.specs.declared.event.Event.{Event}
 use Rattle.cg_schedule.specs.declared.event.Event.TheVariants.{Start, Split, Merge, Request, Weak, Dirty, Order, Recover, Show, ShowOrder, Gather, End, Receive, Deliver, Rounds, Stop, Fail, Join, Leave, Transfer}
 use Rattle.cg_group.specs.declared.delivery.Delivery.TheVariants.{Regular as RegularIn}
+use Rattle.cg_model.specs.FactsBooks.{AreShown, IsNameShown, KeepsUnshown, LifeIsDown, LifeToShow, MadeFits, OrderFits, SeatIsDown, SeatToShow}
 use Rattle.cg_model.specs.Step.{quietly, ask, hand_out, name_also, begin_replica, arm_at, arm, crash_at, stop, recover_from, recover, joined, snapshot_for, without_snapshot, take_pieces, transfer, happens, world_step}
 use Rattle.cg_model.specs.World.{Life, Up, Down, Seat, Snapshot, World, no_world, running, seat_of, replica_of, bring_up}
 use Rattle.cg_model.specs.Show.{ended}
@@ -32,18 +33,15 @@ use Rattle.cg_agree.proofs.FrontFacts.{Front-length, Front-refl, Front-take, tak
 use Rattle.cg_agree.proofs.HeldCommit.{recovered-id}
 use Rattle.cg_agree.proofs.MadeBookKept.{event-made}
 use Rattle.cg_agree.proofs.MadeOfSmalls.{made-of-smalls}
-use Rattle.cg_agree.proofs.MadeWorlds.{MadeFits}
 use Rattle.cg_agree.proofs.OneLine.{IsOnTop}
 use Rattle.cg_agree.proofs.OrderBehind.{IsKept, LifeOrder, SeatOrder, alone-kept, armed-kept, joined-kept, listed-kept, order-stays, quiet-kept, recovered-kept, stopped-kept}
 use Rattle.cg_agree.proofs.OrderCopies.{copies-event, copy-of}
-use Rattle.cg_agree.proofs.OrderFits.{KeepsUnshown, LifeToShow, OrderFits, OrdersKept, SeatToShow}
 use Rattle.cg_agree.proofs.OrderGrows.{IsOrder}
 use Rattle.cg_agree.proofs.OrderOnTop.{green-there}
 use Rattle.cg_agree.proofs.OrderTellers.{ToldWithin, entries-up, told-merged, told-stays, untold-smalls}
 use Rattle.cg_agree.proofs.OrderTold.{begun_order}
 use Rattle.cg_agree.proofs.OthersBooked.{booked-index, booked-made, booked-shown, unbegun-made}
-use Rattle.cg_agree.proofs.OthersEvents.{LifeIsDown, SeatIsDown, begun-up, event-shown}
-use Rattle.cg_agree.proofs.OthersShown.{AreShown, IsNameShown}
+use Rattle.cg_agree.proofs.OthersEvents.{begun-up, event-shown}
 use Rattle.cg_agree.proofs.RestsKept.{rests-kept}
 use Rattle.cg_agree.proofs.SeatFacts.{seat-id}
 use Rattle.cg_agree.proofs.SoundWorlds.{IsSound, sound-of, sound-same}
@@ -455,5 +453,6 @@ module _ (kept : KeptBySmalls) (c : Chronicle) (w : World) (e : Event) (stands :
   }
 
 -- The order is kept by each event.
-pub orders-kept : OrdersKept
+pub orders-kept : (c : Chronicle) (w : World) (e : Event) → StandsBeside c w → MadeFits w → OrderFits c w → MayStand w e → first_refusal w e ≡ None → Invariant (chronicle_step c w e) →
+    OrderFits (chronicle_step c w e) (world_step w e).world
 orders-kept c w e stands fits order stand admitted facts = order-on kept-by-smalls c w e stands fits order stand admitted facts

@@ -7,15 +7,13 @@ use Rattle.cg_action.specs.declared.action.Action.{Action}
 use Rattle.cg_agree.proofs.BookCounts.{found-name}
 use Rattle.cg_agree.proofs.BookGrows.{IsNamed, cut_of}
 use Rattle.cg_agree.proofs.BookedCores.{FineHeld, cores-booked, placed-booked, waiting-booked}
-use Rattle.cg_agree.proofs.BookedRows.{HoldsFine}
 use Rattle.cg_agree.proofs.CopiesBooked.{joiners-booked}
 use Rattle.cg_agree.proofs.GroupSays.{GroupSays}
 use Rattle.cg_agree.proofs.MadeBookKept.{made_book-of}
 use Rattle.cg_agree.proofs.MadeOnceKept.{holds-weaker, message-weaker}
-use Rattle.cg_agree.proofs.MadeWorlds.{MadeFits, SeatMade}
-use Rattle.cg_agree.proofs.OrderFits.{LifeToShow, OrderFits, SeatToShow}
-use Rattle.cg_agree.proofs.OthersShown.{AreShown, IsActionShown, IsMessageShown, IsNameShown, LifeShown, SeatShown, later-shown, names-shown}
+use Rattle.cg_agree.proofs.OthersShown.{later-shown, names-shown}
 use Rattle.cg_commit.specs.RunMarkLaws.{run-names}
+use Rattle.cg_model.specs.FactsBooks.{AreShown, HoldsFine, IsActionShown, IsMessageShown, IsNameShown, LifeShown, LifeToShow, MadeFits, OrderFits, SeatMade, SeatShown, SeatToShow}
 use Rattle.cg_model.specs.Attempts.{held_in}
 use Rattle.cg_model.specs.Chronicle.{Chronicle}
 use Rattle.cg_model.specs.Facts.{Invariant}

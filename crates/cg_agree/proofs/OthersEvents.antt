@@ -4,6 +4,7 @@ use Rattle.cg_action.specs.declared.action.Kind.TheVariants.{Update, Join as Joi
 use Rattle.cg_schedule.specs.declared.event.Event.{Event}
 use Rattle.cg_schedule.specs.declared.event.Event.TheVariants.{Start, Split, Merge, Request, Weak, Dirty, Order, Recover, Show, ShowOrder, Gather, End, Receive, Deliver, Rounds, Stop, Fail, Join, Leave, Transfer}
 use Rattle.cg_group.specs.declared.delivery.Delivery.TheVariants.{Transitional as TransitionalIn, Regular as RegularIn}
+use Rattle.cg_model.specs.FactsBooks.{AreShown, IsActionShown, IsMessageShown, IsNameShown, LifeIsDown, LifeShown, SeatIsDown, SeatShown}
 use Rattle.cg_model.specs.Step.{quietly, hand, hand_over, name_also, begin_replica, arm_at, crash_at, recover_from, recover, joined, snapshot_for, without_snapshot, with_pieces, take_pieces, transfer, happens, world_step}
 use Rattle.cg_stored.specs.Stored.{recover as recover_disk}
 use Rattle.cg_model.specs.World.{Life, Up, Down, Seat, Snapshot, World, has_begun, seat_of, replica_of, set_life, bring_up, bring_down}
@@ -21,7 +22,7 @@ use Rattle.cg_agree.proofs.MadeBookKept.{sound-at, transfer-unbegun}
 use Rattle.cg_agree.proofs.MadeOnceKept.{places-come}
 use Rattle.cg_agree.proofs.MadeSplit.{rising-set-list}
 use Rattle.cg_agree.proofs.MadeWorlds.{LifeSound, SeatSound}
-use Rattle.cg_agree.proofs.OthersShown.{AreShown, EndFalls, InputShown, IsActionShown, IsMessageShown, IsNameShown, LifeFalls, LifeShown, SeatFalls, SeatShown, drop-shown, hand-shown, hands-shown}
+use Rattle.cg_agree.proofs.OthersShown.{EndFalls, InputShown, LifeFalls, SeatFalls, drop-shown, hand-shown, hands-shown}
 use Rattle.cg_agree.proofs.RestsBehind.{handed-ids, split-to}
 use Rattle.cg_agree.proofs.TurnRows.{OfDelivery}
 use Rattle.cg_agree.proofs.TurnWorlds.{life_at}
@@ -46,14 +47,6 @@ use Rattle.cg_commit.specs.Crash.{Crashes, Ended, FailOnce, Runs, StopWith, Stri
 use Rattle.cg_wire.specs.declared.message.Msg.{Msg}
 use Rattle.cg_commit.specs.CutRaiseLaws.{behind-rises, rising-behind}
 use Rattle.cg_client.specs.Joined.{piece_count}
-
-abbrev pub LifeIsDown : Life → Type 0
-LifeIsDown (Up r disk) = ⊥
-LifeIsDown (Down disk green) = Unit {0}
-
-abbrev pub SeatIsDown : Option Seat → Type 0
-SeatIsDown None = ⊥
-SeatIsDown (Some s) = LifeIsDown s.life
 
 -- ---- turns behind which it is down
 

@@ -1,9 +1,9 @@
 -- While a replica is down nobody else has an action of it that wasn't shown as made: what the turns of an event make of that.
 use Rattle.cg_step.specs.Step.{Input, Deliveries, Asks, replica_step, take}
+use Rattle.cg_model.specs.FactsBooks.{AreShown, HoldsFine, IsActionShown, IsMessageShown, IsNameShown, LifeShown, SeatShown}
 use Rattle.cg_model.specs.Step.{after_event, hand_to, hand, hand_over}
 use Rattle.cg_agree.proofs.TurnRows.{OfDelivery, of-deliveries}
-use Rattle.cg_agree.proofs.BookedRows.{HoldsFine, AllFine, each-drop, fine-rule}
-use Rattle.cg_step.specs.Recorded.{OfMessage}
+use Rattle.cg_agree.proofs.BookedRows.{AllFine, each-drop, fine-rule}
 use Rattle.cg_client.specs.Turn.{Turn, begin, with_held}
 use Rattle.std.proofs.Common.{◌≡◌, ◌++◌, ◌∷◌, ◌≤◌, ◌∙◌, ◌-◌, ◌+◌, Bool, List, None, Option, Some, arith, cond, drop, false, fold, inl, inr, length, map, refl, subst, suc, sym, true, zero, ℕ, []}
 use Rattle.std.proofs.lemmas.Bool.{cases_eq, cond-false, cond_both, ne_eqb}
@@ -13,17 +13,15 @@ use Rattle.cg_action.specs.declared.action.Action.{Action}
 use Rattle.cg_action.specs.declared.action.Kind.{Kind}
 use Rattle.cg_agree.proofs.ChronicleFacts.{seat_of-set}
 use Rattle.cg_agree.proofs.CreatedKept.{StaysCreated, created-first, created-rule}
-use Rattle.cg_commit.specs.Holds.{Rising}
 use Rattle.cg_agree.proofs.DiskEnds.{end-shown}
 use Rattle.cg_agree.proofs.GreensTold.{step-noted}
-use Rattle.cg_agree.proofs.GroupSays.{GroupSays, says-down, says-sent}
+use Rattle.cg_agree.proofs.GroupSays.{says-down, says-sent}
 use Rattle.cg_agree.proofs.KeptEmpty.{anything}
 use Rattle.cg_agree.proofs.MadeWorlds.{IsCoreAt, LifeSound, SeatSound}
 use Rattle.cg_agree.proofs.WorldTurns.{hand-behind}
 use Rattle.cg_model.specs.FactsLists.{IsRising}
 use Rattle.cg_model.specs.Show.{Going, beyond}
 use Rattle.cg_model.specs.World.{Down, Life, Seat, Up, World, bring_down, seat_of}
-use Rattle.cg_base.specs.Cuts.{index_in}
 use Rattle.cg_base.specs.declared.action_id.ActionId.{ActionId}
 use Rattle.cg_base.specs.declared.weighted.Weighted.{Weighted}
 use Rattle.cg_client.specs.Replica.{Construct, ExchangeActions, ExchangeStates, Held, Left, No, NonPrim, RegPrim, Replica, State, TransPrim, Un}
@@ -39,42 +37,17 @@ use Rattle.cg_wire.specs.declared.message.Msg.TheVariants.{Action as ActionMsg}
 use Rattle.cg_commit.specs.CutRaiseLaws.{behind-rises, rising-behind}
 
 module _ (p n : ℕ) where
-  -- the name is of no action of the replica above that one
-  abbrev pub IsNameShown : ActionId → Type 0
-  IsNameShown id = id.creator ≡ p → id.index ≤ n
-
-  abbrev pub IsActionShown : Action → Type 0
-  IsActionShown a = IsNameShown a.id
-
-  abbrev pub IsMessageShown : Msg → Type 0
-  IsMessageShown m = OfMessage IsActionShown m
-
-  abbrev pub LifeShown : Life → Type 0
-  LifeShown (Up r disk) = HoldsFine IsActionShown r.held × HoldsFine IsActionShown disk.content
-  LifeShown (Down disk green) = HoldsFine IsActionShown disk.content × Each IsNameShown green
-
-  abbrev pub SeatShown : Option Seat → Type 0
-  SeatShown None = Unit {0}
-  SeatShown (Some s) = LifeShown s.life
-
-  pub record AreShown (w : World) : Type 0 where
-    pub rising : Rising 0 w.made
-    pub low : n ≤ index_in w.made p
-    pub seats : (q : ℕ) → (q ≡ p → ⊥) → SeatShown (seat_of w q)
-    pub group : GroupSays IsMessageShown w.group
-    pub order : Each IsNameShown w.order
-
   -- ---- lists of names
 
-  pub names-shown : (xs : List Action) → Each IsActionShown xs → Each IsNameShown (names_of xs)
+  pub names-shown : (xs : List Action) → Each (IsActionShown p n) xs → Each (IsNameShown p n) (names_of xs)
   names-shown [] each = tt
   names-shown (x ∷ xs) each = (each.0, names-shown xs each.1)
 
-  pub later-shown : (xs ys : List ActionId) → Each IsNameShown (xs ++ ys) → Each IsNameShown ys
+  pub later-shown : (xs ys : List ActionId) → Each (IsNameShown p n) (xs ++ ys) → Each (IsNameShown p n) ys
   later-shown [] ys each = each
   later-shown (x ∷ xs) ys each = later-shown xs ys each.1
 
-  pub drop-shown : (k : ℕ) (xs : List ActionId) → Each IsNameShown xs → Each IsNameShown (drop k xs)
+  pub drop-shown : (k : ℕ) (xs : List ActionId) → Each (IsNameShown p n) xs → Each (IsNameShown p n) (drop k xs)
   drop-shown zero xs each = each
   drop-shown (suc k) [] each = tt
   drop-shown (suc k) (x ∷ xs) each = drop-shown k xs each.1
@@ -84,22 +57,22 @@ module _ (p n : ℕ) where
   module _ (me : ℕ) (apart : me ≡ p → ⊥) where
     record IsMine (t : Turn) : Type 0 where
       pub id : t.replica.held.id ≡ me
-      pub fine : AllFine IsActionShown t
+      pub fine : AllFine (IsActionShown p n) t
 
     creates-mine : (t : Turn) (kind : Kind) → IsMine t → IsMine (create t kind)
     unfolding create
     creates-mine t kind is =
         let a = next_action t.replica.held kind in
-        let fine : IsActionShown a = λ e. absurd (apart (sym is.id ∙ e)) in
+        let fine : IsActionShown p n a = λ e. absurd (apart (sym is.id ∙ e)) in
         record {
           id = is.id;
           fine = record {
             held = record {
               greens = is.fine.held.greens;
               reds = is.fine.held.reds;
-              own = Each-append IsActionShown t.replica.held.own (a ∷ []) is.fine.held.own (fine, tt);
+              own = Each-append (IsActionShown p n) t.replica.held.own (a ∷ []) is.fine.held.own (fine, tt);
             };
-            sent = Each-append IsMessageShown t.sent (ActionMsg a ∷ []) is.fine.sent (fine, tt);
+            sent = Each-append (IsMessageShown p n) t.sent (ActionMsg a ∷ []) is.fine.sent (fine, tt);
           };
         }
 
@@ -141,35 +114,35 @@ module _ (p n : ℕ) where
       at (NonPrim false) = kept
 
     abbrev pub InputShown : Input → Type 0
-    InputShown (Deliveries list) = Each (OfDelivery IsActionShown) list
+    InputShown (Deliveries list) = Each (OfDelivery (IsActionShown p n)) list
     InputShown (Asks kind) = Unit {0}
 
-    step-mine : (start : List Weighted) (r : Replica) (input : Input) → IsCoreAt start me r.held → HoldsFine IsActionShown r.held → InputShown input → IsMine (replica_step r input)
+    step-mine : (start : List Weighted) (r : Replica) (input : Input) → IsCoreAt start me r.held → HoldsFine (IsActionShown p n) r.held → InputShown input → IsMine (replica_step r input)
     unfolding replica_step
     step-mine start r (Deliveries list) core held come =
         let t = fold take (begin r) list in
         let stays = of-deliveries (StaysCreated r.held) (λ a. Unit {0}) (created-rule r.held) (begin r) list (anything list) (record { held = created-first start r.held core.greens core.is; made = refl }) in
         settles-mine t (record {
           id = stays.held.id ∙ core.id;
-          fine = of-deliveries (AllFine IsActionShown) IsActionShown (fine-rule IsActionShown) (begin r) list come (record { held = held; sent = tt });
+          fine = of-deliveries (AllFine (IsActionShown p n)) (IsActionShown p n) (fine-rule (IsActionShown p n)) (begin r) list come (record { held = held; sent = tt });
         })
     step-mine start r (Asks kind) core held come = asks-mine (begin r) kind (record { id = core.id; fine = record { held = held; sent = tt } })
 
-    white-fine : (h : Held) → HoldsFine IsActionShown h → HoldsFine IsActionShown (whiten h)
+    white-fine : (h : Held) → HoldsFine (IsActionShown p n) h → HoldsFine (IsActionShown p n) (whiten h)
     unfolding whiten
-    white-fine h is = record { greens = each-drop IsActionShown (white_at h - h.queue.white) h.queue.greens is.greens; reds = is.reds; own = is.own }
+    white-fine h is = record { greens = each-drop (IsActionShown p n) (white_at h - h.queue.white) h.queue.greens is.greens; reds = is.reds; own = is.own }
 
-    store-fine : (h : Held) → HoldsFine IsActionShown h → HoldsFine IsActionShown (stored_of h)
+    store-fine : (h : Held) → HoldsFine (IsActionShown p n) h → HoldsFine (IsActionShown p n) (stored_of h)
     store-fine h is = record { greens = is.greens; reds = is.reds; own = is.own }
 
-    turn-shown : (start : List Weighted) (go : Going) (r : Replica) (disk : Disk) (input : Input) → IsCoreAt start me r.held → LifeShown (Up r disk) → InputShown input → AreShown go.world →
-        AreShown (after_event go me (replica_step r input) (end_event disk r.held (replica_step r input))).world
+    turn-shown : (start : List Weighted) (go : Going) (r : Replica) (disk : Disk) (input : Input) → IsCoreAt start me r.held → LifeShown p n (Up r disk) → InputShown input → AreShown p n go.world →
+        AreShown p n (after_event go me (replica_step r input) (end_event disk r.held (replica_step r input))).world
     turn-shown start go r disk input core held come is =
-        end-shown disk r.held t (λ e. AreShown (after_event go me t e).world)
-        (λ quiet d same. runs t.replica d mine.fine.held (subst (HoldsFine IsActionShown) (sym same) held.1))
-        (λ does d same. runs (whitened t.replica) d white (subst (HoldsFine IsActionShown) (sym same) stored))
-        (λ stays d same. falls d t.green (subst (HoldsFine IsActionShown) (sym same) stored) green)
-        (λ gone d same. falls d [] (subst (HoldsFine IsActionShown) (sym same) held.1) tt)
+        end-shown disk r.held t (λ e. AreShown p n (after_event go me t e).world)
+        (λ quiet d same. runs t.replica d mine.fine.held (subst (HoldsFine (IsActionShown p n)) (sym same) held.1))
+        (λ does d same. runs (whitened t.replica) d white (subst (HoldsFine (IsActionShown p n)) (sym same) stored))
+        (λ stays d same. falls d t.green (subst (HoldsFine (IsActionShown p n)) (sym same) stored) green)
+        (λ gone d same. falls d [] (subst (HoldsFine (IsActionShown p n)) (sym same) held.1) tt)
       where
         t : Turn
         t = replica_step r input
@@ -177,38 +150,38 @@ module _ (p n : ℕ) where
         mine : IsMine t
         mine = step-mine start r input core held.0 come
 
-        white : HoldsFine IsActionShown (whiten t.replica.held)
+        white : HoldsFine (IsActionShown p n) (whiten t.replica.held)
         white = white-fine t.replica.held mine.fine.held
 
-        stored : HoldsFine IsActionShown (stored_of (whiten t.replica.held))
+        stored : HoldsFine (IsActionShown p n) (stored_of (whiten t.replica.held))
         stored = store-fine (whiten t.replica.held) white
 
-        green : Each IsNameShown t.green
+        green : Each (IsNameShown p n) t.green
         green =
             later-shown (names_of r.held.queue.greens) t.green
-            (subst (Each IsNameShown) (step-noted r input).greens (names-shown t.replica.held.queue.greens mine.fine.held.greens))
+            (subst (Each (IsNameShown p n)) (step-noted r input).greens (names-shown t.replica.held.queue.greens mine.fine.held.greens))
 
-        others : (v : World) (life : Life) → ((q : ℕ) → seat_of v q ≡ cond (me == q) (Some (record { id = me; life = life })) (seat_of go.world q)) → LifeShown life → (q : ℕ) → (q ≡ p → ⊥) → SeatShown (seat_of v q)
+        others : (v : World) (life : Life) → ((q : ℕ) → seat_of v q ≡ cond (me == q) (Some (record { id = me; life = life })) (seat_of go.world q)) → LifeShown p n life → (q : ℕ) → (q ≡ p → ⊥) → SeatShown p n (seat_of v q)
         others v life seat here q other =
             let new : Seat = record { id = me; life = life } in
-            subst SeatShown (sym (seat q)) (cond_both (me == q) (Some new) (seat_of go.world q) SeatShown (λ y. here) (λ n. is.seats q other))
+            subst (SeatShown p n) (sym (seat q)) (cond_both (me == q) (Some new) (seat_of go.world q) (SeatShown p n) (λ y. here) (λ n. is.seats q other))
 
-        runs : (x : Replica) (d : Disk) → HoldsFine IsActionShown x.held → HoldsFine IsActionShown d.content → AreShown (after_event go me t (Runs x d)).world
+        runs : (x : Replica) (d : Disk) → HoldsFine (IsActionShown p n) x.held → HoldsFine (IsActionShown p n) d.content → AreShown p n (after_event go me t (Runs x d)).world
         runs x d memory content = record {
           rising = rising-behind go.world.made (names_of t.made) is.rising;
           low = (let up = behind-rises go.world.made (names_of t.made) p is.rising in let was = is.low in omega arith);
           seats = others (after_event go me t (Runs x d)).world (Up x d) (λ q. seat_of-set go.world me (Up x d) q) (memory, content);
-          group = says-sent IsMessageShown t.sent go.world.group me mine.fine.sent is.group;
-          order = Each-append IsNameShown go.world.order (beyond go.world.order t.green (green_count t.replica.held.queue)) is.order
+          group = says-sent (IsMessageShown p n) t.sent go.world.group me mine.fine.sent is.group;
+          order = Each-append (IsNameShown p n) go.world.order (beyond go.world.order t.green (green_count t.replica.held.queue)) is.order
               (drop-shown (length go.world.order + length t.green - green_count t.replica.held.queue) t.green green);
         }
 
-        falls : (d : Disk) (green : List ActionId) → HoldsFine IsActionShown d.content → Each IsNameShown green → AreShown (after_event go me t (Crashes d green)).world
+        falls : (d : Disk) (green : List ActionId) → HoldsFine (IsActionShown p n) d.content → Each (IsNameShown p n) green → AreShown p n (after_event go me t (Crashes d green)).world
         falls d green content names = record {
           rising = is.rising;
           low = is.low;
           seats = others (after_event go me t (Crashes d green)).world (Down d green) (λ q. seat_of-set go.world me (Down d green) q) (content, names);
-          group = says-down IsMessageShown go.world.group me is.group;
+          group = says-down (IsMessageShown p n) go.world.group me is.group;
           order = is.order;
         }
 
@@ -226,55 +199,55 @@ module _ (p n : ℕ) where
   SeatFalls input None = Unit {0}
   SeatFalls input (Some s) = LifeFalls input s.life
 
-  pub gone-shown : (w : World) (disk : Disk) (green : List ActionId) → AreShown w → AreShown (bring_down w p disk green)
+  pub gone-shown : (w : World) (disk : Disk) (green : List ActionId) → AreShown p n w → AreShown p n (bring_down w p disk green)
   gone-shown w disk green is = record {
     rising = is.rising;
     low = is.low;
-    seats = λ q other. subst SeatShown (sym (seat_of-set w p (Down disk green) q ∙ cond-false (p == q) (Some (let s : Seat = record { id = p; life = Down disk green } in s)) (seat_of w q) (ne_eqb p q (λ e. other (sym e))))) (is.seats q other);
-    group = says-down IsMessageShown w.group p is.group;
+    seats = λ q other. subst (SeatShown p n) (sym (seat_of-set w p (Down disk green) q ∙ cond-false (p == q) (Some (let s : Seat = record { id = p; life = Down disk green } in s)) (seat_of w q) (ne_eqb p q (λ e. other (sym e))))) (is.seats q other);
+    group = says-down (IsMessageShown p n) w.group p is.group;
     order = is.order;
   }
 
-  own-shown : (go : Going) (input : Input) → SeatFalls input (seat_of go.world p) → AreShown go.world → AreShown (hand go p input).world
+  own-shown : (go : Going) (input : Input) → SeatFalls input (seat_of go.world p) → AreShown p n go.world → AreShown p n (hand go p input).world
   unfolding hand
   own-shown go input falls is = at (seat_of go.world p) falls where
-    ended : (t : Turn) (e : Ended) → EndFalls e → AreShown (after_event go p t e).world
+    ended : (t : Turn) (e : Ended) → EndFalls e → AreShown p n (after_event go p t e).world
     ended t (Runs r disk) falls = absurd falls
     ended t (Crashes disk green) falls = gone-shown go.world disk green is
 
-    life : (l : Life) → LifeFalls input l → AreShown (hand_to go p input l).world
+    life : (l : Life) → LifeFalls input l → AreShown p n (hand_to go p input l).world
     life (Up r disk) falls = ended (replica_step r input) (end_event disk r.held (replica_step r input)) falls
     life (Down disk green) falls = is
 
-    at : (o : Option Seat) → SeatFalls input o → AreShown (option_map_or (λ s. hand_to go p input s.life) o go).world
+    at : (o : Option Seat) → SeatFalls input o → AreShown p n (option_map_or (λ s. hand_to go p input s.life) o go).world
     at None falls = is
     at (Some s) falls = life s.life falls
 
   -- ---- turns
 
-  other-shown : (start : List Weighted) (go : Going) (q : ℕ) (input : Input) (other : q ≡ p → ⊥) → SeatSound start q (seat_of go.world q) → InputShown q other input → AreShown go.world →
-      AreShown (hand go q input).world
+  other-shown : (start : List Weighted) (go : Going) (q : ℕ) (input : Input) (other : q ≡ p → ⊥) → SeatSound start q (seat_of go.world q) → InputShown q other input → AreShown p n go.world →
+      AreShown p n (hand go q input).world
   unfolding hand
   other-shown start go q input other sound come is = at (seat_of go.world q) sound (is.seats q other) where
-    life : (l : Life) → LifeSound start q l → LifeShown l → AreShown (hand_to go q input l).world
+    life : (l : Life) → LifeSound start q l → LifeShown p n l → AreShown p n (hand_to go q input l).world
     life (Up r disk) sound shown = turn-shown q other start go r disk input sound.0 shown come is
     life (Down disk green) sound shown = is
 
-    at : (o : Option Seat) → SeatSound start q o → SeatShown o → AreShown (option_map_or (λ s. hand_to go q input s.life) o go).world
+    at : (o : Option Seat) → SeatSound start q o → SeatShown p n o → AreShown p n (option_map_or (λ s. hand_to go q input s.life) o go).world
     at None sound shown = is
     at (Some s) sound shown = life s.life sound shown
 
   pub hand-shown : (start : List Weighted) (go : Going) (q : ℕ) (input : Input) → SeatSound start q (seat_of go.world q) → ((other : q ≡ p → ⊥) → InputShown q other input) →
-      (q ≡ p → SeatFalls input (seat_of go.world q)) → AreShown go.world → AreShown (hand go q input).world
+      (q ≡ p → SeatFalls input (seat_of go.world q)) → AreShown p n go.world → AreShown p n (hand go q input).world
   hand-shown start go q input sound come falls is = elim (cases_eq q p) [
-    | inl same ↦ subst (λ (x : ℕ). AreShown (hand go x input).world) (sym same) (own-shown go input (subst (λ (x : ℕ). SeatFalls input (seat_of go.world x)) same (falls same)) is)
+    | inl same ↦ subst (λ (x : ℕ). AreShown p n (hand go x input).world) (sym same) (own-shown go input (subst (λ (x : ℕ). SeatFalls input (seat_of go.world x)) same (falls same)) is)
     | inr other ↦ other-shown start go q input other sound (come other) is
   ]
 
   -- replicas take their turns, ascending; who hasn't yet is as it was
   pub hands-shown : (start : List Weighted) (w : World) (list : List (Handed Msg)) (go : Going) (low : ℕ) → IsRising low (map (λ h. h.to) list) → ((q : ℕ) → low ≤ q → seat_of go.world q ≡ seat_of w q) →
-      ((q : ℕ) → SeatSound start q (seat_of w q)) → Each (λ h. Each (OfDelivery IsActionShown) h.list × (h.to ≡ p → SeatFalls (Deliveries h.list) (seat_of w h.to))) list → AreShown go.world →
-      AreShown (fold hand_over go list).world
+      ((q : ℕ) → SeatSound start q (seat_of w q)) → Each (λ h. Each (OfDelivery (IsActionShown p n)) h.list × (h.to ≡ p → SeatFalls (Deliveries h.list) (seat_of w h.to))) list → AreShown p n go.world →
+      AreShown p n (fold hand_over go list).world
   hands-shown start w [] go low rise still sound each is = is
   hands-shown start w (h ∷ list) go low rise still sound each is =
       let here : seat_of go.world h.to ≡ seat_of w h.to = still h.to rise.0 in

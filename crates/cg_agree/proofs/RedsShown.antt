@@ -5,6 +5,7 @@ use Rattle.cg_base.specs.Cuts.{index_in}
 use Rattle.cg_action.specs.declared.action.Action.{Action}
 use Rattle.cg_group.specs.EachLaws.{Each}
 use Rattle.cg_client.specs.Replica.{Replica}
+use Rattle.cg_model.specs.FactsBooks.{IsActionShown, KeepsUnshown, MadeFits, OrderFits, SeatIsDown, SeatShown}
 use Rattle.cg_model.specs.World.{Life, Up, Down, Seat, World, no_world, running, has_begun, seat_of, replica_of}
 use Rattle.cg_model.specs.Show.{Moved}
 use Rattle.cg_model.specs.Run.{Step, IsRunFrom, world_after}
@@ -19,13 +20,9 @@ use Rattle.cg_agree.proofs.BookedCores.{each-booked}
 use Rattle.cg_agree.proofs.CreatorNumbered.{stands-of}
 use Rattle.cg_agree.proofs.HandsKept.{seated}
 use Rattle.cg_agree.proofs.MadeBookKept.{nothing-made, event-made}
-use Rattle.cg_agree.proofs.MadeWorlds.{MadeFits}
 use Rattle.cg_agree.proofs.NothingStands.{nothing-stands}
-use Rattle.cg_agree.proofs.OrderFits.{KeepsUnshown, OrderFits}
 use Rattle.cg_agree.proofs.OrdersKept.{orders-kept}
 use Rattle.cg_agree.proofs.OthersBooked.{booked-index, booked-made}
-use Rattle.cg_agree.proofs.OthersEvents.{SeatIsDown}
-use Rattle.cg_agree.proofs.OthersShown.{IsActionShown, SeatShown}
 use Rattle.cg_agree.proofs.RunForward.{IsStepOf, of-run}
 
 -- what is red at a replica that is up was shown as made

@@ -11,7 +11,8 @@ pub fn runs_agree()
     ensures { EveryRunAgrees }
 {}
 
-/// All facts stand beside each world to which admitted events lead, from before the start on.
+/// All facts stand beside each world to which admitted events lead, from before the start on, and with them what each
+/// disk has still to show.
 pub fn facts_stand_beside_each_world()
     ensures { AlwaysStands }
 {}

@@ -22,6 +22,7 @@ use Rattle.cg_model.specs.Fronts.{IsSomeWith}
 use Rattle.cg_model.specs.Looks.{attempt_of}
 use Rattle.cg_model.specs.Levels.{is_dead}
 use Rattle.cg_model.specs.FactsNet.{ReceiptsFixed}
+use Rattle.cg_model.specs.FactsBooks.{MadeFits, OrderFits}
 use Rattle.cg_model.specs.Played.{StandsBeside}
 
 -- ---- worlds that events lead to
@@ -36,11 +37,13 @@ pub record IsReached (c : Chronicle) (w : World) : Type 0 where
   pub events : List Event
   pub lead : LeadTo no_chronicle no_world events c w
 
--- it holds before the start, each event that may stand and is admitted keeps it, and the facts stand beside such a world
+-- it holds before the start, each event that may stand and is admitted keeps it, and the facts stand beside such a world, with those on
+-- what its disks have still to show
 pub record AlwaysStands : Type 0 where
   pub first : IsReached no_chronicle no_world
   pub step : (c : Chronicle) (w : World) (e : Event) → IsReached c w → MayStand w e → first_refusal w e ≡ None → IsReached (chronicle_step c w e) (world_step w e).world
   pub beside : (c : Chronicle) (w : World) → IsReached c w → StandsBeside c w
+  pub carried : (c : Chronicle) (w : World) → IsReached c w → MadeFits w × OrderFits c w
 
 -- ---- what never comes back
 
