@@ -1,4 +1,5 @@
 pub mod Asked
+pub mod Completeness
 pub mod Feeds
 pub mod GoingOn
 pub mod Happening

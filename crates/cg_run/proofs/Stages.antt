@@ -42,7 +42,7 @@ limit-none n len end none = by_line (nat_lt 32768 len) refl none where
   by_line true e none = absurd (cc)
   by_line false e none = let more = by_input (nat_lt 8388608 end) refl none in (ltb-false 32768 len e, more.0, more.1)
 
-none-limit : (n len end : ℕ) → len ≤ 32768 → end ≤ 8388608 → n ≤ 200000 → limit_of n len end ≡ None
+pub none-limit : (n len end : ℕ) → len ≤ 32768 → end ≤ 8388608 → n ≤ 200000 → limit_of n len end ≡ None
 none-limit n len end short within few = rw (le-ltb 32768 len short, le-ltb 8388608 end within, le-ltb 200000 n few) refl
 
 none-held : (n at : ℕ) (held : List ℕ) → length held ≤ 32768 → at + length held ≤ 8388608 → n ≤ 200000 → held_limit n at held ≡ None

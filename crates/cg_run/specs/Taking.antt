@@ -1,5 +1,5 @@
 -- How what was taken stands to the bytes that the input had left, and what holds of all that a run comes to.
-use Rattle.std.specs.Prelude.{◌≡◌, ◌+◌, ◌++◌, ℕ, zero, suc, List, [], ◌∷◌, ◌≤◌, length, take, Option, Some, None}
+use Rattle.std.specs.Prelude.{◌≡◌, ◌⊎◌, ◌+◌, ◌++◌, true, ℕ, zero, suc, List, [], ◌∷◌, ◌≤◌, length, take, Option, Some, None}
 use Rattle.std.specs.Io.KnownBytes.{Consumes, IsAtEnd}
 use Rattle.cg_base.specs.Text.{pieces_of}
 use Rattle.cg_io.specs.Outside.{SourceView, SinkView, PutsAll}
@@ -10,12 +10,13 @@ use Rattle.cg_run.specs.declared.progress.Ending.{Ending}
 use Rattle.cg_run.specs.declared.progress.Ending.TheVariants.{Ended, Failed, Open}
 use Rattle.cg_run.specs.declared.status.Status.{Status}
 use Rattle.cg_run.specs.declared.status.Status.TheVariants as status
+use Rattle.cg_run.specs.declared.status.Limit.TheVariants as limit
 use Rattle.cg_run.specs.Produced.{Produced, status_of, refusal_of}
 use Rattle.cg_run.specs.Refusing.{RefusesLine}
 use Rattle.cg_run.specs.Outcome.{outcome_of, outcome, pieces_for, text_put}
-use Rattle.cg_run.specs.Commands.{command_of}
+use Rattle.cg_run.specs.Commands.{command_of, reads_input}
 use Rattle.cg_run.specs.declared.command.Command.{Command}
-use Rattle.cg_run.specs.Putting.{StopsWith}
+use Rattle.cg_run.specs.Putting.{Puts, StopsWith}
 
 -- at most the input's limit and one byte more are taken, and at most so many at once
 abbrev pub most_taken : ℕ
@@ -68,6 +69,21 @@ pub record Runs (command : Option Command) (old new : SourceView) (from to : Sin
   pub ends : StopsWith (text_put command (outcome_of command taken ending)) (status_of (outcome_of command taken ending)) from to status
   pub in_time : InTime (text_put command) (λ front. outcome_of command front Open) taken from to
   pub near : (n : ℕ) → found_in status ≡ Some n → length taken ≤ end_of_line n (pieces_of 10 taken) + most_at_once
+
+-- no limit is passed that lines and inputs have: the limit of steps may be
+abbrev pub IsWithinLimits : Option Status → Type 0
+IsWithinLimits (Some (status.Limit line limit.Line)) = ⊥
+IsWithinLimits (Some (status.Limit line limit.Input)) = ⊥
+IsWithinLimits (Some (status.Limit line limit.Lines)) = ⊥
+IsWithinLimits other = Unit {0}
+
+-- Where no take and no put failed, and the whole input is within the limits, the run comes to what the whole input comes to, and all of
+-- that was put; or memory was refused. So an input that comes to its end is done, with the whole report.
+abbrev pub Completes : Option Command → SourceView → SourceView → SinkView → SinkView → Status → Type 0
+Completes command old new from to result =
+    (all : List ℕ) → (reads_input command ≡ true → old.left ≡ Some all) → IsWithinLimits (status_of (outcome_of command all Ended))
+    → new.faults ≡ old.faults → to.faults ≡ from.faults
+    → (result ≡ status.NoMemory) ⊎ ((status_of (outcome_of command all Ended) ≡ Some result) × Puts from to (text_put command (outcome_of command all Ended)))
 
 -- what holds of the steps of the outcome, whatever was taken and however the taking ended
 abbrev pub OfSteps : List (List ℕ) → (List Step → Type 0) → Type 0

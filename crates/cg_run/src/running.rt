@@ -11,7 +11,7 @@ ghost use Rattle.cg_base.specs.Sets.{IsId};
 ghost use Rattle.cg_run.specs.Commands.{command_of, reads_input};
 ghost use Rattle.cg_run.specs.Putting.{StopsWith};
 ghost use Rattle.cg_run.specs.Status.{write_faults};
-ghost use Rattle.cg_run.specs.Taking.{Runs, ReadCause, OfSteps, TellsOfRefusals, RefusesExactly};
+ghost use Rattle.cg_run.specs.Taking.{Runs, ReadCause, Completes, OfSteps, TellsOfRefusals, RefusesExactly};
 
 use crate::arg_text::ArgText;
 use crate::command::{Command, command_of};
@@ -130,6 +130,10 @@ pub fn run<S: Source, K: Sink>(
     // failed exactly where the status tells of that.
     ensures read_fault { ReadCause (S.view input.old) (S.view input.new) result }
     ensures write_fault { (K.view output.new).faults ≡ (K.view output.old).faults + write_faults result }
+
+    // Where no take and no put failed, and the whole input is within the limits, the run comes to what the whole input comes
+    // to, and all of that was put; or memory was refused. So an input that comes to its end is done, with the whole report.
+    ensures completes { Completes (command_of words.now) (S.view input.old) (S.view input.new) (K.view output.old) (K.view output.new) result }
 
     // A refusal tells of the line whose event isn't admitted, and of the first reason.
     ensures refused { TellsOfRefusals words.now }

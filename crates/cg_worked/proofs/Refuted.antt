@@ -2,7 +2,7 @@
 -- say too little.
 use Rattle.std.specs.Prelude.{◌≡◌, ◌⊎◌, IsTrue, ℕ, ◌==◌, ◌≤◌, Bool, true, false, List, [], ◌∷◌, ◌++◌, Option, Some, None, codes, map, option_map, is_some, pos, if◌then◌else◌}
 use Rattle.std.specs.Option.{option_map_or}
-use Rattle.std.proofs.Common.{refl, sym, ap, subst, inl, inr, arith, length}
+use Rattle.std.proofs.Common.{refl, sym, ap, subst, inl, inr, ⊎_elim, arith, length}
 use Rattle.std.proofs.lemmas.Bool.{true≢false, false≢true}
 use Rattle.cg_base.specs.declared.action_id.ActionId.{ActionId}
 use Rattle.cg_base.specs.declared.weighted.Weighted.{Weighted}
@@ -45,6 +45,13 @@ use Rattle.cg_model.specs.Shown.{made_actions}
 use Rattle.cg_model.specs.Agreement.{is_recovery_of, OrderGrows, Prefix, CreatorOrder, FoldAnswers, DirtyAnswers, OnePrimary, QuietSettles, MadeStays, RefusedExactly}
 use Rattle.cg_model.specs.Quiet.{IsSettled, Remains, summaries_in, is_known_in, knows}
 use Rattle.cg_model.specs.Schedules.{run_of}
+use Rattle.cg_base.specs.Text.{is_nil}
+use Rattle.cg_io.specs.Outside.{SourceView, SinkView}
+use Rattle.cg_run.specs.declared.command.Command.TheVariants.{Replay}
+use Rattle.cg_run.specs.declared.progress.Report.TheVariants.{Whole}
+use Rattle.cg_run.specs.declared.status.Status.TheVariants as status
+use Rattle.cg_run.specs.Taking.{Completes}
+use Rattle.cg_worked.specs.Replaying.{written}
 use Rattle.cg_worked.specs.Computing.{cases_compute}
 
 -- ---- steps that show little
@@ -677,6 +684,28 @@ one_forgets_what_all_were_handed g =
 made_and_lost : MadeStays (made_alone ∷ []) → ⊥
 made_and_lost g =
     let there = g [] made_alone (name 1 1) (up_with 1 state.RegPrim 0 1 1) ([], refl) (0, omega arith, refl) refl in omega (arith, there.1)
+
+-- ---- a run comes to what its whole input comes to
+
+abbrev input_with_end : List ℕ
+input_with_end = written ("start 1" ∷ "end" ∷ [])
+
+abbrev full : SourceView
+full = record { left = Some input_with_end; faults = 0 }
+
+abbrev used_up : SourceView
+used_up = record { left = Some []; faults = 0 }
+
+abbrev nothing_put : SinkView
+nothing_put = record { held = Some []; faults = 0 }
+
+ended_before_its_end : Completes (Some (Replay Whole)) full used_up nothing_put nothing_put (status.NoEnd 2) → ⊥
+unfolding cases_compute
+ended_before_its_end g = ⊎_elim (λ (refused : status.NoEnd 2 ≡ status.NoMemory). cc) (λ told. (let is : Some status.Done ≡ Some (status.NoEnd 2) = told.0 in cc)) (g input_with_end (λ e. refl) tt refl refl)
+
+done_without_its_report : Completes (Some (Replay Whole)) full used_up nothing_put nothing_put status.Done → ⊥
+unfolding cases_compute
+done_without_its_report g = ⊎_elim (λ (refused : status.Done ≡ status.NoMemory). cc) (λ told. true≢false (ap is_nil told.1.all)) (g input_with_end (λ e. refl) tt refl refl)
 
 -- ---- refused exactly
 
