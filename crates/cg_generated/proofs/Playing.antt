@@ -60,7 +60,7 @@ all-free (e ∷ events) run free = play-free run e (all-free events (play run e)
 
 -- ---- a part that goes as far as a run
 
--- nothing is found, or the end or a limit, and no refusal
+-- nothing is found, or the end or the limit of steps, and no refusal
 abbrev pub IsSpared : Option Finding → Type 0
 IsSpared None = Unit {0}
 IsSpared (Some f) = (f.refused ≡ None) × IsEndOrLimit (Some f.status)
@@ -90,7 +90,7 @@ Follows-and_then run then reader later p more here next = by p.found refl where
 Follows-went_on : (run : Run) (s : Progress) → s.world ≡ run.world → Follows run s.reader (went_on s)
 Follows-went_on run s same = record { spared = tt; world = λ none. same; reader = λ none. refl }
 
-pub Follows-limit : (run : Run) (reader : ReaderState) (st : Status) (n : ℕ) (s : Progress) → IsEndOrLimit (Some st) → Follows run reader (ended_with st n s)
+Follows-limit : (run : Run) (reader : ReaderState) (st : Status) (n : ℕ) (s : Progress) → IsEndOrLimit (Some st) → Follows run reader (ended_with st n s)
 Follows-limit run reader st n s is = record { spared = (refl, is); world = λ none. absurd cc; reader = λ none. absurd cc }
 
 Follows-stepped : (n : ℕ) (e : Event) (run : Run) (s : Progress) → s.world ≡ run.world → Follows (with_step run e (world_step run.world e)) s.reader (stepped n e (world_step s.world e) s)

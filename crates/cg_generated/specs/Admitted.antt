@@ -1,6 +1,9 @@
 -- That no event of a generated schedule is refused: neither in the run of its events, nor in what a trial and a replay of its lines come to.
-use Rattle.std.specs.Prelude.{◌≡◌, ℕ, ◌<◌, List, Option, Some, None}
+use Rattle.std.specs.Prelude.{◌≡◌, ℕ, ◌<◌, ◌≤◌, List, length, Option, Some, None}
 use Rattle.cg_base.specs.Sets.{IsId}
+use Rattle.cg_group.specs.EachLaws.{Each}
+use Rattle.cg_schedule.specs.declared.event.Event.{Event}
+use Rattle.cg_schedule.specs.Print.{line_of}
 use Rattle.cg_gen.specs.Generated.{generated}
 use Rattle.cg_gen.specs.Lines.{lines_of}
 use Rattle.cg_model.specs.Schedules.{run_of}
@@ -8,6 +11,7 @@ use Rattle.cg_run.specs.declared.command.Command.TheVariants.{Replay, Trial}
 use Rattle.cg_run.specs.declared.progress.Ending.{Ending}
 use Rattle.cg_run.specs.declared.progress.Ending.TheVariants.{Ended}
 use Rattle.cg_run.specs.declared.progress.Report.{Report}
+use Rattle.cg_run.specs.declared.status.Limit.TheVariants.{Steps}
 use Rattle.cg_run.specs.declared.status.Status.{Status}
 use Rattle.cg_run.specs.declared.status.Status.TheVariants as status
 use Rattle.cg_run.specs.Outcome.{outcome_of}
@@ -22,19 +26,25 @@ abbrev pub TrialsAreAdmitted : Type 0
 TrialsAreAdmitted =
     (seed replicas lines : ℕ) → IsId replicas → (taken : List ℕ) (how : Ending) → refusal_of (outcome_of (Some (Trial seed replicas lines)) taken how) ≡ None
 
--- the end of all lines, or a limit
+-- the end of all lines, or the limit of steps
 abbrev pub IsEndOrLimit : Option Status → Type 0
 IsEndOrLimit (Some status.Done) = Unit {0}
-IsEndOrLimit (Some (status.Limit line what)) = Unit {0}
+IsEndOrLimit (Some (status.Limit line Steps)) = Unit {0}
 IsEndOrLimit other = ⊥
 
--- each line of a trial of two lines or more is read, so nothing but its end or a limit ends it
+-- each line of a trial of two lines or more is read, so nothing but its end or the limit of steps ends it
 abbrev pub TrialsEnd : Type 0
 TrialsEnd =
     (seed replicas lines : ℕ) → IsId replicas → 1 < lines → (taken : List ℕ) (how : Ending) → IsEndOrLimit (status_of (outcome_of (Some (Trial seed replicas lines)) taken how))
 
--- a replay of the lines that are generated comes to what a trial comes to
+-- the lines of events are within the limits of an input
+pub record AreWithinLimits (events : List Event) : Type 0 where
+  pub few : length events ≤ 200000
+  pub short : Each (λ event. length (line_of event) ≤ 32768) events
+  pub small : length (lines_of events) ≤ 8388608
+
+-- a replay of the lines that are generated, where they are within the limits of an input, comes to what a trial comes to
 abbrev pub TrialsAreReplays : Type 0
 TrialsAreReplays =
-    (seed replicas lines : ℕ) → IsId replicas → (report : Report) (taken : List ℕ) (how : Ending)
+    (seed replicas lines : ℕ) → IsId replicas → AreWithinLimits (generated seed replicas lines) → (report : Report) (taken : List ℕ) (how : Ending)
     → outcome_of (Some (Replay report)) (lines_of (generated seed replicas lines)) Ended ≡ outcome_of (Some (Trial seed replicas lines)) taken how

@@ -19,6 +19,7 @@ use Rattle.cg_schedule.specs.declared.fault.LineFault.TheVariants.{Syntax, NoMem
 use Rattle.cg_schedule.specs.declared.reader_state.ReaderState.{ReaderState}
 use Rattle.cg_schedule.specs.Laws.{Reads}
 use Rattle.cg_schedule.specs.Line.{first_state, reading, state_after, state_behind}
+use Rattle.cg_schedule.specs.Print.{line_of}
 use Rattle.cg_model.specs.World.{World, has_begun, up_replicas}
 use Rattle.cg_model.specs.Admission.{first_refusal}
 use Rattle.cg_model.specs.Show.{Moved}
@@ -39,7 +40,7 @@ use Rattle.cg_run.specs.declared.status.Limit.{Limit}
 use Rattle.cg_run.specs.declared.status.Limit.TheVariants.{Steps}
 use Rattle.cg_run.specs.Produced.{Finding, Produced, before_all, status_of, went_on, ended_with, and_then, unless_refused, one_step}
 use Rattle.cg_run.specs.Rounds.{deliver_ready, deliveries, one_pass, passes, happened}
-use Rattle.cg_run.specs.Outcome.{lines_alone, pieces_for, read_outcome, line_outcome, without_return, limit_of, unless_passed, whole_line, at_end, cut_line, last_piece, replayed, outcome_of, outcome}
+use Rattle.cg_run.specs.Outcome.{lines_alone, performed, pieces_for, read_outcome, line_outcome, without_return, limit_of, unless_passed, whole_line, at_end, cut_line, last_piece, replayed, outcome_of, outcome}
 use Rattle.cg_run.specs.Refusing.{state_past_lines}
 use Rattle.cg_run.specs.Taking.{TellsOfRefusals}
 use Rattle.cg_run.proofs.Asked.{ExactLines}
@@ -289,6 +290,27 @@ replayed-refuses all before (line ∷ next ∷ more) n at how s lines here numbe
     (is.reader e ∙ ap (λ state. state_past state (without_return line)) here ∙ sym (past-last before first_state line))
     (grind (arith, length-append {A = List ℕ}, numbered)))
 
+some_lines : (events : List Event) → is_nil (lines_alone events) ≡ false
+some_lines [] = refl
+some_lines (event ∷ events) = refl
+
+performed-refuses : (all before : List (List ℕ)) (events : List Event) (gone : ℕ) (s : Progress) → all ≡ before ++ lines_alone events → s.reader ≡ state_past_lines first_state before → gone ≡ length before
+    → RefusesOf all (performed gone events s)
+performed-refuses all before [] gone s lines here numbered = λ m r e. absurd (at_end-admits gone Ended s m r e)
+performed-refuses all before (event ∷ events) gone s lines here numbered =
+    let line = line_of event in
+    let n = gone + 1 in
+    let p = line_outcome n (without_return line) s in
+    let number : n ≡ suc (length before) = omega (arith, numbered) in
+    let is = is-line n (without_return line) s in
+    let stands : IsLine n (text_before (lines_alone events) line) s p =
+    subst (λ last. IsLine n (if last then line else without_return line) s p) (sym (some_lines events)) is in
+    refuses-and_then all p (performed n events) (line-refuses all before s here n number line (lines_alone events) lines p stands)
+    (λ e. performed-refuses all (before ++ line ∷ []) events n p.progress
+    (lines ∙ sym (append_assoc before (line ∷ []) (lines_alone events)))
+    (is.reader e ∙ ap (λ state. state_past state (without_return line)) here ∙ sym (past-last before first_state line))
+    (grind (arith, length-append {A = List ℕ}, numbered)))
+
 outcome-refuses_in : (words : List (List ℕ)) (taken : List ℕ) (how : Ending) → RefusesOf (pieces_for (command_of words) taken) (outcome words taken how)
 outcome-refuses_in words taken how = by_command (command_of words) where
   by_command : (c : Option Command) → RefusesOf (pieces_for c taken) (outcome_of c taken how)
@@ -296,8 +318,7 @@ outcome-refuses_in words taken how = by_command (command_of words) where
   by_command (Some (Replay report)) = replayed-refuses (pieces_of 10 taken) [] (pieces_of 10 taken) 1 0 how before_all refl refl refl
   by_command (Some (Generate seed replicas lines)) = λ m r e. cc
   by_command (Some (Trial seed replicas lines)) =
-      let all = lines_alone (generated seed replicas lines) in
-      replayed-refuses all [] all 1 0 Ended before_all refl refl refl
+      performed-refuses (lines_alone (generated seed replicas lines)) [] (generated seed replicas lines) 0 before_all refl refl refl
 
 pub outcome-refuses : (words : List (List ℕ)) → ExactLines → TellsOfRefusals words
 outcome-refuses words exact taken how n reason e =

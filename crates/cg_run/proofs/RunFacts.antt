@@ -12,6 +12,7 @@ use Rattle.cg_schedule.specs.declared.reader_state.ReaderState.{ReaderState}
 use Rattle.cg_schedule.specs.Fault.{syntax_number}
 use Rattle.cg_schedule.specs.Limits.{IsEvent}
 use Rattle.cg_schedule.specs.Line.{event_word, fits, reading, state_after}
+use Rattle.cg_schedule.specs.Print.{line_of}
 use Rattle.cg_model.specs.World.{World, no_world, up_replicas}
 use Rattle.cg_model.specs.Admission.{first_refusal}
 use Rattle.cg_model.specs.Show.{Moved}
@@ -34,7 +35,7 @@ use Rattle.cg_run.specs.declared.status.Limit.{Limit}
 use Rattle.cg_run.specs.declared.status.Limit.TheVariants.{Steps}
 use Rattle.cg_run.specs.Produced.{Finding, Produced, before_all, refusal_of, went_on, ended_with, refused_with, and_then, stepped, unless_refused, one_step}
 use Rattle.cg_run.specs.Rounds.{deliver_ready, deliveries, one_pass, passes, happened}
-use Rattle.cg_run.specs.Outcome.{lines_alone, read_outcome, line_outcome, without_return, limit_of, unless_passed, whole_line, at_end, cut_line, last_piece, replayed, outcome_of, outcome}
+use Rattle.cg_run.specs.Outcome.{performed, read_outcome, line_outcome, without_return, limit_of, unless_passed, whole_line, at_end, cut_line, last_piece, replayed, outcome_of, outcome}
 use Rattle.cg_run.specs.UnderWay.{IsUnderWay}
 use Rattle.cg_run.proofs.Asked.{may_ask, ExactLines}
 use Rattle.cg_run.proofs.GoingOn.{and_then-some}
@@ -265,7 +266,14 @@ Holds-replayed n at (line ∷ next ∷ more) how s exact under =
     Holds-and_then s p (λ s'. replayed (n + 1) (at + length line + 1) (next ∷ more) how s') h
     (λ e. Holds-replayed (n + 1) (at + length line + 1) (next ∷ more) how p.progress exact (h.under_way e))
 
-before_under_way : IsUnderWay before_all
+Holds-performed : (gone : ℕ) (events : List Event) (s : Progress) → ExactLines → IsUnderWay s → Holds s (performed gone events s)
+Holds-performed gone [] s exact under = Holds-at_end gone Ended s under
+Holds-performed gone (event ∷ events) s exact under =
+    let p = line_outcome (gone + 1) (without_return (line_of event)) s in
+    let h = Holds-line (gone + 1) (without_return (line_of event)) s exact under in
+    Holds-and_then s p (performed (gone + 1) events) h (λ e. Holds-performed (gone + 1) events p.progress exact (h.under_way e))
+
+pub before_under_way : IsUnderWay before_all
 before_under_way = record { before = λ e. refl; begun = λ e. absurd cc }
 
 pub Holds-outcome : (words : List (List ℕ)) (taken : List ℕ) (how : Ending) → ExactLines → Holds before_all (outcome words taken how)
@@ -274,7 +282,7 @@ Holds-outcome words taken how exact = by_command (command_of words) where
   by_command None = Holds-ended_with status.Usage 0 before_all
   by_command (Some (Replay report)) = Holds-replayed 1 0 (pieces_of 10 taken) how before_all exact before_under_way
   by_command (Some (Generate seed replicas lines)) = Holds-ended_with status.Done 0 before_all
-  by_command (Some (Trial seed replicas lines)) = Holds-replayed 1 0 (lines_alone (generated seed replicas lines)) Ended before_all exact before_under_way
+  by_command (Some (Trial seed replicas lines)) = Holds-performed 0 (generated seed replicas lines) before_all exact before_under_way
 
 pub outcome-is_run : (words : List (List ℕ)) (taken : List ℕ) (how : Ending) → ExactLines → IsRunFrom no_world 0 (outcome words taken how).steps
 outcome-is_run words taken how exact = (Holds-outcome words taken how exact).is_run

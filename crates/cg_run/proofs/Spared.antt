@@ -10,6 +10,7 @@ use Rattle.cg_schedule.specs.declared.event.Event.TheVariants.{Gather, Deliver, 
 use Rattle.cg_schedule.specs.declared.fault.LineFault.{LineFault}
 use Rattle.cg_schedule.specs.declared.fault.LineFault.TheVariants.{Syntax, NoMemory}
 use Rattle.cg_schedule.specs.Line.{reading, state_after}
+use Rattle.cg_schedule.specs.Print.{line_of}
 use Rattle.cg_model.specs.World.{up_replicas}
 use Rattle.cg_model.specs.Admission.{first_refusal}
 use Rattle.cg_model.specs.Step.{world_step}
@@ -27,7 +28,7 @@ use Rattle.cg_run.specs.declared.status.Limit.{Limit}
 use Rattle.cg_run.specs.declared.status.Limit.TheVariants.{Steps}
 use Rattle.cg_run.specs.Produced.{Finding, Produced, before_all, status_of, went_on, ended_with, and_then, unless_refused, one_step}
 use Rattle.cg_run.specs.Rounds.{deliver_ready, deliveries, one_pass, passes, happened}
-use Rattle.cg_run.specs.Outcome.{lines_alone, unreadable, read_outcome, line_outcome, without_return, limit_of, unless_passed, whole_line, at_end, cut_line, last_piece, replayed, outcome_of}
+use Rattle.cg_run.specs.Outcome.{performed, unreadable, read_outcome, line_outcome, without_return, limit_of, unless_passed, whole_line, at_end, cut_line, last_piece, replayed, outcome_of}
 use Rattle.cg_run.specs.Taking.{HasCause, ReadCause}
 use Rattle.cg_run.specs.Streaming.{FailedIsLast, Ends}
 
@@ -127,9 +128,9 @@ no_end n (Some status.ReadFault) is = absurd (false≢true is)
 no_end n (Some (status.NoEnd lines)) is = absurd (false≢true is)
 no_end n (Some other) is = refl
 
--- a whole line finds nothing that comes of the input's end
-pub whole-no_end : (n at : ℕ) (line : List ℕ) (s : Progress) → is_of_end (status_of (whole_line n at line s)) ≡ false
-whole-no_end n at line s = no_end n (status_of (whole_line n at line s)) (IsInLine-whole n at line s)
+-- a line finds nothing that comes of the input's end
+pub line-no_end : (n : ℕ) (line : List ℕ) (s : Progress) → is_of_end (status_of (line_outcome n line s)) ≡ false
+line-no_end n line s = no_end n (status_of (line_outcome n line s)) (IsInLine-line n line s)
 
 -- the part doesn't find that the input failed
 abbrev Spares : Produced → Type 0
@@ -176,15 +177,20 @@ module _ (how : Ending) (not_failed : how ≡ Failed → ⊥) where
       (Spares-in_line n (whole_line n at line s) (IsInLine-whole n at line s))
       (λ s'. Spares-replayed (n + 1) (at + length line + 1) (next ∷ more) s')
 
-Spares-lines : (lines : List (List ℕ)) → Spares (replayed 1 0 lines Ended before_all)
-Spares-lines lines = Spares-replayed Ended (λ e. cc) 1 0 lines before_all
+Spares-performed : (gone : ℕ) (events : List Event) (s : Progress) → Spares (performed gone events s)
+Spares-performed gone [] s = Spares-at_end Ended (λ e. cc) gone s
+Spares-performed gone (event ∷ events) s =
+    let line = without_return (line_of event) in
+    Spares-and_then (line_outcome (gone + 1) line s) (performed (gone + 1) events)
+    (Spares-in_line (gone + 1) (line_outcome (gone + 1) line s) (IsInLine-line (gone + 1) line s))
+    (λ s'. Spares-performed (gone + 1) events s')
 
 module _ (how : Ending) (not_failed : how ≡ Failed → ⊥) where
   Spares-outcome : (c : Option Command) (taken : List ℕ) → Spares (outcome_of c taken how)
   Spares-outcome None taken = λ e. cc
   Spares-outcome (Some (Replay report)) taken = Spares-replayed how not_failed 1 0 (pieces_of 10 taken) before_all
   Spares-outcome (Some (Generate seed replicas lines)) taken = λ e. cc
-  Spares-outcome (Some (Trial seed replicas lines)) taken = Spares-lines (lines_alone (generated seed replicas lines))
+  Spares-outcome (Some (Trial seed replicas lines)) taken = Spares-performed 0 (generated seed replicas lines) before_all
 
 -- no take failed where the taking ended in another way
 none-failed : (how : Ending) (old new : SourceView) → HasCause how old new → (how ≡ Failed → ⊥) → new.faults ≡ old.faults

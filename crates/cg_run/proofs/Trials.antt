@@ -1,33 +1,22 @@
 -- A schedule of events that is replayed line by line, of which the summary is put.
-use Rattle.std.proofs.Common.{◌≡◌, ℕ, ◌+◌, List, [], ◌∷◌, ◌++◌, length, Option, Some, None, MatchOption, false, refl, sym, ap, subst, ◌∙◌, arith}
+use Rattle.std.proofs.Common.{◌≡◌, ℕ, ◌+◌, List, [], ◌∷◌, ◌++◌, length, Option, Some, None, MatchOption, Ok, false, refl, sym, ap, subst, ◌∙◌, arith}
 use Rattle.std.proofs.lemmas.Bool.{true≢false}
-use Rattle.cg_base.specs.Text.{is_nil}
 use Rattle.cg_io.specs.Outside.{SinkView}
 use Rattle.cg_schedule.specs.declared.event.Event.{Event}
 use Rattle.cg_schedule.specs.Print.{line_of}
 use Rattle.cg_model.specs.Run.{Step}
-use Rattle.cg_run.specs.declared.progress.Ending.TheVariants.{Ended}
 use Rattle.cg_run.specs.declared.progress.Progress.{Progress}
 use Rattle.cg_run.specs.declared.progress.Report.TheVariants.{Tail}
-use Rattle.cg_run.specs.declared.progress.Stage.{Stage}
 use Rattle.cg_run.specs.declared.status.Status.{Status}
 use Rattle.cg_run.specs.declared.status.Status.TheVariants as status
 use Rattle.cg_run.specs.Status.{tail_text}
 use Rattle.cg_run.specs.Produced.{Finding, Produced, with_tail, report_in, text_of, status_of, and_then}
-use Rattle.cg_run.specs.Outcome.{whole_line, replayed, lines_alone, trial_end, trial_text}
+use Rattle.cg_run.specs.Outcome.{line_outcome, without_return, performed, trial_end, trial_text}
 use Rattle.cg_run.specs.Putting.{Puts, PutsPart, StopsWith}
-use Rattle.cg_run.specs.Streaming.{IsStage, EndsLine}
-use Rattle.cg_run.proofs.GoingOn.{GoesOn-part, Puts-twice, Appends-none, part-longer, part-later, and_then-some}
-use Rattle.cg_run.proofs.Lines.{replayed-more}
-use Rattle.cg_run.proofs.Spared.{is_of_end, whole-no_end}
-use Rattle.cg_run.specs.Performing.{Stopped, GoesOn}
-
-pub some_lines : (events : List Event) → is_nil (lines_alone events) ≡ false
-some_lines [] = refl
-some_lines (event ∷ events) = refl
-
-abbrev pub from_stage_of : Stage → List Event → Produced
-from_stage_of st events = replayed st.line st.at (lines_alone events) Ended st.progress
+use Rattle.cg_run.specs.UnderWay.{IsUnderWay}
+use Rattle.cg_run.proofs.GoingOn.{GoesOn-part, Puts-none, Puts-twice, Appends-none, part-longer, part-later, and_then-some}
+use Rattle.cg_run.proofs.Spared.{is_of_end, line-no_end}
+use Rattle.cg_run.specs.Performing.{Stopped, Performs, GoesOn}
 
 -- of steps alone nothing is put
 tail-nothing : (steps : List Step) → report_in Tail steps ≡ []
@@ -70,58 +59,56 @@ line-ended p more v v' st is s = by_finding p.found refl where
       ∙ sym (ap (λ (found : Option Finding). trial_text (record p { found = found })) e) in
       subst (λ (q : Produced). StopsWith (trial_text q) (status_of q) v v' st) (sym same) (subst (λ t. StopsWith t (status_of p) v v' st) text s)
 
--- the lines so far were gone through, and the others are still to come
-pub record Plays (whole : Produced) (v v1 : SinkView) (events : List Event) (st : Stage) : Type 0 where
-  pub goes : GoesOn Tail whole v v1 (from_stage_of st events)
-  pub stands : IsStage st
+-- of so many lines these are gone and the others are still to come: what the rest comes to makes the whole
+pub record Plays (whole : Produced) (v v1 : SinkView) (lines gone : ℕ) (events : List Event) (s : Progress) : Type 0 where
+  pub goes : GoesOn Tail whole v v1 (performed gone events s)
+  pub under_way : IsUnderWay s
+  pub counted : gone + length events ≡ lines
+
+-- the whole schedule is still to come
+pub Plays-begin : (lines : ℕ) (events : List Event) (v : SinkView) (s : Progress) → length events ≡ lines → IsUnderWay s → Plays (performed 0 events s) v v lines 0 events s
+Plays-begin lines events v s all under = record { goes = record { made = []; put = Puts-none v; same = refl }; under_way = under; counted = all }
 
 -- the run ends in what is still to come
-pub Plays-stop : (whole : Produced) (v v1 v2 : SinkView) (events : List Event) (st : Stage) (status : Status) → Plays whole v v1 events st
-    → StopsWith (trial_text (from_stage_of st events)) (status_of (from_stage_of st events)) v1 v2 status → StopsWith (trial_text whole) (status_of whole) v v2 status
-Plays-stop whole v v1 v2 events st status plays s =
+pub Plays-stop : (whole : Produced) (v v1 v2 : SinkView) (lines gone : ℕ) (events : List Event) (s : Progress) (status : Status) → Plays whole v v1 lines gone events s
+    → StopsWith (trial_text (performed gone events s)) (status_of (performed gone events s)) v1 v2 status → StopsWith (trial_text whole) (status_of whole) v v2 status
+Plays-stop whole v v1 v2 lines gone events s status plays stopped =
     let g = plays.goes in
     subst (λ (q : Produced). StopsWith (trial_text q) (status_of q) v v2 status) (sym g.same)
-    (StopsWith-later (trial_text (from_stage_of st events)) (status_of (from_stage_of st events)) v v1 v2 status (subst (Puts v v1) (tail-nothing g.made) g.put) s)
+    (StopsWith-later (trial_text (performed gone events s)) (status_of (performed gone events s)) v v1 v2 status (subst (Puts v v1) (tail-nothing g.made) g.put) stopped)
 
-from-event : (st : Stage) (event : Event) (events : List Event)
-    → from_stage_of st (event ∷ events)
-    ≡ and_then (whole_line st.line st.at (line_of event) st.progress) (replayed (st.line + 1) (st.at + length (line_of event) + 1) (lines_alone events) Ended)
-from-event st event events = replayed-more st.line st.at (line_of event) (lines_alone events) Ended st.progress (some_lines events)
+-- what a line comes to that is made of an event
+abbrev line_played : ℕ → Event → Progress → Produced
+line_played gone event s = line_outcome (gone + 1) (without_return (line_of event)) s
 
 -- the run ends in the next line
-pub Plays-ended : (whole : Produced) (v v1 v2 : SinkView) (event : Event) (events : List Event) (st : Stage) (status : Status) → Plays whole v v1 (event ∷ events) st
-    → Stopped Tail (whole_line st.line st.at (line_of event) st.progress) v1 v2 status → StopsWith (trial_text whole) (status_of whole) v v2 status
-Plays-ended whole v v1 v2 event events st status plays s =
-    let p = whole_line st.line st.at (line_of event) st.progress in
-    let more = replayed (st.line + 1) (st.at + length (line_of event) + 1) (lines_alone events) Ended in
-    let here = line-ended p more v1 v2 status (whole-no_end st.line st.at (line_of event) st.progress) s in
-    Plays-stop whole v v1 v2 (event ∷ events) st status plays
-    (subst (λ (q : Produced). StopsWith (trial_text q) (status_of q) v1 v2 status) (sym (from-event st event events)) here)
+pub Plays-ended : (whole : Produced) (v v1 v2 : SinkView) (lines gone : ℕ) (event : Event) (events : List Event) (s : Progress) (status : Status)
+    → Plays whole v v1 lines gone (event ∷ events) s → Stopped Tail (line_played gone event s) v1 v2 status → StopsWith (trial_text whole) (status_of whole) v v2 status
+Plays-ended whole v v1 v2 lines gone event events s status plays stopped =
+    Plays-stop whole v v1 v2 lines gone (event ∷ events) s status plays
+    (line-ended (line_played gone event s) (performed (gone + 1) events) v1 v2 status (line-no_end (gone + 1) (without_return (line_of event)) s) stopped)
 
 -- the next line was gone through
-pub Plays-line : (whole : Produced) (v v1 v2 : SinkView) (event : Event) (events : List Event) (st next : Stage) → Plays whole v v1 (event ∷ events) st
-    → EndsLine Tail st (line_of event) v1 v2 [] next → Plays whole v v2 events next
-Plays-line whole v v1 v2 event events st next plays ends =
-    let p = whole_line st.line st.at (line_of event) st.progress in
-    let more = replayed (st.line + 1) (st.at + length (line_of event) + 1) (lines_alone events) Ended in
-    let before : GoesOn Tail whole v v1 (and_then p more) = subst (GoesOn Tail whole v v1) (from-event st event events) plays.goes in
-    let after : GoesOn Tail whole v v2 (more next.progress) = GoesOn-part Tail whole p more v v1 v2 next.progress before ends.none ends.progress ends.put in
-    let same : more next.progress ≡ from_stage_of next events =
-    λ i. replayed (sym ends.counted i) (sym ends.placed i) (lines_alone events) Ended next.progress in
-    record { goes = subst (GoesOn Tail whole v v2) same after; stands = ends.stands }
+pub Plays-line : (whole : Produced) (v v1 v2 : SinkView) (lines gone : ℕ) (event : Event) (events : List Event) (s next : Progress)
+    → Plays whole v v1 lines gone (event ∷ events) s → Performs Tail (line_played gone event s) v1 v2 (Ok next) → IsUnderWay next → Plays whole v v2 lines (gone + 1) events next
+Plays-line whole v v1 v2 lines gone event events s next plays performs under = record {
+  goes = GoesOn-part Tail whole (line_played gone event s) (performed (gone + 1) events) v v1 v2 next plays.goes performs.0 performs.1 performs.2;
+  under_way = under;
+  counted = omega (arith, plays.counted);
+}
 
 -- memory was refused
-pub Plays-nothing : (whole : Produced) (v v1 : SinkView) (events : List Event) (st : Stage) (found : Status) → Plays whole v v1 events st → found ≡ status.NoMemory
-    → StopsWith (trial_text whole) (status_of whole) v v1 found
-Plays-nothing whole v v1 events st found plays is =
-    let text = trial_text (from_stage_of st events) in
+pub Plays-nothing : (whole : Produced) (v v1 : SinkView) (lines gone : ℕ) (events : List Event) (s : Progress) (found : Status) → Plays whole v v1 lines gone events s
+    → found ≡ status.NoMemory → StopsWith (trial_text whole) (status_of whole) v v1 found
+Plays-nothing whole v v1 lines gone events s found plays is =
+    let text = trial_text (performed gone events s) in
     let none : PutsPart v1 v1 text 0 =
     record { front = record { front = []; rest = text; whole = refl; grown = Appends-none v1.held }; counted = omega arith } in
-    subst (λ (st : Status). StopsWith (trial_text whole) (status_of whole) v v1 st) (sym is) (Plays-stop whole v v1 v1 events st status.NoMemory plays none)
+    subst (λ (st : Status). StopsWith (trial_text whole) (status_of whole) v v1 st) (sym is) (Plays-stop whole v v1 v1 lines gone events s status.NoMemory plays none)
 
 -- the next event, or none
-pub Plays-next : (whole : Produced) (v v1 : SinkView) (all left : List Event) (st : Stage) → all ≡ left → Plays whole v v1 all st → Plays whole v v1 left st
-Plays-next whole v v1 all left st is plays = subst (λ events. Plays whole v v1 events st) is plays
+pub Plays-next : (whole : Produced) (v v1 : SinkView) (lines gone : ℕ) (all left : List Event) (s : Progress) → all ≡ left → Plays whole v v1 lines gone all s → Plays whole v v1 lines gone left s
+Plays-next whole v v1 lines gone all left s is plays = subst (λ events. Plays whole v v1 lines gone events s) is plays
 
 pub next-some : (all left : List Event) (o : Option Event) (e : Event) → MatchOption o ((all ≡ []) × (left ≡ [])) (λ event. all ≡ event ∷ left) → o ≡ Some e → all ≡ e ∷ left
 next-some all left o e next is = subst (λ (o : Option Event). MatchOption o ((all ≡ []) × (left ≡ [])) (λ event. all ≡ event ∷ left)) is next

@@ -87,11 +87,16 @@ replayed n at (rest ∷ []) how s = last_piece n at rest how s
 replayed n at (line ∷ next ∷ more) how s =
     and_then (whole_line n at line s) (λ s'. replayed (n + 1) (at + length line + 1) (next ∷ more) how s')
 
+-- what the lines of events come to, behind so many lines: they are replayed as those of an input, but its limits aren't theirs
+abbrev pub performed : ℕ → List Event → Progress → Produced
+performed gone [] s = at_end gone Ended s
+performed gone (event ∷ events) s = and_then (line_outcome (gone + 1) (without_return (line_of event)) s) (performed (gone + 1) events)
+
 -- the lines that spell events, and the nothing behind the last one's end
 abbrev pub lines_alone : List Event → List (List ℕ)
 lines_alone events = map line_of events ++ [] ∷ []
 
--- the pieces of the schedule that a command replays
+-- the lines of the schedule that a command replays
 abbrev pub pieces_for : Option Command → List ℕ → List (List ℕ)
 pieces_for (Some (Trial seed replicas lines)) taken = lines_alone (generated seed replicas lines)
 pieces_for other taken = pieces_of 10 taken
@@ -109,7 +114,7 @@ abbrev pub outcome_of : Option Command → List ℕ → Ending → Produced
 outcome_of None taken how = ended_with status.Usage 0 before_all
 outcome_of (Some (Replay report)) taken how = replayed 1 0 (pieces_of 10 taken) how before_all
 outcome_of (Some (Generate seed replicas lines)) taken how = ended_with status.Done 0 before_all
-outcome_of (Some (Trial seed replicas lines)) taken how = replayed 1 0 (lines_alone (generated seed replicas lines)) Ended before_all
+outcome_of (Some (Trial seed replicas lines)) taken how = performed 0 (generated seed replicas lines) before_all
 
 -- the whole run
 abbrev pub outcome : List (List ℕ) → List ℕ → Ending → Produced

@@ -96,9 +96,9 @@ fn finish_line<K: Sink>(
     }
 }
 
-// A line, without its end.
+/// A line, without its end.
 #[tactic(auto, unfolding(crate::specs::Outcome::line_outcome))]
-fn begin_line<K: Sink>(
+pub fn begin_line<K: Sink>(
     alloc: Global,
     output: &mut K,
     report: Report,
@@ -126,8 +126,8 @@ fn begin_line<K: Sink>(
     }
 }
 
-// A line without the carriage return before its line feed.
-fn without_return(line: &[u8]) -> &[u8]
+/// A line without the carriage return before its line feed.
+pub fn without_return(line: &[u8]) -> &[u8]
     ensures { result.now ≡ without_return line.now }
 {
     if line.ends_with(b"\r") {

@@ -1,19 +1,19 @@
-ghost use Rattle.std.specs.Prelude.{◌≡◌, ◌<◌, ◌^◌, [], MatchResult};
+ghost use Rattle.std.specs.Prelude.{◌≡◌, ◌<◌, ◌^◌, IfOk};
 ghost use Rattle.cg_base.specs.Sets.{IsId};
 ghost use Rattle.cg_gen.specs.Generated.{generated};
 ghost use Rattle.cg_schedule.specs.Print.{line_of};
 ghost use Rattle.cg_run.specs.declared.progress.Ending.TheVariants.{Ended};
 ghost use Rattle.cg_run.specs.declared.progress.Report.TheVariants.{Tail};
 ghost use Rattle.cg_run.specs.declared.status.Status.TheVariants as status;
-ghost use Rattle.cg_run.specs.Outcome.{whole_line, at_end, lines_alone, trial_text, replayed};
+ghost use Rattle.cg_run.specs.Outcome.{line_outcome, without_return, at_end, performed, trial_text};
 ghost use Rattle.cg_run.specs.Produced.{before_all, status_of};
 ghost use Rattle.cg_run.specs.Putting.{StopsWith};
-ghost use Rattle.cg_run.specs.Streaming.{IsStage, EndsLine};
-ghost use Rattle.cg_run.specs.Performing.{Stopped};
+ghost use Rattle.cg_run.specs.UnderWay.{IsUnderWay};
+ghost use Rattle.cg_run.specs.Performing.{Performs};
 
-use crate::progress::{Progress, Report, Stage};
+use crate::progress::{Progress, Report};
 use crate::putting::{finish, put_text};
-use crate::replay::whole_line;
+use crate::replay::{begin_line, without_return};
 use crate::status::Status;
 use crate::totals::put_summary;
 use cg_base::ReplicaId;
@@ -22,57 +22,44 @@ use cg_io::Sink;
 use cg_schedule::{Event, print_line};
 use std::alloc::Global;
 
-// The line of an event is replayed.
+// The line of an event is replayed, whatever the limits of an input are.
 fn play_line<K: Sink>(
     alloc: Global,
     output: &mut K,
+    line: u64,
     event: &Event,
-    stage: Stage,
-) -> Result<Stage, Status>
+    progress: Progress,
+) -> Result<Progress, Status>
     requires few_faults { (K.view output.old).faults < 2 ^ 62 }
-    requires stands { IsStage stage }
-    ensures { MatchResult result
-        (EndsLine Tail stage (line_of event.now) (K.view output.old) (K.view output.new) [])
-        (λ status. Stopped Tail (whole_line stage.line stage.at (line_of event.now) stage.progress) (K.view output.old) (K.view output.new) status) }
+    requires under_way { IsUnderWay progress }
+    ensures performs { Performs Tail (line_outcome line (without_return (line_of event.now)) progress)
+        (K.view output.old) (K.view output.new) result }
+    ensures under_way { IfOk result (λ s. IsUnderWay s) }
 {
     let mut text = Vec::new(alloc);
     if print_line(event, &mut text).is_err() {
-        drop(stage);
+        drop(progress);
         return Err(Status::NoMemory);
     }
-    let Stage { line, at, progress } = stage;
-    match whole_line(
-        alloc,
-        output,
-        Report::Tail,
-        line,
-        at,
-        text.as_slice(),
-        progress,
-    ) {
-        Ok(progress) => {
-            let at = at + text.len() + 1;
-            let line = line + 1;
-            Ok(Stage { line, at, progress })
-        }
-        Err(status) => Err(status),
-    }
+    let text = without_return(text.as_slice());
+    begin_line(alloc, output, Report::Tail, line, text, progress)
 }
 
 // The line of an event is replayed, and the event let go.
 fn play_event<K: Sink>(
     alloc: Global,
     output: &mut K,
+    line: u64,
     event: Event,
-    stage: Stage,
-) -> Result<Stage, Status>
+    progress: Progress,
+) -> Result<Progress, Status>
     requires few_faults { (K.view output.old).faults < 2 ^ 62 }
-    requires stands { IsStage stage }
-    ensures { MatchResult result
-        (EndsLine Tail stage (line_of event) (K.view output.old) (K.view output.new) [])
-        (λ status. Stopped Tail (whole_line stage.line stage.at (line_of event) stage.progress) (K.view output.old) (K.view output.new) status) }
+    requires under_way { IsUnderWay progress }
+    ensures performs { Performs Tail (line_outcome line (without_return (line_of event)) progress)
+        (K.view output.old) (K.view output.new) result }
+    ensures under_way { IfOk result (λ s. IsUnderWay s) }
 {
-    let played = play_line(alloc, output, &event, stage);
+    let played = play_line(alloc, output, line, &event, progress);
     drop(event);
     played
 }
@@ -98,24 +85,21 @@ fn close_trial<K: Sink>(alloc: Global, output: &mut K, lines: u64, progress: &Pr
 }
 
 // The schedule has ended, and the run is let go.
-fn end_trial<K: Sink>(alloc: Global, output: &mut K, stage: Stage) -> Status
-    requires few_faults { (K.view output.old).faults < 2 ^ 62 }
-    requires stands { IsStage stage }
-    ensures { StopsWith (trial_text (replayed stage.line stage.at (lines_alone []) Ended stage.progress))
-        (status_of (replayed stage.line stage.at (lines_alone []) Ended stage.progress))
+fn end_trial<K: Sink>(alloc: Global, output: &mut K, lines: u64, progress: Progress) -> Status
+    requires { (K.view output.old).faults < 2 ^ 62 }
+    ensures { StopsWith (trial_text (at_end lines Ended progress)) (status_of (at_end lines Ended progress))
         (K.view output.old) (K.view output.new) result }
 {
-    let Stage { line, progress, .. } = stage;
-    let status = close_trial(alloc, output, line - 1, &progress);
+    let status = close_trial(alloc, output, lines, &progress);
     drop(progress);
     status
 }
 
 // Memory was refused, and the run is let go.
-fn give_up(stage: Stage) -> Status
+fn give_up(progress: Progress) -> Status
     ensures { result ≡ status.NoMemory }
 {
-    drop(stage);
+    drop(progress);
     Status::NoMemory
 }
 
@@ -129,23 +113,27 @@ pub fn try_schedule<K: Sink>(
 ) -> Status
     requires few_faults { (K.view output.old).faults < 2 ^ 62 }
     requires replicas { IsId replicas }
-    ensures { StopsWith (trial_text (replayed 1 0 (lines_alone (generated seed replicas lines)) Ended before_all))
-        (status_of (replayed 1 0 (lines_alone (generated seed replicas lines)) Ended before_all))
+    ensures { StopsWith (trial_text (performed 0 (generated seed replicas lines) before_all))
+        (status_of (performed 0 (generated seed replicas lines) before_all))
         (K.view output.old) (K.view output.new) result }
 {
     let Ok(schedule) = Generator::new(alloc, seed, ReplicaId::known(replicas), lines) else {
         return Status::NoMemory;
     };
     let mut events = schedule;
-    let mut stage = Stage::first(alloc);
+    let mut progress = Progress::new(alloc);
+    let mut gone = 0;
     loop {
         match events.next(alloc) {
-            Ok(Some(event)) => match play_event(alloc, output, event, stage) {
-                Ok(next) => stage = next,
-                Err(status) => return status,
-            },
-            Ok(None) => return end_trial(alloc, output, stage),
-            Err(_) => return give_up(stage),
+            Ok(Some(event)) => {
+                match play_event(alloc, output, gone + 1, event, progress) {
+                    Ok(next) => progress = next,
+                    Err(status) => return status,
+                }
+                gone += 1;
+            }
+            Ok(None) => return end_trial(alloc, output, gone, progress),
+            Err(_) => return give_up(progress),
         }
     }
 }
