@@ -8,3 +8,4 @@ pub mod Lines
 pub mod Shows
 pub mod Entries
 pub mod Reports
+pub mod Tails

@@ -1,5 +1,5 @@
 -- That a report tells what its steps have shown.
-use Rattle.std.specs.Prelude.{◌≡◌, ℕ, suc, List, [], ◌∷◌, ◌++◌, length, if◌then◌else◌}
+use Rattle.std.specs.Prelude.{◌≡◌, ◌==◌, ℕ, suc, false, List, [], ◌∷◌, ◌++◌, length, if◌then◌else◌}
 use Rattle.cg_records.specs.Limits.{Each}
 use Rattle.cg_report.specs.declared.entry.Entry.{Entry}
 use Rattle.cg_report.specs.EntryText.{is_silent, entry_text}
@@ -28,3 +28,15 @@ pub record IsTranscript (es : List Entry) : Type 0 where
 -- two reports with one text are those of one transcript, up to silent entries at the end
 abbrev pub ReportsTellTheirTranscripts : Type 0
 ReportsTellTheirTranscripts = (es fs : List Entry) → IsTranscript es → IsTranscript fs → report_text 0 es ≡ report_text 0 fs → trimmed es ≡ trimmed fs
+
+-- the last line that a run puts: one line, with its end
+pub record IsTail (tail : List ℕ) : Type 0 where
+  pub line : List ℕ
+  pub whole : tail ≡ line ++ 10 ∷ []
+  pub alone : Each (λ byte. (byte == 10) ≡ false) line
+
+-- the same of reports with their tails, and the tails are one
+abbrev pub WholeReportsTellTheirTranscripts : Type 0
+WholeReportsTellTheirTranscripts =
+    (es fs : List Entry) (tail end : List ℕ) → IsTranscript es → IsTranscript fs → IsTail tail → IsTail end → report_text 0 es ++ tail ≡ report_text 0 fs ++ end
+    → (trimmed es ≡ trimmed fs) × (tail ≡ end)

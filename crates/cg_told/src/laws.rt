@@ -1,7 +1,8 @@
-ghost use Rattle.cg_told.specs.Told.{ReportsTellTheirTranscripts};
+ghost use Rattle.cg_told.specs.Told.{ReportsTellTheirTranscripts, WholeReportsTellTheirTranscripts};
 
-/// Two reports without their tails, with one text, come from transcripts that differ in silent entries at their ends alone, where no
-/// number in them has more than 64 digits.
+/// Two reports with one text, without their tails or with them, come from transcripts that differ in silent entries at their ends alone,
+/// where no number in them has more than 64 digits; and their tails are one.
 pub fn reports_tell_their_transcripts()
-    ensures { ReportsTellTheirTranscripts }
+    ensures entries { ReportsTellTheirTranscripts }
+    ensures whole { WholeReportsTellTheirTranscripts }
 {}
