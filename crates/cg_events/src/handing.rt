@@ -83,7 +83,7 @@ fn copy(
     ensures copy { IfOk result (λ found. found ≡ new_copy state.old p joiner) }
     ensures world { state.new ≡ state.old }
 {
-    let number = state.transfers.next_number(p)?;
+    let number = state.given.next_number(state.seats.alloc(), p)?;
     copy_of(state, p, number, joiner)
 }
 

@@ -8,6 +8,7 @@ mod admission;
 mod asking;
 mod beginning;
 mod event;
+mod given;
 mod going;
 mod grouping;
 mod handing;

@@ -11,6 +11,7 @@ ghost use Rattle.cg_model.specs.Touched.{new_lines_of};
 ghost use Rattle.cg_events.specs.Going.{said, with_news};
 ghost use Rattle.cg_events.specs.Seating.{with_left};
 
+use crate::given::Given;
 use crate::made::MadeCut;
 use crate::seats::Seats;
 use crate::transfers::Transfers;
@@ -23,13 +24,15 @@ use cg_show::Lines;
 use std::alloc::Global;
 use std::marker::Model;
 
-/// The group; the replicas that have begun; the snapshots under way; the global order of actions; the last printed
-/// line of each replica; the cut of the actions that were shown as made; and the replicas that were named.
+/// The group; the replicas that have begun; the snapshots under way, and how many each replica has given, which clauses
+/// don't see; the global order of actions; the last printed line of each replica; the cut of the actions that were shown
+/// as made; and the replicas that were named.
 #[derive(Drop)]
 pub struct WorldState {
     pub(crate) group: Group<Letter>,
     pub(crate) seats: Seats,
     pub(crate) transfers: Transfers,
+    pub(crate) given: Given,
     pub(crate) order: IdList,
     pub(crate) lines: Lines,
     pub(crate) made: MadeCut,
@@ -53,6 +56,7 @@ impl WorldState {
             group: Group::new(alloc),
             seats: Seats::new(alloc),
             transfers: Transfers::new(alloc),
+            given: Given::none(),
             order: IdList::new(alloc),
             lines: Lines::new(alloc),
             made: MadeCut::zero(),

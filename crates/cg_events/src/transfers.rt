@@ -1,19 +1,16 @@
 //! The snapshots under way.
-ghost use Rattle.std.specs.Prelude.{◌≡◌, ◌++◌, ◌∷◌, [], ◌==◌, ◌&&◌, not, find, filter, position, OnOk, IfOk};
-ghost use Rattle.cg_records.specs.Limits.{IsNumber};
+ghost use Rattle.std.specs.Prelude.{◌≡◌, ◌++◌, ◌∷◌, [], ◌==◌, ◌&&◌, not, find, filter, position, OnOk};
 ghost use Rattle.cg_model.specs.World.{Snapshot};
 
-use cg_base::{Cut, NoMemory, ReplicaId};
+use cg_base::{NoMemory, ReplicaId};
 use cg_transfer::Transfer;
 use std::alloc::Global;
 use std::marker::Model;
 
-/// The snapshots under way, in the order of their last transfers, and how many each replica has given so far, once one has.
-/// Clauses see the snapshots.
+/// The snapshots under way, in the order of their last transfers.
 #[derive(Drop)]
 pub(crate) struct Transfers {
     list: Vec<Transfer>,
-    given: Option<Box<Cut>>,
 }
 
 impl Model for Transfers {
@@ -24,9 +21,6 @@ impl Model for Transfers {
 
     ghost view = { λ t. t.list.items };
 }
-
-// more snapshots of one replica than are made in any run
-const MOST: u64 = 1 << 62;
 
 // It is the giver's for the joiner.
 fn is_between(transfer: &Transfer, giver: ReplicaId, joiner: ReplicaId) -> bool
@@ -62,7 +56,6 @@ impl Transfers {
     {
         Transfers {
             list: Vec::new(alloc),
-            given: None,
         }
     }
 
@@ -100,24 +93,5 @@ impl Transfers {
     {
         self.list.push(transfer)?;
         Ok(())
-    }
-
-    /// The number of the next snapshot that the replica gives, from 1.
-    pub(crate) fn next_number(&mut self, giver: ReplicaId) -> Result<u64, NoMemory>
-        ensures number { IfOk result IsNumber }
-        ensures list { self.new ≡ self.old }
-    {
-        let mut given = match self.given.take() {
-            Some(given) => given,
-            None => Box::new(*self.list.allocator(), Cut::zero())?,
-        };
-        let last = given.get(giver);
-        if last >= MOST {
-            self.given = Some(given);
-            return Err(NoMemory);
-        }
-        given.raise(giver, last + 1);
-        self.given = Some(given);
-        Ok(last + 1)
     }
 }
