@@ -6,6 +6,7 @@
 use cg_base::{Bytes, NoMemory};
 use cg_io::{StdSink, StdSource};
 use cg_run::{ArgText, Status, run};
+use cg_words::Explained;
 use std::alloc::Global;
 use std::process::ExitCode;
 use std::{env, io};
@@ -35,12 +36,24 @@ fn words_of(rt: &(impl env::Env + AllocGlobal)) -> Result<Vec<ArgText>, NoMemory
     Ok(words)
 }
 
-fn main(rt: HostRuntime) -> ExitCode {
-    let Ok(words) = words_of(&rt) else {
-        return ExitCode::from(Status::NoMemory.number());
-    };
+fn run_words(rt: &HostRuntime, words: &[ArgText]) -> Status {
     let mut input = StdSource::new(rt.reader());
-    let mut output = StdSink::new(io::writer(&rt));
-    let status = run(rt.alloc(), &words, &mut input, &mut output);
+    let mut output = StdSink::new(io::writer(rt));
+    run(rt.alloc(), words, &mut input, &mut output)
+}
+
+// Tells people what the report's last line tells programs. Where that fails nothing else changes.
+fn explain(rt: &impl Eprint, status: Status) {
+    if status != Status::Done {
+        let _told = eprintln!(rt; "congruity: {}", Explained(status));
+    }
+}
+
+fn main(rt: HostRuntime) -> ExitCode {
+    let status = match words_of(&rt) {
+        Ok(words) => run_words(&rt, words.as_slice()),
+        Err(NoMemory) => Status::NoMemory,
+    };
+    explain(&rt, status);
     ExitCode::from(status.number())
 }

@@ -1,0 +1,61 @@
+use crate::limits::bound;
+use crate::refusals::{advice, subject};
+use crate::syntax::misreading;
+use cg_group::Reason;
+use cg_run::Status;
+use std::fmt;
+use std::fmt::{Display, Formatter, Write};
+
+/// A status, in words for people.
+#[derive(Clone, Copy, Debug)]
+pub struct Explained(pub Status);
+
+impl Display for Explained {
+    fn fmt<W: Write>(&self, f: &mut Formatter<W>) -> fmt::Result {
+        match self.0 {
+            Status::Done => f.write_str("the command was carried out to its end"),
+            Status::Usage => f.write_str(
+                "the words are no command; give `replay` or `check` a schedule by < FILE, or give `generate` or `trial` \
+                 SEED (a number of 64 bits), REPLICAS (1 to 32) and LINES (3 to 200000)",
+            ),
+            Status::Syntax { line, reason } => {
+                let words = misreading(reason);
+                write!(f, "line {line} can't be read: {words} (reason {reason})")
+            }
+            Status::Refused { line, reason } => {
+                write!(f, "line {line} isn't admitted: {}", Refusal(reason))
+            }
+            Status::ReadFault => f.write_str(
+                "reading the input failed; give a file that can be read, by < FILE",
+            ),
+            Status::WriteFault => f.write_str(
+                "writing the output failed, so it isn't whole; see whether the disk is full or a pipe was closed",
+            ),
+            Status::Limit { line, what } => {
+                write!(f, "line {line} passes a limit: {}", bound(what))
+            }
+            Status::NoMemory => f.write_str(
+                "memory was refused, so the output isn't whole; give more memory, or a shorter schedule",
+            ),
+            Status::NoEnd { lines } => write!(
+                f,
+                "the schedule has no last line `end` (its lines: {lines}); add it"
+            ),
+        }
+    }
+}
+
+// the reason, its value where it has one, and its number
+#[derive(Clone, Copy, Debug)]
+struct Refusal(Reason);
+
+impl Display for Refusal {
+    fn fmt<W: Write>(&self, f: &mut Formatter<W>) -> fmt::Result {
+        let number = self.0.number();
+        f.write_str(subject(self.0))?;
+        if let Some(value) = self.0.value() {
+            write!(f, " {value}")?;
+        }
+        write!(f, "{} (reason {number})", advice(self.0))
+    }
+}
