@@ -148,7 +148,9 @@ lines-perform (e ∷ events) gone at s few small short =
     let none : limit_of n (length line) (at + length line + 1) ≡ None = none-passed n (length line) (at + length line + 1) short.0 (omega (arith, small, size)) (omega (arith, few)) in
     let rest : (s' : Progress) → more s' ≡ performed n events s' =
     λ s'. lines-perform events n (at + length line + 1) s' (omega (arith, few)) (omega (arith, small, size)) short.1 in
-    next-line n at e events s ∙ ap (λ o. and_then (unless_passed o n s p) more) none ∙ (λ i. and_then p (λ s'. rest s' i))
+    let first : and_then (whole_line n at line s) more ≡ and_then p more = ap (λ o. and_then (unless_passed o n s p) more) none in
+    let others : and_then p more ≡ and_then p (performed n events) = λ i. and_then p (λ s'. rest s' i) in
+    next-line n at e events s ∙ first ∙ others
 
 pub trials-are-replays : TrialsAreReplays
 trials-are-replays seed replicas lines is limits report taken how =

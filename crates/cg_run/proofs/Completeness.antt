@@ -1,5 +1,5 @@
 -- Where no take failed a run comes to what its whole input comes to: a front that comes to something comes to the same.
-use Rattle.std.proofs.Common.{◌≡◌, ◌⊎◌, ◌≤◌, ℕ, ◌+◌, ◌-◌, ◌==◌, List, [], ◌∷◌, ◌++◌, length, Option, Some, None, Bool, true, false, cond, refl, sym, ap, subst, ◌∙◌, arith, length-append, inl, inr}
+use Rattle.std.proofs.Common.{◌≡◌, ◌⊎◌, ◌≤◌, ℕ, ◌+◌, ◌-◌, ◌==◌, nat_lt, List, [], ◌∷◌, ◌++◌, length, Option, Some, None, Bool, true, false, cond, refl, sym, ap, subst, ◌∙◌, arith, length-append, inl, inr}
 use Rattle.std.proofs.lemmas.Bool.{true≢false}
 use Rattle.std.proofs.lemmas.List.{append-nil}
 use Rattle.std.specs.Io.KnownBytes.{Consumes, IsAtEnd}
@@ -68,7 +68,7 @@ not-within : (n len end : ℕ) (what : Limit) → limit_of n len end ≡ Some wh
 not-within n len end limit.Line e within = within
 not-within n len end limit.Input e within = within
 not-within n len end limit.Lines e within = within
-not-within n len end limit.Steps e within = no-steps _ _ _ e
+not-within n len end limit.Steps e within = no-steps (nat_lt 32768 len) (nat_lt 8388608 end) (nat_lt 200000 n) e
 
 -- a line of which a front passes a limit passes one
 limit-later : (n len end longer later : ℕ) (what : Limit) → len ≤ longer → end ≤ later → limit_of n len end ≡ Some what → limit_of n longer later ≡ None → ⊥
@@ -196,8 +196,7 @@ command-whole (Some (Generate seed replicas lines)) all taken how old new consum
 command-whole (Some (Trial seed replicas lines)) all taken how old new consumed cause none has st is within = refl
 
 pub Runs-complete : (c : Option Command) (old new : SourceView) (v v' : SinkView) (st : Status) → Runs c old new v v' st → Completes c old new v v' st
-Runs-complete c old new v v' st runs = λ all has within none unfailed.
-elim (all-put (text_put c (outcome_of c runs.taken runs.ending)) (status_of (outcome_of c runs.taken runs.ending)) v v' st runs.ends unfailed) [
+Runs-complete c old new v v' st runs all has within none unfailed = elim (all-put (text_put c (outcome_of c runs.taken runs.ending)) (status_of (outcome_of c runs.taken runs.ending)) v v' st runs.ends unfailed) [
   | inl refused ↦ inl refused
   | inr put ↦
       let same = command-whole c all runs.taken runs.ending old new runs.consumed runs.cause none has st put.0 within in

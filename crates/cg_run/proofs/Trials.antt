@@ -67,7 +67,7 @@ pub record Plays (whole : Produced) (v v1 : SinkView) (lines gone : ℕ) (events
 
 -- the whole schedule is still to come
 pub Plays-begin : (lines : ℕ) (events : List Event) (v : SinkView) (s : Progress) → length events ≡ lines → IsUnderWay s → Plays (performed 0 events s) v v lines 0 events s
-Plays-begin lines events v s all under = record { goes = record { made = []; put = Puts-none v; same = refl }; under_way = under; counted = all }
+Plays-begin lines events v s all under = record { goes = record { made = []; put = Puts-none v; same = refl }; under_way = under; counted = omega (arith, all) }
 
 -- the run ends in what is still to come
 pub Plays-stop : (whole : Produced) (v v1 v2 : SinkView) (lines gone : ℕ) (events : List Event) (s : Progress) (status : Status) → Plays whole v v1 lines gone events s

@@ -9,8 +9,9 @@ use Rattle.cg_run.proofs.trial.try_schedule.Goals as goal
 
 pub loop-event-init : goal.loop-event-init
 loop-event-init g c =
-    Plays-begin c.args.lines (generated c.args.seed c.args.replicas c.args.lines) (g.K.Sink.view c.args.output.now) before_all
-    (generated-length c.args.seed c.args.replicas c.args.lines) before_under_way
+    rw (c.in-Ok.ensures, c.known.ensures, c.new-progress.ensures)
+    (Plays-begin c.args.lines (generated c.args.seed c.args.replicas c.args.lines) (g.K.Sink.view c.args.output.now) before_all
+    (generated-length c.args.seed c.args.replicas c.args.lines) before_under_way)
 
 pub returns-in-Err-play_event : goal.returns-in-Err-play_event
 returns-in-Err-play_event g c =
