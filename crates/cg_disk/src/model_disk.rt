@@ -10,9 +10,6 @@ use cg_base::NoMemory;
 use std::alloc::Global;
 use std::mem::replace;
 
-#[cfg(test)]
-mod tests;
-
 /// A disk in memory whose calls can be made to fail. It keeps what it needs to tell what a crash may have left at each
 /// moment since the last `begin`: each sync point has the writes that it settled, with the bytes that they wrote over.
 #[derive(Drop)]

@@ -18,6 +18,3 @@ mod writing;
 pub use generator::Generator;
 pub use laws::generated_schedules_are_whole;
 pub use writing::generate;
-
-#[cfg(test)]
-mod tests;

@@ -6,8 +6,6 @@
 
 mod letter;
 mod opening;
-#[cfg(test)]
-mod tests;
 
 pub use letter::Letter;
 pub use opening::open_all;
