@@ -6,7 +6,6 @@ use cg_base::{ActionId, NoMemory, ReplicaId};
 use cg_db::Db;
 use cg_text::Txt;
 use std::alloc::Global;
-use std::test::Fail;
 
 // applies an action of one command
 fn run(alloc: Global, db: &mut Db, cmd: Cmd) -> Result<Effect, NoMemory>
@@ -25,24 +24,44 @@ fn run(alloc: Global, db: &mut Db, cmd: Cmd) -> Result<Effect, NoMemory>
     effect
 }
 
-#[test]
-fn an_action_that_fails_changes_nothing(rt: HostRuntime) -> Result<(), Fail> {
-    let alloc = rt.alloc();
-    let (x, y) = (Txt::new(alloc, "x")?, Txt::new(alloc, "y")?);
-    let (source, target) = (Txt::new(alloc, "x")?, Txt::new(alloc, "y")?);
+// adds 5 to "x"
+fn raise(alloc: Global, db: &mut Db) -> Result<Effect, NoMemory> {
     let key = Txt::new(alloc, "x")?;
-    let mut db = Db::new(alloc);
-    assert!(rt; run(alloc, &mut db, Cmd::Inc { key, by: 5 }) == Ok(Effect::Done));
+    run(alloc, db, Cmd::Inc { key, by: 5 })
+}
 
-    // "x" has no 7 to give
+// moves 7 from "x" to "y"
+fn shift(alloc: Global, db: &mut Db) -> Result<Effect, NoMemory> {
+    let source = Txt::new(alloc, "x")?;
+    let target = Txt::new(alloc, "y")?;
     let shift = Cmd::Move {
         source,
         target,
         amount: 7,
     };
-    assert!(rt; run(alloc, &mut db, shift) == Ok(Effect::Aborted(1)));
-    assert!(rt; matches!(db.value(&x), Some(Value::Int(5))));
-    assert!(rt; db.value(&y).is_none());
+    run(alloc, db, shift)
+}
+
+fn number_at(alloc: Global, db: &Db, key: &str) -> Result<Option<i64>, NoMemory> {
+    let key = Txt::new(alloc, key)?;
+    let number = match db.value(&key) {
+        Some(Value::Int(number)) => Some(*number),
+        _ => None,
+    };
+    Ok(number)
+}
+
+#[test]
+fn an_action_that_fails_changes_nothing(rt: HostRuntime) {
+    let alloc = rt.alloc();
+    let mut db = Db::new(alloc);
+    let raised = raise(alloc, &mut db);
+    let shifted = shift(alloc, &mut db);
+    let x = number_at(alloc, &db, "x");
+    let y = number_at(alloc, &db, "y");
     drop(db);
-    Ok(())
+    assert!(rt; raised == Ok(Effect::Done));
+    assert!(rt; shifted == Ok(Effect::Aborted(1)));
+    assert!(rt; x == Ok(Some(5)));
+    assert!(rt; y == Ok(None));
 }

@@ -156,4 +156,4 @@ pub trials-are-replays : TrialsAreReplays
 trials-are-replays seed replicas lines is limits report taken how =
     let events = generated seed replicas lines in
     ap (λ pieces. replayed 1 0 pieces Ended before_all) (pieces-are events (generated-within seed replicas lines is))
-    ∙ lines-perform events 0 0 before_all limits.few limits.small limits.short
+    ∙ lines-perform events 0 0 before_all (omega (arith, limits.few)) (omega (arith, limits.small)) limits.short

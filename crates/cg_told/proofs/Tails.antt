@@ -1,5 +1,5 @@
 -- The last line of a text is told apart from what stands before it, where that is whole lines.
-use Rattle.std.proofs.Common.{◌≡◌, ◌⊎◌, ℕ, zero, suc, ◌+◌, ◌<◌, ◌==◌, Bool, true, false, List, [], ◌∷◌, ◌++◌, codes, decimal, flat_map, cond, refl, sym, ap, ◌∙◌, append_assoc, true≢false, inl, inr, ⊎_elim, arith}
+use Rattle.std.proofs.Common.{◌≡◌, ◌⊎◌, ℕ, suc, ◌+◌, ◌<◌, ◌==◌, Bool, true, false, List, [], ◌∷◌, ◌++◌, codes, decimal, flat_map, refl, sym, ap, ◌∙◌, append_assoc, true≢false, inl, inr, ⊎_elim, arith}
 use Rattle.std.proofs.lemmas.Bool.{cond_both}
 use Rattle.std.proofs.lemmas.List.{append-nil}
 use Rattle.cg_base.specs.Text.{is_nil}
@@ -7,7 +7,7 @@ use Rattle.cg_records.specs.Limits.{Each}
 use Rattle.cg_report.specs.declared.entry.Entry.{Entry}
 use Rattle.cg_report.specs.EntryText.{made_text, made_line, order_text, order_line, ended_line, reply_text, reply_line, shown_text, shown_line, body_text, is_silent, entry_text}
 use Rattle.cg_report.specs.LineText.{line_text}
-use Rattle.cg_told.specs.Told.{report_text, trimmed, IsTail, ReportsTellTheirTranscripts, WholeReportsTellTheirTranscripts}
+use Rattle.cg_told.specs.Told.{report_text, IsTail, ReportsTellTheirTranscripts, WholeReportsTellTheirTranscripts}
 
 -- ---- whole lines
 
@@ -83,7 +83,7 @@ some-end : (x : ℕ) (xs : List ℕ) → AreLines (x ∷ xs) → 0 < ends_in (x 
 some-end x xs are = ⊎_elim
     (λ (none : x ∷ xs ≡ []). absurd (true≢false (sym (ap is_nil none))))
     (λ (ended : (ys : List ℕ) × (x ∷ xs ≡ ys ++ 10 ∷ [])).
-      (let all : ends_in (x ∷ xs) ≡ ends_in ended.0 + ends_in (10 ∷ []) = ap ends_in ended.1 ∙ ends-append ended.0 (10 ∷ []) in omega (arith, all)))
+    (let all : ends_in (x ∷ xs) ≡ ends_in ended.0 + ends_in (10 ∷ []) = ap ends_in ended.1 ∙ ends-append ended.0 (10 ∷ []) in omega (arith, all)))
     are
 
 lines-rest : (x : ℕ) (xs : List ℕ) → AreLines (x ∷ xs) → AreLines xs

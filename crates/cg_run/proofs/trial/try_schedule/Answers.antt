@@ -1,4 +1,4 @@
-use Rattle.std.proofs.Common.{[], ◌∷◌, ap, arith, length, ◌∙◌}
+use Rattle.std.proofs.Common.{[], ◌∷◌}
 use Rattle.cg_gen.specs.Generated.{generated}
 use Rattle.cg_gen.specs.GeneratedLaws.{generated-length}
 use Rattle.cg_run.specs.Outcome.{performed}
