@@ -36,11 +36,7 @@ impl Given {
     }
 
     /// The number of the next snapshot that the replica gives: it counts them from 1, so that none has the number of another.
-    pub(crate) fn next_number(
-        &mut self,
-        alloc: Global,
-        giver: ReplicaId,
-    ) -> Result<u64, NoMemory>
+    pub(crate) fn next_number(&mut self, alloc: Global, giver: ReplicaId) -> Result<u64, NoMemory>
         ensures number { IfOk result IsNumber }
         ensures counted { IfOk result (λ n. n ≡ suc (index_in self.old giver)) }
         ensures given { MatchResult result (λ n. self.new ≡ raise self.old (record { creator = giver; index = n })) (λ e. self.new ≡ self.old) }
