@@ -1,4 +1,4 @@
-//! Some lines of use for each layer that stands alone, as docs/LIBRARIES.md shows them.
+//! Some lines of use for each layer below a replica that stands alone, as docs/LIBRARIES.md shows them.
 //!
 //! Tests alone: each makes a value, makes a few calls, and asserts what comes of them by the rules of the layer. They are
 //! meant to be copied, so each stands by itself, with what it imports; nothing stands on this crate.
@@ -18,9 +18,5 @@ mod knowledge;
 mod plan;
 #[cfg(test)]
 mod queue;
-#[cfg(test)]
-mod replica;
-#[cfg(test)]
-mod store;
 #[cfg(test)]
 mod voting;

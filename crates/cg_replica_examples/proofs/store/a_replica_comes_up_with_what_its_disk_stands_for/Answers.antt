@@ -2,8 +2,8 @@ use Rattle.std.proofs.Common.{subst, sym}
 use Rattle.cg_stored.specs.Stored.{stored_of}
 use Rattle.cg_stored.specs.Agreeing.{Agrees}
 use Rattle.cg_client.specs.Replica.{Held}
-use Rattle.cg_examples.proofs.Starting.{fresh_agrees}
-use Rattle.cg_examples.proofs.store.a_replica_comes_up_with_what_its_disk_stands_for.Goals as goal
+use Rattle.cg_replica_examples.proofs.Starting.{fresh_agrees}
+use Rattle.cg_replica_examples.proofs.store.a_replica_comes_up_with_what_its_disk_stands_for.Goals as goal
 
 -- src/store.rt: what a new replica holds
 pub create-created-requires-clause-agrees : goal.create-created-requires-clause-agrees

@@ -3,7 +3,7 @@
 //! What comes is put into a text without a word on want of memory: that leaves a gap, which the comparison finds. So no
 //! function has an exit while it holds something, which is what would cost most to prove.
 
-use cg_base::{IdSet, ReplicaId, put, put_number, put_shown};
+use cg_base::{put, put_number, put_shown};
 use std::fmt::Display;
 use std::process::Abort;
 
@@ -27,27 +27,6 @@ pub(crate) fn number(text: &str) -> u64 {
         Ok(number) => number,
         Err(_) => 0,
     }
-}
-
-/// The replica that a text is, or the first one.
-pub(crate) fn id(text: &str) -> ReplicaId {
-    match ReplicaId::new((number(text) % 256) as u8) {
-        Some(id) => id,
-        None => ReplicaId::known(1),
-    }
-}
-
-/// The replicas of a text as `{1,2}`, each below 10.
-pub(crate) fn set(text: &str) -> IdSet {
-    let mut set = IdSet::empty();
-    for digit in text.as_bytes() {
-        if digit.is_ascii_digit() {
-            if let Some(id) = ReplicaId::new(digit.saturating_sub(b'0')) {
-                set.add(id);
-            }
-        }
-    }
-    set
 }
 
 pub(crate) fn say(out: &mut Vec<u8>, text: &str) {
