@@ -3,8 +3,7 @@
 
 use cg_base::ReplicaId;
 use cg_group::Reason;
-use cg_run::{Limit, Status};
-use cg_words::Explained;
+use cg_run::{Explained, Limit, Status};
 use std::alloc::{AllocError, AllocGlobal};
 use std::test::Fail;
 

@@ -5,8 +5,7 @@
 
 use cg_base::{Bytes, NoMemory};
 use cg_io::{StdSink, StdSource};
-use cg_run::{ArgText, Status, run};
-use cg_words::Explained;
+use cg_run::{ArgText, Explained, Status, run};
 use std::alloc::Global;
 use std::process::ExitCode;
 use std::{env, io};

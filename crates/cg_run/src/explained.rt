@@ -1,8 +1,8 @@
-use crate::limits::bound;
+use crate::bounds::bound;
 use crate::refusals::{advice, subject};
+use crate::status::Status;
 use crate::syntax::misreading;
 use cg_group::Reason;
-use cg_run::Status;
 use std::fmt;
 use std::fmt::{Display, Formatter, Write};
 

@@ -1,4 +1,4 @@
-use cg_run::Limit;
+use crate::status::Limit;
 
 /// What passed the limit, how far it goes, and what to do.
 pub(crate) fn bound(what: Limit) -> &'static str {
