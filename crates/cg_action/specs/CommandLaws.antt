@@ -71,9 +71,11 @@ target_in other = []
 
 put_field : IsField (IsOf 1) command_behind put_reading
 unfolding put_reading
-put_field = field_two Put key_in value_in IsKey IsValue text spelled_value key_reading value_reading (IsOf 1) command_behind key_field value_field parts (λ k v kh vh. (((kh, vh), refl), refl, refl))
+put_field = field_two Put key_in value_in IsKey IsValue text spelled_value key_reading value_reading (IsOf 1)
+    command_behind key_field value_field parts (λ k v kh vh. (((kh, vh), refl), refl, refl))
   where
-    parts : (c : Cmd) → IsOf 1 c → IsKey (key_in c) × IsValue (value_in c) × (Put (key_in c) (value_in c) ≡ c) × (text (key_in c) ++ spelled_value (value_in c) ≡ command_behind c)
+    parts : (c : Cmd) → IsOf 1 c → IsKey (key_in c) × IsValue (value_in c) × (Put (key_in c) (value_in c) ≡ c)
+        × (text (key_in c) ++ spelled_value (value_in c) ≡ command_behind c)
     parts (Put key value) has = (has.0.0, has.0.1, refl, refl)
     parts (Del key) has = absurd (omega arith)
     parts (Inc key by) has = absurd (omega arith)
@@ -83,7 +85,8 @@ put_field = field_two Put key_in value_in IsKey IsValue text spelled_value key_r
 
 del_field : IsField (IsOf 2) command_behind del_reading
 unfolding del_reading
-del_field = field_one Del key_in IsKey text key_reading (IsOf 2) command_behind key_field parts (λ k kh. ((kh, refl), refl))
+del_field = field_one Del key_in IsKey text key_reading (IsOf 2) command_behind key_field
+    parts (λ k kh. ((kh, refl), refl))
   where
     parts : (c : Cmd) → IsOf 2 c → IsKey (key_in c) × (Del (key_in c) ≡ c) × (text (key_in c) ≡ command_behind c)
     parts (Put key value) has = absurd (omega arith)
@@ -95,9 +98,11 @@ del_field = field_one Del key_in IsKey text key_reading (IsOf 2) command_behind 
 
 inc_field : IsField (IsOf 3) command_behind inc_reading
 unfolding inc_reading
-inc_field = field_two Inc key_in number_in IsKey (FitsSigned w64) text signed64 key_reading take_i64 (IsOf 3) command_behind key_field i64_field parts (λ k n kh nh. (((kh, nh), refl), refl, refl))
+inc_field = field_two Inc key_in number_in IsKey (FitsSigned w64) text signed64 key_reading take_i64 (IsOf 3)
+    command_behind key_field i64_field parts (λ k n kh nh. (((kh, nh), refl), refl, refl))
   where
-    parts : (c : Cmd) → IsOf 3 c → IsKey (key_in c) × FitsSigned w64 (number_in c) × (Inc (key_in c) (number_in c) ≡ c) × (text (key_in c) ++ signed64 (number_in c) ≡ command_behind c)
+    parts : (c : Cmd) → IsOf 3 c → IsKey (key_in c) × FitsSigned w64 (number_in c) × (Inc (key_in c) (number_in c) ≡ c)
+        × (text (key_in c) ++ signed64 (number_in c) ≡ command_behind c)
     parts (Put key value) has = absurd (omega arith)
     parts (Del key) has = absurd (omega arith)
     parts (Inc key by) has = (has.0.0, has.0.1, refl, refl)
@@ -108,10 +113,12 @@ inc_field = field_two Inc key_in number_in IsKey (FitsSigned w64) text signed64 
 cas_field : IsField (IsOf 4) command_behind cas_reading
 unfolding cas_reading
 cas_field =
-    field_three Cas key_in want_in value_in IsKey IsWant IsValue text spelled_want spelled_value key_reading want_reading value_reading (IsOf 4) command_behind key_field want_field value_field parts
+    field_three Cas key_in want_in value_in IsKey IsWant IsValue text spelled_want spelled_value key_reading
+    want_reading value_reading (IsOf 4) command_behind key_field want_field value_field parts
     (λ k w v kh wh vh. (((kh, wh, vh), refl), refl, refl, refl))
   where
-    parts : (c : Cmd) → IsOf 4 c → IsKey (key_in c) × IsWant (want_in c) × IsValue (value_in c) × (Cas (key_in c) (want_in c) (value_in c) ≡ c)
+    parts : (c : Cmd) → IsOf 4 c → IsKey (key_in c) × IsWant (want_in c) × IsValue (value_in c)
+        × (Cas (key_in c) (want_in c) (value_in c) ≡ c)
         × (text (key_in c) ++ (spelled_want (want_in c) ++ spelled_value (value_in c)) ≡ command_behind c)
     parts (Put key value) has = absurd (omega arith)
     parts (Del key) has = absurd (omega arith)
@@ -123,10 +130,12 @@ cas_field =
 move_field : IsField (IsOf 5) command_behind move_reading
 unfolding move_reading
 move_field =
-    field_three Move key_in target_in number_in IsKey IsKey (λ n. FitsSigned w64 n × (pos 0 ≤ℤ n)) text text signed64 key_reading key_reading amount_reading (IsOf 5) command_behind key_field key_field amount_field parts
+    field_three Move key_in target_in number_in IsKey IsKey (λ n. FitsSigned w64 n × (pos 0 ≤ℤ n)) text text signed64
+    key_reading key_reading amount_reading (IsOf 5) command_behind key_field key_field amount_field parts
     (λ s t n sh th nh. (((sh, th, nh.0, nh.1), refl), refl, refl, refl))
   where
-    parts : (c : Cmd) → IsOf 5 c → IsKey (key_in c) × IsKey (target_in c) × (FitsSigned w64 (number_in c) × (pos 0 ≤ℤ number_in c)) × (Move (key_in c) (target_in c) (number_in c) ≡ c)
+    parts : (c : Cmd) → IsOf 5 c → IsKey (key_in c) × IsKey (target_in c)
+        × (FitsSigned w64 (number_in c) × (pos 0 ≤ℤ number_in c)) × (Move (key_in c) (target_in c) (number_in c) ≡ c)
         × (text (key_in c) ++ (text (target_in c) ++ signed64 (number_in c)) ≡ command_behind c)
     parts (Put key value) has = absurd (omega arith)
     parts (Del key) has = absurd (omega arith)
@@ -137,9 +146,11 @@ move_field =
 
 need_field : IsField (IsOf 6) command_behind need_reading
 unfolding need_reading
-need_field = field_two Need key_in want_in IsKey IsWant text spelled_want key_reading want_reading (IsOf 6) command_behind key_field want_field parts (λ k w kh wh. (((kh, wh), refl), refl, refl))
+need_field = field_two Need key_in want_in IsKey IsWant text spelled_want key_reading want_reading (IsOf 6)
+    command_behind key_field want_field parts (λ k w kh wh. (((kh, wh), refl), refl, refl))
   where
-    parts : (c : Cmd) → IsOf 6 c → IsKey (key_in c) × IsWant (want_in c) × (Need (key_in c) (want_in c) ≡ c) × (text (key_in c) ++ spelled_want (want_in c) ≡ command_behind c)
+    parts : (c : Cmd) → IsOf 6 c → IsKey (key_in c) × IsWant (want_in c) × (Need (key_in c) (want_in c) ≡ c)
+        × (text (key_in c) ++ spelled_want (want_in c) ≡ command_behind c)
     parts (Put key value) has = absurd (omega arith)
     parts (Del key) has = absurd (omega arith)
     parts (Inc key by) has = absurd (omega arith)
@@ -176,7 +187,8 @@ command_is (Need key want) has = simp append_assoc
 
 pub command_field : IsField IsCommand spelled_command command_reading
 unfolding command_reading
-command_field = field_tagged command_tag 1 6 IsCommand command_behind spelled_command command_of_tag (omega arith) command_tags command_is command_of_tag_field
+command_field = field_tagged command_tag 1 6 IsCommand command_behind spelled_command command_of_tag (omega arith)
+    command_tags command_is command_of_tag_field
 
 -- ---- queries
 
@@ -199,7 +211,8 @@ abbrev Asks : ℕ → Query → Type 0
 Asks tag q = IsQuery q × (query_tag q ≡ tag)
 
 get_field : IsField (Asks 1) query_behind_tag (key_reading >>= λ key. done (Get key))
-get_field = field_one Get text_in IsKey text key_reading (Asks 1) query_behind_tag key_field parts (λ t has. ((has, refl), refl))
+get_field = field_one Get text_in IsKey text key_reading (Asks 1) query_behind_tag key_field
+    parts (λ t has. ((has, refl), refl))
   where
     parts : (q : Query) → Asks 1 q → IsKey (text_in q) × (Get (text_in q) ≡ q) × (text (text_in q) ≡ query_behind_tag q)
     parts (Get key) has = (has.0, refl, refl)
@@ -207,9 +220,11 @@ get_field = field_one Get text_in IsKey text key_reading (Asks 1) query_behind_t
     parts Count has = absurd (omega arith)
 
 keys_field : IsField (Asks 2) query_behind_tag (take_text 64 >>= λ prefix. done (Keys prefix))
-keys_field = field_one Keys text_in IsPrefix text (take_text 64) (Asks 2) query_behind_tag (text_within_field 64 (omega arith)) parts (λ t has. ((has, refl), refl))
+keys_field = field_one Keys text_in IsPrefix text (take_text 64) (Asks 2)
+    query_behind_tag (text_within_field 64 (omega arith)) parts (λ t has. ((has, refl), refl))
   where
-    parts : (q : Query) → Asks 2 q → IsPrefix (text_in q) × (Keys (text_in q) ≡ q) × (text (text_in q) ≡ query_behind_tag q)
+    parts : (q : Query) → Asks 2 q → IsPrefix (text_in q) × (Keys (text_in q) ≡ q)
+        × (text (text_in q) ≡ query_behind_tag q)
     parts (Get key) has = absurd (omega arith)
     parts (Keys prefix) has = (has.0, refl, refl)
     parts Count has = absurd (omega arith)
@@ -247,4 +262,5 @@ query_is Count has = append-nil (byte 3)
 
 pub query_field : IsField IsQuery spelled_query query_reading
 unfolding query_reading
-query_field = field_tagged query_tag 1 3 IsQuery query_behind_tag spelled_query query_of_tag (omega arith) query_tags query_is query_of_tag_field
+query_field = field_tagged query_tag 1 3 IsQuery query_behind_tag spelled_query query_of_tag (omega arith) query_tags
+    query_is query_of_tag_field

@@ -26,8 +26,10 @@ abbrev pub command_text : Cmd → List ℕ
 command_text (Put key value) = codes "put " ++ quoted key ++ codes " " ++ value_text value
 command_text (Del key) = codes "del " ++ quoted key
 command_text (Inc key by) = codes "inc " ++ quoted key ++ codes " " ++ signed_decimal by
-command_text (Cas key want value) = codes "cas " ++ quoted key ++ codes " " ++ want_text want ++ codes " " ++ value_text value
-command_text (Move source target amount) = codes "move " ++ quoted source ++ codes " " ++ quoted target ++ codes " " ++ signed_decimal amount
+command_text (Cas key want value) = codes "cas " ++ quoted key ++ codes " " ++ want_text want
+    ++ codes " " ++ value_text value
+command_text (Move source target amount) =
+    codes "move " ++ quoted source ++ codes " " ++ quoted target ++ codes " " ++ signed_decimal amount
 command_text (Need key want) = codes "need " ++ quoted key ++ codes " " ++ want_text want
 
 abbrev pub query_text : Query → List ℕ

@@ -25,7 +25,8 @@ pub number_field : (low : ℕ) → IsField (λ n. (low ≤ n) × (n < 2 ^ 63)) n
 unfolding number_from
 number_field low =
     field_has (λ n. (n < 2 ^ 64) × (is_number low n ≡ true)) (λ n. (low ≤ n) × (n < 2 ^ 63)) number64 (number_from low)
-    (λ n has. into low n has.1) (λ n has. (omega arith, back low n has.0 has.1)) (field_only (λ n. n < 2 ^ 64) number64 take_u64 (is_number low) u64_field)
+    (λ n has. into low n has.1) (λ n has. (omega arith, back low n has.0 has.1)) (field_only (λ n. n < 2 ^ 64) number64
+    take_u64 (is_number low) u64_field)
   where
     into : (low n : ℕ) → is_number low n ≡ true → (low ≤ n) × (n < 2 ^ 63)
     into low n e = grind arith
@@ -43,7 +44,8 @@ named creator index = record { creator = creator; index = index }
 pub id_field : IsField IsActionId spelled_id id_reading
 unfolding id_reading named
 id_field =
-    field_two named (λ id. id.creator) (λ id. id.index) IsId (λ n. (1 ≤ n) × (n < 2 ^ 63)) byte number64 (byte_between 1 32) (number_from 1) IsActionId spelled_id
+    field_two named (λ id. id.creator) (λ id. id.index) IsId (λ n. (1 ≤ n) × (n < 2 ^ 63)) byte
+    number64 (byte_between 1 32) (number_from 1) IsActionId spelled_id
     replica_field (number_field 1)
     (λ id has. (has.creator, (has.from_one, has.below), refl, refl))
     (λ creator index c i. (record { creator = c; from_one = i.0; below = i.1 }, refl, refl))
@@ -52,7 +54,8 @@ pub key_field : IsField IsKey text key_reading
 unfolding key_reading
 key_field =
     field_has (λ t. (IsUtf8 t × (length t ≤ 64)) × (is_key t ≡ true)) IsKey text key_reading
-    (λ t has. (has.0.0, into t has.1, has.0.1)) (λ t has. ((has.0, has.2), back t has.1)) (field_only (λ t. IsUtf8 t × (length t ≤ 64)) text (take_text 64) is_key (text_field 64 (omega arith)))
+    (λ t has. (has.0.0, into t has.1, has.0.1)) (λ t has. ((has.0, has.2), back t has.1))
+    (field_only (λ t. IsUtf8 t × (length t ≤ 64)) text (take_text 64) is_key (text_field 64 (omega arith)))
   where
     into : (t : List ℕ) → is_key t ≡ true → 1 ≤ length t
     into t e = grind arith
@@ -62,7 +65,8 @@ key_field =
 
 pub text_within_field : (max : ℕ) → max < 2 ^ 32 → IsField (IsTextWithin 0 max) text (take_text max)
 text_within_field max small =
-    field_has (λ t. IsUtf8 t × (length t ≤ max)) (IsTextWithin 0 max) text (take_text max) (λ t has. (has.0, omega arith, has.1)) (λ t has. (has.0, has.2)) (text_field max small)
+    field_has (λ t. IsUtf8 t × (length t ≤ max)) (IsTextWithin 0 max)
+    text (take_text max) (λ t has. (has.0, omega arith, has.1)) (λ t has. (has.0, has.2)) (text_field max small)
 
 -- ---- values
 
@@ -84,22 +88,27 @@ number_in (Int n) = n
 
 text_value_field : IsField (λ v. IsValue v × (value_tag v ≡ 1)) value_behind (take_text 1024 >>= λ t. done (Text t))
 text_value_field =
-    field_one Text text_in (IsTextWithin 0 1024) text (take_text 1024) (λ v. IsValue v × (value_tag v ≡ 1)) value_behind (text_within_field 1024 (omega arith)) parts (λ t has. ((has, refl), refl))
+    field_one Text text_in (IsTextWithin 0 1024) text (take_text 1024) (λ v. IsValue v × (value_tag v ≡ 1))
+    value_behind (text_within_field 1024 (omega arith)) parts (λ t has. ((has, refl), refl))
   where
-    parts : (v : Value) → IsValue v × (value_tag v ≡ 1) → IsTextWithin 0 1024 (text_in v) × (Text (text_in v) ≡ v) × (text (text_in v) ≡ value_behind v)
+    parts : (v : Value) → IsValue v × (value_tag v ≡ 1) →
+        IsTextWithin 0 1024 (text_in v) × (Text (text_in v) ≡ v) × (text (text_in v) ≡ value_behind v)
     parts (Text t) has = (has.0, refl, refl)
     parts (Int n) has = absurd (omega arith)
 
 int_value_field : IsField (λ v. IsValue v × (value_tag v ≡ 2)) value_behind (take_i64 >>= λ n. done (Int n))
 int_value_field =
-    field_one Int number_in (FitsSigned w64) signed64 take_i64 (λ v. IsValue v × (value_tag v ≡ 2)) value_behind i64_field parts (λ n has. ((has, refl), refl))
+    field_one Int number_in (FitsSigned w64) signed64 take_i64 (λ v. IsValue v × (value_tag v ≡ 2)) value_behind
+    i64_field parts (λ n has. ((has, refl), refl))
   where
-    parts : (v : Value) → IsValue v × (value_tag v ≡ 2) → FitsSigned w64 (number_in v) × (Int (number_in v) ≡ v) × (signed64 (number_in v) ≡ value_behind v)
+    parts : (v : Value) → IsValue v × (value_tag v ≡ 2) →
+        FitsSigned w64 (number_in v) × (Int (number_in v) ≡ v) × (signed64 (number_in v) ≡ value_behind v)
     parts (Text t) has = absurd (omega arith)
     parts (Int n) has = (has.0, refl, refl)
 
 -- a value behind its tag
-value_of_tag_field : (tag : ℕ) → 1 ≤ tag → tag ≤ 2 → IsField (λ v. IsValue v × (value_tag v ≡ tag)) value_behind (value_of_tag tag)
+value_of_tag_field : (tag : ℕ) → 1 ≤ tag → tag ≤ 2 →
+    IsField (λ v. IsValue v × (value_tag v ≡ tag)) value_behind (value_of_tag tag)
 unfolding value_of_tag
 value_of_tag_field zero low high = absurd (omega arith)
 value_of_tag_field (suc zero) low high = text_value_field
@@ -116,7 +125,8 @@ value_is (Int n) has = refl
 
 pub value_field : IsField IsValue spelled_value value_reading
 unfolding value_reading
-value_field = field_tagged value_tag 1 2 IsValue value_behind spelled_value value_of_tag (omega arith) value_tags value_is value_of_tag_field
+value_field = field_tagged value_tag 1 2 IsValue value_behind spelled_value value_of_tag (omega arith) value_tags
+    value_is value_of_tag_field
 
 -- ---- a value or none
 
@@ -135,7 +145,8 @@ value_or (Some v) = v
 absent_field : IsField (λ w. IsWant w × (want_tag w ≡ 0)) want_behind (done None)
 absent_field =
     field_says (λ w. IsWant w × (want_tag w ≡ 0)) (λ w. []) want_behind (done None) nothing_behind
-    (field_has (λ w. w ≡ None) (λ w. IsWant w × (want_tag w ≡ 0)) (λ w. []) (done None) (λ w e. rw e (tt, refl)) is_none (field_done None))
+    (field_has (λ w. w ≡ None) (λ w. IsWant w × (want_tag w ≡ 0)) (λ w. []) (done None) (λ w e. rw e (tt, refl))
+    is_none (field_done None))
   where
     is_none : (w : Option Value) → IsWant w × (want_tag w ≡ 0) → w ≡ None
     is_none None has = refl
@@ -144,16 +155,20 @@ absent_field =
     nothing_behind : (w : Option Value) → IsWant w × (want_tag w ≡ 0) → [] ≡ want_behind w
     nothing_behind w has = rw (is_none w has) refl
 
-present_field : (tag : ℕ) → 1 ≤ tag → tag ≤ 2 → IsField (λ w. IsWant w × (want_tag w ≡ tag)) want_behind (value_of_tag tag >>= λ v. done (Some v))
+present_field : (tag : ℕ) → 1 ≤ tag → tag ≤ 2 →
+    IsField (λ w. IsWant w × (want_tag w ≡ tag)) want_behind (value_of_tag tag >>= λ v. done (Some v))
 present_field tag low high =
-    field_one Some value_or (λ v. IsValue v × (value_tag v ≡ tag)) value_behind (value_of_tag tag) (λ w. IsWant w × (want_tag w ≡ tag)) want_behind (value_of_tag_field tag low high) (parts tag low) (λ v has. (has, refl))
+    field_one Some value_or (λ v. IsValue v × (value_tag v ≡ tag)) value_behind (value_of_tag tag) (λ w. IsWant w
+    × (want_tag w ≡ tag)) want_behind (value_of_tag_field tag low high) (parts tag low) (λ v has. (has, refl))
   where
     parts : (tag : ℕ) → 1 ≤ tag → (w : Option Value) → IsWant w × (want_tag w ≡ tag)
-        → (IsValue (value_or w) × (value_tag (value_or w) ≡ tag)) × (Some (value_or w) ≡ w) × (value_behind (value_or w) ≡ want_behind w)
+        → (IsValue (value_or w) × (value_tag (value_or w) ≡ tag)) × (Some (value_or w) ≡ w)
+        × (value_behind (value_or w) ≡ want_behind w)
     parts tag low None has = absurd (omega arith)
     parts tag low (Some v) has = (has, refl, refl)
 
-want_of_tag_field : (tag : ℕ) → 0 ≤ tag → tag ≤ 2 → IsField (λ w. IsWant w × (want_tag w ≡ tag)) want_behind (want_of_tag tag)
+want_of_tag_field : (tag : ℕ) → 0 ≤ tag → tag ≤ 2 →
+    IsField (λ w. IsWant w × (want_tag w ≡ tag)) want_behind (want_of_tag tag)
 unfolding want_of_tag
 want_of_tag_field zero low high = absent_field
 want_of_tag_field (suc zero) low high = present_field 1 (omega arith) high
@@ -170,15 +185,18 @@ want_is (Some v) has = value_is v has
 
 pub want_field : IsField IsWant spelled_want want_reading
 unfolding want_reading
-want_field = field_tagged want_tag 0 2 IsWant want_behind spelled_want want_of_tag (omega arith) want_tags want_is want_of_tag_field
+want_field = field_tagged want_tag 0 2 IsWant want_behind spelled_want want_of_tag (omega arith) want_tags
+    want_is want_of_tag_field
 
 -- ---- amounts
 
 pub amount_field : IsField (λ n. FitsSigned w64 n × (pos 0 ≤ℤ n)) signed64 amount_reading
 unfolding amount_reading
 amount_field =
-    field_has (λ n. FitsSigned w64 n × (is_amount n ≡ true)) (λ n. FitsSigned w64 n × (pos 0 ≤ℤ n)) signed64 amount_reading
-    (λ n has. (has.0, into n has.1)) (λ n has. (has.0, back n has.1)) (field_only (FitsSigned w64) signed64 take_i64 is_amount i64_field)
+    field_has (λ n. FitsSigned w64 n × (is_amount n ≡ true)) (λ n. FitsSigned w64 n
+    × (pos 0 ≤ℤ n)) signed64 amount_reading
+    (λ n has. (has.0, into n has.1)) (λ n has. (has.0, back n has.1)) (field_only (FitsSigned w64) signed64
+    take_i64 is_amount i64_field)
   where
     into : (n : ℤ) → is_amount n ≡ true → pos 0 ≤ℤ n
     into (pos n) e = search (rules, arith)

@@ -283,14 +283,16 @@ fn take_commands(alloc: Global, fields: &mut Fields) -> Result<CmdList, CodecFau
 // one command, as most actions have: it lies in the list itself
 #[tactic(auto, unfolding(cg_codec::specs::Reading::take_items))]
 fn take_single(alloc: Global, fields: &mut Fields) -> Result<CmdList, CodecFault>
-    ensures { TakesWithMemory (λ l. l) (take_items (λ _. command_reading) 1 []) (unread_of fields.old) (unread_of fields.new) result }
+    ensures { TakesWithMemory (λ l. l) (take_items (λ _. command_reading) 1 []) (unread_of fields.old)
+        (unread_of fields.new) result }
 {
     let cmd = take_command(alloc, fields)?;
     Ok(CmdList::one(alloc, cmd))
 }
 
 fn take_each(alloc: Global, fields: &mut Fields, count: u32) -> Result<CmdList, CodecFault>
-    ensures { TakesWithMemory (λ l. l) (take_items (λ _. command_reading) count []) (unread_of fields.old) (unread_of fields.new) result }
+    ensures { TakesWithMemory (λ l. l) (take_items (λ _. command_reading) count []) (unread_of fields.old)
+        (unread_of fields.new) result }
 {
     let mut after = *fields;
     let mut cmds = CmdList::with_capacity(alloc, count as usize)?;
@@ -328,7 +330,8 @@ fn take_query(alloc: Global, fields: &mut Fields) -> Result<Query, CodecFault>
 }
 
 fn take_query_or_none(alloc: Global, fields: &mut Fields) -> Result<Option<Query>, CodecFault>
-    ensures { TakesWithMemory (λ q. q) (take_optional query_reading) (unread_of fields.old) (unread_of fields.new) result }
+    ensures { TakesWithMemory (λ q. q) (take_optional query_reading) (unread_of fields.old)
+        (unread_of fields.new) result }
 {
     let mut after = *fields;
     if !after.take_truth()? {

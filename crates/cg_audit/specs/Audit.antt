@@ -30,7 +30,8 @@ unless fact false = fact ∷ []
 -- those of the lists of a world
 abbrev failing_lists : Chronicle → List Fact
 failing_lists c =
-    unless SeatsRise (seats_rise c) ++ unless StandingsRise (standings_rise c) ++ unless ReceiversRise (receivers_rise c)
+    unless SeatsRise (seats_rise c) ++ unless StandingsRise (standings_rise c)
+    ++ unless ReceiversRise (receivers_rise c)
     ++ unless JoinersAreServers (joiners_are_servers c)
 
 -- those of the group
@@ -38,7 +39,8 @@ abbrev failing_net : Chronicle → List Fact
 failing_net c =
     unless Seated (seated c) ++ unless PhaseSound (phase_sound c) ++ unless ReceiptsInside (receipts_inside c)
     ++ unless SenderClosed (sender_closed c) ++ unless HandedReceived (handed_received c)
-    ++ unless UnorderedRegular (unordered_regular c) ++ unless MembersBegun (members_begun c) ++ unless PastLeft (past_left c)
+    ++ unless UnorderedRegular (unordered_regular c) ++ unless MembersBegun (members_begun c)
+    ++ unless PastLeft (past_left c)
 
 -- those of what members say
 abbrev failing_talk : Chronicle → List Fact
@@ -66,13 +68,15 @@ failing_attempt c =
     ++ unless YellowValid (yellow_valid c) ++ unless LeftOut (left_out c) ++ unless LevelsStand (levels_stand c)
     ++ unless AnnouncedEntered (announced_entered c) ++ unless InstalledAnnounced (installed_announced c)
     ++ unless ActInstalled (act_installed c) ++ unless RecordOfAttempt (record_of_attempt c)
-    ++ unless InstalledIndex (installed_index c) ++ unless BitsWitness (bits_witness c) ++ unless DeadEvidence (dead_evidence c)
+    ++ unless InstalledIndex (installed_index c) ++ unless BitsWitness (bits_witness c)
+    ++ unless DeadEvidence (dead_evidence c)
     ++ unless OneAttempt (one_attempt c)
 
 -- those of greens
 abbrev failing_green : Chronicle → List Fact
 failing_green c =
-    unless BeginsWith (begins_with c) ++ unless PrimaryGreens (primary_greens c) ++ unless InstalledCount (installed_count c)
+    unless BeginsWith (begins_with c) ++ unless PrimaryGreens (primary_greens c)
+    ++ unless InstalledCount (installed_count c)
     ++ unless Spine (spine c) ++ unless OneOrder (one_order c) ++ unless TransCoverage (trans_coverage c)
     ++ unless Coverage (coverage c)
 
@@ -83,7 +87,8 @@ failing_move c d =
 
 abbrev pub failing : Chronicle → Chronicle → List Fact
 failing c d =
-    failing_lists d ++ failing_net d ++ failing_talk d ++ failing_replica d ++ failing_exchange d ++ failing_attempt d ++ failing_green d
+    failing_lists d ++ failing_net d ++ failing_talk d ++ failing_replica d ++ failing_exchange d
+    ++ failing_attempt d ++ failing_green d
     ++ failing_move c d
 
 -- and those that fail at the end of a step

@@ -55,7 +55,8 @@ same_members m n = pointwise server.eq m.servers n.servers && same_numbers m.lef
 
 abbrev same_queue : QueueView → QueueView → Bool
 same_queue q k =
-    (q.white == k.white) && same_actions q.greens k.greens && same_ids q.green_cut k.green_cut && same_ids q.red_cut k.red_cut
+    (q.white == k.white) && same_actions q.greens k.greens && same_ids q.green_cut k.green_cut
+    && same_ids q.red_cut k.red_cut
     && same_actions q.reds k.reds && same_ids q.yellow k.yellow
 
 abbrev pub same_held : Held → Held → Bool
@@ -68,7 +69,8 @@ same_held h k =
 abbrev pub same_summary : Summary → Summary → Bool
 same_summary s t =
     (s.id == t.id) && (s.conf == t.conf) && primary.eq s.prim t.prim && (s.attempt_index == t.attempt_index)
-    && option_eq vulnerable.eq s.vulnerable t.vulnerable && yellow.eq s.yellow t.yellow && (s.green_count == t.green_count)
+    && option_eq vulnerable.eq s.vulnerable t.vulnerable && yellow.eq s.yellow t.yellow
+    && (s.green_count == t.green_count)
     && same_ids s.green_cut t.green_cut && same_ids s.red_cut t.red_cut && same_numbers s.left t.left
 
 abbrev pub same_summaries : List Summary → List Summary → Bool

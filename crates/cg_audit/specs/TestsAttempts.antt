@@ -42,14 +42,16 @@ are_parts c heard a =
 abbrev is_attempt : Chronicle → ℕ → Attempt → Bool
 is_attempt c conf a =
     let t = whole_talk c conf in
-    is_ended (members_in c conf) t && decides t.heard && are_parts c t.heard a && is_within a.entered a.set && is_within a.installed a.entered
+    is_ended (members_in c conf) t && decides t.heard && are_parts c t.heard a && is_within a.entered a.set
+    && is_within a.installed a.entered
     && nat_le a.from (top_of c) && is_quorum (prim_at c a.from).set a.set
 
 abbrev pub attempt_shape : Chronicle → Bool
 attempt_shape c = for_confs c (λ conf. if_some (attempt_of c conf) (is_attempt c conf))
 
 abbrev holds_parts : Held → List Action → Attempt → Bool
-holds_parts h greens a = same_actions greens a.greens && same_actions (valid_yellow h) a.yellow && same_actions (plain_reds h.queue) a.reds
+holds_parts h greens a = same_actions greens a.greens && same_actions (valid_yellow h) a.yellow
+    && same_actions (plain_reds h.queue) a.reds
 
 abbrev pub attempt_list : Chronicle → Bool
 attempt_list c =
@@ -58,16 +60,20 @@ attempt_list c =
 
 abbrev pub yellow_valid : Chronicle → Bool
 yellow_valid c =
-    for_replicas c (λ p. if_some (replica_of c.world p) (λ r. implies (is_attempting r.state && not r.held.yellow_valid) (is_nil r.held.queue.yellow)))
+    for_replicas
+    c (λ p. if_some (replica_of c.world p) (λ r. implies (is_attempting r.state
+    && not r.held.yellow_valid) (is_nil r.held.queue.yellow)))
 
 abbrev pub left_out : Chronicle → Bool
 left_out c =
-    for_both c (λ conf p. implies (is_in c conf p) (if_some (attempt_of c conf) (λ a. is_none (find (λ l. l.member == p) a.left))))
+    for_both c (λ conf p. implies (is_in c conf p)
+    (if_some (attempt_of c conf) (λ a. is_none (find (λ l. l.member == p) a.left))))
 
 -- the level was opened by an attempt from the one before it
 abbrev is_opened : Chronicle → ℕ → Bool
 is_opened c level =
-    is_some_with (at_place c.levels level) (λ conf. is_some_with (attempt_of c conf) (λ a. (suc a.from == level) && is_installed a))
+    is_some_with (at_place c.levels level)
+    (λ conf. is_some_with (attempt_of c conf) (λ a. (suc a.from == level) && is_installed a))
 
 -- an attempt that was installed has opened the next level
 abbrev opens : Chronicle → ℕ → Attempt → Bool
@@ -87,7 +93,9 @@ installed_announced c =
     (nat_lt 0 (announced_at c conf p) && nat_le (announced_at c conf p) (received_by_all c conf)))))
 
 abbrev pub act_installed : Chronicle → Bool
-act_installed c = for_both c (λ conf p. implies (decides (whole_talk c conf).heard) (is_nil (filter_map act_in (said_in c conf p)) || installed_in c conf))
+act_installed c =
+    for_both c (λ conf p. implies (decides (whole_talk c conf).heard) (is_nil (filter_map act_in (said_in c conf p))
+    || installed_in c conf))
 
 abbrev pub record_of_attempt : Chronicle → Bool
 record_of_attempt c = for_cores c (λ h greens. has_record c h.id h.prim.index h.vulnerable)
@@ -101,7 +109,8 @@ abbrev pub installed_index : Chronicle → Bool
 installed_index c = for_both c (λ conf p. if_some (attempt_of c conf) (is_past c p))
 
 abbrev is_witnessed : Chronicle → Attempt → ℕ → ℕ → ℕ → Bool
-is_witnessed c a count index p = not (is_in c a.conf p) && nat_le (left_count a p) count && implies (has_installed a p) (nat_lt a.from index)
+is_witnessed c a count index p = not (is_in c a.conf p) && nat_le (left_count a p) count
+    && implies (has_installed a p) (nat_lt a.from index)
 
 abbrev are_witnessed : Chronicle → ℕ → ℕ → List ℕ → Option Vulnerable → Bool
 are_witnessed c count index but None = true
@@ -116,18 +125,23 @@ bits_witness c =
 -- a member, a summary and a state show that the attempt is over
 abbrev is_over_by : Chronicle → ℕ → Attempt → Bool
 is_over_by c p a =
-    implies (not (is_regular_in c a.conf p)) (if_some (core_of c p) (λ h. implies (is_without a p h.prim.index h.vulnerable) (is_dead c a)))
+    implies (not (is_regular_in c a.conf p))
+    (if_some (core_of c p) (λ h. implies (is_without a p h.prim.index h.vulnerable) (is_dead c a)))
 
 abbrev is_over_as_told : Chronicle → Summary → Attempt → Bool
 is_over_as_told c s a = implies (nat_lt a.conf s.conf && is_without a s.id s.prim.index s.vulnerable) (is_dead c a)
 
 abbrev is_cut_short : Chronicle → ℕ → State → Bool
-is_cut_short c p state = implies (is_no state) (is_some_with (attempt_of c (conf_at (phase_of c.world.group p))) (is_dead c))
+is_cut_short c p state =
+    implies (is_no state) (is_some_with (attempt_of c (conf_at (phase_of c.world.group p))) (is_dead c))
 
 abbrev pub dead_evidence : Chronicle → Bool
 dead_evidence c =
-    for_replicas c (λ p. list_all (is_over_by c p) c.attempts && if_some (replica_of c.world p) (λ r. is_cut_short c p r.state))
+    for_replicas c (λ p. list_all (is_over_by c p) c.attempts
+    && if_some (replica_of c.world p) (λ r. is_cut_short c p r.state))
     && list_all (λ t. list_all (is_over_as_told c t.summary) c.attempts) c.told
 
 abbrev pub one_attempt : Chronicle → Bool
-one_attempt c = list_all (λ a. list_all (λ b. implies (nat_lt a.conf b.conf && (a.from == b.from)) (is_dead c a)) c.attempts) c.attempts
+one_attempt c =
+    list_all (λ a. list_all (λ b. implies (nat_lt a.conf b.conf && (a.from == b.from)) (is_dead c a)) c.attempts)
+    c.attempts

@@ -42,12 +42,14 @@ has_grown a b =
 -- a frozen level's reach has become no longer, and what was reached of it no less
 abbrev is_shrinking : Chronicle → Chronicle → ℕ → Bool
 is_shrinking c d level =
-    nat_le (reached_at c level) (reached_at d level) && implies (is_frozen d level) (front_actions (reach_at d level) (reach_at c level))
+    nat_le (reached_at c level) (reached_at d level)
+    && implies (is_frozen d level) (front_actions (reach_at d level) (reach_at c level))
 
 abbrev pub lists_grow : Chronicle → Chronicle → Bool
 lists_grow c d =
     for_replicas c (λ p. front_actions (greens_of c p) (greens_of d p)
-    && if_some (core_of c p) (λ h. is_some_with (core_of d p) (λ k. nat_le h.prim.index k.prim.index && nat_le (created h) (created k))))
+    && if_some (core_of c p) (λ h. is_some_with (core_of d p) (λ k. nat_le h.prim.index k.prim.index
+    && nat_le (created h) (created k))))
     && list_all (λ t. is_some_with (told_in d t.summary.conf t.summary.id) (λ u.
     same_summary t.summary u.summary && same_actions t.greens u.greens)) c.told
     && for_confs c (λ conf. implies (is_full (members_in c conf) (whole_talk c conf))

@@ -37,7 +37,8 @@ is_record a v = (v.from == a.from) && same_numbers v.set a.set && is_within v.bi
 
 abbrev pub has_record : Chronicle → ℕ → ℕ → Option Vulnerable → Bool
 has_record c p index None = true
-has_record c p index (Some v) = has v.bits p && nat_le v.from index && is_some_with (attempt_of c v.attempt) (λ a. is_record a v)
+has_record c p index (Some v) = has v.bits p && nat_le v.from index
+    && is_some_with (attempt_of c v.attempt) (λ a. is_record a v)
 
 abbrev is_summary : Chronicle → Told → Bool
 is_summary c t =
@@ -67,11 +68,13 @@ has_made_nothing t h _ = created h == index_in t.summary.red_cut t.summary.id
 
 abbrev knows_as_much : Chronicle → Told → Replica → Bool
 knows_as_much c t r =
-    for_replicas c (λ q. nat_le (index_in t.summary.red_cut q) (index_in r.held.queue.red_cut q)) && has_made_nothing t r.held r.state
+    for_replicas c (λ q. nat_le (index_in t.summary.red_cut q) (index_in r.held.queue.red_cut q))
+    && has_made_nothing t r.held r.state
 
 abbrev pub summary_of_sender : Chronicle → Bool
 summary_of_sender c =
-    for_both c (λ conf p. if_some (told_in c conf p) (λ t. is_summary c t && knows_levels c t && if_some (core_of c p) (is_outdone c t)
+    for_both c (λ conf p. if_some (told_in c conf p) (λ t. is_summary c t && knows_levels c t
+    && if_some (core_of c p) (is_outdone c t)
     && implies (is_in c conf p) (if_some (replica_of c.world p) (knows_as_much c t))))
 
 -- it has told something in no later configuration
@@ -89,12 +92,14 @@ summary_lines c =
 
 abbrev pub tellers_still : Chronicle → Bool
 tellers_still c =
-    for_both c (λ conf p. if_some (told_in c conf p) (λ t. implies (is_nil (ordered_in c conf) && tells_nothing_later c conf p)
+    for_both c (λ conf p. if_some (told_in c conf p)
+    (λ t. implies (is_nil (ordered_in c conf) && tells_nothing_later c conf p)
     (same_actions (greens_of c p) t.greens)))
 
 abbrev holds_still : Told → Held → Bool
 holds_still t h =
-    primary.eq h.prim t.summary.prim && (h.attempt_index == t.summary.attempt_index) && option_eq vulnerable.eq h.vulnerable t.summary.vulnerable
+    primary.eq h.prim t.summary.prim && (h.attempt_index == t.summary.attempt_index)
+    && option_eq vulnerable.eq h.vulnerable t.summary.vulnerable
     && beq h.yellow_valid t.summary.yellow.valid
 
 abbrev is_unmoved : Told → Held → List Action → Bool
@@ -104,26 +109,32 @@ is_unmoved t h greens =
 
 -- how far a member knows a creator's actions behind so many items
 abbrev known_behind : List Summary → ℕ → Told → Held → ℕ → ℕ
-known_behind heard accepted mine h q = max (index_in mine.summary.red_cut q) (max (index_in h.queue.green_cut q) (red_behind heard accepted q))
+known_behind heard accepted mine h q =
+    max (index_in mine.summary.red_cut q) (max (index_in h.queue.green_cut q) (red_behind heard accepted q))
 
 abbrev is_going_on : Chronicle → List Summary → ℕ → Told → Held → List Action → Told → Bool
 is_going_on c heard accepted mine h greens best =
-    holds_still mine h && same_actions greens (take (greens_behind heard accepted best.summary mine.summary) best.greens)
+    holds_still mine h && same_actions
+    greens (take (greens_behind heard accepted best.summary mine.summary) best.greens)
     && for_replicas c (λ q. index_in h.queue.red_cut q == known_behind heard accepted mine h q)
-    && same_ids h.queue.yellow (filter (λ id. nat_lt (index_in h.queue.green_cut id.creator) id.index) mine.summary.yellow.list)
+    && same_ids h.queue.yellow (filter (λ id. nat_lt (index_in h.queue.green_cut id.creator) id.index)
+    mine.summary.yellow.list)
 
 abbrev has_taken_over : List Summary → Told → Held → List Action → Told → Bool
 has_taken_over heard mine h greens best =
-    same_actions greens best.greens && primary.eq h.prim (known_primary heard) && yellow.eq (yellow_of h) (common_yellow heard)
+    same_actions greens best.greens && primary.eq h.prim (known_primary heard)
+    && yellow.eq (yellow_of h) (common_yellow heard)
     && option_eq vulnerable.eq h.vulnerable (decided heard mine.summary.vulnerable)
 
 abbrev is_in_exchange : Chronicle → ℕ → Told → Held → List Action → State → Bool
 is_in_exchange c conf t h greens (ExchangeStates at set heard) = is_unmoved t h greens
 is_in_exchange c conf t h greens Left = is_unmoved t h greens
 is_in_exchange c conf t h greens (ExchangeActions at heard accepted) =
-    if has (gone heard) h.id then is_unmoved t h greens else is_some_with (best_told c conf heard) (is_going_on c heard accepted t h greens)
+    if has (gone heard) h.id then is_unmoved t h greens
+    else is_some_with (best_told c conf heard) (is_going_on c heard accepted t h greens)
 is_in_exchange c conf t h greens (NonPrim regular) =
-    (let heard = (handed_talk c conf h.id).heard in is_some_with (best_told c conf heard) (has_taken_over heard t h greens))
+    (let heard = (handed_talk c conf h.id).heard in
+    is_some_with (best_told c conf heard) (has_taken_over heard t h greens))
 is_in_exchange c conf t h greens _ = true
 
 abbrev pub exchange_progress : Chronicle → Bool

@@ -23,7 +23,8 @@ abbrev pub begins_with : Chronicle → Bool
 begins_with c = for_cores c (λ h greens. front_actions (installation (attempt_at c h.prim.index)) greens)
 
 abbrev is_handed_green : Chronicle → ℕ → Attempt → State → Bool
-is_handed_green c p a RegPrim = same_actions (greens_of c p) (installation a ++ acts_in (take (delivered_to c.world.group p) (ordered_in c a.conf)))
+is_handed_green c p a RegPrim =
+    same_actions (greens_of c p) (installation a ++ acts_in (take (delivered_to c.world.group p) (ordered_in c a.conf)))
 is_handed_green c p a _ = true
 
 abbrev is_on_line : Chronicle → ℕ → Replica → Bool
@@ -32,19 +33,23 @@ is_on_line c p r =
     (a.conf == conf_at (phase_of c.world.group p)) && has a.set p && is_handed_green c p a r.state
 
 abbrev pub primary_greens : Chronicle → Bool
-primary_greens c = for_replicas c (λ p. if_some (replica_of c.world p) (λ r. implies (is_primary r.state) (is_on_line c p r)))
+primary_greens c =
+    for_replicas c (λ p. if_some (replica_of c.world p) (λ r. implies (is_primary r.state) (is_on_line c p r)))
 
 abbrev pub installed_count : Chronicle → Bool
 installed_count c =
     for_both c (λ conf p. if_some (attempt_of c conf) (λ a. implies (has_installed a p)
     (nat_le (length (installation a)) (count_in c a p)
-    && nat_le (count_in c a p) (length (installation a) + length (acts_in (take (received_by_all c conf) (ordered_in c conf)))))))
+    && nat_le (count_in c a p) (length (installation a)
+    + length (acts_in (take (received_by_all c conf) (ordered_in c conf)))))))
 
 abbrev pub spine : Chronicle → Bool
-spine c = list_all (λ level. front_actions (reach_at c level) (installation (attempt_at c (suc level))) && is_frozen c level) (count_up 0 (top_of c))
+spine c = list_all (λ level. front_actions (reach_at c level) (installation (attempt_at c (suc level)))
+    && is_frozen c level) (count_up 0 (top_of c))
 
 abbrev pub one_order : Chronicle → Bool
-one_order c = for_cores c (λ h greens. front_actions greens (line_at c (top_of c)) && nat_le (length greens) (reached_at c (top_of c)))
+one_order c = for_cores c (λ h greens. front_actions greens (line_at c (top_of c))
+    && nat_le (length greens) (reached_at c (top_of c)))
 
 abbrev covers_level : Chronicle → ℕ → List ActionId → Bool
 covers_level c level ids = is_frozen c level && front_ids (names_of (reach_at c level)) ids
@@ -54,18 +59,21 @@ covers_as_yellow c h greens TransPrim = covers_level c h.prim.index (names_of gr
 covers_as_yellow c h greens _ = true
 
 abbrev pub trans_coverage : Chronicle → Bool
-trans_coverage c = for_replicas c (λ p. if_some (replica_of c.world p) (λ r. covers_as_yellow c r.held (greens_of c p) r.state))
+trans_coverage c =
+    for_replicas c (λ p. if_some (replica_of c.world p) (λ r. covers_as_yellow c r.held (greens_of c p) r.state))
 
 abbrev covers : Chronicle → List ActionId → Bool
 covers c ids = covers_level c (top_of c) ids
 
 abbrev is_covering : Chronicle → Held → List Action → Bool
 is_covering c h greens =
-    implies (is_evidence c h.id h.prim.index h.yellow_valid h.vulnerable) (covers c (names_with greens h.yellow_valid h.queue.yellow))
+    implies (is_evidence c h.id h.prim.index h.yellow_valid h.vulnerable) (covers
+    c (names_with greens h.yellow_valid h.queue.yellow))
 
 abbrev is_covering_as_told : Chronicle → Summary → List Action → Bool
 is_covering_as_told c s greens =
-    implies (is_evidence c s.id s.prim.index s.yellow.valid s.vulnerable) (covers c (names_with greens s.yellow.valid s.yellow.list))
+    implies (is_evidence c s.id s.prim.index s.yellow.valid s.vulnerable) (covers
+    c (names_with greens s.yellow.valid s.yellow.list))
 
 abbrev pub coverage : Chronicle → Bool
 coverage c =

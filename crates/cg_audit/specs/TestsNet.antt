@@ -36,11 +36,14 @@ abbrev pub sender_closed : Chronicle → Bool
 sender_closed c =
     for_both c (λ conf p. (let k = conf_of c conf in
     list_all (λ place. implies (has_received k p place)
-    (list_all (λ earlier. implies (sender_at k earlier == sender_at k place) (has_received k p earlier)) (above_up_to 0 (place - 1))))
+    (list_all (λ earlier. implies (sender_at k earlier == sender_at k place) (has_received k p earlier))
+    (above_up_to 0 (place - 1))))
     (places_of c conf)))
 
 abbrev pub handed_received : Chronicle → Bool
-handed_received c = for_both c (λ conf p. implies (is_regular_in c conf p) (nat_le (delivered_to c.world.group p) (received_by_all c conf)))
+handed_received c =
+    for_both c (λ conf p. implies (is_regular_in c conf p)
+    (nat_le (delivered_to c.world.group p) (received_by_all c conf)))
 
 abbrev pub unordered_regular : Chronicle → Bool
 unordered_regular c = for_replicas c (λ p. is_regular c.world.group p || is_nil (unordered_of c.world.group p))
@@ -60,17 +63,21 @@ past_left c =
 abbrev is_copied : Chronicle → ℕ → Bool
 is_copied c joiner =
     let snapshots = snapshots_for c.world joiner in
-    same_numbers (map (λ x. x.giver) (copies_for c joiner)) (map (λ s. s.giver) snapshots) && nat_le (length snapshots) 1
+    same_numbers (map (λ x. x.giver) (copies_for c joiner)) (map (λ s. s.giver) snapshots)
+    && nat_le (length snapshots) 1
 
 -- there is nothing but the world
 abbrev is_untold : Chronicle → Bool
 is_untold c =
-    is_nil c.start && is_nil c.pasts && is_nil c.told && is_nil c.attempts && is_nil c.levels && is_nil c.copies && is_nil c.book
-    && is_nil c.world.group.configurations && is_nil c.world.group.replicas && is_nil c.world.snapshots && is_nil c.world.order
+    is_nil c.start && is_nil c.pasts && is_nil c.told && is_nil c.attempts && is_nil c.levels
+    && is_nil c.copies && is_nil c.book
+    && is_nil c.world.group.configurations && is_nil c.world.group.replicas
+    && is_nil c.world.snapshots && is_nil c.world.order
 
 abbrev pub seated : Chronicle → Bool
 seated c =
-    same_numbers (map (λ x. x.id) c.pasts) (replicas_of c) && for_replicas c (λ p. is_some_with (disk_held c.world p) (λ h. h.id == p))
+    same_numbers (map (λ x. x.id) c.pasts) (replicas_of c)
+    && for_replicas c (λ p. is_some_with (disk_held c.world p) (λ h. h.id == p))
     && list_all (is_copied c) (map (λ x. x.joiner) c.copies ++ map (λ s. s.joiner) c.world.snapshots)
     && implies (is_nil c.world.seats) (is_untold c)
 
@@ -78,4 +85,5 @@ abbrev pub receipts_fixed : Chronicle → Chronicle → Bool
 receipts_fixed c d =
     for_both c (λ conf p. implies (nat_lt 0 (length (ordered_in c conf)) && not (is_regular_in c conf p))
     (not (is_regular_in d conf p)
-    && list_all (λ place. beq (has_received (conf_of d conf) p place) (has_received (conf_of c conf) p place)) (places_of d conf)))
+    && list_all (λ place. beq (has_received (conf_of d conf) p place) (has_received (conf_of c conf) p
+    place)) (places_of d conf)))

@@ -30,7 +30,8 @@ abbrev is_made_of : List Weighted → Held → List Action → Bool
 is_made_of start h greens =
     nat_le h.queue.white (length greens) && same_actions h.queue.greens (drop h.queue.white greens)
     && same_ids h.queue.green_cut (cut_behind [] (names_of greens))
-    && same_ids h.queue.red_cut (cut_behind h.queue.green_cut (names_of h.queue.reds)) && same_databases h.db (fold_actions greens)
+    && same_ids h.queue.red_cut (cut_behind h.queue.green_cut (names_of h.queue.reds))
+    && same_databases h.db (fold_actions greens)
     && same_members h.members (members_of start greens)
 
 abbrev is_contiguous : Held → List Action → Bool
@@ -52,16 +53,19 @@ yellow_closed c =
 abbrev is_in_primary : Chronicle → Held → ℕ → Bool
 is_in_primary c h conf =
     let a = attempt_at c h.prim.index in
-    is_some_with (attempt_of c conf) (same_attempt a) && (h.prim.conf == conf) && option_eq vulnerable.eq h.vulnerable (Some (own_record a h.id))
+    is_some_with (attempt_of c conf) (same_attempt a) && (h.prim.conf == conf)
+    && option_eq vulnerable.eq h.vulnerable (Some (own_record a h.id))
     && (h.prim.index == suc a.from) && not h.yellow_valid
 
 abbrev is_in_attempt : Held → Option Attempt → Bool
 is_in_attempt h None = false
-is_in_attempt h (Some a) = option_eq vulnerable.eq h.vulnerable (Some (own_record a h.id)) && (h.prim.index == a.from) && is_nil h.own
+is_in_attempt h (Some a) = option_eq vulnerable.eq h.vulnerable (Some (own_record a h.id))
+    && (h.prim.index == a.from) && is_nil h.own
 
 abbrev has_data : Chronicle → Held → Phase → State → Bool
 has_data c h phase RegPrim = is_in_primary c h (conf_at phase) && is_nil h.queue.reds && is_nil h.queue.yellow
-has_data c h phase TransPrim = is_in_primary c h (conf_at phase) && same_ids (cut_behind h.queue.green_cut h.queue.yellow) h.queue.red_cut
+has_data c h phase TransPrim = is_in_primary c h (conf_at phase)
+    && same_ids (cut_behind h.queue.green_cut h.queue.yellow) h.queue.red_cut
 has_data c h phase (Construct conf heard) = is_in_attempt h (attempt_of c (conf_at phase))
 has_data c h phase (No conf heard) = is_in_attempt h (attempt_of c (conf_at phase))
 has_data c h phase Un = is_in_attempt h (attempt_of c (conf_at phase))
@@ -71,11 +75,13 @@ has_data c h phase _ = true
 
 abbrev is_counted : Attempt → Replica → Bool
 is_counted a r =
-    beq (has_entered a r.held.id) (is_attempting r.state || is_primary r.state) && beq (has_installed a r.held.id) (is_primary r.state)
+    beq (has_entered a r.held.id) (is_attempting r.state || is_primary r.state)
+    && beq (has_installed a r.held.id) (is_primary r.state)
     && not (is_record_of a.conf r.held.vulnerable && not (has_entered a r.held.id))
 
 abbrev is_mode_data : Chronicle → ℕ → Phase → Replica → Bool
-is_mode_data c p phase r = (r.held.id == p) && has_data c r.held phase r.state && if_some (attempt_of c (conf_at phase)) (λ a. is_counted a r)
+is_mode_data c p phase r = (r.held.id == p) && has_data c r.held phase r.state
+    && if_some (attempt_of c (conf_at phase)) (λ a. is_counted a r)
 
 abbrev pub mode_data : Chronicle → Bool
 mode_data c = for_replicas c (λ p. if_some (replica_of c.world p) (is_mode_data c p (phase_of c.world.group p)))
@@ -85,7 +91,8 @@ goes_on c now disk =
     (now.queue.white == disk.queue.white) && same_ids now.queue.green_cut disk.queue.green_cut
     && for_replicas c (λ q. nat_le (index_in disk.queue.red_cut q) (index_in now.queue.red_cut q))
     && same_ids now.queue.yellow disk.queue.yellow
-    && beq now.yellow_valid disk.yellow_valid && primary.eq now.prim disk.prim && (now.attempt_index == disk.attempt_index)
+    && beq now.yellow_valid disk.yellow_valid && primary.eq now.prim disk.prim
+    && (now.attempt_index == disk.attempt_index)
     && option_eq vulnerable.eq now.vulnerable disk.vulnerable && (created now == created disk)
     && same_actions now.own (drop (length disk.own - length now.own) disk.own)
 
@@ -134,14 +141,17 @@ made_once c =
 -- who is named by the book has begun, and so have the servers of the start; and the parts of attempts are booked
 abbrev pub origins : Chronicle → Bool
 origins c =
-    list_all (λ a. has_begun c.world a.id.creator) c.book && list_all (λ s. has_begun c.world s.id) (starting c.start).servers
+    list_all (λ a. has_begun c.world a.id.creator) c.book
+    && list_all (λ s. has_begun c.world s.id) (starting c.start).servers
     && for_confs c (λ conf. if_some (attempt_of c conf) (λ a. are_booked c (a.yellow ++ a.reds)))
 
 abbrev is_lined : Chronicle → Held → List Action → Bool
 is_lined c h greens =
     list_all (λ s. nat_le h.queue.white s.line
-    && (if has_begun c.world s.id then nat_le s.line (length (greens_of c s.id)) else s.line == join_from 0 greens s.id))
+    && (if has_begun c.world s.id then nat_le s.line (length (greens_of c s.id))
+    else s.line == join_from 0 greens s.id))
     h.members.servers
 
 abbrev pub lines_below : Chronicle → Bool
-lines_below c = list_all (λ a. nat_le a.green_line (length (greens_of c a.id.creator))) c.book && for_cores c (is_lined c)
+lines_below c = list_all (λ a. nat_le a.green_line (length (greens_of c a.id.creator))) c.book
+    && for_cores c (is_lined c)

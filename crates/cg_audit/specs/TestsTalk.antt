@@ -31,7 +31,8 @@ use Rattle.cg_audit.specs.Through.{if_some, is_some_with, for_replicas, for_conf
 abbrev pub talk_legal : Chronicle → Bool
 talk_legal c =
     for_confs c (λ conf. is_legal (members_in c conf) conf no_talk (ordered_in c conf)
-    && for_replicas c (λ p. is_legal (members_in c conf) conf (whole_talk c conf) (map (sent_by p) (waiting_in c conf p))))
+    && for_replicas c (λ p. is_legal (members_in c conf)
+    conf (whole_talk c conf) (map (sent_by p) (waiting_in c conf p))))
 
 abbrev says_due : Chronicle → ℕ → ℕ → Talk → List Msg → Bool
 says_due c conf p t said =
@@ -41,16 +42,20 @@ says_due c conf p t said =
     && (is_creating (state_in (members_in c conf) conf t p) || is_nil (filter_map act_in said))
 
 abbrev pub sent_iff_due : Chronicle → Bool
-sent_iff_due c = for_both c (λ conf p. implies (is_regular_in c conf p) (says_due c conf p (handed_talk c conf p) (said_in c conf p)))
+sent_iff_due c =
+    for_both c (λ conf p. implies (is_regular_in c conf p) (says_due c conf
+    p (handed_talk c conf p) (said_in c conf p)))
 
 abbrev pub heard_is_told : Chronicle → Bool
 heard_is_told c =
-    for_confs c (λ conf. list_all (λ s. same_summaries (summaries_of (told_in c conf s.id)) (s ∷ [])) (whole_talk c conf).heard)
+    for_confs c (λ conf. list_all (λ s. same_summaries (summaries_of (told_in c conf s.id)) (s ∷ []))
+    (whole_talk c conf).heard)
 
 abbrev is_transitional : Chronicle → ℕ → ℕ → Held → State → Bool
 is_transitional c conf p h (NonPrim regular) = not regular
 is_transitional c conf p h (No at heard) =
-    (at == conf) && not (is_within (attempt_set h) heard) && list_all (λ q. has heard q || lacks_announcement c conf p q) (attempt_set h)
+    (at == conf) && not (is_within (attempt_set h) heard)
+    && list_all (λ q. has heard q || lacks_announcement c conf p q) (attempt_set h)
 is_transitional c conf p h Left = true
 is_transitional c conf p h TransPrim = true
 is_transitional c conf p h Un = true
@@ -72,7 +77,8 @@ abbrev pub content : Chronicle → Bool
 content c = for_both c (λ conf p. if_some (told_in c conf p) (λ t. list_all (is_content t.greens) (said_in c conf p)))
 
 abbrev on_the_way : Chronicle → ℕ → ℕ → Held → Bool
-on_the_way c conf p h = same_actions h.own (drop (length (of_creator p (handed_talk c conf p).acts)) (filter_map act_in (said_in c conf p)))
+on_the_way c conf p h =
+    same_actions h.own (drop (length (of_creator p (handed_talk c conf p).acts)) (filter_map act_in (said_in c conf p)))
 
 -- the cut goes as far as the talk that was handed to the member
 abbrev is_cut_behind : Chronicle → ℕ → ℕ → List ActionId → Bool
@@ -80,7 +86,8 @@ is_cut_behind c conf p cut = for_replicas c (λ q. index_in cut q == count_behin
 
 abbrev is_numbered : Chronicle → ℕ → ℕ → Held → State → Bool
 is_numbered c conf p h (NonPrim true) = is_cut_behind c conf p h.queue.red_cut && on_the_way c conf p h
-is_numbered c conf p h RegPrim = is_cut_behind c conf p h.queue.green_cut && is_nil h.queue.reds && on_the_way c conf p h
+is_numbered c conf p h RegPrim = is_cut_behind c conf p h.queue.green_cut && is_nil h.queue.reds
+    && on_the_way c conf p h
 is_numbered c conf p h (Construct at heard) = is_cut_behind c conf p h.queue.red_cut
 is_numbered c conf p h _ = true
 
@@ -96,5 +103,6 @@ go_on c conf t p =
 
 abbrev pub acts_numbered : Chronicle → Bool
 acts_numbered c =
-    for_confs c (λ conf. (let t = whole_talk c conf in implies (is_ended (members_in c conf) t) (list_all (go_on c conf t) (remaining t.heard))))
+    for_confs c (λ conf. (let t = whole_talk c conf in
+    implies (is_ended (members_in c conf) t) (list_all (go_on c conf t) (remaining t.heard))))
     && for_replicas c (λ p. if_some (replica_of c.world p) (is_numbered_at c p (phase_of c.world.group p)))

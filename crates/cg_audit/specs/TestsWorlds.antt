@@ -30,14 +30,17 @@ same_phase _ _ = false
 -- messages are compared by their number alone
 abbrev same_standing : Standing Msg → Standing Msg → Bool
 same_standing s t =
-    (s.id == t.id) && same_phase s.phase t.phase && (s.delivered == t.delivered) && (length s.unordered == length t.unordered)
+    (s.id == t.id) && same_phase s.phase t.phase && (s.delivered == t.delivered)
+    && (length s.unordered == length t.unordered)
 
 abbrev same_configuration : Configuration Msg → Configuration Msg → Bool
 same_configuration c d =
-    same_numbers c.members d.members && (length c.ordered == length d.ordered) && pointwise same_numbers c.received d.received
+    same_numbers c.members d.members && (length c.ordered == length d.ordered)
+    && pointwise same_numbers c.received d.received
 
 abbrev same_group : GroupState Msg → GroupState Msg → Bool
-same_group g k = pointwise same_standing g.replicas k.replicas && pointwise same_configuration g.configurations k.configurations
+same_group g k = pointwise same_standing g.replicas k.replicas
+    && pointwise same_configuration g.configurations k.configurations
 
 abbrev same_replicas : Option Replica → Option Replica → Bool
 same_replicas None None = true
@@ -57,7 +60,8 @@ same_snapshot s t = (s.joiner == t.joiner) && (s.giver == t.giver) && same_held 
 abbrev pub is_same : World → World → Bool
 is_same w v =
     same_group w.group v.group && same_numbers (map (λ s. s.id) w.seats) (map (λ s. s.id) v.seats)
-    && list_all (λ s. same_replicas (replica_of w s.id) (replica_of v s.id) && same_disks (disk_held w s.id) (disk_held v s.id)) w.seats
+    && list_all (λ s. same_replicas (replica_of w s.id) (replica_of v s.id)
+    && same_disks (disk_held w s.id) (disk_held v s.id)) w.seats
     && (length w.snapshots == length v.snapshots)
     && list_all (λ s. is_some_with (snapshot_of v s.joiner) (same_snapshot s)) w.snapshots
 

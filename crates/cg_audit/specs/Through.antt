@@ -43,5 +43,6 @@ for_both c test = for_confs c (λ conf. for_replicas c (test conf))
 -- of what each replica has in memory, what each has on its disk, and what each snapshot makes of its joiner
 abbrev pub for_cores : Chronicle → (Held → List Action → Bool) → Bool
 for_cores c test =
-    for_replicas c (λ p. if_some (replica_of c.world p) (λ r. test r.held (greens_of c p)) && if_some (disk_held c.world p) (λ h. test h (stood_of c p)))
+    for_replicas c (λ p. if_some (replica_of c.world p) (λ r. test r.held (greens_of c p))
+    && if_some (disk_held c.world p) (λ h. test h (stood_of c p)))
     && list_all (λ s. test (joined s.joiner s.content).held (copied_for c s.joiner)) c.world.snapshots

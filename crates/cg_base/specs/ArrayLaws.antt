@@ -20,7 +20,8 @@ array_slot-zeros p = get_or-zeros 32 (p - 1)
 pub IsArray-zeros : (limit : ℕ) → 0 < limit → IsArray (zeros 32) limit
 IsArray-zeros limit some = record { long = refl; small = λ k. rw (get_or-zeros 32 k) some }
 
-pub IsArray-set : (slots : List ℕ) (limit i n : ℕ) → IsArray slots limit → i < 32 → n < limit → IsArray (set slots i n) limit
+pub IsArray-set : (slots : List ℕ) (limit i n : ℕ) → IsArray slots limit → i < 32 → n < limit →
+    IsArray (set slots i n) limit
 IsArray-set slots limit i n array within small =
     let long = array.long in
     let inside : i < length slots = omega arith in
@@ -32,14 +33,16 @@ IsArray-set slots limit i n array within small =
       ];
     }
 
-pub array_slot-set_same : (slots : List ℕ) (limit p n : ℕ) → IsArray slots limit → IsId p → array_slot (set slots (p - 1) n) p ≡ n
+pub array_slot-set_same : (slots : List ℕ) (limit p n : ℕ) → IsArray slots limit → IsId p →
+    array_slot (set slots (p - 1) n) p ≡ n
 array_slot-set_same slots limit p n array is_id =
     let long = array.long in
     let one : 1 ≤ p = is_id.0 in
     let most : p ≤ 32 = is_id.1 in
     get_or-set_same slots (p - 1) n 0 (omega arith)
 
-pub array_slot-set_other : (slots : List ℕ) (p k n : ℕ) → 1 ≤ p → 1 ≤ k → k ≢ p → array_slot (set slots (p - 1) n) k ≡ array_slot slots k
+pub array_slot-set_other : (slots : List ℕ) (p k n : ℕ) → 1 ≤ p → 1 ≤ k → k ≢ p →
+    array_slot (set slots (p - 1) n) k ≡ array_slot slots k
 array_slot-set_other slots p k n one low apart =
     let other : k - 1 ≢ p - 1 = λ e. apart (omega arith) in
     get_or-set_other slots (p - 1) (k - 1) n 0 other

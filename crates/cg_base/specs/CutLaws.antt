@@ -25,31 +25,47 @@ index_in-with_top (t ∷ cut) id low p ascends = elim (cases_order id.creator t.
     | inr other ↦ rw (ne_eqb id.creator p other, ne_eqb t.creator p (λ e. other (same ∙ e)))
   ])
   | inr apart ↦ elim apart [
-    | inl front ↦ rw (ne_eqb t.creator id.creator (λ e. omega arith), lt-ltb id.creator t.creator front) (elim (cases_eq id.creator p) [
+    | inl front ↦ rw (
+      ne_eqb t.creator id.creator (λ e. omega arith),
+      lt-ltb id.creator t.creator front,
+    ) (elim (cases_eq id.creator p) [
       | inl here ↦
           let later : index_in cut p ≡ 0 = index_in-before cut (suc t.creator) p ascends.2 (omega arith) in
           rw (eq-eqb id.creator p here, ne_eqb t.creator p (λ e. omega arith)) (omega arith)
       | inr other ↦ rw (ne_eqb id.creator p other)
     ])
-    | inr later ↦ rw (ne_eqb t.creator id.creator (λ e. omega arith), le-ltb id.creator t.creator (omega arith)) (elim (cases_eq t.creator p) [
+    | inr later ↦ rw (
+      ne_eqb t.creator id.creator (λ e. omega arith),
+      le-ltb id.creator t.creator (omega arith),
+    ) (elim (cases_eq t.creator p) [
       | inl here ↦ rw (eq-eqb t.creator p here, ne_eqb id.creator p (λ e. omega arith))
       | inr other ↦ rw (ne_eqb t.creator p other) (index_in-with_top cut id (suc t.creator) p ascends.2)
     ])
   ]
 ]
 
-pub creators_in-with_top : (cut : List ActionId) (id : ActionId) → creators_in (with_top cut id) ≡ with_member (creators_in cut) id.creator
+pub creators_in-with_top : (cut : List ActionId) (id : ActionId) →
+    creators_in (with_top cut id) ≡ with_member (creators_in cut) id.creator
 creators_in-with_top [] id = refl
 creators_in-with_top (t ∷ cut) id = elim (cases_order id.creator t.creator) [
   | inl same ↦ rw (eq-eqb t.creator id.creator (sym same), eq-eqb id.creator t.creator same)
   | inr apart ↦ elim apart [
-    | inl front ↦ rw (ne_eqb t.creator id.creator (λ e. omega arith), ne_eqb id.creator t.creator (λ e. omega arith), lt-ltb id.creator t.creator front)
-    | inr later ↦ rw (ne_eqb t.creator id.creator (λ e. omega arith), ne_eqb id.creator t.creator (λ e. omega arith), le-ltb id.creator t.creator (omega arith))
+    | inl front ↦ rw (
+      ne_eqb t.creator id.creator (λ e. omega arith),
+      ne_eqb id.creator t.creator (λ e. omega arith),
+      lt-ltb id.creator t.creator front,
+    )
+    | inr later ↦ rw (
+      ne_eqb t.creator id.creator (λ e. omega arith),
+      ne_eqb id.creator t.creator (λ e. omega arith),
+      le-ltb id.creator t.creator (omega arith),
+    )
         (ap (λ s. t.creator ∷ s) (creators_in-with_top cut id))
   ]
 ]
 
-NameActions-with_top : (cut : List ActionId) (id : ActionId) → 1 ≤ id.index → id.index < 2 ^ 64 → NameActions cut → NameActions (with_top cut id)
+NameActions-with_top : (cut : List ActionId) (id : ActionId) → 1 ≤ id.index → id.index < 2 ^ 64 → NameActions cut →
+    NameActions (with_top cut id)
 NameActions-with_top [] id some small named = (some, small, tt)
 NameActions-with_top (t ∷ cut) id some small named =
     let low : 1 ≤ t.index = named.0 in
@@ -57,7 +73,10 @@ NameActions-with_top (t ∷ cut) id some small named =
     elim (cases_order id.creator t.creator) [
       | inl same ↦ rw (eq-eqb t.creator id.creator (sym same)) (omega arith, omega arith, named.2)
       | inr apart ↦ elim apart [
-        | inl front ↦ rw (ne_eqb t.creator id.creator (λ e. omega arith), lt-ltb id.creator t.creator front) (some, small, named)
+        | inl front ↦ rw (
+          ne_eqb t.creator id.creator (λ e. omega arith),
+          lt-ltb id.creator t.creator front,
+        ) (some, small, named)
         | inr later ↦ rw (ne_eqb t.creator id.creator (λ e. omega arith), le-ltb id.creator t.creator (omega arith))
             (low, high, NameActions-with_top cut id some small named.2)
       ]
@@ -70,7 +89,8 @@ pub raise-some : (cut : List ActionId) (id : ActionId) → id.index ≢ 0 → ra
 raise-some cut id some = rw (ne_eqb id.index 0 some)
 
 -- it raises one creator's index, and never lowers one
-pub index_in-raise : (cut : List ActionId) (id : ActionId) (p : ℕ) → IsCut cut → index_in (raise cut id) p ≡ cond (eqb id.creator p) (max (index_in cut p) id.index) (index_in cut p)
+pub index_in-raise : (cut : List ActionId) (id : ActionId) (p : ℕ) → IsCut cut →
+    index_in (raise cut id) p ≡ cond (eqb id.creator p) (max (index_in cut p) id.index) (index_in cut p)
 index_in-raise cut id p is_cut = elim (cases_eq id.index 0) [
   | inl none ↦ rw (raise-0 cut id none) (elim (cases_eq id.creator p) [
     | inl here ↦ rw (eq-eqb id.creator p here) (omega arith)
@@ -79,11 +99,13 @@ index_in-raise cut id p is_cut = elim (cases_eq id.index 0) [
   | inr some ↦ rw (raise-some cut id some) (index_in-with_top cut id 1 p is_cut.ascends)
 ]
 
-pub IsCut-raise : (cut : List ActionId) (id : ActionId) → IsId id.creator → id.index < 2 ^ 64 → IsCut cut → IsCut (raise cut id)
+pub IsCut-raise : (cut : List ActionId) (id : ActionId) → IsId id.creator → id.index < 2 ^ 64 →
+    IsCut cut → IsCut (raise cut id)
 IsCut-raise cut id is_id small is_cut = elim (cases_eq id.index 0) [
   | inl none ↦ rw (raise-0 cut id none) is_cut
   | inr some ↦ rw (raise-some cut id some) (record {
-    ascends = rw (creators_in-with_top cut id) (Ascends-with_member (creators_in cut) 1 id.creator is_id.0 is_id.1 is_cut.ascends);
+    ascends = rw (creators_in-with_top cut id) (Ascends-with_member (creators_in cut) 1 id.creator is_id.0
+        is_id.1 is_cut.ascends);
     named = NameActions-with_top cut id (omega arith) small is_cut.named;
   })
 ]

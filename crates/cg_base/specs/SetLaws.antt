@@ -55,29 +55,38 @@ with_member-later q set p lt = rw (ne_eqb p q (λ e. omega arith), le-ltb p q (o
 pub has-with_member : (set : List ℕ) (p k : ℕ) → has (with_member set p) k ≡ (has set k || eqb p k)
 has-with_member [] p k = or_front (eqb p k) false
 has-with_member (q ∷ set) p k = elim (cases_order p q) [
-  | inl same ↦ rw (with_member-same q set p same) (or_again (eqb q k) (has set k) ∙ ap (λ n. (eqb q k || has set k) || eqb n k) (sym same))
+  | inl same ↦ rw (with_member-same q set p same) (or_again (eqb q k) (has set k)
+      ∙ ap (λ n. (eqb q k || has set k) || eqb n k) (sym same))
   | inr other ↦ elim other [
     | inl front ↦ rw (with_member-front q set p front) (or_front (eqb p k) (eqb q k || has set k))
-    | inr later ↦ rw (with_member-later q set p later) (ap (λ b. eqb q k || b) (has-with_member set p k) ∙ or_inner (eqb q k) (has set k) (eqb p k))
+    | inr later ↦ rw (with_member-later q set p later) (ap (λ b. eqb q k || b) (has-with_member set p k)
+        ∙ or_inner (eqb q k) (has set k) (eqb p k))
   ]
 ]
 
-pub Ascends-with_member : (set : List ℕ) (low p : ℕ) → low ≤ p → p ≤ 32 → Ascends low set → Ascends low (with_member set p)
+pub Ascends-with_member : (set : List ℕ) (low p : ℕ) → low ≤ p → p ≤ 32 → Ascends low set →
+    Ascends low (with_member set p)
 Ascends-with_member [] low p le high ascends = (le, high, tt)
 Ascends-with_member (q ∷ set) low p le high ascends = elim (cases_order p q) [
   | inl same ↦ rw (with_member-same q set p same) ascends
   | inr other ↦ elim other [
     | inl front ↦ rw (with_member-front q set p front) (le, high, (front, ascends.1, ascends.2))
-    | inr later ↦ rw (with_member-later q set p later) (ascends.0, ascends.1, Ascends-with_member set (suc q) p later high ascends.2)
+    | inr later ↦ rw (with_member-later q set p later) (
+      ascends.0,
+      ascends.1,
+      Ascends-with_member set (suc q) p later high ascends.2,
+    )
   ]
 ]
 
 -- ---- members that pass a test
 
-pub filter-keeps : {X : Type 0} (test : X → Bool) (x : X) (xs : List X) → test x ≡ true → filter test (x ∷ xs) ≡ x ∷ filter test xs
+pub filter-keeps : {X : Type 0} (test : X → Bool) (x : X) (xs : List X) → test x ≡ true →
+    filter test (x ∷ xs) ≡ x ∷ filter test xs
 filter-keeps test x xs passes = rw passes
 
-pub filter-drops : {X : Type 0} (test : X → Bool) (x : X) (xs : List X) → test x ≡ false → filter test (x ∷ xs) ≡ filter test xs
+pub filter-drops : {X : Type 0} (test : X → Bool) (x : X) (xs : List X) → test x ≡ false →
+    filter test (x ∷ xs) ≡ filter test xs
 filter-drops test x xs fails = rw fails
 
 and_false : (a : Bool) → false ≡ (a && false)
@@ -90,7 +99,8 @@ has-filter_first q k a test fails = elim (cases_eq q k) [
   | inr apart ↦ rw (ne_eqb q k apart)
 ]
 
-has-filter_kept : (q k : ℕ) (a : Bool) (test : ℕ → Bool) → test q ≡ true → (eqb q k || (a && test k)) ≡ ((eqb q k || a) && test k)
+has-filter_kept : (q k : ℕ) (a : Bool) (test : ℕ → Bool) → test q ≡ true →
+    (eqb q k || (a && test k)) ≡ ((eqb q k || a) && test k)
 has-filter_kept q k a test passes = elim (cases_eq q k) [
   | inl same ↦ let here : test k ≡ true = rw same at passes in rw (here, eq-eqb q k same)
   | inr apart ↦ rw (ne_eqb q k apart)
@@ -99,7 +109,8 @@ has-filter_kept q k a test passes = elim (cases_eq q k) [
 pub has-filter : (test : ℕ → Bool) (set : List ℕ) (k : ℕ) → has (filter test set) k ≡ (has set k && test k)
 has-filter test [] k = refl
 has-filter test (q ∷ set) k = elim (cases_Bool (test q)) [
-  | inl passes ↦ rw (filter-keeps test q set passes) (ap (λ b. eqb q k || b) (has-filter test set k) ∙ has-filter_kept q k (has set k) test passes)
+  | inl passes ↦ rw (filter-keeps test q set passes) (ap (λ b. eqb q k || b) (has-filter test set k)
+      ∙ has-filter_kept q k (has set k) test passes)
   | inr fails ↦ rw (filter-drops test q set fails) (has-filter test set k ∙ has-filter_first q k (has set k) test fails)
 ]
 
@@ -108,20 +119,23 @@ Ascends-filter test [] low ascends = tt
 Ascends-filter test (q ∷ set) low ascends = elim (cases_Bool (test q)) [
   | inl passes ↦ rw (filter-keeps test q set passes) (ascends.0, ascends.1, Ascends-filter test set (suc q) ascends.2)
   | inr fails ↦ rw (filter-drops test q set fails)
-      (Ascends-below (filter test set) (suc q) low (let le : low ≤ q = ascends.0 in omega arith) (Ascends-filter test set (suc q) ascends.2))
+      (Ascends-below (filter test set) (suc q) low (let le : low ≤ q = ascends.0 in
+      omega arith) (Ascends-filter test set (suc q) ascends.2))
 ]
 
 -- ---- two sets
 
 pub has-union : (s t : List ℕ) (k : ℕ) → has (union s t) k ≡ (has s k || has t k)
 has-union s [] k = or_front false (has s k)
-has-union s (p ∷ t) k = has-union (with_member s p) t k ∙ ap (λ b. b || has t k) (has-with_member s p k) ∙ sym (or_inner (has s k) (eqb p k) (has t k))
+has-union s (p ∷ t) k = has-union (with_member s p) t k ∙ ap (λ b. b || has t k) (has-with_member s p k)
+    ∙ sym (or_inner (has s k) (eqb p k) (has t k))
 
 pub Ascends-union : (s t : List ℕ) (low : ℕ) → 1 ≤ low → Ascends 1 s → Ascends low t → Ascends 1 (union s t)
 Ascends-union s [] low one ascends others = ascends
 Ascends-union s (p ∷ t) low one ascends others =
     let above : low ≤ p = others.0 in
-    Ascends-union (with_member s p) t (suc p) (omega arith) (Ascends-with_member s 1 p (omega arith) others.1 ascends) others.2
+    Ascends-union (with_member s p) t (suc p) (omega arith) (Ascends-with_member s 1 p (omega arith)
+    others.1 ascends) others.2
 
 pub has-common : (s t : List ℕ) (k : ℕ) → has (common s t) k ≡ (has s k && has t k)
 has-common s t k = has-filter (has t) s k
@@ -135,13 +149,15 @@ has-without_member set p k = has-filter (λ q. not (eqb q p)) set k
 -- the least member taken away leaves the others
 pub without_member-least : (p : ℕ) (set : List ℕ) (low : ℕ) → Ascends low (p ∷ set) → without_member (p ∷ set) p ≡ set
 without_member-least p set low ascends =
-    filter-drops (λ q. not (eqb q p)) p set (ap not (eq-eqb p p refl)) ∙ filter-all p set (suc p) (omega arith) ascends.2
+    filter-drops (λ q. not (eqb q p)) p set (ap not (eq-eqb p p refl))
+    ∙ filter-all p set (suc p) (omega arith) ascends.2
   where
     filter-all : (p : ℕ) (set : List ℕ) (low : ℕ) → p < low → Ascends low set → filter (λ q. not (eqb q p)) set ≡ set
     filter-all p [] low lt ascends = refl
     filter-all p (q ∷ set) low lt ascends =
         let above : low ≤ q = ascends.0 in
-        filter-keeps (λ q. not (eqb q p)) q set (ap not (ne_eqb q p (λ e. omega arith))) ∙ ap (λ s. q ∷ s) (filter-all p set (suc q) (omega arith) ascends.2)
+        filter-keeps (λ q. not (eqb q p)) q set (ap not (ne_eqb q p (λ e. omega arith)))
+        ∙ ap (λ s. q ∷ s) (filter-all p set (suc q) (omega arith) ascends.2)
 
 -- a set is its least member and the others
 pub least-first : (set : List ℕ) (low p : ℕ) → Ascends low set → Some p ≡ least set → set ≡ p ∷ without_member set p
@@ -161,7 +177,8 @@ length-Ascends (p ∷ set) low small ascends =
     omega arith
 
 pub length-IsSet : (set : List ℕ) → IsSet set → length set ≤ 32
-length-IsSet set is_set = let most : length set + 1 ≤ 33 = length-Ascends set 1 (omega arith) is_set.ascends in omega arith
+length-IsSet set is_set = let most : length set + 1 ≤ 33 =
+    length-Ascends set 1 (omega arith) is_set.ascends in omega arith
 
 -- ---- one set within another
 

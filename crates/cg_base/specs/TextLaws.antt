@@ -28,7 +28,8 @@ KeepsFront-through (x ∷ a) (y ∷ b) (z ∷ c) ab bc =
 
 -- a text that keeps a longer front keeps a shorter one
 pub KeepsFront-less : (before more now : List ℕ) → KeepsFront (before ++ more) now → KeepsFront before now
-KeepsFront-less before more now keeps = KeepsFront-through before (before ++ more) now (KeepsFront-grown before more) keeps
+KeepsFront-less before more now keeps =
+    KeepsFront-through before (before ++ more) now (KeepsFront-grown before more) keeps
 
 pub KeepsFront-is : (a b more : List ℕ) → b ≡ a ++ more → KeepsFront a b
 KeepsFront-is a b more is = rw is (KeepsFront-grown a more)

@@ -36,7 +36,8 @@ impl PartialEq for Cut {
 
     ghost eq = { pointwise same_id };
 
-    ghost laws = { partial_equiv_from_equiv (lists_equiv (and_equiv (on_equiv (λ a. a.creator) nat_eq_equiv) (on_equiv (λ a. a.index) nat_eq_equiv))) };
+    ghost laws = { partial_equiv_from_equiv
+        (lists_equiv (and_equiv (on_equiv (λ a. a.creator) nat_eq_equiv) (on_equiv (λ a. a.index) nat_eq_equiv))) };
 
     fn eq(&self, other: &Cut) -> bool {
         self.indexes == other.indexes

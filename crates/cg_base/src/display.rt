@@ -65,7 +65,8 @@ impl Display for IdRuns {
 }
 
 fn write_runs<W: Write>(f: &mut Formatter<W>, runs: &[IdRun]) -> fmt::Result
-    ensures { WritesOnOk W.write_str_gives f.old result (with_commas (λ run. with_commas id_text (ids_of run)) runs.now) f.new }
+    ensures { WritesOnOk W.write_str_gives f.old
+        result (with_commas (λ run. with_commas id_text (ids_of run)) runs.now) f.new }
 {
     let Some((first, others)) = runs.split_first() else {
         return Ok(());
@@ -98,7 +99,8 @@ fn write_above<W: Write>(
     first: u64,
     last: u64,
 ) -> fmt::Result
-    ensures { WritesOnOk W.write_str_gives f.old result (flat_map (λ y. 44 ∷ id_text y) (names_above first last creator)) f.new }
+    ensures { WritesOnOk W.write_str_gives f.old
+        result (flat_map (λ y. 44 ∷ id_text y) (names_above first last creator)) f.new }
 {
     for before in first..last {
         let index = before + 1;

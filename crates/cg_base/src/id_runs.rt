@@ -95,7 +95,8 @@ impl PartialEq for IdRuns {
 
     ghost eq = { pointwise same_id };
 
-    ghost laws = { partial_equiv_from_equiv (lists_equiv (and_equiv (on_equiv (λ a. a.creator) nat_eq_equiv) (on_equiv (λ a. a.index) nat_eq_equiv))) };
+    ghost laws = { partial_equiv_from_equiv
+        (lists_equiv (and_equiv (on_equiv (λ a. a.creator) nat_eq_equiv) (on_equiv (λ a. a.index) nat_eq_equiv))) };
 
     // equal lists have equal runs
     fn eq(&self, other: &IdRuns) -> bool {

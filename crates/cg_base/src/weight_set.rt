@@ -36,7 +36,8 @@ impl PartialEq for WeightSet {
 
     ghost eq = { pointwise same_weighted };
 
-    ghost laws = { partial_equiv_from_equiv (lists_equiv (and_equiv (on_equiv (λ a. a.id) nat_eq_equiv) (on_equiv (λ a. a.weight) nat_eq_equiv))) };
+    ghost laws = { partial_equiv_from_equiv
+        (lists_equiv (and_equiv (on_equiv (λ a. a.id) nat_eq_equiv) (on_equiv (λ a. a.weight) nat_eq_equiv))) };
 
     fn eq(&self, other: &WeightSet) -> bool {
         self.weights == other.weights

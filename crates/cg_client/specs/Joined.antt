@@ -9,7 +9,15 @@ joined_queue q = record q { red_cut = q.green_cut; reds = []; yellow = [] }
 
 -- what its representative has green and knows of primary components
 abbrev pub joined : ℕ → Held → Held
-joined id h = record h { id = id; queue = joined_queue h.queue; yellow_valid = false; own = []; vulnerable = None; buffered = []; owed = [] }
+joined id h = record h {
+  id = id;
+  queue = joined_queue h.queue;
+  yellow_valid = false;
+  own = [];
+  vulnerable = None;
+  buffered = [];
+  owed = [];
+}
 
 -- the pieces of a snapshot: the head, the kept greens, the entries, the end
 abbrev pub piece_count : Held → ℕ

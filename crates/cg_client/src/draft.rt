@@ -29,7 +29,14 @@ impl Model for Draft {
 
     ghost Value = { DraftParts };
 
-    ghost view = { λ d. record { known = d.known; green = d.green; made = d.made; sent = d.sent; replies = d.replies; marked_own = d.marked_own } };
+    ghost view = { λ d. record {
+      known = d.known;
+      green = d.green;
+      made = d.made;
+      sent = d.sent;
+      replies = d.replies;
+      marked_own = d.marked_own;
+    } };
 }
 
 impl Draft {

@@ -28,7 +28,19 @@ impl Model for Core {
 
     ghost Value = { Held };
 
-    ghost view = { λ c. record { id = c.id; queue = c.queue.value; yellow_valid = c.yellow_valid; own = c.own; db = c.db.value; members = c.members.value; prim = c.components.value.prim; attempt_index = c.components.value.attempt_index; vulnerable = c.components.value.vulnerable; buffered = c.buffered; owed = c.owed } };
+    ghost view = { λ c. record {
+      id = c.id;
+      queue = c.queue.value;
+      yellow_valid = c.yellow_valid;
+      own = c.own;
+      db = c.db.value;
+      members = c.members.value;
+      prim = c.components.value.prim;
+      attempt_index = c.components.value.attempt_index;
+      vulnerable = c.components.value.vulnerable;
+      buffered = c.buffered;
+      owed = c.owed;
+    } };
 }
 
 // more of a replica's actions, and more greens, than any run makes

@@ -18,7 +18,8 @@ use std::marker::Model;
 impl Core {
     fn green_all(&mut self, draft: &mut Draft, actions: ActionList) -> Result<(), NoMemory>
         requires { Each IsAction actions }
-        ensures { OnOk result ((state : State) → turn_with self.new state draft.new ≡ fold mark_green (turn_with self.old state draft.old) actions) }
+        ensures { OnOk result ((state : State) →
+            turn_with self.new state draft.new ≡ fold mark_green (turn_with self.old state draft.old) actions) }
     {
         for a in actions.into_vec() {
             self.mark_green(draft, a)?;
@@ -27,14 +28,16 @@ impl Core {
     }
 
     fn reds_green(&mut self, draft: &mut Draft) -> Result<(), NoMemory>
-        ensures { OnOk result ((state : State) → turn_with self.new state draft.new ≡ reds_green (turn_with self.old state draft.old)) }
+        ensures { OnOk result ((state : State) →
+            turn_with self.new state draft.new ≡ reds_green (turn_with self.old state draft.old)) }
     {
         let reds = self.queue.reds()?;
         self.green_all(draft, reds)
     }
 
     fn yellow_green(&mut self, draft: &mut Draft) -> Result<(), NoMemory>
-        ensures { OnOk result ((state : State) → turn_with self.new state draft.new ≡ yellow_green (turn_with self.old state draft.old)) }
+        ensures { OnOk result ((state : State) →
+            turn_with self.new state draft.new ≡ yellow_green (turn_with self.old state draft.old)) }
     {
         if !self.yellow_valid {
             return Ok(());
@@ -75,14 +78,16 @@ impl Core {
     // the yellow actions become green, and then the other reds; the weights are those before
     #[tactic(auto, unfolding(crate::specs::Install::install))]
     fn install(&mut self, draft: &mut Draft) -> Result<(), NoMemory>
-        ensures { OnOk result ((state : State) → turn_with self.new state draft.new ≡ install (turn_with self.old state draft.old)) }
+        ensures { OnOk result ((state : State) →
+            turn_with self.new state draft.new ≡ install (turn_with self.old state draft.old)) }
     {
         let prim = self.prim_after()?;
         self.mark_all(draft, prim)
     }
 
     fn mark_all(&mut self, draft: &mut Draft, prim: Primary) -> Result<(), NoMemory>
-        ensures { OnOk result ((state : State) → (let done = reds_green (yellow_green (turn_with self.old state draft.old)) in
+        ensures { OnOk result ((state : State) →
+            (let done = reds_green (yellow_green (turn_with self.old state draft.old)) in
             turn_with self.new state draft.new ≡ with_held done (with_prim done.replica.held prim))) }
     {
         self.yellow_green(draft)?;
@@ -111,7 +116,8 @@ impl Installed {
     /// counts, and then the other reds.
     pub fn make(mut core: Core, draft: &mut Draft, heard: IdSet) -> Result<Installed, NoMemory>
         requires { option_map (λ v. v.set) core.vulnerable ≡ Some heard }
-        ensures { IfOk result (λ i. (state : State) → turn_with i state draft.new ≡ install (turn_with core state draft.old)) }
+        ensures { IfOk result (λ i. (state : State) →
+            turn_with i state draft.new ≡ install (turn_with core state draft.old)) }
     {
         core.install(draft)?;
         Ok(Installed { core })

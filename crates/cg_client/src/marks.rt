@@ -48,7 +48,8 @@ impl Core {
     #[tactic(auto, unfolding(crate::specs::Marks::mark_red))]
     pub fn mark_red(&mut self, draft: &mut Draft, a: Action) -> Result<(), NoMemory>
         requires { IsAction a }
-        ensures { OnOk result ((state : State) → turn_with self.new state draft.new ≡ mark_red (turn_with self.old state draft.old) a) }
+        ensures { OnOk result ((state : State) →
+            turn_with self.new state draft.new ≡ mark_red (turn_with self.old state draft.old) a) }
     {
         if self.is_unmade(&a) {
             return Ok(());
@@ -58,7 +59,8 @@ impl Core {
 
     pub(crate) fn place_red(&mut self, draft: &mut Draft, a: Action) -> Result<(), NoMemory>
         requires { IsAction a }
-        ensures { OnOk result ((state : State) → turn_with self.new state draft.new ≡ marked (turn_with self.old state draft.old) a (marked_red self.old.queue a)) }
+        ensures { OnOk result ((state : State) → turn_with self.new state draft.new ≡
+            marked (turn_with self.old state draft.old) a (marked_red self.old.queue a)) }
     {
         let id = name_of(&a);
         let copy = a.copy(self.alloc)?;
@@ -77,7 +79,8 @@ impl Core {
     #[tactic(auto, unfolding(crate::specs::Marks::mark_yellow))]
     pub fn mark_yellow(&mut self, draft: &mut Draft, a: Action) -> Result<(), NoMemory>
         requires { IsAction a }
-        ensures { OnOk result ((state : State) → turn_with self.new state draft.new ≡ mark_yellow (turn_with self.old state draft.old) a) }
+        ensures { OnOk result ((state : State) →
+            turn_with self.new state draft.new ≡ mark_yellow (turn_with self.old state draft.old) a) }
     {
         if self.is_unmade(&a) {
             return Ok(());
@@ -87,7 +90,8 @@ impl Core {
 
     fn place_yellow(&mut self, draft: &mut Draft, a: Action) -> Result<(), NoMemory>
         requires { IsAction a }
-        ensures { OnOk result ((state : State) → turn_with self.new state draft.new ≡ marked (turn_with self.old state draft.old) a (marked_yellow self.old.queue a)) }
+        ensures { OnOk result ((state : State) → turn_with self.new state draft.new ≡
+            marked (turn_with self.old state draft.old) a (marked_yellow self.old.queue a)) }
     {
         let id = name_of(&a);
         let copy = a.copy(self.alloc)?;
@@ -106,7 +110,8 @@ impl Core {
     #[tactic(auto, unfolding(crate::specs::Marks::mark_green))]
     pub fn mark_green(&mut self, draft: &mut Draft, a: Action) -> Result<(), NoMemory>
         requires { IsAction a }
-        ensures { OnOk result ((state : State) → turn_with self.new state draft.new ≡ mark_green (turn_with self.old state draft.old) a) }
+        ensures { OnOk result ((state : State) →
+            turn_with self.new state draft.new ≡ mark_green (turn_with self.old state draft.old) a) }
     {
         if !self.can_be_green(&a) {
             return Ok(());
@@ -117,7 +122,8 @@ impl Core {
     /// Marks an action green at a place, where that is the next one.
     pub fn mark_green_at(&mut self, draft: &mut Draft, at: u64, a: Action) -> Result<(), NoMemory>
         requires { IsAction a }
-        ensures { OnOk result ((state : State) → turn_with self.new state draft.new ≡ mark_green_at (turn_with self.old state draft.old) at a) }
+        ensures { OnOk result ((state : State) →
+            turn_with self.new state draft.new ≡ mark_green_at (turn_with self.old state draft.old) at a) }
     {
         if !is_next(at, self.queue.green_count()) {
             return Ok(());
@@ -129,7 +135,8 @@ impl Core {
     fn place_green(&mut self, draft: &mut Draft, a: Action) -> Result<(), NoMemory>
         requires action { IsAction a }
         requires next { a.id.index ≡ suc (index_in self.old.queue.green_cut a.id.creator) }
-        ensures { OnOk result ((state : State) → turn_with self.new state draft.new ≡ place_green (turn_with self.old state draft.old) a) }
+        ensures { OnOk result ((state : State) →
+            turn_with self.new state draft.new ≡ place_green (turn_with self.old state draft.old) a) }
     {
         let count = self.queue.green_count();
         if count >= MOST {
@@ -179,7 +186,8 @@ fn reply(
     effect: Effect,
 ) -> Result<(), NoMemory>
     ensures owed { OnOk result (owed.new ≡ after_owed owed.old a.now.id) }
-    ensures replies { OnOk result (replies.new ≡ replies.old ++ given_to owed.old a.now (record { db = db.now; effect = effect })) }
+    ensures replies { OnOk result (replies.new ≡ replies.old
+        ++ given_to owed.old a.now (record { db = db.now; effect = effect })) }
 {
     let id = name_of(a);
     if is_owed(owed, &id) {

@@ -166,7 +166,8 @@ fn joined(alloc: Global, part: &Db, found: TxtList, others: TxtList) -> Result<T
 }
 
 fn mark_missing(part: &Db, marks: &mut Db, key: Txt) -> Result<(), NoMemory>
-    ensures { OnOk result (marks.new ≡ fold with_mark marks.old (filter (λ key. not (has_key part.now key)) (key ∷ []))) }
+    ensures { OnOk result (marks.new ≡ fold with_mark
+        marks.old (filter (λ key. not (has_key part.now key)) (key ∷ []))) }
 {
     if has_key(part, &key) {
         return Ok(());

@@ -33,7 +33,8 @@ impl Core {
     #[tactic(auto, unfolding(crate::specs::Requests::create))]
     pub fn create(&mut self, draft: &mut Draft, kind: Kind) -> Result<(), NoMemory>
         requires { IsKind kind }
-        ensures { OnOk result ((state : State) → turn_with self.new state draft.new ≡ create (turn_with self.old state draft.old) kind) }
+        ensures { OnOk result ((state : State) →
+            turn_with self.new state draft.new ≡ create (turn_with self.old state draft.old) kind) }
     {
         let created = self.last_created();
         if created >= MOST {
@@ -59,14 +60,16 @@ impl Core {
     /// The kept requests are created.
     #[tactic(auto, unfolding(crate::specs::Requests::create_kept))]
     pub fn create_kept(&mut self, draft: &mut Draft) -> Result<(), NoMemory>
-        ensures { OnOk result ((state : State) → turn_with self.new state draft.new ≡ create_kept (turn_with self.old state draft.old)) }
+        ensures { OnOk result ((state : State) →
+            turn_with self.new state draft.new ≡ create_kept (turn_with self.old state draft.old)) }
     {
         let kept = replace(&mut self.buffered, Row::new(self.alloc));
         self.create_all(draft, kept)
     }
 
     fn create_all(&mut self, draft: &mut Draft, kept: Row<Kept>) -> Result<(), NoMemory>
-        ensures { OnOk result ((state : State) → turn_with self.new state draft.new ≡ fold create (turn_with self.old state draft.old) kept) }
+        ensures { OnOk result ((state : State) →
+            turn_with self.new state draft.new ≡ fold create (turn_with self.old state draft.old) kept) }
     {
         for request in kept.into_vec() {
             self.create(draft, request.into_kind())?;

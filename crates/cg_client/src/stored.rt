@@ -53,7 +53,20 @@ impl Core {
         requires cut { Each (λ top. IsIndex top.index) state.cut }
         requires db { AreEntries state.db }
         requires lines { Each (λ server. IsNumber server.line) state.members.servers }
-        ensures { IfOk result (λ core. core ≡ record { id = id; queue = resumed state.white state.cut; yellow_valid = false; own = []; db = state.db; members = state.members; prim = state.prim; attempt_index = state.attempt_index; vulnerable = state.vulnerable; buffered = []; owed = [] }) }
+        ensures { IfOk result (λ core. core ≡ record {
+          id = id;
+          queue = resumed state.white state.cut;
+          yellow_valid = false;
+          own = [];
+          db = state.db;
+          members = state.members;
+          prim = state.prim;
+          attempt_index =
+              state.attempt_index;
+          vulnerable = state.vulnerable;
+          buffered = [];
+          owed = [];
+        }) }
     {
         let WhiteState {
             white,
@@ -100,7 +113,10 @@ impl Core {
     pub fn know(&mut self, a: Action) -> Result<(), NoMemory>
         requires action { IsAction a }
         requires next { a.id.index ≡ suc (index_in self.old.queue.red_cut a.id.creator) }
-        ensures { OnOk result (self.new ≡ record self.old { queue = placed_red self.old.queue a; own = after_first self.old.own a.id }) }
+        ensures { OnOk result (self.new ≡ record self.old {
+          queue = placed_red self.old.queue a;
+          own = after_first self.old.own a.id;
+        }) }
     {
         let id = name_of(&a);
         drop_own(&mut self.own, &id);
@@ -111,7 +127,8 @@ impl Core {
     /// is given, and the action isn't copied.
     pub fn turn_green(&mut self, id: ActionId) -> Result<(), NoMemory>
         requires { id.index ≡ suc (index_in self.old.queue.green_cut id.creator) }
-        ensures { OnOk result (MatchOption (action_of self.old.queue id) (self.new ≡ self.old) (λ a. self.new ≡ with_green self.old a)) }
+        ensures { OnOk result (MatchOption (action_of self.old.queue id) (self.new ≡ self.old) (λ a. self.new ≡
+            with_green self.old a)) }
     {
         let count = self.queue.green_count();
         if count >= MOST {
@@ -156,7 +173,13 @@ impl Core {
 
     /// What stands in each record of a commit.
     pub fn stable(&self) -> Result<Stable, NoMemory>
-        ensures value { IfOk result (λ s. s ≡ record { prim = self.now.prim; attempt_index = self.now.attempt_index; vulnerable = self.now.vulnerable; yellow = yellow_of self.now; created = created self.now }) }
+        ensures value { IfOk result (λ s. s ≡ record {
+          prim = self.now.prim;
+          attempt_index = self.now.attempt_index;
+          vulnerable = self.now.vulnerable;
+          yellow = yellow_of self.now;
+          created = created self.now;
+        }) }
         ensures limits { IfOk result IsStable }
     {
         let list = self.queue.yellow()?;

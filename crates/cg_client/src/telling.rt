@@ -46,7 +46,14 @@ impl Core {
     ) -> Result<(), NoMemory>
         requires reds { AreReds self.old.queue yellow.now.list }
         requires distinct { is_distinct yellow.now.list ≡ true }
-        ensures { OnOk result (self.new ≡ (let q = self.old.queue in record self.old { queue = record q { yellow = yellow.now.list }; yellow_valid = yellow.now.valid; prim = prim; attempt_index = attempt_index; vulnerable = vulnerable })) }
+        ensures { OnOk result (self.new ≡ (let q = self.old.queue in
+            record self.old {
+              queue = record q { yellow = yellow.now.list };
+              yellow_valid = yellow.now.valid;
+              prim = prim;
+              attempt_index = attempt_index;
+              vulnerable = vulnerable;
+            })) }
     {
         let components = Components::of(prim, attempt_index, vulnerable)?;
         self.queue.set_yellow(&yellow.list)?;
@@ -57,7 +64,11 @@ impl Core {
 
     /// An attempt of these members in a configuration begins, of which the replica's own end alone is known.
     pub fn begin_attempt(&mut self, conf: u64, set: IdSet) -> Result<(), NoMemory>
-        ensures value { OnOk result (self.new ≡ record self.old { attempt_index = suc self.old.attempt_index; vulnerable = Some (record { attempt = conf; from = self.old.prim.index; set = set; bits = self.old.id ∷ [] }) }) }
+        ensures value { OnOk result (self.new ≡ record self.old {
+          attempt_index = suc self.old.attempt_index;
+          vulnerable =
+              Some (record { attempt = conf; from = self.old.prim.index; set = set; bits = self.old.id ∷ [] });
+        }) }
         ensures conf { OnOk result (IsNumber conf) }
     {
         let prim = self.components.prim();
@@ -80,7 +91,8 @@ impl Core {
     /// The own actions that weren't delivered become red.
     #[tactic(auto, unfolding(crate::specs::Summary::own_to_red))]
     pub fn own_to_red(&mut self, draft: &mut Draft) -> Result<(), NoMemory>
-        ensures { OnOk result ((state : State) → turn_with self.new state draft.new ≡ own_to_red (turn_with self.old state draft.old)) }
+        ensures { OnOk result ((state : State) →
+            turn_with self.new state draft.new ≡ own_to_red (turn_with self.old state draft.old)) }
     {
         let own = replace(&mut self.own, Own::new(self.alloc));
         draft.marked_own = draft.marked_own || !own.is_empty();
@@ -88,7 +100,8 @@ impl Core {
     }
 
     fn redden_all(&mut self, draft: &mut Draft, own: Own) -> Result<(), NoMemory>
-        ensures { OnOk result ((state : State) → turn_with self.new state draft.new ≡ fold redden (turn_with self.old state draft.old) own) }
+        ensures { OnOk result ((state : State) →
+            turn_with self.new state draft.new ≡ fold redden (turn_with self.old state draft.old) own) }
     {
         for a in own.into_actions() {
             self.place_red(draft, a)?;
@@ -138,7 +151,8 @@ impl Core {
         conf: u64,
         set: IdSet,
     ) -> Result<(), NoMemory>
-        ensures { OnOk result ((state : State) → turn_with self.new (ExchangeStates conf set []) draft.new ≡ enter_exchange (turn_with self.old state draft.old) conf set) }
+        ensures { OnOk result ((state : State) → turn_with self.new (ExchangeStates conf set []) draft.new ≡
+            enter_exchange (turn_with self.old state draft.old) conf set) }
     {
         self.own_to_red(draft)?;
         let summary = self.summary(conf)?;

@@ -17,7 +17,9 @@ pub record Found {X : Type 0} (Has : X → Type 0) (spelling : X → List ℕ) (
 
 -- What is spelled is read, whatever follows it; and what is read is spelled so.
 pub record IsField {X : Type 0} (Has : X → Type 0) (spelling : X → List ℕ) (reading : Reading X) : Type 0 where
-  pub again : (x : X) (at : ℕ) (rest : List ℕ) → Has x → reading (record { at = at; bytes = spelling x ++ rest }) ≡ Ok (x, record { at = at + length (spelling x); bytes = rest })
+  pub again : (x : X) (at : ℕ) (rest : List ℕ) → Has x →
+      reading (record { at = at; bytes = spelling x ++ rest }) ≡
+      Ok (x, record { at = at + length (spelling x); bytes = rest })
   pub found : (x : X) (old new : Unread) → AreBytes old.bytes → reading old ≡ Ok (x, new) → Found Has spelling x old new
 
 -- a value that may be absent, and is one of these where it is there
@@ -37,4 +39,5 @@ pub record IsWhole {X : Type 0} (Has : X → Type 0) (spelling : X → List ℕ)
 
 -- where one spelling is at the front of another, the two are of one value, and nothing stands behind it
 abbrev pub IsFrontOfNoOther : {X : Type 0} → (X → Type 0) → (X → List ℕ) → Type 0
-IsFrontOfNoOther {X} Has spelling = (x y : X) (rest : List ℕ) → Has x → Has y → spelling y ≡ spelling x ++ rest → (y ≡ x) × (rest ≡ [])
+IsFrontOfNoOther {X} Has spelling = (x y : X) (rest : List ℕ) → Has x → Has y →
+    spelling y ≡ spelling x ++ rest → (y ≡ x) × (rest ≡ [])

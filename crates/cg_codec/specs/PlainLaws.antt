@@ -22,7 +22,8 @@ IsBelow limit n = n < limit
 
 -- ---- one byte
 
-byte_found : (x : ℕ) (at : ℕ) (bytes : List ℕ) (new : Unread) → AreBytes bytes → byte_of at bytes ≡ Ok (x, new) → Found (IsBelow 256) byte x (record { at = at; bytes = bytes }) new
+byte_found : (x : ℕ) (at : ℕ) (bytes : List ℕ) (new : Unread) → AreBytes bytes → byte_of at bytes ≡ Ok (x, new) →
+    Found (IsBelow 256) byte x (record { at = at; bytes = bytes }) new
 unfolding byte
 byte_found x at [] new fits e = absurd cc
 byte_found x at (b ∷ bytes) new fits e =
@@ -40,11 +41,14 @@ u8_field = record {
 pub between_field : (low high : ℕ) → high < 256 → IsField (λ n. (low ≤ n) × (n ≤ high)) byte (byte_between low high)
 unfolding byte_between
 between_field low high small =
-    field_has (λ n. (n < 256) × (is_between low high n ≡ true)) (λ n. (low ≤ n) × (n ≤ high)) byte (byte_between low high)
-    (λ n has. is_between-true low high n has.1) (λ n has. (omega arith, between-true low high n has.0 has.1)) (field_only (λ n. n < 256) byte take_u8 (is_between low high) u8_field)
+    field_has (λ n. (n < 256) × (is_between low high n ≡ true)) (λ n. (low ≤ n) × (n ≤ high))
+    byte (byte_between low high)
+    (λ n has. is_between-true low high n has.1) (λ n has. (omega arith, between-true low high n has.0 has.1))
+    (field_only (λ n. n < 256) byte take_u8 (is_between low high) u8_field)
   where
     is_between-true : (low high n : ℕ) → is_between low high n ≡ true → (low ≤ n) × (n ≤ high)
-    is_between-true low high n e = let both = and_parts (nat_le low n) (nat_le n high) e in (leb-true low n both.0, leb-true n high both.1)
+    is_between-true low high n e = let both = and_parts (nat_le low n) (nat_le n high) e in
+        (leb-true low n both.0, leb-true n high both.1)
 
     between-true : (low high n : ℕ) → low ≤ n → n ≤ high → is_between low high n ≡ true
     between-true low high n l h = and_from (nat_le low n) (nat_le n high) (le-leb low n l) (le-leb n high h)
@@ -82,16 +86,26 @@ wide64 = record {
 }
 
 number_again : (w : Width) (limit : ℕ) (wide : IsWide w limit) (n at : ℕ) (rest : List ℕ) → n < limit
-    → take_number w (record { at = at; bytes = to_be_bytes w n ++ rest }) ≡ Ok (n, record { at = at + length (to_be_bytes w n); bytes = rest })
+    → take_number w (record { at = at; bytes = to_be_bytes w n ++ rest }) ≡
+    Ok (n, record { at = at + length (to_be_bytes w n); bytes = rest })
 number_again w limit wide n at rest lt =
     let len = wide.len n in
-    let long : ltb (length (to_be_bytes w n ++ rest)) (byte_len w) ≡ false = le-ltb _ _ (omega (arith, length-append (to_be_bytes w n) rest)) in
-    rw (long, take_at (to_be_bytes w n) rest (byte_len w) len, drop_at (to_be_bytes w n) rest (byte_len w) len, wide.again n lt, len) refl
+    let long : ltb (length (to_be_bytes w n ++ rest)) (byte_len w) ≡ false =
+    le-ltb _ _ (omega (arith, length-append (to_be_bytes w n) rest)) in
+    rw (
+      long,
+      take_at (to_be_bytes w n) rest (byte_len w) len,
+      drop_at (to_be_bytes w n) rest (byte_len w) len,
+      wide.again n lt,
+      len,
+    ) refl
 
-number_found : (w : Width) (limit : ℕ) (wide : IsWide w limit) (n : ℕ) (old new : Unread) → AreBytes old.bytes → take_number w old ≡ Ok (n, new) → Found (IsBelow limit) (to_be_bytes w) n old new
+number_found : (w : Width) (limit : ℕ) (wide : IsWide w limit) (n : ℕ) (old new : Unread) → AreBytes old.bytes →
+    take_number w old ≡ Ok (n, new) → Found (IsBelow limit) (to_be_bytes w) n old new
 number_found w limit wide n old new fits e =
     let front = take (byte_len w) old.bytes in
-    let g = guarded (ltb (length old.bytes) (byte_len w)) (Short old.at) (from_be_bytes w front) n (behind (byte_len w) old) new e in
+    let g = guarded (ltb (length old.bytes) (byte_len w)) (Short old.at) (from_be_bytes w front)
+    n (behind (byte_len w) old) new e in
     let long : byte_len w ≤ length old.bytes = ltb-false _ _ g.0 in
     let len : length front ≡ byte_len w = omega (arith, length-take (byte_len w) old.bytes) in
     let bytes_fit = AreBytes-take (byte_len w) old.bytes fits in
@@ -125,7 +139,8 @@ unsigned_of z fits = ((Fits-of_z fits).fits, to_z-of_z w64 z fits)
 
 pub i64_field : IsField (SFits w64) signed64 take_i64
 unfolding signed64 take_i64
-i64_field = field_map (cast_signed w64) (cast_unsigned w64) (IsBelow (2 ^ 64)) number64 take_u64 (SFits w64) unsigned_of signed_of u64_field
+i64_field = field_map (cast_signed w64) (cast_unsigned w64) (IsBelow (2 ^ 64)) number64 take_u64 (SFits w64)
+    unsigned_of signed_of u64_field
 
 -- ---- truth values
 
@@ -146,7 +161,8 @@ bit_is (suc (suc n)) has = absurd (omega (arith, ltb-true (suc (suc n)) 2 has.1)
 
 pub truth_field : IsField (λ (b : Bool). Unit {0}) truth take_truth
 unfolding truth take_truth
-truth_field = field_map (λ n. n == 1) bit (λ n. (n < 256) × (is_bit n ≡ true)) byte (only is_bit take_u8) (λ b. Unit {0}) bit_back bit_is (field_only (IsBelow 256) byte take_u8 is_bit u8_field)
+truth_field = field_map (λ n. n == 1) bit (λ n. (n < 256) × (is_bit n ≡ true))
+    byte (only is_bit take_u8) (λ b. Unit {0}) bit_back bit_is (field_only (IsBelow 256) byte take_u8 is_bit u8_field)
 
 -- ---- counts and texts
 
@@ -158,20 +174,27 @@ count_field max small =
     (field_only (IsBelow (2 ^ 32)) number32 take_u32 (λ n. nat_le n max) u32_field)
 
 -- a fault that did not come
-unless : {R : Type 0} (b : Bool) (fault : CodecFault) (r : Result R CodecFault) (y : R) → cond b (Err fault) r ≡ Ok y → (b ≡ false) × (r ≡ Ok y)
+unless : {R : Type 0} (b : Bool) (fault : CodecFault) (r : Result R CodecFault) (y : R) → cond b (Err fault) r ≡ Ok y →
+    (b ≡ false) × (r ≡ Ok y)
 unless true fault r y e = absurd cc
 unless false fault r y e = (refl, e)
 
 -- a test that was passed
-provided : {R : Type 0} (b : Bool) (fault : CodecFault) (r : Result R CodecFault) (y : R) → cond b r (Err fault) ≡ Ok y → (b ≡ true) × (r ≡ Ok y)
+provided : {R : Type 0} (b : Bool) (fault : CodecFault) (r : Result R CodecFault) (y : R) →
+    cond b r (Err fault) ≡ Ok y → (b ≡ true) × (r ≡ Ok y)
 provided true fault r y e = (refl, e)
 provided false fault r y e = absurd cc
 
 -- a text of so many bytes, by the two tests that it passed
-text_bytes-ok : (at n : ℕ) (t : List ℕ) (old new : Unread) → text_bytes at n old ≡ Ok (t, new) → (n ≤ length old.bytes) × (is_utf8 (take n old.bytes) ≡ true) × (gives (take n old.bytes, behind n old) ≡ Ok (t, new))
+text_bytes-ok : (at n : ℕ) (t : List ℕ) (old new : Unread) → text_bytes at n old ≡ Ok (t, new) → (n ≤ length old.bytes)
+    × (is_utf8 (take n old.bytes) ≡ true) × (gives (take n old.bytes, behind n old) ≡ Ok (t, new))
 text_bytes-ok at n t old new e =
-    let long = unless (nat_lt (length old.bytes) n) (Short at) (cond (is_utf8 (take n old.bytes)) (gives (take n old.bytes, behind n old)) (Err (Bad at))) (t, new) e in
-    let utf8 = provided (is_utf8 (take n old.bytes)) (Bad at) (gives (take n old.bytes, behind n old)) (t, new) long.1 in
+    let long = unless (nat_lt (length old.bytes) n) (Short at)
+    (cond (is_utf8 (take n old.bytes)) (gives (take n old.bytes, behind n old)) (Err (Bad at))) (t, new) e in
+    let utf8 = provided (is_utf8 (take n old.bytes)) (Bad at) (gives (
+      take n old.bytes,
+      behind n old,
+    )) (t, new) long.1 in
     (ltb-false _ _ long.0, utf8.0, utf8.1)
 
 pub text_field : (max : ℕ) → max < 2 ^ 32 → IsField (λ t. IsUtf8 t × (length t ≤ max)) text (take_text max)
@@ -179,10 +202,20 @@ unfolding text take_text
 text_field max small = record {
   again = λ t at rest has.
       let one = (count_field max small).again (length t) at (t ++ rest) has.1 in
-      let grouped : (number32 (length t) ++ t) ++ rest ≡ number32 (length t) ++ (t ++ rest) = append_assoc (number32 (length t)) t rest in
+      let grouped : (number32 (length t) ++ t) ++ rest ≡ number32 (length t) ++ (t ++ rest) =
+      append_assoc (number32 (length t)) t rest in
       let long : nat_lt (length (t ++ rest)) (length t) ≡ false = le-ltb _ _ (omega (arith, length-append t rest)) in
-      let count : at + length (number32 (length t)) + length t ≡ at + length (number32 (length t) ++ t) = omega (arith, length-append (number32 (length t)) t) in
-      rw (grouped, one, long, take_at t rest (length t) refl, is_utf8-from_IsUtf8 t has.0, drop_at t rest (length t) refl, count) refl;
+      let count : at + length (number32 (length t)) + length t ≡ at + length (number32 (length t) ++ t) =
+      omega (arith, length-append (number32 (length t)) t) in
+      rw (
+        grouped,
+        one,
+        long,
+        take_at t rest (length t) refl,
+        is_utf8-from_IsUtf8 t has.0,
+        drop_at t rest (length t) refl,
+        count,
+      ) refl;
   found = λ t old new fits e.
       let step = go_on-ok (take_count max old) (text_bytes old.at) t new e in
       let n = step.0 in
@@ -190,9 +223,12 @@ text_field max small = record {
       let one = (count_field max small).found n old mid fits step.2 in
       let g = text_bytes-ok old.at n t mid new step.3 in
       let len : length (take n mid.bytes) ≡ n = omega (arith, length-take n mid.bytes, g.0) in
-      let rest : Took mid (take n mid.bytes) (behind n mid) = record { bytes = sym (take-append-drop n mid.bytes); at = rw len refl } in
+      let rest : Took mid (take n mid.bytes) (behind n mid) =
+      record { bytes = sym (take-append-drop n mid.bytes); at = rw len refl } in
       let both = Took-then old (number32 n) mid (take n mid.bytes) (behind n mid) one.took rest in
       let counted : Took old (number32 (length (take n mid.bytes)) ++ take n mid.bytes) (behind n mid) = rw len both in
-      let found : Found (λ t. IsUtf8 t × (length t ≤ max)) text (take n mid.bytes) old (behind n mid) = record { has = (IsUtf8-from_is_utf8 _ g.1, omega (arith, one.has)); took = counted } in
-      subst (λ (p : List ℕ × Unread). Found (λ t. IsUtf8 t × (length t ≤ max)) text p.0 old p.1) (same_pair (take n mid.bytes, behind n mid) (t, new) g.2) found;
+      let found : Found (λ t. IsUtf8 t × (length t ≤ max)) text (take n mid.bytes) old (behind n mid) =
+      record { has = (IsUtf8-from_is_utf8 _ g.1, omega (arith, one.has)); took = counted } in
+      subst (λ (p : List ℕ × Unread). Found (λ t. IsUtf8 t × (length t ≤ max)) text p.0 old p.1)
+      (same_pair (take n mid.bytes, behind n mid) (t, new) g.2) found;
 }

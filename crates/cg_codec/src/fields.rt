@@ -9,7 +9,8 @@ use std::str::from_utf8;
 
 // the text that these bytes are
 fn text_of(bytes: &[u8]) -> Option<&str>
-    ensures { MatchOption result (is_utf8 bytes.now ≡ false) (λ text. (is_utf8 bytes.now ≡ true) × (text.now ≡ bytes.now)) }
+    ensures { MatchOption result (is_utf8 bytes.now ≡ false) (λ text. (is_utf8 bytes.now ≡ true)
+        × (text.now ≡ bytes.now)) }
 {
     match from_utf8(bytes) {
         Ok(text) => Some(text),

@@ -22,6 +22,8 @@ pub fn fields_are_exact()
 /// here, of numbers.
 pub fn fields_compose()
     ensures optional { IsField (HasOptional (λ n. n < 2 ^ 64)) (optional number64) (take_optional take_u64) }
-    ensures list { (max : ℕ) → max < 2 ^ 32 → IsField (λ (ns : List ℕ). (length ns ≤ max) × EachBehind (λ _ n. n < 2 ^ 64) [] ns) (list number64) (take_list max (λ _. take_u64)) }
+    ensures list { (max : ℕ) → max < 2 ^ 32 →
+        IsField (λ (ns : List ℕ). (length ns ≤ max)
+        × EachBehind (λ _ n. n < 2 ^ 64) [] ns) (list number64) (take_list max (λ _. take_u64)) }
     ensures whole { IsWhole (λ n. n < 2 ^ 64) number64 take_u64 }
 {}

@@ -18,7 +18,8 @@ pub record AlwaysHolds : Type 0 where
   pub whitened : (h : Held) → Holds h → Holds (whiten h)
   pub stored : (h : Held) → Holds h → Holds (stored_of h)
   pub recovered : (s : Stored) → Holds s → Holds (recover s).replica.held
-  pub marked : (s : Stored) (c : Change) (t : Stored) → Holds s → all_of make (all_of green_by_name (all_of know (Some s) c.known) c.green) c.made ≡ Some t → Holds t
+  pub marked : (s : Stored) (c : Change) (t : Stored) → Holds s →
+      all_of make (all_of green_by_name (all_of know (Some s) c.known) c.green) c.made ≡ Some t → Holds t
   pub changed : (s : Stored) (c : Change) (t : Stored) → Holds s → after_change s c ≡ Some t → Holds t
   pub opened : (s : Stored) → Agrees s → IsStored s → Holds s
 

@@ -34,9 +34,17 @@ use Rattle.cg_commit.specs.HoldsMarkLaws.{are_red, rising-red}
 abbrev pub with_values_of : Held → List ActionId → Bool → Primary → ℕ → Option Vulnerable → List Kind → Held
 with_values_of h yellow valid prim index v buffered =
     let q = h.queue in
-    record h { queue = record q { yellow = yellow }; yellow_valid = valid; prim = prim; attempt_index = index; vulnerable = v; buffered = buffered }
+    record h {
+      queue = record q { yellow = yellow };
+      yellow_valid = valid;
+      prim = prim;
+      attempt_index = index;
+      vulnerable = v;
+      buffered = buffered;
+    }
 
-pub holds-values : (h : Held) (yellow : List ActionId) (valid : Bool) (prim : Primary) (index : ℕ) (v : Option Vulnerable) (buffered : List Kind) →
+pub holds-values : (h : Held) (yellow : List ActionId) (valid : Bool) (prim : Primary) (index : ℕ) (v : Option
+    Vulnerable) (buffered : List Kind) →
     are_yellow h.queue yellow ≡ true → Holds h → Holds (with_values_of h yellow valid prim index v buffered)
 holds-values h yellow valid prim index v buffered red is = record {
   rising = is.rising;
@@ -53,14 +61,18 @@ holds-values h yellow valid prim index v buffered red is = record {
 
 -- ---- yellow names
 
-all-behind : (p : ActionId → Bool) (ids : List ActionId) (id : ActionId) → list_all p ids ≡ true → p id ≡ true → list_all p (ids ++ id ∷ []) ≡ true
+all-behind : (p : ActionId → Bool) (ids : List ActionId) (id : ActionId) → list_all p ids ≡ true → p id ≡ true →
+    list_all p (ids ++ id ∷ []) ≡ true
 all-behind p [] id every last = and_from (p id) true last refl
-all-behind p (x ∷ ids) id every last = let parts = and_parts (p x) (list_all p ids) every in and_from (p x) (list_all p (ids ++ id ∷ [])) parts.0 (all-behind p ids id parts.1 last)
+all-behind p (x ∷ ids) id every last = let parts = and_parts (p x) (list_all p ids) every in
+    and_from (p x) (list_all p (ids ++ id ∷ [])) parts.0 (all-behind p ids id parts.1 last)
 
-pub yellow-behind : (q : QueueView) (ids : List ActionId) (id : ActionId) → are_yellow q ids ≡ true → names (names_of q.reds) id ≡ true → names ids id ≡ false → are_yellow q (ids ++ id ∷ []) ≡ true
+pub yellow-behind : (q : QueueView) (ids : List ActionId) (id : ActionId) → are_yellow q ids ≡ true →
+    names (names_of q.reds) id ≡ true → names ids id ≡ false → are_yellow q (ids ++ id ∷ []) ≡ true
 yellow-behind q ids id yellow red new =
     let parts = and_parts (is_distinct ids) (are_red (names_of q.reds) ids) yellow in
-    and_from (is_distinct (ids ++ id ∷ [])) (are_red (names_of q.reds) (ids ++ id ∷ [])) (distinct-behind ids id parts.0 new)
+    and_from (is_distinct (ids ++ id ∷ [])) (are_red (names_of q.reds) (ids ++ id ∷ []))
+    (distinct-behind ids id parts.0 new)
     (all-behind (names (names_of q.reds)) ids id parts.1 red)
 
 -- a name that is known comes to the yellow ones
@@ -69,7 +81,8 @@ pub record Yellowed (q : QueueView) (id : ActionId) : Type 0 where
   pub is : with_yellow q id ≡ record q { yellow = list }
   pub yellow : are_yellow q list ≡ true
 
-pub yellowed : (h : Held) (id : ActionId) → Holds h → id.index ≤ index_in h.queue.red_cut id.creator → Yellowed h.queue id
+pub yellowed : (h : Held) (id : ActionId) → Holds h →
+    id.index ≤ index_in h.queue.red_cut id.creator → Yellowed h.queue id
 yellowed h id is le =
     let gc = h.queue.green_cut in
     elim (cases_Bool (nat_lt (index_in gc id.creator) id.index)) [
@@ -87,12 +100,15 @@ yellowed h id is le =
     red : nat_lt (index_in h.queue.green_cut id.creator) id.index ≡ true → names (names_of h.queue.reds) id ≡ true
     red above =
         run-names h.queue.green_cut (names_of h.queue.reds) id is.rising is.reds
-        ∙ and_from (nat_lt (index_in h.queue.green_cut id.creator) id.index) (nat_le id.index (index_in (cut_behind h.queue.green_cut (names_of h.queue.reds)) id.creator))
-        above (ap (λ c. nat_le id.index (index_in c id.creator)) (sym is.red_cut) ∙ le-leb id.index (index_in h.queue.red_cut id.creator) le)
+        ∙ and_from (nat_lt (index_in h.queue.green_cut id.creator) id.index) (nat_le
+        id.index (index_in (cut_behind h.queue.green_cut (names_of h.queue.reds)) id.creator))
+        above (ap (λ c. nat_le id.index (index_in c id.creator)) (sym is.red_cut)
+        ∙ le-leb id.index (index_in h.queue.red_cut id.creator) le)
 
 -- ---- own actions
 
-mine-behind : (me : ℕ) (own : List Action) (a : Action) → are_of me own ≡ true → a.id.creator ≡ me → are_of me (own ++ a ∷ []) ≡ true
+mine-behind : (me : ℕ) (own : List Action) (a : Action) → are_of me own ≡ true → a.id.creator ≡ me →
+    are_of me (own ++ a ∷ []) ≡ true
 mine-behind me [] a mine of_me = and_from (a.id.creator == me) true (eq-eqb a.id.creator me of_me) refl
 mine-behind me (b ∷ own) a mine of_me =
     let parts = and_parts (b.id.creator == me) (are_of me own) mine in
@@ -102,7 +118,8 @@ mine-behind me (b ∷ own) a mine of_me =
 abbrev pub with_made : Held → Action → List ActionId → Held
 with_made h a owed = record h { own = h.own ++ a ∷ []; owed = owed }
 
-pub holds-made : (h : Held) (a : Action) (owed : List ActionId) → a.id.creator ≡ h.id → a.id.index ≡ suc (created h) → Holds h → Holds (with_made h a owed)
+pub holds-made : (h : Held) (a : Action) (owed : List ActionId) → a.id.creator ≡ h.id → a.id.index ≡ suc (created h) →
+    Holds h → Holds (with_made h a owed)
 holds-made h a owed mine next is =
     let behind = created-behind h.queue.red_cut h.id h.own (rising-red h is) is.own is.mine in
     let last : a.id.index ≡ suc (index_in (cut_behind h.queue.red_cut (names_of h.own)) a.id.creator) =
@@ -114,7 +131,8 @@ holds-made h a owed mine next is =
       red_cut = is.red_cut;
       reds = is.reds;
       by_name = is.by_name;
-      own = ap (run_on h.queue.red_cut) (names-behind h.own a) ∙ run_on-next h.queue.red_cut (names_of h.own) a.id is.own last;
+      own = ap (run_on h.queue.red_cut) (names-behind h.own a)
+          ∙ run_on-next h.queue.red_cut (names_of h.own) a.id is.own last;
       mine = mine-behind h.id h.own a is.mine mine;
       yellow = is.yellow;
       members = is.members;
@@ -127,7 +145,8 @@ dropped zero xs le = omega arith
 dropped (suc n) [] le = absurd (omega arith)
 dropped (suc n) (x ∷ xs) le = let rest = dropped n xs (omega arith) in omega arith
 
-counts-drop : (n : ℕ) (xs : List Action) (p last : ℕ) → CountsTo last (indexes_of xs p) → CountsTo last (indexes_of (drop n xs) p)
+counts-drop : (n : ℕ) (xs : List Action) (p last : ℕ) → CountsTo last (indexes_of xs p) →
+    CountsTo last (indexes_of (drop n xs) p)
 counts-drop zero xs p last counts = counts
 counts-drop (suc n) [] p last counts = tt
 counts-drop (suc n) (x ∷ xs) p last counts = counts-drop n xs p last (elim (cases_Bool (x.id.creator == p)) [
@@ -153,10 +172,12 @@ holds-whiten h is =
     let lines : unwrap_or (white_line h.members) 0 ≤ green_count h.queue = line-green h is in
     let enough : white_at h - h.queue.white ≤ length h.queue.greens = omega arith in
     let kept = dropped (white_at h - h.queue.white) h.queue.greens enough in
-    let counted : green_count h.queue ≡ white_at h + length (drop (white_at h - h.queue.white) h.queue.greens) = omega arith in
+    let counted : green_count h.queue ≡ white_at h + length (drop (white_at h - h.queue.white) h.queue.greens) =
+    omega arith in
     record {
       rising = is.rising;
-      greens = λ p. counts-drop (white_at h - h.queue.white) h.queue.greens p (index_in h.queue.green_cut p) (is.greens p);
+      greens = λ p. counts-drop (white_at h - h.queue.white) h.queue.greens
+          p (index_in h.queue.green_cut p) (is.greens p);
       count = is.count ∙ counted;
       red_cut = is.red_cut;
       reds = is.reds;

@@ -23,20 +23,24 @@ use Rattle.cg_stored.specs.Stored.{Stored, recover}
 use Rattle.cg_commit.specs.HoldsMarkLaws.{known_by, holds-known}
 
 -- the action is the next of its creator
-pub fits-next : (s : Held) (a : Action) → fits_known s a ≡ true → a.id.index ≡ suc (index_in s.queue.red_cut a.id.creator)
+pub fits-next : (s : Held) (a : Action) → fits_known s a ≡ true →
+    a.id.index ≡ suc (index_in s.queue.red_cut a.id.creator)
 fits-next s a fits =
     eqb-true a.id.index (suc (index_in s.queue.red_cut a.id.creator))
-    (and_parts (a.id.index == suc (index_in s.queue.red_cut a.id.creator)) (not (a.id.creator == s.id) || is_first (names_of s.own) a.id) fits).0
+    (and_parts (a.id.index == suc (index_in s.queue.red_cut a.id.creator)) (not (a.id.creator == s.id)
+    || is_first (names_of s.own) a.id) fits).0
 
 -- ---- the own actions become known
 
 abbrev pub known_all : Held → List Action → Held
 known_all h list = fold known_by h list
 
-pub holds-known_all : (list : List Action) (h : Held) → Holds h → run_on h.queue.red_cut (names_of list) ≡ true → Holds (known_all h list)
+pub holds-known_all : (list : List Action) (h : Held) → Holds h → run_on h.queue.red_cut (names_of list) ≡ true →
+    Holds (known_all h list)
 holds-known_all [] h is run = is
 holds-known_all (a ∷ list) h is run =
-    holds-known_all list (known_by h a) (holds-known h is a (run-head h.queue.red_cut a.id (names_of list) run)) (run-rest h.queue.red_cut a.id (names_of list) run)
+    holds-known_all list (known_by h a) (holds-known h is a (run-head h.queue.red_cut a.id (names_of list) run))
+    (run-rest h.queue.red_cut a.id (names_of list) run)
 
 -- what becomes of a turn whose own actions become red
 pub record Reddened (t u : Turn) (h : Held) (list : List Action) : Type 0 where
@@ -45,7 +49,8 @@ pub record Reddened (t u : Turn) (h : Held) (list : List Action) : Type 0 where
   pub green : u.green ≡ t.green
   pub made : u.made ≡ t.made
 
-reddens : (list : List Action) (h : Held) (t : Turn) → t.replica.held ≡ record h { own = [] } → h.own ≡ list → run_on h.queue.red_cut (names_of list) ≡ true →
+reddens : (list : List Action) (h : Held) (t : Turn) → t.replica.held ≡ record h { own = [] } → h.own ≡ list →
+    run_on h.queue.red_cut (names_of list) ≡ true →
     Reddened t (fold redden t list) h list
 reddens [] h t held own run = record {
   held = held ∙ ap (λ (o : List Action). record h { own = o }) (sym own);
@@ -54,12 +59,17 @@ reddens [] h t held own run = record {
   made = refl;
 }
 reddens (a ∷ list) h t held own run =
-    let next : a.id.index ≡ suc (index_in h.queue.red_cut a.id.creator) = run-head h.queue.red_cut a.id (names_of list) run in
+    let next : a.id.index ≡ suc (index_in h.queue.red_cut a.id.creator) =
+    run-head h.queue.red_cut a.id (names_of list) run in
     let queue : t.replica.held.queue ≡ h.queue = ap (λ (x : Held). x.queue) held in
     let u = newly_known t a (placed_red t.replica.held.queue a) in
-    let placed : redden t a ≡ u = ap (marked t a) (red-placed t.replica.held.queue a (next ∙ ap (λ (q : QueueView). suc (index_in q.red_cut a.id.creator)) (sym queue))) in
-    let there : u.replica.held ≡ record (known_by h a) { own = [] } = ap (λ (x : Held). record x { queue = placed_red x.queue a; own = after_first x.own a.id }) held in
-    let rest = reddens list (known_by h a) u there (ap (λ xs. after_first xs a.id) own ∙ after-here a list a.id (same_id-self a.id)) (run-rest h.queue.red_cut a.id (names_of list) run) in
+    let placed : redden t a ≡ u =
+    ap (marked t a) (red-placed t.replica.held.queue
+    a (next ∙ ap (λ (q : QueueView). suc (index_in q.red_cut a.id.creator)) (sym queue))) in
+    let there : u.replica.held ≡ record (known_by h a) { own = [] } =
+    ap (λ (x : Held). record x { queue = placed_red x.queue a; own = after_first x.own a.id }) held in
+    let rest = reddens list (known_by h a) u there (ap (λ xs. after_first xs a.id) own
+    ∙ after-here a list a.id (same_id-self a.id)) (run-rest h.queue.red_cut a.id (names_of list) run) in
     subst (λ (v : Turn). Reddened t (fold redden v list) h (a ∷ list)) (sym placed) (record {
       held = rest.held;
       known = rest.known ∙ append_assoc t.known (a ∷ []) list;
@@ -102,7 +112,8 @@ greened-from s id z e = go (action_of s.queue id) refl e where
       action = b;
       found = found;
       next = eqb-true b.id.index (suc (index_in s.queue.green_cut b.id.creator)) next;
-      is = sym (some-same (with_green s b) z (let f : (cond true (Some (with_green s b)) None) ≡ Some z = rw next at e in f));
+      is = sym (some-same (with_green s b) z (let f : (cond true (Some (with_green s b)) None) ≡
+          Some z = rw next at e in f));
     }
     | inr other ↦ absurd (none-some z (let f : (cond false (Some (with_green s b)) None) ≡ Some z = rw other at e in f))
   ]

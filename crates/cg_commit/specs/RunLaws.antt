@@ -14,14 +14,17 @@ pub cut_behind-append : (cut xs ys : List ActionId) → cut_behind cut (xs ++ ys
 cut_behind-append cut [] ys = refl
 cut_behind-append cut (x ∷ xs) ys = cut_behind-append (raise cut x) xs ys
 
-pub run_on-append : (cut xs ys : List ActionId) → run_on cut (xs ++ ys) ≡ (run_on cut xs && run_on (cut_behind cut xs) ys)
+pub run_on-append : (cut xs ys : List ActionId) →
+    run_on cut (xs ++ ys) ≡ (run_on cut xs && run_on (cut_behind cut xs) ys)
 run_on-append cut [] ys = refl
 run_on-append cut (x ∷ xs) ys =
     ap (λ b. (x.index == suc (index_in cut x.creator)) && b) (run_on-append (raise cut x) xs ys)
-    ∙ and-assoc (x.index == suc (index_in cut x.creator)) (run_on (raise cut x) xs) (run_on (cut_behind (raise cut x) xs) ys)
+    ∙ and-assoc (x.index == suc (index_in cut x.creator)) (run_on (raise cut x) xs)
+    (run_on (cut_behind (raise cut x) xs) ys)
 
 -- one more that is the next of its creator
-pub run_on-next : (cut xs : List ActionId) (id : ActionId) → run_on cut xs ≡ true → id.index ≡ suc (index_in (cut_behind cut xs) id.creator) →
+pub run_on-next : (cut xs : List ActionId) (id : ActionId) → run_on cut xs ≡ true →
+    id.index ≡ suc (index_in (cut_behind cut xs) id.creator) →
     run_on cut (xs ++ id ∷ []) ≡ true
 run_on-next cut xs id run next =
     run_on-append cut xs (id ∷ [])

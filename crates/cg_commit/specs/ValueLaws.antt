@@ -18,7 +18,8 @@ use Rattle.cg_records.specs.contracts.yellow.YellowPartialEq.TheImpl.{ghosts as 
 use Rattle.cg_client.specs.Replica.{Held, yellow_of}
 use Rattle.cg_commit.specs.Commit.{same_values}
 
-pub one-list : {A : Type 0} (eq : A → A → Bool) → ((x y : A) → eq x y ≡ true → x ≡ y) → (xs ys : List A) → pointwise eq xs ys ≡ true → xs ≡ ys
+pub one-list : {A : Type 0} (eq : A → A → Bool) → ((x y : A) → eq x y ≡ true → x ≡ y) → (xs ys : List A) →
+    pointwise eq xs ys ≡ true → xs ≡ ys
 one-list eq exact [] [] e = refl
 one-list eq exact [] (y ∷ ys) e = absurd (let clash : false ≡ true = e in cc)
 one-list eq exact (x ∷ xs) [] e = absurd (let clash : false ≡ true = e in cc)
@@ -38,12 +39,18 @@ pub one-prim : (a b : Primary) → primary.eq a b ≡ true → a ≡ b
 one-prim a b e =
     let first = and_parts (nat_eq a.index b.index) (nat_eq a.conf b.conf && pointwise same_weighted a.set b.set) e in
     let rest = and_parts (nat_eq a.conf b.conf) (pointwise same_weighted a.set b.set) first.1 in
-    λ i. record { index = one-number a.index b.index first.0 i; conf = one-number a.conf b.conf rest.0 i; set = one-list same_weighted one-weighted a.set b.set rest.1 i }
+    λ i. record {
+      index = one-number a.index b.index first.0 i;
+      conf = one-number a.conf b.conf rest.0 i;
+      set = one-list same_weighted one-weighted a.set b.set rest.1 i;
+    }
 
 pub one-vulnerable : (a b : Vulnerable) → vulnerable.eq a b ≡ true → a ≡ b
 one-vulnerable a b e =
-    let first = and_parts (nat_eq a.attempt b.attempt) (nat_eq a.from b.from && (pointwise nat_eq a.set b.set && pointwise nat_eq a.bits b.bits)) e in
-    let second = and_parts (nat_eq a.from b.from) (pointwise nat_eq a.set b.set && pointwise nat_eq a.bits b.bits) first.1 in
+    let first = and_parts (nat_eq a.attempt b.attempt) (nat_eq a.from b.from
+    && (pointwise nat_eq a.set b.set && pointwise nat_eq a.bits b.bits)) e in
+    let second = and_parts (nat_eq a.from b.from) (pointwise nat_eq a.set b.set
+    && pointwise nat_eq a.bits b.bits) first.1 in
     let third = and_parts (pointwise nat_eq a.set b.set) (pointwise nat_eq a.bits b.bits) second.1 in
     λ i. record {
       attempt = one-number a.attempt b.attempt first.0 i;
@@ -67,7 +74,10 @@ one-bool false true e = absurd (let clash : false ≡ true = e in cc)
 pub one-yellow : (a b : Yellow) → yellow.eq a b ≡ true → a ≡ b
 one-yellow a b e =
     let parts = and_parts (beq a.valid b.valid) (pointwise same_id a.list b.list) e in
-    λ i. record { valid = one-bool a.valid b.valid parts.0 i; list = one-list same_id same_id-is a.list b.list parts.1 i }
+    λ i. record {
+      valid = one-bool a.valid b.valid parts.0 i;
+      list = one-list same_id same_id-is a.list b.list parts.1 i;
+    }
 
 -- the values of what a replica holds
 pub record HaveOneValue (old new : Held) : Type 0 where

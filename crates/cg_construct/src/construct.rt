@@ -56,7 +56,8 @@ impl Construct {
 
     /// One delivery. A transitional configuration takes no memory.
     pub fn deliver(self, draft: &mut Draft, d: &Delivery) -> Result<ConstructStep, NoMemory>
-        ensures turn { IfOk result (λ step. turn_after step draft.new ≡ construct_on (in_construct self draft.old) self.conf self.heard d.now) }
+        ensures turn { IfOk result (λ step. turn_after step draft.new ≡
+            construct_on (in_construct self draft.old) self.conf self.heard d.now) }
         ensures limits { IfOk result HasLimits }
         ensures memory { IsTrue (is_transitional d.now) → IsOk result }
     {
@@ -76,7 +77,8 @@ impl Construct {
         from: ReplicaId,
         bytes: &[u8],
     ) -> Result<ConstructStep, NoMemory>
-        ensures turn { IfOk result (λ step. turn_after step draft.new ≡ construct_on_read (in_construct self draft.old) self.conf self.heard from (message_in bytes.now)) }
+        ensures turn { IfOk result (λ step. turn_after step draft.new ≡
+            construct_on_read (in_construct self draft.old) self.conf self.heard from (message_in bytes.now)) }
         ensures limits { IfOk result HasLimits }
     {
         match read_message(self.core.alloc(), bytes)? {
@@ -92,7 +94,8 @@ impl Construct {
         from: ReplicaId,
         message: Msg,
     ) -> Result<ConstructStep, NoMemory>
-        ensures turn { IfOk result (λ step. turn_after step draft.new ≡ construct_on_message (in_construct self draft.old) self.conf self.heard from message) }
+        ensures turn { IfOk result (λ step. turn_after step draft.new ≡
+            construct_on_message (in_construct self draft.old) self.conf self.heard from message) }
         ensures limits { IfOk result HasLimits }
     {
         match message {
@@ -111,7 +114,8 @@ impl Construct {
         id: ReplicaId,
         of_conf: u64,
     ) -> Result<ConstructStep, NoMemory>
-        ensures turn { IfOk result (λ step. turn_after step draft.new ≡ construct_on_cpc (in_construct self draft.old) self.conf self.heard from id of_conf) }
+        ensures turn { IfOk result (λ step. turn_after step draft.new ≡
+            construct_on_cpc (in_construct self draft.old) self.conf self.heard from id of_conf) }
         ensures limits { IfOk result HasLimits }
     {
         let Construct {
@@ -134,7 +138,8 @@ impl Construct {
     /// A request is kept.
     pub fn request(self, r: Request) -> Result<Construct, NoMemory>
         requires { IsKind (kind_of r) }
-        ensures { IfOk result (λ s. (draft : DraftParts) → in_construct s draft ≡ request (in_construct self draft) (kind_of r)) }
+        ensures { IfOk result (λ s. (draft : DraftParts) →
+            in_construct s draft ≡ request (in_construct self draft) (kind_of r)) }
     {
         let Construct {
             mut core,

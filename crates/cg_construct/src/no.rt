@@ -51,7 +51,8 @@ impl No {
 
     /// One delivery.
     pub fn deliver(self, draft: &mut Draft, d: &Delivery) -> Result<ConstructStep, NoMemory>
-        ensures turn { IfOk result (λ step. turn_after step draft.new ≡ no_on (in_no self draft.old) self.conf self.heard d.now) }
+        ensures turn { IfOk result (λ step. turn_after step draft.new ≡
+            no_on (in_no self draft.old) self.conf self.heard d.now) }
         ensures limits { IfOk result HasLimits }
     {
         match d {
@@ -75,7 +76,8 @@ impl No {
         from: ReplicaId,
         bytes: &[u8],
     ) -> Result<ConstructStep, NoMemory>
-        ensures turn { IfOk result (λ step. turn_after step draft.new ≡ no_on_read (in_no self draft.old) self.conf self.heard from (message_in bytes.now)) }
+        ensures turn { IfOk result (λ step. turn_after step draft.new ≡
+            no_on_read (in_no self draft.old) self.conf self.heard from (message_in bytes.now)) }
         ensures limits { IfOk result HasLimits }
     {
         match read_message(self.core.alloc(), bytes)? {
@@ -86,7 +88,8 @@ impl No {
 
     #[tactic(auto, unfolding(crate::specs::Hearing::no_on_message))]
     fn hear_message(self, from: ReplicaId, message: Msg) -> ConstructStep
-        ensures turn { (draft : DraftParts) → turn_after result draft ≡ no_on_message (in_no self draft) self.conf self.heard from message }
+        ensures turn { (draft : DraftParts) →
+            turn_after result draft ≡ no_on_message (in_no self draft) self.conf self.heard from message }
         ensures limits { HasLimits result }
     {
         match message {
@@ -96,7 +99,8 @@ impl No {
     }
 
     fn hear_cpc(self, from: ReplicaId, id: ReplicaId, of_conf: u64) -> ConstructStep
-        ensures turn { (draft : DraftParts) → turn_after result draft ≡ no_on_cpc (in_no self draft) self.conf self.heard from id of_conf }
+        ensures turn { (draft : DraftParts) →
+            turn_after result draft ≡ no_on_cpc (in_no self draft) self.conf self.heard from id of_conf }
         ensures limits { HasLimits result }
     {
         let No {

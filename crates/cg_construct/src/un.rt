@@ -52,7 +52,8 @@ impl Un {
 
     /// One delivery.
     pub fn deliver(self, draft: &mut Draft, d: &Delivery) -> Result<ConstructStep, NoMemory>
-        ensures turn { IfOk result (λ step. turn_after step draft.new ≡ un_on (turn_with self UnState draft.old) d.now) }
+        ensures turn { IfOk result (λ step. turn_after step draft.new ≡
+            un_on (turn_with self UnState draft.old) d.now) }
         ensures limits { IfOk result HasLimits }
     {
         match d {
@@ -70,7 +71,8 @@ impl Un {
     }
 
     fn hear(self, draft: &mut Draft, bytes: &[u8]) -> Result<ConstructStep, NoMemory>
-        ensures turn { IfOk result (λ step. turn_after step draft.new ≡ un_on_read (turn_with self UnState draft.old) (message_in bytes.now)) }
+        ensures turn { IfOk result (λ step. turn_after step draft.new ≡
+            un_on_read (turn_with self UnState draft.old) (message_in bytes.now)) }
         ensures limits { IfOk result HasLimits }
     {
         match read_message(self.core.alloc(), bytes)? {
@@ -82,7 +84,8 @@ impl Un {
     #[tactic(auto, unfolding(crate::specs::Hearing::un_on_message))]
     fn hear_message(self, draft: &mut Draft, message: Msg) -> Result<ConstructStep, NoMemory>
         requires { IsMsg message }
-        ensures turn { IfOk result (λ step. turn_after step draft.new ≡ un_on_message (turn_with self UnState draft.old) message) }
+        ensures turn { IfOk result (λ step. turn_after step draft.new ≡
+            un_on_message (turn_with self UnState draft.old) message) }
         ensures limits { IfOk result HasLimits }
     {
         match message {
@@ -99,7 +102,8 @@ impl Un {
     /// A request is kept.
     pub fn request(self, r: Request) -> Result<Un, NoMemory>
         requires { IsKind (kind_of r) }
-        ensures { IfOk result (λ s. (draft : DraftParts) → turn_with s UnState draft ≡ request (turn_with self UnState draft) (kind_of r)) }
+        ensures { IfOk result (λ s. (draft : DraftParts) →
+            turn_with s UnState draft ≡ request (turn_with self UnState draft) (kind_of r)) }
     {
         let Un { mut core, conf } = self;
         core.keep(r.into_kind())?;

@@ -14,9 +14,11 @@ entry key value = record { key = key; value = value }
 
 -- the database after its first entry was set, or another put before it or behind it
 abbrev pub put_at : Bool → Bool → DbEntry → List DbEntry → List ℕ → Value → List DbEntry
-put_at same before e db key value = cond same (entry key value ∷ db) (cond before (entry key value ∷ e ∷ db) (e ∷ put db key value))
+put_at same before e db key value =
+    cond same (entry key value ∷ db) (cond before (entry key value ∷ e ∷ db) (e ∷ put db key value))
 
-pub IsBefore-put : (db : List DbEntry) (low key : List ℕ) (value : Value) → IsBefore low db → text_before low key ≡ true → IsBefore low (put db key value)
+pub IsBefore-put : (db : List DbEntry) (low key : List ℕ) (value : Value) → IsBefore low db →
+    text_before low key ≡ true → IsBefore low (put db key value)
 IsBefore-put [] low key value first second = second
 IsBefore-put (e ∷ db) low key value first second = by (same_text key e.key) (text_before key e.key)
   where
@@ -25,33 +27,44 @@ IsBefore-put (e ∷ db) low key value first second = by (same_text key e.key) (t
     by false true = second
     by false false = first
 
-Ascends-put_at : (e : DbEntry) (db : List DbEntry) (key : List ℕ) (value : Value) → Ascends (e ∷ db) → Ascends (put db key value)
-    → (same before : Bool) → same_text key e.key ≡ same → text_before key e.key ≡ before → Ascends (put_at same before e db key value)
+Ascends-put_at : (e : DbEntry) (db : List DbEntry) (key : List ℕ) (value : Value) → Ascends (e ∷ db) →
+    Ascends (put db key value)
+    → (same before : Bool) → same_text key e.key ≡ same → text_before key e.key ≡ before →
+    Ascends (put_at same before e db key value)
 Ascends-put_at e db key value up rest true before s b = let is = same-is key e.key s in (rw is up.0, up.1)
 Ascends-put_at e db key value up rest false true s b = (b, up)
-Ascends-put_at e db key value up rest false false s b = (IsBefore-put db e.key key value up.0 (before-other key e.key s b), rest)
+Ascends-put_at e db key value up rest false false s b =
+    (IsBefore-put db e.key key value up.0 (before-other key e.key s b), rest)
 
 pub Ascends-put : (db : List DbEntry) (key : List ℕ) (value : Value) → Ascends db → Ascends (put db key value)
 Ascends-put [] key value up = (tt, tt)
-Ascends-put (e ∷ db) key value up = Ascends-put_at e db key value up (Ascends-put db key value up.1) (same_text key e.key) (text_before key e.key) refl refl
+Ascends-put (e ∷ db) key value up = Ascends-put_at e db key value
+    up (Ascends-put db key value up.1) (same_text key e.key) (text_before key e.key) refl refl
 
 -- a key before the first has no value
 pub value_of-before : (db : List DbEntry) (key : List ℕ) → IsBefore key db → Ascends db → value_of db key ≡ None
 value_of-before [] key first up = refl
-value_of-before (e ∷ db) key first up = rw (before-apart key e.key first) (value_of-before db key (IsBefore-through key e.key db first up.0) up.1)
+value_of-before (e ∷ db) key first up =
+    rw (before-apart key e.key first) (value_of-before db key (IsBefore-through key e.key db first up.0) up.1)
 
-IsBefore-kept : (e : DbEntry) (db kept : List DbEntry) (low : List ℕ) → text_before low e.key ≡ true → IsBefore low kept → (b : Bool) → IsBefore low (cond b (e ∷ kept) kept)
+IsBefore-kept : (e : DbEntry) (db kept : List DbEntry) (low : List ℕ) → text_before low e.key ≡ true →
+    IsBefore low kept → (b : Bool) → IsBefore low (cond b (e ∷ kept) kept)
 IsBefore-kept e db kept low first rest true = first
 IsBefore-kept e db kept low first rest false = rest
 
-pub IsBefore-filter : (p : DbEntry → Bool) (db : List DbEntry) (low : List ℕ) → IsBefore low db → Ascends db → IsBefore low (filter p db)
+pub IsBefore-filter : (p : DbEntry → Bool) (db : List DbEntry) (low : List ℕ) → IsBefore low db → Ascends db →
+    IsBefore low (filter p db)
 IsBefore-filter p [] low first up = tt
-IsBefore-filter p (e ∷ db) low first up = IsBefore-kept e db (filter p db) low first (IsBefore-filter p db low (IsBefore-through low e.key db first up.0) up.1) (p e)
+IsBefore-filter p (e ∷ db) low first up =
+    IsBefore-kept e db (filter p db) low
+    first (IsBefore-filter p db low (IsBefore-through low e.key db first up.0) up.1) (p e)
 
-Ascends-kept : (e : DbEntry) (kept : List DbEntry) → IsBefore e.key kept → Ascends kept → (b : Bool) → Ascends (cond b (e ∷ kept) kept)
+Ascends-kept : (e : DbEntry) (kept : List DbEntry) → IsBefore e.key kept → Ascends kept → (b : Bool) →
+    Ascends (cond b (e ∷ kept) kept)
 Ascends-kept e kept first rest true = (first, rest)
 Ascends-kept e kept first rest false = rest
 
 pub Ascends-filter : (p : DbEntry → Bool) (db : List DbEntry) → Ascends db → Ascends (filter p db)
 Ascends-filter p [] up = tt
-Ascends-filter p (e ∷ db) up = Ascends-kept e (filter p db) (IsBefore-filter p db e.key up.0 up.1) (Ascends-filter p db up.1) (p e)
+Ascends-filter p (e ∷ db) up =
+    Ascends-kept e (filter p db) (IsBefore-filter p db e.key up.0 up.1) (Ascends-filter p db up.1) (p e)

@@ -9,7 +9,8 @@ use Rattle.cg_db.specs.View.{entry_at}
 use Rattle.cg_db.specs.TextOrderLaws.{same-refl, same-sym, before-trans, before-apart}
 
 -- what is before a text is before those behind it
-pub IsBefore-through : (low mid : List ℕ) (db : List DbEntry) → text_before low mid ≡ true → IsBefore mid db → IsBefore low db
+pub IsBefore-through : (low mid : List ℕ) (db : List DbEntry) → text_before low mid ≡ true →
+    IsBefore mid db → IsBefore low db
 IsBefore-through low mid [] first next = tt
 IsBefore-through low mid (e ∷ db) first next = before-trans low mid e.key first next
 

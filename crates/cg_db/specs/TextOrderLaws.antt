@@ -24,7 +24,8 @@ pub same-refl : (s : List ℕ) → same_text s s ≡ true
 same-refl s = (bytes_eq-Decides s s).1 refl
 
 same-sym_by : (s t : List ℕ) → same_text s t ≡ false → (c : Bool) → same_text t s ≡ c → c ≡ false
-same-sym_by s t e true f = absurd (let yes : same_text s t ≡ true = rw (same-is t s f) (same-refl s) in true≢false (sym yes ∙ e))
+same-sym_by s t e true f = absurd (let yes : same_text s t ≡ true = rw (same-is t s f) (same-refl s) in
+    true≢false (sym yes ∙ e))
 same-sym_by s t e false f = refl
 
 pub same-sym : (s t : List ℕ) (b : Bool) → same_text s t ≡ b → same_text t s ≡ b
@@ -34,7 +35,8 @@ same-sym s t false e = same-sym_by s t e (same_text t s) refl
 -- ---- one is before the other
 
 pub before-trans : (s t u : List ℕ) → text_before s t ≡ true → text_before t u ≡ true → text_before s u ≡ true
-before-trans s t u p q = ap is_lt (nat_list_cmp_total.trans s t u (less_from (compared s t) p) (less_from (compared t u) q))
+before-trans s t u p q =
+    ap is_lt (nat_list_cmp_total.trans s t u (less_from (compared s t) p) (less_from (compared t u) q))
 
 reversed : (o : Ordering) → is_lt o ≡ true → is_lt (ordering_reverse o) ≡ false
 reversed Less e = refl

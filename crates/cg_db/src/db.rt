@@ -73,7 +73,8 @@ impl Db {
     fn run(&mut self, cmds: &[Cmd]) -> Result<Effect, NoMemory>
         requires few { length cmds.now ≤ 16 }
         requires each { All IsCommand cmds.now }
-        ensures ok { IfOk result (λ effect. run_commands self.old 0 cmds.now (Changed self.old) ≡ record { db = self.new; effect = effect }) }
+        ensures ok { IfOk result (λ effect. run_commands self.old 0 cmds.now (Changed self.old) ≡
+            record { db = self.new; effect = effect }) }
         ensures err { OnErr result (self.new ≡ self.old) }
     {
         match cmds {
@@ -86,7 +87,8 @@ impl Db {
     fn run_planned(&mut self, cmds: &[Cmd]) -> Result<Effect, NoMemory>
         requires few { length cmds.now ≤ 16 }
         requires each { All IsCommand cmds.now }
-        ensures ok { IfOk result (λ effect. run_commands self.old 0 cmds.now (Changed self.old) ≡ record { db = self.new; effect = effect }) }
+        ensures ok { IfOk result (λ effect. run_commands self.old 0 cmds.now (Changed self.old) ≡
+            record { db = self.new; effect = effect }) }
         ensures err { OnErr result (self.new ≡ self.old) }
     {
         let mut changes = Changes::new(self.alloc);
@@ -236,7 +238,9 @@ fn put_entry(map: &mut Map, key: Txt, value: Value) -> Result<(), NoMemory>
 
 // a put that is an action's only command
 fn put_alone(alloc: Global, map: &mut Map, key: &Txt, value: &Value) -> Result<Effect, NoMemory>
-    ensures ok { IfOk result (λ effect. run_commands (of_entries map.old.entries) 0 (Put key.now value.now ∷ []) (Changed (of_entries map.old.entries)) ≡ record { db = of_entries map.new.entries; effect = effect }) }
+    ensures ok { IfOk result (λ effect. run_commands (of_entries map.old.entries)
+        0 (Put key.now value.now ∷ []) (Changed (of_entries map.old.entries)) ≡
+        record { db = of_entries map.new.entries; effect = effect }) }
     ensures err { OnErr result (of_entries map.new.entries ≡ of_entries map.old.entries) }
 {
     let value = value.copy(alloc)?;
@@ -251,7 +255,9 @@ fn put_alone(alloc: Global, map: &mut Map, key: &Txt, value: &Value) -> Result<E
 
 // an addition that is an action's only command
 fn add_alone(alloc: Global, map: &mut Map, key: &Txt, by: i64) -> Result<Effect, NoMemory>
-    ensures ok { IfOk result (λ effect. run_commands (of_entries map.old.entries) 0 (Inc key.now by ∷ []) (Changed (of_entries map.old.entries)) ≡ record { db = of_entries map.new.entries; effect = effect }) }
+    ensures ok { IfOk result (λ effect. run_commands (of_entries map.old.entries)
+        0 (Inc key.now by ∷ []) (Changed (of_entries map.old.entries)) ≡
+        record { db = of_entries map.new.entries; effect = effect }) }
     ensures err { OnErr result (of_entries map.new.entries ≡ of_entries map.old.entries) }
 {
     if let Some(place) = map.get_mut(key) {
@@ -280,7 +286,8 @@ fn add_in_place(place: &mut Value, by: i64) -> Effect
 // a copy of the entry at an index, in front of those that stand behind it
 fn copy_entry(alloc: Global, from: &Map, index: usize, to: &mut Map) -> Result<(), NoMemory>
     requires { index < length from.now.entries }
-    ensures { OnOk result (of_entries to.old.entries ≡ of_entries (drop (index + 1) from.now.entries) → of_entries to.new.entries ≡ of_entries (drop index from.now.entries)) }
+    ensures { OnOk result (of_entries to.old.entries ≡ of_entries (drop (index + 1) from.now.entries) →
+        of_entries to.new.entries ≡ of_entries (drop index from.now.entries)) }
 {
     let Some((key, value)) = from.get_index(index) else {
         return Ok(());

@@ -43,7 +43,8 @@ pub(crate) fn plan(db: &Db, changes: &mut Changes, cmds: &[Cmd]) -> Result<Effec
 
 fn run_command(db: &Db, changes: &mut Changes, cmd: &Cmd) -> Result<CommandEnd, NoMemory>
     requires { IsCommand cmd.now }
-    ensures { IfOk result (λ step. run_command (with_changes db.now (listed changes.old)) cmd.now ≡ ran step (with_changes db.now (listed changes.new))) }
+    ensures { IfOk result (λ step. run_command (with_changes db.now (listed changes.old)) cmd.now ≡
+        ran step (with_changes db.now (listed changes.new))) }
 {
     match cmd {
         Cmd::Put { key, value } => {
@@ -74,7 +75,8 @@ fn run_command(db: &Db, changes: &mut Changes, cmd: &Cmd) -> Result<CommandEnd, 
 
 // one more change
 fn set(db: &Db, changes: &mut Changes, key: &Txt, value: Option<Value>) -> Result<(), NoMemory>
-    ensures { OnOk result (with_changes db.now (listed changes.new) ≡ set_option (with_changes db.now (listed changes.old)) key.now value) }
+    ensures { OnOk result (with_changes db.now (listed changes.new) ≡
+        set_option (with_changes db.now (listed changes.old)) key.now value) }
 {
     let key = key.copy(db.alloc())?;
     changes.push(Change { key, value })?;
@@ -82,7 +84,8 @@ fn set(db: &Db, changes: &mut Changes, key: &Txt, value: Option<Value>) -> Resul
 }
 
 fn add(db: &Db, changes: &mut Changes, key: &Txt, by: i64) -> Result<CommandEnd, NoMemory>
-    ensures { IfOk result (λ step. add_to (with_changes db.now (listed changes.old)) key.now by ≡ ran step (with_changes db.now (listed changes.new))) }
+    ensures { IfOk result (λ step. add_to (with_changes db.now (listed changes.old)) key.now by ≡
+        ran step (with_changes db.now (listed changes.new))) }
 {
     let Some(number) = number_in(db, changes, key) else {
         return Ok(CommandEnd::Fails);
@@ -102,7 +105,8 @@ fn swap(
     want: &BoxedOption<Value>,
     value: &Boxed<Value>,
 ) -> Result<CommandEnd, NoMemory>
-    ensures { IfOk result (λ step. run_command (with_changes db.now (listed changes.old)) (Cas key.now want.now value.now) ≡ ran step (with_changes db.now (listed changes.new))) }
+    ensures { IfOk result (λ step. run_command (with_changes db.now (listed changes.old)) (Cas key.now want.now
+        value.now) ≡ ran step (with_changes db.now (listed changes.new))) }
 {
     if !has(db, changes, key, want) {
         return Ok(CommandEnd::Goes);
@@ -121,7 +125,8 @@ fn move_amount(
     amount: i64,
 ) -> Result<CommandEnd, NoMemory>
     requires { pos 0 ≤ℤ amount }
-    ensures { IfOk result (λ step. run_command (with_changes db.now (listed changes.old)) (Move source.now target.now amount) ≡ ran step (with_changes db.now (listed changes.new))) }
+    ensures { IfOk result (λ step. run_command (with_changes db.now (listed changes.old)) (Move source.now target.now
+        amount) ≡ ran step (with_changes db.now (listed changes.new))) }
 {
     let Some(number) = number_in(db, changes, source) else {
         return Ok(CommandEnd::Fails);

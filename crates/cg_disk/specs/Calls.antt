@@ -38,7 +38,8 @@ pub record IsUnchanged (old new : DiskView) : Type 0 where
   pub state : new.state ≡ old.state
 
 -- how a call ends: `done` is what it does to the state of the disk, and `cut` what it does where a stop strikes it
-abbrev pub Ends : {T : Type 0} → (DiskState → DiskState) → (DiskState → DiskState) → DiskView → DiskView → Result T DiskFault → Type 0
+abbrev pub Ends : {T : Type 0} → (DiskState → DiskState) → (DiskState → DiskState) → DiskView → DiskView →
+    Result T DiskFault → Type 0
 Ends done cut old new (Ok _) = Passes done old new
 Ends done cut old new (Err Failed) = Fails cut old new
 Ends done cut old new (Err NoMemory) = IsUnchanged old new

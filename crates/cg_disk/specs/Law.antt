@@ -19,7 +19,8 @@ is_ahead calls (Failure others) = omega arith
 is_ahead calls (Stop others) = omega arith
 
 -- since now there is no other moment
-is_now : (a b : SideState) (calls begun : ℕ) (points : List SyncPoint) (c : Image) → MayHaveLeft a b calls begun points calls c → Leaves a b c
+is_now : (a b : SideState) (calls begun : ℕ) (points : List SyncPoint) (c : Image) →
+    MayHaveLeft a b calls begun points calls c → Leaves a b c
 is_now a b calls begun points c (inl now) = now
 is_now a b calls begun points c (inr past) = absurd (omega (arith, past.0))
 

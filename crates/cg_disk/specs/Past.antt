@@ -19,7 +19,8 @@ abbrev pub HadLeft : List ℕ → List ℕ → List SyncPoint → ℕ → Image 
 HadLeft a b [] t c = ⊥
 HadLeft a b (m ∷ points) t c =
     (t < m.call)
-    × (Leaves (side_after a (settled_a m)) (side_after b (settled_b m)) c ⊎ HadLeft (undone a (settled_a m)) (undone b (settled_b m)) points t c)
+    × (Leaves (side_after a (settled_a m)) (side_after b (settled_b m)) c
+    ⊎ HadLeft (undone a (settled_a m)) (undone b (settled_b m)) points t c)
 
 -- of a disk with these sides, this many calls, so many before the last `begin`, and these sync points since, the newest first:
 -- a crash at some moment since a time may have left this, and for a time before that `begin` any image counts

@@ -81,7 +81,11 @@ left_by d fill = record { a = filled d.a fill; b = filled d.b (drop (unsynced_fr
 
 -- a side after a write
 abbrev pub wrote_side : ℕ → List ℕ → SideState → SideState
-wrote_side place bytes s = record { old = s.old; seen = overwritten s.seen place bytes; unsynced = record { from = place; to = place + length bytes } ∷ s.unsynced }
+wrote_side place bytes s = record {
+  old = s.old;
+  seen = overwritten s.seen place bytes;
+  unsynced = record { from = place; to = place + length bytes } ∷ s.unsynced;
+}
 
 -- a side of which everything counts as synced
 abbrev pub synced_side : SideState → SideState
@@ -109,4 +113,8 @@ blow_at (Some strike) call = if strike.call == call then Some strike.blow else N
 -- stop, which may cut a write short, each later call is struck too
 abbrev pub after_blow : Blow → (DiskState → DiskState) → ℕ → DiskState → DiskState
 after_blow Fails cut call d = record { a = synced_side d.a; b = synced_side d.b; strike = None }
-after_blow Stops cut call d = record { a = (cut d).a; b = (cut d).b; strike = Some (record { call = suc call; blow = Stops }) }
+after_blow Stops cut call d = record {
+  a = (cut d).a;
+  b = (cut d).b;
+  strike = Some (record { call = suc call; blow = Stops });
+}

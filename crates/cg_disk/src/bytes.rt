@@ -40,7 +40,8 @@ pub fn substitute(
     count: usize,
     new: &[u8],
 ) -> Result<(), NoMemory>
-    ensures { OnOk result (bytes.new.items ≡ take place bytes.old.items ++ new.now ++ drop (place + count) bytes.old.items) }
+    ensures { OnOk result (bytes.new.items ≡ take place bytes.old.items ++ new.now
+        ++ drop (place + count) bytes.old.items) }
 {
     if new.len() == count && place <= bytes.len() {
         return overwrite(bytes, place, new);

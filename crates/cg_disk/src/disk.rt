@@ -44,7 +44,8 @@ pub trait Disk {
     fn read(&mut self, side: Side, place: u64, buf: &mut [u8]) -> Result<(), DiskFault>
         requires calls { (view self.old).time < 2 ^ 62 }
         requires inside { place + length buf.old ≤ length (bytes_of side (view self.old).reads) }
-        ensures bytes { OnOk result (buf.new ≡ take (length buf.old) (drop place (bytes_of side (view self.old).reads))) }
+        ensures bytes { OnOk result (buf.new ≡
+            take (length buf.old) (drop place (bytes_of side (view self.old).reads))) }
         ensures looks { Looks (view self.old) (view self.new) }
         ensures ends { Ends looked looked (view self.old) (view self.new) result }
         ensures images { HasImages (view self.new) }
@@ -54,11 +55,14 @@ pub trait Disk {
     fn write_at(&mut self, side: Side, place: u64, bytes: &[u8]) -> Result<(), DiskFault>
         requires calls { (view self.old).time < 2 ^ 62 }
         requires inside { place ≤ length (bytes_of side (view self.old).reads) }
-        ensures written { OnOk result ((view self.new).reads ≡ with_bytes side (overwritten (bytes_of side (view self.old).reads) place bytes.now) (view self.old).reads) }
+        ensures written { OnOk result ((view self.new).reads ≡
+            with_bytes side (overwritten (bytes_of side (view self.old).reads) place bytes.now) (view self.old).reads) }
         ensures short { OnOk result (place + length bytes.now < 2 ^ 63) }
-        ensures crash { Follows (TornSide side place (length bytes.now)) (view self.old).may_leave (view self.new).may_leave }
+        ensures crash { Follows (TornSide side place (length bytes.now)) (view self.old).may_leave
+            (view self.new).may_leave }
         ensures elapses { Elapses (view self.old) (view self.new) }
-        ensures ends { Ends (wrote side place bytes.now) (wrote side place bytes.now) (view self.old) (view self.new) result }
+        ensures ends { Ends (wrote side place bytes.now) (wrote side place bytes.now) (view self.old)
+            (view self.new) result }
         ensures images { HasImages (view self.new) };
 
     /// After it a crash leaves what a read gives.

@@ -79,7 +79,8 @@ impl ModelDisk {
     /// ends its side. On each side only the offsets from the lowest to the highest of those are gone through, and the bytes
     /// move.
     pub fn image(self, fill: &[u8]) -> Result<ModelDisk, NoMemory>
-        ensures { IfOk result (λ disk. IsCrashed fill.now (⟦<ModelDisk as Disk>⟧.view self) (⟦<ModelDisk as Disk>⟧.view disk)) }
+        ensures { IfOk result (λ disk. IsCrashed
+            fill.now (⟦<ModelDisk as Disk>⟧.view self) (⟦<ModelDisk as Disk>⟧.view disk)) }
     {
         let ModelDisk {
             alloc,

@@ -35,7 +35,14 @@ use Rattle.cg_engine.specs.declared.answers.Recovered.TheVariants as recovered
 
 -- what an event has brought about
 abbrev pub parts_of : Turn → DraftParts
-parts_of t = record { known = t.known; green = t.green; made = t.made; sent = t.sent; replies = t.replies; marked_own = t.marked_own }
+parts_of t = record {
+  known = t.known;
+  green = t.green;
+  made = t.made;
+  sent = t.sent;
+  replies = t.replies;
+  marked_own = t.marked_own;
+}
 
 -- how the event ended at the store
 abbrev pub answer_of : {D : Type 0} → Handled D → Result (Kept D × Outputs) (CommitErr D)
@@ -56,25 +63,30 @@ pub record IsLeft {D : Type 0} (id count : ℕ) (w : Fallen D) : Type 0 where
 abbrev pub Leaves : {D : Type 0} → (D → DiskView) → ℕ → ℕ → OnDisk → Turn → Bool → Handled D → Type 0
 Leaves view id count u t written (handled.Running e outputs) = e.replica ≡ replica_behind written t.replica
 Leaves view id count u t written (handled.Down w) = IsLeft id count w × (w.green ≡ t.green)
-Leaves view id count u t written (handled.NoMemory w) = IsLeft id count w × ((w.green ≡ t.green) ⊎ Stands id (view w.disk).reads u)
+Leaves view id count u t written (handled.NoMemory w) =
+    IsLeft id count w × ((w.green ≡ t.green) ⊎ Stands id (view w.disk).reads u)
 
 -- an image in an event: of the state before, or of the one behind, in the records before a checkpoint or in it
 abbrev pub IsBetween : Bool → ℕ → OnDisk → OnDisk → Image → Type 0
 IsBetween written id u v c = Either written (IsOneOfThree id u v (checkpointed v) c) (Stands id c u)
 
 -- an event that is written makes one commit, and one that isn't makes no call: how it ends, and what each moment leaves
-pub record EndsEvent {D : Type 0} (view : D → DiskView) (k : Kept D) (count : ℕ) (u : OnDisk) (t : Turn) (written : Bool) (result : Handled D) : Type 0 where
+pub record EndsEvent {D : Type 0} (view : D →
+    DiskView) (k : Kept D) (count : ℕ) (u : OnDisk) (t : Turn) (written : Bool) (result : Handled D) : Type 0 where
   pub ends : (let v = committed k.unwritten t u in
       Either written (EndsWritten view k u v (parts_of t) (answer_of result)) (Keeps k (parts_of t) (answer_of result)))
   pub leaves : Leaves view k.id count u t written result
-  pub moments : EachMoment view (λ done. done.0.disk) (IsBetween written k.id u (committed k.unwritten t u)) (view k.disk) (answer_of result)
+  pub moments : EachMoment view (λ done. done.0.disk) (IsBetween written k.id u (committed k.unwritten t u)) (view
+      k.disk) (answer_of result)
 
 -- so it is behind the disk's `begin`
-pub record HandlesEvent {D : Type 0} (view : D → DiskView) (old : Up D) (u : OnDisk) (t : Turn) (result : Handled D) : Type 0 where
+pub record HandlesEvent {D : Type 0} (view : D →
+    DiskView) (old : Up D) (u : OnDisk) (t : Turn) (result : Handled D) : Type 0 where
   pub disk : D
   pub begins : Begins (view old.store.disk) (view disk)
   pub ends : (let k = old.store in
-      EndsEvent view (record k { disk = disk }) (green_count old.replica.held.queue) u t (commits old.replica.held t) result)
+      EndsEvent view (record k { disk = disk }) (green_count old.replica.held.queue) u
+      t (commits old.replica.held t) result)
 
 -- ---- a new replica, and one that comes up
 
@@ -83,7 +95,8 @@ pub record IsBare {D : Type 0} (id : ℕ) (w : Fallen D) : Type 0 where
   pub id_is : w.id ≡ id
   pub green : w.green ≡ []
 
-pub record IsStarted {D : Type 0} (view : D → DiskView) (id : ℕ) (set : List Weighted) (old : DiskView) (e : Up D) : Type 0 where
+pub record IsStarted {D : Type 0} (view : D →
+    DiskView) (id : ℕ) (set : List Weighted) (old : DiskView) (e : Up D) : Type 0 where
   pub reached : IsReached id 7 (created (fresh_held id set)) old (view e.store.disk)
   pub id_is : e.store.id ≡ id
   pub unwritten : e.store.unwritten ≡ []
@@ -96,7 +109,8 @@ Starts view id set old (started.Down w) = IsLostWithin 7 old (view w.disk) × Is
 Starts view id set old (started.NoMemory w) = IsRefusedWithin 7 old (view w.disk) × IsBare id w
 
 -- the replica that comes up from the state that its disk stands for, and the names of its last event that are green there
-pub record IsRecovered {D : Type 0} (view : D → DiskView) (w : Fallen D) (e : Up D) (green : List ActionId) : Type 0 where
+pub record IsRecovered {D : Type 0} (view : D →
+    DiskView) (w : Fallen D) (e : Up D) (green : List ActionId) : Type 0 where
   pub standing : OnDisk
   pub stands : Stands w.id (view w.disk).reads standing
   pub replica : e.replica ≡ (recover standing.content).replica

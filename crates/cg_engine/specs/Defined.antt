@@ -23,18 +23,22 @@ strike_from now fill s = strike_at (s.call - now) s.blow fill
 
 -- a disk that tells its state
 abbrev pub account : List Action → OnDisk → ℕ → List ℕ → DiskState → Disk
-account unwritten u now fill s = let d = disk_of unwritten u in record d { armed = option_map (strike_from now fill) s.strike }
+account unwritten u now fill s = let d = disk_of unwritten u in
+    record d { armed = option_map (strike_from now fill) s.strike }
 
 -- the event ends with the replica and the disk of the account
-pub record RunsAsDefined {D : Type 0} (view : D → DiskView) (disk : Disk) (old : Held) (t : Turn) (fill : List ℕ) (e : Up D) : Type 0 where
+pub record RunsAsDefined {D : Type 0} (view : D →
+    DiskView) (disk : Disk) (old : Held) (t : Turn) (fill : List ℕ) (e : Up D) : Type 0 where
   pub standing : OnDisk
   pub stands : Stands e.store.id (view e.store.disk).reads standing
   pub state : DiskState
   pub told : (view e.store.disk).state ≡ Some state
-  pub is : end_event disk old t ≡ Runs e.replica (account e.store.unwritten standing (view e.store.disk).time fill state)
+  pub is : end_event disk old t ≡
+      Runs e.replica (account e.store.unwritten standing (view e.store.disk).time fill state)
 
 -- or in the crash of the account, which leaves its disk and the names that a recovery tells
-pub record FallsAsDefined {D : Type 0} (view : D → DiskView) (disk : Disk) (old : Held) (t : Turn) (fill : List ℕ) (w : Fallen D) : Type 0 where
+pub record FallsAsDefined {D : Type 0} (view : D →
+    DiskView) (disk : Disk) (old : Held) (t : Turn) (fill : List ℕ) (w : Fallen D) : Type 0 where
   pub standing : OnDisk
   pub state : DiskState
   pub shown : (view w.disk).state ≡ Some state
@@ -49,7 +53,10 @@ EndsAsDefined view disk old t fill (handled.NoMemory w) = Unit {0}
 
 -- an engine's event is that of the account, whatever strikes, and with any bytes that a crash may leave
 pub record HandlesAsDefined {D : Type 0} (view : D → DiskView) : Type 0 where
-  pub event : (old : Up D) (u : OnDisk) (input : Input) (book : ActionId → Action) (fill : List ℕ) (s : DiskState) (result : Handled D) →
-      IsEngine (view old.store.disk) old.store.id old.store.unwritten old.replica.held → Stands old.store.id (view old.store.disk).reads u → AreBooked book old.replica.held input →
+  pub event : (old : Up D) (u : OnDisk) (input : Input) (book : ActionId →
+      Action) (fill : List ℕ) (s : DiskState) (result : Handled D) →
+      IsEngine (view old.store.disk) old.store.id old.store.unwritten old.replica.held →
+      Stands old.store.id (view old.store.disk).reads u → AreBooked book old.replica.held input →
       (view old.store.disk).state ≡ Some s → HandlesEvent view old u (replica_step old.replica input) result →
-      EndsAsDefined view (account old.store.unwritten u (view old.store.disk).time fill s) old.replica.held (replica_step old.replica input) fill result
+      EndsAsDefined view (account old.store.unwritten u (view old.store.disk).time fill s)
+      old.replica.held (replica_step old.replica input) fill result

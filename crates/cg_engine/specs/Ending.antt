@@ -78,7 +78,8 @@ pub record MaySave (unwritten : List Action) (w : OnDisk) (h : Held) : Type 0 wh
 
 -- where the event was written this is so of the white count that has risen
 abbrev pub MayGoOn : Bool → List Action → OnDisk → Held → Type 0
-MayGoOn written unwritten w h = Either written (IsLineGreen h × MaySave unwritten w (whiten h)) (Follows (disk_of unwritten w) h)
+MayGoOn written unwritten w h =
+    Either written (IsLineGreen h × MaySave unwritten w (whiten h)) (Follows (disk_of unwritten w) h)
 
 -- ---- what it gives
 
@@ -90,17 +91,21 @@ saved (Ok store) r outputs id last = handled.Running (up store r) outputs
 saved (Err fault) r outputs id last = fallen fault id last
 
 -- a checkpoint was made
-pub record Saved {D : Type 0} (view : D → DiskView) (k : Kept D) (w : OnDisk) (r : Replica) (outputs : Outputs) (last : LastEvent) (result : Handled D) : Type 0 where
+pub record Saved {D : Type 0} (view : D →
+    DiskView) (k : Kept D) (w : OnDisk) (r : Replica) (outputs : Outputs) (last : LastEvent)
+    (result : Handled D) : Type 0 where
   pub answer : Result (Kept D) (CommitErr D)
   pub moves : Moves view k w (checkpointed w) answer
   pub moments : EachMoment view (λ s. s.disk) (IsEither k.id w (checkpointed w)) (view k.disk) answer
   pub is : result ≡ saved answer r outputs k.id last
 
 abbrev pub Saves : {D : Type 0} → (D → DiskView) → Kept D → OnDisk → Replica → Outputs → LastEvent → Handled D → Type 0
-Saves view k w r outputs last result = Either (nat_lt size_limit w.size) (Saved view k w r outputs last result) (result ≡ handled.Running (up k r) outputs)
+Saves view k w r outputs last result =
+    Either (nat_lt size_limit w.size) (Saved view k w r outputs last result) (result ≡ handled.Running (up k r) outputs)
 
 abbrev pub GoesOn : {D : Type 0} → (D → DiskView) → Kept D → OnDisk → Replica → Outputs → LastEvent → Handled D → Type 0
-GoesOn view k w r outputs last result = Either outputs.written (Saves view k w (whitened r) outputs last result) (result ≡ handled.Running (up k r) outputs)
+GoesOn view k w r outputs last result =
+    Either outputs.written (Saves view k w (whitened r) outputs last result) (result ≡ handled.Running (up k r) outputs)
 
 -- ---- a recovery
 
@@ -115,7 +120,8 @@ pub record IsOpen {D : Type 0} (d : DiskView) (k : Kept D) (core : Held) : Type 
 -- the replica comes up; only memory may be wanting
 abbrev pub RisesWith : {D : Type 0} → Kept D → Turn → LastEvent → Bool → Recovered D → Type 0
 RisesWith k t last more (recovered.Running e green) =
-    (e.replica ≡ t.replica) × (e.store ≡ record k { unwritten = k.unwritten ++ t.known }) × (green ≡ (if more then last.green else []))
+    (e.replica ≡ t.replica) × (e.store ≡ record k { unwritten = k.unwritten ++ t.known })
+    × (green ≡ (if more then last.green else []))
 RisesWith k t last more (recovered.Down w) = ⊥
 RisesWith k t last more (recovered.NotAStore w) = ⊥
 RisesWith k t last more (recovered.NoMemory w) = w ≡ wreck_of k.disk k.id last

@@ -161,7 +161,8 @@ impl<D: Disk> Engine<D> {
 
     // Memory was refused before the first device call.
     fn refuse(alloc: Global, store: Store<D>, count: u64) -> Handled<D>
-        ensures { (u : OnDisk) (t : Turn) (written : Bool) → Stands store.id (D.view store.disk).reads u → EndsEvent D.view store count u t written result }
+        ensures { (u : OnDisk) (t : Turn) (written : Bool) → Stands store.id (D.view store.disk).reads u →
+            EndsEvent D.view store count u t written result }
     {
         let id = store.id();
         let green = Row::new(alloc);
@@ -171,8 +172,10 @@ impl<D: Disk> Engine<D> {
     // The step was made: the event ends.
     fn end(alloc: Global, store: Store<D>, replica: Replica, draft: Draft, count: u64) -> Handled<D>
         requires calls { (D.view store.disk).time + 10 ≤ 2 ^ 62 }
-        requires may { (u : OnDisk) → Stands store.id (D.view store.disk).reads u → MayEnd store.unwritten u (turn_of replica draft) }
-        ensures { (u : OnDisk) → Stands store.id (D.view store.disk).reads u → (let t = turn_of replica draft in EndsEvent D.view store count u t (commits u.content t) result) }
+        requires may { (u : OnDisk) → Stands store.id (D.view store.disk).reads u →
+            MayEnd store.unwritten u (turn_of replica draft) }
+        ensures { (u : OnDisk) → Stands store.id (D.view store.disk).reads u →
+            (let t = turn_of replica draft in EndsEvent D.view store count u t (commits u.content t) result) }
     {
         match Row::from_slice(alloc, draft.green().as_slice()) {
             Ok(green) => Engine::write(store, replica, draft, LastEvent { count, green }),
@@ -187,9 +190,11 @@ impl<D: Disk> Engine<D> {
     // The commit, and what follows it.
     fn write(store: Store<D>, replica: Replica, draft: Draft, last: LastEvent) -> Handled<D>
         requires calls { (D.view store.disk).time + 10 ≤ 2 ^ 62 }
-        requires may { (u : OnDisk) → Stands store.id (D.view store.disk).reads u → MayEnd store.unwritten u (turn_of replica draft) }
+        requires may { (u : OnDisk) → Stands store.id (D.view store.disk).reads u →
+            MayEnd store.unwritten u (turn_of replica draft) }
         requires named { last.green ≡ draft.green }
-        ensures { (u : OnDisk) → Stands store.id (D.view store.disk).reads u → (let t = turn_of replica draft in EndsEvent D.view store last.count u t (commits u.content t) result) }
+        ensures { (u : OnDisk) → Stands store.id (D.view store.disk).reads u →
+            (let t = turn_of replica draft in EndsEvent D.view store last.count u t (commits u.content t) result) }
     {
         let id = store.id();
         match store.commit(replica.core(), draft) {
@@ -204,8 +209,10 @@ impl<D: Disk> Engine<D> {
     // Behind a commit the white count rises, and a checkpoint may follow.
     fn go_on(store: Store<D>, replica: Replica, outputs: Outputs, last: LastEvent) -> Handled<D>
         requires calls { (D.view store.disk).time + 6 ≤ 2 ^ 62 }
-        requires may { (w : OnDisk) → Stands store.id (D.view store.disk).reads w → MayGoOn outputs.written store.unwritten w replica.held }
-        ensures { (w : OnDisk) → Stands store.id (D.view store.disk).reads w → GoesOn D.view store w replica outputs last result }
+        requires may { (w : OnDisk) → Stands store.id (D.view store.disk).reads w →
+            MayGoOn outputs.written store.unwritten w replica.held }
+        ensures { (w : OnDisk) → Stands store.id (D.view store.disk).reads w →
+            GoesOn D.view store w replica outputs last result }
     {
         // its clause says that the disk stands for a state
         let _id = store.id();
@@ -221,8 +228,10 @@ impl<D: Disk> Engine<D> {
     // The checkpoint, where the side is too long.
     fn save(store: Store<D>, replica: Replica, outputs: Outputs, last: LastEvent) -> Handled<D>
         requires calls { (D.view store.disk).time + 6 ≤ 2 ^ 62 }
-        requires may { (w : OnDisk) → Stands store.id (D.view store.disk).reads w → MaySave store.unwritten w replica.held }
-        ensures { (w : OnDisk) → Stands store.id (D.view store.disk).reads w → Saves D.view store w replica outputs last result }
+        requires may { (w : OnDisk) → Stands store.id (D.view store.disk).reads w →
+            MaySave store.unwritten w replica.held }
+        ensures { (w : OnDisk) → Stands store.id (D.view store.disk).reads w →
+            Saves D.view store w replica outputs last result }
     {
         let id = store.id();
         if !store.is_long() {
@@ -345,7 +354,8 @@ impl<D: Disk> Engine<D> {
         ensures value { result ≡ self.now.store.id }
 
         // The disk stands for a state that the replica follows, and nothing on it is unsynced.
-        ensures follows { IsEngine (D.view self.now.store.disk) self.now.store.id self.now.store.unwritten self.now.replica.held }
+        ensures follows { IsEngine (D.view self.now.store.disk) self.now.store.id
+            self.now.store.unwritten self.now.replica.held }
         ensures rest { IsAtRest (D.view self.now.store.disk) }
     {
         self.store.id()
@@ -361,7 +371,8 @@ impl Engine<ModelDisk> {
     /// Arms the nth next device call, n at least 1, to fail once. It takes no memory.
     pub fn fail_at(&mut self, n: u64)
         requires { 1 ≤ n }
-        ensures disk { Arms Fails n (⟦<ModelDisk as Disk>⟧.view self.old.store.disk) (⟦<ModelDisk as Disk>⟧.view self.new.store.disk) }
+        ensures disk { Arms Fails n (⟦<ModelDisk as Disk>⟧.view self.old.store.disk)
+            (⟦<ModelDisk as Disk>⟧.view self.new.store.disk) }
         ensures rest { IsSame self.old self.new }
     {
         self.store.fail_at(n);
@@ -370,7 +381,8 @@ impl Engine<ModelDisk> {
     /// Arms a stop inside the nth next device call, n at least 1. It takes no memory.
     pub fn stop_at(&mut self, n: u64)
         requires { 1 ≤ n }
-        ensures disk { Arms Stops n (⟦<ModelDisk as Disk>⟧.view self.old.store.disk) (⟦<ModelDisk as Disk>⟧.view self.new.store.disk) }
+        ensures disk { Arms Stops n (⟦<ModelDisk as Disk>⟧.view self.old.store.disk)
+            (⟦<ModelDisk as Disk>⟧.view self.new.store.disk) }
         ensures rest { IsSame self.old self.new }
     {
         self.store.stop_at(n);

@@ -75,7 +75,8 @@ impl Wreck<ModelDisk> {
 
     /// The disk after a crash, with these bytes in the places that weren't synced.
     pub fn image(self, fill: &[u8]) -> Result<Wreck<ModelDisk>, NoMemory>
-        ensures crash { IfOk result (λ w. IsCrashed fill.now (⟦<ModelDisk as Disk>⟧.view self.disk) (⟦<ModelDisk as Disk>⟧.view w.disk)) }
+        ensures crash { IfOk result (λ w. IsCrashed
+            fill.now (⟦<ModelDisk as Disk>⟧.view self.disk) (⟦<ModelDisk as Disk>⟧.view w.disk)) }
         ensures rest { IfOk result (λ w. (w.id ≡ self.id) × (w.count ≡ self.count) × (w.green ≡ self.green)) }
     {
         let Wreck { disk, id, last } = self;

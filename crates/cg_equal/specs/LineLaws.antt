@@ -101,7 +101,11 @@ one-up (Some a) None e = absurd (let clash : false ≡ true = e in cc)
 one-up (Some a) (Some b) e =
     let first = both (state_name.eq a.state b.state) e in
     let second = both (shown_phase.eq a.phase b.phase) first.1 in
-    ap Some (λ i. record { state = one-state a.state b.state first.0 i; phase = one-phase a.phase b.phase second.0 i; view = one-view a.view b.view second.1 i })
+    ap Some (λ i. record {
+      state = one-state a.state b.state first.0 i;
+      phase = one-phase a.phase b.phase second.0 i;
+      view = one-view a.view b.view second.1 i;
+    })
 
 pub one-line : (a b : Line) → line.eq a b ≡ true → a ≡ b
 one-line a b e =

@@ -41,6 +41,12 @@ abbrev pub ended_with : Going → List Line → Moved
 ended_with g lines =
     let w = g.world in
     record {
-      entry = record { made = g.made; orders = g.orders; lines = lines; replies = map (λ r. r.reply) g.replies; shown = g.shown };
+      entry = record {
+        made = g.made;
+        orders = g.orders;
+        lines = lines;
+        replies = map (λ r. r.reply) g.replies;
+        shown = g.shown;
+      };
       world = record w { lines = fold with_printed w.lines lines };
     }

@@ -16,7 +16,8 @@ pub IsSeated-beside : (c : Chronicle) (w : World) → StandsBeside c w → IsSea
 IsSeated-beside c w stands =
     record {
       disk = λ p. subst (λ o. IfSome o (λ h. h.id ≡ p)) (sym (stands.same.disk p)) (stands.facts.net.seated.disk p);
-      up = λ p. ap is_some (stands.same.running p) ∙ stands.facts.net.phase_sound.up p ∙ ap (λ g. is_up g p) (sym stands.same.group);
+      up = λ p. ap is_some (stands.same.running p) ∙ stands.facts.net.phase_sound.up p
+          ∙ ap (λ g. is_up g p) (sym stands.same.group);
     }
 
 -- ---- where an event may stand

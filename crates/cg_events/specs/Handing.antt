@@ -10,13 +10,15 @@ use Rattle.cg_client.specs.Joined.{piece_count}
 
 -- a new snapshot of the replica, where it is up
 abbrev pub new_copy : World → ℕ → ℕ → Option Snapshot
-new_copy w p joiner = option_map (λ r. record { joiner = joiner; giver = p; content = r.held; taken = 0 }) (replica_of w p)
+new_copy w p joiner =
+    option_map (λ r. record { joiner = joiner; giver = p; content = r.held; taken = 0 }) (replica_of w p)
 
 -- the snapshot of which pieces are to be taken, where its giver is up; it is no longer among those under way
 abbrev pub Chooses : World → World → ℕ → ℕ → Option Snapshot → Type 0
 Chooses old new p joiner found =
     MatchOption found ((replica_of old p ≡ None) × (new ≡ old))
-    (λ s. (r : Replica) × (replica_of old p ≡ Some r) × (s ≡ snapshot_for old p joiner r) × (new ≡ without_snapshot old joiner))
+    (λ s. (r : Replica) × (replica_of old p ≡ Some r) × (s ≡ snapshot_for old p joiner r)
+    × (new ≡ without_snapshot old joiner))
 
 -- the joiner is up where all pieces were taken; or its snapshot is under way
 abbrev pub joins : World → Snapshot → World

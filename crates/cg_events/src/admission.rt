@@ -153,7 +153,8 @@ pub(crate) fn transfer_refused(
     p: ReplicaId,
     joiner: ReplicaId,
 ) -> Option<Reason>
-    ensures { result ≡ first_some (takes_part state.now p ∷ never_named state.now joiner ∷ begun_already state.now joiner ∷ joiner_left state.now p joiner ∷ not_green state.now p joiner ∷ []) }
+    ensures { result ≡ first_some (takes_part state.now p ∷ never_named state.now joiner
+        ∷ begun_already state.now joiner ∷ joiner_left state.now p joiner ∷ not_green state.now p joiner ∷ []) }
 {
     first_of(&[
         takes_part(state, p),
@@ -221,7 +222,8 @@ pub(crate) fn split_refused(state: &WorldState, set: &IdSet) -> Option<Reason>
 
 // Why the replicas can't be the members of a new configuration, as far as the group doesn't say. It also says that they are a set.
 pub(crate) fn merge_refused(state: &WorldState, set: &IdSet) -> Option<Reason>
-    ensures reason { result ≡ first_some (empty_set set.now ∷ any_of (unknown state.now) set.now ∷ any_of (not_up state.now.group) set.now ∷ any_of (has_left state.now) set.now ∷ []) }
+    ensures reason { result ≡ first_some (empty_set set.now ∷ any_of (unknown state.now) set.now
+        ∷ any_of (not_up state.now.group) set.now ∷ any_of (has_left state.now) set.now ∷ []) }
     ensures set { IsSet set.now }
 {
     let _members = set.iter();

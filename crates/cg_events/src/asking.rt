@@ -67,7 +67,8 @@ fn copied(alloc: Global, cmds: &CmdList, query: &Option<Query>) -> Result<Reques
 // A request comes to a replica.
 fn ask(alloc: Global, state: WorldState, p: ReplicaId, request: Request) -> Result<Going, NoMemory>
     requires limits { IsKind (kind_of request) }
-    requires booked { (book : ActionName → ActionView) × IfSome (replica_of state p) (λ r. AreBooked book r.held (Asks (kind_of request))) }
+    requires booked { (book : ActionName → ActionView)
+        × IfSome (replica_of state p) (λ r. AreBooked book r.held (Asks (kind_of request))) }
     ensures { IfOk result (λ g. g ≡ ask state p (kind_of request)) }
 {
     Going::quietly(alloc, state).ask(p, request)

@@ -39,7 +39,8 @@ impl Given {
     pub(crate) fn next_number(&mut self, alloc: Global, giver: ReplicaId) -> Result<u64, NoMemory>
         ensures number { IfOk result IsNumber }
         ensures counted { IfOk result (λ n. n ≡ suc (index_in self.old giver)) }
-        ensures given { MatchResult result (λ n. self.new ≡ raise self.old (record { creator = giver; index = n })) (λ e. self.new ≡ self.old) }
+        ensures given { MatchResult result (λ n. self.new ≡
+            raise self.old (record { creator = giver; index = n })) (λ e. self.new ≡ self.old) }
     {
         let mut counts = match self.counts.take() {
             Some(counts) => counts,

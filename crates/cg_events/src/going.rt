@@ -39,13 +39,22 @@ impl Model for Going {
 
     ghost Value = { Going };
 
-    ghost view = { λ g. record { world = g.state; made = g.showing.made; orders = g.showing.orders; replies = g.showing.replies; shown = g.showing.shown } };
+    ghost view = { λ g. record {
+      world = g.state;
+      made = g.showing.made;
+      orders = g.showing.orders;
+      replies = g.showing.replies;
+      shown = g.showing.shown;
+    } };
 }
 
 // What came of an event at a replica, in the world and in what is shown.
 fn told(state: &mut WorldState, showing: &mut Showing, news: News) -> Result<(), NoMemory>
     ensures shown { OnOk result (showing.new ≡ shows_after state.old.order showing.old news) }
-    ensures state { OnOk result (state.new ≡ record state.old { order = order_after state.old.order news; made = made_after state.old.made news }) }
+    ensures state { OnOk result (state.new ≡ record state.old {
+      order = order_after state.old.order news;
+      made = made_after state.old.made news;
+    }) }
 {
     let mut made = state.made.take(state.seats.alloc())?;
     showing.tell(&mut state.order, &mut made, news)?;
@@ -142,7 +151,8 @@ impl Going {
     /// A request comes to a replica, where it is up.
     pub(crate) fn ask(self, p: ReplicaId, request: Request) -> Result<Going, NoMemory>
         requires limits { IsKind (kind_of request) }
-        requires booked { (book : ActionName → ActionView) × IfSome (replica_of self.world p) (λ r. AreBooked book r.held (Asks (kind_of request))) }
+        requires booked { (book : ActionName → ActionView)
+            × IfSome (replica_of self.world p) (λ r. AreBooked book r.held (Asks (kind_of request))) }
         ensures { IfOk result (λ g. g ≡ hand self p (Asks (kind_of request))) }
     {
         let Going { mut state, showing } = self;
@@ -290,7 +300,14 @@ fn end_with(
     showing: Showing,
     lines: Row<Line>,
 ) -> Result<(Entry, WorldState), NoMemory>
-    ensures { IfOk result (λ x. record { entry = x.0; world = x.1 } ≡ ended_with (record { world = state; made = showing.made; orders = showing.orders; replies = showing.replies; shown = showing.shown }) lines) }
+    ensures { IfOk result (λ x. record { entry = x.0; world = x.1 } ≡
+        ended_with (record {
+          world = state;
+          made = showing.made;
+          orders = showing.orders;
+          replies = showing.replies;
+          shown = showing.shown;
+        }) lines) }
 {
     let mut state = state;
     match state.lines.print_all(lines.as_slice()) {
@@ -309,7 +326,16 @@ fn enter(
     showing: Showing,
     lines: Row<Line>,
 ) -> Result<(Entry, WorldState), NoMemory>
-    ensures { IfOk result (λ x. x ≡ (record { made = showing.made; orders = showing.orders; lines = lines; replies = map (λ r. r.reply) showing.replies; shown = showing.shown }, state)) }
+    ensures { IfOk result (λ x. x ≡ (
+      record {
+        made = showing.made;
+        orders = showing.orders;
+        lines = lines;
+        replies = map (λ r. r.reply) showing.replies;
+        shown = showing.shown;
+      },
+      state,
+    )) }
 {
     match showing.into_entry(lines) {
         Ok(entry) => Ok((entry, state)),

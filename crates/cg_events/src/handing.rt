@@ -137,7 +137,8 @@ fn show_taken(alloc: Global, state: WorldState, snapshot: Transfer) -> Result<Go
 
 // How many pieces were taken, and of how many.
 fn taken_of(alloc: Global, snapshot: &Transfer) -> Result<Row<Shown>, NoMemory>
-    ensures { IfOk result (λ list. list ≡ Pieces snapshot.now.joiner snapshot.now.taken (piece_count snapshot.now.content) ∷ []) }
+    ensures { IfOk result (λ list. list ≡ Pieces snapshot.now.joiner
+        snapshot.now.taken (piece_count snapshot.now.content) ∷ []) }
 {
     let joiner = snapshot.joiner();
     let taken = snapshot.taken();

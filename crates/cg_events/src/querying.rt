@@ -34,7 +34,8 @@ fn weak_of(
     p: ReplicaId,
     query: &Query,
 ) -> Result<Row<Shown>, NoMemory>
-    ensures { IfOk result (λ list. list ≡ option_map_or (λ r. ShownWeak p (weak_answer r.held query.now) ∷ []) (replica_of state.now p) []) }
+    ensures { IfOk result (λ list. list ≡
+        option_map_or (λ r. ShownWeak p (weak_answer r.held query.now) ∷ []) (replica_of state.now p) []) }
 {
     match state.seats.find(p) {
         Some(seat) => seat.shows_weak(alloc, query),
@@ -60,7 +61,8 @@ fn dirty_of(
     p: ReplicaId,
     query: &Query,
 ) -> Result<Row<Shown>, NoMemory>
-    ensures { IfOk result (λ list. list ≡ option_map_or (λ r. ShownDirty p (dirty_answer r.held query.now) ∷ []) (replica_of state.now p) []) }
+    ensures { IfOk result (λ list. list ≡
+        option_map_or (λ r. ShownDirty p (dirty_answer r.held query.now) ∷ []) (replica_of state.now p) []) }
 {
     match state.seats.find(p) {
         Some(seat) => seat.shows_dirty(alloc, query),

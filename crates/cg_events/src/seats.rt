@@ -167,7 +167,8 @@ impl Seats {
     pub(crate) fn take(&mut self, p: ReplicaId) -> Option<Seat>
         ensures taken { MatchOption result
             ((find (λ s. s.id == p) self.old ≡ None) × (self.new ≡ self.old))
-            (λ s. (find (λ t. t.id == p) self.old ≡ Some s) × ((t : SeatView) → t.id ≡ p → with_seat self.new t ≡ with_seat self.old t)) }
+            (λ s. (find (λ t. t.id == p) self.old ≡ Some s)
+            × ((t : SeatView) → t.id ≡ p → with_seat self.new t ≡ with_seat self.old t)) }
         ensures away { find (λ s. s.id == p) self.new ≡ None }
     {
         match index_of(self.list.as_slice(), p) {

@@ -44,7 +44,15 @@ impl Model for WorldState {
 
     ghost Value = { World };
 
-    ghost view = { λ w. record { group = w.group; seats = w.seats; snapshots = w.transfers; order = w.order; lines = w.lines; made = w.made; named = w.named } };
+    ghost view = { λ w. record {
+      group = w.group;
+      seats = w.seats;
+      snapshots = w.transfers;
+      order = w.order;
+      lines = w.lines;
+      made = w.made;
+      named = w.named;
+    } };
 }
 
 impl WorldState {
@@ -158,7 +166,8 @@ impl WorldState {
     pub(crate) fn take_up(&mut self, p: ReplicaId) -> Option<Seat>
         ensures { MatchOption result
             ((replica_of self.old p ≡ None) × (self.new ≡ self.old))
-            (λ s. (seat_of self.old p ≡ Some s) × (is_some (running s.life) ≡ true) × ((life : Life) → set_life self.new p life ≡ set_life self.old p life)) }
+            (λ s. (seat_of self.old p ≡ Some s) × (is_some (running s.life) ≡ true)
+            × ((life : Life) → set_life self.new p life ≡ set_life self.old p life)) }
     {
         if self.is_up(p) {
             self.seats.take(p)

@@ -172,7 +172,8 @@ fn come_up(alloc: Global, state: &mut WorldState, p: ReplicaId) -> Result<Option
 
 fn rise(alloc: Global, state: &mut WorldState, seat: Seat) -> Result<Option<News>, NoMemory>
     requires { is_up state.old.group seat.id ≡ false }
-    ensures { IfOk result (λ news. (state.new ≡ returned state.old seat) × (news ≡ (risen state.old.made seat.id seat.life).1)) }
+    ensures { IfOk result (λ news. (state.new ≡ returned state.old seat)
+        × (news ≡ (risen state.old.made seat.id seat.life).1)) }
 {
     let id = seat.id();
     let (seat, news) = seat.recover(alloc, &state.made.get())?;

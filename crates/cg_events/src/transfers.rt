@@ -72,7 +72,8 @@ impl Transfers {
     // It is taken out, where it is there.
     fn take_out(&mut self, giver: ReplicaId, joiner: ReplicaId) -> Option<Transfer>
         ensures taken { result ≡ find (λ s. (s.joiner == joiner) && (s.giver == giver)) self.old }
-        ensures others { filter (λ s. not (s.joiner == joiner)) self.new ≡ filter (λ s. not (s.joiner == joiner)) self.old }
+        ensures others { filter (λ s. not (s.joiner == joiner)) self.new ≡
+            filter (λ s. not (s.joiner == joiner)) self.old }
     {
         match index_of(self.list.as_slice(), giver, joiner) {
             Some(index) => Some(self.list.remove(index)),

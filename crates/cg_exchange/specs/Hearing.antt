@@ -25,7 +25,8 @@ exchange_states_on_read t conf set heard from (Some m) = exchange_states_on_mess
 
 -- one delivery
 abbrev pub exchange_states_on : Turn → ℕ → List ℕ → List Summary → Delivery (List ℕ) → Turn
-exchange_states_on t conf set heard (Message place from bytes) = exchange_states_on_read t conf set heard from (message_in bytes)
+exchange_states_on t conf set heard (Message place from bytes) =
+    exchange_states_on_read t conf set heard from (message_in bytes)
 exchange_states_on t conf set heard (TransitionalIn at left) = go_to t (NonPrim false)
 exchange_states_on t conf set heard (RegularIn at joined) = t
 
@@ -40,7 +41,8 @@ exchange_actions_on_message t conf summaries accepted from _ = t
 -- what was read in a delivery's bytes: nothing comes of bytes that spell no message
 abbrev pub exchange_actions_on_read : Turn → ℕ → List Summary → ℕ → ℕ → Option Msg → Turn
 exchange_actions_on_read t conf summaries accepted from None = t
-exchange_actions_on_read t conf summaries accepted from (Some m) = exchange_actions_on_message t conf summaries accepted from m
+exchange_actions_on_read t conf summaries accepted from (Some m) =
+    exchange_actions_on_message t conf summaries accepted from m
 
 -- one delivery
 abbrev pub exchange_actions_on : Turn → ℕ → List Summary → ℕ → Delivery (List ℕ) → Turn

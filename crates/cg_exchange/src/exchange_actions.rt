@@ -68,7 +68,8 @@ fn take_green(
     a: Action,
 ) -> Result<(), NoMemory>
     requires { IsAction a }
-    ensures { OnOk result ((state : State) → turn_with core.new state draft.new ≡ take_item (turn_with core.old state draft.old) summaries.now (GreenItem at a)) }
+    ensures { OnOk result ((state : State) → turn_with core.new state draft.new ≡
+        take_item (turn_with core.old state draft.old) summaries.now (GreenItem at a)) }
 {
     if gone(summaries).contains(core.id()) {
         return Ok(());
@@ -84,7 +85,8 @@ fn take_red(
     a: Action,
 ) -> Result<(), NoMemory>
     requires { IsAction a }
-    ensures { OnOk result ((state : State) → turn_with core.new state draft.new ≡ take_item (turn_with core.old state draft.old) summaries.now (RedItem a)) }
+    ensures { OnOk result ((state : State) →
+        turn_with core.new state draft.new ≡ take_item (turn_with core.old state draft.old) summaries.now (RedItem a)) }
 {
     if gone(summaries).contains(core.id()) {
         return Ok(());
@@ -104,7 +106,8 @@ impl ExchangeActions {
         plan: Plan,
     ) -> Result<ExchangeStep, NoMemory>
         requires { plan.turns ≡ plan_of summaries }
-        ensures turn { IfOk result (λ step. (state : State) → turn_after step draft.new ≡ go_on (turn_with core state draft.old) conf summaries plan.accepted) }
+        ensures turn { IfOk result (λ step. (state : State) →
+            turn_after step draft.new ≡ go_on (turn_with core state draft.old) conf summaries plan.accepted) }
         ensures record { IfOk result HasRecord }
     {
         send_turn(&core, draft, plan.turn(core.id()))?;
@@ -121,7 +124,8 @@ impl ExchangeActions {
 
     /// One delivery.
     pub fn deliver(self, draft: &mut Draft, d: &Delivery) -> Result<ExchangeStep, NoMemory>
-        ensures turn { IfOk result (λ step. turn_after step draft.new ≡ exchange_actions_on (in_actions self draft.old) self.conf self.summaries self.accepted d.now) }
+        ensures turn { IfOk result (λ step. turn_after step draft.new ≡
+            exchange_actions_on (in_actions self draft.old) self.conf self.summaries self.accepted d.now) }
         ensures record { IfOk result HasRecord }
     {
         match d {
@@ -140,7 +144,9 @@ impl ExchangeActions {
         from: ReplicaId,
         bytes: &[u8],
     ) -> Result<ExchangeStep, NoMemory>
-        ensures turn { IfOk result (λ step. turn_after step draft.new ≡ exchange_actions_on_read (in_actions self draft.old) self.conf self.summaries self.accepted from (message_in bytes.now)) }
+        ensures turn { IfOk result (λ step. turn_after step draft.new ≡
+            exchange_actions_on_read (in_actions self draft.old) self.conf self.summaries self.accepted
+            from (message_in bytes.now)) }
         ensures record { IfOk result HasRecord }
     {
         match read_message(self.core.alloc(), bytes)? {
@@ -157,7 +163,9 @@ impl ExchangeActions {
         message: Msg,
     ) -> Result<ExchangeStep, NoMemory>
         requires { IsMsg message }
-        ensures turn { IfOk result (λ step. turn_after step draft.new ≡ exchange_actions_on_message (in_actions self draft.old) self.conf self.summaries self.accepted from message) }
+        ensures turn { IfOk result (λ step. turn_after step draft.new ≡
+            exchange_actions_on_message (in_actions self draft.old) self.conf self.summaries
+            self.accepted from message) }
         ensures record { IfOk result HasRecord }
     {
         match message {
@@ -170,7 +178,10 @@ impl ExchangeActions {
     // the item is the plan's next one, from its sender; then the plan is one item further
     fn accepts(&mut self, from: ReplicaId, item: &Item) -> bool
         ensures value { result ≡ is_wanted (next_item (progress self.old.summaries self.old.accepted)) from item.now }
-        ensures rest { self.new ≡ record self.old { accepted = if result then suc self.old.accepted else self.old.accepted } }
+        ensures rest { self.new ≡ record self.old {
+          accepted = if result then suc self.old.accepted
+              else self.old.accepted;
+        } }
     {
         self.plan.accept(from, item).is_ok()
     }
@@ -183,7 +194,9 @@ impl ExchangeActions {
         action: Action,
     ) -> Result<ExchangeStep, NoMemory>
         requires { IsAction action }
-        ensures turn { IfOk result (λ step. turn_after step draft.new ≡ exchange_actions_on_item (in_actions self draft.old) self.conf self.summaries self.accepted from (GreenItem at action)) }
+        ensures turn { IfOk result (λ step. turn_after step draft.new ≡
+            exchange_actions_on_item (in_actions self draft.old) self.conf self.summaries self.accepted
+            from (GreenItem at action)) }
         ensures record { IfOk result HasRecord }
     {
         if !self.accepts(from, &Item::Green { at }) {
@@ -206,7 +219,9 @@ impl ExchangeActions {
         action: Action,
     ) -> Result<ExchangeStep, NoMemory>
         requires { IsAction action }
-        ensures turn { IfOk result (λ step. turn_after step draft.new ≡ exchange_actions_on_item (in_actions self draft.old) self.conf self.summaries self.accepted from (RedItem action)) }
+        ensures turn { IfOk result (λ step. turn_after step draft.new ≡
+            exchange_actions_on_item (in_actions self draft.old) self.conf self.summaries self.accepted
+            from (RedItem action)) }
         ensures record { IfOk result HasRecord }
     {
         let id = name_of(&action);
@@ -226,7 +241,8 @@ impl ExchangeActions {
     /// A request is kept.
     pub fn request(self, r: Request) -> Result<ExchangeActions, NoMemory>
         requires { IsKind (kind_of r) }
-        ensures { IfOk result (λ s. (draft : DraftParts) → in_actions s draft ≡ request (in_actions self draft) (kind_of r)) }
+        ensures { IfOk result (λ s. (draft : DraftParts) →
+            in_actions s draft ≡ request (in_actions self draft) (kind_of r)) }
     {
         let ExchangeActions {
             mut core,

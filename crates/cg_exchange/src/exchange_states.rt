@@ -57,7 +57,8 @@ fn begin_plan(
     conf: u64,
     heard: Row<Summary>,
 ) -> Result<ExchangeStep, NoMemory>
-    ensures turn { IfOk result (λ step. (state : State) → turn_after step draft.new ≡ go_on (turn_with core state draft.old) conf heard 0) }
+    ensures turn { IfOk result (λ step. (state : State) →
+        turn_after step draft.new ≡ go_on (turn_with core state draft.old) conf heard 0) }
     ensures record { IfOk result HasRecord }
 {
     let plan = Plan::make(core.alloc(), heard.as_slice())?;
@@ -73,7 +74,8 @@ impl ExchangeStates {
         conf: u64,
         set: IdSet,
     ) -> Result<ExchangeStates, NoMemory>
-        ensures { IfOk result (λ s. (state : State) → in_states s draft.new ≡ enter_exchange (turn_with core state draft.old) conf set) }
+        ensures { IfOk result (λ s. (state : State) →
+            in_states s draft.new ≡ enter_exchange (turn_with core state draft.old) conf set) }
     {
         let mut core = core;
         core.enter_exchange(draft, conf, set)?;
@@ -88,7 +90,8 @@ impl ExchangeStates {
 
     /// One delivery.
     pub fn deliver(self, draft: &mut Draft, d: &Delivery) -> Result<ExchangeStep, NoMemory>
-        ensures turn { IfOk result (λ step. turn_after step draft.new ≡ exchange_states_on (in_states self draft.old) self.conf self.set self.heard d.now) }
+        ensures turn { IfOk result (λ step. turn_after step draft.new ≡
+            exchange_states_on (in_states self draft.old) self.conf self.set self.heard d.now) }
         ensures record { IfOk result HasRecord }
     {
         match d {
@@ -107,7 +110,9 @@ impl ExchangeStates {
         from: ReplicaId,
         bytes: &[u8],
     ) -> Result<ExchangeStep, NoMemory>
-        ensures turn { IfOk result (λ step. turn_after step draft.new ≡ exchange_states_on_read (in_states self draft.old) self.conf self.set self.heard from (message_in bytes.now)) }
+        ensures turn { IfOk result (λ step. turn_after step draft.new ≡
+            exchange_states_on_read (in_states self draft.old) self.conf self.set self.heard
+            from (message_in bytes.now)) }
         ensures record { IfOk result HasRecord }
     {
         match read_message(self.core.alloc(), bytes)? {
@@ -123,7 +128,8 @@ impl ExchangeStates {
         from: ReplicaId,
         message: Msg,
     ) -> Result<ExchangeStep, NoMemory>
-        ensures turn { IfOk result (λ step. turn_after step draft.new ≡ exchange_states_on_message (in_states self draft.old) self.conf self.set self.heard from message) }
+        ensures turn { IfOk result (λ step. turn_after step draft.new ≡
+            exchange_states_on_message (in_states self draft.old) self.conf self.set self.heard from message) }
         ensures record { IfOk result HasRecord }
     {
         match message {
@@ -138,7 +144,8 @@ impl ExchangeStates {
         from: ReplicaId,
         s: Summary,
     ) -> Result<ExchangeStep, NoMemory>
-        ensures turn { IfOk result (λ step. turn_after step draft.new ≡ exchange_states_on_summary (in_states self draft.old) self.conf self.set self.heard from s) }
+        ensures turn { IfOk result (λ step. turn_after step draft.new ≡
+            exchange_states_on_summary (in_states self draft.old) self.conf self.set self.heard from s) }
         ensures record { IfOk result HasRecord }
     {
         if !is_usable(self.conf, self.heard.as_slice(), from, &s) {
@@ -162,7 +169,9 @@ impl ExchangeStates {
 
     // with the summaries of all members the plan is made; else more are waited for
     fn go_on(self, draft: &mut Draft) -> Result<ExchangeStep, NoMemory>
-        ensures turn { IfOk result (λ step. (state : State) → turn_after step draft.new ≡ with_heard (turn_with self.held state draft.old) self.conf self.set self.heard) }
+        ensures turn { IfOk result (λ step. (state : State) →
+            turn_after step draft.new ≡ with_heard (turn_with self.held state draft.old)
+            self.conf self.set self.heard) }
         ensures record { IfOk result HasRecord }
     {
         if !self.set.is_within(&senders(self.heard.as_slice())) {
@@ -180,7 +189,8 @@ impl ExchangeStates {
     /// A request is kept.
     pub fn request(self, r: Request) -> Result<ExchangeStates, NoMemory>
         requires { IsKind (kind_of r) }
-        ensures { IfOk result (λ s. (draft : DraftParts) → in_states s draft ≡ request (in_states self draft) (kind_of r)) }
+        ensures { IfOk result (λ s. (draft : DraftParts) →
+            in_states s draft ≡ request (in_states self draft) (kind_of r)) }
     {
         let ExchangeStates {
             mut core,

@@ -53,7 +53,8 @@ impl NonPrim {
 
     /// One delivery.
     pub fn deliver(self, draft: &mut Draft, d: &Delivery) -> Result<ExchangeStep, NoMemory>
-        ensures turn { IfOk result (λ step. turn_after step draft.new ≡ non_prim_on (in_non_prim self draft.old) d.now) }
+        ensures turn { IfOk result (λ step. turn_after step draft.new ≡
+            non_prim_on (in_non_prim self draft.old) d.now) }
         ensures record { IfOk result HasRecord }
     {
         match d {
@@ -77,7 +78,8 @@ impl NonPrim {
     }
 
     fn hear(self, draft: &mut Draft, bytes: &[u8]) -> Result<NonPrim, NoMemory>
-        ensures { IfOk result (λ s. in_non_prim s draft.new ≡ non_prim_on_read (in_non_prim self draft.old) (message_in bytes.now)) }
+        ensures { IfOk result (λ s. in_non_prim s draft.new ≡
+            non_prim_on_read (in_non_prim self draft.old) (message_in bytes.now)) }
     {
         match read_message(self.core.alloc(), bytes)? {
             Some(message) => self.hear_message(draft, message),
@@ -88,7 +90,8 @@ impl NonPrim {
     #[tactic(auto, unfolding(crate::specs::Hearing::non_prim_on_message))]
     fn hear_message(self, draft: &mut Draft, message: Msg) -> Result<NonPrim, NoMemory>
         requires { IsMsg message }
-        ensures { IfOk result (λ s. in_non_prim s draft.new ≡ non_prim_on_message (in_non_prim self draft.old) message) }
+        ensures { IfOk result (λ s. in_non_prim s draft.new ≡
+            non_prim_on_message (in_non_prim self draft.old) message) }
     {
         let NonPrim { mut core, regular } = self;
         match message {

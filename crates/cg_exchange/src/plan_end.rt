@@ -94,7 +94,8 @@ fn attempt(
     conf: u64,
     summaries: &[Summary],
 ) -> Result<ExchangeStep, NoMemory>
-    ensures turn { IfOk result (λ step. (state : State) → turn_after step draft.new ≡ attempt (turn_with core state draft.old) conf summaries.now) }
+    ensures turn { IfOk result (λ step. (state : State) →
+        turn_after step draft.new ≡ attempt (turn_with core state draft.old) conf summaries.now) }
     ensures record { IfOk result HasRecord }
 {
     core.begin_attempt(conf, remaining(summaries))?;
@@ -115,7 +116,8 @@ fn decide_on(
     quorum: bool,
 ) -> Result<ExchangeStep, NoMemory>
     requires { quorum ≡ decides summaries.now }
-    ensures turn { IfOk result (λ step. (state : State) → turn_after step draft.new ≡ decide (turn_with core state draft.old) conf summaries.now) }
+    ensures turn { IfOk result (λ step. (state : State) →
+        turn_after step draft.new ≡ decide (turn_with core state draft.old) conf summaries.now) }
     ensures record { IfOk result HasRecord }
 {
     if !quorum {
@@ -132,7 +134,8 @@ pub(crate) fn end_plan(
     conf: u64,
     summaries: &[Summary],
 ) -> Result<ExchangeStep, NoMemory>
-    ensures turn { IfOk result (λ step. (state : State) → turn_after step draft.new ≡ end_plan (turn_with core state draft.old) conf summaries.now) }
+    ensures turn { IfOk result (λ step. (state : State) →
+        turn_after step draft.new ≡ end_plan (turn_with core state draft.old) conf summaries.now) }
     ensures record { IfOk result HasRecord }
 {
     let verdict = decide(core.alloc(), summaries)?;

@@ -14,7 +14,8 @@ use cg_plan::Part;
 use cg_wire::Msg;
 
 fn push_green(core: &Core, draft: &mut Draft, at: u64) -> Result<(), NoMemory>
-    ensures sent { OnOk result (draft.new.sent ≡ draft.old.sent ++ option_to_list (message_of core.now.queue (Green at))) }
+    ensures sent { OnOk result (draft.new.sent ≡ draft.old.sent
+        ++ option_to_list (message_of core.now.queue (Green at))) }
     ensures rest { OnOk result (draft.new ≡ record draft.old { sent = draft.new.sent }) }
 {
     match core.green_at(at) {
@@ -27,7 +28,8 @@ fn push_green(core: &Core, draft: &mut Draft, at: u64) -> Result<(), NoMemory>
 }
 
 fn push_red(core: &Core, draft: &mut Draft, id: ActionId) -> Result<(), NoMemory>
-    ensures sent { OnOk result (draft.new.sent ≡ draft.old.sent ++ option_to_list (message_of core.now.queue (Red id))) }
+    ensures sent { OnOk result (draft.new.sent ≡ draft.old.sent
+        ++ option_to_list (message_of core.now.queue (Red id))) }
     ensures rest { OnOk result (draft.new ≡ record draft.old { sent = draft.new.sent }) }
 {
     match core.get(id) {
@@ -38,7 +40,8 @@ fn push_red(core: &Core, draft: &mut Draft, id: ActionId) -> Result<(), NoMemory
 
 // the green items above a place up to another
 fn push_greens(core: &Core, draft: &mut Draft, low: u64, to: u64) -> Result<(), NoMemory>
-    ensures sent { OnOk result (draft.new.sent ≡ draft.old.sent ++ flat_map (λ item. option_to_list (message_of core.now.queue item)) (map Green (above_up_to low to))) }
+    ensures sent { OnOk result (draft.new.sent ≡ draft.old.sent
+        ++ flat_map (λ item. option_to_list (message_of core.now.queue item)) (map Green (above_up_to low to))) }
     ensures rest { OnOk result (draft.new ≡ record draft.old { sent = draft.new.sent }) }
 {
     let count = to.saturating_sub(low);
@@ -56,7 +59,9 @@ fn push_reds(
     low: u64,
     to: u64,
 ) -> Result<(), NoMemory>
-    ensures sent { OnOk result (draft.new.sent ≡ draft.old.sent ++ flat_map (λ item. option_to_list (message_of core.now.queue item)) (map (red_item creator) (above_up_to low to))) }
+    ensures sent { OnOk result (draft.new.sent ≡ draft.old.sent
+        ++ flat_map (λ item. option_to_list (message_of core.now.queue item))
+        (map (red_item creator) (above_up_to low to))) }
     ensures rest { OnOk result (draft.new ≡ record draft.old { sent = draft.new.sent }) }
 {
     let count = to.saturating_sub(low);
@@ -88,7 +93,8 @@ fn push_part(core: &Core, draft: &mut Draft, part: &Part) -> Result<(), NoMemory
 /// The part whose turn has come is sent, where there is one.
 #[tactic(auto, unfolding(crate::specs::ExchangeActions::send_part))]
 pub(crate) fn send_turn(core: &Core, draft: &mut Draft, part: Option<Part>) -> Result<(), NoMemory>
-    ensures { OnOk result ((state : State) → turn_with core.now state draft.new ≡ send_part (turn_with core.now state draft.old) part) }
+    ensures { OnOk result ((state : State) →
+        turn_with core.now state draft.new ≡ send_part (turn_with core.now state draft.old) part) }
 {
     match part {
         Some(part) => push_part(core, draft, &part),

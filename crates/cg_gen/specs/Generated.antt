@@ -107,7 +107,8 @@ line_alone cells event = record { first = event; others = []; cells = cells }
 -- one more member in the half that was drawn for it
 abbrev pub in_half : Halves → ℕ → ℕ → Halves
 in_half halves p n =
-    if n == 0 then record halves { first = with_member halves.first p } else record halves { second = with_member halves.second p }
+    if n == 0 then record halves { first = with_member halves.first p }
+    else record halves { second = with_member halves.second p }
 
 -- each member, ascending, is drawn into a half
 abbrev pub halved : List ℕ → Halves → Drawing Halves
@@ -126,14 +127,20 @@ in_parts cells cell halves =
     }
 
 unfoldable pub parting : List (List ℕ) → ℕ → Drawing Block
-parting cells i = halved (cell_at cells i) (record { first = []; second = [] }) >>= λ halves. done (in_parts cells (cell_at cells i) halves)
+parting cells i = halved (cell_at cells i) (record { first = []; second = [] }) >>=
+    λ halves. done (in_parts cells (cell_at cells i) halves)
 
 -- two cells become one
 abbrev pub in_one : List (List ℕ) → List ℕ → List ℕ → Block
-in_one cells a b = record { first = Split a; others = Split b ∷ Merge (union a b) ∷ []; cells = with_cell cells (union a b) }
+in_one cells a b = record {
+  first = Split a;
+  others = Split b ∷ Merge (union a b) ∷ [];
+  cells = with_cell cells (union a b);
+}
 
 unfoldable pub joining : List (List ℕ) → Drawing Block
-joining cells = draw (length cells) >>= λ i. done (in_one cells (cell_at cells i) (cell_at cells ((i + 1) % length cells)))
+joining cells =
+    draw (length cells) >>= λ i. done (in_one cells (cell_at cells i) (cell_at cells ((i + 1) % length cells)))
 
 abbrev pub parting_or_joining : List (List ℕ) → ℕ → Drawing Block
 parting_or_joining cells n = if n == 0 then (draw (length cells) >>= parting cells) else joining cells
@@ -154,7 +161,8 @@ restarting replicas cells = draw_from_one replicas >>= λ p. done (restarted cel
 
 unfoldable pub asking : ℕ → ℕ → Drawing Event
 asking replicas b =
-    if nat_lt b 4 then increment replicas else if b == 4 then set_and_get replicas else if b == 5 then weak_get replicas else passes
+    if nat_lt b 4 then increment replicas else if b == 4 then set_and_get replicas else if b == 5
+    then weak_get replicas else passes
 
 -- the block that was drawn, where so many lines are left before the end
 abbrev pub block_of : ℕ → ℕ → List (List ℕ) → ℕ → Drawing Block
@@ -181,7 +189,8 @@ begun b = (b.0.first, record { number = b.1; cells = b.0.cells; waiting = b.0.ot
 -- the next line, where so many are left before the end, and what stands behind it
 abbrev pub line_with : ℕ → ℕ → ℕ → List (List ℕ) → List Event → Event × GeneratorState
 line_with replicas left number cells [] = begun (block replicas left cells number)
-line_with replicas left number cells (event ∷ waiting) = (event, record { number = number; cells = cells; waiting = waiting })
+line_with replicas left number cells (event ∷ waiting) =
+    (event, record { number = number; cells = cells; waiting = waiting })
 
 abbrev pub next_line : ℕ → ℕ → GeneratorState → Event × GeneratorState
 next_line replicas left state = line_with replicas left state.number state.cells state.waiting
@@ -191,7 +200,8 @@ unfoldable pub events_left : ℕ → ℕ → GeneratorState → List Event
 events_left replicas zero state = []
 events_left replicas (suc zero) state = End ∷ []
 events_left replicas (suc (suc left)) state =
-    let line : Event × GeneratorState = next_line replicas (suc left) state in line.0 ∷ events_left replicas (suc left) line.1
+    let line : Event × GeneratorState = next_line replicas (suc left) state in
+    line.0 ∷ events_left replicas (suc left) line.1
 
 -- where a schedule begins: all start, and then come together into one cell
 abbrev pub at_the_start : ℕ → List ℕ → GeneratorState

@@ -30,7 +30,8 @@ generated-length seed replicas lines = events_left-length replicas lines (at_the
 
 -- ---- the last one
 
-events_left-ends : (replicas left : ℕ) (state : GeneratorState) (before : Option Event) → 1 ≤ left → last_or before (events_left replicas left state) ≡ Some End
+events_left-ends : (replicas left : ℕ) (state : GeneratorState) (before : Option Event) → 1 ≤ left →
+    last_or before (events_left replicas left state) ≡ Some End
 unfolding events_left
 events_left-ends replicas zero state before some = absurd (omega (arith, some))
 events_left-ends replicas (suc zero) state before some = refl
@@ -86,9 +87,11 @@ passes-goes x = (refl, refl)
 asking-goes : (replicas b : ℕ) → Asks (asking replicas b)
 unfolding asking
 asking-goes replicas b =
-    either Asks (nat_lt b 4) (increment replicas) (if b == 4 then set_and_get replicas else if b == 5 then weak_get replicas else passes)
+    either Asks (nat_lt b 4) (increment replicas) (if b == 4 then set_and_get replicas else if b == 5
+    then weak_get replicas else passes)
     (increment-goes replicas)
-    (either Asks (b == 4) (set_and_get replicas) (if b == 5 then weak_get replicas else passes) (set_and_get-goes replicas)
+    (either Asks (b == 4) (set_and_get replicas) (if b == 5 then weak_get replicas
+    else passes) (set_and_get-goes replicas)
     (either Asks (b == 5) (weak_get replicas) passes (weak_get-goes replicas) passes-goes))
 
 in_parts-goes : (cells : List (List ℕ)) (cell : List ℕ) (halves : Halves) → BlockGoes (in_parts cells cell halves)
@@ -104,7 +107,8 @@ in_parts-goes cells cell halves =
 
 parting-goes : (cells : List (List ℕ)) (i : ℕ) → Blocks (parting cells i)
 unfolding parting
-parting-goes cells i x = in_parts-goes cells (cell_at cells i) (halved (cell_at cells i) (record { first = []; second = [] }) x).0
+parting-goes cells i x =
+    in_parts-goes cells (cell_at cells i) (halved (cell_at cells i) (record { first = []; second = [] }) x).0
 
 joining-goes : (cells : List (List ℕ)) → Blocks (joining cells)
 unfolding joining
@@ -128,11 +132,14 @@ restarting-goes replicas cells x = ((refl, refl), ((refl, refl), ((refl, refl), 
 block_of-goes : (replicas left : ℕ) (cells : List (List ℕ)) (b : ℕ) → Blocks (block_of replicas left cells b)
 block_of-goes replicas left cells b =
     either Blocks (nat_lt b 8) (asking replicas b >>= λ event. done (line_alone cells event))
-    (if nat_lt left 4 then done (line_alone cells Gather) else if b == 8 then regrouping cells else restarting replicas cells)
+    (if nat_lt left 4 then done (line_alone cells Gather) else if b == 8 then regrouping cells
+    else restarting replicas cells)
     (λ x. (asking-goes replicas b x, tt))
-    (either Blocks (nat_lt left 4) (done (line_alone cells Gather)) (if b == 8 then regrouping cells else restarting replicas cells)
+    (either Blocks (nat_lt left 4) (done (line_alone cells Gather)) (if b == 8 then regrouping cells
+    else restarting replicas cells)
     (λ x. ((refl, refl), tt))
-    (either Blocks (b == 8) (regrouping cells) (restarting replicas cells) (regrouping-goes cells) (restarting-goes replicas cells)))
+    (either Blocks (b == 8) (regrouping cells) (restarting replicas cells) (regrouping-goes cells)
+    (restarting-goes replicas cells)))
 
 block-goes : (replicas left : ℕ) (cells : List (List ℕ)) → Blocks (block replicas left cells)
 unfolding block
@@ -141,17 +148,22 @@ block-goes replicas left cells x = block_of-goes replicas left cells (draw 10 x)
 -- ---- the schedule
 
 line-goes : (replicas left number : ℕ) (cells : List (List ℕ)) (waiting : List Event) → AllGo waiting
-    → Goes (line_with replicas left number cells waiting).0 × AllGo (line_with replicas left number cells waiting).1.waiting
+    → Goes (line_with replicas left number cells waiting).0
+    × AllGo (line_with replicas left number cells waiting).1.waiting
 line-goes replicas left number cells [] go = block-goes replicas left cells number
 line-goes replicas left number cells (event ∷ waiting) go = go
 
-events_left-stand : (replicas left : ℕ) (state : GeneratorState) → AllGo state.waiting → AllStand running (events_left replicas (suc left) state)
+events_left-stand : (replicas left : ℕ) (state : GeneratorState) → AllGo state.waiting →
+    AllStand running (events_left replicas (suc left) state)
 unfolding events_left
 events_left-stand replicas zero state go = (refl, tt)
 events_left-stand replicas (suc left) state go =
     let line = line-goes replicas (suc left) state.number state.cells state.waiting go in
-    let after : GeneratorState = (next_line replicas (suc left) state).1 in
-    (line.0.0, subst (λ (state : ReaderState). AllStand state (events_left replicas (suc left) after)) (sym line.0.1) (events_left-stand replicas left after line.1))
+    let after : GeneratorState = (next_line replicas (suc left) state).1 in (
+      line.0.0,
+      subst (λ (state : ReaderState). AllStand state (events_left replicas (suc left) after)) (sym line.0.1)
+          (events_left-stand replicas left after line.1),
+    )
 
 pub generated-stands : (seed replicas lines : ℕ) → 1 < lines → AllStand first_state (generated seed replicas lines)
 unfolding events_left

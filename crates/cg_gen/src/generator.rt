@@ -47,7 +47,8 @@ impl Generator {
 
     /// The next event. Where memory is refused nothing changes.
     pub fn next(&mut self, alloc: Global) -> Result<Option<Event>, NoMemory>
-        ensures ok { IfOk result (λ next. MatchOption next ((self.old ≡ []) × (self.new ≡ [])) (λ event. self.old ≡ event ∷ self.new)) }
+        ensures ok { IfOk result (λ next. MatchOption next ((self.old ≡ [])
+            × (self.new ≡ [])) (λ event. self.old ≡ event ∷ self.new)) }
         ensures err { OnErr result (self.new ≡ self.old) }
     {
         if self.left == 0 {

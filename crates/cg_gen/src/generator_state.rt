@@ -61,7 +61,8 @@ impl GeneratorState {
     #[tactic(auto, unfolding(crate::specs::Generated::block))]
     fn begin(&mut self, alloc: Global, replicas: ReplicaId, left: u64) -> Result<Event, NoMemory>
         requires { self.old.waiting ≡ [] }
-        ensures ok { IfOk result (λ event. begun (block replicas left self.old.cells self.old.number) ≡ (event, self.new)) }
+        ensures ok { IfOk
+            result (λ event. begun (block replicas left self.old.cells self.old.number) ≡ (event, self.new)) }
         ensures err { OnErr result (self.new ≡ self.old) }
     {
         let mut draws = self.draws;

@@ -19,12 +19,14 @@ use Rattle.cg_run.specs.Produced.{status_of, refusal_of}
 
 -- whatever the seed, however many replicas from 1 to 32 and however many lines: the run of the schedule is refused nowhere
 abbrev pub GeneratedAreAdmitted : Type 0
-GeneratedAreAdmitted = (seed replicas lines : ℕ) → IsId replicas → (run_of (generated seed replicas lines)).refused ≡ None
+GeneratedAreAdmitted = (seed replicas lines : ℕ) → IsId replicas →
+    (run_of (generated seed replicas lines)).refused ≡ None
 
 -- what a trial comes to is no refusal
 abbrev pub TrialsAreAdmitted : Type 0
 TrialsAreAdmitted =
-    (seed replicas lines : ℕ) → IsId replicas → (taken : List ℕ) (how : Ending) → refusal_of (outcome_of (Some (Trial seed replicas lines)) taken how) ≡ None
+    (seed replicas lines : ℕ) → IsId replicas → (taken : List ℕ) (how : Ending) →
+    refusal_of (outcome_of (Some (Trial seed replicas lines)) taken how) ≡ None
 
 -- the end of all lines, or the limit of steps
 abbrev pub IsEndOrLimit : Option Status → Type 0
@@ -35,7 +37,8 @@ IsEndOrLimit other = ⊥
 -- each line of a trial of two lines or more is read, so nothing but its end or the limit of steps ends it
 abbrev pub TrialsEnd : Type 0
 TrialsEnd =
-    (seed replicas lines : ℕ) → IsId replicas → 1 < lines → (taken : List ℕ) (how : Ending) → IsEndOrLimit (status_of (outcome_of (Some (Trial seed replicas lines)) taken how))
+    (seed replicas lines : ℕ) → IsId replicas → 1 < lines → (taken : List ℕ) (how : Ending) →
+    IsEndOrLimit (status_of (outcome_of (Some (Trial seed replicas lines)) taken how))
 
 -- the lines of events are within the limits of an input
 pub record AreWithinLimits (events : List Event) : Type 0 where
@@ -46,5 +49,7 @@ pub record AreWithinLimits (events : List Event) : Type 0 where
 -- a replay of the lines that are generated, where they are within the limits of an input, comes to what a trial comes to
 abbrev pub TrialsAreReplays : Type 0
 TrialsAreReplays =
-    (seed replicas lines : ℕ) → IsId replicas → AreWithinLimits (generated seed replicas lines) → (report : Report) (taken : List ℕ) (how : Ending)
-    → outcome_of (Some (Replay report)) (lines_of (generated seed replicas lines)) Ended ≡ outcome_of (Some (Trial seed replicas lines)) taken how
+    (seed replicas lines : ℕ) → IsId replicas → AreWithinLimits (generated seed replicas lines) →
+    (report : Report) (taken : List ℕ) (how : Ending)
+    → outcome_of (Some (Replay report)) (lines_of (generated seed replicas lines)) Ended ≡
+    outcome_of (Some (Trial seed replicas lines)) taken how

@@ -18,13 +18,15 @@ module _ {X : Type 0} where
   pub Each-filter : (P : X → Type 0) (t : X → Bool) (xs : List X) → Each P xs → Each P (filter t xs)
   Each-filter P t [] e = tt
   Each-filter P t (x ∷ xs) e =
-      cond_both (t x) (x ∷ filter t xs) (filter t xs) (Each P) (λ h. (e.0, Each-filter P t xs e.1)) (λ h. Each-filter P t xs e.1)
+      cond_both (t x) (x ∷ filter t xs) (filter t xs) (Each P) (λ h. (e.0, Each-filter P t xs e.1))
+      (λ h. Each-filter P t xs e.1)
 
   pub Each-append : (P : X → Type 0) (xs ys : List X) → Each P xs → Each P ys → Each P (xs ++ ys)
   Each-append P [] ys a b = b
   Each-append P (x ∷ xs) ys a b = (a.0, Each-append P xs ys a.1 b)
 
-  pub flat_map_same : {Y : Type 0} (f g : X → List Y) (xs : List X) → Each (λ x. f x ≡ g x) xs → flat_map f xs ≡ flat_map g xs
+  pub flat_map_same : {Y : Type 0} (f g : X → List Y) (xs : List X) → Each (λ x. f x ≡ g x) xs →
+      flat_map f xs ≡ flat_map g xs
   flat_map_same f g [] e = refl
   flat_map_same f g (x ∷ xs) e = ap₂ ◌++◌ e.0 (flat_map_same f g xs e.1)
 
@@ -40,10 +42,12 @@ module _ {X : Type 0} where
   list_any_same t u [] e = refl
   list_any_same t u (x ∷ xs) e = ap₂ ◌||◌ e.0 (list_any_same t u xs e.1)
 
-  pub list_all_kept_by : (t u : X → Bool) → ((x : X) → t x ≡ true → u x ≡ true) → (xs : List X) → list_all t xs ≡ true → list_all u xs ≡ true
+  pub list_all_kept_by : (t u : X → Bool) → ((x : X) → t x ≡ true → u x ≡ true) → (xs : List X) →
+      list_all t xs ≡ true → list_all u xs ≡ true
   list_all_kept_by t u w [] e = refl
   list_all_kept_by t u w (x ∷ xs) e =
-      and_from (u x) (list_all u xs) (w x (and_parts (t x) (list_all t xs) e).0) (list_all_kept_by t u w xs (and_parts (t x) (list_all t xs) e).1)
+      and_from (u x) (list_all u xs) (w x (and_parts (t x) (list_all t xs) e).0) (list_all_kept_by t u w
+      xs (and_parts (t x) (list_all t xs) e).1)
 
   pub list_any_nowhere : (t : X → Bool) (xs : List X) → Each (λ x. t x ≡ false) xs → list_any t xs ≡ false
   list_any_nowhere t [] e = refl
@@ -55,14 +59,16 @@ module _ {X : Type 0} where
 
   pub Each-list_all : (t : X → Bool) (xs : List X) → list_all t xs ≡ true → Each (λ x. t x ≡ true) xs
   Each-list_all t [] e = tt
-  Each-list_all t (x ∷ xs) e = ((and_parts (t x) (list_all t xs) e).0, Each-list_all t xs (and_parts (t x) (list_all t xs) e).1)
+  Each-list_all t (x ∷ xs) e =
+      ((and_parts (t x) (list_all t xs) e).0, Each-list_all t xs (and_parts (t x) (list_all t xs) e).1)
 
 -- each member of a set is in it
 pub Each-has : (set : List ℕ) → Each (λ q. has set q ≡ true) set
 Each-has [] = tt
 Each-has (p ∷ set) = (
   or_from_left (p == p) (has set p) (eq-eqb p p refl),
-  Each-weaker (λ q. has set q ≡ true) (λ q. has (p ∷ set) q ≡ true) (λ q h. or_right (p == q) (has set q) h) set (Each-has set),
+  Each-weaker (λ q. has set q ≡ true) (λ q. has (p ∷ set) q ≡
+      true) (λ q h. or_right (p == q) (has set q) h) set (Each-has set),
 )
   where
     or_from_left : (x y : Bool) → x ≡ true → (x || y) ≡ true
@@ -72,17 +78,22 @@ Each-has (p ∷ set) = (
 pub Each-at : (P : ℕ → Type 0) (set : List ℕ) (q : ℕ) → Each P set → has set q ≡ true → P q
 Each-at P [] q e h = absurd (true≢false (sym h))
 Each-at P (p ∷ set) q e h =
-    ⊎_elim (λ here. subst P (eqb-true p q here) e.0) (λ there. Each-at P set q e.1 there) (or_cases (p == q) (has set q) h)
+    ⊎_elim (λ here. subst P (eqb-true p q here) e.0) (λ there. Each-at P set q e.1 there)
+    (or_cases (p == q) (has set q) h)
 
 -- the numbers that are counted up are within their bounds
 pub Each-count_up : (from n : ℕ) → Each (λ k. (from ≤ k) × (k < from + n)) (count_up from n)
 Each-count_up from zero = tt
-Each-count_up from (suc n) =
-    ((omega arith, omega arith), Each-weaker (λ k. (suc from ≤ k) × (k < suc from + n)) (λ k. (from ≤ k) × (k < from + suc n)) (λ k h. (omega arith, omega arith)) (count_up (suc from) n) (Each-count_up (suc from) n))
+Each-count_up from (suc n) = (
+  (omega arith, omega arith),
+  Each-weaker (λ k. (suc from ≤ k) × (k < suc from + n)) (λ k. (from ≤ k)
+      × (k < from + suc n)) (λ k h. (omega arith, omega arith)) (count_up (suc from) n) (Each-count_up (suc from) n),
+)
 
 pub Each-above : (low high : ℕ) → Each (λ k. (low < k) × (k ≤ high)) (above_up_to low high)
 Each-above low high =
-    Each-weaker (λ k. (suc low ≤ k) × (k < suc low + (high - low))) (λ k. (low < k) × (k ≤ high)) (λ k h. (omega arith, omega arith)) (above_up_to low high) (Each-count_up (suc low) (high - low))
+    Each-weaker (λ k. (suc low ≤ k) × (k < suc low + (high - low))) (λ k. (low < k)
+    × (k ≤ high)) (λ k h. (omega arith, omega arith)) (above_up_to low high) (Each-count_up (suc low) (high - low))
 
 pub count_up-add : (from n m : ℕ) → count_up from (n + m) ≡ count_up from n ++ count_up (from + n) m
 count_up-add from zero m = ap₂ count_up (omega arith) (omega arith)
@@ -91,7 +102,8 @@ count_up-add from (suc n) m =
     let e2 : suc from + n ≡ from + suc n = omega arith in
     rw (e, count_up-add (suc from) n m, e2) refl
 
-pub above_up_to-add : (low mid high : ℕ) → low ≤ mid → mid ≤ high → above_up_to low high ≡ above_up_to low mid ++ above_up_to mid high
+pub above_up_to-add : (low mid high : ℕ) → low ≤ mid → mid ≤ high →
+    above_up_to low high ≡ above_up_to low mid ++ above_up_to mid high
 above_up_to-add low mid high h k =
     let e : high - low ≡ (mid - low) + (high - mid) = omega arith in
     let e2 : suc low + (mid - low) ≡ suc mid = omega arith in

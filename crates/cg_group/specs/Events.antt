@@ -27,7 +27,8 @@ module _ {M : Type 0} where
   -- a message of a regular replica waits for a place; of any other it is dropped
   unfoldable pub send_from : GroupState M → Option (Standing M) → M → GroupState M
   send_from g None m = g
-  send_from g (Some s) m = if regular_in s.phase == 0 then g else set_standing g (record s { unordered = s.unordered ++ m ∷ [] })
+  send_from g (Some s) m = if regular_in s.phase == 0 then g
+      else set_standing g (record s { unordered = s.unordered ++ m ∷ [] })
 
   -- a replica sends a message
   unfoldable pub send : GroupState M → ℕ → M → GroupState M
@@ -43,14 +44,18 @@ module _ {M : Type 0} where
 
   -- a message at the end of the ordered ones, received by its sender
   unfoldable pub with_message : Configuration M → ℕ → M → Configuration M
-  with_message c p m = record c { ordered = c.ordered ++ record { from = p; message = m } ∷ []; received = c.received ++ (p ∷ []) ∷ [] }
+  with_message c p m = record c {
+    ordered = c.ordered ++ record { from = p; message = m } ∷ [];
+    received = c.received ++ (p ∷ []) ∷ [];
+  }
 
   -- the oldest of a replica's messages gets the next place
   unfoldable pub order_from : GroupState M → Standing M → List M → GroupState M
   order_from g s [] = g
   order_from g s (m ∷ rest) =
       let conf = regular_in s.phase in
-      set_configuration (set_standing g (record s { unordered = rest })) conf (with_message (configuration g conf) s.id m)
+      set_configuration (set_standing g (record s { unordered = rest }))
+      conf (with_message (configuration g conf) s.id m)
 
   -- the oldest message of a replica is ordered
   unfoldable pub order : GroupState M → ℕ → GroupState M
@@ -104,7 +109,8 @@ module _ {M : Type 0} where
 
   -- the places after the given one that some of the replicas has received
   unfoldable pub transitional_places : Configuration M → List ℕ → ℕ → List ℕ
-  transitional_places c set k = filter (λ place. list_any (λ q. has_received c q place) set) (above_up_to k (length c.ordered))
+  transitional_places c set k =
+      filter (λ place. list_any (λ q. has_received c q place) set) (above_up_to k (length c.ordered))
 
   -- what a replica is handed as it leaves its configuration together with a set: the places that another of them
   -- was handed before, the transitional configuration, and the places after these that some of them has received
@@ -122,7 +128,12 @@ module _ {M : Type 0} where
   -- a replica's regular phase ends, and with it its messages without a place
   unfoldable pub become_transitional : List ℕ → GroupState M → ℕ → GroupState M
   become_transitional set g p =
-      set_standing g (record { id = p; phase = Transitional (regular_in (phase_of g p)) set; delivered = delivered_to g p; unordered = [] })
+      set_standing g (record {
+        id = p;
+        phase = Transitional (regular_in (phase_of g p)) set;
+        delivered = delivered_to g p;
+        unordered = [];
+      })
 
   -- the replicas of a set leave their configuration together
   unfoldable pub split : GroupState M → List ℕ → HandedOut M
@@ -136,5 +147,15 @@ module _ {M : Type 0} where
   unfoldable pub merge : GroupState M → List ℕ → HandedOut M
   merge g set =
       let conf = suc (length g.configurations) in
-      let made : GroupState M = record g { configurations = g.configurations ++ record { members = set; ordered = []; received = [] } ∷ [] } in
-      record { group = fold (become_regular conf) made set; handed = map (λ p. record { to = p; list = RegularIn conf set ∷ [] }) set }
+      let made : GroupState M =
+      record g {
+        configurations = g.configurations ++ record {
+          members = set;
+          ordered = [];
+          received = [];
+        } ∷ [];
+      } in
+      record {
+        group = fold (become_regular conf) made set;
+        handed = map (λ p. record { to = p; list = RegularIn conf set ∷ [] }) set;
+      }

@@ -114,7 +114,12 @@ module _ {M : Type 0} where
   abbrev pub ended : Diary M → Way → Diary M
   ended d way =
       if d.current == 0 then d
-      else record d { current = 0; now = no_stay; past = λ conf. if conf == d.current then going d.now way else d.past conf }
+      else record d {
+        current = 0;
+        now = no_stay;
+        past = λ conf. if conf == d.current
+            then going d.now way else d.past conf;
+      }
 
   -- a stay that begins
   abbrev pub fresh : List ℕ → Stay M
@@ -122,12 +127,14 @@ module _ {M : Type 0} where
 
   -- a regular configuration may be handed: the current one was parted from, and the new one is new
   abbrev pub may_begin : Diary M → ℕ → Bool
-  may_begin d conf = ((d.current == 0) || is_some d.now.parting) && (not (conf == 0) && not (was_there (stay_in d conf).way))
+  may_begin d conf = ((d.current == 0) || is_some d.now.parting)
+      && (not (conf == 0) && not (was_there (stay_in d conf).way))
 
   -- a regular configuration is handed, in that call, while those others had left for good
   abbrev pub note_regular : ℕ → List ℕ → Diary M → ℕ → List ℕ → Diary M
   note_regular time left d conf set =
-      if may_begin d conf then (let over = ended d (WentOn time set left) in record over { current = conf; now = fresh set })
+      if may_begin d conf then (let over = ended d (WentOn time set left) in
+      record over { current = conf; now = fresh set })
       else with_stray d (Regular conf set)
 
   -- one thing is handed
@@ -186,7 +193,8 @@ module _ {M : Type 0} where
   -- what was sent in each configuration, after a call
   abbrev pub sent_after : GroupState M → Call M → (ℕ → ℕ → List M) → ℕ → ℕ → List M
   sent_after g (SendFrom p m) sent conf q =
-      if (q == p) && ((conf == regular_in (phase_of g p)) && not (conf == 0)) then sent conf q ++ m ∷ [] else sent conf q
+      if (q == p) && ((conf == regular_in (phase_of g p)) && not (conf == 0))
+      then sent conf q ++ m ∷ [] else sent conf q
   sent_after g _ sent conf q = sent conf q
 
   -- a history after one more call

@@ -29,7 +29,8 @@ module _ {M : Type 0} where
   -- every member has received each of the first places, so many
   pub record IsSettled (members : List ℕ) (ordered : List (Placed M)) (n : ℕ) : Type 0 where
     pub within : n ≤ length ordered
-    pub received : (i : ℕ) (x : Placed M) → i < n → slice_get ordered i ≡ Some x → IsSet x.received × (is_within members x.received ≡ true)
+    pub received : (i : ℕ) (x : Placed M) → i < n → slice_get ordered i ≡ Some x →
+        IsSet x.received × (is_within members x.received ≡ true)
 
   -- at each slot is counted how many of the first places the replica has received, whose number is one above the slot's
   abbrev pub AreFronts : List (Placed M) → List ℕ → Type 0
@@ -38,7 +39,8 @@ module _ {M : Type 0} where
   -- who is noted at a place as in turn has received it and each of its sender's places before it
   abbrev pub AreInTurn : List (Placed M) → Type 0
   AreInTurn ordered =
-      (i j p : ℕ) (x y : Placed M) → j ≤ i → slice_get ordered i ≡ Some x → slice_get ordered j ≡ Some y → y.from ≡ x.from → has x.in_turn p ≡ true → has y.received p ≡ true
+      (i j p : ℕ) (x y : Placed M) → j ≤ i → slice_get ordered i ≡ Some x → slice_get ordered j ≡ Some y →
+      y.from ≡ x.from → has x.in_turn p ≡ true → has y.received p ≡ true
 
   -- the configurations alone
   abbrev pub configurations_of : List (Stored M) → List (Configuration M)

@@ -4,7 +4,8 @@ use Rattle.cg_base.specs.Lists.{first_some}
 use Rattle.cg_group.specs.declared.reason.Reason.{Reason}
 use Rattle.cg_group.specs.Refusals.{refuse}
 
-pub first_none : {X : Type 0} (o : Option X) (rest : List (Option X)) → first_some (o ∷ rest) ≡ None → (o ≡ None) × (first_some rest ≡ None)
+pub first_none : {X : Type 0} (o : Option X) (rest : List (Option X)) → first_some (o ∷ rest) ≡ None →
+    (o ≡ None) × (first_some rest ≡ None)
 first_none None rest e = (refl, e)
 first_none (Some x) rest e = absurd (cc)
 

@@ -59,7 +59,8 @@ module _ {M : Type 0} where
 
   -- the earliest place of the same sender that the replica lacks
   abbrev pub earlier_missing : GroupState M → ℕ → ℕ → Option Reason
-  earlier_missing g p place = option_map EarlierMissing (find (is_missing (home g p) p place) (above_up_to 0 (place - 1)))
+  earlier_missing g p place =
+      option_map EarlierMissing (find (is_missing (home g p) p place) (above_up_to 0 (place - 1)))
 
   -- fewer places are ready than are to be delivered
   abbrev pub not_ready : GroupState M → ℕ → ℕ → Option Reason
@@ -68,7 +69,8 @@ module _ {M : Type 0} where
   -- the lowest of the replicas that isn't in the lowest one's configuration
   abbrev pub not_one_configuration : GroupState M → List ℕ → Option Reason
   not_one_configuration g [] = None
-  not_one_configuration g (p ∷ set) = option_map NotOneConfiguration (find (λ q. not (regular_in (phase_of g q) == regular_in (phase_of g p))) set)
+  not_one_configuration g (p ∷ set) =
+      option_map NotOneConfiguration (find (λ q. not (regular_in (phase_of g q) == regular_in (phase_of g p))) set)
 
   -- the replica is regular
   abbrev pub still_regular : GroupState M → ℕ → Option Reason
@@ -81,7 +83,8 @@ module _ {M : Type 0} where
   -- the lowest replica that must be merged with the set and isn't in it; those that have left need not be
   abbrev pub not_together : GroupState M → List ℕ → List ℕ → Option Reason
   not_together g set left =
-      option_map NotTogether (find (λ q. is_together g set q && not (has set q) && not (has left q)) (map (λ s. s.id) g.replicas))
+      option_map NotTogether (find (λ q. is_together g set q && not (has set q)
+      && not (has left q)) (map (λ s. s.id) g.replicas))
 
   -- why the replica's oldest message can't be ordered
   unfoldable pub order_refusal : GroupState M → ℕ → Option Reason
@@ -90,7 +93,8 @@ module _ {M : Type 0} where
   -- why the replica can't receive the place
   unfoldable pub receive_refusal : GroupState M → ℕ → ℕ → Option Reason
   receive_refusal g p place =
-      first_some (not_up g p ∷ not_regular g p ∷ no_such_place g p place ∷ already_received g p place ∷ earlier_missing g p place ∷ [])
+      first_some (not_up g p ∷ not_regular g p ∷ no_such_place g p place ∷ already_received g p place
+      ∷ earlier_missing g p place ∷ [])
 
   -- why the replica can't be handed so many places
   unfoldable pub deliver_refusal : GroupState M → ℕ → ℕ → Option Reason
@@ -98,8 +102,10 @@ module _ {M : Type 0} where
 
   -- why the replicas can't leave their configuration together
   unfoldable pub split_refusal : GroupState M → List ℕ → Option Reason
-  split_refusal g set = first_some (empty_set set ∷ any_of (not_up g) set ∷ any_of (not_regular g) set ∷ not_one_configuration g set ∷ [])
+  split_refusal g set =
+      first_some (empty_set set ∷ any_of (not_up g) set ∷ any_of (not_regular g) set ∷ not_one_configuration g set ∷ [])
 
   -- why the replicas can't be the members of a new configuration, where those named last have left for good
   unfoldable pub merge_refusal : GroupState M → List ℕ → List ℕ → Option Reason
-  merge_refusal g set left = first_some (empty_set set ∷ any_of (not_up g) set ∷ any_of (still_regular g) set ∷ not_together g set left ∷ [])
+  merge_refusal g set left =
+      first_some (empty_set set ∷ any_of (not_up g) set ∷ any_of (still_regular g) set ∷ not_together g set left ∷ [])

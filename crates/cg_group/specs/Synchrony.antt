@@ -59,26 +59,32 @@ module _ {M : Type 0} where
     -- nothing is handed out of turn: after a parting comes a regular configuration, or the replica goes down
     pub in_turn : (p : ℕ) → (r.diary p).strays ≡ []
     -- in its regular phase a replica is handed the first places, in order, and every member has received each of them
-    pub in_order : (p conf : ℕ) → (stay_of r p conf).regular ≡ deliveries_at (configuration r.group conf) (above_up_to 0 (count_of r p conf))
-    pub received : (p conf place : ℕ) → 0 < place → place ≤ count_of r p conf → IsTrue (all_received (configuration r.group conf) place)
+    pub in_order : (p conf : ℕ) → (stay_of r p conf).regular ≡
+        deliveries_at (configuration r.group conf) (above_up_to 0 (count_of r p conf))
+    pub received : (p conf place : ℕ) → 0 < place → place ≤ count_of r p conf →
+        IsTrue (all_received (configuration r.group conf) place)
     -- each member is told who the members are
-    pub told : (p conf : ℕ) → IsTrue (was_there (stay_of r p conf).way) → (stay_of r p conf).members ≡ (configuration r.group conf).members
+    pub told : (p conf : ℕ) → IsTrue (was_there (stay_of r p conf).way) →
+        (stay_of r p conf).members ≡ (configuration r.group conf).members
     -- who is handed a configuration is a member of it, and who is handed a parting is in its set
-    pub member : (p conf : ℕ) → IsTrue (was_there (stay_of r p conf).way) → IsTrue (has (configuration r.group conf).members p)
+    pub member : (p conf : ℕ) → IsTrue (was_there (stay_of r p conf).way) →
+        IsTrue (has (configuration r.group conf).members p)
     pub parts_itself : (p conf : ℕ) (t : Parting M) → (stay_of r p conf).parting ≡ Some t → IsTrue (has t.set p)
     -- those who part together are told so in one call, after the same places, and are then handed the same list: the
     -- places after these that some of them had received
     pub together : (p q conf : ℕ) (t : Parting M) → (stay_of r p conf).parting ≡ Some t → IsTrue (has t.set q) →
         ((stay_of r q conf).parting ≡ Some t) × (count_of r q conf ≡ count_of r p conf)
     pub same_list : (p conf : ℕ) (t : Parting M) → (stay_of r p conf).parting ≡ Some t →
-        (let c = configuration r.group conf in t.later ≡ deliveries_at c (transitional_places c t.set (count_of r p conf)))
+        (let c = configuration r.group conf in
+        t.later ≡ deliveries_at c (transitional_places c t.set (count_of r p conf)))
     -- the next regular configuration holds all who parted together and are still there, but those who had left for good
     pub with_all : (p q conf : ℕ) (t : Parting M) (time : ℕ) (set left : List ℕ) →
         (stay_of r p conf).parting ≡ Some t → (stay_of r p conf).way ≡ WentOn time set left → IsTrue (has t.set q) →
         IsTrue (has set q) ⊎ IsTrue (has left q) ⊎ EndedBefore time (stay_of r q conf).way
     -- a place that one member was handed in its regular phase each other is handed too, in its regular phase or behind its
     -- parting, or it went down there, or it is still in its regular phase
-    pub nobody_skips : (p q conf place : ℕ) → 0 < place → place ≤ count_of r p conf → IsTrue (has (configuration r.group conf).members q) →
+    pub nobody_skips : (p q conf place : ℕ) → 0 < place → place ≤ count_of r p conf →
+        IsTrue (has (configuration r.group conf).members q) →
         (place ≤ count_of r q conf) ⊎ IsTrue (has (places_of (later_of (stay_of r q conf).parting)) place)
         ⊎ IsDownThere (stay_of r q conf).way ⊎ (phase_of r.group q ≡ Regular conf)
     -- what was ordered of a sender is what it sent in that configuration, as far as it goes; and no place is handed to a
@@ -88,4 +94,5 @@ module _ {M : Type 0} where
 
 -- whatever a list of calls hands out, from the empty group on, is virtually synchronous
 abbrev pub AlwaysSynchronous : (M : Type 0) → Type 0
-AlwaysSynchronous M = (calls : List (Call M)) → MayCallAll beginning calls → IsVirtuallySynchronous (history_from beginning calls)
+AlwaysSynchronous M = (calls : List (Call M)) → MayCallAll beginning calls →
+    IsVirtuallySynchronous (history_from beginning calls)

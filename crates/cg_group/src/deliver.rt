@@ -15,7 +15,8 @@ impl<M: Drop + TryClone> Group<M> {
     /// are fewer.
     pub fn deliver(&mut self, p: ReplicaId, k: u64) -> Result<Row<Delivery<M>>, GroupErr>
         ensures answer { IsAnswer (deliver_refusal self.old p k) result }
-        ensures ok { IfOk result (λ list. (self.new ≡ (deliver self.old p k).group) × (record { to = p; list = list } ∷ [] ≡ (deliver self.old p k).handed)) }
+        ensures ok { IfOk result (λ list. (self.new ≡ (deliver self.old p k).group)
+            × (record { to = p; list = list } ∷ [] ≡ (deliver self.old p k).handed)) }
         ensures err { OnErr result (self.new ≡ self.old) }
     {
         match self.deliver_refusal(p, k) {
@@ -30,7 +31,8 @@ impl<M: Drop + TryClone> Group<M> {
     #[tactic(auto, unfolding(crate::specs::Events::deliver))]
     fn deliver_admitted(&mut self, p: ReplicaId, k: u64) -> Result<Row<Delivery<M>>, NoMemory>
         requires { delivered_to self.old p + k < 2 ^ 64 }
-        ensures ok { IfOk result (λ list. (self.new ≡ (deliver self.old p k).group) × (record { to = p; list = list } ∷ [] ≡ (deliver self.old p k).handed)) }
+        ensures ok { IfOk result (λ list. (self.new ≡ (deliver self.old p k).group)
+            × (record { to = p; list = list } ∷ [] ≡ (deliver self.old p k).handed)) }
         ensures err { OnErr result (self.new ≡ self.old) }
     {
         let from = self.delivered(p);

@@ -37,7 +37,8 @@ impl<M: Drop + TryClone> Log<M> {
         to: u64,
         out: &mut Vec<Delivery<M>>,
     ) -> Result<(), NoMemory>
-        ensures { OnOk result (out.new.items ≡ out.old.items ++ deliveries_at self.now.configuration (above_up_to from to)) }
+        ensures { OnOk result (out.new.items ≡ out.old.items
+            ++ deliveries_at self.now.configuration (above_up_to from to)) }
     {
         for place in from..to {
             self.put_delivery(alloc, place + 1, out)?;

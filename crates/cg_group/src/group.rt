@@ -153,7 +153,8 @@ impl<M> Group<M> {
 
     // the configuration in which the replica is regular
     pub(crate) fn home(&self, p: ReplicaId) -> Option<&Log<M>>
-        ensures { MatchOption result (home self.now p ≡ no_configuration) (λ log. home self.now p ≡ log.now.configuration) }
+        ensures { MatchOption result (home self.now p ≡ no_configuration) (λ log. home self.now p ≡
+            log.now.configuration) }
     {
         at_place(self.logs.as_slice(), self.regular_in(p))
     }
@@ -205,7 +206,13 @@ impl<M: Drop> Group<M> {
     // a new configuration of these members
     pub(crate) fn open(&mut self, members: IdSet) -> Result<(), NoMemory>
         ensures ok { OnOk result
-            (self.new ≡ record self.old { configurations = self.old.configurations ++ record { members = members; ordered = []; received = [] } ∷ [] }) }
+            (self.new ≡ record self.old {
+              configurations = self.old.configurations ++ record {
+                members = members;
+                ordered = [];
+                received = [];
+              } ∷ [];
+            }) }
         ensures err { OnErr result (self.new ≡ self.old) }
     {
         self.logs.push(Log::new(self.alloc, members))?;

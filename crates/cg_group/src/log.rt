@@ -31,9 +31,13 @@ impl<M> Model for Log<M> {
 
     ghost Value = { Stored M };
 
-    ghost view = { λ l. record { configuration = configuration_of l.members l.ordered.items; room = vec_capacity l.ordered - vec_len l.ordered } };
+    ghost view = { λ l. record {
+      configuration = configuration_of l.members l.ordered.items;
+      room = vec_capacity l.ordered - vec_len l.ordered;
+    } };
 
-    ghost invariant = { λ l. IsSettled l.members l.ordered.items l.settled × AreFronts l.ordered.items l.fronts.items × AreInTurn l.ordered.items };
+    ghost invariant = { λ l. IsSettled l.members l.ordered.items l.settled × AreFronts l.ordered.items l.fronts.items
+        × AreInTurn l.ordered.items };
 }
 
 // the room is there, so no memory is taken
@@ -48,7 +52,10 @@ fn push_in_room<T: Drop>(items: &mut Vec<T>, item: T)
 
 // the receiver is among those who have received the place, which are a set
 fn add_receipt<M>(placed: &mut Placed<M>, p: ReplicaId, in_turn: bool)
-    ensures value { placed.new ≡ record placed.old { received = with_member placed.old.received p; in_turn = if in_turn then with_member placed.old.in_turn p else placed.old.in_turn } }
+    ensures value { placed.new ≡ record placed.old {
+      received = with_member placed.old.received p;
+      in_turn = if in_turn then with_member placed.old.in_turn p else placed.old.in_turn;
+    } }
     ensures set { IsSet placed.new.received }
 {
     placed.received.add(p);
@@ -213,8 +220,10 @@ impl<M> Log<M> {
     /// So many of the first places the replica is known to have received.
     pub(crate) fn received_by(&self, p: ReplicaId) -> usize
         ensures within { result ≤ length self.now.configuration.ordered }
-        ensures received { (place : ℕ) → 0 < place → place ≤ result → has_received self.now.configuration p place ≡ true }
-        ensures same { (place : ℕ) → 0 < place → place ≤ result → with_receipt self.now.configuration p place ≡ self.now.configuration }
+        ensures received { (place : ℕ) → 0 < place → place ≤ result →
+            has_received self.now.configuration p place ≡ true }
+        ensures same { (place : ℕ) → 0 < place → place ≤ result →
+            with_receipt self.now.configuration p place ≡ self.now.configuration }
     {
         let slot = usize::from(p.get() - 1);
         if slot >= self.fronts.len() {
@@ -253,7 +262,9 @@ impl<M> Log<M> {
 
     /// The member is known to have received the place, and each of its sender's places before it.
     pub(crate) fn has_received_in_turn(&self, p: ReplicaId, place: u64) -> bool
-        ensures { result ≡ true → (earlier : ℕ) → 0 < earlier → earlier ≤ place → sender_at self.now.configuration earlier ≡ sender_at self.now.configuration place → has_received self.now.configuration p earlier ≡ true }
+        ensures { result ≡ true → (earlier : ℕ) → 0 < earlier → earlier ≤ place →
+            sender_at self.now.configuration earlier ≡ sender_at self.now.configuration place →
+            has_received self.now.configuration p earlier ≡ true }
     {
         match at_place(self.ordered.as_slice(), place) {
             Some(placed) => placed.in_turn.contains(p),

@@ -26,7 +26,8 @@ pub(crate) fn reserve_at<M>(logs: &mut [Log<M>], conf: u64, count: usize) -> Res
 // a message gets the next place
 pub(crate) fn append_at<M: Drop>(logs: &mut [Log<M>], conf: u64, from: ReplicaId, message: M)
     requires { RoomFor logs.old conf 1 }
-    ensures changed { configurations_of logs.new ≡ changed_at (λ c. with_message c from message) (configurations_of logs.old) conf }
+    ensures changed { configurations_of logs.new ≡
+        changed_at (λ c. with_message c from message) (configurations_of logs.old) conf }
     ensures room { (k n : ℕ) → RoomFor logs.old k ((if conf == k then 1 else 0) + n) → RoomFor logs.new k n }
 {
     if conf == 0 {

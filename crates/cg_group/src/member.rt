@@ -92,7 +92,8 @@ impl<M> Member<M> {
         ensures id { self.new.id ≡ self.old.id }
         ensures taken { MatchOption result
             ((self.old.unordered ≡ []) × (self.new ≡ self.old))
-            (λ m. (self.old.unordered ≡ m ∷ self.new.unordered) × (self.new ≡ record self.old { unordered = self.new.unordered })) }
+            (λ m. (self.old.unordered ≡ m ∷ self.new.unordered)
+            × (self.new ≡ record self.old { unordered = self.new.unordered })) }
     {
         self.unordered.pop_front()
     }

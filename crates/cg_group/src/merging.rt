@@ -29,7 +29,8 @@ fn hand_regular_to_all<M: Drop>(
     conf: u64,
     set: &IdSet,
 ) -> Result<Vec<Handed<M>>, NoMemory>
-    ensures { IfOk result (λ handed. handed.items ≡ map (λ p. record { to = p; list = RegularIn conf set.now ∷ [] }) set.now) }
+    ensures { IfOk result (λ handed. handed.items ≡
+        map (λ p. record { to = p; list = RegularIn conf set.now ∷ [] }) set.now) }
 {
     let mut handed = Vec::new(alloc);
     for p in set.iter() {
@@ -48,7 +49,8 @@ impl<M: Drop> Group<M> {
     /// `left`.
     pub fn merge(&mut self, set: IdSet, left: IdSet) -> Result<Row<Handed<M>>, GroupErr>
         ensures answer { IsAnswer (merge_refusal self.old set left) result }
-        ensures ok { IfOk result (λ handed. (self.new ≡ (merge self.old set).group) × (handed ≡ (merge self.old set).handed)) }
+        ensures ok { IfOk result (λ handed. (self.new ≡ (merge self.old set).group)
+            × (handed ≡ (merge self.old set).handed)) }
         ensures err { OnErr result (self.new ≡ self.old) }
     {
         match self.merge_refusal(&set, &left) {
@@ -62,7 +64,8 @@ impl<M: Drop> Group<M> {
 
     fn merge_admitted(&mut self, set: &IdSet) -> Result<Row<Handed<M>>, NoMemory>
         requires { AllUp self.old set.now }
-        ensures ok { IfOk result (λ handed. (self.new ≡ (merge self.old set.now).group) × (handed ≡ (merge self.old set.now).handed)) }
+        ensures ok { IfOk result (λ handed. (self.new ≡ (merge self.old set.now).group)
+            × (handed ≡ (merge self.old set.now).handed)) }
         ensures err { OnErr result (self.new ≡ self.old) }
     {
         let conf = self.next_conf();

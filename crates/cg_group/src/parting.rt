@@ -36,7 +36,8 @@ impl<M: Drop + TryClone> Log<M> {
         out: &mut Vec<Delivery<M>>,
     ) -> Result<(), NoMemory>
         ensures { OnOk result (out.new.items ≡ out.old.items
-            ++ (if list_any (λ q. has_received self.now.configuration q place) set.now then delivery_at self.now.configuration place else [])) }
+            ++ (if list_any (λ q. has_received self.now.configuration q place) set.now
+            then delivery_at self.now.configuration place else [])) }
     {
         if self.is_received_by_any(set, place) {
             return self.put_delivery(alloc, place, out);
@@ -71,7 +72,8 @@ impl<M: Drop + TryClone> Group<M> {
     /// `NotOneConfiguration` with the lowest that isn't in the configuration of the lowest of all.
     pub fn split(&mut self, set: IdSet) -> Result<Row<Handed<M>>, GroupErr>
         ensures answer { IsAnswer (split_refusal self.old set) result }
-        ensures ok { IfOk result (λ handed. (self.new ≡ (split self.old set).group) × (handed ≡ (split self.old set).handed)) }
+        ensures ok { IfOk result (λ handed. (self.new ≡ (split self.old set).group)
+            × (handed ≡ (split self.old set).handed)) }
         ensures err { OnErr result (self.new ≡ self.old) }
     {
         match self.split_refusal(&set) {
@@ -86,7 +88,8 @@ impl<M: Drop + TryClone> Group<M> {
     #[tactic(auto, unfolding(crate::specs::Events::split))]
     fn split_admitted(&mut self, set: &IdSet) -> Result<Row<Handed<M>>, NoMemory>
         requires { AllUp self.old set.now }
-        ensures ok { IfOk result (λ handed. (self.new ≡ (split self.old set.now).group) × (handed ≡ (split self.old set.now).handed)) }
+        ensures ok { IfOk result (λ handed. (self.new ≡ (split self.old set.now).group)
+            × (handed ≡ (split self.old set.now).handed)) }
         ensures err { OnErr result (self.new ≡ self.old) }
     {
         let handed = self.hand_split_to_all(set)?;
@@ -131,7 +134,8 @@ impl<M: Drop + TryClone> Group<M> {
         first: u64,
         out: &mut Vec<Delivery<M>>,
     ) -> Result<(), NoMemory>
-        ensures { OnOk result (out.new.items ≡ out.old.items ++ deliveries_at (home self.now p) (transitional_places (home self.now p) set.now first)) }
+        ensures { OnOk result (out.new.items ≡ out.old.items
+            ++ deliveries_at (home self.now p) (transitional_places (home self.now p) set.now first)) }
     {
         match self.home(p) {
             Some(log) => log.put_later(self.alloc(), set, first, out),

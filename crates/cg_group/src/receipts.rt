@@ -45,7 +45,8 @@ impl<M> Log<M> {
     /// The member is known to have received each place of the same sender before the given one. It looks no further back than
     /// to the last of these, so that a place that never comes costs no more with each place behind it.
     pub(crate) fn has_all_before(&self, p: ReplicaId, place: u64) -> bool
-        ensures { result ≡ true → (earlier : ℕ) → 0 < earlier → earlier < place → is_missing self.now.configuration p place earlier ≡ false }
+        ensures { result ≡ true → (earlier : ℕ) → 0 < earlier → earlier < place →
+            is_missing self.now.configuration p place earlier ≡ false }
     {
         let sender = self.sender(place);
         let first = self.received_by(p) as u64;
@@ -71,7 +72,8 @@ impl<M> Log<M> {
 
     // the place is of that sender, and the member lacks it
     fn lacks(&self, p: ReplicaId, sender: u8, place: u64) -> bool
-        ensures { result ≡ ((sender_at self.now.configuration place == sender) && not (has_received self.now.configuration p place)) }
+        ensures { result ≡ ((sender_at self.now.configuration place == sender)
+            && not (has_received self.now.configuration p place)) }
     {
         self.sender(place) == sender && !self.has_received(p, place)
     }

@@ -183,7 +183,8 @@ impl<M> Group<M> {
 
     // the first of the replicas that isn't in that configuration
     fn first_outside(&self, set: &IdSet, conf: u64) -> Option<Reason>
-        ensures { result ≡ option_map NotOneConfiguration (find (λ q. not (regular_in (phase_of self.now q) == conf)) set.now) }
+        ensures { result ≡
+            option_map NotOneConfiguration (find (λ q. not (regular_in (phase_of self.now q) == conf)) set.now) }
     {
         for q in set.iter() {
             if self.regular_in(q) != conf {

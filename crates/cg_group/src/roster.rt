@@ -155,7 +155,8 @@ impl<M> Roster<M> {
     pub(crate) fn take_oldest(&mut self, p: ReplicaId) -> Option<M>
         ensures taken { MatchOption result
             ((self.new ≡ self.old) × (waits_of self.old p ≡ []))
-            (λ m. (s : Standing M) × (rest : List M) × (found self.old p ≡ Some s) × (s.unordered ≡ m ∷ rest) × (self.new ≡ with_standing self.old (with_unordered s rest))) }
+            (λ m. (s : Standing M) × (rest : List M) × (found self.old p ≡ Some s) × (s.unordered ≡ m ∷ rest)
+            × (self.new ≡ with_standing self.old (with_unordered s rest))) }
         ensures roster { IsRoster self.old }
     {
         match position_of(self.members.as_slice(), p) {
@@ -185,7 +186,12 @@ impl<M> Roster<M> {
     where
         M: Drop,
         requires { is_some (found self.old p) ≡ true }
-        ensures { self.new ≡ with_standing self.old (record { id = p; phase = phase; delivered = delivered; unordered = [] }) }
+        ensures { self.new ≡ with_standing self.old (record {
+          id = p;
+          phase = phase;
+          delivered = delivered;
+          unordered = [];
+        }) }
     {
         match position_of(self.members.as_slice(), p) {
             Some(i) => {

@@ -9,7 +9,8 @@ use Rattle.cg_io.specs.Outside.{SourceView, SinkView}
 -- at `Ok(n)` the front of the buffer are the next n bytes, none only at the end; at `Failed` nothing was taken
 abbrev pub Takes : SourceView → SourceView → Result ℕ Failed → List ℕ → Type 0
 Takes old new r buf =
-    MatchResult r (λ n. (n ≤ length buf) × Consumes old.left new.left (take n buf) × (n ≡ 0 → IsAtEnd new.left)) (λ _. Keeps old.left new.left)
+    MatchResult r (λ n. (n ≤ length buf) × Consumes old.left new.left (take n buf)
+    × (n ≡ 0 → IsAtEnd new.left)) (λ _. Keeps old.left new.left)
 
 -- the count of faults rises by one exactly where the take failed
 abbrev pub TakeCause : SourceView → SourceView → Result ℕ Failed → Type 0

@@ -41,8 +41,10 @@ impl Source for MemSource {
     fn take(&mut self, buf: &mut [u8]) -> Result<usize, Failed>
         requires room { 0 < length buf.old }
         requires few_faults { self.old.faults < 2 ^ 62 }
-        ensures bytes { Takes (from_offset self.old.offset self.old.bytes.items self.old.faults) (from_offset self.new.offset self.new.bytes.items self.new.faults) result buf.new }
-        ensures cause { TakeCause (from_offset self.old.offset self.old.bytes.items self.old.faults) (from_offset self.new.offset self.new.bytes.items self.new.faults) result }
+        ensures bytes { Takes (from_offset self.old.offset self.old.bytes.items self.old.faults) (from_offset
+            self.new.offset self.new.bytes.items self.new.faults) result buf.new }
+        ensures cause { TakeCause (from_offset self.old.offset self.old.bytes.items self.old.faults) (from_offset
+            self.new.offset self.new.bytes.items self.new.faults) result }
         ensures chosen { self.old.calls < 2 ^ 62 → IsErr result ↔ Contains self.old.fail.items (self.old.calls + 1) }
         ensures counted { self.old.calls < 2 ^ 62 → self.new.calls ≡ self.old.calls + 1 }
         ensures kept { self.new.fail ≡ self.old.fail }
@@ -95,11 +97,17 @@ impl Sink for MemSink {
 
     fn put(&mut self, _alloc: Global, part: &[u8]) -> Result<(), IoFault>
         requires few_faults { self.old.faults < 2 ^ 62 }
-        ensures ok { OnOk result (PutsAll (kept self.old.bytes.items self.old.faults) (kept self.new.bytes.items self.new.faults) part.now) }
-        ensures failed { IsErrOf result IoFault.Failed → PutsNothing (kept self.old.bytes.items self.old.faults) (kept self.new.bytes.items self.new.faults) }
-        ensures no_memory { IsErrOf result IoFault.NoMemory → PutsNothing (kept self.old.bytes.items self.old.faults) (kept self.new.bytes.items self.new.faults) }
-        ensures cause { PutCause (kept self.old.bytes.items self.old.faults) (kept self.new.bytes.items self.new.faults) result }
-        ensures chosen { self.old.calls < 2 ^ 62 → IsErrOf result IoFault.Failed ↔ Contains self.old.fail.items (self.old.calls + 1) }
+        ensures ok { OnOk
+            result (PutsAll (kept self.old.bytes.items self.old.faults) (kept self.new.bytes.items
+            self.new.faults) part.now) }
+        ensures failed { IsErrOf result IoFault.Failed →
+            PutsNothing (kept self.old.bytes.items self.old.faults) (kept self.new.bytes.items self.new.faults) }
+        ensures no_memory { IsErrOf result IoFault.NoMemory →
+            PutsNothing (kept self.old.bytes.items self.old.faults) (kept self.new.bytes.items self.new.faults) }
+        ensures cause { PutCause (kept self.old.bytes.items self.old.faults) (kept self.new.bytes.items
+            self.new.faults) result }
+        ensures chosen { self.old.calls < 2 ^ 62 →
+            IsErrOf result IoFault.Failed ↔ Contains self.old.fail.items (self.old.calls + 1) }
         ensures counted { self.old.calls < 2 ^ 62 → self.new.calls ≡ self.old.calls + 1 }
         ensures kept { self.new.fail ≡ self.old.fail }
     {

@@ -45,7 +45,14 @@ abbrev pub joined_from : ℕ → Head → List Action → List DbEntry → Held
 joined_from id head greens db =
     record {
       id = id;
-      queue = record { white = head.reached.white; greens = greens; green_cut = head.reached.cut; red_cut = head.reached.cut; reds = []; yellow = [] };
+      queue = record {
+        white = head.reached.white;
+        greens = greens;
+        green_cut = head.reached.cut;
+        red_cut = head.reached.cut;
+        reds = [];
+        yellow = [];
+      };
       yellow_valid = false;
       own = [];
       db = db;

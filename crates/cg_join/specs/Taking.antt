@@ -36,10 +36,14 @@ refused name taken (Err fault) = Some (bad fault)
 -- a piece was taken, and whether it is the last one; or it was refused, or memory was, and all is as before
 abbrev pub Adds : SnapshotName → List Part → List Part → Piece → Result Bool JoinErr → Type 0
 Adds name old new piece (Ok done) =
-    (refusal name (length old) piece.label ≡ None) × (new ≡ old ++ piece.part ∷ []) × (done ≡ (piece.label.number == piece.label.count))
-Adds name old new piece (Err fault) = (new ≡ old) × (fault ≢ NoMemory → refusal name (length old) piece.label ≡ Some fault)
+    (refusal name (length old) piece.label ≡ None) × (new ≡ old ++ piece.part ∷ [])
+    × (done ≡ (piece.label.number == piece.label.count))
+Adds name old new piece (Err fault) = (new ≡ old)
+    × (fault ≢ NoMemory → refusal name (length old) piece.label ≡ Some fault)
 
 -- the same of the piece that bytes spell
 abbrev pub Takes : SnapshotName → List Part → List Part → List ℕ → Result Bool JoinErr → Type 0
-Takes name old new bytes (Ok done) = (piece : Piece) × (whole piece_reading bytes ≡ Ok piece) × Adds name old new piece (Ok done)
-Takes name old new bytes (Err fault) = (new ≡ old) × (fault ≢ NoMemory → refused name old (whole piece_reading bytes) ≡ Some fault)
+Takes name old new bytes (Ok done) = (piece : Piece) × (whole piece_reading bytes ≡ Ok piece)
+    × Adds name old new piece (Ok done)
+Takes name old new bytes (Err fault) = (new ≡ old)
+    × (fault ≢ NoMemory → refused name old (whole piece_reading bytes) ≡ Some fault)

@@ -14,7 +14,8 @@ pub fn hand_pieces<D: Disk>(
 ) -> Result<(), NoMemory>
     requires takes { IsTaking writer.now joiner.old }
     requires there { length joiner.old.parts + count ≤ length writer.now.parts }
-    ensures pieces { OnOk result (joiner.new ≡ with_parts joiner.old (take (length joiner.old.parts + count) writer.now.parts)) }
+    ensures pieces { OnOk result (joiner.new ≡
+        with_parts joiner.old (take (length joiner.old.parts + count) writer.now.parts)) }
     ensures takes { IsTaking writer.now joiner.new }
 {
     for _ in 0..count {
@@ -26,7 +27,8 @@ pub fn hand_pieces<D: Disk>(
 fn hand_piece<D: Disk>(writer: &SnapshotWriter, joiner: &mut Joiner<D>) -> Result<(), NoMemory>
     requires takes { IsTaking writer.now joiner.old }
     requires there { length joiner.old.parts < length writer.now.parts }
-    ensures ok { OnOk result (joiner.new ≡ with_parts joiner.old (take (suc (length joiner.old.parts)) writer.now.parts)) }
+    ensures ok { OnOk result (joiner.new ≡
+        with_parts joiner.old (take (suc (length joiner.old.parts)) writer.now.parts)) }
     ensures err { OnErr result (joiner.new ≡ joiner.old) }
 {
     snapshots_are_taken();

@@ -85,7 +85,8 @@ impl<D: Disk> Joiner<D> {
 
         // All pieces of one snapshot were taken.
         requires all { IsSnapshotFor self.id self.parts }
-        ensures { (h : Held) → Ascends h.db → self.parts ≡ parts_of h → Finishes D.view self.id (created (joined self.id h)) (D.view self.disk) result }
+        ensures { (h : Held) → Ascends h.db → self.parts ≡ parts_of h →
+            Finishes D.view self.id (created (joined self.id h)) (D.view self.disk) result }
     {
         let Joiner {
             disk,

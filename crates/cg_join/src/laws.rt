@@ -39,7 +39,9 @@ pub fn joiners_agree()
 
 /// A joiner that has taken the first pieces of a snapshot takes the next one, unless memory is refused.
 pub fn snapshots_are_taken()
-    ensures { (s : Snapshot) (n : ℕ) (bytes : List ℕ) (new : List Part) (r : Result Bool JoinErr) → bytes_at s (suc n) ≡ Some bytes → IfSome (slice_get s.parts n) (λ part. IsPiece (piece_at s (suc n) part)) → Takes s.name (take n s.parts) new bytes r → Proceeds s n new r }
+    ensures { (s : Snapshot) (n : ℕ) (bytes : List ℕ) (new : List Part) (r : Result Bool JoinErr) →
+        bytes_at s (suc n) ≡ Some bytes → IfSome (slice_get s.parts n) (λ part. IsPiece (piece_at s (suc n) part)) →
+        Takes s.name (take n s.parts) new bytes r → Proceeds s n new r }
 {
     pieces_are_exact();
 }

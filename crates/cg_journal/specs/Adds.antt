@@ -46,7 +46,8 @@ pub record IsCutShort (side : Side) (gate call : ℕ) (before after : Option Rec
   pub other_synced : 2 < call → (state_on (opposite side) e).unsynced ≡ []
 
 -- behind so many earlier calls one of the four was struck
-pub record IsLostIn (earlier call : ℕ) (side : Side) (gate : ℕ) (before after : Option Records) (old new : DiskView) : Type 0 where
+pub record IsLostIn (earlier call : ℕ) (side : Side) (gate : ℕ) (before after : Option Records) (old
+    new : DiskView) : Type 0 where
   pub struck : IsStruck old new
   pub time : new.time ≡ old.time + earlier + call
   pub within : (1 ≤ call) × (call ≤ 4)
@@ -54,7 +55,8 @@ pub record IsLostIn (earlier call : ℕ) (side : Side) (gate : ℕ) (before afte
   pub early : call ≤ 2 → (c : Image) → new.may_leave c → records c ≡ before
   pub last : call ≡ 4 → records new.reads ≡ after
   pub reads : new.may_leave new.reads
-  pub told : (s : DiskState) → old.state ≡ Some s → (e : DiskState) × (new.state ≡ Some e) × IsCutShort side gate call before after s e
+  pub told : (s : DiskState) → old.state ≡ Some s → (e : DiskState) × (new.state ≡ Some e)
+      × IsCutShort side gate call before after s e
 
 -- the record stands on the disk
 pub record IsAdded (side : Side) (end : ℕ) (bodies : List (List ℕ)) (body : List ℕ) (old new : DiskView) : Type 0 where
@@ -77,5 +79,6 @@ pub record IsNotAdded (side : Side) (end : ℕ) (bodies : List (List ℕ)) (old 
 
 abbrev pub Adds : {T : Type 0} → Side → ℕ → List (List ℕ) → List ℕ → DiskView → DiskView → Result T DiskFault → Type 0
 Adds side end bodies body old new (Ok _) = IsAdded side end bodies body old new
-Adds side end bodies body old new (Err Failed) = (call : ℕ) × IsLostIn 0 call side (end - 1) (records old.reads) (option_map (added side body) (records old.reads)) old new
+Adds side end bodies body old new (Err Failed) = (call : ℕ)
+    × IsLostIn 0 call side (end - 1) (records old.reads) (option_map (added side body) (records old.reads)) old new
 Adds side end bodies body old new (Err NoMemory) = IsNotAdded side end bodies old new

@@ -62,7 +62,8 @@ with_record_alone side body old = option_map (added side body) (without_records 
 -- the records of a side were taken away
 abbrev pub ClosesSide : {D : Type 0} → (D → DiskView) → Side → DiskView → Result D (AppendErr D) → Type 0
 ClosesSide view side old (Ok journal) = IsDone (without_records side old) 2 old (view journal)
-ClosesSide view side old (Err (Lost disk)) = (call : ℕ) × IsLostClosing call (records old.reads) (without_records side old) old (view disk)
+ClosesSide view side old (Err (Lost disk)) =
+    (call : ℕ) × IsLostClosing call (records old.reads) (without_records side old) old (view disk)
 ClosesSide view side old (Err (NoMemory journal)) = IsRefused (λ r. r ≡ records old.reads) 0 old (view journal)
 
 -- a restart was struck in one of its last four calls: the gate is the first one of the side
@@ -76,12 +77,16 @@ pub record IsLostRestart (side : Side) (body : List ℕ) (old new : DiskView) : 
 -- side has the records before or none
 abbrev pub Restarts : {D : Type 0} → (D → DiskView) → Side → List ℕ → DiskView → Result D (AppendErr D) → Type 0
 Restarts view side body old (Ok journal) = IsDone (with_record_alone side body old) 6 old (view journal)
-Restarts view side body old (Err (Lost disk)) = ((call : ℕ) × IsLostClosing call (records old.reads) (without_records side old) old (view disk)) ⊎ IsLostRestart side body old (view disk)
-Restarts view side body old (Err (NoMemory journal)) = IsRefused (λ r. (r ≡ records old.reads) ⊎ (r ≡ without_records side old)) 4 old (view journal)
+Restarts view side body old (Err (Lost disk)) =
+    ((call : ℕ) × IsLostClosing call (records old.reads) (without_records side old) old (view disk))
+    ⊎ IsLostRestart side body old (view disk)
+Restarts view side body old (Err (NoMemory journal)) =
+    IsRefused (λ r. (r ≡ records old.reads) ⊎ (r ≡ without_records side old)) 4 old (view journal)
 
 -- the side has the records before, none, or the new one alone
 abbrev pub IsRestarting : Side → List ℕ → DiskView → Image → Type 0
-IsRestarting side body old c = IsEither (records old.reads) (without_records side old) c ⊎ (records c ≡ with_record_alone side body old)
+IsRestarting side body old c = IsEither (records old.reads) (without_records side old) c
+    ⊎ (records c ≡ with_record_alone side body old)
 
 -- a crash at each moment of a call leaves an image that has P
 abbrev pub EachMoment : {D : Type 0} → (D → DiskView) → (Image → Type 0) → DiskView → Result D (AppendErr D) → Type 0

@@ -31,5 +31,6 @@ pub record IsLostClosing (call : ℕ) (before closed : Option Records) (old new 
 
 abbrev pub Closes : {T : Type 0} → Side → DiskView → DiskView → Result T DiskFault → Type 0
 Closes side old new (Ok _) = IsClosed side old new
-Closes side old new (Err Failed) = (call : ℕ) × IsLostClosing call (records old.reads) (option_map (emptied side) (records old.reads)) old new
+Closes side old new (Err Failed) =
+    (call : ℕ) × IsLostClosing call (records old.reads) (option_map (emptied side) (records old.reads)) old new
 Closes side old new (Err NoMemory) = IsKept old new

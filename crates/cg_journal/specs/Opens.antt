@@ -25,7 +25,8 @@ pub record IsOpened (found : Option Records) (old new : DiskView) : Type 0 where
   pub records_old : records old.reads ≡ found
   pub read : IsRead 5 old new
 
-abbrev pub Opens : {D : Type 0} → (D → DiskView) → DiskView → Result (D × List (List ℕ) × List (List ℕ)) (JournalOpen D) → Type 0
+abbrev pub Opens : {D : Type 0} → (D → DiskView) → DiskView →
+    Result (D × List (List ℕ) × List (List ℕ)) (JournalOpen D) → Type 0
 Opens view old (Ok opened) = IsOpened (Some (record { a = opened.1; b = opened.2 })) old (view opened.0)
 Opens view old (Err (OpenLost disk)) = IsReadStruck 5 old (view disk)
 Opens view old (Err (NotAJournal disk)) = IsOpened None old (view disk)

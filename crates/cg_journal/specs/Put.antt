@@ -25,7 +25,8 @@ pub record IsPut (side : Side) (place : ℕ) (bytes : List ℕ) (old new : DiskV
 -- what a strike in the first or the second of the two calls leaves of the sides that a disk tells
 abbrev pub CutBy : Blow → DiskState → DiskState → ℕ → DiskState → Type 0
 CutBy Stops s w calls e = (e.a ≡ w.a) × (e.b ≡ w.b)
-CutBy Fails s w calls e = (calls ≡ 1 → (e.a ≡ s.a) × (e.b ≡ s.b)) × (calls ≡ 2 → (e.a ≡ synced_side w.a) × (e.b ≡ synced_side w.b))
+CutBy Fails s w calls e = (calls ≡ 1 → (e.a ≡ s.a) × (e.b ≡ s.b))
+    × (calls ≡ 2 → (e.a ≡ synced_side w.a) × (e.b ≡ synced_side w.b))
 
 pub record IsCutState (side : Side) (place : ℕ) (bytes : List ℕ) (calls : ℕ) (s e : DiskState) : Type 0 where
   pub strike : Strike
@@ -40,7 +41,8 @@ pub record IsCut (side : Side) (place : ℕ) (bytes : List ℕ) (calls : ℕ) (o
   pub images : (c : Image) → new.may_leave c → TornSide side place (length bytes) old.reads c
   pub reads : calls ≡ 2 → new.reads ≡ put_on side place bytes old.reads
   pub has : HasImages new
-  pub told : (s : DiskState) → old.state ≡ Some s → (e : DiskState) × (new.state ≡ Some e) × IsCutState side place bytes calls s e
+  pub told : (s : DiskState) → old.state ≡ Some s → (e : DiskState) × (new.state ≡ Some e)
+      × IsCutState side place bytes calls s e
 
 -- nothing was written, since memory was refused
 pub record IsKept (old new : DiskView) : Type 0 where

@@ -49,13 +49,15 @@ pub record HasRecords (side : List ℕ) (end : ℕ) (bodies : List (List ℕ)) :
 -- a body of this size behind its length, where it and the gate behind it fit, and what follows from that gate on
 abbrev pub body_and : ℕ → List ℕ → (List ℕ → Option (List (List ℕ))) → Option (List (List ℕ))
 body_and size bytes more =
-    if nat_lt (4 + size) (length bytes) then option_map (λ bodies. take size (drop 4 bytes) ∷ bodies) (more (drop (4 + size) bytes)) else None
+    if nat_lt (4 + size) (length bytes)
+    then option_map (λ bodies. take size (drop 4 bytes) ∷ bodies) (more (drop (4 + size) bytes)) else None
 
 -- the bodies of the records from a gate on, up to the first gate that isn't open; nothing where one of them doesn't fit
 abbrev pub bodies_from : ℕ → List ℕ → Option (List (List ℕ))
 bodies_from zero bytes = None
 bodies_from (suc fuel) [] = None
-bodies_from (suc fuel) (gate ∷ bytes) = if gate == 1 then body_and (number_at bytes) bytes (bodies_from fuel) else Some []
+bodies_from (suc fuel) (gate ∷ bytes) = if gate == 1
+    then body_and (number_at bytes) bytes (bodies_from fuel) else Some []
 
 -- the bodies of a side's records; nothing where it isn't the side of a journal
 unfoldable pub bodies_of : List ℕ → Option (List (List ℕ))

@@ -18,4 +18,5 @@ pub record IsUnstruck (old new : DiskView) : Type 0 where
 pub record IsStruck (old new : DiskView) : Type 0 where
   pub faults : old.faults < new.faults
   pub later : old.time < new.time
-  pub reached : (s : DiskState) → old.state ≡ Some s → (strike : Strike) × (s.strike ≡ Some strike) × (strike.call ≡ new.time)
+  pub reached : (s : DiskState) → old.state ≡ Some s →
+      (strike : Strike) × (s.strike ≡ Some strike) × (strike.call ≡ new.time)

@@ -7,7 +7,8 @@ use Rattle.cg_disk.specs.View.{DiskView, LeavesOnly}
 use Rattle.cg_journal.specs.Strikes.{IsUnstruck}
 
 -- a weaker fact
-pub weakened : (old new : DiskView) (P Q : Image → Type 0) → LeavesOnly old new P → ((c : Image) → P c → Q c) → LeavesOnly old new Q
+pub weakened : (old new : DiskView) (P Q : Image → Type 0) → LeavesOnly old new P →
+    ((c : Image) → P c → Q c) → LeavesOnly old new Q
 weakened old new P Q run weaker = record {
   later = run.later;
   each = λ c left. weaker c (run.each c left);
@@ -15,10 +16,13 @@ weakened old new P Q run weaker = record {
 }
 
 -- a state whose strike is told
-pub some_state : (state : Option DiskState) (strike : Option Strike) → option_map (λ (x : DiskState). x.strike) state ≡ Some strike → (s : DiskState) × (state ≡ Some s) × (s.strike ≡ strike)
+pub some_state : (state : Option DiskState) (strike : Option Strike) →
+    option_map (λ (x : DiskState). x.strike) state ≡ Some strike →
+    (s : DiskState) × (state ≡ Some s) × (s.strike ≡ strike)
 some_state None strike is = cc
 some_state (Some s) strike is = (s, refl, cc)
 
 -- runs without a strike, one behind the other
 pub unstruck_more : (old mid new : DiskView) → IsUnstruck old mid → IsUnstruck mid new → IsUnstruck old new
-unstruck_more old mid new first second = record { faults = second.faults ∙ first.faults; stays = second.stays ∙ first.stays; ahead = second.ahead }
+unstruck_more old mid new first second =
+    record { faults = second.faults ∙ first.faults; stays = second.stays ∙ first.stays; ahead = second.ahead }

@@ -18,12 +18,16 @@ pub fn add<D: Disk>(disk: &mut D, side: Side, end: u64, bytes: &[u8]) -> Result<
     requires inside { end ≤ length (bytes_of side (D.view disk.old).reads) }
     requires rest { IsAtRest (D.view disk.old) }
 
-    ensures adds { (bodies : List (List ℕ)) (body : List ℕ) → HasRecords (bytes_of side (D.view disk.old).reads) end bodies → bytes.now ≡ framed body → length body < 2 ^ 32
+    ensures adds { (bodies : List (List ℕ)) (body : List ℕ) →
+        HasRecords (bytes_of side (D.view disk.old).reads) end bodies → bytes.now ≡ framed body → length body < 2 ^ 32
         → Adds side end bodies body (D.view disk.old) (D.view disk.new) result }
 
     // At each moment the disk stands for the records before, or for those with the new one.
-    ensures moments { (bodies : List (List ℕ)) (body : List ℕ) → HasRecords (bytes_of side (D.view disk.old).reads) end bodies → bytes.now ≡ framed body → length body < 2 ^ 32
-        → LeavesOnly (D.view disk.old) (D.view disk.new) (IsEither (records (D.view disk.old).reads) (option_map (added side body) (records (D.view disk.old).reads))) }
+    ensures moments { (bodies : List (List ℕ)) (body : List ℕ) →
+        HasRecords (bytes_of side (D.view disk.old).reads) end bodies → bytes.now ≡ framed body → length body < 2 ^ 32
+        → LeavesOnly (D.view disk.old) (D.view disk.new)
+        (IsEither (records (D.view disk.old).reads)
+        (option_map (added side body) (records (D.view disk.old).reads))) }
 {
     match put(disk, side, end, bytes) {
         Ok(()) => put(disk, side, end - 1, &[OPEN]),

@@ -19,11 +19,13 @@ pub fn close<D: Disk>(disk: &mut D, side: Side, end: u64) -> Result<(), DiskFaul
     requires inside { end ≤ length (bytes_of side (D.view disk.old).reads) }
     requires rest { IsAtRest (D.view disk.old) }
 
-    ensures closes { (bodies : List (List ℕ)) → HasRecords (bytes_of side (D.view disk.old).reads) end bodies → Closes side (D.view disk.old) (D.view disk.new) result }
+    ensures closes { (bodies : List (List ℕ)) → HasRecords (bytes_of side (D.view disk.old).reads) end bodies →
+        Closes side (D.view disk.old) (D.view disk.new) result }
 
     // At each moment the side has the records before, or none.
     ensures moments { (bodies : List (List ℕ)) → HasRecords (bytes_of side (D.view disk.old).reads) end bodies
-        → LeavesOnly (D.view disk.old) (D.view disk.new) (IsEither (records (D.view disk.old).reads) (option_map (emptied side) (records (D.view disk.old).reads))) }
+        → LeavesOnly (D.view disk.old) (D.view disk.new)
+        (IsEither (records (D.view disk.old).reads) (option_map (emptied side) (records (D.view disk.old).reads))) }
 {
     if end > EMPTY_END {
         put(disk, side, GATE, &[CLOSED])

@@ -102,7 +102,9 @@ impl<D: Disk> Journal<D> {
         requires short { length body.now < 2 ^ 32 }
 
         // At each moment every image stands for the records before, or for those with the new one.
-        ensures moments { EachMoment D.view (IsEither (records (D.view self).reads) (with_record side body.now (D.view self))) (D.view self) result }
+        ensures moments { EachMoment
+            D.view (IsEither (records (D.view self).reads) (with_record side body.now (D.view self))) (D.view self)
+            result }
         ensures ends { Appends D.view side body.now (D.view self) result }
         ensures readable { CanBeRead (D.view self) }
     {
@@ -145,9 +147,12 @@ impl<D: Disk> Journal<D> {
     fn append_framed(self, side: Side, bytes: &[u8]) -> Result<Journal<D>, AppendErr<D>>
         requires calls { (D.view self).time + 4 ≤ 2 ^ 62 }
         requires framed { IsFramed bytes.now }
-        ensures ends { (body : List ℕ) → bytes.now ≡ framed body → length body < 2 ^ 32 → Appends D.view side body (D.view self) result }
+        ensures ends { (body : List ℕ) → bytes.now ≡ framed body → length body < 2 ^ 32 →
+            Appends D.view side body (D.view self) result }
         ensures moments { (body : List ℕ) → bytes.now ≡ framed body → length body < 2 ^ 32
-            → EachMoment D.view (IsEither (records (D.view self).reads) (with_record side body (D.view self))) (D.view self) result }
+            → EachMoment
+            D.view (IsEither (records (D.view self).reads) (with_record side body (D.view self))) (D.view self)
+            result }
     {
         let Journal { mut disk, ends } = self;
         let end = ends.on(side);
@@ -165,7 +170,8 @@ impl<D: Disk> Journal<D> {
     fn closed(self, side: Side) -> Result<Journal<D>, AppendErr<D>>
         requires calls { (D.view self).time + 2 ≤ 2 ^ 62 }
         ensures ends { ClosesSide D.view side (D.view self) result }
-        ensures moments { EachMoment D.view (IsEither (records (D.view self).reads) (without_records side (D.view self))) (D.view self) result }
+        ensures moments { EachMoment
+            D.view (IsEither (records (D.view self).reads) (without_records side (D.view self))) (D.view self) result }
     {
         let Journal { mut disk, ends } = self;
         match close(&mut disk, side, ends.on(side)) {

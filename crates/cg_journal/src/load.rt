@@ -11,7 +11,8 @@ use std::alloc::Global;
 pub fn load<D: Disk>(disk: &mut D, alloc: Global) -> Result<(Vec<u8>, Vec<u8>), DiskFault>
     requires { (D.view disk.old).time + 5 ≤ 2 ^ 62 }
     ensures reads { Reads 5 (D.view disk.old) (D.view disk.new) result }
-    ensures bytes { IfOk result (λ sides. (sides.0.items ≡ (D.view disk.old).reads.a) × (sides.1.items ≡ (D.view disk.old).reads.b)) }
+    ensures bytes { IfOk result (λ sides. (sides.0.items ≡ (D.view disk.old).reads.a)
+        × (sides.1.items ≡ (D.view disk.old).reads.b)) }
 {
     match synced(disk) {
         Ok(()) => both_sides(disk, alloc),
@@ -30,7 +31,8 @@ fn both_sides<D: Disk>(disk: &mut D, alloc: Global) -> Result<(Vec<u8>, Vec<u8>)
     requires calls { (D.view disk.old).time + 4 ≤ 2 ^ 62 }
     requires rest { IsAtRest (D.view disk.old) }
     ensures reads { Reads 4 (D.view disk.old) (D.view disk.new) result }
-    ensures bytes { IfOk result (λ sides. (sides.0.items ≡ (D.view disk.old).reads.a) × (sides.1.items ≡ (D.view disk.old).reads.b)) }
+    ensures bytes { IfOk result (λ sides. (sides.0.items ≡ (D.view disk.old).reads.a)
+        × (sides.1.items ≡ (D.view disk.old).reads.b)) }
 {
     match sizes(disk) {
         Ok((a, b)) => contents(disk, alloc, a, b),
@@ -42,7 +44,8 @@ fn sizes<D: Disk>(disk: &mut D) -> Result<(u64, u64), DiskFault>
     requires calls { (D.view disk.old).time + 2 ≤ 2 ^ 62 }
     requires rest { IsAtRest (D.view disk.old) }
     ensures reads { Reads 2 (D.view disk.old) (D.view disk.new) result }
-    ensures sizes { IfOk result (λ sizes. (sizes.0 ≡ length (D.view disk.old).reads.a) × (sizes.1 ≡ length (D.view disk.old).reads.b)) }
+    ensures sizes { IfOk result (λ sizes. (sizes.0 ≡ length (D.view disk.old).reads.a)
+        × (sizes.1 ≡ length (D.view disk.old).reads.b)) }
 {
     match size(disk, Side::A) {
         Ok(a) => match size(disk, Side::B) {
@@ -64,7 +67,8 @@ fn contents<D: Disk>(
     requires a { a ≡ length (D.view disk.old).reads.a }
     requires b { b ≡ length (D.view disk.old).reads.b }
     ensures reads { Reads 2 (D.view disk.old) (D.view disk.new) result }
-    ensures bytes { IfOk result (λ sides. (sides.0.items ≡ (D.view disk.old).reads.a) × (sides.1.items ≡ (D.view disk.old).reads.b)) }
+    ensures bytes { IfOk result (λ sides. (sides.0.items ≡ (D.view disk.old).reads.a)
+        × (sides.1.items ≡ (D.view disk.old).reads.b)) }
 {
     match whole(disk, alloc, Side::A, a) {
         Ok(a) => match whole(disk, alloc, Side::B, b) {

@@ -31,7 +31,8 @@ pub struct Parsed {
 
 /// Reads a side from its front. There is no answer where it isn't the side of a journal.
 pub fn parse(alloc: Global, side: Vec<u8>) -> Result<Option<Parsed>, NoMemory>
-    ensures read { IfOk result (λ parsed. MatchOption parsed (bodies_of side.items ≡ None) (λ p. bodies_of side.items ≡ Some p.bodies)) }
+    ensures read { IfOk result (λ parsed. MatchOption
+        parsed (bodies_of side.items ≡ None) (λ p. bodies_of side.items ≡ Some p.bodies)) }
     ensures end { IfOk result (λ parsed. MatchOption parsed (⊥ → ⊥) (λ p. HasRecords side.items p.end p.bodies)) }
 {
     let Some(found) = find(alloc, &side)? else {
@@ -50,8 +51,10 @@ struct Found {
 }
 
 fn find(alloc: Global, side: &[u8]) -> Result<Option<Found>, NoMemory>
-    ensures read { IfOk result (λ found. MatchOption found (bodies_of side.now ≡ None) (λ f. bodies_of side.now ≡ Some (bodies_at side.now f.spans.items))) }
-    ensures end { IfOk result (λ found. MatchOption found (⊥ → ⊥) (λ f. HasRecords side.now f.end (bodies_at side.now f.spans.items))) }
+    ensures read { IfOk result (λ found. MatchOption
+        found (bodies_of side.now ≡ None) (λ f. bodies_of side.now ≡ Some (bodies_at side.now f.spans.items))) }
+    ensures end { IfOk result (λ found. MatchOption found (⊥ →
+        ⊥) (λ f. HasRecords side.now f.end (bodies_at side.now f.spans.items))) }
     ensures within { IfOk result (λ found. MatchOption found (⊥ → ⊥) (λ f. AreWithin side.now f.spans.items)) }
 {
     if side.len() < 9 {
@@ -101,7 +104,8 @@ pub fn parse_both(
     a: Vec<u8>,
     b: Vec<u8>,
 ) -> Result<Option<(Parsed, Parsed)>, NoMemory>
-    ensures read { IfOk result (λ parsed. MatchOption parsed (both (bodies_of a.items) (bodies_of b.items) ≡ None) (λ p. both (bodies_of a.items) (bodies_of b.items) ≡ Some (record { a = p.0.bodies; b = p.1.bodies }))) }
+    ensures read { IfOk result (λ parsed. MatchOption parsed (both (bodies_of a.items) (bodies_of b.items) ≡
+        None) (λ p. both (bodies_of a.items) (bodies_of b.items) ≡ Some (record { a = p.0.bodies; b = p.1.bodies }))) }
     ensures end_a { IfOk result (λ parsed. MatchOption parsed (⊥ → ⊥) (λ p. HasRecords a.items p.0.end p.0.bodies)) }
     ensures end_b { IfOk result (λ parsed. MatchOption parsed (⊥ → ⊥) (λ p. HasRecords b.items p.1.end p.1.bodies)) }
 {

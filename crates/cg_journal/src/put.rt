@@ -13,7 +13,8 @@ pub fn put<D: Disk>(disk: &mut D, side: Side, place: u64, bytes: &[u8]) -> Resul
     requires inside { place ≤ length (bytes_of side (D.view disk.old).reads) }
     requires rest { IsAtRest (D.view disk.old) }
     ensures puts { Puts side place bytes.now (D.view disk.old) (D.view disk.new) result }
-    ensures moments { LeavesOnly (D.view disk.old) (D.view disk.new) (TornSide side place (length bytes.now) (D.view disk.old).reads) }
+    ensures moments { LeavesOnly (D.view disk.old) (D.view disk.new) (TornSide side
+        place (length bytes.now) (D.view disk.old).reads) }
 {
     match disk.write_at(side, place, bytes) {
         Ok(()) => disk.sync(),

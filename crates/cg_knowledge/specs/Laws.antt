@@ -17,14 +17,17 @@ pub record IsMostUpdated (summaries : List Summary) (best : Summary) : Type 0 wh
 
 -- among any members there is the most updated one
 abbrev pub HasMostUpdated : Type 0
-HasMostUpdated = (summaries : List Summary) → MatchOption (most_updated summaries) (summaries ≡ []) (IsMostUpdated summaries)
+HasMostUpdated = (summaries : List Summary) →
+    MatchOption (most_updated summaries) (summaries ≡ []) (IsMostUpdated summaries)
 
 -- two sets of members that may both go on from one primary component have a member of it in common
 abbrev pub DecidersMeet : Type 0
 DecidersMeet =
-    (one other : List Summary) → decides one ≡ true → decides other ≡ true → (known_primary one).set ≡ (known_primary other).set
+    (one other : List Summary) → decides one ≡ true → decides other ≡ true →
+    (known_primary one).set ≡ (known_primary other).set
     → ShareMember (known_primary one).set (remaining one) (remaining other)
 
 -- a common yellow action stands in the list of each member of the group
 abbrev pub CommonStandsInEach : Type 0
-CommonStandsInEach = (summaries : List Summary) → All (λ id. All (λ s. names s.yellow.list id ≡ true) (yellow_group summaries)) (common_yellow summaries).list
+CommonStandsInEach = (summaries : List Summary) →
+    All (λ id. All (λ s. names s.yellow.list id ≡ true) (yellow_group summaries)) (common_yellow summaries).list

@@ -13,7 +13,8 @@ is_vulnerable_for attempt s = option_map_or (λ v. v.attempt == attempt) s.vulne
 
 -- the bits with those of the member, where it is vulnerable for the attempt
 abbrev pub with_bits : ℕ → List ℕ → Summary → List ℕ
-with_bits attempt bits s = option_map_or (λ v. if v.attempt == attempt then union bits v.bits else bits) s.vulnerable bits
+with_bits attempt bits s = option_map_or (λ v. if v.attempt == attempt then union bits v.bits
+    else bits) s.vulnerable bits
 
 -- the bits of all members that are vulnerable for the attempt
 unfoldable pub all_bits : List Summary → ℕ → List ℕ
@@ -37,9 +38,11 @@ is_ended_by_all summaries v = same_set (all_bits summaries v.attempt) v.set
 
 -- the record is cleared
 unfoldable pub is_cleared : List Summary → Vulnerable → Bool
-is_cleared summaries v = is_long_past summaries v || (is_overtaken summaries v || (is_ended_by_one summaries v || is_ended_by_all summaries v))
+is_cleared summaries v = is_long_past summaries v
+    || (is_overtaken summaries v || (is_ended_by_one summaries v || is_ended_by_all summaries v))
 
 -- what becomes of a record: it is cleared, or it gets the bits of all members
 abbrev pub decided : List Summary → Option Vulnerable → Option Vulnerable
 decided summaries None = None
-decided summaries (Some v) = if is_cleared summaries v then None else Some (record v { bits = all_bits summaries v.attempt })
+decided summaries (Some v) = if is_cleared summaries v then None
+    else Some (record v { bits = all_bits summaries v.attempt })

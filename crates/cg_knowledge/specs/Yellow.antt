@@ -16,7 +16,8 @@ yellow_group summaries = filter (λ s. s.yellow.valid) (newest summaries)
 
 -- the action is green at the most updated member
 unfoldable pub is_green_at_most : List Summary → ActionId → Bool
-is_green_at_most summaries id = option_map_or (λ s. nat_le id.index (index_in s.green_cut id.creator)) (most_updated summaries) false
+is_green_at_most summaries id =
+    option_map_or (λ s. nat_le id.index (index_in s.green_cut id.creator)) (most_updated summaries) false
 
 -- the action stands in the list of each member of the group
 unfoldable pub is_in_each : List Summary → ActionId → Bool

@@ -28,7 +28,8 @@ fn lowest_of_group(summaries: &[Summary]) -> Option<&Summary>
 }
 
 fn is_green_at(best: Option<&Summary>, id: &ActionId) -> bool
-    ensures { result ≡ option_map_or (λ s. nat_le id.now.index (index_in s.green_cut id.now.creator)) (option_copied best.entry) false }
+    ensures { result ≡ option_map_or (λ s. nat_le id.now.index (index_in s.green_cut id.now.creator))
+        (option_copied best.entry) false }
 {
     match best {
         None => false,

@@ -20,5 +20,6 @@ pub record AreApart (m : Members) (count : ℕ) : Type 0 where
 -- behind one more green action no server that stays has a lower line
 abbrev pub LinesNeverFall : Type 0
 LinesNeverFall =
-    (m : Members) (place : ℕ) (action : Action) (p : ℕ) → is_server m p ≡ true → is_server (after_green m place action) p ≡ true
+    (m : Members) (place : ℕ) (action : Action) (p : ℕ) → is_server m p ≡ true →
+    is_server (after_green m place action) p ≡ true
     → line_of m.servers p ≤ line_of (after_green m place action).servers p

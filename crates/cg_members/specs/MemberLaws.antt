@@ -14,20 +14,26 @@ use Rattle.cg_members.specs.Laws.{NoLineAbove, AreApart}
 
 -- ---- one action more
 
-after_greens-more : (m : Members) (place : ℕ) (greens : List Action) (action : Action) → after_greens m place (greens ++ action ∷ []) ≡ after_green (after_greens m place greens) (place + length greens) action
-after_greens-more m place [] action = ap (λ n. after_green m n action) (let none : place ≡ place + 0 = omega arith in none)
+after_greens-more : (m : Members) (place : ℕ) (greens : List Action) (action : Action) →
+    after_greens m place (greens ++ action ∷ []) ≡
+    after_green (after_greens m place greens) (place + length greens) action
+after_greens-more m place [] action =
+    ap (λ n. after_green m n action) (let none : place ≡ place + 0 = omega arith in none)
 after_greens-more m place (a ∷ greens) action =
     let next : suc place + length greens ≡ place + suc (length greens) = omega arith in
-    after_greens-more (after_green m place a) (suc place) greens action ∙ ap (λ n. after_green (after_greens m place (a ∷ greens)) n action) next
+    after_greens-more (after_green m place a) (suc place) greens action
+    ∙ ap (λ n. after_green (after_greens m place (a ∷ greens)) n action) next
 
-pub members_of-more : (set : List Weighted) (greens : List Action) (action : Action) → members_of set (greens ++ action ∷ []) ≡ after_green (members_of set greens) (suc (length greens)) action
+pub members_of-more : (set : List Weighted) (greens : List Action) (action : Action) →
+    members_of set (greens ++ action ∷ []) ≡ after_green (members_of set greens) (suc (length greens)) action
 members_of-more set greens action =
     let place : 1 + length greens ≡ suc (length greens) = omega arith in
     after_greens-more (starting set) 1 greens action ∙ ap (λ n. after_green (members_of set greens) n action) place
 
 -- ---- who is a server after a step
 
-is_among-with_server : (servers : List Server) (new : Server) (q : ℕ) → is_among (with_server servers new) q ≡ true → (new.id ≡ q) ⊎ (is_among servers q ≡ true)
+is_among-with_server : (servers : List Server) (new : Server) (q : ℕ) → is_among (with_server servers new) q ≡ true →
+    (new.id ≡ q) ⊎ (is_among servers q ≡ true)
 is_among-with_server [] new q here = elim (cases_eq new.id q) [
   | inl same ↦ inl same
   | inr apart ↦ absurd (true≢false (sym here ∙ rw (ne_eqb new.id q apart)))
@@ -38,13 +44,15 @@ is_among-with_server (s ∷ servers) new q here = elim (cases_order new.id s.id)
       inr (rw (← same) now)
   | inr apart ↦ elim apart [
     | inl front ↦
-        let now : (eqb new.id q || (eqb s.id q || is_among servers q)) ≡ true = rw (ne_eqb new.id s.id (λ e. omega arith), lt-ltb new.id s.id front) at here in
+        let now : (eqb new.id q || (eqb s.id q || is_among servers q)) ≡ true =
+        rw (ne_eqb new.id s.id (λ e. omega arith), lt-ltb new.id s.id front) at here in
         elim (or_cases (eqb new.id q) (eqb s.id q || is_among servers q) now) [
           | inl own ↦ inl (eqb-true new.id q own)
           | inr other ↦ inr other
         ]
     | inr later ↦
-        let now : (eqb s.id q || is_among (with_server servers new) q) ≡ true = rw (ne_eqb new.id s.id (λ e. omega arith), le-ltb new.id s.id (omega arith)) at here in
+        let now : (eqb s.id q || is_among (with_server servers new) q) ≡ true =
+        rw (ne_eqb new.id s.id (λ e. omega arith), le-ltb new.id s.id (omega arith)) at here in
         elim (or_cases (eqb s.id q) (is_among (with_server servers new) q) now) [
           | inl own ↦ inr (rw own)
           | inr other ↦ elim (is_among-with_server servers new q other) [
@@ -59,7 +67,8 @@ is_among-with_server (s ∷ servers) new q here = elim (cases_order new.id s.id)
     or_second true b e = refl
     or_second false b e = e
 
-pub is_among-without : (servers : List Server) (p q : ℕ) → is_among (without_server servers p) q ≡ true → (is_among servers q ≡ true) × (q ≢ p)
+pub is_among-without : (servers : List Server) (p q : ℕ) → is_among (without_server servers p) q ≡ true →
+    (is_among servers q ≡ true) × (q ≢ p)
 is_among-without [] p q here = absurd (true≢false (sym here))
 is_among-without (s ∷ servers) p q here = elim (cases_eq s.id p) [
   | inl same ↦
@@ -69,7 +78,8 @@ is_among-without (s ∷ servers) p q here = elim (cases_eq s.id p) [
       let now : (eqb s.id q || is_among (without_server servers p) q) ≡ true = rw (ne_eqb s.id p apart) at here in
       elim (or_cases (eqb s.id q) (is_among (without_server servers p) q) now) [
         | inl own ↦ let equal : s.id ≡ q = eqb-true s.id q own in (rw own, λ e. apart (equal ∙ e))
-        | inr other ↦ let rest = is_among-without servers p q other in (or_second (eqb s.id q) (is_among servers q) rest.0, rest.1)
+        | inr other ↦ let rest = is_among-without servers p q other in
+            (or_second (eqb s.id q) (is_among servers q) rest.0, rest.1)
       ]
 ]
   where
@@ -77,7 +87,8 @@ is_among-without (s ∷ servers) p q here = elim (cases_eq s.id p) [
     or_second true b e = refl
     or_second false b e = e
 
-pub is_among-with_line : (servers : List Server) (p line q : ℕ) → is_among (map (with_line p line) servers) q ≡ is_among servers q
+pub is_among-with_line : (servers : List Server) (p line q : ℕ) →
+    is_among (map (with_line p line) servers) q ≡ is_among servers q
 is_among-with_line [] p line q = refl
 is_among-with_line (s ∷ servers) p line q = elim (cases_Bool (eqb s.id p)) [
   | inl same ↦ rw same (ap (λ b. eqb s.id q || b) (is_among-with_line servers p line q))
@@ -86,28 +97,36 @@ is_among-with_line (s ∷ servers) p line q = elim (cases_Bool (eqb s.id p)) [
 
 -- ---- lines after a step
 
-NoLineAbove-more : (count more : ℕ) (servers : List Server) → count ≤ more → NoLineAbove count servers → NoLineAbove more servers
+NoLineAbove-more : (count more : ℕ) (servers : List Server) → count ≤ more → NoLineAbove count servers →
+    NoLineAbove more servers
 NoLineAbove-more count more [] le none = tt
-NoLineAbove-more count more (s ∷ servers) le none = let here : s.line ≤ count = none.0 in (omega arith, NoLineAbove-more count more servers le none.1)
+NoLineAbove-more count more (s ∷ servers) le none = let here : s.line ≤ count = none.0 in
+    (omega arith, NoLineAbove-more count more servers le none.1)
 
-NoLineAbove-with_server : (count : ℕ) (servers : List Server) (new : Server) → NoLineAbove count servers → new.line ≤ count → NoLineAbove count (with_server servers new)
+NoLineAbove-with_server : (count : ℕ) (servers : List Server) (new : Server) → NoLineAbove count servers →
+    new.line ≤ count → NoLineAbove count (with_server servers new)
 NoLineAbove-with_server count [] new none le = (le, tt)
 NoLineAbove-with_server count (s ∷ servers) new none le = elim (cases_order new.id s.id) [
   | inl same ↦ rw (eq-eqb new.id s.id same) (le, none.1)
   | inr apart ↦ elim apart [
     | inl front ↦ rw (ne_eqb new.id s.id (λ e. omega arith), lt-ltb new.id s.id front) (le, none)
-    | inr later ↦ rw (ne_eqb new.id s.id (λ e. omega arith), le-ltb new.id s.id (omega arith)) (none.0, NoLineAbove-with_server count servers new none.1 le)
+    | inr later ↦ rw (ne_eqb new.id s.id (λ e. omega arith), le-ltb new.id s.id (omega arith)) (
+      none.0,
+      NoLineAbove-with_server count servers new none.1 le,
+    )
   ]
 ]
 
-NoLineAbove-without : (count : ℕ) (servers : List Server) (p : ℕ) → NoLineAbove count servers → NoLineAbove count (without_server servers p)
+NoLineAbove-without : (count : ℕ) (servers : List Server) (p : ℕ) → NoLineAbove count servers →
+    NoLineAbove count (without_server servers p)
 NoLineAbove-without count [] p none = tt
 NoLineAbove-without count (s ∷ servers) p none = elim (cases_eq s.id p) [
   | inl same ↦ rw (eq-eqb s.id p same) (NoLineAbove-without count servers p none.1)
   | inr apart ↦ rw (ne_eqb s.id p apart) (none.0, NoLineAbove-without count servers p none.1)
 ]
 
-NoLineAbove-with_line : (count : ℕ) (servers : List Server) (p line : ℕ) → NoLineAbove count servers → line ≤ count → NoLineAbove count (map (with_line p line) servers)
+NoLineAbove-with_line : (count : ℕ) (servers : List Server) (p line : ℕ) → NoLineAbove count servers → line ≤ count →
+    NoLineAbove count (map (with_line p line) servers)
 NoLineAbove-with_line count [] p line none le = tt
 NoLineAbove-with_line count (s ∷ servers) p line none le =
     let here : s.line ≤ count = none.0 in
@@ -119,15 +138,24 @@ NoLineAbove-with_line count (s ∷ servers) p line none le =
 
 -- ---- the law
 
-AreApart-joined : (m : Members) (count p weight : ℕ) → AreApart m count → AreApart (joined m p weight (suc count)) (suc count)
+AreApart-joined : (m : Members) (count p weight : ℕ) → AreApart m count →
+    AreApart (joined m p weight (suc count)) (suc count)
 AreApart-joined m count p weight are = elim (cases_Bool (was_ever m p)) [
-  | inl was ↦ rw was (record { apart = are.apart; lines = NoLineAbove-more count (suc count) m.servers (omega arith) are.lines })
+  | inl was ↦ rw was (record {
+    apart = are.apart;
+    lines = NoLineAbove-more count (suc count) m.servers (omega arith) are.lines;
+  })
   | inr never ↦ rw never (record {
-    apart = λ q here. elim (is_among-with_server m.servers (record { id = p; line = suc count; weight = weight }) q here) [
-      | inl same ↦ rw (← same) (or_parts (is_server m p) (has m.left p) never).1
-      | inr old ↦ are.apart q old
-    ];
-    lines = NoLineAbove-with_server (suc count) m.servers (record { id = p; line = suc count; weight = weight }) (NoLineAbove-more count (suc count) m.servers (omega arith) are.lines) (omega arith);
+    apart = λ q here. elim (is_among-with_server
+        m.servers (record { id = p; line = suc count; weight = weight }) q here) [
+          | inl same ↦ rw (← same) (or_parts (is_server m p) (has m.left p) never).1
+          | inr old ↦ are.apart q old
+        ];
+    lines = NoLineAbove-with_server (suc count) m.servers (record {
+      id = p;
+      line = suc count;
+      weight = weight;
+    }) (NoLineAbove-more count (suc count) m.servers (omega arith) are.lines) (omega arith);
   })
 ]
 
@@ -138,33 +166,41 @@ AreApart-departed m count p are =
       | inl is ↦ rw is (record {
         apart = λ q here.
             let old = is_among-without m.servers p q here in
-            has-with_member m.left p q ∙ or_from (has m.left q) (eqb p q) (are.apart q old.0) (ne_eqb p q (λ e. old.1 (sym e)));
+            has-with_member m.left p q
+            ∙ or_from (has m.left q) (eqb p q) (are.apart q old.0) (ne_eqb p q (λ e. old.1 (sym e)));
         lines = NoLineAbove-without (suc count) m.servers p lines;
       })
       | inr isn't ↦ rw isn't (record { apart = are.apart; lines = lines })
     ]
 
-AreApart-after_kind : (m : Members) (count : ℕ) (kind : Kind) → AreApart m count → AreApart (after_kind m (suc count) kind) (suc count)
-AreApart-after_kind m count (Update cmds query) are = record { apart = are.apart; lines = NoLineAbove-more count (suc count) m.servers (omega arith) are.lines }
+AreApart-after_kind : (m : Members) (count : ℕ) (kind : Kind) → AreApart m count →
+    AreApart (after_kind m (suc count) kind) (suc count)
+AreApart-after_kind m count (Update cmds query) are =
+    record { apart = are.apart; lines = NoLineAbove-more count (suc count) m.servers (omega arith) are.lines }
 AreApart-after_kind m count (Join joiner weight) are = AreApart-joined m count joiner weight are
 AreApart-after_kind m count (Leave server) are = AreApart-departed m count server are
 
-AreApart-raised : (m : Members) (count p line : ℕ) → AreApart m count → line ≤ count → AreApart (raise_line m p line) count
+AreApart-raised : (m : Members) (count p line : ℕ) → AreApart m count → line ≤ count →
+    AreApart (raise_line m p line) count
 AreApart-raised m count p line are le = record {
   apart = λ q here. are.apart q (sym (is_among-with_line m.servers p line q) ∙ here);
   lines = NoLineAbove-with_line count m.servers p line are.lines le;
 }
 
 -- one green action more
-pub AreApart-after_green : (m : Members) (count : ℕ) (a : Action) → AreApart m count → AreApart (after_green m (suc count) a) (suc count)
+pub AreApart-after_green : (m : Members) (count : ℕ) (a : Action) → AreApart m count →
+    AreApart (after_green m (suc count) a) (suc count)
 AreApart-after_green m count a are =
-    AreApart-raised (after_kind m (suc count) a.kind) (suc count) a.id.creator (min a.green_line (suc count)) (AreApart-after_kind m count a.kind are) (omega arith)
+    AreApart-raised (after_kind m (suc count) a.kind) (suc count)
+    a.id.creator (min a.green_line (suc count)) (AreApart-after_kind m count a.kind are) (omega arith)
 
-AreApart-after_greens : (m : Members) (count : ℕ) (greens : List Action) → AreApart m count → AreApart (after_greens m (suc count) greens) (count + length greens)
+AreApart-after_greens : (m : Members) (count : ℕ) (greens : List Action) → AreApart m count →
+    AreApart (after_greens m (suc count) greens) (count + length greens)
 AreApart-after_greens m count [] are = let same : count ≡ count + 0 = omega arith in rw (← same) are
 AreApart-after_greens m count (a ∷ greens) are =
     let next : suc count + length greens ≡ count + suc (length greens) = omega arith in
-    rw (← next) (AreApart-after_greens (after_green m (suc count) a) (suc count) greens (AreApart-after_green m count a are))
+    rw (← next) (AreApart-after_greens (after_green m (suc count) a) (suc count)
+    greens (AreApart-after_green m count a are))
 
 pub AreApart-starting : (set : List Weighted) → AreApart (starting set) 0
 AreApart-starting set = record { apart = λ p here. refl; lines = none set }

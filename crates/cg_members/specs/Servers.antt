@@ -29,7 +29,8 @@ first_line m = record { id = m.id; line = 0; weight = m.weight }
 abbrev pub with_server : List Server → Server → List Server
 with_server [] new = new ∷ []
 with_server (s ∷ servers) new =
-    if new.id == s.id then new ∷ servers else if nat_lt new.id s.id then new ∷ s ∷ servers else s ∷ with_server servers new
+    if new.id == s.id then new ∷ servers else if nat_lt new.id s.id then new ∷ s ∷ servers
+    else s ∷ with_server servers new
 
 -- the servers without the replica
 abbrev pub without_server : List Server → ℕ → List Server

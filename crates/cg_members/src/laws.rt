@@ -7,7 +7,8 @@ ghost use Rattle.cg_members.specs.Laws.{AreApart, LinesNeverFall};
 
 /// One green action more is one step of the fold more.
 pub fn members_follow_greens()
-    ensures { (set : List Weighted) (greens : List Action) (action : Action) → members_of set (greens ++ action ∷ []) ≡ after_green (members_of set greens) (suc (length greens)) action }
+    ensures { (set : List Weighted) (greens : List Action) (action : Action) →
+        members_of set (greens ++ action ∷ []) ≡ after_green (members_of set greens) (suc (length greens)) action }
 {}
 
 /// Whatever becomes green: no server has left, and no line is above the number of green actions.

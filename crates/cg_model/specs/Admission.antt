@@ -26,11 +26,13 @@ never_named w p = refuse (not (has w.named p)) (UnknownReplica p)
 
 -- the joiner has left, as its representative knows
 abbrev pub joiner_left : World → ℕ → ℕ → Option Reason
-joiner_left w p joiner = refuse (option_map_or (λ r. has r.held.members.left joiner) (replica_of w p) false) (HasLeft joiner)
+joiner_left w p joiner =
+    refuse (option_map_or (λ r. has r.held.members.left joiner) (replica_of w p) false) (HasLeft joiner)
 
 -- the joiner is no server, as its representative knows
 abbrev pub not_green : World → ℕ → ℕ → Option Reason
-not_green w p joiner = refuse (not (option_map_or (λ r. is_server r.held.members joiner) (replica_of w p) false)) (JoinNotGreen joiner)
+not_green w p joiner =
+    refuse (not (option_map_or (λ r. is_server r.held.members joiner) (replica_of w p) false)) (JoinNotGreen joiner)
 
 -- why a replica can't take part in an event as itself
 abbrev pub takes_part : World → ℕ → Option Reason
@@ -41,7 +43,8 @@ unfoldable pub first_refusal : World → Event → Option Reason
 first_refusal w (Start set) = empty_set (ids set)
 first_refusal w (Split set) = first_some (empty_set set ∷ any_of (unknown w) set ∷ split_refusal w.group set ∷ [])
 first_refusal w (Merge set) =
-    first_some (empty_set set ∷ any_of (unknown w) set ∷ any_of (not_up w.group) set ∷ any_of (has_left w) set ∷ merge_refusal w.group set (left_replicas w) ∷ [])
+    first_some (empty_set set ∷ any_of (unknown w) set ∷ any_of (not_up w.group) set ∷ any_of (has_left w) set
+    ∷ merge_refusal w.group set (left_replicas w) ∷ [])
 first_refusal w (Request p cmds query) = takes_part w p
 first_refusal w (Weak p query) = takes_part w p
 first_refusal w (Dirty p query) = takes_part w p
@@ -55,5 +58,6 @@ first_refusal w (Fail p call) = takes_part w p
 first_refusal w (Join p joiner weight) = first_some (takes_part w p ∷ refuse (has w.named joiner) (IdUsed joiner) ∷ [])
 first_refusal w (Leave p server) = first_some (takes_part w p ∷ never_named w server ∷ [])
 first_refusal w (Transfer p joiner pieces) =
-    first_some (takes_part w p ∷ never_named w joiner ∷ refuse (has_begun w joiner) (AlreadyUp joiner) ∷ joiner_left w p joiner ∷ not_green w p joiner ∷ [])
+    first_some (takes_part w p ∷ never_named w joiner ∷ refuse (has_begun w joiner) (AlreadyUp joiner)
+    ∷ joiner_left w p joiner ∷ not_green w p joiner ∷ [])
 first_refusal w other = None

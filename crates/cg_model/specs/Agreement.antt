@@ -42,7 +42,8 @@ pub record OrderGrows (steps : List Step) : Type 0 where
   pub numbered : map (λ o. o.place) (order_lines steps) ≡ count_up 1 (length (order_lines steps))
   pub in_time : (earlier later : List Step) → steps ≡ earlier ++ later →
       length (order_of earlier) ≡ greatest (map (λ up. up.view.green_count) (all_up_lines earlier))
-  pub shown : (earlier : List Step) (s : Step) (list : List ActionId) → ComesAfter steps earlier s → Contains s.entry.shown (All list) → list ≡ order_of (through earlier s)
+  pub shown : (earlier : List Step) (s : Step) (list : List ActionId) → ComesAfter steps earlier s →
+      Contains s.entry.shown (All list) → list ≡ order_of (through earlier s)
 
 -- the event hands something to the replica, recovers it, or finishes its transfer
 abbrev pub may_move : Event → ℕ → Bool
@@ -70,18 +71,24 @@ order_recovered order disk green = order ++ beyond order green (green_count disk
 -- the prefix of another server that has begun. Those on the disk of a replica that is down are a front of the order, or all
 -- of it and behind that the names that its recovery will show; and they are no fewer than its last line showed.
 pub record Prefix (steps : List Step) : Type 0 where
-  pub never_falls : (earlier : List Step) (s : Step) (p : ℕ) → ComesAfter steps earlier s → position_of p earlier ≤ position_of p (through earlier s)
+  pub never_falls : (earlier : List Step) (s : Step) (p : ℕ) → ComesAfter steps earlier s →
+      position_of p earlier ≤ position_of p (through earlier s)
   pub moves_only : (earlier : List Step) (s : Step) (p : ℕ) → ComesAfter steps earlier s →
       may_move s.event p ≡ false → position_of p (through earlier s) ≡ position_of p earlier
-  pub shown : (earlier : List Step) (s : Step) (p : ℕ) (list : List ActionId) → ComesAfter steps earlier s → Contains s.entry.shown (Greens p list) →
+  pub shown : (earlier : List Step) (s : Step) (p : ℕ) (list : List ActionId) → ComesAfter steps earlier s →
+      Contains s.entry.shown (Greens p list) →
       (let now = through earlier s in list ≡ drop (white_of p now) (take (position_of p now) (order_of now)))
-  pub held : (earlier : List Step) (s : Step) (p : ℕ) (r : Replica) → ComesAfter steps earlier s → replica_of s.world p ≡ Some r →
-      Reaches r.held.queue (order_of (through earlier s)) × (position_of p (through earlier s) ≡ green_count r.held.queue)
-  pub down : (earlier : List Step) (s : Step) (p : ℕ) (disk : Disk) (green : List ActionId) → ComesAfter steps earlier s →
+  pub held : (earlier : List Step) (s : Step) (p : ℕ) (r : Replica) → ComesAfter steps earlier s →
+      replica_of s.world p ≡ Some r →
+      Reaches r.held.queue (order_of (through earlier s))
+      × (position_of p (through earlier s) ≡ green_count r.held.queue)
+  pub down : (earlier : List Step) (s : Step) (p : ℕ) (disk : Disk) (green : List ActionId) →
+      ComesAfter steps earlier s →
       life_of s.world p ≡ Some (Down disk green) →
       Reaches disk.content.queue (order_recovered (order_of (through earlier s)) disk green)
       × (position_of p (through earlier s) ≤ green_count disk.content.queue)
-  pub white : (earlier : List Step) (s : Step) (p q : ℕ) → ComesAfter steps earlier s → IsTrue (is_server_at (through earlier s) p q) →
+  pub white : (earlier : List Step) (s : Step) (p q : ℕ) → ComesAfter steps earlier s →
+      IsTrue (is_server_at (through earlier s) p q) →
       IsTrue (has_begun s.world q) → white_of p (through earlier s) ≤ position_of q (through earlier s)
 
 -- Each creator's actions stand in the order as 1, 2, 3 and so on, and none before it was made.
@@ -107,34 +114,44 @@ is_created_in id s = names (map (λ m. m.id) s.entry.made) id && not (is_recover
 -- the action's creator hasn't crashed since it created it
 abbrev pub lives_since : ActionId → List Step → Bool
 lives_since id [] = false
-lives_since id (s ∷ steps) = (is_created_in id s && not (list_any (is_down_in id.creator) steps)) || lives_since id steps
+lives_since id (s ∷ steps) =
+    (is_created_in id s && not (list_any (is_down_in id.creator) steps)) || lives_since id steps
 
 -- a reply to the action at this place is due in the step: its creator passes the place, and hasn't crashed since it created the action
 abbrev pub IsDue : List Step → Step → ActionId → ℕ → Type 0
 IsDue earlier s id place =
-    ((position_of id.creator earlier < place) × (place ≤ position_of id.creator (through earlier s))) × IsTrue (lives_since id (through earlier s))
+    ((position_of id.creator earlier < place) × (place ≤ position_of id.creator (through earlier s)))
+    × IsTrue (lives_since id (through earlier s))
 
 -- Every answer is that of a prefix of the order: a database, shown or not, is the fold of its replica's prefix, and a weak answer is read
 -- from it; so is the database on the disk of a replica that is down, of what the disk has of the order and of the names behind it; a reply
 -- is read from the fold up to its own request, and is given once, in the step in which its creator passes the request's place without
 -- having crashed since the request, and in no other.
 pub record FoldAnswers (steps : List Step) : Type 0 where
-  pub database : (earlier : List Step) (s : Step) (p : ℕ) (entries : List DbEntry) → ComesAfter steps earlier s → Contains s.entry.shown (Database p entries) →
+  pub database : (earlier : List Step) (s : Step) (p : ℕ) (entries : List DbEntry) → ComesAfter steps earlier s →
+      Contains s.entry.shown (Database p entries) →
       (let now = through earlier s in entries ≡ fold_actions (ordered_actions now (position_of p now)))
-  pub held : (earlier : List Step) (s : Step) (p : ℕ) (r : Replica) → ComesAfter steps earlier s → replica_of s.world p ≡ Some r →
+  pub held : (earlier : List Step) (s : Step) (p : ℕ) (r : Replica) → ComesAfter steps earlier s →
+      replica_of s.world p ≡ Some r →
       r.held.db ≡ fold_actions (ordered_actions (through earlier s) (green_count r.held.queue))
-  pub down : (earlier : List Step) (s : Step) (p : ℕ) (disk : Disk) (green : List ActionId) → ComesAfter steps earlier s →
+  pub down : (earlier : List Step) (s : Step) (p : ℕ) (disk : Disk) (green : List ActionId) →
+      ComesAfter steps earlier s →
       life_of s.world p ≡ Some (Down disk green) →
       (let now = through earlier s in
-      disk.content.db ≡ fold_actions (made_actions now (take (green_count disk.content.queue) (order_recovered (order_of now) disk green))))
+      disk.content.db ≡
+      fold_actions (made_actions
+      now (take (green_count disk.content.queue) (order_recovered (order_of now) disk green))))
   pub weak : (earlier : List Step) (s : Step) (p : ℕ) (q : Query) → ComesAfter steps earlier s → s.event ≡ Weak p q →
-      (let now = through earlier s in s.entry.shown ≡ ShownWeak p (answer (fold_actions (ordered_actions now (position_of p now))) q) ∷ [])
+      (let now = through earlier s in
+      s.entry.shown ≡ ShownWeak p (answer (fold_actions (ordered_actions now (position_of p now))) q) ∷ [])
   pub reply : (earlier : List Step) (s : Step) (r : Reply) → ComesAfter steps earlier s → Contains s.entry.replies r →
       (let now = through earlier s in
-      (before after : List ActionId) × (a : Action) × (order_of now ≡ before ++ r.id ∷ after) × (made_action now r.id ≡ Some a)
+      (before after : List ActionId) × (a : Action) × (order_of now ≡ before ++ r.id ∷ after)
+      × (made_action now r.id ≡ Some a)
       × (let applied = apply (fold_actions (made_actions now before)) a in
       (r.effect ≡ applied.effect) × (r.answer ≡ option_map (answer applied.db) (query_of a.kind))))
-  pub when : (earlier : List Step) (s : Step) (before after : List ActionId) (id : ActionId) → ComesAfter steps earlier s →
+  pub when : (earlier : List Step) (s : Step) (before after : List ActionId) (id : ActionId) →
+      ComesAfter steps earlier s →
       order_of (through earlier s) ≡ before ++ id ∷ after →
       Contains (map (λ r. r.id) s.entry.replies) id ↔ IsDue earlier s id (suc (length before))
   pub once : (s : Step) (before between after : List Reply) (r again : Reply) → Contains steps s →
@@ -142,37 +159,45 @@ pub record FoldAnswers (steps : List Step) : Type 0 where
 
 -- the actions that a replica knows, as its line shows them: its prefix of the order, then the yellow ones, then the other reds
 abbrev pub known_actions : List Step → UpLine → List Action
-known_actions steps up = ordered_actions steps up.view.green_count ++ made_actions steps (up.view.yellow.list ++ up.view.reds)
+known_actions steps up = ordered_actions steps up.view.green_count
+    ++ made_actions steps (up.view.yellow.list ++ up.view.reds)
 
 -- A dirty answer is read from the replica's prefix, then its yellow list, then its reds.
 abbrev pub DirtyAnswers : List Step → Type 0
 DirtyAnswers steps =
-    (earlier : List Step) (s : Step) (p : ℕ) (q : Query) (up : UpLine) → ComesAfter steps earlier s → s.event ≡ Dirty p q →
+    (earlier : List Step) (s : Step) (p : ℕ) (q : Query) (up : UpLine) →
+    ComesAfter steps earlier s → s.event ≡ Dirty p q →
     last_up p (through earlier s) ≡ Some up →
     s.entry.shown ≡ ShownDirty p (answer (fold_actions (known_actions (through earlier s) up)) q) ∷ []
 
 -- No primary index names two components, and only members of one make the order longer, or a recovery does.
 pub record OnePrimary (steps : List Step) : Type 0 where
-  pub one : (a b : UpLine) → Contains (all_up_lines steps) a → Contains (all_up_lines steps) b → a.view.prim.index ≡ b.view.prim.index →
+  pub one : (a b : UpLine) → Contains (all_up_lines steps) a → Contains (all_up_lines steps) b →
+      a.view.prim.index ≡ b.view.prim.index →
       (a.view.prim.conf ≡ b.view.prim.conf) × (a.view.prim.set ≡ b.view.prim.set)
   pub longer : (earlier : List Step) (s : Step) (l : Line) (up : UpLine) → ComesAfter steps earlier s →
       length (order_of earlier) < length (order_of (through earlier s)) → Contains s.entry.lines l → l.up ≡ Some up →
-      length (order_of earlier) < up.view.green_count → ((up.state ≡ RegPrim) ⊎ (up.state ≡ TransPrim)) ⊎ IsTrue (is_recovery_of l.id s.event)
+      length (order_of earlier) < up.view.green_count →
+      ((up.state ≡ RegPrim) ⊎ (up.state ≡ TransPrim)) ⊎ IsTrue (is_recovery_of l.id s.event)
 
 -- A configuration that is quiet is settled.
 abbrev pub QuietSettles : List Step → Type 0
 QuietSettles steps =
-    (s : Step) (conf : ℕ) → Contains steps s → 0 < conf → conf ≤ length s.world.group.configurations → IsTrue (is_quiet s.world conf) → IsSettled s.world conf
+    (s : Step) (conf : ℕ) → Contains steps s → 0 < conf → conf ≤ length s.world.group.configurations →
+    IsTrue (is_quiet s.world conf) → IsSettled s.world conf
 
 -- A made action stands on each later line of its creator: own, red, yellow, or in the prefix of the order.
 abbrev pub MadeStays : List Step → Type 0
 MadeStays steps =
-    (earlier : List Step) (s : Step) (id : ActionId) (up : UpLine) → ComesAfter steps earlier s → Contains (made_names (through earlier s)) id →
+    (earlier : List Step) (s : Step) (id : ActionId) (up : UpLine) → ComesAfter steps earlier s →
+    Contains (made_names (through earlier s)) id →
     last_up id.creator (through earlier s) ≡ Some up →
-    Contains (up.view.own ++ up.view.reds ++ up.view.yellow.list ++ take up.view.green_count (order_of (through earlier s))) id
+    Contains (up.view.own ++ up.view.reds ++ up.view.yellow.list
+    ++ take up.view.green_count (order_of (through earlier s))) id
 
 -- An event is refused exactly where a test of it gives a reason, and with the first one: no test of an event that made a
 -- step does, and the event that ended the run by a refusal has that reason.
 pub record RefusedExactly (steps : List Step) (refused : Option Refusal) : Type 0 where
-  pub admitted : (earlier : List Step) (s : Step) → ComesAfter steps earlier s → first_refusal (world_after no_world earlier) s.event ≡ None
+  pub admitted : (earlier : List Step) (s : Step) → ComesAfter steps earlier s →
+      first_refusal (world_after no_world earlier) s.event ≡ None
   pub reason : (r : Refusal) → refused ≡ Some r → first_refusal (world_after no_world steps) r.event ≡ Some r.reason

@@ -36,4 +36,5 @@ is_seen attempts conf = list_any (λ a. a.conf == conf) attempts
 -- an attempt is taken from the first member that has a record of it
 abbrev pub with_attempt_of : List Attempt → List Action → Held → Option Vulnerable → List Attempt
 with_attempt_of attempts greens h None = attempts
-with_attempt_of attempts greens h (Some v) = if is_seen attempts v.attempt then attempts else attempts ++ new_attempt greens h v ∷ []
+with_attempt_of attempts greens h (Some v) = if is_seen attempts v.attempt then attempts
+    else attempts ++ new_attempt greens h v ∷ []

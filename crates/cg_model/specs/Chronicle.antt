@@ -55,4 +55,13 @@ pub record Chronicle : Type 0 where
 
 -- the empty world, of which there is nothing to tell
 abbrev pub no_chronicle : Chronicle
-no_chronicle = record { start = []; world = no_world; pasts = []; told = []; attempts = []; levels = []; copies = []; book = [] }
+no_chronicle = record {
+  start = [];
+  world = no_world;
+  pasts = [];
+  told = [];
+  attempts = [];
+  levels = [];
+  copies = [];
+  book = [];
+}

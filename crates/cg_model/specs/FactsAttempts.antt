@@ -35,11 +35,13 @@ use Rattle.cg_model.specs.FactsExchange.{HasRecord, best_told}
 -- the names of what some member knows and the most updated one doesn't have green, without those that are yellow
 abbrev pub names_between : List Summary → Summary → ℕ → List ActionId
 names_between heard best creator =
-    map (λ n. record { creator = creator; index = n }) (above_up_to (index_in best.green_cut creator) (known_up_to heard creator))
+    map (λ n. record { creator = creator; index = n })
+    (above_up_to (index_in best.green_cut creator) (known_up_to heard creator))
 
 abbrev pub red_names : List Summary → List ActionId
 red_names heard =
-    option_map_or (λ best. filter (λ id. not (names (common_yellow heard).list id)) (flat_map (names_between heard best) (creators heard)))
+    option_map_or (λ best. filter (λ id. not (names (common_yellow heard).list id))
+    (flat_map (names_between heard best) (creators heard)))
     (most_updated heard) []
 
 -- its parts follow from the summaries of its configuration
@@ -71,25 +73,30 @@ pub record HoldsParts (h : Held) (all : List Action) (a : Attempt) : Type 0 wher
 abbrev pub AttemptList : Chronicle → Type 0
 AttemptList c =
     (p : ℕ) → IfSome (replica_of c.world p) (λ r.
-    When (is_attempting r.state) (IsSomeWith (attempt_of c (conf_at (phase_of c.world.group p))) (HoldsParts r.held (greens_of c p))))
+    When (is_attempting r.state) (IsSomeWith (attempt_of c (conf_at (phase_of c.world.group p))) (HoldsParts
+    r.held (greens_of c p))))
 
 -- in an attempt that isn't installed names are yellow only where the yellow list is valid
 abbrev pub YellowValid : Chronicle → Type 0
 YellowValid c =
-    (p : ℕ) → IfSome (replica_of c.world p) (λ r. When (is_attempting r.state) (r.held.yellow_valid ≡ false → r.held.queue.yellow ≡ []))
+    (p : ℕ) → IfSome (replica_of c.world p) (λ r. When (is_attempting r.state) (r.held.yellow_valid ≡ false →
+    r.held.queue.yellow ≡ []))
 
 -- who is in an attempt's configuration isn't noted as one who has left it
 abbrev pub LeftOut : Chronicle → Type 0
 LeftOut c =
-    (conf p : ℕ) → IsTrue (is_in c conf p) → find (λ l. l.member == p) (option_map_or (λ a. a.left) (attempt_of c conf) []) ≡ None
+    (conf p : ℕ) → IsTrue (is_in c conf p) →
+    find (λ l. l.member == p) (option_map_or (λ a. a.left) (attempt_of c conf) []) ≡ None
 
 -- ---- levels
 
 -- each level was opened by an attempt from the one before, and each installed attempt opened the next level
 pub record LevelsStand (c : Chronicle) : Type 0 where
   pub opened : (level : ℕ) → level < top_of c →
-      IsSomeWith (at_place c.levels (suc level)) (λ conf. IsSomeWith (attempt_of c conf) (λ a. (a.from ≡ level) × (is_installed a ≡ true)))
-  pub opens : (conf : ℕ) → IfSome (attempt_of c conf) (λ a. When (is_installed a) (at_place c.levels (suc a.from) ≡ Some conf))
+      IsSomeWith (at_place c.levels (suc level)) (λ conf. IsSomeWith (attempt_of c conf) (λ a. (a.from ≡ level)
+      × (is_installed a ≡ true)))
+  pub opens : (conf : ℕ) →
+      IfSome (attempt_of c conf) (λ a. When (is_installed a) (at_place c.levels (suc a.from) ≡ Some conf))
   pub known : OfCores c (λ h greens. (h.prim.index ≤ top_of c) × (h.prim ≡ prim_at c h.prim.index))
 
 -- ---- who has announced, entered and installed
@@ -102,7 +109,8 @@ installed_in c conf = option_map_or is_installed (attempt_of c conf) false
 
 -- who has announced an attempt has entered it
 abbrev pub AnnouncedEntered : Chronicle → Type 0
-AnnouncedEntered c = (conf p : ℕ) → 0 < length (filter_map announcer_in (said_in c conf p)) → IsTrue (entered_in c conf p)
+AnnouncedEntered c = (conf p : ℕ) → 0 < length (filter_map announcer_in (said_in c conf p)) →
+    IsTrue (entered_in c conf p)
 
 -- where an attempt is installed, every member has received the announcement of each
 abbrev pub InstalledAnnounced : Chronicle → Type 0
@@ -113,7 +121,8 @@ InstalledAnnounced c =
 -- where a quorum was, an action is made by one who has installed the attempt
 abbrev pub ActInstalled : Chronicle → Type 0
 ActInstalled c =
-    (conf p : ℕ) → IsTrue (decides (whole_talk c conf).heard) → 0 < length (filter_map act_in (said_in c conf p)) → IsTrue (installed_in c conf)
+    (conf p : ℕ) → IsTrue (decides (whole_talk c conf).heard) → 0 < length (filter_map act_in (said_in c conf p)) →
+    IsTrue (installed_in c conf)
 
 -- a record is of an attempt that its holder has entered
 abbrev pub RecordOfAttempt : Chronicle → Type 0
@@ -121,7 +130,8 @@ RecordOfAttempt c = OfCores c (λ h greens. HasRecord c h.id h.prim.index h.vuln
 
 -- who has installed an attempt has gone past its index, and who has left it has no fewer greens than then
 pub record InstalledIndex (c : Chronicle) : Type 0 where
-  pub index : (conf p : ℕ) → IfSome (attempt_of c conf) (λ a. IfSome (core_of c p) (λ h. IsTrue (has_installed a p) → a.from < h.prim.index))
+  pub index : (conf p : ℕ) →
+      IfSome (attempt_of c conf) (λ a. IfSome (core_of c p) (λ h. IsTrue (has_installed a p) → a.from < h.prim.index))
   pub count : (conf p : ℕ) → IfSome (attempt_of c conf) (λ a. left_count a p ≤ length (greens_of c p))
 
 -- ---- witnesses
@@ -136,11 +146,13 @@ pub record IsWitnessed (c : Chronicle) (a : Attempt) (greens known p : ℕ) : Ty
 abbrev pub AreWitnessed : Chronicle → ℕ → ℕ → List ℕ → Option Vulnerable → Type 0
 AreWitnessed c count index but None = Unit {0}
 AreWitnessed c count index but (Some v) =
-    (p : ℕ) → has v.bits p ≡ true → has but p ≡ false → IsSomeWith (attempt_of c v.attempt) (λ a. IsWitnessed c a count index p)
+    (p : ℕ) → has v.bits p ≡ true → has but p ≡ false →
+    IsSomeWith (attempt_of c v.attempt) (λ a. IsWitnessed c a count index p)
 
 pub record BitsWitness (c : Chronicle) : Type 0 where
   pub cores : OfCores c (λ h greens. AreWitnessed c (length greens) h.prim.index (h.id ∷ []) h.vulnerable)
-  pub told : (conf p : ℕ) → IfSome (told_in c conf p) (λ t. AreWitnessed c (length t.greens) t.summary.prim.index [] t.summary.vulnerable)
+  pub told : (conf p : ℕ) →
+      IfSome (told_in c conf p) (λ t. AreWitnessed c (length t.greens) t.summary.prim.index [] t.summary.vulnerable)
 
 -- ---- what is over
 
@@ -156,7 +168,8 @@ is_without a p index v = has a.set p && nat_le index a.from && not (is_record_of
 -- ... shows that it is over, where it isn't regular in its configuration any more; so does a summary from a later one, and a
 -- member to which an announcement didn't come
 pub record DeadEvidence (c : Chronicle) : Type 0 where
-  pub member : (conf p : ℕ) → is_regular_in c conf p ≡ false → IfSome (attempt_of c conf) (λ a. IfSome (core_of c p) (λ h.
+  pub member : (conf p : ℕ) → is_regular_in c conf p ≡ false →
+      IfSome (attempt_of c conf) (λ a. IfSome (core_of c p) (λ h.
       When (is_without a p h.prim.index h.vulnerable) (is_dead c a ≡ true)))
   pub told : (conf p later : ℕ) → conf < later → IfSome (attempt_of c conf) (λ a. IfSome (told_in c later p) (λ t.
       When (is_without a p t.summary.prim.index t.summary.vulnerable) (is_dead c a ≡ true)))
@@ -166,7 +179,8 @@ pub record DeadEvidence (c : Chronicle) : Type 0 where
 -- of two attempts from one index the one of the earlier configuration is over
 abbrev pub OneAttempt : Chronicle → Type 0
 OneAttempt c =
-    (conf later : ℕ) → conf < later → IfSome (attempt_of c conf) (λ a. IfSome (attempt_of c later) (λ b. a.from ≡ b.from → is_dead c a ≡ true))
+    (conf later : ℕ) → conf < later →
+    IfSome (attempt_of c conf) (λ a. IfSome (attempt_of c later) (λ b. a.from ≡ b.from → is_dead c a ≡ true))
 
 pub record AttemptFacts (c : Chronicle) : Type 0 where
   pub attempt_shape : AttemptShape c

@@ -104,7 +104,8 @@ module _ (p n : ℕ) where
     pub rising : Rising 0 w.made
     pub low : n ≤ index_in w.made p
     pub seats : (q : ℕ) → (q ≡ p → ⊥) → SeatShown (seat_of w q)
-    pub group : ((conf : ℕ) → Each (λ s. IsMessageShown s.message) (configuration w.group conf).ordered) × ((q : ℕ) → Each IsMessageShown (unordered_of w.group q))
+    pub group : ((conf : ℕ) → Each (λ s. IsMessageShown s.message) (configuration w.group conf).ordered)
+        × ((q : ℕ) → Each IsMessageShown (unordered_of w.group q))
     pub order : Each IsNameShown w.order
 
 -- an action that a replica left on its disk as it went down, and that wasn't shown as made, nobody else has
@@ -129,9 +130,12 @@ pub record HasGrown (a b : Attempt) : Type 0 where
 
 pub record ListsGrow (c d : Chronicle) : Type 0 where
   pub greens : (p : ℕ) → Front (greens_of c p) (greens_of d p)
-  pub index : (p : ℕ) → IfSome (core_of c p) (λ h. IsSomeWith (core_of d p) (λ k. (h.prim.index ≤ k.prim.index) × (created h ≤ created k)))
+  pub index : (p : ℕ) →
+      IfSome (core_of c p) (λ h. IsSomeWith (core_of d p) (λ k. (h.prim.index ≤ k.prim.index)
+      × (created h ≤ created k)))
   pub told : (conf p : ℕ) → IfSome (told_in c conf p) (λ t. told_in d conf p ≡ Some t)
-  pub heard : (conf : ℕ) → IsTrue (is_full (members_in c conf) (whole_talk c conf)) → (whole_talk d conf).heard ≡ (whole_talk c conf).heard
+  pub heard : (conf : ℕ) → IsTrue (is_full (members_in c conf) (whole_talk c conf)) →
+      (whole_talk d conf).heard ≡ (whole_talk c conf).heard
   pub attempts : (conf : ℕ) → IfSome (attempt_of c conf) (λ a. IsSomeWith (attempt_of d conf) (HasGrown a))
   pub levels : Front c.levels d.levels
   pub reached : (level : ℕ) → level ≤ top_of c → reached_at c level ≤ reached_at d level

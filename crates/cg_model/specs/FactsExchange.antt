@@ -48,7 +48,8 @@ pub record IsSummary (c : Chronicle) (t : Told) : Type 0 where
   pub left : t.summary.left ≡ (members_of c.start t.greens).left
   pub red_cut : (creator : ℕ) → index_in t.summary.green_cut creator ≤ index_in t.summary.red_cut creator
   pub yellow_next : IsTrue (run_on t.summary.green_cut t.summary.yellow.list)
-  pub yellow_known : IsTrue (list_all (λ id. nat_le id.index (index_in t.summary.red_cut id.creator)) t.summary.yellow.list)
+  pub yellow_known : IsTrue (list_all (λ id. nat_le id.index (index_in t.summary.red_cut id.creator))
+      t.summary.yellow.list)
 
 -- what it says of primary components: its index is a level whose installation it begins with, and all is of earlier
 -- configurations
@@ -82,7 +83,8 @@ pub record SummaryOfSender (c : Chronicle) : Type 0 where
   pub fits : (conf p : ℕ) → IfSome (told_in c conf p) (IsSummary c)
   pub levels : (conf p : ℕ) → IfSome (told_in c conf p) (KnowsLevels c)
   pub outdone : (conf p : ℕ) → IfSome (told_in c conf p) (λ t. IfSome (core_of c p) (IsOutdone c t))
-  pub inside : (conf p : ℕ) → IsTrue (is_in c conf p) → IfSome (told_in c conf p) (λ t. IfSome (replica_of c.world p) (KnowsAsMuch t))
+  pub inside : (conf p : ℕ) → IsTrue (is_in c conf p) →
+      IfSome (told_in c conf p) (λ t. IfSome (replica_of c.world p) (KnowsAsMuch t))
 
 -- the actions of one member among the greens of another have green lines that the first had reached
 abbrev pub AreReached : ℕ → ℕ → List Action → Type 0
@@ -92,7 +94,8 @@ AreReached p count (a ∷ greens) = When (a.id.creator == p) (a.green_line ≤ c
 -- and so has its join, where it is no server of the start
 pub record HasReached (start : List Weighted) (by of : Told) : Type 0 where
   pub lines : AreReached of.summary.id of.summary.green_count by.greens
-  pub joined : was_ever (starting start) of.summary.id ≡ false → join_from 0 by.greens of.summary.id ≤ of.summary.green_count
+  pub joined : was_ever (starting start) of.summary.id ≡ false →
+      join_from 0 by.greens of.summary.id ≤ of.summary.green_count
 
 abbrev pub SummaryLines : Chronicle → Type 0
 SummaryLines c = (conf p q : ℕ) → IfSome (told_in c conf p) (λ by. IfSome (told_in c conf q) (HasReached c.start by))
@@ -100,7 +103,8 @@ SummaryLines c = (conf p q : ℕ) → IfSome (told_in c conf p) (λ by. IfSome (
 -- who told something in a configuration in which nothing has a place yet, and in no later one, has the greens that it told
 abbrev pub TellersStill : Chronicle → Type 0
 TellersStill c =
-    (conf p : ℕ) (t : Told) → told_in c conf p ≡ Some t → ordered_in c conf ≡ [] → ((later : ℕ) → conf < later → told_in c later p ≡ None) →
+    (conf p : ℕ) (t : Told) → told_in c conf p ≡ Some t → ordered_in c conf ≡ [] →
+    ((later : ℕ) → conf < later → told_in c later p ≡ None) →
     greens_of c p ≡ t.greens
 
 -- ---- what is held in the midst of an exchange
@@ -131,15 +135,19 @@ red_index creator (Red id) = if id.creator == creator then id.index else 0
 red_index creator _ = 0
 
 abbrev pub red_behind : List Summary → ℕ → ℕ → ℕ
-red_behind heard accepted creator = greatest (map (λ s. red_index creator s.item) (take accepted (items_of_plan (plan_of heard))))
+red_behind heard accepted creator =
+    greatest (map (λ s. red_index creator s.item) (take accepted (items_of_plan (plan_of heard))))
 
 -- what a remaining member holds behind so many items: the greens are those of the most updated member as it came
-pub record IsGoingOn (heard : List Summary) (accepted : ℕ) (best mine : Told) (h : Held) (all : List Action) : Type 0 where
+pub record IsGoingOn (heard : List Summary) (accepted : ℕ) (best mine : Told) (h : Held)
+    (all : List Action) : Type 0 where
   pub holds : HoldsStill mine h
   pub greens : all ≡ take (greens_behind heard accepted best.summary mine.summary) best.greens
   pub red : (creator : ℕ) → index_in h.queue.red_cut creator
-      ≡ max (index_in mine.summary.red_cut creator) (max (index_in h.queue.green_cut creator) (red_behind heard accepted creator))
-  pub yellow : h.queue.yellow ≡ filter (λ id. nat_lt (index_in h.queue.green_cut id.creator) id.index) mine.summary.yellow.list
+      ≡ max (index_in mine.summary.red_cut creator)
+      (max (index_in h.queue.green_cut creator) (red_behind heard accepted creator))
+  pub yellow : h.queue.yellow ≡ filter (λ id. nat_lt (index_in h.queue.green_cut id.creator) id.index)
+      mine.summary.yellow.list
 
 -- what it has taken over where the plan has come to its end without a quorum
 pub record HasTakenOver (heard : List Summary) (best mine : Told) (h : Held) (all : List Action) : Type 0 where
@@ -156,15 +164,18 @@ abbrev pub IsInExchange : Chronicle → ℕ → Told → Held → List Action �
 IsInExchange c conf t h greens (ExchangeStates at set heard) = IsUnmoved t h greens
 IsInExchange c conf t h greens Left = IsUnmoved t h greens
 IsInExchange c conf t h greens (ExchangeActions at heard accepted) =
-    Either (has (gone heard) h.id) (IsUnmoved t h greens) (IsSomeWith (best_told c conf heard) (λ best. IsGoingOn heard accepted best t h greens))
+    Either (has (gone heard) h.id) (IsUnmoved t h greens)
+    (IsSomeWith (best_told c conf heard) (λ best. IsGoingOn heard accepted best t h greens))
 IsInExchange c conf t h greens (NonPrim regular) =
-    (let heard = (handed_talk c conf h.id).heard in IsSomeWith (best_told c conf heard) (λ best. HasTakenOver heard best t h greens))
+    (let heard = (handed_talk c conf h.id).heard in
+    IsSomeWith (best_told c conf heard) (λ best. HasTakenOver heard best t h greens))
 IsInExchange c conf t h greens _ = Unit {0}
 
 abbrev pub ExchangeProgress : Chronicle → Type 0
 ExchangeProgress c =
     (conf p : ℕ) → IsTrue (is_regular_in c conf p) →
-    IfSome (replica_of c.world p) (λ r. IsSomeWith (told_in c conf p) (λ t. IsInExchange c conf t r.held (greens_of c p) r.state))
+    IfSome (replica_of c.world p) (λ r. IsSomeWith (told_in c conf p) (λ t. IsInExchange c conf t
+    r.held (greens_of c p) r.state))
 
 pub record ExchangeFacts (c : Chronicle) : Type 0 where
   pub summary_of_sender : SummaryOfSender c

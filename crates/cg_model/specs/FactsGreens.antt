@@ -20,7 +20,8 @@ BeginsWith c = OfCores c (λ h greens. Front (installation (attempt_at c h.prim.
 
 -- a regular member of a primary component has green what was installed and what it was handed there
 abbrev pub IsHandedGreen : Chronicle → ℕ → Attempt → State → Type 0
-IsHandedGreen c p a RegPrim = greens_of c p ≡ installation a ++ acts_in (take (delivered_to c.world.group p) (ordered_in c a.conf))
+IsHandedGreen c p a RegPrim = greens_of c p ≡ installation a
+    ++ acts_in (take (delivered_to c.world.group p) (ordered_in c a.conf))
 IsHandedGreen c p a _ = Unit {0}
 
 -- a member of a primary component is one of the attempt that opened the level of its index
@@ -37,11 +38,13 @@ abbrev pub InstalledCount : Chronicle → Type 0
 InstalledCount c =
     (conf p : ℕ) → IfSome (attempt_of c conf) (λ a. When (has_installed a p)
     ((length (installation a) ≤ count_in c a p)
-    × (count_in c a p ≤ length (installation a) + length (acts_in (take (received_by_all c conf) (ordered_in c conf))))))
+    × (count_in c a p ≤ length (installation a)
+    + length (acts_in (take (received_by_all c conf) (ordered_in c conf))))))
 
 -- what can become green at a level is the front of what the next one installs
 abbrev pub Spine : Chronicle → Type 0
-Spine c = (level : ℕ) → level < top_of c → Front (reach_at c level) (installation (attempt_at c (suc level))) × (is_frozen c level ≡ true)
+Spine c = (level : ℕ) → level < top_of c → Front (reach_at c level) (installation (attempt_at c (suc level)))
+    × (is_frozen c level ≡ true)
 
 -- all greens are a front of the newest level's line, and no more than some member of it really has
 abbrev pub OneOrder : Chronicle → Type 0
@@ -64,10 +67,14 @@ TransCoverage c = (p : ℕ) → IfSome (replica_of c.world p) (λ r. CoversAsYel
 
 -- evidence covers the newest level: of a replica, of a summary, and of an attempt from that level
 pub record Coverage (c : Chronicle) : Type 0 where
-  pub cores : OfCores c (λ h greens. When (is_evidence c h.id h.prim.index h.yellow_valid h.vulnerable) (Covers c (names_with greens h.yellow_valid h.queue.yellow)))
+  pub cores : OfCores
+      c (λ h greens. When (is_evidence c h.id h.prim.index h.yellow_valid h.vulnerable) (Covers
+      c (names_with greens h.yellow_valid h.queue.yellow)))
   pub told : (conf p : ℕ) → IfSome (told_in c conf p) (λ t. (let s = t.summary in
-      When (is_evidence c p s.prim.index s.yellow.valid s.vulnerable) (Covers c (names_with t.greens s.yellow.valid s.yellow.list))))
-  pub attempts : (conf : ℕ) → IfSome (attempt_of c conf) (λ a. a.from ≡ top_of c → Covers c (names_of (a.greens ++ a.yellow)))
+      When (is_evidence c p s.prim.index s.yellow.valid s.vulnerable) (Covers
+      c (names_with t.greens s.yellow.valid s.yellow.list))))
+  pub attempts : (conf : ℕ) → IfSome (attempt_of c conf) (λ a. a.from ≡ top_of c →
+      Covers c (names_of (a.greens ++ a.yellow)))
 
 pub record GreenFacts (c : Chronicle) : Type 0 where
   pub begins_with : BeginsWith c

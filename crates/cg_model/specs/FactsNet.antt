@@ -29,12 +29,14 @@ pub record ReceiptsInside (c : Chronicle) : Type 0 where
 -- who has received a place has received the earlier ones of its sender
 abbrev pub SenderClosed : Chronicle → Type 0
 SenderClosed c =
-    (conf p earlier place : ℕ) → 0 < earlier → earlier < place → sender_at (conf_of c conf) earlier ≡ sender_at (conf_of c conf) place →
+    (conf p earlier place : ℕ) → 0 < earlier → earlier < place →
+    sender_at (conf_of c conf) earlier ≡ sender_at (conf_of c conf) place →
     IsTrue (has_received (conf_of c conf) p place) → IsTrue (has_received (conf_of c conf) p earlier)
 
 -- what was handed to a replica in its regular phase every member has received
 abbrev pub HandedReceived : Chronicle → Type 0
-HandedReceived c = (conf p : ℕ) → IsTrue (is_regular_in c conf p) → delivered_to c.world.group p ≤ received_by_all c conf
+HandedReceived c = (conf p : ℕ) → IsTrue (is_regular_in c conf p) →
+    delivered_to c.world.group p ≤ received_by_all c conf
 
 -- only who is regular has messages without a place
 abbrev pub UnorderedRegular : Chronicle → Type 0
@@ -57,7 +59,8 @@ pub record PastLeft (c : Chronicle) : Type 0 where
 pub record Seated (c : Chronicle) : Type 0 where
   pub past : (p : ℕ) → is_some (past_of c p) ≡ has_begun c.world p
   pub disk : (p : ℕ) → IfSome (disk_held c.world p) (λ h. h.id ≡ p)
-  pub copied : (joiner : ℕ) → map (λ x. x.giver) (copies_for c joiner) ≡ map (λ s. s.giver) (snapshots_for c.world joiner)
+  pub copied : (joiner : ℕ) → map (λ x. x.giver) (copies_for c joiner) ≡
+      map (λ s. s.giver) (snapshots_for c.world joiner)
   pub once : (joiner : ℕ) → length (snapshots_for c.world joiner) ≤ 1
   pub before : c.world.seats ≡ [] → c ≡ no_chronicle
 
@@ -76,4 +79,5 @@ pub record NetFacts (c : Chronicle) : Type 0 where
 pub record ReceiptsFixed (c d : Chronicle) : Type 0 where
   pub receipts : (conf p place : ℕ) → 0 < length (ordered_in c conf) → is_regular_in c conf p ≡ false →
       has_received (conf_of d conf) p place ≡ has_received (conf_of c conf) p place
-  pub stays_out : (conf p : ℕ) → 0 < length (ordered_in c conf) → is_regular_in c conf p ≡ false → is_regular_in d conf p ≡ false
+  pub stays_out : (conf p : ℕ) → 0 < length (ordered_in c conf) → is_regular_in c conf p ≡ false →
+      is_regular_in d conf p ≡ false

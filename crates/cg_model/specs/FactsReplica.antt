@@ -70,7 +70,8 @@ IsInAttempt h (Some a) = (h.vulnerable ≡ Some (own_record a h.id)) × (h.prim.
 
 abbrev pub HasModeData : Chronicle → Held → Phase → State → Type 0
 HasModeData c h phase RegPrim = IsInPrimary c h (conf_at phase) × (h.queue.reds ≡ []) × (h.queue.yellow ≡ [])
-HasModeData c h phase TransPrim = IsInPrimary c h (conf_at phase) × (cut_behind h.queue.green_cut h.queue.yellow ≡ h.queue.red_cut)
+HasModeData c h phase TransPrim = IsInPrimary c h (conf_at phase)
+    × (cut_behind h.queue.green_cut h.queue.yellow ≡ h.queue.red_cut)
 HasModeData c h phase (Construct conf heard) = IsInAttempt h (attempt_of c (conf_at phase))
 HasModeData c h phase (No conf heard) = IsInAttempt h (attempt_of c (conf_at phase))
 HasModeData c h phase Un = IsInAttempt h (attempt_of c (conf_at phase))
@@ -137,7 +138,9 @@ IsAsOnDisk now disk _ = Unit {0}
 
 -- At the end of a step: what stands on the disk of a replica that is up is what it holds, but for reds.
 pub record DiskAgrees (c : Chronicle) : Type 0 where
-  pub up : (p : ℕ) → IfSome (replica_of c.world p) (λ r. IfSome (disk_held c.world p) (λ disk. GoesOn r.held disk × IsAsOnDisk r.held disk r.state))
+  pub up : (p : ℕ) →
+      IfSome (replica_of c.world p) (λ r. IfSome (disk_held c.world p) (λ disk. GoesOn r.held disk
+      × IsAsOnDisk r.held disk r.state))
   pub greens : (p : ℕ) → greens_of c p ≡ stood_of c p
 
 -- Always: a disk has no greens that its replica hasn't, and of a replica that is down the disk is all that there is.
@@ -202,7 +205,8 @@ join_from place (a ∷ greens) p = if joins p a.kind then suc place else join_fr
 -- is below the white count
 pub record IsLined (c : Chronicle) (h : Held) (greens : List Action) : Type 0 where
   pub begun : (q : ℕ) → IsTrue (has_begun c.world q) → line_of h.members.servers q ≤ length (greens_of c q)
-  pub others : (q : ℕ) → has_begun c.world q ≡ false → IsTrue (is_server h.members q) → line_of h.members.servers q ≡ join_from 0 greens q
+  pub others : (q : ℕ) → has_begun c.world q ≡ false → IsTrue (is_server h.members q) →
+      line_of h.members.servers q ≡ join_from 0 greens q
   pub white : (q : ℕ) → IsTrue (is_server h.members q) → h.queue.white ≤ line_of h.members.servers q
 
 pub record LinesBelow (c : Chronicle) : Type 0 where

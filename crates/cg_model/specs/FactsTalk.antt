@@ -35,7 +35,8 @@ handed_talk c conf p = talk_of (handed_of c conf p)
 -- every message with a place may stand there, and those of a member that wait for one may follow
 pub record TalkLegal (c : Chronicle) : Type 0 where
   pub ordered : (conf : ℕ) → IsTrue (is_legal (members_in c conf) conf no_talk (ordered_in c conf))
-  pub waiting : (conf p : ℕ) → IsTrue (is_legal (members_in c conf) conf (whole_talk c conf) (map (sent_by p) (waiting_in c conf p)))
+  pub waiting : (conf p : ℕ) →
+      IsTrue (is_legal (members_in c conf) conf (whole_talk c conf) (map (sent_by p) (waiting_in c conf p)))
 
 -- the summary of what was told
 abbrev pub summaries_of : Option Told → List Summary
@@ -118,11 +119,13 @@ AreOnTheWay c conf p h =
 -- an attempt knows all that it is to make green
 abbrev pub AreNumbered : Chronicle → ℕ → ℕ → Held → State → Type 0
 AreNumbered c conf p h (NonPrim true) =
-    ((creator : ℕ) → index_in h.queue.red_cut creator ≡ count_behind (handed_talk c conf p) creator) × AreOnTheWay c conf p h
+    ((creator : ℕ) → index_in h.queue.red_cut creator ≡ count_behind (handed_talk c conf p) creator)
+    × AreOnTheWay c conf p h
 AreNumbered c conf p h RegPrim =
     ((creator : ℕ) → index_in h.queue.green_cut creator ≡ count_behind (handed_talk c conf p) creator)
     × (h.queue.reds ≡ []) × AreOnTheWay c conf p h
-AreNumbered c conf p h (Construct at heard) = (creator : ℕ) → index_in h.queue.red_cut creator ≡ count_behind (handed_talk c conf p) creator
+AreNumbered c conf p h (Construct at heard) = (creator : ℕ) →
+    index_in h.queue.red_cut creator ≡ count_behind (handed_talk c conf p) creator
 AreNumbered c conf p h _ = Unit {0}
 
 abbrev pub AreNumberedAt : Chronicle → ℕ → Phase → Replica → Type 0
@@ -131,7 +134,8 @@ AreNumberedAt c p _ r = Unit {0}
 
 -- the actions of a member go on where what some member knew as it came ends
 pub record ActsNumbered (c : Chronicle) : Type 0 where
-  pub said : (conf p : ℕ) → IsTrue (is_ended (members_in c conf) (whole_talk c conf)) → IsTrue (has (remaining (whole_talk c conf).heard) p) →
+  pub said : (conf p : ℕ) → IsTrue (is_ended (members_in c conf) (whole_talk c conf)) →
+      IsTrue (has (remaining (whole_talk c conf).heard) p) →
       (let acts = filter_map act_in (said_in c conf p) in
       map (λ a. a.id.index) acts ≡ count_up (suc (known_up_to (whole_talk c conf).heard p)) (length acts))
   pub handed : (p : ℕ) → IfSome (replica_of c.world p) (AreNumberedAt c p (phase_of c.world.group p))

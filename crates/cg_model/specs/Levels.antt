@@ -22,7 +22,8 @@ abbrev pub prim_of : Chronicle → ℕ → Attempt → Primary
 prim_of c level a = record { index = level; conf = a.conf; set = weighted (members_of c.start a.greens) a.set }
 
 abbrev pub prim_at : Chronicle → ℕ → Primary
-prim_at c level = if level == 0 then record { index = 0; conf = 0; set = c.start } else prim_of c level (attempt_at c level)
+prim_at c level = if level == 0 then record { index = 0; conf = 0; set = c.start }
+    else prim_of c level (attempt_at c level)
 
 -- what the members of a level mark green there one after another: the installation, and then the configuration's actions
 abbrev pub line_at : Chronicle → ℕ → List Action
@@ -46,7 +47,8 @@ is_live c a = list_any (is_regular_in c a.conf) a.set
 -- how far a member can still mark green in the level's configuration, one that installs it late included
 abbrev pub bound_in : Chronicle → Attempt → ℕ
 bound_in c a =
-    if is_live c a then length (installation a) + length (acts_in (take (received_outside c a.conf) (ordered_in c a.conf)))
+    if is_live c a then length (installation a)
+    + length (acts_in (take (received_outside c a.conf) (ordered_in c a.conf)))
     else reached_in c a
 
 abbrev pub bound_at : Chronicle → ℕ → ℕ
@@ -68,14 +70,16 @@ is_frozen c level = (level == 0) || is_frozen_in c (attempt_at c level).conf
 -- the place of a member's announcement, 0 where it has none
 abbrev pub announced_from : ℕ → List (Sent Msg) → ℕ → ℕ
 announced_from place [] p = 0
-announced_from place (s ∷ ordered) p = if (s.from == p) && is_some (announcer_in s.message) then suc place else announced_from (suc place) ordered p
+announced_from place (s ∷ ordered) p = if (s.from == p) && is_some (announcer_in s.message) then suc place
+    else announced_from (suc place) ordered p
 
 abbrev pub announced_at : Chronicle → ℕ → ℕ → ℕ
 announced_at c conf p = announced_from 0 (ordered_in c conf) p
 
 -- the member has received no announcement of that one
 abbrev pub lacks_announcement : Chronicle → ℕ → ℕ → ℕ → Bool
-lacks_announcement c conf p q = let place = announced_at c conf q in (place == 0) || not (has_received (conf_of c conf) p place)
+lacks_announcement c conf p q = let place = announced_at c conf q in
+    (place == 0) || not (has_received (conf_of c conf) p place)
 
 -- the member isn't regular there, and lacks an announcement
 abbrev pub is_out_lacking : Chronicle → Attempt → ℕ → Bool

@@ -88,7 +88,8 @@ abbrev pub received_by_all : Chronicle → ℕ → ℕ
 received_by_all c conf = prefix_len (all_received (conf_of c conf)) (above_up_to 0 (length (ordered_in c conf)))
 
 abbrev pub is_received_outside : Chronicle → ℕ → ℕ → Bool
-is_received_outside c conf place = list_all (λ p. is_regular_in c conf p || has_received (conf_of c conf) p place) (members_in c conf)
+is_received_outside c conf place =
+    list_all (λ p. is_regular_in c conf p || has_received (conf_of c conf) p place) (members_in c conf)
 
 abbrev pub received_outside : Chronicle → ℕ → ℕ
 received_outside c conf = prefix_len (is_received_outside c conf) (above_up_to 0 (length (ordered_in c conf)))
@@ -100,14 +101,25 @@ attempt_of c conf = find (λ a. a.conf == conf) c.attempts
 
 -- of nobody's attempt the start is what comes of it
 abbrev pub no_attempt : List Weighted → Attempt
-no_attempt start = record { conf = 0; from = 0; set = ids start; greens = []; yellow = []; reds = []; entered = []; installed = []; left = [] }
+no_attempt start = record {
+  conf = 0;
+  from = 0;
+  set = ids start;
+  greens = [];
+  yellow = [];
+  reds = [];
+  entered = [];
+  installed = [];
+  left = [];
+}
 
 -- the newest level, and the attempt that opened a level. Level 0 is the start
 abbrev pub top_of : Chronicle → ℕ
 top_of c = length c.levels
 
 abbrev pub attempt_at : Chronicle → ℕ → Attempt
-attempt_at c level = option_map_or (λ a. a) (option_and_then (attempt_of c) (at_place c.levels level)) (no_attempt c.start)
+attempt_at c level =
+    option_map_or (λ a. a) (option_and_then (attempt_of c) (at_place c.levels level)) (no_attempt c.start)
 
 -- all that an installation makes green, in order
 abbrev pub installation : Attempt → List Action
@@ -152,4 +164,5 @@ copied_for c joiner = option_map_or (λ x. x.greens) (copy_of c joiner) []
 pub record OfCores (c : Chronicle) (P : Held → List Action → Type 0) : Type 0 where
   pub memory : (p : ℕ) → IfSome (replica_of c.world p) (λ r. P r.held (greens_of c p))
   pub disk : (p : ℕ) → IfSome (disk_held c.world p) (λ h. P h (stood_of c p))
-  pub snapshot : (joiner : ℕ) → IfSome (snapshot_of c.world joiner) (λ s. P (joined joiner s.content).held (copied_for c joiner))
+  pub snapshot : (joiner : ℕ) →
+      IfSome (snapshot_of c.world joiner) (λ s. P (joined joiner s.content).held (copied_for c joiner))

@@ -21,7 +21,8 @@ pub record Given : Type 0 where
   pub content : Held
 
 abbrev pub given_for : World → ℕ → List Given
-given_for w joiner = map (λ s. record { joiner = s.joiner; giver = s.giver; content = s.content }) (snapshots_for w joiner)
+given_for w joiner =
+    map (λ s. record { joiner = s.joiner; giver = s.giver; content = s.content }) (snapshots_for w joiner)
 
 -- two worlds are one for the facts, but for what was printed, what a disk has beside its content, and the order of the snapshots
 pub record IsSame (w v : World) : Type 0 where
@@ -33,7 +34,8 @@ pub record IsSame (w v : World) : Type 0 where
 
 -- what stands on the disk of a replica that is up is what it holds, but for reds
 pub record IsWritten (c : Chronicle) (p : ℕ) : Type 0 where
-  pub up : IfSome (replica_of c.world p) (λ r. IfSome (disk_held c.world p) (λ disk. GoesOn r.held disk × IsAsOnDisk r.held disk r.state))
+  pub up : IfSome (replica_of c.world p) (λ r. IfSome (disk_held c.world p) (λ disk. GoesOn r.held disk
+      × IsAsOnDisk r.held disk r.state))
   pub greens : greens_of c p ≡ stood_of c p
 
 -- a replica crashes between its events, or behind a commit
@@ -48,7 +50,8 @@ MayBeMade c (s ∷ smalls) = (may_make c s ≡ true) × AtRest c s × MayBeMade 
 
 -- a small step keeps the facts
 abbrev pub KeptBySmalls : Type 0
-KeptBySmalls = (c : Chronicle) (s : Small) → Invariant c → may_make c s ≡ true → AtRest c s → Invariant (small_step c s) × Moves c (small_step c s)
+KeptBySmalls = (c : Chronicle) (s : Small) → Invariant c → may_make c s ≡ true → AtRest c s →
+    Invariant (small_step c s) × Moves c (small_step c s)
 
 -- a chronicle that has this world in place of its own
 abbrev pub with_world : Chronicle → World → Chronicle

@@ -22,7 +22,8 @@ use Rattle.cg_model.specs.World.{World, replica_of, is_left}
 -- a member is regular in the configuration, has nothing to be ordered, and was handed every place
 abbrev pub is_quiet_at : GroupState Msg → ℕ → ℕ → Bool
 is_quiet_at g conf p =
-    (regular_in (phase_of g p) == conf) && (length (unordered_of g p) == 0) && (delivered_to g p == length (configuration g conf).ordered)
+    (regular_in (phase_of g p) == conf) && (length (unordered_of g p) == 0)
+    && (delivered_to g p == length (configuration g conf).ordered)
 
 -- so are all members, and each has received every place
 abbrev pub is_quiet : World → ℕ → Bool
@@ -51,7 +52,8 @@ summaries_in w conf = filter_map summary_in (messages_of w conf)
 -- the action was known to a member as it entered, or was delivered in the configuration since
 abbrev pub is_known_in : World → ℕ → ActionId → Bool
 is_known_in w conf id =
-    nat_le id.index (greatest (map (λ s. index_in s.red_cut id.creator) (summaries_in w conf))) || names (names_of (filter_map action_in (messages_of w conf))) id
+    nat_le id.index (greatest (map (λ s. index_in s.red_cut id.creator) (summaries_in w conf)))
+    || names (names_of (filter_map action_in (messages_of w conf))) id
 
 -- the replica knows the action
 abbrev pub knows : Replica → ActionId → Bool
@@ -72,6 +74,10 @@ Remains w conf p r = IsTrue (has (remaining (summaries_in w conf)) p) × (replic
 -- where the summaries decide, and else all outside; they have as many greens, and know the same actions
 pub record IsSettled (w : World) (conf : ℕ) : Type 0 where
   pub left : IsTrue (list_all (is_left w) (gone (summaries_in w conf)))
-  pub states : IsTrue (list_all (λ p. option_map_or (λ r. is_settled (decides (summaries_in w conf)) r.state r.held) (replica_of w p) false) (remaining (summaries_in w conf)))
-  pub greens : (p q : ℕ) (r s : Replica) → Remains w conf p r → Remains w conf q s → green_count r.held.queue ≡ green_count s.held.queue
-  pub actions : (p : ℕ) (r : Replica) (id : ActionId) → Remains w conf p r → 1 ≤ id.index → knows r id ≡ is_known_in w conf id
+  pub states : IsTrue
+      (list_all (λ p. option_map_or (λ r. is_settled (decides (summaries_in w conf)) r.state r.held) (replica_of w p)
+      false) (remaining (summaries_in w conf)))
+  pub greens : (p q : ℕ) (r s : Replica) → Remains w conf p r → Remains w conf q s →
+      green_count r.held.queue ≡ green_count s.held.queue
+  pub actions : (p : ℕ) (r : Replica) (id : ActionId) → Remains w conf p r → 1 ≤ id.index →
+      knows r id ≡ is_known_in w conf id

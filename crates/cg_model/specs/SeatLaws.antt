@@ -32,12 +32,16 @@ use Rattle.cg_group.specs.LookupLaws.{at-cond}
 abbrev pub seat_in : List Seat → ℕ → Option Seat
 seat_in seats q = find (λ s. s.id == q) seats
 
-pub found-seat : (seats : List Seat) (new : Seat) (q : ℕ) → seat_in (with_seat seats new) q ≡ (if new.id == q then Some new else seat_in seats q)
+pub found-seat : (seats : List Seat) (new : Seat) (q : ℕ) →
+    seat_in (with_seat seats new) q ≡ (if new.id == q then Some new else seat_in seats q)
 found-seat [] new q = refl
 found-seat (s ∷ seats) new q =
-    at-cond (λ z. seat_in z q) (s.id == new.id) (new ∷ seats) (if nat_lt new.id s.id then new ∷ s ∷ seats else s ∷ with_seat seats new)
-    ∙ ap (cond (s.id == new.id) (seat_in (new ∷ seats) q)) (at-cond (λ z. seat_in z q) (nat_lt new.id s.id) (new ∷ s ∷ seats) (s ∷ with_seat seats new))
-    ∙ chosen (s.id == new.id) (nat_lt new.id s.id) (s.id == q) (new.id == q) (Some new) (Some s) (seat_in seats q) (seat_in (with_seat seats new) q)
+    at-cond (λ z. seat_in z q) (s.id == new.id) (new ∷ seats) (if nat_lt new.id s.id then new ∷ s ∷ seats
+    else s ∷ with_seat seats new)
+    ∙ ap (cond (s.id == new.id) (seat_in (new ∷ seats) q))
+    (at-cond (λ z. seat_in z q) (nat_lt new.id s.id) (new ∷ s ∷ seats) (s ∷ with_seat seats new))
+    ∙ chosen (s.id == new.id) (nat_lt new.id s.id) (s.id == q) (new.id
+    == q) (Some new) (Some s) (seat_in seats q) (seat_in (with_seat seats new) q)
     (λ same. ap (λ z. z == q) (eqb-true s.id new.id same))
     (λ other here. ne_eqb new.id q (λ e. eqb-false s.id new.id other (eqb-true s.id q here ∙ sym e)))
     (found-seat seats new q)
@@ -68,7 +72,8 @@ module _ (P : List Seat → Type 0) (kept : (seats : List Seat) (new : Seat) →
   begun_keep set [] w is = is
   begun_keep set (p ∷ list) w is = begun_keep set list (begin_replica set w p) (kept w.seats _ is)
 
-  by_life : (w : World) (change : Life → World) → ((l : Life) → P (change l).seats) → P w.seats → (o : Option Seat) → P (option_map_or (λ s. change s.life) o w).seats
+  by_life : (w : World) (change : Life → World) → ((l : Life) → P (change l).seats) → P w.seats → (o : Option Seat) →
+      P (option_map_or (λ s. change s.life) o w).seats
   by_life w change each is None = is
   by_life w change each is (Some s) = each s.life
 
@@ -98,27 +103,34 @@ module _ (P : List Seat → Type 0) (kept : (seats : List Seat) (new : Seat) →
   pieces_keep w s taken is =
       let others = without_snapshot w s.joiner in
       let r = joined s.joiner s.content in
-      cond_both (taken == piece_count s.content) (bring_up others r (new_disk r.held)) (record others { snapshots = others.snapshots ++ record s { taken = taken } ∷ [] }) (λ w. P w.seats)
+      cond_both (taken == piece_count s.content) (bring_up others r (new_disk r.held))
+      (record others { snapshots = others.snapshots ++ record s { taken = taken } ∷ [] }) (λ w. P w.seats)
       (λ y. kept w.seats _ is) (λ n. is)
 
   transferred_keeps : (w : World) (p joiner pieces : ℕ) → P w.seats → P (transfer w p joiner pieces).world.seats
   transferred_keeps w p joiner pieces is = at (replica_of w p) where
-    at : (o : Option Replica) → P (option_map_or (λ r. take_pieces w (snapshot_for w p joiner r) pieces) o (quietly w)).world.seats
+    at : (o : Option Replica) →
+        P (option_map_or (λ r. take_pieces w (snapshot_for w p joiner r) pieces) o (quietly w)).world.seats
     at None = is
-    at (Some r) = (let s = snapshot_for w p joiner r in pieces_keep w s (min (piece_count s.content) (s.taken + pieces)) is)
+    at (Some r) = (let s = snapshot_for w p joiner r in
+        pieces_keep w s (min (piece_count s.content) (s.taken + pieces)) is)
 
   step_keeps : (w : World) (e : Event) → P w.seats → P (world_step w e).world.seats
   unfolding world_step happens ended
   step_keeps w (Start set) is = begun_keep set (ids set) w is
-  step_keeps w (Split set) is = all_keep (quietly (record w { group = (split w.group set).group })) (split w.group set).handed is
-  step_keeps w (Merge set) is = all_keep (quietly (record w { group = (merge w.group set).group })) (merge w.group set).handed is
+  step_keeps w (Split set) is =
+      all_keep (quietly (record w { group = (split w.group set).group })) (split w.group set).handed is
+  step_keeps w (Merge set) is =
+      all_keep (quietly (record w { group = (merge w.group set).group })) (merge w.group set).handed is
   step_keeps w (Request p cmds query) is = hand_keeps (quietly w) p (AsksOf (Update cmds query)) is
   step_keeps w (Recover p) is = recovered_keeps w p is
-  step_keeps w (Deliver p count) is = all_keep (quietly (record w { group = (deliver w.group p count).group })) (deliver w.group p count).handed is
+  step_keeps w (Deliver p count) is =
+      all_keep (quietly (record w { group = (deliver w.group p count).group })) (deliver w.group p count).handed is
   step_keeps w (Stop p zero fill) is = stopped_keeps w p is
   step_keeps w (Stop p (suc call) fill) is = armed_keeps w p (record { call = suc call; fault = StopWith fill }) is
   step_keeps w (Fail p call) is = armed_keeps w p (record { call = call; fault = FailOnce }) is
-  step_keeps w (Join p joiner weight) is = hand_keeps (quietly (name_also w joiner)) p (AsksOf (JoinKind joiner weight)) is
+  step_keeps w (Join p joiner weight) is =
+      hand_keeps (quietly (name_also w joiner)) p (AsksOf (JoinKind joiner weight)) is
   step_keeps w (Leave p server) is = hand_keeps (quietly w) p (AsksOf (LeaveKind server)) is
   step_keeps w (Transfer p joiner pieces) is = transferred_keeps w p joiner pieces is
   step_keeps w (Weak p query) is = is
@@ -139,17 +151,21 @@ IsSeated w = 0 < length w.seats
 with_seated : (seats : List Seat) (new : Seat) → 0 < length (with_seat seats new)
 with_seated [] new = omega arith
 with_seated (s ∷ seats) new =
-    cond_both (s.id == new.id) (new ∷ seats) (if nat_lt new.id s.id then new ∷ s ∷ seats else s ∷ with_seat seats new) (λ list. 0 < length list)
+    cond_both (s.id == new.id) (new ∷ seats) (if nat_lt new.id s.id then new ∷ s ∷ seats
+    else s ∷ with_seat seats new) (λ list. 0 < length list)
     (λ y. omega arith)
-    (λ n. cond_both (nat_lt new.id s.id) (new ∷ s ∷ seats) (s ∷ with_seat seats new) (λ list. 0 < length list) (λ y. omega arith) (λ n. omega arith))
+    (λ n. cond_both (nat_lt new.id s.id) (new ∷ s ∷ seats) (s
+    ∷ with_seat seats new) (λ list. 0 < length list) (λ y. omega arith) (λ n. omega arith))
 
 -- an admitted start begins a replica
-pub start_seats : (w : World) (set : List Weighted) → first_refusal w (Start set) ≡ None → IsSeated (world_step w (Start set)).world
+pub start_seats : (w : World) (set : List Weighted) → first_refusal w (Start set) ≡ None →
+    IsSeated (world_step w (Start set)).world
 unfolding world_step happens ended first_refusal
 start_seats w set admitted = begins (ids set) admitted where
   begins : (list : List ℕ) → empty_set list ≡ None → IsSeated (fold (begin_replica set) w list)
   begins [] e = absurd (let clash : Some EmptySet ≡ None = e in cc)
-  begins (p ∷ list) e = begun_keep (λ seats. 0 < length seats) (λ seats new is. with_seated seats new) set list (begin_replica set w p) (with_seated w.seats _)
+  begins (p ∷ list) e = begun_keep (λ seats. 0 < length seats) (λ seats new is. with_seated seats new) set
+      list (begin_replica set w p) (with_seated w.seats _)
 
 -- no event takes the last seat away
 pub seats_stay : (w : World) (e : Event) → IsSeated w → IsSeated (world_step w e).world
@@ -184,21 +200,28 @@ abbrev is_there : ℕ → List Seat → Bool
 is_there q seats = is_some (find (λ s. s.id == q) seats)
 
 there_behind : (q : ℕ) (s : Seat) (seats : List Seat) → is_there q seats ≡ true → is_there q (s ∷ seats) ≡ true
-there_behind q s seats is = cond_both (s.id == q) (Some s) (find (λ s. s.id == q) seats) (λ (o : Option Seat). is_some o ≡ true) (λ y. refl) (λ n. is)
+there_behind q s seats is =
+    cond_both (s.id == q) (Some s) (find (λ s. s.id == q) seats) (λ (o : Option Seat). is_some o ≡
+    true) (λ y. refl) (λ n. is)
 
-there_kept : (q : ℕ) (seats : List Seat) (new : Seat) → is_there q seats ≡ true → is_there q (with_seat seats new) ≡ true
+there_kept : (q : ℕ) (seats : List Seat) (new : Seat) → is_there q seats ≡ true →
+    is_there q (with_seat seats new) ≡ true
 there_kept q [] new is = absurd (let clash : false ≡ true = is in cc)
 there_kept q (s ∷ seats) new is =
-    cond_both (s.id == new.id) (new ∷ seats) (if nat_lt new.id s.id then new ∷ s ∷ seats else s ∷ with_seat seats new) (λ list. is_there q list ≡ true)
-    (λ y. subst (λ n. is_some (cond (n == q) (Some new) (find (λ s. s.id == q) seats)) ≡ true) (eqb-true s.id new.id y) (changed (s.id == q) is))
+    cond_both (s.id == new.id) (new ∷ seats) (if nat_lt new.id s.id then new ∷ s ∷ seats
+    else s ∷ with_seat seats new) (λ list. is_there q list ≡ true)
+    (λ y. subst (λ n. is_some (cond (n == q) (Some new) (find (λ s. s.id == q) seats)) ≡
+    true) (eqb-true s.id new.id y) (changed (s.id == q) is))
     (λ n. cond_both (nat_lt new.id s.id) (new ∷ s ∷ seats) (s ∷ with_seat seats new) (λ list. is_there q list ≡ true)
     (λ y. there_behind q new (s ∷ seats) is) (λ n. later (s.id == q) is (there_kept q seats new)))
   where
-    changed : (b : Bool) → is_some (cond b (Some s) (find (λ s. s.id == q) seats)) ≡ true → is_some (cond b (Some new) (find (λ s. s.id == q) seats)) ≡ true
+    changed : (b : Bool) → is_some (cond b (Some s) (find (λ s. s.id == q) seats)) ≡ true →
+        is_some (cond b (Some new) (find (λ s. s.id == q) seats)) ≡ true
     changed true is = refl
     changed false is = is
 
-    later : (b : Bool) → is_some (cond b (Some s) (find (λ s. s.id == q) seats)) ≡ true → (is_there q seats ≡ true → is_there q (with_seat seats new) ≡ true)
+    later : (b : Bool) → is_some (cond b (Some s) (find (λ s. s.id == q) seats)) ≡ true →
+        (is_there q seats ≡ true → is_there q (with_seat seats new) ≡ true)
         → is_some (cond b (Some s) (find (λ s. s.id == q) (with_seat seats new))) ≡ true
     later true is on = refl
     later false is on = on is
@@ -207,12 +230,15 @@ there_kept q (s ∷ seats) new is =
 pub begun_stay : (w : World) (e : Event) (q : ℕ) → has_begun w q ≡ true → has_begun (world_step w e).world q ≡ true
 begun_stay w e q = step_keeps (λ seats. is_there q seats ≡ true) (there_kept q) w e
 
-up_there : (seats all : List Seat) → ((q : ℕ) → is_there q seats ≡ true → is_there q all ≡ true) → Each (λ q. is_there q all ≡ true) (map (λ s. s.id) (filter (λ s. is_some (running s.life)) seats))
+up_there : (seats all : List Seat) → ((q : ℕ) → is_there q seats ≡ true → is_there q all ≡ true) →
+    Each (λ q. is_there q all ≡ true) (map (λ s. s.id) (filter (λ s. is_some (running s.life)) seats))
 up_there [] all on = tt
 up_there (s ∷ seats) all on =
     let rest = up_there seats all (λ q is. on q (there_behind q s seats is)) in
-    let first : is_there s.id (s ∷ seats) ≡ true = ap (λ b. is_some (cond b (Some s) (find (λ x. x.id == s.id) seats))) (eq-eqb s.id s.id refl) in
-    cond_both (is_some (running s.life)) (s ∷ filter (λ s. is_some (running s.life)) seats) (filter (λ s. is_some (running s.life)) seats)
+    let first : is_there s.id (s ∷ seats) ≡ true =
+    ap (λ b. is_some (cond b (Some s) (find (λ x. x.id == s.id) seats))) (eq-eqb s.id s.id refl) in
+    cond_both (is_some (running s.life)) (s ∷ filter (λ s. is_some (running s.life)) seats)
+    (filter (λ s. is_some (running s.life)) seats)
     (λ list. Each (λ q. is_there q all ≡ true) (map (λ s. s.id) list)) (λ y. (on s.id first, rest)) (λ n. rest)
 
 -- the replicas that are up have begun

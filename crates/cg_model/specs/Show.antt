@@ -58,7 +58,12 @@ unshown made h = filter (λ a. (a.id.creator == h.id) && nat_lt (index_in made h
 
 -- of a recovery, from the names that were newly green as the replica went down
 abbrev pub news_of_recovery : List ActionId → Held → List ActionId → News
-news_of_recovery made h green = record { made = unshown made h; green = green; count = green_count h.queue; replies = [] }
+news_of_recovery made h green = record {
+  made = unshown made h;
+  green = green;
+  count = green_count h.queue;
+  replies = [];
+}
 
 -- of names that end at a place of the order, those that it doesn't have yet
 abbrev pub beyond : List ActionId → List ActionId → ℕ → List ActionId
@@ -73,7 +78,8 @@ placed_from n (id ∷ ids) = record { place = suc n; id = id } ∷ placed_from (
 abbrev pub answered_from : ℕ → List ActionId → List Reply → List Answered
 answered_from n (id ∷ ids) (r ∷ replies) =
     let here = same_id id r.id in
-    (if here then record { place = suc n; reply = r } ∷ [] else []) ++ answered_from (suc n) ids (if here then replies else r ∷ replies)
+    (if here then record { place = suc n; reply = r } ∷ [] else [])
+    ++ answered_from (suc n) ids (if here then replies else r ∷ replies)
 answered_from n ids replies = []
 
 -- the replies with one more among them, ascending by place
@@ -85,7 +91,10 @@ with_answered (r ∷ replies) new = if nat_lt new.place r.place then new ∷ r �
 abbrev pub tell : Going → News → Going
 tell g n =
     record g {
-      world = record g.world { order = g.world.order ++ beyond g.world.order n.green n.count; made = fold raise g.world.made (names_of n.made) };
+      world = record g.world {
+        order = g.world.order ++ beyond g.world.order n.green n.count;
+        made = fold raise g.world.made (names_of n.made);
+      };
       made = g.made ++ map (λ a. record { id = a.id; kind = a.kind }) n.made;
       orders = g.orders ++ placed_from (length g.world.order) (beyond g.world.order n.green n.count);
       replies = fold with_answered g.replies (answered_from (n.count - length n.green) n.green n.replies);
@@ -129,6 +138,12 @@ ended g =
     let w = g.world in
     let lines = filter (is_news w.lines) (map (line_of w.group) w.seats) in
     record {
-      entry = record { made = g.made; orders = g.orders; lines = lines; replies = map (λ r. r.reply) g.replies; shown = g.shown };
+      entry = record {
+        made = g.made;
+        orders = g.orders;
+        lines = lines;
+        replies = map (λ r. r.reply) g.replies;
+        shown = g.shown;
+      };
       world = record w { lines = fold with_printed w.lines lines };
     }

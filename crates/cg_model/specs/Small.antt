@@ -83,12 +83,14 @@ with_installer p a = record a { installed = with_member a.installed p }
 
 -- who has entered leaves with so many greens
 abbrev pub with_leaver : ℕ → ℕ → Attempt → Attempt
-with_leaver p count a = if has a.entered p then record a { left = a.left ++ record { member = p; count = count } ∷ [] } else a
+with_leaver p count a = if has a.entered p
+    then record a { left = a.left ++ record { member = p; count = count } ∷ [] } else a
 
 -- a replica enters the attempt of its record, which is taken from the first that does
 abbrev pub entering : List Action → Held → List Attempt → Option Vulnerable → List Attempt
 entering greens h attempts None = attempts
-entering greens h attempts (Some v) = changed_attempt (with_entrant h.id) v.attempt (with_attempt_of attempts greens h (Some v))
+entering greens h attempts (Some v) =
+    changed_attempt (with_entrant h.id) v.attempt (with_attempt_of attempts greens h (Some v))
 
 -- a replica installs the attempt of its record
 abbrev pub installing : ℕ → List Attempt → Option Vulnerable → List Attempt
@@ -115,11 +117,13 @@ attempts_behind attempts p greens old new =
     else attempts
 
 abbrev pub levels_behind : Chronicle → Replica → Replica → List ℕ
-levels_behind c old new = if is_installation old.state new.state then c.levels ++ opened_by c new.held.vulnerable else c.levels
+levels_behind c old new = if is_installation old.state new.state
+    then c.levels ++ opened_by c new.held.vulnerable else c.levels
 
 -- a replica goes out of its configuration with so many greens
 abbrev pub note_leaving : Chronicle → ℕ → ℕ → Chronicle
-note_leaving c p count = record c { attempts = changed_attempt (with_leaver p count) (conf_at (phase_of c.world.group p)) c.attempts }
+note_leaving c p count =
+    record c { attempts = changed_attempt (with_leaver p count) (conf_at (phase_of c.world.group p)) c.attempts }
 
 -- ---- turns
 
@@ -165,7 +169,8 @@ with_group c g = let w = c.world in record c { world = record w { group = g } }
 
 -- a configuration is made; no member has entered it yet
 abbrev pub make_configuration : GroupState Msg → List ℕ → GroupState Msg
-make_configuration g set = record g { configurations = g.configurations ++ record { members = set; ordered = []; received = [] } ∷ [] }
+make_configuration g set =
+    record g { configurations = g.configurations ++ record { members = set; ordered = []; received = [] } ∷ [] }
 
 -- the number of the newest configuration
 abbrev pub newest_conf : GroupState Msg → ℕ
@@ -173,7 +178,8 @@ newest_conf g = length g.configurations
 
 -- a member comes into the newest configuration, and takes it
 abbrev pub coming : Chronicle → ℕ → Chronicle
-coming c p = with_group (note_leaving c p (length (greens_of c p))) (become_regular (newest_conf c.world.group) c.world.group p)
+coming c p =
+    with_group (note_leaving c p (length (greens_of c p))) (become_regular (newest_conf c.world.group) c.world.group p)
 
 abbrev pub take_newest : GroupState Msg → Turn → Turn
 take_newest g t = let conf = newest_conf g in take_all (RegularIn conf (configuration g conf).members ∷ []) t
@@ -193,13 +199,20 @@ hand_place c p = turning (handed_next c p) p (take_next c.world.group p)
 
 -- the group notes of one that has left how many places it was handed by itself, before it left with the others
 abbrev pub become_past : GroupState Msg → ℕ → List ℕ → ℕ → GroupState Msg
-become_past g p set own = set_standing g (record { id = p; phase = Transitional (regular_in (phase_of g p)) set; delivered = own; unordered = [] })
+become_past g p set own =
+    set_standing g (record {
+      id = p;
+      phase = Transitional (regular_in (phase_of g p)) set;
+      delivered = own;
+      unordered = [];
+    })
 
 abbrev pub leaving : Chronicle → ℕ → List ℕ → ℕ → Chronicle
 leaving c p set own = with_group c (become_past c.world.group p set own)
 
 abbrev pub take_parting : GroupState Msg → ℕ → List ℕ → List ℕ → Turn → Turn
-take_parting g p set places t = take_all (TransitionalIn (regular_in (phase_of g p)) set ∷ deliveries_at (home g p) places) t
+take_parting g p set places t =
+    take_all (TransitionalIn (regular_in (phase_of g p)) set ∷ deliveries_at (home g p) places) t
 
 abbrev pub leave_with : Chronicle → ℕ → List ℕ → ℕ → List ℕ → Chronicle
 leave_with c p set own places = turning (leaving c p set own) p (take_parting c.world.group p set places)
@@ -240,7 +253,11 @@ recover c p = option_map_or (λ s. recover_as c s.life) (seat_of c.world p) c
 
 -- each replica begins with an empty disk
 abbrev pub start : Chronicle → List Weighted → Chronicle
-start c set = record c { start = set; world = fold (begin_replica set) c.world (ids set); pasts = c.pasts ++ map (new_past []) (ids set) }
+start c set = record c {
+  start = set;
+  world = fold (begin_replica set) c.world (ids set);
+  pasts = c.pasts ++ map (new_past []) (ids set);
+}
 
 -- a snapshot for the joiner takes the place of another one
 abbrev pub copy_as : Chronicle → ℕ → ℕ → Replica → Chronicle
@@ -248,7 +265,8 @@ copy_as c p joiner r =
     let w = without_snapshot c.world joiner in
     record c {
       world = record w { snapshots = record { joiner = joiner; giver = p; content = r.held; taken = 0 } ∷ w.snapshots };
-      copies = record { joiner = joiner; giver = p; greens = greens_of c p } ∷ filter (λ x. not (x.joiner == joiner)) c.copies;
+      copies = record { joiner = joiner; giver = p; greens = greens_of c p }
+          ∷ filter (λ x. not (x.joiner == joiner)) c.copies;
     }
 
 abbrev pub copy : Chronicle → ℕ → ℕ → Chronicle

@@ -65,22 +65,26 @@ ascend_within low high (place ∷ places) = nat_lt low place && nat_le place hig
 
 -- the places hold each one that the replica has received, and with a place the earlier ones of its sender
 abbrev pub hold_received : Configuration Msg → ℕ → ℕ → List ℕ → Bool
-hold_received c p low places = list_all (λ place. implies (has_received c p place) (has places place)) (above_up_to low (length c.ordered))
+hold_received c p low places =
+    list_all (λ place. implies (has_received c p place) (has places place)) (above_up_to low (length c.ordered))
 
 abbrev pub hold_earlier : Configuration Msg → ℕ → List ℕ → Bool
 hold_earlier c low places =
-    list_all (λ place. list_all (λ earlier. implies (sender_at c earlier == sender_at c place) (has places earlier)) (above_up_to low (place - 1))) places
+    list_all (λ place. list_all (λ earlier. implies (sender_at c earlier == sender_at c place) (has places earlier))
+    (above_up_to low (place - 1))) places
 
 abbrev pub may_leave : Chronicle → ℕ → List ℕ → Bool
 may_leave c p places =
     let c' = home c.world.group p in
     let low = delivered_to c.world.group p in
-    is_regular c.world.group p && ascend_within low (length c'.ordered) places && hold_received c' p low places && hold_earlier c' low places
+    is_regular c.world.group p && ascend_within low (length c'.ordered) places && hold_received c' p low places
+    && hold_earlier c' low places
 
 -- the joiner hasn't begun, and is a server as its snapshot has it
 abbrev pub may_join : Chronicle → ℕ → Bool
 may_join c joiner =
-    not (has_begun c.world joiner) && option_map_or (λ s. is_server s.content.members joiner) (snapshot_of c.world joiner) false
+    not (has_begun c.world joiner)
+    && option_map_or (λ s. is_server s.content.members joiner) (snapshot_of c.world joiner) false
 
 abbrev pub is_running : Chronicle → ℕ → Bool
 is_running c p = is_some (replica_of c.world p)
@@ -98,7 +102,8 @@ may_make c (Settles p) = is_running c p
 may_make c (Commits p) = is_running c p
 may_make c (Crashes p) = is_running c p
 may_make c (Recovers p) = has_begun c.world p && not (is_running c p)
-may_make c (Copies p joiner) = not (has_begun c.world joiner) && option_map_or (λ r. is_server r.held.members joiner) (replica_of c.world p) false
+may_make c (Copies p joiner) = not (has_begun c.world joiner)
+    && option_map_or (λ r. is_server r.held.members joiner) (replica_of c.world p) false
 may_make c (Joins joiner) = may_join c joiner
 
 -- ---- which ones an event is made of
@@ -106,7 +111,8 @@ may_make c (Joins joiner) = may_join c joiner
 -- a turn of these steps ends with its commit, where it makes one; a crash that it doesn't outlive leaves nothing of it
 abbrev pub ending_as : Taken → List Small → Ended → List Small
 ending_as t steps (Runs r disk) = steps ++ (if commits t.before.held t.turn then Commits t.id ∷ [] else [])
-ending_as t steps (EndsInCrash disk green) = if stands t then steps ++ Commits t.id ∷ Crashes t.id ∷ [] else Crashes t.id ∷ []
+ending_as t steps (EndsInCrash disk green) = if stands t
+    then steps ++ Commits t.id ∷ Crashes t.id ∷ [] else Crashes t.id ∷ []
 
 abbrev pub ending : (ℕ → List Small) → Taken → List Small
 ending steps t = ending_as t (steps t.id) t.ended
@@ -118,7 +124,8 @@ turns_as steps w e = flat_map (ending steps) (turns_of w e)
 abbrev pub leaving_steps : GroupState Msg → List ℕ → ℕ → List Small
 leaving_steps g set p =
     let last = furthest g set in
-    replicate (last - delivered_to g p) (Hands p) ++ Leaves p set (delivered_to g p) (transitional_places (home g p) set last) ∷ Settles p ∷ []
+    replicate (last - delivered_to g p) (Hands p) ++ Leaves p
+    set (delivered_to g p) (transitional_places (home g p) set last) ∷ Settles p ∷ []
 
 -- each regular replica orders what it has, and receives what it lacks
 abbrev pub order_steps : GroupState Msg → List Small
@@ -135,11 +142,13 @@ gather_steps g = order_steps g ++ receive_steps (fold order_all g (regulars g))
 
 -- a snapshot is taken where none is under way, and its joiner begins with the last of its pieces
 abbrev pub copy_steps : World → ℕ → ℕ → List Small
-copy_steps w p joiner = if option_map_or (λ s. s.giver == p) (snapshot_of w joiner) false then [] else Copies p joiner ∷ []
+copy_steps w p joiner = if option_map_or (λ s. s.giver == p) (snapshot_of w joiner) false then []
+    else Copies p joiner ∷ []
 
 abbrev pub join_steps : World → ℕ → ℕ → ℕ → List Small
 join_steps w p joiner pieces =
-    option_map_or (λ r. (let s = snapshot_for w p joiner r in if nat_le (piece_count s.content - s.taken) pieces then Joins joiner ∷ [] else []))
+    option_map_or (λ r. (let s = snapshot_for w p joiner r in
+    if nat_le (piece_count s.content - s.taken) pieces then Joins joiner ∷ [] else []))
     (replica_of w p) []
 
 -- what a replica does in its turn, but for its commit

@@ -30,7 +30,8 @@ use Rattle.cg_model.specs.Played.{StandsBeside}
 -- these events may stand one behind the other and are admitted, and lead from the one chronicle and world to the other
 abbrev pub LeadTo : Chronicle → World → List Event → Chronicle → World → Type 0
 LeadTo c w [] d v = (c ≡ d) × (w ≡ v)
-LeadTo c w (e ∷ events) d v = MayStand w e × (first_refusal w e ≡ None) × LeadTo (chronicle_step c w e) (world_step w e).world events d v
+LeadTo c w (e ∷ events) d v = MayStand w e × (first_refusal w e ≡ None)
+    × LeadTo (chronicle_step c w e) (world_step w e).world events d v
 
 -- some events lead there from before the start
 pub record IsReached (c : Chronicle) (w : World) : Type 0 where
@@ -41,7 +42,8 @@ pub record IsReached (c : Chronicle) (w : World) : Type 0 where
 -- what its disks have still to show
 pub record AlwaysStands : Type 0 where
   pub first : IsReached no_chronicle no_world
-  pub step : (c : Chronicle) (w : World) (e : Event) → IsReached c w → MayStand w e → first_refusal w e ≡ None → IsReached (chronicle_step c w e) (world_step w e).world
+  pub step : (c : Chronicle) (w : World) (e : Event) → IsReached c w → MayStand w e → first_refusal w e ≡ None →
+      IsReached (chronicle_step c w e) (world_step w e).world
   pub beside : (c : Chronicle) (w : World) → IsReached c w → StandsBeside c w
   pub carried : (c : Chronicle) (w : World) → IsReached c w → MadeFits w × OrderFits c w
 
@@ -51,12 +53,14 @@ pub record AlwaysStands : Type 0 where
 -- and an attempt that is over is there still, and is over
 pub record UndoesNothing (c d : Chronicle) : Type 0 where
   pub receipts_fixed : ReceiptsFixed c d
-  pub over : (conf : ℕ) → IfSome (attempt_of c conf) (λ a. is_dead c a ≡ true → IsSomeWith (attempt_of d conf) (λ b. is_dead d b ≡ true))
+  pub over : (conf : ℕ) → IfSome (attempt_of c conf) (λ a. is_dead c a ≡ true →
+      IsSomeWith (attempt_of d conf) (λ b. is_dead d b ≡ true))
 
 -- no event that may stand and is admitted undoes any of it, in no world to which events lead
 abbrev pub EventsUndoNothing : Type 0
 EventsUndoNothing =
-    (c : Chronicle) (w : World) (e : Event) → IsReached c w → MayStand w e → first_refusal w e ≡ None → UndoesNothing c (chronicle_step c w e)
+    (c : Chronicle) (w : World) (e : Event) → IsReached c w → MayStand w e → first_refusal w e ≡ None →
+    UndoesNothing c (chronicle_step c w e)
 
 -- ---- one book
 

@@ -130,7 +130,8 @@ take_pieces w s pieces =
 
 -- pieces go from a representative to a joiner
 abbrev pub transfer : World → ℕ → ℕ → ℕ → Going
-transfer w p joiner pieces = option_map_or (λ r. take_pieces w (snapshot_for w p joiner r) pieces) (replica_of w p) (quietly w)
+transfer w p joiner pieces =
+    option_map_or (λ r. take_pieces w (snapshot_for w p joiner r) pieces) (replica_of w p) (quietly w)
 
 -- ---- events
 

@@ -47,7 +47,8 @@ pub record Tells (steps : List Step) (c : Chronicle) : Type 0 where
   pub stands : (s : Seat) → Contains c.world.seats s → printed c.world s.id ≡ Some (line_of c.world.group s)
   pub position : (p : ℕ) (r : Replica) → replica_of c.world p ≡ Some r → position_of p steps ≡ green_count r.held.queue
   pub white : (p : ℕ) (r : Replica) → replica_of c.world p ≡ Some r → white_of p steps ≡ r.held.queue.white
-  pub made : (id : ActionId) → 1 ≤ id.index → names (made_names steps) id ≡ nat_le id.index (index_in c.world.made id.creator)
+  pub made : (id : ActionId) → 1 ≤ id.index →
+      names (made_names steps) id ≡ nat_le id.index (index_in c.world.made id.creator)
   pub as_made : (a : Action) → Contains (made_of steps) a → Contains c.book a
 
 -- the steps of every run tell of the world that they lead to

@@ -90,7 +90,9 @@ keeps_part q (Some part) = list_all (λ item. is_some (message_of q item)) (item
 
 -- a member that remains comes to the end of the plan: each name of the common yellow list is that of a red action, and none stands twice
 abbrev pub TakesNames : Turn → List Summary → Type 0
-TakesNames t heard = Either (has (gone heard) t.replica.held.id) (Unit {0}) (usable_names t.replica.held.queue (common_yellow heard).list ≡ (common_yellow heard).list)
+TakesNames t heard =
+    Either (has (gone heard) t.replica.held.id) (Unit {0}) (usable_names
+    t.replica.held.queue (common_yellow heard).list ≡ (common_yellow heard).list)
 
 -- behind so many items of the plan
 pub record GoesOn (t : Turn) (heard : List Summary) (accepted : ℕ) : Type 0 where
@@ -116,10 +118,12 @@ abbrev pub IsUsed : State → Turn → ℕ → Msg → Type 0
 IsUsed RegPrim t from (ActionMsg a) = IsTrue (can_be_green t.replica.held a)
 IsUsed (NonPrim regular) t from (ActionMsg a) = IsTrue (fits_red t.replica.held a)
 IsUsed (ExchangeStates conf set heard) t from (StateMsg s) =
-    IsTrue (is_usable conf heard from s) × When (is_within set (senders (heard ++ s ∷ []))) (GoesOn t (heard ++ s ∷ []) 0)
+    IsTrue (is_usable conf heard from s)
+    × When (is_within set (senders (heard ++ s ∷ []))) (GoesOn t (heard ++ s ∷ []) 0)
 IsUsed (ExchangeActions conf heard accepted) t from m = TakesItem t heard accepted from m
 IsUsed (Construct conf heard) t from (Cpc id at) =
-    IsTrue (is_announced t.replica.held conf from id at) × When (is_within (attempt_set t.replica.held) (with_member heard from)) (CanInstall t)
+    IsTrue (is_announced t.replica.held conf from id at)
+    × When (is_within (attempt_set t.replica.held) (with_member heard from)) (CanInstall t)
 IsUsed Left t from m = Unit {0}
 IsUsed _ t from m = ⊥
 
@@ -158,9 +162,12 @@ CanRedden h = IsTrue (run_on h.queue.red_cut (names_of h.own))
 -- what is handed to a member in its regular phase and as it leaves, and what becomes red as a replica enters a configuration or recovers
 abbrev pub MeetsNone : Chronicle → Small → Type 0
 MeetsNone c (Hands p) =
-    IfSome (replica_of c.world p) (λ r. IfSome (at_place (home c.world.group p).ordered (suc (delivered_to c.world.group p))) (λ s. IsUsed r.state (begin r) s.from s.message))
+    IfSome (replica_of c.world p)
+    (λ r. IfSome (at_place (home c.world.group p).ordered (suc (delivered_to c.world.group p))) (λ s. IsUsed
+    r.state (begin r) s.from s.message))
 MeetsNone c (Leaves p set own places) =
-    IfSome (replica_of c.world p) (λ r. AreTakenLeaving (not (is_exchanging r.state)) (begin r) (TransitionalIn (regular_in (phase_of c.world.group p)) set ∷ deliveries_at (home c.world.group p) places))
+    IfSome (replica_of c.world p) (λ r. AreTakenLeaving (not (is_exchanging r.state)) (begin r)
+    (TransitionalIn (regular_in (phase_of c.world.group p)) set ∷ deliveries_at (home c.world.group p) places))
 MeetsNone c (Enters p) = IfSome (replica_of c.world p) (λ r. CanRedden r.held)
 MeetsNone c (Recovers p) = IfSome (disk_held c.world p) CanRedden
 MeetsNone c other = Unit {0}

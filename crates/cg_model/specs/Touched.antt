@@ -51,4 +51,5 @@ ShowsNewsOf set w = new_lines w ≡ new_lines_of set w
 -- behind an admitted event nothing is new of replicas that it doesn't touch
 abbrev pub OthersShowNothingNew : Type 0
 OthersShowNothingNew =
-    (c : Chronicle) (w : World) (e : Event) → IsReached c w → MayStand w e → first_refusal w e ≡ None → ShowsNewsOf (touched e) (happens w e).world
+    (c : Chronicle) (w : World) (e : Event) → IsReached c w → MayStand w e → first_refusal w e ≡ None →
+    ShowsNewsOf (touched e) (happens w e).world

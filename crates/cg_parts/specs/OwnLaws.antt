@@ -5,7 +5,8 @@ use Rattle.std.specs.Option.{option_map_or}
 use Rattle.cg_action.specs.declared.action.Action.{Action}
 use Rattle.cg_parts.specs.Own.{last_index}
 
-pub last_index-get : (own : List Action) → option_map_or (λ a. a.id.index) (slice_get own (length own - 1)) 0 ≡ last_index own
+pub last_index-get : (own : List Action) →
+    option_map_or (λ a. a.id.index) (slice_get own (length own - 1)) 0 ≡ last_index own
 last_index-get [] = refl
 last_index-get (a ∷ []) = refl
 last_index-get (a ∷ b ∷ rest) =

@@ -59,7 +59,11 @@ const LIMIT: u64 = 9223372036854775808;
 impl Components {
     /// Before the first primary component: these are its members.
     pub fn start(set: WeightSet) -> Components
-        ensures { result ≡ record { prim = record { index = 0; conf = 0; set = set }; attempt_index = 0; vulnerable = None } }
+        ensures { result ≡ record {
+          prim = record { index = 0; conf = 0; set = set };
+          attempt_index = 0;
+          vulnerable = None;
+        } }
     {
         let _members = set.iter();
         Components {
@@ -79,7 +83,11 @@ impl Components {
         attempt_index: u64,
         vulnerable: Option<Vulnerable>,
     ) -> Result<Components, NoMemory>
-        ensures { IfOk result (λ s. s ≡ record { prim = prim; attempt_index = attempt_index; vulnerable = vulnerable }) }
+        ensures { IfOk result (λ s. s ≡ record {
+          prim = prim;
+          attempt_index = attempt_index;
+          vulnerable = vulnerable;
+        }) }
     {
         if !is_prim(&prim) {
             return Err(NoMemory);

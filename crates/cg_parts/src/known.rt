@@ -77,7 +77,8 @@ impl Known {
     pub fn turn_green(&mut self, id: ActionId) -> Result<(), NoMemory>
         requires few { green_count self.old < 2 ^ 62 }
         requires next { id.index ≡ suc (index_in self.old.green_cut id.creator) }
-        ensures { OnOk result (MatchOption (action_of self.old id) (self.new ≡ self.old) (λ a. self.new ≡ placed_green self.old a)) }
+        ensures { OnOk result (MatchOption (action_of self.old id) (self.new ≡ self.old) (λ a. self.new ≡
+            placed_green self.old a)) }
     {
         self.queue.turn_green(id)
     }

@@ -23,13 +23,15 @@ least_greens summaries = least_of (map (λ s. s.green_count) (of_remaining summa
 
 -- the greens that some remaining member lacks, sent by the most updated member
 abbrev pub green_part : Option Summary → Option ℕ → List SentPart
-green_part (Some best) (Some low) = part_above low best.green_count (record { sender = best.id; part = Greens (suc low) best.green_count })
+green_part (Some best) (Some low) =
+    part_above low best.green_count (record { sender = best.id; part = Greens (suc low) best.green_count })
 green_part _ _ = []
 
 -- of a creator's actions the first knows more, or as many and has the lower identifier
 abbrev pub knows_more : ℕ → Summary → Summary → Bool
 knows_more creator s t =
-    nat_lt (index_in t.red_cut creator) (index_in s.red_cut creator) || ((index_in s.red_cut creator == index_in t.red_cut creator) && nat_lt s.id t.id)
+    nat_lt (index_in t.red_cut creator) (index_in s.red_cut creator)
+    || ((index_in s.red_cut creator == index_in t.red_cut creator) && nat_lt s.id t.id)
 
 -- the one of the two that knows more
 abbrev pub farther : ℕ → Option Summary → Summary → Option Summary
@@ -54,7 +56,8 @@ red_part creator _ _ _ = []
 
 -- the part of one creator
 unfoldable pub reds_of : List Summary → ℕ → List SentPart
-reds_of summaries creator = red_part creator (most_updated summaries) (farthest summaries creator) (least_reds summaries creator)
+reds_of summaries creator =
+    red_part creator (most_updated summaries) (farthest summaries creator) (least_reds summaries creator)
 
 -- the creators of which some member knows an action
 unfoldable pub creators : List Summary → List ℕ
@@ -62,4 +65,5 @@ creators summaries = fold (λ set s. union set (creators_in s.red_cut)) [] summa
 
 -- the plan: first the greens, then each creator's reds
 unfoldable pub plan_of : List Summary → List SentPart
-plan_of summaries = green_part (most_updated summaries) (least_greens summaries) ++ flat_map (reds_of summaries) (creators summaries)
+plan_of summaries = green_part (most_updated summaries) (least_greens summaries)
+    ++ flat_map (reds_of summaries) (creators summaries)

@@ -9,7 +9,9 @@ use crate::Item;
 
 /// After the items of a plan were accepted in their order it is done, and not before.
 pub fn plans_end()
-    ensures follows { (plan : List SentPart) (n : ℕ) → n ≤ length (items_of_plan plan) → after_items (begun plan) (take n (items_of_plan plan)) ≡ record { turns = plan; accepted = n } }
-    ensures ends { (plan : List SentPart) (n : ℕ) → n ≤ length (items_of_plan plan) → is_done (record { turns = plan; accepted = n }) ≡ (n == length (items_of_plan plan)) }
+    ensures follows { (plan : List SentPart) (n : ℕ) → n ≤ length (items_of_plan plan) →
+        after_items (begun plan) (take n (items_of_plan plan)) ≡ record { turns = plan; accepted = n } }
+    ensures ends { (plan : List SentPart) (n : ℕ) → n ≤ length (items_of_plan plan) →
+        is_done (record { turns = plan; accepted = n }) ≡ (n == length (items_of_plan plan)) }
     ensures same { (a b : Item) → IsTrue (⟦<Item as PartialEq>⟧.eq a b) ↔ (a ≡ b) }
 {}

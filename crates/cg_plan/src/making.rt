@@ -81,7 +81,8 @@ fn creators(summaries: &[Summary]) -> IdSet
 }
 
 fn push_greens(turns: &mut Vec<SentPart>, summaries: &[Summary]) -> Result<(), NoMemory>
-    ensures { OnOk result (turns.new.items ≡ turns.old.items ++ green_part (most_updated_of summaries.now) (least_greens_of summaries.now)) }
+    ensures { OnOk result (turns.new.items ≡ turns.old.items
+        ++ green_part (most_updated_of summaries.now) (least_greens_of summaries.now)) }
 {
     let Some(best) = most_updated(summaries) else {
         return Ok(());

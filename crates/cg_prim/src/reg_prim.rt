@@ -45,7 +45,8 @@ impl RegPrim {
 
     /// One delivery. A transitional configuration takes no memory.
     pub fn deliver(self, draft: &mut Draft, d: &Delivery) -> Result<PrimStep, NoMemory>
-        ensures turn { IfOk result (λ step. turn_after step draft.new ≡ reg_prim_on (turn_with self RegPrimState draft.old) d.now) }
+        ensures turn { IfOk result (λ step. turn_after step draft.new ≡
+            reg_prim_on (turn_with self RegPrimState draft.old) d.now) }
         ensures memory { IsTrue (is_transitional d.now) → IsOk result }
     {
         match d {
@@ -62,7 +63,8 @@ impl RegPrim {
     }
 
     fn hear(self, draft: &mut Draft, bytes: &[u8]) -> Result<RegPrim, NoMemory>
-        ensures { IfOk result (λ s. turn_with s RegPrimState draft.new ≡ reg_prim_on_read (turn_with self RegPrimState draft.old) (message_in bytes.now)) }
+        ensures { IfOk result (λ s. turn_with s RegPrimState draft.new ≡
+            reg_prim_on_read (turn_with self RegPrimState draft.old) (message_in bytes.now)) }
     {
         match read_message(self.core.alloc(), bytes)? {
             Some(message) => self.hear_message(draft, message),
@@ -73,7 +75,8 @@ impl RegPrim {
     #[tactic(auto, unfolding(crate::specs::Hearing::reg_prim_on_message))]
     fn hear_message(self, draft: &mut Draft, message: Msg) -> Result<RegPrim, NoMemory>
         requires { IsMsg message }
-        ensures { IfOk result (λ s. turn_with s RegPrimState draft.new ≡ reg_prim_on_message (turn_with self RegPrimState draft.old) message) }
+        ensures { IfOk result (λ s. turn_with s RegPrimState draft.new ≡
+            reg_prim_on_message (turn_with self RegPrimState draft.old) message) }
     {
         let RegPrim { mut core } = self;
         match message {
@@ -88,7 +91,8 @@ impl RegPrim {
     /// A request is created.
     pub fn request(self, draft: &mut Draft, r: Request) -> Result<RegPrim, NoMemory>
         requires { IsKind (kind_of r) }
-        ensures { IfOk result (λ s. turn_with s RegPrimState draft.new ≡ request (turn_with self RegPrimState draft.old) (kind_of r)) }
+        ensures { IfOk result (λ s. turn_with s RegPrimState draft.new ≡
+            request (turn_with self RegPrimState draft.old) (kind_of r)) }
     {
         let RegPrim { mut core } = self;
         core.create(draft, r.into_kind())?;
@@ -97,7 +101,8 @@ impl RegPrim {
 
     /// The event ends: the requests that are kept are created, in their order.
     pub fn settle(self, draft: &mut Draft) -> Result<RegPrim, NoMemory>
-        ensures { IfOk result (λ s. turn_with s RegPrimState draft.new ≡ settle (turn_with self RegPrimState draft.old)) }
+        ensures { IfOk result (λ s. turn_with s RegPrimState draft.new ≡
+            settle (turn_with self RegPrimState draft.old)) }
     {
         let RegPrim { mut core } = self;
         core.create_kept(draft)?;

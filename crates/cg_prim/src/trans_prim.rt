@@ -49,7 +49,8 @@ impl TransPrim {
     /// yellow.
     pub fn after(i: Installed, draft: &mut Draft, a: Action) -> Result<TransPrim, NoMemory>
         requires { IsAction a }
-        ensures { IfOk result (λ s. (state : State) → turn_with s state draft.new ≡ mark_yellow (turn_with i state draft.old) a) }
+        ensures { IfOk result (λ s. (state : State) →
+            turn_with s state draft.new ≡ mark_yellow (turn_with i state draft.old) a) }
     {
         let mut core = i.into_core();
         core.mark_yellow(draft, a)?;
@@ -58,7 +59,8 @@ impl TransPrim {
 
     /// One delivery.
     pub fn deliver(self, draft: &mut Draft, d: &Delivery) -> Result<PrimStep, NoMemory>
-        ensures { IfOk result (λ step. turn_after step draft.new ≡ trans_prim_on (turn_with self TransPrimState draft.old) d.now) }
+        ensures { IfOk result (λ step. turn_after step draft.new ≡
+            trans_prim_on (turn_with self TransPrimState draft.old) d.now) }
     {
         match d {
             Delivery::Message { bytes, .. } => {
@@ -79,7 +81,8 @@ impl TransPrim {
     }
 
     fn hear(self, draft: &mut Draft, bytes: &[u8]) -> Result<TransPrim, NoMemory>
-        ensures { IfOk result (λ s. turn_with s TransPrimState draft.new ≡ trans_prim_on_read (turn_with self TransPrimState draft.old) (message_in bytes.now)) }
+        ensures { IfOk result (λ s. turn_with s TransPrimState draft.new ≡
+            trans_prim_on_read (turn_with self TransPrimState draft.old) (message_in bytes.now)) }
     {
         match read_message(self.core.alloc(), bytes)? {
             Some(message) => self.hear_message(draft, message),
@@ -90,7 +93,8 @@ impl TransPrim {
     #[tactic(auto, unfolding(crate::specs::Hearing::trans_prim_on_message))]
     fn hear_message(self, draft: &mut Draft, message: Msg) -> Result<TransPrim, NoMemory>
         requires { IsMsg message }
-        ensures { IfOk result (λ s. turn_with s TransPrimState draft.new ≡ trans_prim_on_message (turn_with self TransPrimState draft.old) message) }
+        ensures { IfOk result (λ s. turn_with s TransPrimState draft.new ≡
+            trans_prim_on_message (turn_with self TransPrimState draft.old) message) }
     {
         let TransPrim { mut core } = self;
         match message {
@@ -105,7 +109,8 @@ impl TransPrim {
     /// A request is kept.
     pub fn request(self, r: Request) -> Result<TransPrim, NoMemory>
         requires { IsKind (kind_of r) }
-        ensures { IfOk result (λ s. (draft : DraftParts) → turn_with s TransPrimState draft ≡ request (turn_with self TransPrimState draft) (kind_of r)) }
+        ensures { IfOk result (λ s. (draft : DraftParts) →
+            turn_with s TransPrimState draft ≡ request (turn_with self TransPrimState draft) (kind_of r)) }
     {
         let TransPrim { mut core } = self;
         core.keep(r.into_kind())?;

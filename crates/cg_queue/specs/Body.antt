@@ -37,7 +37,15 @@ parts_of b =
 
 -- no action is known, and those that the cut counts were discarded
 abbrev pub no_parts : ℕ → List ActionId → Parts
-no_parts white cut = record { white = white; greens = []; green_cut = cut; red_cut = cut; reds = λ slot. []; positions = λ slot. []; yellow = [] }
+no_parts white cut = record {
+  white = white;
+  greens = [];
+  green_cut = cut;
+  red_cut = cut;
+  reds = λ slot. [];
+  positions = λ slot. [];
+  yellow = [];
+}
 
 -- ---- what is seen
 
@@ -72,19 +80,22 @@ seen b =
 -- a stretch of a creator: the actions are its own, and their indexes count up from the given one
 abbrev pub Stretch : ℕ → ℕ → List Red → Type 0
 Stretch creator from [] = Unit {0}
-Stretch creator from (r ∷ reds) = (r.action.id.creator ≡ creator) × (r.action.id.index ≡ from) × Stretch creator (suc from) reds
+Stretch creator from (r ∷ reds) = (r.action.id.creator ≡ creator) × (r.action.id.index ≡ from)
+    × Stretch creator (suc from) reds
 
 -- among the actions the creator's indexes count up to the last one
 abbrev pub Follows : ℕ → ℕ → ℕ → List Action → Type 0
 Follows creator from last [] = from ≡ suc last
 Follows creator from last (a ∷ greens) =
-    Either (a.id.creator == creator) ((a.id.index ≡ from) × Follows creator (suc from) last greens) (Follows creator from last greens)
+    Either (a.id.creator == creator) ((a.id.index ≡ from)
+    × Follows creator (suc from) last greens) (Follows creator from last greens)
 
 -- where the creator's actions stand among those that begin at a position of the order
 abbrev pub positions_of : ℕ → ℕ → List Action → List ℕ
 positions_of creator position [] = []
 positions_of creator position (a ∷ greens) =
-    if a.id.creator == creator then position ∷ positions_of creator (suc position) greens else positions_of creator (suc position) greens
+    if a.id.creator == creator then position ∷ positions_of creator (suc position) greens
+    else positions_of creator (suc position) greens
 
 -- each flag says whether the action's name is in the list
 abbrev pub Flagged : List ActionId → List Red → Type 0
@@ -146,7 +157,8 @@ abbrev pub added_green : Parts → Action → Parts
 added_green b a =
     record b {
       greens = b.greens ++ a ∷ [];
-      positions = with_lane b.positions (lane_of a.id) (b.positions (lane_of a.id) ++ suc (b.white + length b.greens) ∷ []);
+      positions = with_lane b.positions (lane_of a.id) (b.positions (lane_of a.id)
+          ++ suc (b.white + length b.greens) ∷ []);
       reds = with_lane b.reds (lane_of a.id) (drop 1 (b.reds (lane_of a.id)));
       green_cut = raise b.green_cut a.id;
       red_cut = raise b.red_cut a.id;
@@ -168,7 +180,11 @@ cleared b = record b { yellow = filter (is_above b.green_cut) b.yellow }
 abbrev pub dropped_from : Parts → List Action → Parts
 dropped_from b [] = b
 dropped_from b (a ∷ rest) =
-    record b { white = suc b.white; greens = rest; positions = with_lane b.positions (lane_of a.id) (drop 1 (b.positions (lane_of a.id))) }
+    record b {
+      white = suc b.white;
+      greens = rest;
+      positions = with_lane b.positions (lane_of a.id) (drop 1 (b.positions (lane_of a.id)));
+    }
 
 -- the first of the actions, if there is one, is a replica's
 abbrev pub BeginsWell : List Action → Type 0
@@ -182,9 +198,14 @@ dropped b = dropped_from b b.greens
 -- the flag of a name, where it is one behind the cut
 abbrev pub flag_name : List ActionId → Bool → (ℕ → List Red) → ActionId → ℕ → List Red
 flag_name cut flag lanes id =
-    if is_above cut id then with_lane lanes (lane_of id) (marked_at (lanes (lane_of id)) (id.index - suc (index_in cut id.creator)) flag) else lanes
+    if is_above cut id
+    then with_lane
+    lanes (lane_of id) (marked_at (lanes (lane_of id)) (id.index - suc (index_in cut id.creator)) flag) else lanes
 
 -- another yellow list
 abbrev pub renamed : Parts → List ActionId → Parts
 renamed b list =
-    record b { yellow = list; reds = fold (flag_name b.green_cut true) (fold (flag_name b.green_cut false) b.reds b.yellow) list }
+    record b {
+      yellow = list;
+      reds = fold (flag_name b.green_cut true) (fold (flag_name b.green_cut false) b.reds b.yellow) list;
+    }

@@ -12,7 +12,8 @@ apart-back a b apart = elim (cases_Bool (same_id b a)) [
   | inr other ↦ other
 ]
 
-pub names-apart : (ids : List ActionId) (id x : ActionId) → same_id x id ≡ false → names ids x ≡ false → names (ids ++ id ∷ []) x ≡ false
+pub names-apart : (ids : List ActionId) (id x : ActionId) → same_id x id ≡ false → names ids x ≡ false →
+    names (ids ++ id ∷ []) x ≡ false
 names-apart [] id x apart none = or_from (same_id x id) false apart refl
 names-apart (y ∷ ids) id x apart none = elim (cases_Bool (same_id x y)) [
   | inl here ↦ absurd (let clash : true ≡ false = rw here at none in cc)
@@ -24,7 +25,8 @@ no-name true e = absurd (let clash : false ≡ true = e in cc)
 no-name false e = refl
 
 -- a new name behind distinct ones
-pub distinct-behind : (ids : List ActionId) (id : ActionId) → is_distinct ids ≡ true → names ids id ≡ false → is_distinct (ids ++ id ∷ []) ≡ true
+pub distinct-behind : (ids : List ActionId) (id : ActionId) → is_distinct ids ≡ true → names ids id ≡ false →
+    is_distinct (ids ++ id ∷ []) ≡ true
 distinct-behind [] id distinct new = refl
 distinct-behind (x ∷ ids) id distinct new =
     let parts = and_parts (not (names ids x)) (is_distinct ids) distinct in
@@ -32,10 +34,12 @@ distinct-behind (x ∷ ids) id distinct new =
       | inl here ↦ absurd (let clash : true ≡ false = rw here at new in cc)
       | inr other ↦
           and_from (not (names (ids ++ id ∷ []) x)) (is_distinct (ids ++ id ∷ []))
-          (ap not (names-apart ids id x (apart-back id x other) (no-name (names ids x) parts.0))) (distinct-behind ids id parts.1 (rw other at new))
+          (ap not (names-apart ids id x (apart-back id x other) (no-name (names ids x) parts.0))) (distinct-behind ids
+          id parts.1 (rw other at new))
     ]
 
-names-kept : (test : ActionId → Bool) (ids : List ActionId) (x : ActionId) → names ids x ≡ false → names (filter test ids) x ≡ false
+names-kept : (test : ActionId → Bool) (ids : List ActionId) (x : ActionId) → names ids x ≡ false →
+    names (filter test ids) x ≡ false
 names-kept test [] x none = refl
 names-kept test (y ∷ ids) x none = elim (cases_Bool (same_id x y)) [
   | inl here ↦ absurd (let clash : true ≡ false = rw here at none in cc)
@@ -48,12 +52,14 @@ names-kept test (y ∷ ids) x none = elim (cases_Bool (same_id x y)) [
 ]
 
 -- some of distinct names
-pub distinct-kept : (test : ActionId → Bool) (ids : List ActionId) → is_distinct ids ≡ true → is_distinct (filter test ids) ≡ true
+pub distinct-kept : (test : ActionId → Bool) (ids : List ActionId) → is_distinct ids ≡ true →
+    is_distinct (filter test ids) ≡ true
 distinct-kept test [] distinct = refl
 distinct-kept test (id ∷ ids) distinct =
     let parts = and_parts (not (names ids id)) (is_distinct ids) distinct in
     let rest = distinct-kept test ids parts.1 in
     elim (cases_Bool (test id)) [
-      | inl stays ↦ rw stays (and_from (not (names (filter test ids) id)) (is_distinct (filter test ids)) (ap not (names-kept test ids id (no-name (names ids id) parts.0))) rest)
+      | inl stays ↦ rw stays (and_from (not (names (filter test ids) id)) (is_distinct (filter test ids))
+          (ap not (names-kept test ids id (no-name (names ids id) parts.0))) rest)
       | inr goes ↦ rw goes rest
     ]

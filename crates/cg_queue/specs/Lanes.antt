@@ -16,7 +16,8 @@ rows_of lanes = lane_at deque_items lanes.rows.items
 
 -- there is a row at the slot, and its capacity is above its length
 abbrev pub RoomAt : {R : Type 0} → (R → ℕ) → (R → ℕ) → List R → ℕ → Type 0
-RoomAt {R} len capacity rows slot = (slot < length rows) × ((row : R) → row ≡ get_or rows slot row → len row < capacity row)
+RoomAt {R} len capacity rows slot = (slot < length rows)
+    × ((row : R) → row ≡ get_or rows slot row → len row < capacity row)
 
 -- the row of a slot has room for one thing more
 abbrev pub HasRoom : {T : Type 0} → Lanes T → ℕ → Type 0

@@ -57,7 +57,8 @@ marked_red q a =
 -- a name comes to the end of the yellow list, where its action is neither green nor yellow
 abbrev pub with_yellow : QueueView → ActionId → QueueView
 with_yellow q id =
-    if nat_lt (index_in q.green_cut id.creator) id.index && not (names q.yellow id) then record q { yellow = q.yellow ++ id ∷ [] } else q
+    if nat_lt (index_in q.green_cut id.creator) id.index && not (names q.yellow id)
+    then record q { yellow = q.yellow ++ id ∷ [] } else q
 
 abbrev pub and_yellow : ActionId → Marking → Marking
 and_yellow id (Marks mark q) = Marks mark (with_yellow q id)

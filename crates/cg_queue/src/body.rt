@@ -124,7 +124,8 @@ pub(crate) fn add_red(body: &mut Body, a: Action, is_yellow: bool)
 /// Makes room for one more red of a creator, and for its name among the yellow ones.
 pub(crate) fn make_yellow_room(body: &mut Body, id: &ActionId) -> Result<(), NoMemory>
     ensures same { parts_of body.new ≡ parts_of body.old }
-    ensures room { OnOk result (HasRoom body.new.reds (lane_of id.now) × (vec_len body.new.yellow < vec_capacity body.new.yellow)) }
+    ensures room { OnOk result (HasRoom body.new.reds (lane_of id.now)
+        × (vec_len body.new.yellow < vec_capacity body.new.yellow)) }
 {
     body.yellow.reserve(1)?;
     body.reds.make_room(lane_of(id))
@@ -178,7 +179,8 @@ pub(crate) fn add_green(body: &mut Body, a: Action) -> Result<(), NoMemory>
 }
 
 fn push_green(body: &mut Body, a: Action) -> Result<(), NoMemory>
-    ensures ok { OnOk result (parts_of body.new ≡ record (parts_of body.old) { greens = body.old.greens.items ++ a ∷ [] }) }
+    ensures ok { OnOk result (parts_of body.new ≡
+        record (parts_of body.old) { greens = body.old.greens.items ++ a ∷ [] }) }
     ensures err { OnErr result (parts_of body.new ≡ parts_of body.old) }
 {
     body.greens.push_back(a)?;
@@ -198,8 +200,10 @@ fn settle_green(body: &mut Body, id: &ActionId, slot: usize)
 pub(crate) fn turn_first(body: &mut Body, slot: usize) -> Result<(), NoMemory>
     requires few { body.old.white + length body.old.greens.items < 2 ^ 62 }
     requires slot { slot < 32 }
-    ensures ok { OnOk result (MatchOption (slice_get (rows_of body.old.reds slot) 0) (parts_of body.new ≡ parts_of body.old)
-        (λ r. (r.action.id.index < 2 ^ 64) × (lane_of r.action.id ≡ slot → parts_of body.new ≡ added_green (parts_of body.old) r.action))) }
+    ensures ok { OnOk
+        result (MatchOption (slice_get (rows_of body.old.reds slot) 0) (parts_of body.new ≡ parts_of body.old)
+        (λ r. (r.action.id.index < 2 ^ 64) × (lane_of r.action.id ≡ slot →
+        parts_of body.new ≡ added_green (parts_of body.old) r.action))) }
     ensures err { OnErr result (parts_of body.new ≡ parts_of body.old) }
 {
     let id = match body.reds.get(slot, 0) {

@@ -53,7 +53,8 @@ impl<T> Lanes<T> {
     where
         T: Drop,
         requires { slot < 32 }
-        ensures ok { OnOk result (rows_of self.new ≡ with_lane (rows_of self.old) slot (rows_of self.old slot ++ item ∷ [])) }
+        ensures ok { OnOk result (rows_of self.new ≡
+            with_lane (rows_of self.old) slot (rows_of self.old slot ++ item ∷ [])) }
         ensures err { OnErr result (rows_of self.new ≡ rows_of self.old) }
     {
         self.make_room(slot)?;

@@ -155,7 +155,8 @@ impl Queue {
     pub fn turn_green(&mut self, id: ActionId) -> Result<(), NoMemory>
         requires few { green_count self.old < 2 ^ 62 }
         requires next { id.index ≡ suc (index_in self.old.green_cut id.creator) }
-        ensures ok { OnOk result (MatchOption (action_of self.old id) (self.new ≡ self.old) (λ a. self.new ≡ placed_green self.old a)) }
+        ensures ok { OnOk result (MatchOption (action_of self.old id) (self.new ≡ self.old) (λ a. self.new ≡
+            placed_green self.old a)) }
         ensures err { OnErr result (self.new ≡ self.old) }
     {
         let was_yellow = starts_yellow(&self.body, &id);
@@ -229,7 +230,8 @@ impl Queue {
     /// The reds of a creator whose index is above this one, in order. Its time doesn't depend on how many others there
     /// are.
     pub fn reds_above(&self, creator: ReplicaId, index: u64) -> Result<ActionList, NoMemory>
-        ensures { IfOk result (λ list. list ≡ filter (λ a. (a.id.creator == creator) && nat_lt index a.id.index) self.now.reds) }
+        ensures { IfOk result (λ list. list ≡
+            filter (λ a. (a.id.creator == creator) && nat_lt index a.id.index) self.now.reds) }
     {
         let slot = lane_of(&ActionId { creator, index });
         let first = index.saturating_sub(self.body.green_cut.get(creator)) as usize;
@@ -400,7 +402,8 @@ fn action_at(reds: &Lanes<Red>, slot: usize, i: usize) -> Option<&Action>
 }
 
 fn count_in(reds: &Lanes<Red>) -> Option<u32>
-    ensures { MatchOption result (2 ^ 32 ≤ length (all_reds (rows_of reds.now))) (λ count. count ≡ length (all_reds (rows_of reds.now))) }
+    ensures { MatchOption result (2 ^ 32 ≤ length (all_reds (rows_of reds.now))) (λ count. count ≡
+        length (all_reds (rows_of reds.now))) }
 {
     let mut count: usize = 0;
     for slot in 0..32 {
@@ -448,7 +451,9 @@ fn copy_reds_from(
 fn add_plain_names(body: &Body, slot: usize, ids: &mut IdRuns) -> Result<(), NoMemory>
     requires slot { slot < 32 }
     requires lane { IsLane (parts_of body.now) slot }
-    ensures { OnOk result (ids.new ≡ ids.old ++ filter (λ id. not (names (seen (parts_of body.now)).yellow id)) (names_of (actions_in (rows_of body.now.reds slot)))) }
+    ensures { OnOk result (ids.new ≡ ids.old
+        ++ filter (λ id. not (names (seen (parts_of body.now)).yellow id))
+        (names_of (actions_in (rows_of body.now.reds slot)))) }
 {
     let creator = ReplicaId::known(slot as u8 + 1);
     let low = body.green_cut.get(creator);
@@ -503,7 +508,8 @@ fn push_red_at(
     i: usize,
     list: &mut ActionList,
 ) -> Result<(), NoMemory>
-    ensures { OnOk result (list.new ++ actions_in (drop (suc i) (rows_of reds.now slot)) ≡ list.old ++ actions_in (drop i (rows_of reds.now slot))) }
+    ensures { OnOk result (list.new ++ actions_in (drop (suc i) (rows_of reds.now slot)) ≡
+        list.old ++ actions_in (drop i (rows_of reds.now slot))) }
 {
     match reds.get(slot, i) {
         Some(red) => push_copy(alloc, &red.action, list),

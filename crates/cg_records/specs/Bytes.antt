@@ -43,4 +43,5 @@ spelled_yellow y = truth y.valid ++ spelled_names y.list
 -- what a replica keeps beside its actions
 unfoldable pub spelled_stable : Stable → List ℕ
 spelled_stable s =
-    spelled_prim s.prim ++ (number64 s.attempt_index ++ (optional spelled_vulnerable s.vulnerable ++ (spelled_yellow s.yellow ++ number64 s.created)))
+    spelled_prim s.prim ++ (number64 s.attempt_index
+    ++ (optional spelled_vulnerable s.vulnerable ++ (spelled_yellow s.yellow ++ number64 s.created)))

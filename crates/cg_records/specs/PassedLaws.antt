@@ -33,13 +33,17 @@ pub record Weighs (last : ℕ) (m : Weighted) : Type 0 where
 abbrev weighted : ℕ → ℕ → Weighted
 weighted id weight = record { id = id; weight = weight }
 
-pub weighted_above-ok : (last : ℕ) (m : Weighted) (old new : Unread) → take_weighted_above last old ≡ Ok (m, new) → Weighs last m
+pub weighted_above-ok : (last : ℕ) (m : Weighted) (old new : Unread) →
+    take_weighted_above last old ≡ Ok (m, new) → Weighs last m
 unfolding take_weighted_above
 weighted_above-ok last m old new e =
     let first = go_on-ok (take_id_above last old) (λ id. take_weight >>= λ weight. done (weighted id weight)) m new e in
     let second = go_on-ok (take_weight first.1) (λ weight. done (weighted first.0 weight)) m new first.3 in
     let same = given (weighted first.0 second.0) m second.1 new second.3 in
-    rw (← same.0) record { above = (id_above-ok last first.0 old first.1 first.2).0; weight = weight-ok second.0 first.1 second.1 second.2 }
+    rw (← same.0) record {
+      above = (id_above-ok last first.0 old first.1 first.2).0;
+      weight = weight-ok second.0 first.1 second.1 second.2;
+    }
 
 -- what the name of an action has
 pub record Names (last : ℕ) (id : ActionId) : Type 0 where
@@ -49,10 +53,15 @@ pub record Names (last : ℕ) (id : ActionId) : Type 0 where
 abbrev name : ℕ → ℕ → ActionId
 name creator index = record { creator = creator; index = index }
 
-pub name_above-ok : (last : ℕ) (id : ActionId) (old new : Unread) → take_name_above last old ≡ Ok (id, new) → Names last id
+pub name_above-ok : (last : ℕ) (id : ActionId) (old new : Unread) →
+    take_name_above last old ≡ Ok (id, new) → Names last id
 unfolding take_name_above
 name_above-ok last id old new e =
-    let first = go_on-ok (take_id_above last old) (λ creator. take_index >>= λ index. done (name creator index)) id new e in
+    let first = go_on-ok (take_id_above last old) (λ creator. take_index >>=
+    λ index. done (name creator index)) id new e in
     let second = go_on-ok (take_index first.1) (λ index. done (name first.0 index)) id new first.3 in
     let same = given (name first.0 second.0) id second.1 new second.3 in
-    rw (← same.0) record { above = (id_above-ok last first.0 old first.1 first.2).0; index = (index-ok second.0 first.1 second.1 second.2).0 }
+    rw (← same.0) record {
+      above = (id_above-ok last first.0 old first.1 first.2).0;
+      index = (index-ok second.0 first.1 second.1 second.2).0;
+    }

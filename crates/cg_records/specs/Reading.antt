@@ -36,7 +36,8 @@ take_weight left = only (nat_lt 0) take_u8 left
 
 -- a member with its weight
 unfoldable pub take_weighted_above : ℕ → Reading Weighted
-take_weighted_above last left = (take_id_above last >>= λ id. take_weight >>= λ weight. done (record { id = id; weight = weight })) left
+take_weighted_above last left =
+    (take_id_above last >>= λ id. take_weight >>= λ weight. done (record { id = id; weight = weight })) left
 
 -- a set with weights
 unfoldable pub take_weight_set : Reading (List Weighted)
@@ -44,7 +45,8 @@ take_weight_set left = take_list 32 (λ taken. take_weighted_above (last_of (ids
 
 -- the name of an action, of a creator above the given one
 unfoldable pub take_name_above : ℕ → Reading ActionId
-take_name_above last left = (take_id_above last >>= λ creator. take_index >>= λ index. done (record { creator = creator; index = index })) left
+take_name_above last left =
+    (take_id_above last >>= λ creator. take_index >>= λ index. done (record { creator = creator; index = index })) left
 
 -- a cut
 unfoldable pub take_cut : Reading (List ActionId)
@@ -77,5 +79,12 @@ take_yellow left = (take_truth >>= λ valid. take_names >>= λ list. done (recor
 -- what a replica keeps beside its actions
 unfoldable pub take_stable : Reading Stable
 take_stable left =
-    (take_prim >>= λ prim. take_number >>= λ attempt_index. take_maybe_vulnerable >>= λ vulnerable. take_yellow >>= λ yellow. take_number >>= λ created.
-    done (record { prim = prim; attempt_index = attempt_index; vulnerable = vulnerable; yellow = yellow; created = created })) left
+    (take_prim >>= λ prim. take_number >>= λ attempt_index. take_maybe_vulnerable >>= λ vulnerable. take_yellow >>=
+    λ yellow. take_number >>= λ created.
+    done (record {
+      prim = prim;
+      attempt_index = attempt_index;
+      vulnerable = vulnerable;
+      yellow = yellow;
+      created = created;
+    })) left

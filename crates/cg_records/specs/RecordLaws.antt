@@ -40,7 +40,8 @@ map-push key (y ∷ xs) x = ap (λ ks. key y ∷ ks) (map-push key xs x)
 pub number_field : IsField IsNumber number64 take_number
 unfolding take_number
 number_field =
-    field_has (λ n. IsBelow (2 ^ 64) n × (ltb n (2 ^ 63) ≡ true)) IsNumber number64 (only (λ n. ltb n (2 ^ 63)) take_u64)
+    field_has (λ n. IsBelow (2 ^ 64) n × (ltb n (2 ^ 63) ≡ true)) IsNumber
+    number64 (only (λ n. ltb n (2 ^ 63)) take_u64)
     (λ n has. ltb-true n (2 ^ 63) has.1) (λ n has. (omega arith, lt-ltb n (2 ^ 63) has))
     (field_only (IsBelow (2 ^ 64)) number64 take_u64 (λ n. ltb n (2 ^ 63)) u64_field)
 
@@ -53,7 +54,8 @@ index_passes n has = and_from (ltb 0 n) (ltb n (2 ^ 63)) (lt-ltb 0 n has.0) (lt-
 index_field : IsField IsIndex number64 take_index
 unfolding take_index
 index_field =
-    field_has (λ n. IsBelow (2 ^ 64) n × ((ltb 0 n && ltb n (2 ^ 63)) ≡ true)) IsIndex number64 (only (λ n. ltb 0 n && ltb n (2 ^ 63)) take_u64)
+    field_has (λ n. IsBelow (2 ^ 64) n × ((ltb 0 n && ltb n (2 ^ 63)) ≡ true)) IsIndex
+    number64 (only (λ n. ltb 0 n && ltb n (2 ^ 63)) take_u64)
     (λ n has. is_index n has.1) (λ n has. (let small : n < 2 ^ 63 = has.1 in omega arith, index_passes n has))
     (field_only (IsBelow (2 ^ 64)) number64 take_u64 (λ n. ltb 0 n && ltb n (2 ^ 63)) u64_field)
 
@@ -75,15 +77,20 @@ Follows last id = (last < id) × (id ≤ 32)
 pub id_field : (last : ℕ) → IsField (Follows last) byte (take_id_above last)
 unfolding take_id_above
 id_field last =
-    field_has (λ n. IsBelow 256 n × ((ltb last n && leb n 32) ≡ true)) (Follows last) byte (only (λ n. ltb last n && leb n 32) take_u8)
+    field_has (λ n. IsBelow 256 n × ((ltb last n && leb n 32) ≡ true)) (Follows last)
+    byte (only (λ n. ltb last n && leb n 32) take_u8)
     (λ n has. let parts = and_parts (ltb last n) (leb n 32) has.1 in (ltb-true last n parts.0, leb-true n 32 parts.1))
-    (λ n has. (let high : n ≤ 32 = has.1 in omega arith, and_from (ltb last n) (leb n 32) (lt-ltb last n has.0) (le-leb n 32 has.1)))
+    (λ n has. (
+      let high : n ≤ 32 = has.1 in omega arith,
+      and_from (ltb last n) (leb n 32) (lt-ltb last n has.0) (le-leb n 32 has.1),
+    ))
     (field_only (IsBelow 256) byte take_u8 (λ n. ltb last n && leb n 32) u8_field)
 
 pub any_id_field : IsField IsId byte (take_id_above 0)
 any_id_field =
     field_has (Follows 0) IsId byte (take_id_above 0)
-    (λ n has. let low : 0 < n = has.0 in (omega arith, has.1)) (λ n has. let low : 1 ≤ n = has.0 in (omega arith, has.1)) (id_field 0)
+    (λ n has. let low : 0 < n = has.0 in (omega arith, has.1)) (λ n has. let low : 1 ≤ n = has.0 in
+    (omega arith, has.1)) (id_field 0)
 
 -- ---- names and members
 
@@ -96,10 +103,14 @@ member id weight = record { id = id; weight = weight }
 weighted_field : (last : ℕ) → IsField (FollowsWeighted last) spelled_weighted (take_weighted_above last)
 unfolding spelled_weighted take_weighted_above
 weighted_field last =
-    field_bind (λ (m : Weighted). m.id) (Follows last) byte (take_id_above last) (FollowsWeighted last) (λ (m : Weighted). byte m.weight) (λ id. take_weight >>= λ weight. done (member id weight))
+    field_bind (λ (m : Weighted). m.id) (Follows last)
+    byte (take_id_above last) (FollowsWeighted last) (λ (m : Weighted). byte m.weight) (λ id. take_weight >>=
+    λ weight. done (member id weight))
     (λ m has. has.0) (id_field last)
-    (λ id follows. field_map (member id) (λ (m : Weighted). m.weight) IsWeight byte take_weight (λ (m : Weighted). FollowsWeighted last m × (m.id ≡ id))
-    (λ m has. (has.0.1, ap (λ p. member p m.weight) (sym has.1))) (λ weight has. (((follows, has), refl), refl)) weight_field)
+    (λ id follows. field_map (member id) (λ (m : Weighted). m.weight) IsWeight byte
+    take_weight (λ (m : Weighted). FollowsWeighted last m × (m.id ≡ id))
+    (λ m has. (has.0.1, ap (λ p. member p m.weight) (sym has.1))) (λ weight
+    has. (((follows, has), refl), refl)) weight_field)
 
 abbrev FollowsName : ℕ → ActionId → Type 0
 FollowsName last id = Follows last id.creator × IsIndex id.index
@@ -110,15 +121,21 @@ name creator index = record { creator = creator; index = index }
 name_field : (last : ℕ) → IsField (FollowsName last) spelled_id (take_name_above last)
 unfolding take_name_above
 name_field last =
-    field_bind (λ (id : ActionId). id.creator) (Follows last) byte (take_id_above last) (FollowsName last) (λ (id : ActionId). number64 id.index) (λ creator. take_index >>= λ index. done (name creator index))
+    field_bind (λ (id : ActionId). id.creator) (Follows last)
+    byte (take_id_above last) (FollowsName last) (λ (id : ActionId). number64 id.index) (λ creator. take_index >>=
+    λ index. done (name creator index))
     (λ id has. has.0) (id_field last)
-    (λ creator follows. field_map (name creator) (λ (id : ActionId). id.index) IsIndex number64 take_index (λ (id : ActionId). FollowsName last id × (id.creator ≡ creator))
-    (λ id has. (has.0.1, ap (λ p. name p id.index) (sym has.1))) (λ index has. (((follows, has), refl), refl)) index_field)
+    (λ creator follows. field_map (name creator) (λ (id : ActionId). id.index) IsIndex number64
+    take_index (λ (id : ActionId). FollowsName last id × (id.creator ≡ creator))
+    (λ id has. (has.0.1, ap (λ p. name p id.index) (sym has.1))) (λ index
+    has. (((follows, has), refl), refl)) index_field)
 
 any_name_field : IsField IsName spelled_id (take_name_above 0)
 any_name_field =
     field_has (FollowsName 0) IsName spelled_id (take_name_above 0)
-    (λ id has. let low : 0 < id.creator = has.0.0 in ((omega arith, has.0.1), has.1)) (λ id has. let low : 1 ≤ id.creator = has.0.0 in ((omega arith, has.0.1), has.1)) (name_field 0)
+    (λ id has. let low : 0 < id.creator = has.0.0 in
+    ((omega arith, has.0.1), has.1)) (λ id has. let low : 1 ≤ id.creator = has.0.0 in
+    ((omega arith, has.0.1), has.1)) (name_field 0)
 
 -- ---- lists whose keys ascend
 
@@ -130,20 +147,24 @@ Behind key P keys taken x = Follows (last_of (keys taken)) (key x) × P x
 abbrev Pushes : {X : Type 0} → (X → ℕ) → (List X → List ℕ) → Type 0
 Pushes {X} key keys = (xs : List X) (x : X) → keys (xs ++ x ∷ []) ≡ keys xs ++ key x ∷ []
 
-behind-ascends : {X : Type 0} (key : X → ℕ) (P : X → Type 0) (keys : List X → List ℕ) (push : Pushes key keys) (xs taken : List X)
+behind-ascends : {X : Type 0} (key : X → ℕ) (P : X → Type 0) (keys : List X →
+    List ℕ) (push : Pushes key keys) (xs taken : List X)
     → EachBehind (Behind key P keys) taken xs → Ascends (suc (last_of (keys taken))) (map key xs) × Each P xs
 behind-ascends key P keys push [] taken behind = (tt, tt)
 behind-ascends {X} key P keys push (x ∷ xs) taken behind =
-    let last : last_of (keys (taken ++ x ∷ [])) ≡ key x = ap last_of (push taken x) ∙ last_of-push (keys taken) (key x) in
+    let last : last_of (keys (taken ++ x ∷ [])) ≡ key x =
+    ap last_of (push taken x) ∙ last_of-push (keys taken) (key x) in
     let rest = behind-ascends key P keys push xs (taken ++ x ∷ []) behind.1 in
     let more : Ascends (suc (key x)) (map key xs) = rw last at rest.0 in
     ((behind.0.0.0, behind.0.0.1, more), (behind.0.1, rest.1))
 
-ascends-behind : {X : Type 0} (key : X → ℕ) (P : X → Type 0) (keys : List X → List ℕ) (push : Pushes key keys) (xs taken : List X)
+ascends-behind : {X : Type 0} (key : X → ℕ) (P : X → Type 0) (keys : List X →
+    List ℕ) (push : Pushes key keys) (xs taken : List X)
     → Ascends (suc (last_of (keys taken))) (map key xs) → Each P xs → EachBehind (Behind key P keys) taken xs
 ascends-behind key P keys push [] taken ascends each = tt
 ascends-behind {X} key P keys push (x ∷ xs) taken ascends each =
-    let last : last_of (keys (taken ++ x ∷ [])) ≡ key x = ap last_of (push taken x) ∙ last_of-push (keys taken) (key x) in
+    let last : last_of (keys (taken ++ x ∷ [])) ≡ key x =
+    ap last_of (push taken x) ∙ last_of-push (keys taken) (key x) in
     let more : Ascends (suc (last_of (keys (taken ++ x ∷ [])))) (map key xs) = rw last ascends.2 in
     (((ascends.0, ascends.1), each.0), ascends-behind key P keys push xs (taken ++ x ∷ []) more each.1)
 
@@ -152,10 +173,13 @@ pub record IsAscendingList {X : Type 0} (key : X → ℕ) (P : X → Type 0) (xs
   ascends : Ascends 1 (map key xs)
   each : Each P xs
 
-ascending_field : {X : Type 0} (key : X → ℕ) (P : X → Type 0) (keys : List X → List ℕ) (push : Pushes key keys) (none : last_of (keys []) ≡ 0) (spelling : X → List ℕ) (item : List X → Reading X)
-    → ((taken : List X) → IsField (Behind key P keys taken) spelling (item taken)) → IsField (IsAscendingList key P) (list spelling) (take_list 32 item)
+ascending_field : {X : Type 0} (key : X → ℕ) (P : X → Type 0) (keys : List X →
+    List ℕ) (push : Pushes key keys) (none : last_of (keys []) ≡ 0) (spelling : X → List ℕ) (item : List X → Reading X)
+    → ((taken : List X) → IsField (Behind key P keys taken) spelling (item taken)) →
+    IsField (IsAscendingList key P) (list spelling) (take_list 32 item)
 ascending_field {X} key P keys push none spelling item fields =
-    field_has (λ (xs : List X). (length xs ≤ 32) × EachBehind (Behind key P keys) [] xs) (IsAscendingList key P) (list spelling) (take_list 32 item)
+    field_has (λ (xs : List X). (length xs ≤ 32)
+    × EachBehind (Behind key P keys) [] xs) (IsAscendingList key P) (list spelling) (take_list 32 item)
     (λ xs has. let a = behind-ascends key P keys push xs [] has.1 in record { ascends = rw none at a.0; each = a.1 })
     (λ xs has. (
       omega (arith, length-Ascends (map key xs) 1 (omega arith) has.ascends, length-map xs key),
@@ -175,8 +199,10 @@ set_field =
     field_has (IsAscendingList (λ p. p) (λ _. Unit {0})) IsSet (list byte) take_set
     (λ set has. record { ascends = rw map-itself at has.ascends })
     (λ set has. record { ascends = rw map-itself has.ascends; each = nothing set })
-    (ascending_field (λ p. p) (λ _. Unit {0}) (λ set. set) (λ set p. refl) refl byte (λ taken. take_id_above (last_of taken))
-    (λ taken. field_has (Follows (last_of taken)) (λ p. Follows (last_of taken) p × Unit {0}) byte (take_id_above (last_of taken)) (λ p has. (has, tt)) (λ p has. has.0) (id_field (last_of taken))))
+    (ascending_field (λ p. p) (λ _. Unit {0}) (λ set. set) (λ set p. refl) refl
+    byte (λ taken. take_id_above (last_of taken))
+    (λ taken. field_has (Follows (last_of taken)) (λ p. Follows (last_of taken) p × Unit {0})
+    byte (take_id_above (last_of taken)) (λ p has. (has, tt)) (λ p has. has.0) (id_field (last_of taken))))
 
 weigh : (set : List Weighted) → Each (λ m. IsWeight m.weight) set → Weigh set
 weigh [] each = tt
@@ -190,15 +216,21 @@ pub weight_set_field : IsField IsWeightSet spelled_weight_set take_weight_set
 unfolding spelled_weight_set take_weight_set
 weight_set_field =
     field_has (IsAscendingList (λ m. m.id) (λ m. IsWeight m.weight)) IsWeightSet (list spelled_weighted) take_weight_set
-    (λ set has. record { ascends = has.ascends; weigh = weigh set has.each }) (λ set has. record { ascends = has.ascends; each = weighed set has.weigh })
-    (ascending_field (λ m. m.id) (λ m. IsWeight m.weight) ids (λ set m. map-push (λ n. n.id) set m) refl spelled_weighted (λ taken. take_weighted_above (last_of (ids taken))) (λ taken. weighted_field (last_of (ids taken))))
+    (λ set has. record { ascends = has.ascends; weigh = weigh set has.each }) (λ set
+    has. record { ascends = has.ascends; each = weighed set has.weigh })
+    (ascending_field (λ m. m.id) (λ m. IsWeight m.weight) ids (λ set m. map-push (λ n. n.id) set m) refl
+    spelled_weighted (λ taken. take_weighted_above (last_of (ids taken)))
+    (λ taken. weighted_field (last_of (ids taken))))
 
 pub cut_field : IsField IsSmallCut spelled_cut take_cut
 unfolding spelled_cut take_cut
 cut_field =
     field_has (IsAscendingList (λ t. t.creator) (λ t. IsIndex t.index)) IsSmallCut (list spelled_id) take_cut
-    (λ cut has. record { ascends = has.ascends; indexes = has.each }) (λ cut has. record { ascends = has.ascends; each = has.indexes })
-    (ascending_field (λ t. t.creator) (λ t. IsIndex t.index) creators_in (λ cut t. map-push (λ u. u.creator) cut t) refl spelled_id (λ taken. take_name_above (last_of (creators_in taken))) (λ taken. name_field (last_of (creators_in taken))))
+    (λ cut has. record { ascends = has.ascends; indexes = has.each }) (λ cut
+    has. record { ascends = has.ascends; each = has.indexes })
+    (ascending_field (λ t. t.creator) (λ t. IsIndex t.index) creators_in (λ cut t. map-push (λ u. u.creator) cut t) refl
+    spelled_id (λ taken. take_name_above (last_of (creators_in taken)))
+    (λ taken. name_field (last_of (creators_in taken))))
 
 -- ---- names in any order
 
@@ -219,9 +251,11 @@ names_field : IsField AreNames spelled_names take_names
 unfolding spelled_names take_names
 names_field =
     field_has (λ ids. (length ids ≤ 2 ^ 32 - 1) × EachBehind (λ _. IsName) [] ids) AreNames (list spelled_id) take_names
-    (λ ids has. let short : length ids ≤ 2 ^ 32 - 1 = has.0 in record { short = omega arith; names = each-behind ids [] has.1 })
+    (λ ids has. let short : length ids ≤ 2 ^ 32 - 1 = has.0 in
+    record { short = omega arith; names = each-behind ids [] has.1 })
     (λ ids has. let short = has.short in (omega arith, behind-each ids [] has.names))
-    (field_list (2 ^ 32 - 1) (λ _. IsName) spelled_id (λ _. take_name_above 0) (count_field (2 ^ 32 - 1) (omega arith)) (λ _. any_name_field))
+    (field_list (2 ^ 32 - 1) (λ _. IsName)
+    spelled_id (λ _. take_name_above 0) (count_field (2 ^ 32 - 1) (omega arith)) (λ _. any_name_field))
 
 -- ---- records
 
@@ -231,13 +265,17 @@ prim_is index conf set = record { index = index; conf = conf; set = set }
 pub prim_field : IsField IsPrimary spelled_prim take_prim
 unfolding spelled_prim take_prim
 prim_field =
-    field_bind (λ (p : Primary). p.index) IsNumber number64 take_number IsPrimary (λ (p : Primary). number64 p.conf ++ spelled_weight_set p.set)
-    (λ index. take_number >>= λ conf. take_weight_set >>= λ set. done (prim_is index conf set)) (λ p has. has.index) number_field
+    field_bind (λ (p : Primary). p.index) IsNumber number64 take_number
+    IsPrimary (λ (p : Primary). number64 p.conf ++ spelled_weight_set p.set)
+    (λ index. take_number >>= λ conf. take_weight_set >>= λ set. done (prim_is index conf set)) (λ p
+    has. has.index) number_field
     (λ index is_index.
-    field_bind (λ (p : Primary). p.conf) IsNumber number64 take_number (λ (p : Primary). IsPrimary p × (p.index ≡ index)) (λ (p : Primary). spelled_weight_set p.set)
+    field_bind (λ (p : Primary). p.conf) IsNumber number64
+    take_number (λ (p : Primary). IsPrimary p × (p.index ≡ index)) (λ (p : Primary). spelled_weight_set p.set)
     (λ conf. take_weight_set >>= λ set. done (prim_is index conf set)) (λ p has. has.0.conf) number_field
     (λ conf is_conf.
-    field_map (prim_is index conf) (λ (p : Primary). p.set) IsWeightSet spelled_weight_set take_weight_set (λ (p : Primary). (IsPrimary p × (p.index ≡ index)) × (p.conf ≡ conf))
+    field_map (prim_is index conf) (λ (p : Primary). p.set) IsWeightSet spelled_weight_set
+    take_weight_set (λ (p : Primary). (IsPrimary p × (p.index ≡ index)) × (p.conf ≡ conf))
     (λ p has. (has.0.0.set, rw (← has.0.1, ← has.1) refl))
     (λ set is_set. (((record { index = is_index; conf = is_conf; set = is_set }, refl), refl), refl)) weight_set_field))
 
@@ -247,18 +285,31 @@ vulnerable_is attempt from set bits = record { attempt = attempt; from = from; s
 pub vulnerable_field : IsField IsVulnerable spelled_vulnerable take_vulnerable
 unfolding spelled_vulnerable take_vulnerable
 vulnerable_field =
-    field_bind (λ (v : Vulnerable). v.attempt) IsNumber number64 take_number IsVulnerable (λ (v : Vulnerable). number64 v.from ++ (spelled_set v.set ++ spelled_set v.bits))
-    (λ attempt. take_number >>= λ from. take_set >>= λ set. take_set >>= λ bits. done (vulnerable_is attempt from set bits)) (λ v has. has.attempt) number_field
+    field_bind (λ (v : Vulnerable). v.attempt) IsNumber number64 take_number
+    IsVulnerable (λ (v : Vulnerable). number64 v.from ++ (spelled_set v.set ++ spelled_set v.bits))
+    (λ attempt. take_number >>= λ from. take_set >>= λ set. take_set >>=
+    λ bits. done (vulnerable_is attempt from set bits)) (λ v has. has.attempt) number_field
     (λ attempt is_attempt.
-    field_bind (λ (v : Vulnerable). v.from) IsNumber number64 take_number (λ (v : Vulnerable). IsVulnerable v × (v.attempt ≡ attempt)) (λ (v : Vulnerable). spelled_set v.set ++ spelled_set v.bits)
-    (λ from. take_set >>= λ set. take_set >>= λ bits. done (vulnerable_is attempt from set bits)) (λ v has. has.0.from) number_field
+    field_bind (λ (v : Vulnerable). v.from) IsNumber number64 take_number (λ (v : Vulnerable). IsVulnerable v
+    × (v.attempt ≡ attempt)) (λ (v : Vulnerable). spelled_set v.set ++ spelled_set v.bits)
+    (λ from. take_set >>= λ set. take_set >>= λ bits. done (vulnerable_is attempt from set bits)) (λ v
+    has. has.0.from) number_field
     (λ from is_from.
-    field_bind (λ (v : Vulnerable). v.set) IsSet spelled_set take_set (λ (v : Vulnerable). (IsVulnerable v × (v.attempt ≡ attempt)) × (v.from ≡ from)) (λ (v : Vulnerable). spelled_set v.bits)
+    field_bind (λ (v : Vulnerable). v.set) IsSet spelled_set
+    take_set (λ (v : Vulnerable). (IsVulnerable v × (v.attempt ≡ attempt))
+    × (v.from ≡ from)) (λ (v : Vulnerable). spelled_set v.bits)
     (λ set. take_set >>= λ bits. done (vulnerable_is attempt from set bits)) (λ v has. has.0.0.set) set_field
     (λ set is_set.
-    field_map (vulnerable_is attempt from set) (λ (v : Vulnerable). v.bits) IsSet spelled_set take_set (λ (v : Vulnerable). ((IsVulnerable v × (v.attempt ≡ attempt)) × (v.from ≡ from)) × (v.set ≡ set))
+    field_map (vulnerable_is attempt from set) (λ (v : Vulnerable). v.bits) IsSet spelled_set
+    take_set (λ (v : Vulnerable). ((IsVulnerable v × (v.attempt ≡ attempt)) × (v.from ≡ from)) × (v.set ≡ set))
     (λ v has. (has.0.0.0.bits, rw (← has.0.0.1, ← has.0.1, ← has.1) refl))
-    (λ bits is_bits. ((((record { attempt = is_attempt; from = is_from; set = is_set; bits = is_bits }, refl), refl), refl), refl)) set_field)))
+    (λ bits is_bits. (
+      (
+        ((record { attempt = is_attempt; from = is_from; set = is_set; bits = is_bits }, refl), refl),
+        refl,
+      ),
+      refl,
+    )) set_field)))
 
 pub maybe_vulnerable_field : IsField IsMaybeVulnerable (optional spelled_vulnerable) take_maybe_vulnerable
 unfolding take_maybe_vulnerable
@@ -270,10 +321,12 @@ yellow_is valid list = record { valid = valid; list = list }
 pub yellow_field : IsField IsYellow spelled_yellow take_yellow
 unfolding spelled_yellow take_yellow
 yellow_field =
-    field_bind (λ (y : Yellow). y.valid) (λ (b : Bool). Unit {0}) truth take_truth IsYellow (λ (y : Yellow). spelled_names y.list) (λ valid. take_names >>= λ list. done (yellow_is valid list))
+    field_bind (λ (y : Yellow). y.valid) (λ (b : Bool). Unit {0}) truth take_truth
+    IsYellow (λ (y : Yellow). spelled_names y.list) (λ valid. take_names >>= λ list. done (yellow_is valid list))
     (λ y has. tt) truth_field
     (λ valid any.
-    field_map (yellow_is valid) (λ (y : Yellow). y.list) AreNames spelled_names take_names (λ (y : Yellow). IsYellow y × (y.valid ≡ valid))
+    field_map (yellow_is valid) (λ (y : Yellow). y.list) AreNames spelled_names
+    take_names (λ (y : Yellow). IsYellow y × (y.valid ≡ valid))
     (λ y has. (record { short = has.0.short; names = has.0.names }, rw (← has.1) refl))
     (λ ids has. ((record { short = has.short; names = has.names }, refl), refl)) names_field)
 
@@ -285,28 +338,59 @@ pub stable_field : IsField IsStable spelled_stable take_stable
 unfolding spelled_stable take_stable
 stable_field =
     field_bind (λ (s : Stable). s.prim) IsPrimary spelled_prim take_prim IsStable
-    (λ (s : Stable). number64 s.attempt_index ++ (optional spelled_vulnerable s.vulnerable ++ (spelled_yellow s.yellow ++ number64 s.created)))
-    (λ prim. take_number >>= λ attempt. take_maybe_vulnerable >>= λ vulnerable. take_yellow >>= λ yellow. take_number >>= λ created. done (stable_is prim attempt vulnerable yellow created))
+    (λ (s : Stable). number64 s.attempt_index
+    ++ (optional spelled_vulnerable s.vulnerable ++ (spelled_yellow s.yellow ++ number64 s.created)))
+    (λ prim. take_number >>= λ attempt. take_maybe_vulnerable >>= λ vulnerable. take_yellow >>= λ yellow. take_number
+    >>= λ created. done (stable_is prim attempt vulnerable yellow created))
     (λ s has. has.prim) prim_field
     (λ prim is_prim.
-    field_bind (λ (s : Stable). s.attempt_index) IsNumber number64 take_number (λ (s : Stable). IsStable s × (s.prim ≡ prim))
+    field_bind (λ (s : Stable). s.attempt_index) IsNumber number64
+    take_number (λ (s : Stable). IsStable s × (s.prim ≡ prim))
     (λ (s : Stable). optional spelled_vulnerable s.vulnerable ++ (spelled_yellow s.yellow ++ number64 s.created))
-    (λ attempt. take_maybe_vulnerable >>= λ vulnerable. take_yellow >>= λ yellow. take_number >>= λ created. done (stable_is prim attempt vulnerable yellow created))
+    (λ attempt. take_maybe_vulnerable >>= λ vulnerable. take_yellow >>= λ yellow. take_number >>=
+    λ created. done (stable_is prim attempt vulnerable yellow created))
     (λ s has. has.0.attempt_index) number_field
     (λ attempt is_attempt.
-    field_bind (λ (s : Stable). s.vulnerable) IsMaybeVulnerable (optional spelled_vulnerable) take_maybe_vulnerable (λ (s : Stable). (IsStable s × (s.prim ≡ prim)) × (s.attempt_index ≡ attempt))
+    field_bind (λ (s : Stable). s.vulnerable) IsMaybeVulnerable (optional spelled_vulnerable)
+    take_maybe_vulnerable (λ (s : Stable). (IsStable s × (s.prim ≡ prim)) × (s.attempt_index ≡ attempt))
     (λ (s : Stable). spelled_yellow s.yellow ++ number64 s.created)
-    (λ vulnerable. take_yellow >>= λ yellow. take_number >>= λ created. done (stable_is prim attempt vulnerable yellow created))
+    (λ vulnerable. take_yellow >>= λ yellow. take_number >>=
+    λ created. done (stable_is prim attempt vulnerable yellow created))
     (λ s has. has.0.0.vulnerable) maybe_vulnerable_field
     (λ vulnerable is_vulnerable.
-    field_bind (λ (s : Stable). s.yellow) IsYellow spelled_yellow take_yellow (λ (s : Stable). ((IsStable s × (s.prim ≡ prim)) × (s.attempt_index ≡ attempt)) × (s.vulnerable ≡ vulnerable))
-    (λ (s : Stable). number64 s.created) (λ yellow. take_number >>= λ created. done (stable_is prim attempt vulnerable yellow created))
+    field_bind (λ (s : Stable). s.yellow) IsYellow spelled_yellow
+    take_yellow (λ (s : Stable). ((IsStable s × (s.prim ≡ prim)) × (s.attempt_index ≡ attempt))
+    × (s.vulnerable ≡ vulnerable))
+    (λ (s : Stable). number64 s.created) (λ yellow. take_number >>=
+    λ created. done (stable_is prim attempt vulnerable yellow created))
     (λ s has. has.0.0.0.yellow) yellow_field
     (λ yellow is_yellow.
     field_map (stable_is prim attempt vulnerable yellow) (λ (s : Stable). s.created) IsNumber number64 take_number
-    (λ (s : Stable). (((IsStable s × (s.prim ≡ prim)) × (s.attempt_index ≡ attempt)) × (s.vulnerable ≡ vulnerable)) × (s.yellow ≡ yellow))
+    (λ (s : Stable). (((IsStable s × (s.prim ≡ prim)) × (s.attempt_index ≡ attempt))
+    × (s.vulnerable ≡ vulnerable)) × (s.yellow ≡ yellow))
     (λ s has. (has.0.0.0.0.created, rw (← has.0.0.0.1, ← has.0.0.1, ← has.0.1, ← has.1) refl))
-    (λ created is_created. (((((record { prim = is_prim; attempt_index = is_attempt; vulnerable = is_vulnerable; yellow = is_yellow; created = is_created }, refl), refl), refl), refl), refl)) number_field))))
+    (λ created is_created. (
+      (
+        (
+          (
+            (
+              record {
+                prim = is_prim;
+                attempt_index = is_attempt;
+                vulnerable = is_vulnerable;
+                yellow = is_yellow;
+                created = is_created;
+              },
+              refl,
+            ),
+            refl,
+          ),
+          refl,
+        ),
+        refl,
+      ),
+      refl,
+    )) number_field))))
 
 pub stable_whole : IsWhole IsStable spelled_stable take_stable
 stable_whole = field_whole IsStable spelled_stable take_stable stable_field

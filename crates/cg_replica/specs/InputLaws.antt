@@ -30,7 +30,8 @@ delivery-read t (Message place from bytes) = message-read t place from (message_
 delivery-read t (TransitionalIn conf set) = refl
 delivery-read t (RegularIn conf set) = refl
 
-pub deliveries-read : (t : Turn) (list : List (Delivery (List ℕ))) → fold hear_delivery t list ≡ fold take t (read_all list)
+pub deliveries-read : (t : Turn) (list : List (Delivery (List ℕ))) →
+    fold hear_delivery t list ≡ fold take t (read_all list)
 deliveries-read t [] = refl
 deliveries-read t (d ∷ list) =
     ap (λ (now : Turn). fold hear_delivery now list) (delivery-read t d)
@@ -50,13 +51,15 @@ abbrev pub IsLetter : Delivery Msg → Type 0
 IsLetter (Message place from m) = IsMsg m
 IsLetter _ = Unit {0}
 
-letter-read : ((m : Msg) → IsMsg m → message_in (spelled_msg m) ≡ Some m) → (d : Delivery Msg) → IsLetter d → read (opened d) ≡ d ∷ []
+letter-read : ((m : Msg) → IsMsg m → message_in (spelled_msg m) ≡ Some m) → (d : Delivery Msg) → IsLetter d →
+    read (opened d) ≡ d ∷ []
 letter-read exact (Message place from m) is = ap (with_message place from) (exact m is)
 letter-read exact (TransitionalIn conf set) is = refl
 letter-read exact (RegularIn conf set) is = refl
 
 -- letters that are opened are read as what they say
-pub letters-read : ((m : Msg) → IsMsg m → message_in (spelled_msg m) ≡ Some m) → (list : List (Delivery Msg)) → Each IsLetter list →
+pub letters-read : ((m : Msg) → IsMsg m → message_in (spelled_msg m) ≡ Some m) →
+    (list : List (Delivery Msg)) → Each IsLetter list →
     read_all (map opened list) ≡ list
 letters-read exact [] each = refl
 letters-read exact (d ∷ list) each =

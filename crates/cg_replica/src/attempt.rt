@@ -23,7 +23,8 @@ pub(crate) enum InAttempt {
 }
 
 pub(crate) fn hear(s: InAttempt, draft: &mut Draft, d: &Delivery) -> Result<ConstructStep, NoMemory>
-    ensures turn { IfOk result (λ step. turn_after step draft.new ≡ hear_delivery (turn_of (attempt_seen s) draft.old) d.now) }
+    ensures turn { IfOk result (λ step. turn_after step draft.new ≡
+        hear_delivery (turn_of (attempt_seen s) draft.old) d.now) }
     ensures limits { IfOk result HasLimits }
 {
     match s {
@@ -35,7 +36,8 @@ pub(crate) fn hear(s: InAttempt, draft: &mut Draft, d: &Delivery) -> Result<Cons
 
 pub(crate) fn request(s: InAttempt, r: Request) -> Result<InAttempt, NoMemory>
     requires { IsKind (kind_of r) }
-    ensures { IfOk result (λ next. (draft : DraftParts) → turn_of (attempt_seen next) draft ≡ request (turn_of (attempt_seen s) draft) (kind_of r)) }
+    ensures { IfOk result (λ next. (draft : DraftParts) →
+        turn_of (attempt_seen next) draft ≡ request (turn_of (attempt_seen s) draft) (kind_of r)) }
 {
     match s {
         InAttempt::Construct(s) => {

@@ -36,7 +36,8 @@ pub(crate) enum Member {
 }
 
 fn enter(core: Core, draft: &mut Draft, conf: u64, set: IdSet) -> Result<Member, NoMemory>
-    ensures { IfOk result (λ m. (state : State) → turn_of (seen m) draft.new ≡ enter_exchange (turn_with core state draft.old) conf set) }
+    ensures { IfOk result (λ m. (state : State) →
+        turn_of (seen m) draft.new ≡ enter_exchange (turn_with core state draft.old) conf set) }
 {
     let next = ExchangeStates::enter(core, draft, conf, set)?;
     Ok(Member::Outside(Outside::States(next)))

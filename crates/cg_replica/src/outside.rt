@@ -22,7 +22,8 @@ pub(crate) enum Outside {
 }
 
 pub(crate) fn hear(s: Outside, draft: &mut Draft, d: &Delivery) -> Result<ExchangeStep, NoMemory>
-    ensures turn { IfOk result (λ step. turn_after step draft.new ≡ hear_delivery (turn_of (outside_seen s) draft.old) d.now) }
+    ensures turn { IfOk result (λ step. turn_after step draft.new ≡
+        hear_delivery (turn_of (outside_seen s) draft.old) d.now) }
     ensures record { IfOk result HasRecord }
 {
     match s {
@@ -34,7 +35,8 @@ pub(crate) fn hear(s: Outside, draft: &mut Draft, d: &Delivery) -> Result<Exchan
 
 pub(crate) fn request(s: Outside, draft: &mut Draft, r: Request) -> Result<Outside, NoMemory>
     requires { IsKind (kind_of r) }
-    ensures { IfOk result (λ next. turn_of (outside_seen next) draft.new ≡ request (turn_of (outside_seen s) draft.old) (kind_of r)) }
+    ensures { IfOk result (λ next. turn_of (outside_seen next) draft.new ≡
+        request (turn_of (outside_seen s) draft.old) (kind_of r)) }
 {
     match s {
         Outside::Non(s) => {
@@ -53,7 +55,8 @@ pub(crate) fn request(s: Outside, draft: &mut Draft, r: Request) -> Result<Outsi
 }
 
 pub(crate) fn settle(s: Outside, draft: &mut Draft) -> Result<Outside, NoMemory>
-    ensures { IfOk result (λ next. turn_of (outside_seen next) draft.new ≡ settle (turn_of (outside_seen s) draft.old)) }
+    ensures { IfOk result (λ next. turn_of (outside_seen next) draft.new ≡
+        settle (turn_of (outside_seen s) draft.old)) }
 {
     match s {
         Outside::Non(s) => {

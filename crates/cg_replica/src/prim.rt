@@ -31,7 +31,8 @@ pub(crate) fn hear(s: InPrim, draft: &mut Draft, d: &Delivery) -> Result<PrimSte
 
 pub(crate) fn request(s: InPrim, draft: &mut Draft, r: Request) -> Result<InPrim, NoMemory>
     requires { IsKind (kind_of r) }
-    ensures { IfOk result (λ next. turn_of (prim_seen next) draft.new ≡ request (turn_of (prim_seen s) draft.old) (kind_of r)) }
+    ensures { IfOk result (λ next. turn_of (prim_seen next) draft.new ≡
+        request (turn_of (prim_seen s) draft.old) (kind_of r)) }
 {
     match s {
         InPrim::Reg(s) => {

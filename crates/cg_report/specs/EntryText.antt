@@ -42,7 +42,8 @@ asked_text word p a = word ++ decimal p ++ codes " " ++ answer_text a
 
 -- how much of a snapshot was taken
 abbrev pub pieces_text : ℕ → ℕ → ℕ → List ℕ
-pieces_text joiner taken whole = codes "pieces " ++ decimal joiner ++ codes " " ++ decimal taken ++ codes "/" ++ decimal whole
+pieces_text joiner taken whole = codes "pieces " ++ decimal joiner ++ codes " " ++ decimal taken
+    ++ codes "/" ++ decimal whole
 
 -- what was asked to be shown
 abbrev pub shown_text : Shown → List ℕ
@@ -72,10 +73,12 @@ shown_line s = shown_text s ++ codes "\n"
 
 -- all of it
 abbrev pub body_text : Entry → List ℕ
-body_text e = flat_map made_line e.made ++ flat_map order_line e.orders ++ flat_map ended_line e.lines ++ flat_map reply_line e.replies ++ flat_map shown_line e.shown
+body_text e = flat_map made_line e.made ++ flat_map order_line e.orders ++ flat_map ended_line e.lines
+    ++ flat_map reply_line e.replies ++ flat_map shown_line e.shown
 
 abbrev pub is_silent : Entry → Bool
-is_silent e = (length e.made == 0) && (length e.orders == 0) && (length e.lines == 0) && (length e.replies == 0) && (length e.shown == 0)
+is_silent e = (length e.made == 0) && (length e.orders == 0) && (length e.lines == 0) && (length e.replies == 0)
+    && (length e.shown == 0)
 
 -- what a step puts: nothing, or its number and what it shows
 abbrev pub entry_text : ℕ → Entry → List ℕ

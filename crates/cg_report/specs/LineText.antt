@@ -37,7 +37,8 @@ prim_text p = codes "p" ++ decimal p.index ++ codes "@" ++ decimal p.conf ++ wei
 -- the record of an attempt: configuration, from index, members, bits
 abbrev pub vulnerable_text : Option Vulnerable → List ℕ
 vulnerable_text None = codes "v-"
-vulnerable_text (Some v) = codes "v" ++ decimal v.attempt ++ codes "/" ++ decimal v.from ++ set_text v.set ++ set_text v.bits
+vulnerable_text (Some v) = codes "v" ++ decimal v.attempt ++ codes "/" ++ decimal v.from
+    ++ set_text v.set ++ set_text v.bits
 
 -- a yellow list: valid; invalid and empty; or invalid
 abbrev pub yellow_in : Bool → List ActionId → List ℕ
@@ -54,15 +55,18 @@ counts_text v = codes "g" ++ decimal v.green_count ++ codes " w" ++ decimal v.wh
 
 -- what it knows of primary components
 abbrev pub components_text : View → List ℕ
-components_text v = codes " " ++ prim_text v.prim ++ codes " a" ++ decimal v.attempt_index ++ codes " " ++ vulnerable_text v.vulnerable
+components_text v = codes " " ++ prim_text v.prim ++ codes " a" ++ decimal v.attempt_index ++ codes " "
+    ++ vulnerable_text v.vulnerable
 
 -- what isn't green
 abbrev pub actions_text : View → List ℕ
-actions_text v = codes " " ++ yellow_text v.yellow ++ codes " r" ++ id_list_text v.reds ++ codes " o" ++ id_list_text v.own
+actions_text v = codes " " ++ yellow_text v.yellow ++ codes " r" ++ id_list_text v.reds
+    ++ codes " o" ++ id_list_text v.own
 
 -- the parts of a line behind the phase
 abbrev pub view_text : View → List ℕ
-view_text v = counts_text v ++ components_text v ++ actions_text v ++ codes " x" ++ set_text v.left ++ codes " b" ++ decimal v.buffered
+view_text v = counts_text v ++ components_text v ++ actions_text v ++ codes " x" ++ set_text v.left
+    ++ codes " b" ++ decimal v.buffered
 
 -- what a line says behind the identifier
 abbrev pub up_text : Option UpLine → List ℕ

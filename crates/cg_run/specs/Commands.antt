@@ -9,7 +9,8 @@ use Rattle.cg_run.specs.declared.progress.Report.TheVariants.{Whole, Tail}
 
 -- the number that a word spells, where it is in a range
 abbrev pub number_in : ℕ → ℕ → List ℕ → Option ℕ
-number_in low high word = option_and_then (λ n. if nat_le low n && nat_le n high then Some n else None) (result_ok (read_u64 word))
+number_in low high word = option_and_then (λ n. if nat_le low n && nat_le n high then Some n
+    else None) (result_ok (read_u64 word))
 
 -- the numbers of a schedule that is generated, and what is made of them
 abbrev pub with_numbers : (ℕ → ℕ → ℕ → Command) → Option ℕ → Option ℕ → Option ℕ → Option Command
@@ -17,7 +18,8 @@ with_numbers make (Some seed) (Some replicas) (Some lines) = Some (make seed rep
 with_numbers make seed replicas lines = None
 
 abbrev pub read_numbers : (ℕ → ℕ → ℕ → Command) → List ℕ → List ℕ → List ℕ → Option Command
-read_numbers make seed replicas lines = with_numbers make (number_in 0 18446744073709551615 seed) (number_in 1 32 replicas) (number_in 3 200000 lines)
+read_numbers make seed replicas lines =
+    with_numbers make (number_in 0 18446744073709551615 seed) (number_in 1 32 replicas) (number_in 3 200000 lines)
 
 -- the command that words are
 abbrev pub command_of : List (List ℕ) → Option Command

@@ -66,7 +66,8 @@ whole_line n at line s =
 
 -- nothing stands behind so many lines
 abbrev pub at_end : ℕ → Ending → Progress → Produced
-at_end lines Ended s = if s.reader.ended then ended_with status.Done lines s else ended_with (status.NoEnd lines) lines s
+at_end lines Ended s = if s.reader.ended then ended_with status.Done lines s
+    else ended_with (status.NoEnd lines) lines s
 at_end lines Failed s = ended_with status.ReadFault lines s
 at_end lines Open s = went_on s
 
@@ -78,7 +79,8 @@ cut_line n line other s = at_end (n - 1) other s
 -- what stands behind the last line's end
 abbrev pub last_piece : ℕ → ℕ → List ℕ → Ending → Progress → Produced
 last_piece n at [] how s = at_end (n - 1) how s
-last_piece n at (b ∷ bs) how s = unless_passed (limit_of n (length (b ∷ bs)) (at + length (b ∷ bs))) n s (cut_line n (b ∷ bs) how s)
+last_piece n at (b ∷ bs) how s =
+    unless_passed (limit_of n (length (b ∷ bs)) (at + length (b ∷ bs))) n s (cut_line n (b ∷ bs) how s)
 
 -- the lines from number n on, which begin at an offset of the input
 abbrev pub replayed : ℕ → ℕ → List (List ℕ) → Ending → Progress → Produced
@@ -90,7 +92,8 @@ replayed n at (line ∷ next ∷ more) how s =
 -- what the lines of events come to, behind so many lines: they are replayed as those of an input, but its limits aren't theirs
 abbrev pub performed : ℕ → List Event → Progress → Produced
 performed gone [] s = at_end gone Ended s
-performed gone (event ∷ events) s = and_then (line_outcome (gone + 1) (without_return (line_of event)) s) (performed (gone + 1) events)
+performed gone (event ∷ events) s =
+    and_then (line_outcome (gone + 1) (without_return (line_of event)) s) (performed (gone + 1) events)
 
 -- the lines that spell events, and the nothing behind the last one's end
 abbrev pub lines_alone : List Event → List (List ℕ)

@@ -69,12 +69,17 @@ went_on s = record { steps = []; found = None; progress = s }
 
 -- the run ends with a status, so many whole lines having been gone through
 abbrev pub ended_with : Status → ℕ → Progress → Produced
-ended_with status lines s = record { steps = []; found = Some record { status = status; lines = lines; refused = None }; progress = s }
+ended_with status lines s =
+    record { steps = []; found = Some record { status = status; lines = lines; refused = None }; progress = s }
 
 -- the event of line n isn't admitted
 abbrev pub refused_with : ℕ → Event → Reason → Progress → Produced
 refused_with n event reason s =
-    let f : Finding = record { status = status.Refused n reason; lines = n; refused = Some record { event = event; reason = reason } } in
+    let f : Finding = record {
+      status = status.Refused n reason;
+      lines = n;
+      refused = Some record { event = event; reason = reason };
+    } in
     record { steps = []; found = Some f; progress = s }
 
 -- these steps come first
@@ -97,7 +102,8 @@ stepped n event m s =
 
 -- an event that is admitted makes its step; another ends the run
 abbrev pub unless_refused : Option Reason → ℕ → Event → Progress → Produced
-unless_refused refusal n event s = option_map_or (λ reason. refused_with n event reason s) refusal (stepped n event (world_step s.world event) s)
+unless_refused refusal n event s =
+    option_map_or (λ reason. refused_with n event reason s) refusal (stepped n event (world_step s.world event) s)
 
 -- one step of line n, where its event is admitted
 abbrev pub one_step : ℕ → Event → Progress → Produced

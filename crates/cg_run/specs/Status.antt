@@ -21,12 +21,14 @@ limit_text limit.Steps = codes "steps"
 
 -- the number of a reason, and its value, where it has one
 abbrev pub refused_text : Reason → List ℕ
-refused_text reason = codes " " ++ decimal (reason_numbers reason).0 ++ option_map_or (λ n. codes " " ++ decimal n) (reason_numbers reason).1 []
+refused_text reason = codes " " ++ decimal (reason_numbers reason).0
+    ++ option_map_or (λ n. codes " " ++ decimal n) (reason_numbers reason).1 []
 
 -- the last line of the report, after so many steps and whole lines
 abbrev pub tail_line : Status → ℕ → ℕ → List ℕ
 tail_line status.Done steps lines = codes "end " ++ decimal steps
-tail_line status.Usage steps lines = codes "usage: congruity replay | check | generate SEED REPLICAS LINES | trial SEED REPLICAS LINES"
+tail_line status.Usage steps lines =
+    codes "usage: congruity replay | check | generate SEED REPLICAS LINES | trial SEED REPLICAS LINES"
 tail_line (status.Syntax line reason) steps lines = codes "syntax " ++ decimal line ++ codes " " ++ decimal reason
 tail_line (status.Refused line reason) steps lines = codes "refused " ++ decimal line ++ refused_text reason
 tail_line status.ReadFault steps lines = codes "read fault " ++ decimal lines

@@ -59,7 +59,8 @@ pub record Passes (old : Stage) (gone : List ℕ) (made : List Step) (new : Stag
   pub placed : new.at ≡ old.at + length gone
 
 -- a line that has its end was gone through, and nothing was found
-pub record EndsLine (report : Report) (old : Stage) (line : List ℕ) (from to : SinkView) (held : List ℕ) (new : Stage) : Type 0 where
+pub record EndsLine (report : Report) (old : Stage) (line : List ℕ) (from to : SinkView) (held : List ℕ)
+    (new : Stage) : Type 0 where
   pub empty : held ≡ []
   pub none : (whole_line old.line old.at line old.progress).found ≡ None
   pub progress : new.progress ≡ (whole_line old.line old.at line old.progress).progress
@@ -70,7 +71,8 @@ pub record EndsLine (report : Report) (old : Stage) (line : List ℕ) (from to :
   pub put : Puts from to (report_in report (whole_line old.line old.at line old.progress).steps)
 
 -- so far whole lines of the bytes were gone through and their entries put, and the others are still to come
-pub record GoesThrough (report : Report) (old : Stage) (bytes : List ℕ) (from to : SinkView) (left : List ℕ) (new : Stage) : Type 0 where
+pub record GoesThrough (report : Report) (old : Stage) (bytes : List ℕ) (from to : SinkView) (left : List ℕ)
+    (new : Stage) : Type 0 where
   pub gone : List ℕ
   pub made : List Step
   pub whole : bytes ≡ gone ++ left
@@ -108,7 +110,8 @@ pub record BetweenTakes : Type 0 where
   pub held : List ℕ
 
 -- one take behind what is held: a chunk of the input, which is taken up; or the taking has ended, and the run with it
-pub record TakesTurn (report : Report) (st : Stage) (before after : BetweenTakes) (result : Result Stage Status) : Type 0 where
+pub record TakesTurn (report : Report) (st : Stage) (before after : BetweenTakes) (result : Result
+    Stage Status) : Type 0 where
   pub chunk : List ℕ
   pub ending : Ending
   pub consumed : Consumes before.input.left after.input.left chunk
@@ -119,7 +122,8 @@ pub record TakesTurn (report : Report) (st : Stage) (before after : BetweenTakes
   pub comes :
       MatchResult result
       (λ next. (0 < length chunk) × (after.input.faults ≡ before.input.faults)
-      × GoesThrough report st (before.held ++ chunk) before.output after.output after.held next × IsHeld next after.held)
+      × GoesThrough report st (before.held ++ chunk) before.output after.output after.held next
+      × IsHeld next after.held)
       (λ status. Stopped report (from_stage st (before.held ++ chunk) ending) before.output after.output status)
 
 -- some bytes were taken, the taking ended in some way, and this holds of them

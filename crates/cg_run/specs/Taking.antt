@@ -42,7 +42,8 @@ ReadCause old new other = new.faults ≡ old.faults
 -- and what they come to was put, before the rest.
 abbrev pub InTime : (Produced → List ℕ) → (List ℕ → Produced) → List ℕ → SinkView → SinkView → Type 0
 InTime text comes taken from to =
-    (m : ℕ) → m + most_at_once ≤ length taken → ((comes (take m taken)).found ≡ None) × (rest : List ℕ) × PutsAll from to (text (comes (take m taken)) ++ rest)
+    (m : ℕ) → m + most_at_once ≤ length taken → ((comes (take m taken)).found ≡ None) × (rest : List ℕ)
+    × PutsAll from to (text (comes (take m taken)) ++ rest)
 
 -- the line of a finding, where it is one of a line
 abbrev pub found_in : Status → Option ℕ
@@ -66,7 +67,8 @@ pub record Runs (command : Option Command) (old new : SourceView) (from to : Sin
   pub consumed : Consumes old.left new.left taken
   pub cause : HasCause ending old new
   pub most : length taken ≤ most_taken
-  pub ends : StopsWith (text_put command (outcome_of command taken ending)) (status_of (outcome_of command taken ending)) from to status
+  pub ends : StopsWith (text_put command (outcome_of command taken ending))
+      (status_of (outcome_of command taken ending)) from to status
   pub in_time : InTime (text_put command) (λ front. outcome_of command front Open) taken from to
   pub near : (n : ℕ) → found_in status ≡ Some n → length taken ≤ end_of_line n (pieces_of 10 taken) + most_at_once
 
@@ -81,9 +83,11 @@ IsWithinLimits other = Unit {0}
 -- that was put; or memory was refused. So an input that comes to its end is done, with the whole report.
 abbrev pub Completes : Option Command → SourceView → SourceView → SinkView → SinkView → Status → Type 0
 Completes command old new from to result =
-    (all : List ℕ) → (reads_input command ≡ true → old.left ≡ Some all) → IsWithinLimits (status_of (outcome_of command all Ended))
+    (all : List ℕ) → (reads_input command ≡ true → old.left ≡ Some all) →
+    IsWithinLimits (status_of (outcome_of command all Ended))
     → new.faults ≡ old.faults → to.faults ≡ from.faults
-    → (result ≡ status.NoMemory) ⊎ ((status_of (outcome_of command all Ended) ≡ Some result) × Puts from to (text_put command (outcome_of command all Ended)))
+    → (result ≡ status.NoMemory) ⊎ ((status_of (outcome_of command all Ended) ≡ Some result)
+    × Puts from to (text_put command (outcome_of command all Ended)))
 
 -- what holds of the steps of the outcome, whatever was taken and however the taking ended
 abbrev pub OfSteps : List (List ℕ) → (List Step → Type 0) → Type 0
@@ -92,9 +96,11 @@ OfSteps words holds = (taken : List ℕ) (how : Ending) → holds (outcome words
 -- a run that ends by a refusal tells of the line that is refused, and of the first reason
 abbrev pub TellsOfRefusals : List (List ℕ) → Type 0
 TellsOfRefusals words =
-    (taken : List ℕ) (how : Ending) (n : ℕ) (reason : Reason) → status_of (outcome words taken how) ≡ Some (status.Refused n reason)
+    (taken : List ℕ) (how : Ending) (n : ℕ) (reason : Reason) →
+    status_of (outcome words taken how) ≡ Some (status.Refused n reason)
     → RefusesLine (pieces_for (command_of words) taken) (outcome words taken how).steps n reason
 
 -- no test of an event that made a step gives a reason, and the event that ended the run by a refusal has that reason first
 abbrev pub RefusesExactly : List (List ℕ) → Type 0
-RefusesExactly words = (taken : List ℕ) (how : Ending) → RefusedExactly (outcome words taken how).steps (refusal_of (outcome words taken how))
+RefusesExactly words = (taken : List ℕ) (how : Ending) →
+    RefusedExactly (outcome words taken how).steps (refusal_of (outcome words taken how))

@@ -34,7 +34,8 @@ fn refuse_line<K: Sink>(
     count: u64,
 ) -> Status
     requires { (K.view output.old).faults < 2 ^ 62 }
-    ensures { (s : Progress) → s.count ≡ count → (read : Result (Option Event) LineFault) → Gives read (Err fault) → (report : Report)
+    ensures { (s : Progress) → s.count ≡ count → (read : Result (Option Event) LineFault) →
+        Gives read (Err fault) → (report : Report)
         → Stopped report (read_outcome line read s) (K.view output.old) (K.view output.new) result }
 {
     match fault {
@@ -184,7 +185,8 @@ pub fn whole_line<K: Sink>(
     requires under_way { IsUnderWay progress }
     ensures performs { Performs report (whole_line number at line.now progress)
         (K.view output.old) (K.view output.new) result }
-    ensures within { IfOk result (λ _. (length line.now ≤ 32768) × (at + length line.now + 1 ≤ 8388608) × (number ≤ 200000)) }
+    ensures within { IfOk result (λ _. (length line.now ≤ 32768)
+        × (at + length line.now + 1 ≤ 8388608) × (number ≤ 200000)) }
     ensures under_way { IfOk result (λ s. IsUnderWay s) }
 {
     match passed_limit(number, line.len(), at + line.len() + 1) {
@@ -268,7 +270,8 @@ pub fn close<K: Sink>(
     requires few_faults { (K.view output.old).faults < 2 ^ 62 }
     requires counted { 1 ≤ number }
     requires under_way { IsUnderWay progress }
-    ensures { (at : ℕ) → held_limit number at rest.now ≡ None → Stopped report (last_piece number at rest.now Ended progress)
+    ensures { (at : ℕ) → held_limit number at rest.now ≡ None →
+        Stopped report (last_piece number at rest.now Ended progress)
         (K.view output.old) (K.view output.new) result }
 {
     if rest.is_empty() {

@@ -62,7 +62,8 @@ fn put_schedule<K: Sink>(
 ) -> Status
     requires replicas { IsId replicas }
     requires few_faults { (K.view output.old).faults < 2 ^ 62 }
-    ensures { StopsWith (lines_of (generated seed replicas lines)) (Some status.Done) (K.view output.old) (K.view output.new) result }
+    ensures { StopsWith (lines_of (generated seed replicas lines)) (Some status.Done) (K.view output.old)
+        (K.view output.new) result }
 {
     let Ok(schedule) = generate(alloc, seed, ReplicaId::known(replicas), lines) else {
         return Status::NoMemory;
@@ -82,7 +83,8 @@ fn run_command<S: Source, K: Sink>(
 ) -> Status
     requires few_read_faults { (S.view input.old).faults < 2 ^ 62 }
     requires few_write_faults { (K.view output.old).faults < 2 ^ 62 }
-    ensures ran { Runs (command_of words.now) (S.view input.old) (S.view input.new) (K.view output.old) (K.view output.new) result }
+    ensures ran { Runs (command_of words.now) (S.view input.old) (S.view input.new) (K.view output.old)
+        (K.view output.new) result }
     ensures usage { reads_input (command_of words.now) ≡ false → S.view input.new ≡ S.view input.old }
     ensures read_fault { ReadCause (S.view input.old) (S.view input.new) result }
     ensures write_fault { (K.view output.new).faults ≡ (K.view output.old).faults + write_faults result }
@@ -121,7 +123,8 @@ pub fn run<S: Source, K: Sink>(
     // but the last 4,096 of them had been gone through before the last take: they come to no finding, and what they come to
     // was put; so the line of an entry that wasn't wholly put ends among the last 4,096 bytes. Where a line is the first
     // finding, at most 4,096 bytes past its end were taken.
-    ensures ran { Runs (command_of words.now) (S.view input.old) (S.view input.new) (K.view output.old) (K.view output.new) result }
+    ensures ran { Runs (command_of words.now) (S.view input.old) (S.view input.new) (K.view output.old)
+        (K.view output.new) result }
 
     // Without a command that reads the input nothing is taken.
     ensures usage { reads_input (command_of words.now) ≡ false → S.view input.new ≡ S.view input.old }
@@ -133,7 +136,8 @@ pub fn run<S: Source, K: Sink>(
 
     // Where no take and no put failed, and the whole input is within the limits, the run comes to what the whole input comes
     // to, and all of that was put; or memory was refused. So an input that comes to its end is done, with the whole report.
-    ensures completes { Completes (command_of words.now) (S.view input.old) (S.view input.new) (K.view output.old) (K.view output.new) result }
+    ensures completes { Completes (command_of words.now) (S.view input.old) (S.view input.new) (K.view output.old)
+        (K.view output.new) result }
 
     // A refusal tells of the line whose event isn't admitted, and of the first reason.
     ensures refused { TellsOfRefusals words.now }

@@ -28,7 +28,8 @@ fn count_step<K: Sink>(
     requires few_faults { (K.view output.old).faults < 2 ^ 62 }
     requires started { next.reader.started ≡ true }
     requires seated { 0 < length next.world.seats }
-    ensures performs { (s : Progress) (event : Event) → s.reader ≡ next.reader → s.count ≡ next.count → s.totals ≡ next.totals → Performs report (stepped line event (record { entry = entry; world = next.world }) s)
+    ensures performs { (s : Progress) (event : Event) → s.reader ≡ next.reader → s.count ≡ next.count →
+        s.totals ≡ next.totals → Performs report (stepped line event (record { entry = entry; world = next.world }) s)
         (K.view output.old) (K.view output.new) result }
     ensures begun { IfOk result (λ s. HasBegun s) }
 {

@@ -26,7 +26,8 @@ fn end_line<K: Sink>(
     requires stands { IsStage stage }
     ensures { MatchResult result
         (EndsLine report stage (held.old.items ++ piece.now) (K.view output.old) (K.view output.new) held.new.items)
-        (λ status. Stopped report (whole_line stage.line stage.at (held.old.items ++ piece.now) stage.progress) (K.view output.old) (K.view output.new) status) }
+        (λ status. Stopped report (whole_line stage.line stage.at (held.old.items ++ piece.now) stage.progress) (K.view
+        output.old) (K.view output.new) status) }
 {
     if held.extend_from_slice(piece).is_err() {
         drop(stage);
@@ -69,7 +70,8 @@ fn hold_rest<K: Sink>(
     requires stands { IsStage stage }
     requires unended { IsUnended held.old.items }
     requires unended_rest { IsUnended rest.now }
-    ensures { HoldsRest report stage (held.old.items ++ rest.now) (K.view output.old) (K.view output.new) held.new.items result }
+    ensures { HoldsRest report stage (held.old.items
+        ++ rest.now) (K.view output.old) (K.view output.new) held.new.items result }
 {
     if held.extend_from_slice(rest).is_err() {
         drop(stage);
@@ -94,7 +96,8 @@ fn take_up<K: Sink>(
     requires few_faults { (K.view output.old).faults < 2 ^ 62 }
     requires stands { IsStage stage }
     requires unended { IsUnended held.old.items }
-    ensures { TakesUp report stage (held.old.items ++ chunk.now) (K.view output.old) (K.view output.new) held.new.items result }
+    ensures { TakesUp report stage (held.old.items ++ chunk.now) (K.view output.old) (K.view
+        output.new) held.new.items result }
 {
     let mut stage = stage;
     let mut rest = chunk;
@@ -127,7 +130,8 @@ fn fail_stage<K: Sink>(alloc: Global, output: &mut K, held: &[u8], stage: Stage)
     requires few_faults { (K.view output.old).faults < 2 ^ 62 }
     requires stands { IsStage stage }
     requires held { IsHeld stage held.now }
-    ensures { (report : Report) → Stopped report (from_stage stage held.now Failed) (K.view output.old) (K.view output.new) result }
+    ensures { (report : Report) →
+        Stopped report (from_stage stage held.now Failed) (K.view output.old) (K.view output.new) result }
 {
     let _held = held;
     let Stage { line, progress, .. } = stage;

@@ -110,7 +110,8 @@ one_too_many word = if is_command_word word then bad_list else bad_command
 -- commands, at most so many, of which the first word was read, behind those that were taken
 unfoldable pub commands : ℕ → List Cmd → List ℕ → Reading Update
 commands zero taken word left = Err (one_too_many word)
-commands (suc n) taken word left = go_on (command_of word left) (λ cmd. behind_commands (commands n (taken ++ cmd ∷ [])) (taken ++ cmd ∷ []))
+commands (suc n) taken word left =
+    go_on (command_of word left) (λ cmd. behind_commands (commands n (taken ++ cmd ∷ [])) (taken ++ cmd ∷ []))
 
 -- what a request asks, of which the first token was read: a query alone, or commands with or without one
 unfoldable pub update_of : List ℕ → Reading Update

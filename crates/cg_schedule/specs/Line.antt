@@ -41,7 +41,8 @@ word_text Leave = codes "leave"
 word_text Transfer = codes "transfer"
 
 abbrev pub every_word : List Word
-every_word = Start ∷ Split ∷ Merge ∷ Request ∷ Weak ∷ Dirty ∷ Order ∷ Recover ∷ Show ∷ Gather ∷ End ∷ Receive ∷ Deliver ∷ Rounds ∷ Stop ∷ Fail ∷ Join ∷ Leave ∷ Transfer ∷ []
+every_word = Start ∷ Split ∷ Merge ∷ Request ∷ Weak ∷ Dirty ∷ Order ∷ Recover ∷ Show ∷ Gather ∷ End ∷ Receive ∷ Deliver
+    ∷ Rounds ∷ Stop ∷ Fail ∷ Join ∷ Leave ∷ Transfer ∷ []
 
 -- the event word that the text is
 unfoldable pub word_of : List ℕ → Option Word
@@ -107,7 +108,8 @@ opening state line =
 -- ---- the parts of each event
 
 -- identifiers up to the line's end, each above the one before, into a set
-abbrev pub ids_behind : Result ℕ LineFault → ℕ → (ℕ → Result (List ℕ × List (List ℕ)) LineFault) → Result (List ℕ × List (List ℕ)) LineFault
+abbrev pub ids_behind : Result ℕ LineFault → ℕ → (ℕ → Result (List ℕ × List (List ℕ)) LineFault) →
+    Result (List ℕ × List (List ℕ)) LineFault
 ids_behind (Ok p) last more = if nat_lt last p then more p else Err bad_list
 ids_behind (Err fault) last more = Err fault
 
@@ -116,7 +118,8 @@ ids last set [] = Ok (set, [])
 ids last set (token ∷ left) = ids_behind (number 1 32 token) last (λ p. ids p (with_member set p) left)
 
 -- the same with weights
-abbrev pub weights_behind : Result Weighted LineFault → ℕ → (Weighted → Result (List Weighted × List (List ℕ)) LineFault) → Result (List Weighted × List (List ℕ)) LineFault
+abbrev pub weights_behind : Result Weighted LineFault → ℕ →
+    (Weighted → Result (List Weighted × List (List ℕ)) LineFault) → Result (List Weighted × List (List ℕ)) LineFault
 weights_behind (Ok m) last more = if nat_lt last m.id then more m else Err bad_list
 weights_behind (Err fault) last more = Err fault
 
@@ -163,7 +166,8 @@ shown (Ok p) = Ok (event.Show p)
 shown (Err fault) = Err fault
 
 unfoldable pub show_reading : Reading Event
-show_reading = token_part >>= λ token. if same_text token (codes "order") then done event.ShowOrder else lifted (shown (number 1 32 token))
+show_reading = token_part >>= λ token. if same_text token (codes "order") then done event.ShowOrder
+    else lifted (shown (number 1 32 token))
 
 unfoldable pub receive_reading : Reading Event
 receive_reading = do

@@ -115,7 +115,8 @@ if_byte None next = Err bad_text
 abbrev pub hex_bytes : List ℕ → List ℕ → Result (List ℕ) LineFault
 hex_bytes taken [] = Ok taken
 hex_bytes taken (digit ∷ []) = Err bad_text
-hex_bytes taken (high ∷ low ∷ digits) = if_byte (hex_byte (hex_digit high) (hex_digit low)) (λ byte. hex_bytes (taken ++ byte ∷ []) digits)
+hex_bytes taken (high ∷ low ∷ digits) =
+    if_byte (hex_byte (hex_digit high) (hex_digit low)) (λ byte. hex_bytes (taken ++ byte ∷ []) digits)
 
 -- bytes, two digits each, at most 4096 of them, or a hyphen for none
 unfoldable pub fill : List ℕ → Result (List ℕ) LineFault

@@ -47,4 +47,5 @@ line_of (Stop p call fill) = codes "stop " ++ decimal p ++ codes " " ++ decimal 
 line_of (Fail p call) = codes "fail " ++ decimal p ++ codes " " ++ decimal call
 line_of (Join p joiner weight) = codes "join " ++ decimal p ++ codes " " ++ weighted_text joiner weight
 line_of (Leave p server) = codes "leave " ++ decimal p ++ codes " " ++ decimal server
-line_of (Transfer p joiner pieces) = codes "transfer " ++ decimal p ++ codes " " ++ decimal joiner ++ codes " " ++ decimal pieces
+line_of (Transfer p joiner pieces) =
+    codes "transfer " ++ decimal p ++ codes " " ++ decimal joiner ++ codes " " ++ decimal pieces

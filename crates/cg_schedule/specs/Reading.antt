@@ -9,7 +9,8 @@ abbrev pub Reading : Type 0 → Type 0
 Reading X = List (List ℕ) → Result (X × List (List ℕ)) LineFault
 
 -- what is done with the value that was read and the tokens behind it, where there was no fault
-abbrev pub go_on : {X Y : Type 0} → Result (X × List (List ℕ)) LineFault → (X → Reading Y) → Result (Y × List (List ℕ)) LineFault
+abbrev pub go_on : {X Y : Type 0} → Result (X × List (List ℕ)) LineFault → (X → Reading Y) →
+    Result (Y × List (List ℕ)) LineFault
 go_on (Ok x) next = next x.0 x.1
 go_on (Err fault) next = Err fault
 
@@ -55,6 +56,7 @@ Takes view reading old new (Ok x) = reading old ≡ Ok (view x, new)
 Takes view reading old new (Err fault) = reading old ≡ Err fault
 
 -- the same of a call that takes memory: want of it says nothing of the line
-abbrev pub TakesWithMemory : {X Y : Type 0} → (X → Y) → Reading Y → List (List ℕ) → List (List ℕ) → Result X LineFault → Type 0
+abbrev pub TakesWithMemory : {X Y : Type 0} → (X → Y) → Reading Y → List (List ℕ) → List (List ℕ) →
+    Result X LineFault → Type 0
 TakesWithMemory view reading old new (Ok x) = reading old ≡ Ok (view x, new)
 TakesWithMemory view reading old new (Err fault) = fault ≢ NoMemory → reading old ≡ Err fault

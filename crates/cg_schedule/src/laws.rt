@@ -13,7 +13,8 @@ use cg_text::{numbers_are_exact, quoted_texts_are_exact, tokens_are_exact};
 /// the same tokens.
 pub fn lines_are_exact()
     ensures event { (state : ReaderState) (line : List ℕ) (e : Event) → (Reads state line e) ↔ (ReadsAs state line e) }
-    ensures same_event { (state there : ReaderState) (line other : List ℕ) (e f : Event) → Reads state line e → Reads there other f → (e ≡ f) ↔ (tokens line ≡ tokens other) }
+    ensures same_event { (state there : ReaderState) (line other : List ℕ) (e f : Event) → Reads state line e →
+        Reads there other f → (e ≡ f) ↔ (tokens line ≡ tokens other) }
 {
     numbers_are_exact();
     quoted_texts_are_exact();

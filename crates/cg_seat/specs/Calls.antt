@@ -63,7 +63,8 @@ crashed p (Down disk green) = seat p (Down disk green)
 -- the replica comes up with what stands on its disk, and what is to be shown of that, where so much was shown as made
 abbrev pub risen : List ActionId → ℕ → Life → Seat × Option News
 risen made p (Up r disk) = (seat p (Up r disk), None)
-risen made p (Down disk green) = let r = recovered disk in (seat p (Up r (disk_recovered disk)), Some (news_of_recovery made r.held green))
+risen made p (Down disk green) = let r = recovered disk in
+    (seat p (Up r (disk_recovered disk)), Some (news_of_recovery made r.held green))
 
 -- ---- what is seen of it
 

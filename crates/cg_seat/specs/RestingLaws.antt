@@ -6,7 +6,8 @@ use Rattle.cg_disk.specs.View.{DiskView}
 use Rattle.cg_journal.specs.Strikes.{strike_of, IsUnstruck}
 
 -- where nothing was armed nothing is
-pub stays_unarmed : (old new : DiskView) (s z : DiskState) → IsUnstruck old new → old.state ≡ Some s → s.strike ≡ None → new.state ≡ Some z → z.strike ≡ None
+pub stays_unarmed : (old new : DiskView) (s z : DiskState) → IsUnstruck old new → old.state ≡ Some s → s.strike ≡ None →
+    new.state ≡ Some z → z.strike ≡ None
 stays_unarmed old new s z unstruck before none behind =
     let there : strike_of new ≡ Some z.strike = ap (option_map (λ (x : DiskState). x.strike)) behind in
     let here : strike_of old ≡ Some s.strike = ap (option_map (λ (x : DiskState). x.strike)) before in

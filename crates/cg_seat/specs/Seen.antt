@@ -29,7 +29,8 @@ state_at d = unwrap_or d.state (clean_disk d.reads)
 
 -- the disk of a replica that is up, where a crash in the armed call leaves these bytes
 unfoldable pub disk_seen : {D : Type 0} → (D → DiskView) → UpEngine D → List ℕ → Disk
-disk_seen view e fill = let d = view e.store.disk in account e.store.unwritten (standing_at e.store.id d.reads) d.time fill (state_at d)
+disk_seen view e fill = let d = view e.store.disk in
+    account e.store.unwritten (standing_at e.store.id d.reads) d.time fill (state_at d)
 
 -- the disk of a replica that is down, and the names that it tells when it comes up
 unfoldable pub disk_left : {D : Type 0} → (D → DiskView) → Fallen D → Disk

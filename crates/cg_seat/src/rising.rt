@@ -75,7 +75,13 @@ impl Seat {
     /// nothing armed. Nothing is to be shown of that.
     pub fn from_disk(alloc: Global, disk: ModelDisk, id: ReplicaId) -> Result<Seat, NoMemory>
         requires { IsResting (⟦<ModelDisk as Disk>⟧.view disk) id }
-        ensures { IfOk result (λ s. s ≡ (risen [] id (down_seen (⟦<ModelDisk as Disk>⟧.view) (record { disk = disk; id = id; count = 0; green = [] })).life).0) }
+        ensures { IfOk result (λ s. s ≡
+            (risen [] id (down_seen (⟦<ModelDisk as Disk>⟧.view) (record {
+              disk = disk;
+              id = id;
+              count = 0;
+              green = [];
+            })).life).0) }
     {
         let resting = Resting::new(Wreck::new(alloc, disk, id));
         let (seat, news) = Seat::down(resting).recover(alloc, &Cut::zero())?;
@@ -86,7 +92,8 @@ impl Seat {
 
 // A crash of an engine between two events.
 fn stop(engine: Engine<ModelDisk>) -> Result<Seat, NoMemory>
-    ensures { IfOk result (λ s. (fill : List ℕ) → s ≡ crashed engine.store.id (up_seen (⟦<ModelDisk as Disk>⟧.view) engine fill).life) }
+    ensures { IfOk result (λ s. (fill : List ℕ) →
+        s ≡ crashed engine.store.id (up_seen (⟦<ModelDisk as Disk>⟧.view) engine fill).life) }
 {
     if engine.calls() > CALLS_BEFORE_CRASH {
         drop(engine);
@@ -118,7 +125,10 @@ fn go_up(
     green: IdList,
     made: &Cut,
 ) -> Result<(Seat, Option<News>), NoMemory>
-    ensures { IfOk result (λ x. x ≡ (up_seen (⟦<ModelDisk as Disk>⟧.view) engine [], Some (news_of_recovery made.now engine.replica.held green))) }
+    ensures { IfOk result (λ x. x ≡ (
+      up_seen (⟦<ModelDisk as Disk>⟧.view) engine [],
+      Some (news_of_recovery made.now engine.replica.held green),
+    )) }
 {
     let alloc = engine.core().alloc();
     match News::of_recovery(made, engine.core(), green) {

@@ -55,7 +55,8 @@ impl Seat {
     pub(crate) fn fall(wreck: Wreck<ModelDisk>, fill: &[u8]) -> Result<Seat, NoMemory>
         requires falls { (u : OnDisk) × FallsTo (⟦<ModelDisk as Disk>⟧.view) wreck fill.now u }
         requires room { (⟦<ModelDisk as Disk>⟧.view wreck.disk).time + RECOVERY_CALLS ≤ 2 ^ 62 }
-        ensures { IfOk result (λ s. (u : OnDisk) → FallsTo (⟦<ModelDisk as Disk>⟧.view) wreck fill.now u → s ≡ fallen wreck u) }
+        ensures { IfOk result (λ s. (u : OnDisk) →
+            FallsTo (⟦<ModelDisk as Disk>⟧.view) wreck fill.now u → s ≡ fallen wreck u) }
     {
         let wreck = wreck.image(fill)?;
         Ok(Seat::down(Resting::new(wreck)))

@@ -83,7 +83,8 @@ fn deliver_to(
     list: Row<Delivery<Letter>>,
 ) -> Result<(Seat, Option<Spoken>), NoMemory>
     requires { (book : ActionId → Action) × AreBooked book engine.replica.held (Deliveries list) }
-    ensures { IfOk result (λ x. x ≡ taken engine.store.id (Deliveries list) (Up engine.replica (disk_seen (⟦<ModelDisk as Disk>⟧.view) engine fill))) }
+    ensures { IfOk result (λ x. x ≡ taken
+        engine.store.id (Deliveries list) (Up engine.replica (disk_seen (⟦<ModelDisk as Disk>⟧.view) engine fill))) }
 {
     messages_are_exact();
     match open_all(engine.core().alloc(), list) {
@@ -104,7 +105,8 @@ fn take(
 ) -> Result<(Seat, Option<Spoken>), NoMemory>
     requires limits { HasLimits input }
     requires booked { (book : ActionId → Action) × AreBooked book engine.replica.held (input_of input) }
-    ensures { IfOk result (λ x. x ≡ taken engine.store.id (input_of input) (Up engine.replica (disk_seen (⟦<ModelDisk as Disk>⟧.view) engine fill))) }
+    ensures { IfOk result (λ x. x ≡ taken
+        engine.store.id (input_of input) (Up engine.replica (disk_seen (⟦<ModelDisk as Disk>⟧.view) engine fill))) }
 {
     if engine.calls() > CALLS_BEFORE_EVENT {
         drop(engine);
@@ -124,7 +126,8 @@ fn handle(
     requires calls { (⟦<ModelDisk as Disk>⟧.view engine.store.disk).time + EVENT_CALLS + RECOVERY_CALLS ≤ 2 ^ 62 }
     requires limits { HasLimits input }
     requires booked { (book : ActionId → Action) × AreBooked book engine.replica.held (input_of input) }
-    ensures { IfOk result (λ x. x ≡ taken engine.store.id (input_of input) (Up engine.replica (disk_seen (⟦<ModelDisk as Disk>⟧.view) engine fill))) }
+    ensures { IfOk result (λ x. x ≡ taken
+        engine.store.id (input_of input) (Up engine.replica (disk_seen (⟦<ModelDisk as Disk>⟧.view) engine fill))) }
 {
     events_end_as_defined();
     what_is_held_agrees();
@@ -156,7 +159,8 @@ fn go_on(engine: Engine<ModelDisk>, fill: Bytes, outputs: Outputs) -> (Seat, Opt
 fn fall(wreck: Wreck<ModelDisk>, fill: Bytes) -> Result<(Seat, Option<Spoken>), NoMemory>
     requires falls { (u : OnDisk) × FallsTo (⟦<ModelDisk as Disk>⟧.view) wreck fill u }
     requires room { (⟦<ModelDisk as Disk>⟧.view wreck.disk).time + RECOVERY_CALLS ≤ 2 ^ 62 }
-    ensures { IfOk result (λ x. (u : OnDisk) → FallsTo (⟦<ModelDisk as Disk>⟧.view) wreck fill u → x ≡ (fallen wreck u, None)) }
+    ensures { IfOk result (λ x. (u : OnDisk) → FallsTo (⟦<ModelDisk as Disk>⟧.view) wreck fill u →
+        x ≡ (fallen wreck u, None)) }
 {
     let seat = Seat::fall(wreck, fill.as_slice())?;
     Ok((seat, None))

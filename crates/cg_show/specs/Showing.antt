@@ -51,7 +51,10 @@ Ascend (r ∷ replies) = StartsFrom r.place replies × Ascend replies
 -- the replies to names from one of them on, where the next reply is to the one at this place, if it is there
 abbrev pub answered_at : ℕ → ℕ → List ActionId → Reply → List Reply → List Answered
 answered_at before at ids r replies =
-    if nat_lt at (length ids) then record { place = suc (before + at); reply = r } ∷ answered_from (suc (before + at)) (drop (suc at) ids) replies
+    if nat_lt at (length ids) then record {
+      place = suc (before + at);
+      reply = r;
+    } ∷ answered_from (suc (before + at)) (drop (suc at) ids) replies
     else []
 
 -- of names from a place on this one stands first at the result, or it isn't there

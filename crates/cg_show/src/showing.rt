@@ -73,7 +73,13 @@ impl Showing {
 
     /// All that the step shows, with these lines.
     pub fn into_entry(self, lines: Row<Line>) -> Result<Entry, NoMemory>
-        ensures { IfOk result (λ e. e ≡ record { made = self.made; orders = self.orders; lines = lines; replies = map (λ r. r.reply) self.replies; shown = self.shown }) }
+        ensures { IfOk result (λ e. e ≡ record {
+          made = self.made;
+          orders = self.orders;
+          lines = lines;
+          replies = map (λ r. r.reply) self.replies;
+          shown = self.shown;
+        }) }
     {
         let Showing {
             made,
@@ -121,7 +127,8 @@ fn place_all(order: &mut IdList, orders: &mut Row<Placed>, ids: &[ActionId]) -> 
 
 fn place_one(order: &mut IdList, orders: &mut Row<Placed>, id: &ActionId) -> Result<(), NoMemory>
     ensures order { OnOk result (order.new ≡ order.old ++ id.now ∷ []) }
-    ensures orders { OnOk result (orders.new ≡ orders.old ++ record { place = suc (length order.old); id = id.now } ∷ []) }
+    ensures orders { OnOk result (orders.new ≡ orders.old
+        ++ record { place = suc (length order.old); id = id.now } ∷ []) }
 {
     order.push(*id)?;
     orders.push(Placed {

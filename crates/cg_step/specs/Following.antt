@@ -28,12 +28,14 @@ pub record Follows (disk : Disk) (h : Held) : Type 0 where
 abbrev pub EndsFollowing : Disk → Turn → Ended → Type 0
 EndsFollowing disk t (Runs r after) = Follows after r.held
 EndsFollowing disk t (Crashes after green) =
-    DiskHolds after × (after.unwritten ≡ []) × ((after.content ≡ disk.content) ⊎ (after.content ≡ stored_of (whiten t.replica.held)))
+    DiskHolds after × (after.unwritten ≡ [])
+    × ((after.content ≡ disk.content) ⊎ (after.content ≡ stored_of (whiten t.replica.held)))
 
 -- a replica follows its disk from a new disk on, through each event and after each recovery
 pub record AlwaysFollows : Type 0 where
   pub new : (s : Stored) → Holds s → s.buffered ≡ [] → s.owed ≡ [] → Follows (new_disk s) s
-  pub event : (disk : Disk) (r : Replica) (input : Input) (book : ActionId → Action) → Follows disk r.held → AreBooked book r.held input →
+  pub event : (disk : Disk) (r : Replica) (input : Input) (book : ActionId → Action) → Follows disk r.held →
+      AreBooked book r.held input →
       EndsFollowing disk (replica_step r input) (end_event disk r.held (replica_step r input))
   pub crash : (disk : Disk) → DiskHolds disk → DiskHolds (at_rest disk)
   pub recovery : (disk : Disk) → DiskHolds disk → Follows (disk_recovered disk) (recovered disk).held

@@ -21,7 +21,9 @@ use Rattle.cg_commit.specs.Holds.{Holds}
 -- it is kept by each event, which makes as many more greens as it tells
 pub record AlwaysKept : Type 0 where
   pub step : (r : Replica) (input : Input) → Holds r.held → Holds (replica_step r input).replica.held
-  pub counted : (r : Replica) (input : Input) → Holds r.held → green_count (replica_step r input).replica.held.queue ≡ green_count r.held.queue + length (replica_step r input).green
+  pub counted : (r : Replica) (input : Input) → Holds r.held →
+      green_count (replica_step r input).replica.held.queue ≡
+      green_count r.held.queue + length (replica_step r input).green
 
 -- ---- the disk
 
@@ -66,4 +68,5 @@ AlwaysRecorded =
 -- a replica is ahead of its disk behind a commit, and where it comes up from it
 pub record AlwaysAhead : Type 0 where
   pub committed : (h : Held) → IsAhead (stored_of (whiten h)) [] (whiten h)
-  pub recovered : (s : Stored) → Holds s → s.buffered ≡ [] → s.owed ≡ [] → IsAhead s (recover s).known (recover s).replica.held
+  pub recovered : (s : Stored) → Holds s → s.buffered ≡ [] → s.owed ≡ [] →
+      IsAhead s (recover s).known (recover s).replica.held

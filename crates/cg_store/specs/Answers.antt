@@ -50,7 +50,8 @@ pub record IsLost (id earlier : ℕ) (before after : OnDisk) (old new : DiskView
   pub told : (s e : DiskState) → old.state ≡ Some s → new.state ≡ Some e → IsCutShort id call before after s e
 
 -- a crash at each moment of a call leaves an image that has P
-abbrev pub EachMoment : {T D : Type 0} → (D → DiskView) → (T → D) → (Image → Type 0) → DiskView → Result T (CommitErr D) → Type 0
+abbrev pub EachMoment : {T D : Type 0} → (D → DiskView) → (T → D) → (Image → Type 0) → DiskView →
+    Result T (CommitErr D) → Type 0
 EachMoment view disk_in P old (Ok done) = LeavesOnly old (view (disk_in done)) P
 EachMoment view disk_in P old (Err (Lost disk)) = LeavesOnly old (view disk) P
 EachMoment view disk_in P old (Err (NoMemory disk)) = LeavesOnly old (view disk) P

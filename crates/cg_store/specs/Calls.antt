@@ -39,24 +39,28 @@ pub record IsFirst (id : ℕ) (body : List ℕ) (values : Stable) : Type 0 where
 
 -- the first record was written on an empty disk, in four calls
 abbrev pub Begins : {D : Type 0} → (D → DiskView) → ℕ → OnDisk → DiskView → Result (Kept D) (CommitErr D) → Type 0
-Begins view id after old (Ok store) = IsReached id 4 after old (view store.disk) × (store.id ≡ id) × (store.unwritten ≡ [])
+Begins view id after old (Ok store) = IsReached id 4 after old (view store.disk) × (store.id ≡ id)
+    × (store.unwritten ≡ [])
 Begins view id after old (Err (Lost disk)) = IsLostWithin 4 old (view disk)
 Begins view id after old (Err (NoMemory disk)) = IsRefusedWithin 4 old (view disk)
 
 -- the store of a new disk was made, in seven calls; after an error the disk may be no store
 abbrev pub Creates : {D : Type 0} → (D → DiskView) → ℕ → OnDisk → DiskView → Result (Kept D) (CommitErr D) → Type 0
-Creates view id after old (Ok store) = IsReached id 7 after old (view store.disk) × (store.id ≡ id) × (store.unwritten ≡ [])
+Creates view id after old (Ok store) = IsReached id 7 after old (view store.disk) × (store.id ≡ id)
+    × (store.unwritten ≡ [])
 Creates view id after old (Err (Lost disk)) = IsLostWithin 7 old (view disk)
 Creates view id after old (Err (NoMemory disk)) = IsRefusedWithin 7 old (view disk)
 
 -- a record was written in four calls, and with it all red marks
 abbrev pub Writes : {D : Type 0} → (D → DiskView) → Kept D → OnDisk → OnDisk → Result (Kept D) (CommitErr D) → Type 0
-Writes view old before after (Ok store) = IsReached old.id 4 after (view old.disk) (view store.disk) × (store.id ≡ old.id) × (store.unwritten ≡ [])
+Writes view old before after (Ok store) = IsReached old.id 4 after (view old.disk) (view store.disk)
+    × (store.id ≡ old.id) × (store.unwritten ≡ [])
 Writes view old before after (Err (Lost disk)) = IsLost old.id 0 before after (view old.disk) (view disk)
 Writes view old before after (Err (NoMemory disk)) = IsRefused old.id 2 before (view old.disk) (view disk)
 
 -- so was an event, which gives out what it has brought about
-abbrev pub Commits : {D : Type 0} → (D → DiskView) → Kept D → OnDisk → OnDisk → DraftParts → Result (Kept D × Outputs) (CommitErr D) → Type 0
+abbrev pub Commits : {D : Type 0} → (D → DiskView) → Kept D → OnDisk → OnDisk → DraftParts →
+    Result (Kept D × Outputs) (CommitErr D) → Type 0
 Commits view old before after d (Ok done) = Writes view old before after (Ok done.0) × (done.1 ≡ outputs_of true d)
 Commits view old before after d (Err fault) = Writes view old before after (Err fault)
 
@@ -73,8 +77,10 @@ Keeps old d (Err fault) = KeepsMarks old d.known (Err fault)
 
 -- the state was written in one record on the other side, in six calls
 abbrev pub Moves : {D : Type 0} → (D → DiskView) → Kept D → OnDisk → OnDisk → Result (Kept D) (CommitErr D) → Type 0
-Moves view old before after (Ok store) = IsReached old.id 6 after (view old.disk) (view store.disk) × (store.id ≡ old.id) × (store.unwritten ≡ old.unwritten)
-Moves view old before after (Err (Lost disk)) = IsLost old.id 0 before before (view old.disk) (view disk) ⊎ IsLost old.id 2 before after (view old.disk) (view disk)
+Moves view old before after (Ok store) = IsReached old.id 6 after (view old.disk) (view store.disk)
+    × (store.id ≡ old.id) × (store.unwritten ≡ old.unwritten)
+Moves view old before after (Err (Lost disk)) = IsLost old.id 0 before before (view old.disk) (view disk)
+    ⊎ IsLost old.id 2 before after (view old.disk) (view disk)
 Moves view old before after (Err (NoMemory disk)) = IsRefused old.id 4 before (view old.disk) (view disk)
 
 -- a call's answer, with what is given out behind it
@@ -83,19 +89,24 @@ paired (Ok store) outputs = Ok (store, outputs)
 paired (Err fault) outputs = Err fault
 
 -- an event's commit left its side too long, and a checkpoint followed
-abbrev pub EndsLong : {D : Type 0} → (D → DiskView) → Kept D → OnDisk → OnDisk → OnDisk → DraftParts → Result (Kept D × Outputs) (CommitErr D) → Type 0
+abbrev pub EndsLong : {D : Type 0} → (D → DiskView) → Kept D → OnDisk → OnDisk → OnDisk → DraftParts →
+    Result (Kept D × Outputs) (CommitErr D) → Type 0
 EndsLong view old before after moved d (Ok done) =
-    IsReached old.id 10 moved (view old.disk) (view done.0.disk) × (done.0.id ≡ old.id) × (done.0.unwritten ≡ []) × (done.1 ≡ outputs_of true d)
+    IsReached old.id 10 moved (view old.disk) (view done.0.disk) × (done.0.id ≡ old.id) × (done.0.unwritten ≡ [])
+    × (done.1 ≡ outputs_of true d)
 EndsLong view old before after moved d (Err (Lost disk)) =
     IsLost old.id 0 before after (view old.disk) (view disk)
-    ⊎ (IsLost old.id 4 after after (view old.disk) (view disk) ⊎ IsLost old.id 6 after moved (view old.disk) (view disk))
+    ⊎ (IsLost old.id 4 after after (view old.disk) (view disk)
+    ⊎ IsLost old.id 6 after moved (view old.disk) (view disk))
 EndsLong view old before after moved d (Err (NoMemory disk)) =
     IsRefused old.id 2 before (view old.disk) (view disk) ⊎ IsRefused old.id 8 after (view old.disk) (view disk)
 
 -- so it was where the commit leaves the side too long; else the event ends with it
-abbrev pub EndsWritten : {D : Type 0} → (D → DiskView) → Kept D → OnDisk → OnDisk → DraftParts → Result (Kept D × Outputs) (CommitErr D) → Type 0
+abbrev pub EndsWritten : {D : Type 0} → (D → DiskView) → Kept D → OnDisk → OnDisk → DraftParts →
+    Result (Kept D × Outputs) (CommitErr D) → Type 0
 EndsWritten view old before after d result =
-    Either (nat_lt size_limit after.size) (EndsLong view old before after (checkpointed after) d result) (Commits view old before after d result)
+    Either (nat_lt size_limit after.size) (EndsLong view old before after (checkpointed after) d result) (Commits view
+    old before after d result)
 
 -- an image stands for one of three
 abbrev pub IsOneOfThree : ℕ → OnDisk → OnDisk → OnDisk → Image → Type 0

@@ -20,13 +20,19 @@ strike_at call blow fill = record { call = call; fault = fault_of blow fill }
 -- is written and followed by a checkpoint is the outcome that they name: the change's four calls, the two that close the
 -- other side's gate, and the checkpoint's four
 pub record EndsAsDefined : Type 0 where
-  pub commit : (unwritten : List Action) (t : Turn) (u : OnDisk) → disk_of [] (committed unwritten t u) ≡ with_change (disk_of unwritten u) t
+  pub commit : (unwritten : List Action) (t : Turn) (u : OnDisk) →
+      disk_of [] (committed unwritten t u) ≡ with_change (disk_of unwritten u) t
   pub checkpoint : (u : OnDisk) → disk_of [] (checkpointed u) ≡ with_checkpoint (disk_of [] u)
   pub new : (s : Stored) → disk_of [] (created s) ≡ new_disk s
-  pub in_change : (unwritten : List Action) (t : Turn) (u : OnDisk) (call : ℕ) (blow : Blow) (fill : List ℕ) → call ≤ 4 →
-      at_rest (crash_outcome (disk_of unwritten u) t (strike_at call blow fill)) ≡ disk_of [] (if gate_stands blow call fill then committed unwritten t u else u)
-  pub in_closing : (unwritten : List Action) (t : Turn) (u : OnDisk) (call : ℕ) (blow : Blow) (fill : List ℕ) → 5 ≤ call → call ≤ 6 →
+  pub in_change : (unwritten : List Action) (t : Turn) (u : OnDisk) (call : ℕ) (blow : Blow) (fill : List ℕ) →
+      call ≤ 4 →
+      at_rest (crash_outcome (disk_of unwritten u) t (strike_at call blow fill)) ≡
+      disk_of [] (if gate_stands blow call fill then committed unwritten t u else u)
+  pub in_closing : (unwritten : List Action) (t : Turn) (u : OnDisk) (call : ℕ) (blow : Blow) (fill : List ℕ) →
+      5 ≤ call → call ≤ 6 →
       at_rest (crash_outcome (disk_of unwritten u) t (strike_at call blow fill)) ≡ disk_of [] (committed unwritten t u)
-  pub in_checkpoint : (unwritten : List Action) (t : Turn) (u : OnDisk) (call : ℕ) (blow : Blow) (fill : List ℕ) → call ≤ 4 →
+  pub in_checkpoint : (unwritten : List Action) (t : Turn) (u : OnDisk) (call : ℕ) (blow : Blow) (fill : List ℕ) →
+      call ≤ 4 →
       at_rest (crash_outcome (disk_of unwritten u) t (strike_at (6 + call) blow fill))
-      ≡ disk_of [] (if gate_stands blow call fill then checkpointed (committed unwritten t u) else committed unwritten t u)
+      ≡ disk_of [] (if gate_stands blow call fill then checkpointed (committed unwritten t u)
+      else committed unwritten t u)

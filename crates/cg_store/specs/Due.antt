@@ -20,7 +20,8 @@ use Rattle.cg_store.specs.declared.due.Due.{Due}
 
 abbrev pub same_stable : Stable → Stable → Bool
 same_stable old new =
-    primary.eq old.prim new.prim && (old.attempt_index == new.attempt_index) && option_eq vulnerable.eq old.vulnerable new.vulnerable
+    primary.eq old.prim new.prim && (old.attempt_index == new.attempt_index)
+    && option_eq vulnerable.eq old.vulnerable new.vulnerable
     && yellow.eq old.yellow new.yellow
 
 abbrev pub is_due : Stable → Stable → DraftParts → Bool

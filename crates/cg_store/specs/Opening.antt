@@ -42,7 +42,8 @@ abbrev pub later_side : ℕ → ℕ → Side
 later_side a b = if nat_lt a b then B else A
 
 abbrev pub IsLater : List (List ℕ) → List (List ℕ) → Side → Type 0
-IsLater a b side = (id : ℕ) (s t : Saved) → first_on id a ≡ Some s → first_on id b ≡ Some t → side ≡ later_side s.generation t.generation
+IsLater a b side = (id : ℕ) (s t : Saved) → first_on id a ≡ Some s → first_on id b ≡ Some t →
+    side ≡ later_side s.generation t.generation
 
 -- what stands on a side with this checkpoint at its front
 abbrev pub live_of : ℕ → List (List ℕ) → Checkpoint → Live
@@ -78,7 +79,8 @@ pub record IsSound (s : Stored) : Type 0 where
 -- what these records stand for was found
 pub record IsFound (id : ℕ) (r : Records) (f : Found) : Type 0 where
   pub size : ℕ
-  pub stands : standing_in id r ≡ Some (record { side = f.side; generation = f.generation; size = size; content = f.core })
+  pub stands : standing_in id r ≡
+      Some (record { side = f.side; generation = f.generation; size = size; content = f.core })
   pub values : f.values ≡ stable_of f.core
   pub small : IsNumber f.generation
   pub sound : IsSound f.core
@@ -89,13 +91,15 @@ Finds id r (Some f) = IsFound id r f
 
 -- the same with the store of the journal that has them
 abbrev pub Resumes : {D : Type 0} → ℕ → D → Records → Result (Kept D × Held) (OpenErr D) → Type 0
-Resumes id journal r (Ok opened) = (u : OnDisk) × (standing_in id r ≡ Some u) × (opened.1 ≡ u.content) × (opened.0 ≡ record { disk = journal; id = id; unwritten = [] }) × IsSound u.content
+Resumes id journal r (Ok opened) = (u : OnDisk) × (standing_in id r ≡ Some u) × (opened.1 ≡ u.content)
+    × (opened.0 ≡ record { disk = journal; id = id; unwritten = [] }) × IsSound u.content
 Resumes id journal r (Err (Lost disk)) = ⊥
 Resumes id journal r (Err (NotAStore disk)) = (disk ≡ journal) × (standing_in id r ≡ None)
 Resumes id journal r (Err (NoMemory disk)) = disk ≡ journal
 
 -- the store of a disk that stands for a state, and the core that holds it
-pub record IsOpened {D : Type 0} (view : D → DiskView) (id : ℕ) (old : DiskView) (store : Kept D) (core : Held) : Type 0 where
+pub record IsOpened {D : Type 0} (view : D →
+    DiskView) (id : ℕ) (old : DiskView) (store : Kept D) (core : Held) : Type 0 where
   pub standing : OnDisk
   pub stands : Stands id old.reads standing
   pub core_is : core ≡ standing.content

@@ -6,6 +6,9 @@ use Rattle.cg_stored.specs.Stored.{Stored}
 use Rattle.cg_stored.specs.Following.{all_of}
 
 -- all were read and fit; or no list was read there whose items all fit
-abbrev pub PutsAll : {A : Type 0} → Reading (List A) → (Stored → A → Option Stored) → Stored → Unread → Held → Unread → Bool → Type 0
-PutsAll {A} reading go s old t new true = (list : List A) × (reading old ≡ Ok (list, new)) × (all_of go (Some s) list ≡ Some t)
-PutsAll {A} reading go s old t new false = (list : List A) (rest : Unread) → reading old ≡ Ok (list, rest) → all_of go (Some s) list ≡ None
+abbrev pub PutsAll : {A : Type 0} → Reading (List A) → (Stored → A → Option Stored) → Stored → Unread →
+    Held → Unread → Bool → Type 0
+PutsAll {A} reading go s old t new true = (list : List A) × (reading old ≡ Ok (list, new))
+    × (all_of go (Some s) list ≡ Some t)
+PutsAll {A} reading go s old t new false = (list : List A) (rest : Unread) → reading old ≡ Ok (list, rest) →
+    all_of go (Some s) list ≡ None

@@ -23,7 +23,14 @@ abbrev pub resumed_with : ℕ → GreenState → Held
 resumed_with id g =
     record {
       id = id;
-      queue = record { white = g.reached.white; greens = g.greens; green_cut = g.reached.cut; red_cut = g.reached.cut; reds = []; yellow = [] };
+      queue = record {
+        white = g.reached.white;
+        greens = g.greens;
+        green_cut = g.reached.cut;
+        red_cut = g.reached.cut;
+        reds = [];
+        yellow = [];
+      };
       yellow_valid = false;
       own = [];
       db = g.db;

@@ -34,7 +34,11 @@ pub record Live : Type 0 where
   pub content : Option Stored
 
 abbrev pub live_from : List (List ℕ) → List (List ℕ) → Saved → Live
-live_from bodies changes first = record { generation = first.generation; size = size_of bodies; content = led_by_all (Some first.content) changes }
+live_from bodies changes first = record {
+  generation = first.generation;
+  size = size_of bodies;
+  content = led_by_all (Some first.content) changes;
+}
 
 abbrev pub live_on : ℕ → List (List ℕ) → Option Live
 live_on id [] = None
@@ -48,7 +52,8 @@ pub record OnDisk : Type 0 where
   pub content : Stored
 
 abbrev pub standing_on : Side → Live → Option OnDisk
-standing_on side l = option_map (λ s. record { side = side; generation = l.generation; size = l.size; content = s }) l.content
+standing_on side l =
+    option_map (λ s. record { side = side; generation = l.generation; size = l.size; content = s }) l.content
 
 -- the side with the greater generation is in use, side A where the two are equal
 abbrev pub chosen : Option Live → Option Live → Option OnDisk
@@ -76,7 +81,12 @@ led u body s = record u { content = s; size = size_with u.size body }
 
 -- the state in one checkpoint on the other side
 abbrev pub moved : OnDisk → List ℕ → OnDisk
-moved u body = record { side = opposite u.side; generation = suc u.generation; size = size_with empty_size body; content = u.content }
+moved u body = record {
+  side = opposite u.side;
+  generation = suc u.generation;
+  size = size_with empty_size body;
+  content = u.content;
+}
 
 -- a checkpoint on a new disk
 abbrev pub begun : List ℕ → Stored → OnDisk
@@ -94,4 +104,10 @@ created s = begun (spelled_checkpoint 1 s) s
 
 -- a disk in the account of a replica's events, with the red marks that stand in no record
 abbrev pub disk_of : List Action → OnDisk → Disk
-disk_of unwritten u = record { content = u.content; unwritten = unwritten; size = u.size; generation = u.generation; armed = None }
+disk_of unwritten u = record {
+  content = u.content;
+  unwritten = unwritten;
+  size = u.size;
+  generation = u.generation;
+  armed = None;
+}

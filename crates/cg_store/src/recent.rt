@@ -29,7 +29,8 @@ impl<'a> Recent<'a> {
     pub(crate) fn take(&mut self, alloc: Global, body: &'a [u8]) -> Result<Fields<'a>, CodecFault>
         requires { IsRecent self.old }
         ensures recent { IsRecent self.new }
-        ensures read { MatchResult result (λ fields. reading_stable (record { at = 0; bytes = body.now }) ≡ Ok (self.new.values, unread_of fields))
+        ensures read { MatchResult result (λ fields. reading_stable (record { at = 0; bytes = body.now }) ≡
+            Ok (self.new.values, unread_of fields))
             (λ fault. fault ≢ OutOfMemory → reading_stable (record { at = 0; bytes = body.now }) ≡ Err fault) }
     {
         let mut fields = Fields::new(body);

@@ -28,8 +28,11 @@ pub(crate) fn change_record(
 ) -> Result<Vec<u8>, NoMemory>
     requires stable { IsStable stable.now }
     requires unwritten { Each IsAction unwritten.now }
-    ensures spelled { IfOk result (λ bytes. bytes.items ≡ spelled_change (change_with stable.now (unwritten.now ++ draft.now.known) draft.now.green draft.now.made)) }
-    ensures within { IfOk result (λ bytes. IsChange (change_with stable.now (unwritten.now ++ draft.now.known) draft.now.green draft.now.made)) }
+    ensures spelled { IfOk result (λ bytes. bytes.items ≡
+        spelled_change (change_with stable.now (unwritten.now ++ draft.now.known) draft.now.green draft.now.made)) }
+    ensures within { IfOk
+        result (λ bytes. IsChange (change_with stable.now (unwritten.now ++ draft.now.known)
+        draft.now.green draft.now.made)) }
     ensures short { IfOk result (λ bytes. length bytes.items < 2 ^ 32) }
 {
     let mut bytes = Vec::with_capacity(alloc, USUAL)?;

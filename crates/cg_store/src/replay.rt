@@ -84,7 +84,8 @@ fn take_one(alloc: Global, fields: &mut Fields<'_>) -> Result<Action, CodecFault
 }
 
 fn know_all(alloc: Global, core: &mut Core, fields: &mut Fields<'_>) -> Result<bool, NoMemory>
-    ensures { IfOk result (PutsAll actions_reading know core.old (unread_of fields.old) core.new (unread_of fields.new)) }
+    ensures { IfOk result (PutsAll actions_reading know core.old (unread_of fields.old)
+        core.new (unread_of fields.new)) }
 {
     let count = match fields.take_count(u32::MAX) {
         Ok(count) => count,
@@ -131,7 +132,8 @@ fn is_first_own(core: &Core, id: &ActionId) -> bool
 }
 
 fn turn_all(core: &mut Core, fields: &mut Fields<'_>) -> Result<bool, NoMemory>
-    ensures { IfOk result (PutsAll ids_reading green_by_name core.old (unread_of fields.old) core.new (unread_of fields.new)) }
+    ensures { IfOk result (PutsAll ids_reading green_by_name core.old (unread_of fields.old)
+        core.new (unread_of fields.new)) }
 {
     let count = match fields.take_count(u32::MAX) {
         Ok(count) => count,
@@ -164,7 +166,8 @@ fn turn_one(core: &mut Core, id: ActionId) -> Result<bool, NoMemory>
 }
 
 fn make_all(alloc: Global, core: &mut Core, fields: &mut Fields<'_>) -> Result<bool, NoMemory>
-    ensures { IfOk result (PutsAll actions_reading make core.old (unread_of fields.old) core.new (unread_of fields.new)) }
+    ensures { IfOk result (PutsAll actions_reading make core.old (unread_of fields.old)
+        core.new (unread_of fields.new)) }
 {
     let count = match fields.take_count(u32::MAX) {
         Ok(count) => count,

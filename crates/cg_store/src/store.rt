@@ -118,17 +118,20 @@ impl<D: Disk> Store<D> {
         requires calls { (D.view self.disk).time + 4 ≤ 2 ^ 62 }
 
         // The event's record leads from what the disk stands for to what the commit leaves.
-        requires recorded { (u : OnDisk) (state : State) → Stands self.id (D.view self.disk).reads u → IsRecorded u.content self.unwritten (turn_with core.now state draft) }
+        requires recorded { (u : OnDisk) (state : State) → Stands self.id (D.view self.disk).reads u →
+            IsRecorded u.content self.unwritten (turn_with core.now state draft) }
 
         ensures ends { (u : OnDisk) (state : State) → Stands self.id (D.view self.disk).reads u →
             (let t = turn_with core.now state draft in
-            Either (commits u.content t) (Commits D.view self u (committed self.unwritten t u) draft result) (Keeps self draft result)) }
+            Either (commits u.content t) (Commits D.view self u (committed self.unwritten t u) draft result)
+            (Keeps self draft result)) }
 
         ensures time { IfOk result (λ done. (D.view done.0.disk).time ≤ (D.view self.disk).time + 4) }
 
         // At each moment every image stands for the state before, or for the one behind the commit.
         ensures moments { (u : OnDisk) (state : State) → Stands self.id (D.view self.disk).reads u →
-            EachMoment D.view (λ done. done.0.disk) (IsEither self.id u (committed self.unwritten (turn_with core.now state draft) u)) (D.view self.disk) result }
+            EachMoment D.view (λ done. done.0.disk) (IsEither self.id
+            u (committed self.unwritten (turn_with core.now state draft) u)) (D.view self.disk) result }
     {
         changes_are_exact();
         let alloc = core.alloc();
@@ -150,7 +153,8 @@ impl<D: Disk> Store<D> {
     ) -> Result<(Row<Letter>, Option<Due>), NoMemory>
         ensures letters { IfOk result (λ r. r.0 ≡ draft.now.sent) }
         ensures short { IfOk result (λ r. IfSome r.1 (λ x. length x.body < 2 ^ 32)) }
-        ensures due { IfOk result (λ r. (u : OnDisk) (state : State) → Stands self.now.id (D.view self.now.disk).reads u →
+        ensures due { IfOk result (λ r. (u : OnDisk) (state : State) →
+            Stands self.now.id (D.view self.now.disk).reads u →
             IsReady u.content self.now.unwritten core.now draft.now state r.1) }
     {
         let letters = seal_all(alloc, draft.sent().as_slice())?;
@@ -202,9 +206,11 @@ impl<D: Disk> Store<D> {
         requires calls { (D.view self.disk).time + 4 ≤ 2 ^ 62 }
         requires short { length due.body < 2 ^ 32 }
         requires leads { (u : OnDisk) → Stands self.id (D.view self.disk).reads u → IsLed u due }
-        ensures ends { (u : OnDisk) (v : OnDisk) → Stands self.id (D.view self.disk).reads u → IsBehind u (Some due) v → Writes D.view self u v result }
+        ensures ends { (u : OnDisk) (v : OnDisk) → Stands self.id (D.view self.disk).reads u → IsBehind u (Some due) v →
+            Writes D.view self u v result }
         ensures time { IfOk result (λ s. (D.view s.disk).time ≤ (D.view self.disk).time + 4) }
-        ensures moments { (u : OnDisk) (v : OnDisk) → Stands self.id (D.view self.disk).reads u → IsBehind u (Some due) v →
+        ensures moments { (u : OnDisk) (v : OnDisk) → Stands self.id (D.view self.disk).reads u →
+            IsBehind u (Some due) v →
             EachMoment D.view (λ s. s.disk) (IsEither self.id u v) (D.view self.disk) result }
     {
         let Store {
@@ -250,7 +256,8 @@ impl<D: Disk> Store<D> {
         requires held { (u : OnDisk) → Stands self.id (D.view self.disk).reads u → stored_of core.now ≡ u.content }
         requires agrees { Agrees (stored_of core.now) }
 
-        ensures ends { (u : OnDisk) → Stands self.id (D.view self.disk).reads u → Moves D.view self u (checkpointed u) result }
+        ensures ends { (u : OnDisk) → Stands self.id (D.view self.disk).reads u →
+            Moves D.view self u (checkpointed u) result }
 
         // At each moment every image stands for this state, in the records before or in the new one.
         ensures moments { (u : OnDisk) → Stands self.id (D.view self.disk).reads u →
@@ -266,8 +273,10 @@ impl<D: Disk> Store<D> {
 
     // The checkpoint that is next.
     fn next_record(&self, alloc: Global, core: &Core) -> Result<Vec<u8>, NoMemory>
-        ensures small { OnOk result ((u : OnDisk) → Stands self.now.id (D.view self.now.disk).reads u → IsNumber (suc u.generation)) }
-        ensures spelled { IfOk result (λ bytes. (u : OnDisk) → Stands self.now.id (D.view self.now.disk).reads u → bytes.items ≡ spelled_checkpoint (suc u.generation) core.now) }
+        ensures small { OnOk result ((u : OnDisk) → Stands self.now.id (D.view self.now.disk).reads u →
+            IsNumber (suc u.generation)) }
+        ensures spelled { IfOk result (λ bytes. (u : OnDisk) → Stands self.now.id (D.view self.now.disk).reads u →
+            bytes.items ≡ spelled_checkpoint (suc u.generation) core.now) }
         ensures within { OnOk result (IsStored core.now) }
         ensures short { IfOk result (λ bytes. length bytes.items < 2 ^ 32) }
     {
@@ -282,8 +291,10 @@ impl<D: Disk> Store<D> {
         requires calls { (D.view self.disk).time + 6 ≤ 2 ^ 62 }
         requires short { length body.now < 2 ^ 32 }
         requires small { (u : OnDisk) → Stands self.id (D.view self.disk).reads u → IsNumber (suc u.generation) }
-        requires saved { (u : OnDisk) → Stands self.id (D.view self.disk).reads u → checkpoint_in self.id body.now ≡ Some (record { generation = suc u.generation; content = u.content }) }
-        ensures ends { (u : OnDisk) → Stands self.id (D.view self.disk).reads u → Moves D.view self u (moved u body.now) result }
+        requires saved { (u : OnDisk) → Stands self.id (D.view self.disk).reads u →
+            checkpoint_in self.id body.now ≡ Some (record { generation = suc u.generation; content = u.content }) }
+        ensures ends { (u : OnDisk) → Stands self.id (D.view self.disk).reads u →
+            Moves D.view self u (moved u body.now) result }
         ensures moments { (u : OnDisk) → Stands self.id (D.view self.disk).reads u →
             EachMoment D.view (λ s. s.disk) (IsEither self.id u (moved u body.now)) (D.view self.disk) result }
     {
@@ -473,7 +484,8 @@ impl Store<ModelDisk> {
     /// Arms the nth next device call, n at least 1, to fail once.
     pub fn fail_at(&mut self, n: u64)
         requires { 1 ≤ n }
-        ensures disk { Arms Fails n (⟦<ModelDisk as Disk>⟧.view self.old.disk) (⟦<ModelDisk as Disk>⟧.view self.new.disk) }
+        ensures disk { Arms Fails n (⟦<ModelDisk as Disk>⟧.view self.old.disk)
+            (⟦<ModelDisk as Disk>⟧.view self.new.disk) }
         ensures id { self.new.id ≡ self.old.id }
         ensures unwritten { self.new.unwritten ≡ self.old.unwritten }
     {
@@ -483,7 +495,8 @@ impl Store<ModelDisk> {
     /// Arms a stop inside the nth next device call, n at least 1.
     pub fn stop_at(&mut self, n: u64)
         requires { 1 ≤ n }
-        ensures disk { Arms Stops n (⟦<ModelDisk as Disk>⟧.view self.old.disk) (⟦<ModelDisk as Disk>⟧.view self.new.disk) }
+        ensures disk { Arms Stops n (⟦<ModelDisk as Disk>⟧.view self.old.disk)
+            (⟦<ModelDisk as Disk>⟧.view self.new.disk) }
         ensures id { self.new.id ≡ self.old.id }
         ensures unwritten { self.new.unwritten ≡ self.old.unwritten }
     {

@@ -11,8 +11,14 @@ use Rattle.cg_stored.specs.Stored.{stable_of}
 
 -- a change in bytes
 unfoldable pub spelled_change : Change → List ℕ
-spelled_change c = spelled_stable c.stable ++ (list spelled_action c.known ++ (list spelled_id c.green ++ list spelled_action c.made))
+spelled_change c = spelled_stable c.stable
+    ++ (list spelled_action c.known ++ (list spelled_id c.green ++ list spelled_action c.made))
 
 -- the change that an event brings about, behind the red marks of earlier events that stand in no record
 abbrev pub change_of : List Action → Turn → Change
-change_of unwritten t = record { stable = stable_of t.replica.held; known = unwritten ++ t.known; green = t.green; made = t.made }
+change_of unwritten t = record {
+  stable = stable_of t.replica.held;
+  known = unwritten ++ t.known;
+  green = t.green;
+  made = t.made;
+}

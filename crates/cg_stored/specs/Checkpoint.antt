@@ -20,7 +20,9 @@ spelled_entry e = text e.key ++ spelled_value e.value
 
 -- the counts of greens and of discarded ones, the green cut and the members
 unfoldable pub spelled_reached : Reached → List ℕ
-spelled_reached r = number64 r.count ++ (number64 r.white ++ (spelled_cut r.cut ++ (list spelled_server r.members.servers ++ spelled_set r.members.left)))
+spelled_reached r =
+    number64 r.count ++ (number64 r.white
+    ++ (spelled_cut r.cut ++ (list spelled_server r.members.servers ++ spelled_set r.members.left)))
 
 -- the actions that are kept: greens, reds by name, own ones
 unfoldable pub spelled_kept : Kept → List ℕ
@@ -30,17 +32,29 @@ spelled_kept k = list spelled_action k.greens ++ (list spelled_action k.reds ++ 
 -- database
 unfoldable pub spelled_parts : Checkpoint → List ℕ
 spelled_parts p =
-    number64 p.generation ++ (spelled_stable p.stable ++ (spelled_reached p.reached ++ (list spelled_entry p.db ++ spelled_kept p.kept)))
+    number64 p.generation ++ (spelled_stable p.stable
+    ++ (spelled_reached p.reached ++ (list spelled_entry p.db ++ spelled_kept p.kept)))
 
 -- the parts of a checkpoint of what stands on the disk
 abbrev pub reached_of : Stored → Reached
-reached_of s = record { count = green_count s.queue; white = s.queue.white; cut = s.queue.green_cut; members = s.members }
+reached_of s = record {
+  count = green_count s.queue;
+  white = s.queue.white;
+  cut = s.queue.green_cut;
+  members = s.members;
+}
 
 abbrev pub kept_of : Stored → Kept
 kept_of s = record { greens = s.queue.greens; reds = s.queue.reds; own = s.own }
 
 abbrev pub parts_of : ℕ → Stored → Checkpoint
-parts_of generation s = record { generation = generation; stable = stable_of s; reached = reached_of s; db = s.db; kept = kept_of s }
+parts_of generation s = record {
+  generation = generation;
+  stable = stable_of s;
+  reached = reached_of s;
+  db = s.db;
+  kept = kept_of s;
+}
 
 -- a checkpoint in bytes
 unfoldable pub spelled_checkpoint : ℕ → Stored → List ℕ

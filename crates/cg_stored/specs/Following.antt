@@ -22,11 +22,13 @@ change_with stable known green made = record { stable = stable; known = known; g
 -- an action may become known where it is the next of its creator, one of the disk's own replica where that waits for it first
 abbrev pub fits_known : Stored → Action → Bool
 fits_known s a =
-    (a.id.index == suc (index_in s.queue.red_cut a.id.creator)) && (not (a.id.creator == s.id) || is_first (names_of s.own) a.id)
+    (a.id.index == suc (index_in s.queue.red_cut a.id.creator))
+    && (not (a.id.creator == s.id) || is_first (names_of s.own) a.id)
 
 -- an action becomes known
 abbrev pub know : Stored → Action → Option Stored
-know s a = if fits_known s a then Some (record s { queue = placed_red s.queue a; own = after_first s.own a.id }) else None
+know s a = if fits_known s a
+    then Some (record s { queue = placed_red s.queue a; own = after_first s.own a.id }) else None
 
 -- a red action becomes green where it is the next green one of its creator
 abbrev pub turn_green : Stored → Action → Option Stored
@@ -38,7 +40,8 @@ green_by_name s id = option_and_then (turn_green s) (action_of s.queue id)
 
 -- the disk's replica makes its next action
 abbrev pub make : Stored → Action → Option Stored
-make s a = if (a.id.creator == s.id) && (a.id.index == suc (created s)) then Some (record s { own = s.own ++ a ∷ [] }) else None
+make s a = if (a.id.creator == s.id) && (a.id.index == suc (created s))
+    then Some (record s { own = s.own ++ a ∷ [] }) else None
 
 -- the items of a list one after another, as long as each fits
 abbrev pub all_of : {A : Type 0} → (Stored → A → Option Stored) → Option Stored → List A → Option Stored
@@ -62,11 +65,14 @@ put_values s v =
 
 -- they fit where the yellow names are those of reds, and the last action made is the one that is named
 abbrev pub with_values : Stable → Stored → Option Stored
-with_values v s = if are_yellow s.queue v.yellow.list && (v.created == created s) then Some (whiten (put_values s v)) else None
+with_values v s = if are_yellow s.queue v.yellow.list && (v.created == created s)
+    then Some (whiten (put_values s v)) else None
 
 -- what stands on the disk after a change, where the change fits
 unfoldable pub after_change : Stored → Change → Option Stored
-after_change s c = option_and_then (with_values c.stable) (all_of make (all_of green_by_name (all_of know (Some s) c.known) c.green) c.made)
+after_change s c =
+    option_and_then (with_values c.stable) (all_of
+    make (all_of green_by_name (all_of know (Some s) c.known) c.green) c.made)
 
 -- a replica holds what stands on the disk and these red marks
 abbrev pub IsAhead : Stored → List Action → Held → Type 0

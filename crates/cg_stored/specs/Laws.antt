@@ -44,6 +44,8 @@ FindsCheckpoint id bytes None = checkpoint_in id bytes ≡ None
 FindsCheckpoint id bytes (Some p) = (checkpoint_in id bytes ≡ Some (saved_in id p)) × AreSaved id p
 
 -- an entry was read behind a key and put into a database, and its key, seen by a view, was given
-abbrev pub TakesEntry : {X : Type 0} → (X → List ℕ) → List ℕ → List DbEntry → List DbEntry → Unread → Unread → Result X CodecFault → Type 0
-TakesEntry view last before db old new (Ok key) = (value : Value) × (entry_reading last old ≡ Ok (record { key = view key; value = value }, new)) × (db ≡ put before (view key) value)
+abbrev pub TakesEntry : {X : Type 0} → (X → List ℕ) → List ℕ → List DbEntry → List DbEntry → Unread → Unread →
+    Result X CodecFault → Type 0
+TakesEntry view last before db old new (Ok key) = (value : Value)
+    × (entry_reading last old ≡ Ok (record { key = view key; value = value }, new)) × (db ≡ put before (view key) value)
 TakesEntry view last before db old new (Err fault) = fault ≢ NoMemory → entry_reading last old ≡ Err fault

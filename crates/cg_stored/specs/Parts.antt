@@ -54,7 +54,8 @@ stored_in id p =
 -- the index that a creator's actions have reached behind this one: another creator's is passed over, and its own has to be
 -- the next one, no further than to the last
 abbrev pub next_index : Action → ℕ → ℕ → ℕ → Option ℕ
-next_index a id at high = if a.id.creator == id then (if nat_lt at high && (a.id.index == suc at) then Some (suc at) else None) else Some at
+next_index a id at high = if a.id.creator == id
+    then (if nat_lt at high && (a.id.index == suc at) then Some (suc at) else None) else Some at
 
 -- a creator's greens count up to its index in the cut; its reds from that in the one cut to that in the other
 abbrev pub greens_count : List Action → List ActionId → ℕ → Bool
@@ -65,7 +66,8 @@ reds_count reds from to p = pointwise nat_eq (indexes_of reds p) (above_up_to (i
 
 -- own actions behind an index and up to another
 abbrev pub are_own_between : ℕ → List Action → ℕ → ℕ → Bool
-are_own_between id own low high = list_all (λ a. a.id.creator == id) own && pointwise nat_eq (map (λ a. a.id.index) own) (above_up_to low high)
+are_own_between id own low high = list_all (λ a. a.id.creator == id) own
+    && pointwise nat_eq (map (λ a. a.id.index) own) (above_up_to low high)
 
 -- the name comes before that of the first action, if there is one
 abbrev pub is_before_first : ActionId → List Action → Bool
@@ -97,7 +99,8 @@ abbrev pub yellow_agrees : Checkpoint → Bool
 yellow_agrees p = is_distinct p.stable.yellow.list && list_all (is_between_cuts p) p.stable.yellow.list
 
 abbrev pub names_agree : ℕ → Checkpoint → Bool
-names_agree id p = (p.stable.created == created (stored_in id p)) && (is_by_name p.kept.reds && (yellow_agrees p && are_own (stored_in id p)))
+names_agree id p = (p.stable.created == created (stored_in id p))
+    && (is_by_name p.kept.reds && (yellow_agrees p && are_own (stored_in id p)))
 
 unfoldable pub do_agree : ℕ → Checkpoint → Bool
 do_agree id p = greens_agree p && (list_all (counts_up (queue_in p)) every_replica && names_agree id p)

@@ -39,7 +39,8 @@ pub fn put_change(
     requires known { Each IsAction known.now }
     requires green { Each IsActionId green.now }
     requires made { Each IsAction made.now }
-    ensures ok { OnOk result (out.new.items ≡ out.old.items ++ spelled_change (change_with stable.now (unwritten.now ++ known.now) green.now made.now)) }
+    ensures ok { OnOk result (out.new.items ≡ out.old.items
+        ++ spelled_change (change_with stable.now (unwritten.now ++ known.now) green.now made.now)) }
     ensures within { OnOk result (IsChange (change_with stable.now (unwritten.now ++ known.now) green.now made.now)) }
     ensures err { OnErr result (out.new.items ≡ out.old.items) }
 {
@@ -72,7 +73,8 @@ fn write_change(
     made: &[Action],
 ) -> Result<(), NoMemory>
     requires { IsChange (change_with stable.now (unwritten.now ++ known.now) green.now made.now) }
-    ensures ok { OnOk result (out.new.items ≡ out.old.items ++ spelled_change (change_with stable.now (unwritten.now ++ known.now) green.now made.now)) }
+    ensures ok { OnOk result (out.new.items ≡ out.old.items
+        ++ spelled_change (change_with stable.now (unwritten.now ++ known.now) green.now made.now)) }
     ensures err { OnErr result (KeepsFront out.old.items out.new.items) }
 {
     put_stable(out, stable)?;

@@ -109,7 +109,8 @@ fn write_entries(out: &mut Vec<u8>, db: &Db) -> Result<(), NoMemory>
 fn write_entry(out: &mut Vec<u8>, db: &Db, key: &Txt) -> Result<(), NoMemory>
     requires entries { AreEntries db.now }
     requires key { IsKey key.now }
-    ensures ok { OnOk result (out.new.items ≡ out.old.items ++ flat_map spelled_entry (entry_at key.now (value_of db.now key.now))) }
+    ensures ok { OnOk result (out.new.items ≡ out.old.items
+        ++ flat_map spelled_entry (entry_at key.now (value_of db.now key.now))) }
     ensures err { OnErr result (KeepsFront out.old.items out.new.items) }
 {
     let Some(value) = db.value(key) else {

@@ -24,7 +24,8 @@ pub(crate) enum KeptList {
 
 /// How many actions the list has. None says that there are 2^32 or more.
 pub(crate) fn count_in(core: &Core, which: KeptList) -> Option<u32>
-    ensures { MatchOption result (2 ^ 32 ≤ length (list_in core.now which)) (λ count. count ≡ length (list_in core.now which)) }
+    ensures { MatchOption result (2 ^ 32 ≤ length (list_in core.now which)) (λ count. count ≡
+        length (list_in core.now which)) }
 {
     match which {
         KeptList::Greens => small(core.queue().green_count() - core.queue().white_count()),

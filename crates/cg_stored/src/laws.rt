@@ -17,7 +17,8 @@ pub fn changes_are_exact()
     ensures field { IsField IsChange spelled_change change_reading }
     ensures whole { IsWhole IsChange spelled_change change_reading }
     ensures again { (c : Change) → IsChange c → change_in (spelled_change c) ≡ Some c }
-    ensures found { (c : Change) (bytes : List ℕ) → AreBytes bytes → change_in bytes ≡ Some c → IsChange c × (bytes ≡ spelled_change c) }
+    ensures found { (c : Change) (bytes : List ℕ) → AreBytes bytes → change_in bytes ≡ Some c →
+        IsChange c × (bytes ≡ spelled_change c) }
     ensures apart { IsFrontOfNoOther IsChange spelled_change }
 {}
 
@@ -37,7 +38,10 @@ pub fn agreement_is_tested()
 
 /// Bytes are read as the checkpoint that they are, and as no other; so bytes stand for one state alone.
 pub fn checkpoints_are_exact()
-    ensures again { (id : ℕ) (bytes : List ℕ) (generation : ℕ) (s : Stored) → IsCheckpoint id bytes generation s → checkpoint_in id bytes ≡ Some (record { generation = generation; content = s }) }
-    ensures found { (id : ℕ) (bytes : List ℕ) (x : Saved) → IsId id → AreBytes bytes → checkpoint_in id bytes ≡ Some x → IsCheckpoint id bytes x.generation x.content }
-    ensures one { (id : ℕ) (bytes : List ℕ) (g : ℕ) (h : ℕ) (s : Stored) (t : Stored) → IsCheckpoint id bytes g s → IsCheckpoint id bytes h t → (g ≡ h) × (s ≡ t) }
+    ensures again { (id : ℕ) (bytes : List ℕ) (generation : ℕ) (s : Stored) → IsCheckpoint id bytes generation s →
+        checkpoint_in id bytes ≡ Some (record { generation = generation; content = s }) }
+    ensures found { (id : ℕ) (bytes : List ℕ) (x : Saved) → IsId id → AreBytes bytes → checkpoint_in id bytes ≡ Some x →
+        IsCheckpoint id bytes x.generation x.content }
+    ensures one { (id : ℕ) (bytes : List ℕ) (g : ℕ) (h : ℕ) (s : Stored) (t : Stored) → IsCheckpoint id bytes g s →
+        IsCheckpoint id bytes h t → (g ≡ h) × (s ≡ t) }
 {}

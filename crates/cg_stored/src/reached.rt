@@ -40,7 +40,8 @@ pub fn put_reached(
     cut: &Cut,
     members: &Members,
 ) -> Result<(), NoMemory>
-    ensures ok { OnOk result (out.new.items ≡ out.old.items ++ spelled_reached (record { count = count; white = white; cut = cut.now; members = members.now })) }
+    ensures ok { OnOk result (out.new.items ≡ out.old.items
+        ++ spelled_reached (record { count = count; white = white; cut = cut.now; members = members.now })) }
     ensures err { OnErr result (out.new.items ≡ out.old.items) }
 {
     let before = out.len();
@@ -59,7 +60,8 @@ fn write_reached(
     cut: &Cut,
     members: &Members,
 ) -> Result<(), NoMemory>
-    ensures ok { OnOk result (out.new.items ≡ out.old.items ++ spelled_reached (record { count = count; white = white; cut = cut.now; members = members.now })) }
+    ensures ok { OnOk result (out.new.items ≡ out.old.items
+        ++ spelled_reached (record { count = count; white = white; cut = cut.now; members = members.now })) }
     ensures err { OnErr result (KeepsFront out.old.items out.new.items) }
 {
     put_u64(out, count)?;

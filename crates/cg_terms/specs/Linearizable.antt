@@ -31,7 +31,8 @@ replied_in s = map (λ r. r.id) s.entry.replies
 -- the first operation is over before the second begins: in some step it is responded to, and up to that step the second isn't invoked
 abbrev pub IsOverBefore : List Step → ActionId → ActionId → Type 0
 IsOverBefore steps a b =
-    (earlier : List Step) × (s : Step) × ComesAfter steps earlier s × Contains (replied_in s) a × (Contains (made_names (through earlier s)) b → ⊥)
+    (earlier : List Step) × (s : Step) × ComesAfter steps earlier s × Contains (replied_in s) a
+    × (Contains (made_names (through earlier s)) b → ⊥)
 
 -- The sequential object: one database, alone, that takes one action after another. To each it responds with what the action did and,
 -- behind it, the answer to its query.
@@ -39,7 +40,8 @@ abbrev pub responses : List DbEntry → List Action → List Reply
 responses db [] = []
 responses db (a ∷ actions) =
     let applied = apply db a in
-    record { id = a.id; effect = applied.effect; answer = option_map (answer applied.db) (query_of a.kind) } ∷ responses applied.db actions
+    record { id = a.id; effect = applied.effect; answer = option_map (answer applied.db) (query_of a.kind) }
+    ∷ responses applied.db actions
 
 -- A sequential history stands for the run: its operations were invoked as they stand in it, and none stands in it twice; each response of the
 -- run is the one that the object gives in it, so all that were responded to stand in it; and what was over before another began stands before
@@ -48,7 +50,8 @@ pub record Linearizes (steps : List Step) (history : List Action) : Type 0 where
   pub invoked : (a : Action) → Contains history a → Contains (made_from [] steps) a
   pub distinct : AllDiffer (names_of history)
   pub legal : (s : Step) (r : Reply) → Contains steps s → Contains s.entry.replies r → Contains (responses [] history) r
-  pub real_time : (a b : ActionId) → IsOverBefore steps a b → Contains (names_of history) b → StandsBefore (names_of history) a b
+  pub real_time : (a b : ActionId) → IsOverBefore steps a b → Contains (names_of history) b →
+      StandsBefore (names_of history) a b
 
 -- Some sequential history stands for the run.
 abbrev pub Linearizable : List Step → Type 0

@@ -22,6 +22,7 @@ Reads view read (Ok x) = read ≡ Ok (view x)
 Reads view read (Err fault) = fault ≢ NoMemory → read ≡ Err fault
 
 -- A spelling and a reading belong together: what is spelled is read, and what is read is spelled so.
-pub record IsSpelling {X : Type 0} (Has : X → Type 0) (spelling : X → List ℕ) (read : List ℕ → Result X TextFault) : Type 0 where
+pub record IsSpelling {X : Type 0} (Has : X → Type 0) (spelling : X → List ℕ) (read : List ℕ →
+    Result X TextFault) : Type 0 where
   pub again : (x : X) → Has x → read (spelling x) ≡ Ok x
   pub found : (bytes : List ℕ) (x : X) → read bytes ≡ Ok x → Has x × (bytes ≡ spelling x)

@@ -34,7 +34,8 @@ negative (suc n) = Some (negsuc n)
 -- the number that bytes spell, with a - in front where it is below 0
 abbrev pub plain_integer : List ℕ → Option ℤ
 plain_integer [] = None
-plain_integer (byte ∷ bytes) = if byte == 45 then option_and_then negative (plain_number bytes) else option_map pos (plain_number (byte ∷ bytes))
+plain_integer (byte ∷ bytes) = if byte == 45 then option_and_then negative (plain_number bytes)
+    else option_map pos (plain_number (byte ∷ bytes))
 
 -- the number has room in 64 bits, and so has the number with its sign
 abbrev pub fits_u64 : ℕ → Bool

@@ -29,7 +29,8 @@ after_mark byte = if byte == 34 then InText (byte ∷ []) false else Between
 abbrev pub next_scan : Scan → ℕ → Scan
 next_scan Between byte = if is_mark byte then after_mark byte else InWord (byte ∷ [])
 next_scan (InWord word) byte = if is_mark byte then after_mark byte else InWord (word ++ byte ∷ [])
-next_scan (InText text is_escaped) byte = if ends_text is_escaped byte then Between else InText (text ++ byte ∷ []) (escapes is_escaped byte)
+next_scan (InText text is_escaped) byte = if ends_text is_escaped byte then Between
+    else InText (text ++ byte ∷ []) (escapes is_escaped byte)
 
 -- the token that a byte is by itself
 abbrev pub mark_token : ℕ → List (List ℕ)

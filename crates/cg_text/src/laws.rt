@@ -18,7 +18,8 @@ pub fn numbers_are_exact()
 /// Each text without control bytes has one spelling between quotes: what is printed is read, and what is
 /// read is printed so.
 pub fn quoted_texts_are_exact()
-    ensures { (max : ℕ) → IsSpelling (λ text. IsUtf8 text × (is_printable text ≡ true) × (length text ≤ max)) quoted (read_quoted max) }
+    ensures { (max : ℕ) → IsSpelling (λ text. IsUtf8 text × (is_printable text ≡ true) × (length text ≤ max))
+        quoted (read_quoted max) }
 {}
 
 /// The tokens of a line come as they stand: blanks are passed over, a separator stands by itself, a word
@@ -26,7 +27,9 @@ pub fn quoted_texts_are_exact()
 pub fn tokens_are_exact()
     ensures none { tokens [] ≡ [] }
     ensures blank { (byte : ℕ) (rest : List ℕ) → is_blank byte ≡ true → tokens (byte ∷ rest) ≡ tokens rest }
-    ensures separator { (byte : ℕ) (rest : List ℕ) → is_separator byte ≡ true → tokens (byte ∷ rest) ≡ (byte ∷ []) ∷ tokens rest }
-    ensures word { (word rest : List ℕ) → is_word word ≡ true → ends_word rest ≡ true → tokens (word ++ rest) ≡ word ∷ tokens rest }
+    ensures separator { (byte : ℕ) (rest : List ℕ) → is_separator byte ≡ true →
+        tokens (byte ∷ rest) ≡ (byte ∷ []) ∷ tokens rest }
+    ensures word { (word rest : List ℕ) → is_word word ≡ true → ends_word rest ≡ true →
+        tokens (word ++ rest) ≡ word ∷ tokens rest }
     ensures text { (text rest : List ℕ) → tokens (quoted text ++ rest) ≡ quoted text ∷ tokens rest }
 {}

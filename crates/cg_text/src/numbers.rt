@@ -29,7 +29,8 @@ pub fn read_i64(t: &[u8]) -> Result<i64, TextFault>
 
 // the number below 0 whose digits stand behind its sign
 fn read_below_zero(digits: &[u8]) -> Result<i64, TextFault>
-    ensures { result ≡ fitting TextFault.NotANumber TextFault.TooLarge fits_i64 (option_and_then negative (plain_number digits.now)) }
+    ensures { result ≡ fitting TextFault.NotANumber TextFault.TooLarge
+        fits_i64 (option_and_then negative (plain_number digits.now)) }
 {
     if !is_plain(digits) {
         return Err(TextFault::NotANumber);
@@ -42,7 +43,8 @@ fn read_below_zero(digits: &[u8]) -> Result<i64, TextFault>
 }
 
 fn read_from_zero(digits: &[u8]) -> Result<i64, TextFault>
-    ensures { result ≡ fitting TextFault.NotANumber TextFault.TooLarge fits_i64 (option_map pos (plain_number digits.now)) }
+    ensures { result ≡ fitting TextFault.NotANumber TextFault.TooLarge
+        fits_i64 (option_map pos (plain_number digits.now)) }
 {
     let value = read_u64(digits)?;
     if value < 1 << 63 {

@@ -68,7 +68,8 @@ fn unescaped(alloc: Global, inner: &[u8]) -> Result<Vec<u8>, TextFault>
 // the text, if nothing stands behind the place where it was closed
 fn if_last(i: usize, inner: &[u8], text: Vec<u8>) -> Result<Vec<u8>, TextFault>
     requires { i < length inner.now }
-    ensures { Reads (λ v. v.items) (ok_or (onto text.items (closed (drop (i + 1) inner.now))) TextFault.BadQuote) result }
+    ensures { Reads (λ v. v.items) (ok_or (onto text.items (closed (drop (i + 1) inner.now)))
+        TextFault.BadQuote) result }
 {
     if i + 1 == inner.len() {
         Ok(text)

@@ -101,7 +101,8 @@ fn word_len(line: &[u8]) -> usize
 fn text_len(line: &[u8]) -> usize
     requires some { 0 < length line.now }
     ensures within { result ≤ length line.now }
-    ensures text { tokens_from (InText (take 1 line.now) false) (drop 1 line.now) ≡ take result line.now ∷ tokens (drop result line.now) }
+    ensures text { tokens_from (InText (take 1 line.now) false) (drop 1 line.now) ≡
+        take result line.now ∷ tokens (drop result line.now) }
 {
     let mut is_escaped = false;
     for i in 1..line.len() {

@@ -27,7 +27,8 @@ pub record IsTranscript (es : List Entry) : Type 0 where
 
 -- two reports with one text are those of one transcript, up to silent entries at the end
 abbrev pub ReportsTellTheirTranscripts : Type 0
-ReportsTellTheirTranscripts = (es fs : List Entry) → IsTranscript es → IsTranscript fs → report_text 0 es ≡ report_text 0 fs → trimmed es ≡ trimmed fs
+ReportsTellTheirTranscripts = (es fs : List Entry) → IsTranscript es → IsTranscript fs →
+    report_text 0 es ≡ report_text 0 fs → trimmed es ≡ trimmed fs
 
 -- the last line that a run puts: one line, with its end
 pub record IsTail (tail : List ℕ) : Type 0 where
@@ -38,5 +39,6 @@ pub record IsTail (tail : List ℕ) : Type 0 where
 -- the same of reports with their tails, and the tails are one
 abbrev pub WholeReportsTellTheirTranscripts : Type 0
 WholeReportsTellTheirTranscripts =
-    (es fs : List Entry) (tail end : List ℕ) → IsTranscript es → IsTranscript fs → IsTail tail → IsTail end → report_text 0 es ++ tail ≡ report_text 0 fs ++ end
+    (es fs : List Entry) (tail end : List ℕ) → IsTranscript es → IsTranscript fs → IsTail tail → IsTail end →
+    report_text 0 es ++ tail ≡ report_text 0 fs ++ end
     → (trimmed es ≡ trimmed fs) × (tail ≡ end)

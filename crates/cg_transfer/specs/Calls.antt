@@ -7,7 +7,8 @@ use Rattle.cg_seat.specs.Calls.{seat}
 
 -- a copy for a joiner, where the replica is up; no piece was taken
 abbrev pub copied : ℕ → Seat → Option Snapshot
-copied joiner s = option_map (λ r. record { joiner = joiner; giver = s.id; content = r.held; taken = 0 }) (running s.life)
+copied joiner s =
+    option_map (λ r. record { joiner = joiner; giver = s.id; content = r.held; taken = 0 }) (running s.life)
 
 -- the joiner is up with a new disk
 abbrev pub arrived : Snapshot → Seat

@@ -24,6 +24,7 @@ pub fn quorum(last: &WeightSet, present: &IdSet) -> bool
 
 /// Two quorums of one set share a member of it. A set without members has no quorum.
 pub fn quorums_meet()
-    ensures meet { (last : List Weighted) (one other : List ℕ) → IsTrue (is_quorum last one) → IsTrue (is_quorum last other) → ShareMember last one other }
+    ensures meet { (last : List Weighted) (one other : List ℕ) → IsTrue (is_quorum last one) →
+        IsTrue (is_quorum last other) → ShareMember last one other }
     ensures none_of_nothing { (here : List ℕ) → is_quorum [] here ≡ false }
 {}

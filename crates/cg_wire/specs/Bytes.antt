@@ -11,8 +11,10 @@ use Rattle.cg_wire.specs.declared.message.Msg.TheVariants.{Action, State, GreenI
 -- yellow list, the green count, the green and the red cut, and the servers that left
 unfoldable pub spelled_summary : Summary → List ℕ
 spelled_summary s =
-    byte s.id ++ (number64 s.conf ++ (spelled_prim s.prim ++ (number64 s.attempt_index ++ (optional spelled_vulnerable s.vulnerable
-    ++ (spelled_yellow s.yellow ++ (number64 s.green_count ++ (spelled_cut s.green_cut ++ (spelled_cut s.red_cut ++ spelled_set s.left))))))))
+    byte s.id ++ (number64 s.conf ++ (spelled_prim s.prim
+    ++ (number64 s.attempt_index ++ (optional spelled_vulnerable s.vulnerable
+    ++ (spelled_yellow s.yellow ++ (number64 s.green_count
+    ++ (spelled_cut s.green_cut ++ (spelled_cut s.red_cut ++ spelled_set s.left))))))))
 
 -- a message: a tag for its kind, and what it says. An item of a plan has a second tag: 1 for green, 2 for red
 unfoldable pub spelled_msg : Msg → List ℕ

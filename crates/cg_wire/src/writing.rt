@@ -68,7 +68,10 @@ fn write_summary(out: &mut Vec<u8>, s: &Summary) -> Result<(), NoMemory>
 
 // who speaks, and what it knows of primary components
 fn write_standing(out: &mut Vec<u8>, s: &Summary) -> Result<(), NoMemory>
-    ensures { OnOk result (out.new.items ≡ out.old.items ++ (byte s.now.id ++ (number64 s.now.conf ++ (spelled_prim s.now.prim ++ (number64 s.now.attempt_index ++ optional spelled_vulnerable s.now.vulnerable))))) }
+    ensures { OnOk result (out.new.items ≡ out.old.items
+        ++ (byte s.now.id ++ (number64 s.now.conf
+        ++ (spelled_prim s.now.prim ++ (number64 s.now.attempt_index
+        ++ optional spelled_vulnerable s.now.vulnerable))))) }
 {
     put_u8(out, s.id.get())?;
     put_u64(out, s.conf)?;
@@ -80,7 +83,9 @@ fn write_standing(out: &mut Vec<u8>, s: &Summary) -> Result<(), NoMemory>
 // how far its actions reach, and who has left
 fn write_reach(out: &mut Vec<u8>, s: &Summary) -> Result<(), NoMemory>
     requires { IsSummary s.now }
-    ensures { OnOk result (out.new.items ≡ out.old.items ++ (spelled_yellow s.now.yellow ++ (number64 s.now.green_count ++ (spelled_cut s.now.green_cut ++ (spelled_cut s.now.red_cut ++ spelled_set s.now.left))))) }
+    ensures { OnOk result (out.new.items ≡ out.old.items
+        ++ (spelled_yellow s.now.yellow ++ (number64 s.now.green_count
+        ++ (spelled_cut s.now.green_cut ++ (spelled_cut s.now.red_cut ++ spelled_set s.now.left))))) }
 {
     put_yellow(out, &s.yellow)?;
     put_u64(out, s.green_count)?;

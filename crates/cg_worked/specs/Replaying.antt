@@ -61,11 +61,13 @@ last_of_entry lines head = last_in head (pieces_of 10 (replayed_text lines))
 -- the line stands in the entry that begins so
 abbrev pub stands_before_next : List ℕ → List (List ℕ) → Bool
 stands_before_next line [] = false
-stands_before_next line (next ∷ lines) = if ends_entry next then false else (same_text next line || stands_before_next line lines)
+stands_before_next line (next ∷ lines) = if ends_entry next then false
+    else (same_text next line || stands_before_next line lines)
 
 abbrev pub stands_in : List ℕ → List ℕ → List (List ℕ) → Bool
 stands_in head line [] = false
-stands_in head line (next ∷ lines) = if same_text next head then stands_before_next line lines else stands_in head line lines
+stands_in head line (next ∷ lines) = if same_text next head then stands_before_next line lines
+    else stands_in head line lines
 
 abbrev pub shows_in_entry : List String → List ℕ → List ℕ → Bool
 shows_in_entry lines head line = stands_in head line (pieces_of 10 (replayed_text lines))

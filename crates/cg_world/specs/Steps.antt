@@ -11,7 +11,8 @@ pub use Rattle.cg_events.specs.Happening.{IsCounted}
 
 -- what comes of an event: its step, or exactly the reason by which it isn't admitted
 abbrev pub Steps : World → Event → Stepped → Type 0
-Steps w e (stepped.Done after entry) = (first_refusal w e ≡ None) × (record { entry = entry; world = after } ≡ world_step w e)
+Steps w e (stepped.Done after entry) = (first_refusal w e ≡ None)
+    × (record { entry = entry; world = after } ≡ world_step w e)
 Steps w e (stepped.Refused after reason) = (first_refusal w e ≡ Some reason) × (after ≡ w)
 Steps w e stepped.NoMemory = Unit {0}
 

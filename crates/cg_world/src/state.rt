@@ -79,7 +79,8 @@ impl World {
     /// `runs_tell_of_their_worlds` of `cg_agree` where no line `made` of the steps that lead here names it. It takes no
     /// memory.
     pub fn made(&self, id: ActionId) -> Option<&Action>
-        ensures some { is_some (option_copied result) ≡ (nat_lt 0 id.index && nat_le id.index (index_in self.now.made id.creator)) }
+        ensures some { is_some (option_copied result) ≡
+            (nat_lt 0 id.index && nat_le id.index (index_in self.now.made id.creator)) }
         ensures action { IfSome (option_copied result) (λ a. (a.id ≡ id) × IsInBook self.now a) }
     {
         self.made.get(id)
