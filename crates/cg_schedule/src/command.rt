@@ -126,8 +126,9 @@ fn take_query_of(alloc: Global, words: &mut Words, word: &[u8]) -> Result<Query,
     }
 }
 
+/// Takes a query: its word and what it is asked about.
 #[tactic(auto, unfolding(crate::specs::Command::query_reading))]
-pub(crate) fn take_query(alloc: Global, words: &mut Words) -> Result<Query, LineFault>
+pub fn take_query(alloc: Global, words: &mut Words) -> Result<Query, LineFault>
     ensures { TakesWithMemory (λ q. q) query_reading words.old words.new result }
 {
     let word = take_token(words)?;
@@ -210,12 +211,9 @@ fn take_update_of<'a>(
     take_commands(alloc, words, token)
 }
 
-// a query alone, or commands with or without one
+/// Takes what a request asks: a query alone, or 1 to 16 commands with or without one after `?`.
 #[tactic(auto, unfolding(crate::specs::Command::update_reading))]
-pub(crate) fn take_update(
-    alloc: Global,
-    words: &mut Words,
-) -> Result<(CmdList, Option<Query>), LineFault>
+pub fn take_update(alloc: Global, words: &mut Words) -> Result<(CmdList, Option<Query>), LineFault>
     ensures { TakesWithMemory (λ u. u) update_reading words.old words.new result }
 {
     let token = take_token(words)?;

@@ -181,7 +181,8 @@ fn fill(alloc: Global, token: &[u8]) -> Result<Bytes, LineFault>
 
 // ---- the next token of the line
 
-pub(crate) fn take_token<'a>(words: &mut Words<'a>) -> Result<&'a [u8], LineFault>
+/// Takes the next token of a line; `MissingPart` where there is none.
+pub fn take_token<'a>(words: &mut Words<'a>) -> Result<&'a [u8], LineFault>
     ensures { Takes (λ token. token.now) token_part words.old words.new result }
 {
     words
@@ -189,24 +190,27 @@ pub(crate) fn take_token<'a>(words: &mut Words<'a>) -> Result<&'a [u8], LineFaul
         .ok_or(LineFault::Syntax(SyntaxReason::MissingPart))
 }
 
+/// Takes the next token as a number from `low` to `high`, in digits without a leading zero; else `BadNumber`.
 #[tactic(auto, unfolding(crate::specs::Part::number_part))]
-pub(crate) fn take_number(words: &mut Words, low: u64, high: u64) -> Result<u64, LineFault>
+pub fn take_number(words: &mut Words, low: u64, high: u64) -> Result<u64, LineFault>
     ensures { Takes (λ n. n) (number_part low high) words.old words.new result }
 {
     let token = take_token(words)?;
     number(token, low, high)
 }
 
+/// Takes the next token as an identifier, from 1 to 32.
 #[tactic(auto, unfolding(crate::specs::Part::id_part))]
-pub(crate) fn take_id(words: &mut Words) -> Result<ReplicaId, LineFault>
+pub fn take_id(words: &mut Words) -> Result<ReplicaId, LineFault>
     ensures { Takes (λ id. id) id_part words.old words.new result }
 {
     let token = take_token(words)?;
     identifier(token)
 }
 
+/// Takes the next token as a count, from 1 to 1,000,000.
 #[tactic(auto, unfolding(crate::specs::Part::count_part))]
-pub(crate) fn take_count(words: &mut Words) -> Result<u64, LineFault>
+pub fn take_count(words: &mut Words) -> Result<u64, LineFault>
     ensures { Takes (λ n. n) count_part words.old words.new result }
 {
     let token = take_token(words)?;
@@ -266,8 +270,9 @@ pub(crate) fn take_want(alloc: Global, words: &mut Words) -> Result<BoxedOption<
     want(alloc, token)
 }
 
+/// Takes the next token as the bytes of a torn write: `-` for none, or pairs of hexadecimal digits.
 #[tactic(auto, unfolding(crate::specs::Part::fill_part))]
-pub(crate) fn take_fill(alloc: Global, words: &mut Words) -> Result<Bytes, LineFault>
+pub fn take_fill(alloc: Global, words: &mut Words) -> Result<Bytes, LineFault>
     ensures { TakesWithMemory (λ b. b) fill_part words.old words.new result }
 {
     let token = take_token(words)?;
