@@ -92,8 +92,9 @@ class Story:
         if old and old.state == "Down":
             yield Mark(number, "back", "", f"{who} comes back from its disk")
         if not old or old.state != now.state:
-            words = WORDS["state"][now.state]
-            yield Mark(0, "", "", f"{who} {words['does']}{words.get('more', '').format(now=now)}")
+            does = WORDS["state"][now.state]["does"]
+            more = WORDS["from"].get(old.state if old else "", {}).get(now.state) or WORDS["more"].get(now.state, "")
+            yield Mark(0, "", "", f"{who} {does}{more.format(now=now)}")
         known = self.last_up.get(number, Replica())
         if not old and now.green:
             known = replace(known, green=now.green, white=now.white)

@@ -127,6 +127,14 @@ class Stories(unittest.TestCase):
         self.assertEqual(found, [[(1, "armed", "")], [(1, "crash", "")], [(1, "back", "")]])
         self.assertEqual(columns["2"].marks[0].words, "Replica 1 will stop inside its device call 3 from now on")
 
+    def test_states_are_told_in_words(self) -> None:
+        columns = told("partition")
+        words = [columns[step].marks[0].words for step in ("16", "18", "20")]
+        last = "a quorum of the last one, {1,2,3}"
+        self.assertEqual(words[0], f"Replica 1 attempts to form a primary component of {{1,2}}: these are {last}")
+        self.assertTrue(words[1].startswith("Replica 3 is in no primary component: those here are no quorum"), words[1])
+        self.assertEqual(words[2], "Replica 1 is in the primary component: number 2, of {1,2}")
+
     def test_who_stands_together(self) -> None:
         columns = told("partition")
         steps = [columns[step] for step in ("1", "10", "11", "12", "14")]
@@ -178,6 +186,8 @@ class Drawn(unittest.TestCase):
     def test_a_part_of_the_steps(self) -> None:
         svg = self.drawn("partition", svg=True, part="20-30")
         self.assertEqual(re.findall(r'class="number"[^>]*>(\w+)<', svg), "20 21 23 24 26 27 28 29 30".split())
+        numbers = re.findall(r'class="number"[^>]*>(\w+)<', self.drawn("refused", svg=True, part="9-"))
+        self.assertEqual(numbers, ["9", "10", "11", "end"])
         with self.assertRaisesRegex(ValueError, "no step of 60-"):
             self.drawn("partition", part="60-")
 
