@@ -7,6 +7,7 @@ from typing import NamedTuple
 from .story import HERE, WORDS, Column, Group, Story
 
 LEFT, TURN, LANE, GAP, EDGE, CHIP = 74, 40, 52, 34, 25, 28
+UNKNOWN = dict.fromkeys([*range(9), 11, 12, *range(14, 32), 0xFFFE, 0xFFFF], "\ufffd")  # no characters of XML
 LOUD = ("split", "merge", "stop", "fail", "recover")
 MAYBE = ("Un", "NonPrim", "ExchangeStates", "ExchangeActions")  # a record is of an attempt that may have come about
 
@@ -50,9 +51,9 @@ class Drawing:
         self.places.append(Place(last.stretch + turns, last.right, left, right, lanes))
 
     def add(self, name: str, kind: str, text: str = "", title: str = "", **attributes: object) -> None:
-        values = "".join(f' {key}="{html.escape(str(value))}"' for key, value in attributes.items())
+        values = "".join(f' {key}="{value}"' for key, value in attributes.items())
         inside = (f"<title>{html.escape(title)}</title>" if title else "") + html.escape(text, quote=False)
-        self.drawn.append(f'<{name} class="{kind}"{values}>{inside}</{name}>')
+        self.drawn.append(f'<{name} class="{kind}"{values}>{inside.translate(UNKNOWN)}</{name}>')
 
     def svg(self, title: str) -> str:
         for group in dict.fromkeys(g for column in self.columns for g in column.groups if g.place != "-"):
@@ -177,8 +178,7 @@ def few(texts: list[tuple[str, str]]) -> list[tuple[str, str]]:
 
 def chips_of(column: Column, number: int) -> list[tuple[str, str]]:
     kinds = ("own", "red", "yellow", "green", "white", "note")
-    chips = [few([mark[1:3] for mark in column.marks if mark[:2] == (number, kind)]) for kind in kinds]
-    return [chip for chips_of_kind in chips for chip in chips_of_kind]
+    return sum((few([mark[1:3] for mark in column.marks if mark[:2] == (number, kind)]) for kind in kinds), [])
 
 
 def answer_of(column: Column, number: int) -> str:

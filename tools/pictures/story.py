@@ -106,8 +106,7 @@ class Story:
         for place, action in enumerate(self.order[known.green : now.green], known.green + 1):
             yield Mark(number, "green", action, f"{action} is green at replica {number}, at place {place}")
         if now.white > known.white:
-            said = f"{who} keeps places 1 to {now.white} no longer: they are green at every server"
-            yield Mark(number, "white", f"to {now.white}", said)
+            yield Mark(number, "white", f"to {now.white}", f"{who} discards places 1 to {now.white}, green at all servers")
         if now.kept > known.kept:
             yield Mark(number, "note", f"keeps {now.kept}", f"{who} keeps requests for later: {now.kept}")
         self.last_up[number] = now

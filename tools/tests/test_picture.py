@@ -183,6 +183,13 @@ class Drawn(unittest.TestCase):
     def test_a_refused_line_is_drawn_at_the_end(self) -> None:
         self.assertRegex(self.drawn("refused", svg=True), r'<text class="line refused"[^>]*>✖ merge 1 2 3<')
 
+    def test_a_line_of_any_bytes_is_drawn(self) -> None:
+        text, plan = texts("refused")
+        plan = plan.replace("merge 1 2 3\nend", 'put "\x00\uffff" <b>\nend')
+        svg = page.drawn(text.replace("refused 6 16 3", "syntax 6 2"), plan, "x", svg=True)
+        xml.dom.minidom.parseString(svg.encode())
+        self.assertIn('✖ put "\ufffd\ufffd" &lt;b&gt;<', svg)
+
     def test_a_part_of_the_steps(self) -> None:
         svg = self.drawn("partition", svg=True, part="20-30")
         self.assertEqual(re.findall(r'class="number"[^>]*>(\w+)<', svg), "20 21 23 24 26 27 28 29 30".split())
