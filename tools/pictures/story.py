@@ -106,7 +106,7 @@ class Story:
         for place, action in enumerate(self.order[known.green : now.green], known.green + 1):
             yield Mark(number, "green", action, f"{action} is green at replica {number}, at place {place}")
         if now.white > known.white:
-            yield Mark(number, "white", f"to {now.white}", f"{who} discards places 1 to {now.white}, green at all servers")
+            yield Mark(number, "white", f"to {now.white}", f"{who} keeps the first {now.white} places no longer")
         if now.kept > known.kept:
             yield Mark(number, "note", f"keeps {now.kept}", f"{who} keeps requests for later: {now.kept}")
         self.last_up[number] = now
