@@ -27,6 +27,7 @@
 //! ```
 #![tactic(auto)]
 
+mod all_made;
 mod made_actions;
 mod state;
 mod world;
