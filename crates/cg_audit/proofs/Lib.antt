@@ -34,3 +34,4 @@ mod AuditWhiteActionsAreDiscarded
 mod AuditYellowBeforeLowerNames
 mod AuditYellowInAnotherOrder
 mod Damaged
+mod OneWorld

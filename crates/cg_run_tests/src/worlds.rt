@@ -11,9 +11,9 @@ use std::alloc::Global;
 use std::test::Fail;
 
 fn take_step(alloc: Global, world: World, event: &Event) -> Result<World, Fail>
-    requires stands { MayStand world event.now }
+    requires stands { MayStand world.world event.now }
     requires counted { IsCounted event.now }
-    ensures { IfOk result IsSeated }
+    ensures { IfOk result (λ w. IsSeated w.world) }
 {
     match world.step(alloc, event) {
         Stepped::Done { world, entry } => {
@@ -30,7 +30,7 @@ fn take_step(alloc: Global, world: World, event: &Event) -> Result<World, Fail>
 
 // the replica begins, and comes into a configuration of its own
 fn begin(alloc: Global, p: ReplicaId) -> Result<World, Fail>
-    ensures { IfOk result IsSeated }
+    ensures { IfOk result (λ w. IsSeated w.world) }
 {
     let mut set = IdSet::empty();
     set.add(p);
@@ -43,8 +43,8 @@ fn begin(alloc: Global, p: ReplicaId) -> Result<World, Fail>
 
 // what it has said is ordered, and handed to it
 fn hear(alloc: Global, world: World, p: ReplicaId) -> Result<World, Fail>
-    requires { IsSeated world }
-    ensures { IfOk result IsSeated }
+    requires { IsSeated world.world }
+    ensures { IfOk result (λ w. IsSeated w.world) }
 {
     let world = take_step(alloc, world, &Event::Gather)?;
     let count = world.ready(p);
@@ -53,8 +53,8 @@ fn hear(alloc: Global, world: World, p: ReplicaId) -> Result<World, Fail>
 
 // a client asks it for a count of the keys
 fn ask(alloc: Global, world: World, p: ReplicaId) -> Result<World, Fail>
-    requires { IsSeated world }
-    ensures { IfOk result IsSeated }
+    requires { IsSeated world.world }
+    ensures { IfOk result (λ w. IsSeated w.world) }
 {
     let cmds = CmdList::new(alloc);
     let query = Some(Query::Count);

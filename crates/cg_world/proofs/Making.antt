@@ -1,10 +1,13 @@
--- The rows of made actions behind a step, and what is looked up in them.
-use Rattle.std.proofs.Common.{◌≡◌, ℕ, zero, suc, ◌+◌, ◌<◌, ◌≤◌, true, false, ◌&&◌, nat_lt, List, [], ◌∷◌, ◌++◌, length, Option, Some, None, Contains, is_some, IfSome, slice_get, refl, sym, ap, ◌∙◌, subst, inl, inr, arith, eq-eqb}
+-- What is made behind a step, and what is looked up in it.
+use Rattle.std.proofs.Common.{◌≡◌, ℕ, zero, suc, ◌+◌, ◌<◌, ◌≤◌, ◌≢◌, cond, true, false, ◌&&◌, nat_lt, List, [], ◌∷◌, ◌++◌, length, Option, Some, None, Contains, is_some, IfSome, slice_get, refl, sym, ap, ◌∙◌, subst, inl, inr, arith, eq-eqb}
 use Rattle.std.specs.Prelude.{◌==◌, nat_le}
 use Rattle.std.proofs.lemmas.Bool.{cases_eq, cases_lt, cond-true, cond-false, ne_eqb, lt-ltb, le-leb, lt-leb}
-use Rattle.std.proofs.lemmas.List.{append-nil, append_assoc, length-append}
+use Rattle.std.proofs.lemmas.List.{length-append}
+use Rattle.std.proofs.lemmas.List.Elements.{filter-append}
 use Rattle.cg_group.specs.EachLaws.{Each, Each-weaker, Each-append, Each-filter}
 use Rattle.cg_base.specs.declared.action_id.ActionId.{ActionId}
+use Rattle.cg_base.specs.Ids.{same_id}
+use Rattle.cg_base.specs.IdLaws.{same_id-true, same_id-false}
 use Rattle.cg_base.specs.Cuts.{index_in}
 use Rattle.cg_action.specs.declared.action.Action.{Action}
 use Rattle.cg_model.specs.World.{World}
@@ -12,37 +15,27 @@ use Rattle.cg_model.specs.Show.{Moved}
 use Rattle.cg_model.specs.Chronicle.{Chronicle}
 use Rattle.cg_model.specs.Making.{newly_made, made_by, AreNextOf, IsMade}
 use Rattle.cg_world.specs.Led.{AreMade, IsLedWith, IsInBook}
-use Rattle.cg_world.specs.MadeActions.{with_made, with_all, action_at}
+use Rattle.cg_world.specs.MadeActions.{action_at, made_named}
 
--- ---- the rows behind a step
-
--- each creator's own come behind what it has
-all-row : (list : List Action) (rows : ℕ → List Action) (p : ℕ) → with_all rows list p ≡ rows p ++ made_by p list
-all-row [] rows p = sym (append-nil (rows p))
-all-row (a ∷ list) rows p = all-row list (with_made rows a) p ∙ elim (cases_eq a.id.creator p) [
-  | inl mine ↦
-      ap (λ (row : List Action). row ++ made_by p list) (cond-true (a.id.creator == p) (rows p ++ a ∷ []) (rows p) (eq-eqb a.id.creator p mine))
-      ∙ append_assoc (rows p) (a ∷ []) (made_by p list)
-      ∙ sym (ap (λ (own : List Action). rows p ++ own) (cond-true (a.id.creator == p) (a ∷ made_by p list) (made_by p list) (eq-eqb a.id.creator p mine)))
-  | inr other ↦
-      ap (λ (row : List Action). row ++ made_by p list) (cond-false (a.id.creator == p) (rows p ++ a ∷ []) (rows p) (ne_eqb a.id.creator p other))
-      ∙ sym (ap (λ (own : List Action). rows p ++ own) (cond-false (a.id.creator == p) (a ∷ made_by p list) (made_by p list) (ne_eqb a.id.creator p other)))
-]
+-- ---- all that was made, behind a step
 
 next-append : (p n m : ℕ) (xs ys : List Action) → AreNextOf p n xs → m ≡ n + length xs → AreNextOf p m ys → AreNextOf p n (xs ++ ys)
 next-append p n m [] ys first at rest = subst (λ k. AreNextOf p k ys) (let none : m ≡ n = omega arith in none) rest
 next-append p n m (a ∷ xs) ys first at rest = (first.0, next-append p (suc n) m xs ys first.1 (omega arith) rest)
 
-pub made-on : (c d : Chronicle) (w : World) (m : Moved) (rows : ℕ → List Action) → AreMade c w rows → IsMade c d w m → AreMade d m.world (with_all rows (newly_made m))
-made-on c d w m rows made is =
+own-append : (p : ℕ) (made list : List Action) → made_by p (made ++ list) ≡ made_by p made ++ made_by p list
+own-append p made list = filter-append (λ (a : Action). a.id.creator == p) made list
+
+pub made-on : (c d : Chronicle) (w : World) (m : Moved) (made : List Action) → AreMade c w made → IsMade c d w m → AreMade d m.world (made ++ newly_made m)
+made-on c d w m made are is =
     let list = newly_made m in
     record {
-      count = λ p. ap length (all-row list rows p) ∙ length-append (rows p) (made_by p list) ∙ ap (λ n. n + length (made_by p list)) (made.count p) ∙ sym (is.count p);
-      numbered = λ p. subst (AreNextOf p 0) (sym (all-row list rows p))
-          (next-append p 0 (index_in w.made p) (rows p) (made_by p list) (made.numbered p) (let all = made.count p in omega arith) (is.next p));
-      booked = λ p. subst (Each (Contains d.book)) (sym (all-row list rows p))
-          (Each-append (Contains d.book) (rows p) (made_by p list) (Each-weaker (Contains c.book) (Contains d.book) is.stays (rows p) (made.booked p))
-          (Each-filter (Contains d.book) (λ a. a.id.creator == p) list is.booked));
+      count = λ p.
+          ap length (own-append p made list) ∙ length-append (made_by p made) (made_by p list)
+          ∙ ap (λ n. n + length (made_by p list)) (are.count p) ∙ sym (is.count p);
+      numbered = λ p. subst (AreNextOf p 0) (sym (own-append p made list))
+          (next-append p 0 (index_in w.made p) (made_by p made) (made_by p list) (are.numbered p) (let all = are.count p in omega arith) (is.next p));
+      booked = Each-append (Contains d.book) made list (Each-weaker (Contains c.book) (Contains d.book) is.stays made are.booked) is.booked;
     }
 
 -- ---- what is looked up
@@ -76,23 +69,69 @@ there-named p n i [] k next at = tt
 there-named p n i (x ∷ xs) zero next at = next.0 ∙ ap (named p) (let this : suc n ≡ i = omega arith in this)
 there-named p n i (x ∷ xs) (suc k) next at = there-named p (suc n) i xs k next.1 (omega arith)
 
-module _ (w : World) (rows : ℕ → List Action) (led : IsLedWith w rows) where
-  pub found-some : (id : ActionId) → is_some (action_at rows id) ≡ (nat_lt 0 id.index && nat_le id.index (index_in w.made id.creator))
+-- ---- the first of a name
+
+-- it is among those of its creator
+find-own : (id : ActionId) (made : List Action) → made_named made id ≡ made_named (made_by id.creator made) id
+find-own id [] = refl
+find-own id (a ∷ made) = elim (cases_eq a.id.creator id.creator) [
+  | inl mine ↦
+      ap (cond (same_id a.id id) (Some a)) (find-own id made)
+      ∙ sym (ap (λ (own : List Action). made_named own id)
+      (cond-true (a.id.creator == id.creator) (a ∷ made_by id.creator made) (made_by id.creator made) (eq-eqb a.id.creator id.creator mine)))
+  | inr other ↦
+      cond-false (same_id a.id id) (Some a) (made_named made id) (same_id-false a.id id (inl other)) ∙ find-own id made
+      ∙ sym (ap (λ (own : List Action). made_named own id)
+      (cond-false (a.id.creator == id.creator) (a ∷ made_by id.creator made) (made_by id.creator made) (ne_eqb a.id.creator id.creator other)))
+]
+
+-- where they are numbered, it is the one in that place
+find-next : (p n i : ℕ) (row : List Action) (k : ℕ) → AreNextOf p n row → i ≡ suc (n + k) → made_named row (named p i) ≡ slice_get row k
+find-next p n i [] k next at = refl
+find-next p n i (a ∷ row) zero next at =
+    cond-true (same_id a.id (named p i)) (Some a) (made_named row (named p i))
+    (same_id-true a.id (named p i) (ap (λ (x : ActionId). x.creator) next.0)
+    (ap (λ (x : ActionId). x.index) next.0 ∙ (let this : suc n ≡ i = omega arith in this)))
+find-next p n i (a ∷ row) (suc k) next at =
+    let apart : a.id.index ≢ i = λ e. let own = ap (λ (x : ActionId). x.index) next.0 in absurd (omega arith) in
+    cond-false (same_id a.id (named p i)) (Some a) (made_named row (named p i)) (same_id-false a.id (named p i) (inr apart))
+    ∙ find-next p (suc n) i row k next.1 (omega arith)
+
+find-zero : (p n : ℕ) (row : List Action) → AreNextOf p n row → made_named row (named p 0) ≡ None
+find-zero p n [] next = refl
+find-zero p n (a ∷ row) next =
+    let apart : a.id.index ≢ 0 = λ e. let own = ap (λ (x : ActionId). x.index) next.0 in absurd (omega arith) in
+    cond-false (same_id a.id (named p 0)) (Some a) (made_named row (named p 0)) (same_id-false a.id (named p 0) (inr apart))
+    ∙ find-zero p (suc n) row next.1
+
+module _ (w : World) (made : List Action) (led : IsLedWith w made) where
+  pub found-named : (id : ActionId) → action_at made id ≡ made_named made id
+  found-named id = at id.index ∙ sym (find-own id made) where
+    row : List Action
+    row = made_by id.creator made
+
+    at : (n : ℕ) → action_at made (named id.creator n) ≡ made_named row (named id.creator n)
+    at zero = sym (find-zero id.creator 0 row (led.all.numbered id.creator))
+    at (suc n) = sym (find-next id.creator 0 (suc n) row n (led.all.numbered id.creator) (omega arith))
+
+  pub found-some : (id : ActionId) → is_some (action_at made id) ≡ (nat_lt 0 id.index && nat_le id.index (index_in w.made id.creator))
   found-some id = at id.index where
-    at : (n : ℕ) → is_some (action_at rows (named id.creator n)) ≡ (nat_lt 0 n && nat_le n (index_in w.made id.creator))
+    at : (n : ℕ) → is_some (action_at made (named id.creator n)) ≡ (nat_lt 0 n && nat_le n (index_in w.made id.creator))
     at zero = refl
     at (suc n) =
-        there-some (rows id.creator) n ∙ ap (nat_le (suc n)) (led.made.count id.creator)
+        there-some (made_by id.creator made) n ∙ ap (nat_le (suc n)) (led.all.count id.creator)
         ∙ sym (ap (λ b. b && nat_le (suc n) (index_in w.made id.creator)) (lt-ltb 0 (suc n) (omega arith)))
 
-  pub found-booked : (id : ActionId) → IfSome (action_at rows id) (λ a. (a.id ≡ id) × IsInBook w a)
+  pub found-booked : (id : ActionId) → IfSome (action_at made id) (λ a. (a.id ≡ id) × IsInBook w a)
   found-booked id = at id.index where
     both : (n : ℕ) (o : Option Action) → IfSome o (λ a. a.id ≡ named id.creator n) → IfSome o (Contains led.chronicle.book) → IfSome o (λ a. (a.id ≡ named id.creator n) × IsInBook w a)
     both n None name there = tt
     both n (Some a) name there = (name, record { chronicle = led.chronicle; reached = led.reached; booked = there })
 
-    at : (n : ℕ) → IfSome (action_at rows (named id.creator n)) (λ a. (a.id ≡ named id.creator n) × IsInBook w a)
+    at : (n : ℕ) → IfSome (action_at made (named id.creator n)) (λ a. (a.id ≡ named id.creator n) × IsInBook w a)
     at zero = tt
     at (suc n) =
-        both (suc n) (slice_get (rows id.creator) n) (there-named id.creator 0 (suc n) (rows id.creator) n (led.made.numbered id.creator) (omega arith))
-        (there-each (Contains led.chronicle.book) (rows id.creator) n (led.made.booked id.creator))
+        both (suc n) (slice_get (made_by id.creator made) n)
+        (there-named id.creator 0 (suc n) (made_by id.creator made) n (led.all.numbered id.creator) (omega arith))
+        (there-each (Contains led.chronicle.book) (made_by id.creator made) n
+        (Each-filter (Contains led.chronicle.book) (λ a. a.id.creator == id.creator) made led.all.booked))

@@ -6,7 +6,7 @@ use Rattle.cg_action.specs.declared.action.Action.{Action}
 use Rattle.cg_model.specs.World.{World}
 use Rattle.cg_model.specs.Chronicle.{Chronicle}
 use Rattle.cg_model.specs.Standing.{IsReached}
-use Rattle.cg_model.specs.Making.{AreNextOf}
+use Rattle.cg_model.specs.Making.{AreNextOf, made_by}
 
 -- admitted events lead to the world from before the start
 pub record IsLed (w : World) : Type 0 where
@@ -19,14 +19,14 @@ pub record IsInBook (w : World) (a : Action) : Type 0 where
   pub reached : IsReached chronicle w
   pub booked : Contains chronicle.book a
 
--- of each creator the actions in its row are numbered from 1, as many as were shown as made, and stand in the book
-pub record AreMade (c : Chronicle) (w : World) (rows : ℕ → List Action) : Type 0 where
-  pub count : (p : ℕ) → length (rows p) ≡ index_in w.made p
-  pub numbered : (p : ℕ) → AreNextOf p 0 (rows p)
-  pub booked : (p : ℕ) → Each (Contains c.book) (rows p)
+-- those of each creator are numbered from 1, as many as were shown as made, and all stand in the book
+pub record AreMade (c : Chronicle) (w : World) (made : List Action) : Type 0 where
+  pub count : (p : ℕ) → length (made_by p made) ≡ index_in w.made p
+  pub numbered : (p : ℕ) → AreNextOf p 0 (made_by p made)
+  pub booked : Each (Contains c.book) made
 
 -- admitted events lead to the world, and these are the actions that were shown as made on the way
-pub record IsLedWith (w : World) (rows : ℕ → List Action) : Type 0 where
+pub record IsLedWith (w : World) (made : List Action) : Type 0 where
   pub chronicle : Chronicle
   pub reached : IsReached chronicle w
-  pub made : AreMade chronicle w rows
+  pub all : AreMade chronicle w made

@@ -1,3 +1,5 @@
+pub mod AllMade
 pub mod Led
 pub mod MadeActions
+pub mod SoFar
 pub mod Steps

@@ -1,9 +1,10 @@
 -- The made actions, in a row for each creator.
-use Rattle.std.specs.Prelude.{ℕ, zero, suc, ◌==◌, List, [], ◌∷◌, ◌++◌, Option, fold, if◌then◌else◌}
+use Rattle.std.specs.Prelude.{◌≡◌, ℕ, zero, suc, List, [], ◌∷◌, Option, find}
 use Rattle.cg_base.specs.declared.action_id.ActionId.{ActionId}
+use Rattle.cg_base.specs.Ids.{same_id}
 use Rattle.cg_base.specs.Lists.{at_place}
 use Rattle.cg_action.specs.declared.action.Action.{Action}
-use Rattle.cg_world.specs.declared.made_actions.MadeActions.{MadeActions}
+use Rattle.cg_model.specs.Making.{made_by}
 
 -- what stands in the row of a place, which is empty behind the last row
 abbrev pub row_at : List (List Action) → ℕ → List Action
@@ -11,18 +12,14 @@ row_at [] k = []
 row_at (row ∷ rows) zero = row
 row_at (row ∷ rows) (suc k) = row_at rows k
 
--- the row of each creator
-abbrev pub rows_of : MadeActions → ℕ → List Action
-rows_of made = row_at made.rows.items
+-- each creator's row has those that it made, in their order
+abbrev pub AreRowsOf : List Action → List (List Action) → Type 0
+AreRowsOf made rows = (p : ℕ) → row_at rows p ≡ made_by p made
 
--- the rows with one action more, behind the others of its creator
-abbrev pub with_made : (ℕ → List Action) → Action → ℕ → List Action
-with_made rows a p = if a.id.creator == p then rows p ++ a ∷ [] else rows p
+-- the action in the place of this name's number among those of its creator
+abbrev pub action_at : List Action → ActionId → Option Action
+action_at made id = at_place (made_by id.creator made) id.index
 
--- the rows with all of these, one after another
-abbrev pub with_all : (ℕ → List Action) → List Action → ℕ → List Action
-with_all rows list = fold with_made rows list
-
--- the action of this number in its creator's row
-abbrev pub action_at : (ℕ → List Action) → ActionId → Option Action
-action_at rows id = at_place (rows id.creator) id.index
+-- the first action of this name
+abbrev pub made_named : List Action → ActionId → Option Action
+made_named made id = find (λ a. same_id a.id id) made

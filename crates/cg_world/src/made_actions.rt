@@ -1,35 +1,51 @@
 //! The actions that were shown as made.
-ghost use Rattle.std.specs.Prelude.{◌≡◌, ◌≤◌, ◌<◌, ℕ, [], map, vec_len, IfOk, OnOk};
+ghost use Rattle.std.specs.Prelude.{◌≡◌, ◌≤◌, ◌<◌, ℕ, [], ◌∷◌, ◌++◌, map, vec_len, IfOk, OnOk};
 ghost use Rattle.std.specs.Option.{option_copied};
 ghost use Rattle.cg_model.specs.Making.{made_as};
-ghost use Rattle.cg_world.specs.MadeActions.{row_at, rows_of, with_made, with_all, action_at};
+ghost use Rattle.cg_world.specs.MadeActions.{row_at, action_at};
 
+use crate::all_made::AllMade;
 use cg_action::{Action, ActionList};
 use cg_base::{ActionId, NoMemory, Row};
 use cg_events::WorldState;
 use cg_report::Made;
 use std::alloc::Global;
+use std::marker::Model;
 
-/// Of each creator its made actions, the one with number 1 first.
+/// The actions that were made, kept in a row for each creator. Clauses see the list of them in the order of their making.
 #[derive(Drop)]
 pub(crate) struct MadeActions {
-    // a creator behind the last of these has made none
+    // of each creator, the one with number 1 first; a creator behind the last of these has made none
     rows: Vec<ActionList>,
+    all: AllMade,
+}
+
+impl Model for MadeActions {
+    ghost use Rattle.std.specs.Prelude.{List};
+    ghost use Rattle.cg_action.specs.declared.action.Action.{Action};
+    ghost use Rattle.cg_world.specs.MadeActions.{AreRowsOf};
+
+    ghost Value = { List Action };
+
+    ghost view = { λ m. m.all };
+
+    ghost invariant = { λ m. AreRowsOf m.all m.rows.items };
 }
 
 impl MadeActions {
     /// Nothing was made yet.
     pub(crate) fn new(alloc: Global) -> MadeActions
-        ensures { (p : ℕ) → rows_of result p ≡ [] }
+        ensures { result ≡ [] }
     {
         MadeActions {
             rows: Vec::new(alloc),
+            all: AllMade::nothing(),
         }
     }
 
-    /// The action of this name, where it was made. It takes no memory.
+    /// The action of this number among those of its creator. It takes no memory.
     pub(crate) fn get(&self, id: ActionId) -> Option<&Action>
-        ensures { option_copied result ≡ action_at (rows_of self.now) id }
+        ensures { option_copied result ≡ action_at self.now id }
     {
         let ActionId { creator, index } = id;
         if index == 0 {
@@ -49,7 +65,7 @@ impl MadeActions {
         state: &WorldState,
         list: &[Made],
     ) -> Result<(), NoMemory>
-        ensures { OnOk result (rows_of self.new ≡ with_all (rows_of self.old) (map (made_as state.now) list.now)) }
+        ensures { OnOk result (self.new ≡ self.old ++ map (made_as state.now) list.now) }
     {
         for m in list {
             self.push(action_of(alloc, state, m)?)?;
@@ -57,13 +73,15 @@ impl MadeActions {
         Ok(())
     }
 
-    // The action is its creator's last one.
+    // The action is made as the last one.
     fn push(&mut self, a: Action) -> Result<(), NoMemory>
-        ensures { OnOk result (rows_of self.new ≡ with_made (rows_of self.old) a) }
+        ensures { OnOk result (self.new ≡ self.old ++ a ∷ []) }
     {
         let slot = slot_of(&a);
         grow(&mut self.rows, slot)?;
+        let all = self.all.with(&a);
         self.rows[slot].push(a)?;
+        self.all = all;
         Ok(())
     }
 }

@@ -3,7 +3,8 @@ ghost use Rattle.std.specs.Prelude.{◌≡◌, ◌&&◌, nat_lt, nat_le, is_some
 ghost use Rattle.std.specs.Option.{option_copied};
 ghost use Rattle.cg_base.specs.Cuts.{index_in};
 ghost use Rattle.cg_group.specs.Ready.{ready};
-ghost use Rattle.cg_model.specs.World.{no_world, replica_of, up_replicas};
+ghost use Rattle.cg_model.specs.World.{replica_of, up_replicas};
+ghost use Rattle.cg_world.specs.MadeActions.{made_named};
 
 use crate::made_actions::MadeActions;
 use cg_action::Action;
@@ -13,7 +14,8 @@ use cg_events::WorldState;
 use std::alloc::Global;
 use std::marker::Model;
 
-/// The world: one to which admitted events lead from before the start. Clauses see it as the definitions have it.
+/// The world: one to which admitted events lead from before the start. Clauses see it as the definitions have it, with the
+/// actions that were shown as made on the way.
 #[derive(Drop)]
 pub struct World {
     pub(crate) state: WorldState,
@@ -21,23 +23,23 @@ pub struct World {
 }
 
 impl Model for World {
-    ghost use Rattle.cg_model.specs.World.{World};
     ghost use Rattle.cg_world.specs.Led.{IsLedWith};
-    ghost use Rattle.cg_world.specs.MadeActions.{rows_of};
+    ghost use Rattle.cg_world.specs.SoFar.{SoFar};
 
-    ghost Value = { World };
+    ghost Value = { SoFar };
 
-    ghost view = { λ w. w.state };
+    ghost view = { λ w. record { world = w.state; made = w.made } };
 
-    ghost invariant = { λ w. IsLedWith w.state (rows_of w.made) };
+    ghost invariant = { λ w. IsLedWith w.state w.made };
 }
 
 impl World {
     ghost use Rattle.cg_world.specs.Led.{IsLed, IsInBook};
+    ghost use Rattle.cg_world.specs.SoFar.{nothing_yet};
 
     /// The world before its start.
     pub fn new(alloc: Global) -> World
-        ensures { result ≡ no_world }
+        ensures { result ≡ nothing_yet }
     {
         facts_stand_beside_each_world();
         World {
@@ -48,21 +50,21 @@ impl World {
 
     /// How many places of its configuration may be handed to the replica next, 0 where it is in none. It takes no memory.
     pub fn ready(&self, p: ReplicaId) -> u64
-        ensures { result ≡ ready self.now.group p }
+        ensures { result ≡ ready self.now.world.group p }
     {
         self.state.ready(p)
     }
 
     /// The replica is up. It takes no memory.
     pub fn is_up(&self, p: ReplicaId) -> bool
-        ensures { result ≡ is_some (replica_of self.now p) }
+        ensures { result ≡ is_some (replica_of self.now.world p) }
     {
         self.state.is_up(p)
     }
 
     /// The replicas that are up. It takes no memory.
     pub fn up_replicas(&self) -> IdSet
-        ensures { result ≡ up_replicas self.now }
+        ensures { result ≡ up_replicas self.now.world }
     {
         self.state.up_replicas()
     }
@@ -70,18 +72,19 @@ impl World {
     /// Admitted events lead here from before the start: so each law of `cg_agree` over such worlds holds of this one. It does
     /// nothing.
     pub fn led(&self)
-        ensures { IsLed self.now }
+        ensures { IsLed self.now.world }
     {
         let _state = &self.state;
     }
 
-    /// The action of this name as it was made. It is None exactly where it wasn't shown as made: by the law
-    /// `runs_tell_of_their_worlds` of `cg_agree` where no line `made` of the steps that lead here names it. It takes no
-    /// memory.
+    /// The action of this name as it was made on the way to this world. It is None exactly where it wasn't shown as made,
+    /// which the world's cut tells too; and the action stands in the book of a chronicle with which admitted events lead
+    /// here. It takes no memory.
     pub fn made(&self, id: ActionId) -> Option<&Action>
+        ensures found { option_copied result ≡ made_named self.now.made id }
         ensures some { is_some (option_copied result) ≡
-            (nat_lt 0 id.index && nat_le id.index (index_in self.now.made id.creator)) }
-        ensures action { IfSome (option_copied result) (λ a. (a.id ≡ id) × IsInBook self.now a) }
+            (nat_lt 0 id.index && nat_le id.index (index_in self.now.world.made id.creator)) }
+        ensures action { IfSome (option_copied result) (λ a. (a.id ≡ id) × IsInBook self.now.world a) }
     {
         self.made.get(id)
     }

@@ -1,10 +1,10 @@
 //! The step of the world.
+ghost use Rattle.std.specs.Prelude.{◌++◌};
 ghost use Rattle.cg_model.specs.Making.{newly_made};
 ghost use Rattle.cg_model.specs.Run.{MayStand};
 ghost use Rattle.cg_model.specs.Show.{ended};
 ghost use Rattle.cg_model.specs.Touched.{ShowsNewsOf};
 ghost use Rattle.cg_world.specs.Led.{IsLedWith};
-ghost use Rattle.cg_world.specs.MadeActions.{rows_of, with_all};
 ghost use Rattle.cg_world.specs.Steps.{IsCounted, IsEnd, Steps};
 
 use crate::World;
@@ -32,7 +32,7 @@ pub enum Stepped {
 impl World {
     /// The step of an event in this world.
     pub fn step(self, alloc: Global, event: &Event) -> Stepped
-        requires stands { MayStand self event.now }
+        requires stands { MayStand self.world event.now }
         requires counted { IsCounted event.now }
         ensures { Steps self event.now result }
     {
@@ -57,9 +57,9 @@ impl World {
 
 // the event ends in a world to which it leads, and nothing is new of replicas that it doesn't touch
 fn finish(alloc: Global, made: MadeActions, going: Going, touched: &IdSet) -> Stepped
-    requires led { IsLedWith (ended going).world (with_all (rows_of made) (newly_made (ended going))) }
+    requires led { IsLedWith (ended going).world (made ++ newly_made (ended going)) }
     requires news { ShowsNewsOf touched.now going.world }
-    ensures { IsEnd (ended going) result }
+    ensures { IsEnd (ended going) made result }
 {
     match going.finish(touched) {
         Ok((entry, state)) => keep(alloc, made, entry, state),
@@ -72,8 +72,8 @@ fn finish(alloc: Global, made: MadeActions, going: Going, touched: &IdSet) -> St
 
 // what its step shows as made is kept
 fn keep(alloc: Global, made: MadeActions, entry: Entry, state: WorldState) -> Stepped
-    requires { IsLedWith state (with_all (rows_of made) (newly_made (record { entry = entry; world = state }))) }
-    ensures { IsEnd (record { entry = entry; world = state }) result }
+    requires { IsLedWith state (made ++ newly_made (record { entry = entry; world = state })) }
+    ensures { IsEnd (record { entry = entry; world = state }) made result }
 {
     let mut made = made;
     match made.add_all(alloc, &state, entry.made.as_slice()) {

@@ -7,4 +7,4 @@ use Rattle.cg_run_tests.proofs.worlds.take_step.Goals as goal
 pub returns-in-Done : goal.returns-in-Done
 returns-in-Done c =
     let stepped = c.in-Done.ensures in
-    subst (λ (m : Moved). IsSeated m.world) (sym stepped.1) (step_seats c.args.world c.args.event.now c.requires.stands stepped.0)
+    subst (λ (m : Moved). IsSeated m.world) (sym stepped.1) (step_seats c.args.world.world c.args.event.now c.requires.stands stepped.0)
