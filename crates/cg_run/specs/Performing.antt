@@ -12,7 +12,7 @@ use Rattle.cg_run.specs.declared.progress.Stage.{Stage as RunStage}
 
 -- how far a run has come
 abbrev pub seen : RunProgress → Progress
-seen p = record { world = p.world; reader = p.reader; count = p.count; totals = p.totals }
+seen p = record { world = p.world.world; reader = p.reader; count = p.count; totals = p.totals }
 
 -- where it stands between two lines
 abbrev pub seen_stage : RunStage → Stage
