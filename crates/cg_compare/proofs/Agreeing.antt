@@ -1,20 +1,20 @@
 -- What is told of logs that agree is so: an order of which each log is a part has the names that they cover, and at any other
 -- place a name that no log has.
-use Rattle.std.specs.Prelude.{◌≡◌, ◌<◌, ◌≤◌, ◌⊎◌, ◌+◌, ℕ, zero, suc, max, List, [], ◌∷◌, Option, Some, None, Contains, length, map, slice_get}
+use Rattle.std.specs.Prelude.{◌≡◌, ◌<◌, ◌≤◌, ◌+◌, ℕ, zero, suc, max, List, [], ◌∷◌, Option, Some, None, length, map, slice_get}
 use Rattle.std.specs.Option.{option_map_or}
-use Rattle.std.proofs.Common.{refl, sym, ap, subst, ◌∙◌, arith, inl, inr, ⊎_elim}
+use Rattle.std.proofs.Common.{refl, sym, ap, ◌∙◌, arith, ⊎_elim}
 use Rattle.std.proofs.lemmas.Bool.{cases_lt}
 use Rattle.std.proofs.lemmas.Option.{same_Some}
 use Rattle.std.proofs.lemmas.List.{length-map}
 use Rattle.cg_base.specs.declared.action_id.ActionId.{ActionId}
-use Rattle.cg_base.specs.Lists.{at_place, count_up, first_some}
+use Rattle.cg_base.specs.Lists.{at_place, first_some}
 use Rattle.cg_base.specs.ListLaws.{length-count_up}
 use Rattle.cg_compare.specs.declared.log.Log.{Log}
 use Rattle.cg_compare.specs.declared.log.Joined.{Joined}
 use Rattle.cg_compare.specs.declared.log.Joined.TheVariants.{Agree}
-use Rattle.cg_compare.specs.Orders.{HasNoRepeats, IsOrderOf, IsSeen, IsCovered, IsShared, IsTold}
-use Rattle.cg_compare.specs.Places.{name_at, seen_at, last_place, places_of}
-use Rattle.cg_compare.specs.Join.{first_difference, first_name, covered, name_in, repeat_at, first_repeat, join_logs}
+use Rattle.cg_compare.specs.Orders.{IsOrderOf, IsSeen, IsShared, IsTold}
+use Rattle.cg_compare.specs.Places.{seen_at, last_place, places_of}
+use Rattle.cg_compare.specs.Join.{first_difference, first_name, covered, repeat_at, first_repeat, join_logs}
 use Rattle.cg_compare.proofs.First.{some_is_none, none_has}
 use Rattle.cg_compare.proofs.Seeing.{seen_first, seen_within, place_within, last_is_last}
 use Rattle.cg_compare.proofs.Differing.{difference_is_told}

@@ -1,7 +1,7 @@
 -- What is told of two logs that differ is so.
-use Rattle.std.specs.Prelude.{◌≡◌, ◌≢◌, ◌<◌, ◌≤◌, ◌⊎◌, ℕ, Bool, true, false, not, List, [], ◌∷◌, ◌++◌, Option, Some, None, Contains, find, map, option_map, if◌then◌else◌}
+use Rattle.std.specs.Prelude.{◌≡◌, ◌≢◌, ◌<◌, ◌≤◌, ◌⊎◌, ℕ, Bool, true, false, not, List, [], ◌∷◌, ◌++◌, Option, Some, None, find, map, option_map, if◌then◌else◌}
 use Rattle.std.specs.List.{All}
-use Rattle.std.proofs.Common.{refl, sym, ap, subst, ◌∙◌, arith, inl, inr}
+use Rattle.std.proofs.Common.{refl, sym, ap, subst, ◌∙◌, inl, inr}
 use Rattle.std.proofs.lemmas.List.Elements.{All-nil, All-cons}
 use Rattle.std.proofs.lemmas.Option.{same_Some}
 use Rattle.cg_base.specs.declared.action_id.ActionId.{ActionId}
@@ -11,10 +11,10 @@ use Rattle.cg_base.specs.Lists.{present}
 use Rattle.cg_compare.specs.declared.log.Log.{Log}
 use Rattle.cg_compare.specs.declared.log.Joined.{Joined}
 use Rattle.cg_compare.specs.declared.log.Joined.TheVariants.{Differ}
-use Rattle.cg_compare.specs.Orders.{HaveOneName, IsSeen, IsDifference, IsTold}
+use Rattle.cg_compare.specs.Orders.{HaveOneName, IsTold}
 use Rattle.cg_compare.specs.Places.{Sighting, name_at, seen_in, seen_at, last_place}
 use Rattle.cg_compare.specs.Join.{differing, difference_in, first_difference}
-use Rattle.cg_compare.proofs.First.{some_is_none, true_is_false, first_has, IsFirst}
+use Rattle.cg_compare.proofs.First.{some_is_none, true_is_false, first_has}
 use Rattle.cg_compare.proofs.Seeing.{seen_within}
 use Rattle.cg_compare.proofs.Agreed.{one_name}
 use Rattle.cg_compare.proofs.OneOrder.{no_difference}

@@ -7,6 +7,7 @@ pub mod PlacedDifference
 pub mod PlacedList
 pub mod PlacedRepeat
 pub mod Repeating
+pub mod Rows
 pub mod SeenBefore
 pub mod Seeing
 pub mod Sorting

@@ -1,27 +1,22 @@
 -- The names of logs, ascending by place: each is seen where it stands, and the first that differs is the difference of the
 -- logs.
-use Rattle.std.specs.Prelude.{◌≡◌, ◌<◌, ◌≤◌, ◌⊎◌, ◌+◌, ◌-◌, ◌==◌, nat_le, ℕ, zero, suc, Bool, true, false, not, List, [], ◌∷◌, ◌++◌, Option, Some, None, Contains, filter, find, length, map, option_map, option_and_then, replicate, if◌then◌else◌}
-use Rattle.std.specs.Option.{option_map_or}
-use Rattle.std.proofs.Common.{refl, sym, ap, ap₂, subst, ◌∙◌, arith, inl, inr, ⊎_elim, eqb, eqb-true, eq-eqb}
-use Rattle.std.proofs.lemmas.Bool.{cases_eq, cases_lt, cases_Bool, cond-true, cond-false, ne_eqb}
-use Rattle.std.proofs.lemmas.List.{append_assoc}
+use Rattle.std.specs.Prelude.{◌≡◌, ◌<◌, ◌≤◌, ◌⊎◌, ◌==◌, ℕ, true, false, not, List, [], ◌∷◌, Option, Some, None, filter, find, map, option_map, if◌then◌else◌}
+use Rattle.std.proofs.Common.{refl, sym, ap, subst, ◌∙◌, arith, inl, inr, ⊎_elim, eq-eqb}
+use Rattle.std.proofs.lemmas.Bool.{cases_eq, cases_Bool, cond-true, cond-false, ne_eqb}
 use Rattle.std.proofs.lemmas.Option.{same_Some}
 use Rattle.cg_base.specs.declared.action_id.ActionId.{ActionId}
 use Rattle.cg_base.specs.Ids.{same_id}
-use Rattle.cg_base.specs.IdLaws.{same_id-is, same_id-self}
-use Rattle.cg_base.specs.Lists.{at_place, count_up, first_some, present}
+use Rattle.cg_base.specs.Lists.{count_up, first_some, present}
 use Rattle.cg_compare.specs.declared.log.Log.{Log}
 use Rattle.cg_compare.specs.declared.log.Joined.{Joined}
-use Rattle.cg_compare.specs.declared.log.Joined.TheVariants.{Agree, Differ, Twice}
+use Rattle.cg_compare.specs.declared.log.Joined.TheVariants.{Differ}
 use Rattle.cg_compare.specs.declared.seen.Seen.{Seen}
 use Rattle.cg_compare.specs.Places.{Sighting, name_at, seen_in, seen_at, last_place, places_of}
-use Rattle.cg_compare.specs.Join.{differing, difference_in, first_difference, first_name, covered, name_in, stands_at, earlier_place, repeat_at, first_repeat, join_logs}
-use Rattle.cg_compare.specs.Orders.{IsSeen, IsCovered}
-use Rattle.cg_compare.specs.Seen.{sighting, seen_among, AreFrom, Ascend, ArePlaced, difference_after, difference_among, place_among, unless_elsewhere, repeat_after, covered_above}
-use Rattle.cg_compare.proofs.First.{some_is_none, true_is_false, is_first, none_first, found_is, IsFound, is_found, none_found}
-use Rattle.cg_compare.proofs.Seeing.{in_more, seen_within, seen_first, last_is_last}
-use Rattle.cg_compare.proofs.Agreed.{no_difference_at, seen_is_told}
-use Rattle.cg_compare.proofs.Repeating.{length-covered, place_mapped, named_is_seen, seen_is_named, stands}
+use Rattle.cg_compare.specs.Join.{differing, difference_in, first_difference, first_name}
+use Rattle.cg_compare.specs.Orders.{IsSeen}
+use Rattle.cg_compare.specs.Seen.{sighting, seen_among, AreFrom, Ascend, ArePlaced, difference_after, difference_among}
+use Rattle.cg_compare.proofs.First.{some_is_none, is_first, none_first}
+use Rattle.cg_compare.proofs.Seeing.{in_more, seen_within}
 
 -- ---- what is seen among names
 

@@ -1,7 +1,7 @@
 -- The names of logs, ascending by place: where the logs agree, they make the list of the names at the places.
-use Rattle.std.specs.Prelude.{◌≡◌, ◌<◌, ◌≤◌, ◌⊎◌, ◌+◌, ◌-◌, nat_le, ℕ, zero, suc, Bool, true, false, List, [], ◌∷◌, ◌++◌, Option, Some, None, map, replicate, length, if◌then◌else◌}
+use Rattle.std.specs.Prelude.{◌≡◌, ◌<◌, ◌≤◌, ◌+◌, ◌-◌, nat_le, ℕ, zero, suc, false, List, [], ◌∷◌, ◌++◌, Option, Some, None, map, replicate, length}
 use Rattle.std.specs.Option.{option_map_or}
-use Rattle.std.proofs.Common.{refl, sym, ap, ap₂, subst, ◌∙◌, arith, ⊎_elim}
+use Rattle.std.proofs.Common.{refl, sym, ap, ap₂, ◌∙◌, arith, ⊎_elim}
 use Rattle.std.proofs.lemmas.Bool.{cases_lt, cond-true, cond-false, le-leb, lt-leb}
 use Rattle.cg_base.specs.declared.action_id.ActionId.{ActionId}
 use Rattle.cg_base.specs.Lists.{count_up, first_some}
@@ -12,7 +12,7 @@ use Rattle.cg_compare.specs.declared.seen.Seen.{Seen}
 use Rattle.cg_compare.specs.Places.{seen_at, last_place}
 use Rattle.cg_compare.specs.Join.{first_difference, first_name, covered, first_repeat, join_logs}
 use Rattle.cg_compare.specs.Orders.{IsCovered}
-use Rattle.cg_compare.specs.Seen.{seen_among, sighting, AreFrom, Ascend, ArePlaced, difference_among, repeat_after, covered_above}
+use Rattle.cg_compare.specs.Seen.{seen_among, AreFrom, Ascend, ArePlaced, difference_among, repeat_after, covered_above}
 use Rattle.cg_compare.proofs.First.{some_is_none}
 use Rattle.cg_compare.proofs.Seeing.{last_is_last}
 use Rattle.cg_compare.proofs.Agreed.{no_difference_at, seen_is_told}

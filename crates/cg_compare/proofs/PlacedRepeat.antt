@@ -1,20 +1,17 @@
 -- The names of logs, ascending by place: where no two logs differ, the first that was seen at another place is the repeat.
-use Rattle.std.specs.Prelude.{◌≡◌, ◌<◌, ◌≤◌, ◌⊎◌, ◌+◌, ◌-◌, ◌==◌, ℕ, suc, Bool, true, false, List, [], ◌∷◌, ◌++◌, Option, Some, None, find, length, option_map, option_and_then, if◌then◌else◌}
-use Rattle.std.specs.Option.{option_map_or}
+use Rattle.std.specs.Prelude.{◌≡◌, ◌<◌, ◌≤◌, ◌⊎◌, ◌-◌, ◌==◌, ℕ, suc, Bool, true, false, List, [], ◌∷◌, ◌++◌, Option, Some, None, find, length, option_map, option_and_then, if◌then◌else◌}
 use Rattle.std.proofs.Common.{refl, sym, ap, subst, ◌∙◌, arith, inl, inr, ⊎_elim, eq-eqb}
-use Rattle.std.proofs.lemmas.Bool.{cases_eq, cases_lt, cases_Bool, cond-true, cond-false, ne_eqb}
-use Rattle.std.proofs.lemmas.List.{append_assoc, append-nil}
+use Rattle.std.proofs.lemmas.Bool.{cases_eq, cases_Bool, cond-true, cond-false, ne_eqb}
+use Rattle.std.proofs.lemmas.List.{append_assoc}
 use Rattle.std.proofs.lemmas.Option.{same_Some}
 use Rattle.cg_base.specs.declared.action_id.ActionId.{ActionId}
 use Rattle.cg_base.specs.Ids.{same_id}
 use Rattle.cg_base.specs.IdLaws.{same_id-is, same_id-true}
 use Rattle.cg_compare.specs.declared.log.Log.{Log}
-use Rattle.cg_compare.specs.declared.log.Joined.{Joined}
 use Rattle.cg_compare.specs.declared.log.Joined.TheVariants.{Twice}
 use Rattle.cg_compare.specs.declared.seen.Seen.{Seen}
-use Rattle.cg_compare.specs.Places.{seen_at, last_place}
 use Rattle.cg_compare.specs.Join.{first_difference, first_name, covered, name_in, stands_at, earlier_place, repeat_at, first_repeat}
-use Rattle.cg_compare.specs.Seen.{AreFrom, Ascend, ArePlaced, place_among, unless_elsewhere, repeat_after}
+use Rattle.cg_compare.specs.Seen.{AreFrom, Ascend, ArePlaced, unless_elsewhere, repeat_after}
 use Rattle.cg_compare.proofs.First.{some_is_none, is_first, none_first, is_found, none_found}
 use Rattle.cg_compare.proofs.Seeing.{seen_within}
 use Rattle.cg_compare.proofs.Agreed.{no_difference_at, seen_is_told}

@@ -1,5 +1,5 @@
 -- What is told of a name that stands at two places is so.
-use Rattle.std.specs.Prelude.{◌≡◌, ◌<◌, ◌≤◌, ◌+◌, ◌-◌, ℕ, zero, suc, Bool, true, false, List, Option, Some, None, length, map, option_map, option_and_then, slice_get}
+use Rattle.std.specs.Prelude.{◌≡◌, ◌<◌, ◌≤◌, ◌+◌, ◌-◌, ℕ, zero, suc, true, false, List, Option, Some, None, length, map, option_map, option_and_then, slice_get}
 use Rattle.std.specs.Option.{option_map_or}
 use Rattle.std.proofs.Common.{refl, sym, ap, subst, ◌∙◌, arith}
 use Rattle.std.proofs.lemmas.Option.{same_Some}
@@ -12,13 +12,13 @@ use Rattle.cg_base.specs.ListLaws.{length-count_up}
 use Rattle.cg_compare.specs.declared.log.Log.{Log}
 use Rattle.cg_compare.specs.declared.log.Joined.{Joined}
 use Rattle.cg_compare.specs.declared.log.Joined.TheVariants.{Twice}
-use Rattle.cg_compare.specs.Orders.{HaveOneName, IsSeen, IsRepeat, IsTold}
+use Rattle.cg_compare.specs.Orders.{IsSeen, IsTold}
 use Rattle.cg_compare.specs.Places.{seen_at, last_place, places_of}
 use Rattle.cg_compare.specs.Join.{first_difference, first_name, covered, name_in, stands_at, earlier_place, repeat_at, first_repeat}
-use Rattle.cg_compare.proofs.First.{some_is_none, true_is_false, first_has, IsFirst, found_is, none_passes}
+use Rattle.cg_compare.proofs.First.{some_is_none, true_is_false, first_has, found_is, none_passes}
 use Rattle.cg_compare.proofs.Seeing.{seen_first, seen_within}
 use Rattle.cg_compare.proofs.Agreed.{no_difference_at, one_name, seen_is_told}
-use Rattle.cg_compare.proofs.OneOrder.{mapped_at, covered_at, in_cell, no_repeat}
+use Rattle.cg_compare.proofs.OneOrder.{covered_at, in_cell, no_repeat}
 
 -- ---- the names at the places
 

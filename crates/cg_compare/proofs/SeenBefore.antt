@@ -6,7 +6,6 @@ use Rattle.std.proofs.lemmas.Bool.{cases_Bool, cond-true, cond-false}
 use Rattle.cg_base.specs.declared.action_id.ActionId.{ActionId}
 use Rattle.cg_base.specs.Ids.{same_id}
 use Rattle.cg_base.specs.IdLaws.{same_id-is}
-use Rattle.cg_compare.specs.declared.log.Joined.{Joined}
 use Rattle.cg_compare.specs.declared.log.Joined.TheVariants.{Twice}
 use Rattle.cg_compare.specs.declared.seen.Seen.{Seen}
 use Rattle.cg_compare.specs.Seen.{place_among, unless_elsewhere, repeat_after}

@@ -1,8 +1,8 @@
 -- The names of logs, sorted by place, are placed: they ascend, and at each place stands what is seen there.
-use Rattle.std.specs.Prelude.{◌≡◌, ◌<◌, ◌≤◌, ◌⊎◌, ◌+◌, ◌-◌, ◌==◌, ℕ, zero, suc, Bool, List, [], ◌∷◌, ◌++◌, Option, Some, None, filter, length, map, option_map, slice_get, slice_index_or}
+use Rattle.std.specs.Prelude.{◌≡◌, ◌<◌, ◌≤◌, ◌+◌, ◌-◌, ◌==◌, ℕ, zero, suc, List, [], ◌∷◌, ◌++◌, Option, Some, None, filter, length, map, option_map, slice_index_or}
 use Rattle.std.specs.List.Sorted.{IsNonDecreasingBy, IsStableByKey, ties}
 use Rattle.std.specs.Ordering.{nat_cmp, is_lt}
-use Rattle.std.proofs.Common.{refl, sym, ap, ap₂, subst, ◌∙◌, arith, ⊎_elim}
+use Rattle.std.proofs.Common.{refl, sym, ap, ap₂, ◌∙◌, arith, ⊎_elim}
 use Rattle.std.proofs.lemmas.Bool.{cases_eq, cases_lt}
 use Rattle.std.proofs.lemmas.Bool.Decides.{nat_tests}
 use Rattle.std.proofs.lemmas.List.{map-append}
@@ -11,7 +11,7 @@ use Rattle.cg_base.specs.declared.action_id.ActionId.{ActionId}
 use Rattle.cg_base.specs.Lists.{at_place, present}
 use Rattle.cg_compare.specs.declared.log.Log.{Log}
 use Rattle.cg_compare.specs.declared.seen.Seen.{Seen}
-use Rattle.cg_compare.specs.Places.{Sighting, name_at, seen_in, seen_at}
+use Rattle.cg_compare.specs.Places.{Sighting, seen_in, seen_at}
 use Rattle.cg_compare.specs.Seen.{names_behind, names_in, all_names, sighting, seen_among, AreFrom, Ascend, ArePlaced}
 use Rattle.cg_compare.proofs.PlacedDifference.{hit, miss, none_below}
 

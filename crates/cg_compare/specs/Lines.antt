@@ -105,7 +105,7 @@ after_opening (Ok None) = Ok None
 after_opening (Ok (Some opened)) = some_read (whole (line_reading opened.0) opened.1)
 after_opening (Err fault) = Err fault
 
--- how a line reads, where the end has stood before it or hasn't: as nothing, where it is passed over, or as what it says;
--- else why it is refused
+-- how a line reads, where the end has stood before it or hasn't: as nothing, where it is passed over, or as what it
+-- says; else why it is refused
 abbrev pub reading : Bool → List ℕ → Result (Option LogLine) LineFault
 reading has_ended line = after_opening (opening has_ended line)

@@ -1,6 +1,5 @@
 use Rattle.std.proofs.Common.{◌≡◌, ◌∙◌, [], Some, None, sym, ap, subst}
 use Rattle.cg_compare.specs.declared.log.Joined.TheVariants.{Agree}
-use Rattle.cg_compare.specs.Join.{join_logs}
 use Rattle.cg_compare.specs.Orders.{IsTold}
 use Rattle.cg_compare.specs.Seen.{ArePlaced, difference_among, repeat_after, covered_above}
 use Rattle.cg_compare.proofs.Agreeing as agreeing
