@@ -1,0 +1,13 @@
+pub mod Agreed
+pub mod Agreeing
+pub mod Differing
+pub mod First
+pub mod OneOrder
+pub mod PlacedDifference
+pub mod PlacedList
+pub mod PlacedRepeat
+pub mod Repeating
+pub mod Rows
+pub mod SeenBefore
+pub mod Seeing
+pub mod Sorting
