@@ -11,7 +11,7 @@ use Rattle.cg_world.specs.declared.world.Stepped.TheVariants as stepped
 use Rattle.cg_world.specs.SoFar.{SoFar}
 pub use Rattle.cg_events.specs.Happening.{IsCounted}
 
--- what comes of an event: its step, which is followed by what it shows as made; or exactly the reason by which it isn't admitted
+-- what comes of an event: its step, and what it shows as made is made too; or exactly the reason why it isn't admitted
 abbrev pub Steps : SoFar → Event → Stepped → Type 0
 Steps before e (stepped.Done after entry) =
     (first_refusal before.world e ≡ None)

@@ -1,8 +1,9 @@
 //! The world that a schedule steps: its replicas, each with its disk, and what each step shows.
 //!
-//! The world takes a step with an event of the schedule (`World::step`), which is `world_step` of `cg_model`'s definitions, or
-//! tells why the event isn't admitted; what the step shows is an entry of `cg_report`. Which actions were made so far is a
-//! part of its value. Where the events come from, how steps are counted and where the text goes is left to the program above.
+//! The world takes a step with an event of the schedule (`World::step`), which is `world_step` of `cg_model`'s
+//! definitions, or tells why the event isn't admitted; what the step shows is an entry of `cg_report`. Which actions were
+//! made so far is a part of its value. Where the events come from, how steps are counted and where the text goes is left
+//! to the program above.
 //!
 //! One step, as in `crates/cg_run_tests/src/worlds.rt`:
 //!

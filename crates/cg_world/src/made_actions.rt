@@ -12,7 +12,8 @@ use cg_report::Made;
 use std::alloc::Global;
 use std::marker::Model;
 
-/// The actions that were made, kept in a row for each creator. Clauses see the list of them in the order of their making.
+/// The actions that were made, kept in a row for each creator. Clauses see the list of them in the order of their
+/// making.
 #[derive(Drop)]
 pub(crate) struct MadeActions {
     // of each creator, the one with number 1 first; a creator behind the last of these has made none

@@ -14,8 +14,8 @@ use cg_events::WorldState;
 use std::alloc::Global;
 use std::marker::Model;
 
-/// The world: one to which admitted events lead from before the start. Clauses see it as the definitions have it, with the
-/// actions that were shown as made on the way.
+/// The world: one to which admitted events lead from before the start. Clauses see it as the definitions have it, with
+/// the actions that were shown as made on the way.
 #[derive(Drop)]
 pub struct World {
     pub(crate) state: WorldState,
@@ -77,9 +77,9 @@ impl World {
         let _state = &self.state;
     }
 
-    /// The action of this name as it was made on the way to this world. It is None exactly where it wasn't shown as made,
-    /// which the world's cut tells too; and the action stands in the book of a chronicle with which admitted events lead
-    /// here. It takes no memory.
+    /// The action of this name as it was made on the way to this world. It is None exactly where it wasn't shown as
+    /// made, which the world's cut tells too; and the action stands in the book of a chronicle with which admitted
+    /// events lead here. It takes no memory.
     pub fn made(&self, id: ActionId) -> Option<&Action>
         ensures found { option_copied result ≡ made_named self.now.made id }
         ensures some { is_some (option_copied result) ≡

@@ -1,5 +1,4 @@
 use Rattle.std.proofs.Common.{◌≡◌, ◌∙◌, ◌-◌, ◌<◌, ◌≤◌, suc, length, slice_get, sym, ap, arith}
-use Rattle.cg_base.specs.Lists.{at_place}
 use Rattle.cg_model.specs.Making.{made_by}
 use Rattle.cg_world.specs.MadeActions.{row_at}
 use Rattle.cg_world.proofs.Rows.{row-behind, row-there, none-at, first-at}
