@@ -9,3 +9,4 @@ pub mod Shows
 pub mod Entries
 pub mod Reports
 pub mod Tails
+pub mod JsonReports

@@ -6,4 +6,4 @@
 
 mod laws;
 
-pub use laws::reports_tell_their_transcripts;
+pub use laws::{json_reports_tell_their_transcripts, reports_tell_their_transcripts};

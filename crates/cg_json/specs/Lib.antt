@@ -1,0 +1,4 @@
+pub mod JsonText
+pub mod JsonTold
+pub mod JsonLaws
+pub mod Lines
