@@ -1,0 +1,10 @@
+pub mod Bounds
+pub mod Calls
+pub mod Cuts
+pub mod Known
+pub mod Later
+pub mod Lists
+pub mod OneMap
+pub mod Parts
+pub mod Running
+pub mod Union
