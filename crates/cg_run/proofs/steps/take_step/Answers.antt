@@ -14,5 +14,5 @@ count_step-requires-clause-seated g c =
 
 pub returns-in-Done-clause-performs : goal.returns-in-Done-clause-performs
 returns-in-Done-clause-performs g c =
-    rw (one_step-done c.args.line c.args.event.now (seen c.args.progress) c.in-Done.world c.in-Done.entry c.in-Done.ensures)
+    rw (one_step-done c.args.line c.args.event.now (seen c.args.progress) c.args.progress.world c.in-Done.world c.in-Done.entry c.in-Done.ensures)
     (c.count_step.ensures.performs c.args.progress c.args.event.now refl refl refl)
