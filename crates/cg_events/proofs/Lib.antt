@@ -1,3 +1,5 @@
+mod Arriving
+mod CopiedParts
 mod FirstReasons
 mod HandFacts
 mod LineFacts

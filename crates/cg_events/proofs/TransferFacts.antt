@@ -21,11 +21,9 @@ use Rattle.cg_model.specs.World.{World, Seat, Snapshot, running, seat_of, has_be
 use Rattle.cg_model.specs.Admission.{takes_part, never_named, joiner_left, not_green}
 use Rattle.cg_model.specs.AdmissionCalls.{begun_already}
 use Rattle.cg_model.specs.Step.{quietly, snapshot_for, without_snapshot, transfer}
-use Rattle.cg_transfer.specs.Calls.{copied}
 use Rattle.cg_events.specs.Going.{seated, fallen}
 use Rattle.cg_events.specs.Grounds.{IsSeated}
-use Rattle.cg_events.specs.Handing.{new_copy, Chooses, takes}
-use Rattle.cg_events.proofs.StruckSeats.{found-id}
+use Rattle.cg_events.specs.Handing.{Chooses, takes}
 
 -- ---- one is taken out
 
@@ -73,13 +71,6 @@ taken-out p joiner list i d e =
     let s = get_or list i d in
     let same : (s.joiner == joiner) ≡ true = (and_parts (s.joiner == joiner) (s.giver == p) there.1).0 in
     record { found = there.2; others = filter-removed (is_other joiner) list i d there.0 (ap not same) }
-
--- ---- a new one
-
-pub copied-at : (w : World) (p joiner : ℕ) (s : Seat) → seat_of w p ≡ Some s → copied joiner s ≡ new_copy w p joiner
-copied-at w p joiner s there =
-    ap (λ n. copied joiner (record { id = n; life = s.life })) (found-id w.seats p s there)
-    ∙ sym (ap (λ o. option_map (λ (r : Replica). (let x : Snapshot = record { joiner = joiner; giver = p; content = r.held; taken = 0 } in x)) (option_and_then (λ (s : Seat). running s.life) o)) there)
 
 -- ---- its pieces
 

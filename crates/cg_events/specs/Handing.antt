@@ -3,15 +3,16 @@ use Rattle.std.specs.Prelude.{ℕ, ◌==◌, ◌+◌, ◌++◌, [], ◌∷◌, �
 use Rattle.cg_client.specs.Replica.{Replica}
 use Rattle.cg_commit.specs.Crash.{new_disk}
 use Rattle.cg_report.specs.declared.entry.Shown.TheVariants.{Pieces}
-use Rattle.cg_model.specs.World.{World, Snapshot, replica_of, bring_up}
+use Rattle.cg_model.specs.World.{World, Up, Seat, Snapshot, replica_of, bring_up}
 use Rattle.cg_model.specs.Show.{Going}
 use Rattle.cg_model.specs.Step.{joined, snapshot_for, without_snapshot, showing}
 use Rattle.cg_client.specs.Joined.{piece_count}
+use Rattle.cg_seat.specs.Calls.{seat}
+use Rattle.cg_transfer.specs.Calls.{copy_of}
 
 -- a new snapshot of the replica, where it is up
 abbrev pub new_copy : World → ℕ → ℕ → Option Snapshot
-new_copy w p joiner =
-    option_map (λ r. record { joiner = joiner; giver = p; content = r.held; taken = 0 }) (replica_of w p)
+new_copy w p joiner = option_map (λ r. copy_of joiner p r.held) (replica_of w p)
 
 -- the snapshot of which pieces are to be taken, where its giver is up; it is no longer among those under way
 abbrev pub Chooses : World → World → ℕ → ℕ → Option Snapshot → Type 0
@@ -19,6 +20,10 @@ Chooses old new p joiner found =
     MatchOption found ((replica_of old p ≡ None) × (new ≡ old))
     (λ s. (r : Replica) × (replica_of old p ≡ Some r) × (s ≡ snapshot_for old p joiner r)
     × (new ≡ without_snapshot old joiner))
+
+-- the joiner of a snapshot is up with a new disk
+abbrev pub arrived : Snapshot → Seat
+arrived s = let r = joined s.joiner s.content in seat s.joiner (Up r (new_disk r.held))
 
 -- the joiner is up where all pieces were taken; or its snapshot is under way
 abbrev pub joins : World → Snapshot → World

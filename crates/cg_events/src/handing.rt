@@ -7,7 +7,7 @@ ghost use Rattle.cg_schedule.specs.declared.event.Event.TheVariants.{Transfer as
 ghost use Rattle.cg_client.specs.Joined.{piece_count};
 ghost use Rattle.cg_model.specs.Step.{showing, transfer};
 ghost use Rattle.cg_events.specs.Grounds.{IsSeated};
-ghost use Rattle.cg_events.specs.Handing.{new_copy, Chooses, joins, handed, shows_taken, takes};
+ghost use Rattle.cg_events.specs.Handing.{new_copy, Chooses, arrived, joins, handed, shows_taken, takes};
 ghost use Rattle.cg_events.specs.Happening.{Happens};
 
 use crate::admission::transfer_refused;
@@ -15,6 +15,7 @@ use crate::happened::done;
 use crate::{Going, Happened, WorldState};
 use cg_base::{NoMemory, ReplicaId, Row};
 use cg_report::Shown;
+use cg_seat::Seat;
 use cg_transfer::Transfer;
 use std::alloc::Global;
 
@@ -96,8 +97,11 @@ fn copy_of(
     requires { IsNumber number }
     ensures { IfOk result (λ found. found ≡ new_copy state.now p joiner) }
 {
-    match state.seats.find(p) {
-        Some(seat) => Transfer::of(seat, joiner, number),
+    match state.core(p) {
+        Some(core) => {
+            let copy = Transfer::of(core, p, number, joiner)?;
+            Ok(Some(copy))
+        }
         None => Ok(None),
     }
 }
@@ -185,7 +189,17 @@ fn join_in(alloc: Global, state: &mut WorldState, snapshot: Transfer) -> Result<
     ensures { OnOk result (state.new ≡ joins state.old snapshot) }
 {
     let joiner = snapshot.joiner();
-    let seat = snapshot.finish(alloc)?;
+    let seat = arrive(alloc, snapshot)?;
     state.seats.put(seat)?;
     state.group.add(joiner)
+}
+
+// The joiner is up with its new disk.
+fn arrive(alloc: Global, snapshot: Transfer) -> Result<Seat, NoMemory>
+    requires { snapshot.taken ≡ piece_count snapshot.content }
+    ensures { IfOk result (λ s. s ≡ arrived snapshot) }
+{
+    let joiner = snapshot.joiner();
+    let disk = snapshot.finish()?;
+    Seat::from_disk(alloc, disk, joiner)
 }

@@ -1,8 +1,9 @@
 //! The world that events change.
-ghost use Rattle.std.specs.Prelude.{◌≡◌, true, false, Some, None, is_some, IfOk, OnOk, MatchOption};
-ghost use Rattle.std.specs.Option.{option_map_or};
+ghost use Rattle.std.specs.Prelude.{◌≡◌, true, false, Some, None, is_some, option_map, IfOk, OnOk, IfSome, MatchOption};
+ghost use Rattle.std.specs.Option.{option_copied, option_map_or};
 ghost use Rattle.cg_base.specs.Sets.{has};
 ghost use Rattle.cg_members.specs.Servers.{is_server};
+ghost use Rattle.cg_commit.specs.Holds.{Holds};
 ghost use Rattle.cg_group.specs.Ready.{ready};
 ghost use Rattle.cg_group.specs.Events.{send_all};
 ghost use Rattle.cg_model.specs.World.{Life, no_world, running, seat_of, set_life, has_begun, replica_of, is_left, left_replicas, up_replicas};
@@ -16,6 +17,7 @@ use crate::made::MadeCut;
 use crate::seats::Seats;
 use crate::transfers::Transfers;
 use cg_base::{IdList, IdSet, NoMemory, ReplicaId, Row};
+use cg_client::Core;
 use cg_group::Group;
 use cg_letter::Letter;
 use cg_report::Line;
@@ -116,6 +118,17 @@ impl WorldState {
         match self.seats.find(p) {
             Some(seat) => seat.knows_server(q),
             None => false,
+        }
+    }
+
+    /// What the replica holds, where it is up, and the facts that stand of whatever a replica holds. It takes no memory.
+    pub(crate) fn core(&self, p: ReplicaId) -> Option<&Core>
+        ensures value { option_copied result ≡ option_map (λ r. r.held) (replica_of self.now p) }
+        ensures holds { IfSome (option_copied result) Holds }
+    {
+        match self.seats.find(p) {
+            Some(seat) => seat.core(),
+            None => None,
         }
     }
 

@@ -1,3 +1,2 @@
 mod Arriving
-mod CopiedParts
 mod HeldAgrees

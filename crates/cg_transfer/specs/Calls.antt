@@ -1,15 +1,19 @@
--- How a snapshot under way begins, and what it makes of its joiner, in the definitions of the world.
-use Rattle.std.specs.Prelude.{ℕ, Option, option_map}
-use Rattle.cg_commit.specs.Crash.{new_disk}
-use Rattle.cg_model.specs.World.{Up, Seat, Snapshot, running}
-use Rattle.cg_model.specs.Step.{joined}
-use Rattle.cg_seat.specs.Calls.{seat}
+-- How a snapshot under way begins, and what it makes of its joiner's disk.
+use Rattle.std.specs.Prelude.{◌≡◌, ℕ, None, IfSome}
+use Rattle.cg_disk.specs.View.{DiskView, IsAtRest}
+use Rattle.cg_client.specs.Joined.{joined}
+use Rattle.cg_client.specs.Replica.{Held}
+use Rattle.cg_store.specs.Stands.{Stands, created}
+use Rattle.cg_model.specs.World.{Snapshot}
 
--- a copy for a joiner, where the replica is up; no piece was taken
-abbrev pub copied : ℕ → Seat → Option Snapshot
-copied joiner s =
-    option_map (λ r. record { joiner = joiner; giver = s.id; content = r.held; taken = 0 }) (running s.life)
+-- a copy for a joiner of what its giver holds; no piece was taken
+abbrev pub copy_of : ℕ → ℕ → Held → Snapshot
+copy_of joiner giver h = record { joiner = joiner; giver = giver; content = h; taken = 0 }
 
--- the joiner is up with a new disk
-abbrev pub arrived : Snapshot → Seat
-arrived s = let r = joined s.joiner s.content in seat s.joiner (Up r (new_disk r.held))
+-- the disk is the joiner's: it stands for what a joiner holds, nothing on it is unsynced, nothing is armed, and it has
+-- made the calls in which a disk begins
+pub record IsOfJoined (d : DiskView) (s : Snapshot) : Type 0 where
+  pub stands : Stands s.joiner d.reads (created (joined s.joiner s.content))
+  pub rest : IsAtRest d
+  pub unarmed : IfSome d.state (λ s. s.strike ≡ None)
+  pub time : d.time ≡ 7

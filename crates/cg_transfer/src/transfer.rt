@@ -3,15 +3,13 @@ ghost use Rattle.std.specs.Prelude.{◌≡◌, ◌≤◌, ◌+◌, min, IfOk};
 ghost use Rattle.cg_client.specs.Joined.{joined, piece_count};
 ghost use Rattle.cg_records.specs.Limits.{IsNumber};
 ghost use Rattle.cg_stored.specs.Agreeing.{Agrees};
-ghost use Rattle.cg_transfer.specs.Calls.{arrived};
+ghost use Rattle.cg_transfer.specs.Calls.{copy_of, IsOfJoined};
 
 use cg_base::{NoMemory, ReplicaId};
 use cg_client::Core;
 use cg_disk::{Disk, ModelDisk};
 use cg_join::{Joiner, SnapshotName, SnapshotWriter, hand_pieces, snapshots_are_counted};
-use cg_seat::Seat;
 use cg_store::CommitErr;
-use std::alloc::Global;
 use std::marker::Model;
 use std::snapshot::Snapshot;
 
@@ -49,7 +47,7 @@ impl Transfer {
     ) -> Result<Transfer, NoMemory>
         requires number { IsNumber number }
         requires agrees { Agrees (joined joiner core.now) }
-        ensures { IfOk result (λ t. t ≡ record { joiner = joiner; giver = giver; content = core.now; taken = 0 }) }
+        ensures { IfOk result (λ t. t ≡ copy_of joiner giver core.now) }
     {
         let alloc = core.alloc();
         // one for the writer, and one for the joiner
@@ -124,14 +122,13 @@ impl Transfer {
         }
     }
 
-    /// The replica that joined, up with its new disk, where all pieces were taken.
-    pub fn finish(self, alloc: Global) -> Result<Seat, NoMemory>
+    /// The disk of the replica that joined, where all pieces were taken.
+    pub fn finish(self) -> Result<ModelDisk, NoMemory>
         requires { self.taken ≡ piece_count self.content }
-        ensures { IfOk result (λ s. s ≡ arrived self) }
+        ensures { IfOk result (λ disk. IsOfJoined (⟦<ModelDisk as Disk>⟧.view disk) self) }
     {
         snapshots_are_counted();
         let Transfer {
-            joiner,
             held,
             writer,
             taking,
@@ -140,7 +137,7 @@ impl Transfer {
         drop(held);
         drop(writer);
         match taking.finish() {
-            Ok(disk) => Seat::from_disk(alloc, disk, joiner),
+            Ok(disk) => Ok(disk),
             Err(CommitErr::Lost(_)) => unreachable!(),
             Err(CommitErr::NoMemory(disk)) => {
                 drop(disk);

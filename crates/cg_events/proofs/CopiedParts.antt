@@ -1,13 +1,10 @@
 -- The copy is of what a replica holds that is up.
 use Rattle.std.proofs.Common.{◌≡◌, ℕ, Option, Some, None, option_map, refl, sym, ap}
 use Rattle.cg_client.specs.Replica.{Held, Replica}
-use Rattle.cg_model.specs.World.{Snapshot}
+use Rattle.cg_transfer.specs.Calls.{copy_of}
 
 abbrev pub held_of : Option Replica → Option Held
 held_of up = option_map (λ (r : Replica). r.held) up
-
-abbrev pub copy_of : ℕ → ℕ → Held → Snapshot
-copy_of joiner giver h = record { joiner = joiner; giver = giver; content = h; taken = 0 }
 
 pub held-copied : (joiner giver : ℕ) (up : Option Replica) (h : Held) → held_of up ≡ Some h → Some (copy_of joiner giver h) ≡ option_map (λ (r : Replica). copy_of joiner giver r.held) up
 held-copied joiner giver None h e = absurd (let clash : None ≡ Some h = e in cc)
