@@ -29,17 +29,17 @@ use Rattle.cg_model.specs.Standing.{LeadTo, IsReached}
 use Rattle.cg_model.specs.Telling.{printed}
 use Rattle.cg_model.specs.Making.{made_of_action, position_on, printed_position, made_as, newly_made, made_by, AreNextOf, AlwaysMadeInBook}
 use Rattle.cg_agree.proofs.AlwaysMade.{always-holds}
-use Rattle.cg_agree.proofs.BookedCores.{each-booked}
-use Rattle.cg_agree.proofs.BookGrows.{IsNamed}
-use Rattle.cg_agree.proofs.BookStays.{event-book}
+use Rattle.cg_agree_lemmas.specs.BookedCores.{each-booked}
+use Rattle.cg_agree_lemmas.specs.BookGrows.{IsNamed}
+use Rattle.cg_agree_lemmas.specs.BookStays.{event-book}
 use Rattle.cg_commit.specs.Holds.{run_on, cut_behind, Rising}
 use Rattle.cg_agree.proofs.EventsLead.{are-admitted, always-stands}
 use Rattle.cg_agree.proofs.LinesShown.{ArePrinted, each-find, lines-on}
-use Rattle.cg_agree.proofs.MadeShown.{IsThere, Adds, names_in}
+use Rattle.cg_agree_lemmas.specs.MadeShown.{IsThere, Adds, names_in}
 use Rattle.cg_agree.proofs.MadeTold.{each-contains, found-in, step-adds}
 use Rattle.cg_agree.proofs.PrimaryOne.{holds-here}
 use Rattle.cg_agree.proofs.RunForward.{IsStepOf}
-use Rattle.cg_agree.proofs.SeatFacts.{seat-id}
+use Rattle.cg_agree_lemmas.specs.SeatFacts.{seat-id}
 use Rattle.cg_agree.proofs.TellsRun.{HasTold, told-on, nothing-told}
 use Rattle.cg_commit.specs.CutRaiseLaws.{rising-raise, index-same, index-other}
 use Rattle.cg_commit.specs.RunMarkLaws.{run-head, run-rest}

@@ -25,16 +25,16 @@ use Rattle.cg_model.specs.FactsNet.{PhaseSound, IsPhase}
 use Rattle.cg_model.specs.FactsReplica.{IsModeData, IsCore}
 use Rattle.cg_model.specs.FactsTalk.{whole_talk, handed_talk, of_creator, count_behind, AreContents, Content, AreNumbered, AreNumberedAt, ActsNumbered, IsStateIn, TalkFacts}
 use Rattle.cg_model.specs.Small.{Asks, Settles, small_step, turning, turning_as, after_turn, take_request}
-use Rattle.cg_agree.proofs.ActsSaid.{handed-heard}
-use Rattle.cg_agree.proofs.ActsWay.{later_acts, said-split, way-later, row-both, created-count, drop-behind}
-use Rattle.cg_agree.proofs.CreatesTalk.{CreatesAt, can, turns, fits}
-use Rattle.cg_agree.proofs.HandSays.{find-holds}
-use Rattle.cg_agree.proofs.NumbersSame.{AreInRow, IsNumberedAs, numbered-itself}
+use Rattle.cg_agree_lemmas.specs.ActsSaid.{handed-heard}
+use Rattle.cg_agree_lemmas.specs.ActsWay.{later_acts, said-split, way-later, row-both, created-count, drop-behind}
+use Rattle.cg_agree_lemmas.specs.CreatesTalk.{CreatesAt, can, turns, fits}
+use Rattle.cg_agree_lemmas.specs.HandSays.{find-holds}
+use Rattle.cg_agree_lemmas.specs.NumbersSame.{AreInRow, IsNumberedAs, numbered-itself}
 use Rattle.cg_agree.proofs.TalkAlone.{replica-set}
-use Rattle.cg_agree.proofs.TalkKept.{said-own, handed-own}
-use Rattle.cg_agree.proofs.TalkSame.{said-of, talk-from, content-same, acts-same}
-use Rattle.cg_agree.proofs.TurnActs.{content-turn, acts-turn}
-use Rattle.cg_agree.proofs.TurnTalk.{IsQuiet, CreatesOrIsQuiet, quiet-same, creating-regular, number-of, settle-each, ask-each, asks-kept, settles-kept}
+use Rattle.cg_agree_lemmas.specs.TalkKept.{said-own, handed-own}
+use Rattle.cg_agree_lemmas.specs.TalkSame.{said-of, talk-from, content-same, acts-same}
+use Rattle.cg_agree_lemmas.specs.TurnActs.{content-turn, acts-turn}
+use Rattle.cg_agree_lemmas.specs.TurnTalk.{IsQuiet, CreatesOrIsQuiet, quiet-same, creating-regular, number-of, settle-each, ask-each, asks-kept, settles-kept}
 use Rattle.cg_commit.specs.Holds.{cut_behind}
 
 -- ---- what a turn creates

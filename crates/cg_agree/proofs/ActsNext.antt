@@ -5,12 +5,12 @@ use Rattle.std.proofs.lemmas.Bool.{and_from, and_parts}
 use Rattle.std.proofs.lemmas.List.Elements.{filter_map-append}
 use Rattle.std.specs.Prelude.{◌==◌, slice_get}
 use Rattle.cg_action.specs.declared.action.Action.{Action}
-use Rattle.cg_agree.proofs.ActsOrdered.{heard-ended}
-use Rattle.cg_agree.proofs.ActsWay.{acts-split, row-at}
-use Rattle.cg_agree.proofs.HandNext.{legal-at, take-next, talk-append}
-use Rattle.cg_agree.proofs.HandsNow.{whole-ended, whole-through}
-use Rattle.cg_agree.proofs.NumbersSame.{AreInRow}
-use Rattle.cg_agree.proofs.SaidSoFar.{kind-mine, rest-through}
+use Rattle.cg_agree_lemmas.specs.ActsOrdered.{heard-ended}
+use Rattle.cg_agree_lemmas.specs.ActsWay.{acts-split, row-at}
+use Rattle.cg_agree_lemmas.specs.HandNext.{legal-at, take-next, talk-append}
+use Rattle.cg_agree_lemmas.specs.HandsNow.{whole-ended, whole-through}
+use Rattle.cg_agree_lemmas.specs.NumbersSame.{AreInRow}
+use Rattle.cg_agree_lemmas.specs.SaidSoFar.{kind-mine, rest-through}
 use Rattle.cg_model.specs.Chronicle.{Chronicle}
 use Rattle.cg_model.specs.FactsTalk.{TalkFacts, count_behind, of_creator, whole_talk}
 use Rattle.cg_model.specs.Looks.{members_in, ordered_in, placed_of, said_in, waiting_in}

@@ -13,10 +13,10 @@ use Rattle.cg_model.specs.Noting.{chronicle_step}
 use Rattle.cg_model.specs.Played.{StandsBeside, AreAdmitted, HoldsFrom, AlwaysHolds}
 use Rattle.cg_agree.proofs.MadeOfSmalls.{made-of-smalls}
 use Rattle.cg_agree.proofs.MovesKept.{kept-by-smalls}
-use Rattle.cg_agree.proofs.NothingStands.{nothing-stands}
+use Rattle.cg_agree_lemmas.specs.NothingStands.{nothing-stands}
 use Rattle.cg_agree.proofs.RestsKept.{rests-kept}
 use Rattle.cg_agree.proofs.MadeBookKept.{made_book-of, nothing-made, event-made}
-use Rattle.cg_agree.proofs.TurnGreens.{facts-along}
+use Rattle.cg_agree_lemmas.specs.TurnGreens.{facts-along}
 use Rattle.cg_agree.proofs.OrdersKept.{orders-kept}
 
 -- the facts of a world and of the chronicle beside it, and what they need besides to stand behind the next event

@@ -31,12 +31,12 @@ use Rattle.cg_model.specs.FactsAttempts.{AnnouncedEntered, ActInstalled, entered
 use Rattle.cg_model.specs.Facts.{Invariant}
 use Rattle.cg_model.specs.Small.{Small, small_step}
 use Rattle.cg_model.specs.Smalls.{may_make}
-use Rattle.cg_agree.proofs.SmallTalk.{conf-there}
-use Rattle.cg_agree.proofs.HandNext.{legal-at}
-use Rattle.cg_agree.proofs.HandsKept.{seated, regular-up}
-use Rattle.cg_agree.proofs.HandsNow.{whole-through}
-use Rattle.cg_agree.proofs.ReachSteps.{goes_on-kept}
-use Rattle.cg_agree.proofs.AttemptsGrow.{attempts-grow}
+use Rattle.cg_agree_lemmas.specs.SmallTalk.{conf-there}
+use Rattle.cg_agree_lemmas.specs.HandNext.{legal-at}
+use Rattle.cg_agree_lemmas.specs.HandsKept.{seated, regular-up}
+use Rattle.cg_agree_lemmas.specs.HandsNow.{whole-through}
+use Rattle.cg_agree_lemmas.specs.ReachSteps.{goes_on-kept}
+use Rattle.cg_agree_lemmas.specs.AttemptsGrow.{attempts-grow}
 use Rattle.cg_agree.proofs.AttemptSteps.{group-of}
 use Rattle.cg_agree.proofs.LevelsOpen.{some-installed, installed-grows}
 use Rattle.cg_agree.proofs.OutSaid.{said-out}

@@ -35,18 +35,18 @@ use Rattle.cg_model.specs.Facts.{Invariant}
 use Rattle.cg_model.specs.FactsExchange.{IsInExchange, IsUnmoved}
 use Rattle.cg_model.specs.FactsTalk.{AreTold, handed_talk}
 use Rattle.cg_agree.proofs.EndReached.{best-of}
-use Rattle.cg_agree.proofs.HandMay.{HasNext}
-use Rattle.cg_agree.proofs.HandNext.{legal-front}
-use Rattle.cg_agree.proofs.HandSays.{has_part}
+use Rattle.cg_agree_lemmas.specs.HandMay.{HasNext}
+use Rattle.cg_agree_lemmas.specs.HandNext.{legal-front}
+use Rattle.cg_agree_lemmas.specs.HandSays.{has_part}
 use Rattle.cg_agree.proofs.HandsAll.{KnowsAtEnd}
-use Rattle.cg_agree.proofs.HandsKept.{CanAnswer}
-use Rattle.cg_agree.proofs.HandsTalk.{HasAnswer}
-use Rattle.cg_agree.proofs.KnownBounds.{known-each, least-reds}
-use Rattle.cg_agree.proofs.KnownEnd.{end-known}
-use Rattle.cg_agree.proofs.PartHeld.{turn-held}
+use Rattle.cg_agree_lemmas.specs.HandsKept.{CanAnswer}
+use Rattle.cg_agree_lemmas.specs.HandsTalk.{HasAnswer}
+use Rattle.cg_agree_lemmas.specs.KnownBounds.{known-each, least-reds}
+use Rattle.cg_agree_lemmas.specs.KnownEnd.{end-known}
+use Rattle.cg_agree_lemmas.specs.PartHeld.{turn-held}
 use Rattle.cg_agree.proofs.PartsOwn.{parts-held}
-use Rattle.cg_agree.proofs.PlanProgress.{IsBehind, greens_there}
-use Rattle.cg_agree.proofs.TalkEarly.{early-legal, early-none, not_full, due_parts}
+use Rattle.cg_agree_lemmas.specs.PlanProgress.{IsBehind, greens_there}
+use Rattle.cg_agree_lemmas.specs.TalkEarly.{early-legal, early-none, not_full, due_parts}
 use Rattle.cg_agree.proofs.ToldBeside.{told-fits, told-id, mine-of}
 use Rattle.cg_agree.proofs.ExchangeThere.{may, oneself, in_exchange, in-states, in-actions, heard_before, heard_behind, full-sent, best, stays, near, unmoved-behind, unmoved-gone, before-greens, take-gone, behind-green, behind-red, unmoved-holds, behind-holds, best-greens, white-item}
 

@@ -10,9 +10,9 @@ use Rattle.cg_model.specs.Facts.{Invariant}
 use Rattle.cg_model.specs.Played.{AtRest}
 use Rattle.cg_model.specs.Small.{Small, small_step}
 use Rattle.cg_model.specs.Smalls.{may_make}
-use Rattle.cg_agree.proofs.GroupKept.{phase_sound-kept}
+use Rattle.cg_agree_lemmas.specs.GroupKept.{phase_sound-kept}
 use Rattle.cg_agree.proofs.AttemptSteps.{group-of}
-use Rattle.cg_agree.proofs.RecordKept.{record-kept}
+use Rattle.cg_agree_lemmas.specs.RecordKept.{record-kept}
 use Rattle.cg_agree.proofs.OneAttemptKept.{one_attempt-kept}
 use Rattle.cg_agree.proofs.DeadEvidenceKept.{dead_evidence-kept}
 use Rattle.cg_agree.proofs.LevelsOpen.{installed_announced-kept}

@@ -33,39 +33,39 @@ use Rattle.cg_model.specs.Small.{Small, Starts, Makes, Enters, Orders, Receives,
 use Rattle.cg_model.specs.Smalls.{may_make, is_running, is_set}
 use Rattle.cg_agree.proofs.AttemptSteps.{IsHanded}
 use Rattle.cg_agree.proofs.AttemptsCame.{Begins}
-use Rattle.cg_agree.proofs.AttemptsTurn.{ends-exchanging, ends-beside}
+use Rattle.cg_agree_lemmas.specs.AttemptsTurn.{ends-exchanging, ends-beside}
 use Rattle.cg_agree.proofs.BookedParts.{new-booked}
 use Rattle.cg_agree.proofs.BegunKept.{nothing-before}
-use Rattle.cg_agree.proofs.ChronicleFacts.{past-begun}
-use Rattle.cg_agree.proofs.CoresKept.{past-here, past-there}
+use Rattle.cg_agree_lemmas.specs.ChronicleFacts.{past-begun}
+use Rattle.cg_agree_lemmas.specs.CoresKept.{past-here, past-there}
 use Rattle.cg_agree.proofs.ExchangeBehind.{up-now, greens-same}
 use Rattle.cg_agree.proofs.ExchangeSmalls.{greens-turning, replica-behind, greens-behind, stays-told}
-use Rattle.cg_agree.proofs.GroupKept.{leaving-regular}
-use Rattle.cg_agree.proofs.GroupSound.{phase-made}
-use Rattle.cg_agree.proofs.HandsKept.{regular-phase, regular-up, seated}
-use Rattle.cg_agree.proofs.HandsNow.{HandsNow, hands-now, hands-regular, hand-turned, new, running-now}
-use Rattle.cg_agree.proofs.HeldCommit.{white-oneself}
-use Rattle.cg_agree.proofs.HeldMarks.{IsOneself}
+use Rattle.cg_agree_lemmas.specs.GroupKept.{leaving-regular}
+use Rattle.cg_agree_lemmas.specs.GroupSound.{phase-made}
+use Rattle.cg_agree_lemmas.specs.HandsKept.{regular-phase, regular-up, seated}
+use Rattle.cg_agree_lemmas.specs.HandsNow.{HandsNow, hands-now, hands-regular, hand-turned, new, running-now}
+use Rattle.cg_agree_lemmas.specs.HeldCommit.{white-oneself}
+use Rattle.cg_agree_lemmas.specs.HeldMarks.{IsOneself}
 use Rattle.cg_agree.proofs.ListEntered.{PartsBooked, entered-held}
-use Rattle.cg_agree.proofs.ListStill.{ListAt, WasIn, list-still, list-none, list-some, list-same, list-quiet, one-list, whitened-parts}
+use Rattle.cg_agree_lemmas.specs.ListStill.{ListAt, WasIn, list-still, list-none, list-some, list-same, list-quiet, one-list, whitened-parts}
 use Rattle.cg_agree.proofs.ModeKept.{mode_data-kept}
-use Rattle.cg_agree.proofs.NextThere.{orders-now, receives-now}
-use Rattle.cg_agree.proofs.OneStands.{stands-refl, stands-up, stands-down}
-use Rattle.cg_agree.proofs.OneSteps.{turns-step, hands-step, leaves-step, enters-step, may-join, seat-there}
-use Rattle.cg_agree.proofs.OneselfWorld.{HavePasts}
-use Rattle.cg_agree.proofs.OrdersWorld.{ordered-step, step-is, behind}
-use Rattle.cg_agree.proofs.PartingActs.{parting-by}
+use Rattle.cg_agree_lemmas.specs.NextThere.{orders-now, receives-now}
+use Rattle.cg_agree_lemmas.specs.OneStands.{stands-refl, stands-up, stands-down}
+use Rattle.cg_agree_lemmas.specs.OneSteps.{turns-step, hands-step, leaves-step, enters-step, may-join, seat-there}
+use Rattle.cg_agree_lemmas.specs.OneselfWorld.{HavePasts}
+use Rattle.cg_agree_lemmas.specs.OrdersWorld.{ordered-step, step-is, behind}
+use Rattle.cg_agree_lemmas.specs.PartingActs.{parting-by}
 use Rattle.cg_agree.proofs.PastKept.{enters-now}
-use Rattle.cg_agree.proofs.PlanEnd.{AtPlanEnd, plan-end, is_behind}
-use Rattle.cg_agree.proofs.RecordKept.{turn-is}
-use Rattle.cg_agree.proofs.SameAttempt.{KeepsAttempts, keeps-refl, keeps-left, attempts-kept}
-use Rattle.cg_agree.proofs.SmallTalk.{receive-is, receive-same}
+use Rattle.cg_agree_lemmas.specs.PlanEnd.{AtPlanEnd, plan-end, is_behind}
+use Rattle.cg_agree_lemmas.specs.RecordKept.{turn-is}
+use Rattle.cg_agree_lemmas.specs.SameAttempt.{KeepsAttempts, keeps-refl, keeps-left, attempts-kept}
+use Rattle.cg_agree_lemmas.specs.SmallTalk.{receive-is, receive-same}
 use Rattle.cg_agree.proofs.TalkAlone.{replica-set, recovered-state}
 use Rattle.cg_agree.proofs.TalkQuiet.{replica-turning}
-use Rattle.cg_agree.proofs.ToldKept.{told-same}
+use Rattle.cg_agree_lemmas.specs.ToldKept.{told-same}
 use Rattle.cg_agree.proofs.ToldStays.{told-entered}
-use Rattle.cg_agree.proofs.TurnKinds.{IsQuiet, HasAttempted, EndsWith, Turned, Quiet, Installs, Decides, Attempts}
-use Rattle.cg_agree.proofs.TurnParts.{never-both, settle-quiet, request-quiet, newest-come}
+use Rattle.cg_agree_lemmas.specs.TurnKinds.{IsQuiet, HasAttempted, EndsWith, Turned, Quiet, Installs, Decides, Attempts}
+use Rattle.cg_agree_lemmas.specs.TurnParts.{never-both, settle-quiet, request-quiet, newest-come}
 
 abbrev greens-in : Option Past → List Action
 greens-in o = option_map_or (λ x. x.greens) o []

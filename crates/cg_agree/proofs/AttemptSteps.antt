@@ -29,28 +29,28 @@ use Rattle.cg_model.specs.FactsAttempts.{IsAttempt, installed_in}
 use Rattle.cg_model.specs.Facts.{Invariant}
 use Rattle.cg_model.specs.Small.{Small, Starts, Makes, Enters, Orders, Receives, Hands, Leaves, Asks, Settles, Commits, Crashes, Recovers, Copies, Joins, turning, newly_green, struck, changed_attempt, with_leaver, entering, installing, opened_by, attempts_behind, levels_behind, coming, take_newest, handed_next, take_next, leaving, take_parting, take_request, commit_as, crash_as, recover_as, copy_as, join_with, newest_conf, small_step}
 use Rattle.cg_model.specs.Smalls.{may_make, is_running}
-use Rattle.cg_agree.proofs.CoresKept.{greens-turn, past-here}
-use Rattle.cg_agree.proofs.OneselfWorld.{HavePasts}
-use Rattle.cg_agree.proofs.ChronicleFacts.{seat_of-set}
+use Rattle.cg_agree_lemmas.specs.CoresKept.{greens-turn, past-here}
+use Rattle.cg_agree_lemmas.specs.OneselfWorld.{HavePasts}
+use Rattle.cg_agree_lemmas.specs.ChronicleFacts.{seat_of-set}
 use Rattle.cg_model.specs.Attempts.{held_in}
-use Rattle.cg_agree.proofs.HandSays.{find-holds, remains-unless_gone}
-use Rattle.cg_agree.proofs.EndCases.{take-short}
-use Rattle.cg_agree.proofs.ConfSound.{by_all}
-use Rattle.cg_agree.proofs.TalkEarly.{all-member}
-use Rattle.cg_agree.proofs.FrontFacts.{Front-take}
-use Rattle.cg_agree.proofs.Announced.{announced-front, announced-within, announced-place, placed-some}
-use Rattle.cg_agree.proofs.AttemptsTurn.{ends-exchanging, ends-beside, quiet-neither, decided-neither, come-neither, neither-attempts, neither-levels, attempted-attempts, attempted-levels, installed-attempts, installed-levels}
-use Rattle.cg_agree.proofs.TurnKinds.{IsQuiet, HasInstalled, HasAttempted, new_record, Turned, Quiet, Installs, Decides, Attempts}
-use Rattle.cg_agree.proofs.TurnParts.{settle-quiet, request-quiet, newest-come}
-use Rattle.cg_agree.proofs.PartingActs.{IsActAt, PartedBy, parting-by}
-use Rattle.cg_agree.proofs.HandsKept.{regular-phase, regular-up, Sits, seated}
-use Rattle.cg_agree.proofs.HandsNow.{HandsNow, hands-now, new, hands-regular, set, behind, count, hand-turned, hand-state, running-now, whole-through}
-use Rattle.cg_agree.proofs.GroupSound.{GroupSound, sound-of}
-use Rattle.cg_agree.proofs.GroupKept.{handed_received-kept, leaving-regular}
-use Rattle.cg_agree.proofs.OneSteps.{hands-step}
+use Rattle.cg_agree_lemmas.specs.HandSays.{find-holds, remains-unless_gone}
+use Rattle.cg_agree_lemmas.specs.EndCases.{take-short}
+use Rattle.cg_agree_lemmas.specs.ConfSound.{by_all}
+use Rattle.cg_agree_lemmas.specs.TalkEarly.{all-member}
+use Rattle.cg_agree_lemmas.specs.FrontFacts.{Front-take}
+use Rattle.cg_agree_lemmas.specs.Announced.{announced-front, announced-within, announced-place, placed-some}
+use Rattle.cg_agree_lemmas.specs.AttemptsTurn.{ends-exchanging, ends-beside, quiet-neither, decided-neither, come-neither, neither-attempts, neither-levels, attempted-attempts, attempted-levels, installed-attempts, installed-levels}
+use Rattle.cg_agree_lemmas.specs.TurnKinds.{IsQuiet, HasInstalled, HasAttempted, new_record, Turned, Quiet, Installs, Decides, Attempts}
+use Rattle.cg_agree_lemmas.specs.TurnParts.{settle-quiet, request-quiet, newest-come}
+use Rattle.cg_agree_lemmas.specs.PartingActs.{IsActAt, PartedBy, parting-by}
+use Rattle.cg_agree_lemmas.specs.HandsKept.{regular-phase, regular-up, Sits, seated}
+use Rattle.cg_agree_lemmas.specs.HandsNow.{HandsNow, hands-now, new, hands-regular, set, behind, count, hand-turned, hand-state, running-now, whole-through}
+use Rattle.cg_agree_lemmas.specs.GroupSound.{GroupSound, sound-of}
+use Rattle.cg_agree_lemmas.specs.GroupKept.{handed_received-kept, leaving-regular}
+use Rattle.cg_agree_lemmas.specs.OneSteps.{hands-step}
 use Rattle.cg_agree.proofs.PastKept.{enters-now}
-use Rattle.cg_agree.proofs.PlanEnd.{AtPlanEnd, is_behind, plan-end}
-use Rattle.cg_agree.proofs.RecordKept.{turn-is}
+use Rattle.cg_agree_lemmas.specs.PlanEnd.{AtPlanEnd, is_behind, plan-end}
+use Rattle.cg_agree_lemmas.specs.RecordKept.{turn-is}
 
 -- the group of a chronicle is sound
 pub group-of : (c : Chronicle) → Invariant c → GroupSound c

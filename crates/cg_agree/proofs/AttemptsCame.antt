@@ -18,15 +18,15 @@ use Rattle.cg_model.specs.FactsReplica.{own_record, is_attempting, is_primary}
 use Rattle.cg_model.specs.Facts.{Invariant}
 use Rattle.cg_model.specs.Small.{Small, small_step, with_leaver, with_entrant, with_installer, opened_by}
 use Rattle.cg_model.specs.Smalls.{may_make}
-use Rattle.cg_agree.proofs.Keyed.{found-changed}
-use Rattle.cg_agree.proofs.HandSays.{find-holds}
-use Rattle.cg_agree.proofs.SameAttempt.{SameAttempt, same-refl}
-use Rattle.cg_agree.proofs.ReachSteps.{goes_on-kept}
+use Rattle.cg_agree_lemmas.specs.Keyed.{found-changed}
+use Rattle.cg_agree_lemmas.specs.HandSays.{find-holds}
+use Rattle.cg_agree_lemmas.specs.SameAttempt.{SameAttempt, same-refl}
+use Rattle.cg_agree_lemmas.specs.ReachSteps.{goes_on-kept}
 use Rattle.cg_agree.proofs.FixedKept.{receipts_fixed-kept}
-use Rattle.cg_agree.proofs.TurnKinds.{HasInstalled, HasAttempted, new_record}
-use Rattle.cg_agree.proofs.AttemptsGrow.{grown-leaver, grown-entrant}
-use Rattle.cg_agree.proofs.AttemptsTurn.{at_conf, entered-now, installing-now}
-use Rattle.cg_agree.proofs.PlanEnd.{AtPlanEnd}
+use Rattle.cg_agree_lemmas.specs.TurnKinds.{HasInstalled, HasAttempted, new_record}
+use Rattle.cg_agree_lemmas.specs.AttemptsGrow.{grown-leaver, grown-entrant}
+use Rattle.cg_agree_lemmas.specs.AttemptsTurn.{at_conf, entered-now, installing-now}
+use Rattle.cg_agree_lemmas.specs.PlanEnd.{AtPlanEnd}
 use Rattle.cg_agree.proofs.AttemptSteps.{group-of, Installing, IsHanded, AttemptStep, Same, Goes, Begun, Installed, attempt-step}
 use Rattle.cg_agree.proofs.DeadKept.{said-attempt, dead-still, installing-alive}
 

@@ -19,7 +19,7 @@ use Rattle.cg_agree.proofs.ClearedDead.{IsToldIn, each-told}
 use Rattle.cg_agree.proofs.CoversStay.{start-covers}
 use Rattle.cg_agree.proofs.EndReached.{best-of}
 use Rattle.cg_agree.proofs.EndShown.{ToldCovers, Leads, quorum-shows}
-use Rattle.cg_agree.proofs.HandSays.{find-holds}
+use Rattle.cg_agree_lemmas.specs.HandSays.{find-holds}
 use Rattle.cg_agree.proofs.NewestLevel.{shape-of}
 use Rattle.cg_agree.proofs.ToldLine.{Behind}
 

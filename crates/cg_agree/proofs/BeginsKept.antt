@@ -33,32 +33,32 @@ use Rattle.cg_model.specs.Facts.{Invariant}
 use Rattle.cg_model.specs.Small.{Small, Starts, Makes, Enters, Orders, Receives, Hands, Leaves, Asks, Settles, Commits, Crashes, Recovers, Copies, Joins, newly_green, installing, take_newest, handed_next, take_next, take_parting, take_request, small_step}
 use Rattle.cg_model.specs.Smalls.{may_make, is_set}
 use Rattle.cg_agree.proofs.AttemptSteps.{Installing, hands-installing, leaves-installing}
-use Rattle.cg_agree.proofs.AttemptsTurn.{ends-exchanging, installed-attempts}
+use Rattle.cg_agree_lemmas.specs.AttemptsTurn.{ends-exchanging, installed-attempts}
 use Rattle.cg_agree.proofs.BegunKept.{nothing-before}
 use Rattle.cg_agree.proofs.BuiltThere.{built}
 use Rattle.cg_agree.proofs.ClearedDead.{IsToldIn, each-told}
-use Rattle.cg_agree.proofs.CoresKept.{IsClosed, cores-weaker, held-known, greens-turn}
-use Rattle.cg_agree.proofs.CoresSmall.{StepKeeps, ready-of, cores-kept}
-use Rattle.cg_agree.proofs.EndCovers.{of_each-weaker}
-use Rattle.cg_agree.proofs.EndQuorum.{both-each}
+use Rattle.cg_agree_lemmas.specs.CoresKept.{IsClosed, cores-weaker, held-known, greens-turn}
+use Rattle.cg_agree_lemmas.specs.CoresSmall.{StepKeeps, ready-of, cores-kept}
+use Rattle.cg_agree_lemmas.specs.EndCovers.{of_each-weaker}
+use Rattle.cg_agree_lemmas.specs.EndQuorum.{both-each}
 use Rattle.cg_agree.proofs.EndReached.{best-bounds, best-of, best-now}
 use Rattle.cg_agree.proofs.ExchangeBehind.{message-now}
 use Rattle.cg_agree.proofs.ExchangeKept.{exchange_progress-kept}
-use Rattle.cg_agree.proofs.FrontFacts.{Front-refl, Front-append, Front-trans}
-use Rattle.cg_agree.proofs.HandsNow.{HandsNow, hands-now, new, hand-turned, running-now}
-use Rattle.cg_agree.proofs.InstallGreens.{ByAnnouncement, by-announcement, in-parting}
+use Rattle.cg_agree_lemmas.specs.FrontFacts.{Front-refl, Front-append, Front-trans}
+use Rattle.cg_agree_lemmas.specs.HandsNow.{HandsNow, hands-now, new, hand-turned, running-now}
+use Rattle.cg_agree_lemmas.specs.InstallGreens.{ByAnnouncement, by-announcement, in-parting}
 use Rattle.cg_agree.proofs.InstalledParts.{waits-announced, oneself-before, installs-all}
-use Rattle.cg_agree.proofs.Knowledge.{known-of, some-sender}
+use Rattle.cg_agree_lemmas.specs.Knowledge.{known-of, some-sender}
 use Rattle.cg_agree.proofs.LevelsKept.{start-kept, installed-primary, leaves-attempts}
-use Rattle.cg_agree.proofs.PartingActs.{PartedBy, parting-by}
-use Rattle.cg_agree.proofs.PlanEnd.{AtPlanEnd, is_behind, plan-end}
-use Rattle.cg_agree.proofs.ReachWorld.{level-kept}
-use Rattle.cg_agree.proofs.RecordKept.{turn-is, same-replica, enters-between, hands-attempts}
-use Rattle.cg_agree.proofs.SameAttempt.{same-installation, attempts-kept}
+use Rattle.cg_agree_lemmas.specs.PartingActs.{PartedBy, parting-by}
+use Rattle.cg_agree_lemmas.specs.PlanEnd.{AtPlanEnd, is_behind, plan-end}
+use Rattle.cg_agree_lemmas.specs.ReachWorld.{level-kept}
+use Rattle.cg_agree_lemmas.specs.RecordKept.{turn-is, same-replica, enters-between, hands-attempts}
+use Rattle.cg_agree_lemmas.specs.SameAttempt.{same-installation, attempts-kept}
 use Rattle.cg_agree.proofs.ToldBeside.{told-front}
-use Rattle.cg_agree.proofs.TurnKinds.{HasInstalled, HasAttempted, Turned, Quiet, Installs, Decides, Attempts}
-use Rattle.cg_agree.proofs.TurnParts.{settle-quiet, request-quiet, newest-come}
-use Rattle.cg_agree.proofs.TurnValues.{even-own_to_red}
+use Rattle.cg_agree_lemmas.specs.TurnKinds.{HasInstalled, HasAttempted, Turned, Quiet, Installs, Decides, Attempts}
+use Rattle.cg_agree_lemmas.specs.TurnParts.{settle-quiet, request-quiet, newest-come}
+use Rattle.cg_agree_lemmas.specs.TurnValues.{even-own_to_red}
 
 abbrev Begins : Chronicle → Held → List Action → Type 0
 Begins c h all = Front (installation (attempt_at c h.prim.index)) all

@@ -27,19 +27,19 @@ use Rattle.cg_model.specs.FactsNet.{MembersBegun, Seated, PhaseSound}
 use Rattle.cg_model.specs.FactsReplica.{IsCore, DiskBehind, IsModeData}
 use Rattle.cg_model.specs.Small.{Small, Starts, Makes, Enters, Orders, Receives, Hands, Leaves, Asks, Settles, Commits, Crashes, Recovers, Copies, Joins, start, small_step, turning_as, turning, commit_as, crash_as, recover_as, copy_as, join_with, changed_past, with_greens, written, struck, new_past, with_past, newly_green, take_request, take_newest, take_next, take_parting, coming, handed_next, leaving, newest_conf}
 use Rattle.cg_model.specs.Smalls.{may_make, is_set, may_come, is_between, is_running}
-use Rattle.cg_agree.proofs.ChronicleFacts.{past-begun}
+use Rattle.cg_agree_lemmas.specs.ChronicleFacts.{past-begun}
 use Rattle.cg_group.specs.LookupLaws.{eqb_comm}
-use Rattle.cg_agree.proofs.EverServer.{was_ever-front, was_ever-start}
+use Rattle.cg_agree_lemmas.specs.EverServer.{was_ever-front, was_ever-start}
 use Rattle.cg_agree.proofs.FixedKept.{confs-begun}
-use Rattle.cg_agree.proofs.FrontFacts.{Front-refl}
-use Rattle.cg_agree.proofs.GroupKept.{orders-conf, receives-conf, leaving-regular}
-use Rattle.cg_agree.proofs.GroupSound.{GroupSound, ConfStep, made-is}
-use Rattle.cg_agree.proofs.Keyed.{found-changed}
+use Rattle.cg_agree_lemmas.specs.FrontFacts.{Front-refl}
+use Rattle.cg_agree_lemmas.specs.GroupKept.{orders-conf, receives-conf, leaving-regular}
+use Rattle.cg_agree_lemmas.specs.GroupSound.{GroupSound, ConfStep, made-is}
+use Rattle.cg_agree_lemmas.specs.Keyed.{found-changed}
 use Rattle.cg_agree.proofs.MoreThere.{NoneBegins, begun-same, begun-kept}
-use Rattle.cg_agree.proofs.NextThere.{orders-now, receives-now}
-use Rattle.cg_agree.proofs.OneSteps.{OneStep, MayJoin, may-join, may-enter, begun-set, running-begun, turns-step, hands-step, leaves-step, enters-step, commits-step, copies-step, crashes-step, recovers-step, joins-step}
+use Rattle.cg_agree_lemmas.specs.NextThere.{orders-now, receives-now}
+use Rattle.cg_agree_lemmas.specs.OneSteps.{OneStep, MayJoin, may-join, may-enter, begun-set, running-begun, turns-step, hands-step, leaves-step, enters-step, commits-step, copies-step, crashes-step, recovers-step, joins-step}
 use Rattle.cg_agree.proofs.PastKept.{EntersNow, enters-now, entry_told, told_in-enters}
-use Rattle.cg_agree.proofs.ToldKept.{told-same, told_in-same}
+use Rattle.cg_agree_lemmas.specs.ToldKept.{told-same, told_in-same}
 
 -- ---- what stands on disks
 

@@ -33,30 +33,30 @@ use Rattle.cg_model.specs.FactsAttempts.{IsWitnessed, AreWitnessed, BitsWitness}
 use Rattle.cg_model.specs.Facts.{Invariant}
 use Rattle.cg_model.specs.Small.{Small, Starts, Makes, Enters, Orders, Receives, Hands, Leaves, Asks, Settles, Commits, Crashes, Recovers, Copies, Joins, newly_green, with_leaver, coming, take_newest, take_next, take_parting, take_request, newest_conf, small_step}
 use Rattle.cg_model.specs.Smalls.{may_make}
-use Rattle.cg_agree.proofs.HandSays.{find-holds}
-use Rattle.cg_agree.proofs.EndCovers.{OfEach}
-use Rattle.cg_agree.proofs.EndCases.{has_bit}
-use Rattle.cg_agree.proofs.EndQuorum.{both-each}
-use Rattle.cg_agree.proofs.Knowledge.{known-of, each-bounded, bits-witnessed, some-sender, Cleared, Kept, becomes}
-use Rattle.cg_agree.proofs.CoresKept.{IsClosed, cores-weaker, held-known, greens-turn}
-use Rattle.cg_agree.proofs.CoresSmall.{StepKeeps, ready-of, cores-kept}
-use Rattle.cg_agree.proofs.AttemptsGrow.{Grown, attempts-grow}
-use Rattle.cg_agree.proofs.TurnValues.{even-own_to_red}
-use Rattle.cg_agree.proofs.TurnKinds.{IsQuiet, HasInstalled, HasDecided, HasAttempted, Turned, Quiet, Installs, Decides, Attempts}
-use Rattle.cg_agree.proofs.TurnParts.{HasParted, settle-quiet, request-quiet, parting-turned, record_left, HasCome, newest-come}
-use Rattle.cg_agree.proofs.HandsNow.{HandsNow, hands-now, new, hand-turned, running-now}
-use Rattle.cg_agree.proofs.PlanEnd.{AtPlanEnd, is_behind, plan-end, told-each}
-use Rattle.cg_agree.proofs.RecordKept.{same-replica, enters-between}
+use Rattle.cg_agree_lemmas.specs.HandSays.{find-holds}
+use Rattle.cg_agree_lemmas.specs.EndCovers.{OfEach}
+use Rattle.cg_agree_lemmas.specs.EndCases.{has_bit}
+use Rattle.cg_agree_lemmas.specs.EndQuorum.{both-each}
+use Rattle.cg_agree_lemmas.specs.Knowledge.{known-of, each-bounded, bits-witnessed, some-sender, Cleared, Kept, becomes}
+use Rattle.cg_agree_lemmas.specs.CoresKept.{IsClosed, cores-weaker, held-known, greens-turn}
+use Rattle.cg_agree_lemmas.specs.CoresSmall.{StepKeeps, ready-of, cores-kept}
+use Rattle.cg_agree_lemmas.specs.AttemptsGrow.{Grown, attempts-grow}
+use Rattle.cg_agree_lemmas.specs.TurnValues.{even-own_to_red}
+use Rattle.cg_agree_lemmas.specs.TurnKinds.{IsQuiet, HasInstalled, HasDecided, HasAttempted, Turned, Quiet, Installs, Decides, Attempts}
+use Rattle.cg_agree_lemmas.specs.TurnParts.{HasParted, settle-quiet, request-quiet, parting-turned, record_left, HasCome, newest-come}
+use Rattle.cg_agree_lemmas.specs.HandsNow.{HandsNow, hands-now, new, hand-turned, running-now}
+use Rattle.cg_agree_lemmas.specs.PlanEnd.{AtPlanEnd, is_behind, plan-end, told-each}
+use Rattle.cg_agree_lemmas.specs.RecordKept.{same-replica, enters-between}
 use Rattle.cg_agree.proofs.AttemptSteps.{group-of, attempt-step}
 use Rattle.cg_agree.proofs.DeadKept.{said-attempt}
 use Rattle.cg_agree.proofs.AttemptsCame.{Came, Stayed, WasLeft, WasEntered, WasInstalled, WasMade, came}
 use Rattle.cg_agree.proofs.InstalledIndexKept.{same-installed, installed_index-kept}
 use Rattle.cg_agree.proofs.OutStays.{out-stays, said-number, unsaid}
-use Rattle.cg_agree.proofs.EntryGreens.{entry-greens, nothing-new}
+use Rattle.cg_agree_lemmas.specs.EntryGreens.{entry-greens, nothing-new}
 use Rattle.cg_agree.proofs.PastKept.{EntersNow, enters-now, entry_turn, entry_told, enters-is, told_in-enters}
-use Rattle.cg_agree.proofs.ToldKept.{IsUntold, told-same, told_in-same}
-use Rattle.cg_agree.proofs.OneSteps.{enters-step}
-use Rattle.cg_agree.proofs.ChronicleFacts.{seat_of-set}
+use Rattle.cg_agree_lemmas.specs.ToldKept.{IsUntold, told-same, told_in-same}
+use Rattle.cg_agree_lemmas.specs.OneSteps.{enters-step}
+use Rattle.cg_agree_lemmas.specs.ChronicleFacts.{seat_of-set}
 
 -- ---- a witness stays one
 

@@ -38,8 +38,8 @@ use Rattle.cg_model.specs.Small.{Hands}
 use Rattle.cg_model.specs.Smalls.{may_make}
 use Rattle.cg_agree.proofs.ExchangeBehind.{message-now}
 use Rattle.cg_agree.proofs.ExchangeThere.{core}
-use Rattle.cg_agree.proofs.HandsNow.{HandsNow, new, running-now}
-use Rattle.cg_agree.proofs.MessageThere.{booked-at}
+use Rattle.cg_agree_lemmas.specs.HandsNow.{HandsNow, new, running-now}
+use Rattle.cg_agree_lemmas.specs.MessageThere.{booked-at}
 
 -- ---- actions of names
 

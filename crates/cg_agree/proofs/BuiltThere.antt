@@ -26,14 +26,14 @@ use Rattle.cg_agree.proofs.ClearedDead.{IsToldIn, each-told}
 use Rattle.cg_agree.proofs.CoreKept.{cores_core-kept}
 use Rattle.cg_agree.proofs.EndReached.{best-of}
 use Rattle.cg_agree.proofs.ExchangeBehind.{message-now, up-now, told-now, handed-now}
-use Rattle.cg_agree.proofs.ExchangeHands.{HasBuilt}
+use Rattle.cg_agree_lemmas.specs.ExchangeHands.{HasBuilt}
 use Rattle.cg_agree.proofs.ExchangeKept.{exchanged, out-there, through-state}
-use Rattle.cg_agree.proofs.HandsNow.{HandsNow, new, behind, behind-next, count, hand-state, running-now, whole-through}
-use Rattle.cg_agree.proofs.HeldMarks.{IsOneself}
-use Rattle.cg_agree.proofs.PlanEnd.{AtPlanEnd, is_behind, behind-ended}
+use Rattle.cg_agree_lemmas.specs.HandsNow.{HandsNow, new, behind, behind-next, count, hand-state, running-now, whole-through}
+use Rattle.cg_agree_lemmas.specs.HeldMarks.{IsOneself}
+use Rattle.cg_agree_lemmas.specs.PlanEnd.{AtPlanEnd, is_behind, behind-ended}
 use Rattle.cg_agree.proofs.PlanThere.{end-fits}
 use Rattle.cg_agree.proofs.ToldBeside.{told-id, told-fits}
-use Rattle.cg_agree.proofs.TurnKinds.{HasAttempted}
+use Rattle.cg_agree_lemmas.specs.TurnKinds.{HasAttempted}
 use Rattle.cg_commit.specs.Holds.{cut_behind}
 
 module _ (c : Chronicle) (p : ℕ) (i : Invariant c) (may : may_make c (Hands p) ≡ true) (n : HandsNow c p) (is : is_exchanging n.replica.state ≡ true) (conf : ℕ) (heard : List Summary)

@@ -18,14 +18,14 @@ use Rattle.cg_model.specs.Levels.{is_out_lacking, is_installed, is_live, is_dead
 use Rattle.cg_model.specs.FactsTalk.{AreTold}
 use Rattle.cg_model.specs.FactsAttempts.{IsAttempt, IsWitnessed, AreWitnessed, is_without}
 use Rattle.cg_model.specs.Facts.{Invariant}
-use Rattle.cg_agree.proofs.HandSays.{find-holds}
-use Rattle.cg_agree.proofs.ReachFacts.{all-at}
-use Rattle.cg_agree.proofs.ReachWorld.{when-is}
-use Rattle.cg_agree.proofs.EndCovers.{OfEach}
-use Rattle.cg_agree.proofs.EndCases.{one-without, has_bit, all-witnessed}
-use Rattle.cg_agree.proofs.EndQuorum.{both-each}
-use Rattle.cg_agree.proofs.Knowledge.{each-bounded}
-use Rattle.cg_agree.proofs.PlanEnd.{told-each}
+use Rattle.cg_agree_lemmas.specs.HandSays.{find-holds}
+use Rattle.cg_agree_lemmas.specs.ReachFacts.{all-at}
+use Rattle.cg_agree_lemmas.specs.ReachWorld.{when-is}
+use Rattle.cg_agree_lemmas.specs.EndCovers.{OfEach}
+use Rattle.cg_agree_lemmas.specs.EndCases.{one-without, has_bit, all-witnessed}
+use Rattle.cg_agree_lemmas.specs.EndQuorum.{both-each}
+use Rattle.cg_agree_lemmas.specs.Knowledge.{each-bounded}
+use Rattle.cg_agree_lemmas.specs.PlanEnd.{told-each}
 use Rattle.cg_agree.proofs.DeadKept.{some-of}
 
 -- a summary that was told in the configuration

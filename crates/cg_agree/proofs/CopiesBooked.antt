@@ -21,10 +21,10 @@ use Rattle.cg_model.specs.Facts.{Invariant}
 use Rattle.cg_model.specs.Played.{AtRest}
 use Rattle.cg_model.specs.Small.{Small, small_step}
 use Rattle.cg_model.specs.Smalls.{may_make}
-use Rattle.cg_agree.proofs.FrontFacts.{Front-of_both}
-use Rattle.cg_agree.proofs.ReachWorld.{opened-at, opened-attempt}
-use Rattle.cg_agree.proofs.BookGrows.{IsNamed, cut_of}
-use Rattle.cg_agree.proofs.BookedCores.{JoinersBooked, each-booked, front-each}
+use Rattle.cg_agree_lemmas.specs.FrontFacts.{Front-of_both}
+use Rattle.cg_agree_lemmas.specs.ReachWorld.{opened-at, opened-attempt}
+use Rattle.cg_agree_lemmas.specs.BookGrows.{IsNamed, cut_of}
+use Rattle.cg_agree_lemmas.specs.BookedCores.{JoinersBooked, each-booked, front-each}
 use Rattle.cg_agree.proofs.MadeOnceKept.{made_once-kept}
 
 -- ---- the greatest of numbers is one of them

@@ -4,14 +4,14 @@ use Rattle.std.proofs.lemmas.List.{length-drop}
 use Rattle.std.specs.Option.{option_map_or}
 use Rattle.std.specs.Prelude.{◌==◌}
 use Rattle.cg_action.specs.declared.action.Action.{Action}
-use Rattle.cg_agree.proofs.BookedRows.{each-drop}
+use Rattle.cg_agree_lemmas.specs.BookedRows.{each-drop}
 use Rattle.cg_agree.proofs.CopiesBooked.{greens-on_line}
 use Rattle.cg_agree.proofs.CreatorNumbered.{order-on_top}
-use Rattle.cg_agree.proofs.FrontFacts.{Front-length, Front-map, Front-of_both}
-use Rattle.cg_agree.proofs.OrderCopies.{OfSnapshots, copy-of, each-found, found-each}
-use Rattle.cg_agree.proofs.SameSmalls.{as_given, first-given}
-use Rattle.cg_agree.proofs.SoundWorlds.{sound-of, sound-same}
-use Rattle.cg_agree.proofs.TurnGreens.{made-count, names-count}
+use Rattle.cg_agree_lemmas.specs.FrontFacts.{Front-length, Front-map, Front-of_both}
+use Rattle.cg_agree_lemmas.specs.OrderCopies.{OfSnapshots, copy-of, each-found, found-each}
+use Rattle.cg_agree_lemmas.specs.SameSmalls.{as_given, first-given}
+use Rattle.cg_agree_lemmas.specs.SoundWorlds.{sound-of, sound-same}
+use Rattle.cg_agree_lemmas.specs.TurnGreens.{made-count, names-count}
 use Rattle.cg_model.specs.FactsBooks.{AreShown, IsActionShown, IsNameShown}
 use Rattle.cg_model.specs.Chronicle.{Chronicle}
 use Rattle.cg_model.specs.Facts.{Invariant}

@@ -42,22 +42,22 @@ use Rattle.cg_model.specs.FactsReplica.{IsCore, IsModeData, HasModeData}
 use Rattle.cg_model.specs.Facts.{Invariant}
 use Rattle.cg_model.specs.Small.{Small, Starts, Makes, Enters, Orders, Receives, Hands, Leaves, Asks, Settles, Commits, Crashes, Recovers, Copies, Joins, newly_green, take_all, take_newest, take_next, take_parting, take_request, newest_conf, small_step}
 use Rattle.cg_model.specs.Smalls.{may_make, is_set}
-use Rattle.cg_agree.proofs.HeldMarks.{IsOneself}
-use Rattle.cg_agree.proofs.HeldTurns.{Grows, grows-none, grows-both, keeps-none, keeps-settle, keeps-install}
-use Rattle.cg_agree.proofs.HeldInstall.{IsAllYellow, yellow-kept-so}
-use Rattle.cg_agree.proofs.HeldCommit.{white-oneself, stored-oneself, recovered-oneself, keeps-take_regular, keeps-request}
-use Rattle.cg_agree.proofs.HeldMessages.{FitsYellow, is_outside, message-grows, installed-yellow}
-use Rattle.cg_agree.proofs.HeldExchange.{FitsCommon, keeps-take_item, go-on-grows}
-use Rattle.cg_agree.proofs.OneselfWorld.{AreOneself, oneself-of, cores-of}
-use Rattle.cg_agree.proofs.OneselfCopies.{joined-oneself}
-use Rattle.cg_agree.proofs.CoresKept.{IsClosed, held-known}
-use Rattle.cg_agree.proofs.CoresSmall.{StepKeeps, ready-of, cores-kept}
+use Rattle.cg_agree_lemmas.specs.HeldMarks.{IsOneself}
+use Rattle.cg_agree_lemmas.specs.HeldTurns.{Grows, grows-none, grows-both, keeps-none, keeps-settle, keeps-install}
+use Rattle.cg_agree_lemmas.specs.HeldInstall.{IsAllYellow, yellow-kept-so}
+use Rattle.cg_agree_lemmas.specs.HeldCommit.{white-oneself, stored-oneself, recovered-oneself, keeps-take_regular, keeps-request}
+use Rattle.cg_agree_lemmas.specs.HeldMessages.{FitsYellow, is_outside, message-grows, installed-yellow}
+use Rattle.cg_agree_lemmas.specs.HeldExchange.{FitsCommon, keeps-take_item, go-on-grows}
+use Rattle.cg_agree_lemmas.specs.OneselfWorld.{AreOneself, oneself-of, cores-of}
+use Rattle.cg_agree_lemmas.specs.OneselfCopies.{joined-oneself}
+use Rattle.cg_agree_lemmas.specs.CoresKept.{IsClosed, held-known}
+use Rattle.cg_agree_lemmas.specs.CoresSmall.{StepKeeps, ready-of, cores-kept}
 use Rattle.cg_agree.proofs.BegunKept.{nothing-before}
-use Rattle.cg_agree.proofs.TurnValues.{even-take_item, even-mark_yellow, even-mark_red}
-use Rattle.cg_agree.proofs.TurnKinds.{EndsWith}
-use Rattle.cg_agree.proofs.TurnParts.{is_parted, stays-parted}
-use Rattle.cg_agree.proofs.HandsNow.{HandsNow, hands-now, found-now, running-now}
-use Rattle.cg_agree.proofs.RecordKept.{same-replica}
+use Rattle.cg_agree_lemmas.specs.TurnValues.{even-take_item, even-mark_yellow, even-mark_red}
+use Rattle.cg_agree_lemmas.specs.TurnKinds.{EndsWith}
+use Rattle.cg_agree_lemmas.specs.TurnParts.{is_parted, stays-parted}
+use Rattle.cg_agree_lemmas.specs.HandsNow.{HandsNow, hands-now, found-now, running-now}
+use Rattle.cg_agree_lemmas.specs.RecordKept.{same-replica}
 use Rattle.cg_agree.proofs.LevelsKept.{start-kept}
 use Rattle.cg_commit.specs.Holds.{cut_behind}
 

@@ -29,26 +29,26 @@ use Rattle.cg_model.specs.FactsGreens.{Covers, CoversLevel}
 use Rattle.cg_model.specs.Facts.{Invariant}
 use Rattle.cg_model.specs.Small.{Small, Starts, Makes, Enters, Orders, Receives, Hands, Leaves, Asks, Settles, Commits, Crashes, Recovers, Copies, Joins, newly_green, coming, handed_next, leaving, take_newest, take_next, take_parting, take_request, newest_conf, copy_as, small_step}
 use Rattle.cg_model.specs.Smalls.{may_make, is_set}
-use Rattle.cg_agree.proofs.CoresKept.{IsHeldClosed, held-known, greens-turn, cores-weaker}
-use Rattle.cg_agree.proofs.CoresSmall.{StepKeeps, JoinsKeep, ready-of, cores-kept-given}
+use Rattle.cg_agree_lemmas.specs.CoresKept.{IsHeldClosed, held-known, greens-turn, cores-weaker}
+use Rattle.cg_agree_lemmas.specs.CoresSmall.{StepKeeps, JoinsKeep, ready-of, cores-kept-given}
 use Rattle.cg_agree.proofs.CoversStay.{ReachShrinks, start-covers}
 use Rattle.cg_agree.proofs.EndShown.{ToldCovers}
-use Rattle.cg_agree.proofs.EntryGreens.{nothing-new}
+use Rattle.cg_agree_lemmas.specs.EntryGreens.{nothing-new}
 use Rattle.cg_agree.proofs.ExchangeSmalls.{greens-settle, greens-request, replica-behind}
-use Rattle.cg_agree.proofs.HandsNow.{hands-now, hands-regular}
+use Rattle.cg_agree_lemmas.specs.HandsNow.{hands-now, hands-regular}
 use Rattle.cg_agree.proofs.LevelsOpen.{when-from}
-use Rattle.cg_agree.proofs.LivesRest.{own-rest}
-use Rattle.cg_agree.proofs.ModeHeld.{lists-settle, lists-request}
+use Rattle.cg_agree_lemmas.specs.LivesRest.{own-rest}
+use Rattle.cg_agree_lemmas.specs.ModeHeld.{lists-settle, lists-request}
 use Rattle.cg_agree.proofs.NewestLevel.{newest-level, set-members}
-use Rattle.cg_agree.proofs.OneSteps.{enters-step, hands-step}
-use Rattle.cg_agree.proofs.PartingStill.{parting-apart}
+use Rattle.cg_agree_lemmas.specs.OneSteps.{enters-step, hands-step}
+use Rattle.cg_agree_lemmas.specs.PartingStill.{parting-apart}
 use Rattle.cg_agree.proofs.PastKept.{enters-now}
-use Rattle.cg_agree.proofs.RecordKept.{turn-is}
+use Rattle.cg_agree_lemmas.specs.RecordKept.{turn-is}
 use Rattle.cg_agree.proofs.RegularCover.{attempting-covers, primary-covers, regular-covers}
 use Rattle.cg_agree.proofs.ToldCover.{CoversWhere, covers-on}
 use Rattle.cg_agree.proofs.ToldLine.{Behind}
-use Rattle.cg_agree.proofs.TurnParts.{settle-quiet, request-quiet, parting-turned}
-use Rattle.cg_agree.proofs.TurnValues.{SameValues, even-own_to_red}
+use Rattle.cg_agree_lemmas.specs.TurnParts.{settle-quiet, request-quiet, parting-turned}
+use Rattle.cg_agree_lemmas.specs.TurnValues.{SameValues, even-own_to_red}
 
 -- a snapshot is taken for one who hasn't begun
 abbrev pub IsNewCopy : Chronicle → Small → Type 0

@@ -27,17 +27,17 @@ use Rattle.cg_model.specs.Facts.{Invariant}
 use Rattle.cg_model.specs.Played.{IsWritten, AtRest}
 use Rattle.cg_model.specs.Small.{Small, Starts, Makes, Enters, Orders, Receives, Hands, Leaves, Asks, Settles, Commits, Crashes, Recovers, Copies, Joins, changed_past, written, struck, new_past, newly_green, after_turn, turning, turning_as, commit_as, crash_as, recover_as, copy_as, join_with, coming, take_newest, handed_next, take_next, leaving, take_parting, take_request, small_step}
 use Rattle.cg_model.specs.Smalls.{may_make, is_set}
-use Rattle.cg_agree.proofs.ChronicleFacts.{seat_of-set, greens_of-other, past-begun}
-use Rattle.cg_agree.proofs.HeldCommit.{recovered-id}
+use Rattle.cg_agree_lemmas.specs.ChronicleFacts.{seat_of-set, greens_of-other, past-begun}
+use Rattle.cg_agree_lemmas.specs.HeldCommit.{recovered-id}
 use Rattle.cg_agree.proofs.BegunKept.{nothing-before}
-use Rattle.cg_agree.proofs.CoresKept.{seat-of, greens-turn, past-here, past-there}
-use Rattle.cg_agree.proofs.Knowledge.{known-of, each-bounded, some-sender}
-use Rattle.cg_agree.proofs.TurnValues.{even-own_to_red}
-use Rattle.cg_agree.proofs.TurnKinds.{IsQuiet, HasInstalled, Turned, Quiet, Installs, Decides, Attempts}
-use Rattle.cg_agree.proofs.TurnParts.{HasParted, settle-quiet, request-quiet, parting-turned, newest-come}
-use Rattle.cg_agree.proofs.HandsNow.{HandsNow, hands-now, new, hand-turned, running-now}
-use Rattle.cg_agree.proofs.PlanEnd.{AtPlanEnd, is_behind, plan-end, mine-among}
-use Rattle.cg_agree.proofs.RecordKept.{same-replica, enters-between}
+use Rattle.cg_agree_lemmas.specs.CoresKept.{seat-of, greens-turn, past-here, past-there}
+use Rattle.cg_agree_lemmas.specs.Knowledge.{known-of, each-bounded, some-sender}
+use Rattle.cg_agree_lemmas.specs.TurnValues.{even-own_to_red}
+use Rattle.cg_agree_lemmas.specs.TurnKinds.{IsQuiet, HasInstalled, Turned, Quiet, Installs, Decides, Attempts}
+use Rattle.cg_agree_lemmas.specs.TurnParts.{HasParted, settle-quiet, request-quiet, parting-turned, newest-come}
+use Rattle.cg_agree_lemmas.specs.HandsNow.{HandsNow, hands-now, new, hand-turned, running-now}
+use Rattle.cg_agree_lemmas.specs.PlanEnd.{AtPlanEnd, is_behind, plan-end, mine-among}
+use Rattle.cg_agree_lemmas.specs.RecordKept.{same-replica, enters-between}
 
 -- ---- a core behind a step
 

@@ -38,21 +38,21 @@ use Rattle.cg_model.specs.Chronicle.{Chronicle}
 use Rattle.cg_model.specs.Looks.{greens_of, stood_of, on_disk, disk_held}
 use Rattle.cg_model.specs.FactsReplica.{IsCore, IsModeData}
 use Rattle.cg_model.specs.Played.{StandsBeside}
-use Rattle.cg_agree.proofs.ChronicleFacts.{seat_of-set}
-use Rattle.cg_agree.proofs.SeatFacts.{seat-id}
-use Rattle.cg_agree.proofs.HeldMarks.{IsOneself, counted}
-use Rattle.cg_agree.proofs.HeldCommit.{recovered-oneself, recovered-id}
-use Rattle.cg_agree.proofs.DiskEnds.{end-cases}
-use Rattle.cg_agree.proofs.GreenMembers.{creates-same}
-use Rattle.cg_agree.proofs.GreensTold.{step-noted}
+use Rattle.cg_agree_lemmas.specs.ChronicleFacts.{seat_of-set}
+use Rattle.cg_agree_lemmas.specs.SeatFacts.{seat-id}
+use Rattle.cg_agree_lemmas.specs.HeldMarks.{IsOneself, counted}
+use Rattle.cg_agree_lemmas.specs.HeldCommit.{recovered-oneself, recovered-id}
+use Rattle.cg_agree_lemmas.specs.DiskEnds.{end-cases}
+use Rattle.cg_agree_lemmas.specs.GreenMembers.{creates-same}
+use Rattle.cg_agree_lemmas.specs.GreensTold.{step-noted}
 use Rattle.cg_agree.proofs.JoinersMadeNone.{snapshot-none}
-use Rattle.cg_agree.proofs.MadeSplit.{rising-set-list}
-use Rattle.cg_agree.proofs.MadeAlone.{not-refused}
-use Rattle.cg_agree.proofs.UnorderedKept.{first-none}
-use Rattle.cg_agree.proofs.RestsBehind.{handed-ids, split-to}
-use Rattle.cg_agree.proofs.StepGreens.{step-follows, whitened-count}
-use Rattle.cg_agree.proofs.TurnWorlds.{life_at}
-use Rattle.cg_agree.proofs.WorldTurns.{IsBehind, hand-behind, from-same, handed-behind}
+use Rattle.cg_agree_lemmas.specs.MadeSplit.{rising-set-list}
+use Rattle.cg_agree_lemmas.specs.MadeAlone.{not-refused}
+use Rattle.cg_agree_lemmas.specs.UnorderedKept.{first-none}
+use Rattle.cg_agree_lemmas.specs.RestsBehind.{handed-ids, split-to}
+use Rattle.cg_agree_lemmas.specs.StepGreens.{step-follows, whitened-count}
+use Rattle.cg_agree_lemmas.specs.TurnWorlds.{life_at}
+use Rattle.cg_agree_lemmas.specs.WorldTurns.{IsBehind, hand-behind, from-same, handed-behind}
 use Rattle.cg_client.specs.Joined.{piece_count}
 
 -- the greens of a replica, as it runs or as its disk has them; none of one that hasn't begun

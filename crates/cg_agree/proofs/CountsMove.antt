@@ -19,16 +19,16 @@ use Rattle.cg_model.specs.Played.{AtRest}
 use Rattle.cg_model.specs.Small.{Small, small_step, changed_attempt, with_leaver}
 use Rattle.cg_model.specs.Smalls.{may_make}
 use Rattle.cg_agree.proofs.AttemptSteps.{group-of}
-use Rattle.cg_agree.proofs.AttemptsGrow.{grown-leaver}
+use Rattle.cg_agree_lemmas.specs.AttemptsGrow.{grown-leaver}
 use Rattle.cg_agree.proofs.DeadKept.{said-attempt}
-use Rattle.cg_agree.proofs.FrontFacts.{Front-length}
+use Rattle.cg_agree_lemmas.specs.FrontFacts.{Front-length}
 use Rattle.cg_agree.proofs.GreensFront.{greens-go_on}
 use Rattle.cg_agree.proofs.GreensMove.{GreensMove, Stays, IsHanded, Parts, Begins, greens-move}
-use Rattle.cg_agree.proofs.HandSays.{find-holds}
-use Rattle.cg_agree.proofs.HandsNow.{hands-regular}
-use Rattle.cg_agree.proofs.Keyed.{found-changed, find-append, find-none}
+use Rattle.cg_agree_lemmas.specs.HandSays.{find-holds}
+use Rattle.cg_agree_lemmas.specs.HandsNow.{hands-regular}
+use Rattle.cg_agree_lemmas.specs.Keyed.{found-changed, find-append, find-none}
 use Rattle.cg_agree.proofs.LeftMoves.{left_in, lefts, LeftMove, NoneLeaves, OneLeaves, left-move, in-running}
-use Rattle.cg_agree.proofs.OneSteps.{running-begun}
+use Rattle.cg_agree_lemmas.specs.OneSteps.{running-begun}
 use Rattle.cg_agree.proofs.OutStays.{out-stays, said-number}
 
 abbrev pub leaving_of : ℕ → List Leaving → Option Leaving

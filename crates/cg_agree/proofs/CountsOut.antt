@@ -15,14 +15,14 @@ use Rattle.cg_model.specs.Facts.{Invariant}
 use Rattle.cg_model.specs.Small.{Small, small_step}
 use Rattle.cg_model.specs.Smalls.{may_make}
 use Rattle.cg_agree.proofs.AttemptSteps.{group-of}
-use Rattle.cg_agree.proofs.AttemptsGrow.{attempts-grow}
+use Rattle.cg_agree_lemmas.specs.AttemptsGrow.{attempts-grow}
 use Rattle.cg_agree.proofs.DeadKept.{said-attempt}
-use Rattle.cg_agree.proofs.HandSays.{find-holds}
-use Rattle.cg_agree.proofs.Reach.{row-within, acts-more, take-front}
-use Rattle.cg_agree.proofs.ReachSteps.{goes_on-kept}
-use Rattle.cg_agree.proofs.ReachWorld.{when-is}
+use Rattle.cg_agree_lemmas.specs.HandSays.{find-holds}
+use Rattle.cg_agree_lemmas.specs.Reach.{row-within, acts-more, take-front}
+use Rattle.cg_agree_lemmas.specs.ReachSteps.{goes_on-kept}
+use Rattle.cg_agree_lemmas.specs.ReachWorld.{when-is}
 use Rattle.cg_agree.proofs.ReceivedKept.{received-kept}
-use Rattle.cg_agree.proofs.SameAttempt.{same-installation}
+use Rattle.cg_agree_lemmas.specs.SameAttempt.{same-installation}
 
 -- within the installation and what every member has received behind it
 abbrev pub IsCountedIn : Chronicle → ℕ → Attempt → ℕ → Type 0

@@ -27,24 +27,24 @@ use Rattle.cg_model.specs.Facts.{Invariant}
 use Rattle.cg_model.specs.Small.{Leaves, take_all, take_parting, leaving, newly_green, small_step}
 use Rattle.cg_model.specs.Smalls.{may_make}
 use Rattle.cg_agree.proofs.AttemptSteps.{leaves-installing}
-use Rattle.cg_agree.proofs.AttemptsGrow.{attempts-grow}
-use Rattle.cg_agree.proofs.CoresKept.{greens-turn}
+use Rattle.cg_agree_lemmas.specs.AttemptsGrow.{attempts-grow}
+use Rattle.cg_agree_lemmas.specs.CoresKept.{greens-turn}
 use Rattle.cg_agree.proofs.CountsOut.{IsCountedIn, inside-counted}
-use Rattle.cg_agree.proofs.EntryGreens.{nothing-new}
+use Rattle.cg_agree_lemmas.specs.EntryGreens.{nothing-new}
 use Rattle.cg_agree.proofs.ExchangeSmalls.{replica-behind}
 use Rattle.cg_agree.proofs.GreenLine.{regular-state}
-use Rattle.cg_agree.proofs.GroupKept.{leaving-regular}
-use Rattle.cg_agree.proofs.HandSays.{find-holds}
-use Rattle.cg_agree.proofs.HandsKept.{regular-phase, regular-up, seated}
-use Rattle.cg_agree.proofs.InstallGreens.{yellow-greens, in-parting}
+use Rattle.cg_agree_lemmas.specs.GroupKept.{leaving-regular}
+use Rattle.cg_agree_lemmas.specs.HandSays.{find-holds}
+use Rattle.cg_agree_lemmas.specs.HandsKept.{regular-phase, regular-up, seated}
+use Rattle.cg_agree_lemmas.specs.InstallGreens.{yellow-greens, in-parting}
 use Rattle.cg_agree.proofs.InstalledParts.{waits-announced, oneself-before, installs-all}
 use Rattle.cg_agree.proofs.ModeKept.{mode_data-kept}
-use Rattle.cg_agree.proofs.OneSteps.{leaves-step}
-use Rattle.cg_agree.proofs.PartingActs.{PartedBy, parting-by}
+use Rattle.cg_agree_lemmas.specs.OneSteps.{leaves-step}
+use Rattle.cg_agree_lemmas.specs.PartingActs.{PartedBy, parting-by}
 use Rattle.cg_agree.proofs.PrimaryKept.{primary-data}
-use Rattle.cg_agree.proofs.RecordKept.{turn-is}
-use Rattle.cg_agree.proofs.SameAttempt.{same-installation}
-use Rattle.cg_agree.proofs.TurnValues.{even-mark_yellow}
+use Rattle.cg_agree_lemmas.specs.RecordKept.{turn-is}
+use Rattle.cg_agree_lemmas.specs.SameAttempt.{same-installation}
+use Rattle.cg_agree_lemmas.specs.TurnValues.{even-mark_yellow}
 
 -- ---- a member of a primary component marks nothing green in its parting
 

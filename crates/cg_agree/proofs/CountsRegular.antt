@@ -21,13 +21,13 @@ use Rattle.cg_model.specs.Facts.{Invariant}
 use Rattle.cg_model.specs.Small.{Small, small_step}
 use Rattle.cg_model.specs.Smalls.{may_make}
 use Rattle.cg_agree.proofs.GreenLine.{HasGreenLine, primary-regular}
-use Rattle.cg_agree.proofs.HandSays.{find-holds}
+use Rattle.cg_agree_lemmas.specs.HandSays.{find-holds}
 use Rattle.cg_agree.proofs.ModeKept.{mode_data-kept}
 use Rattle.cg_agree.proofs.NetFactsKept.{net-kept}
-use Rattle.cg_agree.proofs.OneSteps.{regular-is_up}
+use Rattle.cg_agree_lemmas.specs.OneSteps.{regular-is_up}
 use Rattle.cg_agree.proofs.PrimaryKept.{line-behind, primary-data}
-use Rattle.cg_agree.proofs.Reach.{acts-more}
-use Rattle.cg_agree.proofs.SmallTalk.{conf-there}
+use Rattle.cg_agree_lemmas.specs.Reach.{acts-more}
+use Rattle.cg_agree_lemmas.specs.SmallTalk.{conf-there}
 use Rattle.cg_agree.proofs.TalkFactsKept.{mode_fits-kept}
 
 phase-is : (conf : ℕ) (x : Phase) → is_regular_at conf x ≡ true → x ≡ Regular conf

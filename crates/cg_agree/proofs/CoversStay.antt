@@ -12,10 +12,10 @@ use Rattle.cg_model.specs.FactsGreens.{CoversLevel}
 use Rattle.cg_model.specs.Facts.{Invariant}
 use Rattle.cg_model.specs.Small.{Small, small_step}
 use Rattle.cg_model.specs.Smalls.{may_make}
-use Rattle.cg_agree.proofs.HandSays.{find-holds}
-use Rattle.cg_agree.proofs.FrontFacts.{Front-trans, Front-map}
-use Rattle.cg_agree.proofs.ReachWorld.{opened-at, opened-attempt, frozen-stays}
-use Rattle.cg_agree.proofs.SpineKept.{start-line}
+use Rattle.cg_agree_lemmas.specs.HandSays.{find-holds}
+use Rattle.cg_agree_lemmas.specs.FrontFacts.{Front-trans, Front-map}
+use Rattle.cg_agree_lemmas.specs.ReachWorld.{opened-at, opened-attempt, frozen-stays}
+use Rattle.cg_agree_lemmas.specs.SpineKept.{start-line}
 use Rattle.cg_agree.proofs.DeadKept.{said-attempt}
 
 -- at each level that stood, what can become green behind a step where somebody is out could become green before

@@ -21,16 +21,16 @@ use Rattle.cg_model.specs.Facts.{Invariant}
 use Rattle.cg_model.specs.Played.{AtRest}
 use Rattle.cg_model.specs.Small.{Small, Starts, Makes, Enters, Orders, Receives, Hands, Leaves, Asks, Settles, Commits, Crashes, Recovers, Copies, Joins, coming, newest_conf, small_step}
 use Rattle.cg_model.specs.Smalls.{may_make}
-use Rattle.cg_agree.proofs.HandSays.{find-holds}
-use Rattle.cg_agree.proofs.HandsKept.{seated}
-use Rattle.cg_agree.proofs.ReachFacts.{all-at}
-use Rattle.cg_agree.proofs.ReachWorld.{when-is}
-use Rattle.cg_agree.proofs.ChronicleFacts.{seat_of-set}
-use Rattle.cg_agree.proofs.GroupKept.{phase_sound-kept}
-use Rattle.cg_agree.proofs.SameAttempt.{SameAttempt}
+use Rattle.cg_agree_lemmas.specs.HandSays.{find-holds}
+use Rattle.cg_agree_lemmas.specs.HandsKept.{seated}
+use Rattle.cg_agree_lemmas.specs.ReachFacts.{all-at}
+use Rattle.cg_agree_lemmas.specs.ReachWorld.{when-is}
+use Rattle.cg_agree_lemmas.specs.ChronicleFacts.{seat_of-set}
+use Rattle.cg_agree_lemmas.specs.GroupKept.{phase_sound-kept}
+use Rattle.cg_agree_lemmas.specs.SameAttempt.{SameAttempt}
 use Rattle.cg_agree.proofs.AttemptSteps.{group-of, attempt-step}
 use Rattle.cg_agree.proofs.AttemptsCame.{came, dead-kept}
-use Rattle.cg_agree.proofs.ToldKept.{IsUntold, told-same, told_in-same}
+use Rattle.cg_agree_lemmas.specs.ToldKept.{IsUntold, told-same, told_in-same}
 use Rattle.cg_agree.proofs.PastKept.{EntersNow, enters-now, enters-is, entry_turn, entry_told, told_in-enters, past_left-kept}
 use Rattle.cg_agree.proofs.CoresMove.{end-rises}
 use Rattle.cg_agree.proofs.ClearedDead.{regular-in}

@@ -22,12 +22,12 @@ use Rattle.cg_model.specs.FactsNet.{ReceiptsInside, ReceiptsFixed}
 use Rattle.cg_model.specs.FactsTalk.{whole_talk}
 use Rattle.cg_model.specs.FactsAttempts.{IsAttempt}
 use Rattle.cg_model.specs.Facts.{Invariant}
-use Rattle.cg_agree.proofs.Reach.{passes}
-use Rattle.cg_agree.proofs.ReachFacts.{GoesOnIn, all-at, any-more}
-use Rattle.cg_agree.proofs.Announced.{announced-front, announced-behind, senders-members}
-use Rattle.cg_agree.proofs.SameAttempt.{SameAttempt}
+use Rattle.cg_agree_lemmas.specs.Reach.{passes}
+use Rattle.cg_agree_lemmas.specs.ReachFacts.{GoesOnIn, all-at, any-more}
+use Rattle.cg_agree_lemmas.specs.Announced.{announced-front, announced-behind, senders-members}
+use Rattle.cg_agree_lemmas.specs.SameAttempt.{SameAttempt}
 use Rattle.cg_agree.proofs.AttemptSteps.{WhyInstalled, AllAnnounced, Before, Installing}
-use Rattle.cg_agree.proofs.HandSays.{find-holds}
+use Rattle.cg_agree_lemmas.specs.HandSays.{find-holds}
 
 -- ---- members
 

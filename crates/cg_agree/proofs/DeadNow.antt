@@ -25,10 +25,10 @@ use Rattle.cg_model.specs.FactsNet.{PhaseSound, IsPhase}
 use Rattle.cg_model.specs.FactsTalk.{ModeFits, IsStateIn, IsTransitional, handed_talk}
 use Rattle.cg_model.specs.FactsReplica.{IsModeData, HasModeData, IsInAttempt, IsCounted, has_entered, is_attempting, is_primary}
 use Rattle.cg_model.specs.FactsAttempts.{AnnouncedEntered, InstalledAnnounced, entered_in, is_no}
-use Rattle.cg_agree.proofs.Reach.{passes}
-use Rattle.cg_agree.proofs.ReachFacts.{all-at}
-use Rattle.cg_agree.proofs.ReachWorld.{when-is}
-use Rattle.cg_agree.proofs.HandSays.{find-holds}
+use Rattle.cg_agree_lemmas.specs.Reach.{passes}
+use Rattle.cg_agree_lemmas.specs.ReachFacts.{all-at}
+use Rattle.cg_agree_lemmas.specs.ReachWorld.{when-is}
+use Rattle.cg_agree_lemmas.specs.HandSays.{find-holds}
 use Rattle.cg_agree.proofs.DeadKept.{any-of}
 use Rattle.cg_agree.proofs.OneAttemptKept.{announced-said}
 

@@ -35,22 +35,22 @@ use Rattle.cg_model.specs.Looks.{greens_of}
 use Rattle.cg_model.specs.Noting.{chronicle_after}
 use Rattle.cg_model.specs.FactsReplica.{AreBooked}
 use Rattle.cg_model.specs.Played.{StandsBeside, AlwaysHolds}
-use Rattle.cg_agree.proofs.BookGrows.{IsNamed}
-use Rattle.cg_agree.proofs.BookedCores.{each-booked}
+use Rattle.cg_agree_lemmas.specs.BookGrows.{IsNamed}
+use Rattle.cg_agree_lemmas.specs.BookedCores.{each-booked}
 use Rattle.cg_agree.proofs.CreatorNumbered.{stands-of, names-count}
-use Rattle.cg_agree.proofs.FrontFacts.{take-Front}
-use Rattle.cg_agree.proofs.HeldAll.{yellow-named}
+use Rattle.cg_agree_lemmas.specs.FrontFacts.{take-Front}
+use Rattle.cg_agree_lemmas.specs.HeldAll.{yellow-named}
 use Rattle.cg_agree.proofs.LinesShown.{up-shown}
-use Rattle.cg_agree.proofs.MadeAlone.{takes-part, is-running}
+use Rattle.cg_agree_lemmas.specs.MadeAlone.{takes-part, is-running}
 use Rattle.cg_agree.proofs.MadeTold.{IsMadeTold, made-told}
 use Rattle.cg_agree.proofs.OrderReached.{in-order}
-use Rattle.cg_agree.proofs.OrderTold.{order_told}
+use Rattle.cg_agree_lemmas.specs.OrderTold.{order_told}
 use Rattle.cg_agree.proofs.OrderedActions.{IsShownAs, shown-as, each-shown_as, all-as, ordered-as}
 use Rattle.cg_agree.proofs.RedsShown.{each-front, reds-shown}
 use Rattle.cg_commit.specs.Holds.{run_on}
 use Rattle.cg_agree.proofs.RunPrefix.{world-last, comes}
 use Rattle.cg_agree.proofs.TellsRun.{has-told}
-use Rattle.cg_agree.proofs.TurnRows.{each-named}
+use Rattle.cg_agree_lemmas.specs.TurnRows.{each-named}
 use Rattle.cg_commit.specs.RunMarkLaws.{run-head, run-rest}
 
 -- ---- lists

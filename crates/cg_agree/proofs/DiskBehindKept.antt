@@ -22,13 +22,13 @@ use Rattle.cg_model.specs.FactsReplica.{DiskBehind}
 use Rattle.cg_model.specs.FactsNet.{Seated}
 use Rattle.cg_model.specs.Small.{Small, Starts, Makes, Enters, Orders, Receives, Hands, Leaves, Asks, Settles, Commits, Crashes, Recovers, Copies, Joins, written, struck, new_past, newly_green, after_turn, turning, turning_as, commit_as, crash_as, recover_as, copy_as, join_with, start, coming, take_newest, handed_next, take_next, leaving, take_parting, take_request, small_step}
 use Rattle.cg_model.specs.Smalls.{may_make, is_set}
-use Rattle.cg_agree.proofs.ChronicleFacts.{seat_of-set, greens_of-other, past-begun}
-use Rattle.cg_agree.proofs.FrontFacts.{Front-refl, Front-trans, Front-append}
-use Rattle.cg_agree.proofs.HeldCommit.{recovered-id}
-use Rattle.cg_agree.proofs.OneselfWorld.{HavePasts, Reseated}
+use Rattle.cg_agree_lemmas.specs.ChronicleFacts.{seat_of-set, greens_of-other, past-begun}
+use Rattle.cg_agree_lemmas.specs.FrontFacts.{Front-refl, Front-trans, Front-append}
+use Rattle.cg_agree_lemmas.specs.HeldCommit.{recovered-id}
+use Rattle.cg_agree_lemmas.specs.OneselfWorld.{HavePasts, Reseated}
 use Rattle.cg_agree.proofs.BegunKept.{nothing-before}
-use Rattle.cg_agree.proofs.CoresKept.{seat-of, greens-turn, stood-turn, past-here, past-there}
-use Rattle.cg_agree.proofs.CoresSmall.{nothing-green, nothing-stood}
+use Rattle.cg_agree_lemmas.specs.CoresKept.{seat-of, greens-turn, stood-turn, past-here, past-there}
+use Rattle.cg_agree_lemmas.specs.CoresSmall.{nothing-green, nothing-stood}
 
 abbrev life_in : Option Seat → Option Replica
 life_in o = option_and_then (λ s. running s.life) o

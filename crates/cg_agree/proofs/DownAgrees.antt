@@ -20,9 +20,9 @@ use Rattle.cg_model.specs.Shown.{made_actions, made_names, order_of, position_of
 use Rattle.cg_model.specs.World.{Down, Life, Seat, World, life_of, no_world, seat_of}
 use Rattle.cg_agree.proofs.CountsGrow.{count_at, held_at}
 use Rattle.cg_agree.proofs.DownGreens.{all-made, booked, core, prefix, reaches}
-use Rattle.cg_agree.proofs.FrontFacts.{Front-refl}
+use Rattle.cg_agree_lemmas.specs.FrontFacts.{Front-refl}
 use Rattle.cg_agree.proofs.OrderReached.{named-each, run-some}
-use Rattle.cg_agree.proofs.OrderTold.{order_told}
+use Rattle.cg_agree_lemmas.specs.OrderTold.{order_told}
 use Rattle.cg_agree.proofs.OrderedActions.{all-as, each-as}
 use Rattle.cg_agree.proofs.PositionsGrow.{is-placed}
 use Rattle.cg_agree.proofs.RedsShown.{HasShown, has-shown}

@@ -21,14 +21,14 @@ use Rattle.cg_model.specs.Levels.{line_at, reached_at}
 use Rattle.cg_model.specs.Looks.{disk_held, on_disk, stood_of, top_of}
 use Rattle.cg_model.specs.Played.{StandsBeside}
 use Rattle.cg_model.specs.World.{Down, Life, Seat, World, life_of, seat_of}
-use Rattle.cg_agree.proofs.BookGrows.{IsNamed}
-use Rattle.cg_agree.proofs.BookedCores.{each-booked}
+use Rattle.cg_agree_lemmas.specs.BookGrows.{IsNamed}
+use Rattle.cg_agree_lemmas.specs.BookedCores.{each-booked}
 use Rattle.cg_agree.proofs.CreatorNumbered.{order-on_top}
-use Rattle.cg_agree.proofs.FrontFacts.{Front-length, Front-map, take-Front}
-use Rattle.cg_agree.proofs.OrderExtends.{IsExtended, order-extends}
+use Rattle.cg_agree_lemmas.specs.FrontFacts.{Front-length, Front-map, take-Front}
+use Rattle.cg_agree_lemmas.specs.OrderExtends.{IsExtended, order-extends}
 use Rattle.cg_agree.proofs.OrderReached.{names-drop}
 use Rattle.cg_agree.proofs.RedsShown.{each-low}
-use Rattle.cg_agree.proofs.TurnGreens.{disk-count, names-count}
+use Rattle.cg_agree_lemmas.specs.TurnGreens.{disk-count, names-count}
 
 -- ---- lists of names
 

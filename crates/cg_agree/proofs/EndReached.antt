@@ -21,18 +21,18 @@ use Rattle.cg_model.specs.FactsAttempts.{BitsWitness}
 use Rattle.cg_model.specs.Facts.{Invariant}
 use Rattle.cg_model.specs.Small.{Small, Starts, Makes, Enters, Orders, Receives, Hands, Leaves, Asks, Settles, Commits, Crashes, Recovers, Copies, Joins, newly_green, after_turn, handed_next, take_next, small_step}
 use Rattle.cg_model.specs.Smalls.{may_make}
-use Rattle.cg_agree.proofs.ChronicleFacts.{seat_of-set}
-use Rattle.cg_agree.proofs.EndCovers.{OfEach}
-use Rattle.cg_agree.proofs.EndQuorum.{both-each}
-use Rattle.cg_agree.proofs.Knowledge.{sender-told}
-use Rattle.cg_agree.proofs.TalkEarly.{all-member}
-use Rattle.cg_agree.proofs.CoresKept.{greens-turn}
-use Rattle.cg_agree.proofs.OneSteps.{hands-step}
-use Rattle.cg_agree.proofs.ToldKept.{told-same, told_in-same}
-use Rattle.cg_agree.proofs.TurnKinds.{HasDecided}
-use Rattle.cg_agree.proofs.HandsNow.{HandsNow, hands-regular, new, behind, count, hand-state, whole-through}
-use Rattle.cg_agree.proofs.PlanEnd.{AtPlanEnd, is_behind, behind-ended}
-use Rattle.cg_agree.proofs.RecordKept.{turn-is}
+use Rattle.cg_agree_lemmas.specs.ChronicleFacts.{seat_of-set}
+use Rattle.cg_agree_lemmas.specs.EndCovers.{OfEach}
+use Rattle.cg_agree_lemmas.specs.EndQuorum.{both-each}
+use Rattle.cg_agree_lemmas.specs.Knowledge.{sender-told}
+use Rattle.cg_agree_lemmas.specs.TalkEarly.{all-member}
+use Rattle.cg_agree_lemmas.specs.CoresKept.{greens-turn}
+use Rattle.cg_agree_lemmas.specs.OneSteps.{hands-step}
+use Rattle.cg_agree_lemmas.specs.ToldKept.{told-same, told_in-same}
+use Rattle.cg_agree_lemmas.specs.TurnKinds.{HasDecided}
+use Rattle.cg_agree_lemmas.specs.HandsNow.{HandsNow, hands-regular, new, behind, count, hand-state, whole-through}
+use Rattle.cg_agree_lemmas.specs.PlanEnd.{AtPlanEnd, is_behind, behind-ended}
+use Rattle.cg_agree_lemmas.specs.RecordKept.{turn-is}
 use Rattle.cg_agree.proofs.ClearedDead.{IsToldIn, each-told}
 use Rattle.cg_agree.proofs.BitsKept.{Reaches, bits_witness-kept}
 

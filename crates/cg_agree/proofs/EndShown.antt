@@ -32,19 +32,19 @@ use Rattle.cg_model.specs.FactsAttempts.{IsWitnessed, AreWitnessed, is_without}
 use Rattle.cg_model.specs.FactsGreens.{Covers}
 use Rattle.cg_agree.proofs.ClearedDead.{IsToldIn, each-told}
 use Rattle.cg_agree.proofs.CoversStay.{covers-more}
-use Rattle.cg_agree.proofs.EndCases.{ShowsEnd, has_bit, cleared-covers}
-use Rattle.cg_agree.proofs.EndCovers.{OfEach, of_each-weaker, lowest-of, CoversWith}
-use Rattle.cg_agree.proofs.EndCuts.{end-covers}
-use Rattle.cg_agree.proofs.EndQuorum.{FitsNewest, both-each, quorum-covers, remaining-sent}
+use Rattle.cg_agree_lemmas.specs.EndCases.{ShowsEnd, has_bit, cleared-covers}
+use Rattle.cg_agree_lemmas.specs.EndCovers.{OfEach, of_each-weaker, lowest-of, CoversWith}
+use Rattle.cg_agree_lemmas.specs.EndCuts.{end-covers}
+use Rattle.cg_agree_lemmas.specs.EndQuorum.{FitsNewest, both-each, quorum-covers, remaining-sent}
 use Rattle.cg_agree.proofs.EndReached.{best-bounds}
-use Rattle.cg_agree.proofs.FrontFacts.{Front-append, Front-trans, Front-of_both, Front-map, Front-take}
-use Rattle.cg_agree.proofs.Knowledge.{known-of, each-bounded, sender-told, IsKnown, Becomes, Cleared, Kept, becomes}
+use Rattle.cg_agree_lemmas.specs.FrontFacts.{Front-append, Front-trans, Front-of_both, Front-map, Front-take}
+use Rattle.cg_agree_lemmas.specs.Knowledge.{known-of, each-bounded, sender-told, IsKnown, Becomes, Cleared, Kept, becomes}
 use Rattle.cg_agree.proofs.NewestLevel.{ids-weighted, newest-level, installed-inside, prim-top, frozen-by}
-use Rattle.cg_agree.proofs.ReachFacts.{line_in}
-use Rattle.cg_agree.proofs.ReachWorld.{when-is}
+use Rattle.cg_agree_lemmas.specs.ReachFacts.{line_in}
+use Rattle.cg_agree_lemmas.specs.ReachWorld.{when-is}
 use Rattle.cg_commit.specs.RunLaws.{run_on-append}
 use Rattle.cg_agree.proofs.ToldLine.{Behind, told-conf, told-fits, told-levels, told-run, told-line, told-reach, told-front}
-use Rattle.cg_agree.proofs.RunFronts.{run_on-front}
+use Rattle.cg_agree_lemmas.specs.RunFronts.{run_on-front}
 
 -- evidence that was told covers
 abbrev pub ToldCovers : Chronicle → Type 0

@@ -18,11 +18,11 @@ use Rattle.cg_model.specs.FactsAttempts.{IsAttempt}
 use Rattle.cg_model.specs.Facts.{Invariant}
 use Rattle.cg_model.specs.Small.{Small, small_step, with_leaver}
 use Rattle.cg_model.specs.Smalls.{may_make}
-use Rattle.cg_agree.proofs.ReachFacts.{all-at, all-from}
-use Rattle.cg_agree.proofs.SameAttempt.{SameAttempt, same-refl}
-use Rattle.cg_agree.proofs.AttemptsGrow.{grown-leaver, grown-entrant, grown-installer}
+use Rattle.cg_agree_lemmas.specs.ReachFacts.{all-at, all-from}
+use Rattle.cg_agree_lemmas.specs.SameAttempt.{SameAttempt, same-refl}
+use Rattle.cg_agree_lemmas.specs.AttemptsGrow.{grown-leaver, grown-entrant, grown-installer}
 use Rattle.cg_agree.proofs.AttemptSteps.{attempt-step}
-use Rattle.cg_agree.proofs.RecordKept.{attempt-heard}
+use Rattle.cg_agree_lemmas.specs.RecordKept.{attempt-heard}
 use Rattle.cg_agree.proofs.DeadKept.{set-members}
 use Rattle.cg_agree.proofs.AttemptsCame.{Begins, Came, Stayed, WasLeft, WasEntered, WasInstalled, WasMade, came}
 use Rattle.cg_agree.proofs.DeadNow.{EnteredWithin}

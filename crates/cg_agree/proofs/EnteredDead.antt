@@ -27,14 +27,14 @@ use Rattle.cg_model.specs.FactsReplica.{IsModeData, IsCounted, IsInAttempt, HasM
 use Rattle.cg_model.specs.FactsExchange.{IsRecord, HasRecord, KnowsLevels}
 use Rattle.cg_model.specs.FactsAttempts.{is_without, is_no}
 use Rattle.cg_model.specs.Facts.{Invariant}
-use Rattle.cg_agree.proofs.HandSays.{find-holds}
-use Rattle.cg_agree.proofs.HandsKept.{seated}
-use Rattle.cg_agree.proofs.ReachWorld.{when-is}
-use Rattle.cg_agree.proofs.EndCovers.{OfEach}
-use Rattle.cg_agree.proofs.EndQuorum.{cleared-each, none-cleared}
-use Rattle.cg_agree.proofs.Knowledge.{known-of, some-sender, Cleared, Kept, becomes}
-use Rattle.cg_agree.proofs.TurnParts.{record_left}
-use Rattle.cg_agree.proofs.PlanEnd.{AtPlanEnd, mine-among}
+use Rattle.cg_agree_lemmas.specs.HandSays.{find-holds}
+use Rattle.cg_agree_lemmas.specs.HandsKept.{seated}
+use Rattle.cg_agree_lemmas.specs.ReachWorld.{when-is}
+use Rattle.cg_agree_lemmas.specs.EndCovers.{OfEach}
+use Rattle.cg_agree_lemmas.specs.EndQuorum.{cleared-each, none-cleared}
+use Rattle.cg_agree_lemmas.specs.Knowledge.{known-of, some-sender, Cleared, Kept, becomes}
+use Rattle.cg_agree_lemmas.specs.TurnParts.{record_left}
+use Rattle.cg_agree_lemmas.specs.PlanEnd.{AtPlanEnd, mine-among}
 use Rattle.cg_agree.proofs.ClearedDead.{cleared-dead}
 use Rattle.cg_agree.proofs.EnteredBefore.{entered-record}
 use Rattle.cg_agree.proofs.RecordsMove.{IsDecided}

@@ -30,14 +30,14 @@ use Rattle.cg_model.specs.Agreement.{is_recovery_of}
 use Rattle.cg_model.specs.Looks.{on_disk, disk_held}
 use Rattle.cg_model.specs.Step.{quietly, hand, hand_over, ask, name_also, begin_replica, arm_at, arm, crash_at, recover_from, recover, joined, without_snapshot, take_pieces}
 use Rattle.cg_model.specs.FactsLists.{IsRising}
-use Rattle.cg_agree.proofs.ChronicleFacts.{seat_of-set}
-use Rattle.cg_agree.proofs.HeldCommit.{recovered-id}
-use Rattle.cg_agree.proofs.TurnWorlds.{up_seat, life_at}
-use Rattle.cg_agree.proofs.TurnReplies.{owed-own}
-use Rattle.cg_agree.proofs.RepliesPlaced.{IsIn, times, reply_ids, plain, ids_in}
-use Rattle.cg_agree.proofs.OwedNames.{own_name}
-use Rattle.cg_agree.proofs.EventInputs.{IsHanded}
-use Rattle.cg_agree.proofs.EventSays.{Said, said-none, tell-said, made_ids, SeatOwes, Comes, hand-comes, handed-comes, made_by, replies_by}
+use Rattle.cg_agree_lemmas.specs.ChronicleFacts.{seat_of-set}
+use Rattle.cg_agree_lemmas.specs.HeldCommit.{recovered-id}
+use Rattle.cg_agree_lemmas.specs.TurnWorlds.{up_seat, life_at}
+use Rattle.cg_agree_lemmas.specs.TurnReplies.{owed-own}
+use Rattle.cg_agree_lemmas.specs.RepliesPlaced.{IsIn, times, reply_ids, plain, ids_in}
+use Rattle.cg_agree_lemmas.specs.OwedNames.{own_name}
+use Rattle.cg_agree_lemmas.specs.EventInputs.{IsHanded}
+use Rattle.cg_agree_lemmas.specs.EventSays.{Said, said-none, tell-said, made_ids, SeatOwes, Comes, hand-comes, handed-comes, made_by, replies_by}
 use Rattle.cg_client.specs.Joined.{piece_count}
 
 -- nothing was made or answered before the event

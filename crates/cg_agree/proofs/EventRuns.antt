@@ -29,20 +29,20 @@ use Rattle.cg_model.specs.Small.{Small, Makes, Enters, Hands, Leaves, Asks, Sett
 use Rattle.cg_model.specs.Smalls.{smalls_in, turns_as, leaving_steps, ending, ending_as}
 use Rattle.cg_model.specs.FactsLists.{IsRising}
 use Rattle.cg_model.specs.Played.{StandsBeside}
-use Rattle.cg_agree.proofs.UnorderedKept.{first-none, refused-not}
-use Rattle.cg_agree.proofs.MadeAlone.{not-refused}
-use Rattle.cg_agree.proofs.Standings.{rising-lower}
-use Rattle.cg_agree.proofs.SmallWorlds.{grouped, small_in, played_in}
-use Rattle.cg_agree.proofs.TurnWorlds.{seated, up_seat, turn-first}
-use Rattle.cg_agree.proofs.EventTurns.{IsUp}
-use Rattle.cg_agree.proofs.TogetherWorlds.{IsGoing, smalls_among}
-use Rattle.cg_agree.proofs.MadeDeliver.{stands-regular, may-opens}
-use Rattle.cg_agree.proofs.MadeSplit.{rising-set-list, turns-split, parted, parted-id, parted-placed, members-of as leaving-all, input as parted-input, block as parting, IsLeaving}
-use Rattle.cg_agree.proofs.MadeMerge.{turns-merge, made, entered, entered-id, members-of as coming-all, input as entered-input, block as entering, IsComing}
-use Rattle.cg_agree.proofs.SoundWorlds.{IsSound, sound-of, sound-same}
-use Rattle.cg_agree.proofs.EventMembers.{leaving-members, coming-members}
+use Rattle.cg_agree_lemmas.specs.UnorderedKept.{first-none, refused-not}
+use Rattle.cg_agree_lemmas.specs.MadeAlone.{not-refused}
+use Rattle.cg_agree_lemmas.specs.Standings.{rising-lower}
+use Rattle.cg_agree_lemmas.specs.SmallWorlds.{grouped, small_in, played_in}
+use Rattle.cg_agree_lemmas.specs.TurnWorlds.{seated, up_seat, turn-first}
+use Rattle.cg_agree_lemmas.specs.EventTurns.{IsUp}
+use Rattle.cg_agree_lemmas.specs.TogetherWorlds.{IsGoing, smalls_among}
+use Rattle.cg_agree_lemmas.specs.MadeDeliver.{stands-regular, may-opens}
+use Rattle.cg_agree_lemmas.specs.MadeSplit.{rising-set-list, turns-split, parted, parted-id, parted-placed, members-of as leaving-all, input as parted-input, block as parting, IsLeaving}
+use Rattle.cg_agree_lemmas.specs.MadeMerge.{turns-merge, made, entered, entered-id, members-of as coming-all, input as entered-input, block as entering, IsComing}
+use Rattle.cg_agree_lemmas.specs.SoundWorlds.{IsSound, sound-of, sound-same}
+use Rattle.cg_agree_lemmas.specs.EventMembers.{leaving-members, coming-members}
 use Rattle.cg_agree.proofs.TurnAlong.{IsPartOf, Keeps, RunsThrough, runs-later, runs-alone, together-runs}
-use Rattle.cg_agree.proofs.EventInputs.{IsHanded}
+use Rattle.cg_agree_lemmas.specs.EventInputs.{IsHanded}
 
 -- a replica that takes such a turn runs on behind it
 pub record RunsBehind (w : World) (p : ℕ) (input : Input) : Type 0 where

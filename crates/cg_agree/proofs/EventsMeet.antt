@@ -24,13 +24,13 @@ use Rattle.cg_model.specs.Chronicle.{Chronicle}
 use Rattle.cg_model.specs.Looks.{on_disk, disk_held}
 use Rattle.cg_model.specs.Step.{quietly, name_also, snapshot_for, take_pieces, transfer, happens}
 use Rattle.cg_model.specs.Played.{StandsBeside}
-use Rattle.cg_agree.proofs.UnorderedKept.{first-none}
-use Rattle.cg_agree.proofs.MadeAlone.{not-refused}
-use Rattle.cg_agree.proofs.MadeSplit.{rising-set-list}
-use Rattle.cg_agree.proofs.RestsBehind.{handed-ids, split-to}
+use Rattle.cg_agree_lemmas.specs.UnorderedKept.{first-none}
+use Rattle.cg_agree_lemmas.specs.MadeAlone.{not-refused}
+use Rattle.cg_agree_lemmas.specs.MadeSplit.{rising-set-list}
+use Rattle.cg_agree_lemmas.specs.RestsBehind.{handed-ids, split-to}
 use Rattle.cg_agree.proofs.JoinersMadeNone.{snapshot-none}
-use Rattle.cg_agree.proofs.EventInputs.{IsHanded}
-use Rattle.cg_agree.proofs.EventSays.{SeatOwes}
+use Rattle.cg_agree_lemmas.specs.EventInputs.{IsHanded}
+use Rattle.cg_agree_lemmas.specs.EventSays.{SeatOwes}
 use Rattle.cg_agree.proofs.EventMeets.{Meets, same-stays, asked, handed-one, handed-out, start-meets, stop-meets, arm-meets, recover-meets, pieces-meet}
 
 module _ (c : Chronicle) (w : World) (stands : StandsBeside c w) where

@@ -14,11 +14,11 @@ use Rattle.cg_model.specs.Smalls.{may_make, smalls_in}
 use Rattle.cg_model.specs.Standing.{EventsUndoNothing, UndoesNothing}
 use Rattle.cg_agree.proofs.AttemptsCame.{dead-kept}
 use Rattle.cg_agree.proofs.EventsLead.{always-stands}
-use Rattle.cg_agree.proofs.FrontFacts.{Front-length}
+use Rattle.cg_agree_lemmas.specs.FrontFacts.{Front-length}
 use Rattle.cg_agree.proofs.MadeOfSmalls.{made-of-smalls}
 use Rattle.cg_agree.proofs.MovesKept.{kept-by-smalls}
-use Rattle.cg_agree.proofs.ReachSteps.{goes_on-kept}
-use Rattle.cg_agree.proofs.SameAttempt.{attempts-kept}
+use Rattle.cg_agree_lemmas.specs.ReachSteps.{goes_on-kept}
+use Rattle.cg_agree_lemmas.specs.SameAttempt.{attempts-kept}
 
 -- ---- a small step
 

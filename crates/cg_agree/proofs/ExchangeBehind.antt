@@ -36,12 +36,12 @@ use Rattle.cg_model.specs.Facts.{Invariant}
 use Rattle.cg_model.specs.Small.{Hands, take_all, take_next, handed_next, small_step}
 use Rattle.cg_model.specs.Smalls.{may_make}
 use Rattle.cg_agree.proofs.ExchangeSmalls.{replica-behind, greens-behind}
-use Rattle.cg_agree.proofs.ExchangeStill.{ProgressAt, some-still, best-still}
-use Rattle.cg_agree.proofs.HandsNow.{HandsNow, hands-regular, new, behind, count, found-now, hand-state, running-now, whole-through}
-use Rattle.cg_agree.proofs.OneSteps.{hands-step}
-use Rattle.cg_agree.proofs.PlanEnd.{is_behind, behind-ended}
-use Rattle.cg_agree.proofs.ToldKept.{told-same, told_in-same}
-use Rattle.cg_agree.proofs.TurnValues.{SameValues, same-values, even-mark_red, even-mark_yellow, even-mark_green}
+use Rattle.cg_agree_lemmas.specs.ExchangeStill.{ProgressAt, some-still, best-still}
+use Rattle.cg_agree_lemmas.specs.HandsNow.{HandsNow, hands-regular, new, behind, count, found-now, hand-state, running-now, whole-through}
+use Rattle.cg_agree_lemmas.specs.OneSteps.{hands-step}
+use Rattle.cg_agree_lemmas.specs.PlanEnd.{is_behind, behind-ended}
+use Rattle.cg_agree_lemmas.specs.ToldKept.{told-same, told_in-same}
+use Rattle.cg_agree_lemmas.specs.TurnValues.{SameValues, same-values, even-mark_red, even-mark_yellow, even-mark_green}
 
 -- the same is known, with the same yellow ones and the same greens
 pub record SameTaken (old new : Held) : Type 0 where

@@ -25,16 +25,16 @@ use Rattle.cg_model.specs.Facts.{Invariant}
 use Rattle.cg_commit.specs.Holds.{cut_behind}
 use Rattle.cg_model.specs.FactsTalk.{AreTold, handed_talk}
 use Rattle.cg_model.specs.FactsExchange.{IsUnmoved, IsGoingOn, best_told, IsInExchange}
-use Rattle.cg_agree.proofs.ExchangeHands.{EndsAs, grown-front}
-use Rattle.cg_agree.proofs.ExchangeStill.{holds-still}
+use Rattle.cg_agree_lemmas.specs.ExchangeHands.{EndsAs, grown-front}
+use Rattle.cg_agree_lemmas.specs.ExchangeStill.{holds-still}
 use Rattle.cg_agree.proofs.ExchangeThere.{id, core, oneself, heard_before, in_exchange, best, near, best-is, unmoved-behind, unmoved-gone, going-at, before-greens, greens-count, take-gone, take-here, white-item}
-use Rattle.cg_agree.proofs.FrontFacts.{take-Front, Front-takes}
-use Rattle.cg_agree.proofs.HeldMarks.{rising-green}
-use Rattle.cg_agree.proofs.PlanProgress.{IsBehind, greens_there}
+use Rattle.cg_agree_lemmas.specs.FrontFacts.{take-Front, Front-takes}
+use Rattle.cg_agree_lemmas.specs.HeldMarks.{rising-green}
+use Rattle.cg_agree_lemmas.specs.PlanProgress.{IsBehind, greens_there}
 use Rattle.cg_agree.proofs.PlanThere.{ended-there}
 use Rattle.cg_agree.proofs.ToldBeside.{told-fits, told-front}
-use Rattle.cg_agree.proofs.TurnValues.{even-take_item}
-use Rattle.cg_agree.proofs.YellowItems.{above_green, IsStillYellow, above-all, yellow-item}
+use Rattle.cg_agree_lemmas.specs.TurnValues.{even-take_item}
+use Rattle.cg_agree_lemmas.specs.YellowItems.{above_green, IsStillYellow, above-all, yellow-item}
 
 module _ (c : Chronicle) (p : ℕ) (i : Invariant c) (conf : ℕ) (r : Replica) (s : Sent Msg) (regular : phase_of c.world.group p ≡ Regular conf) (runs : replica_of c.world p ≡ Some r)
     (next : slice_get (ordered_in c conf) (delivered_to c.world.group p) ≡ Some s) where

@@ -33,18 +33,18 @@ use Rattle.cg_model.specs.Facts.{Invariant}
 use Rattle.cg_model.specs.Small.{Small, Starts, Makes, Enters, Orders, Receives, Hands, Leaves, Asks, Settles, Commits, Crashes, Recovers, Copies, Joins, newly_green, take_next, handed_next, small_step}
 use Rattle.cg_model.specs.Smalls.{may_make}
 use Rattle.cg_agree.proofs.AnswersOwn.{due-green, due-red, still}
-use Rattle.cg_agree.proofs.CoresKept.{greens-turn}
+use Rattle.cg_agree_lemmas.specs.CoresKept.{greens-turn}
 use Rattle.cg_agree.proofs.ExchangeBehind.{message-now, up-now, greens-same, told-now, handed-now, at-conf, behind-kept}
-use Rattle.cg_agree.proofs.ExchangeHands.{HasBuilt, HoldsThen, best-same, going-there}
+use Rattle.cg_agree_lemmas.specs.ExchangeHands.{HasBuilt, HoldsThen, best-same, going-there}
 use Rattle.cg_agree.proofs.ExchangeItems.{first-item, next-item, ends-first, ends-item}
 use Rattle.cg_agree.proofs.ExchangeSmalls.{HandsProgress, exchange_progress-where}
-use Rattle.cg_agree.proofs.ExchangeStill.{ProgressAt}
+use Rattle.cg_agree_lemmas.specs.ExchangeStill.{ProgressAt}
 use Rattle.cg_agree.proofs.ExchangeThere.{heard_before, heard_behind, in_exchange, in-states, in-actions, best, near, best-is, behind-green, behind-red}
-use Rattle.cg_agree.proofs.HandsNow.{HandsNow, hands-now, new, behind, behind-next, running-now}
-use Rattle.cg_agree.proofs.PlanProgress.{IsBehind}
+use Rattle.cg_agree_lemmas.specs.HandsNow.{HandsNow, hands-now, new, behind, behind-next, running-now}
+use Rattle.cg_agree_lemmas.specs.PlanProgress.{IsBehind}
 use Rattle.cg_agree.proofs.PlanThere.{done-all}
-use Rattle.cg_agree.proofs.RecordKept.{turn-is}
-use Rattle.cg_agree.proofs.TurnValues.{even-take_item}
+use Rattle.cg_agree_lemmas.specs.RecordKept.{turn-is}
+use Rattle.cg_agree_lemmas.specs.TurnValues.{even-take_item}
 
 -- ---- the greens that are kept
 

@@ -31,29 +31,29 @@ use Rattle.cg_model.specs.Facts.{Invariant}
 use Rattle.cg_model.specs.Small.{Small, Starts, Makes, Enters, Orders, Receives, Hands, Leaves, Asks, Settles, Commits, Crashes, Recovers, Copies, Joins, new_past, written, struck, newest_conf, turning_as, turning, take_newest, take_next, take_parting, take_request, coming, handed_next, leaving, with_group, commit_as, crash_as, recover_as, copy_as, join_with, start, small_step}
 use Rattle.cg_model.specs.Smalls.{may_make, is_running, is_set}
 use Rattle.cg_agree.proofs.BegunKept.{nothing-before}
-use Rattle.cg_agree.proofs.ChronicleFacts.{greens_of-other, past-begun}
-use Rattle.cg_agree.proofs.CoresKept.{greens-turn, past-here, past-there}
-use Rattle.cg_agree.proofs.EntersTurn.{told-newest}
-use Rattle.cg_agree.proofs.EntryGreens.{entry-greens, nothing-new}
-use Rattle.cg_agree.proofs.ExchangeStill.{ProgressAt, ToldStays, StaysAs, HaveNames, progress-still, OneMoves, one-kept, all-kept}
-use Rattle.cg_agree.proofs.GroupKept.{leaving-regular}
-use Rattle.cg_agree.proofs.GroupSound.{phase-made, same-where_member, member-of}
-use Rattle.cg_agree.proofs.HandsKept.{seated}
-use Rattle.cg_agree.proofs.HandsNow.{hands-regular}
-use Rattle.cg_agree.proofs.ModeHeld.{SameLists, lists-settle, lists-request}
-use Rattle.cg_agree.proofs.NextThere.{orders-now, receives-now}
-use Rattle.cg_agree.proofs.OneStands.{stands-refl, stands-up, stands-down}
-use Rattle.cg_agree.proofs.OneSteps.{turns-step, hands-step, leaves-step, enters-step, may-join, seat-there}
-use Rattle.cg_agree.proofs.OneselfWorld.{HavePasts}
-use Rattle.cg_agree.proofs.OrdersTalk.{handed-same}
-use Rattle.cg_agree.proofs.OrdersWorld.{ordered-step, step-is, behind}
+use Rattle.cg_agree_lemmas.specs.ChronicleFacts.{greens_of-other, past-begun}
+use Rattle.cg_agree_lemmas.specs.CoresKept.{greens-turn, past-here, past-there}
+use Rattle.cg_agree_lemmas.specs.EntersTurn.{told-newest}
+use Rattle.cg_agree_lemmas.specs.EntryGreens.{entry-greens, nothing-new}
+use Rattle.cg_agree_lemmas.specs.ExchangeStill.{ProgressAt, ToldStays, StaysAs, HaveNames, progress-still, OneMoves, one-kept, all-kept}
+use Rattle.cg_agree_lemmas.specs.GroupKept.{leaving-regular}
+use Rattle.cg_agree_lemmas.specs.GroupSound.{phase-made, same-where_member, member-of}
+use Rattle.cg_agree_lemmas.specs.HandsKept.{seated}
+use Rattle.cg_agree_lemmas.specs.HandsNow.{hands-regular}
+use Rattle.cg_agree_lemmas.specs.ModeHeld.{SameLists, lists-settle, lists-request}
+use Rattle.cg_agree_lemmas.specs.NextThere.{orders-now, receives-now}
+use Rattle.cg_agree_lemmas.specs.OneStands.{stands-refl, stands-up, stands-down}
+use Rattle.cg_agree_lemmas.specs.OneSteps.{turns-step, hands-step, leaves-step, enters-step, may-join, seat-there}
+use Rattle.cg_agree_lemmas.specs.OneselfWorld.{HavePasts}
+use Rattle.cg_agree_lemmas.specs.OrdersTalk.{handed-same}
+use Rattle.cg_agree_lemmas.specs.OrdersWorld.{ordered-step, step-is, behind}
 use Rattle.cg_agree.proofs.PastKept.{EntersNow, enters-now, entry_turn, entry_told, told_in-enters}
-use Rattle.cg_agree.proofs.RecordKept.{turn-is}
-use Rattle.cg_agree.proofs.SmallTalk.{receive-is, receive-same}
+use Rattle.cg_agree_lemmas.specs.RecordKept.{turn-is}
+use Rattle.cg_agree_lemmas.specs.SmallTalk.{receive-is, receive-same}
 use Rattle.cg_agree.proofs.TalkAlone.{replica-set}
 use Rattle.cg_agree.proofs.TalkQuiet.{replica-turning}
-use Rattle.cg_agree.proofs.ToldKept.{told-same, told_in-same}
-use Rattle.cg_agree.proofs.TurnValues.{SameValues, even-settle, even-request}
+use Rattle.cg_agree_lemmas.specs.ToldKept.{told-same, told_in-same}
+use Rattle.cg_agree_lemmas.specs.TurnValues.{SameValues, even-settle, even-request}
 
 abbrev greens-in : Option Past → List Action
 greens-in o = option_map_or (λ x. x.greens) o []

@@ -41,17 +41,17 @@ use Rattle.cg_model.specs.FactsExchange.{IsUnmoved, IsGoingOn, IsInExchange, gre
 use Rattle.cg_model.specs.FactsTalk.{AreTold, handed_talk, IsStateIn, IsContent}
 use Rattle.cg_commit.specs.Holds.{cut_behind}
 use Rattle.cg_agree.proofs.EndReached.{best-bounds}
-use Rattle.cg_agree.proofs.FrontFacts.{Front-take, Front-map, take-Front, split_by_Front}
-use Rattle.cg_agree.proofs.HandNext.{take-next, talk-append, legal-at}
-use Rattle.cg_agree.proofs.HandSays.{remains-unless_gone}
-use Rattle.cg_agree.proofs.HeldMarks.{IsOneself}
-use Rattle.cg_agree.proofs.Knowledge.{some-sender}
-use Rattle.cg_agree.proofs.MessageThere.{message-made, message-content}
+use Rattle.cg_agree_lemmas.specs.FrontFacts.{Front-take, Front-map, take-Front, split_by_Front}
+use Rattle.cg_agree_lemmas.specs.HandNext.{take-next, talk-append, legal-at}
+use Rattle.cg_agree_lemmas.specs.HandSays.{remains-unless_gone}
+use Rattle.cg_agree_lemmas.specs.HeldMarks.{IsOneself}
+use Rattle.cg_agree_lemmas.specs.Knowledge.{some-sender}
+use Rattle.cg_agree_lemmas.specs.MessageThere.{message-made, message-content}
 use Rattle.cg_agree.proofs.PartsOwn.{white-held, HoldsAll}
-use Rattle.cg_agree.proofs.PlanItems.{plan-sender}
-use Rattle.cg_agree.proofs.PlanProgress.{AreBeside, IsBehind, greens_there, length-taken, taken-all, item-green, item-red}
+use Rattle.cg_agree_lemmas.specs.PlanItems.{plan-sender}
+use Rattle.cg_agree_lemmas.specs.PlanProgress.{AreBeside, IsBehind, greens_there, length-taken, taken-all, item-green, item-red}
 use Rattle.cg_commit.specs.CutRaiseLaws.{rising-behind, behind-rises}
-use Rattle.cg_agree.proofs.TalkEarly.{all-member, due_parts}
+use Rattle.cg_agree_lemmas.specs.TalkEarly.{all-member, due_parts}
 use Rattle.cg_agree.proofs.ToldBeside.{told-fits, told-front, told-so_far, IsBest, best-of_heard, mine-of, beside}
 use Rattle.cg_commit.specs.RunLaws.{cut_behind-append}
 

@@ -19,12 +19,12 @@ use Rattle.cg_model.specs.Looks.{conf_of, is_regular_at, is_regular_in, ordered_
 use Rattle.cg_model.specs.FactsNet.{ReceiptsFixed, Seated}
 use Rattle.cg_model.specs.Small.{Small, Starts, Makes, Enters, Orders, Receives, Hands, Leaves, Asks, Settles, Commits, Crashes, Recovers, Copies, Joins, small_step, make_configuration, take_request}
 use Rattle.cg_model.specs.Smalls.{may_make, is_running}
-use Rattle.cg_agree.proofs.GroupKept.{begins-step, orders-conf, receives-conf, leaving-regular}
-use Rattle.cg_agree.proofs.GroupSound.{GroupSound, ConfStep, inside-of, made-is}
-use Rattle.cg_agree.proofs.NextThere.{orders-now, receives-now}
-use Rattle.cg_agree.proofs.OneSteps.{OneStep, turns-step, hands-step, leaves-step, enters-step, commits-step, copies-step, crashes-step, recovers-step, joins-step, may-join, may-enter}
-use Rattle.cg_agree.proofs.ReachSteps.{goes_on-kept, said-there}
-use Rattle.cg_agree.proofs.OrdersWorld.{OrdersAt}
+use Rattle.cg_agree_lemmas.specs.GroupKept.{begins-step, orders-conf, receives-conf, leaving-regular}
+use Rattle.cg_agree_lemmas.specs.GroupSound.{GroupSound, ConfStep, inside-of, made-is}
+use Rattle.cg_agree_lemmas.specs.NextThere.{orders-now, receives-now}
+use Rattle.cg_agree_lemmas.specs.OneSteps.{OneStep, turns-step, hands-step, leaves-step, enters-step, commits-step, copies-step, crashes-step, recovers-step, joins-step, may-join, may-enter}
+use Rattle.cg_agree_lemmas.specs.ReachSteps.{goes_on-kept, said-there}
+use Rattle.cg_agree_lemmas.specs.OrdersWorld.{OrdersAt}
 
 -- what is received outside
 abbrev ReceiptsSame : Chronicle → Chronicle → Type 0

@@ -31,27 +31,27 @@ use Rattle.cg_model.specs.Looks.{greens_of}
 use Rattle.cg_model.specs.FactsReplica.{AreBooked}
 use Rattle.cg_model.specs.Smalls.{smalls_in}
 use Rattle.cg_model.specs.Played.{AlwaysHolds}
-use Rattle.cg_agree.proofs.FrontFacts.{Front-of_append, split_by_Front}
+use Rattle.cg_agree_lemmas.specs.FrontFacts.{Front-of_append, split_by_Front}
 use Rattle.cg_commit.specs.Holds.{run_on, cut_behind, Rising}
-use Rattle.cg_agree.proofs.BookGrows.{same-self}
+use Rattle.cg_agree_lemmas.specs.BookGrows.{same-self}
 use Rattle.cg_agree.proofs.ShownActions.{each-action, actions-shown}
 use Rattle.cg_agree.proofs.FoldHeld.{IsInOrder, in-order}
 use Rattle.cg_commit.specs.CutRaiseLaws.{rising-behind}
 use Rattle.cg_agree.proofs.CreatorNumbered.{order-runs}
-use Rattle.cg_agree.proofs.TurnWorlds.{life_at}
-use Rattle.cg_agree.proofs.TurnReplies.{db_behind, replies_in}
-use Rattle.cg_agree.proofs.RepliesPlaced.{IsIn, plain, times, times-both, reply_ids, ids_in}
-use Rattle.cg_agree.proofs.DiskEnds.{end-cases}
+use Rattle.cg_agree_lemmas.specs.TurnWorlds.{life_at}
+use Rattle.cg_agree_lemmas.specs.TurnReplies.{db_behind, replies_in}
+use Rattle.cg_agree_lemmas.specs.RepliesPlaced.{IsIn, plain, times, times-both, reply_ids, ids_in}
+use Rattle.cg_agree_lemmas.specs.DiskEnds.{end-cases}
 use Rattle.cg_agree.proofs.RunSteps.{world_of, chronicle_of, IsStepAt, StandsFor, stands-for}
-use Rattle.cg_agree.proofs.OwedNames.{own_name, is_behind}
-use Rattle.cg_agree.proofs.StepSays.{SaysSo}
-use Rattle.cg_agree.proofs.EventSays.{made_by, replies_by}
+use Rattle.cg_agree_lemmas.specs.OwedNames.{own_name, is_behind}
+use Rattle.cg_agree_lemmas.specs.StepSays.{SaysSo}
+use Rattle.cg_agree_lemmas.specs.EventSays.{made_by, replies_by}
 use Rattle.cg_agree.proofs.EventMeets.{SaidOnly, KeptIn, TurnsIn, Meets, Stays, Turns, Falls, Wakes, Begins}
 use Rattle.cg_agree.proofs.EventRuns.{event-runs}
 use Rattle.cg_agree.proofs.GreensBehind.{greens-through}
-use Rattle.cg_agree.proofs.LivesSince.{lives-next}
+use Rattle.cg_agree_lemmas.specs.LivesSince.{lives-next}
 use Rattle.cg_agree.proofs.OwedRun.{LivesAt, OwedAt, step-shows}
-use Rattle.cg_agree.proofs.NamesTimes.{named-times, times-named, times-passing, times-failing, times-once, in-times, times-contains, contains-in, placed-within, within-placed}
+use Rattle.cg_agree_lemmas.specs.NamesTimes.{named-times, times-named, times-passing, times-failing, times-once, in-times, times-contains, contains-in, placed-within, within-placed}
 use Rattle.cg_agree.proofs.OwedKept.{whitened-created, no-more, meets, runs-now, created-now, was, says, turned-lives, owed-next, owed-run}
 use Rattle.cg_commit.specs.RunMarkLaws.{run-names}
 

@@ -18,9 +18,9 @@ use Rattle.cg_model.specs.Shown.{ordered_actions, position_of}
 use Rattle.cg_model.specs.FactsReplica.{IsModeData}
 use Rattle.cg_model.specs.Agreement.{ComesAfter, through}
 use Rattle.cg_model.specs.Played.{AlwaysHolds}
-use Rattle.cg_agree.proofs.MadeAlone.{takes-part, is-running}
+use Rattle.cg_agree_lemmas.specs.MadeAlone.{takes-part, is-running}
 use Rattle.cg_agree.proofs.MadeTold.{each-contains}
-use Rattle.cg_agree.proofs.HappensShown.{shown_by, step-shows, OfShown, each-shown}
+use Rattle.cg_agree_lemmas.specs.HappensShown.{shown_by, step-shows, OfShown, each-shown}
 use Rattle.cg_agree.proofs.RunSteps.{world_of, chronicle_of, IsStepAt, step-of, StandsFor, stands-for}
 use Rattle.cg_agree.proofs.FoldHeld.{own-fold}
 

@@ -29,13 +29,13 @@ use Rattle.cg_model.specs.FactsGreens.{IsOnLine, IsHandedGreen}
 use Rattle.cg_model.specs.Facts.{Invariant}
 use Rattle.cg_model.specs.Small.{Small, small_step}
 use Rattle.cg_model.specs.Smalls.{may_make}
-use Rattle.cg_agree.proofs.CoresKept.{held-known}
+use Rattle.cg_agree_lemmas.specs.CoresKept.{held-known}
 use Rattle.cg_agree.proofs.DeadKept.{said-attempt}
-use Rattle.cg_agree.proofs.HandMarks.{one_of, counted-next}
-use Rattle.cg_agree.proofs.Reach.{take-front}
-use Rattle.cg_agree.proofs.ReachSteps.{goes_on-kept}
-use Rattle.cg_agree.proofs.ReachWorld.{level-kept, when-is}
-use Rattle.cg_agree.proofs.SameAttempt.{same-installation}
+use Rattle.cg_agree_lemmas.specs.HandMarks.{one_of, counted-next}
+use Rattle.cg_agree_lemmas.specs.Reach.{take-front}
+use Rattle.cg_agree_lemmas.specs.ReachSteps.{goes_on-kept}
+use Rattle.cg_agree_lemmas.specs.ReachWorld.{level-kept, when-is}
+use Rattle.cg_agree_lemmas.specs.SameAttempt.{same-installation}
 
 abbrev pub HasGreenLine : Chronicle → ℕ → Attempt → Type 0
 HasGreenLine c p a = greens_of c p ≡ installation a ++ acts_in (take (delivered_to c.world.group p) (ordered_in c a.conf))

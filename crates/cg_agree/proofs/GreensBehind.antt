@@ -19,10 +19,10 @@ use Rattle.cg_model.specs.Looks.{past_of, greens_of}
 use Rattle.cg_model.specs.Small.{Small, Starts, Makes, Enters, Orders, Receives, Hands, Leaves, Asks, Settles, Commits, Crashes, Recovers, Copies, Joins, newly_green, with_greens, after_turn, turning, turning_as, take_newest, take_next, take_parting, take_request, newest_conf, coming, handed_next, leaving, small_step}
 use Rattle.cg_model.specs.Noting.{played}
 use Rattle.cg_model.specs.Played.{IsSame}
-use Rattle.cg_agree.proofs.ChronicleFacts.{seat_of-set, past_of-turn}
-use Rattle.cg_agree.proofs.SameSmalls.{played-same}
-use Rattle.cg_agree.proofs.SmallWorlds.{played_in, played-world}
-use Rattle.cg_agree.proofs.GreenMembers.{FollowsGreens, follows-first, follows-same, takes-follow, creates-same}
+use Rattle.cg_agree_lemmas.specs.ChronicleFacts.{seat_of-set, past_of-turn}
+use Rattle.cg_agree_lemmas.specs.SameSmalls.{played-same}
+use Rattle.cg_agree_lemmas.specs.SmallWorlds.{played_in, played-world}
+use Rattle.cg_agree_lemmas.specs.GreenMembers.{FollowsGreens, follows-first, follows-same, takes-follow, creates-same}
 use Rattle.cg_agree.proofs.TurnAlong.{IsPartOf, Keeps, GreensKeep, RunsThrough}
 
 -- a part of a turn makes further actions green

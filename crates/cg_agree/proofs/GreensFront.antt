@@ -18,11 +18,11 @@ use Rattle.cg_model.specs.Facts.{Invariant}
 use Rattle.cg_model.specs.Played.{AtRest}
 use Rattle.cg_model.specs.Small.{Small, Starts, Makes, Enters, Orders, Receives, Hands, Leaves, Asks, Settles, Commits, Crashes, Recovers, Copies, Joins, small_step, start, changed_past, written, struck, new_past, turning, turning_as, newly_green, after_turn, coming, handed_next, leaving, take_newest, take_next, take_parting, take_request, commit_as, crash_as, recover_as, copy_as, join_with}
 use Rattle.cg_model.specs.Smalls.{may_make, is_set}
-use Rattle.cg_agree.proofs.FrontFacts.{Front-refl, Front-append}
-use Rattle.cg_agree.proofs.ChronicleFacts.{greens_of-other, past-begun}
-use Rattle.cg_agree.proofs.CoresKept.{seat-of, greens-turn, past-here, past-there}
+use Rattle.cg_agree_lemmas.specs.FrontFacts.{Front-refl, Front-append}
+use Rattle.cg_agree_lemmas.specs.ChronicleFacts.{greens_of-other, past-begun}
+use Rattle.cg_agree_lemmas.specs.CoresKept.{seat-of, greens-turn, past-here, past-there}
 use Rattle.cg_agree.proofs.BegunKept.{nothing-before}
-use Rattle.cg_agree.proofs.OneSteps.{may-join}
+use Rattle.cg_agree_lemmas.specs.OneSteps.{may-join}
 
 abbrev pub GreensGoOn : Chronicle → Chronicle → Type 0
 GreensGoOn c d = (p : ℕ) → Front (greens_of c p) (greens_of d p)

@@ -24,22 +24,22 @@ use Rattle.cg_model.specs.Small.{Small, Starts, Makes, Enters, Orders, Receives,
 use Rattle.cg_model.specs.Smalls.{may_make, is_set}
 use Rattle.cg_agree.proofs.AttemptSteps.{Installing, leaves-installing, act-shows}
 use Rattle.cg_agree.proofs.BegunKept.{nothing-before}
-use Rattle.cg_agree.proofs.ChronicleFacts.{greens_of-other, past-begun}
-use Rattle.cg_agree.proofs.CoresKept.{greens-turn}
-use Rattle.cg_agree.proofs.EntryGreens.{entry-greens, nothing-new}
+use Rattle.cg_agree_lemmas.specs.ChronicleFacts.{greens_of-other, past-begun}
+use Rattle.cg_agree_lemmas.specs.CoresKept.{greens-turn}
+use Rattle.cg_agree_lemmas.specs.EntryGreens.{entry-greens, nothing-new}
 use Rattle.cg_agree.proofs.ExchangeSmalls.{replica-behind}
-use Rattle.cg_agree.proofs.GreenMembers.{creates-same}
+use Rattle.cg_agree_lemmas.specs.GreenMembers.{creates-same}
 use Rattle.cg_agree.proofs.GreensFront.{commit-same, crash-same}
-use Rattle.cg_agree.proofs.GroupKept.{leaving-regular}
-use Rattle.cg_agree.proofs.HandsKept.{regular-up, Sits, seated}
-use Rattle.cg_agree.proofs.HeldAll.{installed_by}
-use Rattle.cg_agree.proofs.HeldMarks.{IsOneself}
-use Rattle.cg_agree.proofs.OneSteps.{may-join}
-use Rattle.cg_agree.proofs.PartedGreens.{PartedGreens, NoneGreen, Waiting, AllGreen, parting-greens}
-use Rattle.cg_agree.proofs.PartingActs.{IsActAt, PartedBy, parting-by}
-use Rattle.cg_agree.proofs.RecordKept.{enters-between, turn-is}
+use Rattle.cg_agree_lemmas.specs.GroupKept.{leaving-regular}
+use Rattle.cg_agree_lemmas.specs.HandsKept.{regular-up, Sits, seated}
+use Rattle.cg_agree_lemmas.specs.HeldAll.{installed_by}
+use Rattle.cg_agree_lemmas.specs.HeldMarks.{IsOneself}
+use Rattle.cg_agree_lemmas.specs.OneSteps.{may-join}
+use Rattle.cg_agree_lemmas.specs.PartedGreens.{PartedGreens, NoneGreen, Waiting, AllGreen, parting-greens}
+use Rattle.cg_agree_lemmas.specs.PartingActs.{IsActAt, PartedBy, parting-by}
+use Rattle.cg_agree_lemmas.specs.RecordKept.{enters-between, turn-is}
 use Rattle.cg_agree.proofs.TellersStill.{turn-same}
-use Rattle.cg_agree.proofs.TurnKinds.{HasInstalled}
+use Rattle.cg_agree_lemmas.specs.TurnKinds.{HasInstalled}
 
 -- a replica has installed its attempt as it parted
 pub record InstalledLate (c d : Chronicle) (q : ℕ) : Type 0 where

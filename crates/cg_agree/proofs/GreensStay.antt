@@ -33,7 +33,7 @@ use Rattle.cg_construct.specs.Construct.{attempt_set, is_announced, construct_wi
 use Rattle.cg_construct.specs.No.{no_record, no_with}
 use Rattle.cg_step.specs.Step.{Deliveries, replica_step, on_message, on_transitional, on_regular, take}
 use Rattle.cg_model.specs.FactsReplica.{is_primary}
-use Rattle.cg_agree.proofs.GreenMembers.{SameMembers, redden-same, own-same, creates-same}
+use Rattle.cg_agree_lemmas.specs.GreenMembers.{SameMembers, redden-same, own-same, creates-same}
 use Rattle.cg_agree.proofs.ItemsReached.{IsItemWithin}
 
 abbrev pub count : Turn → ℕ

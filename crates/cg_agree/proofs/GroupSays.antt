@@ -5,8 +5,8 @@ use Rattle.std.proofs.Common.{◌≡◌, ◌∷◌, List, None, Option, Some, fo
 use Rattle.std.proofs.lemmas.Bool.{cond_both}
 use Rattle.std.specs.Option.{option_map_or}
 use Rattle.std.specs.Prelude.{◌==◌}
-use Rattle.cg_agree.proofs.GroupChanges.{configurations-down, configurations-sent}
-use Rattle.cg_agree.proofs.GroupSound.{made-is}
+use Rattle.cg_agree_lemmas.specs.GroupChanges.{configurations-down, configurations-sent}
+use Rattle.cg_agree_lemmas.specs.GroupSound.{made-is}
 use Rattle.cg_model.specs.Small.{make_configuration}
 use Rattle.cg_base.specs.Lists.{above_up_to, at_place}
 use Rattle.cg_group.specs.EachLaws.{Each, Each-append}

@@ -23,18 +23,18 @@ use Rattle.cg_model.specs.Facts.{Invariant}
 use Rattle.cg_model.specs.Played.{AtRest}
 use Rattle.cg_model.specs.Small.{Small, small_step}
 use Rattle.cg_model.specs.Smalls.{may_make}
-use Rattle.cg_agree.proofs.AttemptsGrow.{attempts-grow}
+use Rattle.cg_agree_lemmas.specs.AttemptsGrow.{attempts-grow}
 use Rattle.cg_agree.proofs.CopiesBooked.{joiners-booked}
 use Rattle.cg_agree.proofs.CoresMove.{CoreMove, Was, Begins, cores-move}
-use Rattle.cg_agree.proofs.FrontFacts.{Front-append, split_by_Front}
+use Rattle.cg_agree_lemmas.specs.FrontFacts.{Front-append, split_by_Front}
 use Rattle.cg_agree.proofs.GreensFront.{greens-go_on}
 use Rattle.cg_agree.proofs.MadeOnceKept.{created-grows}
 use Rattle.cg_agree.proofs.MoreThere.{begun-kept}
-use Rattle.cg_agree.proofs.ReachFacts.{all-from}
-use Rattle.cg_agree.proofs.ReachSteps.{goes_on-kept}
-use Rattle.cg_agree.proofs.ReachWorld.{levels-kept}
-use Rattle.cg_agree.proofs.TalkCommute.{legal-append}
-use Rattle.cg_agree.proofs.TalkEarly.{not_full}
+use Rattle.cg_agree_lemmas.specs.ReachFacts.{all-from}
+use Rattle.cg_agree_lemmas.specs.ReachSteps.{goes_on-kept}
+use Rattle.cg_agree_lemmas.specs.ReachWorld.{levels-kept}
+use Rattle.cg_agree_lemmas.specs.TalkCommute.{legal-append}
+use Rattle.cg_agree_lemmas.specs.TalkEarly.{not_full}
 use Rattle.cg_agree.proofs.TalkFactsKept.{talk_legal-kept}
 use Rattle.cg_agree.proofs.ToldStays.{told-stays}
 

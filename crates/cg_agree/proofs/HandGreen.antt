@@ -29,10 +29,10 @@ use Rattle.cg_model.specs.Levels.{line_at, count_in, reached_in, reached_at}
 use Rattle.cg_model.specs.FactsAttempts.{LevelsStand}
 use Rattle.cg_model.specs.FactsGreens.{InstalledCount, Spine, IsOnLine, IsHandedGreen}
 use Rattle.cg_model.specs.Small.{Hands, small_step, after_turn, newly_green, with_greens, attempts_behind, levels_behind, opened_by, is_entry, is_installation, entering, installing, handed_next, take_next, turning_as}
-use Rattle.cg_agree.proofs.ChronicleFacts.{seat_of-set, past_of-turn, greens_of-own, greens_of-other}
-use Rattle.cg_agree.proofs.GroupTurn.{Moved, moved-handed, moved-sent, regular-moved}
-use Rattle.cg_agree.proofs.HandNext.{take-next}
-use Rattle.cg_agree.proofs.Reach.{greatest-bounds, greatest-grows}
+use Rattle.cg_agree_lemmas.specs.ChronicleFacts.{seat_of-set, past_of-turn, greens_of-own, greens_of-other}
+use Rattle.cg_agree_lemmas.specs.GroupTurn.{Moved, moved-handed, moved-sent, regular-moved}
+use Rattle.cg_agree_lemmas.specs.HandNext.{take-next}
+use Rattle.cg_agree_lemmas.specs.Reach.{greatest-bounds, greatest-grows}
 use Rattle.cg_agree.proofs.OneLine.{IsOnTop, level-on_top, handed-front}
 
 -- ---- the turn

@@ -29,21 +29,21 @@ use Rattle.cg_model.specs.Looks.{greens_of, attempt_of, members_in, ordered_in, 
 use Rattle.cg_model.specs.Talk.{Talk, no_talk, talk_of, hears, hears_from, is_full, is_through, is_ended, is_announced as all_announced, may_say, may_go_on, is_legal, act_in, known_up_to, state_in}
 use Rattle.cg_model.specs.FactsReplica.{HasModeData, IsInAttempt, IsCore}
 use Rattle.cg_model.specs.FactsTalk.{whole_talk, handed_talk, of_creator, count_behind, AreOnTheWay, AreNumbered, AreNumberedAt, ActsNumbered, TalkFacts}
-use Rattle.cg_agree.proofs.ActsOrdered.{heard-ended}
-use Rattle.cg_agree.proofs.ActsSaid.{handed-parts, handed-heard, handed-ended}
-use Rattle.cg_agree.proofs.ActsWay.{later_acts, said-split, way-later, row-at, created-count, acts-split, drop-behind}
-use Rattle.cg_agree.proofs.DeliveriesSay.{silent-on_message}
-use Rattle.cg_agree.proofs.HandMarks.{one_of, raised-next, counted-next, red-taken, green-taken, made-so, after-own, after-other, own-install}
-use Rattle.cg_agree.proofs.HandSays.{remains-unless_gone}
-use Rattle.cg_agree.proofs.HandsTalk.{SaidFacts, HandsAt, now, behind, fits, turns, state-is, kept, next-talk, regular-in}
-use Rattle.cg_agree.proofs.HeldMarks.{IsOneself, rising-green, rising-red}
-use Rattle.cg_agree.proofs.HeldMessages.{installed-all}
-use Rattle.cg_agree.proofs.NumbersSame.{AreInRow}
-use Rattle.cg_agree.proofs.StatesSaid.{never, left-none, announcing, creating-ended, count-quiet}
-use Rattle.cg_agree.proofs.TalkEarly.{IsEarly, early-legal, early-none, all-member}
-use Rattle.cg_agree.proofs.TalkKept.{said-own, handed-own}
-use Rattle.cg_agree.proofs.TalkSame.{said-of}
-use Rattle.cg_agree.proofs.TurnActs.{acts-turn}
+use Rattle.cg_agree_lemmas.specs.ActsOrdered.{heard-ended}
+use Rattle.cg_agree_lemmas.specs.ActsSaid.{handed-parts, handed-heard, handed-ended}
+use Rattle.cg_agree_lemmas.specs.ActsWay.{later_acts, said-split, way-later, row-at, created-count, acts-split, drop-behind}
+use Rattle.cg_agree_lemmas.specs.DeliveriesSay.{silent-on_message}
+use Rattle.cg_agree_lemmas.specs.HandMarks.{one_of, raised-next, counted-next, red-taken, green-taken, made-so, after-own, after-other, own-install}
+use Rattle.cg_agree_lemmas.specs.HandSays.{remains-unless_gone}
+use Rattle.cg_agree_lemmas.specs.HandsTalk.{SaidFacts, HandsAt, now, behind, fits, turns, state-is, kept, next-talk, regular-in}
+use Rattle.cg_agree_lemmas.specs.HeldMarks.{IsOneself, rising-green, rising-red}
+use Rattle.cg_agree_lemmas.specs.HeldMessages.{installed-all}
+use Rattle.cg_agree_lemmas.specs.NumbersSame.{AreInRow}
+use Rattle.cg_agree_lemmas.specs.StatesSaid.{never, left-none, announcing, creating-ended, count-quiet}
+use Rattle.cg_agree_lemmas.specs.TalkEarly.{IsEarly, early-legal, early-none, all-member}
+use Rattle.cg_agree_lemmas.specs.TalkKept.{said-own, handed-own}
+use Rattle.cg_agree_lemmas.specs.TalkSame.{said-of}
+use Rattle.cg_agree_lemmas.specs.TurnActs.{acts-turn}
 use Rattle.cg_commit.specs.Holds.{cut_behind}
 
 -- who comes to the end of the plan by a message knows all that some member knew, and waits for nothing

@@ -42,19 +42,19 @@ use Rattle.cg_model.specs.Total.{fits_red, fits_green, fits_item, CanInstall, ke
 use Rattle.cg_agree.proofs.ActsNext.{numbered-next}
 use Rattle.cg_agree.proofs.AnswersOwn.{few-summary, due-green, due-red, still, answer-there}
 use Rattle.cg_agree.proofs.ExchangeThere.{may, id, state, oneself, up, in_exchange, in-states, in-actions, heard_before, heard_behind, best, near, unmoved-behind, before-item, behind-green, behind-red, take-here, next-due}
-use Rattle.cg_agree.proofs.HandSays.{has_part}
-use Rattle.cg_agree.proofs.HandState.{kept-mark_red}
-use Rattle.cg_agree.proofs.HandTalk.{id-mark_green_at, id-take_item}
-use Rattle.cg_agree.proofs.HandsKept.{attempt-named}
-use Rattle.cg_agree.proofs.HandsNow.{said-of}
-use Rattle.cg_agree.proofs.HandsTalk.{HasAnswer}
-use Rattle.cg_agree.proofs.MarksFit.{can-install, green-fits, red-fits}
-use Rattle.cg_agree.proofs.MessageThere.{message-made}
-use Rattle.cg_agree.proofs.PlanItems.{ItemAt, plan-item, behind-next}
-use Rattle.cg_agree.proofs.PlanProgress.{greens_there, length-taken}
+use Rattle.cg_agree_lemmas.specs.HandSays.{has_part}
+use Rattle.cg_agree_lemmas.specs.HandState.{kept-mark_red}
+use Rattle.cg_agree_lemmas.specs.HandTalk.{id-mark_green_at, id-take_item}
+use Rattle.cg_agree_lemmas.specs.HandsKept.{attempt-named}
+use Rattle.cg_agree_lemmas.specs.HandsNow.{said-of}
+use Rattle.cg_agree_lemmas.specs.HandsTalk.{HasAnswer}
+use Rattle.cg_agree_lemmas.specs.MarksFit.{can-install, green-fits, red-fits}
+use Rattle.cg_agree_lemmas.specs.MessageThere.{message-made}
+use Rattle.cg_agree_lemmas.specs.PlanItems.{ItemAt, plan-item, behind-next}
+use Rattle.cg_agree_lemmas.specs.PlanProgress.{greens_there, length-taken}
 use Rattle.cg_agree.proofs.PlanThere.{ended-there}
-use Rattle.cg_agree.proofs.TalkEarly.{all-member, due_parts}
-use Rattle.cg_agree.proofs.TurnGreens.{made-count}
+use Rattle.cg_agree_lemmas.specs.TalkEarly.{all-member, due_parts}
+use Rattle.cg_agree_lemmas.specs.TurnGreens.{made-count}
 
 done-all : (heard : List Summary) (k : ℕ) → is_done (progress heard k) ≡ true → length (items_of_plan (plan_of heard)) ≤ k
 unfolding is_done

@@ -30,9 +30,9 @@ use Rattle.cg_agree.proofs.CountsRegular.{regular-counted}
 use Rattle.cg_agree.proofs.DeadKept.{said-attempt}
 use Rattle.cg_agree.proofs.GreensFront.{crash-same}
 use Rattle.cg_agree.proofs.InstalledIndexKept.{same-installed, installed_index-kept}
-use Rattle.cg_agree.proofs.OneSteps.{crashes-step}
+use Rattle.cg_agree_lemmas.specs.OneSteps.{crashes-step}
 use Rattle.cg_agree.proofs.OutStays.{said-number}
-use Rattle.cg_agree.proofs.ReachFacts.{all-at}
+use Rattle.cg_agree_lemmas.specs.ReachFacts.{all-at}
 use Rattle.cg_agree.proofs.RegularEnds.{RegularEnds, Still, Parting, Crashing, regular-ends, regular-inside}
 
 when-so : (b : Bool) (A : Type 0) → (b ≡ true → A) → When b A

@@ -18,9 +18,9 @@ use Rattle.cg_model.specs.Facts.{Invariant}
 use Rattle.cg_model.specs.Played.{AtRest}
 use Rattle.cg_model.specs.Small.{Small, small_step, with_leaver}
 use Rattle.cg_model.specs.Smalls.{may_make}
-use Rattle.cg_agree.proofs.ReachFacts.{all-at}
-use Rattle.cg_agree.proofs.Keyed.{find-append, find-none}
-use Rattle.cg_agree.proofs.AttemptsGrow.{grown-leaver}
+use Rattle.cg_agree_lemmas.specs.ReachFacts.{all-at}
+use Rattle.cg_agree_lemmas.specs.Keyed.{find-append, find-none}
+use Rattle.cg_agree_lemmas.specs.AttemptsGrow.{grown-leaver}
 use Rattle.cg_agree.proofs.AttemptSteps.{attempt-step}
 use Rattle.cg_agree.proofs.DeadKept.{set-members}
 use Rattle.cg_agree.proofs.AttemptsCame.{Came, Stayed, WasLeft, WasEntered, WasInstalled, WasMade, came}

@@ -30,19 +30,19 @@ use Rattle.cg_model.specs.FactsExchange.{best_told}
 use Rattle.cg_model.specs.FactsAttempts.{IsAttempt, HoldsParts, names_between, red_names}
 use Rattle.cg_model.specs.Facts.{Invariant}
 use Rattle.cg_model.specs.Small.{newly_green}
-use Rattle.cg_agree.proofs.ActsLate.{none-handed}
+use Rattle.cg_agree_lemmas.specs.ActsLate.{none-handed}
 use Rattle.cg_agree.proofs.AttemptSteps.{Installing}
 use Rattle.cg_agree.proofs.AttemptsCame.{ins-conf}
 use Rattle.cg_agree.proofs.ClearedDead.{IsToldIn, each-told}
 use Rattle.cg_agree.proofs.EndReached.{best-of}
-use Rattle.cg_agree.proofs.HandsNow.{whole-through}
-use Rattle.cg_agree.proofs.HeldInstall.{reds_but}
-use Rattle.cg_agree.proofs.HeldMarks.{IsOneself}
-use Rattle.cg_agree.proofs.HeldAll.{valid_names, installed_by}
-use Rattle.cg_agree.proofs.InstallGreens.{HasInstalledAll, newly-installed}
-use Rattle.cg_agree.proofs.PartsNamed.{known-names}
-use Rattle.cg_agree.proofs.ReachWorld.{when-is}
-use Rattle.cg_agree.proofs.StatesSaid.{announcing}
+use Rattle.cg_agree_lemmas.specs.HandsNow.{whole-through}
+use Rattle.cg_agree_lemmas.specs.HeldInstall.{reds_but}
+use Rattle.cg_agree_lemmas.specs.HeldMarks.{IsOneself}
+use Rattle.cg_agree_lemmas.specs.HeldAll.{valid_names, installed_by}
+use Rattle.cg_agree_lemmas.specs.InstallGreens.{HasInstalledAll, newly-installed}
+use Rattle.cg_agree_lemmas.specs.PartsNamed.{known-names}
+use Rattle.cg_agree_lemmas.specs.ReachWorld.{when-is}
+use Rattle.cg_agree_lemmas.specs.StatesSaid.{announcing}
 use Rattle.cg_agree.proofs.ToldBeside.{told-fits}
 use Rattle.cg_commit.specs.Holds.{cut_behind}
 

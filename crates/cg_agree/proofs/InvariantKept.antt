@@ -12,7 +12,7 @@ use Rattle.cg_agree.proofs.FactsKept.{replica-now, exchange-now, attempt-now}
 use Rattle.cg_agree.proofs.InstalledCountKept.{installed_count-kept}
 use Rattle.cg_agree.proofs.LeaverLeft.{leaver-left}
 use Rattle.cg_agree.proofs.LeaverStep.{leaver_covers-from}
-use Rattle.cg_agree.proofs.ListsKept.{lists-kept}
+use Rattle.cg_agree_lemmas.specs.ListsKept.{lists-kept}
 use Rattle.cg_agree.proofs.NetFactsKept.{net-kept}
 use Rattle.cg_agree.proofs.OrderNow.{lists-reach, spine-behind, one_order-behind}
 use Rattle.cg_agree.proofs.PrimaryKept.{primary_greens-kept}

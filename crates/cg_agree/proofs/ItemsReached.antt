@@ -26,7 +26,7 @@ use Rattle.cg_model.specs.Talk.{Talk, no_talk, hears, hears_from, is_full, may_s
 use Rattle.cg_model.specs.FactsTalk.{summaries_of, AreTold, whole_talk}
 use Rattle.cg_model.specs.Played.{StandsBeside}
 use Rattle.cg_agree.proofs.ExchangeThere.{next-due}
-use Rattle.cg_agree.proofs.HandsContent.{IsTurnOf, led, plan-turns}
+use Rattle.cg_agree_lemmas.specs.HandsContent.{IsTurnOf, led, plan-turns}
 
 -- a summary of so many greens, and an item up to so many
 abbrev pub IsSummaryWithin : ℕ → Summary → Type 0

@@ -13,13 +13,13 @@ use Rattle.cg_model.specs.Chronicle.{Chronicle}
 use Rattle.cg_model.specs.Looks.{greens_of, on_disk, snapshot_of, copied_for}
 use Rattle.cg_model.specs.FactsReplica.{IsCore}
 use Rattle.cg_model.specs.Played.{Given, StandsBeside}
-use Rattle.cg_agree.proofs.SameSmalls.{as_given, first-given}
-use Rattle.cg_agree.proofs.HandSays.{find-holds}
-use Rattle.cg_agree.proofs.SoundWorlds.{IsSound, sound-same, sound-of}
-use Rattle.cg_agree.proofs.MadeTransfer.{neither, only-both}
-use Rattle.cg_agree.proofs.BookGrows.{IsNamed, cut_of}
-use Rattle.cg_agree.proofs.BookedCores.{each-booked}
-use Rattle.cg_agree.proofs.BookCounts.{cut-within}
+use Rattle.cg_agree_lemmas.specs.SameSmalls.{as_given, first-given}
+use Rattle.cg_agree_lemmas.specs.HandSays.{find-holds}
+use Rattle.cg_agree_lemmas.specs.SoundWorlds.{IsSound, sound-same, sound-of}
+use Rattle.cg_agree_lemmas.specs.MadeTransfer.{neither, only-both}
+use Rattle.cg_agree_lemmas.specs.BookGrows.{IsNamed, cut_of}
+use Rattle.cg_agree_lemmas.specs.BookedCores.{each-booked}
+use Rattle.cg_agree_lemmas.specs.BookCounts.{cut-within}
 use Rattle.cg_agree.proofs.CopiesBooked.{joiners-booked}
 
 module _ (c : Chronicle) (w : World) (stands : StandsBeside c w) (joiner : ℕ) (none : has_begun w joiner ≡ false) where

@@ -7,19 +7,19 @@ use Rattle.std.specs.Option.{option_map_or}
 use Rattle.std.specs.Prelude.{◌==◌}
 use Rattle.cg_action.specs.declared.action.Action.{Action}
 use Rattle.cg_agree.proofs.ActsNext.{ended-next, may-stand, not-silent, numbered-next, talk-next}
-use Rattle.cg_agree.proofs.ActsSaid.{acts-of}
+use Rattle.cg_agree_lemmas.specs.ActsSaid.{acts-of}
 use Rattle.cg_agree.proofs.AttemptSteps.{Installing, leaves-installing}
-use Rattle.cg_agree.proofs.AttemptsTurn.{installed-attempts}
+use Rattle.cg_agree_lemmas.specs.AttemptsTurn.{installed-attempts}
 use Rattle.cg_agree.proofs.BeginsKept.{installed-same}
-use Rattle.cg_agree.proofs.CoresKept.{greens-turn, held-known}
+use Rattle.cg_agree_lemmas.specs.CoresKept.{greens-turn, held-known}
 use Rattle.cg_agree.proofs.ExchangeSmalls.{replica-behind}
 use Rattle.cg_agree.proofs.FactsKept.{attempt-now}
-use Rattle.cg_agree.proofs.FrontFacts.{Front-refl}
-use Rattle.cg_agree.proofs.GroupKept.{leaving-regular}
-use Rattle.cg_agree.proofs.HandSays.{find-holds}
-use Rattle.cg_agree.proofs.HandsKept.{Sits, seated, some-at}
-use Rattle.cg_agree.proofs.HandsNow.{whole-through}
-use Rattle.cg_agree.proofs.InstallGreens.{HasInstalledAll, in-parting}
+use Rattle.cg_agree_lemmas.specs.FrontFacts.{Front-refl}
+use Rattle.cg_agree_lemmas.specs.GroupKept.{leaving-regular}
+use Rattle.cg_agree_lemmas.specs.HandSays.{find-holds}
+use Rattle.cg_agree_lemmas.specs.HandsKept.{Sits, seated, some-at}
+use Rattle.cg_agree_lemmas.specs.HandsNow.{whole-through}
+use Rattle.cg_agree_lemmas.specs.InstallGreens.{HasInstalledAll, in-parting}
 use Rattle.cg_agree.proofs.InstalledCountKept.{installed_count-kept}
 use Rattle.cg_agree.proofs.InstalledParts.{installs-all, knows-all, none-acts, oneself-before, waits-announced}
 use Rattle.cg_agree.proofs.LateRow.{InRow, Waits, Knows, Marked, row-message}
@@ -27,17 +27,17 @@ use Rattle.cg_agree.proofs.LeaverOutside.{acts_at, covers-outside, acts-split}
 use Rattle.cg_agree.proofs.LeaverReach.{out-received}
 use Rattle.cg_agree.proofs.LeaverStep.{LateCovers, places-may}
 use Rattle.cg_agree.proofs.LevelsKept.{installed-primary, leaves-attempts, start-kept}
-use Rattle.cg_agree.proofs.OneStands.{Stands}
-use Rattle.cg_agree.proofs.OneSteps.{leaves-step}
-use Rattle.cg_agree.proofs.PartingActs.{PartedBy, parting-by}
-use Rattle.cg_agree.proofs.PlacesBegin.{places-begin}
-use Rattle.cg_agree.proofs.ReachFacts.{outside-within}
-use Rattle.cg_agree.proofs.RecordKept.{same-replica, turn-is}
-use Rattle.cg_agree.proofs.StatesSaid.{IsAnnouncing, announcing}
+use Rattle.cg_agree_lemmas.specs.OneStands.{Stands}
+use Rattle.cg_agree_lemmas.specs.OneSteps.{leaves-step}
+use Rattle.cg_agree_lemmas.specs.PartingActs.{PartedBy, parting-by}
+use Rattle.cg_agree_lemmas.specs.PlacesBegin.{places-begin}
+use Rattle.cg_agree_lemmas.specs.ReachFacts.{outside-within}
+use Rattle.cg_agree_lemmas.specs.RecordKept.{same-replica, turn-is}
+use Rattle.cg_agree_lemmas.specs.StatesSaid.{IsAnnouncing, announcing}
 use Rattle.cg_agree.proofs.TransKept.{TransAt}
-use Rattle.cg_agree.proofs.TurnKinds.{HasInstalled}
-use Rattle.cg_agree.proofs.TurnParts.{never-both}
-use Rattle.cg_agree.proofs.YellowGrows.{places-keep}
+use Rattle.cg_agree_lemmas.specs.TurnKinds.{HasInstalled}
+use Rattle.cg_agree_lemmas.specs.TurnParts.{never-both}
+use Rattle.cg_agree_lemmas.specs.YellowGrows.{places-keep}
 use Rattle.cg_model.specs.Chronicle.{Attempt, Chronicle}
 use Rattle.cg_model.specs.Facts.{Invariant}
 use Rattle.cg_model.specs.FactsAttempts.{IsAttempt, LevelsStand}

@@ -5,16 +5,16 @@ use Rattle.std.proofs.lemmas.Bool.{and_from, and_parts, cond-true, cond_both}
 use Rattle.std.proofs.lemmas.List.{map-append}
 use Rattle.std.specs.Prelude.{◌==◌}
 use Rattle.cg_action.specs.declared.action.Action.{Action}
-use Rattle.cg_agree.proofs.ActsOrdered.{heard-ended}
-use Rattle.cg_agree.proofs.HandMarks.{counted-next, made-so, one_of, raised-next}
-use Rattle.cg_agree.proofs.HeldAll.{installed_by}
-use Rattle.cg_agree.proofs.HeldInstall.{IsAllYellow, with_yellow_mark, yellow-oneself, yellow-placed}
-use Rattle.cg_agree.proofs.HeldMarks.{IsOneself, rising-red}
-use Rattle.cg_agree.proofs.HeldMessages.{installed-all, installed-yellow, no-yellow}
+use Rattle.cg_agree_lemmas.specs.ActsOrdered.{heard-ended}
+use Rattle.cg_agree_lemmas.specs.HandMarks.{counted-next, made-so, one_of, raised-next}
+use Rattle.cg_agree_lemmas.specs.HeldAll.{installed_by}
+use Rattle.cg_agree_lemmas.specs.HeldInstall.{IsAllYellow, with_yellow_mark, yellow-oneself, yellow-placed}
+use Rattle.cg_agree_lemmas.specs.HeldMarks.{IsOneself, rising-red}
+use Rattle.cg_agree_lemmas.specs.HeldMessages.{installed-all, installed-yellow, no-yellow}
 use Rattle.cg_commit.specs.RunLaws.{cut_behind-append}
-use Rattle.cg_agree.proofs.StatesSaid.{count-quiet}
-use Rattle.cg_agree.proofs.TurnKinds.{installs-to}
-use Rattle.cg_agree.proofs.TurnValues.{even-mark_yellow}
+use Rattle.cg_agree_lemmas.specs.StatesSaid.{count-quiet}
+use Rattle.cg_agree_lemmas.specs.TurnKinds.{installs-to}
+use Rattle.cg_agree_lemmas.specs.TurnValues.{even-mark_yellow}
 use Rattle.cg_model.specs.FactsReplica.{is_attempting}
 use Rattle.cg_model.specs.FactsTalk.{count_behind, of_creator}
 use Rattle.cg_model.specs.Talk.{Talk, act_in, is_announced as all_announced, hears_from, is_ended, known_up_to, may_go_on, may_say}

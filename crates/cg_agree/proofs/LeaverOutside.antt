@@ -18,9 +18,9 @@ use Rattle.cg_model.specs.Talk.{act_in, acts_in}
 use Rattle.cg_model.specs.Levels.{reach_at}
 use Rattle.cg_model.specs.FactsAttempts.{LevelsStand}
 use Rattle.cg_model.specs.FactsGreens.{InstalledCount, CoversLevel}
-use Rattle.cg_agree.proofs.FrontFacts.{Front-trans, Front-append, Front-behind, Front-takes, Front-map}
+use Rattle.cg_agree_lemmas.specs.FrontFacts.{Front-trans, Front-append, Front-behind, Front-takes, Front-map}
 use Rattle.cg_agree.proofs.LeaverReach.{level-frozen, line_outside, reach-outside}
-use Rattle.cg_agree.proofs.Reach.{acts-front}
+use Rattle.cg_agree_lemmas.specs.Reach.{acts-front}
 
 -- ---- actions at places
 

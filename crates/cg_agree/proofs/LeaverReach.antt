@@ -10,10 +10,10 @@ use Rattle.cg_model.specs.Fronts.{Front}
 use Rattle.cg_model.specs.Looks.{conf_of, members_in, ordered_in, is_regular_in, is_member, received_by_all, is_received_outside, received_outside, top_of, attempt_at, installation}
 use Rattle.cg_model.specs.Talk.{acts_in}
 use Rattle.cg_model.specs.Levels.{reached_in, is_live, bound_in, reach_at, is_frozen, is_frozen_in}
-use Rattle.cg_agree.proofs.FrontFacts.{Front-behind, Front-take}
-use Rattle.cg_agree.proofs.Reach.{passes, acts-front, acts-more, take-front}
-use Rattle.cg_agree.proofs.ReachFacts.{AreCounted, all-at, all-outside, reached-received, line_in}
-use Rattle.cg_agree.proofs.ReachWorld.{level-counted}
+use Rattle.cg_agree_lemmas.specs.FrontFacts.{Front-behind, Front-take}
+use Rattle.cg_agree_lemmas.specs.Reach.{passes, acts-front, acts-more, take-front}
+use Rattle.cg_agree_lemmas.specs.ReachFacts.{AreCounted, all-at, all-outside, reached-received, line_in}
+use Rattle.cg_agree_lemmas.specs.ReachWorld.{level-counted}
 use Rattle.cg_model.specs.FactsAttempts.{LevelsStand}
 use Rattle.cg_model.specs.FactsGreens.{InstalledCount}
 

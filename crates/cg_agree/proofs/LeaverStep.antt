@@ -26,28 +26,28 @@ use Rattle.cg_model.specs.Facts.{Invariant}
 use Rattle.cg_model.specs.Played.{AtRest}
 use Rattle.cg_model.specs.Small.{Small, Starts, Makes, Enters, Orders, Receives, Hands, Leaves, Asks, Settles, Commits, Crashes, Recovers, Copies, Joins, take_parting, leaving, newly_green, small_step}
 use Rattle.cg_model.specs.Smalls.{may_make, ascend_within, hold_received, hold_earlier}
-use Rattle.cg_agree.proofs.CoresKept.{greens-turn, held-known}
+use Rattle.cg_agree_lemmas.specs.CoresKept.{greens-turn, held-known}
 use Rattle.cg_agree.proofs.CountsParting.{prim-parting}
-use Rattle.cg_agree.proofs.EntryGreens.{nothing-new}
+use Rattle.cg_agree_lemmas.specs.EntryGreens.{nothing-new}
 use Rattle.cg_agree.proofs.ExchangeSmalls.{replica-behind}
 use Rattle.cg_agree.proofs.FactsKept.{attempt-now}
 use Rattle.cg_agree.proofs.GreenLine.{regular-state, line-before, conf-before, in-primary}
-use Rattle.cg_agree.proofs.GroupKept.{leaving-regular}
-use Rattle.cg_agree.proofs.HandsKept.{regular-phase, regular-up, seated}
+use Rattle.cg_agree_lemmas.specs.GroupKept.{leaving-regular}
+use Rattle.cg_agree_lemmas.specs.HandsKept.{regular-phase, regular-up, seated}
 use Rattle.cg_agree.proofs.InstalledCountKept.{installed_count-kept}
 use Rattle.cg_agree.proofs.LeaverOutside.{acts_at, covers-outside}
 use Rattle.cg_agree.proofs.LeaverReach.{out-received}
-use Rattle.cg_agree.proofs.OneStands.{Stands}
-use Rattle.cg_agree.proofs.OneSteps.{leaves-step}
-use Rattle.cg_agree.proofs.PartingActs.{PartedBy, parting-by}
-use Rattle.cg_agree.proofs.PlacesBegin.{places-begin}
+use Rattle.cg_agree_lemmas.specs.OneStands.{Stands}
+use Rattle.cg_agree_lemmas.specs.OneSteps.{leaves-step}
+use Rattle.cg_agree_lemmas.specs.PartingActs.{PartedBy, parting-by}
+use Rattle.cg_agree_lemmas.specs.PlacesBegin.{places-begin}
 use Rattle.cg_agree.proofs.ReachedGrows.{top-grows}
-use Rattle.cg_agree.proofs.ReachFacts.{outside-within}
-use Rattle.cg_agree.proofs.ReachWorld.{level-kept}
-use Rattle.cg_agree.proofs.RecordKept.{turn-is}
-use Rattle.cg_agree.proofs.SameAttempt.{same-installation}
+use Rattle.cg_agree_lemmas.specs.ReachFacts.{outside-within}
+use Rattle.cg_agree_lemmas.specs.ReachWorld.{level-kept}
+use Rattle.cg_agree_lemmas.specs.RecordKept.{turn-is}
+use Rattle.cg_agree_lemmas.specs.SameAttempt.{same-installation}
 use Rattle.cg_agree.proofs.TransKept.{TransAt, LeaverCovers}
-use Rattle.cg_agree.proofs.TurnKinds.{HasInstalled}
+use Rattle.cg_agree_lemmas.specs.TurnKinds.{HasInstalled}
 
 -- Behind the parting of a regular member of a primary component, which has received a row of places up to this last one, its yellow names
 -- begin with those of the actions at the places of that row that it hadn't been handed.

@@ -31,17 +31,17 @@ use Rattle.cg_model.specs.FactsReplica.{HasModeData, IsModeData}
 use Rattle.cg_model.specs.FactsTalk.{handed_talk, TalkLegal, IsTransitional, IsStateIn, TalkFacts}
 use Rattle.cg_model.specs.Small.{Leaves, small_step, turning_as, leaving, take_parting}
 use Rattle.cg_model.specs.Smalls.{may_make, implies, ascend_within, hold_received, hold_earlier}
-use Rattle.cg_agree.proofs.CreatesTalk.{grows-all}
-use Rattle.cg_agree.proofs.GroupKept.{leaving-regular}
-use Rattle.cg_agree.proofs.HandNext.{legal-at}
-use Rattle.cg_agree.proofs.HandsKept.{regular-phase, seated, attempt-named}
-use Rattle.cg_agree.proofs.OneSteps.{regular-is_up}
-use Rattle.cg_agree.proofs.PartingNo.{is_past, Waits, IsAnnouncement, alone-places, left-places, past-places, places-wait, places-heard}
+use Rattle.cg_agree_lemmas.specs.CreatesTalk.{grows-all}
+use Rattle.cg_agree_lemmas.specs.GroupKept.{leaving-regular}
+use Rattle.cg_agree_lemmas.specs.HandNext.{legal-at}
+use Rattle.cg_agree_lemmas.specs.HandsKept.{regular-phase, seated, attempt-named}
+use Rattle.cg_agree_lemmas.specs.OneSteps.{regular-is_up}
+use Rattle.cg_agree_lemmas.specs.PartingNo.{is_past, Waits, IsAnnouncement, alone-places, left-places, past-places, places-wait, places-heard}
 use Rattle.cg_agree.proofs.TalkAlone.{replica-set}
-use Rattle.cg_agree.proofs.TalkApart.{transitional-now}
-use Rattle.cg_agree.proofs.TalkEarly.{all-member}
+use Rattle.cg_agree_lemmas.specs.TalkApart.{transitional-now}
+use Rattle.cg_agree_lemmas.specs.TalkEarly.{all-member}
 use Rattle.cg_agree.proofs.TalkQuiet.{parted, leaves-apart, talk-leaves}
-use Rattle.cg_agree.proofs.TalkSame.{said-of}
+use Rattle.cg_agree_lemmas.specs.TalkSame.{said-of}
 
 -- ---- where an announcement stands
 

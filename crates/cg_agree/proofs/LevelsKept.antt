@@ -30,19 +30,19 @@ use Rattle.cg_model.specs.FactsAttempts.{LevelsStand, HoldsParts}
 use Rattle.cg_model.specs.Facts.{Invariant}
 use Rattle.cg_model.specs.Small.{Small, Starts, Makes, Enters, Orders, Receives, Hands, Leaves, Asks, Settles, Commits, Crashes, Recovers, Copies, Joins, turning_as, turning, newly_green, with_installer, installing, attempts_behind, coming, take_newest, handed_next, take_next, leaving, take_parting, take_request, commit_as, crash_as, recover_as, copy_as, join_with, small_step}
 use Rattle.cg_model.specs.Smalls.{may_make, is_set}
-use Rattle.cg_agree.proofs.SameAttempt.{SameAttempt}
-use Rattle.cg_agree.proofs.ReachWorld.{Opened, opened-attempt, level-kept, levels-kept, when-is}
-use Rattle.cg_agree.proofs.Knowledge.{known-of, some-sender}
-use Rattle.cg_agree.proofs.CoresKept.{IsClosed, cores-weaker, held-known}
-use Rattle.cg_agree.proofs.CoresSmall.{StepKeeps, ready-of, cores-kept}
-use Rattle.cg_agree.proofs.TurnValues.{even-own_to_red}
-use Rattle.cg_agree.proofs.TurnKinds.{IsQuiet, HasInstalled, Turned, Quiet, Installs, Decides, Attempts}
-use Rattle.cg_agree.proofs.TurnParts.{settle-quiet, request-quiet, newest-come}
-use Rattle.cg_agree.proofs.AttemptsTurn.{at_conf, installed-attempts, installing-now, installer-has}
-use Rattle.cg_agree.proofs.PartingActs.{PartedBy, parting-by}
-use Rattle.cg_agree.proofs.HandsNow.{HandsNow, hands-now, new, hand-turned, running-now}
-use Rattle.cg_agree.proofs.PlanEnd.{AtPlanEnd, is_behind, plan-end, told-each}
-use Rattle.cg_agree.proofs.RecordKept.{turn-is, same-replica, enters-between, hands-attempts}
+use Rattle.cg_agree_lemmas.specs.SameAttempt.{SameAttempt}
+use Rattle.cg_agree_lemmas.specs.ReachWorld.{Opened, opened-attempt, level-kept, levels-kept, when-is}
+use Rattle.cg_agree_lemmas.specs.Knowledge.{known-of, some-sender}
+use Rattle.cg_agree_lemmas.specs.CoresKept.{IsClosed, cores-weaker, held-known}
+use Rattle.cg_agree_lemmas.specs.CoresSmall.{StepKeeps, ready-of, cores-kept}
+use Rattle.cg_agree_lemmas.specs.TurnValues.{even-own_to_red}
+use Rattle.cg_agree_lemmas.specs.TurnKinds.{IsQuiet, HasInstalled, Turned, Quiet, Installs, Decides, Attempts}
+use Rattle.cg_agree_lemmas.specs.TurnParts.{settle-quiet, request-quiet, newest-come}
+use Rattle.cg_agree_lemmas.specs.AttemptsTurn.{at_conf, installed-attempts, installing-now, installer-has}
+use Rattle.cg_agree_lemmas.specs.PartingActs.{PartedBy, parting-by}
+use Rattle.cg_agree_lemmas.specs.HandsNow.{HandsNow, hands-now, new, hand-turned, running-now}
+use Rattle.cg_agree_lemmas.specs.PlanEnd.{AtPlanEnd, is_behind, plan-end, told-each}
+use Rattle.cg_agree_lemmas.specs.RecordKept.{turn-is, same-replica, enters-between, hands-attempts}
 use Rattle.cg_agree.proofs.AttemptSteps.{Installing, hands-installing, leaves-installing}
 use Rattle.cg_agree.proofs.BegunKept.{nothing-before}
 use Rattle.cg_agree.proofs.AttemptsCame.{ins-conf}

@@ -15,12 +15,12 @@ use Rattle.cg_model.specs.FactsAttempts.{IsAttempt, InstalledAnnounced, installe
 use Rattle.cg_model.specs.Facts.{Invariant}
 use Rattle.cg_model.specs.Small.{Small, small_step, opened_by, with_installer}
 use Rattle.cg_model.specs.Smalls.{may_make}
-use Rattle.cg_agree.proofs.ReachWorld.{levels-kept, when-is}
-use Rattle.cg_agree.proofs.ReachSteps.{goes_on-kept}
+use Rattle.cg_agree_lemmas.specs.ReachWorld.{levels-kept, when-is}
+use Rattle.cg_agree_lemmas.specs.ReachSteps.{goes_on-kept}
 use Rattle.cg_agree.proofs.ReceivedKept.{received-kept}
-use Rattle.cg_agree.proofs.Announced.{announced-front}
-use Rattle.cg_agree.proofs.AttemptsGrow.{Grown, grown-leaver, attempts-grow}
-use Rattle.cg_agree.proofs.AttemptsTurn.{at_conf, installer-has, installing-now}
+use Rattle.cg_agree_lemmas.specs.Announced.{announced-front}
+use Rattle.cg_agree_lemmas.specs.AttemptsGrow.{Grown, grown-leaver, attempts-grow}
+use Rattle.cg_agree_lemmas.specs.AttemptsTurn.{at_conf, installer-has, installing-now}
 use Rattle.cg_agree.proofs.AttemptSteps.{group-of, WhyInstalled, AllAnnounced, Before, Installing, AttemptStep, Same, Goes, Begun, Installed, attempt-step}
 use Rattle.cg_agree.proofs.DeadKept.{said-attempt, installing-alive}
 use Rattle.cg_agree.proofs.AttemptsCame.{Came, Stayed, WasLeft, WasEntered, WasInstalled, WasMade, came, ins-conf, dead-none, same-left}

@@ -34,24 +34,24 @@ use Rattle.cg_model.specs.Facts.{Invariant}
 use Rattle.cg_model.specs.Played.{AtRest}
 use Rattle.cg_model.specs.Small.{Small, Starts, Makes, Enters, Orders, Receives, Hands, Leaves, Asks, Settles, Commits, Crashes, Recovers, Copies, Joins, small_step, start, turning, turning_as, coming, handed_next, leaving, take_all, take_newest, take_next, take_parting, take_request, newest_conf, commit_as, crash_as, recover_as, copy_as, join_with}
 use Rattle.cg_model.specs.Smalls.{may_make, is_set}
-use Rattle.cg_agree.proofs.CoresKept.{seat-of}
-use Rattle.cg_agree.proofs.CoresSmall.{start-cores}
+use Rattle.cg_agree_lemmas.specs.CoresKept.{seat-of}
+use Rattle.cg_agree_lemmas.specs.CoresSmall.{start-cores}
 use Rattle.cg_agree.proofs.BegunKept.{nothing-before}
 use Rattle.cg_agree.proofs.MoreThere.{begun-all, begun-kept}
-use Rattle.cg_agree.proofs.OneSteps.{begun-set}
+use Rattle.cg_agree_lemmas.specs.OneSteps.{begun-set}
 use Rattle.cg_agree.proofs.NetFactsKept.{seated-in, members_begun-in}
 use Rattle.cg_agree.proofs.DiskBehindKept.{disk_behind-kept}
 use Rattle.cg_agree.proofs.LevelsKept.{start-kept}
 use Rattle.cg_agree.proofs.CoresMove.{cores-move}
-use Rattle.cg_agree.proofs.KeptEmpty.{anything}
-use Rattle.cg_agree.proofs.TurnRows.{of-deliveries}
-use Rattle.cg_agree.proofs.CreatedKept.{StaysCreated, created-rule, created-first}
-use Rattle.cg_agree.proofs.HeldMarks.{IsOneself}
-use Rattle.cg_agree.proofs.LinesTold.{first-lines}
-use Rattle.cg_agree.proofs.LinesFollow.{FollowsAll, NotStart, follow-kept}
-use Rattle.cg_agree.proofs.LinesMade.{below-each, each-below, lined}
-use Rattle.cg_agree.proofs.BookGrows.{IsNamed}
-use Rattle.cg_agree.proofs.BookedCores.{each-booked, front-each}
+use Rattle.cg_agree_lemmas.specs.KeptEmpty.{anything}
+use Rattle.cg_agree_lemmas.specs.TurnRows.{of-deliveries}
+use Rattle.cg_agree_lemmas.specs.CreatedKept.{StaysCreated, created-rule, created-first}
+use Rattle.cg_agree_lemmas.specs.HeldMarks.{IsOneself}
+use Rattle.cg_agree_lemmas.specs.LinesTold.{first-lines}
+use Rattle.cg_agree_lemmas.specs.LinesFollow.{FollowsAll, NotStart, follow-kept}
+use Rattle.cg_agree_lemmas.specs.LinesMade.{below-each, each-below, lined}
+use Rattle.cg_agree_lemmas.specs.BookGrows.{IsNamed}
+use Rattle.cg_agree_lemmas.specs.BookedCores.{each-booked, front-each}
 use Rattle.cg_agree.proofs.CopiesBooked.{UnbegunMadeNone, greens-on_line, joiners-booked}
 use Rattle.cg_agree.proofs.MadeOnceKept.{made_once-kept}
 use Rattle.cg_commit.specs.Holds.{run_on}

@@ -14,14 +14,14 @@ use Rattle.cg_model.specs.FactsExchange.{AreReached, HasReached, IsSummary, Summ
 use Rattle.cg_model.specs.Facts.{Invariant}
 use Rattle.cg_model.specs.Small.{Small, Starts, Makes, Enters, Orders, Receives, Hands, Leaves, Asks, Settles, Commits, Crashes, Recovers, Copies, Joins, small_step, newest_conf}
 use Rattle.cg_model.specs.Smalls.{may_make}
-use Rattle.cg_agree.proofs.HandSays.{find-holds}
-use Rattle.cg_agree.proofs.SmallTalk.{conf-there}
-use Rattle.cg_agree.proofs.ToldKept.{IsUntold, told-same, told_in-same}
+use Rattle.cg_agree_lemmas.specs.HandSays.{find-holds}
+use Rattle.cg_agree_lemmas.specs.SmallTalk.{conf-there}
+use Rattle.cg_agree_lemmas.specs.ToldKept.{IsUntold, told-same, told_in-same}
 use Rattle.cg_agree.proofs.PastKept.{EntersNow, enters-now, entry_told, told_in-enters}
-use Rattle.cg_agree.proofs.BookedCores.{each-booked}
+use Rattle.cg_agree_lemmas.specs.BookedCores.{each-booked}
 use Rattle.cg_agree.proofs.CopiesBooked.{greens-on_line}
-use Rattle.cg_agree.proofs.LinesTold.{JoinsBelow, joins-below}
-use Rattle.cg_agree.proofs.LinesMade.{below-each, named-fine, reached, joined}
+use Rattle.cg_agree_lemmas.specs.LinesTold.{JoinsBelow, joins-below}
+use Rattle.cg_agree_lemmas.specs.LinesMade.{below-each, named-fine, reached, joined}
 use Rattle.cg_agree.proofs.LinesBelowKept.{Beginnings}
 use Rattle.cg_agree.proofs.LevelsKept.{start-kept}
 use Rattle.cg_agree.proofs.SummariesKept.{start-told, fits-kept}

@@ -32,8 +32,8 @@ use Rattle.cg_model.specs.Touched.{new_lines}
 use Rattle.cg_agree.proofs.PrimaryOne.{IsFoundFrom, found-all}
 use Rattle.cg_agree.proofs.RunForward.{IsStepOf}
 use Rattle.cg_equal.specs.LineLaws.{one-line}
-use Rattle.cg_agree.proofs.HappensLines.{happens-lines}
-use Rattle.cg_agree.proofs.SeatFacts.{seat-id}
+use Rattle.cg_agree_lemmas.specs.HappensLines.{happens-lines}
+use Rattle.cg_agree_lemmas.specs.SeatFacts.{seat-id}
 
 -- ---- lines that are printed
 

@@ -21,13 +21,13 @@ use Rattle.cg_model.specs.Smalls.{may_make}
 use Rattle.cg_agree.proofs.AttemptSteps.{IsHanded, attempt-step}
 use Rattle.cg_agree.proofs.AttemptsCame.{Begins, Came, Stayed, WasLeft, WasEntered, WasInstalled, WasMade, came}
 use Rattle.cg_agree.proofs.BookedParts.{same-booked, booked-left, booked-right}
-use Rattle.cg_agree.proofs.AttemptsGrow.{grown-leaver}
+use Rattle.cg_agree_lemmas.specs.AttemptsGrow.{grown-leaver}
 use Rattle.cg_agree.proofs.ExchangeBehind.{told-now}
-use Rattle.cg_agree.proofs.ExchangeHands.{best-same}
-use Rattle.cg_agree.proofs.HandSays.{find-holds}
-use Rattle.cg_agree.proofs.HandsNow.{hands-now}
+use Rattle.cg_agree_lemmas.specs.ExchangeHands.{best-same}
+use Rattle.cg_agree_lemmas.specs.HandSays.{find-holds}
+use Rattle.cg_agree_lemmas.specs.HandsNow.{hands-now}
 use Rattle.cg_agree.proofs.PartsKept.{HasBegun, has-begun}
-use Rattle.cg_agree.proofs.SameAttempt.{SameAttempt, same-refl}
+use Rattle.cg_agree_lemmas.specs.SameAttempt.{SameAttempt, same-refl}
 use Rattle.cg_agree.proofs.TalkQuiet.{replica-turning}
 
 -- the actions of each attempt's parts are those of their names

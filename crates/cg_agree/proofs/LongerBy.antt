@@ -26,20 +26,20 @@ use Rattle.cg_model.specs.Step.{quietly, hand_out, joined, snapshot_for, without
 use Rattle.cg_model.specs.Chronicle.{Chronicle}
 use Rattle.cg_model.specs.FactsReplica.{is_primary}
 use Rattle.cg_model.specs.Played.{StandsBeside}
-use Rattle.cg_agree.proofs.ChronicleFacts.{seat_of-set}
+use Rattle.cg_agree_lemmas.specs.ChronicleFacts.{seat_of-set}
 use Rattle.cg_agree.proofs.CountsGrow.{count_at, SeatEven, even-at, event-counts, unbegun}
-use Rattle.cg_agree.proofs.DiskEnds.{end-cases}
+use Rattle.cg_agree_lemmas.specs.DiskEnds.{end-cases}
 use Rattle.cg_agree.proofs.GreensStay.{IsStill, IsHandedWithin, step-still, entry-still}
 use Rattle.cg_agree.proofs.ItemsReached.{IsItemWithin, placed-within}
 use Rattle.cg_agree.proofs.JoinersMadeNone.{snapshot-none}
-use Rattle.cg_agree.proofs.MadeSplit.{rising-set-list}
+use Rattle.cg_agree_lemmas.specs.MadeSplit.{rising-set-list}
 use Rattle.cg_agree.proofs.OrderReached.{within-order}
 use Rattle.cg_agree.proofs.PositionsGrow.{count-running}
-use Rattle.cg_agree.proofs.RestsBehind.{handed-ids, split-to}
+use Rattle.cg_agree_lemmas.specs.RestsBehind.{handed-ids, split-to}
 use Rattle.cg_agree.proofs.SnapshotsReached.{snapshot-within}
-use Rattle.cg_agree.proofs.StepGreens.{step-follows, whitened-count}
-use Rattle.cg_agree.proofs.TurnWorlds.{life_at}
-use Rattle.cg_agree.proofs.WorldTurns.{IsBehind, from-same, hand-behind, handed-behind}
+use Rattle.cg_agree_lemmas.specs.StepGreens.{step-follows, whitened-count}
+use Rattle.cg_agree_lemmas.specs.TurnWorlds.{life_at}
+use Rattle.cg_agree_lemmas.specs.WorldTurns.{IsBehind, from-same, hand-behind, handed-behind}
 use Rattle.cg_client.specs.Joined.{piece_count}
 
 -- ---- what is handed

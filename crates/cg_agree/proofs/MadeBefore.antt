@@ -10,7 +10,7 @@ use Rattle.cg_model.specs.Noting.{chronicle_after}
 use Rattle.cg_model.specs.Played.{AlwaysHolds}
 use Rattle.cg_agree.proofs.CreatorNumbered.{stands-of, creator-numbered}
 use Rattle.cg_agree.proofs.OrderReached.{ordered-made}
-use Rattle.cg_agree.proofs.OrderTold.{order_told}
+use Rattle.cg_agree_lemmas.specs.OrderTold.{order_told}
 use Rattle.cg_agree.proofs.RunPrefix.{comes}
 use Rattle.cg_agree.proofs.TellsRun.{has-told}
 

@@ -31,12 +31,12 @@ use Rattle.cg_model.specs.Step.{quietly, ask, name_also, recover_from, joined, s
 use Rattle.cg_model.specs.FactsBooks.{LifeMade, MadeBook, MadeFits, SeatMade}
 use Rattle.cg_model.specs.FactsReplica.{IsCore, IsModeData}
 use Rattle.cg_model.specs.Played.{StandsBeside, with_world}
-use Rattle.cg_agree.proofs.UnorderedKept.{first-none}
-use Rattle.cg_agree.proofs.MadeAlone.{not-refused}
-use Rattle.cg_agree.proofs.MadeSplit.{rising-set-list}
-use Rattle.cg_agree.proofs.LivesRest.{LifeRests, SeatRests, seat-in}
-use Rattle.cg_agree.proofs.RestsBehind.{handed-ids, split-to}
-use Rattle.cg_agree.proofs.MadeWorlds.{IsCoreAt, LifeSound, SeatSound, fits-same, hand-fits, handed-fits, begun-fits, stopped-fits, armed-fits, came-up, joined-fits}
+use Rattle.cg_agree_lemmas.specs.UnorderedKept.{first-none}
+use Rattle.cg_agree_lemmas.specs.MadeAlone.{not-refused}
+use Rattle.cg_agree_lemmas.specs.MadeSplit.{rising-set-list}
+use Rattle.cg_agree_lemmas.specs.LivesRest.{LifeRests, SeatRests, seat-in}
+use Rattle.cg_agree_lemmas.specs.RestsBehind.{handed-ids, split-to}
+use Rattle.cg_agree_lemmas.specs.MadeWorlds.{IsCoreAt, LifeSound, SeatSound, fits-same, hand-fits, handed-fits, begun-fits, stopped-fits, armed-fits, came-up, joined-fits}
 use Rattle.cg_agree.proofs.JoinersMadeNone.{snapshot-none}
 use Rattle.cg_client.specs.Joined.{piece_count}
 

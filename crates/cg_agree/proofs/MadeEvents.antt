@@ -29,13 +29,13 @@ use Rattle.cg_model.specs.Looks.{on_disk, disk_held, stood_of}
 use Rattle.cg_model.specs.FactsLists.{IsRising}
 use Rattle.cg_model.specs.FactsReplica.{IsCore}
 use Rattle.cg_model.specs.Played.{StandsBeside}
-use Rattle.cg_agree.proofs.ChronicleFacts.{seat_of-set}
-use Rattle.cg_agree.proofs.MadeSplit.{rising-set-list}
-use Rattle.cg_agree.proofs.RestsBehind.{handed-ids, split-to}
-use Rattle.cg_agree.proofs.WorldTurns.{hand-behind}
-use Rattle.cg_agree.proofs.MadeWorlds.{SeatSound, fits-same, hand-fits}
+use Rattle.cg_agree_lemmas.specs.ChronicleFacts.{seat_of-set}
+use Rattle.cg_agree_lemmas.specs.MadeSplit.{rising-set-list}
+use Rattle.cg_agree_lemmas.specs.RestsBehind.{handed-ids, split-to}
+use Rattle.cg_agree_lemmas.specs.WorldTurns.{hand-behind}
+use Rattle.cg_agree_lemmas.specs.MadeWorlds.{SeatSound, fits-same, hand-fits}
 use Rattle.cg_agree.proofs.MadeBookKept.{sound-at}
-use Rattle.cg_agree.proofs.MadeShown.{AreLast, SeatLast, AddsTo, Adds, adds-wider, LifeWell, SeatWell, last-set, core-last, turn-adds, none-adds, recovery-adds}
+use Rattle.cg_agree_lemmas.specs.MadeShown.{AreLast, SeatLast, AddsTo, Adds, adds-wider, LifeWell, SeatWell, last-set, core-last, turn-adds, none-adds, recovery-adds}
 use Rattle.cg_client.specs.Joined.{piece_count}
 
 -- ---- what is handed

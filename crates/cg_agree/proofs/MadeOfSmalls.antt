@@ -31,22 +31,22 @@ use Rattle.cg_model.specs.FactsReplica.{IsModeData, GoesOn, IsAsOnDisk}
 use Rattle.cg_model.specs.Facts.{Invariant}
 use Rattle.cg_model.specs.Played.{IsSame, IsWritten, MayBeMade, StandsBeside, MadeOfSmalls}
 use Rattle.cg_model.specs.Noting.{played}
-use Rattle.cg_agree.proofs.Standings.{rising-lower}
-use Rattle.cg_agree.proofs.UnorderedKept.{first-none}
-use Rattle.cg_agree.proofs.MadeQuietly.{IsMadeIn, order-made, receive-made, weak-made, dirty-made, show-made, show_order-made, fail-made, armed-made, start-made}
-use Rattle.cg_agree.proofs.MadeAlone.{takes-part, stop-made, recover-made}
-use Rattle.cg_agree.proofs.MadeTransfer.{transfer-made}
-use Rattle.cg_agree.proofs.MadeRequests.{request-made, join-made, leave-made}
-use Rattle.cg_agree.proofs.MadeDeliver.{deliver-made}
-use Rattle.cg_agree.proofs.MadeSplit.{rising-set-list, split-is, turns-split}
-use Rattle.cg_agree.proofs.MadeMerge.{IsComing, length-next, merge-is, turns-merge}
-use Rattle.cg_agree.proofs.MadeGather.{gather-made}
-use Rattle.cg_agree.proofs.UntoldKept.{IsUntoldIn, block-keeps, block-opens}
-use Rattle.cg_agree.proofs.SameSmalls.{same-back, same-then, played-same, may-all-same}
-use Rattle.cg_agree.proofs.SoundWorlds.{IsSound, sound-same, sound-of, untold-next}
-use Rattle.cg_agree.proofs.EventMembers.{not-empty, leaving-members, coming-members}
-use Rattle.cg_agree.proofs.RestFacts.{IsOpening, IsQuiet, IsKept, rest-quiet, rest-with, rest-among, smalls_for, written-kept}
-use Rattle.cg_agree.proofs.SmallWorlds.{played_in, MayIn, RestAlong, may-all, played-world, small-world}
+use Rattle.cg_agree_lemmas.specs.Standings.{rising-lower}
+use Rattle.cg_agree_lemmas.specs.UnorderedKept.{first-none}
+use Rattle.cg_agree_lemmas.specs.MadeQuietly.{IsMadeIn, order-made, receive-made, weak-made, dirty-made, show-made, show_order-made, fail-made, armed-made, start-made}
+use Rattle.cg_agree_lemmas.specs.MadeAlone.{takes-part, stop-made, recover-made}
+use Rattle.cg_agree_lemmas.specs.MadeTransfer.{transfer-made}
+use Rattle.cg_agree_lemmas.specs.MadeRequests.{request-made, join-made, leave-made}
+use Rattle.cg_agree_lemmas.specs.MadeDeliver.{deliver-made}
+use Rattle.cg_agree_lemmas.specs.MadeSplit.{rising-set-list, split-is, turns-split}
+use Rattle.cg_agree_lemmas.specs.MadeMerge.{IsComing, length-next, merge-is, turns-merge}
+use Rattle.cg_agree_lemmas.specs.MadeGather.{gather-made}
+use Rattle.cg_agree_lemmas.specs.UntoldKept.{IsUntoldIn, block-keeps, block-opens}
+use Rattle.cg_agree_lemmas.specs.SameSmalls.{same-back, same-then, played-same, may-all-same}
+use Rattle.cg_agree_lemmas.specs.SoundWorlds.{IsSound, sound-same, sound-of, untold-next}
+use Rattle.cg_agree_lemmas.specs.EventMembers.{not-empty, leaving-members, coming-members}
+use Rattle.cg_agree_lemmas.specs.RestFacts.{IsOpening, IsQuiet, IsKept, rest-quiet, rest-with, rest-among, smalls_for, written-kept}
+use Rattle.cg_agree_lemmas.specs.SmallWorlds.{played_in, MayIn, RestAlong, may-all, played-world, small-world}
 use Rattle.cg_base.specs.Sets.{has}
 use Rattle.cg_client.specs.Joined.{piece_count}
 

@@ -34,23 +34,23 @@ use Rattle.cg_model.specs.Small.{Small, Starts, Makes, Enters, Orders, Receives,
 use Rattle.cg_model.specs.Smalls.{may_make, is_set}
 use Rattle.cg_commit.specs.Holds.{run_on, cut_behind}
 use Rattle.cg_commit.specs.CutRaiseLaws.{behind-rises}
-use Rattle.cg_agree.proofs.HeldMarks.{IsOneself, rising-red}
-use Rattle.cg_agree.proofs.CoresKept.{TurnKeeps, cores-weaker, held-known}
-use Rattle.cg_agree.proofs.CoresSmall.{StepKeeps, cores-kept, ready-of}
+use Rattle.cg_agree_lemmas.specs.HeldMarks.{IsOneself, rising-red}
+use Rattle.cg_agree_lemmas.specs.CoresKept.{TurnKeeps, cores-weaker, held-known}
+use Rattle.cg_agree_lemmas.specs.CoresSmall.{StepKeeps, cores-kept, ready-of}
 use Rattle.cg_agree.proofs.DiskBehindKept.{disk_behind-kept}
 use Rattle.cg_agree.proofs.NetFactsKept.{seated-in}
 use Rattle.cg_agree.proofs.AttemptSteps.{group-of}
-use Rattle.cg_agree.proofs.OneSteps.{may-join}
+use Rattle.cg_agree_lemmas.specs.OneSteps.{may-join}
 use Rattle.cg_agree.proofs.BegunKept.{nothing-before}
-use Rattle.cg_agree.proofs.DiskAhead.{OwnRuns}
-use Rattle.cg_agree.proofs.KeptEmpty.{anything}
-use Rattle.cg_agree.proofs.TurnRows.{OfDelivery, of-deliveries}
+use Rattle.cg_agree_lemmas.specs.DiskAhead.{OwnRuns}
+use Rattle.cg_agree_lemmas.specs.KeptEmpty.{anything}
+use Rattle.cg_agree_lemmas.specs.TurnRows.{OfDelivery, of-deliveries}
 use Rattle.cg_agree.proofs.MessagesKept.{DoWait, ArePlaced, TurnSays, StepSays, waits-kept, placed-kept}
-use Rattle.cg_agree.proofs.CreatedKept.{StaysCreated, created-rule, created-first}
-use Rattle.cg_agree.proofs.BookedRows.{AllFine, each-drop, fine-rule, create-fine, kept-fine}
-use Rattle.cg_agree.proofs.BookGrows.{IsNamed, cut_of, rising-of, IsCounted, named-more, named-all, settle-counted, request-counted, counted-first}
-use Rattle.cg_agree.proofs.BookedCores.{FineHeld, JoinersBooked, cores-booked, booked-closed, placed-booked, waiting-booked, greens-booked, memory-booked, disk-booked, copies-booked, messages-booked, waits-booked}
-use Rattle.cg_agree.proofs.BookCounts.{BookCounts, counts-same, counts-turning, book-turn, counts-commit, counts-crash, counts-recover, counts-join, counts-start}
+use Rattle.cg_agree_lemmas.specs.CreatedKept.{StaysCreated, created-rule, created-first}
+use Rattle.cg_agree_lemmas.specs.BookedRows.{AllFine, each-drop, fine-rule, create-fine, kept-fine}
+use Rattle.cg_agree_lemmas.specs.BookGrows.{IsNamed, cut_of, rising-of, IsCounted, named-more, named-all, settle-counted, request-counted, counted-first}
+use Rattle.cg_agree_lemmas.specs.BookedCores.{FineHeld, JoinersBooked, cores-booked, booked-closed, placed-booked, waiting-booked, greens-booked, memory-booked, disk-booked, copies-booked, messages-booked, waits-booked}
+use Rattle.cg_agree_lemmas.specs.BookCounts.{BookCounts, counts-same, counts-turning, book-turn, counts-commit, counts-crash, counts-recover, counts-join, counts-start}
 use Rattle.cg_commit.specs.RunLaws.{cut_behind-append}
 
 -- ---- requests

@@ -27,13 +27,13 @@ use Rattle.cg_model.specs.Noting.{chronicle_after}
 use Rattle.cg_model.specs.FactsReplica.{IsModeData}
 use Rattle.cg_model.specs.Played.{StandsBeside, AlwaysHolds}
 use Rattle.cg_agree.proofs.CreatorNumbered.{stands-of, names-count}
-use Rattle.cg_agree.proofs.FrontFacts.{take-Front}
+use Rattle.cg_agree_lemmas.specs.FrontFacts.{take-Front}
 use Rattle.cg_agree.proofs.LinesShown.{up-shown}
-use Rattle.cg_agree.proofs.MadeShown.{IsThere}
-use Rattle.cg_agree.proofs.MadeThere.{created-there}
+use Rattle.cg_agree_lemmas.specs.MadeShown.{IsThere}
+use Rattle.cg_agree_lemmas.specs.MadeThere.{created-there}
 use Rattle.cg_agree.proofs.MadeTold.{names-last, each-contains, step-adds, made-told}
 use Rattle.cg_agree.proofs.OrderReached.{in-order}
-use Rattle.cg_agree.proofs.OrderTold.{order_told}
+use Rattle.cg_agree_lemmas.specs.OrderTold.{order_told}
 use Rattle.cg_agree.proofs.PositionsGrow.{down-still}
 use Rattle.cg_commit.specs.Holds.{cut_behind}
 use Rattle.cg_agree.proofs.RunPrefix.{world-last, ComesThere, comes}

@@ -27,11 +27,11 @@ use Rattle.cg_model.specs.FactsReplica.{AreBooked}
 use Rattle.cg_model.specs.Making.{made_of_action}
 use Rattle.cg_commit.specs.Holds.{run_on, cut_behind}
 use Rattle.cg_commit.specs.RunLaws.{cut_behind-append, run_on-append}
-use Rattle.cg_agree.proofs.BookGrows.{IsNamed, named_in}
-use Rattle.cg_agree.proofs.BookedCores.{each-booked}
-use Rattle.cg_agree.proofs.BookStays.{event-book}
+use Rattle.cg_agree_lemmas.specs.BookGrows.{IsNamed, named_in}
+use Rattle.cg_agree_lemmas.specs.BookedCores.{each-booked}
+use Rattle.cg_agree_lemmas.specs.BookStays.{event-book}
 use Rattle.cg_agree.proofs.MadeBookKept.{event-made}
-use Rattle.cg_agree.proofs.MadeShown.{IsThere, AreLast, Adds, names_in}
+use Rattle.cg_agree_lemmas.specs.MadeShown.{IsThere, AreLast, Adds, names_in}
 use Rattle.cg_agree.proofs.MadeEvents.{AddsSome, event-adds}
 use Rattle.cg_agree.proofs.RunForward.{IsStepOf}
 use Rattle.cg_commit.specs.RunMarkLaws.{run-names}

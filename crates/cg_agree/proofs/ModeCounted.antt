@@ -21,10 +21,10 @@ use Rattle.cg_model.specs.FactsExchange.{IsRecord, HasRecord}
 use Rattle.cg_model.specs.Facts.{Invariant}
 use Rattle.cg_model.specs.Small.{Small, small_step, with_leaver, with_entrant, with_installer}
 use Rattle.cg_model.specs.Smalls.{may_make}
-use Rattle.cg_agree.proofs.AttemptsGrow.{grown-leaver}
-use Rattle.cg_agree.proofs.AttemptsTurn.{entrant-has, installer-has}
-use Rattle.cg_agree.proofs.CoresKept.{held-known}
-use Rattle.cg_agree.proofs.TurnKinds.{HasInstalled, HasAttempted, new_record}
+use Rattle.cg_agree_lemmas.specs.AttemptsGrow.{grown-leaver}
+use Rattle.cg_agree_lemmas.specs.AttemptsTurn.{entrant-has, installer-has}
+use Rattle.cg_agree_lemmas.specs.CoresKept.{held-known}
+use Rattle.cg_agree_lemmas.specs.TurnKinds.{HasInstalled, HasAttempted, new_record}
 use Rattle.cg_agree.proofs.AttemptSteps.{attempt-step}
 use Rattle.cg_agree.proofs.AttemptsCame.{Came, Stayed, WasLeft, WasEntered, WasInstalled, WasMade, came}
 

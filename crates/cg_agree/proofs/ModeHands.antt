@@ -30,23 +30,23 @@ use Rattle.cg_model.specs.FactsExchange.{IsRecord, HasRecord}
 use Rattle.cg_model.specs.Facts.{Invariant}
 use Rattle.cg_model.specs.Small.{Hands, newly_green, with_installer, with_entrant, installing, entering, take_all, take_next, small_step}
 use Rattle.cg_model.specs.Smalls.{may_make}
-use Rattle.cg_agree.proofs.HandSays.{find-holds}
-use Rattle.cg_agree.proofs.HeldMarks.{IsOneself}
-use Rattle.cg_agree.proofs.OneselfWorld.{oneself-of}
-use Rattle.cg_agree.proofs.CoresKept.{held-known}
-use Rattle.cg_agree.proofs.AttemptsGrow.{attempts-grow}
-use Rattle.cg_agree.proofs.AttemptsTurn.{at_conf, ends-beside, Entered, entered-now, attempted-attempts, installed-attempts, installing-now}
-use Rattle.cg_agree.proofs.TurnKinds.{IsQuiet, HasInstalled, new_record, Turned, Quiet, Installs, Decides, Attempts, EndsWith}
-use Rattle.cg_agree.proofs.TurnParts.{is_parted, stays-parted}
-use Rattle.cg_agree.proofs.HandsNow.{HandsNow, hands-regular, new, hand-state, found-now, running-now, behind}
-use Rattle.cg_agree.proofs.PlanEnd.{is_behind, plan-end}
-use Rattle.cg_agree.proofs.OneSteps.{hands-step}
-use Rattle.cg_agree.proofs.RecordKept.{record-handed, hands-attempts}
+use Rattle.cg_agree_lemmas.specs.HandSays.{find-holds}
+use Rattle.cg_agree_lemmas.specs.HeldMarks.{IsOneself}
+use Rattle.cg_agree_lemmas.specs.OneselfWorld.{oneself-of}
+use Rattle.cg_agree_lemmas.specs.CoresKept.{held-known}
+use Rattle.cg_agree_lemmas.specs.AttemptsGrow.{attempts-grow}
+use Rattle.cg_agree_lemmas.specs.AttemptsTurn.{at_conf, ends-beside, Entered, entered-now, attempted-attempts, installed-attempts, installing-now}
+use Rattle.cg_agree_lemmas.specs.TurnKinds.{IsQuiet, HasInstalled, new_record, Turned, Quiet, Installs, Decides, Attempts, EndsWith}
+use Rattle.cg_agree_lemmas.specs.TurnParts.{is_parted, stays-parted}
+use Rattle.cg_agree_lemmas.specs.HandsNow.{HandsNow, hands-regular, new, hand-state, found-now, running-now, behind}
+use Rattle.cg_agree_lemmas.specs.PlanEnd.{is_behind, plan-end}
+use Rattle.cg_agree_lemmas.specs.OneSteps.{hands-step}
+use Rattle.cg_agree_lemmas.specs.RecordKept.{record-handed, hands-attempts}
 use Rattle.cg_agree.proofs.AttemptSteps.{Installing, hands-installing}
 use Rattle.cg_agree.proofs.AttemptsCame.{ins-conf}
 use Rattle.cg_agree.proofs.LevelsKept.{start-kept, installed-primary}
 use Rattle.cg_agree.proofs.CoreKept.{is_trans, never-trans}
-use Rattle.cg_agree.proofs.ModeHeld.{WaitsForNone, none-message, NothingRed, nothing-message}
+use Rattle.cg_agree_lemmas.specs.ModeHeld.{WaitsForNone, none-message, NothingRed, nothing-message}
 use Rattle.cg_agree.proofs.ModeStill.{mode-still}
 use Rattle.cg_agree.proofs.ModeCounted.{counted-flow, counted-attempted, counted-installed}
 use Rattle.cg_agree.proofs.ModeStates.{in-primary-as, in-attempt-as, attempting-data, beside-data, parted-data, primary-data, construct-lists, quiet-flow, decided-flow}

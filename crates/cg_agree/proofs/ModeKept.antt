@@ -28,27 +28,27 @@ use Rattle.cg_model.specs.FactsReplica.{is_attempting, is_primary, own_record, I
 use Rattle.cg_model.specs.Facts.{Invariant}
 use Rattle.cg_model.specs.Small.{Small, Starts, Makes, Enters, Orders, Receives, Hands, Leaves, Asks, Settles, Commits, Crashes, Recovers, Copies, Joins, newly_green, with_installer, installing, turning, take_parting, take_newest, take_next, take_request, coming, handed_next, leaving, commit_as, crash_as, recover_as, copy_as, join_with, newest_conf, start, small_step}
 use Rattle.cg_model.specs.Smalls.{may_make, may_join, is_running, is_set}
-use Rattle.cg_agree.proofs.ChronicleFacts.{seat_of-set}
+use Rattle.cg_agree_lemmas.specs.ChronicleFacts.{seat_of-set}
 use Rattle.cg_group.specs.LookupLaws.{at-cond}
-use Rattle.cg_agree.proofs.HeldCommit.{recovered-id}
-use Rattle.cg_agree.proofs.HeldMarks.{IsOneself}
-use Rattle.cg_agree.proofs.HeldMessages.{FitsYellow}
-use Rattle.cg_agree.proofs.OneselfWorld.{oneself-of}
-use Rattle.cg_agree.proofs.CoresKept.{held-known, seat-of}
-use Rattle.cg_agree.proofs.CoresSmall.{fresh-all}
+use Rattle.cg_agree_lemmas.specs.HeldCommit.{recovered-id}
+use Rattle.cg_agree_lemmas.specs.HeldMarks.{IsOneself}
+use Rattle.cg_agree_lemmas.specs.HeldMessages.{FitsYellow}
+use Rattle.cg_agree_lemmas.specs.OneselfWorld.{oneself-of}
+use Rattle.cg_agree_lemmas.specs.CoresKept.{held-known, seat-of}
+use Rattle.cg_agree_lemmas.specs.CoresSmall.{fresh-all}
 use Rattle.cg_agree.proofs.BegunKept.{nothing-before}
-use Rattle.cg_agree.proofs.AttemptsTurn.{at_conf, installed-attempts, installing-now}
-use Rattle.cg_agree.proofs.TurnValues.{SameValues, even-request, even-settle, even-own_to_red}
-use Rattle.cg_agree.proofs.TurnKinds.{IsQuiet, HasInstalled}
-use Rattle.cg_agree.proofs.TurnParts.{is_parted, settle-quiet, request-quiet, newest-come}
-use Rattle.cg_agree.proofs.PartingActs.{PartedBy, parting-by}
-use Rattle.cg_agree.proofs.GroupSound.{phase-made}
-use Rattle.cg_agree.proofs.GroupKept.{orders-conf, receives-conf, leaving-regular}
-use Rattle.cg_agree.proofs.NextThere.{orders-now, receives-now}
-use Rattle.cg_agree.proofs.OneSteps.{turns-step, hands-step, leaves-step, enters-step, commits-step, copies-step, crashes-step, recovers-step, joins-step, may-join}
-use Rattle.cg_agree.proofs.HandsKept.{seated, regular-phase, regular-up}
-use Rattle.cg_agree.proofs.HandsNow.{hands-now, hands-regular, new, hand-turned}
-use Rattle.cg_agree.proofs.RecordKept.{turn-is}
+use Rattle.cg_agree_lemmas.specs.AttemptsTurn.{at_conf, installed-attempts, installing-now}
+use Rattle.cg_agree_lemmas.specs.TurnValues.{SameValues, even-request, even-settle, even-own_to_red}
+use Rattle.cg_agree_lemmas.specs.TurnKinds.{IsQuiet, HasInstalled}
+use Rattle.cg_agree_lemmas.specs.TurnParts.{is_parted, settle-quiet, request-quiet, newest-come}
+use Rattle.cg_agree_lemmas.specs.PartingActs.{PartedBy, parting-by}
+use Rattle.cg_agree_lemmas.specs.GroupSound.{phase-made}
+use Rattle.cg_agree_lemmas.specs.GroupKept.{orders-conf, receives-conf, leaving-regular}
+use Rattle.cg_agree_lemmas.specs.NextThere.{orders-now, receives-now}
+use Rattle.cg_agree_lemmas.specs.OneSteps.{turns-step, hands-step, leaves-step, enters-step, commits-step, copies-step, crashes-step, recovers-step, joins-step, may-join}
+use Rattle.cg_agree_lemmas.specs.HandsKept.{seated, regular-phase, regular-up}
+use Rattle.cg_agree_lemmas.specs.HandsNow.{hands-now, hands-regular, new, hand-turned}
+use Rattle.cg_agree_lemmas.specs.RecordKept.{turn-is}
 use Rattle.cg_agree.proofs.PastKept.{EntersNow, enters-now}
 use Rattle.cg_agree.proofs.AttemptSteps.{attempt-step, Installing, leaves-installing}
 use Rattle.cg_agree.proofs.DeadKept.{said-attempt, said-by}
@@ -56,7 +56,7 @@ use Rattle.cg_agree.proofs.AttemptsCame.{Came, Stayed, WasLeft, WasEntered, WasI
 use Rattle.cg_agree.proofs.OutStays.{unsaid, said-number}
 use Rattle.cg_agree.proofs.LevelsKept.{start-kept, installed-primary, leaves-attempts}
 use Rattle.cg_agree.proofs.CoreKept.{yellow-fits, Partway, places-on, way-first}
-use Rattle.cg_agree.proofs.ModeHeld.{none-newest, none-settle, none-request, SameLists, lists-settle, lists-request}
+use Rattle.cg_agree_lemmas.specs.ModeHeld.{none-newest, none-settle, none-request, SameLists, lists-settle, lists-request}
 use Rattle.cg_agree.proofs.ModeStill.{mode-still}
 use Rattle.cg_agree.proofs.ModeCounted.{Flow, flow-none, counted-flow, counted-installed}
 use Rattle.cg_agree.proofs.ModeStates.{in-primary-as, in-attempt-as, attempting-data, from-attempting, from-primary, parted-data, quiet-flow}

@@ -19,14 +19,14 @@ use Rattle.cg_model.specs.Chronicle.{Attempt, Chronicle}
 use Rattle.cg_model.specs.Looks.{conf_at, attempt_of}
 use Rattle.cg_model.specs.Levels.{is_record_of}
 use Rattle.cg_model.specs.FactsReplica.{is_attempting, is_primary, own_record, IsInPrimary, IsInAttempt, HasModeData}
-use Rattle.cg_agree.proofs.HeldMarks.{IsOneself}
-use Rattle.cg_agree.proofs.HeldMessages.{installed-all, no-yellow}
-use Rattle.cg_agree.proofs.TurnValues.{SameValues}
-use Rattle.cg_agree.proofs.TurnKinds.{IsQuiet, HasDecided}
-use Rattle.cg_agree.proofs.TurnParts.{is_parted}
-use Rattle.cg_agree.proofs.HandsNow.{new}
+use Rattle.cg_agree_lemmas.specs.HeldMarks.{IsOneself}
+use Rattle.cg_agree_lemmas.specs.HeldMessages.{installed-all, no-yellow}
+use Rattle.cg_agree_lemmas.specs.TurnValues.{SameValues}
+use Rattle.cg_agree_lemmas.specs.TurnKinds.{IsQuiet, HasDecided}
+use Rattle.cg_agree_lemmas.specs.TurnParts.{is_parted}
+use Rattle.cg_agree_lemmas.specs.HandsNow.{new}
 use Rattle.cg_agree.proofs.CoreKept.{is_trans}
-use Rattle.cg_agree.proofs.ModeHeld.{NothingRed}
+use Rattle.cg_agree_lemmas.specs.ModeHeld.{NothingRed}
 use Rattle.cg_agree.proofs.ModeCounted.{Flow}
 
 -- ---- by values

@@ -9,10 +9,10 @@ use Rattle.cg_model.specs.Looks.{conf_at, attempt_of, attempt_at, top_of}
 use Rattle.cg_model.specs.FactsReplica.{own_record, IsInPrimary, IsInAttempt, HasModeData}
 use Rattle.cg_model.specs.FactsAttempts.{LevelsStand}
 use Rattle.cg_model.specs.Small.{Small, small_step}
-use Rattle.cg_agree.proofs.HandSays.{find-holds}
-use Rattle.cg_agree.proofs.SameAttempt.{SameAttempt}
-use Rattle.cg_agree.proofs.ReachWorld.{Opened, opened-at, opened-attempt, levels-kept}
-use Rattle.cg_agree.proofs.AttemptsGrow.{attempts-grow}
+use Rattle.cg_agree_lemmas.specs.HandSays.{find-holds}
+use Rattle.cg_agree_lemmas.specs.SameAttempt.{SameAttempt}
+use Rattle.cg_agree_lemmas.specs.ReachWorld.{Opened, opened-at, opened-attempt, levels-kept}
+use Rattle.cg_agree_lemmas.specs.AttemptsGrow.{attempts-grow}
 use Rattle.cg_agree.proofs.LevelsOpen.{place-there, installed-grows}
 
 -- a member's own record is of what stays of an attempt

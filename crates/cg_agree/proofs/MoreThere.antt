@@ -24,12 +24,12 @@ use Rattle.cg_model.specs.FactsNet.{Seated}
 use Rattle.cg_model.specs.Small.{Small, Starts, Makes, Enters, Orders, Receives, Hands, Leaves, Asks, Settles, Commits, Crashes, Recovers, Copies, Joins, small_step, take_request, take_newest, take_next, take_parting, coming, handed_next, leaving, commit_as, crash_as, recover_as, copy_as}
 use Rattle.cg_model.specs.Smalls.{may_make, is_running}
 use Rattle.cg_agree.proofs.FixedKept.{confs-begun}
-use Rattle.cg_agree.proofs.GroupKept.{begins-step, orders-conf, receives-conf, leaving-regular}
-use Rattle.cg_agree.proofs.GroupSound.{GroupSound, same-where_member, members}
-use Rattle.cg_agree.proofs.GroupTurn.{put-same}
-use Rattle.cg_agree.proofs.NextThere.{orders-now, receives-now}
-use Rattle.cg_agree.proofs.OneSteps.{OneStep, turns-step, hands-step, leaves-step, enters-step, commits-step, copies-step, crashes-step, recovers-step, joins-step, may-join, may-enter, seats-turning, same-life, begun-set}
-use Rattle.cg_agree.proofs.HeldCommit.{recovered-id}
+use Rattle.cg_agree_lemmas.specs.GroupKept.{begins-step, orders-conf, receives-conf, leaving-regular}
+use Rattle.cg_agree_lemmas.specs.GroupSound.{GroupSound, same-where_member, members}
+use Rattle.cg_agree_lemmas.specs.GroupTurn.{put-same}
+use Rattle.cg_agree_lemmas.specs.NextThere.{orders-now, receives-now}
+use Rattle.cg_agree_lemmas.specs.OneSteps.{OneStep, turns-step, hands-step, leaves-step, enters-step, commits-step, copies-step, crashes-step, recovers-step, joins-step, may-join, may-enter, seats-turning, same-life, begun-set}
+use Rattle.cg_agree_lemmas.specs.HeldCommit.{recovered-id}
 
 -- ---- members
 

@@ -7,11 +7,11 @@ use Rattle.cg_model.specs.Small.{Small, small_step}
 use Rattle.cg_model.specs.Smalls.{may_make}
 use Rattle.cg_agree.proofs.BegunKept.{members_begun-kept}
 use Rattle.cg_agree.proofs.FixedKept.{receipts_fixed-kept}
-use Rattle.cg_agree.proofs.GroupKept.{group-kept}
-use Rattle.cg_agree.proofs.GroupSound.{GroupSound, sound-of, inside-of, closed-of}
+use Rattle.cg_agree_lemmas.specs.GroupKept.{group-kept}
+use Rattle.cg_agree_lemmas.specs.GroupSound.{GroupSound, sound-of, inside-of, closed-of}
 use Rattle.cg_agree.proofs.PastKept.{past_left-kept}
 use Rattle.cg_agree.proofs.SeatedKept.{seated-kept}
-use Rattle.cg_agree.proofs.UnorderedKept.{unordered_regular-kept}
+use Rattle.cg_agree_lemmas.specs.UnorderedKept.{unordered_regular-kept}
 
 pub group-of : (c : Chronicle) → Invariant c → GroupSound c
 group-of c i = sound-of c i.net.phase_sound i.net.receipts_inside i.net.sender_closed i.net.handed_received

@@ -23,14 +23,14 @@ use Rattle.cg_model.specs.Small.{Small, Starts, Makes, Enters, Orders, Receives,
 use Rattle.cg_model.specs.Smalls.{may_make, smalls_in, ascend_within, hold_received, hold_earlier}
 use Rattle.cg_model.specs.Talk.{Talk, no_talk, talk_of, may_go_on, may_say}
 use Rattle.cg_model.specs.Total.{can_be_used, AreUsable, IsUsed, CanRedden, AreTakenLeaving, MeetsNone, MeetNone, NeverMet}
-use Rattle.cg_agree.proofs.GroupKept.{leaving-regular}
-use Rattle.cg_agree.proofs.HandNext.{legal-at}
+use Rattle.cg_agree_lemmas.specs.GroupKept.{leaving-regular}
+use Rattle.cg_agree_lemmas.specs.HandNext.{legal-at}
 use Rattle.cg_agree.proofs.HandsMeet.{hands-used}
-use Rattle.cg_agree.proofs.HandsNow.{hands-now, running-now, found-now}
+use Rattle.cg_agree_lemmas.specs.HandsNow.{hands-now, running-now, found-now}
 use Rattle.cg_agree.proofs.MadeOfSmalls.{made-of-smalls}
 use Rattle.cg_agree.proofs.MovesKept.{kept-by-smalls}
 use Rattle.cg_agree.proofs.PartingPlaced.{leaving-taken}
-use Rattle.cg_agree.proofs.HandsKept.{regular-phase}
+use Rattle.cg_agree_lemmas.specs.HandsKept.{regular-phase}
 use Rattle.cg_group.specs.declared.delivery.Delivery.TheVariants.{Transitional as TransitionalIn}
 use Rattle.cg_agree.proofs.TurnsMeet.{turns-meet}
 

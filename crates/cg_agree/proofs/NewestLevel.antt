@@ -15,10 +15,10 @@ use Rattle.cg_model.specs.FactsTalk.{whole_talk}
 use Rattle.cg_model.specs.FactsAttempts.{IsAttempt}
 use Rattle.cg_agree.proofs.ClearedDead.{IsToldIn, each-told, regular-in}
 use Rattle.cg_agree.proofs.DeadKept.{remaining-senders}
-use Rattle.cg_agree.proofs.HandSays.{find-holds}
-use Rattle.cg_agree.proofs.Knowledge.{sender-told}
-use Rattle.cg_agree.proofs.ReachFacts.{all-at}
-use Rattle.cg_agree.proofs.ReachWorld.{opened-at, opened-attempt}
+use Rattle.cg_agree_lemmas.specs.HandSays.{find-holds}
+use Rattle.cg_agree_lemmas.specs.Knowledge.{sender-told}
+use Rattle.cg_agree_lemmas.specs.ReachFacts.{all-at}
+use Rattle.cg_agree_lemmas.specs.ReachWorld.{opened-at, opened-attempt}
 use Rattle.cg_agree.proofs.ToldLine.{Behind}
 
 pub ids-weighted : (m : Members) (set : List ℕ) → ids (weighted m set) ≡ set

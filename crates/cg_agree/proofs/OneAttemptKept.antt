@@ -30,14 +30,14 @@ use Rattle.cg_model.specs.FactsReplica.{has_entered}
 use Rattle.cg_model.specs.Facts.{Invariant}
 use Rattle.cg_model.specs.Small.{Small, small_step}
 use Rattle.cg_model.specs.Smalls.{may_make}
-use Rattle.cg_agree.proofs.HandSays.{find-holds}
-use Rattle.cg_agree.proofs.ReachSteps.{goes_on-kept}
+use Rattle.cg_agree_lemmas.specs.HandSays.{find-holds}
+use Rattle.cg_agree_lemmas.specs.ReachSteps.{goes_on-kept}
 use Rattle.cg_agree.proofs.FixedKept.{receipts_fixed-kept}
-use Rattle.cg_agree.proofs.EndCovers.{OfEach}
-use Rattle.cg_agree.proofs.EndQuorum.{remaining-sent, both-each, cleared-each, none-cleared}
-use Rattle.cg_agree.proofs.Knowledge.{known-of, each-bounded, some-sender}
-use Rattle.cg_agree.proofs.Announced.{announces}
-use Rattle.cg_agree.proofs.AttemptsGrow.{grown-leaver}
+use Rattle.cg_agree_lemmas.specs.EndCovers.{OfEach}
+use Rattle.cg_agree_lemmas.specs.EndQuorum.{remaining-sent, both-each, cleared-each, none-cleared}
+use Rattle.cg_agree_lemmas.specs.Knowledge.{known-of, each-bounded, some-sender}
+use Rattle.cg_agree_lemmas.specs.Announced.{announces}
+use Rattle.cg_agree_lemmas.specs.AttemptsGrow.{grown-leaver}
 use Rattle.cg_agree.proofs.AttemptSteps.{group-of, attempt-step}
 use Rattle.cg_agree.proofs.DeadKept.{any-of, said-by, remaining-senders, lacks-still}
 use Rattle.cg_agree.proofs.AttemptsCame.{Begins, Came, Stayed, WasLeft, WasEntered, WasInstalled, WasMade, came, dead-kept, made-there}

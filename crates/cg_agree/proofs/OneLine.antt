@@ -9,9 +9,9 @@ use Rattle.cg_model.specs.Talk.{acts_in}
 use Rattle.cg_model.specs.Levels.{bound_at, line_at, reach_at, reached_at}
 use Rattle.cg_model.specs.FactsAttempts.{LevelsStand}
 use Rattle.cg_model.specs.FactsGreens.{InstalledCount, Spine}
-use Rattle.cg_agree.proofs.FrontFacts.{Front-trans, Front-takes, Front-append, Front-behind, Front-length, take-Front, Front-take}
-use Rattle.cg_agree.proofs.Reach.{acts-front}
-use Rattle.cg_agree.proofs.ReachWorld.{act-bound, chain-installed}
+use Rattle.cg_agree_lemmas.specs.FrontFacts.{Front-trans, Front-takes, Front-append, Front-behind, Front-length, take-Front, Front-take}
+use Rattle.cg_agree_lemmas.specs.Reach.{acts-front}
+use Rattle.cg_agree_lemmas.specs.ReachWorld.{act-bound, chain-installed}
 
 -- these greens are a front of the newest level's line, and no more than some member of it really has
 pub record IsOnTop (c : Chronicle) (greens : List Action) : Type 0 where

@@ -14,14 +14,14 @@ use Rattle.cg_model.specs.Facts.{Invariant}
 use Rattle.cg_model.specs.Played.{AtRest}
 use Rattle.cg_model.specs.Small.{Small, Starts, Makes, Enters, Orders, Receives, Hands, Leaves, Asks, Settles, Commits, Crashes, Recovers, Copies, Joins, small_step, turning, newly_green, coming, handed_next, leaving, take_newest, take_next, take_parting, take_request}
 use Rattle.cg_model.specs.Smalls.{may_make}
-use Rattle.cg_agree.proofs.CoresKept.{IsClosed, cores-weaker, greens-turn}
-use Rattle.cg_agree.proofs.CoresSmall.{StepKeeps, cores-kept, ready-of}
+use Rattle.cg_agree_lemmas.specs.CoresKept.{IsClosed, cores-weaker, greens-turn}
+use Rattle.cg_agree_lemmas.specs.CoresSmall.{StepKeeps, cores-kept, ready-of}
 use Rattle.cg_agree.proofs.FactsKept.{attempt-now}
 use Rattle.cg_agree.proofs.GreensMove.{GreensMove, Stays, IsHanded, Parts, Begins, greens-move}
 use Rattle.cg_agree.proofs.OneLine.{IsOnTop}
 use Rattle.cg_agree.proofs.OneOrderNow.{OnLine, nothing-on_top, all-on_top, top-still, late-on_top, hands-on_top}
-use Rattle.cg_agree.proofs.OneselfWorld.{HavePasts}
-use Rattle.cg_agree.proofs.RecordKept.{turn-is}
+use Rattle.cg_agree_lemmas.specs.OneselfWorld.{HavePasts}
+use Rattle.cg_agree_lemmas.specs.RecordKept.{turn-is}
 use Rattle.cg_agree.proofs.SpineNow.{spine-now}
 
 -- what a fact of the greens alone asks of a commit, a recovery and a joining is nothing

@@ -34,21 +34,21 @@ use Rattle.cg_agree.proofs.AttemptSteps.{attempt-step}
 use Rattle.cg_agree.proofs.ExchangeBehind.{up-now, told-now}
 use Rattle.cg_agree.proofs.ExchangeKept.{exchange_progress-kept}
 use Rattle.cg_agree.proofs.FactsKept.{attempt-now}
-use Rattle.cg_agree.proofs.FrontFacts.{Front-trans, Front-append, Front-behind, Front-length, Front-take, Front-refl}
+use Rattle.cg_agree_lemmas.specs.FrontFacts.{Front-trans, Front-append, Front-behind, Front-length, Front-take, Front-refl}
 use Rattle.cg_agree.proofs.GreensMove.{InstalledLate}
-use Rattle.cg_agree.proofs.HandsNow.{hands-now, hands-regular, new, hand-state, set, behind}
-use Rattle.cg_agree.proofs.HeldAll.{valid_names}
-use Rattle.cg_agree.proofs.HeldInstall.{reds_but}
+use Rattle.cg_agree_lemmas.specs.HandsNow.{hands-now, hands-regular, new, hand-state, set, behind}
+use Rattle.cg_agree_lemmas.specs.HeldAll.{valid_names}
+use Rattle.cg_agree_lemmas.specs.HeldInstall.{reds_but}
 use Rattle.cg_agree.proofs.LevelsOpen.{place-within}
 use Rattle.cg_agree.proofs.ModeKept.{mode_data-kept}
 use Rattle.cg_agree.proofs.OneLine.{IsOnTop, reached-front, installed-on_top, level-on_top, handed-front}
-use Rattle.cg_agree.proofs.OneSteps.{hands-step, seat-there}
-use Rattle.cg_agree.proofs.Reach.{greatest-bounds, acts-front}
+use Rattle.cg_agree_lemmas.specs.OneSteps.{hands-step, seat-there}
+use Rattle.cg_agree_lemmas.specs.Reach.{greatest-bounds, acts-front}
 use Rattle.cg_agree.proofs.ReachedGrows.{attempt-is, top-grows, reached-grows, said-level}
-use Rattle.cg_agree.proofs.ReachSteps.{goes_on-kept}
-use Rattle.cg_agree.proofs.ReachWorld.{level-kept, act-bound, when-is}
-use Rattle.cg_agree.proofs.SameAttempt.{same-installation}
-use Rattle.cg_agree.proofs.SpineKept.{start-line}
+use Rattle.cg_agree_lemmas.specs.ReachSteps.{goes_on-kept}
+use Rattle.cg_agree_lemmas.specs.ReachWorld.{level-kept, act-bound, when-is}
+use Rattle.cg_agree_lemmas.specs.SameAttempt.{same-installation}
+use Rattle.cg_agree_lemmas.specs.SpineKept.{start-line}
 use Rattle.cg_agree.proofs.SpineNow.{TopMove, Stays as SameTop, Rises, top-move, reach-installed, opened-now, top-now, held-parts}
 
 -- ---- what is on top

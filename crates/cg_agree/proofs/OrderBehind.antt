@@ -5,18 +5,18 @@ use Rattle.std.specs.Prelude.{◌==◌}
 use Rattle.cg_action.specs.declared.action.Action.{Action}
 use Rattle.cg_agree.proofs.CopiesBooked.{greens-on_line}
 use Rattle.cg_agree.proofs.CreatorNumbered.{order-on_top}
-use Rattle.cg_agree.proofs.DiskEnds.{end-shown}
-use Rattle.cg_agree.proofs.FrontFacts.{Front-map, Front-of_both, Front-refl, Front-trans}
-use Rattle.cg_agree.proofs.GreensTold.{step-noted}
-use Rattle.cg_agree.proofs.OrderGrows.{Adds, EndAdds, EndShows, IsOrder, LifeAdds, SeatAdds, SeatShows, extends, hand-grows, hands-grow}
+use Rattle.cg_agree_lemmas.specs.DiskEnds.{end-shown}
+use Rattle.cg_agree_lemmas.specs.FrontFacts.{Front-map, Front-of_both, Front-refl, Front-trans}
+use Rattle.cg_agree_lemmas.specs.GreensTold.{step-noted}
+use Rattle.cg_agree_lemmas.specs.OrderGrows.{Adds, EndAdds, EndShows, IsOrder, LifeAdds, SeatAdds, SeatShows, extends, hand-grows, hands-grow}
 use Rattle.cg_agree.proofs.OrderOnTop.{on_top-along}
-use Rattle.cg_agree.proofs.SameSmalls.{played-same}
-use Rattle.cg_agree.proofs.SeatFacts.{seat-id}
-use Rattle.cg_agree.proofs.SmallWorlds.{played-world}
-use Rattle.cg_agree.proofs.TurnGreens.{IsBetween, facts-along, greens-along, greens-stay, made-first, memory-count, names-count, noted-runs, noted-stands, played-both}
-use Rattle.cg_agree.proofs.TurnWorlds.{life_at, up_seat}
-use Rattle.cg_agree.proofs.TurnsReached.{IsReached, LifeReached, SeatReached}
-use Rattle.cg_agree.proofs.WorldTurns.{EndsSo, IsBehind, alone-ends, from-same, hand-behind, handed-behind, handed-ends}
+use Rattle.cg_agree_lemmas.specs.SameSmalls.{played-same}
+use Rattle.cg_agree_lemmas.specs.SeatFacts.{seat-id}
+use Rattle.cg_agree_lemmas.specs.SmallWorlds.{played-world}
+use Rattle.cg_agree_lemmas.specs.TurnGreens.{IsBetween, facts-along, greens-along, greens-stay, made-first, memory-count, names-count, noted-runs, noted-stands, played-both}
+use Rattle.cg_agree_lemmas.specs.TurnWorlds.{life_at, up_seat}
+use Rattle.cg_agree_lemmas.specs.TurnsReached.{IsReached, LifeReached, SeatReached}
+use Rattle.cg_agree_lemmas.specs.WorldTurns.{EndsSo, IsBehind, alone-ends, from-same, hand-behind, handed-behind, handed-ends}
 use Rattle.cg_model.specs.FactsBooks.{IsToShow, LifeToShow, OrderFits, SeatToShow}
 use Rattle.cg_model.specs.Chronicle.{Chronicle}
 use Rattle.cg_model.specs.Facts.{Invariant}

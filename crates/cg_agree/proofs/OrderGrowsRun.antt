@@ -14,10 +14,10 @@ use Rattle.cg_model.specs.Shown.{order_of}
 use Rattle.cg_model.specs.Agreement.{ComesAfter, through, OrderGrows}
 use Rattle.cg_model.specs.Chronicle.{Chronicle}
 use Rattle.cg_model.specs.Played.{AlwaysHolds}
-use Rattle.cg_agree.proofs.HappensShown.{OfShown, step-shows, each-shown}
+use Rattle.cg_agree_lemmas.specs.HappensShown.{OfShown, step-shows, each-shown}
 use Rattle.cg_agree.proofs.MadeTold.{each-contains}
 use Rattle.cg_agree.proofs.OrderInTime.{in-time}
-use Rattle.cg_agree.proofs.OrderTold.{order_told, places_told}
+use Rattle.cg_agree_lemmas.specs.OrderTold.{order_told, places_told}
 use Rattle.cg_agree.proofs.RunForward.{IsStepOf}
 use Rattle.cg_agree.proofs.RunPrefix.{front-run, world-last, comes}
 

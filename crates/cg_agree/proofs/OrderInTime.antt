@@ -22,7 +22,7 @@ use Rattle.cg_model.specs.Agreement.{through}
 use Rattle.cg_model.specs.Chronicle.{Chronicle}
 use Rattle.cg_model.specs.Noting.{chronicle_step}
 use Rattle.cg_model.specs.Played.{AlwaysHolds}
-use Rattle.cg_agree.proofs.OrderTold.{order_told, step_order}
+use Rattle.cg_agree_lemmas.specs.OrderTold.{order_told, step_order}
 use Rattle.cg_agree.proofs.OrderReached.{within-order}
 use Rattle.cg_agree.proofs.LinesShown.{lines-each, lines-last, position-shown}
 use Rattle.cg_agree.proofs.MadeTold.{step-adds}

@@ -22,7 +22,7 @@ use Rattle.cg_model.specs.Played.{AlwaysHolds}
 use Rattle.cg_agree.proofs.LinesShown.{lines-each}
 use Rattle.cg_agree.proofs.LongerBy.{IsFarBy, event-far}
 use Rattle.cg_agree.proofs.MadeTold.{each-contains}
-use Rattle.cg_agree.proofs.OrderTold.{order_told}
+use Rattle.cg_agree_lemmas.specs.OrderTold.{order_told}
 use Rattle.cg_agree.proofs.PrimaryOne.{one-primary}
 use Rattle.cg_agree.proofs.RunForward.{IsStepOf}
 use Rattle.cg_agree.proofs.RunPrefix.{comes}

@@ -22,16 +22,16 @@ use Rattle.cg_model.specs.Played.{KeptBySmalls, MayBeMade}
 use Rattle.cg_model.specs.Small.{Small, small_step}
 use Rattle.cg_model.specs.Smalls.{may_make}
 use Rattle.cg_model.specs.Noting.{played}
-use Rattle.cg_agree.proofs.FrontFacts.{Front-trans, Front-length, Front-behind, Front-of_both, Front-map}
+use Rattle.cg_agree_lemmas.specs.FrontFacts.{Front-trans, Front-length, Front-behind, Front-of_both, Front-map}
 use Rattle.cg_commit.specs.Holds.{run_on}
-use Rattle.cg_agree.proofs.SameAttempt.{SameAttempt, same-installation}
-use Rattle.cg_agree.proofs.Reach.{acts-front}
-use Rattle.cg_agree.proofs.ReachSteps.{goes_on-kept}
-use Rattle.cg_agree.proofs.ReachWorld.{opened-at, opened-attempt, level-kept}
+use Rattle.cg_agree_lemmas.specs.SameAttempt.{SameAttempt, same-installation}
+use Rattle.cg_agree_lemmas.specs.Reach.{acts-front}
+use Rattle.cg_agree_lemmas.specs.ReachSteps.{goes_on-kept}
+use Rattle.cg_agree_lemmas.specs.ReachWorld.{opened-at, opened-attempt, level-kept}
 use Rattle.cg_agree.proofs.OneLine.{IsOnTop, level-on_top}
-use Rattle.cg_agree.proofs.SpineKept.{start-line}
+use Rattle.cg_agree_lemmas.specs.SpineKept.{start-line}
 use Rattle.cg_agree.proofs.CopiesBooked.{greens-on_line, greatest-from}
-use Rattle.cg_agree.proofs.RunFronts.{run_on-front}
+use Rattle.cg_agree_lemmas.specs.RunFronts.{run_on-front}
 
 -- ---- small steps
 

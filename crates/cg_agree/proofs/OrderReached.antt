@@ -21,8 +21,8 @@ use Rattle.cg_model.specs.Fronts.{Front}
 use Rattle.cg_model.specs.Looks.{greens_of}
 use Rattle.cg_model.specs.FactsReplica.{IsCore}
 use Rattle.cg_model.specs.Played.{StandsBeside}
-use Rattle.cg_agree.proofs.FrontFacts.{Front-length, take-Front}
-use Rattle.cg_agree.proofs.HeldMarks.{counted}
+use Rattle.cg_agree_lemmas.specs.FrontFacts.{Front-length, take-Front}
+use Rattle.cg_agree_lemmas.specs.HeldMarks.{counted}
 use Rattle.cg_commit.specs.Holds.{run_on}
 use Rattle.cg_agree.proofs.CreatorNumbered.{names-count, order-runs}
 use Rattle.cg_agree.proofs.MadeTold.{IsMadeTold, made-told, each-contains}

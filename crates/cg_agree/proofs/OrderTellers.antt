@@ -15,19 +15,19 @@ use Rattle.std.proofs.Common.{◌≡◌, ◌++◌, ◌∷◌, ◌≤◌, ◌∙�
 use Rattle.std.proofs.lemmas.Bool.{and_parts, cases_Bool, cond-false, cond_both}
 use Rattle.std.specs.Option.{option_map_or}
 use Rattle.std.specs.Prelude.{◌==◌}
-use Rattle.cg_agree.proofs.DiskEnds.{end-shown}
-use Rattle.cg_agree.proofs.EventTurns.{is-up}
-use Rattle.cg_agree.proofs.FrontFacts.{Front-length}
-use Rattle.cg_agree.proofs.GreensTold.{entry-none}
-use Rattle.cg_agree.proofs.HandSays.{find-holds}
+use Rattle.cg_agree_lemmas.specs.DiskEnds.{end-shown}
+use Rattle.cg_agree_lemmas.specs.EventTurns.{is-up}
+use Rattle.cg_agree_lemmas.specs.FrontFacts.{Front-length}
+use Rattle.cg_agree_lemmas.specs.GreensTold.{entry-none}
+use Rattle.cg_agree_lemmas.specs.HandSays.{find-holds}
 use Rattle.cg_agree.proofs.MadeOfSmalls.{gather-quiet, transfer-quiet}
 use Rattle.cg_agree.proofs.OrderBehind.{IsKept, LifeOrder, SeatOrder}
 use Rattle.cg_agree.proofs.PastKept.{enters-now, entry_told, told_in-enters}
-use Rattle.cg_agree.proofs.RestFacts.{IsQuiet}
-use Rattle.cg_agree.proofs.ToldKept.{IsUntold, told-same, told_in-same}
-use Rattle.cg_agree.proofs.TurnGreens.{names-count}
-use Rattle.cg_agree.proofs.TurnWorlds.{life_at}
-use Rattle.cg_agree.proofs.WorldTurns.{IsBehind}
+use Rattle.cg_agree_lemmas.specs.RestFacts.{IsQuiet}
+use Rattle.cg_agree_lemmas.specs.ToldKept.{IsUntold, told-same, told_in-same}
+use Rattle.cg_agree_lemmas.specs.TurnGreens.{names-count}
+use Rattle.cg_agree_lemmas.specs.TurnWorlds.{life_at}
+use Rattle.cg_agree_lemmas.specs.WorldTurns.{IsBehind}
 use Rattle.cg_model.specs.Attempts.{held_in}
 use Rattle.cg_model.specs.Chronicle.{Chronicle, Told}
 use Rattle.cg_model.specs.Facts.{Invariant}

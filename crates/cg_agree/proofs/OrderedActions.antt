@@ -19,7 +19,7 @@ use Rattle.cg_model.specs.Telling.{made_of}
 use Rattle.cg_model.specs.Chronicle.{Chronicle}
 use Rattle.cg_model.specs.Fronts.{Front}
 use Rattle.cg_model.specs.Played.{StandsBeside}
-use Rattle.cg_agree.proofs.BookGrows.{IsNamed, named_in, same-self, named-all}
+use Rattle.cg_agree_lemmas.specs.BookGrows.{IsNamed, named_in, same-self, named-all}
 use Rattle.cg_agree.proofs.MadeTold.{IsMadeTold, as-made, each-contains}
 use Rattle.cg_agree.proofs.OrderReached.{order-named}
 

@@ -11,8 +11,8 @@ use Rattle.cg_model.specs.World.{Life, Up, Down, Seat, Snapshot, World, no_world
 use Rattle.cg_model.specs.Show.{ended}
 use Rattle.cg_model.specs.Small.{Starts, small_step, Small}
 use Rattle.cg_model.specs.Smalls.{smalls_in}
-use Rattle.cg_agree.proofs.RestsBehind.{handed-ids, split-to, each-handed}
-use Rattle.cg_agree.proofs.MadeSplit.{rising-set-list}
+use Rattle.cg_agree_lemmas.specs.RestsBehind.{handed-ids, split-to, each-handed}
+use Rattle.cg_agree_lemmas.specs.MadeSplit.{rising-set-list}
 use Rattle.cg_agree.proofs.MovesKept.{kept-by-smalls}
 use Rattle.cg_model.specs.Chronicle.{Chronicle, no_chronicle}
 use Rattle.std.proofs.Common.{◌≡◌, ◌++◌, ◌∷◌, ◌≤◌, ◌∙◌, ◌+◌, Bool, IfSome, List, None, Option, Some, ap, arith, cond, false, fold, length, map, min, nat_le, option_and_then, option_map, refl, subst, suc, sym, take, true, zero, ℕ, []}
@@ -21,35 +21,35 @@ use Rattle.std.specs.List.{list_all}
 use Rattle.std.specs.Option.{option_map_or}
 use Rattle.std.specs.Prelude.{◌==◌}
 use Rattle.cg_action.specs.declared.action.Action.{Action}
-use Rattle.cg_agree.proofs.BookGrows.{IsNamed, cut_of}
-use Rattle.cg_agree.proofs.BookedCores.{each-booked, front-each}
-use Rattle.cg_agree.proofs.ChronicleFacts.{seat_of-set}
+use Rattle.cg_agree_lemmas.specs.BookGrows.{IsNamed, cut_of}
+use Rattle.cg_agree_lemmas.specs.BookedCores.{each-booked, front-each}
+use Rattle.cg_agree_lemmas.specs.ChronicleFacts.{seat_of-set}
 use Rattle.cg_agree.proofs.CopiesBooked.{greens-on_line}
 use Rattle.cg_agree.proofs.CopiesOrdered.{IsCopied, copied-behind, copies-first, copies-shown, copy-count, replica-copy}
 use Rattle.cg_agree.proofs.CreatorNumbered.{names-take}
-use Rattle.cg_agree.proofs.EventMembers.{coming-members, leaving-members}
-use Rattle.cg_agree.proofs.EventsReached.{deliver-reached, join-reached, leave-reached, merge-reached, request-reached, split-reached}
-use Rattle.cg_agree.proofs.FrontFacts.{Front-length, Front-refl, Front-take, take-Front}
-use Rattle.cg_agree.proofs.HeldCommit.{recovered-id}
+use Rattle.cg_agree_lemmas.specs.EventMembers.{coming-members, leaving-members}
+use Rattle.cg_agree_lemmas.specs.EventsReached.{deliver-reached, join-reached, leave-reached, merge-reached, request-reached, split-reached}
+use Rattle.cg_agree_lemmas.specs.FrontFacts.{Front-length, Front-refl, Front-take, take-Front}
+use Rattle.cg_agree_lemmas.specs.HeldCommit.{recovered-id}
 use Rattle.cg_agree.proofs.MadeBookKept.{event-made}
 use Rattle.cg_agree.proofs.MadeOfSmalls.{made-of-smalls}
 use Rattle.cg_agree.proofs.OneLine.{IsOnTop}
 use Rattle.cg_agree.proofs.OrderBehind.{IsKept, LifeOrder, SeatOrder, alone-kept, armed-kept, joined-kept, listed-kept, order-stays, quiet-kept, recovered-kept, stopped-kept}
-use Rattle.cg_agree.proofs.OrderCopies.{copies-event, copy-of}
-use Rattle.cg_agree.proofs.OrderGrows.{IsOrder}
+use Rattle.cg_agree_lemmas.specs.OrderCopies.{copies-event, copy-of}
+use Rattle.cg_agree_lemmas.specs.OrderGrows.{IsOrder}
 use Rattle.cg_agree.proofs.OrderOnTop.{green-there}
 use Rattle.cg_agree.proofs.OrderTellers.{ToldWithin, entries-up, told-merged, told-stays, untold-smalls}
-use Rattle.cg_agree.proofs.OrderTold.{begun_order}
+use Rattle.cg_agree_lemmas.specs.OrderTold.{begun_order}
 use Rattle.cg_agree.proofs.OthersBooked.{booked-index, booked-made, booked-shown, unbegun-made}
 use Rattle.cg_agree.proofs.OthersEvents.{begun-up, event-shown}
 use Rattle.cg_agree.proofs.RestsKept.{rests-kept}
-use Rattle.cg_agree.proofs.SeatFacts.{seat-id}
-use Rattle.cg_agree.proofs.SoundWorlds.{IsSound, sound-of, sound-same}
-use Rattle.cg_agree.proofs.SpineKept.{start-line}
-use Rattle.cg_agree.proofs.Standings.{rising-lower}
-use Rattle.cg_agree.proofs.TurnGreens.{greens-along, names-count}
-use Rattle.cg_agree.proofs.TurnsReached.{SeatReached}
-use Rattle.cg_agree.proofs.WorldTurns.{IsBehind, from-same, handed-behind}
+use Rattle.cg_agree_lemmas.specs.SeatFacts.{seat-id}
+use Rattle.cg_agree_lemmas.specs.SoundWorlds.{IsSound, sound-of, sound-same}
+use Rattle.cg_agree_lemmas.specs.SpineKept.{start-line}
+use Rattle.cg_agree_lemmas.specs.Standings.{rising-lower}
+use Rattle.cg_agree_lemmas.specs.TurnGreens.{greens-along, names-count}
+use Rattle.cg_agree_lemmas.specs.TurnsReached.{SeatReached}
+use Rattle.cg_agree_lemmas.specs.WorldTurns.{IsBehind, from-same, handed-behind}
 use Rattle.cg_model.specs.Admission.{first_refusal}
 use Rattle.cg_model.specs.Facts.{Invariant}
 use Rattle.cg_model.specs.Fronts.{Front}

@@ -4,9 +4,9 @@ use Rattle.cg_group.specs.EachLaws.{Each, Each-weaker, Each-list_all}
 use Rattle.std.proofs.Common.{◌≡◌, ◌≤◌, ◌∙◌, ◌&&◌, IfSome, List, None, Option, Some, ap, arith, false, is_some, leb-true, nat_le, nat_lt, option_and_then, option_map, refl, subst, sym, true, ℕ, []}
 use Rattle.std.proofs.lemmas.Bool.{and_parts}
 use Rattle.cg_action.specs.declared.action.Action.{Action}
-use Rattle.cg_agree.proofs.BookCounts.{found-name}
-use Rattle.cg_agree.proofs.BookGrows.{IsNamed, cut_of}
-use Rattle.cg_agree.proofs.BookedCores.{FineHeld, cores-booked, placed-booked, waiting-booked}
+use Rattle.cg_agree_lemmas.specs.BookCounts.{found-name}
+use Rattle.cg_agree_lemmas.specs.BookGrows.{IsNamed, cut_of}
+use Rattle.cg_agree_lemmas.specs.BookedCores.{FineHeld, cores-booked, placed-booked, waiting-booked}
 use Rattle.cg_agree.proofs.CopiesBooked.{joiners-booked}
 use Rattle.cg_agree.proofs.GroupSays.{GroupSays}
 use Rattle.cg_agree.proofs.MadeBookKept.{made_book-of}

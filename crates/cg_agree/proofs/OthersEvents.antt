@@ -13,20 +13,20 @@ use Rattle.std.proofs.Common.{◌≡◌, ◌++◌, ◌∷◌, ◌≤◌, ◌∙�
 use Rattle.std.proofs.lemmas.Bool.{cases_eq, cond-true, cond_both}
 use Rattle.std.specs.Option.{option_map_or}
 use Rattle.std.specs.Prelude.{◌==◌}
-use Rattle.cg_agree.proofs.BookedRows.{own-fine}
-use Rattle.cg_agree.proofs.ChronicleFacts.{seat_of-set}
+use Rattle.cg_agree_lemmas.specs.BookedRows.{own-fine}
+use Rattle.cg_agree_lemmas.specs.ChronicleFacts.{seat_of-set}
 use Rattle.cg_commit.specs.Holds.{Rising}
 use Rattle.cg_agree.proofs.GroupSays.{GroupSays, says-down, says-gather, says-handed, says-merge, says-order, says-receive, says-split, says-up}
-use Rattle.cg_agree.proofs.HeldCommit.{recovered-id}
+use Rattle.cg_agree_lemmas.specs.HeldCommit.{recovered-id}
 use Rattle.cg_agree.proofs.MadeBookKept.{sound-at, transfer-unbegun}
 use Rattle.cg_agree.proofs.MadeOnceKept.{places-come}
-use Rattle.cg_agree.proofs.MadeSplit.{rising-set-list}
-use Rattle.cg_agree.proofs.MadeWorlds.{LifeSound, SeatSound}
+use Rattle.cg_agree_lemmas.specs.MadeSplit.{rising-set-list}
+use Rattle.cg_agree_lemmas.specs.MadeWorlds.{LifeSound, SeatSound}
 use Rattle.cg_agree.proofs.OthersShown.{EndFalls, InputShown, LifeFalls, SeatFalls, drop-shown, hand-shown, hands-shown}
-use Rattle.cg_agree.proofs.RestsBehind.{handed-ids, split-to}
-use Rattle.cg_agree.proofs.TurnRows.{OfDelivery}
-use Rattle.cg_agree.proofs.TurnWorlds.{life_at}
-use Rattle.cg_agree.proofs.WorldTurns.{IsBehind, from-same, hand-behind, handed-behind}
+use Rattle.cg_agree_lemmas.specs.RestsBehind.{handed-ids, split-to}
+use Rattle.cg_agree_lemmas.specs.TurnRows.{OfDelivery}
+use Rattle.cg_agree_lemmas.specs.TurnWorlds.{life_at}
+use Rattle.cg_agree_lemmas.specs.WorldTurns.{IsBehind, from-same, hand-behind, handed-behind}
 use Rattle.cg_model.specs.Admission.{first_refusal}
 use Rattle.cg_model.specs.Chronicle.{Chronicle}
 use Rattle.cg_model.specs.FactsLists.{IsRising}

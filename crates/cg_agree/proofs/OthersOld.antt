@@ -26,11 +26,11 @@ use Rattle.cg_model.specs.PhaseLaws.{phase_at, phase-where}
 use Rattle.cg_model.specs.Touched.{touched, OthersShowNothingNew}
 use Rattle.cg_agree.proofs.AlwaysMade.{always-holds}
 use Rattle.cg_agree.proofs.EventsLead.{are-admitted, always-stands}
-use Rattle.cg_agree.proofs.HappensLines.{happens-lines}
+use Rattle.cg_agree_lemmas.specs.HappensLines.{happens-lines}
 use Rattle.cg_agree.proofs.LinesShown.{ArePrinted, stepped-printed, each-find}
 use Rattle.cg_agree.proofs.PrimaryOne.{IsFoundFrom, found-all}
 use Rattle.cg_equal.specs.LineLaws.{self-line}
-use Rattle.cg_agree.proofs.TouchedSeats.{happens-stays}
+use Rattle.cg_agree_lemmas.specs.TouchedSeats.{happens-stays}
 
 -- ---- worlds that events lead to
 

@@ -2,8 +2,8 @@
 use Rattle.cg_step.specs.Step.{Input, Deliveries, Asks, replica_step, take}
 use Rattle.cg_model.specs.FactsBooks.{AreShown, HoldsFine, IsActionShown, IsMessageShown, IsNameShown, LifeShown, SeatShown}
 use Rattle.cg_model.specs.Step.{after_event, hand_to, hand, hand_over}
-use Rattle.cg_agree.proofs.TurnRows.{OfDelivery, of-deliveries}
-use Rattle.cg_agree.proofs.BookedRows.{AllFine, each-drop, fine-rule}
+use Rattle.cg_agree_lemmas.specs.TurnRows.{OfDelivery, of-deliveries}
+use Rattle.cg_agree_lemmas.specs.BookedRows.{AllFine, each-drop, fine-rule}
 use Rattle.cg_client.specs.Turn.{Turn, begin, with_held}
 use Rattle.std.proofs.Common.{◌≡◌, ◌++◌, ◌∷◌, ◌≤◌, ◌∙◌, ◌-◌, ◌+◌, Bool, List, None, Option, Some, arith, cond, drop, false, fold, inl, inr, length, map, refl, subst, suc, sym, true, zero, ℕ, []}
 use Rattle.std.proofs.lemmas.Bool.{cases_eq, cond-false, cond_both, ne_eqb}
@@ -11,14 +11,14 @@ use Rattle.std.specs.Option.{option_map_or}
 use Rattle.std.specs.Prelude.{◌==◌}
 use Rattle.cg_action.specs.declared.action.Action.{Action}
 use Rattle.cg_action.specs.declared.action.Kind.{Kind}
-use Rattle.cg_agree.proofs.ChronicleFacts.{seat_of-set}
-use Rattle.cg_agree.proofs.CreatedKept.{StaysCreated, created-first, created-rule}
-use Rattle.cg_agree.proofs.DiskEnds.{end-shown}
-use Rattle.cg_agree.proofs.GreensTold.{step-noted}
+use Rattle.cg_agree_lemmas.specs.ChronicleFacts.{seat_of-set}
+use Rattle.cg_agree_lemmas.specs.CreatedKept.{StaysCreated, created-first, created-rule}
+use Rattle.cg_agree_lemmas.specs.DiskEnds.{end-shown}
+use Rattle.cg_agree_lemmas.specs.GreensTold.{step-noted}
 use Rattle.cg_agree.proofs.GroupSays.{says-down, says-sent}
-use Rattle.cg_agree.proofs.KeptEmpty.{anything}
-use Rattle.cg_agree.proofs.MadeWorlds.{IsCoreAt, LifeSound, SeatSound}
-use Rattle.cg_agree.proofs.WorldTurns.{hand-behind}
+use Rattle.cg_agree_lemmas.specs.KeptEmpty.{anything}
+use Rattle.cg_agree_lemmas.specs.MadeWorlds.{IsCoreAt, LifeSound, SeatSound}
+use Rattle.cg_agree_lemmas.specs.WorldTurns.{hand-behind}
 use Rattle.cg_model.specs.FactsLists.{IsRising}
 use Rattle.cg_model.specs.Show.{Going, beyond}
 use Rattle.cg_model.specs.World.{Down, Life, Seat, Up, World, bring_down, seat_of}

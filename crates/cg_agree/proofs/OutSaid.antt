@@ -14,12 +14,12 @@ use Rattle.cg_model.specs.Looks.{conf_of, ordered_in, is_regular_at, is_regular_
 use Rattle.cg_model.specs.FactsNet.{Seated}
 use Rattle.cg_model.specs.Small.{Small, Starts, Makes, Enters, Orders, Receives, Hands, Leaves, Asks, Settles, Commits, Crashes, Recovers, Copies, Joins, small_step, take_request, make_configuration}
 use Rattle.cg_model.specs.Smalls.{may_make, is_running}
-use Rattle.cg_agree.proofs.SaidSoFar.{placed-append}
-use Rattle.cg_agree.proofs.GroupKept.{orders-conf, receives-conf, leaving-regular}
-use Rattle.cg_agree.proofs.GroupSound.{GroupSound, made-is}
+use Rattle.cg_agree_lemmas.specs.SaidSoFar.{placed-append}
+use Rattle.cg_agree_lemmas.specs.GroupKept.{orders-conf, receives-conf, leaving-regular}
+use Rattle.cg_agree_lemmas.specs.GroupSound.{GroupSound, made-is}
 use Rattle.cg_agree.proofs.FixedKept.{confs-begun, orders-phase}
-use Rattle.cg_agree.proofs.NextThere.{orders-now, receives-now}
-use Rattle.cg_agree.proofs.OneSteps.{turns-step, hands-step, leaves-step, enters-step, commits-step, copies-step, crashes-step, recovers-step, joins-step, may-join, may-enter}
+use Rattle.cg_agree_lemmas.specs.NextThere.{orders-now, receives-now}
+use Rattle.cg_agree_lemmas.specs.OneSteps.{turns-step, hands-step, leaves-step, enters-step, commits-step, copies-step, crashes-step, recovers-step, joins-step, may-join, may-enter}
 
 -- the same messages stand there
 same-said : (c d : Chronicle) (p : ℕ) → ((k : ℕ) → conf_of d k ≡ conf_of c k) → (conf q : ℕ) → placed_of q (ordered_in d conf) ≡ placed_of q (ordered_in c conf)

@@ -15,10 +15,10 @@ use Rattle.cg_model.specs.FactsNet.{Seated}
 use Rattle.cg_model.specs.Small.{Small, Starts, Makes, Enters, Orders, Receives, Hands, Leaves, Asks, Settles, Commits, Crashes, Recovers, Copies, Joins, small_step, take_request, newest_conf}
 use Rattle.cg_model.specs.Smalls.{may_make, is_running, is_set}
 use Rattle.cg_agree.proofs.BegunKept.{nothing-before}
-use Rattle.cg_agree.proofs.GroupKept.{orders-conf, receives-conf, leaving-regular}
-use Rattle.cg_agree.proofs.GroupSound.{GroupSound, phase-made}
-use Rattle.cg_agree.proofs.NextThere.{orders-now, receives-now}
-use Rattle.cg_agree.proofs.OneSteps.{OneStep, turns-step, hands-step, leaves-step, enters-step, commits-step, copies-step, crashes-step, recovers-step, joins-step, may-join, may-enter}
+use Rattle.cg_agree_lemmas.specs.GroupKept.{orders-conf, receives-conf, leaving-regular}
+use Rattle.cg_agree_lemmas.specs.GroupSound.{GroupSound, phase-made}
+use Rattle.cg_agree_lemmas.specs.NextThere.{orders-now, receives-now}
+use Rattle.cg_agree_lemmas.specs.OneSteps.{OneStep, turns-step, hands-step, leaves-step, enters-step, commits-step, copies-step, crashes-step, recovers-step, joins-step, may-join, may-enter}
 
 one-out : (c d : Chronicle) (p : ℕ) (now : Phase) (n : ℕ) (is : Bool) → OneStep c d p now n is → (conf q : ℕ) → (is_in c conf p ≡ false → is_at conf now ≡ false) → is_in c conf q ≡ false → is_in d conf q ≡ false
 one-out c d p now n is step conf q own out = elim (cases_eq q p) [

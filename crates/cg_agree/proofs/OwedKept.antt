@@ -23,18 +23,18 @@ use Rattle.cg_model.specs.Looks.{on_disk, disk_held}
 use Rattle.cg_model.specs.FactsLists.{IsRising}
 use Rattle.cg_model.specs.Played.{AlwaysHolds}
 use Rattle.cg_model.specs.Telling.{latest, last_line}
-use Rattle.cg_agree.proofs.DiskEnds.{end-cases}
-use Rattle.cg_agree.proofs.SeatFacts.{seat-id}
-use Rattle.cg_agree.proofs.MadeWorlds.{IsCoreAt, LifeSound, SeatSound, green-created}
+use Rattle.cg_agree_lemmas.specs.DiskEnds.{end-cases}
+use Rattle.cg_agree_lemmas.specs.SeatFacts.{seat-id}
+use Rattle.cg_agree_lemmas.specs.MadeWorlds.{IsCoreAt, LifeSound, SeatSound, green-created}
 use Rattle.cg_agree.proofs.MadeBookKept.{sound-at}
-use Rattle.cg_agree.proofs.TurnWorlds.{life_at}
+use Rattle.cg_agree_lemmas.specs.TurnWorlds.{life_at}
 use Rattle.cg_agree.proofs.RunSteps.{world_of, chronicle_of, IsStepAt, StandsFor, stands-for, step-of}
-use Rattle.cg_agree.proofs.OwedNames.{own_name, own-named}
-use Rattle.cg_agree.proofs.StepSays.{IsOwing, SaysSo, step-says}
-use Rattle.cg_agree.proofs.EventSays.{made_ids, OwesSo, LifeOwes, SeatOwes, made_by, replies_by}
+use Rattle.cg_agree_lemmas.specs.OwedNames.{own_name, own-named}
+use Rattle.cg_agree_lemmas.specs.StepSays.{IsOwing, SaysSo, step-says}
+use Rattle.cg_agree_lemmas.specs.EventSays.{made_ids, OwesSo, LifeOwes, SeatOwes, made_by, replies_by}
 use Rattle.cg_agree.proofs.EventMeets.{SaidOnly, KeptIn, TurnsIn, FallsIn, WakesIn, BeginsIn, Meets, Stays, Turns, Falls, Wakes, Begins}
 use Rattle.cg_agree.proofs.EventsMeet.{happens-meets}
-use Rattle.cg_agree.proofs.LivesSince.{lives-next, is_down_line, not-down, goes-down}
+use Rattle.cg_agree_lemmas.specs.LivesSince.{lives-next, is_down_line, not-down, goes-down}
 use Rattle.cg_agree.proofs.OwedRun.{LivesOf, LivesAt, OwedAt, joined-range, none-range, owes-none, StepShows, step-shows, lines-both, lines-fold, last-is}
 
 -- what is held owes the same behind a commit

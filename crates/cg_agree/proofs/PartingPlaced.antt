@@ -38,17 +38,17 @@ use Rattle.cg_model.specs.Talk.{Talk, talk_of, hears_from, is_ended, is_announce
 use Rattle.cg_model.specs.Total.{fits_red, IsUsedLeaving, AreTakenLeaving}
 use Rattle.cg_agree.proofs.ActsNext.{may-stand, talk-next, ended-next, heard-next, numbered-next, not-silent}
 use Rattle.cg_agree.proofs.DeadEvidenceKept.{running-core}
-use Rattle.cg_agree.proofs.DiskAhead.{left-own, made-by, LeftOwn}
-use Rattle.cg_agree.proofs.HandMarks.{one_of, raised-next, counted-next, made-so}
-use Rattle.cg_agree.proofs.HandsKept.{some-at}
+use Rattle.cg_agree_lemmas.specs.DiskAhead.{left-own, made-by, LeftOwn}
+use Rattle.cg_agree_lemmas.specs.HandMarks.{one_of, raised-next, counted-next, made-so}
+use Rattle.cg_agree_lemmas.specs.HandsKept.{some-at}
 use Rattle.cg_agree.proofs.HandsMeet.{next-red}
-use Rattle.cg_agree.proofs.HeldInstall.{IsAllYellow, yellow-oneself}
-use Rattle.cg_agree.proofs.HeldMarks.{IsOneself, rising-red, red-oneself}
-use Rattle.cg_agree.proofs.MessageThere.{message-made}
+use Rattle.cg_agree_lemmas.specs.HeldInstall.{IsAllYellow, yellow-oneself}
+use Rattle.cg_agree_lemmas.specs.HeldMarks.{IsOneself, rising-red, red-oneself}
+use Rattle.cg_agree_lemmas.specs.MessageThere.{message-made}
 use Rattle.cg_agree.proofs.RowYellow.{marks-yellow}
 use Rattle.cg_commit.specs.Holds.{cut_behind}
-use Rattle.cg_agree.proofs.StatesSaid.{creating-ended, count-quiet, never, announcing, undecided}
-use Rattle.cg_agree.proofs.TalkEarly.{all-member, not_full, due_parts}
+use Rattle.cg_agree_lemmas.specs.StatesSaid.{creating-ended, count-quiet, never, announcing, undecided}
+use Rattle.cg_agree_lemmas.specs.TalkEarly.{all-member, not_full, due_parts}
 use Rattle.cg_base.specs.SetLaws.{has-with_member}
 use Rattle.cg_knowledge.specs.Members.{senders, remaining}
 use Rattle.cg_plan.specs.declared.parts.Item.TheVariants.{Green, Red}
@@ -60,25 +60,25 @@ use Rattle.cg_construct.specs.No.{no_with}
 use Rattle.cg_model.specs.FactsNet.{IsPhase}
 use Rattle.cg_model.specs.Fronts.{When}
 use Rattle.cg_model.specs.Levels.{announced_at, lacks_announcement, is_installed}
-use Rattle.cg_agree.proofs.Announced.{announced-front, announced-within, announced-place}
+use Rattle.cg_agree_lemmas.specs.Announced.{announced-front, announced-within, announced-place}
 use Rattle.cg_agree.proofs.AttemptSteps.{attempting-now, act-shows, primary-announced}
-use Rattle.cg_agree.proofs.CreatesTalk.{grows-all}
+use Rattle.cg_agree_lemmas.specs.CreatesTalk.{grows-all}
 use Rattle.cg_agree.proofs.DeadKept.{received-one}
-use Rattle.cg_agree.proofs.EndCases.{take-short}
-use Rattle.cg_agree.proofs.FrontFacts.{Front-take}
-use Rattle.cg_agree.proofs.HandsNow.{whole-through}
-use Rattle.cg_agree.proofs.HeldAll.{installed_by}
-use Rattle.cg_agree.proofs.HeldMessages.{installed-all, installed-yellow}
+use Rattle.cg_agree_lemmas.specs.EndCases.{take-short}
+use Rattle.cg_agree_lemmas.specs.FrontFacts.{Front-take}
+use Rattle.cg_agree_lemmas.specs.HandsNow.{whole-through}
+use Rattle.cg_agree_lemmas.specs.HeldAll.{installed_by}
+use Rattle.cg_agree_lemmas.specs.HeldMessages.{installed-all, installed-yellow}
 use Rattle.cg_agree.proofs.InstalledParts.{waits-for}
 use Rattle.cg_agree.proofs.LeavesTalk.{StandsAt, announced-there, covered}
-use Rattle.cg_agree.proofs.MarksFit.{can-install}
-use Rattle.cg_agree.proofs.Reach.{passes}
-use Rattle.cg_agree.proofs.ReachFacts.{all-from}
-use Rattle.cg_agree.proofs.ReachWorld.{when-is}
-use Rattle.cg_agree.proofs.TurnKinds.{installs-to}
-use Rattle.cg_agree.proofs.TurnValues.{even-mark_yellow}
+use Rattle.cg_agree_lemmas.specs.MarksFit.{can-install}
+use Rattle.cg_agree_lemmas.specs.Reach.{passes}
+use Rattle.cg_agree_lemmas.specs.ReachFacts.{all-from}
+use Rattle.cg_agree_lemmas.specs.ReachWorld.{when-is}
+use Rattle.cg_agree_lemmas.specs.TurnKinds.{installs-to}
+use Rattle.cg_agree_lemmas.specs.TurnValues.{even-mark_yellow}
 use Rattle.cg_queue.specs.MarkLaws.{red-placed}
-use Rattle.cg_agree.proofs.PartingIdle.{taken-append, alone-taken, left-taken}
+use Rattle.cg_agree_lemmas.specs.PartingIdle.{taken-append, alone-taken, left-taken}
 use Rattle.cg_commit.specs.RunLaws.{cut_behind-append}
 
 counted : (from n k : ℕ) → from ≤ k → k < from + n → has (count_up from n) k ≡ true

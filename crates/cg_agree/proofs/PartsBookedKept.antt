@@ -20,8 +20,8 @@ use Rattle.cg_agree.proofs.AttemptSteps.{attempt-step}
 use Rattle.cg_agree.proofs.AttemptsCame.{Came, Stayed, WasLeft, WasEntered, WasInstalled, WasMade, came}
 use Rattle.cg_agree.proofs.BookedParts.{booked-both, new-booked}
 use Rattle.cg_agree.proofs.ExchangeBehind.{up-now}
-use Rattle.cg_agree.proofs.HandsNow.{hands-now, new, running-now}
-use Rattle.cg_agree.proofs.AttemptsGrow.{grown-leaver}
+use Rattle.cg_agree_lemmas.specs.HandsNow.{hands-now, new, running-now}
+use Rattle.cg_agree_lemmas.specs.AttemptsGrow.{grown-leaver}
 use Rattle.cg_agree.proofs.ListEntered.{PartsBooked}
 
 -- ---- the book

@@ -29,16 +29,16 @@ use Rattle.cg_agree.proofs.BegunKept.{nothing-before}
 use Rattle.cg_agree.proofs.BuiltThere.{built}
 use Rattle.cg_agree.proofs.DeadKept.{said-by}
 use Rattle.cg_agree.proofs.ExchangeBehind.{up-now, told-now}
-use Rattle.cg_agree.proofs.ExchangeHands.{best-same}
-use Rattle.cg_agree.proofs.HandsNow.{hands-now, new, running-now}
-use Rattle.cg_agree.proofs.Knowledge.{some-sender, known-of}
-use Rattle.cg_agree.proofs.EndCovers.{OfEach}
+use Rattle.cg_agree_lemmas.specs.ExchangeHands.{best-same}
+use Rattle.cg_agree_lemmas.specs.HandsNow.{hands-now, new, running-now}
+use Rattle.cg_agree_lemmas.specs.Knowledge.{some-sender, known-of}
+use Rattle.cg_agree_lemmas.specs.EndCovers.{OfEach}
 use Rattle.cg_agree.proofs.LevelsKept.{NotStart, start-kept}
-use Rattle.cg_agree.proofs.PartsNamed.{PartsNamed, parts-named}
-use Rattle.cg_agree.proofs.PlanEnd.{AtPlanEnd}
+use Rattle.cg_agree_lemmas.specs.PartsNamed.{PartsNamed, parts-named}
+use Rattle.cg_agree_lemmas.specs.PlanEnd.{AtPlanEnd}
 use Rattle.cg_agree.proofs.ShapeKept.{MadeParts, same-end, shape-kept}
 use Rattle.cg_agree.proofs.ToldStays.{told-stays}
-use Rattle.cg_agree.proofs.TurnKinds.{HasAttempted}
+use Rattle.cg_agree_lemmas.specs.TurnKinds.{HasAttempted}
 
 some-is : {X : Type 0} (x y : X) → Some x ≡ Some y → x ≡ y
 some-is x y e = ap (λ o. option_map_or (λ z. z) o x) e

@@ -21,14 +21,14 @@ use Rattle.cg_model.specs.Facts.{Invariant}
 use Rattle.cg_model.specs.FactsExchange.{HasReached}
 use Rattle.cg_model.specs.FactsReplica.{IsLined, IsMadeOf}
 use Rattle.cg_model.specs.FactsTalk.{AreTold}
-use Rattle.cg_agree.proofs.EndCovers.{OfEach}
+use Rattle.cg_agree_lemmas.specs.EndCovers.{OfEach}
 use Rattle.cg_agree.proofs.EndReached.{best-bounds}
-use Rattle.cg_agree.proofs.EverServer.{was_ever-front}
-use Rattle.cg_agree.proofs.HandsContent.{IsTold, best-told}
-use Rattle.cg_agree.proofs.KnownBounds.{farther-of}
-use Rattle.cg_agree.proofs.PartHeld.{HoldsPart}
+use Rattle.cg_agree_lemmas.specs.EverServer.{was_ever-front}
+use Rattle.cg_agree_lemmas.specs.HandsContent.{IsTold, best-told}
+use Rattle.cg_agree_lemmas.specs.KnownBounds.{farther-of}
+use Rattle.cg_agree_lemmas.specs.PartHeld.{HoldsPart}
 use Rattle.cg_agree.proofs.ToldBeside.{told-of, told-fits, told-front, IsBest}
-use Rattle.cg_agree.proofs.WhiteBelow.{IsWitnessed, white-least}
+use Rattle.cg_agree_lemmas.specs.WhiteBelow.{IsWitnessed, white-least}
 
 -- ---- whose each part is
 

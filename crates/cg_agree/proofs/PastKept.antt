@@ -23,16 +23,16 @@ use Rattle.cg_model.specs.FactsNet.{PhaseSound, PastLeft, Seated}
 use Rattle.cg_model.specs.FactsReplica.{IsModeData}
 use Rattle.cg_model.specs.Small.{start, Small, Starts, Makes, Enters, Orders, Receives, Hands, Leaves, Asks, Settles, Commits, Crashes, Recovers, Copies, Joins, small_step, turning_as, coming, take_newest, newest_conf, after_turn, take_request}
 use Rattle.cg_model.specs.Smalls.{may_make, is_between, is_running}
-use Rattle.cg_agree.proofs.EntersTurn.{told-newest}
-use Rattle.cg_agree.proofs.GroupKept.{in_world, begins-step, orders-conf, receives-conf, leaving-regular}
-use Rattle.cg_agree.proofs.GroupSound.{GroupSound, phase-made}
-use Rattle.cg_agree.proofs.HandsKept.{seated}
-use Rattle.cg_agree.proofs.Keyed.{find-append, find-none}
+use Rattle.cg_agree_lemmas.specs.EntersTurn.{told-newest}
+use Rattle.cg_agree_lemmas.specs.GroupKept.{in_world, begins-step, orders-conf, receives-conf, leaving-regular}
+use Rattle.cg_agree_lemmas.specs.GroupSound.{GroupSound, phase-made}
+use Rattle.cg_agree_lemmas.specs.HandsKept.{seated}
+use Rattle.cg_agree_lemmas.specs.Keyed.{find-append, find-none}
 use Rattle.cg_agree.proofs.MoreThere.{MembersMore, members-more, more-one}
-use Rattle.cg_agree.proofs.NextThere.{orders-now, receives-now}
-use Rattle.cg_agree.proofs.OneSteps.{OneStep, MayEnter, may-enter, turns-step, hands-step, leaves-step, enters-step, commits-step, copies-step, crashes-step, recovers-step, joins-step, may-join, coming-is_up}
-use Rattle.cg_agree.proofs.SmallTalk.{conf-there}
-use Rattle.cg_agree.proofs.ToldKept.{told-same, told_in-same}
+use Rattle.cg_agree_lemmas.specs.NextThere.{orders-now, receives-now}
+use Rattle.cg_agree_lemmas.specs.OneSteps.{OneStep, MayEnter, may-enter, turns-step, hands-step, leaves-step, enters-step, commits-step, copies-step, crashes-step, recovers-step, joins-step, may-join, coming-is_up}
+use Rattle.cg_agree_lemmas.specs.SmallTalk.{conf-there}
+use Rattle.cg_agree_lemmas.specs.ToldKept.{told-same, told_in-same}
 
 -- ---- what an entry tells
 

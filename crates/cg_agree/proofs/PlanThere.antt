@@ -31,20 +31,20 @@ use Rattle.cg_agree.proofs.AnswersOwn.{due-green, due-red, still, ended-known}
 use Rattle.cg_agree.proofs.ClearedDead.{IsToldIn, each-told}
 use Rattle.cg_agree.proofs.CoreKept.{has_all, done_count, EndFits}
 use Rattle.cg_commit.specs.CutRaiseLaws.{rising-behind}
-use Rattle.cg_agree.proofs.EndCovers.{OfEach, of_each-weaker}
-use Rattle.cg_agree.proofs.EndQuorum.{both-each}
+use Rattle.cg_agree_lemmas.specs.EndCovers.{OfEach, of_each-weaker}
+use Rattle.cg_agree_lemmas.specs.EndQuorum.{both-each}
 use Rattle.cg_agree.proofs.EndReached.{best-bounds}
 use Rattle.cg_agree.proofs.ExchangeThere.{id, state, heard_before, heard_behind, in_exchange, in-states, in-actions, best, near, unmoved-behind, behind-green, behind-red, take-here, front-cut}
-use Rattle.cg_agree.proofs.HandsNow.{running-now}
-use Rattle.cg_agree.proofs.HeldExchange.{FitsCommon}
-use Rattle.cg_agree.proofs.HeldMarks.{are_within, rising-green}
-use Rattle.cg_agree.proofs.KnownBounds.{known-each}
-use Rattle.cg_agree.proofs.PlanEnd.{told-each, ended-behind}
-use Rattle.cg_agree.proofs.PlanItems.{plan-greens}
-use Rattle.cg_agree.proofs.PlanProgress.{IsBehind, greens_there, taken-all}
+use Rattle.cg_agree_lemmas.specs.HandsNow.{running-now}
+use Rattle.cg_agree_lemmas.specs.HeldExchange.{FitsCommon}
+use Rattle.cg_agree_lemmas.specs.HeldMarks.{are_within, rising-green}
+use Rattle.cg_agree_lemmas.specs.KnownBounds.{known-each}
+use Rattle.cg_agree_lemmas.specs.PlanEnd.{told-each, ended-behind}
+use Rattle.cg_agree_lemmas.specs.PlanItems.{plan-greens}
+use Rattle.cg_agree_lemmas.specs.PlanProgress.{IsBehind, greens_there, taken-all}
 use Rattle.cg_agree.proofs.ToldBeside.{told-fits, told-front, IsBest}
-use Rattle.cg_agree.proofs.TurnKinds.{EndsWith}
-use Rattle.cg_agree.proofs.YellowMeets.{FitsBest, each-group, common-next, common-known, reds-named, usable-all}
+use Rattle.cg_agree_lemmas.specs.TurnKinds.{EndsWith}
+use Rattle.cg_agree_lemmas.specs.YellowMeets.{FitsBest, each-group, common-next, common-known, reds-named, usable-all}
 
 -- what is held behind all items
 pub record IsEnded (heard : List Summary) (best : Told) (h : Held) (all : List Action) : Type 0 where

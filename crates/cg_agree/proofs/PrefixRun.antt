@@ -20,7 +20,7 @@ use Rattle.cg_model.specs.Played.{StandsBeside, AlwaysHolds}
 use Rattle.cg_agree.proofs.LinesShown.{AreLinesTold, position-shown, white-shown}
 use Rattle.cg_agree.proofs.OrderGrowsRun.{shown-of}
 use Rattle.cg_agree.proofs.OrderReached.{reaches-order}
-use Rattle.cg_agree.proofs.OrderTold.{order_told}
+use Rattle.cg_agree_lemmas.specs.OrderTold.{order_told}
 use Rattle.cg_agree.proofs.PositionsGrow.{moves}
 use Rattle.cg_agree.proofs.RunPrefix.{ComesThere, world-last, comes}
 use Rattle.cg_agree.proofs.TellsRun.{has-told}

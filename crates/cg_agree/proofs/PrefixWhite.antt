@@ -19,14 +19,14 @@ use Rattle.cg_model.specs.FactsExchange.{AreReached}
 use Rattle.cg_model.specs.FactsReplica.{join_from}
 use Rattle.cg_model.specs.Noting.{chronicle_after}
 use Rattle.cg_model.specs.Played.{StandsBeside, AlwaysHolds}
-use Rattle.cg_agree.proofs.FrontFacts.{Front-of_both, take-Front}
+use Rattle.cg_agree_lemmas.specs.FrontFacts.{Front-of_both, take-Front}
 use Rattle.cg_agree.proofs.CreatorNumbered.{stands-of, names-count}
 use Rattle.cg_agree.proofs.DownAgrees.{down-prefix}
-use Rattle.cg_agree.proofs.LinesGreens.{join-within, join-front}
-use Rattle.cg_agree.proofs.LinesTold.{JoinsBelow, greens-below, first-lines}
+use Rattle.cg_agree_lemmas.specs.LinesGreens.{join-within, join-front}
+use Rattle.cg_agree_lemmas.specs.LinesTold.{JoinsBelow, greens-below, first-lines}
 use Rattle.cg_agree.proofs.MadeTold.{each-contains}
 use Rattle.cg_agree.proofs.OrderedActions.{IsShownAs, each-shown_as, ordered-as, booked-front}
-use Rattle.cg_agree.proofs.OrderTold.{order_told}
+use Rattle.cg_agree_lemmas.specs.OrderTold.{order_told}
 use Rattle.cg_agree.proofs.PrefixRun.{never-falls, moves-only, held, shown}
 use Rattle.cg_agree.proofs.RunPrefix.{world-last, comes}
 use Rattle.cg_agree.proofs.WhiteTold.{IsReachedLine, AreKept, are-kept}

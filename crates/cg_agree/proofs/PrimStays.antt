@@ -30,10 +30,10 @@ use Rattle.cg_client.specs.Requests.{settle}
 use Rattle.cg_model.specs.Smalls.{smalls_in, turns_as, ending, ending_as, leaving_steps, order_steps, receive_steps, missing, copy_steps, join_steps}
 use Rattle.cg_model.specs.Noting.{chronicle_step, played}
 use Rattle.cg_model.specs.Fronts.{Front}
-use Rattle.cg_agree.proofs.FrontFacts.{Front-length, Front-append}
+use Rattle.cg_agree_lemmas.specs.FrontFacts.{Front-length, Front-append}
 use Rattle.cg_agree.proofs.BegunKept.{start-turning, start-joins}
-use Rattle.cg_agree.proofs.SameAttempt.{KeepsAttempts, keeps-refl, keeps-then, attempts-kept}
-use Rattle.cg_agree.proofs.ReachWorld.{MoreLevels, levels-kept}
+use Rattle.cg_agree_lemmas.specs.SameAttempt.{KeepsAttempts, keeps-refl, keeps-then, attempts-kept}
+use Rattle.cg_agree_lemmas.specs.ReachWorld.{MoreLevels, levels-kept}
 use Rattle.cg_client.specs.Joined.{piece_count}
 
 -- ---- small steps

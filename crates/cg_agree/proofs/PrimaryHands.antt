@@ -23,22 +23,22 @@ use Rattle.cg_model.specs.FactsGreens.{IsOnLine, IsHandedGreen}
 use Rattle.cg_model.specs.Facts.{Invariant}
 use Rattle.cg_model.specs.Small.{Hands, newly_green, installing, small_step}
 use Rattle.cg_model.specs.Smalls.{may_make}
-use Rattle.cg_agree.proofs.ActsSaid.{acts-of}
+use Rattle.cg_agree_lemmas.specs.ActsSaid.{acts-of}
 use Rattle.cg_agree.proofs.AttemptSteps.{hands-installing}
-use Rattle.cg_agree.proofs.AttemptsTurn.{installed-attempts}
+use Rattle.cg_agree_lemmas.specs.AttemptsTurn.{installed-attempts}
 use Rattle.cg_agree.proofs.BeginsKept.{installed-same, hands-announced, hands-greens}
 use Rattle.cg_agree.proofs.ExchangeBehind.{message-now, up-now, handed-now}
 use Rattle.cg_agree.proofs.GreenLine.{HasGreenLine, regular-state, on-line, said-before, fits-green}
 use Rattle.cg_agree.proofs.HandGreen.{HandsPrimary, green-step, green_turn, line-kept}
-use Rattle.cg_agree.proofs.HandSays.{find-holds}
-use Rattle.cg_agree.proofs.HandsNow.{HandsNow, hands-regular, new, count, behind-next, running-now}
+use Rattle.cg_agree_lemmas.specs.HandSays.{find-holds}
+use Rattle.cg_agree_lemmas.specs.HandsNow.{HandsNow, hands-regular, new, count, behind-next, running-now}
 use Rattle.cg_agree.proofs.InstalledParts.{none-acts, installs-all}
 use Rattle.cg_agree.proofs.LevelsKept.{start-kept, installed-primary}
-use Rattle.cg_agree.proofs.OneSteps.{hands-step}
+use Rattle.cg_agree_lemmas.specs.OneSteps.{hands-step}
 use Rattle.cg_agree.proofs.OutStays.{said-number}
-use Rattle.cg_agree.proofs.RecordKept.{hands-attempts}
+use Rattle.cg_agree_lemmas.specs.RecordKept.{hands-attempts}
 use Rattle.cg_agree.proofs.TalkFactsKept.{talk-kept}
-use Rattle.cg_agree.proofs.TurnKinds.{HasInstalled}
+use Rattle.cg_agree_lemmas.specs.TurnKinds.{HasInstalled}
 
 act-is : (m : Msg) (a : Action) → act_in m ≡ Some a → m ≡ ActionMsg a
 act-is (ActionMsg b) a e = (let same : b ≡ a = cc in ap (λ x. ActionMsg x) same)

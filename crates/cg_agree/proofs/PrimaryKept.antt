@@ -30,33 +30,33 @@ use Rattle.cg_model.specs.Facts.{Invariant}
 use Rattle.cg_model.specs.Small.{Small, Starts, Makes, Enters, Orders, Receives, Hands, Leaves, Asks, Settles, Commits, Crashes, Recovers, Copies, Joins, new_past, struck, newest_conf, turning, take_newest, take_next, take_parting, take_request, coming, handed_next, leaving, commit_as, crash_as, recover_as, copy_as, join_with, small_step}
 use Rattle.cg_model.specs.Smalls.{may_make, is_running, is_set}
 use Rattle.cg_agree.proofs.BegunKept.{nothing-before}
-use Rattle.cg_agree.proofs.ChronicleFacts.{past-begun}
-use Rattle.cg_agree.proofs.CoresKept.{past-there}
+use Rattle.cg_agree_lemmas.specs.ChronicleFacts.{past-begun}
+use Rattle.cg_agree_lemmas.specs.CoresKept.{past-there}
 use Rattle.cg_agree.proofs.ExchangeBehind.{up-now}
 use Rattle.cg_agree.proofs.ExchangeSmalls.{greens-turning, replica-behind, greens-behind, greens-settle, greens-request}
 use Rattle.cg_agree.proofs.GreenLine.{HasGreenLine, as-before}
 use Rattle.cg_agree.proofs.GreensFront.{commit-same}
-use Rattle.cg_agree.proofs.GroupKept.{leaving-regular}
-use Rattle.cg_agree.proofs.HandSays.{find-holds}
-use Rattle.cg_agree.proofs.HeldCommit.{recovered-id}
+use Rattle.cg_agree_lemmas.specs.GroupKept.{leaving-regular}
+use Rattle.cg_agree_lemmas.specs.HandSays.{find-holds}
+use Rattle.cg_agree_lemmas.specs.HeldCommit.{recovered-id}
 use Rattle.cg_agree.proofs.LevelsOpen.{when-from}
-use Rattle.cg_agree.proofs.HandsKept.{seated}
-use Rattle.cg_agree.proofs.HandsNow.{HandsNow, hands-now, hands-regular, hand-turned, new}
+use Rattle.cg_agree_lemmas.specs.HandsKept.{seated}
+use Rattle.cg_agree_lemmas.specs.HandsNow.{HandsNow, hands-now, hands-regular, hand-turned, new}
 use Rattle.cg_agree.proofs.ModeKept.{mode_data-kept}
-use Rattle.cg_agree.proofs.NextThere.{orders-now, receives-now}
-use Rattle.cg_agree.proofs.OneStands.{Stands}
-use Rattle.cg_agree.proofs.OneSteps.{turns-step, hands-step, leaves-step, enters-step, commits-step, crashes-step, recovers-step, joins-step, may-join, seat-there}
-use Rattle.cg_agree.proofs.OrdersWorld.{ordered-step, step-is}
+use Rattle.cg_agree_lemmas.specs.NextThere.{orders-now, receives-now}
+use Rattle.cg_agree_lemmas.specs.OneStands.{Stands}
+use Rattle.cg_agree_lemmas.specs.OneSteps.{turns-step, hands-step, leaves-step, enters-step, commits-step, crashes-step, recovers-step, joins-step, may-join, seat-there}
+use Rattle.cg_agree_lemmas.specs.OrdersWorld.{ordered-step, step-is}
 use Rattle.cg_agree.proofs.PartsKept.{attempt_shape-kept}
 use Rattle.cg_agree.proofs.PastKept.{enters-now}
 use Rattle.cg_agree.proofs.PrimaryHands.{goes-green, installs-green}
-use Rattle.cg_agree.proofs.ReachFacts.{all-at}
-use Rattle.cg_agree.proofs.SmallTalk.{receive-is, receive-same}
+use Rattle.cg_agree_lemmas.specs.ReachFacts.{all-at}
+use Rattle.cg_agree_lemmas.specs.SmallTalk.{receive-is, receive-same}
 use Rattle.cg_agree.proofs.TalkAlone.{replica-set}
 use Rattle.cg_agree.proofs.TalkFactsKept.{mode_fits-kept, talk_legal-kept}
 use Rattle.cg_agree.proofs.TalkQuiet.{replica-turning}
-use Rattle.cg_agree.proofs.TurnKinds.{IsQuiet, Turned, Quiet, Installs, Decides, Attempts}
-use Rattle.cg_agree.proofs.TurnParts.{settle-quiet, request-quiet, newest-come}
+use Rattle.cg_agree_lemmas.specs.TurnKinds.{IsQuiet, Turned, Quiet, Installs, Decides, Attempts}
+use Rattle.cg_agree_lemmas.specs.TurnParts.{settle-quiet, request-quiet, newest-come}
 
 -- what a member of a primary component in its regular phase has
 abbrev pub LineAt : Chronicle → ℕ → Type 0

@@ -26,7 +26,7 @@ use Rattle.cg_model.specs.FactsLists.{IsRising}
 use Rattle.cg_model.specs.Noting.{chronicle_step, chronicle_after}
 use Rattle.cg_model.specs.Played.{StandsBeside, HoldsFrom, AlwaysHolds}
 use Rattle.cg_model.specs.SeatLaws.{IsSeated, seats_stay}
-use Rattle.cg_agree.proofs.ReachWorld.{opened-at, opened-attempt}
+use Rattle.cg_agree_lemmas.specs.ReachWorld.{opened-at, opened-attempt}
 use Rattle.cg_agree.proofs.CreatorNumbered.{admitted-of}
 use Rattle.cg_agree.proofs.PrimStays.{StaysOn, stays-refl, stays-then, event-stays, IsKnownIn, known-stays, known-same}
 

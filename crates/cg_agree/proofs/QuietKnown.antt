@@ -20,10 +20,10 @@ use Rattle.cg_model.specs.Looks.{members_in, ordered_in, placed_of}
 use Rattle.cg_model.specs.Talk.{Talk, no_talk, hears, hears_from, is_full, is_through, is_legal, may_say, act_in, acts_in, known_up_to}
 use Rattle.cg_model.specs.FactsTalk.{whole_talk, of_creator, count_behind}
 use Rattle.cg_model.specs.Facts.{Invariant}
-use Rattle.cg_agree.proofs.ActsSaid.{acts-by, acts-of}
+use Rattle.cg_agree_lemmas.specs.ActsSaid.{acts-by, acts-of}
 use Rattle.cg_agree.proofs.DeadKept.{remaining-senders}
-use Rattle.cg_agree.proofs.SaidSoFar.{rest-through}
-use Rattle.cg_agree.proofs.TalkCommute.{acts}
+use Rattle.cg_agree_lemmas.specs.SaidSoFar.{rest-through}
+use Rattle.cg_agree_lemmas.specs.TalkCommute.{acts}
 use Rattle.cg_agree.proofs.QuietTalk.{said-placed, member-of, talk-ended, summaries-are, actions-are}
 
 -- ---- names that count on

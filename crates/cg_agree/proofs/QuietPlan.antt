@@ -21,13 +21,13 @@ use Rattle.cg_plan.specs.Progress.{is_done}
 use Rattle.cg_plan.specs.Parts.{size_of}
 use Rattle.cg_group.specs.EachLaws.{Each, Each-weaker}
 use Rattle.cg_model.specs.Talk.{Talk, is_full, is_through, due_from, due_items}
-use Rattle.cg_agree.proofs.DueAll.{item_by, items_by, by-sender, take-beyond}
-use Rattle.cg_agree.proofs.EndCovers.{OfEach}
+use Rattle.cg_agree_lemmas.specs.DueAll.{item_by, items_by, by-sender, take-beyond}
+use Rattle.cg_agree_lemmas.specs.EndCovers.{OfEach}
 use Rattle.cg_agree.proofs.EndReached.{best-of}
-use Rattle.cg_agree.proofs.HandsKept.{some-at}
-use Rattle.cg_agree.proofs.KnownBounds.{farther-of}
+use Rattle.cg_agree_lemmas.specs.HandsKept.{some-at}
+use Rattle.cg_agree_lemmas.specs.KnownBounds.{farther-of}
 use Rattle.cg_agree.proofs.PartsOwn.{IsPartOf, parts-of}
-use Rattle.cg_agree.proofs.SaidSoFar.{items_so_far}
+use Rattle.cg_agree_lemmas.specs.SaidSoFar.{items_so_far}
 
 -- ---- lists
 

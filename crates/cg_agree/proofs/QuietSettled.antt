@@ -29,8 +29,8 @@ use Rattle.cg_model.specs.FactsExchange.{IsInExchange, HasTakenOver, best_told}
 use Rattle.cg_model.specs.FactsGreens.{IsOnLine, IsHandedGreen}
 use Rattle.cg_model.specs.Facts.{Invariant}
 use Rattle.cg_agree.proofs.DeadKept.{remaining-senders}
-use Rattle.cg_agree.proofs.HeldMarks.{counted}
-use Rattle.cg_agree.proofs.ReachFacts.{all-from}
+use Rattle.cg_agree_lemmas.specs.HeldMarks.{counted}
+use Rattle.cg_agree_lemmas.specs.ReachFacts.{all-from}
 use Rattle.cg_agree.proofs.QuietTalk.{quiet-at, regular-there, handed-all, up-there, told-there, member-of, all-announced, state-there, summaries-are}
 use Rattle.cg_agree.proofs.QuietKnown.{known-in}
 use Rattle.cg_commit.specs.Holds.{cut_behind}

@@ -28,15 +28,15 @@ use Rattle.cg_model.specs.FactsTalk.{whole_talk, handed_talk, summaries_of, IsSt
 use Rattle.cg_model.specs.FactsExchange.{IsInExchange}
 use Rattle.cg_model.specs.Facts.{Invariant}
 use Rattle.cg_agree.proofs.ClearedDead.{IsToldIn, each-told}
-use Rattle.cg_agree.proofs.EndCovers.{OfEach, of_each-weaker}
+use Rattle.cg_agree_lemmas.specs.EndCovers.{OfEach, of_each-weaker}
 use Rattle.cg_agree.proofs.DeadKept.{remaining-senders}
-use Rattle.cg_agree.proofs.HandsKept.{regular-up}
-use Rattle.cg_agree.proofs.Announced.{senders-members}
-use Rattle.cg_agree.proofs.MadeAlone.{is-running}
-use Rattle.cg_agree.proofs.ReachFacts.{all-at}
-use Rattle.cg_agree.proofs.SaidSoFar.{kind_of, part_of, kind-cons, nobodys, items_so_far, so_far-legal}
-use Rattle.cg_agree.proofs.TalkCommute.{tells, senders-more}
-use Rattle.cg_agree.proofs.TalkEarly.{early-none}
+use Rattle.cg_agree_lemmas.specs.HandsKept.{regular-up}
+use Rattle.cg_agree_lemmas.specs.Announced.{senders-members}
+use Rattle.cg_agree_lemmas.specs.MadeAlone.{is-running}
+use Rattle.cg_agree_lemmas.specs.ReachFacts.{all-at}
+use Rattle.cg_agree_lemmas.specs.SaidSoFar.{kind_of, part_of, kind-cons, nobodys, items_so_far, so_far-legal}
+use Rattle.cg_agree_lemmas.specs.TalkCommute.{tells, senders-more}
+use Rattle.cg_agree_lemmas.specs.TalkEarly.{early-none}
 use Rattle.cg_agree.proofs.QuietPlan.{all-through}
 
 -- ---- what a talk has of its messages

@@ -20,14 +20,14 @@ use Rattle.cg_model.specs.Small.{Small, small_step}
 use Rattle.cg_model.specs.Smalls.{may_make}
 use Rattle.cg_agree.proofs.AttemptSteps.{attempt-step}
 use Rattle.cg_agree.proofs.AttemptsCame.{Came, Stayed, WasLeft, WasEntered, WasInstalled, WasMade, came}
-use Rattle.cg_agree.proofs.AttemptsGrow.{Grown, attempts-grow}
+use Rattle.cg_agree_lemmas.specs.AttemptsGrow.{Grown, attempts-grow}
 use Rattle.cg_agree.proofs.CountsMove.{count-move, found-conf}
 use Rattle.cg_agree.proofs.DeadKept.{said-attempt, any-of}
 use Rattle.cg_agree.proofs.InstalledIndexKept.{same-installed}
-use Rattle.cg_agree.proofs.Reach.{greatest-least, greatest-bounds, greatest-grows}
-use Rattle.cg_agree.proofs.ReachFacts.{all-at}
-use Rattle.cg_agree.proofs.ReachWorld.{opened-at, opened-attempt, levels-kept, level-counted, reach-kept, frozen-stays}
-use Rattle.cg_agree.proofs.SpineKept.{LevelsGoOn, start-reach}
+use Rattle.cg_agree_lemmas.specs.Reach.{greatest-least, greatest-bounds, greatest-grows}
+use Rattle.cg_agree_lemmas.specs.ReachFacts.{all-at}
+use Rattle.cg_agree_lemmas.specs.ReachWorld.{opened-at, opened-attempt, levels-kept, level-counted, reach-kept, frozen-stays}
+use Rattle.cg_agree_lemmas.specs.SpineKept.{LevelsGoOn, start-reach}
 
 some-is : {X : Type 0} (x y : X) → Some x ≡ Some y → x ≡ y
 some-is x y e = ap (λ o. option_map_or (λ z. z) o x) e

@@ -16,12 +16,12 @@ use Rattle.cg_model.specs.Looks.{conf_of, ordered_in, received_by_all}
 use Rattle.cg_model.specs.FactsNet.{Seated}
 use Rattle.cg_model.specs.Small.{Small, Starts, Makes, Enters, Orders, Receives, Hands, Leaves, Asks, Settles, Commits, Crashes, Recovers, Copies, Joins, small_step, take_request}
 use Rattle.cg_model.specs.Smalls.{may_make, is_running}
-use Rattle.cg_agree.proofs.GroupKept.{orders-conf, receives-conf, leaving-regular}
-use Rattle.cg_agree.proofs.GroupSound.{GroupSound, ConfStep}
-use Rattle.cg_agree.proofs.NextThere.{orders-now, receives-now}
-use Rattle.cg_agree.proofs.OneSteps.{OneStep, turns-step, hands-step, leaves-step, enters-step, commits-step, copies-step, crashes-step, recovers-step, joins-step, may-join, may-enter}
+use Rattle.cg_agree_lemmas.specs.GroupKept.{orders-conf, receives-conf, leaving-regular}
+use Rattle.cg_agree_lemmas.specs.GroupSound.{GroupSound, ConfStep}
+use Rattle.cg_agree_lemmas.specs.NextThere.{orders-now, receives-now}
+use Rattle.cg_agree_lemmas.specs.OneSteps.{OneStep, turns-step, hands-step, leaves-step, enters-step, commits-step, copies-step, crashes-step, recovers-step, joins-step, may-join, may-enter}
 use Rattle.cg_agree.proofs.FixedKept.{confs-begun, made-said}
-use Rattle.cg_agree.proofs.ConfSound.{by_all, by_all-grows}
+use Rattle.cg_agree_lemmas.specs.ConfSound.{by_all, by_all-grows}
 
 -- each place that all members have received stays one
 same-conf : (c d : Chronicle) (p : ℕ) (now : Phase) (n : ℕ) (is : Bool) → OneStep c d p now n is → (k : ℕ) → received_by_all c k ≤ received_by_all d k

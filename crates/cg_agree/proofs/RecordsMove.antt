@@ -28,17 +28,17 @@ use Rattle.cg_model.specs.Facts.{Invariant}
 use Rattle.cg_model.specs.Played.{IsWritten, AtRest}
 use Rattle.cg_model.specs.Small.{Small, Starts, Makes, Enters, Orders, Receives, Hands, Leaves, Asks, Settles, Commits, Crashes, Recovers, Copies, Joins, after_turn, turning, turning_as, commit_as, crash_as, recover_as, copy_as, join_with, coming, take_newest, handed_next, take_next, leaving, take_parting, take_request, small_step}
 use Rattle.cg_model.specs.Smalls.{may_make, is_set, is_between}
-use Rattle.cg_agree.proofs.ChronicleFacts.{seat_of-set}
-use Rattle.cg_agree.proofs.HeldCommit.{recovered-id}
+use Rattle.cg_agree_lemmas.specs.ChronicleFacts.{seat_of-set}
+use Rattle.cg_agree_lemmas.specs.HeldCommit.{recovered-id}
 use Rattle.cg_agree.proofs.BegunKept.{nothing-before}
-use Rattle.cg_agree.proofs.CoresKept.{seat-of}
-use Rattle.cg_agree.proofs.TurnValues.{even-own_to_red}
-use Rattle.cg_agree.proofs.TurnKinds.{IsQuiet, HasInstalled, Turned, Quiet, Installs, Decides, Attempts, new_record}
-use Rattle.cg_agree.proofs.TurnParts.{HasParted, record_left, settle-quiet, request-quiet, parting-turned, newest-come}
-use Rattle.cg_agree.proofs.HandsNow.{HandsNow, hands-now, new, hand-turned, running-now}
-use Rattle.cg_agree.proofs.PlanEnd.{AtPlanEnd, is_behind, plan-end}
-use Rattle.cg_agree.proofs.AttemptsTurn.{ends-beside}
-use Rattle.cg_agree.proofs.RecordKept.{same-replica, enters-between}
+use Rattle.cg_agree_lemmas.specs.CoresKept.{seat-of}
+use Rattle.cg_agree_lemmas.specs.TurnValues.{even-own_to_red}
+use Rattle.cg_agree_lemmas.specs.TurnKinds.{IsQuiet, HasInstalled, Turned, Quiet, Installs, Decides, Attempts, new_record}
+use Rattle.cg_agree_lemmas.specs.TurnParts.{HasParted, record_left, settle-quiet, request-quiet, parting-turned, newest-come}
+use Rattle.cg_agree_lemmas.specs.HandsNow.{HandsNow, hands-now, new, hand-turned, running-now}
+use Rattle.cg_agree_lemmas.specs.PlanEnd.{AtPlanEnd, is_behind, plan-end}
+use Rattle.cg_agree_lemmas.specs.AttemptsTurn.{ends-beside}
+use Rattle.cg_agree_lemmas.specs.RecordKept.{same-replica, enters-between}
 
 -- ---- a record behind a step
 

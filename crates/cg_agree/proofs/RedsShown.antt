@@ -15,12 +15,12 @@ use Rattle.cg_model.specs.Agreement.{through}
 use Rattle.cg_model.specs.FactsReplica.{AreBooked}
 use Rattle.cg_model.specs.Looks.{on_disk}
 use Rattle.cg_model.specs.Played.{StandsBeside, AlwaysHolds}
-use Rattle.cg_agree.proofs.BookGrows.{IsNamed, cut_of}
-use Rattle.cg_agree.proofs.BookedCores.{each-booked}
+use Rattle.cg_agree_lemmas.specs.BookGrows.{IsNamed, cut_of}
+use Rattle.cg_agree_lemmas.specs.BookedCores.{each-booked}
 use Rattle.cg_agree.proofs.CreatorNumbered.{stands-of}
-use Rattle.cg_agree.proofs.HandsKept.{seated}
+use Rattle.cg_agree_lemmas.specs.HandsKept.{seated}
 use Rattle.cg_agree.proofs.MadeBookKept.{nothing-made, event-made}
-use Rattle.cg_agree.proofs.NothingStands.{nothing-stands}
+use Rattle.cg_agree_lemmas.specs.NothingStands.{nothing-stands}
 use Rattle.cg_agree.proofs.OrdersKept.{orders-kept}
 use Rattle.cg_agree.proofs.OthersBooked.{booked-index, booked-made}
 use Rattle.cg_agree.proofs.RunForward.{IsStepOf, of-run}

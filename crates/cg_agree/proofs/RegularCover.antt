@@ -36,25 +36,25 @@ use Rattle.cg_model.specs.FactsExchange.{HoldsStill, IsUnmoved, IsGoingOn, HasTa
 use Rattle.cg_model.specs.FactsAttempts.{HoldsParts}
 use Rattle.cg_model.specs.FactsGreens.{Covers, CoversLevel}
 use Rattle.cg_agree.proofs.AttemptsCover.{lead-of, attempts-cover}
-use Rattle.cg_agree.proofs.CoresKept.{held-known}
+use Rattle.cg_agree_lemmas.specs.CoresKept.{held-known}
 use Rattle.cg_agree.proofs.CoversStay.{start-covers, covers-more}
-use Rattle.cg_agree.proofs.EndCuts.{run-below, run-above}
+use Rattle.cg_agree_lemmas.specs.EndCuts.{run-below, run-above}
 use Rattle.cg_agree.proofs.EndShown.{ToldCovers, Leads, member-shows}
-use Rattle.cg_agree.proofs.FrontFacts.{Front-map, split_by_Front, common-covers}
-use Rattle.cg_agree.proofs.HandsNow.{whole-through}
-use Rattle.cg_agree.proofs.HeldMarks.{IsOneself, rising-green, are_within}
-use Rattle.cg_agree.proofs.Knowledge.{known-of, each-bounded, some-sender}
+use Rattle.cg_agree_lemmas.specs.FrontFacts.{Front-map, split_by_Front, common-covers}
+use Rattle.cg_agree_lemmas.specs.HandsNow.{whole-through}
+use Rattle.cg_agree_lemmas.specs.HeldMarks.{IsOneself, rising-green, are_within}
+use Rattle.cg_agree_lemmas.specs.Knowledge.{known-of, each-bounded, some-sender}
 use Rattle.cg_agree.proofs.LevelsOpen.{when-from}
-use Rattle.cg_agree.proofs.PartsNamed.{actions-names}
-use Rattle.cg_agree.proofs.PlanEnd.{is_behind, behind-ended}
-use Rattle.cg_agree.proofs.ReachWorld.{when-is}
+use Rattle.cg_agree_lemmas.specs.PartsNamed.{actions-names}
+use Rattle.cg_agree_lemmas.specs.PlanEnd.{is_behind, behind-ended}
+use Rattle.cg_agree_lemmas.specs.ReachWorld.{when-is}
 use Rattle.cg_commit.specs.Holds.{run_on, cut_behind}
-use Rattle.cg_agree.proofs.TalkEarly.{all-member}
+use Rattle.cg_agree_lemmas.specs.TalkEarly.{all-member}
 use Rattle.cg_agree.proofs.ToldCover.{CoversWhere}
 use Rattle.cg_agree.proofs.ToldLine.{Behind, begun-reach, told-begun, told-fits, told-greens, told-run}
-use Rattle.cg_agree.proofs.YellowMeets.{reds-named}
+use Rattle.cg_agree_lemmas.specs.YellowMeets.{reds-named}
 use Rattle.cg_commit.specs.RunLaws.{run_on-append}
-use Rattle.cg_agree.proofs.RunFronts.{run_on-front}
+use Rattle.cg_agree_lemmas.specs.RunFronts.{run_on-front}
 
 -- ---- names above a cut
 

@@ -16,12 +16,12 @@ use Rattle.cg_model.specs.Facts.{Invariant}
 use Rattle.cg_model.specs.Small.{Small, Starts, Makes, Enters, Orders, Receives, Hands, Leaves, Asks, Settles, Commits, Crashes, Recovers, Copies, Joins, small_step, take_request}
 use Rattle.cg_model.specs.Smalls.{may_make, is_between, is_running, is_set}
 use Rattle.cg_agree.proofs.BegunKept.{nothing-before}
-use Rattle.cg_agree.proofs.GroupKept.{orders-conf, receives-conf, leaving-regular}
-use Rattle.cg_agree.proofs.GroupSound.{phase-made}
-use Rattle.cg_agree.proofs.HandsNow.{hands-regular}
+use Rattle.cg_agree_lemmas.specs.GroupKept.{orders-conf, receives-conf, leaving-regular}
+use Rattle.cg_agree_lemmas.specs.GroupSound.{phase-made}
+use Rattle.cg_agree_lemmas.specs.HandsNow.{hands-regular}
 use Rattle.cg_agree.proofs.LeftMoves.{in-running}
-use Rattle.cg_agree.proofs.NextThere.{orders-now, receives-now}
-use Rattle.cg_agree.proofs.OneSteps.{OneStep, turns-step, hands-step, leaves-step, enters-step, commits-step, copies-step, crashes-step, recovers-step, joins-step, may-join, may-enter, running-begun}
+use Rattle.cg_agree_lemmas.specs.NextThere.{orders-now, receives-now}
+use Rattle.cg_agree_lemmas.specs.OneSteps.{OneStep, turns-step, hands-step, leaves-step, enters-step, commits-step, copies-step, crashes-step, recovers-step, joins-step, may-join, may-enter, running-begun}
 
 pub data RegularEnds (c : Chronicle) (s : Small) (conf p : ℕ) : Type 0 where
   Still : (regular : is_regular_in (small_step c s) conf p ≡ true) → RegularEnds c s conf p

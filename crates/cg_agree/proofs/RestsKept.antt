@@ -32,17 +32,17 @@ use Rattle.cg_model.specs.Facts.{Invariant}
 use Rattle.cg_model.specs.Played.{IsSame, StandsBeside, with_world}
 use Rattle.cg_model.specs.Noting.{chronicle_step}
 use Rattle.cg_model.specs.Step.{world_step}
-use Rattle.cg_agree.proofs.FrontFacts.{split_by_Front}
+use Rattle.cg_agree_lemmas.specs.FrontFacts.{split_by_Front}
 use Rattle.cg_commit.specs.Holds.{run_on, cut_behind}
 use Rattle.cg_commit.specs.RunLaws.{cut_behind-append, run_on-append}
 use Rattle.cg_commit.specs.CutRaiseLaws.{rising-behind, rising-raise, index-same, behind-rises}
-use Rattle.cg_agree.proofs.HeldMarks.{IsOneself, rising-red}
-use Rattle.cg_agree.proofs.HandSays.{find-holds}
+use Rattle.cg_agree_lemmas.specs.HeldMarks.{IsOneself, rising-red}
+use Rattle.cg_agree_lemmas.specs.HandSays.{find-holds}
 use Rattle.cg_agree.proofs.DeadKept.{said-attempt}
 use Rattle.cg_agree.proofs.MadeOfSmalls.{made-of-smalls}
-use Rattle.cg_agree.proofs.AttemptNew.{HasNoRecordYet}
-use Rattle.cg_agree.proofs.LivesRest.{seat-in, seat-agrees, seat-empty}
-use Rattle.cg_agree.proofs.RestsBehind.{LifeSteps, SeatSteps, RestsAt, event-rests}
+use Rattle.cg_agree_lemmas.specs.AttemptNew.{HasNoRecordYet}
+use Rattle.cg_agree_lemmas.specs.LivesRest.{seat-in, seat-agrees, seat-empty}
+use Rattle.cg_agree_lemmas.specs.RestsBehind.{LifeSteps, SeatSteps, RestsAt, event-rests}
 use Rattle.cg_commit.specs.RunMarkLaws.{run-head}
 
 -- ---- records

@@ -36,18 +36,18 @@ use Rattle.cg_model.specs.Facts.{Invariant}
 use Rattle.cg_model.specs.Small.{take_all, take_parting}
 use Rattle.cg_agree.proofs.ActsNext.{talk-next, ended-next, heard-next, numbered-next}
 use Rattle.cg_agree.proofs.DeadEvidenceKept.{running-core}
-use Rattle.cg_agree.proofs.DiskAhead.{left-own, made-by}
-use Rattle.cg_agree.proofs.FrontFacts.{Front-refl, split_by_Front}
-use Rattle.cg_agree.proofs.HandMarks.{one_of, raised-next, counted-next, made-so}
-use Rattle.cg_agree.proofs.HandsKept.{some-at}
-use Rattle.cg_agree.proofs.HeldInstall.{IsAllYellow, with_yellow_mark, yellow-oneself, yellow-placed}
-use Rattle.cg_agree.proofs.HeldMarks.{IsOneself, rising-red}
+use Rattle.cg_agree_lemmas.specs.DiskAhead.{left-own, made-by}
+use Rattle.cg_agree_lemmas.specs.FrontFacts.{Front-refl, split_by_Front}
+use Rattle.cg_agree_lemmas.specs.HandMarks.{one_of, raised-next, counted-next, made-so}
+use Rattle.cg_agree_lemmas.specs.HandsKept.{some-at}
+use Rattle.cg_agree_lemmas.specs.HeldInstall.{IsAllYellow, with_yellow_mark, yellow-oneself, yellow-placed}
+use Rattle.cg_agree_lemmas.specs.HeldMarks.{IsOneself, rising-red}
 use Rattle.cg_agree.proofs.LeaverOutside.{act_at, acts_at}
 use Rattle.cg_agree.proofs.LeaverStep.{RowIsYellow}
-use Rattle.cg_agree.proofs.MessageThere.{message-made}
+use Rattle.cg_agree_lemmas.specs.MessageThere.{message-made}
 use Rattle.cg_commit.specs.Holds.{cut_behind}
-use Rattle.cg_agree.proofs.StatesSaid.{creating-ended, count-quiet}
-use Rattle.cg_agree.proofs.YellowGrows.{places-keep}
+use Rattle.cg_agree_lemmas.specs.StatesSaid.{creating-ended, count-quiet}
+use Rattle.cg_agree_lemmas.specs.YellowGrows.{places-keep}
 use Rattle.cg_commit.specs.RunLaws.{cut_behind-append}
 
 -- ---- places one behind the other

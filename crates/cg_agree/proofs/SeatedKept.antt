@@ -28,14 +28,14 @@ use Rattle.cg_model.specs.FactsReplica.{IsModeData}
 use Rattle.cg_model.specs.Small.{Small, Starts, Makes, Enters, Orders, Receives, Hands, Leaves, Asks, Settles, Commits, Crashes, Recovers, Copies, Joins, start, small_step, turning_as, turning, commit_as, crash_as, recover_as, copy_as, join_with, changed_past, with_greens, written, struck, new_past, newly_green, take_request, take_newest, take_next, take_parting, coming, handed_next, leaving}
 use Rattle.cg_model.specs.Smalls.{may_make, is_set, may_come, is_running}
 use Rattle.cg_agree.proofs.BegunKept.{nothing-before, coming-begun}
-use Rattle.cg_agree.proofs.ChronicleFacts.{seat_of-set, past-begun}
-use Rattle.cg_agree.proofs.GivenKept.{without-own, Given, given-same, given-crashed, given-joined, given-more}
-use Rattle.cg_agree.proofs.GroupKept.{leaving-regular}
-use Rattle.cg_agree.proofs.HeldCommit.{recovered-id}
-use Rattle.cg_agree.proofs.Keyed.{found-changed}
+use Rattle.cg_agree_lemmas.specs.ChronicleFacts.{seat_of-set, past-begun}
+use Rattle.cg_agree_lemmas.specs.GivenKept.{without-own, Given, given-same, given-crashed, given-joined, given-more}
+use Rattle.cg_agree_lemmas.specs.GroupKept.{leaving-regular}
+use Rattle.cg_agree_lemmas.specs.HeldCommit.{recovered-id}
+use Rattle.cg_agree_lemmas.specs.Keyed.{found-changed}
 use Rattle.cg_agree.proofs.MoreThere.{NoneBegins, begun-same, begun-kept}
-use Rattle.cg_agree.proofs.OneSteps.{MayJoin, may-join, may-enter, begun-set, running-begun, regular-is_up}
-use Rattle.cg_agree.proofs.UnorderedKept.{regular-where_ordered, first-none, refused-not}
+use Rattle.cg_agree_lemmas.specs.OneSteps.{MayJoin, may-join, may-enter, begun-set, running-begun, regular-is_up}
+use Rattle.cg_agree_lemmas.specs.UnorderedKept.{regular-where_ordered, first-none, refused-not}
 
 -- ---- pasts
 

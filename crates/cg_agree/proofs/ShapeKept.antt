@@ -23,15 +23,15 @@ use Rattle.cg_model.specs.FactsAttempts.{IsAttempt, AreParts, AttemptShape}
 use Rattle.cg_model.specs.Facts.{Invariant}
 use Rattle.cg_model.specs.Small.{Small, small_step, with_leaver, with_entrant, with_installer}
 use Rattle.cg_model.specs.Smalls.{may_make}
-use Rattle.cg_agree.proofs.FrontFacts.{take-Front}
-use Rattle.cg_agree.proofs.HandSays.{find-holds, remains-unless_gone}
-use Rattle.cg_agree.proofs.ReachFacts.{all-at, all-from}
-use Rattle.cg_agree.proofs.ReachSteps.{goes_on-kept}
-use Rattle.cg_agree.proofs.ReachWorld.{levels-kept}
-use Rattle.cg_agree.proofs.SameAttempt.{SameAttempt, same-refl}
-use Rattle.cg_agree.proofs.AttemptsGrow.{grown-leaver}
-use Rattle.cg_agree.proofs.HandsNow.{whole-through, whole-ended}
-use Rattle.cg_agree.proofs.RecordKept.{attempt-heard}
+use Rattle.cg_agree_lemmas.specs.FrontFacts.{take-Front}
+use Rattle.cg_agree_lemmas.specs.HandSays.{find-holds, remains-unless_gone}
+use Rattle.cg_agree_lemmas.specs.ReachFacts.{all-at, all-from}
+use Rattle.cg_agree_lemmas.specs.ReachSteps.{goes_on-kept}
+use Rattle.cg_agree_lemmas.specs.ReachWorld.{levels-kept}
+use Rattle.cg_agree_lemmas.specs.SameAttempt.{SameAttempt, same-refl}
+use Rattle.cg_agree_lemmas.specs.AttemptsGrow.{grown-leaver}
+use Rattle.cg_agree_lemmas.specs.HandsNow.{whole-through, whole-ended}
+use Rattle.cg_agree_lemmas.specs.RecordKept.{attempt-heard}
 use Rattle.cg_agree.proofs.AttemptSteps.{attempt-step, Installing}
 use Rattle.cg_agree.proofs.DeadKept.{said-attempt, said-by}
 use Rattle.cg_agree.proofs.AttemptsCame.{Begins, Came, Stayed, WasLeft, WasEntered, WasInstalled, WasMade, came}

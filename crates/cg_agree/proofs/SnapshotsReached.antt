@@ -12,11 +12,11 @@ use Rattle.cg_model.specs.Fronts.{Front}
 use Rattle.cg_model.specs.Looks.{greens_of, snapshot_of, copied_for}
 use Rattle.cg_model.specs.FactsReplica.{IsCore}
 use Rattle.cg_model.specs.Played.{Given, StandsBeside}
-use Rattle.cg_agree.proofs.HeldMarks.{counted}
-use Rattle.cg_agree.proofs.MadeTransfer.{neither, only-both}
+use Rattle.cg_agree_lemmas.specs.HeldMarks.{counted}
+use Rattle.cg_agree_lemmas.specs.MadeTransfer.{neither, only-both}
 use Rattle.cg_agree.proofs.OrderReached.{within-order}
-use Rattle.cg_agree.proofs.SameSmalls.{as_given, first-given}
-use Rattle.cg_agree.proofs.SoundWorlds.{IsSound, sound-same, sound-of}
+use Rattle.cg_agree_lemmas.specs.SameSmalls.{as_given, first-given}
+use Rattle.cg_agree_lemmas.specs.SoundWorlds.{IsSound, sound-same, sound-of}
 
 module _ (c : Chronicle) (w : World) (stands : StandsBeside c w) (joiner : ℕ) where
   content_of : Held → Option Given → Held

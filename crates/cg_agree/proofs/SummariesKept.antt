@@ -28,22 +28,22 @@ use Rattle.cg_model.specs.Facts.{Invariant}
 use Rattle.cg_model.specs.Small.{Small, Starts, Makes, Enters, Orders, Receives, Hands, Leaves, Asks, Settles, Commits, Crashes, Recovers, Copies, Joins, small_step, coming, newest_conf}
 use Rattle.cg_model.specs.Smalls.{may_make, is_set}
 use Rattle.cg_commit.specs.CutRaiseLaws.{behind-rises}
-use Rattle.cg_agree.proofs.HeldMarks.{IsOneself, rising-green}
-use Rattle.cg_agree.proofs.ChronicleFacts.{seat_of-set}
-use Rattle.cg_agree.proofs.CoresKept.{greens-turn}
-use Rattle.cg_agree.proofs.OneselfWorld.{oneself-of}
-use Rattle.cg_agree.proofs.OneselfSmalls.{enters-oneself}
-use Rattle.cg_agree.proofs.HandSays.{find-holds}
+use Rattle.cg_agree_lemmas.specs.HeldMarks.{IsOneself, rising-green}
+use Rattle.cg_agree_lemmas.specs.ChronicleFacts.{seat_of-set}
+use Rattle.cg_agree_lemmas.specs.CoresKept.{greens-turn}
+use Rattle.cg_agree_lemmas.specs.OneselfWorld.{oneself-of}
+use Rattle.cg_agree_lemmas.specs.OneselfSmalls.{enters-oneself}
+use Rattle.cg_agree_lemmas.specs.HandSays.{find-holds}
 use Rattle.cg_agree.proofs.DeadKept.{said-attempt}
 use Rattle.cg_agree.proofs.BegunKept.{nothing-before}
-use Rattle.cg_agree.proofs.ToldKept.{IsUntold, told-same, told_in-same}
+use Rattle.cg_agree_lemmas.specs.ToldKept.{IsUntold, told-same, told_in-same}
 use Rattle.cg_agree.proofs.PastKept.{EntersNow, enters-now, entry_turn, entry_told, enters-is, told_in-enters}
-use Rattle.cg_agree.proofs.EntryGreens.{entry-greens, nothing-new}
-use Rattle.cg_agree.proofs.TurnParts.{record_left, HasCome, newest-come}
+use Rattle.cg_agree_lemmas.specs.EntryGreens.{entry-greens, nothing-new}
+use Rattle.cg_agree_lemmas.specs.TurnParts.{record_left, HasCome, newest-come}
 use Rattle.cg_agree.proofs.LevelsKept.{start-kept, prim-kept, levels_stand-kept}
-use Rattle.cg_agree.proofs.ReachWorld.{levels-kept, level-kept}
-use Rattle.cg_agree.proofs.AttemptsGrow.{attempts-grow}
-use Rattle.cg_agree.proofs.RecordKept.{recorded-later}
+use Rattle.cg_agree_lemmas.specs.ReachWorld.{levels-kept, level-kept}
+use Rattle.cg_agree_lemmas.specs.AttemptsGrow.{attempts-grow}
+use Rattle.cg_agree_lemmas.specs.RecordKept.{recorded-later}
 
 -- ---- what was told stays, and what is told by one that enters
 

@@ -26,28 +26,28 @@ use Rattle.cg_model.specs.Facts.{Invariant}
 use Rattle.cg_model.specs.Played.{AtRest}
 use Rattle.cg_model.specs.Small.{Small, Starts, Makes, Enters, Orders, Receives, Hands, Leaves, Asks, Settles, Commits, Crashes, Recovers, Copies, Joins, small_step, handed_next, leaving, take_next, take_parting, take_request, newest_conf, commit_as, crash_as, recover_as, copy_as, join_with}
 use Rattle.cg_model.specs.Smalls.{may_make, is_running, is_set}
-use Rattle.cg_agree.proofs.FrontFacts.{Front-refl, Front-trans}
-use Rattle.cg_agree.proofs.ChronicleFacts.{seat_of-set}
-use Rattle.cg_agree.proofs.HeldCommit.{recovered-id}
-use Rattle.cg_agree.proofs.CoresKept.{seat-of}
+use Rattle.cg_agree_lemmas.specs.FrontFacts.{Front-refl, Front-trans}
+use Rattle.cg_agree_lemmas.specs.ChronicleFacts.{seat_of-set}
+use Rattle.cg_agree_lemmas.specs.HeldCommit.{recovered-id}
+use Rattle.cg_agree_lemmas.specs.CoresKept.{seat-of}
 use Rattle.cg_agree.proofs.BegunKept.{nothing-before}
-use Rattle.cg_agree.proofs.GroupKept.{orders-conf, receives-conf, leaving-regular}
-use Rattle.cg_agree.proofs.GroupSound.{phase-made}
-use Rattle.cg_agree.proofs.NextThere.{orders-now, receives-now}
-use Rattle.cg_agree.proofs.OneStands.{stands-up}
-use Rattle.cg_agree.proofs.OneSteps.{OneStep, turns-step, hands-step, leaves-step, enters-step, commits-step, copies-step, crashes-step, recovers-step, joins-step, may-join}
+use Rattle.cg_agree_lemmas.specs.GroupKept.{orders-conf, receives-conf, leaving-regular}
+use Rattle.cg_agree_lemmas.specs.GroupSound.{phase-made}
+use Rattle.cg_agree_lemmas.specs.NextThere.{orders-now, receives-now}
+use Rattle.cg_agree_lemmas.specs.OneStands.{stands-up}
+use Rattle.cg_agree_lemmas.specs.OneSteps.{OneStep, turns-step, hands-step, leaves-step, enters-step, commits-step, copies-step, crashes-step, recovers-step, joins-step, may-join}
 use Rattle.cg_agree.proofs.ModeKept.{mode_data-kept}
-use Rattle.cg_agree.proofs.EntersTurn.{told-newest}
-use Rattle.cg_agree.proofs.ToldKept.{IsUntold}
+use Rattle.cg_agree_lemmas.specs.EntersTurn.{told-newest}
+use Rattle.cg_agree_lemmas.specs.ToldKept.{IsUntold}
 use Rattle.cg_agree.proofs.PastKept.{EntersNow, enters-now, enters-is, entry_turn, entry_told, summary-id}
 use Rattle.cg_agree.proofs.CoresMove.{CoreMove, Was, Begins, cores-move}
 use Rattle.cg_agree.proofs.GreensFront.{greens-go_on}
-use Rattle.cg_agree.proofs.BookedCores.{JoinersBooked}
+use Rattle.cg_agree_lemmas.specs.BookedCores.{JoinersBooked}
 use Rattle.cg_agree.proofs.CopiesBooked.{UnbegunMadeNone, joiners-booked}
 use Rattle.cg_agree.proofs.MadeOnceKept.{created-grows}
-use Rattle.cg_agree.proofs.KnowsOn.{knows-on, takes-knowing, settles-knowing, asks-knowing}
+use Rattle.cg_agree_lemmas.specs.KnowsOn.{knows-on, takes-knowing, settles-knowing, asks-knowing}
 use Rattle.cg_agree.proofs.SummariesKept.{told-by, up-entered, greens-entered, fits-kept, knows-kept}
-use Rattle.cg_agree.proofs.SummariesInside.{LivesOn, Goal, goal-same, goal-some, lives-same, in-same, in-one, lives-turning, parted-in, inside-place, inside-places, first-of, commit-goal, crash-goal, alone-goal}
+use Rattle.cg_agree_lemmas.specs.SummariesInside.{LivesOn, Goal, goal-same, goal-some, lives-same, in-same, in-one, lives-turning, parted-in, inside-place, inside-places, first-of, commit-goal, crash-goal, alone-goal}
 
 never : {A : Type 0} → false ≡ true → A
 never e = absurd (let clash : false ≡ true = e in cc)

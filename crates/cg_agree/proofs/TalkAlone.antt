@@ -21,16 +21,16 @@ use Rattle.cg_model.specs.FactsNet.{Seated}
 use Rattle.cg_model.specs.FactsTalk.{IsStateIn, TalkFacts}
 use Rattle.cg_model.specs.Small.{Starts, Crashes, Recovers, Copies, Joins, start, small_step, crash_as, recover_as, copy_as, join_with}
 use Rattle.cg_model.specs.Smalls.{is_running}
-use Rattle.cg_agree.proofs.ChronicleFacts.{seat_of-set}
-use Rattle.cg_agree.proofs.EntersTurn.{own-state}
-use Rattle.cg_agree.proofs.GroupKept.{in_world}
-use Rattle.cg_agree.proofs.NumbersSame.{IsNumberedAs, numbered-itself}
-use Rattle.cg_agree.proofs.OneStands.{Stands, stands-up, stands-down}
-use Rattle.cg_agree.proofs.OneSteps.{MayJoin, seat-there, running-begun}
-use Rattle.cg_agree.proofs.TalkApart.{Apart, talk-apart}
-use Rattle.cg_agree.proofs.TalkFrame.{IsShownAs}
-use Rattle.cg_agree.proofs.TalkSame.{talk-same}
-use Rattle.cg_agree.proofs.ToldKept.{told_in-same}
+use Rattle.cg_agree_lemmas.specs.ChronicleFacts.{seat_of-set}
+use Rattle.cg_agree_lemmas.specs.EntersTurn.{own-state}
+use Rattle.cg_agree_lemmas.specs.GroupKept.{in_world}
+use Rattle.cg_agree_lemmas.specs.NumbersSame.{IsNumberedAs, numbered-itself}
+use Rattle.cg_agree_lemmas.specs.OneStands.{Stands, stands-up, stands-down}
+use Rattle.cg_agree_lemmas.specs.OneSteps.{MayJoin, seat-there, running-begun}
+use Rattle.cg_agree_lemmas.specs.TalkApart.{Apart, talk-apart}
+use Rattle.cg_agree_lemmas.specs.TalkFrame.{IsShownAs}
+use Rattle.cg_agree_lemmas.specs.TalkSame.{talk-same}
+use Rattle.cg_agree_lemmas.specs.ToldKept.{told_in-same}
 
 -- ---- the others behind a change of one
 

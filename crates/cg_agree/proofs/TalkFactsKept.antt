@@ -8,14 +8,14 @@ use Rattle.cg_model.specs.FactsTalk.{TalkFacts, TalkLegal, SentIffDue, ModeFits}
 use Rattle.cg_model.specs.Small.{Small, Starts, Makes, Enters, Orders, Receives, Hands, Leaves, Asks, Settles, Commits, Crashes, Recovers, Copies, Joins, small_step}
 use Rattle.cg_model.specs.Smalls.{may_make, is_running}
 use Rattle.cg_agree.proofs.ActsCreated.{talk-settles, talk-asks}
-use Rattle.cg_agree.proofs.ActsOrdered.{talk-orders}
+use Rattle.cg_agree_lemmas.specs.ActsOrdered.{talk-orders}
 use Rattle.cg_agree.proofs.AnswersOwn.{can-answer-there, knows-at-end}
 use Rattle.cg_agree.proofs.HandsAll.{talk-hands}
 use Rattle.cg_agree.proofs.LeavesTalk.{talk-parts}
-use Rattle.cg_agree.proofs.OneSteps.{may-join}
+use Rattle.cg_agree_lemmas.specs.OneSteps.{may-join}
 use Rattle.cg_agree.proofs.TalkAlone.{talk-crashes, talk-recovers, talk-copies, talk-joins, talk-starts}
 use Rattle.cg_agree.proofs.TalkEnters.{talk-enters}
-use Rattle.cg_agree.proofs.TalkMakes.{talk-makes}
+use Rattle.cg_agree_lemmas.specs.TalkMakes.{talk-makes}
 use Rattle.cg_agree.proofs.TalkQuiet.{talk-receives, talk-commits}
 
 pub talk-kept : (c : Chronicle) (s : Small) → Invariant c → may_make c s ≡ true → TalkFacts (small_step c s)

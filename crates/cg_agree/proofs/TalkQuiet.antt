@@ -19,18 +19,18 @@ use Rattle.cg_model.specs.FactsNet.{PhaseSound}
 use Rattle.cg_model.specs.FactsTalk.{IsStateIn, TalkFacts}
 use Rattle.cg_model.specs.Small.{Receives, Commits, Leaves, small_step, turning_as, turning, commit_as, leaving, take_parting, with_group}
 use Rattle.cg_model.specs.Smalls.{may_make}
-use Rattle.cg_agree.proofs.GroupKept.{leaving-regular}
-use Rattle.cg_agree.proofs.GroupTurn.{standing-id}
-use Rattle.cg_agree.proofs.HandSays.{find-holds}
-use Rattle.cg_agree.proofs.NextThere.{receives-now}
-use Rattle.cg_agree.proofs.NumbersSame.{IsNumberedAs, SameNumbers, numbered-itself}
-use Rattle.cg_agree.proofs.OneSteps.{leaves-step}
-use Rattle.cg_agree.proofs.SmallTalk.{receive-is, receive-same}
+use Rattle.cg_agree_lemmas.specs.GroupKept.{leaving-regular}
+use Rattle.cg_agree_lemmas.specs.GroupTurn.{standing-id}
+use Rattle.cg_agree_lemmas.specs.HandSays.{find-holds}
+use Rattle.cg_agree_lemmas.specs.NextThere.{receives-now}
+use Rattle.cg_agree_lemmas.specs.NumbersSame.{IsNumberedAs, SameNumbers, numbered-itself}
+use Rattle.cg_agree_lemmas.specs.OneSteps.{leaves-step}
+use Rattle.cg_agree_lemmas.specs.SmallTalk.{receive-is, receive-same}
 use Rattle.cg_agree.proofs.TalkAlone.{replica-set}
-use Rattle.cg_agree.proofs.TalkApart.{Apart, talk-apart}
-use Rattle.cg_agree.proofs.TalkSame.{talk-same}
-use Rattle.cg_agree.proofs.ToldKept.{told-same, told_in-same}
-use Rattle.cg_agree.proofs.TurnTalk.{commit-same}
+use Rattle.cg_agree_lemmas.specs.TalkApart.{Apart, talk-apart}
+use Rattle.cg_agree_lemmas.specs.TalkSame.{talk-same}
+use Rattle.cg_agree_lemmas.specs.ToldKept.{told-same, told_in-same}
+use Rattle.cg_agree_lemmas.specs.TurnTalk.{commit-same}
 
 -- ---- a receipt
 

@@ -23,14 +23,14 @@ use Rattle.cg_model.specs.Played.{AtRest}
 use Rattle.cg_model.specs.Small.{Small, Starts, Makes, Enters, Orders, Receives, Hands, Leaves, Asks, Settles, Commits, Crashes, Recovers, Copies, Joins, small_step, newly_green, coming, take_newest, newest_conf, take_request}
 use Rattle.cg_model.specs.Smalls.{may_make, is_between, is_running}
 use Rattle.cg_client.specs.Requests.{settle}
-use Rattle.cg_agree.proofs.GroupKept.{orders-conf, receives-conf, leaving-regular}
-use Rattle.cg_agree.proofs.GroupSound.{made-is}
+use Rattle.cg_agree_lemmas.specs.GroupKept.{orders-conf, receives-conf, leaving-regular}
+use Rattle.cg_agree_lemmas.specs.GroupSound.{made-is}
 use Rattle.cg_agree.proofs.FixedKept.{confs-begun}
-use Rattle.cg_agree.proofs.NextThere.{orders-now, receives-now}
-use Rattle.cg_agree.proofs.OneSteps.{turns-step, hands-step, leaves-step, enters-step, commits-step, copies-step, crashes-step, recovers-step, joins-step, may-join, may-enter}
-use Rattle.cg_agree.proofs.ToldKept.{IsUntold, told-same, told_in-same}
+use Rattle.cg_agree_lemmas.specs.NextThere.{orders-now, receives-now}
+use Rattle.cg_agree_lemmas.specs.OneSteps.{turns-step, hands-step, leaves-step, enters-step, commits-step, copies-step, crashes-step, recovers-step, joins-step, may-join, may-enter}
+use Rattle.cg_agree_lemmas.specs.ToldKept.{IsUntold, told-same, told_in-same}
 use Rattle.cg_agree.proofs.PastKept.{EntersNow, enters-now, entry_told, told_in-enters}
-use Rattle.cg_agree.proofs.EntryGreens.{entry-greens, nothing-new}
+use Rattle.cg_agree_lemmas.specs.EntryGreens.{entry-greens, nothing-new}
 use Rattle.cg_agree.proofs.TellersStill.{turn-same, greens-stay}
 
 -- ---- a configuration without messages had none before

@@ -27,17 +27,17 @@ use Rattle.cg_model.specs.Facts.{Invariant}
 use Rattle.cg_model.specs.Played.{AtRest}
 use Rattle.cg_model.specs.Small.{Small, Starts, Makes, Enters, Orders, Receives, Hands, Leaves, Asks, Settles, Commits, Crashes, Recovers, Copies, Joins, small_step, new_past, turning, turning_as, after_turn, newly_green, handed_next, leaving, take_next, take_parting, take_request, commit_as, crash_as, recover_as, copy_as, join_with}
 use Rattle.cg_model.specs.Smalls.{may_make, is_set}
-use Rattle.cg_agree.proofs.ChronicleFacts.{greens_of-other, past-begun}
-use Rattle.cg_agree.proofs.CoresKept.{seat-of, greens-turn}
+use Rattle.cg_agree_lemmas.specs.ChronicleFacts.{greens_of-other, past-begun}
+use Rattle.cg_agree_lemmas.specs.CoresKept.{seat-of, greens-turn}
 use Rattle.cg_agree.proofs.GreensFront.{commit-same, crash-same}
-use Rattle.cg_agree.proofs.GroupKept.{leaving-regular}
+use Rattle.cg_agree_lemmas.specs.GroupKept.{leaving-regular}
 use Rattle.cg_agree.proofs.BegunKept.{nothing-before}
-use Rattle.cg_agree.proofs.ToldKept.{IsUntold}
-use Rattle.cg_agree.proofs.OneSteps.{regular-is_up, may-join}
-use Rattle.cg_agree.proofs.HandsNow.{hands-now, hands-regular}
-use Rattle.cg_agree.proofs.HandsKept.{regular-phase}
-use Rattle.cg_agree.proofs.EntryGreens.{nothing-new}
-use Rattle.cg_agree.proofs.GreenMembers.{creates-same}
+use Rattle.cg_agree_lemmas.specs.ToldKept.{IsUntold}
+use Rattle.cg_agree_lemmas.specs.OneSteps.{regular-is_up, may-join}
+use Rattle.cg_agree_lemmas.specs.HandsNow.{hands-now, hands-regular}
+use Rattle.cg_agree_lemmas.specs.HandsKept.{regular-phase}
+use Rattle.cg_agree_lemmas.specs.EntryGreens.{nothing-new}
+use Rattle.cg_agree_lemmas.specs.GreenMembers.{creates-same}
 
 -- ---- a turn in which nothing becomes green
 

@@ -8,7 +8,7 @@ use Rattle.cg_model.specs.Chronicle.{Chronicle, no_chronicle}
 use Rattle.cg_model.specs.Noting.{chronicle_step, chronicle_after}
 use Rattle.cg_model.specs.Played.{AlwaysHolds, with_world}
 use Rattle.cg_model.specs.Telling.{Tells, printed}
-use Rattle.cg_agree.proofs.OrderTold.{order_told}
+use Rattle.cg_agree_lemmas.specs.OrderTold.{order_told}
 use Rattle.cg_agree.proofs.MadeBookKept.{nothing-made}
 use Rattle.cg_agree.proofs.RunForward.{IsStepOf, of-run}
 use Rattle.cg_agree.proofs.LinesShown.{AreLinesTold, lines-on, position-shown, white-shown}

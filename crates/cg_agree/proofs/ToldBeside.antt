@@ -22,20 +22,20 @@ use Rattle.cg_model.specs.Facts.{Invariant}
 use Rattle.cg_model.specs.FactsExchange.{IsSummary, IsOutdone}
 use Rattle.cg_model.specs.FactsReplica.{IsCore, DiskBehind}
 use Rattle.cg_model.specs.FactsTalk.{AreTold, summaries_of, whole_talk}
-use Rattle.cg_agree.proofs.EndCovers.{OfEach}
-use Rattle.cg_agree.proofs.EndQuorum.{both-each}
+use Rattle.cg_agree_lemmas.specs.EndCovers.{OfEach}
+use Rattle.cg_agree_lemmas.specs.EndQuorum.{both-each}
 use Rattle.cg_agree.proofs.EndReached.{best-bounds}
-use Rattle.cg_agree.proofs.FrontFacts.{Front-trans, Front-of_both, Front-map}
-use Rattle.cg_agree.proofs.HandSays.{find-holds}
-use Rattle.cg_agree.proofs.HandsContent.{IsTold, best-told}
-use Rattle.cg_agree.proofs.HandsKept.{take-drop}
-use Rattle.cg_agree.proofs.HandsSent.{front-told, heard-more}
-use Rattle.cg_agree.proofs.Knowledge.{sender-told}
-use Rattle.cg_agree.proofs.KnownBounds.{least-greens, least-reds}
-use Rattle.cg_agree.proofs.PlanEnd.{told-each, own-told}
-use Rattle.cg_agree.proofs.PlanProgress.{AreBeside}
+use Rattle.cg_agree_lemmas.specs.FrontFacts.{Front-trans, Front-of_both, Front-map}
+use Rattle.cg_agree_lemmas.specs.HandSays.{find-holds}
+use Rattle.cg_agree_lemmas.specs.HandsContent.{IsTold, best-told}
+use Rattle.cg_agree_lemmas.specs.HandsKept.{take-drop}
+use Rattle.cg_agree_lemmas.specs.HandsSent.{front-told, heard-more}
+use Rattle.cg_agree_lemmas.specs.Knowledge.{sender-told}
+use Rattle.cg_agree_lemmas.specs.KnownBounds.{least-greens, least-reds}
+use Rattle.cg_agree_lemmas.specs.PlanEnd.{told-each, own-told}
+use Rattle.cg_agree_lemmas.specs.PlanProgress.{AreBeside}
 use Rattle.cg_commit.specs.Holds.{run_on}
-use Rattle.cg_agree.proofs.RunFronts.{run_on-front}
+use Rattle.cg_agree_lemmas.specs.RunFronts.{run_on-front}
 
 -- what holds of each core holds of all greens of who has begun
 pub core-now : (c : Chronicle) (P : Held → List Action → Type 0) → OfCores c P → DiskBehind c → (q : ℕ) → has_begun c.world q ≡ true → (h : Held) × P h (greens_of c q)

@@ -22,14 +22,14 @@ use Rattle.cg_model.specs.Played.{AtRest}
 use Rattle.cg_model.specs.Small.{Small, small_step}
 use Rattle.cg_model.specs.Smalls.{may_make}
 use Rattle.cg_agree.proofs.FactsKept.{replica-now, exchange-now, attempt-now}
-use Rattle.cg_agree.proofs.FrontFacts.{Front-trans, Front-of_both, Front-map}
-use Rattle.cg_agree.proofs.HandSays.{find-holds}
+use Rattle.cg_agree_lemmas.specs.FrontFacts.{Front-trans, Front-of_both, Front-map}
+use Rattle.cg_agree_lemmas.specs.HandSays.{find-holds}
 use Rattle.cg_agree.proofs.NetFactsKept.{net-kept}
 use Rattle.cg_agree.proofs.OneLine.{reached-front}
 use Rattle.cg_commit.specs.Holds.{run_on}
 use Rattle.cg_agree.proofs.TalkFactsKept.{talk-kept}
 use Rattle.cg_agree.proofs.ToldBeside.{core-now}
-use Rattle.cg_agree.proofs.RunFronts.{run_on-front}
+use Rattle.cg_agree_lemmas.specs.RunFronts.{run_on-front}
 
 -- what holds behind a small step but for the facts about greens, with the two of these that are needed
 pub record Behind (c : Chronicle) : Type 0 where

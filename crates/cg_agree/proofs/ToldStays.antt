@@ -7,9 +7,9 @@ use Rattle.cg_model.specs.Facts.{Invariant}
 use Rattle.cg_model.specs.Looks.{told_in}
 use Rattle.cg_model.specs.Small.{Small, Starts, Makes, Enters, Orders, Receives, Hands, Leaves, Asks, Settles, Commits, Crashes, Recovers, Copies, Joins, newest_conf, small_step}
 use Rattle.cg_model.specs.Smalls.{may_make}
-use Rattle.cg_agree.proofs.ExchangeStill.{ToldStays}
+use Rattle.cg_agree_lemmas.specs.ExchangeStill.{ToldStays}
 use Rattle.cg_agree.proofs.PastKept.{EntersNow, enters-now, entry_told, told_in-enters}
-use Rattle.cg_agree.proofs.ToldKept.{IsUntold, told-same, told_in-same}
+use Rattle.cg_agree_lemmas.specs.ToldKept.{IsUntold, told-same, told_in-same}
 
 -- one that enters has told nothing there before
 pub told-entered : (c : Chronicle) (p : ℕ) → EntersNow c p → ToldStays c (small_step c (Enters p))

@@ -29,21 +29,21 @@ use Rattle.cg_model.specs.Facts.{Invariant}
 use Rattle.cg_model.specs.Small.{Small, Starts, Makes, Enters, Orders, Receives, Hands, Leaves, Asks, Settles, Commits, Crashes, Recovers, Copies, Joins, start, coming, handed_next, leaving, take_newest, take_next, take_parting, take_request, turning, commit_as, crash_as, recover_as, copy_as, join_with, new_past, written, struck, small_step}
 use Rattle.cg_model.specs.Smalls.{may_make, is_set, is_running}
 use Rattle.cg_agree.proofs.BegunKept.{nothing-before}
-use Rattle.cg_agree.proofs.ChronicleFacts.{past-begun}
-use Rattle.cg_agree.proofs.CoresKept.{past-here, past-there}
-use Rattle.cg_agree.proofs.CoresSmall.{fresh-all}
+use Rattle.cg_agree_lemmas.specs.ChronicleFacts.{past-begun}
+use Rattle.cg_agree_lemmas.specs.CoresKept.{past-here, past-there}
+use Rattle.cg_agree_lemmas.specs.CoresSmall.{fresh-all}
 use Rattle.cg_agree.proofs.CoversStay.{ReachShrinks, covers-still}
 use Rattle.cg_agree.proofs.ExchangeSmalls.{greens-settle, greens-request, greens-turning, greens-behind, replica-behind}
-use Rattle.cg_agree.proofs.ExchangeStill.{StaysAs, stays-itself}
-use Rattle.cg_agree.proofs.HandsKept.{seated}
-use Rattle.cg_agree.proofs.HandsNow.{hands-now, hand-state, set, behind}
-use Rattle.cg_agree.proofs.ModeHeld.{SameLists, lists-settle, lists-request}
-use Rattle.cg_agree.proofs.OneSteps.{may-join, seat-there}
+use Rattle.cg_agree_lemmas.specs.ExchangeStill.{StaysAs, stays-itself}
+use Rattle.cg_agree_lemmas.specs.HandsKept.{seated}
+use Rattle.cg_agree_lemmas.specs.HandsNow.{hands-now, hand-state, set, behind}
+use Rattle.cg_agree_lemmas.specs.ModeHeld.{SameLists, lists-settle, lists-request}
+use Rattle.cg_agree_lemmas.specs.OneSteps.{may-join, seat-there}
 use Rattle.cg_agree.proofs.PastKept.{enters-now}
 use Rattle.cg_agree.proofs.TalkAlone.{replica-set}
 use Rattle.cg_agree.proofs.TalkQuiet.{replica-turning}
-use Rattle.cg_agree.proofs.TurnParts.{newest-come}
-use Rattle.cg_agree.proofs.TurnValues.{SameValues, even-settle, even-request, even-own_to_red}
+use Rattle.cg_agree_lemmas.specs.TurnParts.{newest-come}
+use Rattle.cg_agree_lemmas.specs.TurnValues.{SameValues, even-settle, even-request, even-own_to_red}
 
 -- ---- one replica
 

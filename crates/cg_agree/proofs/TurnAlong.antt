@@ -24,13 +24,13 @@ use Rattle.cg_model.specs.Turns.{Taken, taken, taken_as, stands}
 use Rattle.cg_model.specs.Small.{Small, Starts, Makes, Enters, Orders, Receives, Hands, Leaves, Asks, Settles, Commits, Crashes, Recovers, Copies, Joins, commit_as, small_step}
 use Rattle.cg_model.specs.Smalls.{ending, ending_as}
 use Rattle.cg_model.specs.FactsLists.{IsRising}
-use Rattle.cg_agree.proofs.GroupChanges.{down-own}
+use Rattle.cg_agree_lemmas.specs.GroupChanges.{down-own}
 use Rattle.cg_agree.proofs.GreensFront.{commit-same}
-use Rattle.cg_agree.proofs.RestFacts.{IsOf, IsKept, others-kept}
-use Rattle.cg_agree.proofs.SmallWorlds.{played_in, played-append}
-use Rattle.cg_agree.proofs.TurnWorlds.{seated, up_seat, seat-seated, turn-ends}
-use Rattle.cg_agree.proofs.EventTurns.{IsUp, hand-leads}
-use Rattle.cg_agree.proofs.TogetherWorlds.{IsStill, IsMember, IsGoing, smalls_among, turns_among, one-on}
+use Rattle.cg_agree_lemmas.specs.RestFacts.{IsOf, IsKept, others-kept}
+use Rattle.cg_agree_lemmas.specs.SmallWorlds.{played_in, played-append}
+use Rattle.cg_agree_lemmas.specs.TurnWorlds.{seated, up_seat, seat-seated, turn-ends}
+use Rattle.cg_agree_lemmas.specs.EventTurns.{IsUp, hand-leads}
+use Rattle.cg_agree_lemmas.specs.TogetherWorlds.{IsStill, IsMember, IsGoing, smalls_among, turns_among, one-on}
 
 -- a part of the replica's turn
 abbrev pub IsPartOf : ℕ → Small → Type 0

@@ -18,17 +18,17 @@ use Rattle.cg_model.specs.Small.{Small, Makes, Enters, Hands, Asks, Settles, mak
 use Rattle.cg_model.specs.Smalls.{smalls_in, leaving_steps, turn_steps}
 use Rattle.cg_model.specs.Played.{IsSame, MayBeMade, StandsBeside}
 use Rattle.cg_model.specs.Total.{MeetNone, TurnsMeetNone, before_turns}
-use Rattle.cg_agree.proofs.EventMembers.{leaving-members, coming-members}
-use Rattle.cg_agree.proofs.MadeDeliver.{delivering, may-opens}
-use Rattle.cg_agree.proofs.MadeMerge.{turns-merge, entered, entered-id, input as merging, members-of as merging-of}
+use Rattle.cg_agree_lemmas.specs.EventMembers.{leaving-members, coming-members}
+use Rattle.cg_agree_lemmas.specs.MadeDeliver.{delivering, may-opens}
+use Rattle.cg_agree_lemmas.specs.MadeMerge.{turns-merge, entered, entered-id, input as merging, members-of as merging-of}
 use Rattle.cg_agree.proofs.MadeOfSmalls.{repeats, sound-beside, named-beside, written-of, coming-untold}
-use Rattle.cg_agree.proofs.MadeSplit.{turns-split, parted, parted-id, input, members-of}
-use Rattle.cg_agree.proofs.RestFacts.{IsQuiet, rest-quiet, IsTaken, taken-cases}
-use Rattle.cg_agree.proofs.SameSmalls.{small-same, may-all-same}
-use Rattle.cg_agree.proofs.SmallWorlds.{grouped, small_in, MayIn, may-all, small-world}
-use Rattle.cg_agree.proofs.SoundWorlds.{IsSound, untold-next}
-use Rattle.cg_agree.proofs.TogetherWorlds.{IsMember}
-use Rattle.cg_agree.proofs.UntoldKept.{block-opens}
+use Rattle.cg_agree_lemmas.specs.MadeSplit.{turns-split, parted, parted-id, input, members-of}
+use Rattle.cg_agree_lemmas.specs.RestFacts.{IsQuiet, rest-quiet, IsTaken, taken-cases}
+use Rattle.cg_agree_lemmas.specs.SameSmalls.{small-same, may-all-same}
+use Rattle.cg_agree_lemmas.specs.SmallWorlds.{grouped, small_in, MayIn, may-all, small-world}
+use Rattle.cg_agree_lemmas.specs.SoundWorlds.{IsSound, untold-next}
+use Rattle.cg_agree_lemmas.specs.TogetherWorlds.{IsMember}
+use Rattle.cg_agree_lemmas.specs.UntoldKept.{block-opens}
 
 each-both : (P Q R : ℕ → Type 0) → ((q : ℕ) → P q → Q q → R q) → (xs : List ℕ) → Each P xs → Each Q xs → Each R xs
 each-both P Q R f [] a b = tt

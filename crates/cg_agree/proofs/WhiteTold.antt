@@ -24,16 +24,16 @@ use Rattle.cg_model.specs.Looks.{greens_of}
 use Rattle.cg_model.specs.FactsReplica.{IsLined, join_from}
 use Rattle.cg_model.specs.Noting.{chronicle_step, chronicle_after}
 use Rattle.cg_model.specs.Played.{StandsBeside, AlwaysHolds}
-use Rattle.cg_agree.proofs.FrontFacts.{Front-trans, Front-append}
-use Rattle.cg_agree.proofs.BookGrows.{IsNamed, named-more}
-use Rattle.cg_agree.proofs.BookedCores.{each-booked}
-use Rattle.cg_agree.proofs.BookStays.{event-book}
+use Rattle.cg_agree_lemmas.specs.FrontFacts.{Front-trans, Front-append}
+use Rattle.cg_agree_lemmas.specs.BookGrows.{IsNamed, named-more}
+use Rattle.cg_agree_lemmas.specs.BookedCores.{each-booked}
+use Rattle.cg_agree_lemmas.specs.BookStays.{event-book}
 use Rattle.cg_agree.proofs.CountsGrow.{count_at, CountGrows, event-counts}
-use Rattle.cg_agree.proofs.LinesGreens.{ever-joined}
+use Rattle.cg_agree_lemmas.specs.LinesGreens.{ever-joined}
 use Rattle.cg_agree.proofs.LinesShown.{AreLinesTold, position-shown, white-shown}
 use Rattle.cg_agree.proofs.MadeTold.{made-last}
 use Rattle.cg_agree.proofs.OrderReached.{in-order}
-use Rattle.cg_agree.proofs.OrderTold.{step_order}
+use Rattle.cg_agree_lemmas.specs.OrderTold.{step_order}
 use Rattle.cg_agree.proofs.PositionsGrow.{IsPlaced, down-still, step-moves, placed-on}
 use Rattle.cg_agree.proofs.PrimaryOne.{seated-not}
 use Rattle.cg_agree.proofs.PrimStays.{event-stays}

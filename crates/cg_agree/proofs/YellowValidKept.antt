@@ -24,18 +24,18 @@ use Rattle.cg_model.specs.FactsAttempts.{YellowValid}
 use Rattle.cg_model.specs.Facts.{Invariant}
 use Rattle.cg_model.specs.Small.{Small, Starts, Makes, Enters, Orders, Receives, Hands, Leaves, Asks, Settles, Commits, Crashes, Recovers, Copies, Joins, small_step, start, turning, turning_as, after_turn, coming, handed_next, leaving, take_newest, take_next, take_parting, take_request, commit_as, crash_as, recover_as, copy_as, join_with}
 use Rattle.cg_model.specs.Smalls.{may_make, is_set}
-use Rattle.cg_agree.proofs.AttemptsTurn.{ends-exchanging}
+use Rattle.cg_agree_lemmas.specs.AttemptsTurn.{ends-exchanging}
 use Rattle.cg_agree.proofs.BegunKept.{nothing-before}
 use Rattle.cg_agree.proofs.BuiltThere.{built}
-use Rattle.cg_agree.proofs.CoresKept.{seat-of}
-use Rattle.cg_agree.proofs.HandsNow.{HandsNow, hands-now, new, hand-turned, running-now}
+use Rattle.cg_agree_lemmas.specs.CoresKept.{seat-of}
+use Rattle.cg_agree_lemmas.specs.HandsNow.{HandsNow, hands-now, new, hand-turned, running-now}
 use Rattle.cg_agree.proofs.LevelsOpen.{when-from}
-use Rattle.cg_agree.proofs.PlanEnd.{AtPlanEnd, plan-end, is_behind}
-use Rattle.cg_agree.proofs.ReachWorld.{when-is}
-use Rattle.cg_agree.proofs.RecordKept.{same-replica, enters-between}
+use Rattle.cg_agree_lemmas.specs.PlanEnd.{AtPlanEnd, plan-end, is_behind}
+use Rattle.cg_agree_lemmas.specs.ReachWorld.{when-is}
+use Rattle.cg_agree_lemmas.specs.RecordKept.{same-replica, enters-between}
 use Rattle.cg_agree.proofs.TalkAlone.{replica-set, recovered-state}
-use Rattle.cg_agree.proofs.TurnKinds.{IsQuiet, HasInstalled, Turned, Quiet, Installs, Decides, Attempts}
-use Rattle.cg_agree.proofs.TurnParts.{HasParted, never-both, settle-quiet, request-quiet, parting-turned, newest-come}
+use Rattle.cg_agree_lemmas.specs.TurnKinds.{IsQuiet, HasInstalled, Turned, Quiet, Installs, Decides, Attempts}
+use Rattle.cg_agree_lemmas.specs.TurnParts.{HasParted, never-both, settle-quiet, request-quiet, parting-turned, newest-come}
 
 abbrev HasValid : Replica → Type 0
 HasValid r = When (is_attempting r.state) (r.held.yellow_valid ≡ false → r.held.queue.yellow ≡ [])

@@ -11,13 +11,12 @@ use Rattle.cg_model.specs.Admission.{first_refusal}
 use Rattle.cg_model.specs.Step.{world_step}
 use Rattle.cg_model.specs.Run.{Refusal, step_limit}
 use Rattle.cg_model.specs.Schedules.{Run, with_step, step_unless, step_on, step, deliver_some, deliver_ready as hand_ready, pass, passes as play_passes, play}
-use Rattle.cg_run.specs.declared.progress.Progress.{Progress}
-use Rattle.cg_run.specs.declared.status.Status.{Status}
-use Rattle.cg_run.specs.declared.status.Status.TheVariants as status
-use Rattle.cg_run.specs.declared.status.Limit.TheVariants.{Steps}
-use Rattle.cg_run.specs.Totals.{with_entry}
-use Rattle.cg_run.specs.Produced.{Finding, Produced, prepend, went_on, ended_with, and_then, stepped, unless_refused, one_step}
-use Rattle.cg_run.specs.Rounds.{deliver_ready, deliveries, one_pass, passes, happened}
+use Rattle.cg_outcome.specs.Produced.{Progress, Finding, Produced, prepend, went_on, ended_with, and_then, stepped, unless_refused, one_step}
+use Rattle.cg_outcome.specs.declared.status.Status.{Status}
+use Rattle.cg_outcome.specs.declared.status.Status.TheVariants as status
+use Rattle.cg_outcome.specs.declared.status.Limit.TheVariants.{Steps}
+use Rattle.cg_outcome.specs.Totals.{with_entry}
+use Rattle.cg_outcome.specs.Rounds.{deliver_ready, deliveries, one_pass, passes, happened}
 use Rattle.cg_generated.specs.Admitted.{IsEndOrLimit}
 
 -- ---- a run that was refused stays so

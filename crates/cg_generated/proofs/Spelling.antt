@@ -31,7 +31,7 @@ use Rattle.cg_schedule.specs.declared.event.Event.TheVariants.{Start, Split, Mer
 use Rattle.cg_schedule.specs.Limits.{IsPrintable, IsQuery, IsUpdate, IsEvent}
 use Rattle.cg_schedule.specs.Print.{id_behind, member_behind, hex_glyph, hex_text, fill_text, line_of}
 use Rattle.cg_gen.specs.Lines.{lines_of}
-use Rattle.cg_run.specs.Outcome.{without_return, lines_alone}
+use Rattle.cg_outcome.specs.Outcome.{without_return, lines_alone}
 use Rattle.cg_generated.proofs.Calm.{Each-drop}
 
 -- no byte is a control byte

@@ -18,11 +18,9 @@ use Rattle.cg_model.specs.Schedules.{Run, no_run, play, run_of}
 use Rattle.cg_gen.specs.Generated.{events_left, generated}
 use Rattle.cg_gen.specs.GeneratedLaws.{AllStand, generated-stands}
 use Rattle.cg_gen.specs.Lines.{lines_of}
-use Rattle.cg_run.specs.declared.progress.Ending.TheVariants.{Ended}
-use Rattle.cg_run.specs.declared.progress.Progress.{Progress}
-use Rattle.cg_run.specs.declared.status.Status.TheVariants as status
-use Rattle.cg_run.specs.Produced.{Finding, Produced, before_all, refusal_of, status_of, ended_with, prepend, and_then}
-use Rattle.cg_run.specs.Outcome.{read_outcome, line_outcome, without_return, limit_of, unless_passed, whole_line, at_end, replayed, performed, lines_alone}
+use Rattle.cg_outcome.specs.Outcome.{Ended, read_outcome, line_outcome, without_return, limit_of, unless_passed, whole_line, at_end, replayed, performed, lines_alone}
+use Rattle.cg_outcome.specs.Produced.{Progress, Finding, Produced, before_all, refusal_of, status_of, ended_with, prepend, and_then}
+use Rattle.cg_outcome.specs.declared.status.Status.TheVariants as status
 use Rattle.cg_generated.specs.Admitted.{GeneratedAreAdmitted, IsEndOrLimit, TrialsAreAdmitted, TrialsEnd, TrialsAreReplays}
 use Rattle.cg_generated.proofs.Playing.{IsFree, all-free, IsSpared, Follows, Follows-happened}
 use Rattle.cg_generated.proofs.Spelling.{as-it-is, pieces-are}

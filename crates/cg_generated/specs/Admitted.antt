@@ -7,15 +7,13 @@ use Rattle.cg_schedule.specs.Print.{line_of}
 use Rattle.cg_gen.specs.Generated.{generated}
 use Rattle.cg_gen.specs.Lines.{lines_of}
 use Rattle.cg_model.specs.Schedules.{run_of}
-use Rattle.cg_run.specs.declared.command.Command.TheVariants.{Replay, Trial}
-use Rattle.cg_run.specs.declared.progress.Ending.{Ending}
-use Rattle.cg_run.specs.declared.progress.Ending.TheVariants.{Ended}
-use Rattle.cg_run.specs.declared.progress.Report.{Report}
-use Rattle.cg_run.specs.declared.status.Limit.TheVariants.{Steps}
-use Rattle.cg_run.specs.declared.status.Status.{Status}
-use Rattle.cg_run.specs.declared.status.Status.TheVariants as status
-use Rattle.cg_run.specs.Outcome.{outcome_of}
-use Rattle.cg_run.specs.Produced.{status_of, refusal_of}
+use Rattle.cg_outcome.specs.declared.command.Command.TheVariants.{Replay, Trial}
+use Rattle.cg_outcome.specs.Outcome.{Ending, Ended, outcome_of}
+use Rattle.cg_outcome.specs.declared.report.Report.{Report}
+use Rattle.cg_outcome.specs.declared.status.Limit.TheVariants.{Steps}
+use Rattle.cg_outcome.specs.declared.status.Status.{Status}
+use Rattle.cg_outcome.specs.declared.status.Status.TheVariants as status
+use Rattle.cg_outcome.specs.Produced.{status_of, refusal_of}
 
 -- whatever the seed, however many replicas from 1 to 32 and however many lines: the run of the schedule is refused nowhere
 abbrev pub GeneratedAreAdmitted : Type 0

@@ -5,9 +5,8 @@ use Rattle.cg_schedule.specs.declared.event.Event.{Event}
 use Rattle.cg_model.specs.World.{World}
 use Rattle.cg_world.specs.declared.world.Stepped.TheVariants as answer
 use Rattle.cg_world.specs.Steps.{Steps}
-use Rattle.cg_run.specs.declared.progress.Progress.{Progress}
-use Rattle.cg_run.specs.Produced.{and_then, stepped, one_step}
-use Rattle.cg_run.specs.Rounds.{deliver_ready, deliveries, one_pass, passes}
+use Rattle.cg_outcome.specs.Produced.{Progress, and_then, stepped, one_step}
+use Rattle.cg_outcome.specs.Rounds.{deliver_ready, deliveries, one_pass, passes}
 
 pub one_step-done : (n : ℕ) (event : Event) (s : Progress) (after : World) (entry : Entry) → Steps s.world event (answer.Done after entry)
     → one_step n event s ≡ stepped n event (record { entry = entry; world = after }) s

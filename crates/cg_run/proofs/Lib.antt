@@ -1,14 +1,3 @@
 pub mod Asked
-pub mod Completeness
-pub mod Feeds
 pub mod GoingOn
 pub mod Happening
-pub mod Lines
-pub mod Nearness
-pub mod RunFacts
-pub mod RefusedLines
-pub mod Stages
-pub mod Streams
-pub mod TakeLemmas
-pub mod Trials
-pub mod Spared

@@ -1,13 +1,2 @@
-pub mod Calls
-pub mod Commands
-pub mod Outcome
-pub mod Produced
-pub mod Putting
+pub mod Next
 pub mod Performing
-pub mod Refusing
-pub mod Rounds
-pub mod Status
-pub mod Streaming
-pub mod Taking
-pub mod Totals
-pub mod UnderWay

@@ -1,38 +1,31 @@
--- What putting a part of a run comes to, where the run may go on.
-use Rattle.std.specs.Prelude.{◌≡◌, ℕ, List, None, Result, MatchResult, ⊤}
+-- How far the code of a run has come, as definitions see it, and what performing a part of a run comes to.
+use Rattle.std.specs.Prelude.{◌≡◌, None, Result, Ok, Err, MatchResult}
 use Rattle.cg_io.specs.Outside.{SinkView}
-use Rattle.cg_model.specs.Run.{Step}
-use Rattle.cg_run.specs.Produced.{Produced, prepend, report_in, text_of, status_of}
-use Rattle.cg_run.specs.declared.progress.Progress.{Progress}
-use Rattle.cg_run.specs.declared.progress.Report.{Report}
-use Rattle.cg_run.specs.declared.status.Status.{Status}
-use Rattle.cg_run.specs.declared.status.Status.TheVariants as status
-use Rattle.cg_run.specs.Putting.{Puts, PutsPart, StopsWith}
+use Rattle.cg_outcome.specs.declared.report.Report.{Report}
+use Rattle.cg_outcome.specs.declared.status.Status.{Status}
+use Rattle.cg_outcome.specs.Produced.{Progress, Produced, report_in}
+use Rattle.cg_outcome.specs.Streaming.{Stage}
+use Rattle.cg_outcome.specs.Putting.{Puts}
+use Rattle.cg_outcome.specs.Stopping.{Stopped}
+use Rattle.cg_run.specs.declared.progress.Progress.{Progress as RunProgress}
+use Rattle.cg_run.specs.declared.progress.Stage.{Stage as RunStage}
 
--- putting the text was cut short, by a fault or for want of memory
-abbrev pub CutShort : List ℕ → SinkView → SinkView → Status → Type 0
-CutShort text old new status.WriteFault = PutsPart old new text 1
-CutShort text old new status.NoMemory = PutsPart old new text 0
-CutShort text old new other = ⊥
+-- how far a run has come
+abbrev pub seen : RunProgress → Progress
+seen p = record { world = p.world; reader = p.reader; count = p.count; totals = p.totals }
 
-abbrev pub Stopped : Report → Produced → SinkView → SinkView → Status → Type 0
-Stopped report p old new status = StopsWith (text_of report p) (status_of p) old new status
+-- where it stands between two lines
+abbrev pub seen_stage : RunStage → Stage
+seen_stage st = record { line = st.line; at = st.at; progress = seen st.progress }
+
+-- the same of a call that goes on or ends the run
+abbrev pub seen_end : Result RunStage Status → Result Stage Status
+seen_end (Ok st) = Ok (seen_stage st)
+seen_end (Err status) = Err status
 
 -- a part of a run was put and the run goes on, or it has ended
-abbrev pub Performs : Report → Produced → SinkView → SinkView → Result Progress Status → Type 0
+abbrev pub Performs : Report → Produced → SinkView → SinkView → Result RunProgress Status → Type 0
 Performs report p old new result =
     MatchResult result
-    (λ s. (p.found ≡ None) × (s ≡ p.progress) × Puts old new (report_in report p.steps))
+    (λ s. (p.found ≡ None) × (seen s ≡ p.progress) × Puts old new (report_in report p.steps))
     (λ status. Stopped report p old new status)
-
--- a status that a run can find
-abbrev pub IsFinding : Status → Type 0
-IsFinding status.WriteFault = ⊥
-IsFinding status.NoMemory = ⊥
-IsFinding other = ⊤
-
--- what was put since is the report of the steps made since, and the rest is still to come
-pub record GoesOn (report : Report) (whole : Produced) (old new : SinkView) (rest : Produced) : Type 0 where
-  pub made : List Step
-  pub put : Puts old new (report_in report made)
-  pub same : whole ≡ prepend made rest

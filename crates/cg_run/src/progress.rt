@@ -1,24 +1,9 @@
 ghost use Rattle.std.specs.Prelude.{◌≡◌};
 
-use crate::totals::Totals;
+use cg_outcome::Totals;
 use cg_schedule::Reader;
 use cg_world::World;
 use std::alloc::Global;
-
-/// How the taking of the input ended, as contracts say it: at the input's end, by a failed take, or with bytes still to come.
-#[derive(Clone, Copy, Debug, PartialEq, Eq)]
-pub enum Ending {
-    Ended,
-    Failed,
-    Open,
-}
-
-/// How much of its report a run puts: all of it, or its last line alone.
-#[derive(Clone, Copy, Debug, PartialEq, Eq)]
-pub enum Report {
-    Whole,
-    Tail,
-}
 
 /// How far a run has come: the world, the reader of the lines, how many steps were made, and what they have shown.
 #[derive(Drop)]
@@ -30,11 +15,12 @@ pub struct Progress {
 }
 
 impl Progress {
-    ghost use Rattle.cg_run.specs.Produced.{before_all};
+    ghost use Rattle.cg_outcome.specs.Produced.{before_all};
+    ghost use Rattle.cg_run.specs.Performing.{seen};
 
     /// Before the first line.
     pub fn new(alloc: Global) -> Progress
-        ensures { result ≡ before_all }
+        ensures { seen result ≡ before_all }
     {
         Progress {
             world: World::new(alloc),
@@ -55,11 +41,12 @@ pub struct Stage {
 }
 
 impl Stage {
-    ghost use Rattle.cg_run.specs.Streaming.{first_stage};
+    ghost use Rattle.cg_outcome.specs.Streaming.{first_stage};
+    ghost use Rattle.cg_run.specs.Performing.{seen_stage};
 
     /// Before the first line.
     pub fn first(alloc: Global) -> Stage
-        ensures { result ≡ first_stage }
+        ensures { seen_stage result ≡ first_stage }
     {
         Stage {
             line: 1,

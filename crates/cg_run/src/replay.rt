@@ -4,23 +4,22 @@ ghost use Rattle.cg_schedule.specs.declared.fault.LineFault.{LineFault};
 ghost use Rattle.cg_schedule.specs.Fault.{Gives};
 ghost use Rattle.cg_schedule.specs.Line.{event_reading};
 ghost use Rattle.cg_schedule.specs.Reading.{whole};
-ghost use Rattle.cg_run.specs.declared.progress.Ending.TheVariants.{Ended};
-ghost use Rattle.cg_run.specs.declared.progress.Report.{Report};
-ghost use Rattle.cg_run.specs.declared.status.Status.TheVariants as status;
-ghost use Rattle.cg_run.specs.Produced.{ended_with};
-ghost use Rattle.cg_run.specs.Rounds.{happened};
-ghost use Rattle.cg_run.specs.Calls.{word_outcome};
-ghost use Rattle.cg_run.specs.Outcome.{read_outcome, line_outcome, without_return, limit_of, whole_line, at_end, cut_line, last_piece};
-ghost use Rattle.cg_run.specs.Streaming.{held_limit};
-ghost use Rattle.cg_run.specs.UnderWay.{HasBegun, IsUnderWay, MayHappen, IsNext};
-ghost use Rattle.cg_run.specs.Performing.{Stopped, Performs};
+ghost use Rattle.cg_outcome.specs.Outcome.{Ended, read_outcome, line_outcome, whole_line, at_end, cut_line, last_piece};
+ghost use Rattle.cg_outcome.specs.declared.report.Report.{Report};
+ghost use Rattle.cg_outcome.specs.declared.status.Status.TheVariants as status;
+ghost use Rattle.cg_outcome.specs.Produced.{ended_with};
+ghost use Rattle.cg_outcome.specs.Rounds.{happened};
+ghost use Rattle.cg_outcome.specs.Calls.{word_outcome};
+ghost use Rattle.cg_outcome.specs.Streaming.{held_limit};
+ghost use Rattle.cg_outcome.specs.UnderWay.{HasBegun, IsUnderWay};
+ghost use Rattle.cg_run.specs.Next.{MayHappen, IsNext};
+ghost use Rattle.cg_outcome.specs.Stopping.{Stopped};
+ghost use Rattle.cg_run.specs.Performing.{seen, Performs};
 
-use crate::limits::{INPUT_BYTES, LINE_BYTES, LINES};
-use crate::progress::{Progress, Report};
-use crate::putting::finish;
+use crate::progress::Progress;
 use crate::rounds::perform;
-use crate::status::{Limit, Status};
 use cg_io::Sink;
+use cg_outcome::{Limit, Report, Status, finish, passed_limit, without_return};
 use cg_schedule::{Event, LineFault, Word, lines_are_exact};
 use cg_text::Words;
 use std::alloc::Global;
@@ -36,7 +35,7 @@ fn refuse_line<K: Sink>(
     requires { (K.view output.old).faults < 2 ^ 62 }
     ensures { (s : Progress) → s.count ≡ count → (read : Result (Option Event) LineFault) →
         Gives read (Err fault) → (report : Report)
-        → Stopped report (read_outcome line read s) (K.view output.old) (K.view output.new) result }
+        → Stopped report (read_outcome line read (seen s)) (K.view output.old) (K.view output.new) result }
 {
     match fault {
         LineFault::Syntax(reason) => {
@@ -61,16 +60,16 @@ fn carry_out<K: Sink>(
 ) -> Result<Progress, Status>
     requires few_faults { (K.view output.old).faults < 2 ^ 62 }
     requires started { progress.reader.started ≡ true }
-    requires happens { MayHappen progress.world event }
-    ensures performs { Performs report (happened line event progress)
+    requires happens { MayHappen (seen progress).world event }
+    ensures performs { Performs report (happened line event (seen progress))
         (K.view output.old) (K.view output.new) result }
-    ensures begun { IfOk result (λ s. HasBegun s) }
+    ensures begun { IfOk result (λ s. HasBegun (seen s)) }
 {
     perform(alloc, output, report, line, &event, progress)
 }
 
 // A line that begins with the word, before these tokens.
-#[tactic(auto, unfolding(crate::specs::Calls::word_outcome))]
+#[tactic(auto, unfolding(cg_outcome::specs::Calls::word_outcome))]
 fn finish_line<K: Sink>(
     alloc: Global,
     output: &mut K,
@@ -81,10 +80,10 @@ fn finish_line<K: Sink>(
     progress: Progress,
 ) -> Result<Progress, Status>
     requires few_faults { (K.view output.old).faults < 2 ^ 62 }
-    requires reads { (event : Event) → whole (event_reading word) words ≡ Ok event → IsNext progress event }
-    ensures performs { Performs report (word_outcome line word words.entry progress)
+    requires reads { (event : Event) → whole (event_reading word) words ≡ Ok event → IsNext (seen progress) event }
+    ensures performs { Performs report (word_outcome line word words.entry (seen progress))
         (K.view output.old) (K.view output.new) result }
-    ensures begun { IfOk result (λ s. HasBegun s) }
+    ensures begun { IfOk result (λ s. HasBegun (seen s)) }
 {
     let mut progress = progress;
     match progress.reader.finish_line(alloc, word, words) {
@@ -98,7 +97,7 @@ fn finish_line<K: Sink>(
 }
 
 /// A line, without its end.
-#[tactic(auto, unfolding(crate::specs::Outcome::line_outcome))]
+#[tactic(auto, unfolding(cg_outcome::specs::Outcome::line_outcome))]
 pub fn begin_line<K: Sink>(
     alloc: Global,
     output: &mut K,
@@ -108,10 +107,10 @@ pub fn begin_line<K: Sink>(
     progress: Progress,
 ) -> Result<Progress, Status>
     requires few_faults { (K.view output.old).faults < 2 ^ 62 }
-    requires under_way { IsUnderWay progress }
-    ensures performs { Performs report (line_outcome number line.now progress)
+    requires under_way { IsUnderWay (seen progress) }
+    ensures performs { Performs report (line_outcome number line.now (seen progress))
         (K.view output.old) (K.view output.new) result }
-    ensures under_way { IfOk result (λ s. IsUnderWay s) }
+    ensures under_way { IfOk result (λ s. IsUnderWay (seen s)) }
 {
     lines_are_exact();
     match progress.reader.begin_line(line) {
@@ -127,32 +126,6 @@ pub fn begin_line<K: Sink>(
     }
 }
 
-/// A line without the carriage return before its line feed.
-pub fn without_return(line: &[u8]) -> &[u8]
-    ensures { result.now ≡ without_return line.now }
-{
-    if line.ends_with(b"\r") {
-        &line[..line.len() - 1]
-    } else {
-        line
-    }
-}
-
-/// The limit that a line passes.
-pub fn passed_limit(line: u64, len: usize, end: usize) -> Option<Limit>
-    ensures { result ≡ limit_of line len end }
-{
-    if len > LINE_BYTES {
-        Some(Limit::Line)
-    } else if end > INPUT_BYTES {
-        Some(Limit::Input)
-    } else if line > LINES {
-        Some(Limit::Lines)
-    } else {
-        None
-    }
-}
-
 /// A line that passes a limit.
 pub fn refuse_limit<K: Sink>(
     alloc: Global,
@@ -162,7 +135,7 @@ pub fn refuse_limit<K: Sink>(
     progress: Progress,
 ) -> Status
     requires { (K.view output.old).faults < 2 ^ 62 }
-    ensures { (report : Report) → Stopped report (ended_with (status.Limit line what) line progress)
+    ensures { (report : Report) → Stopped report (ended_with (status.Limit line what) line (seen progress))
         (K.view output.old) (K.view output.new) result }
 {
     let count = progress.count;
@@ -182,12 +155,12 @@ pub fn whole_line<K: Sink>(
 ) -> Result<Progress, Status>
     requires few_faults { (K.view output.old).faults < 2 ^ 62 }
     requires within { at ≤ 8388608 }
-    requires under_way { IsUnderWay progress }
-    ensures performs { Performs report (whole_line number at line.now progress)
+    requires under_way { IsUnderWay (seen progress) }
+    ensures performs { Performs report (whole_line number at line.now (seen progress))
         (K.view output.old) (K.view output.new) result }
     ensures within { IfOk result (λ _. (length line.now ≤ 32768)
         × (at + length line.now + 1 ≤ 8388608) × (number ≤ 200000)) }
-    ensures under_way { IfOk result (λ s. IsUnderWay s) }
+    ensures under_way { IfOk result (λ s. IsUnderWay (seen s)) }
 {
     match passed_limit(number, line.len(), at + line.len() + 1) {
         Some(what) => Err(refuse_limit(alloc, output, number, what, progress)),
@@ -205,7 +178,7 @@ pub fn whole_line<K: Sink>(
 // The input has ended behind so many lines.
 fn close_at_end<K: Sink>(alloc: Global, output: &mut K, lines: u64, progress: &Progress) -> Status
     requires { (K.view output.old).faults < 2 ^ 62 }
-    ensures { (report : Report) → Stopped report (at_end lines Ended progress.now)
+    ensures { (report : Report) → Stopped report (at_end lines Ended (seen progress.now))
         (K.view output.old) (K.view output.new) result }
 {
     let count = progress.count;
@@ -219,7 +192,7 @@ fn close_at_end<K: Sink>(alloc: Global, output: &mut K, lines: u64, progress: &P
 // The input has ended behind so many lines, and the run is let go.
 fn end_run<K: Sink>(alloc: Global, output: &mut K, lines: u64, progress: Progress) -> Status
     requires { (K.view output.old).faults < 2 ^ 62 }
-    ensures { (report : Report) → Stopped report (at_end lines Ended progress)
+    ensures { (report : Report) → Stopped report (at_end lines Ended (seen progress))
         (K.view output.old) (K.view output.new) result }
 {
     let status = close_at_end(alloc, output, lines, &progress);
@@ -230,7 +203,7 @@ fn end_run<K: Sink>(alloc: Global, output: &mut K, lines: u64, progress: Progres
 /// A take has failed behind so many lines.
 pub fn fail<K: Sink>(alloc: Global, output: &mut K, lines: u64, progress: Progress) -> Status
     requires { (K.view output.old).faults < 2 ^ 62 }
-    ensures { (report : Report) → Stopped report (ended_with status.ReadFault lines progress)
+    ensures { (report : Report) → Stopped report (ended_with status.ReadFault lines (seen progress))
         (K.view output.old) (K.view output.new) result }
 {
     let count = progress.count;
@@ -248,8 +221,8 @@ fn close_in_line<K: Sink>(
     progress: Progress,
 ) -> Status
     requires few_faults { (K.view output.old).faults < 2 ^ 62 }
-    requires under_way { IsUnderWay progress }
-    ensures { Stopped report (cut_line number line.now Ended progress)
+    requires under_way { IsUnderWay (seen progress) }
+    ensures { Stopped report (cut_line number line.now Ended (seen progress))
         (K.view output.old) (K.view output.new) result }
 {
     match begin_line(alloc, output, report, number, line, progress) {
@@ -269,9 +242,9 @@ pub fn close<K: Sink>(
 ) -> Status
     requires few_faults { (K.view output.old).faults < 2 ^ 62 }
     requires counted { 1 ≤ number }
-    requires under_way { IsUnderWay progress }
+    requires under_way { IsUnderWay (seen progress) }
     ensures { (at : ℕ) → held_limit number at rest.now ≡ None →
-        Stopped report (last_piece number at rest.now Ended progress)
+        Stopped report (last_piece number at rest.now Ended (seen progress))
         (K.view output.old) (K.view output.new) result }
 {
     if rest.is_empty() {

@@ -1,15 +1,16 @@
 ghost use Rattle.std.specs.Prelude.{◌≡◌, ◌<◌, ◌^◌, true, IfOk};
 ghost use Rattle.cg_schedule.specs.declared.event.Event.TheVariants.{Gather};
-ghost use Rattle.cg_run.specs.Produced.{one_step};
-ghost use Rattle.cg_run.specs.Rounds.{deliver_ready, deliveries, one_pass, passes, happened};
-ghost use Rattle.cg_run.specs.Performing.{Performs};
-ghost use Rattle.cg_run.specs.UnderWay.{HasBegun, MayHappen};
+ghost use Rattle.cg_outcome.specs.Produced.{one_step};
+ghost use Rattle.cg_outcome.specs.Rounds.{deliver_ready, deliveries, one_pass, passes, happened};
+ghost use Rattle.cg_run.specs.Performing.{seen, Performs};
+ghost use Rattle.cg_outcome.specs.UnderWay.{HasBegun};
+ghost use Rattle.cg_run.specs.Next.{MayHappen};
 
-use crate::progress::{Progress, Report};
-use crate::status::Status;
+use crate::progress::Progress;
 use crate::steps::take_step;
 use cg_base::{IdSet, ReplicaId};
 use cg_io::Sink;
+use cg_outcome::{Report, Status};
 use cg_schedule::Event;
 use std::alloc::Global;
 
@@ -23,10 +24,10 @@ fn deliver_ready<K: Sink>(
     progress: Progress,
 ) -> Result<Progress, Status>
     requires few_faults { (K.view output.old).faults < 2 ^ 62 }
-    requires begun { HasBegun progress }
-    ensures performs { Performs report (deliver_ready line to progress)
+    requires begun { HasBegun (seen progress) }
+    ensures performs { Performs report (deliver_ready line to (seen progress))
         (K.view output.old) (K.view output.new) result }
-    ensures begun { IfOk result (λ s. HasBegun s) }
+    ensures begun { IfOk result (λ s. HasBegun (seen s)) }
 {
     let count = progress.world.ready(to);
     if count == 0 {
@@ -46,10 +47,10 @@ fn deliver_to_each<K: Sink>(
     progress: Progress,
 ) -> Result<Progress, Status>
     requires few_faults { (K.view output.old).faults < 2 ^ 62 }
-    requires begun { HasBegun progress }
-    ensures performs { Performs report (deliveries line set.now progress)
+    requires begun { HasBegun (seen progress) }
+    ensures performs { Performs report (deliveries line set.now (seen progress))
         (K.view output.old) (K.view output.new) result }
-    ensures begun { IfOk result (λ s. HasBegun s) }
+    ensures begun { IfOk result (λ s. HasBegun (seen s)) }
 {
     let mut progress = progress;
     for to in set.iter() {
@@ -67,10 +68,10 @@ fn gather<K: Sink>(
     progress: Progress,
 ) -> Result<Progress, Status>
     requires few_faults { (K.view output.old).faults < 2 ^ 62 }
-    requires begun { HasBegun progress }
-    ensures performs { Performs report (one_step line Gather progress)
+    requires begun { HasBegun (seen progress) }
+    ensures performs { Performs report (one_step line Gather (seen progress))
         (K.view output.old) (K.view output.new) result }
-    ensures begun { IfOk result (λ s. HasBegun s) }
+    ensures begun { IfOk result (λ s. HasBegun (seen s)) }
 {
     let event = Event::Gather;
     take_step(alloc, output, report, line, &event, progress)
@@ -85,10 +86,10 @@ fn make_pass<K: Sink>(
     progress: Progress,
 ) -> Result<Progress, Status>
     requires few_faults { (K.view output.old).faults < 2 ^ 62 }
-    requires begun { HasBegun progress }
-    ensures performs { Performs report (one_pass line progress)
+    requires begun { HasBegun (seen progress) }
+    ensures performs { Performs report (one_pass line (seen progress))
         (K.view output.old) (K.view output.new) result }
-    ensures begun { IfOk result (λ s. HasBegun s) }
+    ensures begun { IfOk result (λ s. HasBegun (seen s)) }
 {
     let up = progress.world.up_replicas();
     let next = gather(alloc, output, report, line, progress)?;
@@ -105,10 +106,10 @@ fn make_passes<K: Sink>(
     progress: Progress,
 ) -> Result<Progress, Status>
     requires few_faults { (K.view output.old).faults < 2 ^ 62 }
-    requires begun { HasBegun progress }
-    ensures performs { Performs report (passes line count progress)
+    requires begun { HasBegun (seen progress) }
+    ensures performs { Performs report (passes line count (seen progress))
         (K.view output.old) (K.view output.new) result }
-    ensures begun { IfOk result (λ s. HasBegun s) }
+    ensures begun { IfOk result (λ s. HasBegun (seen s)) }
 {
     let mut progress = progress;
     for made in 0..count {
@@ -118,7 +119,7 @@ fn make_passes<K: Sink>(
 }
 
 /// The event of a line happens.
-#[tactic(auto, unfolding(crate::specs::Rounds::happened))]
+#[tactic(auto, unfolding(cg_outcome::specs::Rounds::happened))]
 pub fn perform<K: Sink>(
     alloc: Global,
     output: &mut K,
@@ -129,10 +130,10 @@ pub fn perform<K: Sink>(
 ) -> Result<Progress, Status>
     requires few_faults { (K.view output.old).faults < 2 ^ 62 }
     requires started { progress.reader.started ≡ true }
-    requires happens { MayHappen progress.world event.now }
-    ensures performs { Performs report (happened line event.now progress)
+    requires happens { MayHappen (seen progress).world event.now }
+    ensures performs { Performs report (happened line event.now (seen progress))
         (K.view output.old) (K.view output.new) result }
-    ensures begun { IfOk result (λ s. HasBegun s) }
+    ensures begun { IfOk result (λ s. HasBegun (seen s)) }
 {
     match event {
         Event::End => Ok(progress),

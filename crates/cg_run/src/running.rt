@@ -1,78 +1,18 @@
-ghost use Rattle.std.specs.Prelude.{◌≡◌, ◌+◌, ◌<◌, ◌^◌, false, Some};
+ghost use Rattle.std.specs.Prelude.{◌≡◌, ◌+◌, ◌<◌, ◌^◌, false};
 ghost use Rattle.cg_model.specs.World.{no_world};
 ghost use Rattle.cg_model.specs.Run.{IsRunFrom};
 ghost use Rattle.cg_model.specs.Agreement.{OrderGrows, Prefix, CreatorOrder, FoldAnswers, DirtyAnswers, OnePrimary, QuietSettles, MadeStays};
 ghost use Rattle.cg_terms.specs.Linearizable.{Linearizable, StronglyLinearizable};
 ghost use Rattle.cg_terms.specs.Guarantees.{Durable, ExactlyOnce, PrefixReads, NoSplitBrain};
-ghost use Rattle.cg_gen.specs.Generated.{generated};
-ghost use Rattle.cg_gen.specs.Lines.{lines_of};
-ghost use Rattle.cg_run.specs.declared.status.Status.TheVariants as status;
-ghost use Rattle.cg_base.specs.Sets.{IsId};
-ghost use Rattle.cg_run.specs.Commands.{command_of, reads_input};
-ghost use Rattle.cg_run.specs.Putting.{StopsWith};
-ghost use Rattle.cg_run.specs.Status.{write_faults};
-ghost use Rattle.cg_run.specs.Taking.{Runs, ReadCause, Completes, OfSteps, TellsOfRefusals, RefusesExactly};
+ghost use Rattle.cg_outcome.specs.Commands.{command_of, reads_input};
+ghost use Rattle.cg_outcome.specs.Status.{write_faults};
+ghost use Rattle.cg_outcome.specs.Taking.{Runs, ReadCause, Completes, OfSteps, TellsOfRefusals, RefusesExactly};
 
-use crate::arg_text::ArgText;
-use crate::command::{Command, command_of};
-use crate::putting::{finish, put_text};
-use crate::status::Status;
 use crate::streaming::replay;
 use crate::trial::try_schedule;
-use cg_agree::runs_agree;
-use cg_base::ReplicaId;
-use cg_gen::generate;
 use cg_io::{Sink, Source};
-use cg_schedule::lines_are_exact;
-use cg_terms::agreement_gives_guarantees;
+use cg_outcome::{ArgText, Command, Status, command_of, finish, outcomes_agree, put_schedule};
 use std::alloc::Global;
-
-// Whatever is taken, a refusal tells of its line, and the steps are those of a run, which agree; the guarantees follow from that.
-fn outcomes_agree(words: &[ArgText])
-    ensures refused { TellsOfRefusals words.now }
-    ensures is_run { OfSteps words.now (IsRunFrom no_world 0) }
-    ensures order_grows { OfSteps words.now OrderGrows }
-    ensures prefix { OfSteps words.now Prefix }
-    ensures creator_order { OfSteps words.now CreatorOrder }
-    ensures fold_answers { OfSteps words.now FoldAnswers }
-    ensures dirty_answers { OfSteps words.now DirtyAnswers }
-    ensures one_primary { OfSteps words.now OnePrimary }
-    ensures quiet_settles { OfSteps words.now QuietSettles }
-    ensures made_stays { OfSteps words.now MadeStays }
-    ensures refused_exactly { RefusesExactly words.now }
-    ensures linearizable { OfSteps words.now Linearizable }
-    ensures strongly_linearizable { OfSteps words.now StronglyLinearizable }
-    ensures durable { OfSteps words.now Durable }
-    ensures exactly_once { OfSteps words.now ExactlyOnce }
-    ensures prefix_reads { OfSteps words.now PrefixReads }
-    ensures no_split_brain { OfSteps words.now NoSplitBrain }
-{
-    lines_are_exact();
-    runs_agree();
-    agreement_gives_guarantees();
-}
-
-// Puts the schedule of a seed.
-fn put_schedule<K: Sink>(
-    alloc: Global,
-    output: &mut K,
-    seed: u64,
-    replicas: u8,
-    lines: u64,
-) -> Status
-    requires replicas { IsId replicas }
-    requires few_faults { (K.view output.old).faults < 2 ^ 62 }
-    ensures { StopsWith (lines_of (generated seed replicas lines)) (Some status.Done) (K.view output.old)
-        (K.view output.new) result }
-{
-    let Ok(schedule) = generate(alloc, seed, ReplicaId::known(replicas), lines) else {
-        return Status::NoMemory;
-    };
-    match put_text(alloc, output, schedule.as_slice()) {
-        Ok(()) => Status::Done,
-        Err(other) => other,
-    }
-}
 
 // Runs a command, or tells how the program is used.
 fn run_command<S: Source, K: Sink>(

@@ -2,15 +2,13 @@ ghost use Rattle.std.specs.Prelude.{◌≡◌, ◌<◌, ◌^◌, true, length, I
 ghost use Rattle.cg_schedule.specs.declared.event.Event.{Event};
 ghost use Rattle.cg_model.specs.Run.{MayStand};
 ghost use Rattle.cg_world.specs.Steps.{IsCounted};
-ghost use Rattle.cg_run.specs.Produced.{stepped, one_step};
-ghost use Rattle.cg_run.specs.Performing.{Performs};
-ghost use Rattle.cg_run.specs.UnderWay.{HasBegun};
+ghost use Rattle.cg_outcome.specs.Produced.{stepped, one_step};
+ghost use Rattle.cg_run.specs.Performing.{seen, Performs};
+ghost use Rattle.cg_outcome.specs.UnderWay.{HasBegun};
 
-use crate::limits::STEPS;
-use crate::progress::{Progress, Report};
-use crate::putting::{finish, put_step};
-use crate::status::{Limit, Status};
+use crate::progress::Progress;
 use cg_io::Sink;
+use cg_outcome::{Limit, Report, STEPS, Status, finish, put_step};
 use cg_report::Entry;
 use cg_schedule::Event;
 use cg_world::Stepped;
@@ -27,11 +25,12 @@ fn count_step<K: Sink>(
 ) -> Result<Progress, Status>
     requires few_faults { (K.view output.old).faults < 2 ^ 62 }
     requires started { next.reader.started ≡ true }
-    requires seated { 0 < length next.world.seats }
+    requires seated { 0 < length (seen next).world.seats }
     ensures performs { (s : Progress) (event : Event) → s.reader ≡ next.reader → s.count ≡ next.count →
-        s.totals ≡ next.totals → Performs report (stepped line event (record { entry = entry; world = next.world }) s)
+        s.totals ≡ next.totals →
+        Performs report (stepped line event (record { entry = entry; world = (seen next).world }) (seen s))
         (K.view output.old) (K.view output.new) result }
-    ensures begun { IfOk result (λ s. HasBegun s) }
+    ensures begun { IfOk result (λ s. HasBegun (seen s)) }
 {
     let Progress {
         world,
@@ -74,11 +73,11 @@ pub fn take_step<K: Sink>(
 ) -> Result<Progress, Status>
     requires few_faults { (K.view output.old).faults < 2 ^ 62 }
     requires started { progress.reader.started ≡ true }
-    requires stands { MayStand progress.world event.now }
+    requires stands { MayStand (seen progress).world event.now }
     requires counted { IsCounted event.now }
-    ensures performs { Performs report (one_step line event.now progress)
+    ensures performs { Performs report (one_step line event.now (seen progress))
         (K.view output.old) (K.view output.new) result }
-    ensures begun { IfOk result (λ s. HasBegun s) }
+    ensures begun { IfOk result (λ s. HasBegun (seen s)) }
 {
     let Progress {
         world,

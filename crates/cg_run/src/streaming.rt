@@ -1,16 +1,15 @@
-ghost use Rattle.std.specs.Prelude.{◌≡◌, ◌<◌, ◌≤◌, ◌^◌, ◌++◌, MatchResult, None};
-ghost use Rattle.cg_run.specs.declared.progress.Report.{Report};
-ghost use Rattle.cg_run.specs.Outcome.{whole_line};
-ghost use Rattle.cg_run.specs.declared.progress.Ending.TheVariants.{Ended, Failed};
-ghost use Rattle.cg_run.specs.Streaming.{from_stage, IsStage, IsUnended, IsHeld, held_limit, EndsLine, HoldsRest, TakesUp, TakesTurn, Replays};
-ghost use Rattle.cg_run.specs.Performing.{Stopped};
+ghost use Rattle.std.specs.Prelude.{◌<◌, ◌^◌, ◌++◌, MatchResult};
+ghost use Rattle.cg_outcome.specs.declared.report.Report.{Report};
+ghost use Rattle.cg_outcome.specs.Outcome.{whole_line, Ended, Failed};
+ghost use Rattle.cg_outcome.specs.Streaming.{from_stage, IsStage, IsUnended, IsHeld, held_limit, EndsLine, HoldsRest, TakesUp, TakesTurn, Replays};
+ghost use Rattle.cg_outcome.specs.Stopping.{Stopped};
+ghost use Rattle.cg_run.specs.Performing.{seen, seen_stage, seen_end};
 
-use crate::limits::{INPUT_BYTES, TAKE_BYTES};
-use crate::progress::{Report, Stage};
-use crate::replay::{close, fail, passed_limit, refuse_limit, whole_line};
-use crate::status::{Limit, Status};
+use crate::progress::Stage;
+use crate::replay::{close, fail, refuse_limit, whole_line};
 use cg_base::cut_at;
 use cg_io::{Sink, Source};
+use cg_outcome::{INPUT_BYTES, Report, Status, TAKE_BYTES, held_limit};
 use std::alloc::Global;
 
 // A line's end was taken: what is held and this piece are the line, and nothing is held behind it.
@@ -23,11 +22,12 @@ fn end_line<K: Sink>(
     stage: Stage,
 ) -> Result<Stage, Status>
     requires few_faults { (K.view output.old).faults < 2 ^ 62 }
-    requires stands { IsStage stage }
+    requires stands { IsStage (seen_stage stage) }
     ensures { MatchResult result
-        (EndsLine report stage (held.old.items ++ piece.now) (K.view output.old) (K.view output.new) held.new.items)
-        (λ status. Stopped report (whole_line stage.line stage.at (held.old.items ++ piece.now) stage.progress) (K.view
-        output.old) (K.view output.new) status) }
+        (λ next. EndsLine report (seen_stage stage) (held.old.items ++ piece.now)
+        (K.view output.old) (K.view output.new) held.new.items (seen_stage next))
+        (λ status. Stopped report (whole_line stage.line stage.at (held.old.items ++ piece.now) (seen stage.progress))
+        (K.view output.old) (K.view output.new) status) }
 {
     if held.extend_from_slice(piece).is_err() {
         drop(stage);
@@ -45,18 +45,6 @@ fn end_line<K: Sink>(
     }
 }
 
-// The limit that a line passes of which these bytes were taken.
-fn held_limit(line: u64, at: usize, held: &[u8]) -> Option<Limit>
-    requires { at ≤ 8388608 }
-    ensures { result ≡ held_limit line at held.now }
-{
-    if held.is_empty() {
-        None
-    } else {
-        passed_limit(line, held.len(), at + held.len())
-    }
-}
-
 // The bytes behind the last line's end are held.
 fn hold_rest<K: Sink>(
     alloc: Global,
@@ -67,11 +55,11 @@ fn hold_rest<K: Sink>(
     stage: Stage,
 ) -> Result<Stage, Status>
     requires few_faults { (K.view output.old).faults < 2 ^ 62 }
-    requires stands { IsStage stage }
+    requires stands { IsStage (seen_stage stage) }
     requires unended { IsUnended held.old.items }
     requires unended_rest { IsUnended rest.now }
-    ensures { HoldsRest report stage (held.old.items
-        ++ rest.now) (K.view output.old) (K.view output.new) held.new.items result }
+    ensures { HoldsRest report (seen_stage stage) (held.old.items ++ rest.now)
+        (K.view output.old) (K.view output.new) held.new.items (seen_end result) }
 {
     if held.extend_from_slice(rest).is_err() {
         drop(stage);
@@ -94,10 +82,10 @@ fn take_up<K: Sink>(
     stage: Stage,
 ) -> Result<Stage, Status>
     requires few_faults { (K.view output.old).faults < 2 ^ 62 }
-    requires stands { IsStage stage }
+    requires stands { IsStage (seen_stage stage) }
     requires unended { IsUnended held.old.items }
-    ensures { TakesUp report stage (held.old.items ++ chunk.now) (K.view output.old) (K.view
-        output.new) held.new.items result }
+    ensures { TakesUp report (seen_stage stage) (held.old.items ++ chunk.now)
+        (K.view output.old) (K.view output.new) held.new.items (seen_end result) }
 {
     let mut stage = stage;
     let mut rest = chunk;
@@ -117,9 +105,10 @@ fn close_stage<K: Sink>(
     stage: Stage,
 ) -> Status
     requires few_faults { (K.view output.old).faults < 2 ^ 62 }
-    requires stands { IsStage stage }
-    requires held { IsHeld stage held.now }
-    ensures { Stopped report (from_stage stage held.now Ended) (K.view output.old) (K.view output.new) result }
+    requires stands { IsStage (seen_stage stage) }
+    requires held { IsHeld (seen_stage stage) held.now }
+    ensures { Stopped report (from_stage (seen_stage stage) held.now Ended)
+        (K.view output.old) (K.view output.new) result }
 {
     let Stage { line, progress, .. } = stage;
     close(alloc, output, report, line, held, progress)
@@ -128,10 +117,10 @@ fn close_stage<K: Sink>(
 // A take has failed behind what is held.
 fn fail_stage<K: Sink>(alloc: Global, output: &mut K, held: &[u8], stage: Stage) -> Status
     requires few_faults { (K.view output.old).faults < 2 ^ 62 }
-    requires stands { IsStage stage }
-    requires held { IsHeld stage held.now }
+    requires stands { IsStage (seen_stage stage) }
+    requires held { IsHeld (seen_stage stage) held.now }
     ensures { (report : Report) →
-        Stopped report (from_stage stage held.now Failed) (K.view output.old) (K.view output.new) result }
+        Stopped report (from_stage (seen_stage stage) held.now Failed) (K.view output.old) (K.view output.new) result }
 {
     let _held = held;
     let Stage { line, progress, .. } = stage;
@@ -149,11 +138,11 @@ fn make_turn<S: Source, K: Sink>(
 ) -> Result<Stage, Status>
     requires few_read_faults { (S.view input.old).faults < 2 ^ 62 }
     requires few_write_faults { (K.view output.old).faults < 2 ^ 62 }
-    requires stands { IsStage stage }
-    requires held { IsHeld stage held.old.items }
-    ensures { TakesTurn report stage
+    requires stands { IsStage (seen_stage stage) }
+    requires held { IsHeld (seen_stage stage) held.old.items }
+    ensures { TakesTurn report (seen_stage stage)
         (record { input = S.view input.old; output = K.view output.old; held = held.old.items })
-        (record { input = S.view input.new; output = K.view output.new; held = held.new.items }) result }
+        (record { input = S.view input.new; output = K.view output.new; held = held.new.items }) (seen_end result) }
 {
     let mut buffer = [0u8; TAKE_BYTES];
     let room = (INPUT_BYTES + 1 - stage.at - held.len()).min(TAKE_BYTES);

@@ -2,23 +2,20 @@ ghost use Rattle.std.specs.Prelude.{◌≡◌, ◌<◌, ◌^◌, IfOk};
 ghost use Rattle.cg_base.specs.Sets.{IsId};
 ghost use Rattle.cg_gen.specs.Generated.{generated};
 ghost use Rattle.cg_schedule.specs.Print.{line_of};
-ghost use Rattle.cg_run.specs.declared.progress.Ending.TheVariants.{Ended};
-ghost use Rattle.cg_run.specs.declared.progress.Report.TheVariants.{Tail};
-ghost use Rattle.cg_run.specs.declared.status.Status.TheVariants as status;
-ghost use Rattle.cg_run.specs.Outcome.{line_outcome, without_return, at_end, performed, trial_text};
-ghost use Rattle.cg_run.specs.Produced.{before_all, status_of};
-ghost use Rattle.cg_run.specs.Putting.{StopsWith};
-ghost use Rattle.cg_run.specs.UnderWay.{IsUnderWay};
-ghost use Rattle.cg_run.specs.Performing.{Performs};
+ghost use Rattle.cg_outcome.specs.Outcome.{Ended, line_outcome, without_return, at_end, performed, trial_text};
+ghost use Rattle.cg_outcome.specs.declared.report.Report.TheVariants.{Tail};
+ghost use Rattle.cg_outcome.specs.declared.status.Status.TheVariants as status;
+ghost use Rattle.cg_outcome.specs.Produced.{before_all, status_of};
+ghost use Rattle.cg_outcome.specs.Putting.{StopsWith};
+ghost use Rattle.cg_outcome.specs.UnderWay.{IsUnderWay};
+ghost use Rattle.cg_run.specs.Performing.{seen, Performs};
 
-use crate::progress::{Progress, Report};
-use crate::putting::{finish, put_text};
-use crate::replay::{begin_line, without_return};
-use crate::status::Status;
-use crate::totals::put_summary;
+use crate::progress::Progress;
+use crate::replay::begin_line;
 use cg_base::ReplicaId;
 use cg_gen::Generator;
 use cg_io::Sink;
+use cg_outcome::{Report, Status, finish, put_summary, put_text, without_return};
 use cg_schedule::{Event, print_line};
 use std::alloc::Global;
 
@@ -31,10 +28,10 @@ fn play_line<K: Sink>(
     progress: Progress,
 ) -> Result<Progress, Status>
     requires few_faults { (K.view output.old).faults < 2 ^ 62 }
-    requires under_way { IsUnderWay progress }
-    ensures performs { Performs Tail (line_outcome line (without_return (line_of event.now)) progress)
+    requires under_way { IsUnderWay (seen progress) }
+    ensures performs { Performs Tail (line_outcome line (without_return (line_of event.now)) (seen progress))
         (K.view output.old) (K.view output.new) result }
-    ensures under_way { IfOk result (λ s. IsUnderWay s) }
+    ensures under_way { IfOk result (λ s. IsUnderWay (seen s)) }
 {
     let mut text = Vec::new(alloc);
     if print_line(event, &mut text).is_err() {
@@ -54,10 +51,10 @@ fn play_event<K: Sink>(
     progress: Progress,
 ) -> Result<Progress, Status>
     requires few_faults { (K.view output.old).faults < 2 ^ 62 }
-    requires under_way { IsUnderWay progress }
-    ensures performs { Performs Tail (line_outcome line (without_return (line_of event)) progress)
+    requires under_way { IsUnderWay (seen progress) }
+    ensures performs { Performs Tail (line_outcome line (without_return (line_of event)) (seen progress))
         (K.view output.old) (K.view output.new) result }
-    ensures under_way { IfOk result (λ s. IsUnderWay s) }
+    ensures under_way { IfOk result (λ s. IsUnderWay (seen s)) }
 {
     let played = play_line(alloc, output, line, &event, progress);
     drop(event);
@@ -67,8 +64,8 @@ fn play_event<K: Sink>(
 // Puts the summary.
 fn close_trial<K: Sink>(alloc: Global, output: &mut K, lines: u64, progress: &Progress) -> Status
     requires { (K.view output.old).faults < 2 ^ 62 }
-    ensures { StopsWith (trial_text (at_end lines Ended progress.now)) (status_of (at_end lines Ended progress.now))
-        (K.view output.old) (K.view output.new) result }
+    ensures { StopsWith (trial_text (at_end lines Ended (seen progress.now)))
+        (status_of (at_end lines Ended (seen progress.now))) (K.view output.old) (K.view output.new) result }
 {
     let count = progress.count;
     if !progress.reader.state().ended {
@@ -87,8 +84,8 @@ fn close_trial<K: Sink>(alloc: Global, output: &mut K, lines: u64, progress: &Pr
 // The schedule has ended, and the run is let go.
 fn end_trial<K: Sink>(alloc: Global, output: &mut K, lines: u64, progress: Progress) -> Status
     requires { (K.view output.old).faults < 2 ^ 62 }
-    ensures { StopsWith (trial_text (at_end lines Ended progress)) (status_of (at_end lines Ended progress))
-        (K.view output.old) (K.view output.new) result }
+    ensures { StopsWith (trial_text (at_end lines Ended (seen progress)))
+        (status_of (at_end lines Ended (seen progress))) (K.view output.old) (K.view output.new) result }
 {
     let status = close_trial(alloc, output, lines, &progress);
     drop(progress);

@@ -11,16 +11,13 @@ use Rattle.std.proofs.lemmas.List.Splits.{slice_split_none, slice_split_at, leng
 use Rattle.cg_base.specs.Text.{pieces_of}
 use Rattle.cg_group.specs.declared.reason.Reason.TheVariants.{EmptySet}
 use Rattle.cg_schedule.specs.declared.event.Event.TheVariants.{Start}
-use Rattle.cg_run.specs.declared.progress.Ending.{Ending}
-use Rattle.cg_run.specs.declared.progress.Ending.TheVariants.{Ended, Open}
-use Rattle.cg_run.specs.declared.progress.Progress.{Progress}
-use Rattle.cg_run.specs.declared.progress.Report.TheVariants.{Whole}
-use Rattle.cg_run.specs.declared.status.Limit.{Limit}
-use Rattle.cg_run.specs.declared.status.Limit.TheVariants as limit
-use Rattle.cg_run.specs.declared.status.Status.TheVariants as status
-use Rattle.cg_run.specs.Produced.{Produced, before_all, went_on, ended_with, and_then, prepend, text_of, status_of, one_step}
-use Rattle.cg_run.specs.Outcome.{limit_of, unless_passed, without_return, line_outcome, whole_line, cut_line, replayed}
-use Rattle.cg_run.specs.Streaming.{IsUnended}
+use Rattle.cg_outcome.specs.Outcome.{Ending, Ended, Open, limit_of, unless_passed, without_return, line_outcome, whole_line, cut_line, replayed}
+use Rattle.cg_outcome.specs.Produced.{Progress, Produced, before_all, went_on, ended_with, and_then, prepend, text_of, status_of, one_step}
+use Rattle.cg_outcome.specs.declared.report.Report.TheVariants.{Whole}
+use Rattle.cg_outcome.specs.declared.status.Limit.{Limit}
+use Rattle.cg_outcome.specs.declared.status.Limit.TheVariants as limit
+use Rattle.cg_outcome.specs.declared.status.Status.TheVariants as status
+use Rattle.cg_outcome.specs.Streaming.{IsUnended}
 use Rattle.cg_worked.specs.Replaying.{utf8, written, put_of}
 use Rattle.cg_worked.specs.Computing.{cases_compute}
 

@@ -2,7 +2,7 @@
 -- the last line has no end of its own, a line can't be read, or its event isn't admitted.
 use Rattle.std.specs.Prelude.{◌≡◌, [], ◌∷◌, ◌++◌}
 use mathlib.Core.Path.{refl}
-use Rattle.cg_run.specs.declared.progress.Ending.TheVariants.{Ended, Failed, Open}
+use Rattle.cg_outcome.specs.Outcome.{Ended, Failed, Open}
 use Rattle.cg_worked.specs.Replaying.{utf8, put_of, replayed_text, written}
 use Rattle.cg_worked.specs.Computing.{cases_compute}
 

@@ -47,10 +47,10 @@ use Rattle.cg_model.specs.Quiet.{IsSettled, Remains, summaries_in, is_known_in, 
 use Rattle.cg_model.specs.Schedules.{run_of}
 use Rattle.cg_base.specs.Text.{is_nil}
 use Rattle.cg_io.specs.Outside.{SourceView, SinkView}
-use Rattle.cg_run.specs.declared.command.Command.TheVariants.{Replay}
-use Rattle.cg_run.specs.declared.progress.Report.TheVariants.{Whole}
-use Rattle.cg_run.specs.declared.status.Status.TheVariants as status
-use Rattle.cg_run.specs.Taking.{Completes}
+use Rattle.cg_outcome.specs.declared.command.Command.TheVariants.{Replay}
+use Rattle.cg_outcome.specs.declared.report.Report.TheVariants.{Whole}
+use Rattle.cg_outcome.specs.declared.status.Status.TheVariants as status
+use Rattle.cg_outcome.specs.Taking.{Completes}
 use Rattle.cg_worked.specs.Replaying.{written}
 use Rattle.cg_worked.specs.Computing.{cases_compute}
 

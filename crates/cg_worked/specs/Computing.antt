@@ -55,8 +55,8 @@ use Rattle.cg_step.specs.Step.{on_message, on_transitional, on_regular, take, re
 use Rattle.cg_model.specs.Admission.{first_refusal}
 use Rattle.cg_model.specs.Show.{ended}
 use Rattle.cg_model.specs.Step.{hand, happens, world_step}
-use Rattle.cg_run.specs.Outcome.{line_outcome}
-use Rattle.cg_run.specs.Rounds.{happened}
+use Rattle.cg_outcome.specs.Outcome.{line_outcome}
+use Rattle.cg_outcome.specs.Rounds.{happened}
 
 unfoldable pub std_computes : ⊤
 unfolding chars is_utf8 digits encode_utf8

@@ -5,10 +5,8 @@ use Rattle.std.specs.Str.{encode_utf8_all}
 use Prim.Native.String.{String}
 use Rattle.cg_base.specs.Text.{pieces_of}
 use Rattle.cg_text.specs.Order.{same_text}
-use Rattle.cg_run.specs.declared.progress.Ending.{Ending}
-use Rattle.cg_run.specs.declared.progress.Ending.TheVariants.{Ended}
-use Rattle.cg_run.specs.Commands.{command_of}
-use Rattle.cg_run.specs.Outcome.{outcome, text_put}
+use Rattle.cg_outcome.specs.Outcome.{Ending, Ended, outcome, text_put}
+use Rattle.cg_outcome.specs.Commands.{command_of}
 
 -- the bytes of a text
 abbrev pub utf8 : String → List ℕ

@@ -1,5 +1,5 @@
-use Rattle.cg_run.proofs.Completeness.{Runs-complete}
-use Rattle.cg_run.specs.Commands.{command_of}
+use Rattle.cg_outcome.specs.CompleteLaws.{Runs-complete}
+use Rattle.cg_outcome.specs.Commands.{command_of}
 use Rattle.cg_run.proofs.running.run.Goals as goal
 
 pub returns-clause-completes : goal.returns-clause-completes

@@ -1,11 +1,11 @@
 use Rattle.std.proofs.Common.{◌≡◌, [], refl, Option, Some, None, sym, ap, subst, ◌∙◌}
-use Rattle.cg_run.specs.declared.progress.Ending.TheVariants.{Open}
-use Rattle.cg_run.specs.declared.command.Command.{Command}
-use Rattle.cg_run.specs.declared.command.Command.TheVariants.{Replay, Generate, Trial}
-use Rattle.cg_run.specs.Commands.{command_of}
-use Rattle.cg_run.specs.Taking.{Runs}
-use Rattle.cg_run.proofs.Spared.{read-cause}
-use Rattle.cg_run.proofs.Nearness.{Runs-near, Runs-nothing}
+use Rattle.cg_outcome.specs.Outcome.{Open}
+use Rattle.cg_outcome.specs.declared.command.Command.{Command}
+use Rattle.cg_outcome.specs.declared.command.Command.TheVariants.{Replay, Generate, Trial}
+use Rattle.cg_outcome.specs.Commands.{command_of}
+use Rattle.cg_outcome.specs.Taking.{Runs}
+use Rattle.cg_outcome.specs.SparedLaws.{read-cause}
+use Rattle.cg_outcome.specs.NearLaws.{Runs-near, Runs-nothing}
 use Rattle.cg_run.proofs.running.run_command.Goals as goal
 
 pub returns-in-None-clause-ran : goal.returns-in-None-clause-ran

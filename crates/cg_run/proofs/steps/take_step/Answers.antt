@@ -2,16 +2,17 @@ use Rattle.std.proofs.Common.{refl, sym, subst}
 use Rattle.cg_model.specs.Show.{Moved}
 use Rattle.cg_model.specs.SeatLaws.{IsSeated, step_seats}
 use Rattle.cg_run.proofs.Happening.{one_step-done}
+use Rattle.cg_run.specs.Performing.{seen}
 use Rattle.cg_run.proofs.steps.take_step.Goals as goal
 
 pub count_step-requires-clause-seated : goal.count_step-requires-clause-seated
 count_step-requires-clause-seated g c =
-    let w = c.args.progress.world in
+    let w = (seen c.args.progress).world in
     let e = c.args.event.now in
     let stepped = c.in-Done.ensures in
     subst (λ (m : Moved). IsSeated m.world) (sym stepped.1) (step_seats w e c.requires.stands stepped.0)
 
 pub returns-in-Done-clause-performs : goal.returns-in-Done-clause-performs
 returns-in-Done-clause-performs g c =
-    rw (one_step-done c.args.line c.args.event.now c.args.progress c.in-Done.world c.in-Done.entry c.in-Done.ensures)
+    rw (one_step-done c.args.line c.args.event.now (seen c.args.progress) c.in-Done.world c.in-Done.entry c.in-Done.ensures)
     (c.count_step.ensures.performs c.args.progress c.args.event.now refl refl refl)

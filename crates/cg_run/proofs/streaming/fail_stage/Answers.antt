@@ -1,12 +1,13 @@
 use Rattle.std.proofs.Common.{sym, subst, ◌∙◌}
-use Rattle.cg_run.specs.declared.progress.Ending.TheVariants.{Failed}
-use Rattle.cg_run.proofs.Stages.{from-held, last-failed}
+use Rattle.cg_outcome.specs.Outcome.{Failed}
+use Rattle.cg_outcome.specs.StageLaws.{from-held, last-failed}
+use Rattle.cg_run.specs.Performing.{seen_stage}
 use Rattle.cg_run.proofs.streaming.fail_stage.Goals as goal
-use Rattle.cg_run.specs.Performing.{Stopped}
+use Rattle.cg_outcome.specs.Stopping.{Stopped}
 
 pub returns : goal.returns
 returns g c =
-    let st = c.args.stage in
+    let st = seen_stage c.args.stage in
     λ report.
     subst (λ p. Stopped report p (g.K.Sink.view c.args.output.now) (g.K.Sink.view c.fail.new.output) c.fail.result)
     (sym (from-held st c.args.held.now Failed c.requires.held.unended ∙ last-failed st.line st.at c.args.held.now st.progress c.requires.held.unpassed)) (c.fail.ensures report)

@@ -1,10 +1,11 @@
 use Rattle.std.proofs.Common.{◌++◌, length}
-use Rattle.cg_run.specs.Streaming.{IsUnended, GoesThrough}
+use Rattle.cg_outcome.specs.Streaming.{IsUnended, GoesThrough}
+use Rattle.cg_run.specs.Performing.{seen_stage}
 use Rattle.cg_run.proofs.streaming.take_up.Given as goal
 
 abbrev pub invariant-loop-piece : goal.invariant-loop-piece
 invariant-loop-piece g l =
-    GoesThrough l.report l.fn.stage (l.fn.held.items ++ l.chunk) (g.K.Sink.view l.fn.output) (g.K.Sink.view l.output) (l.held.items ++ l.rest) l.stage
+    GoesThrough l.report (seen_stage l.fn.stage) (l.fn.held.items ++ l.chunk) (g.K.Sink.view l.fn.output) (g.K.Sink.view l.output) (l.held.items ++ l.rest) (seen_stage l.stage)
     × IsUnended l.held.items
 
 abbrev pub decreases-loop-piece : goal.decreases-loop-piece

@@ -1,10 +1,11 @@
 use Rattle.std.proofs.Common.{[], ◌∷◌}
 use Rattle.cg_gen.specs.Generated.{generated}
 use Rattle.cg_gen.specs.GeneratedLaws.{generated-length}
-use Rattle.cg_run.specs.Outcome.{performed}
-use Rattle.cg_run.specs.Produced.{before_all}
-use Rattle.cg_run.proofs.RunFacts.{before_under_way}
-use Rattle.cg_run.proofs.Trials.{Plays-begin, Plays-ended, Plays-line, Plays-next, next-some, next-none, Plays-nothing, Plays-stop}
+use Rattle.cg_outcome.specs.Outcome.{performed}
+use Rattle.cg_outcome.specs.Produced.{before_all}
+use Rattle.cg_outcome.specs.AskedLaws.{before_under_way}
+use Rattle.cg_outcome.specs.TrialLaws.{Plays-begin, Plays-ended, Plays-line, Plays-next, next-some, next-none, Plays-nothing, Plays-stop}
+use Rattle.cg_run.specs.Performing.{seen}
 use Rattle.cg_run.proofs.trial.try_schedule.Goals as goal
 
 pub loop-event-init : goal.loop-event-init
@@ -20,7 +21,7 @@ returns-in-Err-play_event g c =
     let v1 = g.K.Sink.view c.loop-event.output in
     let v2 = g.K.Sink.view c.play_event.new.output in
     let gone = c.loop-event.gone in
-    let s = c.loop-event.progress in
+    let s = seen c.loop-event.progress in
     let all = Plays-next whole v v1 c.args.lines gone c.loop-event.events (c.in-Ok-Some.event ∷ c.next.new.self) s
     (next-some c.loop-event.events c.next.new.self c.in-Ok-Some.field-0 c.in-Ok-Some.event c.in-Ok-Some.ensures.ok c.in-Ok-Some.field-0-is) c.loop-event.invariant in
     Plays-ended whole v v1 v2 c.args.lines gone c.in-Ok-Some.event c.next.new.self s c.in-Err-play_event.status all c.in-Err-play_event.ensures.performs
@@ -32,10 +33,11 @@ loop-event-preserved g c =
     let v1 = g.K.Sink.view c.loop-event.output in
     let v2 = g.K.Sink.view c.play_event.new.output in
     let gone = c.loop-event.gone in
-    let s = c.loop-event.progress in
+    let s = seen c.loop-event.progress in
     let all = Plays-next whole v v1 c.args.lines gone c.loop-event.events (c.in-Ok-Some.event ∷ c.next.new.self) s
     (next-some c.loop-event.events c.next.new.self c.in-Ok-Some.field-0 c.in-Ok-Some.event c.in-Ok-Some.ensures.ok c.in-Ok-Some.field-0-is) c.loop-event.invariant in
-    Plays-line whole v v1 v2 c.args.lines gone c.in-Ok-Some.event c.next.new.self s c.in-Ok-play_event.next all c.in-Ok-play_event.ensures.performs c.in-Ok-play_event.ensures.under_way
+    let done = c.in-Ok-play_event.ensures.performs in
+    Plays-line whole v v1 v2 c.args.lines gone c.in-Ok-Some.event c.next.new.self s (seen c.in-Ok-play_event.next) all done.0 done.1 done.2 c.in-Ok-play_event.ensures.under_way
 
 pub returns-in-Ok-None : goal.returns-in-Ok-None
 returns-in-Ok-None g c =
@@ -43,7 +45,7 @@ returns-in-Ok-None g c =
     let v = g.K.Sink.view c.args.output.now in
     let v1 = g.K.Sink.view c.loop-event.output in
     let gone = c.loop-event.gone in
-    let s = c.loop-event.progress in
+    let s = seen c.loop-event.progress in
     let all = Plays-next whole v v1 c.args.lines gone c.loop-event.events [] s
     (next-none c.loop-event.events c.next.new.self c.in-Ok-None.field-0 c.in-Ok-None.ensures.ok c.in-Ok-None.field-0-is) c.loop-event.invariant in
     Plays-stop whole v v1 (g.K.Sink.view c.end_trial.new.output) c.args.lines gone [] s c.end_trial.result all c.end_trial.ensures
@@ -51,5 +53,5 @@ returns-in-Ok-None g c =
 pub returns-in-Err : goal.returns-in-Err
 returns-in-Err g c =
     let whole = performed 0 (generated c.args.seed c.args.replicas c.args.lines) before_all in
-    Plays-nothing whole (g.K.Sink.view c.args.output.now) (g.K.Sink.view c.loop-event.output) c.args.lines c.loop-event.gone c.loop-event.events c.loop-event.progress c.give_up.result
+    Plays-nothing whole (g.K.Sink.view c.args.output.now) (g.K.Sink.view c.loop-event.output) c.args.lines c.loop-event.gone c.loop-event.events (seen c.loop-event.progress) c.give_up.result
     c.loop-event.invariant c.give_up.ensures

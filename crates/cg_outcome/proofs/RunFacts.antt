@@ -1,0 +1,299 @@
+-- The steps of what a run comes to are a run of the world, and a refusal is that of the world's tests.
+use Rattle.std.proofs.Common.{◌≡◌, ℕ, zero, suc, ◌+◌, ◌==◌, nat_lt, List, [], ◌∷◌, ◌++◌, length, Option, Some, None, Bool, true, false, cond, refl, sym, ap, ◌∙◌, arith, length-append, ◌-◌, subst, not, Result, Ok, Err, ◌<◌}
+use Rattle.std.proofs.lemmas.Bool.{and_parts, ltb-true}
+use Rattle.cg_base.specs.Text.{pieces_of}
+use Rattle.cg_group.specs.declared.reason.Reason.{Reason}
+use Rattle.cg_group.specs.Ready.{ready}
+use Rattle.cg_schedule.specs.declared.event.Event.{Event}
+use Rattle.cg_schedule.specs.declared.event.Event.TheVariants.{Start, Split, Merge, Gather, Deliver, Rounds, End}
+use Rattle.cg_schedule.specs.declared.fault.LineFault.{LineFault}
+use Rattle.cg_schedule.specs.declared.fault.LineFault.TheVariants.{Syntax, NoMemory}
+use Rattle.cg_schedule.specs.declared.reader_state.ReaderState.{ReaderState}
+use Rattle.cg_schedule.specs.Fault.{syntax_number}
+use Rattle.cg_schedule.specs.Limits.{IsEvent}
+use Rattle.cg_schedule.specs.Line.{event_word, fits, reading, state_after}
+use Rattle.cg_schedule.specs.Print.{line_of}
+use Rattle.cg_model.specs.World.{World, no_world, up_replicas}
+use Rattle.cg_model.specs.Admission.{first_refusal}
+use Rattle.cg_model.specs.Show.{Moved}
+use Rattle.cg_model.specs.Step.{world_step}
+use Rattle.cg_model.specs.Run.{Step, world_after, step_limit, MayStand, IsRunFrom}
+use Rattle.cg_model.specs.EveryRun.{Agreement, IsRefused, EveryRunAgrees}
+use Rattle.cg_model.specs.SeatLaws.{step_seats}
+use Rattle.cg_terms.specs.Terms.{Guarantees, AgreementGuarantees}
+use Rattle.cg_outcome.specs.Outcome.{Ending, Ended, Failed, Open, performed, read_outcome, line_outcome, without_return, limit_of, unless_passed, whole_line, at_end, cut_line, last_piece, replayed, outcome_of, outcome}
+use Rattle.cg_outcome.specs.declared.command.Command.{Command}
+use Rattle.cg_outcome.specs.declared.command.Command.TheVariants.{Replay, Generate, Trial}
+use Rattle.cg_outcome.specs.Commands.{command_of}
+use Rattle.cg_outcome.specs.Produced.{Progress, Finding, Produced, before_all, refusal_of, went_on, ended_with, refused_with, and_then, stepped, unless_refused, one_step}
+use Rattle.cg_outcome.specs.Totals.{with_entry}
+use Rattle.cg_gen.specs.Generated.{generated}
+use Rattle.cg_outcome.specs.declared.status.Status.{Status}
+use Rattle.cg_outcome.specs.declared.status.Status.TheVariants as status
+use Rattle.cg_outcome.specs.declared.status.Limit.{Limit}
+use Rattle.cg_outcome.specs.declared.status.Limit.TheVariants.{Steps}
+use Rattle.cg_outcome.specs.Rounds.{deliver_ready, deliveries, one_pass, passes, happened}
+use Rattle.cg_outcome.specs.UnderWay.{IsUnderWay}
+use Rattle.cg_outcome.specs.AskedLaws.{may_ask, ExactLines, before_under_way}
+use Rattle.cg_outcome.specs.GoingOnLaws.{and_then-some}
+
+-- what holds of a part of a run, from how far it had come
+pub record Holds (s : Progress) (p : Produced) : Type 0 where
+  pub is_run : IsRunFrom s.world s.count p.steps
+  pub world : p.progress.world ≡ world_after s.world p.steps
+  pub count : p.progress.count ≡ s.count + length p.steps
+  pub refused : IsRefused p.progress.world (refusal_of p)
+  pub under_way : p.found ≡ None → IsUnderWay p.progress
+
+world_after-append : (w : World) (a b : List Step) → world_after w (a ++ b) ≡ world_after (world_after w a) b
+world_after-append w [] b = refl
+world_after-append w (s ∷ a) b = world_after-append s.world a b
+
+IsRunFrom-append : (w : World) (n : ℕ) (a b : List Step) → IsRunFrom w n a → IsRunFrom (world_after w a) (n + length a) b → IsRunFrom w n (a ++ b)
+IsRunFrom-append w n [] b p q =
+    let same : n + length {A = Step} [] ≡ n = omega arith in
+    rw same at q
+IsRunFrom-append w n (s ∷ a) b p q =
+    let same : n + length (s ∷ a) ≡ suc n + length a = omega arith in
+    let there = rw same at q in
+    (p.0, p.1, p.2, p.3, p.4, IsRunFrom-append s.world (suc n) a b p.5 there)
+
+Holds-went_on : (s s' : Progress) → s'.world ≡ s.world → s'.count ≡ s.count → IsUnderWay s' → Holds s (went_on s')
+Holds-went_on s s' w c under = record { is_run = tt; world = w; count = c ∙ omega arith; refused = tt; under_way = λ e. under }
+
+Holds-ended_with : (st : Status) (lines : ℕ) (s : Progress) → Holds s (ended_with st lines s)
+Holds-ended_with st lines s = record { is_run = tt; world = refl; count = omega arith; refused = tt; under_way = λ e. absurd cc }
+
+Holds-refused_with : (n : ℕ) (event : Event) (reason : Reason) (s : Progress) → first_refusal s.world event ≡ Some reason → Holds s (refused_with n event reason s)
+Holds-refused_with n event reason s why = record { is_run = tt; world = refl; count = omega arith; refused = why; under_way = λ e. absurd cc }
+
+-- how far the run has come behind a step
+abbrev behind : Event → Progress → Progress
+behind event s =
+    record s { world = (world_step s.world event).world; count = s.count + 1; totals = with_entry s.totals (world_step s.world event).entry }
+
+-- behind a start that was read replicas have begun
+seated_under_way : (s : Progress) → s.reader.started ≡ true → 0 < length s.world.seats → IsUnderWay s
+seated_under_way s started some = record { before = λ e. absurd (let clash : true ≡ false = sym started ∙ e in cc); begun = λ e. some }
+
+Holds-stepped : (n : ℕ) (event : Event) (s : Progress) → MayStand s.world event → first_refusal s.world event ≡ None → IsUnderWay (behind event s) → Holds s (stepped n event (world_step s.world event) s)
+Holds-stepped n event s may admitted under = by_limit (nat_lt s.count step_limit) refl where
+  by_limit : (b : Bool) → nat_lt s.count step_limit ≡ b → Holds s (stepped n event (world_step s.world event) s)
+  by_limit true e =
+      rw e record {
+        is_run = (omega arith, ltb-true s.count step_limit e, may, admitted, refl, tt);
+        world = refl;
+        count = omega arith;
+        refused = tt;
+        under_way = λ f. under;
+      }
+  by_limit false e = rw e (Holds-ended_with (status.Limit n Steps) n s)
+
+Holds-one_step : (n : ℕ) (event : Event) (s : Progress) → MayStand s.world event → s.reader.started ≡ true → Holds s (one_step n event s)
+Holds-one_step n event s may started = by_refusal (first_refusal s.world event) refl where
+  by_refusal : (o : Option Reason) → first_refusal s.world event ≡ o → Holds s (unless_refused o n event s)
+  by_refusal None e = Holds-stepped n event s may e (seated_under_way (behind event s) started (step_seats s.world event may e))
+  by_refusal (Some reason) e = Holds-refused_with n event reason s e
+
+Holds-and_then : (s : Progress) (p : Produced) (more : Progress → Produced) → Holds s p → (p.found ≡ None → Holds p.progress (more p.progress)) → Holds s (and_then p more)
+Holds-and_then s p more h later = by_finding p.found refl where
+  by_finding : (o : Option Finding) → p.found ≡ o → Holds s (and_then p more)
+  by_finding None e =
+      let k = later e in
+      let q = more p.progress in
+      let there = subst (λ (w : World). IsRunFrom w p.progress.count q.steps) h.world k.is_run in
+      let run = subst (λ (n : ℕ). IsRunFrom (world_after s.world p.steps) n q.steps) h.count there in
+      rw e record {
+        is_run = IsRunFrom-append s.world s.count p.steps q.steps h.is_run run;
+        world = k.world ∙ ap (λ w. world_after w q.steps) h.world ∙ sym (world_after-append s.world p.steps q.steps);
+        count = grind (arith, length-append {A = Step}, h.count, k.count);
+        refused = k.refused;
+        under_way = k.under_way;
+      }
+  by_finding (Some f) e = rw (and_then-some p more f e) h
+
+-- ---- rounds
+
+-- a step leaves the reader where it is
+pub one_step-reader : (n : ℕ) (event : Event) (s : Progress) → (one_step n event s).progress.reader ≡ s.reader
+one_step-reader n event s = by_refusal (first_refusal s.world event) where
+  by_limit : (b : Bool) (m : Moved) → (cond b (record {
+    steps = record { number = s.count + 1; event = event; entry = m.entry; world = m.world } ∷ [];
+    found = None;
+    progress = record s { world = m.world; count = s.count + 1; totals = with_entry s.totals m.entry };
+  }) (ended_with (status.Limit n Steps) n s)).progress.reader ≡ s.reader
+  by_limit true m = refl
+  by_limit false m = refl
+
+  by_refusal : (r : Option Reason) → (unless_refused r n event s).progress.reader ≡ s.reader
+  by_refusal None = by_limit (nat_lt s.count step_limit) (world_step s.world event)
+  by_refusal (Some reason) = refl
+
+-- a part that leaves the reader where it is
+record Stays (s : Progress) (p : Produced) : Type 0 where
+  pub holds : Holds s p
+  pub reader : p.progress.reader ≡ s.reader
+
+Stays-one_step : (n : ℕ) (event : Event) (s : Progress) → MayStand s.world event → s.reader.started ≡ true → Stays s (one_step n event s)
+Stays-one_step n event s may started = record { holds = Holds-one_step n event s may started; reader = one_step-reader n event s }
+
+Stays-and_then : (s : Progress) (p : Produced) (more : Progress → Produced) → Stays s p → (p.found ≡ None → Stays p.progress (more p.progress)) → Stays s (and_then p more)
+Stays-and_then s p more h later = record { holds = Holds-and_then s p more h.holds (λ e. (later e).holds); reader = by_finding p.found refl } where
+  by_finding : (o : Option Finding) → p.found ≡ o → (and_then p more).progress.reader ≡ s.reader
+  by_finding None e = rw e ((later e).reader ∙ h.reader)
+  by_finding (Some f) e = rw (and_then-some p more f e) h.reader
+
+Stays-went_on : (s : Progress) → IsUnderWay s → Stays s (went_on s)
+Stays-went_on s under = record { holds = Holds-went_on s s refl refl under; reader = refl }
+
+started_behind : (s : Progress) (p : Produced) → Stays s p → s.reader.started ≡ true → p.progress.reader.started ≡ true
+started_behind s p h started = ap (λ (p : ReaderState). p.started) h.reader ∙ started
+
+Stays-deliver_ready : (n p : ℕ) (s : Progress) → IsUnderWay s → s.reader.started ≡ true → Stays s (deliver_ready n p s)
+Stays-deliver_ready n p s under started = by_count (ready s.world.group p == 0) where
+  by_count : (b : Bool) → Stays s (cond b (went_on s) (one_step n (Deliver p (ready s.world.group p)) s))
+  by_count true = Stays-went_on s under
+  by_count false = Stays-one_step n (Deliver p (ready s.world.group p)) s (under.begun started, tt) started
+
+Stays-deliveries : (n : ℕ) (set : List ℕ) (s : Progress) → IsUnderWay s → s.reader.started ≡ true → Stays s (deliveries n set s)
+Stays-deliveries n [] s under started = Stays-went_on s under
+Stays-deliveries n (p ∷ set) s under started =
+    let one = Stays-deliver_ready n p s under started in
+    let q = deliver_ready n p s in
+    Stays-and_then s q (deliveries n set) one (λ e. Stays-deliveries n set q.progress (one.holds.under_way e) (started_behind s q one started))
+
+Stays-one_pass : (n : ℕ) (s : Progress) → IsUnderWay s → s.reader.started ≡ true → Stays s (one_pass n s)
+Stays-one_pass n s under started =
+    let one = Stays-one_step n Gather s (under.begun started, tt) started in
+    let q = one_step n Gather s in
+    Stays-and_then s q (deliveries n (up_replicas s.world)) one (λ e. Stays-deliveries n (up_replicas s.world) q.progress (one.holds.under_way e) (started_behind s q one started))
+
+Stays-passes : (n count : ℕ) (s : Progress) → IsUnderWay s → s.reader.started ≡ true → Stays s (passes n count s)
+Stays-passes n zero s under started = Stays-went_on s under
+Stays-passes n (suc count) s under started =
+    let one = Stays-one_pass n s under started in
+    let q = one_pass n s in
+    Stays-and_then s q (passes n count) one (λ e. Stays-passes n count q.progress (one.holds.under_way e) (started_behind s q one started))
+
+-- ---- events that were read
+
+-- the reader behind an event that was read
+abbrev moved : Event → Progress → Progress
+moved event s = record s { reader = state_after s.reader event }
+
+-- what was read of a progress is what holds of the one before it
+Holds-moved : (s : Progress) (e : Event) (p : Produced) → Holds (moved e s) p → Holds s p
+Holds-moved s e p h = record { is_run = h.is_run; world = h.world; count = h.count; refused = h.refused; under_way = h.under_way }
+
+not_true : (b : Bool) → not b ≡ true → b ≡ false
+not_true true h = absurd cc
+not_true false h = refl
+
+-- an event that is a step behind a start
+abbrev IsOther : Event → Type 0
+IsOther (Start set) = ⊥
+IsOther (Rounds count) = ⊥
+IsOther End = ⊥
+IsOther other = Unit {0}
+
+other_stands : (w : World) (e : Event) → IsOther e → 0 < length w.seats → IsEvent e → MayStand w e
+other_stands w (Start set) o some within = absurd o
+other_stands w (Rounds count) o some within = absurd o
+other_stands w End o some within = absurd o
+other_stands w (Split set) o some within = (some, within)
+other_stands w (Merge set) o some within = (some, within)
+other_stands w other o some within = (some, may_ask other within)
+
+Holds-read : (n : ℕ) (e : Event) (s : Progress) → IsUnderWay s → fits s.reader (event_word e) ≡ true → IsEvent e → Holds s (happened n e (moved e s))
+unfolding happened
+Holds-read n (Start set) s under fit within =
+    let fresh = not_true s.reader.started (and_parts (not s.reader.ended) (not s.reader.started) fit).1 in
+    Holds-moved s (Start set) (one_step n (Start set) (moved (Start set) s)) (Holds-one_step n (Start set) (moved (Start set) s) (under.before fresh, within) refl)
+Holds-read n End s under fit within = Holds-went_on s (moved End s) refl refl (record { before = under.before; begun = under.begun })
+Holds-read n (Rounds count) s under fit within =
+    Holds-moved s (Rounds count) (passes n count (moved (Rounds count) s))
+    (Stays-passes n count (moved (Rounds count) s) (record { before = under.before; begun = under.begun }) (and_parts (not s.reader.ended) s.reader.started fit).1).holds
+Holds-read n other s under fit within =
+    let started = (and_parts (not s.reader.ended) s.reader.started fit).1 in
+    Holds-moved s other (one_step n other (moved other s)) (Holds-one_step n other (moved other s) (other_stands s.world other tt (under.begun started) within) started)
+
+Holds-line : (n : ℕ) (line : List ℕ) (s : Progress) → ExactLines → IsUnderWay s → Holds s (line_outcome n line s)
+unfolding line_outcome
+Holds-line n line s exact under = by_reading (reading s.reader line) refl where
+  by_reading : (r : Result (Option Event) LineFault) → reading s.reader line ≡ r → Holds s (read_outcome n r s)
+  by_reading (Ok None) is = Holds-went_on s s refl refl under
+  by_reading (Ok (Some e)) is = let reads_as = (exact s.reader line e).0 is in Holds-read n e s under reads_as.may_stand reads_as.within
+  by_reading (Err (Syntax reason)) is = Holds-ended_with (status.Syntax n (syntax_number reason)) n s
+  by_reading (Err NoMemory) is = Holds-ended_with status.NoMemory n s
+
+Holds-unless_passed : (o : Option Limit) (n : ℕ) (s : Progress) (p : Produced) → Holds s p → Holds s (unless_passed o n s p)
+Holds-unless_passed None n s p h = h
+Holds-unless_passed (Some what) n s p h = Holds-ended_with (status.Limit n what) n s
+
+Holds-at_end : (n : ℕ) (how : Ending) (s : Progress) → IsUnderWay s → Holds s (at_end n how s)
+Holds-at_end n Ended s under = by_end s.reader.ended where
+  by_end : (b : Bool) → Holds s (cond b (ended_with status.Done n s) (ended_with (status.NoEnd n) n s))
+  by_end true = Holds-ended_with status.Done n s
+  by_end false = Holds-ended_with (status.NoEnd n) n s
+Holds-at_end n Failed s under = Holds-ended_with status.ReadFault n s
+Holds-at_end n Open s under = Holds-went_on s s refl refl under
+
+Holds-cut_line : (n : ℕ) (line : List ℕ) (how : Ending) (s : Progress) → ExactLines → IsUnderWay s → Holds s (cut_line n line how s)
+Holds-cut_line n line Ended s exact under =
+    let h = Holds-line n line s exact under in
+    Holds-and_then s (line_outcome n line s) (at_end n Ended) h (λ e. Holds-at_end n Ended (line_outcome n line s).progress (h.under_way e))
+Holds-cut_line n line Failed s exact under = Holds-ended_with status.ReadFault (n - 1) s
+Holds-cut_line n line Open s exact under = Holds-went_on s s refl refl under
+
+Holds-last_piece : (n at : ℕ) (piece : List ℕ) (how : Ending) (s : Progress) → ExactLines → IsUnderWay s → Holds s (last_piece n at piece how s)
+Holds-last_piece n at [] how s exact under = Holds-at_end (n - 1) how s under
+Holds-last_piece n at (b ∷ bs) how s exact under =
+    Holds-unless_passed (limit_of n (length (b ∷ bs)) (at + length (b ∷ bs))) n s (cut_line n (b ∷ bs) how s) (Holds-cut_line n (b ∷ bs) how s exact under)
+
+Holds-whole_line : (n at : ℕ) (line : List ℕ) (s : Progress) → ExactLines → IsUnderWay s → Holds s (whole_line n at line s)
+Holds-whole_line n at line s exact under =
+    Holds-unless_passed (limit_of n (length line) (at + length line + 1)) n s (line_outcome n (without_return line) s) (Holds-line n (without_return line) s exact under)
+
+Holds-replayed : (n at : ℕ) (pieces : List (List ℕ)) (how : Ending) (s : Progress) → ExactLines → IsUnderWay s → Holds s (replayed n at pieces how s)
+Holds-replayed n at [] how s exact under = Holds-went_on s s refl refl under
+Holds-replayed n at (rest ∷ []) how s exact under = Holds-last_piece n at rest how s exact under
+Holds-replayed n at (line ∷ next ∷ more) how s exact under =
+    let p = whole_line n at line s in
+    let h = Holds-whole_line n at line s exact under in
+    Holds-and_then s p (λ s'. replayed (n + 1) (at + length line + 1) (next ∷ more) how s') h
+    (λ e. Holds-replayed (n + 1) (at + length line + 1) (next ∷ more) how p.progress exact (h.under_way e))
+
+Holds-performed : (gone : ℕ) (events : List Event) (s : Progress) → ExactLines → IsUnderWay s → Holds s (performed gone events s)
+Holds-performed gone [] s exact under = Holds-at_end gone Ended s under
+Holds-performed gone (event ∷ events) s exact under =
+    let p = line_outcome (gone + 1) (without_return (line_of event)) s in
+    let h = Holds-line (gone + 1) (without_return (line_of event)) s exact under in
+    Holds-and_then s p (performed (gone + 1) events) h (λ e. Holds-performed (gone + 1) events p.progress exact (h.under_way e))
+
+pub Holds-outcome : (words : List (List ℕ)) (taken : List ℕ) (how : Ending) → ExactLines → Holds before_all (outcome words taken how)
+Holds-outcome words taken how exact = by_command (command_of words) where
+  by_command : (c : Option Command) → Holds before_all (outcome_of c taken how)
+  by_command None = Holds-ended_with status.Usage 0 before_all
+  by_command (Some (Replay report)) = Holds-replayed 1 0 (pieces_of 10 taken) how before_all exact before_under_way
+  by_command (Some (Generate seed replicas lines)) = Holds-ended_with status.Done 0 before_all
+  by_command (Some (Trial seed replicas lines)) = Holds-performed 0 (generated seed replicas lines) before_all exact before_under_way
+
+pub outcome-is_run : (words : List (List ℕ)) (taken : List ℕ) (how : Ending) → ExactLines → IsRunFrom no_world 0 (outcome words taken how).steps
+outcome-is_run words taken how exact = (Holds-outcome words taken how exact).is_run
+
+-- the event that ended the run by a refusal is refused so behind its steps
+pub outcome-refused : (words : List (List ℕ)) (taken : List ℕ) (how : Ending) → ExactLines → IsRefused (world_after no_world (outcome words taken how).steps) (refusal_of (outcome words taken how))
+outcome-refused words taken how exact =
+    let h = Holds-outcome words taken how exact in
+    subst (λ (w : World). IsRefused w (refusal_of (outcome words taken how))) h.world h.refused
+
+pub outcome-agrees : (words : List (List ℕ)) (taken : List ℕ) (how : Ending) → ExactLines → EveryRunAgrees → Agreement (outcome words taken how).steps (refusal_of (outcome words taken how))
+outcome-agrees words taken how exact agree =
+    let p = outcome words taken how in
+    agree p.steps (refusal_of p) (outcome-is_run words taken how exact) (outcome-refused words taken how exact)
+
+-- so it guarantees what follows from that
+pub outcome-guarantees : (words : List (List ℕ)) (taken : List ℕ) (how : Ending) → ExactLines → EveryRunAgrees → AgreementGuarantees → Guarantees (outcome words taken how).steps
+outcome-guarantees words taken how exact agree gives =
+    let p = outcome words taken how in
+    gives p.steps (refusal_of p) (outcome-agrees words taken how exact agree)

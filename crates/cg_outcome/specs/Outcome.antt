@@ -1,0 +1,134 @@
+-- What a run comes to, as a function of its words, of the bytes taken and of how the taking ended.
+use Rattle.std.specs.Prelude.{ℕ, ◌+◌, ◌-◌, nat_lt, nat_eq, take, Result, Ok, Err, if◌then◌else◌, List, [], ◌∷◌, ◌++◌, map, length, codes, Option, Some, None}
+use Rattle.std.specs.Option.{option_map_or}
+use Rattle.cg_base.specs.Text.{pieces_of}
+use Rattle.std.specs.List.{ends_with}
+use Rattle.cg_schedule.specs.declared.event.Event.{Event}
+use Rattle.cg_schedule.specs.declared.fault.LineFault.{LineFault}
+use Rattle.cg_schedule.specs.declared.fault.LineFault.TheVariants.{Syntax, NoMemory}
+use Rattle.cg_schedule.specs.Fault.{syntax_number}
+use Rattle.cg_schedule.specs.Line.{reading, state_after}
+use Rattle.cg_outcome.specs.Produced.{Progress, Produced, before_all, went_on, ended_with, and_then, text_of}
+use Rattle.cg_outcome.specs.declared.status.Status.TheVariants as status
+use Rattle.cg_outcome.specs.declared.status.Limit.{Limit}
+use Rattle.cg_outcome.specs.declared.status.Limit.TheVariants as limit
+use Rattle.cg_outcome.specs.declared.command.Command.{Command}
+use Rattle.cg_outcome.specs.declared.command.Command.TheVariants.{Replay, Generate, Trial}
+use Rattle.cg_outcome.specs.declared.report.Report.TheVariants.{Whole}
+use Rattle.cg_outcome.specs.Commands.{command_of}
+use Rattle.cg_gen.specs.Generated.{generated}
+use Rattle.cg_gen.specs.Lines.{lines_of}
+use Rattle.cg_schedule.specs.Print.{line_of}
+use Rattle.cg_outcome.specs.declared.status.Status.{Status}
+use Rattle.cg_outcome.specs.declared.totals.Totals.{Totals}
+use Rattle.cg_outcome.specs.Status.{tail_text}
+use Rattle.cg_outcome.specs.Totals.{summary_text}
+use Rattle.cg_outcome.specs.Rounds.{happened}
+
+-- how the taking of the input ended: at the input's end, by a failed take, or with bytes still to come
+pub data Ending : Type 0 where
+  Ended : Ending
+  Failed : Ending
+  Open : Ending
+
+-- line n can't be read
+abbrev pub unreadable : ℕ → LineFault → Progress → Produced
+unreadable n (Syntax reason) s = ended_with (status.Syntax n (syntax_number reason)) n s
+unreadable n NoMemory s = ended_with status.NoMemory n s
+
+-- what line n comes to, which reads so
+abbrev pub read_outcome : ℕ → Result (Option Event) LineFault → Progress → Produced
+read_outcome n (Ok None) s = went_on s
+read_outcome n (Ok (Some event)) s = happened n event (record s { reader = state_after s.reader event })
+read_outcome n (Err fault) s = unreadable n fault s
+
+-- what line n comes to, without its end
+unfoldable pub line_outcome : ℕ → List ℕ → Progress → Produced
+line_outcome n line s = read_outcome n (reading s.reader line) s
+
+-- a line without the carriage return before its line feed
+abbrev pub without_return : List ℕ → List ℕ
+without_return line = if ends_with nat_eq line (codes "\r") then take (length line - 1) line else line
+
+-- the limit that line n passes, with its length and the offset at which it ends
+abbrev pub limit_of : ℕ → ℕ → ℕ → Option Limit
+limit_of n len end =
+    if nat_lt 32768 len then Some limit.Line
+    else if nat_lt 8388608 end then Some limit.Input
+    else if nat_lt 200000 n then Some limit.Lines
+    else None
+
+-- unless a limit was passed
+abbrev pub unless_passed : Option Limit → ℕ → Progress → Produced → Produced
+unless_passed passed n s otherwise = option_map_or (λ what. ended_with (status.Limit n what) n s) passed otherwise
+
+-- line n, which begins at an offset of the input and has its end
+abbrev pub whole_line : ℕ → ℕ → List ℕ → Progress → Produced
+whole_line n at line s =
+    unless_passed (limit_of n (length line) (at + length line + 1)) n s (line_outcome n (without_return line) s)
+
+-- nothing stands behind so many lines
+abbrev pub at_end : ℕ → Ending → Progress → Produced
+at_end lines Ended s = if s.reader.ended then ended_with status.Done lines s
+    else ended_with (status.NoEnd lines) lines s
+at_end lines Failed s = ended_with status.ReadFault lines s
+at_end lines Open s = went_on s
+
+-- a last line without its end
+abbrev pub cut_line : ℕ → List ℕ → Ending → Progress → Produced
+cut_line n line Ended s = and_then (line_outcome n line s) (at_end n Ended)
+cut_line n line other s = at_end (n - 1) other s
+
+-- what stands behind the last line's end
+abbrev pub last_piece : ℕ → ℕ → List ℕ → Ending → Progress → Produced
+last_piece n at [] how s = at_end (n - 1) how s
+last_piece n at (b ∷ bs) how s =
+    unless_passed (limit_of n (length (b ∷ bs)) (at + length (b ∷ bs))) n s (cut_line n (b ∷ bs) how s)
+
+-- the lines from number n on, which begin at an offset of the input
+abbrev pub replayed : ℕ → ℕ → List (List ℕ) → Ending → Progress → Produced
+replayed n at [] how s = went_on s
+replayed n at (rest ∷ []) how s = last_piece n at rest how s
+replayed n at (line ∷ next ∷ more) how s =
+    and_then (whole_line n at line s) (λ s'. replayed (n + 1) (at + length line + 1) (next ∷ more) how s')
+
+-- what the lines of events come to, behind so many lines: they are replayed as those of an input, but its limits aren't theirs
+abbrev pub performed : ℕ → List Event → Progress → Produced
+performed gone [] s = at_end gone Ended s
+performed gone (event ∷ events) s =
+    and_then (line_outcome (gone + 1) (without_return (line_of event)) s) (performed (gone + 1) events)
+
+-- the lines that spell events, and the nothing behind the last one's end
+abbrev pub lines_alone : List Event → List (List ℕ)
+lines_alone events = map line_of events ++ [] ∷ []
+
+-- the lines of the schedule that a command replays
+abbrev pub pieces_for : Option Command → List ℕ → List (List ℕ)
+pieces_for (Some (Trial seed replicas lines)) taken = lines_alone (generated seed replicas lines)
+pieces_for other taken = pieces_of 10 taken
+
+-- what a trial puts of a finding: the summary where the run is done, else the tail
+abbrev pub trial_end : Status → ℕ → ℕ → Totals → List ℕ
+trial_end status.Done lines steps totals = summary_text steps totals
+trial_end other lines steps totals = tail_text other steps lines
+
+abbrev pub trial_text : Produced → List ℕ
+trial_text p = option_map_or (λ f. trial_end f.status f.lines p.progress.count p.progress.totals) p.found []
+
+-- what a command comes to; without one the run tells how it is used
+abbrev pub outcome_of : Option Command → List ℕ → Ending → Produced
+outcome_of None taken how = ended_with status.Usage 0 before_all
+outcome_of (Some (Replay report)) taken how = replayed 1 0 (pieces_of 10 taken) how before_all
+outcome_of (Some (Generate seed replicas lines)) taken how = ended_with status.Done 0 before_all
+outcome_of (Some (Trial seed replicas lines)) taken how = performed 0 (generated seed replicas lines) before_all
+
+-- the whole run
+abbrev pub outcome : List (List ℕ) → List ℕ → Ending → Produced
+outcome words taken how = outcome_of (command_of words) taken how
+
+-- what a command puts of what it comes to
+abbrev pub text_put : Option Command → Produced → List ℕ
+text_put None p = text_of Whole p
+text_put (Some (Replay report)) p = text_of report p
+text_put (Some (Generate seed replicas lines)) p = lines_of (generated seed replicas lines)
+text_put (Some (Trial seed replicas lines)) p = trial_text p

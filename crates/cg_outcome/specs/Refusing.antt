@@ -1,0 +1,28 @@
+-- Which line of an input is refused, and by which reason.
+use Rattle.std.specs.Prelude.{◌≡◌, ℕ, suc, List, ◌∷◌, ◌++◌, fold, length, Some, if◌then◌else◌}
+use Rattle.cg_base.specs.Text.{is_nil}
+use Rattle.cg_group.specs.declared.reason.Reason.{Reason}
+use Rattle.cg_schedule.specs.declared.event.Event.{Event}
+use Rattle.cg_schedule.specs.declared.reader_state.ReaderState.{ReaderState}
+use Rattle.cg_schedule.specs.Line.{first_state, reading, state_behind}
+use Rattle.cg_schedule.specs.Laws.{Reads}
+use Rattle.cg_model.specs.World.{no_world}
+use Rattle.cg_model.specs.Admission.{first_refusal}
+use Rattle.cg_model.specs.Run.{Step, world_after}
+use Rattle.cg_outcome.specs.Outcome.{without_return}
+
+-- the reader's state behind whole lines
+abbrev pub state_past_lines : ReaderState → List (List ℕ) → ReaderState
+state_past_lines state lines = fold (λ state line. state_behind state (reading state (without_return line))) state lines
+
+-- Line n of these pieces reads, behind the lines before it, as an event that isn't admitted in the world behind the steps, first for this reason.
+-- Its carriage return goes only where its line feed is there.
+pub record RefusesLine (pieces : List (List ℕ)) (steps : List Step) (n : ℕ) (reason : Reason) : Type 0 where
+  pub before : List (List ℕ)
+  pub line : List ℕ
+  pub behind : List (List ℕ)
+  pub lines : pieces ≡ before ++ line ∷ behind
+  pub numbered : n ≡ suc (length before)
+  pub event : Event
+  pub reads : Reads (state_past_lines first_state before) (if is_nil behind then line else without_return line) event
+  pub refused : first_refusal (world_after no_world steps) event ≡ Some reason

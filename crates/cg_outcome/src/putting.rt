@@ -1,0 +1,104 @@
+ghost use Rattle.std.specs.Prelude.{◌<◌, ◌^◌, OnOk, IfErr, Some};
+ghost use Rattle.cg_base.specs.Sets.{IsId};
+ghost use Rattle.cg_gen.specs.Generated.{generated};
+ghost use Rattle.cg_gen.specs.Lines.{lines_of};
+ghost use Rattle.cg_outcome.specs.declared.status.Status.TheVariants as status;
+ghost use Rattle.cg_outcome.specs.Produced.{entry_in};
+ghost use Rattle.cg_outcome.specs.Status.{tail_text};
+ghost use Rattle.cg_outcome.specs.Stopping.{CutShort, IsFinding};
+ghost use Rattle.cg_outcome.specs.Putting.{Puts, StopsWith};
+
+use crate::report::Report;
+use crate::status::Status;
+use crate::tail::put_tail;
+use cg_base::ReplicaId;
+use cg_gen::generate;
+use cg_io::{IoFault, Sink};
+use cg_report::{Entry, put_entry};
+use std::alloc::Global;
+
+/// Puts a text, unless it is empty.
+pub fn put_text<K: Sink>(alloc: Global, output: &mut K, text: &[u8]) -> Result<(), Status>
+    requires { (K.view output.old).faults < 2 ^ 62 }
+    ensures ok { OnOk result (Puts (K.view output.old) (K.view output.new) text.now) }
+    ensures cut { IfErr result (λ status.
+        CutShort text.now (K.view output.old) (K.view output.new) status) }
+{
+    if text.is_empty() {
+        return Ok(());
+    }
+    match output.put(alloc, text) {
+        Ok(()) => Ok(()),
+        Err(IoFault::Failed) => Err(Status::WriteFault),
+        Err(IoFault::NoMemory) => Err(Status::NoMemory),
+    }
+}
+
+/// Ends a run with what was found behind so many steps and whole lines: puts the tail. What is answered is the status
+/// found, unless the put was cut short.
+pub fn finish<K: Sink>(
+    alloc: Global,
+    output: &mut K,
+    status: Status,
+    steps: u64,
+    lines: u64,
+) -> Status
+    requires few_faults { (K.view output.old).faults < 2 ^ 62 }
+    requires finding { IsFinding status }
+    ensures { StopsWith (tail_text status steps lines) (Some status)
+        (K.view output.old) (K.view output.new) result }
+{
+    let mut text = Vec::new(alloc);
+    if put_tail(&mut text, &status, steps, lines).is_err() {
+        return Status::NoMemory;
+    }
+    match put_text(alloc, output, &text) {
+        Ok(()) => status,
+        Err(other) => other,
+    }
+}
+
+/// Puts what a step shows, where the whole report is put. Else no text is built.
+pub fn put_step<K: Sink>(
+    alloc: Global,
+    output: &mut K,
+    report: Report,
+    number: u64,
+    entry: &Entry,
+) -> Result<(), Status>
+    requires { (K.view output.old).faults < 2 ^ 62 }
+    ensures ok { OnOk result (Puts (K.view output.old) (K.view output.new) (entry_in report number entry.now)) }
+    ensures cut { IfErr result (λ status.
+        CutShort (entry_in report number entry.now) (K.view output.old) (K.view output.new) status) }
+{
+    if report == Report::Tail {
+        return Ok(());
+    }
+    let mut text = Vec::new(alloc);
+    if put_entry(&mut text, number, entry).is_err() {
+        return Err(Status::NoMemory);
+    }
+    put_text(alloc, output, &text)
+}
+
+/// Puts the schedule of a seed.
+pub fn put_schedule<K: Sink>(
+    alloc: Global,
+    output: &mut K,
+    seed: u64,
+    replicas: u8,
+    lines: u64,
+) -> Status
+    requires replicas { IsId replicas }
+    requires few_faults { (K.view output.old).faults < 2 ^ 62 }
+    ensures { StopsWith (lines_of (generated seed replicas lines)) (Some status.Done) (K.view output.old)
+        (K.view output.new) result }
+{
+    let Ok(schedule) = generate(alloc, seed, ReplicaId::known(replicas), lines) else {
+        return Status::NoMemory;
+    };
+    match put_text(alloc, output, schedule.as_slice()) {
+        Ok(()) => Status::Done,
+        Err(other) => other,
+    }
+}
