@@ -25,7 +25,7 @@ StepsAreRead = (step : ℕ) (lines : List (List ℕ)) → step < 2 ^ 64 →
 abbrev pub TailsAreRead : Type 0
 TailsAreRead = (tail : List ℕ) → document (compact_text (tail_object tail)) ≡ Some (outline (tail_object tail))
 
--- two steps whose objects have one text have one number and the same lines
+-- two steps whose objects have one text have the same lines
 abbrev pub ObjectsTellTheirLines : Type 0
 ObjectsTellTheirLines = (m n : ℕ) (xs ys : List (List ℕ)) → m < 2 ^ 64 → n < 2 ^ 64 →
     compact_text (step_object m xs) ≡ compact_text (step_object n ys) → xs ≡ ys

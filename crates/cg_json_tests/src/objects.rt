@@ -12,16 +12,22 @@ fn text_found(alloc: Global, text: &str) -> Option<Answer> {
     }
 }
 
-// the first action of replica 1 is ordered, and its query finds the text `\hi`
-fn entry(alloc: Global) -> Entry {
-    let id = ActionId {
+fn name() -> ActionId {
+    ActionId {
         creator: ReplicaId::known(1),
         index: 1,
-    };
+    }
+}
+
+// the first action of replica 1 is ordered, and its query finds the text `\hi`
+fn entry(alloc: Global) -> Entry {
     let mut entry = Entry::silent(alloc);
-    let _placed = entry.orders.push(Placed { place: 1, id });
+    let _placed = entry.orders.push(Placed {
+        place: 1,
+        id: name(),
+    });
     let _replied = entry.replies.push(Reply {
-        id,
+        id: name(),
         effect: Effect::Done,
         answer: text_found(alloc, "\\hi"),
     });
