@@ -5,7 +5,7 @@ use Rattle.std.specs.Str.{bytes_eq}
 use Rattle.cg_text.specs.Numbers.{read_u64}
 use Rattle.cg_outcome.specs.declared.command.Command.{Command}
 use Rattle.cg_outcome.specs.declared.command.Command.TheVariants.{Replay, Generate, Trial}
-use Rattle.cg_outcome.specs.declared.report.Report.TheVariants.{Whole, Tail}
+use Rattle.cg_outcome.specs.declared.report.Report.TheVariants.{Whole, Tail, Json}
 
 -- the number that a word spells, where it is in a range
 abbrev pub number_in : ℕ → ℕ → List ℕ → Option ℕ
@@ -26,6 +26,7 @@ abbrev pub command_of : List (List ℕ) → Option Command
 command_of (word ∷ []) =
     if bytes_eq word (codes "replay") then Some (Replay Whole)
     else if bytes_eq word (codes "check") then Some (Replay Tail)
+    else if bytes_eq word (codes "json") then Some (Replay Json)
     else None
 command_of (word ∷ seed ∷ replicas ∷ lines ∷ []) =
     if bytes_eq word (codes "generate") then read_numbers Generate seed replicas lines

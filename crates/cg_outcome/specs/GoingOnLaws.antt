@@ -5,10 +5,9 @@ use Rattle.std.specs.Io.KnownBytes.{Appends}
 use Rattle.cg_io.specs.Outside.{SinkView}
 use Rattle.cg_model.specs.Run.{Step}
 use Rattle.cg_outcome.specs.declared.report.Report.{Report}
-use Rattle.cg_outcome.specs.Produced.{Progress, Finding, Produced, with_tail, entry_in, report_in, text_of, status_of, prepend, and_then}
+use Rattle.cg_outcome.specs.Produced.{Progress, Finding, Produced, tail_in, with_tail, entry_in, report_in, text_of, status_of, prepend, and_then}
 use Rattle.cg_outcome.specs.declared.status.Status.{Status}
 use Rattle.cg_outcome.specs.declared.status.Status.TheVariants as status
-use Rattle.cg_outcome.specs.Status.{tail_text}
 use Rattle.cg_outcome.specs.Stopping.{Stopped, GoesOn}
 use Rattle.cg_outcome.specs.Putting.{Puts, PutsPart}
 
@@ -40,17 +39,17 @@ report_in-append report (s ∷ a) b =
     ap (λ t. entry_in report s.number s.entry ++ t) (report_in-append report a b)
     ∙ sym (append_assoc (entry_in report s.number s.entry) (report_in report a) (report_in report b))
 
-with_tail-append : (a b : List ℕ) (found : Option Finding) (count : ℕ) →
-    with_tail (a ++ b) found count ≡ a ++ with_tail b found count
-with_tail-append a b None count = refl
-with_tail-append a b (Some f) count = append_assoc a b (tail_text f.status count f.lines)
+with_tail-append : (report : Report) (a b : List ℕ) (found : Option Finding) (count : ℕ) →
+    with_tail report (a ++ b) found count ≡ a ++ with_tail report b found count
+with_tail-append report a b None count = refl
+with_tail-append report a b (Some f) count = append_assoc a b (tail_in report f.status count f.lines)
 
 -- what is put of steps and a part
 text_of-prepend : (report : Report) (made : List Step) (p : Produced) →
     text_of report (prepend made p) ≡ report_in report made ++ text_of report p
 text_of-prepend report made p =
-    ap (λ t. with_tail t p.found p.progress.count) (report_in-append report made p.steps)
-    ∙ with_tail-append (report_in report made) (report_in report p.steps) p.found p.progress.count
+    ap (λ t. with_tail report t p.found p.progress.count) (report_in-append report made p.steps)
+    ∙ with_tail-append report (report_in report made) (report_in report p.steps) p.found p.progress.count
 
 pub and_then-none : (p : Produced) (more : Progress → Produced) → p.found ≡ None →
     and_then p more ≡ prepend p.steps (more p.progress)
@@ -89,7 +88,7 @@ text_of-and_then report p more = by_finding p.found refl where
       × (text_of report (and_then p more) ≡ text_of report p ++ r)
   by_finding None e =
       let here : text_of report p ≡ report_in report p.steps =
-      ap (λ found. with_tail (report_in report p.steps) found p.progress.count) e in (
+      ap (λ found. with_tail report (report_in report p.steps) found p.progress.count) e in (
         text_of report (more p.progress),
         ap (text_of report) (and_then-none p more e)
             ∙ text_of-prepend report p.steps (more p.progress)

@@ -13,14 +13,15 @@ use Rattle.cg_model.specs.Step.{world_step}
 use Rattle.std.specs.List.{flat_map}
 use Rattle.cg_report.specs.declared.entry.Entry.{Entry}
 use Rattle.cg_report.specs.EntryText.{entry_text}
+use Rattle.cg_json.specs.JsonText.{entry_json, tail_json}
 use Rattle.cg_model.specs.Run.{Step, Refusal, step_limit}
 use Rattle.cg_outcome.specs.declared.report.Report.{Report}
-use Rattle.cg_outcome.specs.declared.report.Report.TheVariants.{Whole, Tail}
+use Rattle.cg_outcome.specs.declared.report.Report.TheVariants.{Whole, Tail, Json}
 use Rattle.cg_outcome.specs.declared.status.Status.{Status}
 use Rattle.cg_outcome.specs.declared.status.Status.TheVariants as status
 use Rattle.cg_outcome.specs.declared.status.Limit.TheVariants.{Steps}
 use Rattle.cg_outcome.specs.declared.totals.Totals.{Totals}
-use Rattle.cg_outcome.specs.Status.{tail_text}
+use Rattle.cg_outcome.specs.Status.{tail_line, tail_text}
 use Rattle.cg_outcome.specs.Totals.{no_totals, with_entry}
 
 -- how far a run has come: the world, what the reader has read, how many steps were made, and what they have shown
@@ -46,22 +47,28 @@ pub record Produced : Type 0 where
 abbrev pub before_all : Progress
 before_all = record { world = no_world; reader = first_state; count = 0; totals = no_totals }
 
--- a report with the tail of the finding, where there is one
-abbrev pub with_tail : List ℕ → Option Finding → ℕ → List ℕ
-with_tail report None count = report
-with_tail report (Some f) count = report ++ tail_text f.status count f.lines
+-- the tail of a report
+abbrev pub tail_in : Report → Status → ℕ → ℕ → List ℕ
+tail_in Json status steps lines = tail_json (tail_line status steps lines)
+tail_in other status steps lines = tail_text status steps lines
+
+-- what was put, with the tail of the finding, where there is one
+abbrev pub with_tail : Report → List ℕ → Option Finding → ℕ → List ℕ
+with_tail report put None count = put
+with_tail report put (Some f) count = put ++ tail_in report f.status count f.lines
 
 -- what is put of a step, and of steps
 abbrev pub entry_in : Report → ℕ → Entry → List ℕ
 entry_in Whole number entry = entry_text number entry
 entry_in Tail number entry = []
+entry_in Json number entry = entry_json number entry
 
 abbrev pub report_in : Report → List Step → List ℕ
 report_in report steps = flat_map (λ s. entry_in report s.number s.entry) steps
 
 -- what a part puts: the report of its steps, and the tail where it ends the run
 abbrev pub text_of : Report → Produced → List ℕ
-text_of report p = with_tail (report_in report p.steps) p.found p.progress.count
+text_of report p = with_tail report (report_in report p.steps) p.found p.progress.count
 
 -- the status of a part that ends the run
 abbrev pub status_of : Produced → Option Status

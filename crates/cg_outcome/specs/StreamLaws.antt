@@ -82,7 +82,7 @@ made-put : (report : Report) (p : Produced) (made : List Step) (v v1 v2 : SinkVi
     → (rest : List ℕ) × PutsAll v v2 (text_of report p ++ rest)
 made-put report p made v v1 v2 r is put more =
     let text : text_of report p ≡ report_in report p.steps =
-    ap (λ found. with_tail (report_in report p.steps) found p.progress.count) is.none in
+    ap (λ found. with_tail report (report_in report p.steps) found p.progress.count) is.none in
     let all : report_in report made ≡ report_in report p.steps ++ report_in report is.later =
     ap (report_in report) is.front ∙ report_in-append report p.steps is.later in
     let same : report_in report made ++ r ≡ text_of report p ++ (report_in report is.later ++ r) =

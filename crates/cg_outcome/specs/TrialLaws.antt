@@ -44,7 +44,7 @@ line-ended p more v v' st is s = by_finding p.found refl where
   by_finding : (o : Option Finding) → p.found ≡ o →
       StopsWith (trial_text (and_then p more)) (status_of (and_then p more)) v v' st
   by_finding None e =
-      let text : text_of Tail p ≡ [] = ap (λ found. with_tail (report_in Tail p.steps) found p.progress.count) e
+      let text : text_of Tail p ≡ [] = ap (λ found. with_tail Tail (report_in Tail p.steps) found p.progress.count) e
       ∙ tail-nothing p.steps in
       let none : status_of p ≡ None = ap (λ (found : Option Finding). status_of (record p { found = found })) e in
       nothing (trial_text (and_then p more)) (status_of (and_then p more))
@@ -59,7 +59,7 @@ line-ended p more v v' st is s = by_finding p.found refl where
       let apart : is_of_end (Some f.status) ≡ false =
       ap (λ (found : Option Finding). is_of_end (status_of (record p { found = found }))) (sym e) ∙ is in
       let text : text_of Tail p ≡ trial_text p =
-      ap (λ (found : Option Finding). with_tail (report_in Tail p.steps) found p.progress.count) e
+      ap (λ (found : Option Finding). with_tail Tail (report_in Tail p.steps) found p.progress.count) e
       ∙ ap (λ t. t ++ tail_text f.status p.progress.count f.lines) (tail-nothing p.steps)
       ∙ sym (ap (λ (f : _). f p.progress.totals) (trial-tail f.status f.lines p.progress.count apart))
       ∙ sym (ap (λ (found : Option Finding). trial_text (record p { found = found })) e) in

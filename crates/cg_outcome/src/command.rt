@@ -35,6 +35,8 @@ fn word_alone(word: &ArgText) -> Option<Command>
         Some(Command::Replay(Report::Whole))
     } else if word.as_slice() == b"check".as_slice() {
         Some(Command::Replay(Report::Tail))
+    } else if word.as_slice() == b"json".as_slice() {
+        Some(Command::Replay(Report::Json))
     } else {
         None
     }

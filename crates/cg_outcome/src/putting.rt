@@ -1,19 +1,19 @@
-ghost use Rattle.std.specs.Prelude.{◌<◌, ◌^◌, OnOk, IfErr, Some};
+ghost use Rattle.std.specs.Prelude.{◌++◌, ◌≡◌, ◌<◌, ◌^◌, OnOk, IfErr, Some};
 ghost use Rattle.cg_base.specs.Sets.{IsId};
 ghost use Rattle.cg_gen.specs.Generated.{generated};
 ghost use Rattle.cg_gen.specs.Lines.{lines_of};
 ghost use Rattle.cg_outcome.specs.declared.status.Status.TheVariants as status;
-ghost use Rattle.cg_outcome.specs.Produced.{entry_in};
-ghost use Rattle.cg_outcome.specs.Status.{tail_text};
+ghost use Rattle.cg_outcome.specs.Produced.{entry_in, tail_in};
 ghost use Rattle.cg_outcome.specs.Stopping.{CutShort, IsFinding};
 ghost use Rattle.cg_outcome.specs.Putting.{Puts, StopsWith};
 
 use crate::report::Report;
 use crate::status::Status;
 use crate::tail::put_tail;
-use cg_base::ReplicaId;
+use cg_base::{NoMemory, ReplicaId};
 use cg_gen::generate;
 use cg_io::{IoFault, Sink};
+use cg_json::json;
 use cg_report::{Entry, put_entry};
 use std::alloc::Global;
 
@@ -39,17 +39,18 @@ pub fn put_text<K: Sink>(alloc: Global, output: &mut K, text: &[u8]) -> Result<(
 pub fn finish<K: Sink>(
     alloc: Global,
     output: &mut K,
+    report: Report,
     status: Status,
     steps: u64,
     lines: u64,
 ) -> Status
     requires few_faults { (K.view output.old).faults < 2 ^ 62 }
     requires finding { IsFinding status }
-    ensures { StopsWith (tail_text status steps lines) (Some status)
+    ensures { StopsWith (tail_in report status steps lines) (Some status)
         (K.view output.old) (K.view output.new) result }
 {
     let mut text = Vec::new(alloc);
-    if put_tail(&mut text, &status, steps, lines).is_err() {
+    if put_tail(&mut text, report, &status, steps, lines).is_err() {
         return Status::NoMemory;
     }
     match put_text(alloc, output, &text) {
@@ -58,7 +59,7 @@ pub fn finish<K: Sink>(
     }
 }
 
-/// Puts what a step shows, where the whole report is put. Else no text is built.
+/// Puts what a step shows in a report. Where that is nothing no text is built.
 pub fn put_step<K: Sink>(
     alloc: Global,
     output: &mut K,
@@ -71,14 +72,26 @@ pub fn put_step<K: Sink>(
     ensures cut { IfErr result (λ status.
         CutShort (entry_in report number entry.now) (K.view output.old) (K.view output.new) status) }
 {
-    if report == Report::Tail {
-        return Ok(());
-    }
     let mut text = Vec::new(alloc);
-    if put_entry(&mut text, number, entry).is_err() {
+    if put_entry_in(&mut text, report, number, entry).is_err() {
         return Err(Status::NoMemory);
     }
     put_text(alloc, output, &text)
+}
+
+fn put_entry_in(
+    out: &mut Vec<u8>,
+    report: Report,
+    number: u64,
+    entry: &Entry,
+) -> Result<(), NoMemory>
+    ensures { OnOk result (out.new.items ≡ out.old.items ++ entry_in report number entry.now) }
+{
+    match report {
+        Report::Whole => put_entry(out, number, entry),
+        Report::Tail => Ok(()),
+        Report::Json => json(number, entry, out),
+    }
 }
 
 /// Puts the schedule of a seed.

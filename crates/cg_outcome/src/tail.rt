@@ -1,10 +1,14 @@
 ghost use Rattle.std.specs.Prelude.{◌≡◌, ◌++◌, [], OnOk, codes, decimal};
 ghost use Rattle.std.specs.Option.{option_map_or};
-ghost use Rattle.cg_outcome.specs.Status.{limit_text, refused_text, tail_line, tail_text};
+ghost use Rattle.cg_json.specs.JsonText.{tail_json};
+ghost use Rattle.cg_outcome.specs.Status.{limit_text, refused_text, tail_line};
+ghost use Rattle.cg_outcome.specs.Produced.{tail_in};
 
+use crate::report::Report;
 use crate::status::{Limit, Status};
 use cg_base::{NoMemory, put, put_number};
 use cg_group::Reason;
+use cg_json::json_tail;
 
 fn put_limit(out: &mut Vec<u8>, what: Limit) -> Result<(), NoMemory>
     ensures { OnOk result (out.new.items ≡ out.old.items ++ limit_text what) }
@@ -48,7 +52,7 @@ fn put_tail_line(out: &mut Vec<u8>, status: &Status, steps: u64, lines: u64) -> 
         Status::Done => put_numbered(out, b"end ", steps),
         Status::Usage => put(
             out,
-            b"usage: congruity replay | check | generate SEED REPLICAS LINES | trial SEED REPLICAS LINES",
+            b"usage: congruity replay | check | generate SEED REPLICAS LINES | trial SEED REPLICAS LINES | json",
         ),
         Status::Syntax { line, reason } => {
             put_numbered(out, b"syntax ", *line)?;
@@ -69,10 +73,33 @@ fn put_tail_line(out: &mut Vec<u8>, status: &Status, steps: u64, lines: u64) -> 
     }
 }
 
-/// The last line of the report, with its end.
-pub fn put_tail(out: &mut Vec<u8>, status: &Status, steps: u64, lines: u64) -> Result<(), NoMemory>
-    ensures { OnOk result (out.new.items ≡ out.old.items ++ tail_text status.now steps lines) }
+/// The last line of the report, as a line of its own.
+pub fn put_tail(
+    out: &mut Vec<u8>,
+    report: Report,
+    status: &Status,
+    steps: u64,
+    lines: u64,
+) -> Result<(), NoMemory>
+    ensures { OnOk result (out.new.items ≡ out.old.items ++ tail_in report status.now steps lines) }
 {
-    put_tail_line(out, status, steps, lines)?;
-    put(out, b"\n")
+    match report {
+        Report::Json => put_json_tail(out, status, steps, lines),
+        _ => {
+            put_tail_line(out, status, steps, lines)?;
+            put(out, b"\n")
+        }
+    }
+}
+
+// Each tail is a text, so that memory is never refused for want of one.
+fn put_json_tail(out: &mut Vec<u8>, status: &Status, steps: u64, lines: u64) -> Result<(), NoMemory>
+    ensures { OnOk result (out.new.items ≡ out.old.items ++ tail_json (tail_line status.now steps lines)) }
+{
+    let mut line = Vec::new(*out.allocator());
+    put_tail_line(&mut line, status, steps, lines)?;
+    match str::from_utf8(line.as_slice()) {
+        Ok(text) => json_tail(text, out),
+        Err(_) => Err(NoMemory),
+    }
 }

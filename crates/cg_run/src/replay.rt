@@ -5,7 +5,6 @@ ghost use Rattle.cg_schedule.specs.Fault.{Gives};
 ghost use Rattle.cg_schedule.specs.Line.{event_reading};
 ghost use Rattle.cg_schedule.specs.Reading.{whole};
 ghost use Rattle.cg_outcome.specs.Outcome.{Ended, read_outcome, line_outcome, whole_line, at_end, cut_line, last_piece};
-ghost use Rattle.cg_outcome.specs.declared.report.Report.{Report};
 ghost use Rattle.cg_outcome.specs.declared.status.Status.TheVariants as status;
 ghost use Rattle.cg_outcome.specs.Produced.{ended_with};
 ghost use Rattle.cg_outcome.specs.Rounds.{happened};
@@ -28,14 +27,15 @@ use std::alloc::Global;
 fn refuse_line<K: Sink>(
     alloc: Global,
     output: &mut K,
+    report: Report,
     line: u64,
     fault: LineFault,
     count: u64,
 ) -> Status
     requires { (K.view output.old).faults < 2 ^ 62 }
     ensures { (s : Progress) → s.count ≡ count → (read : Result (Option Event) LineFault) →
-        Gives read (Err fault) → (report : Report)
-        → Stopped report (read_outcome line read (seen s)) (K.view output.old) (K.view output.new) result }
+        Gives read (Err fault) →
+        Stopped report (read_outcome line read (seen s)) (K.view output.old) (K.view output.new) result }
 {
     match fault {
         LineFault::Syntax(reason) => {
@@ -43,7 +43,7 @@ fn refuse_line<K: Sink>(
                 line,
                 reason: reason.number(),
             };
-            finish(alloc, output, status, count, line)
+            finish(alloc, output, report, status, count, line)
         }
         LineFault::NoMemory => Status::NoMemory,
     }
@@ -91,7 +91,7 @@ fn finish_line<K: Sink>(
         Err(fault) => {
             let count = progress.count;
             drop(progress);
-            Err(refuse_line(alloc, output, line, fault, count))
+            Err(refuse_line(alloc, output, report, line, fault, count))
         }
     }
 }
@@ -121,7 +121,7 @@ pub fn begin_line<K: Sink>(
         Err(fault) => {
             let count = progress.count;
             drop(progress);
-            Err(refuse_line(alloc, output, number, fault, count))
+            Err(refuse_line(alloc, output, report, number, fault, count))
         }
     }
 }
@@ -130,17 +130,25 @@ pub fn begin_line<K: Sink>(
 pub fn refuse_limit<K: Sink>(
     alloc: Global,
     output: &mut K,
+    report: Report,
     line: u64,
     what: Limit,
     progress: Progress,
 ) -> Status
     requires { (K.view output.old).faults < 2 ^ 62 }
-    ensures { (report : Report) → Stopped report (ended_with (status.Limit line what) line (seen progress))
+    ensures { Stopped report (ended_with (status.Limit line what) line (seen progress))
         (K.view output.old) (K.view output.new) result }
 {
     let count = progress.count;
     drop(progress);
-    finish(alloc, output, Status::Limit { line, what }, count, line)
+    finish(
+        alloc,
+        output,
+        report,
+        Status::Limit { line, what },
+        count,
+        line,
+    )
 }
 
 /// A line that has its end.
@@ -163,7 +171,7 @@ pub fn whole_line<K: Sink>(
     ensures under_way { IfOk result (λ s. IsUnderWay (seen s)) }
 {
     match passed_limit(number, line.len(), at + line.len() + 1) {
-        Some(what) => Err(refuse_limit(alloc, output, number, what, progress)),
+        Some(what) => Err(refuse_limit(alloc, output, report, number, what, progress)),
         None => begin_line(
             alloc,
             output,
@@ -176,39 +184,57 @@ pub fn whole_line<K: Sink>(
 }
 
 // The input has ended behind so many lines.
-fn close_at_end<K: Sink>(alloc: Global, output: &mut K, lines: u64, progress: &Progress) -> Status
+fn close_at_end<K: Sink>(
+    alloc: Global,
+    output: &mut K,
+    report: Report,
+    lines: u64,
+    progress: &Progress,
+) -> Status
     requires { (K.view output.old).faults < 2 ^ 62 }
-    ensures { (report : Report) → Stopped report (at_end lines Ended (seen progress.now))
+    ensures { Stopped report (at_end lines Ended (seen progress.now))
         (K.view output.old) (K.view output.new) result }
 {
     let count = progress.count;
     if progress.reader.state().ended {
-        finish(alloc, output, Status::Done, count, lines)
+        finish(alloc, output, report, Status::Done, count, lines)
     } else {
-        finish(alloc, output, Status::NoEnd { lines }, count, lines)
+        finish(alloc, output, report, Status::NoEnd { lines }, count, lines)
     }
 }
 
 // The input has ended behind so many lines, and the run is let go.
-fn end_run<K: Sink>(alloc: Global, output: &mut K, lines: u64, progress: Progress) -> Status
+fn end_run<K: Sink>(
+    alloc: Global,
+    output: &mut K,
+    report: Report,
+    lines: u64,
+    progress: Progress,
+) -> Status
     requires { (K.view output.old).faults < 2 ^ 62 }
-    ensures { (report : Report) → Stopped report (at_end lines Ended (seen progress))
+    ensures { Stopped report (at_end lines Ended (seen progress))
         (K.view output.old) (K.view output.new) result }
 {
-    let status = close_at_end(alloc, output, lines, &progress);
+    let status = close_at_end(alloc, output, report, lines, &progress);
     drop(progress);
     status
 }
 
 /// A take has failed behind so many lines.
-pub fn fail<K: Sink>(alloc: Global, output: &mut K, lines: u64, progress: Progress) -> Status
+pub fn fail<K: Sink>(
+    alloc: Global,
+    output: &mut K,
+    report: Report,
+    lines: u64,
+    progress: Progress,
+) -> Status
     requires { (K.view output.old).faults < 2 ^ 62 }
-    ensures { (report : Report) → Stopped report (ended_with status.ReadFault lines (seen progress))
+    ensures { Stopped report (ended_with status.ReadFault lines (seen progress))
         (K.view output.old) (K.view output.new) result }
 {
     let count = progress.count;
     drop(progress);
-    finish(alloc, output, Status::ReadFault, count, lines)
+    finish(alloc, output, report, Status::ReadFault, count, lines)
 }
 
 // The input has ended behind a last line without its end.
@@ -226,7 +252,7 @@ fn close_in_line<K: Sink>(
         (K.view output.old) (K.view output.new) result }
 {
     match begin_line(alloc, output, report, number, line, progress) {
-        Ok(next) => end_run(alloc, output, number, next),
+        Ok(next) => end_run(alloc, output, report, number, next),
         Err(status) => status,
     }
 }
@@ -248,7 +274,7 @@ pub fn close<K: Sink>(
         (K.view output.old) (K.view output.new) result }
 {
     if rest.is_empty() {
-        end_run(alloc, output, number - 1, progress)
+        end_run(alloc, output, report, number - 1, progress)
     } else {
         close_in_line(alloc, output, report, number, rest, progress)
     }

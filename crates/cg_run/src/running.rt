@@ -11,7 +11,9 @@ ghost use Rattle.cg_outcome.specs.Taking.{Runs, ReadCause, Completes, OfSteps, T
 use crate::streaming::replay;
 use crate::trial::try_schedule;
 use cg_io::{Sink, Source};
-use cg_outcome::{ArgText, Command, Status, command_of, finish, outcomes_agree, put_schedule};
+use cg_outcome::{
+    ArgText, Command, Report, Status, command_of, finish, outcomes_agree, put_schedule,
+};
 use std::alloc::Global;
 
 // Runs a command, or tells how the program is used.
@@ -30,7 +32,7 @@ fn run_command<S: Source, K: Sink>(
     ensures write_fault { (K.view output.new).faults ≡ (K.view output.old).faults + write_faults result }
 {
     match command_of(words) {
-        None => finish(alloc, output, Status::Usage, 0, 0),
+        None => finish(alloc, output, Report::Whole, Status::Usage, 0, 0),
         Some(Command::Replay(report)) => replay(alloc, input, output, report),
         Some(
             Command::Generate {

@@ -42,7 +42,7 @@ fn count_step<K: Sink>(
         drop(world);
         let what = Limit::Steps;
         let status = Status::Limit { line, what };
-        return Err(finish(alloc, output, status, count, line));
+        return Err(finish(alloc, output, report, status, count, line));
     }
     let Ok(totals) = totals.with_entry(&entry) else {
         drop(world);
@@ -101,7 +101,7 @@ pub fn take_step<K: Sink>(
         } => {
             drop(same);
             let status = Status::Refused { line, reason };
-            Err(finish(alloc, output, status, count, line))
+            Err(finish(alloc, output, report, status, count, line))
         }
         Stepped::NoMemory => Err(Status::NoMemory),
     }

@@ -1,5 +1,4 @@
 ghost use Rattle.std.specs.Prelude.{◌<◌, ◌^◌, ◌++◌, MatchResult};
-ghost use Rattle.cg_outcome.specs.declared.report.Report.{Report};
 ghost use Rattle.cg_outcome.specs.Outcome.{whole_line, Ended, Failed};
 ghost use Rattle.cg_outcome.specs.Streaming.{from_stage, IsStage, IsUnended, IsHeld, held_limit, EndsLine, HoldsRest, TakesUp, TakesTurn, Replays};
 ghost use Rattle.cg_outcome.specs.Stopping.{Stopped};
@@ -67,7 +66,7 @@ fn hold_rest<K: Sink>(
     }
     let Stage { line, at, progress } = stage;
     match held_limit(line, at, held.as_slice()) {
-        Some(what) => Err(refuse_limit(alloc, output, line, what, progress)),
+        Some(what) => Err(refuse_limit(alloc, output, report, line, what, progress)),
         None => Ok(Stage { line, at, progress }),
     }
 }
@@ -115,16 +114,22 @@ fn close_stage<K: Sink>(
 }
 
 // A take has failed behind what is held.
-fn fail_stage<K: Sink>(alloc: Global, output: &mut K, held: &[u8], stage: Stage) -> Status
+fn fail_stage<K: Sink>(
+    alloc: Global,
+    output: &mut K,
+    report: Report,
+    held: &[u8],
+    stage: Stage,
+) -> Status
     requires few_faults { (K.view output.old).faults < 2 ^ 62 }
     requires stands { IsStage (seen_stage stage) }
     requires held { IsHeld (seen_stage stage) held.now }
-    ensures { (report : Report) →
-        Stopped report (from_stage (seen_stage stage) held.now Failed) (K.view output.old) (K.view output.new) result }
+    ensures { Stopped report (from_stage (seen_stage stage) held.now Failed)
+        (K.view output.old) (K.view output.new) result }
 {
     let _held = held;
     let Stage { line, progress, .. } = stage;
-    fail(alloc, output, line - 1, progress)
+    fail(alloc, output, report, line - 1, progress)
 }
 
 // One take, made while no whole line is held, and what it brings.
@@ -147,7 +152,7 @@ fn make_turn<S: Source, K: Sink>(
     let mut buffer = [0u8; TAKE_BYTES];
     let room = (INPUT_BYTES + 1 - stage.at - held.len()).min(TAKE_BYTES);
     match input.take(&mut buffer[..room]) {
-        Err(_) => Err(fail_stage(alloc, output, held.as_slice(), stage)),
+        Err(_) => Err(fail_stage(alloc, output, report, held.as_slice(), stage)),
         Ok(0) => Err(close_stage(alloc, output, report, held.as_slice(), stage)),
         Ok(count) => take_up(alloc, output, report, held, &buffer[..count], stage),
     }

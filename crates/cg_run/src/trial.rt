@@ -69,7 +69,14 @@ fn close_trial<K: Sink>(alloc: Global, output: &mut K, lines: u64, progress: &Pr
 {
     let count = progress.count;
     if !progress.reader.state().ended {
-        return finish(alloc, output, Status::NoEnd { lines }, count, lines);
+        return finish(
+            alloc,
+            output,
+            Report::Tail,
+            Status::NoEnd { lines },
+            count,
+            lines,
+        );
     }
     let mut text = Vec::new(alloc);
     if put_summary(&mut text, count, &progress.totals).is_err() {

@@ -8,7 +8,7 @@ use std::alloc::{AllocError, AllocGlobal};
 use std::test::Fail;
 
 const WORDS: &str = "Done -> the command was carried out to its end
-Usage -> the words are no command; give `replay` or `check` a schedule by < FILE, or give `generate` or `trial` SEED (a number of 64 bits), REPLICAS (1 to 32) and LINES (3 to 200000)
+Usage -> the words are no command; give `replay`, `check` or `json` a schedule by < FILE, or give `generate` or `trial` SEED (a number of 64 bits), REPLICAS (1 to 32) and LINES (3 to 200000)
 ReadFault -> reading the input failed; give a file that can be read, by < FILE
 WriteFault -> writing the output failed, so it isn't whole; see whether the disk is full or a pipe was closed
 Limit { line: 2, what: Line } -> line 2 passes a limit: it has more than 32768 bytes; make it shorter

@@ -9,6 +9,7 @@ mod CaseFiveAlternate
 mod CaseLoneAlternate
 mod CaseStruckCommits
 mod CaseTails
+mod CaseJson
 mod CaseLimits
 mod CaseGuarantees
 mod Refuted

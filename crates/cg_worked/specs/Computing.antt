@@ -3,6 +3,7 @@ use Rattle.std.specs.Prelude.{⊤}
 use Rattle.std.specs.Fmt.{digits}
 use Rattle.std.specs.Str.{chars, is_utf8}
 use Rattle.std.specs.Char.{encode_utf8}
+use Rattle.json.specs.Print.{escape_byte}
 use Rattle.cg_base.specs.Replicas.{every_replica}
 use Rattle.cg_text.specs.Tokens.{tokens_from}
 use Rattle.cg_codec.specs.Fields.{byte, number32, number64, signed64, truth, text as text_of_codec_fields}
@@ -175,7 +176,7 @@ unfolding line_outcome happened
 run_computes = tt
 
 unfoldable pub cases_compute : ⊤
-unfolding std_computes base_computes text_computes codec_computes action_computes db_computes vote_computes
+unfolding std_computes json_computes base_computes text_computes codec_computes action_computes db_computes vote_computes
     queue_computes records_computes knowledge_computes plan_computes wire_computes group_computes schedule_computes
     client_computes prim_computes exchange_computes construct_computes stored_computes step_computes
     agree_computes run_computes

@@ -22,4 +22,4 @@ pub returns-in-Err-clause-performs : goal.returns-in-Err-clause-performs
 returns-in-Err-clause-performs g c =
     let is : opening c.args.progress.reader c.args.line.now ≡ Err c.in-Err.fault = sym c.begin_line.ensures ∙ c.in-Err.is in
     rw (line-opened c.args.number c.args.line.now (seen c.args.progress) (Err c.in-Err.fault) is)
-    (c.refuse_line.ensures c.args.progress refl (Err c.in-Err.fault) (λ other. refl) c.args.report)
+    (c.refuse_line.ensures c.args.progress refl (Err c.in-Err.fault) (λ other. refl))

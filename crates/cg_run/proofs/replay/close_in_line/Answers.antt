@@ -10,7 +10,7 @@ returns-in-Ok g c =
     let n = c.args.number in
     let done = c.in-Ok.ensures in
     Performs-and_then c.args.report (line_outcome n c.args.line.now (seen c.args.progress)) (at_end n Ended) (g.K.Sink.view c.args.output.now) (g.K.Sink.view c.begin_line.new.output) (g.K.Sink.view c.end_run.new.output)
-    (seen c.in-Ok.next) (Err c.end_run.result) done.performs.0 done.performs.1 done.performs.2 (c.end_run.ensures c.args.report)
+    (seen c.in-Ok.next) (Err c.end_run.result) done.performs.0 done.performs.1 done.performs.2 c.end_run.ensures
 
 pub returns-in-Err : goal.returns-in-Err
 returns-in-Err g c =

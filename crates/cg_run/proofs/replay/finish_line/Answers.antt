@@ -9,4 +9,4 @@ pub returns-in-Err-clause-performs : goal.returns-in-Err-clause-performs
 returns-in-Err-clause-performs g c =
     let read = whole (event_reading c.args.word) c.args.words in
     rw (word-read c.args.line c.args.word c.args.words (seen c.args.progress))
-    (c.refuse_line.ensures c.args.progress refl (some_event read) (λ other. ap some_event (c.in-Err.ensures.event other)) c.args.report)
+    (c.refuse_line.ensures c.args.progress refl (some_event read) (λ other. ap some_event (c.in-Err.ensures.event other)))

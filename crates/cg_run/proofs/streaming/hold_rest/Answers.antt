@@ -14,4 +14,4 @@ returns-in-Some g c =
     let passed : held_limit st.line st.at bytes ≡ Some c.in-Some.what = search rules in
     let unended = All-append (λ b. (b == 10) ≡ false) c.args.held.now.items c.args.rest.now c.requires.unended c.requires.unended_rest in
     subst (λ p. Stopped c.args.report p (g.K.Sink.view c.args.output.now) (g.K.Sink.view c.refuse_limit.new.output) c.refuse_limit.result)
-    (sym (from-held st bytes Open unended ∙ last-passed st.line st.at bytes Open st.progress c.in-Some.what passed)) (c.refuse_limit.ensures c.args.report)
+    (sym (from-held st bytes Open unended ∙ last-passed st.line st.at bytes Open st.progress c.in-Some.what passed)) c.refuse_limit.ensures

@@ -15,7 +15,7 @@ returns-in-Err g c =
     let before : BetweenTakes = record { input = g.S.Source.view c.args.input.now; output = v; held = c.args.held.now.items } in
     let after : BetweenTakes = record { input = g.S.Source.view c.take.new.self; output = v1; held = c.args.held.now.items } in
     turn-failed c.args.report (seen_stage c.args.stage) before after c.fail_stage.result c.requires.stands c.requires.held c.in-Err.ensures.bytes c.in-Err.ensures.cause
-    (subst (λ held. Stopped c.args.report (from_stage (seen_stage c.args.stage) held Failed) v v1 c.fail_stage.result) c.as_slice.ensures.value (c.fail_stage.ensures c.args.report))
+    (subst (λ held. Stopped c.args.report (from_stage (seen_stage c.args.stage) held Failed) v v1 c.fail_stage.result) c.as_slice.ensures.value c.fail_stage.ensures)
 
 pub returns-in-Ok-eq0 : goal.returns-in-Ok-eq0
 returns-in-Ok-eq0 g c =
