@@ -19,4 +19,6 @@ mod plan;
 #[cfg(test)]
 mod queue;
 #[cfg(test)]
+mod relaxed;
+#[cfg(test)]
 mod voting;
