@@ -34,6 +34,10 @@ found-id (x ∷ seats) p s e = elim (cases_Bool (x.id == p)) [
 
 -- ---- a replica that is up is struck
 
+pub crashed-id : (p : ℕ) (life : Life) → (crashed p life).id ≡ p
+crashed-id p (Up r disk) = refl
+crashed-id p (Down disk green) = refl
+
 module _ (w v : World) (p : ℕ) (s : Seat) (there : seat_of w p ≡ Some s) (up : is_some (running s.life) ≡ true)
     (same : (life : Life) → set_life v p life ≡ set_life w p life) where
   fallen-up : (life : Life) → is_some (running life) ≡ true → fallen (seated v (crashed p life)) p ≡ crash_at w p life

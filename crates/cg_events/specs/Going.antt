@@ -1,12 +1,17 @@
 -- The parts of an event on the way.
-use Rattle.std.specs.Prelude.{ℕ, ◌==◌, not, List, ◌++◌, Option, Some, None, map, filter, fold, if◌then◌else◌, [], ◌∷◌}
+use Rattle.std.specs.Prelude.{◌≡◌, ℕ, ◌==◌, not, List, ◌++◌, Option, Some, None, map, filter, fold, if◌then◌else◌, [], ◌∷◌}
 use Rattle.cg_base.specs.Sets.{has}
 use Rattle.cg_wire.specs.declared.message.Msg.{Msg}
 use Rattle.cg_report.specs.declared.line.Line.{Line}
 use Rattle.cg_group.specs.Events.{send_all, go_down}
 use Rattle.cg_model.specs.World.{Seat, World, with_seat}
 use Rattle.cg_model.specs.Show.{Going, Moved, is_news, line_of, with_printed, tell}
+use Rattle.cg_model.specs.Step.{quietly}
 use Rattle.cg_seat.specs.Calls.{Spoken}
+
+-- nothing has come of an event yet
+abbrev pub IsQuiet : Going → Type 0
+IsQuiet g = g ≡ quietly g.world
 
 -- a replica says these things to its group
 abbrev pub said : World → ℕ → List Msg → World

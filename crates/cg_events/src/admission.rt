@@ -5,10 +5,21 @@ ghost use Rattle.cg_base.specs.Sets.{IsSet};
 ghost use Rattle.cg_group.specs.Refusals.{any_of, empty_set, not_up};
 ghost use Rattle.cg_model.specs.Admission.{unknown, has_left, joiner_left, never_named, not_green, takes_part};
 ghost use Rattle.cg_model.specs.AdmissionCalls.{already_up, begun_already, id_used};
+ghost use Rattle.cg_events.specs.Happening.{admits};
 
 use crate::WorldState;
 use cg_base::{IdSet, ReplicaId};
-use cg_group::Reason;
+use cg_group::{GroupErr, Reason};
+
+// Where there is a reason the event isn't admitted.
+pub(crate) fn admit(reason: Option<Reason>) -> Result<(), GroupErr>
+    ensures { result ≡ admits reason }
+{
+    match reason {
+        Some(reason) => Err(GroupErr::Refused(reason)),
+        None => Ok(()),
+    }
+}
 
 // The first of these reasons that is there.
 fn first_of(reasons: &[Option<Reason>]) -> Option<Reason>
@@ -26,60 +37,42 @@ fn first_of(reasons: &[Option<Reason>]) -> Option<Reason>
 pub(crate) fn unknown(state: &WorldState, p: ReplicaId) -> Option<Reason>
     ensures { result ≡ unknown state.now p }
 {
-    if state.has_begun(p) {
-        return None;
-    }
-    Some(Reason::UnknownReplica(p))
+    (!state.has_begun(p)).then_some(Reason::UnknownReplica(p))
 }
 
 // The replica isn't up.
 pub(crate) fn not_up(state: &WorldState, p: ReplicaId) -> Option<Reason>
     ensures { result ≡ not_up state.now.group p }
 {
-    if state.group.is_up(p) {
-        return None;
-    }
-    Some(Reason::NotUp(p))
+    (!state.group.is_up(p)).then_some(Reason::NotUp(p))
 }
 
 // The replica has left for good.
 pub(crate) fn has_left(state: &WorldState, p: ReplicaId) -> Option<Reason>
     ensures { result ≡ has_left state.now p }
 {
-    if state.is_left(p) {
-        return Some(Reason::HasLeft(p));
-    }
-    None
+    state.is_left(p).then_some(Reason::HasLeft(p))
 }
 
 // The replica is up.
 pub(crate) fn already_up(state: &WorldState, p: ReplicaId) -> Option<Reason>
     ensures { result ≡ already_up state.now p }
 {
-    if state.is_up(p) {
-        return Some(Reason::AlreadyUp(p));
-    }
-    None
+    state.is_up(p).then_some(Reason::AlreadyUp(p))
 }
 
 // Start or an admitted join has named the replica.
 pub(crate) fn id_used(state: &WorldState, p: ReplicaId) -> Option<Reason>
     ensures { result ≡ id_used state.now p }
 {
-    if state.names(p) {
-        return Some(Reason::IdUsed(p));
-    }
-    None
+    state.names(p).then_some(Reason::IdUsed(p))
 }
 
 // Neither start nor an admitted join has named the replica.
 pub(crate) fn never_named(state: &WorldState, p: ReplicaId) -> Option<Reason>
     ensures { result ≡ never_named state.now p }
 {
-    if state.names(p) {
-        return None;
-    }
-    Some(Reason::UnknownReplica(p))
+    (!state.names(p)).then_some(Reason::UnknownReplica(p))
 }
 
 // Why the replica shows nothing.
@@ -121,30 +114,23 @@ pub(crate) fn leave_refused(state: &WorldState, p: ReplicaId, server: ReplicaId)
 fn begun_already(state: &WorldState, p: ReplicaId) -> Option<Reason>
     ensures { result ≡ begun_already state.now p }
 {
-    if state.has_begun(p) {
-        return Some(Reason::AlreadyUp(p));
-    }
-    None
+    state.has_begun(p).then_some(Reason::AlreadyUp(p))
 }
 
 // The joiner has left, as its representative knows.
 fn joiner_left(state: &WorldState, p: ReplicaId, joiner: ReplicaId) -> Option<Reason>
     ensures { result ≡ joiner_left state.now p joiner }
 {
-    if state.knows_left(p, joiner) {
-        return Some(Reason::HasLeft(joiner));
-    }
-    None
+    state
+        .knows_left(p, joiner)
+        .then_some(Reason::HasLeft(joiner))
 }
 
 // The joiner is no server, as its representative knows.
 fn not_green(state: &WorldState, p: ReplicaId, joiner: ReplicaId) -> Option<Reason>
     ensures { result ≡ not_green state.now p joiner }
 {
-    if state.knows_server(p, joiner) {
-        return None;
-    }
-    Some(Reason::JoinNotGreen(joiner))
+    (!state.knows_server(p, joiner)).then_some(Reason::JoinNotGreen(joiner))
 }
 
 // Why the replica can't be the joiner's representative.
@@ -169,10 +155,7 @@ pub(crate) fn transfer_refused(
 pub(crate) fn empty_set(set: &IdSet) -> Option<Reason>
     ensures { result ≡ empty_set set.now }
 {
-    match set.least() {
-        Some(_) => None,
-        None => Some(Reason::EmptySet),
-    }
+    set.least().is_none().then_some(Reason::EmptySet)
 }
 
 // The first of the replicas that hasn't begun.

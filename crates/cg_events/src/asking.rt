@@ -1,58 +1,39 @@
 //! What clients ask replicas to create: updates, joins and leaves.
-ghost use Rattle.std.specs.Prelude.{◌≡◌, IfOk, IfSome};
-ghost use Rattle.cg_base.specs.declared.action_id.ActionId.{ActionId as ActionName};
-ghost use Rattle.cg_action.specs.declared.action.Action.{Action as ActionView};
+ghost use Rattle.std.specs.Prelude.{◌≡◌, IfOk};
 ghost use Rattle.cg_action.specs.Limits.{IsKind, IsUpdate};
 ghost use Rattle.cg_action.specs.declared.action.Kind.TheVariants.{Join as JoinKind, Leave as LeaveKind, Update};
 ghost use Rattle.cg_client.specs.Calls.{kind_of};
 ghost use Rattle.cg_schedule.specs.declared.event.Event.TheVariants.{Request as Requested, Join, Leave};
-ghost use Rattle.cg_step.specs.Recorded.{AreBooked};
-ghost use Rattle.cg_step.specs.Step.{Asks};
-ghost use Rattle.cg_model.specs.World.{replica_of};
-ghost use Rattle.cg_model.specs.Step.{ask, name_also};
 ghost use Rattle.cg_model.specs.Standing.{IsBooked};
+ghost use Rattle.cg_events.specs.Going.{IsQuiet};
 ghost use Rattle.cg_events.specs.Happening.{Happens};
 
-use crate::admission::{join_refused, leave_refused, takes_part};
-use crate::happened::done;
-use crate::{Going, Happened, WorldState};
+use crate::Going;
+use crate::admission::{admit, join_refused, leave_refused, takes_part};
 use cg_action::{CmdList, Query, copy_commands, copy_query};
 use cg_base::{NoMemory, ReplicaId};
 use cg_client::Request;
+use cg_group::GroupErr;
 use std::alloc::Global;
 
 // A client asks the replica to run commands, and then to answer the query.
 #[tactic(auto, unfolding(cg_model::specs::Admission::first_refusal, cg_model::specs::Step::happens))]
 pub(crate) fn request(
     alloc: Global,
-    state: WorldState,
+    going: &mut Going,
     p: ReplicaId,
     cmds: &CmdList,
     query: &Option<Query>,
-) -> Happened
+) -> Result<(), GroupErr>
+    requires quiet { IsQuiet going.old }
     requires limits { IsUpdate cmds.now query.now }
-    requires booked { IsBooked state }
-    ensures { Happens state (Requested p cmds.now query.now) result }
+    requires booked { IsBooked going.old.world }
+    ensures { Happens going.old (Requested p cmds.now query.now) going.new result }
 {
-    if let Some(reason) = takes_part(&state, p) {
-        return Happened::Refused { state, reason };
-    }
-    done(update(alloc, state, p, cmds, query))
-}
-
-fn update(
-    alloc: Global,
-    state: WorldState,
-    p: ReplicaId,
-    cmds: &CmdList,
-    query: &Option<Query>,
-) -> Result<Going, NoMemory>
-    requires limits { IsUpdate cmds.now query.now }
-    requires booked { IsBooked state }
-    ensures { IfOk result (λ g. g ≡ ask state p (Update cmds.now query.now)) }
-{
+    admit(takes_part(&going.state, p))?;
     let request = copied(alloc, cmds, query)?;
-    ask(alloc, state, p, request)
+    going.ask(p, request)?;
+    Ok(())
 }
 
 // What the client asks for.
@@ -64,58 +45,34 @@ fn copied(alloc: Global, cmds: &CmdList, query: &Option<Query>) -> Result<Reques
     Ok(Request::Update { cmds, query })
 }
 
-// A request comes to a replica.
-fn ask(alloc: Global, state: WorldState, p: ReplicaId, request: Request) -> Result<Going, NoMemory>
-    requires limits { IsKind (kind_of request) }
-    requires booked { (book : ActionName → ActionView)
-        × IfSome (replica_of state p) (λ r. AreBooked book r.held (Asks (kind_of request))) }
-    ensures { IfOk result (λ g. g ≡ ask state p (kind_of request)) }
-{
-    Going::quietly(alloc, state).ask(p, request)
-}
-
 // The replica creates the join of a new server, which is named by that.
 #[tactic(auto, unfolding(cg_model::specs::Admission::first_refusal, cg_model::specs::Step::happens))]
 pub(crate) fn join(
-    alloc: Global,
-    state: WorldState,
+    going: &mut Going,
     p: ReplicaId,
     joiner: ReplicaId,
     weight: u8,
-) -> Happened
+) -> Result<(), GroupErr>
+    requires quiet { IsQuiet going.old }
     requires limits { IsKind (JoinKind joiner weight) }
-    requires booked { IsBooked state }
-    ensures { Happens state (Join p joiner weight) result }
+    requires booked { IsBooked going.old.world }
+    ensures { Happens going.old (Join p joiner weight) going.new result }
 {
-    if let Some(reason) = join_refused(&state, p, joiner) {
-        return Happened::Refused { state, reason };
-    }
-    done(ask(
-        alloc,
-        named(state, joiner),
-        p,
-        Request::Join(joiner, weight),
-    ))
-}
-
-// The replica is named.
-fn named(state: WorldState, p: ReplicaId) -> WorldState
-    ensures { result ≡ name_also state p }
-{
-    let mut more = state;
-    more.named.add(p);
-    more
+    admit(join_refused(&going.state, p, joiner))?;
+    going.state.named.add(joiner);
+    going.ask(p, Request::Join(joiner, weight))?;
+    Ok(())
 }
 
 // The replica creates the leave of a server.
 #[tactic(auto, unfolding(cg_model::specs::Admission::first_refusal, cg_model::specs::Step::happens))]
-pub(crate) fn leave(alloc: Global, state: WorldState, p: ReplicaId, server: ReplicaId) -> Happened
+pub(crate) fn leave(going: &mut Going, p: ReplicaId, server: ReplicaId) -> Result<(), GroupErr>
+    requires quiet { IsQuiet going.old }
     requires limits { IsKind (LeaveKind server) }
-    requires booked { IsBooked state }
-    ensures { Happens state (Leave p server) result }
+    requires booked { IsBooked going.old.world }
+    ensures { Happens going.old (Leave p server) going.new result }
 {
-    if let Some(reason) = leave_refused(&state, p, server) {
-        return Happened::Refused { state, reason };
-    }
-    done(ask(alloc, state, p, Request::Leave(server)))
+    admit(leave_refused(&going.state, p, server))?;
+    going.ask(p, Request::Leave(server))?;
+    Ok(())
 }

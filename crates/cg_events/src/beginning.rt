@@ -1,42 +1,40 @@
 //! The start: replicas that begin.
-ghost use Rattle.std.specs.Prelude.{◌≡◌, false, fold, IfOk, OnOk};
+ghost use Rattle.std.specs.Prelude.{◌≡◌, false, fold, OnOk};
 ghost use Rattle.cg_base.specs.Weights.{ids};
 ghost use Rattle.cg_group.specs.State.{is_up};
 ghost use Rattle.cg_schedule.specs.declared.event.Event.TheVariants.{Start};
 ghost use Rattle.cg_model.specs.World.{no_world};
 ghost use Rattle.cg_model.specs.Step.{begin_replica};
+ghost use Rattle.cg_events.specs.Going.{IsQuiet};
 ghost use Rattle.cg_events.specs.Happening.{Happens};
 
-use crate::admission::empty_set;
-use crate::{Going, Happened, WorldState};
+use crate::admission::{admit, empty_set};
+use crate::{Going, WorldState};
 use cg_base::{NoMemory, ReplicaId, WeightSet};
+use cg_group::GroupErr;
 use cg_seat::Seat;
 use std::alloc::Global;
 
 // These replicas begin, each alone, as the servers of one database.
 #[tactic(auto, unfolding(cg_model::specs::Admission::first_refusal, cg_model::specs::Step::happens))]
-pub(crate) fn start(alloc: Global, state: WorldState, set: &WeightSet) -> Happened
-    requires { state ≡ no_world }
-    ensures { Happens state (Start set.now) result }
+pub(crate) fn start(alloc: Global, going: &mut Going, set: &WeightSet) -> Result<(), GroupErr>
+    requires quiet { IsQuiet going.old }
+    requires first { going.old.world ≡ no_world }
+    ensures { Happens going.old (Start set.now) going.new result }
 {
-    if let Some(reason) = empty_set(&set.ids()) {
-        return Happened::Refused { state, reason };
-    }
-    match begin_all(alloc, state, set) {
-        Ok(state) => Happened::Done(Going::quietly(alloc, state)),
-        Err(NoMemory) => Happened::NoMemory,
-    }
+    admit(empty_set(&set.ids()))?;
+    begin_all(alloc, &mut going.state, set)?;
+    Ok(())
 }
 
-fn begin_all(alloc: Global, state: WorldState, set: &WeightSet) -> Result<WorldState, NoMemory>
-    requires { state ≡ no_world }
-    ensures { IfOk result (λ w. w ≡ fold (begin_replica set.now) state (ids set.now)) }
+fn begin_all(alloc: Global, state: &mut WorldState, set: &WeightSet) -> Result<(), NoMemory>
+    requires { state.old ≡ no_world }
+    ensures { OnOk result (state.new ≡ fold (begin_replica set.now) state.old (ids set.now)) }
 {
-    let mut begun = state;
     for p in set.ids().iter() {
-        begin_replica(alloc, &mut begun, set, p)?;
+        begin_replica(alloc, state, set, p)?;
     }
-    Ok(begun)
+    Ok(())
 }
 
 // A named replica comes up with a new disk.

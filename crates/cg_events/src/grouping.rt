@@ -1,130 +1,83 @@
 //! What the group does: partitions, merges, places, and what is handed out.
-ghost use Rattle.std.specs.Prelude.{◌≡◌, fold, IfOk};
-ghost use Rattle.cg_base.specs.declared.action_id.ActionId.{ActionId as ActionName};
-ghost use Rattle.cg_action.specs.declared.action.Action.{Action as ActionView};
 ghost use Rattle.cg_schedule.specs.declared.event.Event.TheVariants.{Split, Merge, Order, Gather, Receive, Deliver};
-ghost use Rattle.cg_model.specs.Step.{quietly, hand_over};
-ghost use Rattle.cg_model.specs.Standing.{AreBookedInTurn, IsHandedBooked, IsBooked};
+ghost use Rattle.cg_model.specs.Standing.{IsBooked};
+ghost use Rattle.cg_events.specs.Going.{IsQuiet};
 ghost use Rattle.cg_events.specs.Happening.{Happens};
 
-use crate::admission::{merge_refused, split_refused, unknown};
-use crate::happened::{done, refused};
-use crate::{Going, Happened, WorldState};
-use cg_base::{IdSet, NoMemory, ReplicaId, Row};
-use cg_group::Handed;
-use cg_letter::Letter;
-use std::alloc::Global;
+use crate::Going;
+use crate::admission::{admit, merge_refused, split_refused, unknown};
+use cg_base::{IdSet, ReplicaId};
+use cg_group::{GroupErr, Handed};
 
 // These replicas leave their configuration together.
 #[tactic(auto, unfolding(cg_model::specs::Admission::first_refusal, cg_model::specs::Step::happens))]
-pub(crate) fn split(alloc: Global, state: WorldState, set: IdSet) -> Happened
-    requires { IsBooked state }
-    ensures { Happens state (Split set) result }
+pub(crate) fn split(going: &mut Going, set: IdSet) -> Result<(), GroupErr>
+    requires quiet { IsQuiet going.old }
+    requires booked { IsBooked going.old.world }
+    ensures { Happens going.old (Split set) going.new result }
 {
-    if let Some(reason) = split_refused(&state, &set) {
-        return Happened::Refused { state, reason };
-    }
-    let mut parted = state;
-    match parted.group.split(set) {
-        Ok(handed) => done(hand_out(alloc, parted, handed)),
-        Err(fault) => refused(parted, fault),
-    }
+    admit(split_refused(&going.state, &set))?;
+    let handed = going.state.group.split(set)?;
+    going.hand_out(handed)?;
+    Ok(())
 }
 
 // A new configuration of these replicas is made.
 #[tactic(auto, unfolding(cg_model::specs::Admission::first_refusal, cg_model::specs::Step::happens))]
-pub(crate) fn merge(alloc: Global, state: WorldState, set: IdSet) -> Happened
-    requires { IsBooked state }
-    ensures { Happens state (Merge set) result }
+pub(crate) fn merge(going: &mut Going, set: IdSet) -> Result<(), GroupErr>
+    requires quiet { IsQuiet going.old }
+    requires booked { IsBooked going.old.world }
+    ensures { Happens going.old (Merge set) going.new result }
 {
-    if let Some(reason) = merge_refused(&state, &set) {
-        return Happened::Refused { state, reason };
+    if let Some(reason) = merge_refused(&going.state, &set) {
+        return Err(GroupErr::Refused(reason));
     }
-    let left = state.left_replicas();
-    let mut joined = state;
-    match joined.group.merge(set, left) {
-        Ok(handed) => done(hand_out(alloc, joined, handed)),
-        Err(fault) => refused(joined, fault),
-    }
-}
-
-// The replicas take what the group hands to them.
-fn hand_out(
-    alloc: Global,
-    state: WorldState,
-    handed: Row<Handed<Letter>>,
-) -> Result<Going, NoMemory>
-    requires { (book : ActionName → ActionView) × AreBookedInTurn book (quietly state) handed }
-    ensures { IfOk result (λ g. g ≡ fold hand_over (quietly state) handed) }
-{
-    Going::quietly(alloc, state).hand_out(handed)
+    let left = going.state.left_replicas();
+    let handed = going.state.group.merge(set, left)?;
+    going.hand_out(handed)?;
+    Ok(())
 }
 
 // The next places are handed to a replica.
 #[tactic(auto, unfolding(cg_model::specs::Admission::first_refusal, cg_model::specs::Step::happens))]
-pub(crate) fn deliver(alloc: Global, state: WorldState, p: ReplicaId, count: u64) -> Happened
-    requires { IsBooked state }
-    ensures { Happens state (Deliver p count) result }
+pub(crate) fn deliver(going: &mut Going, p: ReplicaId, count: u64) -> Result<(), GroupErr>
+    requires quiet { IsQuiet going.old }
+    requires booked { IsBooked going.old.world }
+    ensures { Happens going.old (Deliver p count) going.new result }
 {
-    if let Some(reason) = unknown(&state, p) {
-        return Happened::Refused { state, reason };
-    }
-    let mut behind = state;
-    match behind.group.deliver(p, count) {
-        Ok(list) => done(hand_over(alloc, behind, Handed { to: p, list })),
-        Err(fault) => refused(behind, fault),
-    }
-}
-
-// The replica takes what the group hands to it.
-fn hand_over(alloc: Global, state: WorldState, handed: Handed<Letter>) -> Result<Going, NoMemory>
-    requires { (book : ActionName → ActionView) × IsHandedBooked book state handed }
-    ensures { IfOk result (λ g. g ≡ hand_over (quietly state) handed) }
-{
-    Going::quietly(alloc, state).deliver(handed)
+    admit(unknown(&going.state, p))?;
+    let list = going.state.group.deliver(p, count)?;
+    going.deliver(Handed { to: p, list })?;
+    Ok(())
 }
 
 // The oldest message of a replica is ordered.
 #[tactic(auto, unfolding(cg_model::specs::Admission::first_refusal, cg_model::specs::Step::happens))]
-pub(crate) fn order(alloc: Global, state: WorldState, p: ReplicaId) -> Happened
-    ensures { Happens state (Order p) result }
+pub(crate) fn order(going: &mut Going, p: ReplicaId) -> Result<(), GroupErr>
+    requires { IsQuiet going.old }
+    ensures { Happens going.old (Order p) going.new result }
 {
-    if let Some(reason) = unknown(&state, p) {
-        return Happened::Refused { state, reason };
-    }
-    let mut ordered = state;
-    match ordered.group.order(p) {
-        Ok(_place) => Happened::Done(Going::quietly(alloc, ordered)),
-        Err(fault) => refused(ordered, fault),
-    }
+    admit(unknown(&going.state, p))?;
+    let _place = going.state.group.order(p)?;
+    Ok(())
 }
 
 // A replica receives a place of its configuration.
 #[tactic(auto, unfolding(cg_model::specs::Admission::first_refusal, cg_model::specs::Step::happens))]
-pub(crate) fn receive(alloc: Global, state: WorldState, p: ReplicaId, place: u64) -> Happened
-    ensures { Happens state (Receive p place) result }
+pub(crate) fn receive(going: &mut Going, p: ReplicaId, place: u64) -> Result<(), GroupErr>
+    requires { IsQuiet going.old }
+    ensures { Happens going.old (Receive p place) going.new result }
 {
-    if let Some(reason) = unknown(&state, p) {
-        return Happened::Refused { state, reason };
-    }
-    let mut behind = state;
-    match behind.group.receive(p, place) {
-        Ok(()) => Happened::Done(Going::quietly(alloc, behind)),
-        Err(fault) => refused(behind, fault),
-    }
+    admit(unknown(&going.state, p))?;
+    going.state.group.receive(p, place)
 }
 
 // All messages are ordered and received.
 #[tactic(auto, unfolding(cg_model::specs::Admission::first_refusal, cg_model::specs::Step::happens))]
-pub(crate) fn gather(alloc: Global, state: WorldState) -> Happened
-    ensures { Happens state Gather result }
+pub(crate) fn gather(going: &mut Going) -> Result<(), GroupErr>
+    requires { IsQuiet going.old }
+    ensures { Happens going.old Gather going.new result }
 {
-    let mut gathered = state;
-    match gathered.group.gather() {
-        Ok(()) => Happened::Done(Going::quietly(alloc, gathered)),
-        Err(NoMemory) => {
-            drop(gathered);
-            Happened::NoMemory
-        }
-    }
+    going.state.group.gather()?;
+    Ok(())
 }

@@ -5,15 +5,16 @@ ghost use Rattle.cg_records.specs.Limits.{IsNumber};
 ghost use Rattle.cg_report.specs.declared.entry.Shown.TheVariants.{Pieces};
 ghost use Rattle.cg_schedule.specs.declared.event.Event.TheVariants.{Transfer as TransferEvent};
 ghost use Rattle.cg_client.specs.Joined.{piece_count};
-ghost use Rattle.cg_model.specs.Step.{showing, transfer};
+ghost use Rattle.cg_model.specs.Step.{transfer};
+ghost use Rattle.cg_events.specs.Going.{IsQuiet};
 ghost use Rattle.cg_events.specs.Grounds.{IsSeated};
-ghost use Rattle.cg_events.specs.Handing.{new_copy, Chooses, arrived, joins, handed, shows_taken, takes};
+ghost use Rattle.cg_events.specs.Handing.{new_copy, Chooses, arrived, joins, handed, takes};
 ghost use Rattle.cg_events.specs.Happening.{Happens};
 
-use crate::admission::transfer_refused;
-use crate::happened::done;
-use crate::{Going, Happened, WorldState};
+use crate::admission::{admit, transfer_refused};
+use crate::{Going, WorldState};
 use cg_base::{NoMemory, ReplicaId, Row};
+use cg_group::GroupErr;
 use cg_report::Shown;
 use cg_seat::Seat;
 use cg_transfer::Transfer;
@@ -23,38 +24,35 @@ use std::alloc::Global;
 #[tactic(auto, unfolding(cg_model::specs::Admission::first_refusal, cg_model::specs::Step::happens))]
 pub(crate) fn transfer(
     alloc: Global,
-    state: WorldState,
+    going: &mut Going,
     p: ReplicaId,
     joiner: ReplicaId,
     pieces: u64,
-) -> Happened
-    requires { IsSeated state }
-    ensures { Happens state (TransferEvent p joiner pieces) result }
+) -> Result<(), GroupErr>
+    requires quiet { IsQuiet going.old }
+    requires seated { IsSeated going.old.world }
+    ensures { Happens going.old (TransferEvent p joiner pieces) going.new result }
 {
-    if let Some(reason) = transfer_refused(&state, p, joiner) {
-        return Happened::Refused { state, reason };
-    }
-    done(hand_pieces(alloc, state, p, joiner, pieces))
+    admit(transfer_refused(&going.state, p, joiner))?;
+    hand_pieces(alloc, going, p, joiner, pieces)?;
+    Ok(())
 }
 
 fn hand_pieces(
     alloc: Global,
-    state: WorldState,
+    going: &mut Going,
     p: ReplicaId,
     joiner: ReplicaId,
     pieces: u64,
-) -> Result<Going, NoMemory>
-    requires { is_up state.group joiner ≡ false }
-    ensures { IfOk result (λ g. g ≡ transfer state p joiner pieces) }
+) -> Result<(), NoMemory>
+    requires quiet { IsQuiet going.old }
+    requires down { is_up going.old.world.group joiner ≡ false }
+    ensures { OnOk result (going.new ≡ transfer going.old.world p joiner pieces) }
 {
-    let mut world = state;
-    match choose(&mut world, p, joiner) {
-        Ok(Some(snapshot)) => take(alloc, world, snapshot, pieces),
-        Ok(None) => Ok(Going::quietly(alloc, world)),
-        Err(NoMemory) => {
-            drop(world);
-            Err(NoMemory)
-        }
+    let chosen = choose(&mut going.state, p, joiner)?;
+    match chosen {
+        Some(snapshot) => take(alloc, going, snapshot, pieces),
+        None => Ok(()),
     }
 }
 
@@ -106,37 +104,16 @@ fn copy_of(
     }
 }
 
-// The next pieces are taken, or all that are left.
-fn take(
-    alloc: Global,
-    state: WorldState,
-    snapshot: Transfer,
-    pieces: u64,
-) -> Result<Going, NoMemory>
-    requires { is_up state.group snapshot.joiner ≡ false }
-    ensures { IfOk result (λ g. g ≡ takes state snapshot pieces) }
+// The next pieces are taken, or all that are left, and that is shown.
+fn take(alloc: Global, going: &mut Going, snapshot: Transfer, pieces: u64) -> Result<(), NoMemory>
+    requires quiet { IsQuiet going.old }
+    requires down { is_up going.old.world.group snapshot.joiner ≡ false }
+    ensures { OnOk result (going.new ≡ takes going.old.world snapshot pieces) }
 {
-    match snapshot.take(pieces) {
-        Ok(snapshot) => show_taken(alloc, state, snapshot),
-        Err(NoMemory) => {
-            drop(state);
-            Err(NoMemory)
-        }
-    }
-}
-
-fn show_taken(alloc: Global, state: WorldState, snapshot: Transfer) -> Result<Going, NoMemory>
-    requires { is_up state.group snapshot.joiner ≡ false }
-    ensures { IfOk result (λ g. g ≡ shows_taken state snapshot) }
-{
-    match taken_of(alloc, &snapshot) {
-        Ok(list) => hand_and_show(alloc, state, snapshot, list),
-        Err(NoMemory) => {
-            drop(state);
-            drop(snapshot);
-            Err(NoMemory)
-        }
-    }
+    let snapshot = snapshot.take(pieces)?;
+    let list = taken_of(alloc, &snapshot)?;
+    hand(alloc, &mut going.state, snapshot)?;
+    going.show(list)
 }
 
 // How many pieces were taken, and of how many.
@@ -150,26 +127,6 @@ fn taken_of(alloc: Global, snapshot: &Transfer) -> Result<Row<Shown>, NoMemory>
     let mut list = Row::new(alloc);
     list.push(Shown::Pieces { joiner, taken, all })?;
     Ok(list)
-}
-
-fn hand_and_show(
-    alloc: Global,
-    state: WorldState,
-    snapshot: Transfer,
-    list: Row<Shown>,
-) -> Result<Going, NoMemory>
-    requires { is_up state.group snapshot.joiner ≡ false }
-    ensures { IfOk result (λ g. g ≡ showing (handed state snapshot) list) }
-{
-    let mut world = state;
-    match hand(alloc, &mut world, snapshot) {
-        Ok(()) => Going::quietly(alloc, world).show(list),
-        Err(NoMemory) => {
-            drop(world);
-            drop(list);
-            Err(NoMemory)
-        }
-    }
 }
 
 // The joiner is up where all pieces were taken; or its snapshot is under way.

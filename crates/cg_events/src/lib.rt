@@ -1,7 +1,7 @@
 //! What each event does to the group and to the replicas, and what of it is to be shown.
 //!
-//! A `WorldState` is the world of `cg_model`'s definitions; an event on the way is its `Going`. The one contract:
-//! `happen` is `happens`, or the first refusal.
+//! A `WorldState` is the world of `cg_model`'s definitions; an event on the way is its `Going`, which is changed in place.
+//! The one contract: `happen` makes of it what `happens` says, or tells the first refusal.
 #![tactic(auto)]
 
 mod admission;
@@ -12,7 +12,6 @@ mod given;
 mod going;
 mod grouping;
 mod handing;
-mod happened;
 mod made;
 mod position;
 mod querying;
@@ -24,6 +23,5 @@ mod transfers;
 
 pub use event::happen;
 pub use going::Going;
-pub use happened::Happened;
 pub use state::WorldState;
 pub use touching::touched;

@@ -1,31 +1,37 @@
 //! What is shown of a world that stays as it is.
-ghost use Rattle.std.specs.Prelude.{◌≡◌, [], ◌∷◌, Err, IfOk, MatchResult};
+ghost use Rattle.std.specs.Prelude.{◌≡◌, [], ◌∷◌, IfOk};
 ghost use Rattle.std.specs.Option.{option_map_or};
 ghost use Rattle.cg_client.specs.Queries.{weak_answer, dirty_answer};
 ghost use Rattle.cg_report.specs.declared.entry.Shown.TheVariants.{Weak as ShownWeak, Dirty as ShownDirty, All};
 ghost use Rattle.cg_schedule.specs.declared.event.Event.TheVariants.{Weak, Dirty, Show, ShowOrder};
 ghost use Rattle.cg_model.specs.World.{replica_of};
-ghost use Rattle.cg_model.specs.Step.{showing, shown_of};
+ghost use Rattle.cg_model.specs.Step.{shown_of};
+ghost use Rattle.cg_events.specs.Going.{IsQuiet};
 ghost use Rattle.cg_events.specs.Happening.{Happens};
 
-use crate::admission::{hidden, takes_part};
-use crate::happened::done;
-use crate::{Going, Happened, WorldState};
+use crate::admission::{admit, hidden, takes_part};
+use crate::{Going, WorldState};
 use cg_action::Query;
 use cg_base::{ActionId, IdList, NoMemory, ReplicaId, Row};
+use cg_group::GroupErr;
 use cg_report::Shown;
 use std::alloc::Global;
 
 // A client asks the replica for the answer of its green actions.
 #[tactic(auto, unfolding(cg_model::specs::Admission::first_refusal, cg_model::specs::Step::happens))]
-pub(crate) fn weak(alloc: Global, state: WorldState, p: ReplicaId, query: &Query) -> Happened
-    ensures { Happens state (Weak p query.now) result }
+pub(crate) fn weak(
+    alloc: Global,
+    going: &mut Going,
+    p: ReplicaId,
+    query: &Query,
+) -> Result<(), GroupErr>
+    requires { IsQuiet going.old }
+    ensures { Happens going.old (Weak p query.now) going.new result }
 {
-    if let Some(reason) = takes_part(&state, p) {
-        return Happened::Refused { state, reason };
-    }
-    let found = weak_of(alloc, &state, p, query);
-    done(show_found(alloc, state, found))
+    admit(takes_part(&going.state, p))?;
+    let found = weak_of(alloc, &going.state, p, query)?;
+    going.show(found)?;
+    Ok(())
 }
 
 fn weak_of(
@@ -45,14 +51,19 @@ fn weak_of(
 
 // A client asks the replica for the answer of all actions that it knows.
 #[tactic(auto, unfolding(cg_model::specs::Admission::first_refusal, cg_model::specs::Step::happens))]
-pub(crate) fn dirty(alloc: Global, state: WorldState, p: ReplicaId, query: &Query) -> Happened
-    ensures { Happens state (Dirty p query.now) result }
+pub(crate) fn dirty(
+    alloc: Global,
+    going: &mut Going,
+    p: ReplicaId,
+    query: &Query,
+) -> Result<(), GroupErr>
+    requires { IsQuiet going.old }
+    ensures { Happens going.old (Dirty p query.now) going.new result }
 {
-    if let Some(reason) = takes_part(&state, p) {
-        return Happened::Refused { state, reason };
-    }
-    let found = dirty_of(alloc, &state, p, query);
-    done(show_found(alloc, state, found))
+    admit(takes_part(&going.state, p))?;
+    let found = dirty_of(alloc, &going.state, p, query)?;
+    going.show(found)?;
+    Ok(())
 }
 
 fn dirty_of(
@@ -72,14 +83,14 @@ fn dirty_of(
 
 // The replica shows its green actions and its database.
 #[tactic(auto, unfolding(cg_model::specs::Admission::first_refusal, cg_model::specs::Step::happens))]
-pub(crate) fn show(alloc: Global, state: WorldState, p: ReplicaId) -> Happened
-    ensures { Happens state (Show p) result }
+pub(crate) fn show(alloc: Global, going: &mut Going, p: ReplicaId) -> Result<(), GroupErr>
+    requires { IsQuiet going.old }
+    ensures { Happens going.old (Show p) going.new result }
 {
-    if let Some(reason) = hidden(&state, p) {
-        return Happened::Refused { state, reason };
-    }
-    let found = shown_of(alloc, &state, p);
-    done(show_found(alloc, state, found))
+    admit(hidden(&going.state, p))?;
+    let found = shown_of(alloc, &going.state, p)?;
+    going.show(found)?;
+    Ok(())
 }
 
 fn shown_of(alloc: Global, state: &WorldState, p: ReplicaId) -> Result<Row<Shown>, NoMemory>
@@ -93,11 +104,13 @@ fn shown_of(alloc: Global, state: &WorldState, p: ReplicaId) -> Result<Row<Shown
 
 // The global order is shown.
 #[tactic(auto, unfolding(cg_model::specs::Admission::first_refusal, cg_model::specs::Step::happens))]
-pub(crate) fn show_order(alloc: Global, state: WorldState) -> Happened
-    ensures { Happens state ShowOrder result }
+pub(crate) fn show_order(alloc: Global, going: &mut Going) -> Result<(), GroupErr>
+    requires { IsQuiet going.old }
+    ensures { Happens going.old ShowOrder going.new result }
 {
-    let found = whole_order(alloc, state.order.as_slice());
-    done(show_found(alloc, state, found))
+    let found = whole_order(alloc, going.state.order.as_slice())?;
+    going.show(found)?;
+    Ok(())
 }
 
 fn whole_order(alloc: Global, order: &[ActionId]) -> Result<Row<Shown>, NoMemory>
@@ -107,21 +120,4 @@ fn whole_order(alloc: Global, order: &[ActionId]) -> Result<Row<Shown>, NoMemory
     let mut list = Row::new(alloc);
     list.push(Shown::All(names))?;
     Ok(list)
-}
-
-// What was found is shown of a world that stays as it is.
-fn show_found(
-    alloc: Global,
-    state: WorldState,
-    found: Result<Row<Shown>, NoMemory>,
-) -> Result<Going, NoMemory>
-    ensures { MatchResult found (λ list. IfOk result (λ g. g ≡ showing state list)) (λ e. result ≡ Err e) }
-{
-    match found {
-        Ok(list) => Going::quietly(alloc, state).show(list),
-        Err(NoMemory) => {
-            drop(state);
-            Err(NoMemory)
-        }
-    }
 }

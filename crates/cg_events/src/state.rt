@@ -9,7 +9,7 @@ ghost use Rattle.cg_group.specs.Events.{send_all};
 ghost use Rattle.cg_model.specs.World.{Life, no_world, running, seat_of, set_life, has_begun, replica_of, is_left, left_replicas, up_replicas};
 ghost use Rattle.cg_model.specs.Show.{line_of};
 ghost use Rattle.cg_model.specs.Touched.{new_lines_of};
-ghost use Rattle.cg_events.specs.Going.{said, with_news};
+ghost use Rattle.cg_events.specs.Going.{said, seated, fallen, with_news};
 ghost use Rattle.cg_events.specs.Seating.{with_left};
 
 use crate::given::Given;
@@ -189,6 +189,24 @@ impl WorldState {
         }
     }
 
+    // The replica's seat is this one.
+    pub(crate) fn put(&mut self, seat: Seat) -> Result<(), NoMemory>
+        ensures { OnOk result (self.new ≡ seated self.old seat) }
+    {
+        self.seats.put(seat)
+    }
+
+    // The seat of a replica that went down stands; it leaves the group, and its snapshots end.
+    pub(crate) fn take_down(&mut self, seat: Seat) -> Result<(), NoMemory>
+        ensures { OnOk result (self.new ≡ fallen (seated self.old seat) seat.id) }
+    {
+        let id = seat.id();
+        self.seats.put(seat)?;
+        self.group.down(id);
+        self.transfers.end_of(id);
+        Ok(())
+    }
+
     // A replica says these things to its group, one after another.
     pub(crate) fn say(&mut self, p: ReplicaId, sent: Row<Letter>) -> Result<(), NoMemory>
         ensures { OnOk result (self.new ≡ said self.old p sent) }
@@ -203,29 +221,18 @@ impl WorldState {
         let mut lines = Row::new(self.seats.alloc());
         for seat in self.seats.as_slice() {
             if set.contains(seat.id()) {
-                lines = self.add_line(lines, seat.get())?;
+                self.add_line(&mut lines, seat.get())?;
             }
         }
         Ok(lines)
     }
 
     // The replica's line too, where it is news.
-    fn add_line(&self, lines: Row<Line>, seat: &Seat) -> Result<Row<Line>, NoMemory>
-        ensures { IfOk result (λ all. all ≡ with_news self.now.lines lines (line_of self.now.group seat.now)) }
+    fn add_line(&self, lines: &mut Row<Line>, seat: &Seat) -> Result<(), NoMemory>
+        ensures { OnOk result (lines.new ≡ with_news self.now.lines lines.old (line_of self.now.group seat.now)) }
     {
-        match self.line(seat) {
-            Ok(line) => add_news(&self.lines, lines, line),
-            Err(NoMemory) => {
-                drop(lines);
-                Err(NoMemory)
-            }
-        }
-    }
-
-    fn line(&self, seat: &Seat) -> Result<Line, NoMemory>
-        ensures { IfOk result (λ l. l ≡ line_of self.now.group seat.now) }
-    {
-        seat.line(self.group.phase(seat.id()))
+        let line = seat.line(self.group.phase(seat.id()))?;
+        add_news(&self.lines, lines, line)
     }
 }
 
@@ -239,14 +246,12 @@ fn say_all(group: &mut Group<Letter>, p: ReplicaId, sent: Row<Letter>) -> Result
 }
 
 // The line too, where it is news.
-fn add_news(old: &Lines, lines: Row<Line>, line: Line) -> Result<Row<Line>, NoMemory>
-    ensures { IfOk result (λ all. all ≡ with_news old.now lines line) }
+fn add_news(old: &Lines, lines: &mut Row<Line>, line: Line) -> Result<(), NoMemory>
+    ensures { OnOk result (lines.new ≡ with_news old.now lines.old line) }
 {
-    if !old.is_news(&line) {
-        drop(line);
-        return Ok(lines);
+    if old.is_news(&line) {
+        return lines.push(line);
     }
-    let mut more = lines;
-    more.push(line)?;
-    Ok(more)
+    drop(line);
+    Ok(())
 }

@@ -8,13 +8,13 @@ ghost use Rattle.cg_model.specs.World.{replica_of};
 ghost use Rattle.cg_model.specs.Step.{arm, stop, recover};
 ghost use Rattle.cg_events.specs.Grounds.{IsSeated};
 ghost use Rattle.cg_events.specs.Happening.{Happens};
-ghost use Rattle.cg_events.specs.Going.{seated, fallen};
+ghost use Rattle.cg_events.specs.Going.{IsQuiet, seated, fallen};
 ghost use Rattle.cg_events.specs.Striking.{returned, telling};
 
-use crate::admission::{not_down, takes_part};
-use crate::happened::done;
-use crate::{Going, Happened, WorldState};
+use crate::admission::{admit, not_down, takes_part};
+use crate::{Going, WorldState};
 use cg_base::{Bytes, NoMemory, ReplicaId, Row};
+use cg_group::GroupErr;
 use cg_seat::Seat;
 use cg_show::News;
 use std::alloc::Global;
@@ -24,24 +24,17 @@ use std::alloc::Global;
 #[tactic(auto, unfolding(cg_model::specs::Admission::first_refusal, cg_model::specs::Step::happens))]
 pub(crate) fn stop(
     alloc: Global,
-    state: WorldState,
+    going: &mut Going,
     p: ReplicaId,
     call: u64,
     fill: &Bytes,
-) -> Happened
-    ensures { Happens state (Stop p call fill.now) result }
+) -> Result<(), GroupErr>
+    requires { IsQuiet going.old }
+    ensures { Happens going.old (Stop p call fill.now) going.new result }
 {
-    if let Some(reason) = takes_part(&state, p) {
-        return Happened::Refused { state, reason };
-    }
-    let mut struck = state;
-    match stop_at(alloc, &mut struck, p, call, fill) {
-        Ok(()) => Happened::Done(Going::quietly(alloc, struck)),
-        Err(NoMemory) => {
-            drop(struck);
-            Happened::NoMemory
-        }
-    }
+    admit(takes_part(&going.state, p))?;
+    stop_at(alloc, &mut going.state, p, call, fill)?;
+    Ok(())
 }
 
 fn stop_at(
@@ -73,12 +66,8 @@ fn crash(state: &mut WorldState, p: ReplicaId) -> Result<(), NoMemory>
 fn fall(state: &mut WorldState, seat: Seat) -> Result<(), NoMemory>
     ensures { OnOk result (state.new ≡ fallen (seated state.old (crashed seat.id seat.life)) seat.id) }
 {
-    let id = seat.id();
     let seat = seat.crash()?;
-    state.seats.put(seat)?;
-    state.group.down(id);
-    state.transfers.end_of(id);
-    Ok(())
+    state.take_down(seat)
 }
 
 // A crash is armed, where the replica is up.
@@ -98,21 +87,14 @@ fn arm_stop(state: &mut WorldState, p: ReplicaId, call: u64, fill: Bytes) -> Res
 
 // The device call of this number, from the next one on, fails once.
 #[tactic(auto, unfolding(cg_model::specs::Admission::first_refusal, cg_model::specs::Step::happens))]
-pub(crate) fn fail(alloc: Global, state: WorldState, p: ReplicaId, call: u64) -> Happened
-    requires { 1 ≤ call }
-    ensures { Happens state (Fail p call) result }
+pub(crate) fn fail(going: &mut Going, p: ReplicaId, call: u64) -> Result<(), GroupErr>
+    requires quiet { IsQuiet going.old }
+    requires counted { 1 ≤ call }
+    ensures { Happens going.old (Fail p call) going.new result }
 {
-    if let Some(reason) = takes_part(&state, p) {
-        return Happened::Refused { state, reason };
-    }
-    let mut struck = state;
-    match arm_fail(&mut struck, p, call) {
-        Ok(()) => Happened::Done(Going::quietly(alloc, struck)),
-        Err(NoMemory) => {
-            drop(struck);
-            Happened::NoMemory
-        }
-    }
+    admit(takes_part(&going.state, p))?;
+    arm_fail(&mut going.state, p, call)?;
+    Ok(())
 }
 
 // A fault is armed, where the replica is up.
@@ -132,29 +114,26 @@ fn arm_fail(state: &mut WorldState, p: ReplicaId, call: u64) -> Result<(), NoMem
 
 // The replica comes back from its disk.
 #[tactic(auto, unfolding(cg_model::specs::Admission::first_refusal, cg_model::specs::Step::happens))]
-pub(crate) fn recover(alloc: Global, state: WorldState, p: ReplicaId) -> Happened
-    requires { IsSeated state }
-    ensures { Happens state (Recover p) result }
+pub(crate) fn recover(alloc: Global, going: &mut Going, p: ReplicaId) -> Result<(), GroupErr>
+    requires quiet { IsQuiet going.old }
+    requires seated { IsSeated going.old.world }
+    ensures { Happens going.old (Recover p) going.new result }
 {
-    if let Some(reason) = not_down(&state, p) {
-        return Happened::Refused { state, reason };
-    }
-    done(recover_down(alloc, state, p))
+    admit(not_down(&going.state, p))?;
+    recover_down(alloc, going, p)?;
+    Ok(())
 }
 
-fn recover_down(alloc: Global, state: WorldState, p: ReplicaId) -> Result<Going, NoMemory>
-    requires seated { IsSeated state }
-    requires down { is_some (replica_of state p) ≡ false }
-    ensures { IfOk result (λ g. g ≡ recover state p) }
+fn recover_down(alloc: Global, going: &mut Going, p: ReplicaId) -> Result<(), NoMemory>
+    requires quiet { IsQuiet going.old }
+    requires seated { IsSeated going.old.world }
+    requires down { is_some (replica_of going.old.world p) ≡ false }
+    ensures { OnOk result (going.new ≡ recover going.old.world p) }
 {
-    let mut up = state;
-    match come_up(alloc, &mut up, p) {
-        Ok(Some(news)) => Going::quietly(alloc, up).tell(news),
-        Ok(None) => Ok(Going::quietly(alloc, up)),
-        Err(NoMemory) => {
-            drop(up);
-            Err(NoMemory)
-        }
+    let news = come_up(alloc, &mut going.state, p)?;
+    match news {
+        Some(news) => going.tell(news),
+        None => Ok(()),
     }
 }
 

@@ -14,8 +14,8 @@ use cg_agree::{
     others_show_nothing_new,
 };
 use cg_base::{IdSet, NoMemory};
-use cg_events::{Going, Happened, WorldState, happen, touched};
-use cg_group::Reason;
+use cg_events::{Going, WorldState, happen, touched};
+use cg_group::{GroupErr, Reason};
 use cg_report::Entry;
 use cg_schedule::Event;
 use std::alloc::Global;
@@ -41,13 +41,18 @@ impl World {
         made_actions_stand_in_the_book();
         others_show_nothing_new();
         let World { state, made } = self;
-        match happen(alloc, state, event) {
-            Happened::Done(going) => finish(alloc, made, going, &touched(event)),
-            Happened::Refused { state, reason } => Stepped::Refused {
-                world: World { state, made },
+        let mut going = Going::quietly(alloc, state);
+        match happen(alloc, &mut going, event) {
+            Ok(()) => finish(alloc, made, going, &touched(event)),
+            Err(GroupErr::Refused(reason)) => Stepped::Refused {
+                world: World {
+                    state: going.into_state(),
+                    made,
+                },
                 reason,
             },
-            Happened::NoMemory => {
+            Err(GroupErr::NoMemory) => {
+                drop(going);
                 drop(made);
                 Stepped::NoMemory
             }

@@ -8,5 +8,5 @@ use Rattle.cg_events.proofs.beginning.begin_all.Given as goal
 -- the members that are left begin as all of them do
 abbrev pub invariant-loop-p : goal.invariant-loop-p
 invariant-loop-p l =
-    (fold (begin_replica l.set) l.begun (members_left l.p-iterator) ≡ fold (begin_replica l.set) l.fn.state (ids l.set))
-    × AreStillDown l.begun.group 0 (members_left l.p-iterator)
+    (fold (begin_replica l.set) l.state (members_left l.p-iterator) ≡ fold (begin_replica l.set) l.fn.state (ids l.set))
+    × AreStillDown l.state.group 0 (members_left l.p-iterator)

@@ -1,6 +1,13 @@
-use Rattle.std.proofs.Common.{sym, ◌∙◌}
+use Rattle.std.proofs.Common.{◌≡◌, false, sym, subst, ◌∙◌}
+use Rattle.cg_group.specs.State.{is_up}
+use Rattle.cg_model.specs.Show.{Going}
+use Rattle.cg_events.specs.Grounds.{IsSeated}
+use Rattle.cg_events.proofs.FirstReasons.{admitted}
 use Rattle.cg_events.proofs.TransferFacts.{joiner-down}
 use Rattle.cg_events.proofs.handing.transfer.Goals as goal
 
-pub hand_pieces-requires : goal.hand_pieces-requires
-hand_pieces-requires c = joiner-down c.args.state c.args.p c.args.joiner c.requires (sym c.transfer_refused.ensures ∙ c.in_default.is)
+pub hand_pieces-requires-clause-down : goal.hand_pieces-requires-clause-down
+hand_pieces-requires-clause-down c =
+    subst (λ (g : Going). is_up g.world.group c.args.joiner ≡ false) c.going.view_is
+    (joiner-down c.going.inside.state c.args.p c.args.joiner (subst (λ (g : Going). IsSeated g.world) (sym c.going.view_is) c.requires.seated)
+    (sym c.transfer_refused.ensures ∙ admitted c.transfer_refused.result _ c.in_ok-admit.ensures))

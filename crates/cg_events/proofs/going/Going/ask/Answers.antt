@@ -1,4 +1,4 @@
-use Rattle.std.proofs.Common.{◌≡◌, IfOk, subst}
+use Rattle.std.proofs.Common.{◌≡◌, OnOk, subst}
 use Rattle.cg_client.specs.Calls.{kind_of}
 use Rattle.cg_step.specs.Step.{Asks}
 use Rattle.cg_model.specs.Show.{Going}
@@ -7,12 +7,12 @@ use Rattle.cg_events.proofs.going.Going.ask.Goals as goal
 
 pub hand_request-requires-clause-booked : goal.hand_request-requires-clause-booked
 hand_request-requires-clause-booked c =
-    (c.requires.booked.0, seat-booked c.requires.booked.0 _ c.args.self c.args.p (Asks (kind_of c.args.request)) c.in-Some.seat c.self.view_is c.in-Some.ensures.0 c.requires.booked.1)
+    (c.requires.booked.0, seat-booked c.requires.booked.0 _ c.args.self.now c.args.p (Asks (kind_of c.args.request)) c.in-Some.seat c.self.view_is c.in-Some.ensures.0 c.requires.booked.1)
 
 pub returns-in-Some : goal.returns-in-Some
 returns-in-Some c =
-    subst (λ (g : Going). IfOk c.hand_request.result (λ x. x ≡ g))
-    (seat-hands _ c.args.self c.take_up.new.self c.args.p (Asks (kind_of c.args.request)) c.in-Some.seat c.self.view_is c.in-Some.ensures) c.hand_request.ensures
+    subst (λ (g : Going). OnOk c.hand_request.result (c.hand_request.new.self ≡ g))
+    (seat-hands _ c.args.self.now c.take_up.new.self c.args.p (Asks (kind_of c.args.request)) c.in-Some.seat c.self.view_is c.in-Some.ensures) c.hand_request.ensures
 
 pub returns-in-None : goal.returns-in-None
-returns-in-None c = nobody-hands _ c.args.self c.take_up.new.self c.args.p (Asks (kind_of c.args.request)) c.self.view_is c.in-None.ensures
+returns-in-None c = nobody-hands _ c.args.self.now c.take_up.new.self c.args.p (Asks (kind_of c.args.request)) c.self.view_is c.in-None.ensures

@@ -1,4 +1,4 @@
-use Rattle.std.proofs.Common.{◌≡◌, IfOk, subst}
+use Rattle.std.proofs.Common.{◌≡◌, OnOk, subst}
 use Rattle.cg_step.specs.Step.{Deliveries}
 use Rattle.cg_model.specs.Show.{Going}
 use Rattle.cg_events.proofs.HandFacts.{nobody-hands, seat-hands, seat-booked}
@@ -6,12 +6,12 @@ use Rattle.cg_events.proofs.going.Going.deliver.Goals as goal
 
 pub hand_list-requires : goal.hand_list-requires
 hand_list-requires c =
-    (c.requires.0, seat-booked c.requires.0 _ c.args.self c.args.h.to (Deliveries c.args.h.list) c.in-Some.seat c.self.view_is c.in-Some.ensures.0 c.requires.1)
+    (c.requires.0, seat-booked c.requires.0 _ c.args.self.now c.args.h.to (Deliveries c.args.h.list) c.in-Some.seat c.self.view_is c.in-Some.ensures.0 c.requires.1)
 
 pub returns-in-Some : goal.returns-in-Some
 returns-in-Some c =
-    subst (λ (g : Going). IfOk c.hand_list.result (λ x. x ≡ g))
-    (seat-hands _ c.args.self c.take_up.new.self c.args.h.to (Deliveries c.args.h.list) c.in-Some.seat c.self.view_is c.in-Some.ensures) c.hand_list.ensures
+    subst (λ (g : Going). OnOk c.hand_list.result (c.hand_list.new.self ≡ g))
+    (seat-hands _ c.args.self.now c.take_up.new.self c.args.h.to (Deliveries c.args.h.list) c.in-Some.seat c.self.view_is c.in-Some.ensures) c.hand_list.ensures
 
 pub returns-in-None : goal.returns-in-None
-returns-in-None c = nobody-hands _ c.args.self c.take_up.new.self c.args.h.to (Deliveries c.args.h.list) c.self.view_is c.in-None.ensures
+returns-in-None c = nobody-hands _ c.args.self.now c.take_up.new.self c.args.h.to (Deliveries c.args.h.list) c.self.view_is c.in-None.ensures

@@ -9,5 +9,5 @@ use Rattle.cg_events.proofs.going.Going.hand_out.Given as goal
 -- those that are left lead to where all lead, and are booked in their turn
 abbrev pub invariant-loop-h : goal.invariant-loop-h
 invariant-loop-h l =
-    (fold hand_over l.going (into_iter_items l.h-iterator) ≡ fold hand_over l.fn.self l.fn.handed)
-    × ((book : ActionId → Action) × AreBookedInTurn book l.going (into_iter_items l.h-iterator))
+    (fold hand_over l.self (into_iter_items l.h-iterator) ≡ fold hand_over l.fn.self l.fn.handed)
+    × ((book : ActionId → Action) × AreBookedInTurn book l.self (into_iter_items l.h-iterator))
