@@ -17,6 +17,9 @@ use cg_json::json;
 use cg_report::{Entry, put_entry};
 use std::alloc::Global;
 
+/// Room for the text of an entry, in bytes: most are shorter.
+const ENTRY_ROOM: usize = 512;
+
 /// Puts a text, unless it is empty.
 pub fn put_text<K: Sink>(alloc: Global, output: &mut K, text: &[u8]) -> Result<(), Status>
     requires { (K.view output.old).faults < 2 ^ 62 }
@@ -88,7 +91,10 @@ fn put_entry_in(
     ensures { OnOk result (out.new.items ≡ out.old.items ++ entry_in report number entry.now) }
 {
     match report {
-        Report::Whole => put_entry(out, number, entry),
+        Report::Whole => {
+            out.reserve(ENTRY_ROOM)?;
+            put_entry(out, number, entry)
+        }
         Report::Tail => Ok(()),
         Report::Json => json(number, entry, out),
     }
