@@ -63,6 +63,10 @@ unfoldable pub std_computes : ⊤
 unfolding chars is_utf8 digits encode_utf8
 std_computes = tt
 
+unfoldable pub json_computes : ⊤
+unfolding escape_byte
+json_computes = tt
+
 unfoldable pub base_computes : ⊤
 unfolding every_replica
 base_computes = tt
