@@ -19,6 +19,4 @@ mod plan;
 #[cfg(test)]
 mod queue;
 #[cfg(test)]
-mod relaxed;
-#[cfg(test)]
 mod voting;
