@@ -1,18 +1,20 @@
 -- Names of actions held as runs: one run more, and that the names say which runs they are.
-use Rattle.std.proofs.Common.{◌≡◌, ℕ, zero, suc, ◌+◌, ◌-◌, ◌<◌, ◌≤◌, List, [], ◌∷◌, ◌++◌, append_assoc, length, map, get_or, set, take, drop, Bool, true, false, cond, eqb, ◌&&◌, refl, sym, ap, subst, ◌∙◌, arith, inl, inr}
+use Rattle.std.proofs.Common.{◌≡◌, ℕ, zero, suc, ◌+◌, ◌-◌, ◌<◌, ◌≤◌, ◌^◌, List, [], ◌∷◌, ◌++◌, append_assoc, length, map, get_or, set, take, drop, Bool, true, false, cond, eqb, ◌&&◌, refl, sym, ap, subst, ◌∙◌, arith, inl, inr}
 use Rattle.std.specs.Bool.{Decides}
-use Rattle.std.specs.List.{flat_map}
+use Rattle.std.specs.List.{All, flat_map}
 use Rattle.std.specs.Cmp.Lexicographic.{pointwise, pointwise_decides}
 use Rattle.std.proofs.lemmas.Bool.{cases_Bool, eq-eqb, eqb-true, and_parts, and_from, false_from_ne_true}
 use Rattle.std.proofs.lemmas.List.{map-append, append-nil, set_at, take_more, take_all, length-take-le}
 use Rattle.std.proofs.lemmas.List.Concat.{flat_map-append}
+use Rattle.std.proofs.lemmas.List.Elements.{All-nil, All-cons, All-append}
 use Rattle.cg_base.specs.declared.action_id.ActionId.{ActionId}
 use Rattle.cg_base.specs.declared.id_runs.IdRun.{IdRun}
 use Rattle.cg_base.specs.Lists.{count_up, above_up_to}
 use Rattle.cg_base.specs.Ids.{same_id}
 use Rattle.cg_base.proofs.CutLemmas.{same_id-Decides}
 use Rattle.cg_base.specs.Text.{id_text, with_commas}
-use Rattle.cg_base.specs.IdRuns.{names_above, ids_of, ids_in, goes_on, Ends, AreRuns}
+use Rattle.cg_base.specs.IdRuns.{names_above, ids_of, ids_in, goes_on, Ends, AreRuns, AreOfReplicas}
+use Rattle.cg_base.specs.Sets.{IsId}
 
 -- ---- one run more
 
@@ -55,15 +57,17 @@ AreRuns-last : (runs : List IdRun) (a : IdRun) → AreRuns (runs ++ a ∷ []) �
 AreRuns-last [] a are = are.0
 AreRuns-last (r ∷ runs) a are = AreRuns-last runs a are.2
 
-AreRuns-longer : (runs : List IdRun) (a : IdRun) (last : ℕ) → AreRuns (runs ++ a ∷ []) → a.last ≤ last → AreRuns (runs ++ record a { last = last } ∷ [])
-AreRuns-longer [] a last are le = let own : a.first ≤ a.last = are.0 in (omega arith, tt, tt)
-AreRuns-longer (r ∷ []) a last are le = (are.0, are.1, AreRuns-longer [] a last are.2 le)
-AreRuns-longer (r ∷ s ∷ runs) a last are le = (are.0, are.1, AreRuns-longer (s ∷ runs) a last are.2 le)
+AreRuns-longer : (runs : List IdRun) (a : IdRun) (last : ℕ) → AreRuns (runs ++ a ∷ []) → a.last ≤ last → last < 2 ^ 64 →
+    AreRuns (runs ++ record a { last = last } ∷ [])
+AreRuns-longer [] a last are le fits = let own : a.first ≤ a.last = are.0 in (omega arith, tt, tt, fits)
+AreRuns-longer (r ∷ []) a last are le fits = (are.0, are.1, AreRuns-longer [] a last are.2 le fits, are.3)
+AreRuns-longer (r ∷ s ∷ runs) a last are le fits = (are.0, are.1, AreRuns-longer (s ∷ runs) a last are.2 le fits, are.3)
 
-AreRuns-more : (runs : List IdRun) (a run : IdRun) → AreRuns (runs ++ a ∷ []) → run.first ≤ run.last → goes_on a run ≡ false → AreRuns ((runs ++ a ∷ []) ++ run ∷ [])
-AreRuns-more [] a run are le off = (are.0, off, (le, tt, tt))
-AreRuns-more (r ∷ []) a run are le off = (are.0, are.1, AreRuns-more [] a run are.2 le off)
-AreRuns-more (r ∷ s ∷ runs) a run are le off = (are.0, are.1, AreRuns-more (s ∷ runs) a run are.2 le off)
+AreRuns-more : (runs : List IdRun) (a run : IdRun) → AreRuns (runs ++ a ∷ []) → run.first ≤ run.last → run.last < 2 ^ 64 →
+    goes_on a run ≡ false → AreRuns ((runs ++ a ∷ []) ++ run ∷ [])
+AreRuns-more [] a run are le fits off = (are.0, off, (le, tt, tt, fits), are.3)
+AreRuns-more (r ∷ []) a run are le fits off = (are.0, are.1, AreRuns-more [] a run are.2 le fits off, are.3)
+AreRuns-more (r ∷ s ∷ runs) a run are le fits off = (are.0, are.1, AreRuns-more (s ∷ runs) a run are.2 le fits off, are.3)
 
 -- the last of the runs, and those before it
 split_last : (runs : List IdRun) (count : ℕ) (a : IdRun) → count ≡ length runs → 0 < count → a ≡ get_or runs (count - 1) a → runs ≡ take (count - 1) runs ++ a ∷ []
@@ -78,12 +82,12 @@ module _ (runs : List IdRun) (count : ℕ) (a run : IdRun) (all : count ≡ leng
       ap (λ rs. set rs (count - 1) b) (split_last runs count a all some there)
       ∙ set_at (take (count - 1) runs) a [] b (count - 1) (length-take-le (count - 1) runs (omega arith))
 
-  pub longer-runs : AreRuns runs → run.first ≤ run.last → goes_on a run ≡ true → AreRuns (set runs (count - 1) (record a { last = run.last }))
-  longer-runs are le on =
+  pub longer-runs : AreRuns runs → run.first ≤ run.last → run.last < 2 ^ 64 → goes_on a run ≡ true → AreRuns (set runs (count - 1) (record a { last = run.last }))
+  longer-runs are le fits on =
       let parts = and_parts (eqb a.creator run.creator) (eqb (suc a.last) run.first) on in
       let first : suc a.last ≡ run.first = eqb-true (suc a.last) run.first parts.1 in
       let old : AreRuns (take (count - 1) runs ++ a ∷ []) = subst AreRuns (split_last runs count a all some there) are in
-      subst AreRuns (sym (set_last (record a { last = run.last }))) (AreRuns-longer (take (count - 1) runs) a run.last old (omega arith))
+      subst AreRuns (sym (set_last (record a { last = run.last }))) (AreRuns-longer (take (count - 1) runs) a run.last old (omega arith) fits)
 
   pub longer-ids : AreRuns runs → run.first ≤ run.last → goes_on a run ≡ true → ids_in (set runs (count - 1) (record a { last = run.last })) ≡ ids_in runs ++ ids_of run
   longer-ids are le on =
@@ -97,14 +101,69 @@ module _ (runs : List IdRun) (count : ℕ) (a run : IdRun) (all : count ≡ leng
       ∙ sym (append_assoc (ids_in front) (ids_of a) (ids_of run))
       ∙ ap (λ ids. ids ++ ids_of run) (ap (λ ids. ids_in front ++ ids) (sym (append-nil (ids_of a))) ∙ sym (flat_map-append ids_of front (a ∷ [])) ∙ ap ids_in (sym (split_last runs count a all some there)))
 
-  pub more-runs : AreRuns runs → run.first ≤ run.last → goes_on a run ≡ false → AreRuns (runs ++ run ∷ [])
-  more-runs are le off =
+  pub more-runs : AreRuns runs → run.first ≤ run.last → run.last < 2 ^ 64 → goes_on a run ≡ false → AreRuns (runs ++ run ∷ [])
+  more-runs are le fits off =
       let old : AreRuns (take (count - 1) runs ++ a ∷ []) = subst AreRuns (split_last runs count a all some there) are in
-      subst (λ rs. AreRuns (rs ++ run ∷ [])) (sym (split_last runs count a all some there)) (AreRuns-more (take (count - 1) runs) a run old le off)
+      subst (λ rs. AreRuns (rs ++ run ∷ [])) (sym (split_last runs count a all some there)) (AreRuns-more (take (count - 1) runs) a run old le fits off)
 
-pub first-run : (runs : List IdRun) (run : IdRun) → length runs ≤ 0 → run.first ≤ run.last → AreRuns (runs ++ run ∷ [])
-first-run [] run none le = (le, tt, tt)
-first-run (r ∷ runs) run none le = absurd (omega arith)
+pub first-run : (runs : List IdRun) (run : IdRun) → length runs ≤ 0 → run.first ≤ run.last → run.last < 2 ^ 64 →
+    AreRuns (runs ++ run ∷ [])
+first-run [] run none le fits = (le, tt, tt, fits)
+first-run (r ∷ runs) run none le fits = absurd (omega arith)
+
+-- ---- the indexes of names that are held as runs are within 64 bits
+
+abbrev pub Fits : ActionId → Type 0
+Fits id = id.index < 2 ^ 64
+
+above_fit : (creator from count last : ℕ) → from + count ≤ suc last → last < 2 ^ 64 →
+    All Fits (map (λ n. record { creator = creator; index = n }) (count_up from count))
+above_fit creator from zero last le fits = All-nil Fits
+above_fit creator from (suc count) last le fits =
+    All-cons Fits (record { creator = creator; index = from })
+    (map (λ n. record { creator = creator; index = n }) (count_up (suc from) count)) (omega arith)
+    (above_fit creator (suc from) count last (omega arith) fits)
+
+run_fits : (run : IdRun) → run.first ≤ run.last → run.last < 2 ^ 64 → All Fits (ids_of run)
+run_fits run le fits =
+    All-cons Fits (record { creator = run.creator; index = run.first }) (names_above run.first run.last run.creator)
+    (omega arith) (above_fit run.creator (suc run.first) (run.last - run.first) run.last (omega arith) fits)
+
+pub runs_fit : (runs : List IdRun) → AreRuns runs → All Fits (ids_in runs)
+runs_fit [] are = All-nil Fits
+runs_fit (r ∷ runs) are = All-append Fits (ids_of r) (ids_in runs) (run_fits r are.0 are.3) (runs_fit runs are.2)
+
+-- ---- the names are of replicas where the runs are
+
+abbrev pub IsNamed : ActionId → Type 0
+IsNamed id = IsId id.creator
+
+above_named : (creator : ℕ) (indexes : List ℕ) → IsId creator →
+    All IsNamed (map (λ n. record { creator = creator; index = n }) indexes)
+above_named creator [] is = All-nil IsNamed
+above_named creator (n ∷ indexes) is =
+    All-cons IsNamed (record { creator = creator; index = n })
+    (map (λ n. record { creator = creator; index = n }) indexes) is (above_named creator indexes is)
+
+run_named : (run : IdRun) → IsId run.creator → All IsNamed (ids_of run)
+run_named run is =
+    All-cons IsNamed (record { creator = run.creator; index = run.first }) (names_above run.first run.last run.creator)
+    is (above_named run.creator (above_up_to run.first run.last) is)
+
+pub runs_named : (runs : List IdRun) → AreOfReplicas runs → All IsNamed (ids_in runs)
+runs_named [] are = All-nil IsNamed
+runs_named (r ∷ runs) are = All-append IsNamed (ids_of r) (ids_in runs) (run_named r are.0) (runs_named runs are.1)
+
+named-more : (runs : List IdRun) (run : IdRun) → AreOfReplicas runs → IsId run.creator → AreOfReplicas (runs ++ run ∷ [])
+named-more [] run are is = (is, tt)
+named-more (r ∷ runs) run are is = (are.0, named-more runs run are.1 is)
+
+-- one run more of those seen
+pub named-next : (runs : List IdRun) (i : ℕ) (run : IdRun) → i < length runs → run ≡ get_or runs i run →
+    AreOfReplicas (take i runs) → IsId run.creator → AreOfReplicas (take (i + 1) runs)
+named-next runs i run lt there are is =
+    subst AreOfReplicas (sym (take_more runs i run lt ∙ ap (λ r. take i runs ++ r ∷ []) (sym there)))
+    (named-more (take i runs) run are is)
 
 -- ---- equal names have equal runs
 

@@ -1,5 +1,5 @@
 ghost use Rattle.std.specs.Prelude.{◌≡◌, ◌≤◌, ◌∷◌, [], ◌++◌, drop, OnOk, OnErr, IfOk};
-ghost use Rattle.cg_base.specs.IdRuns.{ids_of, ids_in, goes_on, AreRuns};
+ghost use Rattle.cg_base.specs.IdRuns.{ids_of, ids_in, goes_on, AreRuns, AreOfReplicas};
 
 use crate::{ActionId, NoMemory, ReplicaId};
 use std::alloc::Global;
@@ -33,7 +33,10 @@ impl Model for IdRuns {
 }
 
 impl IdRuns {
+    ghost use Rattle.std.specs.Prelude.{◌<◌, ◌^◌};
+    ghost use Rattle.std.specs.List.{All};
     ghost use Rattle.cg_base.specs.IdRuns.{names_above};
+    ghost use Rattle.cg_base.specs.Sets.{IsId};
 
     pub fn new(alloc: Global) -> IdRuns
         ensures { result ≡ [] }
@@ -86,6 +89,20 @@ impl IdRuns {
         let runs = Vec::from_slice(alloc, self.runs.as_slice())?;
         Ok(IdRuns { runs })
     }
+
+    /// The indexes of the names are within 64 bits: what always holds of a value.
+    pub fn indexes_fit(&self)
+        ensures { All (λ id. id.index < 2 ^ 64) self.now }
+    {
+        let _runs = &self.runs;
+    }
+
+    /// The names are of replicas: what always holds of a value, too.
+    pub fn creators_fit(&self)
+        ensures { All (λ id. IsId id.creator) self.now }
+    {
+        creators_fit(self.runs.as_slice());
+    }
 }
 
 impl PartialEq for IdRuns {
@@ -126,6 +143,14 @@ fn add_run(runs: &mut Vec<IdRun>, run: IdRun) -> Result<(), NoMemory>
     }
     runs.push(run)?;
     Ok(())
+}
+
+fn creators_fit(runs: &[IdRun])
+    ensures { AreOfReplicas runs.now }
+{
+    for run in runs {
+        let _creator = run.creator.get();
+    }
 }
 
 fn drop_name(runs: &mut Vec<IdRun>)

@@ -1,6 +1,7 @@
 //! Writers of fields.
 
-ghost use Rattle.std.specs.Prelude.{◌≡◌, ◌<◌, ◌^◌, ◌++◌, length, take, OnOk, OnErr};
+ghost use Rattle.std.specs.Prelude.{◌≡◌, ◌<◌, ◌++◌, length, take, OnOk, OnErr};
+ghost use Rattle.cg_base.specs.declared.limits.TheConstants.{LIST_LIMIT};
 ghost use Rattle.cg_codec.specs.Fields.{byte, number32, number64, signed64, text, truth as truth_bytes, spelled_id};
 
 use byteorder::{BigEndian, ByteOrder};
@@ -81,7 +82,7 @@ fn write_action_id(out: &mut Vec<u8>, v: &ActionId) -> Result<(), NoMemory>
 
 /// Puts a text at the end: how many bytes it has, in four bytes, and these.
 pub fn put_text(out: &mut Vec<u8>, t: &str) -> Result<(), NoMemory>
-    requires { length t.now < 2 ^ 32 }
+    requires { length t.now < LIST_LIMIT }
     ensures ok { OnOk result (out.new.items ≡ out.old.items ++ text t.now) }
     ensures err { OnErr result (out.new.items ≡ out.old.items) }
 {
@@ -95,7 +96,7 @@ pub fn put_text(out: &mut Vec<u8>, t: &str) -> Result<(), NoMemory>
 
 #[tactic(auto, unfolding(crate::specs::Fields::text))]
 fn put_counted(out: &mut Vec<u8>, bytes: &[u8]) -> Result<(), NoMemory>
-    requires { length bytes.now < 2 ^ 32 }
+    requires { length bytes.now < LIST_LIMIT }
     ensures ok { OnOk result (out.new.items ≡ out.old.items ++ text bytes.now) }
     ensures err { OnErr result (take (length out.old.items) out.new.items ≡ out.old.items) }
 {

@@ -1,5 +1,6 @@
 //! Writes to bytes in memory.
-ghost use Rattle.std.specs.Prelude.{◌≡◌, ◌+◌, ◌<◌, ◌≤◌, ◌^◌, ◌-◌, ◌++◌, min, length, OnOk, OnErr, IfOk, take, drop};
+ghost use Rattle.std.specs.Prelude.{◌≡◌, ◌+◌, ◌<◌, ◌≤◌, ◌-◌, ◌++◌, min, length, OnOk, OnErr, IfOk, take, drop};
+ghost use Rattle.cg_base.specs.declared.limits.TheConstants.{NUMBER_LIMIT};
 ghost use Rattle.cg_disk.specs.Writes.{overwritten};
 
 use cg_base::NoMemory;
@@ -10,7 +11,7 @@ pub fn overwrite(bytes: &mut Vec<u8>, place: usize, new: &[u8]) -> Result<(), No
     requires { place ≤ length bytes.old.items }
     ensures ok { OnOk result (bytes.new.items ≡ overwritten bytes.old.items place new.now) }
     ensures err { OnErr result (bytes.new.items ≡ bytes.old.items) }
-    ensures short { OnOk result (place + length new.now < 2 ^ 63) }
+    ensures short { OnOk result (place + length new.now < NUMBER_LIMIT) }
 {
     let over = new.len().min(bytes.len() - place);
     bytes.extend_from_slice(&new[over..])?;

@@ -1,5 +1,6 @@
 //! A disk as the layers above see it.
-ghost use Rattle.std.specs.Prelude.{◌≡◌, ◌+◌, ◌^◌, ◌<◌, ◌≤◌, length, take, drop, IfOk, OnOk, IsErrOf};
+ghost use Rattle.std.specs.Prelude.{◌≡◌, ◌+◌, ◌<◌, ◌≤◌, length, take, drop, IfOk, OnOk, IsErrOf};
+ghost use Rattle.cg_base.specs.declared.limits.TheConstants.{COUNT_LIMIT, NUMBER_LIMIT};
 ghost use Rattle.cg_disk.specs.Sides.{bytes_of, with_bytes};
 ghost use Rattle.cg_disk.specs.Writes.{Only, Follows, TornSide, overwritten};
 ghost use Rattle.cg_disk.specs.State.{looked, synced, wrote};
@@ -33,8 +34,8 @@ pub trait Disk {
 
     /// The number of bytes on a side.
     fn size(&mut self, side: Side) -> Result<u64, DiskFault>
-        requires { (view self.old).time < 2 ^ 62 }
-        ensures size { IfOk result (λ n. (n ≡ length (bytes_of side (view self.old).reads)) × (n < 2 ^ 63)) }
+        requires { (view self.old).time < COUNT_LIMIT }
+        ensures size { IfOk result (λ n. (n ≡ length (bytes_of side (view self.old).reads)) × (n < NUMBER_LIMIT)) }
         ensures looks { Looks (view self.old) (view self.new) }
         ensures ends { Ends looked looked (view self.old) (view self.new) result }
         ensures images { HasImages (view self.new) }
@@ -42,7 +43,7 @@ pub trait Disk {
 
     /// The bytes of a side from an offset on, as many as the buffer has.
     fn read(&mut self, side: Side, place: u64, buf: &mut [u8]) -> Result<(), DiskFault>
-        requires calls { (view self.old).time < 2 ^ 62 }
+        requires calls { (view self.old).time < COUNT_LIMIT }
         requires inside { place + length buf.old ≤ length (bytes_of side (view self.old).reads) }
         ensures bytes { OnOk result (buf.new ≡
             take (length buf.old) (drop place (bytes_of side (view self.old).reads))) }
@@ -53,11 +54,11 @@ pub trait Disk {
 
     /// Writes over what is there, and past the end. Until a sync a crash may leave any bytes in the range.
     fn write_at(&mut self, side: Side, place: u64, bytes: &[u8]) -> Result<(), DiskFault>
-        requires calls { (view self.old).time < 2 ^ 62 }
+        requires calls { (view self.old).time < COUNT_LIMIT }
         requires inside { place ≤ length (bytes_of side (view self.old).reads) }
         ensures written { OnOk result ((view self.new).reads ≡
             with_bytes side (overwritten (bytes_of side (view self.old).reads) place bytes.now) (view self.old).reads) }
-        ensures short { OnOk result (place + length bytes.now < 2 ^ 63) }
+        ensures short { OnOk result (place + length bytes.now < NUMBER_LIMIT) }
         ensures crash { Follows (TornSide side place (length bytes.now)) (view self.old).may_leave
             (view self.new).may_leave }
         ensures elapses { Elapses (view self.old) (view self.new) }
@@ -67,7 +68,7 @@ pub trait Disk {
 
     /// After it a crash leaves what a read gives.
     fn sync(&mut self) -> Result<(), DiskFault>
-        requires { (view self.old).time < 2 ^ 62 }
+        requires { (view self.old).time < COUNT_LIMIT }
         ensures durable { OnOk result (Only (view self.old).reads (view self.new).may_leave) }
         ensures looks { Looks (view self.old) (view self.new) }
         ensures ends { Ends synced looked (view self.old) (view self.new) result }

@@ -1,5 +1,6 @@
 //! A disk in memory.
-ghost use Rattle.std.specs.Prelude.{◌≡◌, ◌+◌, ◌<◌, ◌≤◌, ◌^◌, [], length, OnOk, OnErr, reverse, vec_len, vec_capacity};
+ghost use Rattle.std.specs.Prelude.{◌≡◌, ◌+◌, ◌<◌, ◌≤◌, [], length, OnOk, OnErr, reverse, vec_len, vec_capacity};
+ghost use Rattle.cg_base.specs.declared.limits.TheConstants.{COUNT_LIMIT, NUMBER_LIMIT};
 ghost use Rattle.cg_disk.specs.Past.{last_call};
 
 use crate::armed::Armed;
@@ -128,7 +129,7 @@ impl ModelDisk {
 
     // Counts a call, and strikes it where that is armed.
     fn count(&mut self) -> Result<(), DiskFault>
-        requires { self.old.calls < 2 ^ 62 }
+        requires { self.old.calls < COUNT_LIMIT }
         ensures { Counts self.old self.new result }
     {
         self.calls += 1;
@@ -157,7 +158,7 @@ impl ModelDisk {
 
     // A call that only looks.
     fn look(&mut self) -> Result<(), DiskFault>
-        requires { self.old.calls < 2 ^ 62 }
+        requires { self.old.calls < COUNT_LIMIT }
         ensures looks { Looks (view_of self.old) (view_of self.new) }
         ensures ends { Ends looked looked (view_of self.old) (view_of self.new) result }
         ensures images { HasImages (view_of self.new) }
@@ -171,7 +172,7 @@ impl ModelDisk {
         requires { place ≤ length (bytes_of side (view_of self.old).reads) }
         ensures ok { OnOk result (IsWritten side place bytes.now self.old self.new) }
         ensures err { OnErr result (SameSides self.old self.new) }
-        ensures short { OnOk result (place + length bytes.now < 2 ^ 63) }
+        ensures short { OnOk result (place + length bytes.now < NUMBER_LIMIT) }
         ensures armed { self.new.armed ≡ self.old.armed }
         ensures calls { self.new.calls ≡ self.old.calls }
         ensures faults { self.new.faults ≡ self.old.faults }

@@ -1,5 +1,6 @@
 //! A side of a disk in memory.
-ghost use Rattle.std.specs.Prelude.{◌≡◌, ◌+◌, ◌<◌, ◌≤◌, ◌^◌, [], length, OnOk, OnErr, reverse};
+ghost use Rattle.std.specs.Prelude.{◌≡◌, ◌+◌, ◌<◌, ◌≤◌, [], length, OnOk, OnErr, reverse};
+ghost use Rattle.cg_base.specs.declared.limits.TheConstants.{NUMBER_LIMIT};
 ghost use Rattle.cg_disk.specs.Undo.{undone};
 
 use crate::bytes::{overwrite, written_over};
@@ -38,7 +39,7 @@ impl ModelSide {
         ensures ok { OnOk result (side_of self.new ≡ wrote_side place bytes.now (side_of self.old)) }
         ensures bytes { OnErr result (self.new.bytes.items ≡ self.old.bytes.items) }
         ensures unsynced { OnErr result (self.new.unsynced.items ≡ self.old.unsynced.items) }
-        ensures short { OnOk result (place + length bytes.now < 2 ^ 63) }
+        ensures short { OnOk result (place + length bytes.now < NUMBER_LIMIT) }
     {
         let before = written_over(alloc, &self.bytes, place, bytes.len())?;
         self.unsynced.reserve(1)?;

@@ -1,4 +1,5 @@
-ghost use Rattle.std.specs.Prelude.{◌≡◌, ◌≤◌, ◌<◌, ◌^◌, ◌+◌, Some, vec_len, length, [], OnOk, IsErrOf, IsErr, ◌↔◌, Contains};
+ghost use Rattle.std.specs.Prelude.{◌≡◌, ◌≤◌, ◌<◌, ◌+◌, Some, vec_len, length, [], OnOk, IsErrOf, IsErr, ◌↔◌, Contains};
+ghost use Rattle.cg_base.specs.declared.limits.TheConstants.{COUNT_LIMIT};
 ghost use Rattle.cg_io.specs.Outside.{PutsAll};
 ghost use Rattle.cg_io.specs.Memory.{from_offset, kept};
 ghost use Rattle.cg_io.specs.Calls.{Takes, TakeCause, PutsNothing, PutCause};
@@ -40,13 +41,13 @@ impl Source for MemSource {
 
     fn take(&mut self, buf: &mut [u8]) -> Result<usize, Failed>
         requires room { 0 < length buf.old }
-        requires few_faults { self.old.faults < 2 ^ 62 }
+        requires few_faults { self.old.faults < COUNT_LIMIT }
         ensures bytes { Takes (from_offset self.old.offset self.old.bytes.items self.old.faults) (from_offset
             self.new.offset self.new.bytes.items self.new.faults) result buf.new }
         ensures cause { TakeCause (from_offset self.old.offset self.old.bytes.items self.old.faults) (from_offset
             self.new.offset self.new.bytes.items self.new.faults) result }
-        ensures chosen { self.old.calls < 2 ^ 62 → IsErr result ↔ Contains self.old.fail.items (self.old.calls + 1) }
-        ensures counted { self.old.calls < 2 ^ 62 → self.new.calls ≡ self.old.calls + 1 }
+        ensures chosen { self.old.calls < COUNT_LIMIT → IsErr result ↔ Contains self.old.fail.items (self.old.calls + 1) }
+        ensures counted { self.old.calls < COUNT_LIMIT → self.new.calls ≡ self.old.calls + 1 }
         ensures kept { self.new.fail ≡ self.old.fail }
     {
         self.calls = self.calls.saturating_add(1);
@@ -96,7 +97,7 @@ impl Sink for MemSink {
     ghost view = { λ s. kept s.bytes.items s.faults };
 
     fn put(&mut self, _alloc: Global, part: &[u8]) -> Result<(), IoFault>
-        requires few_faults { self.old.faults < 2 ^ 62 }
+        requires few_faults { self.old.faults < COUNT_LIMIT }
         ensures ok { OnOk
             result (PutsAll (kept self.old.bytes.items self.old.faults) (kept self.new.bytes.items
             self.new.faults) part.now) }
@@ -106,9 +107,9 @@ impl Sink for MemSink {
             PutsNothing (kept self.old.bytes.items self.old.faults) (kept self.new.bytes.items self.new.faults) }
         ensures cause { PutCause (kept self.old.bytes.items self.old.faults) (kept self.new.bytes.items
             self.new.faults) result }
-        ensures chosen { self.old.calls < 2 ^ 62 →
+        ensures chosen { self.old.calls < COUNT_LIMIT →
             IsErrOf result IoFault.Failed ↔ Contains self.old.fail.items (self.old.calls + 1) }
-        ensures counted { self.old.calls < 2 ^ 62 → self.new.calls ≡ self.old.calls + 1 }
+        ensures counted { self.old.calls < COUNT_LIMIT → self.new.calls ≡ self.old.calls + 1 }
         ensures kept { self.new.fail ≡ self.old.fail }
     {
         self.calls = self.calls.saturating_add(1);

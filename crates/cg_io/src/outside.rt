@@ -1,4 +1,5 @@
-ghost use Rattle.std.specs.Prelude.{◌<◌, ◌^◌, length, OnOk, IsErrOf};
+ghost use Rattle.std.specs.Prelude.{◌<◌, length, OnOk, IsErrOf};
+ghost use Rattle.cg_base.specs.declared.limits.TheConstants.{COUNT_LIMIT};
 ghost use Rattle.cg_io.specs.Calls.{Takes, TakeCause, PutsNothing, PutCause};
 ghost use Rattle.cg_io.specs.Outside.{SourceView, SinkView, PutsAll, PutsFront};
 
@@ -30,7 +31,7 @@ pub trait Source {
     /// Moves the next bytes into the front of the buffer, and answers how many; 0 says that none is left.
     fn take(&mut self, buf: &mut [u8]) -> Result<usize, Failed>
         requires room { 0 < length buf.old }
-        requires few_faults { (view self.old).faults < 2 ^ 62 }
+        requires few_faults { (view self.old).faults < COUNT_LIMIT }
         ensures bytes { Takes (view self.old) (view self.new) result buf.new }
         ensures cause { TakeCause (view self.old) (view self.new) result };
 }
@@ -43,7 +44,7 @@ pub trait Sink {
 
     /// Puts the whole part, or tells why not.
     fn put(&mut self, alloc: Global, part: &[u8]) -> Result<(), IoFault>
-        requires few_faults { (view self.old).faults < 2 ^ 62 }
+        requires few_faults { (view self.old).faults < COUNT_LIMIT }
         ensures ok { OnOk result (PutsAll (view self.old) (view self.new) part.now) }
         ensures failed { IsErrOf result IoFault.Failed → PutsFront (view self.old) (view self.new) part.now }
         ensures no_memory { IsErrOf result IoFault.NoMemory → PutsNothing (view self.old) (view self.new) }

@@ -1,6 +1,7 @@
 -- A record added on a side: what is so when it is done, when it is struck, and when memory was refused.
-use Rattle.std.specs.Prelude.{◌≡◌, ◌≢◌, ◌⊎◌, ℕ, ◌+◌, ◌-◌, ◌^◌, ◌≤◌, ◌<◌, ◌==◌, nat_lt, Bool, true, false, ◌&&◌, List, [], ◌∷◌, ◌++◌, length, Option, Some, Result, Ok, Err, slice_index, if◌then◌else◌}
+use Rattle.std.specs.Prelude.{◌≡◌, ◌≢◌, ◌⊎◌, ℕ, ◌+◌, ◌-◌, ◌≤◌, ◌<◌, ◌==◌, nat_lt, Bool, true, false, ◌&&◌, List, [], ◌∷◌, ◌++◌, length, Option, Some, Result, Ok, Err, slice_index, if◌then◌else◌}
 use Rattle.std.specs.Option.{option_map}
+use Rattle.cg_base.specs.declared.limits.TheConstants.{NUMBER_LIMIT}
 use Rattle.cg_disk.specs.Sides.{Image, bytes_of, opposite}
 use Rattle.cg_disk.specs.State.{SideState, DiskState, Strike, Blow, Fails, Stops, is_unsynced, left_by}
 use Rattle.cg_disk.specs.View.{DiskView, IsAtRest}
@@ -66,7 +67,7 @@ pub record IsAdded (side : Side) (end : ℕ) (bodies : List (List ℕ)) (body : 
   pub rest : IsAtRest new
   pub time : new.time ≡ old.time + 4
   pub unstruck : IsUnstruck old new
-  pub short : end + 5 + length body < 2 ^ 63
+  pub short : end + 5 + length body < NUMBER_LIMIT
 
 -- memory was refused at the first write or at the gate's
 pub record IsNotAdded (side : Side) (end : ℕ) (bodies : List (List ℕ)) (old new : DiskView) : Type 0 where

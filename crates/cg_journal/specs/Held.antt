@@ -1,5 +1,6 @@
 -- What a journal keeps of its disk.
-use Rattle.std.specs.Prelude.{ℕ, ◌+◌, ◌^◌, ◌<◌, List, length}
+use Rattle.std.specs.Prelude.{ℕ, ◌+◌, ◌<◌, List, length}
+use Rattle.cg_base.specs.declared.limits.TheConstants.{NUMBER_LIMIT}
 use Rattle.cg_disk.specs.Sides.{bytes_of}
 use Rattle.cg_disk.specs.View.{DiskView, IsAtRest}
 use Rattle.cg_disk.specs.declared.disk.Side.{Side}
@@ -25,7 +26,7 @@ with_end B end ends = record { a = ends.a; b = end }
 pub record Ended (side : List ℕ) (end : ℕ) : Type 0 where
   pub bodies : List (List ℕ)
   pub has : HasRecords side end bodies
-  pub short : end < 2 ^ 63
+  pub short : end < NUMBER_LIMIT
 
 -- both sides have records that end at these offsets, and everything is synced
 pub record IsJournal (d : DiskView) (ends : Ends) : Type 0 where

@@ -1,5 +1,6 @@
 -- A write and its sync on a disk at rest.
-use Rattle.std.specs.Prelude.{◌≡◌, ◌⊎◌, ℕ, ◌+◌, ◌^◌, ◌<◌, List, length, Some, Result, Ok, Err}
+use Rattle.std.specs.Prelude.{◌≡◌, ◌⊎◌, ℕ, ◌+◌, ◌<◌, List, length, Some, Result, Ok, Err}
+use Rattle.cg_base.specs.declared.limits.TheConstants.{NUMBER_LIMIT}
 use Rattle.cg_disk.specs.Sides.{Image, bytes_of, with_bytes}
 use Rattle.cg_disk.specs.Writes.{TornSide, overwritten}
 use Rattle.cg_disk.specs.State.{DiskState, Strike, Blow, Fails, Stops, synced_side, wrote}
@@ -20,7 +21,7 @@ pub record IsPut (side : Side) (place : ℕ) (bytes : List ℕ) (old new : DiskV
   pub rest : IsAtRest new
   pub time : new.time ≡ old.time + 2
   pub unstruck : IsUnstruck old new
-  pub short : place + length bytes < 2 ^ 63
+  pub short : place + length bytes < NUMBER_LIMIT
 
 -- what a strike in the first or the second of the two calls leaves of the sides that a disk tells
 abbrev pub CutBy : Blow → DiskState → DiskState → ℕ → DiskState → Type 0

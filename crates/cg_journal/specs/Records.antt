@@ -1,8 +1,9 @@
 -- The records of a side of a disk, and of both sides.
-use Rattle.std.specs.Prelude.{◌≡◌, ◌≢◌, ℕ, zero, suc, ◌+◌, ◌^◌, ◌<◌, ◌==◌, nat_lt, List, [], ◌∷◌, ◌++◌, length, take, drop, Option, Some, None, if◌then◌else◌}
+use Rattle.std.specs.Prelude.{◌≡◌, ◌≢◌, ℕ, zero, suc, ◌+◌, ◌<◌, ◌==◌, nat_lt, List, [], ◌∷◌, ◌++◌, length, codes, take, drop, Option, Some, None, if◌then◌else◌}
 use Rattle.std.specs.Option.{option_map}
 use Rattle.std.specs.Int.{from_be_bytes, w32}
 use Rattle.std.specs.Str.{bytes_eq}
+use Rattle.cg_base.specs.declared.limits.TheConstants.{LIST_LIMIT}
 use Rattle.cg_codec.specs.Fields.{number32}
 use Rattle.cg_disk.specs.Sides.{Image}
 use Rattle.cg_disk.specs.declared.disk.Side.{Side}
@@ -10,7 +11,7 @@ use Rattle.cg_disk.specs.declared.disk.Side.TheVariants.{A, B}
 
 -- the eight bytes at the front of a side
 abbrev pub header : List ℕ
-header = 67 ∷ 71 ∷ 82 ∷ 85 ∷ 73 ∷ 84 ∷ 89 ∷ 50 ∷ []
+header = codes "CGRUITY2"
 
 -- the number that the first four bytes spell
 unfoldable pub number_at : List ℕ → ℕ
@@ -24,7 +25,7 @@ framed body = number32 (length body) ++ body ++ 0 ∷ []
 pub record IsFramed (bytes : List ℕ) : Type 0 where
   pub body : List ℕ
   pub is : bytes ≡ framed body
-  pub short : length body < 2 ^ 32
+  pub short : length body < LIST_LIMIT
 
 -- open records
 abbrev pub spelled : List (List ℕ) → List ℕ
@@ -34,7 +35,7 @@ spelled (body ∷ bodies) = 1 ∷ (number32 (length body) ++ body ++ spelled bod
 -- each body has a length of four bytes
 abbrev pub AreShort : List (List ℕ) → Type 0
 AreShort [] = Unit {0}
-AreShort (body ∷ bodies) = (length body < 2 ^ 32) × AreShort bodies
+AreShort (body ∷ bodies) = (length body < LIST_LIMIT) × AreShort bodies
 
 -- a side has these records and no others: the header, the open records, and a gate that isn't open, just before `end`;
 -- what stands behind it doesn't count

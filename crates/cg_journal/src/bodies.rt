@@ -12,10 +12,15 @@ pub(crate) struct Span {
 }
 
 /// The bodies of a side's records, in the bytes that were read of it: none is copied. Clauses see the list of them.
-#[derive(Drop)]
 pub struct Bodies {
     side: Vec<u8>,
     spans: Vec<Span>,
+}
+
+impl Drop for Bodies {
+    fn drop(self) {
+        let Bodies { side: _, spans: _ } = self;
+    }
 }
 
 impl Model for Bodies {

@@ -1,5 +1,6 @@
 //! Both sides without records.
-ghost use Rattle.std.specs.Prelude.{◌≡◌, ◌+◌, ◌<◌, ◌≤◌, ◌^◌};
+ghost use Rattle.std.specs.Prelude.{◌≡◌, ◌+◌, ◌<◌, ◌≤◌};
+ghost use Rattle.cg_base.specs.declared.limits.TheConstants.{COUNT_LIMIT};
 ghost use Rattle.cg_journal.specs.Fresh.{IsFresh, FormatsSides};
 
 use cg_disk::{Disk, DiskFault, Side};
@@ -9,7 +10,7 @@ const FRESH: [u8; 9] = *b"CGRUITY2\0";
 
 /// Writes the header and a closed gate on each side, and syncs.
 pub fn format_sides<D: Disk>(disk: &mut D) -> Result<(), DiskFault>
-    requires { (D.view disk.old).time + 3 ≤ 2 ^ 62 }
+    requires { (D.view disk.old).time + 3 ≤ COUNT_LIMIT }
     ensures { FormatsSides (D.view disk.old) (D.view disk.new) result }
 {
     match disk.write_at(Side::A, 0, &FRESH) {

@@ -1,5 +1,6 @@
 //! A journal on the two sides of a disk.
-ghost use Rattle.std.specs.Prelude.{◌≡◌, ℕ, ◌+◌, ◌<◌, ◌≤◌, ◌^◌, List, length};
+ghost use Rattle.std.specs.Prelude.{◌≡◌, ℕ, ◌+◌, ◌<◌, ◌≤◌, List, length};
+ghost use Rattle.cg_base.specs.declared.limits.TheConstants.{COUNT_LIMIT, LIST_LIMIT};
 ghost use Rattle.cg_journal.specs.Records.{records, framed, IsFramed};
 
 use crate::add::add;
@@ -18,10 +19,15 @@ use std::fmt::{Display, Formatter, Write};
 use std::marker::Model;
 
 /// Records on both sides of a disk, at rest. Clauses see its disk.
-#[derive(Drop)]
 pub struct Journal<D: Disk> {
     disk: D,
     ends: Ends,
+}
+
+impl<D: Disk + Drop> Drop for Journal<D> {
+    fn drop(self) {
+        let Journal { disk: _, ends: _ } = self;
+    }
 }
 
 impl<D: Disk> Model for Journal<D> {
@@ -55,7 +61,7 @@ impl<D: Disk> Journal<D> {
     /// Makes a journal without records, in three device calls: on each side the header and a closed gate, and a sync.
     /// After an error the disk may be no journal.
     pub fn format(mut disk: D) -> Result<Journal<D>, FormatErr<D>>
-        requires { (D.view disk).time + 3 ≤ 2 ^ 62 }
+        requires { (D.view disk).time + 3 ≤ COUNT_LIMIT }
         ensures { Formats D.view (D.view disk) result }
     {
         match format_sides(&mut disk) {
@@ -74,7 +80,7 @@ impl<D: Disk> Journal<D> {
     /// Opens a journal, with the bodies of its records on side A and on side B, in five device calls: a sync, the two
     /// sizes, and one read of each side.
     pub fn open(alloc: Global, mut disk: D) -> Result<(Journal<D>, Bodies, Bodies), JournalOpen<D>>
-        requires { (D.view disk).time + 5 ≤ 2 ^ 62 }
+        requires { (D.view disk).time + 5 ≤ COUNT_LIMIT }
         ensures { Opens D.view (D.view disk) result }
     {
         let (a, b) = match load(&mut disk, alloc) {
@@ -98,8 +104,8 @@ impl<D: Disk> Journal<D> {
 
     /// Adds a record on a side, in four device calls.
     pub fn append(self, alloc: Global, side: Side, body: &[u8]) -> Result<Journal<D>, AppendErr<D>>
-        requires calls { (D.view self).time + 4 ≤ 2 ^ 62 }
-        requires short { length body.now < 2 ^ 32 }
+        requires calls { (D.view self).time + 4 ≤ COUNT_LIMIT }
+        requires short { length body.now < LIST_LIMIT }
 
         // At each moment every image stands for the records before, or for those with the new one.
         ensures moments { EachMoment
@@ -117,8 +123,8 @@ impl<D: Disk> Journal<D> {
 
     /// Puts a record in place of all those of a side, in six device calls.
     pub fn restart(self, alloc: Global, side: Side, body: &[u8]) -> Result<Journal<D>, AppendErr<D>>
-        requires calls { (D.view self).time + 6 ≤ 2 ^ 62 }
-        requires short { length body.now < 2 ^ 32 }
+        requires calls { (D.view self).time + 6 ≤ COUNT_LIMIT }
+        requires short { length body.now < LIST_LIMIT }
 
         // At each moment every image has the records before on that side, or none, or the new one alone.
         ensures moments { EachMoment D.view (IsRestarting side body.now (D.view self)) (D.view self) result }
@@ -145,11 +151,11 @@ impl<D: Disk> Journal<D> {
 
     // Adds a record that is spelled here.
     fn append_framed(self, side: Side, bytes: &[u8]) -> Result<Journal<D>, AppendErr<D>>
-        requires calls { (D.view self).time + 4 ≤ 2 ^ 62 }
+        requires calls { (D.view self).time + 4 ≤ COUNT_LIMIT }
         requires framed { IsFramed bytes.now }
-        ensures ends { (body : List ℕ) → bytes.now ≡ framed body → length body < 2 ^ 32 →
+        ensures ends { (body : List ℕ) → bytes.now ≡ framed body → length body < LIST_LIMIT →
             Appends D.view side body (D.view self) result }
-        ensures moments { (body : List ℕ) → bytes.now ≡ framed body → length body < 2 ^ 32
+        ensures moments { (body : List ℕ) → bytes.now ≡ framed body → length body < LIST_LIMIT
             → EachMoment
             D.view (IsEither (records (D.view self).reads) (with_record side body (D.view self))) (D.view self)
             result }
@@ -168,7 +174,7 @@ impl<D: Disk> Journal<D> {
 
     // Takes the records of a side away.
     fn closed(self, side: Side) -> Result<Journal<D>, AppendErr<D>>
-        requires calls { (D.view self).time + 2 ≤ 2 ^ 62 }
+        requires calls { (D.view self).time + 2 ≤ COUNT_LIMIT }
         ensures ends { ClosesSide D.view side (D.view self) result }
         ensures moments { EachMoment
             D.view (IsEither (records (D.view self).reads) (without_records side (D.view self))) (D.view self) result }
@@ -208,7 +214,7 @@ impl<D: Disk> Journal<D> {
         ensures readable { CanBeRead (D.view self) }
     {
         self.readable();
-        let Journal { disk, .. } = self;
+        let Journal { disk, ends: _ } = self;
         disk
     }
 }

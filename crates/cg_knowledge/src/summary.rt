@@ -2,7 +2,6 @@ use cg_base::{Cut, IdSet, ReplicaId};
 use cg_records::{Primary, Vulnerable, Yellow};
 
 /// What a replica tells the other members of a configuration as it enters an exchange.
-#[derive(Drop)]
 pub struct Summary {
     pub id: ReplicaId,
     /// The number of the configuration.
@@ -18,4 +17,21 @@ pub struct Summary {
     pub red_cut: Cut,
     /// The servers that have left, as far as the replica's greens say.
     pub left: IdSet,
+}
+
+impl Drop for Summary {
+    fn drop(self) {
+        let Summary {
+            id: _,
+            conf: _,
+            prim: _,
+            attempt_index: _,
+            vulnerable: _,
+            yellow: _,
+            green_count: _,
+            green_cut: _,
+            red_cut: _,
+            left: _,
+        } = self;
+    }
 }

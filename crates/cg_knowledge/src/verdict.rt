@@ -5,7 +5,6 @@ use cg_records::{Primary, Vulnerable, Yellow};
 pub type VulnerableList = Row<Option<Vulnerable>>;
 
 /// What follows from the summaries of all members.
-#[derive(Drop)]
 pub struct Verdict {
     /// The last primary component that any of them knows of.
     pub prim: Primary,
@@ -17,4 +16,17 @@ pub struct Verdict {
     pub gone: IdSet,
     /// The members that remain may form the next primary component.
     pub quorum: bool,
+}
+
+impl Drop for Verdict {
+    fn drop(self) {
+        let Verdict {
+            prim: _,
+            attempt_index: _,
+            yellow: _,
+            vulnerable: _,
+            gone: _,
+            quorum: _,
+        } = self;
+    }
 }

@@ -12,11 +12,20 @@ use std::alloc::Global;
 use std::marker::Model;
 
 /// A plan, and how far it has been followed. Clauses see its parts, and how many items were accepted.
-#[derive(Drop)]
 pub struct Plan {
     turns: Vec<SentPart>,
     current: usize,
     made: u64,
+}
+
+impl Drop for Plan {
+    fn drop(self) {
+        let Plan {
+            turns: _,
+            current: _,
+            made: _,
+        } = self;
+    }
 }
 
 impl Model for Plan {

@@ -1,5 +1,6 @@
 -- Which values a record may have.
-use Rattle.std.specs.Prelude.{ℕ, ◌^◌, ◌<◌, ◌≤◌, List, [], ◌∷◌, Option, length}
+use Rattle.std.specs.Prelude.{ℕ, ◌<◌, ◌≤◌, List, [], ◌∷◌, Option, length}
+use Rattle.cg_base.specs.declared.limits.TheConstants.{LIST_LIMIT, NUMBER_LIMIT}
 use Rattle.cg_base.specs.declared.action_id.ActionId.{ActionId}
 use Rattle.cg_base.specs.Sets.{IsId, IsSet, Ascends}
 use Rattle.cg_base.specs.Weights.{IsWeightSet}
@@ -12,11 +13,11 @@ use Rattle.cg_records.specs.declared.stable.Stable.{Stable}
 
 -- a count, an index or the number of a configuration
 abbrev pub IsNumber : ℕ → Type 0
-IsNumber n = n < 2 ^ 63
+IsNumber n = n < NUMBER_LIMIT
 
 -- the index of an action
 abbrev pub IsIndex : ℕ → Type 0
-IsIndex n = (1 ≤ n) × (n < 2 ^ 63)
+IsIndex n = (1 ≤ n) × (n < NUMBER_LIMIT)
 
 -- a name of an action
 abbrev pub IsName : ActionId → Type 0
@@ -50,7 +51,7 @@ IsMaybeVulnerable v = HasOptional IsVulnerable v
 
 -- what a yellow list may be
 pub record IsYellow (y : Yellow) : Type 0 where
-  pub short : length y.list < 2 ^ 32
+  pub short : length y.list < LIST_LIMIT
   pub names : Each IsName y.list
 
 -- what the stable part of a replica may be

@@ -1,6 +1,7 @@
 -- What a field that was read has passed.
-use Rattle.std.proofs.Common.{◌≡◌, ℕ, ◌^◌, ◌<◌, ◌≤◌, ◌&&◌, ltb, leb, Ok}
+use Rattle.std.proofs.Common.{◌≡◌, ℕ, ◌<◌, ◌≤◌, ◌&&◌, ltb, leb, Ok}
 use Rattle.std.proofs.lemmas.Bool.{ltb-true, leb-true, and_parts}
+use Rattle.cg_base.specs.declared.limits.TheConstants.{NUMBER_LIMIT}
 use Rattle.cg_base.specs.declared.action_id.ActionId.{ActionId}
 use Rattle.cg_base.specs.declared.weighted.Weighted.{Weighted}
 use Rattle.cg_codec.specs.Reading.{Unread, ◌>>=◌, done, take_u8, take_u64}
@@ -18,12 +19,12 @@ pub weight-ok : (weight : ℕ) (old new : Unread) → take_weight old ≡ Ok (we
 unfolding take_weight
 weight-ok weight old new e = let p = passed-ok (ltb 0) old.at (take_u8 old) weight new e in ltb-true 0 weight p.1
 
-pub index-ok : (index : ℕ) (old new : Unread) → take_index old ≡ Ok (index, new) → (1 ≤ index) × (index < 2 ^ 63)
+pub index-ok : (index : ℕ) (old new : Unread) → take_index old ≡ Ok (index, new) → (1 ≤ index) × (index < NUMBER_LIMIT)
 unfolding take_index
 index-ok index old new e =
-    let p = passed-ok (λ n. ltb 0 n && ltb n (2 ^ 63)) old.at (take_u64 old) index new e in
-    let parts = and_parts (ltb 0 index) (ltb index (2 ^ 63)) p.1 in
-    (ltb-true 0 index parts.0, ltb-true index (2 ^ 63) parts.1)
+    let p = passed-ok (λ n. ltb 0 n && ltb n NUMBER_LIMIT) old.at (take_u64 old) index new e in
+    let parts = and_parts (ltb 0 index) (ltb index NUMBER_LIMIT) p.1 in
+    (ltb-true 0 index parts.0, ltb-true index NUMBER_LIMIT parts.1)
 
 -- what a member with its weight has
 pub record Weighs (last : ℕ) (m : Weighted) : Type 0 where

@@ -1,5 +1,6 @@
 -- How records are read from the left.
-use Rattle.std.specs.Prelude.{ℕ, ◌^◌, ◌-◌, nat_lt, nat_le, ◌&&◌, List, Option, fold}
+use Rattle.std.specs.Prelude.{ℕ, ◌-◌, nat_lt, nat_le, ◌&&◌, List, Option, fold}
+use Rattle.cg_base.specs.declared.limits.TheConstants.{LIST_LIMIT, NUMBER_LIMIT}
 use Rattle.cg_base.specs.declared.action_id.ActionId.{ActionId}
 use Rattle.cg_base.specs.declared.weighted.Weighted.{Weighted}
 use Rattle.cg_base.specs.Weights.{ids}
@@ -12,11 +13,11 @@ use Rattle.cg_records.specs.declared.stable.Stable.{Stable}
 
 -- a number below 2 ^ 63
 unfoldable pub take_number : Reading ℕ
-take_number left = only (λ n. nat_lt n (2 ^ 63)) take_u64 left
+take_number left = only (λ n. nat_lt n NUMBER_LIMIT) take_u64 left
 
 -- the index of an action
 unfoldable pub take_index : Reading ℕ
-take_index left = only (λ n. nat_lt 0 n && nat_lt n (2 ^ 63)) take_u64 left
+take_index left = only (λ n. nat_lt 0 n && nat_lt n NUMBER_LIMIT) take_u64 left
 
 -- an identifier of a replica that is above the given one
 unfoldable pub take_id_above : ℕ → Reading ℕ
@@ -54,7 +55,7 @@ take_cut left = take_list 32 (λ taken. take_name_above (last_of (creators_in ta
 
 -- names of actions, in any order
 unfoldable pub take_names : Reading (List ActionId)
-take_names left = take_list (2 ^ 32 - 1) (λ _. take_name_above 0) left
+take_names left = take_list (LIST_LIMIT - 1) (λ _. take_name_above 0) left
 
 -- a primary component
 unfoldable pub take_prim : Reading Primary

@@ -4,6 +4,7 @@ use Rattle.std.proofs.lemmas.List.Sums.{fold_push}
 use Rattle.std.specs.Prelude.{Option}
 use Rattle.std.proofs.lemmas.Bool.{ltb-true, leb-true, lt-ltb, le-leb, and_parts, and_from}
 use Rattle.std.proofs.lemmas.List.{length-map}
+use Rattle.cg_base.specs.declared.limits.TheConstants.{LIST_LIMIT, NUMBER_LIMIT}
 use Rattle.cg_base.specs.declared.action_id.ActionId.{ActionId}
 use Rattle.cg_base.specs.declared.weighted.Weighted.{Weighted}
 use Rattle.cg_base.specs.Sets.{IsId, IsSet, Ascends}
@@ -40,24 +41,24 @@ map-push key (y ∷ xs) x = ap (λ ks. key y ∷ ks) (map-push key xs x)
 pub number_field : IsField IsNumber number64 take_number
 unfolding take_number
 number_field =
-    field_has (λ n. IsBelow (2 ^ 64) n × (ltb n (2 ^ 63) ≡ true)) IsNumber
-    number64 (only (λ n. ltb n (2 ^ 63)) take_u64)
-    (λ n has. ltb-true n (2 ^ 63) has.1) (λ n has. (omega arith, lt-ltb n (2 ^ 63) has))
-    (field_only (IsBelow (2 ^ 64)) number64 take_u64 (λ n. ltb n (2 ^ 63)) u64_field)
+    field_has (λ n. IsBelow (2 ^ 64) n × (ltb n NUMBER_LIMIT ≡ true)) IsNumber
+    number64 (only (λ n. ltb n NUMBER_LIMIT) take_u64)
+    (λ n has. ltb-true n NUMBER_LIMIT has.1) (λ n has. (omega arith, lt-ltb n NUMBER_LIMIT has))
+    (field_only (IsBelow (2 ^ 64)) number64 take_u64 (λ n. ltb n NUMBER_LIMIT) u64_field)
 
-is_index : (n : ℕ) → (ltb 0 n && ltb n (2 ^ 63)) ≡ true → IsIndex n
-is_index n e = let parts = and_parts (ltb 0 n) (ltb n (2 ^ 63)) e in (ltb-true 0 n parts.0, ltb-true n (2 ^ 63) parts.1)
+is_index : (n : ℕ) → (ltb 0 n && ltb n NUMBER_LIMIT) ≡ true → IsIndex n
+is_index n e = let parts = and_parts (ltb 0 n) (ltb n NUMBER_LIMIT) e in (ltb-true 0 n parts.0, ltb-true n NUMBER_LIMIT parts.1)
 
-index_passes : (n : ℕ) → IsIndex n → (ltb 0 n && ltb n (2 ^ 63)) ≡ true
-index_passes n has = and_from (ltb 0 n) (ltb n (2 ^ 63)) (lt-ltb 0 n has.0) (lt-ltb n (2 ^ 63) has.1)
+index_passes : (n : ℕ) → IsIndex n → (ltb 0 n && ltb n NUMBER_LIMIT) ≡ true
+index_passes n has = and_from (ltb 0 n) (ltb n NUMBER_LIMIT) (lt-ltb 0 n has.0) (lt-ltb n NUMBER_LIMIT has.1)
 
 index_field : IsField IsIndex number64 take_index
 unfolding take_index
 index_field =
-    field_has (λ n. IsBelow (2 ^ 64) n × ((ltb 0 n && ltb n (2 ^ 63)) ≡ true)) IsIndex
-    number64 (only (λ n. ltb 0 n && ltb n (2 ^ 63)) take_u64)
-    (λ n has. is_index n has.1) (λ n has. (let small : n < 2 ^ 63 = has.1 in omega arith, index_passes n has))
-    (field_only (IsBelow (2 ^ 64)) number64 take_u64 (λ n. ltb 0 n && ltb n (2 ^ 63)) u64_field)
+    field_has (λ n. IsBelow (2 ^ 64) n × ((ltb 0 n && ltb n NUMBER_LIMIT) ≡ true)) IsIndex
+    number64 (only (λ n. ltb 0 n && ltb n NUMBER_LIMIT) take_u64)
+    (λ n has. is_index n has.1) (λ n has. (let small : n < NUMBER_LIMIT = has.1 in omega arith, index_passes n has))
+    (field_only (IsBelow (2 ^ 64)) number64 take_u64 (λ n. ltb 0 n && ltb n NUMBER_LIMIT) u64_field)
 
 abbrev pub IsWeight : ℕ → Type 0
 IsWeight n = (1 ≤ n) × (n ≤ 255)
@@ -244,18 +245,18 @@ behind-each (x ∷ xs) taken each = (each.0, behind-each xs (taken ++ x ∷ []) 
 
 -- names of actions, of which there are not too many
 pub record AreNames (ids : List ActionId) : Type 0 where
-  short : length ids < 2 ^ 32
+  short : length ids < LIST_LIMIT
   names : Each IsName ids
 
 names_field : IsField AreNames spelled_names take_names
 unfolding spelled_names take_names
 names_field =
-    field_has (λ ids. (length ids ≤ 2 ^ 32 - 1) × EachBehind (λ _. IsName) [] ids) AreNames (list spelled_id) take_names
-    (λ ids has. let short : length ids ≤ 2 ^ 32 - 1 = has.0 in
+    field_has (λ ids. (length ids ≤ LIST_LIMIT - 1) × EachBehind (λ _. IsName) [] ids) AreNames (list spelled_id) take_names
+    (λ ids has. let short : length ids ≤ LIST_LIMIT - 1 = has.0 in
     record { short = omega arith; names = each-behind ids [] has.1 })
     (λ ids has. let short = has.short in (omega arith, behind-each ids [] has.names))
-    (field_list (2 ^ 32 - 1) (λ _. IsName)
-    spelled_id (λ _. take_name_above 0) (count_field (2 ^ 32 - 1) (omega arith)) (λ _. any_name_field))
+    (field_list (LIST_LIMIT - 1) (λ _. IsName)
+    spelled_id (λ _. take_name_above 0) (count_field (LIST_LIMIT - 1) (omega arith)) (λ _. any_name_field))
 
 -- ---- records
 

@@ -1,6 +1,7 @@
 //! Names of actions in bytes, alone and as cuts.
 
-ghost use Rattle.std.specs.Prelude.{◌≡◌, ◌++◌, ◌^◌, ◌<◌, length, OnOk, OnErr};
+ghost use Rattle.std.specs.Prelude.{◌≡◌, ◌++◌, ◌<◌, length, OnOk, OnErr};
+ghost use Rattle.cg_base.specs.declared.limits.TheConstants.{LIST_LIMIT};
 ghost use Rattle.cg_base.specs.Fronts.{KeepsFront};
 ghost use Rattle.cg_codec.specs.Taking.{unread_of, Takes, TakesWithMemory};
 ghost use Rattle.cg_codec.specs.Fields.{spelled_id};
@@ -84,7 +85,7 @@ fn write_cut(out: &mut Vec<u8>, v: &Cut) -> Result<(), NoMemory>
 
 #[tactic(auto, unfolding(crate::specs::Bytes::spelled_names))]
 pub(crate) fn write_names(out: &mut Vec<u8>, ids: &[ActionId]) -> Result<(), NoMemory>
-    requires { length ids.now < 2 ^ 32 }
+    requires { length ids.now < LIST_LIMIT }
     ensures ok { OnOk result (out.new.items ≡ out.old.items ++ spelled_names ids.now) }
     ensures err { OnErr result (KeepsFront out.old.items out.new.items) }
 {

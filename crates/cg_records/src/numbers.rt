@@ -4,11 +4,8 @@ ghost use Rattle.std.specs.Prelude.{◌≡◌};
 ghost use Rattle.cg_codec.specs.Taking.{unread_of, Takes};
 ghost use Rattle.cg_records.specs.Reading.{take_number as number, take_index as index, take_id_above as id_above, take_weight as weight};
 
-use cg_base::ReplicaId;
+use cg_base::{NUMBER_LIMIT, ReplicaId};
 use cg_codec::{CodecFault, Fields};
-
-/// Counts, indexes and numbers of configurations are below this.
-const LIMIT: u64 = 1 << 63;
 
 /// Takes a count, an index or the number of a configuration: eight bytes, below 2^63.
 #[tactic(auto, unfolding(crate::specs::Reading::take_number))]
@@ -17,7 +14,7 @@ pub fn take_number(f: &mut Fields<'_>) -> Result<u64, CodecFault>
 {
     let mut after = *f;
     let n = after.take_u64()?;
-    if n >= LIMIT {
+    if n >= NUMBER_LIMIT {
         return Err(f.bad());
     }
     *f = after;
@@ -31,7 +28,7 @@ pub(crate) fn take_index(f: &mut Fields<'_>) -> Result<u64, CodecFault>
 {
     let mut after = *f;
     let n = after.take_u64()?;
-    if n == 0 || n >= LIMIT {
+    if n == 0 || n >= NUMBER_LIMIT {
         return Err(f.bad());
     }
     *f = after;

@@ -1,4 +1,5 @@
-ghost use Rattle.std.specs.Prelude.{◌≡◌, ◌++◌, ◌^◌, ◌<◌, length, OnOk, OnErr};
+ghost use Rattle.std.specs.Prelude.{◌≡◌, ◌++◌, ◌<◌, length, OnOk, OnErr};
+ghost use Rattle.cg_base.specs.declared.limits.TheConstants.{LIST_LIMIT};
 ghost use Rattle.cg_base.specs.Fronts.{KeepsFront};
 ghost use Rattle.cg_codec.specs.Reading.{whole};
 ghost use Rattle.cg_codec.specs.Taking.{unread_of, TakesWithMemory, Decodes};
@@ -15,7 +16,6 @@ use std::alloc::Global;
 
 /// What a replica keeps beside its actions: the last primary component that it knows of, its attempt index, its
 /// vulnerable record, its yellow list, and the index of the last action that it created.
-#[derive(Drop)]
 pub struct Stable {
     pub prim: Primary,
     pub attempt_index: u64,
@@ -24,10 +24,22 @@ pub struct Stable {
     pub created: u64,
 }
 
+impl Drop for Stable {
+    fn drop(self) {
+        let Stable {
+            prim: _,
+            attempt_index: _,
+            vulnerable: _,
+            yellow: _,
+            created: _,
+        } = self;
+    }
+}
+
 impl Stable {
     /// Puts it at the end.
     pub fn encode(&self, out: &mut Vec<u8>) -> Result<(), NoMemory>
-        requires { length self.now.yellow.list < 2 ^ 32 }
+        requires { length self.now.yellow.list < LIST_LIMIT }
         ensures ok { OnOk result (out.new.items ≡ out.old.items ++ spelled_stable self.now) }
         ensures err { OnErr result (out.new.items ≡ out.old.items) }
     {
@@ -68,7 +80,7 @@ pub fn take_stable(alloc: Global, f: &mut Fields<'_>) -> Result<Stable, CodecFau
 
 /// Puts what a replica keeps beside its actions at the end.
 pub fn put_stable(out: &mut Vec<u8>, v: &Stable) -> Result<(), NoMemory>
-    requires { length v.now.yellow.list < 2 ^ 32 }
+    requires { length v.now.yellow.list < LIST_LIMIT }
     ensures ok { OnOk result (out.new.items ≡ out.old.items ++ spelled_stable v.now) }
     ensures err { OnErr result (out.new.items ≡ out.old.items) }
 {
@@ -82,7 +94,7 @@ pub fn put_stable(out: &mut Vec<u8>, v: &Stable) -> Result<(), NoMemory>
 
 #[tactic(auto, unfolding(crate::specs::Bytes::spelled_stable))]
 fn write_stable(out: &mut Vec<u8>, v: &Stable) -> Result<(), NoMemory>
-    requires { length v.now.yellow.list < 2 ^ 32 }
+    requires { length v.now.yellow.list < LIST_LIMIT }
     ensures ok { OnOk result (out.new.items ≡ out.old.items ++ spelled_stable v.now) }
     ensures err { OnErr result (KeepsFront out.old.items out.new.items) }
 {

@@ -1,4 +1,5 @@
-ghost use Rattle.std.specs.Prelude.{◌≡◌, ◌++◌, ◌^◌, ◌<◌, length, false, [], OnOk, OnErr, IfOk};
+ghost use Rattle.std.specs.Prelude.{◌≡◌, ◌++◌, ◌<◌, length, false, [], OnOk, OnErr, IfOk};
+ghost use Rattle.cg_base.specs.declared.limits.TheConstants.{LIST_LIMIT};
 ghost use Rattle.cg_base.specs.Fronts.{KeepsFront};
 ghost use Rattle.cg_codec.specs.Taking.{unread_of, TakesWithMemory};
 ghost use Rattle.cg_records.specs.Bytes.{spelled_yellow};
@@ -11,10 +12,16 @@ use std::alloc::Global;
 
 /// The actions that were delivered in the transitional configuration of a primary component, in order. The list says
 /// something of the others of that component only where it is valid: where the next regular configuration came.
-#[derive(Drop, PartialEq, Eq)]
+#[derive(PartialEq, Eq)]
 pub struct Yellow {
     pub valid: bool,
     pub list: IdList,
+}
+
+impl Drop for Yellow {
+    fn drop(self) {
+        let Yellow { valid: _, list: _ } = self;
+    }
 }
 
 impl Yellow {
@@ -54,7 +61,7 @@ pub fn take_yellow(alloc: Global, f: &mut Fields<'_>) -> Result<Yellow, CodecFau
 
 /// Puts a yellow list at the end.
 pub fn put_yellow(out: &mut Vec<u8>, v: &Yellow) -> Result<(), NoMemory>
-    requires { length v.now.list < 2 ^ 32 }
+    requires { length v.now.list < LIST_LIMIT }
     ensures ok { OnOk result (out.new.items ≡ out.old.items ++ spelled_yellow v.now) }
     ensures err { OnErr result (out.new.items ≡ out.old.items) }
 {
@@ -68,7 +75,7 @@ pub fn put_yellow(out: &mut Vec<u8>, v: &Yellow) -> Result<(), NoMemory>
 
 #[tactic(auto, unfolding(crate::specs::Bytes::spelled_yellow))]
 fn write_yellow(out: &mut Vec<u8>, v: &Yellow) -> Result<(), NoMemory>
-    requires { length v.now.list < 2 ^ 32 }
+    requires { length v.now.list < LIST_LIMIT }
     ensures ok { OnOk result (out.new.items ≡ out.old.items ++ spelled_yellow v.now) }
     ensures err { OnErr result (KeepsFront out.old.items out.new.items) }
 {
