@@ -1,5 +1,6 @@
 -- What an action may be, and the parts of its commands.
-use Rattle.std.specs.Prelude.{ℕ, ◌<◌, ◌≤◌, ◌^◌, List, Option}
+use Rattle.std.specs.Prelude.{ℕ, ◌<◌, ◌≤◌, List, Option}
+use Rattle.cg_base.specs.declared.limits.TheConstants.{NUMBER_LIMIT}
 use Rattle.cg_base.specs.Sets.{IsId}
 use Rattle.cg_base.specs.declared.action_id.ActionId.{ActionId}
 use Rattle.cg_action.specs.declared.value.Value.{Value}
@@ -26,9 +27,9 @@ IsCommand = IsCommandOf IsTextWithin
 pub record IsActionId (id : ActionId) : Type 0 where
   pub creator : IsId id.creator
   pub from_one : 1 ≤ id.index
-  pub below : id.index < 2 ^ 63
+  pub below : id.index < NUMBER_LIMIT
 
 pub record IsAction (a : Action) : Type 0 where
   pub id : IsActionId a.id
-  pub green_line : a.green_line < 2 ^ 63
+  pub green_line : a.green_line < NUMBER_LIMIT
   pub kind : IsKind a.kind

@@ -1,9 +1,10 @@
 -- What actions do, and actions, as fields.
-use Rattle.std.proofs.Common.{◌≡◌, ◌≢◌, ℕ, zero, suc, ◌<◌, ◌≤◌, ◌^◌, Bool, true, false, cond, eqb, List, [], ◌∷◌, ◌++◌, length, refl, sym, append_assoc, arith}
+use Rattle.std.proofs.Common.{◌≡◌, ◌≢◌, ℕ, zero, suc, ◌<◌, ◌≤◌, Bool, true, false, cond, eqb, List, [], ◌∷◌, ◌++◌, length, refl, sym, append_assoc, arith}
 use Rattle.std.proofs.lemmas.List.{append-nil}
 use Rattle.std.proofs.lemmas.Bool.{eqb-true, eqb-false}
 use Rattle.std.proofs.lemmas.List.Elements.{All-cons, All-tail}
 use Rattle.std.specs.Prelude.{All, Option, None}
+use Rattle.cg_base.specs.declared.limits.TheConstants.{NUMBER_LIMIT}
 use Rattle.cg_base.specs.Sets.{IsId}
 use Rattle.cg_base.specs.declared.action_id.ActionId.{ActionId}
 use Rattle.cg_codec.specs.Fields.{byte, number64, list, optional}
@@ -231,7 +232,7 @@ made id green_line kind = record { id = id; green_line = green_line; kind = kind
 pub action_field : IsField IsAction spelled_action action_reading
 unfolding action_reading made
 action_field =
-    field_three made (λ a. a.id) (λ a. a.green_line) (λ a. a.kind) IsActionId (λ n. (0 ≤ n) × (n < 2 ^ 63)) IsKind
+    field_three made (λ a. a.id) (λ a. a.green_line) (λ a. a.kind) IsActionId (λ n. (0 ≤ n) × (n < NUMBER_LIMIT)) IsKind
     spelled_id number64 spelled_kind id_reading (number_from 0) kind_reading IsAction spelled_action
     id_field (number_field 0) kind_field
     (λ a has. (has.id, (omega arith, has.green_line), has.kind, refl, simp append_assoc))

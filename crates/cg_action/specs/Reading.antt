@@ -1,5 +1,6 @@
 -- How actions are read, field by field from the left.
-use Rattle.std.specs.Prelude.{ℕ, ◌==◌, nat_lt, nat_le, ◌^◌, Bool, true, false, ◌&&◌, List, length, ℤ, pos, negsuc, Option, Some, None, if◌then◌else◌}
+use Rattle.std.specs.Prelude.{ℕ, ◌==◌, nat_lt, nat_le, Bool, true, false, ◌&&◌, List, length, ℤ, pos, negsuc, Option, Some, None, if◌then◌else◌}
+use Rattle.cg_base.specs.declared.limits.TheConstants.{NUMBER_LIMIT}
 use Rattle.cg_codec.specs.Reading.{Reading, ◌>>=◌, done, only, take_u64, take_i64, take_text, take_optional, take_list, byte_between}
 use Rattle.cg_base.specs.declared.action_id.ActionId.{ActionId}
 use Rattle.cg_action.specs.declared.value.Value.{Value}
@@ -15,7 +16,7 @@ use Rattle.cg_action.specs.Limits.{does_something}
 
 -- a number of at least low, below 2 ^ 63
 abbrev pub is_number : ℕ → ℕ → Bool
-is_number low n = nat_le low n && nat_lt n (2 ^ 63)
+is_number low n = nat_le low n && nat_lt n NUMBER_LIMIT
 
 unfoldable pub number_from : ℕ → Reading ℕ
 number_from low left = only (is_number low) take_u64 left

@@ -4,6 +4,7 @@ use Rattle.std.proofs.lemmas.List.{append-nil}
 use Rattle.std.specs.Prelude.{ℤ, pos, negsuc, ◌≤ℤ◌, FitsSigned, Option, Some, None}
 use Rattle.std.specs.Int.{w64}
 use Rattle.std.specs.Str.{IsUtf8}
+use Rattle.cg_base.specs.declared.limits.TheConstants.{NUMBER_LIMIT}
 use Rattle.cg_base.specs.Sets.{IsId}
 use Rattle.cg_base.specs.declared.action_id.ActionId.{ActionId}
 use Rattle.cg_codec.specs.Fields.{byte, number64, signed64, text}
@@ -21,17 +22,17 @@ use Rattle.cg_action.specs.Bytes.{spelled_value, spelled_want}
 use Rattle.cg_action.specs.Reading.{is_number, number_from, id_reading, is_key, key_reading, value_of_tag, value_reading, want_of_tag, want_reading, is_amount, amount_reading}
 
 -- a number of at least low, below 2 ^ 63
-pub number_field : (low : ℕ) → IsField (λ n. (low ≤ n) × (n < 2 ^ 63)) number64 (number_from low)
+pub number_field : (low : ℕ) → IsField (λ n. (low ≤ n) × (n < NUMBER_LIMIT)) number64 (number_from low)
 unfolding number_from
 number_field low =
-    field_has (λ n. (n < 2 ^ 64) × (is_number low n ≡ true)) (λ n. (low ≤ n) × (n < 2 ^ 63)) number64 (number_from low)
+    field_has (λ n. (n < 2 ^ 64) × (is_number low n ≡ true)) (λ n. (low ≤ n) × (n < NUMBER_LIMIT)) number64 (number_from low)
     (λ n has. into low n has.1) (λ n has. (omega arith, back low n has.0 has.1)) (field_only (λ n. n < 2 ^ 64) number64
     take_u64 (is_number low) u64_field)
   where
-    into : (low n : ℕ) → is_number low n ≡ true → (low ≤ n) × (n < 2 ^ 63)
+    into : (low n : ℕ) → is_number low n ≡ true → (low ≤ n) × (n < NUMBER_LIMIT)
     into low n e = grind arith
 
-    back : (low n : ℕ) → low ≤ n → n < 2 ^ 63 → is_number low n ≡ true
+    back : (low n : ℕ) → low ≤ n → n < NUMBER_LIMIT → is_number low n ≡ true
     back low n l h = grind arith
 
 -- a replica's identifier
@@ -44,7 +45,7 @@ named creator index = record { creator = creator; index = index }
 pub id_field : IsField IsActionId spelled_id id_reading
 unfolding id_reading named
 id_field =
-    field_two named (λ id. id.creator) (λ id. id.index) IsId (λ n. (1 ≤ n) × (n < 2 ^ 63)) byte
+    field_two named (λ id. id.creator) (λ id. id.index) IsId (λ n. (1 ≤ n) × (n < NUMBER_LIMIT)) byte
     number64 (byte_between 1 32) (number_from 1) IsActionId spelled_id
     replica_field (number_field 1)
     (λ id has. (has.creator, (has.from_one, has.below), refl, refl))

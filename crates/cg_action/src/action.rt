@@ -7,7 +7,7 @@ use cg_base::{ActionId, NoMemory, ReplicaId, Row};
 use std::alloc::Global;
 
 /// What an action does.
-#[derive(Drop, PartialEq, Eq)]
+#[derive(PartialEq, Eq)]
 pub enum Kind {
     /// Runs at most 16 commands, and then asks the query. Without commands there is a query.
     Update { cmds: CmdList, query: Option<Query> },
@@ -17,13 +17,33 @@ pub enum Kind {
     Leave(ReplicaId),
 }
 
+impl Drop for Kind {
+    fn drop(self) {
+        match self {
+            Kind::Update { cmds: _, query: _ } => {}
+            Kind::Join(_, _) => {}
+            Kind::Leave(_) => {}
+        }
+    }
+}
+
 /// An action.
-#[derive(Drop, PartialEq, Eq)]
+#[derive(PartialEq, Eq)]
 pub struct Action {
     pub id: ActionId,
     /// Its creator's green count when it was created.
     pub green_line: u64,
     pub kind: Kind,
+}
+
+impl Drop for Action {
+    fn drop(self) {
+        let Action {
+            id: _,
+            green_line: _,
+            kind: _,
+        } = self;
+    }
 }
 
 /// Actions, in order.
@@ -57,6 +77,18 @@ impl Action {
             green_line: self.green_line,
             kind,
         })
+    }
+
+    /// What it does.
+    pub fn into_kind(self) -> Kind
+        ensures { result ≡ self.kind }
+    {
+        let Action {
+            id: _,
+            green_line: _,
+            kind,
+        } = self;
+        kind
     }
 }
 

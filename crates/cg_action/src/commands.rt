@@ -11,9 +11,14 @@ use std::default::MadeWith;
 use std::marker::Model;
 
 /// Commands in the order in which they run. Clauses see the list of them. One alone lies in the value itself.
-#[derive(Drop)]
 pub struct CmdList {
     cmds: SmallVec<Cmd, 1>,
+}
+
+impl Drop for CmdList {
+    fn drop(self) {
+        let CmdList { cmds: _ } = self;
+    }
 }
 
 impl Model for CmdList {

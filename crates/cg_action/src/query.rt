@@ -5,7 +5,7 @@ use cg_text::Txt;
 use std::alloc::Global;
 
 /// A question to the database.
-#[derive(Drop, PartialEq, Eq)]
+#[derive(PartialEq, Eq)]
 pub enum Query {
     /// The value of the key.
     Get(Txt),
@@ -13,6 +13,16 @@ pub enum Query {
     Keys(Txt),
     /// The number of keys.
     Count,
+}
+
+impl Drop for Query {
+    fn drop(self) {
+        match self {
+            Query::Get(_) => {}
+            Query::Keys(_) => {}
+            Query::Count => {}
+        }
+    }
 }
 
 impl Query {

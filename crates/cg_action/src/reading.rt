@@ -7,7 +7,7 @@ ghost use Rattle.cg_action.specs.ActionLimits.{IsAction};
 ghost use Rattle.cg_action.specs.Reading.{number_from, id_reading, key_reading, value_of_tag, value_reading, want_of_tag, want_reading, amount_reading, put_reading, del_reading, inc_reading, cas_reading, move_reading, need_reading, command_of_tag, command_reading, query_of_tag, query_reading, commands_reading, query_behind, update_reading, heavy_join_reading, kind_of_tag, kind_reading, action_reading};
 
 use crate::{Action, Boxed, BoxedOption, Cmd, CmdList, Kind, Query, Value};
-use cg_base::{ActionId, ReplicaId};
+use cg_base::{ActionId, NUMBER_LIMIT, ReplicaId};
 use cg_codec::{CodecFault, Fields};
 use cg_text::Txt;
 use std::alloc::Global;
@@ -85,7 +85,7 @@ fn take_number(fields: &mut Fields, low: u64) -> Result<u64, CodecFault>
 {
     let mut after = *fields;
     let number = after.take_u64()?;
-    if number < low || number >= 1 << 63 {
+    if number < low || number >= NUMBER_LIMIT {
         return Err(fields.bad());
     }
     *fields = after;

@@ -6,10 +6,19 @@ use cg_text::Txt;
 use std::alloc::Global;
 
 /// What a key may stand for.
-#[derive(Drop, PartialEq, Eq)]
+#[derive(PartialEq, Eq)]
 pub enum Value {
     Text(Txt),
     Int(i64),
+}
+
+impl Drop for Value {
+    fn drop(self) {
+        match self {
+            Value::Text(_) => {}
+            Value::Int(_) => {}
+        }
+    }
 }
 
 impl Value {

@@ -1,7 +1,8 @@
 -- The lines of logs: which log a line reads as, or why it is refused.
-use Rattle.std.specs.Prelude.{ℕ, ◌-◌, ◌^◌, Bool, List, [], ◌∷◌, ◌++◌, Option, Some, None, Result, Ok, Err, codes, drop, find, length, take, if◌then◌else◌}
+use Rattle.std.specs.Prelude.{ℕ, ◌-◌, Bool, List, [], ◌∷◌, ◌++◌, Option, Some, None, Result, Ok, Err, codes, drop, find, length, take, if◌then◌else◌}
 use Rattle.std.specs.Option.{option_and_then, option_map_or}
 use Rattle.std.specs.Str.{is_utf8}
+use Rattle.cg_base.specs.declared.limits.TheConstants.{COUNT_LIMIT}
 use Rattle.cg_base.specs.declared.action_id.ActionId.{ActionId}
 use Rattle.cg_base.specs.Text.{pieces_of}
 use Rattle.cg_text.specs.Order.{same_text}
@@ -52,7 +53,7 @@ named (Err fault) index = None
 abbrev pub id_of : List (List ℕ) → Option ActionId
 id_of [] = None
 id_of (creator ∷ []) = None
-id_of (creator ∷ index ∷ []) = named (number 1 32 creator) (number 1 (2 ^ 62 - 1) index)
+id_of (creator ∷ index ∷ []) = named (number 1 32 creator) (number 1 (COUNT_LIMIT - 1) index)
 id_of (creator ∷ index ∷ piece ∷ pieces) = None
 
 -- the name of an action that bytes spell: its creator, a colon, and its index

@@ -10,14 +10,11 @@ ghost use Rattle.cg_compare.specs.Lines.{each_id, ids_part, line_reading, log_re
 
 use crate::LogLine;
 use crate::log_line::LogWord;
-use cg_base::{ActionId, IdList, Pieces, ReplicaId, Row};
+use cg_base::{ActionId, COUNT_LIMIT, IdList, Pieces, ReplicaId, Row};
 use cg_schedule::{LineFault, SyntaxReason, take_number, take_token};
 use cg_text::{Words, is_passed_over, read_u64};
 use std::alloc::Global;
 use std::str::from_utf8;
-
-// an index is below 2^62
-const GREATEST_INDEX: u64 = (1 << 62) - 1;
 
 /// What the line says, without its end, or None where it is passed over. `has_ended` says that the end stood before it.
 pub fn read_log_line(
@@ -157,7 +154,7 @@ fn read_id(bytes: &[u8]) -> Option<ActionId>
         return None;
     }
     let creator = number(creator, 1, 32).ok()?;
-    let index = number(index, 1, GREATEST_INDEX).ok()?;
+    let index = number(index, 1, COUNT_LIMIT - 1).ok()?;
     Some(ActionId {
         creator: ReplicaId::known(creator as u8),
         index,

@@ -25,10 +25,15 @@ use std::marker::Model;
 type Map = IndexMap<Txt, Value>;
 
 /// A database. Clauses see its entries, ascending by key.
-#[derive(Drop)]
 pub struct Db {
     map: Map,
     alloc: Global,
+}
+
+impl Drop for Db {
+    fn drop(self) {
+        let Db { map: _, alloc: _ } = self;
+    }
 }
 
 impl Model for Db {

@@ -1,4 +1,5 @@
-ghost use Rattle.std.specs.Prelude.{◌≡◌, ◌≤◌, ◌<◌, ◌^◌};
+ghost use Rattle.std.specs.Prelude.{◌≡◌, ◌≤◌, ◌<◌};
+ghost use Rattle.cg_base.specs.declared.limits.TheConstants.{COUNT_LIMIT};
 ghost use Rattle.cg_gen.specs.Generated.{draw, draw_from_one};
 
 use cg_base::ReplicaId;
@@ -44,7 +45,7 @@ impl Draws {
 
     /// One of the m numbers from 1.
     pub(crate) fn draw_from_one(&mut self, m: u64) -> u64
-        requires { (1 ≤ m) × (m < 2 ^ 62) }
+        requires { (1 ≤ m) × (m < COUNT_LIMIT) }
         ensures value { result ≡ (draw_from_one m self.old).0 }
         ensures next { self.new ≡ (draw_from_one m self.old).1 }
         ensures range { (1 ≤ result) × (result ≤ m) }

@@ -8,9 +8,14 @@ use std::alloc::Global;
 use std::marker::Model;
 
 /// Actions in a row, each within the limits of an action. Clauses see the list of them.
-#[derive(Drop)]
 pub struct Actions {
     list: ActionList,
+}
+
+impl Drop for Actions {
+    fn drop(self) {
+        let Actions { list: _ } = self;
+    }
 }
 
 impl Model for Actions {

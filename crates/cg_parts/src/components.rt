@@ -1,17 +1,26 @@
 ghost use Rattle.std.specs.Prelude.{◌≡◌, ◌<◌, IsTrue, None, IfOk};
 ghost use Rattle.cg_records.specs.Limits.{IsNumber, IsPrimary, IsMaybeVulnerable};
 
-use cg_base::{NoMemory, WeightSet};
+use cg_base::{NUMBER_LIMIT, NoMemory, WeightSet};
 use cg_records::{Primary, Vulnerable};
 use std::marker::Model;
 
 /// What is known of primary components: the last one, how many attempts there were since, and the record of an attempt
 /// that others may have installed. Its numbers are below 2 ^ 63.
-#[derive(Drop)]
 pub struct Components {
     prim: Primary,
     attempt_index: u64,
     vulnerable: Option<Vulnerable>,
+}
+
+impl Drop for Components {
+    fn drop(self) {
+        let Components {
+            prim: _,
+            attempt_index: _,
+            vulnerable: _,
+        } = self;
+    }
 }
 
 impl Model for Components {
@@ -28,7 +37,7 @@ impl Model for Components {
 pub fn is_number(n: u64) -> bool
     ensures { IsTrue result → IsNumber n }
 {
-    n < LIMIT
+    n < NUMBER_LIMIT
 }
 
 fn is_prim(prim: &Primary) -> bool
@@ -52,9 +61,6 @@ fn is_record(v: &Option<Vulnerable>) -> bool
         }
     }
 }
-
-// numbers from here on have no bytes
-const LIMIT: u64 = 9223372036854775808;
 
 impl Components {
     /// Before the first primary component: these are its members.

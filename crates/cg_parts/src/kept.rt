@@ -5,9 +5,14 @@ use cg_action::Kind;
 use std::marker::Model;
 
 /// What a request that is kept asks for. Clauses see it.
-#[derive(Drop)]
 pub struct Kept {
     kind: Kind,
+}
+
+impl Drop for Kept {
+    fn drop(self) {
+        let Kept { kind: _ } = self;
+    }
 }
 
 impl Model for Kept {

@@ -1,6 +1,7 @@
 //! The actions that are known, each within the limits of an action.
-ghost use Rattle.std.specs.Prelude.{◌≡◌, ◌≤◌, ◌<◌, ◌^◌, ◌-◌, suc, filter, not, true, IfOk, IfSome, IsSome, MatchOption, OnOk};
+ghost use Rattle.std.specs.Prelude.{◌≡◌, ◌≤◌, ◌<◌, ◌-◌, suc, filter, not, true, IfOk, IfSome, IsSome, MatchOption, OnOk};
 ghost use Rattle.std.specs.Option.{option_copied};
+ghost use Rattle.cg_base.specs.declared.limits.TheConstants.{COUNT_LIMIT};
 ghost use Rattle.cg_base.specs.Cuts.{index_in};
 ghost use Rattle.cg_base.specs.Ids.{names};
 ghost use Rattle.cg_base.specs.Lists.{at_place};
@@ -18,9 +19,14 @@ use std::alloc::Global;
 use std::marker::Model;
 
 /// A queue. Clauses see what it holds.
-#[derive(Drop)]
 pub struct Known {
     queue: Queue,
+}
+
+impl Drop for Known {
+    fn drop(self) {
+        let Known { queue: _ } = self;
+    }
 }
 
 impl Model for Known {
@@ -37,7 +43,7 @@ impl Model for Known {
 impl Known {
     /// No action but those that were discarded: so many, and so far.
     pub fn resume(alloc: Global, white: u64, cut: Cut) -> Known
-        requires few { white ≤ 2 ^ 62 }
+        requires few { white ≤ COUNT_LIMIT }
         requires cut { Each (λ top. IsIndex top.index) cut }
         ensures { result ≡ resumed white cut }
     {
@@ -66,7 +72,7 @@ impl Known {
     pub fn mark_green(&mut self, at: u64, a: Action) -> Result<Mark, QueueFault>
         requires action { IsAction a }
         requires place { at ≤ suc (green_count self.old) }
-        requires few { green_count self.old < 2 ^ 62 }
+        requires few { green_count self.old < COUNT_LIMIT }
         requires next { at ≡ suc (green_count self.old) → a.id.index ≡ suc (index_in self.old.green_cut a.id.creator) }
         ensures { Answers (marked_green self.old at a) self.old self.new result }
     {
@@ -75,7 +81,7 @@ impl Known {
 
     /// The action of a name becomes green at the next place, if it is known. It isn't copied.
     pub fn turn_green(&mut self, id: ActionId) -> Result<(), NoMemory>
-        requires few { green_count self.old < 2 ^ 62 }
+        requires few { green_count self.old < COUNT_LIMIT }
         requires next { id.index ≡ suc (index_in self.old.green_cut id.creator) }
         ensures { OnOk result (MatchOption (action_of self.old id) (self.new ≡ self.old) (λ a. self.new ≡
             placed_green self.old a)) }
@@ -155,7 +161,7 @@ impl Known {
     pub fn green_at(&self, at: u64) -> Option<&Action>
         ensures value { option_copied result ≡ at_place self.now.greens (at - self.now.white) }
         ensures action { IfSome (at_place self.now.greens (at - self.now.white)) IsAction }
-        ensures small { IsSome result → at ≤ 2 ^ 62 }
+        ensures small { IsSome result → at ≤ COUNT_LIMIT }
     {
         if at > self.green_count() {
             return None;
@@ -214,7 +220,7 @@ impl Known {
     /// The number of greens, discarded ones counted.
     pub fn green_count(&self) -> u64
         ensures count { result ≡ green_count self.now }
-        ensures most { result ≤ 2 ^ 62 }
+        ensures most { result ≤ COUNT_LIMIT }
     {
         self.queue.green_count()
     }

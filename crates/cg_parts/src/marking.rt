@@ -1,5 +1,6 @@
 //! What a mark makes of the actions that are known and of the own ones.
-ghost use Rattle.std.specs.Prelude.{◌≡◌, ◌<◌, ◌^◌, ◌++◌, suc, OnOk};
+ghost use Rattle.std.specs.Prelude.{◌≡◌, ◌<◌, ◌++◌, suc, OnOk};
+ghost use Rattle.cg_base.specs.declared.limits.TheConstants.{COUNT_LIMIT};
 ghost use Rattle.cg_base.specs.Cuts.{index_in};
 ghost use Rattle.cg_action.specs.ActionLimits.{IsAction};
 ghost use Rattle.cg_queue.specs.Queue.{green_count, placed_red, placed_green};
@@ -77,7 +78,7 @@ pub fn put_red(queue: &mut Known, a: Action) -> Result<(), NoMemory>
 pub fn put_green(queue: &mut Known, at: u64, a: Action) -> Result<(), NoMemory>
     requires action { IsAction a }
     requires place { at ≡ suc (green_count queue.old) }
-    requires few { green_count queue.old < 2 ^ 62 }
+    requires few { green_count queue.old < COUNT_LIMIT }
     requires next { a.id.index ≡ suc (index_in queue.old.green_cut a.id.creator) }
     ensures { OnOk result (queue.new ≡ placed_green queue.old a) }
 {

@@ -8,9 +8,14 @@ use std::alloc::Global;
 use std::marker::Model;
 
 /// Messages in a row, each within the limits of a message. Clauses see the list of them.
-#[derive(Drop)]
 pub struct Messages {
     list: Row<Msg>,
+}
+
+impl Drop for Messages {
+    fn drop(self) {
+        let Messages { list: _ } = self;
+    }
 }
 
 impl Model for Messages {

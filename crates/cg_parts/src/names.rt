@@ -7,9 +7,14 @@ use std::alloc::Global;
 use std::marker::Model;
 
 /// Names of actions in a row, each within the limits of a name. Clauses see the list of them.
-#[derive(Drop)]
 pub struct Names {
     list: IdList,
+}
+
+impl Drop for Names {
+    fn drop(self) {
+        let Names { list: _ } = self;
+    }
 }
 
 impl Model for Names {

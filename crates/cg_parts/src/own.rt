@@ -14,10 +14,18 @@ use std::collections::VecDeque;
 use std::marker::Model;
 
 /// Actions that wait, and their names. Clauses see the list of the actions; each is within the limits of an action.
-#[derive(Drop)]
 pub struct Own {
     actions: Waiting<Action>,
     names: IdRuns,
+}
+
+impl Drop for Own {
+    fn drop(self) {
+        let Own {
+            actions: _,
+            names: _,
+        } = self;
+    }
 }
 
 impl Model for Own {

@@ -1,4 +1,5 @@
-ghost use Rattle.std.specs.Prelude.{◌≡◌, ◌≤◌, ◌^◌};
+ghost use Rattle.std.specs.Prelude.{◌≡◌, ◌≤◌};
+ghost use Rattle.cg_base.specs.declared.limits.TheConstants.{COUNT_LIMIT};
 ghost use Rattle.cg_action.specs.ActionLimits.{IsAction};
 ghost use Rattle.cg_members.specs.Servers.{starting, after_green, weight_of, white_line};
 ghost use Rattle.cg_records.specs.Limits.{Each, IsNumber};
@@ -9,9 +10,14 @@ use cg_members::Members;
 use std::marker::Model;
 
 /// The servers, each with a line below 2 ^ 63, and those that have left. Clauses see them.
-#[derive(Drop)]
 pub struct Servers {
     members: Members,
+}
+
+impl Drop for Servers {
+    fn drop(self) {
+        let Servers { members: _ } = self;
+    }
 }
 
 impl Model for Servers {
@@ -46,7 +52,7 @@ impl Servers {
     /// An action is green at a place.
     pub fn note_green(&mut self, at: u64, a: &Action)
         requires action { IsAction a.now }
-        requires few { at ≤ 2 ^ 62 }
+        requires few { at ≤ COUNT_LIMIT }
         ensures { self.new ≡ after_green self.old at a.now }
     {
         self.members.note_green(at, a);

@@ -48,6 +48,15 @@ lane-names b slot low high lane is_low is_high none =
     ∙ sym (plain-all (names_of (actions_in (b.reds slot))))
     ∙ ap (λ yellow. plain (seen (record b { yellow = yellow })).yellow (names_of (actions_in (b.reds slot)))) (sym none)
 
+-- ---- the slots behind the used ones
+
+pub reds-none : (lanes : ℕ → List Red) (count slot : ℕ) → ((k : ℕ) → slot ≤ k → k < slot + count → lanes k ≡ []) → reds_from lanes count slot ≡ []
+unfolding reds_from
+reds-none lanes zero slot none = refl
+reds-none lanes (suc count) slot none =
+    ap (λ row. actions_in row ++ reds_from lanes count (suc slot)) (none slot (omega arith) (omega arith))
+    ∙ reds-none lanes count (suc slot) (λ k le lt. none k (omega (arith, le)) (omega (arith, lt)))
+
 -- ---- some are
 
 plain-first : (yellow : List ActionId) (id : ActionId) (ids : List ActionId) (flag : Bool) → flag ≡ names yellow id → plain yellow (id ∷ ids) ≡ unless flag id ++ plain yellow ids

@@ -1,5 +1,6 @@
 -- How the actions of a queue are kept, and what is seen of them.
-use Rattle.std.specs.Prelude.{◌≡◌, ℕ, zero, suc, ◌+◌, ◌-◌, ◌≤◌, ◌<◌, ◌^◌, ◌==◌, nat_lt, Bool, true, false, List, [], ◌∷◌, ◌++◌, length, Option, Some, None, filter, fold, drop, map, if◌then◌else◌}
+use Rattle.std.specs.Prelude.{◌≡◌, ℕ, zero, suc, ◌+◌, ◌-◌, ◌≤◌, ◌<◌, ◌==◌, nat_lt, Bool, true, false, List, [], ◌∷◌, ◌++◌, length, Option, Some, None, filter, fold, drop, map, if◌then◌else◌}
+use Rattle.cg_base.specs.declared.limits.TheConstants.{COUNT_LIMIT}
 use Rattle.cg_base.specs.declared.action_id.ActionId.{ActionId}
 use Rattle.cg_base.specs.Ids.{names}
 use Rattle.cg_base.specs.Sets.{IsId}
@@ -129,7 +130,7 @@ pub record IsLane (b : Parts) (slot : ℕ) : Type 0 where
 pub record IsSound (b : Parts) : Type 0 where
   pub green : IsCut b.green_cut
   pub red : IsCut b.red_cut
-  pub count : b.white + length b.greens ≤ 2 ^ 62
+  pub count : b.white + length b.greens ≤ COUNT_LIMIT
   pub lanes : (slot : ℕ) → slot < 32 → IsLane b slot
   pub yellow : AreKnown b.red_cut b.yellow
   pub distinct : is_distinct b.yellow ≡ true

@@ -7,6 +7,7 @@ ghost use Rattle.cg_base.specs.CutLimits.{IsCut};
 ghost use Rattle.cg_queue.specs.Lanes.{HasRoom, rows_of};
 ghost use Rattle.cg_queue.specs.Body.{parts_of, flag_of, no_parts, BeginsWell, added_red, with_name, flagged, added_green, settled, cleared, dropped, renamed, flag_name, is_above, lane_of};
 ghost use Rattle.std.specs.Prelude.{filter, slice_get, ℕ, [], ◌∷◌, ◌++◌, true, ◌⊎◌};
+ghost use Rattle.cg_base.specs.declared.limits.TheConstants.{COUNT_LIMIT};
 
 use crate::lanes::Lanes;
 use crate::red::Red;
@@ -16,7 +17,6 @@ use std::alloc::Global;
 use std::collections::VecDeque;
 use std::mem;
 
-#[derive(Drop)]
 pub(crate) struct Body {
     pub(crate) white: u64,
     /// The kept greens, in order.
@@ -31,6 +31,21 @@ pub(crate) struct Body {
     pub(crate) yellow: Vec<ActionId>,
     /// How many of the yellow names have become green, less than half of them.
     pub(crate) stale: usize,
+}
+
+impl Drop for Body {
+    fn drop(self) {
+        let Body {
+            white: _,
+            greens: _,
+            green_cut: _,
+            red_cut: _,
+            reds: _,
+            positions: _,
+            yellow: _,
+            stale: _,
+        } = self;
+    }
 }
 
 pub(crate) fn empty_body(alloc: Global, white: u64, cut: Cut) -> Body
@@ -158,7 +173,7 @@ pub(crate) fn add_name(
 
 /// A creator's next green action.
 pub(crate) fn add_green(body: &mut Body, a: Action) -> Result<(), NoMemory>
-    requires { body.old.white + length body.old.greens.items < 2 ^ 62 }
+    requires { body.old.white + length body.old.greens.items < COUNT_LIMIT }
     ensures ok { OnOk result (parts_of body.new ≡ added_green (parts_of body.old) a) }
     ensures err { OnErr result (parts_of body.new ≡ parts_of body.old) }
 {
@@ -198,7 +213,7 @@ fn settle_green(body: &mut Body, id: &ActionId, slot: usize)
 
 /// A creator's first red action becomes green, if there is one.
 pub(crate) fn turn_first(body: &mut Body, slot: usize) -> Result<(), NoMemory>
-    requires few { body.old.white + length body.old.greens.items < 2 ^ 62 }
+    requires few { body.old.white + length body.old.greens.items < COUNT_LIMIT }
     requires slot { slot < 32 }
     ensures ok { OnOk
         result (MatchOption (slice_get (rows_of body.old.reds slot) 0) (parts_of body.new ≡ parts_of body.old)
@@ -242,7 +257,7 @@ fn keep_above(list: &mut Vec<ActionId>, cut: &Cut)
 
 /// The first green is discarded, if there is one.
 pub(crate) fn drop_green(body: &mut Body)
-    requires { body.old.white < 2 ^ 62 }
+    requires { body.old.white < COUNT_LIMIT }
     ensures value { parts_of body.new ≡ dropped (parts_of body.old) }
     ensures creator { BeginsWell body.old.greens.items }
 {

@@ -1,6 +1,6 @@
 //! Things in a row for each creator.
 
-ghost use Rattle.std.specs.Prelude.{◌≡◌, ◌<◌, ℕ, List, [], ◌∷◌, ◌++◌, length, drop, slice_get, OnOk, OnErr, vec_len, map};
+ghost use Rattle.std.specs.Prelude.{◌≡◌, ◌<◌, ◌≤◌, ℕ, List, [], ◌∷◌, ◌++◌, length, drop, slice_get, OnOk, OnErr, vec_len, map};
 ghost use Rattle.std.specs.Option.{option_copied};
 ghost use Rattle.std.specs.VecDeque.{deque_items};
 ghost use Rattle.cg_queue.specs.Lanes.{HasRoom, lane_at, rows_of, with_lane, front_of, marked_at};
@@ -46,6 +46,15 @@ impl<T> Lanes<T> {
         } else {
             None
         }
+    }
+
+    /// The rows of the slots from here on are empty.
+    pub(crate) fn used(&self) -> usize
+        ensures most { result ≤ 32 }
+        ensures rest { (slot : ℕ) → result ≤ slot → slot < 32 → rows_of self.now slot ≡ [] }
+    {
+        let count = self.rows.len();
+        if count < 32 { count } else { 32 }
     }
 
     /// Puts a thing at the end of a row.

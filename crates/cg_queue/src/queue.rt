@@ -1,5 +1,6 @@
-ghost use Rattle.std.specs.Prelude.{◌≡◌, ◌≤◌, ◌<◌, ◌-◌, ◌^◌, ◌++◌, ◌∷◌, ◌==◌, ◌&&◌, [], nat_lt, suc, drop, filter, not, true, length, slice_get, IfOk, OnOk, OnErr, MatchOption};
+ghost use Rattle.std.specs.Prelude.{◌≡◌, ◌≤◌, ◌<◌, ◌-◌, ◌++◌, ◌∷◌, ◌==◌, ◌&&◌, [], nat_lt, suc, drop, filter, not, true, length, slice_get, IfOk, OnOk, OnErr, MatchOption};
 ghost use Rattle.std.specs.Option.{option_copied};
+ghost use Rattle.cg_base.specs.declared.limits.TheConstants.{COUNT_LIMIT, LIST_LIMIT};
 ghost use Rattle.cg_base.specs.Cuts.{index_in};
 ghost use Rattle.cg_base.specs.Lists.{at_place};
 ghost use Rattle.cg_queue.specs.Lanes.{rows_of};
@@ -22,10 +23,15 @@ use std::collections::VecDeque;
 use std::marker::Model;
 
 /// The actions that a replica knows.
-#[derive(Drop)]
 pub struct Queue {
     body: Body,
     alloc: Global,
+}
+
+impl Drop for Queue {
+    fn drop(self) {
+        let Queue { body: _, alloc: _ } = self;
+    }
 }
 
 impl Model for Queue {
@@ -54,7 +60,7 @@ impl Queue {
 
     /// A queue that knows no action but those that were discarded: so many greens, of each creator those up to the cut.
     pub fn resume(alloc: Global, white: u64, cut: Cut) -> Queue
-        requires { white ≤ 2 ^ 62 }
+        requires { white ≤ COUNT_LIMIT }
         ensures { result ≡ resumed white cut }
     {
         Queue {
@@ -131,7 +137,7 @@ impl Queue {
     /// next green one; it is then no more red or yellow. Known says exactly that the place is at most the count.
     pub fn mark_green(&mut self, at: u64, a: Action) -> Result<Mark, QueueFault>
         requires position { at ≤ suc (green_count self.old) }
-        requires few { green_count self.old < 2 ^ 62 }
+        requires few { green_count self.old < COUNT_LIMIT }
         requires next { at ≡ suc (green_count self.old) → a.id.index ≡ suc (index_in self.old.green_cut a.id.creator) }
         ensures { Answers (marked_green self.old at a) self.old self.new result }
     {
@@ -153,7 +159,7 @@ impl Queue {
     /// The action of a name becomes green at the next place, as by `mark_green`, if it is red: it is its creator's next green
     /// one. It isn't copied.
     pub fn turn_green(&mut self, id: ActionId) -> Result<(), NoMemory>
-        requires few { green_count self.old < 2 ^ 62 }
+        requires few { green_count self.old < COUNT_LIMIT }
         requires next { id.index ≡ suc (index_in self.old.green_cut id.creator) }
         ensures ok { OnOk result (MatchOption (action_of self.old id) (self.new ≡ self.old) (λ a. self.new ≡
             placed_green self.old a)) }
@@ -246,7 +252,8 @@ impl Queue {
         ensures { IfOk result (λ ids. ids ≡ filter (λ id. not (names self.now.yellow id)) (names_of self.now.reds)) }
     {
         let mut ids = IdRuns::new(self.alloc);
-        for slot in 0..32 {
+        let used = self.body.reds.used();
+        for slot in 0..used {
             add_plain_names(&self.body, slot, &mut ids)?;
         }
         Ok(ids)
@@ -261,7 +268,7 @@ impl Queue {
 
     /// The number of reds. None says that there are 2^32 or more.
     pub fn red_count(&self) -> Option<u32>
-        ensures { MatchOption result (2 ^ 32 ≤ length self.now.reds) (λ count. count ≡ length self.now.reds) }
+        ensures { MatchOption result (LIST_LIMIT ≤ length self.now.reds) (λ count. count ≡ length self.now.reds) }
     {
         count_in(&self.body.reds)
     }
@@ -364,7 +371,7 @@ impl Queue {
     /// The number of greens, discarded ones counted.
     pub fn green_count(&self) -> u64
         ensures count { result ≡ green_count self.now }
-        ensures most { result ≤ 2 ^ 62 }
+        ensures most { result ≤ COUNT_LIMIT }
     {
         self.body.white + self.body.greens.len() as u64
     }
@@ -402,7 +409,7 @@ fn action_at(reds: &Lanes<Red>, slot: usize, i: usize) -> Option<&Action>
 }
 
 fn count_in(reds: &Lanes<Red>) -> Option<u32>
-    ensures { MatchOption result (2 ^ 32 ≤ length (all_reds (rows_of reds.now))) (λ count. count ≡
+    ensures { MatchOption result (LIST_LIMIT ≤ length (all_reds (rows_of reds.now))) (λ count. count ≡
         length (all_reds (rows_of reds.now))) }
 {
     let mut count: usize = 0;

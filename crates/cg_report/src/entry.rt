@@ -7,10 +7,16 @@ use cg_base::{ActionId, IdList, ReplicaId, Row};
 use std::alloc::Global;
 
 /// An action that is shown as made: its name, and what it does.
-#[derive(Drop, PartialEq, Eq)]
+#[derive(PartialEq, Eq)]
 pub struct Made {
     pub id: ActionId,
     pub kind: Kind,
+}
+
+impl Drop for Made {
+    fn drop(self) {
+        let Made { id: _, kind: _ } = self;
+    }
 }
 
 /// A place of the global order, counted from 1, and the name of its action.
@@ -21,15 +27,25 @@ pub struct Placed {
 }
 
 /// What a client is told of its request: what the action did, and what its query finds behind it.
-#[derive(Drop, PartialEq, Eq)]
+#[derive(PartialEq, Eq)]
 pub struct Reply {
     pub id: ActionId,
     pub effect: Effect,
     pub answer: Option<Answer>,
 }
 
+impl Drop for Reply {
+    fn drop(self) {
+        let Reply {
+            id: _,
+            effect: _,
+            answer: _,
+        } = self;
+    }
+}
+
 /// What an event asks to be shown.
-#[derive(Drop, PartialEq, Eq)]
+#[derive(PartialEq, Eq)]
 pub enum Shown {
     /// What the replica's green actions answer.
     Weak {
@@ -61,16 +77,45 @@ pub enum Shown {
     All(IdList),
 }
 
+impl Drop for Shown {
+    fn drop(self) {
+        match self {
+            Shown::Weak { p: _, answer: _ } => {}
+            Shown::Dirty { p: _, answer: _ } => {}
+            Shown::Pieces {
+                joiner: _,
+                taken: _,
+                all: _,
+            } => {}
+            Shown::Greens { p: _, list: _ } => {}
+            Shown::Database { p: _, entries: _ } => {}
+            Shown::All(_) => {}
+        }
+    }
+}
+
 /// All that a step shows, part by part: the actions made in it; the places of the global order that a replica was the
 /// first to reach; the lines of the replicas that differ from their last ones, ascending; the replies given; and what
 /// its event asked for.
-#[derive(Drop, PartialEq, Eq)]
+#[derive(PartialEq, Eq)]
 pub struct Entry {
     pub made: Row<Made>,
     pub orders: Row<Placed>,
     pub lines: Row<Line>,
     pub replies: Row<Reply>,
     pub shown: Row<Shown>,
+}
+
+impl Drop for Entry {
+    fn drop(self) {
+        let Entry {
+            made: _,
+            orders: _,
+            lines: _,
+            replies: _,
+            shown: _,
+        } = self;
+    }
 }
 
 impl Entry {

@@ -24,7 +24,7 @@ pub enum ShownPhase {
 }
 
 /// What a replica's line shows of what it holds.
-#[derive(Drop, PartialEq, Eq)]
+#[derive(PartialEq, Eq)]
 pub struct View {
     pub green_count: u64,
     pub white_count: u64,
@@ -38,17 +38,50 @@ pub struct View {
     pub buffered: u64,
 }
 
+impl Drop for View {
+    fn drop(self) {
+        let View {
+            green_count: _,
+            white_count: _,
+            prim: _,
+            attempt_index: _,
+            vulnerable: _,
+            yellow: _,
+            reds: _,
+            own: _,
+            left: _,
+            buffered: _,
+        } = self;
+    }
+}
+
 /// The line of a replica that is up, but for its identifier.
-#[derive(Drop, PartialEq, Eq)]
+#[derive(PartialEq, Eq)]
 pub struct UpLine {
     pub state: StateName,
     pub phase: ShownPhase,
     pub view: View,
 }
 
+impl Drop for UpLine {
+    fn drop(self) {
+        let UpLine {
+            state: _,
+            phase: _,
+            view: _,
+        } = self;
+    }
+}
+
 /// The line of a replica; None says that it is down.
-#[derive(Drop, PartialEq, Eq)]
+#[derive(PartialEq, Eq)]
 pub struct Line {
     pub id: ReplicaId,
     pub up: Option<UpLine>,
+}
+
+impl Drop for Line {
+    fn drop(self) {
+        let Line { id: _, up: _ } = self;
+    }
 }

@@ -233,6 +233,20 @@ pub printed_reads : TokenFacts → TextFacts → (state : ReaderState) (e : Even
 printed_reads facts texts state e within may =
     reads_from facts texts state (line_of e) e record { stands = printed_stands e; is_text = is_utf8-from_IsUtf8 (line_of e) (printed facts texts e within).utf8; may_stand = may; within = within; same_tokens = refl }
 
+-- the parts behind the word alone
+others : (t : List ℕ) (l m : List (List ℕ)) → t ∷ l ≡ t ∷ m → l ≡ m
+others t l m e = cc
+
+pub parts_into : TokenFacts → TextFacts → (e : Event) (parts : List (List ℕ)) → whole (event_reading (event_word e)) parts ≡ Ok e → IsEvent e × (tokens (line_of e) ≡ word_text (event_word e) ∷ parts)
+parts_into facts texts e parts f =
+    let k : EventFound (event_word e) parts e = event_found texts (event_word e) parts e f in
+    (k.0, printed_tokens facts texts e k.0 ∙ ap (λ ts. word_text (event_word e) ∷ ts) (sym k.2))
+
+pub parts_from : TokenFacts → TextFacts → (e : Event) (parts : List (List ℕ)) → IsEvent e × (tokens (line_of e) ≡ word_text (event_word e) ∷ parts) → whole (event_reading (event_word e)) parts ≡ Ok e
+parts_from facts texts e parts is =
+    let same : event_parts e ≡ parts = others (word_text (event_word e)) (event_parts e) parts (sym (printed_tokens facts texts e is.0) ∙ is.1) in
+    rw (← same) (event_again texts e is.0)
+
 -- the event of a line is that of its tokens
 same_opening : (state there : ReaderState) (line other : List ℕ) (a b : Word × List (List ℕ)) → Opens state line a → Opens there other b → tokens line ≡ tokens other → (word_of (word_text a.0) ≡ word_of (word_text b.0)) × (a.1 ≡ b.1)
 same_opening state there line other a b x y same =

@@ -2,7 +2,7 @@ use cg_action::{CmdList, Query};
 use cg_base::{Bytes, IdSet, ReplicaId, WeightSet};
 
 /// One event of a schedule.
-#[derive(Drop, PartialEq, Eq)]
+#[derive(PartialEq, Eq)]
 pub enum Event {
     /// These replicas begin, each alone, as the servers of one database.
     Start(WeightSet),
@@ -79,4 +79,47 @@ pub enum Event {
         joiner: ReplicaId,
         pieces: u64,
     },
+}
+
+impl Drop for Event {
+    fn drop(self) {
+        match self {
+            Event::Start(_) => {}
+            Event::Split(_) => {}
+            Event::Merge(_) => {}
+            Event::Request {
+                p: _,
+                cmds: _,
+                query: _,
+            } => {}
+            Event::Weak { p: _, query: _ } => {}
+            Event::Dirty { p: _, query: _ } => {}
+            Event::Order(_) => {}
+            Event::Recover(_) => {}
+            Event::Show(_) => {}
+            Event::ShowOrder => {}
+            Event::Gather => {}
+            Event::End => {}
+            Event::Receive { p: _, place: _ } => {}
+            Event::Deliver { p: _, count: _ } => {}
+            Event::Rounds(_) => {}
+            Event::Stop {
+                p: _,
+                call: _,
+                fill: _,
+            } => {}
+            Event::Fail { p: _, call: _ } => {}
+            Event::Join {
+                p: _,
+                joiner: _,
+                weight: _,
+            } => {}
+            Event::Leave { p: _, server: _ } => {}
+            Event::Transfer {
+                p: _,
+                joiner: _,
+                pieces: _,
+            } => {}
+        }
+    }
 }

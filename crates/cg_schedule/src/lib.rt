@@ -20,7 +20,7 @@ mod word;
 pub use command::{take_query, take_update};
 pub use event::Event;
 pub use fault::{LineFault, SyntaxReason};
-pub use laws::{lines_are_exact, printed_lines_are_read};
+pub use laws::{lines_are_exact, parts_are_exact, printed_lines_are_read};
 pub use part::{take_count, take_fill, take_id, take_number, take_token};
 pub use print::print_line;
 pub use reader::Reader;

@@ -18,9 +18,14 @@ use std::marker::Model;
 use std::str::from_utf8;
 
 /// A reader of a schedule's lines, one after the other. Clauses see its state: what stood before the next line.
-#[derive(Drop)]
 pub struct Reader {
     state: ReaderState,
+}
+
+impl Drop for Reader {
+    fn drop(self) {
+        let Reader { state: _ } = self;
+    }
 }
 
 impl Model for Reader {

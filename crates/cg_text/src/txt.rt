@@ -15,9 +15,14 @@ use std::str::from_utf8_unchecked;
 
 /// A text in UTF-8. Clauses see its bytes, by which it is compared. One of at most 16 bytes, as most keys are, lies in the value
 /// itself and takes no memory.
-#[derive(Drop)]
 pub struct Txt {
     bytes: SmallVec<u8, 16>,
+}
+
+impl Drop for Txt {
+    fn drop(self) {
+        let Txt { bytes: _ } = self;
+    }
 }
 
 impl Model for Txt {

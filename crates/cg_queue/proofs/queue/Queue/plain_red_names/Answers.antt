@@ -1,9 +1,9 @@
-use Rattle.std.proofs.Common.{◌≡◌, ◌∙◌, ◌++◌, ◌+◌, ◌-◌, suc, ap, sym, arith, append_assoc}
+use Rattle.std.proofs.Common.{◌≡◌, ◌∙◌, ℕ, ◌≤◌, ◌<◌, [], ◌++◌, ◌+◌, ◌-◌, suc, ap, sym, arith, append_assoc}
 use Rattle.cg_queue.specs.Body.{parts_of, seen, actions_in, reds_from}
 use Rattle.cg_queue.specs.Queue.{names_of}
 use Rattle.cg_queue.proofs.RowLemmas.{append-nothing}
-use Rattle.cg_queue.proofs.Soundness.{reds-end, reds-all}
-use Rattle.cg_queue.proofs.PlainReds.{plain, plain-step}
+use Rattle.cg_queue.proofs.Soundness.{reds-all}
+use Rattle.cg_queue.proofs.PlainReds.{plain, plain-step, reds-none}
 use Rattle.cg_queue.proofs.queue.Queue.plain_red_names.Goals as goal
 
 pub loop-slot-init : goal.loop-slot-init
@@ -28,8 +28,10 @@ pub returns : goal.returns
 returns c =
     let b = parts_of c.self.inside.body in
     let slot = c.loop-slot.slot in
+    let last : c.used-used.result ≤ slot = omega arith in
+    let behind : (k : ℕ) → slot ≤ k → k < slot + (32 - slot) → b.reds k ≡ [] = λ k le lt. c.used-used.ensures.rest k (omega (arith, last, le)) (omega (arith, le, lt)) in
     sym (append-nothing c.loop-slot.ids)
-    ∙ ap (λ reds. c.loop-slot.ids ++ plain (seen b).yellow (names_of reds)) (sym (reds-end b.reds slot (omega arith)))
+    ∙ ap (λ reds. c.loop-slot.ids ++ plain (seen b).yellow (names_of reds)) (sym (reds-none b.reds (32 - slot) slot behind))
     ∙ c.loop-slot.invariant
     ∙ ap (λ q. plain q.yellow (names_of q.reds)) c.self.view_is
 
