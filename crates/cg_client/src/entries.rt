@@ -13,9 +13,14 @@ use std::alloc::Global;
 use std::marker::Model;
 
 /// A database whose entries are those of actions. Clauses see them, ascending by key.
-#[derive(Drop)]
 pub(crate) struct Entries {
     db: Db,
+}
+
+impl Drop for Entries {
+    fn drop(self) {
+        let Entries { db: _ } = self;
+    }
 }
 
 impl Model for Entries {

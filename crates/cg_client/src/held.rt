@@ -7,20 +7,30 @@ use cg_parts::{Components, Kept, Known, Own, Servers, Waiting, last_index};
 use std::alloc::Global;
 use std::marker::Model;
 
-/// What a replica holds in every state. Clauses see it as a `Held`. What is large is boxed, since a replica moves from state to
+/// What a replica holds in every state. Clauses see it as a `Held`. It is one box, since a replica moves from state to
 /// state as a value.
-#[derive(Drop)]
 pub struct Core {
+    pub(crate) held: Box<Holding>,
+}
+
+#[derive(Drop)]
+pub(crate) struct Holding {
     pub(crate) id: ReplicaId,
-    pub(crate) queue: Box<Known>,
+    pub(crate) queue: Known,
     pub(crate) yellow_valid: bool,
     pub(crate) own: Own,
-    pub(crate) db: Box<Entries>,
-    pub(crate) members: Box<Servers>,
-    pub(crate) components: Box<Components>,
+    pub(crate) db: Entries,
+    pub(crate) members: Servers,
+    pub(crate) components: Components,
     pub(crate) buffered: Row<Kept>,
     pub(crate) owed: Waiting<ActionId>,
     pub(crate) alloc: Global,
+}
+
+impl Drop for Core {
+    fn drop(self) {
+        let Core { held: _ } = self;
+    }
 }
 
 impl Model for Core {
@@ -29,49 +39,47 @@ impl Model for Core {
     ghost Value = { Held };
 
     ghost view = { λ c. record {
-      id = c.id;
-      queue = c.queue.value;
-      yellow_valid = c.yellow_valid;
-      own = c.own;
-      db = c.db.value;
-      members = c.members.value;
-      prim = c.components.value.prim;
-      attempt_index = c.components.value.attempt_index;
-      vulnerable = c.components.value.vulnerable;
-      buffered = c.buffered;
-      owed = c.owed;
+      id = c.held.value.id;
+      queue = c.held.value.queue;
+      yellow_valid = c.held.value.yellow_valid;
+      own = c.held.value.own;
+      db = c.held.value.db;
+      members = c.held.value.members;
+      prim = c.held.value.components.prim;
+      attempt_index = c.held.value.components.attempt_index;
+      vulnerable = c.held.value.components.vulnerable;
+      buffered = c.held.value.buffered;
+      owed = c.held.value.owed;
     } };
 }
-
-// more of a replica's actions, and more greens, than any run makes
-pub(crate) const MOST: u64 = 4611686018427387904;
 
 impl Core {
     /// What a new replica holds, among the servers of the start.
     pub fn fresh(alloc: Global, id: ReplicaId, servers: &WeightSet) -> Result<Core, NoMemory>
         ensures { IfOk result (λ core. core ≡ fresh_held id servers.now) }
     {
-        let queue = Box::new(alloc, Known::resume(alloc, 0, Cut::zero()))?;
-        let db = Box::new(alloc, Entries::new(alloc))?;
-        let members = Box::new(alloc, Servers::start(*servers))?;
-        let components = Box::new(alloc, Components::start(*servers))?;
-        Ok(Core {
+        let holding = Holding {
             id,
-            queue,
+            queue: Known::resume(alloc, 0, Cut::zero()),
             yellow_valid: false,
             own: Own::new(alloc),
-            db,
-            members,
-            components,
+            db: Entries::new(alloc),
+            members: Servers::start(*servers),
+            components: Components::start(*servers),
             buffered: Row::new(alloc),
             owed: Waiting::new(alloc),
             alloc,
-        })
+        };
+        let held = Box::new(alloc, holding)?;
+        Ok(Core { held })
     }
 
     pub(crate) fn last_created(&self) -> u64
         ensures { result ≡ created self.now }
     {
-        self.queue.red_index(self.id).max(last_index(&self.own))
+        self.held
+            .queue
+            .red_index(self.held.id)
+            .max(last_index(&self.held.own))
     }
 }

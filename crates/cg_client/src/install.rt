@@ -31,7 +31,7 @@ impl Core {
         ensures { OnOk result ((state : State) →
             turn_with self.new state draft.new ≡ reds_green (turn_with self.old state draft.old)) }
     {
-        let reds = self.queue.reds()?;
+        let reds = self.held.queue.reds()?;
         self.green_all(draft, reds)
     }
 
@@ -39,20 +39,21 @@ impl Core {
         ensures { OnOk result ((state : State) →
             turn_with self.new state draft.new ≡ yellow_green (turn_with self.old state draft.old)) }
     {
-        if !self.yellow_valid {
+        if !self.held.yellow_valid {
             return Ok(());
         }
-        let yellow = self.queue.yellow()?;
-        let actions = actions_named(self.alloc, &self.queue, yellow.as_slice())?;
+        let yellow = self.held.queue.yellow()?;
+        let actions = actions_named(self.held.alloc, &self.held.queue, yellow.as_slice())?;
         self.green_all(draft, actions.into_list())
     }
 
     fn set_prim(&mut self, prim: Primary) -> Result<(), NoMemory>
         ensures { OnOk result (self.new ≡ with_prim self.old prim) }
     {
-        self.queue.set_yellow(&Row::new(self.alloc))?;
-        self.yellow_valid = false;
-        *self.components = Components::of(prim, 0, self.components.vulnerable())?;
+        let none = Row::new(self.held.alloc);
+        self.held.queue.set_yellow(&none)?;
+        self.held.yellow_valid = false;
+        self.held.components = Components::of(prim, 0, self.held.components.vulnerable())?;
         Ok(())
     }
 
@@ -60,8 +61,8 @@ impl Core {
     fn prim_after(&self) -> Result<Primary, NoMemory>
         ensures { IfOk result (λ prim. prim ≡ prim_after self.now self.now.vulnerable) }
     {
-        let prim = self.components.prim();
-        let Some(v) = self.components.vulnerable() else {
+        let prim = self.held.components.prim();
+        let Some(v) = self.held.components.vulnerable() else {
             return Ok(prim);
         };
         // more primary components than any run makes
@@ -71,7 +72,7 @@ impl Core {
         Ok(Primary {
             index,
             conf: v.attempt,
-            set: weigh(&self.members, &v.set),
+            set: weigh(&self.held.members, &v.set),
         })
     }
 
@@ -98,9 +99,14 @@ impl Core {
 
 /// An attempt that was installed here. Clauses see what the replica holds behind it. `RegPrim` and `TransPrim` behind an
 /// installation are made of it alone.
-#[derive(Drop)]
 pub struct Installed {
     core: Core,
+}
+
+impl Drop for Installed {
+    fn drop(self) {
+        let Installed { core: _ } = self;
+    }
 }
 
 impl Model for Installed {

@@ -13,7 +13,7 @@ impl Core {
         ensures value { result.now ≡ self.now.queue }
         ensures kept { AreKept self.now.queue }
     {
-        self.queue.queue()
+        self.held.queue.queue()
     }
 
     /// What the greens have made of the database.
@@ -21,6 +21,6 @@ impl Core {
         ensures value { result.now ≡ self.now.db }
         ensures limits { AreEntries self.now.db }
     {
-        self.db.db()
+        self.held.db.db()
     }
 }

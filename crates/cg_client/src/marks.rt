@@ -10,11 +10,10 @@ ghost use Rattle.cg_client.specs.Marks.{is_unmade, can_be_green, after_owed, is_
 ghost use Rattle.cg_queue.specs.Queue.{marked_red, marked_yellow};
 
 use crate::entries::Entries;
-use crate::held::MOST;
 use crate::{Core, Draft};
 use cg_action::{Action, Kind};
 use cg_answer::{Answer, Effect};
-use cg_base::{ActionId, NoMemory, Row};
+use cg_base::{ActionId, COUNT_LIMIT, NoMemory, Row};
 use cg_parts::{Waiting, drop_own, name_of, note_unknown, put_green};
 use cg_queue::{Mark, QueueFault, is_next};
 use cg_report::Reply;
@@ -33,7 +32,7 @@ impl Core {
     fn is_unmade(&self, a: &Action) -> bool
         ensures { result ≡ is_unmade self.now a.now }
     {
-        a.id.creator == self.id && self.last_created() < a.id.index
+        a.id.creator == self.held.id && self.last_created() < a.id.index
     }
 
     #[tactic(auto, unfolding(crate::specs::Marks::can_be_green))]
@@ -41,7 +40,7 @@ impl Core {
         ensures value { result ≡ can_be_green self.now a.now }
         ensures next { IsTrue result → a.now.id.index ≡ suc (index_in self.now.queue.green_cut a.now.id.creator) }
     {
-        is_next(a.id.index, self.queue.green_index(a.id.creator)) && !self.is_unmade(a)
+        is_next(a.id.index, self.held.queue.green_index(a.id.creator)) && !self.is_unmade(a)
     }
 
     /// Marks an action red, where it is the next of its creator.
@@ -63,10 +62,10 @@ impl Core {
             marked (turn_with self.old state draft.old) a (marked_red self.old.queue a)) }
     {
         let id = name_of(&a);
-        let copy = a.copy(self.alloc)?;
-        match self.queue.mark_red(a) {
+        let copy = a.copy(self.held.alloc)?;
+        match self.held.queue.mark_red(a) {
             Ok(Mark::Placed) => {
-                drop_own(&mut self.own, &id);
+                drop_own(&mut self.held.own, &id);
                 draft.known.push(copy)
             }
             Ok(Mark::Known) => Ok(()),
@@ -94,10 +93,10 @@ impl Core {
             marked (turn_with self.old state draft.old) a (marked_yellow self.old.queue a)) }
     {
         let id = name_of(&a);
-        let copy = a.copy(self.alloc)?;
-        match self.queue.mark_yellow(a) {
+        let copy = a.copy(self.held.alloc)?;
+        match self.held.queue.mark_yellow(a) {
             Ok(Mark::Placed) => {
-                drop_own(&mut self.own, &id);
+                drop_own(&mut self.held.own, &id);
                 draft.known.push(copy)
             }
             Ok(Mark::Known) => Ok(()),
@@ -125,7 +124,7 @@ impl Core {
         ensures { OnOk result ((state : State) →
             turn_with self.new state draft.new ≡ mark_green_at (turn_with self.old state draft.old) at a) }
     {
-        if !is_next(at, self.queue.green_count()) {
+        if !is_next(at, self.held.queue.green_count()) {
             return Ok(());
         }
         self.mark_green(draft, a)
@@ -138,18 +137,19 @@ impl Core {
         ensures { OnOk result ((state : State) →
             turn_with self.new state draft.new ≡ place_green (turn_with self.old state draft.old) a) }
     {
-        let count = self.queue.green_count();
-        if count >= MOST {
+        let count = self.held.queue.green_count();
+        if count >= COUNT_LIMIT {
             return Err(NoMemory);
         }
         let id = name_of(&a);
-        note_unknown(self.alloc, &self.queue, &mut draft.known, &a)?;
+        note_unknown(self.held.alloc, &self.held.queue, &mut draft.known, &a)?;
         draft.green.push(id)?;
-        let effect = self.db.apply(&a)?;
-        reply(&self.db, &mut self.owed, &mut draft.replies, &a, effect)?;
-        drop_own(&mut self.own, &id);
-        self.members.note_green(count + 1, &a);
-        put_green(&mut self.queue, count + 1, a)
+        let held = &mut *self.held;
+        let effect = held.db.apply(&a)?;
+        reply(&held.db, &mut held.owed, &mut draft.replies, &a, effect)?;
+        drop_own(&mut held.own, &id);
+        held.members.note_green(count + 1, &a);
+        put_green(&mut held.queue, count + 1, a)
     }
 }
 

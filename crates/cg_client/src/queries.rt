@@ -16,7 +16,7 @@ impl Core {
     pub fn weak(&self, q: &Query) -> Result<Answer, NoMemory>
         ensures { IfOk result (λ found. found ≡ weak_answer self.now q.now) }
     {
-        self.db.answer(q)
+        self.held.db.answer(q)
     }
 
     /// What all actions that the replica knows answer. It copies the red actions and, of the database, what stands at the
@@ -24,10 +24,10 @@ impl Core {
     pub fn dirty(&self, q: &Query) -> Result<Answer, NoMemory>
         ensures { IfOk result (λ found. found ≡ dirty_answer self.now q.now) }
     {
-        let yellow = self.queue.yellow()?;
-        let mut actions = actions_named(self.alloc, &self.queue, yellow.as_slice())?;
-        add_plain_reds(&self.queue, &mut actions)?;
-        answer_behind(self.alloc, self.db.db(), actions, q)
+        let yellow = self.held.queue.yellow()?;
+        let mut actions = actions_named(self.held.alloc, &self.held.queue, yellow.as_slice())?;
+        add_plain_reds(&self.held.queue, &mut actions)?;
+        answer_behind(self.held.alloc, self.held.db.db(), actions, q)
     }
 
     /// What its line shows. It copies names alone.
@@ -35,21 +35,21 @@ impl Core {
     pub fn view(&self) -> Result<View, NoMemory>
         ensures { IfOk result (λ v. v ≡ view_of self.now) }
     {
-        let list = self.queue.yellow()?;
+        let list = self.held.queue.yellow()?;
         Ok(View {
-            green_count: self.queue.green_count(),
-            white_count: self.queue.white_count(),
-            prim: self.components.prim(),
-            attempt_index: self.components.attempt_index(),
-            vulnerable: self.components.vulnerable(),
-            reds: plain_names(&self.queue)?,
+            green_count: self.held.queue.green_count(),
+            white_count: self.held.queue.white_count(),
+            prim: self.held.components.prim(),
+            attempt_index: self.held.components.attempt_index(),
+            vulnerable: self.held.components.vulnerable(),
+            reds: plain_names(&self.held.queue)?,
             yellow: Yellow {
-                valid: self.yellow_valid,
+                valid: self.held.yellow_valid,
                 list,
             },
-            own: self.own.names(self.alloc)?,
-            left: self.members.left(),
-            buffered: self.buffered.len() as u64,
+            own: self.held.own.names(self.held.alloc)?,
+            left: self.held.members.left(),
+            buffered: self.held.buffered.len() as u64,
         })
     }
 }

@@ -1,6 +1,7 @@
 //! What stands in a replica: for the states, the store and the layers above.
-ghost use Rattle.std.specs.Prelude.{◌≡◌, ◌≤◌, ◌-◌, ◌^◌, length, slice_get, IfOk, IfSome, IsSome};
+ghost use Rattle.std.specs.Prelude.{◌≡◌, ◌≤◌, ◌-◌, length, slice_get, IfOk, IfSome, IsSome};
 ghost use Rattle.std.specs.Option.{option_copied};
+ghost use Rattle.cg_base.specs.declared.limits.TheConstants.{COUNT_LIMIT};
 ghost use Rattle.cg_base.specs.Cuts.{index_in};
 ghost use Rattle.cg_base.specs.Ids.{names};
 ghost use Rattle.cg_base.specs.Lists.{at_place};
@@ -23,12 +24,12 @@ impl Core {
     pub fn id(&self) -> ReplicaId
         ensures { result ≡ self.now.id }
     {
-        self.id
+        self.held.id
     }
 
     /// From where its memory is taken.
     pub fn alloc(&self) -> Global {
-        self.alloc
+        self.held.alloc
     }
 
     /// The last known primary component.
@@ -36,21 +37,21 @@ impl Core {
         ensures value { result ≡ self.now.prim }
         ensures limits { IsPrimary self.now.prim }
     {
-        self.components.prim()
+        self.held.components.prim()
     }
 
     pub fn attempt_index(&self) -> u64
         ensures value { result ≡ self.now.attempt_index }
         ensures limits { IsNumber self.now.attempt_index }
     {
-        self.components.attempt_index()
+        self.held.components.attempt_index()
     }
 
     pub fn vulnerable(&self) -> Option<Vulnerable>
         ensures value { result ≡ self.now.vulnerable }
         ensures limits { IsMaybeVulnerable self.now.vulnerable }
     {
-        self.components.vulnerable()
+        self.held.components.vulnerable()
     }
 
     /// The kept action of a name: a green one that isn't discarded, or a red one.
@@ -59,23 +60,23 @@ impl Core {
         ensures action { IfSome (action_of self.now.queue id) IsAction }
         ensures name { IfSome (action_of self.now.queue id) (λ a. a.id ≡ id) }
     {
-        self.queue.get(id)
+        self.held.queue.get(id)
     }
 
     /// The green action at a place, counted from 1, if it is kept. It is found at once.
     pub fn green_at(&self, at: u64) -> Option<&Action>
         ensures value { option_copied result ≡ at_place self.now.queue.greens (at - self.now.queue.white) }
         ensures action { IfSome (at_place self.now.queue.greens (at - self.now.queue.white)) IsAction }
-        ensures small { IsSome result → at ≤ 2 ^ 62 }
+        ensures small { IsSome result → at ≤ COUNT_LIMIT }
     {
-        self.queue.green_at(at)
+        self.held.queue.green_at(at)
     }
 
     /// The name is one of a red action.
     pub fn is_red(&self, id: ActionId) -> bool
         ensures { result ≡ names (names_of self.now.queue.reds) id }
     {
-        self.queue.is_red(id)
+        self.held.queue.is_red(id)
     }
 
     /// The kept greens, in their order.
@@ -83,7 +84,7 @@ impl Core {
         ensures value { IfOk result (λ list. list ≡ self.now.queue.greens) }
         ensures each { Each IsAction self.now.queue.greens }
     {
-        self.queue.greens()
+        self.held.queue.greens()
     }
 
     /// The reds, by name.
@@ -91,50 +92,50 @@ impl Core {
         ensures value { IfOk result (λ list. list ≡ self.now.queue.reds) }
         ensures each { Each IsAction self.now.queue.reds }
     {
-        self.queue.reds()
+        self.held.queue.reds()
     }
 
     pub fn green_cut(&self) -> Cut
         ensures value { result ≡ self.now.queue.green_cut }
         ensures small { IsSmallCut self.now.queue.green_cut }
     {
-        self.queue.green_cut()
+        self.held.queue.green_cut()
     }
 
     /// The index of the creator's last green action, 0 where it has none.
     pub fn green_index(&self, creator: ReplicaId) -> u64
         ensures { result ≡ index_in self.now.queue.green_cut creator }
     {
-        self.queue.green_index(creator)
+        self.held.queue.green_index(creator)
     }
 
     pub fn red_cut(&self) -> Cut
         ensures value { result ≡ self.now.queue.red_cut }
         ensures small { IsSmallCut self.now.queue.red_cut }
     {
-        self.queue.red_cut()
+        self.held.queue.red_cut()
     }
 
     /// The index of the creator's last known action, 0 where it has none.
     pub fn red_index(&self, creator: ReplicaId) -> u64
         ensures { result ≡ index_in self.now.queue.red_cut creator }
     {
-        self.queue.red_index(creator)
+        self.held.queue.red_index(creator)
     }
 
     /// The number of greens, discarded ones counted.
     pub fn green_count(&self) -> u64
         ensures value { result ≡ green_count self.now.queue }
-        ensures most { result ≤ 2 ^ 62 }
+        ensures most { result ≤ COUNT_LIMIT }
     {
-        self.queue.green_count()
+        self.held.queue.green_count()
     }
 
     /// The number of greens that are discarded.
     pub fn white_count(&self) -> u64
         ensures { result ≡ self.now.queue.white }
     {
-        self.queue.white_count()
+        self.held.queue.white_count()
     }
 
     /// The index of the last action that the replica created.
@@ -150,14 +151,14 @@ impl Core {
         ensures action { IfSome (slice_get self.now.own i) IsAction }
         ensures each { Each IsAction self.now.own }
     {
-        self.own.get(i)
+        self.held.own.get(i)
     }
 
     /// How many own actions weren't delivered yet.
     pub fn own_count(&self) -> usize
         ensures { result ≡ length self.now.own }
     {
-        self.own.len()
+        self.held.own.len()
     }
 
     /// The servers, with their lines and weights, and those that have left.
@@ -165,14 +166,14 @@ impl Core {
         ensures value { result.now ≡ self.now.members }
         ensures lines { Each (λ server. IsNumber server.line) self.now.members.servers }
     {
-        self.members.members()
+        self.held.members.members()
     }
 
     /// The servers that have left.
     pub fn left(&self) -> IdSet
         ensures { result ≡ self.now.members.left }
     {
-        self.members.left()
+        self.held.members.left()
     }
 
     /// The entries of the database, ascending by key.
@@ -181,6 +182,6 @@ impl Core {
         ensures ascends { IfOk result Ascends }
         ensures limits { AreEntries self.now.db }
     {
-        self.db.list()
+        self.held.db.list()
     }
 }

@@ -5,10 +5,9 @@ ghost use Rattle.cg_client.specs.Drafts.{turn_with};
 ghost use Rattle.cg_client.specs.Replica.{State};
 ghost use Rattle.cg_client.specs.Requests.{create, create_kept};
 
-use crate::held::MOST;
 use crate::{Core, Draft};
 use cg_action::{Action, Kind};
-use cg_base::{ActionId, NoMemory, Row};
+use cg_base::{ActionId, COUNT_LIMIT, NoMemory, Row};
 use cg_parts::Kept;
 use cg_wire::Msg;
 use std::mem::replace;
@@ -19,14 +18,14 @@ impl Core {
         requires { IsKind kind }
         ensures { OnOk result (self.new ≡ record self.old { buffered = self.old.buffered ++ kind ∷ [] }) }
     {
-        self.buffered.push(Kept::new(kind))
+        self.held.buffered.push(Kept::new(kind))
     }
 
     /// The requests that are kept are no longer kept.
     pub fn empty_buffer(&mut self)
         ensures { self.new ≡ record self.old { buffered = [] } }
     {
-        self.buffered = Row::new(self.alloc);
+        self.held.buffered = Row::new(self.held.alloc);
     }
 
     /// The action of a request gets the next index; it is the replica's own, and is sent.
@@ -37,24 +36,24 @@ impl Core {
             turn_with self.new state draft.new ≡ create (turn_with self.old state draft.old) kind) }
     {
         let created = self.last_created();
-        if created >= MOST {
+        if created >= COUNT_LIMIT {
             return Err(NoMemory);
         }
         let index = created + 1;
         let id = ActionId {
-            creator: self.id,
+            creator: self.held.id,
             index,
         };
-        let green_line = self.queue.green_count();
+        let green_line = self.held.queue.green_count();
         let action = Action {
             id,
             green_line,
             kind,
         };
-        draft.made.push(action.copy(self.alloc)?)?;
-        draft.send(Msg::Action(action.copy(self.alloc)?))?;
-        self.owed.push(id)?;
-        self.own.push(action)
+        draft.made.push(action.copy(self.held.alloc)?)?;
+        draft.send(Msg::Action(action.copy(self.held.alloc)?))?;
+        self.held.owed.push(id)?;
+        self.held.own.push(action)
     }
 
     /// The kept requests are created.
@@ -63,7 +62,8 @@ impl Core {
         ensures { OnOk result ((state : State) →
             turn_with self.new state draft.new ≡ create_kept (turn_with self.old state draft.old)) }
     {
-        let kept = replace(&mut self.buffered, Row::new(self.alloc));
+        let none = Row::new(self.held.alloc);
+        let kept = replace(&mut self.held.buffered, none);
         self.create_all(draft, kept)
     }
 

@@ -1,5 +1,6 @@
 //! What a store rebuilds and changes: a replica from the parts of a checkpoint, and each part of a change.
-ghost use Rattle.std.specs.Prelude.{◌≡◌, ◌≤◌, ◌<◌, ◌^◌, ◌++◌, ◌∷◌, ◌↔◌, [], suc, false, IsTrue, MatchOption, OnOk, IfOk};
+ghost use Rattle.std.specs.Prelude.{◌≡◌, ◌≤◌, ◌<◌, ◌++◌, ◌∷◌, ◌↔◌, [], suc, false, IsTrue, MatchOption, OnOk, IfOk};
+ghost use Rattle.cg_base.specs.declared.limits.TheConstants.{COUNT_LIMIT};
 ghost use Rattle.cg_base.specs.Cuts.{index_in};
 ghost use Rattle.cg_action.specs.ActionLimits.{IsAction};
 ghost use Rattle.cg_db.specs.Limits.{AreEntries};
@@ -13,11 +14,10 @@ ghost use Rattle.cg_client.specs.Calls.{IsLineGreen};
 
 use crate::Core;
 use crate::entries::Entries;
-use crate::held::MOST;
+use crate::held::Holding;
 use crate::marks::drop_owed;
-use crate::telling::LONG;
 use cg_action::Action;
-use cg_base::{ActionId, Cut, NoMemory, ReplicaId, Row};
+use cg_base::{ActionId, COUNT_LIMIT, Cut, LIST_LIMIT, NoMemory, ReplicaId, Row};
 use cg_db::Db;
 use cg_members::Members;
 use cg_parts::{
@@ -49,7 +49,7 @@ impl Core {
     /// What a replica holds that knows no action but those that were discarded. A number of the primary component or of the
     /// record that has no bytes is refused.
     pub fn stored(alloc: Global, id: ReplicaId, state: WhiteState) -> Result<Core, NoMemory>
-        requires white { state.white ≤ 2 ^ 62 }
+        requires white { state.white ≤ COUNT_LIMIT }
         requires cut { Each (λ top. IsIndex top.index) state.cut }
         requires db { AreEntries state.db }
         requires lines { Each (λ server. IsNumber server.line) state.members.servers }
@@ -77,23 +77,21 @@ impl Core {
             attempt_index,
             vulnerable,
         } = state;
-        let queue = Box::new(alloc, Known::resume(alloc, white, cut))?;
-        let db = Box::new(alloc, Entries::of(db))?;
-        let members = Box::new(alloc, Servers::of(members))?;
         let components = Components::of(prim, attempt_index, vulnerable)?;
-        let components = Box::new(alloc, components)?;
-        Ok(Core {
+        let holding = Holding {
             id,
-            queue,
+            queue: Known::resume(alloc, white, cut),
             yellow_valid: false,
             own: Own::new(alloc),
-            db,
-            members,
+            db: Entries::of(db),
+            members: Servers::of(members),
             components,
             buffered: Row::new(alloc),
             owed: Waiting::new(alloc),
             alloc,
-        })
+        };
+        let held = Box::new(alloc, holding)?;
+        Ok(Core { held })
     }
 
     /// Puts a kept green action behind those that stand; the database and the members have it already.
@@ -102,11 +100,11 @@ impl Core {
         requires next { a.id.index ≡ suc (index_in self.old.queue.green_cut a.id.creator) }
         ensures { OnOk result (self.new ≡ record self.old { queue = placed_green self.old.queue a }) }
     {
-        let count = self.queue.green_count();
-        if count >= MOST {
+        let count = self.held.queue.green_count();
+        if count >= COUNT_LIMIT {
             return Err(NoMemory);
         }
-        put_green(&mut self.queue, count + 1, a)
+        put_green(&mut self.held.queue, count + 1, a)
     }
 
     /// An action becomes known as red, the next of its creator. Where it is the first own one, it is waited for no more.
@@ -119,8 +117,8 @@ impl Core {
         }) }
     {
         let id = name_of(&a);
-        drop_own(&mut self.own, &id);
-        put_red(&mut self.queue, a)
+        drop_own(&mut self.held.own, &id);
+        put_red(&mut self.held.queue, a)
     }
 
     /// The action of a name becomes green at the next place, if it is known: it is the next green one of its creator. No reply
@@ -130,18 +128,19 @@ impl Core {
         ensures { OnOk result (MatchOption (action_of self.old.queue id) (self.new ≡ self.old) (λ a. self.new ≡
             with_green self.old a)) }
     {
-        let count = self.queue.green_count();
-        if count >= MOST {
+        let count = self.held.queue.green_count();
+        if count >= COUNT_LIMIT {
             return Err(NoMemory);
         }
-        let Some(a) = self.queue.get(id) else {
+        let held = &mut *self.held;
+        let Some(a) = held.queue.get(id) else {
             return Ok(());
         };
-        let _ = self.db.apply(a)?;
-        self.members.note_green(count + 1, a);
-        drop_owed(&mut self.owed, &id);
-        drop_own(&mut self.own, &id);
-        self.queue.turn_green(id)?;
+        let _ = held.db.apply(a)?;
+        held.members.note_green(count + 1, a);
+        drop_owed(&mut held.owed, &id);
+        drop_own(&mut held.own, &id);
+        held.queue.turn_green(id)?;
         Ok(())
     }
 
@@ -150,7 +149,7 @@ impl Core {
         requires { IsAction a }
         ensures { OnOk result (self.new ≡ record self.old { own = self.old.own ++ a ∷ [] }) }
     {
-        self.own.push(a)
+        self.held.own.push(a)
     }
 
     /// The white count rises to the white line, where that is greater, and the greens up to it are discarded. It takes no
@@ -159,16 +158,16 @@ impl Core {
         requires { IsLineGreen self.old }
         ensures { self.new ≡ with_white self.old }
     {
-        let white = self.queue.white_count();
-        let line = self.members.white_line().unwrap_or(0).max(white);
-        self.queue.discard_white(line);
+        let white = self.held.queue.white_count();
+        let line = self.held.members.white_line().unwrap_or(0).max(white);
+        self.held.queue.discard_white(line);
     }
 
     /// The white line is at most the green count, as `whiten` asks. It takes no memory.
     pub fn is_line_green(&self) -> bool
         ensures { IsTrue result ↔ IsLineGreen self.now }
     {
-        self.members.white_line().unwrap_or(0) <= self.queue.green_count()
+        self.held.members.white_line().unwrap_or(0) <= self.held.queue.green_count()
     }
 
     /// What stands in each record of a commit.
@@ -182,8 +181,8 @@ impl Core {
         }) }
         ensures limits { IfOk result IsStable }
     {
-        let list = self.queue.yellow()?;
-        if list.len() >= LONG {
+        let list = self.held.queue.yellow()?;
+        if list.len() >= LIST_LIMIT {
             return Err(NoMemory);
         }
         let created = self.last_created();
@@ -191,11 +190,11 @@ impl Core {
             return Err(NoMemory);
         }
         Ok(Stable {
-            prim: self.components.prim(),
-            attempt_index: self.components.attempt_index(),
-            vulnerable: self.components.vulnerable(),
+            prim: self.held.components.prim(),
+            attempt_index: self.held.components.attempt_index(),
+            vulnerable: self.held.components.vulnerable(),
             yellow: Yellow {
-                valid: self.yellow_valid,
+                valid: self.held.yellow_valid,
                 list,
             },
             created,

@@ -9,30 +9,27 @@ ghost use Rattle.cg_client.specs.Replica.{State, ExchangeStates};
 ghost use Rattle.cg_client.specs.Summary.{redden, own_to_red, summary_of, enter_exchange};
 
 use crate::{Core, Draft};
-use cg_base::{IdSet, NoMemory};
+use cg_base::{IdSet, LIST_LIMIT, NoMemory};
 use cg_knowledge::Summary;
 use cg_parts::{Components, Own, is_number};
 use cg_records::{Primary, Vulnerable, Yellow};
 use cg_wire::Msg;
 use std::mem::replace;
 
-// a longer list has no bytes
-pub(crate) const LONG: usize = 4294967296;
-
 impl Core {
     /// The primary component is over: no record stays, and the yellow list counts.
     pub fn end_prim(&mut self)
         ensures { self.new ≡ record self.old { vulnerable = None; yellow_valid = true } }
     {
-        self.components.forget_record();
-        self.yellow_valid = true;
+        self.held.components.forget_record();
+        self.held.yellow_valid = true;
     }
 
     /// Nobody has installed the attempt: its record goes.
     pub fn forget_record(&mut self)
         ensures { self.new ≡ record self.old { vulnerable = None } }
     {
-        self.components.forget_record();
+        self.held.components.forget_record();
     }
 
     /// Takes over what an exchange has decided, or what stands in a record. Each yellow name is one of a red action, and
@@ -56,9 +53,9 @@ impl Core {
             })) }
     {
         let components = Components::of(prim, attempt_index, vulnerable)?;
-        self.queue.set_yellow(&yellow.list)?;
-        self.yellow_valid = yellow.valid;
-        *self.components = components;
+        self.held.queue.set_yellow(&yellow.list)?;
+        self.held.yellow_valid = yellow.valid;
+        self.held.components = components;
         Ok(())
     }
 
@@ -71,20 +68,20 @@ impl Core {
         }) }
         ensures conf { OnOk result (IsNumber conf) }
     {
-        let prim = self.components.prim();
+        let prim = self.held.components.prim();
         // more attempts than any run makes
-        let Some(next) = self.components.attempt_index().checked_add(1) else {
+        let Some(next) = self.held.components.attempt_index().checked_add(1) else {
             return Err(NoMemory);
         };
         let mut bits = IdSet::empty();
-        bits.add(self.id);
+        bits.add(self.held.id);
         let record = Vulnerable {
             attempt: conf,
             from: prim.index,
             set,
             bits,
         };
-        *self.components = Components::of(prim, next, Some(record))?;
+        self.held.components = Components::of(prim, next, Some(record))?;
         Ok(())
     }
 
@@ -94,7 +91,8 @@ impl Core {
         ensures { OnOk result ((state : State) →
             turn_with self.new state draft.new ≡ own_to_red (turn_with self.old state draft.old)) }
     {
-        let own = replace(&mut self.own, Own::new(self.alloc));
+        let none = Own::new(self.held.alloc);
+        let own = replace(&mut self.held.own, none);
         draft.marked_own = draft.marked_own || !own.is_empty();
         self.redden_all(draft, own)
     }
@@ -115,30 +113,30 @@ impl Core {
         ensures value { IfOk result (λ s. s ≡ summary_of self.now conf) }
         ensures limits { IfOk result IsSummary }
     {
-        let list = self.queue.yellow()?;
-        if list.len() >= LONG {
+        let list = self.held.queue.yellow()?;
+        if list.len() >= LIST_LIMIT {
             return Err(NoMemory);
         }
         if !is_number(conf) {
             return Err(NoMemory);
         }
-        let left = self.members.left();
+        let left = self.held.members.left();
         // their clauses say that this is an identifier, and that a set
-        let _number = self.id.get();
+        let _number = self.held.id.get();
         let _count = left.count();
         Ok(Summary {
-            id: self.id,
+            id: self.held.id,
             conf,
-            prim: self.components.prim(),
-            attempt_index: self.components.attempt_index(),
-            vulnerable: self.components.vulnerable(),
+            prim: self.held.components.prim(),
+            attempt_index: self.held.components.attempt_index(),
+            vulnerable: self.held.components.vulnerable(),
             yellow: Yellow {
-                valid: self.yellow_valid,
+                valid: self.held.yellow_valid,
                 list,
             },
-            green_count: self.queue.green_count(),
-            green_cut: self.queue.green_cut(),
-            red_cut: self.queue.red_cut(),
+            green_count: self.held.queue.green_count(),
+            green_cut: self.held.queue.green_cut(),
+            red_cut: self.held.queue.red_cut(),
             left,
         })
     }

@@ -1,5 +1,6 @@
 //! A replica that is up, and the calls that bring it up and down.
-ghost use Rattle.std.specs.Prelude.{◌≡◌, ◌+◌, ◌≤◌, ◌^◌, [], Bool, if◌then◌else◌};
+ghost use Rattle.std.specs.Prelude.{◌≡◌, ◌+◌, ◌≤◌, [], Bool, if◌then◌else◌};
+ghost use Rattle.cg_base.specs.declared.limits.TheConstants.{COUNT_LIMIT};
 ghost use Rattle.cg_action.specs.declared.action.Action.{Action};
 ghost use Rattle.cg_base.specs.declared.action_id.ActionId.{ActionId};
 ghost use Rattle.cg_client.specs.Queries.{state_name};
@@ -24,10 +25,18 @@ use std::alloc::Global;
 use std::marker::Model;
 
 /// A replica with its disk. Clauses see its store, and what it is in memory.
-#[derive(Drop)]
 pub struct Engine<D: Disk> {
     store: Store<D>,
     replica: Replica,
+}
+
+impl<D: Disk + Drop> Drop for Engine<D> {
+    fn drop(self) {
+        let Engine {
+            store: _,
+            replica: _,
+        } = self;
+    }
 }
 
 impl<D: Disk> Model for Engine<D> {
@@ -101,7 +110,7 @@ impl<D: Disk> Engine<D> {
 
     /// A new replica, alone, among the servers of the start, on an empty disk: seven device calls.
     pub fn start(alloc: Global, disk: D, id: ReplicaId, servers: &WeightSet) -> Started<D>
-        requires { (D.view disk).time + 7 ≤ 2 ^ 62 }
+        requires { (D.view disk).time + 7 ≤ COUNT_LIMIT }
         ensures { Starts D.view id servers.now (D.view disk) result }
     {
         match Replica::fresh(alloc, id, servers) {
@@ -118,7 +127,7 @@ impl<D: Disk> Engine<D> {
         servers: &WeightSet,
         replica: Replica,
     ) -> Started<D>
-        requires calls { (D.view disk).time + 7 ≤ 2 ^ 62 }
+        requires calls { (D.view disk).time + 7 ≤ COUNT_LIMIT }
         requires new { replica ≡ fresh id servers.now }
         ensures { Starts D.view id servers.now (D.view disk) result }
     {
@@ -137,7 +146,7 @@ impl<D: Disk> Engine<D> {
     /// One event: the deliveries in their order, and then the requests that are kept; or a request. It makes no device
     /// call, or the four of its commit, and six more for a checkpoint where the commit leaves its side too long.
     pub fn handle(self, input: Input) -> Handled<D>
-        requires calls { (D.view self.store.disk).time + 10 ≤ 2 ^ 62 }
+        requires calls { (D.view self.store.disk).time + 10 ≤ COUNT_LIMIT }
         requires limits { HasLimits input }
 
         // No two actions have one name, of those that the replica waits with and of those that come.
@@ -171,7 +180,7 @@ impl<D: Disk> Engine<D> {
 
     // The step was made: the event ends.
     fn end(alloc: Global, store: Store<D>, replica: Replica, draft: Draft, count: u64) -> Handled<D>
-        requires calls { (D.view store.disk).time + 10 ≤ 2 ^ 62 }
+        requires calls { (D.view store.disk).time + 10 ≤ COUNT_LIMIT }
         requires may { (u : OnDisk) → Stands store.id (D.view store.disk).reads u →
             MayEnd store.unwritten u (turn_of replica draft) }
         ensures { (u : OnDisk) → Stands store.id (D.view store.disk).reads u →
@@ -189,7 +198,7 @@ impl<D: Disk> Engine<D> {
 
     // The commit, and what follows it.
     fn write(store: Store<D>, replica: Replica, draft: Draft, last: LastEvent) -> Handled<D>
-        requires calls { (D.view store.disk).time + 10 ≤ 2 ^ 62 }
+        requires calls { (D.view store.disk).time + 10 ≤ COUNT_LIMIT }
         requires may { (u : OnDisk) → Stands store.id (D.view store.disk).reads u →
             MayEnd store.unwritten u (turn_of replica draft) }
         requires named { last.green ≡ draft.green }
@@ -208,7 +217,7 @@ impl<D: Disk> Engine<D> {
 
     // Behind a commit the white count rises, and a checkpoint may follow.
     fn go_on(store: Store<D>, replica: Replica, outputs: Outputs, last: LastEvent) -> Handled<D>
-        requires calls { (D.view store.disk).time + 6 ≤ 2 ^ 62 }
+        requires calls { (D.view store.disk).time + 6 ≤ COUNT_LIMIT }
         requires may { (w : OnDisk) → Stands store.id (D.view store.disk).reads w →
             MayGoOn outputs.written store.unwritten w replica.held }
         ensures { (w : OnDisk) → Stands store.id (D.view store.disk).reads w →
@@ -227,7 +236,7 @@ impl<D: Disk> Engine<D> {
 
     // The checkpoint, where the side is too long.
     fn save(store: Store<D>, replica: Replica, outputs: Outputs, last: LastEvent) -> Handled<D>
-        requires calls { (D.view store.disk).time + 6 ≤ 2 ^ 62 }
+        requires calls { (D.view store.disk).time + 6 ≤ COUNT_LIMIT }
         requires may { (w : OnDisk) → Stands store.id (D.view store.disk).reads w →
             MaySave store.unwritten w replica.held }
         ensures { (w : OnDisk) → Stands store.id (D.view store.disk).reads w →
@@ -263,7 +272,7 @@ impl<D: Disk> Engine<D> {
     /// The replica comes up again from what its disk stands for: alone, in no primary component, and its own actions have
     /// become red. Five device calls; it tells the names of its last event that are green there.
     pub fn recover(alloc: Global, w: Wreck<D>) -> Recovered<D>
-        requires { (D.view w.disk).time + 5 ≤ 2 ^ 62 }
+        requires { (D.view w.disk).time + 5 ≤ COUNT_LIMIT }
         ensures { Recovers D.view w result }
     {
         let (disk, id, last) = w.into_parts();

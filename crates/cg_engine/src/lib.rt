@@ -4,6 +4,32 @@
 //! the store (`specs/Answers.antt`). Whatever strikes, at each moment every image of the disk stands for the state before
 //! the event or for the one behind it, and `Engine::recover` brings up what the disk stands for. What an event gives out is
 //! had behind its commit alone.
+//!
+//! A replica is started, crashes, and comes up again, as in `crates/cg_replica_examples/src/engine.rt`:
+//!
+//! ```rust
+//! fn a_replica_comes_up_again_behind_a_crash(rt: HostRuntime) -> Result<(), Fail> {
+//!     let one = ReplicaId::known(1);
+//!     let mut set = IdSet::empty();
+//!     set.add(one);
+//!     let servers = WeightSet::of(&set);
+//!     let disk = ModelDisk::new(rt.alloc());
+//!     let Started::Running { engine } = Engine::start(rt.alloc(), disk, one, &servers) else {
+//!         return Err("no engine")?;
+//!     };
+//!
+//!     // its disk is all that is left of it
+//!     let left = engine.stop().image(b"")?;
+//!     let Recovered::Running { engine, green } = Engine::recover(rt.alloc(), left) else {
+//!         return Err("not up again")?;
+//!     };
+//!     assert!(rt; engine.calls() == 12 && green.as_slice().is_empty());
+//!     assert!(rt; engine.state() == StateName::NonPrim);
+//!     drop(engine);
+//!     drop(green);
+//!     Ok(())
+//! }
+//! ```
 #![tactic(auto)]
 
 mod answers;

@@ -22,9 +22,14 @@ use std::alloc::Global;
 use std::marker::Model;
 
 /// A replica in memory. Clauses see what it holds, and its state. After `NoMemory` it is gone.
-#[derive(Drop)]
 pub struct Replica {
     member: Member,
+}
+
+impl Drop for Replica {
+    fn drop(self) {
+        let Replica { member: _ } = self;
+    }
 }
 
 impl Model for Replica {

@@ -1,8 +1,9 @@
 -- When an event is to be written, seen from the values on the disk and those behind the event.
-use Rattle.std.specs.Prelude.{◌≡◌, ◌==◌, ◌<◌, ◌^◌, Bool, true, false, not, ◌&&◌, ◌||◌, List, ◌++◌, length, Option, Some, None}
+use Rattle.std.specs.Prelude.{◌≡◌, ◌==◌, ◌<◌, Bool, true, false, not, ◌&&◌, ◌||◌, List, ◌++◌, length, Option, Some, None}
 use Rattle.cg_base.specs.Text.{is_nil}
 use Rattle.cg_action.specs.declared.action.Action.{Action}
 use Rattle.std.specs.Option.{option_eq}
+use Rattle.cg_base.specs.declared.limits.TheConstants.{LIST_LIMIT}
 use Rattle.cg_records.specs.contracts.primary.PrimaryPartialEq.TheImpl.{ghosts as primary}
 use Rattle.cg_records.specs.contracts.vulnerable.VulnerablePartialEq.TheImpl.{ghosts as vulnerable}
 use Rattle.cg_records.specs.contracts.yellow.YellowPartialEq.TheImpl.{ghosts as yellow}
@@ -32,7 +33,7 @@ pub record IsRecord (unwritten : List Action) (h : Held) (d : DraftParts) (due :
   pub values : due.values ≡ stable_of h
   pub body : due.body ≡ spelled_change (change_with (stable_of h) (unwritten ++ d.known) d.green d.made)
   pub within : IsChange (change_with (stable_of h) (unwritten ++ d.known) d.green d.made)
-  pub short : length due.body < 2 ^ 32
+  pub short : length due.body < LIST_LIMIT
 
 -- all that an event writes was made ready, where it is to be written
 abbrev pub IsPrepared : Stable → List Action → Held → DraftParts → Option Due → Type 0

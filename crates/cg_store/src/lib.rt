@@ -5,6 +5,31 @@
 //! every image stands for the state before it or after it, after Ok for the latter, and after a fault the byte at the
 //! record's gate decides. A checkpoint changes no state. What an event gives out (`Outputs`) is had from its commit alone.
 //! When to commit what, and what comes of a crash, is left to the engine above.
+//!
+//! A store is made, and its replica comes up with what the disk stands for, as in
+//! `crates/cg_replica_examples/src/store.rt`:
+//!
+//! ```rust
+//! fn a_replica_comes_up_with_what_its_disk_stands_for(rt: HostRuntime) -> Result<(), Fail> {
+//!     let one = ReplicaId::known(1);
+//!     let mut set = IdSet::empty();
+//!     set.add(one);
+//!     let servers = WeightSet::of(&set);
+//!     what_is_held_agrees();
+//!     let core = Core::fresh(rt.alloc(), one, &servers)?;
+//!     let created = Store::create(ModelDisk::new(rt.alloc()), &core);
+//!     drop(core);
+//!
+//!     // what was written is synced, so a crash leaves it
+//!     let left = created.ok().ok_or("no store")?.into_disk().image(b"")?;
+//!     assert!(rt; left.calls() == 7);
+//!     let (store, core) = Store::open(rt.alloc(), left, one).ok().ok_or("no store")?;
+//!     drop(store);
+//!     assert!(rt; core.prim().set == servers);
+//!     drop(core);
+//!     Ok(())
+//! }
+//! ```
 #![tactic(auto)]
 
 mod due;

@@ -6,13 +6,24 @@ use cg_letter::Letter;
 use cg_report::Reply;
 
 /// What an event gives out behind its commit. Clauses see the messages in its letters.
-#[derive(Drop)]
 pub struct Outputs {
     pub(crate) made: ActionList,
     pub(crate) sent: Row<Letter>,
     pub(crate) replies: Row<Reply>,
     pub(crate) green: IdList,
     pub(crate) written: bool,
+}
+
+impl Drop for Outputs {
+    fn drop(self) {
+        let Outputs {
+            made: _,
+            sent: _,
+            replies: _,
+            green: _,
+            written: _,
+        } = self;
+    }
 }
 
 impl Outputs {
@@ -60,7 +71,7 @@ impl Outputs {
             sent,
             replies,
             green,
-            ..
+            written: _,
         } = self;
         (made, sent, replies, green)
     }

@@ -1,4 +1,5 @@
-ghost use Rattle.std.specs.Prelude.{◌≡◌, ◌<◌, ◌^◌, ◌++◌, length, IfOk};
+ghost use Rattle.std.specs.Prelude.{◌≡◌, ◌<◌, ◌++◌, length, IfOk};
+ghost use Rattle.cg_base.specs.declared.limits.TheConstants.{LIST_LIMIT, NUMBER_LIMIT};
 ghost use Rattle.cg_action.specs.ActionLimits.{IsAction};
 ghost use Rattle.cg_records.specs.Limits.{Each, IsStable};
 ghost use Rattle.cg_stored.specs.Change.{spelled_change};
@@ -7,14 +8,11 @@ ghost use Rattle.cg_stored.specs.Limits.{IsChange, IsStored};
 ghost use Rattle.cg_stored.specs.Following.{change_with};
 
 use cg_action::Action;
-use cg_base::NoMemory;
+use cg_base::{LIST_LIMIT, NoMemory};
 use cg_client::{Core, Draft};
 use cg_records::Stable;
 use cg_stored::{put_change, put_checkpoint};
 use std::alloc::Global;
-
-// a longer record has no length in four bytes
-const LONGEST: usize = (1 << 32) - 1;
 
 // most records are no longer, and need no more room
 const USUAL: usize = 256;
@@ -33,14 +31,14 @@ pub(crate) fn change_record(
     ensures within { IfOk
         result (λ bytes. IsChange (change_with stable.now (unwritten.now ++ draft.now.known)
         draft.now.green draft.now.made)) }
-    ensures short { IfOk result (λ bytes. length bytes.items < 2 ^ 32) }
+    ensures short { IfOk result (λ bytes. length bytes.items < LIST_LIMIT) }
 {
     let mut bytes = Vec::with_capacity(alloc, USUAL)?;
     let known = draft.known().as_slice();
     let green = draft.green().as_slice();
     let made = draft.made().as_slice();
     put_change(&mut bytes, stable, unwritten, known, green, made)?;
-    if bytes.len() > LONGEST {
+    if bytes.len() >= LIST_LIMIT {
         return Err(NoMemory);
     }
     Ok(bytes)
@@ -52,14 +50,14 @@ pub(crate) fn checkpoint_record(
     generation: u64,
     core: &Core,
 ) -> Result<Vec<u8>, NoMemory>
-    requires { generation < 2 ^ 63 }
+    requires { generation < NUMBER_LIMIT }
     ensures spelled { IfOk result (λ bytes. bytes.items ≡ spelled_checkpoint generation core.now) }
     ensures within { IfOk result (λ bytes. IsStored core.now) }
-    ensures short { IfOk result (λ bytes. length bytes.items < 2 ^ 32) }
+    ensures short { IfOk result (λ bytes. length bytes.items < LIST_LIMIT) }
 {
     let mut bytes = Vec::new(alloc);
     put_checkpoint(&mut bytes, generation, core)?;
-    if bytes.len() > LONGEST {
+    if bytes.len() >= LIST_LIMIT {
         return Err(NoMemory);
     }
     Ok(bytes)

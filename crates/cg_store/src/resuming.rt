@@ -9,15 +9,12 @@ ghost use Rattle.cg_store.specs.Leading.{AreNext, LeadTo, IsBelow};
 ghost use Rattle.cg_store.specs.Rebuilt.{with_kept_green, resumed_with};
 
 use cg_action::{Action, ActionList};
-use cg_base::{Cut, NoMemory, ReplicaId};
+use cg_base::{COUNT_LIMIT, Cut, NoMemory, ReplicaId};
 use cg_client::{Core, WhiteState};
 use cg_db::Db;
 use cg_records::{Primary, Vulnerable};
 use cg_stored::{Reached, count_of};
 use std::alloc::Global;
-
-// more greens than any run makes
-const MOST: u64 = 1 << 62;
 
 /// What a replica has green, and where it stands among primary components.
 #[derive(Drop)]
@@ -57,7 +54,7 @@ pub fn resume(alloc: Global, id: ReplicaId, state: GreenState) -> Result<Core, N
         members,
         ..
     } = reached;
-    if white > MOST {
+    if white > COUNT_LIMIT {
         return Err(NoMemory);
     }
     let below = cut_below(&cut, greens.as_slice());

@@ -1,6 +1,7 @@
 //! A replica's store, and the calls that write.
-ghost use Rattle.std.specs.Prelude.{◌≡◌, ◌+◌, ◌<◌, ◌≤◌, ◌^◌, suc, nat_lt};
+ghost use Rattle.std.specs.Prelude.{◌≡◌, ◌+◌, ◌<◌, ◌≤◌, suc, nat_lt};
 ghost use Rattle.std.specs.Prelude.{IfOk, OnOk, length};
+ghost use Rattle.cg_base.specs.declared.limits.TheConstants.{COUNT_LIMIT, LIST_LIMIT};
 ghost use Rattle.cg_stored.specs.Stored.{stable_of};
 ghost use Rattle.cg_stored.specs.Checkpoint.{spelled_checkpoint};
 ghost use Rattle.cg_stored.specs.Limits.{IsStored};
@@ -15,19 +16,18 @@ use crate::records::checkpoint_record;
 use crate::unwritten::Unwritten;
 use crate::{CommitErr, OpenErr, Outputs};
 use cg_action::ActionList;
-use cg_base::{NoMemory, ReplicaId, Row};
+use cg_base::{NUMBER_LIMIT, NoMemory, ReplicaId, Row};
 use cg_client::{Core, Draft, DraftParts};
 use cg_disk::{Disk, ModelDisk, Side};
 use cg_journal::{AppendErr, Bodies, FormatErr, Journal, JournalOpen};
 use cg_letter::Letter;
 use cg_records::Stable;
-use cg_stored::{changes_are_exact, checkpoints_are_exact};
+use cg_stored::{CHECKPOINT_BYTES, changes_are_exact, checkpoints_are_exact};
 use std::alloc::Global;
 use std::marker::Model;
 
 /// A replica's disk, at rest. Clauses see the disk, whose it is, and the red marks that stand in no record of it; what the
 /// disk stands for is a function of its bytes.
-#[derive(Drop)]
 pub struct Store<D: Disk> {
     journal: Journal<D>,
     id: ReplicaId,
@@ -37,6 +37,19 @@ pub struct Store<D: Disk> {
     // the values that stand on the disk
     values: Stable,
     unwritten: Unwritten,
+}
+
+impl<D: Disk + Drop> Drop for Store<D> {
+    fn drop(self) {
+        let Store {
+            journal: _,
+            id: _,
+            side: _,
+            generation: _,
+            values: _,
+            unwritten: _,
+        } = self;
+    }
 }
 
 impl<D: Disk> Model for Store<D> {
@@ -49,18 +62,12 @@ impl<D: Disk> Model for Store<D> {
     ghost invariant = { λ s. IsStore (D.view s.journal) s.id s.side s.generation s.values };
 }
 
-// the generation of the last checkpoint that has bytes
-const LAST: u64 = (1 << 63) - 1;
-
-// a side longer than this is followed by a checkpoint on the other side
-const LIMIT: u64 = 1 << 20;
-
 // What the first record has, and its bytes.
 fn first_record(alloc: Global, core: &Core) -> Result<(Stable, Vec<u8>), NoMemory>
     ensures values { IfOk result (λ r. r.0 ≡ stable_of core.now) }
     ensures spelled { IfOk result (λ r. r.1.items ≡ spelled_checkpoint 1 core.now) }
     ensures within { OnOk result (IsStored core.now) }
-    ensures short { IfOk result (λ r. length r.1.items < 2 ^ 32) }
+    ensures short { IfOk result (λ r. length r.1.items < LIST_LIMIT) }
 {
     let values = core.stable()?;
     let body = checkpoint_record(alloc, 1, core)?;
@@ -115,7 +122,7 @@ impl<D: Disk> Store<D> {
     /// risen; the core's own is to rise behind it. Where nothing of it is to be written no call is made, and its red marks
     /// are kept for the next record.
     pub fn commit(self, core: &Core, draft: Draft) -> Result<(Store<D>, Outputs), CommitErr<D>>
-        requires calls { (D.view self.disk).time + 4 ≤ 2 ^ 62 }
+        requires calls { (D.view self.disk).time + 4 ≤ COUNT_LIMIT }
 
         // The event's record leads from what the disk stands for to what the commit leaves.
         requires recorded { (u : OnDisk) (state : State) → Stands self.id (D.view self.disk).reads u →
@@ -152,7 +159,7 @@ impl<D: Disk> Store<D> {
         draft: &Draft,
     ) -> Result<(Row<Letter>, Option<Due>), NoMemory>
         ensures letters { IfOk result (λ r. r.0 ≡ draft.now.sent) }
-        ensures short { IfOk result (λ r. IfSome r.1 (λ x. length x.body < 2 ^ 32)) }
+        ensures short { IfOk result (λ r. IfSome r.1 (λ x. length x.body < LIST_LIMIT)) }
         ensures due { IfOk result (λ r. (u : OnDisk) (state : State) →
             Stands self.now.id (D.view self.now.disk).reads u →
             IsReady u.content self.now.unwritten core.now draft.now state r.1) }
@@ -170,10 +177,10 @@ impl<D: Disk> Store<D> {
         letters: Row<Letter>,
         due: Option<Due>,
     ) -> Result<(Store<D>, Outputs), CommitErr<D>>
-        requires calls { (D.view self.disk).time + 4 ≤ 2 ^ 62 }
+        requires calls { (D.view self.disk).time + 4 ≤ COUNT_LIMIT }
         requires letters { letters ≡ parts.sent }
         requires known { Each IsAction parts.known }
-        requires short { IfSome due (λ x. length x.body < 2 ^ 32) }
+        requires short { IfSome due (λ x. length x.body < LIST_LIMIT) }
         requires leads { (u : OnDisk) → Stands self.id (D.view self.disk).reads u → IfSome due (IsLed u) }
         ensures ends { (u : OnDisk) (v : OnDisk) → Stands self.id (D.view self.disk).reads u → IsBehind u due v →
             WhetherDue due (Commits D.view self u v parts result) (Keeps self parts result) }
@@ -203,8 +210,8 @@ impl<D: Disk> Store<D> {
 
     // Writes the record of an event.
     fn write(self, alloc: Global, due: Due) -> Result<Store<D>, CommitErr<D>>
-        requires calls { (D.view self.disk).time + 4 ≤ 2 ^ 62 }
-        requires short { length due.body < 2 ^ 32 }
+        requires calls { (D.view self.disk).time + 4 ≤ COUNT_LIMIT }
+        requires short { length due.body < LIST_LIMIT }
         requires leads { (u : OnDisk) → Stands self.id (D.view self.disk).reads u → IsLed u due }
         ensures ends { (u : OnDisk) (v : OnDisk) → Stands self.id (D.view self.disk).reads u → IsBehind u (Some due) v →
             Writes D.view self u v result }
@@ -218,7 +225,8 @@ impl<D: Disk> Store<D> {
             id,
             side,
             generation,
-            ..
+            values: _,
+            unwritten: _,
         } = self;
         let Due { body, values } = due;
         match journal.append(alloc, side, body.as_slice()) {
@@ -250,7 +258,7 @@ impl<D: Disk> Store<D> {
 
     /// Writes the state in one checkpoint on the other side, in six device calls. No state is changed by it.
     pub fn checkpoint(self, core: &Core) -> Result<Store<D>, CommitErr<D>>
-        requires calls { (D.view self.disk).time + 6 ≤ 2 ^ 62 }
+        requires calls { (D.view self.disk).time + 6 ≤ COUNT_LIMIT }
 
         // The core holds what the disk stands for, as behind a commit.
         requires held { (u : OnDisk) → Stands self.id (D.view self.disk).reads u → stored_of core.now ≡ u.content }
@@ -278,18 +286,18 @@ impl<D: Disk> Store<D> {
         ensures spelled { IfOk result (λ bytes. (u : OnDisk) → Stands self.now.id (D.view self.now.disk).reads u →
             bytes.items ≡ spelled_checkpoint (suc u.generation) core.now) }
         ensures within { OnOk result (IsStored core.now) }
-        ensures short { IfOk result (λ bytes. length bytes.items < 2 ^ 32) }
+        ensures short { IfOk result (λ bytes. length bytes.items < LIST_LIMIT) }
     {
         // more checkpoints than any run makes
-        if self.generation >= LAST {
+        if self.generation >= NUMBER_LIMIT - 1 {
             return Err(NoMemory);
         }
         checkpoint_record(alloc, self.generation + 1, core)
     }
 
     fn restart(self, alloc: Global, body: &[u8]) -> Result<Store<D>, CommitErr<D>>
-        requires calls { (D.view self.disk).time + 6 ≤ 2 ^ 62 }
-        requires short { length body.now < 2 ^ 32 }
+        requires calls { (D.view self.disk).time + 6 ≤ COUNT_LIMIT }
+        requires short { length body.now < LIST_LIMIT }
         requires small { (u : OnDisk) → Stands self.id (D.view self.disk).reads u → IsNumber (suc u.generation) }
         requires saved { (u : OnDisk) → Stands self.id (D.view self.disk).reads u →
             checkpoint_in self.id body.now ≡ Some (record { generation = suc u.generation; content = u.content }) }
@@ -323,7 +331,7 @@ impl<D: Disk> Store<D> {
     /// The store of a new disk, which stands for what the core holds, in seven device calls. After an error the disk may be
     /// no store.
     pub fn create(disk: D, core: &Core) -> Result<Store<D>, CommitErr<D>>
-        requires calls { (D.view disk).time + 7 ≤ 2 ^ 62 }
+        requires calls { (D.view disk).time + 7 ≤ COUNT_LIMIT }
         requires agrees { Agrees (stored_of core.now) }
         ensures { Creates D.view core.now.id (created (stored_of core.now)) (D.view disk) result }
     {
@@ -342,8 +350,8 @@ impl<D: Disk> Store<D> {
         values: Stable,
         body: &[u8],
     ) -> Result<Store<D>, CommitErr<D>>
-        requires calls { (D.view disk).time + 7 ≤ 2 ^ 62 }
-        requires short { length body.now < 2 ^ 32 }
+        requires calls { (D.view disk).time + 7 ≤ COUNT_LIMIT }
+        requires short { length body.now < LIST_LIMIT }
         requires first { IsFirst id body.now values }
         ensures { (s : Stored) → IsSaved id body.now s → Creates D.view id (begun body.now s) (D.view disk) result }
     {
@@ -362,9 +370,9 @@ impl<D: Disk> Store<D> {
         values: Stable,
         body: &[u8],
     ) -> Result<Store<D>, CommitErr<D>>
-        requires calls { (D.view journal).time + 4 ≤ 2 ^ 62 }
+        requires calls { (D.view journal).time + 4 ≤ COUNT_LIMIT }
         requires empty { records (D.view journal).reads ≡ Some no_records }
-        requires short { length body.now < 2 ^ 32 }
+        requires short { length body.now < LIST_LIMIT }
         requires first { IsFirst id body.now values }
         ensures { (s : Stored) → IsSaved id body.now s → Begins D.view id (begun body.now s) (D.view journal) result }
     {
@@ -384,7 +392,7 @@ impl<D: Disk> Store<D> {
     /// Opens the disk of a replica, in five device calls, with what it held at its last commit. `NotAStore` says that the
     /// disk stands for no state of this replica.
     pub fn open(alloc: Global, disk: D, id: ReplicaId) -> Result<(Store<D>, Core), OpenErr<D>>
-        requires { (D.view disk).time + 5 ≤ 2 ^ 62 }
+        requires { (D.view disk).time + 5 ≤ COUNT_LIMIT }
         ensures { OpensStore D.view id (D.view disk) result }
     {
         match Journal::open(alloc, disk) {
@@ -434,7 +442,7 @@ impl<D: Disk> Store<D> {
     pub fn is_long(&self) -> bool
         ensures { (u : OnDisk) → Stands self.now.id (D.view self.now.disk).reads u → result ≡ nat_lt size_limit u.size }
     {
-        self.journal.length(self.side) > LIMIT
+        self.journal.length(self.side) > CHECKPOINT_BYTES
     }
 
     /// Keeps the red marks of a recovery for the next record; nothing else of the event counts.
@@ -462,7 +470,14 @@ impl<D: Disk> Store<D> {
         // Nothing is unsynced between two calls.
         ensures rest { IsAtRest (D.view self.disk) }
     {
-        let Store { journal, .. } = self;
+        let Store {
+            journal,
+            id: _,
+            side: _,
+            generation: _,
+            values: _,
+            unwritten: _,
+        } = self;
         journal.into_disk()
     }
 

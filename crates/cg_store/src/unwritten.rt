@@ -8,9 +8,14 @@ use std::alloc::Global;
 use std::marker::Model;
 
 /// Red marks that stand in no record yet. Clauses see the list of their actions.
-#[derive(Drop)]
 pub(crate) struct Unwritten {
     actions: ActionList,
+}
+
+impl Drop for Unwritten {
+    fn drop(self) {
+        let Unwritten { actions: _ } = self;
+    }
 }
 
 impl Model for Unwritten {

@@ -1,5 +1,6 @@
 -- The record of a checkpoint, and how long the side of a disk is.
 use Rattle.std.specs.Prelude.{ℕ, ◌+◌, List, ◌++◌, length}
+use Rattle.cg_stored.specs.declared.limits.TheConstants.{CHECKPOINT_BYTES}
 use Rattle.cg_codec.specs.Fields.{byte, number64, text, list}
 use Rattle.cg_action.specs.Bytes.{spelled_action, spelled_value}
 use Rattle.cg_answer.specs.declared.entry.DbEntry.{DbEntry}
@@ -72,4 +73,4 @@ empty_size = 9
 
 -- a side longer than this is followed by a checkpoint on the other side
 abbrev pub size_limit : ℕ
-size_limit = 1048576
+size_limit = CHECKPOINT_BYTES

@@ -1,5 +1,6 @@
 -- Which states and changes have a record: each part is within the limits of its bytes.
-use Rattle.std.specs.Prelude.{◌<◌, ◌^◌, List, length}
+use Rattle.std.specs.Prelude.{◌<◌, List, length}
+use Rattle.cg_base.specs.declared.limits.TheConstants.{LIST_LIMIT}
 use Rattle.cg_base.specs.Sets.{IsId, IsSet}
 use Rattle.cg_action.specs.declared.action.Action.{Action}
 use Rattle.cg_action.specs.ActionLimits.{IsAction, IsActionId}
@@ -18,7 +19,7 @@ use Rattle.cg_stored.specs.Stored.{Stored, stable_of}
 
 -- so many things fit a list of a record
 abbrev pub IsShort : {X : Type 0} → List X → Type 0
-IsShort xs = length xs < 2 ^ 32
+IsShort xs = length xs < LIST_LIMIT
 
 -- a list of actions that has a record
 pub record AreActions (actions : List Action) : Type 0 where

@@ -1,5 +1,6 @@
 -- How the records of a disk are read, field by field from the left.
-use Rattle.std.specs.Prelude.{ℕ, ◌-◌, ◌^◌, List, [], fold}
+use Rattle.std.specs.Prelude.{ℕ, ◌-◌, List, [], fold}
+use Rattle.cg_base.specs.declared.limits.TheConstants.{LIST_LIMIT}
 use Rattle.cg_base.specs.declared.action_id.ActionId.{ActionId}
 use Rattle.cg_codec.specs.Reading.{Reading, ◌>>=◌, done, only, take_list}
 use Rattle.cg_text.specs.Order.{text_before}
@@ -17,10 +18,10 @@ use Rattle.cg_stored.specs.declared.checkpoint.Checkpoint.{Checkpoint}
 
 -- actions, and names of actions, in any order
 unfoldable pub actions_reading : Reading (List Action)
-actions_reading = take_list (2 ^ 32 - 1) (λ _. action_reading)
+actions_reading = take_list (LIST_LIMIT - 1) (λ _. action_reading)
 
 unfoldable pub ids_reading : Reading (List ActionId)
-ids_reading = take_list (2 ^ 32 - 1) (λ _. id_reading)
+ids_reading = take_list (LIST_LIMIT - 1) (λ _. id_reading)
 
 -- a change
 unfoldable pub change_reading : Reading Change
@@ -65,7 +66,7 @@ entry_reading last = do
 
 -- the entries of a database: each key behind the one before
 unfoldable pub entries_reading : Reading (List DbEntry)
-entries_reading = take_list (2 ^ 32 - 1) (λ taken. entry_reading (last_key taken))
+entries_reading = take_list (LIST_LIMIT - 1) (λ taken. entry_reading (last_key taken))
 
 -- how far the greens reach
 unfoldable pub reached_reading : Reading Reached

@@ -1,4 +1,5 @@
-ghost use Rattle.std.specs.Prelude.{◌≡◌, ◌++◌, ◌+◌, ◌<◌, ◌^◌, IsTrue, OnOk, OnErr};
+ghost use Rattle.std.specs.Prelude.{◌≡◌, ◌++◌, ◌+◌, ◌<◌, IsTrue, OnOk, OnErr};
+ghost use Rattle.cg_base.specs.declared.limits.TheConstants.{LIST_LIMIT};
 ghost use Rattle.cg_base.specs.Fronts.{KeepsFront};
 ghost use Rattle.cg_action.specs.ActionLimits.{IsAction, IsActionId};
 ghost use Rattle.cg_records.specs.Limits.{Each, IsStable};
@@ -57,7 +58,7 @@ pub fn put_change(
 
 // two lists as one, and two others, are shorter than 2^32
 fn are_short(first: usize, second: usize, green: usize, made: usize) -> bool
-    ensures { IsTrue result → (first + second < 2 ^ 32) × (green < 2 ^ 32) × (made < 2 ^ 32) }
+    ensures { IsTrue result → (first + second < LIST_LIMIT) × (green < LIST_LIMIT) × (made < LIST_LIMIT) }
 {
     let most = u32::MAX as usize;
     first <= most && second <= most - first && green <= most && made <= most

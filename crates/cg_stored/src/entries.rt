@@ -23,7 +23,7 @@ use std::alloc::Global;
 
 /// Takes a database: how many entries it has, and these, each key behind the one before.
 #[tactic(auto, unfolding(crate::specs::Reading::entries_reading))]
-pub(crate) fn take_entries(alloc: Global, fields: &mut Fields<'_>) -> Result<Db, CodecFault>
+pub fn take_entries(alloc: Global, fields: &mut Fields<'_>) -> Result<Db, CodecFault>
     ensures { TakesWithMemory (λ db. db) entries_reading (unread_of fields.old) (unread_of fields.new) result }
 {
     let mut after = *fields;
@@ -76,7 +76,7 @@ fn is_before(first: &str, second: &str) -> bool
 }
 
 /// Puts the entries of a database at the end, ascending by key.
-pub(crate) fn put_entries(out: &mut Vec<u8>, db: &Db) -> Result<(), NoMemory>
+pub fn put_entries(out: &mut Vec<u8>, db: &Db) -> Result<(), NoMemory>
     requires short { IsShort db.now }
     requires entries { AreEntries db.now }
     ensures ok { OnOk result (out.new.items ≡ out.old.items ++ list spelled_entry db.now) }

@@ -1,7 +1,8 @@
 //! The actions that a replica keeps, put one after the other.
 
-ghost use Rattle.std.specs.Prelude.{◌≡◌, ◌≤◌, ◌<◌, ◌^◌, ◌++◌, length, slice_get, OnOk, OnErr, IfSome, MatchOption};
+ghost use Rattle.std.specs.Prelude.{◌≡◌, ◌≤◌, ◌<◌, ◌++◌, length, slice_get, OnOk, OnErr, IfSome, MatchOption};
 ghost use Rattle.std.specs.Option.{option_copied};
+ghost use Rattle.cg_base.specs.declared.limits.TheConstants.{LIST_LIMIT};
 ghost use Rattle.cg_base.specs.Fronts.{KeepsFront};
 ghost use Rattle.cg_codec.specs.Fields.{list};
 ghost use Rattle.cg_action.specs.ActionLimits.{IsAction};
@@ -24,7 +25,7 @@ pub(crate) enum KeptList {
 
 /// How many actions the list has. None says that there are 2^32 or more.
 pub(crate) fn count_in(core: &Core, which: KeptList) -> Option<u32>
-    ensures { MatchOption result (2 ^ 32 ≤ length (list_in core.now which)) (λ count. count ≡
+    ensures { MatchOption result (LIST_LIMIT ≤ length (list_in core.now which)) (λ count. count ≡
         length (list_in core.now which)) }
 {
     match which {
@@ -35,7 +36,7 @@ pub(crate) fn count_in(core: &Core, which: KeptList) -> Option<u32>
 }
 
 fn small(count: u64) -> Option<u32>
-    ensures { MatchOption result (2 ^ 32 ≤ count) (λ n. n ≡ count) }
+    ensures { MatchOption result (LIST_LIMIT ≤ count) (λ n. n ≡ count) }
 {
     if count > u64::from(u32::MAX) {
         return None;

@@ -1,13 +1,15 @@
 ghost use Rattle.std.specs.Prelude.{◌≡◌, ℕ, true, List, Some};
 ghost use Rattle.cg_base.specs.Sets.{IsId};
+ghost use Rattle.cg_codec.specs.Fields.{list};
 ghost use Rattle.cg_codec.specs.Laws.{AreBytes, IsField, IsWhole, IsFrontOfNoOther};
+ghost use Rattle.cg_action.specs.Bytes.{spelled_action};
 ghost use Rattle.cg_stored.specs.declared.change.Change.{Change};
 ghost use Rattle.cg_stored.specs.declared.checkpoint.Checkpoint.{Checkpoint};
 ghost use Rattle.cg_stored.specs.Stored.{Stored};
 ghost use Rattle.cg_stored.specs.Change.{spelled_change};
-ghost use Rattle.cg_stored.specs.Checkpoint.{spelled_reached, spelled_parts};
-ghost use Rattle.cg_stored.specs.Limits.{IsChange, IsReached, AreParts};
-ghost use Rattle.cg_stored.specs.Reading.{change_reading, reached_reading, checkpoint_reading};
+ghost use Rattle.cg_stored.specs.Checkpoint.{spelled_entry, spelled_reached, spelled_parts};
+ghost use Rattle.cg_stored.specs.Limits.{AreActions, IsChange, IsDatabase, IsReached, AreParts};
+ghost use Rattle.cg_stored.specs.Reading.{actions_reading, change_reading, entries_reading, reached_reading, checkpoint_reading};
 ghost use Rattle.cg_stored.specs.Parts.{Fits, do_agree, change_in, Saved, checkpoint_in};
 ghost use Rattle.cg_stored.specs.Laws.{IsCheckpoint};
 
@@ -20,6 +22,12 @@ pub fn changes_are_exact()
     ensures found { (c : Change) (bytes : List ℕ) → AreBytes bytes → change_in bytes ≡ Some c →
         IsChange c × (bytes ≡ spelled_change c) }
     ensures apart { IsFrontOfNoOther IsChange spelled_change }
+{}
+
+/// The same of lists of actions, and of the entries of a database.
+pub fn lists_are_exact()
+    ensures actions { IsField AreActions (list spelled_action) actions_reading }
+    ensures entries { IsField IsDatabase (list spelled_entry) entries_reading }
 {}
 
 /// The same of the parts of a checkpoint, whether they agree or not, and of how far greens reach.

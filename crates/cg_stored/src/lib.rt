@@ -11,6 +11,7 @@ mod checkpoint;
 mod entries;
 mod kept;
 mod laws;
+mod limits;
 mod lists;
 mod reached;
 mod servers;
@@ -21,6 +22,11 @@ pub use change::{Change, put_change};
 pub use checkpoint::{
     Checkpoint, Kept, Reached, decode_checkpoint, generation_of, read_checkpoint,
 };
-pub use laws::{agreement_is_tested, changes_are_exact, checkpoints_are_exact, parts_are_exact};
+pub use entries::{put_entries, take_entries};
+pub use laws::{
+    agreement_is_tested, changes_are_exact, checkpoints_are_exact, lists_are_exact, parts_are_exact,
+};
+pub use limits::CHECKPOINT_BYTES;
+pub use lists::{put_actions, take_actions};
 pub use reached::{put_reached, take_reached};
 pub use writing::put_checkpoint;

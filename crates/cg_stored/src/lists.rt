@@ -20,7 +20,7 @@ const SHORTEST: usize = 19;
 
 /// Takes actions, in any order: how many, and these.
 #[tactic(auto, unfolding(crate::specs::Reading::actions_reading))]
-pub(crate) fn take_actions(alloc: Global, fields: &mut Fields<'_>) -> Result<ActionList, CodecFault>
+pub fn take_actions(alloc: Global, fields: &mut Fields<'_>) -> Result<ActionList, CodecFault>
     ensures { TakesWithMemory (λ l. l) actions_reading (unread_of fields.old) (unread_of fields.new) result }
 {
     let mut after = *fields;
@@ -35,11 +35,7 @@ pub(crate) fn take_actions(alloc: Global, fields: &mut Fields<'_>) -> Result<Act
 }
 
 /// Puts two lists of actions at the end, as one.
-pub(crate) fn put_actions(
-    out: &mut Vec<u8>,
-    first: &[Action],
-    others: &[Action],
-) -> Result<(), NoMemory>
+pub fn put_actions(out: &mut Vec<u8>, first: &[Action], others: &[Action]) -> Result<(), NoMemory>
     requires { AreActions (first.now ++ others.now) }
     ensures ok { OnOk result (out.new.items ≡ out.old.items ++ list spelled_action (first.now ++ others.now)) }
     ensures err { OnErr result (out.new.items ≡ out.old.items) }

@@ -1,6 +1,7 @@
 //! A checkpoint of what a replica holds.
 
-ghost use Rattle.std.specs.Prelude.{◌≡◌, ◌<◌, ◌^◌, ◌++◌, OnOk, OnErr, IfOk};
+ghost use Rattle.std.specs.Prelude.{◌≡◌, ◌<◌, ◌++◌, OnOk, OnErr, IfOk};
+ghost use Rattle.cg_base.specs.declared.limits.TheConstants.{NUMBER_LIMIT};
 ghost use Rattle.cg_base.specs.Fronts.{KeepsFront};
 ghost use Rattle.cg_stored.specs.Stored.{stable_of};
 ghost use Rattle.cg_stored.specs.Checkpoint.{reached_of, kept_of, spelled_reached, spelled_kept, spelled_checkpoint};
@@ -17,7 +18,7 @@ use cg_records::{Stable, put_stable};
 /// Puts a checkpoint of what a replica holds at the end. It copies neither actions nor entries. Where a list has 2^32 things
 /// or more, or a number is 2^63 or more, it is refused as want of memory.
 pub fn put_checkpoint(out: &mut Vec<u8>, generation: u64, core: &Core) -> Result<(), NoMemory>
-    requires { generation < 2 ^ 63 }
+    requires { generation < NUMBER_LIMIT }
     ensures ok { OnOk result (out.new.items ≡ out.old.items ++ spelled_checkpoint generation core.now) }
     ensures within { OnOk result (IsStored core.now) }
     ensures err { OnErr result (out.new.items ≡ out.old.items) }
