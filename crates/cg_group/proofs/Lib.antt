@@ -22,3 +22,4 @@ pub mod OrderFacts
 pub mod RoomFacts
 pub mod SettledFacts
 pub mod TurnFacts
+pub mod Senders

@@ -69,7 +69,7 @@ module _ {M : Type 0} where
   unfolding standing_of
   phase_of-changed g k change q = refl
 
-  found_id : (replicas : List (Standing M)) (p : ℕ) (s : Standing M) → found replicas p ≡ Some s → s.id ≡ p
+  pub found_id : (replicas : List (Standing M)) (p : ℕ) (s : Standing M) → found replicas p ≡ Some s → s.id ≡ p
   found_id [] p s e = absurd (cc)
   found_id (x ∷ replicas) p s e = ⊎_elim
       (λ y. let same : x ≡ s = let here : Some x ≡ Some s = sym (cond-true (x.id == p) (Some x) (found replicas p) y) ∙ e in cc in ap (λ (t : Standing M). t.id) (sym same) ∙ eqb-true x.id p y)

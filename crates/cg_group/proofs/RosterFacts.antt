@@ -14,8 +14,8 @@ use Rattle.std.proofs.lemmas.Bool.{cases_Bool, cases_order, cases_lt, cond-true,
 use Rattle.cg_base.specs.Sets.{Ascends, IsId, with_member, without_member}
 use Rattle.cg_base.specs.SetLaws.{Ascends-with_member, Ascends-filter, filter-keeps, filter-drops, with_member-same, with_member-front, with_member-later}
 use Rattle.cg_base.specs.AscendingLaws.{AllBelow, AllBelow-more, AllBelow-next, with_member-last}
-use Rattle.cg_group.specs.State.{Standing, with_standing, regular_in}
-use Rattle.cg_group.specs.Rosters.{ids_of, IsRoster, found, changing, waits_of, regulars_of}
+use Rattle.cg_group.specs.State.{Standing, with_standing}
+use Rattle.cg_group.specs.Rosters.{ids_of, IsRoster, found, changing, waits_of, is_sender, senders_of}
 
 -- what follows where a call is done
 pub ok_then : {T E : Type 0} {P Q : Type 0} (r : Result T E) → (P → Q) → OnOk r P → OnOk r Q
@@ -175,24 +175,35 @@ module _ {M : Type 0} where
       (get_or replicas i d, new.unordered, w.2, h.0, set-with_standing replicas 1 i new d roster.ascends w.0 (sym same) ∙ ap (with_standing replicas) h.1)
 
 module _ {M : Type 0} where
-  -- the set, with a replica that is regular
-  abbrev pub with_regular : List ℕ → Standing M → List ℕ
-  with_regular set s = if regular_in s.phase == 0 then set else with_member set s.id
+  -- the set, with a regular replica whose messages wait for a place
+  abbrev pub with_sender : List ℕ → Standing M → List ℕ
+  with_sender set s = if is_sender s then with_member set s.id else set
 
-  regulars_from : (replicas : List (Standing M)) (set : List ℕ) (low : ℕ) → AllBelow low set → Ascends low (ids_of replicas) →
-      fold with_regular set replicas ≡ set ++ regulars_of replicas
-  regulars_from [] set low below ascends = sym (append-nil set)
-  regulars_from (s ∷ replicas) set low below ascends =
+  senders_from : (replicas : List (Standing M)) (set : List ℕ) (low : ℕ) → AllBelow low set → Ascends low (ids_of replicas) →
+      fold with_sender set replicas ≡ set ++ senders_of replicas
+  senders_from [] set low below ascends = sym (append-nil set)
+  senders_from (s ∷ replicas) set low below ascends =
       let above : low ≤ s.id = ascends.0 in
       ⊎_elim
-      (λ y. ap (λ z. fold with_regular z replicas) (cond-true (regular_in s.phase == 0) set (with_member set s.id) y)
-      ∙ regulars_from replicas set (suc s.id) (AllBelow-more set low (suc s.id) (omega (arith, above)) below) ascends.2
-      ∙ ap (λ z. set ++ map (λ s. s.id) z) (sym (filter-drops (λ (s : Standing M). not (regular_in s.phase == 0)) s replicas (ap not y))))
-      (λ n. ap (λ z. fold with_regular z replicas) (cond-false (regular_in s.phase == 0) set (with_member set s.id) n ∙ with_member-last set s.id (AllBelow-more set low s.id above below))
-      ∙ regulars_from replicas (set ++ s.id ∷ []) (suc s.id) (AllBelow-next set s.id (AllBelow-more set low s.id above below)) ascends.2
-      ∙ append_assoc set (s.id ∷ []) (regulars_of replicas)
-      ∙ ap (λ z. set ++ map (λ s. s.id) z) (sym (filter-keeps (λ (s : Standing M). not (regular_in s.phase == 0)) s replicas (ap not n))))
-      (cases_Bool (regular_in s.phase == 0))
+      (λ y. ap (λ z. fold with_sender z replicas) (cond-true (is_sender s) (with_member set s.id) set y ∙ with_member-last set s.id (AllBelow-more set low s.id above below))
+      ∙ senders_from replicas (set ++ s.id ∷ []) (suc s.id) (AllBelow-next set s.id (AllBelow-more set low s.id above below)) ascends.2
+      ∙ append_assoc set (s.id ∷ []) (senders_of replicas)
+      ∙ ap (λ z. set ++ map (λ s. s.id) z) (sym (filter-keeps is_sender s replicas y)))
+      (λ n. ap (λ z. fold with_sender z replicas) (cond-false (is_sender s) (with_member set s.id) set n)
+      ∙ senders_from replicas set (suc s.id) (AllBelow-more set low (suc s.id) (omega (arith, above)) below) ascends.2
+      ∙ ap (λ z. set ++ map (λ s. s.id) z) (sym (filter-drops is_sender s replicas n)))
+      (cases_Bool (is_sender s))
 
-  pub regulars-all : (replicas : List (Standing M)) → IsRoster replicas → fold with_regular [] replicas ≡ regulars_of replicas
-  regulars-all replicas roster = regulars_from replicas [] 1 tt roster.ascends
+  pub senders-all : (replicas : List (Standing M)) → IsRoster replicas → fold with_sender [] replicas ≡ senders_of replicas
+  senders-all replicas roster = senders_from replicas [] 1 tt roster.ascends
+
+  -- each replica of the list is found
+  pub found_at : (replicas : List (Standing M)) (low i : ℕ) (d : Standing M) → Ascends low (ids_of replicas) → i < length replicas →
+      found replicas (get_or replicas i d).id ≡ Some (get_or replicas i d)
+  found_at [] low i d ascends lt = absurd (omega arith)
+  found_at (s ∷ replicas) low zero d ascends lt = cond-true (s.id == s.id) (Some s) (found replicas s.id) (eq-eqb s.id s.id refl)
+  found_at (s ∷ replicas) low (suc i) d ascends lt =
+      let within : i < length replicas = omega arith in
+      let x = get_or replicas i d in
+      let later : suc s.id ≤ x.id = id_within replicas (suc s.id) i d ascends.2 within in
+      cond-false (s.id == x.id) (Some s) (found replicas x.id) (ne_eqb s.id x.id (λ e. omega arith)) ∙ found_at replicas (suc s.id) i d ascends.2 within

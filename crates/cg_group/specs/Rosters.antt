@@ -1,5 +1,5 @@
 -- The replicas that are up, ascending, and what one of them does.
-use Rattle.std.specs.Prelude.{◌≡◌, ℕ, ◌==◌, true, not, ◌+◌, length, List, [], ◌∷◌, ◌++◌, if◌then◌else◌, Option, map, filter, find}
+use Rattle.std.specs.Prelude.{◌≡◌, ℕ, ◌==◌, ◌&&◌, Bool, true, not, ◌+◌, length, List, [], ◌∷◌, ◌++◌, if◌then◌else◌, Option, map, filter, find}
 use Rattle.std.specs.Option.{option_map_or}
 use Rattle.cg_base.specs.Sets.{Ascends}
 use Rattle.cg_group.specs.declared.phase.Phase.TheVariants.{Down}
@@ -45,6 +45,14 @@ module _ {M : Type 0} where
   -- the replicas that are regular, ascending
   abbrev pub regulars_of : List (Standing M) → List ℕ
   regulars_of replicas = map (λ s. s.id) (filter (λ s. not (regular_in s.phase == 0)) replicas)
+
+  -- a regular replica with messages that wait for a place
+  abbrev pub is_sender : Standing M → Bool
+  is_sender s = not (regular_in s.phase == 0) && not (length s.unordered == 0)
+
+  -- those replicas, ascending
+  abbrev pub senders_of : List (Standing M) → List ℕ
+  senders_of replicas = map (λ s. s.id) (filter is_sender replicas)
 
   -- how many messages wait for a place of the configuration
   abbrev pub pending : List (Standing M) → ℕ → ℕ

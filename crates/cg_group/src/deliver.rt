@@ -36,7 +36,7 @@ impl<M: Drop + TryClone> Group<M> {
         ensures err { OnErr result (self.new ≡ self.old) }
     {
         let from = self.delivered(p);
-        let mut list = Vec::new(self.alloc());
+        let mut list = Vec::with_capacity(self.alloc(), k as usize)?;
         self.put_deliveries(p, from, from + k, &mut list)?;
         self.hand_out(p, from + k);
         Ok(Row::from_vec(list))

@@ -1,7 +1,7 @@
 ghost use Rattle.std.specs.Prelude.{◌≡◌, ℕ, ◌<◌, length, fold, IfSome, OnOk, OnErr};
 ghost use Rattle.cg_group.specs.Events.{order, order_all, receive, receive_all, gather};
 ghost use Rattle.cg_group.specs.Logs.{RoomFor, RoomForAll, group_of, configurations_of};
-ghost use Rattle.cg_group.specs.Rosters.{conf_of, waits_of, pending};
+ghost use Rattle.cg_group.specs.Rosters.{conf_of, waits_of, pending, regulars_of, IsRoster};
 
 use crate::log::Log;
 use crate::logs::{append_at, receive_all_at, receive_at, reserve_at};
@@ -95,12 +95,14 @@ fn make_room<M>(logs: &mut [Log<M>], members: &[Member<M>]) -> Result<(), NoMemo
     Ok(())
 }
 
-// each of these replicas receives every place of its configuration
-fn receive_everything<M>(logs: &mut [Log<M>], roster: &Roster<M>, set: &IdSet)
-    ensures { group_of logs.new roster.now ≡ fold receive_all (group_of logs.old roster.now) set.now }
+// each regular replica receives every place of its configuration
+fn receive_everything<M>(logs: &mut [Log<M>], members: &[Member<M>])
+    requires { IsRoster members.now }
+    ensures { group_of logs.new members.now ≡
+        fold receive_all (group_of logs.old members.now) (regulars_of members.now) }
 {
-    for p in set.iter() {
-        receive_all_at(logs, roster.regular_in(p), p);
+    for member in members {
+        receive_all_at(logs, member.regular_in(), member.id());
     }
 }
 
@@ -110,9 +112,8 @@ pub(crate) fn gather<M: Drop>(logs: &mut [Log<M>], roster: &mut Roster<M>) -> Re
     ensures err { OnErr result (group_of logs.new roster.new ≡ group_of logs.old roster.old) }
 {
     make_room(logs, roster.as_slice())?;
-    let regulars = roster.regulars();
-    order_everything(logs, roster, &regulars);
-    let regulars_now = roster.regulars();
-    receive_everything(logs, roster, &regulars_now);
+    let senders = roster.senders();
+    order_everything(logs, roster, &senders);
+    receive_everything(logs, roster.as_slice());
     Ok(())
 }

@@ -2,8 +2,8 @@ ghost use Rattle.std.specs.Prelude.{◌≡◌, [], ◌∷◌, ◌==◌, nat_lt, 
 ghost use Rattle.std.specs.Option.{option_copied};
 ghost use Rattle.std.specs.List.{prefix_len};
 ghost use Rattle.cg_base.specs.Sets.{IsId, with_member};
-ghost use Rattle.cg_group.specs.State.{Standing, with_standing, regular_in};
-ghost use Rattle.cg_group.specs.Rosters.{found, changing, waiting, handed_so_far, with_unordered, waits_of, conf_of, regulars_of, IsRoster};
+ghost use Rattle.cg_group.specs.State.{Standing, with_standing};
+ghost use Rattle.cg_group.specs.Rosters.{found, changing, waiting, handed_so_far, with_unordered, waits_of, conf_of, is_sender, senders_of, IsRoster};
 
 use crate::Phase;
 use crate::member::Member;
@@ -36,12 +36,12 @@ fn position_of<M>(members: &[Member<M>], p: ReplicaId) -> Option<usize>
     members.iter().position(|m| m.id() == p)
 }
 
-// the set, with a replica that is regular
-fn with_regular<M>(set: IdSet, member: &Member<M>) -> IdSet
-    ensures { result ≡ (if regular_in member.now.phase == 0 then set else with_member set member.now.id) }
+// the set, with a regular replica whose messages wait for a place
+fn with_sender<M>(set: IdSet, member: &Member<M>) -> IdSet
+    ensures { result ≡ (if is_sender member.now then with_member set member.now.id else set) }
 {
     let mut more = set;
-    if member.regular_in() != 0 {
+    if member.regular_in() != 0 && member.unordered() != 0 {
         more.add(member.id());
     }
     more
@@ -91,19 +91,22 @@ impl<M> Roster<M> {
         }
     }
 
-    /// The replicas that are regular.
-    pub(crate) fn regulars(&self) -> IdSet
-        ensures { result ≡ regulars_of self.now }
+    /// The regular replicas whose messages wait for a place. It also says that the replicas ascend.
+    pub(crate) fn senders(&self) -> IdSet
+        ensures value { result ≡ senders_of self.now }
+        ensures roster { IsRoster self.now }
     {
-        let mut regulars = IdSet::empty();
+        let mut senders = IdSet::empty();
         for member in self.members.as_slice() {
-            regulars = with_regular(regulars, member);
+            senders = with_sender(senders, member);
         }
-        regulars
+        senders
     }
 
+    /// The replicas. It also says that they ascend.
     pub(crate) fn as_slice(&self) -> &[Member<M>]
-        ensures { result.now ≡ self.now }
+        ensures value { result.now ≡ self.now }
+        ensures roster { IsRoster self.now }
     {
         self.members.as_slice()
     }

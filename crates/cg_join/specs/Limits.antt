@@ -1,5 +1,6 @@
 -- Which pieces there are: each part is within the limits of its bytes.
-use Rattle.std.specs.Prelude.{◌≤◌, ◌^◌, List, length}
+use Rattle.std.specs.Prelude.{◌≤◌, List, length}
+use Rattle.cg_base.specs.declared.limits.TheConstants.{COUNT_LIMIT}
 use Rattle.cg_base.specs.Sets.{IsId}
 use Rattle.cg_action.specs.ActionLimits.{IsAction}
 use Rattle.cg_db.specs.Limits.{IsEntry}
@@ -39,4 +40,4 @@ pub record IsPiece (piece : Piece) : Type 0 where
 -- the parts of a snapshot
 pub record AreParts (parts : List Part) : Type 0 where
   pub each : Each IsPart parts
-  pub most : length parts ≤ 2 ^ 62
+  pub most : length parts ≤ COUNT_LIMIT

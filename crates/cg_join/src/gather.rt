@@ -5,7 +5,7 @@ ghost use Rattle.cg_join.specs.Limits.{IsPart};
 ghost use Rattle.cg_join.specs.Gathered.{with_part, nothing, IsGathered};
 
 use crate::{Head, Part};
-use cg_action::ActionList;
+use cg_action::{ActionList, Boxed};
 use cg_base::{NoMemory, Row};
 use cg_db::Db;
 use std::alloc::Global;
@@ -13,7 +13,7 @@ use std::alloc::Global;
 /// The head, if there was one, the greens in their order, and the entries.
 #[derive(Drop)]
 pub(crate) struct Gathered {
-    pub(crate) head: Option<Head>,
+    pub(crate) head: Option<Boxed<Head>>,
     pub(crate) greens: ActionList,
     pub(crate) db: Db,
 }
@@ -29,12 +29,12 @@ pub(crate) fn gather(alloc: Global, parts: Vec<Part>) -> Result<Gathered, NoMemo
         db: Db::new(alloc),
     };
     for part in parts {
-        add(&mut gathered, part)?;
+        add(alloc, &mut gathered, part)?;
     }
     Ok(gathered)
 }
 
-fn add(gathered: &mut Gathered, part: Part) -> Result<(), NoMemory>
+fn add(alloc: Global, gathered: &mut Gathered, part: Part) -> Result<(), NoMemory>
     ensures { OnOk result (gathered.new ≡ with_part gathered.old part) }
 {
     match part {
@@ -42,7 +42,10 @@ fn add(gathered: &mut Gathered, part: Part) -> Result<(), NoMemory>
             gathered.head = Some(head);
             Ok(())
         }
-        Part::Green(action) => gathered.greens.push(action),
+        Part::Green(action) => {
+            let action = action.get().copy(alloc)?;
+            gathered.greens.push(action)
+        }
         Part::Entry(entry) => gathered.db.put(entry.key, entry.value),
         Part::End => Ok(()),
     }

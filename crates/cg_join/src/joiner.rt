@@ -1,5 +1,6 @@
 //! A joiner, which takes the pieces of one snapshot and then has its disk.
-ghost use Rattle.std.specs.Prelude.{◌≡◌, ◌≤◌, ◌+◌, ◌^◌, [], length};
+ghost use Rattle.std.specs.Prelude.{◌≡◌, ◌≤◌, ◌+◌, [], length};
+ghost use Rattle.cg_base.specs.declared.limits.TheConstants.{COUNT_LIMIT};
 ghost use Rattle.cg_join.specs.Finishing.{ended as ended_with};
 
 use crate::parts::Parts;
@@ -81,7 +82,7 @@ impl<D: Disk> Joiner<D> {
 
     /// The disk of the replica that joined, in seven device calls. After an error it may be no replica's disk.
     pub fn finish(self) -> Result<D, CommitErr<D>>
-        requires calls { (D.view self.disk).time + 7 ≤ 2 ^ 62 }
+        requires calls { (D.view self.disk).time + 7 ≤ COUNT_LIMIT }
 
         // All pieces of one snapshot were taken.
         requires all { IsSnapshotFor self.id self.parts }

@@ -1,18 +1,24 @@
 //! The parts of a snapshot, in the order of its pieces.
-ghost use Rattle.std.specs.Prelude.{◌≡◌, ◌≤◌, ◌^◌, ◌++◌, ◌∷◌, [], length, slice_get, OnOk, OnErr, IfSome};
+ghost use Rattle.std.specs.Prelude.{◌≡◌, ◌≤◌, ◌++◌, ◌∷◌, [], length, slice_get, OnOk, OnErr, IfOk, IfSome};
 ghost use Rattle.std.specs.Option.{option_copied};
+ghost use Rattle.cg_base.specs.declared.limits.TheConstants.{COUNT_LIMIT};
 ghost use Rattle.cg_records.specs.Limits.{Each};
 ghost use Rattle.cg_join.specs.Limits.{IsPart};
 
 use crate::Part;
-use cg_base::{NoMemory, Row};
+use cg_base::{COUNT_LIMIT, NoMemory, Row};
 use std::alloc::Global;
 use std::marker::Model;
 
 /// Parts in order. Clauses see the list of them; each is within the limits of its bytes.
-#[derive(Drop)]
 pub(crate) struct Parts {
     row: Row<Part>,
+}
+
+impl Drop for Parts {
+    fn drop(self) {
+        let Parts { row: _ } = self;
+    }
 }
 
 impl Model for Parts {
@@ -27,9 +33,6 @@ impl Model for Parts {
     ghost invariant = { λ p. AreParts p.row };
 }
 
-// so many pieces fit no memory
-const MOST: usize = 1 << 62;
-
 impl Parts {
     pub(crate) fn new(alloc: Global) -> Parts
         ensures { result ≡ [] }
@@ -39,12 +42,20 @@ impl Parts {
         }
     }
 
+    /// No parts, with room for so many.
+    pub(crate) fn with_capacity(alloc: Global, capacity: usize) -> Result<Parts, NoMemory>
+        ensures { IfOk result (λ parts. parts ≡ []) }
+    {
+        let row = Row::with_capacity(alloc, capacity)?;
+        Ok(Parts { row })
+    }
+
     pub(crate) fn push(&mut self, part: Part) -> Result<(), NoMemory>
         requires { IsPart part }
         ensures ok { OnOk result (self.new ≡ self.old ++ part ∷ []) }
         ensures err { OnErr result (self.new ≡ self.old) }
     {
-        if self.row.len() >= MOST {
+        if self.row.len() as u64 >= COUNT_LIMIT {
             return Err(NoMemory);
         }
         self.row.push(part)
@@ -52,7 +63,7 @@ impl Parts {
 
     pub(crate) fn len(&self) -> u64
         ensures value { result ≡ length self.now }
-        ensures most { length self.now ≤ 2 ^ 62 }
+        ensures most { length self.now ≤ COUNT_LIMIT }
     {
         self.row.len() as u64
     }

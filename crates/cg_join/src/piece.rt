@@ -1,5 +1,5 @@
 use crate::SnapshotName;
-use cg_action::Action;
+use cg_action::{Action, Boxed};
 use cg_answer::DbEntry;
 use cg_records::Primary;
 use cg_stored::Reached;
@@ -20,12 +20,12 @@ pub struct Head {
     pub reached: Reached,
 }
 
-/// What a piece brings.
+/// What a piece brings. Most parts are entries, so that what is larger has a place of its own.
 #[derive(Drop)]
 pub enum Part {
-    Start(Head),
+    Start(Boxed<Head>),
     /// The next kept green action.
-    Green(Action),
+    Green(Boxed<Action>),
     /// The next entry of the database.
     Entry(DbEntry),
     End,

@@ -7,7 +7,7 @@ ghost use Rattle.cg_join.specs.Laws.{GivesPiece};
 
 use crate::entry::take_entry;
 use crate::{Head, Label, Part, Piece, SnapshotName, pieces_are_exact};
-use cg_action::take_action;
+use cg_action::{Boxed, take_action};
 use cg_codec::{CodecFault, Fields};
 use cg_records::{take_id, take_number, take_prim};
 use cg_stored::take_reached;
@@ -85,7 +85,7 @@ fn take_part_of(alloc: Global, f: &mut Fields<'_>, tag: u8) -> Result<Part, Code
     ensures { TakesWithMemory (λ p. p) (part_of_tag tag) (unread_of f.old) (unread_of f.new) result }
 {
     match tag {
-        1 => take_start(f),
+        1 => take_start(alloc, f),
         2 => take_green(alloc, f),
         3 => take_entry_part(alloc, f),
         _ => Ok(Part::End),
@@ -93,10 +93,12 @@ fn take_part_of(alloc: Global, f: &mut Fields<'_>, tag: u8) -> Result<Part, Code
 }
 
 #[tactic(auto, unfolding(crate::specs::Reading::start_reading))]
-fn take_start(f: &mut Fields<'_>) -> Result<Part, CodecFault>
+fn take_start(alloc: Global, f: &mut Fields<'_>) -> Result<Part, CodecFault>
     ensures { TakesWithMemory (λ p. p) start_reading (unread_of f.old) (unread_of f.new) result }
 {
-    let head = take_head(f)?;
+    let mut after = *f;
+    let head = Boxed::new(alloc, take_head(&mut after)?)?;
+    *f = after;
     Ok(Part::Start(head))
 }
 
@@ -104,7 +106,9 @@ fn take_start(f: &mut Fields<'_>) -> Result<Part, CodecFault>
 fn take_green(alloc: Global, f: &mut Fields<'_>) -> Result<Part, CodecFault>
     ensures { TakesWithMemory (λ p. p) green_reading (unread_of f.old) (unread_of f.new) result }
 {
-    let action = take_action(alloc, f)?;
+    let mut after = *f;
+    let action = Boxed::new(alloc, take_action(alloc, &mut after)?)?;
+    *f = after;
     Ok(Part::Green(action))
 }
 

@@ -14,11 +14,12 @@ ghost use Rattle.cg_join.specs.Snapshot.{parts_of, joined_from};
 use crate::Head;
 use crate::gather::{Gathered, gather};
 use crate::parts::Parts;
-use cg_action::ActionList;
+use cg_action::{ActionList, Boxed};
 use cg_base::{NoMemory, ReplicaId};
 use cg_client::Core;
 use cg_db::Db;
 use cg_store::{GreenState, resume};
+use cg_stored::Reached;
 use std::alloc::Global;
 
 /// What a joiner holds to which these parts came: those of a snapshot.
@@ -36,7 +37,7 @@ pub(crate) fn core_of(alloc: Global, id: ReplicaId, parts: Parts) -> Result<Core
 fn rebuild(
     alloc: Global,
     id: ReplicaId,
-    head: Head,
+    head: Boxed<Head>,
     greens: ActionList,
     db: Db,
 ) -> Result<Core, NoMemory>
@@ -46,17 +47,18 @@ fn rebuild(
     requires db { AreEntries db }
     ensures { IfOk result (λ core. core ≡ joined_from id head greens db) }
 {
-    let Head {
-        prim,
-        attempt_index,
-        reached,
-    } = head;
+    let head = head.get();
     let state = GreenState {
-        reached,
+        reached: Reached {
+            count: head.reached.count,
+            white: head.reached.white,
+            cut: head.reached.cut,
+            members: head.reached.members.copy(),
+        },
         greens,
         db,
-        prim,
-        attempt_index,
+        prim: head.prim,
+        attempt_index: head.attempt_index,
         vulnerable: None,
     };
     resume(alloc, id, state)

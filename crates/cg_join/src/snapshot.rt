@@ -1,5 +1,6 @@
 //! A copy of what a replica had green, and its pieces.
-ghost use Rattle.std.specs.Prelude.{◌≡◌, ◌≤◌, ◌<◌, ◌^◌, ◌-◌, Some, length, fold, slice_get, OnOk, IfOk, IfSome};
+ghost use Rattle.std.specs.Prelude.{◌≡◌, ◌≤◌, ◌<◌, ◌-◌, Some, length, fold, slice_get, OnOk, IfOk, IfSome};
+ghost use Rattle.cg_base.specs.declared.limits.TheConstants.{COUNT_LIMIT};
 ghost use Rattle.cg_action.specs.ActionLimits.{IsAction};
 ghost use Rattle.cg_db.specs.Limits.{AreEntries};
 ghost use Rattle.cg_db.specs.Ascending.{Ascends};
@@ -10,7 +11,7 @@ ghost use Rattle.cg_join.specs.Snapshot.{head_of, parts_of, with_green_part, wit
 use crate::parts::Parts;
 use crate::writing::encode;
 use crate::{Head, Label, Part, SnapshotName};
-use cg_action::ActionList;
+use cg_action::{ActionList, Boxed};
 use cg_answer::EntryList;
 use cg_base::{Bytes, NoMemory};
 use cg_client::Core;
@@ -19,11 +20,20 @@ use std::alloc::Global;
 use std::marker::Model;
 
 /// What a replica had green when the snapshot was made. Its memory is that content, once.
-#[derive(Drop)]
 pub struct SnapshotWriter {
     name: SnapshotName,
     parts: Parts,
     alloc: Global,
+}
+
+impl Drop for SnapshotWriter {
+    fn drop(self) {
+        let SnapshotWriter {
+            name: _,
+            parts: _,
+            alloc: _,
+        } = self;
+    }
 }
 
 impl Model for SnapshotWriter {
@@ -45,12 +55,14 @@ impl SnapshotWriter {
         ensures ascends { OnOk result (Ascends core.now.db) }
     {
         let alloc = core.alloc();
-        let mut parts = Parts::new(alloc);
-        let head = head_of(core);
-        parts.push(Part::Start(head))?;
         let greens = core.greens()?;
-        push_greens(&mut parts, greens)?;
         let entries = core.entries()?;
+        // with the head and the end
+        let count = greens.len().saturating_add(entries.len()).saturating_add(2);
+        let mut parts = Parts::with_capacity(alloc, count)?;
+        let head = Boxed::new(alloc, head_of(core))?;
+        parts.push(Part::Start(head))?;
+        push_greens(alloc, &mut parts, greens)?;
         push_entries(&mut parts, entries)?;
         parts.push(Part::End)?;
         Ok(SnapshotWriter { name, parts, alloc })
@@ -59,7 +71,7 @@ impl SnapshotWriter {
     /// The number of pieces.
     pub fn count(&self) -> u64
         ensures value { result ≡ length self.now.parts }
-        ensures most { length self.now.parts ≤ 2 ^ 62 }
+        ensures most { length self.now.parts ≤ COUNT_LIMIT }
     {
         self.parts.len()
     }
@@ -105,12 +117,13 @@ fn head_of(core: &Core) -> Head
     }
 }
 
-fn push_greens(parts: &mut Parts, greens: ActionList) -> Result<(), NoMemory>
+fn push_greens(alloc: Global, parts: &mut Parts, greens: ActionList) -> Result<(), NoMemory>
     requires { Each IsAction greens }
     ensures { OnOk result (parts.new ≡ fold with_green_part parts.old greens) }
 {
     for a in greens.into_vec() {
-        parts.push(Part::Green(a))?;
+        let action = Boxed::new(alloc, a)?;
+        parts.push(Part::Green(action))?;
     }
     Ok(())
 }

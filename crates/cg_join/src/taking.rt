@@ -1,11 +1,13 @@
 //! A piece is taken, or refused.
-ghost use Rattle.std.specs.Prelude.{◌≡◌, ◌≤◌, ◌^◌};
+ghost use Rattle.std.specs.Prelude.{◌≡◌, ◌≤◌};
+ghost use Rattle.cg_base.specs.declared.limits.TheConstants.{COUNT_LIMIT};
 ghost use Rattle.cg_join.specs.Limits.{IsPart};
 ghost use Rattle.cg_join.specs.Taking.{refusal, Adds, Takes};
 
 use crate::errors::bad;
 use crate::parts::Parts;
 use crate::{JoinErr, Label, Piece, SnapshotName, decode_piece};
+use cg_base::NoMemory;
 use std::alloc::Global;
 
 /// The piece that the bytes spell comes behind the parts that were taken, where it is the next of this snapshot. True says
@@ -19,12 +21,12 @@ pub(crate) fn take(
     ensures { Takes name.now parts.old parts.new bytes.now result }
 {
     match decode_piece(alloc, bytes) {
-        Ok(piece) => add(name, parts, piece),
+        Ok(piece) => add(alloc, name, parts, piece),
         Err(fault) => Err(bad(fault)),
     }
 }
 
-fn add(name: &SnapshotName, parts: &mut Parts, piece: Piece) -> Result<bool, JoinErr>
+fn add(alloc: Global, name: &SnapshotName, parts: &mut Parts, piece: Piece) -> Result<bool, JoinErr>
     requires { IsPart piece.part }
     ensures { Adds name.now parts.old parts.new piece result }
 {
@@ -32,14 +34,32 @@ fn add(name: &SnapshotName, parts: &mut Parts, piece: Piece) -> Result<bool, Joi
     if let Some(err) = refusal(name, parts.len(), &label) {
         return Err(err);
     }
+    let Ok(()) = make_room(alloc, parts, label.count) else {
+        return Err(JoinErr::NoMemory);
+    };
     let Ok(()) = parts.push(part) else {
         return Err(JoinErr::NoMemory);
     };
     Ok(label.number == label.count)
 }
 
+// what a piece says of their count may be wrong, so no more parts than these have room before they came
+const MOST_AT_ONCE: u64 = 1 << 16;
+
+// room for the parts that are to come, before the first one
+fn make_room(alloc: Global, parts: &mut Parts, count: u64) -> Result<(), NoMemory>
+    ensures { parts.new ≡ parts.old }
+{
+    if parts.len() > 0 {
+        return Ok(());
+    }
+    let room = Parts::with_capacity(alloc, count.min(MOST_AT_ONCE) as usize)?;
+    *parts = room;
+    Ok(())
+}
+
 fn refusal(name: &SnapshotName, taken: u64, label: &Label) -> Option<JoinErr>
-    requires { taken ≤ 2 ^ 62 }
+    requires { taken ≤ COUNT_LIMIT }
     ensures { result ≡ refusal name.now taken label.now }
 {
     if label.name != *name {

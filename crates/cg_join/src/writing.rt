@@ -13,12 +13,15 @@ use cg_records::put_prim;
 use cg_stored::put_reached;
 use std::alloc::Global;
 
+// a piece of a small entry fits
+const USUAL: usize = 128;
+
 /// The bytes of a piece.
 pub(crate) fn encode(alloc: Global, label: &Label, part: &Part) -> Result<Bytes, NoMemory>
     requires { IsPart part.now }
     ensures { IfOk result (λ bytes. bytes ≡ piece_bytes label.now part.now) }
 {
-    let mut out = Vec::new(alloc);
+    let mut out = Vec::with_capacity(alloc, USUAL)?;
     write_label(&mut out, label)?;
     write_part(&mut out, part)?;
     Ok(Bytes::from_vec(out))
@@ -42,11 +45,11 @@ fn write_part(out: &mut Vec<u8>, part: &Part) -> Result<(), NoMemory>
     match part {
         Part::Start(head) => {
             put_u8(out, 1)?;
-            write_head(out, head)
+            write_head(out, head.get())
         }
         Part::Green(action) => {
             put_u8(out, 2)?;
-            put_action(out, action)
+            put_action(out, action.get())
         }
         Part::Entry(entry) => {
             put_u8(out, 3)?;

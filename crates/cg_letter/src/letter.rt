@@ -9,9 +9,14 @@ use std::alloc::Global;
 use std::marker::Model;
 
 /// A message in bytes. Clauses see the message.
-#[derive(Drop)]
 pub struct Letter {
     bytes: Bytes,
+}
+
+impl Drop for Letter {
+    fn drop(self) {
+        let Letter { bytes: _ } = self;
+    }
 }
 
 impl Model for Letter {

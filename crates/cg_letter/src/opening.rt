@@ -32,7 +32,7 @@ pub fn open_all(alloc: Global, list: Row<Delivery<Letter>>) -> Result<DeliveryLi
     // Each message is within its limits, and so is the one that its bytes spell.
     ensures said { OnOk result (AreSaid list) }
 {
-    let mut all = Row::new(alloc);
+    let mut all = Row::with_capacity(alloc, list.len())?;
     for one in list.into_vec() {
         all.push(opened(one))?;
     }

@@ -16,13 +16,24 @@ use std::snapshot::Snapshot;
 /// A snapshot under way: for whom, of whom, the copy of what that replica had green, and the joiner with its disk, which
 /// has taken the first pieces. Clauses see it as the world's definitions have it: with all that its giver held, of which
 /// it keeps no second copy.
-#[derive(Drop)]
 pub struct Transfer {
     joiner: ReplicaId,
     giver: ReplicaId,
     held: Snapshot<Core>,
     writer: SnapshotWriter,
     taking: Joiner<ModelDisk>,
+}
+
+impl Drop for Transfer {
+    fn drop(self) {
+        let Transfer {
+            joiner: _,
+            giver: _,
+            held: _,
+            writer: _,
+            taking: _,
+        } = self;
+    }
 }
 
 impl Model for Transfer {
@@ -129,10 +140,11 @@ impl Transfer {
     {
         snapshots_are_counted();
         let Transfer {
+            joiner: _,
+            giver: _,
             held,
             writer,
             taking,
-            ..
         } = self;
         drop(held);
         drop(writer);
