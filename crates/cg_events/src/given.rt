@@ -3,15 +3,20 @@ ghost use Rattle.std.specs.Prelude.{◌≡◌, suc, [], IfOk, MatchResult};
 ghost use Rattle.cg_base.specs.Cuts.{index_in, raise};
 ghost use Rattle.cg_records.specs.Limits.{IsNumber};
 
-use cg_base::{Cut, NoMemory, ReplicaId};
+use cg_base::{COUNT_LIMIT, Cut, NoMemory, ReplicaId};
 use std::alloc::Global;
 use std::marker::Model;
 
 /// How many snapshots each replica has given so far. It has a place of its own once one has. Clauses see of each giver its
 /// last snapshot's number, ascending by giver.
-#[derive(Drop)]
 pub(crate) struct Given {
     counts: Option<Box<Cut>>,
+}
+
+impl Drop for Given {
+    fn drop(self) {
+        let Given { counts: _ } = self;
+    }
 }
 
 impl Model for Given {
@@ -23,9 +28,6 @@ impl Model for Given {
 
     ghost view = { λ g. option_map_or (λ b. b.value) g.counts [] };
 }
-
-// more snapshots of one replica than are made in any run
-const MOST: u64 = 1 << 62;
 
 impl Given {
     /// No snapshot was given.
@@ -47,7 +49,7 @@ impl Given {
             None => Box::new(alloc, Cut::zero())?,
         };
         let last = counts.get(giver);
-        if last >= MOST {
+        if last >= COUNT_LIMIT {
             self.counts = Some(counts);
             return Err(NoMemory);
         }

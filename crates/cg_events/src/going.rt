@@ -28,10 +28,18 @@ use std::alloc::Global;
 use std::marker::Model;
 
 /// The world so far, and what is to be shown but for the lines.
-#[derive(Drop)]
 pub struct Going {
     pub(crate) state: WorldState,
     pub(crate) showing: Showing,
+}
+
+impl Drop for Going {
+    fn drop(self) {
+        let Going {
+            state: _,
+            showing: _,
+        } = self;
+    }
 }
 
 impl Model for Going {

@@ -7,9 +7,14 @@ use std::marker::Model;
 
 /// The cut of the actions that were shown as made. It has a place of its own from the first event on that tells of a
 /// replica: the world goes from call to call as a value. Clauses see the cut.
-#[derive(Drop)]
 pub(crate) struct MadeCut {
     cut: Option<Box<Cut>>,
+}
+
+impl Drop for MadeCut {
+    fn drop(self) {
+        let MadeCut { cut: _ } = self;
+    }
 }
 
 impl Model for MadeCut {

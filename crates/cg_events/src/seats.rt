@@ -61,9 +61,14 @@ impl BoxedSeat {
 }
 
 /// The replicas that have begun, ascending.
-#[derive(Drop)]
 pub(crate) struct Seats {
     list: Vec<BoxedSeat>,
+}
+
+impl Drop for Seats {
+    fn drop(self) {
+        let Seats { list: _ } = self;
+    }
 }
 
 impl Model for Seats {

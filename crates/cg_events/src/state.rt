@@ -29,7 +29,6 @@ use std::marker::Model;
 /// The group; the replicas that have begun; the snapshots under way, and how many each replica has given, which clauses
 /// don't see; the global order of actions; the last printed line of each replica; the cut of the actions that were shown
 /// as made; and the replicas that were named.
-#[derive(Drop)]
 pub struct WorldState {
     pub(crate) group: Group<Letter>,
     pub(crate) seats: Seats,
@@ -39,6 +38,21 @@ pub struct WorldState {
     pub(crate) lines: Lines,
     pub(crate) made: MadeCut,
     pub(crate) named: IdSet,
+}
+
+impl Drop for WorldState {
+    fn drop(self) {
+        let WorldState {
+            group: _,
+            seats: _,
+            transfers: _,
+            given: _,
+            order: _,
+            lines: _,
+            made: _,
+            named: _,
+        } = self;
+    }
 }
 
 impl Model for WorldState {

@@ -8,9 +8,14 @@ use std::alloc::Global;
 use std::marker::Model;
 
 /// The snapshots under way, in the order of their last transfers.
-#[derive(Drop)]
 pub(crate) struct Transfers {
     list: Vec<Transfer>,
+}
+
+impl Drop for Transfers {
+    fn drop(self) {
+        let Transfers { list: _ } = self;
+    }
 }
 
 impl Model for Transfers {

@@ -5,6 +5,8 @@
 #![tactic(auto)]
 
 #[cfg(test)]
+mod engine;
+#[cfg(test)]
 mod replica;
 #[cfg(test)]
 mod store;

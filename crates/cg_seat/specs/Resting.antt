@@ -1,5 +1,6 @@
 -- What is known of the disk of a replica that is down.
-use Rattle.std.specs.Prelude.{◌≡◌, ◌≤◌, ◌+◌, ◌^◌, ℕ, None, IfSome}
+use Rattle.std.specs.Prelude.{◌≡◌, ◌≤◌, ◌+◌, ℕ, None, IfSome}
+use Rattle.cg_base.specs.declared.limits.TheConstants.{COUNT_LIMIT}
 use Rattle.cg_disk.specs.View.{DiskView, IsAtRest}
 use Rattle.cg_store.specs.Stands.{OnDisk, Stands}
 use Rattle.cg_seat.specs.declared.limits.TheConstants.{RECOVERY_CALLS}
@@ -10,4 +11,4 @@ pub record IsResting (d : DiskView) (id : ℕ) : Type 0 where
   pub stands : Stands id d.reads standing
   pub rest : IsAtRest d
   pub unarmed : IfSome d.state (λ s. s.strike ≡ None)
-  pub room : d.time + RECOVERY_CALLS ≤ 2 ^ 62
+  pub room : d.time + RECOVERY_CALLS ≤ COUNT_LIMIT

@@ -7,9 +7,14 @@ use cg_engine::Wreck;
 use std::marker::Model;
 
 /// A wreck whose disk stands for a state, with nothing unsynced on it and nothing armed. Clauses see the wreck.
-#[derive(Drop)]
 pub(crate) struct Resting {
     wreck: Wreck<ModelDisk>,
+}
+
+impl Drop for Resting {
+    fn drop(self) {
+        let Resting { wreck: _ } = self;
+    }
 }
 
 impl Model for Resting {

@@ -1,4 +1,5 @@
-ghost use Rattle.std.specs.Prelude.{◌≡◌, ◌≤◌, ◌+◌, ◌^◌, IfOk};
+ghost use Rattle.std.specs.Prelude.{◌≡◌, ◌≤◌, ◌+◌, IfOk};
+ghost use Rattle.cg_base.specs.declared.limits.TheConstants.{COUNT_LIMIT};
 ghost use Rattle.cg_store.specs.Stands.{OnDisk};
 ghost use Rattle.cg_seat.specs.Seen.{seen, up_seen, down_seen, FallsTo, fallen};
 ghost use Rattle.cg_seat.specs.declared.limits.TheConstants.{RECOVERY_CALLS};
@@ -11,9 +12,14 @@ use cg_engine::{Engine, Wreck};
 use std::marker::Model;
 
 /// A replica with its disk: up, or down.
-#[derive(Drop)]
 pub struct Seat {
     pub(crate) life: Life,
+}
+
+impl Drop for Seat {
+    fn drop(self) {
+        let Seat { life: _ } = self;
+    }
 }
 
 impl Model for Seat {
@@ -54,7 +60,7 @@ impl Seat {
     // memory for the bytes of the disk alone.
     pub(crate) fn fall(wreck: Wreck<ModelDisk>, fill: &[u8]) -> Result<Seat, NoMemory>
         requires falls { (u : OnDisk) × FallsTo (⟦<ModelDisk as Disk>⟧.view) wreck fill.now u }
-        requires room { (⟦<ModelDisk as Disk>⟧.view wreck.disk).time + RECOVERY_CALLS ≤ 2 ^ 62 }
+        requires room { (⟦<ModelDisk as Disk>⟧.view wreck.disk).time + RECOVERY_CALLS ≤ COUNT_LIMIT }
         ensures { IfOk result (λ s. (u : OnDisk) →
             FallsTo (⟦<ModelDisk as Disk>⟧.view) wreck fill.now u → s ≡ fallen wreck u) }
     {

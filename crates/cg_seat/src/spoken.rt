@@ -6,10 +6,15 @@ use cg_show::News;
 use std::marker::Model;
 
 /// What a replica has to say behind an event: what is to be shown of it, and its messages, in their order.
-#[derive(Drop)]
 pub struct Spoken {
     news: News,
     sent: Row<Letter>,
+}
+
+impl Drop for Spoken {
+    fn drop(self) {
+        let Spoken { news: _, sent: _ } = self;
+    }
 }
 
 impl Model for Spoken {

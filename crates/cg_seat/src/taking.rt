@@ -1,5 +1,6 @@
 //! A replica comes up for the first time, and takes an event.
-ghost use Rattle.std.specs.Prelude.{◌≡◌, ◌+◌, ◌≤◌, ◌^◌, IfOk, Some, None};
+ghost use Rattle.std.specs.Prelude.{◌≡◌, ◌+◌, ◌≤◌, IfOk, Some, None};
+ghost use Rattle.cg_base.specs.declared.limits.TheConstants.{COUNT_LIMIT};
 ghost use Rattle.cg_action.specs.Limits.{IsKind};
 ghost use Rattle.cg_action.specs.declared.action.Action.{Action};
 ghost use Rattle.cg_base.specs.declared.action_id.ActionId.{ActionId};
@@ -123,7 +124,7 @@ fn handle(
     fill: Bytes,
     input: Input,
 ) -> Result<(Seat, Option<Spoken>), NoMemory>
-    requires calls { (⟦<ModelDisk as Disk>⟧.view engine.store.disk).time + EVENT_CALLS + RECOVERY_CALLS ≤ 2 ^ 62 }
+    requires calls { (⟦<ModelDisk as Disk>⟧.view engine.store.disk).time + EVENT_CALLS + RECOVERY_CALLS ≤ COUNT_LIMIT }
     requires limits { HasLimits input }
     requires booked { (book : ActionId → Action) × AreBooked book engine.replica.held (input_of input) }
     ensures { IfOk result (λ x. x ≡ taken
@@ -158,7 +159,7 @@ fn go_on(engine: Engine<ModelDisk>, fill: Bytes, outputs: Outputs) -> (Seat, Opt
 // The event ended in its crash.
 fn fall(wreck: Wreck<ModelDisk>, fill: Bytes) -> Result<(Seat, Option<Spoken>), NoMemory>
     requires falls { (u : OnDisk) × FallsTo (⟦<ModelDisk as Disk>⟧.view) wreck fill u }
-    requires room { (⟦<ModelDisk as Disk>⟧.view wreck.disk).time + RECOVERY_CALLS ≤ 2 ^ 62 }
+    requires room { (⟦<ModelDisk as Disk>⟧.view wreck.disk).time + RECOVERY_CALLS ≤ COUNT_LIMIT }
     ensures { IfOk result (λ x. (u : OnDisk) → FallsTo (⟦<ModelDisk as Disk>⟧.view) wreck fill u →
         x ≡ (fallen wreck u, None)) }
 {

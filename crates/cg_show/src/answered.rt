@@ -25,9 +25,14 @@ impl Model for Answered {
 }
 
 /// Replies, ascending by place.
-#[derive(Drop)]
 pub struct Replies {
     list: Vec<Answered>,
+}
+
+impl Drop for Replies {
+    fn drop(self) {
+        let Replies { list: _ } = self;
+    }
 }
 
 impl Model for Replies {

@@ -8,9 +8,14 @@ use std::alloc::Global;
 use std::marker::Model;
 
 /// The last printed line of each replica.
-#[derive(Drop)]
 pub struct Lines {
     list: Vec<Line>,
+}
+
+impl Drop for Lines {
+    fn drop(self) {
+        let Lines { list: _ } = self;
+    }
 }
 
 impl Model for Lines {

@@ -15,12 +15,22 @@ use std::alloc::Global;
 use std::marker::Model;
 
 /// What a step shows so far, but for its lines.
-#[derive(Drop)]
 pub struct Showing {
     made: Row<Made>,
     orders: Row<Placed>,
     replies: Replies,
     shown: Row<Shown>,
+}
+
+impl Drop for Showing {
+    fn drop(self) {
+        let Showing {
+            made: _,
+            orders: _,
+            replies: _,
+            shown: _,
+        } = self;
+    }
 }
 
 impl Model for Showing {
@@ -151,7 +161,8 @@ fn show_one(made: &mut Cut, shown: &mut Row<Made>, a: Action) -> Result<(), NoMe
     ensures made { OnOk result (made.new ≡ raise made.old a.id) }
     ensures shown { OnOk result (shown.new ≡ shown.old ++ made_of_action a ∷ []) }
 {
-    let Action { id, kind, .. } = a;
+    let id = a.id;
     made.raise(id.creator, id.index);
+    let kind = a.into_kind();
     shown.push(Made { id, kind })
 }

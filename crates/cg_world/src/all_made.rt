@@ -7,9 +7,14 @@ use std::snapshot::Snapshot;
 
 /// The actions that were made, in the order of their making, as contracts speak of them: nothing is kept of them here.
 #[cycle(made)]
-#[derive(Drop)]
 pub(crate) struct AllMade {
     last: Last,
+}
+
+impl Drop for AllMade {
+    fn drop(self) {
+        let AllMade { last: _ } = self;
+    }
 }
 
 #[cycle(made)]

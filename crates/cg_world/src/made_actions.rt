@@ -14,11 +14,16 @@ use std::marker::Model;
 
 /// The actions that were made, kept in a row for each creator. Clauses see the list of them in the order of their
 /// making.
-#[derive(Drop)]
 pub(crate) struct MadeActions {
     // of each creator, the one with number 1 first; a creator behind the last of these has made none
     rows: Vec<ActionList>,
     all: AllMade,
+}
+
+impl Drop for MadeActions {
+    fn drop(self) {
+        let MadeActions { rows: _, all: _ } = self;
+    }
 }
 
 impl Model for MadeActions {
