@@ -132,7 +132,7 @@ module _ (d : Chronicle) (w : World) (stands : StandsBeside d w) (stand : ArePri
 
 -- the step of an event
 step-at : World → Event → Step
-step-at w e = record { number = 0; event = e; entry = (world_step w e).entry; world = (world_step w e).world }
+step-at w e = record { event = e; entry = (world_step w e).entry; world = (world_step w e).world }
 
 -- some steps have told of what events lead to
 record HaveTold (c : Chronicle) (w : World) : Type 0 where

@@ -56,20 +56,20 @@ runs-numbered p cut (id ∷ ids) rising run =
 
 -- ---- a run and its chronicle
 
-pub admitted-of : (w : World) (count : ℕ) (steps : List Step) → IsRunFrom w count steps → AreAdmitted w (map (λ s. s.event) steps)
-admitted-of w count [] run = tt
-admitted-of w count (s ∷ steps) run =
-    (run.2, run.3, subst (λ (v : World). AreAdmitted v (map (λ s. s.event) steps)) (ap (λ (m : Moved). m.world) run.4) (admitted-of s.world (suc count) steps run.5))
+pub admitted-of : (w : World) (steps : List Step) → IsRunFrom w steps → AreAdmitted w (map (λ s. s.event) steps)
+admitted-of w [] run = tt
+admitted-of w (s ∷ steps) run =
+    (run.0, run.1, subst (λ (v : World). AreAdmitted v (map (λ s. s.event) steps)) (ap (λ (m : Moved). m.world) run.2) (admitted-of s.world steps run.3))
 
-pub stands-behind : (c : Chronicle) (w : World) (count : ℕ) (steps : List Step) → IsRunFrom w count steps → HoldsFrom c w (map (λ s. s.event) steps) → StandsBeside (chronicle_after c w steps) (world_after w steps)
-stands-behind c w count [] run holds = holds
-stands-behind c w count (s ∷ steps) run holds =
-    stands-behind (chronicle_step c w s.event) s.world (suc count) steps run.5
-    (subst (λ (v : World). HoldsFrom (chronicle_step c w s.event) v (map (λ s. s.event) steps)) (sym (ap (λ (m : Moved). m.world) run.4)) holds.1)
+pub stands-behind : (c : Chronicle) (w : World) (steps : List Step) → IsRunFrom w steps → HoldsFrom c w (map (λ s. s.event) steps) → StandsBeside (chronicle_after c w steps) (world_after w steps)
+stands-behind c w [] run holds = holds
+stands-behind c w (s ∷ steps) run holds =
+    stands-behind (chronicle_step c w s.event) s.world steps run.3
+    (subst (λ (v : World). HoldsFrom (chronicle_step c w s.event) v (map (λ s. s.event) steps)) (sym (ap (λ (m : Moved). m.world) run.2)) holds.1)
 
 -- the chronicle that stands beside the world behind a run
-pub stands-of : AlwaysHolds → (steps : List Step) → IsRunFrom no_world 0 steps → StandsBeside (chronicle_after no_chronicle no_world steps) (world_after no_world steps)
-stands-of always steps run = stands-behind no_chronicle no_world 0 steps run (always (map (λ s. s.event) steps) (admitted-of no_world 0 steps run))
+pub stands-of : AlwaysHolds → (steps : List Step) → IsRunFrom no_world steps → StandsBeside (chronicle_after no_chronicle no_world steps) (world_after no_world steps)
+stands-of always steps run = stands-behind no_chronicle no_world steps run (always (map (λ s. s.event) steps) (admitted-of no_world steps run))
 
 -- ---- the order
 
@@ -106,10 +106,10 @@ order-runs c w stands =
     ap (run_on []) is.names ∙ on_top-runs c stands.facts is.list is.on_top
 
 -- Each creator's actions stand in the order as 1, 2, 3 and so on.
-pub creator-numbered : AlwaysHolds → (steps : List Step) → IsRunFrom no_world 0 steps → (p : ℕ) →
+pub creator-numbered : AlwaysHolds → (steps : List Step) → IsRunFrom no_world steps → (p : ℕ) →
     (let own = filter (λ id. id.creator == p) (order_of steps) in map (λ id. id.index) own ≡ count_up 1 (length own))
 unfolding own_of
 creator-numbered always steps run p =
     let runs = order-runs (chronicle_after no_chronicle no_world steps) (world_after no_world steps) (stands-of always steps run) in
-    let told : (world_after no_world steps).order ≡ order_of steps = order_told no_world 0 steps run in
+    let told : (world_after no_world steps).order ≡ order_of steps = order_told no_world steps run in
     runs-numbered p [] (order_of steps) tt (subst (λ (ids : List ActionId). run_on [] ids ≡ true) told runs)

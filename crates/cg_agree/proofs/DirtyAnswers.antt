@@ -148,7 +148,7 @@ shows : (w : World) (p : ℕ) (q : Query) (r : Replica) → replica_of w p ≡ S
 unfolding world_step ended happens
 shows w p q r up = (ap (λ o. option_map_or (λ (r : Replica). ShownDirty p (dirty_answer r.held q) ∷ []) o []) up, up)
 
-pub dirty-answers : AlwaysHolds → (steps : List Step) → IsRunFrom no_world 0 steps → DirtyAnswers steps
+pub dirty-answers : AlwaysHolds → (steps : List Step) → IsRunFrom no_world steps → DirtyAnswers steps
 dirty-answers always steps run earlier s p q up after event last =
     let there = comes always steps run earlier s after in
     let now = through earlier s in
@@ -168,4 +168,4 @@ dirty-answers always steps run earlier s p q up after event last =
     subst (λ (o : Option UpLine). IsSomeWith o (λ up. up.view ≡ view_of r.held)) last (up-shown v now told.lines.shown told.lines.stand p r runs) in
     ap (λ (m : Moved). m.entry.shown) moved ∙ shown.0
     ∙ ap (λ x. ShownDirty p x ∷ [])
-    (dirty-is now (chronicle_after no_chronicle no_world now) v (stands-of always now there.upto) told.made p r runs (reds-shown always now there.upto p r runs) up view (sym (order_told no_world 0 now there.upto)) q)
+    (dirty-is now (chronicle_after no_chronicle no_world now) v (stands-of always now there.upto) told.made p r runs (reds-shown always now there.upto p r runs) up view (sym (order_told no_world now there.upto)) q)

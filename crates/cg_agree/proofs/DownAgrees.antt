@@ -32,7 +32,7 @@ each-le : (w : World) (list : List Action) → Each (λ (a : Action). a.id.index
 each-le w [] each = tt
 each-le w (a ∷ list) each = (le-leb a.id.index (index_in w.made a.id.creator) each.0, each-le w list each.1)
 
-module _ (always : AlwaysHolds) (steps : List Step) (run : IsRunFrom no_world 0 steps) (p : ℕ) (disk : Disk) (green : List ActionId) (down : life_of (world_of steps) p ≡ Some (Down disk green)) where
+module _ (always : AlwaysHolds) (steps : List Step) (run : IsRunFrom no_world steps) (p : ℕ) (disk : Disk) (green : List ActionId) (down : life_of (world_of steps) p ≡ Some (Down disk green)) where
   stands : StandsFor steps
   stands = stands-for always steps run
 
@@ -43,7 +43,7 @@ module _ (always : AlwaysHolds) (steps : List Step) (run : IsRunFrom no_world 0 
   q = disk.content.queue
 
   order-is : (world_of steps).order ≡ order_of steps
-  order-is = order_told no_world 0 steps run
+  order-is = order_told no_world steps run
 
   reaches-run : Reaches q (order_recovered (order_of steps) disk green)
   reaches-run =
@@ -75,9 +75,9 @@ module _ (always : AlwaysHolds) (steps : List Step) (run : IsRunFrom no_world 0 
 
 -- ---- a step of a run
 
-module _ (always : AlwaysHolds) (steps : List Step) (run : IsRunFrom no_world 0 steps) (earlier : List Step) (s : Step) (p : ℕ) (disk : Disk) (green : List ActionId) (after : ComesAfter steps earlier s)
+module _ (always : AlwaysHolds) (steps : List Step) (run : IsRunFrom no_world steps) (earlier : List Step) (s : Step) (p : ℕ) (disk : Disk) (green : List ActionId) (after : ComesAfter steps earlier s)
     (down : life_of s.world p ≡ Some (Down disk green)) where
-  behind : IsRunFrom no_world 0 (through earlier s)
+  behind : IsRunFrom no_world (through earlier s)
   behind = (step-of always steps run earlier s after).behind
 
   down-there : life_of (world_of (through earlier s)) p ≡ Some (Down disk green)

@@ -16,7 +16,7 @@ split-at [] x there = absurd (let less = there.1 in omega arith)
 split-at (y ∷ xs) x (zero, less, same) = ([], xs, ap (λ z. z ∷ xs) same)
 split-at (y ∷ xs) x (suc k, less, same) = (let rest = split-at xs x (k, omega arith, same) in (y ∷ rest.0, rest.1, ap (λ zs. y ∷ zs) rest.2))
 
-pub fold-answers : AlwaysHolds → (steps : List Step) → IsRunFrom no_world 0 steps → FoldAnswers steps
+pub fold-answers : AlwaysHolds → (steps : List Step) → IsRunFrom no_world steps → FoldAnswers steps
 fold-answers always steps run = record {
   database = λ earlier s p entries after there. fold-database always steps run earlier s after p entries there;
   held = λ earlier s p r after runs. fold-held always steps run earlier s p r after runs;

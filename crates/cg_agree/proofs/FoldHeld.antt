@@ -54,7 +54,7 @@ module _ (steps : List Step) (f : StandsFor steps) (p : ℕ) (r : Replica) (runs
   own-fold = in-order.core.made_of.db ∙ ap fold_actions (sym own-prefix)
 
 -- The database of a replica that is up.
-pub fold-held : AlwaysHolds → (steps : List Step) → IsRunFrom no_world 0 steps → (earlier : List Step) (s : Step) (p : ℕ) (r : Replica) → ComesAfter steps earlier s →
+pub fold-held : AlwaysHolds → (steps : List Step) → IsRunFrom no_world steps → (earlier : List Step) (s : Step) (p : ℕ) (r : Replica) → ComesAfter steps earlier s →
     replica_of s.world p ≡ Some r → r.held.db ≡ fold_actions (ordered_actions (through earlier s) (green_count r.held.queue))
 fold-held always steps run earlier s p r after runs =
     let is = step-of always steps run earlier s after in

@@ -41,7 +41,7 @@ weak-admitted w p q admitted = (takes-part w p admitted).up
 
 -- ---- the fields
 
-module _ (always : AlwaysHolds) (steps : List Step) (run : IsRunFrom no_world 0 steps) (earlier : List Step) (s : Step) (after : ComesAfter steps earlier s) where
+module _ (always : AlwaysHolds) (steps : List Step) (run : IsRunFrom no_world steps) (earlier : List Step) (s : Step) (after : ComesAfter steps earlier s) where
   abbrev is : IsStepAt earlier s
   is = step-of always steps run earlier s after
 

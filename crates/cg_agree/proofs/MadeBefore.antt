@@ -14,13 +14,13 @@ use Rattle.cg_agree_lemmas.specs.OrderTold.{order_told}
 use Rattle.cg_agree.proofs.RunPrefix.{comes}
 use Rattle.cg_agree.proofs.TellsRun.{has-told}
 
-made-before : AlwaysHolds → (steps : List Step) → IsRunFrom no_world 0 steps → (id : ActionId) → Contains (order_of steps) id → Contains (made_names steps) id
+made-before : AlwaysHolds → (steps : List Step) → IsRunFrom no_world steps → (id : ActionId) → Contains (order_of steps) id → Contains (made_names steps) id
 made-before always steps run id there =
     let c = chronicle_after no_chronicle no_world steps in
     let w = world_after no_world steps in
-    ordered-made steps c w (stands-of always steps run) (has-told always steps run).made id (subst (λ (order : List ActionId). Contains order id) (sym (order_told no_world 0 steps run)) there)
+    ordered-made steps c w (stands-of always steps run) (has-told always steps run).made id (subst (λ (order : List ActionId). Contains order id) (sym (order_told no_world steps run)) there)
 
-pub creator-order : AlwaysHolds → (steps : List Step) → IsRunFrom no_world 0 steps → CreatorOrder steps
+pub creator-order : AlwaysHolds → (steps : List Step) → IsRunFrom no_world steps → CreatorOrder steps
 creator-order always steps run = record {
   numbered = creator-numbered always steps run;
   made_before = λ earlier s id after there. made-before always (through earlier s) (comes always steps run earlier s after).upto id there;

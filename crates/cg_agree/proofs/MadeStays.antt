@@ -96,7 +96,7 @@ abbrev StandsOn : List Step → Type 0
 StandsOn steps = (id : ActionId) (up : UpLine) → Contains (made_names steps) id → last_up id.creator steps ≡ Some up → Contains (names_on steps up) id
 
 module _ (always : AlwaysHolds) where
-  module _ (steps : List Step) (run : IsRunFrom no_world 0 steps) where
+  module _ (steps : List Step) (run : IsRunFrom no_world steps) where
     abbrev w : World
     w = world_after no_world steps
 
@@ -132,7 +132,7 @@ module _ (always : AlwaysHolds) where
         let low = made-counted id is in
         let number : length (names_of (greens_of c p)) ≡ green_count r.held.queue = names-count (greens_of c p) ∙ sym placed.count in
         let first : names_of (greens_of c p) ≡ take (green_count r.held.queue) (order_of steps) =
-        take-Front (names_of (greens_of c p)) w.order placed.front ∙ ap₂ (λ n ids. take n ids) number (order_told no_world 0 steps run) in
+        take-Front (names_of (greens_of c p)) w.order placed.front ∙ ap₂ (λ n ids. take n ids) number (order_told no_world steps run) in
         subst (λ (ids : List ActionId). Contains ids id) (on-line steps up r (names_of (greens_of c p)) view first)
         (created-there c r.held (greens_of c p) placed.core id (sym mode.id) (made-some id is) (omega arith))
 
@@ -169,15 +169,15 @@ module _ (always : AlwaysHolds) where
           up-stands now there.upto id r up up_there
           (subst (λ (o : Option UpLine). IsSomeWith o (λ up. up.view ≡ view_of r.held)) last (up-shown (world_after no_world now) now lines.shown lines.stand id.creator r up_there)) is
 
-  stands-along : (earlier later : List Step) → IsRunFrom no_world 0 (earlier ++ later) → StandsOn earlier → StandsOn (earlier ++ later)
+  stands-along : (earlier later : List Step) → IsRunFrom no_world (earlier ++ later) → StandsOn earlier → StandsOn (earlier ++ later)
   stands-along earlier [] run before = subst StandsOn (sym (append-nil earlier)) before
   stands-along earlier (s ∷ later) run before =
       let joined : (earlier ++ s ∷ []) ++ later ≡ earlier ++ s ∷ later = append_assoc earlier (s ∷ []) later in
       subst StandsOn joined
-      (stands-along (earlier ++ s ∷ []) later (subst (IsRunFrom no_world 0) (sym joined) run) (stands-now earlier s (comes always (earlier ++ s ∷ later) run earlier s (later, refl)) before))
+      (stands-along (earlier ++ s ∷ []) later (subst (IsRunFrom no_world) (sym joined) run) (stands-now earlier s (comes always (earlier ++ s ∷ later) run earlier s (later, refl)) before))
 
   nothing-on : StandsOn []
   nothing-on id up is last = absurd (let clash : None ≡ Some up = last in cc)
 
-  pub made-stays : (steps : List Step) → IsRunFrom no_world 0 steps → MadeStays steps
+  pub made-stays : (steps : List Step) → IsRunFrom no_world steps → MadeStays steps
   made-stays steps run earlier s id up after is last = stands-along [] (through earlier s) (comes always steps run earlier s after).upto nothing-on id up is last

@@ -31,10 +31,10 @@ order-shown : (w : World) → (world_step w ShowOrder).world.order ≡ w.order
 unfolding world_step happens ended
 order-shown w = refl
 
-pub order-grows : AlwaysHolds → (steps : List Step) → IsRunFrom no_world 0 steps → OrderGrows steps
+pub order-grows : AlwaysHolds → (steps : List Step) → IsRunFrom no_world steps → OrderGrows steps
 order-grows always steps run = record {
-  numbered = places_told no_world 0 steps run;
-  in_time = λ earlier later e. in-time always earlier (front-run no_world 0 earlier later (subst (IsRunFrom no_world 0) e run));
+  numbered = places_told no_world steps run;
+  in_time = λ earlier later e. in-time always earlier (front-run no_world earlier later (subst (IsRunFrom no_world) e run));
   shown = λ earlier s list after there. shown earlier s list after there;
 } where
   shown : (earlier : List Step) (s : Step) (list : List ActionId) → ComesAfter steps earlier s → Contains s.entry.shown (All list) → list ≡ order_of (through earlier s)
@@ -43,4 +43,4 @@ order-grows always steps run = record {
       let w = world_after no_world earlier in
       let is = shown-of _ w s at.step (All list) there in
       let stays : s.world.order ≡ w.order = ap (λ (m : Moved). m.world.order) at.step.moved ∙ ap (λ (e : Event). (world_step w e).world.order) is.0 ∙ order-shown w in
-      is.1 ∙ sym stays ∙ sym (ap (λ (v : World). v.order) (world-last no_world earlier s)) ∙ order_told no_world 0 (through earlier s) at.upto
+      is.1 ∙ sym stays ∙ sym (ap (λ (v : World). v.order) (world-last no_world earlier s)) ∙ order_told no_world (through earlier s) at.upto

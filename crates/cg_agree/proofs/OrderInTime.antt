@@ -147,6 +147,6 @@ in-time-on earlier c w s step is =
       ],
     )
 
-pub in-time : AlwaysHolds → (earlier : List Step) → IsRunFrom no_world 0 earlier → length (order_of earlier) ≡ greatest (map (λ up. up.view.green_count) (all_up_lines earlier))
+pub in-time : AlwaysHolds → (earlier : List Step) → IsRunFrom no_world earlier → length (order_of earlier) ≡ greatest (map (λ up. up.view.green_count) (all_up_lines earlier))
 unfolding IsInTime
-in-time always earlier run = ap length (sym (order_told no_world 0 earlier run)) ∙ (of-run always IsInTime in-time-on (nothing-told, refl) earlier run).1
+in-time always earlier run = ap length (sym (order_told no_world earlier run)) ∙ (of-run always IsInTime in-time-on (nothing-told, refl) earlier run).1

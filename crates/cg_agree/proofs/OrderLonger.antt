@@ -71,16 +71,16 @@ module _ (c : Chronicle) (w : World) (s : Step) (step : IsStepOf c w s) where
           ]
         ]
 
-longer : AlwaysHolds → (steps : List Step) → IsRunFrom no_world 0 steps → (earlier : List Step) (s : Step) (l : Line) (up : UpLine) → ComesAfter steps earlier s →
+longer : AlwaysHolds → (steps : List Step) → IsRunFrom no_world steps → (earlier : List Step) (s : Step) (l : Line) (up : UpLine) → ComesAfter steps earlier s →
     length (order_of earlier) < length (order_of (through earlier s)) → Contains s.entry.lines l → l.up ≡ Some up → length (order_of earlier) < up.view.green_count → IsPrimary up.state ⊎ (is_recovery_of l.id s.event ≡ true)
 longer always steps run earlier s l up after grown there is more =
     let at = comes always steps run earlier s after in
     let c = chronicle_after no_chronicle no_world earlier in
     let w = world_after no_world earlier in
-    let order : length w.order ≡ length (order_of earlier) = ap length (order_told no_world 0 earlier at.before) in
+    let order : length w.order ≡ length (order_of earlier) = ap length (order_told no_world earlier at.before) in
     each-contains (IsLineBy (length w.order) s.event) s.entry.lines l (lines-each (IsLineBy (length w.order) s.event) c w s at.step (seat-by c w s at.step)) there up is
     (let many : length (order_of earlier) < up.view.green_count = more in omega arith)
 
 -- No primary index names two components, and only members of one make the order longer, or a recovery does.
-pub one-primary-all : AlwaysHolds → (steps : List Step) → IsRunFrom no_world 0 steps → OnePrimary steps
+pub one-primary-all : AlwaysHolds → (steps : List Step) → IsRunFrom no_world steps → OnePrimary steps
 one-primary-all always steps run = record { one = one-primary always steps run; longer = longer always steps run }

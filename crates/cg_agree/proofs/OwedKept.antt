@@ -294,14 +294,14 @@ module _ (always : AlwaysHolds) (earlier : List Step) (s : Step) (is : IsStepAt 
 -- ---- a run
 
 module _ (always : AlwaysHolds) where
-  owed-along : (earlier rest : List Step) → IsRunFrom no_world 0 (earlier ++ rest) → ((p : ℕ) → OwedAt earlier p) → (p : ℕ) → OwedAt (earlier ++ rest) p
+  owed-along : (earlier rest : List Step) → IsRunFrom no_world (earlier ++ rest) → ((p : ℕ) → OwedAt earlier p) → (p : ℕ) → OwedAt (earlier ++ rest) p
   owed-along earlier [] run owed p = subst (λ steps. OwedAt steps p) (sym (append-nil earlier)) (owed p)
   owed-along earlier (s ∷ rest) run owed p =
       let joined : (earlier ++ s ∷ []) ++ rest ≡ earlier ++ s ∷ rest = append_assoc earlier (s ∷ []) rest in
       let is = step-of always (earlier ++ s ∷ rest) run earlier s (rest, refl) in
       subst (λ steps. OwedAt steps p) joined
-      (owed-along (earlier ++ s ∷ []) rest (subst (IsRunFrom no_world 0) (sym joined) run) (owed-next always earlier s is owed) p)
+      (owed-along (earlier ++ s ∷ []) rest (subst (IsRunFrom no_world) (sym joined) run) (owed-next always earlier s is owed) p)
 
   -- Behind the steps of each run.
-  pub owed-run : (steps : List Step) → IsRunFrom no_world 0 steps → (p : ℕ) → OwedAt steps p
+  pub owed-run : (steps : List Step) → IsRunFrom no_world steps → (p : ℕ) → OwedAt steps p
   owed-run steps run p = owed-along [] steps run (λ q. record { disk = tt; lives = λ i. refl }) p

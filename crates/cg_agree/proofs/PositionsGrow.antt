@@ -118,9 +118,9 @@ step-moves earlier c w s step is p = elim (up-or-still earlier c w s step p) [
 pub placed-on : (earlier : List Step) (c : Chronicle) (w : World) (s : Step) → IsStepOf c w s → IsPlaced earlier c w → IsPlaced (through earlier s) (chronicle_step c w s.event) s.world
 placed-on earlier c w s step is = record { told = told-on earlier c w s step is.told; placed = λ p. (step-moves earlier c w s step is p).placed }
 
-pub is-placed : AlwaysHolds → (earlier : List Step) → IsRunFrom no_world 0 earlier → IsPlaced earlier (chronicle_after no_chronicle no_world earlier) (world_after no_world earlier)
+pub is-placed : AlwaysHolds → (earlier : List Step) → IsRunFrom no_world earlier → IsPlaced earlier (chronicle_after no_chronicle no_world earlier) (world_after no_world earlier)
 is-placed always earlier run = of-run always IsPlaced placed-on (record { told = nothing-told; placed = λ p. (let none : 0 ≤ 0 = omega arith in none) }) earlier run
 
 -- A step of a run.
-pub moves : AlwaysHolds → (earlier : List Step) (s : Step) → IsRunFrom no_world 0 earlier → IsStepOf (chronicle_after no_chronicle no_world earlier) (world_after no_world earlier) s → (p : ℕ) → Moves earlier s p
+pub moves : AlwaysHolds → (earlier : List Step) (s : Step) → IsRunFrom no_world earlier → IsStepOf (chronicle_after no_chronicle no_world earlier) (world_after no_world earlier) s → (p : ℕ) → Moves earlier s p
 moves always earlier s run step p = step-moves earlier (chronicle_after no_chronicle no_world earlier) (world_after no_world earlier) s step (is-placed always earlier run) p

@@ -25,7 +25,7 @@ use Rattle.cg_agree.proofs.PositionsGrow.{moves}
 use Rattle.cg_agree.proofs.RunPrefix.{ComesThere, world-last, comes}
 use Rattle.cg_agree.proofs.TellsRun.{has-told}
 
-module _ (always : AlwaysHolds) (steps : List Step) (run : IsRunFrom no_world 0 steps) where
+module _ (always : AlwaysHolds) (steps : List Step) (run : IsRunFrom no_world steps) where
   pub never-falls : (earlier : List Step) (s : Step) (p : ℕ) → ComesAfter steps earlier s → position_of p earlier ≤ position_of p (through earlier s)
   never-falls earlier s p after = (let at = comes always steps run earlier s after in (moves always earlier s at.before at.step p).more)
 
@@ -34,7 +34,7 @@ module _ (always : AlwaysHolds) (steps : List Step) (run : IsRunFrom no_world 0 
 
   -- the order behind a step
   pub order-then : (earlier : List Step) (s : Step) → ComesThere earlier s → s.world.order ≡ order_of (through earlier s)
-  order-then earlier s at = sym (ap (λ (v : World). v.order) (world-last no_world earlier s)) ∙ order_told no_world 0 (through earlier s) at.upto
+  order-then earlier s at = sym (ap (λ (v : World). v.order) (world-last no_world earlier s)) ∙ order_told no_world (through earlier s) at.upto
 
   -- the lines behind it
   pub lines-then : (earlier : List Step) (s : Step) → ComesThere earlier s → AreLinesTold (through earlier s) s.world

@@ -86,17 +86,17 @@ module _ (steps : List Step) (c : Chronicle) (w : World) (stands : StandsBeside 
       (let none = first-lines c.start q in omega arith) in
       omega arith
 
-pub white : AlwaysHolds → (steps : List Step) → IsRunFrom no_world 0 steps → (earlier : List Step) (s : Step) (p q : ℕ) → ComesAfter steps earlier s → is_server_at (through earlier s) p q ≡ true → has_begun s.world q ≡ true →
+pub white : AlwaysHolds → (steps : List Step) → IsRunFrom no_world steps → (earlier : List Step) (s : Step) (p q : ℕ) → ComesAfter steps earlier s → is_server_at (through earlier s) p q ≡ true → has_begun s.world q ≡ true →
     white_of p (through earlier s) ≤ position_of q (through earlier s)
 white always steps run earlier s p q after server begun =
     let at = comes always steps run earlier s after in
     let now = through earlier s in
     let c = chronicle_after no_chronicle no_world now in
     let w = world_after no_world now in
-    white-low now c w (stands-of always now at.upto) (are-kept always now at.upto) (order_told no_world 0 now at.upto) p q server (ap (λ (v : World). has_begun v q) (world-last no_world earlier s) ∙ begun)
+    white-low now c w (stands-of always now at.upto) (are-kept always now at.upto) (order_told no_world now at.upto) p q server (ap (λ (v : World). has_begun v q) (world-last no_world earlier s) ∙ begun)
 
 -- Each replica's greens are a prefix of the order.
-pub prefix : AlwaysHolds → (steps : List Step) → IsRunFrom no_world 0 steps → Prefix steps
+pub prefix : AlwaysHolds → (steps : List Step) → IsRunFrom no_world steps → Prefix steps
 prefix always steps run = record {
   never_falls = never-falls always steps run;
   moves_only = moves-only always steps run;

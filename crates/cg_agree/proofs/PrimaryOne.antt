@@ -112,25 +112,25 @@ seated-not w e seated may set is =
     let some : IsSeated no_world = subst IsSeated both.0 seated in
     omega arith
 
-pub stays-through : (c : Chronicle) (w : World) (count : ℕ) (steps : List Step) → IsRunFrom w count steps → IsSeated w → StaysOn c (chronicle_after c w steps)
-stays-through c w count [] run seated = stays-refl c
-stays-through c w count (s ∷ steps) run seated =
+pub stays-through : (c : Chronicle) (w : World) (steps : List Step) → IsRunFrom w steps → IsSeated w → StaysOn c (chronicle_after c w steps)
+stays-through c w [] run seated = stays-refl c
+stays-through c w (s ∷ steps) run seated =
     let d = chronicle_step c w s.event in
-    let on : IsSeated s.world = subst IsSeated (sym (ap (λ (m : Moved). m.world) run.4)) (seats_stay w s.event seated) in
-    stays-then c d (chronicle_after d s.world steps) (event-stays c w s.event (seated-not w s.event seated run.2)) (stays-through d s.world (suc count) steps run.5 on)
+    let on : IsSeated s.world = subst IsSeated (sym (ap (λ (m : Moved). m.world) run.2)) (seats_stay w s.event seated) in
+    stays-then c d (chronicle_after d s.world steps) (event-stays c w s.event (seated-not w s.event seated run.0)) (stays-through d s.world steps run.3 on)
 
-lines-through : (c : Chronicle) (w : World) (count : ℕ) (steps : List Step) → IsRunFrom w count steps → HoldsFrom c w (map (λ s. s.event) steps) → Each (OfLine (chronicle_after c w steps)) (lines_in steps)
-lines-through c w count [] run holds = tt
-lines-through c w count (s ∷ steps) run holds =
+lines-through : (c : Chronicle) (w : World) (steps : List Step) → IsRunFrom w steps → HoldsFrom c w (map (λ s. s.event) steps) → Each (OfLine (chronicle_after c w steps)) (lines_in steps)
+lines-through c w [] run holds = tt
+lines-through c w (s ∷ steps) run holds =
     let d = chronicle_step c w s.event in
     let end = chronicle_after d s.world steps in
-    let next : HoldsFrom d s.world (map (λ s. s.event) steps) = subst (λ (v : World). HoldsFrom d v (map (λ s. s.event) steps)) (sym (ap (λ (m : Moved). m.world) run.4)) holds.1 in
+    let next : HoldsFrom d s.world (map (λ s. s.event) steps) = subst (λ (v : World). HoldsFrom d v (map (λ s. s.event) steps)) (sym (ap (λ (m : Moved). m.world) run.2)) holds.1 in
     let stands : StandsBeside d s.world = holds-here d s.world (map (λ s. s.event) steps) next in
     let lines : Each (OfLine d) s.entry.lines =
-    subst (λ (m : Moved). StandsBeside d m.world → Each (OfLine d) m.entry.lines) (sym run.4) (step-lines d w s.event) stands in
-    let none : s.world.seats ≡ [] → s.entry.lines ≡ [] = subst (λ (m : Moved). m.world.seats ≡ [] → m.entry.lines ≡ []) (sym run.4) (no-lines w s.event) in
-    Each-append (OfLine end) s.entry.lines (lines_in steps) (first d end s.entry.lines lines (seated d end s.world none (λ some. stays-through d s.world (suc count) steps run.5 some)))
-    (lines-through d s.world (suc count) steps run.5 next)
+    subst (λ (m : Moved). StandsBeside d m.world → Each (OfLine d) m.entry.lines) (sym run.2) (step-lines d w s.event) stands in
+    let none : s.world.seats ≡ [] → s.entry.lines ≡ [] = subst (λ (m : Moved). m.world.seats ≡ [] → m.entry.lines ≡ []) (sym run.2) (no-lines w s.event) in
+    Each-append (OfLine end) s.entry.lines (lines_in steps) (first d end s.entry.lines lines (seated d end s.world none (λ some. stays-through d s.world steps run.3 some)))
+    (lines-through d s.world steps run.3 next)
   where
     seated : (d end : Chronicle) (v : World) → (v.seats ≡ [] → s.entry.lines ≡ []) → (IsSeated v → StaysOn d end) → (s.entry.lines ≡ []) ⊎ StaysOn d end
     seated d end v none on = at v.seats refl where
@@ -165,10 +165,10 @@ each-contains P (y ∷ xs) x each (zero, less, is) = subst P is each.0
 each-contains P (y ∷ xs) x each (suc k, less, is) = each-contains P xs x each.1 (k, (let more : suc k < suc (length xs) = less in omega arith), is)
 
 -- No primary index names two components.
-pub one-primary : AlwaysHolds → (steps : List Step) → IsRunFrom no_world 0 steps → (a b : UpLine) → Contains (all_up_lines steps) a → Contains (all_up_lines steps) b →
+pub one-primary : AlwaysHolds → (steps : List Step) → IsRunFrom no_world steps → (a b : UpLine) → Contains (all_up_lines steps) a → Contains (all_up_lines steps) b →
     a.view.prim.index ≡ b.view.prim.index → (a.view.prim.conf ≡ b.view.prim.conf) × (a.view.prim.set ≡ b.view.prim.set)
 one-primary always steps run a b of_a of_b same =
     let end = chronicle_after no_chronicle no_world steps in
-    let lines = lines-through no_chronicle no_world 0 steps run (always (map (λ s. s.event) steps) (admitted-of no_world 0 steps run)) in
+    let lines = lines-through no_chronicle no_world steps run (always (map (λ s. s.event) steps) (admitted-of no_world steps run)) in
     let ups = each-present (λ up. IsKnownIn end up.view.prim) (lines_in steps) lines in
     known-same end a.view.prim b.view.prim (each-contains (λ up. IsKnownIn end up.view.prim) (all_up_lines steps) a ups of_a) (each-contains (λ up. IsKnownIn end up.view.prim) (all_up_lines steps) b ups of_b) same

@@ -65,7 +65,7 @@ contained-at (suc k) (x ∷ steps) s lt is =
     let comes = rest.1 in
     (x ∷ rest.0, (comes.0, ap (λ (list : List Step). x ∷ list) comes.1))
 
-pub quiet-settles : AlwaysHolds → (steps : List Step) → IsRunFrom no_world 0 steps → QuietSettles steps
+pub quiet-settles : AlwaysHolds → (steps : List Step) → IsRunFrom no_world steps → QuietSettles steps
 quiet-settles always steps run s conf there some within quiet =
     let behind = contained-at there.0 steps s there.1 there.2 in
     let is = comes always steps run behind.0 s behind.1 in

@@ -108,12 +108,12 @@ shown-on earlier c w s step old = record {
   order = subst (λ (m : Moved). OrderFits (chronicle_step c w s.event) m.world) (sym step.moved) (orders-kept c w s.event step.before old.fits old.order step.may step.admitted step.behind.facts);
 }
 
-pub has-shown : AlwaysHolds → (steps : List Step) → IsRunFrom no_world 0 steps → HasShown steps (chronicle_after no_chronicle no_world steps) (world_after no_world steps)
+pub has-shown : AlwaysHolds → (steps : List Step) → IsRunFrom no_world steps → HasShown steps (chronicle_after no_chronicle no_world steps) (world_after no_world steps)
 has-shown always steps run =
     let first : HasShown [] no_chronicle no_world = record { fits = nothing-made; order = record { book = nothing-stands.rests.order_book; down = λ p. tt; others = λ p down. absurd down } } in
     of-run always HasShown shown-on first steps run
 
-pub reds-shown : AlwaysHolds → (steps : List Step) → IsRunFrom no_world 0 steps → AreRedsShown (world_after no_world steps)
+pub reds-shown : AlwaysHolds → (steps : List Step) → IsRunFrom no_world steps → AreRedsShown (world_after no_world steps)
 reds-shown always steps run p r up =
     let shown = has-shown always steps run in
     reds-low (chronicle_after no_chronicle no_world steps) (world_after no_world steps) (stands-of always steps run) shown.fits shown.order p r up

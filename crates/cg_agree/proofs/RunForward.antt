@@ -1,5 +1,5 @@
 -- What each step of a run keeps, beside its chronicle, holds of the run.
-use Rattle.std.proofs.Common.{◌≡◌, ℕ, suc, List, [], ◌∷◌, ◌++◌, map, None, sym, ap, subst}
+use Rattle.std.proofs.Common.{◌≡◌, List, [], ◌∷◌, ◌++◌, map, None, sym, ap, subst}
 use Rattle.std.proofs.lemmas.List.{append-nil, append_assoc}
 use Rattle.cg_model.specs.World.{World, no_world}
 use Rattle.cg_model.specs.Admission.{first_refusal}
@@ -25,18 +25,18 @@ pub record IsStepOf (c : Chronicle) (w : World) (s : Step) : Type 0 where
 abbrev pub IsKeptBySteps : (List Step → Chronicle → World → Type 0) → Type 0
 IsKeptBySteps P = (earlier : List Step) (c : Chronicle) (w : World) (s : Step) → IsStepOf c w s → P earlier c w → P (through earlier s) (chronicle_step c w s.event) s.world
 
-run-kept : (P : List Step → Chronicle → World → Type 0) → IsKeptBySteps P → (earlier : List Step) (c : Chronicle) (w : World) (count : ℕ) (steps : List Step) → IsRunFrom w count steps →
+run-kept : (P : List Step → Chronicle → World → Type 0) → IsKeptBySteps P → (earlier : List Step) (c : Chronicle) (w : World) (steps : List Step) → IsRunFrom w steps →
     HoldsFrom c w (map (λ s. s.event) steps) → P earlier c w → P (earlier ++ steps) (chronicle_after c w steps) (world_after w steps)
-run-kept P kept earlier c w count [] run holds p = subst (λ (xs : List Step). P xs c w) (sym (append-nil earlier)) p
-run-kept P kept earlier c w count (s ∷ steps) run holds p =
+run-kept P kept earlier c w [] run holds p = subst (λ (xs : List Step). P xs c w) (sym (append-nil earlier)) p
+run-kept P kept earlier c w (s ∷ steps) run holds p =
     let d = chronicle_step c w s.event in
     let events = map (λ (x : Step). x.event) steps in
-    let next : HoldsFrom d s.world events = subst (λ (v : World). HoldsFrom d v events) (sym (ap (λ (m : Moved). m.world) run.4)) holds.1 in
-    let step : IsStepOf c w s = record { may = run.2; admitted = run.3; moved = run.4; before = holds.0; behind = holds-here d s.world events next } in
+    let next : HoldsFrom d s.world events = subst (λ (v : World). HoldsFrom d v events) (sym (ap (λ (m : Moved). m.world) run.2)) holds.1 in
+    let step : IsStepOf c w s = record { may = run.0; admitted = run.1; moved = run.2; before = holds.0; behind = holds-here d s.world events next } in
     subst (λ (xs : List Step). P xs (chronicle_after d s.world steps) (world_after s.world steps)) (append_assoc earlier (s ∷ []) steps)
-    (run-kept P kept (through earlier s) d s.world (suc count) steps run.5 next (kept earlier c w s step p))
+    (run-kept P kept (through earlier s) d s.world steps run.3 next (kept earlier c w s step p))
 
-pub of-run : AlwaysHolds → (P : List Step → Chronicle → World → Type 0) → IsKeptBySteps P → P [] no_chronicle no_world → (steps : List Step) → IsRunFrom no_world 0 steps →
+pub of-run : AlwaysHolds → (P : List Step → Chronicle → World → Type 0) → IsKeptBySteps P → P [] no_chronicle no_world → (steps : List Step) → IsRunFrom no_world steps →
     P steps (chronicle_after no_chronicle no_world steps) (world_after no_world steps)
 of-run always P kept first steps run =
-    run-kept P kept [] no_chronicle no_world 0 steps run (always (map (λ s. s.event) steps) (admitted-of no_world 0 steps run)) first
+    run-kept P kept [] no_chronicle no_world steps run (always (map (λ s. s.event) steps) (admitted-of no_world steps run)) first

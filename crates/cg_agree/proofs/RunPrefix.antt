@@ -1,5 +1,5 @@
 -- The steps of a run before one of them are a run, and so are those up to it.
-use Rattle.std.proofs.Common.{◌≡◌, ℕ, suc, List, [], ◌∷◌, ◌++◌, None, refl, subst}
+use Rattle.std.proofs.Common.{◌≡◌, List, [], ◌∷◌, ◌++◌, None, refl, subst}
 use Rattle.cg_model.specs.World.{World, no_world}
 use Rattle.cg_model.specs.Admission.{first_refusal}
 use Rattle.cg_model.specs.Step.{world_step}
@@ -11,9 +11,9 @@ use Rattle.cg_model.specs.Played.{StandsBeside, AlwaysHolds}
 use Rattle.cg_agree.proofs.CreatorNumbered.{stands-of}
 use Rattle.cg_agree.proofs.RunForward.{IsStepOf}
 
-pub front-run : (w : World) (count : ℕ) (xs ys : List Step) → IsRunFrom w count (xs ++ ys) → IsRunFrom w count xs
-front-run w count [] ys run = tt
-front-run w count (s ∷ xs) ys run = (run.0, run.1, run.2, run.3, run.4, front-run s.world (suc count) xs ys run.5)
+pub front-run : (w : World) (xs ys : List Step) → IsRunFrom w (xs ++ ys) → IsRunFrom w xs
+front-run w [] ys run = tt
+front-run w (s ∷ xs) ys run = (run.0, run.1, run.2, front-run s.world xs ys run.3)
 
 pub world-last : (w : World) (xs : List Step) (s : Step) → world_after w (through xs s) ≡ s.world
 world-last w [] s = refl
@@ -29,27 +29,27 @@ pub record IsMade (w : World) (s : Step) : Type 0 where
   pub admitted : first_refusal w s.event ≡ None
   pub moved : (record { entry = s.entry; world = s.world } ≡ world_step w s.event)
 
-pub made-there : (w : World) (count : ℕ) (xs : List Step) (s : Step) (later : List Step) → IsRunFrom w count (xs ++ s ∷ later) → IsMade (world_after w xs) s
-made-there w count [] s later run = record { may = run.2; admitted = run.3; moved = run.4 }
-made-there w count (x ∷ xs) s later run = made-there x.world (suc count) xs s later run.5
+pub made-there : (w : World) (xs : List Step) (s : Step) (later : List Step) → IsRunFrom w (xs ++ s ∷ later) → IsMade (world_after w xs) s
+made-there w [] s later run = record { may = run.0; admitted = run.1; moved = run.2 }
+made-there w (x ∷ xs) s later run = made-there x.world xs s later run.3
 
-through-run : (w : World) (count : ℕ) (xs : List Step) (s : Step) (later : List Step) → IsRunFrom w count (xs ++ s ∷ later) → IsRunFrom w count (through xs s)
-through-run w count [] s later run = (run.0, run.1, run.2, run.3, run.4, tt)
-through-run w count (x ∷ xs) s later run = (run.0, run.1, run.2, run.3, run.4, through-run x.world (suc count) xs s later run.5)
+through-run : (w : World) (xs : List Step) (s : Step) (later : List Step) → IsRunFrom w (xs ++ s ∷ later) → IsRunFrom w (through xs s)
+through-run w [] s later run = (run.0, run.1, run.2, tt)
+through-run w (x ∷ xs) s later run = (run.0, run.1, run.2, through-run x.world xs s later run.3)
 
 -- a step of a run from nothing, and the runs that end before it and with it
 pub record ComesThere (earlier : List Step) (s : Step) : Type 0 where
-  pub before : IsRunFrom no_world 0 earlier
-  pub upto : IsRunFrom no_world 0 (through earlier s)
+  pub before : IsRunFrom no_world earlier
+  pub upto : IsRunFrom no_world (through earlier s)
   pub step : IsStepOf (chronicle_after no_chronicle no_world earlier) (world_after no_world earlier) s
 
-pub comes : AlwaysHolds → (steps : List Step) → IsRunFrom no_world 0 steps → (earlier : List Step) (s : Step) → ComesAfter steps earlier s → ComesThere earlier s
+pub comes : AlwaysHolds → (steps : List Step) → IsRunFrom no_world steps → (earlier : List Step) (s : Step) → ComesAfter steps earlier s → ComesThere earlier s
 comes always steps run earlier s there =
     let later = there.0 in
-    let whole : IsRunFrom no_world 0 (earlier ++ s ∷ later) = subst (IsRunFrom no_world 0) there.1 run in
-    let before = front-run no_world 0 earlier (s ∷ later) whole in
-    let upto = through-run no_world 0 earlier s later whole in
-    let is = made-there no_world 0 earlier s later whole in
+    let whole : IsRunFrom no_world (earlier ++ s ∷ later) = subst (IsRunFrom no_world) there.1 run in
+    let before = front-run no_world earlier (s ∷ later) whole in
+    let upto = through-run no_world earlier s later whole in
+    let is = made-there no_world earlier s later whole in
     record {
       before = before;
       upto = upto;

@@ -24,15 +24,15 @@ chronicle_of steps = chronicle_after no_chronicle no_world steps
 
 -- a step behind the earlier ones of a run
 pub record IsStepAt (earlier : List Step) (s : Step) : Type 0 where
-  pub before : IsRunFrom no_world 0 earlier
-  pub behind : IsRunFrom no_world 0 (through earlier s)
+  pub before : IsRunFrom no_world earlier
+  pub behind : IsRunFrom no_world (through earlier s)
   pub may : MayStand (world_of earlier) s.event
   pub admitted : first_refusal (world_of earlier) s.event ≡ None
   pub moved : (let m : Moved = record { entry = s.entry; world = s.world } in m) ≡ world_step (world_of earlier) s.event
   pub world : world_of (through earlier s) ≡ s.world
   pub chronicle : chronicle_of (through earlier s) ≡ chronicle_step (chronicle_of earlier) (world_of earlier) s.event
 
-pub step-of : AlwaysHolds → (steps : List Step) → IsRunFrom no_world 0 steps → (earlier : List Step) (s : Step) → ComesAfter steps earlier s → IsStepAt earlier s
+pub step-of : AlwaysHolds → (steps : List Step) → IsRunFrom no_world steps → (earlier : List Step) (s : Step) → ComesAfter steps earlier s → IsStepAt earlier s
 step-of always steps run earlier s after =
     let is = comes always steps run earlier s after in
     record {
@@ -51,5 +51,5 @@ pub record StandsFor (steps : List Step) : Type 0 where
   pub tells : Tells steps (with_world (chronicle_of steps) (world_of steps))
   pub told : IsMadeTold steps (chronicle_of steps) (world_of steps)
 
-pub stands-for : AlwaysHolds → (steps : List Step) → IsRunFrom no_world 0 steps → StandsFor steps
+pub stands-for : AlwaysHolds → (steps : List Step) → IsRunFrom no_world steps → StandsFor steps
 stands-for always steps run = record { stands = stands-of always steps run; tells = tells always steps run; told = (has-told always steps run).made }

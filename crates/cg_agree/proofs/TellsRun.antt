@@ -33,17 +33,17 @@ nothing-told = record {
   made = record { fits = nothing-made; last = λ p. tt; run = refl; cut = refl; booked = tt };
 }
 
-pub has-told : AlwaysHolds → (steps : List Step) → IsRunFrom no_world 0 steps → HasTold steps (chronicle_after no_chronicle no_world steps) (world_after no_world steps)
+pub has-told : AlwaysHolds → (steps : List Step) → IsRunFrom no_world steps → HasTold steps (chronicle_after no_chronicle no_world steps) (world_after no_world steps)
 has-told always steps run = of-run always HasTold told-on nothing-told steps run
 
-pub tells : AlwaysHolds → (steps : List Step) → IsRunFrom no_world 0 steps → Tells steps (with_world (chronicle_after no_chronicle no_world steps) (world_after no_world steps))
+pub tells : AlwaysHolds → (steps : List Step) → IsRunFrom no_world steps → Tells steps (with_world (chronicle_after no_chronicle no_world steps) (world_after no_world steps))
 tells always steps run =
     let c = chronicle_after no_chronicle no_world steps in
     let w = world_after no_world steps in
     let told = has-told always steps run in
     record {
       start = told.start.start;
-      order = sym (order_told no_world 0 steps run);
+      order = sym (order_told no_world steps run);
       shown = told.lines.shown;
       stands = λ s there. each-contains (λ s. printed w s.id ≡ Some (line_of w.group s)) w.seats s told.lines.stand there;
       position = position-shown steps w told.lines;

@@ -189,5 +189,5 @@ nothing-kept = record {
   none : 0 ≤ 0
   none = omega arith
 
-pub are-kept : AlwaysHolds → (steps : List Step) → IsRunFrom no_world 0 steps → AreKept steps (chronicle_after no_chronicle no_world steps) (world_after no_world steps)
+pub are-kept : AlwaysHolds → (steps : List Step) → IsRunFrom no_world steps → AreKept steps (chronicle_after no_chronicle no_world steps) (world_after no_world steps)
 are-kept always steps run = of-run always AreKept kept-on nothing-kept steps run

@@ -203,23 +203,23 @@ stepped_order w e = happens_order w e
 pub step_order : (w : World) (s : Step) → record { entry = s.entry; world = s.world } ≡ world_step w s.event → Told w s.world.order s.entry.orders
 step_order w s moved = subst (λ (m : Moved). Told w m.world.order m.entry.orders) (sym moved) (stepped_order w s.event)
 
-pub order_told : (w : World) (count : ℕ) (steps : List Step) → IsRunFrom w count steps → (world_after w steps).order ≡ w.order ++ order_of steps
-order_told w count [] run = sym (append-nil w.order)
-order_told w count (s ∷ steps) run =
-    order_told s.world (suc count) steps run.5
-    ∙ (ap (λ xs. xs ++ order_of steps) (step_order w s run.4).names
+pub order_told : (w : World) (steps : List Step) → IsRunFrom w steps → (world_after w steps).order ≡ w.order ++ order_of steps
+order_told w [] run = sym (append-nil w.order)
+order_told w (s ∷ steps) run =
+    order_told s.world steps run.3
+    ∙ (ap (λ xs. xs ++ order_of steps) (step_order w s run.2).names
     ∙ (behind w.order (map (λ o. o.id) s.entry.orders) (order_of steps)
     ∙ ap (λ xs. w.order ++ xs) (sym (map-append (λ o. o.id) s.entry.orders (order_lines steps)))))
 
 -- the places of the order lines go on behind the order before them
-pub places_told : (w : World) (count : ℕ) (steps : List Step) → IsRunFrom w count steps →
+pub places_told : (w : World) (steps : List Step) → IsRunFrom w steps →
     map (λ o. o.place) (order_lines steps) ≡ count_up (suc (length w.order)) (length (order_lines steps))
-places_told w count [] run = refl
-places_told w count (s ∷ steps) run =
-    let here = step_order w s run.4 in
+places_told w [] run = refl
+places_told w (s ∷ steps) run =
+    let here = step_order w s run.2 in
     let first = suc (length w.order) in
     let start : suc (length s.world.order) ≡ first + length s.entry.orders = (let count = told_count w s.world.order s.entry.orders here.names in omega (arith, count)) in
     map-append (λ o. o.place) s.entry.orders (order_lines steps)
     ∙ (ap (λ xs. xs ++ map (λ o. o.place) (order_lines steps)) here.places
-    ∙ (ap (λ xs. count_up first (length s.entry.orders) ++ xs) (places_told s.world (suc count) steps run.5 ∙ ap (λ n. count_up n (length (order_lines steps))) start)
+    ∙ (ap (λ xs. count_up first (length s.entry.orders) ++ xs) (places_told s.world steps run.3 ∙ ap (λ n. count_up n (length (order_lines steps))) start)
     ∙ (sym (counted_on first (length s.entry.orders) (length (order_lines steps))) ∙ ap (λ n. count_up first n) (sym (length-append s.entry.orders (order_lines steps))))))

@@ -9,9 +9,11 @@ use Rattle.cg_schedule.specs.declared.reader_state.ReaderState.{ReaderState}
 use Rattle.cg_model.specs.World.{World, up_replicas}
 use Rattle.cg_model.specs.Admission.{first_refusal}
 use Rattle.cg_model.specs.Step.{world_step}
-use Rattle.cg_model.specs.Run.{Refusal, step_limit}
+use Rattle.cg_model.specs.Run.{Step, Refusal, step_limit}
 use Rattle.cg_model.specs.Schedules.{Run, with_step, step_unless, step_on, step, deliver_some, deliver_ready as hand_ready, pass, passes as play_passes, play}
-use Rattle.cg_outcome.specs.Produced.{Progress, Finding, Produced, prepend, went_on, ended_with, and_then, stepped, unless_refused, one_step}
+use Rattle.cg_outcome.specs.Companion.{Noted, follows}
+use Rattle.cg_outcome.specs.Items.{Item}
+use Rattle.cg_outcome.specs.Produced.{Progress, Finding, Produced, prepend, went_on, ended_with, and_then, counted, stepped, unless_refused, one_step}
 use Rattle.cg_outcome.specs.declared.status.Status.{Status}
 use Rattle.cg_outcome.specs.declared.status.Status.TheVariants as status
 use Rattle.cg_outcome.specs.declared.status.Limit.TheVariants.{Steps}
@@ -75,7 +77,7 @@ Follows-and_then : (run then : Run) (reader later : ReaderState) (p : Produced) 
 Follows-and_then run then reader later p more here next = by p.found refl where
   by : (o : Option Finding) → p.found ≡ o → Follows then later (and_then p more)
   by None is =
-      let same : and_then p more ≡ prepend p.steps (more p.progress) = rw is refl in
+      let same : and_then p more ≡ prepend p.items (more p.progress) = rw is refl in
       let f = next is in
       subst (Follows then later) (sym same) (record { spared = f.spared; world = f.world; reader = f.reader })
   by (Some f) is =
@@ -92,27 +94,27 @@ Follows-went_on run s same = record { spared = tt; world = λ none. same; reader
 Follows-limit : (run : Run) (reader : ReaderState) (st : Status) (n : ℕ) (s : Progress) → IsEndOrLimit (Some st) → Follows run reader (ended_with st n s)
 Follows-limit run reader st n s is = record { spared = (refl, is); world = λ none. absurd cc; reader = λ none. absurd cc }
 
-Follows-stepped : (n : ℕ) (e : Event) (run : Run) (s : Progress) → s.world ≡ run.world → Follows (with_step run e (world_step run.world e)) s.reader (stepped n e (world_step s.world e) s)
-Follows-stepped n e run s same =
-    let then = with_step run e (world_step run.world e) in
-    let m = world_step s.world e in
-    cond_both (nat_lt s.count step_limit)
-    (record {
-      steps = record { number = s.count + 1; event = e; entry = m.entry; world = m.world } ∷ [];
-      found = None;
-      progress = record s { world = m.world; count = s.count + 1; totals = with_entry s.totals m.entry };
-    })
-    (ended_with (status.Limit n Steps) n s) (Follows then s.reader)
-    (λ y. record { spared = tt; world = λ none. ap (λ w. (world_step w e).world) same; reader = λ none. refl })
-    (λ y. Follows-limit then s.reader (status.Limit n Steps) n s tt)
+Follows-counted : (n : ℕ) (run : Run) (item : Item) (next s : Progress) → next.world ≡ run.world → next.reader ≡ s.reader → Follows run s.reader (counted n item next s)
+Follows-counted n run item next s same kept =
+    cond_both (nat_lt s.count step_limit) (record { items = item ∷ []; found = None; progress = next }) (ended_with (status.Limit n Steps) n s) (Follows run s.reader)
+    (λ y. record { spared = tt; world = λ none. same; reader = λ none. kept })
+    (λ y. Follows-limit run s.reader (status.Limit n Steps) n s tt)
 
-Follows-one_step : (n : ℕ) (e : Event) (run : Run) (s : Progress) → s.world ≡ run.world → IsFree run → IsFree (step run e) → Follows (step run e) s.reader (one_step n e s)
+Follows-stepped : (n : ℕ) (e : Event) (run : Run) (s : Progress) → s.world ≡ run.world → Follows (with_step run e (world_step run.world e)) s.reader (stepped n None e (world_step s.world e) s)
+Follows-stepped n e run s same =
+    let m = world_step s.world e in
+    let made : Step = record { event = e; entry = m.entry; world = m.world } in
+    let noted : Noted = follows s.companion None made in
+    Follows-counted n (with_step run e (world_step run.world e)) (record { number = s.count + 1; further = None; step = Some made; lines = noted.lines })
+    (record s { world = m.world; companion = noted.companion; count = s.count + 1; totals = with_entry s.totals m.entry }) s (ap (λ w. (world_step w e).world) same) refl
+
+Follows-one_step : (n : ℕ) (e : Event) (run : Run) (s : Progress) → s.world ≡ run.world → IsFree run → IsFree (step run e) → Follows (step run e) s.reader (one_step n None e s)
 Follows-one_step n e run s same before free = by (first_refusal run.world e) refl where
-  by : (o : Option Reason) → first_refusal run.world e ≡ o → Follows (step run e) s.reader (one_step n e s)
+  by : (o : Option Reason) → first_refusal run.world e ≡ o → Follows (step run e) s.reader (one_step n None e s)
   by None is =
       let made : step run e ≡ with_step run e (world_step run.world e) = ap (λ o. step_on o run e) before ∙ ap (λ o. step_unless o run e) is in
-      let there : one_step n e s ≡ stepped n e (world_step s.world e) s = ap (λ o. unless_refused o n e s) (ap (λ w. first_refusal w e) same ∙ is) in
-      subst (λ (r : Run). Follows r s.reader (one_step n e s)) (sym made) (subst (Follows (with_step run e (world_step run.world e)) s.reader) (sym there) (Follows-stepped n e run s same))
+      let there : one_step n None e s ≡ stepped n None e (world_step s.world e) s = ap (λ o. unless_refused o n None e s) (ap (λ w. first_refusal w e) same ∙ is) in
+      subst (λ (r : Run). Follows r s.reader (one_step n None e s)) (sym made) (subst (Follows (with_step run e (world_step run.world e)) s.reader) (sym there) (Follows-stepped n e run s same))
   by (Some reason) is =
       let refusal : Refusal = record { event = e; reason = reason } in
       let there : (step run e).refused ≡ Some refusal = ap (λ o. (step_on o run e).refused) before ∙ ap (λ o. (step_unless o run e).refused) is in
@@ -122,14 +124,14 @@ Follows-one_step n e run s same before free = by (first_refusal run.world e) ref
 
 Follows-ready : (n p : ℕ) (run : Run) (s : Progress) → s.world ≡ run.world → IsFree run → IsFree (hand_ready run p) → Follows (hand_ready run p) s.reader (deliver_ready n p s)
 Follows-ready n p run s same before free =
-    subst (λ (w : World). Follows (hand_ready run p) s.reader (cond (ready w.group p == 0) (went_on s) (one_step n (Deliver p (ready w.group p)) s))) (sym same)
+    subst (λ (w : World). Follows (hand_ready run p) s.reader (cond (ready w.group p == 0) (went_on s) (one_step n None (Deliver p (ready w.group p)) s))) (sym same)
     (by (ready run.world.group p) free)
   where
-    by : (k : ℕ) → IsFree (deliver_some k run p) → Follows (deliver_some k run p) s.reader (cond (k == 0) (went_on s) (one_step n (Deliver p k) s))
+    by : (k : ℕ) → IsFree (deliver_some k run p) → Follows (deliver_some k run p) s.reader (cond (k == 0) (went_on s) (one_step n None (Deliver p k) s))
     by zero f = Follows-went_on run s same
     by (suc k) f =
         let some : (suc k == 0) ≡ false = ne_eqb (suc k) 0 (λ e. let clash : suc k ≡ 0 = e in cc) in
-        subst (λ b. Follows (deliver_some (suc k) run p) s.reader (cond b (went_on s) (one_step n (Deliver p (suc k)) s))) (sym some)
+        subst (λ b. Follows (deliver_some (suc k) run p) s.reader (cond b (went_on s) (one_step n None (Deliver p (suc k)) s))) (sym some)
         (Follows-one_step n (Deliver p (suc k)) run s same before f)
 
 Follows-each : (n : ℕ) (set : List ℕ) (run : Run) (s : Progress) → s.world ≡ run.world → IsFree run → IsFree (fold hand_ready run set) → Follows (fold hand_ready run set) s.reader (deliveries n set s)
@@ -148,7 +150,7 @@ Follows-pass n run s same before free =
     let set = up_replicas run.world in
     let next = step run Gather in
     let between = each-free set next free in
-    let q = one_step n Gather s in
+    let q = one_step n None Gather s in
     let here = Follows-one_step n Gather run s same before between in
     subst (λ (w : World). Follows (pass run) s.reader (and_then q (deliveries n (up_replicas w)))) (sym same)
     (Follows-and_then next (pass run) s.reader s.reader q (deliveries n set) here

@@ -19,7 +19,8 @@ use Rattle.cg_gen.specs.Generated.{events_left, generated}
 use Rattle.cg_gen.specs.GeneratedLaws.{AllStand, generated-stands}
 use Rattle.cg_gen.specs.Lines.{lines_of}
 use Rattle.cg_outcome.specs.Outcome.{Ended, read_outcome, line_outcome, without_return, limit_of, unless_passed, whole_line, at_end, replayed, performed, lines_alone}
-use Rattle.cg_outcome.specs.Produced.{Progress, Finding, Produced, before_all, refusal_of, status_of, ended_with, prepend, and_then}
+use Rattle.cg_outcome.specs.declared.companion.Companion.TheVariants.{Alone}
+use Rattle.cg_outcome.specs.Produced.{Progress, Finding, Produced, of_event, before_all, refusal_of, status_of, ended_with, prepend, and_then}
 use Rattle.cg_outcome.specs.declared.status.Status.TheVariants as status
 use Rattle.cg_generated.specs.Admitted.{GeneratedAreAdmitted, IsEndOrLimit, TrialsAreAdmitted, TrialsEnd, TrialsAreReplays}
 use Rattle.cg_generated.proofs.Playing.{IsFree, all-free, IsSpared, Follows, Follows-happened}
@@ -61,7 +62,7 @@ ended-by : (p : Produced) (more : Progress → Produced) → IsSpared p.found �
 ended-by p more spared next = by p.found refl where
   by : (o : Option Finding) → p.found ≡ o → IsEnded (and_then p more).found
   by None is =
-      let same : and_then p more ≡ prepend p.steps (more p.progress) = rw is refl in
+      let same : and_then p more ≡ prepend p.items (more p.progress) = rw is refl in
       subst (λ (q : Produced). IsEnded q.found) (sym same) (next is)
   by (Some f) is =
       let same : and_then p more ≡ p = rw is refl in
@@ -93,22 +94,22 @@ module _ (printed : ArePrinted) where
       ))
 
   schedule-ends : (seed replicas lines : ℕ) → IsId replicas → 1 < lines → IsFree (run_of (generated seed replicas lines)) →
-      IsEnded (performed 0 (generated seed replicas lines) before_all).found
+      IsEnded (performed 0 (generated seed replicas lines) (before_all Alone)).found
   schedule-ends seed replicas lines is some free =
-      lines-end (generated seed replicas lines) 0 no_run before_all refl (generated-stands seed replicas lines some) (generated-within seed replicas lines is)
+      lines-end (generated seed replicas lines) 0 no_run (before_all Alone) refl (generated-stands seed replicas lines some) (generated-within seed replicas lines is)
       (generated-ends seed replicas lines (omega (arith, some))) free
 
 -- ---- the laws
 
-no-refusal : (o : Option Finding) → IsEnded o → option_and_then (λ (f : Finding). f.refused) o ≡ None
+no-refusal : (o : Option Finding) → IsEnded o → option_and_then of_event (option_and_then (λ (f : Finding). f.refused) o) ≡ None
 no-refusal None is = absurd is
-no-refusal (Some f) is = is.0
+no-refusal (Some f) is = ap (option_and_then of_event) is.0
 
 -- an end alone doesn't read
-end-alone : refusal_of (performed 0 (End ∷ []) before_all) ≡ None
+end-alone : refusal_of (performed 0 (End ∷ []) (before_all Alone)) ≡ None
 unfolding line_outcome opening tokens_from word_of
 end-alone = by (is_utf8 (codes "end")) where
-  by : (b : Bool) → refusal_of (and_then (read_outcome 1 (reading_behind (cond b (opening_of first_state (tokens (codes "end"))) (Err not_utf8))) before_all) (performed 1 [])) ≡ None
+  by : (b : Bool) → refusal_of (and_then (read_outcome 1 (reading_behind (cond b (opening_of first_state (tokens (codes "end"))) (Err not_utf8))) (before_all Alone)) (performed 1 [])) ≡ None
   by true = refl
   by false = refl
 
@@ -117,7 +118,7 @@ unfolding events_left
 trials-are-admitted printed admitted seed replicas zero is taken how = refl
 trials-are-admitted printed admitted seed replicas (suc zero) is taken how = end-alone
 trials-are-admitted printed admitted seed replicas (suc (suc lines)) is taken how =
-    let p = performed 0 (generated seed replicas (suc (suc lines))) before_all in
+    let p = performed 0 (generated seed replicas (suc (suc lines))) (before_all Alone) in
     no-refusal p.found (schedule-ends printed seed replicas (suc (suc lines)) is (omega arith) (admitted seed replicas (suc (suc lines)) is))
 
 has-status : (p : Produced) → IsEnded p.found → IsEndOrLimit (status_of p)
@@ -128,7 +129,7 @@ has-status p is = by p.found is where
 
 pub trials-end : ArePrinted → GeneratedAreAdmitted → TrialsEnd
 trials-end printed admitted seed replicas lines is some taken how =
-    has-status (performed 0 (generated seed replicas lines) before_all) (schedule-ends printed seed replicas lines is some (admitted seed replicas lines is))
+    has-status (performed 0 (generated seed replicas lines) (before_all Alone)) (schedule-ends printed seed replicas lines is some (admitted seed replicas lines is))
 
 none-passed : (n len end : ℕ) → len ≤ 32768 → end ≤ 8388608 → n ≤ 200000 → limit_of n len end ≡ None
 none-passed n len end short within few = rw (le-ltb 32768 len short, le-ltb 8388608 end within, le-ltb 200000 n few) refl
@@ -153,5 +154,5 @@ lines-perform (e ∷ events) gone at s few small short =
 pub trials-are-replays : TrialsAreReplays
 trials-are-replays seed replicas lines is limits report taken how =
     let events = generated seed replicas lines in
-    ap (λ pieces. replayed 1 0 pieces Ended before_all) (pieces-are events (generated-within seed replicas lines is))
-    ∙ lines-perform events 0 0 before_all (omega (arith, limits.few)) (omega (arith, limits.small)) limits.short
+    ap (λ pieces. replayed 1 0 pieces Ended (before_all Alone)) (pieces-are events (generated-within seed replicas lines is))
+    ∙ lines-perform events 0 0 (before_all Alone) (omega (arith, limits.few)) (omega (arith, limits.small)) limits.short

@@ -1,5 +1,6 @@
 -- That no event of a generated schedule is refused: neither in the run of its events, nor in what a trial and a replay of its lines come to.
 use Rattle.std.specs.Prelude.{◌≡◌, ℕ, ◌<◌, ◌≤◌, List, length, Option, Some, None}
+use Rattle.cg_outcome.specs.declared.limits.TheConstants.{INPUT_BYTES, LINES, LINE_BYTES}
 use Rattle.cg_base.specs.Sets.{IsId}
 use Rattle.cg_group.specs.EachLaws.{Each}
 use Rattle.cg_schedule.specs.declared.event.Event.{Event}
@@ -40,9 +41,9 @@ TrialsEnd =
 
 -- the lines of events are within the limits of an input
 pub record AreWithinLimits (events : List Event) : Type 0 where
-  pub few : length events ≤ 200000
-  pub short : Each (λ event. length (line_of event) ≤ 32768) events
-  pub small : length (lines_of events) ≤ 8388608
+  pub few : length events ≤ LINES
+  pub short : Each (λ event. length (line_of event) ≤ LINE_BYTES) events
+  pub small : length (lines_of events) ≤ INPUT_BYTES
 
 -- a replay of the lines that are generated, where they are within the limits of an input, comes to what a trial comes to
 abbrev pub TrialsAreReplays : Type 0

@@ -25,5 +25,5 @@ IsRefused w (Some r) = first_refusal w r.event ≡ Some r.reason
 -- The steps of every run agree.
 abbrev pub EveryRunAgrees : Type 0
 EveryRunAgrees =
-    (steps : List Step) (refused : Option Refusal) → IsRunFrom no_world 0 steps →
+    (steps : List Step) (refused : Option Refusal) → IsRunFrom no_world steps →
     IsRefused (world_after no_world steps) refused → Agreement steps refused

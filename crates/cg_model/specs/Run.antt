@@ -1,5 +1,5 @@
 -- Runs: the steps of a list of events, one after another.
-use Rattle.std.specs.Prelude.{◌≡◌, ℕ, suc, ◌<◌, List, [], ◌∷◌, None, length}
+use Rattle.std.specs.Prelude.{◌≡◌, ℕ, ◌<◌, List, [], ◌∷◌, None, length}
 use Rattle.cg_base.specs.Sets.{IsSet}
 use Rattle.cg_base.specs.Weights.{IsWeightSet}
 use Rattle.cg_action.specs.declared.action.Kind.TheVariants.{Join as JoinKind, Leave as LeaveKind}
@@ -12,9 +12,8 @@ use Rattle.cg_model.specs.World.{World, no_world}
 use Rattle.cg_model.specs.Admission.{first_refusal}
 use Rattle.cg_model.specs.Step.{world_step}
 
--- a step of a run: its number, its event, what it showed, and the world after it
+-- a step of a run: its event, what it showed, and the world after it
 pub record Step : Type 0 where
-  pub number : ℕ
   pub event : Event
   pub entry : Entry
   pub world : World
@@ -51,10 +50,9 @@ MayStand w other = (0 < length w.seats) × MayAsk other
 abbrev pub step_limit : ℕ
 step_limit = 2000000
 
--- Each step has the next number, up to the limit, and is the step of an event in the world before it that may stand there
--- and is admitted.
-abbrev pub IsRunFrom : World → ℕ → List Step → Type 0
-IsRunFrom w count [] = Unit {0}
-IsRunFrom w count (s ∷ steps) =
-    (s.number ≡ suc count) × (count < step_limit) × MayStand w s.event × (first_refusal w s.event ≡ None)
-    × (record { entry = s.entry; world = s.world } ≡ world_step w s.event) × IsRunFrom s.world (suc count) steps
+-- Each step is the step of an event in the world before it that may stand there and is admitted.
+abbrev pub IsRunFrom : World → List Step → Type 0
+IsRunFrom w [] = Unit {0}
+IsRunFrom w (s ∷ steps) =
+    MayStand w s.event × (first_refusal w s.event ≡ None)
+    × (record { entry = s.entry; world = s.world } ≡ world_step w s.event) × IsRunFrom s.world steps

@@ -10,24 +10,22 @@ use Rattle.cg_model.specs.Show.{Moved}
 use Rattle.cg_model.specs.Step.{world_step}
 use Rattle.cg_model.specs.Run.{Step, Refusal}
 
--- how far a schedule has come: the world, the count of steps, the steps, and the refusal at which it stopped, if it did
+-- how far a schedule has come: the world, the steps, and the refusal at which it stopped, if it did
 pub record Run : Type 0 where
   pub world : World
-  pub count : ℕ
   pub steps : List Step
   pub refused : Option Refusal
 
 -- a run that hasn't begun
 abbrev pub no_run : Run
-no_run = record { world = no_world; count = 0; steps = []; refused = None }
+no_run = record { world = no_world; steps = []; refused = None }
 
 -- a run with one step more
 abbrev pub with_step : Run → Event → Moved → Run
 with_step run e m =
     record {
       world = m.world;
-      count = suc run.count;
-      steps = run.steps ++ record { number = suc run.count; event = e; entry = m.entry; world = m.world } ∷ [];
+      steps = run.steps ++ record { event = e; entry = m.entry; world = m.world } ∷ [];
       refused = None;
     }
 

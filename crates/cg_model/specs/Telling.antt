@@ -54,5 +54,5 @@ pub record Tells (steps : List Step) (c : Chronicle) : Type 0 where
 -- the steps of every run tell of the world that they lead to
 abbrev pub EveryRunTells : Type 0
 EveryRunTells =
-    (steps : List Step) → IsRunFrom no_world 0 steps →
+    (steps : List Step) → IsRunFrom no_world steps →
     Tells steps (with_world (chronicle_after no_chronicle no_world steps) (world_after no_world steps))

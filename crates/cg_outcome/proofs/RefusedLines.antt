@@ -22,16 +22,15 @@ use Rattle.cg_schedule.specs.Line.{first_state, reading, state_after, state_behi
 use Rattle.cg_schedule.specs.Print.{line_of}
 use Rattle.cg_model.specs.World.{World, has_begun, up_replicas}
 use Rattle.cg_model.specs.Admission.{first_refusal}
-use Rattle.cg_model.specs.Show.{Moved}
-use Rattle.cg_model.specs.Step.{world_step}
 use Rattle.cg_model.specs.Run.{step_limit}
 use Rattle.cg_model.specs.SeatLaws.{begun_stay, up_begun}
-use Rattle.cg_outcome.specs.Outcome.{Ending, Ended, Failed, Open, lines_alone, performed, pieces_for, read_outcome, line_outcome, without_return, limit_of, unless_passed, whole_line, at_end, cut_line, last_piece, replayed, outcome_of, outcome}
+use Rattle.cg_outcome.specs.Outcome.{Ending, Ended, Failed, Open, lines_alone, performed, pieces_for, read_outcome, line_outcome, without_return, limit_of, unless_passed, whole_line, at_end, cut_line, last_piece, replayed, companion_for, outcome_of, outcome}
 use Rattle.cg_outcome.specs.declared.command.Command.{Command}
-use Rattle.cg_outcome.specs.declared.command.Command.TheVariants.{Replay, Generate, Trial}
+use Rattle.cg_outcome.specs.declared.command.Command.TheVariants.{Generate, Trial}
+use Rattle.cg_outcome.specs.declared.companion.Companion.TheVariants.{Alone}
+use Rattle.cg_outcome.specs.Items.{Item}
 use Rattle.cg_outcome.specs.Commands.{command_of}
-use Rattle.cg_outcome.specs.Produced.{Progress, Finding, Produced, before_all, status_of, went_on, ended_with, and_then, unless_refused, one_step}
-use Rattle.cg_outcome.specs.Totals.{with_entry}
+use Rattle.cg_outcome.specs.Produced.{Progress, Finding, Produced, before_all, status_of, went_on, ended_with, and_then, counted, unless_refused, one_step}
 use Rattle.cg_gen.specs.Generated.{generated}
 use Rattle.cg_outcome.specs.declared.status.Status.{Status}
 use Rattle.cg_outcome.specs.declared.status.Status.TheVariants as status
@@ -42,7 +41,7 @@ use Rattle.cg_outcome.specs.Refusing.{state_past_lines}
 use Rattle.cg_outcome.specs.Taking.{TellsOfRefusals}
 use Rattle.cg_outcome.specs.AskedLaws.{ExactLines}
 use Rattle.cg_outcome.specs.GoingOnLaws.{and_then-some}
-use Rattle.cg_outcome.proofs.RunFacts.{one_step-reader, Holds-outcome}
+use Rattle.cg_outcome.proofs.RunFacts.{item_made, behind, one_step-reader, Holds-outcome}
 
 -- ---- what is ready may be delivered
 
@@ -98,19 +97,19 @@ Passes-and_then s p more first next = by_finding p.found refl where
       rw e record { admits = next.admits; begun = λ q is. next.begun q (first.begun q is); reader = next.reader ∙ first.reader }
   by_finding (Some f) e = subst (Passes s) (sym (and_then-some p more f e)) first
 
-Passes-one_step : (n : ℕ) (event : Event) (s : Progress) → first_refusal s.world event ≡ None → Passes s (one_step n event s)
-Passes-one_step n event s admitted = rw admitted (by_limit (nat_lt s.count step_limit)) where
-  by_limit : (b : Bool) → Passes s (cond b (record {
-    steps = record { number = s.count + 1; event = event; entry = (world_step s.world event).entry; world = (world_step s.world event).world } ∷ [];
-    found = None;
-    progress = record s { world = (world_step s.world event).world; count = s.count + 1; totals = with_entry s.totals (world_step s.world event).entry };
-  }) (ended_with (status.Limit n Steps) n s))
-  by_limit true = record { admits = λ m r e. cc; begun = begun_stay s.world event; reader = refl }
+-- an item that is counted leaves who has begun, and the reader
+Passes-counted : (n : ℕ) (item : Item) (next s : Progress) → ((q : ℕ) → has_begun s.world q ≡ true → has_begun next.world q ≡ true) → next.reader ≡ s.reader → Passes s (counted n item next s)
+Passes-counted n item next s stay same = by_limit (nat_lt s.count step_limit) where
+  by_limit : (b : Bool) → Passes s (if b then record { items = item ∷ []; found = None; progress = next } else ended_with (status.Limit n Steps) n s)
+  by_limit true = record { admits = λ m r e. cc; begun = stay; reader = same }
   by_limit false = record { admits = λ m r e. cc; begun = λ q is. is; reader = refl }
+
+Passes-one_step : (n : ℕ) (event : Event) (s : Progress) → first_refusal s.world event ≡ None → Passes s (one_step n None event s)
+Passes-one_step n event s admitted = rw admitted (Passes-counted n (item_made None event s) (behind None event s) s (begun_stay s.world event) refl)
 
 Passes-deliver_ready : (n p : ℕ) (s : Progress) → has_begun s.world p ≡ true → Passes s (deliver_ready n p s)
 Passes-deliver_ready n p s begun = by_count (ready s.world.group p == 0) refl where
-  by_count : (b : Bool) → (ready s.world.group p == 0) ≡ b → Passes s (cond b (went_on s) (one_step n (Deliver p (ready s.world.group p)) s))
+  by_count : (b : Bool) → (ready s.world.group p == 0) ≡ b → Passes s (cond b (went_on s) (one_step n None (Deliver p (ready s.world.group p)) s))
   by_count true e = Passes-went_on s
   by_count false e = Passes-one_step n (Deliver p (ready s.world.group p)) s (deliver-admitted s.world p begun e)
 
@@ -130,7 +129,7 @@ Passes-one_pass : (n : ℕ) (s : Progress) → Passes s (one_pass n s)
 unfolding first_refusal
 Passes-one_pass n s =
     let one = Passes-one_step n Gather s refl in
-    let q = one_step n Gather s in
+    let q = one_step n None Gather s in
     let set = up_replicas s.world in
     Passes-and_then s q (deliveries n set) one (Passes-deliveries n set q.progress (each-on s.world q.progress.world one.begun set (up_begun s.world)))
 
@@ -146,18 +145,14 @@ Passes-passes n (suc count) s =
 abbrev RefusesEvent : ℕ → Event → Produced → Type 0
 RefusesEvent n event p = (m : ℕ) (r : Reason) → status_of p ≡ Some (status.Refused m r) → (m ≡ n) × (first_refusal p.progress.world event ≡ Some r)
 
-one_step-refuses : (n : ℕ) (event : Event) (s : Progress) → RefusesEvent n event (one_step n event s)
+one_step-refuses : (n : ℕ) (event : Event) (s : Progress) → RefusesEvent n event (one_step n None event s)
 one_step-refuses n event s = by_refusal (first_refusal s.world event) refl where
-  by_limit : (b : Bool) (m : Moved) → RefusesEvent n event (cond b (record {
-    steps = record { number = s.count + 1; event = event; entry = m.entry; world = m.world } ∷ [];
-    found = None;
-    progress = record s { world = m.world; count = s.count + 1; totals = with_entry s.totals m.entry };
-  }) (ended_with (status.Limit n Steps) n s))
-  by_limit true moved = λ m r e. cc
-  by_limit false moved = λ m r e. cc
+  by_limit : (b : Bool) (item : Item) (next : Progress) → RefusesEvent n event (if b then record { items = item ∷ []; found = None; progress = next } else ended_with (status.Limit n Steps) n s)
+  by_limit true item next = λ m r e. cc
+  by_limit false item next = λ m r e. cc
 
-  by_refusal : (o : Option Reason) → first_refusal s.world event ≡ o → RefusesEvent n event (unless_refused o n event s)
-  by_refusal None is = by_limit (nat_lt s.count step_limit) (world_step s.world event)
+  by_refusal : (o : Option Reason) → first_refusal s.world event ≡ o → RefusesEvent n event (unless_refused o n None event s)
+  by_refusal None is = by_limit (nat_lt s.count step_limit) (item_made None event s) (behind None event s)
   by_refusal (Some reason) is = λ m r e. (cc, is ∙ cc)
 
 happened-refuses : (n : ℕ) (event : Event) (s : Progress) → RefusesEvent n event (happened n event s)
@@ -170,7 +165,7 @@ happened-reader : (n : ℕ) (event : Event) (s : Progress) → (happened n event
 unfolding happened
 happened-reader n End s = refl
 happened-reader n (Rounds count) s = (Passes-passes n count s).reader
-happened-reader n other s = one_step-reader n other s
+happened-reader n other s = one_step-reader n None other s
 
 -- ---- lines
 
@@ -312,10 +307,10 @@ outcome-refuses_in : (words : List (List ℕ)) (taken : List ℕ) (how : Ending)
 outcome-refuses_in words taken how = by_command (command_of words) where
   by_command : (c : Option Command) → RefusesOf (pieces_for c taken) (outcome_of c taken how)
   by_command None = λ m r e. cc
-  by_command (Some (Replay report)) = replayed-refuses (pieces_of 10 taken) [] (pieces_of 10 taken) 1 0 how before_all refl refl refl
   by_command (Some (Generate seed replicas lines)) = λ m r e. cc
   by_command (Some (Trial seed replicas lines)) =
-      performed-refuses (lines_alone (generated seed replicas lines)) [] (generated seed replicas lines) 0 before_all refl refl refl
+      performed-refuses (lines_alone (generated seed replicas lines)) [] (generated seed replicas lines) 0 (before_all Alone) refl refl refl
+  by_command other = replayed-refuses (pieces_of 10 taken) [] (pieces_of 10 taken) 1 0 how (before_all (companion_for other)) refl refl refl
 
 pub outcome-refuses : (words : List (List ℕ)) → ExactLines → TellsOfRefusals words
 outcome-refuses words exact taken how n reason e =

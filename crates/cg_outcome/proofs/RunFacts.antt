@@ -1,6 +1,10 @@
--- The steps of what a run comes to are a run of the world, and a refusal is that of the world's tests.
-use Rattle.std.proofs.Common.{◌≡◌, ℕ, zero, suc, ◌+◌, ◌==◌, nat_lt, List, [], ◌∷◌, ◌++◌, length, Option, Some, None, Bool, true, false, cond, refl, sym, ap, ◌∙◌, arith, length-append, ◌-◌, subst, not, Result, Ok, Err, ◌<◌}
+-- The steps of what a run comes to are a run of the world, its items are numbered and told as what stands beside the world has it, and a refusal is
+-- that of the world's tests.
+use Rattle.std.proofs.Common.{◌≡◌, ℕ, zero, suc, ◌+◌, ◌==◌, nat_lt, List, [], ◌∷◌, ◌++◌, length, map, IfSome, if◌then◌else◌, Option, Some, None, Bool, true, false, cond, refl, sym, ap, ◌∙◌, arith, length-append, ◌-◌, subst, not, Result, Ok, Err, ◌<◌}
+use Rattle.std.specs.Option.{option_map_or}
+use mathlib.Core.List.{map-append}
 use Rattle.std.proofs.lemmas.Bool.{and_parts, ltb-true}
+use Rattle.cg_base.specs.Lists.{present}
 use Rattle.cg_base.specs.Text.{pieces_of}
 use Rattle.cg_group.specs.declared.reason.Reason.{Reason}
 use Rattle.cg_group.specs.Ready.{ready}
@@ -9,23 +13,27 @@ use Rattle.cg_schedule.specs.declared.event.Event.TheVariants.{Start, Split, Mer
 use Rattle.cg_schedule.specs.declared.fault.LineFault.{LineFault}
 use Rattle.cg_schedule.specs.declared.fault.LineFault.TheVariants.{Syntax, NoMemory}
 use Rattle.cg_schedule.specs.declared.reader_state.ReaderState.{ReaderState}
-use Rattle.cg_schedule.specs.Fault.{syntax_number}
+use Rattle.cg_schedule.specs.Fault.{syntax_number, misplaced}
 use Rattle.cg_schedule.specs.Limits.{IsEvent}
 use Rattle.cg_schedule.specs.Line.{event_word, fits, reading, state_after}
 use Rattle.cg_schedule.specs.Print.{line_of}
 use Rattle.cg_model.specs.World.{World, no_world, up_replicas}
 use Rattle.cg_model.specs.Admission.{first_refusal}
-use Rattle.cg_model.specs.Show.{Moved}
 use Rattle.cg_model.specs.Step.{world_step}
 use Rattle.cg_model.specs.Run.{Step, world_after, step_limit, MayStand, IsRunFrom}
 use Rattle.cg_model.specs.EveryRun.{Agreement, IsRefused, EveryRunAgrees}
 use Rattle.cg_model.specs.SeatLaws.{step_seats}
 use Rattle.cg_terms.specs.Terms.{Guarantees, AgreementGuarantees}
-use Rattle.cg_outcome.specs.Outcome.{Ending, Ended, Failed, Open, performed, read_outcome, line_outcome, without_return, limit_of, unless_passed, whole_line, at_end, cut_line, last_piece, replayed, outcome_of, outcome}
 use Rattle.cg_outcome.specs.declared.command.Command.{Command}
-use Rattle.cg_outcome.specs.declared.command.Command.TheVariants.{Replay, Generate, Trial}
+use Rattle.cg_outcome.specs.declared.command.Command.TheVariants.{Generate, Trial}
 use Rattle.cg_outcome.specs.Commands.{command_of}
-use Rattle.cg_outcome.specs.Produced.{Progress, Finding, Produced, before_all, refusal_of, went_on, ended_with, refused_with, and_then, stepped, unless_refused, one_step}
+use Rattle.cg_outcome.specs.declared.companion.Companion.{Companion}
+use Rattle.cg_outcome.specs.declared.companion.Companion.TheVariants.{Alone}
+use Rattle.cg_outcome.specs.declared.companion.Further.{Further}
+use Rattle.cg_outcome.specs.Companion.{further_reading, takes_further, in_place, further_refusal, event_of, acts, follows}
+use Rattle.cg_outcome.specs.Items.{Item, steps_of}
+use Rattle.cg_outcome.specs.Kept.{next_world, noted_by, kept_behind, AreNoted}
+use Rattle.cg_outcome.specs.Produced.{Progress, Finding, Produced, OfEvent, OfFurther, before_all, refusal_of, went_on, ended_with, refused_with, and_then, counted, stepped, unless_refused, one_step, acted, unless_further_refused, one_further}
 use Rattle.cg_outcome.specs.Totals.{with_entry}
 use Rattle.cg_gen.specs.Generated.{generated}
 use Rattle.cg_outcome.specs.declared.status.Status.{Status}
@@ -33,67 +41,156 @@ use Rattle.cg_outcome.specs.declared.status.Status.TheVariants as status
 use Rattle.cg_outcome.specs.declared.status.Limit.{Limit}
 use Rattle.cg_outcome.specs.declared.status.Limit.TheVariants.{Steps}
 use Rattle.cg_outcome.specs.Rounds.{deliver_ready, deliveries, one_pass, passes, happened}
+use Rattle.cg_outcome.specs.Outcome.{Ending, Ended, Failed, Open, performed, unreadable, read_outcome, further_outcome, line_outcome, companion_for, without_return, limit_of, unless_passed, whole_line, at_end, cut_line, last_piece, replayed, outcome_of, outcome}
 use Rattle.cg_outcome.specs.UnderWay.{IsUnderWay}
 use Rattle.cg_outcome.specs.AskedLaws.{may_ask, ExactLines, before_under_way}
 use Rattle.cg_outcome.specs.GoingOnLaws.{and_then-some}
 
--- what holds of a part of a run, from how far it had come
-pub record Holds (s : Progress) (p : Produced) : Type 0 where
-  pub is_run : IsRunFrom s.world s.count p.steps
-  pub world : p.progress.world ≡ world_after s.world p.steps
-  pub count : p.progress.count ≡ s.count + length p.steps
-  pub refused : IsRefused p.progress.world (refusal_of p)
-  pub under_way : p.found ≡ None → IsUnderWay p.progress
+-- ---- items one after another
+
+present-append : {X : Type 0} (a b : List (Option X)) → present (a ++ b) ≡ present a ++ present b
+present-append [] b = refl
+present-append (None ∷ a) b = present-append a b
+present-append (Some x ∷ a) b = ap (λ xs. x ∷ xs) (present-append a b)
+
+steps_of-append : (a b : List Item) → steps_of (a ++ b) ≡ steps_of a ++ steps_of b
+steps_of-append a b = ap present (map-append (λ (i : Item). i.step) a b) ∙ present-append (map (λ (i : Item). i.step) a) (map (λ (i : Item). i.step) b)
 
 world_after-append : (w : World) (a b : List Step) → world_after w (a ++ b) ≡ world_after (world_after w a) b
 world_after-append w [] b = refl
 world_after-append w (s ∷ a) b = world_after-append s.world a b
 
-IsRunFrom-append : (w : World) (n : ℕ) (a b : List Step) → IsRunFrom w n a → IsRunFrom (world_after w a) (n + length a) b → IsRunFrom w n (a ++ b)
-IsRunFrom-append w n [] b p q =
-    let same : n + length {A = Step} [] ≡ n = omega arith in
-    rw same at q
-IsRunFrom-append w n (s ∷ a) b p q =
-    let same : n + length (s ∷ a) ≡ suc n + length a = omega arith in
-    let there = rw same at q in
-    (p.0, p.1, p.2, p.3, p.4, IsRunFrom-append s.world (suc n) a b p.5 there)
+IsRunFrom-append : (w : World) (a b : List Step) → IsRunFrom w a → IsRunFrom (world_after w a) b → IsRunFrom w (a ++ b)
+IsRunFrom-append w [] b p q = q
+IsRunFrom-append w (s ∷ a) b p q = (p.0, p.1, p.2, IsRunFrom-append s.world a b p.3 q)
 
-Holds-went_on : (s s' : Progress) → s'.world ≡ s.world → s'.count ≡ s.count → IsUnderWay s' → Holds s (went_on s')
-Holds-went_on s s' w c under = record { is_run = tt; world = w; count = c ∙ omega arith; refused = tt; under_way = λ e. under }
+first_moves : (w : World) (o : Option Step) (rest : List (Option Step)) → world_after (next_world w o) (present rest) ≡ world_after w (present (o ∷ rest))
+first_moves w None rest = refl
+first_moves w (Some s) rest = refl
+
+abbrev next_kept : World → Companion → Item → Companion
+next_kept w c i = (noted_by w c i.further i.step).companion
+
+kept_behind-append : (w : World) (c : Companion) (a b : List Item) → kept_behind w c (a ++ b) ≡ kept_behind (world_after w (steps_of a)) (kept_behind w c a) b
+kept_behind-append w c [] b = refl
+kept_behind-append w c (i ∷ a) b =
+    kept_behind-append (next_world w i.step) (next_kept w c i) a b
+    ∙ ap (λ v. kept_behind v (kept_behind (next_world w i.step) (next_kept w c i) a) b) (first_moves w i.step (map (λ (i : Item). i.step) a))
+
+AreNoted-append : (w : World) (c : Companion) (n : ℕ) (a b : List Item) → AreNoted w c n a → AreNoted (world_after w (steps_of a)) (kept_behind w c a) (n + length a) b → AreNoted w c n (a ++ b)
+AreNoted-append w c n [] b p q = let same : n + length {A = Item} [] ≡ n = omega arith in rw same at q
+AreNoted-append w c n (i ∷ a) b p q =
+    let v = next_world w i.step in
+    let d = next_kept w c i in
+    let same : n + length (i ∷ a) ≡ suc n + length a = omega arith in
+    let numbered = rw same at q in
+    let there = subst (λ (u : World). AreNoted u (kept_behind v d a) (suc n + length a) b) (sym (first_moves w i.step (map (λ (i : Item). i.step) a))) numbered in
+    (p.0, p.1, p.2, p.3, AreNoted-append v d (suc n) a b p.4 there)
+
+-- ---- what holds of a part of a run
+
+-- what holds of it, from how far it had come
+pub record Holds (s : Progress) (p : Produced) : Type 0 where
+  pub is_run : IsRunFrom s.world (steps_of p.items)
+  pub noted : AreNoted s.world s.companion s.count p.items
+  pub world : p.progress.world ≡ world_after s.world (steps_of p.items)
+  pub kept : p.progress.companion ≡ kept_behind s.world s.companion p.items
+  pub count : p.progress.count ≡ s.count + length p.items
+  pub refused : IsRefused p.progress.world (refusal_of p)
+  pub under_way : p.found ≡ None → IsUnderWay p.progress
+
+Holds-went_on : (s s' : Progress) → s'.world ≡ s.world → s'.companion ≡ s.companion → s'.count ≡ s.count → IsUnderWay s' → Holds s (went_on s')
+Holds-went_on s s' w k c under = record { is_run = tt; noted = tt; world = w; kept = k; count = c ∙ omega arith; refused = tt; under_way = λ e. under }
 
 Holds-ended_with : (st : Status) (lines : ℕ) (s : Progress) → Holds s (ended_with st lines s)
-Holds-ended_with st lines s = record { is_run = tt; world = refl; count = omega arith; refused = tt; under_way = λ e. absurd cc }
+Holds-ended_with st lines s = record { is_run = tt; noted = tt; world = refl; kept = refl; count = omega arith; refused = tt; under_way = λ e. absurd cc }
 
-Holds-refused_with : (n : ℕ) (event : Event) (reason : Reason) (s : Progress) → first_refusal s.world event ≡ Some reason → Holds s (refused_with n event reason s)
-Holds-refused_with n event reason s why = record { is_run = tt; world = refl; count = omega arith; refused = why; under_way = λ e. absurd cc }
+Holds-refused_with : (n : ℕ) (event : Event) (reason : Reason) (s : Progress) → first_refusal s.world event ≡ Some reason
+    → Holds s (refused_with n (OfEvent (record { event = event; reason = reason })) reason s)
+Holds-refused_with n event reason s why = record { is_run = tt; noted = tt; world = refl; kept = refl; count = omega arith; refused = why; under_way = λ e. absurd cc }
+
+Holds-refused_further : (n : ℕ) (e : Further) (reason : Reason) (s : Progress) → Holds s (refused_with n (OfFurther e reason) reason s)
+Holds-refused_further n e reason s = record { is_run = tt; noted = tt; world = refl; kept = refl; count = omega arith; refused = tt; under_way = λ e. absurd cc }
+
+-- the step of an admitted event
+abbrev pub step_made : Event → Progress → Step
+step_made event s = record { event = event; entry = (world_step s.world event).entry; world = (world_step s.world event).world }
+
+-- the item of a step
+abbrev pub item_made : Option Further → Event → Progress → Item
+item_made asked event s = record { number = s.count + 1; further = asked; step = Some (step_made event s); lines = (follows s.companion asked (step_made event s)).lines }
 
 -- how far the run has come behind a step
-abbrev behind : Event → Progress → Progress
-behind event s =
-    record s { world = (world_step s.world event).world; count = s.count + 1; totals = with_entry s.totals (world_step s.world event).entry }
+abbrev pub behind : Option Further → Event → Progress → Progress
+behind asked event s =
+    record s {
+      world = (world_step s.world event).world;
+      companion = (follows s.companion asked (step_made event s)).companion;
+      count = s.count + 1;
+      totals = with_entry s.totals (world_step s.world event).entry;
+    }
 
 -- behind a start that was read replicas have begun
 seated_under_way : (s : Progress) → s.reader.started ≡ true → 0 < length s.world.seats → IsUnderWay s
 seated_under_way s started some = record { before = λ e. absurd (let clash : true ≡ false = sym started ∙ e in cc); begun = λ e. some }
 
-Holds-stepped : (n : ℕ) (event : Event) (s : Progress) → MayStand s.world event → first_refusal s.world event ≡ None → IsUnderWay (behind event s) → Holds s (stepped n event (world_step s.world event) s)
-Holds-stepped n event s may admitted under = by_limit (nat_lt s.count step_limit) refl where
-  by_limit : (b : Bool) → nat_lt s.count step_limit ≡ b → Holds s (stepped n event (world_step s.world event) s)
+next_number : (n : ℕ) → n + 1 ≡ suc n
+next_number n = omega arith
+
+-- the further event, if there is one, is admitted
+abbrev IsAdmitted : Progress → Option Further → Type 0
+IsAdmitted s asked = IfSome asked (λ e. further_refusal s.world s.companion e ≡ None)
+
+Holds-stepped : (n : ℕ) (asked : Option Further) (event : Event) (s : Progress) → IsAdmitted s asked → MayStand s.world event → first_refusal s.world event ≡ None → IsUnderWay (behind asked event s)
+    → Holds s (stepped n asked event (world_step s.world event) s)
+Holds-stepped n asked event s first may admitted under = by_limit (nat_lt s.count step_limit) refl where
+  by_limit : (b : Bool) → nat_lt s.count step_limit ≡ b → Holds s (stepped n asked event (world_step s.world event) s)
   by_limit true e =
       rw e record {
-        is_run = (omega arith, ltb-true s.count step_limit e, may, admitted, refl, tt);
+        is_run = (may, admitted, refl, tt);
+        noted = (next_number s.count, ltb-true s.count step_limit e, first, refl, tt);
         world = refl;
+        kept = refl;
         count = omega arith;
         refused = tt;
         under_way = λ f. under;
       }
   by_limit false e = rw e (Holds-ended_with (status.Limit n Steps) n s)
 
-Holds-one_step : (n : ℕ) (event : Event) (s : Progress) → MayStand s.world event → s.reader.started ≡ true → Holds s (one_step n event s)
-Holds-one_step n event s may started = by_refusal (first_refusal s.world event) refl where
-  by_refusal : (o : Option Reason) → first_refusal s.world event ≡ o → Holds s (unless_refused o n event s)
-  by_refusal None e = Holds-stepped n event s may e (seated_under_way (behind event s) started (step_seats s.world event may e))
+Holds-acted : (n : ℕ) (e : Further) (s : Progress) → IsAdmitted s (Some e) → IsUnderWay s → Holds s (acted n e (acts s.world s.companion e) s)
+Holds-acted n e s first under = by_limit (nat_lt s.count step_limit) refl where
+  by_limit : (b : Bool) → nat_lt s.count step_limit ≡ b → Holds s (acted n e (acts s.world s.companion e) s)
+  by_limit true is =
+      rw is record {
+        is_run = tt;
+        noted = (next_number s.count, ltb-true s.count step_limit is, first, refl, tt);
+        world = refl;
+        kept = refl;
+        count = omega arith;
+        refused = tt;
+        under_way = λ f. record { before = under.before; begun = under.begun };
+      }
+  by_limit false is = rw is (Holds-ended_with (status.Limit n Steps) n s)
+
+Holds-one_step : (n : ℕ) (asked : Option Further) (event : Event) (s : Progress) → IsAdmitted s asked → MayStand s.world event → s.reader.started ≡ true → Holds s (one_step n asked event s)
+Holds-one_step n asked event s first may started = by_refusal (first_refusal s.world event) refl where
+  by_refusal : (o : Option Reason) → first_refusal s.world event ≡ o → Holds s (unless_refused o n asked event s)
+  by_refusal None e = Holds-stepped n asked event s first may e (seated_under_way (behind asked event s) started (step_seats s.world event may e))
   by_refusal (Some reason) e = Holds-refused_with n event reason s e
+
+-- a further event stands for one that may stand in the world
+abbrev StandsFor : World → Further → Type 0
+StandsFor w e = IfSome (event_of e) (MayStand w)
+
+Holds-one_further : (n : ℕ) (e : Further) (s : Progress) → StandsFor s.world e → IsUnderWay s → s.reader.started ≡ true → Holds s (one_further n e s)
+Holds-one_further n e s stands under started = by_refusal (further_refusal s.world s.companion e) refl where
+  by_event : (o : Option Event) → IsAdmitted s (Some e) → IfSome o (MayStand s.world) → Holds s (option_map_or (λ event. one_step n (Some e) event s) o (acted n e (acts s.world s.companion e) s))
+  by_event None first is = Holds-acted n e s first under
+  by_event (Some event) first is = Holds-one_step n (Some e) event s first is started
+
+  by_refusal : (o : Option Reason) → further_refusal s.world s.companion e ≡ o → Holds s (unless_further_refused o n e s)
+  by_refusal None is = by_event (event_of e) is stands
+  by_refusal (Some reason) is = Holds-refused_further n e reason s
 
 Holds-and_then : (s : Progress) (p : Produced) (more : Progress → Produced) → Holds s p → (p.found ≡ None → Holds p.progress (more p.progress)) → Holds s (and_then p more)
 Holds-and_then s p more h later = by_finding p.found refl where
@@ -101,12 +198,19 @@ Holds-and_then s p more h later = by_finding p.found refl where
   by_finding None e =
       let k = later e in
       let q = more p.progress in
-      let there = subst (λ (w : World). IsRunFrom w p.progress.count q.steps) h.world k.is_run in
-      let run = subst (λ (n : ℕ). IsRunFrom (world_after s.world p.steps) n q.steps) h.count there in
+      let run = subst (λ (w : World). IsRunFrom w (steps_of q.items)) h.world k.is_run in
+      let noted = subst (λ (w : World). AreNoted w p.progress.companion p.progress.count q.items) h.world k.noted in
+      let beside = subst (λ (c : Companion). AreNoted (world_after s.world (steps_of p.items)) c p.progress.count q.items) h.kept noted in
+      let numbered = subst (λ (n : ℕ). AreNoted (world_after s.world (steps_of p.items)) (kept_behind s.world s.companion p.items) n q.items) h.count beside in
+      let both = steps_of-append p.items q.items in
       rw e record {
-        is_run = IsRunFrom-append s.world s.count p.steps q.steps h.is_run run;
-        world = k.world ∙ ap (λ w. world_after w q.steps) h.world ∙ sym (world_after-append s.world p.steps q.steps);
-        count = grind (arith, length-append {A = Step}, h.count, k.count);
+        is_run = subst (IsRunFrom s.world) (sym both) (IsRunFrom-append s.world (steps_of p.items) (steps_of q.items) h.is_run run);
+        noted = AreNoted-append s.world s.companion s.count p.items q.items h.noted numbered;
+        world = k.world ∙ ap (λ w. world_after w (steps_of q.items)) h.world ∙ sym (world_after-append s.world (steps_of p.items) (steps_of q.items)) ∙ ap (world_after s.world) (sym both);
+        kept =
+            k.kept ∙ ap (λ w. kept_behind w p.progress.companion q.items) h.world ∙ ap (λ c. kept_behind (world_after s.world (steps_of p.items)) c q.items) h.kept
+            ∙ sym (kept_behind-append s.world s.companion p.items q.items);
+        count = grind (arith, length-append {A = Item}, h.count, k.count);
         refused = k.refused;
         under_way = k.under_way;
       }
@@ -115,18 +219,17 @@ Holds-and_then s p more h later = by_finding p.found refl where
 -- ---- rounds
 
 -- a step leaves the reader where it is
-pub one_step-reader : (n : ℕ) (event : Event) (s : Progress) → (one_step n event s).progress.reader ≡ s.reader
-one_step-reader n event s = by_refusal (first_refusal s.world event) where
-  by_limit : (b : Bool) (m : Moved) → (cond b (record {
-    steps = record { number = s.count + 1; event = event; entry = m.entry; world = m.world } ∷ [];
-    found = None;
-    progress = record s { world = m.world; count = s.count + 1; totals = with_entry s.totals m.entry };
-  }) (ended_with (status.Limit n Steps) n s)).progress.reader ≡ s.reader
-  by_limit true m = refl
-  by_limit false m = refl
+pub one_step-reader : (n : ℕ) (asked : Option Further) (event : Event) (s : Progress) → (one_step n asked event s).progress.reader ≡ s.reader
+one_step-reader n asked event s = by_refusal (first_refusal s.world event) where
+  by_limit : (b : Bool) (item : Item) (next : Progress) → next.reader ≡ s.reader → (if b then record { items = item ∷ []; found = None; progress = next } else ended_with (status.Limit n Steps) n s).progress.reader ≡ s.reader
+  by_limit true item next same = same
+  by_limit false item next same = refl
 
-  by_refusal : (r : Option Reason) → (unless_refused r n event s).progress.reader ≡ s.reader
-  by_refusal None = by_limit (nat_lt s.count step_limit) (world_step s.world event)
+  by_count : (item : Item) (next : Progress) → next.reader ≡ s.reader → (counted n item next s).progress.reader ≡ s.reader
+  by_count item next same = by_limit (nat_lt s.count step_limit) item next same
+
+  by_refusal : (r : Option Reason) → (unless_refused r n asked event s).progress.reader ≡ s.reader
+  by_refusal None = by_count (item_made asked event s) (behind asked event s) refl
   by_refusal (Some reason) = refl
 
 -- a part that leaves the reader where it is
@@ -134,8 +237,8 @@ record Stays (s : Progress) (p : Produced) : Type 0 where
   pub holds : Holds s p
   pub reader : p.progress.reader ≡ s.reader
 
-Stays-one_step : (n : ℕ) (event : Event) (s : Progress) → MayStand s.world event → s.reader.started ≡ true → Stays s (one_step n event s)
-Stays-one_step n event s may started = record { holds = Holds-one_step n event s may started; reader = one_step-reader n event s }
+Stays-one_step : (n : ℕ) (event : Event) (s : Progress) → MayStand s.world event → s.reader.started ≡ true → Stays s (one_step n None event s)
+Stays-one_step n event s may started = record { holds = Holds-one_step n None event s tt may started; reader = one_step-reader n None event s }
 
 Stays-and_then : (s : Progress) (p : Produced) (more : Progress → Produced) → Stays s p → (p.found ≡ None → Stays p.progress (more p.progress)) → Stays s (and_then p more)
 Stays-and_then s p more h later = record { holds = Holds-and_then s p more h.holds (λ e. (later e).holds); reader = by_finding p.found refl } where
@@ -144,14 +247,14 @@ Stays-and_then s p more h later = record { holds = Holds-and_then s p more h.hol
   by_finding (Some f) e = rw (and_then-some p more f e) h.reader
 
 Stays-went_on : (s : Progress) → IsUnderWay s → Stays s (went_on s)
-Stays-went_on s under = record { holds = Holds-went_on s s refl refl under; reader = refl }
+Stays-went_on s under = record { holds = Holds-went_on s s refl refl refl under; reader = refl }
 
 started_behind : (s : Progress) (p : Produced) → Stays s p → s.reader.started ≡ true → p.progress.reader.started ≡ true
 started_behind s p h started = ap (λ (p : ReaderState). p.started) h.reader ∙ started
 
 Stays-deliver_ready : (n p : ℕ) (s : Progress) → IsUnderWay s → s.reader.started ≡ true → Stays s (deliver_ready n p s)
 Stays-deliver_ready n p s under started = by_count (ready s.world.group p == 0) where
-  by_count : (b : Bool) → Stays s (cond b (went_on s) (one_step n (Deliver p (ready s.world.group p)) s))
+  by_count : (b : Bool) → Stays s (cond b (went_on s) (one_step n None (Deliver p (ready s.world.group p)) s))
   by_count true = Stays-went_on s under
   by_count false = Stays-one_step n (Deliver p (ready s.world.group p)) s (under.begun started, tt) started
 
@@ -165,7 +268,7 @@ Stays-deliveries n (p ∷ set) s under started =
 Stays-one_pass : (n : ℕ) (s : Progress) → IsUnderWay s → s.reader.started ≡ true → Stays s (one_pass n s)
 Stays-one_pass n s under started =
     let one = Stays-one_step n Gather s (under.begun started, tt) started in
-    let q = one_step n Gather s in
+    let q = one_step n None Gather s in
     Stays-and_then s q (deliveries n (up_replicas s.world)) one (λ e. Stays-deliveries n (up_replicas s.world) q.progress (one.holds.under_way e) (started_behind s q one started))
 
 Stays-passes : (n count : ℕ) (s : Progress) → IsUnderWay s → s.reader.started ≡ true → Stays s (passes n count s)
@@ -183,7 +286,7 @@ moved event s = record s { reader = state_after s.reader event }
 
 -- what was read of a progress is what holds of the one before it
 Holds-moved : (s : Progress) (e : Event) (p : Produced) → Holds (moved e s) p → Holds s p
-Holds-moved s e p h = record { is_run = h.is_run; world = h.world; count = h.count; refused = h.refused; under_way = h.under_way }
+Holds-moved s e p h = record { is_run = h.is_run; noted = h.noted; world = h.world; kept = h.kept; count = h.count; refused = h.refused; under_way = h.under_way }
 
 not_true : (b : Bool) → not b ≡ true → b ≡ false
 not_true true h = absurd cc
@@ -208,23 +311,51 @@ Holds-read : (n : ℕ) (e : Event) (s : Progress) → IsUnderWay s → fits s.re
 unfolding happened
 Holds-read n (Start set) s under fit within =
     let fresh = not_true s.reader.started (and_parts (not s.reader.ended) (not s.reader.started) fit).1 in
-    Holds-moved s (Start set) (one_step n (Start set) (moved (Start set) s)) (Holds-one_step n (Start set) (moved (Start set) s) (under.before fresh, within) refl)
-Holds-read n End s under fit within = Holds-went_on s (moved End s) refl refl (record { before = under.before; begun = under.begun })
+    Holds-moved s (Start set) (one_step n None (Start set) (moved (Start set) s)) (Holds-one_step n None (Start set) (moved (Start set) s) tt (under.before fresh, within) refl)
+Holds-read n End s under fit within = Holds-went_on s (moved End s) refl refl refl (record { before = under.before; begun = under.begun })
 Holds-read n (Rounds count) s under fit within =
     Holds-moved s (Rounds count) (passes n count (moved (Rounds count) s))
     (Stays-passes n count (moved (Rounds count) s) (record { before = under.before; begun = under.begun }) (and_parts (not s.reader.ended) s.reader.started fit).1).holds
 Holds-read n other s under fit within =
     let started = (and_parts (not s.reader.ended) s.reader.started fit).1 in
-    Holds-moved s other (one_step n other (moved other s)) (Holds-one_step n other (moved other s) (other_stands s.world other tt (under.begun started) within) started)
+    Holds-moved s other (one_step n None other (moved other s)) (Holds-one_step n None other (moved other s) tt (other_stands s.world other tt (under.begun started) within) started)
+
+-- a further event that was read stands for one that may stand in a world with replicas: none is read yet
+further_stands : (w : World) (c : Companion) (line : List ℕ) (e : Further) → 0 < length w.seats → further_reading c line ≡ Ok (Some e) → StandsFor w e
+further_stands w other line e some is = absurd cc
+
+-- a reading that gives a further event
+abbrev gives : Further → Result (Option Further) LineFault
+gives e = Ok (Some e)
+
+-- a further event is placed where a start was read
+placed_started : (state : ReaderState) (r : Result (Option Further) LineFault) (e : Further) → in_place state r ≡ Ok (Some e) → (state.started ≡ true) × (r ≡ Ok (Some e))
+placed_started state (Ok None) e is = absurd cc
+placed_started state (Ok (Some read)) e is = by_place (takes_further state) refl is where
+  by_place : (b : Bool) → takes_further state ≡ b → (if b then gives read else Err misplaced) ≡ gives e → (state.started ≡ true) × (gives read ≡ gives e)
+  by_place true stood same = ((and_parts state.started (not state.ended) stood).0, same)
+  by_place false stood same = absurd cc
+placed_started state (Err NoMemory) e is = absurd cc
+placed_started state (Err (Syntax why)) e is = absurd cc
+
+Holds-unreadable : (n : ℕ) (fault : LineFault) (s : Progress) → Holds s (unreadable n fault s)
+Holds-unreadable n (Syntax reason) s = Holds-ended_with (status.Syntax n (syntax_number reason)) n s
+Holds-unreadable n NoMemory s = Holds-ended_with status.NoMemory n s
 
 Holds-line : (n : ℕ) (line : List ℕ) (s : Progress) → ExactLines → IsUnderWay s → Holds s (line_outcome n line s)
 unfolding line_outcome
-Holds-line n line s exact under = by_reading (reading s.reader line) refl where
+Holds-line n line s exact under = by_further (in_place s.reader (further_reading s.companion line)) refl where
   by_reading : (r : Result (Option Event) LineFault) → reading s.reader line ≡ r → Holds s (read_outcome n r s)
-  by_reading (Ok None) is = Holds-went_on s s refl refl under
+  by_reading (Ok None) is = Holds-went_on s s refl refl refl under
   by_reading (Ok (Some e)) is = let reads_as = (exact s.reader line e).0 is in Holds-read n e s under reads_as.may_stand reads_as.within
-  by_reading (Err (Syntax reason)) is = Holds-ended_with (status.Syntax n (syntax_number reason)) n s
-  by_reading (Err NoMemory) is = Holds-ended_with status.NoMemory n s
+  by_reading (Err fault) is = Holds-unreadable n fault s
+
+  by_further : (r : Result (Option Further) LineFault) → in_place s.reader (further_reading s.companion line) ≡ r → Holds s (further_outcome n r line s)
+  by_further (Ok None) is = by_reading (reading s.reader line) refl
+  by_further (Ok (Some e)) is =
+      let placed = placed_started s.reader (further_reading s.companion line) e is in
+      Holds-one_further n e s (further_stands s.world s.companion line e (under.begun placed.0) placed.1) under placed.0
+  by_further (Err fault) is = Holds-unreadable n fault s
 
 Holds-unless_passed : (o : Option Limit) (n : ℕ) (s : Progress) (p : Produced) → Holds s p → Holds s (unless_passed o n s p)
 Holds-unless_passed None n s p h = h
@@ -236,14 +367,14 @@ Holds-at_end n Ended s under = by_end s.reader.ended where
   by_end true = Holds-ended_with status.Done n s
   by_end false = Holds-ended_with (status.NoEnd n) n s
 Holds-at_end n Failed s under = Holds-ended_with status.ReadFault n s
-Holds-at_end n Open s under = Holds-went_on s s refl refl under
+Holds-at_end n Open s under = Holds-went_on s s refl refl refl under
 
 Holds-cut_line : (n : ℕ) (line : List ℕ) (how : Ending) (s : Progress) → ExactLines → IsUnderWay s → Holds s (cut_line n line how s)
 Holds-cut_line n line Ended s exact under =
     let h = Holds-line n line s exact under in
     Holds-and_then s (line_outcome n line s) (at_end n Ended) h (λ e. Holds-at_end n Ended (line_outcome n line s).progress (h.under_way e))
 Holds-cut_line n line Failed s exact under = Holds-ended_with status.ReadFault (n - 1) s
-Holds-cut_line n line Open s exact under = Holds-went_on s s refl refl under
+Holds-cut_line n line Open s exact under = Holds-went_on s s refl refl refl under
 
 Holds-last_piece : (n at : ℕ) (piece : List ℕ) (how : Ending) (s : Progress) → ExactLines → IsUnderWay s → Holds s (last_piece n at piece how s)
 Holds-last_piece n at [] how s exact under = Holds-at_end (n - 1) how s under
@@ -255,7 +386,7 @@ Holds-whole_line n at line s exact under =
     Holds-unless_passed (limit_of n (length line) (at + length line + 1)) n s (line_outcome n (without_return line) s) (Holds-line n (without_return line) s exact under)
 
 Holds-replayed : (n at : ℕ) (pieces : List (List ℕ)) (how : Ending) (s : Progress) → ExactLines → IsUnderWay s → Holds s (replayed n at pieces how s)
-Holds-replayed n at [] how s exact under = Holds-went_on s s refl refl under
+Holds-replayed n at [] how s exact under = Holds-went_on s s refl refl refl under
 Holds-replayed n at (rest ∷ []) how s exact under = Holds-last_piece n at rest how s exact under
 Holds-replayed n at (line ∷ next ∷ more) how s exact under =
     let p = whole_line n at line s in
@@ -270,30 +401,34 @@ Holds-performed gone (event ∷ events) s exact under =
     let h = Holds-line (gone + 1) (without_return (line_of event)) s exact under in
     Holds-and_then s p (performed (gone + 1) events) h (λ e. Holds-performed (gone + 1) events p.progress exact (h.under_way e))
 
-pub Holds-outcome : (words : List (List ℕ)) (taken : List ℕ) (how : Ending) → ExactLines → Holds before_all (outcome words taken how)
+pub Holds-outcome : (words : List (List ℕ)) (taken : List ℕ) (how : Ending) → ExactLines → Holds (before_all (companion_for (command_of words))) (outcome words taken how)
 Holds-outcome words taken how exact = by_command (command_of words) where
-  by_command : (c : Option Command) → Holds before_all (outcome_of c taken how)
-  by_command None = Holds-ended_with status.Usage 0 before_all
-  by_command (Some (Replay report)) = Holds-replayed 1 0 (pieces_of 10 taken) how before_all exact before_under_way
-  by_command (Some (Generate seed replicas lines)) = Holds-ended_with status.Done 0 before_all
-  by_command (Some (Trial seed replicas lines)) = Holds-performed 0 (generated seed replicas lines) before_all exact before_under_way
+  by_command : (c : Option Command) → Holds (before_all (companion_for c)) (outcome_of c taken how)
+  by_command None = Holds-ended_with status.Usage 0 (before_all Alone)
+  by_command (Some (Generate seed replicas lines)) = Holds-ended_with status.Done 0 (before_all Alone)
+  by_command (Some (Trial seed replicas lines)) = Holds-performed 0 (generated seed replicas lines) (before_all Alone) exact (before_under_way Alone)
+  by_command other = Holds-replayed 1 0 (pieces_of 10 taken) how (before_all (companion_for other)) exact (before_under_way (companion_for other))
 
-pub outcome-is_run : (words : List (List ℕ)) (taken : List ℕ) (how : Ending) → ExactLines → IsRunFrom no_world 0 (outcome words taken how).steps
+pub outcome-is_run : (words : List (List ℕ)) (taken : List ℕ) (how : Ending) → ExactLines → IsRunFrom no_world (steps_of (outcome words taken how).items)
 outcome-is_run words taken how exact = (Holds-outcome words taken how exact).is_run
 
+-- the items are numbered from 1, and their further lines are those that come of them beside the world
+pub outcome-noted : (words : List (List ℕ)) (taken : List ℕ) (how : Ending) → ExactLines → AreNoted no_world (companion_for (command_of words)) 0 (outcome words taken how).items
+outcome-noted words taken how exact = (Holds-outcome words taken how exact).noted
+
 -- the event that ended the run by a refusal is refused so behind its steps
-pub outcome-refused : (words : List (List ℕ)) (taken : List ℕ) (how : Ending) → ExactLines → IsRefused (world_after no_world (outcome words taken how).steps) (refusal_of (outcome words taken how))
+pub outcome-refused : (words : List (List ℕ)) (taken : List ℕ) (how : Ending) → ExactLines → IsRefused (world_after no_world (steps_of (outcome words taken how).items)) (refusal_of (outcome words taken how))
 outcome-refused words taken how exact =
     let h = Holds-outcome words taken how exact in
     subst (λ (w : World). IsRefused w (refusal_of (outcome words taken how))) h.world h.refused
 
-pub outcome-agrees : (words : List (List ℕ)) (taken : List ℕ) (how : Ending) → ExactLines → EveryRunAgrees → Agreement (outcome words taken how).steps (refusal_of (outcome words taken how))
+pub outcome-agrees : (words : List (List ℕ)) (taken : List ℕ) (how : Ending) → ExactLines → EveryRunAgrees → Agreement (steps_of (outcome words taken how).items) (refusal_of (outcome words taken how))
 outcome-agrees words taken how exact agree =
     let p = outcome words taken how in
-    agree p.steps (refusal_of p) (outcome-is_run words taken how exact) (outcome-refused words taken how exact)
+    agree (steps_of p.items) (refusal_of p) (outcome-is_run words taken how exact) (outcome-refused words taken how exact)
 
 -- so it guarantees what follows from that
-pub outcome-guarantees : (words : List (List ℕ)) (taken : List ℕ) (how : Ending) → ExactLines → EveryRunAgrees → AgreementGuarantees → Guarantees (outcome words taken how).steps
+pub outcome-guarantees : (words : List (List ℕ)) (taken : List ℕ) (how : Ending) → ExactLines → EveryRunAgrees → AgreementGuarantees → Guarantees (steps_of (outcome words taken how).items)
 outcome-guarantees words taken how exact agree gives =
     let p = outcome words taken how in
-    gives p.steps (refusal_of p) (outcome-agrees words taken how exact agree)
+    gives (steps_of p.items) (refusal_of p) (outcome-agrees words taken how exact agree)

@@ -18,6 +18,7 @@ use Rattle.cg_schedule.specs.Laws.{Reads, ReadsAs}
 use Rattle.cg_schedule.specs.Reading.{whole}
 use Rattle.cg_schedule.specs.Line.{opening, event_reading, reading_behind, some_event}
 use Rattle.cg_model.specs.Run.{MayAsk}
+use Rattle.cg_outcome.specs.declared.companion.Companion.{Companion}
 use Rattle.cg_outcome.specs.Produced.{before_all}
 use Rattle.cg_outcome.specs.UnderWay.{IsUnderWay}
 
@@ -80,5 +81,5 @@ pub reads_of : (state : ReaderState) (line : List ℕ) (o : Word × List (List �
 reads_of state line o e opened read = ap reading_behind opened ∙ ap some_event read
 
 -- before the first line
-pub before_under_way : IsUnderWay before_all
-before_under_way = record { before = λ e. refl; begun = λ e. absurd cc }
+pub before_under_way : (c : Companion) → IsUnderWay (before_all c)
+before_under_way c = record { before = λ e. refl; begun = λ e. absurd cc }

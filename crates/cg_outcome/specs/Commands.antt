@@ -2,6 +2,7 @@
 use Rattle.std.specs.Prelude.{ℕ, nat_le, ◌&&◌, Bool, true, false, List, [], ◌∷◌, codes, Option, Some, None, option_and_then, if◌then◌else◌}
 use Rattle.std.specs.Result.{result_ok}
 use Rattle.std.specs.Str.{bytes_eq}
+use Rattle.cg_outcome.specs.declared.limits.TheConstants.{LINES}
 use Rattle.cg_text.specs.Numbers.{read_u64}
 use Rattle.cg_outcome.specs.declared.command.Command.{Command}
 use Rattle.cg_outcome.specs.declared.command.Command.TheVariants.{Replay, Generate, Trial}
@@ -19,7 +20,7 @@ with_numbers make seed replicas lines = None
 
 abbrev pub read_numbers : (ℕ → ℕ → ℕ → Command) → List ℕ → List ℕ → List ℕ → Option Command
 read_numbers make seed replicas lines =
-    with_numbers make (number_in 0 18446744073709551615 seed) (number_in 1 32 replicas) (number_in 3 200000 lines)
+    with_numbers make (number_in 0 18446744073709551615 seed) (number_in 1 32 replicas) (number_in 3 LINES lines)
 
 -- the command that words are
 abbrev pub command_of : List (List ℕ) → Option Command

@@ -4,11 +4,13 @@ use Rattle.std.proofs.lemmas.Bool.{true≢false}
 use Rattle.std.proofs.lemmas.List.{append-nil}
 use Rattle.std.specs.Io.KnownBytes.{Consumes, IsAtEnd}
 use Rattle.std.specs.List.{onto_first}
+use Rattle.cg_outcome.specs.declared.limits.TheConstants.{INPUT_BYTES, LINES, LINE_BYTES}
 use Rattle.cg_base.specs.Text.{pieces_of, is_nil}
 use Rattle.cg_io.specs.Outside.{SourceView, SinkView}
 use Rattle.cg_outcome.specs.declared.command.Command.{Command}
 use Rattle.cg_outcome.specs.declared.command.Command.TheVariants.{Replay, Generate, Trial}
-use Rattle.cg_outcome.specs.Outcome.{Ending, Ended, Failed, Open, limit_of, unless_passed, line_outcome, without_return, whole_line, cut_line, last_piece, replayed, outcome_of, text_put}
+use Rattle.cg_outcome.specs.declared.companion.Companion.{Companion}
+use Rattle.cg_outcome.specs.Outcome.{Ending, Ended, Failed, Open, limit_of, unless_passed, line_outcome, without_return, whole_line, cut_line, last_piece, replayed, companion_for, outcome_of, text_put}
 use Rattle.cg_outcome.specs.Produced.{Progress, Finding, Produced, before_all, status_of, ended_with, prepend, and_then}
 use Rattle.cg_outcome.specs.declared.status.Limit.{Limit}
 use Rattle.cg_outcome.specs.declared.status.Limit.TheVariants as limit
@@ -68,7 +70,7 @@ not-within : (n len end : ℕ) (what : Limit) → limit_of n len end ≡ Some wh
 not-within n len end limit.Line e within = within
 not-within n len end limit.Input e within = within
 not-within n len end limit.Lines e within = within
-not-within n len end limit.Steps e within = no-steps (nat_lt 32768 len) (nat_lt 8388608 end) (nat_lt 200000 n) e
+not-within n len end limit.Steps e within = no-steps (nat_lt LINE_BYTES len) (nat_lt INPUT_BYTES end) (nat_lt LINES n) e
 
 -- a line of which a front passes a limit passes one
 limit-later : (n len end longer later : ℕ) (what : Limit) → len ≤ longer → end ≤ later →
@@ -138,7 +140,7 @@ joined p more fewer f some within next = by_finding p.found refl where
       let found : (fewer p.progress).found ≡ Some f = sym (ap (λ (q : Produced). q.found) short) ∙ some in
       let inside : IsWithinLimits (status_of (more p.progress)) =
       subst (λ (q : Produced). IsWithinLimits (status_of q)) long within in
-      short ∙ ap (prepend p.steps) (next found inside) ∙ sym long
+      short ∙ ap (prepend p.items) (next found inside) ∙ sym long
   by_finding (Some g) e = and_then-some p fewer g e ∙ sym (and_then-some p more g e)
 
 -- what pieces come to, others come to that begin with them
@@ -182,21 +184,22 @@ has-found p st is = by_finding p.found refl where
       Some st = sym (ap (λ (found : Option Finding). status_of (record p { found = found })) e) ∙ is in cc)
   by_finding (Some f) e = (f, e)
 
-replay-whole : (all taken : List ℕ) (how : Ending) (old new : SourceView) → Consumes (Some all) new.left taken →
+replay-whole : (c : Companion) (all taken : List ℕ) (how : Ending) (old new : SourceView) →
+    Consumes (Some all) new.left taken →
     HasCause how old new → new.faults ≡ old.faults
-    → (st : Status) → status_of (replayed 1 0 (pieces_of 10 taken) how before_all) ≡ Some st
-    → IsWithinLimits (status_of (replayed 1 0 (pieces_of 10 all) Ended before_all))
-    → replayed 1 0 (pieces_of 10 taken) how before_all ≡ replayed 1 0 (pieces_of 10 all) Ended before_all
-replay-whole all taken Ended old new consumed cause none st is within =
-    ap (λ bytes. replayed 1 0 (pieces_of 10 bytes) Ended before_all)
+    → (st : Status) → status_of (replayed 1 0 (pieces_of 10 taken) how (before_all c)) ≡ Some st
+    → IsWithinLimits (status_of (replayed 1 0 (pieces_of 10 all) Ended (before_all c)))
+    → replayed 1 0 (pieces_of 10 taken) how (before_all c) ≡ replayed 1 0 (pieces_of 10 all) Ended (before_all c)
+replay-whole c all taken Ended old new consumed cause none st is within =
+    ap (λ bytes. replayed 1 0 (pieces_of 10 bytes) Ended (before_all c))
     (sym (all-taken new.left all taken consumed cause.0))
-replay-whole all taken Failed old new consumed cause none st is within = absurd (omega (arith, cause, none))
-replay-whole all taken Open old new consumed cause none st is within =
+replay-whole c all taken Failed old new consumed cause none st is within = absurd (omega (arith, cause, none))
+replay-whole c all taken Open old new consumed cause none st is within =
     let front = front-taken new.left all taken consumed in
     let begin : Begin (pieces_of 10 taken) (pieces_of 10 all) =
     subst (λ bytes. Begin (pieces_of 10 taken) (pieces_of 10 bytes)) (sym front.1) (pieces-begin taken front.0) in
-    let found = has-found (replayed 1 0 (pieces_of 10 taken) Open before_all) st is in
-    front-whole (pieces_of 10 taken) (pieces_of 10 all) begin 1 0 before_all found.0 found.1 within
+    let found = has-found (replayed 1 0 (pieces_of 10 taken) Open (before_all c)) st is in
+    front-whole (pieces_of 10 taken) (pieces_of 10 all) begin 1 0 (before_all c) found.0 found.1 within
 
 -- ---- a command
 
@@ -215,8 +218,8 @@ command-whole : (c : Option Command) (all taken : List ℕ) (how : Ending) (old 
     → IsWithinLimits (status_of (outcome_of c all Ended)) → outcome_of c taken how ≡ outcome_of c all Ended
 command-whole None all taken how old new consumed cause none has st is within = refl
 command-whole (Some (Replay report)) all taken how old new consumed cause none has st is within =
-    replay-whole all taken how old new (subst (λ left. Consumes left new.left taken) (has refl)
-    consumed) cause none st is within
+    replay-whole (companion_for (Some (Replay report))) all taken how old new
+    (subst (λ left. Consumes left new.left taken) (has refl) consumed) cause none st is within
 command-whole (Some (Generate seed replicas lines)) all taken how old new consumed cause none has st is within = refl
 command-whole (Some (Trial seed replicas lines)) all taken how old new consumed cause none has st is within = refl
 

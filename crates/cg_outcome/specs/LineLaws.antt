@@ -1,8 +1,10 @@
 -- The lines of an input, one after the other.
-use Rattle.std.proofs.Common.{◌≡◌, ℕ, ◌+◌, List, [], ◌∷◌, length, false, refl, sym, ◌∙◌, Option, Some, Result, Ok}
+use Rattle.std.proofs.Common.{◌≡◌, ℕ, ◌+◌, List, [], ◌∷◌, length, false, refl, sym, ap, ◌∙◌, Option, Some, None, Result, Ok}
 use Rattle.std.proofs.lemmas.Bool.{true≢false}
 use Rattle.cg_base.specs.Text.{is_nil}
-use Rattle.cg_outcome.specs.Outcome.{Ending, read_outcome, line_outcome, whole_line, replayed}
+use Rattle.cg_outcome.specs.declared.companion.Further.{Further}
+use Rattle.cg_outcome.specs.Companion.{further_reading, in_place}
+use Rattle.cg_outcome.specs.Outcome.{Ending, read_outcome, further_outcome, line_outcome, whole_line, replayed}
 use Rattle.cg_outcome.specs.Produced.{Progress, and_then}
 use Rattle.cg_schedule.specs.declared.fault.LineFault.{LineFault}
 use Rattle.cg_schedule.specs.declared.word.Word.{Word}
@@ -17,12 +19,21 @@ pub replayed-more : (n at : ℕ) (line : List ℕ) (rest : List (List ℕ)) (how
 replayed-more n at line [] how s more = absurd (true≢false more)
 replayed-more n at line (next ∷ others) how s more = refl
 
+-- a line as one of the command's own events, as none of them, or as neither
+pub line-further : (n : ℕ) (line : List ℕ) (s : Progress) (r : Result (Option Further) LineFault) →
+    in_place s.reader (further_reading s.companion line) ≡ r → line_outcome n line s ≡ further_outcome n r line s
+unfolding line_outcome
+line-further n line s r is = ap (λ r. further_outcome n r line s) is
+
+-- the command has none of its own here
+abbrev pub IsPlain : List ℕ → Progress → Type 0
+IsPlain line s = in_place s.reader (further_reading s.companion line) ≡ Ok None
+
 -- a line that begins so
 pub line-opened : (n : ℕ) (line : List ℕ) (s : Progress) (r : Result (Option (Word × List (List ℕ))) LineFault) →
-    opening s.reader line ≡ r
-    → line_outcome n line s ≡ read_outcome n (reading_behind r) s
-unfolding line_outcome
-line-opened n line s r is = rw is refl
+    IsPlain line s → opening s.reader line ≡ r → line_outcome n line s ≡ read_outcome n (reading_behind r) s
+line-opened n line s r plain is =
+    line-further n line s (Ok None) plain ∙ ap (λ o. read_outcome n (reading_behind o) s) is
 
 -- a line that begins with a word
 pub word-read : (n : ℕ) (word : Word) (tokens : List (List ℕ)) (s : Progress)
@@ -32,5 +43,5 @@ unfolding word_outcome
 word-read n word tokens s = refl
 
 pub line-word : (n : ℕ) (line : List ℕ) (s : Progress) (o : Word × List (List ℕ)) →
-    opening s.reader line ≡ Ok (Some o) → line_outcome n line s ≡ word_outcome n o.0 o.1 s
-line-word n line s o is = line-opened n line s (Ok (Some o)) is ∙ sym (word-read n o.0 o.1 s)
+    IsPlain line s → opening s.reader line ≡ Ok (Some o) → line_outcome n line s ≡ word_outcome n o.0 o.1 s
+line-word n line s o plain is = line-opened n line s (Ok (Some o)) plain is ∙ sym (word-read n o.0 o.1 s)

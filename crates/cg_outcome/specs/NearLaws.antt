@@ -7,13 +7,15 @@ use Rattle.std.proofs.Math.Seq.{take-append-add}
 use Rattle.cg_base.specs.Text.{pieces_of, is_nil}
 use Rattle.cg_io.specs.Outside.{SourceView, SinkView}
 use Rattle.cg_outcome.specs.declared.command.Command.{Command}
-use Rattle.cg_outcome.specs.declared.command.Command.TheVariants.{Replay, Generate, Trial}
-use Rattle.cg_outcome.specs.Outcome.{Ending, Ended, Failed, Open, limit_of, unless_passed, line_outcome, whole_line, at_end, cut_line, last_piece, replayed, outcome_of, text_put}
+use Rattle.cg_outcome.specs.declared.command.Command.TheVariants.{Generate, Trial}
+use Rattle.cg_outcome.specs.declared.companion.Companion.{Companion}
+use Rattle.cg_outcome.specs.Outcome.{Ending, Ended, Failed, Open, limit_of, unless_passed, line_outcome, whole_line, at_end, cut_line, last_piece, replayed, companion_for, outcome_of, text_put}
 use Rattle.cg_outcome.specs.Produced.{Progress, Finding, Produced, before_all, status_of, ended_with, and_then}
 use Rattle.cg_outcome.specs.declared.status.Limit.{Limit}
 use Rattle.cg_outcome.specs.declared.status.Status.{Status}
 use Rattle.cg_outcome.specs.declared.status.Status.TheVariants as status
-use Rattle.cg_outcome.specs.Taking.{most_taken, most_at_once, InTime, Runs, found_in, end_of_line}
+use Rattle.cg_outcome.specs.Commands.{reads_input}
+use Rattle.cg_outcome.specs.Taking.{most_taken, most_at_once, InTime, ShowsShort, Runs, found_in, end_of_line}
 use Rattle.cg_outcome.specs.Streaming.{IsUnended, OfTaken, Ends}
 use Rattle.cg_outcome.specs.FeedLaws.{line_first, first_unended, some_piece}
 use Rattle.cg_outcome.specs.GoingOnLaws.{and_then-none, and_then-some}
@@ -239,15 +241,16 @@ none-found p k e none =
     sym (ap (λ (found : Option Finding). line_of (status_of (record p { found = found }))) none) ∙ e in
     cc
 
-replay-near : (taken : List ℕ) (how : Ending) (k : ℕ) →
-    line_of (status_of (replayed 1 0 (pieces_of 10 taken) how before_all)) ≡ Some k
+replay-near : (c : Companion) (taken : List ℕ) (how : Ending) (k : ℕ) →
+    line_of (status_of (replayed 1 0 (pieces_of 10 taken) how (before_all c))) ≡ Some k
     → end_of_line k (pieces_of 10 taken) < length taken
-    → (replayed 1 0 (pieces_of 10 (take (end_of_line k (pieces_of 10 taken)) taken)) Open before_all).found ≡ None → ⊥
-replay-near taken how k e lt none =
-    let c = cut-at k taken lt in
-    early 1 0 c.ls c.rest how before_all k c.some (omega (arith, c.long))
-    (subst (λ ps. line_of (status_of (replayed 1 0 ps how before_all)) ≡ Some k) c.whole e)
-    (subst (λ ps. (replayed 1 0 ps Open before_all).found ≡ None) c.front none)
+    → (replayed 1 0 (pieces_of 10 (take (end_of_line k (pieces_of 10 taken)) taken)) Open (before_all c)).found ≡ None
+    → ⊥
+replay-near c taken how k e lt none =
+    let cut = cut-at k taken lt in
+    early 1 0 cut.ls cut.rest how (before_all c) k cut.some (omega (arith, cut.long))
+    (subst (λ ps. line_of (status_of (replayed 1 0 ps how (before_all c))) ≡ Some k) cut.whole e)
+    (subst (λ ps. (replayed 1 0 ps Open (before_all c)).found ≡ None) cut.front none)
 
 pub near : (c : Option Command) (taken : List ℕ) (how : Ending) (v v' : SinkView) (st : Status) →
     Ends c (outcome_of c taken how) v v' st
@@ -266,16 +269,16 @@ near c taken how v v' st ended in_time k f =
           → (outcome_of c (take (end_of_line k (pieces_of 10 taken)) taken) Open).found ≡ None →
           end_of_line k (pieces_of 10 taken) < length taken → ⊥
       by_command None e none lt = cc
-      by_command (Some (Replay report)) e none lt = replay-near taken how k e lt none
       by_command (Some (Generate seed replicas lines)) e none lt = cc
       by_command (Some (Trial seed replicas lines)) e none lt =
           none-found (outcome_of (Some (Trial seed replicas lines)) taken how) k e none
+      by_command other e none lt = replay-near (companion_for other) taken how k e lt none
 
 -- ---- a command
 
 pub Runs-near : (c : Option Command) (old new : SourceView) (v v' : SinkView) (st : Status)
     → OfTaken old new (λ taken how. (length taken ≤ most_taken) × Ends c (outcome_of c taken how) v v' st
-    × InTime (text_put c) (λ front. outcome_of c front Open) taken v v')
+    × InTime (text_put c) (λ front. outcome_of c front Open) taken v v' × ShowsShort c (outcome_of c taken how) st)
     → Runs c old new v v' st
 Runs-near c old new v v' st r = record {
   taken = r.taken;
@@ -285,17 +288,18 @@ Runs-near c old new v v' st r = record {
   most = r.holds.0;
   ends = r.holds.1;
   in_time = r.holds.2;
+  short = r.holds.3;
   near = near c r.taken r.ending v v' st r.holds.1 r.holds.2;
 }
 
 -- a command that reads no input takes nothing
 pub Runs-nothing : (c : Option Command) (old : SourceView) (v v' : SinkView) (st : Status) →
-    Ends c (outcome_of c [] Open) v v' st → Runs c old old v v' st
-Runs-nothing c old v v' st ended =
+    reads_input c ≡ false → Ends c (outcome_of c [] Open) v v' st → Runs c old old v v' st
+Runs-nothing c old v v' st none ended =
     Runs-near c old old v v' st (record {
       taken = [];
       ending = Open;
       consumed = Consumes-none old.left;
       cause = refl;
-      holds = (omega arith, ended, λ m lt. absurd (omega (arith, lt)));
+      holds = (omega arith, ended, λ m lt. absurd (omega (arith, lt)), λ reads. absurd (true≢false (sym reads ∙ none)));
     })

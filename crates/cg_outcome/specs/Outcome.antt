@@ -3,18 +3,23 @@ use Rattle.std.specs.Prelude.{ℕ, ◌+◌, ◌-◌, nat_lt, nat_eq, take, Resul
 use Rattle.std.specs.Option.{option_map_or}
 use Rattle.cg_base.specs.Text.{pieces_of}
 use Rattle.std.specs.List.{ends_with}
+use Rattle.cg_outcome.specs.declared.limits.TheConstants.{INPUT_BYTES, LINES, LINE_BYTES}
 use Rattle.cg_schedule.specs.declared.event.Event.{Event}
 use Rattle.cg_schedule.specs.declared.fault.LineFault.{LineFault}
 use Rattle.cg_schedule.specs.declared.fault.LineFault.TheVariants.{Syntax, NoMemory}
 use Rattle.cg_schedule.specs.Fault.{syntax_number}
 use Rattle.cg_schedule.specs.Line.{reading, state_after}
-use Rattle.cg_outcome.specs.Produced.{Progress, Produced, before_all, went_on, ended_with, and_then, text_of}
+use Rattle.cg_outcome.specs.Produced.{Progress, Produced, before_all, went_on, ended_with, and_then, text_of, one_further}
 use Rattle.cg_outcome.specs.declared.status.Status.TheVariants as status
 use Rattle.cg_outcome.specs.declared.status.Limit.{Limit}
 use Rattle.cg_outcome.specs.declared.status.Limit.TheVariants as limit
 use Rattle.cg_outcome.specs.declared.command.Command.{Command}
 use Rattle.cg_outcome.specs.declared.command.Command.TheVariants.{Replay, Generate, Trial}
 use Rattle.cg_outcome.specs.declared.report.Report.TheVariants.{Whole}
+use Rattle.cg_outcome.specs.declared.companion.Companion.{Companion}
+use Rattle.cg_outcome.specs.declared.companion.Companion.TheVariants.{Alone}
+use Rattle.cg_outcome.specs.declared.companion.Further.{Further}
+use Rattle.cg_outcome.specs.Companion.{further_reading, in_place}
 use Rattle.cg_outcome.specs.Commands.{command_of}
 use Rattle.cg_gen.specs.Generated.{generated}
 use Rattle.cg_gen.specs.Lines.{lines_of}
@@ -42,9 +47,15 @@ read_outcome n (Ok None) s = went_on s
 read_outcome n (Ok (Some event)) s = happened n event (record s { reader = state_after s.reader event })
 read_outcome n (Err fault) s = unreadable n fault s
 
+-- what line n comes to, as one of the command's own events, or else as one of the schedule
+abbrev pub further_outcome : ℕ → Result (Option Further) LineFault → List ℕ → Progress → Produced
+further_outcome n (Ok None) line s = read_outcome n (reading s.reader line) s
+further_outcome n (Ok (Some e)) line s = one_further n e s
+further_outcome n (Err fault) line s = unreadable n fault s
+
 -- what line n comes to, without its end
 unfoldable pub line_outcome : ℕ → List ℕ → Progress → Produced
-line_outcome n line s = read_outcome n (reading s.reader line) s
+line_outcome n line s = further_outcome n (in_place s.reader (further_reading s.companion line)) line s
 
 -- a line without the carriage return before its line feed
 abbrev pub without_return : List ℕ → List ℕ
@@ -53,9 +64,9 @@ without_return line = if ends_with nat_eq line (codes "\r") then take (length li
 -- the limit that line n passes, with its length and the offset at which it ends
 abbrev pub limit_of : ℕ → ℕ → ℕ → Option Limit
 limit_of n len end =
-    if nat_lt 32768 len then Some limit.Line
-    else if nat_lt 8388608 end then Some limit.Input
-    else if nat_lt 200000 n then Some limit.Lines
+    if nat_lt LINE_BYTES len then Some limit.Line
+    else if nat_lt INPUT_BYTES end then Some limit.Input
+    else if nat_lt LINES n then Some limit.Lines
     else None
 
 -- unless a limit was passed
@@ -115,12 +126,17 @@ trial_end other lines steps totals = tail_text other steps lines
 abbrev pub trial_text : Produced → List ℕ
 trial_text p = option_map_or (λ f. trial_end f.status f.lines p.progress.count p.progress.totals) p.found []
 
+-- what a command keeps beside the world at first
+abbrev pub companion_for : Option Command → Companion
+companion_for other = Alone
+
 -- what a command comes to; without one the run tells how it is used
 abbrev pub outcome_of : Option Command → List ℕ → Ending → Produced
-outcome_of None taken how = ended_with status.Usage 0 before_all
-outcome_of (Some (Replay report)) taken how = replayed 1 0 (pieces_of 10 taken) how before_all
-outcome_of (Some (Generate seed replicas lines)) taken how = ended_with status.Done 0 before_all
-outcome_of (Some (Trial seed replicas lines)) taken how = performed 0 (generated seed replicas lines) before_all
+outcome_of None taken how = ended_with status.Usage 0 (before_all Alone)
+outcome_of (Some (Generate seed replicas lines)) taken how = ended_with status.Done 0 (before_all Alone)
+outcome_of (Some (Trial seed replicas lines)) taken how =
+    performed 0 (generated seed replicas lines) (before_all Alone)
+outcome_of command taken how = replayed 1 0 (pieces_of 10 taken) how (before_all (companion_for command))
 
 -- the whole run
 abbrev pub outcome : List (List ℕ) → List ℕ → Ending → Produced

@@ -1,5 +1,5 @@
 -- What the event of a line comes to: one step, or the passes that it asks for; the end is no step.
-use Rattle.std.specs.Prelude.{ℕ, zero, suc, ◌==◌, List, [], ◌∷◌, if◌then◌else◌}
+use Rattle.std.specs.Prelude.{ℕ, zero, suc, ◌==◌, List, [], ◌∷◌, None, if◌then◌else◌}
 use Rattle.cg_group.specs.Ready.{ready}
 use Rattle.cg_schedule.specs.declared.event.Event.{Event}
 use Rattle.cg_schedule.specs.declared.event.Event.TheVariants.{Gather, Deliver, Rounds, End}
@@ -8,7 +8,8 @@ use Rattle.cg_outcome.specs.Produced.{Progress, Produced, went_on, and_then, one
 
 -- what is ready at a replica is handed to it
 abbrev pub deliver_ready : ℕ → ℕ → Progress → Produced
-deliver_ready n p s = if ready s.world.group p == 0 then went_on s else one_step n (Deliver p (ready s.world.group p)) s
+deliver_ready n p s = if ready s.world.group p == 0 then went_on s
+    else one_step n None (Deliver p (ready s.world.group p)) s
 
 -- what is ready at each of these replicas, when its turn comes
 abbrev pub deliveries : ℕ → List ℕ → Progress → Produced
@@ -17,7 +18,7 @@ deliveries n (p ∷ set) s = and_then (deliver_ready n p s) (deliveries n set)
 
 -- all messages are gathered, and then each replica that was up before is handed what is ready when its turn comes
 abbrev pub one_pass : ℕ → Progress → Produced
-one_pass n s = and_then (one_step n Gather s) (deliveries n (up_replicas s.world))
+one_pass n s = and_then (one_step n None Gather s) (deliveries n (up_replicas s.world))
 
 -- so many passes
 abbrev pub passes : ℕ → ℕ → Progress → Produced
@@ -28,4 +29,4 @@ passes n (suc count) s = and_then (one_pass n s) (passes n count)
 unfoldable pub happened : ℕ → Event → Progress → Produced
 happened n End s = went_on s
 happened n (Rounds count) s = passes n count s
-happened n other s = one_step n other s
+happened n other s = one_step n None other s

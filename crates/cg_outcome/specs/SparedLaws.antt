@@ -1,5 +1,6 @@
 -- A run says that its input failed only where the taking ended so, and that its output failed only where a put did.
 use Rattle.std.proofs.Common.{◌≡◌, ℕ, zero, suc, ◌+◌, ◌==◌, ◌-◌, nat_lt, List, [], ◌∷◌, Bool, true, false, length, Option, Some, None, refl, sym, ap, subst, ◌∙◌, Result, Ok, Err}
+use Rattle.std.specs.Option.{option_map_or}
 use Rattle.std.proofs.lemmas.Bool.{false≢true, eq-eqb, cond_both}
 use Rattle.cg_base.specs.Text.{pieces_of}
 use Rattle.cg_group.specs.declared.reason.Reason.{Reason}
@@ -14,11 +15,15 @@ use Rattle.cg_schedule.specs.Print.{line_of}
 use Rattle.cg_model.specs.World.{up_replicas}
 use Rattle.cg_model.specs.Admission.{first_refusal}
 use Rattle.cg_model.specs.Step.{world_step}
-use Rattle.cg_model.specs.Run.{step_limit}
-use Rattle.cg_outcome.specs.Outcome.{Ending, Ended, Failed, Open, performed, unreadable, read_outcome, line_outcome, without_return, limit_of, unless_passed, whole_line, at_end, cut_line, last_piece, replayed, outcome_of}
+use Rattle.cg_model.specs.Run.{Step, step_limit}
+use Rattle.cg_outcome.specs.Outcome.{Ending, Ended, Failed, Open, performed, unreadable, read_outcome, further_outcome, line_outcome, without_return, limit_of, unless_passed, whole_line, at_end, cut_line, last_piece, replayed, companion_for, outcome_of}
 use Rattle.cg_outcome.specs.declared.command.Command.{Command}
-use Rattle.cg_outcome.specs.declared.command.Command.TheVariants.{Replay, Generate, Trial}
-use Rattle.cg_outcome.specs.Produced.{Progress, Finding, Produced, before_all, status_of, went_on, ended_with, and_then, unless_refused, one_step}
+use Rattle.cg_outcome.specs.declared.command.Command.TheVariants.{Generate, Trial}
+use Rattle.cg_outcome.specs.declared.companion.Companion.TheVariants.{Alone}
+use Rattle.cg_outcome.specs.declared.companion.Further.{Further}
+use Rattle.cg_outcome.specs.Companion.{Noted, further_reading, in_place, further_refusal, event_of, acts, follows}
+use Rattle.cg_outcome.specs.Items.{Item}
+use Rattle.cg_outcome.specs.Produced.{Progress, Finding, Produced, before_all, status_of, went_on, ended_with, and_then, counted, unless_refused, one_step, acted, unless_further_refused, one_further}
 use Rattle.cg_outcome.specs.Totals.{with_entry}
 use Rattle.cg_gen.specs.Generated.{generated}
 use Rattle.cg_outcome.specs.declared.status.Status.{Status}
@@ -58,30 +63,55 @@ IsInLine-and_then n p more first next = by_finding p.found refl where
   by_finding None e = rw e (next p.progress)
   by_finding (Some f) e = let alone : and_then p more ≡ p = rw e refl in rw alone first
 
-IsInLine-stepped : (n : ℕ) (event : Event) (s : Progress) → IsInLine n (unless_refused None n event s)
-IsInLine-stepped n event s =
-    let m = world_step s.world event in
-    cond_both (nat_lt s.count step_limit)
-    (record {
-      steps = record { number = s.count + 1; event = event; entry = m.entry; world = m.world } ∷ [];
-      found = None;
-      progress = record s { world = m.world; count = s.count + 1; totals = with_entry s.totals m.entry };
-    })
+IsInLine-counted : (n : ℕ) (item : Item) (next s : Progress) → IsInLine n (counted n item next s)
+IsInLine-counted n item next s =
+    cond_both (nat_lt s.count step_limit) (record { items = item ∷ []; found = None; progress = next })
     (ended_with (status.Limit n Steps) n s) (IsInLine n) (λ y. refl) (λ y. same n)
 
-IsInLine-unless_refused : (o : Option Reason) (n : ℕ) (event : Event) (s : Progress) →
-    IsInLine n (unless_refused o n event s)
-IsInLine-unless_refused None n event s = IsInLine-stepped n event s
-IsInLine-unless_refused (Some reason) n event s = same n
+IsInLine-stepped : (n : ℕ) (asked : Option Further) (event : Event) (s : Progress) →
+    IsInLine n (unless_refused None n asked event s)
+IsInLine-stepped n asked event s =
+    let m = world_step s.world event in
+    let step : Step = record { event = event; entry = m.entry; world = m.world } in
+    let noted = follows s.companion asked step in
+    IsInLine-counted n (record { number = s.count + 1; further = asked; step = Some step; lines = noted.lines })
+    (record s {
+      world = m.world;
+      companion = noted.companion;
+      count = s.count + 1;
+      totals = with_entry s.totals m.entry;
+    }) s
 
-IsInLine-one_step : (n : ℕ) (event : Event) (s : Progress) → IsInLine n (one_step n event s)
-IsInLine-one_step n event s = IsInLine-unless_refused (first_refusal s.world event) n event s
+IsInLine-unless_refused : (o : Option Reason) (n : ℕ) (asked : Option Further) (event : Event) (s : Progress) →
+    IsInLine n (unless_refused o n asked event s)
+IsInLine-unless_refused None n asked event s = IsInLine-stepped n asked event s
+IsInLine-unless_refused (Some reason) n asked event s = same n
+
+IsInLine-one_step : (n : ℕ) (asked : Option Further) (event : Event) (s : Progress) →
+    IsInLine n (one_step n asked event s)
+IsInLine-one_step n asked event s = IsInLine-unless_refused (first_refusal s.world event) n asked event s
+
+IsInLine-acted : (n : ℕ) (e : Further) (noted : Noted) (s : Progress) → IsInLine n (acted n e noted s)
+IsInLine-acted n e noted s =
+    IsInLine-counted n (record { number = s.count + 1; further = Some e; step = None; lines = noted.lines })
+    (record s { companion = noted.companion; count = s.count + 1 }) s
+
+IsInLine-one_further : (n : ℕ) (e : Further) (s : Progress) → IsInLine n (one_further n e s)
+IsInLine-one_further n e s = by_refusal (further_refusal s.world s.companion e) where
+  by_event : (o : Option Event) →
+      IsInLine n (option_map_or (λ event. one_step n (Some e) event s) o (acted n e (acts s.world s.companion e) s))
+  by_event None = IsInLine-acted n e (acts s.world s.companion e) s
+  by_event (Some event) = IsInLine-one_step n (Some e) event s
+
+  by_refusal : (o : Option Reason) → IsInLine n (unless_further_refused o n e s)
+  by_refusal None = by_event (event_of e)
+  by_refusal (Some reason) = same n
 
 IsInLine-deliver_ready : (n p : ℕ) (s : Progress) → IsInLine n (deliver_ready n p s)
 IsInLine-deliver_ready n p s =
-    cond_both (ready s.world.group p == 0) (went_on s) (one_step n (Deliver p (ready s.world.group p)) s)
+    cond_both (ready s.world.group p == 0) (went_on s) (one_step n None (Deliver p (ready s.world.group p)) s)
     (IsInLine n) (λ y. refl)
-    (λ y. IsInLine-one_step n (Deliver p (ready s.world.group p)) s)
+    (λ y. IsInLine-one_step n None (Deliver p (ready s.world.group p)) s)
 
 IsInLine-deliveries : (n : ℕ) (set : List ℕ) (s : Progress) → IsInLine n (deliveries n set s)
 IsInLine-deliveries n [] s = refl
@@ -94,14 +124,14 @@ IsInLine-passes n zero s = refl
 IsInLine-passes n (suc count) s =
     IsInLine-and_then n (one_pass n s) (passes n count) pass (λ s. IsInLine-passes n count s) where
       pass : IsInLine n (one_pass n s)
-      pass = IsInLine-and_then n (one_step n Gather s) (deliveries n (up_replicas s.world)) (IsInLine-one_step n Gather s)
-          (IsInLine-deliveries n (up_replicas s.world))
+      pass = IsInLine-and_then n (one_step n None Gather s) (deliveries n (up_replicas s.world))
+          (IsInLine-one_step n None Gather s) (IsInLine-deliveries n (up_replicas s.world))
 
 IsInLine-happened : (n : ℕ) (event : Event) (s : Progress) → IsInLine n (happened n event s)
 unfolding happened
 IsInLine-happened n End s = refl
 IsInLine-happened n (Rounds count) s = IsInLine-passes n count s
-IsInLine-happened n other s = IsInLine-one_step n other s
+IsInLine-happened n other s = IsInLine-one_step n None other s
 
 IsInLine-unreadable : (n : ℕ) (fault : LineFault) (s : Progress) → IsInLine n (unreadable n fault s)
 IsInLine-unreadable n (Syntax reason) s = same n
@@ -112,9 +142,15 @@ IsInLine-read n (Ok None) s = refl
 IsInLine-read n (Ok (Some event)) s = IsInLine-happened n event (record s { reader = state_after s.reader event })
 IsInLine-read n (Err fault) s = IsInLine-unreadable n fault s
 
+IsInLine-further : (n : ℕ) (r : Result (Option Further) LineFault) (line : List ℕ) (s : Progress) →
+    IsInLine n (further_outcome n r line s)
+IsInLine-further n (Ok None) line s = IsInLine-read n (reading s.reader line) s
+IsInLine-further n (Ok (Some e)) line s = IsInLine-one_further n e s
+IsInLine-further n (Err fault) line s = IsInLine-unreadable n fault s
+
 pub IsInLine-line : (n : ℕ) (line : List ℕ) (s : Progress) → IsInLine n (line_outcome n line s)
 unfolding line_outcome
-IsInLine-line n line s = IsInLine-read n (reading s.reader line) s
+IsInLine-line n line s = IsInLine-further n (in_place s.reader (further_reading s.companion line)) line s
 
 IsInLine-unless_passed : (o : Option Limit) (n : ℕ) (s : Progress) (p : Produced) → IsInLine n p →
     IsInLine n (unless_passed o n s p)
@@ -201,10 +237,11 @@ Spares-performed gone (event ∷ events) s =
 module _ (how : Ending) (not_failed : how ≡ Failed → ⊥) where
   Spares-outcome : (c : Option Command) (taken : List ℕ) → Spares (outcome_of c taken how)
   Spares-outcome None taken = λ e. cc
-  Spares-outcome (Some (Replay report)) taken = Spares-replayed how not_failed 1 0 (pieces_of 10 taken) before_all
   Spares-outcome (Some (Generate seed replicas lines)) taken = λ e. cc
   Spares-outcome (Some (Trial seed replicas lines)) taken =
-      Spares-performed 0 (generated seed replicas lines) before_all
+      Spares-performed 0 (generated seed replicas lines) (before_all Alone)
+  Spares-outcome other taken =
+      Spares-replayed how not_failed 1 0 (pieces_of 10 taken) (before_all (companion_for other))
 
 -- no take failed where the taking ended in another way
 none-failed : (how : Ending) (old new : SourceView) → HasCause how old new →

@@ -4,11 +4,12 @@ use Rattle.std.proofs.lemmas.Bool.{le-ltb, ltb-false, cases_lt}
 use Rattle.std.proofs.lemmas.List.{append-nil, take-append-le, take_all, length-take}
 use Rattle.std.proofs.lemmas.List.Elements.{All-append, All-take}
 use Rattle.std.proofs.Math.Seq.{take-append-add}
+use Rattle.cg_outcome.specs.declared.limits.TheConstants.{INPUT_BYTES, LINES, LINE_BYTES}
 use Rattle.cg_base.specs.Text.{pieces_of}
 use Rattle.cg_io.specs.Outside.{SinkView}
-use Rattle.cg_model.specs.Run.{Step}
+use Rattle.cg_outcome.specs.Items.{Item}
 use Rattle.cg_outcome.specs.Outcome.{Ending, Ended, Failed, Open, limit_of, whole_line, at_end, last_piece, replayed}
-use Rattle.cg_outcome.specs.Produced.{Progress, Produced, report_in, prepend, went_on, ended_with, and_then}
+use Rattle.cg_outcome.specs.Produced.{Progress, Produced, prepend, went_on, ended_with, and_then}
 use Rattle.cg_outcome.specs.declared.report.Report.{Report}
 use Rattle.cg_outcome.specs.Streaming.{Stage, from_stage, IsUnended, held_limit, IsStage, IsHeld, IsMade, Passes, EndsLine, GoesThrough, HoldsRest, TakesUp}
 use Rattle.cg_outcome.specs.declared.status.Limit.{Limit}
@@ -16,41 +17,41 @@ use Rattle.cg_outcome.specs.declared.status.Limit.TheVariants as limit
 use Rattle.cg_outcome.specs.declared.status.Status.{Status}
 use Rattle.cg_outcome.specs.declared.status.Status.TheVariants as status
 use Rattle.cg_outcome.specs.FeedLaws.{one_piece, line_first, line_before, first_unended, some_piece}
-use Rattle.cg_outcome.specs.GoingOnLaws.{GoesOn-stop, Stopped-and_then, Puts-none, Puts-twice, and_then-none, report_in-append}
+use Rattle.cg_outcome.specs.GoingOnLaws.{GoesOn-stop, Stopped-and_then, Shows-none, Shows-twice, and_then-none}
 use Rattle.cg_outcome.specs.LineLaws.{replayed-more}
 use Rattle.cg_outcome.specs.Stopping.{Stopped, GoesOn}
 
 -- ---- limits
 
-pub limit-none : (n len end : ℕ) → limit_of n len end ≡ None → (len ≤ 32768) × (end ≤ 8388608) × (n ≤ 200000)
-limit-none n len end none = by_line (nat_lt 32768 len) refl none where
-  by_lines : (t : Bool) → nat_lt 200000 n ≡ t → cond t (Some limit.Lines) None ≡ None → n ≤ 200000
+pub limit-none : (n len end : ℕ) → limit_of n len end ≡ None → (len ≤ LINE_BYTES) × (end ≤ INPUT_BYTES) × (n ≤ LINES)
+limit-none n len end none = by_line (nat_lt LINE_BYTES len) refl none where
+  by_lines : (t : Bool) → nat_lt LINES n ≡ t → cond t (Some limit.Lines) None ≡ None → n ≤ LINES
   by_lines true e none = absurd (cc)
-  by_lines false e none = ltb-false 200000 n e
+  by_lines false e none = ltb-false LINES n e
 
-  by_input : (t : Bool) → nat_lt 8388608 end ≡ t →
-      cond t (Some limit.Input) (cond (nat_lt 200000 n) (Some limit.Lines) None) ≡ None → (end ≤ 8388608) × (n ≤ 200000)
+  by_input : (t : Bool) → nat_lt INPUT_BYTES end ≡ t →
+      cond t (Some limit.Input) (cond (nat_lt LINES n) (Some limit.Lines) None) ≡ None → (end ≤ INPUT_BYTES) × (n ≤ LINES)
   by_input true e none = absurd (cc)
-  by_input false e none = (ltb-false 8388608 end e, by_lines (nat_lt 200000 n) refl none)
+  by_input false e none = (ltb-false INPUT_BYTES end e, by_lines (nat_lt LINES n) refl none)
 
-  by_line : (t : Bool) → nat_lt 32768 len ≡ t
-      → cond t (Some limit.Line) (cond (nat_lt 8388608 end) (Some limit.Input)
-      (cond (nat_lt 200000 n) (Some limit.Lines) None)) ≡ None
-      → (len ≤ 32768) × (end ≤ 8388608) × (n ≤ 200000)
+  by_line : (t : Bool) → nat_lt LINE_BYTES len ≡ t
+      → cond t (Some limit.Line) (cond (nat_lt INPUT_BYTES end) (Some limit.Input)
+      (cond (nat_lt LINES n) (Some limit.Lines) None)) ≡ None
+      → (len ≤ LINE_BYTES) × (end ≤ INPUT_BYTES) × (n ≤ LINES)
   by_line true e none = absurd (cc)
-  by_line false e none = let more = by_input (nat_lt 8388608 end) refl none in (ltb-false 32768 len e, more.0, more.1)
+  by_line false e none = let more = by_input (nat_lt INPUT_BYTES end) refl none in (ltb-false LINE_BYTES len e, more.0, more.1)
 
-pub none-limit : (n len end : ℕ) → len ≤ 32768 → end ≤ 8388608 → n ≤ 200000 → limit_of n len end ≡ None
-none-limit n len end short within few = rw (le-ltb 32768 len short, le-ltb 8388608 end within, le-ltb 200000 n few) refl
+pub none-limit : (n len end : ℕ) → len ≤ LINE_BYTES → end ≤ INPUT_BYTES → n ≤ LINES → limit_of n len end ≡ None
+none-limit n len end short within few = rw (le-ltb LINE_BYTES len short, le-ltb INPUT_BYTES end within, le-ltb LINES n few) refl
 
-none-held : (n at : ℕ) (held : List ℕ) → length held ≤ 32768 → at + length held ≤ 8388608 → n ≤ 200000 →
+none-held : (n at : ℕ) (held : List ℕ) → length held ≤ LINE_BYTES → at + length held ≤ INPUT_BYTES → n ≤ LINES →
     held_limit n at held ≡ None
 none-held n at [] short within few = refl
 none-held n at (b ∷ bs) short within few = none-limit n (length (b ∷ bs)) (at + length (b ∷ bs)) short within few
 
 -- what is held passes no limit, and so no front of it does
-pub held-within : (n at : ℕ) (held : List ℕ) → at ≤ 8388608 → held_limit n at held ≡ None →
-    (length held ≤ 32768) × (at + length held ≤ 8388608)
+pub held-within : (n at : ℕ) (held : List ℕ) → at ≤ INPUT_BYTES → held_limit n at held ≡ None →
+    (length held ≤ LINE_BYTES) × (at + length held ≤ INPUT_BYTES)
 held-within n at [] within none = (omega arith, omega arith)
 held-within n at (b ∷ bs) within none = let found =
     limit-none n (length (b ∷ bs)) (at + length (b ∷ bs)) none in (found.0, found.1)
@@ -114,33 +115,33 @@ from-line st line more how is =
 
 -- ---- what was made
 
-pub IsMade-went_on : (s : Progress) (made : List Step) → IsMade (went_on s) made
+pub IsMade-went_on : (s : Progress) (made : List Item) → IsMade (went_on s) made
 IsMade-went_on s made = record { none = refl; later = made; front = refl }
 
-pub IsMade-longer : (p : Produced) (made more : List Step) → IsMade p made → IsMade p (made ++ more)
+pub IsMade-longer : (p : Produced) (made more : List Item) → IsMade p made → IsMade p (made ++ more)
 IsMade-longer p made more is =
     record {
       none = is.none;
       later = is.later ++ more;
-      front = ap (λ (s : List Step). s ++ more) is.front ∙ append_assoc p.steps is.later more;
+      front = ap (λ (items : List Item). items ++ more) is.front ∙ append_assoc p.items is.later more;
     }
 
-pub IsMade-prepend : (p : Produced) (made more : List Step) → IsMade p more → IsMade (prepend made p) (made ++ more)
+pub IsMade-prepend : (p : Produced) (made more : List Item) → IsMade p more → IsMade (prepend made p) (made ++ more)
 IsMade-prepend p made more is =
     record {
       none = is.none;
       later = is.later;
-      front = ap (λ (s : List Step). made ++ s) is.front
-          ∙ sym (append_assoc made p.steps is.later);
+      front = ap (λ (items : List Item). made ++ items) is.front
+          ∙ sym (append_assoc made p.items is.later);
     }
 
-prepend-twice : (made more : List Step) (p : Produced) → prepend made (prepend more p) ≡ prepend (made ++ more) p
+prepend-twice : (made more : List Item) (p : Produced) → prepend made (prepend more p) ≡ prepend (made ++ more) p
 prepend-twice made more p =
-    ap (λ (steps : List Step). record {
-      steps = steps;
+    ap (λ (items : List Item). record {
+      items = items;
       found = p.found;
       progress = p.progress;
-    }) (sym (append_assoc made more p.steps))
+    }) (sym (append_assoc made more p.items))
 
 -- ---- whole lines
 
@@ -159,7 +160,7 @@ Passes-none st = record {
   placed = omega arith;
 }
 
-module _ (a b c : Stage) (gone gone' : List ℕ) (made made' : List Step) (first : Passes a gone made b)
+module _ (a b c : Stage) (gone gone' : List ℕ) (made made' : List Item) (first : Passes a gone made b)
     (next : Passes b gone' made' c) where
   twice-same : (more : List ℕ) (how : Ending) →
       from_stage a ((gone ++ gone') ++ more) how ≡ prepend (made ++ made') (from_stage c more how)
@@ -207,25 +208,25 @@ module _ (report : Report) (st next : Stage) (line : List ℕ) (v v1 : SinkView)
   next-is = λ i. record { line = ends.counted i; at = ends.placed i; progress = ends.progress i }
 
   line-same : (more : List ℕ) (how : Ending) → from_stage st (line_bytes ++ more) how ≡
-      prepend (whole_line st.line st.at line st.progress).steps (from_stage next more how)
+      prepend (whole_line st.line st.at line st.progress).items (from_stage next more how)
   line-same more how =
       let p = whole_line st.line st.at line st.progress in
       ap (λ bytes. from_stage st bytes how) (append_assoc line (10 ∷ []) more) ∙ from-line st line more how is
       ∙ and_then-none p (replayed (st.line + 1) (st.at + length line + 1) (pieces_of 10 more) how) ends.none
-      ∙ ap (λ (s : Stage). prepend p.steps (from_stage s more how)) (sym next-is)
+      ∙ ap (λ (s : Stage). prepend p.items (from_stage s more how)) (sym next-is)
 
   line-fronts : (m : ℕ) → m ≤ length line_bytes →
-      IsMade (from_stage st (take m line_bytes) Open) (whole_line st.line st.at line st.progress).steps
+      IsMade (from_stage st (take m line_bytes) Open) (whole_line st.line st.at line st.progress).items
   line-fronts m le = elim (cases_lt (length line) m) [
     | inl behind ↦
         let p = whole_line st.line st.at line st.progress in
         let all : take m line_bytes ≡ line_bytes =
         take_all m line_bytes (omega (arith, behind, length-append line (10 ∷ []))) in
-        let whole : from_stage st line_bytes Open ≡ prepend p.steps (went_on next.progress) =
+        let whole : from_stage st line_bytes Open ≡ prepend p.items (went_on next.progress) =
         ap (λ bytes. from_stage st bytes Open) (sym (append-nil line_bytes)) ∙ line-same [] Open in
-        let made : IsMade (prepend p.steps (went_on next.progress)) p.steps =
-        record { none = refl; later = []; front = sym (append-nil (p.steps ++ []) ∙ append-nil p.steps) } in
-        subst (λ q. IsMade q p.steps) (sym (ap (λ bytes. from_stage st bytes Open) all ∙ whole)) made
+        let made : IsMade (prepend p.items (went_on next.progress)) p.items =
+        record { none = refl; later = []; front = sym (append-nil (p.items ++ []) ∙ append-nil p.items) } in
+        subst (λ q. IsMade q p.items) (sym (ap (λ bytes. from_stage st bytes Open) all ∙ whole)) made
     | inr before ↦
         let p = whole_line st.line st.at line st.progress in
         let short = taken-short m line in
@@ -239,12 +240,12 @@ module _ (report : Report) (st next : Stage) (line : List ℕ) (v v1 : SinkView)
         )) (omega (arith, ends.counted, ends.stands.few)) in
         let front : from_stage st (take m line) Open ≡ went_on st.progress =
         held-went_on st (take m line) (All-take (λ b. (b == 10) ≡ false) m line is) none in
-        subst (λ q. IsMade q p.steps)
+        subst (λ q. IsMade q p.items)
         (sym (ap (λ bytes. from_stage st bytes Open) (take-append-le m line (10 ∷ []) before) ∙ front))
-        (IsMade-went_on st.progress p.steps)
+        (IsMade-went_on st.progress p.items)
   ]
 
-  pub Passes-line : Passes st line_bytes (whole_line st.line st.at line st.progress).steps next
+  pub Passes-line : Passes st line_bytes (whole_line st.line st.at line st.progress).items next
   Passes-line = record {
     same = line-same;
     fronts = line-fronts;
@@ -256,7 +257,7 @@ module _ (report : Report) (st next : Stage) (line : List ℕ) (v v1 : SinkView)
 pub GoesThrough-begin : (report : Report) (st : Stage) (bytes : List ℕ) (v : SinkView) → IsStage st →
     GoesThrough report st bytes v v bytes st
 GoesThrough-begin report st bytes v stands =
-    record { gone = []; made = []; whole = refl; passes = Passes-none st; stands = stands; put = Puts-none v }
+    record { gone = []; made = []; whole = refl; passes = Passes-none st; stands = stands; put = Shows-none report v }
 
 -- where a piece begins what is left, behind what is held
 pub held-line : (held rest piece behind : List ℕ) → pieces_of 10 rest ≡ piece ∷ pieces_of 10 behind →
@@ -278,20 +279,19 @@ pub GoesThrough-line : (report : Report) (st cur next : Stage) (bytes held rest 
 GoesThrough-line report st cur next bytes held rest piece behind held' v v1 v2 g is cut ends =
     let line = held ++ piece in
     let p = whole_line cur.line cur.at line cur.progress in
-    let passes : Passes cur (line ++ 10 ∷ []) p.steps next =
+    let passes : Passes cur (line ++ 10 ∷ []) p.items next =
     Passes-line report cur next line v1 v2 held' g.stands (held-unended held rest piece behind is cut) ends in
     let left : held ++ rest ≡ (line ++ 10 ∷ []) ++ behind =
     held-line held rest piece behind cut ∙ sym (append_assoc line (10 ∷ []) behind) in
     record {
       gone = g.gone ++ (line ++ 10 ∷ []);
-      made = g.made ++ p.steps;
+      made = g.made ++ p.items;
       whole =
           g.whole ∙ ap (λ r. g.gone ++ r) left ∙ sym (append_assoc g.gone (line ++ 10 ∷ []) behind)
           ∙ ap (λ h. (g.gone ++ (line ++ 10 ∷ [])) ++ (h ++ behind)) (sym ends.empty);
-      passes = Passes-twice st cur next g.gone (line ++ 10 ∷ []) g.made p.steps g.passes passes;
+      passes = Passes-twice st cur next g.gone (line ++ 10 ∷ []) g.made p.items g.passes passes;
       stands = ends.stands;
-      put = rw (report_in-append report g.made p.steps) (Puts-twice v v1
-          v2 (report_in report g.made) (report_in report p.steps) g.put ends.put);
+      put = Shows-twice report v v1 v2 g.made p.items g.put ends.put;
     }
 
 -- a line in which the run ends

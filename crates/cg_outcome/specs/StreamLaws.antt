@@ -1,45 +1,47 @@
 -- A run over an input that is taken turn by turn: what was taken was gone through, but for what is held.
-use Rattle.std.proofs.Common.{◌≡◌, ◌<◌, ◌≤◌, ℕ, ◌+◌, ◌-◌, ◌==◌, List, [], ◌++◌, length, take, Option, Some, None, Result, Ok, Err, false, refl, sym, ap, subst, rules, ◌∙◌, arith, append_assoc, length-append, inl, inr}
+use Rattle.std.proofs.Common.{suc, ◌≡◌, ◌<◌, ◌≤◌, ℕ, ◌+◌, ◌-◌, ◌==◌, List, [], ◌++◌, length, take, Option, Some, None, Result, Ok, Err, false, refl, sym, ap, subst, rules, ◌∙◌, arith, append_assoc, length-append, inl, inr}
 use Rattle.std.proofs.lemmas.Bool.{cases_lt, false≢true}
 use Rattle.std.proofs.lemmas.List.{append-nil, take-append-le}
 use Rattle.std.proofs.lemmas.List.Elements.{All-nil, All-take}
 use Rattle.std.proofs.Math.Seq.{take-append-add}
 use Rattle.std.specs.Io.KnownBytes.{Consumes, Keeps, Appends}
+use Rattle.cg_outcome.specs.declared.limits.TheConstants.{INPUT_BYTES}
 use Rattle.cg_io.specs.Outside.{SourceView, SinkView, PutsAll}
-use Rattle.cg_model.specs.Run.{Step}
+use Rattle.cg_outcome.specs.declared.companion.Companion.{Companion}
+use Rattle.cg_outcome.specs.Items.{Item, report_in}
 use Rattle.cg_outcome.specs.Outcome.{Ending, Ended, Failed, Open}
 use Rattle.cg_outcome.specs.declared.report.Report.{Report}
 use Rattle.cg_outcome.specs.Streaming.{Stage, first_stage, from_stage, IsStage, IsHeld, IsMade, Passes, TakesUp, FailedIsLast, BetweenTakes, TakesTurn, Replays}
 use Rattle.cg_outcome.specs.declared.status.Status.{Status}
 use Rattle.cg_outcome.specs.declared.status.Status.TheVariants as status
-use Rattle.cg_outcome.specs.Produced.{Produced, status_of, with_tail, report_in, text_of, prepend, went_on}
-use Rattle.cg_outcome.specs.Putting.{Puts}
+use Rattle.cg_outcome.specs.Produced.{Produced, status_of, with_tail, text_of, prepend, went_on}
 use Rattle.cg_outcome.specs.Taking.{HasCause, InTime}
-use Rattle.cg_outcome.specs.GoingOnLaws.{GoesOn-stop, Puts-none, Puts-twice, Appends-twice, report_in-append}
+use Rattle.cg_outcome.specs.GoingOnLaws.{GoesOn-stop, Shows-none, Shows-twice, Appends-twice, report_in-append}
 use Rattle.cg_outcome.specs.StageLaws.{Passes-none, Passes-twice, front-held, held-within, held-went_on, from-held, last-failed}
 use Rattle.cg_outcome.specs.TakeLaws.{Consumes-none, Consumes-twice}
-use Rattle.cg_outcome.specs.Stopping.{Stopped, GoesOn}
+use Rattle.cg_outcome.specs.Stopping.{Shows, Stopped, GoesOn}
 
 -- all but what is held was gone through, and what it comes to was put
-pub record Streams (report : Report) (old now : SourceView) (v v1 : SinkView) (held : List ℕ)
+pub record Streams (report : Report) (c : Companion) (old now : SourceView) (v v1 : SinkView) (held : List ℕ)
     (st : Stage) : Type 0 where
   pub gone : List ℕ
-  pub made : List Step
+  pub made : List Item
   pub consumed : Consumes old.left now.left (gone ++ held)
   pub no_fault : now.faults ≡ old.faults
-  pub passes : Passes first_stage gone made st
-  pub put : Puts v v1 (report_in report made)
+  pub passes : Passes (first_stage c) gone made st
+  pub put : Shows report v v1 made
   pub stands : IsStage st
   pub is_held : IsHeld st held
 
-pub Streams-begin : (report : Report) (old : SourceView) (v : SinkView) → Streams report old old v v [] first_stage
-Streams-begin report old v = record {
+pub Streams-begin : (report : Report) (c : Companion) (old : SourceView) (v : SinkView) →
+    Streams report c old old v v [] (first_stage c)
+Streams-begin report c old v = record {
   gone = [];
   made = [];
   consumed = Consumes-none old.left;
   no_fault = refl;
-  passes = Passes-none first_stage;
-  put = Puts-none v;
+  passes = Passes-none (first_stage c);
+  put = Shows-none report v;
   stands = record {
     within = omega arith;
     counted = omega arith;
@@ -50,9 +52,10 @@ Streams-begin report old v = record {
 }
 
 -- what is held behind whole lines comes to nothing yet, and so each front of both comes to what was made
-reached : (st : Stage) (gone held : List ℕ) (made : List Step) → Passes first_stage gone made st → IsHeld st held
-    → (m : ℕ) → m ≤ length gone + length held → IsMade (from_stage first_stage (take m (gone ++ held)) Open) made
-reached st gone held made passes is m le = elim (cases_lt (length gone) m) [
+reached : (c : Companion) (st : Stage) (gone held : List ℕ) (made : List Item) →
+    Passes (first_stage c) gone made st → IsHeld st held
+    → (m : ℕ) → m ≤ length gone + length held → IsMade (from_stage (first_stage c) (take m (gone ++ held)) Open) made
+reached c st gone held made passes is m le = elim (cases_lt (length gone) m) [
   | inl behind ↦
       let k = m - length gone in
       let cut : take m (gone ++ held) ≡ gone ++ take k held =
@@ -60,33 +63,34 @@ reached st gone held made passes is m le = elim (cases_lt (length gone) m) [
       let front : from_stage st (take k held) Open ≡ went_on st.progress =
       held-went_on st (take k held) (All-take (λ b. (b == 10) ≡ false) k held is.unended) (front-held st.line
       st.at held k is.unpassed) in
-      let whole : from_stage first_stage (take m (gone ++ held)) Open ≡ prepend made (went_on st.progress) =
-      ap (λ bytes. from_stage first_stage bytes Open) cut ∙ passes.same (take k held) Open ∙ ap (prepend made) front in
+      let whole : from_stage (first_stage c) (take m (gone ++ held)) Open ≡ prepend made (went_on st.progress) =
+      ap (λ bytes. from_stage (first_stage c) bytes Open) cut ∙ passes.same (take k held) Open
+      ∙ ap (prepend made) front in
       let more : IsMade (prepend made (went_on st.progress)) made =
       record { none = refl; later = []; front = search rules } in
       subst (λ q. IsMade q made) (sym whole) more
-  | inr before ↦ subst (λ bytes. IsMade (from_stage first_stage bytes Open) made)
+  | inr before ↦ subst (λ bytes. IsMade (from_stage (first_stage c) bytes Open) made)
       (sym (take-append-le m gone held before)) (passes.fronts m before)
 ]
 
 -- something more was put where a run ended
 grown : (report : Report) (p : Produced) (v v' : SinkView) (st : Status) → Stopped report p v v' st →
     (r : List ℕ) × Appends v.held v'.held r
-grown report p v v' status.WriteFault s = (s.front.front, s.front.grown)
-grown report p v v' status.NoMemory s = (s.front.front, s.front.grown)
-grown report p v v' other s = (text_of report p, s.1.all)
+grown report p v v' status.WriteFault s = (s.0.front.front, s.0.front.grown)
+grown report p v v' status.NoMemory s = (s.0.front.front, s.0.front.grown)
+grown report p v v' other s = (text_of report p, s.0.1.all)
 
 -- what was made was put, whatever was put behind it
-made-put : (report : Report) (p : Produced) (made : List Step) (v v1 v2 : SinkView) (r : List ℕ) → IsMade p made →
-    Puts v v1 (report_in report made) → Appends v1.held v2.held r
+made-put : (report : Report) (p : Produced) (made : List Item) (v v1 v2 : SinkView) (r : List ℕ) → IsMade p made →
+    Shows report v v1 made → Appends v1.held v2.held r
     → (rest : List ℕ) × PutsAll v v2 (text_of report p ++ rest)
 made-put report p made v v1 v2 r is put more =
-    let text : text_of report p ≡ report_in report p.steps =
-    ap (λ found. with_tail report (report_in report p.steps) found p.progress.count) is.none in
-    let all : report_in report made ≡ report_in report p.steps ++ report_in report is.later =
-    ap (report_in report) is.front ∙ report_in-append report p.steps is.later in
+    let text : text_of report p ≡ report_in report p.items =
+    ap (λ found. with_tail report (report_in report p.items) found p.progress.count) is.none in
+    let all : report_in report made ≡ report_in report p.items ++ report_in report is.later =
+    ap (report_in report) is.front ∙ report_in-append report p.items is.later in
     let same : report_in report made ++ r ≡ text_of report p ++ (report_in report is.later ++ r) =
-    ap (λ t. t ++ r) all ∙ append_assoc (report_in report p.steps) (report_in report is.later) r
+    ap (λ t. t ++ r) all ∙ append_assoc (report_in report p.items) (report_in report is.later) r
     ∙ ap (λ t. t ++ (report_in report is.later ++ r)) (sym text) in (
       report_in report is.later ++ r,
       subst (Appends v.held v2.held)
@@ -99,11 +103,11 @@ later-cause Ended old now new same cause = (cause.0, cause.1 ∙ same)
 later-cause Failed old now new same cause = cause ∙ ap (λ n. n + 1) same
 later-cause Open old now new same cause = cause ∙ same
 
-module _ (report : Report) (old : SourceView) (v : SinkView) (before after : BetweenTakes) (st : Stage) (s : Streams
-    report old before.input v before.output before.held st) where
+module _ (report : Report) (c : Companion) (old : SourceView) (v : SinkView) (before after : BetweenTakes) (st : Stage)
+    (s : Streams report c old before.input v before.output before.held st) where
   -- a turn after which the run goes on
   pub Streams-turn : (next : Stage) → TakesTurn report st before after (Ok next) →
-      Streams report old after.input v after.output after.held next
+      Streams report c old after.input v after.output after.held next
   Streams-turn next t =
       let g = t.comes.2 in
       let all : (s.gone ++ before.held) ++ t.chunk ≡ (s.gone ++ g.gone) ++ after.held =
@@ -116,16 +120,15 @@ module _ (report : Report) (old : SourceView) (v : SinkView) (before after : Bet
             all (Consumes-twice old.left before.input.left after.input.left (s.gone ++ before.held)
             t.chunk s.consumed t.consumed);
         no_fault = t.comes.1 ∙ s.no_fault;
-        passes = Passes-twice first_stage st next s.gone g.gone s.made g.made s.passes g.passes;
-        put = rw (report_in-append report s.made g.made) (Puts-twice v before.output
-            after.output (report_in report s.made) (report_in report g.made) s.put g.put);
+        passes = Passes-twice (first_stage c) st next s.gone g.gone s.made g.made s.passes g.passes;
+        put = Shows-twice report v before.output after.output s.made g.made s.put g.put;
         stands = g.stands;
         is_held = t.comes.3;
       }
 
   -- and in which less is left to be taken
   pub turn-smaller : (next : Stage) → TakesTurn report st before after (Ok next)
-      → 8388609 - (next.at + length after.held) < 8388609 - (st.at + length before.held)
+      → suc INPUT_BYTES - (next.at + length after.held) < suc INPUT_BYTES - (st.at + length before.held)
   turn-smaller next t =
       let g = t.comes.2 in
       let all : length (before.held ++ t.chunk) ≡ length (g.gone ++ after.held) = ap length g.whole in
@@ -141,31 +144,31 @@ module _ (report : Report) (old : SourceView) (v : SinkView) (before after : Bet
 
   -- a turn in which the run ends
   pub Streams-stop : (status : Status) → TakesTurn report st before after (Err status) →
-      Replays report old after.input v after.output status
+      Replays report c old after.input v after.output status
   Streams-stop status t =
       let taken = (s.gone ++ before.held) ++ t.chunk in
       let some = length-append s.gone before.held in
       let all = length-append (s.gone ++ before.held) t.chunk in
-      let goes : GoesOn report (from_stage first_stage taken t.ending) v
+      let goes : GoesOn report (from_stage (first_stage c) taken t.ending) v
       before.output (from_stage st (before.held ++ t.chunk) t.ending) =
       record {
         made = s.made;
         put = s.put;
-        same = ap (λ b. from_stage first_stage b t.ending) (append_assoc s.gone before.held t.chunk)
+        same = ap (λ b. from_stage (first_stage c) b t.ending) (append_assoc s.gone before.held t.chunk)
             ∙ s.passes.same (before.held ++ t.chunk) t.ending;
       } in
       let more = grown report (from_stage st (before.held ++ t.chunk) t.ending) before.output
       after.output status t.comes in
-      let in_time : InTime (text_of report) (λ front. from_stage first_stage front Open) taken v after.output =
+      let in_time : InTime (text_of report) (λ front. from_stage (first_stage c) front Open) taken v after.output =
       λ m lt.
       let le : m ≤ length s.gone + length before.held = omega (arith, lt, some, all, t.few) in
       let within : m ≤ length (s.gone ++ before.held) = omega (arith, le, some) in
       let cut : take m taken ≡ take m (s.gone ++ before.held) =
       take-append-le m (s.gone ++ before.held) t.chunk within in
-      let made : IsMade (from_stage first_stage (take m taken) Open) s.made =
-      subst (λ bytes. IsMade (from_stage first_stage bytes Open) s.made) (sym cut) (reached st s.gone before.held s.made
-      s.passes s.is_held m le) in
-      let put = made-put report (from_stage first_stage (take m taken) Open) s.made v before.output after.output
+      let made : IsMade (from_stage (first_stage c) (take m taken) Open) s.made =
+      subst (λ bytes. IsMade (from_stage (first_stage c) bytes Open) s.made) (sym cut)
+      (reached c st s.gone before.held s.made s.passes s.is_held m le) in
+      let put = made-put report (from_stage (first_stage c) (take m taken) Open) s.made v before.output after.output
       more.0 made s.put more.1 in
       (made.none, put.0, put.1) in
       record {
@@ -176,8 +179,8 @@ module _ (report : Report) (old : SourceView) (v : SinkView) (before after : Bet
         cause = later-cause t.ending old before.input after.input s.no_fault t.cause;
         holds = (
           omega (arith, some, all, s.passes.placed, t.within),
-          GoesOn-stop report (from_stage first_stage taken t.ending) (from_stage st (before.held ++ t.chunk) t.ending) v
-              before.output after.output status goes t.comes,
+          GoesOn-stop report (from_stage (first_stage c) taken t.ending)
+              (from_stage st (before.held ++ t.chunk) t.ending) v before.output after.output status goes t.comes,
           in_time,
           λ e. ap status_of goes.same ∙ t.last e,
         );
@@ -194,7 +197,7 @@ Keeps-consumes (Some xs) (Some ys) k = sym k
 pub turn-goes : (report : Report) (st : Stage) (before after : BetweenTakes) (r : Result Stage Status) (chunk : List ℕ)
     → Consumes before.input.left after.input.left chunk → after.input.faults ≡ before.input.faults →
     0 < length chunk → length chunk ≤ 4096
-    → st.at + length before.held + length chunk ≤ 8388609 →
+    → st.at + length before.held + length chunk ≤ suc INPUT_BYTES →
     TakesUp report st (before.held ++ chunk) before.output after.output after.held r
     → TakesTurn report st before after r
 turn-goes report st before after (Ok next) chunk consumed none some few within up =

@@ -1,22 +1,24 @@
 -- A run that takes its input as it needs it: where it stands between two lines, what it has gone through, and what one
 -- take brings.
-use Rattle.std.specs.Prelude.{◌≡◌, ◌<◌, ◌≤◌, ◌+◌, ◌==◌, ℕ, false, List, [], ◌∷◌, ◌++◌, length, take, Option, Some, None, Result, MatchResult}
+use Rattle.std.specs.Prelude.{suc, ◌≡◌, ◌<◌, ◌≤◌, ◌+◌, ◌==◌, ℕ, false, List, [], ◌∷◌, ◌++◌, length, take, Option, Some, None, Result, MatchResult}
 use Rattle.std.specs.List.{All}
 use Rattle.std.specs.Io.KnownBytes.{Consumes}
+use Rattle.cg_outcome.specs.declared.limits.TheConstants.{INPUT_BYTES, LINES, LINE_BYTES}
 use Rattle.cg_base.specs.Text.{pieces_of}
 use Rattle.cg_io.specs.Outside.{SourceView, SinkView}
-use Rattle.cg_model.specs.Run.{Step}
 use Rattle.cg_outcome.specs.declared.command.Command.{Command}
 use Rattle.cg_outcome.specs.Outcome.{Ending, Failed, Open, limit_of, whole_line, replayed, text_put}
 use Rattle.cg_outcome.specs.declared.report.Report.{Report}
 use Rattle.cg_outcome.specs.declared.status.Limit.{Limit}
 use Rattle.cg_outcome.specs.declared.status.Status.{Status}
 use Rattle.cg_outcome.specs.declared.status.Status.TheVariants as status
-use Rattle.cg_outcome.specs.Produced.{Progress, Produced, before_all, prepend, report_in, text_of, status_of}
-use Rattle.cg_outcome.specs.Putting.{Puts, StopsWith}
+use Rattle.cg_outcome.specs.declared.companion.Companion.{Companion}
+use Rattle.cg_outcome.specs.Items.{Item}
+use Rattle.cg_outcome.specs.Produced.{Progress, Produced, before_all, prepend, text_of, status_of}
+use Rattle.cg_outcome.specs.Putting.{StopsWith}
 use Rattle.cg_outcome.specs.Taking.{most_taken, most_at_once, HasCause, InTime}
 use Rattle.cg_outcome.specs.UnderWay.{IsUnderWay}
-use Rattle.cg_outcome.specs.Stopping.{Stopped}
+use Rattle.cg_outcome.specs.Stopping.{Shows, Stopped}
 
 -- where a run stands between two lines: the number of the next one, where it begins in the input, and how far it has come
 pub record Stage : Type 0 where
@@ -24,9 +26,9 @@ pub record Stage : Type 0 where
   pub at : ℕ
   pub progress : Progress
 
--- before the first line
-abbrev pub first_stage : Stage
-first_stage = record { line = 1; at = 0; progress = before_all }
+-- before the first line, with this beside the world
+abbrev pub first_stage : Companion → Stage
+first_stage c = record { line = 1; at = 0; progress = before_all c }
 
 -- what these bytes come to from a stage on
 abbrev pub from_stage : Stage → List ℕ → Ending → Produced
@@ -43,20 +45,20 @@ held_limit n at (b ∷ bs) = limit_of n (length (b ∷ bs)) (at + length (b ∷ 
 
 -- the input's limits aren't passed, and the run is under way
 pub record IsStage (st : Stage) : Type 0 where
-  pub within : st.at ≤ 8388608
+  pub within : st.at ≤ INPUT_BYTES
   pub counted : 1 ≤ st.line
-  pub few : st.line ≤ 200001
+  pub few : st.line ≤ suc LINES
   pub under_way : IsUnderWay st.progress
 
--- nothing is found, and its steps begin those that were made
-pub record IsMade (p : Produced) (made : List Step) : Type 0 where
+-- nothing is found, and its items begin those that were made
+pub record IsMade (p : Produced) (made : List Item) : Type 0 where
   pub none : p.found ≡ None
-  pub later : List Step
-  pub front : made ≡ p.steps ++ later
+  pub later : List Item
+  pub front : made ≡ p.items ++ later
 
--- Whole lines were gone through and made these steps: whatever follows comes to these and to what it comes to from the new
+-- Whole lines were gone through and made these items: whatever follows comes to these and to what it comes to from the new
 -- stage on, and no front of the lines comes to anything else.
-pub record Passes (old : Stage) (gone : List ℕ) (made : List Step) (new : Stage) : Type 0 where
+pub record Passes (old : Stage) (gone : List ℕ) (made : List Item) (new : Stage) : Type 0 where
   pub same : (more : List ℕ) (how : Ending) → from_stage old (gone ++ more) how ≡ prepend made (from_stage new more how)
   pub fronts : (m : ℕ) → m ≤ length gone → IsMade (from_stage old (take m gone) Open) made
   pub placed : new.at ≡ old.at + length gone
@@ -69,19 +71,19 @@ pub record EndsLine (report : Report) (old : Stage) (line : List ℕ) (from to :
   pub progress : new.progress ≡ (whole_line old.line old.at line old.progress).progress
   pub counted : new.line ≡ old.line + 1
   pub placed : new.at ≡ old.at + length line + 1
-  pub short : length line ≤ 32768
+  pub short : length line ≤ LINE_BYTES
   pub stands : IsStage new
-  pub put : Puts from to (report_in report (whole_line old.line old.at line old.progress).steps)
+  pub put : Shows report from to (whole_line old.line old.at line old.progress).items
 
 -- so far whole lines of the bytes were gone through and their entries put, and the others are still to come
 pub record GoesThrough (report : Report) (old : Stage) (bytes : List ℕ) (from to : SinkView) (left : List ℕ)
     (new : Stage) : Type 0 where
   pub gone : List ℕ
-  pub made : List Step
+  pub made : List Item
   pub whole : bytes ≡ gone ++ left
   pub passes : Passes old gone made new
   pub stands : IsStage new
-  pub put : Puts from to (report_in report made)
+  pub put : Shows report from to made
 
 -- what is left is no whole line, and passes no limit
 pub record IsHeld (st : Stage) (held : List ℕ) : Type 0 where
@@ -142,9 +144,9 @@ abbrev pub Ends : Option Command → Produced → SinkView → SinkView → Stat
 Ends command p from to status = StopsWith (text_put command p) (status_of p) from to status
 
 -- the input was taken as it was needed, and replayed
-abbrev pub Replays : Report → SourceView → SourceView → SinkView → SinkView → Status → Type 0
-Replays report old new from to status =
+abbrev pub Replays : Report → Companion → SourceView → SourceView → SinkView → SinkView → Status → Type 0
+Replays report c old new from to status =
     OfTaken old new (λ taken how.
-    (length taken ≤ most_taken) × Stopped report (from_stage first_stage taken how) from to status
-    × InTime (text_of report) (λ front. from_stage first_stage front Open) taken from to
-    × FailedIsLast how (from_stage first_stage taken how))
+    (length taken ≤ most_taken) × Stopped report (from_stage (first_stage c) taken how) from to status
+    × InTime (text_of report) (λ front. from_stage (first_stage c) front Open) taken from to
+    × FailedIsLast how (from_stage (first_stage c) taken how))

@@ -1,27 +1,32 @@
 -- How what was taken stands to the bytes that the input had left, and what holds of all that a run comes to.
 use Rattle.std.specs.Prelude.{◌≡◌, ◌⊎◌, ◌+◌, ◌++◌, true, ℕ, zero, suc, List, [], ◌∷◌, ◌≤◌, length, take, Option, Some, None}
 use Rattle.std.specs.Io.KnownBytes.{Consumes, IsAtEnd}
+use Rattle.cg_outcome.specs.declared.limits.TheConstants.{INPUT_BYTES, TAKE_BYTES}
 use Rattle.cg_base.specs.Text.{pieces_of}
 use Rattle.cg_io.specs.Outside.{SourceView, SinkView, PutsAll}
 use Rattle.cg_group.specs.declared.reason.Reason.{Reason}
+use Rattle.cg_model.specs.World.{no_world}
 use Rattle.cg_model.specs.Run.{Step}
 use Rattle.cg_model.specs.Agreement.{RefusedExactly}
-use Rattle.cg_outcome.specs.Outcome.{Ending, Ended, Failed, Open, outcome_of, outcome, pieces_for, text_put}
+use Rattle.cg_outcome.specs.Outcome.{Ending, Ended, Failed, Open, companion_for, outcome_of, outcome, pieces_for, text_put}
 use Rattle.cg_outcome.specs.declared.status.Status.{Status}
 use Rattle.cg_outcome.specs.declared.status.Status.TheVariants as status
 use Rattle.cg_outcome.specs.declared.status.Limit.TheVariants as limit
-use Rattle.cg_outcome.specs.Produced.{Produced, status_of, refusal_of}
+use Rattle.cg_outcome.specs.Items.{Item, steps_of}
+use Rattle.cg_outcome.specs.Kept.{AreNoted}
+use Rattle.cg_outcome.specs.Produced.{Produced, Refused, status_of, refused_in, refusal_of}
 use Rattle.cg_outcome.specs.Refusing.{RefusesLine}
 use Rattle.cg_outcome.specs.Commands.{command_of, reads_input}
 use Rattle.cg_outcome.specs.declared.command.Command.{Command}
 use Rattle.cg_outcome.specs.Putting.{Puts, StopsWith}
+use Rattle.cg_outcome.specs.Stopping.{EndsShort}
 
 -- at most the input's limit and one byte more are taken, and at most so many at once
 abbrev pub most_taken : ℕ
-most_taken = 8388609
+most_taken = suc INPUT_BYTES
 
 abbrev pub most_at_once : ℕ
-most_at_once = 4096
+most_at_once = TAKE_BYTES
 
 -- how the taking ended has its cause: the input's end, or a fault, which is counted; else no take failed
 abbrev pub HasCause : Ending → SourceView → SourceView → Type 0
@@ -56,6 +61,11 @@ end_of_line zero lines = 0
 end_of_line (suc n) [] = 0
 end_of_line (suc n) (line ∷ lines) = length line + 1 + end_of_line n lines
 
+-- where a schedule was replayed, and all of its report was put, no number in what its steps show has more digits than are
+-- printed
+abbrev pub ShowsShort : Option Command → Produced → Status → Type 0
+ShowsShort command p status = reads_input command ≡ true → EndsShort p status
+
 -- A command has run: these bytes were taken, no more than the most, and the taking ended in some way; what was put and the status
 -- are what these bytes come to; and they were taken as they were needed: where a line is the first finding, no more past its end than is
 -- taken at once.
@@ -68,6 +78,7 @@ pub record Runs (command : Option Command) (old new : SourceView) (from to : Sin
   pub ends : StopsWith (text_put command (outcome_of command taken ending))
       (status_of (outcome_of command taken ending)) from to status
   pub in_time : InTime (text_put command) (λ front. outcome_of command front Open) taken from to
+  pub short : ShowsShort command (outcome_of command taken ending) status
   pub near : (n : ℕ) → found_in status ≡ Some n → length taken ≤ end_of_line n (pieces_of 10 taken) + most_at_once
 
 -- no limit is passed that lines and inputs have: the limit of steps may be
@@ -89,16 +100,25 @@ Completes command old new from to result =
 
 -- what holds of the steps of the outcome, whatever was taken and however the taking ended
 abbrev pub OfSteps : List (List ℕ) → (List Step → Type 0) → Type 0
-OfSteps words holds = (taken : List ℕ) (how : Ending) → holds (outcome words taken how).steps
+OfSteps words holds = (taken : List ℕ) (how : Ending) → holds (steps_of (outcome words taken how).items)
+
+-- what holds of the items of the outcome, and of the refusal that ends it, where one does
+abbrev pub OfItems : List (List ℕ) → (List Item → Option Refused → Type 0) → Type 0
+OfItems words holds = (taken : List ℕ) (how : Ending) →
+    holds (outcome words taken how).items (refused_in (outcome words taken how))
+
+-- the items are numbered from 1, within the limit, and their further lines are those that have come of them beside the world
+abbrev pub IsNoted : List (List ℕ) → Type 0
+IsNoted words = OfItems words (λ items refused. AreNoted no_world (companion_for (command_of words)) 0 items)
 
 -- a run that ends by a refusal tells of the line that is refused, and of the first reason
 abbrev pub TellsOfRefusals : List (List ℕ) → Type 0
 TellsOfRefusals words =
     (taken : List ℕ) (how : Ending) (n : ℕ) (reason : Reason) →
     status_of (outcome words taken how) ≡ Some (status.Refused n reason)
-    → RefusesLine (pieces_for (command_of words) taken) (outcome words taken how).steps n reason
+    → RefusesLine (pieces_for (command_of words) taken) (steps_of (outcome words taken how).items) n reason
 
 -- no test of an event that made a step gives a reason, and the event that ended the run by a refusal has that reason first
 abbrev pub RefusesExactly : List (List ℕ) → Type 0
 RefusesExactly words = (taken : List ℕ) (how : Ending) →
-    RefusedExactly (outcome words taken how).steps (refusal_of (outcome words taken how))
+    RefusedExactly (steps_of (outcome words taken how).items) (refusal_of (outcome words taken how))

@@ -4,8 +4,8 @@ use Rattle.std.proofs.lemmas.Bool.{true≢false}
 use Rattle.cg_io.specs.Outside.{SinkView}
 use Rattle.cg_schedule.specs.declared.event.Event.{Event}
 use Rattle.cg_schedule.specs.Print.{line_of}
-use Rattle.cg_model.specs.Run.{Step}
-use Rattle.cg_outcome.specs.Produced.{Progress, Finding, Produced, with_tail, report_in, text_of, status_of, and_then}
+use Rattle.cg_outcome.specs.Items.{Item, report_in}
+use Rattle.cg_outcome.specs.Produced.{Progress, Finding, Produced, with_tail, text_of, status_of, and_then}
 use Rattle.cg_outcome.specs.declared.report.Report.TheVariants.{Tail}
 use Rattle.cg_outcome.specs.declared.status.Status.{Status}
 use Rattle.cg_outcome.specs.declared.status.Status.TheVariants as status
@@ -13,14 +13,14 @@ use Rattle.cg_outcome.specs.Status.{tail_text}
 use Rattle.cg_outcome.specs.Outcome.{line_outcome, without_return, performed, trial_end, trial_text}
 use Rattle.cg_outcome.specs.Putting.{Puts, PutsPart, StopsWith}
 use Rattle.cg_outcome.specs.UnderWay.{IsUnderWay}
-use Rattle.cg_outcome.specs.GoingOnLaws.{GoesOn-part, Puts-none, Puts-twice, Appends-none, part-longer, part-later, and_then-some}
+use Rattle.cg_outcome.specs.GoingOnLaws.{GoesOn-part, Puts-twice, Shows-none, Shows-put, Appends-none, part-longer, part-later, and_then-some}
 use Rattle.cg_outcome.specs.SparedLaws.{is_of_end, line-no_end}
-use Rattle.cg_outcome.specs.Stopping.{Stopped, GoesOn}
+use Rattle.cg_outcome.specs.Stopping.{Shows, Stopped, GoesOn}
 
--- of steps alone nothing is put
-tail-nothing : (steps : List Step) → report_in Tail steps ≡ []
+-- of items alone nothing is put
+tail-nothing : (items : List Item) → report_in Tail items ≡ []
 tail-nothing [] = refl
-tail-nothing (s ∷ steps) = tail-nothing steps
+tail-nothing (i ∷ items) = tail-nothing items
 
 -- a text put behind nothing
 StopsWith-later : (text : List ℕ) (found : Option Status) (v v1 v2 : SinkView) (st : Status) → Puts v v1 [] →
@@ -44,11 +44,11 @@ line-ended p more v v' st is s = by_finding p.found refl where
   by_finding : (o : Option Finding) → p.found ≡ o →
       StopsWith (trial_text (and_then p more)) (status_of (and_then p more)) v v' st
   by_finding None e =
-      let text : text_of Tail p ≡ [] = ap (λ found. with_tail Tail (report_in Tail p.steps) found p.progress.count) e
-      ∙ tail-nothing p.steps in
+      let text : text_of Tail p ≡ [] = ap (λ found. with_tail Tail (report_in Tail p.items) found p.progress.count) e
+      ∙ tail-nothing p.items in
       let none : status_of p ≡ None = ap (λ (found : Option Finding). status_of (record p { found = found })) e in
       nothing (trial_text (and_then p more)) (status_of (and_then p more))
-      st (subst (λ t. StopsWith t (status_of p) v v' st) text s) none where
+      st (subst (λ t. StopsWith t (status_of p) v v' st) text s.0) none where
         nothing : (all : List ℕ) (found : Option Status) (st : Status) → StopsWith [] (status_of p) v v' st →
             status_of p ≡ None → StopsWith all found v v' st
         nothing all found status.WriteFault s none = part-longer v v' [] all all 1 refl s
@@ -59,12 +59,12 @@ line-ended p more v v' st is s = by_finding p.found refl where
       let apart : is_of_end (Some f.status) ≡ false =
       ap (λ (found : Option Finding). is_of_end (status_of (record p { found = found }))) (sym e) ∙ is in
       let text : text_of Tail p ≡ trial_text p =
-      ap (λ (found : Option Finding). with_tail Tail (report_in Tail p.steps) found p.progress.count) e
-      ∙ ap (λ t. t ++ tail_text f.status p.progress.count f.lines) (tail-nothing p.steps)
+      ap (λ (found : Option Finding). with_tail Tail (report_in Tail p.items) found p.progress.count) e
+      ∙ ap (λ t. t ++ tail_text f.status p.progress.count f.lines) (tail-nothing p.items)
       ∙ sym (ap (λ (f : _). f p.progress.totals) (trial-tail f.status f.lines p.progress.count apart))
       ∙ sym (ap (λ (found : Option Finding). trial_text (record p { found = found })) e) in
       subst (λ (q : Produced). StopsWith (trial_text q) (status_of q) v v' st) (sym same)
-      (subst (λ t. StopsWith t (status_of p) v v' st) text s)
+      (subst (λ t. StopsWith t (status_of p) v v' st) text s.0)
 
 -- of so many lines these are gone and the others are still to come: what the rest comes to makes the whole
 pub record Plays (whole : Produced) (v v1 : SinkView) (lines gone : ℕ) (events : List Event)
@@ -77,7 +77,7 @@ pub record Plays (whole : Produced) (v v1 : SinkView) (lines gone : ℕ) (events
 pub Plays-begin : (lines : ℕ) (events : List Event) (v : SinkView) (s : Progress) → length events ≡ lines →
     IsUnderWay s → Plays (performed 0 events s) v v lines 0 events s
 Plays-begin lines events v s all under = record {
-  goes = record { made = []; put = Puts-none v; same = refl };
+  goes = record { made = []; put = Shows-none Tail v; same = refl };
   under_way = under;
   counted = omega (arith, all);
 }
@@ -91,7 +91,7 @@ Plays-stop whole v v1 v2 lines gone events s status plays stopped =
     let g = plays.goes in
     subst (λ (q : Produced). StopsWith (trial_text q) (status_of q) v v2 status) (sym g.same)
     (StopsWith-later (trial_text (performed gone events s)) (status_of (performed gone events s)) v v1 v2
-    status (subst (Puts v v1) (tail-nothing g.made) g.put) stopped)
+    status (subst (Puts v v1) (tail-nothing g.made) (Shows-put Tail v v1 g.made g.put)) stopped)
 
 -- what a line comes to that is made of an event
 abbrev line_played : ℕ → Event → Progress → Produced
@@ -112,7 +112,7 @@ pub Plays-line : (whole : Produced) (v v1 v2 : SinkView) (lines gone : ℕ) (eve
     Event) (s next : Progress)
     → Plays whole v v1 lines gone (event ∷ events) s → (line_played gone event s).found ≡ None →
     next ≡ (line_played gone event s).progress
-    → Puts v1 v2 (report_in Tail (line_played gone event s).steps) → IsUnderWay next →
+    → Shows Tail v1 v2 (line_played gone event s).items → IsUnderWay next →
     Plays whole v v2 lines (gone + 1) events next
 Plays-line whole v v1 v2 lines gone event events s next plays none is put under = record {
   goes = GoesOn-part Tail whole (line_played gone event s) (performed (gone + 1) events) v v1 v2

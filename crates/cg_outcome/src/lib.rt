@@ -9,6 +9,7 @@
 mod arg_text;
 mod bounds;
 mod command;
+mod companion;
 mod explained;
 mod laws;
 mod limits;
@@ -23,6 +24,7 @@ mod totals;
 
 pub use arg_text::ArgText;
 pub use command::{Command, command_of};
+pub use companion::{Companion, Further, FurtherLine};
 pub use explained::Explained;
 pub use laws::outcomes_agree;
 pub use limits::{INPUT_BYTES, LINE_BYTES, LINES, STEPS, TAKE_BYTES};

@@ -1,4 +1,5 @@
 ghost use Rattle.std.specs.Prelude.{◌≡◌, ◌≤◌};
+ghost use Rattle.cg_outcome.specs.declared.limits.TheConstants.{INPUT_BYTES};
 ghost use Rattle.cg_outcome.specs.Outcome.{without_return, limit_of};
 ghost use Rattle.cg_outcome.specs.Streaming.{held_limit};
 
@@ -33,7 +34,7 @@ pub fn passed_limit(line: u64, len: usize, end: usize) -> Option<Limit>
 
 /// The limit that a line passes of which these bytes were taken.
 pub fn held_limit(line: u64, at: usize, held: &[u8]) -> Option<Limit>
-    requires { at ≤ 8388608 }
+    requires { at ≤ INPUT_BYTES }
     ensures { result ≡ held_limit line at held.now }
 {
     if held.is_empty() {

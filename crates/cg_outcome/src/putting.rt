@@ -1,9 +1,11 @@
-ghost use Rattle.std.specs.Prelude.{◌++◌, ◌≡◌, ◌<◌, ◌^◌, OnOk, IfErr, Some};
+ghost use Rattle.std.specs.Prelude.{◌++◌, ◌≡◌, ◌<◌, [], OnOk, IfErr, Some};
+ghost use Rattle.cg_base.specs.declared.limits.TheConstants.{COUNT_LIMIT};
 ghost use Rattle.cg_base.specs.Sets.{IsId};
 ghost use Rattle.cg_gen.specs.Generated.{generated};
 ghost use Rattle.cg_gen.specs.Lines.{lines_of};
 ghost use Rattle.cg_outcome.specs.declared.status.Status.TheVariants as status;
-ghost use Rattle.cg_outcome.specs.Produced.{entry_in, tail_in};
+ghost use Rattle.cg_outcome.specs.Items.{entry_in};
+ghost use Rattle.cg_outcome.specs.Produced.{tail_in};
 ghost use Rattle.cg_outcome.specs.Stopping.{CutShort, IsFinding};
 ghost use Rattle.cg_outcome.specs.Putting.{Puts, StopsWith};
 
@@ -22,7 +24,7 @@ const ENTRY_ROOM: usize = 512;
 
 /// Puts a text, unless it is empty.
 pub fn put_text<K: Sink>(alloc: Global, output: &mut K, text: &[u8]) -> Result<(), Status>
-    requires { (K.view output.old).faults < 2 ^ 62 }
+    requires { (K.view output.old).faults < COUNT_LIMIT }
     ensures ok { OnOk result (Puts (K.view output.old) (K.view output.new) text.now) }
     ensures cut { IfErr result (λ status.
         CutShort text.now (K.view output.old) (K.view output.new) status) }
@@ -47,7 +49,7 @@ pub fn finish<K: Sink>(
     steps: u64,
     lines: u64,
 ) -> Status
-    requires few_faults { (K.view output.old).faults < 2 ^ 62 }
+    requires few_faults { (K.view output.old).faults < COUNT_LIMIT }
     requires finding { IsFinding status }
     ensures { StopsWith (tail_in report status steps lines) (Some status)
         (K.view output.old) (K.view output.new) result }
@@ -70,10 +72,10 @@ pub fn put_step<K: Sink>(
     number: u64,
     entry: &Entry,
 ) -> Result<(), Status>
-    requires { (K.view output.old).faults < 2 ^ 62 }
-    ensures ok { OnOk result (Puts (K.view output.old) (K.view output.new) (entry_in report number entry.now)) }
+    requires { (K.view output.old).faults < COUNT_LIMIT }
+    ensures ok { OnOk result (Puts (K.view output.old) (K.view output.new) (entry_in report number entry.now [])) }
     ensures cut { IfErr result (λ status.
-        CutShort (entry_in report number entry.now) (K.view output.old) (K.view output.new) status) }
+        CutShort (entry_in report number entry.now []) (K.view output.old) (K.view output.new) status) }
 {
     let mut text = Vec::new(alloc);
     if put_entry_in(&mut text, report, number, entry).is_err() {
@@ -88,7 +90,7 @@ fn put_entry_in(
     number: u64,
     entry: &Entry,
 ) -> Result<(), NoMemory>
-    ensures { OnOk result (out.new.items ≡ out.old.items ++ entry_in report number entry.now) }
+    ensures { OnOk result (out.new.items ≡ out.old.items ++ entry_in report number entry.now []) }
 {
     match report {
         Report::Whole => {
@@ -109,7 +111,7 @@ pub fn put_schedule<K: Sink>(
     lines: u64,
 ) -> Status
     requires replicas { IsId replicas }
-    requires few_faults { (K.view output.old).faults < 2 ^ 62 }
+    requires few_faults { (K.view output.old).faults < COUNT_LIMIT }
     ensures { StopsWith (lines_of (generated seed replicas lines)) (Some status.Done) (K.view output.old)
         (K.view output.new) result }
 {

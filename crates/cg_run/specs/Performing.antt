@@ -3,16 +3,21 @@ use Rattle.std.specs.Prelude.{◌≡◌, None, Result, Ok, Err, MatchResult}
 use Rattle.cg_io.specs.Outside.{SinkView}
 use Rattle.cg_outcome.specs.declared.report.Report.{Report}
 use Rattle.cg_outcome.specs.declared.status.Status.{Status}
-use Rattle.cg_outcome.specs.Produced.{Progress, Produced, report_in}
+use Rattle.cg_outcome.specs.Produced.{Progress, Produced}
 use Rattle.cg_outcome.specs.Streaming.{Stage}
-use Rattle.cg_outcome.specs.Putting.{Puts}
-use Rattle.cg_outcome.specs.Stopping.{Stopped}
+use Rattle.cg_outcome.specs.Stopping.{Shows, Stopped}
 use Rattle.cg_run.specs.declared.progress.Progress.{Progress as RunProgress}
 use Rattle.cg_run.specs.declared.progress.Stage.{Stage as RunStage}
 
 -- how far a run has come
 abbrev pub seen : RunProgress → Progress
-seen p = record { world = p.world.world; reader = p.reader; count = p.count; totals = p.totals }
+seen p = record {
+  world = p.world.world;
+  companion = p.companion;
+  reader = p.reader;
+  count = p.count;
+  totals = p.totals;
+}
 
 -- where it stands between two lines
 abbrev pub seen_stage : RunStage → Stage
@@ -27,5 +32,5 @@ seen_end (Err status) = Err status
 abbrev pub Performs : Report → Produced → SinkView → SinkView → Result RunProgress Status → Type 0
 Performs report p old new result =
     MatchResult result
-    (λ s. (p.found ≡ None) × (seen s ≡ p.progress) × Puts old new (report_in report p.steps))
+    (λ s. (p.found ≡ None) × (seen s ≡ p.progress) × Shows report old new p.items)
     (λ status. Stopped report p old new status)

@@ -1,14 +1,16 @@
-ghost use Rattle.std.specs.Prelude.{◌≡◌};
+ghost use Rattle.std.specs.Prelude.{◌≡◌, ◌≤◌, ◌-◌};
 
-use cg_outcome::Totals;
+use cg_outcome::{Companion, Report, Totals};
 use cg_schedule::Reader;
 use cg_world::World;
 use std::alloc::Global;
 
-/// How far a run has come: the world, the reader of the lines, how many steps were made, and what they have shown.
+/// How far a run has come: the world, what its command keeps beside it, the reader of the lines, how many items were
+/// made, and what they have shown.
 #[derive(Drop)]
 pub struct Progress {
     pub world: World,
+    pub companion: Companion,
     pub reader: Reader,
     pub count: u64,
     pub totals: Totals,
@@ -18,15 +20,39 @@ impl Progress {
     ghost use Rattle.cg_outcome.specs.Produced.{before_all};
     ghost use Rattle.cg_run.specs.Performing.{seen};
 
-    /// Before the first line.
-    pub fn new(alloc: Global) -> Progress
-        ensures { seen result ≡ before_all }
+    /// Before the first line, with this beside the world.
+    pub fn new(alloc: Global, companion: Companion) -> Progress
+        ensures { seen result ≡ before_all companion }
     {
         Progress {
             world: World::new(alloc),
+            companion,
             reader: Reader::new(),
             count: 0,
             totals: Totals::none(),
+        }
+    }
+}
+
+/// What stays as it is while a line is performed: where memory comes from, how much of the report is put, and the
+/// line's number.
+#[derive(Clone, Copy)]
+pub struct Line {
+    pub alloc: Global,
+    pub report: Report,
+    pub number: u64,
+}
+
+impl Line {
+    /// The line above it.
+    pub fn above(self) -> Line
+        requires { 1 ≤ self.number }
+        ensures { result ≡ record self { number = self.number - 1 } }
+    {
+        Line {
+            alloc: self.alloc,
+            report: self.report,
+            number: self.number - 1,
         }
     }
 }
@@ -44,14 +70,14 @@ impl Stage {
     ghost use Rattle.cg_outcome.specs.Streaming.{first_stage};
     ghost use Rattle.cg_run.specs.Performing.{seen_stage};
 
-    /// Before the first line.
-    pub fn first(alloc: Global) -> Stage
-        ensures { seen_stage result ≡ first_stage }
+    /// Before the first line, with this beside the world.
+    pub fn first(alloc: Global, companion: Companion) -> Stage
+        ensures { seen_stage result ≡ first_stage companion }
     {
         Stage {
             line: 1,
             at: 0,
-            progress: Progress::new(alloc),
+            progress: Progress::new(alloc, companion),
         }
     }
 }

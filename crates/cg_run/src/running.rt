@@ -1,4 +1,5 @@
-ghost use Rattle.std.specs.Prelude.{◌≡◌, ◌+◌, ◌<◌, ◌^◌, false};
+ghost use Rattle.std.specs.Prelude.{◌≡◌, ◌+◌, ◌<◌, false};
+ghost use Rattle.cg_base.specs.declared.limits.TheConstants.{COUNT_LIMIT};
 ghost use Rattle.cg_model.specs.World.{no_world};
 ghost use Rattle.cg_model.specs.Run.{IsRunFrom};
 ghost use Rattle.cg_model.specs.Agreement.{OrderGrows, Prefix, CreatorOrder, FoldAnswers, DirtyAnswers, OnePrimary, QuietSettles, MadeStays};
@@ -6,13 +7,13 @@ ghost use Rattle.cg_terms.specs.Linearizable.{Linearizable, StronglyLinearizable
 ghost use Rattle.cg_terms.specs.Guarantees.{Durable, ExactlyOnce, PrefixReads, NoSplitBrain};
 ghost use Rattle.cg_outcome.specs.Commands.{command_of, reads_input};
 ghost use Rattle.cg_outcome.specs.Status.{write_faults};
-ghost use Rattle.cg_outcome.specs.Taking.{Runs, ReadCause, Completes, OfSteps, TellsOfRefusals, RefusesExactly};
+ghost use Rattle.cg_outcome.specs.Taking.{Runs, ReadCause, Completes, OfSteps, IsNoted, TellsOfRefusals, RefusesExactly};
 
 use crate::streaming::replay;
 use crate::trial::try_schedule;
 use cg_io::{Sink, Source};
 use cg_outcome::{
-    ArgText, Command, Report, Status, command_of, finish, outcomes_agree, put_schedule,
+    ArgText, Command, Companion, Report, Status, command_of, finish, outcomes_agree, put_schedule,
 };
 use std::alloc::Global;
 
@@ -23,8 +24,8 @@ fn run_command<S: Source, K: Sink>(
     input: &mut S,
     output: &mut K,
 ) -> Status
-    requires few_read_faults { (S.view input.old).faults < 2 ^ 62 }
-    requires few_write_faults { (K.view output.old).faults < 2 ^ 62 }
+    requires few_read_faults { (S.view input.old).faults < COUNT_LIMIT }
+    requires few_write_faults { (K.view output.old).faults < COUNT_LIMIT }
     ensures ran { Runs (command_of words.now) (S.view input.old) (S.view input.new) (K.view output.old)
         (K.view output.new) result }
     ensures usage { reads_input (command_of words.now) ≡ false → S.view input.new ≡ S.view input.old }
@@ -33,7 +34,7 @@ fn run_command<S: Source, K: Sink>(
 {
     match command_of(words) {
         None => finish(alloc, output, Report::Whole, Status::Usage, 0, 0),
-        Some(Command::Replay(report)) => replay(alloc, input, output, report),
+        Some(Command::Replay(report)) => replay(alloc, input, output, report, Companion::Alone),
         Some(
             Command::Generate {
                 seed,
@@ -58,8 +59,8 @@ pub fn run<S: Source, K: Sink>(
     input: &mut S,
     output: &mut K,
 ) -> Status
-    requires few_read_faults { (S.view input.old).faults < 2 ^ 62 }
-    requires few_write_faults { (K.view output.old).faults < 2 ^ 62 }
+    requires few_read_faults { (S.view input.old).faults < COUNT_LIMIT }
+    requires few_write_faults { (K.view output.old).faults < COUNT_LIMIT }
 
     // At most the input's limit and one byte were taken, and what was put and the status are what these bytes come to. All
     // but the last 4,096 of them had been gone through before the last take: they come to no finding, and what they come to
@@ -81,11 +82,14 @@ pub fn run<S: Source, K: Sink>(
     ensures completes { Completes (command_of words.now) (S.view input.old) (S.view input.new) (K.view output.old)
         (K.view output.new) result }
 
+    // What is made is numbered from 1, up to the limit, and what stands beside the world in the report comes of it.
+    ensures noted { IsNoted words.now }
+
     // A refusal tells of the line whose event isn't admitted, and of the first reason.
     ensures refused { TellsOfRefusals words.now }
 
     // The steps are those of a run, and agree on one order of actions and on all that is read from it.
-    ensures is_run { OfSteps words.now (IsRunFrom no_world 0) }
+    ensures is_run { OfSteps words.now (IsRunFrom no_world) }
     ensures order_grows { OfSteps words.now OrderGrows }
     ensures prefix { OfSteps words.now Prefix }
     ensures creator_order { OfSteps words.now CreatorOrder }

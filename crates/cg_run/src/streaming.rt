@@ -1,14 +1,16 @@
-ghost use Rattle.std.specs.Prelude.{◌<◌, ◌^◌, ◌++◌, MatchResult};
+ghost use Rattle.std.specs.Prelude.{◌<◌, ◌++◌, MatchResult};
+ghost use Rattle.cg_base.specs.declared.limits.TheConstants.{COUNT_LIMIT};
 ghost use Rattle.cg_outcome.specs.Outcome.{whole_line, Ended, Failed};
 ghost use Rattle.cg_outcome.specs.Streaming.{from_stage, IsStage, IsUnended, IsHeld, held_limit, EndsLine, HoldsRest, TakesUp, TakesTurn, Replays};
 ghost use Rattle.cg_outcome.specs.Stopping.{Stopped};
 ghost use Rattle.cg_run.specs.Performing.{seen, seen_stage, seen_end};
 
-use crate::progress::Stage;
-use crate::replay::{close, fail, refuse_limit, whole_line};
+use crate::ending::end_run;
+use crate::progress::{Line, Stage};
+use crate::replay::{close, refuse_limit, whole_line};
 use cg_base::cut_at;
 use cg_io::{Sink, Source};
-use cg_outcome::{INPUT_BYTES, Report, Status, TAKE_BYTES, held_limit};
+use cg_outcome::{Companion, INPUT_BYTES, Report, Status, TAKE_BYTES, held_limit};
 use std::alloc::Global;
 
 // A line's end was taken: what is held and this piece are the line, and nothing is held behind it.
@@ -20,7 +22,7 @@ fn end_line<K: Sink>(
     piece: &[u8],
     stage: Stage,
 ) -> Result<Stage, Status>
-    requires few_faults { (K.view output.old).faults < 2 ^ 62 }
+    requires few_faults { (K.view output.old).faults < COUNT_LIMIT }
     requires stands { IsStage (seen_stage stage) }
     ensures { MatchResult result
         (λ next. EndsLine report (seen_stage stage) (held.old.items ++ piece.now)
@@ -33,7 +35,12 @@ fn end_line<K: Sink>(
         return Err(Status::NoMemory);
     }
     let Stage { line, at, progress } = stage;
-    match whole_line(alloc, output, report, line, at, held.as_slice(), progress) {
+    let this = Line {
+        alloc,
+        report,
+        number: line,
+    };
+    match whole_line(this, output, at, held.as_slice(), progress) {
         Ok(progress) => {
             let at = at + held.len() + 1;
             held.clear();
@@ -53,7 +60,7 @@ fn hold_rest<K: Sink>(
     rest: &[u8],
     stage: Stage,
 ) -> Result<Stage, Status>
-    requires few_faults { (K.view output.old).faults < 2 ^ 62 }
+    requires few_faults { (K.view output.old).faults < COUNT_LIMIT }
     requires stands { IsStage (seen_stage stage) }
     requires unended { IsUnended held.old.items }
     requires unended_rest { IsUnended rest.now }
@@ -66,7 +73,14 @@ fn hold_rest<K: Sink>(
     }
     let Stage { line, at, progress } = stage;
     match held_limit(line, at, held.as_slice()) {
-        Some(what) => Err(refuse_limit(alloc, output, report, line, what, progress)),
+        Some(what) => {
+            let this = Line {
+                alloc,
+                report,
+                number: line,
+            };
+            Err(refuse_limit(this, output, what, progress))
+        }
         None => Ok(Stage { line, at, progress }),
     }
 }
@@ -80,7 +94,7 @@ fn take_up<K: Sink>(
     chunk: &[u8],
     stage: Stage,
 ) -> Result<Stage, Status>
-    requires few_faults { (K.view output.old).faults < 2 ^ 62 }
+    requires few_faults { (K.view output.old).faults < COUNT_LIMIT }
     requires stands { IsStage (seen_stage stage) }
     requires unended { IsUnended held.old.items }
     ensures { TakesUp report (seen_stage stage) (held.old.items ++ chunk.now)
@@ -103,14 +117,19 @@ fn close_stage<K: Sink>(
     held: &[u8],
     stage: Stage,
 ) -> Status
-    requires few_faults { (K.view output.old).faults < 2 ^ 62 }
+    requires few_faults { (K.view output.old).faults < COUNT_LIMIT }
     requires stands { IsStage (seen_stage stage) }
     requires held { IsHeld (seen_stage stage) held.now }
     ensures { Stopped report (from_stage (seen_stage stage) held.now Ended)
         (K.view output.old) (K.view output.new) result }
 {
     let Stage { line, progress, .. } = stage;
-    close(alloc, output, report, line, held, progress)
+    let this = Line {
+        alloc,
+        report,
+        number: line,
+    };
+    close(this, output, held, progress)
 }
 
 // A take has failed behind what is held.
@@ -121,7 +140,7 @@ fn fail_stage<K: Sink>(
     held: &[u8],
     stage: Stage,
 ) -> Status
-    requires few_faults { (K.view output.old).faults < 2 ^ 62 }
+    requires few_faults { (K.view output.old).faults < COUNT_LIMIT }
     requires stands { IsStage (seen_stage stage) }
     requires held { IsHeld (seen_stage stage) held.now }
     ensures { Stopped report (from_stage (seen_stage stage) held.now Failed)
@@ -129,7 +148,12 @@ fn fail_stage<K: Sink>(
 {
     let _held = held;
     let Stage { line, progress, .. } = stage;
-    fail(alloc, output, report, line - 1, progress)
+    let last = Line {
+        alloc,
+        report,
+        number: line - 1,
+    };
+    end_run(last, output, Status::ReadFault, progress)
 }
 
 // One take, made while no whole line is held, and what it brings.
@@ -141,8 +165,8 @@ fn make_turn<S: Source, K: Sink>(
     held: &mut Vec<u8>,
     stage: Stage,
 ) -> Result<Stage, Status>
-    requires few_read_faults { (S.view input.old).faults < 2 ^ 62 }
-    requires few_write_faults { (K.view output.old).faults < 2 ^ 62 }
+    requires few_read_faults { (S.view input.old).faults < COUNT_LIMIT }
+    requires few_write_faults { (K.view output.old).faults < COUNT_LIMIT }
     requires stands { IsStage (seen_stage stage) }
     requires held { IsHeld (seen_stage stage) held.old.items }
     ensures { TakesTurn report (seen_stage stage)
@@ -158,20 +182,22 @@ fn make_turn<S: Source, K: Sink>(
     }
 }
 
-/// Replays the schedule that the input gives. A take is made while no whole line is held, and each line is performed, and
-/// its entries put, before more is taken: memory doesn't hold the input.
+/// Replays the schedule that the input gives, with this beside the world. A take is made while no whole line is held, and
+/// each line is performed, and its entries put, before more is taken: memory doesn't hold the input.
 pub fn replay<S: Source, K: Sink>(
     alloc: Global,
     input: &mut S,
     output: &mut K,
     report: Report,
+    companion: Companion,
 ) -> Status
-    requires few_read_faults { (S.view input.old).faults < 2 ^ 62 }
-    requires few_write_faults { (K.view output.old).faults < 2 ^ 62 }
-    ensures { Replays report (S.view input.old) (S.view input.new) (K.view output.old) (K.view output.new) result }
+    requires few_read_faults { (S.view input.old).faults < COUNT_LIMIT }
+    requires few_write_faults { (K.view output.old).faults < COUNT_LIMIT }
+    ensures { Replays report companion (S.view input.old) (S.view input.new)
+        (K.view output.old) (K.view output.new) result }
 {
     let mut held = Vec::new(alloc);
-    let mut stage = Stage::first(alloc);
+    let mut stage = Stage::first(alloc, companion);
     loop {
         match make_turn(alloc, input, output, report, &mut held, stage) {
             Ok(next) => stage = next,

@@ -1,8 +1,10 @@
-ghost use Rattle.std.specs.Prelude.{◌≡◌, ◌<◌, ◌^◌, IfOk};
+ghost use Rattle.std.specs.Prelude.{◌≡◌, ◌<◌, IfOk};
+ghost use Rattle.cg_base.specs.declared.limits.TheConstants.{COUNT_LIMIT};
 ghost use Rattle.cg_base.specs.Sets.{IsId};
 ghost use Rattle.cg_gen.specs.Generated.{generated};
 ghost use Rattle.cg_schedule.specs.Print.{line_of};
 ghost use Rattle.cg_outcome.specs.Outcome.{Ended, line_outcome, without_return, at_end, performed, trial_text};
+ghost use Rattle.cg_outcome.specs.declared.companion.Companion.TheVariants.{Alone};
 ghost use Rattle.cg_outcome.specs.declared.report.Report.TheVariants.{Tail};
 ghost use Rattle.cg_outcome.specs.declared.status.Status.TheVariants as status;
 ghost use Rattle.cg_outcome.specs.Produced.{before_all, status_of};
@@ -10,12 +12,12 @@ ghost use Rattle.cg_outcome.specs.Putting.{StopsWith};
 ghost use Rattle.cg_outcome.specs.UnderWay.{IsUnderWay};
 ghost use Rattle.cg_run.specs.Performing.{seen, Performs};
 
-use crate::progress::Progress;
+use crate::progress::{Line, Progress};
 use crate::replay::begin_line;
 use cg_base::ReplicaId;
 use cg_gen::Generator;
 use cg_io::Sink;
-use cg_outcome::{Report, Status, finish, put_summary, put_text, without_return};
+use cg_outcome::{Companion, Report, Status, finish, put_summary, put_text, without_return};
 use cg_schedule::{Event, print_line};
 use std::alloc::Global;
 
@@ -27,7 +29,7 @@ fn play_line<K: Sink>(
     event: &Event,
     progress: Progress,
 ) -> Result<Progress, Status>
-    requires few_faults { (K.view output.old).faults < 2 ^ 62 }
+    requires few_faults { (K.view output.old).faults < COUNT_LIMIT }
     requires under_way { IsUnderWay (seen progress) }
     ensures performs { Performs Tail (line_outcome line (without_return (line_of event.now)) (seen progress))
         (K.view output.old) (K.view output.new) result }
@@ -39,7 +41,12 @@ fn play_line<K: Sink>(
         return Err(Status::NoMemory);
     }
     let text = without_return(text.as_slice());
-    begin_line(alloc, output, Report::Tail, line, text, progress)
+    let this = Line {
+        alloc,
+        report: Report::Tail,
+        number: line,
+    };
+    begin_line(this, output, text, progress)
 }
 
 // The line of an event is replayed, and the event let go.
@@ -50,7 +57,7 @@ fn play_event<K: Sink>(
     event: Event,
     progress: Progress,
 ) -> Result<Progress, Status>
-    requires few_faults { (K.view output.old).faults < 2 ^ 62 }
+    requires few_faults { (K.view output.old).faults < COUNT_LIMIT }
     requires under_way { IsUnderWay (seen progress) }
     ensures performs { Performs Tail (line_outcome line (without_return (line_of event)) (seen progress))
         (K.view output.old) (K.view output.new) result }
@@ -63,7 +70,7 @@ fn play_event<K: Sink>(
 
 // Puts the summary.
 fn close_trial<K: Sink>(alloc: Global, output: &mut K, lines: u64, progress: &Progress) -> Status
-    requires { (K.view output.old).faults < 2 ^ 62 }
+    requires { (K.view output.old).faults < COUNT_LIMIT }
     ensures { StopsWith (trial_text (at_end lines Ended (seen progress.now)))
         (status_of (at_end lines Ended (seen progress.now))) (K.view output.old) (K.view output.new) result }
 {
@@ -90,7 +97,7 @@ fn close_trial<K: Sink>(alloc: Global, output: &mut K, lines: u64, progress: &Pr
 
 // The schedule has ended, and the run is let go.
 fn end_trial<K: Sink>(alloc: Global, output: &mut K, lines: u64, progress: Progress) -> Status
-    requires { (K.view output.old).faults < 2 ^ 62 }
+    requires { (K.view output.old).faults < COUNT_LIMIT }
     ensures { StopsWith (trial_text (at_end lines Ended (seen progress)))
         (status_of (at_end lines Ended (seen progress))) (K.view output.old) (K.view output.new) result }
 {
@@ -115,17 +122,17 @@ pub fn try_schedule<K: Sink>(
     replicas: u8,
     lines: u64,
 ) -> Status
-    requires few_faults { (K.view output.old).faults < 2 ^ 62 }
+    requires few_faults { (K.view output.old).faults < COUNT_LIMIT }
     requires replicas { IsId replicas }
-    ensures { StopsWith (trial_text (performed 0 (generated seed replicas lines) before_all))
-        (status_of (performed 0 (generated seed replicas lines) before_all))
+    ensures { StopsWith (trial_text (performed 0 (generated seed replicas lines) (before_all Alone)))
+        (status_of (performed 0 (generated seed replicas lines) (before_all Alone)))
         (K.view output.old) (K.view output.new) result }
 {
     let Ok(schedule) = Generator::new(alloc, seed, ReplicaId::known(replicas), lines) else {
         return Status::NoMemory;
     };
     let mut events = schedule;
-    let mut progress = Progress::new(alloc);
+    let mut progress = Progress::new(alloc, Companion::Alone);
     let mut gone = 0;
     loop {
         match events.next(alloc) {

@@ -61,23 +61,23 @@ abbrev writes : Step
 writes = record done { entry = record one_done { lines = line_in state.RegPrim 1 1 ∷ [] }; world = before_the_crash }
 
 abbrev parts : Step
-parts = record (showing 2 (Split (3 ∷ [])) (record no_entry { lines = line_in state.NonPrim 3 0 ∷ [] })) { world = before_the_crash }
+parts = record (showing (Split (3 ∷ [])) (record no_entry { lines = line_in state.NonPrim 3 0 ∷ [] })) { world = before_the_crash }
 
 abbrev reads_old : Step
-reads_old = record (showing 3 (Weak 3 (Get (codes "x"))) (record no_entry { shown = ShownWeak 3 Absent ∷ [] })) { world = before_the_crash }
+reads_old = record (showing (Weak 3 (Get (codes "x"))) (record no_entry { shown = ShownWeak 3 Absent ∷ [] })) { world = before_the_crash }
 
 abbrev crashes : Step
 crashes =
-    record (showing 4 (Stop 1 0 []) (record no_entry { lines = record { id = 1; up = None } ∷ [] })) {
+    record (showing (Stop 1 0 []) (record no_entry { lines = record { id = 1; up = None } ∷ [] })) {
       world = with_seats (down_as 1 (one_applied 1 (x_is 1)) ∷ up_as 2 (fresh_held 2 servers) ∷ up_as 3 (fresh_held 3 servers) ∷ []);
     }
 
 abbrev recovers : Step
-recovers = record (showing 5 (Recover 1) (record no_entry { lines = line_in state.NonPrim 1 1 ∷ [] })) { world = before_the_crash }
+recovers = record (showing (Recover 1) (record no_entry { lines = line_in state.NonPrim 1 1 ∷ [] })) { world = before_the_crash }
 
 abbrev reads : Step
 reads =
-    record (showing 6 Gather (record no_entry {
+    record (showing Gather (record no_entry {
       made = record { id = name 2 1; kind = asks_one } ∷ [];
       orders = at 2 (name 2 1) ∷ [];
       lines = line_in state.RegPrim 2 2 ∷ [];

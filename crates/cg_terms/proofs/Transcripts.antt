@@ -44,8 +44,8 @@ use Rattle.cg_terms.proofs.Places.{contains-none, contains-here, contains-later,
 abbrev pub name : ℕ → ℕ → ActionId
 name creator index = record { creator = creator; index = index }
 
-abbrev pub showing : ℕ → Event → Entry → Step
-showing number event entry = record { number = number; event = event; entry = entry; world = no_world }
+abbrev pub showing : Event → Entry → Step
+showing event entry = record { event = event; entry = entry; world = no_world }
 
 -- a line of a replica in a state, with so many greens, its last primary component with this number
 abbrev pub up_with : ℕ → StateName → ℕ → ℕ → UpLine
@@ -113,7 +113,7 @@ one_done =
     }
 
 abbrev pub done : Step
-done = showing 1 Gather one_done
+done = showing Gather one_done
 
 -- behind it replicas 1 and 2 hold these databases
 abbrev done_with : List DbEntry → List DbEntry → Step
@@ -128,7 +128,7 @@ done_with db other =
 
 -- a reply to what nobody asked for
 abbrev from_nowhere : Step
-from_nowhere = showing 1 Gather (record no_entry { replies = record { id = name 1 1; effect = Done; answer = None } ∷ [] })
+from_nowhere = showing Gather (record no_entry { replies = record { id = name 1 1; effect = Done; answer = None } ∷ [] })
 
 reply_out_of_nothing : Linearizable (from_nowhere ∷ []) → ⊥
 reply_out_of_nothing (history, g) =
@@ -142,7 +142,7 @@ abbrev absent : Reply
 absent = record { id = name 1 1; effect = Done; answer = Some Absent }
 
 abbrev read_too_early : Step
-read_too_early = showing 1 Gather (record one_done { replies = absent ∷ [] })
+read_too_early = showing Gather (record one_done { replies = absent ∷ [] })
 
 abbrev pub the_action : Action
 the_action = record { id = name 1 1; green_line = 1; kind = puts_one }
@@ -181,7 +181,7 @@ abbrev stale : Reply
 stale = record { id = name 2 1; effect = Done; answer = Some Absent }
 
 abbrev reads_stale : Step
-reads_stale = showing 2 Gather (record no_entry { made = record { id = name 2 1; kind = asks_one } ∷ []; replies = stale ∷ [] })
+reads_stale = showing Gather (record no_entry { made = record { id = name 2 1; kind = asks_one } ∷ []; replies = stale ∷ [] })
 
 abbrev the_read : Action
 the_read = record { id = name 2 1; green_line = 0; kind = asks_one }
@@ -295,7 +295,7 @@ strong-is_linearizable steps g = (history_of steps, (g steps [] [] (sym (append-
 
 -- a reply to what has no place in the order yet
 abbrev without_place : Step
-without_place = showing 1 Gather (record one_done { orders = [] })
+without_place = showing Gather (record one_done { orders = [] })
 
 replied_before_its_place : StronglyLinearizable (without_place ∷ []) → ⊥
 replied_before_its_place g =
@@ -304,7 +304,7 @@ replied_before_its_place g =
 -- the order has the read before the write that it found: some history stands for these replies, and the order isn't it
 abbrev turned_order : Step
 turned_order =
-    showing 1 Gather (record one_done {
+    showing Gather (record one_done {
       made = record { id = name 1 1; kind = puts_one } ∷ record { id = name 2 1; kind = asks_one } ∷ [];
       orders = at 1 (name 2 1) ∷ at 2 (name 1 1) ∷ [];
       lines = in_primary 1 1 ∷ [];
@@ -328,14 +328,14 @@ order_against_the_replies g =
 
 -- a reply of one who hasn't applied the action
 abbrev not_applied : Step
-not_applied = showing 1 Gather (record one_done { lines = in_primary 2 1 ∷ [] })
+not_applied = showing Gather (record one_done { lines = in_primary 2 1 ∷ [] })
 
 acknowledged_too_early : Durable (not_applied ∷ []) → ⊥
 acknowledged_too_early g = let there = g.acknowledged [] not_applied (name 1 1) ([], refl) (0, omega arith, refl) in omega (arith, there.1)
 
 -- it recovers, and shows no green any more
 abbrev none_again : Step
-none_again = showing 2 (Recover 1) (record no_entry { lines = line_with 1 state.NonPrim 0 1 ∷ [] })
+none_again = showing (Recover 1) (record no_entry { lines = line_with 1 state.NonPrim 0 1 ∷ [] })
 
 lost_in_a_crash : Durable (done ∷ none_again ∷ []) → ⊥
 lost_in_a_crash g = let there = g.kept (done ∷ []) (none_again ∷ []) [] 1 (name 1 1) refl (0, omega arith, refl) in omega (arith, there.1)
@@ -351,13 +351,13 @@ lost_in_the_database g =
 -- ---- exactly once
 
 abbrev ordered_again : Step
-ordered_again = showing 2 Gather (record no_entry { orders = at 2 (name 1 1) ∷ []; lines = in_primary 1 2 ∷ [] })
+ordered_again = showing Gather (record no_entry { orders = at 2 (name 1 1) ∷ []; lines = in_primary 1 2 ∷ [] })
 
 ordered_twice : ExactlyOnce (done ∷ ordered_again ∷ []) → ⊥
 ordered_twice g = g.ordered.0 (0, omega arith, refl)
 
 abbrev replied_again : Step
-replied_again = showing 2 Gather (record no_entry { replies = record { id = name 1 1; effect = Done; answer = Some (Number (pos 1)) } ∷ [] })
+replied_again = showing Gather (record no_entry { replies = record { id = name 1 1; effect = Done; answer = Some (Number (pos 1)) } ∷ [] })
 
 replied_twice : ExactlyOnce (done ∷ replied_again ∷ []) → ⊥
 replied_twice g = g.replied.0 (0, omega arith, refl)
@@ -377,7 +377,7 @@ counted (ShownWeak p (Counted n) ∷ list) = n
 counted _ = 0
 
 abbrev counts_two : Step
-counts_two = showing 2 (Weak 1 Count) (record no_entry { shown = ShownWeak 1 (Counted 2) ∷ [] })
+counts_two = showing (Weak 1 Count) (record no_entry { shown = ShownWeak 1 (Counted 2) ∷ [] })
 
 read_of_no_prefix : PrefixReads (done ∷ counts_two ∷ []) → ⊥
 unfolding run_commands with_changes
@@ -396,7 +396,7 @@ own_write_is_not_read g = let there = g.own_writes [] [] [] not_applied (name 1 
 
 -- two components with one number
 abbrev two_of_one_number : Step
-two_of_one_number = showing 1 Gather (record no_entry { lines = in_primary 1 0 ∷ in_primary 2 0 ∷ [] })
+two_of_one_number = showing Gather (record no_entry { lines = in_primary 1 0 ∷ in_primary 2 0 ∷ [] })
 
 two_components : NoSplitBrain (two_of_one_number ∷ []) → ⊥
 two_components g =
@@ -406,7 +406,7 @@ two_components g =
 
 -- a replica outside makes an action green
 abbrev ordered_outside : Step
-ordered_outside = showing 1 Gather (record no_entry { orders = at 1 (name 1 1) ∷ []; lines = line_with 1 state.NonPrim 1 1 ∷ [] })
+ordered_outside = showing Gather (record no_entry { orders = at 1 (name 1 1) ∷ []; lines = line_with 1 state.NonPrim 1 1 ∷ [] })
 
 is_outside : IsPrimary state.NonPrim → ⊥
 is_outside (inl e) = cc

@@ -12,6 +12,7 @@ use Rattle.cg_base.specs.Text.{pieces_of}
 use Rattle.cg_group.specs.declared.reason.Reason.TheVariants.{EmptySet}
 use Rattle.cg_schedule.specs.declared.event.Event.TheVariants.{Start}
 use Rattle.cg_outcome.specs.Outcome.{Ending, Ended, Open, limit_of, unless_passed, without_return, line_outcome, whole_line, cut_line, replayed}
+use Rattle.cg_outcome.specs.declared.companion.Companion.TheVariants.{Alone}
 use Rattle.cg_outcome.specs.Produced.{Progress, Produced, before_all, went_on, ended_with, and_then, prepend, text_of, status_of, one_step}
 use Rattle.cg_outcome.specs.declared.report.Report.TheVariants.{Whole}
 use Rattle.cg_outcome.specs.declared.status.Limit.{Limit}
@@ -41,17 +42,17 @@ too_many_lines = refl
 
 -- so many steps were made before
 abbrev behind : ℕ → Progress
-behind count = record before_all { count = count }
+behind count = record (before_all Alone) { count = count }
 
-last_step : status_of (one_step 3 (Start (record { id = 1; weight = 1 } ∷ [])) (behind 1999999)) ≡ None
+last_step : status_of (one_step 3 None (Start (record { id = 1; weight = 1 } ∷ [])) (behind 1999999)) ≡ None
 unfolding cases_compute
 last_step = refl
 
-one_step_more : status_of (one_step 3 (Start (record { id = 1; weight = 1 } ∷ [])) (behind 2000000)) ≡ Some (status.Limit 3 limit.Steps)
+one_step_more : status_of (one_step 3 None (Start (record { id = 1; weight = 1 } ∷ [])) (behind 2000000)) ≡ Some (status.Limit 3 limit.Steps)
 unfolding cases_compute
 one_step_more = refl
 
-refused_first : status_of (one_step 3 (Start []) (behind 2000000)) ≡ Some (status.Refused 3 EmptySet)
+refused_first : status_of (one_step 3 None (Start []) (behind 2000000)) ≡ Some (status.Refused 3 EmptySet)
 unfolding cases_compute
 refused_first = refl
 
@@ -65,7 +66,7 @@ put bytes how = put_of ("replay" ∷ []) bytes how
 abbrev lines_from : ℕ → ℕ → List ℕ → Ending → Progress → Produced
 lines_from n at bytes how s = replayed n at (pieces_of 10 bytes) how s
 
-put_is : (bytes : List ℕ) (how : Ending) → put bytes how ≡ text_of Whole (lines_from 1 0 bytes how before_all)
+put_is : (bytes : List ℕ) (how : Ending) → put bytes how ≡ text_of Whole (lines_from 1 0 bytes how (before_all Alone))
 unfolding cases_compute
 put_is bytes how = refl
 
@@ -114,7 +115,7 @@ comment_outcome n (b ∷ bytes) s = by_test (ends_with nat_eq (35 ∷ b ∷ byte
 
 -- a line that is passed over wherever it stands
 abbrev IsPassedOver : List ℕ → Type 0
-IsPassedOver line = (n : ℕ) → line_outcome n (without_return line) before_all ≡ went_on before_all
+IsPassedOver line = (n : ℕ) → line_outcome n (without_return line) (before_all Alone) ≡ went_on (before_all Alone)
 
 empty_line : IsPassedOver []
 unfolding cases_compute
@@ -127,23 +128,23 @@ many (suc m) line rest = line ++ 10 ∷ many m line rest
 
 behind_many : (line : List ℕ) → IsUnended line → length line ≤ 32768 → IsPassedOver line
     → (m n at : ℕ) (rest : List ℕ) (how : Ending) → n + m ≤ 200001 → at + m * suc (length line) ≤ 8388608
-    → lines_from n at (many m line rest) how before_all ≡ lines_from (n + m) (at + m * suc (length line)) rest how before_all
+    → lines_from n at (many m line rest) how (before_all Alone) ≡ lines_from (n + m) (at + m * suc (length line)) rest how (before_all Alone)
 unfolding many
 behind_many line is short over zero n at rest how few within =
     let count : n ≡ n + 0 = omega arith in
     let place : at ≡ at + 0 * suc (length line) = omega (arith, zero-mul (suc (length line))) in
-    ap₂ (λ n at. lines_from n at rest how before_all) count place
+    ap₂ (λ n at. lines_from n at rest how (before_all Alone)) count place
 behind_many line is short over (suc m) n at rest how few within =
     let more : Progress → Produced = lines_from (n + 1) (at + length line + 1) (many m line rest) how in
     let times : suc m * suc (length line) ≡ suc (length line) + m * suc (length line) = omega (arith, suc-mul m (suc (length line))) in
     let none : limit_of n (length line) (at + length line + 1) ≡ None = limit-none n (length line) (at + length line + 1) short (omega (arith, times)) (omega arith) in
     let count : n + 1 + m ≡ n + suc m = omega arith in
     let place : at + length line + 1 + m * suc (length line) ≡ at + suc m * suc (length line) = omega (arith, times) in
-    line_and_more n at line (many m line rest) how before_all is
-    ∙ ap (λ found. and_then (unless_passed found n before_all (line_outcome n (without_return line) before_all)) more) none
+    line_and_more n at line (many m line rest) how (before_all Alone) is
+    ∙ ap (λ found. and_then (unless_passed found n (before_all Alone) (line_outcome n (without_return line) (before_all Alone))) more) none
     ∙ ap (λ p. and_then p more) (over n)
     ∙ behind_many line is short over m (n + 1) (at + length line + 1) rest how (omega arith) (omega (arith, times))
-    ∙ ap₂ (λ n at. lines_from n at rest how before_all) count place
+    ∙ ap₂ (λ n at. lines_from n at rest how (before_all Alone)) count place
 
 -- a comment of so many bytes
 abbrev comment : ℕ → List ℕ
@@ -161,13 +162,13 @@ empty_unended = All-nil (λ b. (b == 10) ≡ false)
 long_line_put : (line rest : List ℕ) (how : Ending) → IsUnended line → 32768 < length line → put (line ++ 10 ∷ rest) how ≡ written ("limit 1 line" ∷ [])
 unfolding cases_compute
 long_line_put line rest how is long =
-    put_is (line ++ 10 ∷ rest) how ∙ ap (text_of Whole) (passes_limit 1 0 line rest how before_all limit.Line is (limit-line 1 (length line) (0 + length line + 1) long))
+    put_is (line ++ 10 ∷ rest) how ∙ ap (text_of Whole) (passes_limit 1 0 line rest how (before_all Alone) limit.Line is (limit-line 1 (length line) (0 + length line + 1) long))
 
 -- so has one without its end, however the taking ended
 long_rest_put : (b : ℕ) (bs : List ℕ) (how : Ending) → IsUnended (b ∷ bs) → 32768 < length (b ∷ bs) → put (b ∷ bs) how ≡ written ("limit 1 line" ∷ [])
 unfolding cases_compute
 long_rest_put b bs how is long =
-    put_is (b ∷ bs) how ∙ ap (text_of Whole) (rest_passes_limit 1 0 b bs how before_all limit.Line is (limit-line 1 (length (b ∷ bs)) (0 + length (b ∷ bs)) long))
+    put_is (b ∷ bs) how ∙ ap (text_of Whole) (rest_passes_limit 1 0 b bs how (before_all Alone) limit.Line is (limit-line 1 (length (b ∷ bs)) (0 + length (b ∷ bs)) long))
 
 -- a line of 32,768 bytes is gone through: a comment
 longest_line_put : (bytes : List ℕ) → IsUnended bytes → length bytes ≡ 32767 → put (35 ∷ bytes ++ 10 ∷ []) Ended ≡ written ("no end 1" ∷ [])
@@ -178,9 +179,9 @@ longest_line_put bytes is long =
     let at_end : Progress → Produced = lines_from 2 (0 + length line + 1) [] Ended in
     put_is (line ++ 10 ∷ []) Ended
     ∙ ap (text_of Whole) (
-    line_and_more 1 0 line [] Ended before_all (All-cons (λ b. (b == 10) ≡ false) 35 bytes refl is)
-    ∙ ap (λ found. and_then (unless_passed found 1 before_all (line_outcome 1 (without_return line) before_all)) at_end) none
-    ∙ ap (λ p. and_then p at_end) (comment_outcome 1 bytes before_all))
+    line_and_more 1 0 line [] Ended (before_all Alone) (All-cons (λ b. (b == 10) ≡ false) 35 bytes refl is)
+    ∙ ap (λ found. and_then (unless_passed found 1 (before_all Alone) (line_outcome 1 (without_return line) (before_all Alone))) at_end) none
+    ∙ ap (λ p. and_then p at_end) (comment_outcome 1 bytes (before_all Alone)))
 
 start_unended : IsUnended (utf8 "start 1")
 unfolding cases_compute
@@ -193,19 +194,19 @@ unfolding cases_compute
 long_line_behind_a_step line rest how is long =
     let start : List ℕ = utf8 "start 1" in
     let more : List ℕ = line ++ 10 ∷ rest in
-    let begun = whole_line 1 0 start before_all in
+    let begun = whole_line 1 0 start (before_all Alone) in
     put_is (start ++ 10 ∷ more) how
     ∙ ap (text_of Whole) (
-    line_and_more 1 0 start more how before_all start_unended
-    ∙ ap (prepend begun.steps) (passes_limit 2 8 line rest how begun.progress limit.Line is (limit-line 2 (length line) (8 + length line + 1) long)))
+    line_and_more 1 0 start more how (before_all Alone) start_unended
+    ∙ ap (prepend begun.items) (passes_limit 2 8 line rest how begun.progress limit.Line is (limit-line 2 (length line) (8 + length line + 1) long)))
 
 -- ---- the input
 
 -- 131,072 lines of 64 bytes are 8,388,608
-full_input : (rest : List ℕ) (how : Ending) → put (many 131072 (comment 63) rest) how ≡ text_of Whole (lines_from 131073 8388608 rest how before_all)
+full_input : (rest : List ℕ) (how : Ending) → put (many 131072 (comment 63) rest) how ≡ text_of Whole (lines_from 131073 8388608 rest how (before_all Alone))
 full_input rest how =
     put_is (many 131072 (comment 63) rest) how
-    ∙ ap (text_of Whole) (behind_many (comment 63) (comment_unended 63) (omega arith) (λ n. comment_outcome n (comment 62) before_all) 131072 1 0 rest how (omega arith) (omega arith))
+    ∙ ap (text_of Whole) (behind_many (comment 63) (comment_unended 63) (omega arith) (λ n. comment_outcome n (comment 62) (before_all Alone)) 131072 1 0 rest how (omega arith) (omega arith))
 
 -- an input of so many bytes is gone through
 full_input_put : put (many 131072 (comment 63) []) Ended ≡ written ("no end 131072" ∷ [])
@@ -215,23 +216,23 @@ full_input_put = full_input [] Ended
 -- one of a byte more isn't: the byte ends a line, or begins one
 line_past_the_input : (rest : List ℕ) (how : Ending) → put (many 131072 (comment 63) (10 ∷ rest)) how ≡ written ("limit 131073 input" ∷ [])
 unfolding cases_compute
-line_past_the_input rest how = full_input (10 ∷ rest) how ∙ ap (text_of Whole) (passes_limit 131073 8388608 [] rest how before_all limit.Input empty_unended refl)
+line_past_the_input rest how = full_input (10 ∷ rest) how ∙ ap (text_of Whole) (passes_limit 131073 8388608 [] rest how (before_all Alone) limit.Input empty_unended refl)
 
 rest_past_the_input : (how : Ending) → put (many 131072 (comment 63) (comment 1)) how ≡ written ("limit 131073 input" ∷ [])
 unfolding cases_compute
-rest_past_the_input how = full_input (comment 1) how ∙ ap (text_of Whole) (rest_passes_limit 131073 8388608 35 [] how before_all limit.Input (comment_unended 1) refl)
+rest_past_the_input how = full_input (comment 1) how ∙ ap (text_of Whole) (rest_passes_limit 131073 8388608 35 [] how (before_all Alone) limit.Input (comment_unended 1) refl)
 
 -- a line that passes both limits is told as too long
 long_line_past_the_input : (line rest : List ℕ) (how : Ending) → IsUnended line → 32768 < length line → put (many 131072 (comment 63) (line ++ 10 ∷ rest)) how ≡ written ("limit 131073 line" ∷ [])
 unfolding cases_compute
 long_line_past_the_input line rest how is long =
     full_input (line ++ 10 ∷ rest) how
-    ∙ ap (text_of Whole) (passes_limit 131073 8388608 line rest how before_all limit.Line is (limit-line 131073 (length line) (8388608 + length line + 1) long))
+    ∙ ap (text_of Whole) (passes_limit 131073 8388608 line rest how (before_all Alone) limit.Line is (limit-line 131073 (length line) (8388608 + length line + 1) long))
 
 -- ---- the lines
 
 -- 200,000 lines, each empty
-all_lines : (rest : List ℕ) (how : Ending) → put (many 200000 [] rest) how ≡ text_of Whole (lines_from 200001 200000 rest how before_all)
+all_lines : (rest : List ℕ) (how : Ending) → put (many 200000 [] rest) how ≡ text_of Whole (lines_from 200001 200000 rest how (before_all Alone))
 all_lines rest how = put_is (many 200000 [] rest) how ∙ ap (text_of Whole) (behind_many [] empty_unended (omega arith) empty_line 200000 1 0 rest how (omega arith) (omega arith))
 
 -- so many lines are gone through
@@ -242,18 +243,18 @@ all_lines_put = all_lines [] Ended
 -- one more isn't: it has its end, or hasn't
 one_line_more : (rest : List ℕ) (how : Ending) → put (many 200000 [] (10 ∷ rest)) how ≡ written ("limit 200001 lines" ∷ [])
 unfolding cases_compute
-one_line_more rest how = all_lines (10 ∷ rest) how ∙ ap (text_of Whole) (passes_limit 200001 200000 [] rest how before_all limit.Lines empty_unended refl)
+one_line_more rest how = all_lines (10 ∷ rest) how ∙ ap (text_of Whole) (passes_limit 200001 200000 [] rest how (before_all Alone) limit.Lines empty_unended refl)
 
 one_piece_more : (how : Ending) → put (many 200000 [] (comment 1)) how ≡ written ("limit 200001 lines" ∷ [])
 unfolding cases_compute
-one_piece_more how = all_lines (comment 1) how ∙ ap (text_of Whole) (rest_passes_limit 200001 200000 35 [] how before_all limit.Lines (comment_unended 1) refl)
+one_piece_more how = all_lines (comment 1) how ∙ ap (text_of Whole) (rest_passes_limit 200001 200000 35 [] how (before_all Alone) limit.Lines (comment_unended 1) refl)
 
 -- one that passes both limits is told as too long
 long_line_past_the_lines : (line rest : List ℕ) (how : Ending) → IsUnended line → 32768 < length line → put (many 200000 [] (line ++ 10 ∷ rest)) how ≡ written ("limit 200001 line" ∷ [])
 unfolding cases_compute
 long_line_past_the_lines line rest how is long =
     all_lines (line ++ 10 ∷ rest) how
-    ∙ ap (text_of Whole) (passes_limit 200001 200000 line rest how before_all limit.Line is (limit-line 200001 (length line) (200000 + length line + 1) long))
+    ∙ ap (text_of Whole) (passes_limit 200001 200000 line rest how (before_all Alone) limit.Line is (limit-line 200001 (length line) (200000 + length line + 1) long))
 
 -- a line past the input's limit and that of lines is told as past the input's: 188,608 lines of 42 bytes and 11,392 of 41
 -- are 8,388,608 bytes in 200,000 lines
@@ -263,15 +264,15 @@ input_before_the_lines rest how =
     let others : List ℕ = many 11392 (comment 40) (10 ∷ rest) in
     put_is (many 188608 (comment 41) others) how
     ∙ ap (text_of Whole) (
-    behind_many (comment 41) (comment_unended 41) (omega arith) (λ n. comment_outcome n (comment 40) before_all) 188608 1 0 others how (omega arith) (omega arith)
-    ∙ behind_many (comment 40) (comment_unended 40) (omega arith) (λ n. comment_outcome n (comment 39) before_all) 11392 188609 7921536 (10 ∷ rest) how (omega arith) (omega arith)
-    ∙ passes_limit 200001 8388608 [] rest how before_all limit.Input empty_unended refl)
+    behind_many (comment 41) (comment_unended 41) (omega arith) (λ n. comment_outcome n (comment 40) (before_all Alone)) 188608 1 0 others how (omega arith) (omega arith)
+    ∙ behind_many (comment 40) (comment_unended 40) (omega arith) (λ n. comment_outcome n (comment 39) (before_all Alone)) 11392 188609 7921536 (10 ∷ rest) how (omega arith) (omega arith)
+    ∙ passes_limit 200001 8388608 [] rest how (before_all Alone) limit.Input empty_unended refl)
 
 -- ---- the steps
 
 -- behind a start, where so many steps had been made
 abbrev behind_start : ℕ → Progress
-behind_start count = record (lines_from 1 0 (written ("start 1" ∷ [])) Open before_all).progress { count = count }
+behind_start count = record (lines_from 1 0 (written ("start 1" ∷ [])) Open (before_all Alone)).progress { count = count }
 
 -- what is put of the lines behind it
 abbrev put_behind : ℕ → List String → List ℕ

@@ -1,6 +1,6 @@
 -- For each thing that the steps of a run agree on, small transcripts that don't: a definition that let one of them pass would
 -- say too little.
-use Rattle.std.specs.Prelude.{◌≡◌, ◌⊎◌, IsTrue, ℕ, ◌==◌, ◌≤◌, Bool, true, false, List, [], ◌∷◌, ◌++◌, Option, Some, None, codes, map, option_map, is_some, pos, if◌then◌else◌}
+use Rattle.std.specs.Prelude.{◌≡◌, ◌⊎◌, IsTrue, ℕ, ◌==◌, ◌≤◌, ◌<◌, Bool, true, false, List, [], ◌∷◌, ◌++◌, Option, Some, None, codes, map, option_map, is_some, pos, if◌then◌else◌}
 use Rattle.std.specs.Option.{option_map_or}
 use Rattle.std.proofs.Common.{refl, sym, ap, subst, inl, inr, ⊎_elim, arith, length}
 use Rattle.std.proofs.lemmas.Bool.{true≢false, false≢true}
@@ -48,6 +48,9 @@ use Rattle.cg_model.specs.Schedules.{run_of}
 use Rattle.cg_base.specs.Text.{is_nil}
 use Rattle.cg_io.specs.Outside.{SourceView, SinkView}
 use Rattle.cg_outcome.specs.declared.command.Command.TheVariants.{Replay}
+use Rattle.cg_outcome.specs.declared.companion.Companion.TheVariants.{Alone}
+use Rattle.cg_outcome.specs.Items.{Item}
+use Rattle.cg_outcome.specs.Kept.{AreNoted}
 use Rattle.cg_outcome.specs.declared.report.Report.TheVariants.{Whole}
 use Rattle.cg_outcome.specs.declared.status.Status.TheVariants as status
 use Rattle.cg_outcome.specs.Taking.{Completes}
@@ -59,8 +62,8 @@ use Rattle.cg_worked.specs.Computing.{cases_compute}
 abbrev name : ℕ → ℕ → ActionId
 name creator index = record { creator = creator; index = index }
 
-abbrev showing : ℕ → Event → Entry → Step
-showing number event entry = record { number = number; event = event; entry = entry; world = no_world }
+abbrev showing : Event → Entry → Step
+showing event entry = record { event = event; entry = entry; world = no_world }
 
 -- a line of a replica in a state, with so many greens, its last primary component with an index and a configuration
 abbrev up_with : ℕ → StateName → ℕ → ℕ → ℕ → UpLine
@@ -98,7 +101,6 @@ holder h = record { held = h; state = NonPrim false }
 abbrev holding : Held → Step
 holding h =
     record {
-      number = 1;
       event = Gather;
       entry = no_entry;
       world = record no_world { seats = record { id = 1; life = Up (holder h) (new_disk h) } ∷ [] };
@@ -138,21 +140,21 @@ first_amount (e ∷ es) = amount e.value
 -- ---- one order grows
 
 two_at_one_place : List Step
-two_at_one_place = showing 1 Gather (record no_entry { orders = at 1 (name 1 1) ∷ at 1 (name 2 1) ∷ []; lines = line_of_primary 1 2 ∷ [] }) ∷ []
+two_at_one_place = showing Gather (record no_entry { orders = at 1 (name 1 1) ∷ at 1 (name 2 1) ∷ []; lines = line_of_primary 1 2 ∷ [] }) ∷ []
 
 repeated_place : OrderGrows two_at_one_place → ⊥
 unfolding two_at_one_place
 repeated_place g = let numbers = g.numbered in cc
 
 told_before_reached : List Step
-told_before_reached = showing 1 Gather (record no_entry { orders = at 1 (name 1 1) ∷ [] }) ∷ []
+told_before_reached = showing Gather (record no_entry { orders = at 1 (name 1 1) ∷ [] }) ∷ []
 
 nobody_there : OrderGrows told_before_reached → ⊥
 unfolding told_before_reached
 nobody_there g = let count = g.in_time told_before_reached [] refl in cc
 
 abbrev shows_other : Step
-shows_other = showing 1 Gather (record no_entry { orders = at 1 (name 1 1) ∷ []; lines = line_of_primary 1 1 ∷ []; shown = All (name 2 1 ∷ []) ∷ [] })
+shows_other = showing Gather (record no_entry { orders = at 1 (name 1 1) ∷ []; lines = line_of_primary 1 1 ∷ []; shown = All (name 2 1 ∷ []) ∷ [] })
 
 shows_another : OrderGrows (shows_other ∷ []) → ⊥
 shows_another g =
@@ -162,10 +164,10 @@ shows_another g =
 -- ---- greens are a prefix
 
 abbrev one_green : Step
-one_green = showing 1 Gather (record no_entry { orders = at 1 (name 1 1) ∷ []; lines = line_of_primary 1 1 ∷ [] })
+one_green = showing Gather (record no_entry { orders = at 1 (name 1 1) ∷ []; lines = line_of_primary 1 1 ∷ [] })
 
 abbrev none_again : Step
-none_again = showing 2 Gather (record no_entry { lines = line_of_primary 1 0 ∷ [] })
+none_again = showing Gather (record no_entry { lines = line_of_primary 1 0 ∷ [] })
 
 count_falls : Prefix (one_green ∷ none_again ∷ []) → ⊥
 count_falls g = let fall = g.never_falls (one_green ∷ []) none_again 1 ([], refl) in omega (arith, fall)
@@ -174,7 +176,7 @@ moved_by_nothing : Prefix (one_green ∷ []) → ⊥
 moved_by_nothing g = let still = g.moves_only [] one_green 1 ([], refl) refl in cc
 
 abbrev other_greens : Step
-other_greens = showing 1 Gather (record no_entry { orders = at 1 (name 1 1) ∷ []; lines = line_of_primary 1 1 ∷ []; shown = Greens 1 (name 2 1 ∷ []) ∷ [] })
+other_greens = showing Gather (record no_entry { orders = at 1 (name 1 1) ∷ []; lines = line_of_primary 1 1 ∷ []; shown = Greens 1 (name 2 1 ∷ []) ∷ [] })
 
 greens_beside_the_order : Prefix (other_greens ∷ []) → ⊥
 greens_beside_the_order g =
@@ -296,7 +298,6 @@ discards = let up = up_with 1 state.RegPrim 1 1 1 in record up { view = record u
 abbrev discarded_early : Step
 discarded_early =
     record {
-      number = 1;
       event = Start servers;
       entry = record no_entry { orders = at 1 (name 1 1) ∷ []; lines = record { id = 1; up = Some discards } ∷ line_of_primary 2 0 ∷ [] };
       world = record no_world { seats = record { id = 2; life = Down (new_disk (fresh_held 2 servers)) [] } ∷ [] };
@@ -308,7 +309,7 @@ white_above_another_server g = let below = g.white [] discarded_early 1 2 ([], r
 -- ---- each creator's actions in their order
 
 abbrev second_alone : Step
-second_alone = showing 1 Gather (record no_entry { orders = at 1 (name 1 2) ∷ []; lines = line_of_primary 1 1 ∷ [] })
+second_alone = showing Gather (record no_entry { orders = at 1 (name 1 2) ∷ []; lines = line_of_primary 1 1 ∷ [] })
 
 first_left_out : CreatorOrder (second_alone ∷ []) → ⊥
 first_left_out g = let numbers = g.numbered 1 in cc
@@ -322,7 +323,7 @@ never_made g =
 
 abbrev made_and_green : List Reply → List Shown → Step
 made_and_green replies shown =
-    showing 1 Gather (record {
+    showing Gather (record {
       made = record { id = name 1 1; kind = puts_one } ∷ [];
       orders = at 1 (name 1 1) ∷ [];
       lines = line_of_primary 1 1 ∷ [];
@@ -381,7 +382,7 @@ reply_so effect answer = record { id = name 1 1; effect = effect; answer = answe
 
 abbrev replied_so : Kind → Effect → Option Answer → Step
 replied_so kind effect answer =
-    showing 1 Gather (record no_entry {
+    showing Gather (record no_entry {
       made = record { id = name 1 1; kind = kind } ∷ [];
       orders = at 1 (name 1 1) ∷ [];
       lines = line_of_primary 1 1 ∷ [];
@@ -429,7 +430,7 @@ aborted_where_it_is_done g =
 
 -- a reply where nobody has passed its place
 abbrev replied_before : Step
-replied_before = showing 1 Gather (record no_entry { replies = record { id = name 1 1; effect = Done; answer = None } ∷ []; orders = at 1 (name 1 1) ∷ []; lines = line_of_primary 2 1 ∷ [] })
+replied_before = showing Gather (record no_entry { replies = record { id = name 1 1; effect = Done; answer = None } ∷ []; orders = at 1 (name 1 1) ∷ []; lines = line_of_primary 2 1 ∷ [] })
 
 reply_before_its_place : FoldAnswers (replied_before ∷ []) → ⊥
 reply_before_its_place g =
@@ -439,13 +440,13 @@ reply_before_its_place g =
 
 -- a reply of one who went down behind its request
 abbrev made_alone : Step
-made_alone = showing 1 Gather (record no_entry { made = record { id = name 1 1; kind = puts_one } ∷ []; lines = line_of_primary 1 0 ∷ [] })
+made_alone = showing Gather (record no_entry { made = record { id = name 1 1; kind = puts_one } ∷ []; lines = line_of_primary 1 0 ∷ [] })
 
 abbrev gone_down : Step
-gone_down = showing 2 Gather (record no_entry { lines = record { id = 1; up = None } ∷ [] })
+gone_down = showing Gather (record no_entry { lines = record { id = 1; up = None } ∷ [] })
 
 abbrev replied_behind : Step
-replied_behind = showing 3 (Recover 1) (record no_entry { orders = at 1 (name 1 1) ∷ []; lines = line_of_primary 1 1 ∷ []; replies = early ∷ [] })
+replied_behind = showing (Recover 1) (record no_entry { orders = at 1 (name 1 1) ∷ []; lines = line_of_primary 1 1 ∷ []; replies = early ∷ [] })
 
 reply_behind_a_crash : FoldAnswers (made_alone ∷ gone_down ∷ replied_behind ∷ []) → ⊥
 reply_behind_a_crash g =
@@ -455,7 +456,7 @@ reply_behind_a_crash g =
 
 -- its creator, who lives, passes the request's place, and nothing is replied
 abbrev passed_in_silence : Step
-passed_in_silence = showing 2 Gather (record no_entry { orders = at 1 (name 1 1) ∷ []; lines = line_of_primary 1 1 ∷ [] })
+passed_in_silence = showing Gather (record no_entry { orders = at 1 (name 1 1) ∷ []; lines = line_of_primary 1 1 ∷ [] })
 
 reply_withheld : FoldAnswers (made_alone ∷ passed_in_silence ∷ []) → ⊥
 reply_withheld g =
@@ -465,7 +466,7 @@ reply_withheld g =
 
 -- a reply in the step behind the one in which its place was passed
 abbrev replied_later : Step
-replied_later = showing 3 Gather (record no_entry { replies = record { id = name 1 1; effect = Done; answer = Some (Number (pos 1)) } ∷ [] })
+replied_later = showing Gather (record no_entry { replies = record { id = name 1 1; effect = Done; answer = Some (Number (pos 1)) } ∷ [] })
 
 reply_behind_its_place : FoldAnswers (made_alone ∷ passed_in_silence ∷ replied_later ∷ []) → ⊥
 reply_behind_its_place g =
@@ -516,7 +517,7 @@ counted (ShownDirty p (Counted n) ∷ list) = n
 counted _ = 0
 
 abbrev counts_one : Step
-counts_one = showing 1 (Weak 1 Count) (record no_entry { lines = line_of_primary 1 0 ∷ []; shown = ShownWeak 1 (Counted 1) ∷ [] })
+counts_one = showing (Weak 1 Count) (record no_entry { lines = line_of_primary 1 0 ∷ []; shown = ShownWeak 1 (Counted 1) ∷ [] })
 
 weak_answer_off_by_one : FoldAnswers (counts_one ∷ []) → ⊥
 unfolding cases_compute
@@ -526,7 +527,7 @@ weak_answer_off_by_one g =
 -- ---- a dirty answer takes what is known
 
 abbrev counts_one_dirty : Step
-counts_one_dirty = showing 1 (Dirty 1 Count) (record no_entry { lines = line_of_primary 1 0 ∷ []; shown = ShownDirty 1 (Counted 1) ∷ [] })
+counts_one_dirty = showing (Dirty 1 Count) (record no_entry { lines = line_of_primary 1 0 ∷ []; shown = ShownDirty 1 (Counted 1) ∷ [] })
 
 dirty_answer_off_by_one : DirtyAnswers (counts_one_dirty ∷ []) → ⊥
 unfolding cases_compute
@@ -537,7 +538,7 @@ dirty_answer_off_by_one g =
 -- ---- one primary component of an index
 
 abbrev two_of_one_index : Step
-two_of_one_index = showing 1 Gather (record no_entry { lines = line_with 1 state.RegPrim 0 1 1 ∷ line_with 2 state.RegPrim 0 1 2 ∷ [] })
+two_of_one_index = showing Gather (record no_entry { lines = line_with 1 state.RegPrim 0 1 1 ∷ line_with 2 state.RegPrim 0 1 2 ∷ [] })
 
 two_components : OnePrimary (two_of_one_index ∷ []) → ⊥
 two_components g =
@@ -547,7 +548,7 @@ two_components g =
 
 -- one index and one configuration, and a set of the first replica beside one of the second
 abbrev two_of_one_configuration : Step
-two_of_one_configuration = showing 1 Gather (record no_entry { lines = line_with 1 state.RegPrim 0 1 1 ∷ line_with 2 state.RegPrim 0 1 1 ∷ [] })
+two_of_one_configuration = showing Gather (record no_entry { lines = line_with 1 state.RegPrim 0 1 1 ∷ line_with 2 state.RegPrim 0 1 1 ∷ [] })
 
 -- the first replica of a set
 abbrev first_member : List Weighted → ℕ
@@ -560,7 +561,7 @@ two_sets g =
     omega (arith, ap first_member same.1)
 
 abbrev longer_outside : Step
-longer_outside = showing 1 Gather (record no_entry { orders = at 1 (name 1 1) ∷ []; lines = line_with 1 state.NonPrim 1 1 1 ∷ [] })
+longer_outside = showing Gather (record no_entry { orders = at 1 (name 1 1) ∷ []; lines = line_with 1 state.NonPrim 1 1 1 ∷ [] })
 
 is_outside : ((state.NonPrim ≡ state.RegPrim) ⊎ (state.NonPrim ≡ state.TransPrim)) ⊎ IsTrue (is_recovery_of 1 Gather) → ⊥
 is_outside (inl (inl e)) = cc
@@ -585,7 +586,7 @@ waits_for_ever =
 
 -- a step that leads to a world
 abbrev leads_to : World → Step
-leads_to w = record { number = 1; event = Gather; entry = no_entry; world = w }
+leads_to w = record { event = Gather; entry = no_entry; world = w }
 
 abbrev quiet_step : Step
 quiet_step = leads_to waits_for_ever
@@ -710,7 +711,7 @@ done_without_its_report g = ⊎_elim (λ (refused : status.Done ≡ status.NoMem
 -- ---- refused exactly
 
 abbrev starts_nobody : Step
-starts_nobody = showing 1 (Start []) no_entry
+starts_nobody = showing (Start []) no_entry
 
 step_of_a_refused_event : RefusedExactly (starts_nobody ∷ []) None → ⊥
 unfolding cases_compute
@@ -719,3 +720,17 @@ step_of_a_refused_event g = let admitted = g.admitted [] starts_nobody ([], refl
 other_reason : RefusedExactly [] (Some record { event = Start []; reason = NotUp 1 }) → ⊥
 unfolding cases_compute
 other_reason g = let reason = g.reason (record { event = Start []; reason = NotUp 1 }) refl in cc
+
+-- ---- items are numbered
+
+abbrev item_of : ℕ → Item
+item_of number = record { number = number; further = None; step = Some (showing Gather no_entry); lines = [] }
+
+numbered_from_two : AreNoted no_world Alone 0 (item_of 2 ∷ []) → ⊥
+numbered_from_two are = let first : 2 ≡ 1 = are.0 in omega (arith, first)
+
+number_left_out : AreNoted no_world Alone 0 (item_of 1 ∷ item_of 3 ∷ []) → ⊥
+number_left_out are = let second : 3 ≡ 2 = are.4.0 in omega (arith, second)
+
+behind_the_limit : AreNoted no_world Alone 2000000 (item_of 2000001 ∷ []) → ⊥
+behind_the_limit are = let below : 2000000 < 2000000 = are.1 in omega (arith, below)

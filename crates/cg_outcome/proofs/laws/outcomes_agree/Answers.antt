@@ -1,4 +1,4 @@
-use Rattle.cg_outcome.proofs.RunFacts.{outcome-is_run, outcome-agrees, outcome-guarantees}
+use Rattle.cg_outcome.proofs.RunFacts.{outcome-is_run, outcome-noted, outcome-agrees, outcome-guarantees}
 use Rattle.cg_outcome.proofs.RefusedLines.{outcome-refuses}
 use Rattle.cg_outcome.proofs.laws.outcomes_agree.Goals as goal
 
@@ -7,6 +7,9 @@ returns-clause-refused c = outcome-refuses c.args.words.now c.lines_are_exact.en
 
 pub returns-clause-is_run : goal.returns-clause-is_run
 returns-clause-is_run c = λ taken how. outcome-is_run c.args.words.now taken how c.lines_are_exact.ensures.event
+
+pub returns-clause-noted : goal.returns-clause-noted
+returns-clause-noted c = λ taken how. outcome-noted c.args.words.now taken how c.lines_are_exact.ensures.event
 
 pub returns-clause-order_grows : goal.returns-clause-order_grows
 returns-clause-order_grows c = λ taken how. (outcome-agrees c.args.words.now taken how c.lines_are_exact.ensures.event c.runs_agree.ensures).order_grows

@@ -9,17 +9,17 @@ use Rattle.cg_run.proofs.replay.begin_line.Goals as goal
 pub finish_line-requires-clause-reads : goal.finish_line-requires-clause-reads
 finish_line-requires-clause-reads g c =
     let o : Word × List (List ℕ) = (c.in-Ok-Some.word, c.in-Ok-Some.words) in
-    let is : opening c.args.progress.reader c.args.line.now ≡ Ok (Some o) = sym c.begin_line.ensures ∙ c.in-Ok-Some.is ∙ ap Ok c.in-Ok-Some.field-0-is in
-    λ event read. next_read c.lines_are_exact.ensures.event (seen c.args.progress) c.args.line.now o event c.requires.under_way is read
+    let is : opening c.args.progress.reader c.args.text.now ≡ Ok (Some o) = sym c.begin_line.ensures ∙ c.in-Ok-Some.is ∙ ap Ok c.in-Ok-Some.field-0-is in
+    λ event read. next_read c.lines_are_exact.ensures.event (seen c.args.progress) c.args.text.now o event c.requires.under_way is read
 
 pub returns-in-Ok-Some-clause-performs : goal.returns-in-Ok-Some-clause-performs
 returns-in-Ok-Some-clause-performs g c =
     let o : Word × List (List ℕ) = (c.in-Ok-Some.word, c.in-Ok-Some.words) in
-    let is : opening c.args.progress.reader c.args.line.now ≡ Ok (Some o) = sym c.begin_line.ensures ∙ c.in-Ok-Some.is ∙ ap Ok c.in-Ok-Some.field-0-is in
-    rw (line-word c.args.number c.args.line.now (seen c.args.progress) o is) c.finish_line.ensures.performs
+    let is : opening c.args.progress.reader c.args.text.now ≡ Ok (Some o) = sym c.begin_line.ensures ∙ c.in-Ok-Some.is ∙ ap Ok c.in-Ok-Some.field-0-is in
+    rw (line-word c.args.line.number c.args.text.now (seen c.args.progress) o refl is) c.finish_line.ensures.performs
 
 pub returns-in-Err-clause-performs : goal.returns-in-Err-clause-performs
 returns-in-Err-clause-performs g c =
-    let is : opening c.args.progress.reader c.args.line.now ≡ Err c.in-Err.fault = sym c.begin_line.ensures ∙ c.in-Err.is in
-    rw (line-opened c.args.number c.args.line.now (seen c.args.progress) (Err c.in-Err.fault) is)
+    let is : opening c.args.progress.reader c.args.text.now ≡ Err c.in-Err.fault = sym c.begin_line.ensures ∙ c.in-Err.is in
+    rw (line-opened c.args.line.number c.args.text.now (seen c.args.progress) (Err c.in-Err.fault) refl is)
     (c.refuse_line.ensures c.args.progress refl (Err c.in-Err.fault) (λ other. refl))

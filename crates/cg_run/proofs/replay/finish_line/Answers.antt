@@ -8,5 +8,5 @@ use Rattle.cg_run.proofs.replay.finish_line.Goals as goal
 pub returns-in-Err-clause-performs : goal.returns-in-Err-clause-performs
 returns-in-Err-clause-performs g c =
     let read = whole (event_reading c.args.word) c.args.words in
-    rw (word-read c.args.line c.args.word c.args.words (seen c.args.progress))
+    rw (word-read c.args.line.number c.args.word c.args.words (seen c.args.progress))
     (c.refuse_line.ensures c.args.progress refl (some_event read) (λ other. ap some_event (c.in-Err.ensures.event other)))

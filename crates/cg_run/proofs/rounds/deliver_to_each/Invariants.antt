@@ -8,5 +8,5 @@ use Rattle.cg_outcome.specs.Stopping.{GoesOn}
 
 abbrev pub invariant-loop-to : goal.invariant-loop-to
 invariant-loop-to g l =
-    GoesOn l.report (deliveries l.line l.set (seen l.fn.progress)) (g.K.Sink.view l.fn.output) (g.K.Sink.view l.output) (deliveries l.line (members_left l.to-iterator) (seen l.progress))
+    GoesOn l.line.report (deliveries l.line.number l.set (seen l.fn.progress)) (g.K.Sink.view l.fn.output) (g.K.Sink.view l.output) (deliveries l.line.number (members_left l.to-iterator) (seen l.progress))
     × ((g.K.Sink.view l.output).faults ≡ (g.K.Sink.view l.fn.output).faults) × HasBegun (seen l.progress)

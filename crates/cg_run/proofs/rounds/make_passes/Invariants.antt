@@ -7,5 +7,5 @@ use Rattle.cg_outcome.specs.Stopping.{GoesOn}
 
 abbrev pub invariant-loop-made : goal.invariant-loop-made
 invariant-loop-made g l =
-    GoesOn l.report (passes l.line l.count (seen l.fn.progress)) (g.K.Sink.view l.fn.output) (g.K.Sink.view l.output) (passes l.line (l.count - l.made) (seen l.progress))
+    GoesOn l.line.report (passes l.line.number l.count (seen l.fn.progress)) (g.K.Sink.view l.fn.output) (g.K.Sink.view l.output) (passes l.line.number (l.count - l.made) (seen l.progress))
     × ((g.K.Sink.view l.output).faults ≡ (g.K.Sink.view l.fn.output).faults) × HasBegun (seen l.progress)

@@ -8,5 +8,5 @@ use Rattle.cg_outcome.specs.Stopping.{Stopped}
 pub returns : goal.returns
 returns g c =
     let st = seen_stage c.args.stage in
-    subst (λ p. Stopped c.args.report p (g.K.Sink.view c.args.output.now) (g.K.Sink.view c.fail.new.output) c.fail.result)
-    (sym (from-held st c.args.held.now Failed c.requires.held.unended ∙ last-failed st.line st.at c.args.held.now st.progress c.requires.held.unpassed)) c.fail.ensures
+    subst (λ p. Stopped c.args.report p (g.K.Sink.view c.args.output.now) (g.K.Sink.view c.end_run.new.output) c.end_run.result)
+    (sym (from-held st c.args.held.now Failed c.requires.held.unended ∙ last-failed st.line st.at c.args.held.now st.progress c.requires.held.unpassed)) c.end_run.ensures

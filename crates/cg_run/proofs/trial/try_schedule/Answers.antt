@@ -1,6 +1,7 @@
 use Rattle.std.proofs.Common.{[], ◌∷◌}
 use Rattle.cg_gen.specs.Generated.{generated}
 use Rattle.cg_gen.specs.GeneratedLaws.{generated-length}
+use Rattle.cg_outcome.specs.declared.companion.Companion.TheVariants.{Alone}
 use Rattle.cg_outcome.specs.Outcome.{performed}
 use Rattle.cg_outcome.specs.Produced.{before_all}
 use Rattle.cg_outcome.specs.AskedLaws.{before_under_way}
@@ -11,12 +12,12 @@ use Rattle.cg_run.proofs.trial.try_schedule.Goals as goal
 pub loop-event-init : goal.loop-event-init
 loop-event-init g c =
     rw (c.in-Ok.ensures, c.known.ensures, c.new-progress.ensures)
-    (Plays-begin c.args.lines (generated c.args.seed c.args.replicas c.args.lines) (g.K.Sink.view c.args.output.now) before_all
-    (generated-length c.args.seed c.args.replicas c.args.lines) before_under_way)
+    (Plays-begin c.args.lines (generated c.args.seed c.args.replicas c.args.lines) (g.K.Sink.view c.args.output.now) (before_all Alone)
+    (generated-length c.args.seed c.args.replicas c.args.lines) (before_under_way Alone))
 
 pub returns-in-Err-play_event : goal.returns-in-Err-play_event
 returns-in-Err-play_event g c =
-    let whole = performed 0 (generated c.args.seed c.args.replicas c.args.lines) before_all in
+    let whole = performed 0 (generated c.args.seed c.args.replicas c.args.lines) (before_all Alone) in
     let v = g.K.Sink.view c.args.output.now in
     let v1 = g.K.Sink.view c.loop-event.output in
     let v2 = g.K.Sink.view c.play_event.new.output in
@@ -28,7 +29,7 @@ returns-in-Err-play_event g c =
 
 pub loop-event-preserved : goal.loop-event-preserved
 loop-event-preserved g c =
-    let whole = performed 0 (generated c.args.seed c.args.replicas c.args.lines) before_all in
+    let whole = performed 0 (generated c.args.seed c.args.replicas c.args.lines) (before_all Alone) in
     let v = g.K.Sink.view c.args.output.now in
     let v1 = g.K.Sink.view c.loop-event.output in
     let v2 = g.K.Sink.view c.play_event.new.output in
@@ -41,7 +42,7 @@ loop-event-preserved g c =
 
 pub returns-in-Ok-None : goal.returns-in-Ok-None
 returns-in-Ok-None g c =
-    let whole = performed 0 (generated c.args.seed c.args.replicas c.args.lines) before_all in
+    let whole = performed 0 (generated c.args.seed c.args.replicas c.args.lines) (before_all Alone) in
     let v = g.K.Sink.view c.args.output.now in
     let v1 = g.K.Sink.view c.loop-event.output in
     let gone = c.loop-event.gone in
@@ -52,6 +53,6 @@ returns-in-Ok-None g c =
 
 pub returns-in-Err : goal.returns-in-Err
 returns-in-Err g c =
-    let whole = performed 0 (generated c.args.seed c.args.replicas c.args.lines) before_all in
+    let whole = performed 0 (generated c.args.seed c.args.replicas c.args.lines) (before_all Alone) in
     Plays-nothing whole (g.K.Sink.view c.args.output.now) (g.K.Sink.view c.loop-event.output) c.args.lines c.loop-event.gone c.loop-event.events (seen c.loop-event.progress) c.give_up.result
     c.loop-event.invariant c.give_up.ensures

@@ -1,0 +1,47 @@
+ghost use Rattle.std.specs.Prelude.{◌<◌, Some};
+ghost use Rattle.cg_base.specs.declared.limits.TheConstants.{COUNT_LIMIT};
+ghost use Rattle.cg_outcome.specs.Outcome.{Ended, at_end};
+ghost use Rattle.cg_outcome.specs.Produced.{tail_in, ended_with};
+ghost use Rattle.cg_outcome.specs.Putting.{StopsWith};
+ghost use Rattle.cg_outcome.specs.Stopping.{Stopped, IsFinding};
+ghost use Rattle.cg_run.specs.Performing.{seen};
+
+use crate::progress::{Line, Progress};
+use cg_io::Sink;
+use cg_outcome::{Status, finish};
+
+/// A run ends behind so many items with what was found, this line being the last one gone through: the tail is put.
+pub fn end_at<K: Sink>(line: Line, output: &mut K, status: Status, count: u64) -> Status
+    requires few_faults { (K.view output.old).faults < COUNT_LIMIT }
+    requires finding { IsFinding status }
+    ensures { StopsWith (tail_in line.report status count line.number) (Some status)
+        (K.view output.old) (K.view output.new) result }
+{
+    finish(line.alloc, output, line.report, status, count, line.number)
+}
+
+/// A run ends with what was found, this line being the last one gone through, and is let go.
+pub fn end_run<K: Sink>(line: Line, output: &mut K, status: Status, progress: Progress) -> Status
+    requires few_faults { (K.view output.old).faults < COUNT_LIMIT }
+    requires finding { IsFinding status }
+    ensures { Stopped line.report (ended_with status line.number (seen progress))
+        (K.view output.old) (K.view output.new) result }
+{
+    let count = progress.count;
+    drop(progress);
+    end_at(line, output, status, count)
+}
+
+/// Nothing stands behind this line: a run is done there, where its end was read.
+pub fn end_input<K: Sink>(line: Line, output: &mut K, progress: Progress) -> Status
+    requires { (K.view output.old).faults < COUNT_LIMIT }
+    ensures { Stopped line.report (at_end line.number Ended (seen progress))
+        (K.view output.old) (K.view output.new) result }
+{
+    if progress.reader.state().ended {
+        end_run(line, output, Status::Done, progress)
+    } else {
+        let lines = line.number;
+        end_run(line, output, Status::NoEnd { lines }, progress)
+    }
+}
