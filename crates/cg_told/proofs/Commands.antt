@@ -16,7 +16,7 @@ use Rattle.cg_action.specs.declared.query.Query.TheVariants.{Get, Keys, Count}
 use Rattle.cg_action.specs.declared.action.Kind.{Kind}
 use Rattle.cg_action.specs.declared.action.Kind.TheVariants.{Update, Join, Leave}
 use Rattle.cg_action.specs.Print.{value_text, want_text, command_text, query_text, next_text, commands_text, update_text, kind_text}
-use Rattle.cg_told.specs.Short.{IsShortInt, IfAny, IsShortValue, IsShortCommand, IsShortKind}
+use Rattle.cg_short.specs.Short.{IsShortInt, IfAny, IsShortValue, IsShortCommand, IsShortKind}
 use Rattle.cg_told.proofs.Separating.{Separates, anything, begins_without, begins, any, one, same_first, unequal, other_first, after, joined, on, same, listed, over_list, begins-follows}
 use Rattle.cg_told.proofs.Numbers.{no_digit, number, signed, signed-other}
 use Rattle.cg_told.proofs.Parts.{two, three}

@@ -12,7 +12,7 @@ use Rattle.cg_report.specs.declared.entry.Entry.{Entry}
 use Rattle.cg_report.specs.EntryText.{order_line, ended_line, reply_line, shown_line, body_text, is_silent}
 use Rattle.cg_report.specs.NoEntry.{no_entry}
 use Rattle.cg_report.specs.LineText.{up_text}
-use Rattle.cg_told.specs.Short.{IsShortPlaced, IsShortLine, IsShortReply, IsShortShown, IsShortEntry}
+use Rattle.cg_short.specs.Short.{IsShortPlaced, IsShortLine, IsShortReply, IsShortShown, IsShortEntry}
 use Rattle.cg_told.proofs.Separating.{Separates, anything, one, left_true, right_true, before, joined, on, within, same, listed, over_list}
 use Rattle.cg_told.proofs.Numbers.{begins-digit, digit-other}
 use Rattle.cg_told.proofs.Lines.{line}

@@ -17,7 +17,7 @@ use Rattle.cg_report.specs.EntryText.{is_silent, entry_text, body_text}
 use Rattle.cg_json.specs.JsonText.{lines_of, step_object, object_line, entry_json, tail_json}
 use Rattle.cg_json.specs.JsonTold.{with_end}
 use Rattle.cg_json.specs.JsonLaws.{has_its_lines}
-use Rattle.cg_told.specs.Short.{IsShort}
+use Rattle.cg_short.specs.Short.{IsShort}
 use Rattle.cg_told.specs.Told.{report_text, IsTranscript, trimmed}
 use Rattle.cg_told.specs.ToldJson.{report_json, JsonReportsTellTheirTranscripts, WholeJsonReportsTellTheirTranscripts}
 use Rattle.cg_told.proofs.Separating.{Separates, one, same_first, other_first, listed}

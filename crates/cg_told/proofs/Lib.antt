@@ -10,3 +10,6 @@ pub mod Entries
 pub mod Reports
 pub mod Tails
 pub mod JsonReports
+pub mod LastLines
+pub mod TwoRuns
+mod Refuted

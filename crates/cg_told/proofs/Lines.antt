@@ -17,7 +17,7 @@ use Rattle.cg_report.specs.declared.line.View.{View}
 use Rattle.cg_report.specs.declared.line.UpLine.{UpLine}
 use Rattle.cg_report.specs.declared.line.Line.{Line}
 use Rattle.cg_report.specs.LineText.{state_text, phase_text, prim_text, vulnerable_text, yellow_in, yellow_text, counts_text, components_text, actions_text, view_text, up_text, line_text}
-use Rattle.cg_told.specs.Short.{IsShortId, IfAny, IsShortPhase, IsShortPrimary, IsShortVulnerable, IsShortView, IsShortUp, IsShortLine}
+use Rattle.cg_short.specs.Short.{IsShortId, IfAny, IsShortPhase, IsShortPrimary, IsShortVulnerable, IsShortView, IsShortUp, IsShortLine}
 use Rattle.cg_told.proofs.Separating.{Separates, anything, begins, any, one, same_first, other_first, after, before, joined, on, within, same}
 use Rattle.cg_told.proofs.Parts.{by_reading}
 use Rattle.std.proofs.lemmas.List.{append_cancel_left}

@@ -8,7 +8,7 @@ use Rattle.std.specs.Str.Parse.{digits_value}
 use Rattle.std.proofs.lemmas.Str.Parse.{IsNumeralModel, numerals_by_fold}
 use Rattle.std.proofs.lemmas.Fmt.{decimal_is_IsNumeral_wide}
 use Rattle.cg_text.specs.Numbers.{is_digit, with_digit}
-use Rattle.cg_told.specs.Short.{IsShort, IsShortInt}
+use Rattle.cg_short.specs.Short.{IsShort, IsShortInt}
 use Rattle.cg_told.proofs.Separating.{Separates, begins_without, one, same_first, other_first, left_true, right_true}
 
 own : IsNumeralModel (λ digits. list_all is_digit digits ≡ true) (λ digits. fold with_digit 0 digits)

@@ -5,7 +5,7 @@ use Rattle.cg_base.specs.Text.{is_nil}
 use Rattle.cg_records.specs.Limits.{Each}
 use Rattle.cg_report.specs.declared.entry.Entry.{Entry}
 use Rattle.cg_report.specs.EntryText.{body_text, is_silent, entry_text}
-use Rattle.cg_told.specs.Short.{IsShort, IsShortEntry}
+use Rattle.cg_short.specs.Short.{IsShort, IsShortEntry}
 use Rattle.cg_told.specs.Told.{report_text, onto_trimmed, trimmed, ReportsTellTheirTranscripts}
 use Rattle.cg_told.proofs.Separating.{Separates, anything, one, after, before}
 use Rattle.cg_told.proofs.Numbers.{number}

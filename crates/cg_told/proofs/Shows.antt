@@ -17,7 +17,7 @@ use Rattle.cg_report.specs.declared.entry.Reply.{Reply}
 use Rattle.cg_report.specs.declared.entry.Shown.{Shown}
 use Rattle.cg_report.specs.declared.entry.Shown.TheVariants.{Weak, Dirty, Pieces, Greens, Database, All}
 use Rattle.cg_report.specs.EntryText.{made_text, order_text, effect_text, next_key_text, answer_text, answered_text, reply_text, next_entry_text, asked_text, pieces_text, shown_text}
-use Rattle.cg_told.specs.Short.{IsShort, IsShortId, IfAny, IsShortMade, IsShortPlaced, IsShortEffect, IsShortAnswer, IsShortReply, IsShortDbEntry, IsShortShown}
+use Rattle.cg_short.specs.Short.{IsShort, IsShortId, IfAny, IsShortMade, IsShortPlaced, IsShortEffect, IsShortAnswer, IsShortReply, IsShortDbEntry, IsShortShown}
 use Rattle.cg_told.proofs.Separating.{Separates, anything, begins, any, each_any, one, unequal, other_first, same_first, begins-follows, begins-other, after, before, joined, on, within, same, listed, over_list}
 use Rattle.cg_told.proofs.Parts.{two, three}
 use Rattle.cg_told.proofs.Numbers.{no_digit, number, signed, begins-digit, digit-other}

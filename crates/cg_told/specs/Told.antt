@@ -3,7 +3,7 @@ use Rattle.std.specs.Prelude.{◌≡◌, ◌==◌, ℕ, suc, false, List, [], �
 use Rattle.cg_records.specs.Limits.{Each}
 use Rattle.cg_report.specs.declared.entry.Entry.{Entry}
 use Rattle.cg_report.specs.EntryText.{is_silent, entry_text}
-use Rattle.cg_told.specs.Short.{IsShort, IsShortEntry}
+use Rattle.cg_short.specs.Short.{IsShort, IsShortEntry}
 
 -- what the steps behind the n-th have shown, one after another
 abbrev pub report_text : ℕ → List Entry → List ℕ
