@@ -1,0 +1,5 @@
+mod Exact
+mod Parts
+mod Printed
+mod Rising
+mod Written

@@ -1,0 +1,5 @@
+pub mod ActionKey
+pub mod Laws
+pub mod Line
+pub mod Print
+pub mod Token
