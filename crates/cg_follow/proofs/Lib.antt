@@ -1,0 +1,6 @@
+mod Feeding
+mod Found
+mod Leading
+mod Lines
+mod RecordFields
+mod Staying

@@ -1,0 +1,33 @@
+-- A follower: how many actions of the global order it has taken, and the database that they make.
+use Rattle.std.specs.Prelude.{ℕ, ◌+◌, ◌<◌, List, fold, length}
+use Rattle.cg_base.specs.declared.limits.TheConstants.{COUNT_LIMIT}
+use Rattle.cg_action.specs.declared.action.Action.{Action}
+use Rattle.cg_answer.specs.declared.entry.DbEntry.{DbEntry}
+use Rattle.cg_db.specs.Apply.{apply, fold_actions}
+use Rattle.cg_stored.specs.Limits.{IsDatabase, AreActions}
+
+pub record Followed : Type 0 where
+  pub cursor : ℕ
+  pub db : List DbEntry
+
+-- the database behind these actions
+abbrev pub applied : List DbEntry → List Action → List DbEntry
+applied db actions = fold (λ db action. (apply db action).db) db actions
+
+-- the follower behind the next actions of the order
+abbrev pub fed : Followed → List Action → Followed
+fed f actions = record { cursor = f.cursor + length actions; db = applied f.db actions }
+
+-- the follower of the first actions of the order, all of them
+abbrev pub follower_of : List Action → Followed
+follower_of actions = record { cursor = length actions; db = fold_actions actions }
+
+-- a follower that has a first record
+pub record IsFollowed (f : Followed) : Type 0 where
+  pub cursor : f.cursor < COUNT_LIMIT
+  pub db : IsDatabase f.db
+
+-- actions that have a record: there are some
+pub record AreFed (list : List Action) : Type 0 where
+  pub some : 0 < length list
+  pub actions : AreActions list

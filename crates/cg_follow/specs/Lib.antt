@@ -1,0 +1,10 @@
+pub mod Answers
+pub mod Bytes
+pub mod Feeding
+pub mod Finding
+pub mod Followed
+pub mod Laws
+pub mod Line
+pub mod LineLaws
+pub mod Print
+pub mod Stands
