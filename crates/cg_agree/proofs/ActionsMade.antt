@@ -16,7 +16,7 @@ use Rattle.cg_report.specs.declared.line.UpLine.{UpLine}
 use Rattle.cg_client.specs.Replica.{Replica}
 use Rattle.cg_client.specs.Queries.{view_of}
 use Rattle.cg_schedule.specs.declared.event.Event.{Event}
-use Rattle.cg_model.specs.World.{Seat, World, no_world, running, seat_of, replica_of}
+use Rattle.cg_model.specs.World.{Node, World, no_world, running, node_of, replica_of}
 use Rattle.cg_model.specs.Show.{line_of, up_line}
 use Rattle.cg_model.specs.Step.{world_step}
 use Rattle.cg_model.specs.Run.{Step}
@@ -39,7 +39,7 @@ use Rattle.cg_agree_lemmas.specs.MadeShown.{IsThere, Adds, names_in}
 use Rattle.cg_agree.proofs.MadeTold.{each-contains, found-in, step-adds}
 use Rattle.cg_agree.proofs.PrimaryOne.{holds-here}
 use Rattle.cg_agree.proofs.RunForward.{IsStepOf}
-use Rattle.cg_agree_lemmas.specs.SeatFacts.{seat-id}
+use Rattle.cg_agree_lemmas.specs.NodeFacts.{node-id}
 use Rattle.cg_agree.proofs.TellsRun.{HasTold, told-on, nothing-told}
 use Rattle.cg_commit.specs.CutRaiseLaws.{rising-raise, index-same, index-other}
 use Rattle.cg_commit.specs.RunMarkLaws.{run-head, run-rest}
@@ -101,17 +101,17 @@ as-names w (m ∷ list) = ap (λ ids. m.id ∷ ids) (as-names w list)
 -- the line of a replica that is up has its greens
 position-printed : (w : World) → ArePrinted w → (p : ℕ) (r : Replica) → replica_of w p ≡ Some r → printed_position w p ≡ green_count r.held.queue
 unfolding view_of
-position-printed w stand p r runs = at (seat_of w p) refl runs where
-  at : (o : Option Seat) → seat_of w p ≡ o → option_and_then (λ s. running s.life) o ≡ Some r → printed_position w p ≡ green_count r.held.queue
+position-printed w stand p r runs = at (node_of w p) refl runs where
+  at : (o : Option Node) → node_of w p ≡ o → option_and_then (λ s. running s.life) o ≡ Some r → printed_position w p ≡ green_count r.held.queue
   at None found is = absurd (let clash : None ≡ Some r = is in cc)
   at (Some s) found is =
-      let id : s.id ≡ p = seat-id w p s found in
+      let id : s.id ≡ p = node-id w p s found in
       let line : printed w p ≡ Some (line_of w.group s) =
-      subst (λ n. printed w n ≡ Some (line_of w.group s)) id (each-find (λ s. printed w s.id ≡ Some (line_of w.group s)) (λ s. s.id == p) w.seats s stand found) in
+      subst (λ n. printed w n ≡ Some (line_of w.group s)) id (each-find (λ s. printed w s.id ≡ Some (line_of w.group s)) (λ s. s.id == p) w.nodes s stand found) in
       ap (λ o. option_map_or position_on o 0) line ∙ ap (λ (o : Option Replica). option_map_or (λ (up : UpLine). up.view.green_count) (option_map (up_line (phase_of w.group s.id)) o) 0) is
 
 module _ (d : Chronicle) (w : World) (stands : StandsBeside d w) (stand : ArePrinted w) where
-  booked-as : (m : Made) → IsThere w.seats m → Contains d.book (made_as w m)
+  booked-as : (m : Made) → IsThere w.nodes m → Contains d.book (made_as w m)
   booked-as m there =
       let p = m.id.creator in
       let r = there.replica in
@@ -124,7 +124,7 @@ module _ (d : Chronicle) (w : World) (stands : StandsBeside d w) (stand : ArePri
       each-contains (IsNamed d.book) (r.held.queue.reds ++ r.held.own) there.action (each-booked d (r.held.queue.reds ++ r.held.own) booked) there.among in
       subst (Contains d.book) (sym same) (found-in d.book there.action.id there.action named)
 
-  all-booked : (list : List Made) → Each (IsThere w.seats) list → Each (Contains d.book) (map (made_as w) list)
+  all-booked : (list : List Made) → Each (IsThere w.nodes) list → Each (Contains d.book) (map (made_as w) list)
   all-booked [] there = tt
   all-booked (m ∷ list) there = (booked-as m there.0, all-booked list there.1)
 

@@ -9,7 +9,7 @@ use Rattle.cg_base.specs.Cuts.{index_in}
 use Rattle.cg_base.specs.Sets.{has}
 use Rattle.cg_action.specs.declared.action.Action.{Action}
 use Rattle.cg_action.specs.declared.action.Kind.{Kind}
-use Rattle.cg_knowledge.specs.Members.{remaining}
+use Rattle.cg_knowledge.specs.Summaries.{remaining}
 use Rattle.cg_queue.specs.Queue.{names_of}
 use Rattle.cg_wire.specs.declared.message.Msg.TheVariants.{Action as ActionMsg}
 use Rattle.cg_group.specs.State.{phase_of, delivered_to}
@@ -17,7 +17,7 @@ use Rattle.cg_client.specs.Replica.{Held, State, RegPrim, TransPrim, ExchangeSta
 use Rattle.cg_client.specs.Turn.{Turn, begin}
 use Rattle.cg_client.specs.Requests.{is_creating, next_action, create, create_kept, empty_buffer, buffer, settle, request, request_in}
 use Rattle.cg_commit.specs.Crash.{Disk}
-use Rattle.cg_model.specs.World.{Life, Up, Down as DownLife, Seat, seat_of, replica_of, running}
+use Rattle.cg_model.specs.World.{NodeState, Up, Down as DownLife, Node, node_of, replica_of, running}
 use Rattle.cg_model.specs.Chronicle.{Told, Chronicle}
 use Rattle.cg_model.specs.Looks.{told_in, members_in, greens_of, said_in, OfCores}
 use Rattle.cg_model.specs.Talk.{Talk, act_in, is_ended, is_full, is_through, known_up_to}
@@ -154,7 +154,7 @@ module _ (c : Chronicle) (p conf : ℕ) (r : Replica) (disk : Disk) (u : Turn) (
 
   numbers : AreNumbered c conf p r.held r.state
   numbers =
-      let runs : replica_of c.world p ≡ Some r = ap (option_and_then (λ (x : Seat). running x.life)) h.seat in
+      let runs : replica_of c.world p ≡ Some r = ap (option_and_then (λ (x : Node). running x.life)) h.node in
       subst (λ x. AreNumberedAt c p x r) h.regular (subst (λ (o : Option Replica). IfSome o (AreNumberedAt c p (phase_of c.world.group p))) runs (old.acts_numbered.handed p))
 
   -- what is known, in both states that create
@@ -247,11 +247,11 @@ none-new : (acts : List Action) → map ActionMsg acts ≡ [] → acts ≡ []
 none-new [] e = refl
 none-new (a ∷ acts) e = absurd (let clash : ActionMsg a ∷ map ActionMsg acts ≡ [] = e in cc)
 
-quiet-numbers : (c : Chronicle) (p : ℕ) (r : Replica) (disk : Disk) (u : Turn) → IsQuiet r u → Creates (begin r) u → seat_of c.world p ≡ Some (record { id = p; life = Up r disk }) →
+quiet-numbers : (c : Chronicle) (p : ℕ) (r : Replica) (disk : Disk) (u : Turn) → IsQuiet r u → Creates (begin r) u → node_of c.world p ≡ Some (record { id = p; life = Up r disk }) →
     (q : ℕ) → IsNumberedAs (replica_of c.world q) (replica_of (after_turn c p r disk u).world q)
-quiet-numbers c p r disk u quiet made seat q = ⊎_elim
+quiet-numbers c p r disk u quiet made node q = ⊎_elim
     (λ is.
-    let before : replica_of c.world q ≡ Some r = ap (replica_of c.world) (eqb-true q p is) ∙ ap (option_and_then (λ (x : Seat). running x.life)) seat in
+    let before : replica_of c.world q ≡ Some r = ap (replica_of c.world) (eqb-true q p is) ∙ ap (option_and_then (λ (x : Node). running x.life)) node in
     let after : replica_of (after_turn c p r disk u).world q ≡ Some u.replica = replica-set c.world p (Up u.replica disk) q ∙ cond-true (q == p) (Some u.replica) (replica_of c.world q) is in
     let none : made.new ≡ [] = none-new made.new (sym made.sent ∙ quiet.sent) in
     subst (λ (o : Option Replica). IsNumberedAs o (replica_of (after_turn c p r disk u).world q)) (sym before) (subst (λ (o : Option Replica). IsNumberedAs (Some r) o) (sym after)
@@ -266,21 +266,21 @@ pub record BothKept (d : Chronicle) : Type 0 where
 
 pub both-kept : (c : Chronicle) (p : ℕ) (part : Turn → Turn) → PhaseSound c → ((q : ℕ) → IfSome (replica_of c.world q) (IsModeData c q)) → OfCores c (IsCore c) → TalkFacts c →
     ((r : Replica) → CreatesOrIsQuiet r (part (begin r))) → ((t : Turn) → Creates t (part t)) → BothKept (turning c p part)
-both-kept c p part sound mode cores old each makes = at (seat_of c.world p) refl where
-  up : (r : Replica) (disk : Disk) → seat_of c.world p ≡ Some (record { id = p; life = Up r disk }) → CreatesOrIsQuiet r (part (begin r)) → BothKept (after_turn c p r disk (part (begin r)))
-  up r disk seat (inr quiet) =
-      let same = quiet-same c p r disk (part (begin r)) quiet seat in
+both-kept c p part sound mode cores old each makes = at (node_of c.world p) refl where
+  up : (r : Replica) (disk : Disk) → node_of c.world p ≡ Some (record { id = p; life = Up r disk }) → CreatesOrIsQuiet r (part (begin r)) → BothKept (after_turn c p r disk (part (begin r)))
+  up r disk node (inr quiet) =
+      let same = quiet-same c p r disk (part (begin r)) quiet node in
       let d = after_turn c p r disk (part (begin r)) in
-      record { content = content-same c d same old.content; acts = acts-same c d same (quiet-numbers c p r disk (part (begin r)) quiet (makes (begin r)) seat) old.acts_numbered }
-  up r disk seat (inl creates) =
-      let runs : replica_of c.world p ≡ Some r = ap (option_and_then (λ (x : Seat). running x.life)) seat in
+      record { content = content-same c d same old.content; acts = acts-same c d same (quiet-numbers c p r disk (part (begin r)) quiet (makes (begin r)) node) old.acts_numbered }
+  up r disk node (inl creates) =
+      let runs : replica_of c.world p ≡ Some r = ap (option_and_then (λ (x : Node). running x.life)) node in
       let state = subst (λ (o : Option Replica). IfSome o (IsStateIn c p (phase_of c.world.group p))) runs (old.mode_fits p) in
       let data_of = subst (λ (o : Option Replica). IfSome o (IsModeData c p)) runs (mode p) in
       let core = subst (λ (o : Option Replica). IfSome o (λ r. IsCore c r.held (greens_of c p))) runs (cores.memory p) in
       let regular = creating-regular c p r (phase_of c.world.group p) state (sound.phase p) creates.0 in
       let there = subst (IsPhase c p (delivered_to c.world.group p)) regular.1 (sound.phase p) in
       let at : CreatesAt c p regular.0 r disk (part (begin r)) = record {
-        seat = seat;
+        node = node;
         regular = regular.1;
         number = number-of c p regular.0 there;
         member = there.0;
@@ -290,13 +290,13 @@ both-kept c p part sound mode cores old each makes = at (seat_of c.world p) refl
       } in
       record { content = content-created c p regular.0 r disk (part (begin r)) at old (makes (begin r)) core; acts = acts-created c p regular.0 r disk (part (begin r)) at old (makes (begin r)) core }
 
-  life : (s : Seat) (life : Life) → s.life ≡ life → s.id ≡ p → seat_of c.world p ≡ Some s → BothKept (turning_as c p part life)
+  life : (s : Node) (life : NodeState) → s.life ≡ life → s.id ≡ p → node_of c.world p ≡ Some s → BothKept (turning_as c p part life)
   life s (Up r disk) is id e = up r disk (e ∙ ap₂ (λ i l. Some (record { id = i; life = l })) id is) (each r)
   life s (DownLife disk green) is id e = record { content = old.content; acts = old.acts_numbered }
 
-  at : (o : Option Seat) → seat_of c.world p ≡ o → BothKept (option_map_or (λ s. turning_as c p part s.life) o c)
+  at : (o : Option Node) → node_of c.world p ≡ o → BothKept (option_map_or (λ s. turning_as c p part s.life) o c)
   at None e = record { content = old.content; acts = old.acts_numbered }
-  at (Some s) e = life s s.life refl (eqb-true s.id p (find-holds (λ (s : Seat). s.id == p) c.world.seats s e)) e
+  at (Some s) e = life s s.life refl (eqb-true s.id p (find-holds (λ (s : Node). s.id == p) c.world.nodes s e)) e
 
 pub talk-settles : (c : Chronicle) (p : ℕ) → PhaseSound c → ((q : ℕ) → IfSome (replica_of c.world q) (IsModeData c q)) → OfCores c (IsCore c) → TalkFacts c → TalkFacts (small_step c (Settles p))
 unfolding small_step

@@ -17,7 +17,7 @@ use Rattle.cg_model.specs.Looks.{members_in, ordered_in, placed_of, said_in, wai
 use Rattle.cg_model.specs.Talk.{Talk, act_in, is_announced as all_announced, hears, is_ended, is_full, is_through, known_up_to, may_go_on, may_say, no_talk, talk_of}
 use Rattle.cg_base.specs.Sets.{has}
 use Rattle.cg_group.specs.State.{Sent}
-use Rattle.cg_knowledge.specs.Members.{remaining}
+use Rattle.cg_knowledge.specs.Summaries.{remaining}
 use Rattle.cg_knowledge.specs.Verdict.{decides}
 use Rattle.cg_wire.specs.declared.message.Msg.{Msg}
 use Rattle.cg_wire.specs.declared.message.Msg.TheVariants.{Action as ActionMsg}

@@ -9,7 +9,7 @@ use Rattle.cg_base.specs.Sets.{has}
 use Rattle.cg_base.specs.SetLaws.{has-without}
 use Rattle.cg_action.specs.declared.action.Action.{Action}
 use Rattle.cg_knowledge.specs.declared.summary.Summary.{Summary}
-use Rattle.cg_knowledge.specs.Members.{senders, gone, remaining}
+use Rattle.cg_knowledge.specs.Summaries.{senders, gone, remaining}
 use Rattle.cg_knowledge.specs.Verdict.{decides}
 use Rattle.cg_wire.specs.declared.message.Msg.{Msg}
 use Rattle.cg_wire.specs.declared.message.Msg.TheVariants.{Action as ActionMsg, State as StateMsg, GreenItem, RedItem, Cpc}
@@ -18,7 +18,7 @@ use Rattle.cg_group.specs.declared.phase.Phase.TheVariants.{Down, Alone, Regular
 use Rattle.cg_group.specs.State.{Sent, phase_of, is_regular, regular_in, delivered_to, unordered_of}
 use Rattle.cg_client.specs.Replica.{Held, State, RegPrim, TransPrim, ExchangeStates, ExchangeActions, Construct, No, Un, NonPrim, Left, Replica}
 use Rattle.cg_client.specs.Requests.{is_creating}
-use Rattle.cg_model.specs.World.{Seat, replica_of, running}
+use Rattle.cg_model.specs.World.{Node, replica_of, running}
 use Rattle.cg_model.specs.Chronicle.{Attempt, Chronicle}
 use Rattle.cg_model.specs.Looks.{conf_at, is_regular_at, is_regular_in, members_in, ordered_in, placed_of, waiting_in, said_in, attempt_of, attempt_at}
 use Rattle.cg_model.specs.Talk.{Talk, no_talk, talk_of, is_full, is_through, is_ended, is_announced, may_say, may_go_on, state_in, announcer_in, act_in}
@@ -33,7 +33,7 @@ use Rattle.cg_model.specs.Small.{Small, small_step}
 use Rattle.cg_model.specs.Smalls.{may_make}
 use Rattle.cg_agree_lemmas.specs.SmallTalk.{conf-there}
 use Rattle.cg_agree_lemmas.specs.HandNext.{legal-at}
-use Rattle.cg_agree_lemmas.specs.HandsKept.{seated, regular-up}
+use Rattle.cg_agree_lemmas.specs.HandsKept.{hosted, regular-up}
 use Rattle.cg_agree_lemmas.specs.HandsNow.{whole-through}
 use Rattle.cg_agree_lemmas.specs.ReachSteps.{goes_on-kept}
 use Rattle.cg_agree_lemmas.specs.AttemptsGrow.{attempts-grow}
@@ -103,8 +103,8 @@ module _ (c : Chronicle) (sound : PhaseSound c) (says : SentIffDue c) (modes : M
   now =
       let phase = phase-is conf (phase_of c.world.group p) regular in
       let is_one : is_regular c.world.group p ≡ true = ap (λ x. not (regular_in x == 0)) phase ∙ ap not (ne_eqb conf 0 (λ e. absurd (omega arith))) in
-      let sits = seated c.world p (sound.up p ∙ regular-up c.world.group p is_one) in
-      let up : replica_of c.world p ≡ Some sits.replica = ap (λ (o : Option Seat). option_and_then (λ s. running s.life) o) sits.seat in
+      let sits = hosted c.world p (sound.up p ∙ regular-up c.world.group p is_one) in
+      let up : replica_of c.world p ≡ Some sits.replica = ap (λ (o : Option Node). option_and_then (λ s. running s.life) o) sits.node in
       record {
         replica = sits.replica;
         up = up;
@@ -196,7 +196,7 @@ announced_entered-kept c s i may sound says modes data_of conf p announced = eli
   | inl regular ↦ announced-regular (small_step c s) sound says modes data_of conf p (regular-number (small_step c s) sound conf p regular) regular announced
   | inr out ↦
       let before : 0 < length (filter_map announcer_in (placed_of p (ordered_in c conf))) =
-      subst (λ xs. 0 < length (filter_map announcer_in xs)) (out-placed (small_step c s) conf p out ∙ said-out c s i.net.seated may (group-of c i) conf p out) announced in
+      subst (λ xs. 0 < length (filter_map announcer_in xs)) (out-placed (small_step c s) conf p out ∙ said-out c s i.net.hosted may (group-of c i) conf p out) announced in
       entered-on (attempt_of c conf) refl (i.attempt.announced_entered conf p (placed-said announcer_in c conf p before))
 ]
   where
@@ -267,7 +267,7 @@ act_installed-kept c s i may sound legal says modes data_of conf p decided acts 
   | inl regular ↦ act-regular (small_step c s) sound says modes data_of conf p (regular-number (small_step c s) sound conf p regular) regular legal decided acts
   | inr out ↦
       let before : 0 < length (filter_map act_in (placed_of p (ordered_in c conf))) =
-      subst (λ xs. 0 < length (filter_map act_in xs)) (out-placed (small_step c s) conf p out ∙ said-out c s i.net.seated may (group-of c i) conf p out) acts in
+      subst (λ xs. 0 < length (filter_map act_in xs)) (out-placed (small_step c s) conf p out ∙ said-out c s i.net.hosted may (group-of c i) conf p out) acts in
       out-installed before (act-at (ordered_in c conf) p before)
 ]
   where

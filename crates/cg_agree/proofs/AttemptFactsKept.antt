@@ -47,13 +47,13 @@ pub record AttemptsNow (d : Chronicle) : Type 0 where
 -- Each small step keeps them.
 pub attempts-now : (c : Chronicle) (s : Small) → Invariant c → may_make c s ≡ true → AtRest c s → IsSaidNow (small_step c s) → AttemptsNow (small_step c s)
 attempts-now c s i may rest said =
-    let sound = phase_sound-kept c s i.net.seated may (group-of c i) in
+    let sound = phase_sound-kept c s i.net.hosted may (group-of c i) in
     let modes = mode_data-kept c s i may in
     let announcers = announced_entered-kept c s i may sound said.says said.modes modes in
     let announced = installed_announced-kept c s i may in
     record {
       mode_data = modes;
-      disk_behind = disk_behind-kept c s i.net.seated may i.replica.disk_behind;
+      disk_behind = disk_behind-kept c s i.net.hosted may i.replica.disk_behind;
       levels_stand = levels_stand-kept c s i may;
       announced_entered = announcers;
       installed_announced = announced;

@@ -19,10 +19,10 @@ use Rattle.cg_client.specs.Turn.{Turn, begin}
 use Rattle.cg_client.specs.Requests.{settle}
 use Rattle.cg_client.specs.Install.{valid_yellow}
 use Rattle.cg_client.specs.Queries.{plain_reds}
-use Rattle.cg_stored.specs.Stored.{stored_of, whiten}
+use Rattle.cg_disk_records.specs.Stored.{stored_of, whiten}
 use Rattle.cg_commit.specs.Crash.{new_disk, at_rest, recovered, disk_recovered}
-use Rattle.cg_model.specs.World.{Life, Up, Down, Seat, running, Snapshot, World, replica_of, has_begun, is_left}
-use Rattle.cg_model.specs.Step.{begin_replica, joined, name_also}
+use Rattle.cg_model.specs.World.{NodeState, Up, Down, Node, running, TransferState, World, replica_of, has_begun, is_left}
+use Rattle.cg_model.specs.Step.{begin_replica, joiner_replica, name_also}
 use Rattle.cg_model.specs.Chronicle.{Past, Attempt, Chronicle, no_chronicle}
 use Rattle.cg_model.specs.Fronts.{IsSomeWith}
 use Rattle.cg_model.specs.Looks.{conf_of, past_of, greens_of, stood_of, conf_at, attempt_of, copied_for}
@@ -42,7 +42,7 @@ use Rattle.cg_agree.proofs.ExchangeBehind.{up-now, greens-same}
 use Rattle.cg_agree.proofs.ExchangeSmalls.{greens-turning, replica-behind, greens-behind, stays-told}
 use Rattle.cg_agree_lemmas.specs.GroupKept.{leaving-regular}
 use Rattle.cg_agree_lemmas.specs.GroupSound.{phase-made}
-use Rattle.cg_agree_lemmas.specs.HandsKept.{regular-phase, regular-up, seated}
+use Rattle.cg_agree_lemmas.specs.HandsKept.{regular-phase, regular-up, hosted}
 use Rattle.cg_agree_lemmas.specs.HandsNow.{HandsNow, hands-now, hands-regular, hand-turned, new, running-now}
 use Rattle.cg_agree_lemmas.specs.HeldCommit.{white-oneself}
 use Rattle.cg_agree_lemmas.specs.HeldMarks.{IsOneself}
@@ -51,7 +51,7 @@ use Rattle.cg_agree_lemmas.specs.ListStill.{ListAt, WasIn, list-still, list-none
 use Rattle.cg_agree.proofs.ModeKept.{mode_data-kept}
 use Rattle.cg_agree_lemmas.specs.NextThere.{orders-now, receives-now}
 use Rattle.cg_agree_lemmas.specs.OneStands.{stands-refl, stands-up, stands-down}
-use Rattle.cg_agree_lemmas.specs.OneSteps.{turns-step, hands-step, leaves-step, enters-step, may-join, seat-there}
+use Rattle.cg_agree_lemmas.specs.OneSteps.{turns-step, hands-step, leaves-step, enters-step, may-join, node-there}
 use Rattle.cg_agree_lemmas.specs.OneselfWorld.{HavePasts}
 use Rattle.cg_agree_lemmas.specs.OrdersWorld.{ordered-step, step-is, behind}
 use Rattle.cg_agree_lemmas.specs.PartingActs.{parting-by}
@@ -92,7 +92,7 @@ module _ (c : Chronicle) (i : Invariant c) where
   old = i.attempt.attempt_list
 
   pasts : HavePasts c
-  pasts = i.net.seated.past
+  pasts = i.net.hosted.past
 
   makes-list : (set : List ℕ) → AttemptList (small_step c (Makes set))
   unfolding small_step standing_of
@@ -130,7 +130,7 @@ module _ (c : Chronicle) (i : Invariant c) where
         replica = λ q other. replica-turning (coming c p) p part q other;
         greens = λ q other. greens-turning (coming c p) p part q other;
       }) (attempts-kept c (Enters p))
-      (list-none d p (Some (part (begin n.replica)).replica) (replica-behind (coming c p) p part n.replica n.disk n.seat) (ap is_attempting come.state)) old
+      (list-none d p (Some (part (begin n.replica)).replica) (replica-behind (coming c p) p part n.replica n.disk n.node) (ap is_attempting come.state)) old
 
   leaves-list : (p : ℕ) (set : List ℕ) (own : ℕ) (places : List ℕ) → may_make c (Leaves p set own places) ≡ true → AttemptList (small_step c (Leaves p set own places))
   unfolding small_step
@@ -139,11 +139,11 @@ module _ (c : Chronicle) (i : Invariant c) where
       let g = c.world.group in
       let part = take_parting g p set places in
       let phase = regular-phase (phase_of g p) (leaving-regular c p set own places may) in
-      let sits = seated c.world p (i.net.phase_sound.up p ∙ regular-up g p (leaving-regular c p set own places may)) in
+      let sits = hosted c.world p (i.net.phase_sound.up p ∙ regular-up g p (leaving-regular c p set own places may)) in
       let r = sits.replica in
       let d = turning (leaving c p set own) p part in
-      let up : replica_of c.world p ≡ Some r = ap (λ (o : Option Seat). option_and_then (λ s. running s.life) o) sits.seat in
-      let after = replica-behind (leaving c p set own) p part r sits.disk sits.seat in
+      let up : replica_of c.world p ≡ Some r = ap (λ (o : Option Node). option_and_then (λ s. running s.life) o) sits.node in
+      let after = replica-behind (leaving c p set own) p part r sits.disk sits.node in
       let now = Transitional (regular_in (phase_of g p)) set in
       let conf : conf_at (phase_of d.world.group p) ≡ conf_at (phase_of g p) =
       ap conf_at (step.stands.phase p ∙ cond-true (p == p) now (phase_of g p) (eq-eqb p p refl)) ∙ ap regular_in phase.is ∙ sym (ap conf_at phase.is) in
@@ -155,18 +155,18 @@ module _ (c : Chronicle) (i : Invariant c) where
         greens = λ q other. greens-turning (leaving c p set own) p part q other;
       }) (attempts-kept c (Leaves p set own places))
       (elim (parting-by g p set places r) [
-        | inl quiet ↦ list-quiet c d p r (part (begin r)).replica (attempts-kept c (Leaves p set own places)) conf up after quiet (greens-behind (leaving c p set own) p part r sits.disk sits.seat pasts) (old p)
+        | inl quiet ↦ list-quiet c d p r (part (begin r)).replica (attempts-kept c (Leaves p set own places)) conf up after quiet (greens-behind (leaving c p set own) p part r sits.disk sits.node pasts) (old p)
         | inr done ↦ list-none d p (Some (part (begin r)).replica) after (installed-not (part (begin r)).replica.state done.0.after)
       ]) old
 
   -- a turn of requests
   turn-list : (p : ℕ) (part : Turn → Turn) → is_running c p ≡ true → (turning c p part).told ≡ c.told → KeepsAttempts c.attempts (turning c p part).attempts → ((r : Replica) → IsQuiet r (part (begin r)).replica) → AttemptList (turning c p part)
   turn-list p part runs told keeps quiet =
-      let sits = seated c.world p runs in
+      let sits = hosted c.world p runs in
       let r = sits.replica in
       let d = turning c p part in
       let step = turns-step c p part i.net.phase_sound in
-      let up : replica_of c.world p ≡ Some r = ap (λ (o : Option Seat). option_and_then (λ s. running s.life) o) sits.seat in
+      let up : replica_of c.world p ≡ Some r = ap (λ (o : Option Node). option_and_then (λ s. running s.life) o) sits.node in
       let phase : phase_of d.world.group p ≡ phase_of c.world.group p = step.stands.phase p ∙ cond-true (p == p) (phase_of c.world.group p) (phase_of c.world.group p) (eq-eqb p p refl) in
       one-list c d p (phase_of c.world.group p) (delivered_to c.world.group p) (is_up c.world.group p)
       (record {
@@ -175,7 +175,7 @@ module _ (c : Chronicle) (i : Invariant c) where
         replica = λ q other. replica-turning c p part q other;
         greens = λ q other. greens-turning c p part q other;
       }) keeps
-      (list-quiet c d p r (part (begin r)).replica keeps (ap conf_at phase) up (replica-behind c p part r sits.disk sits.seat) (quiet r) (greens-behind c p part r sits.disk sits.seat pasts) (old p)) old
+      (list-quiet c d p r (part (begin r)).replica keeps (ap conf_at phase) up (replica-behind c p part r sits.disk sits.node) (quiet r) (greens-behind c p part r sits.disk sits.node pasts) (old p)) old
 
   asks-list : (p : ℕ) (kind : Kind) → may_make c (Asks p kind) ≡ true → AttemptList (small_step c (Asks p kind))
   unfolding may_make small_step
@@ -189,16 +189,16 @@ module _ (c : Chronicle) (i : Invariant c) where
   commits-list : (p : ℕ) → may_make c (Commits p) ≡ true → AttemptList (small_step c (Commits p))
   unfolding may_make small_step
   commits-list p may =
-      let sits = seated c.world p may in
+      let sits = hosted c.world p may in
       let r = sits.replica in
       let d = commit_as c p (Up r sits.disk) in
       let new' : Replica = record r { held = whiten r.held } in
-      let life : Life = Up new' (record sits.disk { content = stored_of (whiten r.held) }) in
-      let up : replica_of c.world p ≡ Some r = ap (λ (o : Option Seat). option_and_then (λ s. running s.life) o) sits.seat in
+      let life : NodeState = Up new' (record sits.disk { content = stored_of (whiten r.held) }) in
+      let up : replica_of c.world p ≡ Some r = ap (λ (o : Option Node). option_and_then (λ s. running s.life) o) sits.node in
       let after : replica_of d.world p ≡ Some new' = replica-set c.world p life p ∙ cond-true (p == p) (Some new') (replica_of c.world p) (eq-eqb p p refl) in
       let core : IsCore c r.held (greens_of c p) = subst (λ (o : Option Replica). IfSome o (λ r. IsCore c r.held (greens_of c p))) up (i.replica.cores.memory p) in
       let oneself : IsOneself c.start r.held (greens_of c p) = record { made_of = core.made_of; contiguous = core.contiguous; yellow_closed = core.yellow_closed } in
-      subst AttemptList (sym (ap (λ (o : Option Seat). option_map_or (λ s. commit_as c p s.life) o c) sits.seat))
+      subst AttemptList (sym (ap (λ (o : Option Node). option_map_or (λ s. commit_as c p s.life) o c) sits.node))
       (one-list c d p (phase_of c.world.group p) (delivered_to c.world.group p) (is_up c.world.group p)
       (record {
         stands = stands-refl c.world.group p;
@@ -220,10 +220,10 @@ module _ (c : Chronicle) (i : Invariant c) where
   crashes-list : (p : ℕ) → may_make c (Crashes p) ≡ true → AttemptList (small_step c (Crashes p))
   unfolding may_make small_step
   crashes-list p may =
-      let sits = seated c.world p may in
+      let sits = hosted c.world p may in
       let d = crash_as c p (Up sits.replica sits.disk) in
-      let life : Life = Down (at_rest sits.disk) [] in
-      subst AttemptList (sym (ap (λ (o : Option Seat). option_map_or (λ s. crash_as c p s.life) o c) sits.seat))
+      let life : NodeState = Down (at_rest sits.disk) [] in
+      subst AttemptList (sym (ap (λ (o : Option Node). option_map_or (λ s. crash_as c p s.life) o c) sits.node))
       (one-list c d p DownPhase 0 false
       (record {
         stands = stands-down c.world.group p;
@@ -236,13 +236,13 @@ module _ (c : Chronicle) (i : Invariant c) where
   recovers-list : (p : ℕ) → may_make c (Recovers p) ≡ true → AttemptList (small_step c (Recovers p))
   unfolding may_make small_step
   recovers-list p may =
-      let sits = seat-there c p (and_parts (has_begun c.world p) (not (is_running c p)) may).0 in
-      subst (λ (o : Option Seat). AttemptList (option_map_or (λ s. recover_as c s.life) o c)) (sym sits.there) (life sits.seat.life) where
-        life : (l : Life) → AttemptList (recover_as c l)
+      let sits = node-there c p (and_parts (has_begun c.world p) (not (is_running c p)) may).0 in
+      subst (λ (o : Option Node). AttemptList (option_map_or (λ s. recover_as c s.life) o c)) (sym sits.there) (life sits.node.life) where
+        life : (l : NodeState) → AttemptList (recover_as c l)
         life (Up r disk) = old
         life (Down disk green) =
             let me = (recovered disk).held.id in
-            let l : Life = Up (recovered disk) (disk_recovered disk) in
+            let l : NodeState = Up (recovered disk) (disk_recovered disk) in
             let d = recover_as c (Down disk green) in
             one-list c d me Alone 0 true
             (record {
@@ -268,12 +268,12 @@ module _ (c : Chronicle) (i : Invariant c) where
   unfolding may_make small_step
   joins-list joiner may =
       let one = may-join c joiner may in
-      let r = joined joiner one.snapshot.content in
-      let life : Life = Up r (new_disk r.held) in
+      let r = joiner_replica joiner one.snapshot.content in
+      let life : NodeState = Up r (new_disk r.held) in
       let begun = new_past (copied_for c joiner) joiner in
       let absent : past_of c joiner ≡ None = none-of (past_of c joiner) (pasts joiner ∙ one.fresh) in
       let d = join_with c joiner one.snapshot.content in
-      subst (λ (o : Option Snapshot). AttemptList (option_map_or (λ s. join_with c joiner s.content) o c)) (sym one.there)
+      subst (λ (o : Option TransferState). AttemptList (option_map_or (λ s. join_with c joiner s.content) o c)) (sym one.there)
       (one-list c d joiner Alone 0 true
       (record {
         stands = stands-up c.world.group joiner;
@@ -303,7 +303,7 @@ module _ (c : Chronicle) (i : Invariant c) where
     unfolding small_step
     book-more xs are =
         let t = take_next c.world.group p (begin n.replica) in
-        more-booked c d t.made (ap (λ (x : Chronicle). x.book) (turn-is (handed_next c p) p (take_next c.world.group p) n.replica n.disk n.seat)) xs are
+        more-booked c d t.made (ap (λ (x : Chronicle). x.book) (turn-is (handed_next c p) p (take_next c.world.group p) n.replica n.disk n.node)) xs are
 
     -- who begins an attempt
     begins-list : (conf : ℕ) (heard : List Summary) → EndsWith n.replica.state n.next.message conf heard → HasAttempted conf heard n.replica (new c p i n) → ListAt d p
@@ -374,7 +374,7 @@ starts-list c set is = subst (λ (x : Chronicle). AttemptList (start x set)) (sy
 -- Each small step keeps it.
 pub attempt_list-kept : (c : Chronicle) (s : Small) → Invariant c → may_make c s ≡ true → PartsBooked c → AttemptList (small_step c s)
 unfolding small_step may_make
-attempt_list-kept c (Starts set) i may parts = starts-list c set (nothing-before c i.net.seated (and_parts (is_nil c.world.seats) (is_set (ids set)) may).0)
+attempt_list-kept c (Starts set) i may parts = starts-list c set (nothing-before c i.net.hosted (and_parts (is_nil c.world.nodes) (is_set (ids set)) may).0)
 attempt_list-kept c (Makes set) i may parts = makes-list c i set
 attempt_list-kept c (Enters p) i may parts = enters-list c i p may
 attempt_list-kept c (Orders p) i may parts = orders-list c i p may

@@ -8,7 +8,7 @@ use Rattle.cg_base.specs.Sets.{has}
 use Rattle.cg_base.specs.Lists.{at_place}
 use Rattle.cg_action.specs.declared.action.Action.{Action}
 use Rattle.cg_knowledge.specs.declared.summary.Summary.{Summary}
-use Rattle.cg_knowledge.specs.Members.{senders, gone, remaining}
+use Rattle.cg_knowledge.specs.Summaries.{senders, gone, remaining}
 use Rattle.cg_knowledge.specs.Verdict.{decides}
 use Rattle.cg_group.specs.declared.phase.Phase.{Phase}
 use Rattle.cg_group.specs.declared.phase.Phase.TheVariants.{Regular}
@@ -17,7 +17,7 @@ use Rattle.cg_client.specs.Replica.{Held, State, RegPrim, TransPrim, ExchangeSta
 use Rattle.cg_client.specs.Turn.{Turn, begin}
 use Rattle.cg_client.specs.Requests.{settle}
 use Rattle.cg_commit.specs.Crash.{Disk}
-use Rattle.cg_model.specs.World.{Life, Up, Down, Seat, seat_of, replica_of, running, is_left}
+use Rattle.cg_model.specs.World.{NodeState, Up, Down, Node, node_of, replica_of, running, is_left}
 use Rattle.cg_model.specs.Chronicle.{Past, Attempt, Chronicle}
 use Rattle.cg_model.specs.Looks.{past_of, greens_of, stood_of, core_of, conf_at, is_regular_at, members_in, ordered_in, said_in, placed_of, waiting_in, conf_of, attempt_of, received_by_all, snapshot_of}
 use Rattle.cg_model.specs.Talk.{Talk, is_full, is_through, is_ended, is_announced, act_in, state_in}
@@ -31,7 +31,7 @@ use Rattle.cg_model.specs.Small.{Small, Starts, Makes, Enters, Orders, Receives,
 use Rattle.cg_model.specs.Smalls.{may_make, is_running}
 use Rattle.cg_agree_lemmas.specs.CoresKept.{greens-turn, past-here}
 use Rattle.cg_agree_lemmas.specs.OneselfWorld.{HavePasts}
-use Rattle.cg_agree_lemmas.specs.ChronicleFacts.{seat_of-set}
+use Rattle.cg_agree_lemmas.specs.ChronicleFacts.{node_of-set}
 use Rattle.cg_model.specs.Attempts.{held_in}
 use Rattle.cg_agree_lemmas.specs.HandSays.{find-holds, remains-unless_gone}
 use Rattle.cg_agree_lemmas.specs.EndCases.{take-short}
@@ -43,7 +43,7 @@ use Rattle.cg_agree_lemmas.specs.AttemptsTurn.{ends-exchanging, ends-beside, qui
 use Rattle.cg_agree_lemmas.specs.TurnKinds.{IsQuiet, HasInstalled, HasAttempted, new_record, Turned, Quiet, Installs, Decides, Attempts}
 use Rattle.cg_agree_lemmas.specs.TurnParts.{settle-quiet, request-quiet, newest-come}
 use Rattle.cg_agree_lemmas.specs.PartingActs.{IsActAt, PartedBy, parting-by}
-use Rattle.cg_agree_lemmas.specs.HandsKept.{regular-phase, regular-up, Sits, seated}
+use Rattle.cg_agree_lemmas.specs.HandsKept.{regular-phase, regular-up, Sits, hosted}
 use Rattle.cg_agree_lemmas.specs.HandsNow.{HandsNow, hands-now, new, hands-regular, set, behind, count, hand-turned, hand-state, running-now, whole-through}
 use Rattle.cg_agree_lemmas.specs.GroupSound.{GroupSound, sound-of}
 use Rattle.cg_agree_lemmas.specs.GroupKept.{handed_received-kept, leaving-regular}
@@ -177,7 +177,7 @@ module _ (c : Chronicle) (i : Invariant c) (p : ℕ) (may : may_make c (Hands p)
   received =
       let step = hands-step c p i.net.phase_sound (hands-regular c p may) in
       let d = small_step c (Hands p) in
-      let kept = handed_received-kept c (Hands p) i.net.seated may (group-of c i) n.conf p
+      let kept = handed_received-kept c (Hands p) i.net.hosted may (group-of c i) n.conf p
       (ap (is_regular_at n.conf) (step.stands.phase p ∙ cond-true (p == p) (phase_of c.world.group p) (phase_of c.world.group p) (eq-eqb p p refl) ∙ n.regular) ∙ eq-eqb n.conf n.conf refl) in
       let count_is : delivered_to d.world.group p ≡ suc (delivered_to c.world.group p) = step.stands.delivered p ∙ cond-true (p == p) (suc (delivered_to c.world.group p)) (delivered_to c.world.group p) (eq-eqb p p refl) in
       subst (λ k. k ≤ received_by_all c n.conf) count_is (subst (λ x. delivered_to d.world.group p ≤ by_all x) (step.stands.conf n.conf) kept)
@@ -291,20 +291,20 @@ pub record TurnNotes (c d : Chronicle) (olds : List Attempt) (p : ℕ) (r new : 
   pub core : core_of d p ≡ Some new.held
   pub moved : replica_of d.world p ≡ Some new
 
-turn-notes : (c b d : Chronicle) (p : ℕ) (part : Turn → Turn) (r : Replica) (disk : Disk) → HavePasts b → b.levels ≡ c.levels → b.attempts ≡ c.attempts → d ≡ turning b p part → seat_of b.world p ≡ Some (record { id = p; life = Up r disk }) →
+turn-notes : (c b d : Chronicle) (p : ℕ) (part : Turn → Turn) (r : Replica) (disk : Disk) → HavePasts b → b.levels ≡ c.levels → b.attempts ≡ c.attempts → d ≡ turning b p part → node_of b.world p ≡ Some (record { id = p; life = Up r disk }) →
     TurnNotes c d c.attempts p r (part (begin r)).replica
-turn-notes c b d p part r disk pasts levels attempts is seat =
+turn-notes c b d p part r disk pasts levels attempts is node =
     let t = part (begin r) in
-    let whole = is ∙ turn-is b p part r disk seat in
+    let whole = is ∙ turn-is b p part r disk node in
     record {
       greens = greens_of b p ++ newly_green r t.replica;
-      all = sym (ap (λ (x : Chronicle). greens_of x p) whole ∙ greens-turn b p r disk t pasts seat);
+      all = sym (ap (λ (x : Chronicle). greens_of x p) whole ∙ greens-turn b p r disk t pasts node);
       attempts = ap (λ (x : Chronicle). x.attempts) whole ∙ ap (λ xs. attempts_behind xs p (greens_of b p ++ newly_green r t.replica) r t.replica) attempts;
       levels = ap (λ (x : Chronicle). x.levels) whole ∙ (λ i. (let e : Chronicle = record c { attempts = attempts i; levels = levels i } in levels_behind e r t.replica));
-      core = ap (λ (x : Chronicle). core_of x p) whole ∙ ap (λ (o : Option Seat). option_map (λ s. held_in s.life) o) (seat_of-set b.world p (Up t.replica disk) p
-          ∙ cond-true (p == p) (Some (record { id = p; life = Up t.replica disk })) (seat_of b.world p) (eq-eqb p p refl));
-      moved = ap (λ (x : Chronicle). replica_of x.world p) whole ∙ ap (λ (o : Option Seat). option_and_then (λ s. running s.life) o) (seat_of-set b.world p (Up t.replica disk) p
-          ∙ cond-true (p == p) (Some (record { id = p; life = Up t.replica disk })) (seat_of b.world p) (eq-eqb p p refl));
+      core = ap (λ (x : Chronicle). core_of x p) whole ∙ ap (λ (o : Option Node). option_map (λ s. held_in s.life) o) (node_of-set b.world p (Up t.replica disk) p
+          ∙ cond-true (p == p) (Some (record { id = p; life = Up t.replica disk })) (node_of b.world p) (eq-eqb p p refl));
+      moved = ap (λ (x : Chronicle). replica_of x.world p) whole ∙ ap (λ (o : Option Node). option_and_then (λ s. running s.life) o) (node_of-set b.world p (Up t.replica disk) p
+          ∙ cond-true (p == p) (Some (record { id = p; life = Up t.replica disk })) (node_of b.world p) (eq-eqb p p refl));
     }
 
 quiet-step : (c d : Chronicle) (p : ℕ) (r new : Replica) → TurnNotes c d c.attempts p r new → IsQuiet r new → AttemptStep c d
@@ -349,23 +349,23 @@ noted-none : {X : Type 0} (o : Option X) (change : X → Chronicle) (c : Chronic
 noted-none None change c each = Same refl refl
 noted-none (Some x) change c each = each x
 
-commit-none : (c : Chronicle) (p : ℕ) (life : Life) → AttemptStep c (commit_as c p life)
+commit-none : (c : Chronicle) (p : ℕ) (life : NodeState) → AttemptStep c (commit_as c p life)
 commit-none c p (Up r disk) = Same refl refl
 commit-none c p (Down disk green) = Same refl refl
 
-crash-goes : (c : Chronicle) (p : ℕ) (life : Life) → AttemptStep c (crash_as c p life)
+crash-goes : (c : Chronicle) (p : ℕ) (life : NodeState) → AttemptStep c (crash_as c p life)
 crash-goes c p (Up r disk) = Goes p (length (stood_of c p)) refl refl (low (past_of c p) (past-here struck (λ x. refl) c p)) where
   low : (o : Option Past) → past_of (crash_as c p (Up r disk)) p ≡ option_map struck o → length (option_map_or (λ (x : Past). x.stood) o []) ≤ length (greens_of (crash_as c p (Up r disk)) p)
   low None e = omega arith
   low (Some x) e = let same = ap (λ (o : Option Past). length (option_map_or (λ x. x.greens) o [])) e in omega (arith, same)
 crash-goes c p (Down disk green) = Same refl refl
 
-recover-none : (c : Chronicle) (life : Life) → AttemptStep c (recover_as c life)
+recover-none : (c : Chronicle) (life : NodeState) → AttemptStep c (recover_as c life)
 recover-none c (Up r disk) = Same refl refl
 recover-none c (Down disk green) = Same refl refl
 
 runs : (c : Chronicle) (p : ℕ) → is_running c p ≡ true → Sits c.world p
-runs c p e = seated c.world p e
+runs c p e = hosted c.world p e
 
 -- What a small step does to the attempts.
 pub attempt-step : (c : Chronicle) (s : Small) → Invariant c → may_make c s ≡ true → AttemptStep c (small_step c s)
@@ -377,32 +377,32 @@ attempt-step c (Enters p) i may =
     let g = c.world.group in
     let come = newest-come g now.replica now.between in
     let neither = come-neither (newest_conf g) (configuration g (newest_conf g)).members now.replica (take_newest g (begin now.replica)).replica come in
-    let whole = turn-is (coming c p) p (take_newest g) now.replica now.disk now.seat in
+    let whole = turn-is (coming c p) p (take_newest g) now.replica now.disk now.node in
     Goes p (length (greens_of c p))
     (ap (λ (x : Chronicle). x.attempts) whole
     ∙ neither-attempts (coming c p).attempts p (greens_of c p ++ newly_green now.replica (take_newest g (begin now.replica)).replica) now.replica (take_newest g (begin now.replica)).replica neither)
     (ap (λ (x : Chronicle). x.levels) whole ∙ neither-levels (coming c p) now.replica (take_newest g (begin now.replica)).replica neither)
-    (let e = ap (λ (x : Chronicle). length (greens_of x p)) whole ∙ ap (λ (xs : List Action). length xs) (greens-turn (coming c p) p now.replica now.disk (take_newest g (begin now.replica)) i.net.seated.past now.seat) in
+    (let e = ap (λ (x : Chronicle). length (greens_of x p)) whole ∙ ap (λ (xs : List Action). length xs) (greens-turn (coming c p) p now.replica now.disk (take_newest g (begin now.replica)) i.net.hosted.past now.node) in
     let long = length-append (greens_of c p) (newly_green now.replica (take_newest g (begin now.replica)).replica) in omega (arith, e, long))
 attempt-step c (Orders p) i may = Same refl refl
 attempt-step c (Receives p place) i may = Same refl refl
 attempt-step c (Hands p) i may =
     let n = hands-now c p i may in
-    hands-attempt_step c (turning (handed_next c p) p (take_next c.world.group p)) p i may n refl (turn-notes c (handed_next c p) (turning (handed_next c p) p (take_next c.world.group p)) p (take_next c.world.group p) n.replica n.disk i.net.seated.past refl refl refl n.seat)
+    hands-attempt_step c (turning (handed_next c p) p (take_next c.world.group p)) p i may n refl (turn-notes c (handed_next c p) (turning (handed_next c p) p (take_next c.world.group p)) p (take_next c.world.group p) n.replica n.disk i.net.hosted.past refl refl refl n.node)
 attempt-step c (Leaves p set' own places) i may =
-    let sits = seated c.world p (i.net.phase_sound.up p ∙ regular-up c.world.group p (leaving-regular c p set' own places may)) in
-    leaves-attempt_step c (turning (leaving c p set' own) p (take_parting c.world.group p set' places)) p set' own places i may sits.replica (ap (λ (o : Option Seat). option_and_then (λ s. running s.life) o) sits.seat)
-    (turn-notes c (leaving c p set' own) (turning (leaving c p set' own) p (take_parting c.world.group p set' places)) p (take_parting c.world.group p set' places) sits.replica sits.disk i.net.seated.past refl refl refl sits.seat)
+    let sits = hosted c.world p (i.net.phase_sound.up p ∙ regular-up c.world.group p (leaving-regular c p set' own places may)) in
+    leaves-attempt_step c (turning (leaving c p set' own) p (take_parting c.world.group p set' places)) p set' own places i may sits.replica (ap (λ (o : Option Node). option_and_then (λ s. running s.life) o) sits.node)
+    (turn-notes c (leaving c p set' own) (turning (leaving c p set' own) p (take_parting c.world.group p set' places)) p (take_parting c.world.group p set' places) sits.replica sits.disk i.net.hosted.past refl refl refl sits.node)
 attempt-step c (Asks p kind) i may =
     let sits = runs c p (and_parts (is_running c p) (not (is_left c.world p)) may).0 in
     quiet-step c (turning c p (take_request kind)) p sits.replica (take_request kind (begin sits.replica)).replica
-    (turn-notes c c (turning c p (take_request kind)) p (take_request kind) sits.replica sits.disk i.net.seated.past refl refl refl sits.seat) (request-quiet kind sits.replica)
+    (turn-notes c c (turning c p (take_request kind)) p (take_request kind) sits.replica sits.disk i.net.hosted.past refl refl refl sits.node) (request-quiet kind sits.replica)
 attempt-step c (Settles p) i may =
     let sits = runs c p may in
     quiet-step c (turning c p settle) p sits.replica (settle (begin sits.replica)).replica
-    (turn-notes c c (turning c p settle) p settle sits.replica sits.disk i.net.seated.past refl refl refl sits.seat) (settle-quiet sits.replica)
-attempt-step c (Commits p) i may = noted-none (seat_of c.world p) (λ s. commit_as c p s.life) c (λ s. commit-none c p s.life)
-attempt-step c (Crashes p) i may = noted-none (seat_of c.world p) (λ s. crash_as c p s.life) c (λ s. crash-goes c p s.life)
-attempt-step c (Recovers p) i may = noted-none (seat_of c.world p) (λ s. recover_as c s.life) c (λ s. recover-none c s.life)
+    (turn-notes c c (turning c p settle) p settle sits.replica sits.disk i.net.hosted.past refl refl refl sits.node) (settle-quiet sits.replica)
+attempt-step c (Commits p) i may = noted-none (node_of c.world p) (λ s. commit_as c p s.life) c (λ s. commit-none c p s.life)
+attempt-step c (Crashes p) i may = noted-none (node_of c.world p) (λ s. crash_as c p s.life) c (λ s. crash-goes c p s.life)
+attempt-step c (Recovers p) i may = noted-none (node_of c.world p) (λ s. recover_as c s.life) c (λ s. recover-none c s.life)
 attempt-step c (Copies p joiner) i may = noted-none (replica_of c.world p) (copy_as c p joiner) c (λ r. Same refl refl)
 attempt-step c (Joins joiner) i may = noted-none (snapshot_of c.world joiner) (λ s. join_with c joiner s.content) c (λ s. Same refl refl)

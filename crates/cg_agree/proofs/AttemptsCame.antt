@@ -115,7 +115,7 @@ dead-kept c s i may conf a b found now dead = at (came c (small_step c s) conf b
 
   still : SameAttempt a b → is_installed b ≡ is_installed a → is_dead (small_step c s) b ≡ true
   still same e =
-      dead-still c (small_step c s) conf (goes_on-kept conf c s i.net.phase_sound i.net.receipts_inside may said) (receipts_fixed-kept c s i.net.seated may (group-of c i)) i.net.receipts_inside said
+      dead-still c (small_step c s) conf (goes_on-kept conf c s i.net.phase_sound i.net.receipts_inside may said) (receipts_fixed-kept c s i.net.hosted may (group-of c i)) i.net.receipts_inside said
       a b same (eqb-true a.conf conf (find-holds (λ (a : Attempt). a.conf == conf) c.attempts a found)) (e ∙ dead-none c a dead) dead
 
   at : Came c (small_step c s) conf b → is_dead (small_step c s) b ≡ true

@@ -9,18 +9,18 @@ use Rattle.cg_base.specs.Weights.{ids}
 use Rattle.cg_action.specs.declared.action.Action.{Action}
 use Rattle.cg_records.specs.declared.primary.Primary.{Primary}
 use Rattle.cg_knowledge.specs.declared.summary.Summary.{Summary}
-use Rattle.cg_knowledge.specs.Members.{most_updated}
+use Rattle.cg_knowledge.specs.Summaries.{most_updated}
 use Rattle.cg_knowledge.specs.Primary.{known_primary}
 use Rattle.cg_group.specs.State.{home}
 use Rattle.cg_client.specs.Replica.{Held, State, Construct, NonPrim, Replica}
 use Rattle.cg_client.specs.Turn.{begin}
 use Rattle.cg_client.specs.Requests.{settle}
-use Rattle.cg_stored.specs.Stored.{whiten, recover}
+use Rattle.cg_disk_records.specs.Stored.{whiten, recovery_turn}
 use Rattle.cg_commit.specs.Crash.{Disk}
-use Rattle.cg_step.specs.Step.{on_message}
-use Rattle.cg_model.specs.World.{Up, Seat, seat_of, replica_of, running}
+use Rattle.cg_replica_step.specs.Step.{on_message}
+use Rattle.cg_model.specs.World.{Up, Node, node_of, replica_of, running}
 use Rattle.cg_model.specs.Chronicle.{Told, Attempt, Chronicle, no_chronicle}
-use Rattle.cg_model.specs.Step.{joined}
+use Rattle.cg_model.specs.Step.{joiner_replica}
 use Rattle.cg_model.specs.Looks.{greens_of, stood_of, disk_held, snapshot_of, copied_for, told_in, attempt_at, top_of, installation, OfCores}
 use Rattle.cg_model.specs.Fronts.{Front}
 use Rattle.cg_model.specs.Levels.{prim_at}
@@ -76,7 +76,7 @@ begins-more : (c : Chronicle) (level : ℕ) (all more : List Action) → BeginsA
 begins-more c level all more is = Front-trans (installation (attempt_at c level)) all (all ++ more) is (Front-append all more)
 
 begins-closed : (d : Chronicle) → IsClosed (Begins d)
-unfolding whiten recover
+unfolding whiten recovery_turn
 begins-closed d = record {
   whitened = λ h all is. is;
   stored = λ h all is. is;
@@ -88,7 +88,7 @@ cores-both : (P Q : Held → List Action → Type 0) (c : Chronicle) → OfCores
 cores-both P Q c f g = record {
   memory = λ p. each (replica_of c.world p) (λ r. P r.held (greens_of c p)) (λ r. Q r.held (greens_of c p)) (f.memory p) (g.memory p);
   disk = λ p. each (disk_held c.world p) (λ h. P h (stood_of c p)) (λ h. Q h (stood_of c p)) (f.disk p) (g.disk p);
-  snapshot = λ joiner. each (snapshot_of c.world joiner) (λ s. P (joined joiner s.content).held (copied_for c joiner)) (λ s. Q (joined joiner s.content).held (copied_for c joiner)) (f.snapshot joiner) (g.snapshot joiner);
+  snapshot = λ joiner. each (snapshot_of c.world joiner) (λ s. P (joiner_replica joiner s.content).held (copied_for c joiner)) (λ s. Q (joiner_replica joiner s.content).held (copied_for c joiner)) (f.snapshot joiner) (g.snapshot joiner);
 } where
   each : {X : Type 0} (o : Option X) (A B : X → Type 0) → IfSome o A → IfSome o B → IfSome o (λ x. A x × B x)
   each None A B a b = tt
@@ -155,8 +155,8 @@ hands-announced c p i may n done =
 pub hands-greens : (c : Chronicle) (p : ℕ) (i : Invariant c) (n : HandsNow c p) → greens_of (small_step c (Hands p)) p ≡ greens_of c p ++ newly_green n.replica (new c p i n)
 unfolding small_step
 hands-greens c p i n =
-    ap (λ (x : Chronicle). greens_of x p) (turn-is (handed_next c p) p (take_next c.world.group p) n.replica n.disk n.seat)
-    ∙ greens-turn (handed_next c p) p n.replica n.disk (take_next c.world.group p (begin n.replica)) i.net.seated.past n.seat
+    ap (λ (x : Chronicle). greens_of x p) (turn-is (handed_next c p) p (take_next c.world.group p) n.replica n.disk n.node)
+    ∙ greens-turn (handed_next c p) p n.replica n.disk (take_next c.world.group p (begin n.replica)) i.net.hosted.past n.node
 
 -- ---- each small step
 
@@ -166,8 +166,8 @@ nothing-begins Q = record { memory = λ p. tt; disk = λ p. tt; snapshot = λ jo
 started : (c : Chronicle) (i : Invariant c) (set : List Weighted) → may_make c (Starts set) ≡ true → OfCores (small_step c (Starts set)) (Begins (small_step c (Starts set)))
 unfolding small_step may_make
 started c i set may =
-    let empty = nothing-before c i.net.seated (and_parts (is_nil c.world.seats) (is_set (ids set)) may).0 in
-    cores-kept (Begins (small_step c (Starts set))) c (Starts set) (ready-of c i.net.seated i.replica.disk_behind) may (begins-closed (small_step c (Starts set))) (λ p. tt)
+    let empty = nothing-before c i.net.hosted (and_parts (is_nil c.world.nodes) (is_set (ids set)) may).0 in
+    cores-kept (Begins (small_step c (Starts set))) c (Starts set) (ready-of c i.net.hosted i.replica.disk_behind) may (begins-closed (small_step c (Starts set))) (λ p. tt)
     (subst (λ (x : Chronicle). OfCores x (Begins (small_step c (Starts set)))) (sym empty) (nothing-begins (Begins (small_step c (Starts set)))))
 
 abbrev IsBegun : Chronicle → Held → List Action → Type 0
@@ -183,12 +183,12 @@ begins_with-kept c s i may = at s may where
   all-before = cores-both (λ h all. h.prim.index ≤ top_of c) (Begins c) c
       (cores-weaker (λ h all. (h.prim.index ≤ top_of c) × (h.prim ≡ prim_at c h.prim.index)) (λ h all. h.prim.index ≤ top_of c) c (λ h all is. is.0) stands.known) i.green.begins_with
 
-  before : (p : ℕ) (r : Replica) (disk : Disk) → seat_of c.world p ≡ Some (record { id = p; life = Up r disk }) → IsBegun c r.held (greens_of c p)
-  before p r disk seat = held-known (IsBegun c) c p r (ap (λ (o : Option Seat). option_and_then (λ s. running s.life) o) seat) all-before
+  before : (p : ℕ) (r : Replica) (disk : Disk) → node_of c.world p ≡ Some (record { id = p; life = Up r disk }) → IsBegun c r.held (greens_of c p)
+  before p r disk node = held-known (IsBegun c) c p r (ap (λ (o : Option Node). option_and_then (λ s. running s.life) o) node) all-before
 
   kept : (s : Small) → may_make c s ≡ true → StepKeeps c s (Begins (small_step c s)) → OfCores (small_step c s) (Begins (small_step c s))
   kept s may step =
-      cores-kept (Begins (small_step c s)) c s (ready-of c i.net.seated i.replica.disk_behind) may (begins-closed (small_step c s)) step
+      cores-kept (Begins (small_step c s)) c s (ready-of c i.net.hosted i.replica.disk_behind) may (begins-closed (small_step c s)) step
       (cores-weaker (IsBegun c) (Begins (small_step c s)) c (λ h all is. begins-still c s h.prim.index all stands is.0 is.1) all-before)
 
   goes-on : (s : Small) (p : ℕ) (old new' : Replica) → new'.held.prim ≡ old.held.prim → IsBegun c old.held (greens_of c p) → Begins (small_step c s) new'.held (greens_of c p ++ newly_green old new')
@@ -207,7 +207,7 @@ begins_with-kept c s i may = at s may where
 
   handed : (p : ℕ) (may : may_make c (Hands p) ≡ true) (n : HandsNow c p) → Turned n.replica (new c p i n) n.next.message →
       Begins (small_step c (Hands p)) (new c p i n).held (greens_of c p ++ newly_green n.replica (new c p i n))
-  handed p may n (Quiet even) = goes-on (Hands p) p n.replica (new c p i n) even.values.prim (before p n.replica n.disk n.seat)
+  handed p may n (Quiet even) = goes-on (Hands p) p n.replica (new c p i n) even.values.prim (before p n.replica n.disk n.node)
   handed p may n (Installs done) =
       let ins = hands-installing c i p may n done in
       installed-begins c (Hands p) i may (start-kept c (Hands p) tt) p n.replica (new c p i n) ins done
@@ -222,34 +222,34 @@ begins_with-kept c s i may = at s may where
       let b = built c p i may n (ends-exchanging n.replica.state n.next.message conf heard ends) n.conf heard end.1 (subst (λ k. HasAttempted k heard n.replica (new c p i n)) (sym end.0) attempted) in
       ended p may n n.conf heard end.1 b.best.summary b.most b.best b.found b.greens attempted.prim
 
-  parted : (p : ℕ) (set : List ℕ) (own : ℕ) (places : List ℕ) (may : may_make c (Leaves p set own places) ≡ true) (r : Replica) (disk : Disk) → seat_of c.world p ≡ Some (record { id = p; life = Up r disk }) →
+  parted : (p : ℕ) (set : List ℕ) (own : ℕ) (places : List ℕ) (may : may_make c (Leaves p set own places) ≡ true) (r : Replica) (disk : Disk) → node_of c.world p ≡ Some (record { id = p; life = Up r disk }) →
       PartedBy (home c.world.group p) r (take_parting c.world.group p set places (begin r)).replica →
       (let new' = (take_parting c.world.group p set places (begin r)).replica in Begins (small_step c (Leaves p set own places)) new'.held (greens_of c p ++ newly_green r new'))
-  parted p set own places may r disk seat (inl even) = goes-on (Leaves p set own places) p r (take_parting c.world.group p set places (begin r)).replica even.values.prim (before p r disk seat)
-  parted p set own places may r disk seat (inr done) =
+  parted p set own places may r disk node (inl even) = goes-on (Leaves p set own places) p r (take_parting c.world.group p set places (begin r)).replica even.values.prim (before p r disk node)
+  parted p set own places may r disk node (inr done) =
       let new' = (take_parting c.world.group p set places (begin r)).replica in
-      let ins = leaves-installing c i p set own places may r new' (ap (λ (o : Option Seat). option_and_then (λ s. running s.life) o) seat) done.0 done.1 in
+      let ins = leaves-installing c i p set own places may r new' (ap (λ (o : Option Node). option_and_then (λ s. running s.life) o) node) done.0 done.1 in
       let waits = waits-announced c i p r ins done.0.before in
       installed-begins c (Leaves p set own places) i may (start-kept c (Leaves p set own places) tt) p r new' ins done.0
-      (leaves-attempts c p set own places r disk seat ∙ installed-attempts c.attempts p (greens_of c p ++ newly_green r new') r new' done.0 ∙ ap (installing p c.attempts) ins.mine)
+      (leaves-attempts c p set own places r disk node ∙ installed-attempts c.attempts p (greens_of c p ++ newly_green r new') r new' done.0 ∙ ap (installing p c.attempts) ins.mine)
       (greens_of c p ++ newly_green r new') (installs-all c i p r ins done.0.before new'
       (in-parting c.start (greens_of c p) r (oneself-before c i p r ins done.0.before) c.world.group p set places ins.conf (handed_talk c ins.conf p).announced waits done.0.after).0)
 
   at : (s : Small) → may_make c s ≡ true → OfCores (small_step c s) (Begins (small_step c s))
   at (Starts set) may = started c i set may
   at (Makes set) may = kept (Makes set) may tt
-  at (Enters p) may = kept (Enters p) may (λ r disk seat.
-      (let g = c.world.group in let come = newest-come g r (enters-between c p r (ap (λ (o : Option Seat). option_and_then (λ s. running s.life) o) seat) may) in
-      goes-on (Enters p) p r (take_newest g (begin r)).replica come.prim (before p r disk seat)))
+  at (Enters p) may = kept (Enters p) may (λ r disk node.
+      (let g = c.world.group in let come = newest-come g r (enters-between c p r (ap (λ (o : Option Node). option_and_then (λ s. running s.life) o) node) may) in
+      goes-on (Enters p) p r (take_newest g (begin r)).replica come.prim (before p r disk node)))
   at (Orders p) may = kept (Orders p) may tt
   at (Receives p place) may = kept (Receives p place) may tt
-  at (Hands p) may = kept (Hands p) may (λ r disk seat.
+  at (Hands p) may = kept (Hands p) may (λ r disk node.
       (let n = hands-now c p i may in
       subst (λ (r : Replica). (let new' = (take_next c.world.group p (begin r)).replica in Begins (small_step c (Hands p)) new'.held (greens_of c p ++ newly_green r new')))
-      (sym (same-replica c p r n.replica disk seat (running-now c p i n))) (handed p may n (hand-turned c p i n))))
-  at (Leaves p set own places) may = kept (Leaves p set own places) may (λ r disk seat. parted p set own places may r disk seat (parting-by c.world.group p set places r))
-  at (Asks p kind) may = kept (Asks p kind) may (λ r disk seat. goes-on (Asks p kind) p r (take_request kind (begin r)).replica (request-quiet kind r).values.prim (before p r disk seat))
-  at (Settles p) may = kept (Settles p) may (λ r disk seat. goes-on (Settles p) p r (settle (begin r)).replica (settle-quiet r).values.prim (before p r disk seat))
+      (sym (same-replica c p r n.replica disk node (running-now c p i n))) (handed p may n (hand-turned c p i n))))
+  at (Leaves p set own places) may = kept (Leaves p set own places) may (λ r disk node. parted p set own places may r disk node (parting-by c.world.group p set places r))
+  at (Asks p kind) may = kept (Asks p kind) may (λ r disk node. goes-on (Asks p kind) p r (take_request kind (begin r)).replica (request-quiet kind r).values.prim (before p r disk node))
+  at (Settles p) may = kept (Settles p) may (λ r disk node. goes-on (Settles p) p r (settle (begin r)).replica (settle-quiet r).values.prim (before p r disk node))
   at (Commits p) may = kept (Commits p) may tt
   at (Crashes p) may = kept (Crashes p) may tt
   at (Recovers p) may = kept (Recovers p) may tt

@@ -18,12 +18,12 @@ use Rattle.cg_client.specs.Replica.{Held, Replica, fresh}
 use Rattle.cg_client.specs.Requests.{settle}
 use Rattle.cg_client.specs.Turn.{Turn, begin}
 use Rattle.cg_commit.specs.Crash.{new_disk}
-use Rattle.cg_model.specs.World.{Life, Up, Down as DownLife, Seat, Snapshot, World, seat_of, replica_of, has_begun}
-use Rattle.cg_model.specs.Step.{begin_replica, joined}
+use Rattle.cg_model.specs.World.{NodeState, Up, Down as DownLife, Node, TransferState, World, node_of, replica_of, has_begun}
+use Rattle.cg_model.specs.Step.{begin_replica, joiner_replica}
 use Rattle.cg_model.specs.Chronicle.{Past, Chronicle, no_chronicle, Told}
 use Rattle.cg_model.specs.Fronts.{Front}
 use Rattle.cg_model.specs.Looks.{conf_of, past_of, stood_of, greens_of, is_member, copied_for, OfCores, told_in, snapshot_of}
-use Rattle.cg_model.specs.FactsNet.{MembersBegun, Seated, PhaseSound}
+use Rattle.cg_model.specs.FactsNet.{MembersBegun, Hosted, PhaseSound}
 use Rattle.cg_model.specs.FactsReplica.{IsCore, DiskBehind, IsModeData}
 use Rattle.cg_model.specs.Small.{Small, Starts, Makes, Enters, Orders, Receives, Hands, Leaves, Asks, Settles, Commits, Crashes, Recovers, Copies, Joins, start, small_step, turning_as, turning, commit_as, crash_as, recover_as, copy_as, join_with, changed_past, with_greens, written, struck, new_past, with_past, newly_green, take_request, take_newest, take_next, take_parting, coming, handed_next, leaving, newest_conf}
 use Rattle.cg_model.specs.Smalls.{may_make, is_set, may_come, is_between, is_running}
@@ -79,22 +79,22 @@ as-before : (c d : Chronicle) → ((q : ℕ) → stood_of d q ≡ stood_of c q) 
 as-before c d same start = record { stood = λ q. subst (Front (stood_of c q)) (sym (same q)) (Front-refl (stood_of c q)); start = start }
 
 pub stood-turning : (c : Chronicle) (p : ℕ) (part : Turn → Turn) (q : ℕ) → stood_of (turning c p part) q ≡ stood_of c q
-stood-turning c p part q = at (seat_of c.world p) where
-  life : (l : Life) → stood_of (turning_as c p part l) q ≡ stood_of c q
+stood-turning c p part q = at (node_of c.world p) where
+  life : (l : NodeState) → stood_of (turning_as c p part l) q ≡ stood_of c q
   life (Up r disk) = stood-same c (turning_as c p part (Up r disk)) (with_greens (newly_green r (part (begin r)).replica)) p (λ x. refl) (λ x. refl) refl q
   life (DownLife disk green) = refl
 
-  at : (o : Option Seat) → stood_of (option_map_or (λ s. turning_as c p part s.life) o c) q ≡ stood_of c q
+  at : (o : Option Node) → stood_of (option_map_or (λ s. turning_as c p part s.life) o c) q ≡ stood_of c q
   at None = refl
   at (Some s) = life s.life
 
 pub start-turning : (c : Chronicle) (p : ℕ) (part : Turn → Turn) → (turning c p part).start ≡ c.start
-start-turning c p part = at (seat_of c.world p) where
-  life : (l : Life) → (turning_as c p part l).start ≡ c.start
+start-turning c p part = at (node_of c.world p) where
+  life : (l : NodeState) → (turning_as c p part l).start ≡ c.start
   life (Up r disk) = refl
   life (DownLife disk green) = refl
 
-  at : (o : Option Seat) → (option_map_or (λ s. turning_as c p part s.life) o c).start ≡ c.start
+  at : (o : Option Node) → (option_map_or (λ s. turning_as c p part s.life) o c).start ≡ c.start
   at None = refl
   at (Some s) = life s.life
 
@@ -103,7 +103,7 @@ turned : (c b : Chronicle) (p : ℕ) (part : Turn → Turn) → b.pasts ≡ c.pa
 turned c b p part pasts start =
     as-before c (turning b p part) (λ q. stood-turning b p part q ∙ ap (λ xs. option_map_or (λ (x : Past). x.stood) (find (λ x. x.id == q) xs) []) pasts) (start-turning b p part ∙ start)
 
-stood-commit : (c : Chronicle) (p : ℕ) (l : Life) → DiskBehind c → StoodOn c (commit_as c p l)
+stood-commit : (c : Chronicle) (p : ℕ) (l : NodeState) → DiskBehind c → StoodOn c (commit_as c p l)
 stood-commit c p (DownLife disk green) behind = stood-itself c
 stood-commit c p (Up r disk) behind = record {
   stood = λ q. subst (Front (stood_of c q)) (sym (stood-changed c (commit_as c p (Up r disk)) written p (λ x. refl) refl q))
@@ -111,11 +111,11 @@ stood-commit c p (Up r disk) behind = record {
   start = refl;
 }
 
-stood-crash : (c : Chronicle) (p : ℕ) (l : Life) → StoodOn c (crash_as c p l)
+stood-crash : (c : Chronicle) (p : ℕ) (l : NodeState) → StoodOn c (crash_as c p l)
 stood-crash c p (DownLife disk green) = stood-itself c
 stood-crash c p (Up r disk) = as-before c (crash_as c p (Up r disk)) (stood-same c (crash_as c p (Up r disk)) struck p (λ x. refl) (λ x. refl) refl) refl
 
-stood-recover : (c : Chronicle) (l : Life) → StoodOn c (recover_as c l)
+stood-recover : (c : Chronicle) (l : NodeState) → StoodOn c (recover_as c l)
 stood-recover c (Up r disk) = stood-itself c
 stood-recover c (DownLife disk green) = as-before c (recover_as c (DownLife disk green)) (λ q. refl) refl
 
@@ -135,25 +135,25 @@ stood-on c (Hands p) none behind = turned c (handed_next c p) p (take_next c.wor
 stood-on c (Leaves p set own places) none behind = turned c (leaving c p set own) p (take_parting c.world.group p set places) refl refl
 stood-on c (Asks p kind) none behind = turned c c p (take_request kind) refl refl
 stood-on c (Settles p) none behind = turned c c p settle refl refl
-stood-on c (Commits p) none behind = at-some (seat_of c.world p) (λ s. commit_as c p s.life) c (λ s. stood-commit c p s.life behind)
-stood-on c (Crashes p) none behind = at-some (seat_of c.world p) (λ s. crash_as c p s.life) c (λ s. stood-crash c p s.life)
-stood-on c (Recovers p) none behind = at-some (seat_of c.world p) (λ s. recover_as c s.life) c (λ s. stood-recover c s.life)
+stood-on c (Commits p) none behind = at-some (node_of c.world p) (λ s. commit_as c p s.life) c (λ s. stood-commit c p s.life behind)
+stood-on c (Crashes p) none behind = at-some (node_of c.world p) (λ s. crash_as c p s.life) c (λ s. stood-crash c p s.life)
+stood-on c (Recovers p) none behind = at-some (node_of c.world p) (λ s. recover_as c s.life) c (λ s. stood-recover c s.life)
 stood-on c (Copies p joiner) none behind = at-some (replica_of c.world p) (copy_as c p joiner) c (λ r. as-before c (copy_as c p joiner r) (λ q. refl) refl)
 
 -- ---- servers
 
-server-on : (c : Chronicle) (s : Small) → NoneBegins s → Seated c → DiskBehind c → MembersBegun c → (q : ℕ) → has_begun (small_step c s).world q ≡ true →
+server-on : (c : Chronicle) (s : Small) → NoneBegins s → Hosted c → DiskBehind c → MembersBegun c → (q : ℕ) → has_begun (small_step c s).world q ≡ true →
     was_ever (members_of (small_step c s).start (stood_of (small_step c s) q)) q ≡ true
-server-on c s none seats behind old q begun =
+server-on c s none nodes behind old q begun =
     let on = stood-on c s none behind in
     subst (λ st. was_ever (members_of st (stood_of (small_step c s) q)) q ≡ true) (sym on.start)
-    (was_ever-front c.start (stood_of c q) (stood_of (small_step c s) q) q (on.stood q) (old.server q (sym (begun-same c s none seats q) ∙ begun)))
+    (was_ever-front c.start (stood_of c q) (stood_of (small_step c s) q) q (on.stood q) (old.server q (sym (begun-same c s none nodes q) ∙ begun)))
 
 -- a joiner is a server as its copy says
-server-joins : (c : Chronicle) (joiner : ℕ) → Seated c → OfCores c (IsCore c) → MembersBegun c → MayJoin c joiner → (q : ℕ) → has_begun (small_step c (Joins joiner)).world q ≡ true →
+server-joins : (c : Chronicle) (joiner : ℕ) → Hosted c → OfCores c (IsCore c) → MembersBegun c → MayJoin c joiner → (q : ℕ) → has_begun (small_step c (Joins joiner)).world q ≡ true →
     was_ever (members_of (small_step c (Joins joiner)).start (stood_of (small_step c (Joins joiner)) q)) q ≡ true
 unfolding small_step
-server-joins c joiner seats cores old may q = subst (λ (o : Option Snapshot).
+server-joins c joiner nodes cores old may q = subst (λ (o : Option TransferState).
     has_begun (option_map_or (λ s. join_with c joiner s.content) o c).world q ≡ true →
     was_ever (members_of (option_map_or (λ s. join_with c joiner s.content) o c).start (stood_of (option_map_or (λ s. join_with c joiner s.content) o c) q)) q ≡ true) (sym may.there) begins where
       content : Held
@@ -170,10 +170,10 @@ server-joins c joiner seats cores old may q = subst (λ (o : Option Snapshot).
       no-past (Some x) e = absurd (let clash : true ≡ false = e in cc)
 
       core : content.members ≡ members_of c.start (copied_for c joiner)
-      core = (subst (λ (o : Option Snapshot). IfSome o (λ s. IsCore c (joined joiner s.content).held (copied_for c joiner))) may.there (cores.snapshot joiner)).made_of.members
+      core = (subst (λ (o : Option TransferState). IfSome o (λ s. IsCore c (joiner_replica joiner s.content).held (copied_for c joiner))) may.there (cores.snapshot joiner)).made_of.members
 
       absent : past_of c joiner ≡ None
-      absent = no-past (past_of c joiner) (seats.past joiner ∙ may.fresh)
+      absent = no-past (past_of c joiner) (nodes.past joiner ∙ may.fresh)
 
       behind : find (λ (x : Past). x.id == q) (with_past c.pasts new) ≡ cond (joiner == q) (Some new) (past_of c q)
       behind = past-begun c.pasts new q absent
@@ -218,8 +218,8 @@ server-starts c set is q = subst (λ (x : Chronicle). has_begun (start x set).wo
     ap (λ xs. was_ever (members_of set xs) q) (nothing-stood (ids set) q) ∙ was_ever-start set q (⊎_elim (λ was. absurd (let clash : false ≡ true = was in cc)) (λ named. named) (named-begun set (ids set) no_chronicle.world q begun)))
 
 -- before the start there is nothing
-pub nothing-before : (c : Chronicle) → Seated c → is_nil c.world.seats ≡ true → c ≡ no_chronicle
-nothing-before c seats none = seats.before (nil-is c.world.seats none)
+pub nothing-before : (c : Chronicle) → Hosted c → is_nil c.world.nodes ≡ true → c ≡ no_chronicle
+nothing-before c nodes none = nodes.before (nil-is c.world.nodes none)
 
 -- ---- members
 
@@ -255,53 +255,53 @@ coming-begun c (p ∷ set) q all member =
       there None e = e
       there (Some r) e = refl
 
-members-begun : (c : Chronicle) (s : Small) → Seated c → may_make c s ≡ true → GroupSound c → MembersBegun c → (k q : ℕ) → is_member (small_step c s) k q ≡ true → has_begun (small_step c s).world q ≡ true
+members-begun : (c : Chronicle) (s : Small) → Hosted c → may_make c s ≡ true → GroupSound c → MembersBegun c → (k q : ℕ) → is_member (small_step c s) k q ≡ true → has_begun (small_step c s).world q ≡ true
 unfolding small_step may_make
-members-begun c (Starts set) seats m sound old =
-    member-same c (small_step c (Starts set)) (λ k q. ap (λ (x : Configuration Msg). has x.members q) (confs-begun c set (ids set) c.world k)) (begun-kept c (Starts set) seats m) old
-members-begun c (Makes set) seats m sound old = λ k q member. ⊎_elim
+members-begun c (Starts set) nodes m sound old =
+    member-same c (small_step c (Starts set)) (λ k q. ap (λ (x : Configuration Msg). has x.members q) (confs-begun c set (ids set) c.world k)) (begun-kept c (Starts set) nodes m) old
+members-begun c (Makes set) nodes m sound old = λ k q member. ⊎_elim
     (λ same. old.member k q (ap (λ (x : Configuration Msg). has x.members q) (sym same) ∙ member))
     (λ new. coming-begun c set q (and_parts (not (is_nil set) && is_set set) (list_all (may_come c) set) m).1 (ap (λ (x : Configuration Msg). has x.members q) (sym new.1) ∙ member))
     (made-is c.world.group set k)
-members-begun c (Enters p) seats m sound old = member-same c (small_step c (Enters p)) (of-one c (small_step c (Enters p)) p _ 0 true (enters-step c p sound.phases (may-enter c p m).comes)) (begun-kept c (Enters p) seats m) old
-members-begun c (Orders p) seats m sound old =
+members-begun c (Enters p) nodes m sound old = member-same c (small_step c (Enters p)) (of-one c (small_step c (Enters p)) p _ 0 true (enters-step c p sound.phases (may-enter c p m).comes)) (begun-kept c (Enters p) nodes m) old
+members-begun c (Orders p) nodes m sound old =
     let next = orders-now c p sound.phases (λ k. (sound.confs k).places) m in
-    member-same c (small_step c (Orders p)) (of-conf c (small_step c (Orders p)) next.conf _ (orders-conf c p next.conf next.stands next.message next.rest next.at) (message-members (conf_of c next.conf) p next.message)) (begun-kept c (Orders p) seats m) old
-members-begun c (Receives p place) seats m sound old =
+    member-same c (small_step c (Orders p)) (of-conf c (small_step c (Orders p)) next.conf _ (orders-conf c p next.conf next.stands next.message next.rest next.at) (message-members (conf_of c next.conf) p next.message)) (begun-kept c (Orders p) nodes m) old
+members-begun c (Receives p place) nodes m sound old =
     let next = receives-now c p place sound.phases m in
-    member-same c (small_step c (Receives p place)) (of-conf c (small_step c (Receives p place)) next.conf _ (receives-conf c p place next) (receipt-members (conf_of c next.conf) p place)) (begun-kept c (Receives p place) seats m) old
-members-begun c (Hands p) seats m sound old = member-same c (small_step c (Hands p)) (of-one c (small_step c (Hands p)) p _ _ true (hands-step c p sound.phases (and_parts _ _ m).0)) (begun-kept c (Hands p) seats m) old
-members-begun c (Leaves p set own places) seats m sound old =
-    member-same c (small_step c (Leaves p set own places)) (of-one c (small_step c (Leaves p set own places)) p _ own true (leaves-step c p set own places sound.phases (leaving-regular c p set own places m))) (begun-kept c (Leaves p set own places) seats m) old
-members-begun c (Asks p kind) seats m sound old = member-same c (small_step c (Asks p kind)) (of-one c (small_step c (Asks p kind)) p _ _ _ (turns-step c p (take_request kind) sound.phases)) (begun-kept c (Asks p kind) seats m) old
-members-begun c (Settles p) seats m sound old = member-same c (small_step c (Settles p)) (of-one c (small_step c (Settles p)) p _ _ _ (turns-step c p settle sound.phases)) (begun-kept c (Settles p) seats m) old
-members-begun c (Commits p) seats m sound old = member-same c (small_step c (Commits p)) (of-one c (small_step c (Commits p)) p _ _ _ (commits-step c p sound.phases)) (begun-kept c (Commits p) seats m) old
-members-begun c (Crashes p) seats m sound old = member-same c (small_step c (Crashes p)) (of-one c (small_step c (Crashes p)) p _ 0 false (crashes-step c p m)) (begun-kept c (Crashes p) seats m) old
-members-begun c (Recovers p) seats m sound old =
+    member-same c (small_step c (Receives p place)) (of-conf c (small_step c (Receives p place)) next.conf _ (receives-conf c p place next) (receipt-members (conf_of c next.conf) p place)) (begun-kept c (Receives p place) nodes m) old
+members-begun c (Hands p) nodes m sound old = member-same c (small_step c (Hands p)) (of-one c (small_step c (Hands p)) p _ _ true (hands-step c p sound.phases (and_parts _ _ m).0)) (begun-kept c (Hands p) nodes m) old
+members-begun c (Leaves p set own places) nodes m sound old =
+    member-same c (small_step c (Leaves p set own places)) (of-one c (small_step c (Leaves p set own places)) p _ own true (leaves-step c p set own places sound.phases (leaving-regular c p set own places m))) (begun-kept c (Leaves p set own places) nodes m) old
+members-begun c (Asks p kind) nodes m sound old = member-same c (small_step c (Asks p kind)) (of-one c (small_step c (Asks p kind)) p _ _ _ (turns-step c p (take_request kind) sound.phases)) (begun-kept c (Asks p kind) nodes m) old
+members-begun c (Settles p) nodes m sound old = member-same c (small_step c (Settles p)) (of-one c (small_step c (Settles p)) p _ _ _ (turns-step c p settle sound.phases)) (begun-kept c (Settles p) nodes m) old
+members-begun c (Commits p) nodes m sound old = member-same c (small_step c (Commits p)) (of-one c (small_step c (Commits p)) p _ _ _ (commits-step c p sound.phases)) (begun-kept c (Commits p) nodes m) old
+members-begun c (Crashes p) nodes m sound old = member-same c (small_step c (Crashes p)) (of-one c (small_step c (Crashes p)) p _ 0 false (crashes-step c p m)) (begun-kept c (Crashes p) nodes m) old
+members-begun c (Recovers p) nodes m sound old =
     let parts = and_parts (has_begun c.world p) (not (is_running c p)) m in
-    member-same c (small_step c (Recovers p)) (of-one c (small_step c (Recovers p)) p _ 0 true (recovers-step c p seats parts.0 (not-true (is_running c p) parts.1))) (begun-kept c (Recovers p) seats m) old
-members-begun c (Copies p joiner) seats m sound old = member-same c (small_step c (Copies p joiner)) (of-one c (small_step c (Copies p joiner)) p _ _ _ (copies-step c p joiner sound.phases)) (begun-kept c (Copies p joiner) seats m) old
-members-begun c (Joins joiner) seats m sound old = member-same c (small_step c (Joins joiner)) (of-one c (small_step c (Joins joiner)) joiner _ 0 true (joins-step c joiner (may-join c joiner m))) (begun-kept c (Joins joiner) seats m) old
+    member-same c (small_step c (Recovers p)) (of-one c (small_step c (Recovers p)) p _ 0 true (recovers-step c p nodes parts.0 (not-true (is_running c p) parts.1))) (begun-kept c (Recovers p) nodes m) old
+members-begun c (Copies p joiner) nodes m sound old = member-same c (small_step c (Copies p joiner)) (of-one c (small_step c (Copies p joiner)) p _ _ _ (copies-step c p joiner sound.phases)) (begun-kept c (Copies p joiner) nodes m) old
+members-begun c (Joins joiner) nodes m sound old = member-same c (small_step c (Joins joiner)) (of-one c (small_step c (Joins joiner)) joiner _ 0 true (joins-step c joiner (may-join c joiner m))) (begun-kept c (Joins joiner) nodes m) old
 
 -- ---- servers in each small step
 
-server-kept : (c : Chronicle) (s : Small) → Seated c → OfCores c (IsCore c) → DiskBehind c → may_make c s ≡ true → MembersBegun c → (q : ℕ) → has_begun (small_step c s).world q ≡ true →
+server-kept : (c : Chronicle) (s : Small) → Hosted c → OfCores c (IsCore c) → DiskBehind c → may_make c s ≡ true → MembersBegun c → (q : ℕ) → has_begun (small_step c s).world q ≡ true →
     was_ever (members_of (small_step c s).start (stood_of (small_step c s) q)) q ≡ true
 unfolding may_make small_step
-server-kept c (Starts set) seats cores behind m old = server-starts c set (nothing-before c seats (and_parts (is_nil c.world.seats) (is_set (ids set)) m).0)
-server-kept c (Joins joiner) seats cores behind m old = server-joins c joiner seats cores old (may-join c joiner m)
-server-kept c (Makes set) seats cores behind m old = server-on c (Makes set) tt seats behind old
-server-kept c (Enters p) seats cores behind m old = server-on c (Enters p) tt seats behind old
-server-kept c (Orders p) seats cores behind m old = server-on c (Orders p) tt seats behind old
-server-kept c (Receives p place) seats cores behind m old = server-on c (Receives p place) tt seats behind old
-server-kept c (Hands p) seats cores behind m old = server-on c (Hands p) tt seats behind old
-server-kept c (Leaves p set own places) seats cores behind m old = server-on c (Leaves p set own places) tt seats behind old
-server-kept c (Asks p kind) seats cores behind m old = server-on c (Asks p kind) tt seats behind old
-server-kept c (Settles p) seats cores behind m old = server-on c (Settles p) tt seats behind old
-server-kept c (Commits p) seats cores behind m old = server-on c (Commits p) tt seats behind old
-server-kept c (Crashes p) seats cores behind m old = server-on c (Crashes p) tt seats behind old
-server-kept c (Recovers p) seats cores behind m old = server-on c (Recovers p) tt seats behind old
-server-kept c (Copies p joiner) seats cores behind m old = server-on c (Copies p joiner) tt seats behind old
+server-kept c (Starts set) nodes cores behind m old = server-starts c set (nothing-before c nodes (and_parts (is_nil c.world.nodes) (is_set (ids set)) m).0)
+server-kept c (Joins joiner) nodes cores behind m old = server-joins c joiner nodes cores old (may-join c joiner m)
+server-kept c (Makes set) nodes cores behind m old = server-on c (Makes set) tt nodes behind old
+server-kept c (Enters p) nodes cores behind m old = server-on c (Enters p) tt nodes behind old
+server-kept c (Orders p) nodes cores behind m old = server-on c (Orders p) tt nodes behind old
+server-kept c (Receives p place) nodes cores behind m old = server-on c (Receives p place) tt nodes behind old
+server-kept c (Hands p) nodes cores behind m old = server-on c (Hands p) tt nodes behind old
+server-kept c (Leaves p set own places) nodes cores behind m old = server-on c (Leaves p set own places) tt nodes behind old
+server-kept c (Asks p kind) nodes cores behind m old = server-on c (Asks p kind) tt nodes behind old
+server-kept c (Settles p) nodes cores behind m old = server-on c (Settles p) tt nodes behind old
+server-kept c (Commits p) nodes cores behind m old = server-on c (Commits p) tt nodes behind old
+server-kept c (Crashes p) nodes cores behind m old = server-on c (Crashes p) tt nodes behind old
+server-kept c (Recovers p) nodes cores behind m old = server-on c (Recovers p) tt nodes behind old
+server-kept c (Copies p joiner) nodes cores behind m old = server-on c (Copies p joiner) tt nodes behind old
 
 -- ---- who has told something
 
@@ -317,7 +317,7 @@ told-before c d told start old k q =
 pub start-joins : (c : Chronicle) (joiner : ℕ) → (small_step c (Joins joiner)).start ≡ c.start
 unfolding small_step
 start-joins c joiner = at (snapshot_of c.world joiner) where
-  at : (o : Option Snapshot) → (option_map_or (λ s. join_with c joiner s.content) o c).start ≡ c.start
+  at : (o : Option TransferState) → (option_map_or (λ s. join_with c joiner s.content) o c).start ≡ c.start
   at None = refl
   at (Some s) = refl
 
@@ -329,7 +329,7 @@ told-enters : (c : Chronicle) (p : ℕ) → EntersNow c p → DiskBehind c → M
 told-enters c p now behind old k q =
     let d = small_step c (Enters p) in
     let new = newest_conf c.world.group in
-    let begun : has_begun c.world p ≡ true = ap (λ (o : Option Seat). is_some o) now.seat in
+    let begun : has_begun c.world p ≡ true = ap (λ (o : Option Node). is_some o) now.node in
     let own : WasEver c.start p (entry_told c p now.replica) = was_ever-front c.start (stood_of c p) (greens_of c p) p (behind.behind p) (old.server p begun) in
     subst (λ st. IfSome (told_in d k q) (WasEver st q)) (sym (stood-on c (Enters p) tt behind).start)
     (subst (λ o. IfSome o (WasEver c.start q)) (sym (told_in-enters c p now k q))
@@ -337,30 +337,30 @@ told-enters c p now behind old k q =
     (λ y. subst (λ x. WasEver c.start x (entry_told c p now.replica)) (sym (eqb-true q p (and_parts (k == new) (q == p) y).1)) own)
     (λ n. old.told k q)))
 
-told-kept : (c : Chronicle) (s : Small) → Seated c → PhaseSound c → DiskBehind c → ((q : ℕ) → IfSome (replica_of c.world q) (IsModeData c q)) → may_make c s ≡ true → MembersBegun c →
+told-kept : (c : Chronicle) (s : Small) → Hosted c → PhaseSound c → DiskBehind c → ((q : ℕ) → IfSome (replica_of c.world q) (IsModeData c q)) → may_make c s ≡ true → MembersBegun c →
     (k q : ℕ) → IfSome (told_in (small_step c s) k q) (WasEver (small_step c s).start q)
 unfolding may_make small_step
-told-kept c (Starts set) seats sound behind mode m old = told-starts c set (nothing-before c seats (and_parts (is_nil c.world.seats) (is_set (ids set)) m).0)
-told-kept c (Joins joiner) seats sound behind mode m old = told-before c (small_step c (Joins joiner)) (told-same c (Joins joiner) tt) (start-joins c joiner) old
-told-kept c (Enters p) seats sound behind mode m old = told-enters c p (enters-now c p sound (mode p) m) behind old
-told-kept c (Makes set) seats sound behind mode m old = told-before c (small_step c (Makes set)) (told-same c (Makes set) tt) (stood-on c (Makes set) tt behind).start old
-told-kept c (Orders p) seats sound behind mode m old = told-before c (small_step c (Orders p)) (told-same c (Orders p) tt) (stood-on c (Orders p) tt behind).start old
-told-kept c (Receives p place) seats sound behind mode m old = told-before c (small_step c (Receives p place)) (told-same c (Receives p place) tt) (stood-on c (Receives p place) tt behind).start old
-told-kept c (Hands p) seats sound behind mode m old = told-before c (small_step c (Hands p)) (told-same c (Hands p) tt) (stood-on c (Hands p) tt behind).start old
-told-kept c (Leaves p set own places) seats sound behind mode m old = told-before c (small_step c (Leaves p set own places)) (told-same c (Leaves p set own places) tt) (stood-on c (Leaves p set own places) tt behind).start old
-told-kept c (Asks p kind) seats sound behind mode m old = told-before c (small_step c (Asks p kind)) (told-same c (Asks p kind) tt) (stood-on c (Asks p kind) tt behind).start old
-told-kept c (Settles p) seats sound behind mode m old = told-before c (small_step c (Settles p)) (told-same c (Settles p) tt) (stood-on c (Settles p) tt behind).start old
-told-kept c (Commits p) seats sound behind mode m old = told-before c (small_step c (Commits p)) (told-same c (Commits p) tt) (stood-on c (Commits p) tt behind).start old
-told-kept c (Crashes p) seats sound behind mode m old = told-before c (small_step c (Crashes p)) (told-same c (Crashes p) tt) (stood-on c (Crashes p) tt behind).start old
-told-kept c (Recovers p) seats sound behind mode m old = told-before c (small_step c (Recovers p)) (told-same c (Recovers p) tt) (stood-on c (Recovers p) tt behind).start old
-told-kept c (Copies p joiner) seats sound behind mode m old = told-before c (small_step c (Copies p joiner)) (told-same c (Copies p joiner) tt) (stood-on c (Copies p joiner) tt behind).start old
+told-kept c (Starts set) nodes sound behind mode m old = told-starts c set (nothing-before c nodes (and_parts (is_nil c.world.nodes) (is_set (ids set)) m).0)
+told-kept c (Joins joiner) nodes sound behind mode m old = told-before c (small_step c (Joins joiner)) (told-same c (Joins joiner) tt) (start-joins c joiner) old
+told-kept c (Enters p) nodes sound behind mode m old = told-enters c p (enters-now c p sound (mode p) m) behind old
+told-kept c (Makes set) nodes sound behind mode m old = told-before c (small_step c (Makes set)) (told-same c (Makes set) tt) (stood-on c (Makes set) tt behind).start old
+told-kept c (Orders p) nodes sound behind mode m old = told-before c (small_step c (Orders p)) (told-same c (Orders p) tt) (stood-on c (Orders p) tt behind).start old
+told-kept c (Receives p place) nodes sound behind mode m old = told-before c (small_step c (Receives p place)) (told-same c (Receives p place) tt) (stood-on c (Receives p place) tt behind).start old
+told-kept c (Hands p) nodes sound behind mode m old = told-before c (small_step c (Hands p)) (told-same c (Hands p) tt) (stood-on c (Hands p) tt behind).start old
+told-kept c (Leaves p set own places) nodes sound behind mode m old = told-before c (small_step c (Leaves p set own places)) (told-same c (Leaves p set own places) tt) (stood-on c (Leaves p set own places) tt behind).start old
+told-kept c (Asks p kind) nodes sound behind mode m old = told-before c (small_step c (Asks p kind)) (told-same c (Asks p kind) tt) (stood-on c (Asks p kind) tt behind).start old
+told-kept c (Settles p) nodes sound behind mode m old = told-before c (small_step c (Settles p)) (told-same c (Settles p) tt) (stood-on c (Settles p) tt behind).start old
+told-kept c (Commits p) nodes sound behind mode m old = told-before c (small_step c (Commits p)) (told-same c (Commits p) tt) (stood-on c (Commits p) tt behind).start old
+told-kept c (Crashes p) nodes sound behind mode m old = told-before c (small_step c (Crashes p)) (told-same c (Crashes p) tt) (stood-on c (Crashes p) tt behind).start old
+told-kept c (Recovers p) nodes sound behind mode m old = told-before c (small_step c (Recovers p)) (told-same c (Recovers p) tt) (stood-on c (Recovers p) tt behind).start old
+told-kept c (Copies p joiner) nodes sound behind mode m old = told-before c (small_step c (Copies p joiner)) (told-same c (Copies p joiner) tt) (stood-on c (Copies p joiner) tt behind).start old
 
 -- ---- all of it
 
-pub members_begun-kept : (c : Chronicle) (s : Small) → Seated c → GroupSound c → OfCores c (IsCore c) → DiskBehind c → ((q : ℕ) → IfSome (replica_of c.world q) (IsModeData c q)) → may_make c s ≡ true →
+pub members_begun-kept : (c : Chronicle) (s : Small) → Hosted c → GroupSound c → OfCores c (IsCore c) → DiskBehind c → ((q : ℕ) → IfSome (replica_of c.world q) (IsModeData c q)) → may_make c s ≡ true →
     MembersBegun c → MembersBegun (small_step c s)
-members_begun-kept c s seats sound cores behind mode may old = record {
-  member = members-begun c s seats may sound old;
-  server = server-kept c s seats cores behind may old;
-  told = told-kept c s seats sound.phases behind mode may old;
+members_begun-kept c s nodes sound cores behind mode may old = record {
+  member = members-begun c s nodes may sound old;
+  server = server-kept c s nodes cores behind may old;
+  told = told-kept c s nodes sound.phases behind mode may old;
 }

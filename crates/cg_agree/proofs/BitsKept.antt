@@ -22,9 +22,9 @@ use Rattle.cg_client.specs.Requests.{settle}
 use Rattle.cg_client.specs.Summary.{summary_of}
 use Rattle.cg_model.specs.Attempts.{held_in}
 use Rattle.cg_model.specs.FactsExchange.{IsRecord, HasRecord}
-use Rattle.cg_stored.specs.Stored.{whiten, recover}
+use Rattle.cg_disk_records.specs.Stored.{whiten, recovery_turn}
 use Rattle.cg_commit.specs.Crash.{Disk}
-use Rattle.cg_model.specs.World.{Up, Seat, seat_of, running}
+use Rattle.cg_model.specs.World.{Up, Node, node_of, running}
 use Rattle.cg_model.specs.Chronicle.{Leaving, Told, Attempt, Chronicle}
 use Rattle.cg_model.specs.Looks.{greens_of, core_of, told_in, is_at, is_in, conf_at, ordered_in, attempt_of, left_count}
 use Rattle.cg_model.specs.Fronts.{IsSomeWith}
@@ -56,7 +56,7 @@ use Rattle.cg_agree_lemmas.specs.EntryGreens.{entry-greens, nothing-new}
 use Rattle.cg_agree.proofs.PastKept.{EntersNow, enters-now, entry_turn, entry_told, enters-is, told_in-enters}
 use Rattle.cg_agree_lemmas.specs.ToldKept.{IsUntold, told-same, told_in-same}
 use Rattle.cg_agree_lemmas.specs.OneSteps.{enters-step}
-use Rattle.cg_agree_lemmas.specs.ChronicleFacts.{seat_of-set}
+use Rattle.cg_agree_lemmas.specs.ChronicleFacts.{node_of-set}
 
 -- ---- a witness stays one
 
@@ -97,7 +97,7 @@ module _ (c : Chronicle) (s : Small) (i : Invariant c) (may : may_make c s ≡ t
 
       made : (b : Attempt) → Grown a b → left_count b q ≡ left_count a q → (has b.installed q ≡ true → has a.installed q ≡ true) → IsWitnessed (small_step c s) b more high q
       made b grown counts installs = record {
-        out = ap (λ k. is_in (small_step c s) k q) (grown.same.conf ∙ at_conf) ∙ out-stays c s i.net.seated may (group-of c i) conf q said out;
+        out = ap (λ k. is_in (small_step c s) k q) (grown.same.conf ∙ at_conf) ∙ out-stays c s i.net.hosted may (group-of c i) conf q said out;
         count = (let low = is.count in omega (arith, counts, low));
         index = λ installed. (let lt = is.index (installs installed) in let from = grown.same.from in omega (arith, lt, from));
       }
@@ -138,12 +138,12 @@ witnessed-as d count index id v h n a b e f is =
     subst (AreWitnessed d n h.prim.index (h.id ∷ [])) f (subst (λ k. AreWitnessed d n h.prim.index (k ∷ []) v) e (subst (λ k. AreWitnessed d n k (id ∷ []) v) b (subst (λ k. AreWitnessed d k index (id ∷ []) v) a is)))
 
 witnessed-closed : (d : Chronicle) → IsClosed (Witnessed d)
-unfolding whiten recover
+unfolding whiten recovery_turn
 witnessed-closed d = record {
   whitened = λ h all is. is;
   stored = λ h all is. is;
   recovers = λ h all is. (let same = (even-own_to_red (begin (record { held = h; state = NonPrim false }))).values in
-      witnessed-as d (length all) h.prim.index h.id h.vulnerable (recover h).replica.held (length all) refl (ap (λ (x : Primary). x.index) (sym same.prim)) (sym same.id) (sym same.vulnerable) is);
+      witnessed-as d (length all) h.prim.index h.id h.vulnerable (recovery_turn h).replica.held (length all) refl (ap (λ (x : Primary). x.index) (sym same.prim)) (sym same.id) (sym same.vulnerable) is);
   joins = λ p h all is. tt;
 }
 
@@ -157,8 +157,8 @@ module _ (c : Chronicle) (s : Small) (i : Invariant c) (may : may_make c s ≡ t
   more-greens : (p : ℕ) (r new' : Replica) → length (greens_of c p) ≤ length (greens_of c p ++ newly_green r new')
   more-greens p r new' = let e = length-append (greens_of c p) (newly_green r new') in omega (arith, e)
 
-  bits-before : (p : ℕ) (r : Replica) (disk : Disk) → seat_of c.world p ≡ Some (record { id = p; life = Up r disk }) → Witnessed c r.held (greens_of c p)
-  bits-before p r disk seat = held-known (Witnessed c) c p r (ap (λ (o : Option Seat). option_and_then (λ s. running s.life) o) seat) i.attempt.bits_witness.cores
+  bits-before : (p : ℕ) (r : Replica) (disk : Disk) → node_of c.world p ≡ Some (record { id = p; life = Up r disk }) → Witnessed c r.held (greens_of c p)
+  bits-before p r disk node = held-known (Witnessed c) c p r (ap (λ (o : Option Node). option_and_then (λ s. running s.life) o) node) i.attempt.bits_witness.cores
 
   bits-quiet : (p : ℕ) (r new' : Replica) → IsQuiet r new' → Witnessed c r.held (greens_of c p) → Witnessed (small_step c s) new'.held (greens_of c p ++ newly_green r new')
   bits-quiet p r new' quiet is =
@@ -256,15 +256,15 @@ module _ (c : Chronicle) (p : ℕ) (i : Invariant c) (may : may_make c (Enters p
   abbrev comer : Replica
   comer = (entry_turn c now.replica).replica
 
-  seat-now : core_of d p ≡ Some comer.held
-  seat-now =
+  node-now : core_of d p ≡ Some comer.held
+  node-now =
       ap (λ (x : Chronicle). core_of x p) (enters-is c p now)
-      ∙ ap (λ (o : Option Seat). option_map (λ s. held_in s.life) o) (seat_of-set (coming c p).world p (Up comer now.disk) p
-      ∙ cond-true (p == p) (Some (record { id = p; life = Up comer now.disk })) (seat_of c.world p) (eq-eqb p p refl))
+      ∙ ap (λ (o : Option Node). option_map (λ s. held_in s.life) o) (node_of-set (coming c p).world p (Up comer now.disk) p
+      ∙ cond-true (p == p) (Some (record { id = p; life = Up comer now.disk })) (node_of c.world p) (eq-eqb p p refl))
 
   greens-now : length (greens_of d p) ≤ length (greens_of c p)
   greens-now =
-      let e = ap (λ (x : Chronicle). length (greens_of x p)) (enters-is c p now) ∙ ap (λ (xs : List Action). length xs) (greens-turn (coming c p) p now.replica now.disk (entry_turn c now.replica) i.net.seated.past now.seat) in
+      let e = ap (λ (x : Chronicle). length (greens_of x p)) (enters-is c p now) ∙ ap (λ (xs : List Action). length xs) (greens-turn (coming c p) p now.replica now.disk (entry_turn c now.replica) i.net.hosted.past now.node) in
       let long = length-append (greens_of c p) (newly_green now.replica comer) in
       let none = ap (λ (xs : List Action). length xs) (nothing-new now.replica comer (entry-greens c.world.group now.replica now.between)) in
       omega (arith, e, long, none)
@@ -276,7 +276,7 @@ module _ (c : Chronicle) (p : ℕ) (i : Invariant c) (may : may_make c (Enters p
     come = newest-come c.world.group now.replica now.between
 
     before : Witnessed c now.replica.held (greens_of c p)
-    before = held-known (Witnessed c) c p now.replica (ap (λ (o : Option Seat). option_and_then (λ s. running s.life) o) now.seat) i.attempt.bits_witness.cores
+    before = held-known (Witnessed c) c p now.replica (ap (λ (o : Option Node). option_and_then (λ s. running s.life) o) now.node) i.attempt.bits_witness.cores
 
     others : AreWitnessed d (length (greens_of c p)) now.replica.held.prim.index (now.replica.held.id ∷ []) now.replica.held.vulnerable
     others = bits-still c (Enters p) i may (length (greens_of c p)) (length (greens_of c p)) now.replica.held.prim.index now.replica.held.prim.index (now.replica.held.id ∷ []) now.replica.held.vulnerable (omega arith) (omega arith) before
@@ -296,7 +296,7 @@ module _ (c : Chronicle) (p : ℕ) (i : Invariant c) (may : may_make c (Enters p
     own v e = with (attempt_of c v.attempt) refl (record-there v e) where
       record-there : (v : Vulnerable) → now.replica.held.vulnerable ≡ Some v → IsSomeWith (attempt_of c v.attempt) (λ a. IsRecord a v)
       record-there v e =
-          let known = held-known (λ h all. HasRecord c h.id h.prim.index h.vulnerable) c p now.replica (ap (λ (o : Option Seat). option_and_then (λ s. running s.life) o) now.seat) i.attempt.record_of_attempt in
+          let known = held-known (λ h all. HasRecord c h.id h.prim.index h.vulnerable) c p now.replica (ap (λ (o : Option Node). option_and_then (λ s. running s.life) o) now.node) i.attempt.record_of_attempt in
           (subst (HasRecord c now.replica.held.id now.replica.held.prim.index) e known).2
 
       with : (o : Option Attempt) → attempt_of c v.attempt ≡ o → IsSomeWith o (λ a. IsRecord a v) → IsSomeWith (attempt_of d v.attempt) (λ a. IsWitnessed d a (length (greens_of c p)) comer.held.prim.index p)
@@ -310,7 +310,7 @@ module _ (c : Chronicle) (p : ℕ) (i : Invariant c) (may : may_make c (Enters p
           let named : grown.now.conf ≡ v.attempt = grown.grown.same.conf ∙ eqb-true a.conf v.attempt (find-holds (λ (a : Attempt). a.conf == v.attempt) c.attempts a found) in
           let counted = subst (λ (o : Option Attempt). IfSome o (λ a. left_count a p ≤ length (greens_of d p))) grown.found (index.count v.attempt p) in
           let one = subst (λ (o : Option Attempt). IfSome o (λ a. IfSome (core_of d p) (λ h. has_installed a p ≡ true → a.from < h.prim.index))) grown.found (index.index v.attempt p) in
-          let two : has_installed grown.now p ≡ true → grown.now.from < comer.held.prim.index = subst (λ (o : Option Held). IfSome o (λ h. has_installed grown.now p ≡ true → grown.now.from < h.prim.index)) seat-now one in
+          let two : has_installed grown.now p ≡ true → grown.now.from < comer.held.prim.index = subst (λ (o : Option Held). IfSome o (λ h. has_installed grown.now p ≡ true → grown.now.from < h.prim.index)) node-now one in
           let few = greens-now in
           subst (λ (o : Option Attempt). IsSomeWith o (λ a. IsWitnessed d a (length (greens_of c p)) comer.held.prim.index p)) (sym grown.found) (record {
             out = ap (is_at grown.now.conf) (step.stands.phase p ∙ cond-true (p == p) (Regular (newest_conf c.world.group)) (phase_of c.world.group p) (eq-eqb p p refl)) ∙ ap (λ k. newest_conf c.world.group == k) named ∙ apart;
@@ -381,32 +381,32 @@ Reaches c _ = Unit {0}
 
 pub bits_witness-kept : (c : Chronicle) (s : Small) → Invariant c → may_make c s ≡ true → Reaches c s → BitsWitness (small_step c s)
 bits_witness-kept c s i may reaches = record {
-  cores = cores-kept (Witnessed (small_step c s)) c s (ready-of c i.net.seated i.replica.disk_behind) may (witnessed-closed (small_step c s)) (step s may reaches)
+  cores = cores-kept (Witnessed (small_step c s)) c s (ready-of c i.net.hosted i.replica.disk_behind) may (witnessed-closed (small_step c s)) (step s may reaches)
       (cores-weaker (Witnessed c) (Witnessed (small_step c s)) c (λ h all is. bits-still c s i may (length all) (length all) h.prim.index h.prim.index (h.id ∷ []) h.vulnerable (omega arith) (omega arith) is) i.attempt.bits_witness.cores);
   told = bits-told c s i may;
 } where
   step : (s : Small) → may_make c s ≡ true → Reaches c s → StepKeeps c s (Witnessed (small_step c s))
   step (Starts set) may reaches = λ p. tt
   step (Makes set) may reaches = tt
-  step (Enters p) may reaches = λ r disk seat. (let g = c.world.group in
+  step (Enters p) may reaches = λ r disk node. (let g = c.world.group in
       bits-come c (Enters p) i may p (newest_conf g) (configuration g (newest_conf g)).members r (take_newest g (begin r)).replica
-      (newest-come g r (enters-between c p r (ap (λ (o : Option Seat). option_and_then (λ s. running s.life) o) seat) may)) (bits-before c (Enters p) i may p r disk seat))
+      (newest-come g r (enters-between c p r (ap (λ (o : Option Node). option_and_then (λ s. running s.life) o) node) may)) (bits-before c (Enters p) i may p r disk node))
   step (Orders p) may reaches = tt
   step (Receives p place) may reaches = tt
-  step (Hands p) may reaches = λ r disk seat. (let n = hands-now c p i may in
+  step (Hands p) may reaches = λ r disk node. (let n = hands-now c p i may in
       subst (λ (r : Replica). (let new' = (take_next c.world.group p (begin r)).replica in Witnessed (small_step c (Hands p)) new'.held (greens_of c p ++ newly_green r new')))
-      (sym (same-replica c p r n.replica disk seat (running-now c p i n))) (handed n (hand-turned c p i n))) where
+      (sym (same-replica c p r n.replica disk node (running-now c p i n))) (handed n (hand-turned c p i n))) where
         handed : (n : HandsNow c p) → Turned n.replica (new c p i n) n.next.message → Witnessed (small_step c (Hands p)) (new c p i n).held (greens_of c p ++ newly_green n.replica (new c p i n))
-        handed n (Quiet quiet) = bits-quiet c (Hands p) i may p n.replica (new c p i n) quiet (bits-before c (Hands p) i may p n.replica n.disk n.seat)
-        handed n (Installs done) = bits-installed c (Hands p) i may p n.replica (new c p i n) done (bits-before c (Hands p) i may p n.replica n.disk n.seat)
+        handed n (Quiet quiet) = bits-quiet c (Hands p) i may p n.replica (new c p i n) quiet (bits-before c (Hands p) i may p n.replica n.disk n.node)
+        handed n (Installs done) = bits-installed c (Hands p) i may p n.replica (new c p i n) done (bits-before c (Hands p) i may p n.replica n.disk n.node)
         handed n (Decides conf heard ends decided) =
             let end = (plan-end c p i n conf heard ends decided.remains (ap is_behind decided.state)).1 in
             bits-decided c (Hands p) i may p n.conf heard n.replica (new c p i n) end decided (length (greens_of c p ++ newly_green n.replica (new c p i n))) (reaches i n n.conf heard decided end)
         handed n (Attempts conf heard ends attempted) = bits-attempted c (Hands p) i may conf heard n.replica (new c p i n) attempted (length (greens_of c p ++ newly_green n.replica (new c p i n)))
-  step (Leaves p set own places) may reaches = λ r disk seat.
-      bits-parted c (Leaves p set own places) i may p r (take_parting c.world.group p set places (begin r)).replica (parting-turned c.world.group p set places r) (bits-before c (Leaves p set own places) i may p r disk seat)
-  step (Asks p kind) may reaches = λ r disk seat. bits-quiet c (Asks p kind) i may p r (take_request kind (begin r)).replica (request-quiet kind r) (bits-before c (Asks p kind) i may p r disk seat)
-  step (Settles p) may reaches = λ r disk seat. bits-quiet c (Settles p) i may p r (settle (begin r)).replica (settle-quiet r) (bits-before c (Settles p) i may p r disk seat)
+  step (Leaves p set own places) may reaches = λ r disk node.
+      bits-parted c (Leaves p set own places) i may p r (take_parting c.world.group p set places (begin r)).replica (parting-turned c.world.group p set places r) (bits-before c (Leaves p set own places) i may p r disk node)
+  step (Asks p kind) may reaches = λ r disk node. bits-quiet c (Asks p kind) i may p r (take_request kind (begin r)).replica (request-quiet kind r) (bits-before c (Asks p kind) i may p r disk node)
+  step (Settles p) may reaches = λ r disk node. bits-quiet c (Settles p) i may p r (settle (begin r)).replica (settle-quiet r) (bits-before c (Settles p) i may p r disk node)
   step (Commits p) may reaches = tt
   step (Crashes p) may reaches = tt
   step (Recovers p) may reaches = tt

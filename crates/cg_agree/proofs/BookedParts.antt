@@ -11,7 +11,7 @@ use Rattle.cg_action.specs.declared.action.Action.{Action}
 use Rattle.cg_queue.specs.Queue.{QueueView, Marks, Gaps, names_of, action_of, green_count, with_red, marked_red, placed_red}
 use Rattle.cg_queue.specs.declared.mark.Mark.TheVariants.{Placed, Known}
 use Rattle.cg_knowledge.specs.declared.summary.Summary.{Summary}
-use Rattle.cg_knowledge.specs.Members.{senders, gone}
+use Rattle.cg_knowledge.specs.Summaries.{senders, gone}
 use Rattle.cg_knowledge.specs.Verdict.{decides}
 use Rattle.cg_plan.specs.declared.parts.Part.{Part}
 use Rattle.cg_plan.specs.Plan.{plan_of}
@@ -28,7 +28,7 @@ use Rattle.cg_client.specs.Queries.{plain_reds}
 use Rattle.cg_exchange.specs.ExchangeStates.{is_usable, with_heard}
 use Rattle.cg_exchange.specs.ExchangeActions.{progress, is_next, mark_item, take_item, send_part, go_on}
 use Rattle.cg_exchange.specs.PlanEnd.{take_over, attempt, decide, end_plan}
-use Rattle.cg_step.specs.Step.{on_message}
+use Rattle.cg_replica_step.specs.Step.{on_message}
 use Rattle.cg_model.specs.Chronicle.{Chronicle}
 use Rattle.cg_model.specs.Looks.{greens_of, ordered_in}
 use Rattle.cg_model.specs.Talk.{action_in}

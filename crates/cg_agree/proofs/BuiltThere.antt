@@ -8,7 +8,7 @@ use Rattle.cg_base.specs.Cuts.{index_in}
 use Rattle.cg_base.specs.Sets.{has}
 use Rattle.cg_queue.specs.Queue.{names_of}
 use Rattle.cg_knowledge.specs.declared.summary.Summary.{Summary}
-use Rattle.cg_knowledge.specs.Members.{gone, most_updated}
+use Rattle.cg_knowledge.specs.Summaries.{gone, most_updated}
 use Rattle.cg_knowledge.specs.Yellow.{common_yellow}
 use Rattle.cg_client.specs.Replica.{State, Construct, Replica, yellow_of}
 use Rattle.cg_model.specs.Chronicle.{Told, Chronicle}

@@ -9,12 +9,12 @@ use Rattle.cg_base.specs.Sets.{has}
 use Rattle.cg_base.specs.Cuts.{index_in}
 use Rattle.cg_action.specs.declared.action.Action.{Action}
 use Rattle.cg_client.specs.Replica.{Held, Replica}
-use Rattle.cg_model.specs.World.{Seat, Snapshot, seat_of, replica_of, has_begun}
+use Rattle.cg_model.specs.World.{Node, TransferState, node_of, replica_of, has_begun}
 use Rattle.cg_model.specs.Chronicle.{Past, Attempt, Chronicle}
 use Rattle.cg_model.specs.Fronts.{Front}
 use Rattle.cg_model.specs.Looks.{greens_of, stood_of, past_of, on_disk, disk_held, snapshot_of, copied_for, is_in, top_of, attempt_of, left_count}
 use Rattle.cg_model.specs.Levels.{line_at, count_in, reached_at}
-use Rattle.cg_model.specs.FactsNet.{Seated}
+use Rattle.cg_model.specs.FactsNet.{Hosted}
 use Rattle.cg_model.specs.FactsReplica.{DiskBehind, MadeOnce}
 use Rattle.cg_model.specs.FactsGreens.{OneOrder}
 use Rattle.cg_model.specs.Facts.{Invariant}
@@ -48,19 +48,19 @@ greatest-from f (p ∷ set) m = elim (greatest-from f set (max m (f p))) [
 
 -- ---- what a replica has green is a front of the newest level's line
 
-pub greens-on_line : (c : Chronicle) → OneOrder c → DiskBehind c → Seated c → (q : ℕ) → Front (greens_of c q) (line_at c (top_of c))
-greens-on_line c order behind seated q = at (replica_of c.world q) refl (order.memory q) where
+pub greens-on_line : (c : Chronicle) → OneOrder c → DiskBehind c → Hosted c → (q : ℕ) → Front (greens_of c q) (line_at c (top_of c))
+greens-on_line c order behind hosted q = at (replica_of c.world q) refl (order.memory q) where
   from_disk : (o : Option Held) → disk_held c.world q ≡ o → IfSome o (λ h. Front (stood_of c q) (line_at c (top_of c)) × (length (stood_of c q) ≤ reached_at c (top_of c))) → greens_of c q ≡ stood_of c q →
       Front (greens_of c q) (line_at c (top_of c))
   from_disk (Some h) e is same = subst (λ xs. Front xs (line_at c (top_of c))) (sym same) is.0
   from_disk None e is same = subst (λ xs. Front xs (line_at c (top_of c))) (sym (nothing (past_of c q) refl)) tt where
-    begun : (o : Option Seat) → option_map (λ s. on_disk s.life) o ≡ None → is_some o ≡ false
+    begun : (o : Option Node) → option_map (λ s. on_disk s.life) o ≡ None → is_some o ≡ false
     begun None n = refl
     begun (Some s) n = absurd (let clash : Some (on_disk s.life) ≡ None = n in cc)
 
     nothing : (o : Option Past) → past_of c q ≡ o → greens_of c q ≡ []
     nothing None n = ap (λ (o : Option Past). option_map_or (λ x. x.greens) o []) n
-    nothing (Some x) n = absurd (let clash : true ≡ false = sym (ap is_some n) ∙ seated.past q ∙ begun (seat_of c.world q) e in cc)
+    nothing (Some x) n = absurd (let clash : true ≡ false = sym (ap is_some n) ∙ hosted.past q ∙ begun (node_of c.world q) e in cc)
 
   at : (o : Option Replica) → replica_of c.world q ≡ o → IfSome o (λ r. Front (greens_of c q) (line_at c (top_of c)) × (length (greens_of c q) ≤ reached_at c (top_of c))) → Front (greens_of c q) (line_at c (top_of c))
   at None e is = from_disk (disk_held c.world q) refl (order.disk q) (behind.down q e)
@@ -72,7 +72,7 @@ reached-there c i [] front within = tt
 reached-there c i (x ∷ list) front within = at (top_of c) refl where
   booked : (q : ℕ) → length (x ∷ list) ≤ length (greens_of c q) → Each (IsNamed c.book) (x ∷ list)
   booked q le =
-      front-each (IsNamed c.book) (x ∷ list) (greens_of c q) (Front-of_both (x ∷ list) (greens_of c q) (line_at c (top_of c)) front (greens-on_line c i.green.one_order i.replica.disk_behind i.net.seated q) le)
+      front-each (IsNamed c.book) (x ∷ list) (greens_of c q) (Front-of_both (x ∷ list) (greens_of c q) (line_at c (top_of c)) front (greens-on_line c i.green.one_order i.replica.disk_behind i.net.hosted q) le)
       (each-booked c (greens_of c q) (i.replica.made_once.in_greens q))
 
   -- a member has so many, or had as it left
@@ -99,7 +99,7 @@ UnbegunMadeNone c = (p : ℕ) → has_begun c.world p ≡ false → index_in (cu
 
 pub joiners-booked : (c : Chronicle) → Invariant c → UnbegunMadeNone c → JoinersBooked c
 joiners-booked c i unbegun = record { copied = λ joiner. at joiner (snapshot_of c.world joiner) (i.green.one_order.snapshot joiner); unbegun = unbegun } where
-  at : (joiner : ℕ) (o : Option Snapshot) → IfSome o (λ s. Front (copied_for c joiner) (line_at c (top_of c)) × (length (copied_for c joiner) ≤ reached_at c (top_of c))) →
+  at : (joiner : ℕ) (o : Option TransferState) → IfSome o (λ s. Front (copied_for c joiner) (line_at c (top_of c)) × (length (copied_for c joiner) ≤ reached_at c (top_of c))) →
       IfSome o (λ s. Each (IsNamed c.book) (copied_for c joiner))
   at joiner None is = tt
   at joiner (Some s) is = reached-there c i (copied_for c joiner) is.0 is.1

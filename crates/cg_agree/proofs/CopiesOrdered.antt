@@ -19,9 +19,9 @@ use Rattle.cg_model.specs.FactsReplica.{IsCore}
 use Rattle.cg_model.specs.Fronts.{Front}
 use Rattle.cg_model.specs.Levels.{line_at, reached_at}
 use Rattle.cg_model.specs.Looks.{copied_for, greens_of, snapshot_of, top_of}
-use Rattle.cg_model.specs.Played.{Given, IsSame, StandsBeside}
-use Rattle.cg_model.specs.Step.{joined, snapshot_for}
-use Rattle.cg_model.specs.World.{Snapshot, World, has_begun, replica_of}
+use Rattle.cg_model.specs.Played.{GivenSnapshot, IsSame, StandsBeside}
+use Rattle.cg_model.specs.Step.{joiner_replica, snapshot_for}
+use Rattle.cg_model.specs.World.{TransferState, World, has_begun, replica_of}
 use Rattle.cg_base.specs.declared.action_id.ActionId.{ActionId}
 use Rattle.cg_client.specs.Replica.{Held, Replica}
 use Rattle.cg_group.specs.EachLaws.{Each}
@@ -42,26 +42,26 @@ copy-count order greens giver h y =
     omega arith
 
 -- the snapshot of the one world is given as that of the other
-record IsGiven (v : World) (joiner : ℕ) (s : Snapshot) : Type 0 where
-  pub snapshot : Snapshot
+record IsGiven (v : World) (joiner : ℕ) (s : TransferState) : Type 0 where
+  pub snapshot : TransferState
   pub found : snapshot_of v joiner ≡ Some snapshot
   pub content : s.content ≡ snapshot.content
   pub giver : s.giver ≡ snapshot.giver
 
-is-given : (w v : World) → IsSame w v → (joiner : ℕ) (s : Snapshot) → snapshot_of w joiner ≡ Some s → IsGiven v joiner s
+is-given : (w v : World) → IsSame w v → (joiner : ℕ) (s : TransferState) → snapshot_of w joiner ≡ Some s → IsGiven v joiner s
 is-given w v same joiner s found = at (snapshot_of v joiner) refl where
   first : option_map as_given (snapshot_of w joiner) ≡ option_map as_given (snapshot_of v joiner)
   first = first-given w.snapshots v.snapshots same.given joiner
 
-  at : (o : Option Snapshot) → snapshot_of v joiner ≡ o → IsGiven v joiner s
+  at : (o : Option TransferState) → snapshot_of v joiner ≡ o → IsGiven v joiner s
   at None e = absurd (let clash : Some (as_given s) ≡ None = sym (ap (option_map as_given) found) ∙ first ∙ ap (option_map as_given) e in cc)
   at (Some t) e =
       let one : Some (as_given s) ≡ Some (as_given t) = sym (ap (option_map as_given) found) ∙ first ∙ ap (option_map as_given) e in
       record {
         snapshot = t;
         found = e;
-        content = ap (λ (o : Option Given). option_map_or (λ x. x.content) o s.content) one;
-        giver = ap (λ (o : Option Given). option_map_or (λ x. x.giver) o s.giver) one;
+        content = ap (λ (o : Option GivenSnapshot). option_map_or (λ x. x.content) o s.content) one;
+        giver = ap (λ (o : Option GivenSnapshot). option_map_or (λ x. x.giver) o s.giver) one;
       }
 
 module _ (c : Chronicle) (w : World) (stands : StandsBeside c w) where
@@ -83,14 +83,14 @@ module _ (c : Chronicle) (w : World) (stands : StandsBeside c w) where
         within = omega arith;
       }
 
-  copies-there : (j : ℕ) (s : Snapshot) → snapshot_of w j ≡ Some s → IsCopied s.giver s.content
+  copies-there : (j : ℕ) (s : TransferState) → snapshot_of w j ≡ Some s → IsCopied s.giver s.content
   copies-there j s e =
       let given = is-given w c.world stands.same j s e in
       let t = given.snapshot in
       let book : (length (copied_for c j) ≤ length w.order) × Front (copied_for c j) (greens_of c s.giver) =
-      subst (λ (o : Option Snapshot). IfSome o (λ s. (length (copied_for c j) ≤ length w.order) × Front (copied_for c j) (greens_of c s.giver))) e (stands.rests.order_book.copied j) in
-      let core = subst (λ (o : Option Snapshot). IfSome o (λ s. IsCore c (joined j s.content).held (copied_for c j))) given.found (i.replica.cores.snapshot j) in
-      let line = subst (λ (o : Option Snapshot). IfSome o (λ s. Front (copied_for c j) (line_at c (top_of c)) × (length (copied_for c j) ≤ reached_at c (top_of c)))) given.found (i.green.one_order.snapshot j) in
+      subst (λ (o : Option TransferState). IfSome o (λ s. (length (copied_for c j) ≤ length w.order) × Front (copied_for c j) (greens_of c s.giver))) e (stands.rests.order_book.copied j) in
+      let core = subst (λ (o : Option TransferState). IfSome o (λ s. IsCore c (joiner_replica j s.content).held (copied_for c j))) given.found (i.replica.cores.snapshot j) in
+      let line = subst (λ (o : Option TransferState). IfSome o (λ s. Front (copied_for c j) (line_at c (top_of c)) × (length (copied_for c j) ≤ reached_at c (top_of c)))) given.found (i.green.one_order.snapshot j) in
       let on = order-on_top c w stands in
       let long : length w.order ≡ length on.list = ap length on.names ∙ names-count on.list in
       let few = book.0 in
@@ -107,8 +107,8 @@ module _ (c : Chronicle) (w : World) (stands : StandsBeside c w) where
 
   pub copies-first : OfSnapshots IsCopied w
   copies-first =
-      each-found (λ (s : Snapshot). IsCopied s.giver s.content) (λ s. s.joiner) w.snapshots (sound-same w c.world stands.same (sound-of c i)).once (λ j. at j (snapshot_of w j) refl) where
-        at : (j : ℕ) (o : Option Snapshot) → snapshot_of w j ≡ o → IfSome o (λ s. IsCopied s.giver s.content)
+      each-found (λ (s : TransferState). IsCopied s.giver s.content) (λ s. s.joiner) w.snapshots (sound-same w c.world stands.same (sound-of c i)).once (λ j. at j (snapshot_of w j) refl) where
+        at : (j : ℕ) (o : Option TransferState) → snapshot_of w j ≡ o → IfSome o (λ s. IsCopied s.giver s.content)
         at j None e = tt
         at j (Some s) e = copies-there j s e
 
@@ -117,14 +117,14 @@ module _ (c : Chronicle) (w : World) (stands : StandsBeside c w) where
   module _ (d : Chronicle) (v : World) (j : Invariant d) (same : IsSame v d.world) (grow : (p : ℕ) → Front (greens_of c p) (greens_of d p)) (on : Front w.order v.order) (copies : OfSnapshots IsCopied v) where
     pub copied-behind : (joiner : ℕ) → IfSome (snapshot_of v joiner) (λ s. (length (copied_for d joiner) ≤ length v.order) × Front (copied_for d joiner) (greens_of d s.giver))
     copied-behind joiner = at (snapshot_of v joiner) refl where
-      at : (o : Option Snapshot) → snapshot_of v joiner ≡ o → IfSome o (λ s. (length (copied_for d joiner) ≤ length v.order) × Front (copied_for d joiner) (greens_of d s.giver))
+      at : (o : Option TransferState) → snapshot_of v joiner ≡ o → IfSome o (λ s. (length (copied_for d joiner) ≤ length v.order) × Front (copied_for d joiner) (greens_of d s.giver))
       at None e = tt
       at (Some s) e =
-          let y : IsCopied s.giver s.content = subst (λ (o : Option Snapshot). IfSome o (λ s. IsCopied s.giver s.content)) e (found-each (λ (s : Snapshot). IsCopied s.giver s.content) (λ s. s.joiner == joiner) v.snapshots copies) in
+          let y : IsCopied s.giver s.content = subst (λ (o : Option TransferState). IfSome o (λ s. IsCopied s.giver s.content)) e (found-each (λ (s : TransferState). IsCopied s.giver s.content) (λ s. s.joiner == joiner) v.snapshots copies) in
           let given = is-given v d.world same joiner s e in
-          let core = subst (λ (o : Option Snapshot). IfSome o (λ s. IsCore d (joined joiner s.content).held (copied_for d joiner))) given.found (j.replica.cores.snapshot joiner) in
-          let line = subst (λ (o : Option Snapshot). IfSome o (λ s. Front (copied_for d joiner) (line_at d (top_of d)) × (length (copied_for d joiner) ≤ reached_at d (top_of d)))) given.found (j.green.one_order.snapshot joiner) in
-          let count : green_count given.snapshot.content.queue ≡ length (copied_for d joiner) = made-count d.start (joined joiner given.snapshot.content).held (copied_for d joiner) core.made_of in
+          let core = subst (λ (o : Option TransferState). IfSome o (λ s. IsCore d (joiner_replica joiner s.content).held (copied_for d joiner))) given.found (j.replica.cores.snapshot joiner) in
+          let line = subst (λ (o : Option TransferState). IfSome o (λ s. Front (copied_for d joiner) (line_at d (top_of d)) × (length (copied_for d joiner) ≤ reached_at d (top_of d)))) given.found (j.green.one_order.snapshot joiner) in
+          let count : green_count given.snapshot.content.queue ≡ length (copied_for d joiner) = made-count d.start (joiner_replica joiner given.snapshot.content).held (copied_for d joiner) core.made_of in
           let same_count : green_count s.content.queue ≡ green_count given.snapshot.content.queue = ap (λ (h : Held). green_count h.queue) given.content in
           let all : green_count s.content.queue ≡ length y.all = copy-count w.order (greens_of c) s.giver s.content y in
           let short : length (names_of y.all) ≤ length w.order = Front-length (names_of y.all) w.order y.there in
@@ -133,7 +133,7 @@ module _ (c : Chronicle) (w : World) (stands : StandsBeside c w) where
           let within = y.within in
           let grown : length (greens_of c s.giver) ≤ length (greens_of d s.giver) = Front-length (greens_of c s.giver) (greens_of d s.giver) (grow s.giver) in (
             omega arith,
-            Front-of_both (copied_for d joiner) (greens_of d s.giver) (line_at d (top_of d)) line.0 (greens-on_line d j.green.one_order j.replica.disk_behind j.net.seated s.giver) (omega arith),
+            Front-of_both (copied_for d joiner) (greens_of d s.giver) (line_at d (top_of d)) line.0 (greens-on_line d j.green.one_order j.replica.disk_behind j.net.hosted s.giver) (omega arith),
           )
 
   -- what nobody else has in the order isn't in a snapshot

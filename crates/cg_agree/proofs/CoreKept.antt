@@ -13,7 +13,7 @@ use Rattle.cg_base.specs.Weights.{ids}
 use Rattle.cg_action.specs.declared.action.Action.{Action}
 use Rattle.cg_queue.specs.Queue.{names_of}
 use Rattle.cg_knowledge.specs.declared.summary.Summary.{Summary}
-use Rattle.cg_knowledge.specs.Members.{senders, gone}
+use Rattle.cg_knowledge.specs.Summaries.{senders, gone}
 use Rattle.cg_wire.specs.declared.message.Msg.{Msg}
 use Rattle.cg_wire.specs.declared.message.Msg.TheVariants.{Action as ActionMsg, State as StateMsg, GreenItem, RedItem, Cpc}
 use Rattle.cg_group.specs.declared.phase.Phase.{Phase}
@@ -31,8 +31,8 @@ use Rattle.cg_exchange.specs.ExchangeActions.{progress, is_next, mark_item, take
 use Rattle.cg_construct.specs.Construct.{attempt_set, is_announced}
 use Rattle.cg_construct.specs.No.{no_with}
 use Rattle.cg_commit.specs.Crash.{Disk}
-use Rattle.cg_step.specs.Step.{on_message, on_transitional, take}
-use Rattle.cg_model.specs.World.{Up, Seat, seat_of, replica_of, running}
+use Rattle.cg_replica_step.specs.Step.{on_message, on_transitional, after_delivery}
+use Rattle.cg_model.specs.World.{Up, Node, node_of, replica_of, running}
 use Rattle.cg_model.specs.Chronicle.{Chronicle}
 use Rattle.cg_knowledge.specs.Verdict.{decides}
 use Rattle.cg_model.specs.Looks.{greens_of, members_in, OfCores}
@@ -220,7 +220,7 @@ pub record Partway (start : List Weighted) (h : Held) (all : List Action) (u : T
   pub fits : FitsYellow u.replica.state u.replica.held
 
 place-on : (start : List Weighted) (h : Held) (all : List Action) (conf : Configuration Msg) (place : ℕ) (t : Turn) → Partway start h all t → Partway start h all (take_all (delivery_at conf place) t)
-unfolding delivery_at take
+unfolding delivery_at after_delivery
 place-on start h all conf place t way = at (at_place conf.ordered place) where
   at : (o : Option (Sent Msg)) → Partway start h all (take_all (option_map_or (λ s. Message place s.from s.message ∷ []) o []) t)
   at None = way
@@ -236,7 +236,7 @@ place-on start h all conf place t way = at (at_place conf.ordered place) where
 pub places-on : (start : List Weighted) (h : Held) (all : List Action) (conf : Configuration Msg) (places : List ℕ) (t : Turn) → Partway start h all t → Partway start h all (take_all (deliveries_at conf places) t)
 places-on start h all conf [] t way = way
 places-on start h all conf (place ∷ places) t way =
-    subst (Partway start h all) (sym (fold-append take t (delivery_at conf place) (deliveries_at conf places)))
+    subst (Partway start h all) (sym (fold-append after_delivery t (delivery_at conf place) (deliveries_at conf places)))
     (places-on start h all conf places (take_all (delivery_at conf place) t) (place-on start h all conf place t way))
 
 -- the transitional configuration: where all is green, all that is known is yellow
@@ -283,7 +283,7 @@ never-trans set conf t me = one (is_full set t) (is_through t) (has (gone t.hear
 
 next-grows : (c : Chronicle) (p : ℕ) (i : Invariant c) (n : HandsNow c p) → EndFits c p → IsOneself c.start n.replica.held (greens_of c p) →
     Grows c.start n.replica.held (take_next c.world.group p (begin n.replica)).replica.held (greens_of c p)
-unfolding delivery_at take
+unfolding delivery_at after_delivery
 next-grows c p i n fits is =
     subst (λ o. Grows c.start n.replica.held (take_all (option_map_or (λ (s : Sent Msg). Message (suc (delivered_to c.world.group p)) s.from s.message ∷ []) o []) (begin n.replica)).replica.held (greens_of c p))
     (sym (found-now c p i n))
@@ -293,7 +293,7 @@ next-grows c p i n fits is =
 
 leave-grows : (c : Chronicle) (p : ℕ) (i : Invariant c) (set places : List ℕ) (r : Replica) → replica_of c.world p ≡ Some r → IsOneself c.start r.held (greens_of c p) →
     Grows c.start r.held (take_parting c.world.group p set places (begin r)).replica.held (greens_of c p)
-unfolding take
+unfolding after_delivery
 leave-grows c p i set places r up is =
     let mode = subst (λ (o : Option Replica). IfSome o (IsModeData c p)) up (i.replica.mode_data p) in
     let yellow = yellow-fits c c.start r.held (greens_of c p) (phase_of c.world.group p) r.state is mode.data_of in
@@ -318,8 +318,8 @@ fresh-oneself set p = record {
 started-core : (c : Chronicle) (i : Invariant c) (set : List Weighted) → may_make c (Starts set) ≡ true → AreOneself (small_step c (Starts set))
 unfolding small_step may_make
 started-core c i set may =
-    let empty = nothing-before c i.net.seated (and_parts (is_nil c.world.seats) (is_set (ids set)) may).0 in
-    cores-kept (IsOneself set) c (Starts set) (ready-of c i.net.seated i.replica.disk_behind) may (oneself-closed set) (λ p. fresh-oneself set p)
+    let empty = nothing-before c i.net.hosted (and_parts (is_nil c.world.nodes) (is_set (ids set)) may).0 in
+    cores-kept (IsOneself set) c (Starts set) (ready-of c i.net.hosted i.replica.disk_behind) may (oneself-closed set) (λ p. fresh-oneself set p)
     (subst (λ (x : Chronicle). OfCores x (IsOneself set)) (sym empty) (record { memory = λ p. tt; disk = λ p. tt; snapshot = λ joiner. tt }))
 
 -- what is left to be known of a step
@@ -333,32 +333,32 @@ cores_core-kept c s i may fits = cores-of (small_step c s) (at s may fits) where
   before : AreOneself c
   before = oneself-of c i.replica.cores
 
-  held : (p : ℕ) (r : Replica) (disk : Disk) → seat_of c.world p ≡ Some (record { id = p; life = Up r disk }) → IsOneself c.start r.held (greens_of c p)
-  held p r disk seat = held-known (IsOneself c.start) c p r (ap (λ (o : Option Seat). option_and_then (λ s. running s.life) o) seat) before
+  held : (p : ℕ) (r : Replica) (disk : Disk) → node_of c.world p ≡ Some (record { id = p; life = Up r disk }) → IsOneself c.start r.held (greens_of c p)
+  held p r disk node = held-known (IsOneself c.start) c p r (ap (λ (o : Option Node). option_and_then (λ s. running s.life) o) node) before
 
   kept : (s : Small) → may_make c s ≡ true → (small_step c s).start ≡ c.start → StepKeeps c s (IsOneself c.start) → AreOneself (small_step c s)
   kept s may start step =
       subst (λ st. OfCores (small_step c s) (IsOneself st)) (sym start)
-      (cores-kept (IsOneself c.start) c s (ready-of c i.net.seated i.replica.disk_behind) may (oneself-closed c.start) step before)
+      (cores-kept (IsOneself c.start) c s (ready-of c i.net.hosted i.replica.disk_behind) may (oneself-closed c.start) step before)
 
   at : (s : Small) → may_make c s ≡ true → Fits c s → AreOneself (small_step c s)
   at (Starts set) may fits = started-core c i set may
   at (Makes set) may fits = kept (Makes set) may (start-kept c (Makes set) tt) tt
-  at (Enters p) may fits = kept (Enters p) may (start-kept c (Enters p) tt) (λ r disk seat. (let g = c.world.group in
-      grown-now c.start r (take_newest g (begin r)).replica (greens_of c p) (keeps-take_regular (newest_conf g) (configuration g (newest_conf g)).members c.start (greens_of c p) (begin r) (held p r disk seat))))
+  at (Enters p) may fits = kept (Enters p) may (start-kept c (Enters p) tt) (λ r disk node. (let g = c.world.group in
+      grown-now c.start r (take_newest g (begin r)).replica (greens_of c p) (keeps-take_regular (newest_conf g) (configuration g (newest_conf g)).members c.start (greens_of c p) (begin r) (held p r disk node))))
   at (Orders p) may fits = kept (Orders p) may (start-kept c (Orders p) tt) tt
   at (Receives p place) may fits = kept (Receives p place) may (start-kept c (Receives p place) tt) tt
-  at (Hands p) may fits = kept (Hands p) may (start-kept c (Hands p) tt) (λ r disk seat. (let n = hands-now c p i may in
+  at (Hands p) may fits = kept (Hands p) may (start-kept c (Hands p) tt) (λ r disk node. (let n = hands-now c p i may in
       subst (λ (r : Replica). IsOneself c.start (take_next c.world.group p (begin r)).replica.held (greens_of c p ++ newly_green r (take_next c.world.group p (begin r)).replica))
-      (sym (same-replica c p r n.replica disk seat (running-now c p i n)))
-      (grown-now c.start n.replica (take_next c.world.group p (begin n.replica)).replica (greens_of c p) (next-grows c p i n fits (held p n.replica n.disk n.seat)))))
-  at (Leaves p set own places) may fits = kept (Leaves p set own places) may (start-kept c (Leaves p set own places) tt) (λ r disk seat.
+      (sym (same-replica c p r n.replica disk node (running-now c p i n)))
+      (grown-now c.start n.replica (take_next c.world.group p (begin n.replica)).replica (greens_of c p) (next-grows c p i n fits (held p n.replica n.disk n.node)))))
+  at (Leaves p set own places) may fits = kept (Leaves p set own places) may (start-kept c (Leaves p set own places) tt) (λ r disk node.
       grown-now c.start r (take_parting c.world.group p set places (begin r)).replica (greens_of c p)
-      (leave-grows c p i set places r (ap (λ (o : Option Seat). option_and_then (λ s. running s.life) o) seat) (held p r disk seat)))
-  at (Asks p kind) may fits = kept (Asks p kind) may (start-kept c (Asks p kind) tt) (λ r disk seat.
-      grown-now c.start r (take_request kind (begin r)).replica (greens_of c p) (keeps-request kind c.start (greens_of c p) (begin r) (held p r disk seat)))
-  at (Settles p) may fits = kept (Settles p) may (start-kept c (Settles p) tt) (λ r disk seat.
-      grown-now c.start r (settle (begin r)).replica (greens_of c p) (keeps-settle c.start (greens_of c p) (begin r) (held p r disk seat)))
+      (leave-grows c p i set places r (ap (λ (o : Option Node). option_and_then (λ s. running s.life) o) node) (held p r disk node)))
+  at (Asks p kind) may fits = kept (Asks p kind) may (start-kept c (Asks p kind) tt) (λ r disk node.
+      grown-now c.start r (take_request kind (begin r)).replica (greens_of c p) (keeps-request kind c.start (greens_of c p) (begin r) (held p r disk node)))
+  at (Settles p) may fits = kept (Settles p) may (start-kept c (Settles p) tt) (λ r disk node.
+      grown-now c.start r (settle (begin r)).replica (greens_of c p) (keeps-settle c.start (greens_of c p) (begin r) (held p r disk node)))
   at (Commits p) may fits = kept (Commits p) may (start-kept c (Commits p) tt) tt
   at (Crashes p) may fits = kept (Crashes p) may (start-kept c (Crashes p) tt) tt
   at (Recovers p) may fits = kept (Recovers p) may (start-kept c (Recovers p) tt) tt

@@ -22,24 +22,24 @@ use Rattle.cg_group.specs.Events.{deliveries_at, handed_in_split, deliver, split
 use Rattle.cg_client.specs.Replica.{Held, State, RegPrim, TransPrim, ExchangeStates, ExchangeActions, Construct, No, Un, NonPrim, Left, Replica, fresh}
 use Rattle.cg_client.specs.Turn.{Turn, begin}
 use Rattle.cg_client.specs.Requests.{request_in}
-use Rattle.cg_stored.specs.Stored.{whiten}
-use Rattle.cg_step.specs.Step.{Input, Deliveries, Asks as AsksOf, replica_step}
+use Rattle.cg_disk_records.specs.Stored.{whiten}
+use Rattle.cg_replica_step.specs.Step.{Input, Deliveries, Asks as AsksOf, replica_step}
 use Rattle.cg_commit.specs.Crash.{Disk, FailOnce, StopWith, Strike, whitened, end_event, at_rest, new_disk, recovered, disk_recovered}
 use Rattle.cg_schedule.specs.declared.event.Event.{Event}
 use Rattle.cg_schedule.specs.declared.event.Event.TheVariants.{Start, Split, Merge, Request, Weak, Dirty, Order, Recover, Show, ShowOrder, Gather, End, Receive, Deliver, Rounds, Stop, Fail, Join, Leave, Transfer}
-use Rattle.cg_model.specs.World.{Life, Up, Down, Seat, Snapshot, World, no_world, running, has_begun, seat_of, replica_of, bring_up}
+use Rattle.cg_model.specs.World.{NodeState, Up, Down, Node, TransferState, World, no_world, running, has_begun, node_of, replica_of, bring_up}
 use Rattle.cg_model.specs.Admission.{first_refusal, takes_part, never_named, joiner_left, not_green}
 use Rattle.cg_model.specs.AdmissionCalls.{begun_already}
 use Rattle.cg_model.specs.Show.{ended}
 use Rattle.cg_model.specs.Run.{MayStand}
 use Rattle.cg_model.specs.Agreement.{may_move}
-use Rattle.cg_model.specs.Step.{quietly, hand_out, ask, name_also, begin_replica, arm_at, crash_at, recover_from, recover, joined, snapshot_for, without_snapshot, with_pieces, take_pieces, transfer, happens, world_step}
+use Rattle.cg_model.specs.Step.{quietly, hand_out, ask, name_also, begin_replica, arm_at, crash_at, recover_from, recover, joiner_replica, snapshot_for, without_snapshot, with_pieces, take_pieces, transfer, happens, world_step}
 use Rattle.cg_model.specs.Chronicle.{Chronicle}
 use Rattle.cg_model.specs.Looks.{greens_of, stood_of, on_disk, disk_held}
 use Rattle.cg_model.specs.FactsReplica.{IsCore, IsModeData}
 use Rattle.cg_model.specs.Played.{StandsBeside}
-use Rattle.cg_agree_lemmas.specs.ChronicleFacts.{seat_of-set}
-use Rattle.cg_agree_lemmas.specs.SeatFacts.{seat-id}
+use Rattle.cg_agree_lemmas.specs.ChronicleFacts.{node_of-set}
+use Rattle.cg_agree_lemmas.specs.NodeFacts.{node-id}
 use Rattle.cg_agree_lemmas.specs.HeldMarks.{IsOneself, counted}
 use Rattle.cg_agree_lemmas.specs.HeldCommit.{recovered-oneself, recovered-id}
 use Rattle.cg_agree_lemmas.specs.DiskEnds.{end-cases}
@@ -56,24 +56,24 @@ use Rattle.cg_agree_lemmas.specs.WorldTurns.{IsBehind, hand-behind, from-same, h
 use Rattle.cg_client.specs.Joined.{piece_count}
 
 -- the greens of a replica, as it runs or as its disk has them; none of one that hasn't begun
-abbrev pub held_at : Life → Held
+abbrev pub held_at : NodeState → Held
 held_at (Up r disk) = r.held
 held_at (Down disk green) = disk.content
 
-abbrev pub count_at : Option Seat → ℕ
+abbrev pub count_at : Option Node → ℕ
 count_at o = option_map_or (λ s. green_count (held_at s.life).queue) o 0
 
-abbrev pub running_at : Option Seat → Option Replica
+abbrev pub running_at : Option Node → Option Replica
 running_at o = option_and_then (λ s. running s.life) o
 
 -- so it is behind an event; and where the event doesn't move the replica it was up before if it is, unless it has no greens
-pub record CountGrows (moved : Bool) (a b : Option Seat) : Type 0 where
+pub record CountGrows (moved : Bool) (a b : Option Node) : Type 0 where
   pub more : count_at a ≤ count_at b
   pub still : moved ≡ false → count_at b ≡ count_at a
   pub begun : is_some b ≡ true → running_at b ≡ None → is_some a ≡ true
   pub up : moved ≡ false → (r : Replica) → running_at b ≡ Some r → (count_at b ≡ 0) ⊎ ((x : Replica) × (running_at a ≡ Some x))
 
-same-grows : (moved : Bool) (a b : Option Seat) → b ≡ a → CountGrows moved a b
+same-grows : (moved : Bool) (a b : Option Node) → b ≡ a → CountGrows moved a b
 same-grows moved a b e = subst (CountGrows moved a) (sym e) (record { more = (let same : count_at a ≤ count_at a = omega arith in same); still = λ none. refl; begun = λ some down. some; up = λ none r runs. inr (r, runs) })
 
 -- what is held, and what stands on the disk with as many greens
@@ -83,11 +83,11 @@ pub record IsEven (start : List Weighted) (p : ℕ) (h disk : Held) : Type 0 whe
   pub id : h.id ≡ p
   pub same : green_count h.queue ≡ green_count disk.queue
 
-abbrev pub LifeEven : List Weighted → ℕ → Life → Type 0
+abbrev pub LifeEven : List Weighted → ℕ → NodeState → Type 0
 LifeEven start p l = IsEven start p (held_at l) (on_disk l)
 
-abbrev pub SeatEven : List Weighted → ℕ → Option Seat → Type 0
-SeatEven start p o = IfSome o (λ s. LifeEven start p s.life)
+abbrev pub NodeEven : List Weighted → ℕ → Option Node → Type 0
+NodeEven start p o = IfSome o (λ s. LifeEven start p s.life)
 
 -- ---- one turn
 
@@ -133,20 +133,20 @@ turn-counts start p r disk input moved even none =
       count : green_count (whiten t.replica.held).queue ≡ green_count t.replica.held.queue
       count = whitened-count start r.held t.replica.held even.greens even.is (step-follows r input)
 
-      grows : (l : Life) → green_count (held_at l).queue ≡ green_count t.replica.held.queue → CountGrows moved (Some (record { id = p; life = Up r disk })) (Some (record { id = p; life = l }))
+      grows : (l : NodeState) → green_count (held_at l).queue ≡ green_count t.replica.held.queue → CountGrows moved (Some (record { id = p; life = Up r disk })) (Some (record { id = p; life = l }))
       grows l same = record { more = (let le = step-more r input in omega arith); still = λ idle. same ∙ none idle; begun = λ some down. refl; up = λ idle x runs. inr (r, refl) }
 
       lost : (d : Disk) (green : List ActionId) → green_count d.content.queue ≡ green_count r.held.queue → CountGrows moved (Some (record { id = p; life = Up r disk })) (Some (record { id = p; life = Down d green }))
       lost d green same = record { more = omega arith; still = λ idle. same; begun = λ some down. refl; up = λ idle x runs. inr (r, refl) }
 
--- ---- one seat changes
+-- ---- one node changes
 
-set-grows : (w v : World) (p : ℕ) (life : Life) (moved : ℕ → Bool) → ((q : ℕ) → seat_of v q ≡ cond (p == q) (Some (record { id = p; life = life })) (seat_of w q)) →
-    CountGrows (moved p) (seat_of w p) (Some (record { id = p; life = life })) → (q : ℕ) → CountGrows (moved q) (seat_of w q) (seat_of v q)
-set-grows w v p life moved seats is q = elim (cases_eq p q) [
-  | inl same ↦ subst (λ (n : ℕ). CountGrows (moved n) (seat_of w n) (seat_of v n)) same
-      (subst (CountGrows (moved p) (seat_of w p)) (sym (seats p ∙ cond-true (p == p) (Some (let s : Seat = record { id = p; life = life } in s)) (seat_of w p) (eq-eqb p p refl))) is)
-  | inr apart ↦ same-grows (moved q) (seat_of w q) (seat_of v q) (seats q ∙ cond-false (p == q) (Some (let s : Seat = record { id = p; life = life } in s)) (seat_of w q) (ne_eqb p q apart))
+set-grows : (w v : World) (p : ℕ) (life : NodeState) (moved : ℕ → Bool) → ((q : ℕ) → node_of v q ≡ cond (p == q) (Some (record { id = p; life = life })) (node_of w q)) →
+    CountGrows (moved p) (node_of w p) (Some (record { id = p; life = life })) → (q : ℕ) → CountGrows (moved q) (node_of w q) (node_of v q)
+set-grows w v p life moved nodes is q = elim (cases_eq p q) [
+  | inl same ↦ subst (λ (n : ℕ). CountGrows (moved n) (node_of w n) (node_of v n)) same
+      (subst (CountGrows (moved p) (node_of w p)) (sym (nodes p ∙ cond-true (p == p) (Some (let s : Node = record { id = p; life = life } in s)) (node_of w p) (eq-eqb p p refl))) is)
+  | inr apart ↦ same-grows (moved q) (node_of w q) (node_of v q) (nodes q ∙ cond-false (p == q) (Some (let s : Node = record { id = p; life = life } in s)) (node_of w q) (ne_eqb p q apart))
 ]
 
 -- ---- events
@@ -166,115 +166,115 @@ each-moved : (set : List ℕ) (f : ℕ → Handed Msg) → ((q : ℕ) → (f q).
 each-moved set f same [] each = tt
 each-moved set f same (p ∷ xs) each = (inl (ap (has set) (same p) ∙ each.0), each-moved set f same xs each.1)
 
-begun-none : (set : List Weighted) (list : List ℕ) (w : World) → ((q : ℕ) → count_at (seat_of w q) ≡ 0) → (q : ℕ) → count_at (seat_of (fold (begin_replica set) w list) q) ≡ 0
+begun-none : (set : List Weighted) (list : List ℕ) (w : World) → ((q : ℕ) → count_at (node_of w q) ≡ 0) → (q : ℕ) → count_at (node_of (fold (begin_replica set) w list) q) ≡ 0
 begun-none set [] w none q = none q
 begun-none set (p ∷ list) w none q = begun-none set list (begin_replica set w p) (one w p none) q where
-  one : (w : World) (p : ℕ) → ((q : ℕ) → count_at (seat_of w q) ≡ 0) → (q : ℕ) → count_at (seat_of (begin_replica set w p) q) ≡ 0
+  one : (w : World) (p : ℕ) → ((q : ℕ) → count_at (node_of w q) ≡ 0) → (q : ℕ) → count_at (node_of (begin_replica set w p) q) ≡ 0
   one w p none q =
       let r = fresh p set in
-      let new : Option Seat = Some (record { id = p; life = Up r (new_disk r.held) }) in
-      ap count_at (seat_of-set (name_also w p) p (Up r (new_disk r.held)) q) ∙ cond_both (p == q) new (seat_of w q) (λ o. count_at o ≡ 0) (λ y. refl) (λ n. none q)
+      let new : Option Node = Some (record { id = p; life = Up r (new_disk r.held) }) in
+      ap count_at (node_of-set (name_also w p) p (Up r (new_disk r.held)) q) ∙ cond_both (p == q) new (node_of w q) (λ o. count_at o ≡ 0) (λ y. refl) (λ n. none q)
 
-begun-up : (set : List Weighted) (list : List ℕ) (w : World) → ((q : ℕ) → is_some (seat_of w q) ≡ true → running_at (seat_of w q) ≡ None → ⊥) → (q : ℕ) →
-    (let v = fold (begin_replica set) w list in is_some (seat_of v q) ≡ true → running_at (seat_of v q) ≡ None → ⊥)
+begun-up : (set : List Weighted) (list : List ℕ) (w : World) → ((q : ℕ) → is_some (node_of w q) ≡ true → running_at (node_of w q) ≡ None → ⊥) → (q : ℕ) →
+    (let v = fold (begin_replica set) w list in is_some (node_of v q) ≡ true → running_at (node_of v q) ≡ None → ⊥)
 begun-up set [] w none q = none q
 begun-up set (p ∷ list) w none q = begun-up set list (begin_replica set w p) one q where
-  one : (q : ℕ) → is_some (seat_of (begin_replica set w p) q) ≡ true → running_at (seat_of (begin_replica set w p) q) ≡ None → ⊥
+  one : (q : ℕ) → is_some (node_of (begin_replica set w p) q) ≡ true → running_at (node_of (begin_replica set w p) q) ≡ None → ⊥
   one q =
       let r = fresh p set in
-      let new : Option Seat = Some (record { id = p; life = Up r (new_disk r.held) }) in
-      subst (λ (o : Option Seat). is_some o ≡ true → running_at o ≡ None → ⊥) (sym (seat_of-set (name_also w p) p (Up r (new_disk r.held)) q))
-      (cond_both (p == q) new (seat_of w q) (λ o. is_some o ≡ true → running_at o ≡ None → ⊥) (λ y some down. (let no_one : Some r ≡ None = down in cc)) (λ n. none q))
+      let new : Option Node = Some (record { id = p; life = Up r (new_disk r.held) }) in
+      subst (λ (o : Option Node). is_some o ≡ true → running_at o ≡ None → ⊥) (sym (node_of-set (name_also w p) p (Up r (new_disk r.held)) q))
+      (cond_both (p == q) new (node_of w q) (λ o. is_some o ≡ true → running_at o ≡ None → ⊥) (λ y some down. (let no_one : Some r ≡ None = down in cc)) (λ n. none q))
 
-module _ (start : List Weighted) (w : World) (even : (p : ℕ) → SeatEven start p (seat_of w p)) where
+module _ (start : List Weighted) (w : World) (even : (p : ℕ) → NodeEven start p (node_of w p)) where
   Grows : World → (ℕ → Bool) → Type 0
-  Grows v moved = (q : ℕ) → CountGrows (moved q) (seat_of w q) (seat_of v q)
+  Grows v moved = (q : ℕ) → CountGrows (moved q) (node_of w q) (node_of v q)
 
   of-turn : (v : World) (moved : ℕ → Bool) → ((q : ℕ) → IsBehind (Moved moved) w v q) → Grows v moved
   unfolding Grows
   of-turn v moved behind q = elim (behind q) [
-    | inl same ↦ same-grows (moved q) (seat_of w q) (seat_of v q) same
+    | inl same ↦ same-grows (moved q) (node_of w q) (node_of v q) same
     | inr turn ↦
         let r = turn.replica in
-        let here : Option Seat = Some (record { id = q; life = Up r turn.disk }) in
-        let now : LifeEven start q (Up r turn.disk) = subst (SeatEven start q) turn.before (even q) in
-        subst (CountGrows (moved q) (seat_of w q)) (sym turn.behind) (subst (λ (o : Option Seat). CountGrows (moved q) o (Some (record { id = q; life = life_at (end_event turn.disk r.held (replica_step r turn.input)) }))) (sym turn.before)
+        let here : Option Node = Some (record { id = q; life = Up r turn.disk }) in
+        let now : LifeEven start q (Up r turn.disk) = subst (NodeEven start q) turn.before (even q) in
+        subst (CountGrows (moved q) (node_of w q)) (sym turn.behind) (subst (λ (o : Option Node). CountGrows (moved q) o (Some (record { id = q; life = life_at (end_event turn.disk r.held (replica_step r turn.input)) }))) (sym turn.before)
         (turn-counts start q r turn.disk turn.input (moved q) now (λ idle. elim turn.of [ inl moves ↦ absurd (clash (sym moves ∙ idle)) | inr asks ↦ asked-step r turn.input asks.0 asks.1 ])))
   ]
 
   -- the world with another group
-  of-group : (u v : World) (moved : ℕ → Bool) → u.seats ≡ w.seats → ((q : ℕ) → IsBehind (Moved moved) u v q) → Grows v moved
-  of-group u v moved seats behind =
-      of-turn v moved (λ q. from-same (Moved moved) w u v q (ap (λ (list : List Seat). find (λ s. s.id == q) list) seats) (behind q))
+  of-group : (u v : World) (moved : ℕ → Bool) → u.nodes ≡ w.nodes → ((q : ℕ) → IsBehind (Moved moved) u v q) → Grows v moved
+  of-group u v moved nodes behind =
+      of-turn v moved (λ q. from-same (Moved moved) w u v q (ap (λ (list : List Node). find (λ s. s.id == q) list) nodes) (behind q))
 
-  stays : (v : World) (moved : ℕ → Bool) → v.seats ≡ w.seats → Grows v moved
+  stays : (v : World) (moved : ℕ → Bool) → v.nodes ≡ w.nodes → Grows v moved
   unfolding Grows
-  stays v moved seats q = same-grows (moved q) (seat_of w q) (seat_of v q) (ap (λ (list : List Seat). find (λ s. s.id == q) list) seats)
+  stays v moved nodes q = same-grows (moved q) (node_of w q) (node_of v q) (ap (λ (list : List Node). find (λ s. s.id == q) list) nodes)
 
-  asked : (u : World) (p : ℕ) (kind : Kind) (moved : ℕ → Bool) → u.seats ≡ w.seats → Grows (ask u p kind).world moved
-  asked u p kind moved seats = of-group u (ask u p kind).world moved seats (λ q. hand-behind (Moved moved) (quietly u) p (AsksOf kind) (inr (kind, refl)) q)
+  asked : (u : World) (p : ℕ) (kind : Kind) (moved : ℕ → Bool) → u.nodes ≡ w.nodes → Grows (ask u p kind).world moved
+  asked u p kind moved nodes = of-group u (ask u p kind).world moved nodes (λ q. hand-behind (Moved moved) (quietly u) p (AsksOf kind) (inr (kind, refl)) q)
 
-  -- a seat with this life, and what becomes of it
+  -- a node with this life, and what becomes of it
   module _ (p : ℕ) (moved : ℕ → Bool) where
-    of-seat : (f : Life → World) → ((l : Life) → seat_of w p ≡ Some (record { id = p; life = l }) → LifeEven start p l → Grows (f l) moved) → Grows (option_map_or (λ s. f s.life) (seat_of w p) w) moved
-    of-seat f each = at (seat_of w p) refl where
-      at : (o : Option Seat) → seat_of w p ≡ o → Grows (option_map_or (λ s. f s.life) o w) moved
+    of-node : (f : NodeState → World) → ((l : NodeState) → node_of w p ≡ Some (record { id = p; life = l }) → LifeEven start p l → Grows (f l) moved) → Grows (option_map_or (λ s. f s.life) (node_of w p) w) moved
+    of-node f each = at (node_of w p) refl where
+      at : (o : Option Node) → node_of w p ≡ o → Grows (option_map_or (λ s. f s.life) o w) moved
       at None e = stays w moved refl
-      at (Some s) e = each s.life (e ∙ (λ i. Some (record { id = seat-id w p s e i; life = s.life }))) (subst (SeatEven start p) e (even p))
+      at (Some s) e = each s.life (e ∙ (λ i. Some (record { id = node-id w p s e i; life = s.life }))) (subst (NodeEven start p) e (even p))
 
-    set-to : (v : World) (l new : Life) → seat_of w p ≡ Some (record { id = p; life = l }) → ((q : ℕ) → seat_of v q ≡ cond (p == q) (Some (record { id = p; life = new })) (seat_of w q)) →
+    set-to : (v : World) (l new : NodeState) → node_of w p ≡ Some (record { id = p; life = l }) → ((q : ℕ) → node_of v q ≡ cond (p == q) (Some (record { id = p; life = new })) (node_of w q)) →
         CountGrows (moved p) (Some (record { id = p; life = l })) (Some (record { id = p; life = new })) → Grows v moved
     unfolding Grows
-    set-to v l new seat seats is = set-grows w v p new moved seats (subst (λ (o : Option Seat). CountGrows (moved p) o (Some (record { id = p; life = new }))) (sym seat) is)
+    set-to v l new node nodes is = set-grows w v p new moved nodes (subst (λ (o : Option Node). CountGrows (moved p) o (Some (record { id = p; life = new }))) (sym node) is)
 
-    stopped : Grows (option_map_or (λ s. crash_at w p s.life) (seat_of w p) w) moved
-    stopped = of-seat (crash_at w p) life where
-      life : (l : Life) → seat_of w p ≡ Some (record { id = p; life = l }) → LifeEven start p l → Grows (crash_at w p l) moved
-      life (Up r disk) seat now = set-to (crash_at w p (Up r disk)) (Up r disk) (Down (at_rest disk) []) seat (λ q. seat_of-set w p (Down (at_rest disk) []) q)
+    stopped : Grows (option_map_or (λ s. crash_at w p s.life) (node_of w p) w) moved
+    stopped = of-node (crash_at w p) life where
+      life : (l : NodeState) → node_of w p ≡ Some (record { id = p; life = l }) → LifeEven start p l → Grows (crash_at w p l) moved
+      life (Up r disk) node now = set-to (crash_at w p (Up r disk)) (Up r disk) (Down (at_rest disk) []) node (λ q. node_of-set w p (Down (at_rest disk) []) q)
           (record { more = (let same = now.same in omega arith); still = λ idle. sym now.same; begun = λ some down. refl; up = λ idle x runs. inr (r, refl) })
-      life (Down disk green) seat now = stays w moved refl
+      life (Down disk green) node now = stays w moved refl
 
-    armed : (strike : Strike) → Grows (option_map_or (λ s. arm_at w p strike s.life) (seat_of w p) w) moved
-    armed strike = of-seat (arm_at w p strike) life where
-      life : (l : Life) → seat_of w p ≡ Some (record { id = p; life = l }) → LifeEven start p l → Grows (arm_at w p strike l) moved
-      life (Up r disk) seat now = set-to (arm_at w p strike (Up r disk)) (Up r disk) (Up r (record disk { armed = Some strike })) seat (λ q. seat_of-set w p (Up r (record disk { armed = Some strike })) q)
+    armed : (strike : Strike) → Grows (option_map_or (λ s. arm_at w p strike s.life) (node_of w p) w) moved
+    armed strike = of-node (arm_at w p strike) life where
+      life : (l : NodeState) → node_of w p ≡ Some (record { id = p; life = l }) → LifeEven start p l → Grows (arm_at w p strike l) moved
+      life (Up r disk) node now = set-to (arm_at w p strike (Up r disk)) (Up r disk) (Up r (record disk { armed = Some strike })) node (λ q. node_of-set w p (Up r (record disk { armed = Some strike })) q)
           (record { more = (let same : green_count r.held.queue ≤ green_count r.held.queue = omega arith in same); still = λ idle. refl; begun = λ some down. refl; up = λ idle x runs. inr (r, refl) })
-      life (Down disk green) seat now = stays w moved refl
+      life (Down disk green) node now = stays w moved refl
 
     recovered-grows : moved p ≡ true → Grows (recover w p).world moved
-    recovered-grows moves = at (seat_of w p) refl where
-      life : (l : Life) → seat_of w p ≡ Some (record { id = p; life = l }) → LifeEven start p l → Grows (recover_from w l).world moved
-      life (Up r disk) seat now = stays w moved refl
-      life (Down disk green) seat now =
+    recovered-grows moves = at (node_of w p) refl where
+      life : (l : NodeState) → node_of w p ≡ Some (record { id = p; life = l }) → LifeEven start p l → Grows (recover_from w l).world moved
+      life (Up r disk) node now = stays w moved refl
+      life (Down disk green) node now =
           let r = recovered disk in
           let named : r.held.id ≡ p = recovered-id disk.content ∙ now.id in
           let count : green_count r.held.queue ≡ green_count disk.content.queue = counted start r.held now.greens (recovered-oneself start disk.content now.greens now.is) ∙ sym (counted start disk.content now.greens now.is) in
-          set-to (recover_from w (Down disk green)).world (Down disk green) (Up r (disk_recovered disk)) seat
-          (λ q. seat_of-set w r.held.id (Up r (disk_recovered disk)) q ∙ ap (λ n. cond (n == q) (Some (record { id = n; life = Up r (disk_recovered disk) })) (seat_of w q)) named)
+          set-to (recover_from w (Down disk green)).world (Down disk green) (Up r (disk_recovered disk)) node
+          (λ q. node_of-set w r.held.id (Up r (disk_recovered disk)) q ∙ ap (λ n. cond (n == q) (Some (record { id = n; life = Up r (disk_recovered disk) })) (node_of w q)) named)
           (record { more = (let same = count in omega arith); still = λ idle. count; begun = λ some down. refl; up = λ idle x runs. absurd (clash (sym moves ∙ idle)) })
 
-      at : (o : Option Seat) → seat_of w p ≡ o → Grows (option_map_or (λ s. recover_from w s.life) o (quietly w)).world moved
+      at : (o : Option Node) → node_of w p ≡ o → Grows (option_map_or (λ s. recover_from w s.life) o (quietly w)).world moved
       at None e = stays w moved refl
-      at (Some s) e = life s.life (e ∙ (λ i. Some (record { id = seat-id w p s e i; life = s.life }))) (subst (SeatEven start p) e (even p))
+      at (Some s) e = life s.life (e ∙ (λ i. Some (record { id = node-id w p s e i; life = s.life }))) (subst (NodeEven start p) e (even p))
 
     -- a joiner that hasn't begun comes up
-    joined-grows : moved p ≡ true → has_begun w p ≡ false → (s : Snapshot) (taken : ℕ) → s.joiner ≡ p → Grows (with_pieces w s taken) moved
+    joined-grows : moved p ≡ true → has_begun w p ≡ false → (s : TransferState) (taken : ℕ) → s.joiner ≡ p → Grows (with_pieces w s taken) moved
     unfolding Grows
     joined-grows moves none s taken of =
         let others = without_snapshot w s.joiner in
-        let r = joined s.joiner s.content in
+        let r = joiner_replica s.joiner s.content in
         cond_both (taken == piece_count s.content) (bring_up others r (new_disk r.held)) (record others { snapshots = others.snapshots ++ record s { taken = taken } ∷ [] }) (λ v. Grows v moved)
         (λ y. set-grows w (bring_up others r (new_disk r.held)) p (Up r (new_disk r.held)) moved
-        (λ q. seat_of-set others s.joiner (Up r (new_disk r.held)) q ∙ ap (λ n. cond (n == q) (Some (record { id = n; life = Up r (new_disk r.held) })) (seat_of w q)) of)
+        (λ q. node_of-set others s.joiner (Up r (new_disk r.held)) q ∙ ap (λ n. cond (n == q) (Some (record { id = n; life = Up r (new_disk r.held) })) (node_of w q)) of)
         (record {
-          more = (let nothing : count_at (seat_of w p) ≡ 0 = absent (seat_of w p) none in omega arith);
+          more = (let nothing : count_at (node_of w p) ≡ 0 = absent (node_of w p) none in omega arith);
           still = λ idle. absurd (clash (sym moves ∙ idle));
           begun = λ some down. absurd (let no_one : Some r ≡ None = down in cc);
           up = λ idle x runs. absurd (clash (sym moves ∙ idle));
         }))
         (λ n. stays w moved refl)
       where
-        absent : (o : Option Seat) → is_some o ≡ false → count_at o ≡ 0
+        absent : (o : Option Node) → is_some o ≡ false → count_at o ≡ 0
         absent None e = refl
         absent (Some x) e = absurd (clash e)
 
@@ -290,9 +290,9 @@ unbegun w p joiner pieces admitted =
     not-refused (has_begun w joiner) _ third.0
 
 module _ (c : Chronicle) (w : World) (stands : StandsBeside c w) where
-  pub even-at : (p : ℕ) → SeatEven c.start p (seat_of w p)
-  even-at p = at (seat_of w p) refl where
-    life : (l : Life) → replica_of w p ≡ running l → disk_held w p ≡ Some (on_disk l) → LifeEven c.start p l
+  pub even-at : (p : ℕ) → NodeEven c.start p (node_of w p)
+  even-at p = at (node_of w p) refl where
+    life : (l : NodeState) → replica_of w p ≡ running l → disk_held w p ≡ Some (on_disk l) → LifeEven c.start p l
     life (Up r disk) runs has_disk =
         let here : replica_of c.world p ≡ Some r = sym (stands.same.running p) ∙ runs in
         let there : disk_held c.world p ≡ Some disk.content = sym (stands.same.disk p) ∙ has_disk in
@@ -313,13 +313,13 @@ module _ (c : Chronicle) (w : World) (stands : StandsBeside c w) where
         record {
           greens = stood_of c p;
           is = record { made_of = core.made_of; contiguous = core.contiguous; yellow_closed = core.yellow_closed };
-          id = subst (λ (o : Option Held). IfSome o (λ h. h.id ≡ p)) there (stands.facts.net.seated.disk p);
+          id = subst (λ (o : Option Held). IfSome o (λ h. h.id ≡ p)) there (stands.facts.net.hosted.disk p);
           same = refl;
         }
 
-    at : (o : Option Seat) → seat_of w p ≡ o → SeatEven c.start p o
+    at : (o : Option Node) → node_of w p ≡ o → NodeEven c.start p o
     at None e = tt
-    at (Some s) e = life s.life (ap (λ (o : Option Seat). option_and_then (λ s. running s.life) o) e) (ap (λ (o : Option Seat). option_map (λ s. on_disk s.life) o) e)
+    at (Some s) e = life s.life (ap (λ (o : Option Node). option_and_then (λ s. running s.life) o) e) (ap (λ (o : Option Node). option_map (λ s. on_disk s.life) o) e)
 
   transferred : (p joiner pieces : ℕ) → has_begun w joiner ≡ false → Grows c.start w even-at (transfer w p joiner pieces).world (λ q. joiner == q)
   transferred p joiner pieces none = at (replica_of w p) refl where
@@ -332,10 +332,10 @@ module _ (c : Chronicle) (w : World) (stands : StandsBeside c w) where
   started : (set : List Weighted) → w ≡ no_world → Grows c.start w even-at (fold (begin_replica set) w (ids set)) (λ q. false)
   unfolding Grows
   started set first q =
-      let before : (p : ℕ) → count_at (seat_of w p) ≡ 0 = (λ p. ap (λ (x : World). count_at (seat_of x p)) first) in
+      let before : (p : ℕ) → count_at (node_of w p) ≡ 0 = (λ p. ap (λ (x : World). count_at (node_of x p)) first) in
       let behind = begun-none set (ids set) w before q in
       let none = before q in
-      let first_up : (p : ℕ) → is_some (seat_of w p) ≡ true → running_at (seat_of w p) ≡ None → ⊥ = (λ p some down. clash (sym some ∙ ap (λ (x : World). is_some (seat_of x p)) first)) in
+      let first_up : (p : ℕ) → is_some (node_of w p) ≡ true → running_at (node_of w p) ≡ None → ⊥ = (λ p some down. clash (sym some ∙ ap (λ (x : World). is_some (node_of x p)) first)) in
       record { more = omega arith; still = λ idle. behind ∙ sym none; begun = λ some down. absurd (begun-up set (ids set) w first_up q some down); up = λ idle r runs. inl behind }
 
   happens-counts : (e : Event) → MayStand w e → first_refusal w e ≡ None → Grows c.start w even-at (happens w e).world (may_move e)
@@ -377,6 +377,6 @@ module _ (c : Chronicle) (w : World) (stands : StandsBeside c w) where
   happens-counts (Transfer p joiner pieces) may admitted = transferred p joiner pieces (unbegun w p joiner pieces admitted)
 
   -- Behind an event no replica has fewer greens.
-  pub event-counts : (e : Event) → MayStand w e → first_refusal w e ≡ None → (q : ℕ) → CountGrows (may_move e q) (seat_of w q) (seat_of (world_step w e).world q)
+  pub event-counts : (e : Event) → MayStand w e → first_refusal w e ≡ None → (q : ℕ) → CountGrows (may_move e q) (node_of w q) (node_of (world_step w e).world q)
   unfolding world_step ended Grows
   event-counts e may admitted q = happens-counts e may admitted q

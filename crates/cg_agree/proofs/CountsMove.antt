@@ -133,7 +133,7 @@ module _ (c : Chronicle) (s : Small) (i : Invariant c) (may : may_make c s ≡ t
       -- one that is out
       stays-out : (q : ℕ) → is_in c conf q ≡ false → leaving_of q (lefts (small_step c s).attempts conf) ≡ leaving_of q (lefts c.attempts conf) → Both q
       stays-out q away same =
-          let there = out-stays c s i.net.seated may (group-of c i) conf q said away in
+          let there = out-stays c s i.net.hosted may (group-of c i) conf q said away in
           let one : before q ≡ count-of (leaving_of q (lefts c.attempts conf)) = cond-false (is_in c conf q) (length (greens_of c q)) (count-of (leaving_of q (lefts c.attempts conf))) away in
           let two : behind q ≡ count-of (leaving_of q (lefts (small_step c s).attempts conf)) = cond-false (is_in (small_step c s) conf q) (length (greens_of (small_step c s) q)) (count-of (leaving_of q (lefts (small_step c s).attempts conf))) there in
           let e = ap count-of same in
@@ -191,7 +191,7 @@ module _ (c : Chronicle) (s : Small) (i : Invariant c) (may : may_make c s ≡ t
       was-in : (a : Attempt) → attempt_of c conf ≡ Some a → is_in c conf q ≡ true
       was-in a found = elim (cases_Bool (is_in c conf q)) [
         | inl here ↦ here
-        | inr away ↦ absurd (let clash : true ≡ false = sym there ∙ out-stays c s i.net.seated may (group-of c i) conf q (said-attempt c conf a i found) away in cc)
+        | inr away ↦ absurd (let clash : true ≡ false = sym there ∙ out-stays c s i.net.hosted may (group-of c i) conf q (said-attempt c conf a i found) away in cc)
       ]
 
       leaver-none : (b : Bool) (p n : ℕ) (o : Option Attempt) → o ≡ None → left_in (cond b (option_map (with_leaver p n) o) o) ≡ []

@@ -50,7 +50,7 @@ module _ (c : Chronicle) (s : Small) (i : Invariant c) (may : may_make c s ≡ t
   pub acts-grow : length (acts_in (take (received_by_all c conf) (ordered_in c conf))) ≤ length (acts_in (take (received_by_all d conf) (ordered_in d conf)))
   acts-grow =
       let on = goes_on-kept conf c s i.net.phase_sound i.net.receipts_inside may said in
-      let more = received-kept c s i.net.seated may (group-of c i) conf said in
+      let more = received-kept c s i.net.hosted may (group-of c i) conf said in
       let short = row-within (all_received (conf_of c conf)) (length (ordered_in c conf)) in
       let same = ap (λ xs. length (acts_in xs)) (take-front (received_by_all c conf) (ordered_in c conf) (ordered_in d conf) on.ordered short) in
       let le = acts-more (received_by_all c conf) (received_by_all d conf) (ordered_in d conf) more in

@@ -15,9 +15,9 @@ use Rattle.cg_group.specs.Events.{delivery_at, deliveries_at}
 use Rattle.cg_group.specs.State.{GroupState, Configuration, Sent, phase_of, regular_in, home}
 use Rattle.cg_client.specs.Replica.{State, RegPrim, TransPrim, Replica}
 use Rattle.cg_client.specs.Turn.{Turn, begin}
-use Rattle.cg_step.specs.Step.{on_message, on_transitional, take as take_one}
+use Rattle.cg_replica_step.specs.Step.{on_message, on_transitional, after_delivery as take_one}
 use Rattle.cg_commit.specs.Crash.{Disk}
-use Rattle.cg_model.specs.World.{Seat, replica_of, running}
+use Rattle.cg_model.specs.World.{Node, replica_of, running}
 use Rattle.cg_model.specs.Chronicle.{Attempt, Chronicle}
 use Rattle.cg_model.specs.Looks.{greens_of, conf_at, is_at, is_in, attempt_of, attempt_at, left_count, installation}
 use Rattle.cg_model.specs.Levels.{count_in}
@@ -35,7 +35,7 @@ use Rattle.cg_agree.proofs.ExchangeSmalls.{replica-behind}
 use Rattle.cg_agree.proofs.GreenLine.{regular-state}
 use Rattle.cg_agree_lemmas.specs.GroupKept.{leaving-regular}
 use Rattle.cg_agree_lemmas.specs.HandSays.{find-holds}
-use Rattle.cg_agree_lemmas.specs.HandsKept.{regular-phase, regular-up, seated}
+use Rattle.cg_agree_lemmas.specs.HandsKept.{regular-phase, regular-up, hosted}
 use Rattle.cg_agree_lemmas.specs.InstallGreens.{yellow-greens, in-parting}
 use Rattle.cg_agree.proofs.InstalledParts.{waits-announced, oneself-before, installs-all}
 use Rattle.cg_agree.proofs.ModeKept.{mode_data-kept}
@@ -145,9 +145,9 @@ module _ (c : Chronicle) (p : ℕ) (set : List ℕ) (own : ℕ) (places : List �
   pub leaves-counted : IsCountedIn d conf b p
   unfolding small_step
   leaves-counted =
-      let sits = seated c.world p (i.net.phase_sound.up p ∙ regular-up c.world.group p (leaving-regular c p set own places may)) in
+      let sits = hosted c.world p (i.net.phase_sound.up p ∙ regular-up c.world.group p (leaving-regular c p set own places may)) in
       let r = sits.replica in
       let before = leaving c p set own in
-      by r sits.disk (ap (λ (o : Option Seat). option_and_then (λ s. running s.life) o) sits.seat) (replica-behind before p part r sits.disk sits.seat)
-      (ap (λ (x : Chronicle). greens_of x p) (turn-is before p part r sits.disk sits.seat) ∙ greens-turn before p r sits.disk (part (begin r)) i.net.seated.past sits.seat)
+      by r sits.disk (ap (λ (o : Option Node). option_and_then (λ s. running s.life) o) sits.node) (replica-behind before p part r sits.disk sits.node)
+      (ap (λ (x : Chronicle). greens_of x p) (turn-is before p part r sits.disk sits.node) ∙ greens-turn before p r sits.disk (part (begin r)) i.net.hosted.past sits.node)
       (parting-by c.world.group p set places r)

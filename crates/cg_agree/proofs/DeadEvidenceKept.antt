@@ -9,7 +9,7 @@ use Rattle.cg_records.specs.declared.vulnerable.Vulnerable.{Vulnerable}
 use Rattle.cg_client.specs.Replica.{Held, Replica}
 use Rattle.cg_client.specs.Summary.{summary_of}
 use Rattle.cg_model.specs.Attempts.{held_in}
-use Rattle.cg_model.specs.World.{Seat, Up, seat_of, replica_of, running}
+use Rattle.cg_model.specs.World.{Node, Up, node_of, replica_of, running}
 use Rattle.cg_model.specs.Chronicle.{Told, Attempt, Chronicle}
 use Rattle.cg_model.specs.Looks.{told_in, attempt_of, core_of, is_regular_in}
 use Rattle.cg_model.specs.Fronts.{When}
@@ -22,10 +22,10 @@ use Rattle.cg_model.specs.Played.{AtRest}
 use Rattle.cg_model.specs.Small.{Small, Starts, Makes, Enters, Orders, Receives, Hands, Leaves, Asks, Settles, Commits, Crashes, Recovers, Copies, Joins, coming, newest_conf, small_step}
 use Rattle.cg_model.specs.Smalls.{may_make}
 use Rattle.cg_agree_lemmas.specs.HandSays.{find-holds}
-use Rattle.cg_agree_lemmas.specs.HandsKept.{seated}
+use Rattle.cg_agree_lemmas.specs.HandsKept.{hosted}
 use Rattle.cg_agree_lemmas.specs.ReachFacts.{all-at}
 use Rattle.cg_agree_lemmas.specs.ReachWorld.{when-is}
-use Rattle.cg_agree_lemmas.specs.ChronicleFacts.{seat_of-set}
+use Rattle.cg_agree_lemmas.specs.ChronicleFacts.{node_of-set}
 use Rattle.cg_agree_lemmas.specs.GroupKept.{phase_sound-kept}
 use Rattle.cg_agree_lemmas.specs.SameAttempt.{SameAttempt}
 use Rattle.cg_agree.proofs.AttemptSteps.{group-of, attempt-step}
@@ -43,9 +43,9 @@ use Rattle.cg_agree.proofs.ModeKept.{mode_data-kept}
 -- the core of a replica that is up
 pub running-core : (c : Chronicle) (p : ℕ) (r : Replica) → replica_of c.world p ≡ Some r → core_of c p ≡ Some r.held
 running-core c p r up =
-    let sits = seated c.world p (ap is_some up) in
-    let same : Some r ≡ Some sits.replica = sym up ∙ ap (λ (o : Option Seat). option_and_then (λ s. running s.life) o) sits.seat in
-    ap (λ (o : Option Seat). option_map (λ s. held_in s.life) o) sits.seat ∙ ap (λ (o : Option Replica). option_map (λ r. r.held) o) (sym same)
+    let sits = hosted c.world p (ap is_some up) in
+    let same : Some r ≡ Some sits.replica = sym up ∙ ap (λ (o : Option Node). option_and_then (λ s. running s.life) o) sits.node in
+    ap (λ (o : Option Node). option_map (λ s. held_in s.life) o) sits.node ∙ ap (λ (o : Option Replica). option_map (λ r. r.held) o) (sym same)
 
 -- what an entry tells is what its replica knows then
 record TellsCore (d : Chronicle) (p : ℕ) (t : Told) : Type 0 where
@@ -60,8 +60,8 @@ enters-core c p now =
     let life = Up (entry_turn c now.replica).replica now.disk in
     record {
       core = (entry_turn c now.replica).replica.held;
-      found = ap (λ (x : Chronicle). core_of x p) (enters-is c p now) ∙ ap (λ (o : Option Seat). option_map (λ s. held_in s.life) o) (seat_of-set (coming c p).world p life p
-          ∙ cond-true (p == p) (Some (record { id = p; life = life })) (seat_of (coming c p).world p) (eq-eqb p p refl));
+      found = ap (λ (x : Chronicle). core_of x p) (enters-is c p now) ∙ ap (λ (o : Option Node). option_map (λ s. held_in s.life) o) (node_of-set (coming c p).world p life p
+          ∙ cond-true (p == p) (Some (record { id = p; life = life })) (node_of (coming c p).world p) (eq-eqb p p refl));
       prim = refl;
       vulnerable = refl;
     }
@@ -157,7 +157,7 @@ module _ (c : Chronicle) (s : Small) (i : Invariant c) (may : may_make c s ≡ t
           absurd (let clash : true ≡ false = sym own ∙ part.without in cc)
 
   left-now : PastLeft (small_step c s)
-  left-now = past_left-kept c s i.net.seated (group-of c i) i.replica.mode_data may i.net.past_left
+  left-now = past_left-kept c s i.net.hosted (group-of c i) i.replica.mode_data may i.net.past_left
 
   told-dead : (conf p later : ℕ) → conf < later → (b : Attempt) → attempt_of (small_step c s) conf ≡ Some b → (t : Told) → told_in (small_step c s) later p ≡ Some t →
       is_without b p t.summary.prim.index t.summary.vulnerable ≡ true → is_dead (small_step c s) b ≡ true
@@ -195,7 +195,7 @@ pub dead_evidence-kept : (c : Chronicle) (s : Small) → Invariant c → may_mak
 dead_evidence-kept c s i may rest announcers announced modes = record {
   member = λ conf p out. member (attempt_of (small_step c s) conf) conf p refl out (core_of (small_step c s) p) refl;
   told = λ conf p later before. told (attempt_of (small_step c s) conf) conf p later refl before (told_in (small_step c s) later p) refl;
-  cut_short = cut-short (small_step c s) announcers announced (phase_sound-kept c s i.net.seated may (group-of c i)) modes (mode_data-kept c s i may) (entered_within-kept c s i may);
+  cut_short = cut-short (small_step c s) announcers announced (phase_sound-kept c s i.net.hosted may (group-of c i)) modes (mode_data-kept c s i may) (entered_within-kept c s i may);
 } where
   member : (o : Option Attempt) (conf p : ℕ) → attempt_of (small_step c s) conf ≡ o → is_regular_in (small_step c s) conf p ≡ false → (u : Option Held) → core_of (small_step c s) p ≡ u →
       IfSome o (λ a. IfSome u (λ h. When (is_without a p h.prim.index h.vulnerable) (is_dead (small_step c s) a ≡ true)))

@@ -9,7 +9,7 @@ use Rattle.cg_knowledge.specs.declared.summary.Summary.{Summary}
 use Rattle.cg_base.specs.SetLaws.{has-without}
 use Rattle.cg_vote.specs.Quorum.{is_quorum}
 use Rattle.cg_vote.specs.QuorumLaws.{meet}
-use Rattle.cg_knowledge.specs.Members.{senders, gone, remaining}
+use Rattle.cg_knowledge.specs.Summaries.{senders, gone, remaining}
 use Rattle.cg_group.specs.State.{Sent, Configuration, has_received}
 use Rattle.cg_group.specs.Ready.{all_received}
 use Rattle.cg_wire.specs.declared.message.Msg.{Msg}

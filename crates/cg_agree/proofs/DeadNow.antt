@@ -13,7 +13,7 @@ use Rattle.cg_group.specs.State.{phase_of, has_received, delivered_to}
 use Rattle.cg_group.specs.Ready.{all_received}
 use Rattle.cg_client.specs.Replica.{State, RegPrim, TransPrim, ExchangeStates, ExchangeActions, Construct, No, Un, NonPrim, Left, Replica}
 use Rattle.cg_construct.specs.Construct.{attempt_set}
-use Rattle.cg_knowledge.specs.Members.{gone}
+use Rattle.cg_knowledge.specs.Summaries.{gone}
 use Rattle.cg_knowledge.specs.Verdict.{decides}
 use Rattle.cg_model.specs.World.{replica_of}
 use Rattle.cg_model.specs.Chronicle.{Attempt, Chronicle}

@@ -11,26 +11,26 @@ use Rattle.cg_members.specs.Servers.{is_server}
 use Rattle.cg_client.specs.Replica.{Held, Replica}
 use Rattle.cg_client.specs.Turn.{Turn, begin}
 use Rattle.cg_client.specs.Requests.{settle}
-use Rattle.cg_stored.specs.Stored.{stored_of, whiten}
+use Rattle.cg_disk_records.specs.Stored.{stored_of, whiten}
 use Rattle.cg_commit.specs.Crash.{Disk, new_disk, at_rest, recovered, disk_recovered}
-use Rattle.cg_model.specs.World.{Life, Up, Down, Seat, running, seat_of, replica_of, has_begun}
-use Rattle.cg_model.specs.Step.{joined, without_snapshot}
+use Rattle.cg_model.specs.World.{NodeState, Up, Down, Node, running, node_of, replica_of, has_begun}
+use Rattle.cg_model.specs.Step.{joiner_replica, without_snapshot}
 use Rattle.cg_model.specs.Chronicle.{Past, Chronicle, no_chronicle}
 use Rattle.cg_model.specs.Looks.{past_of, greens_of, stood_of, on_disk, snapshot_of, copied_for}
 use Rattle.cg_model.specs.Fronts.{Front}
 use Rattle.cg_model.specs.FactsReplica.{DiskBehind}
-use Rattle.cg_model.specs.FactsNet.{Seated}
+use Rattle.cg_model.specs.FactsNet.{Hosted}
 use Rattle.cg_model.specs.Small.{Small, Starts, Makes, Enters, Orders, Receives, Hands, Leaves, Asks, Settles, Commits, Crashes, Recovers, Copies, Joins, written, struck, new_past, newly_green, after_turn, turning, turning_as, commit_as, crash_as, recover_as, copy_as, join_with, start, coming, take_newest, handed_next, take_next, leaving, take_parting, take_request, small_step}
 use Rattle.cg_model.specs.Smalls.{may_make, is_set}
-use Rattle.cg_agree_lemmas.specs.ChronicleFacts.{seat_of-set, greens_of-other, past-begun}
+use Rattle.cg_agree_lemmas.specs.ChronicleFacts.{node_of-set, greens_of-other, past-begun}
 use Rattle.cg_agree_lemmas.specs.FrontFacts.{Front-refl, Front-trans, Front-append}
 use Rattle.cg_agree_lemmas.specs.HeldCommit.{recovered-id}
-use Rattle.cg_agree_lemmas.specs.OneselfWorld.{HavePasts, Reseated}
+use Rattle.cg_agree_lemmas.specs.OneselfWorld.{HavePasts, Rehosted}
 use Rattle.cg_agree.proofs.BegunKept.{nothing-before}
-use Rattle.cg_agree_lemmas.specs.CoresKept.{seat-of, greens-turn, stood-turn, past-here, past-there}
+use Rattle.cg_agree_lemmas.specs.CoresKept.{node-of, greens-turn, stood-turn, past-here, past-there}
 use Rattle.cg_agree_lemmas.specs.CoresSmall.{nothing-green, nothing-stood}
 
-abbrev life_in : Option Seat → Option Replica
+abbrev life_in : Option Node → Option Replica
 life_in o = option_and_then (λ s. running s.life) o
 
 abbrev greens-in : Option Past → List Action
@@ -40,7 +40,7 @@ abbrev stood-in : Option Past → List Action
 stood-in o = option_map_or (λ x. x.stood) o []
 
 -- one replica has another life and other greens
-behind-moved : (c d : Chronicle) (p : ℕ) (life : Life) (now stood : List Action) → Reseated c d p life now stood → Front stood now → (running life ≡ None → now ≡ stood) → DiskBehind c → DiskBehind d
+behind-moved : (c d : Chronicle) (p : ℕ) (life : NodeState) (now stood : List Action) → Rehosted c d p life now stood → Front stood now → (running life ≡ None → now ≡ stood) → DiskBehind c → DiskBehind d
 behind-moved c d p life now stood at front same old = record {
   behind = λ q. elim (cases_eq p q) [
     | inl this ↦ subst (λ n. Front (stood_of d n) (greens_of d n)) this (subst (λ xs. Front xs (greens_of d p)) (sym at.disk) (subst (Front stood) (sym at.greens) front))
@@ -49,11 +49,11 @@ behind-moved c d p life now stood at front same old = record {
   down = λ q none. elim (cases_eq p q) [
     | inl this ↦
         ap (greens_of d) (sym this) ∙ at.greens
-        ∙ same (sym (ap life_in (at.seat p ∙ cond-true (p == p) (Some (record { id = p; life = life })) (seat_of c.world p) (eq-eqb p p refl))) ∙ ap (replica_of d.world) this ∙ none)
+        ∙ same (sym (ap life_in (at.node p ∙ cond-true (p == p) (Some (record { id = p; life = life })) (node_of c.world p) (eq-eqb p p refl))) ∙ ap (replica_of d.world) this ∙ none)
         ∙ sym at.disk ∙ ap (stood_of d) this
     | inr apart ↦
         at.other_greens q apart
-        ∙ old.down q (sym (ap life_in (at.seat q ∙ cond-false (p == q) (Some (record { id = p; life = life })) (seat_of c.world q) (ne_eqb p q apart))) ∙ none)
+        ∙ old.down q (sym (ap life_in (at.node q ∙ cond-false (p == q) (Some (record { id = p; life = life })) (node_of c.world q) (ne_eqb p q apart))) ∙ none)
         ∙ sym (at.other_disks q apart)
   ];
 }
@@ -64,14 +64,14 @@ never-none r e = absurd (let clash : Some r ≡ None = e in cc)
 -- ---- turns
 
 behind-turning : (c b : Chronicle) (p : ℕ) (part : Turn → Turn) → HavePasts b → DiskBehind b → DiskBehind (turning b p part)
-behind-turning c b p part pasts old = at (seat_of b.world p) refl where
-  turn : (r : Replica) (disk : Disk) → seat_of b.world p ≡ Some (record { id = p; life = Up r disk }) → DiskBehind (after_turn b p r disk (part (begin r)))
-  turn r disk seat =
+behind-turning c b p part pasts old = at (node_of b.world p) refl where
+  turn : (r : Replica) (disk : Disk) → node_of b.world p ≡ Some (record { id = p; life = Up r disk }) → DiskBehind (after_turn b p r disk (part (begin r)))
+  turn r disk node =
       let t = part (begin r) in
       behind-moved b (after_turn b p r disk t) p (Up t.replica disk) (greens_of b p ++ newly_green r t.replica) (stood_of b p)
       (record {
-        seat = λ q. seat_of-set b.world p (Up t.replica disk) q;
-        greens = greens-turn b p r disk t pasts seat;
+        node = λ q. node_of-set b.world p (Up t.replica disk) q;
+        greens = greens-turn b p r disk t pasts node;
         disk = stood-turn b p r disk t p;
         other_greens = λ q apart. greens_of-other b p r disk t q (λ e. apart (sym e));
         other_disks = λ q apart. stood-turn b p r disk t q;
@@ -79,11 +79,11 @@ behind-turning c b p part pasts old = at (seat_of b.world p) refl where
       (Front-trans (stood_of b p) (greens_of b p) (greens_of b p ++ newly_green r t.replica) (old.behind p) (Front-append (greens_of b p) (newly_green r t.replica)))
       (λ none. never-none t.replica none) old
 
-  life : (s : Seat) (life : Life) → s.life ≡ life → seat_of b.world p ≡ Some s → DiskBehind (turning_as b p part life)
-  life s (Up r disk) is e = turn r disk (seat-of b p s (Up r disk) is e)
+  life : (s : Node) (life : NodeState) → s.life ≡ life → node_of b.world p ≡ Some s → DiskBehind (turning_as b p part life)
+  life s (Up r disk) is e = turn r disk (node-of b p s (Up r disk) is e)
   life s (Down disk green) is e = old
 
-  at : (o : Option Seat) → seat_of b.world p ≡ o → DiskBehind (option_map_or (λ s. turning_as b p part s.life) o b)
+  at : (o : Option Node) → node_of b.world p ≡ o → DiskBehind (option_map_or (λ s. turning_as b p part s.life) o b)
   at None e = old
   at (Some s) e = life s s.life refl e
 
@@ -105,39 +105,39 @@ struck-greens : (o : Option Past) → greens-in (option_map struck o) ≡ stood-
 struck-greens None = refl
 struck-greens (Some x) = refl
 
-behind-commit : (c : Chronicle) (p : ℕ) (s : Seat) → seat_of c.world p ≡ Some s → (life : Life) → s.life ≡ life → DiskBehind c → DiskBehind (commit_as c p life)
+behind-commit : (c : Chronicle) (p : ℕ) (s : Node) → node_of c.world p ≡ Some s → (life : NodeState) → s.life ≡ life → DiskBehind c → DiskBehind (commit_as c p life)
 behind-commit c p s e (Down disk green) is old = old
 behind-commit c p s e (Up r disk) is old =
     behind-moved c (commit_as c p (Up r disk)) p (Up (record r { held = whiten r.held }) (record disk { content = stored_of (whiten r.held) })) (greens_of c p) (greens_of c p)
     (record {
-      seat = λ q. seat_of-set c.world p (Up (record r { held = whiten r.held }) (record disk { content = stored_of (whiten r.held) })) q;
+      node = λ q. node_of-set c.world p (Up (record r { held = whiten r.held }) (record disk { content = stored_of (whiten r.held) })) q;
       greens = ap greens-in (past-here written (λ x. refl) c p) ∙ written-greens (past_of c p);
       disk = ap stood-in (past-here written (λ x. refl) c p) ∙ written-stood (past_of c p);
       other_greens = λ q apart. ap greens-in (past-there written (λ x. refl) c p q apart);
       other_disks = λ q apart. ap stood-in (past-there written (λ x. refl) c p q apart);
     }) (Front-refl (greens_of c p)) (λ none. refl) old
 
-behind-crash : (c : Chronicle) (p : ℕ) (s : Seat) → seat_of c.world p ≡ Some s → (life : Life) → s.life ≡ life → DiskBehind c → DiskBehind (crash_as c p life)
+behind-crash : (c : Chronicle) (p : ℕ) (s : Node) → node_of c.world p ≡ Some s → (life : NodeState) → s.life ≡ life → DiskBehind c → DiskBehind (crash_as c p life)
 behind-crash c p s e (Down disk green) is old = old
 behind-crash c p s e (Up r disk) is old =
     behind-moved c (crash_as c p (Up r disk)) p (Down (at_rest disk) []) (stood_of c p) (stood_of c p)
     (record {
-      seat = λ q. seat_of-set c.world p (Down (at_rest disk) []) q;
+      node = λ q. node_of-set c.world p (Down (at_rest disk) []) q;
       greens = ap greens-in (past-here struck (λ x. refl) c p) ∙ struck-greens (past_of c p);
       disk = ap stood-in (past-here struck (λ x. refl) c p) ∙ struck-stood (past_of c p);
       other_greens = λ q apart. ap greens-in (past-there struck (λ x. refl) c p q apart);
       other_disks = λ q apart. ap stood-in (past-there struck (λ x. refl) c p q apart);
     }) (Front-refl (stood_of c p)) (λ none. refl) old
 
-behind-recover : (c : Chronicle) (p : ℕ) → Seated c → (s : Seat) → seat_of c.world p ≡ Some s → (life : Life) → s.life ≡ life → DiskBehind c → DiskBehind (recover_as c life)
-behind-recover c p seated s e (Up r disk) is old = old
-behind-recover c p seated s e (Down disk green) is old =
-    let seat = seat-of c p s (Down disk green) is e in
-    let own : disk.content.id ≡ p = subst (λ (o : Option Held). IfSome o (λ h. h.id ≡ p)) (ap (λ (o : Option Seat). option_map (λ s. on_disk s.life) o) seat) (seated.disk p) in
+behind-recover : (c : Chronicle) (p : ℕ) → Hosted c → (s : Node) → node_of c.world p ≡ Some s → (life : NodeState) → s.life ≡ life → DiskBehind c → DiskBehind (recover_as c life)
+behind-recover c p hosted s e (Up r disk) is old = old
+behind-recover c p hosted s e (Down disk green) is old =
+    let node = node-of c p s (Down disk green) is e in
+    let own : disk.content.id ≡ p = subst (λ (o : Option Held). IfSome o (λ h. h.id ≡ p)) (ap (λ (o : Option Node). option_map (λ s. on_disk s.life) o) node) (hosted.disk p) in
     behind-moved c (recover_as c (Down disk green)) p (Up (recovered disk) (disk_recovered disk)) (greens_of c p) (stood_of c p)
     (record {
-      seat = λ q. seat_of-set c.world (recovered disk).held.id (Up (recovered disk) (disk_recovered disk)) q
-          ∙ ap (λ n. cond (n == q) (Some (record { id = n; life = Up (recovered disk) (disk_recovered disk) })) (seat_of c.world q)) (recovered-id disk.content ∙ own);
+      node = λ q. node_of-set c.world (recovered disk).held.id (Up (recovered disk) (disk_recovered disk)) q
+          ∙ ap (λ n. cond (n == q) (Some (record { id = n; life = Up (recovered disk) (disk_recovered disk) })) (node_of c.world q)) (recovered-id disk.content ∙ own);
       greens = refl;
       disk = refl;
       other_greens = λ q apart. refl;
@@ -152,9 +152,9 @@ none-of (Some x) e = absurd (let clash : true ≡ false = e in cc)
 
 behind-join : (c : Chronicle) (joiner : ℕ) → past_of c joiner ≡ None → (content : Held) → DiskBehind c → DiskBehind (join_with c joiner content)
 behind-join c joiner absent content old =
-    behind-moved c (join_with c joiner content) joiner (Up (joined joiner content) (new_disk (joined joiner content).held)) (copied_for c joiner) (copied_for c joiner)
+    behind-moved c (join_with c joiner content) joiner (Up (joiner_replica joiner content) (new_disk (joiner_replica joiner content).held)) (copied_for c joiner) (copied_for c joiner)
     (record {
-      seat = λ q. seat_of-set (without_snapshot c.world joiner) joiner (Up (joined joiner content) (new_disk (joined joiner content).held)) q;
+      node = λ q. node_of-set (without_snapshot c.world joiner) joiner (Up (joiner_replica joiner content) (new_disk (joiner_replica joiner content).held)) q;
       greens = ap greens-in last;
       disk = ap stood-in last;
       other_greens = λ q apart. ap greens-in (other q apart);
@@ -180,22 +180,22 @@ started-behind set = record {
 }
 
 -- A disk is behind its replica, behind each small step.
-pub disk_behind-kept : (c : Chronicle) (s : Small) → Seated c → may_make c s ≡ true → DiskBehind c → DiskBehind (small_step c s)
+pub disk_behind-kept : (c : Chronicle) (s : Small) → Hosted c → may_make c s ≡ true → DiskBehind c → DiskBehind (small_step c s)
 unfolding small_step may_make
-disk_behind-kept c (Starts set) seated may old =
-    subst (λ (x : Chronicle). DiskBehind (start x set)) (sym (nothing-before c seated (and_parts (is_nil c.world.seats) (is_set (ids set)) may).0)) (started-behind set)
-disk_behind-kept c (Makes _) seated may old = record { behind = old.behind; down = old.down }
-disk_behind-kept c (Enters p) seated may old = behind-turning c (coming c p) p (take_newest c.world.group) seated.past (record { behind = old.behind; down = old.down })
-disk_behind-kept c (Orders p) seated may old = record { behind = old.behind; down = old.down }
-disk_behind-kept c (Receives p place) seated may old = record { behind = old.behind; down = old.down }
-disk_behind-kept c (Hands p) seated may old = behind-turning c (handed_next c p) p (take_next c.world.group p) seated.past (record { behind = old.behind; down = old.down })
-disk_behind-kept c (Leaves p set own places) seated may old = behind-turning c (leaving c p set own) p (take_parting c.world.group p set places) seated.past (record { behind = old.behind; down = old.down })
-disk_behind-kept c (Asks p kind) seated may old = behind-turning c c p (take_request kind) seated.past old
-disk_behind-kept c (Settles p) seated may old = behind-turning c c p settle seated.past old
-disk_behind-kept c (Commits p) seated may old = behind-some (seat_of c.world p) (λ s. commit_as c p s.life) c (λ s e. behind-commit c p s e s.life refl old) old
-disk_behind-kept c (Crashes p) seated may old = behind-some (seat_of c.world p) (λ s. crash_as c p s.life) c (λ s e. behind-crash c p s e s.life refl old) old
-disk_behind-kept c (Recovers p) seated may old = behind-some (seat_of c.world p) (λ s. recover_as c s.life) c (λ s e. behind-recover c p seated s e s.life refl old) old
-disk_behind-kept c (Copies p joiner) seated may old = behind-some (replica_of c.world p) (copy_as c p joiner) c (λ r e. record { behind = old.behind; down = old.down }) old
-disk_behind-kept c (Joins joiner) seated may old = behind-some (snapshot_of c.world joiner) (λ s. join_with c joiner s.content) c (λ s e. behind-join c joiner
-    (none-of (past_of c joiner) (seated.past joiner
+disk_behind-kept c (Starts set) hosted may old =
+    subst (λ (x : Chronicle). DiskBehind (start x set)) (sym (nothing-before c hosted (and_parts (is_nil c.world.nodes) (is_set (ids set)) may).0)) (started-behind set)
+disk_behind-kept c (Makes _) hosted may old = record { behind = old.behind; down = old.down }
+disk_behind-kept c (Enters p) hosted may old = behind-turning c (coming c p) p (take_newest c.world.group) hosted.past (record { behind = old.behind; down = old.down })
+disk_behind-kept c (Orders p) hosted may old = record { behind = old.behind; down = old.down }
+disk_behind-kept c (Receives p place) hosted may old = record { behind = old.behind; down = old.down }
+disk_behind-kept c (Hands p) hosted may old = behind-turning c (handed_next c p) p (take_next c.world.group p) hosted.past (record { behind = old.behind; down = old.down })
+disk_behind-kept c (Leaves p set own places) hosted may old = behind-turning c (leaving c p set own) p (take_parting c.world.group p set places) hosted.past (record { behind = old.behind; down = old.down })
+disk_behind-kept c (Asks p kind) hosted may old = behind-turning c c p (take_request kind) hosted.past old
+disk_behind-kept c (Settles p) hosted may old = behind-turning c c p settle hosted.past old
+disk_behind-kept c (Commits p) hosted may old = behind-some (node_of c.world p) (λ s. commit_as c p s.life) c (λ s e. behind-commit c p s e s.life refl old) old
+disk_behind-kept c (Crashes p) hosted may old = behind-some (node_of c.world p) (λ s. crash_as c p s.life) c (λ s e. behind-crash c p s e s.life refl old) old
+disk_behind-kept c (Recovers p) hosted may old = behind-some (node_of c.world p) (λ s. recover_as c s.life) c (λ s e. behind-recover c p hosted s e s.life refl old) old
+disk_behind-kept c (Copies p joiner) hosted may old = behind-some (replica_of c.world p) (copy_as c p joiner) c (λ r e. record { behind = old.behind; down = old.down }) old
+disk_behind-kept c (Joins joiner) hosted may old = behind-some (snapshot_of c.world joiner) (λ s. join_with c joiner s.content) c (λ s e. behind-join c joiner
+    (none-of (past_of c joiner) (hosted.past joiner
     ∙ not-true (has_begun c.world joiner) (and_parts (not (has_begun c.world joiner)) (option_map_or (λ s. is_server s.content.members joiner) (snapshot_of c.world joiner) false) may).0)) s.content old) old

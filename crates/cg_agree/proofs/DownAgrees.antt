@@ -17,7 +17,7 @@ use Rattle.cg_model.specs.Looks.{stood_of}
 use Rattle.cg_model.specs.Played.{AlwaysHolds}
 use Rattle.cg_model.specs.Run.{Step, IsRunFrom}
 use Rattle.cg_model.specs.Shown.{made_actions, made_names, order_of, position_of}
-use Rattle.cg_model.specs.World.{Down, Life, Seat, World, life_of, no_world, seat_of}
+use Rattle.cg_model.specs.World.{Down, NodeState, Node, World, life_of, no_world, node_of}
 use Rattle.cg_agree.proofs.CountsGrow.{count_at, held_at}
 use Rattle.cg_agree.proofs.DownGreens.{all-made, booked, core, prefix, reaches}
 use Rattle.cg_agree_lemmas.specs.FrontFacts.{Front-refl}
@@ -51,10 +51,10 @@ module _ (always : AlwaysHolds) (steps : List Step) (run : IsRunFrom no_world st
       (reaches (chronicle_of steps) (world_of steps) stands.stands shown.fits shown.order p disk green down)
 
   low : position_of p steps ≤ green_count q
-  low = subst (λ n. position_of p steps ≤ n) (at (seat_of (world_of steps) p) down) ((is-placed always steps run).placed p) where
-    at : (o : Option Seat) → option_map (λ s. s.life) o ≡ Some (Down disk green) → count_at o ≡ green_count q
+  low = subst (λ n. position_of p steps ≤ n) (at (node_of (world_of steps) p) down) ((is-placed always steps run).placed p) where
+    at : (o : Option Node) → option_map (λ s. s.life) o ≡ Some (Down disk green) → count_at o ≡ green_count q
     at None e = absurd (let clash : None ≡ Some (Down disk green) = e in cc)
-    at (Some s) e = ap (λ (o : Option Life). green_count (held_at (option_map_or (λ l. l) o s.life)).queue) e
+    at (Some s) e = ap (λ (o : Option NodeState). green_count (held_at (option_map_or (λ l. l) o s.life)).queue) e
 
   -- the actions of these names, as they were made
   actions : made_actions steps (take (green_count q) (order_recovered (order_of steps) disk green)) ≡ stood_of (chronicle_of steps) p

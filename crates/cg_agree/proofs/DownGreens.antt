@@ -14,13 +14,13 @@ use Rattle.cg_commit.specs.Holds.{Rising, cut_behind}
 use Rattle.cg_commit.specs.CutRaiseLaws.{behind-rises, index-same, rising-raise}
 use Rattle.cg_model.specs.Agreement.{Reaches, order_recovered}
 use Rattle.cg_model.specs.Chronicle.{Chronicle}
-use Rattle.cg_model.specs.FactsBooks.{IsNameShown, IsToShow, LifeMade, LifeShown, LifeToShow, MadeFits, OrderFits, SeatIsDown, SeatMade, SeatShown, SeatToShow}
+use Rattle.cg_model.specs.FactsBooks.{IsNameShown, IsToShow, LifeMade, LifeShown, LifeToShow, MadeFits, OrderFits, NodeIsDown, NodeMade, NodeShown, NodeToShow}
 use Rattle.cg_model.specs.FactsReplica.{AreBooked, IsCore}
 use Rattle.cg_model.specs.Fronts.{Front}
 use Rattle.cg_model.specs.Levels.{line_at, reached_at}
 use Rattle.cg_model.specs.Looks.{disk_held, on_disk, stood_of, top_of}
 use Rattle.cg_model.specs.Played.{StandsBeside}
-use Rattle.cg_model.specs.World.{Down, Life, Seat, World, life_of, seat_of}
+use Rattle.cg_model.specs.World.{Down, NodeState, Node, World, life_of, node_of}
 use Rattle.cg_agree_lemmas.specs.BookGrows.{IsNamed}
 use Rattle.cg_agree_lemmas.specs.BookedCores.{each-booked}
 use Rattle.cg_agree.proofs.CreatorNumbered.{order-on_top}
@@ -64,24 +64,24 @@ module _ (c : Chronicle) (w : World) (stands : StandsBeside c w) (fits : MadeFit
   abbrev longer : List ActionId
   longer = order_recovered w.order disk green
 
-  -- ---- its seat
+  -- ---- its node
 
-  -- what holds of its seat holds of its life
-  of-life : (P : Option Seat → Type 0) (Q : Life → Type 0) → ((s : Seat) → P (Some s) → Q s.life) → P (seat_of w p) → Q (Down disk green)
-  of-life P Q each = at (seat_of w p) down where
-    at : (o : Option Seat) → option_map (λ s. s.life) o ≡ Some (Down disk green) → P o → Q (Down disk green)
+  -- what holds of its node holds of its life
+  of-life : (P : Option Node → Type 0) (Q : NodeState → Type 0) → ((s : Node) → P (Some s) → Q s.life) → P (node_of w p) → Q (Down disk green)
+  of-life P Q each = at (node_of w p) down where
+    at : (o : Option Node) → option_map (λ s. s.life) o ≡ Some (Down disk green) → P o → Q (Down disk green)
     at None e is = absurd (let clash : None ≡ Some (Down disk green) = e in cc)
-    at (Some s) e is = subst Q (ap (λ (o : Option Life). option_map_or (λ l. l) o s.life) e) (each s is)
+    at (Some s) e is = subst Q (ap (λ (o : Option NodeState). option_map_or (λ l. l) o s.life) e) (each s is)
 
   to-show : IsToShow w.order green (names_of stood)
-  to-show = of-life (SeatToShow w.order (names_of stood)) (LifeToShow w.order (names_of stood)) (λ s is. is) (order.down p)
+  to-show = of-life (NodeToShow w.order (names_of stood)) (LifeToShow w.order (names_of stood)) (λ s is. is) (order.down p)
 
   made : LifeMade (index_in w.made p) p (Down disk green)
-  made = of-life (SeatMade (index_in w.made p) p) (LifeMade (index_in w.made p) p) (λ s is. is) (fits.seats p)
+  made = of-life (NodeMade (index_in w.made p) p) (LifeMade (index_in w.made p) p) (λ s is. is) (fits.nodes p)
 
   held : disk_held c.world p ≡ Some disk.content
-  held = sym (stands.same.disk p) ∙ at (seat_of w p) down where
-    at : (o : Option Seat) → option_map (λ s. s.life) o ≡ Some (Down disk green) → option_map (λ s. on_disk s.life) o ≡ Some disk.content
+  held = sym (stands.same.disk p) ∙ at (node_of w p) down where
+    at : (o : Option Node) → option_map (λ s. s.life) o ≡ Some (Down disk green) → option_map (λ s. on_disk s.life) o ≡ Some disk.content
     at None e = ap (option_map on_disk) e
     at (Some s) e = ap (option_map on_disk) e
 
@@ -132,7 +132,7 @@ module _ (c : Chronicle) (w : World) (stands : StandsBeside c w) (fits : MadeFit
 
   -- of whom is down
   abbrev IsLow : ActionId → Type 0
-  IsLow id = SeatIsDown (seat_of w id.creator) → IsMade id
+  IsLow id = NodeIsDown (node_of w id.creator) → IsMade id
 
   order-low : Each IsLow to-show.shown
   order-low =
@@ -155,13 +155,13 @@ module _ (c : Chronicle) (w : World) (stands : StandsBeside c w) (fits : MadeFit
             omega arith
 
   -- another one's that is down: nobody else has any that wasn't shown
-  others-shown : (q : ℕ) (fallen : SeatIsDown (seat_of w q)) → (q ≡ p → ⊥) → Each (IsNameShown q (order.others q fallen).shown) green
+  others-shown : (q : ℕ) (fallen : NodeIsDown (node_of w q)) → (q ≡ p → ⊥) → Each (IsNameShown q (order.others q fallen).shown) green
   others-shown q fallen other =
       let k = order.others q fallen in
-      (of-life (SeatShown q k.shown) (LifeShown q k.shown) (λ s is. is) (k.are.seats p (λ e. other (sym e)))).1
+      (of-life (NodeShown q k.shown) (LifeShown q k.shown) (λ s is. is) (k.are.nodes p (λ e. other (sym e)))).1
 
   green-low : (ids : List ActionId) → Each (λ id. id.creator ≡ p → IsMade id) ids →
-      ((q : ℕ) (fallen : SeatIsDown (seat_of w q)) → (q ≡ p → ⊥) → Each (IsNameShown q (order.others q fallen).shown) ids) → Each IsLow ids
+      ((q : ℕ) (fallen : NodeIsDown (node_of w q)) → (q ≡ p → ⊥) → Each (IsNameShown q (order.others q fallen).shown) ids) → Each IsLow ids
   green-low [] own others = tt
   green-low (id ∷ ids) own others = (
     λ fallen. elim (cases_eq id.creator p) [

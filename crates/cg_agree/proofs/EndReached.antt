@@ -6,11 +6,11 @@ use Rattle.std.proofs.lemmas.Bool.{cases_Bool, cond-true, and_parts, cond_both, 
 use Rattle.cg_base.specs.Sets.{has}
 use Rattle.cg_action.specs.declared.action.Action.{Action}
 use Rattle.cg_knowledge.specs.declared.summary.Summary.{Summary}
-use Rattle.cg_knowledge.specs.Members.{senders, leads, leader, most_updated}
+use Rattle.cg_knowledge.specs.Summaries.{senders, leads, leader, most_updated}
 use Rattle.cg_group.specs.State.{phase_of, delivered_to}
 use Rattle.cg_client.specs.Replica.{State, NonPrim, Replica}
 use Rattle.cg_client.specs.Turn.{begin}
-use Rattle.cg_model.specs.World.{Seat, seat_of, replica_of, running, Up}
+use Rattle.cg_model.specs.World.{Node, node_of, replica_of, running, Up}
 use Rattle.cg_model.specs.Chronicle.{Told, Chronicle}
 use Rattle.cg_model.specs.Looks.{greens_of, told_in, is_regular_at, is_regular_in, members_in, ordered_in}
 use Rattle.cg_model.specs.Talk.{Talk, talk_of, is_full, is_through}
@@ -21,7 +21,7 @@ use Rattle.cg_model.specs.FactsAttempts.{BitsWitness}
 use Rattle.cg_model.specs.Facts.{Invariant}
 use Rattle.cg_model.specs.Small.{Small, Starts, Makes, Enters, Orders, Receives, Hands, Leaves, Asks, Settles, Commits, Crashes, Recovers, Copies, Joins, newly_green, after_turn, handed_next, take_next, small_step}
 use Rattle.cg_model.specs.Smalls.{may_make}
-use Rattle.cg_agree_lemmas.specs.ChronicleFacts.{seat_of-set}
+use Rattle.cg_agree_lemmas.specs.ChronicleFacts.{node_of-set}
 use Rattle.cg_agree_lemmas.specs.EndCovers.{OfEach}
 use Rattle.cg_agree_lemmas.specs.EndQuorum.{both-each}
 use Rattle.cg_agree_lemmas.specs.Knowledge.{sender-told}
@@ -98,16 +98,16 @@ module _ (c : Chronicle) (p : ℕ) (i : Invariant c) (may : may_make c (Hands p)
 
   turn-now : d ≡ after_turn (handed_next c p) p n.replica n.disk (take_next c.world.group p (begin n.replica))
   unfolding small_step
-  turn-now = turn-is (handed_next c p) p (take_next c.world.group p) n.replica n.disk n.seat
+  turn-now = turn-is (handed_next c p) p (take_next c.world.group p) n.replica n.disk n.node
 
   up-now : replica_of d.world p ≡ Some (new c p i n)
   up-now =
       ap (λ (x : Chronicle). replica_of x.world p) turn-now
-      ∙ ap (λ (o : Option Seat). option_and_then (λ s. running s.life) o) (seat_of-set (handed_next c p).world p (Up (new c p i n) n.disk) p
-      ∙ cond-true (p == p) (Some (record { id = p; life = Up (new c p i n) n.disk })) (seat_of c.world p) (eq-eqb p p refl))
+      ∙ ap (λ (o : Option Node). option_and_then (λ s. running s.life) o) (node_of-set (handed_next c p).world p (Up (new c p i n) n.disk) p
+      ∙ cond-true (p == p) (Some (record { id = p; life = Up (new c p i n) n.disk })) (node_of c.world p) (eq-eqb p p refl))
 
   pub greens-now : greens_of d p ≡ greens_of c p ++ newly_green n.replica (new c p i n)
-  greens-now = ap (λ (x : Chronicle). greens_of x p) turn-now ∙ greens-turn (handed_next c p) p n.replica n.disk (take_next c.world.group p (begin n.replica)) i.net.seated.past n.seat
+  greens-now = ap (λ (x : Chronicle). greens_of x p) turn-now ∙ greens-turn (handed_next c p) p n.replica n.disk (take_next c.world.group p (begin n.replica)) i.net.hosted.past n.node
 
   regular-now : is_regular_in d conf p ≡ true
   regular-now =

@@ -16,7 +16,7 @@ use Rattle.cg_records.specs.declared.yellow.Yellow.{Yellow}
 use Rattle.cg_vote.specs.Quorum.{is_quorum}
 use Rattle.cg_vote.specs.QuorumLaws.{meet}
 use Rattle.cg_knowledge.specs.declared.summary.Summary.{Summary}
-use Rattle.cg_knowledge.specs.Members.{lowest, lower, most_updated, remaining, senders}
+use Rattle.cg_knowledge.specs.Summaries.{lowest, lower, most_updated, remaining, senders}
 use Rattle.cg_knowledge.specs.Primary.{newest, newest_index, known_primary, knows_prim}
 use Rattle.cg_knowledge.specs.Vulnerable.{decided}
 use Rattle.cg_knowledge.specs.Verdict.{all_cleared, decides}

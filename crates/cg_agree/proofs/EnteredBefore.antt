@@ -5,10 +5,10 @@ use Rattle.std.proofs.lemmas.Bool.{cond_both, and_from, or_cases}
 use Rattle.cg_base.specs.Sets.{has, is_within}
 use Rattle.cg_base.specs.SetLaws.{has-with_member, has-without}
 use Rattle.cg_knowledge.specs.declared.summary.Summary.{Summary}
-use Rattle.cg_knowledge.specs.Members.{senders, gone, remaining}
+use Rattle.cg_knowledge.specs.Summaries.{senders, gone, remaining}
 use Rattle.cg_group.specs.declared.phase.Phase.{Phase}
 use Rattle.cg_client.specs.Replica.{Held, State, RegPrim, TransPrim, ExchangeStates, ExchangeActions, Construct, No, Un, NonPrim, Left, Replica}
-use Rattle.cg_model.specs.World.{Seat, seat_of, replica_of}
+use Rattle.cg_model.specs.World.{Node, node_of, replica_of}
 use Rattle.cg_model.specs.Attempts.{held_in}
 use Rattle.cg_model.specs.Chronicle.{Attempt, Chronicle}
 use Rattle.cg_model.specs.Looks.{attempt_of, attempt_at, conf_at, core_of}
@@ -87,9 +87,9 @@ pub entered-begun : (c : Chronicle) (i : Invariant c) (conf : ℕ) (a : Attempt)
 entered-begun c i conf a p found entered none =
     let shape = subst (λ (o : Option Attempt). IfSome o (IsAttempt c conf)) found (i.attempt.attempt_shape conf) in
     let member = set-members c i conf a found p (all-at (has a.set) a.entered p shape.entered entered) in
-    at (seat_of c.world p) (i.net.members_begun.member conf p member) none
+    at (node_of c.world p) (i.net.members_begun.member conf p member) none
   where
-    at : (o : Option Seat) → is_some o ≡ true → option_map (λ (s : Seat). held_in s.life) o ≡ None → ⊥
+    at : (o : Option Node) → is_some o ≡ true → option_map (λ (s : Node). held_in s.life) o ≡ None → ⊥
     at None begun none = let clash : false ≡ true = begun in cc
     at (Some s) begun none = let clash : Some (held_in s.life) ≡ None = none in cc
 

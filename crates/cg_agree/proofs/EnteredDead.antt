@@ -8,7 +8,7 @@ use Rattle.cg_records.specs.declared.primary.Primary.{Primary}
 use Rattle.cg_records.specs.declared.vulnerable.Vulnerable.{Vulnerable}
 use Rattle.cg_vote.specs.Quorum.{is_quorum}
 use Rattle.cg_knowledge.specs.declared.summary.Summary.{Summary}
-use Rattle.cg_knowledge.specs.Members.{remaining}
+use Rattle.cg_knowledge.specs.Summaries.{remaining}
 use Rattle.cg_knowledge.specs.Primary.{known_primary}
 use Rattle.cg_knowledge.specs.Vulnerable.{decided, is_cleared}
 use Rattle.cg_knowledge.specs.Verdict.{decides, all_cleared}
@@ -18,7 +18,7 @@ use Rattle.cg_group.specs.State.{Standing, phase_of, standing_of, is_up}
 use Rattle.cg_wire.specs.declared.message.Msg.{Msg}
 use Rattle.cg_client.specs.Replica.{Held, State, RegPrim, TransPrim, ExchangeStates, ExchangeActions, Construct, No, Un, NonPrim, Left, Replica}
 use Rattle.cg_model.specs.Attempts.{held_in}
-use Rattle.cg_model.specs.World.{Seat, replica_of, running}
+use Rattle.cg_model.specs.World.{Node, replica_of, running}
 use Rattle.cg_model.specs.Chronicle.{Told, Attempt, Chronicle}
 use Rattle.cg_model.specs.Looks.{attempt_of, attempt_at, conf_at, core_of, is_regular_in, is_regular_at}
 use Rattle.cg_model.specs.Fronts.{When, IsSomeWith}
@@ -28,7 +28,7 @@ use Rattle.cg_model.specs.FactsExchange.{IsRecord, HasRecord, KnowsLevels}
 use Rattle.cg_model.specs.FactsAttempts.{is_without, is_no}
 use Rattle.cg_model.specs.Facts.{Invariant}
 use Rattle.cg_agree_lemmas.specs.HandSays.{find-holds}
-use Rattle.cg_agree_lemmas.specs.HandsKept.{seated}
+use Rattle.cg_agree_lemmas.specs.HandsKept.{hosted}
 use Rattle.cg_agree_lemmas.specs.ReachWorld.{when-is}
 use Rattle.cg_agree_lemmas.specs.EndCovers.{OfEach}
 use Rattle.cg_agree_lemmas.specs.EndQuorum.{cleared-each, none-cleared}
@@ -83,9 +83,9 @@ module _ (c : Chronicle) (i : Invariant c) (conf p : ℕ) (a : Attempt) (found :
   pub old-dead : (old : Held) → core_of c p ≡ Some old → old.prim.index ≤ a.from → is_record_of a.conf old.vulnerable ≡ false → is_dead c a ≡ true
   old-dead old core low without = elim (cases_Bool (is_regular_in c conf p)) [
     | inl regular ↦
-        let sits = seated c.world p (i.net.phase_sound.up p ∙ regular-there c conf p regular) in
-        let same : Some old ≡ Some sits.replica.held = sym core ∙ ap (λ (o : Option Seat). option_map (λ s. held_in s.life) o) sits.seat in
-        let own = own-there sits.replica (ap (λ (o : Option Seat). option_and_then (λ s. running s.life) o) sits.seat) (regular-conf conf (phase_of c.world.group p) regular) in
+        let sits = hosted c.world p (i.net.phase_sound.up p ∙ regular-there c conf p regular) in
+        let same : Some old ≡ Some sits.replica.held = sym core ∙ ap (λ (o : Option Node). option_map (λ s. held_in s.life) o) sits.node in
+        let own = own-there sits.replica (ap (λ (o : Option Node). option_and_then (λ s. running s.life) o) sits.node) (regular-conf conf (phase_of c.world.group p) regular) in
         absurd (let clash : true ≡ false = sym own ∙ sym (ap (λ (o : Option Held). is_record_of a.conf (option_map_or (λ h. h.vulnerable) o None)) same) ∙ without in cc)
     | inr out ↦
         let one = subst (λ (o : Option Attempt). IfSome o (λ a. IfSome (core_of c p) (λ h. When (is_without a p h.prim.index h.vulnerable) (is_dead c a ≡ true)))) found (i.attempt.dead_evidence.member conf p out) in

@@ -14,13 +14,13 @@ use Rattle.cg_group.specs.Ready.{ready}
 use Rattle.cg_group.specs.Refusals.{deliver_refusal, not_up, not_regular, not_ready}
 use Rattle.cg_group.specs.Events.{send_all, deliveries_at, furthest, transitional_places, handed_in_split, with_delivered, become_transitional, become_regular, merge, deliver}
 use Rattle.cg_client.specs.Replica.{Replica}
-use Rattle.cg_step.specs.Step.{Input, Deliveries, Asks as AsksOf, replica_step}
+use Rattle.cg_replica_step.specs.Step.{Input, Deliveries, Asks as AsksOf, replica_step}
 use Rattle.cg_commit.specs.Crash.{Disk, Runs, end_event}
 use Rattle.cg_schedule.specs.declared.event.Event.{Event}
 use Rattle.cg_schedule.specs.declared.event.Event.TheVariants.{Start, Split, Merge, Request, Weak, Dirty, Order, Recover, Show, ShowOrder, Gather, End, Receive, Deliver, Rounds, Stop, Fail, Join, Leave, Transfer}
-use Rattle.cg_model.specs.World.{Seat, World, seat_of}
+use Rattle.cg_model.specs.World.{Node, World, node_of}
 use Rattle.cg_model.specs.Admission.{first_refusal, unknown}
-use Rattle.cg_model.specs.Show.{Going}
+use Rattle.cg_model.specs.Show.{StepInProgress}
 use Rattle.cg_model.specs.Step.{quietly}
 use Rattle.cg_model.specs.Run.{MayStand}
 use Rattle.cg_model.specs.Chronicle.{Chronicle}
@@ -33,7 +33,7 @@ use Rattle.cg_agree_lemmas.specs.UnorderedKept.{first-none, refused-not}
 use Rattle.cg_agree_lemmas.specs.MadeAlone.{not-refused}
 use Rattle.cg_agree_lemmas.specs.Standings.{rising-lower}
 use Rattle.cg_agree_lemmas.specs.SmallWorlds.{grouped, small_in, played_in}
-use Rattle.cg_agree_lemmas.specs.TurnWorlds.{seated, up_seat, turn-first}
+use Rattle.cg_agree_lemmas.specs.TurnWorlds.{hosted, up_node, turn-first}
 use Rattle.cg_agree_lemmas.specs.EventTurns.{IsUp}
 use Rattle.cg_agree_lemmas.specs.TogetherWorlds.{IsGoing, smalls_among}
 use Rattle.cg_agree_lemmas.specs.MadeDeliver.{stands-regular, may-opens}
@@ -48,7 +48,7 @@ use Rattle.cg_agree_lemmas.specs.EventInputs.{IsHanded}
 pub record RunsBehind (w : World) (p : ℕ) (input : Input) : Type 0 where
   pub replica : Replica
   pub disk : Disk
-  pub seat : seat_of w p ≡ Some (up_seat p replica disk)
+  pub node : node_of w p ≡ Some (up_node p replica disk)
   pub new : Replica
   pub new_disk : Disk
   pub ends : end_event disk replica.held (replica_step replica input) ≡ Runs new new_disk
@@ -60,11 +60,11 @@ repeated p (suc n) = (refl, repeated p n)
 module _ (w : World) where
   -- a turn of one replica
   one-turn : (p : ℕ) (input : Input) (block : List Small) (g : GroupState Msg) (on : RunsBehind w p input) (list : List Small) → list ≡ flat_map (ending (λ q. block)) (taken w p input) → Each (IsPartOf p) block →
-      (let t = replica_step on.replica input in played_in w block ≡ seated w p t.replica on.disk (send_all g p t.sent)) → RunsThrough w list p (replica_step on.replica input)
+      (let t = replica_step on.replica input in played_in w block ≡ hosted w p t.replica on.disk (send_all g p t.sent)) → RunsThrough w list p (replica_step on.replica input)
   one-turn p input block g on list is parts leads =
       let t = replica_step on.replica input in
       let k : Taken = record { id = p; before = on.replica; disk = on.disk; turn = t; ended = end_event on.disk on.replica.held t } in
-      let turns : taken w p input ≡ k ∷ [] = ap (λ (o : Option Seat). option_map_or (λ s. taken_as p input s.life) o []) on.seat in
+      let turns : taken w p input ≡ k ∷ [] = ap (λ (o : Option Node). option_map_or (λ s. taken_as p input s.life) o []) on.node in
       let steps : list ≡ ending_as k block (Runs on.new on.new_disk) = is ∙ ap (flat_map (ending (λ q. block))) turns ∙ append-nil (ending_as k block k.ended) ∙ ap (ending_as k block) on.ends in
       subst (λ xs. RunsThrough w xs p t) (sym steps) (runs-alone w p k block (send_all g p t.sent) on.new on.new_disk refl parts leads)
 
@@ -73,14 +73,14 @@ module _ (w : World) where
   own-block p block input on =
       let t = replica_step on.replica input in
       let k : Taken = record { id = p; before = on.replica; disk = on.disk; turn = t; ended = end_event on.disk on.replica.held t } in
-      let turns : taken w p input ≡ k ∷ [] = ap (λ (o : Option Seat). option_map_or (λ s. taken_as p input s.life) o []) on.seat in
+      let turns : taken w p input ≡ k ∷ [] = ap (λ (o : Option Node). option_map_or (λ s. taken_as p input s.life) o []) on.node in
       ap (flat_map (ending block)) turns ∙ sym (ap (flat_map (ending (λ q. block p))) turns)
 
   asked-runs : (p : ℕ) (kind : Kind) (on : RunsBehind w p (AsksOf kind)) (list : List Small) → list ≡ flat_map (ending (λ q. Asks q kind ∷ [])) (taken w p (AsksOf kind)) →
       RunsThrough w list p (replica_step on.replica (AsksOf kind))
   unfolding small_in replica_step
   asked-runs p kind on list is =
-      one-turn p (AsksOf kind) (Asks p kind ∷ []) w.group on list (is ∙ own-block p (λ q. Asks q kind ∷ []) (AsksOf kind) on) (refl, tt) (turn-first w w.group p on.replica on.disk (take_request kind) on.seat)
+      one-turn p (AsksOf kind) (Asks p kind ∷ []) w.group on list (is ∙ own-block p (λ q. Asks q kind ∷ []) (AsksOf kind) on) (refl, tt) (turn-first w w.group p on.replica on.disk (take_request kind) on.node)
 
   -- what is handed in a delivery
   deliver-runs : (p count : ℕ) → IsSound w → first_refusal w (Deliver p count) ≡ None →
@@ -96,8 +96,8 @@ module _ (w : World) where
       let up = first-none (not_up w.group p) (not_regular w.group p ∷ not_ready w.group p count ∷ []) (ap is_none (first-none (deliver_refusal w.group p count) [] first.1).0) in
       let regular = first-none (not_regular w.group p) (not_ready w.group p count ∷ []) up.1 in
       let enough = not-refused (nat_lt (ready w.group p) count) _ (first-none (not_ready w.group p count) [] regular.1).0 in
-      let here : IsUp w p = record { replica = on.replica; disk = on.disk; seat = on.seat } in
-      let opens = may-opens w p count sound.seats sound.group.rises here (stands-regular w.group p (refused-not (is_regular w.group p) _ regular.0)) (ltb-false (ready w.group p) count enough) in
+      let here : IsUp w p = record { replica = on.replica; disk = on.disk; node = on.node } in
+      let opens = may-opens w p count sound.nodes sound.group.rises here (stands-regular w.group p (refused-not (is_regular w.group p) _ regular.0)) (ltb-false (ready w.group p) count enough) in
       one-turn p (Deliveries list) (block p) (with_delivered g p (from + count)) on (flat_map (ending block) (taken w p (Deliveries list) ++ []))
       (ap (flat_map (ending block)) (append-nil (taken w p (Deliveries list))) ∙ own-block p block (Deliveries list) on)
       (Each-append (IsPartOf p) (replicate count (Hands p)) (Settles p ∷ []) (repeated p count) (refl, tt)) opens.1
@@ -118,24 +118,24 @@ module _ (w : World) where
       let input = parted-input w set in
       let block = parting w set in
       let behind = fold (become_transitional set) g set in
-      let start : Going = quietly (grouped w behind) in
+      let start : StepInProgress = quietly (grouped w behind) in
       let going : IsGoing w g N named input block w start.world set 0 = record {
-        still = record { seats = λ q above. refl; standings = λ q above. refl; configurations = refl; rises = sound.group.rises; rising = sound.seats };
+        still = record { nodes = λ q above. refl; standings = λ q above. refl; configurations = refl; rises = sound.group.rises; rising = sound.nodes };
         group = parted-placed w set set 0 rise g (λ q above. refl);
         snapshots = refl;
-        seats = λ q above. refl;
+        nodes = λ q above. refl;
         ids = refl;
         running = λ q. refl;
         disk = λ q. refl;
       } in
       let steps : turns_as (leaving_steps g set) w (Split set) ≡ smalls_among w g N named input block set = ap (flat_map (ending block)) (turns-split w set) in
       let runs = together-runs w g N named input block (parting-parts set) set 0 rise (leaving-all w set set each) w start going p there
-      (record { replica = on.replica; disk = on.disk; seat = on.seat; new = on.new; new_disk = on.new_disk; ends = on.ends }) in
+      (record { replica = on.replica; disk = on.disk; node = on.node; new = on.new; new_disk = on.new_disk; ends = on.ends }) in
       subst (λ list. RunsThrough w list p (replica_step on.replica (Deliveries (handed_in_split g set p).list))) (sym steps) runs
 
   makes-keeps : (set : List ℕ) (p : ℕ) → Keeps p (Makes set)
   unfolding small_step
-  makes-keeps set p c = record { seat = refl; past = refl }
+  makes-keeps set p c = record { node = refl; past = refl }
 
   merge-runs : (set : List ℕ) (p : ℕ) → IsSound w → IsRising 0 set → Each (IsComing w set) set → has set p ≡ true →
       (on : RunsBehind w p (Deliveries (RegularIn (suc (length w.group.configurations)) set ∷ []))) →
@@ -149,12 +149,12 @@ module _ (w : World) where
       let block = entering w set in
       let v = grouped w g in
       let conf = suc (length w.group.configurations) in
-      let start : Going = quietly (grouped w (fold (become_regular conf) g set)) in
+      let start : StepInProgress = quietly (grouped w (fold (become_regular conf) g set)) in
       let going : IsGoing w g N named input block v start.world set 0 = record {
-        still = record { seats = λ q above. refl; standings = λ q above. refl; configurations = refl; rises = sound.group.rises; rising = sound.seats };
+        still = record { nodes = λ q above. refl; standings = λ q above. refl; configurations = refl; rises = sound.group.rises; rising = sound.nodes };
         group = refl;
         snapshots = refl;
-        seats = λ q above. refl;
+        nodes = λ q above. refl;
         ids = refl;
         running = λ q. refl;
         disk = λ q. refl;
@@ -162,7 +162,7 @@ module _ (w : World) where
       let steps : turns_as (λ p. Enters p ∷ Settles p ∷ []) w (Merge set) ≡ smalls_among w g N named input block set = ap (flat_map (ending block)) (turns-merge w set) in
       let t = replica_step on.replica (Deliveries (RegularIn conf set ∷ [])) in
       let runs = together-runs w g N named input block (λ q. (refl, (refl, tt))) set 0 rise (coming-all w set set each) v start going p there
-      (record { replica = on.replica; disk = on.disk; seat = on.seat; new = on.new; new_disk = on.new_disk; ends = on.ends }) in
+      (record { replica = on.replica; disk = on.disk; node = on.node; new = on.new; new_disk = on.new_disk; ends = on.ends }) in
       subst (λ list. RunsThrough w (Makes set ∷ list) p t) (sym steps)
       (runs-later w v (Makes set ∷ []) (smalls_among w g N named input block set) p t refl (makes-keeps set p, tt) runs)
 

@@ -11,12 +11,12 @@ use Rattle.cg_group.specs.declared.delivery.Delivery.TheVariants.{Regular as Reg
 use Rattle.cg_group.specs.State.{delivered_to, home}
 use Rattle.cg_group.specs.Events.{deliveries_at, handed_in_split, deliver, split, merge}
 use Rattle.cg_client.specs.Replica.{Held, Replica}
-use Rattle.cg_step.specs.Step.{Deliveries}
+use Rattle.cg_replica_step.specs.Step.{Deliveries}
 use Rattle.cg_commit.specs.Crash.{FailOnce, StopWith, Disk}
 use Rattle.cg_base.specs.declared.action_id.ActionId.{ActionId}
 use Rattle.cg_schedule.specs.declared.event.Event.{Event}
 use Rattle.cg_schedule.specs.declared.event.Event.TheVariants.{Start, Split, Merge, Request, Weak, Dirty, Order, Recover, Show, ShowOrder, Gather, End, Receive, Deliver, Rounds, Stop, Fail, Join, Leave, Transfer}
-use Rattle.cg_model.specs.World.{Down, Seat, World, has_begun, seat_of, replica_of}
+use Rattle.cg_model.specs.World.{Down, Node, World, has_begun, node_of, replica_of}
 use Rattle.cg_model.specs.Admission.{first_refusal, takes_part, never_named, joiner_left, not_green}
 use Rattle.cg_model.specs.AdmissionCalls.{begun_already}
 use Rattle.cg_model.specs.Run.{MayStand}
@@ -30,17 +30,17 @@ use Rattle.cg_agree_lemmas.specs.MadeSplit.{rising-set-list}
 use Rattle.cg_agree_lemmas.specs.RestsBehind.{handed-ids, split-to}
 use Rattle.cg_agree.proofs.JoinersMadeNone.{snapshot-none}
 use Rattle.cg_agree_lemmas.specs.EventInputs.{IsHanded}
-use Rattle.cg_agree_lemmas.specs.EventSays.{SeatOwes}
+use Rattle.cg_agree_lemmas.specs.EventSays.{NodeOwes}
 use Rattle.cg_agree.proofs.EventMeets.{Meets, same-stays, asked, handed-one, handed-out, start-meets, stop-meets, arm-meets, recover-meets, pieces-meet}
 
 module _ (c : Chronicle) (w : World) (stands : StandsBeside c w) where
   -- the disk of a replica that is down is its own
-  disk-named : (q : ℕ) (d : Disk) (green : List ActionId) (s : Seat) → seat_of w q ≡ Some s → s.life ≡ Down d green → d.content.id ≡ q
+  disk-named : (q : ℕ) (d : Disk) (green : List ActionId) (s : Node) → node_of w q ≡ Some s → s.life ≡ Down d green → d.content.id ≡ q
   disk-named q d green s found is =
-      let here : disk_held c.world q ≡ Some d.content = sym (stands.same.disk q) ∙ ap (λ (o : Option Seat). option_map (λ s. on_disk s.life) o) found ∙ ap (λ l. Some (on_disk l)) is in
-      subst (λ (o : Option Held). IfSome o (λ h. h.id ≡ q)) here (stands.facts.net.seated.disk q)
+      let here : disk_held c.world q ≡ Some d.content = sym (stands.same.disk q) ∙ ap (λ (o : Option Node). option_map (λ s. on_disk s.life) o) found ∙ ap (λ l. Some (on_disk l)) is in
+      subst (λ (o : Option Held). IfSome o (λ h. h.id ≡ q)) here (stands.facts.net.hosted.disk q)
 
-  none-there : (o : Option Seat) → is_some o ≡ false → o ≡ None
+  none-there : (o : Option Node) → is_some o ≡ false → o ≡ None
   none-there None e = refl
   none-there (Some s) e = absurd (let clash : true ≡ false = e in cc)
 
@@ -59,7 +59,7 @@ module _ (c : Chronicle) (w : World) (stands : StandsBeside c w) where
     at (Some r) e =
         let s = snapshot_for w q joiner r in
         let is = snapshot-none c w stands joiner none q r e in
-        pieces-meet w (Transfer q joiner pieces) s pieces p (ap (seat_of w) is.0 ∙ none-there (seat_of w joiner) none)
+        pieces-meet w (Transfer q joiner pieces) s pieces p (ap (node_of w) is.0 ∙ none-there (node_of w joiner) none)
 
   each-split : (set list : List ℕ) → Each (λ q. has set q ≡ true) list → Each (λ h. IsHanded w (Split set) h.to (Deliveries h.list)) (map (handed_in_split w.group set) list)
   each-split set [] each = tt
@@ -72,10 +72,10 @@ module _ (c : Chronicle) (w : World) (stands : StandsBeside c w) where
   each-merge set [] each = tt
   each-merge set (q ∷ list) each = ((each.0, refl), each-merge set list each.1)
 
-  module _ (owes : (p : ℕ) → SeatOwes c.start p (seat_of w p)) where
+  module _ (owes : (p : ℕ) → NodeOwes c.start p (node_of w p)) where
     pub happens-meets : (e : Event) → MayStand w e → first_refusal w e ≡ None → (p : ℕ) → Meets w e (happens w e) p
     unfolding happens split merge deliver
-    happens-meets (Start set) may admitted p = start-meets w set p (ap (λ (v : World). seat_of v p) may.0)
+    happens-meets (Start set) may admitted p = start-meets w set p (ap (λ (v : World). node_of v p) may.0)
     happens-meets (Split set) may admitted p =
         handed-out c.start w owes (Split set) (split w.group set).group (map (handed_in_split w.group set) set) p refl
         (handed-ids (handed_in_split w.group set) (split-to w.group set) set 1 (rising-set-list 1 set may.1.ascends)) (each-split set set (Each-has set))

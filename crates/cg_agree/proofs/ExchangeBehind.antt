@@ -10,7 +10,7 @@ use Rattle.cg_queue.specs.Queue.{Marks, Gaps, marked_red, placed_red}
 use Rattle.cg_queue.specs.declared.mark.Mark.TheVariants.{Placed, Known}
 use Rattle.cg_knowledge.specs.declared.summary.Summary.{Summary}
 use Rattle.cg_records.specs.declared.yellow.Yellow.{Yellow}
-use Rattle.cg_knowledge.specs.Members.{gone}
+use Rattle.cg_knowledge.specs.Summaries.{gone}
 use Rattle.cg_knowledge.specs.Verdict.{decides}
 use Rattle.cg_wire.specs.declared.message.Msg.{Msg}
 use Rattle.cg_wire.specs.declared.message.Msg.TheVariants.{Action as ActionMsg, State as StateMsg, GreenItem, RedItem, Cpc}
@@ -23,7 +23,7 @@ use Rattle.cg_client.specs.Turn.{Turn, begin, go_to}
 use Rattle.cg_client.specs.Marks.{is_unmade, marked, mark_red}
 use Rattle.cg_construct.specs.Construct.{attempt_set, is_announced, construct_with}
 use Rattle.cg_construct.specs.No.{no_with}
-use Rattle.cg_step.specs.Step.{on_message, take as take_delivery}
+use Rattle.cg_replica_step.specs.Step.{on_message, after_delivery as take_delivery}
 use Rattle.cg_model.specs.FactsReplica.{is_exchanging}
 use Rattle.cg_model.specs.World.{replica_of}
 use Rattle.cg_model.specs.Chronicle.{Told, Chronicle}
@@ -175,12 +175,12 @@ module _ (c : Chronicle) (p : ℕ) (i : Invariant c) (may : may_make c (Hands p)
 
   pub up-now : replica_of d.world p ≡ Some (new c p i n)
   unfolding small_step
-  up-now = replica-behind (handed_next c p) p (take_next c.world.group p) n.replica n.disk n.seat
+  up-now = replica-behind (handed_next c p) p (take_next c.world.group p) n.replica n.disk n.node
 
   -- where no action becomes green
   pub greens-same : (new c p i n).held.queue.greens ≡ n.replica.held.queue.greens → greens_of d p ≡ greens_of c p
   unfolding small_step
-  greens-same same = greens-behind (handed_next c p) p (take_next c.world.group p) n.replica n.disk n.seat i.net.seated.past same
+  greens-same same = greens-behind (handed_next c p) p (take_next c.world.group p) n.replica n.disk n.node i.net.hosted.past same
 
   pub told-now : (conf q : ℕ) → told_in d conf q ≡ told_in c conf q
   told-now conf q = told_in-same c d (told-same c (Hands p) tt) conf q

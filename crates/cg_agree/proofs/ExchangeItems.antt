@@ -7,7 +7,7 @@ use Rattle.cg_base.specs.Choice.{Either}
 use Rattle.cg_action.specs.declared.action.Action.{Action}
 use Rattle.cg_queue.specs.Queue.{names_of}
 use Rattle.cg_knowledge.specs.declared.summary.Summary.{Summary}
-use Rattle.cg_knowledge.specs.Members.{senders, gone}
+use Rattle.cg_knowledge.specs.Summaries.{senders, gone}
 use Rattle.cg_plan.specs.Items.{items_of_plan}
 use Rattle.cg_plan.specs.Plan.{plan_of}
 use Rattle.cg_wire.specs.declared.message.Msg.{Msg}

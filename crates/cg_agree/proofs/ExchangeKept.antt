@@ -5,7 +5,7 @@ use Rattle.cg_base.specs.Sets.{has, is_within}
 use Rattle.cg_base.specs.Choice.{Either}
 use Rattle.cg_action.specs.declared.action.Action.{Action}
 use Rattle.cg_knowledge.specs.declared.summary.Summary.{Summary}
-use Rattle.cg_knowledge.specs.Members.{senders, gone}
+use Rattle.cg_knowledge.specs.Summaries.{senders, gone}
 use Rattle.cg_knowledge.specs.Verdict.{decides}
 use Rattle.cg_plan.specs.declared.parts.Part.{Part}
 use Rattle.cg_plan.specs.declared.parts.Item.{Item}
@@ -20,7 +20,7 @@ use Rattle.cg_client.specs.Requests.{empty_buffer}
 use Rattle.cg_exchange.specs.ExchangeStates.{is_usable, with_heard}
 use Rattle.cg_exchange.specs.ExchangeActions.{progress, take_item, send_part, go_on}
 use Rattle.cg_exchange.specs.PlanEnd.{take_over, attempt, decide, end_plan}
-use Rattle.cg_step.specs.Step.{on_message}
+use Rattle.cg_replica_step.specs.Step.{on_message}
 use Rattle.cg_model.specs.FactsReplica.{is_exchanging}
 use Rattle.cg_model.specs.World.{replica_of}
 use Rattle.cg_model.specs.Chronicle.{Told, Chronicle}
@@ -120,8 +120,8 @@ module _ (c : Chronicle) (p : ℕ) (i : Invariant c) (may : may_make c (Hands p)
   greens-now : greens_of d p ≡ greens_of c p ++ newly_green r (new c p i n)
   unfolding small_step
   greens-now =
-      ap (λ (x : Chronicle). greens_of x p) (turn-is (handed_next c p) p (take_next c.world.group p) r n.disk n.seat)
-      ∙ greens-turn (handed_next c p) p r n.disk (take_next c.world.group p (begin r)) i.net.seated.past n.seat
+      ap (λ (x : Chronicle). greens_of x p) (turn-is (handed_next c p) p (take_next c.world.group p) r n.disk n.node)
+      ∙ greens-turn (handed_next c p) p r n.disk (take_next c.world.group p (begin r)) i.net.hosted.past n.node
 
   greens-kept : (st : State) (m : Msg) → r.state ≡ st → n.next.message ≡ m → (turn m st).replica.held.queue.greens ≡ r.held.queue.greens → greens_of d p ≡ greens_of c p
   greens-kept st m at is same = greens-same c p i may n (ap (λ (x : Replica). x.held.queue.greens) (turn-now st m at is) ∙ same)

@@ -17,10 +17,10 @@ use Rattle.cg_client.specs.Replica.{State, RegPrim, TransPrim, ExchangeStates, E
 use Rattle.cg_client.specs.Turn.{Turn, begin}
 use Rattle.cg_client.specs.Requests.{settle, is_creating, create, create_kept, empty_buffer, request_in, request}
 use Rattle.cg_client.specs.Summary.{summary_of}
-use Rattle.cg_stored.specs.Stored.{stored_of, whiten}
+use Rattle.cg_disk_records.specs.Stored.{stored_of, whiten}
 use Rattle.cg_commit.specs.Crash.{Disk, new_disk, at_rest, recovered, disk_recovered}
-use Rattle.cg_model.specs.World.{Life, Up, Down, Seat, running, Snapshot, World, seat_of, replica_of, has_begun, is_left}
-use Rattle.cg_model.specs.Step.{begin_replica, joined}
+use Rattle.cg_model.specs.World.{NodeState, Up, Down, Node, running, TransferState, World, node_of, replica_of, has_begun, is_left}
+use Rattle.cg_model.specs.Step.{begin_replica, joiner_replica}
 use Rattle.cg_model.specs.Chronicle.{Past, Told, Chronicle, no_chronicle}
 use Rattle.cg_model.specs.Fronts.{IsSomeWith}
 use Rattle.cg_model.specs.Looks.{conf_of, past_of, greens_of, told_in, is_regular_at, is_regular_in, copied_for}
@@ -38,12 +38,12 @@ use Rattle.cg_agree_lemmas.specs.EntryGreens.{entry-greens, nothing-new}
 use Rattle.cg_agree_lemmas.specs.ExchangeStill.{ProgressAt, ToldStays, StaysAs, HaveNames, progress-still, OneMoves, one-kept, all-kept}
 use Rattle.cg_agree_lemmas.specs.GroupKept.{leaving-regular}
 use Rattle.cg_agree_lemmas.specs.GroupSound.{phase-made, same-where_member, member-of}
-use Rattle.cg_agree_lemmas.specs.HandsKept.{seated}
+use Rattle.cg_agree_lemmas.specs.HandsKept.{hosted}
 use Rattle.cg_agree_lemmas.specs.HandsNow.{hands-regular}
 use Rattle.cg_agree_lemmas.specs.ModeHeld.{SameLists, lists-settle, lists-request}
 use Rattle.cg_agree_lemmas.specs.NextThere.{orders-now, receives-now}
 use Rattle.cg_agree_lemmas.specs.OneStands.{stands-refl, stands-up, stands-down}
-use Rattle.cg_agree_lemmas.specs.OneSteps.{turns-step, hands-step, leaves-step, enters-step, may-join, seat-there}
+use Rattle.cg_agree_lemmas.specs.OneSteps.{turns-step, hands-step, leaves-step, enters-step, may-join, node-there}
 use Rattle.cg_agree_lemmas.specs.OneselfWorld.{HavePasts}
 use Rattle.cg_agree_lemmas.specs.OrdersTalk.{handed-same}
 use Rattle.cg_agree_lemmas.specs.OrdersWorld.{ordered-step, step-is, behind}
@@ -92,24 +92,24 @@ greens-request t kind = at t.replica.state where
 -- ---- what a turn leaves of the others, and makes of its replica
 
 pub greens-turning : (c : Chronicle) (p : ℕ) (part : Turn → Turn) (q : ℕ) → (q == p) ≡ false → greens_of (turning c p part) q ≡ greens_of c q
-greens-turning c p part q other = at (seat_of c.world p) where
-  life : (l : Life) → greens_of (turning_as c p part l) q ≡ greens_of c q
+greens-turning c p part q other = at (node_of c.world p) where
+  life : (l : NodeState) → greens_of (turning_as c p part l) q ≡ greens_of c q
   life (Up r disk) = greens_of-other c p r disk (part (begin r)) q (eqb-false q p other)
   life (Down disk green) = refl
 
-  at : (o : Option Seat) → greens_of (option_map_or (λ s. turning_as c p part s.life) o c) q ≡ greens_of c q
+  at : (o : Option Node) → greens_of (option_map_or (λ s. turning_as c p part s.life) o c) q ≡ greens_of c q
   at None = refl
   at (Some s) = life s.life
 
-module _ (c : Chronicle) (p : ℕ) (part : Turn → Turn) (r : Replica) (disk : Disk) (seat : seat_of c.world p ≡ Some (record { id = p; life = Up r disk })) where
+module _ (c : Chronicle) (p : ℕ) (part : Turn → Turn) (r : Replica) (disk : Disk) (node : node_of c.world p ≡ Some (record { id = p; life = Up r disk })) where
   pub replica-behind : replica_of (turning c p part).world p ≡ Some (part (begin r)).replica
   replica-behind =
-      ap (λ (x : Chronicle). replica_of x.world p) (turn-is c p part r disk seat) ∙ replica-set c.world p (Up (part (begin r)).replica disk) p
+      ap (λ (x : Chronicle). replica_of x.world p) (turn-is c p part r disk node) ∙ replica-set c.world p (Up (part (begin r)).replica disk) p
       ∙ cond-true (p == p) (Some (part (begin r)).replica) (replica_of c.world p) (eq-eqb p p refl)
 
   pub greens-behind : HavePasts c → (part (begin r)).replica.held.queue.greens ≡ r.held.queue.greens → greens_of (turning c p part) p ≡ greens_of c p
   greens-behind pasts same =
-      ap (λ (x : Chronicle). greens_of x p) (turn-is c p part r disk seat) ∙ greens-turn c p r disk (part (begin r)) pasts seat
+      ap (λ (x : Chronicle). greens_of x p) (turn-is c p part r disk node) ∙ greens-turn c p r disk (part (begin r)) pasts node
       ∙ ap (λ xs. greens_of c p ++ xs) (nothing-new r (part (begin r)).replica same) ∙ append-nil (greens_of c p)
 
 pub stays-told : (c d : Chronicle) → d.told ≡ c.told → ToldStays c d
@@ -128,7 +128,7 @@ module _ (c : Chronicle) (i : Invariant c) where
   old = i.exchange.exchange_progress
 
   pasts : HavePasts c
-  pasts = i.net.seated.past
+  pasts = i.net.hosted.past
 
   -- a replica that stands as before, and holds the same
   even-kept : (d : Chronicle) (p : ℕ) → OneMoves c d p (phase_of c.world.group p) (delivered_to c.world.group p) (is_up c.world.group p) →
@@ -145,9 +145,9 @@ module _ (c : Chronicle) (i : Invariant c) where
       ((t : Turn) → ((part t).replica.state ≡ t.replica.state) × SameValues t.replica.held (part t).replica.held × SameLists t.replica.held (part t).replica.held) →
       ((t : Turn) → (part t).replica.held.queue.greens ≡ t.replica.held.queue.greens) → ExchangeProgress (turning c p part)
   turn-kept p part runs told even queue =
-      let sits = seated c.world p runs in
+      let sits = hosted c.world p runs in
       let r = sits.replica in
-      let up : replica_of c.world p ≡ Some r = ap (λ (o : Option Seat). option_and_then (λ s. running s.life) o) sits.seat in
+      let up : replica_of c.world p ≡ Some r = ap (λ (o : Option Node). option_and_then (λ s. running s.life) o) sits.node in
       even-kept (turning c p part) p
       (record {
         stands = (turns-step c p part i.net.phase_sound).stands;
@@ -156,8 +156,8 @@ module _ (c : Chronicle) (i : Invariant c) where
         greens = λ q other. greens-turning c p part q other;
       })
       (subst (λ (o : Option Replica). StaysAs o (replica_of (turning c p part).world p)) (sym up)
-      (subst (StaysAs (Some r)) (sym (replica-behind c p part r sits.disk sits.seat)) (even (begin r))))
-      (greens-behind c p part r sits.disk sits.seat pasts (queue (begin r)))
+      (subst (StaysAs (Some r)) (sym (replica-behind c p part r sits.disk sits.node)) (even (begin r))))
+      (greens-behind c p part r sits.disk sits.node pasts (queue (begin r)))
 
   -- one replica is in no regular phase
   out-kept : (d : Chronicle) (p : ℕ) (now : Phase) (n : ℕ) (up : Bool) → ((conf : ℕ) → is_regular_at conf now ≡ false) → OneMoves c d p now n up → ExchangeProgress d
@@ -227,8 +227,8 @@ module _ (c : Chronicle) (i : Invariant c) where
       let told : told_in d conf p ≡ Some one = told_in-enters c p n conf p
       ∙ cond-true ((conf == newest_conf c.world.group) && (p == p)) (Some one) (told_in c conf p)
       (and_from (conf == newest_conf c.world.group) (p == p) (eq-eqb conf (newest_conf c.world.group) (sym (eqb-true (newest_conf c.world.group) conf here))) (eq-eqb p p refl)) in
-      let greens : greens_of d p ≡ greens_of c p = greens-behind (coming c p) p part n.replica n.disk n.seat pasts (entry-greens c.world.group n.replica n.between) in
-      let up : replica_of d.world p ≡ Some u.replica = replica-behind (coming c p) p part n.replica n.disk n.seat in
+      let greens : greens_of d p ≡ greens_of c p = greens-behind (coming c p) p part n.replica n.disk n.node pasts (entry-greens c.world.group n.replica n.between) in
+      let up : replica_of d.world p ≡ Some u.replica = replica-behind (coming c p) p part n.replica n.disk n.node in
       let still : IsUnmoved one u.replica.held (greens_of c p) = record {
         holds = record { prim = refl; attempt_index = refl; vulnerable = refl; yellow_valid = refl };
         yellow = refl;
@@ -274,14 +274,14 @@ module _ (c : Chronicle) (i : Invariant c) where
   commits-kept : (p : ℕ) → may_make c (Commits p) ≡ true → ExchangeProgress (small_step c (Commits p))
   unfolding may_make small_step whiten
   commits-kept p may =
-      let sits = seated c.world p may in
+      let sits = hosted c.world p may in
       let r = sits.replica in
       let d = commit_as c p (Up r sits.disk) in
       let new : Replica = record r { held = whiten r.held } in
-      let life : Life = Up new (record sits.disk { content = stored_of (whiten r.held) }) in
-      let up : replica_of c.world p ≡ Some r = ap (λ (o : Option Seat). option_and_then (λ s. running s.life) o) sits.seat in
+      let life : NodeState = Up new (record sits.disk { content = stored_of (whiten r.held) }) in
+      let up : replica_of c.world p ≡ Some r = ap (λ (o : Option Node). option_and_then (λ s. running s.life) o) sits.node in
       let now : replica_of d.world p ≡ Some new = replica-set c.world p life p ∙ cond-true (p == p) (Some new) (replica_of c.world p) (eq-eqb p p refl) in
-      subst ExchangeProgress (sym (ap (λ (o : Option Seat). option_map_or (λ s. commit_as c p s.life) o c) sits.seat))
+      subst ExchangeProgress (sym (ap (λ (o : Option Node). option_map_or (λ s. commit_as c p s.life) o c) sits.node))
       (even-kept d p
       (record {
         stands = stands-refl c.world.group p;
@@ -299,9 +299,9 @@ module _ (c : Chronicle) (i : Invariant c) where
   crashes-kept : (p : ℕ) → may_make c (Crashes p) ≡ true → ExchangeProgress (small_step c (Crashes p))
   unfolding may_make small_step
   crashes-kept p may =
-      let sits = seated c.world p may in
+      let sits = hosted c.world p may in
       let d = crash_as c p (Up sits.replica sits.disk) in
-      subst ExchangeProgress (sym (ap (λ (o : Option Seat). option_map_or (λ s. crash_as c p s.life) o c) sits.seat))
+      subst ExchangeProgress (sym (ap (λ (o : Option Node). option_map_or (λ s. crash_as c p s.life) o c) sits.node))
       (out-kept d p DownPhase 0 false (λ conf. refl)
       (record {
         stands = stands-down c.world.group p;
@@ -313,13 +313,13 @@ module _ (c : Chronicle) (i : Invariant c) where
   recovers-kept : (p : ℕ) → may_make c (Recovers p) ≡ true → ExchangeProgress (small_step c (Recovers p))
   unfolding may_make small_step
   recovers-kept p may =
-      let sits = seat-there c p (and_parts (has_begun c.world p) (not (is_running c p)) may).0 in
-      subst (λ (o : Option Seat). ExchangeProgress (option_map_or (λ s. recover_as c s.life) o c)) (sym sits.there) (life sits.seat.life) where
-        life : (l : Life) → ExchangeProgress (recover_as c l)
+      let sits = node-there c p (and_parts (has_begun c.world p) (not (is_running c p)) may).0 in
+      subst (λ (o : Option Node). ExchangeProgress (option_map_or (λ s. recover_as c s.life) o c)) (sym sits.there) (life sits.node.life) where
+        life : (l : NodeState) → ExchangeProgress (recover_as c l)
         life (Up r disk) = old
         life (Down disk green) =
             let me = (recovered disk).held.id in
-            let l : Life = Up (recovered disk) (disk_recovered disk) in
+            let l : NodeState = Up (recovered disk) (disk_recovered disk) in
             out-kept (recover_as c (Down disk green)) me Alone 0 true (λ conf. refl)
             (record {
               stands = stands-up c.world.group me;
@@ -339,11 +339,11 @@ module _ (c : Chronicle) (i : Invariant c) where
   unfolding may_make small_step
   joins-kept joiner may =
       let one = may-join c joiner may in
-      let r = joined joiner one.snapshot.content in
-      let life : Life = Up r (new_disk r.held) in
+      let r = joiner_replica joiner one.snapshot.content in
+      let life : NodeState = Up r (new_disk r.held) in
       let begun = new_past (copied_for c joiner) joiner in
       let absent : past_of c joiner ≡ None = none-of (past_of c joiner) (pasts joiner ∙ one.fresh) in
-      subst (λ (o : Option Snapshot). ExchangeProgress (option_map_or (λ s. join_with c joiner s.content) o c)) (sym one.there)
+      subst (λ (o : Option TransferState). ExchangeProgress (option_map_or (λ s. join_with c joiner s.content) o c)) (sym one.there)
       (out-kept (join_with c joiner one.snapshot.content) joiner Alone 0 true (λ conf. refl)
       (record {
         stands = stands-up c.world.group joiner;
@@ -378,7 +378,7 @@ HandsProgress c _ = Unit {0}
 -- Each small step keeps what members hold in exchanges, where that member does.
 pub exchange_progress-where : (c : Chronicle) (s : Small) → Invariant c → may_make c s ≡ true → HandsProgress c s → ExchangeProgress (small_step c s)
 unfolding small_step may_make
-exchange_progress-where c (Starts set) i may own = starts-kept c set (nothing-before c i.net.seated (and_parts (is_nil c.world.seats) (is_set (ids set)) may).0)
+exchange_progress-where c (Starts set) i may own = starts-kept c set (nothing-before c i.net.hosted (and_parts (is_nil c.world.nodes) (is_set (ids set)) may).0)
 exchange_progress-where c (Makes set) i may own = makes-kept c i set
 exchange_progress-where c (Enters p) i may own = enters-kept c i p may
 exchange_progress-where c (Orders p) i may own = orders-kept c i p may

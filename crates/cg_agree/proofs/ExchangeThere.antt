@@ -10,10 +10,10 @@ use Rattle.cg_action.specs.declared.action.Action.{Action}
 use Rattle.cg_queue.specs.Queue.{names_of, Marks, Gaps, placed_red, marked_red}
 use Rattle.cg_queue.specs.declared.mark.Mark.TheVariants.{Placed, Known}
 use Rattle.cg_knowledge.specs.declared.summary.Summary.{Summary}
-use Rattle.cg_knowledge.specs.Members.{senders, gone, remaining, leads, leader, most_updated}
+use Rattle.cg_knowledge.specs.Summaries.{senders, gone, remaining, leads, leader, most_updated}
 use Rattle.cg_plan.specs.declared.parts.Item.{Item}
 use Rattle.cg_plan.specs.declared.parts.Item.TheVariants.{Green, Red}
-use Rattle.cg_plan.specs.declared.parts.Sent.{Sent as PlanSent}
+use Rattle.cg_plan.specs.declared.parts.SentItem.{SentItem as PlanSent}
 use Rattle.cg_plan.specs.Items.{items_of_plan}
 use Rattle.cg_plan.specs.contracts.parts.ItemPartialEq.TheImpl.{ghosts as same_item}
 use Rattle.cg_plan.specs.Plan.{least_greens, plan_of}
@@ -28,7 +28,7 @@ use Rattle.cg_client.specs.Replica.{Held, ExchangeStates, ExchangeActions, Repli
 use Rattle.cg_client.specs.Turn.{Turn, begin}
 use Rattle.cg_client.specs.Marks.{is_unmade, marked, mark_red, can_be_green, place_green, mark_green}
 use Rattle.cg_exchange.specs.ExchangeActions.{progress, mark_item, take_item}
-use Rattle.cg_model.specs.World.{Seat, Life, Up, Down, seat_of, replica_of, running}
+use Rattle.cg_model.specs.World.{Node, NodeState, Up, Down, node_of, replica_of, running}
 use Rattle.cg_model.specs.Attempts.{held_in}
 use Rattle.cg_model.specs.Chronicle.{Told, Chronicle}
 use Rattle.cg_model.specs.Looks.{greens_of, told_in, core_of, is_regular_at, is_regular_in, members_in, ordered_in}
@@ -173,16 +173,16 @@ module _ (c : Chronicle) (p : ℕ) (i : Invariant c) (conf : ℕ) (r : Replica) 
 
   -- it is up
   pub up : core_of c p ≡ Some r.held
-  up = at (seat_of c.world p) refl where
-    life : (l : Life) → running l ≡ Some r → held_in l ≡ r.held
+  up = at (node_of c.world p) refl where
+    life : (l : NodeState) → running l ≡ Some r → held_in l ≡ r.held
     life (Up x disk) e = ap (λ (o : Option Replica). option_map_or (λ y. y.held) o r.held) e
     life (Down disk green) e = absurd (let clash : None ≡ Some r = e in cc)
 
-    at : (o : Option Seat) → seat_of c.world p ≡ o → core_of c p ≡ Some r.held
-    at None e = absurd (let clash : None ≡ Some r = sym (ap (λ (o : Option Seat). option_and_then (λ s. running s.life) o) e) ∙ runs in cc)
+    at : (o : Option Node) → node_of c.world p ≡ o → core_of c p ≡ Some r.held
+    at None e = absurd (let clash : None ≡ Some r = sym (ap (λ (o : Option Node). option_and_then (λ s. running s.life) o) e) ∙ runs in cc)
     at (Some x) e =
-        ap (λ (o : Option Seat). option_map (λ s. held_in s.life) o) e
-        ∙ ap Some (life x.life (sym (ap (λ (o : Option Seat). option_and_then (λ s. running s.life) o) e) ∙ runs))
+        ap (λ (o : Option Node). option_map (λ s. held_in s.life) o) e
+        ∙ ap Some (life x.life (sym (ap (λ (o : Option Node). option_and_then (λ s. running s.life) o) e) ∙ runs))
 
   -- what it told, and what it still holds of it
   pub record InExchange : Type 0 where

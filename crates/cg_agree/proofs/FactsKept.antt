@@ -42,7 +42,7 @@ pub replica-now : (c : Chronicle) (s : Small) → Invariant c → may_make c s �
 replica-now c s i may rest order = record {
   cores = cores-kept-all c s i may;
   mode_data = mode_data-kept c s i may;
-  disk_behind = disk_behind-kept c s i.net.seated may i.replica.disk_behind;
+  disk_behind = disk_behind-kept c s i.net.hosted may i.replica.disk_behind;
   made_once = made_once-now c s i may rest;
   origins = origins-now c s i may rest;
   lines_below = lines_below-now c s i may rest order;

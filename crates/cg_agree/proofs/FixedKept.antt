@@ -16,7 +16,7 @@ use Rattle.cg_model.specs.World.{World, has_begun}
 use Rattle.cg_model.specs.Step.{begin_replica}
 use Rattle.cg_model.specs.Chronicle.{Chronicle}
 use Rattle.cg_model.specs.Looks.{conf_of, is_regular_at, is_regular_in, ordered_in}
-use Rattle.cg_model.specs.FactsNet.{ReceiptsFixed, Seated}
+use Rattle.cg_model.specs.FactsNet.{ReceiptsFixed, Hosted}
 use Rattle.cg_model.specs.Small.{Small, Starts, Makes, Enters, Orders, Receives, Hands, Leaves, Asks, Settles, Commits, Crashes, Recovers, Copies, Joins, small_step, make_configuration, take_request}
 use Rattle.cg_model.specs.Smalls.{may_make, is_running}
 use Rattle.cg_agree_lemmas.specs.GroupKept.{begins-step, orders-conf, receives-conf, leaving-regular}
@@ -57,34 +57,34 @@ pub confs-begun : (c : Chronicle) (set : List Weighted) (replicas : List ℕ) (w
 confs-begun c set [] w k = refl
 confs-begun c set (p ∷ replicas) w k = confs-begun c set replicas (begin_replica set w p) k ∙ (begins-step c set w p).stands.conf k
 
-receipts-same : (c : Chronicle) (s : Small) → Seated c → may_make c s ≡ true → GroupSound c → ReceiptsSame c (small_step c s)
+receipts-same : (c : Chronicle) (s : Small) → Hosted c → may_make c s ≡ true → GroupSound c → ReceiptsSame c (small_step c s)
 unfolding small_step may_make
-receipts-same c (Starts set) seats m old = λ k q place some out. ap (λ (x : Configuration Msg). has_received x q place) (confs-begun c set (ids set) c.world k)
-receipts-same c (Makes set) seats m old = λ k q place some out.
+receipts-same c (Starts set) nodes m old = λ k q place some out. ap (λ (x : Configuration Msg). has_received x q place) (confs-begun c set (ids set) c.world k)
+receipts-same c (Makes set) nodes m old = λ k q place some out.
     ap (λ (x : Configuration Msg). has_received x q place) (made-said c set k some)
-receipts-same c (Enters p) seats m old = same-one c _ p _ 0 true (enters-step c p old.phases (may-enter c p m).comes)
-receipts-same c (Orders p) seats m old =
+receipts-same c (Enters p) nodes m old = same-one c _ p _ 0 true (enters-step c p old.phases (may-enter c p m).comes)
+receipts-same c (Orders p) nodes m old =
     let next = orders-now c p old.phases (λ k. (old.confs k).places) m in
     same-grown c _ next.conf p (with_message (conf_of c next.conf) p next.message) (orders-conf c p next.conf next.stands next.message next.rest next.at)
     (Grows-message (conf_of c next.conf) p next.message (old.confs next.conf).places) (orders-phase c p next.conf next.stands next.message next.rest next.at)
-receipts-same c (Receives p place) seats m old =
+receipts-same c (Receives p place) nodes m old =
     let next = receives-now c p place old.phases m in
     same-grown c _ next.conf p (with_receipt (conf_of c next.conf) p place) (receives-conf c p place next)
     (Grows-receipt (conf_of c next.conf) p place next.above next.within (old.confs next.conf).places) next.regular
-receipts-same c (Hands p) seats m old = same-one c _ p _ _ true (hands-step c p old.phases (and_parts _ _ m).0)
-receipts-same c (Leaves p set own places) seats m old = same-one c _ p _ own true (leaves-step c p set own places old.phases (leaving-regular c p set own places m))
-receipts-same c (Asks p kind) seats m old = same-one c _ p _ _ _ (turns-step c p (take_request kind) old.phases)
-receipts-same c (Settles p) seats m old = same-one c _ p _ _ _ (turns-step c p settle old.phases)
-receipts-same c (Commits p) seats m old = same-one c _ p _ _ _ (commits-step c p old.phases)
-receipts-same c (Crashes p) seats m old = same-one c _ p Down 0 false (crashes-step c p m)
-receipts-same c (Recovers p) seats m old =
+receipts-same c (Hands p) nodes m old = same-one c _ p _ _ true (hands-step c p old.phases (and_parts _ _ m).0)
+receipts-same c (Leaves p set own places) nodes m old = same-one c _ p _ own true (leaves-step c p set own places old.phases (leaving-regular c p set own places m))
+receipts-same c (Asks p kind) nodes m old = same-one c _ p _ _ _ (turns-step c p (take_request kind) old.phases)
+receipts-same c (Settles p) nodes m old = same-one c _ p _ _ _ (turns-step c p settle old.phases)
+receipts-same c (Commits p) nodes m old = same-one c _ p _ _ _ (commits-step c p old.phases)
+receipts-same c (Crashes p) nodes m old = same-one c _ p Down 0 false (crashes-step c p m)
+receipts-same c (Recovers p) nodes m old =
     let parts = and_parts (has_begun c.world p) (not (is_running c p)) m in
-    same-one c _ p Alone 0 true (recovers-step c p seats parts.0 (not-true (is_running c p) parts.1))
-receipts-same c (Copies p joiner) seats m old = same-one c _ p _ _ _ (copies-step c p joiner old.phases)
-receipts-same c (Joins joiner) seats m old = same-one c _ joiner Alone 0 true (joins-step c joiner (may-join c joiner m))
+    same-one c _ p Alone 0 true (recovers-step c p nodes parts.0 (not-true (is_running c p) parts.1))
+receipts-same c (Copies p joiner) nodes m old = same-one c _ p _ _ _ (copies-step c p joiner old.phases)
+receipts-same c (Joins joiner) nodes m old = same-one c _ joiner Alone 0 true (joins-step c joiner (may-join c joiner m))
 
-pub receipts_fixed-kept : (c : Chronicle) (s : Small) → Seated c → may_make c s ≡ true → GroupSound c → ReceiptsFixed c (small_step c s)
-receipts_fixed-kept c s seats may old = record {
-  receipts = receipts-same c s seats may old;
+pub receipts_fixed-kept : (c : Chronicle) (s : Small) → Hosted c → may_make c s ≡ true → GroupSound c → ReceiptsFixed c (small_step c s)
+receipts_fixed-kept c s nodes may old = record {
+  receipts = receipts-same c s nodes may old;
   stays_out = λ conf p some out. (goes_on-kept conf c s old.phases (inside-of c old) may some).stays p out;
 }

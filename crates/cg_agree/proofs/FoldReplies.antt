@@ -17,10 +17,10 @@ use Rattle.cg_report.specs.declared.entry.Reply.{Reply}
 use Rattle.cg_client.specs.Replica.{Replica, created}
 use Rattle.cg_client.specs.Turn.{Turn}
 use Rattle.cg_client.specs.Marks.{is_first, after_owed, reply_to, given_to}
-use Rattle.cg_step.specs.Step.{replica_step}
-use Rattle.cg_commit.specs.Crash.{Disk, Ended, Runs, Crashes, end_event}
-use Rattle.cg_model.specs.World.{Seat, World, has_begun, running, seat_of, replica_of}
-use Rattle.cg_model.specs.Show.{Going}
+use Rattle.cg_replica_step.specs.Step.{replica_step}
+use Rattle.cg_commit.specs.Crash.{Disk, EventEnd, Runs, Crashes, end_event}
+use Rattle.cg_model.specs.World.{Node, World, has_begun, running, node_of, replica_of}
+use Rattle.cg_model.specs.Show.{StepInProgress}
 use Rattle.cg_model.specs.Step.{happens}
 use Rattle.cg_model.specs.Run.{Step}
 use Rattle.cg_model.specs.Shown.{order_of, made_action, made_actions, position_of}
@@ -121,7 +121,7 @@ named-back (x ∷ xs) ys id none there = at (same_id id x) none there (λ first.
   at false off on again = again off on
 
 -- the replica that runs on
-abbrev replica_in : Ended → Replica → Replica
+abbrev replica_in : EventEnd → Replica → Replica
 replica_in (Runs x disk) other = x
 replica_in (Crashes disk green) other = other
 
@@ -134,7 +134,7 @@ module _ (always : AlwaysHolds) (earlier : List Step) (s : Step) (is : IsStepAt 
   abbrev w : World
   w = world_of earlier
 
-  abbrev h : Going
+  abbrev h : StepInProgress
   h = happens w s.event
 
   abbrev c : Chronicle
@@ -212,11 +212,11 @@ module _ (always : AlwaysHolds) (earlier : List Step) (s : Step) (is : IsStepAt 
         (λ lost disk green content x y e. absurd (let clash : Crashes disk green ≡ Runs x y = e in cc))
 
     before-up : replica_of w p ≡ Some turn.replica
-    before-up = ap (λ (o : Option Seat). option_and_then (λ s. running s.life) o) turn.before
+    before-up = ap (λ (o : Option Node). option_and_then (λ s. running s.life) o) turn.before
 
     there : has_begun c.world p ≡ true
-    there = at (seat_of c.world p) (sym (before.stands.same.running p) ∙ before-up) where
-      at : (o : Option Seat) → option_and_then (λ s. running s.life) o ≡ Some turn.replica → is_some o ≡ true
+    there = at (node_of c.world p) (sym (before.stands.same.running p) ∙ before-up) where
+      at : (o : Option Node) → option_and_then (λ s. running s.life) o ≡ Some turn.replica → is_some o ≡ true
       at None e = absurd (let clash : None ≡ Some turn.replica = e in cc)
       at (Some x) e = refl
 
@@ -225,11 +225,11 @@ module _ (always : AlwaysHolds) (earlier : List Step) (s : Step) (is : IsStepAt 
         let of_owed = was always earlier s is owed p turn in
         let tells_so = says always earlier s is owed p turn in
         let up : replica_of (world_of now) p ≡ Some x =
-        runs-now always earlier s is owed p ∙ ap (λ (o : Option Seat). option_and_then (λ s. running s.life) o) turn.behind ∙ ap (λ z. running (life_at z)) e in
+        runs-now always earlier s is owed p ∙ ap (λ (o : Option Node). option_and_then (λ s. running s.life) o) turn.behind ∙ ap (λ z. running (life_at z)) e in
         let told : SaidOnly h p (names_of t.made) t.replies = subst (λ z. SaidOnly h p (made_by t z) (replies_by t z)) e turn.said in
         let same = ended-created x disk e in
         let through_smalls = event-runs c w before.stands p turn.input s.event is.may is.admitted turn.of
-        (record { replica = turn.replica; disk = turn.disk; seat = turn.before; new = x; new_disk = disk; ends = e }) in
+        (record { replica = turn.replica; disk = turn.disk; node = turn.before; new = x; new_disk = disk; ends = e }) in
         record {
           old = turn.replica;
           new = x;
@@ -240,7 +240,7 @@ module _ (always : AlwaysHolds) (earlier : List Step) (s : Step) (is : IsStepAt 
           says = tells_so;
           low = of_owed.owing.low;
           greens = ap (λ (y : Chronicle). greens_of y p) is.chronicle
-              ∙ greens-through c w (smalls_in w s.event) p turn.replica t tells_so.answered.more before.stands.same (before.stands.facts.net.seated.past p ∙ there)
+              ∙ greens-through c w (smalls_in w s.event) p turn.replica t tells_so.answered.more before.stands.same (before.stands.facts.net.hosted.past p ∙ there)
               (sym (before.stands.same.running p) ∙ before-up) tells_so.answered.greens through_smalls;
           said = told;
           lives = turned-lives always earlier s is owed p turn x up same told;
@@ -251,12 +251,12 @@ module _ (always : AlwaysHolds) (earlier : List Step) (s : Step) (is : IsStepAt 
     crashed disk green e = record {
       made = [];
       said = subst (λ z. SaidOnly h p (made_by t z) (replies_by t z)) e turn.said;
-      undue = λ less. down-undue p (runs-now always earlier s is owed p ∙ ap (λ (o : Option Seat). option_and_then (λ s. running s.life) o) turn.behind ∙ ap (λ z. running (life_at z)) e);
+      undue = λ less. down-undue p (runs-now always earlier s is owed p ∙ ap (λ (o : Option Node). option_and_then (λ s. running s.life) o) turn.behind ∙ ap (λ z. running (life_at z)) e);
     }
 
     turn-outcome : IsQuiet p ⊎ IsTurned p
     turn-outcome = at (end_event turn.disk turn.replica.held t) refl where
-      at : (e : Ended) → end_event turn.disk turn.replica.held t ≡ e → IsQuiet p ⊎ IsTurned p
+      at : (e : EventEnd) → end_event turn.disk turn.replica.held t ≡ e → IsQuiet p ⊎ IsTurned p
       at (Runs x disk) e = inr (turned x disk e)
       at (Crashes disk green) e = inl (crashed disk green e)
 
@@ -265,7 +265,7 @@ module _ (always : AlwaysHolds) (earlier : List Step) (s : Step) (is : IsStepAt 
     at : Meets w s.event h p → IsQuiet p ⊎ IsTurned p
     at (Stays kept said) = inl (stays-quiet p kept said)
     at (Turns turn) = turn-outcome p turn
-    at (Falls x) = inl (record { made = []; said = x.said; undue = λ less. down-undue p (runs-now always earlier s is owed p ∙ ap (λ (o : Option Seat). option_and_then (λ s. running s.life) o) x.seat) })
+    at (Falls x) = inl (record { made = []; said = x.said; undue = λ less. down-undue p (runs-now always earlier s is owed p ∙ ap (λ (o : Option Node). option_and_then (λ s. running s.life) o) x.node) })
     at (Wakes x) = inl (record {
       made = x.made;
       said = x.said;

@@ -13,13 +13,13 @@ use Rattle.cg_client.specs.Turn.{Turn, begin}
 use Rattle.cg_client.specs.Requests.{is_creating, create, create_kept, empty_buffer, buffer, settle, request_in}
 use Rattle.cg_action.specs.declared.action.Kind.{Kind}
 use Rattle.cg_commit.specs.Crash.{Disk}
-use Rattle.cg_model.specs.World.{Life, Up, Down, Seat, World, running, seat_of, replica_of}
+use Rattle.cg_model.specs.World.{NodeState, Up, Down, Node, World, running, node_of, replica_of}
 use Rattle.cg_model.specs.Chronicle.{Past, Chronicle}
 use Rattle.cg_model.specs.Looks.{past_of, greens_of}
 use Rattle.cg_model.specs.Small.{Small, Starts, Makes, Enters, Orders, Receives, Hands, Leaves, Asks, Settles, Commits, Crashes, Recovers, Copies, Joins, newly_green, with_greens, after_turn, turning, turning_as, take_newest, take_next, take_parting, take_request, newest_conf, coming, handed_next, leaving, small_step}
 use Rattle.cg_model.specs.Noting.{played}
 use Rattle.cg_model.specs.Played.{IsSame}
-use Rattle.cg_agree_lemmas.specs.ChronicleFacts.{seat_of-set, past_of-turn}
+use Rattle.cg_agree_lemmas.specs.ChronicleFacts.{node_of-set, past_of-turn}
 use Rattle.cg_agree_lemmas.specs.SameSmalls.{played-same}
 use Rattle.cg_agree_lemmas.specs.SmallWorlds.{played_in, played-world}
 use Rattle.cg_agree_lemmas.specs.GreenMembers.{FollowsGreens, follows-first, follows-same, takes-follow, creates-same}
@@ -76,27 +76,27 @@ module _ (all kept : List Action) (p : ℕ) where
       let was : r.held.queue.greens ≡ kept ++ is.more = subst (λ (o : Option Replica). IfSome o (λ r. r.held.queue.greens ≡ kept ++ is.more)) runs is.held in
       let new : newly_green r t.replica ≡ follows.more = ap (drop (length r.held.queue.greens)) follows.greens ∙ drop-front r.held.queue.greens follows.more in
       let d = after_turn c p r disk t in
-      let seat : seat_of d.world p ≡ Some (record { id = p; life = Up t.replica disk }) =
-      seat_of-set c.world p (Up t.replica disk) p ∙ cond-true (p == p) (Some (let s : Seat = record { id = p; life = Up t.replica disk } in s)) (seat_of c.world p) (eq-eqb p p refl) in
+      let node : node_of d.world p ≡ Some (record { id = p; life = Up t.replica disk }) =
+      node_of-set c.world p (Up t.replica disk) p ∙ cond-true (p == p) (Some (let s : Node = record { id = p; life = Up t.replica disk } in s)) (node_of c.world p) (eq-eqb p p refl) in
       record {
         past = with_greens (newly_green r t.replica) is.past;
         found = past_of-turn c p r disk t p ∙ cond-true (p == p) (option_map (with_greens (newly_green r t.replica)) (past_of c p)) (past_of c p) (eq-eqb p p refl)
             ∙ ap (option_map (with_greens (newly_green r t.replica))) is.found;
         more = is.more ++ follows.more;
         greens = ap (λ xs. is.past.greens ++ xs) new ∙ ap (λ xs. xs ++ follows.more) is.greens ∙ append_assoc all is.more follows.more;
-        held = subst (λ (o : Option Replica). IfSome o (λ r. r.held.queue.greens ≡ kept ++ (is.more ++ follows.more))) (sym (ap (λ (o : Option Seat). option_and_then (λ s. running s.life) o) seat))
+        held = subst (λ (o : Option Replica). IfSome o (λ r. r.held.queue.greens ≡ kept ++ (is.more ++ follows.more))) (sym (ap (λ (o : Option Node). option_and_then (λ s. running s.life) o) node))
             (follows.greens ∙ ap (λ xs. xs ++ follows.more) was ∙ append_assoc kept is.more follows.more);
       }
 
   ahead-turning : (c : Chronicle) (part : Turn → Turn) → MakesGreen part → IsAhead all kept c p → IsAhead all kept (turning c p part) p
-  ahead-turning c part grows is = at (seat_of c.world p) refl where
-    life : (l : Life) → replica_of c.world p ≡ running l → IsAhead all kept (turning_as c p part l) p
+  ahead-turning c part grows is = at (node_of c.world p) refl where
+    life : (l : NodeState) → replica_of c.world p ≡ running l → IsAhead all kept (turning_as c p part l) p
     life (Up r disk) runs = ahead-turn c r disk part grows runs is
     life (Down disk green) runs = is
 
-    at : (o : Option Seat) → seat_of c.world p ≡ o → IsAhead all kept (option_map_or (λ s. turning_as c p part s.life) o c) p
+    at : (o : Option Node) → node_of c.world p ≡ o → IsAhead all kept (option_map_or (λ s. turning_as c p part s.life) o c) p
     at None e = is
-    at (Some s) e = life s.life (ap (λ (o : Option Seat). option_and_then (λ s. running s.life) o) e)
+    at (Some s) e = life s.life (ap (λ (o : Option Node). option_and_then (λ s. running s.life) o) e)
 
   -- the same replica and the same past
   ahead-same : (c d : Chronicle) → past_of d p ≡ past_of c p → replica_of d.world p ≡ replica_of c.world p → IsAhead all kept c p → IsAhead all kept d p
@@ -139,7 +139,7 @@ module _ (all kept : List Action) (p : ℕ) where
   ahead-others [] keeps c is = is
   ahead-others (s ∷ smalls) keeps c is =
       let one = keeps.0 c in
-      ahead-others smalls keeps.1 (small_step c s) (ahead-same c (small_step c s) one.past (ap (λ (o : Option Seat). option_and_then (λ s. running s.life) o) one.seat) is)
+      ahead-others smalls keeps.1 (small_step c s) (ahead-same c (small_step c s) one.past (ap (λ (o : Option Node). option_and_then (λ s. running s.life) o) one.node) is)
 
 played-both : (xs ys : List Small) (c : Chronicle) → played c (xs ++ ys) ≡ played (played c xs) ys
 played-both [] ys c = refl

@@ -13,7 +13,7 @@ use Rattle.cg_group.specs.State.{home, regular_in, configuration}
 use Rattle.cg_client.specs.Replica.{State, RegPrim, TransPrim, ExchangeStates, ExchangeActions, Construct, No, Un, NonPrim, Left, Replica}
 use Rattle.cg_client.specs.Turn.{Turn, begin}
 use Rattle.cg_client.specs.Requests.{is_creating, create_kept, empty_buffer, request_in, settle}
-use Rattle.cg_model.specs.World.{Life, Up, Down, Seat, Snapshot, running, seat_of, replica_of, has_begun}
+use Rattle.cg_model.specs.World.{NodeState, Up, Down, Node, TransferState, running, node_of, replica_of, has_begun}
 use Rattle.cg_model.specs.Chronicle.{Past, Chronicle, no_chronicle}
 use Rattle.cg_model.specs.Looks.{past_of, greens_of, snapshot_of, copied_for}
 use Rattle.cg_model.specs.Levels.{is_installed}
@@ -31,7 +31,7 @@ use Rattle.cg_agree.proofs.ExchangeSmalls.{replica-behind}
 use Rattle.cg_agree_lemmas.specs.GreenMembers.{creates-same}
 use Rattle.cg_agree.proofs.GreensFront.{commit-same, crash-same}
 use Rattle.cg_agree_lemmas.specs.GroupKept.{leaving-regular}
-use Rattle.cg_agree_lemmas.specs.HandsKept.{regular-up, Sits, seated}
+use Rattle.cg_agree_lemmas.specs.HandsKept.{regular-up, Sits, hosted}
 use Rattle.cg_agree_lemmas.specs.HeldAll.{installed_by}
 use Rattle.cg_agree_lemmas.specs.HeldMarks.{IsOneself}
 use Rattle.cg_agree_lemmas.specs.OneSteps.{may-join}
@@ -85,15 +85,15 @@ settled-none r = nothing-new r (settle (begin r)).replica (at (is_creating r.sta
 
 -- those of another replica
 other-turn : (c b : Chronicle) (p : ℕ) (part : Turn → Turn) (q : ℕ) → b.pasts ≡ c.pasts → (q ≡ p → ⊥) → greens_of (turning b p part) q ≡ greens_of c q
-other-turn c b p part q pasts apart = at (seat_of b.world p) where
+other-turn c b p part q pasts apart = at (node_of b.world p) where
   same : greens_of b q ≡ greens_of c q
   same = ap (λ xs. greens-in (find (λ (x : Past). x.id == q) xs)) pasts
 
-  life : (l : Life) → greens_of (turning_as b p part l) q ≡ greens_of c q
+  life : (l : NodeState) → greens_of (turning_as b p part l) q ≡ greens_of c q
   life (Up r disk) = greens_of-other b p r disk (part (begin r)) q apart ∙ same
   life (Down disk green) = same
 
-  at : (o : Option Seat) → greens_of (option_map_or (λ s. turning_as b p part s.life) o b) q ≡ greens_of c q
+  at : (o : Option Node) → greens_of (option_map_or (λ s. turning_as b p part s.life) o b) q ≡ greens_of c q
   at None = same
   at (Some s) = life s.life
 
@@ -105,10 +105,10 @@ drop-front (x ∷ xs) ys = drop-front xs ys
 
 module _ (c : Chronicle) (i : Invariant c) (p : ℕ) (set : List ℕ) (own : ℕ) (places : List ℕ) (may : may_make c (Leaves p set own places) ≡ true) where
   sits : Sits c.world p
-  sits = seated c.world p (i.net.phase_sound.up p ∙ regular-up c.world.group p (leaving-regular c p set own places may))
+  sits = hosted c.world p (i.net.phase_sound.up p ∙ regular-up c.world.group p (leaving-regular c p set own places may))
 
   up : replica_of c.world p ≡ Some sits.replica
-  up = ap (λ (o : Option Seat). option_and_then (λ s. running s.life) o) sits.seat
+  up = ap (λ (o : Option Node). option_and_then (λ s. running s.life) o) sits.node
 
   core : IsCore c sits.replica.held (greens_of c p)
   core = subst (λ (o : Option Replica). IfSome o (λ r. IsCore c r.held (greens_of c p))) up (i.replica.cores.memory p)
@@ -121,8 +121,8 @@ module _ (c : Chronicle) (i : Invariant c) (p : ℕ) (set : List ℕ) (own : ℕ
 
   grows : greens_of d p ≡ greens_of c p ++ newly_green sits.replica (take_parting c.world.group p set places (begin sits.replica)).replica
   grows =
-      ap (λ (x : Chronicle). greens_of x p) (turn-is (leaving c p set own) p (take_parting c.world.group p set places) sits.replica sits.disk sits.seat)
-      ∙ greens-turn (leaving c p set own) p sits.replica sits.disk (take_parting c.world.group p set places (begin sits.replica)) i.net.seated.past sits.seat
+      ap (λ (x : Chronicle). greens_of x p) (turn-is (leaving c p set own) p (take_parting c.world.group p set places) sits.replica sits.disk sits.node)
+      ∙ greens-turn (leaving c p set own) p sits.replica sits.disk (take_parting c.world.group p set places (begin sits.replica)) i.net.hosted.past sits.node
 
   stays : (take_parting c.world.group p set places (begin sits.replica)).replica.held.queue.greens ≡ sits.replica.held.queue.greens → greens_of d p ≡ greens_of c p
   stays same = grows ∙ ap (λ xs. greens_of c p ++ xs) (nothing-new sits.replica (take_parting c.world.group p set places (begin sits.replica)).replica same) ∙ append-nil (greens_of c p)
@@ -140,7 +140,7 @@ module _ (c : Chronicle) (i : Invariant c) (p : ℕ) (set : List ℕ) (own : ℕ
       installing = leaves-installing c i p set own places may sits.replica (take_parting c.world.group p set places (begin sits.replica)).replica up done.0 done.1;
       done = done.0;
       greens = grows ∙ ap (λ xs. greens_of c p ++ xs) (newly greens);
-      moved = replica-behind (leaving c p set own) p (take_parting c.world.group p set places) sits.replica sits.disk sits.seat;
+      moved = replica-behind (leaving c p set own) p (take_parting c.world.group p set places) sits.replica sits.disk sits.node;
       before = (let ins = leaves-installing c i p set own places may sits.replica (take_parting c.world.group p set places (begin sits.replica)).replica up done.0 done.1 in
           act-shows c i ins.conf ins.a ins.found (subst IsActAt (ap (λ x. configuration c.world.group (regular_in x)) ins.regular) done.1));
     }) where
@@ -154,7 +154,7 @@ some-same : {X : Type 0} (o : Option X) (change : X → Chronicle) (c : Chronicl
 some-same None change c q each = Stays refl
 some-same (Some x) change c q each = Stays (each x)
 
-recover-same : (c : Chronicle) (l : Life) (q : ℕ) → greens_of (recover_as c l) q ≡ greens_of c q
+recover-same : (c : Chronicle) (l : NodeState) (q : ℕ) → greens_of (recover_as c l) q ≡ greens_of c q
 recover-same c (Up r disk) q = refl
 recover-same c (Down disk green) q = refl
 
@@ -170,10 +170,10 @@ starts-move c set q is = subst (λ (x : Chronicle). GreensMove x (start x set) q
 
 pub greens-move : (c : Chronicle) (s : Small) (i : Invariant c) → may_make c s ≡ true → AtRest c s → (q : ℕ) → GreensMove c (small_step c s) q
 unfolding small_step may_make
-greens-move c (Starts set) i may rest q = starts-move c set q (nothing-before c i.net.seated (and_parts (is_nil c.world.seats) (is_set (ids set)) may).0)
+greens-move c (Starts set) i may rest q = starts-move c set q (nothing-before c i.net.hosted (and_parts (is_nil c.world.nodes) (is_set (ids set)) may).0)
 greens-move c (Makes set) i may rest q = Stays refl
-greens-move c (Enters p) i may rest q = Stays (turn-same c (coming c p) p (take_newest c.world.group) i refl refl (λ r disk seat.
-    nothing-new r (take_newest c.world.group (begin r)).replica (entry-greens c.world.group r (enters-between c p r (ap (λ (o : Option Seat). option_and_then (λ s. running s.life) o) seat) may))) q)
+greens-move c (Enters p) i may rest q = Stays (turn-same c (coming c p) p (take_newest c.world.group) i refl refl (λ r disk node.
+    nothing-new r (take_newest c.world.group (begin r)).replica (entry-greens c.world.group r (enters-between c p r (ap (λ (o : Option Node). option_and_then (λ s. running s.life) o) node) may))) q)
 greens-move c (Orders p) i may rest q = Stays refl
 greens-move c (Receives p place) i may rest q = Stays refl
 greens-move c (Hands p) i may rest q = elim (cases_eq q p) [
@@ -184,11 +184,11 @@ greens-move c (Leaves p set own places) i may rest q = elim (cases_eq q p) [
   | inl same ↦ subst (GreensMove c (turning (leaving c p set own) p (take_parting c.world.group p set places))) (sym same) (leaves-move c i p set own places may)
   | inr apart ↦ Stays (other-turn c (leaving c p set own) p (take_parting c.world.group p set places) q refl apart)
 ]
-greens-move c (Asks p kind) i may rest q = Stays (turn-same c c p (take_request kind) i refl refl (λ r disk seat. asked-none r kind) q)
-greens-move c (Settles p) i may rest q = Stays (turn-same c c p settle i refl refl (λ r disk seat. settled-none r) q)
-greens-move c (Commits p) i may rest q = some-same (seat_of c.world p) (λ s. commit_as c p s.life) c q (λ s. commit-same c p s.life q)
-greens-move c (Crashes p) i may rest q = some-same (seat_of c.world p) (λ s. crash_as c p s.life) c q (λ s. crash-same c p rest.greens s.life q)
-greens-move c (Recovers p) i may rest q = some-same (seat_of c.world p) (λ s. recover_as c s.life) c q (λ s. recover-same c s.life q)
+greens-move c (Asks p kind) i may rest q = Stays (turn-same c c p (take_request kind) i refl refl (λ r disk node. asked-none r kind) q)
+greens-move c (Settles p) i may rest q = Stays (turn-same c c p settle i refl refl (λ r disk node. settled-none r) q)
+greens-move c (Commits p) i may rest q = some-same (node_of c.world p) (λ s. commit_as c p s.life) c q (λ s. commit-same c p s.life q)
+greens-move c (Crashes p) i may rest q = some-same (node_of c.world p) (λ s. crash_as c p s.life) c q (λ s. crash-same c p rest.greens s.life q)
+greens-move c (Recovers p) i may rest q = some-same (node_of c.world p) (λ s. recover_as c s.life) c q (λ s. recover-same c s.life q)
 greens-move c (Copies p joiner) i may rest q = some-same (replica_of c.world p) (copy_as c p joiner) c q (λ r. refl)
 greens-move c (Joins joiner) i may rest q = joins (snapshot_of c.world joiner) where
   fresh : has_begun c.world joiner ≡ false
@@ -199,9 +199,9 @@ greens-move c (Joins joiner) i may rest q = joins (snapshot_of c.world joiner) w
   nothing (Some s) e = absurd (let clash : true ≡ false = e in cc)
 
   absent : past_of c joiner ≡ None
-  absent = nothing (past_of c joiner) (i.net.seated.past joiner ∙ fresh)
+  absent = nothing (past_of c joiner) (i.net.hosted.past joiner ∙ fresh)
 
-  joins : (o : Option Snapshot) → GreensMove c (option_map_or (λ s. join_with c joiner s.content) o c) q
+  joins : (o : Option TransferState) → GreensMove c (option_map_or (λ s. join_with c joiner s.content) o c) q
   joins None = Stays refl
   joins (Some s) =
       let behind = past-begun c.pasts (new_past (copied_for c joiner) joiner) q absent in

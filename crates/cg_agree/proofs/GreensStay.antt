@@ -10,7 +10,7 @@ use Rattle.cg_action.specs.declared.action.Kind.{Kind}
 use Rattle.cg_queue.specs.Queue.{Marking, Marks, Gaps, marked_yellow, green_count}
 use Rattle.cg_queue.specs.declared.mark.Mark.TheVariants.{Placed, Known}
 use Rattle.cg_knowledge.specs.declared.summary.Summary.{Summary}
-use Rattle.cg_knowledge.specs.Members.{gone, senders}
+use Rattle.cg_knowledge.specs.Summaries.{gone, senders}
 use Rattle.cg_knowledge.specs.Verdict.{decides}
 use Rattle.cg_plan.specs.declared.parts.Part.{Part}
 use Rattle.cg_plan.specs.Plan.{plan_of}
@@ -31,7 +31,7 @@ use Rattle.cg_exchange.specs.ExchangeActions.{send_part, progress, go_on, is_nex
 use Rattle.cg_exchange.specs.ExchangeStates.{is_usable, with_heard}
 use Rattle.cg_construct.specs.Construct.{attempt_set, is_announced, construct_with}
 use Rattle.cg_construct.specs.No.{no_record, no_with}
-use Rattle.cg_step.specs.Step.{Deliveries, replica_step, on_message, on_transitional, on_regular, take}
+use Rattle.cg_replica_step.specs.Step.{Deliveries, replica_step, on_message, on_transitional, on_regular, after_delivery}
 use Rattle.cg_model.specs.FactsReplica.{is_primary}
 use Rattle.cg_agree_lemmas.specs.GreenMembers.{SameMembers, redden-same, own-same, creates-same}
 use Rattle.cg_agree.proofs.ItemsReached.{IsItemWithin}
@@ -224,15 +224,15 @@ IsHandedWithin n (Message place from m) = IsItemWithin n m
 IsHandedWithin n (TransitionalIn conf set) = Unit {0}
 IsHandedWithin n (RegularIn conf set) = ⊥
 
-take-still : (n : ℕ) (t : Turn) (d : Delivery Msg) → IsHandedWithin n d → IsStill n t → IsStill n (take t d)
-unfolding take
+take-still : (n : ℕ) (t : Turn) (d : Delivery Msg) → IsHandedWithin n d → IsStill n t → IsStill n (after_delivery t d)
+unfolding after_delivery
 take-still n t (Message place from m) within still = others-still n t still t.replica.state from m refl within
 take-still n t (TransitionalIn conf set) within still = parting-still n t still t.replica.state refl
 take-still n t (RegularIn conf set) within still = absurd within
 
-takes-still : (n : ℕ) (list : List (Delivery Msg)) (t : Turn) → Each (IsHandedWithin n) list → IsStill n t → IsStill n (fold take t list)
+takes-still : (n : ℕ) (list : List (Delivery Msg)) (t : Turn) → Each (IsHandedWithin n) list → IsStill n t → IsStill n (fold after_delivery t list)
 takes-still n [] t each still = still
-takes-still n (d ∷ list) t each still = takes-still n list (take t d) each.1 (take-still n t d each.0 still)
+takes-still n (d ∷ list) t each still = takes-still n list (after_delivery t d) each.1 (take-still n t d each.0 still)
 
 creates-state : (list : List Kind) (t : Turn) → (fold create t list).replica.state ≡ t.replica.state
 unfolding create
@@ -254,7 +254,7 @@ settle-still n t still = at (is_creating t.replica.state) where
 
 pub step-still : (n : ℕ) (r : Replica) (list : List (Delivery Msg)) → Each (IsHandedWithin n) list → green_count r.held.queue ≤ n → IsStill n (replica_step r (Deliveries list))
 unfolding replica_step
-step-still n r list each le = settle-still n (fold take (begin r) list) (takes-still n list (begin r) each (inl le))
+step-still n r list each le = settle-still n (fold after_delivery (begin r) list) (takes-still n list (begin r) each (inl le))
 
 -- ---- a regular configuration
 
@@ -275,7 +275,7 @@ regular-count (Construct at heard) t conf set = refl
 regular-count Left t conf set = refl
 
 pub entry-still : (n : ℕ) (r : Replica) (conf : ℕ) (set : List ℕ) → green_count r.held.queue ≤ n → IsStill n (replica_step r (Deliveries (RegularIn conf set ∷ [])))
-unfolding replica_step take
+unfolding replica_step after_delivery
 entry-still n r conf set le =
     let t = on_regular r.state conf set (begin r) in
     settle-still n t (inl (let same : count t ≡ green_count r.held.queue = regular-count r.state (begin r) conf set in omega arith))

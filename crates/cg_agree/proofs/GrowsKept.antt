@@ -6,12 +6,12 @@ use Rattle.std.specs.Option.{option_map_or}
 use Rattle.std.proofs.lemmas.Bool.{and_parts, not-true}
 use Rattle.std.proofs.lemmas.List.Sums.{fold-append}
 use Rattle.cg_base.specs.Sets.{has, is_within}
-use Rattle.cg_knowledge.specs.Members.{senders}
+use Rattle.cg_knowledge.specs.Summaries.{senders}
 use Rattle.cg_wire.specs.declared.message.Msg.{Msg}
 use Rattle.cg_wire.specs.declared.message.Msg.TheVariants.{Action as ActionMsg, State as StateMsg, GreenItem, RedItem, Cpc}
 use Rattle.cg_group.specs.State.{Sent}
 use Rattle.cg_client.specs.Replica.{Held, created}
-use Rattle.cg_model.specs.World.{Seat, seat_of}
+use Rattle.cg_model.specs.World.{Node, node_of}
 use Rattle.cg_model.specs.Attempts.{held_in}
 use Rattle.cg_model.specs.Chronicle.{Told, Attempt, Chronicle}
 use Rattle.cg_model.specs.Fronts.{Front, IsSomeWith}
@@ -104,7 +104,7 @@ grows-index c s i may rest p = at (core_of c p) refl where
   d : Chronicle
   d = small_step c s
 
-  begun : (o : Option Seat) (h : Held) → option_map (λ s. held_in s.life) o ≡ Some h → is_some o ≡ true
+  begun : (o : Option Node) (h : Held) → option_map (λ s. held_in s.life) o ≡ Some h → is_some o ≡ true
   begun None h e = absurd (let clash : None ≡ Some h = e in cc)
   begun (Some x) h e = refl
 
@@ -115,11 +115,11 @@ grows-index c s i may rest p = at (core_of c p) refl where
       let at : h.prim.index ≡ old.prim.index = ap (λ (o : Option Held). option_map_or (λ x. x.prim.index) o 0) same in
       omega (arith, at, index)
 
-  with : (h : Held) → core_of c p ≡ Some h → (o : Option Seat) → seat_of d.world p ≡ o → is_some o ≡ true → IsSomeWith (core_of d p) (λ k. (h.prim.index ≤ k.prim.index) × (created h ≤ created k))
+  with : (h : Held) → core_of c p ≡ Some h → (o : Option Node) → node_of d.world p ≡ o → is_some o ≡ true → IsSomeWith (core_of d p) (λ k. (h.prim.index ≤ k.prim.index) × (created h ≤ created k))
   with h e None there some = absurd (let clash : false ≡ true = some in cc)
   with h e (Some x) there some =
       let k = held_in x.life in
-      let now : core_of d p ≡ Some k = ap (option_map (λ (x : Seat). held_in x.life)) there in
+      let now : core_of d p ≡ Some k = ap (option_map (λ (x : Node). held_in x.life)) there in
       subst (λ (o : Option Held). IsSomeWith o (λ k. (h.prim.index ≤ k.prim.index) × (created h ≤ created k))) (sym now) (
         moved h k e ((cores-move c s i may rest).move p k now),
         created-grows c s i (joiners-booked c i i.replica.origins.unbegun) may rest p h k e now,
@@ -127,4 +127,4 @@ grows-index c s i may rest p = at (core_of c p) refl where
 
   at : (o : Option Held) → core_of c p ≡ o → IfSome o (λ h. IsSomeWith (core_of d p) (λ k. (h.prim.index ≤ k.prim.index) × (created h ≤ created k)))
   at None e = tt
-  at (Some h) e = with h e (seat_of d.world p) refl (begun-kept c s i.net.seated may p (begun (seat_of c.world p) h e))
+  at (Some h) e = with h e (node_of d.world p) refl (begun-kept c s i.net.hosted may p (begun (node_of c.world p) h e))

@@ -17,10 +17,10 @@ use Rattle.cg_group.specs.Events.{delivery_at, with_delivered}
 use Rattle.cg_client.specs.Replica.{State, RegPrim, Replica}
 use Rattle.cg_client.specs.Turn.{Turn, begin}
 use Rattle.cg_client.specs.Marks.{can_be_green, mark_green, place_green}
-use Rattle.cg_step.specs.Step.{take as take_one, on_message}
+use Rattle.cg_replica_step.specs.Step.{after_delivery as take_one, on_message}
 use Rattle.cg_commit.specs.Crash.{Disk}
 use Rattle.cg_group.specs.LookupLaws.{at-cond, eqb_comm}
-use Rattle.cg_model.specs.World.{Up, Seat, seat_of, replica_of, running}
+use Rattle.cg_model.specs.World.{Up, Node, node_of, replica_of, running}
 use Rattle.cg_model.specs.Chronicle.{Past, Attempt, Chronicle}
 use Rattle.cg_model.specs.Fronts.{Front}
 use Rattle.cg_model.specs.Looks.{past_of, greens_of, stood_of, is_at, is_in, conf_at, ordered_in, attempt_at, no_attempt, top_of, installation, left_count, on_disk, disk_held}
@@ -29,7 +29,7 @@ use Rattle.cg_model.specs.Levels.{line_at, count_in, reached_in, reached_at}
 use Rattle.cg_model.specs.FactsAttempts.{LevelsStand}
 use Rattle.cg_model.specs.FactsGreens.{InstalledCount, Spine, IsOnLine, IsHandedGreen}
 use Rattle.cg_model.specs.Small.{Hands, small_step, after_turn, newly_green, with_greens, attempts_behind, levels_behind, opened_by, is_entry, is_installation, entering, installing, handed_next, take_next, turning_as}
-use Rattle.cg_agree_lemmas.specs.ChronicleFacts.{seat_of-set, past_of-turn, greens_of-own, greens_of-other}
+use Rattle.cg_agree_lemmas.specs.ChronicleFacts.{node_of-set, past_of-turn, greens_of-own, greens_of-other}
 use Rattle.cg_agree_lemmas.specs.GroupTurn.{Moved, moved-handed, moved-sent, regular-moved}
 use Rattle.cg_agree_lemmas.specs.HandNext.{take-next}
 use Rattle.cg_agree_lemmas.specs.Reach.{greatest-bounds, greatest-grows}
@@ -81,7 +81,7 @@ acts-append (x ∷ xs) ys = with_first (act_in x.message) (acts-append xs ys) wh
 
 -- a regular member of a primary component is to be handed a place, and its action is the next one of its creator
 pub record HandsPrimary (c : Chronicle) (p conf : ℕ) (r : Replica) (disk : Disk) (s : Sent Msg) (x : Past) : Type 0 where
-  pub seat : seat_of c.world p ≡ Some (record { id = p; life = Up r disk })
+  pub node : node_of c.world p ≡ Some (record { id = p; life = Up r disk })
   pub past : past_of c p ≡ Some x
   pub regular : phase_of c.world.group p ≡ Regular conf
   pub number : (conf == 0) ≡ false
@@ -111,7 +111,7 @@ module _ (c : Chronicle) (p conf : ℕ) (r : Replica) (disk : Disk) (s : Sent Ms
   pub green-step : small_step c (Hands p) ≡ green_behind
   unfolding small_step
   green-step =
-      ap (λ (o : Option Seat). option_map_or (λ s. turning_as (handed_next c p) p (take_next g p) s.life) o (handed_next c p)) h.seat
+      ap (λ (o : Option Node). option_map_or (λ s. turning_as (handed_next c p) p (take_next g p) s.life) o (handed_next c p)) h.node
       ∙ ap (after_turn (handed_next c p) p r disk) turn-is
 
   turned : GreenTurn (begin r) green_turn (acts_in (s ∷ []))
@@ -256,17 +256,17 @@ module _ (c : Chronicle) (p conf : ℕ) (r : Replica) (disk : Disk) (s : Sent Ms
 
   disk-same : (q : ℕ) → disk_held green_behind.world q ≡ disk_held c.world q
   disk-same q =
-      ap (λ (o : Option Seat). option_map (λ s. on_disk s.life) o) (seat_of-set c.world p (Up green_turn.replica disk) q)
-      ∙ at-cond (λ (o : Option Seat). option_map (λ s. on_disk s.life) o) (p == q) (Some (record { id = p; life = Up green_turn.replica disk })) (seat_of c.world q)
+      ap (λ (o : Option Node). option_map (λ s. on_disk s.life) o) (node_of-set c.world p (Up green_turn.replica disk) q)
+      ∙ at-cond (λ (o : Option Node). option_map (λ s. on_disk s.life) o) (p == q) (Some (record { id = p; life = Up green_turn.replica disk })) (node_of c.world q)
       ∙ ⊎_elim
-      (λ y. cond-true (p == q) (Some disk.content) (disk_held c.world q) y ∙ sym (ap (λ (o : Option Seat). option_map (λ s. on_disk s.life) o) h.seat) ∙ ap (disk_held c.world) (eqb-true p q y))
+      (λ y. cond-true (p == q) (Some disk.content) (disk_held c.world q) y ∙ sym (ap (λ (o : Option Node). option_map (λ s. on_disk s.life) o) h.node) ∙ ap (disk_held c.world) (eqb-true p q y))
       (λ n. cond-false (p == q) (Some disk.content) (disk_held c.world q) n)
       (cases_Bool (p == q))
 
   replica-other : (q : ℕ) → (q == p) ≡ false → replica_of green_behind.world q ≡ replica_of c.world q
   replica-other q other =
-      ap (option_and_then (λ (y : Seat). running y.life)) (seat_of-set c.world p (Up green_turn.replica disk) q
-      ∙ cond-false (p == q) (Some (record { id = p; life = Up green_turn.replica disk })) (seat_of c.world q) (eqb_comm p q ∙ other))
+      ap (option_and_then (λ (y : Node). running y.life)) (node_of-set c.world p (Up green_turn.replica disk) q
+      ∙ cond-false (p == q) (Some (record { id = p; life = Up green_turn.replica disk })) (node_of c.world q) (eqb_comm p q ∙ other))
 
   some-on : {X : Type 0} (o : Option X) (xs ys : List Action) → ys ≡ xs →
       IfSome o (λ z. Front xs (line_at c (top_of c)) × (length xs ≤ reached_at c (top_of c))) →

@@ -8,7 +8,7 @@ use Rattle.std.proofs.lemmas.List.Sums.{fold-append}
 use Rattle.cg_base.specs.Cuts.{index_in}
 use Rattle.cg_base.specs.Sets.{has, is_within, with_member}
 use Rattle.cg_action.specs.declared.action.Action.{Action}
-use Rattle.cg_knowledge.specs.Members.{senders, gone, remaining}
+use Rattle.cg_knowledge.specs.Summaries.{senders, gone, remaining}
 use Rattle.cg_knowledge.specs.Verdict.{decides}
 use Rattle.cg_wire.specs.declared.message.Msg.{Msg}
 use Rattle.cg_wire.specs.declared.message.Msg.TheVariants.{Action as ActionMsg, State as StateMsg, GreenItem, RedItem, Cpc}
@@ -21,9 +21,9 @@ use Rattle.cg_client.specs.Install.{install}
 use Rattle.cg_client.specs.Marks.{after_first}
 use Rattle.cg_construct.specs.Construct.{attempt_set, is_announced, construct_with}
 use Rattle.cg_queue.specs.Queue.{names_of}
-use Rattle.cg_step.specs.Step.{on_message}
+use Rattle.cg_replica_step.specs.Step.{on_message}
 use Rattle.cg_commit.specs.Crash.{Disk}
-use Rattle.cg_model.specs.World.{Seat, replica_of, running}
+use Rattle.cg_model.specs.World.{Node, replica_of, running}
 use Rattle.cg_model.specs.Chronicle.{Attempt, Chronicle}
 use Rattle.cg_model.specs.Looks.{greens_of, attempt_of, members_in, ordered_in, placed_of, waiting_in, said_in}
 use Rattle.cg_model.specs.Talk.{Talk, no_talk, talk_of, hears, hears_from, is_full, is_through, is_ended, is_announced as all_announced, may_say, may_go_on, is_legal, act_in, known_up_to, state_in}
@@ -113,7 +113,7 @@ module _ (c : Chronicle) (p conf : ℕ) (r : Replica) (disk : Disk) (s : Sent Ms
 
   numbers : AreNumbered c conf p r.held r.state
   numbers =
-      let runs : replica_of c.world p ≡ Some r = ap (option_and_then (λ (x : Seat). running x.life)) h.seat in
+      let runs : replica_of c.world p ≡ Some r = ap (option_and_then (λ (x : Node). running x.life)) h.node in
       subst (λ x. AreNumberedAt c p x r) h.regular (subst (λ (o : Option Replica). IfSome o (AreNumberedAt c p (phase_of c.world.group p))) runs (old.acts_numbered.handed p))
 
   -- ---- who waits for nothing

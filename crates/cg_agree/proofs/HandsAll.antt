@@ -5,7 +5,7 @@ use Rattle.std.specs.Prelude.{slice_get, nat_lt}
 use Rattle.std.proofs.lemmas.Bool.{and_parts}
 use Rattle.cg_base.specs.Cuts.{index_in}
 use Rattle.cg_base.specs.Sets.{has}
-use Rattle.cg_knowledge.specs.Members.{gone}
+use Rattle.cg_knowledge.specs.Summaries.{gone}
 use Rattle.cg_wire.specs.declared.message.Msg.{Msg}
 use Rattle.cg_group.specs.declared.phase.Phase.{Phase}
 use Rattle.cg_group.specs.declared.phase.Phase.TheVariants.{Regular}
@@ -13,9 +13,9 @@ use Rattle.cg_group.specs.Ready.{ready}
 use Rattle.cg_group.specs.State.{Sent, phase_of, is_regular, delivered_to}
 use Rattle.cg_client.specs.Replica.{State, ExchangeStates, ExchangeActions, Replica}
 use Rattle.cg_client.specs.Turn.{begin}
-use Rattle.cg_step.specs.Step.{on_message}
+use Rattle.cg_replica_step.specs.Step.{on_message}
 use Rattle.cg_commit.specs.Crash.{Disk}
-use Rattle.cg_model.specs.World.{Seat, replica_of, running}
+use Rattle.cg_model.specs.World.{Node, replica_of, running}
 use Rattle.cg_model.specs.Chronicle.{Chronicle}
 use Rattle.cg_model.specs.Looks.{greens_of, members_in, ordered_in, OfCores}
 use Rattle.cg_model.specs.Talk.{Talk, hears_from, is_full, is_through, is_ended, known_up_to, state_behind, state_in}
@@ -27,7 +27,7 @@ use Rattle.cg_model.specs.FactsTalk.{handed_talk, Content, ActsNumbered, IsState
 use Rattle.cg_model.specs.Small.{Hands, small_step}
 use Rattle.cg_model.specs.Smalls.{may_make}
 use Rattle.cg_agree.proofs.HandsActs.{hands-acts}
-use Rattle.cg_agree_lemmas.specs.HandsKept.{CanAnswer, regular-phase, regular-up, seated, some-at, next-there, attempt-named, hands-kept}
+use Rattle.cg_agree_lemmas.specs.HandsKept.{CanAnswer, regular-phase, regular-up, hosted, some-at, next-there, attempt-named, hands-kept}
 use Rattle.cg_agree_lemmas.specs.HandsSent.{hands-content}
 use Rattle.cg_agree_lemmas.specs.HandsTalk.{HandsAt, step-is, state-is}
 use Rattle.cg_agree_lemmas.specs.HandsOwn.{none-in_states, none-in_actions}
@@ -89,9 +89,9 @@ hands-there c p sound mode shape old may answer =
     let parts = and_parts (is_regular g p) (nat_lt 0 (ready g p)) may in
     let phase = regular-phase (phase_of g p) parts.0 in
     let conf = phase.at in
-    let sits = seated c.world p (sound.up p ∙ regular-up g p parts.0) in
+    let sits = hosted c.world p (sound.up p ∙ regular-up g p parts.0) in
     let r = sits.replica in
-    let running' : replica_of c.world p ≡ Some r = ap (option_and_then (λ (x : Seat). running x.life)) sits.seat in
+    let running' : replica_of c.world p ≡ Some r = ap (option_and_then (λ (x : Node). running x.life)) sits.node in
     let next = some-at (ordered_in c conf) (delivered_to g p) (next-there c p conf phase.is parts.1) in
     let member = (subst (IsPhase c p (delivered_to g p)) phase.is (sound.phase p)).0 in
     let all = subst (λ (o : Option Replica). IfSome o (IsModeData c p)) running' (mode p) in
@@ -104,7 +104,7 @@ hands-there c p sound mode shape old may answer =
       disk = sits.disk;
       sent = next.0;
       at = record {
-        seat = sits.seat;
+        node = sits.node;
         regular = phase.is;
         number = phase.number;
         next = next.1;

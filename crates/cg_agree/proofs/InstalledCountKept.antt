@@ -9,7 +9,7 @@ use Rattle.cg_base.specs.SetLaws.{has-with_member}
 use Rattle.cg_group.specs.declared.phase.Phase.TheVariants.{Down}
 use Rattle.cg_group.specs.State.{phase_of}
 use Rattle.cg_client.specs.Replica.{Replica}
-use Rattle.cg_model.specs.World.{Seat, seat_of, replica_of}
+use Rattle.cg_model.specs.World.{Node, node_of, replica_of}
 use Rattle.cg_model.specs.Chronicle.{Attempt, Chronicle}
 use Rattle.cg_model.specs.Fronts.{When}
 use Rattle.cg_model.specs.Looks.{greens_of, stood_of, is_at, is_in, is_regular_at, is_regular_in, attempt_of, left_count}
@@ -42,8 +42,8 @@ when-so false A made = tt
 -- a crash loses no green of who has written all
 crash-greens : (c : Chronicle) (p : ℕ) → greens_of c p ≡ stood_of c p → greens_of (small_step c (Crashes p)) p ≡ greens_of c p
 unfolding small_step
-crash-greens c p agree = at (seat_of c.world p) where
-  at : (o : Option Seat) → greens_of (option_map_or (λ s. crash_as c p s.life) o c) p ≡ greens_of c p
+crash-greens c p agree = at (node_of c.world p) where
+  at : (o : Option Node) → greens_of (option_map_or (λ s. crash_as c p s.life) o c) p ≡ greens_of c p
   at None = refl
   at (Some s) = crash-same c p agree s.life p
 

@@ -8,7 +8,7 @@ use Rattle.cg_base.specs.SetLaws.{has-with_member}
 use Rattle.cg_records.specs.declared.primary.Primary.{Primary}
 use Rattle.cg_client.specs.Install.{prim_after}
 use Rattle.cg_client.specs.Replica.{Held}
-use Rattle.cg_model.specs.World.{Seat, seat_of}
+use Rattle.cg_model.specs.World.{Node, node_of}
 use Rattle.cg_model.specs.Attempts.{held_in}
 use Rattle.cg_model.specs.Chronicle.{Leaving, Attempt, Chronicle}
 use Rattle.cg_model.specs.Looks.{greens_of, core_of, attempt_of, left_count}
@@ -31,9 +31,9 @@ installer-begun : (c : Chronicle) (i : Invariant c) (conf : ℕ) (a : Attempt) (
 installer-begun c i conf a p found installed none =
     let shape = subst (λ (o : Option Attempt). IfSome o (IsAttempt c conf)) found (i.attempt.attempt_shape conf) in
     let member = set-members c i conf a found p (all-at (has a.set) a.entered p shape.entered (all-at (has a.entered) a.installed p shape.installed installed)) in
-    at (seat_of c.world p) (i.net.members_begun.member conf p member) none
+    at (node_of c.world p) (i.net.members_begun.member conf p member) none
   where
-    at : (o : Option Seat) → is_some o ≡ true → option_map (λ (s : Seat). held_in s.life) o ≡ None → ⊥
+    at : (o : Option Node) → is_some o ≡ true → option_map (λ (s : Node). held_in s.life) o ≡ None → ⊥
     at None begun none = let clash : false ≡ true = begun in cc
     at (Some s) begun none = let clash : Some (held_in s.life) ≡ None = none in cc
 

@@ -11,7 +11,7 @@ use Rattle.cg_base.specs.Sets.{has}
 use Rattle.cg_action.specs.declared.action.Action.{Action}
 use Rattle.cg_queue.specs.Queue.{names_of}
 use Rattle.cg_knowledge.specs.declared.summary.Summary.{Summary}
-use Rattle.cg_knowledge.specs.Members.{gone, most_updated}
+use Rattle.cg_knowledge.specs.Summaries.{gone, most_updated}
 use Rattle.cg_knowledge.specs.Verdict.{decides}
 use Rattle.cg_knowledge.specs.Yellow.{common_yellow}
 use Rattle.cg_plan.specs.Plan.{creators}

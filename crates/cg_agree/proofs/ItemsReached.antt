@@ -5,12 +5,12 @@ use Rattle.std.proofs.lemmas.Bool.{and_parts}
 use Rattle.cg_group.specs.EachLaws.{Each, Each-append, Each-above}
 use Rattle.cg_base.specs.Lists.{above_up_to}
 use Rattle.cg_knowledge.specs.declared.summary.Summary.{Summary}
-use Rattle.cg_knowledge.specs.Members.{most_updated}
+use Rattle.cg_knowledge.specs.Summaries.{most_updated}
 use Rattle.cg_plan.specs.declared.parts.Item.{Item}
 use Rattle.cg_plan.specs.declared.parts.Item.TheVariants.{Green, Red}
 use Rattle.cg_plan.specs.declared.parts.Part.{Part}
 use Rattle.cg_plan.specs.declared.parts.Part.TheVariants.{Greens, Reds}
-use Rattle.cg_plan.specs.declared.parts.Sent.{Sent as PlanSent}
+use Rattle.cg_plan.specs.declared.parts.SentItem.{SentItem as PlanSent}
 use Rattle.cg_plan.specs.declared.parts.SentPart.{SentPart}
 use Rattle.cg_plan.specs.Items.{red_item, items_of, sent_by, items_of_turn, items_of_plan}
 use Rattle.cg_plan.specs.Plan.{plan_of}

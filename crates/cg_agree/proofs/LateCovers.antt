@@ -17,7 +17,7 @@ use Rattle.cg_agree.proofs.FactsKept.{attempt-now}
 use Rattle.cg_agree_lemmas.specs.FrontFacts.{Front-refl}
 use Rattle.cg_agree_lemmas.specs.GroupKept.{leaving-regular}
 use Rattle.cg_agree_lemmas.specs.HandSays.{find-holds}
-use Rattle.cg_agree_lemmas.specs.HandsKept.{Sits, seated, some-at}
+use Rattle.cg_agree_lemmas.specs.HandsKept.{Sits, hosted, some-at}
 use Rattle.cg_agree_lemmas.specs.HandsNow.{whole-through}
 use Rattle.cg_agree_lemmas.specs.InstallGreens.{HasInstalledAll, in-parting}
 use Rattle.cg_agree.proofs.InstalledCountKept.{installed_count-kept}
@@ -52,7 +52,7 @@ use Rattle.cg_model.specs.Played.{AtRest}
 use Rattle.cg_model.specs.Small.{Leaves, leaving, newly_green, small_step, take_all, take_parting, installing}
 use Rattle.cg_model.specs.Smalls.{ascend_within, hold_received, may_make}
 use Rattle.cg_model.specs.Talk.{Talk, act_in, acts_in, hears, is_ended, known_up_to, no_talk, state_in, talk_of}
-use Rattle.cg_model.specs.World.{Up, replica_of, seat_of}
+use Rattle.cg_model.specs.World.{Up, replica_of, node_of}
 use Rattle.cg_base.specs.Cuts.{index_in}
 use Rattle.cg_base.specs.Lists.{above_up_to, count_up}
 use Rattle.cg_base.specs.Sets.{has}
@@ -65,12 +65,12 @@ use Rattle.cg_group.specs.State.{Configuration, Sent, configuration, delivered_t
 use Rattle.cg_group.specs.declared.delivery.Delivery.TheVariants.{Message}
 use Rattle.cg_group.specs.declared.phase.Phase.{Phase}
 use Rattle.cg_group.specs.declared.phase.Phase.TheVariants.{Transitional}
-use Rattle.cg_knowledge.specs.Members.{remaining}
+use Rattle.cg_knowledge.specs.Summaries.{remaining}
 use Rattle.cg_knowledge.specs.Verdict.{decides}
 use Rattle.cg_queue.specs.Queue.{names_of}
 use Rattle.cg_records.specs.declared.vulnerable.Vulnerable.{Vulnerable}
 use Rattle.cg_commit.specs.Crash.{Disk}
-use Rattle.cg_step.specs.Step.{on_transitional, take as take_one}
+use Rattle.cg_replica_step.specs.Step.{on_transitional, after_delivery as take_one}
 use Rattle.cg_wire.specs.declared.message.Msg.{Msg}
 
 module _ (c : Chronicle) (i : Invariant c) (p : ℕ) (r : Replica) (ins : Installing c p r) (attempting : is_attempting r.state ≡ true) where
@@ -192,7 +192,7 @@ module _ (c : Chronicle) (p : ℕ) (set : List ℕ) (own : ℕ) (places : List �
   stands : Stands c.world.group d.world.group p (Transitional (regular_in (phase_of c.world.group p)) set) own true
   stands = (leaves-step c p set own places i.net.phase_sound (leaving-regular c p set own places may)).stands
 
-  module _ (r : Replica) (disk : Disk) (seat : seat_of c.world p ≡ Some (record { id = p; life = Up r disk })) (done : HasInstalled r (take_parting c.world.group p set places (begin r)).replica)
+  module _ (r : Replica) (disk : Disk) (node : node_of c.world p ≡ Some (record { id = p; life = Up r disk })) (done : HasInstalled r (take_parting c.world.group p set places (begin r)).replica)
       (ins : Installing c p r) where
     abbrev u : Replica
     u = (take_parting c.world.group p set places (begin r)).replica
@@ -205,15 +205,15 @@ module _ (c : Chronicle) (p : ℕ) (set : List ℕ) (own : ℕ) (places : List �
 
     after : replica_of d.world p ≡ Some u
     unfolding small_step
-    after = replica-behind (leaving c p set own) p (take_parting c.world.group p set places) r disk seat
+    after = replica-behind (leaving c p set own) p (take_parting c.world.group p set places) r disk node
 
     green : greens_of d p ≡ greens_of c p ++ newly_green r u
     unfolding small_step
-    green = ap (λ (x : Chronicle). greens_of x p) (turn-is (leaving c p set own) p (take_parting c.world.group p set places) r disk seat)
-        ∙ greens-turn (leaving c p set own) p r disk (take_parting c.world.group p set places (begin r)) i.net.seated.past seat
+    green = ap (λ (x : Chronicle). greens_of x p) (turn-is (leaving c p set own) p (take_parting c.world.group p set places) r disk node)
+        ∙ greens-turn (leaving c p set own) p r disk (take_parting c.world.group p set places (begin r)) i.net.hosted.past node
 
     attempts : d.attempts ≡ installing p c.attempts (Some (own_record ins.a p))
-    attempts = leaves-attempts c p set own places r disk seat ∙ installed-attempts c.attempts p (greens_of c p ++ newly_green r u) r u done ∙ ap (installing p c.attempts) ins.mine
+    attempts = leaves-attempts c p set own places r disk node ∙ installed-attempts c.attempts p (greens_of c p ++ newly_green r u) r u done ∙ ap (installing p c.attempts) ins.mine
 
     primary : IsInPrimary d u.held ins.conf
     primary = installed-primary c (Leaves p set own places) i may (start-kept c (Leaves p set own places) tt) p r u ins done done.before attempts
@@ -275,13 +275,13 @@ module _ (c : Chronicle) (p : ℕ) (set : List ℕ) (own : ℕ) (places : List �
   pub late-covers : LateCovers c p set own places
   late-covers r up done = at (parting-by c.world.group p set places r) where
     sits : Sits c.world p
-    sits = seated c.world p (ap is_some up)
+    sits = hosted c.world p (ap is_some up)
 
     same : sits.replica ≡ r
-    same = same-replica c p sits.replica r sits.disk sits.seat up
+    same = same-replica c p sits.replica r sits.disk sits.node up
 
     at : PartedBy (home c.world.group p) r (take_parting c.world.group p set places (begin r)).replica → TransAt d p
     at (inl quiet) = absurd (never-both (take_parting c.world.group p set places (begin r)).replica.state (quiet.attempting ∙ done.before) done.after)
     at (inr both) =
         let ins = leaves-installing c i p set own places may r (take_parting c.world.group p set places (begin r)).replica up done both.1 in
-        at-level r sits.disk (subst (λ (x : Replica). seat_of c.world p ≡ Some (record { id = p; life = Up x sits.disk })) same sits.seat) done ins
+        at-level r sits.disk (subst (λ (x : Replica). node_of c.world p ≡ Some (record { id = p; life = Up x sits.disk })) same sits.node) done ins

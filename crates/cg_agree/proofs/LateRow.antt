@@ -27,10 +27,10 @@ use Rattle.cg_client.specs.Replica.{Held, No, Replica, State, TransPrim, Un}
 use Rattle.cg_client.specs.Turn.{Turn, go_to}
 use Rattle.cg_construct.specs.Construct.{attempt_set, is_announced}
 use Rattle.cg_construct.specs.No.{no_with}
-use Rattle.cg_knowledge.specs.Members.{remaining}
+use Rattle.cg_knowledge.specs.Summaries.{remaining}
 use Rattle.cg_knowledge.specs.Verdict.{decides}
 use Rattle.cg_queue.specs.Queue.{marked_yellow, names_of}
-use Rattle.cg_step.specs.Step.{on_message}
+use Rattle.cg_replica_step.specs.Step.{on_message}
 use Rattle.cg_wire.specs.declared.message.Msg.{Msg}
 use Rattle.cg_wire.specs.declared.message.Msg.TheVariants.{Action as ActionMsg, Cpc, GreenItem, RedItem, State as StateMsg}
 

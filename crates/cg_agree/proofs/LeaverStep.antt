@@ -13,7 +13,7 @@ use Rattle.cg_group.specs.declared.phase.Phase.TheVariants.{Regular, Transitiona
 use Rattle.cg_group.specs.State.{Configuration, phase_of, regular_in, configuration, is_regular, delivered_to, has_received, home}
 use Rattle.cg_client.specs.Replica.{Held, State, RegPrim, TransPrim, ExchangeStates, ExchangeActions, Construct, No, Un, NonPrim, Left, Replica}
 use Rattle.cg_client.specs.Turn.{Turn, begin}
-use Rattle.cg_model.specs.World.{Seat, replica_of, running}
+use Rattle.cg_model.specs.World.{Node, replica_of, running}
 use Rattle.cg_model.specs.Chronicle.{Chronicle}
 use Rattle.cg_model.specs.Fronts.{Front}
 use Rattle.cg_model.specs.Looks.{greens_of, conf_of, is_regular_at, is_regular_in, is_member, ordered_in, received_outside, attempt_at, installation, top_of}
@@ -33,7 +33,7 @@ use Rattle.cg_agree.proofs.ExchangeSmalls.{replica-behind}
 use Rattle.cg_agree.proofs.FactsKept.{attempt-now}
 use Rattle.cg_agree.proofs.GreenLine.{regular-state, line-before, conf-before, in-primary}
 use Rattle.cg_agree_lemmas.specs.GroupKept.{leaving-regular}
-use Rattle.cg_agree_lemmas.specs.HandsKept.{regular-phase, regular-up, seated}
+use Rattle.cg_agree_lemmas.specs.HandsKept.{regular-phase, regular-up, hosted}
 use Rattle.cg_agree.proofs.InstalledCountKept.{installed_count-kept}
 use Rattle.cg_agree.proofs.LeaverOutside.{acts_at, covers-outside}
 use Rattle.cg_agree.proofs.LeaverReach.{out-received}
@@ -141,12 +141,12 @@ module _ (c : Chronicle) (p : ℕ) (set : List ℕ) (own : ℕ) (places : List �
   unfolding small_step
   leaver-covers =
       let regular = leaving-regular c p set own places may in
-      let sits = seated c.world p (i.net.phase_sound.up p ∙ regular-up c.world.group p regular) in
+      let sits = hosted c.world p (i.net.phase_sound.up p ∙ regular-up c.world.group p regular) in
       let r = sits.replica in
       let before = leaving c p set own in
       let phase = regular-phase (phase_of c.world.group p) regular in
-      by r (ap (λ (o : Option Seat). option_and_then (λ s. running s.life) o) sits.seat) (replica-behind before p part r sits.disk sits.seat)
-      (ap (λ (x : Chronicle). greens_of x p) (turn-is before p part r sits.disk sits.seat) ∙ greens-turn before p r sits.disk (part (begin r)) i.net.seated.past sits.seat)
+      by r (ap (λ (o : Option Node). option_and_then (λ s. running s.life) o) sits.node) (replica-behind before p part r sits.disk sits.node)
+      (ap (λ (x : Chronicle). greens_of x p) (turn-is before p part r sits.disk sits.node) ∙ greens-turn before p r sits.disk (part (begin r)) i.net.hosted.past sits.node)
       phase.at phase.is (parting-by c.world.group p set places r)
 
 -- what this leaves to prove of a step

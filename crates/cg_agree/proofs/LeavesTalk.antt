@@ -7,7 +7,7 @@ use Rattle.std.proofs.lemmas.Bool.{cases_Bool, cases_eq, cases_lt, cond-true, co
 use Rattle.cg_base.specs.Lists.{at_place, above_up_to, count_up}
 use Rattle.cg_base.specs.Sets.{has, is_within, with_member}
 use Rattle.cg_base.specs.SetLaws.{has-with_member}
-use Rattle.cg_knowledge.specs.Members.{gone, remaining}
+use Rattle.cg_knowledge.specs.Summaries.{gone, remaining}
 use Rattle.cg_knowledge.specs.Verdict.{decides}
 use Rattle.cg_wire.specs.declared.message.Msg.{Msg}
 use Rattle.cg_wire.specs.declared.message.Msg.TheVariants.{Action as ActionMsg, State as StateMsg, GreenItem, RedItem, Cpc}
@@ -18,9 +18,9 @@ use Rattle.cg_group.specs.Events.{deliveries_at}
 use Rattle.cg_client.specs.Replica.{Held, State, RegPrim, TransPrim, ExchangeStates, ExchangeActions, Construct, No, Un, NonPrim, Left, Replica}
 use Rattle.cg_client.specs.Turn.{Turn, begin}
 use Rattle.cg_construct.specs.Construct.{attempt_set}
-use Rattle.cg_step.specs.Step.{on_transitional, take as take_one}
+use Rattle.cg_replica_step.specs.Step.{on_transitional, after_delivery as take_one}
 use Rattle.cg_commit.specs.Crash.{Disk}
-use Rattle.cg_model.specs.World.{Up, Seat, seat_of, replica_of, running}
+use Rattle.cg_model.specs.World.{Up, Node, node_of, replica_of, running}
 use Rattle.cg_model.specs.Chronicle.{Chronicle}
 use Rattle.cg_model.specs.Looks.{conf_of, members_in, ordered_in}
 use Rattle.cg_model.specs.Levels.{announced_from, announced_at, lacks_announcement}
@@ -34,7 +34,7 @@ use Rattle.cg_model.specs.Smalls.{may_make, implies, ascend_within, hold_receive
 use Rattle.cg_agree_lemmas.specs.CreatesTalk.{grows-all}
 use Rattle.cg_agree_lemmas.specs.GroupKept.{leaving-regular}
 use Rattle.cg_agree_lemmas.specs.HandNext.{legal-at}
-use Rattle.cg_agree_lemmas.specs.HandsKept.{regular-phase, seated, attempt-named}
+use Rattle.cg_agree_lemmas.specs.HandsKept.{regular-phase, hosted, attempt-named}
 use Rattle.cg_agree_lemmas.specs.OneSteps.{regular-is_up}
 use Rattle.cg_agree_lemmas.specs.PartingNo.{is_past, Waits, IsAnnouncement, alone-places, left-places, past-places, places-wait, places-heard}
 use Rattle.cg_agree.proofs.TalkAlone.{replica-set}
@@ -297,12 +297,12 @@ parting-is : (g : GroupState Msg) (p : ℕ) (set places : List ℕ) (r : Replica
 unfolding take_one
 parting-is g p members places r conf e = ap (λ k. fold take_one (on_transitional r.state (begin r)) (deliveries_at (configuration g k) places)) (ap regular_in e)
 
-parted-replica : (c : Chronicle) (p : ℕ) (set : List ℕ) (own : ℕ) (places : List ℕ) (r : Replica) (disk : Disk) → seat_of c.world p ≡ Some (record { id = p; life = Up r disk }) →
+parted-replica : (c : Chronicle) (p : ℕ) (set : List ℕ) (own : ℕ) (places : List ℕ) (r : Replica) (disk : Disk) → node_of c.world p ≡ Some (record { id = p; life = Up r disk }) →
     replica_of (small_step c (Leaves p set own places)).world p ≡ Some (take_parting c.world.group p set places (begin r)).replica
 unfolding small_step
 parted-replica c p set own places r disk e =
     let u = take_parting c.world.group p set places (begin r) in
-    ap (λ (o : Option Seat). replica_of (option_map_or (λ s. turning_as (leaving c p set own) p (take_parting c.world.group p set places) s.life) o (leaving c p set own)).world p) e
+    ap (λ (o : Option Node). replica_of (option_map_or (λ s. turning_as (leaving c p set own) p (take_parting c.world.group p set places) s.life) o (leaving c p set own)).world p) e
     ∙ replica-set c.world p (Up u.replica disk) p ∙ cond-true (p == p) (Some u.replica) (replica_of c.world p) (eq-eqb p p refl)
 
 pub talk-parts : (c : Chronicle) (p : ℕ) (set : List ℕ) (own : ℕ) (places : List ℕ) → PhaseSound c → ((q : ℕ) → IfSome (replica_of c.world q) (IsModeData c q)) → AttemptShape c →
@@ -312,9 +312,9 @@ talk-parts c p set own places sound mode shape may old =
     let regular = leaving-regular c p set own places may in
     let phase = regular-phase (phase_of g p) regular in
     let conf = phase.at in
-    let sits = seated c.world p (sound.up p ∙ regular-is_up g p regular) in
+    let sits = hosted c.world p (sound.up p ∙ regular-is_up g p regular) in
     let r = sits.replica in
-    let runs : replica_of c.world p ≡ Some r = ap (option_and_then (λ (x : Seat). running x.life)) sits.seat in
+    let runs : replica_of c.world p ≡ Some r = ap (option_and_then (λ (x : Node). running x.life)) sits.node in
     let all = subst (λ (o : Option Replica). IfSome o (IsModeData c p)) runs (mode p) in
     let data_of = subst (λ (x : Phase). HasModeData c r.held x r.state) phase.is all.data_of in
     let modes = subst (λ (o : Option Replica). IfSome o (IsStateIn c p (phase_of g p))) runs (old.mode_fits p) in
@@ -332,6 +332,6 @@ talk-parts c p set own places sound mode shape may old =
     let same : u ≡ fold take_one (on_transitional r.state (begin r)) (deliveries_at (conf_of c conf) places) = parting-is g p set places r conf phase.is in
     let now : IsTransitional c conf p u.replica.held u.replica.state = subst (λ (t : Turn). IsTransitional c conf p t.replica.held t.replica.state) (sym same) fits in
     talk-leaves c p set own places sound may
-    (subst (λ (o : Option Replica). IfSome o (IsStateIn d p (parted c p set))) (sym (parted-replica c p set own places r sits.disk sits.seat))
+    (subst (λ (o : Option Replica). IfSome o (IsStateIn d p (parted c p set))) (sym (parted-replica c p set own places r sits.disk sits.node))
     (subst (λ k. IsTransitional d k p u.replica.held u.replica.state) (sym (ap regular_in phase.is)) (transitional-now c d p (parted c p set) apart conf u.replica.held u.replica.state now)))
     old

@@ -14,7 +14,7 @@ use Rattle.cg_group.specs.State.{Standing, standing_of, phase_of, regular_in}
 use Rattle.cg_client.specs.Replica.{Held, Replica}
 use Rattle.cg_client.specs.Turn.{Turn, begin}
 use Rattle.cg_client.specs.Requests.{settle}
-use Rattle.cg_model.specs.World.{Life, Up, Down, Seat, seat_of, replica_of, has_begun}
+use Rattle.cg_model.specs.World.{NodeState, Up, Down, Node, node_of, replica_of, has_begun}
 use Rattle.cg_model.specs.Attempts.{new_attempt, is_seen, with_attempt_of}
 use Rattle.cg_model.specs.Chronicle.{Leaving, Attempt, Chronicle, no_chronicle}
 use Rattle.cg_model.specs.Looks.{greens_of, stood_of, conf_at, is_at, is_in, ordered_in, snapshot_of}
@@ -27,7 +27,7 @@ use Rattle.cg_agree_lemmas.specs.AttemptsTurn.{at_conf}
 use Rattle.cg_agree.proofs.BegunKept.{nothing-before}
 use Rattle.cg_agree_lemmas.specs.GroupKept.{orders-conf, receives-conf, leaving-regular}
 use Rattle.cg_agree_lemmas.specs.GroupSound.{phase-made}
-use Rattle.cg_agree_lemmas.specs.HandsKept.{seated}
+use Rattle.cg_agree_lemmas.specs.HandsKept.{hosted}
 use Rattle.cg_agree_lemmas.specs.HandsNow.{hands-regular}
 use Rattle.cg_agree_lemmas.specs.Keyed.{found-changed, find-append, find-none}
 use Rattle.cg_agree_lemmas.specs.NextThere.{orders-now, receives-now}
@@ -80,12 +80,12 @@ lefts-behind attempts p greens old new conf =
     (λ y. lefts-installing p attempts new.held.vulnerable conf) (λ m. refl))
 
 lefts-turning : (c : Chronicle) (p : ℕ) (part : Turn → Turn) (conf : ℕ) → lefts (turning c p part).attempts conf ≡ lefts c.attempts conf
-lefts-turning c p part conf = at (seat_of c.world p) where
-  life : (l : Life) → lefts (turning_as c p part l).attempts conf ≡ lefts c.attempts conf
+lefts-turning c p part conf = at (node_of c.world p) where
+  life : (l : NodeState) → lefts (turning_as c p part l).attempts conf ≡ lefts c.attempts conf
   life (Up r disk) = let t = part (begin r) in lefts-behind c.attempts p (greens_of c p ++ newly_green r t.replica) r t.replica conf
   life (Down disk green) = refl
 
-  at : (o : Option Seat) → lefts (option_map_or (λ s. turning_as c p part s.life) o c).attempts conf ≡ lefts c.attempts conf
+  at : (o : Option Node) → lefts (option_map_or (λ s. turning_as c p part s.life) o c).attempts conf ≡ lefts c.attempts conf
   at None = refl
   at (Some s) = life s.life
 
@@ -131,11 +131,11 @@ lefts-some : {X : Type 0} (o : Option X) (change : X → Chronicle) (c : Chronic
 lefts-some None change c conf each = refl
 lefts-some (Some x) change c conf each = each x
 
-lefts-commit : (c : Chronicle) (p : ℕ) (l : Life) (conf : ℕ) → lefts (commit_as c p l).attempts conf ≡ lefts c.attempts conf
+lefts-commit : (c : Chronicle) (p : ℕ) (l : NodeState) (conf : ℕ) → lefts (commit_as c p l).attempts conf ≡ lefts c.attempts conf
 lefts-commit c p (Up r disk) conf = refl
 lefts-commit c p (Down disk green) conf = refl
 
-lefts-recover : (c : Chronicle) (l : Life) (conf : ℕ) → lefts (recover_as c l).attempts conf ≡ lefts c.attempts conf
+lefts-recover : (c : Chronicle) (l : NodeState) (conf : ℕ) → lefts (recover_as c l).attempts conf ≡ lefts c.attempts conf
 lefts-recover c (Up r disk) conf = refl
 lefts-recover c (Down disk green) conf = refl
 
@@ -150,7 +150,7 @@ some-regular (suc n) e = omega arith
 pub left-move : (c : Chronicle) (s : Small) → Invariant c → may_make c s ≡ true → AtRest c s → LeftMove c (small_step c s)
 unfolding small_step may_make
 left-move c (Starts set) i m rest =
-    NoneLeaves (λ conf q here. absurd (nobody-in c conf q (nothing-before c i.net.seated (and_parts (is_nil c.world.seats) (is_set (ids set)) m).0) here)) (λ conf. refl)
+    NoneLeaves (λ conf q here. absurd (nobody-in c conf q (nothing-before c i.net.hosted (and_parts (is_nil c.world.nodes) (is_set (ids set)) m).0) here)) (λ conf. refl)
 left-move c (Makes set) i m rest = NoneLeaves (λ conf q here. phase-in c (small_step c (Makes set)) conf q (phase-made c (small_step c (Makes set)) set refl (λ q. refl) q) here) (λ conf. refl)
 left-move c (Enters p) i m rest =
     let enter = may-enter c p m in
@@ -175,19 +175,19 @@ left-move c (Asks p kind) i m rest =
     NoneLeaves (λ conf q here. one-in c _ p _ _ _ (turns-step c p (take_request kind) i.net.phase_sound) conf q (λ is. is) here) (λ conf. lefts-turning c p (take_request kind) conf)
 left-move c (Settles p) i m rest = NoneLeaves (λ conf q here. one-in c _ p _ _ _ (turns-step c p settle i.net.phase_sound) conf q (λ is. is) here) (λ conf. lefts-turning c p settle conf)
 left-move c (Commits p) i m rest =
-    NoneLeaves (λ conf q here. one-in c _ p _ _ _ (commits-step c p i.net.phase_sound) conf q (λ is. is) here) (λ conf. lefts-some (seat_of c.world p) (λ s. commit_as c p s.life) c conf (λ s. lefts-commit c p s.life conf))
+    NoneLeaves (λ conf q here. one-in c _ p _ _ _ (commits-step c p i.net.phase_sound) conf q (λ is. is) here) (λ conf. lefts-some (node_of c.world p) (λ s. commit_as c p s.life) c conf (λ s. lefts-commit c p s.life conf))
 left-move c (Crashes p) i m rest =
-    let sits = seated c.world p m in
+    let sits = hosted c.world p m in
     let step = crashes-step c p m in
     OneLeaves p (length (stood_of c p)) (λ conf q apart here. other-in c _ p DownPhase 0 false step conf q apart here) (λ conf said. own-out c _ p DownPhase 0 false step conf refl)
     (ap (λ (xs : List Action). length xs) (sym rest.greens))
-    (λ conf. ap (λ (o : Option Seat). lefts (option_map_or (λ s. crash_as c p s.life) o c).attempts conf) sits.seat)
+    (λ conf. ap (λ (o : Option Node). lefts (option_map_or (λ s. crash_as c p s.life) o c).attempts conf) sits.node)
 left-move c (Recovers p) i m rest =
     let parts = and_parts (has_begun c.world p) (not (is_running c p)) m in
     let down = not-true (is_running c p) parts.1 in
-    NoneLeaves (λ conf q here. one-in c _ p Alone 0 true (recovers-step c p i.net.seated parts.0 down) conf q
+    NoneLeaves (λ conf q here. one-in c _ p Alone 0 true (recovers-step c p i.net.hosted parts.0 down) conf q
     (λ is. absurd (let clash : true ≡ false = sym (in-running c i.net.phase_sound conf p is) ∙ down in cc)) here)
-    (λ conf. lefts-some (seat_of c.world p) (λ s. recover_as c s.life) c conf (λ s. lefts-recover c s.life conf))
+    (λ conf. lefts-some (node_of c.world p) (λ s. recover_as c s.life) c conf (λ s. lefts-recover c s.life conf))
 left-move c (Copies p joiner) i m rest =
     NoneLeaves (λ conf q here. one-in c _ p _ _ _ (copies-step c p joiner i.net.phase_sound) conf q (λ is. is) here) (λ conf. lefts-some (replica_of c.world p) (copy_as c p joiner) c conf (λ r. refl))
 left-move c (Joins joiner) i m rest =

@@ -17,9 +17,9 @@ use Rattle.cg_client.specs.Replica.{Held, NonPrim, Replica}
 use Rattle.cg_client.specs.Turn.{Turn, begin}
 use Rattle.cg_client.specs.Install.{weighted, prim_after}
 use Rattle.cg_client.specs.Requests.{settle}
-use Rattle.cg_stored.specs.Stored.{whiten, recover}
+use Rattle.cg_disk_records.specs.Stored.{whiten, recovery_turn}
 use Rattle.cg_commit.specs.Crash.{Disk}
-use Rattle.cg_model.specs.World.{Life, Up, Down, Seat, seat_of, replica_of, running}
+use Rattle.cg_model.specs.World.{NodeState, Up, Down, Node, node_of, replica_of, running}
 use Rattle.cg_model.specs.Chronicle.{Told, Attempt, Chronicle, no_chronicle}
 use Rattle.cg_model.specs.Looks.{greens_of, conf_at, attempt_of, attempt_at, top_of, snapshot_of, OfCores}
 use Rattle.cg_model.specs.Fronts.{When, IsSomeWith}
@@ -58,22 +58,22 @@ start-some : {X : Type 0} (o : Option X) (change : X → Chronicle) (c : Chronic
 start-some None change c each = refl
 start-some (Some x) change c each = each x
 
-start-turning_as : (c : Chronicle) (p : ℕ) (part : Turn → Turn) (life : Life) → (turning_as c p part life).start ≡ c.start
+start-turning_as : (c : Chronicle) (p : ℕ) (part : Turn → Turn) (life : NodeState) → (turning_as c p part life).start ≡ c.start
 start-turning_as c p part (Up r disk) = refl
 start-turning_as c p part (Down disk green) = refl
 
 start-turning : (c : Chronicle) (p : ℕ) (part : Turn → Turn) → (turning c p part).start ≡ c.start
-start-turning c p part = start-some (seat_of c.world p) (λ s. turning_as c p part s.life) c (λ s. start-turning_as c p part s.life)
+start-turning c p part = start-some (node_of c.world p) (λ s. turning_as c p part s.life) c (λ s. start-turning_as c p part s.life)
 
-start-commit : (c : Chronicle) (p : ℕ) (life : Life) → (commit_as c p life).start ≡ c.start
+start-commit : (c : Chronicle) (p : ℕ) (life : NodeState) → (commit_as c p life).start ≡ c.start
 start-commit c p (Up r disk) = refl
 start-commit c p (Down disk green) = refl
 
-start-crash : (c : Chronicle) (p : ℕ) (life : Life) → (crash_as c p life).start ≡ c.start
+start-crash : (c : Chronicle) (p : ℕ) (life : NodeState) → (crash_as c p life).start ≡ c.start
 start-crash c p (Up r disk) = refl
 start-crash c p (Down disk green) = refl
 
-start-recover : (c : Chronicle) (life : Life) → (recover_as c life).start ≡ c.start
+start-recover : (c : Chronicle) (life : NodeState) → (recover_as c life).start ≡ c.start
 start-recover c (Up r disk) = refl
 start-recover c (Down disk green) = refl
 
@@ -88,9 +88,9 @@ start-kept c (Hands p) not_start = start-turning (handed_next c p) p (take_next 
 start-kept c (Leaves p set own places) not_start = start-turning (leaving c p set own) p (take_parting c.world.group p set places)
 start-kept c (Asks p kind) not_start = start-turning c p (take_request kind)
 start-kept c (Settles p) not_start = start-turning c p settle
-start-kept c (Commits p) not_start = start-some (seat_of c.world p) (λ s. commit_as c p s.life) c (λ s. start-commit c p s.life)
-start-kept c (Crashes p) not_start = start-some (seat_of c.world p) (λ s. crash_as c p s.life) c (λ s. start-crash c p s.life)
-start-kept c (Recovers p) not_start = start-some (seat_of c.world p) (λ s. recover_as c s.life) c (λ s. start-recover c s.life)
+start-kept c (Commits p) not_start = start-some (node_of c.world p) (λ s. commit_as c p s.life) c (λ s. start-commit c p s.life)
+start-kept c (Crashes p) not_start = start-some (node_of c.world p) (λ s. crash_as c p s.life) c (λ s. start-crash c p s.life)
+start-kept c (Recovers p) not_start = start-some (node_of c.world p) (λ s. recover_as c s.life) c (λ s. start-recover c s.life)
 start-kept c (Copies p joiner) not_start = start-some (replica_of c.world p) (copy_as c p joiner) c (λ r. refl)
 start-kept c (Joins joiner) not_start = start-some (snapshot_of c.world joiner) (λ s. join_with c joiner s.content) c (λ s. refl)
 
@@ -128,7 +128,7 @@ level-still c s stands start x is =
     ((omega (arith, long, low)), is.1 ∙ sym (prim-kept c s x.index stands start low))
 
 knows-closed : (d : Chronicle) → IsClosed (Knows d)
-unfolding whiten recover
+unfolding whiten recovery_turn
 knows-closed d = record {
   whitened = λ h all is. is;
   stored = λ h all is. is;
@@ -208,33 +208,33 @@ nothing-known Q = record { memory = λ p. tt; disk = λ p. tt; snapshot = λ joi
 started : (c : Chronicle) (i : Invariant c) (set : List Weighted) → may_make c (Starts set) ≡ true → OfCores (small_step c (Starts set)) (Knows (small_step c (Starts set)))
 unfolding small_step may_make
 started c i set may =
-    let empty = nothing-before c i.net.seated (and_parts (is_nil c.world.seats) (is_set (ids set)) may).0 in
-    cores-kept (Knows (small_step c (Starts set))) c (Starts set) (ready-of c i.net.seated i.replica.disk_behind) may (knows-closed (small_step c (Starts set))) (λ p. ((omega arith), refl))
+    let empty = nothing-before c i.net.hosted (and_parts (is_nil c.world.nodes) (is_set (ids set)) may).0 in
+    cores-kept (Knows (small_step c (Starts set))) c (Starts set) (ready-of c i.net.hosted i.replica.disk_behind) may (knows-closed (small_step c (Starts set))) (λ p. ((omega arith), refl))
     (subst (λ (x : Chronicle). OfCores x (Knows (small_step c (Starts set)))) (sym empty) (nothing-known (Knows (small_step c (Starts set)))))
 
-pub leaves-attempts : (c : Chronicle) (p : ℕ) (set : List ℕ) (own : ℕ) (places : List ℕ) (r : Replica) (disk : Disk) → seat_of c.world p ≡ Some (record { id = p; life = Up r disk }) →
+pub leaves-attempts : (c : Chronicle) (p : ℕ) (set : List ℕ) (own : ℕ) (places : List ℕ) (r : Replica) (disk : Disk) → node_of c.world p ≡ Some (record { id = p; life = Up r disk }) →
     (let new' = (take_parting c.world.group p set places (begin r)).replica in (small_step c (Leaves p set own places)).attempts ≡ attempts_behind c.attempts p (greens_of c p ++ newly_green r new') r new')
 unfolding small_step
-leaves-attempts c p set own places r disk seat = ap (λ (x : Chronicle). x.attempts) (turn-is (leaving c p set own) p (take_parting c.world.group p set places) r disk seat)
+leaves-attempts c p set own places r disk node = ap (λ (x : Chronicle). x.attempts) (turn-is (leaving c p set own) p (take_parting c.world.group p set places) r disk node)
 
 pub known-kept : (c : Chronicle) (s : Small) → Invariant c → may_make c s ≡ true → OfCores (small_step c s) (Knows (small_step c s))
 known-kept c s i may = at s may where
   stands : LevelsStand c
   stands = i.attempt.levels_stand
 
-  before : (p : ℕ) (r : Replica) (disk : Disk) → seat_of c.world p ≡ Some (record { id = p; life = Up r disk }) → IsLevel c r.held.prim
-  before p r disk seat = held-known (Knows c) c p r (ap (λ (o : Option Seat). option_and_then (λ s. running s.life) o) seat) stands.known
+  before : (p : ℕ) (r : Replica) (disk : Disk) → node_of c.world p ≡ Some (record { id = p; life = Up r disk }) → IsLevel c r.held.prim
+  before p r disk node = held-known (Knows c) c p r (ap (λ (o : Option Node). option_and_then (λ s. running s.life) o) node) stands.known
 
   kept : (s : Small) → may_make c s ≡ true → (small_step c s).start ≡ c.start → StepKeeps c s (Knows (small_step c s)) → OfCores (small_step c s) (Knows (small_step c s))
   kept s may start step =
-      cores-kept (Knows (small_step c s)) c s (ready-of c i.net.seated i.replica.disk_behind) may (knows-closed (small_step c s)) step
+      cores-kept (Knows (small_step c s)) c s (ready-of c i.net.hosted i.replica.disk_behind) may (knows-closed (small_step c s)) step
       (cores-weaker (Knows c) (Knows (small_step c s)) c (λ h all is. level-still c s stands start h.prim is) stands.known)
 
   quiet : (s : Small) → (small_step c s).start ≡ c.start → (old new' : Replica) → IsQuiet old new' → IsLevel c old.held.prim → IsLevel (small_step c s) new'.held.prim
   quiet s start old new' even is = subst (IsLevel (small_step c s)) (sym even.values.prim) (level-still c s stands start old.held.prim is)
 
   handed : (p : ℕ) (may : may_make c (Hands p) ≡ true) (n : HandsNow c p) → Turned n.replica (new c p i n) n.next.message → IsLevel (small_step c (Hands p)) (new c p i n).held.prim
-  handed p may n (Quiet even) = quiet (Hands p) (start-kept c (Hands p) tt) n.replica (new c p i n) even (before p n.replica n.disk n.seat)
+  handed p may n (Quiet even) = quiet (Hands p) (start-kept c (Hands p) tt) n.replica (new c p i n) even (before p n.replica n.disk n.node)
   handed p may n (Installs done) =
       let ins = hands-installing c i p may n done in
       installed-level c (Hands p) i may (start-kept c (Hands p) tt) p n.replica (new c p i n) ins done done.before
@@ -246,32 +246,32 @@ known-kept c s i may = at s may where
       let end = plan-end c p i n conf heard ends attempted.remains (ap is_behind attempted.state) in
       subst (IsLevel (small_step c (Hands p))) (sym attempted.prim) (level-still c (Hands p) stands (start-kept c (Hands p) tt) (known_primary heard) (known-level c i p n.conf n.replica heard end.1))
 
-  parted : (p : ℕ) (set : List ℕ) (own : ℕ) (places : List ℕ) (may : may_make c (Leaves p set own places) ≡ true) (r : Replica) (disk : Disk) → seat_of c.world p ≡ Some (record { id = p; life = Up r disk }) →
+  parted : (p : ℕ) (set : List ℕ) (own : ℕ) (places : List ℕ) (may : may_make c (Leaves p set own places) ≡ true) (r : Replica) (disk : Disk) → node_of c.world p ≡ Some (record { id = p; life = Up r disk }) →
       PartedBy (home c.world.group p) r (take_parting c.world.group p set places (begin r)).replica → IsLevel (small_step c (Leaves p set own places)) (take_parting c.world.group p set places (begin r)).replica.held.prim
-  parted p set own places may r disk seat (inl even) = quiet (Leaves p set own places) (start-kept c (Leaves p set own places) tt) r (take_parting c.world.group p set places (begin r)).replica even (before p r disk seat)
-  parted p set own places may r disk seat (inr done) =
+  parted p set own places may r disk node (inl even) = quiet (Leaves p set own places) (start-kept c (Leaves p set own places) tt) r (take_parting c.world.group p set places (begin r)).replica even (before p r disk node)
+  parted p set own places may r disk node (inr done) =
       let new' = (take_parting c.world.group p set places (begin r)).replica in
-      let ins = leaves-installing c i p set own places may r new' (ap (λ (o : Option Seat). option_and_then (λ s. running s.life) o) seat) done.0 done.1 in
+      let ins = leaves-installing c i p set own places may r new' (ap (λ (o : Option Node). option_and_then (λ s. running s.life) o) node) done.0 done.1 in
       installed-level c (Leaves p set own places) i may (start-kept c (Leaves p set own places) tt) p r new' ins done.0 done.0.before
-      (leaves-attempts c p set own places r disk seat ∙ installed-attempts c.attempts p (greens_of c p ++ newly_green r new') r new' done.0 ∙ ap (installing p c.attempts) ins.mine)
+      (leaves-attempts c p set own places r disk node ∙ installed-attempts c.attempts p (greens_of c p ++ newly_green r new') r new' done.0 ∙ ap (installing p c.attempts) ins.mine)
 
   at : (s : Small) → may_make c s ≡ true → OfCores (small_step c s) (Knows (small_step c s))
   at (Starts set) may = started c i set may
   at (Makes set) may = kept (Makes set) may (start-kept c (Makes set) tt) tt
-  at (Enters p) may = kept (Enters p) may (start-kept c (Enters p) tt) (λ r disk seat.
-      (let g = c.world.group in let come = newest-come g r (enters-between c p r (ap (λ (o : Option Seat). option_and_then (λ s. running s.life) o) seat) may) in
-      subst (IsLevel (small_step c (Enters p))) (sym come.prim) (level-still c (Enters p) stands (start-kept c (Enters p) tt) r.held.prim (before p r disk seat))))
+  at (Enters p) may = kept (Enters p) may (start-kept c (Enters p) tt) (λ r disk node.
+      (let g = c.world.group in let come = newest-come g r (enters-between c p r (ap (λ (o : Option Node). option_and_then (λ s. running s.life) o) node) may) in
+      subst (IsLevel (small_step c (Enters p))) (sym come.prim) (level-still c (Enters p) stands (start-kept c (Enters p) tt) r.held.prim (before p r disk node))))
   at (Orders p) may = kept (Orders p) may (start-kept c (Orders p) tt) tt
   at (Receives p place) may = kept (Receives p place) may (start-kept c (Receives p place) tt) tt
-  at (Hands p) may = kept (Hands p) may (start-kept c (Hands p) tt) (λ r disk seat.
+  at (Hands p) may = kept (Hands p) may (start-kept c (Hands p) tt) (λ r disk node.
       (let n = hands-now c p i may in
-      subst (λ (r : Replica). IsLevel (small_step c (Hands p)) (take_next c.world.group p (begin r)).replica.held.prim) (sym (same-replica c p r n.replica disk seat (running-now c p i n))) (handed p may n (hand-turned c p i n))))
-  at (Leaves p set own places) may = kept (Leaves p set own places) may (start-kept c (Leaves p set own places) tt) (λ r disk seat.
-      parted p set own places may r disk seat (parting-by c.world.group p set places r))
-  at (Asks p kind) may = kept (Asks p kind) may (start-kept c (Asks p kind) tt) (λ r disk seat.
-      quiet (Asks p kind) (start-kept c (Asks p kind) tt) r (take_request kind (begin r)).replica (request-quiet kind r) (before p r disk seat))
-  at (Settles p) may = kept (Settles p) may (start-kept c (Settles p) tt) (λ r disk seat.
-      quiet (Settles p) (start-kept c (Settles p) tt) r (settle (begin r)).replica (settle-quiet r) (before p r disk seat))
+      subst (λ (r : Replica). IsLevel (small_step c (Hands p)) (take_next c.world.group p (begin r)).replica.held.prim) (sym (same-replica c p r n.replica disk node (running-now c p i n))) (handed p may n (hand-turned c p i n))))
+  at (Leaves p set own places) may = kept (Leaves p set own places) may (start-kept c (Leaves p set own places) tt) (λ r disk node.
+      parted p set own places may r disk node (parting-by c.world.group p set places r))
+  at (Asks p kind) may = kept (Asks p kind) may (start-kept c (Asks p kind) tt) (λ r disk node.
+      quiet (Asks p kind) (start-kept c (Asks p kind) tt) r (take_request kind (begin r)).replica (request-quiet kind r) (before p r disk node))
+  at (Settles p) may = kept (Settles p) may (start-kept c (Settles p) tt) (λ r disk node.
+      quiet (Settles p) (start-kept c (Settles p) tt) r (settle (begin r)).replica (settle-quiet r) (before p r disk node))
   at (Commits p) may = kept (Commits p) may (start-kept c (Commits p) tt) tt
   at (Crashes p) may = kept (Crashes p) may (start-kept c (Crashes p) tt) tt
   at (Recovers p) may = kept (Recovers p) may (start-kept c (Recovers p) tt) tt

@@ -214,7 +214,7 @@ announced-on c s i may conf said q is =
     let same = announced-front (ordered_in c conf) (ordered_in (small_step c s) conf) q on.ordered is.0 in
     let low = is.0 in
     let high = is.1 in
-    let more = received-kept c s i.net.seated may (group-of c i) conf said in
+    let more = received-kept c s i.net.hosted may (group-of c i) conf said in
     ((omega (arith, same, low)), (omega (arith, same, high, more)))
 
 pub installed_announced-kept : (c : Chronicle) (s : Small) → Invariant c → may_make c s ≡ true → InstalledAnnounced (small_step c s)

@@ -35,7 +35,7 @@ pub mod HandsActs
 pub mod LeavesTalk
 pub mod HandsAll
 pub mod TalkFactsKept
-pub mod SeatedKept
+pub mod HostedKept
 pub mod NetFactsKept
 pub mod AttemptFactsKept
 pub mod ToldBeside

@@ -22,8 +22,8 @@ use Rattle.cg_client.specs.Replica.{Held, State, RegPrim, TransPrim, ExchangeSta
 use Rattle.cg_client.specs.Turn.{Turn, begin}
 use Rattle.cg_client.specs.Requests.{is_creating, next_action, create, create_kept, empty_buffer, buffer, settle, request_in, request}
 use Rattle.cg_commit.specs.Crash.{Disk, new_disk}
-use Rattle.cg_model.specs.World.{Life, Up, Down, Seat, World, running, seat_of, replica_of, has_begun}
-use Rattle.cg_model.specs.Step.{joined, name_also, begin_replica}
+use Rattle.cg_model.specs.World.{NodeState, Up, Down, Node, World, running, node_of, replica_of, has_begun}
+use Rattle.cg_model.specs.Step.{joiner_replica, name_also, begin_replica}
 use Rattle.cg_model.specs.Chronicle.{Chronicle, no_chronicle}
 use Rattle.cg_model.specs.Fronts.{Front}
 use Rattle.cg_model.specs.Looks.{greens_of, stood_of, disk_held, snapshot_of, copied_for, top_of}
@@ -34,12 +34,12 @@ use Rattle.cg_model.specs.Facts.{Invariant}
 use Rattle.cg_model.specs.Played.{AtRest}
 use Rattle.cg_model.specs.Small.{Small, Starts, Makes, Enters, Orders, Receives, Hands, Leaves, Asks, Settles, Commits, Crashes, Recovers, Copies, Joins, small_step, start, turning, turning_as, coming, handed_next, leaving, take_all, take_newest, take_next, take_parting, take_request, newest_conf, commit_as, crash_as, recover_as, copy_as, join_with}
 use Rattle.cg_model.specs.Smalls.{may_make, is_set}
-use Rattle.cg_agree_lemmas.specs.CoresKept.{seat-of}
+use Rattle.cg_agree_lemmas.specs.CoresKept.{node-of}
 use Rattle.cg_agree_lemmas.specs.CoresSmall.{start-cores}
 use Rattle.cg_agree.proofs.BegunKept.{nothing-before}
 use Rattle.cg_agree.proofs.MoreThere.{begun-all, begun-kept}
 use Rattle.cg_agree_lemmas.specs.OneSteps.{begun-set}
-use Rattle.cg_agree.proofs.NetFactsKept.{seated-in, members_begun-in}
+use Rattle.cg_agree.proofs.NetFactsKept.{hosted-in, members_begun-in}
 use Rattle.cg_agree.proofs.DiskBehindKept.{disk_behind-kept}
 use Rattle.cg_agree.proofs.LevelsKept.{start-kept}
 use Rattle.cg_agree.proofs.CoresMove.{cores-move}
@@ -121,9 +121,9 @@ module _ (c : Chronicle) (i : Invariant c) (line : ℕ → ℕ) (high : (q : ℕ
   low-before : Each IsLow c.book
   low-before = Each-weaker (λ a. a.green_line ≤ length (greens_of c a.id.creator)) IsLow (λ a le. (let up = high a.id.creator in omega arith)) c.book (below-each c c.book i.replica.lines_below.actions)
 
-  module _ (p : ℕ) (r : Replica) (disk : Disk) (seat : seat_of c.world p ≡ Some (record { id = p; life = Up r disk })) where
+  module _ (p : ℕ) (r : Replica) (disk : Disk) (node : node_of c.world p ≡ Some (record { id = p; life = Up r disk })) where
     here : replica_of c.world p ≡ Some r
-    here = ap (λ (o : Option Seat). option_and_then (λ s. running s.life) o) seat
+    here = ap (λ (o : Option Node). option_and_then (λ s. running s.life) o) node
 
     core : IsCore c r.held (greens_of c p)
     core = subst (λ (o : Option Replica). IfSome o (λ r. IsCore c r.held (greens_of c p))) here (i.replica.cores.memory p)
@@ -146,20 +146,20 @@ module _ (c : Chronicle) (i : Invariant c) (line : ℕ → ℕ) (high : (q : ℕ
         let now = of-deliveries (StaysCreated r.held) (λ a. Unit {0}) (created-rule r.held) (begin r) list (anything list) (record { held = created-first c.start r.held (greens_of c p) oneself; made = refl }) in
         subst (Each IsLow) (sym now.made) tt
 
-  low-turning : (b : Chronicle) (p : ℕ) (part : Turn → Turn) → b.world.seats ≡ c.world.seats → b.book ≡ c.book →
-      ((r : Replica) (disk : Disk) → seat_of c.world p ≡ Some (record { id = p; life = Up r disk }) → Each IsLow (part (begin r)).made) → Each IsLow (turning b p part).book
-  low-turning b p part seats book made = at (seat_of b.world p) refl where
-    same : seat_of b.world p ≡ seat_of c.world p
-    same = ap (λ (list : List Seat). find (λ s. s.id == p) list) seats
+  low-turning : (b : Chronicle) (p : ℕ) (part : Turn → Turn) → b.world.nodes ≡ c.world.nodes → b.book ≡ c.book →
+      ((r : Replica) (disk : Disk) → node_of c.world p ≡ Some (record { id = p; life = Up r disk }) → Each IsLow (part (begin r)).made) → Each IsLow (turning b p part).book
+  low-turning b p part nodes book made = at (node_of b.world p) refl where
+    same : node_of b.world p ≡ node_of c.world p
+    same = ap (λ (list : List Node). find (λ s. s.id == p) list) nodes
 
     low : Each IsLow b.book
     low = subst (Each IsLow) (sym book) low-before
 
-    life : (s : Seat) (l : Life) → s.life ≡ l → seat_of b.world p ≡ Some s → Each IsLow (turning_as b p part l).book
-    life s (Up r disk) is e = Each-append IsLow b.book (part (begin r)).made low (made r disk (sym same ∙ seat-of b p s (Up r disk) is e))
+    life : (s : Node) (l : NodeState) → s.life ≡ l → node_of b.world p ≡ Some s → Each IsLow (turning_as b p part l).book
+    life s (Up r disk) is e = Each-append IsLow b.book (part (begin r)).made low (made r disk (sym same ∙ node-of b p s (Up r disk) is e))
     life s (Down disk green) is e = low
 
-    at : (o : Option Seat) → seat_of b.world p ≡ o → Each IsLow (option_map_or (λ s. turning_as b p part s.life) o b).book
+    at : (o : Option Node) → node_of b.world p ≡ o → Each IsLow (option_map_or (λ s. turning_as b p part s.life) o b).book
     at None e = low
     at (Some s) e = life s s.life refl e
 
@@ -167,15 +167,15 @@ module _ (c : Chronicle) (i : Invariant c) (line : ℕ → ℕ) (high : (q : ℕ
   low-some None change each = low-before
   low-some (Some x) change each = each x
 
-  low-commit : (p : ℕ) (l : Life) → Each IsLow (commit_as c p l).book
+  low-commit : (p : ℕ) (l : NodeState) → Each IsLow (commit_as c p l).book
   low-commit p (Up r disk) = low-before
   low-commit p (Down disk green) = low-before
 
-  low-crash : (p : ℕ) (l : Life) → Each IsLow (crash_as c p l).book
+  low-crash : (p : ℕ) (l : NodeState) → Each IsLow (crash_as c p l).book
   low-crash p (Up r disk) = low-before
   low-crash p (Down disk green) = low-before
 
-  low-recover : (l : Life) → Each IsLow (recover_as c l).book
+  low-recover : (l : NodeState) → Each IsLow (recover_as c l).book
   low-recover (Up r disk) = low-before
   low-recover (Down disk green) = low-before
 
@@ -184,18 +184,18 @@ module _ (c : Chronicle) (i : Invariant c) (line : ℕ → ℕ) (high : (q : ℕ
   unfolding small_step
   low-kept (Starts set) = low-before
   low-kept (Makes set) = low-before
-  low-kept (Enters p) = low-turning (coming c p) p (take_newest c.world.group) refl refl (λ r disk seat. (let conf = newest_conf c.world.group in takes-low p r disk seat (RegularIn conf (configuration c.world.group conf).members ∷ [])))
+  low-kept (Enters p) = low-turning (coming c p) p (take_newest c.world.group) refl refl (λ r disk node. (let conf = newest_conf c.world.group in takes-low p r disk node (RegularIn conf (configuration c.world.group conf).members ∷ [])))
   low-kept (Orders p) = low-before
   low-kept (Receives p place) = low-before
-  low-kept (Hands p) = low-turning (handed_next c p) p (take_next c.world.group p) refl refl (λ r disk seat. (let g = c.world.group in takes-low p r disk seat (delivery_at (home g p) (suc (delivered_to g p)))))
+  low-kept (Hands p) = low-turning (handed_next c p) p (take_next c.world.group p) refl refl (λ r disk node. (let g = c.world.group in takes-low p r disk node (delivery_at (home g p) (suc (delivered_to g p)))))
   low-kept (Leaves p set own places) =
       low-turning (leaving c p set own) p (take_parting c.world.group p set places) refl refl
-      (λ r disk seat. (let g = c.world.group in takes-low p r disk seat (TransitionalIn (regular_in (phase_of g p)) set ∷ deliveries_at (home g p) places)))
-  low-kept (Asks p kind) = low-turning c p (take_request kind) refl refl (λ r disk seat. mine-low p r disk seat (request (begin r) kind) (ask-mine r kind))
-  low-kept (Settles p) = low-turning c p settle refl refl (λ r disk seat. mine-low p r disk seat (settle (begin r)) (settle-mine r))
-  low-kept (Commits p) = low-some (seat_of c.world p) (λ s. commit_as c p s.life) (λ s. low-commit p s.life)
-  low-kept (Crashes p) = low-some (seat_of c.world p) (λ s. crash_as c p s.life) (λ s. low-crash p s.life)
-  low-kept (Recovers p) = low-some (seat_of c.world p) (λ s. recover_as c s.life) (λ s. low-recover s.life)
+      (λ r disk node. (let g = c.world.group in takes-low p r disk node (TransitionalIn (regular_in (phase_of g p)) set ∷ deliveries_at (home g p) places)))
+  low-kept (Asks p kind) = low-turning c p (take_request kind) refl refl (λ r disk node. mine-low p r disk node (request (begin r) kind) (ask-mine r kind))
+  low-kept (Settles p) = low-turning c p settle refl refl (λ r disk node. mine-low p r disk node (settle (begin r)) (settle-mine r))
+  low-kept (Commits p) = low-some (node_of c.world p) (λ s. commit_as c p s.life) (λ s. low-commit p s.life)
+  low-kept (Crashes p) = low-some (node_of c.world p) (λ s. crash_as c p s.life) (λ s. low-crash p s.life)
+  low-kept (Recovers p) = low-some (node_of c.world p) (λ s. recover_as c s.life) (λ s. low-recover s.life)
   low-kept (Copies p joiner) = low-some (replica_of c.world p) (copy_as c p joiner) (λ r. low-before)
   low-kept (Joins joiner) = low-some (snapshot_of c.world joiner) (λ s. join_with c joiner s.content) (λ s. low-before)
 
@@ -223,7 +223,7 @@ among-ids (m ∷ set) q there = elim (or_cases (m.id == q) (is_among (map first_
 ]
 
 starters-later : (c : Chronicle) (s : Small) → Invariant c → may_make c s ≡ true → StartersBegun c → (small_step c s).start ≡ c.start → StartersBegun (small_step c s)
-starters-later c s i may first same q was = begun-kept c s i.net.seated may q (first q (ap (λ st. was_ever (starting st) q) (sym same) ∙ was))
+starters-later c s i may first same q was = begun-kept c s i.net.hosted may q (first q (ap (λ st. was_ever (starting st) q) (sym same) ∙ was))
 
 pub starters-kept : (c : Chronicle) (s : Small) → Invariant c → may_make c s ≡ true → StartersBegun c → StartersBegun (small_step c s)
 unfolding small_step
@@ -278,12 +278,12 @@ lines-later c s i first may rest order other same =
     let d = small_step c s in
     let both = made_once-kept c s i (joiners-booked c i first.unbegun) may rest in
     let made = both.0 in
-    let seated = seated-in c s i may in
-    let behind = disk_behind-kept c s i.net.seated may i.replica.disk_behind in
+    let hosted = hosted-in c s i may in
+    let behind = disk_behind-kept c s i.net.hosted may i.replica.disk_behind in
     let begun = members_begun-in c s i may in
     let starters = starters-kept c s i may first.starters in
     let actions : AreBelow d d.book = each-below d d.book (low-kept c i (λ q. length (greens_of d q)) (cores-move c s i may rest).greens s) in
-    let on_line = greens-on_line d order behind seated in
+    let on_line = greens-on_line d order behind hosted in
     let follow = follow-kept c i s may other in
     let named : (p : ℕ) → Each (IsNamed d.book) (greens_of d p) = λ p. each-booked d (greens_of d p) (made.in_greens p) in
     record {
@@ -293,7 +293,7 @@ lines-later c s i first may rest order other same =
             (follow.memory p) (some-all (replica_of d.world p) (Each (IsNamed d.book) (greens_of d p)) (named p)) (order.memory p);
         disk = λ p. each-lined d c.start same made.numbered actions both.1.unbegun starters begun.server on_line behind.behind (disk_held d.world p) (λ h. h) (stood_of d p)
             (follow.disk p) (some-all (disk_held d.world p) (Each (IsNamed d.book) (stood_of d p)) (front-each (IsNamed d.book) (stood_of d p) (greens_of d p) (behind.behind p) (named p))) (order.disk p);
-        snapshot = λ joiner. each-lined d c.start same made.numbered actions both.1.unbegun starters begun.server on_line behind.behind (snapshot_of d.world joiner) (λ s. (joined joiner s.content).held) (copied_for d joiner)
+        snapshot = λ joiner. each-lined d c.start same made.numbered actions both.1.unbegun starters begun.server on_line behind.behind (snapshot_of d.world joiner) (λ s. (joiner_replica joiner s.content).held) (copied_for d joiner)
             (follow.snapshot joiner) (both.1.copied joiner) (order.snapshot joiner);
       };
     }
@@ -302,7 +302,7 @@ lines-later c s i first may rest order other same =
 pub lines_below-kept : (c : Chronicle) (s : Small) → Invariant c → Beginnings c → may_make c s ≡ true → AtRest c s → OneOrder (small_step c s) → LinesBelow (small_step c s)
 unfolding small_step may_make
 lines_below-kept c (Starts set) i first may rest order =
-    subst (λ (x : Chronicle). LinesBelow (start x set)) (sym (nothing-before c i.net.seated (and_parts (is_nil c.world.seats) (is_set (ids set)) may).0)) (lines-start set)
+    subst (λ (x : Chronicle). LinesBelow (start x set)) (sym (nothing-before c i.net.hosted (and_parts (is_nil c.world.nodes) (is_set (ids set)) may).0)) (lines-start set)
 lines_below-kept c (Makes set) i first may rest order = lines-later c (Makes set) i first may rest order tt (start-kept c (Makes set) tt)
 lines_below-kept c (Enters p) i first may rest order = lines-later c (Enters p) i first may rest order tt (start-kept c (Enters p) tt)
 lines_below-kept c (Orders p) i first may rest order = lines-later c (Orders p) i first may rest order tt (start-kept c (Orders p) tt)

@@ -40,15 +40,15 @@ module _ (c : Chronicle) (i : Invariant c) (first : Beginnings c) (p q : ℕ) wh
   lines-now : AreReached q (length (greens_of c q)) (greens_of c p)
   lines-now =
       reached c i.replica.made_once.numbered i.replica.lines_below.actions first.unbegun first.starters i.net.members_begun.server
-      (greens-on_line c i.green.one_order i.replica.disk_behind i.net.seated) i.replica.disk_behind.behind (greens_of c p) q
+      (greens-on_line c i.green.one_order i.replica.disk_behind i.net.hosted) i.replica.disk_behind.behind (greens_of c p) q
       (named-fine (λ a. a.green_line ≤ length (greens_of c a.id.creator)) c.book (greens_of c p) (below-each c c.book i.replica.lines_below.actions)
       (each-booked c (greens_of c p) (i.replica.made_once.in_greens p)))
 
   joins-now : has_begun c.world q ≡ true → JoinsBelow (starting c.start) 0 (greens_of c p) q (length (greens_of c q))
   joins-now begun =
       joined c i.replica.made_once.numbered i.replica.lines_below.actions first.unbegun first.starters i.net.members_begun.server
-      (greens-on_line c i.green.one_order i.replica.disk_behind i.net.seated) i.replica.disk_behind.behind (greens_of c p) q begun
-      (greens-on_line c i.green.one_order i.replica.disk_behind i.net.seated p)
+      (greens-on_line c i.green.one_order i.replica.disk_behind i.net.hosted) i.replica.disk_behind.behind (greens_of c p) q begun
+      (greens-on_line c i.green.one_order i.replica.disk_behind i.net.hosted p)
 
 -- what was told is of them
 record TellsNow (c : Chronicle) (q : ℕ) (t : Told) : Type 0 where

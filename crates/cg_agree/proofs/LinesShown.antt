@@ -16,7 +16,7 @@ use Rattle.cg_report.specs.contracts.line.LinePartialEq.TheImpl.{ghosts as line}
 use Rattle.cg_client.specs.Replica.{Replica}
 use Rattle.cg_client.specs.Queries.{view_of}
 use Rattle.cg_schedule.specs.declared.event.Event.{Event}
-use Rattle.cg_model.specs.World.{Life, Up, Down, Seat, World, running, seat_of, replica_of}
+use Rattle.cg_model.specs.World.{NodeState, Up, Down, Node, World, running, node_of, replica_of}
 use Rattle.cg_model.specs.Show.{Moved, line_of, up_line, is_news, with_printed, ended}
 use Rattle.cg_model.specs.Step.{happens, world_step}
 use Rattle.cg_model.specs.Run.{Step}
@@ -31,9 +31,9 @@ use Rattle.cg_model.specs.Telling.{latest, last_line, last_of, printed}
 use Rattle.cg_model.specs.Touched.{new_lines}
 use Rattle.cg_agree.proofs.PrimaryOne.{IsFoundFrom, found-all}
 use Rattle.cg_agree.proofs.RunForward.{IsStepOf}
-use Rattle.cg_equal.specs.LineLaws.{one-line}
+use Rattle.cg_equalities.specs.LineLaws.{one-line}
 use Rattle.cg_agree_lemmas.specs.HappensLines.{happens-lines}
-use Rattle.cg_agree_lemmas.specs.SeatFacts.{seat-id}
+use Rattle.cg_agree_lemmas.specs.NodeFacts.{node-id}
 
 -- ---- lines that are printed
 
@@ -73,7 +73,7 @@ step-printed w s moved p =
     subst (λ (m : Moved). m.world.lines ≡ fold with_printed w.lines m.entry.lines) (sym moved) (step-lines w s.event) in
     ap (λ xs. line_in xs p) lines ∙ printed-fold s.entry.lines w.lines p
 
--- ---- seats with their lines
+-- ---- nodes with their lines
 
 news-from : (lines : List Line) (l : Line) → is_news lines l ≡ false → line_in lines l.id ≡ Some l
 news-from lines l old = at (line_in lines l.id) refl (not-false (option_map_or (line.eq l) (line_in lines l.id) false) old) where
@@ -82,87 +82,87 @@ news-from lines l old = at (line_in lines l.id) refl (not-false (option_map_or (
   at (Some x) e same = e ∙ ap Some (sym (one-line l x same))
 
 module _ (lines : List Line) (g : GroupState Msg) where
-  lines_of : List Seat → List Line
-  lines_of seats = filter (is_news lines) (map (line_of g) seats)
+  lines_of : List Node → List Line
+  lines_of nodes = filter (is_news lines) (map (line_of g) nodes)
 
   -- lines of others are passed over
-  skipped : (seats : List Seat) (low p : ℕ) → IsRising low (map (λ s. s.id) seats) → p < low → (o : Option Line) → fold (latest p) o (lines_of seats) ≡ o
+  skipped : (nodes : List Node) (low p : ℕ) → IsRising low (map (λ s. s.id) nodes) → p < low → (o : Option Line) → fold (latest p) o (lines_of nodes) ≡ o
   unfolding lines_of
   skipped [] low p rise less o = refl
-  skipped (s ∷ seats) low p rise less o =
+  skipped (s ∷ nodes) low p rise less o =
       let above = rise.0 in
-      let rest = skipped seats (suc s.id) p rise.1 (omega arith) in
+      let rest = skipped nodes (suc s.id) p rise.1 (omega arith) in
       elim (cases_Bool (is_news lines (line_of g s))) [
-        | inl news ↦ ap (fold (latest p) o) (cond-true (is_news lines (line_of g s)) (line_of g s ∷ lines_of seats) (lines_of seats) news)
-            ∙ ap (λ x. fold (latest p) x (lines_of seats)) (cond-false (s.id == p) (Some (line_of g s)) o (ne_eqb s.id p (λ e. (let a = above in omega arith)))) ∙ rest o
-        | inr old ↦ ap (fold (latest p) o) (cond-false (is_news lines (line_of g s)) (line_of g s ∷ lines_of seats) (lines_of seats) old) ∙ rest o
+        | inl news ↦ ap (fold (latest p) o) (cond-true (is_news lines (line_of g s)) (line_of g s ∷ lines_of nodes) (lines_of nodes) news)
+            ∙ ap (λ x. fold (latest p) x (lines_of nodes)) (cond-false (s.id == p) (Some (line_of g s)) o (ne_eqb s.id p (λ e. (let a = above in omega arith)))) ∙ rest o
+        | inr old ↦ ap (fold (latest p) o) (cond-false (is_news lines (line_of g s)) (line_of g s ∷ lines_of nodes) (lines_of nodes) old) ∙ rest o
       ]
 
-  abbrev StandsIn : ℕ → List Line → Seat → Type 0
+  abbrev StandsIn : ℕ → List Line → Node → Type 0
   StandsIn low news s = (low ≤ s.id) × (fold (latest s.id) (line_in lines s.id) news ≡ Some (line_of g s))
 
-  seats-stand : (seats : List Seat) (low : ℕ) → IsRising low (map (λ s. s.id) seats) → Each (StandsIn low (lines_of seats)) seats
+  nodes-stand : (nodes : List Node) (low : ℕ) → IsRising low (map (λ s. s.id) nodes) → Each (StandsIn low (lines_of nodes)) nodes
   unfolding lines_of
-  seats-stand [] low rise = tt
-  seats-stand (s ∷ seats) low rise =
+  nodes-stand [] low rise = tt
+  nodes-stand (s ∷ nodes) low rise =
       let above = rise.0 in
       let l = line_of g s in
-      let rest = seats-stand seats (suc s.id) rise.1 in
+      let rest = nodes-stand nodes (suc s.id) rise.1 in
       elim (cases_Bool (is_news lines l)) [
         | inl news ↦
-            let is : lines_of (s ∷ seats) ≡ l ∷ lines_of seats = cond-true (is_news lines l) (l ∷ lines_of seats) (lines_of seats) news in (
+            let is : lines_of (s ∷ nodes) ≡ l ∷ lines_of nodes = cond-true (is_news lines l) (l ∷ lines_of nodes) (lines_of nodes) news in (
               (
                 above,
                 ap (fold (latest s.id) (line_in lines s.id)) is
-                    ∙ ap (λ x. fold (latest s.id) x (lines_of seats)) (cond-true (s.id == s.id) (Some l) (line_in lines s.id) (eq-eqb s.id s.id refl))
-                    ∙ skipped seats (suc s.id) s.id rise.1 (omega arith) (Some l),
+                    ∙ ap (λ x. fold (latest s.id) x (lines_of nodes)) (cond-true (s.id == s.id) (Some l) (line_in lines s.id) (eq-eqb s.id s.id refl))
+                    ∙ skipped nodes (suc s.id) s.id rise.1 (omega arith) (Some l),
               ),
-              Each-weaker (StandsIn (suc s.id) (lines_of seats)) (StandsIn low (lines_of (s ∷ seats))) (λ x there. (
+              Each-weaker (StandsIn (suc s.id) (lines_of nodes)) (StandsIn low (lines_of (s ∷ nodes))) (λ x there. (
                 (let far = there.0 in omega arith),
                 ap (fold (latest x.id) (line_in lines x.id)) is
-                    ∙ ap (λ o. fold (latest x.id) o (lines_of seats)) (cond-false (s.id == x.id) (Some l) (line_in lines x.id) (ne_eqb s.id x.id (λ e. (let far = there.0 in omega arith))))
+                    ∙ ap (λ o. fold (latest x.id) o (lines_of nodes)) (cond-false (s.id == x.id) (Some l) (line_in lines x.id) (ne_eqb s.id x.id (λ e. (let far = there.0 in omega arith))))
                     ∙ there.1,
-              )) seats rest,
+              )) nodes rest,
             )
         | inr old ↦
-            let is : lines_of (s ∷ seats) ≡ lines_of seats = cond-false (is_news lines l) (l ∷ lines_of seats) (lines_of seats) old in (
-              (above, ap (fold (latest s.id) (line_in lines s.id)) is ∙ skipped seats (suc s.id) s.id rise.1 (omega arith) (line_in lines s.id) ∙ news-from lines l old),
-              Each-weaker (StandsIn (suc s.id) (lines_of seats)) (StandsIn low (lines_of (s ∷ seats)))
-                  (λ x there. ((let far = there.0 in omega arith), ap (fold (latest x.id) (line_in lines x.id)) is ∙ there.1)) seats rest,
+            let is : lines_of (s ∷ nodes) ≡ lines_of nodes = cond-false (is_news lines l) (l ∷ lines_of nodes) (lines_of nodes) old in (
+              (above, ap (fold (latest s.id) (line_in lines s.id)) is ∙ skipped nodes (suc s.id) s.id rise.1 (omega arith) (line_in lines s.id) ∙ news-from lines l old),
+              Each-weaker (StandsIn (suc s.id) (lines_of nodes)) (StandsIn low (lines_of (s ∷ nodes)))
+                  (λ x there. ((let far = there.0 in omega arith), ap (fold (latest x.id) (line_in lines x.id)) is ∙ there.1)) nodes rest,
             )
       ]
 
 -- the last printed line of each replica is its line as it stands
 abbrev pub ArePrinted : World → Type 0
-ArePrinted w = Each (λ s. printed w s.id ≡ Some (line_of w.group s)) w.seats
+ArePrinted w = Each (λ s. printed w s.id ≡ Some (line_of w.group s)) w.nodes
 
-pub stepped-printed : (w : World) (e : Event) → IsRising 0 (map (λ s. s.id) (world_step w e).world.seats) → ArePrinted (world_step w e).world
+pub stepped-printed : (w : World) (e : Event) → IsRising 0 (map (λ s. s.id) (world_step w e).world.nodes) → ArePrinted (world_step w e).world
 unfolding world_step ended lines_of
 stepped-printed w e rise =
     let x = (happens w e).world in
-    Each-weaker (StandsIn x.lines x.group 0 (lines_of x.lines x.group x.seats)) (λ s. line_in (fold with_printed x.lines (new_lines x)) s.id ≡ Some (line_of x.group s))
-    (λ s there. printed-fold (new_lines x) x.lines s.id ∙ there.1) x.seats (seats-stand x.lines x.group x.seats 0 rise)
+    Each-weaker (StandsIn x.lines x.group 0 (lines_of x.lines x.group x.nodes)) (λ s. line_in (fold with_printed x.lines (new_lines x)) s.id ≡ Some (line_of x.group s))
+    (λ s there. printed-fold (new_lines x) x.lines s.id ∙ there.1) x.nodes (nodes-stand x.lines x.group x.nodes 0 rise)
 
 step-prints : (c : Chronicle) (w : World) (s : Step) → (record { entry = s.entry; world = s.world } ≡ world_step w s.event) → StandsBeside c s.world → ArePrinted s.world
 step-prints c w s moved stands =
-    let rise : IsRising 0 (map (λ s. s.id) s.world.seats) = subst (IsRising 0) (sym stands.same.seats) stands.facts.lists.seats in
-    subst (λ (m : Moved). IsRising 0 (map (λ s. s.id) m.world.seats) → ArePrinted m.world) (sym moved) (stepped-printed w s.event) rise
+    let rise : IsRising 0 (map (λ s. s.id) s.world.nodes) = subst (IsRising 0) (sym stands.same.nodes) stands.facts.lists.nodes in
+    subst (λ (m : Moved). IsRising 0 (map (λ s. s.id) m.world.nodes) → ArePrinted m.world) (sym moved) (stepped-printed w s.event) rise
 
--- what holds of each seat's line holds of the lines of a step
-seats-each : (P : Line → Type 0) (g : GroupState Msg) (all seats : List Seat) (low : ℕ) → ((s : Seat) → find (λ x. x.id == s.id) all ≡ Some s → P (line_of g s)) → Each (IsFoundFrom low all) seats → Each P (map (line_of g) seats)
-seats-each P g all [] low of each = tt
-seats-each P g all (s ∷ seats) low of each = (of s each.0.1, seats-each P g all seats low of each.1)
+-- what holds of each node's line holds of the lines of a step
+nodes-each : (P : Line → Type 0) (g : GroupState Msg) (all nodes : List Node) (low : ℕ) → ((s : Node) → find (λ x. x.id == s.id) all ≡ Some s → P (line_of g s)) → Each (IsFoundFrom low all) nodes → Each P (map (line_of g) nodes)
+nodes-each P g all [] low of each = tt
+nodes-each P g all (s ∷ nodes) low of each = (of s each.0.1, nodes-each P g all nodes low of each.1)
 
-stepped-each : (P : Line → Type 0) (w : World) (e : Event) → (let v = (world_step w e).world in IsRising 0 (map (λ s. s.id) v.seats) → ((s : Seat) → seat_of v s.id ≡ Some s → P (line_of v.group s)) → Each P (world_step w e).entry.lines)
+stepped-each : (P : Line → Type 0) (w : World) (e : Event) → (let v = (world_step w e).world in IsRising 0 (map (λ s. s.id) v.nodes) → ((s : Node) → node_of v s.id ≡ Some s → P (line_of v.group s)) → Each P (world_step w e).entry.lines)
 unfolding world_step ended
 stepped-each P w e rise of =
     let x = (happens w e).world in
-    Each-filter P (is_news x.lines) (map (line_of x.group) x.seats) (seats-each P x.group x.seats x.seats 0 of (found-all x.seats 0 rise))
+    Each-filter P (is_news x.lines) (map (line_of x.group) x.nodes) (nodes-each P x.group x.nodes x.nodes 0 of (found-all x.nodes 0 rise))
 
-pub lines-each : (P : Line → Type 0) (c : Chronicle) (w : World) (s : Step) → IsStepOf c w s → ((x : Seat) → seat_of s.world x.id ≡ Some x → P (line_of s.world.group x)) → Each P s.entry.lines
+pub lines-each : (P : Line → Type 0) (c : Chronicle) (w : World) (s : Step) → IsStepOf c w s → ((x : Node) → node_of s.world x.id ≡ Some x → P (line_of s.world.group x)) → Each P s.entry.lines
 lines-each P c w s step of =
-    let rise : IsRising 0 (map (λ s. s.id) s.world.seats) = subst (IsRising 0) (sym step.behind.same.seats) step.behind.facts.lists.seats in
-    subst (λ (m : Moved). IsRising 0 (map (λ s. s.id) m.world.seats) → ((x : Seat) → seat_of m.world x.id ≡ Some x → P (line_of m.world.group x)) → Each P m.entry.lines) (sym step.moved) (stepped-each P w s.event) rise of
+    let rise : IsRising 0 (map (λ s. s.id) s.world.nodes) = subst (IsRising 0) (sym step.behind.same.nodes) step.behind.facts.lists.nodes in
+    subst (λ (m : Moved). IsRising 0 (map (λ s. s.id) m.world.nodes) → ((x : Node) → node_of m.world x.id ≡ Some x → P (line_of m.world.group x)) → Each P m.entry.lines) (sym step.moved) (stepped-each P w s.event) rise of
 
 -- what was printed, against what was shown so far
 pub record AreLinesTold (earlier : List Step) (w : World) : Type 0 where
@@ -182,7 +182,7 @@ lines-on earlier c w s step told = record {
 
 -- ---- what the last line of a replica that is up shows
 
-pub each-find : (P : Seat → Type 0) (t : Seat → Bool) (xs : List Seat) (s : Seat) → Each P xs → find t xs ≡ Some s → P s
+pub each-find : (P : Node → Type 0) (t : Node → Bool) (xs : List Node) (s : Node) → Each P xs → find t xs ≡ Some s → P s
 each-find P t [] s each e = absurd (let clash : None ≡ Some s = e in cc)
 each-find P t (x ∷ xs) s each e = elim (cases_Bool (t x)) [
   | inl here ↦
@@ -207,21 +207,21 @@ last-up p (l ∷ lines) last up is = last-up p lines (latest p last l) (last_of 
 
 -- the last line of a replica that is up
 pub up-shown : (w : World) (steps : List Step) → ((p : ℕ) → printed w p ≡ last_line p steps) → ArePrinted w → (p : ℕ) (r : Replica) → replica_of w p ≡ Some r → IsSomeWith (last_up p steps) (λ up. up.view ≡ view_of r.held)
-up-shown w steps shown stand p r runs = at (seat_of w p) refl runs where
-  there : (s : Seat) → seat_of w p ≡ Some s → (l : Life) → s.life ≡ l → running l ≡ Some r → IsSomeWith (last_up p steps) (λ up. up.view ≡ view_of r.held)
+up-shown w steps shown stand p r runs = at (node_of w p) refl runs where
+  there : (s : Node) → node_of w p ≡ Some s → (l : NodeState) → s.life ≡ l → running l ≡ Some r → IsSomeWith (last_up p steps) (λ up. up.view ≡ view_of r.held)
   there s found (Down disk green) life is = absurd (let clash : None ≡ Some r = is in cc)
   there s found (Up x disk) life is =
       let same : x ≡ r = ap (λ o. option_map_or (λ y. y) o x) is in
-      let id : s.id ≡ p = seat-id w p s found in
+      let id : s.id ≡ p = node-id w p s found in
       let line : printed w p ≡ Some (line_of w.group s) =
-      subst (λ n. printed w n ≡ Some (line_of w.group s)) id (each-find (λ s. printed w s.id ≡ Some (line_of w.group s)) (λ s. s.id == p) w.seats s stand found) in
+      subst (λ n. printed w n ≡ Some (line_of w.group s)) id (each-find (λ s. printed w s.id ≡ Some (line_of w.group s)) (λ s. s.id == p) w.nodes s stand found) in
       let last : last_line p steps ≡ Some (line_of w.group s) = sym (shown p) ∙ line in
       let is_up : IsLastUp (last_line p steps) (last_up p steps) = last-up p (lines_in steps) None None tt in
       let here : IfSome (option_map (up_line (phase_of w.group s.id)) (running s.life)) (λ u. last_up p steps ≡ Some u) = subst (λ o. IsLastUp o (last_up p steps)) last is_up in
-      let up : last_up p steps ≡ Some (up_line (phase_of w.group s.id) x) = subst (λ (l : Life). IfSome (option_map (up_line (phase_of w.group s.id)) (running l)) (λ u. last_up p steps ≡ Some u)) life here in
+      let up : last_up p steps ≡ Some (up_line (phase_of w.group s.id) x) = subst (λ (l : NodeState). IfSome (option_map (up_line (phase_of w.group s.id)) (running l)) (λ u. last_up p steps ≡ Some u)) life here in
       subst (λ (o : Option UpLine). IsSomeWith o (λ up. up.view ≡ view_of r.held)) (sym up) (ap (λ (y : Replica). view_of y.held) same)
 
-  at : (o : Option Seat) → seat_of w p ≡ o → option_and_then (λ s. running s.life) o ≡ Some r → IsSomeWith (last_up p steps) (λ up. up.view ≡ view_of r.held)
+  at : (o : Option Node) → node_of w p ≡ o → option_and_then (λ s. running s.life) o ≡ Some r → IsSomeWith (last_up p steps) (λ up. up.view ≡ view_of r.held)
   at None found is = absurd (let clash : None ≡ Some r = is in cc)
   at (Some s) found is = there s found s.life refl is
 

@@ -12,22 +12,22 @@ use Rattle.cg_group.specs.declared.delivery.Delivery.TheVariants.{Message, Trans
 use Rattle.cg_group.specs.State.{Sent, Configuration, configuration, regular_in, phase_of, delivered_to, home}
 use Rattle.cg_group.specs.Events.{delivery_at, deliveries_at, transitional_places, furthest, handed_in_split, deliver, split, merge}
 use Rattle.cg_client.specs.Replica.{Replica}
-use Rattle.cg_stored.specs.Stored.{whiten}
-use Rattle.cg_step.specs.Step.{Input, Deliveries, replica_step}
+use Rattle.cg_disk_records.specs.Stored.{whiten}
+use Rattle.cg_replica_step.specs.Step.{Input, Deliveries, replica_step}
 use Rattle.cg_commit.specs.Crash.{whitened, new_disk}
 use Rattle.cg_schedule.specs.declared.event.Event.{Event}
 use Rattle.cg_schedule.specs.declared.event.Event.TheVariants.{Start, Split, Merge, Request, Weak, Dirty, Order, Recover, Show, ShowOrder, Gather, End, Receive, Deliver, Rounds, Stop, Fail, Join, Leave, Transfer}
-use Rattle.cg_model.specs.World.{Up, Seat, Snapshot, World, running, has_begun, seat_of, replica_of, bring_up}
+use Rattle.cg_model.specs.World.{Up, Node, TransferState, World, running, has_begun, node_of, replica_of, bring_up}
 use Rattle.cg_model.specs.Admission.{first_refusal}
 use Rattle.cg_model.specs.Show.{ended}
 use Rattle.cg_model.specs.Run.{MayStand}
 use Rattle.cg_model.specs.Agreement.{may_move, is_recovery_of}
-use Rattle.cg_model.specs.Step.{quietly, hand_out, joined, snapshot_for, without_snapshot, with_pieces, take_pieces, transfer, happens, world_step}
+use Rattle.cg_model.specs.Step.{quietly, hand_out, joiner_replica, snapshot_for, without_snapshot, with_pieces, take_pieces, transfer, happens, world_step}
 use Rattle.cg_model.specs.Chronicle.{Chronicle}
 use Rattle.cg_model.specs.FactsReplica.{is_primary}
 use Rattle.cg_model.specs.Played.{StandsBeside}
-use Rattle.cg_agree_lemmas.specs.ChronicleFacts.{seat_of-set}
-use Rattle.cg_agree.proofs.CountsGrow.{count_at, SeatEven, even-at, event-counts, unbegun}
+use Rattle.cg_agree_lemmas.specs.ChronicleFacts.{node_of-set}
+use Rattle.cg_agree.proofs.CountsGrow.{count_at, NodeEven, even-at, event-counts, unbegun}
 use Rattle.cg_agree_lemmas.specs.DiskEnds.{end-cases}
 use Rattle.cg_agree.proofs.GreensStay.{IsStill, IsHandedWithin, step-still, entry-still}
 use Rattle.cg_agree.proofs.ItemsReached.{IsItemWithin, placed-within}
@@ -83,19 +83,19 @@ module _ (c : Chronicle) (w : World) (stands : StandsBeside c w) where
   -- where it took a turn
   of-turn : (v : World) (e : Event) (q : ℕ) → IsBehind (Stays n) w v q → (r : Replica) → replica_of v q ≡ Some r → IsFarBy n e q r
   of-turn v e q behind r runs = elim behind [
-    | inl same ↦ inl (within-order c w stands q r (sym (ap (λ (o : Option Seat). option_and_then (λ s. running s.life) o) same) ∙ runs))
+    | inl same ↦ inl (within-order c w stands q r (sym (ap (λ (o : Option Node). option_and_then (λ s. running s.life) o) same) ∙ runs))
     | inr turn ↦
         let x = turn.replica in
         let t = replica_step x turn.input in
-        let low : green_count x.held.queue ≤ n = within-order c w stands q x (ap (λ (o : Option Seat). option_and_then (λ s. running s.life) o) turn.before) in
-        let even = subst (SeatEven c.start q) turn.before (even-at c w stands q) in
+        let low : green_count x.held.queue ≤ n = within-order c w stands q x (ap (λ (o : Option Node). option_and_then (λ s. running s.life) o) turn.before) in
+        let even = subst (NodeEven c.start q) turn.before (even-at c w stands q) in
         let still : IsStill n t = turn.of x low in
         let white : green_count (whiten t.replica.held).queue ≡ green_count t.replica.held.queue = whitened-count c.start x.held t.replica.held even.greens even.is (step-follows x turn.input) in
         end-cases turn.disk x.held t (λ end. running (life_at end) ≡ Some r → IsFarBy n e q r)
         (λ quiet d is same. far t.replica r still same)
         (λ does d is same. far (whitened t.replica) r (elim still [ inl le ↦ inl (omega arith) | inr inside ↦ inr inside ]) same)
         (λ stays d green is same. absurd (let clash : None ≡ Some r = same in cc)) (λ gone d green is same. absurd (let clash : None ≡ Some r = same in cc))
-        (sym (ap (λ (o : Option Seat). option_and_then (λ s. running s.life) o) turn.behind) ∙ runs)
+        (sym (ap (λ (o : Option Node). option_and_then (λ s. running s.life) o) turn.behind) ∙ runs)
   ] where
     far : (x y : Replica) → (green_count x.held.queue ≤ n) ⊎ (is_primary x.state ≡ true) → Some x ≡ Some y → IsFarBy n e q y
     far x y is same = subst (IsFarBy n e q) (ap (λ (o : Option Replica). option_map_or (λ z. z) o x) same) (elim is [ inl le ↦ inl le | inr inside ↦ inr (inl inside) ])
@@ -104,33 +104,33 @@ module _ (c : Chronicle) (w : World) (stands : StandsBeside c w) where
   unmoved : (e : Event) → MayStand w e → first_refusal w e ≡ None → (q : ℕ) → may_move e q ≡ false → (r : Replica) → replica_of (world_step w e).world q ≡ Some r → IsFarBy n e q r
   unmoved e may admitted q idle r runs =
       let grows = event-counts c w stands e may admitted q in
-      let now : count_at (seat_of (world_step w e).world q) ≡ green_count r.held.queue = count-running (world_step w e).world q r runs in
-      let same : count_at (seat_of (world_step w e).world q) ≡ count_at (seat_of w q) = grows.still idle in
+      let now : count_at (node_of (world_step w e).world q) ≡ green_count r.held.queue = count-running (world_step w e).world q r runs in
+      let same : count_at (node_of (world_step w e).world q) ≡ count_at (node_of w q) = grows.still idle in
       elim (grows.up idle r runs) [
         | inl none ↦ inl (omega arith)
         | inr was ↦
             let low : green_count was.0.held.queue ≤ n = within-order c w stands q was.0 was.1 in
-            let before : count_at (seat_of w q) ≡ green_count was.0.held.queue = count-running w q was.0 was.1 in
+            let before : count_at (node_of w q) ≡ green_count was.0.held.queue = count-running w q was.0 was.1 in
             inl (omega arith)
       ]
 
   unbegun-down : (joiner : ℕ) → has_begun w joiner ≡ false → (r : Replica) → replica_of w joiner ≡ Some r → ⊥
-  unbegun-down joiner none r runs = at (seat_of w joiner) none runs where
-    at : (o : Option Seat) → is_some o ≡ false → option_and_then (λ s. running s.life) o ≡ Some r → ⊥
+  unbegun-down joiner none r runs = at (node_of w joiner) none runs where
+    at : (o : Option Node) → is_some o ≡ false → option_and_then (λ s. running s.life) o ≡ Some r → ⊥
     at None e is = let clash : None ≡ Some r = is in cc
     at (Some s) e is = let clash : true ≡ false = e in cc
 
   -- a joiner that hasn't begun comes up with a snapshot
-  joined-low : (joiner : ℕ) → has_begun w joiner ≡ false → (s : Snapshot) (taken : ℕ) → s.joiner ≡ joiner → green_count s.content.queue ≤ n → (r : Replica) → replica_of (with_pieces w s taken) joiner ≡ Some r →
+  joined-low : (joiner : ℕ) → has_begun w joiner ≡ false → (s : TransferState) (taken : ℕ) → s.joiner ≡ joiner → green_count s.content.queue ≤ n → (r : Replica) → replica_of (with_pieces w s taken) joiner ≡ Some r →
       green_count r.held.queue ≤ n
   joined-low joiner none s taken of low r =
       let others = without_snapshot w s.joiner in
-      let x = joined s.joiner s.content in
+      let x = joiner_replica s.joiner s.content in
       cond_both (taken == piece_count s.content) (bring_up others x (new_disk x.held)) (record others { snapshots = others.snapshots ++ record s { taken = taken } ∷ [] })
       (λ v. replica_of v joiner ≡ Some r → green_count r.held.queue ≤ n)
       (λ y runs. (
-      let is : Some x ≡ Some r = sym (ap (λ (o : Option Seat). option_and_then (λ s. running s.life) o)
-      (seat_of-set others s.joiner (Up x (new_disk x.held)) joiner ∙ cond-true (s.joiner == joiner) (Some (let seat : Seat = record { id = s.joiner; life = Up x (new_disk x.held) } in seat)) (seat_of w joiner) (eq-eqb s.joiner joiner of))) ∙ runs in
+      let is : Some x ≡ Some r = sym (ap (λ (o : Option Node). option_and_then (λ s. running s.life) o)
+      (node_of-set others s.joiner (Up x (new_disk x.held)) joiner ∙ cond-true (s.joiner == joiner) (Some (let node : Node = record { id = s.joiner; life = Up x (new_disk x.held) } in node)) (node_of w joiner) (eq-eqb s.joiner joiner of))) ∙ runs in
       subst (λ (y : Replica). green_count y.held.queue ≤ n) (ap (λ (o : Option Replica). option_map_or (λ z. z) o x) is) low
       ))
       (λ f runs. absurd (unbegun-down joiner none r runs))

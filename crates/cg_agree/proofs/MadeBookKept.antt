@@ -15,11 +15,11 @@ use Rattle.cg_group.specs.declared.delivery.Delivery.TheVariants.{Regular as Reg
 use Rattle.cg_group.specs.State.{GroupState, delivered_to, home}
 use Rattle.cg_group.specs.Events.{order, receive, gather, deliveries_at, handed_in_split, deliver, split, merge}
 use Rattle.cg_client.specs.Replica.{Held, Replica, created}
-use Rattle.cg_step.specs.Step.{Deliveries, Asks as AsksOf}
+use Rattle.cg_replica_step.specs.Step.{Deliveries, Asks as AsksOf}
 use Rattle.cg_commit.specs.Crash.{FailOnce, StopWith, new_disk}
 use Rattle.cg_schedule.specs.declared.event.Event.{Event}
 use Rattle.cg_schedule.specs.declared.event.Event.TheVariants.{Start, Split, Merge, Request, Weak, Dirty, Order, Recover, Show, ShowOrder, Gather, End, Receive, Deliver, Rounds, Stop, Fail, Join, Leave, Transfer}
-use Rattle.cg_model.specs.World.{Life, Up, Down, Seat, World, no_world, running, has_begun, seat_of, replica_of, bring_up, Snapshot}
+use Rattle.cg_model.specs.World.{NodeState, Up, Down, Node, World, no_world, running, has_begun, node_of, replica_of, bring_up, TransferState}
 use Rattle.cg_model.specs.Admission.{first_refusal, takes_part, never_named, joiner_left, not_green}
 use Rattle.cg_model.specs.AdmissionCalls.{begun_already}
 use Rattle.cg_model.specs.Show.{ended}
@@ -27,16 +27,16 @@ use Rattle.cg_model.specs.Run.{MayStand}
 use Rattle.cg_model.specs.Chronicle.{Chronicle}
 use Rattle.cg_model.specs.Attempts.{held_in}
 use Rattle.cg_model.specs.Looks.{greens_of, stood_of, on_disk, disk_held}
-use Rattle.cg_model.specs.Step.{quietly, ask, name_also, recover_from, joined, snapshot_for, without_snapshot, with_pieces, take_pieces, transfer, happens, world_step}
-use Rattle.cg_model.specs.FactsBooks.{LifeMade, MadeBook, MadeFits, SeatMade}
+use Rattle.cg_model.specs.Step.{quietly, ask, name_also, recover_from, joiner_replica, snapshot_for, without_snapshot, with_pieces, take_pieces, transfer, happens, world_step}
+use Rattle.cg_model.specs.FactsBooks.{LifeMade, MadeBook, MadeFits, NodeMade}
 use Rattle.cg_model.specs.FactsReplica.{IsCore, IsModeData}
 use Rattle.cg_model.specs.Played.{StandsBeside, with_world}
 use Rattle.cg_agree_lemmas.specs.UnorderedKept.{first-none}
 use Rattle.cg_agree_lemmas.specs.MadeAlone.{not-refused}
 use Rattle.cg_agree_lemmas.specs.MadeSplit.{rising-set-list}
-use Rattle.cg_agree_lemmas.specs.LivesRest.{LifeRests, SeatRests, seat-in}
+use Rattle.cg_agree_lemmas.specs.LivesRest.{LifeRests, NodeRests, node-in}
 use Rattle.cg_agree_lemmas.specs.RestsBehind.{handed-ids, split-to}
-use Rattle.cg_agree_lemmas.specs.MadeWorlds.{IsCoreAt, LifeSound, SeatSound, fits-same, hand-fits, handed-fits, begun-fits, stopped-fits, armed-fits, came-up, joined-fits}
+use Rattle.cg_agree_lemmas.specs.MadeWorlds.{IsCoreAt, LifeSound, NodeSound, fits-same, hand-fits, handed-fits, begun-fits, stopped-fits, armed-fits, came-up, joined-fits}
 use Rattle.cg_agree.proofs.JoinersMadeNone.{snapshot-none}
 use Rattle.cg_client.specs.Joined.{piece_count}
 
@@ -44,23 +44,23 @@ use Rattle.cg_client.specs.Joined.{piece_count}
 
 -- What was shown as made, as the fact says it.
 pub made_book-of : (c : Chronicle) (w : World) → MadeFits w → MadeBook (with_world c w)
-made_book-of c w fits = record { begun = λ p. begun p (seat_of w p) (fits.seats p); up = λ p. up p (seat_of w p) (fits.seats p) } where
-  begun : (p : ℕ) (o : Option Seat) → SeatMade (index_in w.made p) p o → IfSome (option_map (λ s. held_in s.life) o) (λ h. index_in w.made p ≤ created h)
+made_book-of c w fits = record { begun = λ p. begun p (node_of w p) (fits.nodes p); up = λ p. up p (node_of w p) (fits.nodes p) } where
+  begun : (p : ℕ) (o : Option Node) → NodeMade (index_in w.made p) p o → IfSome (option_map (λ s. held_in s.life) o) (λ h. index_in w.made p ≤ created h)
   begun p None is = tt
   begun p (Some s) is = life s.life is where
-    life : (l : Life) → LifeMade (index_in w.made p) p l → index_in w.made p ≤ created (held_in l)
+    life : (l : NodeState) → LifeMade (index_in w.made p) p l → index_in w.made p ≤ created (held_in l)
     life (Up r disk) is = omega arith
     life (Down disk green) is = is.0
 
-  up : (p : ℕ) (o : Option Seat) → SeatMade (index_in w.made p) p o → IfSome (option_and_then (λ s. running s.life) o) (λ r. index_in w.made p ≡ created r.held)
+  up : (p : ℕ) (o : Option Node) → NodeMade (index_in w.made p) p o → IfSome (option_and_then (λ s. running s.life) o) (λ r. index_in w.made p ≡ created r.held)
   up p None is = tt
   up p (Some s) is = life s.life is where
-    life : (l : Life) → LifeMade (index_in w.made p) p l → IfSome (running l) (λ r. index_in w.made p ≡ created r.held)
+    life : (l : NodeState) → LifeMade (index_in w.made p) p l → IfSome (running l) (λ r. index_in w.made p ≡ created r.held)
     life (Up r disk) is = is
     life (Down disk green) is = tt
 
 pub nothing-made : MadeFits no_world
-nothing-made = record { rising = tt; seats = λ p. refl }
+nothing-made = record { rising = tt; nodes = λ p. refl }
 
 -- who joins hasn't begun
 pub transfer-unbegun : (w : World) (p joiner pieces : ℕ) → first_refusal w (Transfer p joiner pieces) ≡ None → has_begun w joiner ≡ false
@@ -75,12 +75,12 @@ transfer-unbegun w p joiner pieces admitted =
 
 module _ (c : Chronicle) (w : World) (stands : StandsBeside c w) where
   -- what each replica holds
-  pub sound-at : (p : ℕ) → SeatSound c.start p (seat_of w p)
-  sound-at p = at (seat_of w p) refl (seat-in (seat_of w p) (stands.rests.replica.disk_agrees.up p) (stands.rests.replica.buffer_empty p)) where
+  pub sound-at : (p : ℕ) → NodeSound c.start p (node_of w p)
+  sound-at p = at (node_of w p) refl (node-in (node_of w p) (stands.rests.replica.disk_agrees.up p) (stands.rests.replica.buffer_empty p)) where
     oneself : {h : Held} (greens : List Action) → IsCore c h greens → h.id ≡ p → IsCoreAt c.start p h
     oneself greens core id = record { greens = greens; is = record { made_of = core.made_of; contiguous = core.contiguous; yellow_closed = core.yellow_closed }; id = id }
 
-    life : (l : Life) → replica_of w p ≡ running l → disk_held w p ≡ Some (on_disk l) → (s : Seat) → s.life ≡ l → SeatRests (Some s) → LifeSound c.start p l
+    life : (l : NodeState) → replica_of w p ≡ running l → disk_held w p ≡ Some (on_disk l) → (s : Node) → s.life ≡ l → NodeRests (Some s) → LifeSound c.start p l
     life (Up r disk) runs has_disk s e rests =
         let here : replica_of c.world p ≡ Some r = sym (stands.same.running p) ∙ runs in
         let mode = subst (λ (o : Option Replica). IfSome o (IsModeData c p)) here (stands.facts.replica.mode_data p) in
@@ -88,37 +88,37 @@ module _ (c : Chronicle) (w : World) (stands : StandsBeside c w) where
     life (Down disk green) runs has_disk s e rests =
         let here : disk_held c.world p ≡ Some disk.content = sym (stands.same.disk p) ∙ has_disk in
         oneself (stood_of c p) (subst (λ (o : Option Held). IfSome o (λ h. IsCore c h (stood_of c p))) here (stands.facts.replica.cores.disk p))
-        (subst (λ (o : Option Held). IfSome o (λ h. h.id ≡ p)) here (stands.facts.net.seated.disk p))
+        (subst (λ (o : Option Held). IfSome o (λ h. h.id ≡ p)) here (stands.facts.net.hosted.disk p))
 
-    at : (o : Option Seat) → seat_of w p ≡ o → SeatRests o → SeatSound c.start p o
+    at : (o : Option Node) → node_of w p ≡ o → NodeRests o → NodeSound c.start p o
     at None e rests = tt
-    at (Some s) e rests = life s.life (ap (λ (o : Option Seat). option_and_then (λ s. running s.life) o) e) (ap (λ (o : Option Seat). option_map (λ s. on_disk s.life) o) e) s refl rests
+    at (Some s) e rests = life s.life (ap (λ (o : Option Node). option_and_then (λ s. running s.life) o) e) (ap (λ (o : Option Node). option_map (λ s. on_disk s.life) o) e) s refl rests
 
   module _ (fits : MadeFits w) where
     grouped-fits : (g : GroupState Msg) → MadeFits (record w { group = g })
     grouped-fits g = fits-same w (record w { group = g }) refl refl fits
 
-    asked : (v : World) (p : ℕ) (kind : Kind) → v.seats ≡ w.seats → v.made ≡ w.made → MadeFits (ask v p kind).world
-    asked v p kind seats made =
-        hand-fits c.start (quietly v) p (AsksOf kind) (subst (SeatSound c.start p) (ap (λ (list : List Seat). seat_of (record w { seats = list }) p) (sym seats)) (sound-at p)) (fits-same w v seats made fits)
+    asked : (v : World) (p : ℕ) (kind : Kind) → v.nodes ≡ w.nodes → v.made ≡ w.made → MadeFits (ask v p kind).world
+    asked v p kind nodes made =
+        hand-fits c.start (quietly v) p (AsksOf kind) (subst (NodeSound c.start p) (ap (λ (list : List Node). node_of (record w { nodes = list }) p) (sym nodes)) (sound-at p)) (fits-same w v nodes made fits)
 
-    recovered-fits : (p : ℕ) → MadeFits (option_map_or (λ s. recover_from w s.life) (seat_of w p) (quietly w)).world
-    recovered-fits p = at (seat_of w p) (sound-at p) (fits.seats p) where
-      at : (o : Option Seat) → SeatSound c.start p o → SeatMade (index_in w.made p) p o → MadeFits (option_map_or (λ s. recover_from w s.life) o (quietly w)).world
+    recovered-fits : (p : ℕ) → MadeFits (option_map_or (λ s. recover_from w s.life) (node_of w p) (quietly w)).world
+    recovered-fits p = at (node_of w p) (sound-at p) (fits.nodes p) where
+      at : (o : Option Node) → NodeSound c.start p o → NodeMade (index_in w.made p) p o → MadeFits (option_map_or (λ s. recover_from w s.life) o (quietly w)).world
       at None sound made = fits
       at (Some s) sound made = came-up c.start w p (sound-at p) fits s.life sound made
 
-    pieces-fit : (joiner : ℕ) → has_begun w joiner ≡ false → (s : Snapshot) (taken : ℕ) → s.joiner ≡ joiner → index_in s.content.queue.green_cut joiner ≡ 0 → MadeFits (with_pieces w s taken)
+    pieces-fit : (joiner : ℕ) → has_begun w joiner ≡ false → (s : TransferState) (taken : ℕ) → s.joiner ≡ joiner → index_in s.content.queue.green_cut joiner ≡ 0 → MadeFits (with_pieces w s taken)
     pieces-fit joiner none s taken of green =
         let others = without_snapshot w s.joiner in
-        let r = joined s.joiner s.content in
+        let r = joiner_replica s.joiner s.content in
         cond_both (taken == piece_count s.content) (bring_up others r (new_disk r.held)) (record others { snapshots = others.snapshots ++ record s { taken = taken } ∷ [] }) MadeFits
         (λ y. joined-fits w others s.joiner s.content refl refl
-        (subst (λ (n : ℕ). index_in w.made n ≡ 0) (sym of) (unmade (seat_of w joiner) none (fits.seats joiner)))
+        (subst (λ (n : ℕ). index_in w.made n ≡ 0) (sym of) (unmade (node_of w joiner) none (fits.nodes joiner)))
         (subst (λ (n : ℕ). index_in s.content.queue.green_cut n ≡ 0) (sym of) green) fits)
         (λ n. fits-same w (record others { snapshots = others.snapshots ++ record s { taken = taken } ∷ [] }) refl refl fits)
       where
-        unmade : (o : Option Seat) → is_some o ≡ false → SeatMade (index_in w.made joiner) joiner o → index_in w.made joiner ≡ 0
+        unmade : (o : Option Node) → is_some o ≡ false → NodeMade (index_in w.made joiner) joiner o → index_in w.made joiner ≡ 0
         unmade None e is = is
         unmade (Some s) e is = absurd (let clash : true ≡ false = e in cc)
 

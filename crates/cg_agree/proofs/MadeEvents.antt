@@ -14,60 +14,60 @@ use Rattle.cg_group.specs.declared.delivery.Delivery.TheVariants.{Regular as Reg
 use Rattle.cg_group.specs.State.{delivered_to, home}
 use Rattle.cg_group.specs.Events.{order, receive, gather, deliveries_at, handed_in_split, deliver, split, merge}
 use Rattle.cg_client.specs.Replica.{Held, Replica, fresh}
-use Rattle.cg_step.specs.Step.{Input, Deliveries, Asks as AsksOf}
+use Rattle.cg_replica_step.specs.Step.{Input, Deliveries, Asks as AsksOf}
 use Rattle.cg_commit.specs.Crash.{FailOnce, StopWith, Strike, at_rest, new_disk}
 use Rattle.cg_schedule.specs.declared.event.Event.{Event}
 use Rattle.cg_schedule.specs.declared.event.Event.TheVariants.{Start, Split, Merge, Request, Weak, Dirty, Order, Recover, Show, ShowOrder, Gather, End, Receive, Deliver, Rounds, Stop, Fail, Join, Leave, Transfer}
 use Rattle.cg_report.specs.declared.entry.Made.{Made}
-use Rattle.cg_model.specs.FactsBooks.{LifeMade, MadeFits, SeatMade}
-use Rattle.cg_model.specs.World.{Life, Up, Down, Seat, Snapshot, World, seat_of, replica_of, bring_up}
-use Rattle.cg_model.specs.Show.{Going, ended}
+use Rattle.cg_model.specs.FactsBooks.{LifeMade, MadeFits, NodeMade}
+use Rattle.cg_model.specs.World.{NodeState, Up, Down, Node, TransferState, World, node_of, replica_of, bring_up}
+use Rattle.cg_model.specs.Show.{StepInProgress, ended}
 use Rattle.cg_model.specs.Run.{MayStand}
-use Rattle.cg_model.specs.Step.{quietly, hand_to, hand, hand_over, name_also, begin_replica, arm_at, crash_at, recover_from, joined, snapshot_for, without_snapshot, with_pieces, take_pieces, transfer, happens, world_step}
+use Rattle.cg_model.specs.Step.{quietly, hand_to, hand, hand_over, name_also, begin_replica, arm_at, crash_at, recover_from, joiner_replica, snapshot_for, without_snapshot, with_pieces, take_pieces, transfer, happens, world_step}
 use Rattle.cg_model.specs.Chronicle.{Chronicle}
 use Rattle.cg_model.specs.Looks.{on_disk, disk_held, stood_of}
 use Rattle.cg_model.specs.FactsLists.{IsRising}
 use Rattle.cg_model.specs.FactsReplica.{IsCore}
 use Rattle.cg_model.specs.Played.{StandsBeside}
-use Rattle.cg_agree_lemmas.specs.ChronicleFacts.{seat_of-set}
+use Rattle.cg_agree_lemmas.specs.ChronicleFacts.{node_of-set}
 use Rattle.cg_agree_lemmas.specs.MadeSplit.{rising-set-list}
 use Rattle.cg_agree_lemmas.specs.RestsBehind.{handed-ids, split-to}
 use Rattle.cg_agree_lemmas.specs.WorldTurns.{hand-behind}
-use Rattle.cg_agree_lemmas.specs.MadeWorlds.{SeatSound, fits-same, hand-fits}
+use Rattle.cg_agree_lemmas.specs.MadeWorlds.{NodeSound, fits-same, hand-fits}
 use Rattle.cg_agree.proofs.MadeBookKept.{sound-at}
-use Rattle.cg_agree_lemmas.specs.MadeShown.{AreLast, SeatLast, AddsTo, Adds, adds-wider, LifeWell, SeatWell, last-set, core-last, turn-adds, none-adds, recovery-adds}
+use Rattle.cg_agree_lemmas.specs.MadeShown.{AreLast, NodeLast, AddsTo, Adds, adds-wider, LifeWell, NodeWell, last-set, core-last, turn-adds, none-adds, recovery-adds}
 use Rattle.cg_client.specs.Joined.{piece_count}
 
 -- ---- what is handed
 
 -- a step under way, in which replicas below that one took their turns
-record IsUnderWay (start : List Weighted) (w : World) (low : ℕ) (go : Going) : Type 0 where
+record IsUnderWay (start : List Weighted) (w : World) (low : ℕ) (go : StepInProgress) : Type 0 where
   adds : AddsTo w low go
   fits : MadeFits go.world
-  well : (p : ℕ) → low ≤ p → SeatWell start p (seat_of go.world p)
+  well : (p : ℕ) → low ≤ p → NodeWell start p (node_of go.world p)
 
-hand-adds : (start : List Weighted) (w : World) (go : Going) (p : ℕ) (input : Input) → IsUnderWay start w p go → AddsTo w (suc p) (hand go p input)
+hand-adds : (start : List Weighted) (w : World) (go : StepInProgress) (p : ℕ) (input : Input) → IsUnderWay start w p go → AddsTo w (suc p) (hand go p input)
 unfolding hand
-hand-adds start w go p input way = at (seat_of go.world p) (way.well p (let same : p ≤ p = omega arith in same)) (way.fits.seats p) where
+hand-adds start w go p input way = at (node_of go.world p) (way.well p (let same : p ≤ p = omega arith in same)) (way.fits.nodes p) where
   none : AddsTo w (suc p) go
   none = adds-wider w p (suc p) go.made go.world (let le : p ≤ suc p = omega arith in le) way.adds
 
-  life : (l : Life) → LifeWell start p l → LifeMade (index_in go.world.made p) p l → AddsTo w (suc p) (hand_to go p input l)
+  life : (l : NodeState) → LifeWell start p l → LifeMade (index_in go.world.made p) p l → AddsTo w (suc p) (hand_to go p input l)
   life (Up r disk) well made = turn-adds start w go p r disk input well way.fits.rising made way.adds
   life (Down disk green) well made = none
 
-  at : (o : Option Seat) → SeatWell start p o → SeatMade (index_in go.world.made p) p o → AddsTo w (suc p) (option_map_or (λ s. hand_to go p input s.life) o go)
+  at : (o : Option Node) → NodeWell start p o → NodeMade (index_in go.world.made p) p o → AddsTo w (suc p) (option_map_or (λ s. hand_to go p input s.life) o go)
   at None well made = none
   at (Some s) well made = life s.life well made
 
-well-sound : (start : List Weighted) (p : ℕ) (o : Option Seat) → SeatWell start p o → SeatSound start p o
+well-sound : (start : List Weighted) (p : ℕ) (o : Option Node) → NodeWell start p o → NodeSound start p o
 well-sound start p None well = tt
 well-sound start p (Some s) well = well.0
 
 abbrev pub AddsSome : World → List Made → World → Type 0
 AddsSome w list v = (low : ℕ) × Adds w low list v
 
-handed-adds : (start : List Weighted) (w : World) (list : List (Handed Msg)) (go : Going) (low : ℕ) → IsRising low (map (λ h. h.to) list) → IsUnderWay start w low go →
+handed-adds : (start : List Weighted) (w : World) (list : List (Handed Msg)) (go : StepInProgress) (low : ℕ) → IsRising low (map (λ h. h.to) list) → IsUnderWay start w low go →
     (let g = fold hand_over go list in AddsSome w g.made g.world)
 handed-adds start w [] go low rise way = (low, way.adds)
 handed-adds start w (h ∷ list) go low rise way =
@@ -76,10 +76,10 @@ handed-adds start w (h ∷ list) go low rise way =
     let here : IsUnderWay start w p go = record { adds = adds-wider w low p go.made go.world first way.adds; fits = way.fits; well = λ q le. way.well q (omega arith) } in
     handed-adds start w list (hand_over go h) (suc p) rise.1 (record {
       adds = hand-adds start w go p (Deliveries h.list) here;
-      fits = hand-fits start go p (Deliveries h.list) (well-sound start p (seat_of go.world p) (way.well p first)) way.fits;
-      well = λ q le. subst (SeatWell start q) (sym (stays q le)) (way.well q (omega arith));
+      fits = hand-fits start go p (Deliveries h.list) (well-sound start p (node_of go.world p) (way.well p first)) way.fits;
+      well = λ q le. subst (NodeWell start q) (sym (stays q le)) (way.well q (omega arith));
     }) where
-      stays : (q : ℕ) → suc h.to ≤ q → seat_of (hand_over go h).world q ≡ seat_of go.world q
+      stays : (q : ℕ) → suc h.to ≤ q → node_of (hand_over go h).world q ≡ node_of go.world q
       stays q le = elim (hand-behind (λ x input. x ≡ h.to) go h.to (Deliveries h.list) refl q) [
         | inl same ↦ same
         | inr turn ↦ absurd (let same : q ≡ h.to = turn.of in omega arith)
@@ -91,69 +91,69 @@ handed-adds start w (h ∷ list) go low rise way =
 record IsQuiet (w v : World) : Type 0 where
   made : v.made ≡ w.made
   order : v.order ≡ w.order
-  last : AreLast v.made v.seats
+  last : AreLast v.made v.nodes
 
 quiet-adds : (w v : World) → IsQuiet w v → AddsSome w [] v
 quiet-adds w v is = (0, none-adds w v 0 is.made is.order is.last)
 
-begun-last : (set : List Weighted) (list : List ℕ) (w : World) → AreLast w.made w.seats → IsQuiet w (fold (begin_replica set) w list)
+begun-last : (set : List Weighted) (list : List ℕ) (w : World) → AreLast w.made w.nodes → IsQuiet w (fold (begin_replica set) w list)
 begun-last set [] w last = record { made = refl; order = refl; last = last }
 begun-last set (p ∷ list) w last =
     let r = fresh p set in
     let v = begin_replica set w p in
-    let rest = begun-last set list v (last-set w v p (Up r (new_disk r.held)) (λ q. seat_of-set (name_also w p) p (Up r (new_disk r.held)) q) tt (λ q apart. refl) last) in
+    let rest = begun-last set list v (last-set w v p (Up r (new_disk r.held)) (λ q. node_of-set (name_also w p) p (Up r (new_disk r.held)) q) tt (λ q apart. refl) last) in
     record { made = rest.made; order = rest.order; last = rest.last }
 
-module _ (start : List Weighted) (w : World) (p : ℕ) (well : SeatWell start p (seat_of w p)) (fits : MadeFits w) (last : AreLast w.made w.seats) where
-  of-seat : (f : Life → World) → ((l : Life) → LifeWell start p l → LifeMade (index_in w.made p) p l → IsQuiet w (f l)) → IsQuiet w (option_map_or (λ s. f s.life) (seat_of w p) w)
-  of-seat f each = at (seat_of w p) well (fits.seats p) where
-    at : (o : Option Seat) → SeatWell start p o → SeatMade (index_in w.made p) p o → IsQuiet w (option_map_or (λ s. f s.life) o w)
+module _ (start : List Weighted) (w : World) (p : ℕ) (well : NodeWell start p (node_of w p)) (fits : MadeFits w) (last : AreLast w.made w.nodes) where
+  of-node : (f : NodeState → World) → ((l : NodeState) → LifeWell start p l → LifeMade (index_in w.made p) p l → IsQuiet w (f l)) → IsQuiet w (option_map_or (λ s. f s.life) (node_of w p) w)
+  of-node f each = at (node_of w p) well (fits.nodes p) where
+    at : (o : Option Node) → NodeWell start p o → NodeMade (index_in w.made p) p o → IsQuiet w (option_map_or (λ s. f s.life) o w)
     at None well made = record { made = refl; order = refl; last = last }
     at (Some s) well made = each s.life well made
 
-  stopped-quiet : IsQuiet w (option_map_or (λ s. crash_at w p s.life) (seat_of w p) w)
-  stopped-quiet = of-seat (crash_at w p) life where
-    life : (l : Life) → LifeWell start p l → LifeMade (index_in w.made p) p l → IsQuiet w (crash_at w p l)
+  stopped-quiet : IsQuiet w (option_map_or (λ s. crash_at w p s.life) (node_of w p) w)
+  stopped-quiet = of-node (crash_at w p) life where
+    life : (l : NodeState) → LifeWell start p l → LifeMade (index_in w.made p) p l → IsQuiet w (crash_at w p l)
     life (Up r disk) well made = record {
       made = refl;
       order = refl;
-      last = last-set w (crash_at w p (Up r disk)) p (Down (at_rest disk) []) (λ q. seat_of-set w p (Down (at_rest disk) []) q)
+      last = last-set w (crash_at w p (Up r disk)) p (Down (at_rest disk) []) (λ q. node_of-set w p (Down (at_rest disk) []) q)
           (core-last start (index_in w.made p) p disk.content well.1 (made ∙ well.0.1.created)) (λ q apart. refl) last;
     }
     life (Down disk green) well made = record { made = refl; order = refl; last = last }
 
-  armed-quiet : (strike : Strike) → IsQuiet w (option_map_or (λ s. arm_at w p strike s.life) (seat_of w p) w)
-  armed-quiet strike = of-seat (arm_at w p strike) life where
-    life : (l : Life) → LifeWell start p l → LifeMade (index_in w.made p) p l → IsQuiet w (arm_at w p strike l)
+  armed-quiet : (strike : Strike) → IsQuiet w (option_map_or (λ s. arm_at w p strike s.life) (node_of w p) w)
+  armed-quiet strike = of-node (arm_at w p strike) life where
+    life : (l : NodeState) → LifeWell start p l → LifeMade (index_in w.made p) p l → IsQuiet w (arm_at w p strike l)
     life (Up r disk) well made = record {
       made = refl;
       order = refl;
-      last = last-set w (arm_at w p strike (Up r disk)) p (Up r (record disk { armed = Some strike })) (λ q. seat_of-set w p (Up r (record disk { armed = Some strike })) q) tt (λ q apart. refl) last;
+      last = last-set w (arm_at w p strike (Up r disk)) p (Up r (record disk { armed = Some strike })) (λ q. node_of-set w p (Up r (record disk { armed = Some strike })) q) tt (λ q apart. refl) last;
     }
     life (Down disk green) well made = record { made = refl; order = refl; last = last }
 
 -- a joiner comes up
-pieces-quiet : (w : World) (s : Snapshot) (taken : ℕ) → AreLast w.made w.seats → IsQuiet w (with_pieces w s taken)
+pieces-quiet : (w : World) (s : TransferState) (taken : ℕ) → AreLast w.made w.nodes → IsQuiet w (with_pieces w s taken)
 pieces-quiet w s taken last =
     let others = without_snapshot w s.joiner in
-    let r = joined s.joiner s.content in
+    let r = joiner_replica s.joiner s.content in
     cond_both (taken == piece_count s.content) (bring_up others r (new_disk r.held)) (record others { snapshots = others.snapshots ++ record s { taken = taken } ∷ [] }) (IsQuiet w)
-    (λ y. record { made = refl; order = refl; last = last-set w (bring_up others r (new_disk r.held)) s.joiner (Up r (new_disk r.held)) (λ q. seat_of-set others s.joiner (Up r (new_disk r.held)) q) tt (λ q apart. refl) last })
+    (λ y. record { made = refl; order = refl; last = last-set w (bring_up others r (new_disk r.held)) s.joiner (Up r (new_disk r.held)) (λ q. node_of-set others s.joiner (Up r (new_disk r.held)) q) tt (λ q apart. refl) last })
     (λ n. record { made = refl; order = refl; last = last })
 
 -- ---- events
 
-module _ (c : Chronicle) (w : World) (stands : StandsBeside c w) (fits : MadeFits w) (last : AreLast w.made w.seats) where
-  well-at : (p : ℕ) → SeatWell c.start p (seat_of w p)
-  well-at p = at (seat_of w p) refl (sound-at c w stands p) where
-    at : (o : Option Seat) → seat_of w p ≡ o → SeatSound c.start p o → SeatWell c.start p o
+module _ (c : Chronicle) (w : World) (stands : StandsBeside c w) (fits : MadeFits w) (last : AreLast w.made w.nodes) where
+  well-at : (p : ℕ) → NodeWell c.start p (node_of w p)
+  well-at p = at (node_of w p) refl (sound-at c w stands p) where
+    at : (o : Option Node) → node_of w p ≡ o → NodeSound c.start p o → NodeWell c.start p o
     at None e sound = tt
     at (Some s) e sound =
         let content = on_disk s.life in
-        let has : disk_held w p ≡ Some content = ap (λ (o : Option Seat). option_map (λ s. on_disk s.life) o) e in
+        let has : disk_held w p ≡ Some content = ap (λ (o : Option Node). option_map (λ s. on_disk s.life) o) e in
         let here : disk_held c.world p ≡ Some content = sym (stands.same.disk p) ∙ has in
         let core = subst (λ (o : Option Held). IfSome o (λ h. IsCore c h (stood_of c p))) here (stands.facts.replica.cores.disk p) in
-        let id = subst (λ (o : Option Held). IfSome o (λ h. h.id ≡ p)) here (stands.facts.net.seated.disk p) in (
+        let id = subst (λ (o : Option Held). IfSome o (λ h. h.id ≡ p)) here (stands.facts.net.hosted.disk p) in (
           sound,
           record {
             greens = stood_of c p;
@@ -165,19 +165,19 @@ module _ (c : Chronicle) (w : World) (stands : StandsBeside c w) (fits : MadeFit
   unchanged : AddsSome w [] w
   unchanged = quiet-adds w w (record { made = refl; order = refl; last = last })
 
-  under-way : (low : ℕ) (v : World) → v.seats ≡ w.seats → v.made ≡ w.made → v.order ≡ w.order → IsUnderWay c.start w low (quietly v)
-  under-way low v seats made order = record {
-    adds = none-adds w v low made order (subst (λ m. AreLast m v.seats) (sym made) (subst (AreLast w.made) (sym seats) last));
-    fits = fits-same w v seats made fits;
-    well = λ p le. subst (SeatWell c.start p) (ap (λ (list : List Seat). find (λ s. s.id == p) list) (sym seats)) (well-at p);
+  under-way : (low : ℕ) (v : World) → v.nodes ≡ w.nodes → v.made ≡ w.made → v.order ≡ w.order → IsUnderWay c.start w low (quietly v)
+  under-way low v nodes made order = record {
+    adds = none-adds w v low made order (subst (λ m. AreLast m v.nodes) (sym made) (subst (AreLast w.made) (sym nodes) last));
+    fits = fits-same w v nodes made fits;
+    well = λ p le. subst (NodeWell c.start p) (ap (λ (list : List Node). find (λ s. s.id == p) list) (sym nodes)) (well-at p);
   }
 
-  one-turn : (v : World) (p : ℕ) (input : Input) → v.seats ≡ w.seats → v.made ≡ w.made → v.order ≡ w.order → (let g = hand (quietly v) p input in AddsSome w g.made g.world)
-  one-turn v p input seats made order = (suc p, hand-adds c.start w (quietly v) p input (under-way p v seats made order))
+  one-turn : (v : World) (p : ℕ) (input : Input) → v.nodes ≡ w.nodes → v.made ≡ w.made → v.order ≡ w.order → (let g = hand (quietly v) p input in AddsSome w g.made g.world)
+  one-turn v p input nodes made order = (suc p, hand-adds c.start w (quietly v) p input (under-way p v nodes made order))
 
-  recovered-adds : (p : ℕ) → (let g = option_map_or (λ s. recover_from w s.life) (seat_of w p) (quietly w) in AddsSome w g.made g.world)
-  recovered-adds p = at (seat_of w p) (well-at p) (fits.seats p) (last p) where
-    at : (o : Option Seat) → SeatWell c.start p o → SeatMade (index_in w.made p) p o → SeatLast (index_in w.made p) p o →
+  recovered-adds : (p : ℕ) → (let g = option_map_or (λ s. recover_from w s.life) (node_of w p) (quietly w) in AddsSome w g.made g.world)
+  recovered-adds p = at (node_of w p) (well-at p) (fits.nodes p) (last p) where
+    at : (o : Option Node) → NodeWell c.start p o → NodeMade (index_in w.made p) p o → NodeLast (index_in w.made p) p o →
         (let g = option_map_or (λ s. recover_from w s.life) o (quietly w) in AddsSome w g.made g.world)
     at None well made is = unchanged
     at (Some s) well made is = (suc p, recovery-adds c.start w p s.life well fits.rising made is last)

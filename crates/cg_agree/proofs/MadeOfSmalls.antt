@@ -13,10 +13,10 @@ use Rattle.cg_group.specs.Events.{furthest, handed_in_split, deliveries_at, deli
 use Rattle.cg_group.specs.EachLaws.{Each, Each-append, Each-at}
 use Rattle.cg_group.specs.declared.delivery.Delivery.TheVariants.{Regular as RegularIn}
 use Rattle.cg_client.specs.Replica.{Held, Replica}
-use Rattle.cg_step.specs.Step.{Input, Deliveries, Asks as AsksOf}
+use Rattle.cg_replica_step.specs.Step.{Input, Deliveries, Asks as AsksOf}
 use Rattle.cg_schedule.specs.declared.event.Event.{Event}
 use Rattle.cg_schedule.specs.declared.event.Event.TheVariants.{Start, Split, Merge, Request, Weak, Dirty, Order, Recover, Show, ShowOrder, Gather, End, Receive, Deliver, Rounds, Stop, Fail, Join, Leave, Transfer}
-use Rattle.cg_model.specs.World.{Seat, running, World, replica_of, left_replicas}
+use Rattle.cg_model.specs.World.{Node, running, World, replica_of, left_replicas}
 use Rattle.cg_model.specs.Admission.{first_refusal, unknown, has_left, takes_part, never_named, joiner_left, not_green}
 use Rattle.cg_model.specs.AdmissionCalls.{begun_already}
 use Rattle.cg_model.specs.Run.{MayStand}
@@ -91,7 +91,7 @@ made-untold c set q untold between = record { told = untold; newest = length-nex
 
 made-kept : (c : Chronicle) (set : List ℕ) (q : ℕ) → IsKept c (small_step c (Makes set)) q
 unfolding small_step
-made-kept c set q = record { seat = refl; past = refl }
+made-kept c set q = record { node = refl; past = refl }
 
 module _ (c : Chronicle) (w : World) (same : IsSame w c.world) (sound : IsSound w) (written : (p : ℕ) → IsWritten c p)
     (untold : (p : ℕ) → told_in c (suc (length c.world.group.configurations)) p ≡ None) (named : (p : ℕ) → IfSome (replica_of c.world p) (λ r. r.held.id ≡ p)) where
@@ -153,7 +153,7 @@ module _ (c : Chronicle) (w : World) (same : IsSame w c.world) (sound : IsSound 
       made-untold c set q (untold q)
       (both-of (replica_of c.world q) (named q) (subst (λ (o : Option Replica). IfSome o (λ r. is_between r.state ≡ true)) (same.running q) (between (Each-at (IsComing w set) set q coming there)))) where
         between : IsComing w set q → IfSome (replica_of w q) (λ r. is_between r.state ≡ true)
-        between at = subst (λ (o : Option Seat). IfSome (option_and_then (λ s. running s.life) o) (λ r. is_between r.state ≡ true)) (sym at.here.seat) at.between
+        between at = subst (λ (o : Option Node). IfSome (option_and_then (λ s. running s.life) o) (λ r. is_between r.state ≡ true)) (sym at.here.node) at.between
 
         both-of : (o : Option Replica) → IfSome o (λ r. r.held.id ≡ q) → IfSome o (λ r. is_between r.state ≡ true) → IfSome o (λ r. (is_between r.state ≡ true) × (r.held.id ≡ q))
         both-of None a b = tt
@@ -187,12 +187,12 @@ module _ (c : Chronicle) (w : World) (same : IsSame w c.world) (sound : IsSound 
   made (Start set) stand admitted = made-quietly (Start set) (start-made w set stand.0 stand.1) (tt, tt)
   made (Split set) stand admitted =
       let rise = rising-lower 0 1 set (omega arith) (rising-set-list 1 set stand.1.ascends) in
-      let is = split-is w set rise sound.seats sound.group.rises (leaving-members w sound set admitted) in
+      let is = split-is w set rise sound.nodes sound.group.rises (leaving-members w sound set admitted) in
       made-of (Split set) is (split-rest set rise is)
   made (Merge set) stand admitted =
       let rise = rising-lower 0 1 set (omega arith) (rising-set-list 1 set stand.1.ascends) in
       let some = not-empty set (first-none (empty_set set) (any_of (unknown w) set ∷ any_of (not_up w.group) set ∷ any_of (has_left w) set ∷ merge_refusal w.group set (left_replicas w) ∷ []) (ap is_none admitted)).0 in
-      let is = merge-is w set stand.1 some rise sound.seats sound.group.rises (coming-members w sound set admitted) in
+      let is = merge-is w set stand.1 some rise sound.nodes sound.group.rises (coming-members w sound set admitted) in
       made-of (Merge set) is (merge-rest set rise (coming-members w sound set admitted) is)
   made (Request p cmds query) stand admitted = asked-rest (Request p cmds query) p (Update cmds query) refl (request-made w p cmds query sound.up admitted)
   made (Weak p query) stand admitted = made-quietly (Weak p query) (weak-made w p query) tt
@@ -205,13 +205,13 @@ module _ (c : Chronicle) (w : World) (same : IsSame w c.world) (sound : IsSound 
   made End stand admitted = absurd stand
   made (Receive p place) stand admitted = made-quietly (Receive p place) (receive-made w p place admitted) (tt, tt)
   made (Deliver p count) stand admitted =
-      let is = deliver-made w p count sound.up sound.seats sound.group.rises admitted in
+      let is = deliver-made w p count sound.up sound.nodes sound.group.rises admitted in
       made-of (Deliver p count) is (deliver-rest p count is)
   made (Rounds count) stand admitted = absurd stand
   made (Stop p zero fill) stand admitted =
       made-of (Stop p 0 fill) (stop-made w p fill (sound.up p ∙ (takes-part w p admitted).up)) (written p, tt)
-  made (Stop p (suc call) fill) stand admitted = made-of (Stop p (suc call) fill) (armed-made w p call fill sound.seats) (armed-rest p call fill)
-  made (Fail p call) stand admitted = made-quietly (Fail p call) (fail-made w p call sound.seats) tt
+  made (Stop p (suc call) fill) stand admitted = made-of (Stop p (suc call) fill) (armed-made w p call fill sound.nodes) (armed-rest p call fill)
+  made (Fail p call) stand admitted = made-quietly (Fail p call) (fail-made w p call sound.nodes) tt
   made (Join p joiner weight) stand admitted = asked-rest (Join p joiner weight) p (JoinKind joiner weight) refl (join-made w p joiner weight sound.up admitted)
   made (Leave p server) stand admitted = asked-rest (Leave p server) p (LeaveKind server) refl (leave-made w p server sound.up admitted)
   made (Transfer p joiner pieces) stand admitted =

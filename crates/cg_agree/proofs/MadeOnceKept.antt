@@ -19,12 +19,12 @@ use Rattle.cg_group.specs.Events.{delivery_at, deliveries_at}
 use Rattle.cg_client.specs.Replica.{Held, State, RegPrim, TransPrim, ExchangeStates, ExchangeActions, Construct, No, Un, NonPrim, Left, Replica, created}
 use Rattle.cg_client.specs.Turn.{Turn, begin}
 use Rattle.cg_client.specs.Requests.{is_creating, create_kept, buffer, settle, request_in, request}
-use Rattle.cg_step.specs.Recorded.{OfMessage}
+use Rattle.cg_replica_step.specs.Recorded.{OfMessage}
 use Rattle.cg_commit.specs.Crash.{Disk}
 use Rattle.cg_model.specs.FactsBooks.{HoldsFine}
-use Rattle.cg_model.specs.World.{Life, Up, Down, Seat, Snapshot, running, seat_of, replica_of}
+use Rattle.cg_model.specs.World.{NodeState, Up, Down, Node, TransferState, running, node_of, replica_of}
 use Rattle.cg_model.specs.Attempts.{held_in}
-use Rattle.cg_model.specs.Step.{joined}
+use Rattle.cg_model.specs.Step.{joiner_replica}
 use Rattle.cg_model.specs.Chronicle.{Chronicle}
 use Rattle.cg_model.specs.Looks.{greens_of, core_of, ordered_in, snapshot_of, copied_for, OfCores}
 use Rattle.cg_model.specs.FactsReplica.{MadeOnce, IsCore, IsModeData}
@@ -38,7 +38,7 @@ use Rattle.cg_agree_lemmas.specs.HeldMarks.{IsOneself, rising-red}
 use Rattle.cg_agree_lemmas.specs.CoresKept.{TurnKeeps, cores-weaker, held-known}
 use Rattle.cg_agree_lemmas.specs.CoresSmall.{StepKeeps, cores-kept, ready-of}
 use Rattle.cg_agree.proofs.DiskBehindKept.{disk_behind-kept}
-use Rattle.cg_agree.proofs.NetFactsKept.{seated-in}
+use Rattle.cg_agree.proofs.NetFactsKept.{hosted-in}
 use Rattle.cg_agree.proofs.AttemptSteps.{group-of}
 use Rattle.cg_agree_lemmas.specs.OneSteps.{may-join}
 use Rattle.cg_agree.proofs.BegunKept.{nothing-before}
@@ -147,9 +147,9 @@ module _ (c : Chronicle) (i : Invariant c) (joiners : JoinersBooked c) where
     pub fine : AllFine (IsNamed (c.book ++ (part (begin r)).made)) (part (begin r))
     pub counted : IsCounted c.book r.held (part (begin r))
 
-  module _ (p : ℕ) (r : Replica) (disk : Disk) (seat : seat_of c.world p ≡ Some (record { id = p; life = Up r disk })) where
+  module _ (p : ℕ) (r : Replica) (disk : Disk) (node : node_of c.world p ≡ Some (record { id = p; life = Up r disk })) where
     here : replica_of c.world p ≡ Some r
-    here = ap (λ (o : Option Seat). option_and_then (λ s. running s.life) o) seat
+    here = ap (λ (o : Option Node). option_and_then (λ s. running s.life) o) node
 
     core : IsCore c r.held (greens_of c p)
     core = subst (λ (o : Option Replica). IfSome o (λ r. IsCore c r.held (greens_of c p))) here (i.replica.cores.memory p)
@@ -165,7 +165,7 @@ module _ (c : Chronicle) (i : Invariant c) (joiners : JoinersBooked c) where
 
     count : index_in (cut_of c.book) r.held.id ≡ created r.held
     count = ap (index_in (cut_of c.book)) named
-        ∙ subst (λ (o : Option Held). IfSome o (λ h. index_in (cut_of c.book) p ≡ created h)) (ap (λ (o : Option Seat). option_map (λ s. held_in s.life) o) seat) (i.replica.made_once.counted p)
+        ∙ subst (λ (o : Option Held). IfSome o (λ h. index_in (cut_of c.book) p ≡ created h)) (ap (λ (o : Option Node). option_map (λ s. held_in s.life) o) node) (i.replica.made_once.counted p)
 
     held : FineHeld c.book r.held (greens_of c p)
     held = held-known (FineHeld c.book) c p r here cores
@@ -206,38 +206,38 @@ module _ (c : Chronicle) (i : Invariant c) (joiners : JoinersBooked c) where
         let counted = request-counted c.book r.held (begin r) kind first in
         record { fine = request-fine (IsNamed (c.book ++ t.made)) (begin r) kind (named-all c.book t.made counted.run) (begins t.made); counted = counted }
 
-  -- what comes of a turn from a chronicle with the same seats and the same book
+  -- what comes of a turn from a chronicle with the same nodes and the same book
   record TurnParts (p : ℕ) (part : Turn → Turn) (d : Chronicle) : Type 0 where
     pub grown : Grown c d
     pub keeps : TurnKeeps c p part (FineHeld d.book)
     pub says : TurnSays (OfMessage (IsNamed d.book)) c p part
     pub counts : BookCounts d
 
-  turn-parts : (b : Chronicle) (p : ℕ) (part : Turn → Turn) → b.world.seats ≡ c.world.seats → b.book ≡ c.book →
-      ((r : Replica) (disk : Disk) → seat_of c.world p ≡ Some (record { id = p; life = Up r disk }) → TurnSound part r) → TurnParts p part (turning b p part)
-  turn-parts b p part seats book sound = record {
-    grown = at (seat_of b.world p);
-    keeps = λ r disk seat. (
+  turn-parts : (b : Chronicle) (p : ℕ) (part : Turn → Turn) → b.world.nodes ≡ c.world.nodes → b.book ≡ c.book →
+      ((r : Replica) (disk : Disk) → node_of c.world p ≡ Some (record { id = p; life = Up r disk }) → TurnSound part r) → TurnParts p part (turning b p part)
+  turn-parts b p part nodes book sound = record {
+    grown = at (node_of b.world p);
+    keeps = λ r disk node. (
         let t = part (begin r) in
-        let is = (sound r disk seat).fine in
-        subst (λ (list : List Action). FineHeld list t.replica.held (greens_of c p ++ newly_green r t.replica)) (sym (book-is r disk seat)) (
+        let is = (sound r disk node).fine in
+        subst (λ (list : List Action). FineHeld list t.replica.held (greens_of c p ++ newly_green r t.replica)) (sym (book-is r disk node)) (
           is.held,
           Each-append (IsNamed (c.book ++ t.made)) (greens_of c p) (newly_green r t.replica)
-              (Each-weaker (IsNamed c.book) (IsNamed (c.book ++ t.made)) (named-more c.book t.made) (greens_of c p) (held p r disk seat).1)
+              (Each-weaker (IsNamed c.book) (IsNamed (c.book ++ t.made)) (named-more c.book t.made) (greens_of c p) (held p r disk node).1)
               (each-drop (IsNamed (c.book ++ t.made)) (length r.held.queue.greens) t.replica.held.queue.greens is.held.greens),
         )
         );
-    says = λ r disk seat. subst (λ (list : List Action). Each (OfMessage (IsNamed list)) (part (begin r)).sent) (sym (book-is r disk seat)) (sound r disk seat).fine.sent;
-    counts = counts-turning c b p part seats book (λ r disk seat. (named p r disk seat, (sound r disk seat).counted)) counts;
+    says = λ r disk node. subst (λ (list : List Action). Each (OfMessage (IsNamed list)) (part (begin r)).sent) (sym (book-is r disk node)) (sound r disk node).fine.sent;
+    counts = counts-turning c b p part nodes book (λ r disk node. (named p r disk node, (sound r disk node).counted)) counts;
   } where
-    book-is : (r : Replica) (disk : Disk) → seat_of c.world p ≡ Some (record { id = p; life = Up r disk }) → (turning b p part).book ≡ c.book ++ (part (begin r)).made
-    book-is r disk seat = ap (λ (x : Chronicle). x.book) (book-turn b p part r disk (ap (λ (list : List Seat). find (λ s. s.id == p) list) seats ∙ seat)) ∙ ap (λ xs. xs ++ (part (begin r)).made) book
+    book-is : (r : Replica) (disk : Disk) → node_of c.world p ≡ Some (record { id = p; life = Up r disk }) → (turning b p part).book ≡ c.book ++ (part (begin r)).made
+    book-is r disk node = ap (λ (x : Chronicle). x.book) (book-turn b p part r disk (ap (λ (list : List Node). find (λ s. s.id == p) list) nodes ∙ node)) ∙ ap (λ xs. xs ++ (part (begin r)).made) book
 
-    life : (l : Life) → Grown c (turning_as b p part l)
+    life : (l : NodeState) → Grown c (turning_as b p part l)
     life (Up r disk) = record { more = (part (begin r)).made; is = ap (λ xs. xs ++ (part (begin r)).made) book }
     life (Down disk green) = grown-none c b book
 
-    at : (o : Option Seat) → Grown c (option_map_or (λ s. turning_as b p part s.life) o b)
+    at : (o : Option Node) → Grown c (option_map_or (λ s. turning_as b p part s.life) o b)
     at None = grown-none c b book
     at (Some s) = life s.life
 
@@ -250,54 +250,54 @@ module _ (c : Chronicle) (i : Invariant c) (joiners : JoinersBooked c) where
   at-some None change each = (refl, counts)
   at-some (Some x) change each = each x refl
 
-  commit-book : (p : ℕ) (l : Life) → (commit_as c p l).book ≡ c.book
+  commit-book : (p : ℕ) (l : NodeState) → (commit_as c p l).book ≡ c.book
   commit-book p (Up r disk) = refl
   commit-book p (Down disk green) = refl
 
-  crash-book : (p : ℕ) (l : Life) → (crash_as c p l).book ≡ c.book
+  crash-book : (p : ℕ) (l : NodeState) → (crash_as c p l).book ≡ c.book
   crash-book p (Up r disk) = refl
   crash-book p (Down disk green) = refl
 
-  recover-book : (l : Life) → (recover_as c l).book ≡ c.book
+  recover-book : (l : NodeState) → (recover_as c l).book ≡ c.book
   recover-book (Up r disk) = refl
   recover-book (Down disk green) = refl
 
   step-sound : (s : Small) → may_make c s ≡ true → AtRest c s → StepSound c s
   unfolding small_step may_make
   step-sound (Starts set) may rest =
-      let before = nothing-before c i.net.seated (and_parts (is_nil c.world.seats) (is_set (ids set)) may).0 in
+      let before = nothing-before c i.net.hosted (and_parts (is_nil c.world.nodes) (is_set (ids set)) may).0 in
       record { grown = grown-none c (start c set) refl; keeps = λ p. (record { greens = tt; reds = tt; own = tt }, tt); says = tt; counts = subst (λ (x : Chronicle). BookCounts (start x set)) (sym before) (counts-start set) }
   step-sound (Makes set) may rest = record { grown = grown-none c (small_step c (Makes set)) refl; keeps = tt; says = tt; counts = counts-same c (small_step c (Makes set)) refl refl counts }
   step-sound (Enters p) may rest =
       let conf = newest_conf c.world.group in
-      let all = turn-parts (coming c p) p (take_newest c.world.group) refl refl (λ r disk seat. takes-sound p r disk seat (RegularIn conf (configuration c.world.group conf).members ∷ []) (tt, tt)) in
+      let all = turn-parts (coming c p) p (take_newest c.world.group) refl refl (λ r disk node. takes-sound p r disk node (RegularIn conf (configuration c.world.group conf).members ∷ []) (tt, tt)) in
       record { grown = all.grown; keeps = all.keeps; says = all.says; counts = all.counts }
   step-sound (Orders p) may rest = record { grown = grown-none c (small_step c (Orders p)) refl; keeps = tt; says = tt; counts = counts-same c (small_step c (Orders p)) refl refl counts }
   step-sound (Receives p place) may rest = record { grown = grown-none c (small_step c (Receives p place)) refl; keeps = tt; says = tt; counts = counts-same c (small_step c (Receives p place)) refl refl counts }
   step-sound (Hands p) may rest =
       let g = c.world.group in
       let all = turn-parts (handed_next c p) p (take_next g p) refl refl
-      (λ r disk seat. takes-sound p r disk seat (delivery_at (home g p) (suc (delivered_to g p))) (place-comes (IsNamed c.book) (home g p) (suc (delivered_to g p)) (handed-come p))) in
+      (λ r disk node. takes-sound p r disk node (delivery_at (home g p) (suc (delivered_to g p))) (place-comes (IsNamed c.book) (home g p) (suc (delivered_to g p)) (handed-come p))) in
       record { grown = all.grown; keeps = all.keeps; says = all.says; counts = all.counts }
   step-sound (Leaves p set own places) may rest =
       let g = c.world.group in
       let all = turn-parts (leaving c p set own) p (take_parting g p set places) refl refl
-      (λ r disk seat. takes-sound p r disk seat (TransitionalIn (regular_in (phase_of g p)) set ∷ deliveries_at (home g p) places) (tt, places-come (IsNamed c.book) (home g p) places (handed-come p))) in
+      (λ r disk node. takes-sound p r disk node (TransitionalIn (regular_in (phase_of g p)) set ∷ deliveries_at (home g p) places) (tt, places-come (IsNamed c.book) (home g p) places (handed-come p))) in
       record { grown = all.grown; keeps = all.keeps; says = all.says; counts = all.counts }
   step-sound (Asks p kind) may rest =
-      let all = turn-parts c p (take_request kind) refl refl (λ r disk seat. asks-sound p r disk seat kind) in
+      let all = turn-parts c p (take_request kind) refl refl (λ r disk node. asks-sound p r disk node kind) in
       record { grown = all.grown; keeps = all.keeps; says = all.says; counts = all.counts }
   step-sound (Settles p) may rest =
-      let all = turn-parts c p settle refl refl (λ r disk seat. settles-sound p r disk seat) in
+      let all = turn-parts c p settle refl refl (λ r disk node. settles-sound p r disk node) in
       record { grown = all.grown; keeps = all.keeps; says = all.says; counts = all.counts }
   step-sound (Commits p) may rest =
-      let all = at-some (seat_of c.world p) (λ s. commit_as c p s.life) (λ s e. (commit-book p s.life, counts-commit c p s e s.life refl counts)) in
+      let all = at-some (node_of c.world p) (λ s. commit_as c p s.life) (λ s e. (commit-book p s.life, counts-commit c p s e s.life refl counts)) in
       record { grown = grown-none c (small_step c (Commits p)) all.0; keeps = tt; says = tt; counts = all.1 }
   step-sound (Crashes p) may rest =
-      let all = at-some (seat_of c.world p) (λ s. crash_as c p s.life) (λ s e. (crash-book p s.life, counts-crash c p rest s e s.life refl counts)) in
+      let all = at-some (node_of c.world p) (λ s. crash_as c p s.life) (λ s e. (crash-book p s.life, counts-crash c p rest s e s.life refl counts)) in
       record { grown = grown-none c (small_step c (Crashes p)) all.0; keeps = tt; says = tt; counts = all.1 }
   step-sound (Recovers p) may rest =
-      let all = at-some (seat_of c.world p) (λ s. recover_as c s.life) (λ s e. (recover-book s.life, counts-recover c p (i.net.seated.disk p) (i.replica.cores.disk p) s e s.life refl counts)) in
+      let all = at-some (node_of c.world p) (λ s. recover_as c s.life) (λ s e. (recover-book s.life, counts-recover c p (i.net.hosted.disk p) (i.replica.cores.disk p) s e s.life refl counts)) in
       record { grown = grown-none c (small_step c (Recovers p)) all.0; keeps = tt; says = tt; counts = all.1 }
   step-sound (Copies p joiner) may rest =
       let all = at-some (replica_of c.world p) (copy_as c p joiner) (λ r e. (refl, counts-same c (copy_as c p joiner r) refl refl counts)) in
@@ -306,8 +306,8 @@ module _ (c : Chronicle) (i : Invariant c) (joiners : JoinersBooked c) where
       let all = at-some (snapshot_of c.world joiner) (λ s. join_with c joiner s.content) (λ s e. (
         refl,
         counts-join c joiner s.content (may-join c joiner may).fresh
-            (subst (λ (o : Option Snapshot). IfSome o (λ s. IsCore c (joined joiner s.content).held (copied_for c joiner))) e (i.replica.cores.snapshot joiner))
-            (subst (λ (o : Option Snapshot). IfSome o (λ s. Each (IsNamed c.book) (copied_for c joiner))) e (joiners.copied joiner)) counts,
+            (subst (λ (o : Option TransferState). IfSome o (λ s. IsCore c (joiner_replica joiner s.content).held (copied_for c joiner))) e (i.replica.cores.snapshot joiner))
+            (subst (λ (o : Option TransferState). IfSome o (λ s. Each (IsNamed c.book) (copied_for c joiner))) e (joiners.copied joiner)) counts,
       )) in
       record { grown = grown-none c (small_step c (Joins joiner)) all.0; keeps = tt; says = tt; counts = all.1 }
 
@@ -319,19 +319,19 @@ made_once-kept c s i joiners may rest =
     let more : (a : Action) → IsNamed c.book a → IsNamed d.book a = λ a is. subst (λ xs. IsNamed xs a) (sym step.grown.is) (named-more c.book step.grown.more a is) in
     let before = cores-weaker (FineHeld c.book) (FineHeld d.book) c
     (λ h all is. (holds-weaker (IsNamed d.book) (IsNamed c.book) more h is.0, Each-weaker (IsNamed c.book) (IsNamed d.book) more all is.1)) (cores-booked c i joiners) in
-    let seated = seated-in c s i may in
-    let behind = disk_behind-kept c s i.net.seated may i.replica.disk_behind in
-    let now : OfCores d (FineHeld d.book) = cores-kept (FineHeld d.book) c s (ready-of c i.net.seated i.replica.disk_behind) may (booked-closed d.book) step.keeps before in
+    let hosted = hosted-in c s i may in
+    let behind = disk_behind-kept c s i.net.hosted may i.replica.disk_behind in
+    let now : OfCores d (FineHeld d.book) = cores-kept (FineHeld d.book) c s (ready-of c i.net.hosted i.replica.disk_behind) may (booked-closed d.book) step.keeps before in
     let said = message-weaker (IsNamed c.book) (IsNamed d.book) more in
     let waits : DoWait (OfMessage (IsNamed d.book)) c.world.group = λ q. Each-weaker (OfMessage (IsNamed c.book)) (OfMessage (IsNamed d.book)) said (unordered_of c.world.group q) (waiting-booked c i.replica.made_once q) in
     let placed : ArePlaced (OfMessage (IsNamed d.book)) c = λ conf. Each-weaker (λ (x : Sent Msg). OfMessage (IsNamed c.book) x.message) (λ x. OfMessage (IsNamed d.book) x.message) (λ x. said x.message) (ordered_in c conf) (placed-booked c i.replica.made_once conf) in (
       record {
         numbered = step.counts.numbered;
         counted = step.counts.counted;
-        in_greens = greens-booked d now seated behind;
+        in_greens = greens-booked d now hosted behind;
         in_memory = memory-booked d now;
         on_disk = disk-booked d now;
-        in_messages = λ conf. messages-booked d conf (placed-kept (OfMessage (IsNamed d.book)) c s i.net.seated may (group-of c i) waits placed conf);
+        in_messages = λ conf. messages-booked d conf (placed-kept (OfMessage (IsNamed d.book)) c s i.net.hosted may (group-of c i) waits placed conf);
         in_waiting = λ p. waits-booked d p (waits-kept (OfMessage (IsNamed d.book)) c s step.says waits p);
       },
       record { copied = copies-booked d now; unbegun = step.counts.unbegun },

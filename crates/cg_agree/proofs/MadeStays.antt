@@ -51,7 +51,7 @@ pub named-contained : (ids : List ActionId) (id : ActionId) → Contains ids id 
 named-contained ids id is = contained-names is.0 ids id is.1 is.2
 
 -- whose creators are up
-creators-up : (w : World) (list : List Made) → Each (IsThere w.seats) list → Each (λ (id : ActionId). (r : Replica) × (replica_of w id.creator ≡ Some r)) (map (λ m. m.id) list)
+creators-up : (w : World) (list : List Made) → Each (IsThere w.nodes) list → Each (λ (id : ActionId). (r : Replica) × (replica_of w id.creator ≡ Some r)) (map (λ m. m.id) list)
 creators-up w [] there = tt
 creators-up w (m ∷ list) there = ((there.0.replica, there.0.runs), creators-up w list there.1)
 

@@ -39,7 +39,7 @@ use Rattle.cg_commit.specs.RunMarkLaws.{run-names}
 -- what was shown as made so far, against the world and the book
 pub record IsMadeTold (earlier : List Step) (c : Chronicle) (w : World) : Type 0 where
   pub fits : MadeFits w
-  pub last : AreLast w.made w.seats
+  pub last : AreLast w.made w.nodes
   pub run : run_on [] (made_names earlier) ≡ true
   pub cut : w.made ≡ cut_behind [] (made_names earlier)
   pub booked : Each (Contains c.book) (made_of earlier)
@@ -82,7 +82,7 @@ abbrev pub ArePlaced : List Step → World → Type 0
 ArePlaced steps w = (p : ℕ) (r : Replica) → replica_of w p ≡ Some r → position_of p steps ≡ green_count r.held.queue
 
 module _ (d : Chronicle) (w : World) (steps : List Step) (stands : StandsBeside d w) (placed : ArePlaced steps w) where
-  booked-at : (m : Made) → IsThere w.seats m → Contains d.book (made_at steps m)
+  booked-at : (m : Made) → IsThere w.nodes m → Contains d.book (made_at steps m)
   booked-at m there =
       let p = m.id.creator in
       let r = there.replica in
@@ -95,13 +95,13 @@ module _ (d : Chronicle) (w : World) (steps : List Step) (stands : StandsBeside 
       each-contains (IsNamed d.book) (r.held.queue.reds ++ r.held.own) there.action (each-booked d (r.held.queue.reds ++ r.held.own) booked) there.among in
       subst (Contains d.book) (sym same) (found-in d.book there.action.id there.action named)
 
-  all-booked : (list : List Made) → Each (IsThere w.seats) list → Each (Contains d.book) (map (made_at steps) list)
+  all-booked : (list : List Made) → Each (IsThere w.nodes) list → Each (Contains d.book) (map (made_at steps) list)
   all-booked [] there = tt
   all-booked (m ∷ list) there = (booked-at m there.0, all-booked list there.1)
 
 -- ---- a step
 
-pub step-adds : (c : Chronicle) (w : World) (s : Step) → IsStepOf c w s → MadeFits w → AreLast w.made w.seats → AddsSome w s.entry.made s.world
+pub step-adds : (c : Chronicle) (w : World) (s : Step) → IsStepOf c w s → MadeFits w → AreLast w.made w.nodes → AddsSome w s.entry.made s.world
 step-adds c w s step fits last = subst (λ (m : Moved). AddsSome w m.entry.made m.world) (sym step.moved) (event-adds c w step.before fits last s.event step.may)
 
 pub made-on : (earlier : List Step) (c : Chronicle) (w : World) (s : Step) → IsStepOf c w s → ArePlaced (through earlier s) s.world → IsMadeTold earlier c w → IsMadeTold (through earlier s) (chronicle_step c w s.event) s.world

@@ -15,18 +15,18 @@ use Rattle.cg_client.specs.Replica.{Replica}
 use Rattle.cg_client.specs.Turn.{Turn, begin}
 use Rattle.cg_client.specs.Requests.{settle}
 use Rattle.cg_commit.specs.Crash.{Disk, recovered}
-use Rattle.cg_model.specs.World.{Life, Up, Down, Seat, World, seat_of, has_begun, replica_of}
+use Rattle.cg_model.specs.World.{NodeState, Up, Down, Node, World, node_of, has_begun, replica_of}
 use Rattle.cg_model.specs.Step.{begin_replica}
 use Rattle.cg_model.specs.Chronicle.{Chronicle}
 use Rattle.cg_model.specs.Looks.{conf_of, ordered_in, snapshot_of}
-use Rattle.cg_model.specs.FactsNet.{Seated}
+use Rattle.cg_model.specs.FactsNet.{Hosted}
 use Rattle.cg_model.specs.Small.{Small, Starts, Makes, Enters, Orders, Receives, Hands, Leaves, Asks, Settles, Commits, Crashes, Recovers, Copies, Joins, small_step, turning, turning_as, coming, handed_next, leaving, take_request, take_newest, take_next, take_parting, make_configuration, newest_conf, commit_as, crash_as, recover_as, copy_as, join_with}
 use Rattle.cg_model.specs.Smalls.{may_make, is_running}
 use Rattle.cg_agree_lemmas.specs.GroupKept.{orders-conf, receives-conf, leaving-regular}
 use Rattle.cg_agree_lemmas.specs.GroupSound.{GroupSound, made-is}
 use Rattle.cg_agree.proofs.FixedKept.{confs-begun}
 use Rattle.cg_agree_lemmas.specs.NextThere.{orders-now, receives-now}
-use Rattle.cg_agree_lemmas.specs.CoresKept.{seat-of}
+use Rattle.cg_agree_lemmas.specs.CoresKept.{node-of}
 use Rattle.cg_agree_lemmas.specs.OneSteps.{turns-step, hands-step, leaves-step, enters-step, commits-step, copies-step, crashes-step, recovers-step, joins-step, may-join, may-enter}
 
 module _ (P : Msg → Type 0) where
@@ -115,7 +115,7 @@ module _ (P : Msg → Type 0) where
   -- ---- what a turn says
 
   abbrev pub TurnSays : Chronicle → ℕ → (Turn → Turn) → Type 0
-  TurnSays c p part = (r : Replica) (disk : Disk) → seat_of c.world p ≡ Some (record { id = p; life = Up r disk }) → Each P (part (begin r)).sent
+  TurnSays c p part = (r : Replica) (disk : Disk) → node_of c.world p ≡ Some (record { id = p; life = Up r disk }) → Each P (part (begin r)).sent
 
   abbrev pub StepSays : Chronicle → Small → Type 0
   StepSays c (Enters p) = TurnSays c p (take_newest c.world.group)
@@ -126,12 +126,12 @@ module _ (P : Msg → Type 0) where
   StepSays c _ = Unit {0}
 
   waits-turning : (c : Chronicle) (p : ℕ) (part : Turn → Turn) → TurnSays c p part → DoWait c.world.group → DoWait (turning c p part).world.group
-  waits-turning c p part says w = at (seat_of c.world p) refl where
-    life : (s : Seat) (l : Life) → s.life ≡ l → seat_of c.world p ≡ Some s → DoWait (turning_as c p part l).world.group
-    life s (Up r disk) is e = waits-sent (part (begin r)).sent c.world.group p (says r disk (seat-of c p s (Up r disk) is e)) w
+  waits-turning c p part says w = at (node_of c.world p) refl where
+    life : (s : Node) (l : NodeState) → s.life ≡ l → node_of c.world p ≡ Some s → DoWait (turning_as c p part l).world.group
+    life s (Up r disk) is e = waits-sent (part (begin r)).sent c.world.group p (says r disk (node-of c p s (Up r disk) is e)) w
     life s (Down disk green) is e = w
 
-    at : (o : Option Seat) → seat_of c.world p ≡ o → DoWait (option_map_or (λ s. turning_as c p part s.life) o c).world.group
+    at : (o : Option Node) → node_of c.world p ≡ o → DoWait (option_map_or (λ s. turning_as c p part s.life) o c).world.group
     at None e = w
     at (Some s) e = life s s.life refl e
 
@@ -139,15 +139,15 @@ module _ (P : Msg → Type 0) where
   at-some None change c each w = w
   at-some (Some x) change c each w = each x
 
-  waits-commit : (c : Chronicle) (p : ℕ) (life : Life) → DoWait c.world.group → DoWait (commit_as c p life).world.group
+  waits-commit : (c : Chronicle) (p : ℕ) (life : NodeState) → DoWait c.world.group → DoWait (commit_as c p life).world.group
   waits-commit c p (Up r disk) w = w
   waits-commit c p (Down disk green) w = w
 
-  waits-crash : (c : Chronicle) (p : ℕ) (life : Life) → DoWait c.world.group → DoWait (crash_as c p life).world.group
+  waits-crash : (c : Chronicle) (p : ℕ) (life : NodeState) → DoWait c.world.group → DoWait (crash_as c p life).world.group
   waits-crash c p (Up r disk) w = waits-down c.world.group p w
   waits-crash c p (Down disk green) w = w
 
-  waits-recover : (c : Chronicle) (life : Life) → DoWait c.world.group → DoWait (recover_as c life).world.group
+  waits-recover : (c : Chronicle) (life : NodeState) → DoWait c.world.group → DoWait (recover_as c life).world.group
   waits-recover c (Up r disk) w = w
   waits-recover c (Down disk green) w = waits-up c.world.group (recovered disk).held.id w
 
@@ -166,9 +166,9 @@ module _ (P : Msg → Type 0) where
       (waits-set g (record { id = p; phase = Transitional (regular_in (phase_of g p)) set; delivered = own; unordered = [] }) tt w)
   waits-kept c (Asks p kind) says w = waits-turning c p (take_request kind) says w
   waits-kept c (Settles p) says w = waits-turning c p settle says w
-  waits-kept c (Commits p) says w = at-some (seat_of c.world p) (λ s. commit_as c p s.life) c (λ s. waits-commit c p s.life w) w
-  waits-kept c (Crashes p) says w = at-some (seat_of c.world p) (λ s. crash_as c p s.life) c (λ s. waits-crash c p s.life w) w
-  waits-kept c (Recovers p) says w = at-some (seat_of c.world p) (λ s. recover_as c s.life) c (λ s. waits-recover c s.life w) w
+  waits-kept c (Commits p) says w = at-some (node_of c.world p) (λ s. commit_as c p s.life) c (λ s. waits-commit c p s.life w) w
+  waits-kept c (Crashes p) says w = at-some (node_of c.world p) (λ s. crash_as c p s.life) c (λ s. waits-crash c p s.life w) w
+  waits-kept c (Recovers p) says w = at-some (node_of c.world p) (λ s. recover_as c s.life) c (λ s. waits-recover c s.life w) w
   waits-kept c (Copies p joiner) says w = at-some (replica_of c.world p) (copy_as c p joiner) c (λ r. w) w
   waits-kept c (Joins joiner) says w = at-some (snapshot_of c.world joiner) (λ s. join_with c joiner s.content) c (λ s. waits-up c.world.group joiner w) w
 
@@ -189,36 +189,36 @@ module _ (P : Msg → Type 0) where
   receipt-placed C p place each = each
 
   -- And of each that has a place.
-  pub placed-kept : (c : Chronicle) (s : Small) → Seated c → may_make c s ≡ true → GroupSound c → DoWait c.world.group → ArePlaced c → ArePlaced (small_step c s)
+  pub placed-kept : (c : Chronicle) (s : Small) → Hosted c → may_make c s ≡ true → GroupSound c → DoWait c.world.group → ArePlaced c → ArePlaced (small_step c s)
   unfolding small_step may_make
-  placed-kept c (Starts set) seats m old w placed = λ k. of-conf (conf_of (small_step c (Starts set)) k) (conf_of c k) (confs-begun c set (ids set) c.world k) (placed k)
-  placed-kept c (Makes set) seats m old w placed = λ k. elim (made-is c.world.group set k) [
+  placed-kept c (Starts set) nodes m old w placed = λ k. of-conf (conf_of (small_step c (Starts set)) k) (conf_of c k) (confs-begun c set (ids set) c.world k) (placed k)
+  placed-kept c (Makes set) nodes m old w placed = λ k. elim (made-is c.world.group set k) [
     | inl same ↦ of-conf (conf_of (small_step c (Makes set)) k) (conf_of c k) same (placed k)
     | inr new ↦ of-conf (conf_of (small_step c (Makes set)) k) (record { members = set; ordered = []; received = [] }) new.1 tt
   ]
-  placed-kept c (Enters p) seats m old w placed = same-placed c (small_step c (Enters p)) (enters-step c p old.phases (may-enter c p m).comes).stands.conf placed
-  placed-kept c (Orders p) seats m old w placed = λ k.
+  placed-kept c (Enters p) nodes m old w placed = same-placed c (small_step c (Enters p)) (enters-step c p old.phases (may-enter c p m).comes).stands.conf placed
+  placed-kept c (Orders p) nodes m old w placed = λ k.
       let next = orders-now c p old.phases (λ k. (old.confs k).places) m in
       let step = orders-conf c p next.conf next.stands next.message next.rest next.at in
       let waited = subst (Each P) next.at.waited (waiting-here c.world.group p next.stands next.at.standing w) in
       of-conf (conf_of (small_step c (Orders p)) k) (cond (k == next.conf) (with_message (conf_of c next.conf) p next.message) (conf_of c k)) (step.changed k)
       (cond_both (k == next.conf) (with_message (conf_of c next.conf) p next.message) (conf_of c k) (λ x. AreSaid x.ordered)
       (λ y. message-placed (conf_of c next.conf) p next.message waited.0 (placed next.conf)) (λ n. placed k))
-  placed-kept c (Receives p place) seats m old w placed = λ k.
+  placed-kept c (Receives p place) nodes m old w placed = λ k.
       let next = receives-now c p place old.phases m in
       let step = receives-conf c p place next in
       of-conf (conf_of (small_step c (Receives p place)) k) (cond (k == next.conf) (with_receipt (conf_of c next.conf) p place) (conf_of c k)) (step.changed k)
       (cond_both (k == next.conf) (with_receipt (conf_of c next.conf) p place) (conf_of c k) (λ x. AreSaid x.ordered)
       (λ y. receipt-placed (conf_of c next.conf) p place (placed next.conf)) (λ n. placed k))
-  placed-kept c (Hands p) seats m old w placed = same-placed c (small_step c (Hands p)) (hands-step c p old.phases (and_parts _ _ m).0).stands.conf placed
-  placed-kept c (Leaves p set own places) seats m old w placed =
+  placed-kept c (Hands p) nodes m old w placed = same-placed c (small_step c (Hands p)) (hands-step c p old.phases (and_parts _ _ m).0).stands.conf placed
+  placed-kept c (Leaves p set own places) nodes m old w placed =
       same-placed c (small_step c (Leaves p set own places)) (leaves-step c p set own places old.phases (leaving-regular c p set own places m)).stands.conf placed
-  placed-kept c (Asks p kind) seats m old w placed = same-placed c (small_step c (Asks p kind)) (turns-step c p (take_request kind) old.phases).stands.conf placed
-  placed-kept c (Settles p) seats m old w placed = same-placed c (small_step c (Settles p)) (turns-step c p settle old.phases).stands.conf placed
-  placed-kept c (Commits p) seats m old w placed = same-placed c (small_step c (Commits p)) (commits-step c p old.phases).stands.conf placed
-  placed-kept c (Crashes p) seats m old w placed = same-placed c (small_step c (Crashes p)) (crashes-step c p m).stands.conf placed
-  placed-kept c (Recovers p) seats m old w placed =
+  placed-kept c (Asks p kind) nodes m old w placed = same-placed c (small_step c (Asks p kind)) (turns-step c p (take_request kind) old.phases).stands.conf placed
+  placed-kept c (Settles p) nodes m old w placed = same-placed c (small_step c (Settles p)) (turns-step c p settle old.phases).stands.conf placed
+  placed-kept c (Commits p) nodes m old w placed = same-placed c (small_step c (Commits p)) (commits-step c p old.phases).stands.conf placed
+  placed-kept c (Crashes p) nodes m old w placed = same-placed c (small_step c (Crashes p)) (crashes-step c p m).stands.conf placed
+  placed-kept c (Recovers p) nodes m old w placed =
       let parts = and_parts (has_begun c.world p) (not (is_running c p)) m in
-      same-placed c (small_step c (Recovers p)) (recovers-step c p seats parts.0 (not-true (is_running c p) parts.1)).stands.conf placed
-  placed-kept c (Copies p joiner) seats m old w placed = same-placed c (small_step c (Copies p joiner)) (copies-step c p joiner old.phases).stands.conf placed
-  placed-kept c (Joins joiner) seats m old w placed = same-placed c (small_step c (Joins joiner)) (joins-step c joiner (may-join c joiner m)).stands.conf placed
+      same-placed c (small_step c (Recovers p)) (recovers-step c p nodes parts.0 (not-true (is_running c p) parts.1)).stands.conf placed
+  placed-kept c (Copies p joiner) nodes m old w placed = same-placed c (small_step c (Copies p joiner)) (copies-step c p joiner old.phases).stands.conf placed
+  placed-kept c (Joins joiner) nodes m old w placed = same-placed c (small_step c (Joins joiner)) (joins-step c joiner (may-join c joiner m)).stands.conf placed

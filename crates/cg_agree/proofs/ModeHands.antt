@@ -7,7 +7,7 @@ use Rattle.cg_base.specs.Sets.{has}
 use Rattle.cg_action.specs.declared.action.Action.{Action}
 use Rattle.cg_records.specs.declared.primary.Primary.{Primary}
 use Rattle.cg_knowledge.specs.declared.summary.Summary.{Summary}
-use Rattle.cg_knowledge.specs.Members.{gone}
+use Rattle.cg_knowledge.specs.Summaries.{gone}
 use Rattle.cg_knowledge.specs.Verdict.{decides}
 use Rattle.cg_wire.specs.declared.message.Msg.{Msg}
 use Rattle.cg_group.specs.declared.phase.Phase.{Phase}
@@ -16,7 +16,7 @@ use Rattle.cg_group.specs.State.{Sent, phase_of, delivered_to}
 use Rattle.cg_group.specs.Events.{delivery_at}
 use Rattle.cg_client.specs.Replica.{Held, State, RegPrim, TransPrim, ExchangeStates, ExchangeActions, Construct, No, Un, NonPrim, Left, Replica}
 use Rattle.cg_client.specs.Turn.{Turn, begin}
-use Rattle.cg_step.specs.Step.{on_message, take}
+use Rattle.cg_replica_step.specs.Step.{on_message, after_delivery}
 use Rattle.cg_model.specs.World.{replica_of}
 use Rattle.cg_model.specs.Chronicle.{Attempt, Chronicle}
 use Rattle.cg_model.specs.Looks.{greens_of, conf_at, members_in, attempt_of, top_of}
@@ -107,7 +107,7 @@ module _ (c : Chronicle) (p : ℕ) (i : Invariant c) (may : may_make c (Hands p)
   phase = phase_of c.world.group p
 
   next-is : take_next c.world.group p (begin old) ≡ on_message old.state n.next.from n.next.message (begin old)
-  unfolding delivery_at take
+  unfolding delivery_at after_delivery
   next-is = ap (λ o. take_all (option_map_or (λ (s : Sent Msg). Message (suc (delivered_to c.world.group p)) s.from s.message ∷ []) o []) (begin old)) (found-now c p i n)
 
   low : old.held.prim.index ≤ top_of c

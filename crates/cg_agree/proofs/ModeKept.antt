@@ -5,7 +5,7 @@ use Rattle.std.specs.Option.{option_map_or}
 use Rattle.std.proofs.lemmas.Bool.{cases_Bool, cases_eq, cond-true, cond-false, and_parts, ne_eqb, not-true}
 use Rattle.cg_base.specs.declared.action_id.ActionId.{ActionId}
 use Rattle.cg_base.specs.declared.weighted.Weighted.{Weighted}
-use Rattle.cg_knowledge.specs.Members.{senders}
+use Rattle.cg_knowledge.specs.Summaries.{senders}
 use Rattle.cg_base.specs.Sets.{has}
 use Rattle.cg_base.specs.Text.{is_nil}
 use Rattle.cg_base.specs.Weights.{ids}
@@ -16,11 +16,11 @@ use Rattle.cg_group.specs.State.{phase_of, home, regular_in}
 use Rattle.cg_client.specs.Replica.{Held, State, RegPrim, TransPrim, ExchangeStates, ExchangeActions, Construct, No, Un, NonPrim, Left, Replica, fresh, fresh_held}
 use Rattle.cg_client.specs.Turn.{Turn, begin}
 use Rattle.cg_client.specs.Requests.{settle}
-use Rattle.cg_stored.specs.Stored.{stored_of, whiten, recover}
+use Rattle.cg_disk_records.specs.Stored.{stored_of, whiten, recovery_turn}
 use Rattle.cg_commit.specs.Crash.{Disk, new_disk, at_rest, recovered, disk_recovered}
-use Rattle.cg_step.specs.Step.{on_transitional, take}
-use Rattle.cg_model.specs.World.{Life, Up, Down, Seat, World, Snapshot, with_seat, seat_of, replica_of, running, has_begun, is_left}
-use Rattle.cg_model.specs.Step.{joined, without_snapshot}
+use Rattle.cg_replica_step.specs.Step.{on_transitional, after_delivery}
+use Rattle.cg_model.specs.World.{NodeState, Up, Down, Node, World, TransferState, with_node, node_of, replica_of, running, has_begun, is_left}
+use Rattle.cg_model.specs.Step.{joiner_replica, without_snapshot}
 use Rattle.cg_model.specs.Chronicle.{Attempt, Chronicle, no_chronicle}
 use Rattle.cg_model.specs.Looks.{greens_of, conf_at, ordered_in, on_disk, attempt_of, top_of, snapshot_of}
 use Rattle.cg_model.specs.Levels.{prim_at}
@@ -28,13 +28,13 @@ use Rattle.cg_model.specs.FactsReplica.{is_attempting, is_primary, own_record, I
 use Rattle.cg_model.specs.Facts.{Invariant}
 use Rattle.cg_model.specs.Small.{Small, Starts, Makes, Enters, Orders, Receives, Hands, Leaves, Asks, Settles, Commits, Crashes, Recovers, Copies, Joins, newly_green, with_installer, installing, turning, take_parting, take_newest, take_next, take_request, coming, handed_next, leaving, commit_as, crash_as, recover_as, copy_as, join_with, newest_conf, start, small_step}
 use Rattle.cg_model.specs.Smalls.{may_make, may_join, is_running, is_set}
-use Rattle.cg_agree_lemmas.specs.ChronicleFacts.{seat_of-set}
+use Rattle.cg_agree_lemmas.specs.ChronicleFacts.{node_of-set}
 use Rattle.cg_group.specs.LookupLaws.{at-cond}
 use Rattle.cg_agree_lemmas.specs.HeldCommit.{recovered-id}
 use Rattle.cg_agree_lemmas.specs.HeldMarks.{IsOneself}
 use Rattle.cg_agree_lemmas.specs.HeldMessages.{FitsYellow}
 use Rattle.cg_agree_lemmas.specs.OneselfWorld.{oneself-of}
-use Rattle.cg_agree_lemmas.specs.CoresKept.{held-known, seat-of}
+use Rattle.cg_agree_lemmas.specs.CoresKept.{held-known, node-of}
 use Rattle.cg_agree_lemmas.specs.CoresSmall.{fresh-all}
 use Rattle.cg_agree.proofs.BegunKept.{nothing-before}
 use Rattle.cg_agree_lemmas.specs.AttemptsTurn.{at_conf, installed-attempts, installing-now}
@@ -46,7 +46,7 @@ use Rattle.cg_agree_lemmas.specs.GroupSound.{phase-made}
 use Rattle.cg_agree_lemmas.specs.GroupKept.{orders-conf, receives-conf, leaving-regular}
 use Rattle.cg_agree_lemmas.specs.NextThere.{orders-now, receives-now}
 use Rattle.cg_agree_lemmas.specs.OneSteps.{turns-step, hands-step, leaves-step, enters-step, commits-step, copies-step, crashes-step, recovers-step, joins-step, may-join}
-use Rattle.cg_agree_lemmas.specs.HandsKept.{seated, regular-phase, regular-up}
+use Rattle.cg_agree_lemmas.specs.HandsKept.{hosted, regular-phase, regular-up}
 use Rattle.cg_agree_lemmas.specs.HandsNow.{hands-now, hands-regular, new, hand-turned}
 use Rattle.cg_agree_lemmas.specs.RecordKept.{turn-is}
 use Rattle.cg_agree.proofs.PastKept.{EntersNow, enters-now}
@@ -65,10 +65,10 @@ use Rattle.cg_commit.specs.Holds.{cut_behind}
 
 -- ---- replicas behind a step
 
-replica-set : (w : World) (p : ℕ) (life : Life) (q : ℕ) → replica_of (record w { seats = with_seat w.seats (record { id = p; life = life }) }) q ≡ cond (p == q) (running life) (replica_of w q)
+replica-set : (w : World) (p : ℕ) (life : NodeState) (q : ℕ) → replica_of (record w { nodes = with_node w.nodes (record { id = p; life = life }) }) q ≡ cond (p == q) (running life) (replica_of w q)
 replica-set w p life q =
-    ap (λ (o : Option Seat). option_and_then (λ s. running s.life) o) (seat_of-set w p life q)
-    ∙ at-cond (λ (o : Option Seat). option_and_then (λ s. running s.life) o) (p == q) (Some (record { id = p; life = life })) (seat_of w q)
+    ap (λ (o : Option Node). option_and_then (λ s. running s.life) o) (node_of-set w p life q)
+    ∙ at-cond (λ (o : Option Node). option_and_then (λ s. running s.life) o) (p == q) (Some (record { id = p; life = life })) (node_of w q)
 
 module _ (c : Chronicle) (s : Small) (i : Invariant c) (may : may_make c s ≡ true) where
   abbrev d : Chronicle
@@ -112,11 +112,11 @@ module _ (c : Chronicle) (s : Small) (i : Invariant c) (may : may_make c s ≡ t
 -- ---- turns
 
 -- the replicas behind a turn
-turn-lives : (c b : Chronicle) (p : ℕ) (part : Turn → Turn) (r : Replica) (disk : Disk) → b.world.seats ≡ c.world.seats → seat_of b.world p ≡ Some (record { id = p; life = Up r disk }) → (q : ℕ) →
+turn-lives : (c b : Chronicle) (p : ℕ) (part : Turn → Turn) (r : Replica) (disk : Disk) → b.world.nodes ≡ c.world.nodes → node_of b.world p ≡ Some (record { id = p; life = Up r disk }) → (q : ℕ) →
     replica_of (turning b p part).world q ≡ cond (p == q) (Some (part (begin r)).replica) (replica_of c.world q)
-turn-lives c b p part r disk seats seat q =
-    ap (λ (x : Chronicle). replica_of x.world q) (turn-is b p part r disk seat) ∙ replica-set b.world p (Up (part (begin r)).replica disk) q
-    ∙ ap (λ xs. cond (p == q) (Some (part (begin r)).replica) (option_and_then (λ s. running s.life) (find (λ (s : Seat). s.id == q) xs))) seats
+turn-lives c b p part r disk nodes node q =
+    ap (λ (x : Chronicle). replica_of x.world q) (turn-is b p part r disk node) ∙ replica-set b.world p (Up (part (begin r)).replica disk) q
+    ∙ ap (λ xs. cond (p == q) (Some (part (begin r)).replica) (option_and_then (λ s. running s.life) (find (λ (s : Node). s.id == q) xs))) nodes
 
 -- of a state that stays, with the same lists
 even-data : (d : Chronicle) (old new' : Held) (phase : Phase) (state : State) → SameValues old new' → SameLists old new' → (is_attempting state ≡ true → new'.own ≡ old.own) → (is_exchanging state ≡ true → old.own ≡ [] → new'.own ≡ []) →
@@ -146,7 +146,7 @@ trans-data d h phase Left a p is fits = absurd (let clash : false ≡ true = a i
 -- ---- a parting
 
 module _ (c : Chronicle) (p : ℕ) (set : List ℕ) (own : ℕ) (places : List ℕ) (i : Invariant c) (may : may_make c (Leaves p set own places) ≡ true) (r : Replica) (disk : Disk)
-    (seat : seat_of c.world p ≡ Some (record { id = p; life = Up r disk })) where
+    (node : node_of c.world p ≡ Some (record { id = p; life = Up r disk })) where
   abbrev s : Small
   s = Leaves p set own places
 
@@ -154,10 +154,10 @@ module _ (c : Chronicle) (p : ℕ) (set : List ℕ) (own : ℕ) (places : List �
   after = (take_parting c.world.group p set places (begin r)).replica
 
   up : replica_of c.world p ≡ Some r
-  up = ap (λ (o : Option Seat). option_and_then (λ s. running s.life) o) seat
+  up = ap (λ (o : Option Node). option_and_then (λ s. running s.life) o) node
 
   way : Partway c.start r.held (greens_of c p) (take_parting c.world.group p set places (begin r))
-  unfolding take
+  unfolding after_delivery
   way =
       let is = held-known (IsOneself c.start) c p r up (oneself-of c i.replica.cores) in
       let yellow = yellow-fits c c.start r.held (greens_of c p) (phase_of c.world.group p) r.state is (mode-of c s i may p r up).data_of in
@@ -186,7 +186,7 @@ module _ (c : Chronicle) (p : ℕ) (set : List ℕ) (own : ℕ) (places : List �
 
   installed-mode : (done : HasInstalled r after) → Installing c p r → IsModeData (small_step c s) p after
   installed-mode done ins =
-      let attempts = leaves-attempts c p set own places r disk seat ∙ installed-attempts c.attempts p (greens_of c p ++ newly_green r after) r after done ∙ ap (installing p c.attempts) ins.mine in
+      let attempts = leaves-attempts c p set own places r disk node ∙ installed-attempts c.attempts p (greens_of c p ++ newly_green r after) r after done ∙ ap (installing p c.attempts) ins.mine in
       let here : conf_at (phase_of (small_step c s).world.group p) ≡ ins.conf = same-conf ∙ ap conf_at ins.regular in
       let found : attempt_of (small_step c s) ins.conf ≡ Some (with_installer p ins.a) =
       ap (λ xs. at_conf xs ins.conf) attempts ∙ installing-now c.attempts p (own_record ins.a p) ins.conf
@@ -263,10 +263,10 @@ whitened-flow r = record { id = refl; attempting = refl; primary = refl; recorde
 
 -- the start
 started-mode : (set : List Weighted) (q : ℕ) → IfSome (replica_of (start no_chronicle set).world q) (IsModeData (start no_chronicle set) q)
-started-mode set q = at (seat_of (start no_chronicle set).world q) (fresh-all set (ids set) no_chronicle.world (λ q. tt) q) where
-  at : (o : Option Seat) → IfSome o (λ s. s.life ≡ Up (fresh q set) (new_disk (fresh_held q set))) → IfSome (option_and_then (λ s. running s.life) o) (IsModeData (start no_chronicle set) q)
+started-mode set q = at (node_of (start no_chronicle set).world q) (fresh-all set (ids set) no_chronicle.world (λ q. tt) q) where
+  at : (o : Option Node) → IfSome o (λ s. s.life ≡ Up (fresh q set) (new_disk (fresh_held q set))) → IfSome (option_and_then (λ s. running s.life) o) (IsModeData (start no_chronicle set) q)
   at None is = tt
-  at (Some s) is = subst (λ (l : Life). IfSome (running l) (IsModeData (start no_chronicle set) q)) (sym is) (record { id = refl; data_of = tt; counted = tt })
+  at (Some s) is = subst (λ (l : NodeState). IfSome (running l) (IsModeData (start no_chronicle set) q)) (sym is) (record { id = refl; data_of = tt; counted = tt })
 
 -- ---- each small step
 
@@ -277,24 +277,24 @@ number-zero c said = let some = said-number c 0 said in absurd (omega arith)
 record Fallen (c : Chronicle) (p : ℕ) : Type 0 where
   pub disk : Disk
   pub green : List ActionId
-  pub seat : seat_of c.world p ≡ Some (record { id = p; life = Down disk green })
+  pub node : node_of c.world p ≡ Some (record { id = p; life = Down disk green })
 
 fallen : (c : Chronicle) (p : ℕ) → has_begun c.world p ≡ true → is_running c p ≡ false → Fallen c p
-fallen c p begun stopped = at (seat_of c.world p) refl begun stopped where
-  life : (s : Seat) (l : Life) → s.life ≡ l → seat_of c.world p ≡ Some s → is_some (running l) ≡ false → Fallen c p
+fallen c p begun stopped = at (node_of c.world p) refl begun stopped where
+  life : (s : Node) (l : NodeState) → s.life ≡ l → node_of c.world p ≡ Some s → is_some (running l) ≡ false → Fallen c p
   life s (Up r disk) is e stopped = absurd (let clash : true ≡ false = stopped in cc)
-  life s (Down disk green) is e stopped = record { disk = disk; green = green; seat = seat-of c p s (Down disk green) is e }
+  life s (Down disk green) is e stopped = record { disk = disk; green = green; node = node-of c p s (Down disk green) is e }
 
-  at : (o : Option Seat) → seat_of c.world p ≡ o → is_some o ≡ true → is_some (option_and_then (λ s. running s.life) o) ≡ false → Fallen c p
+  at : (o : Option Node) → node_of c.world p ≡ o → is_some o ≡ true → is_some (option_and_then (λ s. running s.life) o) ≡ false → Fallen c p
   at None e begun stopped = absurd (let clash : false ≡ true = begun in cc)
   at (Some s) e begun stopped = life s s.life refl e stopped
 
 fallen-name : (c : Chronicle) (p : ℕ) → Invariant c → (f : Fallen c p) → (recovered f.disk).held.id ≡ p
 fallen-name c p i f =
-    recovered-id f.disk.content ∙ subst (λ (o : Option Held). IfSome o (λ h. h.id ≡ p)) (ap (λ (o : Option Seat). option_map (λ s. on_disk s.life) o) f.seat) (i.net.seated.disk p)
+    recovered-id f.disk.content ∙ subst (λ (o : Option Held). IfSome o (λ h. h.id ≡ p)) (ap (λ (o : Option Node). option_map (λ s. on_disk s.life) o) f.node) (i.net.hosted.disk p)
 
 recovered-state : (disk : Disk) → (recovered disk).state ≡ NonPrim false
-unfolding recover
+unfolding recovery_turn
 recovered-state disk = (even-own_to_red (begin (record { held = disk.content; state = NonPrim false }))).state
 
 copies-lives : (c : Chronicle) (p joiner q : ℕ) → replica_of (small_step c (Copies p joiner)).world q ≡ replica_of c.world q
@@ -310,19 +310,19 @@ joins-may c joiner may = may
 
 joiner-there : (c : Chronicle) (joiner : ℕ) → may_join c joiner ≡ true → (content : Held) × (option_map (λ s. s.content) (snapshot_of c.world joiner) ≡ Some content)
 joiner-there c joiner may = at (snapshot_of c.world joiner) (and_parts (not (has_begun c.world joiner)) (option_map_or (λ s. is_server s.content.members joiner) (snapshot_of c.world joiner) false) may).1 where
-  at : (o : Option Snapshot) → option_map_or (λ s. is_server s.content.members joiner) o false ≡ true → (content : Held) × (option_map (λ s. s.content) o ≡ Some content)
+  at : (o : Option TransferState) → option_map_or (λ s. is_server s.content.members joiner) o false ≡ true → (content : Held) × (option_map (λ s. s.content) o ≡ Some content)
   at None e = absurd (let clash : false ≡ true = e in cc)
   at (Some s) e = (s.content, refl)
 
 joins-lives : (c : Chronicle) (joiner : ℕ) (content : Held) → option_map (λ s. s.content) (snapshot_of c.world joiner) ≡ Some content → (q : ℕ) →
-    replica_of (small_step c (Joins joiner)).world q ≡ cond (joiner == q) (Some (joined joiner content)) (replica_of c.world q)
+    replica_of (small_step c (Joins joiner)).world q ≡ cond (joiner == q) (Some (joiner_replica joiner content)) (replica_of c.world q)
 unfolding small_step
 joins-lives c joiner content there q = at (snapshot_of c.world joiner) there where
-  at : (o : Option Snapshot) → option_map (λ s. s.content) o ≡ Some content → replica_of (option_map_or (λ s. join_with c joiner s.content) o c).world q ≡ cond (joiner == q) (Some (joined joiner content)) (replica_of c.world q)
+  at : (o : Option TransferState) → option_map (λ s. s.content) o ≡ Some content → replica_of (option_map_or (λ s. join_with c joiner s.content) o c).world q ≡ cond (joiner == q) (Some (joiner_replica joiner content)) (replica_of c.world q)
   at None e = absurd (let clash : None ≡ Some content = e in cc)
   at (Some s) e =
-      replica-set (without_snapshot c.world joiner) joiner (Up (joined joiner s.content) (new_disk (joined joiner s.content).held)) q
-      ∙ ap (λ h. cond (joiner == q) (Some (joined joiner h)) (replica_of c.world q)) (ap (λ o. option_map_or (λ x. x) o s.content) e)
+      replica-set (without_snapshot c.world joiner) joiner (Up (joiner_replica joiner s.content) (new_disk (joiner_replica joiner s.content).held)) q
+      ∙ ap (λ h. cond (joiner == q) (Some (joiner_replica joiner h)) (replica_of c.world q)) (ap (λ o. option_map_or (λ x. x) o s.content) e)
 
 copies-mode : (c : Chronicle) (p joiner : ℕ) (i : Invariant c) (may : may_make c (Copies p joiner) ≡ true) (q : ℕ) → IfSome (replica_of (small_step c (Copies p joiner)).world q) (IsModeData (small_step c (Copies p joiner)) q)
 unfolding may_make
@@ -338,20 +338,20 @@ joins-mode c joiner i may q =
     let one = may-join c joiner (joins-may c joiner may) in
     let step = joins-step c joiner one in
     let there = joiner-there c joiner (joins-may c joiner may) in
-    mode-one c (Joins joiner) i may joiner (Some (joined joiner there.0)) (λ q. joins-lives c joiner there.0 there.1 q) Alone step.stands.phase
-    (λ e. beside-mode (small_step c (Joins joiner)) joiner (joined joiner there.0) refl refl
+    mode-one c (Joins joiner) i may joiner (Some (joiner_replica joiner there.0)) (λ q. joins-lives c joiner there.0 there.1 q) Alone step.stands.phase
+    (λ e. beside-mode (small_step c (Joins joiner)) joiner (joiner_replica joiner there.0) refl refl
     (ap (attempt_of (small_step c (Joins joiner))) (ap conf_at (step.stands.phase joiner ∙ cond-true (joiner == joiner) Alone (phase_of c.world.group joiner) (eq-eqb joiner joiner refl))) ∙ none-unsaid c (Joins joiner) i may 0 (number-zero c))) q
 
 pub mode_data-kept : (c : Chronicle) (s : Small) → Invariant c → may_make c s ≡ true → (q : ℕ) → IfSome (replica_of (small_step c s).world q) (IsModeData (small_step c s) q)
 unfolding small_step may_make
 mode_data-kept c (Starts set) i may q =
-    subst (λ (x : Chronicle). IfSome (replica_of (start x set).world q) (IsModeData (start x set) q)) (sym (nothing-before c i.net.seated (and_parts (is_nil c.world.seats) (is_set (ids set)) may).0)) (started-mode set q)
+    subst (λ (x : Chronicle). IfSome (replica_of (start x set).world q) (IsModeData (start x set) q)) (sym (nothing-before c i.net.hosted (and_parts (is_nil c.world.nodes) (is_set (ids set)) may).0)) (started-mode set q)
 mode_data-kept c (Makes set) i may q = mode-other c (Makes set) i may q refl (phase-made c (small_step c (Makes set)) set refl (λ q. refl) q)
 mode_data-kept c (Enters p) i may q =
     let now = enters-now c p i.net.phase_sound (i.replica.mode_data p) may in
     let step = enters-step c p i.net.phase_sound now.may.comes in
     let phase = step.stands.phase p ∙ cond-true (p == p) (Regular (newest_conf c.world.group)) (phase_of c.world.group p) (eq-eqb p p refl) in
-    mode-one c (Enters p) i may p (Some (take_newest c.world.group (begin now.replica)).replica) (turn-lives c (coming c p) p (take_newest c.world.group) now.replica now.disk refl now.seat)
+    mode-one c (Enters p) i may p (Some (take_newest c.world.group (begin now.replica)).replica) (turn-lives c (coming c p) p (take_newest c.world.group) now.replica now.disk refl now.node)
     (Regular (newest_conf c.world.group)) step.stands.phase (λ e. enters-mode c p i may now phase) q
 mode_data-kept c (Orders p) i may q =
     let next = orders-now c p i.net.phase_sound (λ k. i.net.receipts_inside.places k) may in
@@ -362,72 +362,72 @@ mode_data-kept c (Hands p) i may q =
     let n = hands-now c p i may in
     let step = hands-step c p i.net.phase_sound (hands-regular c p may) in
     let same = step.stands.phase p ∙ cond-true (p == p) (phase_of c.world.group p) (phase_of c.world.group p) (eq-eqb p p refl) in
-    mode-one c (Hands p) i may p (Some (new c p i n)) (turn-lives c (handed_next c p) p (take_next c.world.group p) n.replica n.disk refl n.seat)
+    mode-one c (Hands p) i may p (Some (new c p i n)) (turn-lives c (handed_next c p) p (take_next c.world.group p) n.replica n.disk refl n.node)
     (phase_of c.world.group p) step.stands.phase (λ e. (let is = hands-data c p i may n e (hand-turned c p i n) in record {
       id = is.0;
       data_of = phase-data (small_step c (Hands p)) (new c p i n).held (phase_of c.world.group p) (phase_of (small_step c (Hands p)).world.group p) (new c p i n).state (sym (ap conf_at same)) is.1;
       counted = subst (λ x. IfSome (attempt_of (small_step c (Hands p)) (conf_at x)) (λ b. IsCounted b (new c p i n))) (sym same) is.2;
     })) q
 mode_data-kept c (Leaves p set own places) i may q =
-    let sits = seated c.world p (i.net.phase_sound.up p ∙ regular-up c.world.group p (leaving-regular c p set own places may)) in
+    let sits = hosted c.world p (i.net.phase_sound.up p ∙ regular-up c.world.group p (leaving-regular c p set own places may)) in
     let step = leaves-step c p set own places i.net.phase_sound (leaving-regular c p set own places may) in
     mode-one c (Leaves p set own places) i may p (Some (take_parting c.world.group p set places (begin sits.replica)).replica)
-    (turn-lives c (leaving c p set own) p (take_parting c.world.group p set places) sits.replica sits.disk refl sits.seat)
-    (Transitional (regular_in (phase_of c.world.group p)) set) step.stands.phase (λ e. leaves-mode c p set own places i may sits.replica sits.disk sits.seat e) q
+    (turn-lives c (leaving c p set own) p (take_parting c.world.group p set places) sits.replica sits.disk refl sits.node)
+    (Transitional (regular_in (phase_of c.world.group p)) set) step.stands.phase (λ e. leaves-mode c p set own places i may sits.replica sits.disk sits.node e) q
 mode_data-kept c (Asks p kind) i may q =
-    let sits = seated c.world p (and_parts (is_running c p) (not (is_left c.world p)) may).0 in
+    let sits = hosted c.world p (and_parts (is_running c p) (not (is_left c.world p)) may).0 in
     let r = sits.replica in
     let t = take_request kind (begin r) in
     let step = turns-step c p (take_request kind) i.net.phase_sound in
-    let up = ap (λ (o : Option Seat). option_and_then (λ s. running s.life) o) sits.seat in
+    let up = ap (λ (o : Option Node). option_and_then (λ s. running s.life) o) sits.node in
     let even = even-request (begin r) kind in
     let quiet = request-quiet kind r in
     let same = step.stands.phase p ∙ cond-true (p == p) (phase_of c.world.group p) (phase_of c.world.group p) (eq-eqb p p refl) in
-    mode-one c (Asks p kind) i may p (Some t.replica) (turn-lives c c p (take_request kind) r sits.disk refl sits.seat) (phase_of c.world.group p) step.stands.phase
+    mode-one c (Asks p kind) i may p (Some t.replica) (turn-lives c c p (take_request kind) r sits.disk refl sits.node) (phase_of c.world.group p) step.stands.phase
     (λ e. mode-flowed c (Asks p kind) i may p r t.replica up e (quiet-flow r t.replica quiet) (ap conf_at same)
     (subst (λ (s : State). HasModeData (small_step c (Asks p kind)) t.replica.held (phase_of c.world.group p) s) (sym even.state)
     (even-data (small_step c (Asks p kind)) r.held t.replica.held (phase_of c.world.group p) r.state even.values (lists-request (begin r) kind) (λ att. (quiet.still att).own) (λ ex none. none-request (begin r) kind ex none)
     (data-of c (Asks p kind) i may p r up)))) q
 mode_data-kept c (Settles p) i may q =
-    let sits = seated c.world p may in
+    let sits = hosted c.world p may in
     let r = sits.replica in
     let t = settle (begin r) in
     let step = turns-step c p settle i.net.phase_sound in
-    let up = ap (λ (o : Option Seat). option_and_then (λ s. running s.life) o) sits.seat in
+    let up = ap (λ (o : Option Node). option_and_then (λ s. running s.life) o) sits.node in
     let even = even-settle (begin r) in
     let quiet = settle-quiet r in
     let same = step.stands.phase p ∙ cond-true (p == p) (phase_of c.world.group p) (phase_of c.world.group p) (eq-eqb p p refl) in
-    mode-one c (Settles p) i may p (Some t.replica) (turn-lives c c p settle r sits.disk refl sits.seat) (phase_of c.world.group p) step.stands.phase
+    mode-one c (Settles p) i may p (Some t.replica) (turn-lives c c p settle r sits.disk refl sits.node) (phase_of c.world.group p) step.stands.phase
     (λ e. mode-flowed c (Settles p) i may p r t.replica up e (quiet-flow r t.replica quiet) (ap conf_at same)
     (subst (λ (s : State). HasModeData (small_step c (Settles p)) t.replica.held (phase_of c.world.group p) s) (sym even.state)
     (even-data (small_step c (Settles p)) r.held t.replica.held (phase_of c.world.group p) r.state even.values (lists-settle (begin r)) (λ att. (quiet.still att).own) (λ ex none. none-settle (begin r) ex none)
     (data-of c (Settles p) i may p r up)))) q
 mode_data-kept c (Commits p) i may q =
-    let sits = seated c.world p may in
+    let sits = hosted c.world p may in
     let r = sits.replica in
     let new' : Replica = record r { held = whiten r.held } in
     let step = commits-step c p i.net.phase_sound in
-    let up = ap (λ (o : Option Seat). option_and_then (λ s. running s.life) o) sits.seat in
+    let up = ap (λ (o : Option Node). option_and_then (λ s. running s.life) o) sits.node in
     let same = step.stands.phase p ∙ cond-true (p == p) (phase_of c.world.group p) (phase_of c.world.group p) (eq-eqb p p refl) in
     mode-one c (Commits p) i may p (Some new')
-    (λ q. ap (λ (o : Option Seat). replica_of (option_map_or (λ s. commit_as c p s.life) o c).world q) sits.seat ∙ replica-set c.world p (Up new' (record sits.disk { content = stored_of (whiten r.held) })) q)
+    (λ q. ap (λ (o : Option Node). replica_of (option_map_or (λ s. commit_as c p s.life) o c).world q) sits.node ∙ replica-set c.world p (Up new' (record sits.disk { content = stored_of (whiten r.held) })) q)
     (phase_of c.world.group p) step.stands.phase
     (λ e. mode-flowed c (Commits p) i may p r new' up e (whitened-flow r) (ap conf_at same)
     (even-data (small_step c (Commits p)) r.held (whiten r.held) (phase_of c.world.group p) r.state (whitened-values r.held) (whitened-lists r.held) (λ att. whitened-own r.held) (λ ex none. whitened-own r.held ∙ none)
     (data-of c (Commits p) i may p r up))) q
 mode_data-kept c (Crashes p) i may q =
-    let sits = seated c.world p may in
+    let sits = hosted c.world p may in
     let step = crashes-step c p may in
     mode-one c (Crashes p) i may p None
-    (λ q. ap (λ (o : Option Seat). replica_of (option_map_or (λ s. crash_as c p s.life) o c).world q) sits.seat ∙ replica-set c.world p (Down (at_rest sits.disk) []) q)
+    (λ q. ap (λ (o : Option Node). replica_of (option_map_or (λ s. crash_as c p s.life) o c).world q) sits.node ∙ replica-set c.world p (Down (at_rest sits.disk) []) q)
     DownPhase step.stands.phase (λ e. tt) q
 mode_data-kept c (Recovers p) i may q =
     let parts = and_parts (has_begun c.world p) (not (is_running c p)) may in
-    let step = recovers-step c p i.net.seated parts.0 (not-true (is_running c p) parts.1) in
+    let step = recovers-step c p i.net.hosted parts.0 (not-true (is_running c p) parts.1) in
     let sits = fallen c p parts.0 (not-true (is_running c p) parts.1) in
     let name = fallen-name c p i sits in
     mode-one c (Recovers p) i may p (Some (recovered sits.disk))
-    (λ q. ap (λ (o : Option Seat). replica_of (option_map_or (λ s. recover_as c s.life) o c).world q) sits.seat
+    (λ q. ap (λ (o : Option Node). replica_of (option_map_or (λ s. recover_as c s.life) o c).world q) sits.node
     ∙ replica-set c.world (recovered sits.disk).held.id (Up (recovered sits.disk) (disk_recovered sits.disk)) q
     ∙ ap (λ n. cond (n == q) (Some (recovered sits.disk)) (replica_of c.world q)) name)
     Alone step.stands.phase

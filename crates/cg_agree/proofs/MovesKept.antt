@@ -14,7 +14,7 @@ use Rattle.cg_model.specs.World.{has_begun}
 use Rattle.cg_model.specs.Chronicle.{Chronicle}
 use Rattle.cg_model.specs.Looks.{conf_of, members_in, ordered_in}
 use Rattle.cg_model.specs.Talk.{no_talk, talk_of, is_full}
-use Rattle.cg_model.specs.FactsNet.{Seated}
+use Rattle.cg_model.specs.FactsNet.{Hosted}
 use Rattle.cg_model.specs.FactsTalk.{whole_talk}
 use Rattle.cg_model.specs.FactsBooks.{ListsGrow}
 use Rattle.cg_model.specs.Facts.{Invariant, Moves}
@@ -47,31 +47,31 @@ members-grown c d conf p D step grows k = inl (⊎_elim
     (λ f. ap (λ (x : Configuration Msg). x.members) (step.changed k ∙ cond-false (k == conf) D (conf_of c k) f))
     (cases_Bool (k == conf)))
 
-members-kept : (c : Chronicle) (s : Small) → Seated c → may_make c s ≡ true → GroupSound c → KeepsMembers c (small_step c s)
+members-kept : (c : Chronicle) (s : Small) → Hosted c → may_make c s ≡ true → GroupSound c → KeepsMembers c (small_step c s)
 unfolding small_step may_make
-members-kept c (Starts set) seats m old = λ k. inl (ap (λ (x : Configuration Msg). x.members) (confs-begun c set (ids set) c.world k))
-members-kept c (Makes set) seats m old = λ k. ⊎_elim
+members-kept c (Starts set) nodes m old = λ k. inl (ap (λ (x : Configuration Msg). x.members) (confs-begun c set (ids set) c.world k))
+members-kept c (Makes set) nodes m old = λ k. ⊎_elim
     (λ same. inl (ap (λ (x : Configuration Msg). x.members) same)) (λ new. inr (ap (λ (x : Configuration Msg). x.ordered) new.1)) (made-is c.world.group set k)
-members-kept c (Enters p) seats m old = members-one c _ p _ 0 true (enters-step c p old.phases (may-enter c p m).comes)
-members-kept c (Orders p) seats m old =
+members-kept c (Enters p) nodes m old = members-one c _ p _ 0 true (enters-step c p old.phases (may-enter c p m).comes)
+members-kept c (Orders p) nodes m old =
     let next = orders-now c p old.phases (λ k. (old.confs k).places) m in
     members-grown c _ next.conf p (with_message (conf_of c next.conf) p next.message) (orders-conf c p next.conf next.stands next.message next.rest next.at)
     (Grows-message (conf_of c next.conf) p next.message (old.confs next.conf).places)
-members-kept c (Receives p place) seats m old =
+members-kept c (Receives p place) nodes m old =
     let next = receives-now c p place old.phases m in
     members-grown c _ next.conf p (with_receipt (conf_of c next.conf) p place) (receives-conf c p place next)
     (Grows-receipt (conf_of c next.conf) p place next.above next.within (old.confs next.conf).places)
-members-kept c (Hands p) seats m old = members-one c _ p _ _ true (hands-step c p old.phases (and_parts _ _ m).0)
-members-kept c (Leaves p set own places) seats m old = members-one c _ p _ own true (leaves-step c p set own places old.phases (leaving-regular c p set own places m))
-members-kept c (Asks p kind) seats m old = members-one c _ p _ _ _ (turns-step c p (take_request kind) old.phases)
-members-kept c (Settles p) seats m old = members-one c _ p _ _ _ (turns-step c p settle old.phases)
-members-kept c (Commits p) seats m old = members-one c _ p _ _ _ (commits-step c p old.phases)
-members-kept c (Crashes p) seats m old = members-one c _ p Down 0 false (crashes-step c p m)
-members-kept c (Recovers p) seats m old =
+members-kept c (Hands p) nodes m old = members-one c _ p _ _ true (hands-step c p old.phases (and_parts _ _ m).0)
+members-kept c (Leaves p set own places) nodes m old = members-one c _ p _ own true (leaves-step c p set own places old.phases (leaving-regular c p set own places m))
+members-kept c (Asks p kind) nodes m old = members-one c _ p _ _ _ (turns-step c p (take_request kind) old.phases)
+members-kept c (Settles p) nodes m old = members-one c _ p _ _ _ (turns-step c p settle old.phases)
+members-kept c (Commits p) nodes m old = members-one c _ p _ _ _ (commits-step c p old.phases)
+members-kept c (Crashes p) nodes m old = members-one c _ p Down 0 false (crashes-step c p m)
+members-kept c (Recovers p) nodes m old =
     let parts = and_parts (has_begun c.world p) (not (is_running c p)) m in
-    members-one c _ p Alone 0 true (recovers-step c p seats parts.0 (not-true (is_running c p) parts.1))
-members-kept c (Copies p joiner) seats m old = members-one c _ p _ _ _ (copies-step c p joiner old.phases)
-members-kept c (Joins joiner) seats m old = members-one c _ joiner Alone 0 true (joins-step c joiner (may-join c joiner m))
+    members-one c _ p Alone 0 true (recovers-step c p nodes parts.0 (not-true (is_running c p) parts.1))
+members-kept c (Copies p joiner) nodes m old = members-one c _ p _ _ _ (copies-step c p joiner old.phases)
+members-kept c (Joins joiner) nodes m old = members-one c _ joiner Alone 0 true (joins-step c joiner (may-join c joiner m))
 
 -- ---- what all have told
 
@@ -85,7 +85,7 @@ module _ (c : Chronicle) (s : Small) (i : Invariant c) (may : may_make c s ≡ t
       (λ same. (let empty : is_full (members_in d conf) no_talk ≡ true = ap₂ (λ set list. is_full set (talk_of list)) same (sym none) ∙ full in
       heard-rest (members_in d conf) conf (ordered_in d conf) no_talk empty ((talk_legal-kept c s i may).ordered conf) ∙ sym (ap (λ list. (talk_of list).heard) none)))
       (λ unsaid. ap (λ list. (talk_of list).heard) (unsaid ∙ sym none))
-      (members-kept c s i.net.seated may (group-of c i) conf)
+      (members-kept c s i.net.hosted may (group-of c i) conf)
 
   heard-kept : (conf : ℕ) → is_full (members_in c conf) (whole_talk c conf) ≡ true → (whole_talk (small_step c s) conf).heard ≡ (whole_talk c conf).heard
   heard-kept conf full = at (ordered_in c conf) refl where

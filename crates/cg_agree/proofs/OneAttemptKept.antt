@@ -11,7 +11,7 @@ use Rattle.cg_records.specs.declared.vulnerable.Vulnerable.{Vulnerable}
 use Rattle.cg_vote.specs.Quorum.{is_quorum}
 use Rattle.cg_vote.specs.QuorumLaws.{meet}
 use Rattle.cg_knowledge.specs.declared.summary.Summary.{Summary}
-use Rattle.cg_knowledge.specs.Members.{senders, remaining}
+use Rattle.cg_knowledge.specs.Summaries.{senders, remaining}
 use Rattle.cg_knowledge.specs.Primary.{newest_index, known_primary}
 use Rattle.cg_knowledge.specs.Vulnerable.{decided, is_cleared}
 use Rattle.cg_knowledge.specs.Verdict.{decides, all_cleared}
@@ -155,7 +155,7 @@ module _ (c : Chronicle) (s : Small) (i : Invariant c) (may : may_make c s ≡ t
       let out = regular-in c conf q (i.net.past_left.left later q conf told before) in
       let said : 0 < length (ordered_in c conf) = said-by (ordered_in c conf) q (ap (λ l. has (senders l) q) begins.end.whole ∙ remaining-senders heard q share.is_in_other) in
       let on = goes_on-kept conf c s i.net.phase_sound i.net.receipts_inside may said in
-      let lacks = lacks-still c d conf on (receipts_fixed-kept c s i.net.seated may (group-of c i)) i.net.receipts_inside said q q out
+      let lacks = lacks-still c d conf on (receipts_fixed-kept c s i.net.hosted may (group-of c i)) i.net.receipts_inside said q q out
       (ap (λ n. (n == 0) || not (has_received (conf_of c conf) q n)) (silent c i conf q none)) in
       let member : has x.set q ≡ true = ap (λ l. has l q) set_is ∙ share.is_in_other in
       and_from (not (is_installed x)) (list_any (is_out_lacking d x) x.set || not (is_live d x)) (ap (λ (l : List ℕ). not (nat_lt 0 (length l))) fresh)

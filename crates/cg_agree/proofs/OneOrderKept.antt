@@ -5,7 +5,7 @@ use Rattle.cg_client.specs.Replica.{Replica}
 use Rattle.cg_client.specs.Turn.{Turn, begin}
 use Rattle.cg_client.specs.Requests.{settle}
 use Rattle.cg_commit.specs.Crash.{Disk}
-use Rattle.cg_model.specs.World.{Up, Snapshot, seat_of}
+use Rattle.cg_model.specs.World.{Up, TransferState, node_of}
 use Rattle.cg_model.specs.Chronicle.{Chronicle}
 use Rattle.cg_model.specs.Looks.{greens_of, snapshot_of, copied_for}
 use Rattle.cg_model.specs.FactsAttempts.{LevelsStand, LeftOut, YellowValid}
@@ -28,9 +28,9 @@ use Rattle.cg_agree.proofs.SpineNow.{spine-now}
 closed : (d : Chronicle) → IsClosed (λ h xs. OnLine d xs)
 closed d = record { whitened = λ h all is. is; stored = λ h all is. is; recovers = λ h all is. is; joins = λ p h all is. is }
 
-turn-greens : (b : Chronicle) (p : ℕ) (part : Turn → Turn) (r : Replica) (disk : Disk) → HavePasts b → seat_of b.world p ≡ Some (record { id = p; life = Up r disk }) →
+turn-greens : (b : Chronicle) (p : ℕ) (part : Turn → Turn) (r : Replica) (disk : Disk) → HavePasts b → node_of b.world p ≡ Some (record { id = p; life = Up r disk }) →
     greens_of (turning b p part) p ≡ greens_of b p ++ newly_green r (part (begin r)).replica
-turn-greens b p part r disk pasts seat = ap (λ (x : Chronicle). greens_of x p) (turn-is b p part r disk seat) ∙ greens-turn b p r disk (part (begin r)) pasts seat
+turn-greens b p part r disk pasts node = ap (λ (x : Chronicle). greens_of x p) (turn-is b p part r disk node) ∙ greens-turn b p r disk (part (begin r)) pasts node
 
 -- what holds behind the step beside one order: members of primary components have green what they were handed, and counts are right;
 -- and what isn't among the facts before it
@@ -53,8 +53,8 @@ module _ (c : Chronicle) (s : Small) (i : Invariant c) (may : may_make c s ≡ t
   -- the greens of each replica are on top
   pub behind-on_top : (q : ℕ) → IsOnTop (small_step c s) (greens_of (small_step c s) q)
   behind-on_top q = at (greens-move c s i may rest q) where
-    given : (o : Option Snapshot) → is_some o ≡ true → IfSome o (λ x. OnLine c (copied_for c q)) → IsOnTop c (copied_for c q)
-    given None there is = absurd (let clash : is_some (let x : Option Snapshot = None in x) ≡ true = there in cc)
+    given : (o : Option TransferState) → is_some o ≡ true → IfSome o (λ x. OnLine c (copied_for c q)) → IsOnTop c (copied_for c q)
+    given None there is = absurd (let clash : is_some (let x : Option TransferState = None in x) ≡ true = there in cc)
     given (Some x) there is = record { front = is.0; count = is.1 }
 
     at : GreensMove c (small_step c s) q → IsOnTop (small_step c s) (greens_of (small_step c s) q)
@@ -73,19 +73,19 @@ module _ (c : Chronicle) (s : Small) (i : Invariant c) (may : may_make c s ≡ t
   order-pair xs is = pair xs (still xs (record { front = is.0; count = is.1 }))
 
 -- at its turn
-turn-keeps : (d b : Chronicle) (p : ℕ) (part : Turn → Turn) → HavePasts b → d ≡ turning b p part → IsOnTop d (greens_of d p) → (r : Replica) (disk : Disk) → seat_of b.world p ≡ Some (record { id = p; life = Up r disk }) →
+turn-keeps : (d b : Chronicle) (p : ℕ) (part : Turn → Turn) → HavePasts b → d ≡ turning b p part → IsOnTop d (greens_of d p) → (r : Replica) (disk : Disk) → node_of b.world p ≡ Some (record { id = p; life = Up r disk }) →
     OnLine d (greens_of b p ++ newly_green r (part (begin r)).replica)
-turn-keeps d b p part pasts step on r disk seat =
-    subst (OnLine d) (ap (λ (x : Chronicle). greens_of x p) step ∙ turn-greens b p part r disk pasts seat) (on.front, on.count)
+turn-keeps d b p part pasts step on r disk node =
+    subst (OnLine d) (ap (λ (x : Chronicle). greens_of x p) step ∙ turn-greens b p part r disk pasts node) (on.front, on.count)
 
 keeps : (c : Chronicle) (s : Small) (i : Invariant c) → OnLine (small_step c s) [] → ((q : ℕ) → IsOnTop (small_step c s) (greens_of (small_step c s) q)) → StepKeeps c s (λ h xs. OnLine (small_step c s) xs)
 unfolding small_step
 keeps c (Starts set) i none on = λ p. none
-keeps c (Enters p) i none on = turn-keeps (small_step c (Enters p)) (coming c p) p (take_newest c.world.group) i.net.seated.past refl (on p)
-keeps c (Hands p) i none on = turn-keeps (small_step c (Hands p)) (handed_next c p) p (take_next c.world.group p) i.net.seated.past refl (on p)
-keeps c (Leaves p set own places) i none on = turn-keeps (small_step c (Leaves p set own places)) (leaving c p set own) p (take_parting c.world.group p set places) i.net.seated.past refl (on p)
-keeps c (Asks p kind) i none on = turn-keeps (small_step c (Asks p kind)) c p (take_request kind) i.net.seated.past refl (on p)
-keeps c (Settles p) i none on = turn-keeps (small_step c (Settles p)) c p settle i.net.seated.past refl (on p)
+keeps c (Enters p) i none on = turn-keeps (small_step c (Enters p)) (coming c p) p (take_newest c.world.group) i.net.hosted.past refl (on p)
+keeps c (Hands p) i none on = turn-keeps (small_step c (Hands p)) (handed_next c p) p (take_next c.world.group p) i.net.hosted.past refl (on p)
+keeps c (Leaves p set own places) i none on = turn-keeps (small_step c (Leaves p set own places)) (leaving c p set own) p (take_parting c.world.group p set places) i.net.hosted.past refl (on p)
+keeps c (Asks p kind) i none on = turn-keeps (small_step c (Asks p kind)) c p (take_request kind) i.net.hosted.past refl (on p)
+keeps c (Settles p) i none on = turn-keeps (small_step c (Settles p)) c p settle i.net.hosted.past refl (on p)
 keeps c (Makes set) i none on = tt
 keeps c (Orders p) i none on = tt
 keeps c (Receives p place) i none on = tt
@@ -99,6 +99,6 @@ keeps c (Joins joiner) i none on = tt
 pub one_order-now : (c : Chronicle) (s : Small) → Invariant c → may_make c s ≡ true → AtRest c s → OrderAsks c (small_step c s) → OneOrder (small_step c s)
 one_order-now c s i may rest asks =
     let none = nothing-on_top (small_step c s) in
-    cores-kept (λ h xs. OnLine (small_step c s) xs) c s (ready-of c i.net.seated i.replica.disk_behind) may (closed (small_step c s))
+    cores-kept (λ h xs. OnLine (small_step c s) xs) c s (ready-of c i.net.hosted i.replica.disk_behind) may (closed (small_step c s))
     (keeps c s i (none.front, none.count) (behind-on_top c s i may rest asks))
     (cores-weaker (λ h xs. OnLine c xs) (λ h xs. OnLine (small_step c s) xs) c (λ h xs is. order-pair c s i may rest asks xs is) i.green.one_order)

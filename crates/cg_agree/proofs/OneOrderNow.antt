@@ -9,13 +9,13 @@ use Rattle.cg_base.specs.Sets.{has}
 use Rattle.cg_base.specs.Choice.{Either}
 use Rattle.cg_action.specs.declared.action.Action.{Action}
 use Rattle.cg_knowledge.specs.declared.summary.Summary.{Summary}
-use Rattle.cg_knowledge.specs.Members.{gone, most_updated}
+use Rattle.cg_knowledge.specs.Summaries.{gone, most_updated}
 use Rattle.cg_knowledge.specs.Verdict.{decides}
 use Rattle.cg_group.specs.declared.phase.Phase.TheVariants.{Regular}
 use Rattle.cg_group.specs.State.{phase_of, delivered_to}
 use Rattle.cg_client.specs.Replica.{Held, State, RegPrim, TransPrim, ExchangeStates, ExchangeActions, Construct, No, Un, NonPrim, Left, Replica}
 use Rattle.cg_model.specs.Attempts.{held_in}
-use Rattle.cg_model.specs.World.{Seat, seat_of, replica_of}
+use Rattle.cg_model.specs.World.{Node, node_of, replica_of}
 use Rattle.cg_model.specs.Chronicle.{Past, Told, Attempt, Chronicle}
 use Rattle.cg_model.specs.Fronts.{Front, When, IsSomeWith}
 use Rattle.cg_model.specs.Looks.{past_of, greens_of, stood_of, conf_at, is_at, is_in, is_regular_at, is_regular_in, told_in, disk_held, core_of, ordered_in, attempt_of, attempt_at, top_of, installation, left_count, on_disk}
@@ -42,7 +42,7 @@ use Rattle.cg_agree_lemmas.specs.HeldInstall.{reds_but}
 use Rattle.cg_agree.proofs.LevelsOpen.{place-within}
 use Rattle.cg_agree.proofs.ModeKept.{mode_data-kept}
 use Rattle.cg_agree.proofs.OneLine.{IsOnTop, reached-front, installed-on_top, level-on_top, handed-front}
-use Rattle.cg_agree_lemmas.specs.OneSteps.{hands-step, seat-there}
+use Rattle.cg_agree_lemmas.specs.OneSteps.{hands-step, node-there}
 use Rattle.cg_agree_lemmas.specs.Reach.{greatest-bounds, acts-front}
 use Rattle.cg_agree.proofs.ReachedGrows.{attempt-is, top-grows, reached-grows, said-level}
 use Rattle.cg_agree_lemmas.specs.ReachSteps.{goes_on-kept}
@@ -72,12 +72,12 @@ all-on_top c i q = of_memory (replica_of c.world q) refl (i.green.one_order.memo
   none-past None e = refl
   none-past (Some x) e = absurd (let clash : true ≡ false = e in cc)
 
-  no-seat : (o : Option Seat) → option_map (λ (s : Seat). on_disk s.life) o ≡ None → is_some o ≡ false
-  no-seat None e = refl
-  no-seat (Some s) e = absurd (let clash : Some (on_disk s.life) ≡ None = e in cc)
+  no-node : (o : Option Node) → option_map (λ (s : Node). on_disk s.life) o ≡ None → is_some o ≡ false
+  no-node None e = refl
+  no-node (Some s) e = absurd (let clash : Some (on_disk s.life) ≡ None = e in cc)
 
   of_disk : (o : Option Held) → disk_held c.world q ≡ o → replica_of c.world q ≡ None → IfSome o (λ h. OnLine c (stood_of c q)) → IsOnTop c (greens_of c q)
-  of_disk None e down on = subst (IsOnTop c) (sym (none-past (past_of c q) (i.net.seated.past q ∙ no-seat (seat_of c.world q) e))) (nothing-on_top c)
+  of_disk None e down on = subst (IsOnTop c) (sym (none-past (past_of c q) (i.net.hosted.past q ∙ no-node (node_of c.world q) e))) (nothing-on_top c)
   of_disk (Some h) e down on = subst (IsOnTop c) (sym (i.replica.disk_behind.down q down)) (record { front = on.0; count = on.1 })
 
   of_memory : (o : Option Replica) → replica_of c.world q ≡ o → IfSome o (λ r. OnLine c (greens_of c q)) → IsOnTop c (greens_of c q)
@@ -88,9 +88,9 @@ all-on_top c i q = of_memory (replica_of c.world q) refl (i.green.one_order.memo
 pub told-on_top : (c : Chronicle) → Invariant c → (conf q : ℕ) (t : Told) → told_in c conf q ≡ Some t → IsOnTop c t.greens
 told-on_top c i conf q t told =
     let begun = i.net.members_begun.member conf q (i.net.past_left.member conf q (ap is_some told)) in
-    let sits = seat-there c q begun in
+    let sits = node-there c q begun in
     let out = subst (λ (o : Option Told). IfSome o (λ t. IfSome (core_of c q) (IsOutdone c t))) told (i.exchange.summary_of_sender.outdone conf q) in
-    let is = subst (λ (o : Option Held). IfSome o (IsOutdone c t)) (ap (λ (o : Option Seat). option_map (λ s. held_in s.life) o) sits.there) out in
+    let is = subst (λ (o : Option Held). IfSome o (IsOutdone c t)) (ap (λ (o : Option Node). option_map (λ s. held_in s.life) o) sits.there) out in
     front-on_top c t.greens (greens_of c t.summary.id) is.greens (all-on_top c i t.summary.id)
 
 -- ---- what was on top stays so

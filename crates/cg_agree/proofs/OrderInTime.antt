@@ -13,7 +13,7 @@ use Rattle.cg_client.specs.Replica.{Replica}
 use Rattle.cg_client.specs.Queries.{view_of}
 use Rattle.cg_report.specs.declared.line.Line.{Line}
 use Rattle.cg_report.specs.declared.line.UpLine.{UpLine}
-use Rattle.cg_model.specs.World.{Life, Up, Down, Seat, World, no_world, running, seat_of, replica_of}
+use Rattle.cg_model.specs.World.{NodeState, Up, Down, Node, World, no_world, running, node_of, replica_of}
 use Rattle.cg_model.specs.Show.{line_of, up_line}
 use Rattle.cg_model.specs.Run.{Step, IsRunFrom}
 use Rattle.cg_model.specs.Shown.{order_of, lines_in, all_up_lines, position_of}
@@ -111,10 +111,10 @@ up-within c w s step p r runs = within-order (chronicle_step c w s.event) s.worl
 
 -- no line that it shows is beyond the order
 each-within : (c : Chronicle) (w : World) (s : Step) → IsStepOf c w s → Each (λ k. k ≤ length s.world.order) (counts_of (ups_in s.entry.lines))
-each-within c w s step = counts-each s.world s.entry.lines (lines-each (λ l. IfSome l.up (λ up. up.view.green_count ≤ length s.world.order)) c w s step seat) where
-  seat : (x : Seat) → seat_of s.world x.id ≡ Some x → IfSome (line_of s.world.group x).up (λ up. up.view.green_count ≤ length s.world.order)
-  seat x found = life x.life (ap (λ (o : Option Seat). option_and_then (λ s. running s.life) o) found) where
-    life : (l : Life) → replica_of s.world x.id ≡ running l → IfSome (option_map (up_line (phase_of s.world.group x.id)) (running l)) (λ up. up.view.green_count ≤ length s.world.order)
+each-within c w s step = counts-each s.world s.entry.lines (lines-each (λ l. IfSome l.up (λ up. up.view.green_count ≤ length s.world.order)) c w s step node) where
+  node : (x : Node) → node_of s.world x.id ≡ Some x → IfSome (line_of s.world.group x).up (λ up. up.view.green_count ≤ length s.world.order)
+  node x found = life x.life (ap (λ (o : Option Node). option_and_then (λ s. running s.life) o) found) where
+    life : (l : NodeState) → replica_of s.world x.id ≡ running l → IfSome (option_map (up_line (phase_of s.world.group x.id)) (running l)) (λ up. up.view.green_count ≤ length s.world.order)
     life (Up r disk) runs = up-within c w s step x.id r runs
     life (Down disk green) runs = tt
 

@@ -10,7 +10,7 @@ use Rattle.cg_report.specs.declared.line.UpLine.{UpLine}
 use Rattle.cg_client.specs.Replica.{State, RegPrim, TransPrim, ExchangeStates, ExchangeActions, Construct, No, Un, NonPrim, Left, Replica}
 use Rattle.cg_client.specs.Queries.{state_name, view_of}
 use Rattle.cg_schedule.specs.declared.event.Event.{Event}
-use Rattle.cg_model.specs.World.{Life, Up, Down, Seat, World, no_world, running, seat_of, replica_of}
+use Rattle.cg_model.specs.World.{NodeState, Up, Down, Node, World, no_world, running, node_of, replica_of}
 use Rattle.cg_model.specs.Show.{Moved, line_of, up_line}
 use Rattle.cg_model.specs.Run.{Step, IsRunFrom, world_after}
 use Rattle.cg_model.specs.Shown.{order_of}
@@ -55,9 +55,9 @@ module _ (c : Chronicle) (w : World) (s : Step) (step : IsStepOf c w s) where
   far p r runs =
       subst (λ (m : Moved). replica_of m.world p ≡ Some r → IsFarBy (length w.order) s.event p r) (sym step.moved) (event-far c w step.before s.event step.may step.admitted p r) runs
 
-  seat-by : (x : Seat) → seat_of s.world x.id ≡ Some x → IsLineBy (length w.order) s.event (line_of s.world.group x)
-  seat-by x found up e more = life x.life (ap (λ (o : Option Seat). option_and_then (λ s. running s.life) o) found) e where
-    life : (l : Life) → replica_of s.world x.id ≡ running l → option_map (up_line (phase_of s.world.group x.id)) (running l) ≡ Some up → IsPrimary up.state ⊎ (is_recovery_of x.id s.event ≡ true)
+  node-by : (x : Node) → node_of s.world x.id ≡ Some x → IsLineBy (length w.order) s.event (line_of s.world.group x)
+  node-by x found up e more = life x.life (ap (λ (o : Option Node). option_and_then (λ s. running s.life) o) found) e where
+    life : (l : NodeState) → replica_of s.world x.id ≡ running l → option_map (up_line (phase_of s.world.group x.id)) (running l) ≡ Some up → IsPrimary up.state ⊎ (is_recovery_of x.id s.event ≡ true)
     life (Down disk green) runs e = absurd (let clash : None ≡ Some up = e in cc)
     life (Up r disk) runs e =
         let line = up_line (phase_of s.world.group x.id) r in
@@ -78,7 +78,7 @@ longer always steps run earlier s l up after grown there is more =
     let c = chronicle_after no_chronicle no_world earlier in
     let w = world_after no_world earlier in
     let order : length w.order ≡ length (order_of earlier) = ap length (order_told no_world earlier at.before) in
-    each-contains (IsLineBy (length w.order) s.event) s.entry.lines l (lines-each (IsLineBy (length w.order) s.event) c w s at.step (seat-by c w s at.step)) there up is
+    each-contains (IsLineBy (length w.order) s.event) s.entry.lines l (lines-each (IsLineBy (length w.order) s.event) c w s at.step (node-by c w s at.step)) there up is
     (let many : length (order_of earlier) < up.view.green_count = more in omega arith)
 
 -- No primary index names two components, and only members of one make the order longer, or a recovery does.

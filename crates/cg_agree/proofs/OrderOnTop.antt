@@ -9,7 +9,7 @@ use Rattle.cg_queue.specs.Queue.{names_of}
 use Rattle.cg_wire.specs.declared.message.Msg.{Msg}
 use Rattle.cg_group.specs.State.{Sent}
 use Rattle.cg_client.specs.Replica.{Held, Replica}
-use Rattle.cg_model.specs.World.{Seat, seat_of, replica_of}
+use Rattle.cg_model.specs.World.{Node, node_of, replica_of}
 use Rattle.cg_model.specs.Chronicle.{Past, Attempt, Chronicle}
 use Rattle.cg_model.specs.Fronts.{Front}
 use Rattle.cg_model.specs.Looks.{greens_of, stood_of, past_of, on_disk, disk_held, is_in, left_count, ordered_in, attempt_of, attempt_at, top_of, installation}
@@ -88,7 +88,7 @@ green-there c i (x ∷ list) on = at (top_of c) refl where
   held : (q : ℕ) → length (x ∷ list) ≤ length (greens_of c q) → IsGreenOf c (x ∷ list)
   held q le = record {
     by = q;
-    front = Front-of_both (x ∷ list) (greens_of c q) (line_at c (top_of c)) on.front (greens-on_line c i.green.one_order i.replica.disk_behind i.net.seated q) le;
+    front = Front-of_both (x ∷ list) (greens_of c q) (line_at c (top_of c)) on.front (greens-on_line c i.green.one_order i.replica.disk_behind i.net.hosted q) le;
   }
 
   -- a member has so many, or had as it left
@@ -113,7 +113,7 @@ green-there c i (x ∷ list) on = at (top_of c) refl where
 -- a replica's greens are each the next of its creator
 pub greens-run : (c : Chronicle) → Invariant c → (q : ℕ) → run_on [] (names_of (greens_of c q)) ≡ true
 greens-run c i q = at (replica_of c.world q) refl where
-  begun : (o : Option Seat) → option_map (λ s. on_disk s.life) o ≡ None → is_some o ≡ false
+  begun : (o : Option Node) → option_map (λ s. on_disk s.life) o ≡ None → is_some o ≡ false
   begun None n = refl
   begun (Some s) n = absurd (let clash : Some (on_disk s.life) ≡ None = n in cc)
 
@@ -123,7 +123,7 @@ greens-run c i q = at (replica_of c.world q) refl where
 
   from_disk : (o : Option Held) → disk_held c.world q ≡ o → greens_of c q ≡ stood_of c q → run_on [] (names_of (greens_of c q)) ≡ true
   from_disk (Some h) e same = ap (λ xs. run_on [] (names_of xs)) same ∙ (subst (λ (o : Option Held). IfSome o (λ h. IsCore c h (stood_of c q))) e (i.replica.cores.disk q)).contiguous.greens
-  from_disk None e same = ap (λ xs. run_on [] (names_of xs)) (nothing (past_of c q) refl (i.net.seated.past q ∙ begun (seat_of c.world q) e))
+  from_disk None e same = ap (λ xs. run_on [] (names_of xs)) (nothing (past_of c q) refl (i.net.hosted.past q ∙ begun (node_of c.world q) e))
 
   at : (o : Option Replica) → replica_of c.world q ≡ o → run_on [] (names_of (greens_of c q)) ≡ true
   at None e = from_disk (disk_held c.world q) refl (i.replica.disk_behind.down q e)

@@ -1,14 +1,14 @@
 -- What was told counts no more greens than stand in the printed order, behind each event: only a merge lets replicas tell something, and
 -- nothing becomes green in it.
-use Rattle.cg_step.specs.Step.{Input, Deliveries, replica_step}
-use Rattle.cg_commit.specs.Crash.{Disk, Ended, Runs, Crashes as EndsInCrash, end_event}
+use Rattle.cg_replica_step.specs.Step.{Input, Deliveries, replica_step}
+use Rattle.cg_commit.specs.Crash.{Disk, EventEnd, Runs, Crashes as EndsInCrash, end_event}
 use Rattle.cg_action.specs.declared.action.Kind.TheVariants.{Update, Join as JoinKind, Leave as LeaveKind}
 use Rattle.cg_schedule.specs.declared.event.Event.{Event}
 use Rattle.cg_schedule.specs.declared.event.Event.TheVariants.{Start, Split, Merge, Request, Weak, Dirty, Order, Recover, Show, ShowOrder, Gather, End, Receive, Deliver, Rounds, Stop, Fail, Join, Leave, Transfer}
 use Rattle.cg_group.specs.declared.delivery.Delivery.TheVariants.{Regular as RegularIn}
 use Rattle.cg_model.specs.FactsBooks.{OrderFits}
 use Rattle.cg_model.specs.Small.{Small, Starts, Makes, Enters, Orders, Receives, Hands, Leaves, Asks, Settles, Commits, Crashes, Recovers, Copies, Joins, small_step, newest_conf}
-use Rattle.cg_model.specs.World.{Life, Up, Down, Seat, World, running, seat_of, replica_of}
+use Rattle.cg_model.specs.World.{NodeState, Up, Down, Node, World, running, node_of, replica_of}
 use Rattle.cg_model.specs.Played.{IsSame, KeptBySmalls, MayBeMade, StandsBeside}
 use Rattle.cg_group.specs.EachLaws.{Each, Each-append, Each-all, Each-weaker}
 use Rattle.std.proofs.Common.{◌≡◌, ◌++◌, ◌∷◌, ◌≤◌, ◌∙◌, ◌⊎◌, ◌&&◌, ◌-◌, if◌then◌else◌, IfSome, List, None, Option, Some, ap, append-nil, arith, eqb-true, false, flat_map, inl, inr, is_some, length, option_and_then, option_map, refl, replicate, subst, suc, sym, true, zero, ℕ, []}
@@ -21,7 +21,7 @@ use Rattle.cg_agree_lemmas.specs.FrontFacts.{Front-length}
 use Rattle.cg_agree_lemmas.specs.GreensTold.{entry-none}
 use Rattle.cg_agree_lemmas.specs.HandSays.{find-holds}
 use Rattle.cg_agree.proofs.MadeOfSmalls.{gather-quiet, transfer-quiet}
-use Rattle.cg_agree.proofs.OrderBehind.{IsKept, LifeOrder, SeatOrder}
+use Rattle.cg_agree.proofs.OrderBehind.{IsKept, NodeStateOrder, NodeOrder}
 use Rattle.cg_agree.proofs.PastKept.{enters-now, entry_told, told_in-enters}
 use Rattle.cg_agree_lemmas.specs.RestFacts.{IsQuiet}
 use Rattle.cg_agree_lemmas.specs.ToldKept.{IsUntold, told-same, told_in-same}
@@ -71,7 +71,7 @@ quiet-untold (Joins joiner) is = tt
 
 -- what holds of the steps of turns, and of their ends
 module _ (P : Small → Type 0) (block : ℕ → List Small) where
-  each-ending : (k : Taken) (e : Ended) → P (Commits k.id) → P (Crashes k.id) → Each P (block k.id) → Each P (ending_as k (block k.id) e)
+  each-ending : (k : Taken) (e : EventEnd) → P (Commits k.id) → P (Crashes k.id) → Each P (block k.id) → Each P (ending_as k (block k.id) e)
   each-ending k (Runs r disk) commit crash each =
       Each-append P (block k.id) (if commits k.before.held k.turn then Commits k.id ∷ [] else []) each
       (cond_both (commits k.before.held k.turn) (Commits k.id ∷ []) [] (Each P) (λ y. (commit, tt)) (λ n. tt))
@@ -164,14 +164,14 @@ told-along kept (s ∷ smalls) c i may conf p t P each e = elim (told-along kept
 
 -- who takes a turn is up
 taken-up : (w : World) (q : ℕ) (input : Input) → Each (λ k. is_some (replica_of w k.id) ≡ true) (taken w q input)
-taken-up w q input = at (seat_of w q) refl where
-  life : (l : Life) → is_some (replica_of w q) ≡ is_some (running l) → Each (λ k. is_some (replica_of w k.id) ≡ true) (taken_as q input l)
+taken-up w q input = at (node_of w q) refl where
+  life : (l : NodeState) → is_some (replica_of w q) ≡ is_some (running l) → Each (λ k. is_some (replica_of w k.id) ≡ true) (taken_as q input l)
   life (Up r disk) e = (e, tt)
   life (Down disk green) e = tt
 
-  at : (o : Option Seat) → seat_of w q ≡ o → Each (λ k. is_some (replica_of w k.id) ≡ true) (option_map_or (λ s. taken_as q input s.life) o [])
+  at : (o : Option Node) → node_of w q ≡ o → Each (λ k. is_some (replica_of w k.id) ≡ true) (option_map_or (λ s. taken_as q input s.life) o [])
   at None e = tt
-  at (Some s) e = life s.life (ap (λ (o : Option Seat). is_some (option_and_then (λ s. running s.life) o)) e)
+  at (Some s) e = life s.life (ap (λ (o : Option Node). is_some (option_and_then (λ s. running s.life) o)) e)
 
 takers-up : (w : World) (list : List (Handed Msg)) → Each (λ k. is_some (replica_of w k.id) ≡ true) (flat_map (λ h. taken w h.to (Deliveries h.list)) list)
 takers-up w [] = tt
@@ -190,7 +190,7 @@ entries-up w set p =
     )
 
 -- a replica that is struck in a turn in which nothing becomes green has nothing to show
-abbrev EndsNone : Ended → Type 0
+abbrev EndsNone : EventEnd → Type 0
 EndsNone (Runs r disk) = Unit {0}
 EndsNone (EndsInCrash disk green) = green ≡ []
 
@@ -201,9 +201,9 @@ record HasCore (d : Chronicle) (p : ℕ) : Type 0 where
   pub held : Held
   pub is : core_of d p ≡ Some held
 
-core-in : (d : Chronicle) (p : ℕ) (o : Option Seat) → seat_of d.world p ≡ o → is_some (option_map (λ s. on_disk s.life) o) ≡ true → HasCore d p
+core-in : (d : Chronicle) (p : ℕ) (o : Option Node) → node_of d.world p ≡ o → is_some (option_map (λ s. on_disk s.life) o) ≡ true → HasCore d p
 core-in d p None e some = absurd (let clash : false ≡ true = some in cc)
-core-in d p (Some s) e some = record { held = held_in s.life; is = ap (option_map (λ (s : Seat). held_in s.life)) e }
+core-in d p (Some s) e some = record { held = held_in s.life; is = ap (option_map (λ (s : Node). held_in s.life)) e }
 
 module _ (kept : KeptBySmalls) (c : Chronicle) (w : World) (stands : StandsBeside c w) (order : OrderFits c w) (smalls : List Small) (may : MayBeMade c smalls)
     (j : Invariant (played c smalls)) (u : World) (same : IsSame u (played c smalls).world) (rest_on : (q : ℕ) → greens_of (played c smalls) q ≡ stood_of (played c smalls) q)
@@ -230,12 +230,12 @@ module _ (kept : KeptBySmalls) (c : Chronicle) (w : World) (stands : StandsBesid
     short p up = elim (behind p) [
       | inl stays ↦
           let here = is-up w p up in
-          let front : Front (names_of (greens_of (played c smalls) p)) new = subst (SeatOrder new (names_of (greens_of (played c smalls) p))) (stays ∙ here.seat) (is.seats p) in
+          let front : Front (names_of (greens_of (played c smalls) p)) new = subst (NodeOrder new (names_of (greens_of (played c smalls) p))) (stays ∙ here.node) (is.nodes p) in
           fronted p front
       | inr turn ↦
           let t = replica_step turn.replica turn.input in
           let none : t.green ≡ [] = ap (λ (x : Input). (replica_step turn.replica x).green) turn.of ∙ entry-none turn.replica conf set in
-          of-end p (end_event turn.disk turn.replica.held t) (ends-none turn.disk turn.replica.held t none) (subst (SeatOrder new (names_of (greens_of (played c smalls) p))) turn.behind (is.seats p))
+          of-end p (end_event turn.disk turn.replica.held t) (ends-none turn.disk turn.replica.held t none) (subst (NodeOrder new (names_of (greens_of (played c smalls) p))) turn.behind (is.nodes p))
     ]
       where
         fronted : (p : ℕ) → Front (names_of (greens_of (played c smalls) p)) new → length (greens_of (played c smalls) p) ≤ length new
@@ -244,18 +244,18 @@ module _ (kept : KeptBySmalls) (c : Chronicle) (w : World) (stands : StandsBesid
             let count : length (names_of (greens_of (played c smalls) p)) ≡ length (greens_of (played c smalls) p) = names-count (greens_of (played c smalls) p) in
             omega arith
 
-        of-end : (p : ℕ) (e : Ended) → EndsNone e → LifeOrder new (names_of (greens_of (played c smalls) p)) (life_at e) → length (greens_of (played c smalls) p) ≤ length new
+        of-end : (p : ℕ) (e : EventEnd) → EndsNone e → NodeStateOrder new (names_of (greens_of (played c smalls) p)) (life_at e) → length (greens_of (played c smalls) p) ≤ length new
         of-end p (Runs r disk) none front = fronted p front
         of-end p (EndsInCrash disk green) none show =
             let all : names_of (greens_of (played c smalls) p) ≡ show.shown = show.all ∙ ap (λ xs. show.shown ++ xs) none ∙ append-nil show.shown in
             fronted p (subst (λ (xs : List ActionId). Front xs new) (sym all) show.there)
 
     has-core : (p : ℕ) → is_some (replica_of w p) ≡ true → HasCore (played c smalls) p
-    has-core p up = core-in (played c smalls) p (seat_of (played c smalls).world p) refl (ap is_some (sym (same.disk p)) ∙ begun (behind p)) where
+    has-core p up = core-in (played c smalls) p (node_of (played c smalls).world p) refl (ap is_some (sym (same.disk p)) ∙ begun (behind p)) where
       begun : IsBehind (λ q x. x ≡ Deliveries (RegularIn conf set ∷ [])) w u p → is_some (disk_held u p) ≡ true
       begun is = elim is [
-        | inl stays ↦ ap (λ (o : Option Seat). is_some (option_map (λ s. on_disk s.life) o)) (stays ∙ (is-up w p up).seat)
-        | inr turn ↦ ap (λ (o : Option Seat). is_some (option_map (λ s. on_disk s.life) o)) turn.behind
+        | inl stays ↦ ap (λ (o : Option Node). is_some (option_map (λ s. on_disk s.life) o)) (stays ∙ (is-up w p up).node)
+        | inr turn ↦ ap (λ (o : Option Node). is_some (option_map (λ s. on_disk s.life) o)) turn.behind
       ]
 
     -- who was up has told no more than it has

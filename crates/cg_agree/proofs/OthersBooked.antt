@@ -13,24 +13,24 @@ use Rattle.cg_agree.proofs.MadeBookKept.{made_book-of}
 use Rattle.cg_agree.proofs.MadeOnceKept.{holds-weaker, message-weaker}
 use Rattle.cg_agree.proofs.OthersShown.{later-shown, names-shown}
 use Rattle.cg_commit.specs.RunMarkLaws.{run-names}
-use Rattle.cg_model.specs.FactsBooks.{AreShown, HoldsFine, IsActionShown, IsMessageShown, IsNameShown, LifeShown, LifeToShow, MadeFits, OrderFits, SeatMade, SeatShown, SeatToShow}
+use Rattle.cg_model.specs.FactsBooks.{AreShown, HoldsFine, IsActionShown, IsMessageShown, IsNameShown, LifeShown, LifeToShow, MadeFits, OrderFits, NodeMade, NodeShown, NodeToShow}
 use Rattle.cg_model.specs.Attempts.{held_in}
 use Rattle.cg_model.specs.Chronicle.{Chronicle}
 use Rattle.cg_model.specs.Facts.{Invariant}
 use Rattle.cg_model.specs.Looks.{OfCores, disk_held, greens_of, on_disk, ordered_in, stood_of}
 use Rattle.cg_model.specs.Played.{IsSame, StandsBeside}
-use Rattle.cg_model.specs.World.{Down, Life, Seat, Up, World, replica_of, running, seat_of}
+use Rattle.cg_model.specs.World.{Down, NodeState, Node, Up, World, replica_of, running, node_of}
 use Rattle.cg_base.specs.Cuts.{index_in}
 use Rattle.cg_base.specs.Ids.{names}
 use Rattle.cg_client.specs.Replica.{Held, Replica, created}
 use Rattle.cg_group.specs.State.{unordered_of}
 use Rattle.cg_queue.specs.Queue.{names_of}
-use Rattle.cg_step.specs.Recorded.{OfMessage}
+use Rattle.cg_replica_step.specs.Recorded.{OfMessage}
 
-core-there : (o : Option Seat) (r : Replica) → option_and_then (λ s. running s.life) o ≡ Some r → option_map (λ s. held_in s.life) o ≡ Some r.held
+core-there : (o : Option Node) (r : Replica) → option_and_then (λ s. running s.life) o ≡ Some r → option_map (λ s. held_in s.life) o ≡ Some r.held
 core-there None r e = absurd (let clash : None ≡ Some r = e in cc)
 core-there (Some s) r e = life s.life e where
-  life : (l : Life) → running l ≡ Some r → Some (held_in l) ≡ Some r.held
+  life : (l : NodeState) → running l ≡ Some r → Some (held_in l) ≡ Some r.held
   life (Up x disk) e = ap (option_map (λ (r : Replica). r.held)) e
   life (Down disk green) e = absurd (let clash : None ≡ Some r = e in cc)
 
@@ -45,16 +45,16 @@ booked-index c i a is =
 -- and of a replica that is up it counts what was shown
 pub booked-made : (c : Chronicle) (w : World) → Invariant c → IsSame w c.world → MadeFits w → (p : ℕ) (r : Replica) → replica_of w p ≡ Some r → index_in (cut_of c.book) p ≡ index_in w.made p
 booked-made c w i same fits p r up =
-    let core = core-there (seat_of c.world p) r (sym (same.running p) ∙ up) in
+    let core = core-there (node_of c.world p) r (sym (same.running p) ∙ up) in
     subst (λ (o : Option Held). IfSome o (λ h. index_in (cut_of c.book) p ≡ created h)) core (i.replica.made_once.counted p)
     ∙ sym (subst (λ (o : Option Replica). IfSome o (λ r. index_in w.made p ≡ created r.held)) up ((made_book-of c w fits).up p))
 
 -- who hasn't begun has made nothing, and nothing of it was shown
-pub unbegun-made : (c : Chronicle) (w : World) → Invariant c → IsSame w c.world → MadeFits w → (p : ℕ) → seat_of w p ≡ None → index_in (cut_of c.book) p ≡ index_in w.made p
+pub unbegun-made : (c : Chronicle) (w : World) → Invariant c → IsSame w c.world → MadeFits w → (p : ℕ) → node_of w p ≡ None → index_in (cut_of c.book) p ≡ index_in w.made p
 unbegun-made c w i same fits p none =
-    i.replica.origins.unbegun p (there (seat_of c.world p) (sym (same.disk p) ∙ ap (option_map (λ (s : Seat). on_disk s.life)) none))
-    ∙ sym (subst (SeatMade (index_in w.made p) p) none (fits.seats p)) where
-      there : (o : Option Seat) → option_map (λ s. on_disk s.life) o ≡ None → is_some o ≡ false
+    i.replica.origins.unbegun p (there (node_of c.world p) (sym (same.disk p) ∙ ap (option_map (λ (s : Node). on_disk s.life)) none))
+    ∙ sym (subst (NodeMade (index_in w.made p) p) none (fits.nodes p)) where
+      there : (o : Option Node) → option_map (λ s. on_disk s.life) o ≡ None → is_some o ≡ false
       there None e = refl
       there (Some s) e = absurd (let clash : Some (on_disk s.life) ≡ None = e in cc)
 
@@ -77,14 +77,14 @@ module _ (c : Chronicle) (w : World) (stands : StandsBeside c w) (fits : MadeFit
   held : (h : Held) (all : List Action) → FineHeld c.book h all → HoldsFine (IsActionShown p n) h
   held h all is = holds-weaker (IsActionShown p n) (IsNamed c.book) shown h is.0
 
-  -- ---- each seat
+  -- ---- each node
 
-  seat-shown : (q : ℕ) → SeatShown p n (seat_of w q)
-  seat-shown q = at (seat_of w q) refl refl (order.down q) where
+  node-shown : (q : ℕ) → NodeShown p n (node_of w q)
+  node-shown q = at (node_of w q) refl refl (order.down q) where
     disk-shown : (h : Held) → disk_held w q ≡ Some h → FineHeld c.book h (stood_of c q)
     disk-shown h e = subst (λ (o : Option Held). IfSome o (λ h. FineHeld c.book h (stood_of c q))) (sym (stands.same.disk q) ∙ e) (cores.disk q)
 
-    life : (l : Life) → replica_of w q ≡ running l → disk_held w q ≡ Some (on_disk l) → LifeToShow w.order (names_of (stood_of c q)) l → LifeShown p n l
+    life : (l : NodeState) → replica_of w q ≡ running l → disk_held w q ≡ Some (on_disk l) → LifeToShow w.order (names_of (stood_of c q)) l → LifeShown p n l
     life (Up x disk) runs has_disk to_show = (
       held x.held (greens_of c q) (subst (λ (o : Option Replica). IfSome o (λ r. FineHeld c.book r.held (greens_of c q))) (sym (stands.same.running q) ∙ runs) (cores.memory q)),
       held disk.content (stood_of c q) (disk-shown disk.content has_disk),
@@ -95,7 +95,7 @@ module _ (c : Chronicle) (w : World) (stands : StandsBeside c w) (fits : MadeFit
           later-shown p n to_show.shown green (subst (Each (IsNameShown p n)) to_show.all (names-shown p n (stood_of c q) (Each-weaker (IsNamed c.book) (IsActionShown p n) shown (stood_of c q) stood.1))),
         )
 
-    at : (o : Option Seat) → replica_of w q ≡ option_and_then (λ s. running s.life) o → disk_held w q ≡ option_map (λ s. on_disk s.life) o → SeatToShow w.order (names_of (stood_of c q)) o → SeatShown p n o
+    at : (o : Option Node) → replica_of w q ≡ option_and_then (λ s. running s.life) o → disk_held w q ≡ option_map (λ s. on_disk s.life) o → NodeToShow w.order (names_of (stood_of c q)) o → NodeShown p n o
     at None runs has_disk to_show = tt
     at (Some s) runs has_disk to_show = life s.life runs has_disk to_show
 
@@ -113,7 +113,7 @@ module _ (c : Chronicle) (w : World) (stands : StandsBeside c w) (fits : MadeFit
   booked-shown = record {
     rising = fits.rising;
     low = omega arith;
-    seats = λ q other. seat-shown q;
+    nodes = λ q other. node-shown q;
     group = says;
     order = Each-weaker (λ id. nat_le id.index (index_in w.made id.creator) ≡ true) (IsNameShown p n)
         (λ id is e. (let le = leb-true id.index (index_in w.made id.creator) is in let same : index_in w.made id.creator ≡ n = ap (index_in w.made) e in omega arith))

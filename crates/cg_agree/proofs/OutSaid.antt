@@ -11,7 +11,7 @@ use Rattle.cg_client.specs.Requests.{settle}
 use Rattle.cg_model.specs.World.{has_begun}
 use Rattle.cg_model.specs.Chronicle.{Chronicle}
 use Rattle.cg_model.specs.Looks.{conf_of, ordered_in, is_regular_at, is_regular_in, placed_of}
-use Rattle.cg_model.specs.FactsNet.{Seated}
+use Rattle.cg_model.specs.FactsNet.{Hosted}
 use Rattle.cg_model.specs.Small.{Small, Starts, Makes, Enters, Orders, Receives, Hands, Leaves, Asks, Settles, Commits, Crashes, Recovers, Copies, Joins, small_step, take_request, make_configuration}
 use Rattle.cg_model.specs.Smalls.{may_make, is_running}
 use Rattle.cg_agree_lemmas.specs.SaidSoFar.{placed-append}
@@ -57,13 +57,13 @@ receipt-said : (C : Configuration Msg) (p place q : ℕ) → placed_of q (with_r
 unfolding with_receipt
 receipt-said C p place q = refl
 
-pub said-out : (c : Chronicle) (s : Small) → Seated c → may_make c s ≡ true → GroupSound c → (conf q : ℕ) → is_regular_in (small_step c s) conf q ≡ false →
+pub said-out : (c : Chronicle) (s : Small) → Hosted c → may_make c s ≡ true → GroupSound c → (conf q : ℕ) → is_regular_in (small_step c s) conf q ≡ false →
     placed_of q (ordered_in (small_step c s) conf) ≡ placed_of q (ordered_in c conf)
 unfolding small_step may_make
-said-out c (Starts set) seats m old conf q out = ap (λ (x : Configuration Msg). placed_of q x.ordered) (confs-begun c set (ids set) c.world conf)
-said-out c (Makes set) seats m old conf q out = none-made c set conf q
-said-out c (Enters p) seats m old conf q out = same-said c (small_step c (Enters p)) p (enters-step c p old.phases (may-enter c p m).comes).stands.conf conf q
-said-out c (Orders p) seats m old conf q out =
+said-out c (Starts set) nodes m old conf q out = ap (λ (x : Configuration Msg). placed_of q x.ordered) (confs-begun c set (ids set) c.world conf)
+said-out c (Makes set) nodes m old conf q out = none-made c set conf q
+said-out c (Enters p) nodes m old conf q out = same-said c (small_step c (Enters p)) p (enters-step c p old.phases (may-enter c p m).comes).stands.conf conf q
+said-out c (Orders p) nodes m old conf q out =
     let next = orders-now c p old.phases (λ k. (old.confs k).places) m in
     let step = orders-conf c p next.conf next.stands next.message next.rest next.at in
     let phase = orders-phase c p next.conf next.stands next.message next.rest next.at in
@@ -75,7 +75,7 @@ said-out c (Orders p) seats m old conf q out =
           ∙ message-said (conf_of c next.conf) p next.message q other ∙ ap (λ k. placed_of q (ordered_in c k)) (sym same)
       | inr there ↦ ap (λ (x : Configuration Msg). placed_of q x.ordered) (step.changed conf ∙ cond-false (conf == next.conf) (with_message (conf_of c next.conf) p next.message) (conf_of c conf) there)
     ]
-said-out c (Receives p place) seats m old conf q out =
+said-out c (Receives p place) nodes m old conf q out =
     let next = receives-now c p place old.phases m in
     let step = receives-conf c p place next in
     elim (cases_Bool (conf == next.conf)) [
@@ -84,14 +84,14 @@ said-out c (Receives p place) seats m old conf q out =
           ∙ receipt-said (conf_of c next.conf) p place q ∙ ap (λ k. placed_of q (ordered_in c k)) (sym (eqb-true conf next.conf here))
       | inr there ↦ ap (λ (x : Configuration Msg). placed_of q x.ordered) (step.changed conf ∙ cond-false (conf == next.conf) (with_receipt (conf_of c next.conf) p place) (conf_of c conf) there)
     ]
-said-out c (Hands p) seats m old conf q out = same-said c (small_step c (Hands p)) p (hands-step c p old.phases (and_parts _ _ m).0).stands.conf conf q
-said-out c (Leaves p set own places) seats m old conf q out = same-said c (small_step c (Leaves p set own places)) p (leaves-step c p set own places old.phases (leaving-regular c p set own places m)).stands.conf conf q
-said-out c (Asks p kind) seats m old conf q out = same-said c (small_step c (Asks p kind)) p (turns-step c p (take_request kind) old.phases).stands.conf conf q
-said-out c (Settles p) seats m old conf q out = same-said c (small_step c (Settles p)) p (turns-step c p settle old.phases).stands.conf conf q
-said-out c (Commits p) seats m old conf q out = same-said c (small_step c (Commits p)) p (commits-step c p old.phases).stands.conf conf q
-said-out c (Crashes p) seats m old conf q out = same-said c (small_step c (Crashes p)) p (crashes-step c p m).stands.conf conf q
-said-out c (Recovers p) seats m old conf q out =
+said-out c (Hands p) nodes m old conf q out = same-said c (small_step c (Hands p)) p (hands-step c p old.phases (and_parts _ _ m).0).stands.conf conf q
+said-out c (Leaves p set own places) nodes m old conf q out = same-said c (small_step c (Leaves p set own places)) p (leaves-step c p set own places old.phases (leaving-regular c p set own places m)).stands.conf conf q
+said-out c (Asks p kind) nodes m old conf q out = same-said c (small_step c (Asks p kind)) p (turns-step c p (take_request kind) old.phases).stands.conf conf q
+said-out c (Settles p) nodes m old conf q out = same-said c (small_step c (Settles p)) p (turns-step c p settle old.phases).stands.conf conf q
+said-out c (Commits p) nodes m old conf q out = same-said c (small_step c (Commits p)) p (commits-step c p old.phases).stands.conf conf q
+said-out c (Crashes p) nodes m old conf q out = same-said c (small_step c (Crashes p)) p (crashes-step c p m).stands.conf conf q
+said-out c (Recovers p) nodes m old conf q out =
     let parts = and_parts (has_begun c.world p) (not (is_running c p)) m in
-    same-said c (small_step c (Recovers p)) p (recovers-step c p seats parts.0 (not-true (is_running c p) parts.1)).stands.conf conf q
-said-out c (Copies p joiner) seats m old conf q out = same-said c (small_step c (Copies p joiner)) p (copies-step c p joiner old.phases).stands.conf conf q
-said-out c (Joins joiner) seats m old conf q out = same-said c (small_step c (Joins joiner)) joiner (joins-step c joiner (may-join c joiner m)).stands.conf conf q
+    same-said c (small_step c (Recovers p)) p (recovers-step c p nodes parts.0 (not-true (is_running c p) parts.1)).stands.conf conf q
+said-out c (Copies p joiner) nodes m old conf q out = same-said c (small_step c (Copies p joiner)) p (copies-step c p joiner old.phases).stands.conf conf q
+said-out c (Joins joiner) nodes m old conf q out = same-said c (small_step c (Joins joiner)) joiner (joins-step c joiner (may-join c joiner m)).stands.conf conf q

@@ -11,7 +11,7 @@ use Rattle.cg_client.specs.Requests.{settle}
 use Rattle.cg_model.specs.World.{has_begun}
 use Rattle.cg_model.specs.Chronicle.{Chronicle, no_chronicle}
 use Rattle.cg_model.specs.Looks.{ordered_in, is_at, is_in}
-use Rattle.cg_model.specs.FactsNet.{Seated}
+use Rattle.cg_model.specs.FactsNet.{Hosted}
 use Rattle.cg_model.specs.Small.{Small, Starts, Makes, Enters, Orders, Receives, Hands, Leaves, Asks, Settles, Commits, Crashes, Recovers, Copies, Joins, small_step, take_request, newest_conf}
 use Rattle.cg_model.specs.Smalls.{may_make, is_running, is_set}
 use Rattle.cg_agree.proofs.BegunKept.{nothing-before}
@@ -53,29 +53,29 @@ pub unsaid : {X : Type 0} (xs : List X) → is_nil xs ≡ true → 0 < length xs
 unsaid [] e lt = omega arith
 unsaid (x ∷ xs) e lt = let clash : false ≡ true = e in cc
 
-pub out-stays : (c : Chronicle) (s : Small) → Seated c → may_make c s ≡ true → GroupSound c → (conf q : ℕ) → 0 < length (ordered_in c conf) → is_in c conf q ≡ false → is_in (small_step c s) conf q ≡ false
+pub out-stays : (c : Chronicle) (s : Small) → Hosted c → may_make c s ≡ true → GroupSound c → (conf q : ℕ) → 0 < length (ordered_in c conf) → is_in c conf q ≡ false → is_in (small_step c s) conf q ≡ false
 unfolding small_step may_make
-out-stays c (Starts set) seats m old conf q said out = absurd (nothing-said c conf (nothing-before c seats (and_parts (is_nil c.world.seats) (is_set (ids set)) m).0) said)
-out-stays c (Makes set) seats m old conf q said out = phase-out c (small_step c (Makes set)) conf q (phase-made c (small_step c (Makes set)) set refl (λ q. refl) q) out
-out-stays c (Enters p) seats m old conf q said out =
+out-stays c (Starts set) nodes m old conf q said out = absurd (nothing-said c conf (nothing-before c nodes (and_parts (is_nil c.world.nodes) (is_set (ids set)) m).0) said)
+out-stays c (Makes set) nodes m old conf q said out = phase-out c (small_step c (Makes set)) conf q (phase-made c (small_step c (Makes set)) set refl (λ q. refl) q) out
+out-stays c (Enters p) nodes m old conf q said out =
     let enter = may-enter c p m in
     one-out c _ p _ 0 true (enters-step c p old.phases enter.comes) conf q
     (λ none. ne_eqb (newest_conf c.world.group) conf (λ same. unsaid (ordered_in c (newest_conf c.world.group)) enter.unsaid (subst (λ k. 0 < length (ordered_in c k)) (sym same) said))) out
-out-stays c (Orders p) seats m old conf q said out =
+out-stays c (Orders p) nodes m old conf q said out =
     let next = orders-now c p old.phases (λ k. (old.confs k).places) m in
     phase-out c (small_step c (Orders p)) conf q ((orders-conf c p next.conf next.stands next.message next.rest next.at).phase q) out
-out-stays c (Receives p place) seats m old conf q said out =
+out-stays c (Receives p place) nodes m old conf q said out =
     let next = receives-now c p place old.phases m in phase-out c (small_step c (Receives p place)) conf q ((receives-conf c p place next).phase q) out
-out-stays c (Hands p) seats m old conf q said out = one-out c _ p _ _ true (hands-step c p old.phases (and_parts _ _ m).0) conf q (λ none. none) out
-out-stays c (Leaves p set own places) seats m old conf q said out =
+out-stays c (Hands p) nodes m old conf q said out = one-out c _ p _ _ true (hands-step c p old.phases (and_parts _ _ m).0) conf q (λ none. none) out
+out-stays c (Leaves p set own places) nodes m old conf q said out =
     one-out c _ p _ own true (leaves-step c p set own places old.phases (leaving-regular c p set own places m)) conf q
     (λ none. parted-out conf (phase_of c.world.group p) set (said-number c conf said) none) out
-out-stays c (Asks p kind) seats m old conf q said out = one-out c _ p _ _ _ (turns-step c p (take_request kind) old.phases) conf q (λ none. none) out
-out-stays c (Settles p) seats m old conf q said out = one-out c _ p _ _ _ (turns-step c p settle old.phases) conf q (λ none. none) out
-out-stays c (Commits p) seats m old conf q said out = one-out c _ p _ _ _ (commits-step c p old.phases) conf q (λ none. none) out
-out-stays c (Crashes p) seats m old conf q said out = one-out c _ p Down 0 false (crashes-step c p m) conf q (λ none. refl) out
-out-stays c (Recovers p) seats m old conf q said out =
+out-stays c (Asks p kind) nodes m old conf q said out = one-out c _ p _ _ _ (turns-step c p (take_request kind) old.phases) conf q (λ none. none) out
+out-stays c (Settles p) nodes m old conf q said out = one-out c _ p _ _ _ (turns-step c p settle old.phases) conf q (λ none. none) out
+out-stays c (Commits p) nodes m old conf q said out = one-out c _ p _ _ _ (commits-step c p old.phases) conf q (λ none. none) out
+out-stays c (Crashes p) nodes m old conf q said out = one-out c _ p Down 0 false (crashes-step c p m) conf q (λ none. refl) out
+out-stays c (Recovers p) nodes m old conf q said out =
     let parts = and_parts (has_begun c.world p) (not (is_running c p)) m in
-    one-out c _ p Alone 0 true (recovers-step c p seats parts.0 (not-true (is_running c p) parts.1)) conf q (λ none. refl) out
-out-stays c (Copies p joiner) seats m old conf q said out = one-out c _ p _ _ _ (copies-step c p joiner old.phases) conf q (λ none. none) out
-out-stays c (Joins joiner) seats m old conf q said out = one-out c _ joiner Alone 0 true (joins-step c joiner (may-join c joiner m)) conf q (λ none. refl) out
+    one-out c _ p Alone 0 true (recovers-step c p nodes parts.0 (not-true (is_running c p) parts.1)) conf q (λ none. refl) out
+out-stays c (Copies p joiner) nodes m old conf q said out = one-out c _ p _ _ _ (copies-step c p joiner old.phases) conf q (λ none. none) out
+out-stays c (Joins joiner) nodes m old conf q said out = one-out c _ joiner Alone 0 true (joins-step c joiner (may-join c joiner m)) conf q (λ none. refl) out

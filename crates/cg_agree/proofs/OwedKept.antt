@@ -10,11 +10,11 @@ use Rattle.cg_group.specs.State.{phase_of}
 use Rattle.cg_queue.specs.Queue.{names_of}
 use Rattle.cg_client.specs.Replica.{Held, Replica, created}
 use Rattle.cg_client.specs.Turn.{Turn}
-use Rattle.cg_stored.specs.Stored.{whiten}
-use Rattle.cg_step.specs.Step.{replica_step}
-use Rattle.cg_commit.specs.Crash.{Disk, Ended, Runs, Crashes, whitened}
-use Rattle.cg_model.specs.World.{Life, Up, Down, Seat, World, no_world, running, seat_of, replica_of}
-use Rattle.cg_model.specs.Show.{Going, Moved, line_of, up_line}
+use Rattle.cg_disk_records.specs.Stored.{whiten}
+use Rattle.cg_replica_step.specs.Step.{replica_step}
+use Rattle.cg_commit.specs.Crash.{Disk, EventEnd, Runs, Crashes, whitened}
+use Rattle.cg_model.specs.World.{NodeState, Up, Down, Node, World, no_world, running, node_of, replica_of}
+use Rattle.cg_model.specs.Show.{StepInProgress, Moved, line_of, up_line}
 use Rattle.cg_model.specs.Step.{happens}
 use Rattle.cg_model.specs.Run.{Step, IsRunFrom}
 use Rattle.cg_model.specs.Shown.{lines_in}
@@ -24,14 +24,14 @@ use Rattle.cg_model.specs.FactsLists.{IsRising}
 use Rattle.cg_model.specs.Played.{AlwaysHolds}
 use Rattle.cg_model.specs.Telling.{latest, last_line}
 use Rattle.cg_agree_lemmas.specs.DiskEnds.{end-cases}
-use Rattle.cg_agree_lemmas.specs.SeatFacts.{seat-id}
-use Rattle.cg_agree_lemmas.specs.MadeWorlds.{IsCoreAt, LifeSound, SeatSound, green-created}
+use Rattle.cg_agree_lemmas.specs.NodeFacts.{node-id}
+use Rattle.cg_agree_lemmas.specs.MadeWorlds.{IsCoreAt, LifeSound, NodeSound, green-created}
 use Rattle.cg_agree.proofs.MadeBookKept.{sound-at}
 use Rattle.cg_agree_lemmas.specs.TurnWorlds.{life_at}
 use Rattle.cg_agree.proofs.RunSteps.{world_of, chronicle_of, IsStepAt, StandsFor, stands-for, step-of}
 use Rattle.cg_agree_lemmas.specs.OwedNames.{own_name, own-named}
 use Rattle.cg_agree_lemmas.specs.StepSays.{IsOwing, SaysSo, step-says}
-use Rattle.cg_agree_lemmas.specs.EventSays.{made_ids, OwesSo, LifeOwes, SeatOwes, made_by, replies_by}
+use Rattle.cg_agree_lemmas.specs.EventSays.{made_ids, OwesSo, LifeOwes, NodeOwes, made_by, replies_by}
 use Rattle.cg_agree.proofs.EventMeets.{SaidOnly, KeptIn, TurnsIn, FallsIn, WakesIn, BeginsIn, Meets, Stays, Turns, Falls, Wakes, Begins}
 use Rattle.cg_agree.proofs.EventsMeet.{happens-meets}
 use Rattle.cg_agree_lemmas.specs.LivesSince.{lives-next, is_down_line, not-down, goes-down}
@@ -68,7 +68,7 @@ module _ (always : AlwaysHolds) (earlier : List Step) (s : Step) (is : IsStepAt 
   abbrev w : World
   w = world_of earlier
 
-  abbrev h : Going
+  abbrev h : StepInProgress
   h = happens w s.event
 
   abbrev before : StandsFor earlier
@@ -80,28 +80,28 @@ module _ (always : AlwaysHolds) (earlier : List Step) (s : Step) (is : IsStepAt 
   shows : StepShows earlier s
   shows = step-shows earlier s is
 
-  pub owes-before : (p : ℕ) → SeatOwes (chronicle_of earlier).start p (seat_of w p)
-  owes-before p = at (seat_of w p) (sound-at (chronicle_of earlier) w before.stands p) ((owed p).lives) where
-    life : (l : Life) → LifeSound (chronicle_of earlier).start p l → LivesAt earlier p (running l) → LifeOwes (chronicle_of earlier).start p l
+  pub owes-before : (p : ℕ) → NodeOwes (chronicle_of earlier).start p (node_of w p)
+  owes-before p = at (node_of w p) (sound-at (chronicle_of earlier) w before.stands p) ((owed p).lives) where
+    life : (l : NodeState) → LifeSound (chronicle_of earlier).start p l → LivesAt earlier p (running l) → LifeOwes (chronicle_of earlier).start p l
     life (Up r disk) sound lives = record { base = lives.base; core = sound.0; owing = lives.owing }
     life (Down disk green) sound lives = tt
 
-    at : (o : Option Seat) → SeatSound (chronicle_of earlier).start p o → LivesAt earlier p (option_and_then (λ s. running s.life) o) → SeatOwes (chronicle_of earlier).start p o
+    at : (o : Option Node) → NodeSound (chronicle_of earlier).start p o → LivesAt earlier p (option_and_then (λ s. running s.life) o) → NodeOwes (chronicle_of earlier).start p o
     at None sound lives = tt
     at (Some x) sound lives = life x.life sound lives
 
   pub meets : (p : ℕ) → Meets w s.event h p
   meets p = happens-meets (chronicle_of earlier) w before.stands owes-before s.event is.may is.admitted p
 
-  -- the world behind the step has the event's seats
-  pub seat-now : (p : ℕ) → seat_of (world_of now) p ≡ seat_of h.world p
-  seat-now p = ap (λ (list : List Seat). seat_of (record w { seats = list }) p) shows.seats
+  -- the world behind the step has the event's nodes
+  pub node-now : (p : ℕ) → node_of (world_of now) p ≡ node_of h.world p
+  node-now p = ap (λ (list : List Node). node_of (record w { nodes = list }) p) shows.nodes
 
   pub runs-now : (p : ℕ) → replica_of (world_of now) p ≡ replica_of h.world p
-  runs-now p = ap (λ (o : Option Seat). option_and_then (λ s. running s.life) o) (seat-now p)
+  runs-now p = ap (λ (o : Option Node). option_and_then (λ s. running s.life) o) (node-now p)
 
   disk-now : (p : ℕ) → disk_held (world_of now) p ≡ disk_held h.world p
-  disk-now p = ap (λ (o : Option Seat). option_map (λ s. on_disk s.life) o) (seat-now p)
+  disk-now p = ap (λ (o : Option Node). option_map (λ s. on_disk s.life) o) (node-now p)
 
   -- ---- what is shown as created, and as down
 
@@ -112,22 +112,22 @@ module _ (always : AlwaysHolds) (earlier : List Step) (s : Step) (is : IsStepAt 
   pub up-now : (p : ℕ) (r : Replica) → replica_of (world_of now) p ≡ Some r → is_down_in p s ≡ false
   up-now p r runs =
       let moved = is.world ∙ ap (λ (m : Moved). m.world) is.moved in
-      let rise : IsRising 0 (map (λ s. s.id) (world_of now).seats) = subst (IsRising 0) (sym behind.stands.same.seats) behind.stands.facts.lists.seats in
+      let rise : IsRising 0 (map (λ s. s.id) (world_of now).nodes) = subst (IsRising 0) (sym behind.stands.same.nodes) behind.stands.facts.lists.nodes in
       ap (λ (m : Moved). list_any (is_down_line p) m.entry.lines) is.moved
-      ∙ not-down w s.event p r (subst (IsRising 0) (ap (λ (v : World). map (λ s. s.id) v.seats) moved) rise) (ap (λ (v : World). replica_of v p) (sym moved) ∙ runs)
+      ∙ not-down w s.event p r (subst (IsRising 0) (ap (λ (v : World). map (λ s. s.id) v.nodes) moved) rise) (ap (λ (v : World). replica_of v p) (sym moved) ∙ runs)
 
-  down-now : (p : ℕ) (r : Replica) (disk : Disk) (green : List ActionId) → replica_of w p ≡ Some r → seat_of (world_of now) p ≡ Some (record { id = p; life = Down disk green }) → is_down_in p s ≡ true
-  down-now p r disk green runs seat = at (seat_of w p) refl runs where
+  down-now : (p : ℕ) (r : Replica) (disk : Disk) (green : List ActionId) → replica_of w p ≡ Some r → node_of (world_of now) p ≡ Some (record { id = p; life = Down disk green }) → is_down_in p s ≡ true
+  down-now p r disk green runs node = at (node_of w p) refl runs where
     fallen : Line
     fallen = line_of (world_of now).group (record { id = p; life = Down disk green })
 
     last : last_line p now ≡ Some fallen
-    last = last-is now behind p (record { id = p; life = Down disk green }) seat refl
+    last = last-is now behind p (record { id = p; life = Down disk green }) node refl
 
-    at : (o : Option Seat) → seat_of w p ≡ o → option_and_then (λ s. running s.life) o ≡ Some r → is_down_in p s ≡ true
+    at : (o : Option Node) → node_of w p ≡ o → option_and_then (λ s. running s.life) o ≡ Some r → is_down_in p s ≡ true
     at None found up = absurd (let clash : None ≡ Some r = up in cc)
     at (Some x) found up =
-        let first = last-is earlier before p x found (seat-id w p x found) in
+        let first = last-is earlier before p x found (node-id w p x found) in
         let up_first : is_some (line_of w.group x).up ≡ true = ap (λ (o : Option Replica). is_some (option_map (up_line (phase_of w.group x.id)) o)) up in
         let all : last_line p now ≡ fold (latest p) (last_line p earlier) s.entry.lines = ap (fold (latest p) None) (lines-both earlier s) ∙ lines-fold p (lines_in earlier) s.entry.lines None in
         goes-down p s.entry.lines (last_line p earlier)
@@ -156,12 +156,12 @@ module _ (always : AlwaysHolds) (earlier : List Step) (s : Step) (is : IsStepAt 
       })
     where
       core-now : (p : ℕ) (r : Replica) → replica_of (world_of now) p ≡ Some r → IsCoreAt (chronicle_of now).start p r.held
-      core-now p r runs = at (seat_of (world_of now) p) (sound-at (chronicle_of now) (world_of now) behind.stands p) runs where
-        life : (l : Life) → LifeSound (chronicle_of now).start p l → running l ≡ Some r → IsCoreAt (chronicle_of now).start p r.held
+      core-now p r runs = at (node_of (world_of now) p) (sound-at (chronicle_of now) (world_of now) behind.stands p) runs where
+        life : (l : NodeState) → LifeSound (chronicle_of now).start p l → running l ≡ Some r → IsCoreAt (chronicle_of now).start p r.held
         life (Up x disk) sound e = subst (λ (x : Replica). IsCoreAt (chronicle_of now).start p x.held) (some-is x r e) sound.0
         life (Down disk green) sound e = absurd (let clash : None ≡ Some r = e in cc)
 
-        at : (o : Option Seat) → SeatSound (chronicle_of now).start p o → option_and_then (λ s. running s.life) o ≡ Some r → IsCoreAt (chronicle_of now).start p r.held
+        at : (o : Option Node) → NodeSound (chronicle_of now).start p o → option_and_then (λ s. running s.life) o ≡ Some r → IsCoreAt (chronicle_of now).start p r.held
         at None sound e = absurd (let clash : None ≡ Some r = e in cc)
         at (Some x) sound e = life x.life sound e
 
@@ -184,13 +184,13 @@ module _ (always : AlwaysHolds) (earlier : List Step) (s : Step) (is : IsStepAt 
               ∙ whole (lives_since (own_name p i) earlier) ∙ lives.lives i;
         })
 
-  fallen-lives : (p : ℕ) (disk : Disk) (green : List ActionId) → seat_of (world_of now) p ≡ Some (record { id = p; life = Down disk green }) → ((i : ℕ) → is_created_in (own_name p i) s ≡ false) →
+  fallen-lives : (p : ℕ) (disk : Disk) (green : List ActionId) → node_of (world_of now) p ≡ Some (record { id = p; life = Down disk green }) → ((i : ℕ) → is_created_in (own_name p i) s ≡ false) →
       LivesAt now p (replica_of (world_of now) p)
-  fallen-lives p disk green seat none = none-lives p (ap (λ (o : Option Seat). option_and_then (λ s. running s.life) o) seat)
+  fallen-lives p disk green node none = none-lives p (ap (λ (o : Option Node). option_and_then (λ s. running s.life) o) node)
       (λ i. lives-next (own_name p i) earlier s ∙ ap (λ c. (lives_since (own_name p i) earlier && not (is_down_in p s)) || c) (none i) ∙ at i (replica_of w p) refl (owed p).lives) where
         at : (i : ℕ) (o : Option Replica) → replica_of w p ≡ o → LivesAt earlier p o → ((lives_since (own_name p i) earlier && not (is_down_in p s)) || false) ≡ false
         at i None runs lives = ap (λ a. (a && not (is_down_in p s)) || false) (lives i)
-        at i (Some r) runs lives = ap (λ d. (lives_since (own_name p i) earlier && not d) || false) (down-now p r disk green runs seat) ∙ gone (lives_since (own_name p i) earlier)
+        at i (Some r) runs lives = ap (λ d. (lives_since (own_name p i) earlier && not d) || false) (down-now p r disk green runs node) ∙ gone (lives_since (own_name p i) earlier)
 
   -- a turn, whichever way it ends
   module _ (p : ℕ) (turn : TurnsIn w s.event h p) where
@@ -201,19 +201,19 @@ module _ (always : AlwaysHolds) (earlier : List Step) (s : Step) (is : IsStepAt 
     t = replica_step turn.replica turn.input
 
     mine : OwesSo (chronicle_of earlier).start p r.held
-    mine = subst (SeatOwes (chronicle_of earlier).start p) turn.before (owes-before p)
+    mine = subst (NodeOwes (chronicle_of earlier).start p) turn.before (owes-before p)
 
     pub was : LivesOf earlier p r
-    was = subst (LivesAt earlier p) (ap (λ (o : Option Seat). option_and_then (λ s. running s.life) o) turn.before) (owed p).lives
+    was = subst (LivesAt earlier p) (ap (λ (o : Option Node). option_and_then (λ s. running s.life) o) turn.before) (owed p).lives
 
     pub says : SaysSo p was.base r.held t
     says = step-says (chronicle_of earlier).start p was.base r turn.input mine.core was.owing
 
     disk-before : turn.disk.content.owed ≡ []
-    disk-before = subst (λ (o : Option Held). IfSome o (λ h. h.owed ≡ [])) (ap (λ (o : Option Seat). option_map (λ s. on_disk s.life) o) turn.before) (owed p).disk
+    disk-before = subst (λ (o : Option Held). IfSome o (λ h. h.owed ≡ [])) (ap (λ (o : Option Node). option_map (λ s. on_disk s.life) o) turn.before) (owed p).disk
 
-    abbrev Ends : Ended → Type 0
-    Ends e = seat_of h.world p ≡ Some (record { id = p; life = life_at e }) → SaidOnly h p (made_by t e) (replies_by t e) → Result p
+    abbrev Ends : EventEnd → Type 0
+    Ends e = node_of h.world p ≡ Some (record { id = p; life = life_at e }) → SaidOnly h p (made_by t e) (replies_by t e) → Result p
 
     -- its own actions that it lives since, where it runs on
     pub turned-lives : (x : Replica) → replica_of (world_of now) p ≡ Some x → created x.held ≡ created t.replica.held → SaidOnly h p (names_of t.made) t.replies → (i : ℕ) →
@@ -230,11 +230,11 @@ module _ (always : AlwaysHolds) (earlier : List Step) (s : Step) (is : IsStepAt 
         ∙ ap (λ n. nat_lt was.base i && nat_le i n) (sym total)
 
     runs-on : (x : Replica) (d : Disk) → IsOwing p was.base x.held → created x.held ≡ created t.replica.held → d.content.owed ≡ [] → Ends (Runs x d)
-    runs-on x d owing same none seat said =
-        let now_seat = seat-now p ∙ seat in
-        let up : replica_of (world_of now) p ≡ Some x = ap (λ (o : Option Seat). option_and_then (λ s. running s.life) o) now_seat in
+    runs-on x d owing same none node said =
+        let now_node = node-now p ∙ node in
+        let up : replica_of (world_of now) p ≡ Some x = ap (λ (o : Option Node). option_and_then (λ s. running s.life) o) now_node in
         record {
-          disk = subst (λ (o : Option Held). IfSome o (λ h. h.owed ≡ [])) (sym (ap (λ (o : Option Seat). option_map (λ s. on_disk s.life) o) now_seat)) none;
+          disk = subst (λ (o : Option Held). IfSome o (λ h. h.owed ≡ [])) (sym (ap (λ (o : Option Node). option_map (λ s. on_disk s.life) o) now_node)) none;
           lives = subst (LivesAt now p) (sym up) (record {
             base = was.base;
             owing = owing;
@@ -243,11 +243,11 @@ module _ (always : AlwaysHolds) (earlier : List Step) (s : Step) (is : IsStepAt 
         }
 
     falls-down : (d : Disk) (green : List ActionId) → d.content.owed ≡ [] → Ends (Crashes d green)
-    falls-down d green none seat said =
-        let now_seat = seat-now p ∙ seat in
+    falls-down d green none node said =
+        let now_node = node-now p ∙ node in
         record {
-          disk = subst (λ (o : Option Held). IfSome o (λ h. h.owed ≡ [])) (sym (ap (λ (o : Option Seat). option_map (λ s. on_disk s.life) o) now_seat)) none;
-          lives = fallen-lives p d green now_seat (λ i. created-now p i [] said.made);
+          disk = subst (λ (o : Option Held). IfSome o (λ h. h.owed ≡ [])) (sym (ap (λ (o : Option Node). option_map (λ s. on_disk s.life) o) now_node)) none;
+          lives = fallen-lives p d green now_node (λ i. created-now p i [] said.made);
         }
 
     turn-ends : Result p
@@ -262,7 +262,7 @@ module _ (always : AlwaysHolds) (earlier : List Step) (s : Step) (is : IsStepAt 
   falls : (p : ℕ) → FallsIn w h p → Result p
   falls p x = record {
     disk = subst (λ (o : Option Held). IfSome o (λ h. h.owed ≡ [])) (sym (disk-now p ∙ x.disk)) (owed p).disk;
-    lives = fallen-lives p x.fallen x.green (seat-now p ∙ x.seat) (λ i. created-now p i [] x.said.made);
+    lives = fallen-lives p x.fallen x.green (node-now p ∙ x.node) (λ i. created-now p i [] x.said.made);
   }
 
   wakes : (p : ℕ) → WakesIn w s.event h p → Result p

@@ -7,7 +7,7 @@ use Rattle.std.proofs.lemmas.Bool.{cases_lt, cases_Bool, cond-true, cond-false, 
 use Rattle.cg_base.specs.Cuts.{index_in}
 use Rattle.cg_report.specs.declared.line.Line.{Line}
 use Rattle.cg_client.specs.Replica.{Held, Replica, created}
-use Rattle.cg_model.specs.World.{Seat, World, seat_of, replica_of}
+use Rattle.cg_model.specs.World.{Node, World, node_of, replica_of}
 use Rattle.cg_model.specs.Show.{Moved, line_of, ended}
 use Rattle.cg_model.specs.Step.{happens, world_step}
 use Rattle.cg_model.specs.Run.{Step}
@@ -74,26 +74,26 @@ owes-none p h none green =
 -- ---- what a step of a run shows
 
 pub record StepShows (earlier : List Step) (s : Step) : Type 0 where
-  pub seats : (world_of (through earlier s)).seats ≡ (happens (world_of earlier) s.event).world.seats
+  pub nodes : (world_of (through earlier s)).nodes ≡ (happens (world_of earlier) s.event).world.nodes
   pub made : s.entry.made ≡ (happens (world_of earlier) s.event).made
   pub replies : s.entry.replies ≡ plain (happens (world_of earlier) s.event).replies
 
 pub step-shows : (earlier : List Step) (s : Step) → IsStepAt earlier s → StepShows earlier s
 unfolding world_step ended
 step-shows earlier s is = record {
-  seats = ap (λ (w : World). w.seats) (is.world ∙ ap (λ (m : Moved). m.world) is.moved);
+  nodes = ap (λ (w : World). w.nodes) (is.world ∙ ap (λ (m : Moved). m.world) is.moved);
   made = ap (λ (m : Moved). m.entry.made) is.moved;
   replies = ap (λ (m : Moved). m.entry.replies) is.moved;
 }
 
-pub found-there : (seats : List Seat) (p : ℕ) (s : Seat) → find (λ s. s.id == p) seats ≡ Some s → Contains seats s
+pub found-there : (nodes : List Node) (p : ℕ) (s : Node) → find (λ s. s.id == p) nodes ≡ Some s → Contains nodes s
 found-there [] p s found = absurd (let clash : None ≡ Some s = found in cc)
-found-there (x ∷ seats) p s found = elim (cases_Bool (x.id == p)) [
-  | inl here ↦ (0, omega arith, one x s (sym (cond-true (x.id == p) (Some x) (find (λ s. s.id == p) seats) here) ∙ found))
-  | inr other ↦ (let rest = found-there seats p s (sym (cond-false (x.id == p) (Some x) (find (λ s. s.id == p) seats) other) ∙ found) in (suc rest.0, (let less = rest.1 in omega arith), rest.2))
+found-there (x ∷ nodes) p s found = elim (cases_Bool (x.id == p)) [
+  | inl here ↦ (0, omega arith, one x s (sym (cond-true (x.id == p) (Some x) (find (λ s. s.id == p) nodes) here) ∙ found))
+  | inr other ↦ (let rest = found-there nodes p s (sym (cond-false (x.id == p) (Some x) (find (λ s. s.id == p) nodes) other) ∙ found) in (suc rest.0, (let less = rest.1 in omega arith), rest.2))
 ] where
-  one : (x y : Seat) → Some x ≡ Some y → x ≡ y
-  one x y e = ap (λ (o : Option Seat). option_map_or (λ z. z) o x) e
+  one : (x y : Node) → Some x ≡ Some y → x ≡ y
+  one x y e = ap (λ (o : Option Node). option_map_or (λ z. z) o x) e
 
 pub lines-both : (xs : List Step) (s : Step) → lines_in (xs ++ s ∷ []) ≡ lines_in xs ++ s.entry.lines
 lines-both [] s = append-nil s.entry.lines
@@ -103,8 +103,8 @@ pub lines-fold : (p : ℕ) (xs ys : List Line) (o : Option Line) → fold (lates
 lines-fold p [] ys o = refl
 lines-fold p (x ∷ xs) ys o = lines-fold p xs ys (latest p o x)
 
--- the last line of a replica that is seated
-pub last-is : (steps : List Step) (f : StandsFor steps) (p : ℕ) (s : Seat) → seat_of (world_of steps) p ≡ Some s → s.id ≡ p → last_line p steps ≡ Some (line_of (world_of steps).group s)
+-- the last line of a replica that is hosted
+pub last-is : (steps : List Step) (f : StandsFor steps) (p : ℕ) (s : Node) → node_of (world_of steps) p ≡ Some s → s.id ≡ p → last_line p steps ≡ Some (line_of (world_of steps).group s)
 last-is steps f p s found id =
     let w = world_of steps in
-    sym (f.tells.shown p) ∙ ap (λ n. printed w n) (sym id) ∙ f.tells.stands s (found-there w.seats p s found)
+    sym (f.tells.shown p) ∙ ap (λ n. printed w n) (sym id) ∙ f.tells.stands s (found-there w.nodes p s found)

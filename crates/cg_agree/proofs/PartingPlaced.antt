@@ -25,7 +25,7 @@ use Rattle.cg_client.specs.Replica.{State, RegPrim, TransPrim, Replica, created,
 use Rattle.cg_client.specs.Requests.{is_creating}
 use Rattle.cg_client.specs.Turn.{Turn, begin, go_to}
 use Rattle.cg_client.specs.Marks.{is_unmade, mark_yellow, mark_red, marked, after_first}
-use Rattle.cg_step.specs.Step.{on_message, take as take_one, on_transitional}
+use Rattle.cg_replica_step.specs.Step.{on_message, after_delivery as take_one, on_transitional}
 use Rattle.cg_model.specs.World.{replica_of}
 use Rattle.cg_model.specs.Chronicle.{Chronicle, Attempt}
 use Rattle.cg_model.specs.Facts.{Invariant}
@@ -50,7 +50,7 @@ use Rattle.cg_commit.specs.Holds.{cut_behind}
 use Rattle.cg_agree_lemmas.specs.StatesSaid.{creating-ended, count-quiet, never, announcing, undecided}
 use Rattle.cg_agree_lemmas.specs.TalkEarly.{all-member, not_full, due_parts}
 use Rattle.cg_base.specs.SetLaws.{has-with_member}
-use Rattle.cg_knowledge.specs.Members.{senders, remaining}
+use Rattle.cg_knowledge.specs.Summaries.{senders, remaining}
 use Rattle.cg_plan.specs.declared.parts.Item.TheVariants.{Green, Red}
 use Rattle.cg_records.specs.declared.vulnerable.Vulnerable.{Vulnerable}
 use Rattle.cg_group.specs.Ready.{all_received}

@@ -8,7 +8,7 @@ use Rattle.cg_client.specs.Requests.{settle}
 use Rattle.cg_client.specs.Turn.{Turn, begin}
 use Rattle.cg_client.specs.Install.{valid_yellow}
 use Rattle.cg_client.specs.Queries.{plain_reds}
-use Rattle.cg_model.specs.World.{Life, Up, Down, Seat, seat_of, replica_of}
+use Rattle.cg_model.specs.World.{NodeState, Up, Down, Node, node_of, replica_of}
 use Rattle.cg_model.specs.Chronicle.{Attempt, Chronicle}
 use Rattle.cg_model.specs.Looks.{attempt_of, snapshot_of}
 use Rattle.cg_model.specs.FactsReplica.{AreBooked, is_exchanging}
@@ -35,12 +35,12 @@ same-book : (c d : Chronicle) → d.book ≡ c.book → BookGoesOn c d
 same-book c d is = record { more = []; book = is ∙ sym (append-nil c.book) }
 
 book-turning : (c : Chronicle) (p : ℕ) (part : Turn → Turn) → BookGoesOn c (turning c p part)
-book-turning c p part = at (seat_of c.world p) where
-  life : (l : Life) → BookGoesOn c (turning_as c p part l)
+book-turning c p part = at (node_of c.world p) where
+  life : (l : NodeState) → BookGoesOn c (turning_as c p part l)
   life (Up r disk) = record { more = (part (begin r)).made; book = refl }
   life (Down disk green) = same-book c c refl
 
-  at : (o : Option Seat) → BookGoesOn c (option_map_or (λ s. turning_as c p part s.life) o c)
+  at : (o : Option Node) → BookGoesOn c (option_map_or (λ s. turning_as c p part s.life) o c)
   at None = same-book c c refl
   at (Some s) = life s.life
 
@@ -49,15 +49,15 @@ book-found : {X : Type 0} (c : Chronicle) (o : Option X) (change : X → Chronic
 book-found c None change each = same-book c c refl
 book-found c (Some x) change each = same-book c (change x) (each x)
 
-book-commits : (c : Chronicle) (p : ℕ) (l : Life) → (commit_as c p l).book ≡ c.book
+book-commits : (c : Chronicle) (p : ℕ) (l : NodeState) → (commit_as c p l).book ≡ c.book
 book-commits c p (Up r disk) = refl
 book-commits c p (Down disk green) = refl
 
-book-crashes : (c : Chronicle) (p : ℕ) (l : Life) → (crash_as c p l).book ≡ c.book
+book-crashes : (c : Chronicle) (p : ℕ) (l : NodeState) → (crash_as c p l).book ≡ c.book
 book-crashes c p (Up r disk) = refl
 book-crashes c p (Down disk green) = refl
 
-book-recovers : (c : Chronicle) (l : Life) → (recover_as c l).book ≡ c.book
+book-recovers : (c : Chronicle) (l : NodeState) → (recover_as c l).book ≡ c.book
 book-recovers c (Up r disk) = refl
 book-recovers c (Down disk green) = refl
 
@@ -73,9 +73,9 @@ book-grows c (Hands p) = let g = book-turning (handed_next c p) p (take_next c.w
 book-grows c (Leaves p set own places) = let g = book-turning (leaving c p set own) p (take_parting c.world.group p set places) in record { more = g.more; book = g.book }
 book-grows c (Asks p kind) = book-turning c p (take_request kind)
 book-grows c (Settles p) = book-turning c p settle
-book-grows c (Commits p) = book-found c (seat_of c.world p) (λ s. commit_as c p s.life) (λ s. book-commits c p s.life)
-book-grows c (Crashes p) = book-found c (seat_of c.world p) (λ s. crash_as c p s.life) (λ s. book-crashes c p s.life)
-book-grows c (Recovers p) = book-found c (seat_of c.world p) (λ s. recover_as c s.life) (λ s. book-recovers c s.life)
+book-grows c (Commits p) = book-found c (node_of c.world p) (λ s. commit_as c p s.life) (λ s. book-commits c p s.life)
+book-grows c (Crashes p) = book-found c (node_of c.world p) (λ s. crash_as c p s.life) (λ s. book-crashes c p s.life)
+book-grows c (Recovers p) = book-found c (node_of c.world p) (λ s. recover_as c s.life) (λ s. book-recovers c s.life)
 book-grows c (Copies p joiner) = book-found c (replica_of c.world p) (copy_as c p joiner) (λ r. refl)
 book-grows c (Joins joiner) = book-found c (snapshot_of c.world joiner) (λ s. join_with c joiner s.content) (λ s. refl)
 

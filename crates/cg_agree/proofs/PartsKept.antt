@@ -9,7 +9,7 @@ use Rattle.cg_base.specs.Text.{is_nil}
 use Rattle.cg_base.specs.Weights.{ids}
 use Rattle.cg_action.specs.declared.action.Action.{Action}
 use Rattle.cg_knowledge.specs.declared.summary.Summary.{Summary}
-use Rattle.cg_knowledge.specs.Members.{senders}
+use Rattle.cg_knowledge.specs.Summaries.{senders}
 use Rattle.cg_knowledge.specs.Primary.{newest_index, known_primary}
 use Rattle.cg_client.specs.Replica.{Replica}
 use Rattle.cg_model.specs.FactsReplica.{is_exchanging}
@@ -117,7 +117,7 @@ starts-shape c set is = subst (λ (x : Chronicle). AttemptShape (start x set)) (
 -- Each small step keeps what an attempt is.
 pub attempt_shape-kept : (c : Chronicle) (s : Small) → Invariant c → may_make c s ≡ true → TalkLegal (small_step c s) → AttemptShape (small_step c s)
 unfolding small_step may_make
-attempt_shape-kept c (Starts set) i may legal = starts-shape c set (nothing-before c i.net.seated (and_parts (is_nil c.world.seats) (is_set (ids set)) may).0)
+attempt_shape-kept c (Starts set) i may legal = starts-shape c set (nothing-before c i.net.hosted (and_parts (is_nil c.world.nodes) (is_set (ids set)) may).0)
 attempt_shape-kept c (Makes set) i may legal = as-kept c (Makes set) i may legal tt
 attempt_shape-kept c (Enters p) i may legal = as-kept c (Enters p) i may legal tt
 attempt_shape-kept c (Orders p) i may legal = as-kept c (Orders p) i may legal tt

@@ -14,19 +14,19 @@ use Rattle.cg_client.specs.Requests.{settle}
 use Rattle.cg_client.specs.Summary.{summary_of}
 use Rattle.cg_client.specs.Turn.{Turn, begin}
 use Rattle.cg_commit.specs.Crash.{Disk}
-use Rattle.cg_model.specs.World.{World, Up, Seat, running, seat_of, replica_of, has_begun}
+use Rattle.cg_model.specs.World.{World, Up, Node, running, node_of, replica_of, has_begun}
 use Rattle.cg_model.specs.Step.{begin_replica}
 use Rattle.cg_model.specs.Chronicle.{Told, Chronicle}
 use Rattle.cg_model.specs.Looks.{told_in, is_at, is_member, greens_of}
 use Rattle.cg_model.specs.Talk.{summary_in}
-use Rattle.cg_model.specs.FactsNet.{PhaseSound, PastLeft, Seated}
+use Rattle.cg_model.specs.FactsNet.{PhaseSound, PastLeft, Hosted}
 use Rattle.cg_model.specs.FactsReplica.{IsModeData}
 use Rattle.cg_model.specs.Small.{start, Small, Starts, Makes, Enters, Orders, Receives, Hands, Leaves, Asks, Settles, Commits, Crashes, Recovers, Copies, Joins, small_step, turning_as, coming, take_newest, newest_conf, after_turn, take_request}
 use Rattle.cg_model.specs.Smalls.{may_make, is_between, is_running}
 use Rattle.cg_agree_lemmas.specs.EntersTurn.{told-newest}
 use Rattle.cg_agree_lemmas.specs.GroupKept.{in_world, begins-step, orders-conf, receives-conf, leaving-regular}
 use Rattle.cg_agree_lemmas.specs.GroupSound.{GroupSound, phase-made}
-use Rattle.cg_agree_lemmas.specs.HandsKept.{seated}
+use Rattle.cg_agree_lemmas.specs.HandsKept.{hosted}
 use Rattle.cg_agree_lemmas.specs.Keyed.{find-append, find-none}
 use Rattle.cg_agree.proofs.MoreThere.{MembersMore, members-more, more-one}
 use Rattle.cg_agree_lemmas.specs.NextThere.{orders-now, receives-now}
@@ -40,7 +40,7 @@ use Rattle.cg_agree_lemmas.specs.ToldKept.{told-same, told_in-same}
 pub record EntersNow (c : Chronicle) (p : ℕ) : Type 0 where
   pub replica : Replica
   pub disk : Disk
-  pub seat : seat_of c.world p ≡ Some (record { id = p; life = Up replica disk })
+  pub node : node_of c.world p ≡ Some (record { id = p; life = Up replica disk })
   pub id : replica.held.id ≡ p
   pub between : is_between replica.state ≡ true
   pub may : MayEnter c p
@@ -49,14 +49,14 @@ pub enters-now : (c : Chronicle) (p : ℕ) → PhaseSound c → IfSome (replica_
 unfolding may_make
 enters-now c p sound mode may =
     let enter = may-enter c p may in
-    let sits = seated c.world p (sound.up p ∙ coming-is_up c p sound enter.comes) in
-    let runs : replica_of c.world p ≡ Some sits.replica = ap (option_and_then (λ (x : Seat). running x.life)) sits.seat in
+    let sits = hosted c.world p (sound.up p ∙ coming-is_up c p sound enter.comes) in
+    let runs : replica_of c.world p ≡ Some sits.replica = ap (option_and_then (λ (x : Node). running x.life)) sits.node in
     let data_of = subst (λ (o : Option Replica). IfSome o (IsModeData c p)) runs mode in
     let parts = and_parts (not (is_regular c.world.group p)) (option_map_or (λ r. is_between r.state) (replica_of c.world p) false) enter.comes in
     record {
       replica = sits.replica;
       disk = sits.disk;
-      seat = sits.seat;
+      node = sits.node;
       id = data_of.id;
       between = sym (ap (λ (o : Option Replica). option_map_or (λ r. is_between r.state) o false) runs) ∙ parts.1;
       may = enter;
@@ -71,7 +71,7 @@ entry_told c p r = record { summary = summary_of (entry_turn c r).replica.held (
 
 pub enters-is : (c : Chronicle) (p : ℕ) (now : EntersNow c p) → small_step c (Enters p) ≡ after_turn (coming c p) p now.replica now.disk (entry_turn c now.replica)
 unfolding small_step
-enters-is c p now = ap (λ (o : Option Seat). option_map_or (λ s. turning_as (coming c p) p (take_newest c.world.group) s.life) o (coming c p)) now.seat
+enters-is c p now = ap (λ (o : Option Node). option_map_or (λ s. turning_as (coming c p) p (take_newest c.world.group) s.life) o (coming c p)) now.node
 
 pub enters-told : (c : Chronicle) (p : ℕ) (now : EntersNow c p) → (small_step c (Enters p)).told ≡ c.told ++ entry_told c p now.replica ∷ []
 enters-told c p now =
@@ -199,35 +199,35 @@ past-begun c set (p ∷ replicas) w old =
 past-world : (c : Chronicle) (set : List Weighted) → PastLeft (in_world c (fold (begin_replica set) c.world (ids set))) → PastLeft (start c set)
 past-world c set old = record { member = old.member; left = old.left }
 
-pub past_left-kept : (c : Chronicle) (s : Small) → Seated c → GroupSound c → ((q : ℕ) → IfSome (replica_of c.world q) (IsModeData c q)) → may_make c s ≡ true → PastLeft c → PastLeft (small_step c s)
+pub past_left-kept : (c : Chronicle) (s : Small) → Hosted c → GroupSound c → ((q : ℕ) → IfSome (replica_of c.world q) (IsModeData c q)) → may_make c s ≡ true → PastLeft c → PastLeft (small_step c s)
 unfolding small_step may_make
-past_left-kept c (Starts set) seats sound mode m old = past-world c set (past-begun c set (ids set) c.world old)
-past_left-kept c (Makes set) seats sound mode m old =
-    past-same c _ (phase-made c (small_step c (Makes set)) set refl (λ q. refl)) (members-more c (Makes set) seats m sound) (told-same c (Makes set) tt) old
-past_left-kept c (Enters p) seats sound mode m old = past-enters c p sound.phases (enters-now c p sound.phases (mode p) m) (members-more c (Enters p) seats m sound) old
-past_left-kept c (Orders p) seats sound mode m old =
+past_left-kept c (Starts set) nodes sound mode m old = past-world c set (past-begun c set (ids set) c.world old)
+past_left-kept c (Makes set) nodes sound mode m old =
+    past-same c _ (phase-made c (small_step c (Makes set)) set refl (λ q. refl)) (members-more c (Makes set) nodes m sound) (told-same c (Makes set) tt) old
+past_left-kept c (Enters p) nodes sound mode m old = past-enters c p sound.phases (enters-now c p sound.phases (mode p) m) (members-more c (Enters p) nodes m sound) old
+past_left-kept c (Orders p) nodes sound mode m old =
     let next = orders-now c p sound.phases (λ k. (sound.confs k).places) m in
-    past-same c _ (orders-conf c p next.conf next.stands next.message next.rest next.at).phase (members-more c (Orders p) seats m sound) (told-same c (Orders p) tt) old
-past_left-kept c (Receives p place) seats sound mode m old =
-    past-same c _ (receives-conf c p place (receives-now c p place sound.phases m)).phase (members-more c (Receives p place) seats m sound) (told-same c (Receives p place) tt) old
-past_left-kept c (Hands p) seats sound mode m old =
-    past-one c _ p _ _ true (hands-step c p sound.phases (and_parts _ _ m).0) (members-more c (Hands p) seats m sound) (told-same c (Hands p) tt) (λ conf earlier told lt. old.left conf p earlier told lt) old
-past_left-kept c (Leaves p set own places) seats sound mode m old =
+    past-same c _ (orders-conf c p next.conf next.stands next.message next.rest next.at).phase (members-more c (Orders p) nodes m sound) (told-same c (Orders p) tt) old
+past_left-kept c (Receives p place) nodes sound mode m old =
+    past-same c _ (receives-conf c p place (receives-now c p place sound.phases m)).phase (members-more c (Receives p place) nodes m sound) (told-same c (Receives p place) tt) old
+past_left-kept c (Hands p) nodes sound mode m old =
+    past-one c _ p _ _ true (hands-step c p sound.phases (and_parts _ _ m).0) (members-more c (Hands p) nodes m sound) (told-same c (Hands p) tt) (λ conf earlier told lt. old.left conf p earlier told lt) old
+past_left-kept c (Leaves p set own places) nodes sound mode m old =
     let regular = leaving-regular c p set own places m in
-    past-one c _ p _ own true (leaves-step c p set own places sound.phases regular) (members-more c (Leaves p set own places) seats m sound) (told-same c (Leaves p set own places) tt)
+    past-one c _ p _ own true (leaves-step c p set own places sound.phases regular) (members-more c (Leaves p set own places) nodes m sound) (told-same c (Leaves p set own places) tt)
     (λ conf earlier told lt. parted-at earlier (phase_of c.world.group p) set regular ∙ old.left conf p earlier told lt) old
-past_left-kept c (Asks p kind) seats sound mode m old =
-    past-one c _ p _ _ _ (turns-step c p (take_request kind) sound.phases) (members-more c (Asks p kind) seats m sound) (told-same c (Asks p kind) tt) (λ conf earlier told lt. old.left conf p earlier told lt) old
-past_left-kept c (Settles p) seats sound mode m old =
-    past-one c _ p _ _ _ (turns-step c p settle sound.phases) (members-more c (Settles p) seats m sound) (told-same c (Settles p) tt) (λ conf earlier told lt. old.left conf p earlier told lt) old
-past_left-kept c (Commits p) seats sound mode m old =
-    past-one c _ p _ _ _ (commits-step c p sound.phases) (members-more c (Commits p) seats m sound) (told-same c (Commits p) tt) (λ conf earlier told lt. old.left conf p earlier told lt) old
-past_left-kept c (Crashes p) seats sound mode m old =
-    past-one c _ p Down 0 false (crashes-step c p m) (members-more c (Crashes p) seats m sound) (told-same c (Crashes p) tt) (λ conf earlier told lt. refl) old
-past_left-kept c (Recovers p) seats sound mode m old =
+past_left-kept c (Asks p kind) nodes sound mode m old =
+    past-one c _ p _ _ _ (turns-step c p (take_request kind) sound.phases) (members-more c (Asks p kind) nodes m sound) (told-same c (Asks p kind) tt) (λ conf earlier told lt. old.left conf p earlier told lt) old
+past_left-kept c (Settles p) nodes sound mode m old =
+    past-one c _ p _ _ _ (turns-step c p settle sound.phases) (members-more c (Settles p) nodes m sound) (told-same c (Settles p) tt) (λ conf earlier told lt. old.left conf p earlier told lt) old
+past_left-kept c (Commits p) nodes sound mode m old =
+    past-one c _ p _ _ _ (commits-step c p sound.phases) (members-more c (Commits p) nodes m sound) (told-same c (Commits p) tt) (λ conf earlier told lt. old.left conf p earlier told lt) old
+past_left-kept c (Crashes p) nodes sound mode m old =
+    past-one c _ p Down 0 false (crashes-step c p m) (members-more c (Crashes p) nodes m sound) (told-same c (Crashes p) tt) (λ conf earlier told lt. refl) old
+past_left-kept c (Recovers p) nodes sound mode m old =
     let parts = and_parts (has_begun c.world p) (not (is_running c p)) m in
-    past-one c _ p Alone 0 true (recovers-step c p seats parts.0 (not-true (is_running c p) parts.1)) (members-more c (Recovers p) seats m sound) (told-same c (Recovers p) tt) (λ conf earlier told lt. refl) old
-past_left-kept c (Copies p joiner) seats sound mode m old =
-    past-one c _ p _ _ _ (copies-step c p joiner sound.phases) (members-more c (Copies p joiner) seats m sound) (told-same c (Copies p joiner) tt) (λ conf earlier told lt. old.left conf p earlier told lt) old
-past_left-kept c (Joins joiner) seats sound mode m old =
-    past-one c _ joiner Alone 0 true (joins-step c joiner (may-join c joiner m)) (members-more c (Joins joiner) seats m sound) (told-same c (Joins joiner) tt) (λ conf earlier told lt. refl) old
+    past-one c _ p Alone 0 true (recovers-step c p nodes parts.0 (not-true (is_running c p) parts.1)) (members-more c (Recovers p) nodes m sound) (told-same c (Recovers p) tt) (λ conf earlier told lt. refl) old
+past_left-kept c (Copies p joiner) nodes sound mode m old =
+    past-one c _ p _ _ _ (copies-step c p joiner sound.phases) (members-more c (Copies p joiner) nodes m sound) (told-same c (Copies p joiner) tt) (λ conf earlier told lt. old.left conf p earlier told lt) old
+past_left-kept c (Joins joiner) nodes sound mode m old =
+    past-one c _ joiner Alone 0 true (joins-step c joiner (may-join c joiner m)) (members-more c (Joins joiner) nodes m sound) (told-same c (Joins joiner) tt) (λ conf earlier told lt. refl) old

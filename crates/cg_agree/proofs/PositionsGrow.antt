@@ -10,7 +10,7 @@ use Rattle.cg_group.specs.State.{phase_of}
 use Rattle.cg_client.specs.Replica.{Replica}
 use Rattle.cg_report.specs.declared.line.Line.{Line}
 use Rattle.cg_report.specs.declared.line.UpLine.{UpLine}
-use Rattle.cg_model.specs.World.{Life, Up, Down, Seat, World, no_world, running, seat_of, replica_of}
+use Rattle.cg_model.specs.World.{NodeState, Up, Down, Node, World, no_world, running, node_of, replica_of}
 use Rattle.cg_model.specs.Show.{Moved, up_line}
 use Rattle.cg_model.specs.Run.{Step, IsRunFrom, world_after}
 use Rattle.cg_model.specs.Shown.{lines_in, last_up, position_of}
@@ -41,11 +41,11 @@ module _ (earlier : List Step) (c : Chronicle) (w : World) (s : Step) (step : Is
   pub down-still : (p : ℕ) → replica_of s.world p ≡ None → last_up p (through earlier s) ≡ last_up p earlier
   down-still p down =
       ap (fold (last_of p) None) (lines-last earlier s) ∙ fold-append (last_of p) None (lines_in earlier) s.entry.lines
-      ∙ last-still p s.entry.lines (last_up p earlier) (lines-each (IsDownLine p) c w s step seat)
+      ∙ last-still p s.entry.lines (last_up p earlier) (lines-each (IsDownLine p) c w s step node)
     where
-      seat : (x : Seat) → seat_of s.world x.id ≡ Some x → x.id ≡ p → option_map (up_line (phase_of s.world.group x.id)) (running x.life) ≡ None
-      seat x found same =
-          let none : running x.life ≡ None = sym (ap (λ (o : Option Seat). option_and_then (λ s. running s.life) o) found) ∙ ap (replica_of s.world) same ∙ down in
+      node : (x : Node) → node_of s.world x.id ≡ Some x → x.id ≡ p → option_map (up_line (phase_of s.world.group x.id)) (running x.life) ≡ None
+      node x found same =
+          let none : running x.life ≡ None = sym (ap (λ (o : Option Node). option_and_then (λ s. running s.life) o) found) ∙ ap (replica_of s.world) same ∙ down in
           ap (option_map (up_line (phase_of s.world.group x.id))) none
 
   -- behind the step a replica is up, or what was shown of it is as it was
@@ -57,26 +57,26 @@ module _ (earlier : List Step) (c : Chronicle) (w : World) (s : Step) (step : Is
 
 -- ---- counts
 
-pub count-running : (w : World) (p : ℕ) (r : Replica) → replica_of w p ≡ Some r → count_at (seat_of w p) ≡ green_count r.held.queue
-count-running w p r runs = at (seat_of w p) runs where
-  life : (l : Life) → running l ≡ Some r → green_count (held_at l).queue ≡ green_count r.held.queue
+pub count-running : (w : World) (p : ℕ) (r : Replica) → replica_of w p ≡ Some r → count_at (node_of w p) ≡ green_count r.held.queue
+count-running w p r runs = at (node_of w p) runs where
+  life : (l : NodeState) → running l ≡ Some r → green_count (held_at l).queue ≡ green_count r.held.queue
   life (Up x disk) is = ap (λ (o : Option Replica). green_count (option_map_or (λ y. y) o x).held.queue) is
   life (Down disk green) is = absurd (let clash : None ≡ Some r = is in cc)
 
-  at : (o : Option Seat) → option_and_then (λ s. running s.life) o ≡ Some r → count_at o ≡ green_count r.held.queue
+  at : (o : Option Node) → option_and_then (λ s. running s.life) o ≡ Some r → count_at o ≡ green_count r.held.queue
   at None is = absurd (let clash : None ≡ Some r = is in cc)
   at (Some s) is = life s.life is
 
 -- what was shown, and no replica has fewer greens than was shown of it
 pub record IsPlaced (earlier : List Step) (c : Chronicle) (w : World) : Type 0 where
   pub told : HasTold earlier c w
-  pub placed : (p : ℕ) → position_of p earlier ≤ count_at (seat_of w p)
+  pub placed : (p : ℕ) → position_of p earlier ≤ count_at (node_of w p)
 
 -- of a step, from before it to behind it
 pub record Moves (earlier : List Step) (s : Step) (p : ℕ) : Type 0 where
   pub more : position_of p earlier ≤ position_of p (through earlier s)
   pub still : may_move s.event p ≡ false → position_of p (through earlier s) ≡ position_of p earlier
-  pub placed : position_of p (through earlier s) ≤ count_at (seat_of s.world p)
+  pub placed : position_of p (through earlier s) ≤ count_at (node_of s.world p)
 
 pub step-moves : (earlier : List Step) (c : Chronicle) (w : World) (s : Step) → IsStepOf c w s → IsPlaced earlier c w → (p : ℕ) → Moves earlier s p
 step-moves earlier c w s step is p = elim (up-or-still earlier c w s step p) [
@@ -89,7 +89,7 @@ step-moves earlier c w s step is p = elim (up-or-still earlier c w s step p) [
       let r = up.0 in
       let now = told-on earlier c w s step is.told in
       let place : position_of p (through earlier s) ≡ green_count r.held.queue = position-shown (through earlier s) s.world now.lines p r up.1 in
-      let count : count_at (seat_of s.world p) ≡ green_count r.held.queue = count-running s.world p r up.1 in
+      let count : count_at (node_of s.world p) ≡ green_count r.held.queue = count-running s.world p r up.1 in
       let had = low in
       let rises = more in
       record {
@@ -99,20 +99,20 @@ step-moves earlier c w s step is p = elim (up-or-still earlier c w s step p) [
           | inr was ↦
               let x = was.0 in
               let before : position_of p earlier ≡ green_count x.held.queue = position-shown earlier w is.told.lines p x was.1 in
-              let held : count_at (seat_of w p) ≡ green_count x.held.queue = count-running w p x was.1 in
+              let held : count_at (node_of w p) ≡ green_count x.held.queue = count-running w p x was.1 in
               let same = grows.still idle in
               omega arith
         ];
         placed = omega arith;
       }
 ] where
-  grows : CountGrows (may_move s.event p) (seat_of w p) (seat_of s.world p)
-  grows = subst (λ (m : Moved). CountGrows (may_move s.event p) (seat_of w p) (seat_of m.world p)) (sym step.moved) (event-counts c w step.before s.event step.may step.admitted p)
+  grows : CountGrows (may_move s.event p) (node_of w p) (node_of s.world p)
+  grows = subst (λ (m : Moved). CountGrows (may_move s.event p) (node_of w p) (node_of m.world p)) (sym step.moved) (event-counts c w step.before s.event step.may step.admitted p)
 
-  low : position_of p earlier ≤ count_at (seat_of w p)
+  low : position_of p earlier ≤ count_at (node_of w p)
   low = is.placed p
 
-  more : count_at (seat_of w p) ≤ count_at (seat_of s.world p)
+  more : count_at (node_of w p) ≤ count_at (node_of s.world p)
   more = grows.more
 
 pub placed-on : (earlier : List Step) (c : Chronicle) (w : World) (s : Step) → IsStepOf c w s → IsPlaced earlier c w → IsPlaced (through earlier s) (chronicle_step c w s.event) s.world

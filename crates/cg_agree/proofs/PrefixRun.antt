@@ -7,7 +7,7 @@ use Rattle.cg_report.specs.declared.entry.Shown.TheVariants.{Greens}
 use Rattle.cg_schedule.specs.declared.event.Event.{Event}
 use Rattle.cg_schedule.specs.declared.event.Event.TheVariants.{Show}
 use Rattle.cg_client.specs.Replica.{Replica}
-use Rattle.cg_model.specs.World.{Seat, World, no_world, replica_of, running}
+use Rattle.cg_model.specs.World.{Node, World, no_world, replica_of, running}
 use Rattle.cg_model.specs.Show.{Moved, ended}
 use Rattle.cg_model.specs.Step.{happens, world_step}
 use Rattle.cg_model.specs.Run.{Step, IsRunFrom, world_after}
@@ -49,7 +49,7 @@ module _ (always : AlwaysHolds) (steps : List Step) (run : IsRunFrom no_world st
         position-shown (through earlier s) s.world (lines-then earlier s at) p r runs,
       )
 
-  show-stays : (w : World) (p : ℕ) → (world_step w (Show p)).world.seats ≡ w.seats
+  show-stays : (w : World) (p : ℕ) → (world_step w (Show p)).world.nodes ≡ w.nodes
   unfolding world_step happens ended
   show-stays w p = refl
 
@@ -69,8 +69,8 @@ module _ (always : AlwaysHolds) (steps : List Step) (run : IsRunFrom no_world st
       let r = is.0 in
       let q = is.1.asked in
       let same : p ≡ q = is.1.named ∙ named c w at.step.before q r is.1.runs in
-      let seats : s.world.seats ≡ w.seats = ap (λ (m : Moved). m.world.seats) at.step.moved ∙ ap (λ (e : Event). (world_step w e).world.seats) is.1.event ∙ show-stays w q in
-      let runs : replica_of s.world q ≡ Some r = ap (λ (list : List Seat). option_and_then (λ s. running s.life) (find (λ s. s.id == q) list)) seats ∙ is.1.runs in
+      let nodes : s.world.nodes ≡ w.nodes = ap (λ (m : Moved). m.world.nodes) at.step.moved ∙ ap (λ (e : Event). (world_step w e).world.nodes) is.1.event ∙ show-stays w q in
+      let runs : replica_of s.world q ≡ Some r = ap (λ (list : List Node). option_and_then (λ s. running s.life) (find (λ s. s.id == q) list)) nodes ∙ is.1.runs in
       let lines = lines-then earlier s at in
       let prefix = (held earlier s q r after runs).0.1 in
       let counts : drop r.held.queue.white (take (green_count r.held.queue) (order_of now)) ≡ drop (white_of q now) (take (position_of q now) (order_of now)) =

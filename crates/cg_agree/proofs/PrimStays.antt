@@ -15,11 +15,11 @@ use Rattle.cg_group.specs.State.{home, delivered_to, unordered_of}
 use Rattle.cg_group.specs.Events.{regulars, order_all, furthest, transitional_places}
 use Rattle.cg_client.specs.Install.{weighted}
 use Rattle.cg_client.specs.Replica.{Replica}
-use Rattle.cg_commit.specs.Crash.{Ended, Runs, Crashes as EndsInCrash}
+use Rattle.cg_commit.specs.Crash.{EventEnd, Runs, Crashes as EndsInCrash}
 use Rattle.cg_commit.specs.Commit.{commits}
 use Rattle.cg_schedule.specs.declared.event.Event.{Event}
 use Rattle.cg_schedule.specs.declared.event.Event.TheVariants.{Start, Split, Merge, Request, Weak, Dirty, Order, Recover, Show, ShowOrder, Gather, End, Receive, Deliver, Rounds, Stop, Fail, Join, Leave, Transfer}
-use Rattle.cg_model.specs.World.{Life, Up, Down, Seat, Snapshot, World, seat_of, replica_of}
+use Rattle.cg_model.specs.World.{NodeState, Up, Down, Node, TransferState, World, node_of, replica_of}
 use Rattle.cg_model.specs.Step.{snapshot_for}
 use Rattle.cg_model.specs.Turns.{Taken, stands, turns_of}
 use Rattle.cg_model.specs.Chronicle.{Attempt, Chronicle}
@@ -42,9 +42,9 @@ abbrev pub StartsNone : Small → Type 0
 StartsNone (Starts set) = ⊥
 StartsNone _ = Unit {0}
 
-by_seat : (c : Chronicle) (p : ℕ) (change : Life → Chronicle) → ((l : Life) → (change l).start ≡ c.start) → (o : Option Seat) → (option_map_or (λ s. change s.life) o c).start ≡ c.start
-by_seat c p change each None = refl
-by_seat c p change each (Some s) = each s.life
+by_node : (c : Chronicle) (p : ℕ) (change : NodeState → Chronicle) → ((l : NodeState) → (change l).start ≡ c.start) → (o : Option Node) → (option_map_or (λ s. change s.life) o c).start ≡ c.start
+by_node c p change each None = refl
+by_node c p change each (Some s) = each s.life
 
 by_replica : (c : Chronicle) (p joiner : ℕ) (o : Option Replica) → (option_map_or (copy_as c p joiner) o c).start ≡ c.start
 by_replica c p joiner None = refl
@@ -61,16 +61,16 @@ start-stays c (Hands p) none = start-turning (handed_next c p) p (take_next c.wo
 start-stays c (Leaves p set own places) none = start-turning (leaving c p set own) p (take_parting c.world.group p set places)
 start-stays c (Asks p kind) none = start-turning c p (take_request kind)
 start-stays c (Settles p) none = start-turning c p settle
-start-stays c (Commits p) none = by_seat c p (commit_as c p) each (seat_of c.world p) where
-  each : (l : Life) → (commit_as c p l).start ≡ c.start
+start-stays c (Commits p) none = by_node c p (commit_as c p) each (node_of c.world p) where
+  each : (l : NodeState) → (commit_as c p l).start ≡ c.start
   each (Up r disk) = refl
   each (Down disk green) = refl
-start-stays c (Crashes p) none = by_seat c p (crash_as c p) each (seat_of c.world p) where
-  each : (l : Life) → (crash_as c p l).start ≡ c.start
+start-stays c (Crashes p) none = by_node c p (crash_as c p) each (node_of c.world p) where
+  each : (l : NodeState) → (crash_as c p l).start ≡ c.start
   each (Up r disk) = refl
   each (Down disk green) = refl
-start-stays c (Recovers p) none = by_seat c p (recover_as c) each (seat_of c.world p) where
-  each : (l : Life) → (recover_as c l).start ≡ c.start
+start-stays c (Recovers p) none = by_node c p (recover_as c) each (node_of c.world p) where
+  each : (l : NodeState) → (recover_as c l).start ≡ c.start
   each (Up r disk) = refl
   each (Down disk green) = refl
 start-stays c (Copies p joiner) none = by_replica c p joiner (replica_of c.world p)
@@ -112,7 +112,7 @@ each-replicate : (n : ℕ) (s : Small) → StartsNone s → Each StartsNone (rep
 each-replicate zero s none = tt
 each-replicate (suc n) s none = (none, each-replicate n s none)
 
-ends-none : (t : Taken) (steps : List Small) (e : Ended) → Each StartsNone steps → Each StartsNone (ending_as t steps e)
+ends-none : (t : Taken) (steps : List Small) (e : EventEnd) → Each StartsNone steps → Each StartsNone (ending_as t steps e)
 ends-none t steps (Runs r disk) none =
     Each-append StartsNone steps (if commits t.before.held t.turn then Commits t.id ∷ [] else []) none
     (cond_both (commits t.before.held t.turn) (Commits t.id ∷ []) [] (Each StartsNone) (λ y. (tt, tt)) (λ n. tt))
@@ -161,7 +161,7 @@ smalls-none w (Stop p call fill) is = cond_both (call == 0) (Crashes p ∷ []) [
 smalls-none w (Recover p) is = (tt, tt)
 smalls-none w (Transfer p joiner pieces) is =
     Each-append StartsNone (copy_steps w p joiner) (join_steps w p joiner pieces)
-    (cond_both (option_map_or (λ (s : Snapshot). s.giver == p) (snapshot_of w joiner) false) [] (Copies p joiner ∷ []) (Each StartsNone) (λ y. tt) (λ n. (tt, tt)))
+    (cond_both (option_map_or (λ (s : TransferState). s.giver == p) (snapshot_of w joiner) false) [] (Copies p joiner ∷ []) (Each StartsNone) (λ y. tt) (λ n. (tt, tt)))
     (joins-none w joiner pieces p (replica_of w p))
 smalls-none w (Weak p query) is = tt
 smalls-none w (Dirty p query) is = tt

@@ -13,7 +13,7 @@ use Rattle.cg_group.specs.State.{Configuration, phase_of, delivered_to}
 use Rattle.cg_client.specs.Replica.{State, RegPrim, Replica}
 use Rattle.cg_client.specs.Turn.{begin}
 use Rattle.cg_client.specs.Marks.{can_be_green, mark_green}
-use Rattle.cg_step.specs.Step.{on_message}
+use Rattle.cg_replica_step.specs.Step.{on_message}
 use Rattle.cg_model.specs.Chronicle.{Past, Attempt, Chronicle}
 use Rattle.cg_model.specs.Looks.{past_of, greens_of, conf_at, ordered_in, attempt_at, installation}
 use Rattle.cg_model.specs.Talk.{Talk, no_talk, hears_from, hears, act_in, acts_in}
@@ -104,11 +104,11 @@ module _ (c : Chronicle) (p : ℕ) (i : Invariant c) (may : may_make c (Hands p)
         ∙ ap (λ m. count_behind (hears_from (handed_talk c n.conf p) n.next.from m) creator) is)
 
     x : (y : Past) × (past_of c p ≡ Some y)
-    x = past-there (past_of c p) (i.net.seated.past p ∙ ap is_some n.seat)
+    x = past-there (past_of c p) (i.net.hosted.past p ∙ ap is_some n.node)
 
     hands : HandsPrimary c p n.conf n.replica n.disk n.next x.0
     hands = record {
-      seat = n.seat;
+      node = n.node;
       past = x.1;
       regular = n.regular;
       number = ne_eqb n.conf 0 (λ e. (let some = said-number c n.conf (said-before c i p n.conf n.replica (running-now c p i n) n.regular primary) in absurd (omega (arith, e, some))));

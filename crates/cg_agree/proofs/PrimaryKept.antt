@@ -15,10 +15,10 @@ use Rattle.cg_group.specs.State.{GroupState, phase_of, delivered_to, regular_in,
 use Rattle.cg_client.specs.Replica.{Held, State, RegPrim, TransPrim, ExchangeStates, ExchangeActions, Construct, No, Un, NonPrim, Left, Replica}
 use Rattle.cg_client.specs.Turn.{Turn, begin}
 use Rattle.cg_client.specs.Requests.{settle}
-use Rattle.cg_stored.specs.Stored.{stored_of, whiten}
+use Rattle.cg_disk_records.specs.Stored.{stored_of, whiten}
 use Rattle.cg_commit.specs.Crash.{new_disk, at_rest, recovered, disk_recovered}
-use Rattle.cg_model.specs.World.{Life, Up, Down, Seat, Snapshot, seat_of, replica_of, running, has_begun, is_left}
-use Rattle.cg_model.specs.Step.{joined}
+use Rattle.cg_model.specs.World.{NodeState, Up, Down, Node, TransferState, node_of, replica_of, running, has_begun, is_left}
+use Rattle.cg_model.specs.Step.{joiner_replica}
 use Rattle.cg_model.specs.Chronicle.{Past, Attempt, Chronicle}
 use Rattle.cg_model.specs.Fronts.{When}
 use Rattle.cg_model.specs.Looks.{past_of, greens_of, on_disk, disk_held, conf_at, attempt_of, attempt_at, copied_for}
@@ -40,12 +40,12 @@ use Rattle.cg_agree_lemmas.specs.GroupKept.{leaving-regular}
 use Rattle.cg_agree_lemmas.specs.HandSays.{find-holds}
 use Rattle.cg_agree_lemmas.specs.HeldCommit.{recovered-id}
 use Rattle.cg_agree.proofs.LevelsOpen.{when-from}
-use Rattle.cg_agree_lemmas.specs.HandsKept.{seated}
+use Rattle.cg_agree_lemmas.specs.HandsKept.{hosted}
 use Rattle.cg_agree_lemmas.specs.HandsNow.{HandsNow, hands-now, hands-regular, hand-turned, new}
 use Rattle.cg_agree.proofs.ModeKept.{mode_data-kept}
 use Rattle.cg_agree_lemmas.specs.NextThere.{orders-now, receives-now}
 use Rattle.cg_agree_lemmas.specs.OneStands.{Stands}
-use Rattle.cg_agree_lemmas.specs.OneSteps.{turns-step, hands-step, leaves-step, enters-step, commits-step, crashes-step, recovers-step, joins-step, may-join, seat-there}
+use Rattle.cg_agree_lemmas.specs.OneSteps.{turns-step, hands-step, leaves-step, enters-step, commits-step, crashes-step, recovers-step, joins-step, may-join, node-there}
 use Rattle.cg_agree_lemmas.specs.OrdersWorld.{ordered-step, step-is}
 use Rattle.cg_agree.proofs.PartsKept.{attempt_shape-kept}
 use Rattle.cg_agree.proofs.PastKept.{enters-now}
@@ -142,7 +142,7 @@ module _ (c : Chronicle) (i : Invariant c) where
       let g = c.world.group in
       let part = take_newest g in
       let come = newest-come g n.replica n.between in
-      let there = replica-behind (coming c p) p part n.replica n.disk n.seat in
+      let there = replica-behind (coming c p) p part n.replica n.disk n.node in
       line-one (Enters p) may p (Regular (newest_conf g)) 0 true step.stands (λ q other. replica-turning (coming c p) p part q other) (λ q other. greens-turning (coming c p) p part q other)
       (λ new is regular. absurd (let clash : true ≡ false = sym (ap is_primary regular) ∙ ap (λ (x : Replica). is_primary x.state) (replica-is new (part (begin n.replica)).replica (sym is ∙ there)) ∙ ap is_primary come.state in cc))
 
@@ -159,14 +159,14 @@ module _ (c : Chronicle) (i : Invariant c) where
       ((r : Replica) → (part (begin r)).replica.held.queue.greens ≡ r.held.queue.greens) → (q : ℕ) → LineAt (small_step c s) q
   turns-line s may p part is runs quiet kept =
       let step = turns-step c p part i.net.phase_sound in
-      let sits = seated c.world p runs in
+      let sits = hosted c.world p runs in
       let r = sits.replica in
-      let up : replica_of c.world p ≡ Some r = ap (λ (o : Option Seat). option_and_then (λ s. running s.life) o) sits.seat in
+      let up : replica_of c.world p ≡ Some r = ap (λ (o : Option Node). option_and_then (λ s. running s.life) o) sits.node in
       let stands = subst (λ (x : Chronicle). Stands c.world.group x.world.group p (phase_of c.world.group p) (delivered_to c.world.group p) (is_up c.world.group p)) (sym is) step.stands in
       line-one s may p (phase_of c.world.group p) (delivered_to c.world.group p) (is_up c.world.group p) stands
       (λ q other. ap (λ (x : Chronicle). replica_of x.world q) is ∙ replica-turning c p part q other) (λ q other. ap (λ (x : Chronicle). greens_of x q) is ∙ greens-turning c p part q other)
-      (line-quiet s may p r (part (begin r)).replica up (ap (λ (x : Chronicle). replica_of x.world p) is ∙ replica-behind c p part r sits.disk sits.seat) (quiet r).primary (quiet r).values.prim stands
-      (ap (λ (x : Chronicle). greens_of x p) is ∙ greens-behind c p part r sits.disk sits.seat i.net.seated.past (kept r)))
+      (line-quiet s may p r (part (begin r)).replica up (ap (λ (x : Chronicle). replica_of x.world p) is ∙ replica-behind c p part r sits.disk sits.node) (quiet r).primary (quiet r).values.prim stands
+      (ap (λ (x : Chronicle). greens_of x p) is ∙ greens-behind c p part r sits.disk sits.node i.net.hosted.past (kept r)))
 
   asks-line : (p : ℕ) (kind : Kind) → may_make c (Asks p kind) ≡ true → (q : ℕ) → LineAt (small_step c (Asks p kind)) q
   unfolding may_make small_step
@@ -179,11 +179,11 @@ module _ (c : Chronicle) (i : Invariant c) where
   commits-line : (p : ℕ) → may_make c (Commits p) ≡ true → (q : ℕ) → LineAt (small_step c (Commits p)) q
   unfolding may_make small_step whiten
   commits-line p may =
-      let sits = seated c.world p may in
+      let sits = hosted c.world p may in
       let r = sits.replica in
-      let life : Life = Up (record r { held = whiten r.held }) (record sits.disk { content = stored_of (whiten r.held) }) in
-      let up : replica_of c.world p ≡ Some r = ap (λ (o : Option Seat). option_and_then (λ s. running s.life) o) sits.seat in
-      let is = ap (λ (o : Option Seat). option_map_or (λ s. commit_as c p s.life) o c) sits.seat in
+      let life : NodeState = Up (record r { held = whiten r.held }) (record sits.disk { content = stored_of (whiten r.held) }) in
+      let up : replica_of c.world p ≡ Some r = ap (λ (o : Option Node). option_and_then (λ s. running s.life) o) sits.node in
+      let is = ap (λ (o : Option Node). option_map_or (λ s. commit_as c p s.life) o c) sits.node in
       let step = commits-step c p i.net.phase_sound in
       line-one (Commits p) may p (phase_of c.world.group p) (delivered_to c.world.group p) (is_up c.world.group p) step.stands
       (λ q other. ap (λ (x : Chronicle). replica_of x.world q) is ∙ replica-set c.world p life q ∙ cond-false (q == p) (Some (record r { held = whiten r.held })) (replica_of c.world q) other)
@@ -195,9 +195,9 @@ module _ (c : Chronicle) (i : Invariant c) where
   crashes-line : (p : ℕ) → may_make c (Crashes p) ≡ true → (q : ℕ) → LineAt (small_step c (Crashes p)) q
   unfolding may_make small_step
   crashes-line p may =
-      let sits = seated c.world p may in
-      let life : Life = Down (at_rest sits.disk) [] in
-      let is = ap (λ (o : Option Seat). option_map_or (λ s. crash_as c p s.life) o c) sits.seat in
+      let sits = hosted c.world p may in
+      let life : NodeState = Down (at_rest sits.disk) [] in
+      let is = ap (λ (o : Option Node). option_map_or (λ s. crash_as c p s.life) o c) sits.node in
       let step = crashes-step c p may in
       line-one (Crashes p) may p DownPhase 0 false step.stands
       (λ q other. ap (λ (x : Chronicle). replica_of x.world q) is ∙ replica-set c.world p life q ∙ cond-false (q == p) None (replica_of c.world q) other)
@@ -208,21 +208,21 @@ module _ (c : Chronicle) (i : Invariant c) where
   unfolding may_make small_step
   recovers-line p may =
       let parts = and_parts (has_begun c.world p) (not (is_running c p)) may in
-      let there = seat-there c p parts.0 in
-      let is = ap (λ (o : Option Seat). option_map_or (λ s. recover_as c s.life) o c) there.there in
-      let step = recovers-step c p i.net.seated parts.0 (not-true (is_running c p) parts.1) in
+      let there = node-there c p parts.0 in
+      let is = ap (λ (o : Option Node). option_map_or (λ s. recover_as c s.life) o c) there.there in
+      let step = recovers-step c p i.net.hosted parts.0 (not-true (is_running c p) parts.1) in
       line-one (Recovers p) may p Alone 0 true step.stands
-      (λ q other. ap (λ (x : Chronicle). replica_of x.world q) is ∙ others there.seat there.seat.life refl there.there q other) (λ q other. ap (λ (x : Chronicle). greens_of x q) is ∙ same there.seat.life q)
+      (λ q other. ap (λ (x : Chronicle). replica_of x.world q) is ∙ others there.node there.node.life refl there.there q other) (λ q other. ap (λ (x : Chronicle). greens_of x q) is ∙ same there.node.life q)
       (line-none (Recovers p) may p Alone 0 true step.stands (λ k e. (let clash : Alone ≡ Regular k = e in cc))) where
-        same : (l : Life) (q : ℕ) → greens_of (recover_as c l) q ≡ greens_of c q
+        same : (l : NodeState) (q : ℕ) → greens_of (recover_as c l) q ≡ greens_of c q
         same (Up r disk) q = refl
         same (Down disk green) q = refl
 
-        others : (s : Seat) (l : Life) → s.life ≡ l → seat_of c.world p ≡ Some s → (q : ℕ) → (q == p) ≡ false → replica_of (recover_as c l).world q ≡ replica_of c.world q
+        others : (s : Node) (l : NodeState) → s.life ≡ l → node_of c.world p ≡ Some s → (q : ℕ) → (q == p) ≡ false → replica_of (recover_as c l).world q ≡ replica_of c.world q
         others s (Up r disk) is e q other = refl
         others s (Down disk green) is e q other =
-            let held : disk_held c.world p ≡ Some disk.content = ap (λ (o : Option Seat). option_map (λ s. on_disk s.life) o) e ∙ ap (λ l. Some (on_disk l)) is in
-            let name : (recovered disk).held.id ≡ p = recovered-id disk.content ∙ subst (λ (o : Option Held). IfSome o (λ h. h.id ≡ p)) held (i.net.seated.disk p) in
+            let held : disk_held c.world p ≡ Some disk.content = ap (λ (o : Option Node). option_map (λ s. on_disk s.life) o) e ∙ ap (λ l. Some (on_disk l)) is in
+            let name : (recovered disk).held.id ≡ p = recovered-id disk.content ∙ subst (λ (o : Option Held). IfSome o (λ h. h.id ≡ p)) held (i.net.hosted.disk p) in
             let me = (recovered disk).held.id in
             replica-set c.world me (Up (recovered disk) (disk_recovered disk)) q ∙ cond-false (q == me) (Some (recovered disk)) (replica_of c.world q) (ap (λ n. q == n) name ∙ other)
 
@@ -238,11 +238,11 @@ module _ (c : Chronicle) (i : Invariant c) where
   unfolding may_make small_step
   joins-line joiner may =
       let one = may-join c joiner may in
-      let r = joined joiner one.snapshot.content in
-      let life : Life = Up r (new_disk r.held) in
+      let r = joiner_replica joiner one.snapshot.content in
+      let life : NodeState = Up r (new_disk r.held) in
       let begun = new_past (copied_for c joiner) joiner in
-      let absent : past_of c joiner ≡ None = none-of (past_of c joiner) (i.net.seated.past joiner ∙ one.fresh) in
-      let is = ap (λ (o : Option Snapshot). option_map_or (λ s. join_with c joiner s.content) o c) one.there in
+      let absent : past_of c joiner ≡ None = none-of (past_of c joiner) (i.net.hosted.past joiner ∙ one.fresh) in
+      let is = ap (λ (o : Option TransferState). option_map_or (λ s. join_with c joiner s.content) o c) one.there in
       let step = joins-step c joiner one in
       line-one (Joins joiner) may joiner Alone 0 true step.stands
       (λ q other. ap (λ (x : Chronicle). replica_of x.world q) is ∙ replica-set c.world joiner life q ∙ cond-false (q == joiner) (Some r) (replica_of c.world q) other)
@@ -278,7 +278,7 @@ module _ (c : Chronicle) (i : Invariant c) where
   unfolding may_make small_step
   starts-line set may q new up regular =
       let d = small_step c (Starts set) in
-      let empty = nothing-before c i.net.seated (and_parts (is_nil c.world.seats) (is_set (ids set)) may).0 in
+      let empty = nothing-before c i.net.hosted (and_parts (is_nil c.world.nodes) (is_set (ids set)) may).0 in
       let mode = subst (λ (o : Option Replica). IfSome o (IsModeData d q)) up (mode_data-kept c (Starts set) i may q) in
       let data_of : HasModeData d new.held (phase_of d.world.group q) RegPrim = subst (HasModeData d new.held (phase_of d.world.group q)) regular mode.data_of in
       let k = conf_at (phase_of d.world.group q) in

@@ -14,7 +14,7 @@ use Rattle.cg_report.specs.declared.line.Line.{Line}
 use Rattle.cg_report.specs.declared.line.UpLine.{UpLine}
 use Rattle.cg_schedule.specs.declared.event.Event.{Event}
 use Rattle.cg_schedule.specs.declared.event.Event.TheVariants.{Start}
-use Rattle.cg_model.specs.World.{Life, Up, Down, Seat, World, no_world, running, replica_of}
+use Rattle.cg_model.specs.World.{NodeState, Up, Down, Node, World, no_world, running, replica_of}
 use Rattle.cg_model.specs.Show.{Moved, line_of, is_news, ended}
 use Rattle.cg_model.specs.Step.{happens, world_step}
 use Rattle.cg_model.specs.Run.{Step, MayStand, IsRunFrom}
@@ -25,7 +25,7 @@ use Rattle.cg_model.specs.Levels.{prim_at, prim_of}
 use Rattle.cg_model.specs.FactsLists.{IsRising}
 use Rattle.cg_model.specs.Noting.{chronicle_step, chronicle_after}
 use Rattle.cg_model.specs.Played.{StandsBeside, HoldsFrom, AlwaysHolds}
-use Rattle.cg_model.specs.SeatLaws.{IsSeated, seats_stay}
+use Rattle.cg_model.specs.NodeLaws.{IsHosted, nodes_stay}
 use Rattle.cg_agree_lemmas.specs.ReachWorld.{opened-at, opened-attempt}
 use Rattle.cg_agree.proofs.CreatorNumbered.{admitted-of}
 use Rattle.cg_agree.proofs.PrimStays.{StaysOn, stays-refl, stays-then, event-stays, IsKnownIn, known-stays, known-same}
@@ -62,43 +62,43 @@ known-of c w stands p r runs =
 abbrev pub OfLine : Chronicle → Line → Type 0
 OfLine c l = IfSome l.up (λ up. IsKnownIn c up.view.prim)
 
--- each seat is the one of its number
-abbrev pub IsFoundFrom : ℕ → List Seat → Seat → Type 0
-IsFoundFrom low seats s = (low ≤ s.id) × (find (λ x. x.id == s.id) seats ≡ Some s)
+-- each node is the one of its number
+abbrev pub IsFoundFrom : ℕ → List Node → Node → Type 0
+IsFoundFrom low nodes s = (low ≤ s.id) × (find (λ x. x.id == s.id) nodes ≡ Some s)
 
-pub found-all : (seats : List Seat) (low : ℕ) → IsRising low (map (λ s. s.id) seats) → Each (IsFoundFrom low seats) seats
+pub found-all : (nodes : List Node) (low : ℕ) → IsRising low (map (λ s. s.id) nodes) → Each (IsFoundFrom low nodes) nodes
 found-all [] low rise = tt
-found-all (s ∷ seats) low rise =
+found-all (s ∷ nodes) low rise =
     let first = rise.0 in (
-      (first, cond-true (s.id == s.id) (Some s) (find (λ x. x.id == s.id) seats) (eq-eqb s.id s.id refl)),
-      Each-weaker (IsFoundFrom (suc s.id) seats) (IsFoundFrom low (s ∷ seats)) (λ x is. (
+      (first, cond-true (s.id == s.id) (Some s) (find (λ x. x.id == s.id) nodes) (eq-eqb s.id s.id refl)),
+      Each-weaker (IsFoundFrom (suc s.id) nodes) (IsFoundFrom low (s ∷ nodes)) (λ x is. (
         (let above = is.0 in omega arith),
-        cond-false (s.id == x.id) (Some s) (find (λ y. y.id == x.id) seats) (ne_eqb s.id x.id (λ e. (let above = is.0 in omega arith))) ∙ is.1,
-      )) seats (found-all seats (suc s.id) rise.1),
+        cond-false (s.id == x.id) (Some s) (find (λ y. y.id == x.id) nodes) (ne_eqb s.id x.id (λ e. (let above = is.0 in omega arith))) ∙ is.1,
+      )) nodes (found-all nodes (suc s.id) rise.1),
     )
 
-seat-line : (c : Chronicle) (w : World) → StandsBeside c w → (g : GroupState Msg) (s : Seat) → find (λ x. x.id == s.id) w.seats ≡ Some s → OfLine c (line_of g s)
+node-line : (c : Chronicle) (w : World) → StandsBeside c w → (g : GroupState Msg) (s : Node) → find (λ x. x.id == s.id) w.nodes ≡ Some s → OfLine c (line_of g s)
 unfolding view_of
-seat-line c w stands g s found = life s.life (ap (λ (o : Option Seat). option_and_then (λ s. running s.life) o) found) where
-  life : (l : Life) → replica_of w s.id ≡ running l → OfLine c (let x : Seat = record { id = s.id; life = l } in line_of g x)
+node-line c w stands g s found = life s.life (ap (λ (o : Option Node). option_and_then (λ s. running s.life) o) found) where
+  life : (l : NodeState) → replica_of w s.id ≡ running l → OfLine c (let x : Node = record { id = s.id; life = l } in line_of g x)
   life (Up r disk) runs = known-of c w stands s.id r runs
   life (Down disk green) runs = tt
 
-seats-lines : (c : Chronicle) (w : World) → StandsBeside c w → (g : GroupState Msg) (low : ℕ) (seats : List Seat) → Each (IsFoundFrom low w.seats) seats → Each (OfLine c) (map (line_of g) seats)
-seats-lines c w stands g low [] each = tt
-seats-lines c w stands g low (s ∷ seats) each = (seat-line c w stands g s each.0.1, seats-lines c w stands g low seats each.1)
+nodes-lines : (c : Chronicle) (w : World) → StandsBeside c w → (g : GroupState Msg) (low : ℕ) (nodes : List Node) → Each (IsFoundFrom low w.nodes) nodes → Each (OfLine c) (map (line_of g) nodes)
+nodes-lines c w stands g low [] each = tt
+nodes-lines c w stands g low (s ∷ nodes) each = (node-line c w stands g s each.0.1, nodes-lines c w stands g low nodes each.1)
 
 step-lines : (c : Chronicle) (w : World) (e : Event) → StandsBeside c (world_step w e).world → Each (OfLine c) (world_step w e).entry.lines
 unfolding world_step ended
 step-lines c w e stands =
     let x = (happens w e).world in
     let v = (world_step w e).world in
-    let rise : IsRising 0 (map (λ s. s.id) x.seats) = subst (IsRising 0) (sym stands.same.seats) stands.facts.lists.seats in
-    Each-filter (OfLine c) (is_news x.lines) (map (line_of x.group) x.seats) (seats-lines c v stands x.group 0 x.seats (found-all x.seats 0 rise))
+    let rise : IsRising 0 (map (λ s. s.id) x.nodes) = subst (IsRising 0) (sym stands.same.nodes) stands.facts.lists.nodes in
+    Each-filter (OfLine c) (is_news x.lines) (map (line_of x.group) x.nodes) (nodes-lines c v stands x.group 0 x.nodes (found-all x.nodes 0 rise))
 
-no-lines : (w : World) (e : Event) → (world_step w e).world.seats ≡ [] → (world_step w e).entry.lines ≡ []
+no-lines : (w : World) (e : Event) → (world_step w e).world.nodes ≡ [] → (world_step w e).entry.lines ≡ []
 unfolding world_step ended
-no-lines w e none = (let x = (happens w e).world in ap (λ (seats : List Seat). filter (is_news x.lines) (map (line_of x.group) seats)) none)
+no-lines w e none = (let x = (happens w e).world in ap (λ (nodes : List Node). filter (is_news x.lines) (map (line_of x.group) nodes)) none)
 
 -- ---- runs
 
@@ -106,18 +106,18 @@ pub holds-here : (c : Chronicle) (w : World) (events : List Event) → HoldsFrom
 holds-here c w [] holds = holds
 holds-here c w (e ∷ events) holds = holds.0
 
-pub seated-not : (w : World) (e : Event) → IsSeated w → MayStand w e → (set : List Weighted) → e ≡ Start set → ⊥
-seated-not w e seated may set is =
+pub hosted-not : (w : World) (e : Event) → IsHosted w → MayStand w e → (set : List Weighted) → e ≡ Start set → ⊥
+hosted-not w e hosted may set is =
     let both = subst (MayStand w) is may in
-    let some : IsSeated no_world = subst IsSeated both.0 seated in
+    let some : IsHosted no_world = subst IsHosted both.0 hosted in
     omega arith
 
-pub stays-through : (c : Chronicle) (w : World) (steps : List Step) → IsRunFrom w steps → IsSeated w → StaysOn c (chronicle_after c w steps)
-stays-through c w [] run seated = stays-refl c
-stays-through c w (s ∷ steps) run seated =
+pub stays-through : (c : Chronicle) (w : World) (steps : List Step) → IsRunFrom w steps → IsHosted w → StaysOn c (chronicle_after c w steps)
+stays-through c w [] run hosted = stays-refl c
+stays-through c w (s ∷ steps) run hosted =
     let d = chronicle_step c w s.event in
-    let on : IsSeated s.world = subst IsSeated (sym (ap (λ (m : Moved). m.world) run.2)) (seats_stay w s.event seated) in
-    stays-then c d (chronicle_after d s.world steps) (event-stays c w s.event (seated-not w s.event seated run.0)) (stays-through d s.world steps run.3 on)
+    let on : IsHosted s.world = subst IsHosted (sym (ap (λ (m : Moved). m.world) run.2)) (nodes_stay w s.event hosted) in
+    stays-then c d (chronicle_after d s.world steps) (event-stays c w s.event (hosted-not w s.event hosted run.0)) (stays-through d s.world steps run.3 on)
 
 lines-through : (c : Chronicle) (w : World) (steps : List Step) → IsRunFrom w steps → HoldsFrom c w (map (λ s. s.event) steps) → Each (OfLine (chronicle_after c w steps)) (lines_in steps)
 lines-through c w [] run holds = tt
@@ -128,15 +128,15 @@ lines-through c w (s ∷ steps) run holds =
     let stands : StandsBeside d s.world = holds-here d s.world (map (λ s. s.event) steps) next in
     let lines : Each (OfLine d) s.entry.lines =
     subst (λ (m : Moved). StandsBeside d m.world → Each (OfLine d) m.entry.lines) (sym run.2) (step-lines d w s.event) stands in
-    let none : s.world.seats ≡ [] → s.entry.lines ≡ [] = subst (λ (m : Moved). m.world.seats ≡ [] → m.entry.lines ≡ []) (sym run.2) (no-lines w s.event) in
-    Each-append (OfLine end) s.entry.lines (lines_in steps) (first d end s.entry.lines lines (seated d end s.world none (λ some. stays-through d s.world steps run.3 some)))
+    let none : s.world.nodes ≡ [] → s.entry.lines ≡ [] = subst (λ (m : Moved). m.world.nodes ≡ [] → m.entry.lines ≡ []) (sym run.2) (no-lines w s.event) in
+    Each-append (OfLine end) s.entry.lines (lines_in steps) (first d end s.entry.lines lines (hosted d end s.world none (λ some. stays-through d s.world steps run.3 some)))
     (lines-through d s.world steps run.3 next)
   where
-    seated : (d end : Chronicle) (v : World) → (v.seats ≡ [] → s.entry.lines ≡ []) → (IsSeated v → StaysOn d end) → (s.entry.lines ≡ []) ⊎ StaysOn d end
-    seated d end v none on = at v.seats refl where
-      at : (seats : List Seat) → v.seats ≡ seats → (s.entry.lines ≡ []) ⊎ StaysOn d end
+    hosted : (d end : Chronicle) (v : World) → (v.nodes ≡ [] → s.entry.lines ≡ []) → (IsHosted v → StaysOn d end) → (s.entry.lines ≡ []) ⊎ StaysOn d end
+    hosted d end v none on = at v.nodes refl where
+      at : (nodes : List Node) → v.nodes ≡ nodes → (s.entry.lines ≡ []) ⊎ StaysOn d end
       at [] e = inl (none e)
-      at (x ∷ seats) e = inr (on (let many : length v.seats ≡ suc (length seats) = ap length e in omega arith))
+      at (x ∷ nodes) e = inr (on (let many : length v.nodes ≡ suc (length nodes) = ap length e in omega arith))
 
     line-on : (d end : Chronicle) → StaysOn d end → (l : Line) → OfLine d l → OfLine end l
     line-on d end on l is = at l.up is where

@@ -9,7 +9,7 @@ use Rattle.cg_base.specs.Ids.{names, same_id}
 use Rattle.cg_base.specs.Lists.{count_up}
 use Rattle.cg_base.specs.Sets.{has}
 use Rattle.cg_action.specs.declared.action.Action.{Action}
-use Rattle.cg_knowledge.specs.Members.{remaining}
+use Rattle.cg_knowledge.specs.Summaries.{remaining}
 use Rattle.cg_queue.specs.Queue.{names_of}
 use Rattle.cg_wire.specs.declared.message.Msg.{Msg}
 use Rattle.cg_wire.specs.declared.message.Msg.TheVariants.{Action as ActionMsg, State as StateMsg, GreenItem, RedItem, Cpc}

@@ -11,7 +11,7 @@ use Rattle.cg_base.specs.Sets.{has, common}
 use Rattle.cg_base.specs.SetLaws.{has-common, has-without}
 use Rattle.cg_action.specs.declared.action.Action.{Action}
 use Rattle.cg_knowledge.specs.declared.summary.Summary.{Summary}
-use Rattle.cg_knowledge.specs.Members.{senders, gone, remaining, most_updated}
+use Rattle.cg_knowledge.specs.Summaries.{senders, gone, remaining, most_updated}
 use Rattle.cg_knowledge.specs.Verdict.{decides}
 use Rattle.cg_queue.specs.Queue.{green_count, names_of}
 use Rattle.cg_group.specs.declared.phase.Phase.TheVariants.{Regular}

@@ -9,7 +9,7 @@ use Rattle.cg_base.specs.Lists.{above_up_to}
 use Rattle.cg_base.specs.Sets.{has}
 use Rattle.cg_base.specs.SetLaws.{has-with_member, is_within-from}
 use Rattle.cg_knowledge.specs.declared.summary.Summary.{Summary}
-use Rattle.cg_knowledge.specs.Members.{senders, remaining}
+use Rattle.cg_knowledge.specs.Summaries.{senders, remaining}
 use Rattle.cg_knowledge.specs.Verdict.{decides}
 use Rattle.cg_wire.specs.declared.message.Msg.{Msg}
 use Rattle.cg_wire.specs.declared.message.Msg.TheVariants.{Action as ActionMsg, State as StateMsg, GreenItem, RedItem, Cpc}

@@ -5,8 +5,8 @@ use Rattle.cg_base.specs.Cuts.{index_in}
 use Rattle.cg_action.specs.declared.action.Action.{Action}
 use Rattle.cg_group.specs.EachLaws.{Each}
 use Rattle.cg_client.specs.Replica.{Replica}
-use Rattle.cg_model.specs.FactsBooks.{IsActionShown, KeepsUnshown, MadeFits, OrderFits, SeatIsDown, SeatShown}
-use Rattle.cg_model.specs.World.{Life, Up, Down, Seat, World, no_world, running, has_begun, seat_of, replica_of}
+use Rattle.cg_model.specs.FactsBooks.{IsActionShown, KeepsUnshown, MadeFits, OrderFits, NodeIsDown, NodeShown}
+use Rattle.cg_model.specs.World.{NodeState, Up, Down, Node, World, no_world, running, has_begun, node_of, replica_of}
 use Rattle.cg_model.specs.Show.{Moved}
 use Rattle.cg_model.specs.Run.{Step, IsRunFrom, world_after}
 use Rattle.cg_model.specs.Chronicle.{Chronicle, no_chronicle}
@@ -18,7 +18,7 @@ use Rattle.cg_model.specs.Played.{StandsBeside, AlwaysHolds}
 use Rattle.cg_agree_lemmas.specs.BookGrows.{IsNamed, cut_of}
 use Rattle.cg_agree_lemmas.specs.BookedCores.{each-booked}
 use Rattle.cg_agree.proofs.CreatorNumbered.{stands-of}
-use Rattle.cg_agree_lemmas.specs.HandsKept.{seated}
+use Rattle.cg_agree_lemmas.specs.HandsKept.{hosted}
 use Rattle.cg_agree.proofs.MadeBookKept.{nothing-made, event-made}
 use Rattle.cg_agree_lemmas.specs.NothingStands.{nothing-stands}
 use Rattle.cg_agree.proofs.OrdersKept.{orders-kept}
@@ -34,33 +34,33 @@ each-front P [] ys each = tt
 each-front P (x ∷ xs) ys each = (each.0, each-front P xs ys each.1)
 
 module _ (c : Chronicle) (w : World) (stands : StandsBeside c w) (fits : MadeFits w) (order : OrderFits c w) where
-  not-begun : (q : ℕ) → seat_of w q ≡ None → has_begun c.world q ≡ false
+  not-begun : (q : ℕ) → node_of w q ≡ None → has_begun c.world q ≡ false
   not-begun q none =
-      sym (mapped (seat_of c.world q)) ∙ ap is_some (sym (stands.same.disk q)) ∙ ap (λ (o : Option Seat). is_some (option_map (λ s. on_disk s.life) o)) none where
-        mapped : (o : Option Seat) → is_some (option_map (λ s. on_disk s.life) o) ≡ is_some o
+      sym (mapped (node_of c.world q)) ∙ ap is_some (sym (stands.same.disk q)) ∙ ap (λ (o : Option Node). is_some (option_map (λ s. on_disk s.life) o)) none where
+        mapped : (o : Option Node) → is_some (option_map (λ s. on_disk s.life) o) ≡ is_some o
         mapped None = refl
         mapped (Some s) = refl
 
   -- of whom is down, others have no more than was shown
   abbrev pub OthersLow : Action → Type 0
-  OthersLow a = SeatIsDown (seat_of w a.id.creator) → a.id.index ≤ index_in w.made a.id.creator
+  OthersLow a = NodeIsDown (node_of w a.id.creator) → a.id.index ≤ index_in w.made a.id.creator
 
   one-low : (a : Action) → IsNamed c.book a → OthersLow a → a.id.index ≤ index_in w.made a.id.creator
-  one-low a booked others = at (seat_of w a.id.creator) refl where
+  one-low a booked others = at (node_of w a.id.creator) refl where
     index : a.id.index ≤ index_in (cut_of c.book) a.id.creator
     index = booked-index c stands.facts a booked
 
-    life : (s : Seat) (l : Life) → seat_of w a.id.creator ≡ Some s → s.life ≡ l → a.id.index ≤ index_in w.made a.id.creator
+    life : (s : Node) (l : NodeState) → node_of w a.id.creator ≡ Some s → s.life ≡ l → a.id.index ≤ index_in w.made a.id.creator
     life s (Up r disk) e is =
         let low = index in
-        let count = booked-made c w stands.facts stands.same fits a.id.creator r (ap (option_and_then (λ (s : Seat). running s.life)) e ∙ ap running is) in
+        let count = booked-made c w stands.facts stands.same fits a.id.creator r (ap (option_and_then (λ (s : Node). running s.life)) e ∙ ap running is) in
         omega arith
     life s (Down disk green) e is =
-        others (subst SeatIsDown (sym e) (down s (Down disk green) is)) where
-          down : (s : Seat) (l : Life) → s.life ≡ Down disk green → SeatIsDown (Some s)
-          down s l is = subst (λ (l : Life). SeatIsDown (Some (let x : Seat = record { id = s.id; life = l } in x))) (sym is) tt
+        others (subst NodeIsDown (sym e) (down s (Down disk green) is)) where
+          down : (s : Node) (l : NodeState) → s.life ≡ Down disk green → NodeIsDown (Some s)
+          down s l is = subst (λ (l : NodeState). NodeIsDown (Some (let x : Node = record { id = s.id; life = l } in x))) (sym is) tt
 
-    at : (o : Option Seat) → seat_of w a.id.creator ≡ o → a.id.index ≤ index_in w.made a.id.creator
+    at : (o : Option Node) → node_of w a.id.creator ≡ o → a.id.index ≤ index_in w.made a.id.creator
     at None e = let low = index in let none : index_in (cut_of c.book) a.id.creator ≡ 0 = stands.facts.replica.origins.unbegun a.id.creator (not-begun a.id.creator e) in omega arith
     at (Some s) e = life s s.life e refl
 
@@ -70,16 +70,16 @@ module _ (c : Chronicle) (w : World) (stands : StandsBeside c w) (fits : MadeFit
 
   module _ (p : ℕ) (r : Replica) (up : replica_of w p ≡ Some r) where
     -- what it has of one that is down
-    reds-of : (q : ℕ) → SeatIsDown (seat_of w q) → (k : KeepsUnshown w q) → Each (IsActionShown q k.shown) r.held.queue.reds
+    reds-of : (q : ℕ) → NodeIsDown (node_of w q) → (k : KeepsUnshown w q) → Each (IsActionShown q k.shown) r.held.queue.reds
     reds-of q down k =
-        let sits = seated w p (ap is_some up) in
-        let seat = sits.seat in
-        let runs : Some sits.replica ≡ Some r = sym (ap (option_and_then (λ (s : Seat). running s.life)) seat) ∙ up in
+        let sits = hosted w p (ap is_some up) in
+        let node = sits.node in
+        let runs : Some sits.replica ≡ Some r = sym (ap (option_and_then (λ (s : Node). running s.life)) node) ∙ up in
         let same : sits.replica ≡ r = cc in
-        let shown = subst (SeatShown q k.shown) seat (k.are.seats p (λ e. subst SeatIsDown (ap (seat_of w) (sym e) ∙ seat) down)) in
+        let shown = subst (NodeShown q k.shown) node (k.are.nodes p (λ e. subst NodeIsDown (ap (node_of w) (sym e) ∙ node) down)) in
         subst (λ (x : Replica). Each (IsActionShown q k.shown) x.held.queue.reds) same shown.0.reds
 
-    others-low : (list : List Action) → ((q : ℕ) → SeatIsDown (seat_of w q) → (k : KeepsUnshown w q) → Each (IsActionShown q k.shown) list) → Each OthersLow list
+    others-low : (list : List Action) → ((q : ℕ) → NodeIsDown (node_of w q) → (k : KeepsUnshown w q) → Each (IsActionShown q k.shown) list) → Each OthersLow list
     others-low [] of = tt
     others-low (a ∷ list) of = (
       (λ down.

@@ -14,7 +14,7 @@ use Rattle.cg_queue.specs.Queue.{names_of}
 use Rattle.cg_records.specs.declared.primary.Primary.{Primary}
 use Rattle.cg_records.specs.declared.yellow.Yellow.{Yellow}
 use Rattle.cg_knowledge.specs.declared.summary.Summary.{Summary}
-use Rattle.cg_knowledge.specs.Members.{gone, senders}
+use Rattle.cg_knowledge.specs.Summaries.{gone, senders}
 use Rattle.cg_knowledge.specs.Primary.{newest_index}
 use Rattle.cg_knowledge.specs.Vulnerable.{decided}
 use Rattle.cg_knowledge.specs.Verdict.{decides}

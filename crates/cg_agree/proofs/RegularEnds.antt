@@ -57,7 +57,7 @@ one-still c d p n is step conf q was = elim (cases_eq q p) [
 -- Who is regular runs and has begun, and doesn't come into another configuration.
 pub regular-ends : (c : Chronicle) (s : Small) → Invariant c → may_make c s ≡ true → (conf p : ℕ) → 0 < conf → is_regular_in c conf p ≡ true → RegularEnds c s conf p
 unfolding small_step may_make
-regular-ends c (Starts set) i m conf p some was = absurd (nobody-regular c conf p (nothing-before c i.net.seated (and_parts (is_nil c.world.seats) (is_set (ids set)) m).0) was)
+regular-ends c (Starts set) i m conf p some was = absurd (nobody-regular c conf p (nothing-before c i.net.hosted (and_parts (is_nil c.world.nodes) (is_set (ids set)) m).0) was)
 regular-ends c (Makes set) i m conf p some was = Still (phase-still c (small_step c (Makes set)) conf p (phase-made c (small_step c (Makes set)) set refl (λ q. refl) p) was)
 regular-ends c (Enters q) i m conf p some was = elim (cases_eq p q) [
   | inl same ↦
@@ -95,7 +95,7 @@ regular-ends c (Recovers q) i m conf p some was =
     let down = not-true (is_running c q) parts.1 in
     elim (cases_eq p q) [
       | inl same ↦ absurd (let clash : true ≡ false = sym (ap (is_running c) (sym same) ∙ in-running c i.net.phase_sound conf p (regular-inside c conf p was)) ∙ down in cc)
-      | inr apart ↦ Still (other-still c _ q Alone 0 true (recovers-step c q i.net.seated parts.0 down) conf p apart was)
+      | inr apart ↦ Still (other-still c _ q Alone 0 true (recovers-step c q i.net.hosted parts.0 down) conf p apart was)
     ]
 regular-ends c (Copies q joiner) i m conf p some was = Still (one-still c _ q _ _ (copies-step c q joiner i.net.phase_sound) conf p was)
 regular-ends c (Joins joiner) i m conf p some was =

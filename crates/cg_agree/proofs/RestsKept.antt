@@ -8,7 +8,7 @@ use Rattle.cg_base.specs.Sets.{has}
 use Rattle.cg_action.specs.declared.action.Action.{Action}
 use Rattle.cg_queue.specs.Queue.{names_of}
 use Rattle.cg_records.specs.declared.vulnerable.Vulnerable.{Vulnerable}
-use Rattle.cg_knowledge.specs.Members.{gone}
+use Rattle.cg_knowledge.specs.Summaries.{gone}
 use Rattle.cg_knowledge.specs.Verdict.{decides}
 use Rattle.cg_wire.specs.declared.message.Msg.{Msg}
 use Rattle.cg_group.specs.declared.phase.Phase.{Phase}
@@ -17,7 +17,7 @@ use Rattle.cg_group.specs.State.{Configuration, GroupState, no_configuration, ph
 use Rattle.cg_group.specs.PlaceLaws.{at_place-past}
 use Rattle.cg_client.specs.Replica.{Held, State, RegPrim, TransPrim, ExchangeStates, ExchangeActions, Construct, No, Un, NonPrim, Left, Replica}
 use Rattle.cg_schedule.specs.declared.event.Event.{Event}
-use Rattle.cg_model.specs.World.{Life, Up, Down, Seat, World, running, seat_of, replica_of}
+use Rattle.cg_model.specs.World.{NodeState, Up, Down, Node, World, running, node_of, replica_of}
 use Rattle.cg_model.specs.Admission.{first_refusal}
 use Rattle.cg_model.specs.Run.{MayStand}
 use Rattle.cg_model.specs.Chronicle.{Attempt, Chronicle}
@@ -41,8 +41,8 @@ use Rattle.cg_agree_lemmas.specs.HandSays.{find-holds}
 use Rattle.cg_agree.proofs.DeadKept.{said-attempt}
 use Rattle.cg_agree.proofs.MadeOfSmalls.{made-of-smalls}
 use Rattle.cg_agree_lemmas.specs.AttemptNew.{HasNoRecordYet}
-use Rattle.cg_agree_lemmas.specs.LivesRest.{seat-in, seat-agrees, seat-empty}
-use Rattle.cg_agree_lemmas.specs.RestsBehind.{LifeSteps, SeatSteps, RestsAt, event-rests}
+use Rattle.cg_agree_lemmas.specs.LivesRest.{node-in, node-agrees, node-empty}
+use Rattle.cg_agree_lemmas.specs.RestsBehind.{LifeSteps, NodeSteps, RestsAt, event-rests}
 use Rattle.cg_commit.specs.RunMarkLaws.{run-head}
 
 -- ---- records
@@ -179,17 +179,17 @@ same-by_cut stood greens front run same =
 
 module _ (c : Chronicle) (w : World) (stands : StandsBeside c w) where
   rested : (q : ℕ) → RestsAt w q
-  rested q = seat-in (seat_of w q) (stands.rests.replica.disk_agrees.up q) (stands.rests.replica.buffer_empty q)
+  rested q = node-in (node_of w q) (stands.rests.replica.disk_agrees.up q) (stands.rests.replica.buffer_empty q)
 
   next-is : suc (length c.world.group.configurations) ≡ suc (length w.group.configurations)
   next-is = ap (λ (g : GroupState Msg). suc (length g.configurations)) (sym stands.same.group)
 
-  stepping : (q : ℕ) → SeatSteps c.start (suc (length w.group.configurations)) (seat_of w q)
-  stepping q = at (seat_of w q) refl where
+  stepping : (q : ℕ) → NodeSteps c.start (suc (length w.group.configurations)) (node_of w q)
+  stepping q = at (node_of w q) refl where
     oneself : {h : Held} {all : List Action} → IsCore c h all → IsOneself c.start h all
     oneself core = record { made_of = core.made_of; contiguous = core.contiguous; yellow_closed = core.yellow_closed }
 
-    life : (l : Life) → replica_of w q ≡ running l → disk_held w q ≡ Some (on_disk l) → LifeSteps c.start (suc (length w.group.configurations)) l
+    life : (l : NodeState) → replica_of w q ≡ running l → disk_held w q ≡ Some (on_disk l) → LifeSteps c.start (suc (length w.group.configurations)) l
     life (Up r disk) runs has_disk =
         let here : replica_of c.world q ≡ Some r = sym (stands.same.running q) ∙ runs in
         let core = oneself (subst (λ (o : Option Replica). IfSome o (λ r. IsCore c r.held (greens_of c q))) here (stands.facts.replica.cores.memory q)) in (
@@ -201,9 +201,9 @@ module _ (c : Chronicle) (w : World) (stands : StandsBeside c w) where
         let here : disk_held c.world q ≡ Some disk.content = sym (stands.same.disk q) ∙ has_disk in
         record { greens = stood_of c q; is = oneself (subst (λ (o : Option Held). IfSome o (λ h. IsCore c h (stood_of c q))) here (stands.facts.replica.cores.disk q)) }
 
-    at : (o : Option Seat) → seat_of w q ≡ o → SeatSteps c.start (suc (length w.group.configurations)) o
+    at : (o : Option Node) → node_of w q ≡ o → NodeSteps c.start (suc (length w.group.configurations)) o
     at None e = tt
-    at (Some s) e = life s.life (ap (λ (o : Option Seat). option_and_then (λ s. running s.life) o) e) (ap (λ (o : Option Seat). option_map (λ s. on_disk s.life) o) e)
+    at (Some s) e = life s.life (ap (λ (o : Option Node). option_and_then (λ s. running s.life) o) e) (ap (λ (o : Option Node). option_map (λ s. on_disk s.life) o) e)
 
   -- Behind an event disks agree, and who creates keeps no request.
   pub rests-kept : (e : Event) → MayStand w e → first_refusal w e ≡ None → Invariant (chronicle_step c w e) →
@@ -214,24 +214,24 @@ module _ (c : Chronicle) (w : World) (stands : StandsBeside c w) where
       let rest = event-rests c.start w rested stepping e may in
       let same : IsSame v d.world = (made-of-smalls c w e stands may admitted).1 in
       record {
-        disk_agrees = record { up = λ q. seat-agrees (seat_of v q) (rest q); greens = λ q. greens-agree d v facts same q (seat-agrees (seat_of v q) (rest q)) };
-        buffer_empty = λ q. seat-empty (seat_of v q) (rest q);
+        disk_agrees = record { up = λ q. node-agrees (node_of v q) (rest q); greens = λ q. greens-agree d v facts same q (node-agrees (node_of v q) (rest q)) };
+        buffer_empty = λ q. node-empty (node_of v q) (rest q);
       } where
         greens-agree : (d : Chronicle) (v : World) → Invariant d → IsSame v d.world → (q : ℕ) →
             IfSome (replica_of v q) (λ r. IfSome (disk_held v q) (λ disk. GoesOn r.held disk × IsAsOnDisk r.held disk r.state)) → greens_of d q ≡ stood_of d q
         greens-agree d v facts same q agrees = at (replica_of d.world q) refl (disk_held d.world q) refl
             (subst (λ (o : Option Replica). IfSome o (λ r. IfSome (disk_held d.world q) (λ disk. GoesOn r.held disk × IsAsOnDisk r.held disk r.state))) (same.running q)
             (subst (λ (h : Option Held). IfSome (replica_of v q) (λ r. IfSome h (λ disk. GoesOn r.held disk × IsAsOnDisk r.held disk r.state))) (same.disk q) agrees)) where
-              seated : (r : Replica) → replica_of d.world q ≡ Some r → disk_held d.world q ≡ None → ⊥
-              seated r runs none = in_seat (seat_of d.world q) runs none where
-                in_seat : (o : Option Seat) → option_and_then (λ s. running s.life) o ≡ Some r → option_map (λ s. on_disk s.life) o ≡ None → ⊥
-                in_seat None runs none = let clash : None ≡ Some r = runs in cc
-                in_seat (Some s) runs none = let clash : Some (on_disk s.life) ≡ None = none in cc
+              hosted : (r : Replica) → replica_of d.world q ≡ Some r → disk_held d.world q ≡ None → ⊥
+              hosted r runs none = in_node (node_of d.world q) runs none where
+                in_node : (o : Option Node) → option_and_then (λ s. running s.life) o ≡ Some r → option_map (λ s. on_disk s.life) o ≡ None → ⊥
+                in_node None runs none = let clash : None ≡ Some r = runs in cc
+                in_node (Some s) runs none = let clash : Some (on_disk s.life) ≡ None = none in cc
 
               at : (o : Option Replica) → replica_of d.world q ≡ o → (h : Option Held) → disk_held d.world q ≡ h → IfSome o (λ r. IfSome h (λ disk. GoesOn r.held disk × IsAsOnDisk r.held disk r.state)) →
                   greens_of d q ≡ stood_of d q
               at None e h f is = facts.replica.disk_behind.down q e
-              at (Some r) e None f is = absurd (seated r e f)
+              at (Some r) e None f is = absurd (hosted r e f)
               at (Some r) e (Some h) f is =
                   let memory = subst (λ (o : Option Replica). IfSome o (λ r. IsCore d r.held (greens_of d q))) e (facts.replica.cores.memory q) in
                   let disk = subst (λ (o : Option Held). IfSome o (λ h. IsCore d h (stood_of d q))) f (facts.replica.cores.disk q) in

@@ -7,7 +7,7 @@ use Rattle.cg_base.specs.SetLaws.{has-with_member}
 use Rattle.cg_queue.specs.Queue.{names_of}
 use Rattle.cg_vote.specs.Quorum.{is_quorum}
 use Rattle.cg_knowledge.specs.declared.summary.Summary.{Summary}
-use Rattle.cg_knowledge.specs.Members.{senders, gone, remaining, most_updated}
+use Rattle.cg_knowledge.specs.Summaries.{senders, gone, remaining, most_updated}
 use Rattle.cg_knowledge.specs.Primary.{known_primary}
 use Rattle.cg_knowledge.specs.Verdict.{decides}
 use Rattle.cg_client.specs.Replica.{Replica}

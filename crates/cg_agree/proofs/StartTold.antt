@@ -15,39 +15,39 @@ use Rattle.cg_model.specs.Chronicle.{Chronicle}
 use Rattle.cg_model.specs.Small.{small_step}
 use Rattle.cg_model.specs.Smalls.{smalls_in}
 use Rattle.cg_model.specs.Noting.{chronicle_step}
-use Rattle.cg_model.specs.SeatLaws.{IsSeated, start_seats, seats_stay}
+use Rattle.cg_model.specs.NodeLaws.{IsHosted, start_nodes, nodes_stay}
 use Rattle.cg_agree.proofs.RunForward.{IsStepOf}
 use Rattle.cg_agree.proofs.PrimStays.{event-stays}
-use Rattle.cg_agree.proofs.PrimaryOne.{seated-not}
+use Rattle.cg_agree.proofs.PrimaryOne.{hosted-not}
 
 -- the servers of the start so far; and before it there are none
 pub record IsStartTold (earlier : List Step) (c : Chronicle) (w : World) : Type 0 where
   pub start : start_of earlier ≡ c.start
-  pub begun : (c.start ≡ []) ⊎ IsSeated w
+  pub begun : (c.start ≡ []) ⊎ IsHosted w
 
 start-last : (earlier : List Step) (s : Step) → start_of (through earlier s) ≡ start_of earlier ++ start_in s.event
 start-last [] s = append-nil (start_in s.event)
 start-last (x ∷ earlier) s = ap (λ list. start_in x.event ++ list) (start-last earlier s) ∙ sym (append_assoc (start_in x.event) (start_of earlier) (start_in s.event))
 
-module _ (c : Chronicle) (w : World) (before : List Weighted) (same : before ≡ c.start) (begun : (c.start ≡ []) ⊎ IsSeated w) where
+module _ (c : Chronicle) (w : World) (before : List Weighted) (same : before ≡ c.start) (begun : (c.start ≡ []) ⊎ IsHosted w) where
   IsNext : Event → Type 0
-  IsNext e = (before ++ start_in e ≡ (chronicle_step c w e).start) × IsSeated (world_step w e).world
+  IsNext e = (before ++ start_in e ≡ (chronicle_step c w e).start) × IsHosted (world_step w e).world
 
   starts : (set : List Weighted) → MayStand w (Start set) → first_refusal w (Start set) ≡ None → IsNext (Start set)
   unfolding IsNext smalls_in small_step
   starts set may admitted = (
     elim begun [
       | inl none ↦ ap (λ list. list ++ set) (same ∙ none)
-      | inr seated ↦ absurd (seated-not w (Start set) seated may set refl)
+      | inr hosted ↦ absurd (hosted-not w (Start set) hosted may set refl)
     ],
-    start_seats w set admitted,
+    start_nodes w set admitted,
   )
 
-  goes-on : (e : Event) → start_in e ≡ [] → MayStand w e → IsSeated w → IsNext e
+  goes-on : (e : Event) → start_in e ≡ [] → MayStand w e → IsHosted w → IsNext e
   unfolding IsNext
-  goes-on e none may seated = (
-    ap (λ list. before ++ list) none ∙ append-nil before ∙ same ∙ sym (event-stays c w e (seated-not w e seated may)).start,
-    seats_stay w e seated,
+  goes-on e none may hosted = (
+    ap (λ list. before ++ list) none ∙ append-nil before ∙ same ∙ sym (event-stays c w e (hosted-not w e hosted may)).start,
+    nodes_stay w e hosted,
   )
 
   next : (e : Event) → MayStand w e → first_refusal w e ≡ None → IsNext e
@@ -76,4 +76,4 @@ pub start-on : (earlier : List Step) (c : Chronicle) (w : World) (s : Step) → 
 unfolding IsNext
 start-on earlier c w s step told =
     let is = next c w (start_of earlier) told.start told.begun s.event step.may step.admitted in
-    record { start = start-last earlier s ∙ is.0; begun = inr (subst IsSeated (sym (ap (λ (m : Moved). m.world) step.moved)) is.1) }
+    record { start = start-last earlier s ∙ is.0; begun = inr (subst IsHosted (sym (ap (λ (m : Moved). m.world) step.moved)) is.1) }

@@ -18,7 +18,7 @@ use Rattle.cg_group.specs.State.{Configuration, configuration, no_configuration}
 use Rattle.cg_group.specs.PlaceLaws.{at_place-past}
 use Rattle.cg_client.specs.Replica.{Held, State, RegPrim, TransPrim, ExchangeStates, ExchangeActions, Construct, No, Un, NonPrim, Left, Replica}
 use Rattle.cg_client.specs.Summary.{summary_of}
-use Rattle.cg_model.specs.World.{Up, Seat, running, seat_of, replica_of}
+use Rattle.cg_model.specs.World.{Up, Node, running, node_of, replica_of}
 use Rattle.cg_model.specs.Chronicle.{Told, Attempt, Chronicle}
 use Rattle.cg_model.specs.Fronts.{Front, IsSomeWith}
 use Rattle.cg_model.specs.Looks.{greens_of, told_in, ordered_in, is_member, top_of, no_attempt, attempt_of, attempt_at, installation}
@@ -29,7 +29,7 @@ use Rattle.cg_model.specs.Small.{Small, Starts, Makes, Enters, Orders, Receives,
 use Rattle.cg_model.specs.Smalls.{may_make, is_set}
 use Rattle.cg_commit.specs.CutRaiseLaws.{behind-rises}
 use Rattle.cg_agree_lemmas.specs.HeldMarks.{IsOneself, rising-green}
-use Rattle.cg_agree_lemmas.specs.ChronicleFacts.{seat_of-set}
+use Rattle.cg_agree_lemmas.specs.ChronicleFacts.{node_of-set}
 use Rattle.cg_agree_lemmas.specs.CoresKept.{greens-turn}
 use Rattle.cg_agree_lemmas.specs.OneselfWorld.{oneself-of}
 use Rattle.cg_agree_lemmas.specs.OneselfSmalls.{enters-oneself}
@@ -57,7 +57,7 @@ module _ (c : Chronicle) (s : Small) (i : Invariant c) (may : may_make c s ≡ t
   start-told conf p t e = at s may where
     at : (s : Small) → may_make c s ≡ true → (small_step c s).start ≡ c.start
     at (Starts set) may =
-        let before = nothing-before c i.net.seated (and_parts (is_nil c.world.seats) (is_set (ids set)) may).0 in
+        let before = nothing-before c i.net.hosted (and_parts (is_nil c.world.nodes) (is_set (ids set)) may).0 in
         absurd (let clash : None ≡ Some t = sym (ap (λ (x : Chronicle). told_in x conf p) before) ∙ e in cc)
     at (Makes set) may = start-kept c (Makes set) tt
     at (Enters q) may = start-kept c (Enters q) tt
@@ -136,22 +136,22 @@ module _ (c : Chronicle) (i : Invariant c) (p : ℕ) (may : may_make c (Enters p
   abbrev pub new_held : Held
   new_held = (entry_turn c now.replica).replica.held
 
-  seat-entered : seat_of entered.world p ≡ Some (record { id = p; life = Up (entry_turn c now.replica).replica now.disk })
-  seat-entered = ap (λ (x : Chronicle). seat_of x.world p) (enters-is c p now) ∙ seat_of-set c.world p (Up (entry_turn c now.replica).replica now.disk) p
-      ∙ cond-true (p == p) (Some (record { id = p; life = Up (entry_turn c now.replica).replica now.disk })) (seat_of c.world p) (eq-eqb p p refl)
+  node-entered : node_of entered.world p ≡ Some (record { id = p; life = Up (entry_turn c now.replica).replica now.disk })
+  node-entered = ap (λ (x : Chronicle). node_of x.world p) (enters-is c p now) ∙ node_of-set c.world p (Up (entry_turn c now.replica).replica now.disk) p
+      ∙ cond-true (p == p) (Some (record { id = p; life = Up (entry_turn c now.replica).replica now.disk })) (node_of c.world p) (eq-eqb p p refl)
 
   pub up-entered : replica_of entered.world p ≡ Some (entry_turn c now.replica).replica
-  up-entered = ap (λ (o : Option Seat). option_and_then (λ s. running s.life) o) seat-entered
+  up-entered = ap (λ (o : Option Node). option_and_then (λ s. running s.life) o) node-entered
 
   pub greens-entered : greens_of entered p ≡ greens_of c p
   greens-entered =
       ap (λ (x : Chronicle). greens_of x p) (enters-is c p now)
-      ∙ greens-turn (coming c p) p now.replica now.disk (entry_turn c now.replica) i.net.seated.past now.seat
+      ∙ greens-turn (coming c p) p now.replica now.disk (entry_turn c now.replica) i.net.hosted.past now.node
       ∙ ap (λ xs. greens_of c p ++ xs) (nothing-new now.replica (entry_turn c now.replica).replica (entry-greens c.world.group now.replica now.between)) ∙ append-nil (greens_of c p)
 
   pub core-entered : IsOneself c.start new_held (greens_of c p)
   core-entered =
-      let all = enters-oneself c p i.net.seated.past (oneself-of c i.replica.cores) in
+      let all = enters-oneself c p i.net.hosted.past (oneself-of c i.replica.cores) in
       subst (λ st. IsOneself st new_held (greens_of c p)) (start-kept c (Enters p) tt)
       (subst (IsOneself entered.start new_held) greens-entered (subst (λ (o : Option Replica). IfSome o (λ r. IsOneself entered.start r.held (greens_of entered p))) up-entered (all.memory p)))
 
@@ -251,7 +251,7 @@ module _ (c : Chronicle) (i : Invariant c) (p : ℕ) (may : may_make c (Enters p
   left-record Left v is = is
 
   here : replica_of c.world p ≡ Some now.replica
-  here = ap (λ (o : Option Seat). option_and_then (λ s. running s.life) o) now.seat
+  here = ap (λ (o : Option Node). option_and_then (λ s. running s.life) o) now.node
 
   pub entry-levels : KnowsLevels entered (entry_told c p now.replica)
   unfolding summary_of

@@ -14,9 +14,9 @@ use Rattle.cg_client.specs.Replica.{Held, State, ExchangeStates, Replica, last_i
 use Rattle.cg_client.specs.Requests.{settle}
 use Rattle.cg_client.specs.Summary.{summary_of}
 use Rattle.cg_commit.specs.Crash.{new_disk, recovered, disk_recovered}
-use Rattle.cg_model.specs.World.{Life, Up, Down, Seat, running, seat_of, replica_of, has_begun}
+use Rattle.cg_model.specs.World.{NodeState, Up, Down, Node, running, node_of, replica_of, has_begun}
 use Rattle.cg_model.specs.Attempts.{held_in}
-use Rattle.cg_model.specs.Step.{joined, without_snapshot}
+use Rattle.cg_model.specs.Step.{joiner_replica, without_snapshot}
 use Rattle.cg_model.specs.Chronicle.{Told, Chronicle}
 use Rattle.cg_model.specs.Fronts.{Front}
 use Rattle.cg_model.specs.Looks.{greens_of, told_in, core_of, snapshot_of, is_at, is_in, is_member, on_disk}
@@ -27,9 +27,9 @@ use Rattle.cg_model.specs.Played.{AtRest}
 use Rattle.cg_model.specs.Small.{Small, Starts, Makes, Enters, Orders, Receives, Hands, Leaves, Asks, Settles, Commits, Crashes, Recovers, Copies, Joins, small_step, handed_next, leaving, take_next, take_parting, take_request, newest_conf, commit_as, crash_as, recover_as, copy_as, join_with}
 use Rattle.cg_model.specs.Smalls.{may_make, is_running, is_set}
 use Rattle.cg_agree_lemmas.specs.FrontFacts.{Front-refl, Front-trans}
-use Rattle.cg_agree_lemmas.specs.ChronicleFacts.{seat_of-set}
+use Rattle.cg_agree_lemmas.specs.ChronicleFacts.{node_of-set}
 use Rattle.cg_agree_lemmas.specs.HeldCommit.{recovered-id}
-use Rattle.cg_agree_lemmas.specs.CoresKept.{seat-of}
+use Rattle.cg_agree_lemmas.specs.CoresKept.{node-of}
 use Rattle.cg_agree.proofs.BegunKept.{nothing-before}
 use Rattle.cg_agree_lemmas.specs.GroupKept.{orders-conf, receives-conf, leaving-regular}
 use Rattle.cg_agree_lemmas.specs.GroupSound.{phase-made}
@@ -81,7 +81,7 @@ module _ (c : Chronicle) (i : Invariant c) (conf p : ℕ) (t : Told) (told : tol
   unfolding small_step may_make
   inside-step (Enters q) may rest other = absurd other
   inside-step (Starts set) may rest other =
-      let before = nothing-before c i.net.seated (and_parts (is_nil c.world.seats) (is_set (ids set)) may).0 in
+      let before = nothing-before c i.net.hosted (and_parts (is_nil c.world.nodes) (is_set (ids set)) may).0 in
       absurd (let clash : None ≡ Some t = sym (ap (λ (x : Chronicle). told_in x conf p) before) ∙ told in cc)
   inside-step (Makes set) may rest other = λ inside q r e is. lives-same c i conf number-told (small_step c (Makes set)) q r refl (inside q) e is
   inside-step (Orders q') may rest other = λ inside q r e is. lives-same c i conf number-told (small_step c (Orders q')) q r refl (inside q) e is
@@ -89,36 +89,36 @@ module _ (c : Chronicle) (i : Invariant c) (conf p : ℕ) (t : Told) (told : tol
   inside-step (Hands q) may rest other =
       let g = c.world.group in
       lives-turning c i conf number-told (handed_next c q) q (take_next g q) refl
-      (λ r disk seat. takes-knowing r (delivery_at (home g q) (suc (delivered_to g q))) (first-of c i conf number-told q r disk seat) (inside-place c i conf number-told (home g q) (suc (delivered_to g q))))
+      (λ r disk node. takes-knowing r (delivery_at (home g q) (suc (delivered_to g q))) (first-of c i conf number-told q r disk node) (inside-place c i conf number-told (home g q) (suc (delivered_to g q))))
   inside-step (Leaves q set own places) may rest other =
       let g = c.world.group in
       lives-turning c i conf number-told (leaving c q set own) q (take_parting g q set places) refl
-      (λ r disk seat. takes-knowing r (TransitionalIn (regular_in (phase_of g q)) set ∷ deliveries_at (home g q) places) (first-of c i conf number-told q r disk seat) (tt, inside-places c i conf number-told (home g q) places))
-  inside-step (Asks q kind) may rest other = lives-turning c i conf number-told c q (take_request kind) refl (λ r disk seat. asks-knowing r kind)
-  inside-step (Settles q) may rest other = lives-turning c i conf number-told c q settle refl (λ r disk seat. settles-knowing r)
-  inside-step (Commits q) may rest other = goal-some c i conf number-told (seat_of c.world q) (λ s. commit_as c q s.life) (goal-same c i conf number-told) (λ s e. commit-goal c i conf number-told q s e s.life refl)
-  inside-step (Crashes q) may rest other = goal-some c i conf number-told (seat_of c.world q) (λ s. crash_as c q s.life) (goal-same c i conf number-told) (λ s e. crash-goal c i conf number-told q s.life)
+      (λ r disk node. takes-knowing r (TransitionalIn (regular_in (phase_of g q)) set ∷ deliveries_at (home g q) places) (first-of c i conf number-told q r disk node) (tt, inside-places c i conf number-told (home g q) places))
+  inside-step (Asks q kind) may rest other = lives-turning c i conf number-told c q (take_request kind) refl (λ r disk node. asks-knowing r kind)
+  inside-step (Settles q) may rest other = lives-turning c i conf number-told c q settle refl (λ r disk node. settles-knowing r)
+  inside-step (Commits q) may rest other = goal-some c i conf number-told (node_of c.world q) (λ s. commit_as c q s.life) (goal-same c i conf number-told) (λ s e. commit-goal c i conf number-told q s e s.life refl)
+  inside-step (Crashes q) may rest other = goal-some c i conf number-told (node_of c.world q) (λ s. crash_as c q s.life) (goal-same c i conf number-told) (λ s e. crash-goal c i conf number-told q s.life)
   inside-step (Copies q joiner) may rest other = goal-some c i conf number-told (replica_of c.world q) (copy_as c q joiner) (goal-same c i conf number-told)
       (λ r e inside q' r' e' is. lives-same c i conf number-told (copy_as c q joiner r) q' r' refl (inside q') e' is)
-  inside-step (Recovers q) may rest other = goal-some c i conf number-told (seat_of c.world q) (λ s. recover_as c s.life) (goal-same c i conf number-told) (λ s e. recovered-goal s e s.life refl) where
-    recovered-goal : (s : Seat) → seat_of c.world q ≡ Some s → (l : Life) → s.life ≡ l → Goal c i conf number-told (recover_as c l)
+  inside-step (Recovers q) may rest other = goal-some c i conf number-told (node_of c.world q) (λ s. recover_as c s.life) (goal-same c i conf number-told) (λ s e. recovered-goal s e s.life refl) where
+    recovered-goal : (s : Node) → node_of c.world q ≡ Some s → (l : NodeState) → s.life ≡ l → Goal c i conf number-told (recover_as c l)
     recovered-goal s e (Up r disk) life = goal-same c i conf number-told
     recovered-goal s e (Down disk green) life = λ inside.
-        let seat = seat-of c q s (Down disk green) life e in
-        let own : disk.content.id ≡ q = subst (λ (o : Option Held). IfSome o (λ h. h.id ≡ q)) (ap (λ (o : Option Seat). option_map (λ s. on_disk s.life) o) seat) (i.net.seated.disk q) in
-        let new : Life = Up (recovered disk) (disk_recovered disk) in
+        let node = node-of c q s (Down disk green) life e in
+        let own : disk.content.id ≡ q = subst (λ (o : Option Held). IfSome o (λ h. h.id ≡ q)) (ap (λ (o : Option Node). option_map (λ s. on_disk s.life) o) node) (i.net.hosted.disk q) in
+        let new : NodeState = Up (recovered disk) (disk_recovered disk) in
         alone-goal c conf (recover_as c (Down disk green)) q new
-        (λ x. seat_of-set c.world (recovered disk).held.id new x ∙ ap (λ n. cond (n == x) (Some (record { id = n; life = new })) (seat_of c.world x)) (recovered-id disk.content ∙ own))
+        (λ x. node_of-set c.world (recovered disk).held.id new x ∙ ap (λ n. cond (n == x) (Some (record { id = n; life = new })) (node_of c.world x)) (recovered-id disk.content ∙ own))
         (out-up c conf (recovered disk).held.id q (recovered-id disk.content ∙ own)) inside
   inside-step (Joins joiner) may rest other = goal-some c i conf number-told (snapshot_of c.world joiner) (λ s. join_with c joiner s.content) (goal-same c i conf number-told)
-      (λ s e inside. (let r = joined joiner s.content in let new : Life = Up r (new_disk r.held) in
-      alone-goal c conf (join_with c joiner s.content) joiner new (λ q. seat_of-set (without_snapshot c.world joiner) joiner new q) (out-up c conf joiner joiner refl) inside))
+      (λ s e inside. (let r = joiner_replica joiner s.content in let new : NodeState = Up r (new_disk r.held) in
+      alone-goal c conf (join_with c joiner s.content) joiner new (λ q. node_of-set (without_snapshot c.world joiner) joiner new q) (out-up c conf joiner joiner refl) inside))
 
   inside-phases : (s : Small) → may_make c s ≡ true → IsUntold s → (q : ℕ) → is_in (small_step c s) conf q ≡ true → is_in c conf q ≡ true
   unfolding small_step may_make
   inside-phases (Enters x) m other = absurd other
   inside-phases (Starts set) m other =
-      let before = nothing-before c i.net.seated (and_parts (is_nil c.world.seats) (is_set (ids set)) m).0 in
+      let before = nothing-before c i.net.hosted (and_parts (is_nil c.world.nodes) (is_set (ids set)) m).0 in
       absurd (let clash : None ≡ Some t = sym (ap (λ (x : Chronicle). told_in x conf p) before) ∙ told in cc)
   inside-phases (Makes set) m other = λ q is. in-same c i conf number-told (small_step c (Makes set)) q (phase-made c (small_step c (Makes set)) set refl (λ q. refl) q) is
   inside-phases (Orders x) m other = λ q is.
@@ -136,7 +136,7 @@ module _ (c : Chronicle) (i : Invariant c) (conf p : ℕ) (t : Told) (told : tol
   inside-phases (Crashes x) m other = in-one c i conf number-told _ x DownPhase 0 false (crashes-step c x m) (λ e. never e)
   inside-phases (Recovers x) m other =
       let parts = and_parts (has_begun c.world x) (not (is_running c x)) m in
-      in-one c i conf number-told _ x Alone 0 true (recovers-step c x i.net.seated parts.0 (not-true (is_running c x) parts.1)) (λ e. never e)
+      in-one c i conf number-told _ x Alone 0 true (recovers-step c x i.net.hosted parts.0 (not-true (is_running c x) parts.1)) (λ e. never e)
   inside-phases (Copies x joiner) m other = in-one c i conf number-told _ x _ _ _ (copies-step c x joiner i.net.phase_sound) (λ e. e)
   inside-phases (Joins joiner) m other = in-one c i conf number-told _ joiner Alone 0 true (joins-step c joiner (may-join c joiner m)) (λ e. never e)
 
@@ -149,10 +149,10 @@ module _ (c : Chronicle) (i : Invariant c) (conf p : ℕ) (t : Told) (told : tol
         let at : newest_conf c.world.group ≡ conf = eqb-true (newest_conf c.world.group) conf (sym (ap (is_at conf) phase) ∙ is) in
         absurd (let clash : true ≡ false = sym (sym (ap is_none (ap₂ (told_in c) at (sym same) ∙ told)) ∙ now.may.untold) in cc)
     | inr apart ↦
-        let seat : seat_of (small_step c (Enters q)).world p ≡ seat_of c.world p =
-        ap (λ (x : Chronicle). seat_of x.world p) (enters-is c q now) ∙ seat_of-set c.world q (Up (entry_turn c now.replica).replica now.disk) p
-        ∙ cond-false (q == p) (Some (record { id = q; life = Up (entry_turn c now.replica).replica now.disk })) (seat_of c.world p) (ne_eqb q p (λ x. apart (sym x))) in
-        lives-same c i conf number-told (small_step c (Enters q)) p r (ap (λ (o : Option Seat). option_and_then (λ s. running s.life) o) seat)
+        let node : node_of (small_step c (Enters q)).world p ≡ node_of c.world p =
+        ap (λ (x : Chronicle). node_of x.world p) (enters-is c q now) ∙ node_of-set c.world q (Up (entry_turn c now.replica).replica now.disk) p
+        ∙ cond-false (q == p) (Some (record { id = q; life = Up (entry_turn c now.replica).replica now.disk })) (node_of c.world p) (ne_eqb q p (λ x. apart (sym x))) in
+        lives-same c i conf number-told (small_step c (Enters q)) p r (ap (λ (o : Option Node). option_and_then (λ s. running s.life) o) node)
         (λ x. sym (ap (is_at conf) (step.stands.phase p ∙ cond-false (p == q) (Regular (newest_conf c.world.group)) (phase_of c.world.group p) (ne_eqb p q apart))) ∙ x) e is
   ] where
     step : OneStep c (small_step c (Enters q)) q (Regular (newest_conf c.world.group)) 0 true
@@ -190,12 +190,12 @@ module _ (c : Chronicle) (i : Invariant c) (conf p : ℕ) (t : Told) (told : tol
 
   outdone-still : (s : Small) → may_make c s ≡ true → AtRest c s → JoinersBooked c → (h : Held) → core_of (small_step c s) p ≡ Some h → IsOutdone (small_step c s) t h
   outdone-still s may rest joiners h e = at ((cores-move c s i may rest).move p h e) where
-    seatless : (o : Option Seat) → option_map (λ s. held_in s.life) o ≡ None → is_some o ≡ false
-    seatless None n = refl
-    seatless (Some x) n = absurd (let clash : Some (held_in x.life) ≡ None = n in cc)
+    nodeless : (o : Option Node) → option_map (λ s. held_in s.life) o ≡ None → is_some o ≡ false
+    nodeless None n = refl
+    nodeless (Some x) n = absurd (let clash : Some (held_in x.life) ≡ None = n in cc)
 
     at : CoreMove c p h → IsOutdone (small_step c s) t h
-    at (Begins none) = absurd (let clash : true ≡ false = sym begun-told ∙ seatless (seat_of c.world p) none in cc)
+    at (Begins none) = absurd (let clash : true ≡ false = sym begun-told ∙ nodeless (node_of c.world p) none in cc)
     at (Was old found index) =
         let is = subst (λ (o : Option Held). IfSome o (IsOutdone c t)) found
         (subst (λ (o : Option Told). IfSome o (λ t. IfSome (core_of c p) (IsOutdone c t))) told (i.exchange.summary_of_sender.outdone conf p)) in
@@ -237,14 +237,14 @@ module _ (c : Chronicle) (i : Invariant c) (p : ℕ) (may : may_make c (Enters p
     created = (let e = created-is in omega arith);
   }) where
     core : core_of d p ≡ Some u.held
-    core = of_seat (seat_of d.world p) up where
-      of_life : (l : Life) → running l ≡ Some u → held_in l ≡ u.held
+    core = of_node (node_of d.world p) up where
+      of_life : (l : NodeState) → running l ≡ Some u → held_in l ≡ u.held
       of_life (Up r disk) e = ap (λ (o : Option Replica). option_map_or (λ r. r.held) o r.held) e
       of_life (Down disk green) e = absurd (let clash : None ≡ Some u = e in cc)
 
-      of_seat : (o : Option Seat) → option_and_then (λ s. running s.life) o ≡ Some u → option_map (λ s. held_in s.life) o ≡ Some u.held
-      of_seat None e = absurd (let clash : None ≡ Some u = e in cc)
-      of_seat (Some s) e = ap Some (of_life s.life e)
+      of_node : (o : Option Node) → option_and_then (λ s. running s.life) o ≡ Some u → option_map (λ s. held_in s.life) o ≡ Some u.held
+      of_node None e = absurd (let clash : None ≡ Some u = e in cc)
+      of_node (Some s) e = ap Some (of_life s.life e)
 
   entry-inside : IfSome (replica_of d.world p) (KnowsAsMuch (entry_told c p now.replica))
   unfolding summary_of

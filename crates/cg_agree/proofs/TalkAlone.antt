@@ -13,20 +13,20 @@ use Rattle.cg_group.specs.LookupLaws.{standing_of-set, standing_of-down, eqb_com
 use Rattle.cg_client.specs.Replica.{NonPrim, Replica, fresh}
 use Rattle.cg_client.specs.Turn.{begin}
 use Rattle.cg_commit.specs.Crash.{Disk, new_disk, at_rest, recovered, disk_recovered}
-use Rattle.cg_stored.specs.Stored.{recover}
-use Rattle.cg_model.specs.World.{Life, Up, Down as DownLife, Seat, Snapshot, World, running, seat_of, has_begun, replica_of, set_life}
-use Rattle.cg_model.specs.Step.{begin_replica, joined}
+use Rattle.cg_disk_records.specs.Stored.{recovery_turn}
+use Rattle.cg_model.specs.World.{NodeState, Up, Down as DownLife, Node, TransferState, World, running, node_of, has_begun, replica_of, set_life}
+use Rattle.cg_model.specs.Step.{begin_replica, joiner_replica}
 use Rattle.cg_model.specs.Chronicle.{Chronicle}
-use Rattle.cg_model.specs.FactsNet.{Seated}
+use Rattle.cg_model.specs.FactsNet.{Hosted}
 use Rattle.cg_model.specs.FactsTalk.{IsStateIn, TalkFacts}
 use Rattle.cg_model.specs.Small.{Starts, Crashes, Recovers, Copies, Joins, start, small_step, crash_as, recover_as, copy_as, join_with}
 use Rattle.cg_model.specs.Smalls.{is_running}
-use Rattle.cg_agree_lemmas.specs.ChronicleFacts.{seat_of-set}
+use Rattle.cg_agree_lemmas.specs.ChronicleFacts.{node_of-set}
 use Rattle.cg_agree_lemmas.specs.EntersTurn.{own-state}
 use Rattle.cg_agree_lemmas.specs.GroupKept.{in_world}
 use Rattle.cg_agree_lemmas.specs.NumbersSame.{IsNumberedAs, numbered-itself}
 use Rattle.cg_agree_lemmas.specs.OneStands.{Stands, stands-up, stands-down}
-use Rattle.cg_agree_lemmas.specs.OneSteps.{MayJoin, seat-there, running-begun}
+use Rattle.cg_agree_lemmas.specs.OneSteps.{MayJoin, node-there, running-begun}
 use Rattle.cg_agree_lemmas.specs.TalkApart.{Apart, talk-apart}
 use Rattle.cg_agree_lemmas.specs.TalkFrame.{IsShownAs}
 use Rattle.cg_agree_lemmas.specs.TalkSame.{talk-same}
@@ -43,15 +43,15 @@ up-standing : (g : GroupState Msg) (p q : ℕ) → standing_of (come_up g p) q �
 unfolding come_up
 up-standing g p q = standing_of-set g (record { id = p; phase = Alone; delivered = 0; unordered = [] }) q
 
-pub replica-set : (w : World) (p : ℕ) (life : Life) (q : ℕ) → replica_of (set_life w p life) q ≡ cond (q == p) (running life) (replica_of w q)
+pub replica-set : (w : World) (p : ℕ) (life : NodeState) (q : ℕ) → replica_of (set_life w p life) q ≡ cond (q == p) (running life) (replica_of w q)
 replica-set w p life q =
-    ap (λ (o : Option Seat). option_and_then (λ s. running s.life) o) (seat_of-set w p life q)
-    ∙ at-cond (λ (o : Option Seat). option_and_then (λ s. running s.life) o) (p == q) (Some (record { id = p; life = life })) (seat_of w q)
+    ap (λ (o : Option Node). option_and_then (λ s. running s.life) o) (node_of-set w p life q)
+    ∙ at-cond (λ (o : Option Node). option_and_then (λ s. running s.life) o) (p == q) (Some (record { id = p; life = life })) (node_of w q)
     ∙ ap (λ b. cond b (running life) (replica_of w q)) (eqb_comm p q)
 
 -- a replica is up with this life, alone
-apart-up : (c d : Chronicle) (p : ℕ) (life : Life) → d.world.group ≡ come_up c.world.group p → ((q : ℕ) → replica_of d.world q ≡ replica_of (set_life c.world p life) q) → d.told ≡ c.told → Apart c d p Alone
-apart-up c d p life group seats told =
+apart-up : (c d : Chronicle) (p : ℕ) (life : NodeState) → d.world.group ≡ come_up c.world.group p → ((q : ℕ) → replica_of d.world q ≡ replica_of (set_life c.world p life) q) → d.told ≡ c.told → Apart c d p Alone
+apart-up c d p life group nodes told =
     let up = subst (λ h. Stands c.world.group h p Alone 0 true) (sym group) (stands-up c.world.group p) in
     let stand : (q : ℕ) → standing_of d.world.group q ≡ cond (q == p) (Some (record { id = p; phase = Alone; delivered = 0; unordered = [] })) (standing_of c.world.group q) =
     λ q. ap (λ g. standing_of g q) group ∙ up-standing c.world.group p q in
@@ -62,11 +62,11 @@ apart-up c d p life group seats told =
       delivered = λ q other. up.delivered q ∙ cond-false (q == p) 0 (delivered_to c.world.group q) other;
       waits = other-standing (λ o. option_map_or (λ s. s.unordered) o []) c.world.group d.world.group p (Some (record { id = p; phase = Alone; delivered = 0; unordered = [] })) stand;
       told = told_in-same c d told;
-      replica = λ q other. seats q ∙ replica-set c.world p life q ∙ cond-false (q == p) (running life) (replica_of c.world q) other;
+      replica = λ q other. nodes q ∙ replica-set c.world p life q ∙ cond-false (q == p) (running life) (replica_of c.world q) other;
     }
 
-apart-down : (c d : Chronicle) (p : ℕ) (life : Life) → d.world.group ≡ go_down c.world.group p → ((q : ℕ) → replica_of d.world q ≡ replica_of (set_life c.world p life) q) → d.told ≡ c.told → Apart c d p Down
-apart-down c d p life group seats told =
+apart-down : (c d : Chronicle) (p : ℕ) (life : NodeState) → d.world.group ≡ go_down c.world.group p → ((q : ℕ) → replica_of d.world q ≡ replica_of (set_life c.world p life) q) → d.told ≡ c.told → Apart c d p Down
+apart-down c d p life group nodes told =
     let down = subst (λ h. Stands c.world.group h p Down 0 false) (sym group) (stands-down c.world.group p) in
     let stand : (q : ℕ) → standing_of d.world.group q ≡ cond (q == p) None (standing_of c.world.group q) =
     λ q. ap (λ g. standing_of g q) group ∙ standing_of-down c.world.group p q in
@@ -77,16 +77,16 @@ apart-down c d p life group seats told =
       delivered = λ q other. down.delivered q ∙ cond-false (q == p) 0 (delivered_to c.world.group q) other;
       waits = other-standing (λ o. option_map_or (λ s. s.unordered) o []) c.world.group d.world.group p None stand;
       told = told_in-same c d told;
-      replica = λ q other. seats q ∙ replica-set c.world p life q ∙ cond-false (q == p) (running life) (replica_of c.world q) other;
+      replica = λ q other. nodes q ∙ replica-set c.world p life q ∙ cond-false (q == p) (running life) (replica_of c.world q) other;
     }
 
 -- the replica itself
-own-replica : (w : World) (p : ℕ) (life : Life) → replica_of (set_life w p life) p ≡ running life
+own-replica : (w : World) (p : ℕ) (life : NodeState) → replica_of (set_life w p life) p ≡ running life
 own-replica w p life = replica-set w p life p ∙ cond-true (p == p) (running life) (replica_of w p) (eq-eqb p p refl)
 
 -- ---- a crash
 
-crash-life : (c : Chronicle) (p : ℕ) (s : Seat) (l : Life) → s.life ≡ l → is_some (running s.life) ≡ true → TalkFacts c → TalkFacts (crash_as c p l)
+crash-life : (c : Chronicle) (p : ℕ) (s : Node) (l : NodeState) → s.life ≡ l → is_some (running s.life) ≡ true → TalkFacts c → TalkFacts (crash_as c p l)
 crash-life c p s (DownLife disk green) is runs old = old
 crash-life c p s (Up r disk) is runs old =
     let d = crash_as c p (Up r disk) in
@@ -96,31 +96,31 @@ crash-life c p s (Up r disk) is runs old =
 pub talk-crashes : (c : Chronicle) (p : ℕ) → is_running c p ≡ true → TalkFacts c → TalkFacts (small_step c (Crashes p))
 unfolding small_step
 talk-crashes c p up old =
-    let seated = seat-there c p (running-begun c p up) in
-    subst (λ (o : Option Seat). TalkFacts (option_map_or (λ s. crash_as c p s.life) o c)) (sym seated.there)
-    (crash-life c p seated.seat seated.seat.life refl (sym (ap (λ (o : Option Seat). is_some (option_and_then (λ s. running s.life) o)) seated.there) ∙ up) old)
+    let hosted = node-there c p (running-begun c p up) in
+    subst (λ (o : Option Node). TalkFacts (option_map_or (λ s. crash_as c p s.life) o c)) (sym hosted.there)
+    (crash-life c p hosted.node hosted.node.life refl (sym (ap (λ (o : Option Node). is_some (option_and_then (λ s. running s.life) o)) hosted.there) ∙ up) old)
 
 -- ---- a recovery
 
 pub recovered-state : (disk : Disk) → (recovered disk).state ≡ NonPrim false
-unfolding recover
+unfolding recovery_turn
 recovered-state disk = own-state (begin (record { held = disk.content; state = NonPrim false }))
 
-recover-life : (c : Chronicle) (p : ℕ) (s : Seat) (l : Life) → s.life ≡ l → seat_of c.world p ≡ Some s → Seated c → TalkFacts c → TalkFacts (recover_as c l)
-recover-life c p s (Up r disk) is e seats old = old
-recover-life c p s (DownLife disk green) is e seats old =
+recover-life : (c : Chronicle) (p : ℕ) (s : Node) (l : NodeState) → s.life ≡ l → node_of c.world p ≡ Some s → Hosted c → TalkFacts c → TalkFacts (recover_as c l)
+recover-life c p s (Up r disk) is e nodes old = old
+recover-life c p s (DownLife disk green) is e nodes old =
     let d = recover_as c (DownLife disk green) in
     let me = (recovered disk).held.id in
-    let life : Life = Up (recovered disk) (disk_recovered disk) in
+    let life : NodeState = Up (recovered disk) (disk_recovered disk) in
     talk-apart c d me Alone (apart-up c d me life refl (λ q. refl) refl)
     (subst (λ o. IfSome o (IsStateIn d me Alone)) (sym (own-replica c.world me life)) (recovered-state disk)) old
 
-pub talk-recovers : (c : Chronicle) (p : ℕ) → Seated c → has_begun c.world p ≡ true → TalkFacts c → TalkFacts (small_step c (Recovers p))
+pub talk-recovers : (c : Chronicle) (p : ℕ) → Hosted c → has_begun c.world p ≡ true → TalkFacts c → TalkFacts (small_step c (Recovers p))
 unfolding small_step
-talk-recovers c p seats begun old =
-    let seated = seat-there c p begun in
-    subst (λ (o : Option Seat). TalkFacts (option_map_or (λ s. recover_as c s.life) o c)) (sym seated.there)
-    (recover-life c p seated.seat seated.seat.life refl seated.there seats old)
+talk-recovers c p nodes begun old =
+    let hosted = node-there c p begun in
+    subst (λ (o : Option Node). TalkFacts (option_map_or (λ s. recover_as c s.life) o c)) (sym hosted.there)
+    (recover-life c p hosted.node hosted.node.life refl hosted.there nodes old)
 
 -- ---- snapshots, and a joiner begins
 
@@ -151,10 +151,10 @@ talk-copies c p joiner old = at (replica_of c.world p) where
 pub talk-joins : (c : Chronicle) (joiner : ℕ) → MayJoin c joiner → TalkFacts c → TalkFacts (small_step c (Joins joiner))
 unfolding small_step
 talk-joins c joiner may old =
-    subst (λ (o : Option Snapshot). TalkFacts (option_map_or (λ s. join_with c joiner s.content) o c)) (sym may.there) (
-    let r = joined joiner may.snapshot.content in
+    subst (λ (o : Option TransferState). TalkFacts (option_map_or (λ s. join_with c joiner s.content) o c)) (sym may.there) (
+    let r = joiner_replica joiner may.snapshot.content in
     let d = join_with c joiner may.snapshot.content in
-    let life : Life = Up r (new_disk r.held) in
+    let life : NodeState = Up r (new_disk r.held) in
     talk-apart c d joiner Alone (apart-up c d joiner life refl (λ q. refl) refl)
     (subst (λ o. IfSome o (IsStateIn d joiner Alone)) (sym (own-replica c.world joiner life)) refl) old)
 
@@ -163,7 +163,7 @@ talk-joins c joiner may old =
 talk-begun : (c : Chronicle) (set : List Weighted) (replicas : List ℕ) (w : World) → TalkFacts (in_world c w) → TalkFacts (in_world c (fold (begin_replica set) w replicas))
 talk-begun c set [] w old = old
 talk-begun c set (p ∷ replicas) w old =
-    let life : Life = Up (fresh p set) (new_disk (fresh p set).held) in
+    let life : NodeState = Up (fresh p set) (new_disk (fresh p set).held) in
     talk-begun c set replicas (begin_replica set w p)
     (talk-apart (in_world c w) (in_world c (begin_replica set w p)) p Alone (apart-up (in_world c w) (in_world c (begin_replica set w p)) p life refl (λ q. refl) refl)
     (subst (λ o. IfSome o (IsStateIn (in_world c (begin_replica set w p)) p Alone)) (sym (own-replica w p life)) refl) old)

@@ -21,7 +21,7 @@ use Rattle.cg_model.specs.FactsReplica.{IsModeData}
 use Rattle.cg_model.specs.FactsTalk.{TalkFacts}
 use Rattle.cg_model.specs.Small.{Enters, small_step, coming, newest_conf, after_turn}
 use Rattle.cg_model.specs.Smalls.{may_make, is_between}
-use Rattle.cg_agree_lemmas.specs.EntersTurn.{Told as ToldIn, told-newest}
+use Rattle.cg_agree_lemmas.specs.EntersTurn.{TellsItsSummary as ToldIn, told-newest}
 use Rattle.cg_agree_lemmas.specs.GroupTurn.{Moved, moved-sent}
 use Rattle.cg_agree_lemmas.specs.OneStands.{Stands, stands-entered}
 use Rattle.cg_agree.proofs.PastKept.{EntersNow, enters-now, entry_turn, entry_told, enters-is, told_in-enters, summary-conf, summary-id}

@@ -32,7 +32,7 @@ talk-kept c (Asks p kind) i m = talk-asks c p kind i.net.phase_sound i.replica.m
 talk-kept c (Settles p) i m = talk-settles c p i.net.phase_sound i.replica.mode_data i.replica.cores i.talk
 talk-kept c (Commits p) i m = talk-commits c p i.talk
 talk-kept c (Crashes p) i m = talk-crashes c p m i.talk
-talk-kept c (Recovers p) i m = talk-recovers c p i.net.seated (and_parts (has_begun c.world p) (not (is_running c p)) m).0 i.talk
+talk-kept c (Recovers p) i m = talk-recovers c p i.net.hosted (and_parts (has_begun c.world p) (not (is_running c p)) m).0 i.talk
 talk-kept c (Copies p joiner) i m = talk-copies c p joiner i.talk
 talk-kept c (Joins joiner) i m = talk-joins c joiner (may-join c joiner m) i.talk
 

@@ -12,8 +12,8 @@ use Rattle.cg_group.specs.LookupLaws.{unordered_of-set}
 use Rattle.cg_client.specs.Replica.{Held, Replica}
 use Rattle.cg_client.specs.Turn.{Turn, begin}
 use Rattle.cg_commit.specs.Crash.{Disk}
-use Rattle.cg_stored.specs.Stored.{stored_of, whiten}
-use Rattle.cg_model.specs.World.{Life, Up, Down as DownLife, Seat, seat_of, replica_of, running, set_life}
+use Rattle.cg_disk_records.specs.Stored.{stored_of, whiten}
+use Rattle.cg_model.specs.World.{NodeState, Up, Down as DownLife, Node, node_of, replica_of, running, set_life}
 use Rattle.cg_model.specs.Chronicle.{Chronicle}
 use Rattle.cg_model.specs.FactsNet.{PhaseSound}
 use Rattle.cg_model.specs.FactsTalk.{IsStateIn, TalkFacts}
@@ -47,11 +47,11 @@ whitened-numbers : (h : Held) → SameNumbers h (whiten h)
 unfolding whiten
 whitened-numbers h = record { green = refl; red = refl; reds = refl; own = refl }
 
-commit-numbers : (c : Chronicle) (p : ℕ) (r new : Replica) (disk disk' : Disk) → seat_of c.world p ≡ Some (record { id = p; life = Up r disk }) → new.state ≡ r.state → SameNumbers r.held new.held →
+commit-numbers : (c : Chronicle) (p : ℕ) (r new : Replica) (disk disk' : Disk) → node_of c.world p ≡ Some (record { id = p; life = Up r disk }) → new.state ≡ r.state → SameNumbers r.held new.held →
     (q : ℕ) → IsNumberedAs (replica_of c.world q) (replica_of (set_life c.world p (Up new disk')) q)
-commit-numbers c p r new disk disk' seat state numbers q = ⊎_elim
+commit-numbers c p r new disk disk' node state numbers q = ⊎_elim
     (λ is.
-    let before : replica_of c.world q ≡ Some r = ap (replica_of c.world) (eqb-true q p is) ∙ ap (option_and_then (λ (x : Seat). running x.life)) seat in
+    let before : replica_of c.world q ≡ Some r = ap (replica_of c.world) (eqb-true q p is) ∙ ap (option_and_then (λ (x : Node). running x.life)) node in
     let after : replica_of (set_life c.world p (Up new disk')) q ≡ Some new = replica-set c.world p (Up new disk') q ∙ cond-true (q == p) (Some new) (replica_of c.world q) is in
     subst (λ (o : Option Replica). IsNumberedAs o (replica_of (set_life c.world p (Up new disk')) q)) (sym before) (subst (λ (o : Option Replica). IsNumberedAs (Some r) o) (sym after) (state, numbers)))
     (λ isnt. subst (λ (o : Option Replica). IsNumberedAs (replica_of c.world q) o) (sym (replica-set c.world p (Up new disk') q ∙ cond-false (q == p) (Some new) (replica_of c.world q) isnt)) (numbered-itself (replica_of c.world q)))
@@ -59,17 +59,17 @@ commit-numbers c p r new disk disk' seat state numbers q = ⊎_elim
 
 pub talk-commits : (c : Chronicle) (p : ℕ) → TalkFacts c → TalkFacts (small_step c (Commits p))
 unfolding small_step
-talk-commits c p old = at (seat_of c.world p) refl where
-  life : (s : Seat) (life : Life) → s.life ≡ life → s.id ≡ p → seat_of c.world p ≡ Some s → TalkFacts (commit_as c p life)
+talk-commits c p old = at (node_of c.world p) refl where
+  life : (s : Node) (life : NodeState) → s.life ≡ life → s.id ≡ p → node_of c.world p ≡ Some s → TalkFacts (commit_as c p life)
   life s (Up r disk) is id e =
-      let seat = e ∙ ap₂ (λ i l. Some (record { id = i; life = l })) id is in
-      talk-same c (commit_as c p (Up r disk)) (commit-same c p r disk seat)
-      (commit-numbers c p r (record r { held = whiten r.held }) disk (record disk { content = stored_of (whiten r.held) }) seat refl (whitened-numbers r.held)) old
+      let node = e ∙ ap₂ (λ i l. Some (record { id = i; life = l })) id is in
+      talk-same c (commit_as c p (Up r disk)) (commit-same c p r disk node)
+      (commit-numbers c p r (record r { held = whiten r.held }) disk (record disk { content = stored_of (whiten r.held) }) node refl (whitened-numbers r.held)) old
   life s (DownLife disk green) is id e = old
 
-  at : (o : Option Seat) → seat_of c.world p ≡ o → TalkFacts (option_map_or (λ s. commit_as c p s.life) o c)
+  at : (o : Option Node) → node_of c.world p ≡ o → TalkFacts (option_map_or (λ s. commit_as c p s.life) o c)
   at None e = old
-  at (Some s) e = life s s.life refl (eqb-true s.id p (find-holds (λ (s : Seat). s.id == p) c.world.seats s e)) e
+  at (Some s) e = life s s.life refl (eqb-true s.id p (find-holds (λ (s : Node). s.id == p) c.world.nodes s e)) e
 
 -- ---- a parting
 
@@ -88,22 +88,22 @@ waits-sent p [] g q other = refl
 waits-sent p (m ∷ ms) g q other = waits-sent p ms (send_from g (standing_of g p) m) q other ∙ waits-send_from g p (standing_of g p) m refl q other
 
 pub waits-turning : (c : Chronicle) (p : ℕ) (part : Turn → Turn) (q : ℕ) → (q == p) ≡ false → unordered_of (turning c p part).world.group q ≡ unordered_of c.world.group q
-waits-turning c p part q other = at (seat_of c.world p) where
-  life : (l : Life) → unordered_of (turning_as c p part l).world.group q ≡ unordered_of c.world.group q
+waits-turning c p part q other = at (node_of c.world p) where
+  life : (l : NodeState) → unordered_of (turning_as c p part l).world.group q ≡ unordered_of c.world.group q
   life (Up r disk) = waits-sent p (part (begin r)).sent c.world.group q other
   life (DownLife disk green) = refl
 
-  at : (o : Option Seat) → unordered_of (option_map_or (λ s. turning_as c p part s.life) o c).world.group q ≡ unordered_of c.world.group q
+  at : (o : Option Node) → unordered_of (option_map_or (λ s. turning_as c p part s.life) o c).world.group q ≡ unordered_of c.world.group q
   at None = refl
   at (Some s) = life s.life
 
 pub replica-turning : (c : Chronicle) (p : ℕ) (part : Turn → Turn) (q : ℕ) → (q == p) ≡ false → replica_of (turning c p part).world q ≡ replica_of c.world q
-replica-turning c p part q other = at (seat_of c.world p) where
-  life : (l : Life) → replica_of (turning_as c p part l).world q ≡ replica_of c.world q
+replica-turning c p part q other = at (node_of c.world p) where
+  life : (l : NodeState) → replica_of (turning_as c p part l).world q ≡ replica_of c.world q
   life (Up r disk) = replica-set c.world p (Up (part (begin r)).replica disk) q ∙ cond-false (q == p) (Some (part (begin r)).replica) (replica_of c.world q) other
   life (DownLife disk green) = refl
 
-  at : (o : Option Seat) → replica_of (option_map_or (λ s. turning_as c p part s.life) o c).world q ≡ replica_of c.world q
+  at : (o : Option Node) → replica_of (option_map_or (λ s. turning_as c p part s.life) o c).world q ≡ replica_of c.world q
   at None = refl
   at (Some s) = life s.life
 

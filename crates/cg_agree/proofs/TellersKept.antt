@@ -14,7 +14,7 @@ use Rattle.cg_group.specs.GrownLaws.{ordered-message, ordered-receipt}
 use Rattle.cg_client.specs.Replica.{Replica}
 use Rattle.cg_client.specs.Turn.{begin}
 use Rattle.cg_commit.specs.Crash.{Disk}
-use Rattle.cg_model.specs.World.{Up, Seat, running, seat_of, has_begun}
+use Rattle.cg_model.specs.World.{Up, Node, running, node_of, has_begun}
 use Rattle.cg_model.specs.Chronicle.{Told, Chronicle}
 use Rattle.cg_model.specs.Looks.{greens_of, told_in, conf_of, ordered_in}
 use Rattle.cg_model.specs.FactsExchange.{TellersStill}
@@ -80,7 +80,7 @@ module _ (c : Chronicle) (i : Invariant c) (conf : ℕ) where
   unsaid-before (Crashes p) m = back-same (small_step c (Crashes p)) ((crashes-step c p m).stands.conf conf)
   unsaid-before (Recovers p) m =
       let parts = and_parts (has_begun c.world p) (not (is_running c p)) m in
-      back-same (small_step c (Recovers p)) ((recovers-step c p i.net.seated parts.0 (not-true (is_running c p) parts.1)).stands.conf conf)
+      back-same (small_step c (Recovers p)) ((recovers-step c p i.net.hosted parts.0 (not-true (is_running c p) parts.1)).stands.conf conf)
   unsaid-before (Copies p joiner) m = back-same (small_step c (Copies p joiner)) ((copies-step c p joiner i.net.phase_sound).stands.conf conf)
   unsaid-before (Joins joiner) m = back-same (small_step c (Joins joiner)) ((joins-step c joiner (may-join c joiner m)).stands.conf conf)
 
@@ -88,14 +88,14 @@ module _ (c : Chronicle) (i : Invariant c) (conf : ℕ) where
 
 entered-greens : (c : Chronicle) (i : Invariant c) (q : ℕ) (now : EntersNow c q) (p : ℕ) → greens_of (small_step c (Enters q)) p ≡ greens_of c p
 unfolding small_step
-entered-greens c i q now p = turn-same c (coming c q) q (take_newest c.world.group) i refl refl (λ r disk seat. none r disk seat) p where
-  same-replica : (r : Replica) (disk : Disk) → seat_of c.world q ≡ Some (record { id = q; life = Up r disk }) → now.replica ≡ r
-  same-replica r disk seat = ap (λ (o : Option Seat). option_map_or (λ r. r) (option_and_then (λ s. running s.life) o) r) (sym now.seat ∙ seat)
+entered-greens c i q now p = turn-same c (coming c q) q (take_newest c.world.group) i refl refl (λ r disk node. none r disk node) p where
+  same-replica : (r : Replica) (disk : Disk) → node_of c.world q ≡ Some (record { id = q; life = Up r disk }) → now.replica ≡ r
+  same-replica r disk node = ap (λ (o : Option Node). option_map_or (λ r. r) (option_and_then (λ s. running s.life) o) r) (sym now.node ∙ node)
 
-  none : (r : Replica) (disk : Disk) → seat_of c.world q ≡ Some (record { id = q; life = Up r disk }) → newly_green r (take_newest c.world.group (begin r)).replica ≡ []
-  none r disk seat =
+  none : (r : Replica) (disk : Disk) → node_of c.world q ≡ Some (record { id = q; life = Up r disk }) → newly_green r (take_newest c.world.group (begin r)).replica ≡ []
+  none r disk node =
       nothing-new r (take_newest c.world.group (begin r)).replica
-      (entry-greens c.world.group r (subst (λ (x : Replica). is_between x.state ≡ true) (same-replica r disk seat) now.between))
+      (entry-greens c.world.group r (subst (λ (x : Replica). is_between x.state ≡ true) (same-replica r disk node) now.between))
 
 still-later : (c : Chronicle) (s : Small) → Invariant c → may_make c s ≡ true → AtRest c s → IsUntold s → TellersStill c → TellersStill (small_step c s)
 still-later c s i may rest untold old conf p t told none last =

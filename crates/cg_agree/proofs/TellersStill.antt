@@ -16,9 +16,9 @@ use Rattle.cg_group.specs.declared.phase.Phase.TheVariants.{Down as DownPhase, A
 use Rattle.cg_client.specs.Replica.{State, RegPrim, TransPrim, ExchangeStates, ExchangeActions, Construct, No, Un, NonPrim, Left, Replica}
 use Rattle.cg_client.specs.Turn.{Turn, begin}
 use Rattle.cg_client.specs.Requests.{is_creating, create_kept, empty_buffer, request_in, settle}
-use Rattle.cg_step.specs.Step.{on_transitional, take}
+use Rattle.cg_replica_step.specs.Step.{on_transitional, after_delivery}
 use Rattle.cg_commit.specs.Crash.{Disk}
-use Rattle.cg_model.specs.World.{Life, Up, Down, Seat, seat_of, replica_of, has_begun}
+use Rattle.cg_model.specs.World.{NodeState, Up, Down, Node, node_of, replica_of, has_begun}
 use Rattle.cg_model.specs.Chronicle.{Past, Told, Chronicle}
 use Rattle.cg_model.specs.Fronts.{IsSomeWith}
 use Rattle.cg_model.specs.Looks.{past_of, greens_of, told_in, ordered_in, is_at, is_regular_at, is_regular_in, snapshot_of, copied_for}
@@ -28,7 +28,7 @@ use Rattle.cg_model.specs.Played.{AtRest}
 use Rattle.cg_model.specs.Small.{Small, Starts, Makes, Enters, Orders, Receives, Hands, Leaves, Asks, Settles, Commits, Crashes, Recovers, Copies, Joins, small_step, new_past, turning, turning_as, after_turn, newly_green, handed_next, leaving, take_next, take_parting, take_request, commit_as, crash_as, recover_as, copy_as, join_with}
 use Rattle.cg_model.specs.Smalls.{may_make, is_set}
 use Rattle.cg_agree_lemmas.specs.ChronicleFacts.{greens_of-other, past-begun}
-use Rattle.cg_agree_lemmas.specs.CoresKept.{seat-of, greens-turn}
+use Rattle.cg_agree_lemmas.specs.CoresKept.{node-of, greens-turn}
 use Rattle.cg_agree.proofs.GreensFront.{commit-same, crash-same}
 use Rattle.cg_agree_lemmas.specs.GroupKept.{leaving-regular}
 use Rattle.cg_agree.proofs.BegunKept.{nothing-before}
@@ -44,27 +44,27 @@ use Rattle.cg_agree_lemmas.specs.GreenMembers.{creates-same}
 same-past : (c d : Chronicle) → d.pasts ≡ c.pasts → (q : ℕ) → greens_of d q ≡ greens_of c q
 same-past c d pasts q = ap (λ xs. option_map_or (λ (x : Past). x.greens) (find (λ (x : Past). x.id == q) xs) []) pasts
 
-pub turn-same : (c b : Chronicle) (p : ℕ) (part : Turn → Turn) → Invariant c → b.world.seats ≡ c.world.seats → b.pasts ≡ c.pasts →
-    ((r : Replica) (disk : Disk) → seat_of c.world p ≡ Some (record { id = p; life = Up r disk }) → newly_green r (part (begin r)).replica ≡ []) → (q : ℕ) → greens_of (turning b p part) q ≡ greens_of c q
-turn-same c b p part i seats pasts none q = at (seat_of b.world p) refl where
+pub turn-same : (c b : Chronicle) (p : ℕ) (part : Turn → Turn) → Invariant c → b.world.nodes ≡ c.world.nodes → b.pasts ≡ c.pasts →
+    ((r : Replica) (disk : Disk) → node_of c.world p ≡ Some (record { id = p; life = Up r disk }) → newly_green r (part (begin r)).replica ≡ []) → (q : ℕ) → greens_of (turning b p part) q ≡ greens_of c q
+turn-same c b p part i nodes pasts none q = at (node_of b.world p) refl where
   begun : (q : ℕ) → is_some (past_of b q) ≡ has_begun b.world q
-  begun q = ap (λ xs. is_some (find (λ (x : Past). x.id == q) xs)) pasts ∙ i.net.seated.past q ∙ ap (λ xs. is_some (find (λ (s : Seat). s.id == q) xs)) (sym seats)
+  begun q = ap (λ xs. is_some (find (λ (x : Past). x.id == q) xs)) pasts ∙ i.net.hosted.past q ∙ ap (λ xs. is_some (find (λ (s : Node). s.id == q) xs)) (sym nodes)
 
-  turn : (r : Replica) (disk : Disk) → seat_of b.world p ≡ Some (record { id = p; life = Up r disk }) → greens_of (after_turn b p r disk (part (begin r))) q ≡ greens_of c q
-  turn r disk seat =
+  turn : (r : Replica) (disk : Disk) → node_of b.world p ≡ Some (record { id = p; life = Up r disk }) → greens_of (after_turn b p r disk (part (begin r))) q ≡ greens_of c q
+  turn r disk node =
       let t = part (begin r) in
       let d = after_turn b p r disk t in
-      let here = ap (λ (list : List Seat). find (λ s. s.id == p) list) (sym seats) ∙ seat in
+      let here = ap (λ (list : List Node). find (λ s. s.id == p) list) (sym nodes) ∙ node in
       elim (cases_eq q p) [
-        | inl same ↦ ap (greens_of d) same ∙ greens-turn b p r disk t begun seat ∙ ap (λ xs. greens_of b p ++ xs) (none r disk here) ∙ append-nil (greens_of b p) ∙ same-past c b pasts p ∙ ap (greens_of c) (sym same)
+        | inl same ↦ ap (greens_of d) same ∙ greens-turn b p r disk t begun node ∙ ap (λ xs. greens_of b p ++ xs) (none r disk here) ∙ append-nil (greens_of b p) ∙ same-past c b pasts p ∙ ap (greens_of c) (sym same)
         | inr apart ↦ greens_of-other b p r disk t q apart ∙ same-past c b pasts q
       ]
 
-  life : (s : Seat) (l : Life) → s.life ≡ l → seat_of b.world p ≡ Some s → greens_of (turning_as b p part l) q ≡ greens_of c q
-  life s (Up r disk) is e = turn r disk (seat-of b p s (Up r disk) is e)
+  life : (s : Node) (l : NodeState) → s.life ≡ l → node_of b.world p ≡ Some s → greens_of (turning_as b p part l) q ≡ greens_of c q
+  life s (Up r disk) is e = turn r disk (node-of b p s (Up r disk) is e)
   life s (Down disk green) is e = same-past c b pasts q
 
-  at : (o : Option Seat) → seat_of b.world p ≡ o → greens_of (option_map_or (λ s. turning_as b p part s.life) o b) q ≡ greens_of c q
+  at : (o : Option Node) → node_of b.world p ≡ o → greens_of (option_map_or (λ s. turning_as b p part s.life) o b) q ≡ greens_of c q
   at None e = same-past c b pasts q
   at (Some s) e = life s s.life refl e
 
@@ -124,12 +124,12 @@ module _ (c : Chronicle) (i : Invariant c) (conf p : ℕ) (t : Told) (told : tol
   begun-here = i.net.members_begun.member conf p (i.net.past_left.member conf p (ap is_some told))
 
   other-turn : (b : Chronicle) (q : ℕ) (part : Turn → Turn) → b.pasts ≡ c.pasts → (p ≡ q → ⊥) → greens_of (turning b q part) p ≡ greens_of c p
-  other-turn b q part pasts apart = at (seat_of b.world q) where
-    life : (l : Life) → greens_of (turning_as b q part l) p ≡ greens_of c p
+  other-turn b q part pasts apart = at (node_of b.world q) where
+    life : (l : NodeState) → greens_of (turning_as b q part l) p ≡ greens_of c p
     life (Up r disk) = greens_of-other b q r disk (part (begin r)) p apart ∙ same-past c b pasts p
     life (Down disk green) = same-past c b pasts p
 
-    at : (o : Option Seat) → greens_of (option_map_or (λ s. turning_as b q part s.life) o b) p ≡ greens_of c p
+    at : (o : Option Node) → greens_of (option_map_or (λ s. turning_as b q part s.life) o b) p ≡ greens_of c p
     at None = same-past c b pasts p
     at (Some s) = life s.life
 
@@ -137,7 +137,7 @@ module _ (c : Chronicle) (i : Invariant c) (conf p : ℕ) (t : Told) (told : tol
   some-same None change each = refl
   some-same (Some x) change each = each x
 
-  recover-same : (l : Life) → greens_of (recover_as c l) p ≡ greens_of c p
+  recover-same : (l : NodeState) → greens_of (recover_as c l) p ≡ greens_of c p
   recover-same (Up r disk) = refl
   recover-same (Down disk green) = refl
 
@@ -169,7 +169,7 @@ module _ (c : Chronicle) (i : Invariant c) (conf p : ℕ) (t : Told) (told : tol
   up-of q regular = i.net.phase_sound.up q ∙ regular-is_up c.world.group q regular
 
   parted-none : (set : List ℕ) (own : ℕ) (places : List ℕ) → ordered_in c conf ≡ [] → is_regular c.world.group p ≡ true → (r : Replica) → newly_green r (take_parting c.world.group p set places (begin r)).replica ≡ []
-  unfolding take
+  unfolding after_delivery
   parted-none set own places none regular r =
       let g = c.world.group in
       let phase = regular-phase (phase_of g p) regular in
@@ -177,13 +177,13 @@ module _ (c : Chronicle) (i : Invariant c) (conf p : ℕ) (t : Told) (told : tol
       let empty : (home g p).ordered ≡ [] = ap (λ n. (configuration g n).ordered) (ap regular_in phase.is ∙ here) ∙ none in
       let list : deliveries_at (home g p) places ≡ [] = none-there (home g p) empty places in
       none-new r (take_parting g p set places (begin r))
-      (ap (λ xs. (fold take (begin r) (TransitionalIn (regular_in (phase_of g p)) set ∷ xs)).replica.held.queue.greens) list ∙ parted-greens r.state (begin r))
+      (ap (λ xs. (fold after_delivery (begin r) (TransitionalIn (regular_in (phase_of g p)) set ∷ xs)).replica.held.queue.greens) list ∙ parted-greens r.state (begin r))
 
   pub greens-stay : (s : Small) → may_make c s ≡ true → AtRest c s → IsUntold s → ordered_in c conf ≡ [] → greens_of (small_step c s) p ≡ greens_of c p
   unfolding small_step may_make
   greens-stay (Enters q) may rest untold none = absurd untold
   greens-stay (Starts set) may rest untold none =
-      let before = nothing-before c i.net.seated (and_parts (is_nil c.world.seats) (is_set (ids set)) may).0 in
+      let before = nothing-before c i.net.hosted (and_parts (is_nil c.world.nodes) (is_set (ids set)) may).0 in
       absurd (let clash : None ≡ Some t = sym (ap (λ (x : Chronicle). told_in x conf p) before) ∙ told in cc)
   greens-stay (Makes set) may rest untold none = refl
   greens-stay (Orders q) may rest untold none = refl
@@ -201,16 +201,16 @@ module _ (c : Chronicle) (i : Invariant c) (conf p : ℕ) (t : Told) (told : tol
       elim (cases_eq p q) [
         | inr apart ↦ other-turn (leaving c q set own) q (take_parting c.world.group q set places) refl apart
         | inl same ↦ subst (λ n. greens_of (turning (leaving c n set own) n (take_parting c.world.group n set places)) p ≡ greens_of c p) same
-            (turn-same c (leaving c p set own) p (take_parting c.world.group p set places) i refl refl (λ r disk seat. parted-none set own places none (ap (is_regular c.world.group) same ∙ regular) r) p)
+            (turn-same c (leaving c p set own) p (take_parting c.world.group p set places) i refl refl (λ r disk node. parted-none set own places none (ap (is_regular c.world.group) same ∙ regular) r) p)
       ]
-  greens-stay (Asks q kind) may rest untold none = turn-same c c q (take_request kind) i refl refl (λ r disk seat. asked-none r kind) p
-  greens-stay (Settles q) may rest untold none = turn-same c c q settle i refl refl (λ r disk seat. settled-none r) p
-  greens-stay (Commits q) may rest untold none = some-same (seat_of c.world q) (λ s. commit_as c q s.life) (λ s. commit-same c q s.life p)
-  greens-stay (Crashes q) may rest untold none = some-same (seat_of c.world q) (λ s. crash_as c q s.life) (λ s. crash-same c q rest.greens s.life p)
-  greens-stay (Recovers q) may rest untold none = some-same (seat_of c.world q) (λ s. recover_as c s.life) (λ s. recover-same s.life)
+  greens-stay (Asks q kind) may rest untold none = turn-same c c q (take_request kind) i refl refl (λ r disk node. asked-none r kind) p
+  greens-stay (Settles q) may rest untold none = turn-same c c q settle i refl refl (λ r disk node. settled-none r) p
+  greens-stay (Commits q) may rest untold none = some-same (node_of c.world q) (λ s. commit_as c q s.life) (λ s. commit-same c q s.life p)
+  greens-stay (Crashes q) may rest untold none = some-same (node_of c.world q) (λ s. crash_as c q s.life) (λ s. crash-same c q rest.greens s.life p)
+  greens-stay (Recovers q) may rest untold none = some-same (node_of c.world q) (λ s. recover_as c s.life) (λ s. recover-same s.life)
   greens-stay (Copies q joiner) may rest untold none = some-same (replica_of c.world q) (copy_as c q joiner) (λ r. refl)
   greens-stay (Joins joiner) may rest untold none = some-same (snapshot_of c.world joiner) (λ s. join_with c joiner s.content) (λ s.
-      ap greens-of (past-begun c.pasts (new_past (copied_for c joiner) joiner) p (nothing (past_of c joiner) (i.net.seated.past joiner ∙ (may-join c joiner may).fresh)) ∙ cond-false (joiner == p) (Some (new_past (copied_for c joiner) joiner)) (past_of c p)
+      ap greens-of (past-begun c.pasts (new_past (copied_for c joiner) joiner) p (nothing (past_of c joiner) (i.net.hosted.past joiner ∙ (may-join c joiner may).fresh)) ∙ cond-false (joiner == p) (Some (new_past (copied_for c joiner) joiner)) (past_of c p)
       (ne_eqb joiner p (λ e. (let clash : true ≡ false = sym begun-here ∙ ap (has_begun c.world) (sym e) ∙ (may-join c joiner may).fresh in cc))))) where
         greens-of : Option Past → List Action
         greens-of o = option_map_or (λ x. x.greens) o []

@@ -8,10 +8,10 @@ use Rattle.cg_base.specs.Sets.{has}
 use Rattle.cg_action.specs.declared.action.Action.{Action}
 use Rattle.cg_queue.specs.Queue.{names_of}
 use Rattle.cg_knowledge.specs.declared.summary.Summary.{Summary}
-use Rattle.cg_knowledge.specs.Members.{senders, remaining, most_updated}
+use Rattle.cg_knowledge.specs.Summaries.{senders, remaining, most_updated}
 use Rattle.cg_plan.specs.Plan.{least_greens, least_reds}
 use Rattle.cg_client.specs.Replica.{Held, Replica}
-use Rattle.cg_model.specs.World.{Seat, Life, Up, Down, seat_of, replica_of, running, has_begun}
+use Rattle.cg_model.specs.World.{Node, NodeState, Up, Down, node_of, replica_of, running, has_begun}
 use Rattle.cg_model.specs.Chronicle.{Told, Chronicle}
 use Rattle.cg_model.specs.Looks.{greens_of, stood_of, told_in, core_of, disk_held, on_disk, ordered_in, OfCores, top_of}
 use Rattle.cg_model.specs.Talk.{hears, no_talk, talk_of}
@@ -39,20 +39,20 @@ use Rattle.cg_agree_lemmas.specs.RunFronts.{run_on-front}
 
 -- what holds of each core holds of all greens of who has begun
 pub core-now : (c : Chronicle) (P : Held → List Action → Type 0) → OfCores c P → DiskBehind c → (q : ℕ) → has_begun c.world q ≡ true → (h : Held) × P h (greens_of c q)
-core-now c P cores behind q begun = at (seat_of c.world q) refl begun where
-  life : (s : Seat) (l : Life) → s.life ≡ l → seat_of c.world q ≡ Some s → (h : Held) × P h (greens_of c q)
+core-now c P cores behind q begun = at (node_of c.world q) refl begun where
+  life : (s : Node) (l : NodeState) → s.life ≡ l → node_of c.world q ≡ Some s → (h : Held) × P h (greens_of c q)
   life s (Up r disk) is e =
-      let runs : replica_of c.world q ≡ Some r = ap (option_and_then (λ (s : Seat). running s.life)) e ∙ ap running is in
+      let runs : replica_of c.world q ≡ Some r = ap (option_and_then (λ (s : Node). running s.life)) e ∙ ap running is in
       (r.held, subst (λ (o : Option Replica). IfSome o (λ r. P r.held (greens_of c q))) runs (cores.memory q))
   life s (Down disk green) is e =
-      let none : replica_of c.world q ≡ None = ap (option_and_then (λ (s : Seat). running s.life)) e ∙ ap running is in
-      let held : disk_held c.world q ≡ Some (on_disk (Down disk green)) = ap (option_map (λ (s : Seat). on_disk s.life)) e ∙ ap (λ l. Some (on_disk l)) is in (
+      let none : replica_of c.world q ≡ None = ap (option_and_then (λ (s : Node). running s.life)) e ∙ ap running is in
+      let held : disk_held c.world q ≡ Some (on_disk (Down disk green)) = ap (option_map (λ (s : Node). on_disk s.life)) e ∙ ap (λ l. Some (on_disk l)) is in (
         on_disk (Down disk green),
         subst (P (on_disk (Down disk green))) (sym (behind.down q none))
             (subst (λ (o : Option Held). IfSome o (λ h. P h (stood_of c q))) held (cores.disk q)),
       )
 
-  at : (o : Option Seat) → seat_of c.world q ≡ o → is_some o ≡ true → (h : Held) × P h (greens_of c q)
+  at : (o : Option Node) → node_of c.world q ≡ o → is_some o ≡ true → (h : Held) × P h (greens_of c q)
   at None e begun = absurd (let clash : false ≡ true = begun in cc)
   at (Some s) e begun = life s s.life refl e
 
@@ -71,11 +71,11 @@ module _ (c : Chronicle) (i : Invariant c) (conf : ℕ) where
 
   -- the greens of what was told are a front of all greens of the sender
   pub told-greens : (q : ℕ) (t : Told) → told_in c conf q ≡ Some t → Front t.greens (greens_of c q)
-  told-greens q t e = at (seat_of c.world q) refl (told-begun q t e) where
-    at : (o : Option Seat) → seat_of c.world q ≡ o → is_some o ≡ true → Front t.greens (greens_of c q)
+  told-greens q t e = at (node_of c.world q) refl (told-begun q t e) where
+    at : (o : Option Node) → node_of c.world q ≡ o → is_some o ≡ true → Front t.greens (greens_of c q)
     at None none begun = absurd (let clash : false ≡ true = begun in cc)
     at (Some s) some begun =
-        let core : core_of c q ≡ Some (held_in s.life) = ap (option_map (λ (s : Seat). held_in s.life)) some in
+        let core : core_of c q ≡ Some (held_in s.life) = ap (option_map (λ (s : Node). held_in s.life)) some in
         let all = subst (λ (o : Option Told). IfSome o (λ t. IfSome (core_of c q) (IsOutdone c t))) e (i.exchange.summary_of_sender.outdone conf q) in
         let one : IsOutdone c t (held_in s.life) = subst (λ (o : Option Held). IfSome o (IsOutdone c t)) core all in
         subst (λ x. Front t.greens (greens_of c x)) (told-id q t e) one.greens

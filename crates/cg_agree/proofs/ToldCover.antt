@@ -15,8 +15,8 @@ use Rattle.cg_client.specs.Turn.{Turn, begin, with_held}
 use Rattle.cg_client.specs.Summary.{summary_of, enter_exchange}
 use Rattle.cg_prim.specs.TransPrim.{end_prim}
 use Rattle.cg_construct.specs.No.{no_record}
-use Rattle.cg_step.specs.Step.{on_regular, take}
-use Rattle.cg_model.specs.World.{Seat, replica_of, running}
+use Rattle.cg_replica_step.specs.Step.{on_regular, after_delivery}
+use Rattle.cg_model.specs.World.{Node, replica_of, running}
 use Rattle.cg_model.specs.Chronicle.{Told, Attempt, Chronicle}
 use Rattle.cg_model.specs.Fronts.{When}
 use Rattle.cg_model.specs.Looks.{greens_of, told_in, conf_at, attempt_of, attempt_at, top_of}
@@ -128,7 +128,7 @@ module _ (c : Chronicle) (p : ℕ) (i : Invariant c) (may : may_make c (Enters p
   behind = small_step c (Enters p)
 
   runs : replica_of c.world p ≡ Some r
-  runs = ap (λ (o : Option Seat). option_and_then (λ s. running s.life) o) now.seat
+  runs = ap (λ (o : Option Node). option_and_then (λ s. running s.life) o) now.node
 
   index-low : r.held.prim.index ≤ top_of c
   index-low = (held-known (λ h greens. (h.prim.index ≤ top_of c) × (h.prim ≡ prim_at c h.prim.index)) c p r runs i.attempt.levels_stand.known).0
@@ -178,7 +178,7 @@ module _ (c : Chronicle) (p : ℕ) (i : Invariant c) (may : may_make c (Enters p
   entry-state Left is between mode covers = absurd (let clash : false ≡ true = between in cc)
 
   yellow-same : (entry_turn c r).replica.held.queue.yellow ≡ r.held.queue.yellow
-  unfolding take
+  unfolding after_delivery
   yellow-same = regular-yellow r.state r (newest_conf c.world.group) (configuration c.world.group (newest_conf c.world.group)).members now.between
 
   pub entry-covers : (let t = entry_told c p r in CoversWhere behind p t.summary.prim.index t.summary.yellow.valid t.summary.vulnerable t.greens t.summary.yellow.list)

@@ -5,7 +5,7 @@ use Rattle.std.proofs.lemmas.Bool.{and_parts}
 use Rattle.cg_action.specs.declared.action.Action.{Action}
 use Rattle.cg_queue.specs.Queue.{names_of}
 use Rattle.cg_client.specs.Replica.{Held}
-use Rattle.cg_model.specs.World.{Seat, seat_of, has_begun}
+use Rattle.cg_model.specs.World.{Node, node_of, has_begun}
 use Rattle.cg_model.specs.Chronicle.{Told, Chronicle}
 use Rattle.cg_model.specs.Looks.{greens_of, told_in, core_of, top_of}
 use Rattle.cg_model.specs.Fronts.{Front}
@@ -97,11 +97,11 @@ module _ (c : Chronicle) (f : Behind c) (conf : ℕ) where
 
   -- the greens of what was told are a front of all greens of the sender
   pub told-greens : (q : ℕ) (t : Told) → told_in c conf q ≡ Some t → Front t.greens (greens_of c q)
-  told-greens q t e = at (seat_of c.world q) refl (told-begun q t e) where
-    at : (o : Option Seat) → seat_of c.world q ≡ o → is_some o ≡ true → Front t.greens (greens_of c q)
+  told-greens q t e = at (node_of c.world q) refl (told-begun q t e) where
+    at : (o : Option Node) → node_of c.world q ≡ o → is_some o ≡ true → Front t.greens (greens_of c q)
     at None none begun = absurd (let clash : false ≡ true = begun in cc)
     at (Some s) some begun =
-        let core : core_of c q ≡ Some (held_in s.life) = ap (option_map (λ (s : Seat). held_in s.life)) some in
+        let core : core_of c q ≡ Some (held_in s.life) = ap (option_map (λ (s : Node). held_in s.life)) some in
         let all = subst (λ (o : Option Told). IfSome o (λ t. IfSome (core_of c q) (IsOutdone c t))) e (f.exchange.summary_of_sender.outdone conf q) in
         let one : IsOutdone c t (held_in s.life) = subst (λ (o : Option Held). IfSome o (IsOutdone c t)) core all in
         subst (λ x. Front t.greens (greens_of c x)) (told-id q t e) one.greens

@@ -11,15 +11,15 @@ use Rattle.cg_action.specs.declared.action.Action.{Action}
 use Rattle.cg_action.specs.declared.action.Kind.{Kind}
 use Rattle.cg_queue.specs.Queue.{names_of}
 use Rattle.cg_records.specs.declared.primary.Primary.{Primary}
-use Rattle.cg_knowledge.specs.Members.{gone}
+use Rattle.cg_knowledge.specs.Summaries.{gone}
 use Rattle.cg_knowledge.specs.Verdict.{decides}
 use Rattle.cg_client.specs.Replica.{Held, State, RegPrim, TransPrim, ExchangeStates, ExchangeActions, Construct, No, Un, NonPrim, Left, Replica, fresh, fresh_held}
 use Rattle.cg_client.specs.Turn.{Turn, begin}
 use Rattle.cg_client.specs.Requests.{settle}
-use Rattle.cg_stored.specs.Stored.{stored_of, whiten, recover}
+use Rattle.cg_disk_records.specs.Stored.{stored_of, whiten, recovery_turn}
 use Rattle.cg_commit.specs.Crash.{Disk, new_disk, at_rest, recovered, disk_recovered}
-use Rattle.cg_model.specs.World.{Life, Up, Down, Seat, Snapshot, seat_of, replica_of, running, has_begun, is_left}
-use Rattle.cg_model.specs.Step.{joined}
+use Rattle.cg_model.specs.World.{NodeState, Up, Down, Node, TransferState, node_of, replica_of, running, has_begun, is_left}
+use Rattle.cg_model.specs.Step.{joiner_replica}
 use Rattle.cg_model.specs.Chronicle.{Past, Chronicle, no_chronicle}
 use Rattle.cg_model.specs.Looks.{greens_of, past_of, copied_for, top_of}
 use Rattle.cg_model.specs.Talk.{Talk, is_full, is_through, is_announced, state_in}
@@ -35,10 +35,10 @@ use Rattle.cg_agree_lemmas.specs.CoresSmall.{fresh-all}
 use Rattle.cg_agree.proofs.CoversStay.{ReachShrinks, covers-still}
 use Rattle.cg_agree.proofs.ExchangeSmalls.{greens-settle, greens-request, greens-turning, greens-behind, replica-behind}
 use Rattle.cg_agree_lemmas.specs.ExchangeStill.{StaysAs, stays-itself}
-use Rattle.cg_agree_lemmas.specs.HandsKept.{seated}
+use Rattle.cg_agree_lemmas.specs.HandsKept.{hosted}
 use Rattle.cg_agree_lemmas.specs.HandsNow.{hands-now, hand-state, set, behind}
 use Rattle.cg_agree_lemmas.specs.ModeHeld.{SameLists, lists-settle, lists-request}
-use Rattle.cg_agree_lemmas.specs.OneSteps.{may-join, seat-there}
+use Rattle.cg_agree_lemmas.specs.OneSteps.{may-join, node-there}
 use Rattle.cg_agree.proofs.PastKept.{enters-now}
 use Rattle.cg_agree.proofs.TalkAlone.{replica-set}
 use Rattle.cg_agree.proofs.TalkQuiet.{replica-turning}
@@ -56,7 +56,7 @@ is_trans _ = false
 
 -- what a disk gives isn't behind a primary component
 recovered-beside : (disk : Disk) → is_trans (recovered disk).state ≡ false
-unfolding recover
+unfolding recovery_turn
 recovered-beside disk = ap is_trans (even-own_to_red (begin (record { held = disk.content; state = NonPrim false }))).state
 
 -- one replica covers, where it is behind a primary component
@@ -139,7 +139,7 @@ module _ (c : Chronicle) (i : Invariant c) where
       let part = take_newest c.world.group in
       let n = enters-now c p i.net.phase_sound (i.replica.mode_data p) may in
       trans-one c (Enters p) i may shrinks p (λ q other. replica-turning (coming c p) p part q other) (λ q other. greens-turning (coming c p) p part q other)
-      (beside-some (small_step c (Enters p)) p (part (begin n.replica)).replica (replica-behind (coming c p) p part n.replica n.disk n.seat) (ap is_trans (newest-come c.world.group n.replica n.between).state))
+      (beside-some (small_step c (Enters p)) p (part (begin n.replica)).replica (replica-behind (coming c p) p part n.replica n.disk n.node) (ap is_trans (newest-come c.world.group n.replica n.between).state))
 
   hands-trans : (p : ℕ) → may_make c (Hands p) ≡ true → Shrinks (Hands p) → TransCoverage (small_step c (Hands p))
   unfolding small_step
@@ -147,7 +147,7 @@ module _ (c : Chronicle) (i : Invariant c) where
       let part = take_next c.world.group p in
       let n = hands-now c p i may in
       trans-one c (Hands p) i may shrinks p (λ q other. replica-turning (handed_next c p) p part q other) (λ q other. greens-turning (handed_next c p) p part q other)
-      (beside-some (small_step c (Hands p)) p (part (begin n.replica)).replica (replica-behind (handed_next c p) p part n.replica n.disk n.seat)
+      (beside-some (small_step c (Hands p)) p (part (begin n.replica)).replica (replica-behind (handed_next c p) p part n.replica n.disk n.node)
       (ap is_trans (hand-state c p i n) ∙ not-trans (set c p i n) n.conf (behind c p i n) p))
 
   leaves-trans : (p : ℕ) (set : List ℕ) (own : ℕ) (places : List ℕ) → may_make c (Leaves p set own places) ≡ true → Shrinks (Leaves p set own places) → TransAt (small_step c (Leaves p set own places)) p → TransCoverage (small_step c (Leaves p set own places))
@@ -160,14 +160,14 @@ module _ (c : Chronicle) (i : Invariant c) where
       ((t : Turn) → ((part t).replica.state ≡ t.replica.state) × SameValues t.replica.held (part t).replica.held × SameLists t.replica.held (part t).replica.held) →
       ((t : Turn) → (part t).replica.held.queue.greens ≡ t.replica.held.queue.greens) → TransCoverage (small_step c s)
   asks-trans p part s may shrinks step runs even queue =
-      let sits = seated c.world p runs in
+      let sits = hosted c.world p runs in
       let r = sits.replica in
-      let up : replica_of c.world p ≡ Some r = ap (λ (o : Option Seat). option_and_then (λ s. running s.life) o) sits.seat in
+      let up : replica_of c.world p ≡ Some r = ap (λ (o : Option Node). option_and_then (λ s. running s.life) o) sits.node in
       trans-one c s i may shrinks p (λ q other. ap (λ (x : Chronicle). replica_of x.world q) step ∙ replica-turning c p part q other) (λ q other. ap (λ (x : Chronicle). greens_of x q) step ∙ greens-turning c p part q other)
       (trans-even c s i may shrinks p
       (subst (λ (o : Option Replica). StaysAs o (replica_of (small_step c s).world p)) (sym up)
-      (subst (StaysAs (Some r)) (sym (ap (λ (x : Chronicle). replica_of x.world p) step ∙ replica-behind c p part r sits.disk sits.seat)) (even (begin r))))
-      (ap (λ (x : Chronicle). greens_of x p) step ∙ greens-behind c p part r sits.disk sits.seat i.net.seated.past (queue (begin r))))
+      (subst (StaysAs (Some r)) (sym (ap (λ (x : Chronicle). replica_of x.world p) step ∙ replica-behind c p part r sits.disk sits.node)) (even (begin r))))
+      (ap (λ (x : Chronicle). greens_of x p) step ∙ greens-behind c p part r sits.disk sits.node i.net.hosted.past (queue (begin r))))
 
   asked : (p : ℕ) (kind : Kind) → may_make c (Asks p kind) ≡ true → Shrinks (Asks p kind) → TransCoverage (small_step c (Asks p kind))
   unfolding may_make small_step
@@ -181,13 +181,13 @@ module _ (c : Chronicle) (i : Invariant c) where
   commits-trans : (p : ℕ) → may_make c (Commits p) ≡ true → Shrinks (Commits p) → TransCoverage (small_step c (Commits p))
   unfolding may_make small_step whiten
   commits-trans p may shrinks =
-      let sits = seated c.world p may in
+      let sits = hosted c.world p may in
       let r = sits.replica in
       let d = commit_as c p (Up r sits.disk) in
       let new : Replica = record r { held = whiten r.held } in
-      let life : Life = Up new (record sits.disk { content = stored_of (whiten r.held) }) in
-      let step : small_step c (Commits p) ≡ d = ap (λ (o : Option Seat). option_map_or (λ s. commit_as c p s.life) o c) sits.seat in
-      let up : replica_of c.world p ≡ Some r = ap (λ (o : Option Seat). option_and_then (λ s. running s.life) o) sits.seat in
+      let life : NodeState = Up new (record sits.disk { content = stored_of (whiten r.held) }) in
+      let step : small_step c (Commits p) ≡ d = ap (λ (o : Option Node). option_map_or (λ s. commit_as c p s.life) o c) sits.node in
+      let up : replica_of c.world p ≡ Some r = ap (λ (o : Option Node). option_and_then (λ s. running s.life) o) sits.node in
       let now : replica_of d.world p ≡ Some new = replica-set c.world p life p ∙ cond-true (p == p) (Some new) (replica_of c.world p) (eq-eqb p p refl) in
       trans-one c (Commits p) i may shrinks p
       (λ q other. ap (λ (x : Chronicle). replica_of x.world q) step ∙ replica-set c.world p life q ∙ cond-false (q == p) (Some new) (replica_of c.world q) other)
@@ -203,9 +203,9 @@ module _ (c : Chronicle) (i : Invariant c) where
   crashes-trans : (p : ℕ) → may_make c (Crashes p) ≡ true → Shrinks (Crashes p) → TransCoverage (small_step c (Crashes p))
   unfolding may_make small_step
   crashes-trans p may shrinks =
-      let sits = seated c.world p may in
+      let sits = hosted c.world p may in
       let d = crash_as c p (Up sits.replica sits.disk) in
-      let step : small_step c (Crashes p) ≡ d = ap (λ (o : Option Seat). option_map_or (λ s. crash_as c p s.life) o c) sits.seat in
+      let step : small_step c (Crashes p) ≡ d = ap (λ (o : Option Node). option_map_or (λ s. crash_as c p s.life) o c) sits.node in
       let none : replica_of (small_step c (Crashes p)).world p ≡ None = ap (λ (x : Chronicle). replica_of x.world p) step ∙ replica-set c.world p (Down (at_rest sits.disk) []) p ∙ cond-true (p == p) None (replica_of c.world p) (eq-eqb p p refl) in
       trans-one c (Crashes p) i may shrinks p
       (λ q other. ap (λ (x : Chronicle). replica_of x.world q) step ∙ replica-set c.world p (Down (at_rest sits.disk) []) q ∙ cond-false (q == p) None (replica_of c.world q) other)
@@ -215,13 +215,13 @@ module _ (c : Chronicle) (i : Invariant c) where
   recovers-trans : (p : ℕ) → may_make c (Recovers p) ≡ true → Shrinks (Recovers p) → TransCoverage (small_step c (Recovers p))
   unfolding may_make small_step
   recovers-trans p may shrinks =
-      let sits = seat-there c p (and_parts (has_begun c.world p) (not (is_running c p)) may).0 in
-      life sits.seat.life (ap (λ (o : Option Seat). option_map_or (λ s. recover_as c s.life) o c) sits.there) where
-        life : (l : Life) → small_step c (Recovers p) ≡ recover_as c l → TransCoverage (small_step c (Recovers p))
+      let sits = node-there c p (and_parts (has_begun c.world p) (not (is_running c p)) may).0 in
+      life sits.node.life (ap (λ (o : Option Node). option_map_or (λ s. recover_as c s.life) o c) sits.there) where
+        life : (l : NodeState) → small_step c (Recovers p) ≡ recover_as c l → TransCoverage (small_step c (Recovers p))
         life (Up r disk) step = λ q. trans-same c (Recovers p) i may shrinks q (ap (λ (x : Chronicle). replica_of x.world q) step) (ap (λ (x : Chronicle). greens_of x q) step)
         life (Down disk green) step =
             let me = (recovered disk).held.id in
-            let l : Life = Up (recovered disk) (disk_recovered disk) in
+            let l : NodeState = Up (recovered disk) (disk_recovered disk) in
             trans-one c (Recovers p) i may shrinks me
             (λ q other. ap (λ (x : Chronicle). replica_of x.world q) step ∙ replica-set c.world me l q ∙ cond-false (q == me) (Some (recovered disk)) (replica_of c.world q) other)
             (λ q other. ap (λ (x : Chronicle). greens_of x q) step)
@@ -243,11 +243,11 @@ module _ (c : Chronicle) (i : Invariant c) where
   unfolding may_make small_step
   joins-trans joiner may shrinks =
       let one = may-join c joiner may in
-      let r = joined joiner one.snapshot.content in
-      let life : Life = Up r (new_disk r.held) in
+      let r = joiner_replica joiner one.snapshot.content in
+      let life : NodeState = Up r (new_disk r.held) in
       let begun = new_past (copied_for c joiner) joiner in
-      let absent : past_of c joiner ≡ None = none-of (past_of c joiner) (i.net.seated.past joiner ∙ one.fresh) in
-      let step : small_step c (Joins joiner) ≡ join_with c joiner one.snapshot.content = ap (λ (o : Option Snapshot). option_map_or (λ s. join_with c joiner s.content) o c) one.there in
+      let absent : past_of c joiner ≡ None = none-of (past_of c joiner) (i.net.hosted.past joiner ∙ one.fresh) in
+      let step : small_step c (Joins joiner) ≡ join_with c joiner one.snapshot.content = ap (λ (o : Option TransferState). option_map_or (λ s. join_with c joiner s.content) o c) one.there in
       trans-one c (Joins joiner) i may shrinks joiner
       (λ q other. ap (λ (x : Chronicle). replica_of x.world q) step ∙ replica-set c.world joiner life q ∙ cond-false (q == joiner) (Some r) (replica_of c.world q) other)
       (λ q other. ap (λ (x : Chronicle). greens_of x q) step ∙ ap greens-in (past-begun c.pasts begun q absent ∙ cond-false (joiner == q) (Some begun) (past_of c q) (ne_eqb joiner q (λ e. eqb-false q joiner other (sym e)))))
@@ -263,16 +263,16 @@ module _ (c : Chronicle) (i : Invariant c) where
 -- at the start nobody is
 starts-trans : (c : Chronicle) (set : List Weighted) → c ≡ no_chronicle → TransCoverage (start c set)
 starts-trans c set is = subst (λ (x : Chronicle). TransCoverage (start x set)) (sym is)
-    (λ q. at q (seat_of (start no_chronicle set).world q) (fresh-all set (ids set) no_chronicle.world (λ q. tt) q)) where
-      at : (q : ℕ) (o : Option Seat) → IfSome o (λ s. s.life ≡ Up (fresh q set) (new_disk (fresh_held q set))) →
+    (λ q. at q (node_of (start no_chronicle set).world q) (fresh-all set (ids set) no_chronicle.world (λ q. tt) q)) where
+      at : (q : ℕ) (o : Option Node) → IfSome o (λ s. s.life ≡ Up (fresh q set) (new_disk (fresh_held q set))) →
           IfSome (option_and_then (λ s. running s.life) o) (λ r. CoversAsYellow (start no_chronicle set) r.held (greens_of (start no_chronicle set) q) r.state)
       at q None f = tt
-      at q (Some s) f = subst (λ (l : Life). IfSome (running l) (λ r. CoversAsYellow (start no_chronicle set) r.held (greens_of (start no_chronicle set) q) r.state)) (sym f) tt
+      at q (Some s) f = subst (λ (l : NodeState). IfSome (running l) (λ r. CoversAsYellow (start no_chronicle set) r.held (greens_of (start no_chronicle set) q) r.state)) (sym f) tt
 
 -- Who is behind a primary component covers its level, behind each small step, where one that leaves does.
 pub trans_coverage-kept : (c : Chronicle) (s : Small) → Invariant c → may_make c s ≡ true → ReachShrinks c (small_step c s) → LeaverCovers c s → TransCoverage (small_step c s)
 unfolding small_step may_make
-trans_coverage-kept c (Starts set) i may shrinks leaver = starts-trans c set (nothing-before c i.net.seated (and_parts (is_nil c.world.seats) (is_set (ids set)) may).0)
+trans_coverage-kept c (Starts set) i may shrinks leaver = starts-trans c set (nothing-before c i.net.hosted (and_parts (is_nil c.world.nodes) (is_set (ids set)) may).0)
 trans_coverage-kept c (Makes set) i may shrinks leaver = even-trans c i (Makes set) may shrinks (λ q. refl) (λ q. refl)
 trans_coverage-kept c (Enters p) i may shrinks leaver = enters-trans c i p may shrinks
 trans_coverage-kept c (Orders p) i may shrinks leaver = even-trans c i (Orders p) may shrinks (λ q. refl) (λ q. refl)

@@ -12,11 +12,11 @@ use Rattle.cg_group.specs.State.{Standing, GroupState, set_standing}
 use Rattle.cg_group.specs.Events.{send_all}
 use Rattle.cg_client.specs.Replica.{Replica}
 use Rattle.cg_client.specs.Turn.{Turn}
-use Rattle.cg_step.specs.Step.{Deliveries, replica_step}
+use Rattle.cg_replica_step.specs.Step.{Deliveries, replica_step}
 use Rattle.cg_commit.specs.Commit.{commits}
-use Rattle.cg_commit.specs.Crash.{Disk, Ended, Runs, Crashes as EndsInCrash, end_event}
-use Rattle.cg_model.specs.World.{Life, Up, Down, Seat, World, running, seat_of, replica_of}
-use Rattle.cg_model.specs.Show.{Going}
+use Rattle.cg_commit.specs.Crash.{Disk, EventEnd, Runs, Crashes as EndsInCrash, end_event}
+use Rattle.cg_model.specs.World.{NodeState, Up, Down, Node, World, running, node_of, replica_of}
+use Rattle.cg_model.specs.Show.{StepInProgress}
 use Rattle.cg_model.specs.Step.{hand}
 use Rattle.cg_model.specs.Chronicle.{Chronicle}
 use Rattle.cg_model.specs.Looks.{greens_of}
@@ -28,7 +28,7 @@ use Rattle.cg_agree_lemmas.specs.GroupChanges.{down-own}
 use Rattle.cg_agree.proofs.GreensFront.{commit-same}
 use Rattle.cg_agree_lemmas.specs.RestFacts.{IsOf, IsKept, others-kept}
 use Rattle.cg_agree_lemmas.specs.SmallWorlds.{played_in, played-append}
-use Rattle.cg_agree_lemmas.specs.TurnWorlds.{seated, up_seat, seat-seated, turn-ends}
+use Rattle.cg_agree_lemmas.specs.TurnWorlds.{hosted, up_node, node-hosted, turn-ends}
 use Rattle.cg_agree_lemmas.specs.EventTurns.{IsUp, hand-leads}
 use Rattle.cg_agree_lemmas.specs.TogetherWorlds.{IsStill, IsMember, IsGoing, smalls_among, turns_among, one-on}
 
@@ -72,8 +72,8 @@ other-keeps p q s apart is c = others-kept c s q p is apart
 
 pub commit-greens : (p : ℕ) → GreensKeep p (Commits p)
 unfolding small_step
-commit-greens p c = at (seat_of c.world p) where
-  at : (o : Option Seat) → greens_of (option_map_or (λ s. commit_as c p s.life) o c) p ≡ greens_of c p
+commit-greens p c = at (node_of c.world p) where
+  at : (o : Option Node) → greens_of (option_map_or (λ s. commit_as c p s.life) o c) p ≡ greens_of c p
   at None = refl
   at (Some s) = commit-same c p s.life p
 
@@ -114,7 +114,7 @@ runs-further w smalls last p t keeps is = record {
 }
 
 -- a turn by itself, where the replica runs on
-pub runs-alone : (w : World) (p : ℕ) (k : Taken) (block : List Small) (g : GroupState Msg) (x : Replica) (d : Disk) → k.id ≡ p → Each (IsPartOf p) block → played_in w block ≡ seated w p k.turn.replica k.disk g →
+pub runs-alone : (w : World) (p : ℕ) (k : Taken) (block : List Small) (g : GroupState Msg) (x : Replica) (d : Disk) → k.id ≡ p → Each (IsPartOf p) block → played_in w block ≡ hosted w p k.turn.replica k.disk g →
     RunsThrough w (ending_as k block (Runs x d)) p k.turn
 runs-alone w p k block g x d mine parts leads = record {
   before = [];
@@ -123,11 +123,11 @@ runs-alone w p k block g x d mine parts leads = record {
   is = refl;
   apart = tt;
   parts = parts;
-  replica = ap (λ (v : World). replica_of v p) leads ∙ ap (λ (o : Option Seat). option_and_then (λ s. running s.life) o) (seat-seated w p k.turn.replica k.disk g);
+  replica = ap (λ (v : World). replica_of v p) leads ∙ ap (λ (o : Option Node). option_and_then (λ s. running s.life) o) (node-hosted w p k.turn.replica k.disk g);
   ends = cond_both (commits k.before.held k.turn) (Commits k.id ∷ []) [] (Each (GreensKeep p)) (λ y. (subst (λ n. GreensKeep p (Commits n)) (sym mine) (commit-greens p), tt)) (λ n. tt);
 }
 
-pub ending-of : (k : Taken) (block : List Small) (e : Ended) → Each (IsOf k.id) block → Each (IsOf k.id) (ending_as k block e)
+pub ending-of : (k : Taken) (block : List Small) (e : EventEnd) → Each (IsOf k.id) block → Each (IsOf k.id) (ending_as k block e)
 ending-of k block (Runs x d) each =
     Each-append (IsOf k.id) block (if commits k.before.held k.turn then Commits k.id ∷ [] else []) each
     (cond_both (commits k.before.held k.turn) (Commits k.id ∷ []) [] (Each (IsOf k.id)) (λ y. (refl, tt)) (λ n. tt))
@@ -136,15 +136,15 @@ ending-of k block (EndsInCrash d green) each =
     (λ y. Each-append (IsOf k.id) block (Commits k.id ∷ Crashes k.id ∷ []) each (refl, (refl, tt))) (λ n. (refl, tt))
 
 -- who is up is one replica with one disk
-pub same-up : (w : World) (p : ℕ) (here : IsUp w p) (r : Replica) (disk : Disk) → seat_of w p ≡ Some (up_seat p r disk) → (here.replica ≡ r) × (here.disk ≡ disk)
-same-up w p here r disk seat =
-    let same : Some (up_seat p here.replica here.disk) ≡ Some (up_seat p r disk) = sym here.seat ∙ seat in
-    (ap (λ (o : Option Seat). option_map_or (λ s. replica_in s.life r) o r) same, ap (λ (o : Option Seat). option_map_or (λ s. disk_in s.life disk) o disk) same) where
-      replica_in : Life → Replica → Replica
+pub same-up : (w : World) (p : ℕ) (here : IsUp w p) (r : Replica) (disk : Disk) → node_of w p ≡ Some (up_node p r disk) → (here.replica ≡ r) × (here.disk ≡ disk)
+same-up w p here r disk node =
+    let same : Some (up_node p here.replica here.disk) ≡ Some (up_node p r disk) = sym here.node ∙ node in
+    (ap (λ (o : Option Node). option_map_or (λ s. replica_in s.life r) o r) same, ap (λ (o : Option Node). option_map_or (λ s. disk_in s.life disk) o disk) same) where
+      replica_in : NodeState → Replica → Replica
       replica_in (Up x d) other = x
       replica_in (Down d green) other = other
 
-      disk_in : Life → Disk → Disk
+      disk_in : NodeState → Disk → Disk
       disk_in (Up x d) other = d
       disk_in (Down d green) other = other
 
@@ -162,7 +162,7 @@ module _ (w : World) (g : GroupState Msg) (N : ℕ → Standing Msg) (named : (q
   pub record RunsOn (p : ℕ) : Type 0 where
     pub replica : Replica
     pub disk : Disk
-    pub seat : seat_of w p ≡ Some (up_seat p replica disk)
+    pub node : node_of w p ≡ Some (up_node p replica disk)
     pub new : Replica
     pub new_disk : Disk
     pub ends : end_event disk replica.held (replica_step replica (Deliveries (input p))) ≡ Runs new new_disk
@@ -175,7 +175,7 @@ module _ (w : World) (g : GroupState Msg) (N : ℕ → Standing Msg) (named : (q
       let here = each.0.here in
       let t = replica_step here.replica (Deliveries (input q)) in
       let k : Taken = record { id = q; before = here.replica; disk = here.disk; turn = t; ended = end_event here.disk here.replica.held t } in
-      let turns : taken w q (Deliveries (input q)) ≡ k ∷ [] = ap (λ (o : Option Seat). option_map_or (λ s. taken_as q (Deliveries (input q)) s.life) o []) here.seat in
+      let turns : taken w q (Deliveries (input q)) ≡ k ∷ [] = ap (λ (o : Option Node). option_map_or (λ s. taken_as q (Deliveries (input q)) s.life) o []) here.node in
       let first = ending_as k (block q) k.ended in
       let steps : smalls_among w g N named input block (q ∷ rest) ≡ first ++ smalls_among w g N named input block rest =
       ap (λ list. flat_map (ending block) (list ++ turns_among w g N named input block rest)) turns in
@@ -184,7 +184,7 @@ module _ (w : World) (g : GroupState Msg) (N : ℕ → Standing Msg) (named : (q
       (Each-weaker (IsOf q) (GreensKeep p) (λ s is. keeps-greens p s (other-keeps p q s (λ e. (let same : p ≡ q = e in omega arith)) is)) first (ending-of k (block q) k.ended isof))
       (others-greens rest (suc q) p rise.1 each.1 (omega arith)))
 
-  pub together-runs : (rest : List ℕ) (low : ℕ) → IsRising low rest → Each Member rest → (v : World) (go : Going) → IsGoing w g N named input block v go.world rest low →
+  pub together-runs : (rest : List ℕ) (low : ℕ) → IsRising low rest → Each Member rest → (v : World) (go : StepInProgress) → IsGoing w g N named input block v go.world rest low →
       (p : ℕ) → has rest p ≡ true → (on : RunsOn p) → RunsThrough v (smalls_among w g N named input block rest) p (replica_step on.replica (Deliveries (input p)))
   together-runs [] low rise each v go going p there on = absurd (let clash : false ≡ true = there in cc)
   together-runs (q ∷ rest) low rise each v go going p there on =
@@ -193,21 +193,21 @@ module _ (w : World) (g : GroupState Msg) (N : ℕ → Standing Msg) (named : (q
       let le : low ≤ q = rise.0 in
       let t = replica_step here.replica (Deliveries (input q)) in
       let k : Taken = record { id = q; before = here.replica; disk = here.disk; turn = t; ended = end_event here.disk here.replica.held t } in
-      let turns : taken w q (Deliveries (input q)) ≡ k ∷ [] = ap (λ (o : Option Seat). option_map_or (λ s. taken_as q (Deliveries (input q)) s.life) o []) here.seat in
+      let turns : taken w q (Deliveries (input q)) ≡ k ∷ [] = ap (λ (o : Option Node). option_map_or (λ s. taken_as q (Deliveries (input q)) s.life) o []) here.node in
       let steps : smalls_among w g N named input block (q ∷ rest) ≡ ending_as k (block q) k.ended ++ smalls_among w g N named input block rest =
       ap (λ list. flat_map (ending block) (list ++ turns_among w g N named input block rest)) turns in
       let now : IsStill w g N named input block v q = record {
-        seats = λ x above. going.still.seats x (omega arith);
+        nodes = λ x above. going.still.nodes x (omega arith);
         standings = λ x above. going.still.standings x (omega arith);
         configurations = going.still.configurations;
         rises = going.still.rises;
         rising = going.still.rising;
       } in
       let opened = m.opens v now in
-      let seat_v = going.still.seats q le ∙ here.seat in
-      let seat_u = going.seats q le ∙ here.seat in
-      let ends = turn-ends v (set_standing v.group (N q)) q here.replica here.disk t (block q) seat_v opened.0 opened.1 (down-own v.group (N q) q (named q)) in
-      let leads = hand-leads go q here.replica here.disk (Deliveries (input q)) seat_u in
+      let node_v = going.still.nodes q le ∙ here.node in
+      let node_u = going.nodes q le ∙ here.node in
+      let ends = turn-ends v (set_standing v.group (N q)) q here.replica here.disk t (block q) node_v opened.0 opened.1 (down-own v.group (N q) q (named q)) in
+      let leads = hand-leads go q here.replica here.disk (Deliveries (input q)) node_u in
       let first = ending_as k (block q) k.ended in
       let next = one-on w g N named input block v go.world q low rest le rise.1 going t (played_in v first) (hand go q (Deliveries (input q))).world k.ended ends.1 leads in
       let isof : (x : ℕ) → Each (IsOf x) (block x) = λ x. Each-weaker (IsPartOf x) (IsOf x) (part-of x) (block x) (own x) in
@@ -218,7 +218,7 @@ module _ (w : World) (g : GroupState Msg) (N : ℕ → Standing Msg) (named : (q
             (Each-weaker (IsOf q) (Keeps p) (λ s is. other-keeps p q s apart is) first (ending-of k (block q) k.ended (isof q)))
             (together-runs rest (suc q) rise.1 each.1 (played_in v first) (hand go q (Deliveries (input q))) next p later on)
         | inl same ↦
-            let both = same-up w q here on.replica on.disk (subst (λ n. seat_of w n ≡ Some (up_seat n on.replica on.disk)) same on.seat) in
+            let both = same-up w q here on.replica on.disk (subst (λ n. node_of w n ≡ Some (up_node n on.replica on.disk)) same on.node) in
             let turn_same : replica_step on.replica (Deliveries (input p)) ≡ t = ap₂ (λ (r : Replica) n. replica_step r (Deliveries (input n))) (sym both.0) same in
             let back : q ≡ p = sym same in
             let end_same : k.ended ≡ end_event on.disk on.replica.held (replica_step on.replica (Deliveries (input p))) =

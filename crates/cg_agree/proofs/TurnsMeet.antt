@@ -7,7 +7,7 @@ use Rattle.cg_group.specs.declared.delivery.Delivery.TheVariants.{Regular as Reg
 use Rattle.cg_group.specs.State.{delivered_to, home}
 use Rattle.cg_group.specs.Events.{furthest, handed_in_split, deliveries_at, deliver}
 use Rattle.cg_group.specs.EachLaws.{Each, Each-append, Each-weaker, Each-has}
-use Rattle.cg_step.specs.Step.{Input, Deliveries, Asks as AsksOf}
+use Rattle.cg_replica_step.specs.Step.{Input, Deliveries, Asks as AsksOf}
 use Rattle.cg_schedule.specs.declared.event.Event.{Event}
 use Rattle.cg_schedule.specs.declared.event.Event.TheVariants.{Start, Split, Merge, Request, Weak, Dirty, Order, Recover, Show, ShowOrder, Gather, End, Receive, Deliver, Rounds, Stop, Fail, Join, Leave, Transfer}
 use Rattle.cg_model.specs.World.{World}
@@ -70,7 +70,7 @@ module _ (c : Chronicle) (w : World) (stands : StandsBeside c w) (meets : (small
       (Each-weaker (IsMember w g (parted w set) (parted-id w set) (input w set) (leaving_steps g set)) (λ q. MeetNone c (leaving_steps g set q)) (λ q m.
       quietly (leaving_steps g set q)
       (Each-append IsQuiet (replicate (furthest g set - delivered_to g q) (Hands q)) _ (repeats IsQuiet (Hands q) tt (furthest g set - delivered_to g q)) (tt, (tt, tt)))
-      (m.opens w (record { seats = λ q above. refl; standings = λ q above. refl; configurations = refl; rises = sound.group.rises; rising = sound.seats })).0) set members))
+      (m.opens w (record { nodes = λ q above. refl; standings = λ q above. refl; configurations = refl; rises = sound.group.rises; rising = sound.nodes })).0) set members))
 
   merge-turns : (set : List ℕ) → MayBeMade c (smalls_in w (Merge set)) → first_refusal w (Merge set) ≡ None →
       TurnsMeetNone c (λ p. Makes set ∷ Enters p ∷ Settles p ∷ []) (turns_of w (Merge set))
@@ -93,7 +93,7 @@ module _ (c : Chronicle) (w : World) (stands : StandsBeside c w) (meets : (small
         tt,
         may-all d (block q)
             (may-all-same (block q) v d.world same
-            (m.opens v (record { seats = λ q above. refl; standings = λ q above. refl; configurations = refl; rises = sound.group.rises; rising = sound.seats })).0)
+            (m.opens v (record { nodes = λ q above. refl; standings = λ q above. refl; configurations = refl; rises = sound.group.rises; rising = sound.nodes })).0)
             (block-opens (suc (length c.world.group.configurations)) d q
             (coming-untold c w stands.same sound (written-of c w stands) (untold-next c stands.facts) (named-beside c stands.facts) set coming q there)),
       )) set members (Each-has set)))
@@ -108,7 +108,7 @@ module _ (c : Chronicle) (w : World) (stands : StandsBeside c w) (meets : (small
       let is = delivering w p count sound.up admitted in
       turns-each c w steps (λ q. Deliveries list) (p ∷ []) (
         quietly (steps p) (Each-append IsQuiet (replicate count (Hands p)) (Settles p ∷ []) (repeats IsQuiet (Hands p) tt count) (tt, tt))
-            (may-opens w p count sound.seats sound.group.rises is.here is.in_group is.enough).0,
+            (may-opens w p count sound.nodes sound.group.rises is.here is.in_group is.enough).0,
         tt,
       )
 

@@ -12,7 +12,7 @@ use Rattle.cg_report.specs.declared.line.UpLine.{UpLine}
 use Rattle.cg_schedule.specs.declared.event.Event.{Event}
 use Rattle.cg_schedule.specs.declared.event.Event.TheVariants.{Start, Split, Merge, Request, Weak, Dirty, Order, Recover, Show, ShowOrder, Gather, End, Receive, Deliver, Rounds, Stop, Fail, Join, Leave, Transfer}
 use Rattle.cg_client.specs.Replica.{Replica}
-use Rattle.cg_model.specs.World.{Seat, World, no_world, running, has_begun, seat_of, replica_of}
+use Rattle.cg_model.specs.World.{Node, World, no_world, running, has_begun, node_of, replica_of}
 use Rattle.cg_model.specs.Show.{Moved}
 use Rattle.cg_model.specs.Run.{Step, MayStand, IsRunFrom, world_after}
 use Rattle.cg_model.specs.Shown.{made_at, position_of, white_of}
@@ -35,7 +35,7 @@ use Rattle.cg_agree.proofs.MadeTold.{made-last}
 use Rattle.cg_agree.proofs.OrderReached.{in-order}
 use Rattle.cg_agree_lemmas.specs.OrderTold.{step_order}
 use Rattle.cg_agree.proofs.PositionsGrow.{IsPlaced, down-still, step-moves, placed-on}
-use Rattle.cg_agree.proofs.PrimaryOne.{seated-not}
+use Rattle.cg_agree.proofs.PrimaryOne.{hosted-not}
 use Rattle.cg_agree.proofs.PrimStays.{event-stays}
 use Rattle.cg_agree.proofs.RunForward.{IsStepOf, of-run}
 use Rattle.cg_agree.proofs.TellsRun.{nothing-told}
@@ -53,8 +53,8 @@ pub record IsKept (earlier : List Step) (c : Chronicle) (w : World) (p : ℕ) : 
 -- ---- a replica that is up
 
 running-begun : (w : World) (p : ℕ) (r : Replica) → replica_of w p ≡ Some r → has_begun w p ≡ true
-running-begun w p r runs = at (seat_of w p) runs where
-  at : (o : Option Seat) → option_and_then (λ s. running s.life) o ≡ Some r → is_some o ≡ true
+running-begun w p r runs = at (node_of w p) runs where
+  at : (o : Option Node) → option_and_then (λ s. running s.life) o ≡ Some r → is_some o ≡ true
   at None is = absurd (let clash : None ≡ Some r = is in cc)
   at (Some s) is = refl
 
@@ -85,25 +85,25 @@ kept-up steps d v stands lines p r runs =
 -- a start comes first, and at every other event the servers of the start stay
 start-or-same : (c : Chronicle) (w : World) (e : Event) → MayStand w e → (w ≡ no_world) ⊎ ((chronicle_step c w e).start ≡ c.start)
 start-or-same c w (Start set) may = inl may.0
-start-or-same c w (Split set) may = inr (event-stays c w (Split set) (seated-not w (Split set) may.0 may)).start
-start-or-same c w (Merge set) may = inr (event-stays c w (Merge set) (seated-not w (Merge set) may.0 may)).start
-start-or-same c w (Request p cmds query) may = inr (event-stays c w (Request p cmds query) (seated-not w (Request p cmds query) may.0 may)).start
-start-or-same c w (Weak p query) may = inr (event-stays c w (Weak p query) (seated-not w (Weak p query) may.0 may)).start
-start-or-same c w (Dirty p query) may = inr (event-stays c w (Dirty p query) (seated-not w (Dirty p query) may.0 may)).start
-start-or-same c w (Order p) may = inr (event-stays c w (Order p) (seated-not w (Order p) may.0 may)).start
-start-or-same c w (Recover p) may = inr (event-stays c w (Recover p) (seated-not w (Recover p) may.0 may)).start
-start-or-same c w (Show p) may = inr (event-stays c w (Show p) (seated-not w (Show p) may.0 may)).start
-start-or-same c w ShowOrder may = inr (event-stays c w ShowOrder (seated-not w ShowOrder may.0 may)).start
-start-or-same c w Gather may = inr (event-stays c w Gather (seated-not w Gather may.0 may)).start
+start-or-same c w (Split set) may = inr (event-stays c w (Split set) (hosted-not w (Split set) may.0 may)).start
+start-or-same c w (Merge set) may = inr (event-stays c w (Merge set) (hosted-not w (Merge set) may.0 may)).start
+start-or-same c w (Request p cmds query) may = inr (event-stays c w (Request p cmds query) (hosted-not w (Request p cmds query) may.0 may)).start
+start-or-same c w (Weak p query) may = inr (event-stays c w (Weak p query) (hosted-not w (Weak p query) may.0 may)).start
+start-or-same c w (Dirty p query) may = inr (event-stays c w (Dirty p query) (hosted-not w (Dirty p query) may.0 may)).start
+start-or-same c w (Order p) may = inr (event-stays c w (Order p) (hosted-not w (Order p) may.0 may)).start
+start-or-same c w (Recover p) may = inr (event-stays c w (Recover p) (hosted-not w (Recover p) may.0 may)).start
+start-or-same c w (Show p) may = inr (event-stays c w (Show p) (hosted-not w (Show p) may.0 may)).start
+start-or-same c w ShowOrder may = inr (event-stays c w ShowOrder (hosted-not w ShowOrder may.0 may)).start
+start-or-same c w Gather may = inr (event-stays c w Gather (hosted-not w Gather may.0 may)).start
 start-or-same c w End may = absurd may
-start-or-same c w (Receive p place) may = inr (event-stays c w (Receive p place) (seated-not w (Receive p place) may.0 may)).start
-start-or-same c w (Deliver p count) may = inr (event-stays c w (Deliver p count) (seated-not w (Deliver p count) may.0 may)).start
+start-or-same c w (Receive p place) may = inr (event-stays c w (Receive p place) (hosted-not w (Receive p place) may.0 may)).start
+start-or-same c w (Deliver p count) may = inr (event-stays c w (Deliver p count) (hosted-not w (Deliver p count) may.0 may)).start
 start-or-same c w (Rounds count) may = absurd may
-start-or-same c w (Stop p call fill) may = inr (event-stays c w (Stop p call fill) (seated-not w (Stop p call fill) may.0 may)).start
-start-or-same c w (Fail p call) may = inr (event-stays c w (Fail p call) (seated-not w (Fail p call) may.0 may)).start
-start-or-same c w (Join p joiner weight) may = inr (event-stays c w (Join p joiner weight) (seated-not w (Join p joiner weight) may.0 may)).start
-start-or-same c w (Leave p server) may = inr (event-stays c w (Leave p server) (seated-not w (Leave p server) may.0 may)).start
-start-or-same c w (Transfer p joiner pieces) may = inr (event-stays c w (Transfer p joiner pieces) (seated-not w (Transfer p joiner pieces) may.0 may)).start
+start-or-same c w (Stop p call fill) may = inr (event-stays c w (Stop p call fill) (hosted-not w (Stop p call fill) may.0 may)).start
+start-or-same c w (Fail p call) may = inr (event-stays c w (Fail p call) (hosted-not w (Fail p call) may.0 may)).start
+start-or-same c w (Join p joiner weight) may = inr (event-stays c w (Join p joiner weight) (hosted-not w (Join p joiner weight) may.0 may)).start
+start-or-same c w (Leave p server) may = inr (event-stays c w (Leave p server) (hosted-not w (Leave p server) may.0 may)).start
+start-or-same c w (Transfer p joiner pieces) may = inr (event-stays c w (Transfer p joiner pieces) (hosted-not w (Transfer p joiner pieces) may.0 may)).start
 
 kept-down : (earlier : List Step) (c : Chronicle) (w : World) (s : Step) → IsStepOf c w s → IsPlaced earlier c w → (p : ℕ) → replica_of s.world p ≡ None → IsKept earlier c w p →
     IsKept (through earlier s) (chronicle_step c w s.event) s.world p
@@ -123,8 +123,8 @@ kept-down earlier c w s step placed p down k =
         | inr same ↦ subst (λ n. n ≤ line_of (members_of (chronicle_step c w s.event).start k.all).servers q) (sym whites)
             (subst (λ (start : List Weighted). white_of p earlier ≤ line_of (members_of start k.all).servers q) (sym same) (k.white q (ap (λ (start : List Weighted). is_server (members_of start k.all) q) (sym same) ∙ server)))
         | inl first ↦
-            let none : count_at (seat_of w p) ≡ 0 = ap (λ (x : World). count_at (seat_of x p)) first in
-            let low : position_of p earlier ≤ count_at (seat_of w p) = placed.placed p in
+            let none : count_at (node_of w p) ≡ 0 = ap (λ (x : World). count_at (node_of x p)) first in
+            let low : position_of p earlier ≤ count_at (node_of w p) = placed.placed p in
             let le = k.low in
             omega arith
       ];
@@ -136,8 +136,8 @@ kept-down earlier c w s step placed p down k =
           ]
           );
     } where
-      grows : CountGrows (may_move s.event p) (seat_of w p) (seat_of s.world p)
-      grows = subst (λ (m : Moved). CountGrows (may_move s.event p) (seat_of w p) (seat_of m.world p)) (sym step.moved) (event-counts c w step.before s.event step.may step.admitted p)
+      grows : CountGrows (may_move s.event p) (node_of w p) (node_of s.world p)
+      grows = subst (λ (m : Moved). CountGrows (may_move s.event p) (node_of w p) (node_of m.world p)) (sym step.moved) (event-counts c w step.before s.event step.may step.admitted p)
 
 -- ---- the lines of actions
 

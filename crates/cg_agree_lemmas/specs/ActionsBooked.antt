@@ -16,10 +16,10 @@ use Rattle.cg_group.specs.declared.delivery.Handed.{Handed}
 use Rattle.cg_group.specs.State.{Configuration, Sent, configuration, regular_in, phase_of, delivered_to, home}
 use Rattle.cg_group.specs.Events.{delivery_at, deliveries_at, transitional_places, furthest, handed_in_split, with_delivered, become_transitional, deliver, split, merge}
 use Rattle.cg_client.specs.Replica.{Replica}
-use Rattle.cg_step.specs.Step.{Input, Deliveries, Asks}
-use Rattle.cg_step.specs.Recorded.{OfMessage, OfDelivery, OfInput, Named, AreBooked as AreInBook}
-use Rattle.cg_model.specs.World.{Seat, World, running, seat_of, replica_of}
-use Rattle.cg_model.specs.Show.{Going}
+use Rattle.cg_replica_step.specs.Step.{Input, Deliveries, Asks}
+use Rattle.cg_replica_step.specs.Recorded.{OfMessage, OfDelivery, OfInput, Named, AreBooked as AreInBook}
+use Rattle.cg_model.specs.World.{Node, World, running, node_of, replica_of}
+use Rattle.cg_model.specs.Show.{StepInProgress}
 use Rattle.cg_model.specs.Step.{quietly, hand_over}
 use Rattle.cg_model.specs.Chronicle.{Chronicle}
 use Rattle.cg_model.specs.Talk.{action_in}
@@ -108,20 +108,20 @@ module _ (c : Chronicle) (w : World) (stands : StandsBeside c w) where
       subst (λ g. Each (OfDelivery (Named book)) (deliveries_at (configuration g conf) places)) (sym stands.same.group)
       (at-places (Named book) (configuration c.world.group conf) (each-named c _ (stands.facts.replica.made_once.in_messages conf)) places)
 
-  -- the seats of those who are still to take their turns are as they were
-  in-turn : (list : List (Handed Msg)) (g : Going) (low : ℕ) → IsRising low (map (λ h. h.to) list) → ((q : ℕ) → low ≤ q → seat_of g.world q ≡ seat_of w q) →
+  -- the nodes of those who are still to take their turns are as they were
+  in-turn : (list : List (Handed Msg)) (g : StepInProgress) (low : ℕ) → IsRising low (map (λ h. h.to) list) → ((q : ℕ) → low ≤ q → node_of g.world q ≡ node_of w q) →
       Each (IsHandedBooked book w) list → AreBookedInTurn book g list
   in-turn [] g low rise same each = tt
   in-turn (h ∷ list) g low rise same each =
       let le = rise.0 in (
-        subst (λ (o : Option Seat). IfSome (option_and_then (λ s. running s.life) o) (λ r. AreInBook book r.held (Deliveries h.list))) (sym (same h.to rise.0)) each.0,
+        subst (λ (o : Option Node). IfSome (option_and_then (λ s. running s.life) o) (λ r. AreInBook book r.held (Deliveries h.list))) (sym (same h.to rise.0)) each.0,
         in-turn list (hand_over g h) (suc h.to) rise.1 (λ q above. (elim (hand-behind (λ q input. q ≡ h.to) g h.to (Deliveries h.list) refl q) [
           | inl stays ↦ stays
           | inr turn ↦ absurd (let one : q ≡ h.to = turn.of in omega (arith, above, one))
         ]) ∙ same q (omega (arith, le, above))) each.1,
       )
 
-  one-booked : (h : Handed Msg) (g : Going) → ((q : ℕ) → seat_of g.world q ≡ seat_of w q) → IsHandedBooked book w h → AreBookedInTurn book g (h ∷ [])
+  one-booked : (h : Handed Msg) (g : StepInProgress) → ((q : ℕ) → node_of g.world q ≡ node_of w q) → IsHandedBooked book w h → AreBookedInTurn book g (h ∷ [])
   one-booked h g same is = in-turn (h ∷ []) g 0 (omega arith, tt) (λ q above. same q) (is, tt)
 
   delivers : (p count : ℕ) → IsHandedOutBooked book w (deliver w.group p count)
@@ -148,8 +148,8 @@ module _ (c : Chronicle) (w : World) (stands : StandsBeside c w) where
   each-map f is (p ∷ set) = (is p, each-map f is set)
 
   -- to each of a set
-  set-booked : (f : ℕ → Handed Msg) → ((p : ℕ) → (f p).to ≡ p) → ((p : ℕ) → IsHandedBooked book w (f p)) → (set : List ℕ) → IsSet set → (g : Going) →
-      ((q : ℕ) → seat_of g.world q ≡ seat_of w q) → AreBookedInTurn book g (map f set)
+  set-booked : (f : ℕ → Handed Msg) → ((p : ℕ) → (f p).to ≡ p) → ((p : ℕ) → IsHandedBooked book w (f p)) → (set : List ℕ) → IsSet set → (g : StepInProgress) →
+      ((q : ℕ) → node_of g.world q ≡ node_of w q) → AreBookedInTurn book g (map f set)
   set-booked f to is set sound g same = in-turn (map f set) g 1 (handed-ids f to set 1 (rising-set-list 1 set sound.ascends)) (λ q above. same q) (each-map f is set)
 
   splits : (set : List ℕ) → IsSet set → IsHandedOutBooked book w (split w.group set)

@@ -5,7 +5,7 @@ use Rattle.cg_base.specs.Sets.{has, is_within, with_member}
 use Rattle.cg_action.specs.declared.action.Kind.{Kind}
 use Rattle.cg_records.specs.declared.vulnerable.Vulnerable.{Vulnerable}
 use Rattle.cg_knowledge.specs.declared.summary.Summary.{Summary}
-use Rattle.cg_knowledge.specs.Members.{gone, senders}
+use Rattle.cg_knowledge.specs.Summaries.{gone, senders}
 use Rattle.cg_knowledge.specs.Verdict.{decides}
 use Rattle.cg_plan.specs.Plan.{plan_of}
 use Rattle.cg_plan.specs.Progress.{is_done, turn_of}
@@ -25,7 +25,7 @@ use Rattle.cg_exchange.specs.ExchangeStates.{is_usable, with_heard, exchange_sta
 use Rattle.cg_construct.specs.Construct.{attempt_set, is_announced, construct_with}
 use Rattle.cg_construct.specs.No.{no_with}
 use Rattle.cg_commit.specs.Commit.{same_values}
-use Rattle.cg_step.specs.Step.{Input, Deliveries, Asks, replica_step, on_message, on_transitional, on_regular, take}
+use Rattle.cg_replica_step.specs.Step.{Input, Deliveries, Asks, replica_step, on_message, on_transitional, on_regular, after_delivery}
 use Rattle.cg_model.specs.Fronts.{IsSomeWith}
 use Rattle.cg_model.specs.Levels.{is_record_of}
 use Rattle.cg_model.specs.FactsReplica.{is_attempting, IsAsOnDisk}
@@ -200,15 +200,15 @@ module _ (old : Replica) where
   IsNewConf (RegularIn conf set) = is_record_of conf old.held.vulnerable ≡ false
   IsNewConf _ = Unit {0}
 
-  of-take : (t : Turn) (d : Delivery Msg) → IsNewConf d → IsTrackedIn old t → IsTrackedIn old (take t d)
-  unfolding take
+  of-take : (t : Turn) (d : Delivery Msg) → IsNewConf d → IsTrackedIn old t → IsTrackedIn old (after_delivery t d)
+  unfolding after_delivery
   of-take t (Message place from m) new is = of-message t.replica.state from m t refl is
   of-take t (TransitionalIn conf set) new is = of-transitional t.replica.state t refl is
   of-take t (RegularIn conf set) new is = of-regular t.replica.state conf set t refl new is
 
-  of-list : (list : List (Delivery Msg)) (t : Turn) → Each IsNewConf list → IsTrackedIn old t → IsTrackedIn old (fold take t list)
+  of-list : (list : List (Delivery Msg)) (t : Turn) → Each IsNewConf list → IsTrackedIn old t → IsTrackedIn old (fold after_delivery t list)
   of-list [] t new is = is
-  of-list (d ∷ list) t new is = of-list list (take t d) new.1 (of-take t d new.0 is)
+  of-list (d ∷ list) t new is = of-list list (after_delivery t d) new.1 (of-take t d new.0 is)
 
   creating-free : (state : State) (h : Held) → is_creating state ≡ true → IsTracked old state h
   creating-free RegPrim h e = tt
@@ -265,7 +265,7 @@ module _ (old : Replica) where
 -- the reds of a replica that ends within an attempt, without another record, are those that it had
 pub step-tracked : (r : Replica) (input : Input) → HasNoRecordYet r r.state → IsNewIn r input → IsTrackedIn r (replica_step r input)
 unfolding replica_step
-step-tracked r (Deliveries list) none new = of-settle r (fold take (begin r) list) (of-list r list (begin r) new (tracked-first r none))
+step-tracked r (Deliveries list) none new = of-settle r (fold after_delivery (begin r) list) (of-list r list (begin r) new (tracked-first r none))
 step-tracked r (Asks kind) none new = of-request r (begin r) kind (tracked-first r none)
 
 pub as-on-disk : (r : Replica) (t : Turn) (disk : Held) → IsTrackedIn r t → same_values r.held t.replica.held ≡ true → IsAsOnDisk r.held disk r.state → IsAsOnDisk t.replica.held disk t.replica.state

@@ -11,7 +11,7 @@ use Rattle.cg_client.specs.Replica.{Held, Replica}
 use Rattle.cg_client.specs.Turn.{Turn, begin}
 use Rattle.cg_client.specs.Requests.{settle}
 use Rattle.cg_group.specs.State.{phase_of}
-use Rattle.cg_model.specs.World.{Life, Up, Down, seat_of, replica_of}
+use Rattle.cg_model.specs.World.{NodeState, Up, Down, node_of, replica_of}
 use Rattle.cg_model.specs.Attempts.{new_attempt, is_seen, with_attempt_of}
 use Rattle.cg_model.specs.Chronicle.{Leaving, Attempt, Chronicle}
 use Rattle.cg_model.specs.Looks.{snapshot_of, greens_of, stood_of, conf_at}
@@ -124,7 +124,7 @@ grow-behind attempts p greens old new =
 
 -- ---- small steps
 
-grow-turning_as : (c : Chronicle) (p : ℕ) (part : Turn → Turn) (life : Life) → Grow c.attempts (turning_as c p part life).attempts
+grow-turning_as : (c : Chronicle) (p : ℕ) (part : Turn → Turn) (life : NodeState) → Grow c.attempts (turning_as c p part life).attempts
 grow-turning_as c p part (Up r disk) =
     let t = part (begin r) in grow-behind c.attempts p (greens_of c p ++ newly_green r t.replica) r t.replica
 grow-turning_as c p part (Down disk green) = grow-refl c.attempts
@@ -135,20 +135,20 @@ at-some None change c each = grow-refl c.attempts
 at-some (Some x) change c each = each x
 
 pub grow-turning : (c : Chronicle) (p : ℕ) (part : Turn → Turn) → Grow c.attempts (turning c p part).attempts
-grow-turning c p part = at-some (seat_of c.world p) (λ s. turning_as c p part s.life) c (λ s. grow-turning_as c p part s.life)
+grow-turning c p part = at-some (node_of c.world p) (λ s. turning_as c p part s.life) c (λ s. grow-turning_as c p part s.life)
 
 pub grow-left : (c : Chronicle) (p count : ℕ) → Grow c.attempts (changed_attempt (with_leaver p count) (conf_at (phase_of c.world.group p)) c.attempts)
 grow-left c p count = grow-changed (with_leaver p count) (grown-leaver p count) (conf_at (phase_of c.world.group p)) c.attempts
 
-grow-commit_as : (c : Chronicle) (p : ℕ) (life : Life) → Grow c.attempts (commit_as c p life).attempts
+grow-commit_as : (c : Chronicle) (p : ℕ) (life : NodeState) → Grow c.attempts (commit_as c p life).attempts
 grow-commit_as c p (Up r disk) = grow-refl c.attempts
 grow-commit_as c p (Down disk green) = grow-refl c.attempts
 
-grow-crash_as : (c : Chronicle) (p : ℕ) (life : Life) → Grow c.attempts (crash_as c p life).attempts
+grow-crash_as : (c : Chronicle) (p : ℕ) (life : NodeState) → Grow c.attempts (crash_as c p life).attempts
 grow-crash_as c p (Up r disk) = grow-left c p (length (stood_of c p))
 grow-crash_as c p (Down disk green) = grow-refl c.attempts
 
-grow-recover_as : (c : Chronicle) (life : Life) → Grow c.attempts (recover_as c life).attempts
+grow-recover_as : (c : Chronicle) (life : NodeState) → Grow c.attempts (recover_as c life).attempts
 grow-recover_as c (Up r disk) = grow-refl c.attempts
 grow-recover_as c (Down disk green) = grow-refl c.attempts
 
@@ -165,8 +165,8 @@ attempts-grow c (Hands p) = grow-turning (handed_next c p) p (take_next c.world.
 attempts-grow c (Leaves p set own places) = grow-turning (leaving c p set own) p (take_parting c.world.group p set places)
 attempts-grow c (Asks p kind) = grow-turning c p (take_request kind)
 attempts-grow c (Settles p) = grow-turning c p settle
-attempts-grow c (Commits p) = at-some (seat_of c.world p) (λ s. commit_as c p s.life) c (λ s. grow-commit_as c p s.life)
-attempts-grow c (Crashes p) = at-some (seat_of c.world p) (λ s. crash_as c p s.life) c (λ s. grow-crash_as c p s.life)
-attempts-grow c (Recovers p) = at-some (seat_of c.world p) (λ s. recover_as c s.life) c (λ s. grow-recover_as c s.life)
+attempts-grow c (Commits p) = at-some (node_of c.world p) (λ s. commit_as c p s.life) c (λ s. grow-commit_as c p s.life)
+attempts-grow c (Crashes p) = at-some (node_of c.world p) (λ s. crash_as c p s.life) c (λ s. grow-crash_as c p s.life)
+attempts-grow c (Recovers p) = at-some (node_of c.world p) (λ s. recover_as c s.life) c (λ s. grow-recover_as c s.life)
 attempts-grow c (Copies p joiner) = at-some (replica_of c.world p) (copy_as c p joiner) c (λ r. grow-refl c.attempts)
 attempts-grow c (Joins joiner) = at-some (snapshot_of c.world joiner) (λ s. join_with c joiner s.content) c (λ s. grow-refl c.attempts)

@@ -11,16 +11,16 @@ use Rattle.cg_group.specs.State.{Sent, unordered_of}
 use Rattle.cg_client.specs.Replica.{Held, Replica, NonPrim}
 use Rattle.cg_client.specs.Turn.{begin}
 use Rattle.cg_client.specs.Whitening.{white_at}
-use Rattle.cg_stored.specs.Stored.{whiten, recover}
-use Rattle.cg_step.specs.Recorded.{OfMessage}
+use Rattle.cg_disk_records.specs.Stored.{whiten, recovery_turn}
+use Rattle.cg_replica_step.specs.Recorded.{OfMessage}
 use Rattle.cg_model.specs.FactsBooks.{HoldsFine}
-use Rattle.cg_model.specs.World.{Seat, Snapshot, seat_of, replica_of, has_begun}
-use Rattle.cg_model.specs.Step.{joined}
+use Rattle.cg_model.specs.World.{Node, TransferState, node_of, replica_of, has_begun}
+use Rattle.cg_model.specs.Step.{joiner_replica}
 use Rattle.cg_model.specs.Chronicle.{Past, Chronicle}
 use Rattle.cg_model.specs.Fronts.{Front}
 use Rattle.cg_model.specs.Looks.{greens_of, stood_of, past_of, on_disk, disk_held, ordered_in, snapshot_of, copied_for, OfCores}
 use Rattle.cg_model.specs.Talk.{action_in}
-use Rattle.cg_model.specs.FactsNet.{Seated}
+use Rattle.cg_model.specs.FactsNet.{Hosted}
 use Rattle.cg_model.specs.FactsReplica.{IsCore, DiskBehind, AreBooked, MadeOnce}
 use Rattle.cg_model.specs.Facts.{Invariant}
 use Rattle.cg_agree_lemmas.specs.CoresKept.{IsClosed}
@@ -132,15 +132,15 @@ cores-booked c i joiners = record {
   of_disk p None core are = tt
   of_disk p (Some h) core are = holds h (stood_of c p) core (front-each (IsNamed c.book) (stood_of c p) (greens_of c p) (i.replica.disk_behind.behind p) (greens p)) are
 
-  of_copy : (joiner : ℕ) (o : Option Snapshot) → IfSome o (λ s. IsCore c (joined joiner s.content).held (copied_for c joiner)) → IfSome o (λ s. Each (IsNamed c.book) (copied_for c joiner)) →
-      IfSome o (λ s. FineHeld c.book (joined joiner s.content).held (copied_for c joiner))
+  of_copy : (joiner : ℕ) (o : Option TransferState) → IfSome o (λ s. IsCore c (joiner_replica joiner s.content).held (copied_for c joiner)) → IfSome o (λ s. Each (IsNamed c.book) (copied_for c joiner)) →
+      IfSome o (λ s. FineHeld c.book (joiner_replica joiner s.content).held (copied_for c joiner))
   of_copy joiner None core each = tt
   of_copy joiner (Some s) core each =
-      (record { greens = kept-greens (joined joiner s.content).held (copied_for c joiner) core each; reds = tt; own = tt }, each)
+      (record { greens = kept-greens (joiner_replica joiner s.content).held (copied_for c joiner) core each; reds = tt; own = tt }, each)
 
 -- what a commit, a crash, a recovery and a join make of what is held is made of the same actions
 pub booked-closed : (book : List Action) → IsClosed (FineHeld book)
-unfolding whiten recover
+unfolding whiten recovery_turn
 booked-closed book = record {
   whitened = λ h all is. (record { greens = each-drop (IsNamed book) (white_at h - h.queue.white) h.queue.greens is.0.greens; reds = is.0.reds; own = is.0.own }, is.1);
   stored = λ h all is. (record { greens = is.0.greens; reds = is.0.reds; own = is.0.own }, is.1);
@@ -150,18 +150,18 @@ booked-closed book = record {
 
 -- where each core's actions are those of their names, and so are those in messages, the facts say so
 module _ (d : Chronicle) (cores : OfCores d (FineHeld d.book)) where
-  pub greens-booked : Seated d → DiskBehind d → (p : ℕ) → AreBooked d (greens_of d p)
-  greens-booked seated behind p = booked-each d (greens_of d p) (at (replica_of d.world p) refl (cores.memory p)) where
+  pub greens-booked : Hosted d → DiskBehind d → (p : ℕ) → AreBooked d (greens_of d p)
+  greens-booked hosted behind p = booked-each d (greens_of d p) (at (replica_of d.world p) refl (cores.memory p)) where
     from_disk : (o : Option Held) → disk_held d.world p ≡ o → IfSome o (λ h. FineHeld d.book h (stood_of d p)) → greens_of d p ≡ stood_of d p → Each (IsNamed d.book) (greens_of d p)
     from_disk (Some h) e is same = subst (Each (IsNamed d.book)) (sym same) is.1
     from_disk None e is same = subst (Each (IsNamed d.book)) (sym (nothing (past_of d p) refl)) tt where
-      begun : (o : Option Seat) → option_map (λ s. on_disk s.life) o ≡ None → is_some o ≡ false
+      begun : (o : Option Node) → option_map (λ s. on_disk s.life) o ≡ None → is_some o ≡ false
       begun None n = refl
       begun (Some s) n = absurd (let clash : Some (on_disk s.life) ≡ None = n in cc)
 
       nothing : (o : Option Past) → past_of d p ≡ o → greens_of d p ≡ []
       nothing None n = ap (λ (o : Option Past). option_map_or (λ x. x.greens) o []) n
-      nothing (Some x) n = absurd (let clash : true ≡ false = sym (ap is_some n) ∙ seated.past p ∙ begun (seat_of d.world p) e in cc)
+      nothing (Some x) n = absurd (let clash : true ≡ false = sym (ap is_some n) ∙ hosted.past p ∙ begun (node_of d.world p) e in cc)
 
     at : (o : Option Replica) → replica_of d.world p ≡ o → IfSome o (λ r. FineHeld d.book r.held (greens_of d p)) → Each (IsNamed d.book) (greens_of d p)
     at None e is = from_disk (disk_held d.world p) refl (cores.disk p) (behind.down p e)
@@ -181,7 +181,7 @@ module _ (d : Chronicle) (cores : OfCores d (FineHeld d.book)) where
 
   pub copies-booked : (joiner : ℕ) → IfSome (snapshot_of d.world joiner) (λ s. Each (IsNamed d.book) (copied_for d joiner))
   copies-booked joiner = at (snapshot_of d.world joiner) (cores.snapshot joiner) where
-    at : (o : Option Snapshot) → IfSome o (λ s. FineHeld d.book (joined joiner s.content).held (copied_for d joiner)) → IfSome o (λ s. Each (IsNamed d.book) (copied_for d joiner))
+    at : (o : Option TransferState) → IfSome o (λ s. FineHeld d.book (joiner_replica joiner s.content).held (copied_for d joiner)) → IfSome o (λ s. Each (IsNamed d.book) (copied_for d joiner))
     at None is = tt
     at (Some s) is = is.1
 

@@ -22,8 +22,8 @@ use Rattle.cg_client.specs.Turn.{Turn}
 use Rattle.cg_client.specs.Marks.{after_first, marked, place_green}
 use Rattle.cg_client.specs.Requests.{create, create_kept, empty_buffer, next_action}
 use Rattle.cg_client.specs.Summary.{redden, forget_own, own_to_red}
-use Rattle.cg_exchange.specs.ExchangeActions.{message_of, messages_of}
-use Rattle.cg_step.specs.Recorded.{OfMessage}
+use Rattle.cg_exchange.specs.ExchangeActions.{message_of, messages_in_part}
+use Rattle.cg_replica_step.specs.Recorded.{OfMessage}
 use Rattle.cg_model.specs.FactsBooks.{HoldsFine}
 use Rattle.cg_model.specs.Talk.{action_in}
 use Rattle.cg_agree_lemmas.specs.TurnRows.{IsRule}
@@ -127,7 +127,7 @@ module _ (Fine : Action → Type 0) where
     says = λ t m none p. record { held = p.held; sent = Each-append (OfMessage Fine) t.sent (m ∷ []) p.sent (no-action m none, tt) };
     part = λ t part p. record {
       held = p.held;
-      sent = (let q = t.replica.held.queue in Each-append (OfMessage Fine) t.sent (messages_of q part) p.sent (items-fine q (items_of part) p.held.greens p.held.reds));
+      sent = (let q = t.replica.held.queue in Each-append (OfMessage Fine) t.sent (messages_in_part q part) p.sent (items-fine q (items_of part) p.held.greens p.held.reds));
     };
     values = λ t yellow valid prim index v p. record { held = record { greens = p.held.greens; reds = p.held.reds; own = p.held.own }; sent = p.sent };
     known = λ t a fine next made p. record { held = known-fine t.replica.held a fine p.held; sent = p.sent };

@@ -7,16 +7,16 @@ use Rattle.cg_client.specs.Replica.{Replica}
 use Rattle.cg_client.specs.Turn.{Turn}
 use Rattle.cg_commit.specs.Crash.{Disk}
 use Rattle.cg_group.specs.LookupLaws.{at-cond}
-use Rattle.cg_model.specs.World.{Life, World, seat_of, set_life}
+use Rattle.cg_model.specs.World.{NodeState, World, node_of, set_life}
 use Rattle.cg_model.specs.Chronicle.{Past, Chronicle}
 use Rattle.cg_model.specs.Looks.{past_of, greens_of}
 use Rattle.cg_model.specs.Small.{after_turn, newly_green, with_greens, with_past}
 use Rattle.cg_agree_lemmas.specs.Keyed.{found-changed}
-use Rattle.cg_model.specs.SeatLaws.{found-seat}
+use Rattle.cg_model.specs.NodeLaws.{found-node}
 
--- one seat has another life, and every other one is as before
-pub seat_of-set : (w : World) (p : ℕ) (life : Life) (q : ℕ) → seat_of (set_life w p life) q ≡ cond (p == q) (Some (record { id = p; life = life })) (seat_of w q)
-seat_of-set w p life q = found-seat w.seats (record { id = p; life = life }) q
+-- one node has another life, and every other one is as before
+pub node_of-set : (w : World) (p : ℕ) (life : NodeState) (q : ℕ) → node_of (set_life w p life) q ≡ cond (p == q) (Some (record { id = p; life = life })) (node_of w q)
+node_of-set w p life q = found-node w.nodes (record { id = p; life = life }) q
 
 -- the replica whose turn it is has more greens, and every other one what it had
 pub past_of-turn : (c : Chronicle) (p : ℕ) (r : Replica) (disk : Disk) (t : Turn) (q : ℕ) →

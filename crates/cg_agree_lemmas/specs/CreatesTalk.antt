@@ -12,7 +12,7 @@ use Rattle.cg_base.specs.SetLaws.{is_within-has, is_within-from, has-with_member
 use Rattle.cg_action.specs.declared.action.Action.{Action}
 use Rattle.cg_action.specs.declared.action.Kind.{Kind}
 use Rattle.cg_knowledge.specs.declared.summary.Summary.{Summary}
-use Rattle.cg_knowledge.specs.Members.{senders, gone, remaining}
+use Rattle.cg_knowledge.specs.Summaries.{senders, gone, remaining}
 use Rattle.cg_knowledge.specs.Verdict.{decides}
 use Rattle.cg_wire.specs.declared.message.Msg.{Msg}
 use Rattle.cg_wire.specs.declared.message.Msg.TheVariants.{Action as ActionMsg, State as StateMsg, GreenItem, RedItem, Cpc}
@@ -22,7 +22,7 @@ use Rattle.cg_client.specs.Replica.{ExchangeStates, ExchangeActions, Replica}
 use Rattle.cg_client.specs.Turn.{Turn, begin}
 use Rattle.cg_client.specs.Requests.{is_creating, next_action, create, create_kept, empty_buffer}
 use Rattle.cg_commit.specs.Crash.{Disk}
-use Rattle.cg_model.specs.World.{Up, Seat, seat_of, replica_of, running}
+use Rattle.cg_model.specs.World.{Up, Node, node_of, replica_of, running}
 use Rattle.cg_model.specs.Chronicle.{Told, Chronicle}
 use Rattle.cg_model.specs.Looks.{greens_of, is_regular_in, is_regular_at, members_in, ordered_in, sent_by, said_in}
 use Rattle.cg_model.specs.Talk.{Talk, no_talk, talk_of, hears, hears_from, is_full, is_through, is_ended, is_announced, may_go_on, is_legal, state_behind, state_in, summary_in, item_in, announcer_in}
@@ -35,7 +35,7 @@ use Rattle.cg_agree_lemmas.specs.HandTalk.{creating-behind}
 use Rattle.cg_agree_lemmas.specs.SaidSoFar.{IsSame, rest-through}
 use Rattle.cg_agree_lemmas.specs.HandsKept.{take-drop}
 use Rattle.cg_agree_lemmas.specs.HandsTalk.{SaidFacts}
-use Rattle.cg_agree_lemmas.specs.ChronicleFacts.{seat_of-set}
+use Rattle.cg_agree_lemmas.specs.ChronicleFacts.{node_of-set}
 use Rattle.cg_agree_lemmas.specs.GroupTurn.{Moved, moved-sent, put-same}
 use Rattle.cg_agree_lemmas.specs.TalkKept.{Turns, FitsAt, legal-kept, says-kept, told-kept, mode-kept}
 use Rattle.cg_group.specs.LookupLaws.{at-cond, eqb_comm}
@@ -168,7 +168,7 @@ module _ (set : List ℕ) (conf me : ℕ) where
 
 -- a member is regular, in a state that creates, and takes a part of a turn that creates
 pub record CreatesAt (c : Chronicle) (p conf : ℕ) (r : Replica) (disk : Disk) (u : Turn) : Type 0 where
-  pub seat : seat_of c.world p ≡ Some (record { id = p; life = Up r disk })
+  pub node : node_of c.world p ≡ Some (record { id = p; life = Up r disk })
   pub regular : phase_of c.world.group p ≡ Regular conf
   pub number : (conf == 0) ≡ false
   pub member : has (members_in c conf) p ≡ true
@@ -206,7 +206,7 @@ module _ (c : Chronicle) (p conf : ℕ) (r : Replica) (disk : Disk) (u : Turn) (
 
   pub state-is : r.state ≡ state_in set conf x p
   state-is =
-      let running' : replica_of c.world p ≡ Some r = ap (option_and_then (λ (x : Seat). running x.life)) h.seat in
+      let running' : replica_of c.world p ≡ Some r = ap (option_and_then (λ (x : Node). running x.life)) h.node in
       let mode = old.modes p in
       rw (running', h.regular) at mode
 
@@ -275,8 +275,8 @@ module _ (c : Chronicle) (p conf : ℕ) (r : Replica) (disk : Disk) (u : Turn) (
     waits = moved.waits;
     told = λ k q. ap (λ xs. find (λ (t : Told). (t.summary.conf == k) && (t.summary.id == q)) (c.told ++ map (λ x. told-by x) xs)) (ap (filter_map summary_in) h.adds.sent ∙ none-of summary_in (λ a. refl) acts)
         ∙ ap (find (λ (t : Told). (t.summary.conf == k) && (t.summary.id == q))) (append-nil c.told);
-    replica = λ q. ap (option_and_then (λ (x : Seat). running x.life)) (seat_of-set c.world p (Up u.replica disk) q)
-        ∙ at-cond (option_and_then (λ (x : Seat). running x.life)) (p == q) (Some (record { id = p; life = Up u.replica disk })) (seat_of c.world q)
+    replica = λ q. ap (option_and_then (λ (x : Node). running x.life)) (node_of-set c.world p (Up u.replica disk) q)
+        ∙ at-cond (option_and_then (λ (x : Node). running x.life)) (p == q) (Some (record { id = p; life = Up u.replica disk })) (node_of c.world q)
         ∙ ap (λ b. cond b (Some u.replica) (replica_of c.world q)) (eqb_comm p q);
   } where
     told-by : Summary → Told

@@ -8,7 +8,7 @@ use Rattle.cg_base.specs.Sets.{has, is_within, with_member}
 use Rattle.cg_action.specs.declared.action.Action.{Action}
 use Rattle.cg_queue.specs.Queue.{QueueView, marked_yellow, action_of}
 use Rattle.cg_knowledge.specs.declared.summary.Summary.{Summary}
-use Rattle.cg_knowledge.specs.Members.{gone, senders}
+use Rattle.cg_knowledge.specs.Summaries.{gone, senders}
 use Rattle.cg_knowledge.specs.Verdict.{decides}
 use Rattle.cg_plan.specs.declared.parts.Item.{Item}
 use Rattle.cg_plan.specs.declared.parts.Item.TheVariants.{Green, Red}
@@ -32,7 +32,7 @@ use Rattle.cg_exchange.specs.PlanEnd.{end_plan}
 use Rattle.cg_construct.specs.Construct.{attempt_set, is_announced, construct_with, construct_on_cpc}
 use Rattle.cg_construct.specs.No.{no_with, no_on_cpc}
 use Rattle.cg_construct.specs.Un.{un_on_action}
-use Rattle.cg_step.specs.Step.{on_message, on_transitional, take}
+use Rattle.cg_replica_step.specs.Step.{on_message, on_transitional, after_delivery}
 use Rattle.cg_model.specs.Small.{take_next, take_parting}
 use Rattle.cg_agree_lemmas.specs.HandSays.{part_messages, cpc_at_end, sent-part, sent-end}
 use Rattle.cg_agree_lemmas.specs.HandTalk.{sent-marked, sent-mark_red, sent-mark_green, sent-install, sent-mark_green_at}
@@ -225,28 +225,28 @@ module _ {Y : Type 0} (look : Msg → Option Y) (green : (n : ℕ) (a : Action) 
   silent-on_transitional (NonPrim regular) t = refl
   silent-on_transitional Left t = refl
 
-  pub silent-message : (place from : ℕ) (m : Msg) → IsSilent (λ t. take t (Message place from m))
-  unfolding take
+  pub silent-message : (place from : ℕ) (m : Msg) → IsSilent (λ t. after_delivery t (Message place from m))
+  unfolding after_delivery
   silent-message place from m = silent-by_replica (λ r. on_message r.state from m) (λ r. silent-on_message r.state from m)
 
-  silent-at : (C : Configuration Msg) (place : ℕ) → IsSilent (λ t. fold take t (delivery_at C place))
+  silent-at : (C : Configuration Msg) (place : ℕ) → IsSilent (λ t. fold after_delivery t (delivery_at C place))
   unfolding delivery_at
   silent-at C place = at (at_place C.ordered place) where
-    at : (o : Option (Sent Msg)) → IsSilent (λ t. fold take t (option_map_or (λ s. Message place s.from s.message ∷ []) o []))
+    at : (o : Option (Sent Msg)) → IsSilent (λ t. fold after_delivery t (option_map_or (λ s. Message place s.from s.message ∷ []) o []))
     at None = silent-none
     at (Some s) = silent-message place s.from s.message
 
-  silent-places : (C : Configuration Msg) (places : List ℕ) → IsSilent (λ t. fold take t (deliveries_at C places))
+  silent-places : (C : Configuration Msg) (places : List ℕ) → IsSilent (λ t. fold after_delivery t (deliveries_at C places))
   silent-places C [] t = refl
   silent-places C (place ∷ places) t =
-      ap (λ (u : Turn). filter_map look u.sent) (fold-append take t (delivery_at C place) (deliveries_at C places))
-      ∙ silent-places C places (fold take t (delivery_at C place)) ∙ silent-at C place t
+      ap (λ (u : Turn). filter_map look u.sent) (fold-append after_delivery t (delivery_at C place) (deliveries_at C places))
+      ∙ silent-places C places (fold after_delivery t (delivery_at C place)) ∙ silent-at C place t
 
   -- a place that is handed, and a parting
   pub silent-next : (g : GroupState Msg) (p : ℕ) → IsSilent (take_next g p)
   silent-next g p = silent-at (home g p) (suc (delivered_to g p))
 
   pub silent-parting : (g : GroupState Msg) (p : ℕ) (set places : List ℕ) → IsSilent (take_parting g p set places)
-  unfolding take
+  unfolding after_delivery
   silent-parting g p set places t =
-      silent-places (home g p) places (take t (TransitionalIn (regular_in (phase_of g p)) set)) ∙ silent-on_transitional t.replica.state t
+      silent-places (home g p) places (after_delivery t (TransitionalIn (regular_in (phase_of g p)) set)) ∙ silent-on_transitional t.replica.state t

@@ -5,10 +5,10 @@ use Rattle.std.proofs.lemmas.Bool.{cases_Bool, cond-true, cond-false, cond_both,
 use Rattle.cg_base.specs.declared.action_id.ActionId.{ActionId}
 use Rattle.cg_client.specs.Replica.{Held}
 use Rattle.cg_client.specs.Turn.{Turn}
-use Rattle.cg_stored.specs.Stored.{stored_of, whiten}
+use Rattle.cg_disk_records.specs.Stored.{stored_of, whiten}
 use Rattle.cg_commit.specs.Commit.{commits}
-use Rattle.cg_stored.specs.Checkpoint.{size_limit}
-use Rattle.cg_commit.specs.Crash.{Strike, Fault, FailOnce, StopWith, Disk, Ended, Runs, Crashes, opens, with_change, with_checkpoint, calls_of, checkpointed, whitened, commit_under, struck, end_event, at_rest, crash_outcome, is_committed, is_checkpointed}
+use Rattle.cg_disk_records.specs.Checkpoint.{size_limit}
+use Rattle.cg_commit.specs.Crash.{Strike, Fault, FailOnce, StopWith, Disk, EventEnd, Runs, Crashes, opens, with_change, with_checkpoint, calls_of, checkpointed, whitened, commit_under, struck, end_event, at_rest, crash_outcome, is_committed, is_checkpointed}
 use Rattle.cg_model.specs.Turns.{is_kept}
 
 -- a checkpoint changes nothing of it
@@ -52,7 +52,7 @@ content-stands disk t strike e =
 
 -- how an event may end at a replica: it makes no commit; it makes one; it is struck, and its commit stands, with the names that became
 -- green; it is struck, and doesn't
-pub end-shown : (disk : Disk) (old : Held) (t : Turn) (G : Ended → Type 0) →
+pub end-shown : (disk : Disk) (old : Held) (t : Turn) (G : EventEnd → Type 0) →
     (commits old t ≡ false → (d : Disk) → d.content ≡ disk.content → G (Runs t.replica d)) →
     (commits old t ≡ true → (d : Disk) → d.content ≡ stored_of (whiten t.replica.held) → G (Runs (whitened t.replica) d)) →
     (is_kept disk.armed ≡ true → (d : Disk) → d.content ≡ stored_of (whiten t.replica.held) → G (Crashes d t.green)) →
@@ -76,7 +76,7 @@ end-shown disk old t G kept committed stands lost =
           (cases_Bool (is_committed strike)))
           (λ later. committed y after (content-checkpointed (with_change disk t) ∙ content-changed disk t))
 
-pub end-cases : (disk : Disk) (old : Held) (t : Turn) (G : Ended → Type 0) →
+pub end-cases : (disk : Disk) (old : Held) (t : Turn) (G : EventEnd → Type 0) →
     (commits old t ≡ false → (d : Disk) → d.content ≡ disk.content → G (Runs t.replica d)) →
     (commits old t ≡ true → (d : Disk) → d.content ≡ stored_of (whiten t.replica.held) → G (Runs (whitened t.replica) d)) →
     (is_kept disk.armed ≡ true → (d : Disk) (green : List ActionId) → d.content ≡ stored_of (whiten t.replica.held) → G (Crashes d green)) →

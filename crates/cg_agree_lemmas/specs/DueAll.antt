@@ -5,7 +5,7 @@ use Rattle.std.proofs.lemmas.Bool.{le-leb, cases_eq, cases_lt, cases_Bool, cond-
 use Rattle.std.proofs.lemmas.List.Elements.{filter_map-append}
 use Rattle.cg_plan.specs.declared.parts.Item.{Item}
 use Rattle.cg_plan.specs.declared.parts.Part.{Part}
-use Rattle.cg_plan.specs.declared.parts.Sent.{Sent as PlanSent}
+use Rattle.cg_plan.specs.declared.parts.SentItem.{SentItem as PlanSent}
 use Rattle.cg_plan.specs.declared.parts.SentPart.{SentPart}
 use Rattle.cg_plan.specs.Items.{items_of, items_of_turn, items_of_plan, sent_by}
 use Rattle.cg_plan.specs.Place.{AreFilled}

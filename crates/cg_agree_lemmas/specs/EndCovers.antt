@@ -7,7 +7,7 @@ use Rattle.std.proofs.lemmas.List.{append_assoc}
 use Rattle.cg_base.specs.declared.action_id.ActionId.{ActionId}
 use Rattle.cg_base.specs.Ids.{names, same_id}
 use Rattle.cg_knowledge.specs.declared.summary.Summary.{Summary}
-use Rattle.cg_knowledge.specs.Members.{lower, lowest}
+use Rattle.cg_knowledge.specs.Summaries.{lower, lowest}
 use Rattle.cg_knowledge.specs.Yellow.{yellow_group, is_green_at_most, is_in_each, is_common, yellow_of, common_yellow}
 use Rattle.cg_base.specs.IdLaws.{same_id-true}
 use Rattle.cg_model.specs.Fronts.{Front}

@@ -7,7 +7,7 @@ use Rattle.std.proofs.lemmas.Bool.{cases_Bool, cond-true, cond-false, cond_both,
 use Rattle.cg_base.specs.declared.action_id.ActionId.{ActionId}
 use Rattle.cg_base.specs.Cuts.{index_in, raise, with_top}
 use Rattle.cg_knowledge.specs.declared.summary.Summary.{Summary}
-use Rattle.cg_knowledge.specs.Members.{lowest, most_updated}
+use Rattle.cg_knowledge.specs.Summaries.{lowest, most_updated}
 use Rattle.cg_knowledge.specs.Yellow.{yellow_group, is_green_at_most, common_yellow}
 use Rattle.cg_model.specs.Fronts.{Front}
 use Rattle.cg_commit.specs.Holds.{run_on, cut_behind}

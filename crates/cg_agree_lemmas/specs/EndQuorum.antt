@@ -11,7 +11,7 @@ use Rattle.cg_records.specs.declared.vulnerable.Vulnerable.{Vulnerable}
 use Rattle.cg_vote.specs.Quorum.{is_quorum}
 use Rattle.cg_vote.specs.QuorumLaws.{meet}
 use Rattle.cg_knowledge.specs.declared.summary.Summary.{Summary}
-use Rattle.cg_knowledge.specs.Members.{senders, gone, remaining}
+use Rattle.cg_knowledge.specs.Summaries.{senders, gone, remaining}
 use Rattle.cg_knowledge.specs.Primary.{newest_index, known_primary}
 use Rattle.cg_knowledge.specs.Vulnerable.{is_cleared, all_bits, decided}
 use Rattle.cg_knowledge.specs.Verdict.{records_of, all_cleared, decides}

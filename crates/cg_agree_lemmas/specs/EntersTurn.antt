@@ -11,7 +11,7 @@ use Rattle.cg_client.specs.Marks.{marked}
 use Rattle.cg_client.specs.Summary.{summary_of, redden, forget_own, own_to_red, enter_exchange}
 use Rattle.cg_prim.specs.TransPrim.{end_prim}
 use Rattle.cg_construct.specs.No.{no_record}
-use Rattle.cg_step.specs.Step.{on_regular, take}
+use Rattle.cg_replica_step.specs.Step.{on_regular, after_delivery}
 use Rattle.cg_group.specs.State.{GroupState, configuration}
 use Rattle.cg_model.specs.Small.{newest_conf, take_newest}
 use Rattle.cg_model.specs.Smalls.{is_between}
@@ -45,12 +45,12 @@ pub own-state : (t : Turn) → (own_to_red t).replica.state ≡ t.replica.state
 own-state t = (says-own t).state
 
 -- it has told its summary, and waits
-pub record Told (conf : ℕ) (set : List ℕ) (r : Replica) (u : Turn) : Type 0 where
+pub record TellsItsSummary (conf : ℕ) (set : List ℕ) (r : Replica) (u : Turn) : Type 0 where
   pub state : u.replica.state ≡ ExchangeStates conf set []
   pub sent : u.sent ≡ StateMsg (summary_of u.replica.held conf) ∷ []
   pub id : u.replica.held.id ≡ r.held.id
 
-told-entering : (conf : ℕ) (set : List ℕ) (r : Replica) (t : Turn) → t.sent ≡ [] → t.replica.held.id ≡ r.held.id → Told conf set r (enter_exchange t conf set)
+told-entering : (conf : ℕ) (set : List ℕ) (r : Replica) (t : Turn) → t.sent ≡ [] → t.replica.held.id ≡ r.held.id → TellsItsSummary conf set r (enter_exchange t conf set)
 unfolding enter_exchange
 told-entering conf set r t none id =
     let own = says-own t in
@@ -60,7 +60,7 @@ told-entering conf set r t none id =
       id = own.id ∙ id;
     }
 
-pub told-regular : (state : State) (conf : ℕ) (set : List ℕ) (r : Replica) → is_between state ≡ true → Told conf set r (on_regular state conf set (begin r))
+pub told-regular : (state : State) (conf : ℕ) (set : List ℕ) (r : Replica) → is_between state ≡ true → TellsItsSummary conf set r (on_regular state conf set (begin r))
 unfolding on_regular
 told-regular TransPrim conf set r between = told-entering conf set r (with_held (begin r) (end_prim r.held)) refl refl
 told-regular (No at heard) conf set r between = told-entering conf set r (with_held (begin r) (no_record r.held)) refl refl
@@ -73,6 +73,6 @@ told-regular (Construct at heard) conf set r between = absurd (let clash : false
 told-regular Left conf set r between = absurd (let clash : false ≡ true = between in cc)
 
 -- what the newest configuration makes of a replica between two
-pub told-newest : (g : GroupState Msg) (r : Replica) → is_between r.state ≡ true → Told (newest_conf g) (configuration g (newest_conf g)).members r (take_newest g (begin r))
-unfolding take
+pub told-newest : (g : GroupState Msg) (r : Replica) → is_between r.state ≡ true → TellsItsSummary (newest_conf g) (configuration g (newest_conf g)).members r (take_newest g (begin r))
+unfolding after_delivery
 told-newest g r between = told-regular r.state (newest_conf g) (configuration g (newest_conf g)).members r between

@@ -7,7 +7,7 @@ use Rattle.cg_client.specs.Turn.{Turn, begin, with_held}
 use Rattle.cg_client.specs.Summary.{enter_exchange}
 use Rattle.cg_prim.specs.TransPrim.{end_prim}
 use Rattle.cg_construct.specs.No.{no_record}
-use Rattle.cg_step.specs.Step.{on_regular, take}
+use Rattle.cg_replica_step.specs.Step.{on_regular, after_delivery}
 use Rattle.cg_model.specs.Small.{newly_green, take_newest, newest_conf}
 use Rattle.cg_model.specs.Smalls.{is_between}
 use Rattle.cg_agree_lemmas.specs.HeldCommit.{own-greens}
@@ -29,7 +29,7 @@ regular-greens (Construct at heard) r conf set between = absurd (let clash : fal
 regular-greens Left r conf set between = absurd (let clash : false ≡ true = between in cc)
 
 pub entry-greens : (g : GroupState Msg) (r : Replica) → is_between r.state ≡ true → (take_newest g (begin r)).replica.held.queue.greens ≡ r.held.queue.greens
-unfolding take
+unfolding after_delivery
 entry-greens g r between = regular-greens r.state r (newest_conf g) (configuration g (newest_conf g)).members between
 
 drop-whole : {X : Type 0} (xs : List X) → drop (length xs) xs ≡ []

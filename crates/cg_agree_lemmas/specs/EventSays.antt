@@ -17,16 +17,16 @@ use Rattle.cg_report.specs.declared.entry.Made.{Made}
 use Rattle.cg_report.specs.declared.entry.Reply.{Reply}
 use Rattle.cg_client.specs.Replica.{Held, Replica}
 use Rattle.cg_client.specs.Turn.{Turn}
-use Rattle.cg_step.specs.Step.{Input, Deliveries, replica_step}
-use Rattle.cg_commit.specs.Crash.{Disk, Ended, Runs, Crashes, end_event}
-use Rattle.cg_model.specs.World.{Life, Up, Down, Seat, seat_of}
-use Rattle.cg_model.specs.Show.{Going, News, news_of, answered_from, tell}
+use Rattle.cg_replica_step.specs.Step.{Input, Deliveries, replica_step}
+use Rattle.cg_commit.specs.Crash.{Disk, EventEnd, Runs, Crashes, end_event}
+use Rattle.cg_model.specs.World.{NodeState, Up, Down, Node, node_of}
+use Rattle.cg_model.specs.Show.{StepInProgress, EventEffects, news_of, answered_from, tell}
 use Rattle.cg_model.specs.Step.{after_event, hand_to, hand, hand_over}
 use Rattle.cg_model.specs.FactsLists.{IsRising}
 use Rattle.cg_model.specs.Making.{made_of_action}
-use Rattle.cg_agree_lemmas.specs.ChronicleFacts.{seat_of-set}
-use Rattle.cg_agree_lemmas.specs.SeatFacts.{seat-id}
-use Rattle.cg_agree_lemmas.specs.TurnWorlds.{up_seat, life_at, seats-ended}
+use Rattle.cg_agree_lemmas.specs.ChronicleFacts.{node_of-set}
+use Rattle.cg_agree_lemmas.specs.NodeFacts.{node-id}
+use Rattle.cg_agree_lemmas.specs.TurnWorlds.{up_node, life_at, nodes-ended}
 use Rattle.cg_agree_lemmas.specs.EventTurns.{hand-leads}
 use Rattle.cg_agree_lemmas.specs.MadeWorlds.{IsCoreAt}
 use Rattle.cg_agree_lemmas.specs.RepliesPlaced.{IsIn, times, reply_ids, plain, ids_in, AreAmong, answered-all, among-chosen, times-all, in-all}
@@ -37,7 +37,7 @@ abbrev pub made_ids : List Made → List ActionId
 made_ids made = map (λ m. m.id) made
 
 -- between two points of a step these own actions were made, and these replies given to own actions, and no other
-pub record Said (g h : Going) (p : ℕ) (new : List ActionId) (given : List Reply) : Type 0 where
+pub record Said (g h : StepInProgress) (p : ℕ) (new : List ActionId) (given : List Reply) : Type 0 where
   pub made : (i : ℕ) → names (made_ids h.made) (own_name p i) ≡ (names (made_ids g.made) (own_name p i) || names new (own_name p i))
   pub count : (i : ℕ) → times (own_name p i) (ids_in h.replies) ≡ times (own_name p i) (ids_in g.replies) + times (own_name p i) (reply_ids given)
   pub from : (r : Reply) → r.id.creator ≡ p → IsIn (plain h.replies) r → IsIn (plain g.replies) r ⊎ IsIn given r
@@ -46,7 +46,7 @@ or-none : (b : Bool) → (b || false) ≡ b
 or-none true = refl
 or-none false = refl
 
-pub said-none : (g h : Going) (p : ℕ) → h.made ≡ g.made → h.replies ≡ g.replies → Said g h p [] []
+pub said-none : (g h : StepInProgress) (p : ℕ) → h.made ≡ g.made → h.replies ≡ g.replies → Said g h p [] []
 said-none g h p made replies = record {
   made = λ i. ap (λ list. names (made_ids list) (own_name p i)) made ∙ sym (or-none (names (made_ids g.made) (own_name p i)));
   count = λ i. ap (λ list. times (own_name p i) (ids_in list)) replies ∙ (let n = times (own_name p i) (ids_in g.replies) in let same : n ≡ n + 0 = omega arith in same);
@@ -54,7 +54,7 @@ said-none g h p made replies = record {
 }
 
 -- nothing, and then something; or something, and then nothing
-pub said-later : (g h k : Going) (p : ℕ) (made : List ActionId) (replies : List Reply) → Said g h p [] [] → Said h k p made replies → Said g k p made replies
+pub said-later : (g h k : StepInProgress) (p : ℕ) (made : List ActionId) (replies : List Reply) → Said g h p [] [] → Said h k p made replies → Said g k p made replies
 said-later g h k p made replies a b = record {
   made = λ i. b.made i ∙ ap (λ x. x || names made (own_name p i)) (a.made i ∙ or-none (names (made_ids g.made) (own_name p i)));
   count = λ i. (let one = a.count i in let two = b.count i in omega arith);
@@ -64,7 +64,7 @@ said-later g h k p made replies a b = record {
   ];
 }
 
-pub said-before : (g h k : Going) (p : ℕ) (made : List ActionId) (replies : List Reply) → Said g h p made replies → Said h k p [] [] → Said g k p made replies
+pub said-before : (g h k : StepInProgress) (p : ℕ) (made : List ActionId) (replies : List Reply) → Said g h p made replies → Said h k p [] [] → Said g k p made replies
 said-before g h k p made replies a b = record {
   made = λ i. b.made i ∙ or-none (names (made_ids h.made) (own_name p i)) ∙ a.made i;
   count = λ i. (let one = a.count i in let two = b.count i in omega arith);
@@ -84,7 +84,7 @@ names-both (x ∷ xs) ys id = ap (λ b. same_id id x || b) (names-both xs ys id)
   assoc true b c = refl
   assoc false b c = refl
 
-pub tell-said : (g : Going) (n : News) (p : ℕ) → AreAmong n.replies n.green → Said g (tell g n) p (names_of n.made) n.replies
+pub tell-said : (g : StepInProgress) (n : EventEffects) (p : ℕ) → AreAmong n.replies n.green → Said g (tell g n) p (names_of n.made) n.replies
 tell-said g n p among =
     let new = answered_from (n.count - length n.green) n.green n.replies in
     let all : plain new ≡ n.replies = answered-all n.green (n.count - length n.green) n.replies among in
@@ -98,15 +98,15 @@ tell-said g n p among =
 -- ---- how an event ends at a replica
 
 -- what its turn made and answered counts where it runs on
-abbrev pub made_by : Turn → Ended → List ActionId
+abbrev pub made_by : Turn → EventEnd → List ActionId
 made_by t (Runs r disk) = names_of t.made
 made_by t (Crashes disk green) = []
 
-abbrev pub replies_by : Turn → Ended → List Reply
+abbrev pub replies_by : Turn → EventEnd → List Reply
 replies_by t (Runs r disk) = t.replies
 replies_by t (Crashes disk green) = []
 
-ended-said : (g : Going) (q : ℕ) (t : Turn) (e : Ended) (p : ℕ) → AreAmong t.replies t.green → Said g (after_event g q t e) p (made_by t e) (replies_by t e)
+ended-said : (g : StepInProgress) (q : ℕ) (t : Turn) (e : EventEnd) (p : ℕ) → AreAmong t.replies t.green → Said g (after_event g q t e) p (made_by t e) (replies_by t e)
 ended-said g q t (Runs r disk) p among = (let is = tell-said g (news_of t) p among in record { made = is.made; count = is.count; from = is.from })
 ended-said g q t (Crashes disk green) p among = said-none g _ p refl refl
 
@@ -138,7 +138,7 @@ in-chosen t (x ∷ ids) id there = elim (cases_Bool (t x)) [
   | inr other ↦ in-chosen t ids id (subst (λ xs. IsIn xs id) (cond-false (t x) (x ∷ filter t ids) (filter t ids) other) there)
 ]
 
-others-said : (g : Going) (q base : ℕ) (old : Held) (t : Turn) (e : Ended) (p : ℕ) → SaysSo q base old t → (p ≡ q → ⊥) → Said g (after_event g q t e) p [] []
+others-said : (g : StepInProgress) (q base : ℕ) (old : Held) (t : Turn) (e : EventEnd) (p : ℕ) → SaysSo q base old t → (p ≡ q → ⊥) → Said g (after_event g q t e) p [] []
 others-said g q base old t (Crashes disk green) p says apart = said-none g _ p refl refl
 others-said g q base old t (Runs r disk) p says apart =
     let among = among-chosen (is_behind q base) t.green t.replies (says.replies ∙ ap (filter (is_behind q base)) (sym says.answered.green)) in
@@ -162,146 +162,146 @@ pub record OwesSo (start : List Weighted) (p : ℕ) (h : Held) : Type 0 where
   pub core : IsCoreAt start p h
   pub owing : IsOwing p base h
 
-abbrev pub LifeOwes : List Weighted → ℕ → Life → Type 0
+abbrev pub LifeOwes : List Weighted → ℕ → NodeState → Type 0
 LifeOwes start p (Up r disk) = OwesSo start p r.held
 LifeOwes start p (Down disk green) = Unit {0}
 
-abbrev pub SeatOwes : List Weighted → ℕ → Option Seat → Type 0
-SeatOwes start p None = Unit {0}
-SeatOwes start p (Some s) = LifeOwes start p s.life
+abbrev pub NodeOwes : List Weighted → ℕ → Option Node → Type 0
+NodeOwes start p None = Unit {0}
+NodeOwes start p (Some s) = LifeOwes start p s.life
 
 -- the replica took its turn with such an input, and what came of it is said
-pub record TookTurn (Q : ℕ → Input → Type 0) (g h : Going) (p : ℕ) : Type 0 where
+pub record TookTurn (Q : ℕ → Input → Type 0) (g h : StepInProgress) (p : ℕ) : Type 0 where
   pub replica : Replica
   pub disk : Disk
   pub input : Input
   pub of : Q p input
-  pub before : seat_of g.world p ≡ Some (up_seat p replica disk)
-  pub behind : (let t = replica_step replica input in seat_of h.world p ≡ Some (record { id = p; life = life_at (end_event disk replica.held t) }))
+  pub before : node_of g.world p ≡ Some (up_node p replica disk)
+  pub behind : (let t = replica_step replica input in node_of h.world p ≡ Some (record { id = p; life = life_at (end_event disk replica.held t) }))
   pub said : (let t = replica_step replica input in let e = end_event disk replica.held t in Said g h p (made_by t e) (replies_by t e))
 
--- or its seat is as it was, and nothing is said of it
-pub record KeptSeat (g h : Going) (p : ℕ) : Type 0 where
-  pub seat : seat_of h.world p ≡ seat_of g.world p
+-- or its node is as it was, and nothing is said of it
+pub record KeptNode (g h : StepInProgress) (p : ℕ) : Type 0 where
+  pub node : node_of h.world p ≡ node_of g.world p
   pub said : Said g h p [] []
 
-abbrev pub Comes : (ℕ → Input → Type 0) → Going → Going → ℕ → Type 0
-Comes Q g h p = KeptSeat g h p ⊎ TookTurn Q g h p
+abbrev pub Comes : (ℕ → Input → Type 0) → StepInProgress → StepInProgress → ℕ → Type 0
+Comes Q g h p = KeptNode g h p ⊎ TookTurn Q g h p
 
 module _ (start : List Weighted) (Q : ℕ → Input → Type 0) where
   -- another replica than the one that is handed something
-  pub hand-apart : (g : Going) (q : ℕ) (input : Input) → SeatOwes start q (seat_of g.world q) → (p : ℕ) → (p ≡ q → ⊥) → KeptSeat g (hand g q input) p
+  pub hand-apart : (g : StepInProgress) (q : ℕ) (input : Input) → NodeOwes start q (node_of g.world q) → (p : ℕ) → (p ≡ q → ⊥) → KeptNode g (hand g q input) p
   unfolding hand
-  hand-apart g q input owes p apart = at (seat_of g.world q) refl owes where
-    up : (r : Replica) (disk : Disk) → seat_of g.world q ≡ Some (up_seat q r disk) → OwesSo start q r.held → KeptSeat g (hand g q input) p
-    up r disk seat owes =
+  hand-apart g q input owes p apart = at (node_of g.world q) refl owes where
+    up : (r : Replica) (disk : Disk) → node_of g.world q ≡ Some (up_node q r disk) → OwesSo start q r.held → KeptNode g (hand g q input) p
+    up r disk node owes =
         let t = replica_step r input in
         let e = end_event disk r.held t in
-        let leads = hand-leads g q r disk input seat in
-        let seats = leads.seats ∙ seats-ended g.world g.world.group q t e in
+        let leads = hand-leads g q r disk input node in
+        let nodes = leads.nodes ∙ nodes-ended g.world g.world.group q t e in
         let says = step-says start q owes.base r input owes.core owes.owing in
-        let chosen : hand g q input ≡ after_event g q t e = ap (λ (o : Option Seat). option_map_or (λ s. hand_to g q input s.life) o g) seat in
+        let chosen : hand g q input ≡ after_event g q t e = ap (λ (o : Option Node). option_map_or (λ s. hand_to g q input s.life) o g) node in
         record {
-          seat = ap (λ (list : List Seat). find (λ s. s.id == p) list) seats ∙ seat_of-set g.world q (life_at e) p
-              ∙ cond-false (q == p) (Some (record { id = q; life = life_at e })) (seat_of g.world p) (ne_eqb q p (λ x. apart (sym x)));
-          said = subst (λ (h : Going). Said g h p [] []) (sym chosen) (others-said g q owes.base r.held t e p says apart);
+          node = ap (λ (list : List Node). find (λ s. s.id == p) list) nodes ∙ node_of-set g.world q (life_at e) p
+              ∙ cond-false (q == p) (Some (record { id = q; life = life_at e })) (node_of g.world p) (ne_eqb q p (λ x. apart (sym x)));
+          said = subst (λ (h : StepInProgress). Said g h p [] []) (sym chosen) (others-said g q owes.base r.held t e p says apart);
         }
 
-    at : (o : Option Seat) → seat_of g.world q ≡ o → SeatOwes start q o → KeptSeat g (hand g q input) p
-    at None e owes = (let none = ap (λ (o : Option Seat). option_map_or (λ s. hand_to g q input s.life) o g) e in
-        subst (λ (h : Going). KeptSeat g h p) (sym none) (record { seat = refl; said = said-none g g p refl refl }))
+    at : (o : Option Node) → node_of g.world q ≡ o → NodeOwes start q o → KeptNode g (hand g q input) p
+    at None e owes = (let none = ap (λ (o : Option Node). option_map_or (λ s. hand_to g q input s.life) o g) e in
+        subst (λ (h : StepInProgress). KeptNode g h p) (sym none) (record { node = refl; said = said-none g g p refl refl }))
     at (Some s) e owes = life s.life refl owes where
-      life : (l : Life) → s.life ≡ l → LifeOwes start q l → KeptSeat g (hand g q input) p
-      life (Up r disk) is owes = up r disk (e ∙ (λ i. Some (record { id = seat-id g.world q s e i; life = is i }))) owes
-      life (Down disk green) is owes = (let none : hand g q input ≡ g = ap (λ (o : Option Seat). option_map_or (λ s. hand_to g q input s.life) o g) e ∙ ap (hand_to g q input) is in
-          subst (λ (h : Going). KeptSeat g h p) (sym none) (record { seat = refl; said = said-none g g p refl refl }))
+      life : (l : NodeState) → s.life ≡ l → LifeOwes start q l → KeptNode g (hand g q input) p
+      life (Up r disk) is owes = up r disk (e ∙ (λ i. Some (record { id = node-id g.world q s e i; life = is i }))) owes
+      life (Down disk green) is owes = (let none : hand g q input ≡ g = ap (λ (o : Option Node). option_map_or (λ s. hand_to g q input s.life) o g) e ∙ ap (hand_to g q input) is in
+          subst (λ (h : StepInProgress). KeptNode g h p) (sym none) (record { node = refl; said = said-none g g p refl refl }))
 
   -- and that one
-  pub hand-own : (g : Going) (p : ℕ) (input : Input) → Q p input → SeatOwes start p (seat_of g.world p) → Comes Q g (hand g p input) p
+  pub hand-own : (g : StepInProgress) (p : ℕ) (input : Input) → Q p input → NodeOwes start p (node_of g.world p) → Comes Q g (hand g p input) p
   unfolding hand
-  hand-own g p input of owes = at (seat_of g.world p) refl owes where
-    up : (r : Replica) (disk : Disk) → seat_of g.world p ≡ Some (up_seat p r disk) → OwesSo start p r.held → Comes Q g (hand g p input) p
-    up r disk seat owes =
+  hand-own g p input of owes = at (node_of g.world p) refl owes where
+    up : (r : Replica) (disk : Disk) → node_of g.world p ≡ Some (up_node p r disk) → OwesSo start p r.held → Comes Q g (hand g p input) p
+    up r disk node owes =
         let t = replica_step r input in
         let e = end_event disk r.held t in
-        let leads = hand-leads g p r disk input seat in
-        let seats = leads.seats ∙ seats-ended g.world g.world.group p t e in
+        let leads = hand-leads g p r disk input node in
+        let nodes = leads.nodes ∙ nodes-ended g.world g.world.group p t e in
         let says = step-says start p owes.base r input owes.core owes.owing in
         let among = among-chosen (is_behind p owes.base) t.green t.replies (says.replies ∙ ap (filter (is_behind p owes.base)) (sym says.answered.green)) in
-        let chosen : hand g p input ≡ after_event g p t e = ap (λ (o : Option Seat). option_map_or (λ s. hand_to g p input s.life) o g) seat in
+        let chosen : hand g p input ≡ after_event g p t e = ap (λ (o : Option Node). option_map_or (λ s. hand_to g p input s.life) o g) node in
         inr (record {
           replica = r;
           disk = disk;
           input = input;
           of = of;
-          before = seat;
-          behind = ap (λ (list : List Seat). find (λ s. s.id == p) list) seats ∙ seat_of-set g.world p (life_at e) p
-              ∙ cond-true (p == p) (Some (record { id = p; life = life_at e })) (seat_of g.world p) (eq-eqb p p refl);
-          said = subst (λ (h : Going). Said g h p (made_by t e) (replies_by t e)) (sym chosen) (ended-said g p t e p among);
+          before = node;
+          behind = ap (λ (list : List Node). find (λ s. s.id == p) list) nodes ∙ node_of-set g.world p (life_at e) p
+              ∙ cond-true (p == p) (Some (record { id = p; life = life_at e })) (node_of g.world p) (eq-eqb p p refl);
+          said = subst (λ (h : StepInProgress). Said g h p (made_by t e) (replies_by t e)) (sym chosen) (ended-said g p t e p among);
         })
 
-    at : (o : Option Seat) → seat_of g.world p ≡ o → SeatOwes start p o → Comes Q g (hand g p input) p
-    at None e owes = (let none = ap (λ (o : Option Seat). option_map_or (λ s. hand_to g p input s.life) o g) e in
-        subst (λ (h : Going). Comes Q g h p) (sym none) (inl (record { seat = refl; said = said-none g g p refl refl })))
+    at : (o : Option Node) → node_of g.world p ≡ o → NodeOwes start p o → Comes Q g (hand g p input) p
+    at None e owes = (let none = ap (λ (o : Option Node). option_map_or (λ s. hand_to g p input s.life) o g) e in
+        subst (λ (h : StepInProgress). Comes Q g h p) (sym none) (inl (record { node = refl; said = said-none g g p refl refl })))
     at (Some s) e owes = life s.life refl owes where
-      life : (l : Life) → s.life ≡ l → LifeOwes start p l → Comes Q g (hand g p input) p
-      life (Up r disk) is owes = up r disk (e ∙ (λ i. Some (record { id = seat-id g.world p s e i; life = is i }))) owes
-      life (Down disk green) is owes = (let none : hand g p input ≡ g = ap (λ (o : Option Seat). option_map_or (λ s. hand_to g p input s.life) o g) e ∙ ap (hand_to g p input) is in
-          subst (λ (h : Going). Comes Q g h p) (sym none) (inl (record { seat = refl; said = said-none g g p refl refl })))
+      life : (l : NodeState) → s.life ≡ l → LifeOwes start p l → Comes Q g (hand g p input) p
+      life (Up r disk) is owes = up r disk (e ∙ (λ i. Some (record { id = node-id g.world p s e i; life = is i }))) owes
+      life (Down disk green) is owes = (let none : hand g p input ≡ g = ap (λ (o : Option Node). option_map_or (λ s. hand_to g p input s.life) o g) e ∙ ap (hand_to g p input) is in
+          subst (λ (h : StepInProgress). Comes Q g h p) (sym none) (inl (record { node = refl; said = said-none g g p refl refl })))
 
-  pub hand-comes : (g : Going) (q : ℕ) (input : Input) → Q q input → SeatOwes start q (seat_of g.world q) → (p : ℕ) → Comes Q g (hand g q input) p
+  pub hand-comes : (g : StepInProgress) (q : ℕ) (input : Input) → Q q input → NodeOwes start q (node_of g.world q) → (p : ℕ) → Comes Q g (hand g q input) p
   hand-comes g q input of owes p = elim (cases_eq p q) [
-    | inl same ↦ subst (λ n. Comes Q g (hand g n input) p) same (hand-own g p input (subst (λ n. Q n input) (sym same) of) (subst (λ n. SeatOwes start n (seat_of g.world n)) (sym same) owes))
+    | inl same ↦ subst (λ n. Comes Q g (hand g n input) p) same (hand-own g p input (subst (λ n. Q n input) (sym same) of) (subst (λ n. NodeOwes start n (node_of g.world n)) (sym same) owes))
     | inr apart ↦ inl (hand-apart g q input owes p apart)
   ]
 
-  kept-then : (g h k : Going) (p : ℕ) → KeptSeat g h p → Comes Q h k p → Comes Q g k p
+  kept-then : (g h k : StepInProgress) (p : ℕ) → KeptNode g h p → Comes Q h k p → Comes Q g k p
   kept-then g h k p a is = elim is [
-    | inl kept ↦ inl (record { seat = kept.seat ∙ a.seat; said = said-later g h k p [] [] a.said kept.said })
+    | inl kept ↦ inl (record { node = kept.node ∙ a.node; said = said-later g h k p [] [] a.said kept.said })
     | inr turn ↦ inr (record {
       replica = turn.replica;
       disk = turn.disk;
       input = turn.input;
       of = turn.of;
-      before = sym a.seat ∙ turn.before;
+      before = sym a.node ∙ turn.before;
       behind = turn.behind;
       said = said-later g h k p _ _ a.said turn.said;
     })
   ]
 
-  then-kept : (g h k : Going) (p : ℕ) → Comes Q g h p → KeptSeat h k p → Comes Q g k p
+  then-kept : (g h k : StepInProgress) (p : ℕ) → Comes Q g h p → KeptNode h k p → Comes Q g k p
   then-kept g h k p is b = elim is [
-    | inl kept ↦ inl (record { seat = b.seat ∙ kept.seat; said = said-later g h k p [] [] kept.said b.said })
+    | inl kept ↦ inl (record { node = b.node ∙ kept.node; said = said-later g h k p [] [] kept.said b.said })
     | inr turn ↦ inr (record {
       replica = turn.replica;
       disk = turn.disk;
       input = turn.input;
       of = turn.of;
       before = turn.before;
-      behind = b.seat ∙ turn.behind;
+      behind = b.node ∙ turn.behind;
       said = said-before g h k p _ _ turn.said b.said;
     })
   ]
 
   -- what the others that are still to take turns owe stays
-  owes-on : (g : Going) (q : ℕ) (input : Input) (low : ℕ) → SeatOwes start q (seat_of g.world q) → ((p : ℕ) → low ≤ p → SeatOwes start p (seat_of g.world p)) → low ≤ q →
-      (p : ℕ) → suc q ≤ p → SeatOwes start p (seat_of (hand g q input).world p)
+  owes-on : (g : StepInProgress) (q : ℕ) (input : Input) (low : ℕ) → NodeOwes start q (node_of g.world q) → ((p : ℕ) → low ≤ p → NodeOwes start p (node_of g.world p)) → low ≤ q →
+      (p : ℕ) → suc q ≤ p → NodeOwes start p (node_of (hand g q input).world p)
   owes-on g q input low mine owes le p above =
-      subst (SeatOwes start p) (sym (hand-apart g q input mine p (λ e. (let same : p ≡ q = e in omega arith))).seat) (owes p (omega arith))
+      subst (NodeOwes start p) (sym (hand-apart g q input mine p (λ e. (let same : p ≡ q = e in omega arith))).node) (owes p (omega arith))
 
-  none-later : (list : List (Handed Msg)) (g : Going) (p low : ℕ) → IsRising low (map (λ h. h.to) list) → ((q : ℕ) → low ≤ q → SeatOwes start q (seat_of g.world q)) → p < low →
-      KeptSeat g (fold hand_over g list) p
-  none-later [] g p low rise owes less = record { seat = refl; said = said-none g g p refl refl }
+  none-later : (list : List (Handed Msg)) (g : StepInProgress) (p low : ℕ) → IsRising low (map (λ h. h.to) list) → ((q : ℕ) → low ≤ q → NodeOwes start q (node_of g.world q)) → p < low →
+      KeptNode g (fold hand_over g list) p
+  none-later [] g p low rise owes less = record { node = refl; said = said-none g g p refl refl }
   none-later (h ∷ list) g p low rise owes less =
       let le = rise.0 in
       let one = hand-apart g h.to (Deliveries h.list) (owes h.to le) p (λ e. (let same : p ≡ h.to = e in omega arith)) in
       let rest = none-later list (hand_over g h) p (suc h.to) rise.1 (owes-on g h.to (Deliveries h.list) low (owes h.to le) owes le) (omega arith) in
-      record { seat = rest.seat ∙ one.seat; said = said-later g (hand_over g h) (fold hand_over (hand_over g h) list) p [] [] one.said rest.said }
+      record { node = rest.node ∙ one.node; said = said-later g (hand_over g h) (fold hand_over (hand_over g h) list) p [] [] one.said rest.said }
 
   -- replicas take their turns, ascending
-  pub handed-comes : (list : List (Handed Msg)) (g : Going) (low : ℕ) → IsRising low (map (λ h. h.to) list) → Each (λ h. Q h.to (Deliveries h.list)) list →
-      ((q : ℕ) → low ≤ q → SeatOwes start q (seat_of g.world q)) → (p : ℕ) → Comes Q g (fold hand_over g list) p
-  handed-comes [] g low rise each owes p = inl (record { seat = refl; said = said-none g g p refl refl })
+  pub handed-comes : (list : List (Handed Msg)) (g : StepInProgress) (low : ℕ) → IsRising low (map (λ h. h.to) list) → Each (λ h. Q h.to (Deliveries h.list)) list →
+      ((q : ℕ) → low ≤ q → NodeOwes start q (node_of g.world q)) → (p : ℕ) → Comes Q g (fold hand_over g list) p
+  handed-comes [] g low rise each owes p = inl (record { node = refl; said = said-none g g p refl refl })
   handed-comes (h ∷ list) g low rise each owes p =
       let le = rise.0 in
       let next = hand_over g h in

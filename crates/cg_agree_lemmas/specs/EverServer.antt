@@ -11,7 +11,7 @@ use Rattle.cg_action.specs.declared.action.Kind.{Kind}
 use Rattle.cg_action.specs.declared.action.Kind.TheVariants.{Update, Join, Leave}
 use Rattle.cg_members.specs.declared.server.Server.{Server}
 use Rattle.cg_members.specs.Members.{Members}
-use Rattle.cg_members.specs.Servers.{is_among, is_server, was_ever, first_line, with_server, without_server, with_line, starting, joined, departed, after_kind, after_green, after_greens, members_of}
+use Rattle.cg_members.specs.Servers.{is_among, is_server, was_ever, first_line, with_server, without_server, with_line, starting, with_joiner, departed, after_kind, after_green, after_greens, members_of}
 use Rattle.cg_model.specs.Fronts.{Front}
 
 among-with : (servers : List Server) (new : Server) (q : ℕ) → is_among servers q ≡ true → is_among (with_server servers new) q ≡ true
@@ -44,7 +44,7 @@ among-raised (s ∷ servers) p line q =
       raised : Server → Server
       raised s = record s { line = max s.line line }
 
-ever-joined : (m : Members) (p weight place q : ℕ) → was_ever m q ≡ true → was_ever (joined m p weight place) q ≡ true
+ever-joined : (m : Members) (p weight place q : ℕ) → was_ever m q ≡ true → was_ever (with_joiner m p weight place) q ≡ true
 ever-joined m p weight place q was =
     let new : Server = record { id = p; line = place; weight = weight } in
     cond_both (was_ever m p) m (record m { servers = with_server m.servers new }) (λ x. was_ever x q ≡ true) (λ y. was)

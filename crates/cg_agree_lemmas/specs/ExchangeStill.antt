@@ -8,7 +8,7 @@ use Rattle.cg_base.specs.Choice.{Either}
 use Rattle.cg_action.specs.declared.action.Action.{Action}
 use Rattle.cg_records.specs.declared.yellow.Yellow.{Yellow}
 use Rattle.cg_knowledge.specs.declared.summary.Summary.{Summary}
-use Rattle.cg_knowledge.specs.Members.{gone, most_updated}
+use Rattle.cg_knowledge.specs.Summaries.{gone, most_updated}
 use Rattle.cg_wire.specs.declared.message.Msg.{Msg}
 use Rattle.cg_group.specs.declared.phase.Phase.{Phase}
 use Rattle.cg_group.specs.State.{Configuration, phase_of, delivered_to}

@@ -3,7 +3,7 @@ use Rattle.std.proofs.Common.{◌≡◌, ℕ, suc, ◌≤◌, Bool, true, false,
 use Rattle.std.specs.Prelude.{◌==◌}
 use Rattle.std.proofs.lemmas.Bool.{cases_Bool, cases_eq, cond-true, cond-false, cond_both, ne_eqb}
 use Rattle.cg_group.specs.LookupLaws.{at-cond}
-use Rattle.cg_model.specs.World.{Snapshot}
+use Rattle.cg_model.specs.World.{TransferState}
 use Rattle.cg_model.specs.Chronicle.{Copy, Chronicle}
 use Rattle.cg_model.specs.Looks.{snapshots_for, copies_for}
 
@@ -44,56 +44,56 @@ length-mapped f [] = refl
 length-mapped f (x ∷ xs) = ap suc (length-mapped f xs)
 
 -- one snapshot a joiner, with its copy
-pub record Given (c : Chronicle) : Type 0 where
+pub record OneSnapshotEach (c : Chronicle) : Type 0 where
   pub copied : (joiner : ℕ) → map (λ x. x.giver) (copies_for c joiner) ≡ map (λ s. s.giver) (snapshots_for c.world joiner)
   pub once : (joiner : ℕ) → length (snapshots_for c.world joiner) ≤ 1
 
-pub given-same : (c d : Chronicle) → d.copies ≡ c.copies → d.world.snapshots ≡ c.world.snapshots → Given c → Given d
+pub given-same : (c d : Chronicle) → d.copies ≡ c.copies → d.world.snapshots ≡ c.world.snapshots → OneSnapshotEach c → OneSnapshotEach d
 given-same c d copies snapshots old = record {
-  copied = λ j. ap (λ xs. map (λ (x : Copy). x.giver) (filter (λ x. x.joiner == j) xs)) copies ∙ old.copied j ∙ ap (λ xs. map (λ (s : Snapshot). s.giver) (filter (λ s. s.joiner == j) xs)) (sym snapshots);
-  once = λ j. subst (λ xs. length (filter (λ (s : Snapshot). s.joiner == j) xs) ≤ 1) (sym snapshots) (old.once j);
+  copied = λ j. ap (λ xs. map (λ (x : Copy). x.giver) (filter (λ x. x.joiner == j) xs)) copies ∙ old.copied j ∙ ap (λ xs. map (λ (s : TransferState). s.giver) (filter (λ s. s.joiner == j) xs)) (sym snapshots);
+  once = λ j. subst (λ xs. length (filter (λ (s : TransferState). s.joiner == j) xs) ≤ 1) (sym snapshots) (old.once j);
 }
 
 -- those of one giver end
-pub given-crashed : (c d : Chronicle) (p : ℕ) → d.copies ≡ filter (λ x. not (x.giver == p)) c.copies → d.world.snapshots ≡ filter (λ s. not (s.giver == p)) c.world.snapshots → Given c → Given d
+pub given-crashed : (c d : Chronicle) (p : ℕ) → d.copies ≡ filter (λ x. not (x.giver == p)) c.copies → d.world.snapshots ≡ filter (λ s. not (s.giver == p)) c.world.snapshots → OneSnapshotEach c → OneSnapshotEach d
 given-crashed c d p copies snapshots old = record {
   copied = λ j. ap (λ xs. map (λ (x : Copy). x.giver) (filter (λ x. x.joiner == j) xs)) copies ∙ without-giver (λ (x : Copy). x.giver) (λ x. x.joiner) j p c.copies
       ∙ ap (filter (λ g. not (g == p))) (old.copied j) ∙ sym (left j);
   once = λ j.
-      let long = length-mapped (λ (s : Snapshot). s.giver) (snapshots_for d.world j) in
-      let shorter = fewer (λ g. not (g == p)) (map (λ (s : Snapshot). s.giver) (snapshots_for c.world j)) in
-      let was = length-mapped (λ (s : Snapshot). s.giver) (snapshots_for c.world j) in
+      let long = length-mapped (λ (s : TransferState). s.giver) (snapshots_for d.world j) in
+      let shorter = fewer (λ g. not (g == p)) (map (λ (s : TransferState). s.giver) (snapshots_for c.world j)) in
+      let was = length-mapped (λ (s : TransferState). s.giver) (snapshots_for c.world j) in
       let one = old.once j in
       let same = ap length (left j) in
       omega arith;
 } where
   left : (j : ℕ) → map (λ s. s.giver) (snapshots_for d.world j) ≡ filter (λ g. not (g == p)) (map (λ s. s.giver) (snapshots_for c.world j))
-  left j = ap (λ xs. map (λ (s : Snapshot). s.giver) (filter (λ s. s.joiner == j) xs)) snapshots ∙ without-giver (λ (s : Snapshot). s.giver) (λ s. s.joiner) j p c.world.snapshots
+  left j = ap (λ xs. map (λ (s : TransferState). s.giver) (filter (λ s. s.joiner == j) xs)) snapshots ∙ without-giver (λ (s : TransferState). s.giver) (λ s. s.joiner) j p c.world.snapshots
 
 -- those of one joiner end
-pub given-joined : (c d : Chronicle) (k : ℕ) → d.copies ≡ filter (λ x. not (x.joiner == k)) c.copies → d.world.snapshots ≡ filter (λ s. not (s.joiner == k)) c.world.snapshots → Given c → Given d
+pub given-joined : (c d : Chronicle) (k : ℕ) → d.copies ≡ filter (λ x. not (x.joiner == k)) c.copies → d.world.snapshots ≡ filter (λ s. not (s.joiner == k)) c.world.snapshots → OneSnapshotEach c → OneSnapshotEach d
 given-joined c d k copies snapshots old = record {
   copied = λ j. ap (map (λ (x : Copy). x.giver)) (ap (filter (λ x. x.joiner == j)) copies) ∙ ⊎_elim
-      (λ same. subst (λ j. map (λ (x : Copy). x.giver) (filter (λ x. x.joiner == j) (filter (λ x. not (x.joiner == k)) c.copies)) ≡ map (λ (s : Snapshot). s.giver) (snapshots_for d.world j)) (sym same)
-      (ap (map (λ (x : Copy). x.giver)) (without-own (λ (x : Copy). x.giver) (λ x. x.joiner) k c.copies) ∙ sym (ap (map (λ (s : Snapshot). s.giver)) none)))
-      (λ other. ap (map (λ (x : Copy). x.giver)) (without-other (λ (x : Copy). x.giver) (λ x. x.joiner) j k other c.copies) ∙ old.copied j ∙ sym (ap (map (λ (s : Snapshot). s.giver)) (rest j other)))
+      (λ same. subst (λ j. map (λ (x : Copy). x.giver) (filter (λ x. x.joiner == j) (filter (λ x. not (x.joiner == k)) c.copies)) ≡ map (λ (s : TransferState). s.giver) (snapshots_for d.world j)) (sym same)
+      (ap (map (λ (x : Copy). x.giver)) (without-own (λ (x : Copy). x.giver) (λ x. x.joiner) k c.copies) ∙ sym (ap (map (λ (s : TransferState). s.giver)) none)))
+      (λ other. ap (map (λ (x : Copy). x.giver)) (without-other (λ (x : Copy). x.giver) (λ x. x.joiner) j k other c.copies) ∙ old.copied j ∙ sym (ap (map (λ (s : TransferState). s.giver)) (rest j other)))
       (cases_eq j k);
   once = λ j. ⊎_elim (λ same. subst (λ j. length (snapshots_for d.world j) ≤ 1) (sym same) (subst (λ xs. length xs ≤ 1) (sym none) (omega arith)))
       (λ other. subst (λ xs. length xs ≤ 1) (sym (rest j other)) (old.once j)) (cases_eq j k);
 } where
   none : snapshots_for d.world k ≡ []
-  none = ap (filter (λ (s : Snapshot). s.joiner == k)) snapshots ∙ without-own (λ (s : Snapshot). s.giver) (λ s. s.joiner) k c.world.snapshots
+  none = ap (filter (λ (s : TransferState). s.joiner == k)) snapshots ∙ without-own (λ (s : TransferState). s.giver) (λ s. s.joiner) k c.world.snapshots
 
   rest : (j : ℕ) → (j ≡ k → ⊥) → snapshots_for d.world j ≡ snapshots_for c.world j
-  rest j other = ap (filter (λ (s : Snapshot). s.joiner == j)) snapshots ∙ without-other (λ (s : Snapshot). s.giver) (λ s. s.joiner) j k other c.world.snapshots
+  rest j other = ap (filter (λ (s : TransferState). s.joiner == j)) snapshots ∙ without-other (λ (s : TransferState). s.giver) (λ s. s.joiner) j k other c.world.snapshots
 
 -- one more comes, where there was none for its joiner
-pub given-more : (c d : Chronicle) (x : Copy) (s : Snapshot) → x.joiner ≡ s.joiner → x.giver ≡ s.giver → (copies_for c s.joiner ≡ []) → (snapshots_for c.world s.joiner ≡ []) →
-    d.copies ≡ x ∷ c.copies → d.world.snapshots ≡ s ∷ c.world.snapshots → Given c → Given d
+pub given-more : (c d : Chronicle) (x : Copy) (s : TransferState) → x.joiner ≡ s.joiner → x.giver ≡ s.giver → (copies_for c s.joiner ≡ []) → (snapshots_for c.world s.joiner ≡ []) →
+    d.copies ≡ x ∷ c.copies → d.world.snapshots ≡ s ∷ c.world.snapshots → OneSnapshotEach c → OneSnapshotEach d
 given-more c d x s joiner giver no_copy no_snapshot copies snapshots old = record {
   copied = λ j. ap (λ xs. map (λ (y : Copy). y.giver) (filter (λ y. y.joiner == j) xs)) copies ∙ ⊎_elim (λ y. here j y) (λ n. there j n) (cases_Bool (s.joiner == j))
-      ∙ sym (ap (λ xs. map (λ (y : Snapshot). y.giver) (filter (λ y. y.joiner == j) xs)) snapshots);
-  once = λ j. subst (λ xs. length (filter (λ (y : Snapshot). y.joiner == j) xs) ≤ 1) (sym snapshots) (⊎_elim
+      ∙ sym (ap (λ xs. map (λ (y : TransferState). y.giver) (filter (λ y. y.joiner == j) xs)) snapshots);
+  once = λ j. subst (λ xs. length (filter (λ (y : TransferState). y.joiner == j) xs) ≤ 1) (sym snapshots) (⊎_elim
       (λ y. subst (λ xs. length xs ≤ 1) (sym (cond-true (s.joiner == j) (s ∷ snapshots_for c.world j) (snapshots_for c.world j) y ∙ ap (λ zs. s ∷ zs) (none j y))) (omega arith))
       (λ n. subst (λ xs. length xs ≤ 1) (sym (cond-false (s.joiner == j) (s ∷ snapshots_for c.world j) (snapshots_for c.world j) n)) (old.once j)) (cases_Bool (s.joiner == j)));
 } where
@@ -105,10 +105,10 @@ given-more c d x s joiner giver no_copy no_snapshot copies snapshots old = recor
       let own : (x.joiner == j) ≡ true = ap (λ k. k == j) joiner ∙ y in
       let left : copies_for c j ≡ [] = ap (copies_for c) (sym (eqb-true s.joiner j y)) ∙ no_copy in
       ap (map (λ (z : Copy). z.giver)) (cond-true (x.joiner == j) (x ∷ copies_for c j) (copies_for c j) own ∙ ap (λ zs. x ∷ zs) left)
-      ∙ ap (λ g. g ∷ []) giver ∙ sym (ap (map (λ (z : Snapshot). z.giver)) (cond-true (s.joiner == j) (s ∷ snapshots_for c.world j) (snapshots_for c.world j) y ∙ ap (λ zs. s ∷ zs) (none j y)))
+      ∙ ap (λ g. g ∷ []) giver ∙ sym (ap (map (λ (z : TransferState). z.giver)) (cond-true (s.joiner == j) (s ∷ snapshots_for c.world j) (snapshots_for c.world j) y ∙ ap (λ zs. s ∷ zs) (none j y)))
 
   there : (j : ℕ) → (s.joiner == j) ≡ false → map (λ y. y.giver) (filter (λ y. y.joiner == j) (x ∷ c.copies)) ≡ map (λ y. y.giver) (filter (λ y. y.joiner == j) (s ∷ c.world.snapshots))
   there j n =
       let other : (x.joiner == j) ≡ false = ap (λ k. k == j) joiner ∙ n in
       ap (map (λ (z : Copy). z.giver)) (cond-false (x.joiner == j) (x ∷ copies_for c j) (copies_for c j) other) ∙ old.copied j
-      ∙ sym (ap (map (λ (z : Snapshot). z.giver)) (cond-false (s.joiner == j) (s ∷ snapshots_for c.world j) (snapshots_for c.world j) n))
+      ∙ sym (ap (map (λ (z : TransferState). z.giver)) (cond-false (s.joiner == j) (s ∷ snapshots_for c.world j) (snapshots_for c.world j) n))

@@ -17,7 +17,7 @@ use Rattle.cg_client.specs.Summary.{redden, forget_own, own_to_red, enter_exchan
 use Rattle.cg_prim.specs.TransPrim.{end_prim}
 use Rattle.cg_construct.specs.No.{no_record}
 use Rattle.cg_group.specs.declared.delivery.Delivery.TheVariants.{Regular as RegularIn}
-use Rattle.cg_step.specs.Step.{Input, Deliveries, Asks, replica_step, take, on_regular}
+use Rattle.cg_replica_step.specs.Step.{Input, Deliveries, Asks, replica_step, after_delivery, on_regular}
 use Rattle.cg_commit.specs.HeldLaws.{names-behind}
 use Rattle.cg_agree_lemmas.specs.TurnRows.{IsRule, of-deliveries}
 use Rattle.cg_agree_lemmas.specs.KeptEmpty.{anything}
@@ -113,7 +113,7 @@ pub step-noted : (r : Replica) (input : Input) → IsNoted r.held (replica_step 
 unfolding replica_step
 step-noted r (Deliveries list) =
     let first : IsNoted r.held (begin r) = record { white = refl; greens = sym (append-nil (names_of r.held.queue.greens)) } in
-    settle-noted r.held (fold take (begin r) list) (of-deliveries (IsNoted r.held) (λ a. Unit {0}) (noted-rule r.held) (begin r) list (anything list) first)
+    settle-noted r.held (fold after_delivery (begin r) list) (of-deliveries (IsNoted r.held) (λ a. Unit {0}) (noted-rule r.held) (begin r) list (anything list) first)
 step-noted r (Asks kind) = request-noted r.held (begin r) kind (record { white = refl; greens = sym (append-nil (names_of r.held.queue.greens)) })
 
 -- ---- a new configuration makes nothing green
@@ -147,5 +147,5 @@ regular-green (Construct at heard) conf set t = refl
 regular-green Left conf set t = refl
 
 pub entry-none : (r : Replica) (conf : ℕ) (set : List ℕ) → (replica_step r (Deliveries (RegularIn conf set ∷ []))).green ≡ []
-unfolding replica_step take
+unfolding replica_step after_delivery
 entry-none r conf set = settle-green (on_regular r.state conf set (begin r)) ∙ regular-green r.state conf set (begin r)

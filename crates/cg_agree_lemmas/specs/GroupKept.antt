@@ -23,7 +23,7 @@ use Rattle.cg_model.specs.World.{Up, World, replica_of, has_begun}
 use Rattle.cg_model.specs.Step.{begin_replica}
 use Rattle.cg_model.specs.Chronicle.{Chronicle}
 use Rattle.cg_model.specs.Looks.{conf_of, is_regular_at, members_in, ordered_in, received_by_all}
-use Rattle.cg_model.specs.FactsNet.{PhaseSound, IsPhase, HandedReceived, Seated}
+use Rattle.cg_model.specs.FactsNet.{PhaseSound, IsPhase, HandedReceived, Hosted}
 use Rattle.cg_model.specs.Small.{Small, Starts, Makes, Enters, Orders, Receives, Hands, Leaves, Asks, Settles, Commits, Crashes, Recovers, Copies, Joins, small_step, with_group, newest_conf, take_request}
 use Rattle.cg_model.specs.Smalls.{may_make, is_running, ascend_within, hold_received, hold_earlier}
 use Rattle.cg_agree_lemmas.specs.ConfSound.{ConfSound, by_all, receipt-sound, message-sound}
@@ -202,29 +202,29 @@ same-world c d e old = record {
 
 -- ---- all of them
 
-pub group-kept : (c : Chronicle) (s : Small) → Seated c → may_make c s ≡ true → GroupSound c → GroupSound (small_step c s)
+pub group-kept : (c : Chronicle) (s : Small) → Hosted c → may_make c s ≡ true → GroupSound c → GroupSound (small_step c s)
 unfolding small_step may_make
-group-kept c (Starts set) seats m old =
+group-kept c (Starts set) nodes m old =
     let begun = begun-sound c set (ids set) c.world old in
     same-world (in_world c (fold (begin_replica set) c.world (ids set))) (small_step c (Starts set)) refl begun
-group-kept c (Makes set) seats m old = sound-made c (small_step c (Makes set)) set refl (λ q. refl) old
-group-kept c (Enters p) seats m old = enters-sound c p m old
-group-kept c (Orders p) seats m old = orders-sound c p m old
-group-kept c (Receives p place) seats m old = receives-sound c p place m old
-group-kept c (Hands p) seats m old = hands-sound c p m old
-group-kept c (Leaves p set own places) seats m old = leaves-sound c p set own places m old
-group-kept c (Asks p kind) seats m old = same-sound c (small_step c (Asks p kind)) p (turns-step c p (take_request kind) old.phases) old
-group-kept c (Settles p) seats m old = same-sound c (small_step c (Settles p)) p (turns-step c p settle old.phases) old
-group-kept c (Commits p) seats m old = same-sound c (small_step c (Commits p)) p (commits-step c p old.phases) old
-group-kept c (Crashes p) seats m old = alone-sound c (small_step c (Crashes p)) p false Down (inr refl) (crashes-step c p m) old
-group-kept c (Recovers p) seats m old =
+group-kept c (Makes set) nodes m old = sound-made c (small_step c (Makes set)) set refl (λ q. refl) old
+group-kept c (Enters p) nodes m old = enters-sound c p m old
+group-kept c (Orders p) nodes m old = orders-sound c p m old
+group-kept c (Receives p place) nodes m old = receives-sound c p place m old
+group-kept c (Hands p) nodes m old = hands-sound c p m old
+group-kept c (Leaves p set own places) nodes m old = leaves-sound c p set own places m old
+group-kept c (Asks p kind) nodes m old = same-sound c (small_step c (Asks p kind)) p (turns-step c p (take_request kind) old.phases) old
+group-kept c (Settles p) nodes m old = same-sound c (small_step c (Settles p)) p (turns-step c p settle old.phases) old
+group-kept c (Commits p) nodes m old = same-sound c (small_step c (Commits p)) p (commits-step c p old.phases) old
+group-kept c (Crashes p) nodes m old = alone-sound c (small_step c (Crashes p)) p false Down (inr refl) (crashes-step c p m) old
+group-kept c (Recovers p) nodes m old =
     let parts = and_parts (has_begun c.world p) (not (is_running c p)) m in
-    alone-sound c (small_step c (Recovers p)) p true Alone (inl refl) (recovers-step c p seats parts.0 (not-true (is_running c p) parts.1)) old
-group-kept c (Copies p joiner) seats m old = same-sound c (small_step c (Copies p joiner)) p (copies-step c p joiner old.phases) old
-group-kept c (Joins joiner) seats m old = alone-sound c (small_step c (Joins joiner)) joiner true Alone (inl refl) (joins-step c joiner (may-join c joiner m)) old
+    alone-sound c (small_step c (Recovers p)) p true Alone (inl refl) (recovers-step c p nodes parts.0 (not-true (is_running c p) parts.1)) old
+group-kept c (Copies p joiner) nodes m old = same-sound c (small_step c (Copies p joiner)) p (copies-step c p joiner old.phases) old
+group-kept c (Joins joiner) nodes m old = alone-sound c (small_step c (Joins joiner)) joiner true Alone (inl refl) (joins-step c joiner (may-join c joiner m)) old
 
-pub phase_sound-kept : (c : Chronicle) (s : Small) → Seated c → may_make c s ≡ true → GroupSound c → PhaseSound (small_step c s)
-phase_sound-kept c s seats may old = (group-kept c s seats may old).phases
+pub phase_sound-kept : (c : Chronicle) (s : Small) → Hosted c → may_make c s ≡ true → GroupSound c → PhaseSound (small_step c s)
+phase_sound-kept c s nodes may old = (group-kept c s nodes may old).phases
 
-pub handed_received-kept : (c : Chronicle) (s : Small) → Seated c → may_make c s ≡ true → GroupSound c → HandedReceived (small_step c s)
-handed_received-kept c s seats may old = (group-kept c s seats may old).handed
+pub handed_received-kept : (c : Chronicle) (s : Small) → Hosted c → may_make c s ≡ true → GroupSound c → HandedReceived (small_step c s)
+handed_received-kept c s nodes may old = (group-kept c s nodes may old).handed

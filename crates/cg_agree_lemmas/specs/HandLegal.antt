@@ -10,12 +10,12 @@ use Rattle.cg_base.specs.Ids.{same_id}
 use Rattle.cg_base.specs.Sets.{has, is_within}
 use Rattle.cg_action.specs.declared.action.Action.{Action}
 use Rattle.cg_queue.specs.Queue.{QueueView, action_of}
-use Rattle.cg_knowledge.specs.Members.{senders, gone, remaining}
+use Rattle.cg_knowledge.specs.Summaries.{senders, gone, remaining}
 use Rattle.cg_knowledge.specs.Verdict.{decides}
 use Rattle.cg_plan.specs.declared.parts.Item.{Item}
 use Rattle.cg_plan.specs.declared.parts.Item.TheVariants.{Green, Red}
 use Rattle.cg_plan.specs.declared.parts.Part.{Part}
-use Rattle.cg_plan.specs.declared.parts.Sent.{Sent as PlanSent}
+use Rattle.cg_plan.specs.declared.parts.SentItem.{SentItem as PlanSent}
 use Rattle.cg_plan.specs.Items.{items_of, items_of_plan, sent_by as plan_sent}
 use Rattle.cg_plan.specs.contracts.parts.ItemPartialEq.TheImpl.{ghosts as same_item}
 use Rattle.cg_plan.specs.Plan.{plan_of}

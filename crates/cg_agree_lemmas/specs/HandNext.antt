@@ -3,7 +3,7 @@ use Rattle.std.proofs.Common.{◌≡◌, ℕ, zero, suc, true, false, List, [], 
 use Rattle.std.specs.Prelude.{slice_get}
 use Rattle.std.proofs.lemmas.Bool.{and_parts}
 use Rattle.cg_base.specs.Sets.{has}
-use Rattle.cg_knowledge.specs.Members.{gone, remaining}
+use Rattle.cg_knowledge.specs.Summaries.{gone, remaining}
 use Rattle.cg_knowledge.specs.Verdict.{decides}
 use Rattle.cg_wire.specs.declared.message.Msg.{Msg}
 use Rattle.cg_group.specs.declared.delivery.Delivery.TheVariants.{Message}
@@ -11,7 +11,7 @@ use Rattle.cg_group.specs.State.{Sent}
 use Rattle.cg_client.specs.Replica.{Replica}
 use Rattle.cg_client.specs.Turn.{begin}
 use Rattle.cg_construct.specs.Construct.{attempt_set}
-use Rattle.cg_step.specs.Step.{on_message, take as take_delivery}
+use Rattle.cg_replica_step.specs.Step.{on_message, after_delivery as take_delivery}
 use Rattle.cg_model.specs.Talk.{Talk, no_talk, hears, talk_of, is_ended, may_say, is_legal, state_in}
 use Rattle.cg_agree_lemmas.specs.TalkEarly.{early-legal, early-none}
 use Rattle.cg_agree_lemmas.specs.HandKept.{hand-message}

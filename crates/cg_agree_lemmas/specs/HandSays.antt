@@ -13,7 +13,7 @@ use Rattle.cg_base.specs.SetLaws.{has-without}
 use Rattle.cg_action.specs.declared.action.Action.{Action}
 use Rattle.cg_queue.specs.Queue.{QueueView, action_of}
 use Rattle.cg_knowledge.specs.declared.summary.Summary.{Summary}
-use Rattle.cg_knowledge.specs.Members.{senders, gone, remaining}
+use Rattle.cg_knowledge.specs.Summaries.{senders, gone, remaining}
 use Rattle.cg_knowledge.specs.Verdict.{decides}
 use Rattle.cg_plan.specs.declared.parts.Item.{Item}
 use Rattle.cg_plan.specs.declared.parts.Item.TheVariants.{Green, Red}
@@ -27,7 +27,7 @@ use Rattle.cg_wire.specs.declared.message.Msg.TheVariants.{GreenItem, RedItem, C
 use Rattle.cg_client.specs.Replica.{ExchangeActions, NonPrim, Left}
 use Rattle.cg_client.specs.Turn.{Turn, go_to, with_held}
 use Rattle.cg_client.specs.Requests.{empty_buffer}
-use Rattle.cg_exchange.specs.ExchangeActions.{message_of, messages_of, send_part, progress, go_on}
+use Rattle.cg_exchange.specs.ExchangeActions.{message_of, messages_in_part, send_part, progress, go_on}
 use Rattle.cg_exchange.specs.PlanEnd.{take_over, attempt, decide, end_plan}
 use Rattle.cg_model.specs.Chronicle.{Told}
 use Rattle.cg_model.specs.Talk.{Talk, is_full, summary_in, item_in, announcer_in, act_in, due_items}
@@ -41,7 +41,7 @@ use Rattle.cg_agree_lemmas.specs.DueItems.{part_items}
 -- the messages of a part, where there is one
 abbrev pub part_messages : QueueView → Option Part → List Msg
 part_messages q None = []
-part_messages q (Some part) = messages_of q part
+part_messages q (Some part) = messages_in_part q part
 
 abbrev pub cpc_at_end : ℕ → List Summary → ℕ → List Msg
 cpc_at_end conf heard me = cond (has (gone heard) me) [] (cond (decides heard) (Cpc me conf ∷ []) [])

@@ -8,7 +8,7 @@ use Rattle.cg_action.specs.declared.action.Action.{Action}
 use Rattle.cg_queue.specs.Queue.{Marking, Marks, Gaps, marked_red, green_count}
 use Rattle.cg_queue.specs.declared.mark.Mark.TheVariants.{Placed, Known}
 use Rattle.cg_knowledge.specs.declared.summary.Summary.{Summary}
-use Rattle.cg_knowledge.specs.Members.{senders, gone, remaining}
+use Rattle.cg_knowledge.specs.Summaries.{senders, gone, remaining}
 use Rattle.cg_knowledge.specs.Verdict.{decides}
 use Rattle.cg_plan.specs.declared.parts.Item.{Item}
 use Rattle.cg_plan.specs.declared.parts.Item.TheVariants.{Green, Red}
@@ -25,7 +25,7 @@ use Rattle.cg_client.specs.Install.{install, yellow_green, valid_yellow}
 use Rattle.cg_exchange.specs.ExchangeStates.{is_usable, with_heard}
 use Rattle.cg_exchange.specs.ExchangeActions.{progress, go_on, take_item, mark_item}
 use Rattle.cg_construct.specs.Construct.{attempt_set, is_announced as is_usable_announcement, construct_with}
-use Rattle.cg_step.specs.Step.{on_message}
+use Rattle.cg_replica_step.specs.Step.{on_message}
 use Rattle.cg_model.specs.Chronicle.{Told}
 use Rattle.cg_model.specs.Talk.{Talk, hears_from, is_full, is_through, is_announced, is_due, may_say, state_behind, state_in, item_in, announcer_in, act_in, due_from, due_items, due_announcement}
 use Rattle.cg_model.specs.FactsTalk.{SaysWhatIsDue}

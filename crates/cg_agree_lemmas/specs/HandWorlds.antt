@@ -16,7 +16,7 @@ use Rattle.cg_group.specs.Events.{with_delivered, delivery_at, deliveries_at}
 use Rattle.cg_group.specs.LookupLaws.{standing_of-set, put-same as put-here}
 use Rattle.cg_client.specs.Turn.{Turn, begin}
 use Rattle.cg_client.specs.Requests.{settle}
-use Rattle.cg_step.specs.Step.{take}
+use Rattle.cg_replica_step.specs.Step.{after_delivery}
 use Rattle.cg_commit.specs.Crash.{Disk}
 use Rattle.cg_model.specs.World.{World}
 use Rattle.cg_model.specs.Small.{Hands, Settles, take_all, take_next}
@@ -24,7 +24,7 @@ use Rattle.cg_model.specs.Smalls.{may_make}
 use Rattle.cg_agree_lemmas.specs.Parts.{IsPart}
 use Rattle.cg_agree_lemmas.specs.PartsTaken.{part-take_all, part-settle}
 use Rattle.cg_agree_lemmas.specs.GroupChanges.{set-twice, sent-waits}
-use Rattle.cg_agree_lemmas.specs.TurnWorlds.{seated, turn-next}
+use Rattle.cg_agree_lemmas.specs.TurnWorlds.{hosted, turn-next}
 use Rattle.cg_agree_lemmas.specs.SmallWorlds.{grouped, turning_in, small_in, may_in, played_in, MayIn}
 
 -- ---- places that are ready
@@ -54,7 +54,7 @@ ready-later c (suc n) d k some =
 
 pub taken-append : (xs ys : List (Delivery Msg)) (t : Turn) → take_all (xs ++ ys) t ≡ take_all ys (take_all xs t)
 taken-append [] ys t = refl
-taken-append (x ∷ xs) ys t = taken-append xs ys (take t x)
+taken-append (x ∷ xs) ys t = taken-append xs ys (after_delivery t x)
 
 -- a replica that stands so is regular in a configuration, and has said this so far in its turn
 module _ (w : World) (g : GroupState Msg) (p : ℕ) (disk : Disk) (s : Standing Msg) (named : s.id ≡ p) (regular : (regular_in s.phase == 0) ≡ false) where
@@ -62,7 +62,7 @@ module _ (w : World) (g : GroupState Msg) (p : ℕ) (disk : Disk) (s : Standing 
   standing t n = record s { delivered = n; unordered = s.unordered ++ t.sent }
 
   abbrev pub handed_to : Turn → ℕ → World
-  handed_to t n = seated w p t.replica disk (set_standing g (standing t n))
+  handed_to t n = hosted w p t.replica disk (set_standing g (standing t n))
 
   abbrev conf : Configuration Msg
   conf = configuration g (regular_in s.phase)
@@ -82,13 +82,13 @@ module _ (w : World) (g : GroupState Msg) (p : ℕ) (disk : Disk) (s : Standing 
 
   -- a part of the turn, with so many places handed
   pub part-waits : (t : Turn) (n : ℕ) (part : Turn → Turn) → IsPart part →
-      turning_in (seated w p t.replica disk (set_standing g (standing t n))) p part ≡ handed_to (part t) n
+      turning_in (hosted w p t.replica disk (set_standing g (standing t n))) p part ≡ handed_to (part t) n
   part-waits t n part is =
       let u = part (begin t.replica) in
       turn-next w (set_standing g (standing t n)) p t.replica disk part
-      ∙ ap (seated w p u.replica disk) (sent-waits u.sent g (standing t n) p named regular
+      ∙ ap (hosted w p u.replica disk) (sent-waits u.sent g (standing t n) p named regular
       ∙ ap (λ xs. set_standing g (record s { delivered = n; unordered = xs })) (append_assoc s.unordered t.sent u.sent))
-      ∙ ap (λ (x : Turn). seated w p x.replica disk (set_standing g (record s { delivered = n; unordered = s.unordered ++ x.sent }))) (sym (is t))
+      ∙ ap (λ (x : Turn). hosted w p x.replica disk (set_standing g (record s { delivered = n; unordered = s.unordered ++ x.sent }))) (sym (is t))
 
   pub settles : (t : Turn) (n : ℕ) → small_in (handed_to t n) (Settles p) ≡ handed_to (settle t) n
   unfolding small_in

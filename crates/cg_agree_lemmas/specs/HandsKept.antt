@@ -8,7 +8,7 @@ use Rattle.std.proofs.lemmas.List.Sums.{prefix_len-le-length, fold-append}
 use Rattle.cg_base.specs.Lists.{above_up_to}
 use Rattle.cg_base.specs.ListLaws.{length-count_up}
 use Rattle.cg_base.specs.Sets.{has}
-use Rattle.cg_knowledge.specs.Members.{gone, remaining}
+use Rattle.cg_knowledge.specs.Summaries.{gone, remaining}
 use Rattle.cg_knowledge.specs.Verdict.{decides}
 use Rattle.cg_wire.specs.declared.message.Msg.{Msg}
 use Rattle.cg_group.specs.declared.phase.Phase.{Phase}
@@ -19,7 +19,7 @@ use Rattle.cg_client.specs.Replica.{Held, State, RegPrim, Construct, Replica}
 use Rattle.cg_client.specs.Turn.{begin}
 use Rattle.cg_construct.specs.Construct.{attempt_set}
 use Rattle.cg_commit.specs.Crash.{Disk}
-use Rattle.cg_model.specs.World.{Life, Up, Down as DownLife, Seat, World, seat_of, replica_of, running}
+use Rattle.cg_model.specs.World.{NodeState, Up, Down as DownLife, Node, World, node_of, replica_of, running}
 use Rattle.cg_model.specs.Chronicle.{Attempt, Chronicle}
 use Rattle.cg_model.specs.Looks.{conf_of, members_in, ordered_in, attempt_of, attempt_at}
 use Rattle.cg_model.specs.Talk.{Talk, no_talk, talk_of, hears, is_full, is_through, is_ended, is_announced, is_legal, state_in}
@@ -60,17 +60,17 @@ regular-up g p regular = at (standing_of g p) regular where
 pub record Sits (w : World) (p : ℕ) : Type 0 where
   pub replica : Replica
   pub disk : Disk
-  pub seat : seat_of w p ≡ Some (record { id = p; life = Up replica disk })
+  pub node : node_of w p ≡ Some (record { id = p; life = Up replica disk })
 
-pub seated : (w : World) (p : ℕ) → is_some (replica_of w p) ≡ true → Sits w p
-seated w p there = at (seat_of w p) refl there where
-  up : (s : Seat) (life : Life) → s.life ≡ life → s.id ≡ p → seat_of w p ≡ Some s → is_some (running life) ≡ true → Sits w p
-  up s (Up r disk) is id e there = record { replica = r; disk = disk; seat = e ∙ ap₂ (λ i l. Some (record { id = i; life = l })) id is }
+pub hosted : (w : World) (p : ℕ) → is_some (replica_of w p) ≡ true → Sits w p
+hosted w p there = at (node_of w p) refl there where
+  up : (s : Node) (life : NodeState) → s.life ≡ life → s.id ≡ p → node_of w p ≡ Some s → is_some (running life) ≡ true → Sits w p
+  up s (Up r disk) is id e there = record { replica = r; disk = disk; node = e ∙ ap₂ (λ i l. Some (record { id = i; life = l })) id is }
   up s (DownLife disk green) is id e there = absurd (let no : false ≡ true = there in cc)
 
-  at : (o : Option Seat) → seat_of w p ≡ o → is_some (option_and_then (λ s. running s.life) o) ≡ true → Sits w p
+  at : (o : Option Node) → node_of w p ≡ o → is_some (option_and_then (λ s. running s.life) o) ≡ true → Sits w p
   at None e there = absurd (let no : false ≡ true = there in cc)
-  at (Some s) e there = up s s.life refl (eqb-true s.id p (find-holds (λ (s : Seat). s.id == p) w.seats s e)) e there
+  at (Some s) e there = up s s.life refl (eqb-true s.id p (find-holds (λ (s : Node). s.id == p) w.nodes s e)) e there
 
 -- below its length a list has something
 pub some-at : {X : Type 0} (xs : List X) (n : ℕ) → n < length xs → (x : X) × (slice_get xs n ≡ Some x)
@@ -164,9 +164,9 @@ hands-kept c p sound mode shape said may answer =
     let parts = and_parts (is_regular g p) (nat_lt 0 (ready g p)) may in
     let phase = regular-phase (phase_of g p) parts.0 in
     let conf = phase.at in
-    let sits = seated c.world p (sound.up p ∙ regular-up g p parts.0) in
+    let sits = hosted c.world p (sound.up p ∙ regular-up g p parts.0) in
     let r = sits.replica in
-    let running' : replica_of c.world p ≡ Some r = ap (option_and_then (λ (x : Seat). running x.life)) sits.seat in
+    let running' : replica_of c.world p ≡ Some r = ap (option_and_then (λ (x : Node). running x.life)) sits.node in
     let next = some-at (ordered_in c conf) (delivered_to g p) (next-there c p conf phase.is parts.1) in
     let member = (subst (IsPhase c p (delivered_to g p)) phase.is (sound.phase p)).0 in
     let all = subst (λ (o : Option Replica). IfSome o (IsModeData c p)) running' (mode p) in
@@ -175,7 +175,7 @@ hands-kept c p sound mode shape said may answer =
     let state = subst (λ (x : Phase). IsStateIn c p x r) phase.is modes in
     hands-said c p conf r sits.disk next.0
     (record {
-      seat = sits.seat;
+      node = sits.node;
       regular = phase.is;
       number = phase.number;
       next = next.1;

@@ -16,7 +16,7 @@ use Rattle.cg_group.specs.State.{Sent, phase_of, is_regular, regular_in, deliver
 use Rattle.cg_client.specs.Replica.{Replica}
 use Rattle.cg_client.specs.Turn.{begin}
 use Rattle.cg_commit.specs.Crash.{Disk}
-use Rattle.cg_model.specs.World.{Up, Seat, seat_of, replica_of, running}
+use Rattle.cg_model.specs.World.{Up, Node, node_of, replica_of, running}
 use Rattle.cg_model.specs.Chronicle.{Chronicle}
 use Rattle.cg_model.specs.Looks.{members_in, ordered_in}
 use Rattle.cg_model.specs.Talk.{Talk, no_talk, talk_of, hears, is_full, is_through, is_ended, is_legal, state_in}
@@ -27,12 +27,12 @@ use Rattle.cg_model.specs.Facts.{Invariant}
 use Rattle.cg_model.specs.Small.{Hands, take_all, take_next}
 use Rattle.cg_model.specs.Smalls.{may_make}
 use Rattle.cg_agree_lemmas.specs.HandNext.{take-next, talk-append, state-handed}
-use Rattle.cg_agree_lemmas.specs.HandsKept.{regular-phase, regular-up, seated, some-at, next-there, take-drop, attempt-named}
+use Rattle.cg_agree_lemmas.specs.HandsKept.{regular-phase, regular-up, hosted, some-at, next-there, take-drop, attempt-named}
 use Rattle.cg_agree_lemmas.specs.HandsTalk.{SaidFacts}
 use Rattle.cg_agree_lemmas.specs.SaidSoFar.{rest-through}
 use Rattle.cg_agree_lemmas.specs.TalkCommute.{legal-append}
 use Rattle.cg_agree_lemmas.specs.TurnKinds.{Turned, Quiet}
-use Rattle.cg_agree_lemmas.specs.TurnParts.{Handed, Nothing, Something, next-turned}
+use Rattle.cg_agree_lemmas.specs.TurnParts.{NextTurned, Nothing, Something, next-turned}
 
 pub said-of : (c : Chronicle) → Invariant c → SaidFacts c
 said-of c i = record { legal = i.talk.talk_legal; says = i.talk.sent_iff_due; told = i.talk.heard_is_told; modes = i.talk.mode_fits }
@@ -43,7 +43,7 @@ pub record HandsNow (c : Chronicle) (p : ℕ) : Type 0 where
   pub regular : phase_of c.world.group p ≡ Regular conf
   pub replica : Replica
   pub disk : Disk
-  pub seat : seat_of c.world p ≡ Some (record { id = p; life = Up replica disk })
+  pub node : node_of c.world p ≡ Some (record { id = p; life = Up replica disk })
   pub next : Sent Msg
   pub found : slice_get (ordered_in c conf) (delivered_to c.world.group p) ≡ Some next
   pub member : has (members_in c conf) p ≡ true
@@ -57,9 +57,9 @@ hands-now c p i may =
     let sound = i.net.phase_sound in
     let parts = and_parts (is_regular g p) (nat_lt 0 (ready g p)) may in
     let phase = regular-phase (phase_of g p) parts.0 in
-    let sits = seated c.world p (sound.up p ∙ regular-up g p parts.0) in
+    let sits = hosted c.world p (sound.up p ∙ regular-up g p parts.0) in
     let r = sits.replica in
-    let running' : replica_of c.world p ≡ Some r = ap (option_and_then (λ (x : Seat). running x.life)) sits.seat in
+    let running' : replica_of c.world p ≡ Some r = ap (option_and_then (λ (x : Node). running x.life)) sits.node in
     let next = some-at (ordered_in c phase.at) (delivered_to g p) (next-there c p phase.at phase.is parts.1) in
     let modes = subst (λ (o : Option Replica). IfSome o (IsStateIn c p (phase_of g p))) running' (i.talk.mode_fits p) in
     record {
@@ -67,7 +67,7 @@ hands-now c p i may =
       regular = phase.is;
       replica = r;
       disk = sits.disk;
-      seat = sits.seat;
+      node = sits.node;
       next = next.0;
       found = next.1;
       member = (subst (IsPhase c p (delivered_to g p)) phase.is (sound.phase p)).0;
@@ -97,7 +97,7 @@ module _ (c : Chronicle) (p : ℕ) (i : Invariant c) (n : HandsNow c p) where
   behind = talk_of (take (suc count) (ordered_in c n.conf))
 
   pub running-now : replica_of c.world p ≡ Some n.replica
-  running-now = ap (option_and_then (λ (x : Seat). running x.life)) n.seat
+  running-now = ap (option_and_then (λ (x : Node). running x.life)) n.node
 
   pub home-now : home c.world.group p ≡ configuration c.world.group n.conf
   home-now = ap (λ x. configuration c.world.group (regular_in x)) n.regular
@@ -108,7 +108,7 @@ module _ (c : Chronicle) (p : ℕ) (i : Invariant c) (n : HandsNow c p) where
   -- what the message makes of the member
   pub hand-turned : Turned n.replica new n.next.message
   hand-turned = at (next-turned c.world.group p n.replica) where
-    at : Handed c.world.group p n.replica new → Turned n.replica new n.next.message
+    at : NextTurned c.world.group p n.replica new → Turned n.replica new n.next.message
     at (Nothing same) = Quiet same
     at (Something s found turned) = subst (λ (s : Sent Msg). Turned n.replica new s.message) (ap (λ o. option_map_or (λ s. s) o n.next) (sym found ∙ found-now)) turned
 

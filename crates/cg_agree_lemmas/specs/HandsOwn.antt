@@ -7,7 +7,7 @@ use Rattle.cg_action.specs.declared.action.Action.{Action}
 use Rattle.cg_queue.specs.Queue.{Marking, Marks, Gaps, marked_red, green_count}
 use Rattle.cg_queue.specs.declared.mark.Mark.TheVariants.{Placed, Known}
 use Rattle.cg_knowledge.specs.declared.summary.Summary.{Summary}
-use Rattle.cg_knowledge.specs.Members.{gone, senders}
+use Rattle.cg_knowledge.specs.Summaries.{gone, senders}
 use Rattle.cg_knowledge.specs.Verdict.{decides}
 use Rattle.cg_plan.specs.declared.parts.Part.{Part}
 use Rattle.cg_plan.specs.Plan.{plan_of}
@@ -21,7 +21,7 @@ use Rattle.cg_client.specs.Requests.{empty_buffer}
 use Rattle.cg_exchange.specs.ExchangeActions.{send_part, progress, go_on, is_next, mark_item, take_item, exchange_actions_on_item}
 use Rattle.cg_exchange.specs.ExchangeStates.{is_usable, with_heard, exchange_states_on_summary}
 use Rattle.cg_exchange.specs.PlanEnd.{take_over, attempt, decide, end_plan}
-use Rattle.cg_step.specs.Step.{on_message}
+use Rattle.cg_replica_step.specs.Step.{on_message}
 
 -- a part of a turn behind which nothing is waited for, where nothing was before it
 abbrev WaitsForNone : (Turn → Turn) → Type 0

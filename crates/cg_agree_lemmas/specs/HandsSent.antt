@@ -6,7 +6,7 @@ use Rattle.std.proofs.lemmas.List.Sums.{fold-append}
 use Rattle.cg_base.specs.Sets.{has, is_within, with_member}
 use Rattle.cg_action.specs.declared.action.Action.{Action}
 use Rattle.cg_knowledge.specs.declared.summary.Summary.{Summary}
-use Rattle.cg_knowledge.specs.Members.{gone, senders}
+use Rattle.cg_knowledge.specs.Summaries.{gone, senders}
 use Rattle.cg_wire.specs.declared.message.Msg.{Msg}
 use Rattle.cg_wire.specs.declared.message.Msg.TheVariants.{Action as ActionMsg, State as StateMsg, GreenItem, RedItem, Cpc}
 use Rattle.cg_group.specs.State.{Sent, delivered_to}
@@ -18,9 +18,9 @@ use Rattle.cg_construct.specs.Construct.{attempt_set, is_announced, construct_wi
 use Rattle.cg_construct.specs.No.{no_with, no_on_cpc}
 use Rattle.cg_exchange.specs.ExchangeActions.{go_on, is_next, take_item, exchange_actions_on_item}
 use Rattle.cg_exchange.specs.ExchangeStates.{is_usable, with_heard, exchange_states_on_summary}
-use Rattle.cg_step.specs.Step.{on_message}
+use Rattle.cg_replica_step.specs.Step.{on_message}
 use Rattle.cg_commit.specs.Crash.{Disk}
-use Rattle.cg_model.specs.World.{Seat}
+use Rattle.cg_model.specs.World.{Node}
 use Rattle.cg_model.specs.Attempts.{held_in}
 use Rattle.cg_model.specs.Fronts.{Front}
 use Rattle.cg_model.specs.Chronicle.{Told, Chronicle}
@@ -209,7 +209,7 @@ module _ (c : Chronicle) (p conf : ℕ) (r : Replica) (disk : Disk) (s : Sent Ms
 
     front : Front t.greens (greens_of c p)
     front =
-        let runs : core_of c p ≡ Some r.held = ap (λ (o : Option Seat). option_map (λ s. held_in s.life) o) h.seat in
+        let runs : core_of c p ≡ Some r.held = ap (λ (o : Option Node). option_map (λ s. held_in s.life) o) h.node in
         let outdone = subst (λ o. IfSome o (λ t. IfSome (core_of c p) (IsOutdone c t))) found (summaries.outdone conf p) in
         subst (λ x. Front t.greens (greens_of c x)) named (subst (λ o. IfSome o (IsOutdone c t)) runs outdone).greens
 

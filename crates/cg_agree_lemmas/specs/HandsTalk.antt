@@ -8,7 +8,7 @@ use Rattle.std.proofs.lemmas.List.Elements.{filter_map-append}
 use Rattle.std.proofs.lemmas.List.Sums.{fold-append}
 use Rattle.cg_base.specs.Sets.{has}
 use Rattle.cg_knowledge.specs.declared.summary.Summary.{Summary}
-use Rattle.cg_knowledge.specs.Members.{gone, remaining}
+use Rattle.cg_knowledge.specs.Summaries.{gone, remaining}
 use Rattle.cg_knowledge.specs.Verdict.{decides}
 use Rattle.cg_wire.specs.declared.message.Msg.{Msg}
 use Rattle.cg_wire.specs.declared.message.Msg.TheVariants.{Action as ActionMsg, State as StateMsg, GreenItem, RedItem, Cpc}
@@ -20,9 +20,9 @@ use Rattle.cg_group.specs.declared.delivery.Delivery.TheVariants.{Message}
 use Rattle.cg_group.specs.LookupLaws.{at-cond, eqb_comm}
 use Rattle.cg_client.specs.Turn.{Turn, begin}
 use Rattle.cg_construct.specs.Construct.{attempt_set}
-use Rattle.cg_step.specs.Step.{take as take_one, on_message}
+use Rattle.cg_replica_step.specs.Step.{after_delivery as take_one, on_message}
 use Rattle.cg_commit.specs.Crash.{Disk}
-use Rattle.cg_model.specs.World.{Up, Seat, seat_of, replica_of, running}
+use Rattle.cg_model.specs.World.{Up, Node, node_of, replica_of, running}
 use Rattle.cg_model.specs.Chronicle.{Told, Chronicle}
 use Rattle.cg_model.specs.Looks.{told_in, greens_of, is_regular_in, is_regular_at, members_in, ordered_in, sent_by, placed_of, waiting_in, said_in}
 use Rattle.cg_model.specs.Talk.{Talk, no_talk, talk_of, hears, hears_from, is_full, is_ended, may_say, is_legal, state_in, summary_in}
@@ -35,7 +35,7 @@ use Rattle.cg_agree_lemmas.specs.SaidSoFar.{placed-append, placed-own}
 use Rattle.cg_agree_lemmas.specs.HandKept.{hand-message}
 use Rattle.cg_agree_lemmas.specs.HandTalk.{says-summary, says-green, says-red, says-cpc, says-act}
 use Rattle.cg_agree_lemmas.specs.HandMay.{IsHanded, HasFirst, HasNext, all_said, may-summary, may-green, may-red, may-cpc, may-act, legal-parts, nil-behind}
-use Rattle.cg_agree_lemmas.specs.ChronicleFacts.{seat_of-set}
+use Rattle.cg_agree_lemmas.specs.ChronicleFacts.{node_of-set}
 use Rattle.cg_agree_lemmas.specs.GroupTurn.{Moved, moved-handed, moved-sent, regular-moved}
 use Rattle.cg_agree_lemmas.specs.TalkKept.{Turns, FitsAt, legal-kept, says-kept, told-kept, mode-kept}
 
@@ -114,7 +114,7 @@ split-at (y ∷ xs) (suc n) x e = ap (λ zs. y ∷ zs) (split-at xs n x e)
 
 -- a member is handed a place: what it is, and what other facts say of it
 pub record HandsAt (c : Chronicle) (p conf : ℕ) (r : Replica) (disk : Disk) (s : Sent Msg) : Type 0 where
-  pub seat : seat_of c.world p ≡ Some (record { id = p; life = Up r disk })
+  pub node : node_of c.world p ≡ Some (record { id = p; life = Up r disk })
   pub regular : phase_of c.world.group p ≡ Regular conf
   pub number : (conf == 0) ≡ false
   pub next : slice_get (ordered_in c conf) (delivered_to c.world.group p) ≡ Some s
@@ -168,7 +168,7 @@ module _ (c : Chronicle) (p conf : ℕ) (r : Replica) (disk : Disk) (s : Sent Ms
   pub step-is : small_step c (Hands p) ≡ behind
   unfolding small_step
   step-is =
-      ap (λ (o : Option Seat). option_map_or (λ s. turning_as (handed_next c p) p (take_next g p) s.life) o (handed_next c p)) h.seat
+      ap (λ (o : Option Node). option_map_or (λ s. turning_as (handed_next c p) p (take_next g p) s.life) o (handed_next c p)) h.node
       ∙ ap (after_turn (handed_next c p) p r disk) turn-is
 
   pub regular-in : is_regular_in c conf p ≡ true
@@ -191,7 +191,7 @@ module _ (c : Chronicle) (p conf : ℕ) (r : Replica) (disk : Disk) (s : Sent Ms
 
   pub state-is : r.state ≡ state_in set conf (talk_of front) p
   state-is =
-      let running' : replica_of c.world p ≡ Some r = ap (option_and_then (λ (x : Seat). running x.life)) h.seat in
+      let running' : replica_of c.world p ≡ Some r = ap (option_and_then (λ (x : Node). running x.life)) h.node in
       let mode = old.modes p in
       rw (running', h.regular) at mode
 
@@ -246,8 +246,8 @@ module _ (c : Chronicle) (p conf : ℕ) (r : Replica) (disk : Disk) (s : Sent Ms
     waits = moved.waits;
     told = λ k q. ap (λ xs. find (λ (t : Told). (t.summary.conf == k) && (t.summary.id == q)) (c.told ++ map (λ x. told-by x) xs)) no-summary
         ∙ ap (find (λ (t : Told). (t.summary.conf == k) && (t.summary.id == q))) (append-nil c.told);
-    replica = λ q. ap (option_and_then (λ (x : Seat). running x.life)) (seat_of-set c.world p (Up now.replica disk) q)
-        ∙ at-cond (option_and_then (λ (x : Seat). running x.life)) (p == q) (Some (record { id = p; life = Up now.replica disk })) (seat_of c.world q)
+    replica = λ q. ap (option_and_then (λ (x : Node). running x.life)) (node_of-set c.world p (Up now.replica disk) q)
+        ∙ at-cond (option_and_then (λ (x : Node). running x.life)) (p == q) (Some (record { id = p; life = Up now.replica disk })) (node_of c.world q)
         ∙ ap (λ b. cond b (Some now.replica) (replica_of c.world q)) (eqb_comm p q);
   } where
     told-by : Summary → Told

@@ -10,31 +10,31 @@ use Rattle.cg_group.specs.declared.delivery.Handed.{Handed}
 use Rattle.cg_group.specs.Events.{split, merge, deliver}
 use Rattle.cg_client.specs.Replica.{Replica}
 use Rattle.cg_client.specs.Turn.{Turn}
-use Rattle.cg_step.specs.Step.{Input, Deliveries, Asks as AsksOf, replica_step}
-use Rattle.cg_commit.specs.Crash.{FailOnce, StopWith, Strike, Ended, Runs, Crashes, end_event, new_disk}
+use Rattle.cg_replica_step.specs.Step.{Input, Deliveries, Asks as AsksOf, replica_step}
+use Rattle.cg_commit.specs.Crash.{FailOnce, StopWith, Strike, EventEnd, Runs, Crashes, end_event, new_disk}
 use Rattle.cg_schedule.specs.declared.event.Event.{Event}
 use Rattle.cg_schedule.specs.declared.event.Event.TheVariants.{Start, Split, Merge, Request, Weak, Dirty, Order, Recover, Show, ShowOrder, Gather, End, Receive, Deliver, Rounds, Stop, Fail, Join, Leave, Transfer}
-use Rattle.cg_model.specs.World.{Life, Up, Down, Seat, Snapshot, World, seat_of, replica_of, bring_up}
-use Rattle.cg_model.specs.Show.{Going}
-use Rattle.cg_model.specs.Step.{quietly, after_event, hand_to, hand, hand_over, name_also, begin_replica, arm_at, crash_at, recover_from, recover, joined, snapshot_for, without_snapshot, with_pieces, take_pieces, transfer, happens}
+use Rattle.cg_model.specs.World.{NodeState, Up, Down, Node, TransferState, World, node_of, replica_of, bring_up}
+use Rattle.cg_model.specs.Show.{StepInProgress}
+use Rattle.cg_model.specs.Step.{quietly, after_event, hand_to, hand, hand_over, name_also, begin_replica, arm_at, crash_at, recover_from, recover, joiner_replica, snapshot_for, without_snapshot, with_pieces, take_pieces, transfer, happens}
 use Rattle.cg_client.specs.Joined.{piece_count}
 
-hand-lines : (go : Going) (p : ℕ) (input : Input) → (hand go p input).world.lines ≡ go.world.lines
+hand-lines : (go : StepInProgress) (p : ℕ) (input : Input) → (hand go p input).world.lines ≡ go.world.lines
 unfolding hand
-hand-lines go p input = at (seat_of go.world p) where
-  ends : (t : Turn) (e : Ended) → (after_event go p t e).world.lines ≡ go.world.lines
+hand-lines go p input = at (node_of go.world p) where
+  ends : (t : Turn) (e : EventEnd) → (after_event go p t e).world.lines ≡ go.world.lines
   ends t (Runs r disk) = refl
   ends t (Crashes disk green) = refl
 
-  life : (l : Life) → (hand_to go p input l).world.lines ≡ go.world.lines
+  life : (l : NodeState) → (hand_to go p input l).world.lines ≡ go.world.lines
   life (Up r disk) = let t = replica_step r input in ends t (end_event disk r.held t)
   life (Down disk green) = refl
 
-  at : (o : Option Seat) → (option_map_or (λ s. hand_to go p input s.life) o go).world.lines ≡ go.world.lines
+  at : (o : Option Node) → (option_map_or (λ s. hand_to go p input s.life) o go).world.lines ≡ go.world.lines
   at None = refl
   at (Some s) = life s.life
 
-all-lines : (go : Going) (list : List (Handed Msg)) → (fold hand_over go list).world.lines ≡ go.world.lines
+all-lines : (go : StepInProgress) (list : List (Handed Msg)) → (fold hand_over go list).world.lines ≡ go.world.lines
 all-lines go [] = refl
 all-lines go (h ∷ list) = all-lines (hand_over go h) list ∙ hand-lines go h.to (Deliveries h.list)
 
@@ -42,29 +42,29 @@ begun-lines : (set : List Weighted) (list : List ℕ) (w : World) → (fold (beg
 begun-lines set [] w = refl
 begun-lines set (p ∷ list) w = begun-lines set list (begin_replica set w p)
 
-by_life : (w : World) (change : Life → World) → ((l : Life) → (change l).lines ≡ w.lines) → (o : Option Seat) → (option_map_or (λ s. change s.life) o w).lines ≡ w.lines
+by_life : (w : World) (change : NodeState → World) → ((l : NodeState) → (change l).lines ≡ w.lines) → (o : Option Node) → (option_map_or (λ s. change s.life) o w).lines ≡ w.lines
 by_life w change each None = refl
 by_life w change each (Some s) = each s.life
 
-armed-lines : (w : World) (p : ℕ) (strike : Strike) → (option_map_or (λ s. arm_at w p strike s.life) (seat_of w p) w).lines ≡ w.lines
-armed-lines w p strike = by_life w (arm_at w p strike) each (seat_of w p) where
-  each : (l : Life) → (arm_at w p strike l).lines ≡ w.lines
+armed-lines : (w : World) (p : ℕ) (strike : Strike) → (option_map_or (λ s. arm_at w p strike s.life) (node_of w p) w).lines ≡ w.lines
+armed-lines w p strike = by_life w (arm_at w p strike) each (node_of w p) where
+  each : (l : NodeState) → (arm_at w p strike l).lines ≡ w.lines
   each (Up r disk) = refl
   each (Down disk green) = refl
 
-stopped-lines : (w : World) (p : ℕ) → (option_map_or (λ s. crash_at w p s.life) (seat_of w p) w).lines ≡ w.lines
-stopped-lines w p = by_life w (crash_at w p) each (seat_of w p) where
-  each : (l : Life) → (crash_at w p l).lines ≡ w.lines
+stopped-lines : (w : World) (p : ℕ) → (option_map_or (λ s. crash_at w p s.life) (node_of w p) w).lines ≡ w.lines
+stopped-lines w p = by_life w (crash_at w p) each (node_of w p) where
+  each : (l : NodeState) → (crash_at w p l).lines ≡ w.lines
   each (Up r disk) = refl
   each (Down disk green) = refl
 
 recovered-lines : (w : World) (p : ℕ) → (recover w p).world.lines ≡ w.lines
-recovered-lines w p = at (seat_of w p) where
-  life : (l : Life) → (recover_from w l).world.lines ≡ w.lines
+recovered-lines w p = at (node_of w p) where
+  life : (l : NodeState) → (recover_from w l).world.lines ≡ w.lines
   life (Up r disk) = refl
   life (Down disk green) = refl
 
-  at : (o : Option Seat) → (option_map_or (λ s. recover_from w s.life) o (quietly w)).world.lines ≡ w.lines
+  at : (o : Option Node) → (option_map_or (λ s. recover_from w s.life) o (quietly w)).world.lines ≡ w.lines
   at None = refl
   at (Some s) = life s.life
 
@@ -74,10 +74,10 @@ transferred-lines w p joiner pieces = at (replica_of w p) where
   one_of true x y e f = e
   one_of false x y e f = f
 
-  pieces_taken : (s : Snapshot) (n : ℕ) → (with_pieces w s n).lines ≡ w.lines
+  pieces_taken : (s : TransferState) (n : ℕ) → (with_pieces w s n).lines ≡ w.lines
   pieces_taken s n =
       let others = without_snapshot w s.joiner in
-      let r = joined s.joiner s.content in
+      let r = joiner_replica s.joiner s.content in
       one_of (n == piece_count s.content) (bring_up others r (new_disk r.held)) (record others { snapshots = others.snapshots ++ record s { taken = n } ∷ [] }) refl refl
 
   at : (o : Option Replica) → (option_map_or (λ r. take_pieces w (snapshot_for w p joiner r) pieces) o (quietly w)).world.lines ≡ w.lines

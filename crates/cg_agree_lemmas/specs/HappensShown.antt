@@ -12,12 +12,12 @@ use Rattle.cg_report.specs.declared.entry.Shown.TheVariants.{Weak as ShownWeak, 
 use Rattle.cg_client.specs.Replica.{Replica}
 use Rattle.cg_client.specs.Turn.{Turn}
 use Rattle.cg_client.specs.Queries.{weak_answer, dirty_answer}
-use Rattle.cg_step.specs.Step.{Input, Deliveries, Asks as AsksOf, replica_step}
-use Rattle.cg_commit.specs.Crash.{Ended, Runs, Crashes, end_event}
+use Rattle.cg_replica_step.specs.Step.{Input, Deliveries, Asks as AsksOf, replica_step}
+use Rattle.cg_commit.specs.Crash.{EventEnd, Runs, Crashes, end_event}
 use Rattle.cg_schedule.specs.declared.event.Event.{Event}
 use Rattle.cg_schedule.specs.declared.event.Event.TheVariants.{Start, Split, Merge, Request, Weak, Dirty, Order, Recover, Show, ShowOrder, Gather, End, Receive, Deliver, Rounds, Stop, Fail, Join, Leave, Transfer}
-use Rattle.cg_model.specs.World.{Life, Up, Down, Seat, World, seat_of, replica_of}
-use Rattle.cg_model.specs.Show.{Going, ended}
+use Rattle.cg_model.specs.World.{NodeState, Up, Down, Node, World, node_of, replica_of}
+use Rattle.cg_model.specs.Show.{StepInProgress, ended}
 use Rattle.cg_model.specs.Step.{quietly, after_event, hand_to, hand, hand_over, name_also, recover_from, recover, snapshot_for, take_pieces, transfer, shown_of, happens, world_step}
 use Rattle.cg_client.specs.Joined.{piece_count}
 
@@ -34,32 +34,32 @@ shown_by w other = []
 
 -- ---- events
 
-hand-shown : (go : Going) (p : ℕ) (input : Input) → (hand go p input).shown ≡ go.shown
+hand-shown : (go : StepInProgress) (p : ℕ) (input : Input) → (hand go p input).shown ≡ go.shown
 unfolding hand
-hand-shown go p input = at (seat_of go.world p) where
-  ends : (t : Turn) (e : Ended) → (after_event go p t e).shown ≡ go.shown
+hand-shown go p input = at (node_of go.world p) where
+  ends : (t : Turn) (e : EventEnd) → (after_event go p t e).shown ≡ go.shown
   ends t (Runs r disk) = refl
   ends t (Crashes disk green) = refl
 
-  life : (l : Life) → (hand_to go p input l).shown ≡ go.shown
+  life : (l : NodeState) → (hand_to go p input l).shown ≡ go.shown
   life (Up r disk) = let t = replica_step r input in ends t (end_event disk r.held t)
   life (Down disk green) = refl
 
-  at : (o : Option Seat) → (option_map_or (λ s. hand_to go p input s.life) o go).shown ≡ go.shown
+  at : (o : Option Node) → (option_map_or (λ s. hand_to go p input s.life) o go).shown ≡ go.shown
   at None = refl
   at (Some s) = life s.life
 
-all-shown : (go : Going) (list : List (Handed Msg)) → (fold hand_over go list).shown ≡ go.shown
+all-shown : (go : StepInProgress) (list : List (Handed Msg)) → (fold hand_over go list).shown ≡ go.shown
 all-shown go [] = refl
 all-shown go (h ∷ list) = all-shown (hand_over go h) list ∙ hand-shown go h.to (Deliveries h.list)
 
 recovered-shown : (w : World) (p : ℕ) → (recover w p).shown ≡ []
-recovered-shown w p = at (seat_of w p) where
-  life : (l : Life) → (recover_from w l).shown ≡ []
+recovered-shown w p = at (node_of w p) where
+  life : (l : NodeState) → (recover_from w l).shown ≡ []
   life (Up r disk) = refl
   life (Down disk green) = refl
 
-  at : (o : Option Seat) → (option_map_or (λ s. recover_from w s.life) o (quietly w)).shown ≡ []
+  at : (o : Option Node) → (option_map_or (λ s. recover_from w s.life) o (quietly w)).shown ≡ []
   at None = refl
   at (Some s) = life s.life
 

@@ -20,8 +20,8 @@ use Rattle.cg_client.specs.Summary.{redden, forget_own, own_to_red, enter_exchan
 use Rattle.cg_prim.specs.TransPrim.{end_prim}
 use Rattle.cg_construct.specs.No.{no_record}
 use Rattle.cg_client.specs.Whitening.{white_at}
-use Rattle.cg_stored.specs.Stored.{stored_of, whiten, recover}
-use Rattle.cg_step.specs.Step.{on_regular, take}
+use Rattle.cg_disk_records.specs.Stored.{stored_of, whiten, recovery_turn}
+use Rattle.cg_replica_step.specs.Step.{on_regular, after_delivery}
 use Rattle.cg_model.specs.Small.{take_request}
 use Rattle.cg_agree_lemmas.specs.HeldMarks.{IsOneself}
 use Rattle.cg_agree_lemmas.specs.HeldTurns.{Keeps, grows-none, keeps-none, keeps-both, keeps-by_replica, keeps-create, keeps-enter_exchange, keeps-own_to_red, oneself-with}
@@ -106,16 +106,16 @@ none-more xs [] e = refl
 none-more xs (m ∷ more) e = absurd (let grown = ap length e ∙ length-append xs (m ∷ more) in omega arith)
 
 -- a replica that comes up from its disk
-pub recovered-oneself : (start : List Weighted) (h : Held) (all : List Action) → IsOneself start h all → IsOneself start (recover h).replica.held all
-unfolding recover
+pub recovered-oneself : (start : List Weighted) (h : Held) (all : List Action) → IsOneself start h all → IsOneself start (recovery_turn h).replica.held all
+unfolding recovery_turn
 recovered-oneself start h all is =
     let t = begin (record { held = h; state = NonPrim false }) in
     let g = keeps-own_to_red start all t is in
     let none : g.more ≡ [] = none-more h.queue.greens g.more (sym (own-greens t).greens ∙ g.kept) in
     subst (IsOneself start (own_to_red t).replica.held) (ap (λ xs. all ++ xs) none ∙ append-nil all) g.is
 
-pub recovered-id : (h : Held) → (recover h).replica.held.id ≡ h.id
-unfolding recover
+pub recovered-id : (h : Held) → (recovery_turn h).replica.held.id ≡ h.id
+unfolding recovery_turn
 recovered-id h = (own-greens (begin (record { held = h; state = NonPrim false }))).id
 
 -- ---- a new configuration
@@ -146,8 +146,8 @@ keeps-on_regular Un conf set = keeps-enter_exchange conf set
 keeps-on_regular (NonPrim regular) conf set = keeps-enter_exchange conf set
 keeps-on_regular Left conf set = keeps-none
 
-pub keeps-take_regular : (conf : ℕ) (set : List ℕ) → Keeps (λ t. take t (RegularIn conf set))
-unfolding take
+pub keeps-take_regular : (conf : ℕ) (set : List ℕ) → Keeps (λ t. after_delivery t (RegularIn conf set))
+unfolding after_delivery
 keeps-take_regular conf set = keeps-by_replica (λ r. on_regular r.state conf set) (λ r. keeps-on_regular r.state conf set)
 
 -- ---- a request

@@ -4,7 +4,7 @@ use Rattle.cg_base.specs.declared.weighted.Weighted.{Weighted}
 use Rattle.cg_base.specs.Sets.{has}
 use Rattle.cg_action.specs.declared.action.Action.{Action}
 use Rattle.cg_knowledge.specs.declared.summary.Summary.{Summary}
-use Rattle.cg_knowledge.specs.Members.{gone}
+use Rattle.cg_knowledge.specs.Summaries.{gone}
 use Rattle.cg_knowledge.specs.Primary.{known_primary, known_attempt}
 use Rattle.cg_knowledge.specs.Yellow.{common_yellow}
 use Rattle.cg_knowledge.specs.Vulnerable.{decided}

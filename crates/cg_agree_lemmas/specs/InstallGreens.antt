@@ -24,7 +24,7 @@ use Rattle.cg_client.specs.Marks.{is_unmade, marked, mark_yellow}
 use Rattle.cg_client.specs.Install.{install}
 use Rattle.cg_construct.specs.Construct.{attempt_set, is_announced, construct_with}
 use Rattle.cg_construct.specs.No.{no_with}
-use Rattle.cg_step.specs.Step.{on_message, on_transitional, take}
+use Rattle.cg_replica_step.specs.Step.{on_message, on_transitional, after_delivery}
 use Rattle.cg_model.specs.FactsReplica.{is_primary}
 use Rattle.cg_model.specs.Small.{newly_green, take_all, take_parting}
 use Rattle.cg_agree_lemmas.specs.HeldMarks.{IsOneself}
@@ -133,7 +133,7 @@ module _ (start : List Weighted) (all : List Action) (r : Replica) (is : IsOnese
   parting-message from m t (Done state greens) = subst (λ (s : State). Parting r (on_message s from m t).replica) (sym state) (done-message from m t state greens)
 
   parting-place : (conf : Configuration Msg) (place : ℕ) (t : Turn) → Parting r t.replica → Parting r (take_all (delivery_at conf place) t).replica
-  unfolding delivery_at take
+  unfolding delivery_at after_delivery
   parting-place conf place t so = at (at_place conf.ordered place) where
     at : (o : Option (Sent Msg)) → Parting r (take_all (option_map_or (λ s. Message place s.from s.message ∷ []) o []) t).replica
     at None = so
@@ -142,7 +142,7 @@ module _ (start : List Weighted) (all : List Action) (r : Replica) (is : IsOnese
   parting-places : (conf : Configuration Msg) (places : List ℕ) (t : Turn) → Parting r t.replica → Parting r (take_all (deliveries_at conf places) t).replica
   parting-places conf [] t so = so
   parting-places conf (place ∷ places) t so =
-      subst (λ (u : Turn). Parting r u.replica) (sym (fold-append take t (delivery_at conf place) (deliveries_at conf places)))
+      subst (λ (u : Turn). Parting r u.replica) (sym (fold-append after_delivery t (delivery_at conf place) (deliveries_at conf places)))
       (parting-places conf places (take_all (delivery_at conf place) t) (parting-place conf place t so))
 
   begins-parting : (conf : ℕ) (heard : List ℕ) → r.state ≡ Construct conf heard → Parting r (on_transitional r.state (begin r)).replica
@@ -152,7 +152,7 @@ module _ (start : List Weighted) (all : List Action) (r : Replica) (is : IsOnese
   -- a member that was waiting for announcements, and is one of a primary component behind its parting
   pub in-parting : (g : GroupState Msg) (p : ℕ) (set places : List ℕ) (conf : ℕ) (heard : List ℕ) → r.state ≡ Construct conf heard → is_primary (take_parting g p set places (begin r)).replica.state ≡ true →
       HasInstalledAll r (take_parting g p set places (begin r)).replica × ((take_parting g p set places (begin r)).replica.state ≡ TransPrim)
-  unfolding take
+  unfolding after_delivery
   in-parting g p set places conf heard at primary = by (parting-places (home g p) places (on_transitional r.state (begin r)) (begins-parting conf heard at)) where
     u : Replica
     u = (take_all (deliveries_at (home g p) places) (on_transitional r.state (begin r))).replica

@@ -14,8 +14,8 @@ use Rattle.cg_client.specs.Turn.{Turn, begin}
 use Rattle.cg_client.specs.Marks.{marked, place_green}
 use Rattle.cg_client.specs.Requests.{is_creating, next_action, create, create_kept, empty_buffer, buffer, settle, request_in, request}
 use Rattle.cg_client.specs.Summary.{redden, forget_own, own_to_red}
-use Rattle.cg_step.specs.Recorded.{OfMessage}
-use Rattle.cg_step.specs.Step.{Input, Deliveries, Asks, replica_step, take}
+use Rattle.cg_replica_step.specs.Recorded.{OfMessage}
+use Rattle.cg_replica_step.specs.Step.{Input, Deliveries, Asks, replica_step, after_delivery}
 use Rattle.cg_model.specs.World.{is_left_state}
 use Rattle.cg_model.specs.FactsReplica.{IsEmptyIn}
 use Rattle.cg_agree_lemmas.specs.TurnValues.{even-own_to_red}
@@ -149,7 +149,7 @@ asked-empty r kind is = at r.state refl is where
 pub step-empty : (r : Replica) (input : Input) → IsEmptyIn r.held r.state → IsEmptyIn (replica_step r input).replica.held (replica_step r input).replica.state
 unfolding replica_step
 step-empty r (Deliveries list) is =
-    settled-empty (fold take (begin r) list) (of-deliveries IsLeftEmpty (λ a. Unit {0}) left-rule (begin r) list (anything list) (left-empty r.held r.state is))
+    settled-empty (fold after_delivery (begin r) list) (of-deliveries IsLeftEmpty (λ a. Unit {0}) left-rule (begin r) list (anything list) (left-empty r.held r.state is))
 step-empty r (Asks kind) is = asked-empty r kind is
 
 -- ---- what is held goes on
@@ -177,7 +177,7 @@ kept-behind old t p u = at t.replica.held.buffered u where
 
 pub step-behind : (r : Replica) (input : Input) → OwnRuns r.held → StaysBehind r.held (replica_step r input)
 unfolding replica_step create
-step-behind r (Deliveries list) own = settled (fold take (begin r) list)
+step-behind r (Deliveries list) own = settled (fold after_delivery (begin r) list)
     (of-deliveries (StaysBehind r.held) (λ a. Unit {0}) (stays-rule r.held) (begin r) list (anything list) (λ u. (further-refl r.held, own)))
   where
     settled : (t : Turn) → StaysBehind r.held t → StaysBehind r.held (settle t)

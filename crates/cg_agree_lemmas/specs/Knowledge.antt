@@ -9,7 +9,7 @@ use Rattle.cg_base.specs.Lists.{greatest}
 use Rattle.cg_base.specs.SetLaws.{has-union}
 use Rattle.cg_records.specs.declared.vulnerable.Vulnerable.{Vulnerable}
 use Rattle.cg_knowledge.specs.declared.summary.Summary.{Summary}
-use Rattle.cg_knowledge.specs.Members.{senders, lower, lowest}
+use Rattle.cg_knowledge.specs.Summaries.{senders, lower, lowest}
 use Rattle.cg_knowledge.specs.Primary.{newest_index, knows_prim, newest, known_primary, no_prim}
 use Rattle.cg_knowledge.specs.Vulnerable.{with_bits, all_bits, decided, is_cleared}
 use Rattle.cg_agree_lemmas.specs.EndCovers.{OfEach, lowest-of}

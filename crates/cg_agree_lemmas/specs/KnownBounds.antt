@@ -9,7 +9,7 @@ use Rattle.cg_base.specs.Lists.{lesser}
 use Rattle.cg_base.specs.Sets.{has, union}
 use Rattle.cg_base.specs.SetLaws.{has-union}
 use Rattle.cg_knowledge.specs.declared.summary.Summary.{Summary}
-use Rattle.cg_knowledge.specs.Members.{remaining}
+use Rattle.cg_knowledge.specs.Summaries.{remaining}
 use Rattle.cg_plan.specs.Plan.{of_remaining, least_greens, least_reds, knows_more, farther, farthest, creators}
 use Rattle.cg_model.specs.Fronts.{IsSomeWith}
 use Rattle.cg_model.specs.Talk.{known_up_to}

@@ -7,7 +7,7 @@ use Rattle.cg_base.specs.Cuts.{index_in}
 use Rattle.cg_base.specs.Sets.{has}
 use Rattle.cg_queue.specs.Queue.{names_of}
 use Rattle.cg_knowledge.specs.declared.summary.Summary.{Summary}
-use Rattle.cg_knowledge.specs.Members.{most_updated}
+use Rattle.cg_knowledge.specs.Summaries.{most_updated}
 use Rattle.cg_plan.specs.Items.{items_of_plan}
 use Rattle.cg_plan.specs.Plan.{least_reds, creators, plan_of}
 use Rattle.cg_client.specs.Replica.{Held}

@@ -13,8 +13,8 @@ use Rattle.cg_client.specs.Turn.{Turn, begin}
 use Rattle.cg_client.specs.Marks.{mark_red, mark_yellow, mark_green}
 use Rattle.cg_client.specs.Requests.{is_creating, create, create_kept, empty_buffer, buffer, settle, request_in, request}
 use Rattle.cg_queue.specs.Queue.{QueueView}
-use Rattle.cg_stored.specs.Stored.{whiten}
-use Rattle.cg_step.specs.Step.{on_message, on_transitional, take}
+use Rattle.cg_disk_records.specs.Stored.{whiten}
+use Rattle.cg_replica_step.specs.Step.{on_message, on_transitional, after_delivery}
 use Rattle.cg_commit.specs.Crash.{whitened}
 use Rattle.cg_model.specs.Chronicle.{Told}
 use Rattle.cg_model.specs.FactsExchange.{HasMadeNothing, KnowsAsMuch}
@@ -79,15 +79,15 @@ abbrev pub IsInside : Delivery Msg → Type 0
 IsInside (RegularIn conf set) = ⊥
 IsInside _ = Unit {0}
 
-free-take : (t : Turn) (d : Delivery Msg) → IsInside d → is_free t.replica.state ≡ true → is_free (take t d).replica.state ≡ true
-unfolding take
+free-take : (t : Turn) (d : Delivery Msg) → IsInside d → is_free t.replica.state ≡ true → is_free (after_delivery t d).replica.state ≡ true
+unfolding after_delivery
 free-take t (Message place from m) inside is = free-message t.replica.state from m t refl is
 free-take t (TransitionalIn conf set) inside is = free-transitional t.replica.state t refl is
 free-take t (RegularIn conf set) inside is = absurd inside
 
-free-list : (list : List (Delivery Msg)) (t : Turn) → Each IsInside list → is_free t.replica.state ≡ true → is_free (fold take t list).replica.state ≡ true
+free-list : (list : List (Delivery Msg)) (t : Turn) → Each IsInside list → is_free t.replica.state ≡ true → is_free (fold after_delivery t list).replica.state ≡ true
 free-list [] t inside is = is
-free-list (d ∷ list) t inside is = free-list list (take t d) inside.1 (free-take t d inside.0 is)
+free-list (d ∷ list) t inside is = free-list list (after_delivery t d) inside.1 (free-take t d inside.0 is)
 
 -- ---- what is known goes on
 
@@ -132,7 +132,7 @@ knows-on t old new on is = record {
 }
 
 -- what is handed
-pub takes-knowing : (r : Replica) (list : List (Delivery Msg)) → HasCreated r.held r.held → Each IsInside list → GoesOnKnowing r (fold take (begin r) list).replica
+pub takes-knowing : (r : Replica) (list : List (Delivery Msg)) → HasCreated r.held r.held → Each IsInside list → GoesOnKnowing r (fold after_delivery (begin r) list).replica
 takes-knowing r list first inside =
     let now = of-deliveries (StaysCreated r.held) (λ a. Unit {0}) (created-rule r.held) (begin r) list (anything list) (record { held = first; made = refl }) in
     record { red = now.held.red; free = λ e. free-list list (begin r) inside e; made = λ e. now.held.created }

@@ -22,7 +22,7 @@ use Rattle.cg_model.specs.Smalls.{implies, ascend_within, hold_received, hold_ea
 use Rattle.cg_agree_lemmas.specs.Parts.{IsPart}
 use Rattle.cg_agree_lemmas.specs.PartsTaken.{part-take_all, part-settle}
 use Rattle.cg_agree_lemmas.specs.GroupChanges.{set-twice, sent-dropped}
-use Rattle.cg_agree_lemmas.specs.TurnWorlds.{seated, turn-next}
+use Rattle.cg_agree_lemmas.specs.TurnWorlds.{hosted, turn-next}
 use Rattle.cg_agree_lemmas.specs.HandWorlds.{standing, handed_to, phase-stands, home-stands}
 use Rattle.cg_agree_lemmas.specs.SmallWorlds.{grouped, turning_in, small_in}
 
@@ -34,17 +34,17 @@ module _ (w : World) (g : GroupState Msg) (p : ℕ) (disk : Disk) (s : Standing 
   past_standing = record { id = p; phase = Transitional (regular_in s.phase) set; delivered = own; unordered = [] }
 
   abbrev pub left_to : Turn → World
-  left_to t = seated w p t.replica disk (set_standing g past_standing)
+  left_to t = hosted w p t.replica disk (set_standing g past_standing)
 
   abbrev home_conf : Configuration Msg
   home_conf = configuration g (regular_in s.phase)
 
   -- what it says then is dropped
-  part-dropped : (t : Turn) (h : GroupState Msg) (part : Turn → Turn) → IsPart part → h ≡ set_standing g past_standing → turning_in (seated w p t.replica disk h) p part ≡ left_to (part t)
+  part-dropped : (t : Turn) (h : GroupState Msg) (part : Turn → Turn) → IsPart part → h ≡ set_standing g past_standing → turning_in (hosted w p t.replica disk h) p part ≡ left_to (part t)
   part-dropped t h part is same =
       let u = part (begin t.replica) in
       turn-next w h p t.replica disk part
-      ∙ ap (seated w p u.replica disk) (ap (λ x. send_all x p u.sent) same ∙ sent-dropped u.sent g past_standing p refl refl)
+      ∙ ap (hosted w p u.replica disk) (ap (λ x. send_all x p u.sent) same ∙ sent-dropped u.sent g past_standing p refl refl)
       ∙ ap left_to (sym (is t))
 
   pub leaves : (t : Turn) (n : ℕ) (places : List ℕ) →

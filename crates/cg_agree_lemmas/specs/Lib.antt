@@ -53,7 +53,7 @@ pub mod EndQuorum
 pub mod CountedKept
 pub mod SmallWorlds
 pub mod Standings
-pub mod SeatFacts
+pub mod NodeFacts
 pub mod MadeQuietly
 pub mod MadeAlone
 pub mod MadeTransfer
@@ -189,4 +189,4 @@ pub mod HappensShown
 pub mod MadeThere
 pub mod MarksFit
 pub mod PartingIdle
-pub mod TouchedSeats
+pub mod TouchedNodes

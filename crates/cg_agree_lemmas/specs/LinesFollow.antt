@@ -13,9 +13,9 @@ use Rattle.cg_group.specs.Events.{delivery_at, deliveries_at}
 use Rattle.cg_client.specs.Replica.{Held, NonPrim, Replica}
 use Rattle.cg_client.specs.Turn.{Turn, begin}
 use Rattle.cg_client.specs.Requests.{settle}
-use Rattle.cg_stored.specs.Stored.{whiten, recover}
-use Rattle.cg_model.specs.World.{Seat, running, replica_of}
-use Rattle.cg_model.specs.Step.{joined}
+use Rattle.cg_disk_records.specs.Stored.{whiten, recovery_turn}
+use Rattle.cg_model.specs.World.{Node, running, replica_of}
+use Rattle.cg_model.specs.Step.{joiner_replica}
 use Rattle.cg_model.specs.Chronicle.{Chronicle}
 use Rattle.cg_model.specs.Looks.{greens_of, stood_of, disk_held, snapshot_of, copied_for, OfCores}
 use Rattle.cg_model.specs.FactsReplica.{IsLined, IsCore}
@@ -53,7 +53,7 @@ follows-all c r new all core white f =
     )
 
 follows-closed : (start : List Weighted) → IsClosed (FollowsAll start)
-unfolding whiten recover
+unfolding whiten recovery_turn
 follows-closed start = record {
   whitened = λ h all is. (is.0, λ q server. (let low = is.1 q server in let least = white-line-below h.members q server in omega arith));
   stored = λ h all is. (is.0, is.1);
@@ -83,15 +83,15 @@ module _ (c : Chronicle) (i : Invariant c) where
   cores-follow = record {
     memory = λ p. each (replica_of c.world p) (λ r. r.held) (λ r. greens_of c p) (i.replica.cores.memory p) (i.replica.lines_below.cores.memory p);
     disk = λ p. each (disk_held c.world p) (λ h. h) (λ h. stood_of c p) (i.replica.cores.disk p) (i.replica.lines_below.cores.disk p);
-    snapshot = λ joiner. each (snapshot_of c.world joiner) (λ s. (joined joiner s.content).held) (λ s. copied_for c joiner) (i.replica.cores.snapshot joiner) (i.replica.lines_below.cores.snapshot joiner);
+    snapshot = λ joiner. each (snapshot_of c.world joiner) (λ s. (joiner_replica joiner s.content).held) (λ s. copied_for c joiner) (i.replica.cores.snapshot joiner) (i.replica.lines_below.cores.snapshot joiner);
   } where
     each : {X : Type 0} (o : Option X) (h : X → Held) (all : X → List Action) → IfSome o (λ x. IsCore c (h x) (all x)) → IfSome o (λ x. IsLined c (h x) (all x)) → IfSome o (λ x. FollowsAll c.start (h x) (all x))
     each None h all core lined = tt
     each (Some x) h all core lined = (core.made_of.members, lined.white)
 
   turn-follows : (p : ℕ) (part : Turn → Turn) → ((r : Replica) → FollowsGreens r.held (part (begin r)).replica.held) → TurnKeeps c p part (FollowsAll c.start)
-  turn-follows p part follow r disk seat =
-      let here : replica_of c.world p ≡ Some r = ap (λ (o : Option Seat). option_and_then (λ s. running s.life) o) seat in
+  turn-follows p part follow r disk node =
+      let here : replica_of c.world p ≡ Some r = ap (λ (o : Option Node). option_and_then (λ s. running s.life) o) node in
       follows-all c r (part (begin r)).replica (greens_of c p) (subst (λ (o : Option Replica). IfSome o (λ r. IsCore c r.held (greens_of c p))) here (i.replica.cores.memory p))
       (subst (λ (o : Option Replica). IfSome o (λ r. IsLined c r.held (greens_of c p))) here (i.replica.lines_below.cores.memory p)).white (follow r)
 
@@ -114,4 +114,4 @@ module _ (c : Chronicle) (i : Invariant c) where
 
   -- Behind a small step servers are those of the greens, in every core.
   pub follow-kept : (s : Small) → may_make c s ≡ true → NotStart s → OfCores (small_step c s) (FollowsAll c.start)
-  follow-kept s may other = cores-kept (FollowsAll c.start) c s (ready-of c i.net.seated i.replica.disk_behind) may (follows-closed c.start) (step-follows s other) cores-follow
+  follow-kept s may other = cores-kept (FollowsAll c.start) c s (ready-of c i.net.hosted i.replica.disk_behind) may (follows-closed c.start) (step-follows s other) cores-follow

@@ -16,7 +16,7 @@ use Rattle.cg_client.specs.Replica.{Held, Replica}
 use Rattle.cg_client.specs.Install.{actions_named, valid_yellow}
 use Rattle.cg_client.specs.Queries.{plain_reds}
 use Rattle.cg_client.specs.Whitening.{white_at}
-use Rattle.cg_stored.specs.Stored.{whiten}
+use Rattle.cg_disk_records.specs.Stored.{whiten}
 use Rattle.cg_model.specs.World.{replica_of}
 use Rattle.cg_model.specs.Chronicle.{Attempt, Chronicle}
 use Rattle.cg_model.specs.Fronts.{When, IsSomeWith}

@@ -14,10 +14,10 @@ use Rattle.cg_group.specs.Events.{send_all, order, order_from, receive, with_rec
 use Rattle.cg_client.specs.Replica.{Replica, fresh}
 use Rattle.cg_client.specs.Turn.{Turn, begin}
 use Rattle.cg_client.specs.Requests.{settle}
-use Rattle.cg_stored.specs.Stored.{stored_of, whiten}
+use Rattle.cg_disk_records.specs.Stored.{stored_of, whiten}
 use Rattle.cg_commit.specs.Crash.{Disk, new_disk, at_rest, recovered, disk_recovered}
-use Rattle.cg_model.specs.World.{Life, Up, Down, Seat, Snapshot, World, has_begun, seat_of, replica_of, set_life, bring_up}
-use Rattle.cg_model.specs.Step.{begin_replica, name_also, joined, without_snapshot}
+use Rattle.cg_model.specs.World.{NodeState, Up, Down, Node, TransferState, World, has_begun, node_of, replica_of, set_life, bring_up}
+use Rattle.cg_model.specs.Step.{begin_replica, name_also, joiner_replica, without_snapshot}
 use Rattle.cg_model.specs.Chronicle.{Chronicle}
 use Rattle.cg_model.specs.Looks.{snapshot_of}
 use Rattle.cg_model.specs.Small.{Small, Starts, Makes, Enters, Orders, Receives, Hands, Leaves, Asks, Settles, Commits, Crashes, Recovers, Copies, Joins, newest_conf, make_configuration, become_past, take_newest, take_next, take_parting, take_request, small_step}
@@ -25,7 +25,7 @@ use Rattle.cg_model.specs.Smalls.{may_make}
 use Rattle.cg_model.specs.FactsLists.{IsRising, AreRising, AreReceived, AreForServers, ListFacts}
 use Rattle.cg_agree_lemmas.specs.Standings.{rising-with_member}
 use Rattle.cg_agree_lemmas.specs.GroupChanges.{DoRise, rising-set, rising-down, rising-sent, configurations-sent, configurations-down}
-use Rattle.cg_agree_lemmas.specs.SeatFacts.{ids-seated}
+use Rattle.cg_agree_lemmas.specs.NodeFacts.{ids-hosted}
 use Rattle.cg_agree_lemmas.specs.GatherReceipts.{rising-gets}
 use Rattle.cg_agree_lemmas.specs.SmallWorlds.{grouped, turned_in, turning_in, commit_in, crash_in, recover_in, copy_in, join_in, small_in, may_in, may-of, small-world}
 
@@ -102,38 +102,38 @@ keyed-delivered g p n is = at (standing_of g p) where
 -- ---- the world
 
 pub record AreLists (w : World) : Type 0 where
-  pub seats : IsRising 0 (map (λ s. s.id) w.seats)
+  pub nodes : IsRising 0 (map (λ s. s.id) w.nodes)
   pub keyed : IsKeyed w.group
   pub served : AreForServers w.snapshots
 
-rising-seat : (w : World) (p : ℕ) (life : Life) → IsRising 0 (map (λ s. s.id) w.seats) → IsRising 0 (map (λ s. s.id) (set_life w p life).seats)
-rising-seat w p life is = subst (IsRising 0) (sym (ids-seated w.seats (record { id = p; life = life }))) (rising-with_member 0 p (map (λ s. s.id) w.seats) (omega arith) is)
+rising-node : (w : World) (p : ℕ) (life : NodeState) → IsRising 0 (map (λ s. s.id) w.nodes) → IsRising 0 (map (λ s. s.id) (set_life w p life).nodes)
+rising-node w p life is = subst (IsRising 0) (sym (ids-hosted w.nodes (record { id = p; life = life }))) (rising-with_member 0 p (map (λ s. s.id) w.nodes) (omega arith) is)
 
-served-filtered : (t : Snapshot → Bool) (list : List Snapshot) → AreForServers list → AreForServers (filter t list)
+served-filtered : (t : TransferState → Bool) (list : List TransferState) → AreForServers list → AreForServers (filter t list)
 served-filtered t [] each = tt
 served-filtered t (s ∷ list) each = cond_both (t s) (s ∷ filter t list) (filter t list) AreForServers (λ y. (each.0, served-filtered t list each.1)) (λ n. served-filtered t list each.1)
 
 lists-up : (w : World) (r : Replica) (disk : Disk) → AreLists w → AreLists (bring_up w r disk)
-lists-up w r disk is = record { seats = rising-seat w r.held.id (Up r disk) is.seats; keyed = keyed-up w.group r.held.id is.keyed; served = is.served }
+lists-up w r disk is = record { nodes = rising-node w r.held.id (Up r disk) is.nodes; keyed = keyed-up w.group r.held.id is.keyed; served = is.served }
 
 lists-turning : (w : World) (p : ℕ) (part : Turn → Turn) → AreLists w → AreLists (turning_in w p part)
-lists-turning w p part is = at (seat_of w p) where
-  life-lists : (life : Life) → AreLists (turned_in w p part life)
-  life-lists (Up r disk) = record { seats = rising-seat w p (Up (part (begin r)).replica disk) is.seats; keyed = keyed-sent (part (begin r)).sent w.group p is.keyed; served = is.served }
+lists-turning w p part is = at (node_of w p) where
+  life-lists : (life : NodeState) → AreLists (turned_in w p part life)
+  life-lists (Up r disk) = record { nodes = rising-node w p (Up (part (begin r)).replica disk) is.nodes; keyed = keyed-sent (part (begin r)).sent w.group p is.keyed; served = is.served }
   life-lists (Down disk green) = is
 
-  at : (o : Option Seat) → AreLists (option_map_or (λ s. turned_in w p part s.life) o w)
+  at : (o : Option Node) → AreLists (option_map_or (λ s. turned_in w p part s.life) o w)
   at None = is
   at (Some s) = life-lists s.life
 
 lists-grouped : (w : World) (g : GroupState Msg) → IsKeyed g → AreLists w → AreLists (grouped w g)
-lists-grouped w g keyed is = record { seats = is.seats; keyed = keyed; served = is.served }
+lists-grouped w g keyed is = record { nodes = is.nodes; keyed = keyed; served = is.served }
 
 lists-begun : (set : List Weighted) (ps : List ℕ) (w : World) → AreLists w → AreLists (fold (begin_replica set) w ps)
 lists-begun set [] w is = is
 lists-begun set (p ∷ ps) w is =
     let r = fresh p set in
-    lists-begun set ps (begin_replica set w p) (lists-up (name_also w p) r (new_disk r.held) record { seats = is.seats; keyed = is.keyed; served = is.served })
+    lists-begun set ps (begin_replica set w p) (lists-up (name_also w p) r (new_disk r.held) record { nodes = is.nodes; keyed = is.keyed; served = is.served })
 
 lists-in : (w : World) (s : Small) → may_in w s ≡ true → AreLists w → AreLists (small_in w s)
 unfolding small_in may_in may_make become_regular
@@ -153,43 +153,43 @@ lists-in w (Leaves p set own places) may is =
     lists-turning (grouped w g) p (take_parting w.group p set places) (lists-grouped w g (keyed-set w.group _ is.keyed) is)
 lists-in w (Asks p kind) may is = lists-turning w p (take_request kind) is
 lists-in w (Settles p) may is = lists-turning w p settle is
-lists-in w (Commits p) may is = at (seat_of w p) where
-  life-lists : (life : Life) → AreLists (commit_in w p life)
-  life-lists (Up r disk) = record { seats = rising-seat w p (Up (record r { held = whiten r.held }) (record disk { content = stored_of (whiten r.held) })) is.seats; keyed = is.keyed; served = is.served }
+lists-in w (Commits p) may is = at (node_of w p) where
+  life-lists : (life : NodeState) → AreLists (commit_in w p life)
+  life-lists (Up r disk) = record { nodes = rising-node w p (Up (record r { held = whiten r.held }) (record disk { content = stored_of (whiten r.held) })) is.nodes; keyed = is.keyed; served = is.served }
   life-lists (Down disk green) = is
 
-  at : (o : Option Seat) → AreLists (option_map_or (λ s. commit_in w p s.life) o w)
+  at : (o : Option Node) → AreLists (option_map_or (λ s. commit_in w p s.life) o w)
   at None = is
   at (Some s) = life-lists s.life
-lists-in w (Crashes p) may is = at (seat_of w p) where
-  life-lists : (life : Life) → AreLists (crash_in w p life)
-  life-lists (Up r disk) = record { seats = rising-seat w p (Down (at_rest disk) []) is.seats; keyed = keyed-down w.group p is.keyed; served = served-filtered (λ s. not (s.giver == p)) w.snapshots is.served }
+lists-in w (Crashes p) may is = at (node_of w p) where
+  life-lists : (life : NodeState) → AreLists (crash_in w p life)
+  life-lists (Up r disk) = record { nodes = rising-node w p (Down (at_rest disk) []) is.nodes; keyed = keyed-down w.group p is.keyed; served = served-filtered (λ s. not (s.giver == p)) w.snapshots is.served }
   life-lists (Down disk green) = is
 
-  at : (o : Option Seat) → AreLists (option_map_or (λ s. crash_in w p s.life) o w)
+  at : (o : Option Node) → AreLists (option_map_or (λ s. crash_in w p s.life) o w)
   at None = is
   at (Some s) = life-lists s.life
-lists-in w (Recovers p) may is = at (seat_of w p) where
-  life-lists : (life : Life) → AreLists (recover_in w life)
+lists-in w (Recovers p) may is = at (node_of w p) where
+  life-lists : (life : NodeState) → AreLists (recover_in w life)
   life-lists (Up r disk) = is
   life-lists (Down disk green) = lists-up w (recovered disk) (disk_recovered disk) is
 
-  at : (o : Option Seat) → AreLists (option_map_or (λ s. recover_in w s.life) o w)
+  at : (o : Option Node) → AreLists (option_map_or (λ s. recover_in w s.life) o w)
   at None = is
   at (Some s) = life-lists s.life
 lists-in w (Copies p joiner) may is = at (replica_of w p) (and_parts (not (has_begun w joiner)) (option_map_or (λ (r : Replica). is_server r.held.members joiner) (replica_of w p) false) may).1 where
   at : (o : Option Replica) → option_map_or (λ (r : Replica). is_server r.held.members joiner) o false ≡ true → AreLists (option_map_or (copy_in w p joiner) o w)
   at None server = is
-  at (Some r) server = record { seats = is.seats; keyed = is.keyed; served = (server, served-filtered (λ s. not (s.joiner == joiner)) w.snapshots is.served) }
+  at (Some r) server = record { nodes = is.nodes; keyed = is.keyed; served = (server, served-filtered (λ s. not (s.joiner == joiner)) w.snapshots is.served) }
 lists-in w (Joins joiner) may is = at (snapshot_of w joiner) where
-  at : (o : Option Snapshot) → AreLists (option_map_or (λ s. join_in w joiner s.content) o w)
+  at : (o : Option TransferState) → AreLists (option_map_or (λ s. join_in w joiner s.content) o w)
   at None = is
-  at (Some s) = lists-up (without_snapshot w joiner) (joined joiner s.content) (new_disk (joined joiner s.content).held)
-      (record { seats = is.seats; keyed = is.keyed; served = served-filtered (λ s. not (s.joiner == joiner)) w.snapshots is.served })
+  at (Some s) = lists-up (without_snapshot w joiner) (joiner_replica joiner s.content) (new_disk (joiner_replica joiner s.content).held)
+      (record { nodes = is.nodes; keyed = is.keyed; served = served-filtered (λ s. not (s.joiner == joiner)) w.snapshots is.served })
 
 -- behind a small step the lists are as they should be
 pub lists-kept : (c : Chronicle) (s : Small) → may_make c s ≡ true → ListFacts c → ListFacts (small_step c s)
 lists-kept c s may is =
-    let before : AreLists c.world = record { seats = is.seats; keyed = record { rises = is.standings; received = is.received }; served = is.served } in
+    let before : AreLists c.world = record { nodes = is.nodes; keyed = record { rises = is.standings; received = is.received }; served = is.served } in
     let after = subst AreLists (sym (small-world c s)) (lists-in c.world s (may-of c s may) before) in
-    record { seats = after.seats; standings = after.keyed.rises; received = after.keyed.received; served = after.served }
+    record { nodes = after.nodes; standings = after.keyed.rises; received = after.keyed.received; served = after.served }

@@ -12,11 +12,11 @@ use Rattle.cg_client.specs.Replica.{Held, State, RegPrim, TransPrim, ExchangeSta
 use Rattle.cg_client.specs.Turn.{Turn, begin}
 use Rattle.cg_client.specs.Marks.{marked}
 use Rattle.cg_client.specs.Summary.{redden, forget_own, own_to_red}
-use Rattle.cg_stored.specs.Stored.{stored_of, whiten, recover}
+use Rattle.cg_disk_records.specs.Stored.{stored_of, whiten, recovery_turn}
 use Rattle.cg_commit.specs.Commit.{commits}
-use Rattle.cg_step.specs.Step.{Input, replica_step}
+use Rattle.cg_replica_step.specs.Step.{Input, replica_step}
 use Rattle.cg_commit.specs.Crash.{Disk, whitened, end_event, recovered}
-use Rattle.cg_model.specs.World.{Life, Up, Down, Seat, running}
+use Rattle.cg_model.specs.World.{NodeState, Up, Down, Node, running}
 use Rattle.cg_model.specs.Looks.{on_disk}
 use Rattle.cg_model.specs.FactsReplica.{GoesOn, IsAsOnDisk, IsEmptyIn}
 use Rattle.cg_commit.specs.CutRaiseLaws.{behind-rises}
@@ -32,42 +32,42 @@ use Rattle.cg_agree_lemmas.specs.KeptEmpty.{step-empty, step-behind}
 abbrev pub IsAtRest : Replica → Held → Type 0
 IsAtRest r disk = IsEmptyIn r.held r.state × GoesOn r.held disk × IsAsOnDisk r.held disk r.state
 
-abbrev pub LifeRests : Life → Type 0
+abbrev pub LifeRests : NodeState → Type 0
 LifeRests (Up r disk) = IsAtRest r disk.content
 LifeRests (Down disk green) = Unit {0}
 
-abbrev pub SeatRests : Option Seat → Type 0
-SeatRests None = Unit {0}
-SeatRests (Some s) = LifeRests s.life
+abbrev pub NodeRests : Option Node → Type 0
+NodeRests None = Unit {0}
+NodeRests (Some s) = LifeRests s.life
 
 -- ---- the same, as the facts say it
 
-life-in : (l : Life) → IfSome (running l) (λ r. GoesOn r.held (on_disk l) × IsAsOnDisk r.held (on_disk l) r.state) → IfSome (running l) (λ r. IsEmptyIn r.held r.state) → LifeRests l
+life-in : (l : NodeState) → IfSome (running l) (λ r. GoesOn r.held (on_disk l) × IsAsOnDisk r.held (on_disk l) r.state) → IfSome (running l) (λ r. IsEmptyIn r.held r.state) → LifeRests l
 life-in (Up r disk) agrees empty = (empty, agrees.0, agrees.1)
 life-in (Down disk green) agrees empty = tt
 
-pub seat-in : (o : Option Seat) →
+pub node-in : (o : Option Node) →
     IfSome (option_and_then (λ s. running s.life) o) (λ r. IfSome (option_map (λ s. on_disk s.life) o) (λ disk. GoesOn r.held disk × IsAsOnDisk r.held disk r.state)) →
-    IfSome (option_and_then (λ s. running s.life) o) (λ r. IsEmptyIn r.held r.state) → SeatRests o
-seat-in None agrees empty = tt
-seat-in (Some s) agrees empty = life-in s.life agrees empty
+    IfSome (option_and_then (λ s. running s.life) o) (λ r. IsEmptyIn r.held r.state) → NodeRests o
+node-in None agrees empty = tt
+node-in (Some s) agrees empty = life-in s.life agrees empty
 
-life-agrees : (l : Life) → LifeRests l → IfSome (running l) (λ r. GoesOn r.held (on_disk l) × IsAsOnDisk r.held (on_disk l) r.state)
+life-agrees : (l : NodeState) → LifeRests l → IfSome (running l) (λ r. GoesOn r.held (on_disk l) × IsAsOnDisk r.held (on_disk l) r.state)
 life-agrees (Up r disk) is = (is.1, is.2)
 life-agrees (Down disk green) is = tt
 
-pub seat-agrees : (o : Option Seat) → SeatRests o →
+pub node-agrees : (o : Option Node) → NodeRests o →
     IfSome (option_and_then (λ s. running s.life) o) (λ r. IfSome (option_map (λ s. on_disk s.life) o) (λ disk. GoesOn r.held disk × IsAsOnDisk r.held disk r.state))
-seat-agrees None is = tt
-seat-agrees (Some s) is = life-agrees s.life is
+node-agrees None is = tt
+node-agrees (Some s) is = life-agrees s.life is
 
-life-empty : (l : Life) → LifeRests l → IfSome (running l) (λ r. IsEmptyIn r.held r.state)
+life-empty : (l : NodeState) → LifeRests l → IfSome (running l) (λ r. IsEmptyIn r.held r.state)
 life-empty (Up r disk) is = is.0
 life-empty (Down disk green) is = tt
 
-pub seat-empty : (o : Option Seat) → SeatRests o → IfSome (option_and_then (λ s. running s.life) o) (λ r. IsEmptyIn r.held r.state)
-seat-empty None is = tt
-seat-empty (Some s) is = life-empty s.life is
+pub node-empty : (o : Option Node) → NodeRests o → IfSome (option_and_then (λ s. running s.life) o) (λ r. IsEmptyIn r.held r.state)
+node-empty None is = tt
+node-empty (Some s) is = life-empty s.life is
 
 -- ---- a step
 
@@ -184,7 +184,7 @@ drop-all xs (y ∷ ys) none = absurd (let clash : y ∷ ys ≡ [] = none in cc)
 
 -- Who comes up from its disk is at rest.
 pub recovered-rests : (start : List Weighted) (disk : Disk) (all : List Action) → IsOneself start disk.content all → IsAtRest (recovered disk) disk.content
-unfolding recover
+unfolding recovery_turn
 recovered-rests start disk all is =
     let h = disk.content in
     let t = begin (record { held = h; state = NonPrim false }) in

@@ -11,7 +11,7 @@ use Rattle.cg_report.specs.declared.line.Line.{Line}
 use Rattle.cg_report.specs.declared.line.UpLine.{UpLine}
 use Rattle.cg_client.specs.Replica.{Replica}
 use Rattle.cg_schedule.specs.declared.event.Event.{Event}
-use Rattle.cg_model.specs.World.{Seat, World, running, replica_of}
+use Rattle.cg_model.specs.World.{Node, World, running, replica_of}
 use Rattle.cg_model.specs.Show.{line_of, up_line, is_news, ended}
 use Rattle.cg_model.specs.Step.{happens, world_step}
 use Rattle.cg_model.specs.Run.{Step}
@@ -66,34 +66,34 @@ kept-line p t l lines one rest = at (t l) where
   at true = ap₂ (λ a b. a || b) one rest
   at false = rest
 
-none-of : (p : ℕ) (g : GroupState Msg) (t : Line → Bool) (seats : List Seat) (low : ℕ) → IsRising low (map (λ s. s.id) seats) → suc p ≤ low → list_any (is_down_line p) (filter t (map (line_of g) seats)) ≡ false
+none-of : (p : ℕ) (g : GroupState Msg) (t : Line → Bool) (nodes : List Node) (low : ℕ) → IsRising low (map (λ s. s.id) nodes) → suc p ≤ low → list_any (is_down_line p) (filter t (map (line_of g) nodes)) ≡ false
 none-of p g t [] low rise above = refl
-none-of p g t (s ∷ seats) low rise above =
+none-of p g t (s ∷ nodes) low rise above =
     let first = rise.0 in
     let other : is_down_line p (line_of g s) ≡ false = ap (λ b. b && option_map_or (λ (up : UpLine). false) (line_of g s).up true) (ne_eqb s.id p (λ e. (let same : s.id ≡ p = e in omega arith))) in
-    let rest = none-of p g t seats (suc s.id) rise.1 (omega arith) in
-    kept-line p t (line_of g s) (map (line_of g) seats) other rest
+    let rest = none-of p g t nodes (suc s.id) rise.1 (omega arith) in
+    kept-line p t (line_of g s) (map (line_of g) nodes) other rest
 
 -- who is up behind a step isn't shown as down in it
-up-lines : (p : ℕ) (g : GroupState Msg) (t : Line → Bool) (seats : List Seat) (low : ℕ) → IsRising low (map (λ s. s.id) seats) → (r : Replica) →
-    option_and_then (λ s. running s.life) (find (λ s. s.id == p) seats) ≡ Some r → list_any (is_down_line p) (filter t (map (line_of g) seats)) ≡ false
+up-lines : (p : ℕ) (g : GroupState Msg) (t : Line → Bool) (nodes : List Node) (low : ℕ) → IsRising low (map (λ s. s.id) nodes) → (r : Replica) →
+    option_and_then (λ s. running s.life) (find (λ s. s.id == p) nodes) ≡ Some r → list_any (is_down_line p) (filter t (map (line_of g) nodes)) ≡ false
 up-lines p g t [] low rise r runs = refl
-up-lines p g t (s ∷ seats) low rise r runs = elim (cases_eq s.id p) [
+up-lines p g t (s ∷ nodes) low rise r runs = elim (cases_eq s.id p) [
   | inl here ↦
-      let life : running s.life ≡ Some r = ap (λ (o : Option Seat). option_and_then (λ s. running s.life) o) (sym (cond-true (s.id == p) (Some s) (find (λ s. s.id == p) seats) (eq-eqb s.id p here))) ∙ runs in
+      let life : running s.life ≡ Some r = ap (λ (o : Option Node). option_and_then (λ s. running s.life) o) (sym (cond-true (s.id == p) (Some s) (find (λ s. s.id == p) nodes) (eq-eqb s.id p here))) ∙ runs in
       let up : is_down_line p (line_of g s) ≡ false =
       ap₂ (λ b (o : Option UpLine). b && option_map_or (λ up. false) o true) (eq-eqb s.id p here) (ap (option_map (up_line (phase_of g s.id))) life) in
-      kept-line p t (line_of g s) (map (line_of g) seats) up (none-of p g t seats (suc s.id) rise.1 (omega arith))
+      kept-line p t (line_of g s) (map (line_of g) nodes) up (none-of p g t nodes (suc s.id) rise.1 (omega arith))
   | inr apart ↦
-      let later = ap (λ (o : Option Seat). option_and_then (λ s. running s.life) o) (sym (cond-false (s.id == p) (Some s) (find (λ s. s.id == p) seats) (ne_eqb s.id p apart))) ∙ runs in
-      kept-line p t (line_of g s) (map (line_of g) seats) (ap (λ b. b && option_map_or (λ (up : UpLine). false) (line_of g s).up true) (ne_eqb s.id p apart))
-      (up-lines p g t seats (suc s.id) rise.1 r later)
+      let later = ap (λ (o : Option Node). option_and_then (λ s. running s.life) o) (sym (cond-false (s.id == p) (Some s) (find (λ s. s.id == p) nodes) (ne_eqb s.id p apart))) ∙ runs in
+      kept-line p t (line_of g s) (map (line_of g) nodes) (ap (λ b. b && option_map_or (λ (up : UpLine). false) (line_of g s).up true) (ne_eqb s.id p apart))
+      (up-lines p g t nodes (suc s.id) rise.1 r later)
 ]
 
-pub not-down : (w : World) (e : Event) (p : ℕ) (r : Replica) → IsRising 0 (map (λ s. s.id) (world_step w e).world.seats) → replica_of (world_step w e).world p ≡ Some r →
+pub not-down : (w : World) (e : Event) (p : ℕ) (r : Replica) → IsRising 0 (map (λ s. s.id) (world_step w e).world.nodes) → replica_of (world_step w e).world p ≡ Some r →
     list_any (is_down_line p) (world_step w e).entry.lines ≡ false
 unfolding world_step ended
-not-down w e p r rise runs = (let x = (happens w e).world in up-lines p x.group (is_news x.lines) x.seats 0 rise r runs)
+not-down w e p r rise runs = (let x = (happens w e).world in up-lines p x.group (is_news x.lines) x.nodes 0 rise r runs)
 
 -- a line that is down behind lines, where it was up before them, is among them
 pub goes-down : (p : ℕ) (lines : List Line) (old : Option Line) → IfSome old (λ l. is_some l.up ≡ true) → IfSome (fold (latest p) old lines) (λ l. is_some l.up ≡ false) → is_some old ≡ true →

@@ -8,7 +8,7 @@ use Rattle.cg_group.specs.State.{is_up}
 use Rattle.cg_group.specs.Refusals.{refuse, not_up}
 use Rattle.cg_client.specs.Replica.{Replica}
 use Rattle.cg_schedule.specs.declared.event.Event.TheVariants.{Recover, Stop}
-use Rattle.cg_model.specs.World.{Life, Up, Down, Seat, World, has_begun, seat_of, replica_of}
+use Rattle.cg_model.specs.World.{NodeState, Up, Down, Node, World, has_begun, node_of, replica_of}
 use Rattle.cg_model.specs.Admission.{first_refusal, unknown, has_left, takes_part}
 use Rattle.cg_model.specs.AdmissionCalls.{already_up}
 use Rattle.cg_model.specs.Show.{ended}
@@ -50,12 +50,12 @@ is-running w p up = at (replica_of w p) refl where
 
 pub stop-made : (w : World) (p : ℕ) (fill : List ℕ) → is_some (replica_of w p) ≡ true → IsMadeIn w (Stop p 0 fill)
 unfolding may_make may_in smalls_in small_in world_step happens ended
-stop-made w p fill up = ((up, tt), at (seat_of w p)) where
-  life-same : (life : Life) → IsSame (crash_in w p life) (ended (quietly (crash_at w p life))).world
+stop-made w p fill up = ((up, tt), at (node_of w p)) where
+  life-same : (life : NodeState) → IsSame (crash_in w p life) (ended (quietly (crash_at w p life))).world
   life-same (Up r disk) = same-worlds _ _ refl refl refl
   life-same (Down disk green) = same-worlds _ _ refl refl refl
 
-  at : (o : Option Seat) → IsSame (option_map_or (λ s. crash_in w p s.life) o w) (ended (quietly (option_map_or (λ s. crash_at w p s.life) o w))).world
+  at : (o : Option Node) → IsSame (option_map_or (λ s. crash_in w p s.life) o w) (ended (quietly (option_map_or (λ s. crash_at w p s.life) o w))).world
   at None = same-worlds _ _ refl refl refl
   at (Some s) = life-same s.life
 
@@ -68,11 +68,11 @@ recover-made w p admitted =
     let second = first-none (already_up w p) [] first.1 in
     let begun : has_begun w p ≡ true = refused-not (has_begun w p) _ first.0 in
     let down : is_some (replica_of w p) ≡ false = not-refused (is_some (replica_of w p)) _ second.0 in
-    ((and_from (has_begun w p) (not (is_some (replica_of w p))) begun (ap not down), tt), at (seat_of w p)) where
-      life-same : (life : Life) → IsSame (recover_in w life) (ended (recover_from w life)).world
+    ((and_from (has_begun w p) (not (is_some (replica_of w p))) begun (ap not down), tt), at (node_of w p)) where
+      life-same : (life : NodeState) → IsSame (recover_in w life) (ended (recover_from w life)).world
       life-same (Up r disk) = same-worlds _ _ refl refl refl
       life-same (Down disk green) = same-worlds _ _ refl refl refl
 
-      at : (o : Option Seat) → IsSame (option_map_or (λ s. recover_in w s.life) o w) (ended (option_map_or (λ s. recover_from w s.life) o (quietly w))).world
+      at : (o : Option Node) → IsSame (option_map_or (λ s. recover_in w s.life) o w) (ended (option_map_or (λ s. recover_from w s.life) o (quietly w))).world
       at None = same-worlds _ _ refl refl refl
       at (Some s) = life-same s.life

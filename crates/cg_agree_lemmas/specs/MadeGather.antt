@@ -127,7 +127,7 @@ gather-made w rises fits =
     let leads : played_in w (first ++ second) ≡ grouped w (fold receive_all h (regulars h)) =
     played-append w first second ∙ ap (λ v. played_in v second) orders.1 ∙ receipts.1 in (
       may-append w first second orders.0 (subst (λ v. MayIn v second) (sym orders.1) receipts.0),
-      same-worlds (played_in w (first ++ second)) (world_step w Gather).world (ap (λ (v : World). v.group) leads) (ap (λ (v : World). v.seats) leads) (ap (λ (v : World). v.snapshots) leads),
+      same-worlds (played_in w (first ++ second)) (world_step w Gather).world (ap (λ (v : World). v.group) leads) (ap (λ (v : World). v.nodes) leads) (ap (λ (v : World). v.snapshots) leads),
     ) where
       is-regular : {g : GroupState Msg} {p : ℕ} → IsRegularAt g p → is_regular g p ≡ true
       is-regular at = ap (λ (o : Option (Standing Msg)). not (regular_in (option_map_or (λ s. s.phase) o Down) == 0)) at.is ∙ ap not at.regular

@@ -10,7 +10,7 @@ use Rattle.cg_queue.specs.Queue.{names_of}
 use Rattle.cg_client.specs.Replica.{Held, State, RegPrim, TransPrim, ExchangeStates, ExchangeActions, Construct, No, Un, NonPrim, Left, Replica, last_index, created}
 use Rattle.cg_client.specs.Turn.{Turn, begin, with_held}
 use Rattle.cg_client.specs.Requests.{is_creating, next_action, create, create_kept, empty_buffer, buffer, settle, request_in, request}
-use Rattle.cg_step.specs.Step.{Input, Deliveries, Asks, replica_step, take}
+use Rattle.cg_replica_step.specs.Step.{Input, Deliveries, Asks, replica_step, after_delivery}
 use Rattle.cg_commit.specs.Holds.{run_on, cut_behind, Rising}
 use Rattle.cg_commit.specs.CutRaiseLaws.{index-same, index-other, rising-behind}
 use Rattle.cg_commit.specs.RunLaws.{cut_behind-append, run_on-next}
@@ -128,7 +128,7 @@ pub step-shown : (cut : List ActionId) (start : List Weighted) (r : Replica) (al
     index_in cut r.held.id ≡ created r.held → IsShown cut r.held (replica_step r input)
 unfolding replica_step
 step-shown cut start r all (Deliveries list) rising is counts =
-    let t = fold take (begin r) list in
+    let t = fold after_delivery (begin r) list in
     settle-shown cut rising r.held t (stays-shown cut rising r.held counts t
     (of-deliveries (StaysCreated r.held) (λ a. Unit {0}) (created-rule r.held) (begin r) list (anything list) (record { held = created-first start r.held all is; made = refl })))
 step-shown cut start r all (Asks kind) rising is counts =

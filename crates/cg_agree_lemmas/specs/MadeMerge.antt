@@ -20,11 +20,11 @@ use Rattle.cg_group.specs.PlaceLaws.{at_place-last}
 use Rattle.cg_client.specs.Replica.{Replica}
 use Rattle.cg_client.specs.Turn.{Turn, begin}
 use Rattle.cg_client.specs.Requests.{settle}
-use Rattle.cg_step.specs.Step.{Deliveries, replica_step}
+use Rattle.cg_replica_step.specs.Step.{Deliveries, replica_step}
 use Rattle.cg_commit.specs.Crash.{Disk}
 use Rattle.cg_schedule.specs.declared.event.Event.TheVariants.{Merge}
-use Rattle.cg_model.specs.World.{Seat, World, running, seat_of, replica_of}
-use Rattle.cg_model.specs.Show.{Going, ended}
+use Rattle.cg_model.specs.World.{Node, World, running, node_of, replica_of}
+use Rattle.cg_model.specs.Show.{StepInProgress, ended}
 use Rattle.cg_model.specs.Step.{happens, world_step, quietly, hand_over, hand_out}
 use Rattle.cg_model.specs.Turns.{turns_of, turns_in, taken}
 use Rattle.cg_model.specs.Small.{Small, Enters, Settles, make_configuration, newest_conf, take_all, take_newest}
@@ -35,7 +35,7 @@ use Rattle.cg_agree_lemmas.specs.PartsTaken.{part-settle}
 use Rattle.cg_agree_lemmas.specs.GroupChanges.{DoRise}
 use Rattle.cg_agree_lemmas.specs.MadeQuietly.{IsMadeIn, same-lined, set-is}
 use Rattle.cg_agree_lemmas.specs.MadeSplit.{fold-map, flat_map-map}
-use Rattle.cg_agree_lemmas.specs.TurnWorlds.{seated, up_seat, runs-seated, turn-first, part-joins}
+use Rattle.cg_agree_lemmas.specs.TurnWorlds.{hosted, up_node, runs-hosted, turn-first, part-joins}
 use Rattle.cg_agree_lemmas.specs.EventTurns.{IsUp}
 use Rattle.cg_agree_lemmas.specs.TogetherWorlds.{IsStill, IsMember, IsGoing, handed_among, smalls_among, turns_among, together}
 use Rattle.cg_agree_lemmas.specs.SmallWorlds.{grouped, small_in, may_in, noting_nothing, played_in, MayIn}
@@ -91,11 +91,11 @@ module _ (w : World) (set : List ℕ) where
     pub out : is_regular g p ≡ false
     pub between : is_between here.replica.state ≡ true
 
-  come-in : (p : ℕ) (is : IsComing p) (v : World) → seat_of v p ≡ Some (up_seat p is.here.replica is.here.disk) → phase_of v.group p ≡ phase_of g p →
+  come-in : (p : ℕ) (is : IsComing p) (v : World) → node_of v p ≡ Some (up_node p is.here.replica is.here.disk) → phase_of v.group p ≡ phase_of g p →
       (not (is_regular v.group p) && option_map_or (λ (r : Replica). is_between r.state) (replica_of v p) false) ≡ true
-  come-in p is v seat phase =
+  come-in p is v node phase =
       and_from _ _ (ap (λ (x : Phase). not (not (regular_in x == 0))) phase ∙ ap not is.out)
-      (ap (λ (o : Option Seat). option_map_or (λ (r : Replica). is_between r.state) (option_and_then (λ s. running s.life) o) false) seat ∙ is.between)
+      (ap (λ (o : Option Node). option_map_or (λ (r : Replica). is_between r.state) (option_and_then (λ s. running s.life) o) false) node ∙ is.between)
 
   module _ (p : ℕ) (is : IsComing p) (v : World) (still : IsStill w made entered entered-id input block v p) where
     abbrev r : Replica
@@ -113,8 +113,8 @@ module _ (w : World) (set : List ℕ) where
     le : p ≤ p
     le = omega arith
 
-    seat : seat_of v p ≡ Some (up_seat p r disk)
-    seat = still.seats p le ∙ is.here.seat
+    node : node_of v p ≡ Some (up_node p r disk)
+    node = still.nodes p le ∙ is.here.node
 
     phase : phase_of v.group p ≡ phase_of g p
     unfolding standing_of
@@ -127,20 +127,20 @@ module _ (w : World) (set : List ℕ) where
     unfolding may_in may_make
     may-enters =
         let at : configuration v.group (newest_conf v.group) ≡ fresh_conf = ap (configuration v.group) newest ∙ conf-is v.group still.configurations in
-        and_from _ _ (and_from _ _ (and_from _ _ (ap (λ (c : Configuration Msg). has c.members p) at ∙ is.member) (come-in p is v seat phase))
+        and_from _ _ (and_from _ _ (and_from _ _ (ap (λ (c : Configuration Msg). has c.members p) at ∙ is.member) (come-in p is v node phase))
         refl)
         (ap (λ (c : Configuration Msg). is_nil c.ordered) at)
 
-    enters : small_in v (Enters p) ≡ seated v p u.replica disk (send_all G p u.sent)
+    enters : small_in v (Enters p) ≡ hosted v p u.replica disk (send_all G p u.sent)
     unfolding small_in become_regular
     enters =
         let taken : take_newest v.group ≡ take_all (input p) =
         ap (λ n. take_all (RegularIn n (configuration v.group n).members ∷ [])) newest
         ∙ ap (λ (c : Configuration Msg). take_all (RegularIn conf c.members ∷ [])) (conf-is v.group still.configurations) in
-        turn-first v (become_regular (newest_conf v.group) v.group p) p r disk (take_newest v.group) seat
-        ∙ ap₂ (λ n part. (let x : Turn = part (begin r) in seated v p x.replica disk (send_all (become_regular n v.group p) p x.sent))) newest taken
+        turn-first v (become_regular (newest_conf v.group) v.group p) p r disk (take_newest v.group) node
+        ∙ ap₂ (λ n part. (let x : Turn = part (begin r) in hosted v p x.replica disk (send_all (become_regular n v.group p) p x.sent))) newest taken
 
-    settled : small_in (seated v p u.replica disk (send_all G p u.sent)) (Settles p) ≡ seated v p (settle u).replica disk (send_all G p (settle u).sent)
+    settled : small_in (hosted v p u.replica disk (send_all G p u.sent)) (Settles p) ≡ hosted v p (settle u).replica disk (send_all G p (settle u).sent)
     unfolding small_in
     settled = part-joins v G p disk u settle part-settle
 
@@ -148,14 +148,14 @@ module _ (w : World) (set : List ℕ) where
     unfolding replica_step
     whole-turn = refl
 
-    may-settle : may_in (seated v p u.replica disk (send_all G p u.sent)) (Settles p) ≡ true
+    may-settle : may_in (hosted v p u.replica disk (send_all G p u.sent)) (Settles p) ≡ true
     unfolding may_in may_make
-    may-settle = runs-seated v p u.replica disk (send_all G p u.sent)
+    may-settle = runs-hosted v p u.replica disk (send_all G p u.sent)
 
-    pub opens-so : MayIn v (block p) × (played_in v (block p) ≡ (let t = replica_step r (Deliveries (input p)) in seated v p t.replica disk (send_all G p t.sent)))
+    pub opens-so : MayIn v (block p) × (played_in v (block p) ≡ (let t = replica_step r (Deliveries (input p)) in hosted v p t.replica disk (send_all G p t.sent)))
     opens-so = (
       (may-enters, (subst (λ x. may_in x (Settles p) ≡ true) (sym enters) may-settle, tt)),
-      ap (λ x. small_in x (Settles p)) enters ∙ settled ∙ ap (λ (t : Turn). seated v p t.replica disk (send_all G p t.sent)) (sym whole-turn),
+      ap (λ x. small_in x (Settles p)) enters ∙ settled ∙ ap (λ (t : Turn). hosted v p t.replica disk (send_all G p t.sent)) (sym whole-turn),
     )
 
   pub members-of : (list : List ℕ) → Each IsComing list → Each (IsMember w made entered entered-id input block) list
@@ -164,19 +164,19 @@ module _ (w : World) (set : List ℕ) where
 
   all-come : (list : List ℕ) → Each IsComing list → list_all (may_come (noting_nothing w)) list ≡ true
   all-come [] each = refl
-  all-come (p ∷ list) each = and_from _ _ (come-in p each.0 w each.0.here.seat refl) (all-come list each.1)
+  all-come (p ∷ list) each = and_from _ _ (come-in p each.0 w each.0.here.node refl) (all-come list each.1)
 
-  pub merge-is : IsSet set → is_nil set ≡ false → IsRising 0 set → IsRising 0 (map (λ s. s.id) w.seats) → DoRise g → Each IsComing set → IsMadeIn w (Merge set)
+  pub merge-is : IsSet set → is_nil set ≡ false → IsRising 0 set → IsRising 0 (map (λ s. s.id) w.nodes) → DoRise g → Each IsComing set → IsMadeIn w (Merge set)
   unfolding world_step happens turns_of smalls_in merge ended become_regular small_in may_in may_make
   merge-is is some rise rising rises each =
       let v = grouped w made in
       let behind = fold (become_regular conf) made set in
-      let start : Going = quietly (grouped w behind) in
+      let start : StepInProgress = quietly (grouped w behind) in
       let on : IsGoing w made entered entered-id input block v start.world set 0 = record {
-        still = record { seats = λ q above. refl; standings = λ q above. refl; configurations = refl; rises = rises; rising = rising };
+        still = record { nodes = λ q above. refl; standings = λ q above. refl; configurations = refl; rises = rises; rising = rising };
         group = refl;
         snapshots = refl;
-        seats = λ q above. refl;
+        nodes = λ q above. refl;
         ids = refl;
         running = λ q. refl;
         disk = λ q. refl;
@@ -190,6 +190,6 @@ module _ (w : World) (set : List ℕ) where
       and_from _ _ (and_from _ _ (ap not some) (set-is 1 set is.ascends)) (all-come set each) in
       rw steps (
         (first, all.0),
-        subst (λ (x : Going). IsSame (played_in v (smalls_among w made entered entered-id input block set)) (ended x).world) (sym handed)
+        subst (λ (x : StepInProgress). IsSame (played_in v (smalls_among w made entered entered-id input block set)) (ended x).world) (sym handed)
             (same-lined (played_in v (smalls_among w made entered entered-id input block set)) (handed_among w made entered entered-id input block start set).world all.1 _),
       )

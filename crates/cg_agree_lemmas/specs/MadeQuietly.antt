@@ -14,7 +14,7 @@ use Rattle.cg_group.specs.Refusals.{order_refusal, receive_refusal}
 use Rattle.cg_commit.specs.Crash.{Strike, FailOnce, StopWith}
 use Rattle.cg_schedule.specs.declared.event.Event.{Event}
 use Rattle.cg_schedule.specs.declared.event.Event.TheVariants.{Start, Weak, Dirty, Order, Show, ShowOrder, Receive, Fail, Stop}
-use Rattle.cg_model.specs.World.{Life, Up, Down, Seat, Snapshot, World, no_world, seat_of, replica_of, running}
+use Rattle.cg_model.specs.World.{NodeState, Up, Down, Node, TransferState, World, no_world, node_of, replica_of, running}
 use Rattle.cg_model.specs.Admission.{first_refusal, unknown}
 use Rattle.cg_model.specs.Show.{ended}
 use Rattle.cg_model.specs.Step.{happens, world_step, arm, arm_at}
@@ -24,21 +24,21 @@ use Rattle.cg_model.specs.Smalls.{is_set_from, is_set, may_make, smalls_in}
 use Rattle.cg_model.specs.FactsLists.{IsRising}
 use Rattle.cg_model.specs.Played.{IsSame, given_for}
 use Rattle.cg_agree_lemmas.specs.UnorderedKept.{first-none}
-use Rattle.cg_agree_lemmas.specs.SeatFacts.{put-found, ids-found, running-set, disk-set}
+use Rattle.cg_agree_lemmas.specs.NodeFacts.{put-found, ids-found, running-set, disk-set}
 use Rattle.cg_agree_lemmas.specs.SmallWorlds.{small_in, may_in, played_in, MayIn}
 
 -- the step of the event is made of small steps
 abbrev pub IsMadeIn : World → Event → Type 0
 IsMadeIn w e = MayIn w (smalls_in w e) × IsSame (played_in w (smalls_in w e)) (world_step w e).world
 
--- two worlds are one where group, seats and snapshots are
-pub same-worlds : (w v : World) → w.group ≡ v.group → w.seats ≡ v.seats → w.snapshots ≡ v.snapshots → IsSame w v
-same-worlds w v group seats snapshots = record {
+-- two worlds are one where group, nodes and snapshots are
+pub same-worlds : (w v : World) → w.group ≡ v.group → w.nodes ≡ v.nodes → w.snapshots ≡ v.snapshots → IsSame w v
+same-worlds w v group nodes snapshots = record {
   group = group;
-  seats = ap (map (λ s. s.id)) seats;
-  running = λ p. ap (λ (list : List Seat). replica_of (record w { seats = list }) p) seats;
-  disk = λ p. ap (λ (list : List Seat). disk_held (record w { seats = list }) p) seats;
-  given = λ joiner. ap (λ (list : List Snapshot). given_for (record w { snapshots = list }) joiner) snapshots;
+  nodes = ap (map (λ s. s.id)) nodes;
+  running = λ p. ap (λ (list : List Node). replica_of (record w { nodes = list }) p) nodes;
+  disk = λ p. ap (λ (list : List Node). disk_held (record w { nodes = list }) p) nodes;
+  given = λ joiner. ap (λ (list : List TransferState). given_for (record w { snapshots = list }) joiner) snapshots;
 }
 
 -- what no reason is given for none of two is given for
@@ -83,35 +83,35 @@ show_order-made w = (tt, same-worlds w (world_step w ShowOrder).world refl refl 
 
 -- two worlds are one still where the second has other lines
 pub same-lined : (w v : World) → IsSame w v → (lines : _) → IsSame w (record v { lines = lines })
-same-lined w v same lines = record { group = same.group; seats = same.seats; running = same.running; disk = same.disk; given = same.given }
+same-lined w v same lines = record { group = same.group; nodes = same.nodes; running = same.running; disk = same.disk; given = same.given }
 
-armed-same : (w : World) (p : ℕ) (strike : Strike) → IsRising 0 (map (λ s. s.id) w.seats) → IsSame w (arm w p strike)
-armed-same w p strike rising = at (seat_of w p) refl where
-  life-same : (s : Seat) → seat_of w p ≡ Some s → (life : Life) → s.life ≡ life → IsSame w (arm_at w p strike life)
+armed-same : (w : World) (p : ℕ) (strike : Strike) → IsRising 0 (map (λ s. s.id) w.nodes) → IsSame w (arm w p strike)
+armed-same w p strike rising = at (node_of w p) refl where
+  life-same : (s : Node) → node_of w p ≡ Some s → (life : NodeState) → s.life ≡ life → IsSame w (arm_at w p strike life)
   life-same s e (Down disk green) is = same-worlds w w refl refl refl
   life-same s e (Up r disk) is =
-      let armed : Life = Up r (record disk { armed = Some strike }) in
+      let armed : NodeState = Up r (record disk { armed = Some strike }) in
       record {
         group = refl;
-        seats = sym (ids-found w.seats p armed s e rising);
+        nodes = sym (ids-found w.nodes p armed s e rising);
         running = λ q. sym (running-set w p armed q
-            ∙ put-found (replica_of w) p (Some r) (ap (λ (o : Option Seat). option_and_then (λ s. running s.life) o) e ∙ ap running is) q);
+            ∙ put-found (replica_of w) p (Some r) (ap (λ (o : Option Node). option_and_then (λ s. running s.life) o) e ∙ ap running is) q);
         disk = λ q. sym (disk-set w p armed q
-            ∙ put-found (disk_held w) p (Some disk.content) (ap (λ (o : Option Seat). option_map (λ s. on_disk s.life) o) e ∙ ap (λ l. Some (on_disk l)) is) q);
+            ∙ put-found (disk_held w) p (Some disk.content) (ap (λ (o : Option Node). option_map (λ s. on_disk s.life) o) e ∙ ap (λ l. Some (on_disk l)) is) q);
         given = λ joiner. refl;
       }
 
-  at : (o : Option Seat) → seat_of w p ≡ o → IsSame w (option_map_or (λ s. arm_at w p strike s.life) o w)
+  at : (o : Option Node) → node_of w p ≡ o → IsSame w (option_map_or (λ s. arm_at w p strike s.life) o w)
   at None e = same-worlds w w refl refl refl
   at (Some s) e = life-same s e s.life refl
 
-pub fail-made : (w : World) (p call : ℕ) → IsRising 0 (map (λ s. s.id) w.seats) → IsMadeIn w (Fail p call)
+pub fail-made : (w : World) (p call : ℕ) → IsRising 0 (map (λ s. s.id) w.nodes) → IsMadeIn w (Fail p call)
 unfolding smalls_in world_step happens ended
 fail-made w p call rising =
     let strike : Strike = record { call = call; fault = FailOnce } in
     (tt, same-lined w (arm w p strike) (armed-same w p strike rising) ((world_step w (Fail p call)).world.lines))
 
-pub armed-made : (w : World) (p call : ℕ) (fill : List ℕ) → IsRising 0 (map (λ s. s.id) w.seats) → IsMadeIn w (Stop p (suc call) fill)
+pub armed-made : (w : World) (p call : ℕ) (fill : List ℕ) → IsRising 0 (map (λ s. s.id) w.nodes) → IsMadeIn w (Stop p (suc call) fill)
 unfolding smalls_in world_step happens ended
 armed-made w p call fill rising =
     let strike : Strike = record { call = suc call; fault = StopWith fill } in
@@ -128,6 +128,6 @@ set-is low (p ∷ set) a = and_from _ _ (and_from _ _ (le-leb low p a.0) (le-leb
 pub start-made : (w : World) (set : List Weighted) → w ≡ no_world → IsWeightSet set → IsMadeIn w (Start set)
 unfolding may_make may_in smalls_in small_in world_step happens ended
 start-made w set none is = (
-  (and_from (is_nil w.seats) (is_set (ids set)) (ap (λ (v : World). is_nil v.seats) none) (set-is 1 (ids set) is.ascends), tt),
+  (and_from (is_nil w.nodes) (is_set (ids set)) (ap (λ (v : World). is_nil v.nodes) none) (set-is 1 (ids set) is.ascends), tt),
   same-worlds (small_in w (Starts set)) (world_step w (Start set)).world refl refl refl,
 )

@@ -10,7 +10,7 @@ use Rattle.cg_queue.specs.Queue.{names_of}
 use Rattle.cg_client.specs.Replica.{NonPrim, last_index, created}
 use Rattle.cg_client.specs.Turn.{begin}
 use Rattle.cg_client.specs.Summary.{own_to_red}
-use Rattle.cg_stored.specs.Stored.{recover}
+use Rattle.cg_disk_records.specs.Stored.{recovery_turn}
 use Rattle.cg_commit.specs.Crash.{Disk, recovered}
 use Rattle.cg_commit.specs.Holds.{run_on, cut_behind, Rising}
 use Rattle.cg_model.specs.Show.{unshown}
@@ -109,7 +109,7 @@ pub record IsShownAgain (made : List ActionId) (p : ℕ) (disk : Disk) : Type 0 
 
 pub recovery-shown : (made : List ActionId) (start : List Weighted) (p : ℕ) (disk : Disk) (all : List Action) → Rising 0 made → IsOneself start disk.content all → disk.content.id ≡ p →
     index_in made p ≤ created disk.content → index_in disk.content.queue.green_cut p ≤ index_in made p → IsShownAgain made p disk
-unfolding recover
+unfolding recovery_turn
 recovery-shown made start p disk all up is mine shown green =
     let old = disk.content in
     let t = begin (record { held = old; state = NonPrim false }) in

@@ -10,11 +10,11 @@ use Rattle.cg_base.specs.Sets.{with_member}
 use Rattle.cg_group.specs.State.{is_up}
 use Rattle.cg_client.specs.Turn.{Turn, begin}
 use Rattle.cg_client.specs.Requests.{request}
-use Rattle.cg_step.specs.Step.{Asks as AsksOf, replica_step}
-use Rattle.cg_commit.specs.Crash.{Ended, Runs, Crashes as EndsInCrash, end_event}
+use Rattle.cg_replica_step.specs.Step.{Asks as AsksOf, replica_step}
+use Rattle.cg_commit.specs.Crash.{EventEnd, Runs, Crashes as EndsInCrash, end_event}
 use Rattle.cg_schedule.specs.declared.event.Event.{Event}
 use Rattle.cg_schedule.specs.declared.event.Event.TheVariants.{Request, Join, Leave}
-use Rattle.cg_model.specs.World.{Seat, World, replica_of, is_left}
+use Rattle.cg_model.specs.World.{Node, World, replica_of, is_left}
 use Rattle.cg_model.specs.Admission.{first_refusal, takes_part, never_named}
 use Rattle.cg_model.specs.AdmissionCalls.{id_used}
 use Rattle.cg_model.specs.Show.{Moved, ended}
@@ -49,22 +49,22 @@ module _ (w : World) (e : Event) (named : List ℕ) (p : ℕ) (kind : Kind) wher
       let t = request (begin r) kind in
       let opening : List Small = Asks p kind ∷ [] in
       let k : Taken = record { id = p; before = r; disk = disk; turn = t; ended = end_event disk r.held t } in
-      let turns : turns_of w e ≡ k ∷ [] = is.turns ∙ ap (λ (o : Option Seat). option_map_or (λ s. taken_as p (AsksOf kind) s.life) o []) here.seat in
+      let turns : turns_of w e ≡ k ∷ [] = is.turns ∙ ap (λ (o : Option Node). option_map_or (λ s. taken_as p (AsksOf kind) s.life) o []) here.node in
       let steps : smalls_in w e ≡ ending_as k opening k.ended =
       is.smalls ∙ ap (λ list. made-of list) turns ∙ append-nil (ending_as k opening k.ended) in
-      let ends = turn-ends w w.group p r disk t opening here.seat (and_from (is_some (replica_of w p)) (not (is_left w p)) up (ap not stays), tt)
-      (turn-first w w.group p r disk (take_request kind) here.seat) refl in
-      let leads = hand-leads (quietly went) p r disk (AsksOf kind) here.seat in
+      let ends = turn-ends w w.group p r disk t opening here.node (and_from (is_some (replica_of w p)) (not (is_left w p)) up (ap not stays), tt)
+      (turn-first w w.group p r disk (take_request kind) here.node) refl in
+      let leads = hand-leads (quietly went) p r disk (AsksOf kind) here.node in
       let same : IsSame (played_in w (ending_as k opening k.ended)) (ended (hand (quietly went) p (AsksOf kind))).world =
       end-same w w.group p t k.ended _ _ ends.1 (lined t k.ended leads) in
       rw steps (ends.0, subst (λ (m : Moved). IsSame (played_in w (ending_as k opening k.ended)) m.world) (sym is.moves) same) where
         made-of : List Taken → List Small
         made-of list = flat_map (ending (λ q. Asks q kind ∷ [])) list
 
-        lined : (t : Turn) (end : Ended) → IsWorld (hand (quietly went) p (AsksOf kind)).world (ended_in went went.group p t end) →
+        lined : (t : Turn) (end : EventEnd) → IsWorld (hand (quietly went) p (AsksOf kind)).world (ended_in went went.group p t end) →
             IsWorld (ended (hand (quietly went) p (AsksOf kind))).world (ended_in w w.group p t end)
-        lined t (Runs r disk) is = record { group = is.group; seats = is.seats; snapshots = is.snapshots }
-        lined t (EndsInCrash disk green) is = record { group = is.group; seats = is.seats; snapshots = is.snapshots }
+        lined t (Runs r disk) is = record { group = is.group; nodes = is.nodes; snapshots = is.snapshots }
+        lined t (EndsInCrash disk green) is = record { group = is.group; nodes = is.nodes; snapshots = is.snapshots }
 
 -- who takes part hasn't left
 pub stays-in : (w : World) (p : ℕ) → TakesPart w p → is_left w p ≡ false

@@ -20,11 +20,11 @@ use Rattle.cg_group.specs.LookupLaws.{standing_of-set, put-other}
 use Rattle.cg_client.specs.Replica.{Replica}
 use Rattle.cg_client.specs.Turn.{Turn, begin}
 use Rattle.cg_client.specs.Requests.{settle}
-use Rattle.cg_step.specs.Step.{Deliveries, replica_step}
+use Rattle.cg_replica_step.specs.Step.{Deliveries, replica_step}
 use Rattle.cg_commit.specs.Crash.{Disk}
 use Rattle.cg_schedule.specs.declared.event.Event.TheVariants.{Split}
 use Rattle.cg_model.specs.World.{World}
-use Rattle.cg_model.specs.Show.{Going, ended}
+use Rattle.cg_model.specs.Show.{StepInProgress, ended}
 use Rattle.cg_model.specs.Step.{happens, world_step, quietly, hand, hand_over, hand_out}
 use Rattle.cg_model.specs.Turns.{turns_of, turns_in, taken}
 use Rattle.cg_model.specs.Small.{Small, Hands, Leaves, Settles, take_all}
@@ -33,7 +33,7 @@ use Rattle.cg_model.specs.FactsLists.{IsRising}
 use Rattle.cg_model.specs.Played.{IsSame}
 use Rattle.cg_agree_lemmas.specs.GroupChanges.{DoRise, placed, sent-dropped}
 use Rattle.cg_agree_lemmas.specs.MadeQuietly.{IsMadeIn, same-lined}
-use Rattle.cg_agree_lemmas.specs.TurnWorlds.{seated, runs-seated}
+use Rattle.cg_agree_lemmas.specs.TurnWorlds.{hosted, runs-hosted}
 use Rattle.cg_agree_lemmas.specs.EventTurns.{IsUp}
 use Rattle.cg_agree_lemmas.specs.HandWorlds.{standing, handed_to, hands-all, taken-append, ready-later, phase-stands, delivered-stands, home-stands}
 use Rattle.cg_agree_lemmas.specs.LeaveWorlds.{past_standing, left_to, leaves, settles-left, may-places}
@@ -192,7 +192,7 @@ module _ (w : World) (set : List ℕ) where
 
     first-handed : MayIn v (replicate (last - from) (Hands p)) × (played_in v (replicate (last - from) (Hands p)) ≡ now t1 last)
     first-handed =
-        let begins = begun-handed v p r disk s still.rising still.rises (still.seats p (let le : p ≤ p = omega arith in le) ∙ is.here.seat) stands-still is.stands.named is.stands.regular
+        let begins = begun-handed v p r disk s still.rising still.rises (still.nodes p (let le : p ≤ p = omega arith in le) ∙ is.here.node) stands-still is.stands.named is.stands.regular
         ∙ ap (now (begin r)) from-is in
         let some : last - from ≤ ready_in conf from =
         (let all : last ≤ ready_in conf 0 = subst (λ c. last ≤ ready_in c 0) (sym conf-is) is.reached in
@@ -226,18 +226,18 @@ module _ (w : World) (set : List ℕ) where
 
     may-settle : may_in (gone (take_all late t1)) (Settles p) ≡ true
     unfolding may_in may_make
-    may-settle = runs-seated v p (take_all late t1).replica disk (set_standing v.group (past_standing v v.group p disk s is.stands.named is.stands.regular set from))
+    may-settle = runs-hosted v p (take_all late t1).replica disk (set_standing v.group (past_standing v v.group p disk s is.stands.named is.stands.regular set from))
 
     whole-turn : replica_step r (Deliveries (input p)) ≡ turn
     unfolding replica_step handed_in_split
     whole-turn = ap settle (taken-append early late (begin r))
 
-    ends-so : gone turn ≡ seated v p turn.replica disk (send_all (set_standing v.group (parted p)) p turn.sent)
-    ends-so = ap (seated v p turn.replica disk)
+    ends-so : gone turn ≡ hosted v p turn.replica disk (send_all (set_standing v.group (parted p)) p turn.sent)
+    ends-so = ap (hosted v p turn.replica disk)
         (ap (λ (x : Phase). (let s : Standing Msg = record { id = p; phase = Transitional (regular_in x) set; delivered = from; unordered = [] } in set_standing v.group s)) (sym phase-is)
         ∙ sym (sent-dropped turn.sent v.group (parted p) p refl refl))
 
-    pub opens-so : MayIn v (block p) × (played_in v (block p) ≡ (let t = replica_step r (Deliveries (input p)) in seated v p t.replica disk (send_all (set_standing v.group (parted p)) p t.sent)))
+    pub opens-so : MayIn v (block p) × (played_in v (block p) ≡ (let t = replica_step r (Deliveries (input p)) in hosted v p t.replica disk (send_all (set_standing v.group (parted p)) p t.sent)))
     opens-so =
         let first = first-handed in
         let steps = replicate (last - from) (Hands p) in
@@ -245,24 +245,24 @@ module _ (w : World) (set : List ℕ) where
           may-append v steps two first.0
               (subst (λ x. MayIn x two) (sym first.1) (may-go, (subst (λ x. may_in x (Settles p) ≡ true) (sym went-away) may-settle, tt))),
           played-append v steps two ∙ ap (λ x. played_in x two) first.1 ∙ ap (λ x. small_in x (Settles p)) went-away ∙ settled ∙ ends-so
-              ∙ ap (λ (t : Turn). seated v p t.replica disk (send_all (set_standing v.group (parted p)) p t.sent)) (sym whole-turn),
+              ∙ ap (λ (t : Turn). hosted v p t.replica disk (send_all (set_standing v.group (parted p)) p t.sent)) (sym whole-turn),
         )
 
   pub members-of : (list : List ℕ) → Each IsLeaving list → Each (IsMember w g parted parted-id input block) list
   members-of [] each = tt
   members-of (p ∷ list) each = (record { here = each.0.here; opens = λ v still. opens-so p each.0 v still }, members-of list each.1)
 
-  pub split-is : IsRising 0 set → IsRising 0 (map (λ s. s.id) w.seats) → DoRise g → Each IsLeaving set → IsMadeIn w (Split set)
+  pub split-is : IsRising 0 set → IsRising 0 (map (λ s. s.id) w.nodes) → DoRise g → Each IsLeaving set → IsMadeIn w (Split set)
   unfolding world_step happens turns_of smalls_in split ended
   split-is rise rising rises each =
       let behind = fold (become_transitional set) g set in
-      let start : Going = quietly (grouped w behind) in
+      let start : StepInProgress = quietly (grouped w behind) in
       let of_group = parted-placed set 0 rise g (λ q above. refl) in
       let on : IsGoing w g parted parted-id input block w start.world set 0 = record {
-        still = record { seats = λ q above. refl; standings = λ q above. refl; configurations = refl; rises = rises; rising = rising };
+        still = record { nodes = λ q above. refl; standings = λ q above. refl; configurations = refl; rises = rises; rising = rising };
         group = of_group;
         snapshots = refl;
-        seats = λ q above. refl;
+        nodes = λ q above. refl;
         ids = refl;
         running = λ q. refl;
         disk = λ q. refl;
@@ -273,11 +273,11 @@ module _ (w : World) (set : List ℕ) where
       let steps : turns_as (leaving_steps g set) w (Split set) ≡ smalls_among w g parted parted-id input block set = ap (flat_map (ending block)) turns in
       rw steps (
         all.0,
-        subst (λ (x : Going). IsSame (played_in w (smalls_among w g parted parted-id input block set)) (ended x).world) (sym handed)
+        subst (λ (x : StepInProgress). IsSame (played_in w (smalls_among w g parted parted-id input block set)) (ended x).world) (sym handed)
             (same-lined (played_in w (smalls_among w g parted parted-id input block set)) (handed_among w g parted parted-id input block start set).world all.1 _),
       ) where
-        handed-is : (go : Going) (list : List ℕ) → fold (λ go q. hand_over go (handed_in_split g set q)) go list ≡ fold (λ go q. hand go q (Deliveries (input q))) go list
+        handed-is : (go : StepInProgress) (list : List ℕ) → fold (λ go q. hand_over go (handed_in_split g set q)) go list ≡ fold (λ go q. hand go q (Deliveries (input q))) go list
         handed-is go [] = refl
         handed-is go (q ∷ list) = ap (λ x. fold (λ go q. hand_over go (handed_in_split g set q)) x list) (one go q) ∙ handed-is (hand go q (Deliveries (input q))) list where
-          one : (go : Going) (q : ℕ) → hand_over go (handed_in_split g set q) ≡ hand go q (Deliveries (input q))
+          one : (go : StepInProgress) (q : ℕ) → hand_over go (handed_in_split g set q) ≡ hand go q (Deliveries (input q))
           one go q = ap (λ n. hand go n (Deliveries (input q))) (split-to g set q)

@@ -9,7 +9,7 @@ use Rattle.cg_action.specs.declared.action.Kind.{Kind}
 use Rattle.cg_queue.specs.Queue.{Marking, Marks, Gaps, green_count, marked_red, without_action}
 use Rattle.cg_queue.specs.declared.mark.Mark.TheVariants.{Placed, Known}
 use Rattle.cg_knowledge.specs.declared.summary.Summary.{Summary}
-use Rattle.cg_knowledge.specs.Members.{senders, gone}
+use Rattle.cg_knowledge.specs.Summaries.{senders, gone}
 use Rattle.cg_knowledge.specs.Verdict.{decides}
 use Rattle.cg_plan.specs.declared.parts.Part.{Part}
 use Rattle.cg_plan.specs.Plan.{plan_of}
@@ -27,7 +27,7 @@ use Rattle.cg_construct.specs.No.{no_record}
 use Rattle.cg_exchange.specs.ExchangeStates.{is_usable, with_heard}
 use Rattle.cg_exchange.specs.ExchangeActions.{progress, is_next, mark_item, take_item, send_part, go_on}
 use Rattle.cg_exchange.specs.PlanEnd.{take_over, attempt, decide, end_plan}
-use Rattle.cg_step.specs.Step.{on_message, on_regular, take}
+use Rattle.cg_replica_step.specs.Step.{on_message, on_regular, after_delivery}
 use Rattle.cg_model.specs.FactsReplica.{is_exchanging}
 use Rattle.cg_model.specs.Small.{take_newest, newest_conf}
 use Rattle.cg_model.specs.Smalls.{is_between}
@@ -131,7 +131,7 @@ none-regular (Construct at heard) r conf set between = absurd (let clash : false
 none-regular Left r conf set between = absurd (let clash : false ≡ true = between in cc)
 
 pub none-newest : (g : GroupState Msg) (r : Replica) → is_between r.state ≡ true → WaitsForNone (take_newest g (begin r))
-unfolding take
+unfolding after_delivery
 none-newest g r between = none-regular r.state r (newest_conf g) (configuration g (newest_conf g)).members between
 
 -- ---- reds and yellow names in a primary component

@@ -1,7 +1,7 @@
 -- Before the start there is nothing to tell: the empty chronicle stands beside the empty world.
 use Rattle.std.proofs.Common.{◌≡◌, ℕ, zero, suc, true, false, List, [], ◌++◌, length, filter_map, Option, Some, None, refl, sym, ap, ap₂, ◌∙◌, subst, arith}
 use Rattle.cg_base.specs.Sets.{has}
-use Rattle.cg_knowledge.specs.Members.{senders, remaining}
+use Rattle.cg_knowledge.specs.Summaries.{senders, remaining}
 use Rattle.cg_wire.specs.declared.message.Msg.{Msg}
 use Rattle.cg_group.specs.State.{Sent, Configuration, configuration, no_configuration, standing_of, has_received}
 use Rattle.cg_model.specs.World.{no_world}
@@ -57,7 +57,7 @@ never e = absurd (let clash : false ≡ true = e in cc)
 net : NetFacts no_chronicle
 unfolding standing_of
 net = record {
-  seated = record { past = λ p. refl; disk = λ p. tt; copied = λ joiner. refl; once = λ joiner. omega arith; before = λ e. refl };
+  hosted = record { past = λ p. refl; disk = λ p. tt; copied = λ joiner. refl; once = λ joiner. omega arith; before = λ e. refl };
   phase_sound = record { phase = λ p. tt; up = λ p. refl };
   receipts_inside = record {
     places = λ conf. ap (λ (x : Configuration Msg). length x.received) (conf-none conf) ∙ sym (ap (λ (x : Configuration Msg). length x.ordered) (conf-none conf));
@@ -156,7 +156,7 @@ green = record {
 
 pub nothing-holds : Invariant no_chronicle
 nothing-holds = record {
-  lists = record { seats = tt; standings = tt; received = tt; served = tt };
+  lists = record { nodes = tt; standings = tt; received = tt; served = tt };
   net = net;
   talk = talk;
   replica = replica;
@@ -176,6 +176,6 @@ nothing-rests = record {
 pub nothing-stands : StandsBeside no_chronicle no_world
 nothing-stands = record {
   facts = nothing-holds;
-  same = record { group = refl; seats = refl; running = λ p. refl; disk = λ p. refl; given = λ joiner. refl };
+  same = record { group = refl; nodes = refl; running = λ p. refl; disk = λ p. refl; given = λ joiner. refl };
   rests = nothing-rests;
 }

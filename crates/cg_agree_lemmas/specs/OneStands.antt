@@ -10,7 +10,7 @@ use Rattle.cg_group.specs.State.{Standing, GroupState, standing_of, phase_of, is
 use Rattle.cg_group.specs.Events.{come_up, go_down, become_regular, send_from, send, send_all, with_delivered}
 use Rattle.cg_group.specs.LookupLaws.{at-cond, standing_of-set, phase_of-set, delivered_to-set, configuration-set_standing, standing_of-down}
 use Rattle.cg_client.specs.Turn.{Turn, begin}
-use Rattle.cg_model.specs.World.{Life, Up, Down as DownLife, Seat, seat_of}
+use Rattle.cg_model.specs.World.{NodeState, Up, Down as DownLife, Node, node_of}
 use Rattle.cg_model.specs.Chronicle.{Chronicle}
 use Rattle.cg_model.specs.Small.{turning_as, turning, become_past}
 use Rattle.cg_agree_lemmas.specs.GroupTurn.{put-same, standing-id}
@@ -133,7 +133,7 @@ stands-down g p = record {
 
 -- ---- a turn
 
-stands-turning_as : (c : Chronicle) (p : ℕ) (part : Turn → Turn) (life : Life) →
+stands-turning_as : (c : Chronicle) (p : ℕ) (part : Turn → Turn) (life : NodeState) →
     Stands c.world.group (turning_as c p part life).world.group p (phase_of c.world.group p) (delivered_to c.world.group p) (is_up c.world.group p)
 stands-turning_as c p part (Up r disk) = stands-sent p (part (begin r)).sent c.world.group
 stands-turning_as c p part (DownLife disk green) = stands-refl c.world.group p
@@ -141,7 +141,7 @@ stands-turning_as c p part (DownLife disk green) = stands-refl c.world.group p
 -- a turn changes neither phases nor counts
 pub stands-turning : (c : Chronicle) (p : ℕ) (part : Turn → Turn) →
     Stands c.world.group (turning c p part).world.group p (phase_of c.world.group p) (delivered_to c.world.group p) (is_up c.world.group p)
-stands-turning c p part = at (seat_of c.world p) where
-  at : (o : Option Seat) → Stands c.world.group (option_map_or (λ s. turning_as c p part s.life) o c).world.group p (phase_of c.world.group p) (delivered_to c.world.group p) (is_up c.world.group p)
+stands-turning c p part = at (node_of c.world p) where
+  at : (o : Option Node) → Stands c.world.group (option_map_or (λ s. turning_as c p part s.life) o c).world.group p (phase_of c.world.group p) (delivered_to c.world.group p) (is_up c.world.group p)
   at None = stands-refl c.world.group p
   at (Some s) = stands-turning_as c p part s.life

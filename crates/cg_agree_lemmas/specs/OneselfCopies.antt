@@ -5,11 +5,11 @@ use Rattle.std.proofs.lemmas.Bool.{cases_eq, ne_eqb}
 use Rattle.cg_base.specs.declared.weighted.Weighted.{Weighted}
 use Rattle.cg_action.specs.declared.action.Action.{Action}
 use Rattle.cg_client.specs.Replica.{Held}
-use Rattle.cg_model.specs.Step.{joined}
+use Rattle.cg_model.specs.Step.{joiner_replica}
 use Rattle.cg_agree_lemmas.specs.HeldMarks.{IsOneself}
 
 -- what a joiner becomes of what its representative holds
-pub joined-oneself : (start : List Weighted) (h : Held) (all : List Action) (p : ℕ) → IsOneself start h all → IsOneself start (joined p h).held all
+pub joined-oneself : (start : List Weighted) (h : Held) (all : List Action) (p : ℕ) → IsOneself start h all → IsOneself start (joiner_replica p h).held all
 joined-oneself start h all p is = record {
   made_of = record {
     white = is.made_of.white;

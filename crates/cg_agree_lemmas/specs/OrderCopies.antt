@@ -1,16 +1,16 @@
 -- What a joiner is to begin with stands in the printed order, and its giver has it: behind each event too.
-use Rattle.cg_step.specs.Step.{Input, Deliveries, Asks as AsksOf, replica_step}
+use Rattle.cg_replica_step.specs.Step.{Input, Deliveries, Asks as AsksOf, replica_step}
 use Rattle.cg_action.specs.declared.action.Kind.TheVariants.{Update, Join as JoinKind, Leave as LeaveKind}
 use Rattle.cg_schedule.specs.declared.event.Event.{Event}
 use Rattle.cg_schedule.specs.declared.event.Event.TheVariants.{Start, Split, Merge, Request, Weak, Dirty, Order, Recover, Show, ShowOrder, Gather, End, Receive, Deliver, Rounds, Stop, Fail, Join, Leave, Transfer}
-use Rattle.cg_model.specs.Step.{quietly, after_event, hand_to, hand, hand_over, name_also, begin_replica, arm_at, crash_at, recover_from, joined, snapshot_for, without_snapshot, with_pieces, take_pieces, transfer, happens, world_step}
-use Rattle.cg_model.specs.World.{Life, Up, Down, Seat, Snapshot, World, seat_of, replica_of, bring_up}
+use Rattle.cg_model.specs.Step.{quietly, after_event, hand_to, hand, hand_over, name_also, begin_replica, arm_at, crash_at, recover_from, joiner_replica, snapshot_for, without_snapshot, with_pieces, take_pieces, transfer, happens, world_step}
+use Rattle.cg_model.specs.World.{NodeState, Up, Down, Node, TransferState, World, node_of, replica_of, bring_up}
 use Rattle.std.proofs.Common.{◌≡◌, ◌++◌, ◌∷◌, ◌≤◌, ◌&&◌, ◌+◌, Bool, IfSome, List, None, Option, Some, arith, eq-eqb, filter, find, fold, inl, inr, length, map, min, not, refl, subst, suc, sym, true, zero, ℕ, []}
 use Rattle.std.proofs.lemmas.Bool.{cases_Bool, cond-false, cond-true, cond_both}
 use Rattle.std.specs.Option.{option_map_or}
 use Rattle.std.specs.Prelude.{◌==◌}
 use Rattle.cg_agree_lemmas.specs.MadeTransfer.{none-filtered, nothing-of}
-use Rattle.cg_model.specs.Show.{Going, ended}
+use Rattle.cg_model.specs.Show.{StepInProgress, ended}
 use Rattle.cg_base.specs.Weights.{ids}
 use Rattle.cg_base.specs.declared.weighted.Weighted.{Weighted}
 use Rattle.cg_client.specs.Replica.{Held, Replica}
@@ -18,7 +18,7 @@ use Rattle.cg_client.specs.Turn.{Turn}
 use Rattle.cg_group.specs.EachLaws.{Each, Each-append, Each-filter}
 use Rattle.cg_group.specs.Events.{deliver, handed_in_split, merge, split}
 use Rattle.cg_group.specs.declared.delivery.Handed.{Handed}
-use Rattle.cg_commit.specs.Crash.{Crashes, Ended, FailOnce, Runs, StopWith, Strike, end_event, new_disk}
+use Rattle.cg_commit.specs.Crash.{Crashes, EventEnd, FailOnce, Runs, StopWith, Strike, end_event, new_disk}
 use Rattle.cg_wire.specs.declared.message.Msg.{Msg}
 use Rattle.cg_client.specs.Joined.{piece_count}
 
@@ -61,61 +61,61 @@ module _ (Holds : ℕ → Held → Type 0) where
     copies-begun set [] v is = is
     copies-begun set (q ∷ list) v is = copies-begun set list (begin_replica set v q) is
 
-    copies-ended : (go : Going) (q : ℕ) (t : Turn) (e : Ended) → OfSnapshots go.world → OfSnapshots (after_event go q t e).world
+    copies-ended : (go : StepInProgress) (q : ℕ) (t : Turn) (e : EventEnd) → OfSnapshots go.world → OfSnapshots (after_event go q t e).world
     copies-ended go q t (Runs r disk) is = is
     copies-ended go q t (Crashes disk green) is = Each-filter (λ s. Holds s.giver s.content) (λ s. not (s.giver == q)) go.world.snapshots is
 
-    copies-hand : (go : Going) (q : ℕ) (input : Input) → OfSnapshots go.world → OfSnapshots (hand go q input).world
+    copies-hand : (go : StepInProgress) (q : ℕ) (input : Input) → OfSnapshots go.world → OfSnapshots (hand go q input).world
     unfolding hand
-    copies-hand go q input is = at (seat_of go.world q) where
-      life : (l : Life) → OfSnapshots (hand_to go q input l).world
+    copies-hand go q input is = at (node_of go.world q) where
+      life : (l : NodeState) → OfSnapshots (hand_to go q input l).world
       life (Up r disk) = copies-ended go q (replica_step r input) (end_event disk r.held (replica_step r input)) is
       life (Down disk green) = is
 
-      at : (o : Option Seat) → OfSnapshots (option_map_or (λ s. hand_to go q input s.life) o go).world
+      at : (o : Option Node) → OfSnapshots (option_map_or (λ s. hand_to go q input s.life) o go).world
       at None = is
       at (Some s) = life s.life
 
-    copies-handed : (list : List (Handed Msg)) (go : Going) → OfSnapshots go.world → OfSnapshots (fold hand_over go list).world
+    copies-handed : (list : List (Handed Msg)) (go : StepInProgress) → OfSnapshots go.world → OfSnapshots (fold hand_over go list).world
     copies-handed [] go is = is
     copies-handed (h ∷ list) go is = copies-handed list (hand_over go h) (copies-hand go h.to (Deliveries h.list) is)
 
-    copies-stopped : (q : ℕ) → OfSnapshots (option_map_or (λ s. crash_at w q s.life) (seat_of w q) w)
-    copies-stopped q = at (seat_of w q) where
-      life : (l : Life) → OfSnapshots (crash_at w q l)
+    copies-stopped : (q : ℕ) → OfSnapshots (option_map_or (λ s. crash_at w q s.life) (node_of w q) w)
+    copies-stopped q = at (node_of w q) where
+      life : (l : NodeState) → OfSnapshots (crash_at w q l)
       life (Up r disk) = Each-filter (λ s. Holds s.giver s.content) (λ s. not (s.giver == q)) w.snapshots is
       life (Down disk green) = is
 
-      at : (o : Option Seat) → OfSnapshots (option_map_or (λ s. crash_at w q s.life) o w)
+      at : (o : Option Node) → OfSnapshots (option_map_or (λ s. crash_at w q s.life) o w)
       at None = is
       at (Some s) = life s.life
 
-    copies-armed : (q : ℕ) (strike : Strike) → OfSnapshots (option_map_or (λ s. arm_at w q strike s.life) (seat_of w q) w)
-    copies-armed q strike = at (seat_of w q) where
-      life : (l : Life) → OfSnapshots (arm_at w q strike l)
+    copies-armed : (q : ℕ) (strike : Strike) → OfSnapshots (option_map_or (λ s. arm_at w q strike s.life) (node_of w q) w)
+    copies-armed q strike = at (node_of w q) where
+      life : (l : NodeState) → OfSnapshots (arm_at w q strike l)
       life (Up r disk) = is
       life (Down disk green) = is
 
-      at : (o : Option Seat) → OfSnapshots (option_map_or (λ s. arm_at w q strike s.life) o w)
+      at : (o : Option Node) → OfSnapshots (option_map_or (λ s. arm_at w q strike s.life) o w)
       at None = is
       at (Some s) = life s.life
 
-    copies-recovered : (q : ℕ) → OfSnapshots (option_map_or (λ s. recover_from w s.life) (seat_of w q) (quietly w)).world
-    copies-recovered q = at (seat_of w q) where
-      life : (l : Life) → OfSnapshots (recover_from w l).world
+    copies-recovered : (q : ℕ) → OfSnapshots (option_map_or (λ s. recover_from w s.life) (node_of w q) (quietly w)).world
+    copies-recovered q = at (node_of w q) where
+      life : (l : NodeState) → OfSnapshots (recover_from w l).world
       life (Up r disk) = is
       life (Down disk green) = is
 
-      at : (o : Option Seat) → OfSnapshots (option_map_or (λ s. recover_from w s.life) o (quietly w)).world
+      at : (o : Option Node) → OfSnapshots (option_map_or (λ s. recover_from w s.life) o (quietly w)).world
       at None = is
       at (Some s) = life s.life
 
-    copies-pieces : (s : Snapshot) (taken : ℕ) → Holds s.giver s.content → OfSnapshots (with_pieces w s taken)
+    copies-pieces : (s : TransferState) (taken : ℕ) → Holds s.giver s.content → OfSnapshots (with_pieces w s taken)
     copies-pieces s taken here =
         let others = without_snapshot w s.joiner in
-        let r = joined s.joiner s.content in
+        let r = joiner_replica s.joiner s.content in
         let left = Each-filter (λ x. Holds x.giver x.content) (λ x. not (x.joiner == s.joiner)) w.snapshots is in
-        let more : Snapshot = record s { taken = taken } in
+        let more : TransferState = record s { taken = taken } in
         cond_both (taken == piece_count s.content) (bring_up others r (new_disk r.held)) (record others { snapshots = others.snapshots ++ record s { taken = taken } ∷ [] }) OfSnapshots
         (λ y. left) (λ no. Each-append (λ x. Holds x.giver x.content) others.snapshots (more ∷ []) left (here, tt))
 
@@ -123,9 +123,9 @@ module _ (Holds : ℕ → Held → Type 0) where
       -- also of the one of which pieces are taken
       pub copy-of : (q joiner : ℕ) (r : Replica) → replica_of w q ≡ Some r → (let s = snapshot_for w q joiner r in Holds s.giver s.content)
       copy-of q joiner r e =
-          let new : Snapshot = record { joiner = joiner; giver = q; content = r.held; taken = 0 } in
+          let new : TransferState = record { joiner = joiner; giver = q; content = r.held; taken = 0 } in
           at new (find (λ s. (s.joiner == joiner) && (s.giver == q)) w.snapshots) (found-each (λ s. Holds s.giver s.content) (λ s. (s.joiner == joiner) && (s.giver == q)) w.snapshots is) (holds q r e) where
-            at : (new : Snapshot) (o : Option Snapshot) → IfSome o (λ s. Holds s.giver s.content) → Holds new.giver new.content → (let s = option_map_or (λ s. s) o new in Holds s.giver s.content)
+            at : (new : TransferState) (o : Option TransferState) → IfSome o (λ s. Holds s.giver s.content) → Holds new.giver new.content → (let s = option_map_or (λ s. s) o new in Holds s.giver s.content)
             at new None found other = other
             at new (Some s) found other = found
 

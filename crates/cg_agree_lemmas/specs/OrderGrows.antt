@@ -7,40 +7,40 @@ use Rattle.cg_agree_lemmas.specs.OrderExtends.{order-extends}
 use Rattle.cg_agree_lemmas.specs.WorldTurns.{hand-behind}
 use Rattle.cg_model.specs.FactsLists.{IsRising}
 use Rattle.cg_model.specs.Fronts.{Front}
-use Rattle.cg_model.specs.Show.{Going, beyond}
+use Rattle.cg_model.specs.Show.{StepInProgress, beyond}
 use Rattle.cg_model.specs.Step.{after_event, hand, hand_over, hand_to}
-use Rattle.cg_model.specs.World.{Down, Life, Seat, Up, World, seat_of}
+use Rattle.cg_model.specs.World.{Down, NodeState, Node, Up, World, node_of}
 use Rattle.cg_base.specs.declared.action_id.ActionId.{ActionId}
 use Rattle.cg_client.specs.Turn.{Turn}
 use Rattle.cg_group.specs.EachLaws.{Each}
 use Rattle.cg_group.specs.declared.delivery.Handed.{Handed}
 use Rattle.cg_queue.specs.Queue.{green_count}
-use Rattle.cg_commit.specs.Crash.{Crashes, Ended, Runs, end_event}
-use Rattle.cg_step.specs.Step.{Deliveries, Input, replica_step}
+use Rattle.cg_commit.specs.Crash.{Crashes, EventEnd, Runs, end_event}
+use Rattle.cg_replica_step.specs.Step.{Deliveries, Input, replica_step}
 use Rattle.cg_wire.specs.declared.message.Msg.{Msg}
 
 -- who ran on has its greens in this order
-abbrev pub EndShows : List ActionId → List ActionId → Ended → Type 0
+abbrev pub EndShows : List ActionId → List ActionId → EventEnd → Type 0
 EndShows greens order (Runs r disk) = Front greens order
 EndShows greens order (Crashes disk green) = Unit {0}
 
-abbrev LifeShows : Input → List ActionId → List ActionId → Life → Type 0
+abbrev LifeShows : Input → List ActionId → List ActionId → NodeState → Type 0
 LifeShows input greens order (Up r disk) = EndShows greens order (end_event disk r.held (replica_step r input))
 LifeShows input greens order (Down disk green) = Unit {0}
 
-abbrev pub SeatShows : Input → List ActionId → List ActionId → Option Seat → Type 0
-SeatShows input greens order None = Unit {0}
-SeatShows input greens order (Some s) = LifeShows input greens order s.life
+abbrev pub NodeShows : Input → List ActionId → List ActionId → Option Node → Type 0
+NodeShows input greens order None = Unit {0}
+NodeShows input greens order (Some s) = LifeShows input greens order s.life
 
 -- it has them still as the order goes on
-shows-on : (input : Input) (greens order more : List ActionId) → Front order more → (o : Option Seat) → SeatShows input greens order o → SeatShows input greens more o
+shows-on : (input : Input) (greens order more : List ActionId) → Front order more → (o : Option Node) → NodeShows input greens order o → NodeShows input greens more o
 shows-on input greens order more front None is = tt
 shows-on input greens order more front (Some s) is = life s.life is where
-  of-end : (e : Ended) → EndShows greens order e → EndShows greens more e
+  of-end : (e : EventEnd) → EndShows greens order e → EndShows greens more e
   of-end (Runs r disk) is = Front-trans greens order more is front
   of-end (Crashes disk green) is = tt
 
-  life : (l : Life) → LifeShows input greens order l → LifeShows input greens more l
+  life : (l : NodeState) → LifeShows input greens order l → LifeShows input greens more l
   life (Up r disk) is = of-end (end_event disk r.held (replica_step r input)) is
   life (Down disk green) is = tt
 
@@ -58,17 +58,17 @@ module _ (line : List ActionId) (most : ℕ) where
     pub there : Front shown first
     pub fits : IsOrder greens
 
-  abbrev pub EndAdds : List ActionId → Turn → List ActionId → Ended → Type 0
+  abbrev pub EndAdds : List ActionId → Turn → List ActionId → EventEnd → Type 0
   EndAdds first t greens (Runs r disk) = Adds first t greens
   EndAdds first t greens (Crashes disk green) = Unit {0}
 
-  abbrev pub LifeAdds : List ActionId → Input → List ActionId → Life → Type 0
+  abbrev pub LifeAdds : List ActionId → Input → List ActionId → NodeState → Type 0
   LifeAdds first input greens (Up r disk) = EndAdds first (replica_step r input) greens (end_event disk r.held (replica_step r input))
   LifeAdds first input greens (Down disk green) = Unit {0}
 
-  abbrev pub SeatAdds : List ActionId → Input → List ActionId → Option Seat → Type 0
-  SeatAdds first input greens None = Unit {0}
-  SeatAdds first input greens (Some s) = LifeAdds first input greens s.life
+  abbrev pub NodeAdds : List ActionId → Input → List ActionId → Option Node → Type 0
+  NodeAdds first input greens None = Unit {0}
+  NodeAdds first input greens (Some s) = LifeAdds first input greens s.life
 
   -- ---- names that come to the order
 
@@ -95,11 +95,11 @@ module _ (line : List ActionId) (most : ℕ) where
 
   -- ---- turns
 
-  pub hand-grows : (first : List ActionId) (go : Going) (p : ℕ) (input : Input) (greens : List ActionId) → SeatAdds first input greens (seat_of go.world p) → Front first go.world.order → IsOrder go.world.order →
-      (let new = (hand go p input).world.order in Front go.world.order new × IsOrder new × SeatShows input greens new (seat_of go.world p))
+  pub hand-grows : (first : List ActionId) (go : StepInProgress) (p : ℕ) (input : Input) (greens : List ActionId) → NodeAdds first input greens (node_of go.world p) → Front first go.world.order → IsOrder go.world.order →
+      (let new = (hand go p input).world.order in Front go.world.order new × IsOrder new × NodeShows input greens new (node_of go.world p))
   unfolding hand
-  hand-grows first go p input greens adds front fits = at (seat_of go.world p) adds where
-    ended : (t : Turn) (e : Ended) → EndAdds first t greens e → (let new = (after_event go p t e).world.order in Front go.world.order new × IsOrder new × EndShows greens new e)
+  hand-grows first go p input greens adds front fits = at (node_of go.world p) adds where
+    ended : (t : Turn) (e : EventEnd) → EndAdds first t greens e → (let new = (after_event go p t e).world.order in Front go.world.order new × IsOrder new × EndShows greens new e)
     ended t (Runs r disk) adds =
         let order = go.world.order in
         let new = order ++ beyond order t.green (green_count t.replica.held.queue) in
@@ -107,37 +107,37 @@ module _ (line : List ActionId) (most : ℕ) where
         (is.on, is.fits, subst (λ (xs : List ActionId). Front xs new) (sym adds.is) is.has)
     ended t (Crashes disk green) adds = (Front-refl go.world.order, fits, tt)
 
-    life : (l : Life) → LifeAdds first input greens l → (let new = (hand_to go p input l).world.order in Front go.world.order new × IsOrder new × LifeShows input greens new l)
+    life : (l : NodeState) → LifeAdds first input greens l → (let new = (hand_to go p input l).world.order in Front go.world.order new × IsOrder new × LifeShows input greens new l)
     life (Up r disk) adds = ended (replica_step r input) (end_event disk r.held (replica_step r input)) adds
     life (Down disk green) adds = (Front-refl go.world.order, fits, tt)
 
-    at : (o : Option Seat) → SeatAdds first input greens o →
-        (let new = (option_map_or (λ s. hand_to go p input s.life) o go).world.order in Front go.world.order new × IsOrder new × SeatShows input greens new o)
+    at : (o : Option Node) → NodeAdds first input greens o →
+        (let new = (option_map_or (λ s. hand_to go p input s.life) o go).world.order in Front go.world.order new × IsOrder new × NodeShows input greens new o)
     at None adds = (Front-refl go.world.order, fits, tt)
     at (Some s) adds = life s.life adds
 
   -- replicas take their turns, ascending; who hasn't yet is as it was
-  pub hands-grow : (first : List ActionId) (w : World) (greens : ℕ → List ActionId) (list : List (Handed Msg)) (go : Going) (low : ℕ) → IsRising low (map (λ h. h.to) list) →
-      ((p : ℕ) → low ≤ p → seat_of go.world p ≡ seat_of w p) → Each (λ h. SeatAdds first (Deliveries h.list) (greens h.to) (seat_of w h.to)) list → Front first go.world.order → IsOrder go.world.order →
-      (let new = (fold hand_over go list).world.order in Front go.world.order new × IsOrder new × Each (λ h. SeatShows (Deliveries h.list) (greens h.to) new (seat_of w h.to)) list)
+  pub hands-grow : (first : List ActionId) (w : World) (greens : ℕ → List ActionId) (list : List (Handed Msg)) (go : StepInProgress) (low : ℕ) → IsRising low (map (λ h. h.to) list) →
+      ((p : ℕ) → low ≤ p → node_of go.world p ≡ node_of w p) → Each (λ h. NodeAdds first (Deliveries h.list) (greens h.to) (node_of w h.to)) list → Front first go.world.order → IsOrder go.world.order →
+      (let new = (fold hand_over go list).world.order in Front go.world.order new × IsOrder new × Each (λ h. NodeShows (Deliveries h.list) (greens h.to) new (node_of w h.to)) list)
   hands-grow first w greens [] go low rise still adds front fits = (Front-refl go.world.order, fits, tt)
   hands-grow first w greens (h ∷ list) go low rise still adds front fits =
       let next = hand_over go h in
-      let here : seat_of go.world h.to ≡ seat_of w h.to = still h.to rise.0 in
-      let one = hand-grows first go h.to (Deliveries h.list) (greens h.to) (subst (SeatAdds first (Deliveries h.list) (greens h.to)) (sym here) adds.0) front fits in
+      let here : node_of go.world h.to ≡ node_of w h.to = still h.to rise.0 in
+      let one = hand-grows first go h.to (Deliveries h.list) (greens h.to) (subst (NodeAdds first (Deliveries h.list) (greens h.to)) (sym here) adds.0) front fits in
       let rest = hands-grow first w greens list next (suc h.to) rise.1 (λ p le. stays p le ∙ still p (let up = rise.0 in omega arith)) adds.1
       (Front-trans first go.world.order next.world.order front one.0) one.1 in
       let new = (fold hand_over next list).world.order in (
         Front-trans go.world.order next.world.order new one.0 rest.0,
         rest.1,
         (
-          shows-on (Deliveries h.list) (greens h.to) next.world.order new rest.0 (seat_of w h.to)
-              (subst (SeatShows (Deliveries h.list) (greens h.to) next.world.order) here one.2),
+          shows-on (Deliveries h.list) (greens h.to) next.world.order new rest.0 (node_of w h.to)
+              (subst (NodeShows (Deliveries h.list) (greens h.to) next.world.order) here one.2),
           rest.2,
         ),
       )
     where
-      stays : (p : ℕ) → suc h.to ≤ p → seat_of (hand_over go h).world p ≡ seat_of go.world p
+      stays : (p : ℕ) → suc h.to ≤ p → node_of (hand_over go h).world p ≡ node_of go.world p
       stays p le = elim (hand-behind (λ q input. q ≡ h.to) go h.to (Deliveries h.list) refl p) [
         | inl same ↦ same
         | inr turn ↦ absurd (let same : p ≡ h.to = turn.of in omega arith)

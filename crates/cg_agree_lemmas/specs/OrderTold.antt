@@ -13,27 +13,27 @@ use Rattle.cg_group.specs.declared.delivery.Handed.{Handed}
 use Rattle.cg_group.specs.Events.{HandedOut, split, merge, deliver}
 use Rattle.cg_client.specs.Replica.{Replica}
 use Rattle.cg_client.specs.Turn.{Turn}
-use Rattle.cg_step.specs.Step.{Input, Deliveries, Asks, replica_step}
-use Rattle.cg_commit.specs.Crash.{FailOnce, Strike, Ended, Runs, Crashes, end_event, recovered}
+use Rattle.cg_replica_step.specs.Step.{Input, Deliveries, Asks, replica_step}
+use Rattle.cg_commit.specs.Crash.{FailOnce, Strike, EventEnd, Runs, Crashes, end_event, recovered}
 use Rattle.cg_schedule.specs.declared.event.Event.{Event}
 use Rattle.cg_schedule.specs.declared.event.Event.TheVariants.{Start, Split, Merge, Request, Weak, Dirty, Order, Recover, Show, ShowOrder, Gather, End, Receive, Deliver, Rounds, Stop, Fail, Join, Leave, Transfer}
 use Rattle.cg_queue.specs.Queue.{green_count}
 use Rattle.cg_report.specs.declared.entry.Placed.{Placed}
-use Rattle.cg_model.specs.World.{Life, Up, Down, Seat, Snapshot, World, seat_of, replica_of}
-use Rattle.cg_model.specs.Show.{Going, Moved, placed_from, beyond, ended}
+use Rattle.cg_model.specs.World.{NodeState, Up, Down, Node, TransferState, World, node_of, replica_of}
+use Rattle.cg_model.specs.Show.{StepInProgress, Moved, placed_from, beyond, ended}
 use Rattle.cg_model.specs.Step.{quietly, after_event, hand_to, hand, hand_over, hand_out, name_also, begin_replica, arm_at, arm, crash_at, stop, recover_from, recover, take_pieces, transfer, snapshot_for, with_pieces, happens, world_step}
 use Rattle.cg_model.specs.Run.{Step, IsRunFrom, world_after}
 use Rattle.cg_model.specs.Shown.{order_of, order_lines}
 use Rattle.cg_client.specs.Joined.{piece_count}
 
 -- the order is that of a world and the names of these order lines, whose places go on behind it
-pub record Told (w : World) (order : List ActionId) (orders : List Placed) : Type 0 where
+pub record TellsOrder (w : World) (order : List ActionId) (orders : List Placed) : Type 0 where
   pub names : order ≡ w.order ++ map (λ o. o.id) orders
   pub places : map (λ o. o.place) orders ≡ count_up (suc (length w.order)) (length orders)
 
 -- the order of a step under way is that of a world, and the order lines so far
-abbrev Keeps : World → Going → Type 0
-Keeps w g = Told w g.world.order g.orders
+abbrev Keeps : World → StepInProgress → Type 0
+Keeps w g = TellsOrder w g.world.order g.orders
 
 placed_names : (n : ℕ) (names : List ActionId) → map (λ o. o.id) (placed_from n names) ≡ names
 placed_names n [] = refl
@@ -75,7 +75,7 @@ told_count : (w : World) (order : List ActionId) (orders : List Placed) → orde
 told_count w order orders k =
     ap length k ∙ (length-append w.order (map (λ o. o.id) orders) ∙ ap (λ n. length w.order + n) (length-map orders (λ o. o.id)))
 
-told_places : (w : World) (order : List ActionId) (orders : List Placed) (new : List ActionId) → Told w order orders →
+told_places : (w : World) (order : List ActionId) (orders : List Placed) (new : List ActionId) → TellsOrder w order orders →
     map (λ o. o.place) (orders ++ placed_from (length order) new) ≡ count_up (suc (length w.order)) (length (orders ++ placed_from (length order) new))
 told_places w order orders new k =
     let placed = placed_from (length order) new in
@@ -87,28 +87,28 @@ told_places w order orders new k =
     ∙ (ap (λ xs. count_up first (length orders) ++ xs) there
     ∙ (sym (counted_on first (length orders) (length placed)) ∙ ap (λ n. count_up first n) (sym (length-append orders placed)))))
 
-told_order : (w : World) (order : List ActionId) (orders : List Placed) (new : List ActionId) → Told w order orders →
-    Told w (order ++ new) (orders ++ placed_from (length order) new)
+told_order : (w : World) (order : List ActionId) (orders : List Placed) (new : List ActionId) → TellsOrder w order orders →
+    TellsOrder w (order ++ new) (orders ++ placed_from (length order) new)
 told_order w order orders new k = record { names = told_names w order orders new k.names; places = told_places w order orders new k }
 
 -- ---- each event
 
-ended_order : (w : World) (g : Going) (p : ℕ) (t : Turn) (e : Ended) → Keeps w g → Keeps w (after_event g p t e)
+ended_order : (w : World) (g : StepInProgress) (p : ℕ) (t : Turn) (e : EventEnd) → Keeps w g → Keeps w (after_event g p t e)
 ended_order w g p t (Runs r disk) k = told_order w g.world.order g.orders (beyond g.world.order t.green (green_count t.replica.held.queue)) k
 ended_order w g p t (Crashes disk green) k = k
 
-handed_order : (w : World) (g : Going) (p : ℕ) (input : Input) (life : Life) → Keeps w g → Keeps w (hand_to g p input life)
+handed_order : (w : World) (g : StepInProgress) (p : ℕ) (input : Input) (life : NodeState) → Keeps w g → Keeps w (hand_to g p input life)
 handed_order w g p input (Up r disk) k = let t = replica_step r input in ended_order w g p t (end_event disk r.held t) k
 handed_order w g p input (Down disk green) k = k
 
-hand_order : (w : World) (g : Going) (p : ℕ) (input : Input) → Keeps w g → Keeps w (hand g p input)
+hand_order : (w : World) (g : StepInProgress) (p : ℕ) (input : Input) → Keeps w g → Keeps w (hand g p input)
 unfolding hand
-hand_order w g p input k = by_seat (seat_of g.world p) where
-  by_seat : (o : Option Seat) → Keeps w (option_map_or (λ s. hand_to g p input s.life) o g)
-  by_seat None = k
-  by_seat (Some s) = handed_order w g p input s.life k
+hand_order w g p input k = by_node (node_of g.world p) where
+  by_node : (o : Option Node) → Keeps w (option_map_or (λ s. hand_to g p input s.life) o g)
+  by_node None = k
+  by_node (Some s) = handed_order w g p input s.life k
 
-all_handed : (w : World) (g : Going) (handed : List (Handed Msg)) → Keeps w g → Keeps w (fold hand_over g handed)
+all_handed : (w : World) (g : StepInProgress) (handed : List (Handed Msg)) → Keeps w g → Keeps w (fold hand_over g handed)
 all_handed w g [] k = k
 all_handed w g (h ∷ handed) k = all_handed w (hand_over g h) handed (hand_order w g h.to (Deliveries h.list) k)
 
@@ -126,41 +126,41 @@ begun_order set w (p ∷ names) = begun_order set (begin_replica set w p) names
 same : (w v : World) → v.order ≡ w.order → Keeps w (quietly v)
 same w v e = record { names = e ∙ sym (append-nil w.order); places = refl }
 
-by_life : (w : World) (change : Life → World) → ((life : Life) → (change life).order ≡ w.order) → (o : Option Seat) → (option_map_or (λ s. change s.life) o w).order ≡ w.order
+by_life : (w : World) (change : NodeState → World) → ((life : NodeState) → (change life).order ≡ w.order) → (o : Option Node) → (option_map_or (λ s. change s.life) o w).order ≡ w.order
 by_life w change each None = refl
 by_life w change each (Some s) = each s.life
 
 armed_order : (w : World) (p : ℕ) (strike : Strike) → (arm w p strike).order ≡ w.order
-armed_order w p strike = by_life w (arm_at w p strike) each (seat_of w p) where
-  each : (life : Life) → (arm_at w p strike life).order ≡ w.order
+armed_order w p strike = by_life w (arm_at w p strike) each (node_of w p) where
+  each : (life : NodeState) → (arm_at w p strike life).order ≡ w.order
   each (Up r disk) = refl
   each (Down disk green) = refl
 
 stopped_order : (w : World) (p n : ℕ) (fill : List ℕ) → (stop w p n fill).order ≡ w.order
-stopped_order w p zero fill = by_life w (crash_at w p) each (seat_of w p) where
-  each : (life : Life) → (crash_at w p life).order ≡ w.order
+stopped_order w p zero fill = by_life w (crash_at w p) each (node_of w p) where
+  each : (life : NodeState) → (crash_at w p life).order ≡ w.order
   each (Up r disk) = refl
   each (Down disk green) = refl
 stopped_order w p (suc n) fill = armed_order w p _
 
 recovered_order : (w : World) (p : ℕ) → Keeps w (recover w p)
-recovered_order w p = by_seat (seat_of w p) where
-  each : (life : Life) → Keeps w (recover_from w life)
+recovered_order w p = by_node (node_of w p) where
+  each : (life : NodeState) → Keeps w (recover_from w life)
   each (Up r disk) = still w
   each (Down disk green) = told_order w w.order [] (beyond w.order green (green_count (recovered disk).held.queue)) (still w)
 
-  by_seat : (o : Option Seat) → Keeps w (option_map_or (λ s. recover_from w s.life) o (quietly w))
-  by_seat None = still w
-  by_seat (Some s) = each s.life
+  by_node : (o : Option Node) → Keeps w (option_map_or (λ s. recover_from w s.life) o (quietly w))
+  by_node None = still w
+  by_node (Some s) = each s.life
 
 one_of : (b : Bool) (w x y : World) → x.order ≡ w.order → y.order ≡ w.order → (if b then x else y).order ≡ w.order
 one_of true w x y e f = e
 one_of false w x y e f = f
 
-taken_order : (w : World) (s : Snapshot) (taken : ℕ) → (with_pieces w s taken).order ≡ w.order
+taken_order : (w : World) (s : TransferState) (taken : ℕ) → (with_pieces w s taken).order ≡ w.order
 taken_order w s taken = one_of (taken == piece_count s.content) w _ _ refl refl
 
-pieces_order : (w : World) (s : Snapshot) (pieces : ℕ) → Keeps w (take_pieces w s pieces)
+pieces_order : (w : World) (s : TransferState) (pieces : ℕ) → Keeps w (take_pieces w s pieces)
 pieces_order w s pieces =
     record { names = taken_order w s (min (piece_count s.content) (s.taken + pieces)) ∙ sym (append-nil w.order); places = refl }
 
@@ -195,13 +195,13 @@ happens_order w (Transfer p joiner pieces) = transferred_order w p joiner pieces
 
 -- ---- runs
 
-stepped_order : (w : World) (e : Event) → Told w (world_step w e).world.order (world_step w e).entry.orders
+stepped_order : (w : World) (e : Event) → TellsOrder w (world_step w e).world.order (world_step w e).entry.orders
 unfolding world_step ended
 stepped_order w e = happens_order w e
 
 -- a step of a run
-pub step_order : (w : World) (s : Step) → record { entry = s.entry; world = s.world } ≡ world_step w s.event → Told w s.world.order s.entry.orders
-step_order w s moved = subst (λ (m : Moved). Told w m.world.order m.entry.orders) (sym moved) (stepped_order w s.event)
+pub step_order : (w : World) (s : Step) → record { entry = s.entry; world = s.world } ≡ world_step w s.event → TellsOrder w s.world.order s.entry.orders
+step_order w s moved = subst (λ (m : Moved). TellsOrder w m.world.order m.entry.orders) (sym moved) (stepped_order w s.event)
 
 pub order_told : (w : World) (steps : List Step) → IsRunFrom w steps → (world_after w steps).order ≡ w.order ++ order_of steps
 order_told w [] run = sym (append-nil w.order)

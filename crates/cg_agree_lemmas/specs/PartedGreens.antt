@@ -24,7 +24,7 @@ use Rattle.cg_client.specs.Marks.{is_unmade, marked, mark_red, mark_yellow}
 use Rattle.cg_client.specs.Install.{install}
 use Rattle.cg_construct.specs.Construct.{attempt_set, is_announced}
 use Rattle.cg_construct.specs.No.{no_with}
-use Rattle.cg_step.specs.Step.{on_message, on_transitional, take}
+use Rattle.cg_replica_step.specs.Step.{on_message, on_transitional, after_delivery}
 use Rattle.cg_model.specs.FactsReplica.{is_attempting}
 use Rattle.cg_model.specs.Small.{take_all, take_parting}
 use Rattle.cg_agree_lemmas.specs.HeldAll.{installed_by, install-all}
@@ -168,7 +168,7 @@ module _ (start : List Weighted) (all : List Action) (r : Replica) (own : IsOnes
   part-message from m t (AllGreen greens was resting) = let next = rest-message t.replica.state from m t refl resting in AllGreen (next.greens ∙ greens) was next.resting
 
   part-place : (conf : Configuration Msg) (place : ℕ) (t : Turn) → PartedGreens r t.replica → PartedGreens r (take_all (delivery_at conf place) t).replica
-  unfolding delivery_at take
+  unfolding delivery_at after_delivery
   part-place conf place t so = at (at_place conf.ordered place) where
     at : (o : Option (Sent Msg)) → PartedGreens r (take_all (option_map_or (λ s. Message place s.from s.message ∷ []) o []) t).replica
     at None = so
@@ -177,10 +177,10 @@ module _ (start : List Weighted) (all : List Action) (r : Replica) (own : IsOnes
   part-places : (conf : Configuration Msg) (places : List ℕ) (t : Turn) → PartedGreens r t.replica → PartedGreens r (take_all (deliveries_at conf places) t).replica
   part-places conf [] t so = so
   part-places conf (place ∷ places) t so =
-      subst (λ (u : Turn). PartedGreens r u.replica) (sym (fold-append take t (delivery_at conf place) (deliveries_at conf places)))
+      subst (λ (u : Turn). PartedGreens r u.replica) (sym (fold-append after_delivery t (delivery_at conf place) (deliveries_at conf places)))
       (part-places conf places (take_all (delivery_at conf place) t) (part-place conf place t so))
 
   -- What becomes green in a parting.
   pub parting-greens : (g : GroupState Msg) (p : ℕ) (set places : List ℕ) → PartedGreens r (take_parting g p set places (begin r)).replica
-  unfolding take
+  unfolding after_delivery
   parting-greens g p set places = part-places (home g p) places (on_transitional r.state (begin r)) (parted-first r.state r refl)

@@ -13,7 +13,7 @@ use Rattle.cg_client.specs.Replica.{State, RegPrim, TransPrim, ExchangeStates, E
 use Rattle.cg_client.specs.Turn.{Turn, begin, go_to}
 use Rattle.cg_construct.specs.Construct.{attempt_set, is_announced}
 use Rattle.cg_construct.specs.No.{no_with}
-use Rattle.cg_step.specs.Step.{on_message, on_transitional, take}
+use Rattle.cg_replica_step.specs.Step.{on_message, on_transitional, after_delivery}
 use Rattle.cg_model.specs.Talk.{act_in}
 use Rattle.cg_model.specs.FactsReplica.{is_attempting, is_primary}
 use Rattle.cg_model.specs.Small.{take_all, take_parting}
@@ -81,7 +81,7 @@ by-then conf a b e one two = at one two (parted-then a b e (parted-of conf a b o
 
 place-by : (r : Replica) (conf : Configuration Msg) (place : ℕ) (t : Turn) → PartedBy conf r t.replica → is_parted t.replica.state ≡ true →
     (let u = take_all (delivery_at conf place) t in PartedBy conf r u.replica × (is_parted u.replica.state ≡ true))
-unfolding delivery_at take
+unfolding delivery_at after_delivery
 place-by r conf place t so parted = at (at_place conf.ordered place) refl where
   at : (o : Option (Sent Msg)) → at_place conf.ordered place ≡ o →
       (let u = take_all (option_map_or (λ s. Message place s.from s.message ∷ []) o []) t in PartedBy conf r u.replica × (is_parted u.replica.state ≡ true))
@@ -95,12 +95,12 @@ places-by : (r : Replica) (conf : Configuration Msg) (places : List ℕ) (t : Tu
 places-by r conf [] t so parted = so
 places-by r conf (place ∷ places) t so parted =
     let next = place-by r conf place t so parted in
-    subst (λ (u : Turn). PartedBy conf r u.replica) (sym (fold-append take t (delivery_at conf place) (deliveries_at conf places)))
+    subst (λ (u : Turn). PartedBy conf r u.replica) (sym (fold-append after_delivery t (delivery_at conf place) (deliveries_at conf places)))
     (places-by r conf places (take_all (delivery_at conf place) t) next.0 next.1)
 
 -- what a parting makes of a replica
 pub parting-by : (g : GroupState Msg) (p : ℕ) (set places : List ℕ) (r : Replica) → PartedBy (home g p) r (take_parting g p set places (begin r)).replica
-unfolding take
+unfolding after_delivery
 parting-by g p set places r =
     let first = parted-first r.state (begin r) refl in
     places-by r (home g p) places (on_transitional r.state (begin r)) (inl first.0) first.1

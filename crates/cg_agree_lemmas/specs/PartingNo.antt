@@ -20,7 +20,7 @@ use Rattle.cg_client.specs.Turn.{Turn, go_to}
 use Rattle.cg_client.specs.Marks.{is_unmade, marked, mark_red, mark_yellow}
 use Rattle.cg_construct.specs.Construct.{attempt_set, is_announced}
 use Rattle.cg_construct.specs.No.{no_with, no_on_cpc}
-use Rattle.cg_step.specs.Step.{on_message, take}
+use Rattle.cg_replica_step.specs.Step.{on_message, after_delivery}
 
 -- ---- states that messages of a parting don't change
 
@@ -81,27 +81,27 @@ past-kept Left past from m t e = absurd (let clash : false ≡ true = past in cc
 
 -- what every message keeps all messages of some places keep
 module _ (P : Replica → Type 0) (C : Configuration Msg) (each : (from : ℕ) (m : Msg) (t : Turn) → P t.replica → P (on_message t.replica.state from m t).replica) where
-  kept-place : (place : ℕ) (t : Turn) → P t.replica → P (fold take t (delivery_at C place)).replica
-  unfolding delivery_at take
+  kept-place : (place : ℕ) (t : Turn) → P t.replica → P (fold after_delivery t (delivery_at C place)).replica
+  unfolding delivery_at after_delivery
   kept-place place t is = at (at_place C.ordered place) where
-    at : (o : Option (Sent Msg)) → P (fold take t (option_map_or (λ s. Message place s.from s.message ∷ []) o [])).replica
+    at : (o : Option (Sent Msg)) → P (fold after_delivery t (option_map_or (λ s. Message place s.from s.message ∷ []) o [])).replica
     at None = is
     at (Some s) = each s.from s.message t is
 
-  pub kept-places : (places : List ℕ) (t : Turn) → P t.replica → P (fold take t (deliveries_at C places)).replica
+  pub kept-places : (places : List ℕ) (t : Turn) → P t.replica → P (fold after_delivery t (deliveries_at C places)).replica
   kept-places [] t is = is
   kept-places (place ∷ places) t is =
-      subst (λ (u : Turn). P u.replica) (sym (fold-append take t (delivery_at C place) (deliveries_at C places)))
-      (kept-places places (fold take t (delivery_at C place)) (kept-place place t is))
+      subst (λ (u : Turn). P u.replica) (sym (fold-append after_delivery t (delivery_at C place) (deliveries_at C places)))
+      (kept-places places (fold after_delivery t (delivery_at C place)) (kept-place place t is))
 
-pub alone-places : (C : Configuration Msg) (places : List ℕ) (t : Turn) → t.replica.state ≡ NonPrim false → (fold take t (deliveries_at C places)).replica.state ≡ NonPrim false
+pub alone-places : (C : Configuration Msg) (places : List ℕ) (t : Turn) → t.replica.state ≡ NonPrim false → (fold after_delivery t (deliveries_at C places)).replica.state ≡ NonPrim false
 alone-places C places t is = kept-places (λ r. r.state ≡ NonPrim false) C
     (λ from m t e. subst (λ x. (on_message x from m t).replica.state ≡ NonPrim false) (sym e) (alone-kept from m t e)) places t is
 
-pub left-places : (C : Configuration Msg) (places : List ℕ) (t : Turn) → t.replica.state ≡ Left → (fold take t (deliveries_at C places)).replica.state ≡ Left
+pub left-places : (C : Configuration Msg) (places : List ℕ) (t : Turn) → t.replica.state ≡ Left → (fold after_delivery t (deliveries_at C places)).replica.state ≡ Left
 left-places C places t is = kept-places (λ r. r.state ≡ Left) C (λ from m t e. subst (λ x. (on_message x from m t).replica.state ≡ Left) (sym e) (left-kept from m t e)) places t is
 
-pub past-places : (C : Configuration Msg) (places : List ℕ) (t : Turn) → is_past t.replica.state ≡ true → is_past (fold take t (deliveries_at C places)).replica.state ≡ true
+pub past-places : (C : Configuration Msg) (places : List ℕ) (t : Turn) → is_past t.replica.state ≡ true → is_past (fold after_delivery t (deliveries_at C places)).replica.state ≡ true
 past-places C places t is = kept-places (λ r. is_past r.state ≡ true) C (λ from m t e. past-kept t.replica.state e from m t refl) places t is
 
 -- ---- No
@@ -185,31 +185,31 @@ announcement-heard conf set heard s q t is (inr w) =
 
 -- at some of the places stands an announcement of that member
 module _ (C : Configuration Msg) (conf : ℕ) (set : List ℕ) where
-  place-waits : (heard : List ℕ) (place : ℕ) (t : Turn) → PastOrWaits conf set heard t.replica → PastOrWaits conf set heard (fold take t (delivery_at C place)).replica
-  unfolding delivery_at take
+  place-waits : (heard : List ℕ) (place : ℕ) (t : Turn) → PastOrWaits conf set heard t.replica → PastOrWaits conf set heard (fold after_delivery t (delivery_at C place)).replica
+  unfolding delivery_at after_delivery
   place-waits heard place t is = at (at_place C.ordered place) where
-    at : (o : Option (Sent Msg)) → PastOrWaits conf set heard (fold take t (option_map_or (λ s. Message place s.from s.message ∷ []) o [])).replica
+    at : (o : Option (Sent Msg)) → PastOrWaits conf set heard (fold after_delivery t (option_map_or (λ s. Message place s.from s.message ∷ []) o [])).replica
     at None = is
     at (Some s) = waits-message conf set heard s.from s.message t is
 
   place-heard : (heard : List ℕ) (place q : ℕ) (s : Sent Msg) (t : Turn) → at_place C.ordered place ≡ Some s → IsAnnouncement conf set s q → PastOrWaits conf set heard t.replica →
-      PastOrWaits conf set (with_member heard q) (fold take t (delivery_at C place)).replica
-  unfolding delivery_at take
+      PastOrWaits conf set (with_member heard q) (fold after_delivery t (delivery_at C place)).replica
+  unfolding delivery_at after_delivery
   place-heard heard place q s t e is w =
-      subst (λ (o : Option (Sent Msg)). PastOrWaits conf set (with_member heard q) (fold take t (option_map_or (λ s. Message place s.from s.message ∷ []) o [])).replica) (sym e)
+      subst (λ (o : Option (Sent Msg)). PastOrWaits conf set (with_member heard q) (fold after_delivery t (option_map_or (λ s. Message place s.from s.message ∷ []) o [])).replica) (sym e)
       (announcement-heard conf set heard s q t is w)
 
-  pub places-wait : (heard : List ℕ) (places : List ℕ) (t : Turn) → PastOrWaits conf set heard t.replica → PastOrWaits conf set heard (fold take t (deliveries_at C places)).replica
+  pub places-wait : (heard : List ℕ) (places : List ℕ) (t : Turn) → PastOrWaits conf set heard t.replica → PastOrWaits conf set heard (fold after_delivery t (deliveries_at C places)).replica
   places-wait heard [] t is = is
   places-wait heard (place ∷ places) t is =
-      subst (λ (u : Turn). PastOrWaits conf set heard u.replica) (sym (fold-append take t (delivery_at C place) (deliveries_at C places)))
-      (places-wait heard places (fold take t (delivery_at C place)) (place-waits heard place t is))
+      subst (λ (u : Turn). PastOrWaits conf set heard u.replica) (sym (fold-append after_delivery t (delivery_at C place) (deliveries_at C places)))
+      (places-wait heard places (fold after_delivery t (delivery_at C place)) (place-waits heard place t is))
 
   pub places-heard : (heard : List ℕ) (places : List ℕ) (place q : ℕ) (s : Sent Msg) (t : Turn) → has places place ≡ true → at_place C.ordered place ≡ Some s → IsAnnouncement conf set s q →
-      PastOrWaits conf set heard t.replica → PastOrWaits conf set (with_member heard q) (fold take t (deliveries_at C places)).replica
+      PastOrWaits conf set heard t.replica → PastOrWaits conf set (with_member heard q) (fold after_delivery t (deliveries_at C places)).replica
   places-heard heard [] place q s t there e is w = absurd (let clash : false ≡ true = there in cc)
   places-heard heard (x ∷ places) place q s t there e is w =
-      subst (λ (u : Turn). PastOrWaits conf set (with_member heard q) u.replica) (sym (fold-append take t (delivery_at C x) (deliveries_at C places))) (⊎_elim
-      (λ first. places-wait (with_member heard q) places (fold take t (delivery_at C x)) (place-heard heard x q s t (ap (at_place C.ordered) (eqb-true x place first) ∙ e) is w))
-      (λ later. places-heard heard places place q s (fold take t (delivery_at C x)) later e is (place-waits heard x t w))
+      subst (λ (u : Turn). PastOrWaits conf set (with_member heard q) u.replica) (sym (fold-append after_delivery t (delivery_at C x) (deliveries_at C places))) (⊎_elim
+      (λ first. places-wait (with_member heard q) places (fold after_delivery t (delivery_at C x)) (place-heard heard x q s t (ap (at_place C.ordered) (eqb-true x place first) ∙ e) is w))
+      (λ later. places-heard heard places place q s (fold after_delivery t (delivery_at C x)) later e is (place-waits heard x t w))
       (or_cases (x == place) (has places place) there))

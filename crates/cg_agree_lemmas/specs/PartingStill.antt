@@ -12,7 +12,7 @@ use Rattle.cg_group.specs.State.{GroupState, home}
 use Rattle.cg_client.specs.Replica.{State, RegPrim, TransPrim, ExchangeStates, ExchangeActions, Construct, No, Un, NonPrim, Left, Replica}
 use Rattle.cg_client.specs.Turn.{Turn, begin}
 use Rattle.cg_client.specs.Marks.{is_unmade, marked, mark_red}
-use Rattle.cg_step.specs.Step.{on_message, on_transitional, take}
+use Rattle.cg_replica_step.specs.Step.{on_message, on_transitional, after_delivery}
 use Rattle.cg_model.specs.FactsReplica.{is_primary, is_attempting}
 use Rattle.cg_model.specs.Small.{take_parting}
 use Rattle.cg_agree_lemmas.specs.PartingNo.{kept-places}
@@ -82,6 +82,6 @@ first-apart (No k heard) r e beside none = absurd (let clash : true ≡ false = 
 first-apart Un r e beside none = absurd (let clash : true ≡ false = none in cc)
 
 pub parting-apart : (g : GroupState Msg) (p : ℕ) (set places : List ℕ) (r : Replica) → is_primary r.state ≡ false → is_attempting r.state ≡ false → StaysApart r (take_parting g p set places (begin r)).replica
-unfolding take
+unfolding after_delivery
 parting-apart g p set places r beside none =
     kept-places (StaysApart r) (home g p) (λ from m t is. message-apart r t.replica.state from m t refl is) places (on_transitional r.state (begin r)) (first-apart r.state r refl beside none)

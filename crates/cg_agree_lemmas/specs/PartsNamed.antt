@@ -13,7 +13,7 @@ use Rattle.cg_action.specs.declared.action.Action.{Action}
 use Rattle.cg_queue.specs.Queue.{QueueView, names_of, action_of}
 use Rattle.cg_records.specs.declared.yellow.Yellow.{Yellow}
 use Rattle.cg_knowledge.specs.declared.summary.Summary.{Summary}
-use Rattle.cg_knowledge.specs.Members.{most_updated, lowest}
+use Rattle.cg_knowledge.specs.Summaries.{most_updated, lowest}
 use Rattle.cg_knowledge.specs.Yellow.{yellow_group, yellow_of as yellow_in, common_yellow}
 use Rattle.cg_plan.specs.Plan.{creators}
 use Rattle.cg_client.specs.Replica.{Held, yellow_of}

@@ -9,7 +9,7 @@ use Rattle.cg_db.specs.Apply.{apply}
 use Rattle.cg_queue.specs.Queue.{Marking, Marks, Gaps, green_count, marked_red, marked_yellow}
 use Rattle.cg_queue.specs.declared.mark.Mark.TheVariants.{Placed, Known}
 use Rattle.cg_knowledge.specs.declared.summary.Summary.{Summary}
-use Rattle.cg_knowledge.specs.Members.{gone, senders}
+use Rattle.cg_knowledge.specs.Summaries.{gone, senders}
 use Rattle.cg_knowledge.specs.Verdict.{decides}
 use Rattle.cg_plan.specs.declared.parts.Part.{Part}
 use Rattle.cg_plan.specs.Plan.{plan_of}
@@ -26,12 +26,12 @@ use Rattle.cg_client.specs.Summary.{summary_of, redden, forget_own, own_to_red, 
 use Rattle.cg_client.specs.Install.{valid_yellow, with_prim, prim_after, yellow_green, reds_green, install}
 use Rattle.cg_prim.specs.TransPrim.{end_prim, trans_prim_on_regular}
 use Rattle.cg_exchange.specs.ExchangeStates.{is_usable, with_heard, exchange_states_on_summary}
-use Rattle.cg_exchange.specs.ExchangeActions.{messages_of, send_part, progress, go_on, is_next, mark_item, take_item, exchange_actions_on_item}
+use Rattle.cg_exchange.specs.ExchangeActions.{messages_in_part, send_part, progress, go_on, is_next, mark_item, take_item, exchange_actions_on_item}
 use Rattle.cg_exchange.specs.PlanEnd.{take_over, begin_attempt, attempt, decide, end_plan}
 use Rattle.cg_construct.specs.Construct.{attempt_set, is_announced, construct_with, construct_on_cpc}
 use Rattle.cg_construct.specs.No.{no_with, no_on_cpc, no_record, no_on_regular}
 use Rattle.cg_construct.specs.Un.{un_on_action}
-use Rattle.cg_step.specs.Step.{on_message, on_transitional, on_regular, take}
+use Rattle.cg_replica_step.specs.Step.{on_message, on_transitional, on_regular, after_delivery}
 use Rattle.cg_agree_lemmas.specs.Parts.{IsPart, part-none, part-both, part-by_replica, part-choice, part-fold, part-changed, part-known, part-green, part-made, part-sent, part-replies, part-own}
 
 -- ---- marks
@@ -173,7 +173,7 @@ part-un_on_action a =
 pub part-send_part : (o : Option Part) → IsPart (λ t. send_part t o)
 unfolding send_part
 part-send_part None = part-none
-part-send_part (Some part) = part-by_replica (λ r t. record t { sent = t.sent ++ messages_of r.held.queue part }) (λ r. part-sent (messages_of r.held.queue part))
+part-send_part (Some part) = part-by_replica (λ r t. record t { sent = t.sent ++ messages_in_part r.held.queue part }) (λ r. part-sent (messages_in_part r.held.queue part))
 
 pub part-empty_buffer : IsPart empty_buffer
 part-empty_buffer = part-held (λ h. record h { buffered = [] })
@@ -310,14 +310,14 @@ part-on_regular (NonPrim regular) conf set = part-enter_exchange conf set
 part-on_regular Left conf set = part-none
 
 -- a delivery is a part of a turn
-pub part-take : (d : Delivery Msg) → IsPart (λ t. take t d)
-unfolding take
+pub part-take : (d : Delivery Msg) → IsPart (λ t. after_delivery t d)
+unfolding after_delivery
 part-take (Message place from m) = part-by_replica (λ r. on_message r.state from m) (λ r. part-on_message r.state from m)
 part-take (TransitionalIn conf set) = part-by_replica (λ r. on_transitional r.state) (λ r. part-on_transitional r.state)
 part-take (RegularIn conf set) = part-by_replica (λ r. on_regular r.state conf set) (λ r. part-on_regular r.state conf set)
 
-pub part-take_all : (list : List (Delivery Msg)) → IsPart (λ t. fold take t list)
-part-take_all list = part-fold take list part-take
+pub part-take_all : (list : List (Delivery Msg)) → IsPart (λ t. fold after_delivery t list)
+part-take_all list = part-fold after_delivery list part-take
 
 -- ---- requests
 

@@ -7,7 +7,7 @@ use Rattle.cg_action.specs.declared.action.Action.{Action}
 use Rattle.cg_base.specs.Sets.{has}
 use Rattle.cg_base.specs.Choice.{Either}
 use Rattle.cg_knowledge.specs.declared.summary.Summary.{Summary}
-use Rattle.cg_knowledge.specs.Members.{senders, gone}
+use Rattle.cg_knowledge.specs.Summaries.{senders, gone}
 use Rattle.cg_knowledge.specs.Verdict.{decides}
 use Rattle.cg_wire.specs.declared.message.Msg.{Msg}
 use Rattle.cg_wire.specs.declared.message.Msg.TheVariants.{Action as ActionMsg, State as StateMsg, GreenItem, RedItem, Cpc}

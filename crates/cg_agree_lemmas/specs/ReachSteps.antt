@@ -16,7 +16,7 @@ use Rattle.cg_group.specs.PlaceLaws.{at_place-append, at_place-past}
 use Rattle.cg_client.specs.Turn.{Turn, begin}
 use Rattle.cg_client.specs.Requests.{settle}
 use Rattle.cg_commit.specs.Crash.{recovered}
-use Rattle.cg_model.specs.World.{Life, Up, Down as DownLife, World, seat_of, replica_of}
+use Rattle.cg_model.specs.World.{NodeState, Up, Down as DownLife, World, node_of, replica_of}
 use Rattle.cg_model.specs.Step.{begin_replica}
 use Rattle.cg_model.specs.Chronicle.{Chronicle}
 use Rattle.cg_model.specs.Fronts.{Front}
@@ -122,7 +122,7 @@ module _ (conf : ℕ) where
 
   -- ---- in a chronicle
 
-  fixed-turning_as : (c : Chronicle) (p : ℕ) (part : Turn → Turn) (life : Life) → Fixed conf c.world.group (turning_as c p part life).world.group
+  fixed-turning_as : (c : Chronicle) (p : ℕ) (part : Turn → Turn) (life : NodeState) → Fixed conf c.world.group (turning_as c p part life).world.group
   fixed-turning_as c p part (Up r disk) = fixed-sent p (part (begin r)).sent c.world.group
   fixed-turning_as c p part (DownLife disk green) = fixed-refl c.world.group
 
@@ -132,21 +132,21 @@ module _ (conf : ℕ) where
   at-some (Some x) change c each = each x
 
   fixed-turning : (c : Chronicle) (p : ℕ) (part : Turn → Turn) → Fixed conf c.world.group (turning c p part).world.group
-  fixed-turning c p part = at-some (seat_of c.world p) (λ s. turning_as c p part s.life) c (λ s. fixed-turning_as c p part s.life)
+  fixed-turning c p part = at-some (node_of c.world p) (λ s. turning_as c p part s.life) c (λ s. fixed-turning_as c p part s.life)
 
   -- a turn behind a change of the group
   fixed-both : (g : GroupState Msg) (c : Chronicle) (p : ℕ) (part : Turn → Turn) → Fixed conf g c.world.group → Fixed conf g (turning c p part).world.group
   fixed-both g c p part first = fixed-then g c.world.group (turning c p part).world.group first (fixed-turning c p part)
 
-  fixed-commit_as : (c : Chronicle) (p : ℕ) (life : Life) → Fixed conf c.world.group (commit_as c p life).world.group
+  fixed-commit_as : (c : Chronicle) (p : ℕ) (life : NodeState) → Fixed conf c.world.group (commit_as c p life).world.group
   fixed-commit_as c p (Up r disk) = fixed-refl c.world.group
   fixed-commit_as c p (DownLife disk green) = fixed-refl c.world.group
 
-  fixed-crash_as : (c : Chronicle) (p : ℕ) (life : Life) → Fixed conf c.world.group (crash_as c p life).world.group
+  fixed-crash_as : (c : Chronicle) (p : ℕ) (life : NodeState) → Fixed conf c.world.group (crash_as c p life).world.group
   fixed-crash_as c p (Up r disk) = fixed-down c.world.group p
   fixed-crash_as c p (DownLife disk green) = fixed-refl c.world.group
 
-  fixed-recover_as : (c : Chronicle) (life : Life) → Fixed conf c.world.group (recover_as c life).world.group
+  fixed-recover_as : (c : Chronicle) (life : NodeState) → Fixed conf c.world.group (recover_as c life).world.group
   fixed-recover_as c (Up r disk) = fixed-refl c.world.group
   fixed-recover_as c (DownLife disk green) = fixed-up c.world.group (recovered disk).held.id
 
@@ -273,9 +273,9 @@ module _ (conf : ℕ) where
       fixed-goes_on c _ (fixed-both g (leaving c p set own) p (take_parting g p set places) (fixed-parted g p set own))
   goes_on-kept c (Asks p kind) sound inside m some = fixed-goes_on c _ (fixed-turning c p (take_request kind))
   goes_on-kept c (Settles p) sound inside m some = fixed-goes_on c _ (fixed-turning c p settle)
-  goes_on-kept c (Commits p) sound inside m some = fixed-goes_on c _ (at-some (seat_of c.world p) (λ s. commit_as c p s.life) c (λ s. fixed-commit_as c p s.life))
-  goes_on-kept c (Crashes p) sound inside m some = fixed-goes_on c _ (at-some (seat_of c.world p) (λ s. crash_as c p s.life) c (λ s. fixed-crash_as c p s.life))
-  goes_on-kept c (Recovers p) sound inside m some = fixed-goes_on c _ (at-some (seat_of c.world p) (λ s. recover_as c s.life) c (λ s. fixed-recover_as c s.life))
+  goes_on-kept c (Commits p) sound inside m some = fixed-goes_on c _ (at-some (node_of c.world p) (λ s. commit_as c p s.life) c (λ s. fixed-commit_as c p s.life))
+  goes_on-kept c (Crashes p) sound inside m some = fixed-goes_on c _ (at-some (node_of c.world p) (λ s. crash_as c p s.life) c (λ s. fixed-crash_as c p s.life))
+  goes_on-kept c (Recovers p) sound inside m some = fixed-goes_on c _ (at-some (node_of c.world p) (λ s. recover_as c s.life) c (λ s. fixed-recover_as c s.life))
   goes_on-kept c (Copies p joiner) sound inside m some = fixed-goes_on c _ (at-some (replica_of c.world p) (copy_as c p joiner) c (λ r. fixed-refl c.world.group))
   goes_on-kept c (Joins joiner) sound inside m some =
       fixed-goes_on c _ (at-some (snapshot_of c.world joiner) (λ s. join_with c joiner s.content) c (λ s. fixed-up c.world.group joiner))

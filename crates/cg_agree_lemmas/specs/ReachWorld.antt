@@ -8,7 +8,7 @@ use Rattle.cg_base.specs.Sets.{has}
 use Rattle.cg_client.specs.Turn.{Turn, begin}
 use Rattle.cg_client.specs.Requests.{settle}
 use Rattle.cg_group.specs.PlaceLaws.{at_place-append}
-use Rattle.cg_model.specs.World.{Life, Up, Down, seat_of, replica_of}
+use Rattle.cg_model.specs.World.{NodeState, Up, Down, node_of, replica_of}
 use Rattle.cg_model.specs.Chronicle.{Attempt, Chronicle}
 use Rattle.cg_model.specs.Fronts.{Front, When, IsSomeWith}
 use Rattle.cg_model.specs.Looks.{attempt_of, attempt_at, no_attempt, top_of, installation, ordered_in, snapshot_of, received_by_all}
@@ -68,7 +68,7 @@ pub record MoreLevels (olds news : List ℕ) : Type 0 where
 same-levels : (levels : List ℕ) → MoreLevels levels levels
 same-levels levels = record { more = []; all = sym (append-nil levels) }
 
-more-turning_as : (c : Chronicle) (p : ℕ) (part : Turn → Turn) (life : Life) → MoreLevels c.levels (turning_as c p part life).levels
+more-turning_as : (c : Chronicle) (p : ℕ) (part : Turn → Turn) (life : NodeState) → MoreLevels c.levels (turning_as c p part life).levels
 more-turning_as c p part (Up r disk) =
     let t = part (begin r) in
     cond_both (is_installation r.state t.replica.state) (c.levels ++ opened_by c t.replica.held.vulnerable) c.levels (MoreLevels c.levels)
@@ -80,17 +80,17 @@ at-some None change c each = same-levels c.levels
 at-some (Some x) change c each = each x
 
 more-turning : (c : Chronicle) (p : ℕ) (part : Turn → Turn) → MoreLevels c.levels (turning c p part).levels
-more-turning c p part = at-some (seat_of c.world p) (λ s. turning_as c p part s.life) c (λ s. more-turning_as c p part s.life)
+more-turning c p part = at-some (node_of c.world p) (λ s. turning_as c p part s.life) c (λ s. more-turning_as c p part s.life)
 
-same-commit_as : (c : Chronicle) (p : ℕ) (life : Life) → MoreLevels c.levels (commit_as c p life).levels
+same-commit_as : (c : Chronicle) (p : ℕ) (life : NodeState) → MoreLevels c.levels (commit_as c p life).levels
 same-commit_as c p (Up r disk) = same-levels c.levels
 same-commit_as c p (Down disk green) = same-levels c.levels
 
-same-crash_as : (c : Chronicle) (p : ℕ) (life : Life) → MoreLevels c.levels (crash_as c p life).levels
+same-crash_as : (c : Chronicle) (p : ℕ) (life : NodeState) → MoreLevels c.levels (crash_as c p life).levels
 same-crash_as c p (Up r disk) = same-levels c.levels
 same-crash_as c p (Down disk green) = same-levels c.levels
 
-same-recover_as : (c : Chronicle) (life : Life) → MoreLevels c.levels (recover_as c life).levels
+same-recover_as : (c : Chronicle) (life : NodeState) → MoreLevels c.levels (recover_as c life).levels
 same-recover_as c (Up r disk) = same-levels c.levels
 same-recover_as c (Down disk green) = same-levels c.levels
 
@@ -105,9 +105,9 @@ levels-kept c (Hands p) = more-turning (handed_next c p) p (take_next c.world.gr
 levels-kept c (Leaves p set own places) = more-turning (leaving c p set own) p (take_parting c.world.group p set places)
 levels-kept c (Asks p kind) = more-turning c p (take_request kind)
 levels-kept c (Settles p) = more-turning c p settle
-levels-kept c (Commits p) = at-some (seat_of c.world p) (λ s. commit_as c p s.life) c (λ s. same-commit_as c p s.life)
-levels-kept c (Crashes p) = at-some (seat_of c.world p) (λ s. crash_as c p s.life) c (λ s. same-crash_as c p s.life)
-levels-kept c (Recovers p) = at-some (seat_of c.world p) (λ s. recover_as c s.life) c (λ s. same-recover_as c s.life)
+levels-kept c (Commits p) = at-some (node_of c.world p) (λ s. commit_as c p s.life) c (λ s. same-commit_as c p s.life)
+levels-kept c (Crashes p) = at-some (node_of c.world p) (λ s. crash_as c p s.life) c (λ s. same-crash_as c p s.life)
+levels-kept c (Recovers p) = at-some (node_of c.world p) (λ s. recover_as c s.life) c (λ s. same-recover_as c s.life)
 levels-kept c (Copies p joiner) = at-some (replica_of c.world p) (copy_as c p joiner) c (λ r. same-levels c.levels)
 levels-kept c (Joins joiner) = at-some (snapshot_of c.world joiner) (λ s. join_with c joiner s.content) c (λ s. same-levels c.levels)
 

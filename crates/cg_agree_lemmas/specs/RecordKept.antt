@@ -8,7 +8,7 @@ use Rattle.cg_action.specs.declared.action.Action.{Action}
 use Rattle.cg_records.specs.declared.primary.Primary.{Primary}
 use Rattle.cg_records.specs.declared.vulnerable.Vulnerable.{Vulnerable}
 use Rattle.cg_knowledge.specs.declared.summary.Summary.{Summary}
-use Rattle.cg_knowledge.specs.Members.{remaining}
+use Rattle.cg_knowledge.specs.Summaries.{remaining}
 use Rattle.cg_knowledge.specs.Primary.{newest_index, known_primary}
 use Rattle.cg_knowledge.specs.Vulnerable.{all_bits, decided}
 use Rattle.cg_group.specs.State.{is_regular, configuration}
@@ -17,9 +17,9 @@ use Rattle.cg_client.specs.Replica.{Held, State, RegPrim, TransPrim, ExchangeSta
 use Rattle.cg_client.specs.Turn.{Turn, begin}
 use Rattle.cg_client.specs.Install.{prim_after}
 use Rattle.cg_client.specs.Requests.{settle}
-use Rattle.cg_stored.specs.Stored.{whiten, recover}
+use Rattle.cg_disk_records.specs.Stored.{whiten, recovery_turn}
 use Rattle.cg_commit.specs.Crash.{Disk}
-use Rattle.cg_model.specs.World.{Up, Seat, seat_of, replica_of, running}
+use Rattle.cg_model.specs.World.{Up, Node, node_of, replica_of, running}
 use Rattle.cg_model.specs.Chronicle.{Told, Attempt, Chronicle}
 use Rattle.cg_model.specs.Looks.{greens_of, attempt_of}
 use Rattle.cg_model.specs.Fronts.{IsSomeWith}
@@ -73,11 +73,11 @@ recorded-values : (c : Chronicle) (old new : Held) → SameValues old new → Ha
 recorded-values c old new same is = recorded-as c old new same.id (ap (λ (x : Primary). x.index) same.prim) same.vulnerable is
 
 recorded-closed : (d : Chronicle) → IsClosed (Recorded d)
-unfolding whiten recover
+unfolding whiten recovery_turn
 recorded-closed d = record {
   whitened = λ h all is. is;
   stored = λ h all is. is;
-  recovers = λ h all is. (let t = begin (record { held = h; state = NonPrim false }) in recorded-values d h (recover h).replica.held (even-own_to_red t).values is);
+  recovers = λ h all is. (let t = begin (record { held = h; state = NonPrim false }) in recorded-values d h (recovery_turn h).replica.held (even-own_to_red t).values is);
   joins = λ p h all is. tt;
 }
 
@@ -217,24 +217,24 @@ record-attempted c d p conf heard greens old new i now end done =
 
 -- ---- each small step
 
--- the turn of a step, for a replica in its seat
-pub turn-is : (c : Chronicle) (p : ℕ) (part : Turn → Turn) (r : Replica) (disk : Disk) → seat_of c.world p ≡ Some (record { id = p; life = Up r disk }) →
+-- the turn of a step, for a replica in its node
+pub turn-is : (c : Chronicle) (p : ℕ) (part : Turn → Turn) (r : Replica) (disk : Disk) → node_of c.world p ≡ Some (record { id = p; life = Up r disk }) →
     turning c p part ≡ after_turn c p r disk (part (begin r))
-turn-is c p part r disk seat = ap (λ (o : Option Seat). option_map_or (λ s. turning_as c p part s.life) o c) seat
+turn-is c p part r disk node = ap (λ (o : Option Node). option_map_or (λ s. turning_as c p part s.life) o c) node
 
-pub same-replica : (c : Chronicle) (p : ℕ) (r q : Replica) (disk : Disk) → seat_of c.world p ≡ Some (record { id = p; life = Up r disk }) → replica_of c.world p ≡ Some q → r ≡ q
-same-replica c p r q disk seat e =
-    let up : Some r ≡ Some q = sym (ap (λ (o : Option Seat). option_and_then (λ s. running s.life) o) seat) ∙ e in
+pub same-replica : (c : Chronicle) (p : ℕ) (r q : Replica) (disk : Disk) → node_of c.world p ≡ Some (record { id = p; life = Up r disk }) → replica_of c.world p ≡ Some q → r ≡ q
+same-replica c p r q disk node e =
+    let up : Some r ≡ Some q = sym (ap (λ (o : Option Node). option_and_then (λ s. running s.life) o) node) ∙ e in
     ap (λ (o : Option Replica). option_map_or (λ x. x) o r) up
 
-record-before : (c : Chronicle) (p : ℕ) (r : Replica) (disk : Disk) → Invariant c → seat_of c.world p ≡ Some (record { id = p; life = Up r disk }) → HasRecord c r.held.id r.held.prim.index r.held.vulnerable
-record-before c p r disk i seat = held-known (Recorded c) c p r (ap (λ (o : Option Seat). option_and_then (λ s. running s.life) o) seat) i.attempt.record_of_attempt
+record-before : (c : Chronicle) (p : ℕ) (r : Replica) (disk : Disk) → Invariant c → node_of c.world p ≡ Some (record { id = p; life = Up r disk }) → HasRecord c r.held.id r.held.prim.index r.held.vulnerable
+record-before c p r disk i node = held-known (Recorded c) c p r (ap (λ (o : Option Node). option_and_then (λ s. running s.life) o) node) i.attempt.record_of_attempt
 
 pub record-handed : (c d : Chronicle) (p : ℕ) (i : Invariant c) (n : HandsNow c p) (greens : List Action) → Grow c.attempts d.attempts →
     d.attempts ≡ attempts_behind c.attempts p greens n.replica (new c p i n) → HasRecord d (new c p i n).held.id (new c p i n).held.prim.index (new c p i n).held.vulnerable
 record-handed c d p i n greens grow now = of_kind (hand-turned c p i n) where
   before : HasRecord c n.replica.held.id n.replica.held.prim.index n.replica.held.vulnerable
-  before = record-before c p n.replica n.disk i n.seat
+  before = record-before c p n.replica n.disk i n.node
 
   of_kind : Turned n.replica (new c p i n) n.next.message → HasRecord d (new c p i n).held.id (new c p i n).held.prim.index (new c p i n).held.vulnerable
   of_kind (Quiet quiet) = record-quiet c d n.replica (new c p i n) grow quiet before
@@ -258,32 +258,32 @@ enters-between c p r e may =
 pub hands-attempts : (c : Chronicle) (p : ℕ) (i : Invariant c) (n : HandsNow c p) →
     (small_step c (Hands p)).attempts ≡ attempts_behind c.attempts p (greens_of c p ++ newly_green n.replica (new c p i n)) n.replica (new c p i n)
 unfolding small_step
-hands-attempts c p i n = ap (λ (x : Chronicle). x.attempts) (turn-is (handed_next c p) p (take_next c.world.group p) n.replica n.disk n.seat)
+hands-attempts c p i n = ap (λ (x : Chronicle). x.attempts) (turn-is (handed_next c p) p (take_next c.world.group p) n.replica n.disk n.node)
 
 pub record-kept : (c : Chronicle) (s : Small) → Invariant c → may_make c s ≡ true → RecordOfAttempt (small_step c s)
 record-kept c s i may =
     let d = small_step c s in
     let grow = attempts-grow c s in
-    cores-kept (Recorded d) c s (ready-of c i.net.seated i.replica.disk_behind) may (recorded-closed d) (step s may)
+    cores-kept (Recorded d) c s (ready-of c i.net.hosted i.replica.disk_behind) may (recorded-closed d) (step s may)
     (cores-weaker (Recorded c) (Recorded d) c (λ h all is. recorded-later c d h.id h.prim.index h.prim.index h.vulnerable grow (omega arith) is) i.attempt.record_of_attempt)
   where
     step : (s : Small) → may_make c s ≡ true → StepKeeps c s (Recorded (small_step c s))
     step (Starts set) may = λ p. tt
     step (Makes set) may = tt
-    step (Enters p) may = λ r disk seat. (let g = c.world.group in let come = newest-come g r (enters-between c p r (ap (λ (o : Option Seat). option_and_then (λ s. running s.life) o) seat) may) in
-        record-come c (small_step c (Enters p)) r (take_newest g (begin r)).replica (newest_conf g) (configuration g (newest_conf g)).members (attempts-grow c (Enters p)) come (record-before c p r disk i seat))
+    step (Enters p) may = λ r disk node. (let g = c.world.group in let come = newest-come g r (enters-between c p r (ap (λ (o : Option Node). option_and_then (λ s. running s.life) o) node) may) in
+        record-come c (small_step c (Enters p)) r (take_newest g (begin r)).replica (newest_conf g) (configuration g (newest_conf g)).members (attempts-grow c (Enters p)) come (record-before c p r disk i node))
     step (Orders p) may = tt
     step (Receives p place) may = tt
-    step (Hands p) may = λ r disk seat. (let n = hands-now c p i may in
+    step (Hands p) may = λ r disk node. (let n = hands-now c p i may in
         subst (λ (r : Replica). (let new = (take_next c.world.group p (begin r)).replica in HasRecord (small_step c (Hands p)) new.held.id new.held.prim.index new.held.vulnerable))
-        (sym (same-replica c p r n.replica disk seat (running-now c p i n)))
+        (sym (same-replica c p r n.replica disk node (running-now c p i n)))
         (record-handed c (small_step c (Hands p)) p i n (greens_of c p ++ newly_green n.replica (new c p i n)) (attempts-grow c (Hands p)) (hands-attempts c p i n)))
-    step (Leaves p set own places) may = λ r disk seat.
-        record-parted c (small_step c (Leaves p set own places)) r (take_parting c.world.group p set places (begin r)).replica (attempts-grow c (Leaves p set own places)) (parting-turned c.world.group p set places r) (record-before c p r disk i seat)
-    step (Asks p kind) may = λ r disk seat.
-        record-quiet c (small_step c (Asks p kind)) r (take_request kind (begin r)).replica (attempts-grow c (Asks p kind)) (request-quiet kind r) (record-before c p r disk i seat)
-    step (Settles p) may = λ r disk seat.
-        record-quiet c (small_step c (Settles p)) r (settle (begin r)).replica (attempts-grow c (Settles p)) (settle-quiet r) (record-before c p r disk i seat)
+    step (Leaves p set own places) may = λ r disk node.
+        record-parted c (small_step c (Leaves p set own places)) r (take_parting c.world.group p set places (begin r)).replica (attempts-grow c (Leaves p set own places)) (parting-turned c.world.group p set places r) (record-before c p r disk i node)
+    step (Asks p kind) may = λ r disk node.
+        record-quiet c (small_step c (Asks p kind)) r (take_request kind (begin r)).replica (attempts-grow c (Asks p kind)) (request-quiet kind r) (record-before c p r disk i node)
+    step (Settles p) may = λ r disk node.
+        record-quiet c (small_step c (Settles p)) r (settle (begin r)).replica (attempts-grow c (Settles p)) (settle-quiet r) (record-before c p r disk i node)
     step (Commits p) may = tt
     step (Crashes p) may = tt
     step (Recovers p) may = tt

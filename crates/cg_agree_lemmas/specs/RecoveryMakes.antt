@@ -13,7 +13,7 @@ use Rattle.cg_client.specs.Replica.{Held, NonPrim}
 use Rattle.cg_client.specs.Turn.{Turn, begin}
 use Rattle.cg_client.specs.Marks.{marked}
 use Rattle.cg_client.specs.Summary.{redden, forget_own, own_to_red}
-use Rattle.cg_stored.specs.Stored.{recover}
+use Rattle.cg_disk_records.specs.Stored.{recovery_turn}
 use Rattle.cg_commit.specs.Crash.{Disk, recovered}
 use Rattle.cg_commit.specs.Holds.{cut_behind}
 use Rattle.cg_model.specs.Show.{unshown}
@@ -74,7 +74,7 @@ passed P Q t of (a ∷ xs) each = cond_both (t a) (a ∷ filter t xs) (filter t 
 
 pub recovery-makes : (made : List ActionId) (start : List Weighted) (p : ℕ) (disk : Disk) (all : List Action) → IsOneself start disk.content all → disk.content.id ≡ p → IsOwnLast (index_in made p) p disk.content →
     Each (IsOwnNow (recovered disk).held) (unshown made (recovered disk).held)
-unfolding recover
+unfolding recovery_turn
 recovery-makes made start p disk all is mine last =
     let h = disk.content in
     let t = begin (record { held = h; state = NonPrim false }) in

@@ -8,11 +8,11 @@ use Rattle.cg_base.specs.Sets.{has}
 use Rattle.cg_client.specs.Replica.{Held, State, RegPrim, TransPrim, ExchangeStates, ExchangeActions, Construct, No, Un, NonPrim, Left, Replica}
 use Rattle.cg_client.specs.Turn.{Turn, begin}
 use Rattle.cg_client.specs.Requests.{settle}
-use Rattle.cg_stored.specs.Stored.{stored_of, whiten}
+use Rattle.cg_disk_records.specs.Stored.{stored_of, whiten}
 use Rattle.cg_commit.specs.Commit.{commits}
-use Rattle.cg_step.specs.Step.{Input, replica_step}
-use Rattle.cg_commit.specs.Crash.{Disk, Ended, Runs, Crashes as EndsInCrash, at_rest}
-use Rattle.cg_model.specs.World.{Life, Up, Down, Seat, World, running, seat_of, replica_of, set_life}
+use Rattle.cg_replica_step.specs.Step.{Input, replica_step}
+use Rattle.cg_commit.specs.Crash.{Disk, EventEnd, Runs, Crashes as EndsInCrash, at_rest}
+use Rattle.cg_model.specs.World.{NodeState, Up, Down, Node, World, running, node_of, replica_of, set_life}
 use Rattle.cg_model.specs.Chronicle.{Past, Chronicle}
 use Rattle.cg_model.specs.Looks.{past_of, on_disk}
 use Rattle.cg_model.specs.Turns.{Taken, taken, taken_as, taken_by, stands}
@@ -22,7 +22,7 @@ use Rattle.cg_model.specs.Noting.{played}
 use Rattle.cg_model.specs.FactsLists.{IsRising}
 use Rattle.cg_model.specs.FactsReplica.{GoesOn, IsAsOnDisk}
 use Rattle.cg_model.specs.Played.{IsWritten}
-use Rattle.cg_agree_lemmas.specs.ChronicleFacts.{seat_of-set, past_of-turn}
+use Rattle.cg_agree_lemmas.specs.ChronicleFacts.{node_of-set, past_of-turn}
 use Rattle.cg_agree_lemmas.specs.GatherReceipts.{member-same}
 use Rattle.cg_agree_lemmas.specs.Keyed.{found-changed}
 use Rattle.cg_agree_lemmas.specs.EventTurns.{is-up}
@@ -45,56 +45,56 @@ IsOf p (Commits q) = q ≡ p
 IsOf p (Crashes q) = q ≡ p
 IsOf p s = IsOpening p s
 
--- a replica has the same seat and the same greens in two chronicles
+-- a replica has the same node and the same greens in two chronicles
 pub record IsKept (c d : Chronicle) (q : ℕ) : Type 0 where
-  pub seat : seat_of d.world q ≡ seat_of c.world q
+  pub node : node_of d.world q ≡ node_of c.world q
   pub past : past_of d q ≡ past_of c q
 
 kept-then : (c d e : Chronicle) (q : ℕ) → IsKept c d q → IsKept d e q → IsKept c e q
-kept-then c d e q a b = record { seat = b.seat ∙ a.seat; past = b.past ∙ a.past }
+kept-then c d e q a b = record { node = b.node ∙ a.node; past = b.past ∙ a.past }
 
 pub written-kept : (c d : Chronicle) (q : ℕ) → IsKept c d q → IsWritten c q → IsWritten d q
 written-kept c d q kept is = record {
-  up = subst (λ (o : Option Seat). IfSome (option_and_then (λ s. running s.life) o) (λ r. IfSome (option_map (λ s. on_disk s.life) o) (λ disk. GoesOn r.held disk × IsAsOnDisk r.held disk r.state))) (sym kept.seat) is.up;
+  up = subst (λ (o : Option Node). IfSome (option_and_then (λ s. running s.life) o) (λ r. IfSome (option_map (λ s. on_disk s.life) o) (λ disk. GoesOn r.held disk × IsAsOnDisk r.held disk r.state))) (sym kept.node) is.up;
   greens = subst (λ (o : Option Past). option_map_or (λ x. x.greens) o [] ≡ option_map_or (λ x. x.stood) o []) (sym kept.past) is.greens;
 }
 
 module _ (c : Chronicle) (p q : ℕ) (apart : q ≡ p → ⊥) where
-  other-seat : (w : World) (life : Life) → seat_of (set_life w p life) q ≡ seat_of w q
-  other-seat w life =
-      seat_of-set w p life q ∙ cond-false (p == q) (Some (let s : Seat = record { id = p; life = life } in s)) (seat_of w q) (ne_eqb p q (λ e. apart (sym e)))
+  other-node : (w : World) (life : NodeState) → node_of (set_life w p life) q ≡ node_of w q
+  other-node w life =
+      node_of-set w p life q ∙ cond-false (p == q) (Some (let s : Node = record { id = p; life = life } in s)) (node_of w q) (ne_eqb p q (λ e. apart (sym e)))
 
   other-past : (f : Past → Past) → ((x : Past) → (f x).id ≡ x.id) → find (λ x. x.id == q) (changed_past f p c.pasts) ≡ past_of c q
   other-past f keeps = found-changed (λ (x : Past). x.id) f keeps p c.pasts q ∙ cond-false (q == p) (option_map f (past_of c q)) (past_of c q) (ne_eqb q p apart)
 
-  turned-kept : (part : Turn → Turn) (life : Life) → IsKept c (turning_as c p part life) q
-  turned-kept part (Up r disk) = record { seat = other-seat c.world (Up (part (begin r)).replica disk); past = past_of-turn c p r disk (part (begin r)) q ∙ cond-false (q == p) _ (past_of c q) (ne_eqb q p apart) }
-  turned-kept part (Down disk green) = record { seat = refl; past = refl }
+  turned-kept : (part : Turn → Turn) (life : NodeState) → IsKept c (turning_as c p part life) q
+  turned-kept part (Up r disk) = record { node = other-node c.world (Up (part (begin r)).replica disk); past = past_of-turn c p r disk (part (begin r)) q ∙ cond-false (q == p) _ (past_of c q) (ne_eqb q p apart) }
+  turned-kept part (Down disk green) = record { node = refl; past = refl }
 
   pub turning-kept : (part : Turn → Turn) → IsKept c (turning c p part) q
-  turning-kept part = at (seat_of c.world p) where
-    at : (o : Option Seat) → IsKept c (option_map_or (λ s. turning_as c p part s.life) o c) q
-    at None = record { seat = refl; past = refl }
+  turning-kept part = at (node_of c.world p) where
+    at : (o : Option Node) → IsKept c (option_map_or (λ s. turning_as c p part s.life) o c) q
+    at None = record { node = refl; past = refl }
     at (Some s) = turned-kept part s.life
 
   commit-kept : IsKept c (commit c p) q
-  commit-kept = at (seat_of c.world p) where
-    life-kept : (life : Life) → IsKept c (commit_as c p life) q
-    life-kept (Up r disk) = record { seat = other-seat c.world (Up (record r { held = whiten r.held }) (record disk { content = stored_of (whiten r.held) })); past = other-past written (λ x. refl) }
-    life-kept (Down disk green) = record { seat = refl; past = refl }
+  commit-kept = at (node_of c.world p) where
+    life-kept : (life : NodeState) → IsKept c (commit_as c p life) q
+    life-kept (Up r disk) = record { node = other-node c.world (Up (record r { held = whiten r.held }) (record disk { content = stored_of (whiten r.held) })); past = other-past written (λ x. refl) }
+    life-kept (Down disk green) = record { node = refl; past = refl }
 
-    at : (o : Option Seat) → IsKept c (option_map_or (λ s. commit_as c p s.life) o c) q
-    at None = record { seat = refl; past = refl }
+    at : (o : Option Node) → IsKept c (option_map_or (λ s. commit_as c p s.life) o c) q
+    at None = record { node = refl; past = refl }
     at (Some s) = life-kept s.life
 
   crash-kept : IsKept c (crash c p) q
-  crash-kept = at (seat_of c.world p) where
-    life-kept : (life : Life) → IsKept c (crash_as c p life) q
-    life-kept (Up r disk) = record { seat = other-seat c.world (Down (at_rest disk) []); past = other-past struck (λ x. refl) }
-    life-kept (Down disk green) = record { seat = refl; past = refl }
+  crash-kept = at (node_of c.world p) where
+    life-kept : (life : NodeState) → IsKept c (crash_as c p life) q
+    life-kept (Up r disk) = record { node = other-node c.world (Down (at_rest disk) []); past = other-past struck (λ x. refl) }
+    life-kept (Down disk green) = record { node = refl; past = refl }
 
-    at : (o : Option Seat) → IsKept c (option_map_or (λ s. crash_as c p s.life) o c) q
-    at None = record { seat = refl; past = refl }
+    at : (o : Option Node) → IsKept c (option_map_or (λ s. crash_as c p s.life) o c) q
+    at None = record { node = refl; past = refl }
     at (Some s) = life-kept s.life
 
 as-it-was : (c d : Chronicle) (q : ℕ) → IsKept d c q → (x : Chronicle) → IsKept c x q → IsKept d x q
@@ -103,10 +103,10 @@ as-it-was c d q a x b = kept-then d c x q a b
 -- a step of one replica changes nothing of another
 pub others-kept : (c : Chronicle) (s : Small) (p q : ℕ) → IsOf p s → (q ≡ p → ⊥) → IsKept c (small_step c s) q
 unfolding small_step
-others-kept c (Enters x) p q is apart = as-it-was (coming c x) c q (record { seat = refl; past = refl }) _ (turning-kept (coming c x) x q (λ e. apart (e ∙ is)) (take_newest c.world.group))
-others-kept c (Hands x) p q is apart = as-it-was (handed_next c x) c q (record { seat = refl; past = refl }) _ (turning-kept (handed_next c x) x q (λ e. apart (e ∙ is)) (take_next c.world.group x))
+others-kept c (Enters x) p q is apart = as-it-was (coming c x) c q (record { node = refl; past = refl }) _ (turning-kept (coming c x) x q (λ e. apart (e ∙ is)) (take_newest c.world.group))
+others-kept c (Hands x) p q is apart = as-it-was (handed_next c x) c q (record { node = refl; past = refl }) _ (turning-kept (handed_next c x) x q (λ e. apart (e ∙ is)) (take_next c.world.group x))
 others-kept c (Leaves x set own places) p q is apart =
-    as-it-was (leaving c x set own) c q (record { seat = refl; past = refl }) _ (turning-kept (leaving c x set own) x q (λ e. apart (e ∙ is)) (take_parting c.world.group x set places))
+    as-it-was (leaving c x set own) c q (record { node = refl; past = refl }) _ (turning-kept (leaving c x set own) x q (λ e. apart (e ∙ is)) (take_parting c.world.group x set places))
 others-kept c (Asks x kind) p q is apart = turning-kept c x q (λ e. apart (e ∙ is)) (take_request kind)
 others-kept c (Settles x) p q is apart = turning-kept c x q (λ e. apart (e ∙ is)) settle
 others-kept c (Commits x) p q is apart = commit-kept c x q (λ e. apart (e ∙ is))
@@ -120,7 +120,7 @@ others-kept c (Copies x joiner) p q is apart = absurd is
 others-kept c (Joins joiner) p q is apart = absurd is
 
 pub kept-along : (smalls : List Small) (c : Chronicle) (p q : ℕ) → Each (IsOf p) smalls → (q ≡ p → ⊥) → IsKept c (played c smalls) q
-kept-along [] c p q each apart = record { seat = refl; past = refl }
+kept-along [] c p q each apart = record { node = refl; past = refl }
 kept-along (s ∷ smalls) c p q each apart = kept-then c (small_step c s) (played (small_step c s) smalls) q (others-kept c s p q each.0 apart) (kept-along smalls (small_step c s) p q each.1 apart)
 
 -- ---- steps that need nothing
@@ -181,7 +181,7 @@ written-committed c p runs =
     let here = is-up c.world p runs in
     let r = here.replica in
     let d = commit_as c p (Up r here.disk) in
-    let chosen : commit c p ≡ d = ap (λ (o : Option Seat). option_map_or (λ s. commit_as c p s.life) o c) here.seat in
+    let chosen : commit c p ≡ d = ap (λ (o : Option Node). option_map_or (λ s. commit_as c p s.life) o c) here.node in
     subst (λ x. IsWritten x p) (sym chosen) (agrees r here.disk) where
       goes-on : (h : Held) → GoesOn h (stored_of h)
       goes-on h = record {
@@ -215,14 +215,14 @@ written-committed c p runs =
       agrees : (r : Replica) (disk : Disk) → IsWritten (commit_as c p (Up r disk)) p
       agrees r disk =
           let h = whiten r.held in
-          let life : Life = Up (record r { held = h }) (record disk { content = stored_of h }) in
-          let s : Seat = record { id = p; life = life } in
-          let seat : seat_of (set_life c.world p life) p ≡ Some s = seat_of-set c.world p life p ∙ cond-true (p == p) (Some s) (seat_of c.world p) (eq-eqb p p refl) in
+          let life : NodeState = Up (record r { held = h }) (record disk { content = stored_of h }) in
+          let s : Node = record { id = p; life = life } in
+          let node : node_of (set_life c.world p life) p ≡ Some s = node_of-set c.world p life p ∙ cond-true (p == p) (Some s) (node_of c.world p) (eq-eqb p p refl) in
           let past : find (λ x. x.id == p) (changed_past written p c.pasts) ≡ option_map written (past_of c p) =
           found-changed (λ (x : Past). x.id) written (λ x. refl) p c.pasts p ∙ cond-true (p == p) (option_map written (past_of c p)) (past_of c p) (eq-eqb p p refl) in
           record {
-            up = subst (λ (o : Option Seat). IfSome (option_and_then (λ s. running s.life) o) (λ r. IfSome (option_map (λ s. on_disk s.life) o) (λ disk. GoesOn r.held disk × IsAsOnDisk r.held disk r.state)))
-                (sym seat) (goes-on h, same-reds h r.state);
+            up = subst (λ (o : Option Node). IfSome (option_and_then (λ s. running s.life) o) (λ r. IfSome (option_map (λ s. on_disk s.life) o) (λ disk. GoesOn r.held disk × IsAsOnDisk r.held disk r.state)))
+                (sym node) (goes-on h, same-reds h r.state);
             greens = subst (λ (o : Option Past). option_map_or (λ x. x.greens) o [] ≡ option_map_or (λ x. x.stood) o []) (sym past) (same-greens (past_of c p));
           }
 
@@ -236,7 +236,7 @@ runs-in : (w : World) (p : ℕ) → may_in w (Commits p) ≡ true → is_some (r
 unfolding may_in may_make
 runs-in w p may = may
 
-pub rest-ending : (c : Chronicle) (k : Taken) (opening : List Small) (end : Ended) → RestAlong c opening → Each (IsOf k.id) opening → MayIn c.world (ending_as k opening end) → IsWritten c k.id →
+pub rest-ending : (c : Chronicle) (k : Taken) (opening : List Small) (end : EventEnd) → RestAlong c opening → Each (IsOf k.id) opening → MayIn c.world (ending_as k opening end) → IsWritten c k.id →
     RestAlong c (ending_as k opening end) × Each (IsOf k.id) (ending_as k opening end)
 rest-ending c k opening (Runs r disk) rests each may is =
     cond_both (commits k.before.held k.turn) (Commits k.id ∷ []) [] (λ list. RestAlong c (opening ++ list) × Each (IsOf k.id) (opening ++ list))
@@ -263,14 +263,14 @@ pub record IsTaken (w : World) (p : ℕ) (input : Input) : Type 0 where
   pub id : turn.id ≡ p
 
 pub taken-cases : (w : World) (p : ℕ) (input : Input) → (taken w p input ≡ []) ⊎ IsTaken w p input
-taken-cases w p input = at (seat_of w p) refl where
-  life : (l : Life) → option_map_or (λ (s : Seat). taken_as p input s.life) (seat_of w p) [] ≡ taken_as p input l → (taken w p input ≡ []) ⊎ IsTaken w p input
+taken-cases w p input = at (node_of w p) refl where
+  life : (l : NodeState) → option_map_or (λ (s : Node). taken_as p input s.life) (node_of w p) [] ≡ taken_as p input l → (taken w p input ≡ []) ⊎ IsTaken w p input
   life (Up r disk) e = inr (record { turn = taken_by p r disk (replica_step r input); is = e; id = refl })
   life (Down disk green) e = inl e
 
-  at : (o : Option Seat) → seat_of w p ≡ o → (taken w p input ≡ []) ⊎ IsTaken w p input
-  at None e = inl (ap (λ (o : Option Seat). option_map_or (λ s. taken_as p input s.life) o []) e)
-  at (Some s) e = life s.life (ap (λ (o : Option Seat). option_map_or (λ s. taken_as p input s.life) o []) e)
+  at : (o : Option Node) → node_of w p ≡ o → (taken w p input ≡ []) ⊎ IsTaken w p input
+  at None e = inl (ap (λ (o : Option Node). option_map_or (λ s. taken_as p input s.life) o []) e)
+  at (Some s) e = life s.life (ap (λ (o : Option Node). option_map_or (λ s. taken_as p input s.life) o []) e)
 
 abbrev pub smalls_for : World → (ℕ → Input) → (ℕ → List Small) → List ℕ → List Small
 smalls_for w input block rest = flat_map (ending block) (flat_map (λ q. taken w q (input q)) rest)

@@ -16,22 +16,22 @@ use Rattle.cg_group.specs.State.{Sent, Configuration, GroupState, configuration,
 use Rattle.cg_group.specs.Events.{delivery_at, deliveries_at, transitional_places, furthest, handed_in_split, deliver, split, merge}
 use Rattle.cg_group.specs.EachLaws.{Each, Each-append}
 use Rattle.cg_client.specs.Replica.{Held, Replica, fresh}
-use Rattle.cg_step.specs.Step.{Input, Deliveries, Asks as AsksOf}
+use Rattle.cg_replica_step.specs.Step.{Input, Deliveries, Asks as AsksOf}
 use Rattle.cg_commit.specs.Crash.{FailOnce, StopWith, Strike, at_rest, new_disk, recovered, disk_recovered}
 use Rattle.cg_schedule.specs.declared.event.Event.{Event}
 use Rattle.cg_schedule.specs.declared.event.Event.TheVariants.{Start, Split, Merge, Request, Weak, Dirty, Order, Recover, Show, ShowOrder, Gather, End, Receive, Deliver, Rounds, Stop, Fail, Join, Leave, Transfer}
-use Rattle.cg_model.specs.World.{Life, Up, Down, Seat, World, running, seat_of, replica_of, set_life, bring_up, Snapshot}
+use Rattle.cg_model.specs.World.{NodeState, Up, Down, Node, World, running, node_of, replica_of, set_life, bring_up, TransferState}
 use Rattle.cg_model.specs.Show.{ended}
 use Rattle.cg_model.specs.Run.{MayStand}
 use Rattle.cg_model.specs.Levels.{is_record_of}
-use Rattle.cg_model.specs.Step.{quietly, hand_out, ask, name_also, begin_replica, arm_at, arm, crash_at, recover_from, recover, joined, snapshot_for, without_snapshot, with_pieces, take_pieces, transfer, happens, world_step}
+use Rattle.cg_model.specs.Step.{quietly, hand_out, ask, name_also, begin_replica, arm_at, arm, crash_at, recover_from, recover, joiner_replica, snapshot_for, without_snapshot, with_pieces, take_pieces, transfer, happens, world_step}
 use Rattle.cg_model.specs.FactsLists.{IsRising}
-use Rattle.cg_agree_lemmas.specs.ChronicleFacts.{seat_of-set}
+use Rattle.cg_agree_lemmas.specs.ChronicleFacts.{node_of-set}
 use Rattle.cg_agree_lemmas.specs.HeldMarks.{IsOneself}
 use Rattle.cg_agree_lemmas.specs.MadeSplit.{rising-set-list}
 use Rattle.cg_agree_lemmas.specs.DiskAhead.{OwnRuns}
 use Rattle.cg_agree_lemmas.specs.AttemptNew.{HasNoRecordYet, IsNewConf, IsNewIn}
-use Rattle.cg_agree_lemmas.specs.LivesRest.{LifeRests, SeatRests, turn-rests, recovered-rests, begun-rests}
+use Rattle.cg_agree_lemmas.specs.LivesRest.{LifeRests, NodeRests, turn-rests, recovered-rests, begun-rests}
 use Rattle.cg_agree_lemmas.specs.WorldTurns.{IsBehind, hand-behind, from-same, handed-behind}
 use Rattle.cg_client.specs.Joined.{piece_count}
 
@@ -41,30 +41,30 @@ pub record IsCoreOf (start : List Weighted) (h : Held) : Type 0 where
   pub is : IsOneself start h greens
 
 abbrev pub RestsAt : World → ℕ → Type 0
-RestsAt w p = SeatRests (seat_of w p)
+RestsAt w p = NodeRests (node_of w p)
 
 -- what a replica has to be, that its step leaves it at rest: its own actions go on, and it has no record yet of the attempt of its
 -- exchange, nor of the one of the next configuration; and one that is down, that it comes up so
-abbrev pub LifeSteps : List Weighted → ℕ → Life → Type 0
+abbrev pub LifeSteps : List Weighted → ℕ → NodeState → Type 0
 LifeSteps start next (Up r disk) = OwnRuns r.held × HasNoRecordYet r r.state × (is_record_of next r.held.vulnerable ≡ false)
 LifeSteps start next (Down disk green) = IsCoreOf start disk.content
 
-abbrev pub SeatSteps : List Weighted → ℕ → Option Seat → Type 0
-SeatSteps start next None = Unit {0}
-SeatSteps start next (Some s) = LifeSteps start next s.life
+abbrev pub NodeSteps : List Weighted → ℕ → Option Node → Type 0
+NodeSteps start next None = Unit {0}
+NodeSteps start next (Some s) = LifeSteps start next s.life
 
--- ---- one seat changes
+-- ---- one node changes
 
-pub rests-set : (w : World) (p : ℕ) (life : Life) (q : ℕ) → LifeRests life → RestsAt w q → RestsAt (set_life w p life) q
+pub rests-set : (w : World) (p : ℕ) (life : NodeState) (q : ℕ) → LifeRests life → RestsAt w q → RestsAt (set_life w p life) q
 rests-set w p life q is rests =
-    subst SeatRests (sym (seat_of-set w p life q))
-    (cond_both (p == q) (Some (record { id = p; life = life })) (seat_of w q) SeatRests (λ y. is) (λ n. rests))
+    subst NodeRests (sym (node_of-set w p life q))
+    (cond_both (p == q) (Some (record { id = p; life = life })) (node_of w q) NodeRests (λ y. is) (λ n. rests))
 
 module _ (w : World) (q : ℕ) (rests : RestsAt w q) where
   -- what is made of a life, where a replica has begun
-  of-seat : (p : ℕ) (f : Life → World) → ((s : Seat) → seat_of w p ≡ Some s → RestsAt (f s.life) q) → RestsAt (option_map_or (λ s. f s.life) (seat_of w p) w) q
-  of-seat p f each = at (seat_of w p) refl where
-    at : (o : Option Seat) → seat_of w p ≡ o → RestsAt (option_map_or (λ s. f s.life) o w) q
+  of-node : (p : ℕ) (f : NodeState → World) → ((s : Node) → node_of w p ≡ Some s → RestsAt (f s.life) q) → RestsAt (option_map_or (λ s. f s.life) (node_of w p) w) q
+  of-node p f each = at (node_of w p) refl where
+    at : (o : Option Node) → node_of w p ≡ o → RestsAt (option_map_or (λ s. f s.life) o w) q
     at None e = rests
     at (Some s) e = each s e
 
@@ -119,56 +119,56 @@ split-to g set q = refl
 
 -- ---- events
 
-module _ (start : List Weighted) (w : World) (rests : (q : ℕ) → RestsAt w q) (steps : (q : ℕ) → SeatSteps start (suc (length w.group.configurations)) (seat_of w q)) where
+module _ (start : List Weighted) (w : World) (rests : (q : ℕ) → RestsAt w q) (steps : (q : ℕ) → NodeSteps start (suc (length w.group.configurations)) (node_of w q)) where
   abbrev next : ℕ
   next = suc (length w.group.configurations)
 
   of-turn : (v : World) (p : ℕ) → IsBehind (BringsNew w) w v p → RestsAt v p
   of-turn v p is = elim is [
-    | inl same ↦ subst SeatRests (sym same) (rests p)
+    | inl same ↦ subst NodeRests (sym same) (rests p)
     | inr turn ↦
-        let own = subst (SeatSteps start next) turn.before (steps p) in
-        let new = turn.of turn.replica (ap (λ (o : Option Seat). option_and_then (λ s. running s.life) o) turn.before) in
-        subst SeatRests (sym turn.behind) (turn-rests turn.replica turn.disk turn.input (subst SeatRests turn.before (rests p)) own.0 own.1 new)
+        let own = subst (NodeSteps start next) turn.before (steps p) in
+        let new = turn.of turn.replica (ap (λ (o : Option Node). option_and_then (λ s. running s.life) o) turn.before) in
+        subst NodeRests (sym turn.behind) (turn-rests turn.replica turn.disk turn.input (subst NodeRests turn.before (rests p)) own.0 own.1 new)
   ]
 
   -- the world with another group
   of-group : (g : GroupState Msg) (v : World) (p : ℕ) → IsBehind (BringsNew w) (record w { group = g }) v p → RestsAt v p
   of-group g v p is = of-turn v p (from-same (BringsNew w) w (record w { group = g }) v p refl is)
 
-  asked : (v : World) (p : ℕ) (kind : Kind) (q : ℕ) → v.seats ≡ w.seats → RestsAt (ask v p kind).world q
-  asked v p kind q seats =
+  asked : (v : World) (p : ℕ) (kind : Kind) (q : ℕ) → v.nodes ≡ w.nodes → RestsAt (ask v p kind).world q
+  asked v p kind q nodes =
       of-turn (ask v p kind).world q
-      (from-same (BringsNew w) w v (ask v p kind).world q (ap (λ (list : List Seat). find (λ s. s.id == q) list) seats) (hand-behind (BringsNew w) (quietly v) p (AsksOf kind) (λ r e. tt) q))
+      (from-same (BringsNew w) w v (ask v p kind).world q (ap (λ (list : List Node). find (λ s. s.id == q) list) nodes) (hand-behind (BringsNew w) (quietly v) p (AsksOf kind) (λ r e. tt) q))
 
   came-up : (p q : ℕ) → RestsAt (recover w p).world q
-  came-up p q = at (seat_of w p) refl where
-    life : (s : Seat) (l : Life) → s.life ≡ l → seat_of w p ≡ Some s → RestsAt (recover_from w l).world q
+  came-up p q = at (node_of w p) refl where
+    life : (s : Node) (l : NodeState) → s.life ≡ l → node_of w p ≡ Some s → RestsAt (recover_from w l).world q
     life s (Up r disk) is e = rests q
     life s (Down disk green) is e =
-        let core = subst (LifeSteps start next) is (subst (SeatSteps start next) e (steps p)) in
+        let core = subst (LifeSteps start next) is (subst (NodeSteps start next) e (steps p)) in
         rests-set w (recovered disk).held.id (Up (recovered disk) (disk_recovered disk)) q (recovered-rests start disk core.greens core.is) (rests q)
 
-    at : (o : Option Seat) → seat_of w p ≡ o → RestsAt (option_map_or (λ s. recover_from w s.life) o (quietly w)).world q
+    at : (o : Option Node) → node_of w p ≡ o → RestsAt (option_map_or (λ s. recover_from w s.life) o (quietly w)).world q
     at None e = rests q
     at (Some s) e = life s s.life refl e
 
-  stopped : (p q : ℕ) → RestsAt (option_map_or (λ s. crash_at w p s.life) (seat_of w p) w) q
-  stopped p q = of-seat w q (rests q) p (crash_at w p) (λ s e. life s.life) where
-    life : (l : Life) → RestsAt (crash_at w p l) q
+  stopped : (p q : ℕ) → RestsAt (option_map_or (λ s. crash_at w p s.life) (node_of w p) w) q
+  stopped p q = of-node w q (rests q) p (crash_at w p) (λ s e. life s.life) where
+    life : (l : NodeState) → RestsAt (crash_at w p l) q
     life (Up r disk) = rests-set w p (Down (at_rest disk) []) q tt (rests q)
     life (Down disk green) = rests q
 
   armed : (p : ℕ) (strike : Strike) (q : ℕ) → RestsAt (arm w p strike) q
-  armed p strike q = of-seat w q (rests q) p (arm_at w p strike) (λ s e. life s.life (subst SeatRests e (rests p))) where
-    life : (l : Life) → LifeRests l → RestsAt (arm_at w p strike l) q
+  armed p strike q = of-node w q (rests q) p (arm_at w p strike) (λ s e. life s.life (subst NodeRests e (rests p))) where
+    life : (l : NodeState) → LifeRests l → RestsAt (arm_at w p strike l) q
     life (Up r disk) is = rests-set w p (Up r (record disk { armed = Some strike })) q is (rests q)
     life (Down disk green) is = rests q
 
-  joined-rests : (s : Snapshot) (taken q : ℕ) → RestsAt (with_pieces w s taken) q
+  joined-rests : (s : TransferState) (taken q : ℕ) → RestsAt (with_pieces w s taken) q
   joined-rests s taken q =
       let others = without_snapshot w s.joiner in
-      let r = joined s.joiner s.content in
+      let r = joiner_replica s.joiner s.content in
       cond_both (taken == piece_count s.content) (bring_up others r (new_disk r.held)) (record others { snapshots = others.snapshots ++ record s { taken = taken } ∷ [] }) (λ v. RestsAt v q)
       (λ y. rests-set others s.joiner (Up r (new_disk r.held)) q (begun-rests r.held) (rests q)) (λ n. rests q)
 
@@ -198,12 +198,12 @@ module _ (start : List Weighted) (w : World) (rests : (q : ℕ) → RestsAt w q)
       (each-handed (BringsNew w) f (λ p r e. (no-record p r e, tt)) set) q)
     where
       no-record : (p : ℕ) (r : Replica) → replica_of w p ≡ Some r → is_record_of next r.held.vulnerable ≡ false
-      no-record p r e = at (seat_of w p) e (steps p) where
-        life : (l : Life) → running l ≡ Some r → LifeSteps start next l → is_record_of next r.held.vulnerable ≡ false
+      no-record p r e = at (node_of w p) e (steps p) where
+        life : (l : NodeState) → running l ≡ Some r → LifeSteps start next l → is_record_of next r.held.vulnerable ≡ false
         life (Up x disk) is own = subst (λ (y : Replica). is_record_of next y.held.vulnerable ≡ false) (some-of x r is) own.2
         life (Down disk green) is own = absurd (let clash : None ≡ Some r = is in cc)
 
-        at : (o : Option Seat) → option_and_then (λ s. running s.life) o ≡ Some r → SeatSteps start next o → is_record_of next r.held.vulnerable ≡ false
+        at : (o : Option Node) → option_and_then (λ s. running s.life) o ≡ Some r → NodeSteps start next o → is_record_of next r.held.vulnerable ≡ false
         at None is own = absurd (let clash : None ≡ Some r = is in cc)
         at (Some s) is own = life s.life is own
   event-rests (Request p cmds query) may q = asked w p (Update cmds query) q refl

@@ -10,7 +10,7 @@ use Rattle.cg_client.specs.Replica.{Held, Replica}
 use Rattle.cg_client.specs.Turn.{Turn, begin}
 use Rattle.cg_client.specs.Requests.{settle}
 use Rattle.cg_group.specs.State.{phase_of}
-use Rattle.cg_model.specs.World.{Life, Up, Down, seat_of, replica_of}
+use Rattle.cg_model.specs.World.{NodeState, Up, Down, node_of, replica_of}
 use Rattle.cg_model.specs.Attempts.{new_attempt, is_seen, with_attempt_of}
 use Rattle.cg_model.specs.Chronicle.{Attempt, Chronicle}
 use Rattle.cg_model.specs.Looks.{installation, snapshot_of, greens_of, stood_of, conf_at}
@@ -106,7 +106,7 @@ keeps-behind attempts p greens old new =
     (λ n. cond_both (is_installation old.state new.state) (installing p attempts new.held.vulnerable) attempts (KeepsAttempts attempts)
     (λ y. keeps-installing p attempts new.held.vulnerable) (λ m. keeps-refl attempts))
 
-keeps-turning_as : (c : Chronicle) (p : ℕ) (part : Turn → Turn) (life : Life) → KeepsAttempts c.attempts (turning_as c p part life).attempts
+keeps-turning_as : (c : Chronicle) (p : ℕ) (part : Turn → Turn) (life : NodeState) → KeepsAttempts c.attempts (turning_as c p part life).attempts
 keeps-turning_as c p part (Up r disk) =
     let t = part (begin r) in keeps-behind c.attempts p (greens_of c p ++ newly_green r t.replica) r t.replica
 keeps-turning_as c p part (Down disk green) = keeps-refl c.attempts
@@ -117,20 +117,20 @@ at-some None change c each = keeps-refl c.attempts
 at-some (Some x) change c each = each x
 
 keeps-turning : (c : Chronicle) (p : ℕ) (part : Turn → Turn) → KeepsAttempts c.attempts (turning c p part).attempts
-keeps-turning c p part = at-some (seat_of c.world p) (λ s. turning_as c p part s.life) c (λ s. keeps-turning_as c p part s.life)
+keeps-turning c p part = at-some (node_of c.world p) (λ s. turning_as c p part s.life) c (λ s. keeps-turning_as c p part s.life)
 
 pub keeps-left : (c : Chronicle) (p count : ℕ) → KeepsAttempts c.attempts (changed_attempt (with_leaver p count) (conf_at (phase_of c.world.group p)) c.attempts)
 keeps-left c p count = keeps-changed (with_leaver p count) (same-leaver p count) (conf_at (phase_of c.world.group p)) c.attempts
 
-keeps-commit_as : (c : Chronicle) (p : ℕ) (life : Life) → KeepsAttempts c.attempts (commit_as c p life).attempts
+keeps-commit_as : (c : Chronicle) (p : ℕ) (life : NodeState) → KeepsAttempts c.attempts (commit_as c p life).attempts
 keeps-commit_as c p (Up r disk) = keeps-refl c.attempts
 keeps-commit_as c p (Down disk green) = keeps-refl c.attempts
 
-keeps-crash_as : (c : Chronicle) (p : ℕ) (life : Life) → KeepsAttempts c.attempts (crash_as c p life).attempts
+keeps-crash_as : (c : Chronicle) (p : ℕ) (life : NodeState) → KeepsAttempts c.attempts (crash_as c p life).attempts
 keeps-crash_as c p (Up r disk) = keeps-left c p (length (stood_of c p))
 keeps-crash_as c p (Down disk green) = keeps-refl c.attempts
 
-keeps-recover_as : (c : Chronicle) (life : Life) → KeepsAttempts c.attempts (recover_as c life).attempts
+keeps-recover_as : (c : Chronicle) (life : NodeState) → KeepsAttempts c.attempts (recover_as c life).attempts
 keeps-recover_as c (Up r disk) = keeps-refl c.attempts
 keeps-recover_as c (Down disk green) = keeps-refl c.attempts
 
@@ -147,8 +147,8 @@ attempts-kept c (Hands p) = keeps-turning (handed_next c p) p (take_next c.world
 attempts-kept c (Leaves p set own places) = keeps-turning (leaving c p set own) p (take_parting c.world.group p set places)
 attempts-kept c (Asks p kind) = keeps-turning c p (take_request kind)
 attempts-kept c (Settles p) = keeps-turning c p settle
-attempts-kept c (Commits p) = at-some (seat_of c.world p) (λ s. commit_as c p s.life) c (λ s. keeps-commit_as c p s.life)
-attempts-kept c (Crashes p) = at-some (seat_of c.world p) (λ s. crash_as c p s.life) c (λ s. keeps-crash_as c p s.life)
-attempts-kept c (Recovers p) = at-some (seat_of c.world p) (λ s. recover_as c s.life) c (λ s. keeps-recover_as c s.life)
+attempts-kept c (Commits p) = at-some (node_of c.world p) (λ s. commit_as c p s.life) c (λ s. keeps-commit_as c p s.life)
+attempts-kept c (Crashes p) = at-some (node_of c.world p) (λ s. crash_as c p s.life) c (λ s. keeps-crash_as c p s.life)
+attempts-kept c (Recovers p) = at-some (node_of c.world p) (λ s. recover_as c s.life) c (λ s. keeps-recover_as c s.life)
 attempts-kept c (Copies p joiner) = at-some (replica_of c.world p) (copy_as c p joiner) c (λ r. keeps-refl c.attempts)
 attempts-kept c (Joins joiner) = at-some (snapshot_of c.world joiner) (λ s. join_with c joiner s.content) c (λ s. keeps-refl c.attempts)

@@ -11,10 +11,10 @@ use Rattle.cg_group.specs.Events.{send_all, order, receive, with_delivered, beco
 use Rattle.cg_client.specs.Replica.{Held, Replica}
 use Rattle.cg_client.specs.Turn.{Turn, begin}
 use Rattle.cg_client.specs.Requests.{settle}
-use Rattle.cg_stored.specs.Stored.{stored_of, whiten}
+use Rattle.cg_disk_records.specs.Stored.{stored_of, whiten}
 use Rattle.cg_commit.specs.Crash.{Disk, new_disk, at_rest, recovered, disk_recovered}
-use Rattle.cg_model.specs.World.{Life, Up, Down, World, seat_of, replica_of, set_life, bring_up, bring_down}
-use Rattle.cg_model.specs.Step.{begin_replica, joined, without_snapshot}
+use Rattle.cg_model.specs.World.{NodeState, Up, Down, World, node_of, replica_of, set_life, bring_up, bring_down}
+use Rattle.cg_model.specs.Step.{begin_replica, joiner_replica, without_snapshot}
 use Rattle.cg_model.specs.Chronicle.{Told, Chronicle, no_chronicle}
 use Rattle.cg_model.specs.Looks.{told_in, ordered_in, is_member, snapshot_of}
 use Rattle.cg_model.specs.Small.{Small, Starts, Makes, Enters, Orders, Receives, Hands, Leaves, Asks, Settles, Commits, Crashes, Recovers, Copies, Joins, turning, turning_as, commit_as, crash_as, recover_as, copy_as, join_with, coming, handed_next, leaving, newest_conf, make_configuration, become_past, take_newest, take_next, take_parting, take_request, small_step}
@@ -31,22 +31,22 @@ grouped w g = record w { group = g }
 abbrev pub turned_to : World → ℕ → Disk → Turn → World
 turned_to w p disk t = let v = set_life w p (Up t.replica disk) in record v { group = send_all v.group p t.sent }
 
-abbrev pub turned_in : World → ℕ → (Turn → Turn) → Life → World
+abbrev pub turned_in : World → ℕ → (Turn → Turn) → NodeState → World
 turned_in w p part (Up r disk) = turned_to w p disk (part (begin r))
 turned_in w p part (Down disk green) = w
 
 abbrev pub turning_in : World → ℕ → (Turn → Turn) → World
-turning_in w p part = option_map_or (λ s. turned_in w p part s.life) (seat_of w p) w
+turning_in w p part = option_map_or (λ s. turned_in w p part s.life) (node_of w p) w
 
-abbrev pub commit_in : World → ℕ → Life → World
+abbrev pub commit_in : World → ℕ → NodeState → World
 commit_in w p (Up r disk) = let h = whiten r.held in set_life w p (Up (record r { held = h }) (record disk { content = stored_of h }))
 commit_in w p (Down disk green) = w
 
-abbrev pub crash_in : World → ℕ → Life → World
+abbrev pub crash_in : World → ℕ → NodeState → World
 crash_in w p (Up r disk) = bring_down w p (at_rest disk) []
 crash_in w p (Down disk green) = w
 
-abbrev pub recover_in : World → Life → World
+abbrev pub recover_in : World → NodeState → World
 recover_in w (Up r disk) = w
 recover_in w (Down disk green) = bring_up w (recovered disk) (disk_recovered disk)
 
@@ -56,7 +56,7 @@ copy_in w p joiner r =
     record v { snapshots = record { joiner = joiner; giver = p; content = r.held; taken = 0 } ∷ v.snapshots }
 
 abbrev pub join_in : World → ℕ → Held → World
-join_in w joiner content = let r = joined joiner content in bring_up (without_snapshot w joiner) r (new_disk r.held)
+join_in w joiner content = let r = joiner_replica joiner content in bring_up (without_snapshot w joiner) r (new_disk r.held)
 
 unfoldable pub small_in : World → Small → World
 small_in w (Starts set) = fold (begin_replica set) w (ids set)
@@ -68,9 +68,9 @@ small_in w (Hands p) = turning_in (grouped w (with_delivered w.group p (suc (del
 small_in w (Leaves p set own places) = turning_in (grouped w (become_past w.group p set own)) p (take_parting w.group p set places)
 small_in w (Asks p kind) = turning_in w p (take_request kind)
 small_in w (Settles p) = turning_in w p settle
-small_in w (Commits p) = option_map_or (λ s. commit_in w p s.life) (seat_of w p) w
-small_in w (Crashes p) = option_map_or (λ s. crash_in w p s.life) (seat_of w p) w
-small_in w (Recovers p) = option_map_or (λ s. recover_in w s.life) (seat_of w p) w
+small_in w (Commits p) = option_map_or (λ s. commit_in w p s.life) (node_of w p) w
+small_in w (Crashes p) = option_map_or (λ s. crash_in w p s.life) (node_of w p) w
+small_in w (Recovers p) = option_map_or (λ s. recover_in w s.life) (node_of w p) w
 small_in w (Copies p joiner) = option_map_or (copy_in w p joiner) (replica_of w p) w
 small_in w (Joins joiner) = option_map_or (λ s. join_in w joiner s.content) (snapshot_of w joiner) w
 
@@ -94,22 +94,22 @@ world_at : {X : Type 0} (f : X → Chronicle) (k : X → World) (o : Option X) (
 world_at f k None c same = refl
 world_at f k (Some x) c same = same x
 
-turned-world : (c : Chronicle) (p : ℕ) (part : Turn → Turn) (life : Life) → (turning_as c p part life).world ≡ turned_in c.world p part life
+turned-world : (c : Chronicle) (p : ℕ) (part : Turn → Turn) (life : NodeState) → (turning_as c p part life).world ≡ turned_in c.world p part life
 turned-world c p part (Up r disk) = refl
 turned-world c p part (Down disk green) = refl
 
 turning-world : (c : Chronicle) (p : ℕ) (part : Turn → Turn) → (turning c p part).world ≡ turning_in c.world p part
-turning-world c p part = world_at (λ s. turning_as c p part s.life) (λ s. turned_in c.world p part s.life) (seat_of c.world p) c (λ s. turned-world c p part s.life)
+turning-world c p part = world_at (λ s. turning_as c p part s.life) (λ s. turned_in c.world p part s.life) (node_of c.world p) c (λ s. turned-world c p part s.life)
 
-committed-world : (c : Chronicle) (p : ℕ) (life : Life) → (commit_as c p life).world ≡ commit_in c.world p life
+committed-world : (c : Chronicle) (p : ℕ) (life : NodeState) → (commit_as c p life).world ≡ commit_in c.world p life
 committed-world c p (Up r disk) = refl
 committed-world c p (Down disk green) = refl
 
-crashed-world : (c : Chronicle) (p : ℕ) (life : Life) → (crash_as c p life).world ≡ crash_in c.world p life
+crashed-world : (c : Chronicle) (p : ℕ) (life : NodeState) → (crash_as c p life).world ≡ crash_in c.world p life
 crashed-world c p (Up r disk) = refl
 crashed-world c p (Down disk green) = refl
 
-recovered-world : (c : Chronicle) (life : Life) → (recover_as c life).world ≡ recover_in c.world life
+recovered-world : (c : Chronicle) (life : NodeState) → (recover_as c life).world ≡ recover_in c.world life
 recovered-world c (Up r disk) = refl
 recovered-world c (Down disk green) = refl
 
@@ -124,9 +124,9 @@ small-world c (Hands p) = turning-world (handed_next c p) p (take_next c.world.g
 small-world c (Leaves p set own places) = turning-world (leaving c p set own) p (take_parting c.world.group p set places)
 small-world c (Asks p kind) = turning-world c p (take_request kind)
 small-world c (Settles p) = turning-world c p settle
-small-world c (Commits p) = world_at (λ s. commit_as c p s.life) (λ s. commit_in c.world p s.life) (seat_of c.world p) c (λ s. committed-world c p s.life)
-small-world c (Crashes p) = world_at (λ s. crash_as c p s.life) (λ s. crash_in c.world p s.life) (seat_of c.world p) c (λ s. crashed-world c p s.life)
-small-world c (Recovers p) = world_at (λ s. recover_as c s.life) (λ s. recover_in c.world s.life) (seat_of c.world p) c (λ s. recovered-world c s.life)
+small-world c (Commits p) = world_at (λ s. commit_as c p s.life) (λ s. commit_in c.world p s.life) (node_of c.world p) c (λ s. committed-world c p s.life)
+small-world c (Crashes p) = world_at (λ s. crash_as c p s.life) (λ s. crash_in c.world p s.life) (node_of c.world p) c (λ s. crashed-world c p s.life)
+small-world c (Recovers p) = world_at (λ s. recover_as c s.life) (λ s. recover_in c.world s.life) (node_of c.world p) c (λ s. recovered-world c s.life)
 small-world c (Copies p joiner) = world_at (copy_as c p joiner) (copy_in c.world p joiner) (replica_of c.world p) c (λ r. refl)
 small-world c (Joins joiner) = world_at (λ s. join_with c joiner s.content) (λ s. join_in c.world joiner s.content) (snapshot_of c.world joiner) c (λ s. refl)
 

@@ -14,7 +14,7 @@ use Rattle.cg_group.specs.Refusals.{sender_at}
 use Rattle.cg_group.specs.EachLaws.{Each}
 use Rattle.cg_group.specs.PlaceLaws.{at_place-past}
 use Rattle.cg_client.specs.Replica.{State, RegPrim, TransPrim, ExchangeStates, ExchangeActions, Construct, No, Un, NonPrim, Left, Replica}
-use Rattle.cg_model.specs.World.{Snapshot, World, replica_of, is_left_state}
+use Rattle.cg_model.specs.World.{TransferState, World, replica_of, is_left_state}
 use Rattle.cg_model.specs.Chronicle.{Told, Chronicle}
 use Rattle.cg_model.specs.Looks.{told_in, is_regular_at, is_member, snapshot_of, snapshots_for}
 use Rattle.cg_model.specs.FactsLists.{IsRising, AreReceived}
@@ -22,7 +22,7 @@ use Rattle.cg_model.specs.FactsNet.{IsPhase}
 use Rattle.cg_model.specs.FactsTalk.{IsStateIn, IsTransitional}
 use Rattle.cg_model.specs.Facts.{Invariant}
 use Rattle.cg_model.specs.Smalls.{is_between}
-use Rattle.cg_model.specs.Played.{IsSame, Given}
+use Rattle.cg_model.specs.Played.{IsSame, GivenSnapshot}
 use Rattle.cg_agree_lemmas.specs.GroupChanges.{DoRise}
 use Rattle.cg_agree_lemmas.specs.GatherPlaces.{IsFit, Fits}
 use Rattle.cg_agree_lemmas.specs.MadeTransfer.{served-found}
@@ -40,8 +40,8 @@ pub record IsSoundGroup (g : GroupState Msg) : Type 0 where
 pub record IsSound (w : World) : Type 0 where
   pub group : IsSoundGroup w.group
   pub up : (p : ℕ) → is_some (replica_of w p) ≡ is_up w.group p
-  pub seats : IsRising 0 (map (λ s. s.id) w.seats)
-  pub served : (joiner : ℕ) (s : Snapshot) → snapshot_of w joiner ≡ Some s → is_server s.content.members joiner ≡ true
+  pub nodes : IsRising 0 (map (λ s. s.id) w.nodes)
+  pub served : (joiner : ℕ) (s : TransferState) → snapshot_of w joiner ≡ Some s → is_server s.content.members joiner ≡ true
   pub once : (joiner : ℕ) → length (snapshots_for w joiner) ≤ 1
   pub between : (p : ℕ) → IfSome (replica_of w p) (λ r. is_regular w.group p ≡ false → is_left_state r.state ≡ false → is_between r.state ≡ true)
 
@@ -55,17 +55,17 @@ pub sound-same : (w v : World) → IsSame w v → IsSound v → IsSound w
 sound-same w v same is = record {
   group = subst IsSoundGroup (sym same.group) is.group;
   up = λ p. ap is_some (same.running p) ∙ is.up p ∙ ap (λ g. is_up g p) (sym same.group);
-  seats = subst (IsRising 0) (sym same.seats) is.seats;
+  nodes = subst (IsRising 0) (sym same.nodes) is.nodes;
   served = λ joiner s found. served-of joiner s found (snapshot_of v joiner) refl;
   once = λ joiner. subst (λ n. n ≤ 1)
       (sym (length-map as_given (snapshots_for v joiner)) ∙ ap length (sym (same.given joiner)) ∙ length-map as_given (snapshots_for w joiner)) (is.once joiner);
   between = λ p. subst (λ (o : Option Replica). IfSome o (λ r. is_regular w.group p ≡ false → is_left_state r.state ≡ false → is_between r.state ≡ true)) (sym (same.running p))
       (subst (λ (g : GroupState Msg). IfSome (replica_of v p) (λ r. is_regular g p ≡ false → is_left_state r.state ≡ false → is_between r.state ≡ true)) (sym same.group) (is.between p));
 } where
-  served-of : (joiner : ℕ) (s : Snapshot) → snapshot_of w joiner ≡ Some s → (o : Option Snapshot) → snapshot_of v joiner ≡ o → is_server s.content.members joiner ≡ true
+  served-of : (joiner : ℕ) (s : TransferState) → snapshot_of w joiner ≡ Some s → (o : Option TransferState) → snapshot_of v joiner ≡ o → is_server s.content.members joiner ≡ true
   served-of joiner s found None e = absurd (let clash : Some (as_given s) ≡ None = sym (ap (option_map as_given) found) ∙ first-given w.snapshots v.snapshots same.given joiner ∙ ap (option_map as_given) e in cc)
   served-of joiner s found (Some t) e =
-      let content = ap (λ (o : Option Given). option_map_or (λ x. x.content) o s.content) (sym (ap (option_map as_given) e) ∙ sym (first-given w.snapshots v.snapshots same.given joiner) ∙ ap (option_map as_given) found) in
+      let content = ap (λ (o : Option GivenSnapshot). option_map_or (λ x. x.content) o s.content) (sym (ap (option_map as_given) e) ∙ sym (first-given w.snapshots v.snapshots same.given joiner) ∙ ap (option_map as_given) found) in
       subst (λ h. is_server h.members joiner ≡ true) content (is.served joiner t e)
 
 -- ---- from the facts
@@ -151,8 +151,8 @@ module _ (c : Chronicle) (inv : Invariant c) where
   sound-of = record {
     group = sound-group;
     up = inv.net.phase_sound.up;
-    seats = inv.lists.seats;
+    nodes = inv.lists.nodes;
     served = λ joiner s found. served-found joiner c.world.snapshots s inv.lists.served found;
-    once = inv.net.seated.once;
+    once = inv.net.hosted.once;
     between = λ p. between-of p (replica_of c.world p) (inv.talk.mode_fits p);
   }

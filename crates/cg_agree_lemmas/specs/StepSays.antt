@@ -10,7 +10,7 @@ use Rattle.cg_queue.specs.Queue.{names_of}
 use Rattle.cg_client.specs.Replica.{Held, State, RegPrim, TransPrim, ExchangeStates, ExchangeActions, Construct, No, Un, NonPrim, Left, Replica, last_index, created}
 use Rattle.cg_client.specs.Turn.{Turn, begin, with_held}
 use Rattle.cg_client.specs.Requests.{is_creating, next_action, create, create_kept, empty_buffer, buffer, settle, request_in, request}
-use Rattle.cg_step.specs.Step.{Input, Deliveries, Asks, replica_step, take}
+use Rattle.cg_replica_step.specs.Step.{Input, Deliveries, Asks, replica_step, after_delivery}
 use Rattle.cg_commit.specs.Holds.{cut_behind}
 use Rattle.cg_agree_lemmas.specs.HeldMarks.{IsOneself, rising-green}
 use Rattle.cg_agree_lemmas.specs.CreatedKept.{StaysCreated, created-rule, created-first}
@@ -102,7 +102,7 @@ stays-made old t stays =
 step-makes : (start : List Weighted) (r : Replica) (all : List Action) (input : Input) → IsOneself start r.held all → HasMade r.held (replica_step r input)
 unfolding replica_step
 step-makes start r all (Deliveries list) is =
-    let t = fold take (begin r) list in
+    let t = fold after_delivery (begin r) list in
     settle-makes r.held t (stays-made r.held t
     (of-deliveries (StaysCreated r.held) (λ a. Unit {0}) (created-rule r.held) (begin r) list (anything list) (record { held = created-first start r.held all is; made = refl })))
 step-makes start r all (Asks kind) is = request-makes r.held (begin r) kind (stays-made r.held (begin r) (record { held = created-first start r.held all is; made = refl }))

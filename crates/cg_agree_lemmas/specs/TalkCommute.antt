@@ -7,11 +7,11 @@ use Rattle.cg_base.specs.Sets.{has, with_member}
 use Rattle.cg_base.specs.SetLaws.{has-with_member}
 use Rattle.cg_action.specs.declared.action.Action.{Action}
 use Rattle.cg_knowledge.specs.declared.summary.Summary.{Summary}
-use Rattle.cg_knowledge.specs.Members.{senders, remaining}
+use Rattle.cg_knowledge.specs.Summaries.{senders, remaining}
 use Rattle.cg_knowledge.specs.Verdict.{decides}
 use Rattle.cg_plan.specs.declared.parts.Item.{Item}
 use Rattle.cg_plan.specs.declared.parts.Item.TheVariants.{Green, Red}
-use Rattle.cg_plan.specs.declared.parts.Sent.{Sent as PlanSent}
+use Rattle.cg_plan.specs.declared.parts.SentItem.{SentItem as PlanSent}
 use Rattle.cg_plan.specs.contracts.parts.ItemPartialEq.TheImpl.{ghosts as same_item}
 use Rattle.cg_plan.specs.Progress.{is_wanted, next_item}
 use Rattle.cg_wire.specs.declared.message.Msg.{Msg}

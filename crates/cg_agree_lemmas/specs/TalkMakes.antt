@@ -4,7 +4,7 @@ use Rattle.std.specs.Prelude.{◌==◌}
 use Rattle.std.specs.Option.{option_map_or}
 use Rattle.std.proofs.lemmas.Bool.{false_from_ne_true}
 use Rattle.cg_base.specs.Sets.{has}
-use Rattle.cg_knowledge.specs.Members.{remaining}
+use Rattle.cg_knowledge.specs.Summaries.{remaining}
 use Rattle.cg_knowledge.specs.declared.summary.Summary.{Summary}
 use Rattle.cg_wire.specs.declared.message.Msg.{Msg}
 use Rattle.cg_group.specs.declared.phase.Phase.{Phase}

@@ -1,7 +1,7 @@
 -- A step that says nothing and hands nothing keeps all facts about what is said, where states and numbers are the same.
 use Rattle.std.proofs.Common.{◌≡◌, ℕ, true, [], ◌++◌, Option, Some, None, IfSome, filter_map, take, sym, ap, ap₂, subst, ◌∙◌, if◌then◌else◌}
 use Rattle.cg_base.specs.Sets.{has}
-use Rattle.cg_knowledge.specs.Members.{remaining}
+use Rattle.cg_knowledge.specs.Summaries.{remaining}
 use Rattle.cg_group.specs.State.{phase_of}
 use Rattle.cg_model.specs.World.{replica_of}
 use Rattle.cg_model.specs.Chronicle.{Told, Chronicle}

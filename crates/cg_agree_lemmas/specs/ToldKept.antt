@@ -11,7 +11,7 @@ use Rattle.cg_group.specs.State.{GroupState}
 use Rattle.cg_client.specs.Replica.{State, RegPrim, TransPrim, ExchangeStates, ExchangeActions, Construct, No, Un, NonPrim, Left}
 use Rattle.cg_client.specs.Turn.{Turn, begin}
 use Rattle.cg_client.specs.Requests.{is_creating, create, create_kept, empty_buffer, settle, request_in}
-use Rattle.cg_model.specs.World.{Life, Up, Down as DownLife, Seat, seat_of, replica_of}
+use Rattle.cg_model.specs.World.{NodeState, Up, Down as DownLife, Node, node_of, replica_of}
 use Rattle.cg_model.specs.Chronicle.{Told, Chronicle}
 use Rattle.cg_model.specs.Looks.{greens_of, told_in, snapshot_of}
 use Rattle.cg_model.specs.Talk.{summary_in}
@@ -62,29 +62,29 @@ abbrev told-by : Chronicle → ℕ → Summary → Told
 told-by c p s = record { summary = s; greens = greens_of c p }
 
 pub told-turning : (c : Chronicle) (p : ℕ) (part : Turn → Turn) → TellsNothing part → (turning c p part).told ≡ c.told
-told-turning c p part untold = at (seat_of c.world p) where
-  life : (l : Life) → (turning_as c p part l).told ≡ c.told
+told-turning c p part untold = at (node_of c.world p) where
+  life : (l : NodeState) → (turning_as c p part l).told ≡ c.told
   life (Up r disk) = ap (λ xs. c.told ++ map (told-by c p) xs) (untold (begin r)) ∙ append-nil c.told
   life (DownLife disk green) = refl
 
-  at : (o : Option Seat) → (option_map_or (λ s. turning_as c p part s.life) o c).told ≡ c.told
+  at : (o : Option Node) → (option_map_or (λ s. turning_as c p part s.life) o c).told ≡ c.told
   at None = refl
   at (Some s) = life s.life
 
--- at a seat, where there is one
+-- at a node, where there is one
 at-some : {X : Type 0} (o : Option X) (change : X → Chronicle) (c : Chronicle) → ((x : X) → (change x).told ≡ c.told) → (option_map_or change o c).told ≡ c.told
 at-some None change c each = refl
 at-some (Some x) change c each = each x
 
-commit-told : (c : Chronicle) (p : ℕ) (l : Life) → (commit_as c p l).told ≡ c.told
+commit-told : (c : Chronicle) (p : ℕ) (l : NodeState) → (commit_as c p l).told ≡ c.told
 commit-told c p (Up r disk) = refl
 commit-told c p (DownLife disk green) = refl
 
-crash-told : (c : Chronicle) (p : ℕ) (l : Life) → (crash_as c p l).told ≡ c.told
+crash-told : (c : Chronicle) (p : ℕ) (l : NodeState) → (crash_as c p l).told ≡ c.told
 crash-told c p (Up r disk) = refl
 crash-told c p (DownLife disk green) = refl
 
-recover-told : (c : Chronicle) (l : Life) → (recover_as c l).told ≡ c.told
+recover-told : (c : Chronicle) (l : NodeState) → (recover_as c l).told ≡ c.told
 recover-told c (Up r disk) = refl
 recover-told c (DownLife disk green) = refl
 
@@ -104,9 +104,9 @@ told-same c (Hands p) is = told-turning (handed_next c p) p (take_next c.world.g
 told-same c (Leaves p set own places) is = told-turning (leaving c p set own) p (take_parting c.world.group p set places) (untold-parting c.world.group p set places)
 told-same c (Asks p kind) is = told-turning c p (take_request kind) (untold-request kind)
 told-same c (Settles p) is = told-turning c p settle untold-settle
-told-same c (Commits p) is = at-some (seat_of c.world p) (λ s. commit_as c p s.life) c (λ s. commit-told c p s.life)
-told-same c (Crashes p) is = at-some (seat_of c.world p) (λ s. crash_as c p s.life) c (λ s. crash-told c p s.life)
-told-same c (Recovers p) is = at-some (seat_of c.world p) (λ s. recover_as c s.life) c (λ s. recover-told c s.life)
+told-same c (Commits p) is = at-some (node_of c.world p) (λ s. commit_as c p s.life) c (λ s. commit-told c p s.life)
+told-same c (Crashes p) is = at-some (node_of c.world p) (λ s. crash_as c p s.life) c (λ s. crash-told c p s.life)
+told-same c (Recovers p) is = at-some (node_of c.world p) (λ s. recover_as c s.life) c (λ s. recover-told c s.life)
 told-same c (Copies p joiner) is = at-some (replica_of c.world p) (copy_as c p joiner) c (λ r. refl)
 told-same c (Joins joiner) is = at-some (snapshot_of c.world joiner) (λ s. join_with c joiner s.content) c (λ s. refl)
 

@@ -21,7 +21,7 @@ use Rattle.cg_base.specs.declared.weighted.Weighted.{Weighted}
 use Rattle.cg_client.specs.Replica.{Held, Replica}
 use Rattle.cg_client.specs.Turn.{Turn}
 use Rattle.cg_queue.specs.Queue.{green_count, names_of}
-use Rattle.cg_stored.specs.Stored.{stored_of, whiten}
+use Rattle.cg_disk_records.specs.Stored.{stored_of, whiten}
 
 -- ---- lists
 

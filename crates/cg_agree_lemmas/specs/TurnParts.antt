@@ -20,7 +20,7 @@ use Rattle.cg_prim.specs.TransPrim.{end_prim}
 use Rattle.cg_base.specs.Sets.{is_within, with_member}
 use Rattle.cg_construct.specs.Construct.{attempt_set, is_announced}
 use Rattle.cg_construct.specs.No.{no_record, no_with}
-use Rattle.cg_step.specs.Step.{on_message, on_transitional, on_regular, take}
+use Rattle.cg_replica_step.specs.Step.{on_message, on_transitional, on_regular, after_delivery}
 use Rattle.cg_model.specs.FactsReplica.{is_attempting, is_primary}
 use Rattle.cg_model.specs.Small.{take_all, take_newest, take_next, take_parting, take_request, newest_conf}
 use Rattle.cg_model.specs.Smalls.{is_between}
@@ -33,15 +33,15 @@ quiet-none r = record { values = same-values r.held; attempting = refl; primary 
 -- ---- the next place
 
 -- the message at a place, where there is one, and what it makes of the replica
-pub data Handed (g : GroupState Msg) (p : ℕ) (r new : Replica) : Type 0 where
-  Nothing : (same : IsQuiet r new) → Handed g p r new
-  Something : (s : Sent Msg) (found : at_place (home g p).ordered (suc (delivered_to g p)) ≡ Some s) (turned : Turned r new s.message) → Handed g p r new
+pub data NextTurned (g : GroupState Msg) (p : ℕ) (r new : Replica) : Type 0 where
+  Nothing : (same : IsQuiet r new) → NextTurned g p r new
+  Something : (s : Sent Msg) (found : at_place (home g p).ordered (suc (delivered_to g p)) ≡ Some s) (turned : Turned r new s.message) → NextTurned g p r new
 
-pub next-turned : (g : GroupState Msg) (p : ℕ) (r : Replica) → Handed g p r (take_next g p (begin r)).replica
-unfolding delivery_at take
+pub next-turned : (g : GroupState Msg) (p : ℕ) (r : Replica) → NextTurned g p r (take_next g p (begin r)).replica
+unfolding delivery_at after_delivery
 next-turned g p r = at (at_place (home g p).ordered (suc (delivered_to g p))) refl where
   at : (o : Option (Sent Msg)) → at_place (home g p).ordered (suc (delivered_to g p)) ≡ o →
-      Handed g p r (take_all (option_map_or (λ s. Message (suc (delivered_to g p)) s.from s.message ∷ []) o []) (begin r)).replica
+      NextTurned g p r (take_all (option_map_or (λ s. Message (suc (delivered_to g p)) s.from s.message ∷ []) o []) (begin r)).replica
   at None e = Nothing (quiet-none r)
   at (Some s) e = Something s e (message-turned r.state s.from s.message (begin r) refl)
 
@@ -197,7 +197,7 @@ stays-parted (Construct conf heard) from m t is parted = absurd (let clash : fal
 -- the message of a place
 parted-place : (r : Replica) (conf : Configuration Msg) (place : ℕ) (t : Turn) → HasParted r t.replica → is_parted t.replica.state ≡ true →
     (let u = take_all (delivery_at conf place) t in HasParted r u.replica × (is_parted u.replica.state ≡ true))
-unfolding delivery_at take
+unfolding delivery_at after_delivery
 parted-place r conf place t so parted = at (at_place conf.ordered place) where
   at : (o : Option (Sent Msg)) →
       (let u = take_all (option_map_or (λ s. Message place s.from s.message ∷ []) o []) t in HasParted r u.replica × (is_parted u.replica.state ≡ true))
@@ -211,12 +211,12 @@ parted-places : (r : Replica) (conf : Configuration Msg) (places : List ℕ) (t 
 parted-places r conf [] t so parted = so
 parted-places r conf (place ∷ places) t so parted =
     let next = parted-place r conf place t so parted in
-    subst (λ (u : Turn). HasParted r u.replica) (sym (fold-append take t (delivery_at conf place) (deliveries_at conf places)))
+    subst (λ (u : Turn). HasParted r u.replica) (sym (fold-append after_delivery t (delivery_at conf place) (deliveries_at conf places)))
     (parted-places r conf places (take_all (delivery_at conf place) t) next.0 next.1)
 
 -- what a parting makes of a replica
 pub parting-turned : (g : GroupState Msg) (p : ℕ) (set places : List ℕ) (r : Replica) → HasParted r (take_parting g p set places (begin r)).replica
-unfolding take
+unfolding after_delivery
 parting-turned g p set places r =
     let first = parted-first r.state (begin r) refl in
     parted-places r (home g p) places (on_transitional r.state (begin r)) (inl first.0) first.1
@@ -275,5 +275,5 @@ comes Left r conf set is between = absurd (let clash : false ≡ true = between 
 -- what a new configuration makes of a replica
 pub newest-come : (g : GroupState Msg) (r : Replica) → is_between r.state ≡ true →
     HasCome r (take_newest g (begin r)).replica (newest_conf g) (configuration g (newest_conf g)).members
-unfolding take
+unfolding after_delivery
 newest-come g r between = comes r.state r (newest_conf g) (configuration g (newest_conf g)).members refl between

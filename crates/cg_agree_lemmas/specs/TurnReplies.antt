@@ -18,7 +18,7 @@ use Rattle.cg_client.specs.Turn.{Turn, begin}
 use Rattle.cg_client.specs.Marks.{marked, after_owed, given_to, place_green}
 use Rattle.cg_client.specs.Requests.{is_creating, next_action, create, create_kept, empty_buffer, buffer, settle, request_in, request}
 use Rattle.cg_client.specs.Summary.{redden, forget_own, own_to_red}
-use Rattle.cg_step.specs.Step.{Input, Deliveries, Asks, replica_step, take}
+use Rattle.cg_replica_step.specs.Step.{Input, Deliveries, Asks, replica_step, after_delivery}
 use Rattle.cg_commit.specs.Holds.{run_on, cut_behind}
 use Rattle.cg_commit.specs.RunLaws.{cut_behind-append, run_on-next}
 use Rattle.cg_commit.specs.HeldLaws.{names-behind}
@@ -228,7 +228,7 @@ request-answered old t kind is = at t.replica.state where
 pub step-answered : (r : Replica) (input : Input) → IsAnswered r.held (replica_step r input)
 unfolding replica_step
 step-answered r (Deliveries list) =
-    let t = fold take (begin r) list in
+    let t = fold after_delivery (begin r) list in
     settle-answered r.held t (of-deliveries (IsTakenUp r.held) (λ a. Unit {0}) (answered-rule r.held) (begin r) list (anything list) (record { made = refl; is = first-answered r })).is
 step-answered r (Asks kind) = request-answered r.held (begin r) kind (first-answered r)
 

@@ -14,7 +14,7 @@ use Rattle.cg_queue.specs.MarkLaws.{red-gap, red-known, red-placed}
 use Rattle.cg_records.specs.declared.primary.Primary.{Primary}
 use Rattle.cg_records.specs.declared.vulnerable.Vulnerable.{Vulnerable}
 use Rattle.cg_knowledge.specs.declared.summary.Summary.{Summary}
-use Rattle.cg_knowledge.specs.Members.{gone, senders}
+use Rattle.cg_knowledge.specs.Summaries.{gone, senders}
 use Rattle.cg_knowledge.specs.Primary.{known_primary, known_attempt}
 use Rattle.cg_knowledge.specs.Yellow.{common_yellow}
 use Rattle.cg_knowledge.specs.Vulnerable.{decided}
@@ -34,13 +34,13 @@ use Rattle.cg_client.specs.Summary.{own_to_red, summary_of, enter_exchange}
 use Rattle.cg_client.specs.Install.{actions_named, valid_yellow, yellow_green, reds_green, prim_after, install}
 use Rattle.cg_prim.specs.TransPrim.{end_prim}
 use Rattle.cg_exchange.specs.PlanEnd.{usable_names, take_over, begin_attempt, attempt, decide, end_plan}
-use Rattle.cg_exchange.specs.ExchangeActions.{mark_item, take_item, send_part, messages_of, progress, go_on, is_next, exchange_actions_on_item}
+use Rattle.cg_exchange.specs.ExchangeActions.{mark_item, take_item, send_part, messages_in_part, progress, go_on, is_next, exchange_actions_on_item}
 use Rattle.cg_exchange.specs.ExchangeStates.{is_usable, with_heard, exchange_states_on_summary}
 use Rattle.cg_construct.specs.Construct.{attempt_set, is_announced, construct_with, construct_on_cpc}
 use Rattle.cg_construct.specs.No.{no_record, no_with, no_on_cpc}
 use Rattle.cg_construct.specs.Un.{un_on_action}
-use Rattle.cg_step.specs.Step.{on_message, on_transitional, on_regular, take}
-use Rattle.cg_step.specs.Recorded.{OfMessage}
+use Rattle.cg_replica_step.specs.Step.{on_message, on_transitional, on_regular, after_delivery}
+use Rattle.cg_replica_step.specs.Recorded.{OfMessage}
 use Rattle.cg_model.specs.World.{is_left_state}
 use Rattle.cg_model.specs.Talk.{action_in}
 use Rattle.cg_commit.specs.HeldLaws.{each-found}
@@ -58,7 +58,7 @@ pub record IsRule (P : Turn → Type 0) (Fine : Action → Type 0) : Type 0 wher
   pub goes : (t : Turn) (state : State) → is_left_state state ≡ false → P t → P (go_to t state)
   pub leaves : (t : Turn) → P t → P (go_to (empty_buffer t) Left)
   pub says : (t : Turn) (m : Msg) → action_in m ≡ None → P t → P (send t m)
-  pub part : (t : Turn) (part : Part) → P t → P (record t { sent = t.sent ++ messages_of t.replica.held.queue part })
+  pub part : (t : Turn) (part : Part) → P t → P (record t { sent = t.sent ++ messages_in_part t.replica.held.queue part })
   pub values : (t : Turn) (yellow : List ActionId) (valid : Bool) (prim : Primary) (index : ℕ) (v : Option Vulnerable) → P t →
       P (with_held t (with_values t.replica.held yellow valid prim index v))
   pub known : (t : Turn) (a : Action) → Fine a → a.id.index ≡ suc (index_in t.replica.held.queue.red_cut a.id.creator) → is_unmade t.replica.held a ≡ false →
@@ -364,12 +364,12 @@ module _ (P : Turn → Type 0) (Fine : Action → Type 0) (rule : IsRule P Fine)
   of-on_regular (NonPrim regular) conf set t p = of-enter_exchange t conf set p
   of-on_regular Left conf set t p = p
 
-  pub of-take : (t : Turn) (d : Delivery Msg) → OfDelivery Fine d → P t → P (take t d)
-  unfolding take
+  pub of-take : (t : Turn) (d : Delivery Msg) → OfDelivery Fine d → P t → P (after_delivery t d)
+  unfolding after_delivery
   of-take t (Message place from m) fine p = of-on_message t.replica.state from m t fine p
   of-take t (TransitionalIn conf set) fine p = of-on_transitional t.replica.state t p
   of-take t (RegularIn conf set) fine p = of-on_regular t.replica.state conf set t p
 
-  pub of-deliveries : (t : Turn) (list : List (Delivery Msg)) → Each (OfDelivery Fine) list → P t → P (fold take t list)
+  pub of-deliveries : (t : Turn) (list : List (Delivery Msg)) → Each (OfDelivery Fine) list → P t → P (fold after_delivery t list)
   of-deliveries t [] fine p = p
-  of-deliveries t (d ∷ list) fine p = of-deliveries (take t d) list fine.1 (of-take t d fine.0 p)
+  of-deliveries t (d ∷ list) fine p = of-deliveries (after_delivery t d) list fine.1 (of-take t d fine.0 p)

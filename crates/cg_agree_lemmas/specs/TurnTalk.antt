@@ -16,8 +16,8 @@ use Rattle.cg_client.specs.Turn.{Turn, begin}
 use Rattle.cg_client.specs.Requests.{is_creating, create_kept, buffer, settle, request, request_in}
 use Rattle.cg_construct.specs.Construct.{attempt_set}
 use Rattle.cg_commit.specs.Crash.{Disk}
-use Rattle.cg_stored.specs.Stored.{stored_of, whiten}
-use Rattle.cg_model.specs.World.{Life, Up, Down as DownLife, Seat, World, set_life, seat_of, replica_of, running}
+use Rattle.cg_disk_records.specs.Stored.{stored_of, whiten}
+use Rattle.cg_model.specs.World.{NodeState, Up, Down as DownLife, Node, World, set_life, node_of, replica_of, running}
 use Rattle.cg_model.specs.Chronicle.{Told, Chronicle}
 use Rattle.cg_model.specs.Looks.{greens_of}
 use Rattle.cg_model.specs.Talk.{summary_in}
@@ -28,7 +28,7 @@ use Rattle.cg_model.specs.Small.{Settles, Asks, small_step, commit_as, turning, 
 use Rattle.cg_agree_lemmas.specs.HandSays.{find-holds}
 use Rattle.cg_agree_lemmas.specs.HandsTalk.{SaidFacts}
 use Rattle.cg_agree_lemmas.specs.CreatesTalk.{Adds, adds-create, adds-kept, creates-said}
-use Rattle.cg_agree_lemmas.specs.ChronicleFacts.{seat_of-set}
+use Rattle.cg_agree_lemmas.specs.ChronicleFacts.{node_of-set}
 use Rattle.cg_agree_lemmas.specs.SmallTalk.{conf-there}
 use Rattle.cg_agree_lemmas.specs.TalkCommute.{clash}
 use Rattle.cg_agree_lemmas.specs.TalkFrame.{SameTalk, IsShownAs, same-said}
@@ -42,7 +42,7 @@ pub record IsQuiet (r : Replica) (u : Turn) : Type 0 where
 abbrev pub CreatesOrIsQuiet : Replica → Turn → Type 0
 CreatesOrIsQuiet r u = ((is_creating r.state ≡ true) × Adds (begin r) u) ⊎ IsQuiet r u
 
-module _ (c : Chronicle) (p : ℕ) (r : Replica) (disk : Disk) (u : Turn) (quiet : IsQuiet r u) (seat : seat_of c.world p ≡ Some (record { id = p; life = Up r disk })) where
+module _ (c : Chronicle) (p : ℕ) (r : Replica) (disk : Disk) (u : Turn) (quiet : IsQuiet r u) (node : node_of c.world p ≡ Some (record { id = p; life = Up r disk })) where
   abbrev behind : Chronicle
   behind = after_turn c p r disk u
 
@@ -50,8 +50,8 @@ module _ (c : Chronicle) (p : ℕ) (r : Replica) (disk : Disk) (u : Turn) (quiet
   group-same = ap (send_all c.world.group p) quiet.sent
 
   replica-behind : (q : ℕ) → replica_of behind.world q ≡ cond (q == p) (Some u.replica) (replica_of c.world q)
-  replica-behind q = ap (option_and_then (λ (x : Seat). running x.life)) (seat_of-set c.world p (Up u.replica disk) q)
-      ∙ at-cond (option_and_then (λ (x : Seat). running x.life)) (p == q) (Some (record { id = p; life = Up u.replica disk })) (seat_of c.world q)
+  replica-behind q = ap (option_and_then (λ (x : Node). running x.life)) (node_of-set c.world p (Up u.replica disk) q)
+      ∙ at-cond (option_and_then (λ (x : Node). running x.life)) (p == q) (Some (record { id = p; life = Up u.replica disk })) (node_of c.world q)
       ∙ ap (λ b. cond b (Some u.replica) (replica_of c.world q)) (eqb_comm p q)
 
   itself : (o : Option Replica) → IsShownAs o o
@@ -61,7 +61,7 @@ module _ (c : Chronicle) (p : ℕ) (r : Replica) (disk : Disk) (u : Turn) (quiet
   shown : (q : ℕ) → IsShownAs (replica_of c.world q) (replica_of behind.world q)
   shown q = ⊎_elim
       (λ is.
-      let before : replica_of c.world q ≡ Some r = ap (replica_of c.world) (eqb-true q p is) ∙ ap (option_and_then (λ (x : Seat). running x.life)) seat in
+      let before : replica_of c.world q ≡ Some r = ap (replica_of c.world) (eqb-true q p is) ∙ ap (option_and_then (λ (x : Node). running x.life)) node in
       let after : replica_of behind.world q ≡ Some u.replica = replica-behind q ∙ cond-true (q == p) (Some u.replica) (replica_of c.world q) is in
       subst (λ (o : Option Replica). IsShownAs o (replica_of behind.world q)) (sym before) (subst (λ (o : Option Replica). IsShownAs (Some r) o) (sym after) (quiet.state, quiet.set)))
       (λ isnt. subst (λ (o : Option Replica). IsShownAs (replica_of c.world q) o) (sym (replica-behind q ∙ cond-false (q == p) (Some u.replica) (replica_of c.world q) isnt)) (itself (replica_of c.world q)))
@@ -107,17 +107,17 @@ number-of c p (suc n) there = ne_eqb (suc n) 0 (λ e. omega arith)
 -- a turn that creates in a state that creates, and is quiet else
 pub turn-kept : (c : Chronicle) (p : ℕ) (part : Turn → Turn) → PhaseSound c → ((q : ℕ) → IfSome (replica_of c.world q) (IsModeData c q)) → SaidFacts c →
     ((r : Replica) → CreatesOrIsQuiet r (part (begin r))) → SaidFacts (turning c p part)
-turn-kept c p part sound mode said each = at (seat_of c.world p) refl where
-  up : (r : Replica) (disk : Disk) → seat_of c.world p ≡ Some (record { id = p; life = Up r disk }) → CreatesOrIsQuiet r (part (begin r)) → SaidFacts (after_turn c p r disk (part (begin r)))
-  up r disk seat (inr quiet) = same-said c (after_turn c p r disk (part (begin r))) (quiet-same c p r disk (part (begin r)) quiet seat) said
-  up r disk seat (inl creates) =
-      let running' : replica_of c.world p ≡ Some r = ap (option_and_then (λ (x : Seat). running x.life)) seat in
+turn-kept c p part sound mode said each = at (node_of c.world p) refl where
+  up : (r : Replica) (disk : Disk) → node_of c.world p ≡ Some (record { id = p; life = Up r disk }) → CreatesOrIsQuiet r (part (begin r)) → SaidFacts (after_turn c p r disk (part (begin r)))
+  up r disk node (inr quiet) = same-said c (after_turn c p r disk (part (begin r))) (quiet-same c p r disk (part (begin r)) quiet node) said
+  up r disk node (inl creates) =
+      let running' : replica_of c.world p ≡ Some r = ap (option_and_then (λ (x : Node). running x.life)) node in
       let state = subst (λ (o : Option Replica). IfSome o (IsStateIn c p (phase_of c.world.group p))) running' (said.modes p) in
       let data_of = subst (λ (o : Option Replica). IfSome o (IsModeData c p)) running' (mode p) in
       let regular = creating-regular c p r (phase_of c.world.group p) state (sound.phase p) creates.0 in
       let there = subst (IsPhase c p (delivered_to c.world.group p)) regular.1 (sound.phase p) in
       creates-said c p regular.0 r disk (part (begin r)) (record {
-        seat = seat;
+        node = node;
         regular = regular.1;
         number = number-of c p regular.0 there;
         member = there.0;
@@ -126,13 +126,13 @@ turn-kept c p part sound mode said each = at (seat_of c.world p) refl where
         adds = creates.1;
       }) said
 
-  life : (s : Seat) (life : Life) → s.life ≡ life → s.id ≡ p → seat_of c.world p ≡ Some s → SaidFacts (turning_as c p part life)
+  life : (s : Node) (life : NodeState) → s.life ≡ life → s.id ≡ p → node_of c.world p ≡ Some s → SaidFacts (turning_as c p part life)
   life s (Up r disk) is id e = up r disk (e ∙ ap₂ (λ i l. Some (record { id = i; life = l })) id is) (each r)
   life s (DownLife disk green) is id e = said
 
-  at : (o : Option Seat) → seat_of c.world p ≡ o → SaidFacts (option_map_or (λ s. turning_as c p part s.life) o c)
+  at : (o : Option Node) → node_of c.world p ≡ o → SaidFacts (option_map_or (λ s. turning_as c p part s.life) o c)
   at None e = said
-  at (Some s) e = life s s.life refl (eqb-true s.id p (find-holds (λ (s : Seat). s.id == p) c.world.seats s e)) e
+  at (Some s) e = life s s.life refl (eqb-true s.id p (find-holds (λ (s : Node). s.id == p) c.world.nodes s e)) e
 
 pub settle-each : (r : Replica) → CreatesOrIsQuiet r (settle (begin r))
 settle-each r = ⊎_elim
@@ -171,33 +171,33 @@ as-itself : (o : Option Replica) → IsShownAs o o
 as-itself None = tt
 as-itself (Some x) = (refl, refl)
 
--- a replica with the same state, in its seat
-life-shown : (w : World) (p : ℕ) (r new : Replica) (disk disk' : Disk) → seat_of w p ≡ Some (record { id = p; life = Up r disk }) →
+-- a replica with the same state, in its node
+life-shown : (w : World) (p : ℕ) (r new : Replica) (disk disk' : Disk) → node_of w p ≡ Some (record { id = p; life = Up r disk }) →
     new.state ≡ r.state → attempt_set new.held ≡ attempt_set r.held → (q : ℕ) → IsShownAs (replica_of w q) (replica_of (set_life w p (Up new disk')) q)
-life-shown w p r new disk disk' seat state set q = ⊎_elim
+life-shown w p r new disk disk' node state set q = ⊎_elim
     (λ is.
-    let before : replica_of w q ≡ Some r = ap (replica_of w) (eqb-true q p is) ∙ ap (option_and_then (λ (x : Seat). running x.life)) seat in
+    let before : replica_of w q ≡ Some r = ap (replica_of w) (eqb-true q p is) ∙ ap (option_and_then (λ (x : Node). running x.life)) node in
     let after : replica_of (set_life w p (Up new disk')) q ≡ Some new = behind ∙ cond-true (q == p) (Some new) (replica_of w q) is in
     subst (λ (o : Option Replica). IsShownAs o (replica_of (set_life w p (Up new disk')) q)) (sym before) (subst (λ (o : Option Replica). IsShownAs (Some r) o) (sym after) (state, set)))
     (λ isnt. subst (λ (o : Option Replica). IsShownAs (replica_of w q) o) (sym (behind ∙ cond-false (q == p) (Some new) (replica_of w q) isnt)) (as-itself (replica_of w q)))
     (cases_Bool (q == p)) where
       behind : replica_of (set_life w p (Up new disk')) q ≡ cond (q == p) (Some new) (replica_of w q)
-      behind = ap (option_and_then (λ (x : Seat). running x.life)) (seat_of-set w p (Up new disk') q)
-          ∙ at-cond (option_and_then (λ (x : Seat). running x.life)) (p == q) (Some (record { id = p; life = Up new disk' })) (seat_of w q)
+      behind = ap (option_and_then (λ (x : Node). running x.life)) (node_of-set w p (Up new disk') q)
+          ∙ at-cond (option_and_then (λ (x : Node). running x.life)) (p == q) (Some (record { id = p; life = Up new disk' })) (node_of w q)
           ∙ ap (λ b. cond b (Some new) (replica_of w q)) (eqb_comm p q)
 
 white-set : (h : Held) → attempt_set (whiten h) ≡ attempt_set h
 unfolding whiten
 white-set h = refl
 
-pub commit-same : (c : Chronicle) (p : ℕ) (r : Replica) (disk : Disk) → seat_of c.world p ≡ Some (record { id = p; life = Up r disk }) → SameTalk c (commit_as c p (Up r disk))
-commit-same c p r disk seat = record {
+pub commit-same : (c : Chronicle) (p : ℕ) (r : Replica) (disk : Disk) → node_of c.world p ≡ Some (record { id = p; life = Up r disk }) → SameTalk c (commit_as c p (Up r disk))
+commit-same c p r disk node = record {
   members = λ k. refl;
   ordered = λ k. refl;
   phase = λ q. refl;
   delivered = λ q. refl;
   waits = λ q. refl;
   told = λ k q. refl;
-  replica = life-shown c.world p r (record r { held = whiten r.held }) disk (record disk { content = stored_of (whiten r.held) }) seat refl (white-set r.held);
+  replica = life-shown c.world p r (record r { held = whiten r.held }) disk (record disk { content = stored_of (whiten r.held) }) node refl (white-set r.held);
   receipts = λ k q place out. refl;
 }

@@ -14,7 +14,7 @@ use Rattle.cg_group.specs.Refusals.{not_up, not_regular, nothing_to_order, order
 use Rattle.cg_client.specs.Turn.{Turn, begin}
 use Rattle.cg_client.specs.Requests.{settle}
 use Rattle.cg_commit.specs.Crash.{recovered}
-use Rattle.cg_model.specs.World.{Life, Up, Down, Seat, World, seat_of, replica_of}
+use Rattle.cg_model.specs.World.{NodeState, Up, Down, Node, World, node_of, replica_of}
 use Rattle.cg_model.specs.Step.{begin_replica}
 use Rattle.cg_model.specs.Chronicle.{Chronicle}
 use Rattle.cg_model.specs.Looks.{snapshot_of}
@@ -39,21 +39,21 @@ regular-where_ordered g p e =
     let regular = first-none (not_regular g p) (nothing_to_order g p ∷ []) up.1 in
     refused-not (is_regular g p) _ regular.0
 
-pub waits-turning_as : (c : Chronicle) (p : ℕ) (part : Turn → Turn) (life : Life) → WaitRegular c.world.group → WaitRegular (turning_as c p part life).world.group
+pub waits-turning_as : (c : Chronicle) (p : ℕ) (part : Turn → Turn) (life : NodeState) → WaitRegular c.world.group → WaitRegular (turning_as c p part life).world.group
 waits-turning_as c p part (Up r disk) w = WaitRegular-sent p (part (begin r)).sent c.world.group w
 waits-turning_as c p part (Down disk green) w = w
 
 pub waits-turning : (c : Chronicle) (p : ℕ) (part : Turn → Turn) → WaitRegular c.world.group → WaitRegular (turning c p part).world.group
-waits-turning c p part w = at (seat_of c.world p) where
-  at : (o : Option Seat) → WaitRegular (option_map_or (λ s. turning_as c p part s.life) o c).world.group
+waits-turning c p part w = at (node_of c.world p) where
+  at : (o : Option Node) → WaitRegular (option_map_or (λ s. turning_as c p part s.life) o c).world.group
   at None = w
   at (Some s) = waits-turning_as c p part s.life w
 
--- at a seat, where there is one
-at-seat : {X : Type 0} (o : Option X) (change : X → Chronicle) (c : Chronicle) → ((x : X) → WaitRegular (change x).world.group) → WaitRegular c.world.group →
+-- at a node, where there is one
+at-node : {X : Type 0} (o : Option X) (change : X → Chronicle) (c : Chronicle) → ((x : X) → WaitRegular (change x).world.group) → WaitRegular c.world.group →
     WaitRegular (option_map_or change o c).world.group
-at-seat None change c each w = w
-at-seat (Some x) change c each w = each x
+at-node None change c each w = w
+at-node (Some x) change c each w = each x
 
 waits-up : (g : GroupState Msg) (p : ℕ) → WaitRegular g → WaitRegular (come_up g p)
 unfolding come_up
@@ -67,15 +67,15 @@ waits-made : (g : GroupState Msg) (set : List ℕ) → WaitRegular g → WaitReg
 unfolding standing_of
 waits-made g set w = WaitRegular-fewer g (make_configuration g set) (λ q. inl refl) w
 
-waits-commit_as : (c : Chronicle) (p : ℕ) (life : Life) → WaitRegular c.world.group → WaitRegular (commit_as c p life).world.group
+waits-commit_as : (c : Chronicle) (p : ℕ) (life : NodeState) → WaitRegular c.world.group → WaitRegular (commit_as c p life).world.group
 waits-commit_as c p (Up r disk) w = w
 waits-commit_as c p (Down disk green) w = w
 
-waits-crash_as : (c : Chronicle) (p : ℕ) (life : Life) → WaitRegular c.world.group → WaitRegular (crash_as c p life).world.group
+waits-crash_as : (c : Chronicle) (p : ℕ) (life : NodeState) → WaitRegular c.world.group → WaitRegular (crash_as c p life).world.group
 waits-crash_as c p (Up r disk) w = WaitRegular-down c.world.group p w
 waits-crash_as c p (Down disk green) w = w
 
-waits-recover_as : (c : Chronicle) (life : Life) → WaitRegular c.world.group → WaitRegular (recover_as c life).world.group
+waits-recover_as : (c : Chronicle) (life : NodeState) → WaitRegular c.world.group → WaitRegular (recover_as c life).world.group
 waits-recover_as c (Up r disk) w = w
 waits-recover_as c (Down disk green) w = waits-up c.world.group (recovered disk).held.id w
 
@@ -105,8 +105,8 @@ unordered_regular-kept c (Leaves p set own places) m w =
     (WaitRegular-set g (record { id = p; phase = Transitional (regular_in (phase_of g p)) set; delivered = own; unordered = [] }) (λ out. refl) w)
 unordered_regular-kept c (Asks p kind) m w = waits-turning c p (take_request kind) w
 unordered_regular-kept c (Settles p) m w = waits-turning c p settle w
-unordered_regular-kept c (Commits p) m w = at-seat (seat_of c.world p) (λ s. commit_as c p s.life) c (λ s. waits-commit_as c p s.life w) w
-unordered_regular-kept c (Crashes p) m w = at-seat (seat_of c.world p) (λ s. crash_as c p s.life) c (λ s. waits-crash_as c p s.life w) w
-unordered_regular-kept c (Recovers p) m w = at-seat (seat_of c.world p) (λ s. recover_as c s.life) c (λ s. waits-recover_as c s.life w) w
-unordered_regular-kept c (Copies p joiner) m w = at-seat (replica_of c.world p) (copy_as c p joiner) c (λ r. w) w
-unordered_regular-kept c (Joins joiner) m w = at-seat (snapshot_of c.world joiner) (λ s. join_with c joiner s.content) c (λ s. waits-up c.world.group joiner w) w
+unordered_regular-kept c (Commits p) m w = at-node (node_of c.world p) (λ s. commit_as c p s.life) c (λ s. waits-commit_as c p s.life w) w
+unordered_regular-kept c (Crashes p) m w = at-node (node_of c.world p) (λ s. crash_as c p s.life) c (λ s. waits-crash_as c p s.life w) w
+unordered_regular-kept c (Recovers p) m w = at-node (node_of c.world p) (λ s. recover_as c s.life) c (λ s. waits-recover_as c s.life w) w
+unordered_regular-kept c (Copies p joiner) m w = at-node (replica_of c.world p) (copy_as c p joiner) c (λ r. w) w
+unordered_regular-kept c (Joins joiner) m w = at-node (snapshot_of c.world joiner) (λ s. join_with c joiner s.content) c (λ s. waits-up c.world.group joiner w) w

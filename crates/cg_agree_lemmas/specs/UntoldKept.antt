@@ -11,8 +11,8 @@ use Rattle.cg_client.specs.Turn.{Turn, begin}
 use Rattle.cg_client.specs.Requests.{settle}
 use Rattle.cg_client.specs.Summary.{summary_of}
 use Rattle.cg_commit.specs.Commit.{commits}
-use Rattle.cg_commit.specs.Crash.{Ended, Runs, Crashes as EndsInCrash}
-use Rattle.cg_model.specs.World.{Life, Up, Down, Seat, running, seat_of, replica_of}
+use Rattle.cg_commit.specs.Crash.{EventEnd, Runs, Crashes as EndsInCrash}
+use Rattle.cg_model.specs.World.{NodeState, Up, Down, Node, running, node_of, replica_of}
 use Rattle.cg_model.specs.Chronicle.{Told, Chronicle}
 use Rattle.cg_model.specs.Looks.{greens_of, told_in}
 use Rattle.cg_model.specs.Talk.{summary_in}
@@ -36,12 +36,12 @@ IsMerging p (Crashes q) = q ≡ p
 IsMerging p _ = ⊥
 
 confs-turning : (c : Chronicle) (p : ℕ) (part : Turn → Turn) → (turning c p part).world.group.configurations ≡ c.world.group.configurations
-confs-turning c p part = at (seat_of c.world p) where
-  life : (l : Life) → (turning_as c p part l).world.group.configurations ≡ c.world.group.configurations
+confs-turning c p part = at (node_of c.world p) where
+  life : (l : NodeState) → (turning_as c p part l).world.group.configurations ≡ c.world.group.configurations
   life (Up r disk) = configurations-sent (part (begin r)).sent c.world.group p
   life (Down disk green) = refl
 
-  at : (o : Option Seat) → (option_map_or (λ s. turning_as c p part s.life) o c).world.group.configurations ≡ c.world.group.configurations
+  at : (o : Option Node) → (option_map_or (λ s. turning_as c p part s.life) o c).world.group.configurations ≡ c.world.group.configurations
   at None = refl
   at (Some s) = life s.life
 
@@ -52,20 +52,20 @@ confs-enter c p = confs-turning (coming c p) p (take_newest c.world.group) ∙ c
 confs-merging : (c : Chronicle) (s : Small) (p : ℕ) → IsMerging p s → (small_step c s).world.group.configurations ≡ c.world.group.configurations
 unfolding small_step
 confs-merging c (Settles q) p is = confs-turning c q settle
-confs-merging c (Commits q) p is = at (seat_of c.world q) where
-  life : (l : Life) → (commit_as c q l).world.group.configurations ≡ c.world.group.configurations
+confs-merging c (Commits q) p is = at (node_of c.world q) where
+  life : (l : NodeState) → (commit_as c q l).world.group.configurations ≡ c.world.group.configurations
   life (Up r disk) = refl
   life (Down disk green) = refl
 
-  at : (o : Option Seat) → (option_map_or (λ s. commit_as c q s.life) o c).world.group.configurations ≡ c.world.group.configurations
+  at : (o : Option Node) → (option_map_or (λ s. commit_as c q s.life) o c).world.group.configurations ≡ c.world.group.configurations
   at None = refl
   at (Some s) = life s.life
-confs-merging c (Crashes q) p is = at (seat_of c.world q) where
-  life : (l : Life) → (crash_as c q l).world.group.configurations ≡ c.world.group.configurations
+confs-merging c (Crashes q) p is = at (node_of c.world q) where
+  life : (l : NodeState) → (crash_as c q l).world.group.configurations ≡ c.world.group.configurations
   life (Up r disk) = configurations-down c.world.group q
   life (Down disk green) = refl
 
-  at : (o : Option Seat) → (option_map_or (λ s. crash_as c q s.life) o c).world.group.configurations ≡ c.world.group.configurations
+  at : (o : Option Node) → (option_map_or (λ s. crash_as c q s.life) o c).world.group.configurations ≡ c.world.group.configurations
   at None = refl
   at (Some s) = life s.life
 confs-merging c (Starts set) p is = absurd is
@@ -88,12 +88,12 @@ pub record IsUntoldIn (conf : ℕ) (c : Chronicle) (q : ℕ) : Type 0 where
 
 -- where it isn't up nothing is told
 none-told : (c : Chronicle) (p : ℕ) (part : Turn → Turn) → replica_of c.world p ≡ None → (turning c p part).told ≡ c.told
-none-told c p part e = at (seat_of c.world p) refl where
-  life : (s : Seat) → seat_of c.world p ≡ Some s → (l : Life) → s.life ≡ l → (turning_as c p part l).told ≡ c.told
+none-told c p part e = at (node_of c.world p) refl where
+  life : (s : Node) → node_of c.world p ≡ Some s → (l : NodeState) → s.life ≡ l → (turning_as c p part l).told ≡ c.told
   life s f (Down disk green) is = refl
-  life s f (Up r disk) is = absurd (let clash : Some r ≡ None = sym (ap (λ (o : Option Seat). option_and_then (λ s. running s.life) o) f ∙ ap running is) ∙ e in cc)
+  life s f (Up r disk) is = absurd (let clash : Some r ≡ None = sym (ap (λ (o : Option Node). option_and_then (λ s. running s.life) o) f ∙ ap running is) ∙ e in cc)
 
-  at : (o : Option Seat) → seat_of c.world p ≡ o → (option_map_or (λ s. turning_as c p part s.life) o c).told ≡ c.told
+  at : (o : Option Node) → node_of c.world p ≡ o → (option_map_or (λ s. turning_as c p part s.life) o c).told ≡ c.told
   at None f = refl
   at (Some s) f = life s f s.life refl
 
@@ -121,12 +121,12 @@ entering-told c p q conf apart mine none = at (replica_of c.world p) refl mine w
   at None e is = ap (find test) (none-told (coming c p) p part e) ∙ none
   at (Some r) e is =
       let here = is-up c.world p (ap is_some e) in
-      let same : here.replica ≡ r = some-replica here.replica r (sym (ap (λ (o : Option Seat). option_and_then (λ s. running s.life) o) here.seat) ∙ e) in
+      let same : here.replica ≡ r = some-replica here.replica r (sym (ap (λ (o : Option Node). option_and_then (λ s. running s.life) o) here.node) ∙ e) in
       let turn = told-newest c.world.group r is.0 in
       let u = part (begin r) in
       let one : Told = record { summary = summary_of u.replica.held (newest_conf c.world.group); greens = greens_of c p } in
       let goes : turning (coming c p) p part ≡ after_turn (coming c p) p here.replica here.disk (part (begin here.replica)) =
-      ap (λ (o : Option Seat). option_map_or (λ s. turning_as (coming c p) p part s.life) o (coming c p)) here.seat in
+      ap (λ (o : Option Node). option_map_or (λ s. turning_as (coming c p) p part s.life) o (coming c p)) here.node in
       let told : (turning (coming c p) p part).told ≡ c.told ++ one ∷ [] =
       ap (λ (x : Chronicle). x.told) goes ∙ ap (λ (z : Replica). c.told ++ map (made-told c p) (filter_map summary_in (part (begin z)).sent)) same
       ∙ ap (λ xs. c.told ++ map (made-told c p) (filter_map summary_in xs)) turn.sent in
@@ -141,7 +141,7 @@ module _ (conf : ℕ) where
       record {
         told = told_in-same c (small_step c s) (told-same c s silent) conf q ∙ old.told;
         newest = ap length (confs-merging c s p is) ∙ old.newest;
-        between = subst (λ (o : Option Seat). IfSome (option_and_then (λ s. running s.life) o) (λ r. (is_between r.state ≡ true) × (r.held.id ≡ q))) (sym kept.seat) old.between;
+        between = subst (λ (o : Option Node). IfSome (option_and_then (λ s. running s.life) o) (λ r. (is_between r.state ≡ true) × (r.held.id ≡ q))) (sym kept.node) old.between;
       }
 
   entering-keeps : (c : Chronicle) (p q : ℕ) → (q ≡ p → ⊥) → IsUntoldIn conf c p → IsUntoldIn conf c q → IsUntoldIn conf (small_step c (Enters p)) q
@@ -150,7 +150,7 @@ module _ (conf : ℕ) where
       record {
         told = entering-told c p q conf apart mine.between old.told;
         newest = ap length (confs-enter c p) ∙ old.newest;
-        between = subst (λ (o : Option Seat). IfSome (option_and_then (λ s. running s.life) o) (λ r. (is_between r.state ≡ true) × (r.held.id ≡ q))) (sym kept.seat) old.between;
+        between = subst (λ (o : Option Node). IfSome (option_and_then (λ s. running s.life) o) (λ r. (is_between r.state ≡ true) × (r.held.id ≡ q))) (sym kept.node) old.between;
       }
 
   -- the block of a member keeps it of the others
@@ -168,7 +168,7 @@ module _ (conf : ℕ) where
     committed : IsUntoldIn conf (small_step (small_step (small_step c (Enters p)) (Settles p)) (Commits p)) q
     committed = merging-keeps (small_step (small_step c (Enters p)) (Settles p)) (Commits p) p q refl tt refl apart settled
 
-    at : (e : Ended) → IsUntoldIn conf (played c (ending_as k (merge_block p) e)) q
+    at : (e : EventEnd) → IsUntoldIn conf (played c (ending_as k (merge_block p) e)) q
     at (Runs r disk) = cond_both (commits k.before.held k.turn) (Commits p ∷ []) [] (λ list. IsUntoldIn conf (played c (Enters p ∷ Settles p ∷ list)) q) (λ y. committed) (λ n. settled)
     at (EndsInCrash disk green) =
         cond_both (stands k) (Enters p ∷ Settles p ∷ Commits p ∷ Crashes p ∷ []) (Crashes p ∷ []) (λ list. IsUntoldIn conf (played c list) q)

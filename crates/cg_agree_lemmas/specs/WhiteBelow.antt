@@ -7,7 +7,7 @@ use Rattle.cg_base.specs.Sets.{has, common}
 use Rattle.cg_base.specs.SetLaws.{has-without, has-common}
 use Rattle.cg_action.specs.declared.action.Action.{Action}
 use Rattle.cg_knowledge.specs.declared.summary.Summary.{Summary}
-use Rattle.cg_knowledge.specs.Members.{senders, gone, remaining, most_updated}
+use Rattle.cg_knowledge.specs.Summaries.{senders, gone, remaining, most_updated}
 use Rattle.cg_members.specs.Listed.{line_of}
 use Rattle.cg_members.specs.Servers.{members_of, is_server, was_ever}
 use Rattle.cg_plan.specs.Plan.{of_remaining, least_greens}

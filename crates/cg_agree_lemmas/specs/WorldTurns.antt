@@ -1,4 +1,4 @@
--- Where the seat of a replica leads in an event in which replicas take turns: it takes its own turn, or its seat stays.
+-- Where the node of a replica leads in an event in which replicas take turns: it takes its own turn, or its node stays.
 use Rattle.std.proofs.Common.{◌⊎◌, ◌≡◌, ℕ, suc, ◌<◌, ◌≤◌, List, [], ◌∷◌, map, fold, find, Option, Some, None, refl, sym, ap, ◌∙◌, subst, arith, inl, inr, eq-eqb}
 use Rattle.std.specs.Prelude.{◌==◌}
 use Rattle.std.specs.Option.{option_map_or}
@@ -7,15 +7,15 @@ use Rattle.cg_wire.specs.declared.message.Msg.{Msg}
 use Rattle.cg_group.specs.declared.delivery.Handed.{Handed}
 use Rattle.cg_group.specs.EachLaws.{Each}
 use Rattle.cg_client.specs.Replica.{Replica}
-use Rattle.cg_step.specs.Step.{Input, Deliveries, replica_step}
+use Rattle.cg_replica_step.specs.Step.{Input, Deliveries, replica_step}
 use Rattle.cg_commit.specs.Crash.{Disk, end_event}
-use Rattle.cg_model.specs.World.{Life, Up, Down, Seat, World, seat_of}
-use Rattle.cg_model.specs.Show.{Going}
+use Rattle.cg_model.specs.World.{NodeState, Up, Down, Node, World, node_of}
+use Rattle.cg_model.specs.Show.{StepInProgress}
 use Rattle.cg_model.specs.Step.{hand_to, hand, hand_over}
 use Rattle.cg_model.specs.FactsLists.{IsRising}
-use Rattle.cg_agree_lemmas.specs.ChronicleFacts.{seat_of-set}
-use Rattle.cg_agree_lemmas.specs.SeatFacts.{seat-id}
-use Rattle.cg_agree_lemmas.specs.TurnWorlds.{up_seat, life_at, seats-ended}
+use Rattle.cg_agree_lemmas.specs.ChronicleFacts.{node_of-set}
+use Rattle.cg_agree_lemmas.specs.NodeFacts.{node-id}
+use Rattle.cg_agree_lemmas.specs.TurnWorlds.{up_node, life_at, nodes-ended}
 use Rattle.cg_agree_lemmas.specs.EventTurns.{hand-leads}
 
 -- the replica takes a turn with such an input, from the one world to the other
@@ -24,56 +24,56 @@ pub record TakesTurn (Q : ℕ → Input → Type 0) (w v : World) (p : ℕ) : Ty
   pub disk : Disk
   pub input : Input
   pub of : Q p input
-  pub before : seat_of w p ≡ Some (up_seat p replica disk)
-  pub behind : seat_of v p ≡ Some (record { id = p; life = life_at (end_event disk replica.held (replica_step replica input)) })
+  pub before : node_of w p ≡ Some (up_node p replica disk)
+  pub behind : node_of v p ≡ Some (record { id = p; life = life_at (end_event disk replica.held (replica_step replica input)) })
 
 abbrev pub IsBehind : (ℕ → Input → Type 0) → World → World → ℕ → Type 0
-IsBehind Q w v p = (seat_of v p ≡ seat_of w p) ⊎ TakesTurn Q w v p
+IsBehind Q w v p = (node_of v p ≡ node_of w p) ⊎ TakesTurn Q w v p
 
 module _ (Q : ℕ → Input → Type 0) where
   -- a replica takes its turn; others stay
-  pub hand-behind : (go : Going) (q : ℕ) (input : Input) → Q q input → (p : ℕ) → IsBehind Q go.world (hand go q input).world p
+  pub hand-behind : (go : StepInProgress) (q : ℕ) (input : Input) → Q q input → (p : ℕ) → IsBehind Q go.world (hand go q input).world p
   unfolding hand
-  hand-behind go q input of p = at (seat_of go.world q) refl where
-    up : (r : Replica) (disk : Disk) → seat_of go.world q ≡ Some (up_seat q r disk) → IsBehind Q go.world (hand go q input).world p
-    up r disk seat =
+  hand-behind go q input of p = at (node_of go.world q) refl where
+    up : (r : Replica) (disk : Disk) → node_of go.world q ≡ Some (up_node q r disk) → IsBehind Q go.world (hand go q input).world p
+    up r disk node =
         let end = end_event disk r.held (replica_step r input) in
-        let leads = hand-leads go q r disk input seat in
-        let seats = leads.seats ∙ seats-ended go.world go.world.group q (replica_step r input) end in
+        let leads = hand-leads go q r disk input node in
+        let nodes = leads.nodes ∙ nodes-ended go.world go.world.group q (replica_step r input) end in
         elim (cases_eq q p) [
           | inl same ↦ inr (subst (λ (n : ℕ). TakesTurn Q go.world (hand go q input).world n) same (record {
             replica = r;
             disk = disk;
             input = input;
             of = of;
-            before = seat;
-            behind = ap (λ (list : List Seat). find (λ s. s.id == q) list) seats ∙ seat_of-set go.world q (life_at end) q
-                ∙ cond-true (q == q) (Some (record { id = q; life = life_at end })) (seat_of go.world q) (eq-eqb q q refl);
+            before = node;
+            behind = ap (λ (list : List Node). find (λ s. s.id == q) list) nodes ∙ node_of-set go.world q (life_at end) q
+                ∙ cond-true (q == q) (Some (record { id = q; life = life_at end })) (node_of go.world q) (eq-eqb q q refl);
           }))
-          | inr apart ↦ inl (ap (λ (list : List Seat). find (λ s. s.id == p) list) seats ∙ seat_of-set go.world q (life_at end) p ∙ cond-false (q == p) (Some (record { id = q; life = life_at end })) (seat_of go.world p) (ne_eqb q p apart))
+          | inr apart ↦ inl (ap (λ (list : List Node). find (λ s. s.id == p) list) nodes ∙ node_of-set go.world q (life_at end) p ∙ cond-false (q == p) (Some (record { id = q; life = life_at end })) (node_of go.world p) (ne_eqb q p apart))
         ]
 
-    at : (o : Option Seat) → seat_of go.world q ≡ o → IsBehind Q go.world (hand go q input).world p
-    at None e = inl (ap (λ (o : Option Seat). seat_of (option_map_or (λ s. hand_to go q input s.life) o go).world p) e)
+    at : (o : Option Node) → node_of go.world q ≡ o → IsBehind Q go.world (hand go q input).world p
+    at None e = inl (ap (λ (o : Option Node). node_of (option_map_or (λ s. hand_to go q input s.life) o go).world p) e)
     at (Some s) e = life s.life refl where
-      life : (life : Life) → s.life ≡ life → IsBehind Q go.world (hand go q input).world p
-      life (Up r disk) is = up r disk (e ∙ (λ i. Some (record { id = seat-id go.world q s e i; life = is i })))
-      life (Down disk green) is = inl (ap (λ (o : Option Seat). seat_of (option_map_or (λ s. hand_to go q input s.life) o go).world p) e ∙ ap (λ (l : Life). seat_of (hand_to go q input l).world p) is)
+      life : (life : NodeState) → s.life ≡ life → IsBehind Q go.world (hand go q input).world p
+      life (Up r disk) is = up r disk (e ∙ (λ i. Some (record { id = node-id go.world q s e i; life = is i })))
+      life (Down disk green) is = inl (ap (λ (o : Option Node). node_of (option_map_or (λ s. hand_to go q input s.life) o go).world p) e ∙ ap (λ (l : NodeState). node_of (hand_to go q input l).world p) is)
 
-  pub from-same : (w v u : World) (p : ℕ) → seat_of v p ≡ seat_of w p → IsBehind Q v u p → IsBehind Q w u p
+  pub from-same : (w v u : World) (p : ℕ) → node_of v p ≡ node_of w p → IsBehind Q v u p → IsBehind Q w u p
   from-same w v u p same is = elim is [
     | inl stays ↦ inl (stays ∙ same)
     | inr turn ↦ inr (record { replica = turn.replica; disk = turn.disk; input = turn.input; of = turn.of; before = sym same ∙ turn.before; behind = turn.behind })
   ]
 
-  to-same : (w v u : World) (p : ℕ) → seat_of u p ≡ seat_of v p → IsBehind Q w v p → IsBehind Q w u p
+  to-same : (w v u : World) (p : ℕ) → node_of u p ≡ node_of v p → IsBehind Q w v p → IsBehind Q w u p
   to-same w v u p same is = elim is [
     | inl stays ↦ inl (same ∙ stays)
     | inr turn ↦ inr (record { replica = turn.replica; disk = turn.disk; input = turn.input; of = turn.of; before = turn.before; behind = same ∙ turn.behind })
   ]
 
--- who isn't among them keeps its seat
-pub others-stay : (list : List (Handed Msg)) (go : Going) (p low : ℕ) → IsRising low (map (λ h. h.to) list) → p < low → seat_of (fold hand_over go list).world p ≡ seat_of go.world p
+-- who isn't among them keeps its node
+pub others-stay : (list : List (Handed Msg)) (go : StepInProgress) (p low : ℕ) → IsRising low (map (λ h. h.to) list) → p < low → node_of (fold hand_over go list).world p ≡ node_of go.world p
 others-stay [] go p low rise less = refl
 others-stay (h ∷ list) go p low rise less =
     let le = rise.0 in
@@ -84,7 +84,7 @@ others-stay (h ∷ list) go p low rise less =
     ]
 
 -- replicas take their turns, ascending
-pub handed-behind : (Q : ℕ → Input → Type 0) (list : List (Handed Msg)) (go : Going) (low : ℕ) → IsRising low (map (λ h. h.to) list) → Each (λ h. Q h.to (Deliveries h.list)) list →
+pub handed-behind : (Q : ℕ → Input → Type 0) (list : List (Handed Msg)) (go : StepInProgress) (low : ℕ) → IsRising low (map (λ h. h.to) list) → Each (λ h. Q h.to (Deliveries h.list)) list →
     (p : ℕ) → IsBehind Q go.world (fold hand_over go list).world p
 handed-behind Q [] go low rise each p = inl refl
 handed-behind Q (h ∷ list) go low rise each p =
@@ -98,32 +98,32 @@ handed-behind Q (h ∷ list) go low rise each p =
     ]
 
 -- who takes its turn ends as the turn does
-hand-ends : (go : Going) (q : ℕ) (input : Input) (r : Replica) (disk : Disk) → seat_of go.world q ≡ Some (up_seat q r disk) →
-    seat_of (hand go q input).world q ≡ Some (record { id = q; life = life_at (end_event disk r.held (replica_step r input)) })
-hand-ends go q input r disk seat =
+hand-ends : (go : StepInProgress) (q : ℕ) (input : Input) (r : Replica) (disk : Disk) → node_of go.world q ≡ Some (up_node q r disk) →
+    node_of (hand go q input).world q ≡ Some (record { id = q; life = life_at (end_event disk r.held (replica_step r input)) })
+hand-ends go q input r disk node =
     let end = end_event disk r.held (replica_step r input) in
-    let leads = hand-leads go q r disk input seat in
-    ap (λ (list : List Seat). find (λ s. s.id == q) list) (leads.seats ∙ seats-ended go.world go.world.group q (replica_step r input) end) ∙ seat_of-set go.world q (life_at end) q
-    ∙ cond-true (q == q) (Some (record { id = q; life = life_at end })) (seat_of go.world q) (eq-eqb q q refl)
+    let leads = hand-leads go q r disk input node in
+    ap (λ (list : List Node). find (λ s. s.id == q) list) (leads.nodes ∙ nodes-ended go.world go.world.group q (replica_step r input) end) ∙ node_of-set go.world q (life_at end) q
+    ∙ cond-true (q == q) (Some (record { id = q; life = life_at end })) (node_of go.world q) (eq-eqb q q refl)
 
 -- how a replica ends that is handed this
 abbrev pub EndsSo : World → World → Input → ℕ → Type 0
 EndsSo w u input q =
-    (r : Replica) (disk : Disk) → seat_of w q ≡ Some (up_seat q r disk) → seat_of u q ≡ Some (record { id = q; life = life_at (end_event disk r.held (replica_step r input)) })
+    (r : Replica) (disk : Disk) → node_of w q ≡ Some (up_node q r disk) → node_of u q ≡ Some (record { id = q; life = life_at (end_event disk r.held (replica_step r input)) })
 
-pub alone-ends : (w : World) (go : Going) (q : ℕ) (input : Input) → seat_of go.world q ≡ seat_of w q → EndsSo w (hand go q input).world input q
-alone-ends w go q input same r disk seat = hand-ends go q input r disk (same ∙ seat)
+pub alone-ends : (w : World) (go : StepInProgress) (q : ℕ) (input : Input) → node_of go.world q ≡ node_of w q → EndsSo w (hand go q input).world input q
+alone-ends w go q input same r disk node = hand-ends go q input r disk (same ∙ node)
 
-pub handed-ends : (w : World) (list : List (Handed Msg)) (go : Going) (low : ℕ) → IsRising low (map (λ h. h.to) list) → ((q : ℕ) → low ≤ q → seat_of go.world q ≡ seat_of w q) →
+pub handed-ends : (w : World) (list : List (Handed Msg)) (go : StepInProgress) (low : ℕ) → IsRising low (map (λ h. h.to) list) → ((q : ℕ) → low ≤ q → node_of go.world q ≡ node_of w q) →
     Each (λ h. EndsSo w (fold hand_over go list).world (Deliveries h.list) h.to) list
 handed-ends w [] go low rise still = tt
 handed-ends w (h ∷ list) go low rise still = (
-  λ r disk seat. others-stay list (hand_over go h) h.to (suc h.to) rise.1 (let less : h.to < suc h.to = omega arith in less)
-      ∙ hand-ends go h.to (Deliveries h.list) r disk (still h.to rise.0 ∙ seat),
+  λ r disk node. others-stay list (hand_over go h) h.to (suc h.to) rise.1 (let less : h.to < suc h.to = omega arith in less)
+      ∙ hand-ends go h.to (Deliveries h.list) r disk (still h.to rise.0 ∙ node),
   handed-ends w list (hand_over go h) (suc h.to) rise.1 (λ q le. stays q le ∙ still q (let up = rise.0 in omega arith)),
 )
   where
-    stays : (q : ℕ) → suc h.to ≤ q → seat_of (hand_over go h).world q ≡ seat_of go.world q
+    stays : (q : ℕ) → suc h.to ≤ q → node_of (hand_over go h).world q ≡ node_of go.world q
     stays q le = elim (hand-behind (λ x input. x ≡ h.to) go h.to (Deliveries h.list) refl q) [
       | inl same ↦ same
       | inr turn ↦ absurd (let same : q ≡ h.to = turn.of in omega arith)

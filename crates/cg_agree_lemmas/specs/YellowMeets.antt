@@ -10,7 +10,7 @@ use Rattle.cg_base.specs.Cuts.{index_in, raise}
 use Rattle.cg_base.specs.Ids.{names}
 use Rattle.cg_queue.specs.Queue.{QueueView, names_of}
 use Rattle.cg_knowledge.specs.declared.summary.Summary.{Summary}
-use Rattle.cg_knowledge.specs.Members.{lowest, most_updated}
+use Rattle.cg_knowledge.specs.Summaries.{lowest, most_updated}
 use Rattle.cg_knowledge.specs.Primary.{knows_prim, newest_index, newest}
 use Rattle.cg_knowledge.specs.Yellow.{yellow_group, is_green_at_most, is_in_each, is_common, yellow_of, common_yellow}
 use Rattle.cg_exchange.specs.PlanEnd.{with_name, usable_names}

@@ -1,4 +1,4 @@
-//! The lower half of the proof of agreement: what single steps, turns, messages and seats do, as lemmas over the
+//! The lower half of the proof of agreement: what single steps, turns, messages and nodes do, as lemmas over the
 //! definitions of `cg_model`.
 //!
 //! Lemmas alone (`specs/`), those whose files cite few others; `cg_agree` goes on from them. They are a crate of their

@@ -168,7 +168,7 @@ impl IdSet {
 
 /// The members of a set, ascending.
 #[derive(Clone, Copy, Debug)]
-pub struct Members {
+pub struct SetIter {
     left: IdSet,
 }
 
@@ -177,17 +177,17 @@ impl IdSet {
     ghost use Rattle.cg_base.specs.Sets.{IsSet};
 
     /// The members, ascending.
-    pub fn iter(&self) -> Members
+    pub fn iter(&self) -> SetIter
         ensures items { members_left result ≡ self.now }
         ensures set { IsSet self.now }
     {
-        Members {
+        SetIter {
             left: IdSet { word: self.word },
         }
     }
 }
 
-impl Iterator for Members {
+impl Iterator for SetIter {
     type Item = ReplicaId;
 
     ghost use Rattle.std.specs.Iterator.{YieldsFirst, item_count};

@@ -11,22 +11,22 @@ use std::marker::{Brand, Model, PhantomData};
 use std::mem::replace;
 
 // what stands in front of all that is put
-trait Front {
+trait HasFront {
     ghost front: { List ℕ };
 }
 
-impl Front for Brand {
+impl HasFront for Brand {
     ghost front = { [] };
 }
 
 // bytes that begin with the front, whatever is written
 #[derive(Drop)]
-struct Sink<F: Front> {
+struct FrontedBytes<F: HasFront> {
     bytes: Vec<u8>,
     of: PhantomData<F>,
 }
 
-impl<F: Front> Model for Sink<F> {
+impl<F: HasFront> Model for FrontedBytes<F> {
     ghost Value = { List ℕ };
 
     ghost view = { λ s. s.bytes.items };
@@ -34,7 +34,7 @@ impl<F: Front> Model for Sink<F> {
     ghost invariant = { λ s. KeepsFront F.front s.bytes.items };
 }
 
-impl<F: Front> Write for Sink<F> {
+impl<F: HasFront> Write for FrontedBytes<F> {
     ghost write_str_gives = { λ s bs t. t ≡ s ++ bs };
 
     fn write_str(&mut self, s: &str) -> fmt::Result {
@@ -61,17 +61,17 @@ pub fn put_shown<D: Display>(out: &mut Vec<u8>, value: &D) -> Result<(), NoMemor
     Err(NoMemory)
 }
 
-fn written<F: Front, D: Display>(bytes: Vec<u8>, value: &D) -> (Vec<u8>, fmt::Result)
+fn written<F: HasFront, D: Display>(bytes: Vec<u8>, value: &D) -> (Vec<u8>, fmt::Result)
     requires { bytes.items ≡ F.front }
     ensures ok { OnOk result.1 (AppendsText bytes.items result.0.items (D.output value.now)) }
     ensures front { KeepsFront bytes.items result.0.items }
 {
-    let sink: Sink<F> = Sink {
+    let sink: FrontedBytes<F> = FrontedBytes {
         bytes,
         of: PhantomData,
     };
     let mut f = Formatter::new(sink);
     let result = f.write(value);
-    let Sink { bytes, of: _ } = f.into_inner();
+    let FrontedBytes { bytes, of: _ } = f.into_inner();
     (bytes, result)
 }

@@ -149,7 +149,7 @@ impl WeightSet {
 
 /// The members of a set with their weights, ascending.
 #[derive(Clone, Copy, Debug)]
-pub struct Weights {
+pub struct WeightIter {
     weights: [u8; 32],
     left: IdSet,
 }
@@ -159,18 +159,18 @@ impl WeightSet {
     ghost use Rattle.cg_base.specs.Weights.{IsWeightSet};
 
     /// The members with their weights, ascending.
-    pub fn iter(&self) -> Weights
+    pub fn iter(&self) -> WeightIter
         ensures items { weights_left result ≡ self.now }
         ensures set { IsWeightSet self.now }
     {
-        Weights {
+        WeightIter {
             weights: self.weights,
             left: self.ids(),
         }
     }
 }
 
-impl Iterator for Weights {
+impl Iterator for WeightIter {
     type Item = Weighted;
 
     ghost use Rattle.std.specs.Iterator.{YieldsFirst, item_count};

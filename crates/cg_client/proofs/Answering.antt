@@ -18,7 +18,7 @@ use Rattle.cg_db.specs.Find.{answer, answer_of}
 use Rattle.cg_db.specs.TextOrderLaws.{same-refl}
 use Rattle.cg_db.specs.EntryLaws.{IsBefore-through}
 use Rattle.cg_client.specs.Queries.{behind}
-use Rattle.cg_client.specs.Overlay.{named_part, has_key, with_mark, joined, answer_with}
+use Rattle.cg_client.specs.Overlay.{named_part, has_key, with_mark, merged_keys, answer_with}
 use Rattle.cg_db.specs.AscendingLaws.{entry, Ascends-filter}
 use Rattle.cg_client.proofs.Splitting.{only, others, put_entry, value_of-only, value_of-missing, built, built_alone}
 use Rattle.cg_client.proofs.Running.{IsPart, actions-run}
@@ -147,7 +147,7 @@ left p b db [] found = refl
 left p b db (e ∷ es) found = left_at p b db e es (left p b db es found.1) (b e.key) refl (p e.key) (has-chosen p db e.key found.0 (p e.key) refl)
 
 joined-is : (p b : List ℕ → Bool) (db new : List DbEntry) → Ascends new → only (others p) new ≡ only (others p) db
-    → joined (only p db) (filter b (keys db)) (filter b (keys (only p new))) ≡ filter b (keys new)
+    → merged_keys (only p db) (filter b (keys db)) (filter b (keys (only p new))) ≡ filter b (keys new)
 joined-is p b db new up rest =
     let all = marks b new in
     let ascends : Ascends all = Ascends-marks b new up in

@@ -8,8 +8,8 @@ abbrev pub joined_queue : QueueView → QueueView
 joined_queue q = record q { red_cut = q.green_cut; reds = []; yellow = [] }
 
 -- what its representative has green and knows of primary components
-abbrev pub joined : ℕ → Held → Held
-joined id h = record h {
+abbrev pub joiner_content : ℕ → Held → Held
+joiner_content id h = record h {
   id = id;
   queue = joined_queue h.queue;
   yellow_valid = false;

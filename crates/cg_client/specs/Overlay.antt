@@ -59,13 +59,13 @@ abbrev pub with_mark : List DbEntry → List ℕ → List DbEntry
 with_mark marks key = put marks key (IntValue (pos 0))
 
 -- the keys that aren't in the part, and others, ascending
-abbrev pub joined : List DbEntry → List (List ℕ) → List (List ℕ) → List (List ℕ)
-joined part found others =
+abbrev pub merged_keys : List DbEntry → List (List ℕ) → List (List ℕ) → List (List ℕ)
+merged_keys part found others =
     keys (fold with_mark (fold with_mark [] (filter (λ key. not (has_key part key)) found)) others)
 
 -- the answer of a database in which a part has become another one
 abbrev pub answer_with : List DbEntry → List DbEntry → List DbEntry → Query → Answer
 answer_with db before after (Get key) = if has_key before key || has_key after key then answer after (Get key)
     else answer db (Get key)
-answer_with db before after (KeysOf prefix) = Keys (joined before (keys_from db prefix) (keys_from after prefix))
+answer_with db before after (KeysOf prefix) = Keys (merged_keys before (keys_from db prefix) (keys_from after prefix))
 answer_with db before after CountAll = Count (length db - length before + length after)

@@ -3,7 +3,7 @@ ghost use Rattle.cg_client.specs.Replica.{fresh_held, created};
 
 use crate::entries::Entries;
 use cg_base::{ActionId, Cut, NoMemory, ReplicaId, Row, WeightSet};
-use cg_parts::{Components, Kept, Known, Own, Servers, Waiting, last_index};
+use cg_parts::{CheckedQueue, CheckedServers, Components, Fifo, KeptRequest, Own, last_index};
 use std::alloc::Global;
 use std::marker::Model;
 
@@ -16,14 +16,14 @@ pub struct Core {
 #[derive(Drop)]
 pub(crate) struct Holding {
     pub(crate) id: ReplicaId,
-    pub(crate) queue: Known,
+    pub(crate) queue: CheckedQueue,
     pub(crate) yellow_valid: bool,
     pub(crate) own: Own,
     pub(crate) db: Entries,
-    pub(crate) members: Servers,
+    pub(crate) members: CheckedServers,
     pub(crate) components: Components,
-    pub(crate) buffered: Row<Kept>,
-    pub(crate) owed: Waiting<ActionId>,
+    pub(crate) buffered: Row<KeptRequest>,
+    pub(crate) owed: Fifo<ActionId>,
     pub(crate) alloc: Global,
 }
 
@@ -60,14 +60,14 @@ impl Core {
     {
         let holding = Holding {
             id,
-            queue: Known::resume(alloc, 0, Cut::zero()),
+            queue: CheckedQueue::resume(alloc, 0, Cut::zero()),
             yellow_valid: false,
             own: Own::new(alloc),
             db: Entries::new(alloc),
-            members: Servers::start(*servers),
+            members: CheckedServers::start(*servers),
             components: Components::start(*servers),
             buffered: Row::new(alloc),
-            owed: Waiting::new(alloc),
+            owed: Fifo::new(alloc),
             alloc,
         };
         let held = Box::new(alloc, holding)?;

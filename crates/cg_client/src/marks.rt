@@ -14,11 +14,11 @@ use crate::{Core, Draft};
 use cg_action::{Action, Kind};
 use cg_answer::{Answer, Effect};
 use cg_base::{ActionId, COUNT_LIMIT, NoMemory, Row};
-use cg_parts::{Waiting, drop_own, name_of, note_unknown, put_green};
+use cg_parts::{Fifo, drop_own, name_of, note_unknown, put_green};
 use cg_queue::{Mark, QueueFault, is_next};
 use cg_report::Reply;
 
-fn is_owed(owed: &Waiting<ActionId>, id: &ActionId) -> bool
+fn is_owed(owed: &Fifo<ActionId>, id: &ActionId) -> bool
     ensures { result ≡ is_first owed.now id.now }
 {
     match owed.first() {
@@ -153,7 +153,7 @@ impl Core {
     }
 }
 
-pub(crate) fn drop_owed(owed: &mut Waiting<ActionId>, id: &ActionId)
+pub(crate) fn drop_owed(owed: &mut Fifo<ActionId>, id: &ActionId)
     ensures { owed.new ≡ after_owed owed.old id.now }
 {
     if is_owed(owed, id) {
@@ -180,7 +180,7 @@ fn answer_to(db: &Entries, kind: &Kind) -> Result<Option<Answer>, NoMemory>
 // the reply is given where it is owed
 fn reply(
     db: &Entries,
-    owed: &mut Waiting<ActionId>,
+    owed: &mut Fifo<ActionId>,
     replies: &mut Row<Reply>,
     a: &Action,
     effect: Effect,

@@ -6,7 +6,7 @@ ghost use Rattle.cg_db.specs.Find.{answer};
 ghost use Rattle.cg_answer.specs.declared.answer.Answer.TheVariants.{Keys};
 ghost use Rattle.cg_records.specs.Limits.{Each};
 ghost use Rattle.cg_client.specs.Queries.{behind};
-ghost use Rattle.cg_client.specs.Overlay.{with_key, with_command, with_commands, with_action, named_part, has_key, with_mark, joined, answer_with};
+ghost use Rattle.cg_client.specs.Overlay.{with_key, with_command, with_commands, with_action, named_part, has_key, with_mark, merged_keys, answer_with};
 
 use cg_action::{Action, ActionList, Cmd, Kind, Query, Value};
 use cg_answer::{Answer, TxtList};
@@ -155,7 +155,7 @@ fn keys_found(db: &Db, q: &Query) -> Result<TxtList, NoMemory>
 
 // the keys that aren't in the part, and the others, ascending
 fn joined(alloc: Global, part: &Db, found: TxtList, others: TxtList) -> Result<TxtList, NoMemory>
-    ensures { IfOk result (λ list. list ≡ joined part.now found others) }
+    ensures { IfOk result (λ list. list ≡ merged_keys part.now found others) }
 {
     let mut marks = Db::new(alloc);
     for key in found.into_vec() {

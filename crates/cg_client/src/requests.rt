@@ -8,7 +8,7 @@ ghost use Rattle.cg_client.specs.Requests.{create, create_kept};
 use crate::{Core, Draft};
 use cg_action::{Action, Kind};
 use cg_base::{ActionId, COUNT_LIMIT, NoMemory, Row};
-use cg_parts::Kept;
+use cg_parts::KeptRequest;
 use cg_wire::Msg;
 use std::mem::replace;
 
@@ -18,7 +18,7 @@ impl Core {
         requires { IsKind kind }
         ensures { OnOk result (self.new ≡ record self.old { buffered = self.old.buffered ++ kind ∷ [] }) }
     {
-        self.held.buffered.push(Kept::new(kind))
+        self.held.buffered.push(KeptRequest::new(kind))
     }
 
     /// The requests that are kept are no longer kept.
@@ -67,7 +67,7 @@ impl Core {
         self.create_all(draft, kept)
     }
 
-    fn create_all(&mut self, draft: &mut Draft, kept: Row<Kept>) -> Result<(), NoMemory>
+    fn create_all(&mut self, draft: &mut Draft, kept: Row<KeptRequest>) -> Result<(), NoMemory>
         ensures { OnOk result ((state : State) →
             turn_with self.new state draft.new ≡ fold create (turn_with self.old state draft.old) kept) }
     {

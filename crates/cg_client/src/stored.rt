@@ -21,7 +21,8 @@ use cg_base::{ActionId, COUNT_LIMIT, Cut, LIST_LIMIT, NoMemory, ReplicaId, Row};
 use cg_db::Db;
 use cg_members::Members;
 use cg_parts::{
-    Components, Known, Own, Servers, Waiting, drop_own, is_number, name_of, put_green, put_red,
+    CheckedQueue, CheckedServers, Components, Fifo, Own, drop_own, is_number, name_of, put_green,
+    put_red,
 };
 use cg_records::{Primary, Stable, Vulnerable, Yellow};
 use std::alloc::Global;
@@ -80,14 +81,14 @@ impl Core {
         let components = Components::of(prim, attempt_index, vulnerable)?;
         let holding = Holding {
             id,
-            queue: Known::resume(alloc, white, cut),
+            queue: CheckedQueue::resume(alloc, white, cut),
             yellow_valid: false,
             own: Own::new(alloc),
             db: Entries::of(db),
-            members: Servers::of(members),
+            members: CheckedServers::of(members),
             components,
             buffered: Row::new(alloc),
-            owed: Waiting::new(alloc),
+            owed: Fifo::new(alloc),
             alloc,
         };
         let held = Box::new(alloc, holding)?;

@@ -21,11 +21,11 @@ use Rattle.cg_queue.specs.Queue.{names_of, green_count}
 use Rattle.cg_records.specs.declared.stable.Stable.{Stable}
 use Rattle.cg_records.specs.Limits.{Each}
 use Rattle.cg_client.specs.Replica.{created}
-use Rattle.cg_stored.specs.Stored.{Stored, whiten}
-use Rattle.cg_stored.specs.declared.change.Change.{Change}
-use Rattle.cg_stored.specs.Limits.{IsStored}
-use Rattle.cg_stored.specs.Following.{fits_known, know, green_by_name, make, all_of, are_yellow, put_values, with_values, after_change}
-use Rattle.cg_stored.specs.Agreeing.{Agrees, indexes_of, count_to, counts_up, is_by_name, is_present}
+use Rattle.cg_disk_records.specs.Stored.{Stored, whiten}
+use Rattle.cg_disk_records.specs.declared.change.Change.{Change}
+use Rattle.cg_disk_records.specs.Limits.{IsStored}
+use Rattle.cg_disk_records.specs.Following.{fits_known, know, green_by_name, make, all_of, are_yellow, put_values, with_values, after_change}
+use Rattle.cg_disk_records.specs.Agreeing.{Agrees, indexes_of, count_to, counts_up, is_by_name, is_present}
 use Rattle.cg_commit.specs.Holds.{run_on, ascend, Rising, CountsTo, Holds}
 use Rattle.cg_commit.specs.CutRaiseLaws.{rising-raise, index-same, index-other}
 use Rattle.cg_commit.specs.RunMarkLaws.{run-from}

@@ -16,8 +16,8 @@ use Rattle.cg_members.specs.Servers.{is_among}
 use Rattle.cg_members.specs.Laws.{NoLineAbove}
 use Rattle.cg_queue.specs.Queue.{names_of, green_count}
 use Rattle.cg_client.specs.Replica.{Held, created}
-use Rattle.cg_stored.specs.Stored.{stored_of, whiten}
-use Rattle.cg_stored.specs.Agreeing.{Agrees, indexes_of, count_to, counts_up, is_by_name, is_present}
+use Rattle.cg_disk_records.specs.Stored.{stored_of, whiten}
+use Rattle.cg_disk_records.specs.Agreeing.{Agrees, indexes_of, count_to, counts_up, is_by_name, is_present}
 use Rattle.cg_commit.specs.Holds.{run_on, cut_behind, ascend, Rising, CountsTo, Holds}
 use Rattle.cg_commit.specs.CutRaiseLaws.{rising-raise, index-same, index-other, behind-rises}
 use Rattle.cg_commit.specs.RunMarkLaws.{run-head, run-rest, ascend-less}

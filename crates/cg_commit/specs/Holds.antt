@@ -7,8 +7,8 @@ use Rattle.cg_base.specs.Ids.{id_before}
 use Rattle.cg_members.specs.Laws.{AreApart}
 use Rattle.cg_queue.specs.Queue.{green_count, names_of}
 use Rattle.cg_client.specs.Replica.{Held}
-use Rattle.cg_stored.specs.Following.{are_yellow}
-use Rattle.cg_stored.specs.Agreeing.{indexes_of}
+use Rattle.cg_disk_records.specs.Following.{are_yellow}
+use Rattle.cg_disk_records.specs.Agreeing.{indexes_of}
 
 -- each of these names is the next of its creator, behind a cut
 abbrev pub run_on : List ActionId → List ActionId → Bool

@@ -14,7 +14,7 @@ use Rattle.cg_queue.specs.DistinctLaws.{distinct-kept}
 use Rattle.cg_queue.specs.Queue.{names_of, green_count, with_red, without_action, placed_red}
 use Rattle.cg_client.specs.Replica.{Held}
 use Rattle.cg_client.specs.Marks.{after_first, with_green}
-use Rattle.cg_stored.specs.Agreeing.{indexes_of}
+use Rattle.cg_disk_records.specs.Agreeing.{indexes_of}
 use Rattle.cg_commit.specs.Holds.{run_on, cut_behind, ascend, Rising, CountsTo, Holds}
 use Rattle.cg_base.specs.IdLaws.{same_id-false, same_id-is}
 use Rattle.cg_base.specs.CutLaws.{raise-some}

@@ -20,9 +20,9 @@ use Rattle.cg_records.specs.declared.vulnerable.Vulnerable.{Vulnerable}
 use Rattle.cg_client.specs.Replica.{Held, fresh_held, created}
 use Rattle.cg_client.specs.Whitening.{white_at}
 use Rattle.cg_client.specs.Calls.{IsLineGreen}
-use Rattle.cg_stored.specs.Stored.{stored_of, whiten}
-use Rattle.cg_stored.specs.Following.{are_yellow}
-use Rattle.cg_stored.specs.Agreeing.{indexes_of}
+use Rattle.cg_disk_records.specs.Stored.{stored_of, whiten}
+use Rattle.cg_disk_records.specs.Following.{are_yellow}
+use Rattle.cg_disk_records.specs.Agreeing.{indexes_of}
 use Rattle.cg_commit.specs.Holds.{run_on, cut_behind, CountsTo, Holds}
 use Rattle.cg_commit.specs.RunLaws.{run_on-next}
 use Rattle.cg_commit.specs.RunMarkLaws.{run-names}

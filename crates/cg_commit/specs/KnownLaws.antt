@@ -10,7 +10,7 @@ use Rattle.cg_client.specs.Replica.{Held, NonPrim}
 use Rattle.cg_client.specs.Turn.{Turn, begin}
 use Rattle.cg_client.specs.Marks.{after_first, is_first, marked, newly_known, with_green}
 use Rattle.cg_client.specs.Summary.{redden, forget_own, own_to_red}
-use Rattle.cg_stored.specs.Following.{fits_known, turn_green, green_by_name, all_of}
+use Rattle.cg_disk_records.specs.Following.{fits_known, turn_green, green_by_name, all_of}
 use Rattle.cg_commit.specs.Holds.{run_on, Holds}
 use Rattle.cg_base.specs.IdLaws.{same_id-self}
 use Rattle.cg_queue.specs.MarkLaws.{red-placed}
@@ -19,7 +19,7 @@ use Rattle.cg_commit.specs.HeldLaws.{after-here}
 use Rattle.std.specs.Option.{unwrap_or}
 use Rattle.std.proofs.lemmas.Option.{none-some}
 use Rattle.cg_base.specs.declared.action_id.ActionId.{ActionId}
-use Rattle.cg_stored.specs.Stored.{Stored, recover}
+use Rattle.cg_disk_records.specs.Stored.{Stored, recovery_turn}
 use Rattle.cg_commit.specs.HoldsMarkLaws.{known_by, holds-known}
 
 -- the action is the next of its creator
@@ -88,8 +88,8 @@ holds-own t is =
     let red = own-reddened t is in
     subst Holds (sym red.held) (holds-known_all t.replica.held.own t.replica.held is is.own)
 
-pub holds-recovered : (s : Stored) → Holds s → Holds (recover s).replica.held
-unfolding recover
+pub holds-recovered : (s : Stored) → Holds s → Holds (recovery_turn s).replica.held
+unfolding recovery_turn
 holds-recovered s is = holds-own (begin (record { held = s; state = NonPrim false })) is
 
 -- ---- the name of an action that becomes green

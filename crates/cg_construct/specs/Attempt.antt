@@ -7,7 +7,7 @@ use Rattle.cg_client.specs.Replica.{Held, Construct, No}
 use Rattle.cg_client.specs.Turn.{Turn}
 
 -- what the member holds, the attempt's configuration, and who has announced it
-pub record Attempt : Type 0 where
+pub record Announced : Type 0 where
   pub held : Held
   pub conf : ℕ
   pub heard : List ℕ
@@ -17,9 +17,9 @@ abbrev pub attempt_of : Held → Option ℕ
 attempt_of h = option_map (λ v. v.attempt) h.vulnerable
 
 -- a member that has announced an attempt, and an event under way at it
-abbrev pub in_construct : Attempt → DraftParts → Turn
+abbrev pub in_construct : Announced → DraftParts → Turn
 in_construct s d = turn_with s.held (Construct s.conf s.heard) d
 
 -- a member whose attempt was cut short, and an event under way at it
-abbrev pub in_no : Attempt → DraftParts → Turn
+abbrev pub in_no : Announced → DraftParts → Turn
 in_no s d = turn_with s.held (No s.conf s.heard) d

@@ -32,9 +32,9 @@ pub struct Construct {
 
 impl Model for Construct {
     ghost use Rattle.std.specs.Prelude.{◌≡◌, Some};
-    ghost use Rattle.cg_construct.specs.Attempt.{Attempt, attempt_of};
+    ghost use Rattle.cg_construct.specs.Attempt.{Announced, attempt_of};
 
-    ghost Value = { Attempt };
+    ghost Value = { Announced };
 
     ghost view = { λ s. record { held = s.core; conf = s.conf; heard = s.heard } };
 

@@ -31,9 +31,9 @@ pub struct No {
 
 impl Model for No {
     ghost use Rattle.std.specs.Prelude.{◌≡◌, Some};
-    ghost use Rattle.cg_construct.specs.Attempt.{Attempt, attempt_of};
+    ghost use Rattle.cg_construct.specs.Attempt.{Announced, attempt_of};
 
-    ghost Value = { Attempt };
+    ghost Value = { Announced };
 
     ghost view = { λ s. record { held = s.core; conf = s.conf; heard = s.heard } };
 

@@ -13,7 +13,7 @@ use Rattle.cg_action.specs.declared.command.Cmd.{Cmd}
 use Rattle.cg_answer.specs.declared.entry.DbEntry.{DbEntry}
 use Rattle.cg_answer.specs.declared.effect.Effect.{Effect}
 use Rattle.cg_answer.specs.declared.effect.Effect.TheVariants.{Done, Aborted, Range}
-use Rattle.cg_db.specs.declared.changes.Change.{Change}
+use Rattle.cg_db.specs.declared.changes.KeyChange.{KeyChange}
 use Rattle.cg_db.specs.Map.{value_of}
 use Rattle.cg_db.specs.Apply.{Ran, Changed, Aborts, Overflows, Applied, run_command, run_commands}
 use Rattle.cg_db.specs.Plan.{set_option, changed, with_changes, left_by}
@@ -59,11 +59,11 @@ run_end old db i cmds total le so_far =
 abbrev pub applied : List DbEntry → Effect → Applied
 applied db effect = record { db = db; effect = effect }
 
-planned : (db : List DbEntry) (cmds : List Cmd) (none : List Change) (total : Applied) → none ≡ [] → run_commands db 0 cmds (Changed (with_changes db none)) ≡ total → run_commands db 0 cmds (Changed db) ≡ total
+planned : (db : List DbEntry) (cmds : List Cmd) (none : List KeyChange) (total : Applied) → none ≡ [] → run_commands db 0 cmds (Changed (with_changes db none)) ≡ total → run_commands db 0 cmds (Changed db) ≡ total
 unfolding with_changes
 planned db cmds none total is e = rw is at e
 
-pub run_done : (db now : List DbEntry) (cmds : List Cmd) (none changes : List Change) (effect : Effect) → none ≡ []
+pub run_done : (db now : List DbEntry) (cmds : List Cmd) (none changes : List KeyChange) (effect : Effect) → none ≡ []
     → run_commands db 0 cmds (Changed (with_changes db none)) ≡ applied (left_by effect db (with_changes db changes)) effect → effect ≡ Done → now ≡ with_changes db changes
     → run_commands db 0 cmds (Changed db) ≡ applied now Done
 run_done db now cmds none changes effect is e done written =
@@ -71,13 +71,13 @@ run_done db now cmds none changes effect is e done written =
     let known : run_commands db 0 cmds (Changed db) ≡ applied (with_changes db changes) Done = rw done at all in
     rw written known
 
-pub run_aborted : (db : List DbEntry) (cmds : List Cmd) (none changes : List Change) (effect : Effect) (number : ℕ) → none ≡ []
+pub run_aborted : (db : List DbEntry) (cmds : List Cmd) (none changes : List KeyChange) (effect : Effect) (number : ℕ) → none ≡ []
     → run_commands db 0 cmds (Changed (with_changes db none)) ≡ applied (left_by effect db (with_changes db changes)) effect → effect ≡ Aborted number
     → run_commands db 0 cmds (Changed db) ≡ applied db (Aborted number)
 run_aborted db cmds none changes effect number is e failed =
     let all = planned db cmds none (applied (left_by effect db (with_changes db changes)) effect) is e in rw failed at all
 
-pub run_overflowed : (db : List DbEntry) (cmds : List Cmd) (none changes : List Change) (effect : Effect) (number : ℕ) → none ≡ []
+pub run_overflowed : (db : List DbEntry) (cmds : List Cmd) (none changes : List KeyChange) (effect : Effect) (number : ℕ) → none ≡ []
     → run_commands db 0 cmds (Changed (with_changes db none)) ≡ applied (left_by effect db (with_changes db changes)) effect → effect ≡ Range number
     → run_commands db 0 cmds (Changed db) ≡ applied db (Range number)
 run_overflowed db cmds none changes effect number is e failed =
@@ -90,31 +90,31 @@ unfolding with_changes
 with_changes-none db = refl
 
 -- one change of those that are left is written
-pub written_more : (db now : List DbEntry) (change : Change) (left rest : List Change) (total : List DbEntry) → left ≡ change ∷ rest → now ≡ changed db change → with_changes db left ≡ total → with_changes now rest ≡ total
+pub written_more : (db now : List DbEntry) (change : KeyChange) (left rest : List KeyChange) (total : List DbEntry) → left ≡ change ∷ rest → now ≡ changed db change → with_changes db left ≡ total → with_changes now rest ≡ total
 unfolding with_changes
 written_more db now change left rest total first step so_far = let whole = rw first at so_far in rw step whole
 
 -- none is left
-pub written_all : (db : List DbEntry) (left : List Change) (total : List DbEntry) → left ≡ [] → with_changes db left ≡ total → db ≡ total
+pub written_all : (db : List DbEntry) (left : List KeyChange) (total : List DbEntry) → left ≡ [] → with_changes db left ≡ total → db ≡ total
 unfolding with_changes
 written_all db left total none so_far = rw none at so_far
 
-pub fold_behind : (db : List DbEntry) (cs : List Change) (c : Change) → with_changes db (cs ++ c ∷ []) ≡ changed (with_changes db cs) c
+pub fold_behind : (db : List DbEntry) (cs : List KeyChange) (c : KeyChange) → with_changes db (cs ++ c ∷ []) ≡ changed (with_changes db cs) c
 unfolding with_changes
 fold_behind db [] c = refl
 fold_behind db (x ∷ cs) c = fold_behind (changed db x) cs c
 
-pub with_changes-behind : (db : List DbEntry) (cs ds : List Change) (key : List ℕ) (w : Option Value) → ds ≡ cs ++ record { key = key; value = w } ∷ [] → with_changes db ds ≡ set_option (with_changes db cs) key w
+pub with_changes-behind : (db : List DbEntry) (cs ds : List KeyChange) (key : List ℕ) (w : Option Value) → ds ≡ cs ++ record { key = key; value = w } ∷ [] → with_changes db ds ≡ set_option (with_changes db cs) key w
 with_changes-behind db cs ds key w is = rw is (fold_behind db cs (record { key = key; value = w }))
 
 -- the value of a key behind one change more
-pub value_of-more : (db : List DbEntry) (cs : List Change) (i : ℕ) (c : Change) (q : List ℕ) → i < length cs → get_or cs i c ≡ c
+pub value_of-more : (db : List DbEntry) (cs : List KeyChange) (i : ℕ) (c : KeyChange) (q : List ℕ) → i < length cs → get_or cs i c ≡ c
     → value_of (with_changes db (take (i + 1) cs)) q ≡ cond (same_text q c.key) c.value (value_of (with_changes db (take i cs)) q)
 value_of-more db cs i c q lt is =
     let whole : take (i + 1) cs ≡ take i cs ++ c ∷ [] = rw add-one (take-suc cs i c lt ∙ ap (λ d. take i cs ++ d ∷ []) is) in
     rw (whole, fold_behind db (take i cs) c) (value_of-set (with_changes db (take i cs)) c.key c.value q)
 
-pub value_of-last : (db : List DbEntry) (cs : List Change) (c : Change) (q : List ℕ) → value_of (with_changes db (cs ++ c ∷ [])) q ≡ cond (same_text q c.key) c.value (value_of (with_changes db cs) q)
+pub value_of-last : (db : List DbEntry) (cs : List KeyChange) (c : KeyChange) (q : List ℕ) → value_of (with_changes db (cs ++ c ∷ [])) q ≡ cond (same_text q c.key) c.value (value_of (with_changes db cs) q)
 value_of-last db cs c q = rw (fold_behind db cs c) (value_of-set (with_changes db cs) c.key c.value q)
 
 -- ---- numbers of 64 bits

@@ -5,7 +5,7 @@ use Rattle.cg_action.specs.declared.value.Value.{Value}
 use Rattle.cg_answer.specs.declared.entry.DbEntry.{DbEntry}
 use Rattle.cg_answer.specs.declared.effect.Effect.{Effect}
 use Rattle.cg_answer.specs.declared.effect.Effect.TheVariants.{Done, Aborted, Range}
-use Rattle.cg_db.specs.declared.changes.Change.{Change}
+use Rattle.cg_db.specs.declared.changes.KeyChange.{KeyChange}
 use Rattle.cg_db.specs.declared.changes.Changes.{Changes}
 use Rattle.cg_db.specs.declared.plan.CommandEnd.{CommandEnd}
 use Rattle.cg_db.specs.declared.plan.CommandEnd.TheVariants.{Goes, Fails, Overflows as Exceeds}
@@ -13,7 +13,7 @@ use Rattle.cg_db.specs.Map.{put, remove}
 use Rattle.cg_db.specs.Apply.{Ran, Changed, Aborts, Overflows}
 
 -- the changes in order
-abbrev pub listed : Changes → List Change
+abbrev pub listed : Changes → List KeyChange
 listed changes = changes.earlier.items ++ option_to_list changes.last
 
 -- the database with what a key is to have
@@ -21,11 +21,11 @@ abbrev pub set_option : List DbEntry → List ℕ → Option Value → List DbEn
 set_option db key (Some value) = put db key value
 set_option db key None = remove db key
 
-abbrev pub changed : List DbEntry → Change → List DbEntry
+abbrev pub changed : List DbEntry → KeyChange → List DbEntry
 changed db change = set_option db change.key change.value
 
 -- the database with the changes made in order
-unfoldable pub with_changes : List DbEntry → List Change → List DbEntry
+unfoldable pub with_changes : List DbEntry → List KeyChange → List DbEntry
 with_changes db changes = fold changed db changes
 
 -- how a command ended that led to this database

@@ -10,7 +10,7 @@ use std::alloc::Global;
 
 /// What a key is going to have; `None` takes it out.
 #[derive(Drop)]
-pub(crate) struct Change {
+pub(crate) struct KeyChange {
     pub(crate) key: Txt,
     pub(crate) value: Option<Value>,
 }
@@ -18,8 +18,8 @@ pub(crate) struct Change {
 /// Changes in the order in which they are written. The last one lies in the value itself, so that one alone takes no memory.
 #[derive(Drop)]
 pub(crate) struct Changes {
-    pub(crate) earlier: Vec<Change>,
-    pub(crate) last: Option<Change>,
+    pub(crate) earlier: Vec<KeyChange>,
+    pub(crate) last: Option<KeyChange>,
 }
 
 impl Changes {
@@ -41,7 +41,7 @@ impl Changes {
         }
     }
 
-    pub(crate) fn push(&mut self, change: Change) -> Result<(), NoMemory>
+    pub(crate) fn push(&mut self, change: KeyChange) -> Result<(), NoMemory>
         ensures { OnOk result (listed self.new ≡ listed self.old ++ change ∷ []) }
     {
         if let Some(previous) = self.last.take() {

@@ -12,7 +12,7 @@ ghost use Rattle.cg_answer.specs.declared.entry.DbEntry.{DbEntry};
 ghost use Rattle.cg_action.specs.declared.command.Cmd.TheVariants.{Put, Inc};
 ghost use Rattle.cg_action.specs.ActionLimits.{IsAction, IsCommand};
 
-use crate::changes::{Change, Changes};
+use crate::changes::{Changes, KeyChange};
 use crate::plan::plan;
 use cg_action::{Action, Cmd, Kind, Query, Value};
 use cg_answer::{Answer, DbEntry, Effect, EntryList, TxtList};
@@ -317,7 +317,7 @@ fn write(map: &mut Map, changes: Changes) -> Result<(), NoMemory>
     Ok(())
 }
 
-fn write_each(map: &mut Map, changes: Vec<Change>)
+fn write_each(map: &mut Map, changes: Vec<KeyChange>)
     requires { length changes.items ≤ spare map.old }
     ensures changed { of_entries map.new.entries ≡ with_changes (of_entries map.old.entries) changes.items }
     ensures room { spare map.old ≤ spare map.new + length changes.items }
@@ -327,12 +327,12 @@ fn write_each(map: &mut Map, changes: Vec<Change>)
     }
 }
 
-fn write_one(map: &mut Map, change: Change)
+fn write_one(map: &mut Map, change: KeyChange)
     requires { 0 < spare map.old }
     ensures changed { of_entries map.new.entries ≡ changed (of_entries map.old.entries) change }
     ensures room { spare map.old ≤ spare map.new + 1 }
 {
-    let Change { key, value } = change;
+    let KeyChange { key, value } = change;
     match value {
         Some(value) => {
             let _ = map.insert(key, value);

@@ -9,7 +9,7 @@ ghost use Rattle.cg_db.specs.Apply.{Changed, number_of, add_to, move_number, run
 ghost use Rattle.cg_db.specs.Plan.{listed, set_option, with_changes, ran, left_by};
 
 use crate::Db;
-use crate::changes::{Change, Changes};
+use crate::changes::{Changes, KeyChange};
 use cg_action::{Boxed, BoxedOption, Cmd, Value};
 use cg_answer::Effect;
 use cg_base::NoMemory;
@@ -79,7 +79,7 @@ fn set(db: &Db, changes: &mut Changes, key: &Txt, value: Option<Value>) -> Resul
         set_option (with_changes db.now (listed changes.old)) key.now value) }
 {
     let key = key.copy(db.alloc())?;
-    changes.push(Change { key, value })?;
+    changes.push(KeyChange { key, value })?;
     Ok(())
 }
 
@@ -151,7 +151,7 @@ fn value_in<'a>(db: &'a Db, changes: &'a Changes, key: &Txt) -> Option<&'a Value
     value
 }
 
-fn value_behind<'a>(db: &'a Db, changes: &'a [Change], key: &Txt) -> Option<&'a Value>
+fn value_behind<'a>(db: &'a Db, changes: &'a [KeyChange], key: &Txt) -> Option<&'a Value>
     ensures { option_copied result ≡ value_of (with_changes db.now changes.now) key.now }
 {
     let mut value = db.value(key);

@@ -2,7 +2,7 @@
 use Rattle.std.proofs.Common.{◌≡◌, ℕ, ◌-◌, min, List, length, take, drop, Option, Some, None, sym, ◌∙◌, ap, subst, length-drop, arith}
 use Rattle.std.proofs.lemmas.List.{take_all, drop_min}
 use Rattle.cg_disk.specs.Sides.{Image}
-use Rattle.cg_disk.specs.State.{SideState, Strike, Leaves, left_by, synced_side}
+use Rattle.cg_disk.specs.State.{SideState, DiskStrike, Leaves, left_by, synced_side}
 use Rattle.cg_disk.specs.View.{IsAtRest}
 use Rattle.cg_disk.specs.Crashes.{IsCrashed, clean_side}
 use Rattle.cg_disk.specs.Model.{side_of, state_of, view_of, view_with}
@@ -13,7 +13,7 @@ use Rattle.cg_disk.proofs.Counting.{has_images}
 
 module _ (a b : SideState) (calls faults begun : ℕ) (points : List SyncPoint) where
   -- where everything is synced a crash leaves what a read gives
-  pub rests : (strike : Option Strike) (bytes_a bytes_b : List ℕ) → a ≡ clean_side bytes_a → b ≡ clean_side bytes_b → IsAtRest (view_with a b strike calls faults begun points)
+  pub rests : (strike : Option DiskStrike) (bytes_a bytes_b : List ℕ) → a ≡ clean_side bytes_a → b ≡ clean_side bytes_b → IsAtRest (view_with a b strike calls faults begun points)
   rests strike bytes_a bytes_b clean_a clean_b = record {
     only = λ c left.
         let on_a = only_seen a c.a (λ i. (clean_a i).unsynced) ((λ i. (clean_a i).old) ∙ sym (λ i. (clean_a i).seen)) left.on_a in

@@ -1,6 +1,6 @@
 -- A disk in memory as contracts see it.
 use Rattle.std.specs.Prelude.{◌≡◌, ℕ, ◌⊎◌, suc, Option, Some, None, Result, Ok, Err, List, [], ◌∷◌, reverse}
-use Rattle.cg_disk.specs.State.{SideState, DiskState, Strike, Fails, Stops, Leaves, blow_at, wrote}
+use Rattle.cg_disk.specs.State.{SideState, DiskState, DiskStrike, Fails, Stops, Leaves, blow_at, wrote}
 use Rattle.cg_disk.specs.View.{DiskView}
 use Rattle.cg_disk.specs.Undo.{side_after}
 use Rattle.cg_disk.specs.Armed.{strike_of}
@@ -27,7 +27,7 @@ state_of m = record { a = side_of m.a; b = side_of m.b; strike = strike_of m.cal
 
 -- what contracts see of a disk with these sides, this strike, so many calls and faults, so many calls before the last
 -- `begin`, and these sync points since
-abbrev pub view_with : SideState → SideState → Option Strike → ℕ → ℕ → ℕ → List SyncPoint → DiskView
+abbrev pub view_with : SideState → SideState → Option DiskStrike → ℕ → ℕ → ℕ → List SyncPoint → DiskView
 view_with a b strike calls faults begun points = record {
   reads = record { a = a.seen; b = b.seen };
   may_leave = Leaves a b;

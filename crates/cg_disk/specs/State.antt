@@ -24,7 +24,7 @@ pub data Blow : Type 0 where
   Stops : Blow
 
 -- the number of the next call that is struck, and how
-pub record Strike : Type 0 where
+pub record DiskStrike : Type 0 where
   pub call : ℕ
   pub blow : Blow
 
@@ -32,7 +32,7 @@ pub record Strike : Type 0 where
 pub record DiskState : Type 0 where
   pub a : SideState
   pub b : SideState
-  pub strike : Option Strike
+  pub strike : Option DiskStrike
 
 -- what a read gives of both sides
 abbrev pub shown : DiskState → Image
@@ -105,7 +105,7 @@ abbrev pub looked : DiskState → DiskState
 looked d = d
 
 -- how the call of this number is struck
-abbrev pub blow_at : Option Strike → ℕ → Option Blow
+abbrev pub blow_at : Option DiskStrike → ℕ → Option Blow
 blow_at None call = None
 blow_at (Some strike) call = if strike.call == call then Some strike.blow else None
 

@@ -7,20 +7,20 @@ use Rattle.cg_base.specs.declared.action_id.ActionId.{ActionId}
 use Rattle.cg_base.specs.Choice.{Either}
 use Rattle.cg_action.specs.declared.action.Action.{Action}
 use Rattle.cg_disk.specs.Calls.{Begins}
-use Rattle.cg_disk.specs.State.{DiskState, Strike as DiskStrike, Blow, left_by}
+use Rattle.cg_disk.specs.State.{DiskState, DiskStrike, Blow, left_by}
 use Rattle.cg_disk.specs.View.{DiskView}
 use Rattle.cg_journal.specs.Adds.{gate_stands}
 use Rattle.cg_journal.specs.Strikes.{strike_of, IsUnstruck}
 use Rattle.cg_queue.specs.Queue.{green_count}
 use Rattle.cg_client.specs.Replica.{Held}
 use Rattle.cg_client.specs.Turn.{Turn}
-use Rattle.cg_stored.specs.Checkpoint.{size_limit}
+use Rattle.cg_disk_records.specs.Checkpoint.{size_limit}
 use Rattle.cg_commit.specs.Commit.{commits}
-use Rattle.cg_commit.specs.Crash.{Strike, Disk, Ended, Runs, Crashes, with_change, with_checkpoint, calls_of, checkpointed as with_long, is_committed, is_checkpointed, at_rest, crash_outcome, whitened, struck, commit_under, end_event}
+use Rattle.cg_commit.specs.Crash.{Strike, Disk, EventEnd, Runs, Crashes, with_change, with_checkpoint, calls_of, checkpointed as with_long, is_committed, is_checkpointed, at_rest, crash_outcome, whitened, struck, commit_under, end_event}
 use Rattle.cg_store.specs.Answers.{IsLost}
 use Rattle.cg_store.specs.Calls.{Commits, EndsLong}
 use Rattle.cg_store.specs.Defined.{strike_at, EndsAsDefined as StrikesEndAsDefined}
-use Rattle.cg_store.specs.Kept.{Kept}
+use Rattle.cg_store.specs.StoreState.{StoreState}
 use Rattle.cg_store.specs.declared.errors.CommitErr.TheVariants.{Lost}
 use Rattle.cg_store.specs.declared.outputs.Outputs.{Outputs}
 use Rattle.cg_store.specs.Stands.{OnDisk, Stands, disk_of, committed, checkpointed}
@@ -105,7 +105,7 @@ module _ (strikes : StrikesEndAsDefined) (unwritten : List Action) (u : OnDisk) 
   calls_is : (long : Bool) → nat_lt size_limit after.size ≡ long → (a : Option DiskStrike) → calls_of (with_change (from a) t) ≡ calls long
   calls_is long e a = ap calls_of (changed_is a) ∙ ap calls e
 
-  abbrev body : Disk → Strike → Bool → ℕ → Disk → Ended
+  abbrev body : Disk → Strike → Bool → ℕ → Disk → EventEnd
   body d strike b c done = if b then struck d t strike else Runs (whitened t.replica) (record done { armed = Some (record strike { call = strike.call - c }) })
 
   runs_is : (long : Bool) → nat_lt size_limit after.size ≡ long → (a : Option DiskStrike) → IfSome a (λ k. now + calls long < k.call) →
@@ -279,7 +279,7 @@ module _ {D : Type 0} (view : D → DiskView) (strikes : StrikesEndAsDefined) (o
 
   module _ (tells : (d : D) → (z : DiskState) × ((view d).state ≡ Some z)) (count_u : green_count u.content.queue ≡ green_count old.replica.held.queue)
       (count_v : green_count behind.content.queue ≡ green_count old.replica.held.queue + length t.green) where
-    abbrev begun : D → Kept D
+    abbrev begun : D → StoreState D
     begun mid = let k = old.store in record k { disk = mid }
 
     written_runs : (e : Up D) (o : Outputs) (mid : D) → Begins (view old.store.disk) (view mid) → commits old.replica.held t ≡ true → e.replica ≡ whitened t.replica →
@@ -307,9 +307,9 @@ module _ {D : Type 0} (view : D → DiskView) (strikes : StrikesEndAsDefined) (o
         (let k = begun mid in e.store ≡ record k { unwritten = k.unwritten ++ t.known }) → RunsAsDefined view disk_before old.replica.held t fill e
     kept_runs e mid begins test stands replica store = record {
       standing = u;
-      stands = subst (λ (x : Kept D). Stands x.id (view x.disk).reads u) (sym store) (subst (λ c. Stands old.store.id c u) (sym begins.reads) stands);
+      stands = subst (λ (x : StoreState D). Stands x.id (view x.disk).reads u) (sym store) (subst (λ c. Stands old.store.id c u) (sym begins.reads) stands);
       state = s;
-      told = subst (λ (x : Kept D). (view x.disk).state ≡ Some s) (sym store) (begins.state ∙ state);
+      told = subst (λ (x : StoreState D). (view x.disk).state ≡ Some s) (sym store) (begins.state ∙ state);
       is = event_keeps disk_before old.replica.held t test
           ∙ (λ i. Runs (sym replica i) (account (old.store.unwritten ++ t.known) u (sym begins.time i) fill s))
           ∙ (λ i. Runs e.replica (account (sym store i).unwritten u (view (sym store i).disk).time fill s));

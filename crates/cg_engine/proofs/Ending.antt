@@ -4,22 +4,22 @@ use Rattle.std.specs.Prelude.{◌<◌, IfSome}
 use Rattle.std.specs.Option.{option_map}
 use Rattle.cg_base.specs.declared.action_id.ActionId.{ActionId}
 use Rattle.cg_base.specs.Choice.{Either}
-use Rattle.cg_disk.specs.State.{DiskState, Strike}
+use Rattle.cg_disk.specs.State.{DiskState, DiskStrike}
 use Rattle.cg_disk.specs.View.{DiskView, IsView, IsAtRest, LeavesOnly}
 use Rattle.cg_client.specs.declared.parts.DraftParts.{DraftParts}
 use Rattle.cg_client.specs.Replica.{Replica}
 use Rattle.cg_client.specs.Turn.{Turn}
 use Rattle.cg_client.specs.Calls.{IsLineGreen}
-use Rattle.cg_stored.specs.Stored.{whiten}
-use Rattle.cg_stored.specs.Checkpoint.{size_limit}
+use Rattle.cg_disk_records.specs.Stored.{whiten}
+use Rattle.cg_disk_records.specs.Checkpoint.{size_limit}
 use Rattle.cg_commit.specs.Commit.{commits}
 use Rattle.cg_commit.specs.Crash.{whitened}
-use Rattle.cg_step.specs.Following.{Follows}
+use Rattle.cg_replica_step.specs.Following.{Follows}
 use Rattle.cg_store.specs.Answers.{IsRefused, EachMoment}
 use Rattle.cg_store.specs.Calls.{Commits, Keeps, EndsWritten, IsEither, IsOneOfThree, paired}
 use Rattle.cg_store.specs.EndingLaws.{commit_stands, commit_is_written, keep_stands, keep_is_not_written, ends_long, ends_short, ends_failed, event_moments}
 use Rattle.cg_store.specs.MomentLaws.{stands_once, leaves_first}
-use Rattle.cg_store.specs.Kept.{Kept}
+use Rattle.cg_store.specs.StoreState.{StoreState}
 use Rattle.cg_store.specs.Stands.{OnDisk, Stands, disk_of, committed, checkpointed}
 use Rattle.cg_store.specs.declared.errors.CommitErr.{CommitErr}
 use Rattle.cg_store.specs.declared.errors.CommitErr.TheVariants.{Lost, NoMemory}
@@ -27,7 +27,7 @@ use Rattle.cg_store.specs.declared.outputs.Outputs.{Outputs}
 use Rattle.cg_replica.specs.Seen.{turn_of}
 use Rattle.cg_engine.specs.Answers.{parts_of, answer_of, Leaves, EndsEvent}
 use Rattle.cg_engine.specs.Engines.{Fallen}
-use Rattle.cg_engine.specs.Ending.{MayEnd, MaySave, MayGoOn, up, wreck_of, fallen, saved, Saved, Saves, GoesOn}
+use Rattle.cg_engine.specs.Ending.{MayEnd, MaySave, MayGoOn, up, wreck_of, fallen, saved, Checkpoints, Saves, GoesOn}
 use Rattle.cg_engine.specs.declared.answers.Handled.{Handled}
 use Rattle.cg_engine.specs.declared.answers.Handled.TheVariants as handled
 use Rattle.cg_engine.specs.declared.wreck.LastEvent.{LastEvent}
@@ -44,11 +44,11 @@ fallen_as fault id own last result is same = sym (is ∙ ap (λ n. fallen fault 
 
 -- ---- no call was made
 
-pub if_mapped : (o : Option DiskState) (P : Option Strike → Type 0) → IfSome o (λ s. P s.strike) → IfSome (option_map (λ (s : DiskState). s.strike) o) P
+pub if_mapped : (o : Option DiskState) (P : Option DiskStrike → Type 0) → IfSome o (λ s. P s.strike) → IfSome (option_map (λ (s : DiskState). s.strike) o) P
 if_mapped None P is = tt
 if_mapped (Some s) P is = is
 
-module _ {D : Type 0} (view : D → DiskView) (k : Kept D) (u : OnDisk) (is : IsView (view k.disk)) (rest : IsAtRest (view k.disk)) (stands : Stands k.id (view k.disk).reads u) where
+module _ {D : Type 0} (view : D → DiskView) (k : StoreState D) (u : OnDisk) (is : IsView (view k.disk)) (rest : IsAtRest (view k.disk)) (stands : Stands k.id (view k.disk).reads u) where
   -- a disk at rest leaves what it stands for
   pub resting : LeavesOnly (view k.disk) (view k.disk) (λ c. Stands k.id c u)
   resting = record {
@@ -76,12 +76,12 @@ module _ {D : Type 0} (view : D → DiskView) (k : Kept D) (u : OnDisk) (is : Is
 
 -- ---- what follows a commit
 
-answer_saved : {D : Type 0} (a : Result (Kept D) (CommitErr D)) (r : Replica) (o : Outputs) (id : ℕ) (last : LastEvent) → answer_of (saved a r o id last) ≡ paired a o
+answer_saved : {D : Type 0} (a : Result (StoreState D) (CommitErr D)) (r : Replica) (o : Outputs) (id : ℕ) (last : LastEvent) → answer_of (saved a r o id last) ≡ paired a o
 answer_saved (Ok store) r o id last = refl
 answer_saved (Err (Lost disk)) r o id last = refl
 answer_saved (Err (NoMemory disk)) r o id last = refl
 
-module _ {D : Type 0} (view : D → DiskView) (k : Kept D) (u : OnDisk) (r : Replica) (d : DraftParts) (last : LastEvent) (named : last.green ≡ d.green) where
+module _ {D : Type 0} (view : D → DiskView) (k : StoreState D) (u : OnDisk) (r : Replica) (d : DraftParts) (last : LastEvent) (named : last.green ≡ d.green) where
   abbrev turn : Turn
   turn = turn_of r d
 
@@ -92,13 +92,13 @@ module _ {D : Type 0} (view : D → DiskView) (k : Kept D) (u : OnDisk) (r : Rep
   fallen_leaves (Lost disk) id written same = (record { id_is = same; count_is = refl }, named)
   fallen_leaves (NoMemory disk) id written same = (record { id_is = same; count_is = refl }, inl named)
 
-  saved_leaves : (a : Result (Kept D) (CommitErr D)) (o : Outputs) (id : ℕ) → id ≡ k.id → Leaves view k.id last.count u turn true (saved a (whitened r) o id last)
+  saved_leaves : (a : Result (StoreState D) (CommitErr D)) (o : Outputs) (id : ℕ) → id ≡ k.id → Leaves view k.id last.count u turn true (saved a (whitened r) o id last)
   saved_leaves (Ok store) o id same = refl
   saved_leaves (Err fault) o id same = fallen_leaves fault id true same
 
   -- a commit that was not done ends the event
   pub failed : IsView (view k.disk) → IsAtRest (view k.disk) → Stands k.id (view k.disk).reads u → (fault : CommitErr D) (b : Bool) →
-      Either b (Commits view k u after d (Err fault)) (Keeps k d (Err fault)) → EachMoment {T = Kept D × Outputs} view (λ done. done.0.disk) (IsEither k.id u after) (view k.disk) (Err fault) →
+      Either b (Commits view k u after d (Err fault)) (Keeps k d (Err fault)) → EachMoment {T = StoreState D × Outputs} view (λ done. done.0.disk) (IsEither k.id u after) (view k.disk) (Err fault) →
       EndsEvent view k last.count u turn b (fallen fault k.id last)
   failed is rest stands (Lost disk) true ends moments = record {
     ends = ends_failed view k u after d (Lost disk) ends;
@@ -117,17 +117,17 @@ module _ {D : Type 0} (view : D → DiskView) (k : Kept D) (u : OnDisk) (r : Rep
     moments = subst (λ (x : D). LeavesOnly (view k.disk) (view x) (λ c. Stands k.id c u)) (sym ends) (resting view k u is rest stands);
   }
 
-  module _ (mid : Kept D) (o : Outputs) (result : Handled D) where
+  module _ (mid : StoreState D) (o : Outputs) (result : Handled D) where
     -- behind a commit
     long : Commits view k u after d (Ok (mid, o)) → LeavesOnly (view k.disk) (view mid.disk) (IsEither k.id u after) → nat_lt size_limit after.size ≡ true →
-        Saved view mid after (whitened r) o last result → EndsEvent view k last.count u turn true result
+        Checkpoints view mid after (whitened r) o last result → EndsEvent view k last.count u turn true result
     long ends first size is =
         let then = saved is.answer (whitened r) o mid.id last in
         let same : answer_of then ≡ paired is.answer o = answer_saved is.answer (whitened r) o mid.id last in
         subst (λ x. EndsEvent view k last.count u turn true x) (sym is.is) (record {
           ends = subst (λ x. EndsWritten view k u after d x) (sym same) (ends_long view k u after d mid o is.answer ends size is.moves);
           leaves = saved_leaves is.answer o mid.id ends.0.1;
-          moments = subst (λ x. EachMoment view (λ (done : Kept D × Outputs). done.0.disk) (IsOneOfThree k.id u after (checkpointed after)) (view k.disk) x) (sym same)
+          moments = subst (λ x. EachMoment view (λ (done : StoreState D × Outputs). done.0.disk) (IsOneOfThree k.id u after (checkpointed after)) (view k.disk) x) (sym same)
               (event_moments view k mid u after (checkpointed after) o is.answer ends.0.1 first is.moments);
         })
 
@@ -141,7 +141,7 @@ module _ {D : Type 0} (view : D → DiskView) (k : Kept D) (u : OnDisk) (r : Rep
         })
 
     by_size : (b : Bool) → nat_lt size_limit after.size ≡ b → Commits view k u after d (Ok (mid, o)) → LeavesOnly (view k.disk) (view mid.disk) (IsEither k.id u after) →
-        Either b (Saved view mid after (whitened r) o last result) (result ≡ handled.Running (up mid (whitened r)) o) → EndsEvent view k last.count u turn true result
+        Either b (Checkpoints view mid after (whitened r) o last result) (result ≡ handled.Running (up mid (whitened r)) o) → EndsEvent view k last.count u turn true result
     by_size true size ends first is = long ends first size is
     by_size false size ends first is = short ends first size is
 
@@ -158,11 +158,11 @@ module _ {D : Type 0} (view : D → DiskView) (k : Kept D) (u : OnDisk) (r : Rep
         subst (λ x. EndsEvent view k last.count u turn false x) (sym same) (record {
           ends = ends;
           leaves = refl;
-          moments = subst (λ (x : Kept D). LeavesOnly (view k.disk) (view x.disk) (λ c. Stands k.id c u)) (sym ends.0) (resting view k u is rest stands);
+          moments = subst (λ (x : StoreState D). LeavesOnly (view k.disk) (view x.disk) (λ c. Stands k.id c u)) (sym ends.0) (resting view k u is rest stands);
         })
 
   -- what follows may be done
-  pub may_go_on : MayEnd k.unwritten u turn → Stands k.id (view k.disk).reads u → (mid : Kept D) (o : Outputs) (b : Bool) → commits u.content turn ≡ b →
+  pub may_go_on : MayEnd k.unwritten u turn → Stands k.id (view k.disk).reads u → (mid : StoreState D) (o : Outputs) (b : Bool) → commits u.content turn ≡ b →
       Either b (Commits view k u after d (Ok (mid, o))) (Keeps k d (Ok (mid, o))) → (w : OnDisk) → Stands mid.id (view mid.disk).reads w → MayGoOn o.written mid.unwritten w r.held
   may_go_on may stands mid o true test ends w here =
       let same : after ≡ w = stands_once mid.id (view mid.disk).reads after w (commit_stands view k mid u after d o ends) here in
@@ -176,6 +176,6 @@ module _ {D : Type 0} (view : D → DiskView) (k : Kept D) (u : OnDisk) (r : Rep
       (may.line, subst (λ x. MaySave mid.unwritten x (whiten r.held)) same save)
   may_go_on may stands mid o false test ends w here =
       let same : u ≡ w = stands_once mid.id (view mid.disk).reads u w (keep_stands view k mid u after d o ends stands) here in
-      let follows : Follows (disk_of mid.unwritten u) r.held = subst (λ (x : Kept D). Follows (disk_of x.unwritten u) r.held) (sym ends.0) (may.kept test) in
+      let follows : Follows (disk_of mid.unwritten u) r.held = subst (λ (x : StoreState D). Follows (disk_of x.unwritten u) r.held) (sym ends.0) (may.kept test) in
       subst (λ x. Either x (IsLineGreen r.held × MaySave mid.unwritten w (whiten r.held)) (Follows (disk_of mid.unwritten w) r.held)) (sym (keep_is_not_written view k mid u after d o ends))
       (subst (λ x. Follows (disk_of mid.unwritten x) r.held) same follows)

@@ -3,14 +3,14 @@ use Rattle.std.proofs.Common.{◌≡◌, List, [], refl, sym, ◌∙◌, ap, sub
 use Rattle.cg_base.specs.declared.action_id.ActionId.{ActionId}
 use Rattle.cg_action.specs.declared.action.Action.{Action}
 use Rattle.cg_client.specs.Replica.{Held, Replica}
-use Rattle.cg_stored.specs.Stored.{Stored, stored_of, whiten, recover}
-use Rattle.cg_stored.specs.Following.{IsAhead}
+use Rattle.cg_disk_records.specs.Stored.{Stored, stored_of, whiten, recovery_turn}
+use Rattle.cg_disk_records.specs.Following.{IsAhead}
 use Rattle.cg_commit.specs.Crash.{Disk}
-use Rattle.cg_step.specs.Following.{Follows}
+use Rattle.cg_replica_step.specs.Following.{Follows}
 use Rattle.cg_commit.specs.Holds.{Holds}
 use Rattle.cg_commit.specs.Always.{AlwaysHolds, AlwaysCounts, AlwaysSettled}
-use Rattle.cg_step.specs.Recorded.{AlwaysKept, AlwaysRecorded, AlwaysAhead, AreBooked}
-use Rattle.cg_step.specs.Step.{Input, replica_step}
+use Rattle.cg_replica_step.specs.Recorded.{AlwaysKept, AlwaysRecorded, AlwaysAhead, AreBooked}
+use Rattle.cg_replica_step.specs.Step.{Input, replica_step}
 use Rattle.cg_store.specs.Opening.{IsSound}
 use Rattle.cg_store.specs.Stands.{OnDisk, disk_of, committed, checkpointed}
 use Rattle.cg_engine.specs.Ending.{MayEnd}
@@ -49,7 +49,7 @@ module _ (holds : AlwaysHolds) (counts : AlwaysCounts) (settled : AlwaysSettled)
       }
 
   -- a replica that has come up follows its disk
-  pub recovered_follows : (u : OnDisk) → IsSound u.content → Follows (disk_of (recover u.content).known u) (recover u.content).replica.held
+  pub recovered_follows : (u : OnDisk) → IsSound u.content → Follows (disk_of (recovery_turn u.content).known u) (recovery_turn u.content).replica.held
   recovered_follows u sound = record {
     on_disk = record { content = sound.holds; buffered = sound.buffered; owed = sound.owed };
     held = holds.recovered u.content sound.holds;

@@ -3,20 +3,20 @@ use Rattle.std.proofs.Common.{◌≡◌, nat_lt, Bool, true, Result, Ok, refl, s
 use Rattle.cg_disk.specs.View.{DiskView}
 use Rattle.cg_client.specs.Replica.{Held, Replica}
 use Rattle.cg_client.specs.Calls.{IsLineGreen}
-use Rattle.cg_stored.specs.Stored.{whiten}
-use Rattle.cg_stored.specs.Checkpoint.{size_limit}
+use Rattle.cg_disk_records.specs.Stored.{whiten}
+use Rattle.cg_disk_records.specs.Checkpoint.{size_limit}
 use Rattle.cg_commit.specs.Crash.{whitened}
-use Rattle.cg_step.specs.Following.{Follows}
+use Rattle.cg_replica_step.specs.Following.{Follows}
 use Rattle.cg_store.specs.Answers.{EachMoment}
 use Rattle.cg_base.specs.Choice.{Either}
 use Rattle.cg_store.specs.Calls.{Moves, IsEither}
-use Rattle.cg_store.specs.Kept.{Kept}
+use Rattle.cg_store.specs.StoreState.{StoreState}
 use Rattle.cg_store.specs.Stands.{OnDisk, Stands, disk_of, checkpointed}
 use Rattle.cg_store.specs.declared.errors.CommitErr.{CommitErr}
 use Rattle.cg_store.specs.declared.outputs.Outputs.{Outputs}
 use Rattle.cg_replica.specs.Seen.{white_in}
 use Rattle.cg_engine.specs.Engines.{IsEngine}
-use Rattle.cg_engine.specs.Ending.{MaySave, MayGoOn, up, saved, Saved, Saves, GoesOn}
+use Rattle.cg_engine.specs.Ending.{MaySave, MayGoOn, up, saved, Checkpoints, Saves, GoesOn}
 use Rattle.cg_engine.specs.declared.answers.Handled.{Handled}
 use Rattle.cg_engine.specs.declared.answers.Handled.TheVariants as handled
 use Rattle.cg_engine.specs.declared.wreck.LastEvent.{LastEvent}
@@ -32,13 +32,13 @@ whitened_is : (r : Replica) → white_in r ≡ whitened r
 unfolding whiten
 whitened_is r = refl
 
-module _ {D : Type 0} (view : D → DiskView) (k : Kept D) where
+module _ {D : Type 0} (view : D → DiskView) (k : StoreState D) where
   module _ (h : Held) (may : (w : OnDisk) → Stands k.id (view k.disk).reads w → MaySave k.unwritten w h) (here : (u : OnDisk) × Stands k.id (view k.disk).reads u) where
     -- there is an engine before a checkpoint, and behind it
     pub engine_here : IsEngine (view k.disk) k.id k.unwritten h
     engine_here = record { standing = here.0; stands = here.1; follows = (may here.0 here.1).follows }
 
-    pub engine_behind : (new : Kept D) → Moves view k here.0 (checkpointed here.0) (Ok new) → IsEngine (view new.disk) new.id new.unwritten h
+    pub engine_behind : (new : StoreState D) → Moves view k here.0 (checkpointed here.0) (Ok new) → IsEngine (view new.disk) new.id new.unwritten h
     engine_behind new moves = record {
       standing = checkpointed here.0;
       stands = subst (λ id. Stands id (view new.disk).reads (checkpointed here.0)) (sym moves.1) moves.0.stands;
@@ -47,10 +47,10 @@ module _ {D : Type 0} (view : D → DiskView) (k : Kept D) where
 
   module _ (w : OnDisk) (r : Replica) (o : Outputs) (last : LastEvent) (result : Handled D) where
     -- a checkpoint was made, or ended the event
-    pub saved_as : (a : Result (Kept D) (CommitErr D)) → nat_lt size_limit w.size ≡ true → Moves view k w (checkpointed w) a → EachMoment view (λ s. s.disk) (IsEither k.id w (checkpointed w)) (view k.disk) a →
+    pub saved_as : (a : Result (StoreState D) (CommitErr D)) → nat_lt size_limit w.size ≡ true → Moves view k w (checkpointed w) a → EachMoment view (λ s. s.disk) (IsEither k.id w (checkpointed w)) (view k.disk) a →
         result ≡ saved a r o k.id last → Saves view k w r o last result
     saved_as a long moves moments is =
-        as_chosen (nat_lt size_limit w.size) (Saved view k w r o last result) (result ≡ handled.Running (up k r) o) long
+        as_chosen (nat_lt size_limit w.size) (Checkpoints view k w r o last result) (result ≡ handled.Running (up k r) o) long
         (record { answer = a; moves = moves; moments = moments; is = is })
 
     pub goes_on_as : o.written ≡ true → (white : Replica) → white ≡ white_in r → Saves view k w white o last result → GoesOn view k w r o last result

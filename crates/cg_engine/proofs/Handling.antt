@@ -8,11 +8,11 @@ use Rattle.cg_queue.specs.Queue.{green_count}
 use Rattle.cg_client.specs.Replica.{Held}
 use Rattle.cg_client.specs.Turn.{Turn}
 use Rattle.cg_commit.specs.Commit.{commits}
-use Rattle.cg_step.specs.Following.{Follows}
+use Rattle.cg_replica_step.specs.Following.{Follows}
 use Rattle.cg_commit.specs.Always.{AlwaysHolds, AlwaysCounts, AlwaysSettled}
-use Rattle.cg_step.specs.Recorded.{AlwaysKept, AlwaysRecorded, AlwaysAhead, AreBooked}
-use Rattle.cg_step.specs.Step.{Input, replica_step}
-use Rattle.cg_store.specs.Kept.{Kept}
+use Rattle.cg_replica_step.specs.Recorded.{AlwaysKept, AlwaysRecorded, AlwaysAhead, AreBooked}
+use Rattle.cg_replica_step.specs.Step.{Input, replica_step}
+use Rattle.cg_store.specs.StoreState.{StoreState}
 use Rattle.cg_store.specs.MomentLaws.{stands_once}
 use Rattle.cg_store.specs.Stands.{OnDisk, Stands, disk_of}
 use Rattle.cg_engine.specs.Engines.{Up, IsEngine}
@@ -26,7 +26,7 @@ use Rattle.cg_engine.proofs.Values.{same_commits}
 pub follows_at : (d : DiskView) (id : ℕ) (unwritten : List Action) (h : Held) (u : OnDisk) → IsEngine d id unwritten h → Stands id d.reads u → Follows (disk_of unwritten u) h
 follows_at d id unwritten h u is stands = subst (λ x. Follows (disk_of unwritten x) h) (stands_once id d.reads is.standing u is.stands stands) is.follows
 
-module _ {D : Type 0} (view : D → DiskView) (old : Up D) (mid : Kept D) (begins : Begins (view old.store.disk) (view mid.disk)) (id_is : mid.id ≡ old.store.id) (marks : mid.unwritten ≡ old.store.unwritten) where
+module _ {D : Type 0} (view : D → DiskView) (old : Up D) (mid : StoreState D) (begins : Begins (view old.store.disk) (view mid.disk)) (id_is : mid.id ≡ old.store.id) (marks : mid.unwritten ≡ old.store.unwritten) where
   -- the store behind `begin`
   store_is : (let k = old.store in mid ≡ record k { disk = mid.disk })
   store_is = λ i. record { disk = mid.disk; id = id_is i; unwritten = marks i }
@@ -41,7 +41,7 @@ module _ {D : Type 0} (view : D → DiskView) (old : Up D) (mid : Kept D) (begin
   handles u t count written result counted test ends = record {
     disk = mid.disk;
     begins = begins;
-    ends = subst (λ (x : Kept D). EndsEvent view x (green_count old.replica.held.queue) u t (commits old.replica.held t) result) store_is
+    ends = subst (λ (x : StoreState D). EndsEvent view x (green_count old.replica.held.queue) u t (commits old.replica.held t) result) store_is
         (subst (λ n. EndsEvent view mid n u t (commits old.replica.held t) result) counted (subst (λ b. EndsEvent view mid count u t b result) test ends));
   }
 
@@ -53,7 +53,7 @@ module _ {D : Type 0} (view : D → DiskView) (old : Up D) (mid : Kept D) (begin
       (subst (λ (x : Turn). EndsEvent view mid count u x (commits u.content x) result) same ends)
 
 -- the end of an event may be made behind `begin`
-pub may_end_there : AlwaysHolds → AlwaysCounts → AlwaysSettled → AlwaysKept → AlwaysRecorded → AlwaysAhead → {D : Type 0} (view : D → DiskView) (old : Up D) (mid : Kept D) (input : Input) (book : ActionId → Action) (made : Turn) →
+pub may_end_there : AlwaysHolds → AlwaysCounts → AlwaysSettled → AlwaysKept → AlwaysRecorded → AlwaysAhead → {D : Type 0} (view : D → DiskView) (old : Up D) (mid : StoreState D) (input : Input) (book : ActionId → Action) (made : Turn) →
     IsEngine (view old.store.disk) old.store.id old.store.unwritten old.replica.held → AreBooked book old.replica.held input → Begins (view old.store.disk) (view mid.disk) → mid.id ≡ old.store.id → mid.unwritten ≡ old.store.unwritten →
     made ≡ replica_step old.replica input → (u : OnDisk) → Stands mid.id (view mid.disk).reads u → MayEnd mid.unwritten u made
 may_end_there holds counts settled kept records ahead view old mid input book made is booked begins id_is marks same u stands =

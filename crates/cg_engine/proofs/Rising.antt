@@ -7,11 +7,11 @@ use Rattle.cg_journal.specs.Reads.{IsRead, IsReadRefused}
 use Rattle.cg_queue.specs.Queue.{green_count}
 use Rattle.cg_client.specs.Replica.{Held}
 use Rattle.cg_client.specs.Turn.{Turn}
-use Rattle.cg_stored.specs.Stored.{recover}
-use Rattle.cg_step.specs.Following.{Follows}
+use Rattle.cg_disk_records.specs.Stored.{recovery_turn}
+use Rattle.cg_replica_step.specs.Following.{Follows}
 use Rattle.cg_commit.specs.Always.{AlwaysHolds, AlwaysCounts, AlwaysSettled}
-use Rattle.cg_step.specs.Recorded.{AlwaysRecorded, AlwaysAhead}
-use Rattle.cg_store.specs.Kept.{Kept}
+use Rattle.cg_replica_step.specs.Recorded.{AlwaysRecorded, AlwaysAhead}
+use Rattle.cg_store.specs.StoreState.{StoreState}
 use Rattle.cg_store.specs.Opening.{IsOpened}
 use Rattle.cg_store.specs.Stands.{Stands, disk_of}
 use Rattle.cg_engine.specs.Engines.{Fallen, IsEngine}
@@ -23,20 +23,20 @@ use Rattle.cg_engine.specs.declared.wreck.LastEvent.{LastEvent}
 use Rattle.cg_engine.proofs.Following.{recovered_follows}
 
 -- the replica of an opened store, with the red marks of its recovery
-pub open_engine : AlwaysHolds → AlwaysCounts → AlwaysSettled → AlwaysRecorded → AlwaysAhead → {D : Type 0} (view : D → DiskView) (k new : Kept D) (core : Held) (t : Turn) → IsOpen (view k.disk) k core → t ≡ recover core →
+pub open_engine : AlwaysHolds → AlwaysCounts → AlwaysSettled → AlwaysRecorded → AlwaysAhead → {D : Type 0} (view : D → DiskView) (k new : StoreState D) (core : Held) (t : Turn) → IsOpen (view k.disk) k core → t ≡ recovery_turn core →
     new ≡ record k { unwritten = k.unwritten ++ t.known } → IsEngine (view new.disk) new.id new.unwritten t.replica.held
 open_engine holds counts settled records ahead {D} view k new core t opened turn same =
     let u = opened.standing in
-    let is : t ≡ recover u.content = turn ∙ ap recover opened.core_is in
-    let marks : (recover u.content).known ≡ k.unwritten ++ t.known = sym (ap (λ (m : List Action). m ++ t.known) opened.unwritten ∙ ap (λ (x : Turn). x.known) is) in
-    let follows : Follows (disk_of (recover u.content).known u) (recover u.content).replica.held = recovered_follows holds counts settled records ahead u opened.sound in
-    subst (λ (x : Kept D). IsEngine (view x.disk) x.id x.unwritten t.replica.held) (sym same) (record {
+    let is : t ≡ recovery_turn u.content = turn ∙ ap recovery_turn opened.core_is in
+    let marks : (recovery_turn u.content).known ≡ k.unwritten ++ t.known = sym (ap (λ (m : List Action). m ++ t.known) opened.unwritten ∙ ap (λ (x : Turn). x.known) is) in
+    let follows : Follows (disk_of (recovery_turn u.content).known u) (recovery_turn u.content).replica.held = recovered_follows holds counts settled records ahead u opened.sound in
+    subst (λ (x : StoreState D). IsEngine (view x.disk) x.id x.unwritten t.replica.held) (sym same) (record {
       standing = u;
       stands = opened.stands;
-      follows = subst (λ m. Follows (disk_of m u) t.replica.held) marks (subst (λ (x : Turn). Follows (disk_of (recover u.content).known u) x.replica.held) (sym is) follows);
+      follows = subst (λ m. Follows (disk_of m u) t.replica.held) marks (subst (λ (x : Turn). Follows (disk_of (recovery_turn u.content).known u) x.replica.held) (sym is) follows);
     })
 
-module _ {D : Type 0} (view : D → DiskView) (w : Fallen D) (last : LastEvent) (count_is : last.count ≡ w.count) (green_is : last.green ≡ w.green) (k : Kept D) (core : Held) (opened : IsOpened view w.id (view w.disk) k core) where
+module _ {D : Type 0} (view : D → DiskView) (w : Fallen D) (last : LastEvent) (count_is : last.count ≡ w.count) (green_is : last.green ≡ w.green) (k : StoreState D) (core : Held) (opened : IsOpened view w.id (view w.disk) k core) where
   pub opened_is : IsOpen (view k.disk) k core
   opened_is = record {
     standing = opened.standing;
@@ -50,10 +50,10 @@ module _ {D : Type 0} (view : D → DiskView) (w : Fallen D) (last : LastEvent) 
   recovers (recovered.Running e green) is = record {
     standing = opened.standing;
     stands = opened.stands;
-    replica = is.0 ∙ ap (λ c. (recover c).replica) opened.core_is;
-    id_is = ap (λ (x : Kept D). x.id) is.1 ∙ opened.id_is;
-    unwritten = ap (λ (x : Kept D). x.unwritten) is.1 ∙ ap (λ (m : List Action). m ++ (recover core).known) opened.unwritten ∙ ap (λ c. (recover c).known) opened.core_is;
-    read = subst (λ (x : Kept D). IsRead 5 (view w.disk) (view x.disk)) (sym is.1) opened.read;
+    replica = is.0 ∙ ap (λ c. (recovery_turn c).replica) opened.core_is;
+    id_is = ap (λ (x : StoreState D). x.id) is.1 ∙ opened.id_is;
+    unwritten = ap (λ (x : StoreState D). x.unwritten) is.1 ∙ ap (λ (m : List Action). m ++ (recovery_turn core).known) opened.unwritten ∙ ap (λ c. (recovery_turn c).known) opened.core_is;
+    read = subst (λ (x : StoreState D). IsRead 5 (view w.disk) (view x.disk)) (sym is.1) opened.read;
     green_is = is.2 ∙ (λ i. if nat_lt (count_is i) (green_count (opened.core_is i).queue) then green_is i else []);
   }
   recovers (recovered.Down x) is = absurd is

@@ -8,12 +8,12 @@ use Rattle.cg_disk.specs.View.{DiskView, IsView}
 use Rattle.cg_journal.specs.Fresh.{IsRefusedWithin}
 use Rattle.cg_client.specs.Replica.{Held, fresh_held}
 use Rattle.cg_client.specs.Whitening.{line_of}
-use Rattle.cg_stored.specs.Stored.{stored_of, whiten}
-use Rattle.cg_stored.specs.Agreeing.{Agrees}
-use Rattle.cg_step.specs.Following.{Follows}
+use Rattle.cg_disk_records.specs.Stored.{stored_of, whiten}
+use Rattle.cg_disk_records.specs.Agreeing.{Agrees}
+use Rattle.cg_replica_step.specs.Following.{Follows}
 use Rattle.cg_commit.specs.Always.{AlwaysHolds, AlwaysCounts, AlwaysSettled}
 use Rattle.cg_store.specs.Answers.{IsReached}
-use Rattle.cg_store.specs.Kept.{Kept}
+use Rattle.cg_store.specs.StoreState.{StoreState}
 use Rattle.cg_store.specs.Stands.{Stands, created, disk_of}
 use Rattle.cg_engine.specs.Answers.{Starts, IsBare}
 use Rattle.cg_engine.specs.Engines.{Fallen, IsEngine}
@@ -42,7 +42,7 @@ module _ (holds : AlwaysHolds) (counts : AlwaysCounts) (id : ℕ) (set : List We
   }
 
   -- the engine of a disk that was created
-  pub fresh_engine : {D : Type 0} (view : D → DiskView) (k : Kept D) (old : DiskView) (core h : Held) → core ≡ fresh_held id set → h ≡ fresh_held id set →
+  pub fresh_engine : {D : Type 0} (view : D → DiskView) (k : StoreState D) (old : DiskView) (core h : Held) → core ≡ fresh_held id set → h ≡ fresh_held id set →
       IsReached core.id 7 (created (stored_of core)) old (view k.disk) × (k.id ≡ core.id) × (k.unwritten ≡ []) → IsEngine (view k.disk) k.id k.unwritten h
   fresh_engine view k old core h core_is h_is is = record {
     standing = created (stored_of core);

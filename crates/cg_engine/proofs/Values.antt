@@ -11,8 +11,8 @@ use Rattle.cg_records.specs.contracts.yellow.YellowPartialEq.TheImpl.{ghosts as 
 use Rattle.cg_client.specs.Replica.{Held, yellow_of}
 use Rattle.cg_client.specs.Turn.{Turn}
 use Rattle.cg_client.specs.Marks.{after_first}
-use Rattle.cg_stored.specs.Stored.{Stored, stored_of}
-use Rattle.cg_stored.specs.Following.{fits_known, know, all_of, IsAhead}
+use Rattle.cg_disk_records.specs.Stored.{Stored, stored_of}
+use Rattle.cg_disk_records.specs.Following.{fits_known, know, all_of, IsAhead}
 use Rattle.cg_commit.specs.Commit.{same_values, commits}
 
 -- both have these values

@@ -12,12 +12,12 @@ use Rattle.cg_queue.specs.Queue.{green_count}
 use Rattle.cg_client.specs.declared.parts.DraftParts.{DraftParts}
 use Rattle.cg_client.specs.Replica.{Replica, fresh_held, fresh}
 use Rattle.cg_client.specs.Turn.{Turn}
-use Rattle.cg_stored.specs.Stored.{recover}
+use Rattle.cg_disk_records.specs.Stored.{recovery_turn}
 use Rattle.cg_commit.specs.Commit.{commits}
 use Rattle.cg_commit.specs.Crash.{whitened}
 use Rattle.cg_store.specs.Answers.{IsReached, EachMoment}
 use Rattle.cg_store.specs.Calls.{Keeps, EndsWritten, IsOneOfThree}
-use Rattle.cg_store.specs.Kept.{Kept}
+use Rattle.cg_store.specs.StoreState.{StoreState}
 use Rattle.cg_store.specs.Opening.{IsNoStore}
 use Rattle.cg_store.specs.Stands.{OnDisk, Stands, committed, checkpointed, created}
 use Rattle.cg_store.specs.declared.errors.CommitErr.{CommitErr}
@@ -45,7 +45,7 @@ parts_of t = record {
 }
 
 -- how the event ended at the store
-abbrev pub answer_of : {D : Type 0} → Handled D → Result (Kept D × Outputs) (CommitErr D)
+abbrev pub answer_of : {D : Type 0} → Handled D → Result (StoreState D × Outputs) (CommitErr D)
 answer_of (handled.Running e outputs) = Ok (e.store, outputs)
 answer_of (handled.Down w) = Err (Lost w.disk)
 answer_of (handled.NoMemory w) = Err (NoMemoryErr w.disk)
@@ -72,7 +72,7 @@ IsBetween written id u v c = Either written (IsOneOfThree id u v (checkpointed v
 
 -- an event that is written makes one commit, and one that isn't makes no call: how it ends, and what each moment leaves
 pub record EndsEvent {D : Type 0} (view : D →
-    DiskView) (k : Kept D) (count : ℕ) (u : OnDisk) (t : Turn) (written : Bool) (result : Handled D) : Type 0 where
+    DiskView) (k : StoreState D) (count : ℕ) (u : OnDisk) (t : Turn) (written : Bool) (result : Handled D) : Type 0 where
   pub ends : (let v = committed k.unwritten t u in
       Either written (EndsWritten view k u v (parts_of t) (answer_of result)) (Keeps k (parts_of t) (answer_of result)))
   pub leaves : Leaves view k.id count u t written result
@@ -113,9 +113,9 @@ pub record IsRecovered {D : Type 0} (view : D →
     DiskView) (w : Fallen D) (e : Up D) (green : List ActionId) : Type 0 where
   pub standing : OnDisk
   pub stands : Stands w.id (view w.disk).reads standing
-  pub replica : e.replica ≡ (recover standing.content).replica
+  pub replica : e.replica ≡ (recovery_turn standing.content).replica
   pub id_is : e.store.id ≡ w.id
-  pub unwritten : e.store.unwritten ≡ (recover standing.content).known
+  pub unwritten : e.store.unwritten ≡ (recovery_turn standing.content).known
   pub read : IsRead 5 (view w.disk) (view e.store.disk)
   pub green_is : green ≡ told w standing.content
 

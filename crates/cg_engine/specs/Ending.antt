@@ -6,17 +6,17 @@ use Rattle.cg_queue.specs.Queue.{green_count}
 use Rattle.cg_client.specs.Replica.{Held, Replica}
 use Rattle.cg_client.specs.Turn.{Turn}
 use Rattle.cg_client.specs.Calls.{IsLineGreen}
-use Rattle.cg_stored.specs.Stored.{stored_of, whiten, recover}
-use Rattle.cg_stored.specs.Following.{IsRecorded}
-use Rattle.cg_stored.specs.Agreeing.{Agrees}
-use Rattle.cg_stored.specs.Checkpoint.{size_limit}
+use Rattle.cg_disk_records.specs.Stored.{stored_of, whiten, recovery_turn}
+use Rattle.cg_disk_records.specs.Following.{IsRecorded}
+use Rattle.cg_disk_records.specs.Agreeing.{Agrees}
+use Rattle.cg_disk_records.specs.Checkpoint.{size_limit}
 use Rattle.cg_commit.specs.Commit.{commits}
 use Rattle.cg_commit.specs.Crash.{whitened}
-use Rattle.cg_step.specs.Following.{Follows}
+use Rattle.cg_replica_step.specs.Following.{Follows}
 use Rattle.cg_store.specs.Answers.{EachMoment}
 use Rattle.cg_base.specs.Choice.{Either}
 use Rattle.cg_store.specs.Calls.{Moves, IsEither}
-use Rattle.cg_store.specs.Kept.{Kept}
+use Rattle.cg_store.specs.StoreState.{StoreState}
 use Rattle.cg_store.specs.Opening.{IsSound}
 use Rattle.cg_store.specs.Stands.{OnDisk, Stands, disk_of, committed, checkpointed}
 use Rattle.cg_store.specs.declared.errors.CommitErr.{CommitErr}
@@ -83,34 +83,34 @@ MayGoOn written unwritten w h =
 
 -- ---- what it gives
 
-abbrev pub up : {D : Type 0} → Kept D → Replica → Up D
+abbrev pub up : {D : Type 0} → StoreState D → Replica → Up D
 up store r = record { store = store; replica = r }
 
-abbrev pub saved : {D : Type 0} → Result (Kept D) (CommitErr D) → Replica → Outputs → ℕ → LastEvent → Handled D
+abbrev pub saved : {D : Type 0} → Result (StoreState D) (CommitErr D) → Replica → Outputs → ℕ → LastEvent → Handled D
 saved (Ok store) r outputs id last = handled.Running (up store r) outputs
 saved (Err fault) r outputs id last = fallen fault id last
 
 -- a checkpoint was made
-pub record Saved {D : Type 0} (view : D →
-    DiskView) (k : Kept D) (w : OnDisk) (r : Replica) (outputs : Outputs) (last : LastEvent)
+pub record Checkpoints {D : Type 0} (view : D →
+    DiskView) (k : StoreState D) (w : OnDisk) (r : Replica) (outputs : Outputs) (last : LastEvent)
     (result : Handled D) : Type 0 where
-  pub answer : Result (Kept D) (CommitErr D)
+  pub answer : Result (StoreState D) (CommitErr D)
   pub moves : Moves view k w (checkpointed w) answer
   pub moments : EachMoment view (λ s. s.disk) (IsEither k.id w (checkpointed w)) (view k.disk) answer
   pub is : result ≡ saved answer r outputs k.id last
 
-abbrev pub Saves : {D : Type 0} → (D → DiskView) → Kept D → OnDisk → Replica → Outputs → LastEvent → Handled D → Type 0
+abbrev pub Saves : {D : Type 0} → (D → DiskView) → StoreState D → OnDisk → Replica → Outputs → LastEvent → Handled D → Type 0
 Saves view k w r outputs last result =
-    Either (nat_lt size_limit w.size) (Saved view k w r outputs last result) (result ≡ handled.Running (up k r) outputs)
+    Either (nat_lt size_limit w.size) (Checkpoints view k w r outputs last result) (result ≡ handled.Running (up k r) outputs)
 
-abbrev pub GoesOn : {D : Type 0} → (D → DiskView) → Kept D → OnDisk → Replica → Outputs → LastEvent → Handled D → Type 0
+abbrev pub GoesOn : {D : Type 0} → (D → DiskView) → StoreState D → OnDisk → Replica → Outputs → LastEvent → Handled D → Type 0
 GoesOn view k w r outputs last result =
     Either outputs.written (Saves view k w (whitened r) outputs last result) (result ≡ handled.Running (up k r) outputs)
 
 -- ---- a recovery
 
 -- the disk of an opened store stands for what a core holds, and there are no red marks beside it
-pub record IsOpen {D : Type 0} (d : DiskView) (k : Kept D) (core : Held) : Type 0 where
+pub record IsOpen {D : Type 0} (d : DiskView) (k : StoreState D) (core : Held) : Type 0 where
   pub standing : OnDisk
   pub stands : Stands k.id d.reads standing
   pub sound : IsSound standing.content
@@ -118,7 +118,7 @@ pub record IsOpen {D : Type 0} (d : DiskView) (k : Kept D) (core : Held) : Type 
   pub unwritten : k.unwritten ≡ []
 
 -- the replica comes up; only memory may be wanting
-abbrev pub RisesWith : {D : Type 0} → Kept D → Turn → LastEvent → Bool → Recovered D → Type 0
+abbrev pub RisesWith : {D : Type 0} → StoreState D → Turn → LastEvent → Bool → Recovered D → Type 0
 RisesWith k t last more (recovered.Running e green) =
     (e.replica ≡ t.replica) × (e.store ≡ record k { unwritten = k.unwritten ++ t.known })
     × (green ≡ (if more then last.green else []))
@@ -126,5 +126,5 @@ RisesWith k t last more (recovered.Down w) = ⊥
 RisesWith k t last more (recovered.NotAStore w) = ⊥
 RisesWith k t last more (recovered.NoMemory w) = w ≡ wreck_of k.disk k.id last
 
-abbrev pub Rises : {D : Type 0} → Kept D → Held → LastEvent → Recovered D → Type 0
-Rises k core last result = RisesWith k (recover core) last (nat_lt last.count (green_count core.queue)) result
+abbrev pub Rises : {D : Type 0} → StoreState D → Held → LastEvent → Recovered D → Type 0
+Rises k core last result = RisesWith k (recovery_turn core) last (nat_lt last.count (green_count core.queue)) result

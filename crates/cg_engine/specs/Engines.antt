@@ -5,13 +5,13 @@ use Rattle.cg_action.specs.declared.action.Action.{Action}
 use Rattle.cg_disk.specs.View.{DiskView}
 use Rattle.cg_queue.specs.Queue.{green_count}
 use Rattle.cg_client.specs.Replica.{Held, Replica}
-use Rattle.cg_step.specs.Following.{Follows}
-use Rattle.cg_store.specs.Kept.{Kept}
+use Rattle.cg_replica_step.specs.Following.{Follows}
+use Rattle.cg_store.specs.StoreState.{StoreState}
 use Rattle.cg_store.specs.Stands.{OnDisk, Stands, disk_of}
 
 -- a replica that is up: its store, and what it is in memory
 pub record Up (D : Type 0) : Type 0 where
-  pub store : Kept D
+  pub store : StoreState D
   pub replica : Replica
 
 -- a replica that is down: its disk, whose it is, and the names that its last event had newly made green, behind so many

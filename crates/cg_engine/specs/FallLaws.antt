@@ -3,12 +3,12 @@ use Rattle.std.proofs.Common.{◌≤◌, ◌+◌, ⊎_elim, ℕ, nat_lt, Bool, t
 use Rattle.cg_disk.specs.View.{DiskView}
 use Rattle.cg_client.specs.declared.parts.DraftParts.{DraftParts}
 use Rattle.cg_client.specs.Turn.{Turn}
-use Rattle.cg_stored.specs.Checkpoint.{size_limit}
+use Rattle.cg_disk_records.specs.Checkpoint.{size_limit}
 use Rattle.cg_commit.specs.Commit.{commits}
 use Rattle.cg_store.specs.Answers.{IsLost}
 use Rattle.cg_base.specs.Choice.{Either}
 use Rattle.cg_store.specs.Calls.{Commits, Keeps, EndsLong, EndsWritten}
-use Rattle.cg_store.specs.Kept.{Kept}
+use Rattle.cg_store.specs.StoreState.{StoreState}
 use Rattle.cg_store.specs.Stands.{OnDisk, committed, checkpointed}
 use Rattle.cg_store.specs.declared.errors.CommitErr.TheVariants.{Lost}
 use Rattle.cg_engine.specs.Answers.{parts_of, HandlesEvent}
@@ -19,7 +19,7 @@ lost_within : (id earlier : ℕ) (x y : OnDisk) (old new : DiskView) → earlier
     new.time ≤ old.time + 10
 lost_within id earlier x y old new le lost = omega (arith, le, lost.time, lost.within.1)
 
-module _ {D : Type 0} (view : D → DiskView) (k : Kept D) (u v : OnDisk) (d : DraftParts) (disk : D) where
+module _ {D : Type 0} (view : D → DiskView) (k : StoreState D) (u v : OnDisk) (d : DraftParts) (disk : D) where
   written_within : (long : Bool) →
       Either long (EndsLong view k u v (checkpointed v) d (Err (Lost disk))) (Commits view k u v d (Err (Lost disk))) →
       (view disk).time ≤ (view k.disk).time + 10
@@ -40,7 +40,7 @@ pub fallen_within : {D : Type 0} (view : D → DiskView) (old : Up D) (u : OnDis
     HandlesEvent view old u t (Down w) →
     (view w.disk).time ≤ (view old.store.disk).time + 10
 fallen_within view old u t w is =
-    let k : Kept _ = (let s = old.store in record s { disk = is.disk }) in
+    let k : StoreState _ = (let s = old.store in record s { disk = is.disk }) in
     let ended = ended_within view k u (committed old.store.unwritten t u) (parts_of t)
     w.disk (commits old.replica.held t) is.ends.ends in
     omega (arith, ended, is.begins.time)

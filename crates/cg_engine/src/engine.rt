@@ -6,7 +6,7 @@ ghost use Rattle.cg_base.specs.declared.action_id.ActionId.{ActionId};
 ghost use Rattle.cg_client.specs.Queries.{state_name};
 ghost use Rattle.cg_client.specs.Replica.{Held, fresh};
 ghost use Rattle.cg_client.specs.Turn.{Turn};
-ghost use Rattle.cg_stored.specs.Stored.{recover};
+ghost use Rattle.cg_disk_records.specs.Stored.{recovery_turn};
 ghost use Rattle.cg_replica.specs.Inputs.{input_of, HasLimits};
 ghost use Rattle.cg_replica.specs.Seen.{turn_of, has_left};
 ghost use Rattle.cg_engine.specs.Ending.{fallen, unstarted, unopened, unkept};
@@ -18,8 +18,8 @@ use cg_client::{Core, Draft};
 use cg_commit::what_is_held_agrees;
 use cg_disk::{Disk, ModelDisk};
 use cg_replica::{Input, Replica};
+use cg_replica_step::{each_commit_is_recorded, each_event_keeps_what_holds};
 use cg_report::StateName;
-use cg_step::{each_commit_is_recorded, each_event_keeps_what_holds};
 use cg_store::{CommitErr, OpenErr, Outputs, Store};
 use std::alloc::Global;
 use std::marker::Model;
@@ -98,8 +98,8 @@ fn told(alloc: Global, last: LastEvent, more: bool) -> IdList
 }
 
 impl<D: Disk> Engine<D> {
-    ghost use Rattle.cg_step.specs.Recorded.{AreBooked};
-    ghost use Rattle.cg_step.specs.Step.{replica_step};
+    ghost use Rattle.cg_replica_step.specs.Recorded.{AreBooked};
+    ghost use Rattle.cg_replica_step.specs.Step.{replica_step};
     ghost use Rattle.cg_commit.specs.Commit.{commits};
     ghost use Rattle.cg_disk.specs.View.{IsAtRest};
     ghost use Rattle.cg_store.specs.Stands.{OnDisk, Stands};
@@ -305,7 +305,7 @@ impl<D: Disk> Engine<D> {
         last: LastEvent,
         more: bool,
     ) -> Recovered<D>
-        requires { (core : Held) × IsOpen (D.view store.disk) store core × (turn_of replica draft ≡ recover core) }
+        requires { (core : Held) × IsOpen (D.view store.disk) store core × (turn_of replica draft ≡ recovery_turn core) }
         ensures { RisesWith store (turn_of replica draft) last more result }
     {
         what_is_held_agrees();

@@ -6,7 +6,7 @@ ghost use Rattle.cg_plan.specs.Items.{red_item};
 ghost use Rattle.cg_plan.specs.declared.parts.Item.TheVariants.{Green, Red};
 ghost use Rattle.cg_client.specs.Drafts.{turn_with};
 ghost use Rattle.cg_client.specs.Replica.{State};
-ghost use Rattle.cg_exchange.specs.ExchangeActions.{message_of, messages_of, send_part};
+ghost use Rattle.cg_exchange.specs.ExchangeActions.{message_of, messages_in_part, send_part};
 
 use cg_base::{ActionId, NoMemory, ReplicaId};
 use cg_client::{Core, Draft};
@@ -79,7 +79,7 @@ fn push_reds(
 }
 
 fn push_part(core: &Core, draft: &mut Draft, part: &Part) -> Result<(), NoMemory>
-    ensures sent { OnOk result (draft.new.sent ≡ draft.old.sent ++ messages_of core.now.queue part.now) }
+    ensures sent { OnOk result (draft.new.sent ≡ draft.old.sent ++ messages_in_part core.now.queue part.now) }
     ensures rest { OnOk result (draft.new ≡ record draft.old { sent = draft.new.sent }) }
 {
     match part {

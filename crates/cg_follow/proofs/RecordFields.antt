@@ -11,9 +11,9 @@ use Rattle.cg_codec.specs.PlainLaws.{IsBelow, u64_field}
 use Rattle.cg_codec.specs.ShapeLaws.{field_two}
 use Rattle.cg_action.specs.declared.action.Action.{Action}
 use Rattle.cg_action.specs.Bytes.{spelled_action}
-use Rattle.cg_stored.specs.Checkpoint.{spelled_entry}
-use Rattle.cg_stored.specs.Limits.{AreActions, IsDatabase}
-use Rattle.cg_stored.specs.Reading.{actions_reading, entries_reading}
+use Rattle.cg_disk_records.specs.Checkpoint.{spelled_entry}
+use Rattle.cg_disk_records.specs.Limits.{AreActions, IsDatabase}
+use Rattle.cg_disk_records.specs.Reading.{actions_reading, entries_reading}
 use Rattle.cg_follow.specs.Followed.{IsFollowed, AreFed}
 use Rattle.cg_follow.specs.Bytes.{spelled_follower, spelled_feed, is_cursor, is_some, cursor_reading, follower_reading, feed_reading}
 use Rattle.cg_follow.specs.Laws.{RecordsAreExact}

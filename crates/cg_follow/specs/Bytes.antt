@@ -5,9 +5,9 @@ use Rattle.cg_codec.specs.Fields.{number64, list}
 use Rattle.cg_codec.specs.Reading.{Reading, ◌>>=◌, done, only, take_u64, whole}
 use Rattle.cg_action.specs.declared.action.Action.{Action}
 use Rattle.cg_action.specs.Bytes.{spelled_action}
-use Rattle.cg_stored.specs.Checkpoint.{spelled_entry}
-use Rattle.cg_stored.specs.Parts.{read_value}
-use Rattle.cg_stored.specs.Reading.{actions_reading, entries_reading}
+use Rattle.cg_disk_records.specs.Checkpoint.{spelled_entry}
+use Rattle.cg_disk_records.specs.Parts.{read_value}
+use Rattle.cg_disk_records.specs.Reading.{actions_reading, entries_reading}
 use Rattle.cg_follow.specs.Followed.{Followed}
 
 unfoldable pub spelled_follower : Followed → List ℕ

@@ -1,7 +1,7 @@
 -- A feed: how it ends where its record stands, where one of its calls was struck, and where memory was refused.
 use Rattle.std.specs.Prelude.{◌≡◌, ◌≢◌, ℕ, ◌+◌, ◌≤◌, List, Some, slice_index, if◌then◌else◌}
 use Rattle.cg_disk.specs.Sides.{Image}
-use Rattle.cg_disk.specs.State.{DiskState, Strike, left_by}
+use Rattle.cg_disk.specs.State.{DiskState, DiskStrike, left_by}
 use Rattle.cg_disk.specs.View.{DiskView, IsAtRest}
 use Rattle.cg_journal.specs.Adds.{gate_stands}
 use Rattle.cg_journal.specs.Strikes.{IsUnstruck, IsStruck}
@@ -29,7 +29,7 @@ pub record Decides (gate : ℕ) (before after : Followed) (c : Image) : Type 0 w
 
 -- what a disk tells that was struck in one of the four calls of a feed: what each fill leaves
 pub record IsCutShort (call : ℕ) (before after : Followed) (s e : DiskState) : Type 0 where
-  pub strike : Strike
+  pub strike : DiskStrike
   pub armed : s.strike ≡ Some strike
   pub fills : (fill : List ℕ) → Stands (left_by e fill) (if gate_stands strike.blow call fill then after else before)
 

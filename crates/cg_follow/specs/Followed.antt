@@ -4,7 +4,7 @@ use Rattle.cg_base.specs.declared.limits.TheConstants.{COUNT_LIMIT}
 use Rattle.cg_action.specs.declared.action.Action.{Action}
 use Rattle.cg_answer.specs.declared.entry.DbEntry.{DbEntry}
 use Rattle.cg_db.specs.Apply.{apply, fold_actions}
-use Rattle.cg_stored.specs.Limits.{IsDatabase, AreActions}
+use Rattle.cg_disk_records.specs.Limits.{IsDatabase, AreActions}
 
 pub record Followed : Type 0 where
   pub cursor : ℕ

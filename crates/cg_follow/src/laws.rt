@@ -2,8 +2,8 @@ ghost use Rattle.cg_follow.specs.LineLaws.{ExactLines};
 ghost use Rattle.cg_follow.specs.Laws.{RecordsAreExact, RecordsLead, FeedsGoOn, StayFollowers};
 
 use cg_disk::Disk;
+use cg_disk_records::lists_are_exact;
 use cg_schedule::parts_are_exact;
-use cg_stored::lists_are_exact;
 use cg_text::tokens_are_exact;
 
 /// Each record of a follower's disk has one spelling, which is read as it, and nothing else is read as it. So a first

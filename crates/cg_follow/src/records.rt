@@ -7,7 +7,7 @@ ghost use Rattle.cg_codec.specs.Taking.{unread_of, Takes, TakesWithMemory, Decod
 ghost use Rattle.cg_action.specs.ActionLimits.{IsAction};
 ghost use Rattle.cg_db.specs.Limits.{AreEntries};
 ghost use Rattle.cg_records.specs.Limits.{Each};
-ghost use Rattle.cg_stored.specs.Limits.{AreActions, IsDatabase};
+ghost use Rattle.cg_disk_records.specs.Limits.{AreActions, IsDatabase};
 ghost use Rattle.cg_follow.specs.Bytes.{spelled_follower, spelled_feed, cursor_reading, follower_reading, feed_reading, follower_in, feed_in};
 
 use crate::followers_are_exact;
@@ -16,7 +16,7 @@ use cg_action::{Action, ActionList};
 use cg_base::{COUNT_LIMIT, LIST_LIMIT, NoMemory};
 use cg_codec::{CodecFault, Fields, put_u64};
 use cg_db::Db;
-use cg_stored::{put_actions, put_entries, take_actions, take_entries};
+use cg_disk_records::{put_actions, put_entries, take_actions, take_entries};
 use std::alloc::Global;
 
 /// The first record: a cursor and a database.

@@ -4,10 +4,10 @@ use Rattle.cg_base.specs.Sets.{with_member}
 use Rattle.cg_base.specs.Weights.{each_once}
 use Rattle.cg_schedule.specs.declared.event.Event.{Event}
 use Rattle.cg_schedule.specs.declared.event.Event.TheVariants as event
-use Rattle.cg_gen.specs.declared.waiting.Waiting.{Waiting}
-use Rattle.cg_gen.specs.declared.waiting.Waiting.TheVariants.{Nothing, Start, Merge, MergeBoth, SplitThenMerge, SplitThenBoth, Recover}
+use Rattle.cg_gen.specs.declared.block_lines.BlockLines.{BlockLines}
+use Rattle.cg_gen.specs.declared.block_lines.BlockLines.TheVariants.{Nothing, Start, Merge, MergeBoth, SplitThenMerge, SplitThenBoth, Recover}
 
-abbrev pub waiting_lines : Waiting → List Event
+abbrev pub waiting_lines : BlockLines → List Event
 waiting_lines Nothing = []
 waiting_lines (Start all) = event.Start (each_once all) ∷ event.Merge all ∷ []
 waiting_lines (Merge set) = event.Merge set ∷ []

@@ -2,11 +2,11 @@ ghost use Rattle.std.specs.Prelude.{◌≡◌, [], IfOk, OnErr};
 ghost use Rattle.cg_schedule.specs.declared.event.Event.TheVariants.{Stop};
 ghost use Rattle.cg_gen.specs.Generated.{parting, joining, regrouping, restarting, block, begun, next_line, at_the_start};
 
+use crate::block_lines::{BlockLines, next_waiting};
 use crate::cells::Cells;
 use crate::client::ask;
 use crate::draws::Draws;
 use crate::halves::halve;
-use crate::waiting::{Waiting, next_waiting};
 use cg_base::{Bytes, IdSet, NoMemory, ReplicaId};
 use cg_schedule::Event;
 use std::alloc::Global;
@@ -17,7 +17,7 @@ use std::marker::Model;
 pub(crate) struct GeneratorState {
     draws: Draws,
     cells: Cells,
-    waiting: Waiting,
+    waiting: BlockLines,
 }
 
 impl Model for GeneratorState {
@@ -37,7 +37,7 @@ impl GeneratorState {
         Ok(GeneratorState {
             draws: Draws::new(seed),
             cells,
-            waiting: Waiting::Start(all),
+            waiting: BlockLines::Start(all),
         })
     }
 
@@ -112,12 +112,12 @@ impl GeneratorState {
         let halves = halve(&mut draws, cell);
         if halves.first.is_empty() || halves.second.is_empty() {
             self.draws = draws;
-            self.waiting = Waiting::Merge(cell);
+            self.waiting = BlockLines::Merge(cell);
             return Ok(Event::Split(cell));
         }
         self.cells.put_both(halves.first, halves.second)?;
         self.draws = draws;
-        self.waiting = Waiting::SplitThenBoth(halves.first, halves.second);
+        self.waiting = BlockLines::SplitThenBoth(halves.first, halves.second);
         Ok(Event::Split(halves.first))
     }
 
@@ -134,7 +134,7 @@ impl GeneratorState {
         let all = one.union(&other);
         self.cells.put(all)?;
         self.draws = draws;
-        self.waiting = Waiting::SplitThenMerge(other, all);
+        self.waiting = BlockLines::SplitThenMerge(other, all);
         Ok(Event::Split(one))
     }
 
@@ -155,7 +155,7 @@ impl GeneratorState {
         others.remove(p);
         self.cells.put_both(others, IdSet::single(p))?;
         self.draws = draws;
-        self.waiting = Waiting::Recover(p);
+        self.waiting = BlockLines::Recover(p);
         Ok(stop(alloc, p))
     }
 }

@@ -5,6 +5,7 @@
 //! each may stand where it does, is the law `generated_schedules_are_whole`. Running them is left to the layers above.
 #![tactic(auto)]
 
+mod block_lines;
 mod cells;
 mod client;
 mod draws;
@@ -12,7 +13,6 @@ mod generator;
 mod generator_state;
 mod halves;
 mod laws;
-mod waiting;
 mod writing;
 
 pub use generator::Generator;

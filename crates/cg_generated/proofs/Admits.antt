@@ -10,19 +10,19 @@ use Rattle.cg_group.specs.declared.phase.Phase.TheVariants.{Regular}
 use Rattle.cg_group.specs.declared.reason.Reason.{Reason}
 use Rattle.cg_group.specs.declared.reason.Reason.TheVariants.{NotTogether, NotOneConfiguration}
 use Rattle.cg_group.specs.State.{Standing, standing_of, is_up, is_regular, regular_in, phase_of}
-use Rattle.cg_group.specs.Refusals.{refuse, empty_set, same_phase, any_of, not_up, not_regular, not_one_configuration, still_regular, is_together, not_together, split_refusal, merge_refusal}
+use Rattle.cg_group.specs.Refusals.{refuse, empty_set, left_together, any_of, not_up, not_regular, not_one_configuration, still_regular, is_together, not_together, split_refusal, merge_refusal}
 use Rattle.cg_group.specs.EachLaws.{Each, Each-has, Each-weaker, Each-all, list_any_nowhere}
 use Rattle.cg_client.specs.Replica.{State, RegPrim, TransPrim, ExchangeStates, ExchangeActions, Construct, No, Un, NonPrim, Left, Replica}
 use Rattle.cg_wire.specs.declared.message.Msg.{Msg}
 use Rattle.cg_schedule.specs.declared.event.Event.TheVariants.{Split, Merge}
-use Rattle.cg_model.specs.World.{Life, Up, Down as DownLife, Seat, World, has_begun, running, replica_of, is_left_state, is_left, left_replicas}
+use Rattle.cg_model.specs.World.{NodeState, Up, Down as DownLife, Node, World, has_begun, running, replica_of, is_left_state, is_left, left_replicas}
 use Rattle.cg_model.specs.Admission.{unknown, has_left, takes_part, first_refusal}
 use Rattle.cg_model.specs.AdmissionCalls.{already_up}
 use Rattle.cg_generated.proofs.Calm.{CalmState}
 use Rattle.cg_generated.proofs.CalmEnds.{CalmLife}
 use Rattle.cg_model.specs.PhaseLaws.{phase_at, phase-where}
 use Rattle.cg_generated.proofs.WorldStands.{StandsIn}
-use Rattle.cg_model.specs.SeatLaws.{seat_in}
+use Rattle.cg_model.specs.NodeLaws.{node_in}
 
 -- ---- lists of tests
 
@@ -57,7 +57,7 @@ module _ (begun : ℕ → Bool) (at : ℕ → Option Phase) (w : World) (s : Sta
   -- ---- one replica
 
   pub is-known : (p : ℕ) → begun p ≡ true → unknown w p ≡ None
-  is-known p has = passes (not (has_begun w p)) _ (ap not (s.seated p has))
+  is-known p has = passes (not (has_begun w p)) _ (ap not (s.hosted p has))
 
   phase-is : (p : ℕ) (phase : Phase) → at p ≡ Some phase → phase_of w.group p ≡ phase
   phase-is p phase e = phase-where w.group p ∙ ap phase_at (s.place p ∙ e)
@@ -73,7 +73,7 @@ module _ (begun : ℕ → Bool) (at : ℕ → Option Phase) (w : World) (s : Sta
 
   -- nobody has left
   stays : (p : ℕ) → is_left w p ≡ false
-  stays p = sits (seat_in w.seats p) (s.lives p) where
+  stays p = sits (node_in w.nodes p) (s.lives p) where
     in_state : (state : State) → CalmState state → is_left_state state ≡ false
     in_state RegPrim calm = refl
     in_state TransPrim calm = refl
@@ -85,13 +85,13 @@ module _ (begun : ℕ → Bool) (at : ℕ → Option Phase) (w : World) (s : Sta
     in_state (NonPrim regular) calm = refl
     in_state Left calm = absurd calm
 
-    lives : (life : Life) → CalmLife p life → option_map_or (λ (r : Replica). is_left_state r.state) (running life) false ≡ false
+    lives : (life : NodeState) → CalmLife p life → option_map_or (λ (r : Replica). is_left_state r.state) (running life) false ≡ false
     lives (Up r disk) calm = in_state r.state calm.1
     lives (DownLife disk green) calm = refl
 
-    sits : (o : Option Seat) → IfSome o (λ x. CalmLife p x.life) → option_map_or (λ (r : Replica). is_left_state r.state) (option_and_then (λ x. running x.life) o) false ≡ false
+    sits : (o : Option Node) → IfSome o (λ x. CalmLife p x.life) → option_map_or (λ (r : Replica). is_left_state r.state) (option_and_then (λ x. running x.life) o) false ≡ false
     sits None calm = refl
-    sits (Some seat) calm = lives seat.life calm
+    sits (Some node) calm = lives node.life calm
 
   is-here : (p : ℕ) → has_left w p ≡ None
   is-here p = passes (is_left w p) _ (stays p)
@@ -139,7 +139,7 @@ module _ (begun : ℕ → Bool) (at : ℕ → Option Phase) (w : World) (s : Sta
 
   module _ (set : List ℕ) (first : ℕ) (some : has set first ≡ true) (known : (p : ℕ) → has set p ≡ true → begun p ≡ true)
       (out : (p : ℕ) → has set p ≡ true → (phase : Phase) × (at p ≡ Some phase) × (regular_in phase ≡ 0))
-      (alone : (p q : ℕ) → has set p ≡ true → has set q ≡ false → same_phase (phase_at (at p)) (phase_at (at q)) ≡ false) where
+      (alone : (p q : ℕ) → has set p ≡ true → has set q ≡ false → left_together (phase_at (at p)) (phase_at (at q)) ≡ false) where
     is-out : (p : ℕ) → has set p ≡ true → still_regular w.group p ≡ None
     is-out p here =
         let is = out p here in
@@ -150,8 +150,8 @@ module _ (begun : ℕ → Bool) (at : ℕ → Option Phase) (w : World) (s : Sta
 
     apart : (q : ℕ) → has set q ≡ false → is_together w.group set q ≡ false
     apart q other =
-        list_any_nowhere (λ p. same_phase (phase_of w.group p) (phase_of w.group q)) set
-        (members (λ p. same_phase (phase_of w.group p) (phase_of w.group q) ≡ false) set (λ p here. ap₂ same_phase (same-as p) (same-as q) ∙ alone p q here other))
+        list_any_nowhere (λ p. left_together (phase_of w.group p) (phase_of w.group q)) set
+        (members (λ p. left_together (phase_of w.group p) (phase_of w.group q) ≡ false) set (λ p here. ap₂ left_together (same-as p) (same-as q) ∙ alone p q here other))
 
     and_out : (a b c : Bool) → (b ≡ false → a ≡ false) → (a && not b && not c) ≡ false
     and_out true true c e = refl

@@ -9,7 +9,7 @@ use Rattle.cg_base.specs.SetLaws.{has-within, has-union, Ascends-union, is_withi
 use Rattle.cg_group.specs.declared.phase.Phase.{Phase}
 use Rattle.cg_group.specs.declared.phase.Phase.TheVariants.{Down, Alone, Regular, Transitional}
 use Rattle.cg_group.specs.State.{regular_in}
-use Rattle.cg_group.specs.Refusals.{same_phase}
+use Rattle.cg_group.specs.Refusals.{left_together}
 use Rattle.cg_group.specs.LookupLaws.{put, put-same, put-other}
 use Rattle.cg_schedule.specs.declared.event.Event.{Event}
 use Rattle.cg_schedule.specs.declared.event.Event.TheVariants.{Split, Merge, Recover, Gather, Stop}
@@ -22,13 +22,13 @@ use Rattle.cg_generated.proofs.Cells.{IsIn, IsApart, not-both, flipped, somethin
 -- ---- phases
 
 -- who is regular isn't in a parting
-none-together : (phase : Phase) (conf : ℕ) → same_phase phase (Regular conf) ≡ false
+none-together : (phase : Phase) (conf : ℕ) → left_together phase (Regular conf) ≡ false
 none-together Down conf = refl
 none-together Alone conf = refl
 none-together (Regular at) conf = refl
 none-together (Transitional at set) conf = refl
 
-nor-down : (phase : Phase) → same_phase phase Down ≡ false
+nor-down : (phase : Phase) → left_together phase Down ≡ false
 nor-down Down = refl
 nor-down Alone = refl
 nor-down (Regular at) = refl
@@ -45,19 +45,19 @@ regular_at all conf_of p = if has all p then Some (Regular (conf_of p)) else Non
 regular-here : (all : List ℕ) (conf_of : ℕ → ℕ) (p : ℕ) → has all p ≡ true → regular_at all conf_of p ≡ Some (Regular (conf_of p))
 regular-here all conf_of p here = cond-true (has all p) (Some (Regular (conf_of p))) None here
 
-nobody-parts : (all : List ℕ) (conf_of : ℕ → ℕ) (phase : Phase) (p : ℕ) → same_phase phase (phase_at (regular_at all conf_of p)) ≡ false
+nobody-parts : (all : List ℕ) (conf_of : ℕ → ℕ) (phase : Phase) (p : ℕ) → left_together phase (phase_at (regular_at all conf_of p)) ≡ false
 nobody-parts all conf_of phase p =
-    cond_both (has all p) (Some (Regular (conf_of p))) None (λ o. same_phase phase (phase_at o) ≡ false) (λ y. none-together phase (conf_of p)) (λ n. nor-down phase)
+    cond_both (has all p) (Some (Regular (conf_of p))) None (λ o. left_together phase (phase_at o) ≡ false) (λ y. none-together phase (conf_of p)) (λ n. nor-down phase)
 
 -- who stands so, where the other stands as before, isn't in a parting with it
-stand-apart : (all : List ℕ) (conf_of : ℕ → ℕ) (x y : Option Phase) (q : ℕ) → y ≡ regular_at all conf_of q → same_phase (phase_at x) (phase_at y) ≡ false
-stand-apart all conf_of x y q e = subst (λ o. same_phase (phase_at x) (phase_at o) ≡ false) (sym e) (nobody-parts all conf_of (phase_at x) q)
+stand-apart : (all : List ℕ) (conf_of : ℕ → ℕ) (x y : Option Phase) (q : ℕ) → y ≡ regular_at all conf_of q → left_together (phase_at x) (phase_at y) ≡ false
+stand-apart all conf_of x y q e = subst (λ o. left_together (phase_at x) (phase_at o) ≡ false) (sym e) (nobody-parts all conf_of (phase_at x) q)
 
 -- two halves of a configuration have parted from one another
 halves-apart : (conf : ℕ) (first second : List ℕ) (x y : Option Phase) → x ≡ Some (Transitional conf first) → y ≡ Some (Transitional conf second) → same_set first second ≡ false →
-    same_phase (phase_at x) (phase_at y) ≡ false
+    left_together (phase_at x) (phase_at y) ≡ false
 halves-apart conf first second x y here there other =
-    subst (λ o. same_phase (phase_at o) (phase_at y) ≡ false) (sym here) (subst (λ o. same_phase (Transitional conf first) (phase_at o) ≡ false) (sym there) (and_right (conf == conf) (same_set first second) other))
+    subst (λ o. left_together (phase_at o) (phase_at y) ≡ false) (sym here) (subst (λ o. left_together (Transitional conf first) (phase_at o) ≡ false) (sym there) (and_right (conf == conf) (same_set first second) other))
 
 all-here : (set : List ℕ) (phase : Option Phase) (at : ℕ → Option Phase) (p : ℕ) → has set p ≡ true → all_at set phase at p ≡ phase
 all-here set phase at p here = cond-true (has set p) phase (at p) here

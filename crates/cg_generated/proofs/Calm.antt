@@ -8,7 +8,7 @@ use Rattle.cg_action.specs.declared.action.Kind.{Kind}
 use Rattle.cg_action.specs.declared.action.Kind.TheVariants.{Leave}
 use Rattle.cg_queue.specs.Queue.{QueueView}
 use Rattle.cg_knowledge.specs.declared.summary.Summary.{Summary}
-use Rattle.cg_knowledge.specs.Members.{senders, leads, leader, most_updated, gone}
+use Rattle.cg_knowledge.specs.Summaries.{senders, leads, leader, most_updated, gone}
 use Rattle.cg_wire.specs.declared.message.Msg.{Msg}
 use Rattle.cg_wire.specs.declared.message.Msg.TheVariants.{Action as ActionMsg, State as StateMsg, GreenItem, RedItem, Cpc}
 use Rattle.cg_group.specs.declared.delivery.Delivery.{Delivery}

@@ -5,11 +5,11 @@ use Rattle.cg_base.specs.declared.weighted.Weighted.{Weighted}
 use Rattle.cg_client.specs.Replica.{Held, NonPrim, fresh}
 use Rattle.cg_client.specs.Turn.{Turn, begin}
 use Rattle.cg_client.specs.Whitening.{white_at}
-use Rattle.cg_stored.specs.Stored.{stored_of, whiten, recover}
+use Rattle.cg_disk_records.specs.Stored.{stored_of, whiten, recovery_turn}
 use Rattle.cg_commit.specs.Commit.{commits}
-use Rattle.cg_stored.specs.Checkpoint.{size_limit}
-use Rattle.cg_commit.specs.Crash.{Strike, Disk, new_disk, with_change, with_checkpoint, checkpointed, Ended, Runs, Crashes, commit_under, end_event, at_rest, recovered, disk_recovered}
-use Rattle.cg_model.specs.World.{Life, Up, Down}
+use Rattle.cg_disk_records.specs.Checkpoint.{size_limit}
+use Rattle.cg_commit.specs.Crash.{Strike, Disk, new_disk, with_change, with_checkpoint, checkpointed, EventEnd, Runs, Crashes, commit_under, end_event, at_rest, recovered, disk_recovered}
+use Rattle.cg_model.specs.World.{NodeState, Up, Down}
 use Rattle.cg_generated.proofs.Calm.{Calm, CalmHeld, CalmState, CalmTurn, Each-drop}
 use Rattle.cg_generated.proofs.CalmMarks.{own_to_red-calm}
 
@@ -17,12 +17,12 @@ use Rattle.cg_generated.proofs.CalmMarks.{own_to_red-calm}
 abbrev CalmDisk : ℕ → Disk → Type 0
 CalmDisk p disk = CalmHeld p disk.content × (disk.armed ≡ None)
 
-abbrev pub CalmLife : ℕ → Life → Type 0
+abbrev pub CalmLife : ℕ → NodeState → Type 0
 CalmLife p (Up r disk) = CalmHeld p r.held × CalmState r.state × CalmDisk p disk
 CalmLife p (Down disk green) = CalmDisk p disk
 
 -- the replica runs on
-abbrev pub RunsOn : ℕ → Ended → Type 0
+abbrev pub RunsOn : ℕ → EventEnd → Type 0
 RunsOn p (Runs r disk) = CalmLife p (Up r disk)
 RunsOn p (Crashes disk green) = ⊥
 
@@ -58,7 +58,7 @@ module _ (p : ℕ) where
   crashed-calm disk calm = (calm.0, refl)
 
   pub recovered-calm : (disk : Disk) → CalmDisk p disk → CalmLife p (Up (recovered disk) (disk_recovered disk))
-  unfolding recover
+  unfolding recovery_turn
   recovered-calm disk calm =
       let turn = own_to_red-calm p (begin (record { held = disk.content; state = NonPrim false })) (calm.0, tt, tt) in
       (turn.0, turn.1, calm)

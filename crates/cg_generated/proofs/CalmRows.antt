@@ -8,7 +8,7 @@ use Rattle.cg_action.specs.declared.action.Action.{Action}
 use Rattle.cg_queue.specs.Queue.{QueueView, action_of}
 use Rattle.cg_base.specs.Ids.{same_id}
 use Rattle.cg_knowledge.specs.declared.summary.Summary.{Summary}
-use Rattle.cg_knowledge.specs.Members.{gone, senders}
+use Rattle.cg_knowledge.specs.Summaries.{gone, senders}
 use Rattle.cg_knowledge.specs.Verdict.{decides}
 use Rattle.cg_plan.specs.declared.parts.Item.{Item}
 use Rattle.cg_plan.specs.declared.parts.Item.TheVariants.{Green, Red}
@@ -29,12 +29,12 @@ use Rattle.cg_client.specs.Install.{install}
 use Rattle.cg_client.specs.Marks.{mark_yellow}
 use Rattle.cg_prim.specs.TransPrim.{end_prim}
 use Rattle.cg_exchange.specs.PlanEnd.{take_over, attempt, decide, end_plan}
-use Rattle.cg_exchange.specs.ExchangeActions.{message_of, messages_of, mark_item, take_item, send_part, progress, go_on, is_next, exchange_actions_on_item}
+use Rattle.cg_exchange.specs.ExchangeActions.{message_of, messages_in_part, mark_item, take_item, send_part, progress, go_on, is_next, exchange_actions_on_item}
 use Rattle.cg_exchange.specs.ExchangeStates.{is_usable, with_heard, exchange_states_on_summary}
 use Rattle.cg_construct.specs.Construct.{attempt_set, is_announced, construct_with, construct_on_cpc}
 use Rattle.cg_construct.specs.No.{no_record, no_with, no_on_cpc}
 use Rattle.cg_construct.specs.Un.{un_on_action}
-use Rattle.cg_step.specs.Step.{on_message, on_transitional, on_regular, take, Input, Deliveries, Asks, replica_step}
+use Rattle.cg_replica_step.specs.Step.{on_message, on_transitional, on_regular, after_delivery, Input, Deliveries, Asks, replica_step}
 use Rattle.cg_generated.proofs.Calm.{CalmKind, Calm, CalmQueue, CalmHeld, TellsOfNone, CalmState, CalmMessage, CalmDelivery, CalmTurn, gone-none}
 use Rattle.cg_generated.proofs.CalmMarks.{found-calm, choice-calm, mark_red-calm, mark_yellow-calm, mark_green-calm, mark_green_at-calm, install-calm, own_to_red-calm, settle-calm, request-calm}
 
@@ -70,7 +70,7 @@ module _ (p : ℕ) where
   send_part-calm t None calm = calm
   send_part-calm t (Some part) calm =
       let q = t.replica.held.queue in
-      (calm.0, calm.1, Each-append CalmMessage t.sent (messages_of q part) calm.2 (items-calm q (items_of part) calm.0.1))
+      (calm.0, calm.1, Each-append CalmMessage t.sent (messages_in_part q part) calm.2 (items-calm q (items_of part) calm.0.1))
 
   -- the replica goes to another state
   goes : (t : Turn) (state : State) → CalmState state → CalmTurn p t → CalmTurn p (go_to t state)
@@ -238,19 +238,19 @@ module _ (p : ℕ) where
   on_regular-calm (NonPrim regular) conf set t calm = enter-calm t conf set calm
   on_regular-calm Left conf set t calm = calm
 
-  take-calm : (t : Turn) (d : Delivery Msg) → CalmDelivery d → CalmTurn p t → CalmTurn p (take t d)
-  unfolding take
+  take-calm : (t : Turn) (d : Delivery Msg) → CalmDelivery d → CalmTurn p t → CalmTurn p (after_delivery t d)
+  unfolding after_delivery
   take-calm t (Message place from m) fine calm = on_message-calm t.replica.state from m t calm.1 fine calm
   take-calm t (TransitionalIn conf set) fine calm = on_transitional-calm t.replica.state t calm
   take-calm t (RegularIn conf set) fine calm = on_regular-calm t.replica.state conf set t calm
 
-  taken-calm : (t : Turn) (list : List (Delivery Msg)) → Each CalmDelivery list → CalmTurn p t → CalmTurn p (fold take t list)
+  taken-calm : (t : Turn) (list : List (Delivery Msg)) → Each CalmDelivery list → CalmTurn p t → CalmTurn p (fold after_delivery t list)
   taken-calm t [] each calm = calm
-  taken-calm t (d ∷ list) each calm = taken-calm (take t d) list each.1 (take-calm t d each.0 calm)
+  taken-calm t (d ∷ list) each calm = taken-calm (after_delivery t d) list each.1 (take-calm t d each.0 calm)
 
   -- ---- a step
 
   pub step-calm : (r : Replica) (input : Input) → CalmHeld p r.held → CalmState r.state → CalmInput input → CalmTurn p (replica_step r input)
   unfolding replica_step
-  step-calm r (Deliveries list) held state fine = settle-calm p (fold take (begin r) list) (taken-calm (begin r) list fine (held, state, tt))
+  step-calm r (Deliveries list) held state fine = settle-calm p (fold after_delivery (begin r) list) (taken-calm (begin r) list fine (held, state, tt))
   step-calm r (Asks kind) held state fine = request-calm p (begin r) kind fine (held, state, tt)

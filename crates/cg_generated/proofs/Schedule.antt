@@ -7,7 +7,7 @@ use Rattle.cg_base.specs.Sets.{Ascends, has}
 use Rattle.cg_base.specs.Weights.{each_once}
 use Rattle.cg_group.specs.declared.phase.Phase.{Phase}
 use Rattle.cg_group.specs.declared.phase.Phase.TheVariants.{Alone, Regular}
-use Rattle.cg_group.specs.Refusals.{same_phase}
+use Rattle.cg_group.specs.Refusals.{left_together}
 use Rattle.cg_schedule.specs.declared.event.Event.{Event}
 use Rattle.cg_schedule.specs.declared.event.Event.TheVariants.{Start, Merge}
 use Rattle.cg_gen.specs.Generated.{draw, draw_from_one, GeneratorState, line_with, events_left, at_the_start, generated}
@@ -80,7 +80,7 @@ module _ (replicas : ℕ) (some : 1 ≤ replicas) (high : replicas ≤ 32) where
       let fine : Fine (has all) at run = start-fine all 1 one in
       let merged = merge-fine (has all) at run fine all 1 one (λ p here. here)
       (λ p here. (Alone, cond-true (has all p) (Some Alone) None here, refl))
-      (λ p q here other. ap₂ same_phase (ap phase_at (cond-true (has all p) (Some Alone) None here)) (ap phase_at (cond-false (has all q) (Some Alone) None other))) in
+      (λ p q here other. ap₂ left_together (ap phase_at (cond-true (has all p) (Some Alone) None here)) (ap phase_at (cond-false (has all q) (Some Alone) None other))) in
       let conf = merged.0 in
       let same : (p : ℕ) → all_at all (Some (Regular conf)) at p ≡ regular_at all (λ q. conf) p =
       λ p. ⊎_elim

@@ -12,12 +12,12 @@ use Rattle.cg_group.specs.declared.phase.Phase.TheVariants.{Alone, Regular, Tran
 use Rattle.cg_group.specs.State.{standing_of, configuration, regular_in, phase_of, is_regular, delivered_to}
 use Rattle.cg_group.specs.Ready.{ready_in, ready}
 use Rattle.cg_group.specs.Events.{gather, deliver, split, merge}
-use Rattle.cg_group.specs.Refusals.{same_phase, not_up, not_regular, not_ready, deliver_refusal}
+use Rattle.cg_group.specs.Refusals.{left_together, not_up, not_regular, not_ready, deliver_refusal}
 use Rattle.cg_group.specs.PlaceLaws.{ready_in-within}
 use Rattle.cg_group.specs.LookupLaws.{put, eqb_comm}
 use Rattle.cg_schedule.specs.declared.event.Event.{Event}
 use Rattle.cg_schedule.specs.declared.event.Event.TheVariants.{Start, Split, Merge, Request, Weak, Recover, Gather, Deliver, Stop}
-use Rattle.cg_model.specs.World.{Seat, World, no_world, running, up_replicas}
+use Rattle.cg_model.specs.World.{Node, World, no_world, running, up_replicas}
 use Rattle.cg_model.specs.Admission.{unknown, first_refusal}
 use Rattle.cg_model.specs.AdmissionCalls.{already_up}
 use Rattle.cg_model.specs.Show.{ended}
@@ -26,7 +26,7 @@ use Rattle.cg_model.specs.PhaseLaws.{where_is, phase_at, phase-where, all_at, me
 use Rattle.cg_generated.proofs.GroupStands.{none-calm, gather-keeps, deliver-keeps, deliver-calm, split-calm, merge-calm}
 use Rattle.cg_generated.proofs.WorldStands.{StandsIn, stands-same, stands-in, stands-kept, hand-stands, handed_out-stands, begun-stands, crashed-stands, recovered-stands}
 use Rattle.cg_generated.proofs.Admits.{none-then, passes as lets_pass, some-member, is-known, stands-up, is-down, takes-part, may-split, may-merge}
-use Rattle.cg_model.specs.SeatLaws.{seat_in}
+use Rattle.cg_model.specs.NodeLaws.{node_in}
 use Rattle.cg_model.specs.Schedules.{Run, no_run, step_unless, step_on, step, deliver_some, deliver_ready, pass, passes, play}
 
 pub record Fine (begun : ℕ → Bool) (at : ℕ → Option Phase) (run : Run) : Type 0 where
@@ -35,7 +35,7 @@ pub record Fine (begun : ℕ → Bool) (at : ℕ → Option Phase) (run : Run) :
 
 pub fine-same : (begun also : ℕ → Bool) (at here : ℕ → Option Phase) (run : Run) → ((p : ℕ) → also p ≡ true → begun p ≡ true) → ((p : ℕ) → at p ≡ here p) → Fine begun at run → Fine also here run
 fine-same begun also at here run more same fine =
-    record { free = fine.free; world = stands-same begun also at here run.world.seats run.world.group more same fine.world }
+    record { free = fine.free; world = stands-same begun also at here run.world.nodes run.world.group more same fine.world }
 
 -- an admitted event is a step
 step-fine : (begun : ℕ → Bool) (at : ℕ → Option Phase) (run : Run) (e : Event) → run.refused ≡ None → first_refusal run.world e ≡ None → StandsIn begun at (happens run.world e).world →
@@ -63,7 +63,7 @@ module _ (begun : ℕ → Bool) (at : ℕ → Option Phase) (run : Run) (fine : 
   unfolding first_refusal happens
   gather-fine =
       step-fine begun at run Gather fine.free refl
-      (stands-kept begun at run.world.seats run.world.group (gather run.world.group) (gather-keeps run.world.group) fine.world)
+      (stands-kept begun at run.world.nodes run.world.group (gather run.world.group) (gather-keeps run.world.group) fine.world)
 
   -- nothing is ready in no configuration
   nothing-ready : (delivered : ℕ) → ready_in (configuration run.world.group 0) delivered ≡ 0
@@ -88,9 +88,9 @@ module _ (begun : ℕ → Bool) (at : ℕ → Option Phase) (run : Run) (fine : 
   stands-ready p n some = phase-some (at p) (λ none. ready-regular p n some (ap regular_in (phase-where run.world.group p ∙ ap phase_at (fine.world.place p)) ∙ none))
 
   -- and has begun
-  has-seat : (p : ℕ) (phase : Phase) → at p ≡ Some phase → is_some (seat_in run.world.seats p) ≡ true
-  has-seat p phase e = by (seat_in run.world.seats p) (fine.world.runs p ∙ ap is_some e) where
-    by : (o : Option Seat) → is_some (option_and_then (λ s. running s.life) o) ≡ true → is_some o ≡ true
+  has-node : (p : ℕ) (phase : Phase) → at p ≡ Some phase → is_some (node_in run.world.nodes p) ≡ true
+  has-node p phase e = by (node_in run.world.nodes p) (fine.world.runs p ∙ ap is_some e) where
+    by : (o : Option Node) → is_some (option_and_then (λ s. running s.life) o) ≡ true → is_some o ≡ true
     by None up = up
     by (Some s) up = refl
 
@@ -99,14 +99,14 @@ module _ (begun : ℕ → Bool) (at : ℕ → Option Phase) (run : Run) (fine : 
   some-fine p n e =
       let g = run.world.group in
       let up = stands-ready p n e in
-      let seated : unknown run.world p ≡ None = lets_pass (not (is_some (seat_in run.world.seats p))) _ (ap not (has-seat p up.0 up.1)) in
+      let hosted : unknown run.world p ≡ None = lets_pass (not (is_some (node_in run.world.nodes p))) _ (ap not (has-node p up.0 up.1)) in
       let regular : not_regular g p ≡ None = lets_pass (not (is_regular g p)) _ (ap (λ b. not (not b)) (ne_eqb (regular_in (phase_of g p)) 0 (ready-regular p n e))) in
       let enough : not_ready g p (suc n) ≡ None = lets_pass (nat_lt (ready g p) (suc n)) _ (ap (λ k. nat_lt k (suc n)) e ∙ le-ltb (suc n) (suc n) (omega arith)) in
       let refusal = none-then (not_up g p) _ (stands-up begun at run.world fine.world p up.0 up.1) (none-then (not_regular g p) _ regular (none-then (not_ready g p (suc n)) [] enough refl)) in
       let keeps = deliver-keeps g p (suc n) in
-      step-fine begun at run (Deliver p (suc n)) fine.free (none-then (unknown run.world p) _ seated (none-then (deliver_refusal g p (suc n)) [] refusal refl))
+      step-fine begun at run (Deliver p (suc n)) fine.free (none-then (unknown run.world p) _ hosted (none-then (deliver_refusal g p (suc n)) [] refusal refl))
       (handed_out-stands begun at run.world (deliver g p (suc n)) (deliver-calm g p (suc n) fine.world.calm)
-      (stands-kept begun at run.world.seats g (deliver g p (suc n)).group keeps fine.world))
+      (stands-kept begun at run.world.nodes g (deliver g p (suc n)).group keeps fine.world))
 
   deliver-fine : (p n : ℕ) → ready run.world.group p ≡ n → Fine begun at (deliver_some n run p)
   deliver-fine p zero e = fine
@@ -129,11 +129,11 @@ module _ (begun : ℕ → Bool) (at : ℕ → Option Phase) (run : Run) (fine : 
       let same : (q : ℕ) → is_some (at q) ≡ is_some (here q) =
       λ q. cond_both (has set q) (Some (Transitional conf set)) (at q) (λ o. is_some (at q) ≡ is_some o) (λ y. ap is_some (regular q y)) (λ n. refl) in
       step-fine begun here run (Split set) fine.free (may-split begun at run.world fine.world set conf first above some known regular)
-      (handed_out-stands begun here run.world (split g set) calm.1 (stands-in begun at here run.world.seats g (split g set).group place same calm.0 fine.world))
+      (handed_out-stands begun here run.world (split g set) calm.1 (stands-in begun at here run.world.nodes g (split g set).group place same calm.0 fine.world))
 
   pub merge-fine : (set : List ℕ) (first : ℕ) → has set first ≡ true → ((p : ℕ) → has set p ≡ true → begun p ≡ true) →
       ((p : ℕ) → has set p ≡ true → (phase : Phase) × (at p ≡ Some phase) × (regular_in phase ≡ 0)) →
-      ((p q : ℕ) → has set p ≡ true → has set q ≡ false → same_phase (phase_at (at p)) (phase_at (at q)) ≡ false) →
+      ((p q : ℕ) → has set p ≡ true → has set q ≡ false → left_together (phase_at (at p)) (phase_at (at q)) ≡ false) →
       (conf : ℕ) × (0 < conf) × Fine begun (all_at set (Some (Regular conf)) at) (play run (Merge set))
   unfolding first_refusal happens
   merge-fine set first some known out alone =
@@ -147,7 +147,7 @@ module _ (begun : ℕ → Bool) (at : ℕ → Option Phase) (run : Run) (fine : 
         conf,
         omega arith,
         step-fine begun here run (Merge set) fine.free (may-merge begun at run.world fine.world set first some known out alone)
-            (handed_out-stands begun here run.world (merge g set) calm.1 (stands-in begun at here run.world.seats g (merge g set).group place same calm.0 fine.world)),
+            (handed_out-stands begun here run.world (merge g set) calm.1 (stands-in begun at here run.world.nodes g (merge g set).group place same calm.0 fine.world)),
       )
 
   -- ---- crashes
@@ -184,12 +184,12 @@ module _ (begun : ℕ → Bool) (at : ℕ → Option Phase) where
 started : (set : List Weighted) (rest : List ℕ) (w : World) (begun : ℕ → Bool) (at : ℕ → Option Phase) → StandsIn begun at w →
     StandsIn (λ q. begun q || has rest q) (all_at rest (Some Alone) at) (fold (begin_replica set) w rest)
 started set [] w begun at s =
-    stands-same begun (λ q. begun q || false) at at w.seats w.group (λ q e. ⊎_elim (λ y. y) (λ n. absurd (let clash : false ≡ true = n in cc)) (or_cases (begun q) false e)) (λ q. refl) s
+    stands-same begun (λ q. begun q || false) at at w.nodes w.group (λ q e. ⊎_elim (λ y. y) (λ n. absurd (let clash : false ≡ true = n in cc)) (or_cases (begun q) false e)) (λ q. refl) s
 started set (p ∷ rest) w begun at s =
     let v = begin_replica set w p in
     let once : ℕ → Bool = λ q. begun q || (p == q) in
     let next = fold (begin_replica set) v rest in
-    stands-same (λ q. once q || has rest q) (λ q. begun q || has (p ∷ rest) q) (all_at rest (Some Alone) (put at p (Some Alone))) (all_at (p ∷ rest) (Some Alone) at) next.seats next.group
+    stands-same (λ q. once q || has rest q) (λ q. begun q || has (p ∷ rest) q) (all_at rest (Some Alone) (put at p (Some Alone))) (all_at (p ∷ rest) (Some Alone) at) next.nodes next.group
     (λ q e. regrouped (begun q) (p == q) (has rest q) ∙ e)
     (λ q. ap (λ b. cond (has rest q) (Some Alone) (cond b (Some Alone) (at q))) (eqb_comm q p) ∙ merged (p == q) (has rest q) (Some Alone) (at q))
     (started set rest v once (put at p (Some Alone)) (begun-stands begun at set w p s))
@@ -204,7 +204,7 @@ ids-once (p ∷ set) = ap (λ xs. p ∷ xs) (ids-once set)
 
 none-stands : StandsIn (λ q. false) (λ q. None) no_world
 unfolding standing_of
-none-stands = record { seated = λ p e. absurd (let clash : false ≡ true = e in cc); runs = λ p. refl; place = λ p. refl; lives = λ p. tt; calm = none-calm }
+none-stands = record { hosted = λ p e. absurd (let clash : false ≡ true = e in cc); runs = λ p. refl; place = λ p. refl; lives = λ p. tt; calm = none-calm }
 
 -- All start, and are alone.
 pub start-fine : (all : List ℕ) (first : ℕ) → has all first ≡ true → Fine (has all) (all_at all (Some Alone) (λ q. None)) (play no_run (Start (each_once all)))

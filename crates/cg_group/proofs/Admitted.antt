@@ -7,7 +7,7 @@ use Rattle.cg_base.specs.Lists.{first_some}
 use Rattle.cg_base.specs.Sets.{has, same_set, is_within}
 use Rattle.cg_group.specs.declared.reason.Reason.{Reason}
 use Rattle.cg_group.specs.State.{Standing, GroupState, standing_of, phase_of, delivered_to, regular_in, is_up, is_regular}
-use Rattle.cg_group.specs.Refusals.{any_of, not_up, not_regular, not_one_configuration, still_regular, not_together, is_together, same_phase}
+use Rattle.cg_group.specs.Refusals.{any_of, not_up, not_regular, not_one_configuration, still_regular, not_together, is_together, left_together}
 use Rattle.cg_group.specs.Events.{furthest}
 use Rattle.cg_group.specs.EachLaws.{Each, Each-at, Each-has}
 use Rattle.cg_group.specs.RefusalLaws.{first_none, refuse_none}
@@ -101,7 +101,7 @@ module _ {M : Type 0} where
 
   -- whoever parted together with one that is merged is merged too, or has left
   pub all_together : (g : GroupState M) (set left : List ℕ) → not_together g set left ≡ None → (p q : ℕ) (s : Standing M) → has set p ≡ true → standing_of g q ≡ Some s →
-      same_phase (phase_of g p) (phase_of g q) ≡ true → has set q ≡ false → has left q ≡ false → ⊥
+      left_together (phase_of g p) (phase_of g q) ≡ true → has set q ≡ false → has left q ≡ false → ⊥
   unfolding standing_of
   all_together g set left e p q s m up same out stays =
       let test : ℕ → Bool = λ q. is_together g set q && not (has set q) && not (has left q) in
@@ -110,7 +110,7 @@ module _ {M : Type 0} where
       (find_none test (map (λ s. s.id) g.replicas) (option_map_none Reason.NotTogether (find test (map (λ s. s.id) g.replicas)) e)) (found_in g.replicas q s up) in
       let some : test q ≡ true =
       and_from (is_together g set q && not (has set q)) (not (has left q))
-      (and_from (is_together g set q) (not (has set q)) (list_any_in (λ p. same_phase (phase_of g p) (phase_of g q)) set p m same) (not_from_false (has set q) out))
+      (and_from (is_together g set q) (not (has set q)) (list_any_in (λ p. left_together (phase_of g p) (phase_of g q)) set p m same) (not_from_false (has set q) out))
       (not_from_false (has left q) stays) in
       let clash : true ≡ false = sym some ∙ none in cc
 

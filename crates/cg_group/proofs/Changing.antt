@@ -14,7 +14,7 @@ use Rattle.cg_group.specs.declared.phase.Phase.TheVariants.{Down, Alone, Regular
 use Rattle.cg_group.specs.State.{Configuration, Standing, GroupState, no_configuration, standing_of, configuration, phase_of, delivered_to, unordered_of, regular_in, set_standing}
 use Rattle.cg_group.specs.Ready.{all_received}
 use Rattle.cg_group.specs.Events.{deliveries_at, transitional_places, furthest, handed_in_split, become_transitional, split, become_regular, merge}
-use Rattle.cg_group.specs.Refusals.{not_up, not_regular, not_one_configuration, still_regular, not_together, empty_set, any_of, same_phase, split_refusal, merge_refusal}
+use Rattle.cg_group.specs.Refusals.{not_up, not_regular, not_one_configuration, still_regular, not_together, empty_set, any_of, left_together, split_refusal, merge_refusal}
 use Rattle.cg_group.specs.History.{Parting, Way, Never, Here, WentDown, WentOn, Diary, Stay, stay_in, ended, going, fresh, note, may_begin, was_there, handed_to, NamesOnce}
 use Rattle.cg_group.specs.Synchrony.{Begins, EndedBefore, ordered_from}
 use Rattle.cg_group.proofs.Picture.{Picture, Holds, EndsBy, conf_in, handed_parting, touched}
@@ -47,8 +47,8 @@ in_phase (Regular d) c e pos = inl (ap Regular e)
 in_phase (Transitional d set) c e pos = inr (set, ap (λ z. Transitional z set) e)
 
 -- two that parted with one set
-same_parting : (x y : Phase) (c : ℕ) (set : List ℕ) → x ≡ Transitional c set → y ≡ Transitional c set → same_phase x y ≡ true
-same_parting x y c set e f = subst (λ z. same_phase z y ≡ true) (sym e) (subst (λ z. same_phase (Transitional c set) z ≡ true) (sym f)
+same_parting : (x y : Phase) (c : ℕ) (set : List ℕ) → x ≡ Transitional c set → y ≡ Transitional c set → left_together x y ≡ true
+same_parting x y c set e f = subst (λ z. left_together z y ≡ true) (sym e) (subst (λ z. left_together (Transitional c set) z ≡ true) (sym f)
     (and_from (c == c) (same_set set set) (eq-eqb c c refl) (same_set_refl set)))
 
 -- a choice within a choice

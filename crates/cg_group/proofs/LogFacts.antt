@@ -9,7 +9,7 @@ use Rattle.std.specs.Option.{option_map_or}
 use Rattle.std.specs.List.{list_all, prefix_len}
 use Rattle.cg_base.specs.Lists.{at_place, above_up_to, count_up}
 use Rattle.cg_base.specs.Sets.{has, with_member}
-use Rattle.cg_group.specs.declared.placed.Placed.{Placed}
+use Rattle.cg_group.specs.declared.ordered_message.OrderedMessage.{OrderedMessage}
 use Rattle.cg_group.specs.State.{Configuration, Sent, no_configuration, changed_at, has_received}
 use Rattle.cg_group.specs.Events.{with_message, with_receipt}
 use Rattle.cg_group.specs.Ready.{all_received, ready_in}
@@ -68,31 +68,31 @@ module _ {X : Type 0} where
 
 module _ {M : Type 0} where
   -- a member more among those who have received, and so many of them in turn
-  abbrev pub marked : ℕ → List ℕ → Placed M → Placed M
+  abbrev pub marked : ℕ → List ℕ → OrderedMessage M → OrderedMessage M
   marked p turn x = record x { received = with_member x.received p; in_turn = turn }
 
-  pub configuration_of-appended : (members : List ℕ) (ordered : List (Placed M)) (p : ℕ) (m : M) (x : Placed M) →
+  pub configuration_of-appended : (members : List ℕ) (ordered : List (OrderedMessage M)) (p : ℕ) (m : M) (x : OrderedMessage M) →
       x ≡ record { from = p; message = m; received = p ∷ []; in_turn = [] } →
       configuration_of members (ordered ++ x ∷ []) ≡ with_message (configuration_of members ordered) p m
   unfolding with_message
   configuration_of-appended members ordered p m x e = rw (e, map-append, map-append) refl
 
-  pub configuration_of-marked : (members : List ℕ) (ordered : List (Placed M)) (p place : ℕ) (turn : List ℕ) →
+  pub configuration_of-marked : (members : List ℕ) (ordered : List (OrderedMessage M)) (p place : ℕ) (turn : List ℕ) →
       configuration_of members (changed_at (marked p turn) ordered place) ≡ with_receipt (configuration_of members ordered) p place
   unfolding with_receipt
   configuration_of-marked members ordered p place turn =
       ap₂ (λ (o : List (Sent M)) (r : List (List ℕ)). let c : Configuration M = record { members = members; ordered = o; received = r } in c)
       (map-changed_at_same sent_of (marked p turn) (λ x. refl) ordered place)
-      (map-changed_at (λ (x : Placed M). x.received) (marked p turn) (λ set. with_member set p) (λ x. refl) ordered place)
+      (map-changed_at (λ (x : OrderedMessage M). x.received) (marked p turn) (λ set. with_member set p) (λ x. refl) ordered place)
 
-  pub configuration_of-set : (members : List ℕ) (ordered : List (Placed M)) (p i : ℕ) (turn : List ℕ) (x d : Placed M) → i < length ordered →
+  pub configuration_of-set : (members : List ℕ) (ordered : List (OrderedMessage M)) (p i : ℕ) (turn : List ℕ) (x d : OrderedMessage M) → i < length ordered →
       x ≡ marked p turn (get_or ordered i d) →
       configuration_of members (set ordered i x) ≡ with_receipt (configuration_of members ordered) p (suc i)
   configuration_of-set members ordered p i turn x d lt e =
       ap (λ z. configuration_of members (set ordered i z)) e
       ∙ ap (configuration_of members) (set-changed_at (marked p turn) ordered i d lt) ∙ configuration_of-marked members ordered p (suc i) turn
 
-  pub with_receipt-beyond : (members : List ℕ) (ordered : List (Placed M)) (p place : ℕ) → length ordered < place →
+  pub with_receipt-beyond : (members : List ℕ) (ordered : List (OrderedMessage M)) (p place : ℕ) → length ordered < place →
       configuration_of members ordered ≡ with_receipt (configuration_of members ordered) p place
   with_receipt-beyond members ordered p place lt =
       sym (ap (configuration_of members) (changed_at-beyond (marked p []) ordered place lt)) ∙ configuration_of-marked members ordered p place []
@@ -101,30 +101,30 @@ module _ {M : Type 0} where
   unfolding with_receipt
   with_receipt-none c p = ap (λ (r : List (List ℕ)). record c { received = r }) (sym (changed_at-none (λ set. with_member set p) c.received))
 
-  pub has_received-at : (members : List ℕ) (ordered : List (Placed M)) (p place : ℕ) →
+  pub has_received-at : (members : List ℕ) (ordered : List (OrderedMessage M)) (p place : ℕ) →
       has_received (configuration_of members ordered) p place ≡ option_map_or (λ x. has x.received p) (at_place ordered place) false
   unfolding has_received
   has_received-at members ordered p place =
-      ap (λ o. option_map_or (λ set. has set p) o false) (at_place-map (λ (x : Placed M). x.received) ordered place) ∙ by_option (at_place ordered place)
+      ap (λ o. option_map_or (λ set. has set p) o false) (at_place-map (λ (x : OrderedMessage M). x.received) ordered place) ∙ by_option (at_place ordered place)
     where
-      by_option : (o : Option (Placed M)) → option_map_or (λ set. has set p) (option_map (λ (x : Placed M). x.received) o) false ≡ option_map_or (λ (x : Placed M). has x.received p) o false
+      by_option : (o : Option (OrderedMessage M)) → option_map_or (λ set. has set p) (option_map (λ (x : OrderedMessage M). x.received) o) false ≡ option_map_or (λ (x : OrderedMessage M). has x.received p) o false
       by_option None = refl
       by_option (Some x) = refl
 
-  pub sender_at-at : (members : List ℕ) (ordered : List (Placed M)) (place : ℕ) →
+  pub sender_at-at : (members : List ℕ) (ordered : List (OrderedMessage M)) (place : ℕ) →
       sender_at (configuration_of members ordered) place ≡ option_map_or (λ x. x.from) (at_place ordered place) 0
   sender_at-at members ordered place = ap (λ o. option_map_or (λ s. s.from) o 0) (at_place-map sent_of ordered place) ∙ by_option (at_place ordered place)
     where
-      by_option : (o : Option (Placed M)) → option_map_or (λ s. s.from) (option_map sent_of o) 0 ≡ option_map_or (λ (x : Placed M). x.from) o 0
+      by_option : (o : Option (OrderedMessage M)) → option_map_or (λ s. s.from) (option_map sent_of o) 0 ≡ option_map_or (λ (x : OrderedMessage M). x.from) o 0
       by_option None = refl
       by_option (Some x) = refl
 
-  pub all_received-at_place : (members : List ℕ) (ordered : List (Placed M)) (place : ℕ) (x : Placed M) → at_place ordered place ≡ Some x →
+  pub all_received-at_place : (members : List ℕ) (ordered : List (OrderedMessage M)) (place : ℕ) (x : OrderedMessage M) → at_place ordered place ≡ Some x →
       all_received (configuration_of members ordered) place ≡ list_all (has x.received) members
   unfolding all_received
   all_received-at_place members ordered place x e =
       list_all_same (λ q. has_received (configuration_of members ordered) q place) (has x.received)
-      (λ q. has_received-at members ordered q place ∙ ap (λ o. option_map_or (λ (y : Placed M). has y.received q) o false) e) members
+      (λ q. has_received-at members ordered q place ∙ ap (λ o. option_map_or (λ (y : OrderedMessage M). has y.received q) o false) e) members
 
 -- the numbers above one of them
 pub above_up_to-next : (low high : ℕ) → low < high → above_up_to low high ≡ suc low ∷ above_up_to (suc low) high

@@ -7,7 +7,7 @@ use Rattle.cg_base.specs.Lists.{at_place, above_up_to}
 use Rattle.cg_group.specs.declared.phase.Phase.TheVariants.{Down}
 use Rattle.cg_group.specs.State.{Configuration, Standing, GroupState, no_configuration, configuration, standing_of, set_standing, set_configuration, phase_of, home, regular_in, changed_at, with_standing}
 use Rattle.cg_group.specs.Events.{with_message, with_receipt, order, order_from, order_all, receive, receive_all}
-use Rattle.cg_group.specs.Logs.{Stored, configurations_of, group_of, with_all_receipts}
+use Rattle.cg_group.specs.Logs.{LogView, configurations_of, group_of, with_all_receipts}
 use Rattle.cg_group.specs.Rosters.{found, waits_of, conf_of, with_unordered}
 
 -- only what stands there is changed
@@ -77,7 +77,7 @@ module _ {M : Type 0} where
       (cases_Bool (x.id == p))
 
   -- the oldest message was taken, and has the next place
-  pub order_taken : (logs after : List (Stored M)) (replicas : List (Standing M)) (p : ℕ) (m : M) (s : Standing M) (rest : List M) →
+  pub order_taken : (logs after : List (LogView M)) (replicas : List (Standing M)) (p : ℕ) (m : M) (s : Standing M) (rest : List M) →
       found replicas p ≡ Some s → s.unordered ≡ m ∷ rest →
       configurations_of after ≡ changed_at (λ c. with_message c p m) (configurations_of logs) (conf_of replicas p) →
       group_of after (with_standing replicas (with_unordered s rest)) ≡ order (group_of logs replicas) p
@@ -150,14 +150,14 @@ module _ {M : Type 0} where
       (λ x e. ap (λ o. fold (λ c place. with_receipt c p place) x (above_up_to 0 (length (option_map_or (λ (c : Configuration M). c) o no_configuration).ordered))) e))
 
   -- the configuration of a replica was written so
-  pub received_everywhere : (logs after : List (Stored M)) (replicas : List (Standing M)) (p : ℕ) →
+  pub received_everywhere : (logs after : List (LogView M)) (replicas : List (Standing M)) (p : ℕ) →
       configurations_of after ≡ changed_at (λ c. with_all_receipts c p) (configurations_of logs) (conf_of replicas p) →
       group_of after replicas ≡ receive_all (group_of logs replicas) p
   unfolding standing_of
   received_everywhere logs after replicas p changed =
       ap (λ (z : List (Configuration M)). let h : GroupState M = record { configurations = z; replicas = replicas } in h) changed ∙ sym (receive_all-changed (group_of logs replicas) p)
 
-  pub received_there : (logs after : List (Stored M)) (replicas : List (Standing M)) (p place : ℕ) →
+  pub received_there : (logs after : List (LogView M)) (replicas : List (Standing M)) (p place : ℕ) →
       configurations_of after ≡ changed_at (λ c. with_receipt c p place) (configurations_of logs) (conf_of replicas p) →
       group_of after replicas ≡ receive (group_of logs replicas) p place
   unfolding standing_of

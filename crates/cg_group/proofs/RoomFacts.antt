@@ -6,7 +6,7 @@ use Rattle.std.proofs.lemmas.Bool.{cases_Bool, cond-true, cond-false, eq-eqb, eq
 use Rattle.cg_base.specs.Sets.{Ascends}
 use Rattle.cg_group.specs.declared.phase.Phase.TheVariants.{Down}
 use Rattle.cg_group.specs.State.{Standing, with_standing, regular_in}
-use Rattle.cg_group.specs.Logs.{Stored, RoomFor, RoomForAll}
+use Rattle.cg_group.specs.Logs.{LogView, RoomFor, RoomForAll}
 use Rattle.cg_group.specs.Rosters.{IsRoster, ids_of, found, conf_of, waits_of, pending, with_unordered}
 use Rattle.cg_group.proofs.RosterFacts.{with_standing-same, with_standing-later}
 
@@ -23,7 +23,7 @@ counted-less i k n = by_test (i == k)
     by_test false = omega arith
 
 module _ {M : Type 0} where
-  pub room_less : (logs : List (Stored M)) (k m n : ℕ) → n ≤ m → RoomFor logs k m → RoomFor logs k n
+  pub room_less : (logs : List (LogView M)) (k m n : ℕ) → n ≤ m → RoomFor logs k m → RoomFor logs k n
   room_less logs k m n le room = λ s e. omega (arith, room s e)
 
   -- a replica's own messages are among those that wait for a place of its configuration
@@ -85,7 +85,7 @@ module _ {M : Type 0} where
       (cases_Bool (x.id == p))
 
   -- there is still room for all, where the oldest message of a replica has got a place
-  pub RoomForAll-taken : (logs after : List (Stored M)) (replicas : List (Standing M)) (p : ℕ) (m : M) (s : Standing M) (rest : List M) → IsRoster replicas →
+  pub RoomForAll-taken : (logs after : List (LogView M)) (replicas : List (Standing M)) (p : ℕ) (m : M) (s : Standing M) (rest : List M) → IsRoster replicas →
       found replicas p ≡ Some s → s.unordered ≡ m ∷ rest →
       ((k n : ℕ) → RoomFor logs k ((if conf_of replicas p == k then 1 else 0) + n) → RoomFor after k n) →
       RoomForAll logs replicas → RoomForAll after (with_standing replicas (with_unordered s rest))
@@ -96,11 +96,11 @@ module _ {M : Type 0} where
       spent k left (subst (λ n. RoomFor logs k n) (sym less) (all k))
 
   -- there is room for those that wait for a place of a configuration, or as many of them wait with the replicas that are left
-  abbrev pub HasRoom : List (Stored M) → List (Standing M) → List (Standing M) → ℕ → Type 0
+  abbrev pub HasRoom : List (LogView M) → List (Standing M) → List (Standing M) → ℕ → Type 0
   HasRoom logs replicas left k = RoomFor logs k (pending replicas k) ⊎ (pending left k ≡ pending replicas k)
 
   -- the configuration of one more replica has room
-  pub HasRoom-next : (logs after : List (Stored M)) (replicas left : List (Standing M)) (s : Standing M) → ((k n : ℕ) → RoomFor logs k n → RoomFor after k n) →
+  pub HasRoom-next : (logs after : List (LogView M)) (replicas left : List (Standing M)) (s : Standing M) → ((k n : ℕ) → RoomFor logs k n → RoomFor after k n) →
       RoomFor after (regular_in s.phase) (pending replicas (regular_in s.phase)) →
       ((k : ℕ) → HasRoom logs replicas (s ∷ left) k) → (k : ℕ) → HasRoom after replicas left k
   HasRoom-next logs after replicas left s kept room has k = ⊎_elim

@@ -7,7 +7,7 @@ use Rattle.cg_base.specs.SetLaws.{filter-keeps, filter-drops}
 use Rattle.cg_group.specs.declared.phase.Phase.TheVariants.{Down}
 use Rattle.cg_group.specs.State.{Configuration, Standing, GroupState, standing_of, set_standing, set_configuration, regular_in, changed_at}
 use Rattle.cg_group.specs.Events.{order, order_from, order_all, receive_all}
-use Rattle.cg_group.specs.Logs.{Stored, configurations_of, group_of, with_all_receipts}
+use Rattle.cg_group.specs.Logs.{LogView, configurations_of, group_of, with_all_receipts}
 use Rattle.cg_group.specs.Rosters.{found, waits_of, conf_of, is_sender, senders_of, regulars_of, IsRoster}
 use Rattle.cg_group.specs.LookupLaws.{standing_of-set}
 use Rattle.cg_group.proofs.OrderFacts.{times, found_id, order_all-times, received_everywhere}
@@ -96,7 +96,7 @@ module _ {M : Type 0} where
       false_second true b e = refl
       false_second false b e = rw e refl
 
-  pub senders-order : (logs : List (Stored M)) (replicas : List (Standing M)) → IsRoster replicas →
+  pub senders-order : (logs : List (LogView M)) (replicas : List (Standing M)) → IsRoster replicas →
       fold order_all (group_of logs replicas) (senders_of replicas) ≡ fold order_all (group_of logs replicas) (regulars_of replicas)
   senders-order logs replicas roster = fold-senders replicas (group_of logs replicas)
       (λ i d lt none. ap (λ o. option_map_or (λ (s : Standing M). s.unordered) o []) (found_at replicas 1 i d roster.ascends lt) ∙ no_more (get_or replicas i d).unordered none)
@@ -104,7 +104,7 @@ module _ {M : Type 0} where
   -- ---- each regular replica receives
 
   -- where the configurations were written for one of the replicas, those behind it are left
-  pub received-next : (logs after : List (Stored M)) (replicas left : List (Standing M)) (s : Standing M) → found replicas s.id ≡ Some s →
+  pub received-next : (logs after : List (LogView M)) (replicas left : List (Standing M)) (s : Standing M) → found replicas s.id ≡ Some s →
       configurations_of after ≡ changed_at (λ c. with_all_receipts c s.id) (configurations_of logs) (regular_in s.phase) →
       fold receive_all (group_of after replicas) (regulars_of left) ≡ fold receive_all (group_of logs replicas) (regulars_of (s ∷ left))
   received-next logs after replicas left s there changed = ⊎_elim

@@ -10,7 +10,7 @@ use Rattle.std.proofs.lemmas.Option.{slice_get-get_or}
 use Rattle.cg_base.specs.Lists.{at_place, above_up_to}
 use Rattle.cg_base.specs.Sets.{IsSet, Ascends, has, with_member, is_within}
 use Rattle.cg_base.specs.SetLaws.{with_member-same, with_member-later, has-within, has-with_member, is_within-has, is_within-from}
-use Rattle.cg_group.specs.declared.placed.Placed.{Placed}
+use Rattle.cg_group.specs.declared.ordered_message.OrderedMessage.{OrderedMessage}
 use Rattle.cg_group.specs.State.{Configuration, has_received}
 use Rattle.cg_group.specs.Ready.{all_received}
 use Rattle.cg_group.specs.Events.{with_receipt}
@@ -94,11 +94,11 @@ module _ {X : Type 0} where
   slice_get_set (z ∷ xs) (suc k) (suc i) x y e = ⊎_elim inl (λ w. inr (ap suc w.0, w.1)) (slice_get_set xs k i x y e)
 
 module _ {M : Type 0} where
-  pub IsSettled-none : (members : List ℕ) (ordered : List (Placed M)) → IsSettled members ordered 0
+  pub IsSettled-none : (members : List ℕ) (ordered : List (OrderedMessage M)) → IsSettled members ordered 0
   IsSettled-none members ordered = record { within = omega arith; received = λ i x lt e. absurd (omega arith) }
 
   -- one more place that all have received
-  pub IsSettled-next : (members : List ℕ) (ordered : List (Placed M)) (n : ℕ) (d : Placed M) → n < length ordered → IsSettled members ordered n →
+  pub IsSettled-next : (members : List ℕ) (ordered : List (OrderedMessage M)) (n : ℕ) (d : OrderedMessage M) → n < length ordered → IsSettled members ordered n →
       IsSet (get_or ordered n d).received → is_within members (get_or ordered n d).received ≡ true → IsSettled members ordered (suc n)
   IsSettled-next members ordered n d lt settled is_set within = record {
     within = omega arith;
@@ -108,22 +108,22 @@ module _ {M : Type 0} where
         let same : i ≡ n = omega arith in
         let there : Some x ≡ Some (get_or ordered n d) = sym e ∙ ap (slice_get ordered) same ∙ slice_get-get_or ordered n d lt in
         let it : get_or ordered n d ≡ x = cc in
-        subst (λ (y : Placed M). IsSet y.received × (is_within members y.received ≡ true)) it (is_set, within))
+        subst (λ (y : OrderedMessage M). IsSet y.received × (is_within members y.received ≡ true)) it (is_set, within))
         (cases_lt i n);
   }
 
-  pub slice_get-front : (xs : List (Placed M)) (x : Placed M) (i : ℕ) → i < length xs → slice_get (xs ++ x ∷ []) i ≡ slice_get xs i
+  pub slice_get-front : (xs : List (OrderedMessage M)) (x : OrderedMessage M) (i : ℕ) → i < length xs → slice_get (xs ++ x ∷ []) i ≡ slice_get xs i
   slice_get-front [] x i lt = absurd (omega arith)
   slice_get-front (y ∷ xs) x zero lt = refl
   slice_get-front (y ∷ xs) x (suc i) lt = slice_get-front xs x i (omega arith)
 
-  pub IsSettled-append : (members : List ℕ) (ordered : List (Placed M)) (x : Placed M) (n : ℕ) → IsSettled members ordered n → IsSettled members (ordered ++ x ∷ []) n
+  pub IsSettled-append : (members : List ℕ) (ordered : List (OrderedMessage M)) (x : OrderedMessage M) (n : ℕ) → IsSettled members ordered n → IsSettled members (ordered ++ x ∷ []) n
   IsSettled-append members ordered x n settled = record {
     within = rw length-append (let le = settled.within in omega arith);
     received = λ i y lt e. settled.received i y lt (sym (slice_get-front ordered x i (let le = settled.within in omega arith)) ∙ e);
   }
 
-  slice_get-written : (xs : List (Placed M)) (k i : ℕ) (y z d : Placed M) → k < length xs → slice_get (set xs k y) i ≡ Some z →
+  slice_get-written : (xs : List (OrderedMessage M)) (k i : ℕ) (y z d : OrderedMessage M) → k < length xs → slice_get (set xs k y) i ≡ Some z →
       (slice_get xs i ≡ Some z) ⊎ ((y ≡ z) × (slice_get xs i ≡ Some (get_or xs k d)))
   slice_get-written [] k i y z d lt e = absurd (omega arith)
   slice_get-written (x ∷ xs) zero zero y z d lt e = inr ((let same : y ≡ z = cc in same), refl)
@@ -132,7 +132,7 @@ module _ {M : Type 0} where
   slice_get-written (x ∷ xs) (suc k) (suc i) y z d lt e = slice_get-written xs k i y z d (omega arith) e
 
   -- one more has received a place
-  pub IsSettled-receipt : (members : List ℕ) (ordered : List (Placed M)) (k n p : ℕ) (y d : Placed M) → k < length ordered → IsSettled members ordered n →
+  pub IsSettled-receipt : (members : List ℕ) (ordered : List (OrderedMessage M)) (k n p : ℕ) (y d : OrderedMessage M) → k < length ordered → IsSettled members ordered n →
       y.received ≡ with_member (get_or ordered k d).received p → IsSet y.received → IsSettled members (set ordered k y) n
   IsSettled-receipt members ordered k n p y d lt settled value is_set = record {
     within = rw length-set (let le = settled.within in omega arith);
@@ -140,70 +140,70 @@ module _ {M : Type 0} where
         (λ before. settled.received i z below before)
         (λ w.
         let old = settled.received i (get_or ordered k d) below w.1 in
-        subst (λ (x : Placed M). IsSet x.received × (is_within members x.received ≡ true)) w.0
+        subst (λ (x : OrderedMessage M). IsSet x.received × (is_within members x.received ≡ true)) w.0
         (is_set, ap (is_within members) value ∙ is_within-more members (get_or ordered k d).received p old.1))
         (slice_get-written ordered k i y z d lt e);
   }
 
-  none_within : (xs : List (Placed M)) (i : ℕ) → i < length xs → slice_get xs i ≡ None → ⊥
+  none_within : (xs : List (OrderedMessage M)) (i : ℕ) → i < length xs → slice_get xs i ≡ None → ⊥
   none_within [] i lt e = absurd (omega arith)
   none_within (y ∷ xs) zero lt e = cc
   none_within (y ∷ xs) (suc i) lt e = none_within xs i (omega arith) e
 
   -- each of the first places every member has received
-  pub settled-all_received : (members : List ℕ) (ordered : List (Placed M)) (n place : ℕ) → IsSettled members ordered n → 0 < place → place ≤ n →
+  pub settled-all_received : (members : List ℕ) (ordered : List (OrderedMessage M)) (n place : ℕ) → IsSettled members ordered n → 0 < place → place ≤ n →
       all_received (configuration_of members ordered) place ≡ true
   settled-all_received members ordered n zero settled pos le = absurd (omega arith)
   settled-all_received members ordered n (suc i) settled pos le =
       let lt : i < length ordered = let within = settled.within in omega arith in
       by_option (slice_get ordered i) refl lt
     where
-      by_option : (o : Option (Placed M)) → slice_get ordered i ≡ o → i < length ordered → all_received (configuration_of members ordered) (suc i) ≡ true
+      by_option : (o : Option (OrderedMessage M)) → slice_get ordered i ≡ o → i < length ordered → all_received (configuration_of members ordered) (suc i) ≡ true
       by_option None e lt = absurd (none_within ordered i lt e)
       by_option (Some x) e lt = all_received-at_place members ordered (suc i) x e ∙ (settled.received i x (omega arith) e).1
 
   -- what is known of a place before, and of a member
-  settled_at : (members : List ℕ) (ordered : List (Placed M)) (n place : ℕ) (x : Placed M) → IsSettled members ordered n → 0 < place → place ≤ n → at_place ordered place ≡ Some x →
+  settled_at : (members : List ℕ) (ordered : List (OrderedMessage M)) (n place : ℕ) (x : OrderedMessage M) → IsSettled members ordered n → 0 < place → place ≤ n → at_place ordered place ≡ Some x →
       IsSet x.received × (is_within members x.received ≡ true)
   settled_at members ordered n zero x settled pos le e = absurd (omega arith)
   settled_at members ordered n (suc i) x settled pos le e = settled.received i x (omega arith) e
 
   -- what is counted of a replica it has received
-  pub settled-same : (members : List ℕ) (ordered : List (Placed M)) (n p place : ℕ) → IsSettled (p ∷ []) ordered n → 0 < place → place ≤ n →
+  pub settled-same : (members : List ℕ) (ordered : List (OrderedMessage M)) (n p place : ℕ) → IsSettled (p ∷ []) ordered n → 0 < place → place ≤ n →
       with_receipt (configuration_of members ordered) p place ≡ configuration_of members ordered
   unfolding with_receipt
   settled-same members ordered n p place settled pos le =
       let c : Configuration M = configuration_of members ordered in
       ap (λ (r : List (List ℕ)). record c { received = r })
       (changed_at-here (λ set. with_member set p) (λ set. set) c.received place
-      (λ set e. by_option (at_place ordered place) refl set (sym (at_place-map (λ (x : Placed M). x.received) ordered place) ∙ e))
+      (λ set e. by_option (at_place ordered place) refl set (sym (at_place-map (λ (x : OrderedMessage M). x.received) ordered place) ∙ e))
       ∙ changed_at-itself c.received place)
     where
-      by_option : (o : Option (Placed M)) → at_place ordered place ≡ o → (set : List ℕ) → option_map (λ (x : Placed M). x.received) o ≡ Some set → with_member set p ≡ set
+      by_option : (o : Option (OrderedMessage M)) → at_place ordered place ≡ o → (set : List ℕ) → option_map (λ (x : OrderedMessage M). x.received) o ≡ Some set → with_member set p ≡ set
       by_option None e set there = absurd (cc)
       by_option (Some x) e set there =
           let known = settled_at (p ∷ []) ordered n place x settled pos le e in
           let same : x.received ≡ set = cc in
           subst (λ z. with_member z p ≡ z) same (with_member-there 1 x.received p known.0.ascends (is_within-has (p ∷ []) x.received p known.1 (has_itself p)))
 
-  pub settled-has : (members : List ℕ) (ordered : List (Placed M)) (n p place : ℕ) → IsSettled (p ∷ []) ordered n → 0 < place → place ≤ n →
+  pub settled-has : (members : List ℕ) (ordered : List (OrderedMessage M)) (n p place : ℕ) → IsSettled (p ∷ []) ordered n → 0 < place → place ≤ n →
       has_received (configuration_of members ordered) p place ≡ true
   settled-has members ordered n p place settled pos le =
       let within : place ≤ length ordered = let under = settled.within in omega arith in
       let there = at_place-within ordered place pos within in
       let known = settled_at (p ∷ []) ordered n place there.0 settled pos le there.1 in
-      has_received-at members ordered p place ∙ ap (λ o. option_map_or (λ (x : Placed M). has x.received p) o false) there.1
+      has_received-at members ordered p place ∙ ap (λ o. option_map_or (λ (x : OrderedMessage M). has x.received p) o false) there.1
       ∙ is_within-has (p ∷ []) there.0.received p known.1 (has_itself p)
 
   -- one more slot, at which nothing is counted yet
-  pub AreFronts-slot : (ordered : List (Placed M)) (fronts : List ℕ) → AreFronts ordered fronts → AreFronts ordered (fronts ++ 0 ∷ [])
+  pub AreFronts-slot : (ordered : List (OrderedMessage M)) (fronts : List ℕ) → AreFronts ordered fronts → AreFronts ordered (fronts ++ 0 ∷ [])
   AreFronts-slot ordered fronts are = λ slot n e. ⊎_elim
       (are slot n)
       (λ (none : 0 ≡ n). subst (IsSettled (suc slot ∷ []) ordered) none (IsSettled-none (suc slot ∷ []) ordered))
       (slice_get_pushed fronts 0 n slot e)
 
   -- the count at a slot, written anew
-  pub AreFronts-counted : (ordered : List (Placed M)) (fronts : List ℕ) (k m : ℕ) → AreFronts ordered fronts → IsSettled (suc k ∷ []) ordered m →
+  pub AreFronts-counted : (ordered : List (OrderedMessage M)) (fronts : List ℕ) (k m : ℕ) → AreFronts ordered fronts → IsSettled (suc k ∷ []) ordered m →
       AreFronts ordered (set fronts k m)
   AreFronts-counted ordered fronts k m are settled = λ slot n e. ⊎_elim
       (are slot n)
@@ -211,16 +211,16 @@ module _ {M : Type 0} where
       (slice_get_set fronts k slot m n e)
 
   -- the count at a replica's slot
-  pub front_of : (ordered : List (Placed M)) (fronts : List ℕ) (p slot n : ℕ) → AreFronts ordered fronts → suc slot ≡ p → slot < length fronts →
+  pub front_of : (ordered : List (OrderedMessage M)) (fronts : List ℕ) (p slot n : ℕ) → AreFronts ordered fronts → suc slot ≡ p → slot < length fronts →
       n ≡ get_or fronts slot n → IsSettled (p ∷ []) ordered n
   front_of ordered fronts p slot n are own lt e =
       subst (λ (q : ℕ). IsSettled (q ∷ []) ordered n) own (are slot n (slice_get-get_or fronts slot n lt ∙ ap Some (sym e)))
 
-  pub AreFronts-append : (ordered : List (Placed M)) (x : Placed M) (fronts : List ℕ) → AreFronts ordered fronts → AreFronts (ordered ++ x ∷ []) fronts
+  pub AreFronts-append : (ordered : List (OrderedMessage M)) (x : OrderedMessage M) (fronts : List ℕ) → AreFronts ordered fronts → AreFronts (ordered ++ x ∷ []) fronts
   AreFronts-append ordered x fronts are = λ slot n e. IsSettled-append (suc slot ∷ []) ordered x n (are slot n e)
 
   -- one more has received a place
-  pub AreFronts-receipt : (ordered : List (Placed M)) (k p : ℕ) (y d : Placed M) (fronts : List ℕ) → k < length ordered → AreFronts ordered fronts →
+  pub AreFronts-receipt : (ordered : List (OrderedMessage M)) (k p : ℕ) (y d : OrderedMessage M) (fronts : List ℕ) → k < length ordered → AreFronts ordered fronts →
       y.received ≡ with_member (get_or ordered k d).received p → IsSet y.received → AreFronts (set ordered k y) fronts
   AreFronts-receipt ordered k p y d fronts lt are value is_set = λ slot n e.
       IsSettled-receipt (suc slot ∷ []) ordered k n p y d lt (are slot n e) value is_set

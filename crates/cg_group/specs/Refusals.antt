@@ -20,9 +20,9 @@ abbrev pub empty_set : List ℕ → Option Reason
 empty_set set = refuse (is_none (least set)) EmptySet
 
 -- the two are transitional in one configuration with one set
-abbrev pub same_phase : Phase → Phase → Bool
-same_phase (Transitional c s) (Transitional d t) = (c == d) && same_set s t
-same_phase _ _ = false
+abbrev pub left_together : Phase → Phase → Bool
+left_together (Transitional c s) (Transitional d t) = (c == d) && same_set s t
+left_together _ _ = false
 
 -- the first reason that some replica of the set gives
 abbrev pub any_of : (ℕ → Option Reason) → List ℕ → Option Reason
@@ -78,7 +78,7 @@ module _ {M : Type 0} where
 
   -- the replica came into its transitional configuration together with one of the set, and neither has left it
   abbrev pub is_together : GroupState M → List ℕ → ℕ → Bool
-  is_together g set q = list_any (λ p. same_phase (phase_of g p) (phase_of g q)) set
+  is_together g set q = list_any (λ p. left_together (phase_of g p) (phase_of g q)) set
 
   -- the lowest replica that must be merged with the set and isn't in it; those that have left need not be
   abbrev pub not_together : GroupState M → List ℕ → List ℕ → Option Reason

@@ -2,12 +2,12 @@ ghost use Rattle.std.specs.Prelude.{◌≡◌, ◌++◌, OnOk};
 ghost use Rattle.cg_base.specs.Lists.{above_up_to};
 ghost use Rattle.cg_group.specs.Events.{delivery_at, deliveries_at};
 
-use crate::log::Log;
+use crate::configuration_log::ConfigurationLog;
 use crate::{Delivery, TryClone};
 use cg_base::NoMemory;
 use std::alloc::Global;
 
-impl<M: Drop + TryClone> Log<M> {
+impl<M: Drop + TryClone> ConfigurationLog<M> {
     /// Puts the message of a place behind what is handed out already, where there is such a place.
     #[tactic(auto, unfolding(crate::specs::Events::delivery_at))]
     pub(crate) fn put_delivery(

@@ -3,14 +3,18 @@ ghost use Rattle.cg_group.specs.Events.{order, order_all, receive, receive_all, 
 ghost use Rattle.cg_group.specs.Logs.{RoomFor, RoomForAll, group_of, configurations_of};
 ghost use Rattle.cg_group.specs.Rosters.{conf_of, waits_of, pending, regulars_of, IsRoster};
 
-use crate::log::Log;
+use crate::configuration_log::ConfigurationLog;
 use crate::logs::{append_at, receive_all_at, receive_at, reserve_at};
 use crate::member::Member;
 use crate::roster::Roster;
 use cg_base::{IdSet, NoMemory, ReplicaId};
 
 /// The oldest message of a replica gets the next place of its configuration, where it has one. There is room for it.
-pub(crate) fn order_oldest<M: Drop>(logs: &mut [Log<M>], roster: &mut Roster<M>, p: ReplicaId)
+pub(crate) fn order_oldest<M: Drop>(
+    logs: &mut [ConfigurationLog<M>],
+    roster: &mut Roster<M>,
+    p: ReplicaId,
+)
     requires { 0 < length (waits_of roster.old p) → RoomFor logs.old (conf_of roster.old p) 1 }
     ensures group { group_of logs.new roster.new ≡ order (group_of logs.old roster.old) p }
     ensures room { RoomForAll logs.old roster.old → RoomForAll logs.new roster.new }
@@ -23,14 +27,19 @@ pub(crate) fn order_oldest<M: Drop>(logs: &mut [Log<M>], roster: &mut Roster<M>,
 }
 
 /// A replica has received a place of its configuration.
-pub(crate) fn receive_place<M>(logs: &mut [Log<M>], roster: &Roster<M>, p: ReplicaId, place: u64)
+pub(crate) fn receive_place<M>(
+    logs: &mut [ConfigurationLog<M>],
+    roster: &Roster<M>,
+    p: ReplicaId,
+    place: u64,
+)
     ensures { group_of logs.new roster.now ≡ receive (group_of logs.old roster.now) p place }
 {
     receive_at(logs, roster.regular_in(p), p, place);
 }
 
 // all messages of a replica get the next places of its configuration. There is room for all that wait
-fn order_all<M: Drop>(logs: &mut [Log<M>], roster: &mut Roster<M>, p: ReplicaId)
+fn order_all<M: Drop>(logs: &mut [ConfigurationLog<M>], roster: &mut Roster<M>, p: ReplicaId)
     requires { RoomForAll logs.old roster.old }
     ensures group { group_of logs.new roster.new ≡ order_all (group_of logs.old roster.old) p }
     ensures room { RoomForAll logs.new roster.new }
@@ -42,7 +51,7 @@ fn order_all<M: Drop>(logs: &mut [Log<M>], roster: &mut Roster<M>, p: ReplicaId)
 }
 
 // all messages of these replicas get places. There is room for all that wait
-fn order_everything<M: Drop>(logs: &mut [Log<M>], roster: &mut Roster<M>, set: &IdSet)
+fn order_everything<M: Drop>(logs: &mut [ConfigurationLog<M>], roster: &mut Roster<M>, set: &IdSet)
     requires { RoomForAll logs.old roster.old }
     ensures { group_of logs.new roster.new ≡ fold order_all (group_of logs.old roster.old) set.now }
 {
@@ -65,7 +74,11 @@ fn pending<M>(members: &[Member<M>], conf: u64) -> Option<usize>
 }
 
 // makes room for the messages that wait for a place of the configuration
-fn reserve_pending<M>(logs: &mut [Log<M>], members: &[Member<M>], conf: u64) -> Result<(), NoMemory>
+fn reserve_pending<M>(
+    logs: &mut [ConfigurationLog<M>],
+    members: &[Member<M>],
+    conf: u64,
+) -> Result<(), NoMemory>
     ensures same { configurations_of logs.new ≡ configurations_of logs.old }
     ensures kept { (k n : ℕ) → RoomFor logs.old k n → RoomFor logs.new k n }
     ensures room { OnOk result (RoomFor logs.new conf (pending members.now conf)) }
@@ -77,7 +90,7 @@ fn reserve_pending<M>(logs: &mut [Log<M>], members: &[Member<M>], conf: u64) -> 
 }
 
 // makes room for all messages that wait, each configuration for its own
-fn make_room<M>(logs: &mut [Log<M>], members: &[Member<M>]) -> Result<(), NoMemory>
+fn make_room<M>(logs: &mut [ConfigurationLog<M>], members: &[Member<M>]) -> Result<(), NoMemory>
     ensures same { configurations_of logs.new ≡ configurations_of logs.old }
     ensures room { OnOk result (RoomForAll logs.new members.now) }
 {
@@ -96,7 +109,7 @@ fn make_room<M>(logs: &mut [Log<M>], members: &[Member<M>]) -> Result<(), NoMemo
 }
 
 // each regular replica receives every place of its configuration
-fn receive_everything<M>(logs: &mut [Log<M>], members: &[Member<M>])
+fn receive_everything<M>(logs: &mut [ConfigurationLog<M>], members: &[Member<M>])
     requires { IsRoster members.now }
     ensures { group_of logs.new members.now ≡
         fold receive_all (group_of logs.old members.now) (regulars_of members.now) }
@@ -107,7 +120,10 @@ fn receive_everything<M>(logs: &mut [Log<M>], members: &[Member<M>])
 }
 
 /// Each regular replica orders all its messages, and then receives every place of its configuration.
-pub(crate) fn gather<M: Drop>(logs: &mut [Log<M>], roster: &mut Roster<M>) -> Result<(), NoMemory>
+pub(crate) fn gather<M: Drop>(
+    logs: &mut [ConfigurationLog<M>],
+    roster: &mut Roster<M>,
+) -> Result<(), NoMemory>
     ensures ok { OnOk result (group_of logs.new roster.new ≡ gather (group_of logs.old roster.old)) }
     ensures err { OnErr result (group_of logs.new roster.new ≡ group_of logs.old roster.old) }
 {

@@ -6,8 +6,8 @@ ghost use Rattle.cg_group.specs.Events.{with_delivered, become_regular, become_t
 ghost use Rattle.cg_group.specs.Refusals.{order_refusal, receive_refusal, deliver_refusal, split_refusal, merge_refusal};
 ghost use Rattle.cg_group.specs.Answers.{IsAnswer};
 
+use crate::configuration_log::ConfigurationLog;
 use crate::gathering::{self, order_oldest};
-use crate::log::Log;
 use crate::logs::reserve_at;
 use crate::member::Member;
 use crate::place::at_place;
@@ -24,7 +24,7 @@ use std::marker::Model;
 #[derive(Drop)]
 pub struct Group<M = Bytes> {
     alloc: Global,
-    logs: Vec<Log<M>>,
+    logs: Vec<ConfigurationLog<M>>,
     roster: Roster<M>,
 }
 
@@ -152,7 +152,7 @@ impl<M> Group<M> {
     }
 
     // the configuration in which the replica is regular
-    pub(crate) fn home(&self, p: ReplicaId) -> Option<&Log<M>>
+    pub(crate) fn home(&self, p: ReplicaId) -> Option<&ConfigurationLog<M>>
         ensures { MatchOption result (home self.now p ≡ no_configuration) (λ log. home self.now p ≡
             log.now.configuration) }
     {
@@ -215,7 +215,7 @@ impl<M: Drop> Group<M> {
             }) }
         ensures err { OnErr result (self.new ≡ self.old) }
     {
-        self.logs.push(Log::new(self.alloc, members))?;
+        self.logs.push(ConfigurationLog::new(self.alloc, members))?;
         Ok(())
     }
 

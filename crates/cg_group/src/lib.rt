@@ -6,7 +6,7 @@
 //! Which bytes a message has, and what comes of it, is left to the layers above.
 //!
 //! A message gets a place in its configuration, and is handed out once all members have received it, as in
-//! `crates/cg_examples/src/group.rt`:
+//! `crates/cg_library_tests/src/group.rt`:
 //!
 //! ```rust
 //! fn a_message_is_handed_out_once_all_have_it(rt: HostRuntime) -> Result<(), Fail> {
@@ -27,6 +27,7 @@
 //! ```
 #![tactic(auto)]
 
+mod configuration_log;
 mod deliver;
 mod deliveries;
 mod delivery;
@@ -34,15 +35,14 @@ mod error;
 mod gathering;
 mod group;
 mod law;
-mod log;
 mod logs;
 mod member;
 mod merging;
 mod order;
+mod ordered_message;
 mod parting;
 mod phase;
 mod place;
-mod placed;
 mod reason;
 mod receipts;
 mod receive;

@@ -4,11 +4,15 @@ ghost use Rattle.cg_group.specs.State.{changed_at};
 ghost use Rattle.cg_group.specs.Events.{with_message, with_receipt};
 ghost use Rattle.cg_group.specs.Logs.{RoomFor, configurations_of, with_all_receipts};
 
-use crate::log::Log;
+use crate::configuration_log::ConfigurationLog;
 use cg_base::{NoMemory, ReplicaId};
 
 // makes room for that many more messages
-pub(crate) fn reserve_at<M>(logs: &mut [Log<M>], conf: u64, count: usize) -> Result<(), NoMemory>
+pub(crate) fn reserve_at<M>(
+    logs: &mut [ConfigurationLog<M>],
+    conf: u64,
+    count: usize,
+) -> Result<(), NoMemory>
     ensures same { configurations_of logs.new ≡ configurations_of logs.old }
     ensures kept { (k n : ℕ) → RoomFor logs.old k n → RoomFor logs.new k n }
     ensures room { OnOk result (RoomFor logs.new conf count) }
@@ -24,7 +28,12 @@ pub(crate) fn reserve_at<M>(logs: &mut [Log<M>], conf: u64, count: usize) -> Res
 }
 
 // a message gets the next place
-pub(crate) fn append_at<M: Drop>(logs: &mut [Log<M>], conf: u64, from: ReplicaId, message: M)
+pub(crate) fn append_at<M: Drop>(
+    logs: &mut [ConfigurationLog<M>],
+    conf: u64,
+    from: ReplicaId,
+    message: M,
+)
     requires { RoomFor logs.old conf 1 }
     ensures changed { configurations_of logs.new ≡
         changed_at (λ c. with_message c from message) (configurations_of logs.old) conf }
@@ -41,7 +50,7 @@ pub(crate) fn append_at<M: Drop>(logs: &mut [Log<M>], conf: u64, from: ReplicaId
 }
 
 // a member has received a place
-pub(crate) fn receive_at<M>(logs: &mut [Log<M>], conf: u64, p: ReplicaId, place: u64)
+pub(crate) fn receive_at<M>(logs: &mut [ConfigurationLog<M>], conf: u64, p: ReplicaId, place: u64)
     ensures { configurations_of logs.new ≡ changed_at (λ c. with_receipt c p place) (configurations_of logs.old) conf }
 {
     if conf == 0 {
@@ -55,7 +64,7 @@ pub(crate) fn receive_at<M>(logs: &mut [Log<M>], conf: u64, p: ReplicaId, place:
 }
 
 // a member has received every place
-pub(crate) fn receive_all_at<M>(logs: &mut [Log<M>], conf: u64, p: ReplicaId)
+pub(crate) fn receive_all_at<M>(logs: &mut [ConfigurationLog<M>], conf: u64, p: ReplicaId)
     ensures { configurations_of logs.new ≡ changed_at (λ c. with_all_receipts c p) (configurations_of logs.old) conf }
 {
     if conf == 0 {

@@ -7,12 +7,12 @@ ghost use Rattle.cg_group.specs.Refusals.{split_refusal};
 ghost use Rattle.cg_group.specs.Answers.{IsAnswer};
 ghost use Rattle.cg_group.specs.Rosters.{AllUp};
 
-use crate::log::Log;
+use crate::configuration_log::ConfigurationLog;
 use crate::{Delivery, Group, GroupErr, Handed, TryClone};
 use cg_base::{IdSet, NoMemory, ReplicaId, Row};
 use std::alloc::Global;
 
-impl<M> Log<M> {
+impl<M> ConfigurationLog<M> {
     // one of the replicas has received the place
     fn is_received_by_any(&self, set: &IdSet, place: u64) -> bool
         ensures { result ≡ list_any (λ q. has_received self.now.configuration q place) set.now }
@@ -26,7 +26,7 @@ impl<M> Log<M> {
     }
 }
 
-impl<M: Drop + TryClone> Log<M> {
+impl<M: Drop + TryClone> ConfigurationLog<M> {
     // puts the message of a place that one of the replicas has received
     fn put_if_received(
         &self,

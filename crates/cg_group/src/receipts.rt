@@ -5,10 +5,10 @@ ghost use Rattle.cg_group.specs.Refusals.{is_missing, sender_at};
 ghost use Rattle.cg_group.specs.Logs.{place_refusal};
 
 use crate::Reason;
-use crate::log::Log;
+use crate::configuration_log::ConfigurationLog;
 use cg_base::ReplicaId;
 
-impl<M> Log<M> {
+impl<M> ConfigurationLog<M> {
     /// Why a member can't receive a place: there is no such place, it has received it, or it lacks an earlier place of the same sender.
     pub(crate) fn place_refusal(&self, p: ReplicaId, place: u64) -> Option<Reason>
         ensures { result ≡ place_refusal self.now.configuration p place }

@@ -4,14 +4,14 @@ ghost use Rattle.cg_base.specs.Sets.{has};
 ghost use Rattle.cg_group.specs.State.{delivered_to, regular_in, phase_of};
 ghost use Rattle.cg_group.specs.declared.reason.Reason.TheVariants.{NotOneConfiguration};
 ghost use Rattle.std.specs.Option.{option_map};
-ghost use Rattle.cg_group.specs.Refusals.{any_of, not_up, not_regular, still_regular, is_together, not_together, same_phase, order_refusal, receive_refusal, deliver_refusal, split_refusal, merge_refusal, not_one_configuration};
+ghost use Rattle.cg_group.specs.Refusals.{any_of, not_up, not_regular, still_regular, is_together, not_together, left_together, order_refusal, receive_refusal, deliver_refusal, split_refusal, merge_refusal, not_one_configuration};
 
 use crate::{Group, Phase, Reason};
 use cg_base::{IdSet, ReplicaId};
 
 // the two are transitional in one configuration with one set
 fn same_phase(a: &Phase, b: &Phase) -> bool
-    ensures { result ≡ same_phase a.now b.now }
+    ensures { result ≡ left_together a.now b.now }
 {
     match (a, b) {
         (

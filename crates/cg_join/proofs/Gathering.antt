@@ -14,18 +14,18 @@ use Rattle.cg_db.specs.Map.{put}
 use Rattle.cg_db.specs.Ascending.{Ascends}
 use Rattle.cg_db.specs.TextOrderLaws.{same-sym, before-trans, before-back, before-apart}
 use Rattle.cg_client.specs.Replica.{Held}
-use Rattle.cg_stored.specs.Agreeing.{counts_up}
+use Rattle.cg_disk_records.specs.Agreeing.{counts_up}
 use Rattle.cg_store.specs.Leading.{LeadTo}
 use Rattle.cg_join.specs.declared.gather.Gathered.{Gathered}
 use Rattle.cg_join.specs.declared.piece.Head.{Head}
-use Rattle.cg_join.specs.declared.piece.Part.{Part}
-use Rattle.cg_join.specs.declared.piece.Part.TheVariants.{Start, Green, Entry, End}
+use Rattle.cg_join.specs.declared.piece.PieceContent.{PieceContent}
+use Rattle.cg_join.specs.declared.piece.PieceContent.TheVariants.{Start, Green, Entry, End}
 use Rattle.cg_join.specs.Gathered.{nothing, with_part, IsGathered}
 use Rattle.cg_join.specs.Finishing.{IsSnapshotFor}
 use Rattle.cg_join.specs.Limits.{IsPart}
 use Rattle.cg_join.specs.Snapshot.{head_of, parts_of, joined_from}
 use Rattle.cg_join.proofs.PartLists.{Each-push}
-use Rattle.cg_client.specs.Joined.{joined, joined_queue}
+use Rattle.cg_client.specs.Joined.{joiner_content, joined_queue}
 
 -- ---- entries that ascend, put one after another
 
@@ -89,14 +89,14 @@ unfolding some_head
 same_head x y e = cc
 
 -- what they make of a joiner
-pub joined_by : (id : ℕ) (h : Held) (g : Gathered) (head : Head) → g ≡ brought h → g.head ≡ Some head → joined_from id head g.greens g.db ≡ joined id h
+pub joined_by : (id : ℕ) (h : Held) (g : Gathered) (head : Head) → g ≡ brought h → g.head ≡ Some head → joined_from id head g.greens g.db ≡ joiner_content id h
 unfolding some_head
 joined_by id h g head is first =
     let same : head ≡ head_of h = same_head head (head_of h) (sym first ∙ ap (λ (x : Gathered). x.head) is) in
     ap (λ x. joined_from id x g.greens g.db) same ∙ ap (λ (x : Gathered). joined_from id (head_of h) x.greens x.db) is
 
 -- the parts of a snapshot bring a head, and greens that lead to its cut
-module _ (id : ℕ) (parts : List Part) (from : IsSnapshotFor id parts) (g : Gathered) (is : g ≡ fold with_part nothing parts) where
+module _ (id : ℕ) (parts : List PieceContent) (from : IsSnapshotFor id parts) (g : Gathered) (is : g ≡ fold with_part nothing parts) where
   all-of-it : g ≡ brought from.source
   all-of-it = is ∙ ap (λ ps. fold with_part nothing ps) from.all ∙ all_brought from.source from.ascends
 
@@ -122,7 +122,7 @@ entries-put [] e all one = (one, tt)
 entries-put (x ∷ db) e all one =
     entries_if (same_text e.key x.key) _ _ (one, all.1) (entries_if (text_before e.key x.key) _ _ (one, all) (all.0, entries-put db e all.1 one))
 
-pub part-within : (g : Gathered) (p : Part) → IsGathered g → IsPart p → IsGathered (with_part g p)
+pub part-within : (g : Gathered) (p : PieceContent) → IsGathered g → IsPart p → IsGathered (with_part g p)
 part-within g (Start head) within is = record { head = is; greens = within.greens; db = within.db }
 part-within g (Green action) within is = record { head = within.head; greens = Each-push IsAction g.greens action within.greens is; db = within.db }
 part-within g (Entry entry) within is = record { head = within.head; greens = within.greens; db = entries-put g.db entry within.db is }

@@ -9,7 +9,7 @@ use Rattle.cg_codec.specs.Reading.{whole}
 use Rattle.cg_join.specs.declared.errors.JoinErr.{JoinErr}
 use Rattle.cg_join.specs.declared.errors.JoinErr.TheVariants.{BadPiece, OtherSnapshot, OutOfTurn, NoMemory}
 use Rattle.cg_join.specs.declared.name.SnapshotName.{SnapshotName}
-use Rattle.cg_join.specs.declared.piece.Part.{Part}
+use Rattle.cg_join.specs.declared.piece.PieceContent.{PieceContent}
 use Rattle.cg_join.specs.declared.piece.Piece.{Piece}
 use Rattle.cg_join.specs.Limits.{IsPiece}
 use Rattle.cg_join.specs.Bytes.{spelled_piece}
@@ -20,16 +20,16 @@ use Rattle.cg_join.specs.Handing.{Proceeds}
 
 -- ---- the parts in front
 
-take-next : (xs : List Part) (n : ℕ) (x : Part) → slice_get xs n ≡ Some x → take n xs ++ x ∷ [] ≡ take (suc n) xs
+take-next : (xs : List PieceContent) (n : ℕ) (x : PieceContent) → slice_get xs n ≡ Some x → take n xs ++ x ∷ [] ≡ take (suc n) xs
 take-next [] zero x at = absurd cc
 take-next [] (suc n) x at = absurd cc
 take-next (y ∷ xs) zero x at = ap (λ z. z ∷ []) (sym (same_part y x at))
   where
-    same_part : (p q : Part) → slice_get (p ∷ []) 0 ≡ Some q → p ≡ q
+    same_part : (p q : PieceContent) → slice_get (p ∷ []) 0 ≡ Some q → p ≡ q
     same_part p q e = cc
 take-next (y ∷ xs) (suc n) x at = ap (λ zs. y ∷ zs) (take-next xs n x at)
 
-taken : (xs : List Part) (n : ℕ) (x : Part) → slice_get xs n ≡ Some x → length (take n xs) ≡ n
+taken : (xs : List PieceContent) (n : ℕ) (x : PieceContent) → slice_get xs n ≡ Some x → length (take n xs) ≡ n
 taken [] zero x at = absurd cc
 taken [] (suc n) x at = absurd cc
 taken (y ∷ xs) zero x at = refl
@@ -40,7 +40,7 @@ taken (y ∷ xs) (suc n) x at = ap suc (taken xs n x at)
 same-itself : (name : SnapshotName) → same_snapshot name name ≡ true
 same-itself name = rw (eq-eqb name.giver name.giver refl, eq-eqb name.number name.number refl) refl
 
-not_refused : (s : Snapshot) (n : ℕ) (part : Part) → refusal s.name n (piece_at s (suc n) part).label ≡ None
+not_refused : (s : Snapshot) (n : ℕ) (part : PieceContent) → refusal s.name n (piece_at s (suc n) part).label ≡ None
 not_refused s n part = rw (same-itself s.name, eq-eqb (suc n) (suc n) refl) refl
 
 none-some : (f : JoinErr) (o : Option JoinErr) → o ≡ None → o ≡ Some f → ⊥
@@ -62,7 +62,7 @@ same_piece p q e = cc
 -- ---- so it is taken
 
 module _ (exact : IsWhole IsPiece spelled_piece piece_reading) (s : Snapshot) (n : ℕ) where
-  proceeds : (part : Part) (bytes : List ℕ) (new : List Part) (r : Result Bool JoinErr) → slice_get s.parts n ≡ Some part → IsPiece (piece_at s (suc n) part)
+  proceeds : (part : PieceContent) (bytes : List ℕ) (new : List PieceContent) (r : Result Bool JoinErr) → slice_get s.parts n ≡ Some part → IsPiece (piece_at s (suc n) part)
       → bytes ≡ spelled_piece (piece_at s (suc n) part) → Takes s.name (take n s.parts) new bytes r → Proceeds s n new r
   unfolding read
   proceeds part bytes new (Ok done) at is spelled takes =
@@ -79,7 +79,7 @@ module _ (exact : IsWhole IsPiece spelled_piece piece_reading) (s : Snapshot) (n
       ap (refused s.name (take n s.parts)) known ∙ ap (λ k. refusal s.name k p.label) count ∙ not_refused s n part in
       (only_memory fault (refused s.name (take n s.parts) (whole piece_reading bytes)) none takes.1, takes.0)
 
-  at_piece : (o : Option Part) (bytes : List ℕ) (new : List Part) (r : Result Bool JoinErr) → slice_get s.parts n ≡ o → option_map (λ part. spelled_piece (piece_at s (suc n) part)) o ≡ Some bytes
+  at_piece : (o : Option PieceContent) (bytes : List ℕ) (new : List PieceContent) (r : Result Bool JoinErr) → slice_get s.parts n ≡ o → option_map (λ part. spelled_piece (piece_at s (suc n) part)) o ≡ Some bytes
       → IfSome o (λ part. IsPiece (piece_at s (suc n) part)) → Takes s.name (take n s.parts) new bytes r → Proceeds s n new r
   at_piece None bytes new r at put is takes = absurd cc
   at_piece (Some part) bytes new r at put is takes = proceeds part bytes new r at is (sym (same_bytes (spelled_piece (piece_at s (suc n) part)) bytes put)) takes
@@ -87,6 +87,6 @@ module _ (exact : IsWhole IsPiece spelled_piece piece_reading) (s : Snapshot) (n
       same_bytes : (b d : List ℕ) → option_map (λ (x : List ℕ). x) (Some b) ≡ Some d → b ≡ d
       same_bytes b d e = cc
 
-  pub next_taken : (bytes : List ℕ) (new : List Part) (r : Result Bool JoinErr) → bytes_at s (suc n) ≡ Some bytes
+  pub next_taken : (bytes : List ℕ) (new : List PieceContent) (r : Result Bool JoinErr) → bytes_at s (suc n) ≡ Some bytes
       → IfSome (slice_get s.parts n) (λ part. IsPiece (piece_at s (suc n) part)) → Takes s.name (take n s.parts) new bytes r → Proceeds s n new r
   next_taken bytes new r put is takes = let step : suc n - 1 ≡ n = omega arith in at_piece (slice_get s.parts n) bytes new r refl (rw step at put) is takes

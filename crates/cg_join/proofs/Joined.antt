@@ -9,9 +9,9 @@ use Rattle.cg_base.specs.Lists.{above_up_to}
 use Rattle.cg_base.specs.Replicas.{every_replica}
 use Rattle.cg_queue.specs.Queue.{QueueView}
 use Rattle.cg_client.specs.Replica.{Held}
-use Rattle.cg_stored.specs.Stored.{stored_of}
-use Rattle.cg_stored.specs.Agreeing.{Agrees, counts_up, count_to, indexes_of}
-use Rattle.cg_client.specs.Joined.{joined, joined_queue}
+use Rattle.cg_disk_records.specs.Stored.{stored_of}
+use Rattle.cg_disk_records.specs.Agreeing.{Agrees, counts_up, count_to, indexes_of}
+use Rattle.cg_client.specs.Joined.{joiner_content, joined_queue}
 
 -- nothing stands behind a number and up to it
 none-above : (n : ℕ) → pointwise nat_eq [] (above_up_to n n) ≡ true
@@ -30,7 +30,7 @@ counts-joined q p up =
 none-own : (n : ℕ) → pointwise nat_eq [] (above_up_to n (max n 0)) ≡ true
 none-own n = let same : max n 0 ≡ n = omega arith in rw same (none-above n)
 
-pub joined-agrees : (id : ℕ) (h : Held) → Agrees (stored_of h) → Agrees (joined id h)
+pub joined-agrees : (id : ℕ) (h : Held) → Agrees (stored_of h) → Agrees (joiner_content id h)
 joined-agrees id h agrees = record {
   members = agrees.members;
   count = agrees.count;

@@ -8,8 +8,8 @@ use Rattle.cg_answer.specs.declared.entry.DbEntry.{DbEntry}
 use Rattle.cg_client.specs.Replica.{Held}
 use Rattle.cg_records.specs.Limits.{Each}
 use Rattle.cg_join.specs.declared.name.SnapshotName.{SnapshotName}
-use Rattle.cg_join.specs.declared.piece.Part.{Part}
-use Rattle.cg_join.specs.declared.piece.Part.TheVariants.{Start, Green, Entry, End}
+use Rattle.cg_join.specs.declared.piece.PieceContent.{PieceContent}
+use Rattle.cg_join.specs.declared.piece.PieceContent.TheVariants.{Start, Green, Entry, End}
 use Rattle.cg_join.specs.Bytes.{piece_bytes, spelled_piece}
 use Rattle.cg_join.specs.Snapshot.{head_of, parts_of, with_green_part, with_entry_part, bytes_at}
 use Rattle.cg_client.specs.Joined.{piece_count}
@@ -28,16 +28,16 @@ Each-get P (x ∷ xs) (suc i) each = Each-get P xs i each.1
 
 -- ---- pushes
 
-greens_pushed : (parts : List Part) (greens : List Action) → fold with_green_part parts greens ≡ parts ++ map Green greens
+greens_pushed : (parts : List PieceContent) (greens : List Action) → fold with_green_part parts greens ≡ parts ++ map Green greens
 greens_pushed parts [] = sym (append-nil parts)
 greens_pushed parts (a ∷ greens) = greens_pushed (parts ++ Green a ∷ []) greens ∙ append_assoc parts (Green a ∷ []) (map Green greens)
 
-entries_pushed : (parts : List Part) (entries : List DbEntry) → fold with_entry_part parts entries ≡ parts ++ map Entry entries
+entries_pushed : (parts : List PieceContent) (entries : List DbEntry) → fold with_entry_part parts entries ≡ parts ++ map Entry entries
 entries_pushed parts [] = sym (append-nil parts)
 entries_pushed parts (e ∷ entries) = entries_pushed (parts ++ Entry e ∷ []) entries ∙ append_assoc parts (Entry e ∷ []) (map Entry entries)
 
 -- the head, then the greens, then the entries, then the end
-pub all_pushed : (h : Held) (p0 p1 p2 p3 p4 : List Part) (greens : List Action) (entries : List DbEntry) → p0 ≡ [] → p1 ≡ p0 ++ Start (head_of h) ∷ [] → greens ≡ h.queue.greens → p2 ≡ fold with_green_part p1 greens
+pub all_pushed : (h : Held) (p0 p1 p2 p3 p4 : List PieceContent) (greens : List Action) (entries : List DbEntry) → p0 ≡ [] → p1 ≡ p0 ++ Start (head_of h) ∷ [] → greens ≡ h.queue.greens → p2 ≡ fold with_green_part p1 greens
     → entries ≡ h.db → p3 ≡ fold with_entry_part p2 entries → p4 ≡ p3 ++ End ∷ [] → p4 ≡ parts_of h
 all_pushed h p0 p1 p2 p3 p4 greens entries e0 e1 g e2 d e3 e4 =
     let start = Start (head_of h) ∷ [] in
@@ -61,7 +61,7 @@ parts_counted h =
 
 -- ---- the bytes of one
 
-pub bytes_of_piece : (name : SnapshotName) (parts : List Part) (n count : ℕ) (part : Part) {E : Type 0} (r : Result (List ℕ) E) → slice_get parts (n - 1) ≡ Some part → count ≡ length parts
+pub bytes_of_piece : (name : SnapshotName) (parts : List PieceContent) (n count : ℕ) (part : PieceContent) {E : Type 0} (r : Result (List ℕ) E) → slice_get parts (n - 1) ≡ Some part → count ≡ length parts
     → IfOk r (λ bytes. bytes ≡ piece_bytes (record { name = name; number = n; count = count }) part) → IfOk r (λ bytes. bytes_at (record { name = name; parts = parts }) n ≡ Some bytes)
 unfolding spelled_piece
 bytes_of_piece name parts n count part (Ok bytes) at total is =

@@ -21,16 +21,16 @@ use Rattle.cg_records.specs.Limits.{IsNumber, IsPrimary}
 use Rattle.cg_records.specs.Bytes.{spelled_prim}
 use Rattle.cg_records.specs.Reading.{take_number, take_id_above, take_prim}
 use Rattle.cg_records.specs.RecordLaws.{number_field, any_id_field, prim_field}
-use Rattle.cg_stored.specs.declared.checkpoint.Reached.{Reached}
-use Rattle.cg_stored.specs.Checkpoint.{spelled_entry, spelled_reached}
-use Rattle.cg_stored.specs.Limits.{IsReached}
-use Rattle.cg_stored.specs.Reading.{reached_reading}
-use Rattle.cg_stored.specs.Laws.{Gives}
+use Rattle.cg_disk_records.specs.declared.checkpoint.Reached.{Reached}
+use Rattle.cg_disk_records.specs.Checkpoint.{spelled_entry, spelled_reached}
+use Rattle.cg_disk_records.specs.Limits.{IsReached}
+use Rattle.cg_disk_records.specs.Reading.{reached_reading}
+use Rattle.cg_disk_records.specs.Laws.{Gives}
 use Rattle.cg_join.specs.declared.name.SnapshotName.{SnapshotName}
 use Rattle.cg_join.specs.declared.piece.Label.{Label}
 use Rattle.cg_join.specs.declared.piece.Head.{Head}
-use Rattle.cg_join.specs.declared.piece.Part.{Part}
-use Rattle.cg_join.specs.declared.piece.Part.TheVariants.{Start, Green, Entry, End}
+use Rattle.cg_join.specs.declared.piece.PieceContent.{PieceContent}
+use Rattle.cg_join.specs.declared.piece.PieceContent.TheVariants.{Start, Green, Entry, End}
 use Rattle.cg_join.specs.declared.piece.Piece.{Piece}
 use Rattle.cg_join.specs.Limits.{IsSnapshotName, IsLabel, IsHead, IsPart, IsPiece}
 use Rattle.cg_join.specs.Bytes.{spelled_snapshot_name, spelled_label, spelled_head, spelled_part, spelled_piece}
@@ -74,20 +74,20 @@ entry_field =
 
 -- ---- the tags, and what is behind them
 
-abbrev part_tag : Part → ℕ
+abbrev part_tag : PieceContent → ℕ
 part_tag (Start head) = 1
 part_tag (Green action) = 2
 part_tag (Entry entry) = 3
 part_tag End = 4
 
-abbrev part_behind : Part → List ℕ
+abbrev part_behind : PieceContent → List ℕ
 part_behind (Start head) = spelled_head head
 part_behind (Green action) = spelled_action action
 part_behind (Entry entry) = spelled_entry entry
 part_behind End = []
 
 -- a part with that tag
-abbrev Brings : ℕ → Part → Type 0
+abbrev Brings : ℕ → PieceContent → Type 0
 Brings tag p = IsPart p × (part_tag p ≡ tag)
 
 entry_part_field : IsField (Brings 3) part_behind entry_part_reading
@@ -95,7 +95,7 @@ unfolding entry_part_reading
 entry_part_field =
     variant_of_one Entry IsEntry spelled_entry any_entry_reading (Brings 3) part_behind entry_field (λ entry e. ((e, refl), refl)) parts
   where
-    parts : (p : Part) → Brings 3 p → (entry : DbEntry) × IsEntry entry × (Entry entry ≡ p)
+    parts : (p : PieceContent) → Brings 3 p → (entry : DbEntry) × IsEntry entry × (Entry entry ≡ p)
     parts (Start head) has = absurd (omega arith)
     parts (Green action) has = absurd (omega arith)
     parts (Entry entry) has = (entry, has.0, refl)
@@ -103,16 +103,16 @@ entry_part_field =
 
 end_field : IsField (Brings 4) part_behind (done End)
 end_field =
-    field_says (λ (p : Part). Brings 4 p) (λ (p : Part). []) part_behind (done End) spelled
-    (field_has (λ (p : Part). p ≡ End) (Brings 4) (λ (p : Part). []) (done End) (λ p e. rw e (tt, refl)) parts (field_done End))
+    field_says (λ (p : PieceContent). Brings 4 p) (λ (p : PieceContent). []) part_behind (done End) spelled
+    (field_has (λ (p : PieceContent). p ≡ End) (Brings 4) (λ (p : PieceContent). []) (done End) (λ p e. rw e (tt, refl)) parts (field_done End))
   where
-    spelled : (p : Part) → Brings 4 p → [] ≡ part_behind p
+    spelled : (p : PieceContent) → Brings 4 p → [] ≡ part_behind p
     spelled (Start head) has = absurd (omega arith)
     spelled (Green action) has = absurd (omega arith)
     spelled (Entry entry) has = absurd (omega arith)
     spelled End has = refl
 
-    parts : (p : Part) → Brings 4 p → p ≡ End
+    parts : (p : PieceContent) → Brings 4 p → p ≡ End
     parts (Start head) has = absurd (omega arith)
     parts (Green action) has = absurd (omega arith)
     parts (Entry entry) has = absurd (omega arith)
@@ -134,7 +134,7 @@ module _ (action_field : IsField IsAction spelled_action action_reading) (reache
   start_field =
       variant_of_one Start IsHead spelled_head head_reading (Brings 1) part_behind head_field (λ head h. ((h, refl), refl)) parts
     where
-      parts : (p : Part) → Brings 1 p → (head : Head) × IsHead head × (Start head ≡ p)
+      parts : (p : PieceContent) → Brings 1 p → (head : Head) × IsHead head × (Start head ≡ p)
       parts (Start head) has = (head, has.0, refl)
       parts (Green action) has = absurd (omega arith)
       parts (Entry entry) has = absurd (omega arith)
@@ -145,7 +145,7 @@ module _ (action_field : IsField IsAction spelled_action action_reading) (reache
   green_field =
       variant_of_one Green IsAction spelled_action action_reading (Brings 2) part_behind action_field (λ action a. ((a, refl), refl)) parts
     where
-      parts : (p : Part) → Brings 2 p → (action : Action) × IsAction action × (Green action ≡ p)
+      parts : (p : PieceContent) → Brings 2 p → (action : Action) × IsAction action × (Green action ≡ p)
       parts (Start head) has = absurd (omega arith)
       parts (Green action) has = (action, has.0, refl)
       parts (Entry entry) has = absurd (omega arith)
@@ -160,13 +160,13 @@ module _ (action_field : IsField IsAction spelled_action action_reading) (reache
   part_of_tag_field (suc (suc (suc (suc zero)))) low high = end_field
   part_of_tag_field (suc (suc (suc (suc (suc n))))) low high = absurd (omega arith)
 
-  part_tags : (p : Part) → IsPart p → (1 ≤ part_tag p) × (part_tag p ≤ 4)
+  part_tags : (p : PieceContent) → IsPart p → (1 ≤ part_tag p) × (part_tag p ≤ 4)
   part_tags (Start head) has = (omega arith, omega arith)
   part_tags (Green action) has = (omega arith, omega arith)
   part_tags (Entry entry) has = (omega arith, omega arith)
   part_tags End has = (omega arith, omega arith)
 
-  part_is : (p : Part) → IsPart p → byte (part_tag p) ++ part_behind p ≡ spelled_part p
+  part_is : (p : PieceContent) → IsPart p → byte (part_tag p) ++ part_behind p ≡ spelled_part p
   unfolding spelled_part
   part_is (Start head) has = refl
   part_is (Green action) has = refl
@@ -183,7 +183,7 @@ module _ (action_field : IsField IsAction spelled_action action_reading) (reache
       field_two piece_is (λ p. p.label) (λ p. p.part) IsLabel IsPart spelled_label spelled_part label_reading part_reading IsPiece spelled_piece
       label_field part_field (λ p has. (has.label, has.part, refl, refl)) (λ label part l p. (record { label = l; part = p }, refl, refl))
     where
-      piece_is : Label → Part → Piece
+      piece_is : Label → PieceContent → Piece
       piece_is label part = record { label = label; part = part }
 
   pub piece_whole : IsWhole IsPiece spelled_piece piece_reading

@@ -3,12 +3,12 @@ use Rattle.std.specs.Prelude.{ℕ, List, ◌++◌}
 use Rattle.cg_codec.specs.Fields.{byte, number64}
 use Rattle.cg_action.specs.Bytes.{spelled_action}
 use Rattle.cg_records.specs.Bytes.{spelled_prim}
-use Rattle.cg_stored.specs.Checkpoint.{spelled_entry, spelled_reached}
+use Rattle.cg_disk_records.specs.Checkpoint.{spelled_entry, spelled_reached}
 use Rattle.cg_join.specs.declared.name.SnapshotName.{SnapshotName}
 use Rattle.cg_join.specs.declared.piece.Label.{Label}
 use Rattle.cg_join.specs.declared.piece.Head.{Head}
-use Rattle.cg_join.specs.declared.piece.Part.{Part}
-use Rattle.cg_join.specs.declared.piece.Part.TheVariants.{Start, Green, Entry, End}
+use Rattle.cg_join.specs.declared.piece.PieceContent.{PieceContent}
+use Rattle.cg_join.specs.declared.piece.PieceContent.TheVariants.{Start, Green, Entry, End}
 use Rattle.cg_join.specs.declared.piece.Piece.{Piece}
 
 unfoldable pub spelled_snapshot_name : SnapshotName → List ℕ
@@ -22,13 +22,13 @@ unfoldable pub spelled_head : Head → List ℕ
 spelled_head head = spelled_prim head.prim ++ (number64 head.attempt_index ++ spelled_reached head.reached)
 
 -- a tag, and what the part brings
-unfoldable pub spelled_part : Part → List ℕ
+unfoldable pub spelled_part : PieceContent → List ℕ
 spelled_part (Start head) = byte 1 ++ spelled_head head
 spelled_part (Green action) = byte 2 ++ spelled_action action
 spelled_part (Entry entry) = byte 3 ++ spelled_entry entry
 spelled_part End = byte 4
 
-abbrev pub piece_bytes : Label → Part → List ℕ
+abbrev pub piece_bytes : Label → PieceContent → List ℕ
 piece_bytes label part = spelled_label label ++ spelled_part part
 
 unfoldable pub spelled_piece : Piece → List ℕ

@@ -5,14 +5,14 @@ use Rattle.cg_db.specs.Limits.{AreEntries}
 use Rattle.cg_db.specs.Map.{put}
 use Rattle.cg_records.specs.Limits.{Each}
 use Rattle.cg_join.specs.declared.gather.Gathered.{Gathered}
-use Rattle.cg_join.specs.declared.piece.Part.{Part}
-use Rattle.cg_join.specs.declared.piece.Part.TheVariants.{Start, Green, Entry, End}
+use Rattle.cg_join.specs.declared.piece.PieceContent.{PieceContent}
+use Rattle.cg_join.specs.declared.piece.PieceContent.TheVariants.{Start, Green, Entry, End}
 use Rattle.cg_join.specs.Limits.{IsHead}
 
 abbrev pub nothing : Gathered
 nothing = record { head = None; greens = []; db = [] }
 
-abbrev pub with_part : Gathered → Part → Gathered
+abbrev pub with_part : Gathered → PieceContent → Gathered
 with_part g (Start head) = record g { head = Some head }
 with_part g (Green action) = record g { greens = g.greens ++ action ∷ [] }
 with_part g (Entry entry) = record g { db = put g.db entry.key entry.value }

@@ -1,7 +1,7 @@
 -- What the bytes of a call that reads a piece say.
 use Rattle.std.specs.Prelude.{ℕ, List, Result}
 use Rattle.cg_codec.specs.declared.fault.CodecFault.{CodecFault}
-use Rattle.cg_stored.specs.Laws.{Gives}
+use Rattle.cg_disk_records.specs.Laws.{Gives}
 use Rattle.cg_join.specs.declared.piece.Piece.{Piece}
 use Rattle.cg_join.specs.Limits.{IsPiece}
 use Rattle.cg_join.specs.Bytes.{spelled_piece}

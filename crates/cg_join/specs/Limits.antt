@@ -5,12 +5,12 @@ use Rattle.cg_base.specs.Sets.{IsId}
 use Rattle.cg_action.specs.ActionLimits.{IsAction}
 use Rattle.cg_db.specs.Limits.{IsEntry}
 use Rattle.cg_records.specs.Limits.{Each, IsNumber, IsPrimary}
-use Rattle.cg_stored.specs.Limits.{IsReached}
+use Rattle.cg_disk_records.specs.Limits.{IsReached}
 use Rattle.cg_join.specs.declared.name.SnapshotName.{SnapshotName}
 use Rattle.cg_join.specs.declared.piece.Label.{Label}
 use Rattle.cg_join.specs.declared.piece.Head.{Head}
-use Rattle.cg_join.specs.declared.piece.Part.{Part}
-use Rattle.cg_join.specs.declared.piece.Part.TheVariants.{Start, Green, Entry, End}
+use Rattle.cg_join.specs.declared.piece.PieceContent.{PieceContent}
+use Rattle.cg_join.specs.declared.piece.PieceContent.TheVariants.{Start, Green, Entry, End}
 use Rattle.cg_join.specs.declared.piece.Piece.{Piece}
 
 pub record IsSnapshotName (name : SnapshotName) : Type 0 where
@@ -27,7 +27,7 @@ pub record IsHead (head : Head) : Type 0 where
   pub attempt_index : IsNumber head.attempt_index
   pub reached : IsReached head.reached
 
-abbrev pub IsPart : Part → Type 0
+abbrev pub IsPart : PieceContent → Type 0
 IsPart (Start head) = IsHead head
 IsPart (Green action) = IsAction action
 IsPart (Entry entry) = IsEntry entry
@@ -38,6 +38,6 @@ pub record IsPiece (piece : Piece) : Type 0 where
   pub part : IsPart piece.part
 
 -- the parts of a snapshot
-pub record AreParts (parts : List Part) : Type 0 where
+pub record AreParts (parts : List PieceContent) : Type 0 where
   pub each : Each IsPart parts
   pub most : length parts ≤ COUNT_LIMIT

@@ -4,12 +4,12 @@ use Rattle.cg_codec.specs.Reading.{Reading, ◌>>=◌, done, byte_between}
 use Rattle.cg_action.specs.Reading.{key_reading, value_reading, action_reading}
 use Rattle.cg_answer.specs.declared.entry.DbEntry.{DbEntry}
 use Rattle.cg_records.specs.Reading.{take_number, take_id_above, take_prim}
-use Rattle.cg_stored.specs.Reading.{reached_reading}
+use Rattle.cg_disk_records.specs.Reading.{reached_reading}
 use Rattle.cg_join.specs.declared.name.SnapshotName.{SnapshotName}
 use Rattle.cg_join.specs.declared.piece.Label.{Label}
 use Rattle.cg_join.specs.declared.piece.Head.{Head}
-use Rattle.cg_join.specs.declared.piece.Part.{Part}
-use Rattle.cg_join.specs.declared.piece.Part.TheVariants.{Start, Green, Entry, End}
+use Rattle.cg_join.specs.declared.piece.PieceContent.{PieceContent}
+use Rattle.cg_join.specs.declared.piece.PieceContent.TheVariants.{Start, Green, Entry, End}
 use Rattle.cg_join.specs.declared.piece.Piece.{Piece}
 
 unfoldable pub name_reading : Reading SnapshotName
@@ -40,23 +40,23 @@ any_entry_reading = do
   done (record { key = key; value = value })
 
 -- a part of each kind, behind its tag
-unfoldable pub start_reading : Reading Part
+unfoldable pub start_reading : Reading PieceContent
 start_reading = head_reading >>= λ head. done (Start head)
 
-unfoldable pub green_reading : Reading Part
+unfoldable pub green_reading : Reading PieceContent
 green_reading = action_reading >>= λ action. done (Green action)
 
-unfoldable pub entry_part_reading : Reading Part
+unfoldable pub entry_part_reading : Reading PieceContent
 entry_part_reading = any_entry_reading >>= λ entry. done (Entry entry)
 
-unfoldable pub part_of_tag : ℕ → Reading Part
+unfoldable pub part_of_tag : ℕ → Reading PieceContent
 part_of_tag tag =
     if tag == 1 then start_reading
     else if tag == 2 then green_reading
     else if tag == 3 then entry_part_reading
     else done End
 
-unfoldable pub part_reading : Reading Part
+unfoldable pub part_reading : Reading PieceContent
 part_reading = byte_between 1 4 >>= part_of_tag
 
 unfoldable pub piece_reading : Reading Piece

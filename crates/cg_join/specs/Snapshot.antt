@@ -4,11 +4,11 @@ use Rattle.std.specs.Option.{option_map}
 use Rattle.cg_action.specs.declared.action.Action.{Action}
 use Rattle.cg_answer.specs.declared.entry.DbEntry.{DbEntry}
 use Rattle.cg_client.specs.Replica.{Held}
-use Rattle.cg_stored.specs.Checkpoint.{reached_of}
+use Rattle.cg_disk_records.specs.Checkpoint.{reached_of}
 use Rattle.cg_join.specs.declared.name.SnapshotName.{SnapshotName}
 use Rattle.cg_join.specs.declared.piece.Head.{Head}
-use Rattle.cg_join.specs.declared.piece.Part.{Part}
-use Rattle.cg_join.specs.declared.piece.Part.TheVariants.{Start, Green, Entry, End}
+use Rattle.cg_join.specs.declared.piece.PieceContent.{PieceContent}
+use Rattle.cg_join.specs.declared.piece.PieceContent.TheVariants.{Start, Green, Entry, End}
 use Rattle.cg_join.specs.declared.piece.Piece.{Piece}
 use Rattle.cg_join.specs.Bytes.{spelled_piece}
 
@@ -16,22 +16,22 @@ abbrev pub head_of : Held → Head
 head_of h = record { prim = h.prim; attempt_index = h.attempt_index; reached = reached_of h }
 
 -- the head, the kept greens in their order, the entries ascending, the end
-abbrev pub parts_of : Held → List Part
+abbrev pub parts_of : Held → List PieceContent
 parts_of h = Start (head_of h) ∷ (map Green h.queue.greens ++ (map Entry h.db ++ End ∷ []))
 
 -- one part more
-abbrev pub with_green_part : List Part → Action → List Part
+abbrev pub with_green_part : List PieceContent → Action → List PieceContent
 with_green_part parts a = parts ++ Green a ∷ []
 
-abbrev pub with_entry_part : List Part → DbEntry → List Part
+abbrev pub with_entry_part : List PieceContent → DbEntry → List PieceContent
 with_entry_part parts e = parts ++ Entry e ∷ []
 
 -- a snapshot with its name
 pub record Snapshot : Type 0 where
   pub name : SnapshotName
-  pub parts : List Part
+  pub parts : List PieceContent
 
-abbrev pub piece_at : Snapshot → ℕ → Part → Piece
+abbrev pub piece_at : Snapshot → ℕ → PieceContent → Piece
 piece_at s n part = record { label = record { name = s.name; number = n; count = length s.parts }; part = part }
 
 -- the bytes of a piece, counted from 1

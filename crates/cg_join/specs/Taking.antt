@@ -7,7 +7,7 @@ use Rattle.cg_join.specs.declared.errors.JoinErr.{JoinErr}
 use Rattle.cg_join.specs.declared.errors.JoinErr.TheVariants.{BadPiece, OtherSnapshot, OutOfTurn, NoMemory}
 use Rattle.cg_join.specs.declared.name.SnapshotName.{SnapshotName}
 use Rattle.cg_join.specs.declared.piece.Label.{Label}
-use Rattle.cg_join.specs.declared.piece.Part.{Part}
+use Rattle.cg_join.specs.declared.piece.PieceContent.{PieceContent}
 use Rattle.cg_join.specs.declared.piece.Piece.{Piece}
 use Rattle.cg_join.specs.Reading.{piece_reading}
 
@@ -29,12 +29,12 @@ refusal name taken label =
     else None
 
 -- why bytes are refused behind these parts, if they are
-abbrev pub refused : SnapshotName → List Part → Result Piece CodecFault → Option JoinErr
+abbrev pub refused : SnapshotName → List PieceContent → Result Piece CodecFault → Option JoinErr
 refused name taken (Ok piece) = refusal name (length taken) piece.label
 refused name taken (Err fault) = Some (bad fault)
 
 -- a piece was taken, and whether it is the last one; or it was refused, or memory was, and all is as before
-abbrev pub Adds : SnapshotName → List Part → List Part → Piece → Result Bool JoinErr → Type 0
+abbrev pub Adds : SnapshotName → List PieceContent → List PieceContent → Piece → Result Bool JoinErr → Type 0
 Adds name old new piece (Ok done) =
     (refusal name (length old) piece.label ≡ None) × (new ≡ old ++ piece.part ∷ [])
     × (done ≡ (piece.label.number == piece.label.count))
@@ -42,7 +42,7 @@ Adds name old new piece (Err fault) = (new ≡ old)
     × (fault ≢ NoMemory → refusal name (length old) piece.label ≡ Some fault)
 
 -- the same of the piece that bytes spell
-abbrev pub Takes : SnapshotName → List Part → List Part → List ℕ → Result Bool JoinErr → Type 0
+abbrev pub Takes : SnapshotName → List PieceContent → List PieceContent → List ℕ → Result Bool JoinErr → Type 0
 Takes name old new bytes (Ok done) = (piece : Piece) × (whole piece_reading bytes ≡ Ok piece)
     × Adds name old new piece (Ok done)
 Takes name old new bytes (Err fault) = (new ≡ old)

@@ -4,7 +4,7 @@ ghost use Rattle.std.specs.Prelude.{◌≡◌, ◌++◌, OnOk};
 ghost use Rattle.cg_codec.specs.Taking.{unread_of, Takes, TakesWithMemory};
 ghost use Rattle.cg_action.specs.Reading.{key_reading};
 ghost use Rattle.cg_db.specs.Limits.{IsEntry};
-ghost use Rattle.cg_stored.specs.Checkpoint.{spelled_entry};
+ghost use Rattle.cg_disk_records.specs.Checkpoint.{spelled_entry};
 ghost use Rattle.cg_join.specs.Reading.{any_entry_reading};
 
 use cg_action::{put_value, take_value};
@@ -39,7 +39,7 @@ fn take_key<'a>(f: &mut Fields<'a>) -> Result<&'a str, CodecFault>
     Ok(key)
 }
 
-#[tactic(auto, unfolding(cg_stored::specs::Checkpoint::spelled_entry))]
+#[tactic(auto, unfolding(cg_disk_records::specs::Checkpoint::spelled_entry))]
 pub(crate) fn put_entry(out: &mut Vec<u8>, e: &DbEntry) -> Result<(), NoMemory>
     requires { IsEntry e.now }
     ensures { OnOk result (out.new.items ≡ out.old.items ++ spelled_entry e.now) }

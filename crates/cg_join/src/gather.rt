@@ -4,7 +4,7 @@ ghost use Rattle.cg_records.specs.Limits.{Each};
 ghost use Rattle.cg_join.specs.Limits.{IsPart};
 ghost use Rattle.cg_join.specs.Gathered.{with_part, nothing, IsGathered};
 
-use crate::{Head, Part};
+use crate::{Head, PieceContent};
 use cg_action::{ActionList, Boxed};
 use cg_base::{NoMemory, Row};
 use cg_db::Db;
@@ -18,7 +18,7 @@ pub(crate) struct Gathered {
     pub(crate) db: Db,
 }
 
-pub(crate) fn gather(alloc: Global, parts: Vec<Part>) -> Result<Gathered, NoMemory>
+pub(crate) fn gather(alloc: Global, parts: Vec<PieceContent>) -> Result<Gathered, NoMemory>
     requires { Each IsPart parts.items }
     ensures value { IfOk result (λ g. g ≡ fold with_part nothing parts.items) }
     ensures within { IfOk result IsGathered }
@@ -34,19 +34,19 @@ pub(crate) fn gather(alloc: Global, parts: Vec<Part>) -> Result<Gathered, NoMemo
     Ok(gathered)
 }
 
-fn add(alloc: Global, gathered: &mut Gathered, part: Part) -> Result<(), NoMemory>
+fn add(alloc: Global, gathered: &mut Gathered, part: PieceContent) -> Result<(), NoMemory>
     ensures { OnOk result (gathered.new ≡ with_part gathered.old part) }
 {
     match part {
-        Part::Start(head) => {
+        PieceContent::Start(head) => {
             gathered.head = Some(head);
             Ok(())
         }
-        Part::Green(action) => {
+        PieceContent::Green(action) => {
             let action = action.get().copy(alloc)?;
             gathered.greens.push(action)
         }
-        Part::Entry(entry) => gathered.db.put(entry.key, entry.value),
-        Part::End => Ok(()),
+        PieceContent::Entry(entry) => gathered.db.put(entry.key, entry.value),
+        PieceContent::End => Ok(()),
     }
 }

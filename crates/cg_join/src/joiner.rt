@@ -3,7 +3,7 @@ ghost use Rattle.std.specs.Prelude.{◌≡◌, ◌≤◌, ◌+◌, [], length};
 ghost use Rattle.cg_base.specs.declared.limits.TheConstants.{COUNT_LIMIT};
 ghost use Rattle.cg_join.specs.Finishing.{ended as ended_with};
 
-use crate::parts::Parts;
+use crate::piece_contents::PieceContents;
 use crate::rebuild::core_of;
 use crate::taking::take;
 use crate::{JoinErr, SnapshotName};
@@ -20,7 +20,7 @@ pub struct Joiner<D: Disk> {
     disk: D,
     id: ReplicaId,
     name: SnapshotName,
-    parts: Parts,
+    parts: PieceContents,
     alloc: Global,
 }
 
@@ -46,7 +46,7 @@ impl<D: Disk> Joiner<D> {
     ghost use Rattle.cg_client.specs.Replica.{Held};
     ghost use Rattle.cg_db.specs.Ascending.{Ascends};
     ghost use Rattle.cg_store.specs.Stands.{created};
-    ghost use Rattle.cg_client.specs.Joined.{joined};
+    ghost use Rattle.cg_client.specs.Joined.{joiner_content};
     ghost use Rattle.cg_join.specs.Snapshot.{parts_of};
     ghost use Rattle.cg_join.specs.Taking.{Takes};
     ghost use Rattle.cg_join.specs.Finishing.{Finishes, IsSnapshotFor};
@@ -59,7 +59,7 @@ impl<D: Disk> Joiner<D> {
             disk,
             id,
             name,
-            parts: Parts::new(alloc),
+            parts: PieceContents::new(alloc),
             alloc,
         }
     }
@@ -87,7 +87,7 @@ impl<D: Disk> Joiner<D> {
         // All pieces of one snapshot were taken.
         requires all { IsSnapshotFor self.id self.parts }
         ensures { (h : Held) → Ascends h.db → self.parts ≡ parts_of h →
-            Finishes D.view self.id (created (joined self.id h)) (D.view self.disk) result }
+            Finishes D.view self.id (created (joiner_content self.id h)) (D.view self.disk) result }
     {
         let Joiner {
             disk,

@@ -1,8 +1,8 @@
 use crate::SnapshotName;
 use cg_action::{Action, Boxed};
 use cg_answer::DbEntry;
+use cg_disk_records::Reached;
 use cg_records::Primary;
-use cg_stored::Reached;
 
 /// What stands in front of each part: the snapshot, the number of the piece from 1, and how many pieces there are.
 #[derive(Clone, Copy, Debug, PartialEq, Eq)]
@@ -22,7 +22,7 @@ pub struct Head {
 
 /// What a piece brings. Most parts are entries, so that what is larger has a place of its own.
 #[derive(Drop)]
-pub enum Part {
+pub enum PieceContent {
     Start(Boxed<Head>),
     /// The next kept green action.
     Green(Boxed<Action>),
@@ -35,5 +35,5 @@ pub enum Part {
 #[derive(Drop)]
 pub struct Piece {
     pub label: Label,
-    pub part: Part,
+    pub part: PieceContent,
 }

@@ -6,11 +6,11 @@ ghost use Rattle.cg_join.specs.Reading.{name_reading, label_reading, head_readin
 ghost use Rattle.cg_join.specs.Laws.{GivesPiece};
 
 use crate::entry::take_entry;
-use crate::{Head, Label, Part, Piece, SnapshotName, pieces_are_exact};
+use crate::{Head, Label, Piece, PieceContent, SnapshotName, pieces_are_exact};
 use cg_action::{Boxed, take_action};
 use cg_codec::{CodecFault, Fields};
+use cg_disk_records::take_reached;
 use cg_records::{take_id, take_number, take_prim};
-use cg_stored::take_reached;
 use std::alloc::Global;
 
 /// The piece that all of the bytes spell. Where they spell none, the first fault from the left.
@@ -70,7 +70,7 @@ fn take_label(f: &mut Fields<'_>) -> Result<Label, CodecFault>
 }
 
 #[tactic(auto, unfolding(crate::specs::Reading::part_reading))]
-fn take_part(alloc: Global, f: &mut Fields<'_>) -> Result<Part, CodecFault>
+fn take_part(alloc: Global, f: &mut Fields<'_>) -> Result<PieceContent, CodecFault>
     ensures { TakesWithMemory (λ p. p) part_reading (unread_of f.old) (unread_of f.new) result }
 {
     let mut after = *f;
@@ -81,43 +81,43 @@ fn take_part(alloc: Global, f: &mut Fields<'_>) -> Result<Part, CodecFault>
 }
 
 #[tactic(auto, unfolding(crate::specs::Reading::part_of_tag))]
-fn take_part_of(alloc: Global, f: &mut Fields<'_>, tag: u8) -> Result<Part, CodecFault>
+fn take_part_of(alloc: Global, f: &mut Fields<'_>, tag: u8) -> Result<PieceContent, CodecFault>
     ensures { TakesWithMemory (λ p. p) (part_of_tag tag) (unread_of f.old) (unread_of f.new) result }
 {
     match tag {
         1 => take_start(alloc, f),
         2 => take_green(alloc, f),
         3 => take_entry_part(alloc, f),
-        _ => Ok(Part::End),
+        _ => Ok(PieceContent::End),
     }
 }
 
 #[tactic(auto, unfolding(crate::specs::Reading::start_reading))]
-fn take_start(alloc: Global, f: &mut Fields<'_>) -> Result<Part, CodecFault>
+fn take_start(alloc: Global, f: &mut Fields<'_>) -> Result<PieceContent, CodecFault>
     ensures { TakesWithMemory (λ p. p) start_reading (unread_of f.old) (unread_of f.new) result }
 {
     let mut after = *f;
     let head = Boxed::new(alloc, take_head(&mut after)?)?;
     *f = after;
-    Ok(Part::Start(head))
+    Ok(PieceContent::Start(head))
 }
 
 #[tactic(auto, unfolding(crate::specs::Reading::green_reading))]
-fn take_green(alloc: Global, f: &mut Fields<'_>) -> Result<Part, CodecFault>
+fn take_green(alloc: Global, f: &mut Fields<'_>) -> Result<PieceContent, CodecFault>
     ensures { TakesWithMemory (λ p. p) green_reading (unread_of f.old) (unread_of f.new) result }
 {
     let mut after = *f;
     let action = Boxed::new(alloc, take_action(alloc, &mut after)?)?;
     *f = after;
-    Ok(Part::Green(action))
+    Ok(PieceContent::Green(action))
 }
 
 #[tactic(auto, unfolding(crate::specs::Reading::entry_part_reading))]
-fn take_entry_part(alloc: Global, f: &mut Fields<'_>) -> Result<Part, CodecFault>
+fn take_entry_part(alloc: Global, f: &mut Fields<'_>) -> Result<PieceContent, CodecFault>
     ensures { TakesWithMemory (λ p. p) entry_part_reading (unread_of f.old) (unread_of f.new) result }
 {
     let entry = take_entry(alloc, f)?;
-    Ok(Part::Entry(entry))
+    Ok(PieceContent::Entry(entry))
 }
 
 #[tactic(auto, unfolding(crate::specs::Reading::head_reading))]

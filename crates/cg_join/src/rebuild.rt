@@ -8,24 +8,24 @@ ghost use Rattle.cg_records.specs.Limits.{Each};
 ghost use Rattle.cg_join.specs.Limits.{IsHead};
 ghost use Rattle.cg_join.specs.Finishing.{IsSnapshotFor};
 ghost use Rattle.cg_store.specs.Leading.{LeadTo};
-ghost use Rattle.cg_client.specs.Joined.{joined};
+ghost use Rattle.cg_client.specs.Joined.{joiner_content};
 ghost use Rattle.cg_join.specs.Snapshot.{parts_of, joined_from};
 
 use crate::Head;
 use crate::gather::{Gathered, gather};
-use crate::parts::Parts;
+use crate::piece_contents::PieceContents;
 use cg_action::{ActionList, Boxed};
 use cg_base::{NoMemory, ReplicaId};
 use cg_client::Core;
 use cg_db::Db;
+use cg_disk_records::Reached;
 use cg_store::{GreenState, resume};
-use cg_stored::Reached;
 use std::alloc::Global;
 
 /// What a joiner holds to which these parts came: those of a snapshot.
-pub(crate) fn core_of(alloc: Global, id: ReplicaId, parts: Parts) -> Result<Core, NoMemory>
+pub(crate) fn core_of(alloc: Global, id: ReplicaId, parts: PieceContents) -> Result<Core, NoMemory>
     requires { IsSnapshotFor id parts }
-    ensures { (h : Held) → Ascends h.db → parts ≡ parts_of h → IfOk result (λ core. core ≡ joined id h) }
+    ensures { (h : Held) → Ascends h.db → parts ≡ parts_of h → IfOk result (λ core. core ≡ joiner_content id h) }
 {
     let Gathered { head, greens, db } = gather(alloc, parts.into_vec())?;
     match head {

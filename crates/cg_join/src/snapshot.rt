@@ -8,21 +8,21 @@ ghost use Rattle.cg_records.specs.Limits.{Each, IsNumber};
 ghost use Rattle.cg_join.specs.Limits.{IsHead, IsPiece};
 ghost use Rattle.cg_join.specs.Snapshot.{head_of, parts_of, with_green_part, with_entry_part, piece_at, bytes_at};
 
-use crate::parts::Parts;
+use crate::piece_contents::PieceContents;
 use crate::writing::encode;
-use crate::{Head, Label, Part, SnapshotName};
+use crate::{Head, Label, PieceContent, SnapshotName};
 use cg_action::{ActionList, Boxed};
 use cg_answer::EntryList;
 use cg_base::{Bytes, NoMemory};
 use cg_client::Core;
-use cg_stored::Reached;
+use cg_disk_records::Reached;
 use std::alloc::Global;
 use std::marker::Model;
 
 /// What a replica had green when the snapshot was made. Its memory is that content, once.
 pub struct SnapshotWriter {
     name: SnapshotName,
-    parts: Parts,
+    parts: PieceContents,
     alloc: Global,
 }
 
@@ -59,12 +59,12 @@ impl SnapshotWriter {
         let entries = core.entries()?;
         // with the head and the end
         let count = greens.len().saturating_add(entries.len()).saturating_add(2);
-        let mut parts = Parts::with_capacity(alloc, count)?;
+        let mut parts = PieceContents::with_capacity(alloc, count)?;
         let head = Boxed::new(alloc, head_of(core))?;
-        parts.push(Part::Start(head))?;
+        parts.push(PieceContent::Start(head))?;
         push_greens(alloc, &mut parts, greens)?;
         push_entries(&mut parts, entries)?;
-        parts.push(Part::End)?;
+        parts.push(PieceContent::End)?;
         Ok(SnapshotWriter { name, parts, alloc })
     }
 
@@ -117,23 +117,23 @@ fn head_of(core: &Core) -> Head
     }
 }
 
-fn push_greens(alloc: Global, parts: &mut Parts, greens: ActionList) -> Result<(), NoMemory>
+fn push_greens(alloc: Global, parts: &mut PieceContents, greens: ActionList) -> Result<(), NoMemory>
     requires { Each IsAction greens }
     ensures { OnOk result (parts.new ≡ fold with_green_part parts.old greens) }
 {
     for a in greens.into_vec() {
         let action = Boxed::new(alloc, a)?;
-        parts.push(Part::Green(action))?;
+        parts.push(PieceContent::Green(action))?;
     }
     Ok(())
 }
 
-fn push_entries(parts: &mut Parts, entries: EntryList) -> Result<(), NoMemory>
+fn push_entries(parts: &mut PieceContents, entries: EntryList) -> Result<(), NoMemory>
     requires { AreEntries entries }
     ensures { OnOk result (parts.new ≡ fold with_entry_part parts.old entries) }
 {
     for e in entries.into_vec() {
-        parts.push(Part::Entry(e))?;
+        parts.push(PieceContent::Entry(e))?;
     }
     Ok(())
 }

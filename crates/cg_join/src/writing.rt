@@ -5,19 +5,19 @@ ghost use Rattle.cg_join.specs.Bytes.{spelled_label, spelled_head, spelled_part,
 ghost use Rattle.cg_join.specs.Limits.{IsHead, IsPart};
 
 use crate::entry::put_entry;
-use crate::{Head, Label, Part};
+use crate::{Head, Label, PieceContent};
 use cg_action::put_action;
 use cg_base::{Bytes, NoMemory};
 use cg_codec::{put_u8, put_u64};
+use cg_disk_records::put_reached;
 use cg_records::put_prim;
-use cg_stored::put_reached;
 use std::alloc::Global;
 
 // a piece of a small entry fits
 const USUAL: usize = 128;
 
 /// The bytes of a piece.
-pub(crate) fn encode(alloc: Global, label: &Label, part: &Part) -> Result<Bytes, NoMemory>
+pub(crate) fn encode(alloc: Global, label: &Label, part: &PieceContent) -> Result<Bytes, NoMemory>
     requires { IsPart part.now }
     ensures { IfOk result (λ bytes. bytes ≡ piece_bytes label.now part.now) }
 {
@@ -38,24 +38,24 @@ fn write_label(out: &mut Vec<u8>, label: &Label) -> Result<(), NoMemory>
 }
 
 #[tactic(auto, unfolding(crate::specs::Bytes::spelled_part))]
-fn write_part(out: &mut Vec<u8>, part: &Part) -> Result<(), NoMemory>
+fn write_part(out: &mut Vec<u8>, part: &PieceContent) -> Result<(), NoMemory>
     requires { IsPart part.now }
     ensures { OnOk result (out.new.items ≡ out.old.items ++ spelled_part part.now) }
 {
     match part {
-        Part::Start(head) => {
+        PieceContent::Start(head) => {
             put_u8(out, 1)?;
             write_head(out, head.get())
         }
-        Part::Green(action) => {
+        PieceContent::Green(action) => {
             put_u8(out, 2)?;
             put_action(out, action.get())
         }
-        Part::Entry(entry) => {
+        PieceContent::Entry(entry) => {
             put_u8(out, 3)?;
             put_entry(out, entry)
         }
-        Part::End => put_u8(out, 4),
+        PieceContent::End => put_u8(out, 4),
     }
 }
 

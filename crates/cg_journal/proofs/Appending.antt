@@ -14,7 +14,7 @@ use Rattle.cg_journal.specs.declared.journal.AppendErr.TheVariants.{Lost, NoMemo
 use Rattle.cg_journal.proofs.Both.{records_emptied}
 use Rattle.cg_journal.proofs.AddSteps.{struck_more}
 use Rattle.cg_journal.specs.Adds.{IsLostIn, IsAdded, IsNotAdded}
-use Rattle.cg_journal.specs.Held.{end_of, end_on, with_end, Ended, IsJournal}
+use Rattle.cg_journal.specs.Held.{end_of, end_on, with_end, EndsAt, IsJournal}
 use Rattle.cg_journal.specs.Answers.{CanBeRead, with_record, without_records, with_record_alone, IsDone, IsRefused, IsLostAppend, IsLostRestart, Appends, Restarts}
 use Rattle.cg_journal.specs.declared.ends.Ends.{Ends}
 use Rattle.cg_journal.proofs.Reading.{reads_as}
@@ -44,10 +44,10 @@ ends_at side d end bodies has r is =
     has.ends ∙ ap end_of same
 
 -- the ends after a change of one side
-pub on_after : (side s : Side) (new old : Image) (end : ℕ) (ends : Ends) → Ended (bytes_of side new) end → bytes_of (opposite side) new ≡ bytes_of (opposite side) old → ((t : Side) → Ended (bytes_of t old) (end_on t ends)) → Ended (bytes_of s new) (end_on s (with_end side end ends))
+pub on_after : (side s : Side) (new old : Image) (end : ℕ) (ends : Ends) → EndsAt (bytes_of side new) end → bytes_of (opposite side) new ≡ bytes_of (opposite side) old → ((t : Side) → EndsAt (bytes_of t old) (end_on t ends)) → EndsAt (bytes_of s new) (end_on s (with_end side end ends))
 on_after A A new old end ends here other were = here
-on_after A B new old end ends here other were = subst (λ x. Ended x ends.b) (sym other) (were B)
-on_after B A new old end ends here other were = subst (λ x. Ended x ends.a) (sym other) (were A)
+on_after A B new old end ends here other were = subst (λ x. EndsAt x ends.b) (sym other) (were B)
+on_after B A new old end ends here other were = subst (λ x. EndsAt x ends.a) (sym other) (were A)
 on_after B B new old end ends here other were = here
 
 same_ends : (side : Side) (ends : Ends) → with_end side (end_on side ends) ends ≡ ends
@@ -106,7 +106,7 @@ module _ (side : Side) (old new : DiskView) (ends : Ends) (held : IsJournal old 
 
 -- nothing was written
 pub kept_held : (old new : DiskView) (ends : Ends) → IsJournal old ends → IsKept old new → IsJournal new ends
-kept_held old new ends held kept = record { on = λ s. subst (λ image. Ended (bytes_of s image) (end_on s ends)) (sym kept.reads) (held.on s); rest = kept.rest }
+kept_held old new ends held kept = record { on = λ s. subst (λ image. EndsAt (bytes_of s image) (end_on s ends)) (sym kept.reads) (held.on s); rest = kept.rest }
 
 pub kept_refused : (old new : DiskView) → IsKept old new → IsRefused (λ r. r ≡ records old.reads) 0 old new
 kept_refused old new kept = record { records_new = ap records kept.reads; rest = kept.rest; time = omega (arith, kept.time); unstruck = kept.unstruck }

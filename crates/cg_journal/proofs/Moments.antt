@@ -3,7 +3,7 @@ use Rattle.std.proofs.Common.{◌≡◌, inl, inr, ⊎_elim, ℕ, ◌≤◌, ◌
 use Rattle.std.specs.Option.{option_map}
 use Rattle.cg_disk.specs.Sides.{Image, bytes_of}
 use Rattle.cg_disk.specs.Writes.{Torn, TornSide}
-use Rattle.cg_disk.specs.State.{DiskState, Strike, Blow, blow_at}
+use Rattle.cg_disk.specs.State.{DiskState, DiskStrike, Blow, blow_at}
 use Rattle.cg_disk.specs.View.{DiskView, IsView, LeavesOnly}
 use Rattle.cg_disk.specs.Calls.{Elapses}
 use Rattle.cg_disk.specs.declared.disk.Side.{Side}
@@ -38,7 +38,7 @@ pub torn_side_same : (side : Side) (place count : ℕ) (image : Image) → TornS
 torn_side_same side place count image = record { torn = torn_same place count (bytes_of side image); other = refl }
 
 -- a strike that is hit is armed at that call
-pub armed_at : (armed : Option Strike) (n : ℕ) (blow : Blow) → blow_at armed n ≡ Some blow → (strike : Strike) × (armed ≡ Some strike) × (strike.call ≡ n) × (strike.blow ≡ blow)
+pub armed_at : (armed : Option DiskStrike) (n : ℕ) (blow : Blow) → blow_at armed n ≡ Some blow → (strike : DiskStrike) × (armed ≡ Some strike) × (strike.call ≡ n) × (strike.blow ≡ blow)
 armed_at None n blow hit = cc
 armed_at (Some strike) n blow hit = (strike, refl, grind (arith, nat_tests), grind (arith, nat_tests))
 

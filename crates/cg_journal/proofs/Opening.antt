@@ -12,7 +12,7 @@ use Rattle.cg_disk.specs.declared.disk.DiskFault.{DiskFault}
 use Rattle.cg_disk.specs.declared.disk.DiskFault.TheVariants.{Failed, NoMemory}
 use Rattle.cg_journal.specs.Records.{header, HasRecords, both}
 use Rattle.cg_journal.specs.Strikes.{IsUnstruck}
-use Rattle.cg_journal.specs.Held.{Ended, IsJournal, end_on}
+use Rattle.cg_journal.specs.Held.{EndsAt, IsJournal, end_on}
 use Rattle.cg_journal.specs.Fresh.{IsFresh, FormatsSides}
 use Rattle.cg_journal.specs.Answers.{IsDone}
 use Rattle.cg_journal.specs.Opens.{no_records}
@@ -26,14 +26,14 @@ use Rattle.cg_journal.proofs.Looking.{passes_unstruck, unchanged_unstruck, fails
 use Rattle.cg_journal.specs.ViewLaws.{unstruck_more}
 
 -- a journal of two sides
-pub journal_of : (d : DiskView) (ends : Ends) → Ended d.reads.a ends.a → Ended d.reads.b ends.b → IsAtRest d → IsJournal d ends
+pub journal_of : (d : DiskView) (ends : Ends) → EndsAt d.reads.a ends.a → EndsAt d.reads.b ends.b → IsAtRest d → IsJournal d ends
 journal_of d ends a b rest = record { on = on; rest = rest }
   where
-    on : (side : Side) → Ended (bytes_of side d.reads) (end_on side ends)
+    on : (side : Side) → EndsAt (bytes_of side d.reads) (end_on side ends)
     on A = a
     on B = b
 
-pub ended : (side bytes : List ℕ) (end : ℕ) (bodies : List (List ℕ)) → bytes ≡ side → HasRecords bytes end bodies → length bytes < 2 ^ 63 → Ended side end
+pub ended : (side bytes : List ℕ) (end : ℕ) (bodies : List (List ℕ)) → bytes ≡ side → HasRecords bytes end bodies → length bytes < 2 ^ 63 → EndsAt side end
 ended side bytes end bodies same has short = record {
   bodies = bodies;
   has = subst (λ (l : List ℕ). HasRecords l end bodies) same has;

@@ -3,7 +3,7 @@ use Rattle.std.specs.Prelude.{◌≡◌, ◌≢◌, ◌⊎◌, ℕ, ◌+◌, ◌
 use Rattle.std.specs.Option.{option_map}
 use Rattle.cg_base.specs.declared.limits.TheConstants.{NUMBER_LIMIT}
 use Rattle.cg_disk.specs.Sides.{Image, bytes_of, opposite}
-use Rattle.cg_disk.specs.State.{SideState, DiskState, Strike, Blow, Fails, Stops, is_unsynced, left_by}
+use Rattle.cg_disk.specs.State.{SideState, DiskState, DiskStrike, Blow, Fails, Stops, is_unsynced, left_by}
 use Rattle.cg_disk.specs.View.{DiskView, IsAtRest}
 use Rattle.cg_disk.specs.declared.disk.Side.{Side}
 use Rattle.cg_disk.specs.declared.disk.Side.TheVariants.{A, B}
@@ -40,7 +40,7 @@ gate_stands Stops call fill = nat_lt 2 call && opens fill
 -- what a disk tells that was struck in one of the four calls: what each fill leaves, and that in the third and the
 -- fourth no other offset than the gate's is unsynced
 pub record IsCutShort (side : Side) (gate call : ℕ) (before after : Option Records) (s e : DiskState) : Type 0 where
-  pub strike : Strike
+  pub strike : DiskStrike
   pub armed : s.strike ≡ Some strike
   pub fills : (fill : List ℕ) → records (left_by e fill) ≡ (if gate_stands strike.blow call fill then after else before)
   pub only_gate : 2 < call → (place : ℕ) → is_unsynced (state_on side e).unsynced place ≡ true → place ≡ gate

@@ -23,12 +23,12 @@ with_end A end ends = record { a = end; b = ends.b }
 with_end B end ends = record { a = ends.a; b = end }
 
 -- a side has records that end here
-pub record Ended (side : List ℕ) (end : ℕ) : Type 0 where
+pub record EndsAt (side : List ℕ) (end : ℕ) : Type 0 where
   pub bodies : List (List ℕ)
   pub has : HasRecords side end bodies
   pub short : end < NUMBER_LIMIT
 
 -- both sides have records that end at these offsets, and everything is synced
 pub record IsJournal (d : DiskView) (ends : Ends) : Type 0 where
-  pub on : (side : Side) → Ended (bytes_of side d.reads) (end_on side ends)
+  pub on : (side : Side) → EndsAt (bytes_of side d.reads) (end_on side ends)
   pub rest : IsAtRest d

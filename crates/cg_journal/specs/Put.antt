@@ -3,7 +3,7 @@ use Rattle.std.specs.Prelude.{◌≡◌, ◌⊎◌, ℕ, ◌+◌, ◌<◌, List,
 use Rattle.cg_base.specs.declared.limits.TheConstants.{NUMBER_LIMIT}
 use Rattle.cg_disk.specs.Sides.{Image, bytes_of, with_bytes}
 use Rattle.cg_disk.specs.Writes.{TornSide, overwritten}
-use Rattle.cg_disk.specs.State.{DiskState, Strike, Blow, Fails, Stops, synced_side, wrote}
+use Rattle.cg_disk.specs.State.{DiskState, DiskStrike, Blow, Fails, Stops, synced_side, wrote}
 use Rattle.cg_disk.specs.View.{DiskView, IsAtRest}
 use Rattle.cg_disk.specs.Calls.{HasImages}
 use Rattle.cg_disk.specs.declared.disk.Side.{Side}
@@ -30,7 +30,7 @@ CutBy Fails s w calls e = (calls ≡ 1 → (e.a ≡ s.a) × (e.b ≡ s.b))
     × (calls ≡ 2 → (e.a ≡ synced_side w.a) × (e.b ≡ synced_side w.b))
 
 pub record IsCutState (side : Side) (place : ℕ) (bytes : List ℕ) (calls : ℕ) (s e : DiskState) : Type 0 where
-  pub strike : Strike
+  pub strike : DiskStrike
   pub armed : s.strike ≡ Some strike
   pub left : CutBy strike.blow s (wrote side place bytes s) calls e
 

@@ -2,7 +2,7 @@
 use Rattle.std.proofs.Common.{◌≡◌, inl, inr, ⊎_elim, Option, Some, None, refl, ◌∙◌}
 use Rattle.std.specs.Option.{option_map}
 use Rattle.cg_disk.specs.Sides.{Image}
-use Rattle.cg_disk.specs.State.{DiskState, Strike}
+use Rattle.cg_disk.specs.State.{DiskState, DiskStrike}
 use Rattle.cg_disk.specs.View.{DiskView, LeavesOnly}
 use Rattle.cg_journal.specs.Strikes.{IsUnstruck}
 
@@ -16,7 +16,7 @@ weakened old new P Q run weaker = record {
 }
 
 -- a state whose strike is told
-pub some_state : (state : Option DiskState) (strike : Option Strike) →
+pub some_state : (state : Option DiskState) (strike : Option DiskStrike) →
     option_map (λ (x : DiskState). x.strike) state ≡ Some strike →
     (s : DiskState) × (state ≡ Some s) × (s.strike ≡ strike)
 some_state None strike is = cc

@@ -38,19 +38,19 @@ pub fn parse(alloc: Global, side: Vec<u8>) -> Result<Option<Parsed>, NoMemory>
     let Some(found) = find(alloc, &side)? else {
         return Ok(None);
     };
-    let Found { spans, end } = found;
+    let ParsedSide { spans, end } = found;
     let bodies = Bodies::new(side, spans);
     Ok(Some(Parsed { bodies, end }))
 }
 
 // Where the bodies of a side's records stand, and where the records end.
 #[derive(Drop)]
-struct Found {
+struct ParsedSide {
     spans: Vec<Span>,
     end: u64,
 }
 
-fn find(alloc: Global, side: &[u8]) -> Result<Option<Found>, NoMemory>
+fn find(alloc: Global, side: &[u8]) -> Result<Option<ParsedSide>, NoMemory>
     ensures read { IfOk result (λ found. MatchOption
         found (bodies_of side.now ≡ None) (λ f. bodies_of side.now ≡ Some (bodies_at side.now f.spans.items))) }
     ensures end { IfOk result (λ found. MatchOption found (⊥ →
@@ -77,7 +77,7 @@ fn find(alloc: Global, side: &[u8]) -> Result<Option<Found>, NoMemory>
         })?;
         gate += 5 + size;
     }
-    Ok(Some(Found {
+    Ok(Some(ParsedSide {
         spans,
         end: gate as u64 + 1,
     }))

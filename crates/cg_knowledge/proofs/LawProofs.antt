@@ -9,7 +9,7 @@ use Rattle.cg_base.specs.Ids.{names}
 use Rattle.cg_vote.specs.Quorum.{is_quorum}
 use Rattle.cg_vote.specs.QuorumLaws.{meet}
 use Rattle.cg_knowledge.specs.declared.summary.Summary.{Summary}
-use Rattle.cg_knowledge.specs.Members.{remaining, lowest}
+use Rattle.cg_knowledge.specs.Summaries.{remaining, lowest}
 use Rattle.cg_knowledge.specs.Primary.{known_primary}
 use Rattle.cg_knowledge.specs.Yellow.{yellow_group, is_green_at_most, is_in_each, is_common, yellow_of, common_yellow}
 use Rattle.cg_knowledge.specs.Verdict.{all_cleared, decides}

@@ -5,7 +5,7 @@ use Rattle.std.specs.List.{All, Contains, fold}
 use Rattle.std.proofs.lemmas.Bool.{cases_Bool, ltb-true, ltb-false, eqb-true, eq-eqb, or_cases, or_parts, and_parts, and_from}
 use Rattle.std.proofs.lemmas.List.Elements.{All-nil, All-cons}
 use Rattle.cg_knowledge.specs.declared.summary.Summary.{Summary}
-use Rattle.cg_knowledge.specs.Members.{leads, leader, most_updated}
+use Rattle.cg_knowledge.specs.Summaries.{leads, leader, most_updated}
 use Rattle.cg_knowledge.specs.Laws.{IsMostUpdated, HasMostUpdated}
 
 -- the first has more greens, or as many and no higher identifier

@@ -4,7 +4,7 @@ use Rattle.std.specs.List.{All, Contains}
 use Rattle.cg_base.specs.Ids.{names}
 use Rattle.cg_vote.specs.Sharing.{ShareMember}
 use Rattle.cg_knowledge.specs.declared.summary.Summary.{Summary}
-use Rattle.cg_knowledge.specs.Members.{most_updated, remaining}
+use Rattle.cg_knowledge.specs.Summaries.{most_updated, remaining}
 use Rattle.cg_knowledge.specs.Primary.{known_primary}
 use Rattle.cg_knowledge.specs.Yellow.{yellow_group, common_yellow}
 use Rattle.cg_knowledge.specs.Verdict.{decides}

@@ -4,7 +4,7 @@ use Rattle.std.specs.Option.{option_map_or}
 use Rattle.cg_base.specs.Lists.{greatest}
 use Rattle.cg_records.specs.declared.primary.Primary.{Primary}
 use Rattle.cg_knowledge.specs.declared.summary.Summary.{Summary}
-use Rattle.cg_knowledge.specs.Members.{lowest}
+use Rattle.cg_knowledge.specs.Summaries.{lowest}
 
 -- the greatest primary index
 unfoldable pub newest_index : List Summary → ℕ

@@ -4,7 +4,7 @@ use Rattle.std.specs.List.{list_all}
 use Rattle.cg_vote.specs.Quorum.{is_quorum}
 use Rattle.cg_records.specs.declared.vulnerable.Vulnerable.{Vulnerable}
 use Rattle.cg_knowledge.specs.declared.summary.Summary.{Summary}
-use Rattle.cg_knowledge.specs.Members.{remaining}
+use Rattle.cg_knowledge.specs.Summaries.{remaining}
 use Rattle.cg_knowledge.specs.Primary.{known_primary}
 use Rattle.cg_knowledge.specs.Vulnerable.{decided}
 

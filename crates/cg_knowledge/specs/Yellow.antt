@@ -7,7 +7,7 @@ use Rattle.cg_base.specs.Ids.{names}
 use Rattle.cg_base.specs.Cuts.{index_in}
 use Rattle.cg_records.specs.declared.yellow.Yellow.{Yellow}
 use Rattle.cg_knowledge.specs.declared.summary.Summary.{Summary}
-use Rattle.cg_knowledge.specs.Members.{most_updated, lowest}
+use Rattle.cg_knowledge.specs.Summaries.{most_updated, lowest}
 use Rattle.cg_knowledge.specs.Primary.{newest}
 
 -- the members of the last primary component whose yellow list is valid

@@ -1,12 +1,12 @@
 ghost use Rattle.std.specs.Prelude.{◌≡◌, Some};
 ghost use Rattle.std.specs.Option.{option_copied};
-ghost use Rattle.cg_knowledge.specs.Members.{leader as leader_of, lower as lower_of, gone as gone_of, most_updated as most_updated_of, remaining as remaining_of, senders as senders_of};
+ghost use Rattle.cg_knowledge.specs.Summaries.{leader as leader_of, lower as lower_of, gone as gone_of, most_updated as most_updated_of, remaining as remaining_of, senders as senders_of};
 
 use crate::Summary;
 use cg_base::IdSet;
 
 /// The members of the exchange.
-#[tactic(auto, unfolding(crate::specs::Members::senders))]
+#[tactic(auto, unfolding(crate::specs::Summaries::senders))]
 pub fn senders(summaries: &[Summary]) -> IdSet
     ensures { result ≡ senders_of summaries.now }
 {
@@ -36,7 +36,7 @@ fn leader<'a>(best: Option<&'a Summary>, s: &'a Summary) -> &'a Summary
 }
 
 /// The member with the most greens, and among equals the one with the lowest identifier. None says that there is no member.
-#[tactic(auto, unfolding(crate::specs::Members::most_updated))]
+#[tactic(auto, unfolding(crate::specs::Summaries::most_updated))]
 pub fn most_updated(summaries: &[Summary]) -> Option<&Summary>
     ensures { option_copied result ≡ most_updated_of summaries.now }
 {
@@ -58,7 +58,7 @@ pub(crate) fn lower<'a>(low: Option<&'a Summary>, s: &'a Summary) -> &'a Summary
 }
 
 /// The members that have left, as the most updated member knows.
-#[tactic(auto, unfolding(crate::specs::Members::gone))]
+#[tactic(auto, unfolding(crate::specs::Summaries::gone))]
 pub fn gone(summaries: &[Summary]) -> IdSet
     ensures { result ≡ gone_of summaries.now }
 {
@@ -69,7 +69,7 @@ pub fn gone(summaries: &[Summary]) -> IdSet
 }
 
 /// The members that remain.
-#[tactic(auto, unfolding(crate::specs::Members::remaining))]
+#[tactic(auto, unfolding(crate::specs::Summaries::remaining))]
 pub fn remaining(summaries: &[Summary]) -> IdSet
     ensures { result ≡ remaining_of summaries.now }
 {

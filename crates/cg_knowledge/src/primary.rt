@@ -1,6 +1,6 @@
 ghost use Rattle.std.specs.Prelude.{◌≡◌};
 ghost use Rattle.std.specs.Option.{option_copied};
-ghost use Rattle.cg_knowledge.specs.Members.{lowest};
+ghost use Rattle.cg_knowledge.specs.Summaries.{lowest};
 ghost use Rattle.cg_knowledge.specs.Primary.{newest, newest_index as newest_index_of, known_primary as known_primary_of, known_attempt as known_attempt_of};
 
 use crate::Summary;
@@ -21,7 +21,7 @@ pub(crate) fn newest_index(summaries: &[Summary]) -> u64
 }
 
 // the lowest member with the greatest primary index
-#[tactic(auto, unfolding(crate::specs::Primary::newest, crate::specs::Members::lowest))]
+#[tactic(auto, unfolding(crate::specs::Primary::newest, crate::specs::Summaries::lowest))]
 fn lowest_of_newest(summaries: &[Summary]) -> Option<&Summary>
     ensures { option_copied result ≡ lowest (newest summaries.now) }
 {

@@ -1,7 +1,7 @@
 ghost use Rattle.std.specs.Prelude.{◌≡◌, false, not, nat_le, IfOk, filter};
 ghost use Rattle.std.specs.Option.{option_copied, option_map_or};
 ghost use Rattle.cg_base.specs.Cuts.{index_in};
-ghost use Rattle.cg_knowledge.specs.Members.{lowest};
+ghost use Rattle.cg_knowledge.specs.Summaries.{lowest};
 ghost use Rattle.cg_knowledge.specs.Yellow.{yellow_group, is_green_at_most, is_common as common, common_yellow as common_yellow_of};
 
 use crate::Summary;
@@ -13,7 +13,7 @@ use cg_records::Yellow;
 use std::alloc::Global;
 
 // the lowest member of those whose yellow lists count
-#[tactic(auto, unfolding(crate::specs::Primary::newest, crate::specs::Yellow::yellow_group, crate::specs::Members::lowest))]
+#[tactic(auto, unfolding(crate::specs::Primary::newest, crate::specs::Yellow::yellow_group, crate::specs::Summaries::lowest))]
 fn lowest_of_group(summaries: &[Summary]) -> Option<&Summary>
     ensures { option_copied result ≡ lowest (yellow_group summaries.now) }
 {

@@ -7,7 +7,7 @@ use Rattle.cg_action.specs.declared.action.Kind.TheVariants.{Update, Join, Leave
 use Rattle.cg_action.specs.declared.action.Action.{Action}
 use Rattle.cg_members.specs.declared.server.Server.{Server}
 use Rattle.cg_members.specs.Members.{Members}
-use Rattle.cg_members.specs.Servers.{is_among, is_server, was_ever, with_server, without_server, with_line, joined, departed, after_kind, after_green}
+use Rattle.cg_members.specs.Servers.{is_among, is_server, was_ever, with_server, without_server, with_line, with_joiner, departed, after_kind, after_green}
 use Rattle.cg_members.specs.Listed.{line_of}
 use Rattle.cg_members.specs.MemberLaws.{is_among-without, is_among-with_line}
 
@@ -48,7 +48,7 @@ line_of-raised (s ∷ servers) p line q =
 
 -- ---- the law
 
-joined-keeps : (m : Members) (p weight place q : ℕ) → is_server m q ≡ true → line_of m.servers q ≤ line_of (joined m p weight place).servers q
+joined-keeps : (m : Members) (p weight place q : ℕ) → is_server m q ≡ true → line_of m.servers q ≤ line_of (with_joiner m p weight place).servers q
 joined-keeps m p weight place q is = elim (cases_Bool (was_ever m p)) [
   | inl was ↦ rw was (omega arith)
   | inr never ↦

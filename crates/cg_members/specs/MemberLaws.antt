@@ -9,7 +9,7 @@ use Rattle.cg_action.specs.declared.action.Kind.TheVariants.{Update, Join, Leave
 use Rattle.cg_action.specs.declared.action.Action.{Action}
 use Rattle.cg_members.specs.declared.server.Server.{Server}
 use Rattle.cg_members.specs.Members.{Members}
-use Rattle.cg_members.specs.Servers.{is_among, is_server, was_ever, first_line, with_server, without_server, with_line, starting, joined, departed, raise_line, after_kind, after_green, after_greens, members_of}
+use Rattle.cg_members.specs.Servers.{is_among, is_server, was_ever, first_line, with_server, without_server, with_line, starting, with_joiner, departed, raise_line, after_kind, after_green, after_greens, members_of}
 use Rattle.cg_members.specs.Laws.{NoLineAbove, AreApart}
 
 -- ---- one action more
@@ -139,7 +139,7 @@ NoLineAbove-with_line count (s ∷ servers) p line none le =
 -- ---- the law
 
 AreApart-joined : (m : Members) (count p weight : ℕ) → AreApart m count →
-    AreApart (joined m p weight (suc count)) (suc count)
+    AreApart (with_joiner m p weight (suc count)) (suc count)
 AreApart-joined m count p weight are = elim (cases_Bool (was_ever m p)) [
   | inl was ↦ rw was (record {
     apart = are.apart;

@@ -55,8 +55,8 @@ abbrev pub was_ever : Members → ℕ → Bool
 was_ever m p = is_server m p || has m.left p
 
 -- a join that has become green: a replica that neither is nor was a server becomes one, with its place as its line
-abbrev pub joined : Members → ℕ → ℕ → ℕ → Members
-joined m p weight place =
+abbrev pub with_joiner : Members → ℕ → ℕ → ℕ → Members
+with_joiner m p weight place =
     if was_ever m p then m
     else record m { servers = with_server m.servers (record { id = p; line = place; weight = weight }) }
 
@@ -71,7 +71,7 @@ raise_line m p line = record m { servers = map (with_line p line) m.servers }
 -- the join or leave of an action
 abbrev pub after_kind : Members → ℕ → Kind → Members
 after_kind m place (Update cmds query) = m
-after_kind m place (Join joiner weight) = joined m joiner weight place
+after_kind m place (Join joiner weight) = with_joiner m joiner weight place
 after_kind m place (Leave server) = departed m server
 
 -- after an action has become green at a place

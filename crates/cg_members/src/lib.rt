@@ -14,4 +14,4 @@ mod server_set;
 pub use laws::{lines_never_fall, members_follow_greens, servers_stay_apart};
 pub use members::Members;
 pub use server::Server;
-pub use server_set::{ServerSet, Servers};
+pub use server_set::{ServerIter, ServerSet};

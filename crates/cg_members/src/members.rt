@@ -22,7 +22,7 @@ impl Model for Members {
 }
 
 impl Members {
-    ghost use Rattle.cg_members.specs.Servers.{starting, is_server, was_ever, joined, departed, raise_line, after_green, weight_of, white_line};
+    ghost use Rattle.cg_members.specs.Servers.{starting, is_server, was_ever, with_joiner, departed, raise_line, after_green, weight_of, white_line};
 
     /// The members before the first green action: these servers, each with line 0.
     pub fn start(servers: WeightSet) -> Members
@@ -67,7 +67,7 @@ impl Members {
     /// A green join at this place: a replica that neither is nor was a server becomes one, with the place as its line.
     pub fn join(&mut self, id: ReplicaId, at: u64, weight: u8)
         requires { 1 ≤ weight }
-        ensures { self.new ≡ joined self.old id weight at }
+        ensures { self.new ≡ with_joiner self.old id weight at }
     {
         if !self.was_ever(id) {
             self.servers.put(id, at, weight);

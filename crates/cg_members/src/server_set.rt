@@ -1,7 +1,7 @@
 ghost use Rattle.std.specs.Prelude.{◌≡◌, ◌≤◌, [], map};
 
 use crate::Server;
-use cg_base::{IdSet, ReplicaId, WeightSet, Weights, lesser};
+use cg_base::{IdSet, ReplicaId, WeightIter, WeightSet, lesser};
 use std::marker::Model;
 
 /// Servers, each with its line and its weight. Clauses see the list of them, ascending.
@@ -142,8 +142,8 @@ impl ServerSet {
 
 /// The servers of a set, ascending.
 #[derive(Drop)]
-pub struct Servers {
-    weights: Weights,
+pub struct ServerIter {
+    weights: WeightIter,
     lines: [u64; 32],
 }
 
@@ -152,18 +152,18 @@ impl ServerSet {
     ghost use Rattle.cg_members.specs.View.{servers_left};
 
     /// The servers, ascending. It also says what every set of servers is.
-    pub fn iter(&self) -> Servers
+    pub fn iter(&self) -> ServerIter
         ensures items { servers_left result ≡ self.now }
         ensures servers { AreServers self.now }
     {
-        Servers {
+        ServerIter {
             weights: self.weights.iter(),
             lines: self.lines,
         }
     }
 }
 
-impl Iterator for Servers {
+impl Iterator for ServerIter {
     type Item = Server;
 
     ghost use Rattle.std.specs.Iterator.{YieldsFirst, item_count};

@@ -7,10 +7,10 @@ use Rattle.cg_client.specs.Replica.{Held}
 use Rattle.cg_client.specs.Install.{valid_yellow}
 use Rattle.cg_client.specs.Queries.{plain_reds}
 use Rattle.cg_model.specs.Chronicle.{Attempt}
-use Rattle.cg_model.specs.World.{Life, Up, Down}
+use Rattle.cg_model.specs.World.{NodeState, Up, Down}
 
 -- what a replica holds: as it runs, or, while it is down, as its disk has it
-abbrev pub held_in : Life → Held
+abbrev pub held_in : NodeState → Held
 held_in (Up r disk) = r.held
 held_in (Down disk green) = disk.content
 

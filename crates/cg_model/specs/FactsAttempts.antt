@@ -11,7 +11,7 @@ use Rattle.cg_queue.specs.Queue.{names_of}
 use Rattle.cg_records.specs.declared.vulnerable.Vulnerable.{Vulnerable}
 use Rattle.cg_vote.specs.Quorum.{is_quorum}
 use Rattle.cg_knowledge.specs.declared.summary.Summary.{Summary}
-use Rattle.cg_knowledge.specs.Members.{remaining, most_updated}
+use Rattle.cg_knowledge.specs.Summaries.{remaining, most_updated}
 use Rattle.cg_knowledge.specs.Primary.{newest_index}
 use Rattle.cg_knowledge.specs.Yellow.{common_yellow}
 use Rattle.cg_knowledge.specs.Verdict.{decides}

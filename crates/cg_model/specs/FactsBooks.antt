@@ -11,8 +11,8 @@ use Rattle.cg_group.specs.EachLaws.{Each}
 use Rattle.cg_group.specs.State.{configuration, unordered_of}
 use Rattle.cg_client.specs.Replica.{Held, created}
 use Rattle.cg_commit.specs.Holds.{Rising}
-use Rattle.cg_step.specs.Recorded.{OfMessage}
-use Rattle.cg_model.specs.World.{Life, Up, Down, Seat, World, replica_of, seat_of}
+use Rattle.cg_replica_step.specs.Recorded.{OfMessage}
+use Rattle.cg_model.specs.World.{NodeState, Up, Down, Node, World, replica_of, node_of}
 use Rattle.cg_model.specs.Chronicle.{Attempt, Chronicle}
 use Rattle.cg_model.specs.Fronts.{Front, IsSomeWith}
 use Rattle.cg_model.specs.Looks.{greens_of, stood_of, core_of, told_in, members_in, attempt_of, top_of, snapshot_of, copied_for}
@@ -40,17 +40,17 @@ pub record MadeBook (c : Chronicle) : Type 0 where
 
 -- so many actions of a replica were shown as made: all that it has created, where it is up; no more than it has on its disk and no fewer
 -- than its greens there, where it is down; and none before it has begun
-abbrev pub LifeMade : ℕ → ℕ → Life → Type 0
+abbrev pub LifeMade : ℕ → ℕ → NodeState → Type 0
 LifeMade n p (Up r disk) = n ≡ created r.held
 LifeMade n p (Down disk green) = (n ≤ created disk.content) × (index_in disk.content.queue.green_cut p ≤ n)
 
-abbrev pub SeatMade : ℕ → ℕ → Option Seat → Type 0
-SeatMade n p None = n ≡ 0
-SeatMade n p (Some s) = LifeMade n p s.life
+abbrev pub NodeMade : ℕ → ℕ → Option Node → Type 0
+NodeMade n p None = n ≡ 0
+NodeMade n p (Some s) = LifeMade n p s.life
 
 pub record MadeFits (w : World) : Type 0 where
   pub rising : Rising 0 w.made
-  pub seats : (p : ℕ) → SeatMade (index_in w.made p) p (seat_of w p)
+  pub nodes : (p : ℕ) → NodeMade (index_in w.made p) p (node_of w p)
 
 -- of a replica that is down: the names that its recovery will show are the last of its greens, and those before stand in the order
 pub record IsToShow (order green greens : List ActionId) : Type 0 where
@@ -58,21 +58,21 @@ pub record IsToShow (order green greens : List ActionId) : Type 0 where
   pub all : greens ≡ shown ++ green
   pub there : Front shown order
 
-abbrev pub LifeToShow : List ActionId → List ActionId → Life → Type 0
+abbrev pub LifeToShow : List ActionId → List ActionId → NodeState → Type 0
 LifeToShow order greens (Up r disk) = Unit {0}
 LifeToShow order greens (Down disk green) = IsToShow order green greens
 
-abbrev pub SeatToShow : List ActionId → List ActionId → Option Seat → Type 0
-SeatToShow order greens None = Unit {0}
-SeatToShow order greens (Some s) = LifeToShow order greens s.life
+abbrev pub NodeToShow : List ActionId → List ActionId → Option Node → Type 0
+NodeToShow order greens None = Unit {0}
+NodeToShow order greens (Some s) = LifeToShow order greens s.life
 
-abbrev pub LifeIsDown : Life → Type 0
+abbrev pub LifeIsDown : NodeState → Type 0
 LifeIsDown (Up r disk) = ⊥
 LifeIsDown (Down disk green) = Unit {0}
 
-abbrev pub SeatIsDown : Option Seat → Type 0
-SeatIsDown None = ⊥
-SeatIsDown (Some s) = LifeIsDown s.life
+abbrev pub NodeIsDown : Option Node → Type 0
+NodeIsDown None = ⊥
+NodeIsDown (Some s) = LifeIsDown s.life
 
 -- it holds of all that is held
 pub record HoldsFine (Fine : Action → Type 0) (h : Held) : Type 0 where
@@ -91,19 +91,19 @@ module _ (p n : ℕ) where
   abbrev pub IsMessageShown : Msg → Type 0
   IsMessageShown m = OfMessage IsActionShown m
 
-  abbrev pub LifeShown : Life → Type 0
+  abbrev pub LifeShown : NodeState → Type 0
   LifeShown (Up r disk) = HoldsFine IsActionShown r.held × HoldsFine IsActionShown disk.content
   LifeShown (Down disk green) = HoldsFine IsActionShown disk.content × Each IsNameShown green
 
-  abbrev pub SeatShown : Option Seat → Type 0
-  SeatShown None = Unit {0}
-  SeatShown (Some s) = LifeShown s.life
+  abbrev pub NodeShown : Option Node → Type 0
+  NodeShown None = Unit {0}
+  NodeShown (Some s) = LifeShown s.life
 
   -- so many of its actions were shown as made, and no other replica, no message and no place of the order has one above these
   pub record AreShown (w : World) : Type 0 where
     pub rising : Rising 0 w.made
     pub low : n ≤ index_in w.made p
-    pub seats : (q : ℕ) → (q ≡ p → ⊥) → SeatShown (seat_of w q)
+    pub nodes : (q : ℕ) → (q ≡ p → ⊥) → NodeShown (node_of w q)
     pub group : ((conf : ℕ) → Each (λ s. IsMessageShown s.message) (configuration w.group conf).ordered)
         × ((q : ℕ) → Each IsMessageShown (unordered_of w.group q))
     pub order : Each IsNameShown w.order
@@ -116,8 +116,8 @@ pub record KeepsUnshown (w : World) (p : ℕ) : Type 0 where
 -- the order beside a chronicle, what replicas that are down will add to it, and that nobody else has what they didn't show
 pub record OrderFits (c : Chronicle) (w : World) : Type 0 where
   pub book : OrderBook (record c { world = w })
-  pub down : (p : ℕ) → SeatToShow w.order (names_of (stood_of c p)) (seat_of w p)
-  pub others : (p : ℕ) → SeatIsDown (seat_of w p) → KeepsUnshown w p
+  pub down : (p : ℕ) → NodeToShow w.order (names_of (stood_of c p)) (node_of w p)
+  pub others : (p : ℕ) → NodeIsDown (node_of w p) → KeepsUnshown w p
 
 -- ---- what is never taken back
 

@@ -12,7 +12,7 @@ use Rattle.cg_members.specs.Servers.{members_of, was_ever, starting}
 use Rattle.cg_queue.specs.Queue.{names_of}
 use Rattle.cg_records.specs.declared.vulnerable.Vulnerable.{Vulnerable}
 use Rattle.cg_knowledge.specs.declared.summary.Summary.{Summary}
-use Rattle.cg_knowledge.specs.Members.{gone, most_updated}
+use Rattle.cg_knowledge.specs.Summaries.{gone, most_updated}
 use Rattle.cg_knowledge.specs.Primary.{known_primary}
 use Rattle.cg_knowledge.specs.Yellow.{common_yellow}
 use Rattle.cg_knowledge.specs.Vulnerable.{decided}

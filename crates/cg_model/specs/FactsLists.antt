@@ -3,7 +3,7 @@ use Rattle.std.specs.Prelude.{ℕ, suc, ◌≤◌, List, [], ◌∷◌, map, IsT
 use Rattle.cg_members.specs.Servers.{is_server}
 use Rattle.cg_wire.specs.declared.message.Msg.{Msg}
 use Rattle.cg_group.specs.State.{Configuration}
-use Rattle.cg_model.specs.World.{Snapshot}
+use Rattle.cg_model.specs.World.{TransferState}
 use Rattle.cg_model.specs.Chronicle.{Chronicle}
 
 -- the numbers rise strictly, from the given one on
@@ -21,12 +21,12 @@ AreReceived [] = Unit {0}
 AreReceived (c ∷ list) = AreRising c.received × AreReceived list
 
 -- the joiner of each snapshot is a server, as the snapshot has it
-abbrev pub AreForServers : List Snapshot → Type 0
+abbrev pub AreForServers : List TransferState → Type 0
 AreForServers [] = Unit {0}
 AreForServers (s ∷ list) = IsTrue (is_server s.content.members s.joiner) × AreForServers list
 
 pub record ListFacts (c : Chronicle) : Type 0 where
-  pub seats : IsRising 0 (map (λ s. s.id) c.world.seats)
+  pub nodes : IsRising 0 (map (λ s. s.id) c.world.nodes)
   pub standings : IsRising 0 (map (λ s. s.id) c.world.group.replicas)
   pub received : AreReceived c.world.group.configurations
   pub served : AreForServers c.world.snapshots

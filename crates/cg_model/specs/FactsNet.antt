@@ -56,16 +56,16 @@ pub record PastLeft (c : Chronicle) : Type 0 where
 
 -- a replica that has begun has greens and a disk of its own; a joiner has one snapshot at most, and with it the greens that its
 -- giver had; before the start there is nothing
-pub record Seated (c : Chronicle) : Type 0 where
+pub record Hosted (c : Chronicle) : Type 0 where
   pub past : (p : ℕ) → is_some (past_of c p) ≡ has_begun c.world p
   pub disk : (p : ℕ) → IfSome (disk_held c.world p) (λ h. h.id ≡ p)
   pub copied : (joiner : ℕ) → map (λ x. x.giver) (copies_for c joiner) ≡
       map (λ s. s.giver) (snapshots_for c.world joiner)
   pub once : (joiner : ℕ) → length (snapshots_for c.world joiner) ≤ 1
-  pub before : c.world.seats ≡ [] → c ≡ no_chronicle
+  pub before : c.world.nodes ≡ [] → c ≡ no_chronicle
 
 pub record NetFacts (c : Chronicle) : Type 0 where
-  pub seated : Seated c
+  pub hosted : Hosted c
   pub phase_sound : PhaseSound c
   pub receipts_inside : ReceiptsInside c
   pub sender_closed : SenderClosed c

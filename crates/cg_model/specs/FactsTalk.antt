@@ -7,7 +7,7 @@ use Rattle.cg_base.specs.Lists.{at_place, count_up}
 use Rattle.cg_base.specs.Sets.{has, is_within}
 use Rattle.cg_action.specs.declared.action.Action.{Action}
 use Rattle.cg_knowledge.specs.declared.summary.Summary.{Summary}
-use Rattle.cg_knowledge.specs.Members.{remaining}
+use Rattle.cg_knowledge.specs.Summaries.{remaining}
 use Rattle.cg_wire.specs.declared.message.Msg.{Msg}
 use Rattle.cg_wire.specs.declared.message.Msg.TheVariants.{GreenItem}
 use Rattle.cg_group.specs.declared.phase.Phase.{Phase}

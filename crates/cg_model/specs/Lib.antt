@@ -5,7 +5,7 @@ pub mod Show
 pub mod Step
 pub mod Run
 pub mod Schedules
-pub mod SeatLaws
+pub mod NodeLaws
 pub mod PhaseLaws
 pub mod Shown
 pub mod Quiet

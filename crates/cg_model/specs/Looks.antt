@@ -13,8 +13,8 @@ use Rattle.cg_group.specs.declared.phase.Phase.TheVariants.{Regular, Transitiona
 use Rattle.cg_group.specs.State.{Sent, Configuration, configuration, phase_of, unordered_of, has_received}
 use Rattle.cg_group.specs.Ready.{all_received}
 use Rattle.cg_client.specs.Replica.{Held}
-use Rattle.cg_model.specs.World.{Life, Up, Down, Snapshot, World, seat_of, replica_of}
-use Rattle.cg_model.specs.Step.{joined}
+use Rattle.cg_model.specs.World.{NodeState, Up, Down, TransferState, World, node_of, replica_of}
+use Rattle.cg_model.specs.Step.{joiner_replica}
 use Rattle.cg_model.specs.Attempts.{held_in}
 use Rattle.cg_model.specs.Chronicle.{Past, Told, Attempt, Copy, Chronicle}
 
@@ -132,26 +132,26 @@ left_count a p = option_map_or (λ l. l.count) (find (λ l. l.member == p) a.lef
 -- ---- cores
 
 -- what stands on a replica's disk, as a replica holds it
-abbrev pub on_disk : Life → Held
+abbrev pub on_disk : NodeState → Held
 on_disk (Up r disk) = disk.content
 on_disk (Down disk green) = disk.content
 
 abbrev pub disk_held : World → ℕ → Option Held
-disk_held w p = option_map (λ s. on_disk s.life) (seat_of w p)
+disk_held w p = option_map (λ s. on_disk s.life) (node_of w p)
 
 -- what a replica has: as it runs, or, where it is down, as its disk has it
 abbrev pub core_of : Chronicle → ℕ → Option Held
-core_of c p = option_map (λ s. held_in s.life) (seat_of c.world p)
+core_of c p = option_map (λ s. held_in s.life) (node_of c.world p)
 
 -- the snapshot under way for a joiner, and its greens
-abbrev pub snapshot_of : World → ℕ → Option Snapshot
+abbrev pub snapshot_of : World → ℕ → Option TransferState
 snapshot_of w joiner = find (λ s. s.joiner == joiner) w.snapshots
 
 abbrev pub copy_of : Chronicle → ℕ → Option Copy
 copy_of c joiner = find (λ x. x.joiner == joiner) c.copies
 
 -- all snapshots for a joiner, and all copies: there is no more than one
-abbrev pub snapshots_for : World → ℕ → List Snapshot
+abbrev pub snapshots_for : World → ℕ → List TransferState
 snapshots_for w joiner = filter (λ s. s.joiner == joiner) w.snapshots
 
 abbrev pub copies_for : Chronicle → ℕ → List Copy
@@ -165,4 +165,4 @@ pub record OfCores (c : Chronicle) (P : Held → List Action → Type 0) : Type 
   pub memory : (p : ℕ) → IfSome (replica_of c.world p) (λ r. P r.held (greens_of c p))
   pub disk : (p : ℕ) → IfSome (disk_held c.world p) (λ h. P h (stood_of c p))
   pub snapshot : (joiner : ℕ) →
-      IfSome (snapshot_of c.world joiner) (λ s. P (joined joiner s.content).held (copied_for c joiner))
+      IfSome (snapshot_of c.world joiner) (λ s. P (joiner_replica joiner s.content).held (copied_for c joiner))

@@ -15,19 +15,19 @@ use Rattle.cg_model.specs.FactsReplica.{GoesOn, IsAsOnDisk}
 use Rattle.cg_model.specs.Facts.{Invariant, Rests, Moves}
 
 -- a snapshot, but for how much of it was taken
-pub record Given : Type 0 where
+pub record GivenSnapshot : Type 0 where
   pub joiner : ℕ
   pub giver : ℕ
   pub content : Held
 
-abbrev pub given_for : World → ℕ → List Given
+abbrev pub given_for : World → ℕ → List GivenSnapshot
 given_for w joiner =
     map (λ s. record { joiner = s.joiner; giver = s.giver; content = s.content }) (snapshots_for w joiner)
 
 -- two worlds are one for the facts, but for what was printed, what a disk has beside its content, and the order of the snapshots
 pub record IsSame (w v : World) : Type 0 where
   pub group : w.group ≡ v.group
-  pub seats : map (λ s. s.id) w.seats ≡ map (λ s. s.id) v.seats
+  pub nodes : map (λ s. s.id) w.nodes ≡ map (λ s. s.id) v.nodes
   pub running : (p : ℕ) → replica_of w p ≡ replica_of v p
   pub disk : (p : ℕ) → disk_held w p ≡ disk_held v p
   pub given : (joiner : ℕ) → given_for w joiner ≡ given_for v joiner

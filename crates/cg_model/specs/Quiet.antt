@@ -12,7 +12,7 @@ use Rattle.cg_queue.specs.Queue.{green_count, names_of}
 use Rattle.cg_wire.specs.declared.message.Msg.{Msg}
 use Rattle.cg_wire.specs.declared.message.Msg.TheVariants.{Action as ActionMsg, State as StateMsg}
 use Rattle.cg_knowledge.specs.declared.summary.Summary.{Summary}
-use Rattle.cg_knowledge.specs.Members.{gone, remaining}
+use Rattle.cg_knowledge.specs.Summaries.{gone, remaining}
 use Rattle.cg_knowledge.specs.Verdict.{decides}
 use Rattle.cg_group.specs.State.{GroupState, configuration, phase_of, regular_in, delivered_to, unordered_of}
 use Rattle.cg_group.specs.Ready.{all_received}

@@ -42,9 +42,9 @@ abbrev pub MayStand : World → Event → Type 0
 MayStand w (Start set) = (w ≡ no_world) × IsWeightSet set
 MayStand w (Rounds count) = ⊥
 MayStand w End = ⊥
-MayStand w (Split set) = (0 < length w.seats) × IsSet set
-MayStand w (Merge set) = (0 < length w.seats) × IsSet set
-MayStand w other = (0 < length w.seats) × MayAsk other
+MayStand w (Split set) = (0 < length w.nodes) × IsSet set
+MayStand w (Merge set) = (0 < length w.nodes) × IsSet set
+MayStand w other = (0 < length w.nodes) × MayAsk other
 
 -- so many steps may be made
 abbrev pub step_limit : ℕ

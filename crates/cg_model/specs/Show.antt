@@ -23,7 +23,7 @@ use Rattle.cg_report.specs.declared.line.ShownPhase.TheVariants.{Alone as ShownA
 use Rattle.cg_report.specs.declared.line.UpLine.{UpLine}
 use Rattle.cg_report.specs.declared.line.Line.{Line}
 use Rattle.cg_report.specs.contracts.line.LinePartialEq.TheImpl.{ghosts as line}
-use Rattle.cg_model.specs.World.{Seat, World, running}
+use Rattle.cg_model.specs.World.{Node, World, running}
 
 -- a reply, with the place of its action in the global order
 pub record Answered : Type 0 where
@@ -31,7 +31,7 @@ pub record Answered : Type 0 where
   pub reply : Reply
 
 -- a step under way: the world so far, and what is to be shown of it but for the lines
-pub record Going : Type 0 where
+pub record StepInProgress : Type 0 where
   pub world : World
   pub made : List Made
   pub orders : List Placed
@@ -42,14 +42,14 @@ pub record Going : Type 0 where
 
 -- what came of an event at a replica: the actions that are made, the names that became green at it, the number of its
 -- greens with these, and the replies that it gives
-pub record News : Type 0 where
+pub record EventEffects : Type 0 where
   pub made : List Action
   pub green : List ActionId
   pub count : ℕ
   pub replies : List Reply
 
 -- of a turn
-abbrev pub news_of : Turn → News
+abbrev pub news_of : Turn → EventEffects
 news_of t = record { made = t.made; green = t.green; count = green_count t.replica.held.queue; replies = t.replies }
 
 -- the replica's own red actions that weren't shown as made
@@ -57,7 +57,7 @@ abbrev pub unshown : List ActionId → Held → List Action
 unshown made h = filter (λ a. (a.id.creator == h.id) && nat_lt (index_in made h.id) a.id.index) h.queue.reds
 
 -- of a recovery, from the names that were newly green as the replica went down
-abbrev pub news_of_recovery : List ActionId → Held → List ActionId → News
+abbrev pub news_of_recovery : List ActionId → Held → List ActionId → EventEffects
 news_of_recovery made h green = record {
   made = unshown made h;
   green = green;
@@ -88,7 +88,7 @@ with_answered [] new = new ∷ []
 with_answered (r ∷ replies) new = if nat_lt new.place r.place then new ∷ r ∷ replies else r ∷ with_answered replies new
 
 -- what came of an event at a replica is to be shown: the actions made, the places that the order gained, and the replies
-abbrev pub tell : Going → News → Going
+abbrev pub tell : StepInProgress → EventEffects → StepInProgress
 tell g n =
     record g {
       world = record g.world {
@@ -113,7 +113,7 @@ abbrev pub up_line : Phase → Replica → UpLine
 up_line phase r = record { state = state_name r.state; phase = shown_phase phase; view = view_of r.held }
 
 -- the line of a replica
-abbrev pub line_of : GroupState Msg → Seat → Line
+abbrev pub line_of : GroupState Msg → Node → Line
 line_of g s = record { id = s.id; up = option_map (up_line (phase_of g s.id)) (running s.life) }
 
 -- the line differs from the last one printed of its replica
@@ -133,10 +133,10 @@ pub record Moved : Type 0 where
   pub world : World
 
 -- a step ends: the lines that differ from the last printed ones are printed, ascending by replica
-unfoldable pub ended : Going → Moved
+unfoldable pub ended : StepInProgress → Moved
 ended g =
     let w = g.world in
-    let lines = filter (is_news w.lines) (map (line_of w.group) w.seats) in
+    let lines = filter (is_news w.lines) (map (line_of w.group) w.nodes) in
     record {
       entry = record {
         made = g.made;

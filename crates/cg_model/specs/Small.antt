@@ -16,11 +16,11 @@ use Rattle.cg_group.specs.Events.{send_all, order, receive, delivery_at, deliver
 use Rattle.cg_client.specs.Replica.{Held, State, Replica}
 use Rattle.cg_client.specs.Turn.{Turn, begin}
 use Rattle.cg_client.specs.Requests.{settle, request}
-use Rattle.cg_stored.specs.Stored.{stored_of, whiten}
-use Rattle.cg_step.specs.Step.{take}
+use Rattle.cg_disk_records.specs.Stored.{stored_of, whiten}
+use Rattle.cg_replica_step.specs.Step.{after_delivery}
 use Rattle.cg_commit.specs.Crash.{Disk, new_disk, at_rest, recovered, disk_recovered}
-use Rattle.cg_model.specs.World.{Life, Up, Down, World, seat_of, replica_of, set_life, bring_up, bring_down}
-use Rattle.cg_model.specs.Step.{begin_replica, joined, without_snapshot}
+use Rattle.cg_model.specs.World.{NodeState, Up, Down, World, node_of, replica_of, set_life, bring_up, bring_down}
+use Rattle.cg_model.specs.Step.{begin_replica, joiner_replica, without_snapshot}
 use Rattle.cg_model.specs.Attempts.{with_attempt_of}
 use Rattle.cg_model.specs.Chronicle.{Past, Told, Attempt, Chronicle}
 use Rattle.cg_model.specs.Looks.{greens_of, stood_of, conf_at, attempt_of, snapshot_of, copied_for}
@@ -152,15 +152,15 @@ after_turn c p r disk t =
     }
 
 -- a replica takes part of its turn, where it is up
-abbrev pub turning_as : Chronicle → ℕ → (Turn → Turn) → Life → Chronicle
+abbrev pub turning_as : Chronicle → ℕ → (Turn → Turn) → NodeState → Chronicle
 turning_as c p part (Up r disk) = after_turn c p r disk (part (begin r))
 turning_as c p part (Down disk green) = c
 
 abbrev pub turning : Chronicle → ℕ → (Turn → Turn) → Chronicle
-turning c p part = option_map_or (λ s. turning_as c p part s.life) (seat_of c.world p) c
+turning c p part = option_map_or (λ s. turning_as c p part s.life) (node_of c.world p) c
 
 abbrev pub take_all : List (Delivery Msg) → Turn → Turn
-take_all list t = fold take t list
+take_all list t = fold after_delivery t list
 
 -- ---- steps
 
@@ -218,7 +218,7 @@ abbrev pub leave_with : Chronicle → ℕ → List ℕ → ℕ → List ℕ → 
 leave_with c p set own places = turning (leaving c p set own) p (take_parting c.world.group p set places)
 
 -- the white count rises to the white line, and what is held stands on the disk
-abbrev pub commit_as : Chronicle → ℕ → Life → Chronicle
+abbrev pub commit_as : Chronicle → ℕ → NodeState → Chronicle
 commit_as c p (Down disk green) = c
 commit_as c p (Up r disk) =
     let h = whiten r.held in
@@ -228,10 +228,10 @@ commit_as c p (Up r disk) =
     }
 
 abbrev pub commit : Chronicle → ℕ → Chronicle
-commit c p = option_map_or (λ s. commit_as c p s.life) (seat_of c.world p) c
+commit c p = option_map_or (λ s. commit_as c p s.life) (node_of c.world p) c
 
 -- what isn't on the disk is lost; the snapshots of the replica end
-abbrev pub crash_as : Chronicle → ℕ → Life → Chronicle
+abbrev pub crash_as : Chronicle → ℕ → NodeState → Chronicle
 crash_as c p (Down disk green) = c
 crash_as c p (Up r disk) =
     let gone = note_leaving c p (length (stood_of c p)) in
@@ -242,14 +242,14 @@ crash_as c p (Up r disk) =
     }
 
 abbrev pub crash : Chronicle → ℕ → Chronicle
-crash c p = option_map_or (λ s. crash_as c p s.life) (seat_of c.world p) c
+crash c p = option_map_or (λ s. crash_as c p s.life) (node_of c.world p) c
 
-abbrev pub recover_as : Chronicle → Life → Chronicle
+abbrev pub recover_as : Chronicle → NodeState → Chronicle
 recover_as c (Up r disk) = c
 recover_as c (Down disk green) = record c { world = bring_up c.world (recovered disk) (disk_recovered disk) }
 
-abbrev pub recover : Chronicle → ℕ → Chronicle
-recover c p = option_map_or (λ s. recover_as c s.life) (seat_of c.world p) c
+abbrev pub note_recovery : Chronicle → ℕ → Chronicle
+note_recovery c p = option_map_or (λ s. recover_as c s.life) (node_of c.world p) c
 
 -- each replica begins with an empty disk
 abbrev pub start : Chronicle → List Weighted → Chronicle
@@ -275,7 +275,7 @@ copy c p joiner = option_map_or (copy_as c p joiner) (replica_of c.world p) c
 -- the joiner begins with what its snapshot has
 abbrev pub join_with : Chronicle → ℕ → Held → Chronicle
 join_with c joiner content =
-    let r = joined joiner content in
+    let r = joiner_replica joiner content in
     record c {
       world = bring_up (without_snapshot c.world joiner) r (new_disk r.held);
       pasts = with_past c.pasts (new_past (copied_for c joiner) joiner);
@@ -300,6 +300,6 @@ small_step c (Asks p kind) = turning c p (take_request kind)
 small_step c (Settles p) = turning c p settle
 small_step c (Commits p) = commit c p
 small_step c (Crashes p) = crash c p
-small_step c (Recovers p) = recover c p
+small_step c (Recovers p) = note_recovery c p
 small_step c (Copies p joiner) = copy c p joiner
 small_step c (Joins joiner) = join c joiner

@@ -15,7 +15,7 @@ use Rattle.cg_group.specs.Events.{regulars, order_all, furthest, transitional_pl
 use Rattle.cg_group.specs.Refusals.{sender_at, order_refusal, receive_refusal}
 use Rattle.cg_client.specs.Replica.{State, TransPrim, No, Un, NonPrim}
 use Rattle.cg_commit.specs.Commit.{commits}
-use Rattle.cg_commit.specs.Crash.{Ended, Runs, Crashes as EndsInCrash}
+use Rattle.cg_commit.specs.Crash.{EventEnd, Runs, Crashes as EndsInCrash}
 use Rattle.cg_schedule.specs.declared.event.Event.{Event}
 use Rattle.cg_schedule.specs.declared.event.Event.TheVariants.{Start, Split, Merge, Request, Order, Recover, Gather, Receive, Deliver, Stop, Join, Leave, Transfer}
 use Rattle.cg_model.specs.World.{World, has_begun, replica_of, is_left}
@@ -90,7 +90,7 @@ abbrev pub is_running : Chronicle → ℕ → Bool
 is_running c p = is_some (replica_of c.world p)
 
 unfoldable pub may_make : Chronicle → Small → Bool
-may_make c (Starts set) = is_nil c.world.seats && is_set (ids set)
+may_make c (Starts set) = is_nil c.world.nodes && is_set (ids set)
 may_make c (Makes set) = not (is_nil set) && is_set set && list_all (may_come c) set
 may_make c (Enters p) = may_enter c p
 may_make c (Orders p) = is_none (order_refusal c.world.group p)
@@ -109,7 +109,7 @@ may_make c (Joins joiner) = may_join c joiner
 -- ---- which ones an event is made of
 
 -- a turn of these steps ends with its commit, where it makes one; a crash that it doesn't outlive leaves nothing of it
-abbrev pub ending_as : Taken → List Small → Ended → List Small
+abbrev pub ending_as : Taken → List Small → EventEnd → List Small
 ending_as t steps (Runs r disk) = steps ++ (if commits t.before.held t.turn then Commits t.id ∷ [] else [])
 ending_as t steps (EndsInCrash disk green) = if stands t
     then steps ++ Commits t.id ∷ Crashes t.id ∷ [] else Crashes t.id ∷ []

@@ -9,11 +9,11 @@ use Rattle.cg_wire.specs.declared.message.Msg.{Msg}
 use Rattle.cg_group.specs.declared.delivery.Handed.{Handed}
 use Rattle.cg_group.specs.Events.{HandedOut, deliver, split, merge}
 use Rattle.cg_schedule.specs.declared.event.Event.{Event}
-use Rattle.cg_step.specs.Step.{Deliveries, Asks}
-use Rattle.cg_step.specs.Recorded.{AreBooked}
+use Rattle.cg_replica_step.specs.Step.{Deliveries, Asks}
+use Rattle.cg_replica_step.specs.Recorded.{AreBooked}
 use Rattle.cg_model.specs.World.{World, no_world, replica_of}
 use Rattle.cg_model.specs.Admission.{first_refusal}
-use Rattle.cg_model.specs.Show.{Going}
+use Rattle.cg_model.specs.Show.{StepInProgress}
 use Rattle.cg_model.specs.Step.{quietly, hand_over, world_step}
 use Rattle.cg_model.specs.Run.{MayStand}
 use Rattle.cg_model.specs.Chronicle.{Chronicle, no_chronicle}
@@ -69,7 +69,7 @@ abbrev pub IsHandedBooked : (ActionId → Action) → World → Handed Msg → T
 IsHandedBooked book w h = IfSome (replica_of w h.to) (λ r. AreBooked book r.held (Deliveries h.list))
 
 -- of each in its turn, behind the turns of those before it
-abbrev pub AreBookedInTurn : (ActionId → Action) → Going → List (Handed Msg) → Type 0
+abbrev pub AreBookedInTurn : (ActionId → Action) → StepInProgress → List (Handed Msg) → Type 0
 AreBookedInTurn book g [] = Unit {0}
 AreBookedInTurn book g (h ∷ list) = IsHandedBooked book g.world h × AreBookedInTurn book (hand_over g h) list
 

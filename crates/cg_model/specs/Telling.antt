@@ -9,7 +9,7 @@ use Rattle.cg_queue.specs.Queue.{green_count}
 use Rattle.cg_report.specs.declared.line.Line.{Line}
 use Rattle.cg_report.specs.declared.line.UpLine.{UpLine}
 use Rattle.cg_client.specs.Replica.{Replica}
-use Rattle.cg_model.specs.World.{Seat, World, no_world, replica_of}
+use Rattle.cg_model.specs.World.{Node, World, no_world, replica_of}
 use Rattle.cg_model.specs.Show.{line_of}
 use Rattle.cg_model.specs.Run.{Step, IsRunFrom, world_after}
 use Rattle.cg_model.specs.Shown.{order_of, made_names, lines_in, position_of, white_of, made_from, start_of}
@@ -44,7 +44,7 @@ pub record Tells (steps : List Step) (c : Chronicle) : Type 0 where
   pub start : start_of steps ≡ c.start
   pub order : order_of steps ≡ c.world.order
   pub shown : (p : ℕ) → printed c.world p ≡ last_line p steps
-  pub stands : (s : Seat) → Contains c.world.seats s → printed c.world s.id ≡ Some (line_of c.world.group s)
+  pub stands : (s : Node) → Contains c.world.nodes s → printed c.world s.id ≡ Some (line_of c.world.group s)
   pub position : (p : ℕ) (r : Replica) → replica_of c.world p ≡ Some r → position_of p steps ≡ green_count r.held.queue
   pub white : (p : ℕ) (r : Replica) → replica_of c.world p ≡ Some r → white_of p steps ≡ r.held.queue.white
   pub made : (id : ActionId) → 1 ≤ id.index →

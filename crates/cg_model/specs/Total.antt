@@ -9,7 +9,7 @@ use Rattle.cg_base.specs.Choice.{Either}
 use Rattle.cg_action.specs.declared.action.Action.{Action}
 use Rattle.cg_queue.specs.Queue.{QueueView, green_count, names_of}
 use Rattle.cg_knowledge.specs.declared.summary.Summary.{Summary}
-use Rattle.cg_knowledge.specs.Members.{senders, gone}
+use Rattle.cg_knowledge.specs.Summaries.{senders, gone}
 use Rattle.cg_knowledge.specs.Yellow.{common_yellow}
 use Rattle.cg_plan.specs.declared.parts.Part.{Part}
 use Rattle.cg_plan.specs.Items.{items_of}
@@ -29,7 +29,7 @@ use Rattle.cg_exchange.specs.ExchangeActions.{message_of, progress, is_next, tak
 use Rattle.cg_exchange.specs.ExchangeStates.{is_usable}
 use Rattle.cg_exchange.specs.PlanEnd.{usable_names}
 use Rattle.cg_construct.specs.Construct.{attempt_set, is_announced}
-use Rattle.cg_step.specs.Step.{take as take_one}
+use Rattle.cg_replica_step.specs.Step.{after_delivery as take_one}
 use Rattle.cg_schedule.specs.declared.event.Event.{Event}
 use Rattle.cg_model.specs.World.{World, replica_of}
 use Rattle.cg_model.specs.Admission.{first_refusal}

@@ -13,7 +13,7 @@ use Rattle.cg_model.specs.Run.{MayStand}
 use Rattle.cg_model.specs.Chronicle.{Chronicle}
 use Rattle.cg_model.specs.Standing.{IsReached}
 
--- the replicas whose seat or phase an event may change, ascending
+-- the replicas whose node or phase an event may change, ascending
 unfoldable pub touched : Event → List ℕ
 touched (Start set) = ids set
 touched (Split set) = set
@@ -38,11 +38,11 @@ touched (Transfer p joiner pieces) = joiner ∷ []
 
 -- the lines that differ from the last printed ones, ascending by replica
 abbrev pub new_lines : World → List Line
-new_lines w = filter (is_news w.lines) (map (line_of w.group) w.seats)
+new_lines w = filter (is_news w.lines) (map (line_of w.group) w.nodes)
 
 -- those of these replicas
 abbrev pub new_lines_of : List ℕ → World → List Line
-new_lines_of set w = filter (is_news w.lines) (map (line_of w.group) (filter (λ s. has set s.id) w.seats))
+new_lines_of set w = filter (is_news w.lines) (map (line_of w.group) (filter (λ s. has set s.id) w.nodes))
 
 -- the new lines of the world are those of these replicas
 abbrev pub ShowsNewsOf : List ℕ → World → Type 0

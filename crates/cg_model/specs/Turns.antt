@@ -6,11 +6,11 @@ use Rattle.cg_wire.specs.declared.message.Msg.{Msg}
 use Rattle.cg_group.specs.Events.{HandedOut, deliver, split, merge}
 use Rattle.cg_client.specs.Replica.{Replica}
 use Rattle.cg_client.specs.Turn.{Turn}
-use Rattle.cg_step.specs.Step.{Input, Deliveries, Asks, replica_step}
-use Rattle.cg_commit.specs.Crash.{Strike, Disk, Ended, Runs, Crashes, is_committed, end_event}
+use Rattle.cg_replica_step.specs.Step.{Input, Deliveries, Asks, replica_step}
+use Rattle.cg_commit.specs.Crash.{Strike, Disk, EventEnd, Runs, Crashes, is_committed, end_event}
 use Rattle.cg_schedule.specs.declared.event.Event.{Event}
 use Rattle.cg_schedule.specs.declared.event.Event.TheVariants.{Split, Merge, Request, Deliver, Join, Leave}
-use Rattle.cg_model.specs.World.{Life, Up, Down, World, seat_of}
+use Rattle.cg_model.specs.World.{NodeState, Up, Down, World, node_of}
 
 -- a replica has taken its turn: what it was before, with its disk, the turn, and how it ended
 pub record Taken : Type 0 where
@@ -18,19 +18,19 @@ pub record Taken : Type 0 where
   pub before : Replica
   pub disk : Disk
   pub turn : Turn
-  pub ended : Ended
+  pub ended : EventEnd
 
 -- a replica takes its turn, where it is up
 abbrev pub taken_by : ℕ → Replica → Disk → Turn → Taken
 taken_by p r disk t = record { id = p; before = r; disk = disk; turn = t; ended = end_event disk r.held t }
 
-abbrev pub taken_as : ℕ → Input → Life → List Taken
+abbrev pub taken_as : ℕ → Input → NodeState → List Taken
 taken_as p input (Up r disk) = taken_by p r disk (replica_step r input) ∷ []
 taken_as p input (Down disk green) = []
 
 -- a replica that has begun takes its turn, where it is up
 abbrev pub taken : World → ℕ → Input → List Taken
-taken w p input = option_map_or (λ s. taken_as p input s.life) (seat_of w p) []
+taken w p input = option_map_or (λ s. taken_as p input s.life) (node_of w p) []
 
 -- the turns of those to whom the group hands something
 abbrev pub turns_in : World → HandedOut Msg → List Taken
@@ -52,7 +52,7 @@ is_kept None = false
 is_kept (Some strike) = is_committed strike
 
 -- the event stands: the replica runs on, or its disk has the event
-abbrev pub stands_as : Option Strike → Ended → Bool
+abbrev pub stands_as : Option Strike → EventEnd → Bool
 stands_as armed (Runs r disk) = true
 stands_as armed (Crashes disk green) = is_kept armed
 

@@ -23,7 +23,7 @@ use Rattle.cg_schedule.specs.Print.{line_of}
 use Rattle.cg_model.specs.World.{World, has_begun, up_replicas}
 use Rattle.cg_model.specs.Admission.{first_refusal}
 use Rattle.cg_model.specs.Run.{step_limit}
-use Rattle.cg_model.specs.SeatLaws.{begun_stay, up_begun}
+use Rattle.cg_model.specs.NodeLaws.{begun_stay, up_begun}
 use Rattle.cg_outcome.specs.Outcome.{Ending, Ended, Failed, Open, lines_alone, performed, pieces_for, read_outcome, line_outcome, without_return, limit_of, unless_passed, whole_line, at_end, cut_line, last_piece, replayed, companion_for, outcome_of, outcome}
 use Rattle.cg_outcome.specs.declared.command.Command.{Command}
 use Rattle.cg_outcome.specs.declared.command.Command.TheVariants.{Generate, Trial}

@@ -22,7 +22,7 @@ use Rattle.cg_model.specs.Admission.{first_refusal}
 use Rattle.cg_model.specs.Step.{world_step}
 use Rattle.cg_model.specs.Run.{Step, world_after, step_limit, MayStand, IsRunFrom}
 use Rattle.cg_model.specs.EveryRun.{Agreement, IsRefused, EveryRunAgrees}
-use Rattle.cg_model.specs.SeatLaws.{step_seats}
+use Rattle.cg_model.specs.NodeLaws.{step_nodes}
 use Rattle.cg_terms.specs.Terms.{Guarantees, AgreementGuarantees}
 use Rattle.cg_outcome.specs.declared.command.Command.{Command}
 use Rattle.cg_outcome.specs.declared.command.Command.TheVariants.{Generate, Trial}
@@ -131,8 +131,8 @@ behind asked event s =
     }
 
 -- behind a start that was read replicas have begun
-seated_under_way : (s : Progress) → s.reader.started ≡ true → 0 < length s.world.seats → IsUnderWay s
-seated_under_way s started some = record { before = λ e. absurd (let clash : true ≡ false = sym started ∙ e in cc); begun = λ e. some }
+hosted_under_way : (s : Progress) → s.reader.started ≡ true → 0 < length s.world.nodes → IsUnderWay s
+hosted_under_way s started some = record { before = λ e. absurd (let clash : true ≡ false = sym started ∙ e in cc); begun = λ e. some }
 
 next_number : (n : ℕ) → n + 1 ≡ suc n
 next_number n = omega arith
@@ -175,7 +175,7 @@ Holds-acted n e s first under = by_limit (nat_lt s.count step_limit) refl where
 Holds-one_step : (n : ℕ) (asked : Option Further) (event : Event) (s : Progress) → IsAdmitted s asked → MayStand s.world event → s.reader.started ≡ true → Holds s (one_step n asked event s)
 Holds-one_step n asked event s first may started = by_refusal (first_refusal s.world event) refl where
   by_refusal : (o : Option Reason) → first_refusal s.world event ≡ o → Holds s (unless_refused o n asked event s)
-  by_refusal None e = Holds-stepped n asked event s first may e (seated_under_way (behind asked event s) started (step_seats s.world event may e))
+  by_refusal None e = Holds-stepped n asked event s first may e (hosted_under_way (behind asked event s) started (step_nodes s.world event may e))
   by_refusal (Some reason) e = Holds-refused_with n event reason s e
 
 -- a further event stands for one that may stand in the world
@@ -299,7 +299,7 @@ IsOther (Rounds count) = ⊥
 IsOther End = ⊥
 IsOther other = Unit {0}
 
-other_stands : (w : World) (e : Event) → IsOther e → 0 < length w.seats → IsEvent e → MayStand w e
+other_stands : (w : World) (e : Event) → IsOther e → 0 < length w.nodes → IsEvent e → MayStand w e
 other_stands w (Start set) o some within = absurd o
 other_stands w (Rounds count) o some within = absurd o
 other_stands w End o some within = absurd o
@@ -321,7 +321,7 @@ Holds-read n other s under fit within =
     Holds-moved s other (one_step n None other (moved other s)) (Holds-one_step n None other (moved other s) tt (other_stands s.world other tt (under.begun started) within) started)
 
 -- a further event that was read stands for one that may stand in a world with replicas: none is read yet
-further_stands : (w : World) (c : Companion) (line : List ℕ) (e : Further) → 0 < length w.seats → further_reading c line ≡ Ok (Some e) → StandsFor w e
+further_stands : (w : World) (c : Companion) (line : List ℕ) (e : Further) → 0 < length w.nodes → further_reading c line ≡ Ok (Some e) → StandsFor w e
 further_stands w other line e some is = absurd cc
 
 -- a reading that gives a further event

@@ -132,7 +132,7 @@ early n at (l ∷ ls) rest how s k some is e none =
 
 -- ---- the front of the bytes that ends with so many lines
 
-record Cut (n : ℕ) (taken : List ℕ) : Type 0 where
+record CutLines (n : ℕ) (taken : List ℕ) : Type 0 where
   ls : List (List ℕ)
   rest : List (List ℕ)
   whole : pieces_of 10 taken ≡ ls ++ rest
@@ -141,15 +141,15 @@ record Cut (n : ℕ) (taken : List ℕ) : Type 0 where
   front : pieces_of 10 (take (end_of_line n (pieces_of 10 taken)) taken) ≡ ls ++ [] ∷ []
 
 -- a line that has its end stands before a line feed
-record Line (bs line : List ℕ) (ps : List (List ℕ)) : Type 0 where
+record EndedLine (bs line : List ℕ) (ps : List (List ℕ)) : Type 0 where
   behind : List ℕ
   whole : bs ≡ line ++ 10 ∷ behind
   others : pieces_of 10 behind ≡ ps
 
 line-step : (b : ℕ) (bs line q : List ℕ) (qs : List (List ℕ)) →
-    ((l : List ℕ) (p : List ℕ) (ps : List (List ℕ)) → pieces_of 10 bs ≡ l ∷ p ∷ ps → Line bs l (p ∷ ps))
+    ((l : List ℕ) (p : List ℕ) (ps : List (List ℕ)) → pieces_of 10 bs ≡ l ∷ p ∷ ps → EndedLine bs l (p ∷ ps))
     → (t : Bool) → (b == 10) ≡ t → cond t ([] ∷ pieces_of 10 bs) (onto_first b (pieces_of 10 bs)) ≡ line ∷ q ∷ qs →
-    Line (b ∷ bs) line (q ∷ qs)
+    EndedLine (b ∷ bs) line (q ∷ qs)
 line-step b bs line q qs before true test e =
     let none : line ≡ [] = cc in
     let here : b ≡ 10 = eqb-true b 10 test in
@@ -157,7 +157,7 @@ line-step b bs line q qs before true test e =
     record { behind = bs; whole = rw (none, here) refl; others = rest }
 line-step b bs line q qs before false test e = onto (pieces_of 10 bs) refl e where
   onto : (parts : List (List ℕ)) → pieces_of 10 bs ≡ parts → onto_first b parts ≡ line ∷ q ∷ qs →
-      Line (b ∷ bs) line (q ∷ qs)
+      EndedLine (b ∷ bs) line (q ∷ qs)
   onto [] is e = absurd (cc)
   onto (l ∷ []) is e = absurd (cc)
   onto (l ∷ p ∷ ps) is e =
@@ -170,11 +170,11 @@ line-step b bs line q qs before false test e = onto (pieces_of 10 bs) refl e whe
         others = h.others ∙ next;
       }
 
-line-cut : (bs line q : List ℕ) (qs : List (List ℕ)) → pieces_of 10 bs ≡ line ∷ q ∷ qs → Line bs line (q ∷ qs)
+line-cut : (bs line q : List ℕ) (qs : List (List ℕ)) → pieces_of 10 bs ≡ line ∷ q ∷ qs → EndedLine bs line (q ∷ qs)
 line-cut [] line q qs e = absurd (cc)
 line-cut (b ∷ bs) line q qs e = line-step b bs line q qs (λ l p ps. line-cut bs l p ps) (b == 10) refl e
 
-cut-none : (taken : List ℕ) → Cut zero taken
+cut-none : (taken : List ℕ) → CutLines zero taken
 cut-none taken = record {
   ls = [];
   rest = pieces_of 10 taken;
@@ -185,7 +185,7 @@ cut-none taken = record {
 }
 
 cut-line : (n : ℕ) (taken line q : List ℕ) (qs : List (List ℕ)) → pieces_of 10 taken ≡ line ∷ q ∷ qs →
-    (h : Line taken line (q ∷ qs)) → Cut n h.behind → Cut (suc n) taken
+    (h : EndedLine taken line (q ∷ qs)) → CutLines n h.behind → CutLines (suc n) taken
 cut-line n taken line q qs e h c =
     let all : pieces_of 10 taken ≡ line ∷ pieces_of 10 h.behind = e ∙ ap (λ ps. line ∷ ps) (sym h.others) in
     let unended : IsUnended line = first_unended taken line (q ∷ qs) e in
@@ -206,11 +206,11 @@ cut-line n taken line q qs e h c =
       front = ap (pieces_of 10) cut ∙ line_first line (take m h.behind) unended ∙ ap (λ ps. line ∷ ps) c.front;
     }
 
-cut-at : (n : ℕ) (taken : List ℕ) → end_of_line n (pieces_of 10 taken) < length taken → Cut n taken
+cut-at : (n : ℕ) (taken : List ℕ) → end_of_line n (pieces_of 10 taken) < length taken → CutLines n taken
 cut-at zero taken lt = cut-none taken
 cut-at (suc n) taken lt = by_pieces (pieces_of 10 taken) refl (λ bytes. cut-at n bytes) where
   by_pieces : (ps : List (List ℕ)) → pieces_of 10 taken ≡ ps →
-      ((bytes : List ℕ) → end_of_line n (pieces_of 10 bytes) < length bytes → Cut n bytes) → Cut (suc n) taken
+      ((bytes : List ℕ) → end_of_line n (pieces_of 10 bytes) < length bytes → CutLines n bytes) → CutLines (suc n) taken
   by_pieces [] e before = absurd (true≢false (ap is_nil (sym e) ∙ some_piece taken))
   by_pieces (line ∷ []) e before =
       let long : end_of_line (suc n) (pieces_of 10 taken) ≡ length line + 1 + end_of_line n [] =

@@ -6,9 +6,9 @@ use Rattle.cg_outcome.specs.Produced.{Progress}
 -- a start was read, and its replicas have begun
 pub record HasBegun (s : Progress) : Type 0 where
   pub started : s.reader.started ≡ true
-  pub seated : 0 < length s.world.seats
+  pub hosted : 0 < length s.world.nodes
 
 -- no start was read and the world is the one before it, or a start was and its replicas have begun
 pub record IsUnderWay (s : Progress) : Type 0 where
   pub before : s.reader.started ≡ false → s.world ≡ no_world
-  pub begun : s.reader.started ≡ true → 0 < length s.world.seats
+  pub begun : s.reader.started ≡ true → 0 < length s.world.nodes

@@ -23,7 +23,7 @@ impl Display for Explained {
                 write!(f, "line {line} can't be read: {words} (reason {reason})")
             }
             Status::Refused { line, reason } => {
-                write!(f, "line {line} isn't admitted: {}", Refusal(reason))
+                write!(f, "line {line} isn't admitted: {}", RefusalText(reason))
             }
             Status::ReadFault => f.write_str(
                 "reading the input failed; give a file that can be read, by < FILE",
@@ -47,9 +47,9 @@ impl Display for Explained {
 
 // the reason, its value where it has one, and its number
 #[derive(Clone, Copy, Debug)]
-struct Refusal(Reason);
+struct RefusalText(Reason);
 
-impl Display for Refusal {
+impl Display for RefusalText {
     fn fmt<W: Write>(&self, f: &mut Formatter<W>) -> fmt::Result {
         let number = self.0.number();
         f.write_str(subject(self.0))?;

@@ -7,14 +7,18 @@ ghost use Rattle.cg_queue.specs.Queue.{action_of, names_of};
 ghost use Rattle.cg_parts.specs.Chosen.{actions_named, plain_reds};
 
 use crate::actions::Actions;
-use crate::known::Known;
+use crate::checked_queue::CheckedQueue;
 use crate::marking::name_of;
 use cg_action::Action;
 use cg_base::{ActionId, IdList, IdRuns, NoMemory, Row};
 use std::alloc::Global;
 
 /// The kept actions of these names, in the order of the names.
-pub fn actions_named(alloc: Global, queue: &Known, ids: &[ActionId]) -> Result<Actions, NoMemory>
+pub fn actions_named(
+    alloc: Global,
+    queue: &CheckedQueue,
+    ids: &[ActionId],
+) -> Result<Actions, NoMemory>
     ensures { IfOk result (λ list. list ≡ actions_named queue.now ids.now) }
 {
     let mut list = Actions::new(alloc);
@@ -26,7 +30,7 @@ pub fn actions_named(alloc: Global, queue: &Known, ids: &[ActionId]) -> Result<A
 
 fn push_named(
     alloc: Global,
-    queue: &Known,
+    queue: &CheckedQueue,
     id: ActionId,
     list: &mut Actions,
 ) -> Result<(), NoMemory>
@@ -39,7 +43,7 @@ fn push_named(
 }
 
 /// The reds whose names aren't yellow come behind the others, by name.
-pub fn add_plain_reds(queue: &Known, list: &mut Actions) -> Result<(), NoMemory>
+pub fn add_plain_reds(queue: &CheckedQueue, list: &mut Actions) -> Result<(), NoMemory>
     ensures { OnOk result (list.new ≡ list.old ++ plain_reds queue.now) }
 {
     let reds = queue.reds()?;
@@ -49,7 +53,7 @@ pub fn add_plain_reds(queue: &Known, list: &mut Actions) -> Result<(), NoMemory>
     Ok(())
 }
 
-fn push_plain(queue: &Known, a: Action, list: &mut Actions) -> Result<(), NoMemory>
+fn push_plain(queue: &CheckedQueue, a: Action, list: &mut Actions) -> Result<(), NoMemory>
     requires { IsAction a }
     ensures { OnOk result (list.new ≡ list.old ++ filter (λ a. not (names queue.now.yellow a.id)) (a ∷ [])) }
 {
@@ -60,7 +64,7 @@ fn push_plain(queue: &Known, a: Action, list: &mut Actions) -> Result<(), NoMemo
 }
 
 /// The names of the reds that aren't yellow, in their order.
-pub fn plain_names(queue: &Known) -> Result<IdRuns, NoMemory>
+pub fn plain_names(queue: &CheckedQueue) -> Result<IdRuns, NoMemory>
     ensures { IfOk result (λ ids. ids ≡ names_of (plain_reds queue.now)) }
 {
     queue.plain_red_names()

@@ -8,27 +8,27 @@
 #![tactic(auto)]
 
 mod actions;
+mod checked_queue;
+mod checked_servers;
 mod chosen;
 mod components;
-mod kept;
-mod known;
+mod fifo;
+mod kept_request;
 mod marking;
 mod messages;
 mod names;
 mod own;
-mod servers;
-mod waiting;
 mod weights;
 
 pub use actions::Actions;
+pub use checked_queue::CheckedQueue;
+pub use checked_servers::CheckedServers;
 pub use chosen::{actions_named, add_plain_reds, names_of, plain_names};
 pub use components::{Components, is_number};
-pub use kept::Kept;
-pub use known::Known;
+pub use fifo::Fifo;
+pub use kept_request::KeptRequest;
 pub use marking::{drop_own, last_index, name_of, note_unknown, put_green, put_red};
 pub use messages::Messages;
 pub use names::Names;
 pub use own::Own;
-pub use servers::Servers;
-pub use waiting::Waiting;
 pub use weights::weigh;

@@ -8,7 +8,7 @@ ghost use Rattle.cg_parts.specs.Chosen.{unknown_in};
 ghost use Rattle.cg_parts.specs.Own.{after_first, last_index};
 
 use crate::actions::Actions;
-use crate::known::Known;
+use crate::checked_queue::CheckedQueue;
 use crate::own::Own;
 use cg_action::Action;
 use cg_base::{ActionId, NoMemory};
@@ -48,7 +48,7 @@ pub fn drop_own(own: &mut Own, id: &ActionId)
 /// The action is one more of those that are newly known, where it wasn't known.
 pub fn note_unknown(
     alloc: Global,
-    queue: &Known,
+    queue: &CheckedQueue,
     known: &mut Actions,
     a: &Action,
 ) -> Result<(), NoMemory>
@@ -62,7 +62,7 @@ pub fn note_unknown(
 }
 
 /// Marks an action red, the next of its creator.
-pub fn put_red(queue: &mut Known, a: Action) -> Result<(), NoMemory>
+pub fn put_red(queue: &mut CheckedQueue, a: Action) -> Result<(), NoMemory>
     requires action { IsAction a }
     requires next { a.id.index ≡ suc (index_in queue.old.red_cut a.id.creator) }
     ensures { OnOk result (queue.new ≡ placed_red queue.old a) }
@@ -75,7 +75,7 @@ pub fn put_red(queue: &mut Known, a: Action) -> Result<(), NoMemory>
 }
 
 /// Marks an action green at the next place, the next green one of its creator.
-pub fn put_green(queue: &mut Known, at: u64, a: Action) -> Result<(), NoMemory>
+pub fn put_green(queue: &mut CheckedQueue, at: u64, a: Action) -> Result<(), NoMemory>
     requires action { IsAction a }
     requires place { at ≡ suc (green_count queue.old) }
     requires few { green_count queue.old < COUNT_LIMIT }

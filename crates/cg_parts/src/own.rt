@@ -6,7 +6,7 @@ ghost use Rattle.cg_action.specs.ActionLimits.{IsAction};
 ghost use Rattle.cg_queue.specs.Queue.{names_of};
 ghost use Rattle.cg_records.specs.Limits.{Each};
 
-use crate::waiting::Waiting;
+use crate::fifo::Fifo;
 use cg_action::Action;
 use cg_base::{IdRuns, NoMemory};
 use std::alloc::Global;
@@ -15,7 +15,7 @@ use std::marker::Model;
 
 /// Actions that wait, and their names. Clauses see the list of the actions; each is within the limits of an action.
 pub struct Own {
-    actions: Waiting<Action>,
+    actions: Fifo<Action>,
     names: IdRuns,
 }
 
@@ -48,7 +48,7 @@ impl Own {
         ensures { result ≡ [] }
     {
         Own {
-            actions: Waiting::new(alloc),
+            actions: Fifo::new(alloc),
             names: IdRuns::new(alloc),
         }
     }

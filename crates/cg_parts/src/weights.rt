@@ -1,11 +1,11 @@
 ghost use Rattle.std.specs.Prelude.{◌≡◌};
 ghost use Rattle.cg_parts.specs.Weighing.{weighted};
 
-use crate::servers::Servers;
+use crate::checked_servers::CheckedServers;
 use cg_base::{IdSet, WeightSet};
 
 /// The members of an attempt, each with the weight that it has as a server, and 1 where it is none.
-pub fn weigh(members: &Servers, set: &IdSet) -> WeightSet
+pub fn weigh(members: &CheckedServers, set: &IdSet) -> WeightSet
     ensures { result ≡ weighted members.now set.now }
 {
     let mut weighted = WeightSet::empty();

@@ -5,7 +5,7 @@ use Rattle.std.proofs.lemmas.Bool.{eq-eqb, ne_eqb, and_from, le-leb, lt-leb, cas
 use Rattle.std.proofs.lemmas.List.Sums.{fold_more}
 use Rattle.cg_plan.specs.declared.parts.Item.{Item}
 use Rattle.cg_plan.specs.declared.parts.SentPart.{SentPart}
-use Rattle.cg_plan.specs.declared.parts.Sent.{Sent}
+use Rattle.cg_plan.specs.declared.parts.SentItem.{SentItem}
 use Rattle.cg_plan.specs.Items.{items_of_plan}
 use Rattle.cg_plan.specs.contracts.parts.ItemPartialEq.TheImpl.{ghosts as same_item}
 use Rattle.cg_plan.specs.Progress.{PlanProgress, next_item, is_wanted, is_done}
@@ -15,19 +15,19 @@ use Rattle.cg_plan.specs.Following.{begun, after_item, after_items}
 pub same_item-tells : (a b : Item) → (same_item.eq a b ≡ true) ↔ (a ≡ b)
 same_item-tells a b = (same_item-is a b, λ e. rw e (same_item-itself b))
 
-wanted-itself : (s : Sent) → is_wanted (Some s) s.sender s.item ≡ true
+wanted-itself : (s : SentItem) → is_wanted (Some s) s.sender s.item ≡ true
 wanted-itself s = and_from (eqb s.sender s.sender) (same_item.eq s.item s.item) (eq-eqb s.sender s.sender refl) (same_item-itself s.item)
 
 abbrev at : List SentPart → ℕ → PlanProgress
 at plan n = record { turns = plan; accepted = n }
 
 -- the item at its turn is accepted
-after-next : (plan : List SentPart) (n : ℕ) (s : Sent) → slice_get (items_of_plan plan) n ≡ Some s → after_item (at plan n) s.sender s.item ≡ at plan (n + 1)
+after-next : (plan : List SentPart) (n : ℕ) (s : SentItem) → slice_get (items_of_plan plan) n ≡ Some s → after_item (at plan n) s.sender s.item ≡ at plan (n + 1)
 unfolding next_item
 after-next plan n s here = rw (here, wanted-itself s) refl
 
 -- a list with a first element has one to read
-some_item : (xs : List Sent) (n : ℕ) → n < length xs → (s : Sent) × (slice_get xs n ≡ Some s)
+some_item : (xs : List SentItem) (n : ℕ) → n < length xs → (s : SentItem) × (slice_get xs n ≡ Some s)
 some_item [] n lt = absurd (omega arith)
 some_item (x ∷ xs) zero lt = (x, refl)
 some_item (x ∷ xs) (suc n) lt = some_item xs n (omega arith)
@@ -45,7 +45,7 @@ follows plan (suc n) le =
     let step = fold_more (λ q t. after_item q t.sender t.item) (begun plan) items n s lt in
     ap (λ k. after_items (begun plan) (take k items)) (sym next) ∙ step ∙ rw (before, read) (after-next plan n s here.1) ∙ ap (at plan) next
   where
-    get_or_from : (xs : List Sent) (k : ℕ) (s : Sent) → slice_get xs k ≡ Some s → get_or xs k s ≡ s
+    get_or_from : (xs : List SentItem) (k : ℕ) (s : SentItem) → slice_get xs k ≡ Some s → get_or xs k s ≡ s
     get_or_from [] k s e = refl
     get_or_from (x ∷ xs) zero s e = cc
     get_or_from (x ∷ xs) (suc k) s e = get_or_from xs k s e

@@ -3,7 +3,7 @@ use Rattle.std.specs.Prelude.{◌≡◌, ℕ, ◌+◌, true, false, List, Result
 use Rattle.std.specs.Option.{option_map}
 use Rattle.cg_plan.specs.declared.parts.Item.{Item}
 use Rattle.cg_plan.specs.declared.parts.SentPart.{SentPart}
-use Rattle.cg_plan.specs.declared.parts.Sent.{Sent}
+use Rattle.cg_plan.specs.declared.parts.SentItem.{SentItem}
 use Rattle.cg_plan.specs.declared.parts.Other.{Other}
 use Rattle.cg_plan.specs.Progress.{PlanProgress, next_item, is_wanted}
 
@@ -22,5 +22,5 @@ Answers p from item result =
     (λ other. (is_wanted (next_item p) from item ≡ false) × (other.want ≡ option_map (λ s. s.item) (next_item p)))
 
 -- the plan when these items came, one after the other
-abbrev pub after_items : PlanProgress → List Sent → PlanProgress
+abbrev pub after_items : PlanProgress → List SentItem → PlanProgress
 after_items p sents = fold (λ q s. after_item q s.sender s.item) p sents

@@ -7,7 +7,7 @@ use Rattle.cg_plan.specs.declared.parts.Item.TheVariants.{Green, Red}
 use Rattle.cg_plan.specs.declared.parts.Part.{Part}
 use Rattle.cg_plan.specs.declared.parts.Part.TheVariants.{Greens, Reds}
 use Rattle.cg_plan.specs.declared.parts.SentPart.{SentPart}
-use Rattle.cg_plan.specs.declared.parts.Sent.{Sent}
+use Rattle.cg_plan.specs.declared.parts.SentItem.{SentItem}
 
 -- the red item of a creator with that index
 abbrev pub red_item : ℕ → ℕ → Item
@@ -19,13 +19,13 @@ items_of (Greens from to) = map Green (above_up_to (from - 1) to)
 items_of (Reds creator from to) = map (red_item creator) (above_up_to (from - 1) to)
 
 -- an item with its sender
-abbrev pub sent_by : ℕ → Item → Sent
+abbrev pub sent_by : ℕ → Item → SentItem
 sent_by sender item = record { sender = sender; item = item }
 
 -- the items of a part, each with the part's sender
-abbrev pub items_of_turn : SentPart → List Sent
+abbrev pub items_of_turn : SentPart → List SentItem
 items_of_turn turn = map (sent_by turn.sender) (items_of turn.part)
 
 -- the items of a plan, in order
-unfoldable pub items_of_plan : List SentPart → List Sent
+unfoldable pub items_of_plan : List SentPart → List SentItem
 items_of_plan plan = flat_map items_of_turn plan

@@ -5,7 +5,7 @@ use Rattle.cg_base.specs.Sets.{has, union}
 use Rattle.cg_base.specs.Cuts.{index_in, creators_in}
 use Rattle.cg_base.specs.Lists.{least_of}
 use Rattle.cg_knowledge.specs.declared.summary.Summary.{Summary}
-use Rattle.cg_knowledge.specs.Members.{most_updated, remaining}
+use Rattle.cg_knowledge.specs.Summaries.{most_updated, remaining}
 use Rattle.cg_plan.specs.declared.parts.Part.TheVariants.{Greens, Reds}
 use Rattle.cg_plan.specs.declared.parts.SentPart.{SentPart}
 

@@ -3,7 +3,7 @@ use Rattle.std.specs.Prelude.{ℕ, zero, suc, ◌-◌, ◌==◌, nat_lt, nat_le,
 use Rattle.cg_plan.specs.declared.parts.Item.{Item}
 use Rattle.cg_plan.specs.declared.parts.Part.{Part}
 use Rattle.cg_plan.specs.declared.parts.SentPart.{SentPart}
-use Rattle.cg_plan.specs.declared.parts.Sent.{Sent}
+use Rattle.cg_plan.specs.declared.parts.SentItem.{SentItem}
 use Rattle.cg_plan.specs.Items.{items_of, items_of_plan}
 use Rattle.cg_plan.specs.contracts.parts.ItemPartialEq.TheImpl.{ghosts as items}
 
@@ -13,11 +13,11 @@ pub record PlanProgress : Type 0 where
   pub accepted : ℕ
 
 -- the item that comes after those that were accepted
-unfoldable pub next_item : PlanProgress → Option Sent
+unfoldable pub next_item : PlanProgress → Option SentItem
 next_item p = slice_get (items_of_plan p.turns) p.accepted
 
 -- the item is the wanted one, and comes from its sender
-abbrev pub is_wanted : Option Sent → ℕ → Item → Bool
+abbrev pub is_wanted : Option SentItem → ℕ → Item → Bool
 is_wanted None from item = false
 is_wanted (Some sent) from item = (sent.sender == from) && items.eq sent.item item
 

@@ -12,5 +12,5 @@ mod place;
 mod progress;
 
 pub use laws::plans_end;
-pub use parts::{Item, Other, Part, Sent, SentPart};
+pub use parts::{Item, Other, Part, SentItem, SentPart};
 pub use progress::Plan;

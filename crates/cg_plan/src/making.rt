@@ -1,6 +1,6 @@
 ghost use Rattle.std.specs.Prelude.{◌≡◌, ◌++◌, Some, OnOk, IfOk};
 ghost use Rattle.std.specs.Option.{option_copied};
-ghost use Rattle.cg_knowledge.specs.Members.{most_updated as most_updated_of};
+ghost use Rattle.cg_knowledge.specs.Summaries.{most_updated as most_updated_of};
 ghost use Rattle.cg_plan.specs.Plan.{least_greens as least_greens_of, green_part, farther as farther_of, farthest as farthest_of, least_reds as least_reds_of, reds_of, creators as creators_of, plan_of};
 
 use crate::{Part, SentPart};

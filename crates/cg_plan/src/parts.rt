@@ -35,7 +35,7 @@ pub struct SentPart {
 
 /// An item with its sender.
 #[derive(Clone, Copy, Debug, PartialEq, Eq)]
-pub struct Sent {
+pub struct SentItem {
     pub sender: ReplicaId,
     pub item: Item,
 }

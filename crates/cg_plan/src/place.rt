@@ -5,7 +5,7 @@ ghost use Rattle.cg_plan.specs.Items.{items_of_plan};
 ghost use Rattle.cg_plan.specs.Place.{IsPlace, items_before};
 ghost use Rattle.cg_plan.specs.Progress.{turn_of};
 
-use crate::{Part, Sent, SentPart};
+use crate::{Part, SentItem, SentPart};
 use cg_base::ReplicaId;
 
 fn parts_from(turns: &[SentPart], current: usize) -> &[SentPart]
@@ -16,13 +16,13 @@ fn parts_from(turns: &[SentPart], current: usize) -> &[SentPart]
 }
 
 // the item at the place
-pub(crate) fn item_at(turns: &[SentPart], current: usize, made: u64) -> Option<Sent>
+pub(crate) fn item_at(turns: &[SentPart], current: usize, made: u64) -> Option<SentItem>
     requires { IsPlace turns.now current made }
     ensures { result ≡ slice_get (items_of_plan turns.now) (items_before turns.now current made) }
 {
     match parts_from(turns, current) {
         [] => None,
-        [turn, ..] => Some(Sent {
+        [turn, ..] => Some(SentItem {
             sender: turn.sender,
             item: turn.part.item(made),
         }),

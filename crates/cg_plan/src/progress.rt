@@ -5,7 +5,7 @@ ghost use Rattle.cg_plan.specs.Progress.{next_item, is_wanted as is_wanted_item,
 
 use crate::making::turns_of;
 use crate::place::{item_at, part_at, place_after};
-use crate::{Item, Other, Part, Sent, SentPart};
+use crate::{Item, Other, Part, SentItem, SentPart};
 use cg_base::{NoMemory, ReplicaId};
 use cg_knowledge::Summary;
 use std::alloc::Global;
@@ -39,7 +39,7 @@ impl Model for Plan {
     ghost invariant = { λ p. IsPlace p.turns.items p.current p.made };
 }
 
-fn is_wanted(next: &Option<Sent>, from: ReplicaId, i: &Item) -> bool
+fn is_wanted(next: &Option<SentItem>, from: ReplicaId, i: &Item) -> bool
     ensures { result ≡ is_wanted_item next.now from i.now }
 {
     match next {
@@ -68,7 +68,7 @@ impl Plan {
         part_at(self.turns.as_slice(), self.current, self.made, me)
     }
 
-    fn next(&self) -> Option<Sent>
+    fn next(&self) -> Option<SentItem>
         ensures { result ≡ next_item self.now }
     {
         item_at(self.turns.as_slice(), self.current, self.made)

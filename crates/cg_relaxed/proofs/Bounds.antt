@@ -13,7 +13,7 @@ use Rattle.cg_action.specs.declared.action.Kind.TheVariants.{Update, Join, Leave
 use Rattle.cg_action.specs.Limits.{IsKind}
 use Rattle.cg_action.specs.ActionLimits.{IsCommand}
 use Rattle.cg_relaxed.specs.Writes.{is_plain, counted, adds, sum_after}
-use Rattle.cg_relaxed.specs.Kept.{IsWithin}
+use Rattle.cg_relaxed.specs.RelaxedState.{IsWithin}
 
 pub wider : (m n : ℕ) (x : ℤ) → m ≤ n → IsWithin m x → IsWithin n x
 wider m n x more is =

@@ -11,18 +11,18 @@ use Rattle.cg_base.specs.CutLimits.{IsCut}
 use Rattle.cg_action.specs.declared.command.Cmd.{Cmd}
 use Rattle.cg_action.specs.declared.action.Action.{Action}
 use Rattle.cg_action.specs.ActionLimits.{IsCommand}
-use Rattle.cg_relaxed.specs.declared.part.Part.{Part}
+use Rattle.cg_relaxed.specs.declared.sum_key.SumKey.{SumKey}
 use Rattle.cg_relaxed.specs.declared.write.Write.{Write}
 use Rattle.cg_relaxed.specs.Writes.{added, counted, sum_after, written, written_from, first_stamp, later}
 use Rattle.cg_relaxed.specs.Relaxed.{with_action, joined}
-use Rattle.cg_relaxed.specs.Kept.{Kept, part, same_part, sum_at, write_at, knows_less, is_wanted, taken_over, merged, seen, IsWithin, AreSmall}
+use Rattle.cg_relaxed.specs.RelaxedState.{RelaxedState, part, same_part, sum_at, write_at, knows_less, is_wanted, taken_over, merged, seen, IsWithin, AreSmall}
 use Rattle.cg_relaxed.proofs.Cuts.{index_in-greatest}
 use Rattle.cg_relaxed.proofs.Bounds.{wider, sum-after-within, sum-after-from}
 use Rattle.cg_relaxed.proofs.OneMap.{raised-index}
 
 -- ---- an action
 
-pub seen-added : (old new : Kept) (a : Action) (cmds : List Cmd) → cmds ≡ counted a.kind → new.known ≡ raise old.known a.id →
+pub seen-added : (old new : RelaxedState) (a : Action) (cmds : List Cmd) → cmds ≡ counted a.kind → new.known ≡ raise old.known a.id →
     ((key : List ℕ) (p : ℕ) → sum_at new.sums key p ≡ cond (eqb p a.id.creator) (sum_after (sum_at old.sums key p) key cmds) (sum_at old.sums key p)) →
     ((key : List ℕ) → write_at new.writes key ≡ later (write_at old.writes key) (written_from key (first_stamp a) cmds)) →
     seen new ≡ with_action (seen old) a
@@ -34,7 +34,7 @@ seen-added old new a cmds are known sums writes =
     λ key. writes key ∙ ap (λ cs. later (write_at old.writes key) (written_from key (first_stamp a) cs)) are in
     λ i. record { known = known i; sums = λ key p. all key p i; registers = λ key. last key i }
 
-pub small-added : (old new : Kept) (a : Action) (cmds : List Cmd) → length cmds ≤ 16 → All IsCommand cmds → new.known ≡ raise old.known a.id →
+pub small-added : (old new : RelaxedState) (a : Action) (cmds : List Cmd) → length cmds ≤ 16 → All IsCommand cmds → new.known ≡ raise old.known a.id →
     ((key : List ℕ) (p : ℕ) → sum_at new.sums key p ≡ cond (eqb p a.id.creator) (sum_after (sum_at old.sums key p) key cmds) (sum_at old.sums key p)) →
     IsCut old.known → a.id.index ≡ suc (index_in old.known a.id.creator) → a.id.index < 2 ^ 40 → AreSmall old.known old.sums →
     AreSmall new.known new.sums
@@ -66,7 +66,7 @@ small-added old new a cmds short each known sums is_cut next small before = reco
     ]
 
 -- no creator's sums are far from 0
-pub small-sum : (known : List ActionId) (kept : List (Part × ℤ)) (key : List ℕ) (p : ℕ) → AreSmall known kept → IsWithin (2 ^ 107) (sum_at kept key p)
+pub small-sum : (known : List ActionId) (kept : List (SumKey × ℤ)) (key : List ℕ) (p : ℕ) → AreSmall known kept → IsWithin (2 ^ 107) (sum_at kept key p)
 small-sum known kept key p small =
     let few : index_in known p < 2 ^ 40 = small.few p in
     wider (index_in known p * 2 ^ 67) (2 ^ 107) (sum_at kept key p) (omega arith) (small.sums key p)
@@ -89,9 +89,9 @@ joined-register (Some m) None first all one both = both ∙ one
 joined-register mine (Some o) first all one both = both
 
 -- the two loops over sums, and the two over registers, begin with nothing
-module _ (mine other : Kept) (none : List (Part × ℤ)) (first all : List (Part × ℤ)) (empty : none ≡ [])
-    (one : (q : Part) → lookup (same_part q) first ≡ taken_over (is_wanted false mine.known other.known) mine.sums none q)
-    (both : (q : Part) → lookup (same_part q) all ≡ taken_over (is_wanted true mine.known other.known) other.sums first q) where
+module _ (mine other : RelaxedState) (none : List (SumKey × ℤ)) (first all : List (SumKey × ℤ)) (empty : none ≡ [])
+    (one : (q : SumKey) → lookup (same_part q) first ≡ taken_over (is_wanted false mine.known other.known) mine.sums none q)
+    (both : (q : SumKey) → lookup (same_part q) all ≡ taken_over (is_wanted true mine.known other.known) other.sums first q) where
   pub sums-joined : (key : List ℕ) (p : ℕ) → sum_at all key p
       ≡ cond (ltb (index_in mine.known p) (index_in other.known p)) (sum_at other.sums key p) (sum_at mine.sums key p)
   sums-joined key p =
@@ -130,7 +130,7 @@ registers-joined mine other none base first all empty nothing one both key =
     ∙ ap (λ es. merged (write_at mine key) None (write_at es key)) nothing)
     (both key)
 
-pub seen-joined : (mine other new : Kept) → new.known ≡ greatest_cut mine.known other.known →
+pub seen-joined : (mine other new : RelaxedState) → new.known ≡ greatest_cut mine.known other.known →
     ((key : List ℕ) (p : ℕ) → sum_at new.sums key p
     ≡ cond (ltb (index_in mine.known p) (index_in other.known p)) (sum_at other.sums key p) (sum_at mine.sums key p)) →
     ((key : List ℕ) → write_at new.writes key ≡ later (write_at mine.writes key) (write_at other.writes key)) →

@@ -9,7 +9,7 @@ use Rattle.cg_action.specs.ActionLimits.{IsCommand}
 use Rattle.cg_relaxed.specs.declared.write.Stamp.{Stamp}
 use Rattle.cg_relaxed.specs.declared.write.Write.{Write}
 use Rattle.cg_relaxed.specs.Writes.{adds, sum_after, write_of, written_from, later}
-use Rattle.cg_relaxed.specs.Kept.{IsWithin}
+use Rattle.cg_relaxed.specs.RelaxedState.{IsWithin}
 use Rattle.cg_relaxed.proofs.Later.{later-assoc}
 use Rattle.cg_relaxed.proofs.Bounds.{wider, added-within, adds-within}
 

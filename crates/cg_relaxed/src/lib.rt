@@ -8,10 +8,10 @@
 
 mod cell;
 mod laws;
-mod part;
 mod registers;
 mod relaxed;
 mod run;
+mod sum_key;
 mod sums;
 mod write;
 

@@ -5,7 +5,7 @@ ghost use Rattle.indexmap.specs.IndexMap.{spare};
 ghost use Rattle.cg_text.specs.Order.{same_text};
 ghost use Rattle.cg_relaxed.specs.declared.write.Write.{Write as WriteOf};
 ghost use Rattle.cg_relaxed.specs.Writes.{later};
-ghost use Rattle.cg_relaxed.specs.Kept.{write_at, merged};
+ghost use Rattle.cg_relaxed.specs.RelaxedState.{write_at, merged};
 
 use crate::write::{Write, later};
 use cg_base::NoMemory;

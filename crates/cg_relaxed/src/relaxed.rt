@@ -1,7 +1,7 @@
 ghost use Rattle.std.specs.Prelude.{◌≡◌, suc, ◌<◌, ◌^◌, IfOk, OnOk, OnErr};
 ghost use Rattle.cg_base.specs.Cuts.{index_in};
 ghost use Rattle.cg_action.specs.ActionLimits.{IsAction};
-ghost use Rattle.cg_relaxed.specs.Kept.{seen};
+ghost use Rattle.cg_relaxed.specs.RelaxedState.{seen};
 ghost use Rattle.cg_relaxed.specs.Relaxed.{nothing_known, with_action, joined, cell_in};
 
 use crate::Cell;
@@ -26,9 +26,9 @@ pub struct Relaxed {
 }
 
 impl Model for Relaxed {
-    ghost use Rattle.cg_relaxed.specs.Kept.{Kept, AreSmall};
+    ghost use Rattle.cg_relaxed.specs.RelaxedState.{RelaxedState, AreSmall};
 
-    ghost Value = { Kept };
+    ghost Value = { RelaxedState };
 
     ghost view = { λ r. record { known = r.known; sums = r.sums.entries; writes = r.registers.entries } };
 

@@ -5,10 +5,10 @@ ghost use Rattle.std.specs.List.{list_all};
 ghost use Rattle.indexmap.specs.IndexMap.{spare};
 ghost use Rattle.cg_action.specs.ActionLimits.{IsCommand};
 ghost use Rattle.cg_relaxed.specs.Writes.{is_plain, counted, adds, sum_after, write_of, written_from, later, first_stamp};
-ghost use Rattle.cg_relaxed.specs.Kept.{sum_at, write_at, IsWithin};
+ghost use Rattle.cg_relaxed.specs.RelaxedState.{sum_at, write_at, IsWithin};
 
-use crate::part::Part;
 use crate::registers::{Registers, write_to};
+use crate::sum_key::SumKey;
 use crate::sums::{Sums, add_to};
 use crate::write::{Stamp, Write};
 use cg_action::{Action, Cmd, Kind};
@@ -114,7 +114,7 @@ fn run_one(sums: &mut Sums, registers: &mut Registers, stamp: Stamp, cmd: Cmd)
         Cmd::Del { key } => write_to(registers, key, Write { stamp, value: None }),
         Cmd::Inc { key, by } => add_to(
             sums,
-            Part {
+            SumKey {
                 creator: stamp.creator,
                 key,
             },

@@ -6,19 +6,19 @@ ghost use Rattle.std.specs.Map.{lookup};
 ghost use Rattle.indexmap.specs.IndexMap.{spare};
 ghost use Rattle.cg_base.specs.Cuts.{index_in};
 ghost use Rattle.cg_base.specs.Replicas.{every_replica};
-ghost use Rattle.cg_relaxed.specs.declared.part.Part.{Part as PartOf};
-ghost use Rattle.cg_relaxed.specs.Kept.{same_part, sum_at, knows_less, is_wanted, taken_over, IsWithin};
+ghost use Rattle.cg_relaxed.specs.declared.sum_key.SumKey.{SumKey as PartOf};
+ghost use Rattle.cg_relaxed.specs.RelaxedState.{same_part, sum_at, knows_less, is_wanted, taken_over, IsWithin};
 
-use crate::part::Part;
+use crate::sum_key::SumKey;
 use cg_base::{Cut, NoMemory, ReplicaId};
 use cg_text::Txt;
 use indexmap::IndexMap;
 use std::alloc::Global;
 
-pub(crate) type Sums = IndexMap<Part, i128>;
+pub(crate) type Sums = IndexMap<SumKey, i128>;
 
 /// Adds to a sum, where there is room for one more.
-pub(crate) fn add_to(sums: &mut Sums, part: Part, by: i64)
+pub(crate) fn add_to(sums: &mut Sums, part: SumKey, by: i64)
     requires room { 0 < spare sums.old }
     requires fits { FitsSigned w128 (sum_at sums.old.entries part.key part.creator +ℤ by) }
     ensures added { (key : List ℕ) (p : ℕ) → sum_at sums.new.entries key p ≡
@@ -35,7 +35,7 @@ pub(crate) fn total(sums: &Sums, key: Txt) -> i128
     requires { (p : ℕ) → IsWithin (2 ^ 107) (sum_at sums.now.entries key p) }
     ensures { result ≡ fold (λ n p. n +ℤ sum_at sums.now.entries key p) (pos 0) every_replica }
 {
-    let mut part = Part { creator: 1, key };
+    let mut part = SumKey { creator: 1, key };
     let mut total = 0;
     for creator in 1..33 {
         part.creator = creator;
@@ -44,7 +44,7 @@ pub(crate) fn total(sums: &Sums, key: Txt) -> i128
     total
 }
 
-fn sum_of(sums: &Sums, part: &Part) -> i128
+fn sum_of(sums: &Sums, part: &SumKey) -> i128
     ensures { result ≡ sum_at sums.now.entries part.now.key part.now.creator }
 {
     match sums.get(part) {

@@ -9,7 +9,7 @@ use Rattle.cg_base.specs.Ids.{names}
 use Rattle.cg_base.specs.Cuts.{index_in}
 use Rattle.cg_records.specs.declared.vulnerable.Vulnerable.{Vulnerable}
 use Rattle.cg_knowledge.specs.declared.summary.Summary.{Summary}
-use Rattle.cg_knowledge.specs.Members.{senders, leader, most_updated, lower, lowest, gone, remaining}
+use Rattle.cg_knowledge.specs.Summaries.{senders, leader, most_updated, lower, lowest, gone, remaining}
 use Rattle.cg_knowledge.specs.Primary.{newest_index, knows_prim, newest, no_prim, known_primary, known_attempt}
 use Rattle.cg_knowledge.specs.Yellow.{yellow_group, is_green_at_most, is_in_each, yellow_of, common_yellow}
 use Rattle.cg_knowledge.specs.Vulnerable.{is_vulnerable_for, with_bits, all_bits, is_long_past, is_overtaken, is_ended_by_one, is_ended_by_all, is_cleared, decided}

@@ -3,7 +3,7 @@ use Rattle.std.proofs.Common.{◌≡◌, ℕ, zero, suc, List, [], ◌++◌, fil
 use Rattle.cg_base.specs.Sets.{has}
 use Rattle.cg_base.specs.Cuts.{index_in, creators_in}
 use Rattle.cg_knowledge.specs.declared.summary.Summary.{Summary}
-use Rattle.cg_knowledge.specs.Members.{remaining}
+use Rattle.cg_knowledge.specs.Summaries.{remaining}
 use Rattle.cg_plan.specs.Plan.{of_remaining, green_part, least_greens, farther, farthest, least_reds, red_part, reds_of, creators, plan_of}
 use Rattle.cg_reordered.specs.Reordered.{SayTheSame, KnowledgeTakesAnyOrder, PlanTakesAnyOrder}
 use Rattle.cg_reordered.proofs.Near.{Near, near-filter, near-fold, near-least}

@@ -2,7 +2,7 @@
 use Rattle.std.specs.Prelude.{◌≡◌, ℕ, zero, suc, List, ◌∷◌, ◌++◌, Option}
 use Rattle.cg_records.specs.declared.vulnerable.Vulnerable.{Vulnerable}
 use Rattle.cg_knowledge.specs.declared.summary.Summary.{Summary}
-use Rattle.cg_knowledge.specs.Members.{most_updated, gone}
+use Rattle.cg_knowledge.specs.Summaries.{most_updated, gone}
 use Rattle.cg_knowledge.specs.Primary.{known_primary, known_attempt}
 use Rattle.cg_knowledge.specs.Yellow.{common_yellow}
 use Rattle.cg_knowledge.specs.Vulnerable.{decided}

@@ -9,34 +9,34 @@ use Rattle.cg_wire.specs.declared.message.Msg.{Msg}
 use Rattle.cg_wire.specs.Bytes.{spelled_msg}
 use Rattle.cg_wire.specs.Limits.{IsMsg}
 use Rattle.cg_wire.specs.Reading.{message_in}
-use Rattle.cg_letter.specs.Letter.{opened}
+use Rattle.cg_encoded.specs.Letter.{opened}
 use Rattle.cg_client.specs.Replica.{Replica}
 use Rattle.cg_client.specs.Requests.{settle}
 use Rattle.cg_client.specs.Turn.{Turn, begin}
-use Rattle.cg_step.specs.Hearing.{hear, hear_delivery}
-use Rattle.cg_step.specs.Step.{take, replica_step}
+use Rattle.cg_replica_step.specs.Hearing.{hear, hear_delivery}
+use Rattle.cg_replica_step.specs.Step.{after_delivery, replica_step}
 use Rattle.cg_replica.specs.declared.input.Input.{Input}
 use Rattle.cg_replica.specs.declared.input.Input.TheVariants.{Deliver, Request}
 use Rattle.cg_replica.specs.Inputs.{with_message, read, read_all, input_of, taken}
 
-message-read : (t : Turn) (place from : ℕ) (m : Option Msg) → hear t from m ≡ fold take t (with_message place from m)
-unfolding take
+message-read : (t : Turn) (place from : ℕ) (m : Option Msg) → hear t from m ≡ fold after_delivery t (with_message place from m)
+unfolding after_delivery
 message-read t place from None = refl
 message-read t place from (Some m) = refl
 
-pub delivery-read : (t : Turn) (d : Delivery (List ℕ)) → hear_delivery t d ≡ fold take t (read d)
-unfolding take
+pub delivery-read : (t : Turn) (d : Delivery (List ℕ)) → hear_delivery t d ≡ fold after_delivery t (read d)
+unfolding after_delivery
 delivery-read t (Message place from bytes) = message-read t place from (message_in bytes)
 delivery-read t (TransitionalIn conf set) = refl
 delivery-read t (RegularIn conf set) = refl
 
 pub deliveries-read : (t : Turn) (list : List (Delivery (List ℕ))) →
-    fold hear_delivery t list ≡ fold take t (read_all list)
+    fold hear_delivery t list ≡ fold after_delivery t (read_all list)
 deliveries-read t [] = refl
 deliveries-read t (d ∷ list) =
     ap (λ (now : Turn). fold hear_delivery now list) (delivery-read t d)
-    ∙ deliveries-read (fold take t (read d)) list
-    ∙ sym (fold-append take t (read d) (read_all list))
+    ∙ deliveries-read (fold after_delivery t (read d)) list
+    ∙ sym (fold-append after_delivery t (read d) (read_all list))
 
 -- what an event makes of a replica is its step by the table of states
 pub taken-is : (r : Replica) (i : Input) → taken (begin r) i ≡ replica_step r (input_of i)

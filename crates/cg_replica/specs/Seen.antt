@@ -7,18 +7,18 @@ use Rattle.cg_client.specs.Turn.{Turn}
 use Rattle.cg_client.specs.Whitening.{with_white}
 use Rattle.cg_replica.specs.declared.prim.InPrim.{InPrim}
 use Rattle.cg_replica.specs.declared.prim.InPrim.TheVariants.{Reg as RegMember, Trans as TransMember}
-use Rattle.cg_replica.specs.declared.outside.Outside.{Outside}
-use Rattle.cg_replica.specs.declared.outside.Outside.TheVariants.{Non as NonMember, States as StatesMember, Actions as ActionsMember}
+use Rattle.cg_replica.specs.declared.out_of_prim.OutOfPrim.{OutOfPrim}
+use Rattle.cg_replica.specs.declared.out_of_prim.OutOfPrim.TheVariants.{Non as NonMember, States as StatesMember, Actions as ActionsMember}
 use Rattle.cg_replica.specs.declared.attempt.InAttempt.{InAttempt}
 use Rattle.cg_replica.specs.declared.attempt.InAttempt.TheVariants.{Construct as ConstructMember, No as NoMember, Un as UnMember}
-use Rattle.cg_replica.specs.declared.member.Member.{Member}
-use Rattle.cg_replica.specs.declared.member.Member.TheVariants.{Prim as PrimMember, Outside as OutsideMember, Attempt as AttemptMember, Left as LeftMember}
+use Rattle.cg_replica.specs.declared.member_state.MemberState.{MemberState}
+use Rattle.cg_replica.specs.declared.member_state.MemberState.TheVariants.{Prim as PrimMember, Outside as OutsideMember, Attempt as AttemptMember, Left as LeftMember}
 
 abbrev pub prim_seen : InPrim → Replica
 prim_seen (RegMember s) = record { held = s; state = RegPrim }
 prim_seen (TransMember s) = record { held = s; state = TransPrim }
 
-abbrev pub outside_seen : Outside → Replica
+abbrev pub outside_seen : OutOfPrim → Replica
 outside_seen (NonMember s) = record { held = s.held; state = NonPrim s.regular }
 outside_seen (StatesMember s) = record { held = s.held; state = ExchangeStates s.conf s.set s.heard }
 outside_seen (ActionsMember s) = record { held = s.held; state = ExchangeActions s.conf s.summaries s.accepted }
@@ -28,7 +28,7 @@ attempt_seen (ConstructMember s) = record { held = s.held; state = Construct s.c
 attempt_seen (NoMember s) = record { held = s.held; state = No s.conf s.heard }
 attempt_seen (UnMember s) = record { held = s; state = Un }
 
-abbrev pub seen : Member → Replica
+abbrev pub seen : MemberState → Replica
 seen (PrimMember s) = prim_seen s
 seen (OutsideMember s) = outside_seen s
 seen (AttemptMember s) = attempt_seen s

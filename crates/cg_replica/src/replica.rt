@@ -4,15 +4,15 @@ ghost use Rattle.cg_client.specs.Queries.{state_name};
 ghost use Rattle.cg_client.specs.Replica.{fresh};
 ghost use Rattle.cg_client.specs.Requests.{request, settle};
 ghost use Rattle.cg_client.specs.Calls.{kind_of, IsLineGreen};
-ghost use Rattle.cg_stored.specs.Stored.{recover};
-ghost use Rattle.cg_step.specs.Hearing.{hear_delivery};
-ghost use Rattle.cg_step.specs.Step.{replica_step};
+ghost use Rattle.cg_disk_records.specs.Stored.{recovery_turn};
+ghost use Rattle.cg_replica_step.specs.Hearing.{hear_delivery};
+ghost use Rattle.cg_replica_step.specs.Step.{replica_step};
 ghost use Rattle.cg_replica.specs.Inputs.{input_of, taken, HasLimits};
 ghost use Rattle.cg_replica.specs.Seen.{turn_of, white_in, has_left};
 
 use crate::Input;
-use crate::member::{Member, core_of, hear, name_of, request, settle, whiten};
-use crate::outside::Outside;
+use crate::member_state::{MemberState, core_of, hear, name_of, request, settle, whiten};
+use crate::out_of_prim::OutOfPrim;
 use cg_base::{NoMemory, ReplicaId, WeightSet};
 use cg_client::{Core, Draft, Request};
 use cg_exchange::NonPrim;
@@ -23,7 +23,7 @@ use std::marker::Model;
 
 /// A replica in memory. Clauses see what it holds, and its state. After `NoMemory` it is gone.
 pub struct Replica {
-    member: Member,
+    member: MemberState,
 }
 
 impl Drop for Replica {
@@ -47,21 +47,21 @@ impl Replica {
         ensures { IfOk result (λ r. r ≡ fresh id servers.now) }
     {
         let core = Core::fresh(alloc, id, servers)?;
-        let member = Member::Outside(Outside::Non(NonPrim::recovered(core)));
+        let member = MemberState::Outside(OutOfPrim::Non(NonPrim::recovered(core)));
         Ok(Replica { member })
     }
 
     /// The replica that comes up with what it held at its last commit: alone, in no primary component, and its own actions
     /// have become red.
-    #[tactic(auto, unfolding(cg_stored::specs::Stored::recover))]
+    #[tactic(auto, unfolding(cg_disk_records::specs::Stored::recovery_turn))]
     pub fn recovered(core: Core) -> Result<(Replica, Draft), NoMemory>
-        ensures { IfOk result (λ up. turn_of up.0 up.1 ≡ recover core) }
+        ensures { IfOk result (λ up. turn_of up.0 up.1 ≡ recovery_turn core) }
     {
         let mut core = core;
         let mut draft = Draft::new(core.alloc());
         match core.own_to_red(&mut draft) {
             Ok(()) => {
-                let member = Member::Outside(Outside::Non(NonPrim::recovered(core)));
+                let member = MemberState::Outside(OutOfPrim::Non(NonPrim::recovered(core)));
                 Ok((Replica { member }, draft))
             }
             Err(_) => {
@@ -162,7 +162,7 @@ impl Replica {
         ensures { result ≡ has_left self.now.state }
     {
         match &self.member {
-            Member::Left(_) => true,
+            MemberState::Left(_) => true,
             _ => false,
         }
     }

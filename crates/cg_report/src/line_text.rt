@@ -42,9 +42,9 @@ impl Display for ShownPhase {
 
 // a primary component, as `p1@2{1,2}`
 #[derive(Clone, Copy)]
-struct Last<'a>(&'a Primary);
+struct PrimText<'a>(&'a Primary);
 
-impl Display for Last<'_> {
+impl Display for PrimText<'_> {
     ghost output = { λ last. Some (prim_text last.0.now) };
 
     fn fmt<W: Write>(&self, f: &mut Formatter<W>) -> fmt::Result {
@@ -54,9 +54,9 @@ impl Display for Last<'_> {
 
 // the record of an attempt
 #[derive(Clone, Copy)]
-struct Attempt<'a>(&'a Option<Vulnerable>);
+struct VulnerableText<'a>(&'a Option<Vulnerable>);
 
-impl Display for Attempt<'_> {
+impl Display for VulnerableText<'_> {
     ghost output = { λ attempt. Some (vulnerable_text attempt.0.now) };
 
     fn fmt<W: Write>(&self, f: &mut Formatter<W>) -> fmt::Result {
@@ -69,9 +69,9 @@ impl Display for Attempt<'_> {
 
 // a yellow list
 #[derive(Clone, Copy)]
-struct Names<'a>(&'a Yellow);
+struct YellowText<'a>(&'a Yellow);
 
-impl Display for Names<'_> {
+impl Display for YellowText<'_> {
     ghost output = { λ names. Some (yellow_text names.0.now) };
 
     fn fmt<W: Write>(&self, f: &mut Formatter<W>) -> fmt::Result {
@@ -92,10 +92,10 @@ impl Display for View {
 
     fn fmt<W: Write>(&self, f: &mut Formatter<W>) -> fmt::Result {
         let (green, white) = (self.green_count, self.white_count);
-        let (prim, attempt) = (Last(&self.prim), self.attempt_index);
-        let record = Attempt(&self.vulnerable);
+        let (prim, attempt) = (PrimText(&self.prim), self.attempt_index);
+        let record = VulnerableText(&self.vulnerable);
         write!(f, "g{green} w{white} {prim} a{attempt} {record}")?;
-        let (yellow, left) = (Names(&self.yellow), self.left);
+        let (yellow, left) = (YellowText(&self.yellow), self.left);
         let (reds, own, buffered) = (&self.reds, &self.own, self.buffered);
         write!(f, " {yellow} r{reds} o{own} x{left} b{buffered}")
     }

@@ -10,8 +10,8 @@ use Rattle.cg_outcome.specs.Produced.{Progress}
 
 -- the event may happen in the world: the end and rounds behind a start, any other where it may stand
 abbrev pub MayHappen : World → Event → Type 0
-MayHappen w (Rounds count) = 0 < length w.seats
-MayHappen w End = 0 < length w.seats
+MayHappen w (Rounds count) = 0 < length w.nodes
+MayHappen w End = 0 < length w.nodes
 MayHappen w other = MayStand w other × IsCounted other
 
 -- the event is the next one: behind it a start was read, and it may happen

@@ -26,7 +26,7 @@ fn count_step<K: Sink>(
 ) -> Result<Progress, Status>
     requires few_faults { (K.view output.old).faults < COUNT_LIMIT }
     requires started { next.reader.started ≡ true }
-    requires seated { 0 < length (seen next).world.seats }
+    requires hosted { 0 < length (seen next).world.nodes }
     ensures performs { (s : Progress) (asked : Option Further) (event : Event) → s.companion ≡ next.companion →
         s.reader ≡ next.reader → s.count ≡ next.count → s.totals ≡ next.totals →
         Performs line.report

@@ -1,6 +1,6 @@
 ghost use Rattle.std.specs.Prelude.{IfOk};
 ghost use Rattle.cg_model.specs.Run.{MayStand};
-ghost use Rattle.cg_model.specs.SeatLaws.{IsSeated};
+ghost use Rattle.cg_model.specs.NodeLaws.{IsHosted};
 ghost use Rattle.cg_world.specs.Steps.{IsCounted};
 
 use cg_action::{CmdList, Kind, Query};
@@ -13,7 +13,7 @@ use std::test::Fail;
 fn take_step(alloc: Global, world: World, event: &Event) -> Result<World, Fail>
     requires stands { MayStand world.world event.now }
     requires counted { IsCounted event.now }
-    ensures { IfOk result (λ w. IsSeated w.world) }
+    ensures { IfOk result (λ w. IsHosted w.world) }
 {
     match world.step(alloc, event) {
         Stepped::Done { world, entry } => {
@@ -30,7 +30,7 @@ fn take_step(alloc: Global, world: World, event: &Event) -> Result<World, Fail>
 
 // the replica begins, and comes into a configuration of its own
 fn begin(alloc: Global, p: ReplicaId) -> Result<World, Fail>
-    ensures { IfOk result (λ w. IsSeated w.world) }
+    ensures { IfOk result (λ w. IsHosted w.world) }
 {
     let mut set = IdSet::empty();
     set.add(p);
@@ -43,8 +43,8 @@ fn begin(alloc: Global, p: ReplicaId) -> Result<World, Fail>
 
 // what it has said is ordered, and handed to it
 fn hear(alloc: Global, world: World, p: ReplicaId) -> Result<World, Fail>
-    requires { IsSeated world.world }
-    ensures { IfOk result (λ w. IsSeated w.world) }
+    requires { IsHosted world.world }
+    ensures { IfOk result (λ w. IsHosted w.world) }
 {
     let world = take_step(alloc, world, &Event::Gather)?;
     let count = world.ready(p);
@@ -53,8 +53,8 @@ fn hear(alloc: Global, world: World, p: ReplicaId) -> Result<World, Fail>
 
 // a client asks it for a count of the keys
 fn ask(alloc: Global, world: World, p: ReplicaId) -> Result<World, Fail>
-    requires { IsSeated world.world }
-    ensures { IfOk result (λ w. IsSeated w.world) }
+    requires { IsHosted world.world }
+    ensures { IfOk result (λ w. IsHosted w.world) }
 {
     let cmds = CmdList::new(alloc);
     let query = Some(Query::Count);

@@ -14,16 +14,16 @@ use Rattle.cg_journal.specs.declared.journal.AppendErr.{AppendErr}
 use Rattle.cg_journal.specs.declared.journal.AppendErr.TheVariants.{Lost as AppendLost, NoMemory as AppendNoMemory}
 use Rattle.cg_records.specs.Limits.{IsNumber}
 use Rattle.cg_records.specs.declared.stable.Stable.{Stable}
-use Rattle.cg_stored.specs.Stored.{Stored}
-use Rattle.cg_stored.specs.Checkpoint.{size_with, empty_size}
-use Rattle.cg_stored.specs.Parts.{checkpoint_in}
+use Rattle.cg_disk_records.specs.Stored.{Stored}
+use Rattle.cg_disk_records.specs.Checkpoint.{size_with, empty_size}
+use Rattle.cg_disk_records.specs.Parts.{checkpoint_in}
 use Rattle.cg_store.specs.Stands.{OnDisk, stands_for, Stands, moved, begun}
-use Rattle.cg_store.specs.Kept.{Kept, IsStore}
+use Rattle.cg_store.specs.StoreState.{StoreState, IsStore}
 use Rattle.cg_store.specs.Answers.{IsReached, IsRefused, IsLost, EachMoment}
 use Rattle.cg_store.specs.Due.{IsLed, IsBehind}
 use Rattle.cg_store.specs.Calls.{IsEither, IsSaved, IsFirst, Writes, Moves, commit_fault}
 use Rattle.cg_store.specs.MomentLaws.{one_standing}
-use Rattle.cg_store.specs.declared.due.Due.{Due}
+use Rattle.cg_store.specs.declared.pending_record.PendingRecord.{PendingRecord}
 use Rattle.cg_store.proofs.Standing.{stands_added, stands_emptied, stands_moved, stands_begun}
 use Rattle.cg_store.proofs.Writing.{either_of, reached, lost, lost_closing}
 use Rattle.cg_journal.specs.ViewLaws.{weakened}
@@ -41,12 +41,12 @@ module _ (old : DiskView) (id : ℕ) (side : Side) (generation : ℕ) (values : 
 
   -- ---- a change behind the others
 
-  behind_stands : (due : Due) (u v : OnDisk) → Stands id old.reads u → IsBehind u (Some due) v → stands_for id (with_record side due.body old) ≡ Some v
+  behind_stands : (due : PendingRecord) (u v : OnDisk) → Stands id old.reads u → IsBehind u (Some due) v → stands_for id (with_record side due.body old) ≡ Some v
   behind_stands due u v stands behind =
       subst (λ x. stands_for id (option_map (added x due.body) (records old.reads)) ≡ Some v) (its_side u stands)
       (stands_added id (records old.reads) due.body u behind.0 stands behind.1 ∙ ap Some (sym behind.2))
 
-  pub written_held : (due : Due) (new : DiskView) → IsDone (with_record side due.body old) 4 old new → ((u : OnDisk) → Stands id old.reads u → IsLed u due) → IsStore new id side generation due.values
+  pub written_held : (due : PendingRecord) (new : DiskView) → IsDone (with_record side due.body old) 4 old new → ((u : OnDisk) → Stands id old.reads u → IsLed u due) → IsStore new id side generation due.values
   written_held due new done leads =
       let u = standing_at side generation held.size held.content in
       let goes = leads u held.stands in
@@ -59,17 +59,17 @@ module _ (old : DiskView) (id : ℕ) (side : Side) (generation : ℕ) (values : 
         rest = done.rest;
       }
 
-  pub written_reached : (due : Due) (new : DiskView) (u v : OnDisk) → IsDone (with_record side due.body old) 4 old new → Stands id old.reads u → IsBehind u (Some due) v → IsReached id 4 v old new
+  pub written_reached : (due : PendingRecord) (new : DiskView) (u v : OnDisk) → IsDone (with_record side due.body old) 4 old new → Stands id old.reads u → IsBehind u (Some due) v → IsReached id 4 v old new
   written_reached due new u v done stands behind = reached id 4 (with_record side due.body old) v old new done (behind_stands due u v stands behind)
 
-  pub written_lost : (due : Due) (new : DiskView) (u v : OnDisk) → IsLostAppend side due.body old new → Stands id old.reads u → IsBehind u (Some due) v → IsLost id 0 u v old new
+  pub written_lost : (due : PendingRecord) (new : DiskView) (u v : OnDisk) → IsLostAppend side due.body old new → Stands id old.reads u → IsBehind u (Some due) v → IsLost id 0 u v old new
   written_lost due new u v is stands behind =
       lost id 0 is.call side is.gate (records old.reads) (with_record side due.body old) u v old new is.lost stands (behind_stands due u v stands behind)
 
   pub written_refused : (new : DiskView) (u : OnDisk) → IsJournalRefused (λ r. r ≡ records old.reads) 2 old new → Stands id old.reads u → IsRefused id 2 u old new
   written_refused new u is stands = record { stands = ap (stands_for id) is.records_new ∙ stands; rest = is.rest; time = is.time; unstruck = is.unstruck }
 
-  pub written_moments : (due : Due) (new : DiskView) (u v : OnDisk) → LeavesOnly old new (IsOneOf (records old.reads) (with_record side due.body old)) → Stands id old.reads u → IsBehind u (Some due) v →
+  pub written_moments : (due : PendingRecord) (new : DiskView) (u v : OnDisk) → LeavesOnly old new (IsOneOf (records old.reads) (with_record side due.body old)) → Stands id old.reads u → IsBehind u (Some due) v →
       LeavesOnly old new (IsEither id u v)
   written_moments due new u v run stands behind =
       weakened old new (IsOneOf (records old.reads) (with_record side due.body old)) (IsEither id u v) run
@@ -135,13 +135,13 @@ module _ (old new : DiskView) (id : ℕ) (body : List ℕ) (empty : records old.
 
 -- ---- what ended a call of the journal
 
-module _ {D : Type 0} (view : D → DiskView) (k : Kept D) (side : Side) (generation : ℕ) (values : Stable) (held : IsStore (view k.disk) k.id side generation values) where
-  pub written_fails : (due : Due) (u v : OnDisk) (fault : AppendErr D) → Appends view side due.body (view k.disk) (Err fault) → Stands k.id (view k.disk).reads u → IsBehind u (Some due) v → Writes view k u v (Err (commit_fault fault))
+module _ {D : Type 0} (view : D → DiskView) (k : StoreState D) (side : Side) (generation : ℕ) (values : Stable) (held : IsStore (view k.disk) k.id side generation values) where
+  pub written_fails : (due : PendingRecord) (u v : OnDisk) (fault : AppendErr D) → Appends view side due.body (view k.disk) (Err fault) → Stands k.id (view k.disk).reads u → IsBehind u (Some due) v → Writes view k u v (Err (commit_fault fault))
   written_fails due u v (AppendLost disk) is stands behind = written_lost (view k.disk) k.id side generation values held due (view disk) u v is stands behind
   written_fails due u v (AppendNoMemory journal) is stands behind = written_refused (view k.disk) k.id side generation values held (view journal) u is stands
 
-  pub written_fails_moments : (due : Due) (u v : OnDisk) (fault : AppendErr D) → EachJournalMoment view (IsOneOf (records (view k.disk).reads) (with_record side due.body (view k.disk))) (view k.disk) (Err fault) →
-      Stands k.id (view k.disk).reads u → IsBehind u (Some due) v → EachMoment {T = Kept D} view (λ s. s.disk) (IsEither k.id u v) (view k.disk) (Err (commit_fault fault))
+  pub written_fails_moments : (due : PendingRecord) (u v : OnDisk) (fault : AppendErr D) → EachJournalMoment view (IsOneOf (records (view k.disk).reads) (with_record side due.body (view k.disk))) (view k.disk) (Err fault) →
+      Stands k.id (view k.disk).reads u → IsBehind u (Some due) v → EachMoment {T = StoreState D} view (λ s. s.disk) (IsEither k.id u v) (view k.disk) (Err (commit_fault fault))
   written_fails_moments due u v (AppendLost disk) is stands behind = written_moments (view k.disk) k.id side generation values held due (view disk) u v is stands behind
   written_fails_moments due u v (AppendNoMemory journal) is stands behind = written_moments (view k.disk) k.id side generation values held due (view journal) u v is stands behind
 
@@ -151,6 +151,6 @@ module _ {D : Type 0} (view : D → DiskView) (k : Kept D) (side : Side) (genera
     moved_fails u (AppendNoMemory journal) is stands = moved_refused (view k.disk) k.id side generation values held body saved (view journal) u is stands
 
     pub moved_fails_moments : (u : OnDisk) (fault : AppendErr D) → EachJournalMoment view (IsRestarting (opposite side) body (view k.disk)) (view k.disk) (Err fault) → Stands k.id (view k.disk).reads u →
-        EachMoment {T = Kept D} view (λ s. s.disk) (IsEither k.id u (moved u body)) (view k.disk) (Err (commit_fault fault))
+        EachMoment {T = StoreState D} view (λ s. s.disk) (IsEither k.id u (moved u body)) (view k.disk) (Err (commit_fault fault))
     moved_fails_moments u (AppendLost disk) is stands = moved_moments (view k.disk) k.id side generation values held body saved (view disk) u is stands
     moved_fails_moments u (AppendNoMemory journal) is stands = moved_moments (view k.disk) k.id side generation values held body saved (view journal) u is stands

@@ -3,12 +3,12 @@ use Rattle.std.proofs.Common.{◌≡◌, ℕ, suc, List, Option, Some, refl, sym
 use Rattle.cg_journal.specs.Records.{Records}
 use Rattle.cg_records.specs.Limits.{IsNumber}
 use Rattle.cg_client.specs.Replica.{Held}
-use Rattle.cg_stored.specs.Stored.{Stored, stored_of}
-use Rattle.cg_stored.specs.Checkpoint.{spelled_checkpoint}
-use Rattle.cg_stored.specs.Limits.{IsStored}
-use Rattle.cg_stored.specs.Parts.{checkpoint_in}
-use Rattle.cg_stored.specs.Laws.{IsCheckpoint}
-use Rattle.cg_stored.specs.Agreeing.{Agrees}
+use Rattle.cg_disk_records.specs.Stored.{Stored, stored_of}
+use Rattle.cg_disk_records.specs.Checkpoint.{spelled_checkpoint}
+use Rattle.cg_disk_records.specs.Limits.{IsStored}
+use Rattle.cg_disk_records.specs.Parts.{checkpoint_in}
+use Rattle.cg_disk_records.specs.Laws.{IsCheckpoint}
+use Rattle.cg_disk_records.specs.Agreeing.{Agrees}
 use Rattle.cg_store.specs.Stands.{OnDisk, stands_for}
 use Rattle.cg_store.specs.Calls.{IsSaved}
 use Rattle.cg_store.proofs.Owner.{standing-id}

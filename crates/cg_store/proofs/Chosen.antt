@@ -5,12 +5,12 @@ use Rattle.std.specs.Option.{option_map}
 use Rattle.cg_disk.specs.declared.disk.Side.{Side}
 use Rattle.cg_disk.specs.declared.disk.Side.TheVariants.{A, B}
 use Rattle.cg_journal.specs.Records.{Records, on_side}
-use Rattle.cg_stored.specs.Parts.{Saved, saved_in, stored_in}
-use Rattle.cg_stored.specs.declared.checkpoint.Checkpoint.{Checkpoint}
+use Rattle.cg_disk_records.specs.Parts.{Saved, saved_in, stored_in}
+use Rattle.cg_disk_records.specs.declared.checkpoint.Checkpoint.{Checkpoint}
 use Rattle.cg_commit.specs.Always.{AlwaysHolds}
 use Rattle.cg_store.specs.Stands.{size_of, live_from, live_on, OnDisk, standing_on, chosen}
 use Rattle.cg_store.specs.Opening.{first_on, FindsFirst, IsLater, live_of, IsChosen, Replays, Finds}
-use Rattle.cg_store.specs.declared.finding.Found.{Found}
+use Rattle.cg_store.specs.declared.finding.OpenedSide.{OpenedSide}
 use Rattle.cg_store.proofs.Sound.{stored-sound, led_all-sound}
 
 live_by_first : (id : ℕ) (bodies : List (List ℕ)) → live_on id bodies ≡ option_map (live_from bodies (drop 1 bodies)) (first_on id bodies)
@@ -50,7 +50,7 @@ chosen_later id a b A p later finds = record { saved = finds.1; standing = ap (�
 chosen_later id a b B p later finds = record { saved = finds.1; standing = ap (chosen (live_on id a)) (live_some id b p finds) ∙ in_b id a b p (first_on id a) refl finds later }
 
 -- what its records stand for
-pub replayed_finds : AlwaysHolds → (id : ℕ) (r : Records) (side : Side) (first : Checkpoint) (found : Option Found) → IsChosen id r side first → Replays id side first (drop 1 (on_side side r)) found → Finds id r found
+pub replayed_finds : AlwaysHolds → (id : ℕ) (r : Records) (side : Side) (first : Checkpoint) (found : Option OpenedSide) → IsChosen id r side first → Replays id side first (drop 1 (on_side side r)) found → Finds id r found
 replayed_finds always id r side first None chose none =
     chose.standing ∙ ap (option_map (λ s. record { side = side; generation = first.generation; size = size_of (on_side side r); content = s })) none
 replayed_finds always id r side first (Some f) chose is = record {
@@ -63,7 +63,7 @@ replayed_finds always id r side first (Some f) chose is = record {
   sound = led_all-sound always (stored_in id first) f.core (drop 1 (on_side side r)) (stored-sound always (stored_in id first) chose.saved.fits.agrees chose.saved.stored) is.leads;
 }
 
-pub if_ok_finds : AlwaysHolds → (id : ℕ) (r : Records) (side : Side) (first : Checkpoint) (changes : List (List ℕ)) (E : Type 0) (result : Result (Option Found) E) → IsChosen id r side first → changes ≡ drop 1 (on_side side r) →
+pub if_ok_finds : AlwaysHolds → (id : ℕ) (r : Records) (side : Side) (first : Checkpoint) (changes : List (List ℕ)) (E : Type 0) (result : Result (Option OpenedSide) E) → IsChosen id r side first → changes ≡ drop 1 (on_side side r) →
     IfOk result (Replays id side first changes) → IfOk result (Finds id r)
 if_ok_finds always id r side first changes E (Ok found) chose same is = replayed_finds always id r side first found chose (subst (λ c. Replays id side first c found) same is)
 if_ok_finds always id r side first changes E (Err e) chose same is = tt

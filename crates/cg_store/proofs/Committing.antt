@@ -10,20 +10,20 @@ use Rattle.cg_records.specs.declared.stable.Stable.{Stable}
 use Rattle.cg_client.specs.Replica.{Held, State}
 use Rattle.cg_client.specs.Drafts.{turn_with}
 use Rattle.cg_client.specs.declared.parts.DraftParts.{DraftParts}
-use Rattle.cg_stored.specs.Stored.{Stored, stored_of, stable_of, whiten}
-use Rattle.cg_stored.specs.declared.change.Change.{Change}
-use Rattle.cg_stored.specs.Change.{spelled_change, change_of}
-use Rattle.cg_stored.specs.Limits.{IsChange}
-use Rattle.cg_stored.specs.Parts.{change_in}
-use Rattle.cg_stored.specs.Following.{after_change, IsRecorded}
+use Rattle.cg_disk_records.specs.Stored.{Stored, stored_of, stable_of, whiten}
+use Rattle.cg_disk_records.specs.declared.change.Change.{Change}
+use Rattle.cg_disk_records.specs.Change.{spelled_change, change_of}
+use Rattle.cg_disk_records.specs.Limits.{IsChange}
+use Rattle.cg_disk_records.specs.Parts.{change_in}
+use Rattle.cg_disk_records.specs.Following.{after_change, IsRecorded}
 use Rattle.cg_commit.specs.Commit.{same_values, commits}
 use Rattle.cg_store.specs.Stands.{led_by, OnDisk, Stands, led, committed}
-use Rattle.cg_store.specs.Kept.{Kept}
+use Rattle.cg_store.specs.StoreState.{StoreState}
 use Rattle.cg_store.specs.Answers.{IsRefused, EachMoment}
 use Rattle.cg_store.specs.Due.{is_due, IsRecord, IsPrepared, IsReady, IsLed, IsBehind, WhetherDue}
 use Rattle.cg_base.specs.Choice.{Either}
 use Rattle.cg_store.specs.Calls.{outputs_of, Writes, Commits, Keeps, IsEither, paired}
-use Rattle.cg_store.specs.declared.due.Due.{Due}
+use Rattle.cg_store.specs.declared.pending_record.PendingRecord.{PendingRecord}
 use Rattle.cg_store.specs.declared.outputs.Outputs.{Outputs}
 use Rattle.cg_store.specs.declared.errors.CommitErr.{CommitErr}
 use Rattle.cg_store.specs.declared.errors.CommitErr.TheVariants.{Lost, NoMemory}
@@ -35,11 +35,11 @@ due_same : (s : Stored) (h : Held) (d : DraftParts) (state : State) → is_due (
 unfolding commits same_values
 due_same s h d state = refl
 
-ready_from : (s : Stored) (unwritten : List Action) (h : Held) (d : DraftParts) (state : State) (due : Option Due) → IsPrepared (stable_of s) unwritten h d due → IsReady s unwritten h d state due
+ready_from : (s : Stored) (unwritten : List Action) (h : Held) (d : DraftParts) (state : State) (due : Option PendingRecord) → IsPrepared (stable_of s) unwritten h d due → IsReady s unwritten h d state due
 ready_from s unwritten h d state None is = sym (due_same s h d state) ∙ is
 ready_from s unwritten h d state (Some due) is = (sym (due_same s h d state) ∙ is.0, is.1)
 
-pub ready_of : (values : Stable) (s : Stored) (unwritten : List Action) (h : Held) (d : DraftParts) (state : State) (due : Option Due) → values ≡ stable_of s → IsPrepared values unwritten h d due →
+pub ready_of : (values : Stable) (s : Stored) (unwritten : List Action) (h : Held) (d : DraftParts) (state : State) (due : Option PendingRecord) → values ≡ stable_of s → IsPrepared values unwritten h d due →
     IsReady s unwritten h d state due
 ready_of values s unwritten h d state due same is = ready_from s unwritten h d state due (subst (λ v. IsPrepared v unwritten h d due) same is)
 
@@ -52,12 +52,12 @@ values_behind : (h : Held) → stable_of h ≡ stable_of (stored_of (whiten h))
 unfolding whiten
 values_behind h = refl
 
-leads_to : ReadsAgain → (s : Stored) (unwritten : List Action) (h : Held) (d : DraftParts) (state : State) (due : Due) → IsRecord unwritten h d due → IsRecorded s unwritten (turn_with h state d) →
+leads_to : ReadsAgain → (s : Stored) (unwritten : List Action) (h : Held) (d : DraftParts) (state : State) (due : PendingRecord) → IsRecord unwritten h d due → IsRecorded s unwritten (turn_with h state d) →
     led_by s due.body ≡ Some (stored_of (whiten h))
 leads_to again s unwritten h d state due is recorded =
     ap (led_by s) is.body ∙ ap (option_and_then (after_change s)) (again (change_of unwritten (turn_with h state d)) is.within) ∙ recorded
 
-pub led_of : ReadsAgain → (u : OnDisk) (unwritten : List Action) (h : Held) (d : DraftParts) (state : State) (due : Option Due) → IsReady u.content unwritten h d state due → IsRecorded u.content unwritten (turn_with h state d) →
+pub led_of : ReadsAgain → (u : OnDisk) (unwritten : List Action) (h : Held) (d : DraftParts) (state : State) (due : Option PendingRecord) → IsReady u.content unwritten h d state due → IsRecorded u.content unwritten (turn_with h state d) →
     IfSome due (IsLed u)
 led_of again u unwritten h d state None is recorded = tt
 led_of again u unwritten h d state (Some due) is recorded = record {
@@ -66,20 +66,20 @@ led_of again u unwritten h d state (Some due) is recorded = record {
   values = is.1.values ∙ values_behind h;
 }
 
-pub behind_of : ReadsAgain → (u : OnDisk) (unwritten : List Action) (h : Held) (d : DraftParts) (state : State) (due : Option Due) → IsReady u.content unwritten h d state due → IsRecorded u.content unwritten (turn_with h state d) →
+pub behind_of : ReadsAgain → (u : OnDisk) (unwritten : List Action) (h : Held) (d : DraftParts) (state : State) (due : Option PendingRecord) → IsReady u.content unwritten h d state due → IsRecorded u.content unwritten (turn_with h state d) →
     IsBehind u due (committed unwritten (turn_with h state d) u)
 behind_of again u unwritten h d state None is recorded = tt
 behind_of again u unwritten h d state (Some due) is recorded =
     (stored_of (whiten h), leads_to again u.content unwritten h d state due is.1 recorded, ap (λ (bytes : List ℕ). led u bytes (stored_of (whiten h))) (sym is.1.body))
 
-pub whether_of : (s : Stored) (unwritten : List Action) (h : Held) (d : DraftParts) (state : State) (due : Option Due) (A B : Type 0) → IsReady s unwritten h d state due → WhetherDue due A B → Either (commits s (turn_with h state d)) A B
+pub whether_of : (s : Stored) (unwritten : List Action) (h : Held) (d : DraftParts) (state : State) (due : Option PendingRecord) (A B : Type 0) → IsReady s unwritten h d state due → WhetherDue due A B → Either (commits s (turn_with h state d)) A B
 whether_of s unwritten h d state None A B is b = subst (λ x. Either x A B) (sym is) b
 whether_of s unwritten h d state (Some due) A B is a = subst (λ x. Either x A B) (sym is.0) a
 
 -- ---- outputs behind a call
 
 module _ {D : Type 0} (view : D → DiskView) where
-  pub paired_writes : (k : Kept D) (u v : OnDisk) (d : DraftParts) (r : Result (Kept D) (CommitErr D)) (o : Outputs) → o ≡ outputs_of true d → Writes view k u v r → Commits view k u v d (paired r o)
+  pub paired_writes : (k : StoreState D) (u v : OnDisk) (d : DraftParts) (r : Result (StoreState D) (CommitErr D)) (o : Outputs) → o ≡ outputs_of true d → Writes view k u v r → Commits view k u v d (paired r o)
   paired_writes k u v d (Ok store) o same is = (is, same)
   paired_writes k u v d (Err (Lost disk)) o same is = is
   paired_writes k u v d (Err (NoMemory disk)) o same is = is
@@ -94,7 +94,7 @@ unstruck_same d is = record { faults = refl; stays = refl; ahead = told d.state 
     told (Some s) ahead = ahead
 
 -- memory was refused before the first call
-module _ {D : Type 0} (view : D → DiskView) (k : Kept D) (is_view : IsView (view k.disk)) (rest : IsAtRest (view k.disk)) (u : OnDisk) (stands : Stands k.id (view k.disk).reads u) where
+module _ {D : Type 0} (view : D → DiskView) (k : StoreState D) (is_view : IsView (view k.disk)) (rest : IsAtRest (view k.disk)) (u : OnDisk) (stands : Stands k.id (view k.disk).reads u) where
   pub refused_first : (most : ℕ) → IsRefused k.id most u (view k.disk) (view k.disk)
   refused_first most = record { stands = stands; rest = rest; time = omega arith; unstruck = unstruck_same (view k.disk) is_view }
 

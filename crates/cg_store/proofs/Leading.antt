@@ -18,8 +18,8 @@ use Rattle.cg_action.specs.declared.action.Action.{Action}
 use Rattle.cg_action.specs.ActionLimits.{IsAction}
 use Rattle.cg_queue.specs.Queue.{QueueView, names_of}
 use Rattle.cg_records.specs.Limits.{Each, IsIndex}
-use Rattle.cg_stored.specs.Agreeing.{indexes_of, count_to, counts_up}
-use Rattle.cg_stored.specs.NameLaws.{names-within}
+use Rattle.cg_disk_records.specs.Agreeing.{indexes_of, count_to, counts_up}
+use Rattle.cg_disk_records.specs.NameLaws.{names-within}
 use Rattle.cg_store.specs.Leading.{AreNext, LeadTo, IsBelow}
 
 -- the indexes of a creator's names, in the order of the list

@@ -5,7 +5,7 @@ use Rattle.cg_journal.specs.Records.{Records, records}
 use Rattle.cg_journal.specs.Reads.{IsRead, IsReadRefused}
 use Rattle.cg_client.specs.Replica.{Held}
 use Rattle.cg_store.specs.Stands.{stands_for}
-use Rattle.cg_store.specs.Kept.{Kept}
+use Rattle.cg_store.specs.StoreState.{StoreState}
 use Rattle.cg_store.specs.Opening.{Resumes, OpensStore}
 use Rattle.cg_store.specs.declared.errors.OpenErr.{OpenErr}
 use Rattle.cg_store.specs.declared.errors.OpenErr.TheVariants.{Lost, NotAStore, NoMemory}
@@ -14,15 +14,15 @@ pub records_read : (old new : DiskView) (found : Option Records) → IsRead 5 ol
 records_read old new found read is = ap records read.only.reads ∙ is
 
 module _ {D : Type 0} (view : D → DiskView) (id : ℕ) (old : DiskView) (journal : D) (r : Records) (are : records old.reads ≡ Some r) (read : IsRead 5 old (view journal)) where
-  pub opens_from : (result : Result (Kept D × Held) (OpenErr D)) → Resumes id journal r result → OpensStore view id old result
+  pub opens_from : (result : Result (StoreState D × Held) (OpenErr D)) → Resumes id journal r result → OpensStore view id old result
   opens_from (Ok opened) is = record {
     standing = is.0;
     stands = ap (stands_for id) are ∙ is.1;
     core_is = is.2;
     sound = is.4;
-    id_is = ap (λ (k : Kept D). k.id) is.3;
-    unwritten = ap (λ (k : Kept D). k.unwritten) is.3;
-    read = subst (λ d. IsRead 5 old (view d)) (sym (ap (λ (k : Kept D). k.disk) is.3)) read;
+    id_is = ap (λ (k : StoreState D). k.id) is.3;
+    unwritten = ap (λ (k : StoreState D). k.unwritten) is.3;
+    read = subst (λ d. IsRead 5 old (view d)) (sym (ap (λ (k : StoreState D). k.disk) is.3)) read;
   }
   opens_from (Err (Lost disk)) is = absurd is
   opens_from (Err (NotAStore disk)) is = record {

@@ -9,11 +9,11 @@ use Rattle.cg_records.specs.declared.stable.Stable.{Stable}
 use Rattle.cg_client.specs.Replica.{Held}
 use Rattle.cg_client.specs.Marks.{with_green, after_first}
 use Rattle.cg_queue.specs.Queue.{placed_red}
-use Rattle.cg_stored.specs.Stored.{Stored, whiten}
-use Rattle.cg_stored.specs.declared.change.Change.{Change}
-use Rattle.cg_stored.specs.declared.checkpoint.Checkpoint.{Checkpoint}
-use Rattle.cg_stored.specs.Following.{fits_known, know, turn_green, green_by_name, make, all_of, put_values, with_values, after_change}
-use Rattle.cg_stored.specs.Parts.{Saved, saved_of, saved_in, do_agree, change_in, checkpoint_in}
+use Rattle.cg_disk_records.specs.Stored.{Stored, whiten}
+use Rattle.cg_disk_records.specs.declared.change.Change.{Change}
+use Rattle.cg_disk_records.specs.declared.checkpoint.Checkpoint.{Checkpoint}
+use Rattle.cg_disk_records.specs.Following.{fits_known, know, turn_green, green_by_name, make, all_of, put_values, with_values, after_change}
+use Rattle.cg_disk_records.specs.Parts.{Saved, saved_of, saved_in, do_agree, change_in, checkpoint_in}
 use Rattle.cg_store.specs.Stands.{led_by, led_by_all, Live, live_from, live_on, OnDisk, stands_for}
 use Rattle.cg_journal.specs.Records.{Records}
 use Rattle.cg_store.proofs.Standing.{standing_parts}

@@ -15,11 +15,11 @@ use Rattle.cg_codec.specs.ItemLaws.{items_go_on, items_stop_unless, items_end}
 use Rattle.cg_records.specs.declared.stable.Stable.{Stable}
 use Rattle.cg_records.specs.Reading.{take_stable}
 use Rattle.cg_action.specs.Reading.{action_reading, id_reading}
-use Rattle.cg_stored.specs.Stored.{Stored}
-use Rattle.cg_stored.specs.declared.change.Change.{Change}
-use Rattle.cg_stored.specs.Following.{know, green_by_name, make, all_of, with_values, after_change, change_with}
-use Rattle.cg_stored.specs.Parts.{read_value, change_in}
-use Rattle.cg_stored.specs.Reading.{actions_reading, ids_reading, change_reading}
+use Rattle.cg_disk_records.specs.Stored.{Stored}
+use Rattle.cg_disk_records.specs.declared.change.Change.{Change}
+use Rattle.cg_disk_records.specs.Following.{know, green_by_name, make, all_of, with_values, after_change, change_with}
+use Rattle.cg_disk_records.specs.Parts.{read_value, change_in}
+use Rattle.cg_disk_records.specs.Reading.{actions_reading, ids_reading, change_reading}
 use Rattle.cg_store.specs.Putting.{PutsAll}
 use Rattle.cg_store.specs.Stands.{led_by}
 use Rattle.cg_store.proofs.Replaying.{unknown_none, ungreen_none, unmade_none, all_marked, all_fit}

@@ -7,10 +7,10 @@ use Rattle.cg_base.specs.Cuts.{raise}
 use Rattle.cg_action.specs.declared.action.Action.{Action}
 use Rattle.cg_queue.specs.Queue.{QueueView, names_of, with_red}
 use Rattle.cg_client.specs.Replica.{Held}
-use Rattle.cg_stored.specs.declared.checkpoint.Checkpoint.{Checkpoint}
-use Rattle.cg_stored.specs.Parts.{queue_in, stored_in}
-use Rattle.cg_stored.specs.Following.{are_yellow, put_values}
-use Rattle.cg_stored.specs.Agreeing.{is_by_name}
+use Rattle.cg_disk_records.specs.declared.checkpoint.Checkpoint.{Checkpoint}
+use Rattle.cg_disk_records.specs.Parts.{queue_in, stored_in}
+use Rattle.cg_disk_records.specs.Following.{are_yellow, put_values}
+use Rattle.cg_disk_records.specs.Agreeing.{is_by_name}
 use Rattle.cg_store.specs.declared.resuming.GreenState.{GreenState}
 use Rattle.cg_store.specs.Rebuilt.{with_kept_red, with_kept_own, resumed_with}
 

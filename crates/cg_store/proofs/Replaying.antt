@@ -9,9 +9,9 @@ use Rattle.cg_action.specs.declared.action.Action.{Action}
 use Rattle.cg_client.specs.Marks.{is_first}
 use Rattle.cg_queue.specs.Answers.{AreReds}
 use Rattle.cg_queue.specs.Queue.{QueueView, names_of}
-use Rattle.cg_stored.specs.Stored.{Stored}
-use Rattle.cg_stored.specs.Following.{know, green_by_name, make, all_of, with_values, after_change}
-use Rattle.cg_stored.specs.declared.change.Change.{Change}
+use Rattle.cg_disk_records.specs.Stored.{Stored}
+use Rattle.cg_disk_records.specs.Following.{know, green_by_name, make, all_of, with_values, after_change}
+use Rattle.cg_disk_records.specs.declared.change.Change.{Change}
 use Rattle.cg_store.specs.Opening.{Follows}
 
 -- nothing follows from a state that there is none of

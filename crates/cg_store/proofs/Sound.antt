@@ -6,12 +6,12 @@ use Rattle.cg_action.specs.declared.action.Action.{Action}
 use Rattle.cg_queue.specs.Queue.{action_of, placed_red}
 use Rattle.cg_records.specs.declared.stable.Stable.{Stable}
 use Rattle.cg_client.specs.Marks.{with_green, after_first, after_owed}
-use Rattle.cg_stored.specs.Stored.{Stored, whiten}
-use Rattle.cg_stored.specs.declared.change.Change.{Change}
-use Rattle.cg_stored.specs.Limits.{IsStored}
-use Rattle.cg_stored.specs.Parts.{change_in}
-use Rattle.cg_stored.specs.Following.{fits_known, know, turn_green, green_by_name, make, all_of, put_values, with_values, after_change}
-use Rattle.cg_stored.specs.Agreeing.{Agrees}
+use Rattle.cg_disk_records.specs.Stored.{Stored, whiten}
+use Rattle.cg_disk_records.specs.declared.change.Change.{Change}
+use Rattle.cg_disk_records.specs.Limits.{IsStored}
+use Rattle.cg_disk_records.specs.Parts.{change_in}
+use Rattle.cg_disk_records.specs.Following.{fits_known, know, turn_green, green_by_name, make, all_of, put_values, with_values, after_change}
+use Rattle.cg_disk_records.specs.Agreeing.{Agrees}
 use Rattle.cg_commit.specs.Holds.{Holds}
 use Rattle.cg_commit.specs.Always.{AlwaysHolds}
 use Rattle.cg_store.specs.Opening.{Follows, IsSound}

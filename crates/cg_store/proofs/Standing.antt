@@ -11,9 +11,9 @@ use Rattle.cg_codec.specs.Fields.{number32}
 use Rattle.cg_journal.specs.Records.{Records, records, spelled, added, emptied, on_side}
 use Rattle.cg_journal.specs.Held.{end_of}
 use Rattle.cg_journal.specs.Opens.{no_records}
-use Rattle.cg_stored.specs.Stored.{Stored}
-use Rattle.cg_stored.specs.Checkpoint.{size_with, empty_size}
-use Rattle.cg_stored.specs.Parts.{Saved, checkpoint_in}
+use Rattle.cg_disk_records.specs.Stored.{Stored}
+use Rattle.cg_disk_records.specs.Checkpoint.{size_with, empty_size}
+use Rattle.cg_disk_records.specs.Parts.{Saved, checkpoint_in}
 use Rattle.cg_store.specs.Stands.{led_by, led_by_all, size_of, Live, live_from, live_on, OnDisk, standing_on, chosen, standing_in, stands_for, led, moved, begun}
 
 -- a side of this generation comes before the other one

@@ -1,7 +1,7 @@
 -- How the calls of a store that write a record end: when it stands, when a call was struck, when memory was refused.
 use Rattle.std.specs.Prelude.{◌≡◌, ◌≢◌, ℕ, ◌+◌, ◌≤◌, List, Some, Result, Ok, Err, slice_index, if◌then◌else◌}
 use Rattle.cg_disk.specs.Sides.{Image, bytes_of}
-use Rattle.cg_disk.specs.State.{DiskState, Strike, left_by}
+use Rattle.cg_disk.specs.State.{DiskState, DiskStrike, left_by}
 use Rattle.cg_disk.specs.View.{DiskView, IsAtRest, LeavesOnly}
 use Rattle.cg_disk.specs.declared.disk.Side.{Side}
 use Rattle.cg_journal.specs.Adds.{gate_stands}
@@ -31,7 +31,7 @@ pub record Decides (id : ℕ) (side : Side) (gate : ℕ) (before after : OnDisk)
 
 -- what a disk tells that was struck in one of the four calls of a record: what each fill leaves
 pub record IsCutShort (id call : ℕ) (before after : OnDisk) (s e : DiskState) : Type 0 where
-  pub strike : Strike
+  pub strike : DiskStrike
   pub armed : s.strike ≡ Some strike
   pub fills : (fill : List ℕ) → Stands id (left_by e fill) (if gate_stands strike.blow call fill then after else before)
 

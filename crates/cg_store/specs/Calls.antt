@@ -8,12 +8,12 @@ use Rattle.cg_journal.specs.Fresh.{IsLostWithin, IsRefusedWithin}
 use Rattle.cg_journal.specs.declared.journal.AppendErr.{AppendErr}
 use Rattle.cg_journal.specs.declared.journal.AppendErr.TheVariants.{Lost as AppendLost, NoMemory as AppendNoMemory}
 use Rattle.cg_client.specs.declared.parts.DraftParts.{DraftParts}
-use Rattle.cg_stored.specs.Stored.{Stored, stable_of}
-use Rattle.cg_stored.specs.Parts.{checkpoint_in}
+use Rattle.cg_disk_records.specs.Stored.{Stored, stable_of}
+use Rattle.cg_disk_records.specs.Parts.{checkpoint_in}
 use Rattle.cg_records.specs.declared.stable.Stable.{Stable}
-use Rattle.cg_stored.specs.Checkpoint.{size_limit}
+use Rattle.cg_disk_records.specs.Checkpoint.{size_limit}
 use Rattle.cg_store.specs.Stands.{OnDisk, Stands, checkpointed}
-use Rattle.cg_store.specs.Kept.{Kept}
+use Rattle.cg_store.specs.StoreState.{StoreState}
 use Rattle.cg_store.specs.Answers.{IsReached, IsRefused, IsLost}
 use Rattle.cg_store.specs.declared.outputs.Outputs.{Outputs}
 use Rattle.cg_store.specs.declared.errors.CommitErr.{CommitErr}
@@ -38,45 +38,45 @@ pub record IsFirst (id : ℕ) (body : List ℕ) (values : Stable) : Type 0 where
   pub values_are : values ≡ stable_of state
 
 -- the first record was written on an empty disk, in four calls
-abbrev pub Begins : {D : Type 0} → (D → DiskView) → ℕ → OnDisk → DiskView → Result (Kept D) (CommitErr D) → Type 0
+abbrev pub Begins : {D : Type 0} → (D → DiskView) → ℕ → OnDisk → DiskView → Result (StoreState D) (CommitErr D) → Type 0
 Begins view id after old (Ok store) = IsReached id 4 after old (view store.disk) × (store.id ≡ id)
     × (store.unwritten ≡ [])
 Begins view id after old (Err (Lost disk)) = IsLostWithin 4 old (view disk)
 Begins view id after old (Err (NoMemory disk)) = IsRefusedWithin 4 old (view disk)
 
 -- the store of a new disk was made, in seven calls; after an error the disk may be no store
-abbrev pub Creates : {D : Type 0} → (D → DiskView) → ℕ → OnDisk → DiskView → Result (Kept D) (CommitErr D) → Type 0
+abbrev pub Creates : {D : Type 0} → (D → DiskView) → ℕ → OnDisk → DiskView → Result (StoreState D) (CommitErr D) → Type 0
 Creates view id after old (Ok store) = IsReached id 7 after old (view store.disk) × (store.id ≡ id)
     × (store.unwritten ≡ [])
 Creates view id after old (Err (Lost disk)) = IsLostWithin 7 old (view disk)
 Creates view id after old (Err (NoMemory disk)) = IsRefusedWithin 7 old (view disk)
 
 -- a record was written in four calls, and with it all red marks
-abbrev pub Writes : {D : Type 0} → (D → DiskView) → Kept D → OnDisk → OnDisk → Result (Kept D) (CommitErr D) → Type 0
+abbrev pub Writes : {D : Type 0} → (D → DiskView) → StoreState D → OnDisk → OnDisk → Result (StoreState D) (CommitErr D) → Type 0
 Writes view old before after (Ok store) = IsReached old.id 4 after (view old.disk) (view store.disk)
     × (store.id ≡ old.id) × (store.unwritten ≡ [])
 Writes view old before after (Err (Lost disk)) = IsLost old.id 0 before after (view old.disk) (view disk)
 Writes view old before after (Err (NoMemory disk)) = IsRefused old.id 2 before (view old.disk) (view disk)
 
 -- so was an event, which gives out what it has brought about
-abbrev pub Commits : {D : Type 0} → (D → DiskView) → Kept D → OnDisk → OnDisk → DraftParts →
-    Result (Kept D × Outputs) (CommitErr D) → Type 0
+abbrev pub Commits : {D : Type 0} → (D → DiskView) → StoreState D → OnDisk → OnDisk → DraftParts →
+    Result (StoreState D × Outputs) (CommitErr D) → Type 0
 Commits view old before after d (Ok done) = Writes view old before after (Ok done.0) × (done.1 ≡ outputs_of true d)
 Commits view old before after d (Err fault) = Writes view old before after (Err fault)
 
 -- no call was made, and these red marks are kept
-abbrev pub KeepsMarks : {D : Type 0} → Kept D → List Action → Result (Kept D) (CommitErr D) → Type 0
+abbrev pub KeepsMarks : {D : Type 0} → StoreState D → List Action → Result (StoreState D) (CommitErr D) → Type 0
 KeepsMarks old known (Ok store) = store ≡ record old { unwritten = old.unwritten ++ known }
 KeepsMarks old known (Err (Lost disk)) = ⊥
 KeepsMarks old known (Err (NoMemory disk)) = disk ≡ old.disk
 
 -- so it was with an event
-abbrev pub Keeps : {D : Type 0} → Kept D → DraftParts → Result (Kept D × Outputs) (CommitErr D) → Type 0
+abbrev pub Keeps : {D : Type 0} → StoreState D → DraftParts → Result (StoreState D × Outputs) (CommitErr D) → Type 0
 Keeps old d (Ok done) = KeepsMarks old d.known (Ok done.0) × (done.1 ≡ outputs_of false d)
 Keeps old d (Err fault) = KeepsMarks old d.known (Err fault)
 
 -- the state was written in one record on the other side, in six calls
-abbrev pub Moves : {D : Type 0} → (D → DiskView) → Kept D → OnDisk → OnDisk → Result (Kept D) (CommitErr D) → Type 0
+abbrev pub Moves : {D : Type 0} → (D → DiskView) → StoreState D → OnDisk → OnDisk → Result (StoreState D) (CommitErr D) → Type 0
 Moves view old before after (Ok store) = IsReached old.id 6 after (view old.disk) (view store.disk)
     × (store.id ≡ old.id) × (store.unwritten ≡ old.unwritten)
 Moves view old before after (Err (Lost disk)) = IsLost old.id 0 before before (view old.disk) (view disk)
@@ -89,8 +89,8 @@ paired (Ok store) outputs = Ok (store, outputs)
 paired (Err fault) outputs = Err fault
 
 -- an event's commit left its side too long, and a checkpoint followed
-abbrev pub EndsLong : {D : Type 0} → (D → DiskView) → Kept D → OnDisk → OnDisk → OnDisk → DraftParts →
-    Result (Kept D × Outputs) (CommitErr D) → Type 0
+abbrev pub EndsLong : {D : Type 0} → (D → DiskView) → StoreState D → OnDisk → OnDisk → OnDisk → DraftParts →
+    Result (StoreState D × Outputs) (CommitErr D) → Type 0
 EndsLong view old before after moved d (Ok done) =
     IsReached old.id 10 moved (view old.disk) (view done.0.disk) × (done.0.id ≡ old.id) × (done.0.unwritten ≡ [])
     × (done.1 ≡ outputs_of true d)
@@ -102,8 +102,8 @@ EndsLong view old before after moved d (Err (NoMemory disk)) =
     IsRefused old.id 2 before (view old.disk) (view disk) ⊎ IsRefused old.id 8 after (view old.disk) (view disk)
 
 -- so it was where the commit leaves the side too long; else the event ends with it
-abbrev pub EndsWritten : {D : Type 0} → (D → DiskView) → Kept D → OnDisk → OnDisk → DraftParts →
-    Result (Kept D × Outputs) (CommitErr D) → Type 0
+abbrev pub EndsWritten : {D : Type 0} → (D → DiskView) → StoreState D → OnDisk → OnDisk → DraftParts →
+    Result (StoreState D × Outputs) (CommitErr D) → Type 0
 EndsWritten view old before after d result =
     Either (nat_lt size_limit after.size) (EndsLong view old before after (checkpointed after) d result) (Commits view
     old before after d result)

@@ -7,10 +7,10 @@ use Rattle.cg_disk.specs.View.{DiskView, LeavesOnly}
 use Rattle.cg_journal.specs.Strikes.{IsUnstruck, IsStruck}
 use Rattle.cg_client.specs.Replica.{Held}
 use Rattle.cg_client.specs.declared.parts.DraftParts.{DraftParts}
-use Rattle.cg_stored.specs.Stored.{stored_of}
-use Rattle.cg_stored.specs.Checkpoint.{size_limit}
+use Rattle.cg_disk_records.specs.Stored.{stored_of}
+use Rattle.cg_disk_records.specs.Checkpoint.{size_limit}
 use Rattle.cg_store.specs.Stands.{OnDisk, Stands, checkpointed}
-use Rattle.cg_store.specs.Kept.{Kept}
+use Rattle.cg_store.specs.StoreState.{StoreState}
 use Rattle.cg_store.specs.Answers.{IsReached, IsRefused, IsLost, EachMoment}
 use Rattle.cg_base.specs.Choice.{Either}
 use Rattle.cg_store.specs.Calls.{outputs_of, Commits, Keeps, Moves, EndsLong, EndsWritten, IsEither, IsOneOfThree, paired}
@@ -59,9 +59,9 @@ lost_later id calls earlier u v old mid new first time lost = record {
       record { strike = cut.strike; armed = sym next.2 ∙ cut.armed; fills = cut.fills };
 }
 
-module _ {D : Type 0} (view : D → DiskView) (k mid : Kept D) (u v : OnDisk) (d : DraftParts) (id_is : mid.id ≡
+module _ {D : Type 0} (view : D → DiskView) (k mid : StoreState D) (u v : OnDisk) (d : DraftParts) (id_is : mid.id ≡
     k.id) (none : mid.unwritten ≡ []) (first : IsReached k.id 4 v (view k.disk) (view mid.disk)) where
-  long_ends : (r : Result (Kept D) (CommitErr D)) (o : Outputs) → o ≡ outputs_of true d →
+  long_ends : (r : Result (StoreState D) (CommitErr D)) (o : Outputs) → o ≡ outputs_of true d →
       Moves view mid v (checkpointed v) r → EndsLong view k u v (checkpointed v) d (paired r o)
   long_ends (Ok store) o same is =
       let done = subst (λ id. IsReached id 6 (checkpointed v) (view mid.disk) (view store.disk)) id_is is.0 in (
@@ -99,12 +99,12 @@ whether_false b A B is x = subst (λ y. Either y A B) (sym is) x
 
 -- ---- the store and the outputs behind a commit, or behind an event that was not to be written
 
-module _ {D : Type 0} (view : D → DiskView) (k mid : Kept D) (u v : OnDisk) (d : DraftParts) (o : Outputs) where
+module _ {D : Type 0} (view : D → DiskView) (k mid : StoreState D) (u v : OnDisk) (d : DraftParts) (o : Outputs) where
   pub commit_stands : Commits view k u v d (Ok (mid, o)) → Stands mid.id (view mid.disk).reads v
   commit_stands is = subst (λ id. Stands id (view mid.disk).reads v) (sym is.0.1) is.0.0.stands
 
   pub keep_stands : Keeps k d (Ok (mid, o)) → Stands k.id (view k.disk).reads u → Stands mid.id (view mid.disk).reads u
-  keep_stands is stands = subst (λ (m : Kept D). Stands m.id (view m.disk).reads u) (sym is.0) stands
+  keep_stands is stands = subst (λ (m : StoreState D). Stands m.id (view m.disk).reads u) (sym is.0) stands
 
   pub commit_is_written : Commits view k u v d (Ok (mid, o)) → o.written ≡ true
   commit_is_written is = ap (λ (x : Outputs). x.written) is.1
@@ -129,9 +129,9 @@ module _ {D : Type 0} (view : D → DiskView) (k mid : Kept D) (u v : OnDisk) (d
 
 -- ---- how the event ends
 
-module _ {D : Type 0} (view : D → DiskView) (k : Kept D) (u v : OnDisk) (d : DraftParts) where
+module _ {D : Type 0} (view : D → DiskView) (k : StoreState D) (u v : OnDisk) (d : DraftParts) where
   -- with a checkpoint behind the commit
-  pub ends_long : (mid : Kept D) (o : Outputs) (r : Result (Kept D) (CommitErr D)) →
+  pub ends_long : (mid : StoreState D) (o : Outputs) (r : Result (StoreState D) (CommitErr D)) →
       Commits view k u v d (Ok (mid, o)) → nat_lt size_limit v.size ≡ true → Moves view mid v (checkpointed v) r →
       EndsWritten view k u v d (paired r o)
   ends_long mid o r is long moves =
@@ -140,7 +140,7 @@ module _ {D : Type 0} (view : D → DiskView) (k : Kept D) (u v : OnDisk) (d : D
       (long_ends view k mid u v d is.0.1 is.0.2 is.0.0 r o is.1 moves)
 
   -- with the commit
-  pub ends_short : (r : Result (Kept D × Outputs) (CommitErr D)) → Commits view k u v d r →
+  pub ends_short : (r : Result (StoreState D × Outputs) (CommitErr D)) → Commits view k u v d r →
       nat_lt size_limit v.size ≡ false → EndsWritten view k u v d r
   ends_short r is short =
       whether_false (nat_lt size_limit v.size) (EndsLong view k u v (checkpointed v) d r) (Commits
@@ -165,19 +165,19 @@ module _ {D : Type 0} (view : D → DiskView) (k : Kept D) (u v : OnDisk) (d : D
 -- ---- moments of a commit and of the checkpoint behind it
 
 pub paired_moments : {D : Type 0} (view : D → DiskView) (P : Image →
-    Type 0) (old : DiskView) (r : Result (Kept D) (CommitErr D)) (o : Outputs) →
+    Type 0) (old : DiskView) (r : Result (StoreState D) (CommitErr D)) (o : Outputs) →
     EachMoment view (λ s. s.disk) P old r → EachMoment view (λ done. done.0.disk) P old (paired r o)
 paired_moments view P old (Ok store) o is = is
 paired_moments view P old (Err (Lost disk)) o is = is
 paired_moments view P old (Err (NoMemory disk)) o is = is
 
 pub event_moments : {D : Type 0} (view : D →
-    DiskView) (k mid : Kept D) (u v w : OnDisk) (o : Outputs) (r : Result (Kept D) (CommitErr D)) → mid.id ≡ k.id →
+    DiskView) (k mid : StoreState D) (u v w : OnDisk) (o : Outputs) (r : Result (StoreState D) (CommitErr D)) → mid.id ≡ k.id →
     LeavesOnly (view k.disk) (view mid.disk) (IsEither k.id u v) →
     EachMoment view (λ s. s.disk) (IsEither mid.id v w) (view mid.disk) r →
-    EachMoment view (λ (done : Kept D × Outputs). done.0.disk) (IsOneOfThree k.id u v w) (view k.disk) (paired r o)
+    EachMoment view (λ (done : StoreState D × Outputs). done.0.disk) (IsOneOfThree k.id u v w) (view k.disk) (paired r o)
 event_moments {D} view k mid u v w o r id_is first second =
-    moments_joined k.id u v w view (λ (done : Kept D × Outputs). done.0.disk) (view k.disk) (view
+    moments_joined k.id u v w view (λ (done : StoreState D × Outputs). done.0.disk) (view k.disk) (view
     mid.disk) (paired r o) first
     (paired_moments view (IsEither k.id v w) (view mid.disk) r
-    o (subst (λ id. EachMoment view (λ (s : Kept D). s.disk) (IsEither id v w) (view mid.disk) r) id_is second))
+    o (subst (λ id. EachMoment view (λ (s : StoreState D). s.disk) (IsEither id v w) (view mid.disk) r) id_is second))

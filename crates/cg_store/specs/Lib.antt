@@ -1,5 +1,5 @@
 pub mod Stands
-pub mod Kept
+pub mod StoreState
 pub mod Answers
 pub mod Due
 pub mod Calls

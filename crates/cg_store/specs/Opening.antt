@@ -7,15 +7,15 @@ use Rattle.cg_journal.specs.Records.{Records, records, on_side}
 use Rattle.cg_journal.specs.Reads.{IsRead, IsReadStruck, IsReadRefused}
 use Rattle.cg_records.specs.Limits.{IsNumber}
 use Rattle.cg_client.specs.Replica.{Held}
-use Rattle.cg_stored.specs.Stored.{Stored, stable_of}
-use Rattle.cg_stored.specs.Parts.{Saved, saved_in, stored_in, checkpoint_in}
-use Rattle.cg_stored.specs.Laws.{AreSaved}
-use Rattle.cg_stored.specs.declared.checkpoint.Checkpoint.{Checkpoint}
+use Rattle.cg_disk_records.specs.Stored.{Stored, stable_of}
+use Rattle.cg_disk_records.specs.Parts.{Saved, saved_in, stored_in, checkpoint_in}
+use Rattle.cg_disk_records.specs.Laws.{AreSaved}
+use Rattle.cg_disk_records.specs.declared.checkpoint.Checkpoint.{Checkpoint}
 use Rattle.cg_commit.specs.Holds.{Holds}
 use Rattle.cg_store.specs.Stands.{Live, live_from, OnDisk, standing_on, Stands, stands_for, standing_in, led_by_all}
-use Rattle.cg_store.specs.Kept.{Kept}
-use Rattle.cg_store.specs.declared.finding.Found.{Found}
-use Rattle.cg_store.specs.declared.finding.Front.{Front}
+use Rattle.cg_store.specs.StoreState.{StoreState}
+use Rattle.cg_store.specs.declared.finding.OpenedSide.{OpenedSide}
+use Rattle.cg_store.specs.declared.finding.SideFront.{SideFront}
 use Rattle.cg_store.specs.declared.errors.OpenErr.{OpenErr}
 use Rattle.cg_store.specs.declared.errors.OpenErr.TheVariants.{Lost, NotAStore, NoMemory}
 
@@ -54,19 +54,19 @@ pub record IsChosen (id : ℕ) (r : Records) (side : Side) (first : Checkpoint) 
   pub saved : AreSaved id first
   pub standing : standing_in id r ≡ standing_on side (live_of id (on_side side r) first)
 
-abbrev pub FindsFront : ℕ → Records → Option Front → Type 0
+abbrev pub FindsFront : ℕ → Records → Option SideFront → Type 0
 FindsFront id r None = standing_in id r ≡ None
 FindsFront id r (Some f) = IsChosen id r f.side f.first
 
 -- the changes behind a checkpoint were put into what it stands for
-pub record IsReplayed (id : ℕ) (side : Side) (first : Checkpoint) (changes : List (List ℕ)) (f : Found) : Type 0 where
+pub record IsReplayed (id : ℕ) (side : Side) (first : Checkpoint) (changes : List (List ℕ)) (f : OpenedSide) : Type 0 where
   pub side_is : f.side ≡ side
   pub generation_is : f.generation ≡ first.generation
   pub leads : led_by_all (Some (stored_in id first)) changes ≡ Some f.core
   pub values : f.values ≡ stable_of f.core
   pub small : IsNumber f.generation
 
-abbrev pub Replays : ℕ → Side → Checkpoint → List (List ℕ) → Option Found → Type 0
+abbrev pub Replays : ℕ → Side → Checkpoint → List (List ℕ) → Option OpenedSide → Type 0
 Replays id side first changes None = led_by_all (Some (stored_in id first)) changes ≡ None
 Replays id side first changes (Some f) = IsReplayed id side first changes f
 
@@ -77,7 +77,7 @@ pub record IsSound (s : Stored) : Type 0 where
   pub owed : s.owed ≡ []
 
 -- what these records stand for was found
-pub record IsFound (id : ℕ) (r : Records) (f : Found) : Type 0 where
+pub record IsFound (id : ℕ) (r : Records) (f : OpenedSide) : Type 0 where
   pub size : ℕ
   pub stands : standing_in id r ≡
       Some (record { side = f.side; generation = f.generation; size = size; content = f.core })
@@ -85,12 +85,12 @@ pub record IsFound (id : ℕ) (r : Records) (f : Found) : Type 0 where
   pub small : IsNumber f.generation
   pub sound : IsSound f.core
 
-abbrev pub Finds : ℕ → Records → Option Found → Type 0
+abbrev pub Finds : ℕ → Records → Option OpenedSide → Type 0
 Finds id r None = standing_in id r ≡ None
 Finds id r (Some f) = IsFound id r f
 
 -- the same with the store of the journal that has them
-abbrev pub Resumes : {D : Type 0} → ℕ → D → Records → Result (Kept D × Held) (OpenErr D) → Type 0
+abbrev pub Resumes : {D : Type 0} → ℕ → D → Records → Result (StoreState D × Held) (OpenErr D) → Type 0
 Resumes id journal r (Ok opened) = (u : OnDisk) × (standing_in id r ≡ Some u) × (opened.1 ≡ u.content)
     × (opened.0 ≡ record { disk = journal; id = id; unwritten = [] }) × IsSound u.content
 Resumes id journal r (Err (Lost disk)) = ⊥
@@ -99,7 +99,7 @@ Resumes id journal r (Err (NoMemory disk)) = disk ≡ journal
 
 -- the store of a disk that stands for a state, and the core that holds it
 pub record IsOpened {D : Type 0} (view : D →
-    DiskView) (id : ℕ) (old : DiskView) (store : Kept D) (core : Held) : Type 0 where
+    DiskView) (id : ℕ) (old : DiskView) (store : StoreState D) (core : Held) : Type 0 where
   pub standing : OnDisk
   pub stands : Stands id old.reads standing
   pub core_is : core ≡ standing.content
@@ -113,7 +113,7 @@ pub record IsNoStore (id : ℕ) (old new : DiskView) : Type 0 where
   pub stands_for_none : stands_for id (records old.reads) ≡ None
   pub read : IsRead 5 old new
 
-abbrev pub OpensStore : {D : Type 0} → (D → DiskView) → ℕ → DiskView → Result (Kept D × Held) (OpenErr D) → Type 0
+abbrev pub OpensStore : {D : Type 0} → (D → DiskView) → ℕ → DiskView → Result (StoreState D × Held) (OpenErr D) → Type 0
 OpensStore view id old (Ok opened) = IsOpened view id old opened.0 opened.1
 OpensStore view id old (Err (Lost disk)) = IsReadStruck 5 old (view disk)
 OpensStore view id old (Err (NotAStore disk)) = IsNoStore id old (view disk)

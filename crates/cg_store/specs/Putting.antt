@@ -2,8 +2,8 @@
 use Rattle.std.specs.Prelude.{◌≡◌, Bool, true, false, List, Option, Some, None, Ok}
 use Rattle.cg_codec.specs.Reading.{Unread, Reading}
 use Rattle.cg_client.specs.Replica.{Held}
-use Rattle.cg_stored.specs.Stored.{Stored}
-use Rattle.cg_stored.specs.Following.{all_of}
+use Rattle.cg_disk_records.specs.Stored.{Stored}
+use Rattle.cg_disk_records.specs.Following.{all_of}
 
 -- all were read and fit; or no list was read there whose items all fit
 abbrev pub PutsAll : {A : Type 0} → Reading (List A) → (Stored → A → Option Stored) → Stored → Unread →

@@ -7,11 +7,11 @@ use Rattle.cg_disk.specs.declared.disk.Side.{Side}
 use Rattle.cg_disk.specs.declared.disk.Side.TheVariants.{A, B}
 use Rattle.cg_journal.specs.Records.{Records, records}
 use Rattle.cg_client.specs.Turn.{Turn}
-use Rattle.cg_stored.specs.Stored.{Stored, stored_of, whiten}
-use Rattle.cg_stored.specs.Change.{spelled_change, change_of}
-use Rattle.cg_stored.specs.Checkpoint.{spelled_checkpoint, size_with, empty_size}
-use Rattle.cg_stored.specs.Parts.{change_in, Saved, checkpoint_in}
-use Rattle.cg_stored.specs.Following.{after_change}
+use Rattle.cg_disk_records.specs.Stored.{Stored, stored_of, whiten}
+use Rattle.cg_disk_records.specs.Change.{spelled_change, change_of}
+use Rattle.cg_disk_records.specs.Checkpoint.{spelled_checkpoint, size_with, empty_size}
+use Rattle.cg_disk_records.specs.Parts.{change_in, Saved, checkpoint_in}
+use Rattle.cg_disk_records.specs.Following.{after_change}
 use Rattle.cg_commit.specs.Crash.{Disk}
 
 -- the state that a record leads to, where it is a change that fits

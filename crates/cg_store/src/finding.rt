@@ -2,27 +2,27 @@
 ghost use Rattle.std.specs.Prelude.{◌≡◌, drop, Some, IfOk};
 ghost use Rattle.cg_disk.specs.Sides.{opposite};
 ghost use Rattle.cg_journal.specs.Records.{on_side};
-ghost use Rattle.cg_stored.specs.Laws.{AreSaved};
-ghost use Rattle.cg_stored.specs.Parts.{stored_in};
+ghost use Rattle.cg_disk_records.specs.Laws.{AreSaved};
+ghost use Rattle.cg_disk_records.specs.Parts.{stored_in};
 ghost use Rattle.cg_commit.specs.Holds.{Holds};
 ghost use Rattle.cg_store.specs.Stands.{led_by_all};
 ghost use Rattle.cg_store.specs.Opening.{Follows, FindsFirst, IsInFront, IsLater, FindsFront, Replays, Finds};
 
+use crate::last_values::LastValues;
 use crate::rebuild::rebuild;
-use crate::recent::Recent;
 use crate::replay::follow;
 use cg_base::{NoMemory, ReplicaId};
 use cg_client::Core;
 use cg_commit::what_is_held_agrees;
 use cg_disk::Side;
+use cg_disk_records::{Checkpoint, generation_of, read_checkpoint};
 use cg_journal::Bodies;
 use cg_records::Stable;
-use cg_stored::{Checkpoint, generation_of, read_checkpoint};
 use std::alloc::Global;
 
 /// The side in use, the generation of its checkpoint, the values that stand there, and all that the replica holds.
 #[derive(Drop)]
-pub(crate) struct Found {
+pub(crate) struct OpenedSide {
     pub(crate) side: Side,
     pub(crate) generation: u64,
     pub(crate) values: Stable,
@@ -35,7 +35,7 @@ pub(crate) fn find(
     id: ReplicaId,
     a: &Bodies,
     b: &Bodies,
-) -> Result<Option<Found>, NoMemory>
+) -> Result<Option<OpenedSide>, NoMemory>
     ensures { IfOk result (Finds id (record { a = a.now; b = b.now })) }
 {
     what_is_held_agrees();
@@ -50,7 +50,7 @@ pub(crate) fn find(
 
 /// The checkpoint at the front of a side.
 #[derive(Drop)]
-pub(crate) struct Front {
+pub(crate) struct SideFront {
     side: Side,
     first: Checkpoint,
 }
@@ -84,16 +84,21 @@ fn first_of(alloc: Global, id: ReplicaId, bodies: &Bodies) -> Result<Option<Chec
 }
 
 // The checkpoint in use. Where both sides begin with one, only that of the later side is read whole.
-fn front_of(alloc: Global, id: ReplicaId, a: &Bodies, b: &Bodies) -> Result<Option<Front>, NoMemory>
+fn front_of(
+    alloc: Global,
+    id: ReplicaId,
+    a: &Bodies,
+    b: &Bodies,
+) -> Result<Option<SideFront>, NoMemory>
     ensures { IfOk result (FindsFront id (record { a = a.now; b = b.now })) }
 {
     let side = later(a, b);
     if let Some(first) = first_of(alloc, id, bodies_on(side, a, b))? {
-        return Ok(Some(Front { side, first }));
+        return Ok(Some(SideFront { side, first }));
     }
     let side = other(side);
     match first_of(alloc, id, bodies_on(side, a, b))? {
-        Some(first) => Ok(Some(Front { side, first })),
+        Some(first) => Ok(Some(SideFront { side, first })),
         None => Ok(None),
     }
 }
@@ -124,14 +129,14 @@ fn front_generation(bodies: &Bodies) -> Option<u64>
 fn replay(
     alloc: Global,
     id: ReplicaId,
-    front: Front,
+    front: SideFront,
     bodies: &Bodies,
-) -> Result<Option<Found>, NoMemory>
+) -> Result<Option<OpenedSide>, NoMemory>
     requires saved { AreSaved id front.first }
     requires holds { Holds (stored_in id front.first) }
     ensures { IfOk result (Replays id front.side front.first (drop 1 bodies.now)) }
 {
-    let Front { side, first } = front;
+    let SideFront { side, first } = front;
     let generation = first.generation;
     let mut core = rebuild(alloc, id, first)?;
     let fits = follow_all(alloc, &mut core, bodies)?;
@@ -139,7 +144,7 @@ fn replay(
         return Ok(None);
     }
     let values = core.stable()?;
-    Ok(Some(Found {
+    Ok(Some(OpenedSide {
         side,
         generation,
         values,
@@ -152,7 +157,7 @@ fn follow_all(alloc: Global, core: &mut Core, bodies: &Bodies) -> Result<bool, N
     requires { Holds core.old }
     ensures { IfOk result (Follows (led_by_all (Some core.old) (drop 1 bodies.now)) core.new) }
 {
-    let mut recent = Recent::new(core.stable()?);
+    let mut recent = LastValues::new(core.stable()?);
     for i in 1..bodies.len() {
         let Some(body) = bodies.get(i) else {
             unreachable!();

@@ -3,18 +3,18 @@ ghost use Rattle.cg_records.specs.Limits.{Each};
 ghost use Rattle.cg_wire.specs.Limits.{IsMsg};
 
 use cg_base::{NoMemory, Row};
-use cg_letter::Letter;
+use cg_encoded::EncodedMsg;
 use cg_wire::Msg;
 use std::alloc::Global;
 
 /// The messages in bytes.
-pub(crate) fn seal_all(alloc: Global, messages: &[Msg]) -> Result<Row<Letter>, NoMemory>
+pub(crate) fn seal_all(alloc: Global, messages: &[Msg]) -> Result<Row<EncodedMsg>, NoMemory>
     requires { Each IsMsg messages.now }
     ensures { IfOk result (λ letters. letters ≡ messages.now) }
 {
     let mut letters = Row::new(alloc);
     for m in messages {
-        letters.push(Letter::seal(alloc, m)?)?;
+        letters.push(EncodedMsg::seal(alloc, m)?)?;
     }
     Ok(letters)
 }

@@ -7,7 +7,7 @@
 //! When to commit what, and what comes of a crash, is left to the engine above.
 //!
 //! A store is made, and its replica comes up with what the disk stands for, as in
-//! `crates/cg_replica_examples/src/store.rt`:
+//! `crates/cg_replica_tests/src/store.rt`:
 //!
 //! ```rust
 //! fn a_replica_comes_up_with_what_its_disk_stands_for(rt: HostRuntime) -> Result<(), Fail> {
@@ -32,14 +32,14 @@
 //! ```
 #![tactic(auto)]
 
-mod due;
 mod errors;
 mod finding;
+mod last_values;
 mod laws;
 mod letters;
 mod outputs;
+mod pending_record;
 mod rebuild;
-mod recent;
 mod records;
 mod replay;
 mod resuming;

@@ -2,13 +2,13 @@ ghost use Rattle.std.specs.Prelude.{◌≡◌};
 
 use cg_action::ActionList;
 use cg_base::{IdList, Row};
-use cg_letter::Letter;
+use cg_encoded::EncodedMsg;
 use cg_report::Reply;
 
 /// What an event gives out behind its commit. Clauses see the messages in its letters.
 pub struct Outputs {
     pub(crate) made: ActionList,
-    pub(crate) sent: Row<Letter>,
+    pub(crate) sent: Row<EncodedMsg>,
     pub(crate) replies: Row<Reply>,
     pub(crate) green: IdList,
     pub(crate) written: bool,
@@ -35,7 +35,7 @@ impl Outputs {
     }
 
     /// The messages to be sent, in their order. It takes no memory.
-    pub fn send(&self) -> &Row<Letter>
+    pub fn send(&self) -> &Row<EncodedMsg>
         ensures { result.now ≡ self.now.sent }
     {
         &self.sent
@@ -63,7 +63,7 @@ impl Outputs {
     }
 
     /// The actions made, the messages to be sent, the replies and the names newly green. It takes no memory.
-    pub fn into_parts(self) -> (ActionList, Row<Letter>, Row<Reply>, IdList)
+    pub fn into_parts(self) -> (ActionList, Row<EncodedMsg>, Row<Reply>, IdList)
         ensures { result ≡ (self.made, self.sent, self.replies, self.green) }
     {
         let Outputs {

@@ -3,8 +3,8 @@ ghost use Rattle.std.specs.Prelude.{◌≡◌, fold, IfOk, OnOk};
 ghost use Rattle.cg_action.specs.ActionLimits.{IsAction};
 ghost use Rattle.cg_queue.specs.Queue.{names_of};
 ghost use Rattle.cg_records.specs.Limits.{Each};
-ghost use Rattle.cg_stored.specs.Laws.{AreSaved};
-ghost use Rattle.cg_stored.specs.Parts.{stored_in};
+ghost use Rattle.cg_disk_records.specs.Laws.{AreSaved};
+ghost use Rattle.cg_disk_records.specs.Parts.{stored_in};
 ghost use Rattle.cg_store.specs.Leading.{AreNext};
 ghost use Rattle.cg_store.specs.Rebuilt.{with_kept_red, with_kept_own};
 
@@ -13,7 +13,7 @@ use crate::resuming::{GreenState, resume};
 use cg_action::ActionList;
 use cg_base::{NoMemory, ReplicaId};
 use cg_client::Core;
-use cg_stored::{Checkpoint, Kept};
+use cg_disk_records::{Checkpoint, KeptActions};
 use std::alloc::Global;
 
 /// What a replica holds that has a checkpoint with these parts.
@@ -28,7 +28,7 @@ pub(crate) fn rebuild(alloc: Global, id: ReplicaId, p: Checkpoint) -> Result<Cor
         kept,
         ..
     } = p;
-    let Kept { greens, reds, own } = kept;
+    let KeptActions { greens, reds, own } = kept;
     let state = GreenState {
         reached,
         greens,

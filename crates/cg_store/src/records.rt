@@ -2,16 +2,16 @@ ghost use Rattle.std.specs.Prelude.{◌≡◌, ◌<◌, ◌++◌, length, IfOk};
 ghost use Rattle.cg_base.specs.declared.limits.TheConstants.{LIST_LIMIT, NUMBER_LIMIT};
 ghost use Rattle.cg_action.specs.ActionLimits.{IsAction};
 ghost use Rattle.cg_records.specs.Limits.{Each, IsStable};
-ghost use Rattle.cg_stored.specs.Change.{spelled_change};
-ghost use Rattle.cg_stored.specs.Checkpoint.{spelled_checkpoint};
-ghost use Rattle.cg_stored.specs.Limits.{IsChange, IsStored};
-ghost use Rattle.cg_stored.specs.Following.{change_with};
+ghost use Rattle.cg_disk_records.specs.Change.{spelled_change};
+ghost use Rattle.cg_disk_records.specs.Checkpoint.{spelled_checkpoint};
+ghost use Rattle.cg_disk_records.specs.Limits.{IsChange, IsStored};
+ghost use Rattle.cg_disk_records.specs.Following.{change_with};
 
 use cg_action::Action;
 use cg_base::{LIST_LIMIT, NoMemory};
 use cg_client::{Core, Draft};
+use cg_disk_records::{put_change, put_checkpoint};
 use cg_records::Stable;
-use cg_stored::{put_change, put_checkpoint};
 use std::alloc::Global;
 
 // most records are no longer, and need no more room

@@ -10,15 +10,15 @@ ghost use Rattle.cg_queue.specs.Queue.{names_of};
 ghost use Rattle.cg_codec.specs.Taking.{unread_of, TakesWithMemory};
 ghost use Rattle.cg_action.specs.Reading.{action_reading};
 ghost use Rattle.cg_codec.specs.declared.fault.CodecFault.TheVariants.{NoMemory as OutOfMemory};
-ghost use Rattle.cg_stored.specs.Following.{fits_known, know, green_by_name, make, are_yellow, put_values, with_values};
-ghost use Rattle.cg_stored.specs.Reading.{actions_reading, ids_reading};
+ghost use Rattle.cg_disk_records.specs.Following.{fits_known, know, green_by_name, make, are_yellow, put_values, with_values};
+ghost use Rattle.cg_disk_records.specs.Reading.{actions_reading, ids_reading};
 ghost use Rattle.cg_commit.specs.Holds.{Holds};
 ghost use Rattle.cg_store.specs.Stands.{led_by};
 ghost use Rattle.cg_store.specs.Opening.{Follows};
 ghost use Rattle.cg_store.specs.Putting.{PutsAll};
 ghost use Rattle.cg_store.specs.Repeating.{IsRecent};
 
-use crate::recent::Recent;
+use crate::last_values::LastValues;
 use cg_action::{Action, actions_are_exact, take_action, take_action_id};
 use cg_base::{ActionId, NoMemory};
 use cg_client::Core;
@@ -30,11 +30,11 @@ use std::alloc::Global;
 
 /// Puts a record into what the replica holds, where it is a change that fits. Each of its actions is put in as it is read, so
 /// that no list of them is made; where the record doesn't fit, some of them have been.
-#[tactic(auto, unfolding(cg_stored::specs::Parts::change_in))]
+#[tactic(auto, unfolding(cg_disk_records::specs::Parts::change_in))]
 pub(crate) fn follow<'a>(
     alloc: Global,
     core: &mut Core,
-    recent: &mut Recent<'a>,
+    recent: &mut LastValues<'a>,
     body: &'a [u8],
 ) -> Result<bool, NoMemory>
     requires holds { Holds core.old }
@@ -203,7 +203,7 @@ fn fits_made(core: &Core, a: &Action) -> bool
 }
 
 // The new values, where they fit; then the white count rises, and the actions up to it are discarded.
-#[tactic(auto, unfolding(cg_stored::specs::Stored::whiten))]
+#[tactic(auto, unfolding(cg_disk_records::specs::Stored::whiten))]
 fn put_values(core: &mut Core, stable: &Stable) -> Result<bool, NoMemory>
     requires { IsLineGreen core.old }
     ensures { IfOk result (Follows (with_values stable.now core.old) core.new) }

@@ -4,7 +4,7 @@ ghost use Rattle.cg_action.specs.ActionLimits.{IsAction};
 ghost use Rattle.cg_db.specs.Limits.{AreEntries};
 ghost use Rattle.cg_queue.specs.Queue.{names_of};
 ghost use Rattle.cg_records.specs.Limits.{Each, IsSmallCut};
-ghost use Rattle.cg_stored.specs.Limits.{IsReached};
+ghost use Rattle.cg_disk_records.specs.Limits.{IsReached};
 ghost use Rattle.cg_store.specs.Leading.{AreNext, LeadTo, IsBelow};
 ghost use Rattle.cg_store.specs.Rebuilt.{with_kept_green, resumed_with};
 
@@ -12,8 +12,8 @@ use cg_action::{Action, ActionList};
 use cg_base::{COUNT_LIMIT, Cut, NoMemory, ReplicaId};
 use cg_client::{Core, WhiteState};
 use cg_db::Db;
+use cg_disk_records::{Reached, count_of};
 use cg_records::{Primary, Vulnerable};
-use cg_stored::{Reached, count_of};
 use std::alloc::Global;
 
 /// What a replica has green, and where it stands among primary components.

@@ -2,16 +2,16 @@
 ghost use Rattle.std.specs.Prelude.{◌≡◌, ◌+◌, ◌<◌, ◌≤◌, suc, nat_lt};
 ghost use Rattle.std.specs.Prelude.{IfOk, OnOk, length};
 ghost use Rattle.cg_base.specs.declared.limits.TheConstants.{COUNT_LIMIT, LIST_LIMIT};
-ghost use Rattle.cg_stored.specs.Stored.{stable_of};
-ghost use Rattle.cg_stored.specs.Checkpoint.{spelled_checkpoint};
-ghost use Rattle.cg_stored.specs.Limits.{IsStored};
+ghost use Rattle.cg_disk_records.specs.Stored.{stable_of};
+ghost use Rattle.cg_disk_records.specs.Checkpoint.{spelled_checkpoint};
+ghost use Rattle.cg_disk_records.specs.Limits.{IsStored};
 ghost use Rattle.cg_store.specs.Calls.{paired as answer_with, commit_fault as fault_of};
 ghost use Rattle.cg_client.specs.Drafts.{turn_with};
 ghost use Rattle.cg_client.specs.Replica.{State};
 
-use crate::due::{Due, prepare};
-use crate::finding::{Found, find, other};
+use crate::finding::{OpenedSide, find, other};
 use crate::letters::seal_all;
+use crate::pending_record::{PendingRecord, prepare};
 use crate::records::checkpoint_record;
 use crate::unwritten::Unwritten;
 use crate::{CommitErr, OpenErr, Outputs};
@@ -19,10 +19,10 @@ use cg_action::ActionList;
 use cg_base::{NUMBER_LIMIT, NoMemory, ReplicaId, Row};
 use cg_client::{Core, Draft, DraftParts};
 use cg_disk::{Disk, ModelDisk, Side};
+use cg_disk_records::{CHECKPOINT_BYTES, changes_are_exact, checkpoints_are_exact};
+use cg_encoded::EncodedMsg;
 use cg_journal::{AppendErr, Bodies, FormatErr, Journal, JournalOpen};
-use cg_letter::Letter;
 use cg_records::Stable;
-use cg_stored::{CHECKPOINT_BYTES, changes_are_exact, checkpoints_are_exact};
 use std::alloc::Global;
 use std::marker::Model;
 
@@ -53,9 +53,9 @@ impl<D: Disk + Drop> Drop for Store<D> {
 }
 
 impl<D: Disk> Model for Store<D> {
-    ghost use Rattle.cg_store.specs.Kept.{Kept, IsStore};
+    ghost use Rattle.cg_store.specs.StoreState.{StoreState, IsStore};
 
-    ghost Value = { Kept D };
+    ghost Value = { StoreState D };
 
     ghost view = { λ s. record { disk = s.journal; id = s.id; unwritten = s.unwritten } };
 
@@ -103,14 +103,14 @@ impl<D: Disk> Store<D> {
     ghost use Rattle.cg_disk.specs.Calls.{Begins as DiskBegins};
     ghost use Rattle.cg_journal.specs.Records.{records};
     ghost use Rattle.cg_journal.specs.Opens.{no_records};
-    ghost use Rattle.cg_stored.specs.Limits.{IsStored};
+    ghost use Rattle.cg_disk_records.specs.Limits.{IsStored};
     ghost use Rattle.cg_records.specs.Limits.{Each, IsNumber};
     ghost use Rattle.cg_commit.specs.Commit.{commits};
-    ghost use Rattle.cg_stored.specs.Stored.{Stored, stored_of};
-    ghost use Rattle.cg_stored.specs.Checkpoint.{size_limit, spelled_checkpoint};
-    ghost use Rattle.cg_stored.specs.Parts.{checkpoint_in};
-    ghost use Rattle.cg_stored.specs.Following.{IsRecorded};
-    ghost use Rattle.cg_stored.specs.Agreeing.{Agrees};
+    ghost use Rattle.cg_disk_records.specs.Stored.{Stored, stored_of};
+    ghost use Rattle.cg_disk_records.specs.Checkpoint.{size_limit, spelled_checkpoint};
+    ghost use Rattle.cg_disk_records.specs.Parts.{checkpoint_in};
+    ghost use Rattle.cg_disk_records.specs.Following.{IsRecorded};
+    ghost use Rattle.cg_disk_records.specs.Agreeing.{Agrees};
     ghost use Rattle.cg_store.specs.Stands.{OnDisk, Stands, begun, created, moved, committed, checkpointed};
     ghost use Rattle.cg_store.specs.Answers.{EachMoment};
     ghost use Rattle.cg_store.specs.Due.{IsReady, IsLed, IsBehind, WhetherDue};
@@ -157,7 +157,7 @@ impl<D: Disk> Store<D> {
         alloc: Global,
         core: &Core,
         draft: &Draft,
-    ) -> Result<(Row<Letter>, Option<Due>), NoMemory>
+    ) -> Result<(Row<EncodedMsg>, Option<PendingRecord>), NoMemory>
         ensures letters { IfOk result (λ r. r.0 ≡ draft.now.sent) }
         ensures short { IfOk result (λ r. IfSome r.1 (λ x. length x.body < LIST_LIMIT)) }
         ensures due { IfOk result (λ r. (u : OnDisk) (state : State) →
@@ -174,8 +174,8 @@ impl<D: Disk> Store<D> {
         self,
         alloc: Global,
         parts: DraftParts,
-        letters: Row<Letter>,
-        due: Option<Due>,
+        letters: Row<EncodedMsg>,
+        due: Option<PendingRecord>,
     ) -> Result<(Store<D>, Outputs), CommitErr<D>>
         requires calls { (D.view self.disk).time + 4 ≤ COUNT_LIMIT }
         requires letters { letters ≡ parts.sent }
@@ -209,7 +209,7 @@ impl<D: Disk> Store<D> {
     }
 
     // Writes the record of an event.
-    fn write(self, alloc: Global, due: Due) -> Result<Store<D>, CommitErr<D>>
+    fn write(self, alloc: Global, due: PendingRecord) -> Result<Store<D>, CommitErr<D>>
         requires calls { (D.view self.disk).time + 4 ≤ COUNT_LIMIT }
         requires short { length due.body < LIST_LIMIT }
         requires leads { (u : OnDisk) → Stands self.id (D.view self.disk).reads u → IsLed u due }
@@ -228,7 +228,7 @@ impl<D: Disk> Store<D> {
             values: _,
             unwritten: _,
         } = self;
-        let Due { body, values } = due;
+        let PendingRecord { body, values } = due;
         match journal.append(alloc, side, body.as_slice()) {
             Ok(journal) => Ok(Store {
                 journal,
@@ -417,7 +417,7 @@ impl<D: Disk> Store<D> {
     {
         match find(alloc, id, a, b) {
             Ok(Some(found)) => {
-                let Found {
+                let OpenedSide {
                     side,
                     generation,
                     values,

@@ -23,7 +23,7 @@ use Rattle.cg_schedule.specs.declared.event.Event.TheVariants.{Gather, Recover, 
 use Rattle.cg_client.specs.Replica.{Held, Replica, NonPrim, fresh_held}
 use Rattle.cg_commit.specs.Crash.{new_disk}
 use Rattle.cg_queue.specs.Queue.{green_count}
-use Rattle.cg_model.specs.World.{Life, Up, Down, Seat, World, no_world, running, replica_of}
+use Rattle.cg_model.specs.World.{NodeState, Up, Down, Node, World, no_world, running, replica_of}
 use Rattle.cg_model.specs.Run.{Step}
 use Rattle.cg_model.specs.Shown.{made_names, order_of, ordered_actions, last_up, all_up_lines, position_of}
 use Rattle.cg_model.specs.Agreement.{ComesAfter, through, is_recovery_of}
@@ -44,17 +44,17 @@ line_in state p greens = record { id = p; up = Some (up_with 1 state greens 1) }
 abbrev both_applied : Held
 both_applied = let h = fresh_held 2 servers in record h { db = x_is 1; queue = record h.queue { white = 2 } }
 
-abbrev up_as : ℕ → Held → Seat
+abbrev up_as : ℕ → Held → Node
 up_as p h = record { id = p; life = Up (record { held = h; state = NonPrim false }) (new_disk h) }
 
-abbrev down_as : ℕ → Held → Seat
+abbrev down_as : ℕ → Held → Node
 down_as p h = record { id = p; life = Down (new_disk h) [] }
 
-abbrev with_seats : List Seat → World
-with_seats seats = record no_world { seats = seats }
+abbrev with_nodes : List Node → World
+with_nodes nodes = record no_world { nodes = nodes }
 
 abbrev before_the_crash : World
-before_the_crash = with_seats (up_as 1 (one_applied 1 (x_is 1)) ∷ up_as 2 (fresh_held 2 servers) ∷ up_as 3 (fresh_held 3 servers) ∷ [])
+before_the_crash = with_nodes (up_as 1 (one_applied 1 (x_is 1)) ∷ up_as 2 (fresh_held 2 servers) ∷ up_as 3 (fresh_held 3 servers) ∷ [])
 
 -- 1 writes, 3 parts and reads its older prefix, 1 crashes and recovers, and 2 goes on and reads
 abbrev writes : Step
@@ -69,7 +69,7 @@ reads_old = record (showing (Weak 3 (Get (codes "x"))) (record no_entry { shown 
 abbrev crashes : Step
 crashes =
     record (showing (Stop 1 0 []) (record no_entry { lines = record { id = 1; up = None } ∷ [] })) {
-      world = with_seats (down_as 1 (one_applied 1 (x_is 1)) ∷ up_as 2 (fresh_held 2 servers) ∷ up_as 3 (fresh_held 3 servers) ∷ []);
+      world = with_nodes (down_as 1 (one_applied 1 (x_is 1)) ∷ up_as 2 (fresh_held 2 servers) ∷ up_as 3 (fresh_held 3 servers) ∷ []);
     }
 
 abbrev recovers : Step
@@ -83,7 +83,7 @@ reads =
       lines = line_in state.RegPrim 2 2 ∷ [];
       replies = finds_one (name 2 1) ∷ [];
     })) {
-      world = with_seats (up_as 1 (one_applied 1 (x_is 1)) ∷ up_as 2 both_applied ∷ up_as 3 (fresh_held 3 servers) ∷ []);
+      world = with_nodes (up_as 1 (one_applied 1 (x_is 1)) ∷ up_as 2 both_applied ∷ up_as 3 (fresh_held 3 servers) ∷ []);
     }
 
 abbrev right : List Step
@@ -104,7 +104,7 @@ before_recovering = writes ∷ parts ∷ reads_old ∷ crashes ∷ []
 abbrev before_reading : List Step
 before_reading = writes ∷ parts ∷ reads_old ∷ crashes ∷ recovers ∷ []
 
--- ---- what holds of each step, of each seat and of each element
+-- ---- what holds of each step, of each node and of each element
 
 abbrev EachStep : (List Step → Step → Type 0) → List Step → List Step → Type 0
 EachStep P before [] = Unit {0}
@@ -127,27 +127,27 @@ each-step : (P : List Step → Step → Type 0) →
 each-step P first second third fourth fifth sixth earlier s there =
     each-from P [] right earlier s there.0 (first, (second, (third, (fourth, (fifth, (sixth, tt)))))) there.1
 
-abbrev HoldsUp : (ℕ → Replica → Type 0) → ℕ → Life → Type 0
+abbrev HoldsUp : (ℕ → Replica → Type 0) → ℕ → NodeState → Type 0
 HoldsUp Q p (Up r disk) = Q p r
 HoldsUp Q p (Down disk green) = Unit {0}
 
-abbrev EachUp : (ℕ → Replica → Type 0) → List Seat → Type 0
+abbrev EachUp : (ℕ → Replica → Type 0) → List Node → Type 0
 EachUp Q [] = Unit {0}
-EachUp Q (s ∷ seats) = HoldsUp Q s.id s.life × EachUp Q seats
+EachUp Q (s ∷ nodes) = HoldsUp Q s.id s.life × EachUp Q nodes
 
-of-life : (Q : ℕ → Replica → Type 0) (p : ℕ) (life : Life) (r : Replica) → HoldsUp Q p life → running life ≡ Some r → Q p r
+of-life : (Q : ℕ → Replica → Type 0) (p : ℕ) (life : NodeState) (r : Replica) → HoldsUp Q p life → running life ≡ Some r → Q p r
 of-life Q p (Up x disk) r holds is = (let same : x ≡ r = cc in subst (Q p) same holds)
 of-life Q p (Down disk green) r holds is = absurd (let clash : None ≡ Some r = is in cc)
 
-each-up : (Q : ℕ → Replica → Type 0) (seats : List Seat) (p : ℕ) (r : Replica) → EachUp Q seats →
-    option_and_then (λ s. running s.life) (find (λ s. s.id == p) seats) ≡ Some r → Q p r
+each-up : (Q : ℕ → Replica → Type 0) (nodes : List Node) (p : ℕ) (r : Replica) → EachUp Q nodes →
+    option_and_then (λ s. running s.life) (find (λ s. s.id == p) nodes) ≡ Some r → Q p r
 each-up Q [] p r each is = absurd (let clash : None ≡ Some r = is in cc)
-each-up Q (s ∷ seats) p r each is = elim (cases_Bool (s.id == p)) [
+each-up Q (s ∷ nodes) p r each is = elim (cases_Bool (s.id == p)) [
   | inl here ↦
-      let life : running s.life ≡ Some r = ap (option_and_then (λ (x : Seat). running x.life)) (sym (cond-true (s.id == p) (Some s) (find (λ s. s.id == p) seats) here)) ∙ is in
+      let life : running s.life ≡ Some r = ap (option_and_then (λ (x : Node). running x.life)) (sym (cond-true (s.id == p) (Some s) (find (λ s. s.id == p) nodes) here)) ∙ is in
       subst (λ (n : ℕ). Q n r) (eqb-true s.id p here) (of-life Q s.id s.life r each.0 life)
   | inr other ↦
-      each-up Q seats p r each.1 (ap (option_and_then (λ (x : Seat). running x.life)) (sym (cond-false (s.id == p) (Some s) (find (λ s. s.id == p) seats) other)) ∙ is)
+      each-up Q nodes p r each.1 (ap (option_and_then (λ (x : Node). running x.life)) (sym (cond-false (s.id == p) (Some s) (find (λ s. s.id == p) nodes) other)) ∙ is)
 ]
 
 module _ {X : Type 0} (P : X → Type 0) where
@@ -239,8 +239,8 @@ fresh_state p = ((let less : 0 ≤ 2 = omega arith in less), refl)
 
 has_shown : (earlier : List Step) (s : Step) (p : ℕ) (r : Replica) → ComesAfter right earlier s → replica_of s.world p ≡ Some r → HasShown (through earlier s) p r
 has_shown earlier s p r there up =
-    each-up (HasShown (through earlier s)) s.world.seats p r
-    (each-step (λ earlier s. EachUp (HasShown (through earlier s)) s.world.seats)
+    each-up (HasShown (through earlier s)) s.world.nodes p r
+    (each-step (λ earlier s. EachUp (HasShown (through earlier s)) s.world.nodes)
     (((λ id there. there), first_state), (((λ id there. there), fresh_state 2), (((λ id there. there), fresh_state 3), tt)))
     (((λ id there. there), first_state), (((λ id there. there), fresh_state 2), (((λ id there. there), fresh_state 3), tt)))
     (((λ id there. there), first_state), (((λ id there. there), fresh_state 2), (((λ id there. there), fresh_state 3), tt)))

@@ -120,7 +120,7 @@ abbrev done_with : List DbEntry → List DbEntry → Step
 done_with db other =
     record done {
       world = record no_world {
-        seats = record { id = 1; life = Up (replica_with 1 db) (new_disk (one_applied 1 db)) } ∷ record { id = 2; life = Up (replica_with 2 other) (new_disk (one_applied 2 other)) } ∷ [];
+        nodes = record { id = 1; life = Up (replica_with 1 db) (new_disk (one_applied 1 db)) } ∷ record { id = 2; life = Up (replica_with 2 other) (new_disk (one_applied 2 other)) } ∷ [];
       };
     }
 

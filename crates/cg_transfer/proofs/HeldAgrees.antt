@@ -4,8 +4,8 @@ use Rattle.std.specs.Prelude.{drop, IsTrue}
 use Rattle.std.specs.List.{list_all}
 use Rattle.cg_client.specs.Replica.{Held}
 use Rattle.cg_queue.specs.Queue.{green_count}
-use Rattle.cg_stored.specs.Agreeing.{Agrees, is_present}
-use Rattle.cg_stored.specs.Stored.{stored_of, whiten}
+use Rattle.cg_disk_records.specs.Agreeing.{Agrees, is_present}
+use Rattle.cg_disk_records.specs.Stored.{stored_of, whiten}
 use Rattle.cg_commit.specs.Holds.{Holds}
 use Rattle.cg_commit.specs.Always.{AlwaysCounts, AlwaysSettled}
 

@@ -1,8 +1,8 @@
 //! A snapshot under way.
 ghost use Rattle.std.specs.Prelude.{◌≡◌, ◌≤◌, ◌+◌, min, IfOk};
-ghost use Rattle.cg_client.specs.Joined.{joined, piece_count};
+ghost use Rattle.cg_client.specs.Joined.{joiner_content, piece_count};
 ghost use Rattle.cg_records.specs.Limits.{IsNumber};
-ghost use Rattle.cg_stored.specs.Agreeing.{Agrees};
+ghost use Rattle.cg_disk_records.specs.Agreeing.{Agrees};
 ghost use Rattle.cg_transfer.specs.Calls.{copy_of, IsOfJoined};
 
 use cg_base::{NoMemory, ReplicaId};
@@ -38,10 +38,10 @@ impl Drop for Transfer {
 
 impl Model for Transfer {
     ghost use Rattle.std.specs.Prelude.{length};
-    ghost use Rattle.cg_model.specs.World.{Snapshot};
+    ghost use Rattle.cg_model.specs.World.{TransferState};
     ghost use Rattle.cg_transfer.specs.Copies.{IsCopy};
 
-    ghost Value = { Snapshot };
+    ghost Value = { TransferState };
 
     ghost view = { λ t. record { joiner = t.joiner; giver = t.giver; content = t.held.value; taken = length t.taking.parts } };
 
@@ -57,7 +57,7 @@ impl Transfer {
         joiner: ReplicaId,
     ) -> Result<Transfer, NoMemory>
         requires number { IsNumber number }
-        requires agrees { Agrees (joined joiner core.now) }
+        requires agrees { Agrees (joiner_content joiner core.now) }
         ensures { IfOk result (λ t. t ≡ copy_of joiner giver core.now) }
     {
         let alloc = core.alloc();

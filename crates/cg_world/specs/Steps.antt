@@ -9,7 +9,7 @@ use Rattle.cg_model.specs.Making.{newly_made}
 use Rattle.cg_world.specs.declared.world.Stepped.{Stepped}
 use Rattle.cg_world.specs.declared.world.Stepped.TheVariants as stepped
 use Rattle.cg_world.specs.SoFar.{SoFar}
-pub use Rattle.cg_events.specs.Happening.{IsCounted}
+pub use Rattle.cg_world_events.specs.Happening.{IsCounted}
 
 -- what comes of an event: its step, and what it shows as made is made too; or exactly the reason why it isn't admitted
 abbrev pub Steps : SoFar → Event → Stepped → Type 0

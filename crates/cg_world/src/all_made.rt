@@ -8,7 +8,7 @@ use std::snapshot::Snapshot;
 /// The actions that were made, in the order of their making, as contracts speak of them: nothing is kept of them here.
 #[cycle(made)]
 pub(crate) struct AllMade {
-    last: Last,
+    last: LastMade,
 }
 
 impl Drop for AllMade {
@@ -19,7 +19,7 @@ impl Drop for AllMade {
 
 #[cycle(made)]
 #[derive(Drop)]
-enum Last {
+enum LastMade {
     Nothing,
     Made {
         earlier: Snapshot<AllMade>,
@@ -50,7 +50,7 @@ impl AllMade {
         ensures { result ≡ [] }
     {
         AllMade {
-            last: Last::Nothing,
+            last: LastMade::Nothing,
         }
     }
 
@@ -59,7 +59,7 @@ impl AllMade {
         ensures { result ≡ self.now ++ action.now ∷ [] }
     {
         AllMade {
-            last: Last::Made {
+            last: LastMade::Made {
                 earlier: Snapshot::of(self),
                 action: Snapshot::of(action),
             },

@@ -11,7 +11,7 @@
 //! fn take_step(alloc: Global, world: World, event: &Event) -> Result<World, Fail>
 //!     requires stands { MayStand world.world event.now }
 //!     requires counted { IsCounted event.now }
-//!     ensures { IfOk result (λ w. IsSeated w.world) }
+//!     ensures { IfOk result (λ w. IsHosted w.world) }
 //! {
 //!     match world.step(alloc, event) {
 //!         Stepped::Done { world, entry } => {

@@ -7,8 +7,8 @@ ghost use Rattle.cg_world.specs.MadeActions.{row_at, action_at};
 use crate::all_made::AllMade;
 use cg_action::{Action, ActionList};
 use cg_base::{ActionId, NoMemory, Row};
-use cg_events::WorldState;
 use cg_report::Made;
+use cg_world_events::WorldState;
 use std::alloc::Global;
 use std::marker::Model;
 

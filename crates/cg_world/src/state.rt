@@ -10,7 +10,7 @@ use crate::made_actions::MadeActions;
 use cg_action::Action;
 use cg_agree::facts_stand_beside_each_world;
 use cg_base::{ActionId, IdSet, ReplicaId};
-use cg_events::WorldState;
+use cg_world_events::WorldState;
 use std::alloc::Global;
 use std::marker::Model;
 

@@ -14,10 +14,10 @@ use cg_agree::{
     others_show_nothing_new,
 };
 use cg_base::{IdSet, NoMemory};
-use cg_events::{Going, WorldState, happen, touched};
 use cg_group::{GroupErr, Reason};
 use cg_report::Entry;
 use cg_schedule::Event;
+use cg_world_events::{StepInProgress, WorldState, happen, touched};
 use std::alloc::Global;
 
 /// What comes of an event: a step, a refusal that leaves the world as it was, or want of memory, after which the world
@@ -41,7 +41,7 @@ impl World {
         made_actions_stand_in_the_book();
         others_show_nothing_new();
         let World { state, made } = self;
-        let mut going = Going::quietly(alloc, state);
+        let mut going = StepInProgress::quietly(alloc, state);
         match happen(alloc, &mut going, event) {
             Ok(()) => finish(alloc, made, going, &touched(event)),
             Err(GroupErr::Refused(reason)) => Stepped::Refused {
@@ -61,7 +61,7 @@ impl World {
 }
 
 // the event ends in a world to which it leads, and nothing is new of replicas that it doesn't touch
-fn finish(alloc: Global, made: MadeActions, going: Going, touched: &IdSet) -> Stepped
+fn finish(alloc: Global, made: MadeActions, going: StepInProgress, touched: &IdSet) -> Stepped
     requires led { IsLedWith (ended going).world (made ++ newly_made (ended going)) }
     requires news { ShowsNewsOf touched.now going.world }
     ensures { IsEnd (ended going) made result }

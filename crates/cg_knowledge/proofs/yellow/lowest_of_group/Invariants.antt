@@ -1,7 +1,7 @@
 use Rattle.std.proofs.Common.{◌≡◌, None, take}
 use Rattle.std.specs.List.{filter, fold}
 use Rattle.std.specs.Option.{option_copied}
-use Rattle.cg_knowledge.specs.Members.{lower}
+use Rattle.cg_knowledge.specs.Summaries.{lower}
 use Rattle.cg_knowledge.specs.Primary.{knows_prim}
 use Rattle.cg_knowledge.proofs.yellow.lowest_of_group.Given as goal
 

@@ -1,5 +1,5 @@
 use Rattle.std.proofs.Common.{◌≡◌, ℕ, drop, subst, arith}
-use Rattle.cg_relaxed.specs.Kept.{write_at, merged}
+use Rattle.cg_relaxed.specs.RelaxedState.{write_at, merged}
 use Rattle.cg_relaxed.proofs.registers.merge.Goals as goal
 
 pub returns : goal.returns

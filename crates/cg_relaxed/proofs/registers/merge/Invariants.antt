@@ -1,5 +1,5 @@
 use Rattle.std.proofs.Common.{◌≡◌, ℕ, List, ◌≤◌, length, drop}
-use Rattle.cg_relaxed.specs.Kept.{write_at, merged}
+use Rattle.cg_relaxed.specs.RelaxedState.{write_at, merged}
 use Rattle.cg_relaxed.proofs.registers.merge.Given as goal
 
 -- the registers from a place on are merged

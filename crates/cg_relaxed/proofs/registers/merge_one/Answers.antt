@@ -3,7 +3,7 @@ use Rattle.std.specs.Prelude.{ℕ, List, Some}
 use Rattle.cg_text.specs.Order.{same_text}
 use Rattle.cg_relaxed.specs.declared.write.Write.{Write}
 use Rattle.cg_relaxed.specs.Writes.{later}
-use Rattle.cg_relaxed.specs.Kept.{write_at, merged}
+use Rattle.cg_relaxed.specs.RelaxedState.{write_at, merged}
 use Rattle.cg_relaxed.proofs.Lists.{dropped}
 use Rattle.cg_relaxed.proofs.Parts.{merges}
 use Rattle.cg_relaxed.proofs.registers.merge_one.Goals as goal

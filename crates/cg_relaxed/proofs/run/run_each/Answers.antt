@@ -5,7 +5,7 @@ use Rattle.std.proofs.lemmas.List.Elements.{All-tail}
 use Rattle.cg_action.specs.declared.command.Cmd.{Cmd}
 use Rattle.cg_action.specs.ActionLimits.{IsCommand}
 use Rattle.cg_relaxed.specs.Writes.{adds}
-use Rattle.cg_relaxed.specs.Kept.{sum_at, write_at}
+use Rattle.cg_relaxed.specs.RelaxedState.{sum_at, write_at}
 use Rattle.cg_relaxed.proofs.Running.{sums-step, registers-step, within-step}
 use Rattle.cg_relaxed.proofs.run.run_each.Goals as goal
 

@@ -4,7 +4,7 @@ use Rattle.std.specs.Vec.Iter.{into_iter_items}
 use Rattle.indexmap.specs.IndexMap.{spare}
 use Rattle.cg_action.specs.ActionLimits.{IsCommand}
 use Rattle.cg_relaxed.specs.Writes.{sum_after, written_from, later}
-use Rattle.cg_relaxed.specs.Kept.{sum_at, write_at, IsWithin}
+use Rattle.cg_relaxed.specs.RelaxedState.{sum_at, write_at, IsWithin}
 use Rattle.cg_relaxed.proofs.run.run_each.Given as goal
 
 -- what is left makes of the sums and registers what all make of those at first; there is room for it, and no sum is large

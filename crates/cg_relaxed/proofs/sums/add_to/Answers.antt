@@ -1,5 +1,5 @@
 use Rattle.std.specs.Prelude.{IsOk}
-use Rattle.cg_relaxed.specs.Kept.{sum_at}
+use Rattle.cg_relaxed.specs.RelaxedState.{sum_at}
 use Rattle.cg_relaxed.proofs.Bounds.{added-is}
 use Rattle.cg_relaxed.proofs.Lists.{OnOk-then}
 use Rattle.cg_relaxed.proofs.Parts.{summed}

@@ -3,8 +3,8 @@ use Rattle.std.specs.Prelude.{List, ℤ, Some, FitsSigned}
 use Rattle.std.specs.Int.{w128}
 use Rattle.std.specs.Map.{lookup}
 use Rattle.std.proofs.lemmas.Int.{to_z-of_z}
-use Rattle.cg_relaxed.specs.declared.part.Part.{Part}
-use Rattle.cg_relaxed.specs.Kept.{same_part, is_wanted, taken_over}
+use Rattle.cg_relaxed.specs.declared.sum_key.SumKey.{SumKey}
+use Rattle.cg_relaxed.specs.RelaxedState.{same_part, is_wanted, taken_over}
 use Rattle.cg_relaxed.proofs.Lists.{dropped}
 use Rattle.cg_relaxed.proofs.Parts.{takes, passes}
 use Rattle.cg_relaxed.proofs.sums.take_one.Goals as goal
@@ -22,9 +22,9 @@ returns-in_ok-insert c = λ base q before.
     let put : lookup (same_part q) c.insert.new.self.entries ≡ cond (same_part c.in_ok-part.part q) (Some v) (lookup (same_part q) c.args.to.now.entries) =
     c.in_ok-insert.ensures.updates.0 q
     ∙ ap (λ (x : ℤ). cond (same_part c.in_ok-part.part q) (Some x) (lookup (same_part q) c.args.to.now.entries)) (to_z-of_z w128 v fits) in
-    let found = subst (λ (x : Part). lookup (same_part q) c.insert.new.self.entries ≡ cond (same_part x q) (Some v) (lookup (same_part q) c.args.to.now.entries))
+    let found = subst (λ (x : SumKey). lookup (same_part q) c.insert.new.self.entries ≡ cond (same_part x q) (Some v) (lookup (same_part q) c.args.to.now.entries))
     c.in_ok-part.ensures put in
-    subst (λ (xs : List (Part × ℤ)). lookup (same_part q) c.insert.new.self.entries ≡ taken_over test xs base q) (sym first)
+    subst (λ (xs : List (SumKey × ℤ)). lookup (same_part q) c.insert.new.self.entries ≡ taken_over test xs base q) (sym first)
     (takes test (drop (i + 1) es) base c.args.to.now.entries c.insert.new.self.entries k v q wanted found before)
 
 pub returns-else-is_wanted : goal.returns-else-is_wanted
@@ -36,5 +36,5 @@ returns-else-is_wanted c = λ base q before.
     let v = c.in-Some.sum.now in
     let first : drop i es ≡ (k, v) ∷ drop (i + 1) es = dropped es i (i + 1) (k, v) (omega arith) (sym c.in-Some.ensures.entry) in
     let unwanted : test k.creator ≡ false = sym c.is_wanted.ensures ∙ c.if-is_wanted.false in
-    subst (λ (xs : List (Part × ℤ)). lookup (same_part q) c.args.to.now.entries ≡ taken_over test xs base q) (sym first)
+    subst (λ (xs : List (SumKey × ℤ)). lookup (same_part q) c.args.to.now.entries ≡ taken_over test xs base q) (sym first)
     (passes test (drop (i + 1) es) base c.args.to.now.entries k v q unwanted before)

@@ -2,7 +2,7 @@ use Rattle.std.proofs.Common.{◌≡◌, ℕ, suc, ◌*◌, ◌^◌, ◌<◌, re
 use Rattle.std.specs.Prelude.{ℤ, ◌+ℤ◌}
 use Rattle.std.specs.Int.{w128}
 use Rattle.std.proofs.lemmas.Int.{ints}
-use Rattle.cg_relaxed.specs.Kept.{sum_at, IsWithin}
+use Rattle.cg_relaxed.specs.RelaxedState.{sum_at, IsWithin}
 use Rattle.cg_relaxed.proofs.Bounds.{nothing-within}
 use Rattle.cg_relaxed.proofs.Running.{first-total, next-total, next-within}
 use Rattle.cg_relaxed.proofs.sums.total.Goals as goal

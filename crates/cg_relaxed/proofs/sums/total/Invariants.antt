@@ -2,7 +2,7 @@ use Rattle.std.proofs.Common.{◌≡◌, ℕ, ◌+◌, ◌*◌, ◌^◌, fold}
 use Rattle.std.specs.Prelude.{pos, ◌+ℤ◌}
 use Rattle.cg_base.specs.Lists.{count_up}
 use Rattle.cg_base.specs.Replicas.{every_replica}
-use Rattle.cg_relaxed.specs.Kept.{sum_at, IsWithin}
+use Rattle.cg_relaxed.specs.RelaxedState.{sum_at, IsWithin}
 use Rattle.cg_relaxed.proofs.sums.total.Given as goal
 
 -- the sums of those that are left lead to the total of all

@@ -1,5 +1,5 @@
 use Rattle.std.proofs.Common.{ap, drop, subst}
-use Rattle.cg_stored.specs.Parts.{stored_in}
+use Rattle.cg_disk_records.specs.Parts.{stored_in}
 use Rattle.cg_store.specs.Opening.{FindsFront}
 use Rattle.cg_store.proofs.Chosen.{if_ok_finds}
 use Rattle.cg_store.proofs.Sound.{stored-sound}

@@ -1,9 +1,9 @@
 use Rattle.std.proofs.Common.{sym, subst}
 use Rattle.cg_queue.specs.Queue.{names_of}
 use Rattle.cg_client.specs.Replica.{Held}
-use Rattle.cg_stored.specs.Parts.{queue_in}
+use Rattle.cg_disk_records.specs.Parts.{queue_in}
 use Rattle.cg_store.specs.Leading.{AreNext}
-use Rattle.cg_stored.specs.NameLaws.{small-cut}
+use Rattle.cg_disk_records.specs.NameLaws.{small-cut}
 use Rattle.cg_store.proofs.Leading.{greens-lead, reds-next}
 use Rattle.cg_store.proofs.Rebuilding.{all-but-values, yellow-red, rebuilt}
 use Rattle.cg_store.proofs.rebuild.rebuild.Goals as goal

@@ -1,7 +1,7 @@
 use Rattle.std.proofs.Common.{subst, refl}
 use Rattle.cg_codec.specs.Taking.{unread_of}
-use Rattle.cg_stored.specs.Following.{know, green_by_name, make, with_values, after_change}
-use Rattle.cg_stored.specs.Reading.{actions_reading, ids_reading}
+use Rattle.cg_disk_records.specs.Following.{know, green_by_name, make, with_values, after_change}
+use Rattle.cg_disk_records.specs.Reading.{actions_reading, ids_reading}
 use Rattle.cg_store.specs.Opening.{Follows}
 use Rattle.cg_store.specs.Putting.{PutsAll}
 use Rattle.cg_store.specs.Stands.{led_by}

@@ -1,8 +1,8 @@
 use Rattle.std.proofs.Common.{◌≡◌, [], Some, None, refl, rules}
 use Rattle.cg_codec.specs.Taking.{unread_of}
 use Rattle.cg_action.specs.Reading.{action_reading}
-use Rattle.cg_stored.specs.Following.{know}
-use Rattle.cg_stored.specs.Reading.{actions_reading}
+use Rattle.cg_disk_records.specs.Following.{know}
+use Rattle.cg_disk_records.specs.Reading.{actions_reading}
 use Rattle.cg_store.specs.Putting.{PutsAll}
 use Rattle.cg_store.proofs.Putting.{refused-puts, goes-on, misfits, stops-at, ends, actions-faulty, actions-counted}
 use Rattle.cg_store.proofs.replay.know_all.Goals as goal

@@ -1,6 +1,6 @@
 use Rattle.cg_codec.specs.Taking.{unread_of}
 use Rattle.cg_action.specs.Reading.{action_reading}
-use Rattle.cg_stored.specs.Following.{know}
+use Rattle.cg_disk_records.specs.Following.{know}
 use Rattle.cg_store.proofs.Putting.{Goes}
 use Rattle.cg_store.proofs.replay.know_all.Given as goal
 

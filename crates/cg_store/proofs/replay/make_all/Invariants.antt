@@ -1,6 +1,6 @@
 use Rattle.cg_codec.specs.Taking.{unread_of}
 use Rattle.cg_action.specs.Reading.{action_reading}
-use Rattle.cg_stored.specs.Following.{make}
+use Rattle.cg_disk_records.specs.Following.{make}
 use Rattle.cg_store.proofs.Putting.{Goes}
 use Rattle.cg_store.proofs.replay.make_all.Given as goal
 

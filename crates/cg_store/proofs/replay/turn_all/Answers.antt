@@ -1,8 +1,8 @@
 use Rattle.std.proofs.Common.{◌≡◌, [], Some, None, refl, rules}
 use Rattle.cg_codec.specs.Taking.{unread_of}
 use Rattle.cg_action.specs.Reading.{id_reading}
-use Rattle.cg_stored.specs.Following.{green_by_name}
-use Rattle.cg_stored.specs.Reading.{ids_reading}
+use Rattle.cg_disk_records.specs.Following.{green_by_name}
+use Rattle.cg_disk_records.specs.Reading.{ids_reading}
 use Rattle.cg_store.specs.Putting.{PutsAll}
 use Rattle.cg_store.proofs.Putting.{refused-puts, goes-on, misfits, stops-at, ends, ids-faulty, ids-counted}
 use Rattle.cg_store.proofs.replay.turn_all.Goals as goal

@@ -1,6 +1,6 @@
 use Rattle.cg_codec.specs.Taking.{unread_of}
 use Rattle.cg_action.specs.Reading.{id_reading}
-use Rattle.cg_stored.specs.Following.{green_by_name}
+use Rattle.cg_disk_records.specs.Following.{green_by_name}
 use Rattle.cg_store.proofs.Putting.{Goes}
 use Rattle.cg_store.proofs.replay.turn_all.Given as goal
 

@@ -3,7 +3,7 @@ use Rattle.cg_queue.specs.Queue.{names_of}
 use Rattle.cg_client.specs.Replica.{Held}
 use Rattle.cg_store.specs.Leading.{AreNext, IsBelow}
 use Rattle.cg_store.proofs.KeptGreens.{greens_resumed}
-use Rattle.cg_stored.specs.NameLaws.{small-cut}
+use Rattle.cg_disk_records.specs.NameLaws.{small-cut}
 use Rattle.cg_store.proofs.Leading.{below-next, below-leads}
 use Rattle.cg_store.proofs.resuming.resume.Goals as goal
 

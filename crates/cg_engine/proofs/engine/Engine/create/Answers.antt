@@ -1,7 +1,7 @@
 use Rattle.std.proofs.Common.{sym, ◌∙◌, ap, subst}
 use Rattle.cg_client.specs.Replica.{Replica}
-use Rattle.cg_stored.specs.Stored.{stored_of}
-use Rattle.cg_stored.specs.Agreeing.{Agrees}
+use Rattle.cg_disk_records.specs.Stored.{stored_of}
+use Rattle.cg_disk_records.specs.Agreeing.{Agrees}
 use Rattle.cg_engine.proofs.Starting.{fresh_agrees, fresh_engine}
 use Rattle.cg_engine.proofs.engine.Engine.create.Goals as goal
 

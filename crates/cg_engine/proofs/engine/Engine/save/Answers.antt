@@ -1,6 +1,6 @@
 use Rattle.std.proofs.Common.{Ok, Err, sym, ◌∙◌, ap, subst}
-use Rattle.cg_stored.specs.Stored.{stored_of}
-use Rattle.cg_stored.specs.Agreeing.{Agrees}
+use Rattle.cg_disk_records.specs.Stored.{stored_of}
+use Rattle.cg_disk_records.specs.Agreeing.{Agrees}
 use Rattle.cg_engine.specs.Ending.{fallen}
 use Rattle.cg_engine.proofs.GoingOn.{engine_here, engine_behind, saved_as}
 use Rattle.cg_engine.proofs.engine.Engine.save.Goals as goal

@@ -1,5 +1,5 @@
 use Rattle.std.proofs.Common.{◌≡◌, ◌∷◌, [], ◌++◌, ap, ◌∙◌}
-use Rattle.cg_join.specs.declared.piece.Part.TheVariants.{Start}
+use Rattle.cg_join.specs.declared.piece.PieceContent.TheVariants.{Start}
 use Rattle.cg_join.specs.Snapshot.{head_of, parts_of}
 use Rattle.cg_join.proofs.PartLists.{all_pushed}
 use Rattle.cg_join.proofs.snapshot.SnapshotWriter.make.Goals as goal

@@ -3,12 +3,12 @@ use Rattle.cg_client.specs.Drafts.{turn_with}
 use Rattle.cg_client.specs.Replica.{NonPrim}
 use Rattle.cg_client.specs.Summary.{own_to_red}
 use Rattle.cg_exchange.specs.States.{Outside}
-use Rattle.cg_stored.specs.Stored.{recover}
+use Rattle.cg_disk_records.specs.Stored.{recovery_turn}
 use Rattle.cg_replica.specs.Seen.{turn_of}
 use Rattle.cg_replica.proofs.replica.Replica.recovered.Goals as goal
 
 pub returns-in-Ok : goal.returns-in-Ok
-unfolding recover
+unfolding recovery_turn
 returns-in-Ok c =
     ap (λ (o : Outside). turn_of (record { held = o.held; state = NonPrim o.regular }) c.own_to_red.new.draft) c.recovered.ensures
     ∙ c.in-Ok.ensures (NonPrim false)

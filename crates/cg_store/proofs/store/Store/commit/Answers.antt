@@ -3,7 +3,7 @@ use Rattle.cg_client.specs.Drafts.{turn_with}
 use Rattle.cg_client.specs.Replica.{Left}
 use Rattle.cg_commit.specs.Commit.{commits}
 use Rattle.cg_store.specs.Stands.{committed}
-use Rattle.cg_store.specs.Kept.{Kept}
+use Rattle.cg_store.specs.StoreState.{StoreState}
 use Rattle.cg_store.specs.declared.outputs.Outputs.{Outputs}
 use Rattle.cg_store.specs.Answers.{EachMoment}
 use Rattle.cg_base.specs.Choice.{Either}
@@ -52,5 +52,5 @@ returns-in-Err-clause-moments g c = λ u state stands.
     let view = g.D.Disk.view in
     let self = c.args.self in
     let v = committed self.unwritten (turn_with c.args.core.now state c.args.draft) u in
-    subst (λ x. EachMoment {T = Kept _ × Outputs} view (λ done. done.0.disk) (IsEither self.id u v) (view self.disk) (Err (NoMemory x))) (sym c.into_disk.ensures.disk)
-    (refused_moments view self (g.met.D.Disk.is_view self.disk) c.into_disk.ensures.rest u stands (Kept _ × Outputs) (λ done. done.0.disk) v)
+    subst (λ x. EachMoment {T = StoreState _ × Outputs} view (λ done. done.0.disk) (IsEither self.id u v) (view self.disk) (Err (NoMemory x))) (sym c.into_disk.ensures.disk)
+    (refused_moments view self (g.met.D.Disk.is_view self.disk) c.into_disk.ensures.rest u stands (StoreState _ × Outputs) (λ done. done.0.disk) v)

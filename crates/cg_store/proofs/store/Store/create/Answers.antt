@@ -1,5 +1,5 @@
 use Rattle.std.proofs.Common.{sym, ◌∙◌, subst}
-use Rattle.cg_stored.specs.Stored.{stored_of}
+use Rattle.cg_disk_records.specs.Stored.{stored_of}
 use Rattle.cg_store.specs.Stands.{begun}
 use Rattle.cg_store.specs.Calls.{Creates}
 use Rattle.cg_store.proofs.Checkpointing.{first_saved, same_spelling}

@@ -1,5 +1,5 @@
 use Rattle.std.proofs.Common.{◌≡◌, true, IfSome, sym, subst, rules}
-use Rattle.cg_store.specs.Kept.{Kept}
+use Rattle.cg_store.specs.StoreState.{StoreState}
 use Rattle.cg_store.specs.Answers.{EachMoment}
 use Rattle.cg_store.specs.Due.{IsLed, IsBehind, WhetherDue}
 use Rattle.cg_store.specs.Calls.{Commits, Keeps, IsEither}
@@ -26,12 +26,12 @@ returns-in-Some-clause-moments g c = λ u v stands behind.
     let view = g.D.Disk.view in
     let self = c.args.self in
     let here = subst (λ o. IsBehind u o v) c.in-Some.is behind in
-    subst (λ r. EachMoment {T = Kept _ × _} view (λ done. done.0.disk) (IsEither self.id u v) (view self.disk) r) (sym c.paired.ensures)
+    subst (λ r. EachMoment {T = StoreState _ × _} view (λ done. done.0.disk) (IsEither self.id u v) (view self.disk) r) (sym c.paired.ensures)
     (paired_moments view (IsEither self.id u v) (view self.disk) c.write.result _ (c.write.ensures.moments u v stands here))
 
 pub returns-clause-moments : goal.returns-clause-moments
 returns-clause-moments g c = λ u v stands behind.
     let view = g.D.Disk.view in
     let self = c.args.self in
-    subst (λ r. EachMoment {T = Kept _ × _} view (λ done. done.0.disk) (IsEither self.id u v) (view self.disk) r) (sym c.paired-in-None.ensures)
+    subst (λ r. EachMoment {T = StoreState _ × _} view (λ done. done.0.disk) (IsEither self.id u v) (view self.disk) r) (sym c.paired-in-None.ensures)
     (paired_moments view (IsEither self.id u v) (view self.disk) c.keep_marks.result _ (c.keep_marks.ensures.moments u v stands))

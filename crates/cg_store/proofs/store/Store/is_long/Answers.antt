@@ -1,5 +1,5 @@
 use Rattle.std.proofs.Common.{◌≡◌, nat_lt, ap, subst}
-use Rattle.cg_stored.specs.Checkpoint.{size_limit}
+use Rattle.cg_disk_records.specs.Checkpoint.{size_limit}
 use Rattle.cg_store.specs.Stands.{OnDisk, Stands}
 use Rattle.cg_store.proofs.Appending.{its_side}
 use Rattle.cg_store.proofs.Standing.{stands_end}

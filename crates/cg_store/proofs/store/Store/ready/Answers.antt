@@ -1,6 +1,6 @@
 use Rattle.std.proofs.Common.{sym, ◌∙◌, ap, subst}
 use Rattle.cg_client.specs.Replica.{State}
-use Rattle.cg_stored.specs.Stored.{stable_of}
+use Rattle.cg_disk_records.specs.Stored.{stable_of}
 use Rattle.cg_store.specs.Stands.{OnDisk, Stands}
 use Rattle.cg_store.specs.Due.{IsPrepared, IsReady}
 use Rattle.cg_store.proofs.Appending.{its_content}

@@ -4,9 +4,9 @@ use Rattle.cg_disk.specs.Sides.{opposite}
 use Rattle.cg_disk.specs.View.{LeavesOnly}
 use Rattle.cg_journal.specs.Answers.{with_record_alone, IsDone, IsRestarting, Restarts, EachMoment as EachJournalMoment}
 use Rattle.cg_records.specs.Limits.{IsNumber}
-use Rattle.cg_stored.specs.Parts.{checkpoint_in}
+use Rattle.cg_disk_records.specs.Parts.{checkpoint_in}
 use Rattle.cg_store.specs.Stands.{OnDisk, Stands, moved}
-use Rattle.cg_store.specs.Kept.{Kept, IsStore}
+use Rattle.cg_store.specs.StoreState.{StoreState, IsStore}
 use Rattle.cg_store.specs.Answers.{EachMoment}
 use Rattle.cg_store.specs.Calls.{IsEither, Moves}
 use Rattle.cg_store.proofs.Appending.{standing_at, moved_held, moved_moments, moved_fails, moved_fails_moments}
@@ -57,6 +57,6 @@ returns-in-Err-clause-moments g c =
     let body = c.args.body.now in
     let failed = subst (λ x. EachJournalMoment view (IsRestarting x body old) old (Err c.in-Err.fault)) c.other-side.ensures c.in-Err.ensures.moments in
     let saved = subst (λ k. (u : OnDisk) → Stands k.id (view k.disk).reads u → checkpoint_in k.id body ≡ Some (record { generation = suc u.generation; content = u.content })) (sym c.self.view_is) c.requires.saved in
-    subst (λ k. (u : OnDisk) → Stands k.id (view k.disk).reads u → EachMoment {T = Kept _} view (λ x. x.disk) (IsEither k.id u (moved u body)) (view k.disk) (Err c.commit_fault.result)) c.self.view_is
-    (λ u stands. subst (λ f. EachMoment {T = Kept _} view (λ x. x.disk) (IsEither s.id u (moved u body)) old (Err f)) (sym c.commit_fault.ensures)
+    subst (λ k. (u : OnDisk) → Stands k.id (view k.disk).reads u → EachMoment {T = StoreState _} view (λ x. x.disk) (IsEither k.id u (moved u body)) (view k.disk) (Err c.commit_fault.result)) c.self.view_is
+    (λ u stands. subst (λ f. EachMoment {T = StoreState _} view (λ x. x.disk) (IsEither s.id u (moved u body)) old (Err f)) (sym c.commit_fault.ensures)
     (moved_fails_moments view (record { disk = s.journal; id = s.id; unwritten = s.unwritten }) s.side s.generation s.values c.self.invariant body saved u c.in-Err.fault failed stands))

@@ -4,7 +4,7 @@ use Rattle.cg_journal.specs.Adds.{IsEither as IsOneOf}
 use Rattle.cg_journal.specs.Answers.{with_record, IsDone, Appends, EachMoment as EachJournalMoment}
 use Rattle.cg_disk.specs.View.{LeavesOnly}
 use Rattle.cg_store.specs.Stands.{OnDisk, Stands}
-use Rattle.cg_store.specs.Kept.{Kept}
+use Rattle.cg_store.specs.StoreState.{StoreState}
 use Rattle.cg_store.specs.Answers.{IsReached, EachMoment}
 use Rattle.cg_store.specs.Due.{IsLed, IsBehind}
 use Rattle.cg_store.specs.Calls.{IsEither, Writes}
@@ -55,6 +55,6 @@ returns-clause-moments g c =
     let view = g.D.Disk.view in
     let old = view s.journal in
     let failed = subst (λ b. EachJournalMoment view (IsOneOf (records old.reads) (with_record s.side b old)) old (Err c.in-Err.fault)) c.as_slice.ensures c.in-Err.ensures.moments in
-    subst (λ k. (u v : OnDisk) → Stands k.id (view k.disk).reads u → IsBehind u (Some c.args.due) v → EachMoment {T = Kept _} view (λ x. x.disk) (IsEither k.id u v) (view k.disk) (Err c.commit_fault.result)) c.self.view_is
-    (λ u v stands behind. subst (λ f. EachMoment {T = Kept _} view (λ x. x.disk) (IsEither s.id u v) old (Err f)) (sym c.commit_fault.ensures)
+    subst (λ k. (u v : OnDisk) → Stands k.id (view k.disk).reads u → IsBehind u (Some c.args.due) v → EachMoment {T = StoreState _} view (λ x. x.disk) (IsEither k.id u v) (view k.disk) (Err c.commit_fault.result)) c.self.view_is
+    (λ u v stands behind. subst (λ f. EachMoment {T = StoreState _} view (λ x. x.disk) (IsEither s.id u v) old (Err f)) (sym c.commit_fault.ensures)
     (written_fails_moments view (record { disk = s.journal; id = s.id; unwritten = s.unwritten }) s.side s.generation s.values c.self.invariant c.args.due u v c.in-Err.fault failed stands behind))

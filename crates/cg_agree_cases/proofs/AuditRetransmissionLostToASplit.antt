@@ -1,0 +1,30 @@
+-- A retransmission in a transitional list is ignored, and so is the action that needs it.
+use Rattle.std.specs.Prelude.{◌≡◌, refl, List, [], ◌∷◌, None, codes, pos}
+use Rattle.cg_action.specs.declared.command.Cmd.TheVariants.{Put}
+use Rattle.cg_action.specs.declared.value.Value.TheVariants.{Int}
+use Rattle.cg_schedule.specs.declared.event.Event.{Event}
+use Rattle.cg_schedule.specs.declared.event.Event.TheVariants.{Start, Split, Merge, Request, Order, Gather, Receive, Deliver, Rounds}
+use Rattle.cg_agree_cases.specs.Audit.{unweighted, tried}
+use Rattle.cg_agree_cases.specs.Computing.{cases_compute}
+
+abbrev retransmission_lost_to_a_split : List Event
+retransmission_lost_to_a_split =
+    Start (unweighted (1 ∷ 2 ∷ 3 ∷ 4 ∷ 5 ∷ []))
+    ∷ Merge (1 ∷ [])
+    ∷ Rounds 1
+    ∷ Request 1 (Put (codes "x") (Int (pos 1)) ∷ []) None
+    ∷ Rounds 1
+    ∷ Split (1 ∷ [])
+    ∷ Merge (1 ∷ 2 ∷ [])
+    ∷ Rounds 1
+    ∷ Gather
+    ∷ Deliver 1 1
+    ∷ Request 1 (Put (codes "y") (Int (pos 2)) ∷ []) None
+    ∷ Order 1
+    ∷ Receive 2 4
+    ∷ Split (2 ∷ [])
+    ∷ []
+
+retransmission_lost_to_a_split_holds : (tried retransmission_lost_to_a_split).failed ≡ []
+unfolding cases_compute
+retransmission_lost_to_a_split_holds = refl

@@ -1,0 +1,32 @@
+//! What stands on a replica's disk, in bytes: a checkpoint of all that it held, and the changes that commits made since.
+//!
+//! Each has one spelling (`specs/Change.antt`, `specs/Checkpoint.antt`). What is within the limits is read again as it was
+//! written, and nothing else is read. Records are put from borrowed parts, so that nothing is copied. Which records stand
+//! on which side, and when one is written, is left to the layers above.
+#![tactic(auto)]
+
+mod agreement;
+mod change;
+mod checkpoint;
+mod entries;
+mod kept;
+mod laws;
+mod limits;
+mod lists;
+mod reached;
+mod servers;
+mod writing;
+
+pub use agreement::count_of;
+pub use change::{Change, put_change};
+pub use checkpoint::{
+    Checkpoint, KeptActions, Reached, decode_checkpoint, generation_of, read_checkpoint,
+};
+pub use entries::{put_entries, take_entries};
+pub use laws::{
+    agreement_is_tested, changes_are_exact, checkpoints_are_exact, lists_are_exact, parts_are_exact,
+};
+pub use limits::CHECKPOINT_BYTES;
+pub use lists::{put_actions, take_actions};
+pub use reached::{put_reached, take_reached};
+pub use writing::put_checkpoint;

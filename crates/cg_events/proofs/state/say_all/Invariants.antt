@@ -1,8 +1,0 @@
-use Rattle.std.proofs.Common.{◌≡◌}
-use Rattle.std.specs.Vec.Iter.{into_iter_items}
-use Rattle.cg_group.specs.Events.{send_all}
-use Rattle.cg_events.proofs.state.say_all.Given as goal
-
--- the messages that are left give what all gave
-abbrev pub invariant-loop-letter : goal.invariant-loop-letter
-invariant-loop-letter l = send_all l.group l.p (into_iter_items l.letter-iterator) ≡ send_all l.fn.group l.fn.p l.fn.sent

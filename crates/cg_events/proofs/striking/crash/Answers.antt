@@ -1,8 +1,0 @@
-use Rattle.std.proofs.Common.{◌≡◌, OnOk, [], subst}
-use Rattle.cg_events.proofs.StruckSeats.{stop-up}
-use Rattle.cg_events.proofs.striking.crash.Goals as goal
-
-pub returns-in-Some : goal.returns-in-Some
-returns-in-Some c =
-    subst (λ w. OnOk c.fall.result (c.fall.new.state ≡ w))
-    (stop-up c.args.state.now c.take_up.new.self c.args.p c.in-Some.seat c.in-Some.ensures.0 c.in-Some.ensures.1 c.in-Some.ensures.2 []) c.fall.ensures

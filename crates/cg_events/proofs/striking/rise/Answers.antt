@@ -1,9 +1,0 @@
-use Rattle.std.proofs.Common.{ap, ◌∙◌, refl}
-use Rattle.cg_seat.specs.Calls.{risen}
-use Rattle.cg_events.proofs.striking.rise.Goals as goal
-
-pub returns : goal.returns
-returns c =
-    let back = c.in_ok-seat.ensures ∙ ap (λ m. risen m c.args.seat.id c.args.seat.life) c.get.ensures in
-    rw (← c.state.view_is)
-    (rw (c.in_ok-add.ensures.ok, c.in_ok-put.ensures, c.id-id.ensures, ap (λ x. x.0) back) refl, ap (λ x. x.1) back)

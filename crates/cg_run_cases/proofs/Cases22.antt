@@ -1,0 +1,725 @@
+-- Cases of cases/ with their whole reports, which `.ci/theorems` writes down here.
+use Rattle.std.specs.Prelude.{◌≡◌, [], ◌∷◌}
+use mathlib.Core.Path.{refl}
+use Rattle.cg_run_cases.specs.Replaying.{replayed_text, written}
+use Rattle.cg_run_cases.specs.Computing.{cases_compute}
+
+-- A crash inside a device call leaves the state before or after its commit, and the run goes on to the same end.
+stop_inside_call_08_with_one_byte_of_one :
+    replayed_text (
+    "start 1 2 3" ∷
+    "stop 1 8 01" ∷
+    "merge 1 2 3" ∷
+    "rounds 2" ∷
+    "request 2 put \"x\" 1" ∷
+    "rounds 1" ∷
+    "recover 1" ∷
+    "split 2 3" ∷
+    "merge 1 2 3" ∷
+    "rounds 4" ∷
+    "show order" ∷
+    "end" ∷
+    [])
+    ≡ written (
+    "= 1" ∷
+    "1 NonPrim - g0 w0 p0@0{1,2,3} a0 v- y- r[] o[] x{} b0" ∷
+    "2 NonPrim - g0 w0 p0@0{1,2,3} a0 v- y- r[] o[] x{} b0" ∷
+    "3 NonPrim - g0 w0 p0@0{1,2,3} a0 v- y- r[] o[] x{} b0" ∷
+    "= 3" ∷
+    "1 ExchangeStates c1 g0 w0 p0@0{1,2,3} a0 v- y- r[] o[] x{} b0" ∷
+    "2 ExchangeStates c1 g0 w0 p0@0{1,2,3} a0 v- y- r[] o[] x{} b0" ∷
+    "3 ExchangeStates c1 g0 w0 p0@0{1,2,3} a0 v- y- r[] o[] x{} b0" ∷
+    "= 5" ∷
+    "1 Construct c1 g0 w0 p0@0{1,2,3} a1 v1/0{1,2,3}{1} y- r[] o[] x{} b0" ∷
+    "= 6" ∷
+    "2 Construct c1 g0 w0 p0@0{1,2,3} a1 v1/0{1,2,3}{2} y- r[] o[] x{} b0" ∷
+    "= 7" ∷
+    "3 Construct c1 g0 w0 p0@0{1,2,3} a1 v1/0{1,2,3}{3} y- r[] o[] x{} b0" ∷
+    "= 9" ∷
+    "1 Down" ∷
+    "= 10" ∷
+    "2 RegPrim c1 g0 w0 p1@1{1,2,3} a0 v1/0{1,2,3}{2} y- r[] o[] x{} b0" ∷
+    "= 11" ∷
+    "3 RegPrim c1 g0 w0 p1@1{1,2,3} a0 v1/0{1,2,3}{3} y- r[] o[] x{} b0" ∷
+    "= 12" ∷
+    "made 2:1 put \"x\" 1" ∷
+    "2 RegPrim c1 g0 w0 p1@1{1,2,3} a0 v1/0{1,2,3}{2} y- r[] o[2:1] x{} b0" ∷
+    "= 14" ∷
+    "1 NonPrim - g0 w0 p1@1{1,2,3} a0 v1/0{1,2,3}{1} y- r[] o[] x{} b0" ∷
+    "= 15" ∷
+    "2 TransPrim t1 g0 w0 p1@1{1,2,3} a0 v1/0{1,2,3}{2} y?[2:1] r[] o[] x{} b0" ∷
+    "3 TransPrim t1 g0 w0 p1@1{1,2,3} a0 v1/0{1,2,3}{3} y?[2:1] r[] o[] x{} b0" ∷
+    "= 16" ∷
+    "1 ExchangeStates c2 g0 w0 p1@1{1,2,3} a0 v1/0{1,2,3}{1} y- r[] o[] x{} b0" ∷
+    "2 ExchangeStates c2 g0 w0 p1@1{1,2,3} a0 v- y![2:1] r[] o[] x{} b0" ∷
+    "3 ExchangeStates c2 g0 w0 p1@1{1,2,3} a0 v- y![2:1] r[] o[] x{} b0" ∷
+    "= 18" ∷
+    "1 ExchangeActions c2 g0 w0 p1@1{1,2,3} a0 v1/0{1,2,3}{1} y- r[] o[] x{} b0" ∷
+    "= 19" ∷
+    "2 ExchangeActions c2 g0 w0 p1@1{1,2,3} a0 v- y![2:1] r[] o[] x{} b0" ∷
+    "= 20" ∷
+    "3 ExchangeActions c2 g0 w0 p1@1{1,2,3} a0 v- y![2:1] r[] o[] x{} b0" ∷
+    "= 22" ∷
+    "1 Construct c2 g0 w0 p1@1{1,2,3} a1 v2/1{1,2,3}{1} y![2:1] r[] o[] x{} b0" ∷
+    "= 23" ∷
+    "2 Construct c2 g0 w0 p1@1{1,2,3} a1 v2/1{1,2,3}{2} y![2:1] r[] o[] x{} b0" ∷
+    "= 24" ∷
+    "3 Construct c2 g0 w0 p1@1{1,2,3} a1 v2/1{1,2,3}{3} y![2:1] r[] o[] x{} b0" ∷
+    "= 26" ∷
+    "order 1 2:1" ∷
+    "1 RegPrim c2 g1 w0 p2@2{1,2,3} a0 v2/1{1,2,3}{1} y- r[] o[] x{} b0" ∷
+    "= 27" ∷
+    "2 RegPrim c2 g1 w0 p2@2{1,2,3} a0 v2/1{1,2,3}{2} y- r[] o[] x{} b0" ∷
+    "reply 2:1 done" ∷
+    "= 28" ∷
+    "3 RegPrim c2 g1 w0 p2@2{1,2,3} a0 v2/1{1,2,3}{3} y- r[] o[] x{} b0" ∷
+    "= 30" ∷
+    "all [2:1]" ∷
+    "end 30" ∷
+    [])
+unfolding cases_compute
+stop_inside_call_08_with_one_byte_of_one = refl
+
+-- A crash inside a device call leaves the state before or after its commit, and the run goes on to the same end.
+stop_inside_call_09_with_no_bytes :
+    replayed_text (
+    "start 1 2 3" ∷
+    "stop 1 9 -" ∷
+    "merge 1 2 3" ∷
+    "rounds 2" ∷
+    "request 2 put \"x\" 1" ∷
+    "rounds 1" ∷
+    "recover 1" ∷
+    "split 2 3" ∷
+    "merge 1 2 3" ∷
+    "rounds 4" ∷
+    "show order" ∷
+    "end" ∷
+    [])
+    ≡ written (
+    "= 1" ∷
+    "1 NonPrim - g0 w0 p0@0{1,2,3} a0 v- y- r[] o[] x{} b0" ∷
+    "2 NonPrim - g0 w0 p0@0{1,2,3} a0 v- y- r[] o[] x{} b0" ∷
+    "3 NonPrim - g0 w0 p0@0{1,2,3} a0 v- y- r[] o[] x{} b0" ∷
+    "= 3" ∷
+    "1 ExchangeStates c1 g0 w0 p0@0{1,2,3} a0 v- y- r[] o[] x{} b0" ∷
+    "2 ExchangeStates c1 g0 w0 p0@0{1,2,3} a0 v- y- r[] o[] x{} b0" ∷
+    "3 ExchangeStates c1 g0 w0 p0@0{1,2,3} a0 v- y- r[] o[] x{} b0" ∷
+    "= 5" ∷
+    "1 Construct c1 g0 w0 p0@0{1,2,3} a1 v1/0{1,2,3}{1} y- r[] o[] x{} b0" ∷
+    "= 6" ∷
+    "2 Construct c1 g0 w0 p0@0{1,2,3} a1 v1/0{1,2,3}{2} y- r[] o[] x{} b0" ∷
+    "= 7" ∷
+    "3 Construct c1 g0 w0 p0@0{1,2,3} a1 v1/0{1,2,3}{3} y- r[] o[] x{} b0" ∷
+    "= 9" ∷
+    "1 RegPrim c1 g0 w0 p1@1{1,2,3} a0 v1/0{1,2,3}{1} y- r[] o[] x{} b0" ∷
+    "= 10" ∷
+    "2 RegPrim c1 g0 w0 p1@1{1,2,3} a0 v1/0{1,2,3}{2} y- r[] o[] x{} b0" ∷
+    "= 11" ∷
+    "3 RegPrim c1 g0 w0 p1@1{1,2,3} a0 v1/0{1,2,3}{3} y- r[] o[] x{} b0" ∷
+    "= 12" ∷
+    "made 2:1 put \"x\" 1" ∷
+    "2 RegPrim c1 g0 w0 p1@1{1,2,3} a0 v1/0{1,2,3}{2} y- r[] o[2:1] x{} b0" ∷
+    "= 14" ∷
+    "1 Down" ∷
+    "= 15" ∷
+    "order 1 2:1" ∷
+    "2 RegPrim c1 g1 w0 p1@1{1,2,3} a0 v1/0{1,2,3}{2} y- r[] o[] x{} b0" ∷
+    "reply 2:1 done" ∷
+    "= 16" ∷
+    "3 RegPrim c1 g1 w0 p1@1{1,2,3} a0 v1/0{1,2,3}{3} y- r[] o[] x{} b0" ∷
+    "= 17" ∷
+    "1 NonPrim - g0 w0 p1@1{1,2,3} a0 v1/0{1,2,3}{1} y- r[] o[] x{} b0" ∷
+    "= 18" ∷
+    "2 TransPrim t1 g1 w0 p1@1{1,2,3} a0 v1/0{1,2,3}{2} y- r[] o[] x{} b0" ∷
+    "3 TransPrim t1 g1 w0 p1@1{1,2,3} a0 v1/0{1,2,3}{3} y- r[] o[] x{} b0" ∷
+    "= 19" ∷
+    "1 ExchangeStates c2 g0 w0 p1@1{1,2,3} a0 v1/0{1,2,3}{1} y- r[] o[] x{} b0" ∷
+    "2 ExchangeStates c2 g1 w0 p1@1{1,2,3} a0 v- y![] r[] o[] x{} b0" ∷
+    "3 ExchangeStates c2 g1 w0 p1@1{1,2,3} a0 v- y![] r[] o[] x{} b0" ∷
+    "= 21" ∷
+    "1 ExchangeActions c2 g0 w0 p1@1{1,2,3} a0 v1/0{1,2,3}{1} y- r[] o[] x{} b0" ∷
+    "= 22" ∷
+    "2 ExchangeActions c2 g1 w0 p1@1{1,2,3} a0 v- y![] r[] o[] x{} b0" ∷
+    "= 23" ∷
+    "3 ExchangeActions c2 g1 w0 p1@1{1,2,3} a0 v- y![] r[] o[] x{} b0" ∷
+    "= 25" ∷
+    "1 Construct c2 g1 w0 p1@1{1,2,3} a1 v2/1{1,2,3}{1} y![] r[] o[] x{} b0" ∷
+    "= 26" ∷
+    "2 Construct c2 g1 w0 p1@1{1,2,3} a1 v2/1{1,2,3}{2} y![] r[] o[] x{} b0" ∷
+    "= 27" ∷
+    "3 Construct c2 g1 w0 p1@1{1,2,3} a1 v2/1{1,2,3}{3} y![] r[] o[] x{} b0" ∷
+    "= 29" ∷
+    "1 RegPrim c2 g1 w0 p2@2{1,2,3} a0 v2/1{1,2,3}{1} y- r[] o[] x{} b0" ∷
+    "= 30" ∷
+    "2 RegPrim c2 g1 w0 p2@2{1,2,3} a0 v2/1{1,2,3}{2} y- r[] o[] x{} b0" ∷
+    "= 31" ∷
+    "3 RegPrim c2 g1 w0 p2@2{1,2,3} a0 v2/1{1,2,3}{3} y- r[] o[] x{} b0" ∷
+    "= 33" ∷
+    "all [2:1]" ∷
+    "end 33" ∷
+    [])
+unfolding cases_compute
+stop_inside_call_09_with_no_bytes = refl
+
+-- A crash inside a device call leaves the state before or after its commit, and the run goes on to the same end.
+stop_inside_call_09_with_one_byte_of_one :
+    replayed_text (
+    "start 1 2 3" ∷
+    "stop 1 9 01" ∷
+    "merge 1 2 3" ∷
+    "rounds 2" ∷
+    "request 2 put \"x\" 1" ∷
+    "rounds 1" ∷
+    "recover 1" ∷
+    "split 2 3" ∷
+    "merge 1 2 3" ∷
+    "rounds 4" ∷
+    "show order" ∷
+    "end" ∷
+    [])
+    ≡ written (
+    "= 1" ∷
+    "1 NonPrim - g0 w0 p0@0{1,2,3} a0 v- y- r[] o[] x{} b0" ∷
+    "2 NonPrim - g0 w0 p0@0{1,2,3} a0 v- y- r[] o[] x{} b0" ∷
+    "3 NonPrim - g0 w0 p0@0{1,2,3} a0 v- y- r[] o[] x{} b0" ∷
+    "= 3" ∷
+    "1 ExchangeStates c1 g0 w0 p0@0{1,2,3} a0 v- y- r[] o[] x{} b0" ∷
+    "2 ExchangeStates c1 g0 w0 p0@0{1,2,3} a0 v- y- r[] o[] x{} b0" ∷
+    "3 ExchangeStates c1 g0 w0 p0@0{1,2,3} a0 v- y- r[] o[] x{} b0" ∷
+    "= 5" ∷
+    "1 Construct c1 g0 w0 p0@0{1,2,3} a1 v1/0{1,2,3}{1} y- r[] o[] x{} b0" ∷
+    "= 6" ∷
+    "2 Construct c1 g0 w0 p0@0{1,2,3} a1 v1/0{1,2,3}{2} y- r[] o[] x{} b0" ∷
+    "= 7" ∷
+    "3 Construct c1 g0 w0 p0@0{1,2,3} a1 v1/0{1,2,3}{3} y- r[] o[] x{} b0" ∷
+    "= 9" ∷
+    "1 RegPrim c1 g0 w0 p1@1{1,2,3} a0 v1/0{1,2,3}{1} y- r[] o[] x{} b0" ∷
+    "= 10" ∷
+    "2 RegPrim c1 g0 w0 p1@1{1,2,3} a0 v1/0{1,2,3}{2} y- r[] o[] x{} b0" ∷
+    "= 11" ∷
+    "3 RegPrim c1 g0 w0 p1@1{1,2,3} a0 v1/0{1,2,3}{3} y- r[] o[] x{} b0" ∷
+    "= 12" ∷
+    "made 2:1 put \"x\" 1" ∷
+    "2 RegPrim c1 g0 w0 p1@1{1,2,3} a0 v1/0{1,2,3}{2} y- r[] o[2:1] x{} b0" ∷
+    "= 14" ∷
+    "1 Down" ∷
+    "= 15" ∷
+    "order 1 2:1" ∷
+    "2 RegPrim c1 g1 w0 p1@1{1,2,3} a0 v1/0{1,2,3}{2} y- r[] o[] x{} b0" ∷
+    "reply 2:1 done" ∷
+    "= 16" ∷
+    "3 RegPrim c1 g1 w0 p1@1{1,2,3} a0 v1/0{1,2,3}{3} y- r[] o[] x{} b0" ∷
+    "= 17" ∷
+    "1 NonPrim - g0 w0 p1@1{1,2,3} a0 v1/0{1,2,3}{1} y- r[] o[] x{} b0" ∷
+    "= 18" ∷
+    "2 TransPrim t1 g1 w0 p1@1{1,2,3} a0 v1/0{1,2,3}{2} y- r[] o[] x{} b0" ∷
+    "3 TransPrim t1 g1 w0 p1@1{1,2,3} a0 v1/0{1,2,3}{3} y- r[] o[] x{} b0" ∷
+    "= 19" ∷
+    "1 ExchangeStates c2 g0 w0 p1@1{1,2,3} a0 v1/0{1,2,3}{1} y- r[] o[] x{} b0" ∷
+    "2 ExchangeStates c2 g1 w0 p1@1{1,2,3} a0 v- y![] r[] o[] x{} b0" ∷
+    "3 ExchangeStates c2 g1 w0 p1@1{1,2,3} a0 v- y![] r[] o[] x{} b0" ∷
+    "= 21" ∷
+    "1 ExchangeActions c2 g0 w0 p1@1{1,2,3} a0 v1/0{1,2,3}{1} y- r[] o[] x{} b0" ∷
+    "= 22" ∷
+    "2 ExchangeActions c2 g1 w0 p1@1{1,2,3} a0 v- y![] r[] o[] x{} b0" ∷
+    "= 23" ∷
+    "3 ExchangeActions c2 g1 w0 p1@1{1,2,3} a0 v- y![] r[] o[] x{} b0" ∷
+    "= 25" ∷
+    "1 Construct c2 g1 w0 p1@1{1,2,3} a1 v2/1{1,2,3}{1} y![] r[] o[] x{} b0" ∷
+    "= 26" ∷
+    "2 Construct c2 g1 w0 p1@1{1,2,3} a1 v2/1{1,2,3}{2} y![] r[] o[] x{} b0" ∷
+    "= 27" ∷
+    "3 Construct c2 g1 w0 p1@1{1,2,3} a1 v2/1{1,2,3}{3} y![] r[] o[] x{} b0" ∷
+    "= 29" ∷
+    "1 RegPrim c2 g1 w0 p2@2{1,2,3} a0 v2/1{1,2,3}{1} y- r[] o[] x{} b0" ∷
+    "= 30" ∷
+    "2 RegPrim c2 g1 w0 p2@2{1,2,3} a0 v2/1{1,2,3}{2} y- r[] o[] x{} b0" ∷
+    "= 31" ∷
+    "3 RegPrim c2 g1 w0 p2@2{1,2,3} a0 v2/1{1,2,3}{3} y- r[] o[] x{} b0" ∷
+    "= 33" ∷
+    "all [2:1]" ∷
+    "end 33" ∷
+    [])
+unfolding cases_compute
+stop_inside_call_09_with_one_byte_of_one = refl
+
+-- A crash inside a device call leaves the state before or after its commit, and the run goes on to the same end.
+stop_inside_call_10_with_no_bytes :
+    replayed_text (
+    "start 1 2 3" ∷
+    "stop 1 10 -" ∷
+    "merge 1 2 3" ∷
+    "rounds 2" ∷
+    "request 2 put \"x\" 1" ∷
+    "rounds 1" ∷
+    "recover 1" ∷
+    "split 2 3" ∷
+    "merge 1 2 3" ∷
+    "rounds 4" ∷
+    "show order" ∷
+    "end" ∷
+    [])
+    ≡ written (
+    "= 1" ∷
+    "1 NonPrim - g0 w0 p0@0{1,2,3} a0 v- y- r[] o[] x{} b0" ∷
+    "2 NonPrim - g0 w0 p0@0{1,2,3} a0 v- y- r[] o[] x{} b0" ∷
+    "3 NonPrim - g0 w0 p0@0{1,2,3} a0 v- y- r[] o[] x{} b0" ∷
+    "= 3" ∷
+    "1 ExchangeStates c1 g0 w0 p0@0{1,2,3} a0 v- y- r[] o[] x{} b0" ∷
+    "2 ExchangeStates c1 g0 w0 p0@0{1,2,3} a0 v- y- r[] o[] x{} b0" ∷
+    "3 ExchangeStates c1 g0 w0 p0@0{1,2,3} a0 v- y- r[] o[] x{} b0" ∷
+    "= 5" ∷
+    "1 Construct c1 g0 w0 p0@0{1,2,3} a1 v1/0{1,2,3}{1} y- r[] o[] x{} b0" ∷
+    "= 6" ∷
+    "2 Construct c1 g0 w0 p0@0{1,2,3} a1 v1/0{1,2,3}{2} y- r[] o[] x{} b0" ∷
+    "= 7" ∷
+    "3 Construct c1 g0 w0 p0@0{1,2,3} a1 v1/0{1,2,3}{3} y- r[] o[] x{} b0" ∷
+    "= 9" ∷
+    "1 RegPrim c1 g0 w0 p1@1{1,2,3} a0 v1/0{1,2,3}{1} y- r[] o[] x{} b0" ∷
+    "= 10" ∷
+    "2 RegPrim c1 g0 w0 p1@1{1,2,3} a0 v1/0{1,2,3}{2} y- r[] o[] x{} b0" ∷
+    "= 11" ∷
+    "3 RegPrim c1 g0 w0 p1@1{1,2,3} a0 v1/0{1,2,3}{3} y- r[] o[] x{} b0" ∷
+    "= 12" ∷
+    "made 2:1 put \"x\" 1" ∷
+    "2 RegPrim c1 g0 w0 p1@1{1,2,3} a0 v1/0{1,2,3}{2} y- r[] o[2:1] x{} b0" ∷
+    "= 14" ∷
+    "1 Down" ∷
+    "= 15" ∷
+    "order 1 2:1" ∷
+    "2 RegPrim c1 g1 w0 p1@1{1,2,3} a0 v1/0{1,2,3}{2} y- r[] o[] x{} b0" ∷
+    "reply 2:1 done" ∷
+    "= 16" ∷
+    "3 RegPrim c1 g1 w0 p1@1{1,2,3} a0 v1/0{1,2,3}{3} y- r[] o[] x{} b0" ∷
+    "= 17" ∷
+    "1 NonPrim - g0 w0 p1@1{1,2,3} a0 v1/0{1,2,3}{1} y- r[] o[] x{} b0" ∷
+    "= 18" ∷
+    "2 TransPrim t1 g1 w0 p1@1{1,2,3} a0 v1/0{1,2,3}{2} y- r[] o[] x{} b0" ∷
+    "3 TransPrim t1 g1 w0 p1@1{1,2,3} a0 v1/0{1,2,3}{3} y- r[] o[] x{} b0" ∷
+    "= 19" ∷
+    "1 ExchangeStates c2 g0 w0 p1@1{1,2,3} a0 v1/0{1,2,3}{1} y- r[] o[] x{} b0" ∷
+    "2 ExchangeStates c2 g1 w0 p1@1{1,2,3} a0 v- y![] r[] o[] x{} b0" ∷
+    "3 ExchangeStates c2 g1 w0 p1@1{1,2,3} a0 v- y![] r[] o[] x{} b0" ∷
+    "= 21" ∷
+    "1 ExchangeActions c2 g0 w0 p1@1{1,2,3} a0 v1/0{1,2,3}{1} y- r[] o[] x{} b0" ∷
+    "= 22" ∷
+    "2 ExchangeActions c2 g1 w0 p1@1{1,2,3} a0 v- y![] r[] o[] x{} b0" ∷
+    "= 23" ∷
+    "3 ExchangeActions c2 g1 w0 p1@1{1,2,3} a0 v- y![] r[] o[] x{} b0" ∷
+    "= 25" ∷
+    "1 Construct c2 g1 w0 p1@1{1,2,3} a1 v2/1{1,2,3}{1} y![] r[] o[] x{} b0" ∷
+    "= 26" ∷
+    "2 Construct c2 g1 w0 p1@1{1,2,3} a1 v2/1{1,2,3}{2} y![] r[] o[] x{} b0" ∷
+    "= 27" ∷
+    "3 Construct c2 g1 w0 p1@1{1,2,3} a1 v2/1{1,2,3}{3} y![] r[] o[] x{} b0" ∷
+    "= 29" ∷
+    "1 RegPrim c2 g1 w0 p2@2{1,2,3} a0 v2/1{1,2,3}{1} y- r[] o[] x{} b0" ∷
+    "= 30" ∷
+    "2 RegPrim c2 g1 w0 p2@2{1,2,3} a0 v2/1{1,2,3}{2} y- r[] o[] x{} b0" ∷
+    "= 31" ∷
+    "3 RegPrim c2 g1 w0 p2@2{1,2,3} a0 v2/1{1,2,3}{3} y- r[] o[] x{} b0" ∷
+    "= 33" ∷
+    "all [2:1]" ∷
+    "end 33" ∷
+    [])
+unfolding cases_compute
+stop_inside_call_10_with_no_bytes = refl
+
+-- A crash inside a device call leaves the state before or after its commit, and the run goes on to the same end.
+stop_inside_call_10_with_one_byte_of_one :
+    replayed_text (
+    "start 1 2 3" ∷
+    "stop 1 10 01" ∷
+    "merge 1 2 3" ∷
+    "rounds 2" ∷
+    "request 2 put \"x\" 1" ∷
+    "rounds 1" ∷
+    "recover 1" ∷
+    "split 2 3" ∷
+    "merge 1 2 3" ∷
+    "rounds 4" ∷
+    "show order" ∷
+    "end" ∷
+    [])
+    ≡ written (
+    "= 1" ∷
+    "1 NonPrim - g0 w0 p0@0{1,2,3} a0 v- y- r[] o[] x{} b0" ∷
+    "2 NonPrim - g0 w0 p0@0{1,2,3} a0 v- y- r[] o[] x{} b0" ∷
+    "3 NonPrim - g0 w0 p0@0{1,2,3} a0 v- y- r[] o[] x{} b0" ∷
+    "= 3" ∷
+    "1 ExchangeStates c1 g0 w0 p0@0{1,2,3} a0 v- y- r[] o[] x{} b0" ∷
+    "2 ExchangeStates c1 g0 w0 p0@0{1,2,3} a0 v- y- r[] o[] x{} b0" ∷
+    "3 ExchangeStates c1 g0 w0 p0@0{1,2,3} a0 v- y- r[] o[] x{} b0" ∷
+    "= 5" ∷
+    "1 Construct c1 g0 w0 p0@0{1,2,3} a1 v1/0{1,2,3}{1} y- r[] o[] x{} b0" ∷
+    "= 6" ∷
+    "2 Construct c1 g0 w0 p0@0{1,2,3} a1 v1/0{1,2,3}{2} y- r[] o[] x{} b0" ∷
+    "= 7" ∷
+    "3 Construct c1 g0 w0 p0@0{1,2,3} a1 v1/0{1,2,3}{3} y- r[] o[] x{} b0" ∷
+    "= 9" ∷
+    "1 RegPrim c1 g0 w0 p1@1{1,2,3} a0 v1/0{1,2,3}{1} y- r[] o[] x{} b0" ∷
+    "= 10" ∷
+    "2 RegPrim c1 g0 w0 p1@1{1,2,3} a0 v1/0{1,2,3}{2} y- r[] o[] x{} b0" ∷
+    "= 11" ∷
+    "3 RegPrim c1 g0 w0 p1@1{1,2,3} a0 v1/0{1,2,3}{3} y- r[] o[] x{} b0" ∷
+    "= 12" ∷
+    "made 2:1 put \"x\" 1" ∷
+    "2 RegPrim c1 g0 w0 p1@1{1,2,3} a0 v1/0{1,2,3}{2} y- r[] o[2:1] x{} b0" ∷
+    "= 14" ∷
+    "1 Down" ∷
+    "= 15" ∷
+    "order 1 2:1" ∷
+    "2 RegPrim c1 g1 w0 p1@1{1,2,3} a0 v1/0{1,2,3}{2} y- r[] o[] x{} b0" ∷
+    "reply 2:1 done" ∷
+    "= 16" ∷
+    "3 RegPrim c1 g1 w0 p1@1{1,2,3} a0 v1/0{1,2,3}{3} y- r[] o[] x{} b0" ∷
+    "= 17" ∷
+    "1 NonPrim - g0 w0 p1@1{1,2,3} a0 v1/0{1,2,3}{1} y- r[] o[] x{} b0" ∷
+    "= 18" ∷
+    "2 TransPrim t1 g1 w0 p1@1{1,2,3} a0 v1/0{1,2,3}{2} y- r[] o[] x{} b0" ∷
+    "3 TransPrim t1 g1 w0 p1@1{1,2,3} a0 v1/0{1,2,3}{3} y- r[] o[] x{} b0" ∷
+    "= 19" ∷
+    "1 ExchangeStates c2 g0 w0 p1@1{1,2,3} a0 v1/0{1,2,3}{1} y- r[] o[] x{} b0" ∷
+    "2 ExchangeStates c2 g1 w0 p1@1{1,2,3} a0 v- y![] r[] o[] x{} b0" ∷
+    "3 ExchangeStates c2 g1 w0 p1@1{1,2,3} a0 v- y![] r[] o[] x{} b0" ∷
+    "= 21" ∷
+    "1 ExchangeActions c2 g0 w0 p1@1{1,2,3} a0 v1/0{1,2,3}{1} y- r[] o[] x{} b0" ∷
+    "= 22" ∷
+    "2 ExchangeActions c2 g1 w0 p1@1{1,2,3} a0 v- y![] r[] o[] x{} b0" ∷
+    "= 23" ∷
+    "3 ExchangeActions c2 g1 w0 p1@1{1,2,3} a0 v- y![] r[] o[] x{} b0" ∷
+    "= 25" ∷
+    "1 Construct c2 g1 w0 p1@1{1,2,3} a1 v2/1{1,2,3}{1} y![] r[] o[] x{} b0" ∷
+    "= 26" ∷
+    "2 Construct c2 g1 w0 p1@1{1,2,3} a1 v2/1{1,2,3}{2} y![] r[] o[] x{} b0" ∷
+    "= 27" ∷
+    "3 Construct c2 g1 w0 p1@1{1,2,3} a1 v2/1{1,2,3}{3} y![] r[] o[] x{} b0" ∷
+    "= 29" ∷
+    "1 RegPrim c2 g1 w0 p2@2{1,2,3} a0 v2/1{1,2,3}{1} y- r[] o[] x{} b0" ∷
+    "= 30" ∷
+    "2 RegPrim c2 g1 w0 p2@2{1,2,3} a0 v2/1{1,2,3}{2} y- r[] o[] x{} b0" ∷
+    "= 31" ∷
+    "3 RegPrim c2 g1 w0 p2@2{1,2,3} a0 v2/1{1,2,3}{3} y- r[] o[] x{} b0" ∷
+    "= 33" ∷
+    "all [2:1]" ∷
+    "end 33" ∷
+    [])
+unfolding cases_compute
+stop_inside_call_10_with_one_byte_of_one = refl
+
+-- A crash inside a device call leaves the state before or after its commit, and the run goes on to the same end.
+stop_inside_call_11_with_no_bytes :
+    replayed_text (
+    "start 1 2 3" ∷
+    "stop 1 11 -" ∷
+    "merge 1 2 3" ∷
+    "rounds 2" ∷
+    "request 2 put \"x\" 1" ∷
+    "rounds 1" ∷
+    "recover 1" ∷
+    "split 2 3" ∷
+    "merge 1 2 3" ∷
+    "rounds 4" ∷
+    "show order" ∷
+    "end" ∷
+    [])
+    ≡ written (
+    "= 1" ∷
+    "1 NonPrim - g0 w0 p0@0{1,2,3} a0 v- y- r[] o[] x{} b0" ∷
+    "2 NonPrim - g0 w0 p0@0{1,2,3} a0 v- y- r[] o[] x{} b0" ∷
+    "3 NonPrim - g0 w0 p0@0{1,2,3} a0 v- y- r[] o[] x{} b0" ∷
+    "= 3" ∷
+    "1 ExchangeStates c1 g0 w0 p0@0{1,2,3} a0 v- y- r[] o[] x{} b0" ∷
+    "2 ExchangeStates c1 g0 w0 p0@0{1,2,3} a0 v- y- r[] o[] x{} b0" ∷
+    "3 ExchangeStates c1 g0 w0 p0@0{1,2,3} a0 v- y- r[] o[] x{} b0" ∷
+    "= 5" ∷
+    "1 Construct c1 g0 w0 p0@0{1,2,3} a1 v1/0{1,2,3}{1} y- r[] o[] x{} b0" ∷
+    "= 6" ∷
+    "2 Construct c1 g0 w0 p0@0{1,2,3} a1 v1/0{1,2,3}{2} y- r[] o[] x{} b0" ∷
+    "= 7" ∷
+    "3 Construct c1 g0 w0 p0@0{1,2,3} a1 v1/0{1,2,3}{3} y- r[] o[] x{} b0" ∷
+    "= 9" ∷
+    "1 RegPrim c1 g0 w0 p1@1{1,2,3} a0 v1/0{1,2,3}{1} y- r[] o[] x{} b0" ∷
+    "= 10" ∷
+    "2 RegPrim c1 g0 w0 p1@1{1,2,3} a0 v1/0{1,2,3}{2} y- r[] o[] x{} b0" ∷
+    "= 11" ∷
+    "3 RegPrim c1 g0 w0 p1@1{1,2,3} a0 v1/0{1,2,3}{3} y- r[] o[] x{} b0" ∷
+    "= 12" ∷
+    "made 2:1 put \"x\" 1" ∷
+    "2 RegPrim c1 g0 w0 p1@1{1,2,3} a0 v1/0{1,2,3}{2} y- r[] o[2:1] x{} b0" ∷
+    "= 14" ∷
+    "1 Down" ∷
+    "= 15" ∷
+    "order 1 2:1" ∷
+    "2 RegPrim c1 g1 w0 p1@1{1,2,3} a0 v1/0{1,2,3}{2} y- r[] o[] x{} b0" ∷
+    "reply 2:1 done" ∷
+    "= 16" ∷
+    "3 RegPrim c1 g1 w0 p1@1{1,2,3} a0 v1/0{1,2,3}{3} y- r[] o[] x{} b0" ∷
+    "= 17" ∷
+    "1 NonPrim - g0 w0 p1@1{1,2,3} a0 v1/0{1,2,3}{1} y- r[] o[] x{} b0" ∷
+    "= 18" ∷
+    "2 TransPrim t1 g1 w0 p1@1{1,2,3} a0 v1/0{1,2,3}{2} y- r[] o[] x{} b0" ∷
+    "3 TransPrim t1 g1 w0 p1@1{1,2,3} a0 v1/0{1,2,3}{3} y- r[] o[] x{} b0" ∷
+    "= 19" ∷
+    "1 ExchangeStates c2 g0 w0 p1@1{1,2,3} a0 v1/0{1,2,3}{1} y- r[] o[] x{} b0" ∷
+    "2 ExchangeStates c2 g1 w0 p1@1{1,2,3} a0 v- y![] r[] o[] x{} b0" ∷
+    "3 ExchangeStates c2 g1 w0 p1@1{1,2,3} a0 v- y![] r[] o[] x{} b0" ∷
+    "= 21" ∷
+    "1 ExchangeActions c2 g0 w0 p1@1{1,2,3} a0 v1/0{1,2,3}{1} y- r[] o[] x{} b0" ∷
+    "= 22" ∷
+    "2 ExchangeActions c2 g1 w0 p1@1{1,2,3} a0 v- y![] r[] o[] x{} b0" ∷
+    "= 23" ∷
+    "3 ExchangeActions c2 g1 w0 p1@1{1,2,3} a0 v- y![] r[] o[] x{} b0" ∷
+    "= 25" ∷
+    "1 Construct c2 g1 w0 p1@1{1,2,3} a1 v2/1{1,2,3}{1} y![] r[] o[] x{} b0" ∷
+    "= 26" ∷
+    "2 Construct c2 g1 w0 p1@1{1,2,3} a1 v2/1{1,2,3}{2} y![] r[] o[] x{} b0" ∷
+    "= 27" ∷
+    "3 Construct c2 g1 w0 p1@1{1,2,3} a1 v2/1{1,2,3}{3} y![] r[] o[] x{} b0" ∷
+    "= 29" ∷
+    "1 RegPrim c2 g1 w0 p2@2{1,2,3} a0 v2/1{1,2,3}{1} y- r[] o[] x{} b0" ∷
+    "= 30" ∷
+    "2 RegPrim c2 g1 w0 p2@2{1,2,3} a0 v2/1{1,2,3}{2} y- r[] o[] x{} b0" ∷
+    "= 31" ∷
+    "3 RegPrim c2 g1 w0 p2@2{1,2,3} a0 v2/1{1,2,3}{3} y- r[] o[] x{} b0" ∷
+    "= 33" ∷
+    "all [2:1]" ∷
+    "end 33" ∷
+    [])
+unfolding cases_compute
+stop_inside_call_11_with_no_bytes = refl
+
+-- A crash inside a device call leaves the state before or after its commit, and the run goes on to the same end.
+stop_inside_call_11_with_one_byte_of_one :
+    replayed_text (
+    "start 1 2 3" ∷
+    "stop 1 11 01" ∷
+    "merge 1 2 3" ∷
+    "rounds 2" ∷
+    "request 2 put \"x\" 1" ∷
+    "rounds 1" ∷
+    "recover 1" ∷
+    "split 2 3" ∷
+    "merge 1 2 3" ∷
+    "rounds 4" ∷
+    "show order" ∷
+    "end" ∷
+    [])
+    ≡ written (
+    "= 1" ∷
+    "1 NonPrim - g0 w0 p0@0{1,2,3} a0 v- y- r[] o[] x{} b0" ∷
+    "2 NonPrim - g0 w0 p0@0{1,2,3} a0 v- y- r[] o[] x{} b0" ∷
+    "3 NonPrim - g0 w0 p0@0{1,2,3} a0 v- y- r[] o[] x{} b0" ∷
+    "= 3" ∷
+    "1 ExchangeStates c1 g0 w0 p0@0{1,2,3} a0 v- y- r[] o[] x{} b0" ∷
+    "2 ExchangeStates c1 g0 w0 p0@0{1,2,3} a0 v- y- r[] o[] x{} b0" ∷
+    "3 ExchangeStates c1 g0 w0 p0@0{1,2,3} a0 v- y- r[] o[] x{} b0" ∷
+    "= 5" ∷
+    "1 Construct c1 g0 w0 p0@0{1,2,3} a1 v1/0{1,2,3}{1} y- r[] o[] x{} b0" ∷
+    "= 6" ∷
+    "2 Construct c1 g0 w0 p0@0{1,2,3} a1 v1/0{1,2,3}{2} y- r[] o[] x{} b0" ∷
+    "= 7" ∷
+    "3 Construct c1 g0 w0 p0@0{1,2,3} a1 v1/0{1,2,3}{3} y- r[] o[] x{} b0" ∷
+    "= 9" ∷
+    "1 RegPrim c1 g0 w0 p1@1{1,2,3} a0 v1/0{1,2,3}{1} y- r[] o[] x{} b0" ∷
+    "= 10" ∷
+    "2 RegPrim c1 g0 w0 p1@1{1,2,3} a0 v1/0{1,2,3}{2} y- r[] o[] x{} b0" ∷
+    "= 11" ∷
+    "3 RegPrim c1 g0 w0 p1@1{1,2,3} a0 v1/0{1,2,3}{3} y- r[] o[] x{} b0" ∷
+    "= 12" ∷
+    "made 2:1 put \"x\" 1" ∷
+    "2 RegPrim c1 g0 w0 p1@1{1,2,3} a0 v1/0{1,2,3}{2} y- r[] o[2:1] x{} b0" ∷
+    "= 14" ∷
+    "1 Down" ∷
+    "= 15" ∷
+    "order 1 2:1" ∷
+    "2 RegPrim c1 g1 w0 p1@1{1,2,3} a0 v1/0{1,2,3}{2} y- r[] o[] x{} b0" ∷
+    "reply 2:1 done" ∷
+    "= 16" ∷
+    "3 RegPrim c1 g1 w0 p1@1{1,2,3} a0 v1/0{1,2,3}{3} y- r[] o[] x{} b0" ∷
+    "= 17" ∷
+    "1 NonPrim - g1 w0 p1@1{1,2,3} a0 v1/0{1,2,3}{1} y- r[] o[] x{} b0" ∷
+    "= 18" ∷
+    "2 TransPrim t1 g1 w0 p1@1{1,2,3} a0 v1/0{1,2,3}{2} y- r[] o[] x{} b0" ∷
+    "3 TransPrim t1 g1 w0 p1@1{1,2,3} a0 v1/0{1,2,3}{3} y- r[] o[] x{} b0" ∷
+    "= 19" ∷
+    "1 ExchangeStates c2 g1 w0 p1@1{1,2,3} a0 v1/0{1,2,3}{1} y- r[] o[] x{} b0" ∷
+    "2 ExchangeStates c2 g1 w0 p1@1{1,2,3} a0 v- y![] r[] o[] x{} b0" ∷
+    "3 ExchangeStates c2 g1 w0 p1@1{1,2,3} a0 v- y![] r[] o[] x{} b0" ∷
+    "= 21" ∷
+    "1 Construct c2 g1 w0 p1@1{1,2,3} a1 v2/1{1,2,3}{1} y![] r[] o[] x{} b0" ∷
+    "= 22" ∷
+    "2 Construct c2 g1 w0 p1@1{1,2,3} a1 v2/1{1,2,3}{2} y![] r[] o[] x{} b0" ∷
+    "= 23" ∷
+    "3 Construct c2 g1 w0 p1@1{1,2,3} a1 v2/1{1,2,3}{3} y![] r[] o[] x{} b0" ∷
+    "= 25" ∷
+    "1 RegPrim c2 g1 w0 p2@2{1,2,3} a0 v2/1{1,2,3}{1} y- r[] o[] x{} b0" ∷
+    "= 26" ∷
+    "2 RegPrim c2 g1 w0 p2@2{1,2,3} a0 v2/1{1,2,3}{2} y- r[] o[] x{} b0" ∷
+    "= 27" ∷
+    "3 RegPrim c2 g1 w0 p2@2{1,2,3} a0 v2/1{1,2,3}{3} y- r[] o[] x{} b0" ∷
+    "= 30" ∷
+    "all [2:1]" ∷
+    "end 30" ∷
+    [])
+unfolding cases_compute
+stop_inside_call_11_with_one_byte_of_one = refl
+
+-- A crash inside a device call leaves the state before or after its commit, and the run goes on to the same end.
+stop_inside_call_12_with_no_bytes :
+    replayed_text (
+    "start 1 2 3" ∷
+    "stop 1 12 -" ∷
+    "merge 1 2 3" ∷
+    "rounds 2" ∷
+    "request 2 put \"x\" 1" ∷
+    "rounds 1" ∷
+    "recover 1" ∷
+    "split 2 3" ∷
+    "merge 1 2 3" ∷
+    "rounds 4" ∷
+    "show order" ∷
+    "end" ∷
+    [])
+    ≡ written (
+    "= 1" ∷
+    "1 NonPrim - g0 w0 p0@0{1,2,3} a0 v- y- r[] o[] x{} b0" ∷
+    "2 NonPrim - g0 w0 p0@0{1,2,3} a0 v- y- r[] o[] x{} b0" ∷
+    "3 NonPrim - g0 w0 p0@0{1,2,3} a0 v- y- r[] o[] x{} b0" ∷
+    "= 3" ∷
+    "1 ExchangeStates c1 g0 w0 p0@0{1,2,3} a0 v- y- r[] o[] x{} b0" ∷
+    "2 ExchangeStates c1 g0 w0 p0@0{1,2,3} a0 v- y- r[] o[] x{} b0" ∷
+    "3 ExchangeStates c1 g0 w0 p0@0{1,2,3} a0 v- y- r[] o[] x{} b0" ∷
+    "= 5" ∷
+    "1 Construct c1 g0 w0 p0@0{1,2,3} a1 v1/0{1,2,3}{1} y- r[] o[] x{} b0" ∷
+    "= 6" ∷
+    "2 Construct c1 g0 w0 p0@0{1,2,3} a1 v1/0{1,2,3}{2} y- r[] o[] x{} b0" ∷
+    "= 7" ∷
+    "3 Construct c1 g0 w0 p0@0{1,2,3} a1 v1/0{1,2,3}{3} y- r[] o[] x{} b0" ∷
+    "= 9" ∷
+    "1 RegPrim c1 g0 w0 p1@1{1,2,3} a0 v1/0{1,2,3}{1} y- r[] o[] x{} b0" ∷
+    "= 10" ∷
+    "2 RegPrim c1 g0 w0 p1@1{1,2,3} a0 v1/0{1,2,3}{2} y- r[] o[] x{} b0" ∷
+    "= 11" ∷
+    "3 RegPrim c1 g0 w0 p1@1{1,2,3} a0 v1/0{1,2,3}{3} y- r[] o[] x{} b0" ∷
+    "= 12" ∷
+    "made 2:1 put \"x\" 1" ∷
+    "2 RegPrim c1 g0 w0 p1@1{1,2,3} a0 v1/0{1,2,3}{2} y- r[] o[2:1] x{} b0" ∷
+    "= 14" ∷
+    "1 Down" ∷
+    "= 15" ∷
+    "order 1 2:1" ∷
+    "2 RegPrim c1 g1 w0 p1@1{1,2,3} a0 v1/0{1,2,3}{2} y- r[] o[] x{} b0" ∷
+    "reply 2:1 done" ∷
+    "= 16" ∷
+    "3 RegPrim c1 g1 w0 p1@1{1,2,3} a0 v1/0{1,2,3}{3} y- r[] o[] x{} b0" ∷
+    "= 17" ∷
+    "1 NonPrim - g0 w0 p1@1{1,2,3} a0 v1/0{1,2,3}{1} y- r[] o[] x{} b0" ∷
+    "= 18" ∷
+    "2 TransPrim t1 g1 w0 p1@1{1,2,3} a0 v1/0{1,2,3}{2} y- r[] o[] x{} b0" ∷
+    "3 TransPrim t1 g1 w0 p1@1{1,2,3} a0 v1/0{1,2,3}{3} y- r[] o[] x{} b0" ∷
+    "= 19" ∷
+    "1 ExchangeStates c2 g0 w0 p1@1{1,2,3} a0 v1/0{1,2,3}{1} y- r[] o[] x{} b0" ∷
+    "2 ExchangeStates c2 g1 w0 p1@1{1,2,3} a0 v- y![] r[] o[] x{} b0" ∷
+    "3 ExchangeStates c2 g1 w0 p1@1{1,2,3} a0 v- y![] r[] o[] x{} b0" ∷
+    "= 21" ∷
+    "1 ExchangeActions c2 g0 w0 p1@1{1,2,3} a0 v1/0{1,2,3}{1} y- r[] o[] x{} b0" ∷
+    "= 22" ∷
+    "2 ExchangeActions c2 g1 w0 p1@1{1,2,3} a0 v- y![] r[] o[] x{} b0" ∷
+    "= 23" ∷
+    "3 ExchangeActions c2 g1 w0 p1@1{1,2,3} a0 v- y![] r[] o[] x{} b0" ∷
+    "= 25" ∷
+    "1 Construct c2 g1 w0 p1@1{1,2,3} a1 v2/1{1,2,3}{1} y![] r[] o[] x{} b0" ∷
+    "= 26" ∷
+    "2 Construct c2 g1 w0 p1@1{1,2,3} a1 v2/1{1,2,3}{2} y![] r[] o[] x{} b0" ∷
+    "= 27" ∷
+    "3 Construct c2 g1 w0 p1@1{1,2,3} a1 v2/1{1,2,3}{3} y![] r[] o[] x{} b0" ∷
+    "= 29" ∷
+    "1 RegPrim c2 g1 w0 p2@2{1,2,3} a0 v2/1{1,2,3}{1} y- r[] o[] x{} b0" ∷
+    "= 30" ∷
+    "2 RegPrim c2 g1 w0 p2@2{1,2,3} a0 v2/1{1,2,3}{2} y- r[] o[] x{} b0" ∷
+    "= 31" ∷
+    "3 RegPrim c2 g1 w0 p2@2{1,2,3} a0 v2/1{1,2,3}{3} y- r[] o[] x{} b0" ∷
+    "= 33" ∷
+    "all [2:1]" ∷
+    "end 33" ∷
+    [])
+unfolding cases_compute
+stop_inside_call_12_with_no_bytes = refl
+
+-- A crash inside a device call leaves the state before or after its commit, and the run goes on to the same end.
+stop_inside_call_12_with_one_byte_of_one :
+    replayed_text (
+    "start 1 2 3" ∷
+    "stop 1 12 01" ∷
+    "merge 1 2 3" ∷
+    "rounds 2" ∷
+    "request 2 put \"x\" 1" ∷
+    "rounds 1" ∷
+    "recover 1" ∷
+    "split 2 3" ∷
+    "merge 1 2 3" ∷
+    "rounds 4" ∷
+    "show order" ∷
+    "end" ∷
+    [])
+    ≡ written (
+    "= 1" ∷
+    "1 NonPrim - g0 w0 p0@0{1,2,3} a0 v- y- r[] o[] x{} b0" ∷
+    "2 NonPrim - g0 w0 p0@0{1,2,3} a0 v- y- r[] o[] x{} b0" ∷
+    "3 NonPrim - g0 w0 p0@0{1,2,3} a0 v- y- r[] o[] x{} b0" ∷
+    "= 3" ∷
+    "1 ExchangeStates c1 g0 w0 p0@0{1,2,3} a0 v- y- r[] o[] x{} b0" ∷
+    "2 ExchangeStates c1 g0 w0 p0@0{1,2,3} a0 v- y- r[] o[] x{} b0" ∷
+    "3 ExchangeStates c1 g0 w0 p0@0{1,2,3} a0 v- y- r[] o[] x{} b0" ∷
+    "= 5" ∷
+    "1 Construct c1 g0 w0 p0@0{1,2,3} a1 v1/0{1,2,3}{1} y- r[] o[] x{} b0" ∷
+    "= 6" ∷
+    "2 Construct c1 g0 w0 p0@0{1,2,3} a1 v1/0{1,2,3}{2} y- r[] o[] x{} b0" ∷
+    "= 7" ∷
+    "3 Construct c1 g0 w0 p0@0{1,2,3} a1 v1/0{1,2,3}{3} y- r[] o[] x{} b0" ∷
+    "= 9" ∷
+    "1 RegPrim c1 g0 w0 p1@1{1,2,3} a0 v1/0{1,2,3}{1} y- r[] o[] x{} b0" ∷
+    "= 10" ∷
+    "2 RegPrim c1 g0 w0 p1@1{1,2,3} a0 v1/0{1,2,3}{2} y- r[] o[] x{} b0" ∷
+    "= 11" ∷
+    "3 RegPrim c1 g0 w0 p1@1{1,2,3} a0 v1/0{1,2,3}{3} y- r[] o[] x{} b0" ∷
+    "= 12" ∷
+    "made 2:1 put \"x\" 1" ∷
+    "2 RegPrim c1 g0 w0 p1@1{1,2,3} a0 v1/0{1,2,3}{2} y- r[] o[2:1] x{} b0" ∷
+    "= 14" ∷
+    "1 Down" ∷
+    "= 15" ∷
+    "order 1 2:1" ∷
+    "2 RegPrim c1 g1 w0 p1@1{1,2,3} a0 v1/0{1,2,3}{2} y- r[] o[] x{} b0" ∷
+    "reply 2:1 done" ∷
+    "= 16" ∷
+    "3 RegPrim c1 g1 w0 p1@1{1,2,3} a0 v1/0{1,2,3}{3} y- r[] o[] x{} b0" ∷
+    "= 17" ∷
+    "1 NonPrim - g1 w0 p1@1{1,2,3} a0 v1/0{1,2,3}{1} y- r[] o[] x{} b0" ∷
+    "= 18" ∷
+    "2 TransPrim t1 g1 w0 p1@1{1,2,3} a0 v1/0{1,2,3}{2} y- r[] o[] x{} b0" ∷
+    "3 TransPrim t1 g1 w0 p1@1{1,2,3} a0 v1/0{1,2,3}{3} y- r[] o[] x{} b0" ∷
+    "= 19" ∷
+    "1 ExchangeStates c2 g1 w0 p1@1{1,2,3} a0 v1/0{1,2,3}{1} y- r[] o[] x{} b0" ∷
+    "2 ExchangeStates c2 g1 w0 p1@1{1,2,3} a0 v- y![] r[] o[] x{} b0" ∷
+    "3 ExchangeStates c2 g1 w0 p1@1{1,2,3} a0 v- y![] r[] o[] x{} b0" ∷
+    "= 21" ∷
+    "1 Construct c2 g1 w0 p1@1{1,2,3} a1 v2/1{1,2,3}{1} y![] r[] o[] x{} b0" ∷
+    "= 22" ∷
+    "2 Construct c2 g1 w0 p1@1{1,2,3} a1 v2/1{1,2,3}{2} y![] r[] o[] x{} b0" ∷
+    "= 23" ∷
+    "3 Construct c2 g1 w0 p1@1{1,2,3} a1 v2/1{1,2,3}{3} y![] r[] o[] x{} b0" ∷
+    "= 25" ∷
+    "1 RegPrim c2 g1 w0 p2@2{1,2,3} a0 v2/1{1,2,3}{1} y- r[] o[] x{} b0" ∷
+    "= 26" ∷
+    "2 RegPrim c2 g1 w0 p2@2{1,2,3} a0 v2/1{1,2,3}{2} y- r[] o[] x{} b0" ∷
+    "= 27" ∷
+    "3 RegPrim c2 g1 w0 p2@2{1,2,3} a0 v2/1{1,2,3}{3} y- r[] o[] x{} b0" ∷
+    "= 30" ∷
+    "all [2:1]" ∷
+    "end 30" ∷
+    [])
+unfolding cases_compute
+stop_inside_call_12_with_one_byte_of_one = refl

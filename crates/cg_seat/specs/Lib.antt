@@ -1,6 +1,0 @@
-pub mod Calls
-pub mod Resting
-pub mod RestingLaws
-pub mod Seen
-pub mod SeenLaws
-pub mod Looks

@@ -1,6 +1,0 @@
-use Rattle.std.proofs.Common.{sym}
-use Rattle.cg_stored.proofs.EntryFields.{value-within}
-use Rattle.cg_stored.proofs.entries.write_entry.Goals as goal
-
-pub put_value-requires : goal.put_value-requires
-put_value-requires c = value-within c.args.db.now c.args.key.now c.in-Some.value.now c.requires.entries (sym c.in-Some.ensures)

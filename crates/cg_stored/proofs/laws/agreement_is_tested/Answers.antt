@@ -1,5 +1,0 @@
-use Rattle.cg_stored.proofs.Agreeing.{fits-agree, agree-fits}
-use Rattle.cg_stored.proofs.laws.agreement_is_tested.Goals as goal
-
-pub returns : goal.returns
-returns c = record { fits = agree-fits; agree = fits-agree }

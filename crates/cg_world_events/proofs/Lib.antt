@@ -1,0 +1,10 @@
+mod Arriving
+mod CopiedParts
+mod FirstReasons
+mod HandFacts
+mod LineFacts
+mod NotYetUp
+mod NodeFacts
+mod SeenNodes
+mod StruckNodes
+mod TransferFacts

@@ -1,0 +1,19 @@
+use Rattle.std.proofs.Common.{◌≡◌, IfOk, is_some, false, subst, sym}
+use Rattle.cg_model.specs.World.{replica_of}
+use Rattle.cg_model.specs.Step.{recover}
+use Rattle.cg_world_events.specs.Grounds.{IsHosted}
+use Rattle.cg_world_events.specs.Striking.{telling}
+use Rattle.cg_world_events.specs.contracts.state.WorldState.{the_view}
+use Rattle.cg_world_events.proofs.StruckNodes.{down-outside, recover-done}
+use Rattle.cg_world_events.proofs.striking.come_up.Goals as goal
+
+pub rise-requires : goal.rise-requires
+rise-requires c =
+    down-outside (the_view c.state.inside) c.args.p c.in-Some.node (subst IsHosted (sym c.state.view_is) c.requires.hosted) c.in-Some.ensures.taken.0
+    (subst (λ w. is_some (replica_of w c.args.p) ≡ false) (sym c.state.view_is) c.requires.down)
+
+pub returns-in-Some : goal.returns-in-Some
+returns-in-Some c =
+    subst (λ w. IfOk c.rise.result (λ news. telling c.rise.new.state news ≡ recover w c.args.p)) c.state.view_is
+    (recover-done (the_view c.state.inside) c.take.new.self c.args.p c.in-Some.node (subst IsHosted (sym c.state.view_is) c.requires.hosted) c.in-Some.ensures.taken.0
+    (subst (λ w. is_some (replica_of w c.args.p) ≡ false) (sym c.state.view_is) c.requires.down) c.in-Some.ensures.taken.1 c.rise.result c.rise.new.state c.rise.ensures)

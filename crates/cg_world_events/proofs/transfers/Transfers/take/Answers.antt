@@ -1,0 +1,10 @@
+use Rattle.std.proofs.Common.{not, filter, ap, ◌∙◌, rules}
+use Rattle.std.specs.Prelude.{◌==◌}
+use Rattle.std.proofs.lemmas.Fn.{filter_same}
+use Rattle.cg_model.specs.World.{TransferState}
+use Rattle.cg_world_events.proofs.transfers.Transfers.take.Goals as goal
+
+pub returns-clause-others : goal.returns-clause-others
+returns-clause-others c =
+    filter_same _ _ _ (λ x b f' k. search rules) _ _ c.retain.ensures.filtered ∙ ap (filter (λ (s : TransferState). not (s.joiner == c.args.joiner))) c.self.view_is
+    ∙ c.take_out-found.ensures.others

@@ -1,0 +1,17 @@
+-- What a recovery makes of a world, from the replica's node.
+use Rattle.std.specs.Prelude.{Option, Some, None}
+use Rattle.cg_group.specs.Events.{come_up}
+use Rattle.cg_world_node.specs.Calls.{risen}
+use Rattle.cg_model.specs.World.{World, Node}
+use Rattle.cg_model.specs.Show.{StepInProgress, EventEffects, tell}
+use Rattle.cg_model.specs.Step.{quietly}
+use Rattle.cg_world_events.specs.StepInProgress.{hosted}
+
+-- the replica of the node has come up
+abbrev pub returned : World → Node → World
+returned w s = let back = hosted w (risen w.made s.id s.life).0 in record back { group = come_up w.group s.id }
+
+-- what is to be shown of a recovery, where something is
+abbrev pub telling : World → Option EventEffects → StepInProgress
+telling w None = quietly w
+telling w (Some news) = tell (quietly w) news

@@ -1,0 +1,234 @@
+//! An event on the way.
+ghost use Rattle.std.specs.Prelude.{◌≡◌, ◌++◌, Some, fold, IfOk, OnOk, IfSome};
+ghost use Rattle.cg_base.specs.declared.action_id.ActionId.{ActionId as ActionName};
+ghost use Rattle.cg_action.specs.declared.action.Action.{Action as ActionView};
+ghost use Rattle.cg_action.specs.Limits.{IsKind};
+ghost use Rattle.cg_client.specs.Calls.{kind_of};
+ghost use Rattle.cg_replica_step.specs.Recorded.{AreBooked};
+ghost use Rattle.cg_replica_step.specs.Step.{Deliveries, Asks};
+ghost use Rattle.cg_model.specs.World.{replica_of};
+ghost use Rattle.cg_model.specs.Step.{quietly, hand, hand_over};
+ghost use Rattle.cg_model.specs.Standing.{IsHandedBooked, AreBookedInTurn};
+ghost use Rattle.cg_model.specs.Touched.{ShowsNewsOf, new_lines_of};
+ghost use Rattle.cg_world_node.specs.Calls.{taken, IsBookedFor};
+ghost use Rattle.cg_world_report.specs.Showing.{shows_after, order_after, made_after};
+ghost use Rattle.cg_world_events.specs.StepInProgress.{comes_back, ended_with};
+ghost use Rattle.cg_model.specs.Show.{ended, tell};
+
+use crate::WorldState;
+use crate::made::MadeCut;
+use cg_base::{IdSet, NoMemory, ReplicaId, Row};
+use cg_client::Request;
+use cg_encoded::EncodedMsg;
+use cg_group::{Delivery, Handed};
+use cg_report::{Entry, Shown};
+use cg_world_node::{Node, NodeOutput};
+use cg_world_report::{EntryBuilder, EventEffects};
+use std::alloc::Global;
+use std::marker::Model;
+
+/// The world so far, and what is to be shown but for the lines.
+pub struct StepInProgress {
+    pub(crate) state: WorldState,
+    pub(crate) showing: EntryBuilder,
+}
+
+impl Drop for StepInProgress {
+    fn drop(self) {
+        let StepInProgress {
+            state: _,
+            showing: _,
+        } = self;
+    }
+}
+
+impl Model for StepInProgress {
+    ghost use Rattle.cg_model.specs.Show.{StepInProgress};
+
+    ghost Value = { StepInProgress };
+
+    ghost view = { λ g. record {
+      world = g.state;
+      made = g.showing.made;
+      orders = g.showing.orders;
+      replies = g.showing.replies;
+      shown = g.showing.shown;
+    } };
+}
+
+// What came of an event at a replica, in the world and in what is shown.
+fn told(
+    state: &mut WorldState,
+    showing: &mut EntryBuilder,
+    news: EventEffects,
+) -> Result<(), NoMemory>
+    ensures shown { OnOk result (showing.new ≡ shows_after state.old.order showing.old news) }
+    ensures state { OnOk result (state.new ≡ record state.old {
+      order = order_after state.old.order news;
+      made = made_after state.old.made news;
+    }) }
+{
+    let mut made = state.made.take(state.nodes.alloc())?;
+    showing.tell(&mut state.order, &mut made, news)?;
+    state.made = MadeCut::of(made);
+    Ok(())
+}
+
+impl StepInProgress {
+    /// Nothing has come of an event but this world.
+    pub fn quietly(alloc: Global, state: WorldState) -> StepInProgress
+        ensures { result ≡ quietly state }
+    {
+        StepInProgress {
+            state,
+            showing: EntryBuilder::new(alloc),
+        }
+    }
+
+    /// The world so far. It takes no memory.
+    pub fn into_state(self) -> WorldState
+        ensures { result ≡ self.world }
+    {
+        let StepInProgress { state, showing } = self;
+        drop(showing);
+        state
+    }
+
+    /// It is shown too, as an event asks for it.
+    pub(crate) fn show(&mut self, list: Row<Shown>) -> Result<(), NoMemory>
+        ensures { OnOk result (self.new ≡ record self.old { shown = self.old.shown ++ list }) }
+    {
+        show_all(&mut self.showing, list)
+    }
+
+    /// What came of an event at a replica is shown too.
+    pub(crate) fn tell(&mut self, news: EventEffects) -> Result<(), NoMemory>
+        ensures { OnOk result (self.new ≡ tell self.old news) }
+    {
+        told(&mut self.state, &mut self.showing, news)
+    }
+
+    /// A replica takes what the group hands to it, where it is up.
+    pub(crate) fn deliver(&mut self, h: Handed<EncodedMsg>) -> Result<(), NoMemory>
+        requires { (book : ActionName → ActionView) × IsHandedBooked book self.old.world h }
+        ensures { OnOk result (self.new ≡ hand_over self.old h) }
+    {
+        let Handed { to, list } = h;
+        match self.state.take_up(to) {
+            Some(node) => self.hand_list(node, list),
+            None => {
+                drop(list);
+                Ok(())
+            }
+        }
+    }
+
+    /// Each replica takes what the group hands to it, ascending.
+    pub(crate) fn hand_out(&mut self, handed: Row<Handed<EncodedMsg>>) -> Result<(), NoMemory>
+        requires { (book : ActionName → ActionView) × AreBookedInTurn book self.old handed }
+        ensures { OnOk result (self.new ≡ fold hand_over self.old handed) }
+    {
+        for h in handed.into_vec() {
+            self.deliver(h)?;
+        }
+        Ok(())
+    }
+
+    /// A request comes to a replica, where it is up.
+    pub(crate) fn ask(&mut self, p: ReplicaId, request: Request) -> Result<(), NoMemory>
+        requires limits { IsKind (kind_of request) }
+        requires booked { (book : ActionName → ActionView)
+            × IfSome (replica_of self.old.world p) (λ r. AreBooked book r.held (Asks (kind_of request))) }
+        ensures { OnOk result (self.new ≡ hand self.old p (Asks (kind_of request))) }
+    {
+        match self.state.take_up(p) {
+            Some(node) => self.hand_request(node, request),
+            None => {
+                drop(request);
+                Ok(())
+            }
+        }
+    }
+
+    // Deliveries come to a replica whose node was taken out.
+    fn hand_list(&mut self, node: Node, list: Row<Delivery<EncodedMsg>>) -> Result<(), NoMemory>
+        requires { IsBookedFor node.life (Deliveries list) }
+        ensures { OnOk result (self.new ≡ comes_back self.old (taken node.id (Deliveries list) node.life)) }
+    {
+        let (node, spoken) = node.deliver(list)?;
+        self.come_back(node, spoken)
+    }
+
+    // A request comes to a replica whose node was taken out.
+    fn hand_request(&mut self, node: Node, request: Request) -> Result<(), NoMemory>
+        requires limits { IsKind (kind_of request) }
+        requires booked { IsBookedFor node.life (Asks (kind_of request)) }
+        ensures { OnOk result (self.new ≡ comes_back self.old (taken node.id (Asks (kind_of request)) node.life)) }
+    {
+        let (node, spoken) = node.ask(request)?;
+        self.come_back(node, spoken)
+    }
+
+    // Its node stands again, and what it has to say is said and shown; or it went down.
+    fn come_back(&mut self, node: Node, spoken: Option<NodeOutput>) -> Result<(), NoMemory>
+        ensures { OnOk result (self.new ≡ comes_back self.old (node, spoken)) }
+    {
+        match spoken {
+            Some(spoken) => self.go_on(node, spoken),
+            None => self.state.take_down(node),
+        }
+    }
+
+    fn go_on(&mut self, node: Node, spoken: NodeOutput) -> Result<(), NoMemory>
+        ensures { OnOk result (self.new ≡ comes_back self.old (node, Some spoken)) }
+    {
+        let p = node.id();
+        let (news, sent) = spoken.into_parts();
+        self.state.put(node)?;
+        self.state.say(p, sent)?;
+        self.tell(news)
+    }
+
+    /// The event ends: what it shows, with the lines that differ from the last printed ones, and the world behind it.
+    /// They are looked for at these replicas alone, since nothing is new of others.
+    #[tactic(auto, unfolding(cg_model::specs::Show::ended))]
+    pub fn finish(self, touched: &IdSet) -> Result<(Entry, WorldState), NoMemory>
+        requires { ShowsNewsOf touched.now self.world }
+        ensures { IfOk result (λ x. record { entry = x.0; world = x.1 } ≡ ended self) }
+    {
+        let StepInProgress { mut state, showing } = self;
+        match end(&mut state, showing, touched) {
+            Ok(entry) => Ok((entry, state)),
+            Err(NoMemory) => {
+                drop(state);
+                Err(NoMemory)
+            }
+        }
+    }
+}
+
+// It is shown too.
+fn show_all(showing: &mut EntryBuilder, list: Row<Shown>) -> Result<(), NoMemory>
+    ensures { OnOk result (showing.new ≡ record showing.old { shown = showing.old.shown ++ list }) }
+{
+    for one in list.into_vec() {
+        showing.show(one)?;
+    }
+    Ok(())
+}
+
+// The lines that are news are printed.
+fn end(state: &mut WorldState, showing: EntryBuilder, touched: &IdSet) -> Result<Entry, NoMemory>
+    ensures { IfOk result (λ e. record { entry = e; world = state.new } ≡
+        ended_with (record {
+          world = state.old;
+          made = showing.made;
+          orders = showing.orders;
+          replies = showing.replies;
+          shown = showing.shown;
+        }) (new_lines_of touched.now state.old)) }
+{
+    let lines = state.new_lines_of(touched)?;
+    state.lines.print_all(lines.as_slice())?;
+    showing.into_entry(lines)
+}
