@@ -261,7 +261,7 @@ impl<D: Disk> Follower<D> {
     }
 }
 
-/// A call of a disk in memory, passed on to it.
+/// The calls of a disk in memory, passed on to it.
 impl Follower<ModelDisk> {
     ghost use Rattle.cg_disk.specs.State.{Stops};
     ghost use Rattle.cg_disk.specs.Crashes.{Arms};
@@ -274,5 +274,12 @@ impl Follower<ModelDisk> {
         ensures same { self.new.now ≡ self.old.now }
     {
         self.journal.stop_at(n);
+    }
+
+    /// The device calls made so far.
+    pub fn calls(&self) -> u64
+        ensures { result ≡ (⟦<ModelDisk as Disk>⟧.view self.now.disk).time }
+    {
+        self.journal.calls()
     }
 }

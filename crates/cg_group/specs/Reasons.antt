@@ -1,7 +1,7 @@
 -- The number and the value that are printed for a reason.
 use Rattle.std.specs.Prelude.{ℕ, Option, Some, None}
 use Rattle.cg_group.specs.declared.reason.Reason.{Reason}
-use Rattle.cg_group.specs.declared.reason.Reason.TheVariants.{NotUp, NotRegular, NothingToOrder, NoSuchPlace, AlreadyReceived, NotReady, NotOneConfiguration, NotTogether, EmptySet, AlreadyUp, UnknownReplica, IdUsed, JoinNotGreen, HasLeft, EarlierMissing, StillRegular}
+use Rattle.cg_group.specs.declared.reason.Reason.TheVariants.{NotUp, NotRegular, NothingToOrder, NoSuchPlace, AlreadyReceived, NotReady, NotOneConfiguration, NotTogether, EmptySet, AlreadyUp, UnknownReplica, IdUsed, JoinNotGreen, HasLeft, EarlierMissing, StillRegular, Discarded, WouldGoBack, UnknownFollower, FollowerDown, FollowerUp, UnknownSession, SessionUsed, NotCreating}
 
 -- the number of a reason, and the value that is printed behind it, where there is one
 abbrev pub reason_numbers : Reason → ℕ × Option ℕ
@@ -21,3 +21,11 @@ reason_numbers (JoinNotGreen id) = (13, Some id)
 reason_numbers (HasLeft id) = (14, Some id)
 reason_numbers (EarlierMissing place) = (15, Some place)
 reason_numbers (StillRegular id) = (16, Some id)
+reason_numbers (Discarded count) = (18, Some count)
+reason_numbers (WouldGoBack cursor) = (19, Some cursor)
+reason_numbers (UnknownFollower f) = (20, Some f)
+reason_numbers (FollowerDown f) = (21, Some f)
+reason_numbers (FollowerUp f) = (22, Some f)
+reason_numbers (UnknownSession s) = (23, Some s)
+reason_numbers (SessionUsed s) = (24, Some s)
+reason_numbers (NotCreating id) = (25, Some id)

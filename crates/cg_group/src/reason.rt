@@ -55,6 +55,30 @@ pub enum Reason {
     /// The replica is regular in a configuration.
     #[error("replica {0} is regular in a configuration")]
     StillRegular(ReplicaId),
+    /// The replica has discarded actions that the follower hasn't taken: so many were discarded.
+    #[error("the replica has discarded {0} actions, and the follower has taken fewer")]
+    Discarded(u64),
+    /// The follower was shown at a cursor that the replica's greens don't reach.
+    #[error("the follower was shown at {0}, further than the replica is")]
+    WouldGoBack(u64),
+    /// The follower wasn't made.
+    #[error("follower {0} wasn't made")]
+    UnknownFollower(u8),
+    /// The follower is down.
+    #[error("follower {0} is down")]
+    FollowerDown(u8),
+    /// The follower is up.
+    #[error("follower {0} is up")]
+    FollowerUp(u8),
+    /// The session isn't open.
+    #[error("session {0} isn't open")]
+    UnknownSession(u8),
+    /// The session is open already.
+    #[error("session {0} is open already")]
+    SessionUsed(u8),
+    /// The replica would keep a request, and not create it at once.
+    #[error("replica {0} creates no request at once")]
+    NotCreating(ReplicaId),
 }
 
 impl Reason {
@@ -79,6 +103,14 @@ impl Reason {
             Reason::HasLeft(_) => 14,
             Reason::EarlierMissing(_) => 15,
             Reason::StillRegular(_) => 16,
+            Reason::Discarded(_) => 18,
+            Reason::WouldGoBack(_) => 19,
+            Reason::UnknownFollower(_) => 20,
+            Reason::FollowerDown(_) => 21,
+            Reason::FollowerUp(_) => 22,
+            Reason::UnknownSession(_) => 23,
+            Reason::SessionUsed(_) => 24,
+            Reason::NotCreating(_) => 25,
         }
     }
 
@@ -97,11 +129,19 @@ impl Reason {
             | Reason::IdUsed(id)
             | Reason::JoinNotGreen(id)
             | Reason::HasLeft(id)
-            | Reason::StillRegular(id) => Some(u64::from(id.get())),
+            | Reason::StillRegular(id)
+            | Reason::NotCreating(id) => Some(u64::from(id.get())),
+            Reason::UnknownFollower(n)
+            | Reason::FollowerDown(n)
+            | Reason::FollowerUp(n)
+            | Reason::UnknownSession(n)
+            | Reason::SessionUsed(n) => Some(u64::from(*n)),
             Reason::NoSuchPlace(n)
             | Reason::AlreadyReceived(n)
             | Reason::NotReady(n)
-            | Reason::EarlierMissing(n) => Some(*n),
+            | Reason::EarlierMissing(n)
+            | Reason::Discarded(n)
+            | Reason::WouldGoBack(n) => Some(*n),
             Reason::EmptySet => None,
         }
     }

@@ -9,6 +9,8 @@ mod database;
 #[cfg(test)]
 mod disk;
 #[cfg(test)]
+mod follower;
+#[cfg(test)]
 mod group;
 #[cfg(test)]
 mod journal;

@@ -1,0 +1,4 @@
+mod Listing
+mod NextGreens
+mod Striking
+mod Struck

@@ -1,0 +1,31 @@
+use Rattle.std.proofs.Common.{sym, ap, ◌∙◌, refl, Some}
+use Rattle.cg_follower_list.specs.Life.{Follower}
+use Rattle.cg_follower_list.proofs.Listing.{taken_out, found_nowhere}
+use Rattle.cg_follower_list.proofs.followers.FollowerList.take.Goals as goal
+
+pub invariant_of-self : goal.invariant_of-self
+invariant_of-self c =
+    let at = rw c.as_slice.ensures.value at (sym c.index_of.ensures ∙ c.in-Some.is) in
+    rw c.remove.ensures.items (taken_out c.self.inside.list.items c.args.f c.in-Some.index c.remove.result c.self.invariant at).listed
+
+pub returns-in-Some-clause-taken : goal.returns-in-Some-clause-taken
+returns-in-Some-clause-taken c =
+    let at = rw c.as_slice.ensures.value at (sym c.index_of.ensures ∙ c.in-Some.is) in
+    let out = taken_out c.self.inside.list.items c.args.f c.in-Some.index c.remove.result c.self.invariant at in
+    let number = ap (λ (x : Follower). x.id) c.remove.ensures.value ∙ out.number in
+    rw (← c.self.view_is, c.remove.ensures.items) (out.found ∙ ap Some (sym c.remove.ensures.value), number, out.again)
+
+pub returns-in-Some-clause-away : goal.returns-in-Some-clause-away
+returns-in-Some-clause-away c =
+    let at = rw c.as_slice.ensures.value at (sym c.index_of.ensures ∙ c.in-Some.is) in
+    rw c.remove.ensures.items (taken_out c.self.inside.list.items c.args.f c.in-Some.index c.remove.result c.self.invariant at).away
+
+pub returns-in-None-clause-taken : goal.returns-in-None-clause-taken
+returns-in-None-clause-taken c =
+    let away = rw c.as_slice.ensures.value at (sym c.index_of.ensures ∙ c.in-None.is) in
+    (rw (← c.self.view_is) (found_nowhere c.self.inside.list.items c.args.f away), refl)
+
+pub returns-in-None-clause-away : goal.returns-in-None-clause-away
+returns-in-None-clause-away c =
+    let away = rw c.as_slice.ensures.value at (sym c.index_of.ensures ∙ c.in-None.is) in
+    rw (← c.self.view_is) (found_nowhere c.self.inside.list.items c.args.f away)

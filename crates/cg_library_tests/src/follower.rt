@@ -1,0 +1,57 @@
+ghost use Rattle.std.specs.Prelude.{IfOk};
+ghost use Rattle.cg_action.specs.ActionLimits.{IsAction};
+ghost use Rattle.cg_records.specs.Limits.{Each};
+
+use cg_action::{Action, ActionList, Cmd, CmdList, Kind};
+use cg_base::{ActionId, NoMemory, ReplicaId};
+use cg_db::Db;
+use cg_disk::ModelDisk;
+use cg_follow::{FollowErr, Follower};
+use cg_text::Txt;
+use std::alloc::Global;
+use std::test::Fail;
+
+// one action, which adds 5 to "x"
+fn raise(alloc: Global) -> Result<ActionList, NoMemory>
+    ensures { IfOk result (λ list. Each IsAction list) }
+{
+    let key = Txt::new(alloc, "x")?;
+    let mut cmds = CmdList::new(alloc);
+    cmds.push(Cmd::Inc { key, by: 5 })?;
+    let creator = ReplicaId::known(1);
+    let mut list = ActionList::new(alloc);
+    list.push(Action {
+        id: ActionId { creator, index: 1 },
+        green_line: 0,
+        kind: Kind::Update { cmds, query: None },
+    })?;
+    Ok(list)
+}
+
+#[test]
+fn a_crash_leaves_the_follower_before_or_after(rt: HostRuntime) -> Result<(), Fail> {
+    let alloc = rt.alloc();
+    let list = raise(alloc)?;
+    let db = Db::new(alloc);
+    let made = Follower::make(alloc, ModelDisk::new(alloc), 0, &db);
+    drop(db);
+    let mut follower = made
+        .ok()
+        .ok_or("no follower")?
+        .feed(&list)
+        .ok()
+        .ok_or("no feed")?;
+    assert!(rt; follower.cursor() == 1);
+    assert!(rt; follower.calls() == 3 + 4 + 4);
+
+    // the machine stops inside the first call of a feed
+    follower.stop_at(1);
+    let Err(FollowErr::Lost(disk)) = follower.feed(&list) else {
+        return Err("it went on".into());
+    };
+    let left = disk.image(b"half of it")?;
+    assert!(rt; left.calls() == 3 + 4 + 4 + 1);
+    let follower = Follower::open(alloc, left).ok().ok_or("no follower")?;
+    assert!(rt; follower.cursor() == 1);
+    Ok(())
+}

@@ -1,0 +1,5 @@
+mod Cells
+mod Exact
+mod Growing
+mod Keeping
+mod Parts

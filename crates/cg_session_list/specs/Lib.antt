@@ -1,0 +1,4 @@
+pub mod Apart
+pub mod Parts
+pub mod Print
+pub mod Sessions
