@@ -6,7 +6,7 @@ use Rattle.cg_model.specs.Agreement.{FoldAnswers}
 use Rattle.cg_model.specs.Played.{AlwaysHolds}
 use Rattle.cg_agree.proofs.RunSteps.{step-of}
 use Rattle.cg_agree.proofs.DownAgrees.{down-fold}
-use Rattle.cg_agree.proofs.FoldHeld.{fold-held}
+use Rattle.cg_agree.proofs.FoldHeld.{fold-held, kept-held}
 use Rattle.cg_agree.proofs.FoldShown.{fold-database, fold-weak}
 use Rattle.cg_agree.proofs.FoldReplies.{fold-reply, fold-when, fold-once}
 
@@ -20,6 +20,7 @@ pub fold-answers : AlwaysHolds → (steps : List Step) → IsRunFrom no_world st
 fold-answers always steps run = record {
   database = λ earlier s p entries after there. fold-database always steps run earlier s after p entries there;
   held = λ earlier s p r after runs. fold-held always steps run earlier s p r after runs;
+  kept = λ earlier s p r after runs. kept-held always steps run earlier s p r after runs;
   down = down-fold always steps run;
   weak = λ earlier s p q after event. fold-weak always steps run earlier s after p q event;
   reply = λ earlier s r after there. fold-reply always earlier s (step-of always steps run earlier s after) r there;

@@ -53,9 +53,20 @@ module _ (steps : List Step) (f : StandsFor steps) (p : ℕ) (r : Replica) (runs
   pub own-fold : r.held.db ≡ fold_actions (ordered_actions steps (green_count r.held.queue))
   own-fold = in-order.core.made_of.db ∙ ap fold_actions (sym own-prefix)
 
+  pub own-kept : r.held.queue.greens ≡ drop r.held.queue.white (ordered_actions steps (green_count r.held.queue))
+  own-kept = in-order.core.made_of.kept ∙ ap (drop r.held.queue.white) (sym own-prefix)
+
 -- The database of a replica that is up.
 pub fold-held : AlwaysHolds → (steps : List Step) → IsRunFrom no_world steps → (earlier : List Step) (s : Step) (p : ℕ) (r : Replica) → ComesAfter steps earlier s →
     replica_of s.world p ≡ Some r → r.held.db ≡ fold_actions (ordered_actions (through earlier s) (green_count r.held.queue))
 fold-held always steps run earlier s p r after runs =
     let is = step-of always steps run earlier s after in
     own-fold (through earlier s) (stands-for always (through earlier s) is.behind) p r (ap (λ (w : World). replica_of w p) is.world ∙ runs)
+
+-- The greens that it keeps.
+pub kept-held : AlwaysHolds → (steps : List Step) → IsRunFrom no_world steps → (earlier : List Step) (s : Step) (p : ℕ) (r : Replica) → ComesAfter steps earlier s →
+    replica_of s.world p ≡ Some r →
+    r.held.queue.greens ≡ drop r.held.queue.white (ordered_actions (through earlier s) (green_count r.held.queue))
+kept-held always steps run earlier s p r after runs =
+    let is = step-of always steps run earlier s after in
+    own-kept (through earlier s) (stands-for always (through earlier s) is.behind) p r (ap (λ (w : World). replica_of w p) is.world ∙ runs)

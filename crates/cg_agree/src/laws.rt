@@ -1,6 +1,6 @@
 ghost use Rattle.cg_model.specs.EveryRun.{EveryRunAgrees};
 ghost use Rattle.cg_model.specs.Making.{AlwaysMadeInBook};
-ghost use Rattle.cg_model.specs.Standing.{AlwaysStands, AlwaysBooked, EventsUndoNothing};
+ghost use Rattle.cg_model.specs.Standing.{AlwaysStands, AlwaysBooked, EventsUndoNothing, OrdersRunOn};
 ghost use Rattle.cg_model.specs.Telling.{EveryRunTells};
 ghost use Rattle.cg_model.specs.Total.{NeverMet};
 ghost use Rattle.cg_model.specs.Touched.{OthersShowNothingNew};
@@ -54,4 +54,10 @@ pub fn made_actions_stand_in_the_book()
 /// last printed ones are those of replicas that the event touches.
 pub fn others_show_nothing_new()
     ensures { OthersShowNothingNew }
+{}
+
+/// In the order of each world to which admitted events lead every name is the next of its creator, so that none
+/// stands there twice.
+pub fn orders_run_on()
+    ensures { OrdersRunOn }
 {}

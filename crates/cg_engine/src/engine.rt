@@ -5,6 +5,7 @@ ghost use Rattle.cg_action.specs.declared.action.Action.{Action};
 ghost use Rattle.cg_base.specs.declared.action_id.ActionId.{ActionId};
 ghost use Rattle.cg_client.specs.Queries.{state_name};
 ghost use Rattle.cg_client.specs.Replica.{Held, fresh};
+ghost use Rattle.cg_client.specs.Requests.{is_creating};
 ghost use Rattle.cg_client.specs.Turn.{Turn};
 ghost use Rattle.cg_disk_records.specs.Stored.{recovery_turn};
 ghost use Rattle.cg_replica.specs.Inputs.{input_of, HasLimits};
@@ -349,6 +350,13 @@ impl<D: Disk> Engine<D> {
         ensures { result ≡ state_name self.now.replica.state }
     {
         self.replica.state()
+    }
+
+    /// It creates a request at once, and keeps none. It takes no memory.
+    pub fn is_creating(&self) -> bool
+        ensures { result ≡ is_creating self.now.replica.state }
+    {
+        self.replica.is_creating()
     }
 
     /// What it holds. It takes no memory.

@@ -51,6 +51,13 @@ impl NonPrim {
         NonPrim { core, regular }
     }
 
+    /// It is in a regular configuration, and so creates requests at once. It takes no memory.
+    pub fn is_regular(&self) -> bool
+        ensures { result ≡ self.now.regular }
+    {
+        self.regular
+    }
+
     /// One delivery.
     pub fn deliver(self, draft: &mut Draft, d: &Delivery) -> Result<ExchangeStep, NoMemory>
         ensures turn { IfOk result (λ step. turn_after step draft.new ≡

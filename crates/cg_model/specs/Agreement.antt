@@ -134,6 +134,9 @@ pub record FoldAnswers (steps : List Step) : Type 0 where
   pub held : (earlier : List Step) (s : Step) (p : ℕ) (r : Replica) → ComesAfter steps earlier s →
       replica_of s.world p ≡ Some r →
       r.held.db ≡ fold_actions (ordered_actions (through earlier s) (green_count r.held.queue))
+  pub kept : (earlier : List Step) (s : Step) (p : ℕ) (r : Replica) → ComesAfter steps earlier s →
+      replica_of s.world p ≡ Some r →
+      r.held.queue.greens ≡ drop r.held.queue.white (ordered_actions (through earlier s) (green_count r.held.queue))
   pub down : (earlier : List Step) (s : Step) (p : ℕ) (disk : Disk) (green : List ActionId) →
       ComesAfter steps earlier s →
       life_of s.world p ≡ Some (Down disk green) →

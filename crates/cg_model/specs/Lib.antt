@@ -36,3 +36,4 @@ pub mod Standing
 pub mod Touched
 pub mod Total
 pub mod Making
+pub mod Places

@@ -11,6 +11,7 @@ use Rattle.cg_group.specs.Events.{HandedOut, deliver, split, merge}
 use Rattle.cg_schedule.specs.declared.event.Event.{Event}
 use Rattle.cg_replica_step.specs.Step.{Deliveries, Asks}
 use Rattle.cg_replica_step.specs.Recorded.{AreBooked}
+use Rattle.cg_commit.specs.Holds.{run_on}
 use Rattle.cg_model.specs.World.{World, no_world, replica_of}
 use Rattle.cg_model.specs.Admission.{first_refusal}
 use Rattle.cg_model.specs.Show.{StepInProgress}
@@ -46,6 +47,10 @@ pub record AlwaysStands : Type 0 where
       IsReached (chronicle_step c w e) (world_step w e).world
   pub beside : (c : Chronicle) (w : World) → IsReached c w → StandsBeside c w
   pub carried : (c : Chronicle) (w : World) → IsReached c w → MadeFits w × OrderFits c w
+
+-- in each of these worlds every name of the order is the next of its creator: so none stands there twice
+abbrev pub OrdersRunOn : Type 0
+OrdersRunOn = (c : Chronicle) (w : World) → IsReached c w → run_on [] w.order ≡ true
 
 -- ---- what never comes back
 

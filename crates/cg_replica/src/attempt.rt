@@ -3,7 +3,7 @@ ghost use Rattle.std.specs.Prelude.{◌≡◌, IfOk};
 ghost use Rattle.cg_action.specs.Limits.{IsKind};
 ghost use Rattle.cg_client.specs.declared.parts.DraftParts.{DraftParts};
 ghost use Rattle.cg_client.specs.Queries.{state_name};
-ghost use Rattle.cg_client.specs.Requests.{request};
+ghost use Rattle.cg_client.specs.Requests.{is_creating, request};
 ghost use Rattle.cg_client.specs.Calls.{kind_of, IsLineGreen};
 ghost use Rattle.cg_construct.specs.Steps.{turn_after, HasLimits};
 ghost use Rattle.cg_replica_step.specs.Hearing.{hear_delivery};
@@ -73,6 +73,14 @@ pub(crate) fn name_of(s: &InAttempt) -> StateName
         InAttempt::Construct(s) => s.name(),
         InAttempt::No(s) => s.name(),
         InAttempt::Un(s) => s.name(),
+    }
+}
+
+pub(crate) fn is_creating(s: &InAttempt) -> bool
+    ensures { result ≡ is_creating (attempt_seen s.now).state }
+{
+    match s {
+        InAttempt::Construct(_) | InAttempt::No(_) | InAttempt::Un(_) => false,
     }
 }
 

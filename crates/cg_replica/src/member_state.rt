@@ -4,7 +4,7 @@ ghost use Rattle.cg_action.specs.Limits.{IsKind};
 ghost use Rattle.cg_client.specs.declared.parts.DraftParts.{DraftParts};
 ghost use Rattle.cg_client.specs.Queries.{state_name};
 ghost use Rattle.cg_client.specs.Replica.{State};
-ghost use Rattle.cg_client.specs.Requests.{request, settle};
+ghost use Rattle.cg_client.specs.Requests.{is_creating, request, settle};
 ghost use Rattle.cg_client.specs.Calls.{kind_of, IsLineGreen};
 ghost use Rattle.cg_client.specs.Summary.{enter_exchange};
 ghost use Rattle.cg_client.specs.Drafts.{turn_with};
@@ -175,6 +175,18 @@ pub(crate) fn name_of(member: &MemberState) -> StateName
         MemberState::Outside(s) => out_of_prim::name_of(s),
         MemberState::Attempt(s) => attempt::name_of(s),
         MemberState::Left(_) => StateName::Left,
+    }
+}
+
+/// It creates a request at once, and keeps none.
+pub(crate) fn is_creating(member: &MemberState) -> bool
+    ensures { result ≡ is_creating (seen member.now).state }
+{
+    match member {
+        MemberState::Prim(s) => prim::is_creating(s),
+        MemberState::Outside(s) => out_of_prim::is_creating(s),
+        MemberState::Attempt(s) => attempt::is_creating(s),
+        MemberState::Left(_) => false,
     }
 }
 

@@ -2,7 +2,7 @@
 ghost use Rattle.std.specs.Prelude.{◌≡◌, IfOk};
 ghost use Rattle.cg_action.specs.Limits.{IsKind};
 ghost use Rattle.cg_client.specs.Queries.{state_name};
-ghost use Rattle.cg_client.specs.Requests.{request, settle};
+ghost use Rattle.cg_client.specs.Requests.{is_creating, request, settle};
 ghost use Rattle.cg_client.specs.Calls.{kind_of, IsLineGreen};
 ghost use Rattle.cg_exchange.specs.Steps.{turn_after, HasRecord};
 ghost use Rattle.cg_replica_step.specs.Hearing.{hear_delivery};
@@ -86,6 +86,15 @@ pub(crate) fn name_of(s: &OutOfPrim) -> StateName
         OutOfPrim::Non(s) => s.name(),
         OutOfPrim::States(s) => s.name(),
         OutOfPrim::Actions(s) => s.name(),
+    }
+}
+
+pub(crate) fn is_creating(s: &OutOfPrim) -> bool
+    ensures { result ≡ is_creating (outside_seen s.now).state }
+{
+    match s {
+        OutOfPrim::Non(s) => s.is_regular(),
+        _ => false,
     }
 }
 

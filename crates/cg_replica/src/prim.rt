@@ -2,7 +2,7 @@
 ghost use Rattle.std.specs.Prelude.{◌≡◌, IfOk};
 ghost use Rattle.cg_action.specs.Limits.{IsKind};
 ghost use Rattle.cg_client.specs.Queries.{state_name};
-ghost use Rattle.cg_client.specs.Requests.{request, settle};
+ghost use Rattle.cg_client.specs.Requests.{is_creating, request, settle};
 ghost use Rattle.cg_client.specs.Calls.{kind_of, IsLineGreen};
 ghost use Rattle.cg_prim.specs.Steps.{turn_after};
 ghost use Rattle.cg_replica_step.specs.Hearing.{hear_delivery};
@@ -74,6 +74,15 @@ pub(crate) fn name_of(s: &InPrim) -> StateName
     match s {
         InPrim::Reg(s) => s.name(),
         InPrim::Trans(s) => s.name(),
+    }
+}
+
+pub(crate) fn is_creating(s: &InPrim) -> bool
+    ensures { result ≡ is_creating (prim_seen s.now).state }
+{
+    match s {
+        InPrim::Reg(_) => true,
+        InPrim::Trans(_) => false,
     }
 }
 

@@ -2,7 +2,7 @@ ghost use Rattle.std.specs.Prelude.{◌≡◌, fold, IfOk};
 ghost use Rattle.cg_action.specs.Limits.{IsKind};
 ghost use Rattle.cg_client.specs.Queries.{state_name};
 ghost use Rattle.cg_client.specs.Replica.{fresh};
-ghost use Rattle.cg_client.specs.Requests.{request, settle};
+ghost use Rattle.cg_client.specs.Requests.{is_creating, request, settle};
 ghost use Rattle.cg_client.specs.Calls.{kind_of, IsLineGreen};
 ghost use Rattle.cg_disk_records.specs.Stored.{recovery_turn};
 ghost use Rattle.cg_replica_step.specs.Hearing.{hear_delivery};
@@ -11,7 +11,9 @@ ghost use Rattle.cg_replica.specs.Inputs.{input_of, taken, HasLimits};
 ghost use Rattle.cg_replica.specs.Seen.{turn_of, white_in, has_left};
 
 use crate::Input;
-use crate::member_state::{MemberState, core_of, hear, name_of, request, settle, whiten};
+use crate::member_state::{
+    MemberState, core_of, hear, is_creating, name_of, request, settle, whiten,
+};
 use crate::out_of_prim::OutOfPrim;
 use cg_base::{NoMemory, ReplicaId, WeightSet};
 use cg_client::{Core, Draft, Request};
@@ -155,6 +157,13 @@ impl Replica {
         ensures { result ≡ state_name self.now.state }
     {
         name_of(&self.member)
+    }
+
+    /// It creates a request at once, and keeps none. It takes no memory.
+    pub fn is_creating(&self) -> bool
+        ensures { result ≡ is_creating self.now.state }
+    {
+        is_creating(&self.member)
     }
 
     /// It has left. It takes no memory.

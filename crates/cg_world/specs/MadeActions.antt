@@ -3,14 +3,9 @@ use Rattle.std.specs.Prelude.{◌≡◌, ℕ, zero, suc, List, [], ◌∷◌, Op
 use Rattle.cg_base.specs.declared.action_id.ActionId.{ActionId}
 use Rattle.cg_base.specs.Ids.{same_id}
 use Rattle.cg_base.specs.Lists.{at_place}
+pub use Rattle.cg_base.specs.Lists.{row_at}
 use Rattle.cg_action.specs.declared.action.Action.{Action}
 use Rattle.cg_model.specs.Making.{made_by}
-
--- what stands in the row of a place, which is empty behind the last row
-abbrev pub row_at : List (List Action) → ℕ → List Action
-row_at [] k = []
-row_at (row ∷ rows) zero = row
-row_at (row ∷ rows) (suc k) = row_at rows k
 
 -- each creator's row has those that it made, in their order
 abbrev pub AreRowsOf : List Action → List (List Action) → Type 0

@@ -30,8 +30,11 @@
 
 mod all_made;
 mod made_actions;
+mod place;
+mod standing;
 mod state;
 mod world;
 
+pub use standing::Standing;
 pub use state::World;
 pub use world::Stepped;

@@ -1,15 +1,26 @@
 //! The world, and what is seen of it.
-ghost use Rattle.std.specs.Prelude.{◌≡◌, ◌&&◌, nat_lt, nat_le, is_some, IfSome};
+ghost use Rattle.std.specs.Prelude.{◌≡◌, ◌∷◌, [], ◌&&◌, nat_lt, nat_le, is_some, option_map, IfSome};
 ghost use Rattle.std.specs.Option.{option_copied};
 ghost use Rattle.cg_base.specs.Cuts.{index_in};
+ghost use Rattle.cg_base.specs.Lists.{first_some};
 ghost use Rattle.cg_group.specs.Ready.{ready};
+ghost use Rattle.cg_group.specs.Refusals.{not_up};
+ghost use Rattle.cg_commit.specs.Holds.{Holds};
+ghost use Rattle.cg_model.specs.Admission.{takes_part, unknown};
+ghost use Rattle.cg_model.specs.Making.{printed_position};
+ghost use Rattle.cg_model.specs.Places.{creates, place_of};
 ghost use Rattle.cg_model.specs.World.{replica_of, up_replicas};
 ghost use Rattle.cg_world.specs.MadeActions.{made_named};
+ghost use Rattle.cg_world.specs.Standing.{standing_of};
 
+use crate::Standing;
 use crate::made_actions::MadeActions;
+use crate::place::last_place;
 use cg_action::Action;
-use cg_agree::facts_stand_beside_each_world;
+use cg_agree::{facts_stand_beside_each_world, orders_run_on};
 use cg_base::{ActionId, IdSet, ReplicaId};
+use cg_client::Core;
+use cg_group::Reason;
 use cg_world_events::WorldState;
 use std::alloc::Global;
 use std::marker::Model;
@@ -67,6 +78,65 @@ impl World {
         ensures { result ≡ up_replicas self.now.world }
     {
         self.state.up_replicas()
+    }
+
+    /// What the replica holds, where it is up, and the facts that stand of whatever a replica holds. It takes no memory.
+    pub fn core(&self, p: ReplicaId) -> Option<&Core>
+        ensures value { option_copied result ≡ option_map (λ r. r.held) (replica_of self.now.world p) }
+        ensures holds { IfSome (option_copied result) Holds }
+    {
+        self.state.core(p)
+    }
+
+    /// The replica is up, and creates a request at once. It takes no memory.
+    pub fn creates(&self, p: ReplicaId) -> bool
+        ensures { result ≡ creates self.now.world p }
+    {
+        self.state.creates(p)
+    }
+
+    /// Why the replica can't take part in an event as itself: it hasn't begun, isn't up, or has left for good. It takes
+    /// no memory.
+    pub fn takes_part(&self, p: ReplicaId) -> Option<Reason>
+        ensures { result ≡ takes_part self.now.world p }
+    {
+        self.state.takes_part(p)
+    }
+
+    /// Why nothing is seen of the replica: it hasn't begun, or isn't up. It takes no memory.
+    pub fn hidden(&self, p: ReplicaId) -> Option<Reason>
+        ensures { result ≡ first_some (unknown self.now.world p ∷ not_up self.now.world.group p ∷ []) }
+    {
+        self.state.hidden(p)
+    }
+
+    /// How the replica stands. It takes no memory.
+    pub fn standing(&self, p: ReplicaId) -> Standing
+        ensures { result ≡ standing_of self.now.world p }
+    {
+        match self.takes_part(p) {
+            Some(Reason::UnknownReplica(_)) => Standing::Unbegun,
+            Some(Reason::NotUp(_)) => Standing::Down,
+            Some(_) => Standing::Left,
+            None => Standing::Up {
+                creating: self.creates(p),
+            },
+        }
+    }
+
+    /// The place of the action in the global order, counted from 1; None only where it has none. It takes no memory.
+    pub fn place_of(&self, id: &ActionId) -> Option<u64>
+        ensures { IfSome result (λ n. n ≡ place_of self.now.world.order id.now) }
+    {
+        orders_run_on();
+        last_place(self.state.order().as_slice(), id)
+    }
+
+    /// The replica's position on its last printed line, 0 where it has none or is down there. It takes no memory.
+    pub fn printed_position(&self, p: ReplicaId) -> u64
+        ensures { result ≡ printed_position self.now.world p }
+    {
+        self.state.printed_position(p)
     }
 
     /// Admitted events lead here from before the start: so each law of `cg_agree` over such worlds holds of this one. It does

@@ -1,17 +1,22 @@
 //! The world that events change.
-ghost use Rattle.std.specs.Prelude.{◌≡◌, true, false, Some, None, is_some, option_map, IfOk, OnOk, IfSome, MatchOption};
+ghost use Rattle.std.specs.Prelude.{◌≡◌, ◌∷◌, [], true, false, Some, None, is_some, option_map, IfOk, OnOk, IfSome, MatchOption};
 ghost use Rattle.std.specs.Option.{option_copied, option_map_or};
 ghost use Rattle.cg_base.specs.Sets.{has};
 ghost use Rattle.cg_members.specs.Servers.{is_server};
 ghost use Rattle.cg_commit.specs.Holds.{Holds};
 ghost use Rattle.cg_group.specs.Ready.{ready};
 ghost use Rattle.cg_group.specs.Events.{send_all};
+ghost use Rattle.cg_base.specs.Lists.{first_some};
+ghost use Rattle.cg_group.specs.Refusals.{not_up};
+ghost use Rattle.cg_model.specs.Admission.{takes_part, unknown};
+ghost use Rattle.cg_model.specs.Places.{creates};
 ghost use Rattle.cg_model.specs.World.{NodeState, no_world, running, node_of, set_life, has_begun, replica_of, is_left, left_replicas, up_replicas};
 ghost use Rattle.cg_model.specs.Show.{line_of};
 ghost use Rattle.cg_model.specs.Touched.{new_lines_of};
 ghost use Rattle.cg_world_events.specs.StepInProgress.{said, hosted, fallen, with_news};
 ghost use Rattle.cg_world_events.specs.Hosting.{with_left};
 
+use crate::admission::{hidden, takes_part};
 use crate::made::MadeCut;
 use crate::nodes::Nodes;
 use crate::snapshot_counts::SnapshotCounts;
@@ -19,7 +24,7 @@ use crate::transfers::Transfers;
 use cg_base::{IdList, IdSet, NoMemory, ReplicaId, Row};
 use cg_client::Core;
 use cg_encoded::EncodedMsg;
-use cg_group::Group;
+use cg_group::{Group, Reason};
 use cg_report::Line;
 use cg_world_node::Node;
 use cg_world_report::Lines;
@@ -135,8 +140,40 @@ impl WorldState {
         }
     }
 
+    /// The replica is up, and creates a request at once. It takes no memory.
+    pub fn creates(&self, p: ReplicaId) -> bool
+        ensures { result ≡ creates self.now p }
+    {
+        match self.nodes.find(p) {
+            Some(node) => node.is_creating(),
+            None => false,
+        }
+    }
+
+    /// Why the replica can't take part in an event as itself: it hasn't begun, isn't up, or has left for good. It takes
+    /// no memory.
+    pub fn takes_part(&self, p: ReplicaId) -> Option<Reason>
+        ensures { result ≡ takes_part self.now p }
+    {
+        takes_part(self, p)
+    }
+
+    /// Why nothing is seen of the replica: it hasn't begun, or isn't up. It takes no memory.
+    pub fn hidden(&self, p: ReplicaId) -> Option<Reason>
+        ensures { result ≡ first_some (unknown self.now p ∷ not_up self.now.group p ∷ []) }
+    {
+        hidden(self, p)
+    }
+
+    /// The global order. It takes no memory.
+    pub fn order(&self) -> &IdList
+        ensures { result.now ≡ self.now.order }
+    {
+        &self.order
+    }
+
     /// What the replica holds, where it is up, and the facts that stand of whatever a replica holds. It takes no memory.
-    pub(crate) fn core(&self, p: ReplicaId) -> Option<&Core>
+    pub fn core(&self, p: ReplicaId) -> Option<&Core>
         ensures value { option_copied result ≡ option_map (λ r. r.held) (replica_of self.now p) }
         ensures holds { IfSome (option_copied result) Holds }
     {

@@ -11,6 +11,7 @@ use Rattle.cg_wire.specs.declared.message.Msg.{Msg}
 use Rattle.cg_group.specs.declared.phase.Phase.{Phase}
 use Rattle.cg_client.specs.Queries.{weak_answer, dirty_answer}
 use Rattle.cg_client.specs.Replica.{fresh}
+use Rattle.cg_client.specs.Requests.{is_creating}
 use Rattle.cg_client.specs.Turn.{Turn}
 use Rattle.cg_report.specs.declared.line.Line.{Line}
 use Rattle.cg_report.specs.declared.entry.Shown.{Shown}
@@ -73,6 +74,10 @@ line_in phase s = record { id = s.id; up = option_map (up_line phase) (running s
 
 abbrev pub is_gone : NodeState → Bool
 is_gone life = option_map_or (λ r. is_left_state r.state) (running life) false
+
+-- it creates a request at once
+abbrev pub creates_in : NodeState → Bool
+creates_in life = option_map_or (λ r. is_creating r.state) (running life) false
 
 -- what it knows of another server
 abbrev pub knows_left : ℕ → NodeState → Bool

@@ -5,7 +5,7 @@ ghost use Rattle.cg_client.specs.Queries.{weak_answer, dirty_answer};
 ghost use Rattle.cg_report.specs.declared.entry.Shown.TheVariants.{Weak as ShownWeak, Dirty as ShownDirty};
 ghost use Rattle.cg_commit.specs.Holds.{Holds};
 ghost use Rattle.cg_model.specs.World.{running};
-ghost use Rattle.cg_world_node.specs.Calls.{line_in, is_gone, knows_left, knows_server, shows, shows_weak, shows_dirty};
+ghost use Rattle.cg_world_node.specs.Calls.{creates_in, line_in, is_gone, knows_left, knows_server, shows, shows_weak, shows_dirty};
 ghost use Rattle.cg_world_node.specs.Looks.{shown_in};
 
 use crate::Node;
@@ -67,6 +67,16 @@ impl Node {
     {
         match &self.life {
             NodeState::Up { engine, .. } => engine.core().members().is_member(q),
+            NodeState::Down(_) => false,
+        }
+    }
+
+    /// It is up, and creates a request at once. It takes no memory.
+    pub fn is_creating(&self) -> bool
+        ensures { result ≡ creates_in self.now.life }
+    {
+        match &self.life {
+            NodeState::Up { engine, .. } => engine.is_creating(),
             NodeState::Down(_) => false,
         }
     }

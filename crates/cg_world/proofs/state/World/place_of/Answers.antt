@@ -1,0 +1,9 @@
+use Rattle.std.proofs.Common.{◌≡◌, [], ap, ◌∙◌}
+use Rattle.cg_commit.specs.Holds.{run_on}
+use Rattle.cg_world.proofs.state.World.place_of.Goals as goal
+
+pub last_place-requires : goal.last_place-requires
+last_place-requires c =
+    let w = c.self.inside in
+    let led = c.self.invariant in
+    ap (run_on []) (c.as_slice.ensures ∙ c.order.ensures) ∙ c.orders_run_on.ensures led.chronicle w.state led.reached
