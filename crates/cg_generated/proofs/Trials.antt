@@ -19,19 +19,23 @@ use Rattle.cg_gen.specs.Generated.{events_left, generated}
 use Rattle.cg_gen.specs.GeneratedLaws.{AllStand, generated-stands}
 use Rattle.cg_gen.specs.Lines.{lines_of}
 use Rattle.cg_outcome.specs.Outcome.{Ended, read_outcome, line_outcome, without_return, limit_of, unless_passed, whole_line, at_end, replayed, performed, lines_alone}
-use Rattle.cg_outcome.specs.declared.companion.Companion.TheVariants.{Alone}
+use Rattle.cg_items.specs.declared.companion.Companion.{Companion}
+use Rattle.cg_items.specs.declared.companion.Companion.TheVariants.{Alone}
+use Rattle.cg_items.specs.Companion.{further_reading, in_place}
+use Rattle.cg_outcome.specs.LineLaws.{is_comparing, line-further}
 use Rattle.cg_outcome.specs.Produced.{Progress, Finding, Produced, of_event, before_all, refusal_of, status_of, ended_with, prepend, and_then}
 use Rattle.cg_outcome.specs.declared.status.Status.TheVariants as status
 use Rattle.cg_generated.specs.Admitted.{GeneratedAreAdmitted, IsEndOrLimit, TrialsAreAdmitted, TrialsEnd, TrialsAreReplays}
-use Rattle.cg_generated.proofs.Playing.{IsFree, all-free, IsSpared, Follows, Follows-happened}
+use Rattle.cg_generated.proofs.Playing.{IsFree, all-free, IsSpared, IsAt, Follows, Follows-happened}
 use Rattle.cg_generated.proofs.Spelling.{as-it-is, pieces-are}
 use Rattle.cg_generated.proofs.Within.{generated-within, state_past, generated-ends}
 
 -- ---- a line that reads as an event
 
-line-happens : (n : ℕ) (line : List ℕ) (e : Event) (s : Progress) → Reads s.reader line e → line_outcome n line s ≡ read_outcome n (Ok (Some e)) s
-unfolding line_outcome
-line-happens n line e s reads = ap (λ (r : Result (Option Event) LineFault). read_outcome n r s) reads
+line-happens : (n : ℕ) (line : List ℕ) (e : Event) (s : Progress) → s.companion ≡ Alone → Reads s.reader line e → line_outcome n line s ≡ read_outcome n (Ok (Some e)) s
+line-happens n line e s alone reads =
+    line-further n line s (Ok None) (ap is_comparing alone) (ap (λ (c : Companion). in_place s.reader (further_reading c line)) alone)
+    ∙ ap (λ (r : Result (Option Event) LineFault). read_outcome n r s) reads
 
 -- ---- a schedule
 
@@ -43,15 +47,15 @@ ArePrinted = (state : ReaderState) (e : Event) → IsEvent e → MayStand state 
 abbrev line_played : ℕ → Event → Progress → Produced
 line_played n e s = line_outcome n (without_return (line_of e)) s
 
-line-follows : ArePrinted → (n : ℕ) (e : Event) (run : Run) (s : Progress) → s.world ≡ run.world → MayStand s.reader e → IsEvent e → IsFree run → IsFree (play run e) →
+line-follows : ArePrinted → (n : ℕ) (e : Event) (run : Run) (s : Progress) → IsAt run s → MayStand s.reader e → IsEvent e → IsFree run → IsFree (play run e) →
     Follows (play run e) (state_after s.reader e) (line_played n e s)
 line-follows printed n e run s same stands is before free =
     let line = line_of e in
     let next = play run e in
     let state = state_after s.reader e in
-    let read = line-happens n line e s (printed s.reader e is stands) in
+    let read = line-happens n line e s same.alone (printed s.reader e is stands) in
     let text : line_played n e s ≡ read_outcome n (Ok (Some e)) s = ap (λ t. line_outcome n t s) (as-it-is e is) ∙ read in
-    subst (Follows next state) (sym text) (Follows-happened n e run (record s { reader = state }) same before free)
+    subst (Follows next state) (sym text) (Follows-happened n e run (record s { reader = state }) (record { world = same.world; alone = same.alone }) before free)
 
 -- the run ends in these lines, and no event is refused
 abbrev IsEnded : Option Finding → Type 0
@@ -75,7 +79,7 @@ next-line n at e [] s = refl
 next-line n at e (f ∷ events) s = refl
 
 module _ (printed : ArePrinted) where
-  lines-end : (events : List Event) (gone : ℕ) (run : Run) (s : Progress) → s.world ≡ run.world → AllStand s.reader events → Each IsEvent events →
+  lines-end : (events : List Event) (gone : ℕ) (run : Run) (s : Progress) → IsAt run s → AllStand s.reader events → Each IsEvent events →
       (state_past s.reader events).ended ≡ true → IsFree (fold play run events) → IsEnded (performed gone events s).found
   lines-end [] gone run s same stand are ended free =
       subst (λ b. IsEnded (cond b (ended_with status.Done gone s) (ended_with (status.NoEnd gone) gone s)).found) (sym ended) (refl, tt)
@@ -96,7 +100,7 @@ module _ (printed : ArePrinted) where
   schedule-ends : (seed replicas lines : ℕ) → IsId replicas → 1 < lines → IsFree (run_of (generated seed replicas lines)) →
       IsEnded (performed 0 (generated seed replicas lines) (before_all Alone)).found
   schedule-ends seed replicas lines is some free =
-      lines-end (generated seed replicas lines) 0 no_run (before_all Alone) refl (generated-stands seed replicas lines some) (generated-within seed replicas lines is)
+      lines-end (generated seed replicas lines) 0 no_run (before_all Alone) (record { world = refl; alone = refl }) (generated-stands seed replicas lines some) (generated-within seed replicas lines is)
       (generated-ends seed replicas lines (omega (arith, some))) free
 
 -- ---- the laws

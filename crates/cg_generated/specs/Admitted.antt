@@ -10,7 +10,7 @@ use Rattle.cg_gen.specs.Lines.{lines_of}
 use Rattle.cg_model.specs.Schedules.{run_of}
 use Rattle.cg_outcome.specs.declared.command.Command.TheVariants.{Replay, Trial}
 use Rattle.cg_outcome.specs.Outcome.{Ending, Ended, outcome_of}
-use Rattle.cg_outcome.specs.declared.report.Report.{Report}
+use Rattle.cg_items.specs.declared.report.Report.{Report}
 use Rattle.cg_outcome.specs.declared.status.Limit.TheVariants.{Steps}
 use Rattle.cg_outcome.specs.declared.status.Status.{Status}
 use Rattle.cg_outcome.specs.declared.status.Status.TheVariants as status

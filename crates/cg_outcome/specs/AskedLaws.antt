@@ -18,7 +18,7 @@ use Rattle.cg_schedule.specs.Laws.{Reads, ReadsAs}
 use Rattle.cg_schedule.specs.Reading.{whole}
 use Rattle.cg_schedule.specs.Line.{opening, event_reading, reading_behind, some_event}
 use Rattle.cg_model.specs.Run.{MayAsk}
-use Rattle.cg_outcome.specs.declared.companion.Companion.{Companion}
+use Rattle.cg_items.specs.declared.companion.Companion.{Companion}
 use Rattle.cg_outcome.specs.Produced.{before_all}
 use Rattle.cg_outcome.specs.UnderWay.{IsUnderWay}
 

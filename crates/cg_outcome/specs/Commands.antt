@@ -5,8 +5,8 @@ use Rattle.std.specs.Str.{bytes_eq}
 use Rattle.cg_outcome.specs.declared.limits.TheConstants.{LINES}
 use Rattle.cg_text.specs.Numbers.{read_u64}
 use Rattle.cg_outcome.specs.declared.command.Command.{Command}
-use Rattle.cg_outcome.specs.declared.command.Command.TheVariants.{Replay, Generate, Trial}
-use Rattle.cg_outcome.specs.declared.report.Report.TheVariants.{Whole, Tail, Json}
+use Rattle.cg_outcome.specs.declared.command.Command.TheVariants.{Replay, Generate, Trial, Follow, Relaxed, Sessions, Compare}
+use Rattle.cg_items.specs.declared.report.Report.TheVariants.{Whole, Tail, Json}
 
 -- the number that a word spells, where it is in a range
 abbrev pub number_in : ℕ → ℕ → List ℕ → Option ℕ
@@ -27,6 +27,10 @@ abbrev pub command_of : List (List ℕ) → Option Command
 command_of (word ∷ []) =
     if bytes_eq word (codes "replay") then Some (Replay Whole)
     else if bytes_eq word (codes "check") then Some (Replay Tail)
+    else if bytes_eq word (codes "follow") then Some Follow
+    else if bytes_eq word (codes "relaxed") then Some Relaxed
+    else if bytes_eq word (codes "sessions") then Some Sessions
+    else if bytes_eq word (codes "compare") then Some Compare
     else if bytes_eq word (codes "json") then Some (Replay Json)
     else None
 command_of (word ∷ seed ∷ replicas ∷ lines ∷ []) =
@@ -37,5 +41,7 @@ command_of words = None
 
 -- the command reads the input
 abbrev pub reads_input : Option Command → Bool
-reads_input (Some (Replay report)) = true
-reads_input other = false
+reads_input None = false
+reads_input (Some (Generate seed replicas lines)) = false
+reads_input (Some (Trial seed replicas lines)) = false
+reads_input other = true

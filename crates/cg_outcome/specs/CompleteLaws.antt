@@ -8,8 +8,8 @@ use Rattle.cg_outcome.specs.declared.limits.TheConstants.{INPUT_BYTES, LINES, LI
 use Rattle.cg_base.specs.Text.{pieces_of, is_nil}
 use Rattle.cg_io.specs.Outside.{SourceView, SinkView}
 use Rattle.cg_outcome.specs.declared.command.Command.{Command}
-use Rattle.cg_outcome.specs.declared.command.Command.TheVariants.{Replay, Generate, Trial}
-use Rattle.cg_outcome.specs.declared.companion.Companion.{Companion}
+use Rattle.cg_outcome.specs.declared.command.Command.TheVariants.{Generate, Trial}
+use Rattle.cg_items.specs.declared.companion.Companion.{Companion}
 use Rattle.cg_outcome.specs.Outcome.{Ending, Ended, Failed, Open, limit_of, unless_passed, line_outcome, without_return, whole_line, cut_line, last_piece, replayed, companion_for, outcome_of, text_put}
 use Rattle.cg_outcome.specs.Produced.{Progress, Finding, Produced, before_all, status_of, ended_with, prepend, and_then}
 use Rattle.cg_outcome.specs.declared.status.Limit.{Limit}
@@ -217,11 +217,11 @@ command-whole : (c : Option Command) (all taken : List ℕ) (how : Ending) (old 
     status_of (outcome_of c taken how) ≡ Some st
     → IsWithinLimits (status_of (outcome_of c all Ended)) → outcome_of c taken how ≡ outcome_of c all Ended
 command-whole None all taken how old new consumed cause none has st is within = refl
-command-whole (Some (Replay report)) all taken how old new consumed cause none has st is within =
-    replay-whole (companion_for (Some (Replay report))) all taken how old new
-    (subst (λ left. Consumes left new.left taken) (has refl) consumed) cause none st is within
 command-whole (Some (Generate seed replicas lines)) all taken how old new consumed cause none has st is within = refl
 command-whole (Some (Trial seed replicas lines)) all taken how old new consumed cause none has st is within = refl
+command-whole other all taken how old new consumed cause none has st is within =
+    replay-whole (companion_for other) all taken how old new
+    (subst (λ left. Consumes left new.left taken) (has refl) consumed) cause none st is within
 
 pub Runs-complete : (c : Option Command) (old new : SourceView) (v v' : SinkView) (st : Status) →
     Runs c old new v v' st → Completes c old new v v' st

@@ -1,14 +1,15 @@
 -- A run that goes on part by part: the items made so far, and what the rest produces, make the whole.
-use Rattle.std.proofs.Common.{◌≡◌, ℕ, List, [], ◌∷◌, ◌++◌, append_assoc, Option, Some, None, refl, sym, ap, subst, ◌∙◌, option_map}
+use Rattle.std.proofs.Common.{◌≡◌, ℕ, List, [], ◌∷◌, ◌++◌, append_assoc, Option, Some, None, Bool, true, false, refl, sym, ap, subst, ◌∙◌, option_map}
 use Rattle.std.proofs.lemmas.List.{append-nil}
 use Rattle.std.specs.Io.KnownBytes.{Appends}
 use Rattle.cg_io.specs.Outside.{SinkView}
-use Rattle.cg_outcome.specs.Items.{Item, item_in, report_in}
-use Rattle.cg_outcome.specs.declared.report.Report.{Report}
-use Rattle.cg_outcome.specs.Produced.{Progress, Finding, Produced, tail_in, with_tail, text_of, status_of, prepend, and_then}
+use Rattle.cg_items.specs.Items.{Item, item_in, report_in}
+use Rattle.cg_items.specs.declared.report.Report.{Report}
+use Rattle.cg_items.specs.declared.report.Report.TheVariants.{Joined}
+use Rattle.cg_outcome.specs.Produced.{Progress, Finding, Produced, tail_in, end_in, with_tail, text_of, status_of, prepend, and_then}
 use Rattle.cg_outcome.specs.declared.status.Status.{Status}
 use Rattle.cg_outcome.specs.declared.status.Status.TheVariants as status
-use Rattle.cg_outcome.specs.Stopping.{AllShort, Shows, Stopped, GoesOn}
+use Rattle.cg_outcome.specs.Stopping.{AllShort, IsUndone, Shows, Stopped, GoesOn}
 use Rattle.cg_outcome.specs.Putting.{Puts, PutsPart}
 
 pub Appends-none : (h : Option (List ℕ)) → Appends h h []
@@ -59,17 +60,33 @@ Shows-twice report v v1 v2 a b first next = record {
   short = short-append a b first.short next.short;
 }
 
-with_tail-append : (report : Report) (a b : List ℕ) (found : Option Finding) (count : ℕ) →
-    with_tail report (a ++ b) found count ≡ a ++ with_tail report b found count
-with_tail-append report a b None count = refl
-with_tail-append report a b (Some f) count = append_assoc a b (tail_in report f.status count f.lines)
+-- what a run puts at its end is the tail, unless it tells of logs and is done
+abbrev pub is_joined : Report → Bool
+is_joined Joined = true
+is_joined other = false
+
+pub end-tail : (report : Report) (st : Status) (lines : ℕ) (s : Progress) → is_joined report ≡ false →
+    end_in report st lines s ≡ tail_in report st s.count lines
+end-tail Joined st lines s other = absurd cc
+end-tail report status.Done lines s other = refl
+end-tail report st lines s other = refl
+
+pub end-undone : (report : Report) (st : Status) (lines : ℕ) (s : Progress) → IsUndone st →
+    end_in report st lines s ≡ tail_in report st s.count lines
+end-undone report status.Done lines s undone = absurd undone
+end-undone report st lines s undone = refl
+
+with_tail-append : (report : Report) (a b : List ℕ) (found : Option Finding) (s : Progress) →
+    with_tail report (a ++ b) found s ≡ a ++ with_tail report b found s
+with_tail-append report a b None s = refl
+with_tail-append report a b (Some f) s = append_assoc a b (end_in report f.status f.lines s)
 
 -- what is put of items and a part
 text_of-prepend : (report : Report) (made : List Item) (p : Produced) →
     text_of report (prepend made p) ≡ report_in report made ++ text_of report p
 text_of-prepend report made p =
-    ap (λ t. with_tail report t p.found p.progress.count) (report_in-append report made p.items)
-    ∙ with_tail-append report (report_in report made) (report_in report p.items) p.found p.progress.count
+    ap (λ t. with_tail report t p.found p.progress) (report_in-append report made p.items)
+    ∙ with_tail-append report (report_in report made) (report_in report p.items) p.found p.progress
 
 pub and_then-none : (p : Produced) (more : Progress → Produced) → p.found ≡ None →
     and_then p more ≡ prepend p.items (more p.progress)
@@ -107,7 +124,7 @@ text_of-and_then report p more = by_finding p.found refl where
       × (text_of report (and_then p more) ≡ text_of report p ++ r)
   by_finding None e =
       let here : text_of report p ≡ report_in report p.items =
-      ap (λ found. with_tail report (report_in report p.items) found p.progress.count) e in (
+      ap (λ found. with_tail report (report_in report p.items) found p.progress) e in (
         text_of report (more p.progress),
         ap (text_of report) (and_then-none p more e)
             ∙ text_of-prepend report p.items (more p.progress)

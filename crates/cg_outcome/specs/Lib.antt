@@ -1,13 +1,10 @@
 pub mod AskedLaws
 pub mod Calls
 pub mod Commands
-pub mod Companion
 pub mod CompleteLaws
 pub mod FeedLaws
-pub mod FurtherText
+pub mod FurtherLaws
 pub mod GoingOnLaws
-pub mod Items
-pub mod Kept
 pub mod LineLaws
 pub mod NearLaws
 pub mod Outcome

@@ -8,7 +8,7 @@ use Rattle.cg_base.specs.Text.{pieces_of, is_nil}
 use Rattle.cg_io.specs.Outside.{SourceView, SinkView}
 use Rattle.cg_outcome.specs.declared.command.Command.{Command}
 use Rattle.cg_outcome.specs.declared.command.Command.TheVariants.{Generate, Trial}
-use Rattle.cg_outcome.specs.declared.companion.Companion.{Companion}
+use Rattle.cg_items.specs.declared.companion.Companion.{Companion}
 use Rattle.cg_outcome.specs.Outcome.{Ending, Ended, Failed, Open, limit_of, unless_passed, line_outcome, whole_line, at_end, cut_line, last_piece, replayed, companion_for, outcome_of, text_put}
 use Rattle.cg_outcome.specs.Produced.{Progress, Finding, Produced, before_all, status_of, ended_with, and_then}
 use Rattle.cg_outcome.specs.declared.status.Limit.{Limit}

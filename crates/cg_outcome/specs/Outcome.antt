@@ -5,6 +5,7 @@ use Rattle.cg_base.specs.Text.{pieces_of}
 use Rattle.std.specs.List.{ends_with}
 use Rattle.cg_outcome.specs.declared.limits.TheConstants.{INPUT_BYTES, LINES, LINE_BYTES}
 use Rattle.cg_schedule.specs.declared.event.Event.{Event}
+use Rattle.cg_schedule.specs.declared.event.Event.TheVariants.{End}
 use Rattle.cg_schedule.specs.declared.fault.LineFault.{LineFault}
 use Rattle.cg_schedule.specs.declared.fault.LineFault.TheVariants.{Syntax, NoMemory}
 use Rattle.cg_schedule.specs.Fault.{syntax_number}
@@ -14,12 +15,15 @@ use Rattle.cg_outcome.specs.declared.status.Status.TheVariants as status
 use Rattle.cg_outcome.specs.declared.status.Limit.{Limit}
 use Rattle.cg_outcome.specs.declared.status.Limit.TheVariants as limit
 use Rattle.cg_outcome.specs.declared.command.Command.{Command}
-use Rattle.cg_outcome.specs.declared.command.Command.TheVariants.{Replay, Generate, Trial}
-use Rattle.cg_outcome.specs.declared.report.Report.TheVariants.{Whole}
-use Rattle.cg_outcome.specs.declared.companion.Companion.{Companion}
-use Rattle.cg_outcome.specs.declared.companion.Companion.TheVariants.{Alone}
-use Rattle.cg_outcome.specs.declared.companion.Further.{Further}
-use Rattle.cg_outcome.specs.Companion.{further_reading, in_place}
+use Rattle.cg_outcome.specs.declared.command.Command.TheVariants.{Replay, Generate, Trial, Follow, Relaxed, Sessions, Compare}
+use Rattle.cg_items.specs.declared.report.Report.TheVariants.{Whole, Joined}
+use Rattle.cg_items.specs.declared.companion.Companion.{Companion}
+use Rattle.cg_items.specs.declared.companion.Companion.TheVariants.{Alone, Followers, Relaxed as MadeRows, Sessions as OpenSessions, Comparing}
+use Rattle.cg_items.specs.declared.companion.Further.{Further}
+use Rattle.cg_items.specs.Companion.{further_reading, in_place}
+use Rattle.cg_compare.specs.declared.log_line.LogLine.{LogLine}
+use Rattle.cg_compare.specs.declared.log_line.LogLine.TheVariants as log_line
+use Rattle.cg_compare.specs.Lines.{reading as log_reading}
 use Rattle.cg_outcome.specs.Commands.{command_of}
 use Rattle.cg_gen.specs.Generated.{generated}
 use Rattle.cg_gen.specs.Lines.{lines_of}
@@ -53,9 +57,22 @@ further_outcome n (Ok None) line s = read_outcome n (reading s.reader line) s
 further_outcome n (Ok (Some e)) line s = one_further n e s
 further_outcome n (Err fault) line s = unreadable n fault s
 
+-- what line n of logs comes to, which reads so: a log is kept, and behind the end the reader has read an end
+abbrev pub log_outcome : ℕ → Result (Option LogLine) LineFault → Progress → Produced
+log_outcome n (Ok None) s = went_on s
+log_outcome n (Ok (Some (log_line.Log white list))) s =
+    went_on (record s { logs = s.logs ++ record { line = n; white = white; list = list } ∷ [] })
+log_outcome n (Ok (Some log_line.End)) s = went_on (record s { reader = state_after s.reader End })
+log_outcome n (Err fault) s = unreadable n fault s
+
+-- what line n comes to with this beside the world: as a log where logs are compared, and else as an event
+abbrev pub line_beside : Companion → ℕ → List ℕ → Progress → Produced
+line_beside Comparing n line s = log_outcome n (log_reading s.reader.ended line) s
+line_beside c n line s = further_outcome n (in_place s.reader (further_reading c line)) line s
+
 -- what line n comes to, without its end
 unfoldable pub line_outcome : ℕ → List ℕ → Progress → Produced
-line_outcome n line s = further_outcome n (in_place s.reader (further_reading s.companion line)) line s
+line_outcome n line s = line_beside s.companion n line s
 
 -- a line without the carriage return before its line feed
 abbrev pub without_return : List ℕ → List ℕ
@@ -128,6 +145,10 @@ trial_text p = option_map_or (λ f. trial_end f.status f.lines p.progress.count 
 
 -- what a command keeps beside the world at first
 abbrev pub companion_for : Option Command → Companion
+companion_for (Some Follow) = Followers []
+companion_for (Some Relaxed) = MadeRows []
+companion_for (Some Sessions) = OpenSessions []
+companion_for (Some Compare) = Comparing
 companion_for other = Alone
 
 -- what a command comes to; without one the run tells how it is used
@@ -148,3 +169,5 @@ text_put None p = text_of Whole p
 text_put (Some (Replay report)) p = text_of report p
 text_put (Some (Generate seed replicas lines)) p = lines_of (generated seed replicas lines)
 text_put (Some (Trial seed replicas lines)) p = trial_text p
+text_put (Some Compare) p = text_of Joined p
+text_put (Some other) p = text_of Whole p

@@ -12,12 +12,16 @@ use Rattle.cg_model.specs.Show.{Moved}
 use Rattle.cg_model.specs.Step.{world_step}
 use Rattle.cg_model.specs.Run.{Step, Refusal, step_limit}
 use Rattle.cg_json.specs.JsonText.{tail_json}
-use Rattle.cg_outcome.specs.declared.companion.Companion.{Companion}
-use Rattle.cg_outcome.specs.declared.companion.Further.{Further}
-use Rattle.cg_outcome.specs.Companion.{Noted, acts, event_of, follows, further_refusal}
-use Rattle.cg_outcome.specs.Items.{Item, report_in}
-use Rattle.cg_outcome.specs.declared.report.Report.{Report}
-use Rattle.cg_outcome.specs.declared.report.Report.TheVariants.{Json}
+use Rattle.cg_compare.specs.declared.log.Log.{Log}
+use Rattle.cg_compare.specs.Join.{join_logs}
+use Rattle.cg_compare.specs.JoinText.{joined_text}
+use Rattle.cg_items.specs.declared.companion.Companion.{Companion}
+use Rattle.cg_items.specs.declared.companion.Further.{Further}
+use Rattle.cg_items.specs.Companion.{Noted, acts, event_of, follows, further_refusal}
+use Rattle.cg_items.specs.Items.{Item, report_in}
+use Rattle.cg_items.specs.Refused.{Refused, OfEvent, OfFurther}
+use Rattle.cg_items.specs.declared.report.Report.{Report}
+use Rattle.cg_items.specs.declared.report.Report.TheVariants.{Json, Joined}
 use Rattle.cg_outcome.specs.declared.status.Status.{Status}
 use Rattle.cg_outcome.specs.declared.status.Status.TheVariants as status
 use Rattle.cg_outcome.specs.declared.status.Limit.TheVariants.{Steps}
@@ -26,18 +30,14 @@ use Rattle.cg_outcome.specs.Status.{tail_line, tail_text}
 use Rattle.cg_outcome.specs.Totals.{no_totals, with_entry}
 
 -- how far a run has come: the world, what its command keeps beside it, what the reader has read, how many items were made,
--- and what they have shown
+-- what they have shown, and the logs that were read
 pub record Progress : Type 0 where
   pub world : World
   pub companion : Companion
   pub reader : ReaderState
   pub count : ℕ
   pub totals : Totals
-
--- an event that wasn't admitted, and the reason: one of the schedule, or a further one
-pub data Refused : Type 0 where
-  OfEvent : (refusal : Refusal) → Refused
-  OfFurther : (event : Further) (reason : Reason) → Refused
+  pub logs : List Log
 
 -- what ends a run: its status, the whole lines gone through, and the refusal, where it is one
 pub record Finding : Type 0 where
@@ -53,21 +53,35 @@ pub record Produced : Type 0 where
 
 -- before the first line, with this beside the world
 abbrev pub before_all : Companion → Progress
-before_all c = record { world = no_world; companion = c; reader = first_state; count = 0; totals = no_totals }
+before_all c =
+    record { world = no_world; companion = c; reader = first_state; count = 0; totals = no_totals; logs = [] }
 
 -- the tail of a report
 abbrev pub tail_in : Report → Status → ℕ → ℕ → List ℕ
 tail_in Json status steps lines = tail_json (tail_line status steps lines)
 tail_in other status steps lines = tail_text status steps lines
 
--- what was put, with the tail of the finding, where there is one
-abbrev pub with_tail : Report → List ℕ → Option Finding → ℕ → List ℕ
-with_tail report put None count = put
-with_tail report put (Some f) count = put ++ tail_in report f.status count f.lines
+-- what is told of logs, as a line of its own
+abbrev pub logs_text : List Log → List ℕ
+logs_text logs = joined_text (join_logs logs) ++ 10 ∷ []
 
--- what a part puts: the report of its items, and the tail where it ends the run
+-- what a run puts at its end: the tail, but for what its logs come to, where it is done
+abbrev pub done_in : Report → ℕ → Progress → List ℕ
+done_in Joined lines s = logs_text s.logs
+done_in report lines s = tail_in report status.Done s.count lines
+
+abbrev pub end_in : Report → Status → ℕ → Progress → List ℕ
+end_in report status.Done lines s = done_in report lines s
+end_in report other lines s = tail_in report other s.count lines
+
+-- what was put, with what the finding puts, where there is one
+abbrev pub with_tail : Report → List ℕ → Option Finding → Progress → List ℕ
+with_tail report put None s = put
+with_tail report put (Some f) s = put ++ end_in report f.status f.lines s
+
+-- what a part puts: the report of its items, and its end where it ends the run
 abbrev pub text_of : Report → Produced → List ℕ
-text_of report p = with_tail report (report_in report p.items) p.found p.progress.count
+text_of report p = with_tail report (report_in report p.items) p.found p.progress
 
 -- the status of a part that ends the run
 abbrev pub status_of : Produced → Option Status

@@ -16,13 +16,17 @@ use Rattle.cg_model.specs.World.{up_replicas}
 use Rattle.cg_model.specs.Admission.{first_refusal}
 use Rattle.cg_model.specs.Step.{world_step}
 use Rattle.cg_model.specs.Run.{Step, step_limit}
-use Rattle.cg_outcome.specs.Outcome.{Ending, Ended, Failed, Open, performed, unreadable, read_outcome, further_outcome, line_outcome, without_return, limit_of, unless_passed, whole_line, at_end, cut_line, last_piece, replayed, companion_for, outcome_of}
+use Rattle.cg_outcome.specs.Outcome.{Ending, Ended, Failed, Open, performed, unreadable, read_outcome, further_outcome, log_outcome, line_beside, line_outcome, without_return, limit_of, unless_passed, whole_line, at_end, cut_line, last_piece, replayed, companion_for, outcome_of}
 use Rattle.cg_outcome.specs.declared.command.Command.{Command}
 use Rattle.cg_outcome.specs.declared.command.Command.TheVariants.{Generate, Trial}
-use Rattle.cg_outcome.specs.declared.companion.Companion.TheVariants.{Alone}
-use Rattle.cg_outcome.specs.declared.companion.Further.{Further}
-use Rattle.cg_outcome.specs.Companion.{Noted, further_reading, in_place, further_refusal, event_of, acts, follows}
-use Rattle.cg_outcome.specs.Items.{Item}
+use Rattle.cg_items.specs.declared.companion.Companion.{Companion}
+use Rattle.cg_items.specs.declared.companion.Companion.TheVariants.{Alone, Comparing}
+use Rattle.cg_items.specs.declared.companion.Further.{Further}
+use Rattle.cg_items.specs.Companion.{Noted, further_reading, in_place, further_refusal, event_of, acts, follows}
+use Rattle.cg_items.specs.Items.{Item}
+use Rattle.cg_compare.specs.declared.log_line.LogLine.{LogLine}
+use Rattle.cg_compare.specs.declared.log_line.LogLine.TheVariants as log_line
+use Rattle.cg_compare.specs.Lines.{reading as log_reading}
 use Rattle.cg_outcome.specs.Produced.{Progress, Finding, Produced, before_all, status_of, went_on, ended_with, and_then, counted, unless_refused, one_step, acted, unless_further_refused, one_further}
 use Rattle.cg_outcome.specs.Totals.{with_entry}
 use Rattle.cg_gen.specs.Generated.{generated}
@@ -148,9 +152,18 @@ IsInLine-further n (Ok None) line s = IsInLine-read n (reading s.reader line) s
 IsInLine-further n (Ok (Some e)) line s = IsInLine-one_further n e s
 IsInLine-further n (Err fault) line s = IsInLine-unreadable n fault s
 
+IsInLine-log : (n : ℕ) (r : Result (Option LogLine) LineFault) (s : Progress) → IsInLine n (log_outcome n r s)
+IsInLine-log n (Ok None) s = refl
+IsInLine-log n (Ok (Some (log_line.Log white list))) s = refl
+IsInLine-log n (Ok (Some log_line.End)) s = refl
+IsInLine-log n (Err fault) s = IsInLine-unreadable n fault s
+
 pub IsInLine-line : (n : ℕ) (line : List ℕ) (s : Progress) → IsInLine n (line_outcome n line s)
 unfolding line_outcome
-IsInLine-line n line s = IsInLine-further n (in_place s.reader (further_reading s.companion line)) line s
+IsInLine-line n line s = by_companion s.companion where
+  by_companion : (c : Companion) → IsInLine n (line_beside c n line s)
+  by_companion Comparing = IsInLine-log n (log_reading s.reader.ended line) s
+  by_companion c = IsInLine-further n (in_place s.reader (further_reading c line)) line s
 
 IsInLine-unless_passed : (o : Option Limit) (n : ℕ) (s : Progress) (p : Produced) → IsInLine n p →
     IsInLine n (unless_passed o n s p)

@@ -7,10 +7,10 @@ use Rattle.std.proofs.Math.Seq.{take-append-add}
 use Rattle.cg_outcome.specs.declared.limits.TheConstants.{INPUT_BYTES, LINES, LINE_BYTES}
 use Rattle.cg_base.specs.Text.{pieces_of}
 use Rattle.cg_io.specs.Outside.{SinkView}
-use Rattle.cg_outcome.specs.Items.{Item}
+use Rattle.cg_items.specs.Items.{Item}
 use Rattle.cg_outcome.specs.Outcome.{Ending, Ended, Failed, Open, limit_of, whole_line, at_end, last_piece, replayed}
 use Rattle.cg_outcome.specs.Produced.{Progress, Produced, prepend, went_on, ended_with, and_then}
-use Rattle.cg_outcome.specs.declared.report.Report.{Report}
+use Rattle.cg_items.specs.declared.report.Report.{Report}
 use Rattle.cg_outcome.specs.Streaming.{Stage, from_stage, IsUnended, held_limit, IsStage, IsHeld, IsMade, Passes, EndsLine, GoesThrough, HoldsRest, TakesUp}
 use Rattle.cg_outcome.specs.declared.status.Limit.{Limit}
 use Rattle.cg_outcome.specs.declared.status.Limit.TheVariants as limit

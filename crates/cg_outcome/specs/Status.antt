@@ -28,7 +28,8 @@ refused_text reason = codes " " ++ decimal (reason_numbers reason).0
 abbrev pub tail_line : Status → ℕ → ℕ → List ℕ
 tail_line status.Done steps lines = codes "end " ++ decimal steps
 tail_line status.Usage steps lines =
-    codes "usage: congruity replay | check | generate SEED REPLICAS LINES | trial SEED REPLICAS LINES | json"
+    codes "usage: congruity replay | check | generate SEED REPLICAS LINES | trial SEED REPLICAS LINES"
+    ++ codes " | follow | relaxed | sessions | compare | json"
 tail_line (status.Syntax line reason) steps lines = codes "syntax " ++ decimal line ++ codes " " ++ decimal reason
 tail_line (status.Refused line reason) steps lines = codes "refused " ++ decimal line ++ refused_text reason
 tail_line status.ReadFault steps lines = codes "read fault " ++ decimal lines

@@ -3,9 +3,9 @@ use Rattle.std.specs.Prelude.{◌≡◌, ℕ, List, ⊤}
 use Rattle.cg_io.specs.Outside.{SinkView, PutsAll}
 use Rattle.cg_records.specs.Limits.{Each}
 use Rattle.cg_short.specs.Short.{IsShortEntry}
-use Rattle.cg_outcome.specs.Items.{Item, entry_of, report_in}
+use Rattle.cg_items.specs.Items.{Item, entry_of, report_in}
 use Rattle.cg_outcome.specs.Produced.{Produced, prepend, text_of, status_of}
-use Rattle.cg_outcome.specs.declared.report.Report.{Report}
+use Rattle.cg_items.specs.declared.report.Report.{Report}
 use Rattle.cg_outcome.specs.declared.status.Status.{Status}
 use Rattle.cg_outcome.specs.declared.status.Status.TheVariants as status
 use Rattle.cg_outcome.specs.Putting.{PutsPart, StopsWith}
@@ -21,6 +21,11 @@ abbrev pub IsFinding : Status → Type 0
 IsFinding status.WriteFault = ⊥
 IsFinding status.NoMemory = ⊥
 IsFinding other = ⊤
+
+-- a status that ends a run before it is done
+abbrev pub IsUndone : Status → Type 0
+IsUndone status.Done = ⊥
+IsUndone other = ⊤
 
 -- no number in what items show has more digits than are printed
 abbrev pub AllShort : List Item → Type 0

@@ -7,10 +7,10 @@ use Rattle.std.proofs.Math.Seq.{take-append-add}
 use Rattle.std.specs.Io.KnownBytes.{Consumes, Keeps, Appends}
 use Rattle.cg_outcome.specs.declared.limits.TheConstants.{INPUT_BYTES}
 use Rattle.cg_io.specs.Outside.{SourceView, SinkView, PutsAll}
-use Rattle.cg_outcome.specs.declared.companion.Companion.{Companion}
-use Rattle.cg_outcome.specs.Items.{Item, report_in}
+use Rattle.cg_items.specs.declared.companion.Companion.{Companion}
+use Rattle.cg_items.specs.Items.{Item, report_in}
 use Rattle.cg_outcome.specs.Outcome.{Ending, Ended, Failed, Open}
-use Rattle.cg_outcome.specs.declared.report.Report.{Report}
+use Rattle.cg_items.specs.declared.report.Report.{Report}
 use Rattle.cg_outcome.specs.Streaming.{Stage, first_stage, from_stage, IsStage, IsHeld, IsMade, Passes, TakesUp, FailedIsLast, BetweenTakes, TakesTurn, Replays}
 use Rattle.cg_outcome.specs.declared.status.Status.{Status}
 use Rattle.cg_outcome.specs.declared.status.Status.TheVariants as status
@@ -86,7 +86,7 @@ made-put : (report : Report) (p : Produced) (made : List Item) (v v1 v2 : SinkVi
     → (rest : List ℕ) × PutsAll v v2 (text_of report p ++ rest)
 made-put report p made v v1 v2 r is put more =
     let text : text_of report p ≡ report_in report p.items =
-    ap (λ found. with_tail report (report_in report p.items) found p.progress.count) is.none in
+    ap (λ found. with_tail report (report_in report p.items) found p.progress) is.none in
     let all : report_in report made ≡ report_in report p.items ++ report_in report is.later =
     ap (report_in report) is.front ∙ report_in-append report p.items is.later in
     let same : report_in report made ++ r ≡ text_of report p ++ (report_in report is.later ++ r) =

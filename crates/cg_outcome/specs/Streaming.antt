@@ -8,12 +8,12 @@ use Rattle.cg_base.specs.Text.{pieces_of}
 use Rattle.cg_io.specs.Outside.{SourceView, SinkView}
 use Rattle.cg_outcome.specs.declared.command.Command.{Command}
 use Rattle.cg_outcome.specs.Outcome.{Ending, Failed, Open, limit_of, whole_line, replayed, text_put}
-use Rattle.cg_outcome.specs.declared.report.Report.{Report}
+use Rattle.cg_items.specs.declared.report.Report.{Report}
 use Rattle.cg_outcome.specs.declared.status.Limit.{Limit}
 use Rattle.cg_outcome.specs.declared.status.Status.{Status}
 use Rattle.cg_outcome.specs.declared.status.Status.TheVariants as status
-use Rattle.cg_outcome.specs.declared.companion.Companion.{Companion}
-use Rattle.cg_outcome.specs.Items.{Item}
+use Rattle.cg_items.specs.declared.companion.Companion.{Companion}
+use Rattle.cg_items.specs.Items.{Item}
 use Rattle.cg_outcome.specs.Produced.{Progress, Produced, before_all, prepend, text_of, status_of}
 use Rattle.cg_outcome.specs.Putting.{StopsWith}
 use Rattle.cg_outcome.specs.Taking.{most_taken, most_at_once, HasCause, InTime}

@@ -12,10 +12,14 @@ use Rattle.cg_outcome.specs.Outcome.{Ending, Ended, Failed, Open, companion_for,
 use Rattle.cg_outcome.specs.declared.status.Status.{Status}
 use Rattle.cg_outcome.specs.declared.status.Status.TheVariants as status
 use Rattle.cg_outcome.specs.declared.status.Limit.TheVariants as limit
-use Rattle.cg_outcome.specs.Items.{Item, steps_of}
-use Rattle.cg_outcome.specs.Kept.{AreNoted}
-use Rattle.cg_outcome.specs.Produced.{Produced, Refused, status_of, refused_in, refusal_of}
-use Rattle.cg_outcome.specs.Refusing.{RefusesLine}
+use Rattle.cg_items.specs.Items.{Item, steps_of}
+use Rattle.cg_items.specs.Kept.{AreNoted}
+use Rattle.cg_items.specs.OfRun.{AreOfRun}
+use Rattle.cg_items.specs.Refused.{Refused}
+use Rattle.cg_compare.specs.Join.{join_logs}
+use Rattle.cg_compare.specs.Orders.{IsTold}
+use Rattle.cg_outcome.specs.Produced.{Produced, status_of, refused_in, refusal_of}
+use Rattle.cg_outcome.specs.Refusing.{RefusesLine, RefusesFurther}
 use Rattle.cg_outcome.specs.Commands.{command_of, reads_input}
 use Rattle.cg_outcome.specs.declared.command.Command.{Command}
 use Rattle.cg_outcome.specs.Putting.{Puts, StopsWith}
@@ -111,14 +115,25 @@ OfItems words holds = (taken : List ℕ) (how : Ending) →
 abbrev pub IsNoted : List (List ℕ) → Type 0
 IsNoted words = OfItems words (λ items refused. AreNoted no_world (companion_for (command_of words)) 0 items)
 
+-- with what the command keeps beside the world at first, the items are those of a run, and so is the refusal that ends it
+abbrev pub IsOfRun : List (List ℕ) → Type 0
+IsOfRun words = OfItems words (AreOfRun (companion_for (command_of words)))
+
 -- a run that ends by a refusal tells of the line that is refused, and of the first reason
 abbrev pub TellsOfRefusals : List (List ℕ) → Type 0
 TellsOfRefusals words =
     (taken : List ℕ) (how : Ending) (n : ℕ) (reason : Reason) →
     status_of (outcome words taken how) ≡ Some (status.Refused n reason)
     → RefusesLine (pieces_for (command_of words) taken) (steps_of (outcome words taken how).items) n reason
+    ⊎ RefusesFurther (companion_for (command_of words)) (pieces_for (command_of words) taken)
+    (outcome words taken how).items n reason
 
 -- no test of an event that made a step gives a reason, and the event that ended the run by a refusal has that reason first
 abbrev pub RefusesExactly : List (List ℕ) → Type 0
 RefusesExactly words = (taken : List ℕ) (how : Ending) →
     RefusedExactly (steps_of (outcome words taken how).items) (refusal_of (outcome words taken how))
+
+-- what is told of the logs that were read is so
+abbrev pub TellsOfLogs : List (List ℕ) → Type 0
+TellsOfLogs words = (taken : List ℕ) (how : Ending) →
+    let logs = (outcome words taken how).progress.logs in IsTold logs (join_logs logs)

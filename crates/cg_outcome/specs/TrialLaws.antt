@@ -4,16 +4,16 @@ use Rattle.std.proofs.lemmas.Bool.{true≢false}
 use Rattle.cg_io.specs.Outside.{SinkView}
 use Rattle.cg_schedule.specs.declared.event.Event.{Event}
 use Rattle.cg_schedule.specs.Print.{line_of}
-use Rattle.cg_outcome.specs.Items.{Item, report_in}
-use Rattle.cg_outcome.specs.Produced.{Progress, Finding, Produced, with_tail, text_of, status_of, and_then}
-use Rattle.cg_outcome.specs.declared.report.Report.TheVariants.{Tail}
+use Rattle.cg_items.specs.Items.{Item, report_in}
+use Rattle.cg_outcome.specs.Produced.{Progress, Finding, Produced, end_in, with_tail, text_of, status_of, and_then}
+use Rattle.cg_items.specs.declared.report.Report.TheVariants.{Tail}
 use Rattle.cg_outcome.specs.declared.status.Status.{Status}
 use Rattle.cg_outcome.specs.declared.status.Status.TheVariants as status
 use Rattle.cg_outcome.specs.Status.{tail_text}
 use Rattle.cg_outcome.specs.Outcome.{line_outcome, without_return, performed, trial_end, trial_text}
 use Rattle.cg_outcome.specs.Putting.{Puts, PutsPart, StopsWith}
 use Rattle.cg_outcome.specs.UnderWay.{IsUnderWay}
-use Rattle.cg_outcome.specs.GoingOnLaws.{GoesOn-part, Puts-twice, Shows-none, Shows-put, Appends-none, part-longer, part-later, and_then-some}
+use Rattle.cg_outcome.specs.GoingOnLaws.{end-tail, GoesOn-part, Puts-twice, Shows-none, Shows-put, Appends-none, part-longer, part-later, and_then-some}
 use Rattle.cg_outcome.specs.SparedLaws.{is_of_end, line-no_end}
 use Rattle.cg_outcome.specs.Stopping.{Shows, Stopped, GoesOn}
 
@@ -44,7 +44,7 @@ line-ended p more v v' st is s = by_finding p.found refl where
   by_finding : (o : Option Finding) → p.found ≡ o →
       StopsWith (trial_text (and_then p more)) (status_of (and_then p more)) v v' st
   by_finding None e =
-      let text : text_of Tail p ≡ [] = ap (λ found. with_tail Tail (report_in Tail p.items) found p.progress.count) e
+      let text : text_of Tail p ≡ [] = ap (λ found. with_tail Tail (report_in Tail p.items) found p.progress) e
       ∙ tail-nothing p.items in
       let none : status_of p ≡ None = ap (λ (found : Option Finding). status_of (record p { found = found })) e in
       nothing (trial_text (and_then p more)) (status_of (and_then p more))
@@ -59,8 +59,9 @@ line-ended p more v v' st is s = by_finding p.found refl where
       let apart : is_of_end (Some f.status) ≡ false =
       ap (λ (found : Option Finding). is_of_end (status_of (record p { found = found }))) (sym e) ∙ is in
       let text : text_of Tail p ≡ trial_text p =
-      ap (λ (found : Option Finding). with_tail Tail (report_in Tail p.items) found p.progress.count) e
-      ∙ ap (λ t. t ++ tail_text f.status p.progress.count f.lines) (tail-nothing p.items)
+      ap (λ (found : Option Finding). with_tail Tail (report_in Tail p.items) found p.progress) e
+      ∙ ap (λ t. t ++ end_in Tail f.status f.lines p.progress) (tail-nothing p.items)
+      ∙ end-tail Tail f.status f.lines p.progress refl
       ∙ sym (ap (λ (f : _). f p.progress.totals) (trial-tail f.status f.lines p.progress.count apart))
       ∙ sym (ap (λ (found : Option Finding). trial_text (record p { found = found })) e) in
       subst (λ (q : Produced). StopsWith (trial_text q) (status_of q) v v' st) (sym same)

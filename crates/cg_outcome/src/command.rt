@@ -5,16 +5,22 @@ ghost use Rattle.cg_outcome.specs.Commands.{number_in, with_numbers, read_number
 
 use crate::arg_text::ArgText;
 use crate::limits::LINES;
-use crate::report::Report;
+use cg_items::Report;
 use cg_text::read_u64;
 
 /// What a run is asked for: to replay the schedule of its input, and put so much of the report; to put the schedule of a
-/// seed, for so many replicas and of so many lines; or to replay that one, and put a summary.
+/// seed, for so many replicas and of so many lines; or to replay that one, and put a summary. A schedule may also have
+/// lines of followers, of the relaxed database or of sessions, each with a command of its own; and the input may be logs,
+/// which are compared.
 #[derive(Clone, Copy, Debug)]
 pub enum Command {
     Replay(Report),
     Generate { seed: u64, replicas: u8, lines: u64 },
     Trial { seed: u64, replicas: u8, lines: u64 },
+    Follow,
+    Relaxed,
+    Sessions,
+    Compare,
 }
 
 fn number_in(low: u64, high: u64, word: &ArgText) -> Option<u64>
@@ -35,6 +41,14 @@ fn word_alone(word: &ArgText) -> Option<Command>
         Some(Command::Replay(Report::Whole))
     } else if word.as_slice() == b"check".as_slice() {
         Some(Command::Replay(Report::Tail))
+    } else if word.as_slice() == b"follow".as_slice() {
+        Some(Command::Follow)
+    } else if word.as_slice() == b"relaxed".as_slice() {
+        Some(Command::Relaxed)
+    } else if word.as_slice() == b"sessions".as_slice() {
+        Some(Command::Sessions)
+    } else if word.as_slice() == b"compare".as_slice() {
+        Some(Command::Compare)
     } else if word.as_slice() == b"json".as_slice() {
         Some(Command::Replay(Report::Json))
     } else {

@@ -15,8 +15,9 @@ impl Display for Explained {
         match self.0 {
             Status::Done => f.write_str("the command was carried out to its end"),
             Status::Usage => f.write_str(
-                "the words are no command; give `replay`, `check` or `json` a schedule by < FILE, or give `generate` or \
-                 `trial` SEED (a number of 64 bits), REPLICAS (1 to 32) and LINES (3 to 200000)",
+                "the words are no command; give `replay`, `check`, `follow`, `relaxed`, `sessions` or `json` a schedule by \
+                 < FILE, or `compare` logs, or give `generate` or `trial` SEED (a number of 64 bits), REPLICAS (1 to 32) \
+                 and LINES (3 to 200000)",
             ),
             Status::Syntax { line, reason } => {
                 let words = misreading(reason);

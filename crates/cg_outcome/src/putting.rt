@@ -1,22 +1,25 @@
-ghost use Rattle.std.specs.Prelude.{◌++◌, ◌≡◌, ◌<◌, [], OnOk, IfErr, Some};
+ghost use Rattle.std.specs.Prelude.{◌++◌, ◌≡◌, ◌<◌, OnOk, IfErr, Some, codes};
 ghost use Rattle.cg_base.specs.declared.limits.TheConstants.{COUNT_LIMIT};
 ghost use Rattle.cg_base.specs.Sets.{IsId};
 ghost use Rattle.cg_gen.specs.Generated.{generated};
 ghost use Rattle.cg_gen.specs.Lines.{lines_of};
 ghost use Rattle.cg_outcome.specs.declared.status.Status.TheVariants as status;
-ghost use Rattle.cg_outcome.specs.Items.{entry_in};
-ghost use Rattle.cg_outcome.specs.Produced.{tail_in};
+ghost use Rattle.cg_items.specs.Items.{entry_in};
+ghost use Rattle.cg_compare.specs.JoinText.{joined_text};
+ghost use Rattle.cg_outcome.specs.Produced.{tail_in, logs_text};
 ghost use Rattle.cg_outcome.specs.Stopping.{CutShort, IsFinding};
 ghost use Rattle.cg_outcome.specs.Putting.{Puts, StopsWith};
 
-use crate::report::Report;
+use crate::item_text::put_item;
 use crate::status::Status;
 use crate::tail::put_tail;
-use cg_base::{NoMemory, ReplicaId};
+use cg_base::{NoMemory, ReplicaId, put, put_shown};
+use cg_compare::{Joined, LogList, join_logs};
 use cg_gen::generate;
 use cg_io::{IoFault, Sink};
+use cg_items::{FurtherLine, Report};
 use cg_json::json;
-use cg_report::{Entry, put_entry};
+use cg_report::Entry;
 use std::alloc::Global;
 
 /// Room for the text of an entry, in bytes: most are shorter.
@@ -64,21 +67,51 @@ pub fn finish<K: Sink>(
     }
 }
 
-/// Puts what a step shows in a report. Where that is nothing no text is built.
+/// Ends a run over logs that is done: puts what they come to together.
+pub fn finish_logs<K: Sink>(alloc: Global, output: &mut K, logs: &LogList) -> Status
+    requires { (K.view output.old).faults < COUNT_LIMIT }
+    ensures { StopsWith (logs_text logs.now) (Some status.Done) (K.view output.old) (K.view output.new) result }
+{
+    let mut text = Vec::new(alloc);
+    if put_logs(alloc, &mut text, logs).is_err() {
+        return Status::NoMemory;
+    }
+    match put_text(alloc, output, &text) {
+        Ok(()) => Status::Done,
+        Err(other) => other,
+    }
+}
+
+fn put_logs(alloc: Global, out: &mut Vec<u8>, logs: &LogList) -> Result<(), NoMemory>
+    ensures { OnOk result (out.new.items ≡ out.old.items ++ logs_text logs.now) }
+{
+    let joined = join_logs(alloc, logs)?;
+    put_joined(out, &joined)
+}
+
+fn put_joined(out: &mut Vec<u8>, joined: &Joined) -> Result<(), NoMemory>
+    ensures { OnOk result (out.new.items ≡ out.old.items ++ (joined_text joined.now ++ codes "\n")) }
+{
+    put_shown(out, joined)?;
+    put(out, b"\n")
+}
+
+/// Puts what an event shows in a report: its step, and the further lines behind it. Where that is nothing no text is built.
 pub fn put_step<K: Sink>(
     alloc: Global,
     output: &mut K,
     report: Report,
     number: u64,
     entry: &Entry,
+    lines: &[FurtherLine],
 ) -> Result<(), Status>
     requires { (K.view output.old).faults < COUNT_LIMIT }
-    ensures ok { OnOk result (Puts (K.view output.old) (K.view output.new) (entry_in report number entry.now [])) }
+    ensures ok { OnOk result (Puts (K.view output.old) (K.view output.new) (entry_in report number entry.now lines.now)) }
     ensures cut { IfErr result (λ status.
-        CutShort (entry_in report number entry.now []) (K.view output.old) (K.view output.new) status) }
+        CutShort (entry_in report number entry.now lines.now) (K.view output.old) (K.view output.new) status) }
 {
     let mut text = Vec::new(alloc);
-    if put_entry_in(&mut text, report, number, entry).is_err() {
+    if put_entry_in(&mut text, report, number, entry, lines).is_err() {
         return Err(Status::NoMemory);
     }
     put_text(alloc, output, &text)
@@ -89,16 +122,18 @@ fn put_entry_in(
     report: Report,
     number: u64,
     entry: &Entry,
+    lines: &[FurtherLine],
 ) -> Result<(), NoMemory>
-    ensures { OnOk result (out.new.items ≡ out.old.items ++ entry_in report number entry.now []) }
+    ensures { OnOk result (out.new.items ≡ out.old.items ++ entry_in report number entry.now lines.now) }
 {
     match report {
         Report::Whole => {
             out.reserve(ENTRY_ROOM)?;
-            put_entry(out, number, entry)
+            put_item(out, number, entry, lines)
         }
-        Report::Tail => Ok(()),
         Report::Json => json(number, entry, out),
+        Report::Tail => Ok(()),
+        Report::Joined => Ok(()),
     }
 }
 

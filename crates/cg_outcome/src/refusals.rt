@@ -6,6 +6,10 @@ pub(crate) fn subject(reason: Reason) -> &'static str {
         Reason::NoSuchPlace(_) | Reason::AlreadyReceived(_) | Reason::EarlierMissing(_) => "place",
         Reason::NotReady(_) => "the places that are ready number",
         Reason::EmptySet => "no replica",
+        Reason::Discarded(_) => "the replica's first actions, so many:",
+        Reason::WouldGoBack(_) => "the follower was shown at place",
+        Reason::UnknownFollower(_) | Reason::FollowerDown(_) | Reason::FollowerUp(_) => "follower",
+        Reason::UnknownSession(_) | Reason::SessionUsed(_) => "session",
         _ => "replica",
     }
 }
@@ -33,5 +37,15 @@ pub(crate) fn advice(reason: Reason) -> &'static str {
         Reason::HasLeft(_) => " has left for good; leave it out, or name another replica",
         Reason::EarlierMissing(_) => " of the same sender must be received first",
         Reason::StillRegular(_) => " is still in a configuration; split it first",
+        Reason::Discarded(_) =>
+            ", are discarded there, and the follower lacks some of them; make it anew, or feed it from a replica that has them",
+        Reason::WouldGoBack(_) => ", and the replica isn't so far; make it from another one",
+        Reason::UnknownFollower(_) => " wasn't made; make it by a line `follower`",
+        Reason::FollowerDown(_) => " is down; recover it first",
+        Reason::FollowerUp(_) => " is up; recover only one that is down",
+        Reason::UnknownSession(_) => " isn't open; open it by a line `session`",
+        Reason::SessionUsed(_) => " is open already; take another number",
+        Reason::NotCreating(_) =>
+            " would keep the request for later; write at one in RegPrim, or in NonPrim of a regular configuration",
     }
 }

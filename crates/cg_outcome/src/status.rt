@@ -19,7 +19,7 @@ pub enum Limit {
 /// How a run ended. Lines are counted from 1.
 #[derive(Clone, Copy, Debug, PartialEq, Eq)]
 pub enum Status {
-    /// All of the schedule was gone through, and `end` stood in it; or the schedule of a seed was put.
+    /// All of the input was gone through, and `end` stood in it; or the schedule of a seed was put.
     Done,
     /// The words are no command.
     Usage,

@@ -4,10 +4,10 @@ ghost use Rattle.cg_json.specs.JsonText.{tail_json};
 ghost use Rattle.cg_outcome.specs.Status.{limit_text, refused_text, tail_line};
 ghost use Rattle.cg_outcome.specs.Produced.{tail_in};
 
-use crate::report::Report;
 use crate::status::{Limit, Status};
 use cg_base::{NoMemory, put, put_number};
 use cg_group::Reason;
+use cg_items::Report;
 use cg_json::json_tail;
 
 fn put_limit(out: &mut Vec<u8>, what: Limit) -> Result<(), NoMemory>
@@ -50,10 +50,13 @@ fn put_tail_line(out: &mut Vec<u8>, status: &Status, steps: u64, lines: u64) -> 
 {
     match status {
         Status::Done => put_numbered(out, b"end ", steps),
-        Status::Usage => put(
-            out,
-            b"usage: congruity replay | check | generate SEED REPLICAS LINES | trial SEED REPLICAS LINES | json",
-        ),
+        Status::Usage => {
+            put(
+                out,
+                b"usage: congruity replay | check | generate SEED REPLICAS LINES | trial SEED REPLICAS LINES",
+            )?;
+            put(out, b" | follow | relaxed | sessions | compare | json")
+        }
         Status::Syntax { line, reason } => {
             put_numbered(out, b"syntax ", *line)?;
             put_numbered(out, b" ", u64::from(*reason))

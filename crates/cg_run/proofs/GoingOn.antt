@@ -1,7 +1,7 @@
 -- A part of a run that is performed, and the next one.
 use Rattle.std.proofs.Common.{◌≡◌, None, sym, ap, subst, ◌∙◌, Result, Ok, Err}
 use Rattle.cg_io.specs.Outside.{SinkView}
-use Rattle.cg_outcome.specs.declared.report.Report.{Report}
+use Rattle.cg_items.specs.declared.report.Report.{Report}
 use Rattle.cg_outcome.specs.declared.status.Status.{Status}
 use Rattle.cg_outcome.specs.Produced.{Progress, Produced, and_then}
 use Rattle.cg_outcome.specs.Stopping.{Shows, Stopped, GoesOn}

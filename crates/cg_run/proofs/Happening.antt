@@ -5,7 +5,7 @@ use Rattle.cg_schedule.specs.declared.event.Event.{Event}
 use Rattle.cg_world.specs.declared.world.Stepped.TheVariants as answer
 use Rattle.cg_world.specs.SoFar.{SoFar}
 use Rattle.cg_world.specs.Steps.{Steps}
-use Rattle.cg_outcome.specs.declared.companion.Further.{Further}
+use Rattle.cg_items.specs.declared.companion.Further.{Further}
 use Rattle.cg_outcome.specs.Produced.{Progress, and_then, stepped, one_step}
 use Rattle.cg_outcome.specs.Rounds.{deliver_ready, deliveries, one_pass, passes}
 

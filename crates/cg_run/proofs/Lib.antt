@@ -1,3 +1,8 @@
 pub mod Asked
 pub mod GoingOn
 pub mod Happening
+pub mod Replaying
+pub mod EndedReading
+pub mod Cores
+pub mod Tests
+mod Counting

@@ -1,2 +1,7 @@
+pub mod Asking
+pub mod Ending
+pub mod Making
 pub mod Next
+pub mod Noting
 pub mod Performing
+pub mod Replying

@@ -1,9 +1,9 @@
 -- How far the code of a run has come, as definitions see it, and what performing a part of a run comes to.
-use Rattle.std.specs.Prelude.{◌≡◌, None, Result, Ok, Err, MatchResult}
+use Rattle.std.specs.Prelude.{◌≡◌, ℕ, None, Result, Ok, Err, MatchResult}
 use Rattle.cg_io.specs.Outside.{SinkView}
-use Rattle.cg_outcome.specs.declared.report.Report.{Report}
+use Rattle.cg_items.specs.declared.report.Report.{Report}
 use Rattle.cg_outcome.specs.declared.status.Status.{Status}
-use Rattle.cg_outcome.specs.Produced.{Progress, Produced}
+use Rattle.cg_outcome.specs.Produced.{Progress, Produced, end_in, tail_in}
 use Rattle.cg_outcome.specs.Streaming.{Stage}
 use Rattle.cg_outcome.specs.Stopping.{Shows, Stopped}
 use Rattle.cg_run.specs.declared.progress.Progress.{Progress as RunProgress}
@@ -17,6 +17,7 @@ seen p = record {
   reader = p.reader;
   count = p.count;
   totals = p.totals;
+  logs = p.logs;
 }
 
 -- where it stands between two lines
@@ -27,6 +28,10 @@ seen_stage st = record { line = st.line; at = st.at; progress = seen st.progress
 abbrev pub seen_end : Result RunStage Status → Result Stage Status
 seen_end (Ok st) = Ok (seen_stage st)
 seen_end (Err status) = Err status
+
+-- at an end with this status the report has its tail there
+abbrev pub EndsPlainly : Report → Status → ℕ → Type 0
+EndsPlainly report status lines = (s : Progress) → end_in report status lines s ≡ tail_in report status s.count lines
 
 -- a part of a run was put and the run goes on, or it has ended
 abbrev pub Performs : Report → Produced → SinkView → SinkView → Result RunProgress Status → Type 0

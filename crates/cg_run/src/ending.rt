@@ -1,14 +1,15 @@
 ghost use Rattle.std.specs.Prelude.{◌<◌, Some};
 ghost use Rattle.cg_base.specs.declared.limits.TheConstants.{COUNT_LIMIT};
 ghost use Rattle.cg_outcome.specs.Outcome.{Ended, at_end};
+ghost use Rattle.cg_outcome.specs.declared.status.Status.TheVariants as status;
 ghost use Rattle.cg_outcome.specs.Produced.{tail_in, ended_with};
 ghost use Rattle.cg_outcome.specs.Putting.{StopsWith};
 ghost use Rattle.cg_outcome.specs.Stopping.{Stopped, IsFinding};
-ghost use Rattle.cg_run.specs.Performing.{seen};
+ghost use Rattle.cg_run.specs.Performing.{seen, EndsPlainly};
 
 use crate::progress::{Line, Progress};
 use cg_io::Sink;
-use cg_outcome::{Status, finish};
+use cg_outcome::{Report, Status, finish, finish_logs};
 
 /// A run ends behind so many items with what was found, this line being the last one gone through: the tail is put.
 pub fn end_at<K: Sink>(line: Line, output: &mut K, status: Status, count: u64) -> Status
@@ -20,16 +21,38 @@ pub fn end_at<K: Sink>(line: Line, output: &mut K, status: Status, count: u64) -
     finish(line.alloc, output, line.report, status, count, line.number)
 }
 
-/// A run ends with what was found, this line being the last one gone through, and is let go.
+/// A run ends with what was found, this line being the last one gone through, and is let go. What was found isn't that
+/// it is done: see `end_done`.
 pub fn end_run<K: Sink>(line: Line, output: &mut K, status: Status, progress: Progress) -> Status
     requires few_faults { (K.view output.old).faults < COUNT_LIMIT }
     requires finding { IsFinding status }
+    requires plain { EndsPlainly line.report status line.number }
     ensures { Stopped line.report (ended_with status line.number (seen progress))
         (K.view output.old) (K.view output.new) result }
 {
     let count = progress.count;
     drop(progress);
     end_at(line, output, status, count)
+}
+
+// A run is done behind this line.
+fn end_done<K: Sink>(line: Line, output: &mut K, progress: Progress) -> Status
+    requires { (K.view output.old).faults < COUNT_LIMIT }
+    ensures { Stopped line.report (ended_with status.Done line.number (seen progress))
+        (K.view output.old) (K.view output.new) result }
+{
+    match line.report {
+        Report::Joined => {
+            let status = finish_logs(line.alloc, output, &progress.logs);
+            drop(progress);
+            status
+        }
+        _ => {
+            let count = progress.count;
+            drop(progress);
+            end_at(line, output, Status::Done, count)
+        }
+    }
 }
 
 /// Nothing stands behind this line: a run is done there, where its end was read.
@@ -39,7 +62,7 @@ pub fn end_input<K: Sink>(line: Line, output: &mut K, progress: Progress) -> Sta
         (K.view output.old) (K.view output.new) result }
 {
     if progress.reader.state().ended {
-        end_run(line, output, Status::Done, progress)
+        end_done(line, output, progress)
     } else {
         let lines = line.number;
         end_run(line, output, Status::NoEnd { lines }, progress)

@@ -5,11 +5,19 @@
 //! words come from, and what source and sink are, is left to the program above.
 #![tactic(auto)]
 
+mod asking;
+mod comparing;
 mod ending;
+mod following;
+mod further;
+mod line_reader;
 mod progress;
+mod refusing;
+mod relaxing;
 mod replay;
 mod rounds;
 mod running;
+mod sessions;
 mod steps;
 mod streaming;
 mod trial;

@@ -1,19 +1,22 @@
 ghost use Rattle.std.specs.Prelude.{◌≡◌, ◌≤◌, ◌-◌};
 
+use crate::line_reader::LineReader;
+use cg_base::Row;
+use cg_compare::LogList;
 use cg_outcome::{Companion, Report, Totals};
-use cg_schedule::Reader;
 use cg_world::World;
 use std::alloc::Global;
 
 /// How far a run has come: the world, what its command keeps beside it, the reader of the lines, how many items were
-/// made, and what they have shown.
+/// made, what they have shown, and the logs that were read.
 #[derive(Drop)]
 pub struct Progress {
     pub world: World,
     pub companion: Companion,
-    pub reader: Reader,
+    pub reader: LineReader,
     pub count: u64,
     pub totals: Totals,
+    pub logs: LogList,
 }
 
 impl Progress {
@@ -27,9 +30,10 @@ impl Progress {
         Progress {
             world: World::new(alloc),
             companion,
-            reader: Reader::new(),
+            reader: LineReader::new(),
             count: 0,
             totals: Totals::none(),
+            logs: Row::new(alloc),
         }
     }
 }

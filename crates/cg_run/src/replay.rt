@@ -1,14 +1,14 @@
-ghost use Rattle.std.specs.Prelude.{◌≡◌, ◌<◌, ◌+◌, ◌≤◌, ℕ, true, length, Option, IfOk, Result, Ok, Err, None};
+ghost use Rattle.std.specs.Prelude.{◌≡◌, ◌<◌, ◌+◌, ◌≤◌, ℕ, true, false, length, IfOk, Ok, None};
 ghost use Rattle.cg_outcome.specs.declared.limits.TheConstants.{INPUT_BYTES, LINES, LINE_BYTES};
 ghost use Rattle.cg_base.specs.declared.limits.TheConstants.{COUNT_LIMIT};
 ghost use Rattle.cg_schedule.specs.declared.event.Event.{Event};
-ghost use Rattle.cg_schedule.specs.declared.fault.LineFault.{LineFault};
-ghost use Rattle.cg_schedule.specs.Fault.{Gives};
 ghost use Rattle.cg_schedule.specs.Line.{event_reading};
 ghost use Rattle.cg_schedule.specs.Reading.{whole};
-ghost use Rattle.cg_outcome.specs.Outcome.{Ended, read_outcome, line_outcome, whole_line, cut_line, last_piece};
+ghost use Rattle.cg_outcome.specs.Outcome.{Ended, line_outcome, whole_line, cut_line, last_piece};
 ghost use Rattle.cg_outcome.specs.declared.status.Status.TheVariants as status;
-ghost use Rattle.cg_outcome.specs.Produced.{ended_with};
+ghost use Rattle.cg_outcome.specs.FurtherLaws.{StandsFor};
+ghost use Rattle.cg_outcome.specs.LineLaws.{is_comparing, IsPlain};
+ghost use Rattle.cg_outcome.specs.Produced.{ended_with, one_further};
 ghost use Rattle.cg_outcome.specs.Rounds.{happened};
 ghost use Rattle.cg_outcome.specs.Calls.{word_outcome};
 ghost use Rattle.cg_outcome.specs.Streaming.{held_limit};
@@ -17,32 +17,18 @@ ghost use Rattle.cg_run.specs.Next.{MayHappen, IsNext};
 ghost use Rattle.cg_outcome.specs.Stopping.{Stopped};
 ghost use Rattle.cg_run.specs.Performing.{seen, Performs};
 
-use crate::ending::{end_at, end_input, end_run};
+use crate::asking::perform_further;
+use crate::comparing::begin_log;
+use crate::ending::{end_input, end_run};
+use crate::further::read_in_place;
 use crate::progress::{Line, Progress};
+use crate::refusing::refuse_line;
 use crate::rounds::perform;
 use cg_io::Sink;
-use cg_outcome::{Limit, Status, passed_limit, without_return};
-use cg_schedule::{Event, LineFault, Word, lines_are_exact};
+use cg_outcome::{Companion, Further, Limit, Status, passed_limit, without_return};
+use cg_schedule::{Event, Word, lines_are_exact};
+use cg_session::session_lines_are_exact;
 use cg_text::Words;
-
-// A line can't be read, or memory was refused while it was.
-fn refuse_line<K: Sink>(line: Line, output: &mut K, fault: LineFault, count: u64) -> Status
-    requires { (K.view output.old).faults < COUNT_LIMIT }
-    ensures { (s : Progress) → s.count ≡ count → (read : Result (Option Event) LineFault) →
-        Gives read (Err fault) → Stopped line.report (read_outcome line.number read (seen s))
-        (K.view output.old) (K.view output.new) result }
-{
-    match fault {
-        LineFault::Syntax(reason) => {
-            let status = Status::Syntax {
-                line: line.number,
-                reason: reason.number(),
-            };
-            end_at(line, output, status, count)
-        }
-        LineFault::NoMemory => Status::NoMemory,
-    }
-}
 
 // The event of a line, which the reader has read.
 fn carry_out<K: Sink>(
@@ -87,9 +73,9 @@ fn finish_line<K: Sink>(
     }
 }
 
-/// A line, without its end.
+// A line of a schedule, without its end, which isn't one of the command's own events.
 #[tactic(auto, unfolding(cg_outcome::specs::Outcome::line_outcome))]
-pub fn begin_line<K: Sink>(
+fn begin_event<K: Sink>(
     line: Line,
     output: &mut K,
     text: &[u8],
@@ -97,6 +83,8 @@ pub fn begin_line<K: Sink>(
 ) -> Result<Progress, Status>
     requires few_faults { (K.view output.old).faults < COUNT_LIMIT }
     requires under_way { IsUnderWay (seen progress) }
+    requires schedule { is_comparing progress.companion ≡ false }
+    requires plain { IsPlain text.now (seen progress) }
     ensures performs { Performs line.report (line_outcome line.number text.now (seen progress))
         (K.view output.old) (K.view output.new) result }
     ensures under_way { IfOk result (λ s. IsUnderWay (seen s)) }
@@ -110,6 +98,75 @@ pub fn begin_line<K: Sink>(
             drop(progress);
             Err(refuse_line(line, output, fault, count))
         }
+    }
+}
+
+// One of the command's own events, which is let go.
+fn carry_further<K: Sink>(
+    line: Line,
+    output: &mut K,
+    event: Further,
+    progress: Progress,
+) -> Result<Progress, Status>
+    requires few_faults { (K.view output.old).faults < COUNT_LIMIT }
+    requires begun { HasBegun (seen progress) }
+    requires stands { StandsFor (seen progress).world event }
+    ensures performs { Performs line.report (one_further line.number event (seen progress))
+        (K.view output.old) (K.view output.new) result }
+    ensures begun { IfOk result (λ s. HasBegun (seen s)) }
+{
+    perform_further(line, output, &event, progress)
+}
+
+// A line, without its end, where the command has events of its own.
+fn begin_further<K: Sink>(
+    line: Line,
+    output: &mut K,
+    text: &[u8],
+    progress: Progress,
+) -> Result<Progress, Status>
+    requires few_faults { (K.view output.old).faults < COUNT_LIMIT }
+    requires under_way { IsUnderWay (seen progress) }
+    requires schedule { is_comparing progress.companion ≡ false }
+    ensures performs { Performs line.report (line_outcome line.number text.now (seen progress))
+        (K.view output.old) (K.view output.new) result }
+    ensures under_way { IfOk result (λ s. IsUnderWay (seen s)) }
+{
+    lines_are_exact();
+    session_lines_are_exact();
+    match read_in_place(
+        line.alloc,
+        &progress.companion,
+        progress.reader.state(),
+        text,
+    ) {
+        Ok(None) => begin_event(line, output, text, progress),
+        Ok(Some(event)) => carry_further(line, output, event, progress),
+        Err(fault) => {
+            let count = progress.count;
+            drop(progress);
+            Err(refuse_line(line, output, fault, count))
+        }
+    }
+}
+
+/// A line, without its end.
+pub fn begin_line<K: Sink>(
+    line: Line,
+    output: &mut K,
+    text: &[u8],
+    progress: Progress,
+) -> Result<Progress, Status>
+    requires few_faults { (K.view output.old).faults < COUNT_LIMIT }
+    requires under_way { IsUnderWay (seen progress) }
+    ensures performs { Performs line.report (line_outcome line.number text.now (seen progress))
+        (K.view output.old) (K.view output.new) result }
+    ensures under_way { IfOk result (λ s. IsUnderWay (seen s)) }
+{
+    match &progress.companion {
+        Companion::Alone => begin_event(line, output, text, progress),
+        Companion::Comparing => begin_log(line, output, text, progress),
+        _ => begin_further(line, output, text, progress),
     }
 }
 

@@ -34,7 +34,7 @@ fn deliver_to_each<K: Sink>(
             continue;
         }
         let event = Event::Deliver { p: to, count };
-        progress = take_step(line, output, &event, progress)?;
+        progress = take_step(line, output, None, &event, progress)?;
     }
     Ok(progress)
 }
@@ -48,7 +48,7 @@ fn gather<K: Sink>(line: Line, output: &mut K, progress: Progress) -> Result<Pro
     ensures begun { IfOk result (λ s. HasBegun (seen s)) }
 {
     let event = Event::Gather;
-    take_step(line, output, &event, progress)
+    take_step(line, output, None, &event, progress)
 }
 
 // All messages are gathered, and then each replica that was up before is handed what is ready.
@@ -102,6 +102,6 @@ pub fn perform<K: Sink>(
     match event {
         Event::End => Ok(progress),
         Event::Rounds(count) => make_passes(line, output, *count, progress),
-        _ => take_step(line, output, event, progress),
+        _ => take_step(line, output, None, event, progress),
     }
 }

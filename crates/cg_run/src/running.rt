@@ -1,21 +1,50 @@
-ghost use Rattle.std.specs.Prelude.{◌≡◌, ◌+◌, ◌<◌, false};
+ghost use Rattle.std.specs.Prelude.{◌≡◌, ◌+◌, ◌<◌, false, []};
 ghost use Rattle.cg_base.specs.declared.limits.TheConstants.{COUNT_LIMIT};
+ghost use Rattle.cg_items.specs.declared.companion.Companion.TheVariants.{Followers};
+ghost use Rattle.cg_items.specs.declared.companion.Companion.TheVariants.{Relaxed as MadeActions};
+ghost use Rattle.cg_items.specs.declared.companion.Companion.TheVariants.{Sessions as OpenSessions};
 ghost use Rattle.cg_model.specs.World.{no_world};
 ghost use Rattle.cg_model.specs.Run.{IsRunFrom};
 ghost use Rattle.cg_model.specs.Agreement.{OrderGrows, Prefix, CreatorOrder, FoldAnswers, DirtyAnswers, OnePrimary, QuietSettles, MadeStays};
 ghost use Rattle.cg_terms.specs.Linearizable.{Linearizable, StronglyLinearizable};
 ghost use Rattle.cg_terms.specs.Guarantees.{Durable, ExactlyOnce, PrefixReads, NoSplitBrain};
+ghost use Rattle.cg_items.specs.FollowersAgree.{FollowersAgree};
+ghost use Rattle.cg_items.specs.LogsShown.{LogsAgree};
+ghost use Rattle.cg_items.specs.RelaxedAgree.{RelaxedAgree};
+ghost use Rattle.cg_items.specs.SessionsAgree.{SessionsAgree};
 ghost use Rattle.cg_outcome.specs.Commands.{command_of, reads_input};
 ghost use Rattle.cg_outcome.specs.Status.{write_faults};
-ghost use Rattle.cg_outcome.specs.Taking.{Runs, ReadCause, Completes, OfSteps, IsNoted, TellsOfRefusals, RefusesExactly};
+ghost use Rattle.cg_outcome.specs.Taking.{Runs, ReadCause, Completes, OfItems, OfSteps, IsNoted, IsOfRun, TellsOfRefusals, TellsOfLogs, RefusesExactly};
 
 use crate::streaming::replay;
 use crate::trial::try_schedule;
+use cg_follower_list::FollowerList;
 use cg_io::{Sink, Source};
+use cg_items_agree::items_agree;
+use cg_made_rows::MadeRows;
 use cg_outcome::{
     ArgText, Command, Companion, Report, Status, command_of, finish, outcomes_agree, put_schedule,
 };
+use cg_session_list::SessionList;
 use std::alloc::Global;
+
+fn no_followers(alloc: Global) -> Companion
+    ensures { result ≡ Followers [] }
+{
+    Companion::Followers(FollowerList::new(alloc))
+}
+
+fn nothing_made(alloc: Global) -> Companion
+    ensures { result ≡ MadeActions [] }
+{
+    Companion::Relaxed(MadeRows::new(alloc))
+}
+
+fn no_sessions(alloc: Global) -> Companion
+    ensures { result ≡ OpenSessions [] }
+{
+    Companion::Sessions(SessionList::new(alloc))
+}
 
 // Runs a command, or tells how the program is used.
 fn run_command<S: Source, K: Sink>(
@@ -35,6 +64,18 @@ fn run_command<S: Source, K: Sink>(
     match command_of(words) {
         None => finish(alloc, output, Report::Whole, Status::Usage, 0, 0),
         Some(Command::Replay(report)) => replay(alloc, input, output, report, Companion::Alone),
+        Some(Command::Follow) => {
+            replay(alloc, input, output, Report::Whole, no_followers(alloc))
+        }
+        Some(Command::Relaxed) => {
+            replay(alloc, input, output, Report::Whole, nothing_made(alloc))
+        }
+        Some(Command::Sessions) => {
+            replay(alloc, input, output, Report::Whole, no_sessions(alloc))
+        }
+        Some(Command::Compare) => {
+            replay(alloc, input, output, Report::Joined, Companion::Comparing)
+        }
         Some(
             Command::Generate {
                 seed,
@@ -84,6 +125,10 @@ pub fn run<S: Source, K: Sink>(
 
     // What is made is numbered from 1, up to the limit, and what stands beside the world in the report comes of it.
     ensures noted { IsNoted words.now }
+    ensures of_run { IsOfRun words.now }
+
+    // What is told of logs holds of them: whether they are parts of one order, and what all such orders share.
+    ensures compared { TellsOfLogs words.now }
 
     // A refusal tells of the line whose event isn't admitted, and of the first reason.
     ensures refused { TellsOfRefusals words.now }
@@ -110,7 +155,16 @@ pub fn run<S: Source, K: Sink>(
     ensures exactly_once { OfSteps words.now ExactlyOnce }
     ensures prefix_reads { OfSteps words.now PrefixReads }
     ensures no_split_brain { OfSteps words.now NoSplitBrain }
+
+    // A session reads prefixes of the order that never become shorter and have what it wrote and was told of; a follower is
+    // a prefix, which never becomes shorter; a relaxed query shows what the actions come to that the replica knows; and the
+    // logs that are shown agree.
+    ensures sessions { OfItems words.now SessionsAgree }
+    ensures followers { OfItems words.now FollowersAgree }
+    ensures relaxed { OfItems words.now RelaxedAgree }
+    ensures logs_agree { OfSteps words.now LogsAgree }
 {
     outcomes_agree(words);
+    items_agree(words);
     run_command(alloc, words, input, output)
 }

@@ -1,45 +1,89 @@
-ghost use Rattle.std.specs.Prelude.{◌≡◌, ◌<◌, true, length, Option, None, IfOk};
+ghost use Rattle.std.specs.Prelude.{◌≡◌, ◌<◌, true, length, IfErr, IfOk, OnOk};
+ghost use Rattle.std.specs.Option.{option_copied};
 ghost use Rattle.cg_base.specs.declared.limits.TheConstants.{COUNT_LIMIT};
 ghost use Rattle.cg_schedule.specs.declared.event.Event.{Event};
 ghost use Rattle.cg_model.specs.Run.{MayStand};
 ghost use Rattle.cg_world.specs.Steps.{IsCounted};
-ghost use Rattle.cg_outcome.specs.declared.companion.Further.{Further};
+ghost use Rattle.cg_items.specs.Companion.{follows};
+ghost use Rattle.cg_items.specs.Items.{entry_in};
 ghost use Rattle.cg_outcome.specs.Produced.{stepped, one_step};
+ghost use Rattle.cg_outcome.specs.Putting.{Puts};
+ghost use Rattle.cg_outcome.specs.Stopping.{CutShort};
 ghost use Rattle.cg_run.specs.Performing.{seen, Performs};
 ghost use Rattle.cg_outcome.specs.UnderWay.{HasBegun};
 
 use crate::ending::end_at;
+use crate::further::follow;
 use crate::progress::{Line, Progress};
+use cg_base::NoMemory;
 use cg_io::Sink;
-use cg_outcome::{Limit, STEPS, Status, put_step};
+use cg_outcome::{Companion, Further, Limit, STEPS, Status, put_step};
 use cg_report::Entry;
 use cg_schedule::Event;
 use cg_short::entry_is_short;
-use cg_world::Stepped;
+use cg_world::{Stepped, World};
+
+// What a step shows is put, with the lines that follow it beside the world.
+fn show_step<K: Sink>(
+    line: Line,
+    output: &mut K,
+    companion: &mut Companion,
+    asked: Option<&Further>,
+    world: &World,
+    number: u64,
+    entry: &Entry,
+) -> Result<(), Status>
+    requires { (K.view output.old).faults < COUNT_LIMIT }
+    ensures kept { (event : Event) → OnOk result (companion.new ≡
+        (follows companion.old (option_copied asked.entry)
+        (record { event = event; entry = entry.now; world = world.now.world })).companion) }
+    ensures ok { (event : Event) → OnOk result (Puts (K.view output.old) (K.view output.new)
+        (entry_in line.report number entry.now (follows companion.old (option_copied asked.entry)
+        (record { event = event; entry = entry.now; world = world.now.world })).lines)) }
+    ensures cut { (event : Event) → IfErr result (λ status. CutShort
+        (entry_in line.report number entry.now (follows companion.old (option_copied asked.entry)
+        (record { event = event; entry = entry.now; world = world.now.world })).lines)
+        (K.view output.old) (K.view output.new) status) }
+{
+    match follow(line.alloc, companion, asked, world, entry) {
+        Ok(lines) => put_step(
+            line.alloc,
+            output,
+            line.report,
+            number,
+            entry,
+            lines.as_slice(),
+        ),
+        Err(NoMemory) => Err(Status::NoMemory),
+    }
+}
 
 // The step of an event that was admitted, which has led to this world: the rest is as it was before it.
 fn count_step<K: Sink>(
     line: Line,
     output: &mut K,
+    asked: Option<&Further>,
     next: Progress,
     entry: Entry,
 ) -> Result<Progress, Status>
     requires few_faults { (K.view output.old).faults < COUNT_LIMIT }
     requires started { next.reader.started ≡ true }
     requires hosted { 0 < length (seen next).world.nodes }
-    ensures performs { (s : Progress) (asked : Option Further) (event : Event) → s.companion ≡ next.companion →
-        s.reader ≡ next.reader → s.count ≡ next.count → s.totals ≡ next.totals →
+    ensures performs { (s : Progress) (event : Event) → s.companion ≡ next.companion →
+        s.reader ≡ next.reader → s.count ≡ next.count → s.totals ≡ next.totals → s.logs ≡ next.logs →
         Performs line.report
-        (stepped line.number asked event (record { entry = entry; world = (seen next).world }) (seen s))
+        (stepped line.number (option_copied asked.entry) event
+        (record { entry = entry; world = (seen next).world }) (seen s))
         (K.view output.old) (K.view output.new) result }
     ensures begun { IfOk result (λ s. HasBegun (seen s)) }
 {
     let Progress {
         world,
-        companion,
+        mut companion,
         reader,
         count,
         totals,
+        logs,
     } = next;
     if count >= STEPS {
         drop(world);
@@ -54,13 +98,22 @@ fn count_step<K: Sink>(
         drop(world);
         return Err(Status::NoMemory);
     };
-    match put_step(line.alloc, output, line.report, count + 1, &entry) {
+    match show_step(
+        line,
+        output,
+        &mut companion,
+        asked,
+        &world,
+        count + 1,
+        &entry,
+    ) {
         Ok(()) => Ok(Progress {
             world,
             companion,
             reader,
             count: count + 1,
             totals,
+            logs,
         }),
         Err(status) => {
             drop(world);
@@ -69,10 +122,12 @@ fn count_step<K: Sink>(
     }
 }
 
-/// One step of a line, where its event is admitted.
+/// The step of an event is made, for which a further event may have asked, and what it shows is put; or the event isn't
+/// admitted.
 pub fn take_step<K: Sink>(
     line: Line,
     output: &mut K,
+    asked: Option<&Further>,
     event: &Event,
     progress: Progress,
 ) -> Result<Progress, Status>
@@ -80,7 +135,7 @@ pub fn take_step<K: Sink>(
     requires started { progress.reader.started ≡ true }
     requires stands { MayStand (seen progress).world event.now }
     requires counted { IsCounted event.now }
-    ensures performs { Performs line.report (one_step line.number None event.now (seen progress))
+    ensures performs { Performs line.report (one_step line.number (option_copied asked.entry) event.now (seen progress))
         (K.view output.old) (K.view output.new) result }
     ensures begun { IfOk result (λ s. HasBegun (seen s)) }
 {
@@ -90,6 +145,7 @@ pub fn take_step<K: Sink>(
         reader,
         count,
         totals,
+        logs,
     } = progress;
     match world.step(line.alloc, event) {
         Stepped::Done { world, entry } => {
@@ -99,8 +155,9 @@ pub fn take_step<K: Sink>(
                 reader,
                 count,
                 totals,
+                logs,
             };
-            count_step(line, output, next, entry)
+            count_step(line, output, asked, next, entry)
         }
         Stepped::Refused {
             world: same,

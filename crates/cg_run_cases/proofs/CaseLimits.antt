@@ -12,9 +12,9 @@ use Rattle.cg_base.specs.Text.{pieces_of}
 use Rattle.cg_group.specs.declared.reason.Reason.TheVariants.{EmptySet}
 use Rattle.cg_schedule.specs.declared.event.Event.TheVariants.{Start}
 use Rattle.cg_outcome.specs.Outcome.{Ending, Ended, Open, limit_of, unless_passed, without_return, line_outcome, whole_line, cut_line, replayed}
-use Rattle.cg_outcome.specs.declared.companion.Companion.TheVariants.{Alone}
+use Rattle.cg_items.specs.declared.companion.Companion.TheVariants.{Alone}
 use Rattle.cg_outcome.specs.Produced.{Progress, Produced, before_all, went_on, ended_with, and_then, prepend, text_of, status_of, one_step}
-use Rattle.cg_outcome.specs.declared.report.Report.TheVariants.{Whole}
+use Rattle.cg_items.specs.declared.report.Report.TheVariants.{Whole}
 use Rattle.cg_outcome.specs.declared.status.Limit.{Limit}
 use Rattle.cg_outcome.specs.declared.status.Limit.TheVariants as limit
 use Rattle.cg_outcome.specs.declared.status.Status.TheVariants as status
@@ -102,14 +102,16 @@ limit-none n len end short within few = rw (le-ltb 32768 len short, le-ltb 83886
 -- ---- lines that are passed over
 
 -- a comment, which may end in a carriage return
-comment_outcome : (n : ℕ) (bytes : List ℕ) (s : Progress) → line_outcome n (without_return (35 ∷ bytes)) s ≡ went_on s
+comment_outcome : (n : ℕ) (bytes : List ℕ) → line_outcome n (without_return (35 ∷ bytes)) (before_all Alone) ≡ went_on (before_all Alone)
 unfolding cases_compute
-comment_outcome n [] s = refl
-comment_outcome n (b ∷ bytes) s = by_test (ends_with nat_eq (35 ∷ b ∷ bytes) (codes "\r")) where
-  shorter : line_outcome n (take (length (35 ∷ b ∷ bytes) - 1) (35 ∷ b ∷ bytes)) s ≡ went_on s
-  shorter = let one : length (35 ∷ b ∷ bytes) - 1 ≡ suc (length bytes) = omega arith in ap (λ k. line_outcome n (take k (35 ∷ b ∷ bytes)) s) one
+comment_outcome n [] = refl
+comment_outcome n (b ∷ bytes) = by_test (ends_with nat_eq (35 ∷ b ∷ bytes) (codes "\r")) where
+  shorter : line_outcome n (take (length (35 ∷ b ∷ bytes) - 1) (35 ∷ b ∷ bytes)) (before_all Alone) ≡ went_on (before_all Alone)
+  shorter = let one : length (35 ∷ b ∷ bytes) - 1 ≡ suc (length bytes) = omega arith in
+      ap (λ k. line_outcome n (take k (35 ∷ b ∷ bytes)) (before_all Alone)) one
 
-  by_test : (t : Bool) → line_outcome n (if t then take (length (35 ∷ b ∷ bytes) - 1) (35 ∷ b ∷ bytes) else 35 ∷ b ∷ bytes) s ≡ went_on s
+  by_test : (t : Bool) → line_outcome n (if t then take (length (35 ∷ b ∷ bytes) - 1) (35 ∷ b ∷ bytes) else 35 ∷ b ∷ bytes) (before_all Alone)
+      ≡ went_on (before_all Alone)
   by_test true = shorter
   by_test false = refl
 
@@ -181,7 +183,7 @@ longest_line_put bytes is long =
     ∙ ap (text_of Whole) (
     line_and_more 1 0 line [] Ended (before_all Alone) (All-cons (λ b. (b == 10) ≡ false) 35 bytes refl is)
     ∙ ap (λ found. and_then (unless_passed found 1 (before_all Alone) (line_outcome 1 (without_return line) (before_all Alone))) at_end) none
-    ∙ ap (λ p. and_then p at_end) (comment_outcome 1 bytes (before_all Alone)))
+    ∙ ap (λ p. and_then p at_end) (comment_outcome 1 bytes))
 
 start_unended : IsUnended (utf8 "start 1")
 unfolding cases_compute
@@ -206,7 +208,7 @@ long_line_behind_a_step line rest how is long =
 full_input : (rest : List ℕ) (how : Ending) → put (many 131072 (comment 63) rest) how ≡ text_of Whole (lines_from 131073 8388608 rest how (before_all Alone))
 full_input rest how =
     put_is (many 131072 (comment 63) rest) how
-    ∙ ap (text_of Whole) (behind_many (comment 63) (comment_unended 63) (omega arith) (λ n. comment_outcome n (comment 62) (before_all Alone)) 131072 1 0 rest how (omega arith) (omega arith))
+    ∙ ap (text_of Whole) (behind_many (comment 63) (comment_unended 63) (omega arith) (λ n. comment_outcome n (comment 62)) 131072 1 0 rest how (omega arith) (omega arith))
 
 -- an input of so many bytes is gone through
 full_input_put : put (many 131072 (comment 63) []) Ended ≡ written ("no end 131072" ∷ [])
@@ -264,8 +266,8 @@ input_before_the_lines rest how =
     let others : List ℕ = many 11392 (comment 40) (10 ∷ rest) in
     put_is (many 188608 (comment 41) others) how
     ∙ ap (text_of Whole) (
-    behind_many (comment 41) (comment_unended 41) (omega arith) (λ n. comment_outcome n (comment 40) (before_all Alone)) 188608 1 0 others how (omega arith) (omega arith)
-    ∙ behind_many (comment 40) (comment_unended 40) (omega arith) (λ n. comment_outcome n (comment 39) (before_all Alone)) 11392 188609 7921536 (10 ∷ rest) how (omega arith) (omega arith)
+    behind_many (comment 41) (comment_unended 41) (omega arith) (λ n. comment_outcome n (comment 40)) 188608 1 0 others how (omega arith) (omega arith)
+    ∙ behind_many (comment 40) (comment_unended 40) (omega arith) (λ n. comment_outcome n (comment 39)) 11392 188609 7921536 (10 ∷ rest) how (omega arith) (omega arith)
     ∙ passes_limit 200001 8388608 [] rest how (before_all Alone) limit.Input empty_unended refl)
 
 -- ---- the steps

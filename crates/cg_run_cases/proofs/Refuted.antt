@@ -48,10 +48,10 @@ use Rattle.cg_model.specs.Schedules.{run_of}
 use Rattle.cg_base.specs.Text.{is_nil}
 use Rattle.cg_io.specs.Outside.{SourceView, SinkView}
 use Rattle.cg_outcome.specs.declared.command.Command.TheVariants.{Replay}
-use Rattle.cg_outcome.specs.declared.companion.Companion.TheVariants.{Alone}
-use Rattle.cg_outcome.specs.Items.{Item}
-use Rattle.cg_outcome.specs.Kept.{AreNoted}
-use Rattle.cg_outcome.specs.declared.report.Report.TheVariants.{Whole}
+use Rattle.cg_items.specs.declared.companion.Companion.TheVariants.{Alone}
+use Rattle.cg_items.specs.Items.{Item}
+use Rattle.cg_items.specs.Kept.{AreNoted}
+use Rattle.cg_items.specs.declared.report.Report.TheVariants.{Whole}
 use Rattle.cg_outcome.specs.declared.status.Status.TheVariants as status
 use Rattle.cg_outcome.specs.Taking.{Completes}
 use Rattle.cg_run_cases.specs.Replaying.{written}

@@ -56,6 +56,12 @@ use Rattle.cg_replica_step.specs.Step.{on_message, on_transitional, on_regular, 
 use Rattle.cg_model.specs.Admission.{first_refusal}
 use Rattle.cg_model.specs.Show.{ended}
 use Rattle.cg_model.specs.Step.{hand, happens, world_step}
+use Rattle.cg_follow.specs.Line.{word_of as word_of_follow, make_reading, feed_reading, stop_reading as stop_reading_of_follow, recover_reading as recover_reading_of_follow, weak_reading as weak_reading_of_follow, event_reading as event_reading_of_follow, follow_reading}
+use Rattle.cg_session.specs.Line.{word_of as word_of_session, begin_reading, write_reading, weak_reading as weak_reading_of_session, event_reading as event_reading_of_session, session_reading}
+use Rattle.cg_made_rows.specs.Line.{word_of as word_of_relaxed, one_reading, both_reading, event_reading as event_reading_of_relaxed, relaxed_reading}
+use Rattle.cg_compare.specs.Lines.{word_of as word_of_log, opening as opening_of_log, read_ids, ids_part, log_reading, line_reading}
+use Rattle.cg_items.specs.Followers.{follow_refusal, follow_acts}
+use Rattle.cg_items.specs.Relaxing.{relaxed_refusal, relaxed_lines}
 use Rattle.cg_outcome.specs.Outcome.{line_outcome}
 use Rattle.cg_outcome.specs.Rounds.{happened}
 
@@ -141,6 +147,23 @@ unfolding put_reading_of_schedule_command del_reading_of_schedule_command inc_re
     value_part want_part fill_part
 schedule_computes = tt
 
+unfoldable pub follow_computes : ⊤
+unfolding word_of_follow make_reading feed_reading stop_reading_of_follow recover_reading_of_follow
+    weak_reading_of_follow event_reading_of_follow follow_reading follow_refusal follow_acts
+follow_computes = tt
+
+unfoldable pub session_computes : ⊤
+unfolding word_of_session begin_reading write_reading weak_reading_of_session event_reading_of_session session_reading
+session_computes = tt
+
+unfoldable pub relaxed_computes : ⊤
+unfolding word_of_relaxed one_reading both_reading event_reading_of_relaxed relaxed_reading relaxed_refusal relaxed_lines
+relaxed_computes = tt
+
+unfoldable pub compare_computes : ⊤
+unfolding word_of_log opening_of_log read_ids ids_part log_reading line_reading
+compare_computes = tt
+
 unfoldable pub client_computes : ⊤
 unfolding install is_unmade mark_red mark_yellow can_be_green place_green mark_green view_of create create_kept
     summary_of own_to_red enter_exchange
@@ -183,5 +206,5 @@ unfoldable pub cases_compute : ⊤
 unfolding std_computes json_computes base_computes text_computes codec_computes action_computes db_computes vote_computes
     queue_computes records_computes knowledge_computes plan_computes wire_computes group_computes schedule_computes
     client_computes prim_computes exchange_computes construct_computes stored_computes step_computes
-    agree_computes run_computes
+    agree_computes follow_computes session_computes relaxed_computes compare_computes run_computes
 cases_compute = tt

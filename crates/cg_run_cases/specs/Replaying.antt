@@ -24,9 +24,13 @@ put_of words taken how = text_put (command_of (texts words)) (outcome (texts wor
   texts [] = []
   texts (word ∷ words) = utf8 word ∷ texts words
 
+-- what a command of one word puts of these lines
+abbrev pub put_by : String → List String → List ℕ
+put_by word lines = put_of (word ∷ []) (written lines) Ended
+
 -- what is put of a schedule of these lines
 abbrev pub replayed_text : List String → List ℕ
-replayed_text lines = put_of ("replay" ∷ []) (written lines) Ended
+replayed_text lines = put_by "replay" lines
 
 -- the last of some ended lines, behind which the last piece is empty
 abbrev pub last_of : List (List ℕ) → Option (List ℕ)

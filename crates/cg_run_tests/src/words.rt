@@ -8,7 +8,7 @@ use std::alloc::{AllocError, AllocGlobal};
 use std::test::Fail;
 
 const WORDS: &str = "Done -> the command was carried out to its end
-Usage -> the words are no command; give `replay`, `check` or `json` a schedule by < FILE, or give `generate` or `trial` SEED (a number of 64 bits), REPLICAS (1 to 32) and LINES (3 to 200000)
+Usage -> the words are no command; give `replay`, `check`, `follow`, `relaxed`, `sessions` or `json` a schedule by < FILE, or `compare` logs, or give `generate` or `trial` SEED (a number of 64 bits), REPLICAS (1 to 32) and LINES (3 to 200000)
 ReadFault -> reading the input failed; give a file that can be read, by < FILE
 WriteFault -> writing the output failed, so it isn't whole; see whether the disk is full or a pipe was closed
 Limit { line: 2, what: Line } -> line 2 passes a limit: it has more than 32768 bytes; make it shorter
@@ -42,6 +42,14 @@ JoinNotGreen(ReplicaId { number: 3 }) -> line 5 isn't admitted: replica 3 is no 
 HasLeft(ReplicaId { number: 3 }) -> line 5 isn't admitted: replica 3 has left for good; leave it out, or name another replica (reason 14)
 EarlierMissing(8) -> line 5 isn't admitted: place 8 of the same sender must be received first (reason 15)
 StillRegular(ReplicaId { number: 3 }) -> line 5 isn't admitted: replica 3 is still in a configuration; split it first (reason 16)
+Discarded(8) -> line 5 isn't admitted: the replica's first actions, so many: 8, are discarded there, and the follower lacks some of them; make it anew, or feed it from a replica that has them (reason 18)
+WouldGoBack(8) -> line 5 isn't admitted: the follower was shown at place 8, and the replica isn't so far; make it from another one (reason 19)
+UnknownFollower(7) -> line 5 isn't admitted: follower 7 wasn't made; make it by a line `follower` (reason 20)
+FollowerDown(7) -> line 5 isn't admitted: follower 7 is down; recover it first (reason 21)
+FollowerUp(7) -> line 5 isn't admitted: follower 7 is up; recover only one that is down (reason 22)
+UnknownSession(7) -> line 5 isn't admitted: session 7 isn't open; open it by a line `session` (reason 23)
+SessionUsed(7) -> line 5 isn't admitted: session 7 is open already; take another number (reason 24)
+NotCreating(ReplicaId { number: 3 }) -> line 5 isn't admitted: replica 3 would keep the request for later; write at one in RegPrim, or in NonPrim of a regular configuration (reason 25)
 ";
 
 fn ends() -> [Status; 10] {
@@ -63,7 +71,7 @@ fn passed(what: Limit) -> Status {
     Status::Limit { line: 2, what }
 }
 
-fn reasons(id: ReplicaId, place: u64) -> [Reason; 16] {
+fn reasons(id: ReplicaId, place: u64, number: u8) -> [Reason; 24] {
     [
         Reason::NotUp(id),
         Reason::NotRegular(id),
@@ -81,6 +89,14 @@ fn reasons(id: ReplicaId, place: u64) -> [Reason; 16] {
         Reason::HasLeft(id),
         Reason::EarlierMissing(place),
         Reason::StillRegular(id),
+        Reason::Discarded(place),
+        Reason::WouldGoBack(place),
+        Reason::UnknownFollower(number),
+        Reason::FollowerDown(number),
+        Reason::FollowerUp(number),
+        Reason::UnknownSession(number),
+        Reason::SessionUsed(number),
+        Reason::NotCreating(id),
     ]
 }
 
@@ -102,7 +118,7 @@ fn tell_misreadings(told: &mut String) -> Result<(), AllocError> {
 }
 
 fn tell_refusals(told: &mut String) -> Result<(), AllocError> {
-    for reason in reasons(ReplicaId::known(3), 8) {
+    for reason in reasons(ReplicaId::known(3), 8, 7) {
         let explained = Explained(Status::Refused { line: 5, reason });
         writeln!(told, "{reason:?} -> {explained}")?;
     }

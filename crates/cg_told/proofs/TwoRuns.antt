@@ -10,18 +10,19 @@ use Rattle.cg_json.specs.JsonText.{entry_json, tail_json}
 use Rattle.cg_model.specs.World.{World, no_world}
 use Rattle.cg_model.specs.Run.{Step, step_limit}
 use Rattle.cg_outcome.specs.declared.command.Command.{Command}
-use Rattle.cg_outcome.specs.declared.companion.Companion.TheVariants.{Alone}
-use Rattle.cg_outcome.specs.declared.companion.Further.{Further}
-use Rattle.cg_outcome.specs.declared.report.Report.{Report}
-use Rattle.cg_outcome.specs.declared.report.Report.TheVariants.{Whole, Json}
+use Rattle.cg_items.specs.declared.companion.Companion.TheVariants.{Alone}
+use Rattle.cg_items.specs.declared.companion.Further.{Further}
+use Rattle.cg_items.specs.declared.report.Report.{Report}
+use Rattle.cg_items.specs.declared.report.Report.TheVariants.{Whole, Json}
 use Rattle.cg_outcome.specs.declared.status.Status.{Status}
 use Rattle.cg_outcome.specs.declared.status.Status.TheVariants as status
 use Rattle.cg_outcome.specs.Commands.{command_of, reads_input}
-use Rattle.cg_outcome.specs.Companion.{Noted, nothing_noted}
-use Rattle.cg_outcome.specs.Items.{Item, entry_of, entry_in, item_in, report_in}
-use Rattle.cg_outcome.specs.Kept.{next_world, noted_by, AreNoted}
+use Rattle.cg_items.specs.Companion.{Noted, nothing_noted}
+use Rattle.cg_items.specs.Items.{Item, entry_of, entry_in, item_in, report_in}
+use Rattle.cg_items.specs.Kept.{next_world, noted_by, AreNoted}
 use Rattle.cg_outcome.specs.Outcome.{companion_for, text_put}
 use Rattle.cg_outcome.specs.Produced.{Finding, Produced, with_tail, text_of, status_of}
+use Rattle.cg_outcome.specs.GoingOnLaws.{end-tail}
 use Rattle.cg_outcome.specs.Putting.{Puts, StopsWith}
 use Rattle.cg_outcome.specs.Status.{tail_line, tail_text}
 use Rattle.cg_outcome.specs.Stopping.{AllShort, IsFinding}
@@ -137,10 +138,12 @@ module _ (words others : List (List ℕ)) (runs : IsNoted words) (them : IsNoted
       let tail = tail_text f.status p.progress.count f.lines in
       let end = tail_text g.status q.progress.count g.lines in
       let first : bytes ≡ report_text 0 (shown_by p.items) ++ tail =
-      a.text ∙ ap (λ found. with_tail Whole (report_in Whole p.items) found p.progress.count) a.found
+      a.text ∙ ap (λ found. with_tail Whole (report_in Whole p.items) found p.progress) a.found
+      ∙ ap (λ t. report_in Whole p.items ++ t) (end-tail Whole f.status f.lines p.progress refl)
       ∙ ap (λ t. t ++ tail) (whole-numbered no_world 0 p.items a.noted) in
       let second : bytes ≡ report_text 0 (shown_by q.items) ++ end =
-      b.text ∙ ap (λ found. with_tail Whole (report_in Whole q.items) found q.progress.count) b.found
+      b.text ∙ ap (λ found. with_tail Whole (report_in Whole q.items) found q.progress) b.found
+      ∙ ap (λ t. report_in Whole q.items ++ t) (end-tail Whole g.status g.lines q.progress refl)
       ∙ ap (λ t. t ++ end) (whole-numbered no_world 0 q.items b.noted) in
       let both = tells (shown_by p.items) (shown_by q.items) tail end (transcript p.items a.noted a.short) (transcript q.items b.noted b.short)
       (tail-is f.status p.progress.count f.lines) (tail-is g.status q.progress.count g.lines) (sym first ∙ second) in
@@ -158,10 +161,12 @@ module _ (words others : List (List ℕ)) (runs : IsNoted words) (them : IsNoted
       let tail = tail_line f.status p.progress.count f.lines in
       let end = tail_line g.status q.progress.count g.lines in
       let first : bytes ≡ report_json 0 (shown_by p.items) ++ tail_json tail =
-      a.text ∙ ap (λ found. with_tail Json (report_in Json p.items) found p.progress.count) a.found
+      a.text ∙ ap (λ found. with_tail Json (report_in Json p.items) found p.progress) a.found
+      ∙ ap (λ t. report_in Json p.items ++ t) (end-tail Json f.status f.lines p.progress refl)
       ∙ ap (λ t. t ++ tail_json tail) (json-numbered no_world 0 p.items a.noted) in
       let second : bytes ≡ report_json 0 (shown_by q.items) ++ tail_json end =
-      b.text ∙ ap (λ found. with_tail Json (report_in Json q.items) found q.progress.count) b.found
+      b.text ∙ ap (λ found. with_tail Json (report_in Json q.items) found q.progress) b.found
+      ∙ ap (λ t. report_in Json q.items ++ t) (end-tail Json g.status g.lines q.progress refl)
       ∙ ap (λ t. t ++ tail_json end) (json-numbered no_world 0 q.items b.noted) in
       let both = tells (shown_by p.items) (shown_by q.items) tail end (transcript p.items a.noted a.short) (transcript q.items b.noted b.short)
       (sym first ∙ second) in

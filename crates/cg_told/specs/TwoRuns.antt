@@ -4,11 +4,11 @@ use Rattle.std.specs.Option.{option_map_or}
 use Rattle.cg_io.specs.Outside.{SourceView, SinkView}
 use Rattle.cg_report.specs.declared.entry.Entry.{Entry}
 use Rattle.cg_outcome.specs.declared.command.Command.TheVariants.{Replay}
-use Rattle.cg_outcome.specs.declared.report.Report.{Report}
+use Rattle.cg_items.specs.declared.report.Report.{Report}
 use Rattle.cg_outcome.specs.declared.status.Status.{Status}
 use Rattle.cg_outcome.specs.Commands.{command_of}
 use Rattle.cg_outcome.specs.Outcome.{outcome}
-use Rattle.cg_outcome.specs.Items.{Item, entry_of}
+use Rattle.cg_items.specs.Items.{Item, entry_of}
 use Rattle.cg_outcome.specs.Produced.{Produced}
 use Rattle.cg_outcome.specs.Status.{tail_line}
 use Rattle.cg_outcome.specs.Stopping.{IsFinding}

@@ -1,7 +1,7 @@
 ghost use Rattle.cg_told.specs.Told.{ReportsTellTheirTranscripts, WholeReportsTellTheirTranscripts};
 ghost use Rattle.cg_told.specs.ToldJson.{JsonReportsTellTheirTranscripts, WholeJsonReportsTellTheirTranscripts};
 ghost use Rattle.cg_told.specs.TwoRuns.{RunsTell};
-ghost use Rattle.cg_outcome.specs.declared.report.Report.TheVariants.{Whole, Json};
+ghost use Rattle.cg_items.specs.declared.report.Report.TheVariants.{Whole, Json};
 
 use cg_outcome::{ArgText, outcomes_agree};
 

@@ -1,12 +1,25 @@
 use Rattle.std.proofs.Common.{◌≡◌, [], refl, Option, Some, None, sym, ap, subst, ◌∙◌}
+use Rattle.cg_io.specs.Outside.{SourceView, SinkView}
+use Rattle.cg_items.specs.declared.companion.Companion.{Companion}
+use Rattle.cg_items.specs.declared.report.Report.{Report}
+use Rattle.cg_outcome.specs.declared.status.Status.{Status}
+use Rattle.cg_outcome.specs.Streaming.{Replays}
 use Rattle.cg_outcome.specs.Outcome.{Open}
 use Rattle.cg_outcome.specs.declared.command.Command.{Command}
-use Rattle.cg_outcome.specs.declared.command.Command.TheVariants.{Replay, Generate, Trial}
+use Rattle.cg_outcome.specs.declared.command.Command.TheVariants.{Replay, Generate, Trial, Follow, Relaxed, Sessions, Compare}
+use Rattle.cg_items.specs.declared.companion.Companion.TheVariants.{Alone, Followers, Relaxed as MadeRows, Sessions as OpenSessions, Comparing}
+use Rattle.cg_items.specs.declared.report.Report.TheVariants.{Whole, Joined}
 use Rattle.cg_outcome.specs.Commands.{command_of}
 use Rattle.cg_outcome.specs.Taking.{Runs}
 use Rattle.cg_outcome.specs.SparedLaws.{read-cause}
 use Rattle.cg_outcome.specs.NearLaws.{Runs-near, Runs-nothing}
+use Rattle.cg_run.proofs.Replaying.{replay-runs, replay-cause}
 use Rattle.cg_run.proofs.running.run_command.Goals as goal
+
+-- what is replayed with one thing beside the world is replayed with another that is the same
+first_kept : (report : Report) (old new : SourceView) (from to : SinkView) (st : Status) {made kept : Companion} → made ≡ kept
+    → Replays report made old new from to st → Replays report kept old new from to st
+first_kept report old new from to st is replays = subst (λ (k : Companion). Replays report k old new from to st) is replays
 
 pub returns-in-None-clause-ran : goal.returns-in-None-clause-ran
 returns-in-None-clause-ran g c =
@@ -18,21 +31,63 @@ returns-in-None-clause-ran g c =
 
 pub returns-in-Some-Replay-clause-ran : goal.returns-in-Some-Replay-clause-ran
 returns-in-Some-Replay-clause-ran g c =
-    let r = c.replay.ensures in
-    let old = g.S.Source.view c.args.input.now in
-    let new = g.S.Source.view c.replay.new.input in
-    let v = g.K.Sink.view c.args.output.now in
-    let v1 = g.K.Sink.view c.replay.new.output in
-    let is : command_of c.args.words.now ≡ Some (Replay c.in-Some-Replay.report) = sym c.command_of.ensures.value ∙ c.in-Some-Replay.is ∙ ap Some c.in-Some-Replay.field-0-is in
-    subst (λ (command : Option Command). Runs command old new v v1 c.replay.result) (sym is)
-    (Runs-near (Some (Replay c.in-Some-Replay.report)) old new v v1 c.replay.result
-    (record { taken = r.taken; ending = r.ending; consumed = r.consumed; cause = r.cause; holds = (r.holds.0, r.holds.1.0, r.holds.2, λ reads. r.holds.1.1) }))
+    let command : Command = Replay c.in-Some-Replay.report in
+    let is : command_of c.args.words.now ≡ Some command = sym c.command_of.ensures.value ∙ c.in-Some-Replay.is ∙ ap Some c.in-Some-Replay.field-0-is in
+    replay-runs command c.in-Some-Replay.report Alone (record { text = λ p. refl; comes = λ taken how. refl }) (g.S.Source.view c.args.input.now) (g.S.Source.view c.replay.new.input) (g.K.Sink.view c.args.output.now) (g.K.Sink.view c.replay.new.output)
+    c.replay.result c.replay.ensures c.args.words.now is
 
 pub returns-in-Some-Replay-clause-read_fault : goal.returns-in-Some-Replay-clause-read_fault
 returns-in-Some-Replay-clause-read_fault g c =
-    let r = c.replay.ensures in
-    read-cause (Some (Replay c.in-Some-Replay.report)) r.taken r.ending (g.S.Source.view c.args.input.now) (g.S.Source.view c.replay.new.input) (g.K.Sink.view c.args.output.now) (g.K.Sink.view c.replay.new.output)
-    c.replay.result r.cause r.holds.3 r.holds.1.0
+    replay-cause (Replay c.in-Some-Replay.report) c.in-Some-Replay.report Alone (record { text = λ p. refl; comes = λ taken how. refl }) (g.S.Source.view c.args.input.now) (g.S.Source.view c.replay.new.input) (g.K.Sink.view c.args.output.now) (g.K.Sink.view c.replay.new.output)
+    c.replay.result c.replay.ensures
+
+pub returns-in-Some-Follow-clause-ran : goal.returns-in-Some-Follow-clause-ran
+returns-in-Some-Follow-clause-ran g c =
+    let command : Command = Follow in
+    let is : command_of c.args.words.now ≡ Some command = sym c.command_of.ensures.value ∙ c.in-Some-Follow.is ∙ ap Some c.in-Some-Follow.field-0-is in
+    replay-runs command Whole (Followers []) (record { text = λ p. refl; comes = λ taken how. refl }) (g.S.Source.view c.args.input.now) (g.S.Source.view c.replay-in-Some-Follow.new.input) (g.K.Sink.view c.args.output.now) (g.K.Sink.view c.replay-in-Some-Follow.new.output)
+    c.replay-in-Some-Follow.result (first_kept Whole (g.S.Source.view c.args.input.now) (g.S.Source.view c.replay-in-Some-Follow.new.input) (g.K.Sink.view c.args.output.now) (g.K.Sink.view c.replay-in-Some-Follow.new.output) c.replay-in-Some-Follow.result c.no_followers.ensures c.replay-in-Some-Follow.ensures) c.args.words.now is
+
+pub returns-in-Some-Follow-clause-read_fault : goal.returns-in-Some-Follow-clause-read_fault
+returns-in-Some-Follow-clause-read_fault g c =
+    replay-cause Follow Whole (Followers []) (record { text = λ p. refl; comes = λ taken how. refl }) (g.S.Source.view c.args.input.now) (g.S.Source.view c.replay-in-Some-Follow.new.input) (g.K.Sink.view c.args.output.now) (g.K.Sink.view c.replay-in-Some-Follow.new.output)
+    c.replay-in-Some-Follow.result (first_kept Whole (g.S.Source.view c.args.input.now) (g.S.Source.view c.replay-in-Some-Follow.new.input) (g.K.Sink.view c.args.output.now) (g.K.Sink.view c.replay-in-Some-Follow.new.output) c.replay-in-Some-Follow.result c.no_followers.ensures c.replay-in-Some-Follow.ensures)
+
+pub returns-in-Some-Relaxed-clause-ran : goal.returns-in-Some-Relaxed-clause-ran
+returns-in-Some-Relaxed-clause-ran g c =
+    let command : Command = Relaxed in
+    let is : command_of c.args.words.now ≡ Some command = sym c.command_of.ensures.value ∙ c.in-Some-Relaxed.is ∙ ap Some c.in-Some-Relaxed.field-0-is in
+    replay-runs command Whole (MadeRows []) (record { text = λ p. refl; comes = λ taken how. refl }) (g.S.Source.view c.args.input.now) (g.S.Source.view c.replay-in-Some-Relaxed.new.input) (g.K.Sink.view c.args.output.now) (g.K.Sink.view c.replay-in-Some-Relaxed.new.output)
+    c.replay-in-Some-Relaxed.result (first_kept Whole (g.S.Source.view c.args.input.now) (g.S.Source.view c.replay-in-Some-Relaxed.new.input) (g.K.Sink.view c.args.output.now) (g.K.Sink.view c.replay-in-Some-Relaxed.new.output) c.replay-in-Some-Relaxed.result c.nothing_made.ensures c.replay-in-Some-Relaxed.ensures) c.args.words.now is
+
+pub returns-in-Some-Relaxed-clause-read_fault : goal.returns-in-Some-Relaxed-clause-read_fault
+returns-in-Some-Relaxed-clause-read_fault g c =
+    replay-cause Relaxed Whole (MadeRows []) (record { text = λ p. refl; comes = λ taken how. refl }) (g.S.Source.view c.args.input.now) (g.S.Source.view c.replay-in-Some-Relaxed.new.input) (g.K.Sink.view c.args.output.now) (g.K.Sink.view c.replay-in-Some-Relaxed.new.output)
+    c.replay-in-Some-Relaxed.result (first_kept Whole (g.S.Source.view c.args.input.now) (g.S.Source.view c.replay-in-Some-Relaxed.new.input) (g.K.Sink.view c.args.output.now) (g.K.Sink.view c.replay-in-Some-Relaxed.new.output) c.replay-in-Some-Relaxed.result c.nothing_made.ensures c.replay-in-Some-Relaxed.ensures)
+
+pub returns-in-Some-Sessions-clause-ran : goal.returns-in-Some-Sessions-clause-ran
+returns-in-Some-Sessions-clause-ran g c =
+    let command : Command = Sessions in
+    let is : command_of c.args.words.now ≡ Some command = sym c.command_of.ensures.value ∙ c.in-Some-Sessions.is ∙ ap Some c.in-Some-Sessions.field-0-is in
+    replay-runs command Whole (OpenSessions []) (record { text = λ p. refl; comes = λ taken how. refl }) (g.S.Source.view c.args.input.now) (g.S.Source.view c.replay-in-Some-Sessions.new.input) (g.K.Sink.view c.args.output.now) (g.K.Sink.view c.replay-in-Some-Sessions.new.output)
+    c.replay-in-Some-Sessions.result (first_kept Whole (g.S.Source.view c.args.input.now) (g.S.Source.view c.replay-in-Some-Sessions.new.input) (g.K.Sink.view c.args.output.now) (g.K.Sink.view c.replay-in-Some-Sessions.new.output) c.replay-in-Some-Sessions.result c.no_sessions.ensures c.replay-in-Some-Sessions.ensures) c.args.words.now is
+
+pub returns-in-Some-Sessions-clause-read_fault : goal.returns-in-Some-Sessions-clause-read_fault
+returns-in-Some-Sessions-clause-read_fault g c =
+    replay-cause Sessions Whole (OpenSessions []) (record { text = λ p. refl; comes = λ taken how. refl }) (g.S.Source.view c.args.input.now) (g.S.Source.view c.replay-in-Some-Sessions.new.input) (g.K.Sink.view c.args.output.now) (g.K.Sink.view c.replay-in-Some-Sessions.new.output)
+    c.replay-in-Some-Sessions.result (first_kept Whole (g.S.Source.view c.args.input.now) (g.S.Source.view c.replay-in-Some-Sessions.new.input) (g.K.Sink.view c.args.output.now) (g.K.Sink.view c.replay-in-Some-Sessions.new.output) c.replay-in-Some-Sessions.result c.no_sessions.ensures c.replay-in-Some-Sessions.ensures)
+
+pub returns-in-Some-Compare-clause-ran : goal.returns-in-Some-Compare-clause-ran
+returns-in-Some-Compare-clause-ran g c =
+    let command : Command = Compare in
+    let is : command_of c.args.words.now ≡ Some command = sym c.command_of.ensures.value ∙ c.in-Some-Compare.is ∙ ap Some c.in-Some-Compare.field-0-is in
+    replay-runs command Joined Comparing (record { text = λ p. refl; comes = λ taken how. refl }) (g.S.Source.view c.args.input.now) (g.S.Source.view c.replay-in-Some-Compare.new.input) (g.K.Sink.view c.args.output.now) (g.K.Sink.view c.replay-in-Some-Compare.new.output)
+    c.replay-in-Some-Compare.result c.replay-in-Some-Compare.ensures c.args.words.now is
+
+pub returns-in-Some-Compare-clause-read_fault : goal.returns-in-Some-Compare-clause-read_fault
+returns-in-Some-Compare-clause-read_fault g c =
+    replay-cause Compare Joined Comparing (record { text = λ p. refl; comes = λ taken how. refl }) (g.S.Source.view c.args.input.now) (g.S.Source.view c.replay-in-Some-Compare.new.input) (g.K.Sink.view c.args.output.now) (g.K.Sink.view c.replay-in-Some-Compare.new.output)
+    c.replay-in-Some-Compare.result c.replay-in-Some-Compare.ensures
 
 pub returns-in-Some-Trial-clause-read_fault : goal.returns-in-Some-Trial-clause-read_fault
 returns-in-Some-Trial-clause-read_fault g c =

@@ -1,7 +1,7 @@
 use Rattle.std.proofs.Common.{[], ◌∷◌}
 use Rattle.cg_gen.specs.Generated.{generated}
 use Rattle.cg_gen.specs.GeneratedLaws.{generated-length}
-use Rattle.cg_outcome.specs.declared.companion.Companion.TheVariants.{Alone}
+use Rattle.cg_items.specs.declared.companion.Companion.TheVariants.{Alone}
 use Rattle.cg_outcome.specs.Outcome.{performed}
 use Rattle.cg_outcome.specs.Produced.{before_all}
 use Rattle.cg_outcome.specs.AskedLaws.{before_under_way}

@@ -1,0 +1,12 @@
+mod Agree
+mod Elements
+mod Events
+mod FollowerPlaces
+mod Greens
+mod ItemParts
+mod LifeTold
+mod MadeActions
+mod OrderActions
+mod Refusals
+mod Told
+mod WorldFacts

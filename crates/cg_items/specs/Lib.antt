@@ -1,0 +1,14 @@
+pub mod FurtherText
+pub mod Items
+pub mod Sessions
+pub mod Followers
+pub mod Relaxing
+pub mod Companion
+pub mod Kept
+pub mod Refused
+pub mod OfRun
+pub mod AfterItems
+pub mod SessionsAgree
+pub mod FollowersAgree
+pub mod RelaxedAgree
+pub mod LogsShown

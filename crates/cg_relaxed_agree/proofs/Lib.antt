@@ -1,0 +1,13 @@
+mod EveryItem
+mod KnownActions
+mod KnownCells
+mod KnownNames
+mod LastLines
+mod MadeNames
+mod MadeRows
+mod NamedIds
+mod NotedItems
+mod NumberedRows
+mod RunFacts
+mod SameCells
+mod ShownReds
