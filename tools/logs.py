@@ -1,4 +1,4 @@
-"""The logs of a store's replicas, and whether one order fits all of them.
+"""The logs of a store's replicas, as they go to `compare` of the program, which says whether one order fits them all.
 
 A log is a line `log W LIST`: the names of the actions that a replica has applied, in order, at the places after the
 first W, which it keeps no longer. A name is CREATOR:N, the Nth action of that creator, and LIST has no blanks, as
@@ -7,12 +7,13 @@ first W, which it keeps no longer. A name is CREATOR:N, the Nth action of that c
 from __future__ import annotations
 
 import re
-from collections.abc import Iterator, Sequence
+from collections.abc import Sequence
 from dataclasses import dataclass
 
 MOST_WHITE = 1_000_000
 MOST_CREATOR = 32
 END_OF_INDEXES = 2**62
+NAMES_OF_A_LINE = 1000  # so that a line of the longest names is within the program's limit
 
 PASSED_OVER = re.compile(rb"[ \t]*(#.*)?", re.DOTALL)
 END = re.compile(rb"[ \t]*end[ \t]*")
@@ -32,48 +33,9 @@ class Log:
     white: int
     names: tuple[str, ...]
 
-    def places(self) -> Iterator[tuple[int, str]]:
-        return enumerate(self.names, self.white + 1)
-
     def end(self) -> int:
         """How many actions the replica has applied."""
         return self.white + len(self.names)
-
-
-@dataclass(frozen=True)
-class Differ:
-    """At this place two lines have different names. It is the least such place."""
-
-    place: int
-    line: int
-    name: str
-    other_line: int
-    other_name: str
-
-    def __str__(self) -> str:
-        return f"differ {self.place} {self.line} {self.name} {self.other_line} {self.other_name}"
-
-
-@dataclass(frozen=True)
-class Twice:
-    """One action has two places."""
-
-    name: str
-    place: int
-    other_place: int
-
-    def __str__(self) -> str:
-        return f"twice {self.name} {self.place} {self.other_place}"
-
-
-@dataclass(frozen=True)
-class Agree:
-    """The one list that fits all logs, with None at places that no log covers."""
-
-    names: tuple[str | None, ...]
-
-    def __str__(self) -> str:
-        return f"agree {len(self.names)} [{','.join(name or '-' for name in self.names)}]"
 
 
 def read_logs(text: bytes) -> list[Log]:
@@ -108,28 +70,29 @@ def is_name(text: str) -> bool:
     return parts is not None and int(parts[1]) <= MOST_CREATOR and int(parts[2]) < END_OF_INDEXES
 
 
-def compare(logs: Sequence[Log]) -> Agree | Differ | Twice:
-    """The one list that fits all logs; or the least place at which two of them differ, and the first line that covers
-    it with the first one that differs from that; or else the action that is first met again, from the first place on,
-    with its two least places."""
-    first: dict[int, tuple[int, str]] = {}
-    differences: dict[int, Differ] = {}
+def comparable(logs: Sequence[Log]) -> tuple[str, list[int]]:
+    """The input of `compare`, and of each of its lines the line of the log. A long log takes several lines."""
+    lines: list[str] = []
+    numbers: list[int] = []
     for log in logs:
-        for place, name in log.places():
-            line, first_name = first.setdefault(place, (log.line, name))
-            if name != first_name:
-                differences.setdefault(place, Differ(place, line, first_name, log.line, name))
-    if differences:
-        return differences[min(differences)]
-    places = range(1, max(first, default=0) + 1)
-    return twice(first) or Agree(tuple(first[place][1] if place in first else None for place in places))
+        for first in range(0, max(len(log.names), 1), NAMES_OF_A_LINE):
+            lines.append(f"log {log.white + first} [{','.join(log.names[first : first + NAMES_OF_A_LINE])}]")
+            numbers.append(log.line)
+    return "\n".join([*lines, "end", ""]), numbers
 
 
-def twice(first: dict[int, tuple[int, str]]) -> Twice | None:
-    places: dict[str, int] = {}
-    for place in sorted(first):
-        name = first[place][1]
-        if name in places:
-            return Twice(name, places[name], place)
-        places[name] = place
-    return None
+def told(answer: str, numbers: Sequence[int]) -> str:
+    """What `compare` has answered, with the lines of the logs."""
+    word, *parts = answer.split()
+    if word == "differ":
+        for index in (1, 3):
+            parts[index] = str(numbers[int(parts[index]) - 1])
+    return " ".join([word, *parts])
+
+
+def agreed(answer: str) -> list[str | None] | None:
+    """The one list that fits all logs, with None at places that no log covers; None where there is no such list."""
+    word, _, names = (*answer.split(), "", "")[:3]
+    if word != "agree":
+        return None
+    return [None if name == "-" else name for name in filter(None, names.strip("[]").split(","))]

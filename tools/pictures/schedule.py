@@ -16,8 +16,10 @@ Kind = tuple[str, int]
 EVENTS = {  # what an event shows, and which of its parts is the replica that shows it
     "request": ("ask", 0), "join": ("ask", 0), "leave": ("ask", 0), "swrite": ("ask", 1), "recover": ("back", 0),
     "weak": ("weak", 0), "dirty": ("dirty", 0), "show": ("show", 0), "transfer": ("pieces", 1),
+    "sweak": ("sweak", 0), "fweak": ("fweak", 0), "relaxed": ("relaxed", 0), "joined": ("joined", 0),
 }  # fmt: skip
-TOLD = {"weak": "weak", "dirty": "dirty", "greens": "show", "all": "show", "pieces": "pieces"}
+ASKING = ("weak", "dirty", "pieces", "sweak", "fweak", "relaxed", "joined")
+TOLD = {word: word for word in ASKING} | {"greens": "show", "all": "show"}
 
 
 @dataclass(frozen=True)

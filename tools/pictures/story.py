@@ -11,6 +11,7 @@ from .schedule import Line, Passage, leading_number
 
 HERE = pathlib.Path(__file__).resolve().parent
 WORDS = tomllib.loads((HERE / "words.toml").read_text(encoding="utf-8"))
+ASKED = {"sweak": 1, "follower": 1, "feed": 0, "relaxed": 0, "joined": 0}  # which part of a line names the replica
 
 
 class Mark(NamedTuple):
@@ -77,12 +78,10 @@ class Story:
         for number, now in step.replicas.items():
             yield from self.changes(number, self.replicas.get(number), now)
         line = passage.lines[0] if passage and len(passage.lines) == 1 else None
-        if line and line.word in ("stop", "fail") and line.numbers[1]:  # arming shows nothing in the report
-            number, call = line.numbers[:2]
-            does = "stop inside" if line.word == "stop" else "fail at"
-            yield Mark(number, "armed", "", f"Replica {number} will {does} its device call {call} from now on")
+        if line and line.word in ("stop", "fail", "fstop") and line.numbers[1]:  # arming shows nothing in the report
+            yield armed(line)
         for word, rest in step.told:
-            yield self.told(word, rest)
+            yield further(line, f"{word} {rest}") or self.told(word, rest)
 
     def changes(self, number: int, old: Replica | None, now: Replica) -> Iterator[Mark]:
         who = f"Replica {number}"
@@ -117,11 +116,29 @@ class Story:
         number = leading_number(who)
         if word == "db":
             self.databases[self.last_up[number].green] = what or "empty"
-        words = WORDS["told"].get(word, f"{word} {rest}").format(who=who, what=what or "empty")
+        words = WORDS["told"][word].format(who=who, what=what or "empty") if word in WORDS["told"] else f"{word} {rest}"
         if word == "reply":
             effect, _, answer = what.partition(" ? ")
             return Mark(number, "answer", ("✓ " if effect == "done" else "✗ ") + (answer or effect), words)
         return Mark(number, "answer" if word in ("weak", "dirty") else "", f"{word}: {what}", words)
+
+
+def armed(line: Line) -> Mark:
+    """A crash or a failed call that is to come; a follower has no lane."""
+    number, call = line.numbers[:2]
+    who = "Follower" if line.word == "fstop" else "Replica"
+    does = "fail at" if line.word == "fail" else "stop inside"
+    words = f"{who} {number} will {does} its device call {call} from now on"
+    return Mark(0, "", "", words) if line.word == "fstop" else Mark(number, "armed", "", words)
+
+
+def further(line: Line | None, told: str) -> Mark | None:
+    """A line of a session, a follower or a relaxed query; what it answers is marked at the replica that was asked."""
+    for form, (words, answer) in WORDS["further"].items():
+        if found := re.fullmatch(form, told):
+            number = line.numbers[ASKED[line.word]] if line and line.word in ASKED else 0
+            return Mark(number, "answer" if number else "", *(text.format(*found.groups()) for text in (answer, words)))
+    return None
 
 
 def told(steps: list[Step], passages: list[Passage], tail: str, stop: Line | None) -> tuple[list[Column], Story]:

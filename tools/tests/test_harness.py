@@ -68,13 +68,28 @@ def replayed(lines: list[str]) -> list[str]:
     return [*printed(lines)[:-3], *shown]
 
 
+def compared(lines: list[str]) -> str:
+    """What `compare` prints of logs in which no action is twice."""
+    found: dict[int, list[tuple[int, str]]] = {}
+    for number, (_, white, names) in enumerate((line.split(" ") for line in lines[:-1]), 1):
+        for place, name in enumerate(filter(None, names.strip("[]").split(",")), int(white) + 1):
+            found.setdefault(place, []).append((number, name))
+    for place, ((line, name), *others) in sorted(found.items()):
+        for other_line, other in others:
+            if other != name:
+                return f"differ {place} {line} {name} {other_line} {other}"
+    return f"agree {len(found)} [{','.join(found[place][0][1] for place in sorted(found))}]"
+
+
 class Harness(harness.Harness):
     """The harness, with the program and the store in its own process."""
 
-    def run(self, words: list[str], schedule: str) -> subprocess.CompletedProcess[bytes]:
-        lines = schedule.splitlines()
+    def run(self, words: list[str], given: str) -> subprocess.CompletedProcess[bytes]:
+        lines = given.splitlines()
         if words[0] == "store":
             out = printed(lines, *words[1:])
+        elif words[1] == "compare":
+            out = [compared(lines)]
         else:
             out = {"generate": GENERATED.splitlines(), "check": [], "replay": replayed(lines)}[words[1]]
         status = 3 if words[1:] == ["check"] and not is_admitted(lines) else 0

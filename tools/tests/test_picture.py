@@ -18,8 +18,8 @@ sys.path.insert(0, str(TOOLS))
 from pictures import page, report, schedule, story  # noqa: E402
 
 
-def texts(name: str) -> tuple[str, str]:
-    return tuple((EXAMPLES / f"{name}.{kind}").read_text(encoding="utf-8") for kind in ("report", "schedule"))
+def texts(name: str, command: str = "schedule") -> tuple[str, str]:
+    return tuple((EXAMPLES / f"{name}.{kind}").read_text(encoding="utf-8") for kind in ("report", command))
 
 
 def as_json(text: str) -> str:
@@ -42,8 +42,8 @@ def spans(name: str, program: str = "") -> list[tuple[str, int, int]]:
     return [(" | ".join(line.text for line in p.lines), p.first, p.last) for p in found]
 
 
-def told(name: str) -> dict[str, story.Column]:
-    text, plan = texts(name)
+def told(name: str, command: str = "schedule") -> dict[str, story.Column]:
+    text, plan = texts(name, command)
     steps, tail = report.read(text)
     columns, _ = story.told(steps, schedule.passages(schedule.read(plan), steps, tail), tail, None)
     return {column.name: column for column in columns}
@@ -55,8 +55,8 @@ def chips(column: story.Column) -> list[tuple[int, str, str]]:
 
 class Reports(unittest.TestCase):
     def test_both_forms_are_read_alike(self) -> None:
-        for path in sorted(EXAMPLES.glob("*.report")):
-            text = path.read_text(encoding="utf-8")
+        for path in sorted((EXAMPLES / "pictures").glob("*.svg")):
+            text = (EXAMPLES / f"{path.stem}.report").read_text(encoding="utf-8")
             self.assertEqual(report.read(as_json(text)), report.read(text), path.name)
 
     def test_the_line_of_a_replica(self) -> None:
@@ -153,10 +153,39 @@ class Stories(unittest.TestCase):
         steps, tail = report.read(text)
         self.assertEqual(story.told(steps, [], tail, None)[1].databases, {3: '"x"=1 "y"=2'})
 
+    def test_sessions_are_told_in_words(self) -> None:
+        columns = told("own-past", "sessions")
+        self.assertEqual(columns["24"].marks[-1].words, "Session 1 has written 1:1")
+        at = "Session 1 is told of its write at place 1, and reads nothing older from now on"
+        self.assertEqual(columns["26"].marks[-1].words, at)
+        behind = "Session 1 isn't answered: the replica has 0 places, and the session has seen 1"
+        self.assertEqual(columns["29"].marks[-1], (3, "answer", "✗ behind: 0 of 1", behind))
+        self.assertEqual(columns["30"].marks[-1], (2, "answer", "1 at 1", "Session 1 finds 1 in the first 1 places"))
+
+    def test_followers_are_told_in_words(self) -> None:
+        columns = told("struck-feed", "follow")
+        armed = "Follower 3 will stop inside its device call 3 from now on"
+        self.assertEqual([columns["32"].marks[-1].words, chips(columns["32"])], [armed, []])
+        self.assertEqual(columns["33"].marks[-1], (2, "answer", "follower 3: down", "Follower 3 is down"))
+        self.assertEqual(columns["44"].marks[-1].words, "Follower 3 is up and has the first 4 places")
+        self.assertEqual(columns["45"].marks[-1].words, "A query at follower 3 finds 15")
+
+    def test_relaxed_queries_are_told_in_words(self) -> None:
+        columns = told("sums-apart", "relaxed")
+        words = "By all that replica 1 knows the register is absent, the sum 103"
+        self.assertEqual(columns["50"].marks[-1], (1, "answer", "absent 103", words))
+        words = "By all that replicas 4 and 5 know together the register is 4, the sum 1301"
+        self.assertEqual(columns["56"].marks[-1], (4, "answer", "with 5: 4 1301", words))
+
+    def test_a_line_with_a_word_of_its_own_is_shown_as_it_is(self) -> None:
+        story_of = story.Story()
+        self.assertEqual(story_of.told("other", '1 "{}"').words, 'other 1 "{}"')
+
     def test_each_tail_has_words(self) -> None:
         words = "Line 6 isn't admitted: it is regular in a configuration; split it first (reason 16, value 3)"
         self.assertEqual(story.of_tail("refused 6 16 3"), words)
-        for tail in [*(f"refused 2 {n} 1" for n in range(1, 17)), *(f"syntax 2 {n}" for n in range(1, 10))]:
+        refused = [f"refused 2 {n} 1" for n in (*range(1, 17), *range(18, 26))]
+        for tail in [*refused, *(f"syntax 2 {n}" for n in range(1, 10))]:
             self.assertNotIn("no words", story.of_tail(tail), tail)
         self.assertEqual(story.of_tail("limit 3 steps"), "The run ended early: limit 3 steps")
 

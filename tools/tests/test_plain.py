@@ -21,6 +21,12 @@ def spelled(*lines: str) -> list[str]:
     return [line for line in plain.spelled_out(lines) if not line.startswith("#")]
 
 
+class Others(unittest.TestCase):
+    def test_lines_of_other_commands_are_put_as_they_are(self) -> None:
+        lines = ["start 1 2", 'swrite 2 1 put "x" 1', "follower 1 2", "fstop 1 0 -", "frecover 1", 'joined 1 2 "x"']
+        self.assertEqual(spelled(*lines, "heal"), [*lines, "merge 1 2"])
+
+
 class Group:
     """Which splits, merges, crashes and recoveries are admitted, by the rules of docs/REPORT.md."""
 
